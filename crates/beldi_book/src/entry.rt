@@ -1,0 +1,84 @@
+// The entries of a book, and their text.
+ghost use Rattle.std.specs.Prelude.{◌≡◌, ◌++◌, OnOk, OnErr, IfOk, string_bytes, codes};
+ghost use Rattle.std.specs.Fmt.{decimal};
+ghost use Rattle.beldi_book.specs.Text.{entry_text, func_text};
+
+use beldi_lang::Deployment;
+use beldi_value::{IntentId, Str, Value};
+use std::alloc::{AllocError, Global};
+
+/// What a step of the run was.
+#[derive(Drop)]
+pub enum Entry {
+    /// A root was started.
+    Start { ticket: u32, func: u16, args: Value },
+    /// An instance made its next step.
+    Step { id: IntentId },
+}
+
+impl Entry {
+    /// An equal entry.
+    pub fn copy(&self, alloc: Global) -> Result<Entry, AllocError>
+        ensures { IfOk result (λ e. e ≡ self.now) }
+    {
+        match self {
+            Entry::Start { ticket, func, args } => Ok(Entry::Start {
+                ticket: *ticket,
+                func: *func,
+                args: args.copy(alloc)?,
+            }),
+            Entry::Step { id } => Ok(Entry::Step {
+                id: id.copy(alloc)?,
+            }),
+        }
+    }
+
+    /// Appends the text of the entry, without an end of line.
+    pub fn write(&self, alloc: Global, code: &Deployment, out: &mut Str) -> Result<(), AllocError>
+        ensures ok { OnOk result (out.new ≡ out.old ++ entry_text code.now self.now) }
+        ensures err { OnErr result (out.new ≡ out.old) }
+    {
+        let mut text = Str::new(alloc);
+        match self {
+            Entry::Start { ticket, func, args } => {
+                text.push_text("start ")?;
+                write_number(alloc, *ticket, &mut text)?;
+                text.push_text(" ")?;
+                write_func(alloc, code, *func, &mut text)?;
+                text.push_text(" ")?;
+                args.write_json(alloc, &mut text)?;
+            }
+            Entry::Step { id } => {
+                text.push_text("step ")?;
+                id.write(alloc, &mut text)?;
+            }
+        }
+        out.push_text(text.as_str())
+    }
+}
+
+fn write_number(alloc: Global, number: u32, out: &mut Str) -> Result<(), AllocError>
+    ensures { OnOk result (out.new ≡ out.old ++ decimal number) }
+{
+    let text = number.to_string(alloc)?;
+    out.push_text(text.as_str())
+}
+
+/// Appends the name of a function; its number, where the deployment has none of it.
+pub fn write_func(
+    alloc: Global,
+    code: &Deployment,
+    func: u16,
+    out: &mut Str,
+) -> Result<(), AllocError>
+    ensures ok { OnOk result (out.new ≡ out.old ++ func_text code.now func) }
+    ensures err { OnErr result (out.new ≡ out.old) }
+{
+    match code.func_at(func) {
+        Some(found) => out.push_text(found.name.as_str()),
+        None => {
+            let text = func.to_string(alloc)?;
+            out.push_text(text.as_str())
+        }
+    }
+}

@@ -1,0 +1,62 @@
+// The line of an item in a listing.
+ghost use Rattle.std.specs.Prelude.{◌≡◌, ◌++◌, OnOk, OnErr};
+ghost use Rattle.beldi_book.specs.Text.{table_text, item_text, quoted_key};
+
+use crate::entry::write_func;
+use beldi_lang::Deployment;
+use beldi_value::{Str, Value};
+use std::alloc::{AllocError, Global};
+
+/// Appends the line of an item: function, table, key and value, with its end of line.
+pub fn write_item(
+    alloc: Global,
+    code: &Deployment,
+    func: u16,
+    table: u16,
+    key: &Str,
+    value: &Value,
+    out: &mut Str,
+) -> Result<(), AllocError>
+    ensures ok { OnOk result (out.new ≡ out.old ++ item_text code.now func table key.now value.now) }
+    ensures err { OnErr result (out.new ≡ out.old) }
+{
+    let mut text = Str::new(alloc);
+    write_func(alloc, code, func, &mut text)?;
+    text.push_text(" ")?;
+    write_table(alloc, code, func, table, &mut text)?;
+    text.push_text(" ")?;
+    write_key(alloc, key, &mut text)?;
+    text.push_text(" ")?;
+    value.write_json(alloc, &mut text)?;
+    text.push_text("\n")?;
+    out.push_text(text.as_str())
+}
+
+// Appends the name of a table of a function; its number, where the deployment has none of it.
+fn write_table(
+    alloc: Global,
+    code: &Deployment,
+    func: u16,
+    table: u16,
+    out: &mut Str,
+) -> Result<(), AllocError>
+    ensures { OnOk result (out.new ≡ out.old ++ table_text code.now func table) }
+{
+    let head = match code.func_at(func) {
+        Some(found) => found.tables.as_slice().get(table as usize),
+        None => None,
+    };
+    match head {
+        Some(found) => out.push_text(found.name.as_str()),
+        None => {
+            let text = table.to_string(alloc)?;
+            out.push_text(text.as_str())
+        }
+    }
+}
+
+fn write_key(alloc: Global, key: &Str, out: &mut Str) -> Result<(), AllocError>
+    ensures { OnOk result (out.new ≡ out.old ++ quoted_key key.now) }
+{
+    Value::Text(key.copy(alloc)?).write_json(alloc, out)
+}

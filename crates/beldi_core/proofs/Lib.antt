@@ -1,0 +1,4 @@
+pub mod Replies
+pub mod RunMaps
+pub mod Steps
+pub mod Turns

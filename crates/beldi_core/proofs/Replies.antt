@@ -1,0 +1,48 @@
+-- The reply of a root, by a look at its row.
+use Rattle.std.proofs.Common.{◌≡◌, ℕ, Option, None, Some, Result, Ok, Err, refl, ap, ◌∙◌, subst}
+use Rattle.std.specs.Prelude.{IfOk}
+use Rattle.std.specs.FinMap as map
+use Rattle.beldi_row.specs.declared.key.RowKey.{RowKey}
+use Rattle.beldi_row.specs.declared.row.Row.{Row}
+use Rattle.beldi_row.specs.declared.act.Act.TheVariants.{Look}
+use Rattle.beldi_row.specs.declared.act.Said.{Said}
+use Rattle.beldi_row.specs.declared.table.TableErr.{TableErr}
+use Rattle.beldi_row.specs.Act.{act, tell_of}
+use Rattle.beldi_row.specs.Table.{Rows, Acted, ActedOn}
+use Rattle.beldi_row.proofs.Tells.{tells_map}
+use Rattle.beldi_step.proofs.Asked.{looked}
+use Rattle.beldi_core.specs.declared.survey.OpenErr.{OpenErr}
+use Rattle.beldi_core.specs.declared.survey.OpenErr.TheVariants.{OutOfMemory}
+use Rattle.beldi_core.specs.declared.survey.ReplySeen.{ReplySeen}
+use Rattle.beldi_core.specs.Survey.{Reads, row_seen, told_seen}
+
+seen_at : (now : ℕ) (o : Option Row) → told_seen (act Look now o).1 ≡ row_seen o
+seen_at now None = refl
+seen_at now (Some r) = refl
+
+right : (x : Result ReplySeen OpenErr) (s y : ReplySeen) → s ≡ y → IfOk x (λ z. z ≡ s) → IfOk x (λ z. z ≡ y)
+right (Ok x) s y e h = h ∙ e
+right (Err e) s y p h = tt
+
+module _ (k key : RowKey) (now room new_room faults new_faults : ℕ) (before after : Option Rows) (r : Result Said TableErr) (said : Said) (was : r ≡ Ok said) (is : key ≡ k) (h : Acted Look now key room new_room faults new_faults before after r) where
+  told : Acted Look now k room new_room faults new_faults before after (Ok said)
+  told = subst (λ (l : RowKey). Acted Look now l room new_room faults new_faults before after (Ok said)) is (subst (λ (q : Result Said TableErr). Acted Look now key room new_room faults new_faults before after q) was h)
+
+  seen_on : (x : Result ReplySeen OpenErr) → IfOk x (λ z. z ≡ told_seen (tell_of said)) → (m n : Rows) → ActedOn Look now k room m n (Ok said) → (n ≡ m) × IfOk x (λ z. z ≡ row_seen (map.get m k))
+  seen_on x right_of m n p = (p.0 ∙ looked now k m, right x (told_seen (tell_of said)) (row_seen (map.get m k)) (ap told_seen p.1 ∙ seen_at now (map.get m k)) right_of)
+
+  pub seen : (x : ReplySeen) → x ≡ told_seen (tell_of said) → Reads (λ m z. z ≡ row_seen (map.get m k)) room new_room faults new_faults before after (Ok x)
+  seen x right_of = record {
+    rows = tells_map {P = λ m n. ActedOn Look now k room m n (Ok said)} {Q = λ m n. (n ≡ m) × IfOk {E = OpenErr} (Ok x) (λ z. z ≡ row_seen (map.get m k))} before after (seen_on (Ok x) right_of) told.rows;
+    later = told.cause.later;
+    failed = λ e. cc;
+    room = told.room;
+  }
+
+  pub unseen : Reads (λ m (z : ReplySeen). z ≡ row_seen (map.get m k)) room new_room faults new_faults before after (Err OutOfMemory)
+  unseen = record {
+    rows = tells_map {P = λ m n. ActedOn Look now k room m n (Ok said)} {Q = λ m n. (n ≡ m) × IfOk {E = OpenErr} (Err OutOfMemory) (λ (z : ReplySeen). z ≡ row_seen (map.get m k))} before after (seen_on (Err OutOfMemory) tt) told.rows;
+    later = told.cause.later;
+    failed = λ e. cc;
+    room = told.room;
+  }

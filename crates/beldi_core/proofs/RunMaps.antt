@@ -1,0 +1,145 @@
+-- The runs as a map, and a turn of one of them.
+use Rattle.std.proofs.Common.{◌≡◌, ℕ, ◌+◌, ◌-◌, ◌<◌, ◌≤◌, Bool, true, false, cond, List, [], ◌∷◌, Option, None, Some, Result, Ok, Err, refl, ap, sym, ◌∙◌, subst, arith}
+use Rattle.std.specs.Prelude.{nat_lt, IsSome, if◌then◌else◌, ◌&&◌, filter}
+use Rattle.std.specs.Option.{MatchOption, option_map}
+use denote.Bor.{Bor}
+use borrow.Author.Tests.{ltb-true, ltb-false}
+use Rattle.std.specs.Map.{lookup, keys_of}
+use Rattle.std.specs.List.Sorted.{IsStrictlySortedBy}
+use Rattle.std.specs.BTreeMap.{is_at}
+use Rattle.std.specs.FinMap as map
+use Rattle.std.specs.FinMap.{nat_cmp-IsAntisymmetric, get-insert, get-remove, same_map}
+use Rattle.std.specs.Cmp.{nat_cmp_total, Equal-is}
+use Rattle.std.specs.Ordering.{nat_cmp, eq_by_cmp, is_eq, is_lt}
+use Rattle.std.proofs.lemmas.Cmp.{eq_by_cmp_equiv, tied_itself}
+use Rattle.beldi_lang.specs.declared.deployment.Deployment.{Deployment}
+use Rattle.beldi_row.specs.Table.{Rows}
+use Rattle.beldi_row.specs.declared.table.TableErr.TheVariants.{OutOfMemory, Failed, Full}
+use Rattle.beldi_row.proofs.Rows.{get_rows, same_set, none_removed, entries_rows}
+use Rattle.beldi_row.proofs.Tells.{tells_map}
+use Rattle.beldi_step.specs.declared.run.Run.{Run}
+use Rattle.beldi_step.specs.declared.turn.TurnSays.{TurnSays}
+use Rattle.beldi_step.specs.declared.turn.TurnErr.{TurnErr}
+use Rattle.beldi_step.specs.declared.turn.TurnErr.TheVariants.{Lost, Stopped}
+use Rattle.beldi_step.specs.Run.{Turned}
+use Rattle.beldi_step.specs.Host.{put_run, is_none}
+use Rattle.beldi_step.specs.Turn.{Ran, RanOn, going, turned_by}
+use Rattle.beldi_core.specs.Runs.{RunMap, AllGiven, withdrawn, says_of, ends_run, settled, Led, LedOn, first_past, next_number}
+
+-- entries without one key
+pub one_removed : (es fs : List (ℕ × Run)) (k : ℕ) → ((q : ℕ) → lookup (is_at (nat_cmp q)) fs ≡ cond (is_at (nat_cmp k) q) None (lookup (is_at (nat_cmp q)) es)) → map.from_entries {R = nat_cmp} fs ≡ map.remove (map.from_entries es) k
+one_removed es fs k h = same_map nat_cmp_total nat_cmp-IsAntisymmetric _ _ (λ q.
+    get_rows nat_cmp_total nat_cmp-IsAntisymmetric fs q ∙ h q ∙ ap (λ b. cond b None (lookup (is_at (nat_cmp q)) es)) ((eq_by_cmp_equiv nat_cmp_total).symm k q)
+    ∙ sym (get-remove nat_cmp_total (map.from_entries es) k q ∙ ap (cond (is_at (nat_cmp q) k) None) (get_rows nat_cmp_total nat_cmp-IsAntisymmetric es q)))
+
+taken : (b : Bool) (o : Option Run) (r : Run) → cond b None (cond b (Some r) o) ≡ cond b None o
+taken true o r = refl
+taken false o r = refl
+
+-- what was set is taken out
+pub remove_set : (m : RunMap) (k : ℕ) (r : Run) → map.remove (map.insert m k r) k ≡ map.remove m k
+remove_set m k r = same_map nat_cmp_total nat_cmp-IsAntisymmetric _ _ (λ q.
+    get-remove nat_cmp_total (map.insert m k r) k q ∙ ap (cond (eq_by_cmp nat_cmp q k) None) (get-insert nat_cmp_total m k r q) ∙ taken (eq_by_cmp nat_cmp q k) (map.get m q) r ∙ sym (get-remove nat_cmp_total m k q))
+
+twice : (b : Bool) (o : Option Run) → cond b None (cond b None o) ≡ cond b None o
+twice true o = refl
+twice false o = refl
+
+pub remove_twice : (m : RunMap) (k : ℕ) → map.remove (map.remove m k) k ≡ map.remove m k
+remove_twice m k = same_map nat_cmp_total nat_cmp-IsAntisymmetric _ _ (λ q.
+    get-remove nat_cmp_total (map.remove m k) k q ∙ ap (cond (eq_by_cmp nat_cmp q k) None) (get-remove nat_cmp_total m k q) ∙ twice (eq_by_cmp nat_cmp q k) (map.get m q) ∙ sym (get-remove nat_cmp_total m k q))
+
+-- ---- no number past the last has a run
+both_none : (b : Bool) (o : Option Run) → o ≡ None → cond b None o ≡ None
+both_none true o h = refl
+both_none false o h = h
+
+pub given_removed : (g : ℕ) (m n : RunMap) (k : ℕ) → AllGiven g m → n ≡ map.remove m k → AllGiven g n
+given_removed g m n k h is i p = ap (λ q. map.get q i) is ∙ get-remove nat_cmp_total m k i ∙ both_none _ _ (h i p)
+
+apart : (m : RunMap) (k i : ℕ) (r : Run) → k < i → map.get (map.insert m k r) i ≡ map.get m i
+apart m k i r p = get-insert nat_cmp_total m k r i ∙ (elim (eq_by_cmp nat_cmp i k) as (λ b. eq_by_cmp nat_cmp i k ≡ b → cond b (Some r) (map.get m i) ≡ map.get m i) [
+  | true ↦ λ e. let same = nat_cmp-IsAntisymmetric i k ((Equal-is (nat_cmp i k)).0 e) in absurd (omega (arith, same))
+  | false ↦ λ e. refl
+]) refl
+
+pub given_started : (g : ℕ) (m n : RunMap) (r : Run) → AllGiven g m → n ≡ map.insert m (g + 1) r → AllGiven (g + 1) n
+given_started g m n r h is i p = ap (λ q. map.get q i) is ∙ apart m (g + 1) i r p ∙ h i (omega arith)
+
+pub given_withdrawn : (g : ℕ) (m n : RunMap) → 1 ≤ g → AllGiven g m → n ≡ map.remove m g → AllGiven (g - 1) n
+given_withdrawn g m n some h is i p = ap (λ q. map.get q i) is ∙ get-remove nat_cmp_total m g i ∙ (elim (nat_lt g i) as (λ b. nat_lt g i ≡ b → cond (eq_by_cmp nat_cmp i g) None (map.get m i) ≡ None) [
+  | true ↦ λ e. both_none _ _ (h i (ltb-true g i e))
+  | false ↦ λ e. let last : i ≡ g = omega (arith, ltb-false g i e) in ap (λ b. cond b None (map.get m i)) (ap (λ j. eq_by_cmp nat_cmp j g) last ∙ ap is_eq (tied_itself nat_cmp_total g))
+]) refl
+
+-- the last number, taken back
+pub back : (g : ℕ) (m n : RunMap) (r : Run) → AllGiven g m → n ≡ map.insert m (g + 1) r → withdrawn (record { runs = n; given = g + 1 }) ≡ record { runs = m; given = g }
+back g m n r h is =
+    let runs : map.remove n (g + 1) ≡ m = ap (λ q. map.remove q (g + 1)) is ∙ remove_set m (g + 1) r ∙ none_removed nat_cmp_total nat_cmp-IsAntisymmetric m (g + 1) (h (g + 1) (omega arith)) in
+    let given : g + 1 - 1 ≡ g = omega arith in
+    λ j. record { runs = runs j; given = given j }
+
+-- ---- a turn
+still_none : (a : RunMap) (i j : ℕ) (r s : Run) (over : Bool) → map.get a i ≡ Some r → map.get a j ≡ None → map.get (settled over (map.insert a i s) i) j ≡ None
+still_none a i j r s true here none = ap (λ q. map.get q j) (remove_set a i s) ∙ get-remove nat_cmp_total a i j ∙ both_none _ _ none
+still_none a i j r s false here none = get-insert nat_cmp_total a i s j ∙ (elim (eq_by_cmp nat_cmp j i) as (λ b. eq_by_cmp nat_cmp j i ≡ b → cond b (Some s) (map.get a j) ≡ None) [
+  | true ↦ λ e. let same = ap (map.get a) (nat_cmp-IsAntisymmetric j i ((Equal-is (nat_cmp j i)).0 e)) in let clash : None ≡ Some r = sym none ∙ same ∙ here in cc
+  | false ↦ λ e. none
+]) refl
+
+pub none_new : (a b c : RunMap) (i : ℕ) (r s : Run) (over : Bool) → map.get a i ≡ Some r → b ≡ map.insert a i s → c ≡ settled over b i → (j : ℕ) → map.get a j ≡ None → map.get c j ≡ None
+none_new a b c i r s over here set is j none = ap (λ q. map.get q j) (is ∙ ap (λ q. settled over q i) set) ∙ still_none a i j r s over here none
+
+put_back : (a : RunMap) (i : ℕ) (s : Run) (over : Bool) → settled over (map.insert a i s) i ≡ put_run a i (going s over)
+put_back a i s true = remove_set a i s
+put_back a i s false = refl
+
+over_back : (s : Run) (over : Bool) → is_none (going s over) ≡ over
+over_back s true = refl
+over_back s false = refl
+
+says_back : (s : Run) (x : TurnSays) → x ≡ says_of (turned_by s x)
+says_back s x = λ j. record { entry = x.entry; over = sym (over_back s x.over) j; reply = x.reply }
+
+led_on : (d : Deployment) (a b : RunMap) (i : ℕ) (r s : Run) (now room : ℕ) (m n : Rows) (x : Result TurnSays TurnErr) → b ≡ settled (ends_run x) (map.insert a i s) i → map.get a i ≡ Some r → RanOn d r r.at s now room m n x → LedOn d a b i (Some r) now room m n x
+led_on d a b i r s now room m n (Ok x) is here h = (h.0, is ∙ put_back a i s x.over ∙ ap (λ (t : Turned). put_run a i t.next) h.1, says_back s x ∙ ap says_of h.1, h.2)
+led_on d a b i r s now room m n (Err (Lost e)) is here h = (h.0, is ∙ remove_set a i s, h.1)
+led_on d a b i r s now room m n (Err (Stopped OutOfMemory)) is here h = (h, is ∙ remove_set a i s)
+led_on d a b i r s now room m n (Err (Stopped Failed)) is here h = (h, is ∙ remove_set a i s)
+led_on d a b i r s now room m n (Err (Stopped (Full live most))) is here h = (h.0, is ∙ ap (map.insert a i) h.1 ∙ same_set nat_cmp_total nat_cmp-IsAntisymmetric a i r here, h.2, h.3, h.4, h.5)
+
+pub led : (d : Deployment) (a b c : RunMap) (i : ℕ) (r s : Run) (now room new_room faults new_faults : ℕ) (before after : Option Rows) (x : Result TurnSays TurnErr) → map.get a i ≡ Some r → b ≡ map.insert a i s → c ≡ settled (ends_run x) b i
+    → Ran d r r.at s now room new_room faults new_faults before after x → Led d a c i now room new_room faults new_faults before after x
+led d a b c i r s now room new_room faults new_faults before after x here set is h = record {
+  rows = tells_map {P = λ m n. RanOn d r r.at s now room m n x} {Q = λ m n. LedOn d a c i (map.get a i) now room m n x} before after
+      (λ m n p. subst (λ (o : Option Run). LedOn d a c i o now room m n x) (sym here) (led_on d a c i r s now room m n x (is ∙ ap (λ q. settled (ends_run x) q i) set) here p)) h.rows;
+  later = h.later;
+  failed = h.failed;
+  room = h.room;
+}
+
+pub absent_run : (o : Option Run) → IsSome o → o ≡ None → ⊥
+absent_run o h is = cc
+
+-- ---- the first run past a number
+abbrev head_of : List (ℕ × Run) → Option ℕ
+head_of [] = None
+head_of (e ∷ es) = Some e.0
+
+first_of : (i : ℕ) (es : List (ℕ × Run)) → first_past i es ≡ head_of (filter (λ e. is_lt (nat_cmp i e.0) && true) es)
+first_of i [] = refl
+first_of i (e ∷ es) =
+    elim (is_lt (nat_cmp i e.0)) as (λ b. (if b then Some e.0 else first_past i es) ≡ head_of (cond (b && true) (e ∷ filter (λ f. is_lt (nat_cmp i f.0) && true) es) (filter (λ f. is_lt (nat_cmp i f.0) && true) es))) [
+      | true ↦ refl
+      | false ↦ first_of i es
+    ]
+
+first_is : (i : ℕ) (es list new : List (ℕ × Run)) (r : Option (Bor ℕ × Bor Run)) → list ≡ filter (λ e. is_lt (nat_cmp i e.0) && true) es
+    → MatchOption r ((list ≡ []) × (new ≡ [])) (λ x. list ≡ (x.0.now, x.1.now) ∷ new) → option_map (λ e. e.0.now) r ≡ first_past i es
+first_is i es list new None e h = ap head_of (sym h.0 ∙ e) ∙ sym (first_of i es)
+first_is i es list new (Some x) e h = ap head_of (sym h ∙ e) ∙ sym (first_of i es)
+
+-- what a range past the number gives first
+pub next_is : (i : ℕ) (es list new : List (ℕ × Run)) (r : Option (Bor ℕ × Bor Run)) → IsStrictlySortedBy nat_cmp (keys_of es) → list ≡ filter (λ e. is_lt (nat_cmp i e.0) && true) es
+    → MatchOption r ((list ≡ []) × (new ≡ [])) (λ x. list ≡ (x.0.now, x.1.now) ∷ new) → option_map (λ e. e.0.now) r ≡ next_number i (map.from_entries es)
+next_is i es list new r sorted e h = first_is i es list new r e h ∙ ap (first_past i) (sym (entries_rows nat_cmp_total nat_cmp-IsAntisymmetric es sorted))

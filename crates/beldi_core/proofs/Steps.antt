@@ -1,0 +1,218 @@
+-- Reading all rows, one after another.
+use Rattle.std.proofs.Common.{◌≡◌, ℕ, zero, suc, ◌≤◌, ◌++◌, Bool, true, false, ◌&&◌, List, [], ◌∷◌, Option, None, Some, Ok, refl, ap, sym, ◌∙◌, subst, arith, if◌then◌else◌, append_assoc, append-nil}
+use Rattle.std.specs.Prelude.{T, max, flat_map}
+use Rattle.std.specs.FinMap as map
+use Rattle.std.specs.FinMap.Entries.{below_all, is_sorted}
+use Rattle.std.specs.Ordering.{is_lt, nat_cmp, ordering_then, ordering_reverse}
+use Rattle.std.specs.declared.cmp.Ordering.{Ordering}
+use Rattle.std.specs.declared.cmp.Ordering.TheVariants.{Less, Equal, Greater}
+use Rattle.std.proofs.lemmas.Cmp.{tied_itself}
+use Rattle.std.specs.Cmp.{nat_cmp_is}
+use Rattle.beldi_lang.specs.declared.deployment.Deployment.{Deployment}
+use Rattle.beldi_row.specs.Key.{key_cmp, kind_cmp, key_ticket, ticket_of, least_key}
+use Rattle.beldi_row.specs.KeyOrder.{key_total}
+use Rattle.beldi_row.specs.declared.key.RowKey.{RowKey}
+use Rattle.beldi_row.specs.declared.key.Kind.{Kind}
+use Rattle.beldi_row.specs.declared.key.Kind.TheVariants.{Intent, ReadLog, Invoke, Data, Shadow, Lockset}
+use Rattle.beldi_row.specs.declared.row.Row.{Row}
+use Rattle.beldi_row.specs.Table.{Rows, Tells, first_above, next_row}
+use Rattle.beldi_step.specs.Tables.{row_line, line_at, tables_text}
+use Rattle.beldi_core.specs.Survey.{Reads, greatest, newest_of, next_key_of, next_line_of}
+
+abbrev Entry : Type 0
+Entry = RowKey × Row
+
+-- the entries from the first one past a key
+abbrev pub rest : RowKey → List (RowKey × Row) → List (RowKey × Row)
+rest k [] = []
+rest k (e ∷ es) = if is_lt (key_cmp k e.0) then e ∷ es else rest k es
+
+first : (a b : Bool) → T (a && b) → T a
+first true b p = tt
+first false b p = p
+
+second : (a b : Bool) → T (a && b) → T b
+second true b p = p
+second false b p = absurd p
+
+test_true : (b : Bool) → T b → b ≡ true
+test_true true h = refl
+test_true false h = absurd h
+
+less : (o : Ordering) → is_lt o ≡ true → o ≡ Less
+less Less h = refl
+less Equal h = cc
+less Greater h = cc
+
+same_some : (x y : Entry) → Some x ≡ Some y → x ≡ y
+same_some x y h = cc
+
+none_left : (k : RowKey) (es : List Entry) → first_above k es ≡ None → rest k es ≡ []
+none_left k [] h = refl
+none_left k (x ∷ xs) h = (elim (is_lt (key_cmp k x.0)) as (λ b. (if b then Some x else first_above k xs) ≡ None → (if b then x ∷ xs else rest k xs) ≡ []) [
+  | true ↦ λ e. cc
+  | false ↦ λ e. none_left k xs e
+]) h
+
+all_above : (k : RowKey) (xs : List Entry) → T (below_all key_cmp k xs) → rest k xs ≡ xs
+all_above k [] h = refl
+all_above k (x ∷ xs) h = ap (λ b. if b then x ∷ xs else rest k xs) (test_true (is_lt (key_cmp k x.0)) (first _ _ h))
+
+above_all : (x k : RowKey) (e : Entry) (xs : List Entry) → T (below_all key_cmp x xs) → first_above k xs ≡ Some e → key_cmp x e.0 ≡ Less
+above_all x k e [] h is = cc
+above_all x k e (y ∷ ys) h is = (elim (is_lt (key_cmp k y.0)) as (λ b. (if b then Some y else first_above k ys) ≡ Some e → key_cmp x e.0 ≡ Less) [
+  | true ↦ λ s. ap (λ (z : Entry). key_cmp x z.0) (sym (same_some y e s)) ∙ less (key_cmp x y.0) (test_true (is_lt (key_cmp x y.0)) (first _ _ h))
+  | false ↦ λ s. above_all x k e ys (second _ _ h) s
+]) is
+
+-- the next entry, and those past it, are the ones past the key
+one_left : (k : RowKey) (e : Entry) (es : List Entry) → T (is_sorted key_cmp es) → first_above k es ≡ Some e → rest k es ≡ e ∷ rest e.0 es
+one_left k e [] s h = cc
+one_left k e (x ∷ xs) s h = (elim (is_lt (key_cmp k x.0)) as (λ b. (if b then Some x else first_above k xs) ≡ Some e → (if b then x ∷ xs else rest k xs) ≡ e ∷ rest e.0 (x ∷ xs)) [
+  | true ↦ λ p.
+      let itself : rest x.0 (x ∷ xs) ≡ xs = ap (λ o. if is_lt o then x ∷ xs else rest x.0 xs) (tied_itself key_total x.0) ∙ all_above x.0 xs (first _ _ s) in
+      subst (λ (z : Entry). x ∷ xs ≡ z ∷ rest z.0 (x ∷ xs)) (same_some x e p) (ap (λ ys. x ∷ ys) (sym itself))
+  | false ↦ λ p.
+      let past : key_cmp e.0 x.0 ≡ Greater = key_total.antisymm e.0 x.0 ∙ ap ordering_reverse (above_all x.0 k e xs (first _ _ s) p) in
+      one_left k e xs (second _ _ s) p ∙ ap (λ o. e ∷ (if is_lt o then x ∷ xs else rest e.0 xs)) (sym past)
+]) h
+
+pub at_end : (m : Rows) (k : RowKey) → next_row m k ≡ None → rest k (map.entries m) ≡ []
+at_end m k h = none_left k (map.entries m) h
+
+pub at_next : (m : Rows) (k : RowKey) (e : RowKey × Row) → next_row m k ≡ Some e → rest k (map.entries m) ≡ e ∷ rest e.0 (map.entries m)
+at_next m k e h = one_left k e (map.entries m) (map.entries_sorted m) h
+
+-- ---- what is not past the least key names no ticket, and has no line
+not_less : (n : ℕ) (p : Ordering) → is_lt (ordering_then (nat_cmp 0 n) p) ≡ false → n ≡ 0
+not_less zero p h = refl
+not_less (suc n) p h =
+    let more : Less ≡ nat_cmp 0 (suc n) = nat_cmp_is 0 (suc n) Less (omega arith) in
+    let clash : true ≡ false = ap (λ o. is_lt (ordering_then o p)) more ∙ h in cc
+
+no_ticket_at : (kind : Kind) → is_lt (key_cmp least_key (record { home = 0; kind = kind })) ≡ false → ticket_of kind ≡ 0
+no_ticket_at (Intent a) h = not_less a.ticket _ h
+no_ticket_at (ReadLog p) h = cc
+no_ticket_at (Invoke p) h = cc
+no_ticket_at (Data t k r) h = cc
+no_ticket_at (Shadow x t k r) h = cc
+no_ticket_at (Lockset a b t k) h = cc
+
+no_line_at : (d : Deployment) (home : ℕ) (kind : Kind) (r : Row) → is_lt (key_cmp least_key (record { home = 0; kind = kind })) ≡ false → line_at d home kind r ≡ []
+no_line_at d home (Intent a) r h = refl
+no_line_at d home (ReadLog p) r h = cc
+no_line_at d home (Invoke p) r h = cc
+no_line_at d home (Data t k n) r h = cc
+no_line_at d home (Shadow x t k n) r h = cc
+no_line_at d home (Lockset a b t k) r h = cc
+
+at_home : (k : RowKey) → is_lt (key_cmp least_key k) ≡ false → is_lt (key_cmp least_key (record { home = 0; kind = k.kind })) ≡ false
+at_home k h = subst (λ n. is_lt (key_cmp least_key (record { home = n; kind = k.kind })) ≡ false) (not_less k.home (kind_cmp least_key.kind k.kind) h) h
+
+-- before the first step, nothing that counts was passed over
+skipped_tickets : (es : List Entry) → greatest (rest least_key es) ≡ greatest es
+skipped_tickets [] = refl
+skipped_tickets (e ∷ es) = (elim (is_lt (key_cmp least_key e.0)) as (λ b. is_lt (key_cmp least_key e.0) ≡ b → greatest (if b then e ∷ es else rest least_key es) ≡ greatest (e ∷ es)) [
+  | true ↦ λ h. refl
+  | false ↦ λ h. let none = no_ticket_at e.0.kind (at_home e.0 h) in let same = skipped_tickets es in omega (arith, none, same)
+]) refl
+
+skipped_lines : (d : Deployment) (es : List Entry) → flat_map (row_line d) (rest least_key es) ≡ flat_map (row_line d) es
+skipped_lines d [] = refl
+skipped_lines d (e ∷ es) = (elim (is_lt (key_cmp least_key e.0)) as (λ b. is_lt (key_cmp least_key e.0) ≡ b → flat_map (row_line d) (if b then e ∷ es else rest least_key es) ≡ flat_map (row_line d) (e ∷ es)) [
+  | true ↦ λ h. refl
+  | false ↦ λ h. skipped_lines d es ∙ ap (λ t. t ++ flat_map (row_line d) es) (sym (no_line_at d e.0.home e.0.kind e.1 (at_home e.0 h)))
+]) refl
+
+-- ---- the tickets, and the lines, found so far
+abbrev pub Newest : ℕ → RowKey → Rows → Type 0
+Newest t k m = max t (greatest (rest k (map.entries m))) ≡ newest_of m
+
+pub newest_first : (m : Rows) → Newest 0 least_key m
+newest_first m = let same : greatest (rest least_key (map.entries m)) ≡ greatest (map.entries m) = skipped_tickets (map.entries m) in omega (arith, same)
+
+key_there : (l : RowKey) (o : Option Entry) → Some l ≡ next_key_of o → (e : Entry) × (o ≡ Some e) × (e.0 ≡ l)
+key_there l None h = cc
+key_there l (Some e) h = (e, refl, cc)
+
+no_key : (o : Option Entry) → None ≡ next_key_of o → o ≡ None
+no_key None h = refl
+no_key (Some e) h = cc
+
+pub newest_next : (t u : ℕ) (k l : RowKey) (m : Rows) → u ≡ max t (key_ticket l) → Newest t k m → Some l ≡ next_key_of (next_row m k) → Newest u l m
+newest_next t u k l m is h next =
+    let e = key_there l (next_row m k) next in
+    let left = at_next m k e.0 e.1 in
+    let found : max t (max (key_ticket e.0.0) (greatest (rest e.0.0 (map.entries m)))) ≡ newest_of m = ap (λ es. max t (greatest es)) (sym left) ∙ h in
+    let key : max t (max (key_ticket l) (greatest (rest l (map.entries m)))) ≡ newest_of m = subst (λ (q : RowKey). max t (max (key_ticket q) (greatest (rest q (map.entries m)))) ≡ newest_of m) e.2 found in
+    omega (arith, is, key)
+
+pub newest_last : (t : ℕ) (k : RowKey) (m : Rows) → Newest t k m → None ≡ next_key_of (next_row m k) → t ≡ newest_of m
+newest_last t k m h next =
+    let all : max t 0 ≡ newest_of m = ap (λ es. max t (greatest es)) (sym (at_end m k (no_key (next_row m k) next))) ∙ h in
+    omega (arith, all)
+
+abbrev pub Listed : Deployment → List ℕ → RowKey → Rows → Type 0
+Listed d text k m = text ++ flat_map (row_line d) (rest k (map.entries m)) ≡ tables_text d m
+
+pub listed_first : (d : Deployment) (m : Rows) → Listed d [] least_key m
+listed_first d m = skipped_lines d (map.entries m)
+
+line_there : (d : Deployment) (l : RowKey) (text new : List ℕ) (o : Option Entry) → (Some l, new) ≡ next_line_of d text o → (e : Entry) × (o ≡ Some e) × (e.0 ≡ l) × (new ≡ text ++ row_line d e)
+line_there d l text new None h = let none : Some l ≡ None = ap (λ (q : Option RowKey × List ℕ). q.0) h in cc
+line_there d l text new (Some e) h = let same : Some l ≡ Some e.0 = ap (λ (q : Option RowKey × List ℕ). q.0) h in (e, refl, cc, ap (λ (q : Option RowKey × List ℕ). q.1) h)
+
+no_more : (d : Deployment) (text new : List ℕ) (o : Option Entry) → (None, new) ≡ next_line_of d text o → (o ≡ None) × (new ≡ text)
+no_more d text new None h = (refl, ap (λ (q : Option RowKey × List ℕ). q.1) h)
+no_more d text new (Some e) h = let none : None ≡ Some e.0 = ap (λ (q : Option RowKey × List ℕ). q.0) h in cc
+
+pub listed_next : (d : Deployment) (text new : List ℕ) (k l : RowKey) (m : Rows) → Listed d text k m → (Some l, new) ≡ next_line_of d text (next_row m k) → Listed d new l m
+listed_next d text new k l m h next =
+    let e = line_there d l text new (next_row m k) next in
+    ap (λ s. s ++ flat_map (row_line d) (rest l (map.entries m))) e.3 ∙ append_assoc text (row_line d e.0) (flat_map (row_line d) (rest l (map.entries m)))
+    ∙ ap (λ (q : RowKey). text ++ (row_line d e.0 ++ flat_map (row_line d) (rest q (map.entries m)))) (sym e.2)
+    ∙ ap (λ es. text ++ flat_map (row_line d) es) (sym (at_next m k e.0 e.1)) ∙ h
+
+pub listed_last : (d : Deployment) (text new : List ℕ) (k : RowKey) (m : Rows) → Listed d text k m → (None, new) ≡ next_line_of d text (next_row m k) → new ≡ tables_text d m
+listed_last d text new k m h next =
+    let e = no_more d text new (next_row m k) next in
+    e.1 ∙ sym (append-nil text) ∙ ap (λ es. text ++ flat_map (row_line d) es) (sym (at_end m k e.0)) ∙ h
+
+-- ---- a reading that goes on, and ends
+pub record Surveying (P : Rows → Type 0) (old_room new_room old_faults new_faults : ℕ) (before after : Option Rows) : Type 0 where
+  pub rows : Tells before after (λ m n. (n ≡ m) × P m)
+  pub later : old_faults ≤ new_faults
+  pub room : new_room ≡ old_room
+
+same_rows : (P : Rows → Rows → Type 0) (rows : Option Rows) → ((m : Rows) → P m m) → Tells rows rows P
+same_rows P None f = refl
+same_rows P (Some m) f = f m
+
+pub begins : (P : Rows → Type 0) → ((m : Rows) → P m) → (room faults : ℕ) (rows : Option Rows) → Surveying P room room faults faults rows rows
+begins P f room faults rows = record {
+  rows = same_rows (λ m n. (n ≡ m) × P m) rows (λ m. (refl, f m));
+  later = omega arith;
+  room = refl;
+}
+
+join : (P Q R : Rows → Type 0) → ((m : Rows) → P m → Q m → R m) → (a b c : Option Rows) → Tells a b (λ m n. (n ≡ m) × P m) → Tells b c (λ m n. (n ≡ m) × Q m) → Tells a c (λ m n. (n ≡ m) × R m)
+join P Q R f None b c h k = subst (λ (x : Option Rows). Tells x c (λ m n. (n ≡ m) × Q m)) h k
+join P Q R f (Some m) None c h k = absurd h
+join P Q R f (Some m) (Some n) None h k = absurd k
+join P Q R f (Some m) (Some n) (Some o) h k = (k.0 ∙ h.0, f m h.1 (subst (λ (q : Rows). Q q) h.0 k.1))
+
+module _ {X : Type 0} (P : Rows → Type 0) (Q : Rows → X → Type 0) (room room1 room2 faults faults1 faults2 : ℕ) (a b c : Option Rows) (h : Surveying P room room1 faults faults1 a b) where
+  pub goes : (S : Rows → Type 0) (x : X) → ((m : Rows) → P m → Q m x → S m) → Reads Q room1 room2 faults1 faults2 b c (Ok x) → Surveying S room room2 faults faults2 a c
+  goes S x f k = record {
+    rows = join P (λ m. Q m x) S f a b c h.rows k.rows;
+    later = omega (arith, h.later, k.later);
+    room = k.room ∙ h.room;
+  }
+
+  pub ends : {Y : Type 0} (R : Rows → Y → Type 0) (x : X) (y : Y) → ((m : Rows) → P m → Q m x → R m y) → Reads Q room1 room2 faults1 faults2 b c (Ok x) → Reads R room room2 faults faults2 a c (Ok y)
+  ends R x y f k = record {
+    rows = join P (λ m. Q m x) (λ m. R m y) f a b c h.rows k.rows;
+    later = omega (arith, h.later, k.later);
+    failed = λ e. cc;
+    room = k.room ∙ h.room;
+  }

@@ -1,0 +1,5 @@
+pub mod Answers
+pub mod Host
+pub mod Opening
+pub mod Runs
+pub mod Survey

@@ -1,0 +1,337 @@
+// The host: each event is carried out by its plan.
+ghost use Rattle.std.specs.Prelude.{◌≡◌, ◌++◌, ◌+◌, ◌≤◌, ◌<◌, ◌^◌, ◌↔◌, IsTrue, IfOk, IfErr, OnOk, OnErr, option_to_list};
+ghost use Rattle.beldi_step.specs.Host.{Core, no_run as no_run_of};
+ghost use Rattle.beldi_core.specs.Answers.{refused_by, unbound, issued_by, bound_by};
+
+use crate::runs::Runs;
+use crate::survey::{OpenErr, ReplySeen, list_tables, prepare, read_reply};
+use beldi_book::{Book, Entry};
+use beldi_lang::Deployment;
+use beldi_row::{Table, TableErr};
+use beldi_step::{Binding, Event, Run, Seen, TurnErr, TurnSays, bind, issue};
+use beldi_value::{IntentId, Str, Value};
+use std::alloc::{AllocError, Global};
+
+const MOST_EVENTS: u64 = 1 << 62;
+
+const MOST_RUNS: usize = 1024;
+
+/// A host: a deployment over a table, with its live runs and the book of what was done. `newest` is the newest ticket,
+/// `now` the moment in ticks, `taken` how many events it took; each gives at most one number to a run.
+#[derive(Drop)]
+pub struct Host<T: Table> {
+    alloc: Global,
+    code: Deployment,
+    table: T,
+    newest: u32,
+    runs: Runs,
+    book: Book,
+    now: u64,
+    taken: u64,
+    ghost few: { runs.given ≤ taken },
+}
+
+// An error of the table, as an event is answered.
+fn refused(why: TableErr) -> Result<Seen, AllocError>
+    ensures { result ≡ refused_by why }
+{
+    match why {
+        TableErr::OutOfMemory => Err(AllocError),
+        TableErr::Failed => Ok(Seen::Dropped),
+        TableErr::Full { live, room } => Ok(Seen::Full { live, room }),
+    }
+}
+
+fn not_bound(ticket: u32, binding: Binding) -> Seen
+    ensures { result ≡ unbound ticket binding }
+{
+    match binding {
+        Binding::Running => Seen::Running(ticket),
+        Binding::Other { func, args } => Seen::Other { ticket, func, args },
+        Binding::Ended(outcome) => Seen::Replied { ticket, outcome },
+        Binding::Bound | Binding::Gone => Seen::Gone(ticket),
+    }
+}
+
+fn copy_entry(alloc: Global, entry: &Option<Entry>) -> Result<Option<Entry>, AllocError>
+    ensures { IfOk result (λ e. e ≡ entry.now) }
+{
+    match entry {
+        None => Ok(None),
+        Some(entry) => Ok(Some(entry.copy(alloc)?)),
+    }
+}
+
+// What is said of a number that no live run has, where so many were given.
+fn no_run(run: u64, given: u64) -> Seen
+    ensures { (c : Core) → c.last_run ≡ given → result ≡ no_run_of c run }
+{
+    if run == 0 || run > given {
+        Seen::NoRun
+    } else {
+        Seen::RunOver
+    }
+}
+
+// Appends the entry, if there is one.
+fn write(book: &mut Book, entry: Option<Entry>)
+    requires { 1 ≤ book.old.spare }
+    ensures { book.new.entries ≡ book.old.entries ++ option_to_list entry }
+{
+    if let Some(entry) = entry {
+        book.push(entry);
+    }
+}
+
+impl<T: Table> Host<T> {
+    ghost use Rattle.std.specs.FinMap as map;
+    ghost use Rattle.beldi_step.specs.Host.{Stepped};
+    ghost use Rattle.beldi_step.specs.declared.event.Event.TheVariants as events;
+    ghost use Rattle.beldi_step.specs.declared.event.Seen.TheVariants.{Acted};
+    ghost use Rattle.beldi_step.specs.Tables.{tables_text};
+    ghost use Rattle.beldi_core.specs.Survey.{Opened, Refused, Reads, reply_seen, is_unknown};
+    ghost use Rattle.beldi_core.specs.declared.survey.ReplySeen.TheVariants.{Unknown};
+    ghost use Rattle.beldi_core.specs.Runs.{next_number};
+    ghost use Rattle.beldi_core.specs.Host.{core_of, Carried, written, with_runs};
+
+    /// Opens a host over a table whose rows it keeps: sets the table's room, and reads all keys to find the newest
+    /// ticket. `now` is the moment, in ticks. Where it refuses, it gives the table back.
+    pub fn open(
+        alloc: Global,
+        code: Deployment,
+        mut table: T,
+        now: u64,
+    ) -> Result<Host<T>, (T, OpenErr)>
+        requires { now ≤ 2 ^ 62 }
+        ensures ok { IfOk result (λ h. Opened code h.code now (T.room h.table) (T.faults table) (T.faults h.table) (T.rows table) (T.rows h.table) (core_of h)) }
+        ensures err { IfErr result (λ e. Refused (T.faults table) (T.faults e.0) (T.rows table) (T.rows e.0) e.1) }
+    {
+        match prepare(alloc, code.room, &mut table) {
+            Ok(newest) => Ok(Host {
+                alloc,
+                code,
+                table,
+                newest,
+                runs: Runs::new(alloc),
+                book: Book::new(alloc),
+                now,
+                taken: 0,
+            }),
+            Err(why) => Err((table, why)),
+        }
+    }
+
+    /// Gives the table back.
+    pub fn close(self) -> T
+        ensures { result ≡ self.table }
+    {
+        let Host {
+            alloc: _,
+            code: _,
+            table,
+            newest: _,
+            runs: _,
+            book: _,
+            now: _,
+            taken: _,
+        } = self;
+        table
+    }
+
+    /// The deployment.
+    pub fn code(&self) -> &Deployment
+        ensures { result.now ≡ self.entry.now.code }
+    {
+        &self.code
+    }
+
+    /// The book.
+    pub fn book(&self) -> &Book
+        ensures { result.now ≡ self.entry.now.book }
+    {
+        &self.book
+    }
+
+    /// The moment, in ticks.
+    pub fn now(&self) -> u64
+        ensures { result ≡ self.entry.now.now }
+    {
+        self.now
+    }
+
+    /// The least live run past this number.
+    pub fn next_run(&self, after: u64) -> Option<u64>
+        ensures { result ≡ next_number after self.entry.now.runs.runs }
+    {
+        self.runs.next_after(after)
+    }
+
+    /// Appends the listing of tables. After an `Err` the text is as before.
+    pub fn tables(&mut self, out: &mut Str) -> Result<(), OpenErr>
+        ensures reads { Reads (λ m u. out.new ≡ out.old ++ tables_text self.old.code m) (T.room self.old.table) (T.room self.new.table) (T.faults self.old.table) (T.faults self.new.table) (T.rows self.old.table) (T.rows self.new.table) result }
+        ensures err { OnErr result (out.new ≡ out.old) }
+        ensures core { core_of self.new ≡ core_of self.old }
+        ensures code { self.new.code ≡ self.old.code }
+    {
+        let text = list_tables(self.alloc, &self.code, &mut self.table)?;
+        out.push_text(text.as_str())?;
+        Ok(())
+    }
+
+    /// The reply of a ticket's root, as its row has it.
+    pub fn reply(&mut self, ticket: u32) -> Result<ReplySeen, OpenErr>
+        ensures reads { Reads (λ m x. x ≡ reply_seen self.old.newest ticket m) (T.room self.old.table) (T.room self.new.table) (T.faults self.old.table) (T.faults self.new.table) (T.rows self.old.table) (T.rows self.new.table) result }
+        ensures unknown { IfOk result (λ x. (x ≡ Unknown) ↔ IsTrue (is_unknown self.old.newest ticket)) }
+        ensures core { core_of self.new ≡ core_of self.old }
+        ensures code { self.new.code ≡ self.old.code }
+    {
+        if ticket == 0 || ticket > self.newest {
+            return Ok(ReplySeen::Unknown);
+        }
+        read_reply(self.alloc, &mut self.table, ticket, self.now)
+    }
+
+    /// Carries out one event. After want of memory nothing was done, but that a run that had the event is over; the act
+    /// of a turn may then have been made, and the book has its entry.
+    pub fn event(&mut self, event: Event) -> Result<Seen, AllocError>
+        ensures step { Stepped self.old.code event (core_of self.old) (core_of self.new) (T.room self.old.table) (T.room self.new.table) (T.faults self.old.table) (T.faults self.new.table) (T.rows self.old.table) (T.rows self.new.table) result }
+        ensures code { self.new.code ≡ self.old.code }
+    {
+        if self.taken >= MOST_EVENTS {
+            return Ok(Seen::Spent);
+        }
+        self.taken += 1;
+        match event {
+            Event::Ticket => self.ticket(),
+            Event::Request { ticket, func, args } => self.request(ticket, func, args),
+            Event::Turn(run) => self.turn(run),
+        }
+    }
+
+    fn ticket(&mut self) -> Result<Seen, AllocError>
+        ensures carried { Carried self.old.code events.Ticket (core_of self.old) (core_of self.new) (T.room self.old.table) (T.room self.new.table) (T.faults self.old.table) (T.faults self.new.table) (T.rows self.old.table) (T.rows self.new.table) result }
+        ensures code { self.new.code ≡ self.old.code }
+    {
+        if self.newest == u32::MAX {
+            return Ok(Seen::NoTicket);
+        }
+        let ticket = self.newest + 1;
+        match issue(self.alloc, &mut self.table, ticket, self.now) {
+            Ok(added) => Ok(self.issued(ticket, added)),
+            Err(why) => refused(why),
+        }
+    }
+
+    fn issued(&mut self, ticket: u32, added: bool) -> Seen
+        ensures done { (core_of self.new, result) ≡ issued_by (core_of self.old) ticket added }
+        ensures table { self.new.table ≡ self.old.table }
+        ensures code { self.new.code ≡ self.old.code }
+    {
+        if added {
+            self.newest = ticket;
+            Seen::Issued(ticket)
+        } else {
+            Seen::Gone(ticket)
+        }
+    }
+
+    fn request(&mut self, ticket: u32, func: u16, args: Value) -> Result<Seen, AllocError>
+        requires given { self.old.runs.given < self.old.taken }
+        requires few { self.old.taken ≤ 2 ^ 62 }
+        ensures carried { Carried self.old.code (events.Request ticket func args) (core_of self.old) (core_of self.new) (T.room self.old.table) (T.room self.new.table) (T.faults self.old.table) (T.faults self.new.table) (T.rows self.old.table) (T.rows self.new.table) result }
+        ensures code { self.new.code ≡ self.old.code }
+    {
+        if ticket == 0 || ticket > self.newest {
+            return Ok(Seen::Unknown(ticket));
+        }
+        if self.runs.len() >= MOST_RUNS {
+            return Ok(Seen::Crowded);
+        }
+        self.book.reserve()?;
+        let entry = Entry::Start {
+            ticket,
+            func,
+            args: args.copy(self.alloc)?,
+        };
+        let run = self.runs.start(Run {
+            id: IntentId::root(self.alloc, ticket),
+            func,
+            at: None,
+        })?;
+        match bind(self.alloc, &mut self.table, ticket, func, args, self.now) {
+            Ok(binding) => Ok(self.bound(ticket, run, entry, binding)),
+            Err(why) => {
+                self.runs.withdraw();
+                refused(why)
+            }
+        }
+    }
+
+    // The run was started, and stays where the root was bound now.
+    fn bound(&mut self, ticket: u32, run: u64, entry: Entry, binding: Binding) -> Seen
+        requires spare { 1 ≤ self.old.book.spare }
+        requires given { 1 ≤ self.old.runs.given }
+        ensures done { (core_of self.new, result) ≡ bound_by (core_of self.old) ticket run entry binding }
+        ensures table { self.new.table ≡ self.old.table }
+        ensures code { self.new.code ≡ self.old.code }
+    {
+        if matches!(binding, Binding::Bound) {
+            self.book.push(entry);
+            Seen::Bound { ticket, run }
+        } else {
+            self.runs.withdraw();
+            not_bound(ticket, binding)
+        }
+    }
+
+    fn turn(&mut self, run: u64) -> Result<Seen, AllocError>
+        ensures carried { Carried self.old.code (events.Turn run) (core_of self.old) (core_of self.new) (T.room self.old.table) (T.room self.new.table) (T.faults self.old.table) (T.faults self.new.table) (T.rows self.old.table) (T.rows self.new.table) result }
+        ensures code { self.new.code ≡ self.old.code }
+    {
+        if !self.runs.is_live(run) {
+            return Ok(no_run(run, self.runs.given()));
+        }
+        if self.book.reserve().is_err() {
+            self.runs.remove(run);
+            return Err(AllocError);
+        }
+        match self
+            .runs
+            .turn(run, self.alloc, &self.code, &mut self.table, self.now)
+        {
+            Ok(says) => self.acted(run, says),
+            Err(TurnErr::Stopped(why)) => refused(why),
+            Err(TurnErr::Lost(entry)) => {
+                write(&mut self.book, entry);
+                Err(AllocError)
+            }
+        }
+    }
+
+    // The act of a run's turn was made. Where its entry cannot be told, the run is over.
+    fn acted(&mut self, run: u64, says: TurnSays) -> Result<Seen, AllocError>
+        requires { 1 ≤ self.old.book.spare }
+        ensures said { IfOk result (λ x. x ≡ Acted says.entry says.over says.reply) }
+        ensures ok { OnOk result (core_of self.new ≡ written (core_of self.old) says.entry) }
+        ensures err { OnErr result (core_of self.new ≡ with_runs (written (core_of self.old) says.entry) (map.remove self.old.runs.runs run)) }
+        ensures table { self.new.table ≡ self.old.table }
+        ensures code { self.new.code ≡ self.old.code }
+    {
+        let TurnSays { entry, over, reply } = says;
+        match copy_entry(self.alloc, &entry) {
+            Ok(copy) => {
+                write(&mut self.book, entry);
+                Ok(Seen::Acted {
+                    entry: copy,
+                    over,
+                    reply,
+                })
+            }
+            Err(why) => {
+                write(&mut self.book, entry);
+                self.runs.remove(run);
+                Err(why)
+            }
+        }
+    }
+}

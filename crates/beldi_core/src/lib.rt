@@ -1,0 +1,14 @@
+//! The host: it carries out events over a table, one at a time, and reads the table's rows.
+//! It stands on `beldi_step`, which says what one event does. Its definitions: `specs/Host` (the host as the core that
+//! events speak of), `specs/Runs` (the live runs by number), `specs/Answers` (answers by what an act came to) and
+//! `specs/Survey` (calls that read the rows).
+#![tactic(auto)]
+
+mod host;
+mod runs;
+mod survey;
+#[cfg(test)]
+mod tests;
+
+pub use host::Host;
+pub use survey::{OpenErr, ReplySeen};

@@ -1,0 +1,182 @@
+// The live runs of a host, by number.
+ghost use Rattle.std.specs.Prelude.{◌≡◌, ℕ, ◌+◌, ◌-◌, ◌^◌, ◌<◌, ◌≤◌, None, is_some, IsSome, IfOk, OnOk, OnErr};
+ghost use Rattle.std.specs.FinMap as map;
+ghost use Rattle.beldi_core.specs.Runs.{map_of, next_number, started, withdrawn, ends_run, settled, Led};
+
+use beldi_lang::Deployment;
+use beldi_row::{Table, TableErr};
+use beldi_step::{Run, TurnErr, TurnSays};
+use std::alloc::{AllocError, Global};
+use std::collections::BTreeMap;
+use std::marker::Model;
+use std::ops::Bound;
+
+/// The live runs. Numbers rise from 1, and none is given twice.
+#[derive(Drop)]
+pub struct Runs {
+    live: BTreeMap<u64, Run>,
+    given: u64,
+}
+
+impl Model for Runs {
+    ghost use Rattle.std.specs.Coded.{codes, coded_ℕ};
+    ghost use Rattle.std.specs.FinMap as map;
+    ghost use Rattle.std.specs.Ordering.{nat_cmp};
+    ghost use Rattle.beldi_step.specs.contracts.run.Run as run;
+    ghost use Rattle.beldi_core.specs.Runs.{Numbered, AllGiven, map_of};
+
+    ghost Value = { Numbered };
+
+    ghost coded = { Prim.hlevel (codes, map.code {R = nat_cmp} coded_ℕ run.the_row.coded) };
+
+    ghost view = { λ a. record { runs = map_of a.live; given = a.given } };
+
+    ghost invariant = { λ a. AllGiven a.given (map_of a.live) };
+}
+
+fn put(live: &mut BTreeMap<u64, Run>, number: u64, run: Run) -> Result<(), AllocError>
+    ensures ok { OnOk result (map_of live.new ≡ map.insert (map_of live.old) number run) }
+    ensures err { OnErr result (map_of live.new ≡ map_of live.old) }
+{
+    match live.insert(number, run) {
+        Ok(_) => Ok(()),
+        Err(_) => Err(AllocError),
+    }
+}
+
+fn take(live: &mut BTreeMap<u64, Run>, number: u64)
+    ensures { map_of live.new ≡ map.remove (map_of live.old) number }
+{
+    let _ = live.remove(&number);
+}
+
+// Whether a run is gone after this.
+fn ends(turn: &Result<TurnSays, TurnErr>) -> bool
+    ensures { result ≡ ends_run turn.now }
+{
+    match turn {
+        Ok(says) => says.over,
+        Err(TurnErr::Stopped(TableErr::Full { .. })) => false,
+        Err(_) => true,
+    }
+}
+
+fn settle(live: &mut BTreeMap<u64, Run>, number: u64, over: bool)
+    ensures { map_of live.new ≡ settled over (map_of live.old) number }
+{
+    if over {
+        take(live, number);
+    }
+}
+
+// The next turn of the run of this number, which is live.
+fn lead<T: Table>(
+    live: &mut BTreeMap<u64, Run>,
+    number: u64,
+    alloc: Global,
+    code: &Deployment,
+    table: &mut T,
+    now: u64,
+) -> Result<TurnSays, TurnErr>
+    requires { IsSome (map.get (map_of live.old) number) }
+    ensures led { Led code.now (map_of live.old) (map_of live.new) number now (T.room table.old) (T.room table.new) (T.faults table.old) (T.faults table.new) (T.rows table.old) (T.rows table.new) result }
+    ensures none_new { (i : ℕ) → map.get (map_of live.old) i ≡ None → map.get (map_of live.new) i ≡ None }
+{
+    let Some(run) = live.get_mut(&number) else {
+        unreachable!()
+    };
+    let result = run.turn(alloc, code, table, now);
+    settle(live, number, ends(&result));
+    result
+}
+
+impl Runs {
+    /// No runs; no number was given.
+    pub fn new(alloc: Global) -> Runs
+        ensures { result ≡ record { runs = map.empty; given = 0 } }
+    {
+        Runs {
+            live: BTreeMap::new(alloc),
+            given: 0,
+        }
+    }
+
+    /// How many runs are live.
+    pub fn len(&self) -> usize
+        ensures { result ≡ map.len self.now.runs }
+    {
+        self.live.len()
+    }
+
+    /// How many numbers were given.
+    pub fn given(&self) -> u64
+        ensures { result ≡ self.now.given }
+    {
+        self.given
+    }
+
+    /// Whether the run of this number is live.
+    pub fn is_live(&self, number: u64) -> bool
+        ensures { result ≡ is_some (map.get self.now.runs number) }
+    {
+        self.live.contains_key(&number)
+    }
+
+    /// The least number of a live run past this one.
+    pub fn next_after(&self, number: u64) -> Option<u64>
+        ensures { result ≡ next_number number self.now.runs }
+    {
+        let past = (Bound::Excluded(&number), Bound::Unbounded);
+        match self.live.range(past).next() {
+            Some((next, _)) => Some(*next),
+            None => None,
+        }
+    }
+
+    /// Gives a run the next number, which is the answer.
+    pub fn start(&mut self, run: Run) -> Result<u64, AllocError>
+        requires { self.old.given < 2 ^ 64 - 1 }
+        ensures number { IfOk result (λ n. n ≡ self.old.given + 1) }
+        ensures ok { OnOk result (self.new ≡ started self.old run) }
+        ensures back { OnOk result (withdrawn self.new ≡ self.old) }
+        ensures err { OnErr result (self.new ≡ self.old) }
+    {
+        let number = self.given + 1;
+        put(&mut self.live, number, run)?;
+        self.given = number;
+        Ok(number)
+    }
+
+    /// Takes the last number back, with its run.
+    pub fn withdraw(&mut self)
+        requires { 1 ≤ self.old.given }
+        ensures { self.new ≡ withdrawn self.old }
+    {
+        take(&mut self.live, self.given);
+        self.given -= 1;
+    }
+
+    /// Ends the run of this number, if it is live.
+    pub fn remove(&mut self, number: u64)
+        ensures { self.new ≡ record { runs = map.remove self.old.runs number; given = self.old.given } }
+    {
+        take(&mut self.live, number);
+    }
+
+    /// The next turn of the run of this number, which is live. A run that is over is gone afterwards, and so is one that
+    /// met an error, but for `Full`.
+    pub fn turn<T: Table>(
+        &mut self,
+        number: u64,
+        alloc: Global,
+        code: &Deployment,
+        table: &mut T,
+        now: u64,
+    ) -> Result<TurnSays, TurnErr>
+        requires { IsSome (map.get self.old.runs number) }
+        ensures led { Led code.now self.old.runs self.new.runs number now (T.room table.old) (T.room table.new) (T.faults table.old) (T.faults table.new) (T.rows table.old) (T.rows table.new) result }
+        ensures given { self.new.given ≡ self.old.given }
+    {
+        lead(&mut self.live, number, alloc, code, table, now)
+    }
+}

@@ -1,0 +1,95 @@
+-- What a body wants: by recursion on its statements, from the first one each time. A statement takes the variables and
+-- the answers that remain, and gives either the effect that lacks an answer or what remains.
+use Rattle.std.specs.Prelude.{ℕ, zero, suc, ◌+◌, ◌-◌, ◌^◌, ◌==◌, min, nat_lt, Bool, true, false, List, [], ◌∷◌, Option, Some, None, slice_get, if◌then◌else◌}
+use lib.Pointwise.{pointwise}
+use Rattle.beldi_value.specs.declared.value.Value.{Value}
+use Rattle.beldi_value.specs.declared.value.Value.TheVariants.{Null, Int}
+use Rattle.beldi_value.specs.declared.outcome.Outcome.TheVariants as outcome
+use Rattle.beldi_value.specs.declared.outcome.Code.TheVariants as code
+use Rattle.beldi_lang.specs.declared.deployment.Deployment.{Deployment}
+use Rattle.beldi_lang.specs.declared.deployment.Func.{Func}
+use Rattle.beldi_lang.specs.declared.deployment.TableHead.{TableHead}
+use Rattle.beldi_lang.specs.declared.deployment.Stmt.{Stmt}
+use Rattle.beldi_lang.specs.declared.deployment.Form.{Form}
+use Rattle.beldi_lang.specs.declared.deployment.Form.TheVariants.{Write, Return}
+use Rattle.beldi_lang.specs.declared.deployment.Expr.{Expr}
+use Rattle.beldi_lang.specs.declared.deployment.Expr.TheVariants as expr
+use Rattle.beldi_lang.specs.declared.effect.Effect.{Effect}
+use Rattle.beldi_lang.specs.declared.effect.Effect.TheVariants as effect
+use Rattle.beldi_lang.specs.declared.effect.Answer.{Answer}
+
+-- two names are one
+abbrev pub is_name : List ℕ → List ℕ → Bool
+is_name a b = pointwise ◌==◌ a b
+
+-- names with their values, the newest first
+abbrev pub Bindings : Type 0
+Bindings = List (List ℕ × Value)
+
+abbrev pub found : Bindings → List ℕ → Option Value
+found [] n = None
+found (v ∷ vs) n = if is_name v.0 n then Some v.1 else found vs n
+
+-- a variable that was not set is null
+abbrev pub or_null : Option Value → Value
+or_null None = Null
+or_null (Some v) = v
+
+abbrev pub value_of : Bindings → Expr → Value
+value_of vs (expr.Int z) = Int z
+value_of vs (expr.Name n) = or_null (found vs n)
+
+-- the number of the table of this name, from 0
+abbrev pub table_of : List TableHead → List ℕ → ℕ
+table_of [] n = 0
+table_of (t ∷ ts) n = if is_name t.name n then 0 else table_of ts n + 1
+
+-- the number as an effect has it
+abbrev pub table_number : List TableHead → List ℕ → ℕ
+table_number ts n = min (table_of ts n) (2 ^ 16 - 1)
+
+-- a body may have so many effects that are answered
+abbrev pub most_effects : ℕ
+most_effects = 10000
+
+-- an effect that is answered, where the body may have one more
+abbrev pub counted : ℕ → Effect → Effect
+counted used e = if nat_lt used most_effects then e else effect.Return (outcome.Fault code.Steps)
+
+-- an effect that is answered
+abbrev pub wants_answer : Effect → Bool
+wants_answer (effect.Write t k v) = true
+wants_answer (effect.Return o) = false
+
+-- a statement wants an effect, or goes on
+pub data Went : Type 0 where
+  Wants : Effect → Went
+  Goes : Bindings → List Answer → Went
+
+-- `used` counts the effects before it
+abbrev pub run_form : List TableHead → ℕ → Form → Bindings → List Answer → Went
+run_form ts used (Write t k e) vs [] = Wants (counted used (effect.Write (table_number ts t) k (value_of vs e)))
+run_form ts used (Write t k e) vs (a ∷ rest) = Goes vs rest
+run_form ts used (Return e) vs answers = Wants (effect.Return (outcome.Value (value_of vs e)))
+
+abbrev pub go_on : (Bindings → List Answer → Effect) → Went → Effect
+go_on f (Wants e) = e
+go_on f (Goes vs answers) = f vs answers
+
+-- a body that ends without a return returns null
+abbrev pub run_block : List TableHead → ℕ → List Stmt → Bindings → List Answer → Effect
+run_block ts used [] vs answers = effect.Return (outcome.Value Null)
+run_block ts used (s ∷ ss) vs answers = go_on (run_block ts (used + 1) ss) (run_form ts used s.form vs answers)
+
+-- the function of this number, from 1
+abbrev pub func_at : Deployment → ℕ → Option Func
+func_at d zero = None
+func_at d (suc n) = slice_get d.funcs n
+
+abbrev pub wants_of : Option Func → Value → List Answer → Effect
+wants_of None args answers = effect.Return (outcome.Value Null)
+wants_of (Some f) args answers = run_block f.tables 0 f.body ((f.param, args) ∷ []) answers
+
+-- the effect that the function's body wants, with these arguments and after these answers
+abbrev pub wants : Deployment → ℕ → Value → List Answer → Effect
+wants d func args answers = wants_of (func_at d func) args answers

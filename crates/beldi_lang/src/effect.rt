@@ -1,0 +1,16 @@
+// What a body asks for, and what it is answered.
+use beldi_value::{Outcome, Str, Value};
+
+/// An effect that a body wants.
+#[derive(Drop)]
+pub enum Effect {
+    Write { table: u16, key: Str, value: Value },
+    Return(Outcome),
+}
+
+/// An answer to an effect.
+#[derive(Drop)]
+pub enum Answer {
+    /// A write was made.
+    Done,
+}

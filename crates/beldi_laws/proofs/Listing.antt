@@ -1,0 +1,205 @@
+-- The listing of the rows is that of the plain state.
+use Rattle.std.proofs.Common.{◌≡◌, ℕ, zero, Bool, true, false, cond, ◌&&◌, T, List, [], ◌∷◌, ◌++◌, Option, None, Some, refl, ap, sym, ◌∙◌, subst, flat_map}
+use Rattle.std.specs.FinMap as map
+use Rattle.std.specs.FinMap.{FinMap, entries_sorted, get-entries, get-empty, get-insert, get-remove}
+use Rattle.std.specs.FinMap.Entries.{find, is_sorted, below_all, same_entries}
+use Rattle.std.specs.Ordering.{is_eq, is_lt}
+use Rattle.std.specs.declared.cmp.Ordering.{Ordering}
+use Rattle.std.specs.declared.cmp.Ordering.TheVariants.{Less, Equal, Greater}
+use Rattle.std.proofs.lemmas.Cmp.{tied_itself}
+use Rattle.beldi_value.specs.declared.id.IntentId.{IntentId}
+use Rattle.beldi_value.specs.declared.value.Value.{Value}
+use Rattle.beldi_value.specs.declared.value.Value.TheVariants.{Null}
+use Rattle.beldi_lang.specs.declared.deployment.Deployment.{Deployment}
+use Rattle.beldi_lang.specs.declared.effect.Effect.{Effect}
+use Rattle.beldi_lang.specs.declared.effect.Effect.TheVariants.{Write, Return}
+use Rattle.beldi_lang.specs.Wants.{or_null}
+use Rattle.beldi_book.specs.Text.{item_text}
+use Rattle.beldi_book.specs.declared.entry.Entry.{Entry}
+use Rattle.beldi_book.specs.declared.entry.Entry.TheVariants.{Start, Step}
+use Rattle.beldi_row.specs.Key.{key_cmp}
+use Rattle.beldi_row.specs.declared.key.RowKey.{RowKey}
+use Rattle.beldi_row.specs.declared.key.Kind.{Kind}
+use Rattle.beldi_row.specs.declared.key.Kind.TheVariants as kinds
+use Rattle.beldi_row.specs.declared.row.Row.{Row}
+use Rattle.beldi_row.specs.declared.row.Row.TheVariants as rows
+use Rattle.beldi_row.specs.Table.{Rows}
+use Rattle.beldi_plain.specs.Item.{Item, item_cmp, item_total, item_exact}
+use Rattle.beldi_plain.specs.Plain.{Instance, PlainState, nothing, after, step_by, set_item, effect_of}
+use Rattle.beldi_plain.specs.Legal.{run_of}
+use Rattle.beldi_plain.specs.Listing.{listing_of}
+use Rattle.beldi_step.specs.Host.{Core}
+use Rattle.beldi_step.specs.Tables.{tables_text, row_line, line_at, value_line}
+use Rattle.beldi_laws.specs.Stands.{head_key, content_in, content_of}
+use Rattle.beldi_laws.specs.Right.{Right}
+use Rattle.beldi_laws.proofs.Rows.{key_same, head_order}
+use Rattle.beldi_laws.proofs.Books.{did, run_keeps}
+use Rattle.beldi_laws.proofs.Lives.{changed}
+use Rattle.beldi_laws.proofs.Standing.{same_run}
+
+-- ---- no item of a plain state is kept as null
+NoNull : FinMap item_cmp Value → Type 0
+NoNull f = (x : Item) → map.get f x ≡ Some Null → ⊥
+
+set_kept : (f : FinMap item_cmp Value) (y : Item) (v : Value) → NoNull f → NoNull (set_item f y v)
+unfolding NoNull
+set_kept f y Null h = changed item_exact f (map.remove f y) y None (get-remove item_total f y) (λ x o. o ≡ Some Null → ⊥) (λ e. cc) h
+set_kept f y v h = changed item_exact f (map.insert f y v) y (Some v) (get-insert item_total f y v) (λ x o. o ≡ Some Null → ⊥) (λ e. cc) h
+
+by_kept : (p : PlainState) (id : IntentId) (q : Instance) (e : Effect) → NoNull p.items → NoNull (step_by p id q e).items
+by_kept p id q (Write t k v) h = set_kept p.items (record { func = q.func; table = t; key = k }) v h
+by_kept p id q (Return o) h = h
+
+after_kept : (d : Deployment) (p : PlainState) (e : Entry) (q : PlainState) → NoNull p.items → after d p e ≡ Some q → NoNull q.items
+after_kept d p (Start t f a) q h is = subst (λ (z : PlainState). NoNull z.items) (did d p (Start t f a) q is).leads h
+after_kept d p (Step id) q h is = let s = did d p (Step id) q is in subst (λ (z : PlainState). NoNull z.items) s.leads (by_kept p id s.instance (effect_of d s.instance) h)
+
+none_null : NoNull nothing.items
+unfolding NoNull
+none_null x e = let g = sym (get-empty item_cmp x) ∙ e in cc
+
+no_null : (d : Deployment) (es : List Entry) (p : PlainState) → run_of d es ≡ Some p → NoNull p.items
+no_null d es p is = run_keeps d (λ q. NoNull q.items) (after_kept d) nothing es p none_null is
+
+-- ---- the entries of rows, as entries of items
+not_null : Value → Option Value
+not_null Null = None
+not_null v = Some v
+
+abbrev valued : Item → Value → Option (Item × Value)
+valued x Null = None
+valued x v = Some (x, v)
+
+-- the item whose first row it is, where that is not null
+abbrev item_entry : ℕ → Kind → Row → Option (Item × Value)
+item_entry f (kinds.Data t k zero) (rows.Cell c) = valued (record { func = f; table = t; key = k }) c.value
+item_entry f k r = None
+
+abbrev cons_some : {X : Type 0} → Option X → List X → List X
+cons_some None xs = xs
+cons_some (Some x) xs = x ∷ xs
+
+abbrev items_in : List (RowKey × Row) → List (Item × Value)
+items_in [] = []
+items_in (e ∷ es) = cons_some (item_entry e.0.home e.0.kind e.1) (items_in es)
+
+abbrev item_line : Deployment → Item × Value → List ℕ
+item_line d e = item_text d e.0.func e.0.table e.0.key e.1
+
+value_lines : (d : Deployment) (x : Item) (v : Value) (zs : List (Item × Value)) → value_line d x.func x.table x.key v ++ flat_map (item_line d) zs ≡ flat_map (item_line d) (cons_some (valued x v) zs)
+value_lines d x Null zs = refl
+value_lines d x v zs = refl
+
+entry_lines : (d : Deployment) (f : ℕ) (k : Kind) (r : Row) (zs : List (Item × Value)) → line_at d f k r ++ flat_map (item_line d) zs ≡ flat_map (item_line d) (cons_some (item_entry f k r) zs)
+entry_lines d f (kinds.Data t k zero) (rows.Cell c) zs = value_lines d (record { func = f; table = t; key = k }) c.value zs
+entry_lines d f k r zs = refl
+
+lines : (d : Deployment) (es : List (RowKey × Row)) → flat_map (row_line d) es ≡ flat_map (item_line d) (items_in es)
+lines d [] = refl
+lines d (e ∷ es) = ap (λ bs. row_line d e ++ bs) (lines d es) ∙ entry_lines d e.0.home e.0.kind e.1 (items_in es)
+
+-- ---- they are in the order of items
+both : (a b : Bool) → T a → T b → T (a && b)
+both true b p q = q
+both false b p q = p
+
+first : (a b : Bool) → T (a && b) → T a
+first true b p = tt
+first false b p = p
+
+second : (a b : Bool) → T (a && b) → T b
+second true b p = p
+second false b p = absurd p
+
+below_valued : (x y : Item) (v : Value) (zs : List (Item × Value)) → T (is_lt (item_cmp x y)) → T (below_all item_cmp x zs) → T (below_all item_cmp x (cons_some (valued y v) zs))
+below_valued x y Null zs h g = g
+below_valued x y v zs h g = both (is_lt (item_cmp x y)) (below_all item_cmp x zs) h g
+
+below_entry : (x : Item) (f : ℕ) (k : Kind) (r : Row) (zs : List (Item × Value)) → T (is_lt (key_cmp (head_key x) (record { home = f; kind = k }))) → T (below_all item_cmp x zs) → T (below_all item_cmp x (cons_some (item_entry f k r) zs))
+below_entry x f (kinds.Data t k zero) (rows.Cell c) zs h g =
+    let y : Item = record { func = f; table = t; key = k } in
+    below_valued x y c.value zs (subst (λ o. T (is_lt o)) (head_order x y) h) g
+below_entry x f k r zs h g = g
+
+below_items : (x : Item) (es : List (RowKey × Row)) → T (below_all key_cmp (head_key x) es) → T (below_all item_cmp x (items_in es))
+below_items x [] h = tt
+below_items x (e ∷ es) h = below_entry x e.0.home e.0.kind e.1 (items_in es) (first (is_lt (key_cmp (head_key x) e.0)) (below_all key_cmp (head_key x) es) h) (below_items x es (second (is_lt (key_cmp (head_key x) e.0)) (below_all key_cmp (head_key x) es) h))
+
+sorted_valued : (y : Item) (v : Value) (zs : List (Item × Value)) → T (below_all item_cmp y zs) → T (is_sorted item_cmp zs) → T (is_sorted item_cmp (cons_some (valued y v) zs))
+sorted_valued y Null zs h g = g
+sorted_valued y v zs h g = both (below_all item_cmp y zs) (is_sorted item_cmp zs) h g
+
+sorted_entry : (f : ℕ) (k : Kind) (r : Row) (es : List (RowKey × Row)) → T (below_all key_cmp (record { home = f; kind = k }) es) → T (is_sorted item_cmp (items_in es)) → T (is_sorted item_cmp (cons_some (item_entry f k r) (items_in es)))
+sorted_entry f (kinds.Data t k zero) (rows.Cell c) es h g = sorted_valued (record { func = f; table = t; key = k }) c.value (items_in es) (below_items (record { func = f; table = t; key = k }) es h) g
+sorted_entry f k r es h g = g
+
+sorted_items : (es : List (RowKey × Row)) → T (is_sorted key_cmp es) → T (is_sorted item_cmp (items_in es))
+sorted_items [] h = tt
+sorted_items (e ∷ es) h = sorted_entry e.0.home e.0.kind e.1 es (first (below_all key_cmp e.0 es) (is_sorted key_cmp es) h) (sorted_items es (second (below_all key_cmp e.0 es) (is_sorted key_cmp es) h))
+
+-- ---- and have each item that is not null
+value_in : Option Row → Option Value
+value_in o = not_null (content_in o).value
+
+not_tied : (o : Ordering) → T (is_lt o) → is_eq o ≡ false
+not_tied Less h = refl
+not_tied Equal h = absurd h
+not_tied Greater h = refl
+
+none_below : (x : Item) (zs : List (Item × Value)) → T (below_all item_cmp x zs) → find item_cmp x zs ≡ None
+none_below x [] h = refl
+none_below x (z ∷ zs) h =
+    ap (λ b. cond b (Some z.1) (find item_cmp x zs)) (not_tied (item_cmp x z.0) (first (is_lt (item_cmp x z.0)) (below_all item_cmp x zs) h))
+    ∙ none_below x zs (second (is_lt (item_cmp x z.0)) (below_all item_cmp x zs) h)
+
+-- an entry of another key is passed over
+skip_valued : (x y : Item) (v : Value) (zs : List (Item × Value)) → is_eq (item_cmp x y) ≡ false → find item_cmp x (cons_some (valued y v) zs) ≡ find item_cmp x zs
+skip_valued x y Null zs h = refl
+skip_valued x y v zs h = ap (λ b. cond b (Some v) (find item_cmp x zs)) h
+
+skip_entry : (x : Item) (f : ℕ) (k : Kind) (r : Row) (zs : List (Item × Value)) → is_eq (key_cmp (head_key x) (record { home = f; kind = k })) ≡ false → find item_cmp x (cons_some (item_entry f k r) zs) ≡ find item_cmp x zs
+skip_entry x f (kinds.Data t k zero) (rows.Cell c) zs h =
+    let y : Item = record { func = f; table = t; key = k } in skip_valued x y c.value zs (ap is_eq (sym (head_order x y)) ∙ h)
+skip_entry x f k r zs h = refl
+
+-- the entry of the item's own first row
+own_valued : (x : Item) (v : Value) (zs : List (Item × Value)) → find item_cmp x zs ≡ None → find item_cmp x (cons_some (valued x v) zs) ≡ not_null v
+unfolding not_null
+own_valued x Null zs h = h
+own_valued x v zs h = ap (λ o. cond (is_eq o) (Some v) (find item_cmp x zs)) (tied_itself item_total x)
+
+own_entry : (x : Item) (r : Row) (zs : List (Item × Value)) → find item_cmp x zs ≡ None → find item_cmp x (cons_some (item_entry x.func (kinds.Data x.table x.key 0) r) zs) ≡ value_in (Some r)
+unfolding value_in not_null
+own_entry x (rows.Cell c) zs h = own_valued x c.value zs h
+own_entry x r zs h = h
+
+found : (x : Item) (es : List (RowKey × Row)) → T (is_sorted key_cmp es) → find item_cmp x (items_in es) ≡ value_in (find key_cmp (head_key x) es)
+unfolding value_in not_null
+found x [] h = refl
+found x (e ∷ es) h =
+    let rest = found x es (second (below_all key_cmp e.0 es) (is_sorted key_cmp es) h) in
+    let below = first (below_all key_cmp e.0 es) (is_sorted key_cmp es) h in
+    elim (is_eq (key_cmp (head_key x) e.0)) as (λ b. is_eq (key_cmp (head_key x) e.0) ≡ b → find item_cmp x (items_in (e ∷ es)) ≡ value_in (cond b (Some e.1) (find key_cmp (head_key x) es))) [
+      | true ↦ λ t.
+          let own : head_key x ≡ e.0 = key_same (head_key x) e.0 t in
+          ap (λ (k : RowKey). find item_cmp x (cons_some (item_entry k.home k.kind e.1) (items_in es))) (sym own)
+          ∙ own_entry x e.1 (items_in es) (none_below x (items_in es) (below_items x es (subst (λ k. T (below_all key_cmp k es)) (sym own) below)))
+      | false ↦ λ t. skip_entry x e.0.home e.0.kind e.1 (items_in es) t ∙ rest
+    ] refl
+
+kept_value : (o : Option Value) → (o ≡ Some Null → ⊥) → o ≡ not_null (or_null o)
+unfolding not_null
+kept_value None h = refl
+kept_value (Some Null) h = absurd (h refl)
+kept_value (Some v) h = refl
+
+-- the items of the plain state are those of the rows
+same_items : (m : Rows) (p : PlainState) → NoNull p.items → ((x : Item) → (content_of m x).value ≡ or_null (map.get p.items x)) → map.entries p.items ≡ items_in (map.entries m)
+unfolding NoNull value_in
+same_items m p none is = same_entries item_cmp item_total item_exact (map.entries p.items) (items_in (map.entries m)) (entries_sorted p.items) (sorted_items (map.entries m) (entries_sorted m)) (λ x.
+    sym (get-entries p.items x) ∙ kept_value (map.get p.items x) (none x) ∙ ap not_null (sym (is x)) ∙ ap value_in (get-entries m (head_key x)) ∙ sym (found x (map.entries m) (entries_sorted m)))
+
+pub listing_plain : (d : Deployment) (c : Core) (m : Rows) (p : PlainState) → Right d c m → run_of d c.book ≡ Some p → tables_text d m ≡ listing_of d p
+listing_plain d c m p h is =
+    lines d (map.entries m) ∙ ap (flat_map (item_line d)) (sym (same_items m p (no_null d c.book p is)
+    (λ x. h.rows.items x ∙ ap (λ (q : PlainState). or_null (map.get q.items x)) (same_run d c m p h is))))

@@ -1,0 +1,81 @@
+-- Where the host and its rows are right, the rows stand for the run of the book.
+use Rattle.std.proofs.Common.{◌≡◌, ℕ, false, ◌||◌, Option, None, Some, refl, ap, sym, ◌∙◌, subst, is_some, if◌then◌else◌}
+use Rattle.std.specs.Prelude.{slice_get, option_and_then}
+use Rattle.std.specs.FinMap as map
+use Rattle.std.specs.Ordering.{is_eq}
+use Rattle.std.proofs.lemmas.Cmp.{tied_itself}
+use Rattle.beldi_value.specs.Id.{root_of}
+use Rattle.beldi_value.specs.declared.id.IntentId.{IntentId}
+use Rattle.beldi_lang.specs.declared.deployment.Deployment.{Deployment}
+use Rattle.beldi_lang.specs.declared.effect.Answer.{Answer}
+use Rattle.beldi_lang.specs.declared.effect.Answer.TheVariants.{Done}
+use Rattle.beldi_lang.specs.declared.effect.Effect.{Effect}
+use Rattle.beldi_lang.specs.declared.effect.Effect.TheVariants.{Write, Return}
+use Rattle.beldi_row.specs.declared.key.Kind.TheVariants as kinds
+use Rattle.beldi_row.specs.declared.notes.Note.TheVariants.{Wrote}
+use Rattle.beldi_row.specs.declared.row.Body.{Body}
+use Rattle.beldi_row.specs.declared.row.IntentRow.{IntentRow}
+use Rattle.beldi_row.specs.declared.row.Row.{Row}
+use Rattle.beldi_row.specs.declared.row.Row.TheVariants as rows
+use Rattle.beldi_row.specs.Table.{Rows}
+use Rattle.beldi_plain.specs.Item.{Item, item_total}
+use Rattle.beldi_plain.specs.Plain.{Instance, PlainState}
+use Rattle.beldi_plain.specs.Legal.{run_of}
+use Rattle.beldi_step.specs.Run.{is_ended}
+use Rattle.beldi_step.specs.Host.{Core, root_key}
+use Rattle.beldi_laws.specs.Stands.{Stands, IsMade, IsOpen, SoundAt, head_key, key_in, held_answer, noted_answer, effect_before}
+use Rattle.beldi_laws.specs.Right.{Right, RowsMatch, RootMatches, BodyMatches, IsRoot, IntentFits, FitsAt, Sane, IsAnswerTo, note_if, note_for, owed_by}
+use Rattle.beldi_laws.proofs.Effects.{same_some}
+use Rattle.beldi_laws.proofs.Turns.{sane_of}
+
+made_so : (p : PlainState) (id : IntentId) (i : IntentRow) (b : Body) → IsRoot b i.outcome (map.get p.made id) → IsMade p id i b
+made_so p id i b h = record { instance = h.instance; made = h.made; func = h.func; args = h.args; outcome = λ o e. h.outcome ∙ e }
+
+never_ended : (i : IntentRow) → i.outcome ≡ None → is_some i.finish ≡ is_some i.outcome → is_ended i ≡ false
+never_ended i none finishes = ap (λ o. is_some o || is_some i.finish) none ∙ finishes ∙ ap is_some none
+
+sound_at : (x : Item) (r : Option Row) → FitsAt (head_key x) r → SoundAt r
+sound_at x None f = tt
+sound_at x (Some (rows.Cell c)) f = (f.last, f.once)
+sound_at x (Some r) f = f
+
+module _ (d : Deployment) (m : Rows) (p : PlainState) (h : RowsMatch d m p) where
+  -- what an intent row says of its instance
+  row_matches : (home : ℕ) (id : IntentId) (i : IntentRow) → map.get m (key_in home id) ≡ Some (rows.Intent i) → BodyMatches i.body i.outcome (map.get p.made id)
+  row_matches home id i is =
+      let f : IntentFits home id i = subst (λ r. FitsAt (key_in home id) r) is (h.one_row (key_in home id)) in
+      let own : key_in home id ≡ root_key id.ticket = λ j. record { home = f.home_is j; kind = kinds.Intent (f.root j) } in
+      subst (λ o. BodyMatches i.body i.outcome o) (ap (map.get p.made) (sym f.root))
+      (subst (λ r. RootMatches r (map.get p.made (root_of id.ticket))) (ap (map.get m) (sym own) ∙ is) (h.roots id.ticket))
+
+  held_here : (id : IntentId) (q : Instance) (n : ℕ) (a : Answer) (e : Effect) → map.get p.made id ≡ Some q → slice_get q.answers n ≡ Some a → effect_before d q n ≡ e → IsAnswerTo e a → held_answer m id q.func n e ≡ Some a
+  held_here id q n Done (Write t k v) made at is ok =
+      let x : Item = record { func = q.func; table = t; key = k } in
+      ap (option_and_then noted_answer) (h.notes x (record { intent = id; step = n }) ∙ ap (owed_by d x n) made ∙ ap (note_if x q.func (effect_before d q n)) at ∙ ap (λ z. note_for x q.func z Done) is
+      ∙ ap (λ o. if is_eq o then Some Wrote else None) (tied_itself item_total x))
+  held_here id q n a (Return o) made at is ok = absurd ok
+
+  open_by : (t : ℕ) (q : Instance) (r : Option Row) → map.get m (root_key t) ≡ r → FitsAt (root_key t) r → RootMatches r (Some q) → q.outcome ≡ None → IsOpen m (root_key t)
+  open_by t q None is fits root none = cc
+  open_by t q (Some (rows.Intent i)) is fits root none = record { row = i; there = is; not_ended = never_ended i (no_outcome i.body root) fits.finishes }
+    where
+      no_outcome : (b : Option Body) → BodyMatches b i.outcome (Some q) → i.outcome ≡ None
+      no_outcome None root = cc
+      no_outcome (Some b) root = sym root.outcome ∙ ap (λ z. z.outcome) (sym (same_some root.made)) ∙ none
+  open_by t q (Some r) is fits root none = absurd fits
+
+  stands : Sane d p → Stands d m p
+  stands sane = record {
+    items = h.items;
+    made = λ home id i b is has. made_so p id i b (subst (λ z. BodyMatches z i.outcome (map.get p.made id)) has (row_matches home id i is));
+    held = λ home id i b is has still q made n a at. held_here id q n a (effect_before d q n) made at refl ((sane_of d p id q sane made).past n a at);
+    open_roots = λ t q made none. open_by t q (map.get m (root_key t)) refl (h.one_row (root_key t)) (subst (λ o. RootMatches (map.get m (root_key t)) o) made (h.roots t)) none;
+    sound = λ x. sound_at x (map.get m (head_key x)) (h.one_row (head_key x));
+  }
+
+-- the run of the book is one
+pub same_run : (d : Deployment) (c : Core) (m : Rows) (p : PlainState) (h : Right d c m) → run_of d c.book ≡ Some p → h.plain ≡ p
+same_run d c m p h is = same_some (sym h.legal ∙ is)
+
+pub right_stands : (d : Deployment) (c : Core) (m : Rows) (p : PlainState) → Right d c m → run_of d c.book ≡ Some p → Stands d m p
+right_stands d c m p h is = subst (λ z. Stands d m z) (same_run d c m p h is) (stands d m h.plain h.rows h.sane)

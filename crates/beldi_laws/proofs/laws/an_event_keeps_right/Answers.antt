@@ -1,0 +1,5 @@
+use Rattle.beldi_laws.proofs.Events.{after_event}
+use Rattle.beldi_laws.proofs.laws.an_event_keeps_right.Goals as goal
+
+pub returns : goal.returns
+returns c = λ d room e k b m n x h s. (after_event d room e k b m n x h s).right

@@ -1,0 +1,144 @@
+-- What holds of every event, and of every list of events.
+use Rattle.std.specs.Prelude.{◌≡◌, ◌⊎◌, ℕ, option_to_list, List, [], ◌∷◌, ◌++◌, Option, Some, None}
+use Rattle.std.specs.FinMap as map
+use Rattle.beldi_value.specs.declared.value.Value.{Value}
+use Rattle.beldi_value.specs.declared.outcome.Outcome.{Outcome}
+use Rattle.beldi_lang.specs.declared.deployment.Deployment.{Deployment}
+use Rattle.beldi_book.specs.declared.entry.Entry.{Entry}
+use Rattle.beldi_book.specs.declared.entry.Entry.TheVariants.{Start, Step}
+use Rattle.beldi_row.specs.declared.key.RowKey.{RowKey}
+use Rattle.beldi_row.specs.declared.act.Act.{Act}
+use Rattle.beldi_row.specs.Table.{Rows, after_act}
+use Rattle.beldi_plain.specs.Plain.{PlainState, reply_of}
+use Rattle.beldi_plain.specs.Legal.{IsLegal, run_of}
+use Rattle.beldi_plain.specs.Listing.{listing_of}
+use Rattle.beldi_step.specs.declared.event.Event.{Event}
+use Rattle.beldi_step.specs.declared.event.Event.TheVariants.{Ticket, Request, Turn}
+use Rattle.beldi_step.specs.declared.event.Seen.{Seen}
+use Rattle.beldi_step.specs.declared.event.Seen.TheVariants as seen
+use Rattle.beldi_step.specs.Host.{Core, first_core, IsOneEvent, Breaks}
+use Rattle.beldi_step.specs.Session.{Runs}
+use Rattle.beldi_step.specs.Tables.{tables_text}
+use Rattle.beldi_laws.specs.Stands.{Stands}
+use Rattle.beldi_laws.specs.Right.{Right}
+
+-- a host that nothing has happened to is right, over no rows
+abbrev pub BeginsRight : Type 0
+BeginsRight = (d : Deployment) (now : ℕ) → Right d (first_core 0 now) map.empty
+
+-- an event keeps it
+abbrev pub KeepsRight : Type 0
+KeepsRight = (d : Deployment) (room : ℕ) (e : Event) (c b : Core) (m n : Rows) (x : Seen) → Right d c m → IsOneEvent d room e c m b n x → Right d b n
+
+-- want of memory in an event keeps it
+abbrev pub BreaksRight : Type 0
+BreaksRight = (d : Deployment) (e : Event) (c b : Core) (m n : Rows) → Right d c m → Breaks d e c m b n → Right d b n
+
+-- where it holds the book is legal ..
+abbrev pub RightIsLegal : Type 0
+RightIsLegal = (d : Deployment) (c : Core) (m : Rows) → Right d c m → IsLegal d c.book
+
+-- .. and the rows stand for its run
+abbrev pub RightStands : Type 0
+RightStands = (d : Deployment) (c : Core) (m : Rows) (p : PlainState) → Right d c m → run_of d c.book ≡ Some p → Stands d m p
+
+-- the outcome of a root that an answer tells, with the root's ticket
+abbrev pub told_outcome : Seen → Option (ℕ × Outcome)
+told_outcome (seen.Issued t) = None
+told_outcome seen.NoTicket = None
+told_outcome (seen.Bound t run) = None
+told_outcome (seen.Running t) = None
+told_outcome (seen.Replied t o) = Some (t, o)
+told_outcome (seen.Other t f a) = None
+told_outcome (seen.Gone t) = None
+told_outcome (seen.Unknown t) = None
+told_outcome (seen.Acted e over reply) = reply
+told_outcome (seen.Full live room) = None
+told_outcome seen.Crowded = None
+told_outcome seen.NoRun = None
+told_outcome seen.RunOver = None
+told_outcome seen.Dropped = None
+told_outcome seen.Spent = None
+
+-- the root of the ticket has this outcome in the run of the book
+pub record HasReply (d : Deployment) (book : List Entry) (t : ℕ) (o : Outcome) : Type 0 where
+  pub run : PlainState
+  pub legal : run_of d book ≡ Some run
+  pub reply : reply_of run t ≡ Some o
+
+-- an outcome that is told is that of the root in the run of the book
+abbrev pub RepliesAreOutcomes : Type 0
+RepliesAreOutcomes = (d : Deployment) (room : ℕ) (e : Event) (c b : Core) (m n : Rows) (x : Seen) → Right d c m → IsOneEvent d room e c m b n x
+    → (t : ℕ) (o : Outcome) → told_outcome x ≡ Some (t, o) → HasReply d b.book t o
+
+-- the roots that a book starts, in order: ticket, function and arguments
+abbrev pub starts_of : List Entry → List (ℕ × (ℕ × Value))
+starts_of [] = []
+starts_of (Start t f a ∷ es) = (t, (f, a)) ∷ starts_of es
+starts_of (Step id ∷ es) = starts_of es
+
+-- what an event asks to be bound
+abbrev pub requested : Event → List (ℕ × (ℕ × Value))
+requested (Request t f a) = (t, (f, a)) ∷ []
+requested Ticket = []
+requested (Turn i) = []
+
+-- the request that an event bound: the one that was answered so
+abbrev pub bound_of : Event → Seen → List (ℕ × (ℕ × Value))
+bound_of e (seen.Bound t run) = requested e
+bound_of e x = []
+
+-- the book starts exactly what was bound, in order
+abbrev pub StartsAreBound : Type 0
+StartsAreBound = (d : Deployment) (room : ℕ) (e : Event) (c b : Core) (m n : Rows) (x : Seen) → IsOneEvent d room e c m b n x → starts_of b.book ≡ starts_of c.book ++ bound_of e x
+
+-- .. and nothing where want of memory came
+abbrev pub BreaksStartNothing : Type 0
+BreaksStartNothing = (d : Deployment) (e : Event) (c b : Core) (m n : Rows) → Breaks d e c m b n → starts_of b.book ≡ starts_of c.book
+
+-- an outcome that a root has stays: the book of a later moment has it too
+pub record OutcomesStay : Type 0 where
+  pub event : (d : Deployment) (room : ℕ) (e : Event) (c b : Core) (m n : Rows) (x : Seen) (t : ℕ) (o : Outcome) → Right d c m → IsOneEvent d room e c m b n x → HasReply d c.book t o → HasReply d b.book t o
+  pub want_of_memory : (d : Deployment) (e : Event) (c b : Core) (m n : Rows) (t : ℕ) (o : Outcome) → Right d c m → Breaks d e c m b n → HasReply d c.book t o → HasReply d b.book t o
+
+-- the listing of the rows is that of the book's run
+abbrev pub ListingIsPlain : Type 0
+ListingIsPlain = (d : Deployment) (c : Core) (m : Rows) (p : PlainState) → Right d c m → run_of d c.book ≡ Some p → tables_text d m ≡ listing_of d p
+
+-- ---- how little one event does
+-- it changes at most one row, by one act
+abbrev pub ChangesOneRow : Type 0
+ChangesOneRow = (d : Deployment) (room : ℕ) (e : Event) (c b : Core) (m n : Rows) (x : Seen) → IsOneEvent d room e c m b n x → (n ≡ m) ⊎ ((k : RowKey) × (a : Act) × (n ≡ after_act a c.now k m))
+
+-- the entries that an event's answer tells: the start of a root that was bound, or the entry of a turn
+abbrev pub entries_told : Event → Seen → List Entry
+entries_told (Request t f a) (seen.Bound u run) = Start t f a ∷ []
+entries_told e (seen.Acted entry over reply) = option_to_list entry
+entries_told e x = []
+
+-- the book gets what the answer tells: at most one entry
+abbrev pub WritesWhatIsTold : Type 0
+WritesWhatIsTold = (d : Deployment) (room : ℕ) (e : Event) (c b : Core) (m n : Rows) (x : Seen) → IsOneEvent d room e c m b n x → b.book ≡ c.book ++ entries_told e x
+
+-- ---- lists of events
+-- the requests that events bound, by how they were answered, in order
+abbrev pub bound_in : List Event → List Seen → List (ℕ × (ℕ × Value))
+bound_in (e ∷ es) (x ∷ xs) = bound_of e x ++ bound_in es xs
+bound_in es xs = []
+
+-- every outcome that these answers tell is the root's in the run of the book
+abbrev pub TellOutcomes : Deployment → List Entry → List Seen → Type 0
+TellOutcomes d book [] = Unit {0}
+TellOutcomes d book (x ∷ xs) = ((t : ℕ) (o : Outcome) → told_outcome x ≡ Some (t, o) → HasReply d book t o) × TellOutcomes d book xs
+
+-- whatever events come, it holds after them ..
+abbrev pub SessionsAreRight : Type 0
+SessionsAreRight = (d : Deployment) (room : ℕ) (es : List Event) (xs : List Seen) (c b : Core) (m n : Rows) → Right d c m → Runs d room es c m b n xs → Right d b n
+
+-- .. the book starts exactly what they bound, in order ..
+abbrev pub SessionsStartTheBound : Type 0
+SessionsStartTheBound = (d : Deployment) (room : ℕ) (es : List Event) (xs : List Seen) (c b : Core) (m n : Rows) → Runs d room es c m b n xs → starts_of b.book ≡ starts_of c.book ++ bound_in es xs
+
+-- .. and what they told of outcomes holds of the book at the end
+abbrev pub SessionsTellOutcomes : Type 0
+SessionsTellOutcomes = (d : Deployment) (room : ℕ) (es : List Event) (xs : List Seen) (c b : Core) (m n : Rows) → Right d c m → Runs d room es c m b n xs → TellOutcomes d b.book xs

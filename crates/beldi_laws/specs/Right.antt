@@ -1,0 +1,211 @@
+-- What every event keeps: the host and its rows are right.
+use Rattle.std.specs.Prelude.{◌≡◌, ℕ, ◌≤◌, nat_lt, nat_le, ◌&&◌, false, List, ◌++◌, slice_get, Option, Some, None, is_some, IsTrue, if◌then◌else◌}
+use Rattle.std.specs.FinMap as map
+use Rattle.std.specs.FinMap.{FinMap}
+use Rattle.std.specs.Ordering.{nat_cmp, is_eq}
+use Rattle.beldi_value.specs.Id.{root_of}
+use Rattle.beldi_value.specs.declared.id.IntentId.{IntentId}
+use Rattle.beldi_value.specs.declared.place.Place.{Place}
+use Rattle.beldi_value.specs.declared.outcome.Outcome.{Outcome}
+use Rattle.beldi_value.specs.declared.value.Value.{Value}
+use Rattle.beldi_lang.specs.declared.deployment.Deployment.{Deployment}
+use Rattle.beldi_lang.specs.declared.deployment.Func.{Func}
+use Rattle.beldi_lang.specs.declared.effect.Answer.{Answer}
+use Rattle.beldi_lang.specs.declared.effect.Answer.TheVariants.{Done}
+use Rattle.beldi_lang.specs.declared.effect.Effect.{Effect}
+use Rattle.beldi_lang.specs.declared.effect.Effect.TheVariants.{Write, Return}
+use Rattle.beldi_lang.specs.Wants.{func_at}
+use Rattle.beldi_lang.specs.Machine.{IsAt}
+use Rattle.beldi_row.specs.declared.key.RowKey.{RowKey}
+use Rattle.beldi_row.specs.declared.key.Kind.{Kind}
+use Rattle.beldi_row.specs.declared.key.Kind.TheVariants as kinds
+use Rattle.beldi_row.specs.declared.notes.Note.{Note}
+use Rattle.beldi_row.specs.declared.notes.Note.TheVariants.{Wrote}
+use Rattle.beldi_row.specs.declared.row.Body.{Body}
+use Rattle.beldi_row.specs.declared.row.Cell.{Cell}
+use Rattle.beldi_row.specs.declared.row.IntentRow.{IntentRow}
+use Rattle.beldi_row.specs.declared.row.Row.{Row}
+use Rattle.beldi_row.specs.declared.row.Row.TheVariants as rows
+use Rattle.beldi_row.specs.Log.{note_at}
+use Rattle.beldi_row.specs.Table.{Rows}
+use Rattle.beldi_daal.specs.declared.walk.Item.TheVariants.{Plain}
+use Rattle.beldi_daal.specs.declared.walk.CellOp.TheVariants as op
+use Rattle.beldi_daal.specs.declared.walk.WriteWalk.{WriteWalk}
+use Rattle.beldi_daal.specs.declared.walk.WriteStage.{WriteStage}
+use Rattle.beldi_daal.specs.Walk.{first_walk}
+use Rattle.beldi_plain.specs.Item.{Item, item_cmp}
+use Rattle.beldi_plain.specs.Plain.{Instance, PlainState, value_at, effect_of}
+use Rattle.beldi_plain.specs.Legal.{run_of}
+use Rattle.beldi_step.specs.declared.run.Run.{Run}
+use Rattle.beldi_step.specs.declared.run.Begun.{Begun}
+use Rattle.beldi_step.specs.declared.run.Stage.{Stage}
+use Rattle.beldi_step.specs.declared.run.Stage.TheVariants as stage
+use Rattle.beldi_step.specs.Host.{Core, root_key, most_runs}
+use Rattle.beldi_laws.specs.Stands.{NoneTwice, content_of, effect_before}
+
+-- ---- what the rows owe to a plain state
+-- the note of an answer to an effect of a function, where the effect is one of this item
+abbrev pub note_for : Item → ℕ → Effect → Answer → Option Note
+note_for x func (Write t k v) Done = if is_eq (item_cmp (record { func = func; table = t; key = k }) x) then Some Wrote else None
+note_for x func (Return o) a = None
+
+-- none where there was no answer
+abbrev pub note_if : Item → ℕ → Effect → Option Answer → Option Note
+note_if x func e None = None
+note_if x func e (Some a) = note_for x func e a
+
+-- the note that an item has of an instance's step, from 0
+abbrev pub owed_by : Deployment → Item → ℕ → Option Instance → Option Note
+owed_by d x n None = None
+owed_by d x n (Some q) = note_if x q.func (effect_before d q n) (slice_get q.answers n)
+
+-- the note that an item has at a place: that of the answer which the place's instance was given at the place's step
+abbrev pub owed_note : Deployment → PlainState → Item → Place → Option Note
+owed_note d p x a = owed_by d x a.step (map.get p.made a.intent)
+
+-- the body is a root's, and the instance was made with it and has ended so
+pub record IsRoot (b : Body) (o : Option Outcome) (i : Option Instance) : Type 0 where
+  pub instance : Instance
+  pub made : i ≡ Some instance
+  pub func : instance.func ≡ b.func
+  pub args : instance.args ≡ b.args
+  pub outcome : instance.outcome ≡ o
+  pub no_tx : b.tx ≡ None
+  pub no_caller : b.from ≡ None
+
+-- the body and the outcome of a root's row, and the root's instance
+abbrev pub BodyMatches : Option Body → Option Outcome → Option Instance → Type 0
+BodyMatches None o i = i ≡ None
+BodyMatches (Some b) o i = IsRoot b o i
+
+-- no row, or one without body: not made. A body: made with its function and arguments, with the row's outcome.
+abbrev pub RootMatches : Option Row → Option Instance → Type 0
+RootMatches None i = i ≡ None
+RootMatches (Some (rows.Intent r)) i = BodyMatches r.body r.outcome i
+RootMatches (Some r) i = ⊥
+
+-- ---- what rows there are
+-- the row of an intent
+pub record IntentFits (home : ℕ) (id : IntentId) (i : IntentRow) : Type 0 where
+  -- it is a root's, and stands in home 0
+  pub root : id ≡ root_of id.ticket
+  pub home_is : home ≡ 0
+  -- a row without body has no outcome
+  pub bare : i.body ≡ None → i.outcome ≡ None
+  -- there is a finish exactly where there is an outcome
+  pub finishes : is_some i.finish ≡ is_some i.outcome
+
+-- a row of an item
+pub record CellFits (row : ℕ) (c : Cell) : Type 0 where
+  -- it is the first, and no row follows it
+  pub head : row ≡ 0
+  pub last : c.next ≡ None
+  -- it is not to be removed
+  pub kept : c.marked ≡ false
+  pub linked : c.dangled ≡ None
+  -- no place occurs twice in it
+  pub once : NoneTwice c.log
+
+-- a row fits its key: there are rows of roots and first rows of items, and no others
+abbrev pub Fits : ℕ → Kind → Row → Type 0
+Fits home (kinds.Intent id) (rows.Intent i) = IntentFits home id i
+Fits home (kinds.Data t k n) (rows.Cell c) = CellFits n c
+Fits home k r = ⊥
+
+-- what is at a key, if anything, fits it
+abbrev pub FitsAt : RowKey → Option Row → Type 0
+FitsAt k None = Unit {0}
+FitsAt k (Some r) = Fits k.home k.kind r
+
+-- the rows match a plain state; each part speaks of all keys, and in both directions
+pub record RowsMatch (d : Deployment) (m : Rows) (p : PlainState) : Type 0 where
+  -- each item has its plain value, and no owner
+  pub items : (x : Item) → (content_of m x).value ≡ value_at p x
+  pub owners : (x : Item) → (content_of m x).owner ≡ None
+  -- an item has a note at a place exactly where it owes one
+  pub notes : (x : Item) (a : Place) → note_at (content_of m x).notes a ≡ owed_note d p x a
+  -- a root was made exactly where its row has a body
+  pub roots : (t : ℕ) → RootMatches (map.get m (root_key t)) (map.get p.made (root_of t))
+  -- and there are no other rows
+  pub one_row : (k : RowKey) → FitsAt k (map.get m k)
+
+-- ---- what every plain state of a legal book is, whatever the rows are
+-- the answer is one to the effect
+abbrev pub IsAnswerTo : Effect → Answer → Type 0
+IsAnswerTo (Write t k v) Done = Unit {0}
+IsAnswerTo (Return o) a = ⊥
+
+-- an instance that went as its body wants
+pub record SaneInstance (d : Deployment) (q : Instance) : Type 0 where
+  -- what was answered was an effect that is answered so
+  pub past : (n : ℕ) (a : Answer) → slice_get q.answers n ≡ Some a → IsAnswerTo (effect_before d q n) a
+  -- an outcome is there only where the body returns it
+  pub over : (o : Outcome) → q.outcome ≡ Some o → effect_of d q ≡ Return o
+
+-- what is at an id, if anything, is sane
+abbrev pub SaneAt : Deployment → Option Instance → Type 0
+SaneAt d None = Unit {0}
+SaneAt d (Some q) = SaneInstance d q
+
+-- every instance that was made is
+abbrev pub Sane : Deployment → PlainState → Type 0
+Sane d p = (id : IntentId) → SaneAt d (map.get p.made id)
+
+-- ---- what a run knows
+-- the walk of a write at this step, at a stage
+abbrev pub walk_at : Run → ℕ → ℕ → List ℕ → Value → WriteStage → WriteWalk
+walk_at r n t k v s = record (first_walk r.func (Plain t k) (record { intent = r.id; step = n }) (op.Write v)) { stage = s }
+
+-- where an effect at a step may stand
+abbrev pub StageOk : Run → ℕ → Effect → Stage → Type 0
+StageOk r n (Write t k v) (stage.Write w) = (s : WriteStage) × (w ≡ walk_at r n t k v s)
+StageOk r n (Return o) (stage.Close u) = u ≡ o
+StageOk r n e s = ⊥
+
+-- what a run that has begun knows
+pub record Knows (d : Deployment) (p : PlainState) (r : Run) (g : Begun) : Type 0 where
+  -- its instance was made with its function, which the deployment has
+  pub instance : Instance
+  pub made : map.get p.made r.id ≡ Some instance
+  pub func : instance.func ≡ r.func
+  pub body : Func
+  pub has_body : func_at d r.func ≡ Some body
+  -- what it was answered is how the plain answers begin
+  pub answers : List Answer
+  pub later : List Answer
+  pub run_answers : answers ++ later ≡ instance.answers
+  -- its machine stands where these answers lead, and its stage is one of the effect there
+  pub machine : IsAt d r.func instance.args g.machine answers
+  pub run_stage : StageOk r g.machine.steps g.machine.effect g.stage
+
+-- nothing is known of a run before its first turn
+abbrev pub KnowsAt : Deployment → PlainState → Run → Option Begun → Type 0
+KnowsAt d p r None = Unit {0}
+KnowsAt d p r (Some g) = Knows d p r g
+
+-- the run of a number, if it is live, knows so much
+abbrev pub RunAt : Deployment → PlainState → Option Run → Type 0
+RunAt d p None = Unit {0}
+RunAt d p (Some r) = KnowsAt d p r r.at
+
+-- the live runs
+pub record RunsMatch (d : Deployment) (p : PlainState) (live : FinMap nat_cmp Run) (last : ℕ) : Type 0 where
+  -- their numbers were given
+  pub numbers : (n : ℕ) → IsTrue (is_some (map.get live n)) → (1 ≤ n) × (n ≤ last)
+  -- there are at most as many as may live
+  pub few : map.len live ≤ most_runs
+  -- each knows what a run knows
+  pub runs : (n : ℕ) → RunAt d p (map.get live n)
+
+-- ---- the invariant
+pub record Right (d : Deployment) (c : Core) (m : Rows) : Type 0 where
+  -- the book is legal, and this is its run
+  pub plain : PlainState
+  pub legal : run_of d c.book ≡ Some plain
+  pub sane : Sane d plain
+  -- the rows stand for it
+  pub rows : RowsMatch d m plain
+  -- a root has its row exactly where its ticket was issued
+  pub tickets : (t : ℕ) → is_some (map.get m (root_key t)) ≡ (nat_lt 0 t && nat_le t c.newest)
+  -- each live run knows what the plain state has
+  pub runs : RunsMatch d plain c.runs c.last_run

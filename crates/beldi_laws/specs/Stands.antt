@@ -1,0 +1,114 @@
+-- That rows stand for a plain state.
+use Rattle.std.specs.Prelude.{◌≡◌, ℕ, false, List, [], ◌∷◌, take, slice_get, Option, Some, None, option_and_then}
+use Rattle.std.specs.FinMap as map
+use Rattle.beldi_value.specs.Id.{root_of}
+use Rattle.beldi_value.specs.declared.id.IntentId.{IntentId}
+use Rattle.beldi_value.specs.declared.place.Place.{Place}
+use Rattle.beldi_value.specs.declared.place.Owner.{Owner}
+use Rattle.beldi_value.specs.declared.outcome.Outcome.{Outcome}
+use Rattle.beldi_value.specs.declared.value.Value.{Value}
+use Rattle.beldi_value.specs.declared.value.Value.TheVariants.{Null}
+use Rattle.beldi_lang.specs.declared.deployment.Deployment.{Deployment}
+use Rattle.beldi_lang.specs.declared.effect.Answer.{Answer}
+use Rattle.beldi_lang.specs.declared.effect.Answer.TheVariants.{Done}
+use Rattle.beldi_lang.specs.declared.effect.Effect.{Effect}
+use Rattle.beldi_lang.specs.declared.effect.Effect.TheVariants.{Write, Return}
+use Rattle.beldi_lang.specs.Wants.{wants}
+use Rattle.beldi_row.specs.declared.key.RowKey.{RowKey}
+use Rattle.beldi_row.specs.declared.key.Kind.TheVariants as kinds
+use Rattle.beldi_row.specs.declared.notes.Note.{Note}
+use Rattle.beldi_row.specs.declared.notes.Note.TheVariants as notes
+use Rattle.beldi_row.specs.declared.row.Body.{Body}
+use Rattle.beldi_row.specs.declared.row.IntentRow.{IntentRow}
+use Rattle.beldi_row.specs.declared.row.Row.{Row}
+use Rattle.beldi_row.specs.declared.row.Row.TheVariants as rows
+use Rattle.beldi_row.specs.Log.{note_at}
+use Rattle.beldi_row.specs.Table.{Rows}
+use Rattle.beldi_plain.specs.Item.{Item}
+use Rattle.beldi_plain.specs.Plain.{Instance, PlainState, value_at}
+use Rattle.beldi_step.specs.Run.{is_ended}
+use Rattle.beldi_step.specs.Host.{root_key}
+
+-- ---- what the rows hold of an item: its value, who owns it, and what was done to it, each with the place that it was done for
+pub record Content : Type 0 where
+  pub value : Value
+  pub owner : Option Owner
+  pub notes : List (Place × Note)
+
+-- the first row of an item
+abbrev pub head_key : Item → RowKey
+head_key x = record { home = x.func; kind = kinds.Data x.table x.key 0 }
+
+-- an item without a row is null, and nothing was done to it
+abbrev pub content_in : Option Row → Content
+content_in (Some (rows.Cell c)) = record { value = c.value; owner = c.owner; notes = c.log }
+content_in r = record { value = Null; owner = None; notes = [] }
+
+-- an item has one row
+abbrev pub content_of : Rows → Item → Content
+content_of m x = content_in (map.get m (head_key x))
+
+-- no place occurs twice
+abbrev pub NoneTwice : List (Place × Note) → Type 0
+NoneTwice [] = Unit {0}
+NoneTwice (e ∷ es) = (note_at es e.0 ≡ None) × NoneTwice es
+
+-- the rows of an item are one cell that no row follows, and no place occurs twice in it; or there is none
+abbrev pub SoundAt : Option Row → Type 0
+SoundAt None = Unit {0}
+SoundAt (Some (rows.Cell c)) = (c.next ≡ None) × NoneTwice c.log
+SoundAt (Some r) = ⊥
+
+-- the chain of an item is sound
+abbrev pub IsSoundChain : Rows → Item → Type 0
+IsSoundChain m x = SoundAt (map.get m (head_key x))
+
+-- ---- the answer that the rows hold
+-- a note, read as an answer. The notes of the effects that no body wants yet are none.
+abbrev pub noted_answer : Note → Option Answer
+noted_answer notes.Wrote = Some Done
+noted_answer (notes.Cond b) = None
+noted_answer notes.Got = None
+noted_answer (notes.Died h) = None
+noted_answer notes.Freed = None
+
+-- the answer that the rows hold at a step of an intent of a function, for the effect that it has there
+abbrev pub held_answer : Rows → IntentId → ℕ → ℕ → Effect → Option Answer
+held_answer m id func step (Write t k v) = option_and_then noted_answer (note_at (content_of m (record { func = func; table = t; key = k })).notes (record { intent = id; step = step }))
+held_answer m id func step (Return o) = None
+
+-- the effect that an instance had at a step, from 0
+abbrev pub effect_before : Deployment → Instance → ℕ → Effect
+effect_before d q n = wants d q.func q.args (take n q.answers)
+
+-- ---- the rows stand for a plain state
+-- the instance was made with the body's function and arguments; and its outcome is the row's, where the row has one
+pub record IsMade (p : PlainState) (id : IntentId) (i : IntentRow) (b : Body) : Type 0 where
+  pub instance : Instance
+  pub made : map.get p.made id ≡ Some instance
+  pub func : instance.func ≡ b.func
+  pub args : instance.args ≡ b.args
+  pub outcome : (o : Outcome) → i.outcome ≡ Some o → instance.outcome ≡ Some o
+
+-- the row of an intent that has not ended
+pub record IsOpen (m : Rows) (k : RowKey) : Type 0 where
+  pub row : IntentRow
+  pub there : map.get m k ≡ Some (rows.Intent row)
+  pub not_ended : is_ended row ≡ false
+
+-- the key of an intent's row in a home
+abbrev pub key_in : ℕ → IntentId → RowKey
+key_in home id = record { home = home; kind = kinds.Intent id }
+
+pub record Stands (d : Deployment) (m : Rows) (p : PlainState) : Type 0 where
+  -- each item has its plain value
+  pub items : (x : Item) → (content_of m x).value ≡ value_at p x
+  -- each intent row with a body was made so, with the plain outcome
+  pub made : (home : ℕ) (id : IntentId) (i : IntentRow) (b : Body) → map.get m (key_in home id) ≡ Some (rows.Intent i) → i.body ≡ Some b → IsMade p id i b
+  -- where such an intent has not ended, each answer of its instance is held by the rows at its step
+  pub held : (home : ℕ) (id : IntentId) (i : IntentRow) (b : Body) → map.get m (key_in home id) ≡ Some (rows.Intent i) → i.body ≡ Some b → is_ended i ≡ false
+      → (q : Instance) → map.get p.made id ≡ Some q → (n : ℕ) (a : Answer) → slice_get q.answers n ≡ Some a → held_answer m id q.func n (effect_before d q n) ≡ Some a
+  -- each root without outcome has its row, which has not ended
+  pub open_roots : (t : ℕ) (q : Instance) → map.get p.made (root_of t) ≡ Some q → q.outcome ≡ None → IsOpen m (root_key t)
+  -- each chain is sound
+  pub sound : (x : Item) → IsSoundChain m x

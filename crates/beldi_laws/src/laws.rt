@@ -1,0 +1,70 @@
+// The laws of the step.
+ghost use Rattle.beldi_laws.specs.Laws.{BeginsRight, KeepsRight, BreaksRight, RightIsLegal, RightStands, RepliesAreOutcomes, StartsAreBound, BreaksStartNothing, OutcomesStay, ListingIsPlain, ChangesOneRow, WritesWhatIsTold, SessionsAreRight, SessionsStartTheBound, SessionsTellOutcomes};
+
+/// A host that nothing has happened to is right, over a table without rows.
+pub fn begins_right()
+    ensures { BeginsRight }
+{}
+
+/// Every event keeps the host and its rows right.
+pub fn an_event_keeps_right()
+    ensures { KeepsRight }
+{}
+
+/// So does want of memory in an event.
+pub fn want_of_memory_keeps_right()
+    ensures { BreaksRight }
+{}
+
+/// Where the host and its rows are right, the book is legal.
+pub fn right_is_legal()
+    ensures { RightIsLegal }
+{}
+
+/// Where the host and its rows are right, the rows stand for the run of the book.
+pub fn right_stands()
+    ensures { RightStands }
+{}
+
+/// The outcome of a root that an event tells is the one that the root has in the run of the book.
+pub fn replies_are_outcomes()
+    ensures { RepliesAreOutcomes }
+{}
+
+/// The roots that the book starts are the requests that were bound, in order.
+pub fn starts_are_bound()
+    ensures { StartsAreBound }
+{}
+
+/// Want of memory in an event starts no root.
+pub fn want_of_memory_starts_nothing()
+    ensures { BreaksStartNothing }
+{}
+
+/// An outcome that a root has in the run of the book stays, whatever comes.
+pub fn outcomes_stay()
+    ensures { OutcomesStay }
+{}
+
+/// Where the host and its rows are right, the listing of the rows is that of the run of the book.
+pub fn listing_is_plain()
+    ensures { ListingIsPlain }
+{}
+
+/// Whatever events come, after them the host and its rows are right, the book starts exactly the requests that were bound,
+/// in order, and every outcome that was told is the root's in the run of the book.
+pub fn every_session_is_right()
+    ensures right { SessionsAreRight }
+    ensures starts { SessionsStartTheBound }
+    ensures outcomes { SessionsTellOutcomes }
+{}
+
+/// An event changes at most one row, by one act.
+pub fn an_event_changes_one_row()
+    ensures { ChangesOneRow }
+{}
+
+/// The book gets at most one entry in an event: the one that the answer tells.
+pub fn an_event_writes_what_it_tells()
+    ensures { WritesWhatIsTold }
+{}

@@ -1,0 +1,8 @@
+pub mod Carries
+pub mod Claims
+pub mod Endings
+pub mod Events
+pub mod Lines
+pub mod Programs
+pub mod Sessions
+pub mod Sights

@@ -1,0 +1,117 @@
+-- What is done, one part after another.
+use Rattle.std.proofs.Common.{◌≡◌, inl, ℕ, ◌≤◌, List, [], ◌∷◌, ◌++◌, refl, ap, sym, ◌∙◌, subst, arith, append_assoc}
+use Rattle.std.proofs.lemmas.Grind.{flat_map-append}
+use Rattle.std.proofs.lemmas.List.{append-nil}
+use Rattle.beldi_lang.specs.declared.deployment.Deployment.{Deployment}
+use Rattle.beldi_row.specs.Table.{Rows, Rose}
+use Rattle.beldi_step.specs.declared.event.Event.{Event}
+use Rattle.beldi_step.specs.declared.event.Seen.{Seen}
+use Rattle.beldi_step.specs.Host.{Core}
+use Rattle.beldi_main.specs.Answer.{answer_text, answers_text}
+use Rattle.beldi_main.specs.Session.{State, Answered, Wrote, Did, BrokeOff, Stopped}
+
+rose_earlier : (e f g : ℕ) → e ≤ f → Rose f g → Rose e g
+rose_earlier e f g h r = omega arith
+
+-- the count may have been lower before
+pub earlier : (d : Deployment) (room : ℕ) (es : List Event) (c : Core) (m : Rows) (e f : ℕ) (b : Core) (n : Rows) (g : ℕ) (xs : List Seen) → e ≤ f → Answered d room es c m f b n g xs → Answered d room es c m e b n g xs
+earlier d room [] c m e f b n g [] h r = (r.0, r.1, omega (arith, h, r.2))
+earlier d room [] c m e f b n g (x ∷ xs) h r = absurd r
+earlier d room (v ∷ es) c m e f b n g [] h r = absurd r
+earlier d room (v ∷ es) c m e f b n g (x ∷ xs) h r = (r.0, r.1, r.2, r.3, omega (arith, h, r.4), λ q. rose_earlier e f r.2 h (r.5 q), r.6)
+
+pub answered_then : (d : Deployment) (room : ℕ) (es fs : List Event) (c : Core) (m : Rows) (f : ℕ) (b : Core) (n : Rows) (g : ℕ) (e : Core) (o : Rows) (h : ℕ) (xs ys : List Seen)
+    → Answered d room es c m f b n g xs → Answered d room fs b n g e o h ys → Answered d room (es ++ fs) c m f e o h (xs ++ ys)
+answered_then d room [] fs c m f b n g e o h [] ys r s = earlier d room fs c m f g e o h ys r.2 (subst (λ z. Answered d room fs c z g e o h ys) r.1 (subst (λ z. Answered d room fs z n g e o h ys) r.0 s))
+answered_then d room [] fs c m f b n g e o h (x ∷ xs) ys r s = absurd r
+answered_then d room (v ∷ es) fs c m f b n g e o h [] ys r s = absurd r
+answered_then d room (v ∷ es) fs c m f b n g e o h (x ∷ xs) ys r s = (r.0, r.1, r.2, r.3, r.4, r.5, answered_then d room es fs r.0 r.1 r.2 b n g e o h xs ys r.6 s)
+
+texts_then : (d : Deployment) (xs ys : List Seen) → answers_text d (xs ++ ys) ≡ answers_text d xs ++ answers_text d ys
+texts_then d xs ys = flat_map-append (answer_text d) xs ys
+
+-- a front of a text, and what follows it
+joined : (w v p a b : List ℕ) → w ++ v ≡ p ++ a → (w ++ (v ++ b)) ≡ p ++ (a ++ b)
+joined w v p a b h = sym (append_assoc w v b) ∙ ap (λ y. y ++ b) h ∙ append_assoc p a b
+
+pub wrote_then : (s t u : State) (a b : List ℕ) → Wrote s t a → Wrote t u b → Wrote s u (a ++ b)
+wrote_then s t u a b x y = record {
+  written = x.written ++ y.written;
+  held = y.held ∙ ap (λ h. h ++ y.written) x.held ∙ append_assoc s.held x.written y.written;
+  whole = append_assoc x.written y.written u.waiting ∙ ap (λ z. x.written ++ z) y.whole ∙ joined x.written t.waiting s.waiting a b x.whole;
+}
+
+pub did_nothing : (d : Deployment) (room : ℕ) (s : State) → Did d room [] s s
+did_nothing d room s = record {
+  answers = [];
+  answered = (refl, refl, omega arith);
+  wrote = record { written = []; held = sym (append-nil s.held); whole = sym (append-nil s.waiting) };
+}
+
+pub did_then : (d : Deployment) (room : ℕ) (es fs : List Event) (s t u : State) → Did d room es s t → Did d room fs t u → Did d room (es ++ fs) s u
+did_then d room es fs s t u x y = record {
+  answers = x.answers ++ y.answers;
+  answered = answered_then d room es fs s.core s.rows s.faults t.core t.rows t.faults u.core u.rows u.faults x.answers y.answers x.answered y.answered;
+  wrote = subst (Wrote s u) (sym (texts_then d x.answers y.answers)) (wrote_then s t u (answers_text d x.answers) (answers_text d y.answers) x.wrote y.wrote);
+}
+
+pub stopped_after : (d : Deployment) (room : ℕ) (es fs : List Event) (s t u : State) → Did d room es s t → Stopped d room fs t u → Stopped d room (es ++ fs) s u
+stopped_after d room es fs s t u x y = record {
+  done = es ++ y.done;
+  more = y.more;
+  events = append_assoc es y.done y.more ∙ ap (λ z. es ++ z) y.events;
+  core = y.core;
+  rows = y.rows;
+  faults = y.faults;
+  answers = x.answers ++ y.answers;
+  answered = answered_then d room es y.done s.core s.rows s.faults t.core t.rows t.faults y.core y.rows y.faults x.answers y.answers x.answered y.answered;
+  broke_off = y.broke_off;
+  later = y.later;
+  front = x.wrote.written ++ y.front;
+  rest = y.rest;
+  held = y.held ∙ ap (λ h. h ++ y.front) x.wrote.held ∙ append_assoc s.held x.wrote.written y.front;
+  text = append_assoc x.wrote.written y.front y.rest ∙ ap (λ z. x.wrote.written ++ z) y.text
+      ∙ joined x.wrote.written t.waiting s.waiting (answers_text d x.answers) (answers_text d y.answers) x.wrote.whole
+      ∙ ap (λ z. s.waiting ++ z) (sym (texts_then d x.answers y.answers));
+}
+
+more_broke_off : (d : Deployment) (es fs : List Event) (c : Core) (m : Rows) (b : Core) (n : Rows) → BrokeOff d es c m b n → BrokeOff d (es ++ fs) c m b n
+more_broke_off d [] [] c m b n h = h
+more_broke_off d [] (f ∷ fs) c m b n h = inl h
+more_broke_off d (e ∷ es) fs c m b n h = h
+
+pub stopped_before : (d : Deployment) (room : ℕ) (es fs : List Event) (s t : State) → Stopped d room es s t → Stopped d room (es ++ fs) s t
+stopped_before d room es fs s t x = record {
+  done = x.done;
+  more = x.more ++ fs;
+  events = sym (append_assoc x.done x.more fs) ∙ ap (λ z. z ++ fs) x.events;
+  core = x.core;
+  rows = x.rows;
+  faults = x.faults;
+  answers = x.answers;
+  answered = x.answered;
+  broke_off = more_broke_off d x.more fs x.core x.rows t.core t.rows x.broke_off;
+  later = x.later;
+  front = x.front;
+  rest = x.rest;
+  held = x.held;
+  text = x.text;
+}
+
+pub stopped_now : (d : Deployment) (room : ℕ) (s : State) → Stopped d room [] s s
+stopped_now d room s = record {
+  done = [];
+  more = [];
+  events = refl;
+  core = s.core;
+  rows = s.rows;
+  faults = s.faults;
+  answers = [];
+  answered = (refl, refl, omega arith);
+  broke_off = (refl, refl);
+  later = omega arith;
+  front = [];
+  rest = s.waiting ++ [];
+  held = sym (append-nil s.held);
+  text = refl;
+}

@@ -1,0 +1,141 @@
+-- Calls one after another, over what the table and the sink tell.
+use Rattle.std.proofs.Common.{◌≡◌, ℕ, ◌+◌, ◌-◌, ◌<◌, ◌≤◌, suc, zero, Bool, true, false, List, [], ◌∷◌, ◌++◌, Option, None, Some, Result, Ok, Err, ap, sym, ◌∙◌, subst, arith}
+use Rattle.beldi_lang.specs.declared.deployment.Deployment.{Deployment}
+use Rattle.beldi_row.specs.Table.{Rows, Rose}
+use Rattle.beldi_step.specs.declared.event.Event.{Event}
+use Rattle.beldi_step.specs.Host.{Core}
+use Rattle.beldi_outside.specs.Outside.{Told}
+use Rattle.beldi_outside.proofs.Told.{told_same, told_then, told_map}
+use Rattle.beldi_script.specs.declared.reading.Line.{Line}
+use Rattle.beldi_script.specs.declared.reading.Line.TheVariants.{Blank}
+use Rattle.beldi_script.specs.Line.{line_at}
+use Rattle.std.proofs.lemmas.List.{append-nil}
+use Rattle.beldi_main.specs.declared.session.Stop.TheVariants as stop
+use Rattle.beldi_main.specs.declared.session.Stop.{Stop}
+use Rattle.beldi_main.specs.Session.{State, state_of, Carried, Carrying, Kept, Did, Stopped, LineOn, LinesOn, SoFarOn, line_result, events_of, events_in, and_then, and_whole, times}
+use Rattle.beldi_main.proofs.Sessions.{did_nothing, did_then, stopped_now, stopped_after, stopped_before}
+use Rattle.beldi_main.proofs.Events.{times_more}
+use Rattle.beldi_main.proofs.Lines.{begun, goes_on, refused, stops, all_done}
+
+-- what there is to see between two calls
+pub record Sight : Type 0 where
+  pub core : Core
+  pub faults : ℕ
+  pub waiting : List ℕ
+  pub rows : Option Rows
+  pub held : Option (List ℕ)
+
+abbrev pub Relation : Type 0 → Type 1
+Relation R = Deployment → ℕ → State → State → R → Type 0
+
+abbrev pub Between : {R : Type 0} → Relation R → Deployment → ℕ → Sight → Sight → R → Type 0
+Between P d room a b r = Carried P d room a.core b.core a.faults b.faults a.waiting b.waiting a.rows b.rows a.held b.held r
+
+abbrev On : {R : Type 0} → Relation R → Deployment → ℕ → Sight → Sight → R → Rows → Rows → List ℕ → List ℕ → Type 0
+On P d room a b r m n h k = P d room (state_of a.core m a.faults h a.waiting) (state_of b.core n b.faults k b.waiting) r
+
+pub same : {R : Type 0} (P : Relation R) (d : Deployment) (room : ℕ) (a : Sight) (r : R) → ((s : State) → P d room s s r) → Between P d room a a r
+same P d room a r f = told_same (λ m n. Told a.held a.held (On P d room a a r m n)) a.rows (λ m. told_same (On P d room a a r m m) a.held (λ h. f (state_of a.core m a.faults h a.waiting)))
+
+pub then : {A B C : Type 0} (P : Relation A) (Q : Relation B) (R : Relation C) (d : Deployment) (room : ℕ) (a b c : Sight) (x : A) (y : B) (z : C)
+    → ((s t u : State) → P d room s t x → Q d room t u y → R d room s u z) → Between P d room a b x → Between Q d room b c y → Between R d room a c z
+then P Q R d room a b c x y z f p q =
+    told_then {P = λ m n. Told a.held b.held (On P d room a b x m n)} {Q = λ m n. Told b.held c.held (On Q d room b c y m n)} {R = λ m n. Told a.held c.held (On R d room a c z m n)} a.rows b.rows c.rows
+    (λ m n o v w. told_then {P = On P d room a b x m n} {Q = On Q d room b c y n o} {R = On R d room a c z m o} a.held b.held c.held
+    (λ h k j v w. f (state_of a.core m a.faults h a.waiting) (state_of b.core n b.faults k b.waiting) (state_of c.core o c.faults j c.waiting) v w) v w) p q
+
+pub between_map : {A B : Type 0} (P : Relation A) (Q : Relation B) (d : Deployment) (room : ℕ) (a b : Sight) (x : A) (y : B) → ((s t : State) → P d room s t x → Q d room s t y) → Between P d room a b x → Between Q d room a b y
+between_map P Q d room a b x y f p =
+    told_map {P = λ m n. Told a.held b.held (On P d room a b x m n)} {Q = λ m n. Told a.held b.held (On Q d room a b y m n)} a.rows b.rows
+    (λ m n v. told_map {P = On P d room a b x m n} {Q = On Q d room a b y m n} a.held b.held
+    (λ h k v. f (state_of a.core m a.faults h a.waiting) (state_of b.core n b.faults k b.waiting) v) v) p
+
+-- the same deployment, and the same room
+pub at : {R : Type 0} (P : Relation R) (d e : Deployment) (room new_room : ℕ) (a b : Sight) (r : R) → e ≡ d → new_room ≡ room → Between P e new_room a b r → Between P d room a b r
+at P d e room new_room a b r p q h = subst (λ (y : Deployment). Between P y room a b r) p (subst (λ (y : ℕ). Between P e y a b r) q h)
+
+rose_later : (a b c : ℕ) → a ≤ b → Rose b c → Rose a c
+rose_later a b c h r = omega arith
+
+pub kept_then : {X Y : Type 0} (c d e : Deployment) (r s t f g h i j k : ℕ) (x : Result X Stop) (y : Result Y Stop) → Kept c d r s f g i j x → Kept d e s t g h j k y → Kept c e r t f h i k y
+kept_then c d e r s t f g h i j k x y p q = record {
+  code = q.code ∙ p.code;
+  room = q.room ∙ p.room;
+  table_later = omega (arith, p.table_later, q.table_later);
+  sink_later = omega (arith, p.sink_later, q.sink_later);
+  fault = λ v. rose_later i j k p.sink_later (q.fault v);
+}
+
+pub kept_fine : {X : Type 0} (c d : Deployment) (r s f g i j : ℕ) (x : Result X Stop) → Kept c d r s f g i j x → Kept {X = Unit {0}} c d r s f g i j (Ok tt)
+kept_fine c d r s f g i j x h = record { code = h.code; room = h.room; table_later = h.table_later; sink_later = h.sink_later; fault = λ v. cc }
+
+-- ---- turns
+times_split : (n k : ℕ) (e : Event) → times n e ++ times k e ≡ times (n + k) e
+times_split zero k e = ap (λ j. times j e) (omega arith)
+times_split (suc n) k e = ap (λ es. e ∷ es) (times_split n k e) ∙ ap (λ j. times j e) {x = suc (n + k)} (omega arith)
+
+module _ (d e : Deployment) (room new_room : ℕ) (a b c : Sight) (n : ℕ) (v w : Event) (code : e ≡ d) (same_room : new_room ≡ room) (event : w ≡ v) (before : Between (Carrying (times n v)) d room a b (Ok tt)) where
+  turn_at : (r : Result (Unit {0}) Stop) → Between (Carrying (w ∷ [])) e new_room b c r → Between (Carrying (v ∷ [])) d room b c r
+  turn_at r h = at (Carrying (v ∷ [])) d e room new_room b c r code same_room (subst (λ (x : Event). Between (Carrying (x ∷ [])) e new_room b c r) event h)
+
+  pub turned_more : Between (Carrying (w ∷ [])) e new_room b c (Ok tt) → Between (Carrying (times (n + 1) v)) d room a c (Ok tt)
+  turned_more h =
+      then (Carrying (times n v)) (Carrying (v ∷ [])) (Carrying (times (n + 1) v)) d room a b c (Ok tt) (Ok tt) (Ok tt)
+      (λ s t u x y. subst (λ es. Carrying es d room s u (Ok tt)) (times_more n v) (did_then d room (times n v) (v ∷ []) s t u x y)) before (turn_at (Ok tt) h)
+
+  pub turn_stopped : (count : ℕ) (why : Stop) → n < count → Between (Carrying (w ∷ [])) e new_room b c (Err why) → Between (Carrying (times count v)) d room a c (Err why)
+  turn_stopped count why l h =
+      then (Carrying (times n v)) (Carrying (v ∷ [])) (Carrying (times count v)) d room a b c (Ok tt) (Err why) (Err why)
+      (λ s t u x y. subst (λ es. Carrying es d room s u (Err why)) (ap (λ es. es ++ times (count - (n + 1)) v) (times_more n v) ∙ times_split (n + 1) (count - (n + 1)) v ∙ ap (λ j. times j v) {x = n + 1 + (count - (n + 1))} (omega arith))
+      (stopped_before d room (times n v ++ v ∷ []) (times (count - (n + 1)) v) s u (stopped_after d room (times n v) (v ∷ []) s t u x y))) before (turn_at (Err why) h)
+
+-- ---- a line
+module _ (d : Deployment) (room : ℕ) (line : List ℕ) (a b : Sight) where
+  pub bad_line : line_at d line ≡ None → Between (λ e r s t x. LineOn e r line s t x) d room a a (Ok false)
+  bad_line h = same (λ e r s t x. LineOn e r line s t x) d room a (Ok false) (λ s. (ap (λ o. and_whole o true) h, did_nothing d room s))
+
+  pub unread_line : Between (λ e r s t x. LineOn e r line s t x) d room a a (Err stop.OutOfMemory)
+  unread_line = same (λ e r s t x. LineOn e r line s t x) d room a (Err stop.OutOfMemory) (λ s. stopped_before d room [] (events_in d (line ∷ [])) s s (stopped_now d room s))
+
+  by_line : (l : Line) → line_at d line ≡ Some l → events_in d (line ∷ []) ≡ events_of l
+  by_line l h = ap (λ o. and_then o []) h ∙ append-nil (events_of l)
+
+  line_on : (l : Line) (s t : State) (r : Result (Unit {0}) Stop) → line_at d line ≡ Some l → Carrying (events_of l) d room s t r → LineOn d room line s t (line_result r)
+  line_on l s t (Ok u) h x = (ap (λ o. and_whole o true) h, subst (λ es. Did d room es s t) (sym (by_line l h)) x)
+  line_on l s t (Err e) h x = subst (λ es. Stopped d room es s t) (sym (by_line l h)) x
+
+  pub done_line : (l : Line) (r : Result (Unit {0}) Stop) → line_at d line ≡ Some l → Between (Carrying (events_of l)) d room a b r → Between (λ e q s t x. LineOn e q line s t x) d room a b (line_result r)
+  done_line l r h x = between_map (Carrying (events_of l)) (λ e q s t x. LineOn e q line s t x) d room a b r (line_result r) (λ s t y. line_on l s t r h y) x
+
+  pub blank_line : line_at d line ≡ Some Blank → Between (λ e r s t x. LineOn e r line s t x) d room a a (Ok true)
+  blank_line h = same (λ e r s t x. LineOn e r line s t x) d room a (Ok true) (λ s. line_on Blank s s (Ok tt) h (did_nothing d room s))
+
+-- ---- lines
+module _ (d e : Deployment) (room new_room : ℕ) (lines rest more : List (List ℕ)) (line : List ℕ) (a b c : Sight) (code : e ≡ d) (same_room : new_room ≡ room) (cut : rest ≡ line ∷ more) (before : Between (SoFarOn lines rest) d room a b (Ok tt)) where
+  cut_before : Between (SoFarOn lines (line ∷ more)) d room a b (Ok tt)
+  cut_before = subst (λ ls. Between (SoFarOn lines ls) d room a b (Ok tt)) cut before
+
+  line_there : (r : Result Bool Stop) → Between (λ y q s t x. LineOn y q line s t x) e new_room b c r → Between (λ y q s t x. LineOn y q line s t x) d room b c r
+  line_there r h = at (λ y q s t x. LineOn y q line s t x) d e room new_room b c r code same_room h
+
+  pub line_goes_on : Between (λ y q s t x. LineOn y q line s t x) e new_room b c (Ok true) → Between (SoFarOn lines more) d room a c (Ok tt)
+  line_goes_on h =
+      then (SoFarOn lines (line ∷ more)) (λ y q s t x. LineOn y q line s t x) (SoFarOn lines more) d room a b c (Ok tt) (Ok true) (Ok tt)
+      (λ s t u x y. goes_on d room lines more line s t u x y) cut_before (line_there (Ok true) h)
+
+  pub line_refused : Between (λ y q s t x. LineOn y q line s t x) e new_room b c (Ok false) → Between (λ y q s t x. LinesOn y q lines s t x) d room a c (Ok false)
+  line_refused h =
+      then (SoFarOn lines (line ∷ more)) (λ y q s t x. LineOn y q line s t x) (λ y q s t x. LinesOn y q lines s t x) d room a b c (Ok tt) (Ok false) (Ok false)
+      (λ s t u x y. refused d room lines more line s t u x y) cut_before (line_there (Ok false) h)
+
+  pub line_stops : (why : Stop) → Between (λ y q s t x. LineOn y q line s t x) e new_room b c (Err why) → Between (λ y q s t x. LinesOn y q lines s t x) d room a c (Err why)
+  line_stops why h =
+      then (SoFarOn lines (line ∷ more)) (λ y q s t x. LineOn y q line s t x) (λ y q s t x. LinesOn y q lines s t x) d room a b c (Ok tt) (Err why) (Err why)
+      (λ s t u x y. stops d room lines more line s t u x why y) cut_before (line_there (Err why) h)
+
+pub lines_begun : (d : Deployment) (room : ℕ) (lines : List (List ℕ)) (a : Sight) → Between (SoFarOn lines lines) d room a a (Ok tt)
+lines_begun d room lines a = same (SoFarOn lines lines) d room a (Ok tt) (begun d room lines)
+
+pub lines_done : (d : Deployment) (room : ℕ) (lines left : List (List ℕ)) (a b : Sight) → left ≡ [] → Between (SoFarOn lines left) d room a b (Ok tt) → Between (λ y q s t x. LinesOn y q lines s t x) d room a b (Ok true)
+lines_done d room lines left a b none h =
+    between_map (SoFarOn lines []) (λ y q s t x. LinesOn y q lines s t x) d room a b (Ok tt) (Ok true) (λ s t x. all_done d room lines s t x) (subst (λ ls. Between (SoFarOn lines ls) d room a b (Ok tt)) none h)

@@ -1,0 +1,30 @@
+use Rattle.std.proofs.Common.{sym, subst}
+use Rattle.beldi_core.specs.Host.{core_of}
+use Rattle.beldi_script.specs.Cut.{lines_of}
+use Rattle.beldi_main.specs.declared.program.Ended.{Ended}
+use Rattle.beldi_main.specs.Session.{OnTold}
+use Rattle.beldi_main.specs.Headline.{Anything, SessionOn, end_of}
+use Rattle.beldi_main.proofs.Programs.{hosted, not_opened}
+use Rattle.beldi_main.proofs.program.host.Goals as goal
+
+pub returns-in-Ok-clause-session : goal.returns-in-Ok-clause-session
+returns-in-Ok-clause-session g c =
+    let t = g.T.Table in
+    let ha = g.K.Sink.held c.args.sink.now in
+    let hb = g.K.Sink.held c.run_script-ran.new.sink in
+    let lines = lines_of c.args.script.now in
+    let first = c.in-Ok.host in
+    let last = c.run_script-ran.new.host in
+    let r = c.run_script-ran.result in
+    let rows = t.rows c.args.table in
+    let f = t.faults c.args.table in
+    let done = hosted c.args.code first.code (t.room first.table) f (t.faults first.table) (t.faults last.table) (core_of first) lines r rows (t.rows first.table) (t.rows last.table) ha hb c.in-Ok.ensures.ok c.run_script-ran.ensures.done in
+    let closed = subst (λ (x : g.row.T.Denot). OnTold rows (t.rows x) ha hb (λ m n h k. SessionOn Anything c.args.code lines m n f (t.faults x) h k (end_of r))) (sym c.close.ensures) done in
+    subst (λ (e : Ended). OnTold rows (t.rows c.close.result) ha hb (λ m n h k. SessionOn Anything c.args.code lines m n f (t.faults c.close.result) h k e)) (sym c.end_of.ensures) closed
+
+pub returns-in-Err-default-OutOfMemory-clause-session :
+    goal.returns-in-Err-default-OutOfMemory-clause-session
+returns-in-Err-default-OutOfMemory-clause-session g c =
+    let t = g.T.Table in
+    let e = c.in-Err-default-OutOfMemory in
+    not_opened c.args.code (lines_of c.args.script.now) (t.faults c.args.table) (t.faults e.table) (t.rows c.args.table) (t.rows e.table) (g.K.Sink.held c.args.sink.now) e.field-0-1 e.ensures.err

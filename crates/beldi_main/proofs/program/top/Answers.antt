@@ -1,0 +1,71 @@
+use Rattle.std.proofs.Common.{◌≡◌, ◌≤◌, ◌⊎◌, ℕ, length, sym, ap, subst, ◌∙◌, inl, inr}
+use Rattle.beldi_main.specs.declared.program.Ended.TheVariants as ended
+use Rattle.beldi_outside.specs.Outside.{Told, Rose, max_source}
+use Rattle.beldi_syntax.specs.Grammar.{parsed_at}
+use Rattle.beldi_main.specs.Session.{OnTold}
+use Rattle.beldi_main.specs.Headline.{IsWholeSource, BookIsLegal, StartsTheBound, TellsOutcomes, StandsForTheRun, is_run, status_of}
+use Rattle.beldi_main.proofs.Claims.{is_legal, starts_bound, tells_outcomes, stands, claimed, completed, same_end}
+use Rattle.beldi_main.proofs.program.top.Goals as goal
+
+pub returns-clause-legal : goal.returns-clause-legal
+returns-clause-legal g c =
+    let t = g.T.Table in
+    let k = g.K.Sink in
+    let r = c.carry_out-ended.result in
+    (r.0, c.status.ensures, claimed BookIsLegal is_legal (is_run c.args.words.now) (g.S.Source.left c.args.source.now) (t.rows c.args.table) (t.rows r.1) (k.held c.args.sink.now) (k.held c.carry_out-ended.new.sink) (t.faults c.args.table) (t.faults r.1) r.0 c.carry_out-ended.ensures.text)
+
+pub returns-clause-bound : goal.returns-clause-bound
+returns-clause-bound g c =
+    let t = g.T.Table in
+    let k = g.K.Sink in
+    let r = c.carry_out-ended.result in
+    (r.0, c.status.ensures, claimed StartsTheBound starts_bound (is_run c.args.words.now) (g.S.Source.left c.args.source.now) (t.rows c.args.table) (t.rows r.1) (k.held c.args.sink.now) (k.held c.carry_out-ended.new.sink) (t.faults c.args.table) (t.faults r.1) r.0 c.carry_out-ended.ensures.text)
+
+pub returns-clause-replies : goal.returns-clause-replies
+returns-clause-replies g c =
+    let t = g.T.Table in
+    let k = g.K.Sink in
+    let r = c.carry_out-ended.result in
+    (r.0, c.status.ensures, claimed TellsOutcomes tells_outcomes (is_run c.args.words.now) (g.S.Source.left c.args.source.now) (t.rows c.args.table) (t.rows r.1) (k.held c.args.sink.now) (k.held c.carry_out-ended.new.sink) (t.faults c.args.table) (t.faults r.1) r.0 c.carry_out-ended.ensures.text)
+
+pub returns-clause-tables : goal.returns-clause-tables
+returns-clause-tables g c =
+    let t = g.T.Table in
+    let k = g.K.Sink in
+    let r = c.carry_out-ended.result in
+    (r.0, c.status.ensures, claimed StandsForTheRun stands (is_run c.args.words.now) (g.S.Source.left c.args.source.now) (t.rows c.args.table) (t.rows r.1) (k.held c.args.sink.now) (k.held c.carry_out-ended.new.sink) (t.faults c.args.table) (t.faults r.1) r.0 c.carry_out-ended.ensures.text)
+
+pub returns-clause-usage : goal.returns-clause-usage
+returns-clause-usage g c = (
+  λ s. c.carry_out-ended.ensures.usage.0 (same_end c.carry_out-ended.result.0 ended.Usage (sym c.status.ensures ∙ s)),
+  λ h. elim (c.carry_out-ended.ensures.usage.1 h) [
+    | inl e ↦ inl (c.status.ensures ∙ ap status_of e)
+    | inr e ↦ inr (c.status.ensures ∙ ap status_of e)
+  ],
+)
+
+pub returns-clause-source_fault : goal.returns-clause-source_fault
+returns-clause-source_fault g c = λ s. c.carry_out-ended.ensures.source_fault (same_end c.carry_out-ended.result.0 ended.SourceFault (sym c.status.ensures ∙ s))
+
+pub returns-clause-sink_fault : goal.returns-clause-sink_fault
+returns-clause-sink_fault g c = λ s. c.carry_out-ended.ensures.sink_fault (same_end c.carry_out-ended.result.0 ended.SinkFault (sym c.status.ensures ∙ s))
+
+pub returns-clause-open_fault : goal.returns-clause-open_fault
+returns-clause-open_fault g c = λ s. c.carry_out-ended.ensures.open_fault (same_end c.carry_out-ended.result.0 ended.TableFault (sym c.status.ensures ∙ s))
+
+pub returns-clause-too_long : goal.returns-clause-too_long
+returns-clause-too_long g c = λ h. (c.carry_out-ended.result.0, c.status.ensures, c.carry_out-ended.ensures.too_long h)
+
+pub returns-clause-complete : goal.returns-clause-complete
+returns-clause-complete g c = λ w p q r.
+    let t = g.T.Table in
+    let k = g.K.Sink in
+    let s = g.S.Source in
+    let x = c.carry_out-ended.result in
+    let y = c.carry_out-ended.ensures in
+    let rows = t.rows x.1 in
+    let sink = c.carry_out-ended.new.sink in
+    let source = c.carry_out-ended.new.source in
+    subst (λ (z : ℕ). OnTold (t.rows c.args.table) rows (k.held c.args.sink.now) (k.held sink) (λ m n h j. Told (s.left c.args.source.now) (s.left source) (λ a b. length a ≤ max_source → IsWholeSource a (parsed_at a) → (z ≡ 0) ⊎ (z ≡ 1)))) (sym c.status.ensures)
+    (completed (is_run c.args.words.now) (s.left c.args.source.now) (s.left source) (t.rows c.args.table) rows (k.held c.args.sink.now) (k.held sink) (t.faults c.args.table) (t.faults x.1) x.0
+    (Rose (s.faults c.args.source.now) (s.faults source)) (Rose (k.faults c.args.sink.now) (k.faults sink)) (Rose (t.faults c.args.table) (t.faults x.1)) w y.text (y.too_long w) y.usage.0 y.source_fault y.sink_fault y.open_fault p q r)

@@ -1,0 +1,82 @@
+use Rattle.std.proofs.Common.{rules, ◌≡◌, ◌∙◌, [], ap, length, sym, eqb-true}
+use Rattle.std.proofs.lemmas.List.{nil_from_length}
+use Rattle.beldi_core.specs.Host.{core_of}
+use Rattle.beldi_script.specs.Cut.{lines_of}
+use Rattle.beldi_main.proofs.Sights.{Sight, kept_fine, kept_then, line_goes_on, line_refused, line_stops, lines_begun, lines_done}
+use Rattle.beldi_main.proofs.session.do_lines.Goals as goal
+
+pub loop-rest-init : goal.loop-rest-init
+loop-rest-init g c =
+    let t = g.T.Table in
+    let old = c.args.host.now in
+    let a : Sight = record { core = core_of old; faults = t.faults old.table; waiting = c.args.waiting.now; rows = t.rows old.table; held = g.K.Sink.held c.args.sink.now } in
+    record {
+      done = lines_begun old.code (t.room old.table) (lines_of c.args.script.now) a;
+      kept = search rules;
+    }
+
+pub returns-in-Ok-false-clause-done : goal.returns-in-Ok-false-clause-done
+returns-in-Ok-false-clause-done g c =
+    let t = g.T.Table in
+    let k = g.K.Sink in
+    let old = c.args.host.now in
+    let now = c.loop-rest.host in
+    let new = c.do_line.new.host in
+    let i = c.loop-rest.invariant in
+    let lines = lines_of c.args.script.now in
+    let rest = lines_of c.loop-rest.rest.now in
+    let more = lines_of c.cut_line.result.1.now in
+    let line = c.cut_line.result.0.now in
+    let a : Sight = record { core = core_of old; faults = t.faults old.table; waiting = c.args.waiting.now; rows = t.rows old.table; held = k.held c.args.sink.now } in
+    let b : Sight = record { core = core_of now; faults = t.faults now.table; waiting = c.loop-rest.waiting; rows = t.rows now.table; held = k.held c.loop-rest.sink } in
+    let e : Sight = record { core = core_of new; faults = t.faults new.table; waiting = c.do_line.new.waiting; rows = t.rows new.table; held = k.held c.do_line.new.sink } in
+    line_refused old.code now.code (t.room old.table) (t.room now.table) lines rest more line a b e i.kept.code i.kept.room c.cut_line.ensures.lines i.done (rw c.in-Ok-false.field-0-test at c.in-Ok-false.ensures.done)
+
+pub returns-in-Err-clause-done : goal.returns-in-Err-clause-done
+returns-in-Err-clause-done g c =
+    let t = g.T.Table in
+    let k = g.K.Sink in
+    let old = c.args.host.now in
+    let now = c.loop-rest.host in
+    let new = c.do_line.new.host in
+    let i = c.loop-rest.invariant in
+    let lines = lines_of c.args.script.now in
+    let rest = lines_of c.loop-rest.rest.now in
+    let more = lines_of c.cut_line.result.1.now in
+    let line = c.cut_line.result.0.now in
+    let a : Sight = record { core = core_of old; faults = t.faults old.table; waiting = c.args.waiting.now; rows = t.rows old.table; held = k.held c.args.sink.now } in
+    let b : Sight = record { core = core_of now; faults = t.faults now.table; waiting = c.loop-rest.waiting; rows = t.rows now.table; held = k.held c.loop-rest.sink } in
+    let e : Sight = record { core = core_of new; faults = t.faults new.table; waiting = c.do_line.new.waiting; rows = t.rows new.table; held = k.held c.do_line.new.sink } in
+    line_stops old.code now.code (t.room old.table) (t.room now.table) lines rest more line a b e i.kept.code i.kept.room c.cut_line.ensures.lines i.done c.in-Err.stop c.in-Err.ensures.done
+
+pub loop-rest-preserved : goal.loop-rest-preserved
+loop-rest-preserved g c =
+    let t = g.T.Table in
+    let k = g.K.Sink in
+    let old = c.args.host.now in
+    let now = c.loop-rest.host in
+    let new = c.do_line.new.host in
+    let i = c.loop-rest.invariant in
+    let lines = lines_of c.args.script.now in
+    let rest = lines_of c.loop-rest.rest.now in
+    let more = lines_of c.cut_line.result.1.now in
+    let line = c.cut_line.result.0.now in
+    let a : Sight = record { core = core_of old; faults = t.faults old.table; waiting = c.args.waiting.now; rows = t.rows old.table; held = k.held c.args.sink.now } in
+    let b : Sight = record { core = core_of now; faults = t.faults now.table; waiting = c.loop-rest.waiting; rows = t.rows now.table; held = k.held c.loop-rest.sink } in
+    let e : Sight = record { core = core_of new; faults = t.faults new.table; waiting = c.do_line.new.waiting; rows = t.rows new.table; held = k.held c.do_line.new.sink } in
+    record {
+      done = line_goes_on old.code now.code (t.room old.table) (t.room now.table) lines rest more line a b e i.kept.code i.kept.room c.cut_line.ensures.lines i.done (rw c.in-Ok-true.field-0-test at c.in-Ok-true.ensures.done);
+      kept = kept_fine old.code new.code (t.room old.table) (t.room new.table) (t.faults old.table) (t.faults new.table) (k.faults c.args.sink.now) (k.faults c.do_line.new.sink) _ (kept_then old.code now.code new.code (t.room old.table) (t.room now.table) (t.room new.table) (t.faults old.table) (t.faults now.table) (t.faults new.table) (k.faults c.args.sink.now) (k.faults c.loop-rest.sink) (k.faults c.do_line.new.sink) _ _ i.kept c.in-Ok-true.ensures.kept);
+    }
+
+pub returns-clause-done : goal.returns-clause-done
+returns-clause-done g c =
+    let t = g.T.Table in
+    let k = g.K.Sink in
+    let old = c.args.host.now in
+    let now = c.loop-rest.host in
+    let i = c.loop-rest.invariant in
+    let a : Sight = record { core = core_of old; faults = t.faults old.table; waiting = c.args.waiting.now; rows = t.rows old.table; held = k.held c.args.sink.now } in
+    let b : Sight = record { core = core_of now; faults = t.faults now.table; waiting = c.loop-rest.waiting; rows = t.rows now.table; held = k.held c.loop-rest.sink } in
+    let none : c.loop-rest.rest.now ≡ [] = nil_from_length c.loop-rest.rest.now (eqb-true (length c.loop-rest.rest.now) 0 (sym c.is_empty.ensures ∙ c.loop-rest-test.false)) in
+    lines_done old.code (t.room old.table) (lines_of c.args.script.now) (lines_of c.loop-rest.rest.now) a b (ap lines_of none) i.done

@@ -1,0 +1,54 @@
+-- The text of an answer.
+use Rattle.std.specs.Prelude.{ℕ, Bool, true, false, List, [], ◌++◌, flat_map, Option, Some, None, codes}
+use Rattle.std.specs.Fmt.{decimal}
+use Rattle.beldi_value.specs.Json.{text_of}
+use Rattle.beldi_value.specs.Value.{datum_of}
+use Rattle.beldi_value.specs.Text.{outcome_text}
+use Rattle.beldi_value.specs.declared.outcome.Outcome.{Outcome}
+use Rattle.beldi_lang.specs.declared.deployment.Deployment.{Deployment}
+use Rattle.beldi_book.specs.Text.{func_text, entry_text}
+use Rattle.beldi_book.specs.declared.entry.Entry.{Entry}
+use Rattle.beldi_step.specs.declared.event.Seen.{Seen}
+use Rattle.beldi_step.specs.declared.event.Seen.TheVariants as seen
+
+-- a word and a number, as a line
+abbrev pub numbered : List ℕ → ℕ → List ℕ
+numbered word n = word ++ (decimal n ++ codes "\n")
+
+-- a word, a ticket and an outcome, as a line
+abbrev pub outcome_line : List ℕ → ℕ → Outcome → List ℕ
+outcome_line word t o = word ++ (decimal t ++ (codes " " ++ (outcome_text o ++ codes "\n")))
+
+abbrev pub entry_part : Deployment → Option Entry → List ℕ
+entry_part d None = []
+entry_part d (Some e) = codes " " ++ entry_text d e
+
+abbrev pub over_part : Bool → List ℕ
+over_part false = []
+over_part true = codes " over"
+
+-- the line of a reply
+abbrev pub reply_part : Option (ℕ × Outcome) → List ℕ
+reply_part None = []
+reply_part (Some r) = outcome_line (codes "reply ") r.0 r.1
+
+abbrev pub answer_text : Deployment → Seen → List ℕ
+answer_text d (seen.Issued n) = numbered (codes "ticket ") n
+answer_text d seen.NoTicket = codes "no-ticket\n"
+answer_text d (seen.Bound t r) = codes "bound " ++ (decimal t ++ (codes " run " ++ (decimal r ++ codes "\n")))
+answer_text d (seen.Running t) = numbered (codes "running ") t
+answer_text d (seen.Replied t o) = outcome_line (codes "ended ") t o
+answer_text d (seen.Other t f a) = codes "other " ++ (decimal t ++ (codes " " ++ (func_text d f ++ (codes " " ++ (text_of (datum_of a) ++ codes "\n")))))
+answer_text d (seen.Gone t) = numbered (codes "gone ") t
+answer_text d (seen.Unknown t) = numbered (codes "unknown ") t
+answer_text d (seen.Acted e over r) = codes "acted" ++ (entry_part d e ++ (over_part over ++ (codes "\n" ++ reply_part r)))
+answer_text d (seen.Full live room) = codes "full " ++ (decimal live ++ (codes " " ++ (decimal room ++ codes "\n")))
+answer_text d seen.Crowded = codes "crowded 1024\n"
+answer_text d seen.NoRun = codes "no-run\n"
+answer_text d seen.RunOver = codes "run-over\n"
+answer_text d seen.Dropped = codes "dropped\n"
+answer_text d seen.Spent = codes "spent\n"
+
+-- the answers of a list of events, one after another
+abbrev pub answers_text : Deployment → List Seen → List ℕ
+answers_text d xs = flat_map (answer_text d) xs

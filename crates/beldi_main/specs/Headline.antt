@@ -1,0 +1,197 @@
+-- What a session over a source has to do with the rows of the table and the text of the sink.
+use Rattle.std.specs.Prelude.{◌≡◌, ◌⊎◌, ◌≤◌, ◌<◌, ◌+◌, ℕ, length, Bool, true, false, List, [], ◌∷◌, ◌++◌, drop, Option, Some, None, Result, Ok, Err, IfSome, codes}
+use Rattle.std.specs.FinMap as map
+use Rattle.beldi_lang.specs.declared.deployment.Deployment.{Deployment}
+use Rattle.beldi_lang.specs.Wants.{is_name}
+use Rattle.beldi_row.specs.Table.{Rows}
+use Rattle.beldi_plain.specs.Plain.{PlainState}
+use Rattle.beldi_plain.specs.Legal.{IsLegal, run_of}
+use Rattle.beldi_plain.specs.Listing.{listing_of}
+use Rattle.beldi_step.specs.declared.event.Event.{Event}
+use Rattle.beldi_step.specs.declared.event.Seen.{Seen}
+use Rattle.beldi_step.specs.Host.{Core, first_core}
+use Rattle.beldi_step.specs.Tables.{tables_text}
+use Rattle.beldi_laws.specs.Laws.{starts_of, bound_in, TellOutcomes}
+use Rattle.beldi_laws.specs.Stands.{Stands}
+use Rattle.beldi_core.specs.Survey.{newest_of}
+use Rattle.beldi_script.specs.Cut.{lines_of}
+use Rattle.beldi_syntax.specs.declared.grammar.Parsed.{Parsed}
+use Rattle.beldi_syntax.specs.Grammar.{parsed_at}
+use Rattle.beldi_outside.specs.Outside.{IsPrefixOf, max_source}
+use Rattle.beldi_outside.specs.declared.transfer.ReadErr.{ReadErr}
+use Rattle.beldi_outside.specs.declared.transfer.ReadErr.TheVariants as why
+use Rattle.beldi_main.specs.declared.session.Stop.{Stop}
+use Rattle.beldi_main.specs.declared.session.Stop.TheVariants as stop
+use Rattle.beldi_main.specs.declared.program.Ended.{Ended}
+use Rattle.beldi_main.specs.declared.program.Ended.TheVariants as ended
+use Rattle.beldi_main.specs.Answer.{answers_text}
+use Rattle.beldi_main.specs.Session.{Answered, BrokeOff, OnTold, events_in, is_whole, IsEnding, IsTail, refusal}
+
+-- all lines before a refused one were carried out, from the host's state c and the rows m on; the host ends as `core`.
+-- The numbers f and g are the table's count of failures before and after.
+pub record Whole (d : Deployment) (room : ℕ) (lines : List (List ℕ)) (c : Core) (m n : Rows) (f g : ℕ) (h k : List ℕ) : Type 0 where
+  pub core : Core
+  pub answers : List Seen
+  pub closed : ℕ
+  pub answered : Answered d room (events_in d lines) c m f core n closed answers
+  pub later : closed ≤ g
+  pub ending : List ℕ
+  pub is_ending : IsEnding d (is_whole d lines) core n closed g ending
+  pub text : k ≡ h ++ (answers_text d answers ++ ending)
+
+-- the first events were carried out, and a front of the text was written; where all events were carried out, the text may
+-- have a part of the ending
+pub record Cut (d : Deployment) (room : ℕ) (lines : List (List ℕ)) (c : Core) (m n : Rows) (f g : ℕ) (h k : List ℕ) : Type 0 where
+  pub core : Core
+  pub answers : List Seen
+  pub done : List Event
+  pub more : List Event
+  pub events : done ++ more ≡ events_in d lines
+  pub last : Core
+  pub rows : Rows
+  pub closed : ℕ
+  pub answered : Answered d room done c m f last rows closed answers
+  pub later : closed ≤ g
+  pub broke_off : BrokeOff d more last rows core n
+  pub tail : List ℕ
+  pub is_tail : (tail ≡ []) ⊎ ((more ≡ []) × IsTail d (is_whole d lines) core n closed g tail)
+  pub front : List ℕ
+  pub rest : List ℕ
+  pub text : front ++ rest ≡ answers_text d answers ++ tail
+  pub written : k ≡ h ++ front
+
+-- what a call that carries out a script and writes its ending has done
+abbrev pub ScriptOn : Deployment → ℕ → List (List ℕ) → Core → Rows → Rows → ℕ → ℕ → List ℕ → List ℕ → Result Bool Stop → Type 0
+ScriptOn d room lines c m n f g h k (Ok whole) = (is_whole d lines ≡ whole) × Whole d room lines c m n f g h k
+ScriptOn d room lines c m n f g h k (Err e) = Cut d room lines c m n f g h k
+
+-- ---- what is said of a session: by its deployment, the rows before and after, the events that were carried out, their
+-- answers, and the host at the end
+abbrev pub Claim : Type 1
+Claim = Deployment → Rows → Rows → List Event → List Seen → Core → Type 0
+
+abbrev pub Anything : Claim
+Anything d m n es xs c = Unit {0}
+
+-- the book is legal
+abbrev pub BookIsLegal : Claim
+BookIsLegal d m n es xs c = m ≡ map.empty → IsLegal d c.book
+
+-- the book starts exactly the requests that were answered bound, in order
+abbrev pub StartsTheBound : Claim
+StartsTheBound d m n es xs c = m ≡ map.empty → starts_of c.book ≡ bound_in es xs
+
+-- every outcome that was told is the root's in the run of the book
+abbrev pub TellsOutcomes : Claim
+TellsOutcomes d m n es xs c = m ≡ map.empty → TellOutcomes d c.book xs
+
+-- the rows stand for the run of the book, and their listing is that of the run
+abbrev pub StandsForTheRun : Claim
+StandsForTheRun d m n es xs c = m ≡ map.empty → (p : PlainState) → run_of d c.book ≡ Some p → Stands d n p × (tables_text d n ≡ listing_of d p)
+
+-- ---- a session over a deployment, from the first moment of a host on
+abbrev pub WholeWith : Claim → Deployment → List (List ℕ) → Rows → Rows → ℕ → ℕ → List ℕ → List ℕ → Type 0
+WholeWith P d lines m n f g h k = (w : Whole d d.room lines (first_core (newest_of m) 0) m n f g h k) × P d m n (events_in d lines) w.answers w.core
+
+abbrev pub CutWith : Claim → Deployment → List (List ℕ) → Rows → Rows → ℕ → ℕ → List ℕ → List ℕ → Type 0
+CutWith P d lines m n f g h k = (w : Cut d d.room lines (first_core (newest_of m) 0) m n f g h k) × P d m n w.done w.answers w.core
+
+-- by how the program ended
+abbrev pub SessionOn : Claim → Deployment → List (List ℕ) → Rows → Rows → ℕ → ℕ → List ℕ → List ℕ → Ended → Type 0
+SessionOn P d lines m n f g h k ended.Done = (is_whole d lines ≡ true) × WholeWith P d lines m n f g h k
+SessionOn P d lines m n f g h k ended.Refused = (is_whole d lines ≡ false) × WholeWith P d lines m n f g h k
+SessionOn P d lines m n f g h k ended.OutOfMemory = CutWith P d lines m n f g h k
+SessionOn P d lines m n f g h k ended.SinkFault = CutWith P d lines m n f g h k
+SessionOn P d lines m n f g h k ended.Usage = ⊥
+SessionOn P d lines m n f g h k ended.SourceFault = (n ≡ m) × (k ≡ h)
+SessionOn P d lines m n f g h k ended.TooLong = (n ≡ m) × (k ≡ h)
+SessionOn P d lines m n f g h k ended.TableFault = (n ≡ m) × (k ≡ h)
+
+-- a text is written by an ending of its own, or a front of it where the sink failed; no other ending writes
+abbrev pub SaysOn : List ℕ → List ℕ → List ℕ → Type 0
+SaysOn text h k = (w : List ℕ) × IsPrefixOf w text × (k ≡ h ++ w)
+
+-- the source has no deployment: nothing is done, and the refusal is written
+abbrev pub UnreadOn : List ℕ → List ℕ → Ended → Type 0
+UnreadOn h k ended.Done = ⊥
+UnreadOn h k ended.Refused = k ≡ h ++ refusal
+UnreadOn h k ended.OutOfMemory = k ≡ h
+UnreadOn h k ended.SinkFault = SaysOn refusal h k
+UnreadOn h k ended.Usage = ⊥
+UnreadOn h k ended.SourceFault = k ≡ h
+UnreadOn h k ended.TooLong = k ≡ h
+UnreadOn h k ended.TableFault = ⊥
+
+-- by what the source has
+abbrev pub SourceOn : Claim → List ℕ → Option Parsed → Rows → Rows → ℕ → ℕ → List ℕ → List ℕ → Ended → Type 0
+SourceOn P bytes None m n f g h k e = (n ≡ m) × UnreadOn h k e
+SourceOn P bytes (Some p) m n f g h k e = SessionOn P p.code (lines_of (drop p.rest bytes)) m n f g h k e
+
+abbrev pub RunOn : Claim → Option (List ℕ) → Option Rows → Option Rows → Option (List ℕ) → Option (List ℕ) → ℕ → ℕ → Ended → Type 0
+RunOn P source rows rows' held held' f g e = OnTold rows rows' held held' (λ m n h k. IfSome source (λ b. SourceOn P b (parsed_at b) m n f g h k e))
+
+-- ---- the words
+abbrev pub usage : List ℕ
+usage = codes "usage: beldi run\n"
+
+-- other words: nothing is done, and the usage is written
+abbrev pub UsageOn : List ℕ → List ℕ → Ended → Type 0
+UsageOn h k ended.Usage = k ≡ h ++ usage
+UsageOn h k ended.SinkFault = SaysOn usage h k
+UsageOn h k e = ⊥
+
+abbrev pub WordsOn : Claim → Bool → Option (List ℕ) → Option Rows → Option Rows → Option (List ℕ) → Option (List ℕ) → ℕ → ℕ → Ended → Type 0
+WordsOn P true source rows rows' held held' f g e = RunOn P source rows rows' held held' f g e
+WordsOn P false source rows rows' held held' f g e = OnTold rows rows' held held' (λ m n h k. (n ≡ m) × UsageOn h k e)
+
+abbrev pub is_run : List (List ℕ) → Bool
+is_run [] = false
+is_run (word ∷ []) = is_name word (codes "run")
+is_run (word ∷ more ∷ words) = false
+
+-- ---- the status
+abbrev pub status_of : Ended → ℕ
+status_of ended.Done = 0
+status_of ended.OutOfMemory = 1
+status_of ended.Usage = 2
+status_of ended.SourceFault = 3
+status_of ended.SinkFault = 4
+status_of ended.Refused = 5
+status_of ended.TooLong = 7
+status_of ended.TableFault = 8
+
+-- the status is that of an ending of which P holds
+abbrev pub ByStatus : ℕ → (Ended → Type 0) → Type 0
+ByStatus status P = (e : Ended) × (status ≡ status_of e) × P e
+
+abbrev pub end_of : Result Bool Stop → Ended
+end_of (Ok true) = ended.Done
+end_of (Ok false) = ended.Refused
+end_of (Err stop.OutOfMemory) = ended.OutOfMemory
+end_of (Err stop.SinkFault) = ended.SinkFault
+
+abbrev pub end_unread : ReadErr → Ended
+end_unread why.OutOfMemory = ended.OutOfMemory
+end_unread why.Failed = ended.SourceFault
+end_unread why.TooLong = ended.TooLong
+
+-- how the program may end once the source was read
+abbrev pub is_of_source : Ended → Bool
+is_of_source ended.Usage = false
+is_of_source ended.SourceFault = false
+is_of_source ended.TooLong = false
+is_of_source e = true
+
+abbrev pub is_of_run : Ended → Bool
+is_of_run ended.Usage = false
+is_of_run e = true
+
+-- the source has more than it may, and just one byte more than it may have was taken
+abbrev pub LongOn : List ℕ → List ℕ → Ended → Type 0
+LongOn b c ended.TooLong = (max_source < length b) × (c ≡ drop (max_source + 1) b)
+LongOn b c e = length b ≤ max_source ⊎ (e ≡ ended.SourceFault) ⊎ (e ≡ ended.OutOfMemory)
+
+-- the source has a deployment, and no line after it is refused
+abbrev pub IsWholeSource : List ℕ → Option Parsed → Type 0
+IsWholeSource bytes None = ⊥
+IsWholeSource bytes (Some p) = is_whole p.code (lines_of (drop p.rest bytes)) ≡ true

@@ -1,0 +1,124 @@
+// The text of an answer.
+ghost use Rattle.std.specs.Prelude.{◌≡◌, ◌++◌, OnOk, codes, string_bytes, IfOk};
+ghost use Rattle.std.specs.Fmt.{decimal};
+ghost use Rattle.beldi_value.specs.Json.{text_of};
+ghost use Rattle.beldi_value.specs.Value.{datum_of};
+ghost use Rattle.beldi_book.specs.Text.{func_text};
+ghost use Rattle.beldi_main.specs.Answer.{answer_text, numbered, outcome_line, entry_part, reply_part, over_part};
+
+use beldi_book::{Entry, write_func};
+use beldi_lang::Deployment;
+use beldi_step::Seen;
+use beldi_value::{Outcome, Str, Value};
+use std::alloc::{AllocError, Global};
+
+/// Appends the line of an answer, and a line for the reply that it gives, if any. After an `Err` what it appended is a
+/// part of them.
+pub fn write_answer(
+    alloc: Global,
+    code: &Deployment,
+    seen: &Seen,
+    out: &mut Str,
+) -> Result<(), AllocError>
+    ensures { OnOk result (out.new ≡ out.old ++ answer_text code.now seen.now) }
+{
+    match seen {
+        Seen::Issued(ticket) => write_numbered(alloc, "ticket ", *ticket, out),
+        Seen::NoTicket => out.push_text("no-ticket\n"),
+        Seen::Bound { ticket, run } => {
+            let text = format!(in alloc; "bound {ticket} run {run}\n")?;
+            out.push_text(text.as_str())
+        }
+        Seen::Running(ticket) => write_numbered(alloc, "running ", *ticket, out),
+        Seen::Replied { ticket, outcome } => write_outcome(alloc, "ended ", *ticket, outcome, out),
+        Seen::Other { ticket, func, args } => write_other(alloc, code, *ticket, *func, args, out),
+        Seen::Gone(ticket) => write_numbered(alloc, "gone ", *ticket, out),
+        Seen::Unknown(ticket) => write_numbered(alloc, "unknown ", *ticket, out),
+        Seen::Acted { entry, over, reply } => {
+            out.push_text("acted")?;
+            write_entry(alloc, code, entry, out)?;
+            out.push_text(if *over { " over" } else { "" })?;
+            out.push_text("\n")?;
+            write_reply(alloc, reply, out)
+        }
+        Seen::Full { live, room } => {
+            let text = format!(in alloc; "full {live} {room}\n")?;
+            out.push_text(text.as_str())
+        }
+        Seen::Crowded => out.push_text("crowded 1024\n"),
+        Seen::NoRun => out.push_text("no-run\n"),
+        Seen::RunOver => out.push_text("run-over\n"),
+        Seen::Dropped => out.push_text("dropped\n"),
+        Seen::Spent => out.push_text("spent\n"),
+    }
+}
+
+fn write_numbered(alloc: Global, word: &str, number: u32, out: &mut Str) -> Result<(), AllocError>
+    ensures { OnOk result (out.new ≡ out.old ++ numbered word.now number) }
+{
+    let text = format!(in alloc; "{word}{number}\n")?;
+    out.push_text(text.as_str())
+}
+
+fn write_outcome(
+    alloc: Global,
+    word: &str,
+    ticket: u32,
+    outcome: &Outcome,
+    out: &mut Str,
+) -> Result<(), AllocError>
+    ensures { OnOk result (out.new ≡ out.old ++ outcome_line word.now ticket outcome.now) }
+{
+    let text = format!(in alloc; "{word}{ticket} ")?;
+    out.push_text(text.as_str())?;
+    outcome.write(alloc, out)?;
+    out.push_text("\n")
+}
+
+fn write_other(
+    alloc: Global,
+    code: &Deployment,
+    ticket: u32,
+    func: u16,
+    args: &Value,
+    out: &mut Str,
+) -> Result<(), AllocError>
+    ensures { OnOk result (out.new ≡ out.old ++ answer_text code.now (Seen.Other ticket func args.now)) }
+{
+    let text = format!(in alloc; "other {ticket} ")?;
+    out.push_text(text.as_str())?;
+    write_func(alloc, code, func, out)?;
+    out.push_text(" ")?;
+    args.write_json(alloc, out)?;
+    out.push_text("\n")
+}
+
+fn write_entry(
+    alloc: Global,
+    code: &Deployment,
+    entry: &Option<Entry>,
+    out: &mut Str,
+) -> Result<(), AllocError>
+    ensures { OnOk result (out.new ≡ out.old ++ entry_part code.now entry.now) }
+{
+    match entry {
+        None => Ok(()),
+        Some(entry) => {
+            out.push_text(" ")?;
+            entry.write(alloc, code, out)
+        }
+    }
+}
+
+fn write_reply(
+    alloc: Global,
+    reply: &Option<(u32, Outcome)>,
+    out: &mut Str,
+) -> Result<(), AllocError>
+    ensures { OnOk result (out.new ≡ out.old ++ reply_part reply.now) }
+{
+    match reply {
+        None => Ok(()),
+        Some((ticket, outcome)) => write_outcome(alloc, "reply ", *ticket, outcome, out),
+    }
+}

@@ -1,0 +1,49 @@
+//! The program: it reads a deployment and a script, hosts the deployment, and writes what the script's events came to.
+//! It stands on all other crates. Its definitions: `specs/Answer` (the text of answers), `specs/Session` (the events of a
+//! script, how they were answered, and what was written), `specs/Headline` (what a session has to do with rows and text).
+//! `main` alone touches the real streams; everything else is over the traits of `beldi_outside` and `beldi_row`.
+#![tactic(auto)]
+
+mod answer;
+mod ending;
+mod output;
+mod program;
+mod session;
+
+use beldi_outside::{ClosedLink, MemClock, StdSink, StdSource};
+use beldi_table::MapTable;
+use beldi_value::Str;
+use program::top;
+use std::alloc::{AllocError, Global};
+use std::process::ExitCode;
+use std::{env, io};
+
+// The words after the program's name; none where they cannot be had.
+fn words(rt: &HostRuntime) -> io::Result<Vec<Str>> {
+    let mut words = Vec::new(rt.alloc());
+    for word in env::args(rt)?.skip(1) {
+        words.push(Str::from_string(word))?;
+    }
+    Ok(words)
+}
+
+fn main(rt: HostRuntime) -> ExitCode {
+    let alloc = rt.alloc();
+    let Ok(words) = words(&rt) else {
+        return ExitCode::from(1);
+    };
+    let mut source = StdSource::new(rt.reader());
+    let mut sink = StdSink::new(io::writer(&rt));
+    let mut link = ClosedLink::new();
+    let mut clock = MemClock::new(Vec::new(alloc));
+    let (status, _table) = top(
+        alloc,
+        words.as_slice(),
+        &mut source,
+        &mut sink,
+        MapTable::new(alloc),
+        &mut link,
+        &mut clock,
+    );
+    ExitCode::from(status)
+}

@@ -1,0 +1,40 @@
+// Text on its way to the sink.
+ghost use Rattle.std.specs.Prelude.{◌≡◌, ◌≤◌, [], OnOk, OnErr};
+ghost use Rattle.beldi_outside.specs.Outside.{Rose, Told};
+ghost use Rattle.beldi_main.specs.Session.{Flushed};
+
+use crate::session::Stop;
+use beldi_outside::{Sink, write_all};
+use beldi_value::Str;
+
+/// Text waits until it has so many bytes.
+const PIECE: usize = 65_536;
+
+/// Writes all that waits.
+pub fn flush<K: Sink>(sink: &mut K, waiting: &mut Str) -> Result<(), Stop>
+    ensures text { Told (K.held sink.old) (K.held sink.new) (Flushed waiting.old waiting.new result) }
+    ensures later { K.faults sink.old ≤ K.faults sink.new }
+    ensures fault { OnErr result (Rose (K.faults sink.old) (K.faults sink.new)) }
+    ensures empty { OnOk result (waiting.new ≡ []) }
+{
+    match write_all(sink, waiting.as_bytes()) {
+        Ok(()) => {
+            waiting.clear();
+            Ok(())
+        }
+        Err(_) => Err(Stop::SinkFault),
+    }
+}
+
+/// Writes all that waits, where it is long.
+pub fn flush_if_long<K: Sink>(sink: &mut K, waiting: &mut Str) -> Result<(), Stop>
+    ensures text { Told (K.held sink.old) (K.held sink.new) (Flushed waiting.old waiting.new result) }
+    ensures later { K.faults sink.old ≤ K.faults sink.new }
+    ensures fault { OnErr result (Rose (K.faults sink.old) (K.faults sink.new)) }
+{
+    if waiting.len() < PIECE {
+        Ok(())
+    } else {
+        flush(sink, waiting)
+    }
+}

@@ -1,0 +1,245 @@
+// The program, over a source, a sink, a table, a link and a clock.
+ghost use Rattle.std.specs.Prelude.{◌≡◌, ◌≤◌, ◌<◌, ◌+◌, ◌⊎◌, true, false, length, drop, IfSome, IsTrue};
+ghost use Rattle.beldi_core.specs.Host.{core_of};
+ghost use Rattle.beldi_outside.specs.Outside.{Told, Rose, max_source};
+ghost use Rattle.beldi_script.specs.Cut.{lines_of};
+ghost use Rattle.beldi_syntax.specs.Grammar.{parsed_at};
+ghost use Rattle.beldi_main.specs.declared.program.Ended.TheVariants as ended;
+ghost use Rattle.beldi_main.specs.Session.{OnTold, Kept, is_whole};
+ghost use Rattle.beldi_main.specs.Headline.{Anything, BookIsLegal, ByStatus, IsWholeSource, RunOn, ScriptOn, SessionOn, SourceOn, StandsForTheRun, StartsTheBound, TellsOutcomes, UnreadOn, UsageOn, WordsOn, LongOn, end_of, end_unread, is_of_run, is_of_source, is_run, status_of};
+
+use crate::ending::finish;
+use crate::session::{Stop, do_lines};
+use beldi_core::{Host, OpenErr};
+use beldi_lang::Deployment;
+use beldi_outside::{Clock, Link, ReadErr, Sink, Source, read_all, write_all};
+use beldi_row::Table;
+use beldi_syntax::{Parsed, SyntaxErr, read_deployment};
+use beldi_value::Str;
+use std::alloc::Global;
+
+/// How the program ended.
+#[derive(Clone, Copy, Debug, PartialEq, Eq)]
+pub enum Ended {
+    /// All lines were carried out, and the last listings written.
+    Done,
+    OutOfMemory,
+    /// The words are not those of a command.
+    Usage,
+    SourceFault,
+    SinkFault,
+    /// The deployment was refused, or a line of the script.
+    Refused,
+    /// The source has more than 16,777,216 bytes.
+    TooLong,
+    /// The table failed as the host was opened.
+    TableFault,
+}
+
+/// Carries out what the words ask for, and answers the status. Gives back the table, whatever the status is. The link and
+/// the clock are not asked for anything yet.
+pub fn top<S: Source, K: Sink, T: Table, N: Link, C: Clock>(
+    alloc: Global,
+    words: &[Str],
+    source: &mut S,
+    sink: &mut K,
+    table: T,
+    _link: &mut N,
+    _clock: &mut C,
+) -> (u8, T)
+    // The text that the sink got is that of a session of the source.
+    ensures text { ByStatus result.0 (λ e. WordsOn Anything (is_run words.now) (S.left source.old) (T.rows table) (T.rows result.1) (K.held sink.old) (K.held sink.new) (T.faults table) (T.faults result.1) e) }
+    // Over a table without rows, the book of that session is legal: each step of an instance acts once, in its order ..
+    ensures legal { ByStatus result.0 (λ e. WordsOn BookIsLegal (is_run words.now) (S.left source.old) (T.rows table) (T.rows result.1) (K.held sink.old) (K.held sink.new) (T.faults table) (T.faults result.1) e) }
+    // .. it starts exactly the requests that were answered bound, in order ..
+    ensures bound { ByStatus result.0 (λ e. WordsOn StartsTheBound (is_run words.now) (S.left source.old) (T.rows table) (T.rows result.1) (K.held sink.old) (K.held sink.new) (T.faults table) (T.faults result.1) e) }
+    // .. each reply is the outcome that its root has in the run of the book ..
+    ensures replies { ByStatus result.0 (λ e. WordsOn TellsOutcomes (is_run words.now) (S.left source.old) (T.rows table) (T.rows result.1) (K.held sink.old) (K.held sink.new) (T.faults table) (T.faults result.1) e) }
+    // .. and the rows stand for that run, and are listed as it is.
+    ensures tables { ByStatus result.0 (λ e. WordsOn StandsForTheRun (is_run words.now) (S.left source.old) (T.rows table) (T.rows result.1) (K.held sink.old) (K.held sink.new) (T.faults table) (T.faults result.1) e) }
+    ensures usage { (result.0 ≡ 2 → is_run words.now ≡ false) × (is_run words.now ≡ false → (result.0 ≡ 2) ⊎ (result.0 ≡ 4)) }
+    ensures source_fault { result.0 ≡ 3 → Rose (S.faults source.old) (S.faults source.new) }
+    ensures sink_fault { result.0 ≡ 4 → Rose (K.faults sink.old) (K.faults sink.new) }
+    ensures open_fault { result.0 ≡ 8 → Rose (T.faults table) (T.faults result.1) }
+    ensures too_long { is_run words.now ≡ true → ByStatus result.0 (λ e. Told (S.left source.old) (S.left source.new) (λ b c. LongOn b c e)) }
+    // Where the words are right and no count rises, a source that is not refused is carried out whole, or memory is wanting.
+    ensures complete { is_run words.now ≡ true → (Rose (S.faults source.old) (S.faults source.new) → ⊥) → (Rose (K.faults sink.old) (K.faults sink.new) → ⊥) → (Rose (T.faults table) (T.faults result.1) → ⊥) → OnTold (T.rows table) (T.rows result.1) (K.held sink.old) (K.held sink.new) (λ m n h k. Told (S.left source.old) (S.left source.new) (λ b c. length b ≤ max_source → IsWholeSource b (parsed_at b) → (result.0 ≡ 0) ⊎ (result.0 ≡ 1))) }
+{
+    let (ended, table) = carry_out(alloc, words, source, sink, table);
+    (status(ended), table)
+}
+
+fn carry_out<S: Source, K: Sink, T: Table>(
+    alloc: Global,
+    words: &[Str],
+    source: &mut S,
+    sink: &mut K,
+    table: T,
+) -> (Ended, T)
+    ensures text { WordsOn Anything (is_run words.now) (S.left source.old) (T.rows table) (T.rows result.1) (K.held sink.old) (K.held sink.new) (T.faults table) (T.faults result.1) result.0 }
+    ensures usage { (result.0 ≡ ended.Usage → is_run words.now ≡ false) × (is_run words.now ≡ false → (result.0 ≡ ended.Usage) ⊎ (result.0 ≡ ended.SinkFault)) }
+    ensures source_fault { result.0 ≡ ended.SourceFault → Rose (S.faults source.old) (S.faults source.new) }
+    ensures sink_fault { result.0 ≡ ended.SinkFault → Rose (K.faults sink.old) (K.faults sink.new) }
+    ensures open_fault { result.0 ≡ ended.TableFault → Rose (T.faults table) (T.faults result.1) }
+    ensures too_long { is_run words.now ≡ true → Told (S.left source.old) (S.left source.new) (λ b c. LongOn b c result.0) }
+{
+    if is_run(words) {
+        run(alloc, source, sink, table)
+    } else {
+        (refuse_words(sink), table)
+    }
+}
+
+fn is_run(words: &[Str]) -> bool
+    ensures { result ≡ is_run words.now }
+{
+    match words {
+        [word] => word.as_str() == "run",
+        _ => false,
+    }
+}
+
+fn status(ended: Ended) -> u8
+    ensures { result ≡ status_of ended }
+{
+    match ended {
+        Ended::Done => 0,
+        Ended::OutOfMemory => 1,
+        Ended::Usage => 2,
+        Ended::SourceFault => 3,
+        Ended::SinkFault => 4,
+        Ended::Refused => 5,
+        Ended::TooLong => 7,
+        Ended::TableFault => 8,
+    }
+}
+
+// The words are not those of a command.
+fn refuse_words<K: Sink>(sink: &mut K) -> Ended
+    ensures text { Told (K.held sink.old) (K.held sink.new) (λ h k. UsageOn h k result) }
+    ensures usage { (result ≡ ended.Usage) ⊎ (result ≡ ended.SinkFault) }
+    ensures sink_fault { result ≡ ended.SinkFault → Rose (K.faults sink.old) (K.faults sink.new) }
+{
+    match write_all(sink, b"usage: beldi run\n") {
+        Ok(()) => Ended::Usage,
+        Err(_) => Ended::SinkFault,
+    }
+}
+
+// The source has no deployment.
+fn refuse_source<K: Sink>(sink: &mut K) -> Ended
+    ensures text { Told (K.held sink.old) (K.held sink.new) (λ h k. UnreadOn h k result) }
+    ensures source { (result ≡ ended.Refused) ⊎ (result ≡ ended.SinkFault) }
+    ensures sink_fault { result ≡ ended.SinkFault → Rose (K.faults sink.old) (K.faults sink.new) }
+{
+    match write_all(sink, b"refused\n") {
+        Ok(()) => Ended::Refused,
+        Err(_) => Ended::SinkFault,
+    }
+}
+
+fn run<S: Source, K: Sink, T: Table>(
+    alloc: Global,
+    source: &mut S,
+    sink: &mut K,
+    table: T,
+) -> (Ended, T)
+    ensures session { RunOn Anything (S.left source.old) (T.rows table) (T.rows result.1) (K.held sink.old) (K.held sink.new) (T.faults table) (T.faults result.1) result.0 }
+    ensures run { IsTrue (is_of_run result.0) }
+    ensures source_fault { result.0 ≡ ended.SourceFault → Rose (S.faults source.old) (S.faults source.new) }
+    ensures sink_fault { result.0 ≡ ended.SinkFault → Rose (K.faults sink.old) (K.faults sink.new) }
+    ensures open_fault { result.0 ≡ ended.TableFault → Rose (T.faults table) (T.faults result.1) }
+    ensures too_long { Told (S.left source.old) (S.left source.new) (λ b c. LongOn b c result.0) }
+{
+    match read_all(alloc, source) {
+        Ok(bytes) => run_source(alloc, sink, table, bytes.as_slice()),
+        Err(why) => (not_read(why), table),
+    }
+}
+
+fn not_read(why: ReadErr) -> Ended
+    ensures { result ≡ end_unread why }
+{
+    match why {
+        ReadErr::OutOfMemory => Ended::OutOfMemory,
+        ReadErr::Failed => Ended::SourceFault,
+        ReadErr::TooLong => Ended::TooLong,
+    }
+}
+
+// Carries out the script of a source that was read.
+fn run_source<K: Sink, T: Table>(alloc: Global, sink: &mut K, table: T, bytes: &[u8]) -> (Ended, T)
+    ensures session { OnTold (T.rows table) (T.rows result.1) (K.held sink.old) (K.held sink.new) (λ m n h k. SourceOn Anything bytes.now (parsed_at bytes.now) m n (T.faults table) (T.faults result.1) h k result.0) }
+    ensures read { IsTrue (is_of_source result.0) }
+    ensures sink_fault { result.0 ≡ ended.SinkFault → Rose (K.faults sink.old) (K.faults sink.new) }
+    ensures open_fault { result.0 ≡ ended.TableFault → Rose (T.faults table) (T.faults result.1) }
+{
+    match read_deployment(alloc, bytes) {
+        Ok(Parsed { code, rest }) => host(alloc, sink, table, code, script_at(bytes, rest)),
+        Err(SyntaxErr::Refused) => (refuse_source(sink), table),
+        Err(SyntaxErr::OutOfMemory) => (Ended::OutOfMemory, table),
+    }
+}
+
+fn script_at(bytes: &[u8], rest: usize) -> &[u8]
+    ensures { result.now ≡ drop rest bytes.now }
+{
+    match bytes.get(rest..) {
+        Some(script) => script,
+        None => &[],
+    }
+}
+
+// Hosts a deployment, and carries out a script.
+fn host<K: Sink, T: Table>(
+    alloc: Global,
+    sink: &mut K,
+    table: T,
+    code: Deployment,
+    script: &[u8],
+) -> (Ended, T)
+    ensures session { OnTold (T.rows table) (T.rows result.1) (K.held sink.old) (K.held sink.new) (λ m n h k. SessionOn Anything code (lines_of script.now) m n (T.faults table) (T.faults result.1) h k result.0) }
+    ensures read { IsTrue (is_of_source result.0) }
+    ensures sink_fault { result.0 ≡ ended.SinkFault → Rose (K.faults sink.old) (K.faults sink.new) }
+    ensures open_fault { result.0 ≡ ended.TableFault → Rose (T.faults table) (T.faults result.1) }
+{
+    match Host::open(alloc, code, table, 0) {
+        Ok(mut host) => {
+            let ran = run_script(alloc, &mut host, sink, script);
+            (end_of(ran), host.close())
+        }
+        Err((table, OpenErr::Failed)) => (Ended::TableFault, table),
+        Err((table, OpenErr::OutOfMemory)) => (Ended::OutOfMemory, table),
+    }
+}
+
+// Carries out a script, and writes the ending.
+fn run_script<K: Sink, T: Table>(
+    alloc: Global,
+    host: &mut Host<T>,
+    sink: &mut K,
+    script: &[u8],
+) -> Result<bool, Stop>
+    ensures done { OnTold (T.rows host.old.table) (T.rows host.new.table) (K.held sink.old) (K.held sink.new) (λ m n h k. ScriptOn host.old.code (T.room host.old.table) (lines_of script.now) (core_of host.old) m n (T.faults host.old.table) (T.faults host.new.table) h k result) }
+    ensures kept { Kept host.old.code host.new.code (T.room host.old.table) (T.room host.new.table) (T.faults host.old.table) (T.faults host.new.table) (K.faults sink.old) (K.faults sink.new) result }
+{
+    let mut waiting = Str::new(alloc);
+    match do_lines(alloc, host, sink, &mut waiting, script) {
+        Ok(whole) => match finish(alloc, host, sink, &mut waiting, whole) {
+            Ok(()) => Ok(whole),
+            Err(stop) => Err(stop),
+        },
+        Err(stop) => Err(stop),
+    }
+}
+
+fn end_of(ran: Result<bool, Stop>) -> Ended
+    ensures { result ≡ end_of ran }
+{
+    match ran {
+        Ok(true) => Ended::Done,
+        Ok(false) => Ended::Refused,
+        Err(Stop::OutOfMemory) => Ended::OutOfMemory,
+        Err(Stop::SinkFault) => Ended::SinkFault,
+    }
+}

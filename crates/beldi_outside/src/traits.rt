@@ -1,0 +1,83 @@
+// What stands outside, and what each call promises.
+ghost use Rattle.std.specs.Prelude.{◌≤◌, ℕ, Option, List};
+ghost use Rattle.beldi_outside.specs.Outside.{HasCause, IsWithin, Reads, Writes, ZeroIsFault};
+
+/// A call to the outside failed. The count of the object that was called has risen.
+#[derive(Clone, Copy, Debug, PartialEq, Eq)]
+pub struct Failed;
+
+/// Gives bytes in order, up to an end.
+pub trait Source {
+    /// The bytes that are left, where it tells them.
+    ghost left: { Self → Option (List ℕ) };
+
+    /// How often it has failed.
+    ghost faults: { Self → ℕ };
+
+    /// Fills a front of `buf` with the next bytes, and answers how many. Zero for a buffer that is not empty comes only
+    /// at the end. After `Failed` no byte is lost.
+    fn read(&mut self, buf: &mut [u8]) -> Result<usize, Failed>
+        ensures bound { IsWithin buf.new result }
+        ensures bytes { Reads (left self.old) (left self.new) buf.new result }
+        ensures cause { HasCause (faults self.old) (faults self.new) result };
+}
+
+/// Takes bytes in order.
+pub trait Sink {
+    /// The bytes that it got, where it tells them.
+    ghost held: { Self → Option (List ℕ) };
+
+    /// How often it has failed, or took nothing of a piece that is not empty.
+    ghost faults: { Self → ℕ };
+
+    /// Takes a front of `bytes`, and answers how many. After `Failed` it has taken none.
+    fn write(&mut self, bytes: &[u8]) -> Result<usize, Failed>
+        ensures bound { IsWithin bytes.now result }
+        ensures bytes { Writes (held self.old) (held self.new) bytes.now result }
+        ensures cause { HasCause (faults self.old) (faults self.new) result }
+        ensures zero { ZeroIsFault bytes.now result (faults self.old) (faults self.new) };
+}
+
+/// Listens on a port and serves one connection at a time. Its clauses do not tell the bytes of a connection yet.
+pub trait Link {
+    /// How often `listen` and `accept` have failed.
+    ghost refusals: { Self → ℕ };
+
+    /// How often `read` and `write` have failed, or a `write` took nothing of a piece that is not empty.
+    ghost faults: { Self → ℕ };
+
+    /// Begins to listen on the port. `Failed`: the port cannot be had.
+    fn listen(&mut self, port: u16) -> Result<(), Failed>
+        ensures cause { HasCause (refusals self.old) (refusals self.new) result }
+        ensures later { faults self.old ≤ faults self.new };
+
+    /// Opens the next connection. `Failed`: there is none, or the link does not listen.
+    fn accept(&mut self) -> Result<(), Failed>
+        ensures cause { HasCause (refusals self.old) (refusals self.new) result }
+        ensures later { faults self.old ≤ faults self.new };
+
+    /// Fills a front of `buf` with the next bytes of the open connection, and answers how many. Zero for a buffer that
+    /// is not empty is the end of the connection.
+    fn read(&mut self, buf: &mut [u8]) -> Result<usize, Failed>
+        ensures bound { IsWithin buf.new result }
+        ensures cause { HasCause (faults self.old) (faults self.new) result }
+        ensures later { refusals self.old ≤ refusals self.new };
+
+    /// Sends a front of `bytes` on the open connection, and answers how many.
+    fn write(&mut self, bytes: &[u8]) -> Result<usize, Failed>
+        ensures bound { IsWithin bytes.now result }
+        ensures cause { HasCause (faults self.old) (faults self.new) result }
+        ensures zero { ZeroIsFault bytes.now result (faults self.old) (faults self.new) }
+        ensures later { refusals self.old ≤ refusals self.new };
+
+    /// Ends the open connection. It cannot fail.
+    fn close(&mut self)
+        ensures later_refusals { refusals self.old ≤ refusals self.new }
+        ensures later_faults { faults self.old ≤ faults self.new };
+}
+
+/// Tells moments, in milliseconds.
+pub trait Clock {
+    /// The moment of this call. It cannot fail. It may lie before an earlier answer.
+    fn now(&mut self) -> u64;
+}

@@ -1,0 +1,3 @@
+mod Found
+pub mod Rows
+pub mod Tells

@@ -1,0 +1,208 @@
+-- The act table: what an act does to one row, and what it says.
+use Rattle.std.specs.Prelude.{◌≡◌, ℕ, Bool, true, false, ◌&&◌, ◌==◌, [], ◌∷◌, ◌++◌, Option, Some, None, Result, Ok, Err, if◌then◌else◌, slice_get}
+use Rattle.beldi_value.specs.declared.value.Value.{Value}
+use Rattle.beldi_value.specs.declared.outcome.Outcome.{Outcome}
+use Rattle.beldi_value.specs.declared.place.Place.{Place}
+use Rattle.beldi_value.specs.declared.place.Owner.{Owner}
+use Rattle.beldi_value.specs.Same.{same_value}
+use Rattle.beldi_row.specs.declared.notes.Note.{Note}
+use Rattle.beldi_row.specs.declared.notes.Note.TheVariants.{Wrote}
+use Rattle.beldi_row.specs.declared.row.Body.{Body}
+use Rattle.beldi_row.specs.declared.row.IntentRow.{IntentRow}
+use Rattle.beldi_row.specs.declared.row.Cell.{Cell}
+use Rattle.beldi_row.specs.declared.row.Row.{Row}
+use Rattle.beldi_row.specs.declared.row.Row.TheVariants as rows
+use Rattle.beldi_row.specs.declared.act.Act.{Act}
+use Rattle.beldi_row.specs.declared.act.Act.TheVariants.{Look, Issue, Bind, End, MakeCell, WriteCell}
+use Rattle.beldi_row.specs.declared.act.Said.{Said}
+use Rattle.beldi_row.specs.declared.act.Said.TheVariants as said
+use Rattle.beldi_row.specs.declared.act.Change.{Change}
+use Rattle.beldi_row.specs.declared.act.Change.TheVariants as change
+use Rattle.beldi_row.specs.declared.table.TableErr.{TableErr}
+use Rattle.beldi_row.specs.declared.table.TableErr.TheVariants.{OutOfMemory}
+use Rattle.beldi_row.specs.Log.{note_at, note_of, owner_eq}
+
+-- what an act says, without where it lies in memory
+pub data Tell : Type 0 where
+  absent : Tell
+  here : Row → Tell
+  added : Tell
+  present : Tell
+  gone : Tell
+  bound : Tell
+  other : Body → Tell
+  ended : Outcome → Tell
+  running : Tell
+  already : Tell
+  did : Tell
+  no_row : Tell
+  noted : Note → Tell
+  next : ℕ → Tell
+  held : Owner → Tell
+
+abbrev pub tell_of : Said → Tell
+tell_of said.Absent = absent
+tell_of (said.Row r) = here r.now
+tell_of said.Added = added
+tell_of said.Present = present
+tell_of said.Gone = gone
+tell_of said.Bound = bound
+tell_of (said.Other b) = other b.now
+tell_of (said.Ended o) = ended o.now
+tell_of said.Running = running
+tell_of said.Already = already
+tell_of said.Did = did
+tell_of said.NoRow = no_row
+tell_of (said.Noted n) = noted n.now
+tell_of (said.Next n) = next n
+tell_of (said.Held o) = held o.now
+
+-- ---- the acts on the row of an intent
+abbrev pub outcome_tell : Option Outcome → Tell
+outcome_tell None = running
+outcome_tell (Some o) = ended o
+
+-- binds it to a function and arguments, by the body that is there
+abbrev pub bind_to : ℕ → Value → IntentRow → Option Body → IntentRow × Tell
+bind_to f a i None = (record i { body = Some (record { func = f; args = a; tx = None; from = None }) }, bound)
+bind_to f a i (Some b) = (i, (if (b.func == f) && same_value b.args a then outcome_tell i.outcome else other b))
+
+-- the moment of the finish, by whether one is to be set and the one that is there
+abbrev pub finish_at : Bool → ℕ → Option ℕ → Option ℕ
+finish_at false now f = f
+finish_at true now None = Some now
+finish_at true now (Some f) = Some f
+
+-- ends it, by the outcome that is there
+abbrev pub end_with : Outcome → Bool → ℕ → IntentRow → Option Outcome → IntentRow × Tell
+end_with o stamp now i None = (record i { outcome = Some o; finish = finish_at stamp now i.finish }, did)
+end_with o stamp now i (Some p) = (i, already)
+
+-- ---- the acts on a cell
+-- the owner, where it is another than this one
+abbrev pub other_owner : Owner → Option Owner → Option Owner
+other_owner who None = None
+other_owner who (Some o) = if owner_eq o who then None else Some o
+
+-- by the owner that stands in the way: it is told, or else the act is done
+abbrev pub held_or : Cell → Option Owner → Cell × Tell → Cell × Tell
+held_or c None r = r
+held_or c (Some o) r = (c, held o)
+
+-- by the row after this one: it is told, or else the act is done
+abbrev pub next_or : Cell → Option ℕ → Cell × Tell → Cell × Tell
+next_or c None r = r
+next_or c (Some n) r = (c, next n)
+
+-- by the note that the place has: it is told, or else the act is done
+abbrev pub noted_or : Cell → Option Note → Cell × Tell → Cell × Tell
+noted_or c None r = r
+noted_or c (Some n) r = (c, noted n)
+
+-- what is done only by a place without a note, and only at the last row of an item
+abbrev pub at_tail : Place → Cell → Cell × Tell → Cell × Tell
+at_tail p c r = noted_or c (note_at c.log p) (next_or c c.next r)
+
+-- the value is set, and an entry made
+abbrev pub wrote : Place → Value → Cell → Cell
+wrote p v c = record c { value = v; log = c.log ++ (p, Wrote) ∷ [] }
+
+abbrev pub write_at : Place → Owner → Value → Cell → Cell × Tell
+write_at p w v c = at_tail p c (held_or c (other_owner w c.owner) (wrote p v c, did))
+
+-- ---- the acts on a row of any kind: one that does not fit its kind changes nothing, and says this
+abbrev pub on_intent : (IntentRow → IntentRow × Tell) → Tell → Row → Row × Tell
+on_intent f t (rows.Intent i) = (rows.Intent (f i).0, (f i).1)
+on_intent f t (rows.ReadLog v) = (rows.ReadLog v, t)
+on_intent f t (rows.Invoke v) = (rows.Invoke v, t)
+on_intent f t (rows.Cell c) = (rows.Cell c, t)
+on_intent f t rows.Lockset = (rows.Lockset, t)
+
+abbrev pub on_cell : (Cell → Cell × Tell) → Tell → Row → Row × Tell
+on_cell f t (rows.Intent i) = (rows.Intent i, t)
+on_cell f t (rows.ReadLog v) = (rows.ReadLog v, t)
+on_cell f t (rows.Invoke v) = (rows.Invoke v, t)
+on_cell f t (rows.Cell c) = (rows.Cell (f c).0, (f c).1)
+on_cell f t rows.Lockset = (rows.Lockset, t)
+
+-- on a row that is there: the row afterwards, and what is said
+abbrev pub on : Act → ℕ → Row → Row × Tell
+on Look now r = (r, here r)
+on Issue now r = (r, present)
+on (Bind f a) now r = on_intent (λ i. bind_to f a i i.body) gone r
+on (End o s) now r = on_intent (λ i. end_with o s now i i.outcome) gone r
+on (MakeCell v o) now r = (r, present)
+on (WriteCell p w v) now r = on_cell (write_at p w v) no_row r
+
+-- where no row is
+abbrev pub off : Act → ℕ → Option Row × Tell
+off Look now = (None, absent)
+off Issue now = (Some (rows.Intent (record { issued = now; body = None; outcome = None; finish = None })), added)
+off (Bind f a) now = (None, gone)
+off (End o s) now = (None, gone)
+off (MakeCell v o) now = (Some (rows.Cell (record { value = v; owner = o; log = []; next = None; marked = false; dangled = None })), added)
+off (WriteCell p w v) now = (None, no_row)
+
+abbrev pub kept : Row × Tell → Option Row × Tell
+kept r = (Some r.0, r.1)
+
+-- the row afterwards, or none, and what is said
+abbrev pub act : Act → ℕ → Option Row → Option Row × Tell
+act a now None = off a now
+act a now (Some r) = kept (on a now r)
+
+-- ---- a change, and what is said of it once the row is as the change left it
+abbrev pub here_tell : Option Row → Tell
+here_tell None = absent
+here_tell (Some r) = here r
+
+abbrev pub other_tell : Option Body → Tell
+other_tell None = gone
+other_tell (Some b) = other b
+
+abbrev pub ended_tell : Option Outcome → Tell
+ended_tell None = gone
+ended_tell (Some o) = ended o
+
+abbrev pub held_tell : Option Owner → Tell
+held_tell None = no_row
+held_tell (Some o) = held o
+
+abbrev pub noted_tell : Option Note → Tell
+noted_tell None = no_row
+noted_tell (Some n) = noted n
+
+abbrev pub intent_tell : (IntentRow → Tell) → Option Row → Tell
+intent_tell f (Some (rows.Intent i)) = f i
+intent_tell f r = gone
+
+abbrev pub cell_tell : (Cell → Tell) → Option Row → Tell
+cell_tell f (Some (rows.Cell c)) = f c
+cell_tell f r = no_row
+
+abbrev pub said_by : Change → Option Row → Tell
+said_by change.Absent r = absent
+said_by change.Row r = here_tell r
+said_by change.Added r = added
+said_by change.Present r = present
+said_by change.Gone r = gone
+said_by change.Bound r = bound
+said_by change.Other r = intent_tell (λ i. other_tell i.body) r
+said_by change.Ended r = intent_tell (λ i. ended_tell i.outcome) r
+said_by change.Running r = running
+said_by change.Already r = already
+said_by change.Did r = did
+said_by change.NoRow r = no_row
+said_by (change.Noted n) r = cell_tell (λ c. noted_tell (note_of (slice_get c.log n))) r
+said_by (change.Next n) r = next n
+said_by change.Held r = cell_tell (λ c. held_tell c.owner) r
+
+-- what stands in the way of an act on a cell is told, or else the act is done
+abbrev pub way_or : Option Change → Cell → Cell × Tell → Cell × Tell
+way_or None c r = r
+way_or (Some w) c r = (c, said_by w (Some (rows.Cell c)))
+
+-- the row and the answer of a change are those of the act; at want of memory the row is as before
+abbrev pub Changes : Act → ℕ → Row → Row → Result Change TableErr → Type 0
+Changes a now before after (Ok c) = (after, said_by c (Some after)) ≡ on a now before
+Changes a now before after (Err e) = (after ≡ before) × (e ≡ OutOfMemory)

@@ -1,0 +1,5 @@
+pub mod Act
+pub mod Key
+pub mod KeyOrder
+pub mod Log
+pub mod Table

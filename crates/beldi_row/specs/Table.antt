@@ -1,0 +1,104 @@
+-- The rows of a table as a map, and what a call of a table does.
+use Rattle.std.specs.Prelude.{◌≡◌, ℕ, ◌+◌, ◌-◌, ◌^◌, ◌≤◌, ◌<◌, min, Bool, not, ◌&&◌, is_some, List, [], ◌∷◌, Option, Some, None, Result, Ok, Err, if◌then◌else◌, IsTrue, IsErrOf}
+use Rattle.std.specs.FinMap as map
+use Rattle.std.specs.FinMap.{FinMap}
+use Rattle.std.specs.Ordering.{is_lt}
+use denote.Bor.{Bor}
+use Rattle.beldi_row.specs.Key.{key_cmp}
+use Rattle.beldi_row.specs.Act.{Tell, act, off, tell_of}
+use Rattle.beldi_row.specs.declared.key.RowKey.{RowKey}
+use Rattle.beldi_row.specs.declared.row.Row.{Row}
+use Rattle.beldi_row.specs.declared.act.Act.{Act}
+use Rattle.beldi_row.specs.declared.act.Said.{Said}
+use Rattle.beldi_row.specs.declared.table.TableErr.{TableErr}
+use Rattle.beldi_row.specs.declared.table.TableErr.TheVariants.{OutOfMemory, Failed, Full}
+
+abbrev pub Rows : Type 0
+Rows = FinMap key_cmp Row
+
+-- the rows with this at the key
+abbrev pub set_row : Rows → RowKey → Option Row → Rows
+set_row m k None = map.remove m k
+set_row m k (Some r) = map.insert m k r
+
+-- the rows after an act on one of them
+abbrev pub after_act : Act → ℕ → RowKey → Rows → Rows
+after_act a now k m = set_row m k (act a now (map.get m k)).0
+
+-- what an act on one of them says
+abbrev pub tell_act : Act → ℕ → RowKey → Rows → Tell
+tell_act a now k m = (act a now (map.get m k)).1
+
+-- the act adds a row
+abbrev pub adds : Act → ℕ → RowKey → Rows → Bool
+adds a now k m = not (map.contains_key m k) && is_some (off a now).0
+
+-- what an answer to an act says of the rows before and after; Full tells how many there are, and the room
+abbrev pub ActedOn : Act → ℕ → RowKey → ℕ → Rows → Rows → Result Said TableErr → Type 0
+ActedOn a now k room m n (Ok s) = (n ≡ after_act a now k m) × (tell_of s ≡ tell_act a now k m) × (IsTrue (adds a now k m) → map.len m < room)
+ActedOn a now k room m n (Err OutOfMemory) = n ≡ m
+ActedOn a now k room m n (Err Failed) = n ≡ m
+ActedOn a now k room m n (Err (Full live most)) = (n ≡ m) × IsTrue (adds a now k m) × (room ≤ map.len m) × (live ≡ min (map.len m) (2 ^ 32 - 1)) × (most ≡ room)
+
+-- a count that rose, or stands at its end
+abbrev pub Rose : ℕ → ℕ → Type 0
+Rose before now = min (before + 1) (2 ^ 64 - 1) ≤ now
+
+-- the count of failures never falls, and a failure comes only where it rose
+pub record HasCause {T : Type 0} (before now : ℕ) (result : Result T TableErr) : Type 0 where
+  pub later : before ≤ now
+  pub failed : IsErrOf result Failed → Rose before now
+
+-- what is told after, given what was told before
+abbrev pub Tells : Option Rows → Option Rows → (Rows → Rows → Type 0) → Type 0
+Tells None after P = after ≡ None
+Tells (Some m) None P = ⊥
+Tells (Some m) (Some n) P = P m n
+
+-- an act
+pub record Acted (a : Act) (now : ℕ) (k : RowKey) (old_room new_room old_faults new_faults : ℕ) (before after : Option Rows) (result : Result Said TableErr) : Type 0 where
+  pub rows : Tells before after (λ m n. ActedOn a now k old_room m n result)
+  pub cause : HasCause old_faults new_faults result
+  pub room : new_room ≡ old_room
+
+-- the first entry whose key is greater
+abbrev pub first_above : RowKey → List (RowKey × Row) → Option (RowKey × Row)
+first_above k [] = None
+first_above k (e ∷ es) = if is_lt (key_cmp k e.0) then Some e else first_above k es
+
+-- the row after a key
+abbrev pub next_row : Rows → RowKey → Option (RowKey × Row)
+next_row m k = first_above k (map.entries m)
+
+abbrev pub entry_of : Option (Bor RowKey × Bor Row) → Option (RowKey × Row)
+entry_of None = None
+entry_of (Some e) = Some (e.0.now, e.1.now)
+
+abbrev pub NextOn : RowKey → Result (Option (Bor RowKey × Bor Row)) TableErr → Rows → Rows → Type 0
+NextOn k (Ok r) m n = (n ≡ m) × (entry_of r ≡ next_row m k)
+NextOn k (Err OutOfMemory) m n = n ≡ m
+NextOn k (Err Failed) m n = n ≡ m
+NextOn k (Err (Full live most)) m n = ⊥
+
+-- a step to the row after a key
+pub record Went (k : RowKey) (old_room new_room old_faults new_faults : ℕ) (before after : Option Rows) (result : Result (Option (Bor RowKey × Bor Row)) TableErr) : Type 0 where
+  pub rows : Tells before after (NextOn k result)
+  pub cause : HasCause old_faults new_faults result
+  pub room : new_room ≡ old_room
+
+-- the one room that a table is given, 0 where it is given none
+abbrev pub room_of : List ℕ → ℕ
+room_of [] = 0
+room_of (n ∷ ns) = n
+
+abbrev pub RoomSet : List ℕ → ℕ → ℕ → Result Unit TableErr → Type 0
+RoomSet rooms old new (Ok u) = new ≡ room_of rooms
+RoomSet rooms old new (Err OutOfMemory) = new ≡ old
+RoomSet rooms old new (Err Failed) = new ≡ old
+RoomSet rooms old new (Err (Full live most)) = ⊥
+
+-- the room is set, and the rows are as before
+pub record Readied (rooms : List ℕ) (old_room new_room old_faults new_faults : ℕ) (before after : Option Rows) (result : Result Unit TableErr) : Type 0 where
+  pub rows : Tells before after (λ m n. n ≡ m)
+  pub cause : HasCause old_faults new_faults result
+  pub room : RoomSet rooms old_room new_room result

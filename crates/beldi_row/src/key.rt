@@ -1,0 +1,249 @@
+// The keys of rows, and their order.
+ghost use Rattle.std.specs.Prelude.{◌≡◌, IfOk, refl};
+ghost use Rattle.std.specs.Cmp.{partial_equiv_from_equiv, eq_by_cmp_equiv, partial_order_from_agreeing_total};
+ghost use Rattle.std.specs.Ordering.{as_partial_cmp, eq_by_cmp};
+ghost use Rattle.beldi_row.specs.Key.{kind_cmp, rank_of, ticket_of, key_ticket, least_key};
+ghost use Rattle.beldi_row.specs.KeyOrder.{kind_total};
+
+use beldi_value::{IntentId, Place, Str, TxId};
+use std::alloc::{AllocError, Global};
+use std::cmp::Ordering;
+
+/// What a row is about.
+#[derive(Drop)]
+pub enum Kind {
+    /// The row of an intent: when it was issued, what it is to do, how it ended.
+    Intent(IntentId),
+    /// The value that a read at this place was given.
+    ReadLog(Place),
+    /// The call that was made at this place.
+    Invoke(Place),
+    /// A row of an item. The number of its first row is 0.
+    Data {
+        table: u16,
+        key: Str,
+        row: u32,
+    },
+    /// A row of a transaction's own copy of an item.
+    Shadow {
+        tx: TxId,
+        table: u16,
+        key: Str,
+        row: u32,
+    },
+    /// An item that a transaction, begun by the intent at this step, asked the lock of.
+    Lockset {
+        intent: IntentId,
+        begin: u32,
+        table: u16,
+        key: Str,
+    },
+}
+
+impl Kind {
+    // Its number in the order of kinds.
+    fn rank(&self) -> u8
+        ensures { result ≡ rank_of self.now }
+    {
+        match self {
+            Kind::Intent(_) => 0,
+            Kind::ReadLog(_) => 1,
+            Kind::Invoke(_) => 2,
+            Kind::Data { .. } => 3,
+            Kind::Shadow { .. } => 4,
+            Kind::Lockset { .. } => 5,
+        }
+    }
+
+    /// An equal kind.
+    pub fn copy(&self, alloc: Global) -> Result<Kind, AllocError>
+        ensures { IfOk result (λ k. k ≡ self.now) }
+    {
+        match self {
+            Kind::Intent(id) => Ok(Kind::Intent(id.copy(alloc)?)),
+            Kind::ReadLog(place) => Ok(Kind::ReadLog(place.copy(alloc)?)),
+            Kind::Invoke(place) => Ok(Kind::Invoke(place.copy(alloc)?)),
+            Kind::Data { table, key, row } => Ok(Kind::Data {
+                table: *table,
+                key: key.copy(alloc)?,
+                row: *row,
+            }),
+            Kind::Shadow {
+                tx,
+                table,
+                key,
+                row,
+            } => Ok(Kind::Shadow {
+                tx: copy_tx(tx, alloc)?,
+                table: *table,
+                key: key.copy(alloc)?,
+                row: *row,
+            }),
+            Kind::Lockset {
+                intent,
+                begin,
+                table,
+                key,
+            } => Ok(Kind::Lockset {
+                intent: intent.copy(alloc)?,
+                begin: *begin,
+                table: *table,
+                key: key.copy(alloc)?,
+            }),
+        }
+    }
+
+    // The ticket of the intent that it names, or 0 where it names none.
+    fn ticket(&self) -> u32
+        ensures { result ≡ ticket_of self.now }
+    {
+        match self {
+            Kind::Intent(id) => id.ticket,
+            Kind::ReadLog(place) | Kind::Invoke(place) => place.intent.ticket,
+            Kind::Data { .. } => 0,
+            Kind::Shadow { tx, .. } => tx.intent.ticket,
+            Kind::Lockset { intent, .. } => intent.ticket,
+        }
+    }
+}
+
+fn copy_tx(tx: &TxId, alloc: Global) -> Result<TxId, AllocError>
+    ensures { IfOk result (λ t. t ≡ tx.now) }
+{
+    Ok(TxId {
+        intent: tx.intent.copy(alloc)?,
+        begin: tx.begin,
+        func: tx.func,
+    })
+}
+
+impl PartialEq for Kind {
+    ghost eq = { eq_by_cmp kind_cmp };
+
+    ghost laws = { partial_equiv_from_equiv (eq_by_cmp_equiv kind_total) };
+
+    fn eq(&self, other: &Kind) -> bool {
+        self.cmp(other).is_eq()
+    }
+}
+
+impl Eq for Kind {
+    ghost laws = { eq_by_cmp_equiv kind_total };
+}
+
+impl Ord for Kind {
+    ghost cmp = { kind_cmp };
+
+    ghost total = { kind_total };
+
+    ghost matches_partial_cmp = { λ x y. refl };
+
+    ghost matches_eq = { λ x y. refl };
+
+    fn cmp(&self, other: &Kind) -> Ordering {
+        match (self, other) {
+            (Kind::Intent(a), Kind::Intent(b)) => a.cmp(b),
+            (Kind::ReadLog(a), Kind::ReadLog(b)) | (Kind::Invoke(a), Kind::Invoke(b)) => {
+                a.intent.cmp(&b.intent).then(a.step.cmp(&b.step))
+            }
+            (
+                Kind::Data { table, key, row },
+                Kind::Data {
+                    table: that_table,
+                    key: that_key,
+                    row: that_row,
+                },
+            ) => table
+                .cmp(that_table)
+                .then(key.cmp(that_key).then(row.cmp(that_row))),
+            (
+                Kind::Shadow {
+                    tx,
+                    table,
+                    key,
+                    row,
+                },
+                Kind::Shadow {
+                    tx: that_tx,
+                    table: that_table,
+                    key: that_key,
+                    row: that_row,
+                },
+            ) => tx.intent.cmp(&that_tx.intent).then(
+                tx.begin.cmp(&that_tx.begin).then(
+                    tx.func.cmp(&that_tx.func).then(
+                        table
+                            .cmp(that_table)
+                            .then(key.cmp(that_key).then(row.cmp(that_row))),
+                    ),
+                ),
+            ),
+            (
+                Kind::Lockset {
+                    intent,
+                    begin,
+                    table,
+                    key,
+                },
+                Kind::Lockset {
+                    intent: that_intent,
+                    begin: that_begin,
+                    table: that_table,
+                    key: that_key,
+                },
+            ) => intent.cmp(that_intent).then(
+                begin
+                    .cmp(that_begin)
+                    .then(table.cmp(that_table).then(key.cmp(that_key))),
+            ),
+            _ => self.rank().cmp(&other.rank()),
+        }
+    }
+}
+
+impl PartialOrd for Kind {
+    ghost partial_cmp = { as_partial_cmp kind_cmp };
+
+    ghost laws = { partial_order_from_agreeing_total kind_cmp kind_total (λ x y. refl) (λ x y. refl) };
+
+    fn partial_cmp(&self, other: &Kind) -> Option<Ordering> {
+        Some(self.cmp(other))
+    }
+}
+
+/// The key of a row: the home that it stands in, and what it is about. Home 0 is the host's own, and the function with
+/// the number n has the home n. Keys are ordered by home, then by kind in the order of `Kind`, then by the fields.
+#[derive(Drop, PartialEq, Eq, PartialOrd, Ord)]
+pub struct RowKey {
+    pub home: u16,
+    pub kind: Kind,
+}
+
+impl RowKey {
+    /// The least of all keys: the intent of ticket 0 in home 0. No row has it.
+    pub fn least(alloc: Global) -> RowKey
+        ensures { result ≡ least_key }
+    {
+        RowKey {
+            home: 0,
+            kind: Kind::Intent(IntentId::root(alloc, 0)),
+        }
+    }
+
+    /// An equal key.
+    pub fn copy(&self, alloc: Global) -> Result<RowKey, AllocError>
+        ensures { IfOk result (λ k. k ≡ self.now) }
+    {
+        Ok(RowKey {
+            home: self.home,
+            kind: self.kind.copy(alloc)?,
+        })
+    }
+
+    /// The ticket of the intent that the key names; 0 of an item's row, which names none.
+    pub fn ticket(&self) -> u32
+        ensures { result ≡ key_ticket self.now }
+    {
+        self.kind.ticket()
+    }
+}

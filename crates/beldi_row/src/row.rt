@@ -1,0 +1,61 @@
+// What rows hold.
+use crate::notes::Log;
+use beldi_value::{Outcome, Owner, Place, TxId, Value};
+
+/// Who called an instance: the place of the call, the caller's function, and whether the caller waits for the answer.
+#[derive(Drop)]
+pub struct Caller {
+    pub place: Place,
+    pub func: u16,
+    pub waits: bool,
+}
+
+/// What an instance is to do: a function, its arguments, the transaction that it is called in, and its caller. A root
+/// has neither of the last two.
+#[derive(Drop)]
+pub struct Body {
+    pub func: u16,
+    pub args: Value,
+    pub tx: Option<TxId>,
+    pub from: Option<Caller>,
+}
+
+/// The row of an intent. Moments are in ticks: `issued` is when the row was made, `finish` is when all of its work was
+/// done.
+#[derive(Drop)]
+pub struct IntentRow {
+    pub issued: u64,
+    pub body: Option<Body>,
+    pub outcome: Option<Outcome>,
+    pub finish: Option<u64>,
+}
+
+/// The row of a call: the function called, what it gave back, and whether an asynchronous call has been registered.
+#[derive(Drop)]
+pub struct InvokeRow {
+    pub func: u16,
+    pub result: Option<Outcome>,
+    pub registered: bool,
+}
+
+/// A row of an item: its value, who owns it, the acts that it has seen, the number of the row after it, and, for rows
+/// that are to be removed, whether it is marked and the tick since when no row leads to it.
+#[derive(Drop)]
+pub struct Cell {
+    pub value: Value,
+    pub owner: Option<Owner>,
+    pub log: Log,
+    pub next: Option<u32>,
+    pub marked: bool,
+    pub dangled: Option<u64>,
+}
+
+/// What a row holds. Rows of items and of their shadows are cells.
+#[derive(Drop)]
+pub enum Row {
+    Intent(IntentRow),
+    ReadLog(Value),
+    Invoke(InvokeRow),
+    Cell(Cell),
+    Lockset,
+}

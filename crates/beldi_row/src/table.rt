@@ -1,0 +1,59 @@
+// The trait of a table.
+ghost use Rattle.std.specs.Prelude.{ℕ, Option, ⊤};
+ghost use Rattle.std.specs.Borrow.{sem, follows_so};
+ghost use mathlib.Core.Option.{none};
+ghost use Rattle.beldi_row.specs.Table.{Rows, Acted, Went, Readied};
+
+use crate::act::{Act, Said};
+use crate::key::RowKey;
+use crate::row::Row;
+use std::alloc::AllocError;
+
+/// Why a call of a table was not done. After each of these the rows are as before.
+#[derive(Debug, Drop)]
+pub enum TableErr {
+    OutOfMemory,
+    /// The table failed: only where its count of failures rose in this call.
+    Failed,
+    /// The act would add a row, and the table has `live` rows, which are at least `room`. Only `act` answers so.
+    Full { live: u32, room: u32 },
+}
+
+impl From<AllocError> for TableErr {
+    ghost use Rattle.std.specs.Prelude.{◌≡◌};
+    ghost use Rattle.beldi_row.specs.declared.table.TableErr.TheVariants.{OutOfMemory};
+
+    ghost from_gives = { λ _ e. e ≡ OutOfMemory };
+
+    fn from(_: AllocError) -> Self {
+        TableErr::OutOfMemory
+    }
+}
+
+/// A table of rows, ordered by their keys.
+pub trait Table {
+    /// Its rows, where it tells them.
+    ghost rows: { Self → Option Rows };
+
+    /// How often it has failed. It never falls, and at its end it stands still.
+    ghost faults: { Self → ℕ };
+
+    /// How many rows it may have: 0 before the first `ready`.
+    ghost room: { Self → ℕ };
+
+    /// Sets the room to the one number of the list, to 0 where the list is empty, and keeps the rows.
+    fn ready(&mut self, rooms: &[u32]) -> Result<(), TableErr>
+        ensures { Readied rooms.now (room self.old) (room self.new) (faults self.old) (faults self.new) (rows self.old) (rows self.new) result };
+
+    /// Carries out an act on the row with the key, at the moment `now`, in ticks. An act that adds a row is refused as
+    /// `Full` exactly where the table has as many rows as its room or more. An act that does not fit the kind of the
+    /// row changes nothing.
+    fn act(&mut self, key: RowKey, act: Act, now: u64) -> Result<Said<'_>, TableErr>
+        ensures* acts { sem 𝓛 (follows_so Self.row Self.row self.entry.ghost_name none (λ _ _. ⊤) (λ after.
+            Acted act now key (room self.entry.now) (room after) (faults self.entry.now) (faults after) (rows self.entry.now) (rows after) result)) };
+
+    /// The first row whose key is greater than `after`, and None exactly where there is none.
+    fn next(&mut self, after: &RowKey) -> Result<Option<(&RowKey, &Row)>, TableErr>
+        ensures* went { sem 𝓛 (follows_so Self.row Self.row self.entry.ghost_name none (λ _ _. ⊤) (λ now.
+            Went after.now (room self.entry.now) (room now) (faults self.entry.now) (faults now) (rows self.entry.now) (rows now) result)) };
+}

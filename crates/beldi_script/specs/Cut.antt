@@ -1,0 +1,33 @@
+-- A text cut at a byte, and cut into lines.
+use Rattle.std.specs.Prelude.{ℕ, ◌==◌, Bool, false, ◌&&◌, List, [], ◌∷◌, Option, Some, None, if◌then◌else◌}
+
+-- what stands before the first `mark`: all where there is none
+abbrev pub before : ℕ → List ℕ → List ℕ
+before mark [] = []
+before mark (b ∷ bs) = if b == mark then [] else b ∷ before mark bs
+
+-- what follows the first `mark`
+abbrev pub after : ℕ → List ℕ → Option (List ℕ)
+after mark [] = None
+after mark (b ∷ bs) = if b == mark then Some bs else after mark bs
+
+-- a line without the carriage return at its end
+abbrev pub unreturned : List ℕ → List ℕ
+unreturned [] = []
+unreturned (b ∷ []) = if b == 13 then [] else b ∷ []
+unreturned (b ∷ c ∷ bs) = b ∷ unreturned (c ∷ bs)
+
+-- a newline is next
+abbrev pub ends_here : List ℕ → Bool
+ends_here [] = false
+ends_here (b ∷ bs) = b == 10
+
+-- the byte goes onto the first line
+abbrev pub onto_first : ℕ → List (List ℕ) → List (List ℕ)
+onto_first b [] = (b ∷ []) ∷ []
+onto_first b (l ∷ ls) = (b ∷ l) ∷ ls
+
+-- the lines of a text: a newline ends one, with the carriage return right before it; the last newline may be missing
+abbrev pub lines_of : List ℕ → List (List ℕ)
+lines_of [] = []
+lines_of (b ∷ bs) = if b == 10 then [] ∷ lines_of bs else if b == 13 && ends_here bs then lines_of bs else onto_first b (lines_of bs)

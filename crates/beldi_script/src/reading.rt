@@ -1,0 +1,143 @@
+// What a line of a script says.
+ghost use Rattle.std.specs.Prelude.{◌≡◌, ◌==◌, ◌||◌, ◌^◌, ◌-◌};
+ghost use Rattle.std.specs.List.{list_all, position};
+ghost use Rattle.beldi_value.specs.Number.{numeral_at};
+ghost use Rattle.beldi_lang.specs.Wants.{is_name};
+ghost use Rattle.beldi_script.specs.Line.{line_at, request_at, turn_at, func_named, words_at, Reads, is_space};
+
+use crate::cut::cut_at;
+use beldi_lang::{Deployment, Func};
+use beldi_value::{Value, read_int, read_numeral};
+use std::alloc::Global;
+
+/// What a line says.
+#[derive(Drop)]
+pub enum Line {
+    /// Spaces and tabs alone.
+    Blank,
+    /// Hand out a ticket.
+    Ticket,
+    /// Run a function for a ticket. Functions are numbered from 1.
+    Request { ticket: u32, func: u16, args: Value },
+    /// Give a run, by its number, so many turns: 1 to 1,000.
+    Turn { run: u32, times: u32 },
+}
+
+/// Why a line was not read.
+#[derive(Clone, Copy, Debug, PartialEq, Eq)]
+pub enum ScriptErr {
+    /// There was not enough memory.
+    OutOfMemory,
+    /// The line has none of the forms.
+    BadLine,
+}
+
+fn is_space(byte: u8) -> bool
+    ensures { result ≡ is_space byte }
+{
+    byte == b' ' || byte == b'\t'
+}
+
+fn is_word(word: &[u8], name: &str) -> bool
+    ensures { result ≡ is_name word.now name.now }
+{
+    word == name.as_bytes()
+}
+
+// A number of 32 bits.
+fn read_u32(word: &[u8], most: u32) -> Option<u32>
+    ensures { result ≡ numeral_at most word.now }
+{
+    match read_numeral(word, u64::from(most)) {
+        Some(number) => Some(number as u32),
+        None => None,
+    }
+}
+
+fn is_blank(line: &[u8]) -> bool
+    ensures { result ≡ list_all is_space line.now }
+{
+    line.iter().all(|byte| is_space(*byte))
+}
+
+fn place_named(funcs: &[Func], name: &[u8]) -> Option<usize>
+    ensures { result ≡ position (λ f. is_name f.name name.now) funcs.now }
+{
+    funcs.iter().position(|func| func.name.as_bytes() == name)
+}
+
+// The number of the first function of this name, from 1.
+fn func_named(code: &Deployment, name: &[u8]) -> Option<u16>
+    ensures { result ≡ func_named code.now.funcs name.now }
+{
+    let place = place_named(code.funcs.as_slice(), name)?;
+    if place < 0xffff {
+        Some(place as u16 + 1)
+    } else {
+        None
+    }
+}
+
+fn read_request(code: &Deployment, words: &[u8]) -> Option<Line>
+    ensures { result ≡ request_at code.now words.now }
+{
+    let (ticket, words) = cut_at(words, b' ');
+    let (func, args) = cut_at(words?, b' ');
+    Some(Line::Request {
+        ticket: read_u32(ticket, u32::MAX)?,
+        func: func_named(code, func)?,
+        args: Value::Int(read_int(args?)?),
+    })
+}
+
+fn read_turn(words: &[u8]) -> Option<Line>
+    ensures { result ≡ turn_at words.now }
+{
+    let (run, times) = cut_at(words, b' ');
+    let run = read_u32(run, u32::MAX)?;
+    let times = match times {
+        Some(times) => read_u32(times, 1000)?,
+        None => 1,
+    };
+    if times == 0 {
+        None
+    } else {
+        Some(Line::Turn { run, times })
+    }
+}
+
+fn read_words(code: &Deployment, line: &[u8]) -> Option<Line>
+    ensures { result ≡ words_at code.now line.now }
+{
+    let (word, words) = cut_at(line, b' ');
+    match words {
+        None => if is_word(word, "ticket") {
+            Some(Line::Ticket)
+        } else {
+            None
+        },
+        Some(words) => {
+            if is_word(word, "request") {
+                read_request(code, words)
+            } else if is_word(word, "turn") {
+                read_turn(words)
+            } else {
+                None
+            }
+        }
+    }
+}
+
+/// Reads a line, without its end. It is `BadLine` where the line has none of the forms, or names a function that the
+/// deployment has not.
+pub fn read_line(_alloc: Global, code: &Deployment, line: &[u8]) -> Result<Line, ScriptErr>
+    ensures { Reads (line_at code.now line.now) result }
+{
+    if is_blank(line) {
+        return Ok(Line::Blank);
+    }
+    match read_words(code, line) {
+        Some(said) => Ok(said),
+        None => Err(ScriptErr::BadLine),
+    }
+}

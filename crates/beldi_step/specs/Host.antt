@@ -1,0 +1,146 @@
+-- The host without its table, and what one event does.
+use Rattle.std.specs.Prelude.{◌≡◌, ◌⊎◌, ℕ, ◌+◌, ◌-◌, ◌^◌, ◌≤◌, ◌<◌, ◌==◌, ◌||◌, min, nat_lt, nat_le, Bool, true, false, IsTrue, List, [], ◌∷◌, ◌++◌, option_to_list, Option, Some, None, Result, Ok, Err, if◌then◌else◌}
+use Rattle.std.specs.FinMap as map
+use Rattle.std.specs.FinMap.{FinMap}
+use Rattle.std.specs.Ordering.{nat_cmp}
+use Rattle.std.specs.declared.alloc.AllocError.{AllocError}
+use Rattle.beldi_value.specs.Id.{root_of}
+use Rattle.beldi_value.specs.declared.value.Value.{Value}
+use Rattle.beldi_lang.specs.declared.deployment.Deployment.{Deployment}
+use Rattle.beldi_row.specs.declared.key.RowKey.{RowKey}
+use Rattle.beldi_row.specs.declared.act.Act.{Act}
+use Rattle.beldi_row.specs.declared.act.Act.TheVariants.{Issue, Bind}
+use Rattle.beldi_row.specs.Act.{Tell, added, bound, running, ended, other}
+use Rattle.beldi_row.specs.Table.{Rows, Tells, Rose, after_act, tell_act, adds}
+use Rattle.beldi_book.specs.declared.entry.Entry.{Entry}
+use Rattle.beldi_book.specs.declared.entry.Entry.TheVariants.{Start}
+use Rattle.beldi_step.specs.declared.event.Event.{Event}
+use Rattle.beldi_step.specs.declared.event.Event.TheVariants.{Ticket, Request, Turn}
+use Rattle.beldi_step.specs.declared.event.Seen.{Seen}
+use Rattle.beldi_step.specs.declared.event.Seen.TheVariants as seen
+use Rattle.beldi_step.specs.declared.run.Run.{Run}
+use Rattle.beldi_step.specs.Run.{intent_key, Turned, run_key, run_act, run_turned}
+
+-- the newest ticket, the live runs by number, how many runs were ever started, the book, the moment, and how many events
+-- were taken
+pub record Core : Type 0 where
+  pub newest : ℕ
+  pub runs : FinMap nat_cmp Run
+  pub last_run : ℕ
+  pub book : List Entry
+  pub now : ℕ
+  pub taken : ℕ
+
+-- a host that nothing has happened to, over rows whose newest ticket is this one
+abbrev pub first_core : ℕ → ℕ → Core
+first_core newest now = record { newest = newest; runs = map.empty; last_run = 0; book = []; now = now; taken = 0 }
+
+abbrev pub root_key : ℕ → RowKey
+root_key t = intent_key (root_of t) 0
+
+abbrev pub most_runs : ℕ
+most_runs = 1024
+
+abbrev pub most_events : ℕ
+most_events = 2 ^ 62
+
+-- an event is answered at once, or makes one act; the last part says what follows from what the act told
+pub data Plan : Type 0 where
+  Answer : Core → Seen → Plan
+  Do : RowKey → Act → (Tell → Core × Seen) → Plan
+
+-- ---- a ticket
+abbrev pub ticket_next : Core → Tell → Core × Seen
+ticket_next c added = (record c { newest = c.newest + 1 }, seen.Issued (c.newest + 1))
+ticket_next c t = (c, seen.Gone (c.newest + 1))
+
+-- ---- a request
+abbrev pub new_run : ℕ → ℕ → Run
+new_run t f = record { id = root_of t; func = f; at = None }
+
+abbrev pub bound_next : Core → ℕ → ℕ → Value → Core × Seen
+bound_next c t f a = (record c { runs = map.insert c.runs (c.last_run + 1) (new_run t f); last_run = c.last_run + 1; book = c.book ++ Start t f a ∷ [] }, seen.Bound t (c.last_run + 1))
+
+abbrev pub request_next : Core → ℕ → ℕ → Value → Tell → Core × Seen
+request_next c t f a bound = bound_next c t f a
+request_next c t f a running = (c, seen.Running t)
+request_next c t f a (ended o) = (c, seen.Replied t o)
+request_next c t f a (other b) = (c, seen.Other t b.func b.args)
+request_next c t f a told = (c, seen.Gone t)
+
+-- ---- a turn
+abbrev pub put_run : FinMap nat_cmp Run → ℕ → Option Run → FinMap nat_cmp Run
+put_run m i None = map.remove m i
+put_run m i (Some r) = map.insert m i r
+
+abbrev pub is_none : {X : Type 0} → Option X → Bool
+is_none None = true
+is_none (Some x) = false
+
+abbrev pub turn_next : Core → ℕ → Turned → Core × Seen
+turn_next c i s = (record c { runs = put_run c.runs i s.next; book = c.book ++ option_to_list s.entry }, seen.Acted s.entry (is_none s.next) s.reply)
+
+-- a number that no live run has
+abbrev pub no_run : Core → ℕ → Seen
+no_run c i = if (i == 0) || nat_lt c.last_run i then seen.NoRun else seen.RunOver
+
+abbrev pub turn_plan : Deployment → Core → ℕ → Option Run → Plan
+turn_plan d c i None = Answer c (no_run c i)
+turn_plan d c i (Some r) = Do (run_key r) (run_act r) (λ t. turn_next c i (run_turned d r t))
+
+abbrev pub request_plan : Core → ℕ → ℕ → Value → Plan
+request_plan c t f a =
+    if (t == 0) || nat_lt c.newest t then Answer c (seen.Unknown t) else
+    if nat_le most_runs (map.len c.runs) then Answer c seen.Crowded else
+    Do (root_key t) (Bind f a) (request_next c t f a)
+
+abbrev pub plan_of : Deployment → Event → Core → Plan
+plan_of d Ticket c = if c.newest == 2 ^ 32 - 1 then Answer c seen.NoTicket else Do (root_key (c.newest + 1)) Issue (ticket_next c)
+plan_of d (Request t f a) c = request_plan c t f a
+plan_of d (Turn i) c = turn_plan d c i (map.get c.runs i)
+
+abbrev pub counted : Core → Core
+counted c = record c { taken = c.taken + 1 }
+
+abbrev pub plan : Deployment → Event → Core → Plan
+plan d e c = if nat_lt c.taken most_events then plan_of d e (counted c) else Answer c seen.Spent
+
+-- what an event leaves where the table failed in it: a run that had it is over
+abbrev pub dropped : Event → Core → Core
+dropped (Turn i) c = record c { runs = map.remove c.runs i }
+dropped e c = c
+
+-- ---- one event, as a relation: from the core c and the rows m it leaves d and n, and is answered x
+-- the act was made, and there was room for the row that it added, if any
+abbrev pub Made : ℕ → RowKey → Act → (Tell → Core × Seen) → ℕ → Rows → Core → Rows → Seen → Type 0
+Made room k a f now m d n x = (n ≡ after_act a now k m) × ((d, x) ≡ f (tell_act a now k m)) × (IsTrue (adds a now k m) → map.len m < room)
+
+-- the act was made, or refused for want of room, or the table failed
+abbrev pub Acts : ℕ → Event → Core → RowKey → Act → (Tell → Core × Seen) → Rows → Core → Rows → Seen → Type 0
+Acts room e c k a f m d n (seen.Full live most) = (n ≡ m) × (d ≡ c) × IsTrue (adds a c.now k m) × (room ≤ map.len m) × (live ≡ min (map.len m) (2 ^ 32 - 1)) × (most ≡ room)
+Acts room e c k a f m d n seen.Dropped = (n ≡ m) × (d ≡ dropped e c)
+Acts room e c k a f m d n x = Made room k a f c.now m d n x
+
+abbrev pub Follows : ℕ → Event → Core → Plan → Rows → Core → Rows → Seen → Type 0
+Follows room e c (Answer b y) m d n x = (n ≡ m) × (d ≡ b) × (x ≡ y)
+Follows room e c (Do k a f) m d n x = Acts room e c k a f m d n x
+
+abbrev pub IsOneEvent : Deployment → ℕ → Event → Core → Rows → Core → Rows → Seen → Type 0
+IsOneEvent d room e c m b n x = Follows room e (counted c) (plan d e c) m b n x
+
+-- want of memory: nothing was done, but that a run that had the event is over; at a turn its act may have been made, and
+-- then the book has its entry. It does not come once the host is spent.
+abbrev pub Breaks : Deployment → Event → Core → Rows → Core → Rows → Type 0
+Breaks d (Turn i) c m b n = ((n ≡ m) × (b ≡ dropped (Turn i) (counted c))) ⊎ ((k : RowKey) × (a : Act) × (f : (Tell → Core × Seen)) × (plan d (Turn i) c ≡ Do k a f) × (n ≡ after_act a c.now k m) × (b ≡ dropped (Turn i) (f (tell_act a c.now k m)).0))
+Breaks d e c m b n = (n ≡ m) × (b ≡ counted c)
+
+abbrev pub EventOn : Deployment → ℕ → Event → Core → Rows → Core → Rows → Result Seen AllocError → Type 0
+EventOn d room e c m b n (Ok x) = IsOneEvent d room e c m b n x
+EventOn d room e c m b n (Err w) = (c.taken < most_events) × Breaks d e c m b n
+
+-- what a call that carries out an event does
+pub record Stepped (d : Deployment) (e : Event) (c b : Core) (old_room new_room old_faults new_faults : ℕ) (before after : Option Rows) (result : Result Seen AllocError) : Type 0 where
+  pub rows : Tells before after (λ m n. EventOn d old_room e c m b n result)
+  pub later : old_faults ≤ new_faults
+  pub failed : result ≡ Ok seen.Dropped → Rose old_faults new_faults
+  pub room : new_room ≡ old_room

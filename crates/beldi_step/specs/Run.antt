@@ -1,0 +1,141 @@
+-- A run, as a machine that makes one act a turn.
+use Rattle.std.specs.Prelude.{ℕ, ◌==◌, Bool, true, false, ◌||◌, is_some, Option, Some, None, if◌then◌else◌}
+use Rattle.beldi_value.specs.Id.{home_of, has_no_hops}
+use Rattle.beldi_value.specs.declared.id.IntentId.{IntentId}
+use Rattle.beldi_value.specs.declared.value.Value.{Value}
+use Rattle.beldi_value.specs.declared.outcome.Outcome.{Outcome}
+use Rattle.beldi_lang.specs.declared.deployment.Deployment.{Deployment}
+use Rattle.beldi_lang.specs.declared.deployment.Func.{Func}
+use Rattle.beldi_lang.specs.declared.effect.Effect.{Effect}
+use Rattle.beldi_lang.specs.declared.effect.Effect.TheVariants as effect
+use Rattle.beldi_lang.specs.declared.effect.Answer.{Answer}
+use Rattle.beldi_lang.specs.declared.effect.Answer.TheVariants as answer
+use Rattle.beldi_lang.specs.declared.machine.Machine.{Machine}
+use Rattle.beldi_lang.specs.Wants.{func_at}
+use Rattle.beldi_lang.specs.Machine.{begun as machine_begun, resumed}
+use Rattle.beldi_row.specs.declared.key.RowKey.{RowKey}
+use Rattle.beldi_row.specs.declared.key.Kind.TheVariants.{Intent}
+use Rattle.beldi_row.specs.declared.row.Body.{Body}
+use Rattle.beldi_row.specs.declared.row.IntentRow.{IntentRow}
+use Rattle.beldi_row.specs.declared.row.Row.TheVariants as rows
+use Rattle.beldi_row.specs.declared.act.Act.{Act}
+use Rattle.beldi_row.specs.declared.act.Act.TheVariants.{Look, End}
+use Rattle.beldi_row.specs.Act.{Tell, here, did}
+use Rattle.beldi_daal.specs.declared.walk.WriteWalk.{WriteWalk}
+use Rattle.beldi_daal.specs.declared.walk.Item.TheVariants as item
+use Rattle.beldi_daal.specs.declared.walk.CellOp.TheVariants as op
+use Rattle.beldi_daal.specs.declared.walk.WriteSays.{WriteSays}
+use Rattle.beldi_daal.specs.declared.walk.WriteSays.TheVariants.{Going, Done}
+use Rattle.beldi_daal.specs.Walk.{first_walk, walk_key, walk_act, walk_next}
+use Rattle.beldi_book.specs.declared.entry.Entry.{Entry}
+use Rattle.beldi_book.specs.declared.entry.Entry.TheVariants.{Step}
+use Rattle.beldi_step.specs.declared.run.Run.{Run}
+use Rattle.beldi_step.specs.declared.run.Begun.{Begun}
+use Rattle.beldi_step.specs.declared.run.Stage.{Stage}
+use Rattle.beldi_step.specs.declared.run.Stage.TheVariants.{Write, Close}
+
+-- the row of an intent: a root's stands in the host's home, a callee's in its function's
+abbrev pub intent_key : IntentId → ℕ → RowKey
+intent_key id func = record { home = home_of id func; kind = Intent id }
+
+-- where an effect begins
+abbrev pub first_stage : IntentId → ℕ → ℕ → Effect → Stage
+first_stage id func step (effect.Write t k v) = Write (first_walk func (item.Plain t k) (record { intent = id; step = step }) (op.Write v))
+first_stage id func step (effect.Return o) = Close o
+
+abbrev pub standing : IntentId → ℕ → Machine → Begun
+standing id func m = record { machine = m; stage = first_stage id func m.steps m.effect }
+
+-- ---- the act of the next turn
+abbrev pub stage_key : Run → Stage → RowKey
+stage_key r (Write w) = walk_key w
+stage_key r (Close o) = intent_key r.id r.func
+
+abbrev pub stage_act : Stage → Act
+stage_act (Write w) = walk_act w
+stage_act (Close o) = End o true
+
+abbrev pub key_at : Run → Option Begun → RowKey
+key_at r None = intent_key r.id r.func
+key_at r (Some g) = stage_key r g.stage
+
+abbrev pub act_at : Option Begun → Act
+act_at None = Look
+act_at (Some g) = stage_act g.stage
+
+abbrev pub run_key : Run → RowKey
+run_key r = key_at r r.at
+
+abbrev pub run_act : Run → Act
+run_act r = act_at r.at
+
+-- ---- where a run goes after what it was told
+-- the run as it goes on, none where it is over; the entry that its act made; and the outcome that its act gave the root
+pub record Turned : Type 0 where
+  pub next : Option Run
+  pub entry : Option Entry
+  pub reply : Option (ℕ × Outcome)
+
+abbrev pub over : Turned
+over = record { next = None; entry = None; reply = None }
+
+abbrev pub goes : Run → Begun → Option Entry → Turned
+goes r g e = record { next = Some (record r { at = Some g }); entry = e; reply = None }
+
+-- an intent that has ended
+abbrev pub is_ended : IntentRow → Bool
+is_ended i = is_some i.outcome || is_some i.finish
+
+-- a run of a function begins with the arguments of its body
+abbrev pub begin_in : Run → Option Func → Value → Turned
+begin_in r None args = over
+begin_in r (Some f) args = goes r (standing r.id r.func (machine_begun r.func f args)) None
+
+abbrev pub begin_body : Deployment → Run → Option Body → Turned
+begin_body d r None = over
+begin_body d r (Some b) = if b.func == r.func then begin_in r (func_at d r.func) b.args else over
+
+-- the body of an intent that has not ended
+abbrev pub open_body : IntentRow → Option Body
+open_body i = if is_ended i then None else i.body
+
+abbrev pub body_told : Tell → Option Body
+body_told (here (rows.Intent i)) = open_body i
+body_told t = None
+
+abbrev pub resumed_in : Option Func → Machine → Answer → Machine
+resumed_in None m a = m
+resumed_in (Some f) m a = resumed f m a
+
+-- an effect has its answer
+abbrev pub answered : Deployment → Run → Machine → Answer → Option Entry → Turned
+answered d r m a e = goes r (standing r.id r.func (resumed_in (func_at d r.func) m a)) e
+
+-- the entry of a step, where this act made it
+abbrev pub step_if : Bool → IntentId → Option Entry
+step_if true id = Some (Step id)
+step_if false id = None
+
+abbrev pub write_turned : Deployment → Run → Machine → WriteWalk × WriteSays → Turned
+write_turned d r m (w, Going) = goes r (record { machine = m; stage = Write w }) None
+write_turned d r m (w, Done first) = answered d r m answer.Done (step_if first r.id)
+
+-- the first end of a root gives its reply
+abbrev pub reply_if : Bool → IntentId → Outcome → Option (ℕ × Outcome)
+reply_if true id o = Some (id.ticket, o)
+reply_if false id o = None
+
+abbrev pub close_turned : Run → Outcome → Tell → Turned
+close_turned r o did = record { next = None; entry = Some (Step r.id); reply = reply_if (has_no_hops r.id.hops) r.id o }
+close_turned r o t = over
+
+abbrev pub stage_turned : Deployment → Run → Machine → Stage → Tell → Turned
+stage_turned d r m (Write w) t = write_turned d r m (walk_next w t)
+stage_turned d r m (Close o) t = close_turned r o t
+
+abbrev pub turned_at : Deployment → Run → Option Begun → Tell → Turned
+turned_at d r None t = begin_body d r (body_told t)
+turned_at d r (Some g) t = stage_turned d r g.machine g.stage t
+
+abbrev pub run_turned : Deployment → Run → Tell → Turned
+run_turned d r t = turned_at d r r.at t

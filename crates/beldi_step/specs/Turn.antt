@@ -1,0 +1,56 @@
+-- What a call that makes the next turn of a run does.
+use Rattle.std.specs.Prelude.{◌≡◌, ℕ, ◌-◌, ◌^◌, ◌≤◌, ◌<◌, min, Bool, true, false, IsTrue, IsErrOf, Option, Some, None, Result, Ok, Err}
+use Rattle.std.specs.FinMap as map
+use Rattle.beldi_value.specs.Id.{has_no_hops}
+use Rattle.beldi_value.specs.declared.id.IntentId.{IntentId}
+use Rattle.beldi_value.specs.declared.outcome.Outcome.{Outcome}
+use Rattle.beldi_lang.specs.declared.deployment.Deployment.{Deployment}
+use Rattle.beldi_lang.specs.declared.machine.Machine.{Machine}
+use Rattle.beldi_row.specs.declared.table.TableErr.TheVariants.{OutOfMemory, Failed, Full}
+use Rattle.beldi_row.specs.Table.{Rows, after_act, tell_act, adds, Tells, Rose}
+use Rattle.beldi_book.specs.declared.entry.Entry.TheVariants.{Step}
+use Rattle.beldi_step.specs.declared.run.Run.{Run}
+use Rattle.beldi_step.specs.declared.run.Begun.{Begun}
+use Rattle.beldi_step.specs.declared.turn.TurnSays.{TurnSays}
+use Rattle.beldi_step.specs.declared.turn.TurnErr.{TurnErr}
+use Rattle.beldi_step.specs.declared.turn.TurnErr.TheVariants.{Lost, Stopped}
+use Rattle.beldi_step.specs.Run.{Turned, reply_if, standing, act_at, key_at, turned_at}
+
+-- the run as it goes on, if it does
+abbrev pub going : Run → Bool → Option Run
+going s true = None
+going s false = Some s
+
+-- an answer, with the run as it is after it
+abbrev pub turned_by : Run → TurnSays → Turned
+turned_by s x = record { next = going s x.over; entry = x.entry; reply = x.reply }
+
+-- the answer to the end of an instance, which this act made or not
+abbrev pub close_says : IntentId → Outcome → Bool → TurnSays
+close_says id o true = record { entry = Some (Step id); over = true; reply = reply_if (has_no_hops id.hops) id o }
+close_says id o false = record { entry = None; over = true; reply = None }
+
+-- the run, whose machine has its answer
+abbrev pub answered_run : Run → Machine → Run
+answered_run r m = record r { at = Some (standing r.id r.func m) }
+
+-- the run turned so; where it was lost after its act, the entry is told
+abbrev pub Turns : Run → Result TurnSays TurnErr → Turned → Type 0
+Turns s (Ok x) t = turned_by s x ≡ t
+Turns s (Err (Lost e)) t = e ≡ t.entry
+Turns s (Err (Stopped e)) t = ⊥
+
+-- the act was made, and the run turned by what it told; where it was lost after its act, the entry is told
+abbrev pub RanOn : Deployment → Run → Option Begun → Run → ℕ → ℕ → Rows → Rows → Result TurnSays TurnErr → Type 0
+RanOn d r at s now room m n (Ok x) = (n ≡ after_act (act_at at) now (key_at r at) m) × (turned_by s x ≡ turned_at d r at (tell_act (act_at at) now (key_at r at) m)) × (IsTrue (adds (act_at at) now (key_at r at) m) → map.len m < room)
+RanOn d r at s now room m n (Err (Lost e)) = (n ≡ after_act (act_at at) now (key_at r at) m) × (e ≡ (turned_at d r at (tell_act (act_at at) now (key_at r at) m)).entry)
+RanOn d r at s now room m n (Err (Stopped OutOfMemory)) = n ≡ m
+RanOn d r at s now room m n (Err (Stopped Failed)) = n ≡ m
+RanOn d r at s now room m n (Err (Stopped (Full live most))) = (n ≡ m) × (s ≡ r) × IsTrue (adds (act_at at) now (key_at r at) m) × (room ≤ map.len m) × (live ≡ min (map.len m) (2 ^ 32 - 1)) × (most ≡ room)
+
+-- a turn of the run r, which stands at `at`
+pub record Ran (d : Deployment) (r : Run) (at : Option Begun) (s : Run) (now old_room new_room old_faults new_faults : ℕ) (before after : Option Rows) (result : Result TurnSays TurnErr) : Type 0 where
+  pub rows : Tells before after (λ m n. RanOn d r at s now old_room m n result)
+  pub later : old_faults ≤ new_faults
+  pub failed : IsErrOf result (Stopped Failed) → Rose old_faults new_faults
+  pub room : new_room ≡ old_room

@@ -1,0 +1,67 @@
+// Events, and how they are answered.
+use beldi_book::Entry;
+use beldi_value::{Outcome, Value};
+
+/// What may happen to a host.
+#[derive(Drop)]
+pub enum Event {
+    /// A ticket is asked for.
+    Ticket,
+    /// The root of a ticket is to run a function with these arguments.
+    Request { ticket: u32, func: u16, args: Value },
+    /// The run of this number makes its next turn.
+    Turn(u64),
+}
+
+/// The answers to events.
+#[derive(Drop)]
+pub enum Seen {
+    /// The ticket was issued.
+    Issued(u32),
+    /// The newest ticket is 4,294,967,295.
+    NoTicket,
+    /// The root was bound to the request, and a run of it was started.
+    Bound {
+        ticket: u32,
+        run: u64,
+    },
+    /// The root was bound to the same before, and has no outcome.
+    Running(u32),
+    /// The root was bound to the same before, and has this outcome.
+    Replied {
+        ticket: u32,
+        outcome: Outcome,
+    },
+    /// The root was bound to these before, which differ.
+    Other {
+        ticket: u32,
+        func: u16,
+        args: Value,
+    },
+    /// The ticket was issued, and its row is absent.
+    Gone(u32),
+    /// The ticket is 0 or above the newest.
+    Unknown(u32),
+    /// The turn was made: the entry that it made, whether the run is over, and the ticket and outcome of the root that
+    /// it ended first.
+    Acted {
+        entry: Option<Entry>,
+        over: bool,
+        reply: Option<(u32, Outcome)>,
+    },
+    /// The table has no room for the row that the act would add: it has `live` rows, which are at least `room`.
+    Full {
+        live: u32,
+        room: u32,
+    },
+    /// 1,024 runs are live, and the event would start one.
+    Crowded,
+    /// The number was never given to a run.
+    NoRun,
+    /// The run of the number is over.
+    RunOver,
+    /// The table failed in this event; a run that had it is over.
+    Dropped,
+    /// 2^62 events were taken before.
+    Spent,
+}

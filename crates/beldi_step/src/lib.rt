@@ -1,0 +1,17 @@
+//! The step of the host: events, their answers, the runs of instances, and what one event does.
+//! It stands on the language, the rows, the walks and the book. Its definitions: `specs/Run` (the act of a run's next
+//! turn, and where the run goes after what it was told), `specs/Intent` (calls that make one act on the row of an
+//! intent), `specs/Turn` (calls that make a turn), `specs/Host` (the host without its table, and one event as a relation
+//! between the host and the rows before and after), `specs/Session` (lists of events) and `specs/Tables` (the listing of
+//! the rows).
+#![tactic(auto)]
+
+mod event;
+mod intent;
+mod run;
+mod turn;
+
+pub use event::{Event, Seen};
+pub use intent::{Binding, bind, end, issue, open_body};
+pub use run::{Begun, Run, Stage};
+pub use turn::{TurnErr, TurnSays};

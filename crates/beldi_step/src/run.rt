@@ -1,0 +1,28 @@
+// Runs: executions of instances of functions.
+use beldi_daal::WriteWalk;
+use beldi_lang::Machine;
+use beldi_value::{IntentId, Outcome};
+
+/// An execution of an instance. Before its first turn nothing is known but whose it is.
+#[derive(Drop)]
+pub struct Run {
+    pub id: IntentId,
+    pub func: u16,
+    pub at: Option<Begun>,
+}
+
+/// A run that has found its body: its machine, and where the walk of the machine's effect stands.
+#[derive(Drop)]
+pub struct Begun {
+    pub machine: Machine,
+    pub stage: Stage,
+}
+
+/// The stages of the effects.
+#[derive(Drop)]
+pub enum Stage {
+    /// A write is on its walk.
+    Write(WriteWalk),
+    /// The instance is to be ended with this outcome.
+    Close(Outcome),
+}

@@ -1,0 +1,267 @@
+// The turns of runs: one act a turn.
+ghost use Rattle.std.specs.Prelude.{◌≡◌, true, false, Some, None, IfOk, OnOk};
+ghost use Rattle.beldi_lang.specs.Wants.{func_at};
+ghost use Rattle.beldi_lang.specs.declared.machine.Machine.{Machine};
+ghost use Rattle.beldi_book.specs.declared.entry.Entry.TheVariants.{Step};
+ghost use Rattle.beldi_daal.specs.declared.walk.WriteWalk.{WriteWalk};
+ghost use Rattle.beldi_row.specs.declared.act.Act.TheVariants as acts;
+ghost use Rattle.beldi_step.specs.Run.{first_stage as first_stage_of, standing as standing_at, begin_in, write_turned, resumed_in, intent_key};
+ghost use Rattle.beldi_step.specs.Intent.{Asked, is_did};
+ghost use Rattle.beldi_step.specs.Turn.{Ran, Turns, turned_by, answered_run, close_says};
+ghost use Rattle.beldi_step.specs.declared.run.Stage.TheVariants as stages;
+ghost use Rattle.beldi_step.specs.declared.run.Stage.{Stage};
+
+use crate::intent::{end, open_body};
+use crate::run::{Begun, Run, Stage};
+use beldi_book::Entry;
+use beldi_daal::{CellOp, Item, WriteSays, WriteWalk};
+use beldi_lang::{Answer, Deployment, Effect, Machine};
+use beldi_row::{Table, TableErr};
+use beldi_value::{IntentId, Outcome, Place, Value};
+use std::alloc::{AllocError, Global};
+
+/// What a turn did: the entry that its act made, whether the run is over, and the ticket and outcome of the root that
+/// it ended first.
+#[derive(Drop)]
+pub struct TurnSays {
+    pub entry: Option<Entry>,
+    pub over: bool,
+    pub reply: Option<(u32, Outcome)>,
+}
+
+/// Why a run did not come to the end of a turn.
+#[derive(Drop)]
+pub enum TurnErr {
+    /// The act was not made.
+    Stopped(TableErr),
+    /// The act was made, and then memory was wanting. It made this entry, if any.
+    Lost(Option<Entry>),
+}
+
+impl From<TableErr> for TurnErr {
+    ghost use Rattle.std.specs.Prelude.{◌≡◌};
+    ghost use Rattle.beldi_step.specs.declared.turn.TurnErr.TheVariants.{Stopped};
+
+    ghost from_gives = { λ w e. e ≡ Stopped w };
+
+    fn from(why: TableErr) -> Self {
+        TurnErr::Stopped(why)
+    }
+}
+
+impl From<AllocError> for TurnErr {
+    ghost use Rattle.std.specs.Prelude.{◌≡◌};
+    ghost use Rattle.beldi_step.specs.declared.turn.TurnErr.TheVariants.{Stopped};
+    ghost use Rattle.beldi_row.specs.declared.table.TableErr.TheVariants.{OutOfMemory};
+
+    ghost from_gives = { λ _ e. e ≡ Stopped OutOfMemory };
+
+    fn from(_: AllocError) -> Self {
+        TurnErr::Stopped(TableErr::OutOfMemory)
+    }
+}
+
+// Where the effect of a machine begins. The machine keeps its effect, and the stage has copies.
+fn first_stage(
+    alloc: Global,
+    id: &IntentId,
+    func: u16,
+    machine: &Machine,
+) -> Result<Stage, AllocError>
+    ensures { IfOk result (λ s. s ≡ first_stage_of id.now func machine.now.steps machine.now.effect) }
+{
+    let step = machine.steps();
+    match machine.wants() {
+        Effect::Write { table, key, value } => {
+            let item = Item::Plain {
+                table: *table,
+                key: key.copy(alloc)?,
+            };
+            let place = Place {
+                intent: id.copy(alloc)?,
+                step,
+            };
+            let op = CellOp::Write(value.copy(alloc)?);
+            Ok(Stage::Write(WriteWalk::new(func, item, place, op)))
+        }
+        Effect::Return(outcome) => Ok(Stage::Close(outcome.copy(alloc)?)),
+    }
+}
+
+fn standing(alloc: Global, id: &IntentId, func: u16, machine: Machine) -> Result<Begun, AllocError>
+    ensures { IfOk result (λ b. b ≡ standing_at id.now func machine) }
+{
+    let stage = first_stage(alloc, id, func, &machine)?;
+    Ok(Begun { machine, stage })
+}
+
+// A machine that stands at its return takes no answer; none comes there.
+fn resume(
+    alloc: Global,
+    code: &Deployment,
+    func: u16,
+    machine: Machine,
+    answer: Answer,
+) -> Result<Machine, AllocError>
+    ensures { IfOk result (λ m. m ≡ resumed_in (func_at code.now func) machine answer) }
+{
+    let Some(body) = code.func_at(func) else {
+        return Ok(machine);
+    };
+    if matches!(machine.wants(), Effect::Write { .. }) {
+        machine.resume(alloc, body, answer)
+    } else {
+        Err(AllocError)
+    }
+}
+
+// Ends an instance.
+fn close<T: Table>(
+    alloc: Global,
+    id: &IntentId,
+    func: u16,
+    outcome: &Outcome,
+    table: &mut T,
+    now: u64,
+) -> Result<TurnSays, TableErr>
+    ensures { Asked (λ t. close_says id.now outcome.now (is_did t)) (acts.End outcome.now true) now (intent_key id.now func) (T.room table.old) (T.room table.new) (T.faults table.old) (T.faults table.new) (T.rows table.old) (T.rows table.new) result }
+{
+    let entry = Entry::Step {
+        id: id.copy(alloc)?,
+    };
+    let reply = if id.is_root() {
+        Some((id.ticket, outcome.copy(alloc)?))
+    } else {
+        None
+    };
+    let first = end(table, id.copy(alloc)?, func, outcome.copy(alloc)?, now)?;
+    if first {
+        Ok(TurnSays {
+            entry: Some(entry),
+            over: true,
+            reply,
+        })
+    } else {
+        Ok(over())
+    }
+}
+
+fn over() -> TurnSays
+    ensures { result ≡ record { entry = None; over = true; reply = None } }
+{
+    TurnSays {
+        entry: None,
+        over: true,
+        reply: None,
+    }
+}
+
+fn goes(entry: Option<Entry>) -> TurnSays
+    ensures { result ≡ record { entry = entry; over = false; reply = None } }
+{
+    TurnSays {
+        entry,
+        over: false,
+        reply: None,
+    }
+}
+
+impl Run {
+    /// One act. After `Stopped` the rows are as before, and at `Full` the run is too; after any other `Err` the run is
+    /// to be dropped.
+    pub fn turn<T: Table>(
+        &mut self,
+        alloc: Global,
+        code: &Deployment,
+        table: &mut T,
+        now: u64,
+    ) -> Result<TurnSays, TurnErr>
+        ensures { Ran code.now self.old self.old.at self.new now (T.room table.old) (T.room table.new) (T.faults table.old) (T.faults table.new) (T.rows table.old) (T.rows table.new) result }
+    {
+        match &mut self.at {
+            None => self.begin(alloc, code, table, now),
+            Some(begun) => match &mut begun.stage {
+                Stage::Write(walk) => {
+                    let entry = Entry::Step {
+                        id: self.id.copy(alloc)?,
+                    };
+                    let says = walk.turn(alloc, table, now)?;
+                    self.wrote(alloc, code, entry, says)
+                }
+                Stage::Close(outcome) => {
+                    Ok(close(alloc, &self.id, self.func, outcome, table, now)?)
+                }
+            },
+        }
+    }
+
+    // The turn of a run that has not found its body.
+    fn begin<T: Table>(
+        &mut self,
+        alloc: Global,
+        code: &Deployment,
+        table: &mut T,
+        now: u64,
+    ) -> Result<TurnSays, TurnErr>
+        ensures { Ran code.now self.old None self.new now (T.room table.old) (T.room table.new) (T.faults table.old) (T.faults table.new) (T.rows table.old) (T.rows table.new) result }
+    {
+        let id = self.id.copy(alloc)?;
+        match open_body(alloc, table, id, self.func, now)? {
+            None => Ok(over()),
+            Some(args) => match self.begin_with(alloc, code, args) {
+                Ok(says) => Ok(says),
+                Err(_) => Err(TurnErr::Lost(None)),
+            },
+        }
+    }
+
+    fn begin_with(
+        &mut self,
+        alloc: Global,
+        code: &Deployment,
+        args: Value,
+    ) -> Result<TurnSays, AllocError>
+        ensures { IfOk result (λ x. turned_by self.new x ≡ begin_in self.old (func_at code.now self.old.func) args) }
+    {
+        let Some(func) = code.func_at(self.func) else {
+            return Ok(over());
+        };
+        let machine = Machine::new(alloc, func, self.func, args)?;
+        let begun = standing(alloc, &self.id, self.func, machine)?;
+        self.at = Some(begun);
+        Ok(goes(None))
+    }
+
+    // What the walk of a write said.
+    fn wrote(
+        &mut self,
+        alloc: Global,
+        code: &Deployment,
+        entry: Entry,
+        says: WriteSays,
+    ) -> Result<TurnSays, TurnErr>
+        requires { entry ≡ Step self.old.id }
+        ensures { (m : Machine) (w : WriteWalk) → self.old.at ≡ Some (record { machine = m; stage = stages.Write w }) → Turns self.new result (write_turned code.now self.old m (w, says)) }
+    {
+        let WriteSays::Done { first } = says else {
+            return Ok(goes(None));
+        };
+        let entry = if first { Some(entry) } else { None };
+        match self.answer(alloc, code, Answer::Done) {
+            Ok(()) => Ok(goes(entry)),
+            Err(_) => Err(TurnErr::Lost(entry)),
+        }
+    }
+
+    fn answer(&mut self, alloc: Global, code: &Deployment, answer: Answer) -> Result<(), AllocError>
+        ensures { OnOk result ((m : Machine) (s : Stage) → self.old.at ≡ Some (record { machine = m; stage = s }) → self.new ≡ answered_run self.old (resumed_in (func_at code.now self.old.func) m answer)) }
+    {
+        let Some(begun) = self.at.take() else {
+            return Ok(());
+        };
+        let machine = resume(alloc, code, self.func, begun.machine, answer)?;
+        let begun = standing(alloc, &self.id, self.func, machine)?;
+        self.at = Some(begun);
+        Ok(())
+    }
+}

@@ -1,0 +1,20 @@
+use Rattle.std.proofs.Common.{arith, ◌∙◌, refl, ap, sym}
+use Rattle.beldi_table.specs.MapTable.{rows_of}
+use Rattle.beldi_table.specs.FailingTable.{counted}
+use Rattle.beldi_table.proofs.failing_table.FailingTableTable.next.Goals as goal
+
+pub returns-then-fails : goal.returns-then-fails
+returns-then-fails c =
+    let old = c.args.self.now.faults in
+    let rose = c.fails.ensures.faults ∙ ap (λ b. counted b old) c.if-fails.true in (
+      (
+        refl,
+        λ _. tt,
+        record {
+          rows = ap rows_of c.fails.ensures.table;
+          cause = record { later = c.fails.ensures.later; failed = λ _. omega (arith, rose) };
+          room = ap (λ t. t.room) c.fails.ensures.table;
+        },
+      ),
+      record { went = tt; told = (λ _. sym c.fails.ensures.told ∙ c.if-fails.true, λ _. refl) },
+    )

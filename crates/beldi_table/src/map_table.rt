@@ -1,0 +1,106 @@
+// A table over an ordered map in memory.
+ghost use Rattle.std.specs.Prelude.{◌≡◌, ℕ, ◌^◌, ◌-◌, min, Some};
+ghost use Rattle.std.specs.FinMap as map;
+ghost use Rattle.beldi_row.specs.Table.{room_of};
+
+use beldi_row::{Act, Change, Row, RowKey, Said, Table, TableErr, apply, made, missing, tell};
+use std::alloc::Global;
+use std::collections::BTreeMap;
+use std::ops::Bound;
+
+/// A table that never fails. It tells its rows.
+#[derive(Drop)]
+pub struct MapTable {
+    alloc: Global,
+    rows: BTreeMap<RowKey, Row>,
+    room: u32,
+}
+
+// A number of rows as it is answered.
+fn counted(n: usize) -> u32
+    ensures { result ≡ min n (2 ^ 32 - 1) }
+{
+    if n < 0xffff_ffff { n as u32 } else { u32::MAX }
+}
+
+// The one room of the list, or 0.
+pub(crate) fn room_in(rooms: &[u32]) -> u32
+    ensures { result ≡ room_of rooms.now }
+{
+    match rooms.first() {
+        Some(room) => *room,
+        None => 0,
+    }
+}
+
+impl MapTable {
+    ghost use Rattle.beldi_table.specs.MapTable.{rows_of, ChangedOn};
+
+    /// A table without rows and without room for any.
+    pub fn new(alloc: Global) -> MapTable
+        ensures rows { rows_of result ≡ map.empty }
+        ensures room { result.room ≡ 0 }
+    {
+        MapTable {
+            alloc,
+            rows: BTreeMap::new(alloc),
+            room: 0,
+        }
+    }
+
+    fn change(&mut self, key: RowKey, act: Act, now: u64) -> Result<Change, TableErr>
+        ensures rows { ChangedOn act now key self.old.room (rows_of self.old) (rows_of self.new) result }
+        ensures room { self.new.room ≡ self.old.room }
+    {
+        if let Some(row) = self.rows.get_mut(&key) {
+            return apply(row, act, now);
+        }
+        let said = missing(&act);
+        match made(self.alloc, act, now) {
+            None => Ok(said),
+            Some(row) => {
+                let live = self.rows.len();
+                if live >= self.room as usize {
+                    return Err(TableErr::Full {
+                        live: counted(live),
+                        room: self.room,
+                    });
+                }
+                match self.rows.insert(key, row) {
+                    Ok(_) => Ok(said),
+                    Err(_) => Err(TableErr::OutOfMemory),
+                }
+            }
+        }
+    }
+}
+
+impl Table for MapTable {
+    ghost rows = { λ t. Some (map.from_entries t.rows.entries) };
+
+    ghost faults = { λ t. 0 };
+
+    ghost room = { λ t. t.room };
+
+    fn ready(&mut self, rooms: &[u32]) -> Result<(), TableErr> {
+        self.room = room_in(rooms);
+        Ok(())
+    }
+
+    fn act(&mut self, key: RowKey, act: Act, now: u64) -> Result<Said<'_>, TableErr> {
+        let place = match key.copy(self.alloc) {
+            Ok(place) => place,
+            Err(_) => return Err(TableErr::OutOfMemory),
+        };
+        let change = self.change(key, act, now)?;
+        Ok(tell(self.rows.get(&place), change))
+    }
+
+    fn next(&mut self, after: &RowKey) -> Result<Option<(&RowKey, &Row)>, TableErr> {
+        Ok(
+            self.rows
+                .range((Bound::Excluded(after), Bound::Unbounded))
+                .next(),
+        )
+    }
+}

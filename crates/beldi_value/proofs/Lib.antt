@@ -1,0 +1,4 @@
+pub mod Ages
+pub mod Ints
+pub mod Maps
+pub mod Numbers

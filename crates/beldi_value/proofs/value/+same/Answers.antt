@@ -1,0 +1,26 @@
+use Rattle.std.proofs.Common.{rules, arith, ◌≡◌, ℕ, ◌<◌, List, length, get_or, sym, ◌∙◌, ap}
+use Rattle.std.proofs.lemmas.List.{get_or_default}
+use Rattle.beldi_value.specs.Injective.{same_items, same_fields}
+use Rattle.beldi_value.proofs.value.+same.Goals as goal
+
+-- two elements at one place of equal lists
+one_place : {X : Type 0} (xs ys : List X) (i : ℕ) (x y : X) → xs ≡ ys → i < length ys → x ≡ get_or xs i x → y ≡ get_or ys i y → x ≡ y
+one_place xs ys i x y e h p q = p ∙ ap (λ zs. get_or zs i x) e ∙ get_or_default ys i x y h ∙ sym q
+
+pub Values::is_same-returns-then-not-is_same : goal.Values::is_same-returns-then-not-is_same
+Values::is_same-returns-then-not-is_same t c = (
+  λ w. cc,
+  λ e.
+      let same = same_items c.self.inside.items.items c.other.inside.items.items (c.self.view_is ∙ e ∙ sym c.other.view_is) in
+      let one = one_place c.self.inside.items.items c.other.inside.items.items c.loop-i.i c.v-item.result c.index.result.now same (omega arith) (search rules) c.index.ensures in
+      cc (c.is_same.ensures.1 one),
+)
+
+pub Rec::is_same-returns-then-not-is_same_field : goal.Rec::is_same-returns-then-not-is_same_field
+Rec::is_same-returns-then-not-is_same_field t c = (
+  λ w. cc,
+  λ e.
+      let same = same_fields c.self.inside.fields.items c.other.inside.fields.items (c.self.view_is ∙ e ∙ sym c.other.view_is) in
+      let one = one_place c.self.inside.fields.items c.other.inside.fields.items c.loop-i.i c.field-item.result c.index.result.now same (omega arith) (search rules) c.index.ensures in
+      cc (c.is_same_field.ensures.1 one),
+)

@@ -1,0 +1,62 @@
+-- Ids: their order, and what is made of them.
+use Rattle.std.specs.Prelude.{◌≡◌, ℕ, Bool, true, false, List, [], ◌∷◌, ◌++◌, refl, if◌then◌else◌}
+use Rattle.std.specs.Coded.{Coded, code_by, coded×, coded_ℕ, coded_list}
+use Rattle.std.specs.Cmp.{IsTotalOrder, nat_cmp_total, on_total, then_total}
+use Rattle.std.specs.Ordering.{nat_cmp, ordering_then, is_lt}
+use Rattle.std.specs.declared.cmp.Ordering.{Ordering}
+use Rattle.std.specs.declared.cmp.Ordering.TheVariants.{Less, Equal, Greater}
+use Rattle.std.specs.Cmp.Lexicographic.{slice_cmp, nat_list_cmp_total}
+use Rattle.std.specs.FinMap.{IsAntisymmetric, nat_cmp-IsAntisymmetric, slice_cmp-IsAntisymmetric}
+use Rattle.beldi_value.specs.declared.id.IntentId.{IntentId}
+use Rattle.beldi_value.specs.declared.place.Owner.{Owner}
+use Rattle.beldi_value.specs.declared.place.Owner.TheVariants.{Intent, Tx}
+
+-- by ticket, and then by hops in dictionary order, a proper prefix first
+abbrev pub id_cmp : IntentId → IntentId → Ordering
+id_cmp a b = ordering_then (nat_cmp a.ticket b.ticket) (slice_cmp nat_cmp a.hops b.hops)
+
+-- a is older than b
+abbrev pub is_older : IntentId → IntentId → Bool
+is_older a b = is_lt (id_cmp a b)
+
+-- the id of a root
+abbrev pub root_of : ℕ → IntentId
+root_of ticket = record { ticket = ticket; hops = [] }
+
+-- the id of what an intent calls at a step
+abbrev pub child_of : IntentId → ℕ → IntentId
+child_of a step = record { ticket = a.ticket; hops = a.hops ++ step ∷ [] }
+
+-- no call leads to it
+abbrev pub has_no_hops : List ℕ → Bool
+has_no_hops [] = true
+has_no_hops (h ∷ hs) = false
+
+-- where an intent of a function has its rows: a root at 0, a callee at its function
+abbrev pub home_of : IntentId → ℕ → ℕ
+home_of a func = if has_no_hops a.hops then 0 else func
+
+-- an id as a pair
+abbrev pub coded_id : Coded IntentId
+coded_id = code_by (ℕ × List ℕ) (coded× coded_ℕ (coded_list coded_ℕ)) (λ a. (a.ticket, a.hops)) (λ p. record { ticket = p.0; hops = p.1 }) (λ _. refl)
+
+-- an owner's age is its intent
+abbrev pub age_of : Owner → IntentId
+age_of (Intent id) = id
+age_of (Tx tx) = tx.intent
+
+-- the order is total
+pub id_total : IsTotalOrder id_cmp
+id_total = then_total (on_total (λ a. a.ticket) nat_cmp_total) (on_total (λ a. a.hops) nat_list_cmp_total)
+
+-- both parts of an order that compares alike do
+pub then_both : (o p : Ordering) → ordering_then o p ≡ Equal → (o ≡ Equal) × (p ≡ Equal)
+then_both Less p h = cc
+then_both Equal p h = (refl, h)
+then_both Greater p h = cc
+
+-- ids that compare alike are one
+pub id_exact : IsAntisymmetric id_cmp
+id_exact a b h =
+    let e = then_both (nat_cmp a.ticket b.ticket) (slice_cmp nat_cmp a.hops b.hops) h in
+    λ i. record { ticket = nat_cmp-IsAntisymmetric a.ticket b.ticket e.0 i; hops = slice_cmp-IsAntisymmetric nat_cmp-IsAntisymmetric a.hops b.hops e.1 i }

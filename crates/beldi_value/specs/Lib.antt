@@ -1,0 +1,10 @@
+pub mod Datum
+pub mod Falls
+pub mod Id
+pub mod Injective
+pub mod Json
+pub mod Laws
+pub mod Number
+pub mod Same
+pub mod Text
+pub mod Value

@@ -1,0 +1,66 @@
+// How an instance of a function ends.
+ghost use Rattle.std.specs.Prelude.{◌≡◌, IfOk};
+
+use crate::id::IntentId;
+use crate::place::Place;
+use crate::value::Value;
+use std::alloc::{AllocError, Global};
+
+/// Why a function stopped before its return.
+#[derive(Clone, Copy, Debug, PartialEq, Eq)]
+pub enum Code {
+    WrongType,
+    Overflow,
+    DivideByZero,
+    Steps,
+    LocksHeld,
+    ValueTooLarge,
+    NoTx,
+}
+
+/// Why a transaction was aborted: the place, and the older owner that stood in the way, if any.
+#[derive(Drop)]
+pub struct Cause {
+    pub place: Place,
+    pub holder: Option<IntentId>,
+}
+
+impl Cause {
+    /// An equal cause.
+    pub fn copy(&self, alloc: Global) -> Result<Cause, AllocError>
+        ensures { IfOk result (λ c. c ≡ self.now) }
+    {
+        let place = self.place.copy(alloc)?;
+        match &self.holder {
+            None => Ok(Cause {
+                place,
+                holder: None,
+            }),
+            Some(holder) => Ok(Cause {
+                place,
+                holder: Some(holder.copy(alloc)?),
+            }),
+        }
+    }
+}
+
+/// What an instance gives back. The outcome of a root is never `Aborted`.
+#[derive(Drop)]
+pub enum Outcome {
+    Value(Value),
+    Fault(Code),
+    Aborted(Cause),
+}
+
+impl Outcome {
+    /// An equal outcome.
+    pub fn copy(&self, alloc: Global) -> Result<Outcome, AllocError>
+        ensures { IfOk result (λ o. o ≡ self.now) }
+    {
+        match self {
+            Outcome::Value(value) => Ok(Outcome::Value(value.copy(alloc)?)),
+            Outcome::Fault(code) => Ok(Outcome::Fault(*code)),
+            Outcome::Aborted(cause) => Ok(Outcome::Aborted(cause.copy(alloc)?)),
+        }
+    }
+}
