@@ -9,6 +9,8 @@ mod ending;
 mod output;
 mod program;
 mod session;
+#[cfg(test)]
+mod tests;
 
 use beldi_outside::{ClosedLink, MemClock, StdSink, StdSource};
 use beldi_table::MapTable;
