@@ -1,4 +1,5 @@
 pub mod Replies
+pub mod Right
 pub mod RunMaps
 pub mod Steps
 pub mod Turns

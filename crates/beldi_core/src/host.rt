@@ -93,6 +93,7 @@ impl<T: Table> Host<T> {
     ghost use Rattle.beldi_core.specs.declared.survey.ReplySeen.TheVariants.{Unknown};
     ghost use Rattle.beldi_core.specs.Runs.{next_number};
     ghost use Rattle.beldi_core.specs.Host.{core_of, Carried, written, with_runs};
+    ghost use Rattle.beldi_core.specs.Right.{IsRight, HasLegalBook, RowsStand, ListsRun, TellsRun, HasNoRows, StandsAt};
 
     /// Opens a host over a table whose rows it keeps: sets the table's room, and reads all keys to find the newest
     /// ticket. `now` is the moment, in ticks. Where it refuses, it gives the table back.
@@ -105,6 +106,9 @@ impl<T: Table> Host<T> {
         requires { now ≤ 2 ^ 62 }
         ensures ok { IfOk result (λ h. Opened code h.code now (T.room h.table) (T.faults table) (T.faults h.table) (T.rows table) (T.rows h.table) (core_of h)) }
         ensures err { IfErr result (λ e. Refused (T.faults table) (T.faults e.0) (T.rows table) (T.rows e.0) e.1) }
+        ensures right { IfOk result (λ h. HasNoRows (T.rows table) → IsRight h) }
+        ensures legal { IfOk result (λ h. HasNoRows (T.rows table) → HasLegalBook h) }
+        ensures stands { IfOk result (λ h. HasNoRows (T.rows table) → RowsStand h) }
     {
         match prepare(alloc, code.room, &mut table) {
             Ok(newest) => Ok(Host {
@@ -123,7 +127,8 @@ impl<T: Table> Host<T> {
 
     /// Gives the table back.
     pub fn close(self) -> T
-        ensures { result ≡ self.table }
+        ensures table { result ≡ self.table }
+        ensures stands { IsRight self → StandsAt self.code (core_of self) (T.rows result) }
     {
         let Host {
             alloc: _,
@@ -147,7 +152,8 @@ impl<T: Table> Host<T> {
 
     /// The book.
     pub fn book(&self) -> &Book
-        ensures { result.now ≡ self.entry.now.book }
+        ensures book { result.now ≡ self.entry.now.book }
+        ensures legal { IsRight self.entry.now → HasLegalBook self.entry.now }
     {
         &self.book
     }
@@ -172,6 +178,20 @@ impl<T: Table> Host<T> {
         ensures err { OnErr result (out.new ≡ out.old) }
         ensures core { core_of self.new ≡ core_of self.old }
         ensures code { self.new.code ≡ self.old.code }
+        ensures right { IsRight self.old → IsRight self.new }
+        ensures legal { IsRight self.old → HasLegalBook self.new }
+        ensures stands { IsRight self.old → RowsStand self.new }
+        ensures listing { IsRight self.old → OnOk result (ListsRun self.old out.old out.new) }
+    {
+        self.list(out)
+    }
+
+    // The listing, by the rows alone.
+    fn list(&mut self, out: &mut Str) -> Result<(), OpenErr>
+        ensures reads { Reads (λ m u. out.new ≡ out.old ++ tables_text self.old.code m) (T.room self.old.table) (T.room self.new.table) (T.faults self.old.table) (T.faults self.new.table) (T.rows self.old.table) (T.rows self.new.table) result }
+        ensures err { OnErr result (out.new ≡ out.old) }
+        ensures core { core_of self.new ≡ core_of self.old }
+        ensures code { self.new.code ≡ self.old.code }
     {
         let text = list_tables(self.alloc, &self.code, &mut self.table)?;
         out.push_text(text.as_str())?;
@@ -184,6 +204,20 @@ impl<T: Table> Host<T> {
         ensures unknown { IfOk result (λ x. (x ≡ Unknown) ↔ IsTrue (is_unknown self.old.newest ticket)) }
         ensures core { core_of self.new ≡ core_of self.old }
         ensures code { self.new.code ≡ self.old.code }
+        ensures right { IsRight self.old → IsRight self.new }
+        ensures legal { IsRight self.old → HasLegalBook self.new }
+        ensures stands { IsRight self.old → RowsStand self.new }
+        ensures plain { IsRight self.old → IfOk result (λ x. TellsRun self.old ticket x) }
+    {
+        self.look(ticket)
+    }
+
+    // The reply, by its row alone.
+    fn look(&mut self, ticket: u32) -> Result<ReplySeen, OpenErr>
+        ensures reads { Reads (λ m x. x ≡ reply_seen self.old.newest ticket m) (T.room self.old.table) (T.room self.new.table) (T.faults self.old.table) (T.faults self.new.table) (T.rows self.old.table) (T.rows self.new.table) result }
+        ensures unknown { IfOk result (λ x. (x ≡ Unknown) ↔ IsTrue (is_unknown self.old.newest ticket)) }
+        ensures core { core_of self.new ≡ core_of self.old }
+        ensures code { self.new.code ≡ self.old.code }
     {
         if ticket == 0 || ticket > self.newest {
             return Ok(ReplySeen::Unknown);
@@ -191,9 +225,20 @@ impl<T: Table> Host<T> {
         read_reply(self.alloc, &mut self.table, ticket, self.now)
     }
 
-    /// Carries out one event. After want of memory nothing was done, but that a run that had the event is over; the act
-    /// of a turn may then have been made, and the book has its entry.
+    /// Carries out one event. After want of memory nothing was done, but that the event counts as taken, and that a run
+    /// that had it is over; the act of a turn may then have been made, and the book has its entry.
     pub fn event(&mut self, event: Event) -> Result<Seen, AllocError>
+        ensures step { Stepped self.old.code event (core_of self.old) (core_of self.new) (T.room self.old.table) (T.room self.new.table) (T.faults self.old.table) (T.faults self.new.table) (T.rows self.old.table) (T.rows self.new.table) result }
+        ensures code { self.new.code ≡ self.old.code }
+        ensures right { IsRight self.old → IsRight self.new }
+        ensures legal { IsRight self.old → HasLegalBook self.new }
+        ensures stands { IsRight self.old → RowsStand self.new }
+    {
+        self.step(event)
+    }
+
+    // One step of the definition.
+    fn step(&mut self, event: Event) -> Result<Seen, AllocError>
         ensures step { Stepped self.old.code event (core_of self.old) (core_of self.new) (T.room self.old.table) (T.room self.new.table) (T.faults self.old.table) (T.faults self.new.table) (T.rows self.old.table) (T.rows self.new.table) result }
         ensures code { self.new.code ≡ self.old.code }
     {

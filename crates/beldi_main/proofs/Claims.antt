@@ -1,11 +1,7 @@
 -- What a session over a table without rows leaves: a run without crashes.
 use Rattle.std.proofs.Common.{◌≡◌, ◌≤◌, ◌⊎◌, inl, inr, ℕ, length, arith, zero, suc, Bool, true, false, List, [], ◌∷◌, drop, Option, None, Some, IfSome, refl, ap, sym, ◌∙◌, subst}
 use Rattle.std.specs.FinMap as map
-use Rattle.std.specs.FinMap.{len-entries, len-empty}
 use Rattle.std.proofs.lemmas.Bool.{false≢true}
-use Rattle.std.proofs.lemmas.List.{nil_from_length}
-use Rattle.beldi_row.specs.Key.{key_cmp}
-use Rattle.beldi_row.specs.declared.row.Row.{Row}
 use Rattle.beldi_value.specs.declared.outcome.Outcome.{Outcome}
 use Rattle.beldi_lang.specs.declared.deployment.Deployment.{Deployment}
 use Rattle.beldi_row.specs.Table.{Rows}
@@ -17,11 +13,12 @@ use Rattle.beldi_step.specs.Host.{Core, first_core}
 use Rattle.beldi_step.specs.Session.{Runs}
 use Rattle.beldi_laws.specs.Laws.{starts_of, bound_in, TellOutcomes, HasReply}
 use Rattle.beldi_laws.specs.Right.{Right}
-use Rattle.beldi_laws.proofs.Events.{begins, runs_right, after_break}
+use Rattle.beldi_laws.proofs.Events.{runs_right, after_break}
 use Rattle.beldi_laws.proofs.Starts.{break_starts, outcomes_stay, session_starts, session_tells}
 use Rattle.beldi_laws.proofs.Standing.{right_stands}
 use Rattle.beldi_laws.proofs.Listing.{listing_plain}
-use Rattle.beldi_core.specs.Survey.{greatest, newest_of}
+use Rattle.beldi_core.specs.Survey.{newest_of}
+use Rattle.beldi_core.proofs.Right.{begins_right}
 use Rattle.beldi_script.specs.Cut.{lines_of}
 use Rattle.beldi_syntax.specs.declared.grammar.Parsed.{Parsed}
 use Rattle.beldi_syntax.specs.Grammar.{parsed_at}
@@ -65,12 +62,9 @@ broke_tells d es c b m n [] h s r = tt
 broke_tells d es c b m n (x ∷ xs) h s r = (λ t o is. broke_keeps d es c b m n t o h s (r.0 t o is), broke_tells d es c b m n xs h s r.1)
 
 -- ---- a session over no rows
-no_entries : map.entries (map.empty {X = Row} {R = key_cmp}) ≡ []
-no_entries = nil_from_length (map.entries (map.empty {X = Row} {R = key_cmp})) (sym (len-entries (map.empty {X = Row} {R = key_cmp})) ∙ len-empty key_cmp Row)
-
 module _ (d : Deployment) (room : ℕ) (es more : List Event) (xs : List Seen) (m o n : Rows) (f g : ℕ) (last b : Core) (a : Answered d room es (first_core (newest_of m) 0) m f last o g xs) (s : BrokeOff d more last o b n) (none : m ≡ map.empty) where
   right_before : Right d (first_core (newest_of m) 0) m
-  right_before = subst (λ (y : Rows). Right d (first_core (newest_of y) 0) y) (sym none) (subst (λ (k : ℕ). Right d (first_core k 0) map.empty) (sym (ap greatest no_entries)) (begins d 0))
+  right_before = begins_right d 0 m none
 
   runs : Runs d room es (first_core (newest_of m) 0) m last o xs
   runs = runs_of d room es (first_core (newest_of m) 0) m f last o g xs a

@@ -7,6 +7,8 @@
 mod answer;
 mod ending;
 mod output;
+#[cfg(test)]
+mod plain_tests;
 mod program;
 mod session;
 #[cfg(test)]

@@ -11,38 +11,16 @@ const SOURCE: &[u8] =
 const WHOLE: &[u8] =
     b"ticket 1\nbound 1 run 1\nacted\nacted\nacted\nacted step 1\nacted step 1 over\nreply 1 value 7\n== tables\nf t \"k\" 7\n== book\nstart 1 f 7\nstep 1\nstep 1\n";
 
-fn numbers(alloc: Global, numbers: &[u32]) -> Result<Vec<u32>, Fail> {
-    let mut all = Vec::new(alloc);
-    for number in numbers {
-        all.push(*number)?;
-    }
-    Ok(all)
-}
-
-fn bytes(alloc: Global, text: &[u8]) -> Result<Vec<u8>, Fail> {
-    let mut all = Vec::new(alloc);
-    for byte in text {
-        all.push(*byte)?;
-    }
-    Ok(all)
-}
-
-fn words(alloc: Global, word: &str) -> Result<Vec<Str>, Fail> {
-    let mut words = Vec::new(alloc);
-    words.push(Str::from_text(alloc, word)?)?;
-    Ok(words)
-}
-
-// The status, and whether the sink got this text, where these calls of the source, the sink and the table fail.
+// The status with which `run` ends over a table that fails these calls.
 fn ends(
     alloc: Global,
-    word: &str,
     source: &mut MemSource,
     sink: &mut MemSink,
-    acts: &[u32],
+    calls: &[u32],
 ) -> Result<u8, Fail> {
-    let words = words(alloc, word)?;
-    let table = FailingTable::new(alloc, numbers(alloc, acts)?);
+    let mut words = Vec::new(alloc);
+    words.push(Str::from_text(alloc, "run")?)?;
+    let table = FailingTable::new(alloc, Vec::from_slice(alloc, calls)?);
     let mut link = ClosedLink::new();
     let mut clock = MemClock::new(Vec::new(alloc));
     let (status, _table) = top(
@@ -64,9 +42,12 @@ fn path_ends(
     wanted: u8,
     text: &[u8],
 ) -> Result<bool, Fail> {
-    let mut source = MemSource::new(bytes(alloc, SOURCE)?, numbers(alloc, fail.0)?);
-    let mut sink = MemSink::new(alloc, numbers(alloc, fail.1)?);
-    let status = ends(alloc, "run", &mut source, &mut sink, fail.2)?;
+    let mut source = MemSource::new(
+        Vec::from_slice(alloc, SOURCE)?,
+        Vec::from_slice(alloc, fail.0)?,
+    );
+    let mut sink = MemSink::new(alloc, Vec::from_slice(alloc, fail.1)?);
+    let status = ends(alloc, &mut source, &mut sink, fail.2)?;
     Ok(status == wanted && sink.as_slice() == text)
 }
 
@@ -139,9 +120,9 @@ fn a_call_of_the_table_that_fails_is_answered(rt: HostRuntime) -> Result<(), Fai
 
 // Whether the smallest path, read and written a byte at a time, ends so where this write fails.
 fn bytes_end(alloc: Global, write: u32, wanted: u8, text: &[u8]) -> Result<bool, Fail> {
-    let mut source = MemSource::with_piece(bytes(alloc, SOURCE)?, numbers(alloc, &[])?, 1);
-    let mut sink = MemSink::with_piece(alloc, numbers(alloc, &[write])?, 1);
-    let status = ends(alloc, "run", &mut source, &mut sink, &[])?;
+    let mut source = MemSource::with_piece(Vec::from_slice(alloc, SOURCE)?, Vec::new(alloc), 1);
+    let mut sink = MemSink::with_piece(alloc, Vec::from_slice(alloc, [write].as_slice())?, 1);
+    let status = ends(alloc, &mut source, &mut sink, &[])?;
     Ok(status == wanted && sink.as_slice() == text)
 }
 

@@ -32,7 +32,7 @@ pub struct TurnSays {
 /// Why a run did not come to the end of a turn.
 #[derive(Drop)]
 pub enum TurnErr {
-    /// The act was not made.
+    /// The act was not made; or it was a look, which changes no row, and then memory was wanting.
     Stopped(TableErr),
     /// The act was made, and then memory was wanting. It made this entry, if any.
     Lost(Option<Entry>),

@@ -19,7 +19,7 @@ returns-in-Ok-clause-session g c =
     let rows = t.rows c.args.table in
     let f = t.faults c.args.table in
     let done = hosted c.args.code first.code (t.room first.table) f (t.faults first.table) (t.faults last.table) (core_of first) lines r rows (t.rows first.table) (t.rows last.table) ha hb c.in-Ok.ensures.ok c.run_script-ran.ensures.done in
-    let closed = subst (λ (x : g.row.T.Denot). OnTold rows (t.rows x) ha hb (λ m n h k. SessionOn Anything c.args.code lines m n f (t.faults x) h k (end_of r))) (sym c.close.ensures) done in
+    let closed = subst (λ (x : g.row.T.Denot). OnTold rows (t.rows x) ha hb (λ m n h k. SessionOn Anything c.args.code lines m n f (t.faults x) h k (end_of r))) (sym c.close.ensures.table) done in
     subst (λ (e : Ended). OnTold rows (t.rows c.close.result) ha hb (λ m n h k. SessionOn Anything c.args.code lines m n f (t.faults c.close.result) h k e)) (sym c.end_of.ensures) closed
 
 pub returns-in-Err-default-OutOfMemory-clause-session :

@@ -1,14 +1,12 @@
-use Rattle.std.proofs.Common.{rules, arith, subst}
-use Rattle.beldi_step.specs.declared.event.Event.{Event}
-use Rattle.beldi_step.specs.Host.{Stepped}
-use Rattle.beldi_core.specs.Host.{core_of}
-use Rattle.beldi_core.proofs.Turns.{stepped}
+use Rattle.std.proofs.Common.{rules}
+use Rattle.beldi_core.proofs.Right.{legal_at, stands_at, event_keeps}
 use Rattle.beldi_core.proofs.host.Host.event.Goals as goal
 
-pub returns-in-Turn-clause-step : goal.returns-in-Turn-clause-step
-returns-in-Turn-clause-step g c =
-    let t = g.T.Table in
-    let h = c.args.self.now in
-    let k = c.turn.new.self in
-    subst (λ (e : Event). Stepped h.code e (core_of h) (core_of k) (t.room h.table) (t.room k.table) (t.faults h.table) (t.faults k.table) (t.rows h.table) (t.rows k.table) c.turn.result) (search rules)
-    (stepped h.code (core_of h) (core_of k) c.in-Turn.run' (t.room h.table) (t.room k.table) (t.faults h.table) (t.faults k.table) (t.rows h.table) (t.rows k.table) c.turn.result (omega arith) c.turn.ensures.carried)
+pub returns-clause-right : goal.returns-clause-right
+returns-clause-right g c = search (rules, event_keeps)
+
+pub returns-clause-legal : goal.returns-clause-legal
+returns-clause-legal g c = search (rules, legal_at, event_keeps)
+
+pub returns-clause-stands : goal.returns-clause-stands
+returns-clause-stands g c = search (rules, stands_at, event_keeps)

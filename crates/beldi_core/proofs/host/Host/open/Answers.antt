@@ -1,0 +1,14 @@
+use Rattle.std.proofs.Common.{rules}
+use Rattle.beldi_core.proofs.Right.{legal_at, stands_at, opened}
+use Rattle.beldi_core.proofs.host.Host.open.Goals as goal
+
+pub returns-in-Ok-clause-right : goal.returns-in-Ok-clause-right
+returns-in-Ok-clause-right g c =
+    let t = g.T.Table in
+    opened c.args.code _ c.args.now (t.rows c.args.table) (t.rows c.prepare.new.table) (search rules) c.in-Ok.ensures.rows
+
+pub returns-in-Ok-clause-legal : goal.returns-in-Ok-clause-legal
+returns-in-Ok-clause-legal g c = λ r. legal_at c.args.code _ (g.T.Table.rows c.prepare.new.table) (returns-in-Ok-clause-right g c r)
+
+pub returns-in-Ok-clause-stands : goal.returns-in-Ok-clause-stands
+returns-in-Ok-clause-stands g c = λ r. stands_at c.args.code _ (g.T.Table.rows c.prepare.new.table) (returns-in-Ok-clause-right g c r)

@@ -1,0 +1,17 @@
+use Rattle.std.proofs.Common.{rules}
+use Rattle.beldi_core.specs.Host.{core_of}
+use Rattle.beldi_core.proofs.Right.{legal_at, stands_at, said}
+use Rattle.beldi_core.proofs.host.Host.reply.Goals as goal
+
+pub returns-clause-legal : goal.returns-clause-legal
+returns-clause-legal g c = search (rules, legal_at)
+
+pub returns-clause-stands : goal.returns-clause-stands
+returns-clause-stands g c = search (rules, stands_at)
+
+pub returns-clause-plain : goal.returns-clause-plain
+returns-clause-plain g c =
+    let t = g.T.Table in
+    let h = c.args.self.now in
+    let k = c.look.new.self in
+    said h.code (core_of h) c.args.ticket (t.room h.table) (t.room k.table) (t.faults h.table) (t.faults k.table) (t.rows h.table) (t.rows k.table) c.look.result c.look.ensures.reads
