@@ -1,7 +1,8 @@
 // Text on its way to the sink.
-ghost use Rattle.std.specs.Prelude.{◌≡◌, ◌≤◌, [], OnOk, OnErr};
+ghost use Rattle.std.specs.Prelude.{◌≡◌, ◌≤◌, [], length, nat_lt, if◌then◌else◌, IfErr, OnOk, OnErr};
 ghost use Rattle.beldi_outside.specs.Outside.{Rose, Told};
 ghost use Rattle.beldi_main.specs.Session.{Flushed};
+ghost use Rattle.beldi_main.specs.declared.session.Stop.TheVariants.{SinkFault};
 
 use crate::session::Stop;
 use beldi_outside::{Sink, write_all};
@@ -15,6 +16,7 @@ pub fn flush<K: Sink>(sink: &mut K, waiting: &mut Str) -> Result<(), Stop>
     ensures text { Told (K.held sink.old) (K.held sink.new) (Flushed waiting.old waiting.new result) }
     ensures later { K.faults sink.old ≤ K.faults sink.new }
     ensures fault { OnErr result (Rose (K.faults sink.old) (K.faults sink.new)) }
+    ensures cause { IfErr result (λ e. e ≡ SinkFault) }
     ensures empty { OnOk result (waiting.new ≡ []) }
 {
     match write_all(sink, waiting.as_bytes()) {
@@ -31,6 +33,9 @@ pub fn flush_if_long<K: Sink>(sink: &mut K, waiting: &mut Str) -> Result<(), Sto
     ensures text { Told (K.held sink.old) (K.held sink.new) (Flushed waiting.old waiting.new result) }
     ensures later { K.faults sink.old ≤ K.faults sink.new }
     ensures fault { OnErr result (Rose (K.faults sink.old) (K.faults sink.new)) }
+    ensures cause { IfErr result (λ e. e ≡ SinkFault) }
+    ensures short { OnOk result (waiting.new ≡ (if nat_lt (length waiting.old) 65536 then waiting.old else [])) }
+    ensures long { OnErr result (65536 ≤ length waiting.old) }
 {
     if waiting.len() < PIECE {
         Ok(())
