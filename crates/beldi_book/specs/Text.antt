@@ -11,7 +11,7 @@ use Rattle.beldi_lang.specs.declared.deployment.Func.{Func}
 use Rattle.beldi_lang.specs.declared.deployment.TableHead.{TableHead}
 use Rattle.beldi_lang.specs.Wants.{func_at}
 use Rattle.beldi_book.specs.declared.entry.Entry.{Entry}
-use Rattle.beldi_book.specs.declared.entry.Entry.TheVariants.{Start, Step}
+use Rattle.beldi_book.specs.declared.entry.Entry.TheVariants.{Start, Read, Step}
 
 abbrev pub name_or : ℕ → Option Func → List ℕ
 name_or n None = decimal n
@@ -23,6 +23,7 @@ func_text d n = name_or n (func_at d n)
 
 abbrev pub entry_text : Deployment → Entry → List ℕ
 entry_text d (Start t f a) = codes "start " ++ (decimal t ++ (codes " " ++ (func_text d f ++ (codes " " ++ text_of (datum_of a)))))
+entry_text d (Read id seen) = codes "read " ++ (id_text id ++ (codes " " ++ decimal seen))
 entry_text d (Step id) = codes "step " ++ id_text id
 
 -- a line for each entry

@@ -1,7 +1,8 @@
 // The entries of a book, and their text.
-ghost use Rattle.std.specs.Prelude.{◌≡◌, ◌++◌, OnOk, OnErr, IfOk, string_bytes, codes};
+ghost use Rattle.std.specs.Prelude.{◌≡◌, ◌++◌, OnOk, OnErr, IfOk, is_none, string_bytes, codes};
 ghost use Rattle.std.specs.Fmt.{decimal};
 ghost use Rattle.beldi_book.specs.Text.{entry_text, func_text};
+ghost use Rattle.beldi_book.specs.Order.{seen_of};
 
 use beldi_lang::Deployment;
 use beldi_value::{IntentId, Str, Value};
@@ -12,7 +13,9 @@ use std::alloc::{AllocError, Global};
 pub enum Entry {
     /// A root was started.
     Start { ticket: u32, func: u16, args: Value },
-    /// An instance made its next step.
+    /// An instance made its next step, which was a read. `seen` changes had been made when it read.
+    Read { id: IntentId, seen: u64 },
+    /// An instance made its next step, which was no read.
     Step { id: IntentId },
 }
 
@@ -27,10 +30,21 @@ impl Entry {
                 func: *func,
                 args: args.copy(alloc)?,
             }),
+            Entry::Read { id, seen } => Ok(Entry::Read {
+                id: id.copy(alloc)?,
+                seen: *seen,
+            }),
             Entry::Step { id } => Ok(Entry::Step {
                 id: id.copy(alloc)?,
             }),
         }
+    }
+
+    /// Whether it is a change: any entry but a read.
+    pub fn is_change(&self) -> bool
+        ensures { result ≡ is_none (seen_of self.now) }
+    {
+        !matches!(self, Entry::Read { .. })
     }
 
     /// Appends the text of the entry, without an end of line.
@@ -42,11 +56,17 @@ impl Entry {
         match self {
             Entry::Start { ticket, func, args } => {
                 text.push_text("start ")?;
-                write_number(alloc, *ticket, &mut text)?;
+                write_number(alloc, u64::from(*ticket), &mut text)?;
                 text.push_text(" ")?;
                 write_func(alloc, code, *func, &mut text)?;
                 text.push_text(" ")?;
                 args.write_json(alloc, &mut text)?;
+            }
+            Entry::Read { id, seen } => {
+                text.push_text("read ")?;
+                id.write(alloc, &mut text)?;
+                text.push_text(" ")?;
+                write_number(alloc, *seen, &mut text)?;
             }
             Entry::Step { id } => {
                 text.push_text("step ")?;
@@ -57,7 +77,7 @@ impl Entry {
     }
 }
 
-fn write_number(alloc: Global, number: u32, out: &mut Str) -> Result<(), AllocError>
+fn write_number(alloc: Global, number: u64, out: &mut Str) -> Result<(), AllocError>
     ensures { OnOk result (out.new ≡ out.old ++ decimal number) }
 {
     let text = number.to_string(alloc)?;

@@ -87,6 +87,33 @@ fn books_keep_entries(rt: HostRuntime) -> Result<(), Fail> {
     Ok(())
 }
 
+fn read(alloc: Global, ticket: u32, seen: u64) -> Entry {
+    Entry::Read {
+        id: IntentId::root(alloc, ticket),
+        seen,
+    }
+}
+
+#[test]
+fn reads_stand_where_they_were_made(rt: HostRuntime) -> Result<(), Fail> {
+    let alloc = rt.alloc();
+    let code = deployment(alloc)?;
+    let mut book = Book::new(alloc);
+    push(&mut book, start(7, 1, Value::Null))?;
+    push(&mut book, step(alloc)?)?;
+    for (ticket, seen) in [(1, 1), (2, 2), (3, 1), (4, 9), (5, 0)] {
+        push(&mut book, read(alloc, ticket, seen))?;
+    }
+    assert!(rt; book.len() == 7 && book.changes() == 2);
+    let mut out = Str::new(alloc);
+    book.linear(alloc)?.write(alloc, &code, &mut out)?;
+    assert_eq!(rt;
+        out.as_str(),
+        "read 5 0\nstart 7 f null\nread 1 1\nread 3 1\nstep 7/0/9\nread 2 2\nread 4 9\n"
+    );
+    Ok(())
+}
+
 fn item(alloc: Global, code: &Deployment, func: u16, table: u16) -> Result<Str, AllocError> {
     let key = Str::from_text(alloc, "k\n")?;
     let mut out = Str::new(alloc);

@@ -10,7 +10,7 @@ use Rattle.beldi_row.specs.declared.table.TableErr.{TableErr}
 use Rattle.beldi_row.specs.Act.{act, tell_of}
 use Rattle.beldi_row.specs.Table.{Rows, Acted, ActedOn}
 use Rattle.beldi_row.proofs.Tells.{tells_map}
-use Rattle.beldi_step.proofs.Asked.{looked}
+use Rattle.beldi_row.proofs.Unchanged.{looked}
 use Rattle.beldi_core.specs.declared.survey.OpenErr.{OpenErr}
 use Rattle.beldi_core.specs.declared.survey.OpenErr.TheVariants.{OutOfMemory}
 use Rattle.beldi_core.specs.declared.survey.ReplySeen.{ReplySeen}

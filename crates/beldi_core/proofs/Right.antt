@@ -27,16 +27,22 @@ use Rattle.beldi_core.specs.Survey.{Reads, greatest, newest_of, outcome_seen, ro
 use Rattle.beldi_core.specs.declared.survey.OpenErr.{OpenErr}
 use Rattle.beldi_core.specs.declared.survey.ReplySeen.{ReplySeen}
 use Rattle.beldi_core.specs.declared.survey.ReplySeen.TheVariants.{Unknown}
-use Rattle.beldi_core.specs.Right.{RightAt, LegalAt, StandsAt, HasNoRows, ListedAt, HasNoReply, SaidOf, SaidAt}
+use Rattle.beldi_laws.specs.OneAnswer.{AnswersStay}
+use Rattle.beldi_laws.proofs.OneAnswer.{one_answer, answers_stay}
+use Rattle.beldi_core.specs.Right.{RightAt, LegalAt, StandsAt, OneAnswerAt, StayAt, HasNoRows, ListedAt, HasNoReply, SaidOf, SaidAt}
 
 -- ---- what follows where it is right
 pub legal_at : (d : Deployment) (c : Core) (told : Option Rows) → RightAt d c told → LegalAt d c told
 legal_at d c None h = tt
-legal_at d c (Some m) h = record { run = h.plain; legal = h.legal }
+legal_at d c (Some m) h = record { bounded = h.bounded; run = h.plain; legal = h.legal }
 
 pub stands_at : (d : Deployment) (c : Core) (told : Option Rows) → RightAt d c told → StandsAt d c told
 stands_at d c None h = tt
 stands_at d c (Some m) h = λ p is. right_stands d c m p h is
+
+pub one_answer_at : (d : Deployment) (c : Core) (told : Option Rows) → RightAt d c told → OneAnswerAt d c told
+one_answer_at d c None h = tt
+one_answer_at d c (Some m) h = one_answer d c m h
 
 -- ---- the host after a call
 module _ (d : Deployment) (c b : Core) where
@@ -45,15 +51,26 @@ module _ (d : Deployment) (c b : Core) where
   keeps P (Some m) None f t h = absurd t
   keeps P (Some m) (Some n) f t h = f m n t h
 
-event_on : (d : Deployment) (room : ℕ) (e : Event) (c b : Core) (m n : Rows) (x : Result Seen AllocError) → EventOn d room e c m b n x → Right d c m → Right d b n
-event_on d room e c b m n (Ok x) s h = (after_event d room e c b m n x h s).right
-event_on d room e c b m n (Err w) s h = after_break d e c b m n h s.1
+event_on : (d : Deployment) (room old new : ℕ) (e : Event) (c b : Core) (m n : Rows) (x : Result Seen AllocError) → EventOn d room old new e c m b n x → Right d c m → Right d b n
+event_on d room old new e c b m n (Ok x) s h = (after_event d room old new e c b m n x h s).right
+event_on d room old new e c b m n (Err w) s h = (after_break d e c b m n h s.1).right
+
+-- what the rows held stays
+stays_on : (d : Deployment) (room old new : ℕ) (e : Event) (c b : Core) (m n : Rows) (x : Result Seen AllocError) → EventOn d room old new e c m b n x → Right d c m → AnswersStay m n
+stays_on d room old new e c b m n (Ok x) s h = let a = after_event d room old new e c b m n x h s in answers_stay d m n h.plain a.right.plain h.rows a.right.rows a.goes_on
+stays_on d room old new e c b m n (Err w) s h = let a = after_break d e c b m n h s.1 in answers_stay d m n h.plain a.right.plain h.rows a.right.rows a.goes_on
+
+pub event_stays : (d : Deployment) (e : Event) (c b : Core) (room new_room faults new_faults : ℕ) (before after : Option Rows) (x : Result Seen AllocError)
+    → Stepped d e c b room new_room faults new_faults before after x → RightAt d c before → StayAt before after
+event_stays d e c b room new_room faults new_faults None after x s h = tt
+event_stays d e c b room new_room faults new_faults (Some m) None x s h = absurd s.rows
+event_stays d e c b room new_room faults new_faults (Some m) (Some n) x s h = stays_on d room faults new_faults e c b m n x s.rows h
 
 -- an event
 pub event_keeps : (d k : Deployment) (e : Event) (c b : Core) (room new_room faults new_faults : ℕ) (before after : Option Rows) (x : Result Seen AllocError)
     → k ≡ d → Stepped d e c b room new_room faults new_faults before after x → RightAt d c before → RightAt k b after
 event_keeps d k e c b room new_room faults new_faults before after x code s h =
-    subst (λ (z : Deployment). RightAt z b after) (sym code) (keeps d c b (λ m n. EventOn d room e c m b n x) before after (λ m n p r. event_on d room e c b m n x p r) s.rows h)
+    subst (λ (z : Deployment). RightAt z b after) (sym code) (keeps d c b (λ m n. EventOn d room faults new_faults e c m b n x) before after (λ m n p r. event_on d room faults new_faults e c b m n x p r) s.rows h)
 
 -- ---- a host that was opened over no rows
 no_entries : map.entries (map.empty {X = Row} {R = key_cmp}) ≡ []

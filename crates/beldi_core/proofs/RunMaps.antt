@@ -23,6 +23,7 @@ use Rattle.beldi_step.specs.declared.turn.TurnErr.{TurnErr}
 use Rattle.beldi_step.specs.declared.turn.TurnErr.TheVariants.{Lost, Stopped}
 use Rattle.beldi_step.specs.Run.{Turned}
 use Rattle.beldi_step.specs.Host.{put_run, is_none}
+use Rattle.beldi_laws.proofs.Lives.{remove_put}
 use Rattle.beldi_step.specs.Turn.{Ran, RanOn, going, turned_by}
 use Rattle.beldi_core.specs.Runs.{RunMap, AllGiven, withdrawn, says_of, ends_run, settled, Led, LedOn, first_past, next_number}
 
@@ -32,22 +33,9 @@ one_removed es fs k h = same_map nat_cmp_total nat_cmp-IsAntisymmetric _ _ (λ q
     get_rows nat_cmp_total nat_cmp-IsAntisymmetric fs q ∙ h q ∙ ap (λ b. cond b None (lookup (is_at (nat_cmp q)) es)) ((eq_by_cmp_equiv nat_cmp_total).symm k q)
     ∙ sym (get-remove nat_cmp_total (map.from_entries es) k q ∙ ap (cond (is_at (nat_cmp q) k) None) (get_rows nat_cmp_total nat_cmp-IsAntisymmetric es q)))
 
-taken : (b : Bool) (o : Option Run) (r : Run) → cond b None (cond b (Some r) o) ≡ cond b None o
-taken true o r = refl
-taken false o r = refl
-
 -- what was set is taken out
 pub remove_set : (m : RunMap) (k : ℕ) (r : Run) → map.remove (map.insert m k r) k ≡ map.remove m k
-remove_set m k r = same_map nat_cmp_total nat_cmp-IsAntisymmetric _ _ (λ q.
-    get-remove nat_cmp_total (map.insert m k r) k q ∙ ap (cond (eq_by_cmp nat_cmp q k) None) (get-insert nat_cmp_total m k r q) ∙ taken (eq_by_cmp nat_cmp q k) (map.get m q) r ∙ sym (get-remove nat_cmp_total m k q))
-
-twice : (b : Bool) (o : Option Run) → cond b None (cond b None o) ≡ cond b None o
-twice true o = refl
-twice false o = refl
-
-pub remove_twice : (m : RunMap) (k : ℕ) → map.remove (map.remove m k) k ≡ map.remove m k
-remove_twice m k = same_map nat_cmp_total nat_cmp-IsAntisymmetric _ _ (λ q.
-    get-remove nat_cmp_total (map.remove m k) k q ∙ ap (cond (eq_by_cmp nat_cmp q k) None) (get-remove nat_cmp_total m k q) ∙ twice (eq_by_cmp nat_cmp q k) (map.get m q) ∙ sym (get-remove nat_cmp_total m k q))
+remove_set m k r = remove_put m k (Some r)
 
 -- ---- no number past the last has a run
 both_none : (b : Bool) (o : Option Run) → o ≡ None → cond b None o ≡ None
@@ -101,18 +89,18 @@ over_back s false = refl
 says_back : (s : Run) (x : TurnSays) → x ≡ says_of (turned_by s x)
 says_back s x = λ j. record { entry = x.entry; over = sym (over_back s x.over) j; reply = x.reply }
 
-led_on : (d : Deployment) (a b : RunMap) (i : ℕ) (r s : Run) (now room : ℕ) (m n : Rows) (x : Result TurnSays TurnErr) → b ≡ settled (ends_run x) (map.insert a i s) i → map.get a i ≡ Some r → RanOn d r r.at s now room m n x → LedOn d a b i (Some r) now room m n x
-led_on d a b i r s now room m n (Ok x) is here h = (h.0, is ∙ put_back a i s x.over ∙ ap (λ (t : Turned). put_run a i t.next) h.1, says_back s x ∙ ap says_of h.1, h.2)
-led_on d a b i r s now room m n (Err (Lost e)) is here h = (h.0, is ∙ remove_set a i s, h.1)
-led_on d a b i r s now room m n (Err (Stopped OutOfMemory)) is here h = (h, is ∙ remove_set a i s)
-led_on d a b i r s now room m n (Err (Stopped Failed)) is here h = (h, is ∙ remove_set a i s)
-led_on d a b i r s now room m n (Err (Stopped (Full live most))) is here h = (h.0, is ∙ ap (map.insert a i) h.1 ∙ same_set nat_cmp_total nat_cmp-IsAntisymmetric a i r here, h.2, h.3, h.4, h.5)
+led_on : (d : Deployment) (changes : ℕ) (a b : RunMap) (i : ℕ) (r s : Run) (now room : ℕ) (m n : Rows) (x : Result TurnSays TurnErr) → b ≡ settled (ends_run x) (map.insert a i s) i → map.get a i ≡ Some r → RanOn d r changes r.at s now room m n x → LedOn d changes a b i (Some r) now room m n x
+led_on d changes a b i r s now room m n (Ok x) is here h = (h.0, is ∙ put_back a i s x.over ∙ ap (λ (t : Turned). put_run a i t.next) h.1, says_back s x ∙ ap says_of h.1, h.2)
+led_on d changes a b i r s now room m n (Err (Lost e)) is here h = (h.0, is ∙ remove_set a i s, h.1, h.2)
+led_on d changes a b i r s now room m n (Err (Stopped OutOfMemory)) is here h = (h, is ∙ remove_set a i s)
+led_on d changes a b i r s now room m n (Err (Stopped Failed)) is here h = (h, is ∙ remove_set a i s)
+led_on d changes a b i r s now room m n (Err (Stopped (Full live most))) is here h = (h.0, is ∙ ap (map.insert a i) h.1 ∙ same_set nat_cmp_total nat_cmp-IsAntisymmetric a i r here, h.2, h.3, h.4, h.5)
 
-pub led : (d : Deployment) (a b c : RunMap) (i : ℕ) (r s : Run) (now room new_room faults new_faults : ℕ) (before after : Option Rows) (x : Result TurnSays TurnErr) → map.get a i ≡ Some r → b ≡ map.insert a i s → c ≡ settled (ends_run x) b i
-    → Ran d r r.at s now room new_room faults new_faults before after x → Led d a c i now room new_room faults new_faults before after x
-led d a b c i r s now room new_room faults new_faults before after x here set is h = record {
-  rows = tells_map {P = λ m n. RanOn d r r.at s now room m n x} {Q = λ m n. LedOn d a c i (map.get a i) now room m n x} before after
-      (λ m n p. subst (λ (o : Option Run). LedOn d a c i o now room m n x) (sym here) (led_on d a c i r s now room m n x (is ∙ ap (λ q. settled (ends_run x) q i) set) here p)) h.rows;
+pub led : (d : Deployment) (changes : ℕ) (a b c : RunMap) (i : ℕ) (r s : Run) (now room new_room faults new_faults : ℕ) (before after : Option Rows) (x : Result TurnSays TurnErr) → map.get a i ≡ Some r → b ≡ map.insert a i s → c ≡ settled (ends_run x) b i
+    → Ran d r changes r.at s now room new_room faults new_faults before after x → Led d changes a c i now room new_room faults new_faults before after x
+led d changes a b c i r s now room new_room faults new_faults before after x here set is h = record {
+  rows = tells_map {P = λ m n. RanOn d r changes r.at s now room m n x} {Q = λ m n. LedOn d changes a c i (map.get a i) now room m n x} before after
+      (λ m n p. subst (λ (o : Option Run). LedOn d changes a c i o now room m n x) (sym here) (led_on d changes a c i r s now room m n x (is ∙ ap (λ q. settled (ends_run x) q i) set) here p)) h.rows;
   later = h.later;
   failed = h.failed;
   room = h.room;

@@ -17,6 +17,12 @@ refused_by OutOfMemory = Err (record {})
 refused_by Failed = Ok seen.Dropped
 refused_by (Full live room) = Ok (seen.Full live room)
 
+-- .. where the answer of the act is lost
+abbrev pub lost_by : TableErr → Result Seen AllocError
+lost_by OutOfMemory = Err (record {})
+lost_by Failed = Ok seen.Dropped
+lost_by (Full live room) = Ok seen.Dropped
+
 -- the answer to a request that was not bound now
 abbrev pub unbound : ℕ → Binding → Seen
 unbound t binding.Bound = seen.Gone t

@@ -9,6 +9,7 @@ use Rattle.beldi_plain.specs.Legal.{IsLegal, run_of}
 use Rattle.beldi_plain.specs.Listing.{listing_of}
 use Rattle.beldi_step.specs.Host.{Core}
 use Rattle.beldi_laws.specs.Right.{Right}
+use Rattle.beldi_laws.specs.OneAnswer.{OneAnswerPerStep, AnswersStay}
 use Rattle.beldi_laws.specs.Stands.{Stands}
 use Rattle.beldi_laws.specs.Laws.{HasReply}
 use Rattle.beldi_core.specs.declared.host.Host.{Host}
@@ -31,6 +32,16 @@ LegalAt d c (Some m) = IsLegal d c.book
 abbrev pub StandsAt : Deployment → Core → Option Rows → Type 0
 StandsAt d c None = Unit {0}
 StandsAt d c (Some m) = (p : PlainState) → run_of d c.book ≡ Some p → Stands d m p
+
+-- each step of an instance has one answer, which the rows hold
+abbrev pub OneAnswerAt : Deployment → Core → Option Rows → Type 0
+OneAnswerAt d c None = Unit {0}
+OneAnswerAt d c (Some m) = OneAnswerPerStep d c m
+
+-- an answer that the rows held is held by them after
+abbrev pub StayAt : Option Rows → Option Rows → Type 0
+StayAt (Some m) (Some n) = AnswersStay m n
+StayAt before after = Unit {0}
 
 -- the table tells no rows, or it has none
 abbrev pub HasNoRows : Option Rows → Type 0
@@ -70,6 +81,14 @@ HasLegalBook {T} {G} h = LegalAt h.code (core_of h) (G.rows h.table)
 -- its rows stand for the run of its book
 abbrev pub RowsStand : {T : Type 0} {G : Ghosts T} → Host T G → Type 0
 RowsStand {T} {G} h = StandsAt h.code (core_of h) (G.rows h.table)
+
+-- each step of an instance has one answer, whichever run asks for it: the one that its rows hold
+abbrev pub HasOneAnswerPerStep : {T : Type 0} {G : Ghosts T} → Host T G → Type 0
+HasOneAnswerPerStep {T} {G} h = OneAnswerAt h.code (core_of h) (G.rows h.table)
+
+-- the answers that the first one's rows hold are held by the second one's
+abbrev pub AnswersAreKept : {T : Type 0} {G : Ghosts T} → Host T G → Host T G → Type 0
+AnswersAreKept {T} {G} h k = StayAt (G.rows h.table) (G.rows k.table)
 
 -- the text was the old one, and has the listing of the run of its book after it
 abbrev pub ListsRun : {T : Type 0} {G : Ghosts T} → Host T G → List ℕ → List ℕ → Type 0

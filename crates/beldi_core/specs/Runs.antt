@@ -63,16 +63,16 @@ settled true m i = map.remove m i
 settled false m i = m
 
 -- what a turn of the run of number i leaves; after an error it is gone, but at Full
-abbrev pub LedOn : Deployment → RunMap → RunMap → ℕ → Option Run → ℕ → ℕ → Rows → Rows → Result TurnSays TurnErr → Type 0
-LedOn d a b i None now room m n x = ⊥
-LedOn d a b i (Some r) now room m n (Ok x) = (n ≡ after_act (run_act r) now (run_key r) m) × (b ≡ put_run a i (run_turned d r (tell_act (run_act r) now (run_key r) m)).next) × (x ≡ says_of (run_turned d r (tell_act (run_act r) now (run_key r) m))) × (IsTrue (adds (run_act r) now (run_key r) m) → map.len m < room)
-LedOn d a b i (Some r) now room m n (Err (Lost e)) = (n ≡ after_act (run_act r) now (run_key r) m) × (b ≡ map.remove a i) × (e ≡ (run_turned d r (tell_act (run_act r) now (run_key r) m)).entry)
-LedOn d a b i (Some r) now room m n (Err (Stopped OutOfMemory)) = (n ≡ m) × (b ≡ map.remove a i)
-LedOn d a b i (Some r) now room m n (Err (Stopped Failed)) = (n ≡ m) × (b ≡ map.remove a i)
-LedOn d a b i (Some r) now room m n (Err (Stopped (Full live most))) = (n ≡ m) × (b ≡ a) × IsTrue (adds (run_act r) now (run_key r) m) × (room ≤ map.len m) × (live ≡ min (map.len m) (2 ^ 32 - 1)) × (most ≡ room)
+abbrev pub LedOn : Deployment → ℕ → RunMap → RunMap → ℕ → Option Run → ℕ → ℕ → Rows → Rows → Result TurnSays TurnErr → Type 0
+LedOn d changes a b i None now room m n x = ⊥
+LedOn d changes a b i (Some r) now room m n (Ok x) = (n ≡ after_act (run_act r) now (run_key r) m) × (b ≡ put_run a i (run_turned d r changes (tell_act (run_act r) now (run_key r) m)).next) × (x ≡ says_of (run_turned d r changes (tell_act (run_act r) now (run_key r) m))) × (IsTrue (adds (run_act r) now (run_key r) m) → map.len m < room)
+LedOn d changes a b i (Some r) now room m n (Err (Lost e)) = (n ≡ after_act (run_act r) now (run_key r) m) × (b ≡ map.remove a i) × (e ≡ (run_turned d r changes (tell_act (run_act r) now (run_key r) m)).entry) × (IsTrue (adds (run_act r) now (run_key r) m) → map.len m < room)
+LedOn d changes a b i (Some r) now room m n (Err (Stopped OutOfMemory)) = (n ≡ m) × (b ≡ map.remove a i)
+LedOn d changes a b i (Some r) now room m n (Err (Stopped Failed)) = (n ≡ m) × (b ≡ map.remove a i)
+LedOn d changes a b i (Some r) now room m n (Err (Stopped (Full live most))) = (n ≡ m) × (b ≡ a) × IsTrue (adds (run_act r) now (run_key r) m) × (room ≤ map.len m) × (live ≡ min (map.len m) (2 ^ 32 - 1)) × (most ≡ room)
 
-pub record Led (d : Deployment) (a b : RunMap) (i now old_room new_room old_faults new_faults : ℕ) (before after : Option Rows) (result : Result TurnSays TurnErr) : Type 0 where
-  pub rows : Tells before after (λ m n. LedOn d a b i (map.get a i) now old_room m n result)
+pub record Led (d : Deployment) (changes : ℕ) (a b : RunMap) (i now old_room new_room old_faults new_faults : ℕ) (before after : Option Rows) (result : Result TurnSays TurnErr) : Type 0 where
+  pub rows : Tells before after (λ m n. LedOn d changes a b i (map.get a i) now old_room m n result)
   pub later : old_faults ≤ new_faults
   pub failed : IsErrOf result (Stopped Failed) → Rose old_faults new_faults
   pub room : new_room ≡ old_room

@@ -1,7 +1,7 @@
 // The host: each event is carried out by its plan.
-ghost use Rattle.std.specs.Prelude.{◌≡◌, ◌++◌, ◌+◌, ◌≤◌, ◌<◌, ◌^◌, ◌↔◌, IsTrue, IfOk, IfErr, OnOk, OnErr, option_to_list};
+ghost use Rattle.std.specs.Prelude.{◌≡◌, ◌++◌, ◌+◌, ◌≤◌, ◌<◌, ◌^◌, ◌↔◌, IsTrue, IsSome, Ok, IfOk, IfErr, OnOk, OnErr, option_to_list};
 ghost use Rattle.beldi_step.specs.Host.{Core, no_run as no_run_of};
-ghost use Rattle.beldi_core.specs.Answers.{refused_by, unbound, issued_by, bound_by};
+ghost use Rattle.beldi_core.specs.Answers.{refused_by, lost_by, unbound, issued_by, bound_by};
 
 use crate::runs::Runs;
 use crate::survey::{OpenErr, ReplySeen, list_tables, prepare, read_reply};
@@ -85,15 +85,17 @@ fn write(book: &mut Book, entry: Option<Entry>)
 
 impl<T: Table> Host<T> {
     ghost use Rattle.std.specs.FinMap as map;
-    ghost use Rattle.beldi_step.specs.Host.{Stepped};
+    ghost use Rattle.beldi_row.specs.Table.{IsCount};
+    ghost use Rattle.beldi_step.specs.Host.{Stepped, ended_run};
     ghost use Rattle.beldi_step.specs.declared.event.Event.TheVariants as events;
-    ghost use Rattle.beldi_step.specs.declared.event.Seen.TheVariants.{Acted};
+    ghost use Rattle.beldi_step.specs.declared.event.Seen.TheVariants.{Acted, Dropped};
     ghost use Rattle.beldi_step.specs.Tables.{tables_text};
     ghost use Rattle.beldi_core.specs.Survey.{Opened, Refused, Reads, reply_seen, is_unknown};
     ghost use Rattle.beldi_core.specs.declared.survey.ReplySeen.TheVariants.{Unknown};
-    ghost use Rattle.beldi_core.specs.Runs.{next_number};
-    ghost use Rattle.beldi_core.specs.Host.{core_of, Carried, written, with_runs};
-    ghost use Rattle.beldi_core.specs.Right.{IsRight, HasLegalBook, RowsStand, ListsRun, TellsRun, HasNoRows, StandsAt};
+    ghost use Rattle.beldi_book.specs.Order.{count_changes};
+    ghost use Rattle.beldi_core.specs.Runs.{next_number, Led};
+    ghost use Rattle.beldi_core.specs.Host.{core_of, Carried, written, with_runs, without_run};
+    ghost use Rattle.beldi_core.specs.Right.{IsRight, HasLegalBook, RowsStand, HasOneAnswerPerStep, AnswersAreKept, ListsRun, TellsRun, HasNoRows, StandsAt};
 
     /// Opens a host over a table whose rows it keeps: sets the table's room, and reads all keys to find the newest
     /// ticket. `now` is the moment, in ticks. Where it refuses, it gives the table back.
@@ -109,6 +111,7 @@ impl<T: Table> Host<T> {
         ensures right { IfOk result (λ h. HasNoRows (T.rows table) → IsRight h) }
         ensures legal { IfOk result (λ h. HasNoRows (T.rows table) → HasLegalBook h) }
         ensures stands { IfOk result (λ h. HasNoRows (T.rows table) → RowsStand h) }
+        ensures one_answer { IfOk result (λ h. HasNoRows (T.rows table) → HasOneAnswerPerStep h) }
     {
         match prepare(alloc, code.room, &mut table) {
             Ok(newest) => Ok(Host {
@@ -163,6 +166,13 @@ impl<T: Table> Host<T> {
         ensures { result ≡ self.entry.now.now }
     {
         self.now
+    }
+
+    /// How many rows its table has; 4,294,967,295 where it has more.
+    pub fn rows(&self) -> u32
+        ensures { IsCount (T.rows self.entry.now.table) result }
+    {
+        self.table.len()
     }
 
     /// The least live run past this number.
@@ -226,13 +236,15 @@ impl<T: Table> Host<T> {
     }
 
     /// Carries out one event. After want of memory nothing was done, but that the event counts as taken, and that a run
-    /// that had it is over; the act of a turn may then have been made, and the book has its entry.
+    /// that had it is over; the act of a turn may then have been made, and the book has its entry. A crash takes no memory.
     pub fn event(&mut self, event: Event) -> Result<Seen, AllocError>
         ensures step { Stepped self.old.code event (core_of self.old) (core_of self.new) (T.room self.old.table) (T.room self.new.table) (T.faults self.old.table) (T.faults self.new.table) (T.rows self.old.table) (T.rows self.new.table) result }
         ensures code { self.new.code ≡ self.old.code }
         ensures right { IsRight self.old → IsRight self.new }
         ensures legal { IsRight self.old → HasLegalBook self.new }
         ensures stands { IsRight self.old → RowsStand self.new }
+        ensures one_answer { IsRight self.old → HasOneAnswerPerStep self.new }
+        ensures answers_stay { IsRight self.old → AnswersAreKept self.old self.new }
     {
         self.step(event)
     }
@@ -250,6 +262,9 @@ impl<T: Table> Host<T> {
             Event::Ticket => self.ticket(),
             Event::Request { ticket, func, args } => self.request(ticket, func, args),
             Event::Turn(run) => self.turn(run),
+            Event::Lost(run) => self.lose(run),
+            Event::Crash(run) => Ok(self.crash(run)),
+            Event::Restart { id, func } => self.restart(id, func),
         }
     }
 
@@ -336,14 +351,8 @@ impl<T: Table> Host<T> {
         if !self.runs.is_live(run) {
             return Ok(no_run(run, self.runs.given()));
         }
-        if self.book.reserve().is_err() {
-            self.runs.remove(run);
-            return Err(AllocError);
-        }
-        match self
-            .runs
-            .turn(run, self.alloc, &self.code, &mut self.table, self.now)
-        {
+        self.reserve(run)?;
+        match self.lead(run) {
             Ok(says) => self.acted(run, says),
             Err(TurnErr::Stopped(why)) => refused(why),
             Err(TurnErr::Lost(entry)) => {
@@ -351,6 +360,110 @@ impl<T: Table> Host<T> {
                 Err(AllocError)
             }
         }
+    }
+
+    // Takes a place in the book for the entry of a run's act. At want of memory the run is over.
+    fn reserve(&mut self, run: u64) -> Result<(), AllocError>
+        ensures ok { OnOk result (core_of self.new ≡ core_of self.old) }
+        ensures runs { OnOk result (self.new.runs ≡ self.old.runs) }
+        ensures spare { OnOk result (1 ≤ self.new.book.spare) }
+        ensures err { OnErr result (core_of self.new ≡ ended_run (core_of self.old) run) }
+        ensures table { self.new.table ≡ self.old.table }
+        ensures code { self.new.code ≡ self.old.code }
+    {
+        if self.book.reserve().is_err() {
+            self.runs.remove(run);
+            return Err(AllocError);
+        }
+        Ok(())
+    }
+
+    // The next turn of a live run.
+    fn lead(&mut self, run: u64) -> Result<TurnSays, TurnErr>
+        requires { IsSome (map.get self.old.runs.runs run) }
+        ensures led { Led self.old.code (count_changes self.old.book.entries) self.old.runs.runs self.new.runs.runs run self.old.now (T.room self.old.table) (T.room self.new.table) (T.faults self.old.table) (T.faults self.new.table) (T.rows self.old.table) (T.rows self.new.table) result }
+        ensures core { core_of self.new ≡ with_runs (core_of self.old) self.new.runs.runs }
+        ensures book { self.new.book ≡ self.old.book }
+        ensures code { self.new.code ≡ self.old.code }
+    {
+        let changes = self.book.changes();
+        self.runs.turn(
+            run,
+            self.alloc,
+            &self.code,
+            &mut self.table,
+            self.now,
+            changes,
+        )
+    }
+
+    // A turn whose answer is lost: the run does not go on from it, and nobody is told the reply.
+    fn lose(&mut self, run: u64) -> Result<Seen, AllocError>
+        ensures carried { Carried self.old.code (events.Lost run) (core_of self.old) (core_of self.new) (T.room self.old.table) (T.room self.new.table) (T.faults self.old.table) (T.faults self.new.table) (T.rows self.old.table) (T.rows self.new.table) result }
+        ensures code { self.new.code ≡ self.old.code }
+    {
+        if !self.runs.is_live(run) {
+            return Ok(no_run(run, self.runs.given()));
+        }
+        self.reserve(run)?;
+        match self.lead(run) {
+            Ok(says) => Ok(self.lost(run, says.entry)),
+            Err(TurnErr::Lost(entry)) => Ok(self.lost(run, entry)),
+            Err(TurnErr::Stopped(why)) => self.stopped(run, why),
+        }
+    }
+
+    // The act of a run was not made: the run is over all the same.
+    fn stopped(&mut self, run: u64, why: TableErr) -> Result<Seen, AllocError>
+        ensures said { result ≡ lost_by why }
+        ensures core { core_of self.new ≡ ended_run (core_of self.old) run }
+        ensures table { self.new.table ≡ self.old.table }
+        ensures code { self.new.code ≡ self.old.code }
+    {
+        self.runs.remove(run);
+        match why {
+            TableErr::OutOfMemory => Err(AllocError),
+            TableErr::Failed | TableErr::Full { .. } => Ok(Seen::Dropped),
+        }
+    }
+
+    // The run is over, and the book has the entry of its act, if any.
+    fn lost(&mut self, run: u64, entry: Option<Entry>) -> Seen
+        requires { 1 ≤ self.old.book.spare }
+        ensures said { result ≡ Dropped }
+        ensures core { core_of self.new ≡ without_run (core_of self.old) run entry }
+        ensures table { self.new.table ≡ self.old.table }
+        ensures code { self.new.code ≡ self.old.code }
+    {
+        write(&mut self.book, entry);
+        self.runs.remove(run);
+        Seen::Dropped
+    }
+
+    // Ends a run between two turns.
+    fn crash(&mut self, run: u64) -> Seen
+        ensures carried { Carried self.old.code (events.Crash run) (core_of self.old) (core_of self.new) (T.room self.old.table) (T.room self.new.table) (T.faults self.old.table) (T.faults self.new.table) (T.rows self.old.table) (T.rows self.new.table) (Ok result) }
+        ensures code { self.new.code ≡ self.old.code }
+    {
+        if !self.runs.is_live(run) {
+            return no_run(run, self.runs.given());
+        }
+        self.runs.remove(run);
+        Seen::Crashed
+    }
+
+    // Starts another run of an intent.
+    fn restart(&mut self, id: IntentId, func: u16) -> Result<Seen, AllocError>
+        requires given { self.old.runs.given < self.old.taken }
+        requires few { self.old.taken ≤ 2 ^ 62 }
+        ensures carried { Carried self.old.code (events.Restart id func) (core_of self.old) (core_of self.new) (T.room self.old.table) (T.room self.new.table) (T.faults self.old.table) (T.faults self.new.table) (T.rows self.old.table) (T.rows self.new.table) result }
+        ensures code { self.new.code ≡ self.old.code }
+    {
+        if self.runs.len() >= MOST_RUNS {
+            return Ok(Seen::Crowded);
+        }
+        let run = self.runs.start(Run { id, func, at: None })?;
+        Ok(Seen::Started(run))
     }
 
     // The act of a run's turn was made. Where its entry cannot be told, the run is over.

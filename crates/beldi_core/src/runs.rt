@@ -77,15 +77,16 @@ fn lead<T: Table>(
     code: &Deployment,
     table: &mut T,
     now: u64,
+    changes: u64,
 ) -> Result<TurnSays, TurnErr>
     requires { IsSome (map.get (map_of live.old) number) }
-    ensures led { Led code.now (map_of live.old) (map_of live.new) number now (T.room table.old) (T.room table.new) (T.faults table.old) (T.faults table.new) (T.rows table.old) (T.rows table.new) result }
+    ensures led { Led code.now changes (map_of live.old) (map_of live.new) number now (T.room table.old) (T.room table.new) (T.faults table.old) (T.faults table.new) (T.rows table.old) (T.rows table.new) result }
     ensures none_new { (i : ℕ) → map.get (map_of live.old) i ≡ None → map.get (map_of live.new) i ≡ None }
 {
     let Some(run) = live.get_mut(&number) else {
         unreachable!()
     };
-    let result = run.turn(alloc, code, table, now);
+    let result = run.turn(alloc, code, table, now, changes);
     settle(live, number, ends(&result));
     result
 }
@@ -172,11 +173,12 @@ impl Runs {
         code: &Deployment,
         table: &mut T,
         now: u64,
+        changes: u64,
     ) -> Result<TurnSays, TurnErr>
         requires { IsSome (map.get self.old.runs number) }
-        ensures led { Led code.now self.old.runs self.new.runs number now (T.room table.old) (T.room table.new) (T.faults table.old) (T.faults table.new) (T.rows table.old) (T.rows table.new) result }
+        ensures led { Led code.now changes self.old.runs self.new.runs number now (T.room table.old) (T.room table.new) (T.faults table.old) (T.faults table.new) (T.rows table.old) (T.rows table.new) result }
         ensures given { self.new.given ≡ self.old.given }
     {
-        lead(&mut self.live, number, alloc, code, table, now)
+        lead(&mut self.live, number, alloc, code, table, now, changes)
     }
 }

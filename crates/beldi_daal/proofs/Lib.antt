@@ -1,1 +1,3 @@
+mod Logged
+pub mod ReadTurn
 pub mod Turn

@@ -1,28 +1,81 @@
--- One turn of a walk, by what its act told.
-use Rattle.std.proofs.Common.{◌≡◌, ℕ, Option, Result, Ok, ap, ◌∙◌, subst}
+-- One turn of a write's walk, by what its act told.
+use Rattle.std.proofs.Common.{◌≡◌, ℕ, true, Option, None, Some, Result, Ok, Err, refl, ap, sym, ◌∙◌}
+use Rattle.std.specs.FinMap as map
+use Rattle.beldi_value.specs.declared.value.Value.{Value}
+use Rattle.beldi_value.specs.declared.place.Place.{Place}
+use Rattle.beldi_value.specs.declared.place.Owner.{Owner}
 use Rattle.beldi_row.specs.declared.key.RowKey.{RowKey}
+use Rattle.beldi_row.specs.declared.notes.Note.{Note}
+use Rattle.beldi_row.specs.declared.row.Row.{Row}
+use Rattle.beldi_row.specs.declared.row.Row.TheVariants as rows
+use Rattle.beldi_row.specs.declared.row.Cell.{Cell}
 use Rattle.beldi_row.specs.declared.act.Act.{Act}
+use Rattle.beldi_row.specs.declared.act.Act.TheVariants.{WriteCell}
 use Rattle.beldi_row.specs.declared.act.Said.{Said}
 use Rattle.beldi_row.specs.declared.table.TableErr.{TableErr}
-use Rattle.beldi_row.specs.Act.{tell_of}
+use Rattle.beldi_row.specs.declared.table.TableErr.TheVariants.{OutOfMemory}
+use Rattle.beldi_row.specs.Act.{tell_of, act, did, wrote, noted_or, next_or, held_or, other_owner}
+use Rattle.beldi_row.specs.Log.{note_at}
 use Rattle.beldi_row.specs.Table.{Rows, Acted, ActedOn}
-use Rattle.beldi_row.proofs.Tells.{tells_map}
+use Rattle.beldi_row.proofs.Tells.{tells_map, acted_by}
+use Rattle.beldi_row.proofs.Unchanged.{left}
 use Rattle.beldi_daal.specs.declared.walk.WriteWalk.{WriteWalk}
+use Rattle.beldi_daal.specs.declared.walk.WriteStage.{WriteStage}
+use Rattle.beldi_daal.specs.declared.walk.WriteStage.TheVariants.{Try, Make}
 use Rattle.beldi_daal.specs.declared.walk.WriteSays.{WriteSays}
-use Rattle.beldi_daal.specs.Walk.{walk_key, walk_act, walk_next, TurnedOn, Turned}
+use Rattle.beldi_daal.specs.declared.walk.CellOp.{CellOp}
+use Rattle.beldi_daal.specs.declared.walk.CellOp.TheVariants.{Write}
+use Rattle.beldi_daal.specs.Walk.{walk_key, walk_act, walk_next, act_at, op_act, is_held, TurnedOn, Turned}
 
-by_key : (w x : WriteWalk) (s : WriteSays) (now room new_room faults new_faults : ℕ) (before after : Option Rows) (said : Said) → (x, s) ≡ walk_next w (tell_of said)
-    → Acted (walk_act w) now (walk_key w) room new_room faults new_faults before after (Ok said) → Turned w x now room new_room faults new_faults before after (Ok s)
-by_key w x s now room new_room faults new_faults before after said next h = record {
-  rows = tells_map {P = λ m n. ActedOn (walk_act w) now (walk_key w) room m n (Ok said)} {Q = λ m n. TurnedOn w x now room m n (Ok s)} before after (λ m n p. (p.0, next ∙ ap (walk_next w) p.1, p.2)) h.rows;
-  cause = record { later = h.cause.later; failed = λ e. cc };
-  room = h.room;
-}
+-- an act that tells another owner leaves the row
+held_in_cell : (p : Place) (v : Value) (c : Cell) (n : Option Note) (x : Option ℕ) (o : Option Owner)
+    → is_held (noted_or c n (next_or c x (held_or c o (wrote p v c, did)))).1 ≡ true → (noted_or c n (next_or c x (held_or c o (wrote p v c, did)))).0 ≡ c
+held_in_cell p v c (Some n) x o h = refl
+held_in_cell p v c None (Some x) o h = refl
+held_in_cell p v c None None (Some o) h = refl
+held_in_cell p v c None None None h = cc
 
-pub turned : (w x : WriteWalk) (s : WriteSays) (now room new_room faults new_faults : ℕ) (before after : Option Rows) (a : Act) (k : RowKey) (r : Result Said TableErr) (said : Said) → r ≡ Ok said → a ≡ walk_act w → k ≡ walk_key w
-    → (x, s) ≡ walk_next w (tell_of said) → Acted a now k room new_room faults new_faults before after r → Turned w x now room new_room faults new_faults before after (Ok s)
-turned w x s now room new_room faults new_faults before after a k r said is act key next h =
-    by_key w x s now room new_room faults new_faults before after said next
-    (subst (λ (b : Act). Acted b now (walk_key w) room new_room faults new_faults before after (Ok said)) act
-    (subst (λ (l : RowKey). Acted a now l room new_room faults new_faults before after (Ok said)) key
-    (subst (λ (q : Result Said TableErr). Acted a now k room new_room faults new_faults before after q) is h)))
+held_at_cell : (p : Place) (w : Owner) (v : Value) (now : ℕ) (r : Option Row) → is_held (act (WriteCell p w v) now r).1 ≡ true → (act (WriteCell p w v) now r).0 ≡ r
+held_at_cell p w v now None h = refl
+held_at_cell p w v now (Some (rows.Intent i)) h = refl
+held_at_cell p w v now (Some (rows.ReadLog r)) h = refl
+held_at_cell p w v now (Some (rows.Invoke i)) h = refl
+held_at_cell p w v now (Some (rows.Cell c)) h = ap (λ d. Some (rows.Cell d)) (held_in_cell p v c (note_at c.log p) c.next (other_owner w c.owner) h)
+held_at_cell p w v now (Some rows.Lockset) h = refl
+
+held_in_op : (p : Place) (op : CellOp) (now : ℕ) (r : Option Row) → is_held (act (op_act p op) now r).1 ≡ true → (act (op_act p op) now r).0 ≡ r
+held_in_op p (Write v) now r h = held_at_cell p _ v now r h
+
+held_in_stage : (w : WriteWalk) (s : WriteStage) (now : ℕ) (r : Option Row) → is_held (act (act_at w s) now r).1 ≡ true → (act (act_at w s) now r).0 ≡ r
+held_in_stage w Try now r h = held_in_op w.place w.op now r h
+held_in_stage w Make now None h = cc
+held_in_stage w Make now (Some r) h = refl
+
+module _ (w x : WriteWalk) (now room new_room faults new_faults : ℕ) (before after : Option Rows) (said : Said) where
+  told : (s : WriteSays) → (x, s) ≡ walk_next w (tell_of said) → Acted (walk_act w) now (walk_key w) room new_room faults new_faults before after (Ok said)
+      → Turned w x now room new_room faults new_faults before after (Ok s)
+  told s next h = record {
+    rows = tells_map {P = λ m n. ActedOn (walk_act w) now (walk_key w) room m n (Ok said)} {Q = λ m n. TurnedOn w x now room m n (Ok s)} before after (λ m n p. (p.0, next ∙ ap (walk_next w) p.1, p.2)) h.rows;
+    cause = record { later = h.cause.later; failed = λ e. cc };
+    room = h.room;
+  }
+
+  wanting : x ≡ w → is_held (tell_of said) ≡ true → Acted (walk_act w) now (walk_key w) room new_room faults new_faults before after (Ok said)
+      → Turned w x now room new_room faults new_faults before after (Err OutOfMemory)
+  wanting same held h = record {
+    rows = tells_map {P = λ m n. ActedOn (walk_act w) now (walk_key w) room m n (Ok said)} {Q = λ m n. TurnedOn w x now room m n (Err OutOfMemory)} before after
+        (λ m n p. (p.0 ∙ left (walk_act w) now (walk_key w) m (map.get m (walk_key w)) refl (held_in_stage w w.stage now (map.get m (walk_key w)) (ap is_held (sym p.1) ∙ held)), same)) h.rows;
+    cause = record { later = h.cause.later; failed = λ e. cc };
+    room = h.room;
+  }
+
+  module _ (a : Act) (k : RowKey) (r : Result Said TableErr) (is : r ≡ Ok said) (act : a ≡ walk_act w) (key : k ≡ walk_key w) (h : Acted a now k room new_room faults new_faults before after r) where
+    made : Acted (walk_act w) now (walk_key w) room new_room faults new_faults before after (Ok said)
+    made = acted_by now room new_room faults new_faults before after a (walk_act w) k (walk_key w) r (Ok said) act key is h
+
+    pub turned : (s : WriteSays) → (x, s) ≡ walk_next w (tell_of said) → Turned w x now room new_room faults new_faults before after (Ok s)
+    turned s next = told s next made
+
+    -- another owner was told, so nothing changed, and then memory was wanting
+    pub lost : x ≡ w → is_held (tell_of said) ≡ true → Turned w x now room new_room faults new_faults before after (Err OutOfMemory)
+    lost same held = wanting same held made

@@ -1,5 +1,5 @@
 -- The walk of a write, as a machine that makes one act a turn.
-use Rattle.std.specs.Prelude.{◌≡◌, ℕ, ◌-◌, ◌^◌, ◌≤◌, ◌<◌, min, true, false, IsTrue, Option, None, Result, Ok, Err}
+use Rattle.std.specs.Prelude.{◌≡◌, ℕ, ◌-◌, ◌^◌, ◌≤◌, ◌<◌, min, Bool, true, false, IsTrue, Option, None, Result, Ok, Err}
 use Rattle.std.specs.FinMap as map
 use Rattle.beldi_value.specs.declared.value.Value.TheVariants.{Null}
 use Rattle.beldi_value.specs.declared.place.Place.{Place}
@@ -11,7 +11,7 @@ use Rattle.beldi_row.specs.declared.act.Act.{Act}
 use Rattle.beldi_row.specs.declared.act.Act.TheVariants.{WriteCell, MakeCell}
 use Rattle.beldi_row.specs.declared.table.TableErr.{TableErr}
 use Rattle.beldi_row.specs.declared.table.TableErr.TheVariants.{OutOfMemory, Failed, Full}
-use Rattle.beldi_row.specs.Act.{Tell, no_row, did, noted}
+use Rattle.beldi_row.specs.Act.{Tell, no_row, did, noted, held}
 use Rattle.beldi_row.specs.Table.{Rows, after_act, tell_act, adds, Tells, HasCause}
 use Rattle.beldi_daal.specs.declared.walk.WriteWalk.{WriteWalk}
 use Rattle.beldi_daal.specs.declared.walk.Item.{Item}
@@ -21,7 +21,7 @@ use Rattle.beldi_daal.specs.declared.walk.CellOp.TheVariants.{Write}
 use Rattle.beldi_daal.specs.declared.walk.WriteStage.{WriteStage}
 use Rattle.beldi_daal.specs.declared.walk.WriteStage.TheVariants.{Try, Make}
 use Rattle.beldi_daal.specs.declared.walk.WriteSays.{WriteSays}
-use Rattle.beldi_daal.specs.declared.walk.WriteSays.TheVariants.{Going, Done}
+use Rattle.beldi_daal.specs.declared.walk.WriteSays.TheVariants.{Going, Done, Held}
 
 abbrev pub first_walk : ℕ → Item → Place → CellOp → WriteWalk
 first_walk home item place op = record { home = home; item = item; place = place; op = op; stage = Try }
@@ -30,8 +30,12 @@ first_walk home item place op = record { home = home; item = item; place = place
 abbrev pub head_of : Item → Kind
 head_of (Plain t k) = Data t k 0
 
+-- its key, in the home of the function that has the item
+abbrev pub first_key : ℕ → Item → RowKey
+first_key home item = record { home = home; kind = head_of item }
+
 abbrev pub walk_key : WriteWalk → RowKey
-walk_key w = record { home = w.home; kind = head_of w.item }
+walk_key w = first_key w.home w.item
 
 -- the operation's act; the intent of the place asks for it
 abbrev pub op_act : Place → CellOp → Act
@@ -50,7 +54,13 @@ abbrev pub walk_next : WriteWalk → Tell → WriteWalk × WriteSays
 walk_next w no_row = (record w { stage = Make }, Going)
 walk_next w did = (w, Done true)
 walk_next w (noted n) = (w, Done false)
+walk_next w (held o) = (w, Held o)
 walk_next w t = (record w { stage = Try }, Going)
+
+-- another owner was told
+abbrev pub is_held : Tell → Bool
+is_held (held o) = true
+is_held t = false
 
 abbrev pub TurnedOn : WriteWalk → WriteWalk → ℕ → ℕ → Rows → Rows → Result WriteSays TableErr → Type 0
 TurnedOn w x now room m n (Ok s) = (n ≡ after_act (walk_act w) now (walk_key w) m) × ((x, s) ≡ walk_next w (tell_act (walk_act w) now (walk_key w) m)) × (IsTrue (adds (walk_act w) now (walk_key w) m) → map.len m < room)

@@ -1,18 +1,37 @@
 // The walk of a write: one act a turn.
-ghost use Rattle.std.specs.Prelude.{◌≡◌, IfOk, IfErr};
+ghost use Rattle.std.specs.Prelude.{◌≡◌, true, IfOk, IfErr, OnErr};
 ghost use Rattle.beldi_row.specs.Act.{tell_of};
 ghost use Rattle.beldi_row.specs.declared.table.TableErr.TheVariants.{OutOfMemory};
-ghost use Rattle.beldi_daal.specs.Walk.{first_walk, walk_key, walk_act, walk_next, Turned};
+ghost use Rattle.beldi_daal.specs.Walk.{first_walk, first_key, op_act, walk_act, walk_next, is_held, Turned};
 
-use beldi_row::{Act, Kind, RowKey, Said, Table, TableErr};
+use beldi_row::{Act, Kind, RowKey, Said, Table, TableErr, copy_owner};
 use beldi_value::{Owner, Place, Str, Value};
-use std::alloc::Global;
+use std::alloc::{AllocError, Global};
 
 /// What a walk is on.
 #[derive(Drop)]
 pub enum Item {
     /// An item of a function's own table.
     Plain { table: u16, key: Str },
+}
+
+impl Item {
+    // The key of its first row, where this function has the item.
+    pub(crate) fn first_key(&self, alloc: Global, home: u16) -> Result<RowKey, TableErr>
+        ensures ok { IfOk result (λ k. k ≡ first_key home self.now) }
+        ensures err { IfErr result (λ e. e ≡ OutOfMemory) }
+    {
+        match self {
+            Item::Plain { table, key } => Ok(RowKey {
+                home,
+                kind: Kind::Data {
+                    table: *table,
+                    key: key.copy(alloc)?,
+                    row: 0,
+                },
+            }),
+        }
+    }
 }
 
 /// What a walk does to its item.
@@ -30,12 +49,14 @@ pub enum WriteStage {
     Make,
 }
 
-#[derive(Clone, Copy, Debug, PartialEq, Eq)]
+#[derive(Drop)]
 pub enum WriteSays {
     /// The walk goes on.
     Going,
     /// The place has its note; `first` says that this act made it.
     Done { first: bool },
+    /// This owner, another than the intent of the place, has the item.
+    Held(Owner),
 }
 
 /// A walk that makes one entry at a place, however many walks there are for it.
@@ -71,25 +92,12 @@ impl WriteWalk {
     ) -> Result<WriteSays, TableErr>
         ensures { Turned self.old self.new now (T.room table.old) (T.room table.new) (T.faults table.old) (T.faults table.new) (T.rows table.old) (T.rows table.new) result }
     {
-        let key = self.row_key(alloc)?;
+        let key = self.item.first_key(alloc, self.home)?;
         let act = self.act(alloc)?;
         let said = table.act(key, act, now)?;
-        Ok(self.told(said))
-    }
-
-    fn row_key(&self, alloc: Global) -> Result<RowKey, TableErr>
-        ensures ok { IfOk result (λ k. k ≡ walk_key self.now) }
-        ensures err { IfErr result (λ e. e ≡ OutOfMemory) }
-    {
-        match &self.item {
-            Item::Plain { table, key } => Ok(RowKey {
-                home: self.home,
-                kind: Kind::Data {
-                    table: *table,
-                    key: key.copy(alloc)?,
-                    row: 0,
-                },
-            }),
+        match self.told(alloc, said) {
+            Ok(says) => Ok(says),
+            Err(_) => Err(TableErr::OutOfMemory),
         }
     }
 
@@ -121,23 +129,23 @@ impl WriteWalk {
         }
     }
 
-    // A cell that another owner holds, or that a row follows, is made by no walk yet: the walk stays.
-    fn told(&mut self, said: Said<'_>) -> WriteSays
-        ensures { (self.new, result) ≡ walk_next self.old (tell_of said.entry) }
+    // A cell that a row follows is made by no walk yet: the walk stays.
+    fn told(&mut self, alloc: Global, said: Said<'_>) -> Result<WriteSays, AllocError>
+        ensures ok { IfOk result (λ s. (self.new, s) ≡ walk_next self.old (tell_of said.entry)) }
+        ensures err { OnErr result ((self.new ≡ self.old) × (is_held (tell_of said.entry) ≡ true)) }
     {
         match said {
             Said::NoRow => {
                 self.stage = WriteStage::Make;
-                WriteSays::Going
+                Ok(WriteSays::Going)
             }
-            Said::Did => WriteSays::Done { first: true },
-            Said::Noted(_) => WriteSays::Done { first: false },
+            Said::Did => Ok(WriteSays::Done { first: true }),
+            Said::Noted(_) => Ok(WriteSays::Done { first: false }),
+            Said::Held(owner) => Ok(WriteSays::Held(copy_owner(owner, alloc)?)),
             _ => {
                 self.stage = WriteStage::Try;
-                WriteSays::Going
+                Ok(WriteSays::Going)
             }
         }
     }
 }
-
-ghost use Rattle.beldi_daal.specs.Walk.{op_act};

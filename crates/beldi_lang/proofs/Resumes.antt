@@ -10,12 +10,12 @@ use Rattle.beldi_lang.specs.declared.deployment.Deployment.{Deployment}
 use Rattle.beldi_lang.specs.declared.deployment.Func.{Func}
 use Rattle.beldi_lang.specs.declared.deployment.Stmt.{Stmt}
 use Rattle.beldi_lang.specs.declared.deployment.Form.{Form}
-use Rattle.beldi_lang.specs.declared.deployment.Form.TheVariants.{Write, Return}
+use Rattle.beldi_lang.specs.declared.deployment.Form.TheVariants.{Read, Write, Return}
 use Rattle.beldi_lang.specs.declared.effect.Effect.{Effect}
 use Rattle.beldi_lang.specs.declared.effect.Answer.{Answer}
 use Rattle.beldi_lang.specs.declared.machine.Machine.{Machine}
-use Rattle.beldi_lang.specs.Wants.{Bindings, counted, go_on, wants_answer, run_block, run_form, func_at, wants}
-use Rattle.beldi_lang.specs.Machine.{effect_of, effect_of_form, effect_at, next_step, resumed, IsAt}
+use Rattle.beldi_lang.specs.Wants.{Bindings, counted, go_on, wants_answer, after_form, run_block, run_form, func_at, wants}
+use Rattle.beldi_lang.specs.Machine.{effect_of, effect_of_form, effect_at, next_step, after_stmt, resumed, IsAt}
 
 same_some : {X : Type 0} {x y : X} → Some x ≡ Some y → x ≡ y
 same_some h = cc
@@ -29,19 +29,22 @@ counted_few : (used : ℕ) (e : Effect) (b : Bool) → nat_lt used 10000 ≡ b �
 counted_few used e true h w = ltb-true used 10000 h
 counted_few used e false h w = let g = subst (λ c. IsTrue (wants_answer (if c then e else effect.Return (outcome.Fault code.Steps)))) h w in cc
 
--- an effect that is answered is a write's, and its body may have one more
-record IsWrite (f : Func) (n : ℕ) (vs : Bindings) : Type 0 where
+-- the body may have one more effect, and goes on with the variables that the answer leaves
+record GoesOn (f : Func) (n : ℕ) (vs : Bindings) (o : Option Stmt) : Type 0 where
   few : n < 10000
-  more : (a : Answer) (rest : List Answer) → run_block f.tables n (drop n f.body) vs (a ∷ rest) ≡ run_block f.tables (n + 1) (drop (suc n) f.body) vs rest
+  more : (a : Answer) (rest : List Answer) → run_block f.tables n (drop n f.body) vs (a ∷ rest) ≡ run_block f.tables (n + 1) (drop (suc n) f.body) (after_stmt o vs a) rest
 
-by_form : (f : Func) (n : ℕ) (vs : Bindings) (s : Stmt) (form : Form) → slice_get f.body n ≡ Some s → s.form ≡ form → IsTrue (wants_answer (effect_of_form f.tables n form vs)) → IsWrite f n vs
+going : (f : Func) (n : ℕ) (vs : Bindings) (s : Stmt) → slice_get f.body n ≡ Some s → n < 10000
+    → ((a : Answer) (rest : List Answer) → go_on (run_block f.tables (n + 1) (drop (suc n) f.body)) (run_form f.tables n s.form vs (a ∷ rest)) ≡ run_block f.tables (n + 1) (drop (suc n) f.body) (after_form s.form vs a) rest)
+    → GoesOn f n vs (Some s)
+going f n vs s at few one = record { few = few; more = λ a rest. ap (λ ss. run_block f.tables n ss vs (a ∷ rest)) (drop_at f.body n s at) ∙ one a rest }
+
+by_form : (f : Func) (n : ℕ) (vs : Bindings) (s : Stmt) (form : Form) → slice_get f.body n ≡ Some s → form ≡ s.form → IsTrue (wants_answer (effect_of_form f.tables n form vs)) → GoesOn f n vs (Some s)
 by_form f n vs s (Return e) at is w = cc
-by_form f n vs s (Write t k e) at is w = record {
-  few = counted_few n _ (nat_lt n 10000) refl w;
-  more = λ a rest. ap (λ ss. run_block f.tables n ss vs (a ∷ rest)) (drop_at f.body n s at) ∙ ap (λ g. go_on (run_block f.tables (n + 1) (drop (suc n) f.body)) (run_form f.tables n g vs (a ∷ rest))) is;
-}
+by_form f n vs s (Read x t k) at is w = going f n vs s at (counted_few n _ (nat_lt n 10000) refl w) (λ a rest. subst (λ g. go_on (run_block f.tables (n + 1) (drop (suc n) f.body)) (run_form f.tables n g vs (a ∷ rest)) ≡ run_block f.tables (n + 1) (drop (suc n) f.body) (after_form g vs a) rest) is refl)
+by_form f n vs s (Write t k e) at is w = going f n vs s at (counted_few n _ (nat_lt n 10000) refl w) (λ a rest. subst (λ g. go_on (run_block f.tables (n + 1) (drop (suc n) f.body)) (run_form f.tables n g vs (a ∷ rest)) ≡ run_block f.tables (n + 1) (drop (suc n) f.body) (after_form g vs a) rest) is refl)
 
-by_stmt : (f : Func) (n : ℕ) (vs : Bindings) (o : Option Stmt) → slice_get f.body n ≡ o → IsTrue (wants_answer (effect_of f.tables n o vs)) → IsWrite f n vs
+by_stmt : (f : Func) (n : ℕ) (vs : Bindings) (o : Option Stmt) → slice_get f.body n ≡ o → IsTrue (wants_answer (effect_of f.tables n o vs)) → GoesOn f n vs o
 by_stmt f n vs None at w = cc
 by_stmt f n vs (Some s) at w = by_form f n vs s s.form at refl w
 
@@ -52,7 +55,9 @@ goes_on : (d : Deployment) (func : ℕ) (args : Value) (m : Machine) (before : L
 goes_on d func args m before f a w is h =
     let same : h.body ≡ f = same_some (sym h.is_body ∙ is) in
     let e : m.effect ≡ effect_at f m.steps m.variables = h.effect ∙ ap (λ g. effect_at g m.steps m.variables) same in
-    let step = by_stmt f m.steps m.variables (slice_get f.body m.steps) refl (subst (λ x. IsTrue (wants_answer x)) e w) in
+    let o = slice_get f.body m.steps in
+    let vs = after_stmt o m.variables a in
+    let step = by_stmt f m.steps m.variables o refl (subst (λ x. IsTrue (wants_answer x)) e w) in
     let next = next_is m.steps step.few in
     record {
       this_func = h.this_func;
@@ -64,13 +69,14 @@ goes_on d func args m before f a w is h =
           ap (wants d func args) (append_assoc before (a ∷ []) more) ∙ h.rest (a ∷ more)
           ∙ ap (λ g. run_block g.tables m.steps (drop m.steps g.body) m.variables (a ∷ more)) same
           ∙ step.more a more
-          ∙ ap (λ n. run_block f.tables (m.steps + 1) (drop n f.body) m.variables more) (sym (add-one m.steps))
-          ∙ ap (λ n. run_block f.tables n (drop n f.body) m.variables more) (sym next);
+          ∙ ap (λ n. run_block f.tables (m.steps + 1) (drop n f.body) vs more) (sym (add-one m.steps))
+          ∙ ap (λ n. run_block f.tables n (drop n f.body) vs more) (sym next);
     }
 
 -- the same of a machine made of its parts
-pub resumes : (d : Deployment) (func : ℕ) (args : Value) (m : Machine) (before : List Answer) (f : Func) (a : Answer) (n : ℕ) (e : Effect) → n ≡ next_step m.steps → e ≡ effect_at f n m.variables
-    → IsTrue (wants_answer m.effect) → func_at d func ≡ Some f → IsAt d func args m before → IsAt d func args (record m { steps = n; effect = e }) (before ++ a ∷ [])
-resumes d func args m before f a n e p q w is h =
-    let whole : record m { steps = n; effect = e } ≡ resumed f m a = λ i. record m { steps = p i; effect = (q ∙ ap (λ k. effect_at f k m.variables) p) i } in
+pub resumes : (d : Deployment) (func : ℕ) (args : Value) (m : Machine) (before : List Answer) (f : Func) (a : Answer) (n : ℕ) (vs : Bindings) (e : Effect)
+    → n ≡ next_step m.steps → vs ≡ after_stmt (slice_get f.body m.steps) m.variables a → e ≡ effect_at f n vs
+    → IsTrue (wants_answer m.effect) → func_at d func ≡ Some f → IsAt d func args m before → IsAt d func args (record { func = m.func; variables = vs; steps = n; effect = e }) (before ++ a ∷ [])
+resumes d func args m before f a n vs e p q r w is h =
+    let whole : record { func = m.func; variables = vs; steps = n; effect = e } ≡ resumed f m a = λ i. record { func = m.func; variables = q i; steps = p i; effect = (r ∙ ap (λ k. effect_at f k vs) p ∙ ap (effect_at f (next_step m.steps)) q) i } in
     subst (λ (x : Machine). IsAt d func args x (before ++ a ∷ [])) (sym whole) (goes_on d func args m before f a w is h)

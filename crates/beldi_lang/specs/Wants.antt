@@ -1,6 +1,10 @@
 -- What a body wants: by recursion on its statements, from the first one each time. A statement takes the variables and
 -- the answers that remain, and gives either the effect that lacks an answer or what remains.
 use Rattle.std.specs.Prelude.{ℕ, zero, suc, ◌+◌, ◌-◌, ◌^◌, ◌==◌, min, nat_lt, Bool, true, false, List, [], ◌∷◌, Option, Some, None, slice_get, if◌then◌else◌}
+use Rattle.std.specs.FinMap as map
+use Rattle.std.specs.FinMap.{FinMap}
+use Rattle.std.specs.Ordering.{nat_cmp}
+use Rattle.std.specs.Cmp.Lexicographic.{slice_cmp}
 use lib.Pointwise.{pointwise}
 use Rattle.beldi_value.specs.declared.value.Value.{Value}
 use Rattle.beldi_value.specs.declared.value.Value.TheVariants.{Null, Int}
@@ -11,24 +15,24 @@ use Rattle.beldi_lang.specs.declared.deployment.Func.{Func}
 use Rattle.beldi_lang.specs.declared.deployment.TableHead.{TableHead}
 use Rattle.beldi_lang.specs.declared.deployment.Stmt.{Stmt}
 use Rattle.beldi_lang.specs.declared.deployment.Form.{Form}
-use Rattle.beldi_lang.specs.declared.deployment.Form.TheVariants.{Write, Return}
+use Rattle.beldi_lang.specs.declared.deployment.Form.TheVariants.{Read, Write, Return}
 use Rattle.beldi_lang.specs.declared.deployment.Expr.{Expr}
 use Rattle.beldi_lang.specs.declared.deployment.Expr.TheVariants as expr
 use Rattle.beldi_lang.specs.declared.effect.Effect.{Effect}
 use Rattle.beldi_lang.specs.declared.effect.Effect.TheVariants as effect
 use Rattle.beldi_lang.specs.declared.effect.Answer.{Answer}
+use Rattle.beldi_lang.specs.declared.effect.Answer.TheVariants as answer
 
 -- two names are one
 abbrev pub is_name : List ℕ → List ℕ → Bool
 is_name a b = pointwise ◌==◌ a b
 
--- names with their values, the newest first
+-- names with their values
 abbrev pub Bindings : Type 0
-Bindings = List (List ℕ × Value)
+Bindings = FinMap (slice_cmp nat_cmp) Value
 
-abbrev pub found : Bindings → List ℕ → Option Value
-found [] n = None
-found (v ∷ vs) n = if is_name v.0 n then Some v.1 else found vs n
+abbrev pub no_variables : Bindings
+no_variables = map.empty
 
 -- a variable that was not set is null
 abbrev pub or_null : Option Value → Value
@@ -37,7 +41,7 @@ or_null (Some v) = v
 
 abbrev pub value_of : Bindings → Expr → Value
 value_of vs (expr.Int z) = Int z
-value_of vs (expr.Name n) = or_null (found vs n)
+value_of vs (expr.Name n) = or_null (map.get vs n)
 
 -- the number of the table of this name, from 0
 abbrev pub table_of : List TableHead → List ℕ → ℕ
@@ -58,8 +62,24 @@ counted used e = if nat_lt used most_effects then e else effect.Return (outcome.
 
 -- an effect that is answered
 abbrev pub wants_answer : Effect → Bool
+wants_answer (effect.Read t k) = true
 wants_answer (effect.Write t k v) = true
 wants_answer (effect.Return o) = false
+
+-- the name that a form sets to its answer
+abbrev pub set_by : Form → Option (List ℕ)
+set_by (Read n t k) = Some n
+set_by (Write t k e) = None
+set_by (Return e) = None
+
+-- the variables after this name was to be set to an answer; one that is no value sets nothing
+abbrev pub set_to : Bindings → Option (List ℕ) → Answer → Bindings
+set_to vs (Some n) (answer.Value v) = map.insert vs n v
+set_to vs o a = vs
+
+-- the variables after a statement had its answer
+abbrev pub after_form : Form → Bindings → Answer → Bindings
+after_form g vs a = set_to vs (set_by g) a
 
 -- a statement wants an effect, or goes on
 pub data Went : Type 0 where
@@ -68,8 +88,10 @@ pub data Went : Type 0 where
 
 -- `used` counts the effects before it
 abbrev pub run_form : List TableHead → ℕ → Form → Bindings → List Answer → Went
+run_form ts used (Read n t k) vs [] = Wants (counted used (effect.Read (table_number ts t) k))
+run_form ts used (Read n t k) vs (a ∷ rest) = Goes (after_form (Read n t k) vs a) rest
 run_form ts used (Write t k e) vs [] = Wants (counted used (effect.Write (table_number ts t) k (value_of vs e)))
-run_form ts used (Write t k e) vs (a ∷ rest) = Goes vs rest
+run_form ts used (Write t k e) vs (a ∷ rest) = Goes (after_form (Write t k e) vs a) rest
 run_form ts used (Return e) vs answers = Wants (effect.Return (outcome.Value (value_of vs e)))
 
 abbrev pub go_on : (Bindings → List Answer → Effect) → Went → Effect
@@ -86,9 +108,13 @@ abbrev pub func_at : Deployment → ℕ → Option Func
 func_at d zero = None
 func_at d (suc n) = slice_get d.funcs n
 
+-- the parameter has the arguments
+abbrev pub first_variables : Func → Value → Bindings
+first_variables f args = map.insert no_variables f.param args
+
 abbrev pub wants_of : Option Func → Value → List Answer → Effect
 wants_of None args answers = effect.Return (outcome.Value Null)
-wants_of (Some f) args answers = run_block f.tables 0 f.body ((f.param, args) ∷ []) answers
+wants_of (Some f) args answers = run_block f.tables 0 f.body (first_variables f args) answers
 
 -- the effect that the function's body wants, with these arguments and after these answers
 abbrev pub wants : Deployment → ℕ → Value → List Answer → Effect

@@ -37,6 +37,8 @@ pub struct Stmt {
 /// The forms of statements.
 #[derive(Drop)]
 pub enum Form {
+    /// Sets a variable to the value of an item of the function's own table.
+    Read { name: Str, table: Str, key: Str },
     /// Sets an item of the function's own table.
     Write { table: Str, key: Str, value: Expr },
     Return(Expr),

@@ -4,6 +4,7 @@ use beldi_value::{Outcome, Str, Value};
 /// An effect that a body wants.
 #[derive(Drop)]
 pub enum Effect {
+    Read { table: u16, key: Str },
     Write { table: u16, key: Str, value: Value },
     Return(Outcome),
 }
@@ -11,6 +12,8 @@ pub enum Effect {
 /// An answer to an effect.
 #[derive(Drop)]
 pub enum Answer {
+    /// A read found this.
+    Value(Value),
     /// A write was made.
     Done,
 }

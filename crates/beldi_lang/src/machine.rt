@@ -1,12 +1,12 @@
 // The machine that runs a body, one answer at a time.
 ghost use Rattle.std.specs.Prelude.{◌≡◌, ◌+◌, ◌-◌, ◌<◌, ◌^◌, ◌++◌, ◌∷◌, [], ℕ, List, length, slice_get, option_copied, min, IfOk, IsTrue};
 ghost use Rattle.beldi_lang.specs.Wants.{func_at, table_number as table_number_of, counted as counted_of, value_of, wants, wants_answer};
-ghost use Rattle.beldi_lang.specs.Machine.{begun, resumed, effect_at, effect_of_form, IsAt};
+ghost use Rattle.beldi_lang.specs.Machine.{begun, resumed, effect_at, effect_of_form, name_of as name_of_stmt, after_stmt, IsAt};
 ghost use Rattle.beldi_lang.specs.declared.effect.Answer.{Answer};
 ghost use Rattle.beldi_lang.specs.declared.deployment.Deployment.{Deployment};
 ghost use Rattle.beldi_value.specs.declared.value.Value.{Value};
 
-use crate::deployment::{Deployment, Expr, Form, Func};
+use crate::deployment::{Deployment, Expr, Form, Func, Stmt};
 use crate::effect::{Answer, Effect};
 use crate::variables::Variables;
 use beldi_value::{Code, Outcome, Str, Value};
@@ -92,6 +92,15 @@ fn effect_from(
     ensures { IfOk result (λ e. e ≡ effect_of_form func.now.tables used form.now variables.now) }
 {
     match form {
+        Form::Read {
+            name: _,
+            table,
+            key,
+        } => {
+            let table = table_number(func, table);
+            let key = key.copy(alloc)?;
+            Ok(counted(used, Effect::Read { table, key }))
+        }
         Form::Write { table, key, value } => {
             let effect = Effect::Write {
                 table: table_number(func, table),
@@ -106,6 +115,13 @@ fn effect_from(
     }
 }
 
+// The statement of this number, from 0.
+fn stmt_at(func: &Func, number: u32) -> Option<&Stmt>
+    ensures { option_copied result ≡ slice_get func.now.body number }
+{
+    func.body.as_slice().get(number as usize)
+}
+
 // The effect of the statement of this number, from 0.
 fn effect_of(
     alloc: Global,
@@ -115,10 +131,40 @@ fn effect_of(
 ) -> Result<Effect, AllocError>
     ensures { IfOk result (λ e. e ≡ effect_at func.now number variables.now) }
 {
-    match func.body.as_slice().get(number as usize) {
+    match stmt_at(func, number) {
         Some(stmt) => effect_from(alloc, func, number, variables, &stmt.form),
         None => Ok(Effect::Return(Outcome::Value(Value::Null))),
     }
+}
+
+// The name that the statement sets to its answer.
+fn name_of(stmt: Option<&Stmt>) -> Option<&Str>
+    ensures { option_copied result ≡ name_of_stmt (option_copied stmt.entry) }
+{
+    match stmt {
+        Some(
+            Stmt {
+                form: Form::Read { name, .. },
+            },
+        ) => Some(name),
+        _ => None,
+    }
+}
+
+// The variables after a statement had its answer.
+fn answered(
+    alloc: Global,
+    stmt: Option<&Stmt>,
+    variables: Variables,
+    answer: Answer,
+) -> Result<Variables, AllocError>
+    ensures { IfOk result (λ v. v ≡ after_stmt (option_copied stmt.entry) variables answer) }
+{
+    let mut variables = variables;
+    if let (Some(name), Answer::Value(value)) = (name_of(stmt), answer) {
+        variables.set(name.copy(alloc)?, value)?;
+    }
+    Ok(variables)
 }
 
 impl Machine {
@@ -126,7 +172,8 @@ impl Machine {
     pub fn new(alloc: Global, func: &Func, number: u16, args: Value) -> Result<Machine, AllocError>
         ensures { IfOk result (λ m. m ≡ begun number func.now args) }
     {
-        let variables = Variables::one(alloc, func.param.copy(alloc)?, args)?;
+        let mut variables = Variables::new(alloc);
+        variables.set(func.param.copy(alloc)?, args)?;
         let effect = effect_of(alloc, func, 0, &variables)?;
         Ok(Machine {
             func: number,
@@ -154,9 +201,8 @@ impl Machine {
 impl Machine {
     /// Takes the answer to the effect, and goes on to the next one.
     pub fn resume(self, alloc: Global, func: &Func, answer: Answer) -> Result<Machine, AllocError>
-        requires { IsTrue (wants_answer self.effect) }
         ensures resumed { IfOk result (λ m. m ≡ resumed func.now self answer) }
-        ensures stands { IfOk result (λ m. (d : Deployment) (args : Value) (before : List Answer) → func_at d self.func ≡ Some func.now → IsAt d self.func args self before → IsAt d self.func args m (before ++ answer ∷ [])) }
+        ensures stands { IfOk result (λ m. (d : Deployment) (args : Value) (before : List Answer) → IsTrue (wants_answer self.effect) → func_at d self.func ≡ Some func.now → IsAt d self.func args self before → IsAt d self.func args m (before ++ answer ∷ [])) }
     {
         let Machine {
             func: number,
@@ -164,6 +210,7 @@ impl Machine {
             steps,
             effect: _,
         } = self;
+        let variables = answered(alloc, stmt_at(func, steps), variables, answer)?;
         let steps = steps.saturating_add(1);
         let effect = effect_of(alloc, func, steps, &variables)?;
         Ok(Machine {

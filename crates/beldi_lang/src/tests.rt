@@ -22,6 +22,16 @@ fn write(alloc: Global, table: &str, key: &str, value: Expr) -> Result<Stmt, All
     })
 }
 
+fn read(alloc: Global, name: &str, table: &str, key: &str) -> Result<Stmt, AllocError> {
+    Ok(Stmt {
+        form: Form::Read {
+            name: Str::from_text(alloc, name)?,
+            table: Str::from_text(alloc, table)?,
+            key: Str::from_text(alloc, key)?,
+        },
+    })
+}
+
 fn returns(alloc: Global, name: &str) -> Result<Stmt, AllocError> {
     Ok(Stmt {
         form: Form::Return(Expr::Name(Str::from_text(alloc, name)?)),
@@ -66,9 +76,10 @@ fn number(value: &Value) -> i64 {
     }
 }
 
-// A write by its table, its key and its number; a return by its number.
+// A read by its table and its key; a write also by its number; a return by its number.
 fn parts(effect: &Effect) -> (&'static str, u16, &str, i64) {
     match effect {
+        Effect::Read { table, key } => ("read", *table, key.as_str(), 0),
         Effect::Write { table, key, value } => ("write", *table, key.as_str(), number(value)),
         Effect::Return(Outcome::Value(value)) => ("return", 0, "", number(value)),
         Effect::Return(Outcome::Fault(Code::Steps)) => ("steps", 0, "", 0),
@@ -98,6 +109,32 @@ fn wants_step_by_step(rt: HostRuntime) -> Result<(), Fail> {
     }
     assert_eq!(rt; machine.steps(), 2);
     assert_eq!(rt; parts(machine.wants()), ("return", 0, "", -1));
+    Ok(())
+}
+
+// fn f(x) over tables s, t { v = t["a"]; t["b"] = v; x = s["a"]; return x }
+fn reader(alloc: Global) -> Result<Func, AllocError> {
+    let mut body = Block::new(alloc);
+    body.push(read(alloc, "v", "t", "a")?)?;
+    let v = Expr::Name(Str::from_text(alloc, "v")?);
+    body.push(write(alloc, "t", "b", v)?)?;
+    body.push(read(alloc, "x", "s", "a")?)?;
+    body.push(returns(alloc, "x")?)?;
+    func(alloc, body)
+}
+
+#[test]
+fn what_was_read_is_a_variable(rt: HostRuntime) -> Result<(), Fail> {
+    let alloc = rt.alloc();
+    let func = reader(alloc)?;
+    let machine = Machine::new(alloc, &func, 1, Value::Int(7))?;
+    assert_eq!(rt; parts(machine.wants()), ("read", 1, "a", 0));
+    let machine = machine.resume(alloc, &func, Answer::Value(Value::Int(5)))?;
+    assert_eq!(rt; parts(machine.wants()), ("write", 1, "b", 5));
+    let machine = machine.resume(alloc, &func, Answer::Done)?;
+    assert_eq!(rt; parts(machine.wants()), ("read", 0, "a", 0));
+    let machine = machine.resume(alloc, &func, Answer::Value(Value::Int(6)))?;
+    assert_eq!(rt; parts(machine.wants()), ("return", 0, "", 6));
     Ok(())
 }
 
@@ -145,8 +182,11 @@ fn most_effects(rt: HostRuntime) -> Result<(), Fail> {
 fn variables_have_values(rt: HostRuntime) -> Result<(), Fail> {
     let alloc = rt.alloc();
     let x = Str::from_text(alloc, "x")?;
-    let variables = Variables::one(alloc, x.copy(alloc)?, Value::Int(7))?;
-    assert_eq!(rt; variables.get(&x).map(number), Some(7));
+    let mut variables = Variables::new(alloc);
+    assert!(rt; variables.get(&x).is_none());
+    variables.set(x.copy(alloc)?, Value::Int(7))?;
+    variables.set(x.copy(alloc)?, Value::Int(8))?;
+    assert_eq!(rt; variables.get(&x).map(number), Some(8));
     assert!(rt; variables.get(&Str::new(alloc)).is_none());
     Ok(())
 }

@@ -1,49 +1,55 @@
 // The variables of a body.
-ghost use Rattle.std.specs.Prelude.{◌≡◌, ◌∷◌, [], option_copied, IfOk};
-ghost use Rattle.beldi_lang.specs.Wants.{found};
+ghost use Rattle.std.specs.Prelude.{◌≡◌, option_copied, OnOk};
+ghost use Rattle.std.specs.FinMap as map;
+ghost use Rattle.beldi_lang.specs.Wants.{no_variables};
 
 use beldi_value::{Str, Value};
 use std::alloc::{AllocError, Global};
+use std::collections::BTreeMap;
 use std::marker::Model;
 
-/// Names with their values; the first of a name counts.
+/// Names with their values.
 #[derive(Drop)]
 pub struct Variables {
-    items: Vec<(Str, Value)>,
+    entries: BTreeMap<Str, Value>,
 }
 
 impl Model for Variables {
-    ghost use Rattle.std.specs.Prelude.{List, ℕ};
-    ghost use Rattle.beldi_value.specs.declared.value.Value as value;
-    ghost use Rattle.std.specs.Coded.{coded×, coded_list, coded_ℕ};
+    ghost use Rattle.std.specs.FinMap as map;
+    ghost use Rattle.std.specs.Coded.{coded_list, coded_ℕ};
     ghost use Rattle.beldi_value.specs.Injective.{coded_value};
+    ghost use Rattle.beldi_lang.specs.Wants.{Bindings};
 
-    ghost Value = { List (List ℕ × value.Value) };
+    ghost Value = { Bindings };
 
-    ghost coded = { coded_list (coded× (coded_list coded_ℕ) coded_value) };
+    ghost coded = { map.code (coded_list coded_ℕ) coded_value };
 
-    ghost view = { λ a. a.items.items };
+    ghost view = { λ a. map.from_entries a.entries.entries };
 }
 
 impl Variables {
-    /// One variable with its value.
-    pub fn one(alloc: Global, name: Str, value: Value) -> Result<Variables, AllocError>
-        ensures { IfOk result (λ v. v ≡ (name, value) ∷ []) }
+    pub fn new(alloc: Global) -> Variables
+        ensures { result ≡ no_variables }
     {
-        let mut items = Vec::new(alloc);
-        items.push((name, value))?;
-        Ok(Variables { items })
+        Variables {
+            entries: BTreeMap::new(alloc),
+        }
     }
 
     /// The value of a name, where it has one.
     pub fn get(&self, name: &Str) -> Option<&Value>
-        ensures { option_copied result ≡ found self.now name.now }
+        ensures { option_copied result ≡ map.get self.now name.now }
     {
-        for item in &self.items {
-            if item.0 == *name {
-                return Some(&item.1);
-            }
+        self.entries.get(name)
+    }
+
+    /// Gives a name this value.
+    pub fn set(&mut self, name: Str, value: Value) -> Result<(), AllocError>
+        ensures { OnOk result (self.new ≡ map.insert self.old name value) }
+    {
+        match self.entries.insert(name, value) {
+            Ok(_) => Ok(()),
+            Err(_) => Err(AllocError),
         }
-        None
     }
 }

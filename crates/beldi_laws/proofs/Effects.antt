@@ -15,17 +15,16 @@ use Rattle.beldi_lang.specs.declared.effect.Effect.TheVariants.{Return}
 use Rattle.beldi_lang.specs.declared.effect.Answer.{Answer}
 use Rattle.beldi_lang.specs.declared.machine.Machine.{Machine}
 use Rattle.beldi_lang.specs.Wants.{Bindings, run_block, run_form, go_on, func_at, wants, wants_of, wants_answer}
-use Rattle.beldi_lang.specs.Machine.{begun, resumed, next_step, effect_at, effect_of as effect_of_stmt, effect_of_form, IsAt}
+use Rattle.beldi_lang.specs.Machine.{begun, resumed, next_step, after_stmt, effect_at, effect_of as effect_of_stmt, effect_of_form, IsAt}
 use Rattle.beldi_lang.proofs.Resumes.{resumes}
+use Rattle.beldi_order.proofs.Entries.{same_some}
 use Rattle.beldi_plain.specs.Plain.{Instance, answered, effect_of}
 use Rattle.beldi_plain.specs.Item.{Item}
-use Rattle.beldi_laws.specs.Right.{owed_by, note_if, note_for, IsAnswerTo, SaneInstance}
-
-pub same_some : {X : Type 0} {x y : X} → Some x ≡ Some y → x ≡ y
-same_some h = cc
+use Rattle.beldi_laws.specs.Right.{owed_by, note_if, note_for, owed_value, value_if, value_for, IsAnswerTo, SaneInstance}
 
 -- ---- a machine's effect
 form_effect : (ts : List TableHead) (n : ℕ) (f : Form) (vs : Bindings) (next : Bindings → List Answer → Effect) → go_on next (run_form ts n f vs []) ≡ effect_of_form ts n f vs
+form_effect ts n (form.Read x t k) vs next = refl
 form_effect ts n (form.Write t k e) vs next = refl
 form_effect ts n (form.Return e) vs next = refl
 
@@ -50,7 +49,7 @@ at_begin d func args f h = record {
 }
 
 pub at_next : (d : Deployment) (func : ℕ) (args : Value) (m : Machine) (answers : List Answer) (f : Func) (a : Answer) → IsTrue (wants_answer m.effect) → func_at d func ≡ Some f → IsAt d func args m answers → IsAt d func args (resumed f m a) (answers ++ a ∷ [])
-at_next d func args m answers f a w is h = resumes d func args m answers f a (next_step m.steps) (effect_at f (next_step m.steps) m.variables) refl refl w is h
+at_next d func args m answers f a w is h = resumes d func args m answers f a (next_step m.steps) (after_stmt (slice_get f.body m.steps) m.variables a) (effect_at f (next_step m.steps) (after_stmt (slice_get f.body m.steps) m.variables a)) refl refl refl w is h
 
 -- ---- lists that grow
 pub take_front : (xs bs : List Answer) → take (length xs) (xs ++ bs) ≡ xs
@@ -83,6 +82,9 @@ pushed_cases (c ∷ cs) a b (suc n) h = elim (pushed_cases cs a b n h) [
 -- ---- one answer more
 pub owed_pushed : (d : Deployment) (x : Item) (n : ℕ) (q : Instance) (a : Answer) → owed_by d x n (Some (answered q a)) ≡ (if n == length q.answers then note_for x q.func (effect_of d q) a else owed_by d x n (Some q))
 owed_pushed d x n q a = pushed_at (λ xs o. note_if x q.func (wants d q.func q.args xs) o) (λ ts us. refl) q.answers a n
+
+pub value_pushed : (d : Deployment) (f n : ℕ) (q : Instance) (a : Answer) → owed_value d f n (Some (answered q a)) ≡ (if n == length q.answers then (if q.func == f then value_for (effect_of d q) a else None) else owed_value d f n (Some q))
+value_pushed d f n q a = pushed_at (λ xs o. if q.func == f then value_if (wants d q.func q.args xs) o else None) (λ ts us. refl) q.answers a n
 
 pub sane_pushed : (d : Deployment) (q : Instance) (a : Answer) → q.outcome ≡ None → IsAnswerTo (effect_of d q) a → SaneInstance d q → SaneInstance d (answered q a)
 sane_pushed d q a none is h = record {

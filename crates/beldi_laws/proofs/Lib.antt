@@ -1,11 +1,12 @@
-mod Books
 mod Effects
 pub mod Events
 pub mod Listing
-mod Little
-mod Lives
+pub mod Little
+pub mod Lives
 mod Moves
 mod Notes
+pub mod OneAnswer
+mod Readings
 mod Rows
 pub mod Standing
 pub mod Starts

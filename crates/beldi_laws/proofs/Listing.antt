@@ -12,11 +12,11 @@ use Rattle.beldi_value.specs.declared.value.Value.{Value}
 use Rattle.beldi_value.specs.declared.value.Value.TheVariants.{Null}
 use Rattle.beldi_lang.specs.declared.deployment.Deployment.{Deployment}
 use Rattle.beldi_lang.specs.declared.effect.Effect.{Effect}
-use Rattle.beldi_lang.specs.declared.effect.Effect.TheVariants.{Write, Return}
+use Rattle.beldi_lang.specs.declared.effect.Effect.TheVariants as effect
 use Rattle.beldi_lang.specs.Wants.{or_null}
 use Rattle.beldi_book.specs.Text.{item_text}
 use Rattle.beldi_book.specs.declared.entry.Entry.{Entry}
-use Rattle.beldi_book.specs.declared.entry.Entry.TheVariants.{Start, Step}
+use Rattle.beldi_book.specs.declared.entry.Entry.TheVariants.{Start, Read, Step}
 use Rattle.beldi_row.specs.Key.{key_cmp}
 use Rattle.beldi_row.specs.declared.key.RowKey.{RowKey}
 use Rattle.beldi_row.specs.declared.key.Kind.{Kind}
@@ -30,11 +30,13 @@ use Rattle.beldi_plain.specs.Legal.{run_of}
 use Rattle.beldi_plain.specs.Listing.{listing_of}
 use Rattle.beldi_step.specs.Host.{Core}
 use Rattle.beldi_step.specs.Tables.{tables_text, row_line, line_at, value_line}
-use Rattle.beldi_laws.specs.Stands.{head_key, content_in, content_of}
+use Rattle.beldi_laws.specs.Stands.{head_key, content_of}
+use Rattle.beldi_daal.specs.Content.{content_in}
 use Rattle.beldi_laws.specs.Right.{Right}
-use Rattle.beldi_laws.proofs.Rows.{key_same, head_order}
-use Rattle.beldi_laws.proofs.Books.{did, run_keeps}
-use Rattle.beldi_laws.proofs.Lives.{changed}
+use Rattle.beldi_row.proofs.Gets.{key_same}
+use Rattle.beldi_laws.proofs.Rows.{head_order}
+use Rattle.beldi_book.specs.Order.{linear}
+use Rattle.beldi_order.proofs.Entries.{changed, did, run_keeps}
 use Rattle.beldi_laws.proofs.Standing.{same_run}
 
 -- ---- no item of a plain state is kept as null
@@ -47,11 +49,13 @@ set_kept f y Null h = changed item_exact f (map.remove f y) y None (get-remove i
 set_kept f y v h = changed item_exact f (map.insert f y v) y (Some v) (get-insert item_total f y v) (λ x o. o ≡ Some Null → ⊥) (λ e. cc) h
 
 by_kept : (p : PlainState) (id : IntentId) (q : Instance) (e : Effect) → NoNull p.items → NoNull (step_by p id q e).items
-by_kept p id q (Write t k v) h = set_kept p.items (record { func = q.func; table = t; key = k }) v h
-by_kept p id q (Return o) h = h
+by_kept p id q (effect.Read t k) h = h
+by_kept p id q (effect.Write t k v) h = set_kept p.items (record { func = q.func; table = t; key = k }) v h
+by_kept p id q (effect.Return o) h = h
 
 after_kept : (d : Deployment) (p : PlainState) (e : Entry) (q : PlainState) → NoNull p.items → after d p e ≡ Some q → NoNull q.items
 after_kept d p (Start t f a) q h is = subst (λ (z : PlainState). NoNull z.items) (did d p (Start t f a) q is).leads h
+after_kept d p (Read id seen) q h is = let s = did d p (Read id seen) q is in subst (λ (z : PlainState). NoNull z.items) s.leads (by_kept p id s.instance (effect_of d s.instance) h)
 after_kept d p (Step id) q h is = let s = did d p (Step id) q is in subst (λ (z : PlainState). NoNull z.items) s.leads (by_kept p id s.instance (effect_of d s.instance) h)
 
 none_null : NoNull nothing.items
@@ -59,7 +63,7 @@ unfolding NoNull
 none_null x e = let g = sym (get-empty item_cmp x) ∙ e in cc
 
 no_null : (d : Deployment) (es : List Entry) (p : PlainState) → run_of d es ≡ Some p → NoNull p.items
-no_null d es p is = run_keeps d (λ q. NoNull q.items) (after_kept d) nothing es p none_null is
+no_null d es p is = run_keeps d (λ q. NoNull q.items) (after_kept d) nothing (linear es) p none_null is
 
 -- ---- the entries of rows, as entries of items
 not_null : Value → Option Value

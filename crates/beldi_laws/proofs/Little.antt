@@ -10,95 +10,134 @@ use Rattle.beldi_row.specs.declared.act.Act.TheVariants.{Issue, Bind}
 use Rattle.beldi_row.specs.Act.{Tell, added, bound, running, ended, other}
 use Rattle.beldi_row.specs.Table.{Rows, after_act, tell_act}
 use Rattle.beldi_step.specs.declared.event.Event.{Event}
-use Rattle.beldi_step.specs.declared.event.Event.TheVariants.{Ticket, Request, Turn}
+use Rattle.beldi_step.specs.declared.event.Event.TheVariants.{Ticket, Request, Turn, Lost, Crash, Restart}
 use Rattle.beldi_step.specs.declared.event.Seen.{Seen}
 use Rattle.beldi_step.specs.declared.event.Seen.TheVariants as seen
+use Rattle.beldi_book.specs.declared.entry.Entry.{Entry}
+use Rattle.beldi_book.specs.declared.entry.Entry.TheVariants.{Start}
+use Rattle.std.specs.Prelude.{option_to_list}
 use Rattle.beldi_step.specs.declared.run.Run.{Run}
-use Rattle.beldi_step.specs.Host.{Core, Plan, Answer, Do, Acts, Follows, counted, plan, plan_of, request_next, ticket_next, turn_plan, most_events, most_runs, root_key}
+use Rattle.beldi_step.specs.Run.{run_turned}
+use Rattle.beldi_book.specs.Order.{count_changes}
+use Rattle.beldi_step.specs.Host.{Core, Plan, Answer, Do, Lose, Acts, Loses, Follows, counted, plan, plan_of, request_next, ticket_next, turn_plan, lost_plan, crash_plan, ended_run, restarted, no_run, is_lost, most_events, most_runs, root_key}
 use Rattle.beldi_laws.proofs.Starts.{dropped_book}
-use Rattle.beldi_laws.specs.Laws.{ChangesOneRow, WritesWhatIsTold, entries_told}
+use Rattle.beldi_laws.specs.Laws.{ChangesOneRow, BookGrew, WritesWhatIsTold, entries_told}
 
 -- ---- rows
-acts_on_one : (room : ℕ) (e : Event) (c : Core) (k : RowKey) (a : Act) (f : Tell → Core × Seen) (m : Rows) (b : Core) (n : Rows) (x : Seen) → Acts room e c k a f m b n x → (n ≡ m) ⊎ ((k : RowKey) × (a : Act) × (n ≡ after_act a c.now k m))
-acts_on_one room e c k a f m b n (seen.Full live most) s = inl s.0
-acts_on_one room e c k a f m b n seen.Dropped s = inl s.0
-acts_on_one room e c k a f m b n x s = inr (k, a, s.0)
+abbrev OneRow : Core → Rows → Rows → Type 0
+OneRow c m n = (n ≡ m) ⊎ ((k : RowKey) × (a : Act) × (n ≡ after_act a c.now k m))
 
-follows_on_one : (room : ℕ) (e : Event) (c : Core) (p : Plan) (m : Rows) (b : Core) (n : Rows) (x : Seen) → Follows room e c p m b n x → (n ≡ m) ⊎ ((k : RowKey) × (a : Act) × (n ≡ after_act a c.now k m))
-follows_on_one room e c (Answer k y) m b n x s = inl s.0
-follows_on_one room e c (Do k a f) m b n x s = acts_on_one room e c k a f m b n x s
+acts_on_one : (room old new : ℕ) (e : Event) (c : Core) (k : RowKey) (a : Act) (f : Tell → Core × Seen) (m : Rows) (b : Core) (n : Rows) (x : Seen) → Acts room old new e c k a f m b n x → OneRow c m n
+acts_on_one room old new e c k a f m b n (seen.Full live most) s = inl s.0
+acts_on_one room old new e c k a f m b n seen.Dropped s = inl s.0
+acts_on_one room old new e c k a f m b n x s = inr (k, a, s.0)
+
+loses_on_one : (room old new : ℕ) (e : Event) (c : Core) (k : RowKey) (a : Act) (f : Tell → Core) (m : Rows) (b : Core) (n : Rows) → Loses room old new e c k a f m b n → OneRow c m n
+loses_on_one room old new e c k a f m b n s = elim s [
+  | inl s ↦ inr (k, a, s.0)
+  | inr s ↦ inl s.0
+]
+
+follows_on_one : (room old new : ℕ) (e : Event) (c : Core) (p : Plan) (m : Rows) (b : Core) (n : Rows) (x : Seen) → Follows room old new e c p m b n x → OneRow c m n
+follows_on_one room old new e c (Answer k y) m b n x s = inl s.0
+follows_on_one room old new e c (Do k a f) m b n x s = acts_on_one room old new e c k a f m b n x s
+follows_on_one room old new e c (Lose k a f) m b n x s = loses_on_one room old new e c k a f m b n s.1
 
 pub one_row : ChangesOneRow
-one_row d room e c b m n x s = follows_on_one room e (counted c) (plan d e c) m b n x s
+one_row d room old new e c b m n x s = follows_on_one room old new e (counted c) (plan d e c) m b n x s
 
 -- ---- the book
-abbrev Writes : Event → Core → Core → Seen → Type 0
-Writes e c b x = b.book ≡ c.book ++ entries_told e x
-
 abbrev PlanWrites : Event → Core → Plan → Type 0
-PlanWrites e c (Answer b y) = Writes e c b y
-PlanWrites e c (Do k a f) = (t : Tell) → Writes e c (f t).0 (f t).1
+PlanWrites e c (Answer b y) = BookGrew e c b y
+PlanWrites e c (Do k a f) = (t : Tell) → BookGrew e c (f t).0 (f t).1
+PlanWrites e c (Lose k a f) = (is_lost e ≡ true) × ((t : Tell) → (o : Option Entry) × ((f t).book ≡ c.book ++ option_to_list o))
 
 writes_if : (e : Event) (c : Core) (b : Bool) (p q : Plan) → PlanWrites e c p → PlanWrites e c q → PlanWrites e c (if b then p else q)
 writes_if e c true p q g h = g
 writes_if e c false p q g h = h
 
-nothing_more : (c : Core) → c.book ≡ c.book ++ []
-nothing_more c = sym (append-nil c.book)
+-- nothing is written, and nothing told
+none : (e : Event) (c b : Core) (x : Seen) → b.book ≡ c.book → entries_told e x ≡ [] → BookGrew e c b x
+none e c b x same told = record { entry = None; book = same ∙ sym (append-nil c.book); told = λ l. sym told }
 
-ticket_writes : (c : Core) (t : Tell) → Writes Ticket c (ticket_next c t).0 (ticket_next c t).1
-ticket_writes c added = nothing_more c
-ticket_writes c t = nothing_more c
+ticket_writes : (c : Core) (t : Tell) → BookGrew Ticket c (ticket_next c t).0 (ticket_next c t).1
+ticket_writes c added = none Ticket c (record c { newest = c.newest + 1 }) (seen.Issued (c.newest + 1)) refl refl
+ticket_writes c t = none Ticket c c (seen.Gone (c.newest + 1)) refl refl
 
-request_writes : (c : Core) (t f : ℕ) (a : Value) (u : Tell) → Writes (Request t f a) c (request_next c t f a u).0 (request_next c t f a u).1
-request_writes c t f a bound = refl
-request_writes c t f a (other b) = nothing_more c
-request_writes c t f a (ended o) = nothing_more c
-request_writes c t f a running = nothing_more c
-request_writes c t f a u = nothing_more c
+request_writes : (c : Core) (t f : ℕ) (a : Value) (u : Tell) → BookGrew (Request t f a) c (request_next c t f a u).0 (request_next c t f a u).1
+request_writes c t f a bound = record { entry = Some (Start t f a); book = refl; told = λ l. refl }
+request_writes c t f a (other b) = none (Request t f a) c c (seen.Other t b.func b.args) refl refl
+request_writes c t f a (ended o) = none (Request t f a) c c (seen.Replied t o) refl refl
+request_writes c t f a running = none (Request t f a) c c (seen.Running t) refl refl
+request_writes c t f a u = none (Request t f a) c c (seen.Gone t) refl refl
 
-no_run_writes : (c : Core) (i : ℕ) (b : Bool) → Writes (Turn i) c c (if b then seen.NoRun else seen.RunOver)
-no_run_writes c i true = nothing_more c
-no_run_writes c i false = nothing_more c
+none_live : (e : Event) (c : Core) (i : ℕ) → ((b : Bool) → entries_told e (if b then seen.NoRun else seen.RunOver) ≡ []) → BookGrew e c c (no_run c i)
+none_live e c i told = none e c c (no_run c i) refl (told ((i == 0) || nat_lt c.last_run i))
+
+turn_told : (i : ℕ) (b : Bool) → entries_told (Turn i) (if b then seen.NoRun else seen.RunOver) ≡ []
+turn_told i true = refl
+turn_told i false = refl
 
 turn_writes : (d : Deployment) (c : Core) (i : ℕ) (r : Option Run) → PlanWrites (Turn i) c (turn_plan d c i r)
-turn_writes d c i None = no_run_writes c i ((i == 0) || nat_lt c.last_run i)
-turn_writes d c i (Some r) = λ t. refl
+turn_writes d c i None = none_live (Turn i) c i (turn_told i)
+turn_writes d c i (Some r) = λ t. record { entry = (run_turned d r (count_changes c.book) t).entry; book = refl; told = λ l. refl }
+
+lost_told : (i : ℕ) (b : Bool) → entries_told (Lost i) (if b then seen.NoRun else seen.RunOver) ≡ []
+lost_told i true = refl
+lost_told i false = refl
+
+lost_writes : (d : Deployment) (c : Core) (i : ℕ) (r : Option Run) → PlanWrites (Lost i) c (lost_plan d c i r)
+lost_writes d c i None = none_live (Lost i) c i (lost_told i)
+lost_writes d c i (Some r) = (refl, λ t. ((run_turned d r (count_changes c.book) t).entry, refl))
+
+crash_told : (i : ℕ) (b : Bool) → entries_told (Crash i) (if b then seen.NoRun else seen.RunOver) ≡ []
+crash_told i true = refl
+crash_told i false = refl
+
+crash_writes : (c : Core) (i : ℕ) (r : Option Run) → PlanWrites (Crash i) c (crash_plan c i r)
+crash_writes c i None = none_live (Crash i) c i (crash_told i)
+crash_writes c i (Some r) = none (Crash i) c (ended_run c i) seen.Crashed refl refl
 
 plan_writes : (d : Deployment) (e : Event) (c : Core) → PlanWrites e c (plan_of d e c)
-plan_writes d Ticket c = writes_if Ticket c (c.newest == 2 ^ 32 - 1) (Answer c seen.NoTicket) (Do (root_key (c.newest + 1)) Issue (ticket_next c)) (nothing_more c) (ticket_writes c)
+plan_writes d Ticket c = writes_if Ticket c (c.newest == 2 ^ 32 - 1) (Answer c seen.NoTicket) (Do (root_key (c.newest + 1)) Issue (ticket_next c)) (none Ticket c c seen.NoTicket refl refl) (ticket_writes c)
 plan_writes d (Request t f a) c =
-    writes_if (Request t f a) c ((t == 0) || nat_lt c.newest t) (Answer c (seen.Unknown t)) (if nat_le most_runs (map.len c.runs) then Answer c seen.Crowded else Do (root_key t) (Bind f a) (request_next c t f a)) (nothing_more c)
-    (writes_if (Request t f a) c (nat_le most_runs (map.len c.runs)) (Answer c seen.Crowded) (Do (root_key t) (Bind f a) (request_next c t f a)) (nothing_more c) (request_writes c t f a))
+    writes_if (Request t f a) c ((t == 0) || nat_lt c.newest t) (Answer c (seen.Unknown t)) (if nat_le most_runs (map.len c.runs) then Answer c seen.Crowded else Do (root_key t) (Bind f a) (request_next c t f a))
+    (none (Request t f a) c c (seen.Unknown t) refl refl)
+    (writes_if (Request t f a) c (nat_le most_runs (map.len c.runs)) (Answer c seen.Crowded) (Do (root_key t) (Bind f a) (request_next c t f a)) (none (Request t f a) c c seen.Crowded refl refl) (request_writes c t f a))
 plan_writes d (Turn i) c = turn_writes d c i (map.get c.runs i)
+plan_writes d (Lost i) c = lost_writes d c i (map.get c.runs i)
+plan_writes d (Crash i) c = crash_writes c i (map.get c.runs i)
+plan_writes d (Restart id f) c =
+    writes_if (Restart id f) c (nat_le most_runs (map.len c.runs)) (Answer c seen.Crowded) (Answer (restarted c id f) (seen.Started (c.last_run + 1))) (none (Restart id f) c c seen.Crowded refl refl)
+    (none (Restart id f) c (restarted c id f) (seen.Started (c.last_run + 1)) refl refl)
 
--- a full table, and one that failed, leave the book
-left : (e : Event) (c b : Core) → b.book ≡ c.book → b.book ≡ c.book ++ []
-left e c b s = s ∙ nothing_more c
+-- a full table, one that failed, and a host that is spent tell no entry
+none_told : (e : Event) (x : Seen) → (x ≡ seen.Dropped) ⊎ (x ≡ seen.Spent) ⊎ ((live : ℕ) × (room : ℕ) × (x ≡ seen.Full live room)) → entries_told e x ≡ []
+none_told (Request t f a) x h = elim h [ inl h ↦ ap (entries_told (Request t f a)) h | inr h ↦ elim h [ inl h ↦ ap (entries_told (Request t f a)) h | inr h ↦ ap (entries_told (Request t f a)) h.2 ] ]
+none_told Ticket x h = elim h [ inl h ↦ ap (entries_told Ticket) h | inr h ↦ elim h [ inl h ↦ ap (entries_told Ticket) h | inr h ↦ ap (entries_told Ticket) h.2 ] ]
+none_told (Turn i) x h = elim h [ inl h ↦ ap (entries_told (Turn i)) h | inr h ↦ elim h [ inl h ↦ ap (entries_told (Turn i)) h | inr h ↦ ap (entries_told (Turn i)) h.2 ] ]
+none_told (Lost i) x h = elim h [ inl h ↦ ap (entries_told (Lost i)) h | inr h ↦ elim h [ inl h ↦ ap (entries_told (Lost i)) h | inr h ↦ ap (entries_told (Lost i)) h.2 ] ]
+none_told (Crash i) x h = elim h [ inl h ↦ ap (entries_told (Crash i)) h | inr h ↦ elim h [ inl h ↦ ap (entries_told (Crash i)) h | inr h ↦ ap (entries_told (Crash i)) h.2 ] ]
+none_told (Restart id f) x h = elim h [ inl h ↦ ap (entries_told (Restart id f)) h | inr h ↦ elim h [ inl h ↦ ap (entries_told (Restart id f)) h | inr h ↦ ap (entries_told (Restart id f)) h.2 ] ]
 
-none_told : (e : Event) (x : Seen) → (x ≡ seen.Dropped) ⊎ ((live : ℕ) × (room : ℕ) × (x ≡ seen.Full live room)) → entries_told e x ≡ []
-none_told Ticket x h = elim h [ inl h ↦ ap (entries_told Ticket) h | inr h ↦ ap (entries_told Ticket) h.2 ]
-none_told (Request t f a) x h = elim h [ inl h ↦ ap (entries_told (Request t f a)) h | inr h ↦ ap (entries_told (Request t f a)) h.2 ]
-none_told (Turn i) x h = elim h [ inl h ↦ ap (entries_told (Turn i)) h | inr h ↦ ap (entries_told (Turn i)) h.2 ]
+acts_write : (room old new : ℕ) (e : Event) (c : Core) (k : RowKey) (a : Act) (f : Tell → Core × Seen) (m : Rows) (b : Core) (n : Rows) (x : Seen) → ((t : Tell) → BookGrew e c (f t).0 (f t).1) → Acts room old new e c k a f m b n x → BookGrew e c b x
+acts_write room old new e c k a f m b n (seen.Full live most) h s = none e c b (seen.Full live most) (ap (λ z. z.book) s.1) (none_told e (seen.Full live most) (inr (inr (live, most, refl))))
+acts_write room old new e c k a f m b n seen.Dropped h s = none e c b seen.Dropped (ap (λ z. z.book) s.1 ∙ dropped_book e c) (none_told e seen.Dropped (inl refl))
+acts_write room old new e c k a f m b n x h s = subst (λ (z : Core × Seen). BookGrew e c z.0 z.1) (sym s.1) (h (tell_act a c.now k m))
 
-quiet : (e : Event) (c b : Core) (x : Seen) → entries_told e x ≡ [] → b.book ≡ c.book → Writes e c b x
-quiet e c b x none s = left e c b s ∙ ap (λ es. c.book ++ es) (sym none)
+loses_write : (room old new : ℕ) (e : Event) (c : Core) (k : RowKey) (a : Act) (f : Tell → Core) (m : Rows) (b : Core) (n : Rows) (x : Seen) → PlanWrites e c (Lose k a f) → Loses room old new e c k a f m b n → BookGrew e c b x
+loses_write room old new e c k a f m b n x h s = elim s [
+  | inl s ↦ let o = h.1 (tell_act a c.now k m) in record { entry = o.0; book = ap (λ z. z.book) s.1 ∙ o.1; told = λ l. let clash = sym l ∙ h.0 in cc }
+  | inr s ↦ record { entry = None; book = ap (λ z. z.book) s.1 ∙ dropped_book e c ∙ sym (append-nil c.book); told = λ l. let clash = sym l ∙ h.0 in cc }
+]
 
-acts_write : (room : ℕ) (e : Event) (c : Core) (k : RowKey) (a : Act) (f : Tell → Core × Seen) (m : Rows) (b : Core) (n : Rows) (x : Seen) → ((t : Tell) → Writes e c (f t).0 (f t).1) → Acts room e c k a f m b n x → Writes e c b x
-acts_write room e c k a f m b n (seen.Full live most) h s = quiet e c b (seen.Full live most) (none_told e (seen.Full live most) (inr (live, most, refl))) (ap (λ z. z.book) s.1)
-acts_write room e c k a f m b n seen.Dropped h s = quiet e c b seen.Dropped (none_told e seen.Dropped (inl refl)) (ap (λ z. z.book) s.1 ∙ dropped_book e c)
-acts_write room e c k a f m b n x h s = subst (λ (z : Core × Seen). Writes e c z.0 z.1) (sym s.1) (h (tell_act a c.now k m))
-
-follows_write : (room : ℕ) (e : Event) (c : Core) (p : Plan) (m : Rows) (b : Core) (n : Rows) (x : Seen) → PlanWrites e c p → Follows room e c p m b n x → Writes e c b x
-follows_write room e c (Answer k y) m b n x h s = ap (λ z. z.book) s.1 ∙ h ∙ ap (λ z. c.book ++ entries_told e z) (sym s.2)
-follows_write room e c (Do k a f) m b n x h s = acts_write room e c k a f m b n x h s
-
-spent_told : (e : Event) → entries_told e seen.Spent ≡ []
-spent_told Ticket = refl
-spent_told (Request t f a) = refl
-spent_told (Turn i) = refl
+follows_write : (room old new : ℕ) (e : Event) (c : Core) (p : Plan) (m : Rows) (b : Core) (n : Rows) (x : Seen) → PlanWrites e c p → Follows room old new e c p m b n x → BookGrew e c b x
+follows_write room old new e c (Answer k y) m b n x h s = record { entry = h.entry; book = ap (λ z. z.book) s.1 ∙ h.book; told = λ l. h.told l ∙ ap (entries_told e) (sym s.2) }
+follows_write room old new e c (Do k a f) m b n x h s = acts_write room old new e c k a f m b n x h s
+follows_write room old new e c (Lose k a f) m b n x h s = loses_write room old new e c k a f m b n x h s.1
 
 pub told_entries : WritesWhatIsTold
-told_entries d room e c b m n x s =
-    follows_write room e (counted c) (plan d e c) m b n x
-    (writes_if e (counted c) (nat_lt c.taken most_events) (plan_of d e (counted c)) (Answer c seen.Spent) (plan_writes d e (counted c)) (quiet e (counted c) c seen.Spent (spent_told e) refl)) s
+told_entries d room old new e c b m n x s =
+    let g = follows_write room old new e (counted c) (plan d e c) m b n x
+    (writes_if e (counted c) (nat_lt c.taken most_events) (plan_of d e (counted c)) (Answer c seen.Spent) (plan_writes d e (counted c)) (none e (counted c) c seen.Spent refl (none_told e seen.Spent (inr (inl refl))))) s in
+    record { entry = g.entry; book = g.book; told = g.told }

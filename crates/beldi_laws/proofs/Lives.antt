@@ -1,66 +1,61 @@
--- Maps that change at a key, plain states that grow, and live runs.
-use Rattle.std.proofs.Common.{◌≡◌, ℕ, ◌+◌, ◌-◌, ◌<◌, ◌≤◌, Bool, true, false, cond, List, [], ◌++◌, Option, None, Some, refl, ap, sym, ◌∙◌, subst, IsTrue, is_some, append_assoc, append-nil, arith}
+-- Live runs, and what they know when the book has grown.
+use Rattle.std.proofs.Common.{◌≡◌, ℕ, ◌+◌, ◌-◌, ◌<◌, ◌≤◌, Bool, true, false, cond, List, [], ◌∷◌, ◌++◌, length, length-append, Option, None, Some, refl, ap, sym, ◌∙◌, subst, IsTrue, is_some, append_assoc, append-nil, arith}
 use Rattle.std.specs.FinMap as map
-use Rattle.std.specs.FinMap.{FinMap, IsAntisymmetric, nat_cmp-IsAntisymmetric, get-insert, get-remove, len-insert, len-remove}
-use Rattle.std.specs.Cmp.{Equal-is, nat_cmp_total}
+use Rattle.std.specs.FinMap.{FinMap, nat_cmp-IsAntisymmetric, get-insert, get-remove, len-insert, len-remove, same_map}
+use Rattle.std.specs.Cmp.{nat_cmp_total}
 use Rattle.std.specs.Ordering.{is_eq, nat_cmp}
-use Rattle.std.specs.declared.cmp.Ordering.{Ordering}
-use Rattle.beldi_value.specs.Id.{id_cmp, id_total, id_exact}
 use Rattle.beldi_value.specs.declared.id.IntentId.{IntentId}
+use Rattle.beldi_value.specs.declared.value.Value.{Value}
 use Rattle.beldi_lang.specs.declared.deployment.Deployment.{Deployment}
 use Rattle.beldi_lang.specs.declared.effect.Answer.{Answer}
+use Rattle.beldi_lang.specs.declared.effect.Effect.{Effect}
+use Rattle.beldi_lang.specs.declared.effect.Effect.TheVariants.{Read, Write, Return}
 use Rattle.beldi_lang.specs.Machine.{IsAt}
+use Rattle.beldi_book.specs.declared.entry.Entry.{Entry}
+use Rattle.beldi_book.specs.Order.{changes_of, count_changes}
+use Rattle.beldi_book.proofs.Orders.{changes_more}
+use Rattle.beldi_plain.specs.Item.{Item}
 use Rattle.beldi_plain.specs.Plain.{Instance, PlainState}
+use borrow.Author.Tests.{ltb-true, ltb-false}
+use Rattle.std.specs.Prelude.{nat_lt}
+use Rattle.beldi_lang.specs.declared.effect.Answer.TheVariants as answer
+use Rattle.beldi_book.specs.declared.entry.Entry.TheVariants as entry
+use Rattle.beldi_plain.specs.Plain.{answered}
+use Rattle.beldi_order.specs.Laws.{IsLast, with_answer, IsKeptLate}
+use Rattle.beldi_order.proofs.Entries.{changed, Grown, GrownAt, Grows, grows_set}
+use Rattle.beldi_order.proofs.Late.{elsewhere, here}
 use Rattle.beldi_step.specs.declared.run.Run.{Run}
 use Rattle.beldi_step.specs.declared.run.Begun.{Begun}
+use Rattle.beldi_step.specs.declared.run.Stage.{Stage}
+use Rattle.beldi_step.specs.declared.run.Stage.TheVariants as stage
 use Rattle.beldi_step.specs.Host.{put_run, most_runs}
-use Rattle.beldi_laws.specs.Right.{Knows, KnowsAt, RunAt, RunsMatch}
+use Rattle.beldi_laws.specs.Right.{WasThere, Keeps, PlaceOk, Knows, KnowsAt, RunAt, RunsMatch}
 
--- what holds at the key that changed, and at all keys before, holds at all keys
-pub changed : {K X : Type 0} {R : K → K → Ordering} → IsAntisymmetric R → (m n : FinMap R X) (k : K) (v : Option X) → ((q : K) → map.get n q ≡ cond (is_eq (R q k)) v (map.get m q))
-    → (P : K → Option X → Type 0) → P k v → ((q : K) → P q (map.get m q)) → (q : K) → P q (map.get n q)
-changed {R = R} exact m n k v is P here others q = subst (P q) (sym (is q)) (elim (is_eq (R q k)) as (λ b. is_eq (R q k) ≡ b → P q (cond b v (map.get m q))) [
-  | true ↦ λ e. subst (λ z. P z v) (sym (exact q k ((Equal-is (R q k)).0 e))) here
-  | false ↦ λ e. others q
-] refl)
+-- ---- a run knows what it knew, when the book and the plain state have grown
+answers_of : Option Instance → List Answer
+answers_of None = []
+answers_of (Some i) = i.answers
 
--- ---- what was made
-pub Made : Type 0
-Made = FinMap id_cmp Instance
+-- its instance was not answered in between
+NotAnswered : PlainState → PlainState → Run → Type 0
+NotAnswered p q r = answers_of (map.get p.made r.id) ≡ answers_of (map.get q.made r.id)
 
--- an instance goes on: its function and its arguments are as before, and its answers go on
-pub record Grown (i j : Instance) : Type 0 where
-  pub func : j.func ≡ i.func
-  pub args : j.args ≡ i.args
-  pub later : List Answer
-  pub more : i.answers ++ later ≡ j.answers
+-- the place of its read, where it has still to be answered
+PlacesOn : Deployment → List Entry → List Entry → PlainState → PlainState → Run → Type 0
+PlacesOn d book more p q r = (answers later before : List Answer) (e : Effect) (s : Stage) → (later ≡ [] → (before ≡ []) × NotAnswered p q r) → PlaceOk d book r.id r.func answers before e s → PlaceOk d more r.id r.func answers later e s
 
-abbrev pub GrownAt : Option Instance → Option Instance → Type 0
-GrownAt None o = Unit {0}
-GrownAt (Some i) None = ⊥
-GrownAt (Some i) (Some j) = Grown i j
+no_more : (xs ys : List Answer) → xs ++ ys ≡ [] → (xs ≡ []) × (ys ≡ [])
+no_more [] ys h = (refl, h)
+no_more (x ∷ xs) ys h = cc
 
-abbrev pub Grows : FinMap id_cmp Instance → FinMap id_cmp Instance → Type 0
-Grows f g = (id : IntentId) → GrownAt (map.get f id) (map.get g id)
+not_answered : (p q : PlainState) (r : Run) (i j : Instance) → map.get p.made r.id ≡ Some i → map.get q.made r.id ≡ Some j → (w : Grown i j) → w.later ≡ [] → NotAnswered p q r
+unfolding NotAnswered answers_of
+not_answered p q r i j was is w none = ap answers_of was ∙ sym (append-nil i.answers) ∙ ap (λ xs. i.answers ++ xs) (sym none) ∙ w.more ∙ sym (ap answers_of is)
 
-grown_self : (o : Option Instance) → GrownAt o o
-grown_self None = tt
-grown_self (Some i) = record { func = refl; args = refl; later = []; more = append-nil i.answers }
-
-pub grows_self : (f : FinMap id_cmp Instance) → Grows f f
-grows_self f id = grown_self (map.get f id)
-
--- what is inserted at an id, and what was there elsewhere
-pub made_set : (f : FinMap id_cmp Instance) (id : IntentId) (s : Instance) (P : IntentId → Option Instance → Type 0) → P id (Some s) → ((j : IntentId) → P j (map.get f j)) → (j : IntentId) → P j (map.get (map.insert f id s) j)
-made_set f id s P here others = changed id_exact f (map.insert f id s) id (Some s) (get-insert id_total f id s) P here others
-
-pub grows_set : (f : FinMap id_cmp Instance) (id : IntentId) (s : Instance) → GrownAt (map.get f id) (Some s) → Grows f (map.insert f id s)
-grows_set f id s here = made_set f id s (λ j o. GrownAt (map.get f j) o) here (grows_self f)
-
--- ---- a run knows what it knew
-knows_more : (d : Deployment) (p q : PlainState) (r : Run) (g : Begun) (h : Knows d p r g) (o : Option Instance) → map.get q.made r.id ≡ o → GrownAt (Some h.instance) o → Knows d q r g
-knows_more d p q r g h None is w = absurd w
-knows_more d p q r g h (Some j) is w = record {
+knows_more : (d : Deployment) (book more : List Entry) (p q : PlainState) (r : Run) (g : Begun) (h : Knows d book p r g) (o : Option Instance) → map.get q.made r.id ≡ o → GrownAt (Some h.instance) o → PlacesOn d book more p q r → Knows d more q r g
+unfolding PlacesOn
+knows_more d book more p q r g h None is w on = absurd w
+knows_more d book more p q r g h (Some j) is w on = record {
   instance = j;
   made = is;
   func = w.func ∙ h.func;
@@ -71,20 +66,107 @@ knows_more d p q r g h (Some j) is w = record {
   run_answers = sym (append_assoc h.answers h.later w.later) ∙ ap (λ xs. xs ++ w.later) h.run_answers ∙ w.more;
   machine = subst (λ a. IsAt d r.func a g.machine h.answers) (sym w.args) h.machine;
   run_stage = h.run_stage;
+  run_place = on h.answers (h.later ++ w.later) h.later g.machine.effect g.stage (λ none. let both = no_more h.later w.later none in (both.0, not_answered p q r h.instance j h.made is w both.1)) h.run_place;
 }
 
-pub knows_on : (d : Deployment) (p q : PlainState) (r : Run) (at : Option Begun) → Grows p.made q.made → KnowsAt d p r at → KnowsAt d q r at
-knows_on d p q r None w h = tt
-knows_on d p q r (Some g) w h = knows_more d p q r g h (map.get q.made r.id) refl (subst (λ o. GrownAt o (map.get q.made r.id)) h.made (w r.id))
+knows_on : (d : Deployment) (book more : List Entry) (p q : PlainState) (r : Run) (at : Option Begun) → Grows p.made q.made → PlacesOn d book more p q r → KnowsAt d book p r at → KnowsAt d more q r at
+knows_on d book more p q r None w on h = tt
+knows_on d book more p q r (Some g) w on h = knows_more d book more p q r g h (map.get q.made r.id) refl (subst (λ o. GrownAt o (map.get q.made r.id)) h.made (w r.id)) on
 
-run_on : (d : Deployment) (p q : PlainState) (o : Option Run) → Grows p.made q.made → RunAt d p o → RunAt d q o
-run_on d p q None w h = tt
-run_on d p q (Some r) w h = knows_on d p q r r.at w h
+run_on : (d : Deployment) (book more : List Entry) (p q : PlainState) (o : Option Run) → Grows p.made q.made → ((r : Run) → PlacesOn d book more p q r) → RunAt d book p o → RunAt d more q o
+run_on d book more p q None w on h = tt
+run_on d book more p q (Some r) w on h = knows_on d book more p q r r.at w (on r) h
+
+-- a change at the end leaves all places as they are
+there_last : (d : Deployment) (book : List Entry) (e : Entry) (q : PlainState) → IsLast d book e q → (id : IntentId) (answers : List Answer) (x : Item) (v : Value) (s : ℕ) → s ≤ count_changes book → WasThere d book id answers x v s → WasThere d (book ++ e ∷ []) id answers x v s
+there_last d book e q last id answers x v s few w = record {
+  state = w.state;
+  is_state = last.earlier s w.state few w.is_state;
+  instance = w.instance;
+  made = w.made;
+  same = w.same;
+  value = w.value;
+}
+
+more_changes : (book : List Entry) (e : Entry) (s : ℕ) → s ≤ count_changes book → s ≤ count_changes (book ++ e ∷ [])
+more_changes book e s h =
+    let n = ap length (changes_more book (e ∷ [])) ∙ length-append (changes_of book) (changes_of (e ∷ [])) in omega (arith, n, h)
+
+places_last : (d : Deployment) (book : List Entry) (e : Entry) (p q : PlainState) → IsLast d book e q → (r : Run) → PlacesOn d book (book ++ e ∷ []) p q r
+unfolding PlacesOn
+places_last d book e p q last r answers later before (Read t k) (stage.Keep v s) back h = record {
+  few = more_changes book e s h.few;
+  was_there = λ none. there_last d book e q last r.id answers (record { func = r.func; table = t; key = k }) v s h.few (h.was_there (back none).0);
+}
+places_last d book e p q last r answers later before (Read t k) (stage.Ask w) back h = tt
+places_last d book e p q last r answers later before (Read t k) (stage.Walk w) back h = tt
+places_last d book e p q last r answers later before (Read t k) (stage.Write w) back h = tt
+places_last d book e p q last r answers later before (Read t k) (stage.Close w) back h = tt
+places_last d book e p q last r answers later before (Write t k v) s back h = tt
+places_last d book e p q last r answers later before (Return o) s back h = tt
+
+-- a read that is kept late leaves the places of all others as they are
+module _ (d : Deployment) (book : List Entry) (p : PlainState) (id : IntentId) (s : ℕ) (a : Instance) (v : Value) (made : map.get p.made id ≡ Some a) (late : IsKeptLate d book p id s a v) where
+  abbrev more : List Entry
+  more = book ++ entry.Read id s ∷ []
+
+  abbrev then_so : PlainState
+  then_so = with_answer p id a v
+
+  answered_since : (r : Run) → id ≡ r.id → NotAnswered p then_so r → ⊥
+  unfolding NotAnswered answers_of
+  answered_since r same h =
+      let was = ap (λ i. answers_of (map.get p.made i)) (sym same) ∙ ap answers_of made in
+      let is = ap (λ i. answers_of (map.get then_so.made i)) (sym same) ∙ ap answers_of (here p.made id (answered a (answer.Value v))) in
+      let n = ap length (sym was ∙ h ∙ is) in
+      let k = length-append a.answers (answer.Value v ∷ []) in
+      omega (arith, n, k)
+
+  there_late : (other : IntentId) (answers : List Answer) (x : Item) (u : Value) (t : ℕ) → (id ≡ other → ⊥) → WasThere d book other answers x u t → WasThere d more other answers x u t
+  there_late other answers x u t apart w = elim (nat_lt t s) as (λ b. nat_lt t s ≡ b → WasThere d more other answers x u t) [
+    | true ↦ λ e. record { state = w.state; is_state = late.before t w.state (ltb-true t s e) w.is_state; instance = w.instance; made = w.made; same = w.same; value = w.value }
+    | false ↦ λ e. record {
+      state = with_answer w.state id a v;
+      is_state = late.since t w.state (ltb-false t s e) w.is_state;
+      instance = w.instance;
+      made = elsewhere w.state.made id other (answered a (answer.Value v)) apart ∙ w.made;
+      same = w.same;
+      value = w.value;
+    }
+  ] refl
+
+  keeps_late : (r : Run) (answers later before : List Answer) (x : Item) (u : Value) (t : ℕ) → (later ≡ [] → (before ≡ []) × NotAnswered p then_so r) → Keeps d book r.id answers before x u t → Keeps d more r.id answers later x u t
+  keeps_late r answers later before x u t back h = record {
+    few = more_changes book (entry.Read id s) t h.few;
+    was_there = λ none. there_late r.id answers x u t (λ same. answered_since r same (back none).1) (h.was_there (back none).0);
+  }
+
+  places_late : (r : Run) → PlacesOn d book more p then_so r
+  unfolding PlacesOn
+  places_late r answers later before (Read t k) (stage.Keep u n) back h = keeps_late r answers later before (record { func = r.func; table = t; key = k }) u n back h
+  places_late r answers later before (Read t k) (stage.Ask w) back h = tt
+  places_late r answers later before (Read t k) (stage.Walk w) back h = tt
+  places_late r answers later before (Read t k) (stage.Write w) back h = tt
+  places_late r answers later before (Read t k) (stage.Close w) back h = tt
+  places_late r answers later before (Write t k u) n back h = tt
+  places_late r answers later before (Return o) n back h = tt
+
+  pub grows_late : Grows p.made then_so.made
+  grows_late = grows_set p.made id (answered a (answer.Value v)) (subst (λ o. GrownAt o (Some (answered a (answer.Value v)))) (sym made) (record { func = refl; args = refl; later = answer.Value v ∷ []; more = refl; over = λ o h. h }))
 
 -- ---- live runs
 put_got : (m : FinMap nat_cmp Run) (i : ℕ) (o : Option Run) (j : ℕ) → map.get (put_run m i o) j ≡ cond (is_eq (nat_cmp j i)) o (map.get m j)
 put_got m i None j = get-remove nat_cmp_total m i j
 put_got m i (Some r) j = get-insert nat_cmp_total m i r j
+
+-- what was put is taken out
+taken_out : (b : Bool) (o x : Option Run) → cond b None (cond b o x) ≡ cond b None x
+taken_out true o x = refl
+taken_out false o x = refl
+
+pub remove_put : (m : FinMap nat_cmp Run) (i : ℕ) (o : Option Run) → map.remove (put_run m i o) i ≡ map.remove m i
+remove_put m i o = same_map nat_cmp_total nat_cmp-IsAntisymmetric _ _ (λ j.
+    get-remove nat_cmp_total (put_run m i o) i j ∙ ap (cond (is_eq (nat_cmp j i)) None) (put_got m i o j) ∙ taken_out (is_eq (nat_cmp j i)) o (map.get m j) ∙ sym (get-remove nat_cmp_total m i j))
 
 fewer : (b : Bool) (n k : ℕ) → n ≤ k → cond b (n - 1) n ≤ k
 fewer true n k h = omega arith
@@ -98,33 +180,42 @@ put_few m i (Some r) k there h = subst (λ n. n ≤ k) (sym (len-insert nat_cmp_
     by_test true t = h
     by_test false t = cc
 
--- the plain state has grown
-pub runs_on : (d : Deployment) (p q : PlainState) (live : FinMap nat_cmp Run) (last : ℕ) → Grows p.made q.made → RunsMatch d p live last → RunsMatch d q live last
-runs_on d p q live last w h = record { numbers = h.numbers; few = h.few; runs = λ n. run_on d p q (map.get live n) w (h.runs n) }
+-- the book has a change more at its end
+pub runs_on : (d : Deployment) (book : List Entry) (e : Entry) (p q : PlainState) (live : FinMap nat_cmp Run) (last : ℕ) → Grows p.made q.made → IsLast d book e q → RunsMatch d book p live last → RunsMatch d (book ++ e ∷ []) q live last
+runs_on d book e p q live last w is h = record { numbers = h.numbers; few = h.few; runs = λ n. run_on d book (book ++ e ∷ []) p q (map.get live n) w (places_last d book e p q is) (h.runs n) }
+
+-- the book has a read more that was kept late
+pub runs_late : (d : Deployment) (book : List Entry) (p : PlainState) (id : IntentId) (s : ℕ) (a : Instance) (v : Value) (live : FinMap nat_cmp Run) (last : ℕ) → map.get p.made id ≡ Some a → IsKeptLate d book p id s a v
+    → RunsMatch d book p live last → RunsMatch d (book ++ entry.Read id s ∷ []) (with_answer p id a v) live last
+runs_late d book p id s a v live last made late h = record {
+  numbers = h.numbers;
+  few = h.few;
+  runs = λ n. run_on d book (book ++ entry.Read id s ∷ []) p (with_answer p id a v) (map.get live n) (grows_late d book p id s a v made late) (places_late d book p id s a v made late) (h.runs n);
+}
 
 -- a live run goes on, or is over
-pub runs_put : (d : Deployment) (p : PlainState) (live : FinMap nat_cmp Run) (last i : ℕ) (o : Option Run) → IsTrue (is_some (map.get live i)) → RunAt d p o → RunsMatch d p live last → RunsMatch d p (put_run live i o) last
-runs_put d p live last i o there here h = record {
+pub runs_put : (d : Deployment) (book : List Entry) (p : PlainState) (live : FinMap nat_cmp Run) (last i : ℕ) (o : Option Run) → IsTrue (is_some (map.get live i)) → RunAt d book p o → RunsMatch d book p live last → RunsMatch d book p (put_run live i o) last
+runs_put d book p live last i o there here h = record {
   numbers = changed nat_cmp-IsAntisymmetric live (put_run live i o) i o (put_got live i o) (λ n r. IsTrue (is_some r) → (1 ≤ n) × (n ≤ last)) (λ t. h.numbers i there) h.numbers;
   few = put_few live i o most_runs there h.few;
-  runs = changed nat_cmp-IsAntisymmetric live (put_run live i o) i o (put_got live i o) (λ n r. RunAt d p r) here h.runs;
+  runs = changed nat_cmp-IsAntisymmetric live (put_run live i o) i o (put_got live i o) (λ n r. RunAt d book p r) here h.runs;
 }
 
 -- a run is over, whether it was live or not
-pub runs_less : (d : Deployment) (p : PlainState) (live : FinMap nat_cmp Run) (last i : ℕ) → RunsMatch d p live last → RunsMatch d p (map.remove live i) last
-runs_less d p live last i h = record {
+pub runs_less : (d : Deployment) (book : List Entry) (p : PlainState) (live : FinMap nat_cmp Run) (last i : ℕ) → RunsMatch d book p live last → RunsMatch d book p (map.remove live i) last
+runs_less d book p live last i h = record {
   numbers = changed nat_cmp-IsAntisymmetric live (map.remove live i) i None (get-remove nat_cmp_total live i) (λ n r. IsTrue (is_some r) → (1 ≤ n) × (n ≤ last)) (λ t. cc) h.numbers;
   few = subst (λ n. n ≤ most_runs) (sym (len-remove nat_cmp_total live i)) (fewer (is_some (map.get live i)) (map.len live) most_runs h.few);
-  runs = changed nat_cmp-IsAntisymmetric live (map.remove live i) i None (get-remove nat_cmp_total live i) (λ n r. RunAt d p r) tt h.runs;
+  runs = changed nat_cmp-IsAntisymmetric live (map.remove live i) i None (get-remove nat_cmp_total live i) (λ n r. RunAt d book p r) tt h.runs;
 }
 
 -- a run is new
-pub runs_more : (d : Deployment) (p : PlainState) (live : FinMap nat_cmp Run) (last : ℕ) (r : Run) → map.len live < most_runs → KnowsAt d p r r.at → RunsMatch d p live last → RunsMatch d p (map.insert live (last + 1) r) (last + 1)
-runs_more d p live last r room here h = record {
+pub runs_more : (d : Deployment) (book : List Entry) (p : PlainState) (live : FinMap nat_cmp Run) (last : ℕ) (r : Run) → map.len live < most_runs → KnowsAt d book p r r.at → RunsMatch d book p live last → RunsMatch d book p (map.insert live (last + 1) r) (last + 1)
+runs_more d book p live last r room here h = record {
   numbers = changed nat_cmp-IsAntisymmetric live (map.insert live (last + 1) r) (last + 1) (Some r) (get-insert nat_cmp_total live (last + 1) r) (λ n o. IsTrue (is_some o) → (1 ≤ n) × (n ≤ last + 1))
       (λ t. (omega arith, omega arith)) (λ n t. let b = h.numbers n t in (b.0, omega (arith, b.1)));
   few = subst (λ n. n ≤ most_runs) (sym (len-insert nat_cmp_total live (last + 1) r)) (by_test (is_some (map.get live (last + 1))));
-  runs = changed nat_cmp-IsAntisymmetric live (map.insert live (last + 1) r) (last + 1) (Some r) (get-insert nat_cmp_total live (last + 1) r) (λ n o. RunAt d p o) here h.runs;
+  runs = changed nat_cmp-IsAntisymmetric live (map.insert live (last + 1) r) (last + 1) (Some r) (get-insert nat_cmp_total live (last + 1) r) (λ n o. RunAt d book p o) here h.runs;
 }
   where
     by_test : (b : Bool) → cond b (map.len live) (map.len live + 1) ≤ most_runs

@@ -1,48 +1,23 @@
--- What is at a key after a row was set, and which keys differ.
-use Rattle.std.proofs.Common.{◌≡◌, ℕ, true, false, cond, Option, None, Some, refl, ap, sym, ◌∙◌}
+-- Which keys differ.
+use Rattle.std.proofs.Common.{◌≡◌, ℕ, true, false, cond, Option, refl, ap, sym, ◌∙◌, subst}
 use Rattle.std.specs.FinMap as map
-use Rattle.std.specs.FinMap.{get-insert, get-remove, same_map}
-use Rattle.std.specs.Cmp.{Equal-is}
 use Rattle.std.specs.Ordering.{is_eq, nat_cmp, ordering_then}
 use Rattle.std.specs.Cmp.Lexicographic.{slice_cmp}
 use Rattle.std.specs.declared.cmp.Ordering.{Ordering}
 use Rattle.std.specs.declared.cmp.Ordering.TheVariants.{Less, Equal, Greater}
-use Rattle.std.proofs.lemmas.Cmp.{tied_itself}
 use Rattle.beldi_value.specs.Id.{id_cmp, root_of}
 use Rattle.beldi_row.specs.Key.{key_cmp}
-use Rattle.beldi_row.specs.KeyOrder.{key_total, key_exact}
 use Rattle.beldi_row.specs.declared.key.RowKey.{RowKey}
 use Rattle.beldi_row.specs.declared.row.Row.{Row}
-use Rattle.beldi_row.specs.declared.act.Act.TheVariants.{Look}
-use Rattle.beldi_row.specs.Act.{act}
-use Rattle.beldi_row.specs.Table.{Rows, set_row, after_act}
+use Rattle.beldi_row.specs.Table.{Rows, set_row}
+use Rattle.beldi_row.proofs.Gets.{got, key_same}
+use Rattle.beldi_value.specs.declared.place.Place.{Place}
+use Rattle.beldi_row.specs.declared.key.Kind.{Kind}
+use Rattle.beldi_row.specs.declared.key.Kind.TheVariants.{ReadLog}
+use Rattle.beldi_readlog.specs.ReadLog.{log_key}
 use Rattle.beldi_plain.specs.Item.{Item, item_cmp}
 use Rattle.beldi_step.specs.Host.{root_key}
 use Rattle.beldi_laws.specs.Stands.{head_key}
-
-pub got : (m : Rows) (k q : RowKey) (v : Option Row) → map.get (set_row m k v) q ≡ cond (is_eq (key_cmp q k)) v (map.get m q)
-got m k q None = get-remove key_total m k q
-got m k q (Some r) = get-insert key_total m k r q
-
-pub key_self : (k : RowKey) → is_eq (key_cmp k k) ≡ true
-key_self k = ap is_eq (tied_itself key_total k)
-
-pub key_same : (k q : RowKey) → is_eq (key_cmp k q) ≡ true → k ≡ q
-key_same k q h = key_exact k q ((Equal-is (key_cmp k q)).0 h)
-
--- a row set to what it is
-pub unchanged : (m : Rows) (k : RowKey) (v : Option Row) → v ≡ map.get m k → set_row m k v ≡ m
-unchanged m k v h = same_map key_total key_exact (set_row m k v) m (λ q. got m k q v ∙ (elim (is_eq (key_cmp q k)) as (λ b. is_eq (key_cmp q k) ≡ b → cond b v (map.get m q) ≡ map.get m q) [
-  | true ↦ λ e. h ∙ ap (map.get m) (sym (key_same q k e))
-  | false ↦ λ e. refl
-] refl))
-
-look_row : (now : ℕ) (r : Option Row) → (act Look now r).0 ≡ r
-look_row now None = refl
-look_row now (Some r) = refl
-
-pub looked : (m : Rows) (k : RowKey) (now : ℕ) → after_act Look now k m ≡ m
-looked m k now = unchanged m k (act Look now (map.get m k)).0 (look_row now (map.get m k))
 
 then_equal : (o : Ordering) → ordering_then o Equal ≡ o
 then_equal Less = refl
@@ -85,3 +60,40 @@ head_in_roots m t x v = got m (root_key t) (head_key x) v ∙ ap (λ b. cond b v
 
 pub root_in_roots : (m : Rows) (t u : ℕ) (v : Option Row) → map.get (set_row m (root_key t) v) (root_key u) ≡ cond (is_eq (id_cmp (root_of u) (root_of t))) v (map.get m (root_key u))
 root_in_roots m t u v = got m (root_key t) (root_key u) v
+
+-- the row of a read is no item's and no root's
+head_log : (x : Item) (f : ℕ) (a : Place) → is_eq (key_cmp (head_key x) (log_key f a)) ≡ false
+head_log x f a = not_greater (nat_cmp x.func f)
+
+log_head : (f : ℕ) (a : Place) (x : Item) → is_eq (key_cmp (log_key f a) (head_key x)) ≡ false
+log_head f a x = not_less (nat_cmp f x.func)
+
+root_log : (t f : ℕ) (a : Place) → is_eq (key_cmp (root_key t) (log_key f a)) ≡ false
+root_log t f a = not_less (nat_cmp 0 f)
+
+log_root : (f : ℕ) (a : Place) (t : ℕ) → is_eq (key_cmp (log_key f a) (root_key t)) ≡ false
+log_root f a t = not_greater (nat_cmp f 0)
+
+pub head_in_logs : (m : Rows) (f : ℕ) (a : Place) (x : Item) (v : Option Row) → map.get (set_row m (log_key f a) v) (head_key x) ≡ map.get m (head_key x)
+head_in_logs m f a x v = got m (log_key f a) (head_key x) v ∙ ap (λ b. cond b v (map.get m (head_key x))) (head_log x f a)
+
+pub log_in_heads : (m : Rows) (y : Item) (f : ℕ) (a : Place) (v : Option Row) → map.get (set_row m (head_key y) v) (log_key f a) ≡ map.get m (log_key f a)
+log_in_heads m y f a v = got m (head_key y) (log_key f a) v ∙ ap (λ b. cond b v (map.get m (log_key f a))) (log_head f a y)
+
+pub root_in_logs : (m : Rows) (f : ℕ) (a : Place) (t : ℕ) (v : Option Row) → map.get (set_row m (log_key f a) v) (root_key t) ≡ map.get m (root_key t)
+root_in_logs m f a t v = got m (log_key f a) (root_key t) v ∙ ap (λ b. cond b v (map.get m (root_key t))) (root_log t f a)
+
+pub log_in_roots : (m : Rows) (t f : ℕ) (a : Place) (v : Option Row) → map.get (set_row m (root_key t) v) (log_key f a) ≡ map.get m (log_key f a)
+log_in_roots m t f a v = got m (root_key t) (log_key f a) v ∙ ap (λ b. cond b v (map.get m (log_key f a))) (log_root f a t)
+
+abbrev place_in : Kind → Place → Place
+place_in (ReadLog a) b = a
+place_in k b = b
+
+-- one row of a read is set to this: what holds of it, and held of all others before, holds of all
+pub logs_set : (m : Rows) (f : ℕ) (a : Place) (v : Option Row) (P : ℕ → Place → Option Row → Type 0) → P f a v → ((g : ℕ) (b : Place) → is_eq (key_cmp (log_key g b) (log_key f a)) ≡ false → P g b (map.get m (log_key g b))) → (g : ℕ) (b : Place) → P g b (map.get (set_row m (log_key f a) v) (log_key g b))
+logs_set m f a v P here others g b = subst (P g b) (sym (got m (log_key f a) (log_key g b) v)) (elim (is_eq (key_cmp (log_key g b) (log_key f a))) as (λ t. is_eq (key_cmp (log_key g b) (log_key f a)) ≡ t → P g b (cond t v (map.get m (log_key g b)))) [
+  | true ↦ λ e. let same = key_same (log_key g b) (log_key f a) e in
+      subst (λ h. P h b v) (ap (λ (k : RowKey). k.home) (sym same)) (subst (λ c. P f c v) (ap (λ (k : RowKey). place_in k.kind b) (sym same)) here)
+  | false ↦ λ e. others g b e
+] refl)

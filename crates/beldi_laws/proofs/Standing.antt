@@ -1,5 +1,5 @@
 -- Where the host and its rows are right, the rows stand for the run of the book.
-use Rattle.std.proofs.Common.{◌≡◌, ℕ, false, ◌||◌, Option, None, Some, refl, ap, sym, ◌∙◌, subst, is_some, if◌then◌else◌}
+use Rattle.std.proofs.Common.{◌≡◌, ℕ, false, ◌||◌, Option, None, Some, refl, ap, sym, ◌∙◌, subst, is_some, eq-eqb, if◌then◌else◌}
 use Rattle.std.specs.Prelude.{slice_get, option_and_then}
 use Rattle.std.specs.FinMap as map
 use Rattle.std.specs.Ordering.{is_eq}
@@ -8,9 +8,9 @@ use Rattle.beldi_value.specs.Id.{root_of}
 use Rattle.beldi_value.specs.declared.id.IntentId.{IntentId}
 use Rattle.beldi_lang.specs.declared.deployment.Deployment.{Deployment}
 use Rattle.beldi_lang.specs.declared.effect.Answer.{Answer}
-use Rattle.beldi_lang.specs.declared.effect.Answer.TheVariants.{Done}
+use Rattle.beldi_lang.specs.declared.effect.Answer.TheVariants as answer
 use Rattle.beldi_lang.specs.declared.effect.Effect.{Effect}
-use Rattle.beldi_lang.specs.declared.effect.Effect.TheVariants.{Write, Return}
+use Rattle.beldi_lang.specs.declared.effect.Effect.TheVariants.{Read, Write, Return}
 use Rattle.beldi_row.specs.declared.key.Kind.TheVariants as kinds
 use Rattle.beldi_row.specs.declared.notes.Note.TheVariants.{Wrote}
 use Rattle.beldi_row.specs.declared.row.Body.{Body}
@@ -23,9 +23,11 @@ use Rattle.beldi_plain.specs.Plain.{Instance, PlainState}
 use Rattle.beldi_plain.specs.Legal.{run_of}
 use Rattle.beldi_step.specs.Run.{is_ended}
 use Rattle.beldi_step.specs.Host.{Core, root_key}
-use Rattle.beldi_laws.specs.Stands.{Stands, IsMade, IsOpen, SoundAt, head_key, key_in, held_answer, noted_answer, effect_before}
-use Rattle.beldi_laws.specs.Right.{Right, RowsMatch, RootMatches, BodyMatches, IsRoot, IntentFits, FitsAt, Sane, IsAnswerTo, note_if, note_for, owed_by}
-use Rattle.beldi_laws.proofs.Effects.{same_some}
+use Rattle.beldi_daal.specs.Content.{SoundAt}
+use Rattle.beldi_laws.specs.Stands.{Stands, IsMade, IsOpen, head_key, key_in, held_answer, noted_answer, effect_before}
+use Rattle.beldi_laws.specs.Right.{Right, RowsMatch, RootMatches, BodyMatches, IsRoot, IntentFits, FitsAt, Sane, IsAnswerTo, note_if, note_for, owed_by, value_if, value_for, owed_value}
+use Rattle.std.specs.Option.{option_map}
+use Rattle.beldi_order.proofs.Entries.{same_some}
 use Rattle.beldi_laws.proofs.Turns.{sane_of}
 
 made_so : (p : PlainState) (id : IntentId) (i : IntentRow) (b : Body) → IsRoot b i.outcome (map.get p.made id) → IsMade p id i b
@@ -48,10 +50,16 @@ module _ (d : Deployment) (m : Rows) (p : PlainState) (h : RowsMatch d m p) wher
       subst (λ o. BodyMatches i.body i.outcome o) (ap (map.get p.made) (sym f.root))
       (subst (λ r. RootMatches r (map.get p.made (root_of id.ticket))) (ap (map.get m) (sym own) ∙ is) (h.roots id.ticket))
 
-  held_here : (id : IntentId) (q : Instance) (n : ℕ) (a : Answer) (e : Effect) → map.get p.made id ≡ Some q → slice_get q.answers n ≡ Some a → effect_before d q n ≡ e → IsAnswerTo e a → held_answer m id q.func n e ≡ Some a
-  held_here id q n Done (Write t k v) made at is ok =
+  pub held_here : (id : IntentId) (q : Instance) (n : ℕ) (a : Answer) (e : Effect) → map.get p.made id ≡ Some q → slice_get q.answers n ≡ Some a → effect_before d q n ≡ e → IsAnswerTo e a → held_answer m id q.func n e ≡ Some a
+  held_here id q n (answer.Value v) (Read t k) made at is ok =
+      ap (option_map answer.Value) (h.reads q.func (record { intent = id; step = n }) ∙ ap (owed_value d q.func n) made
+      ∙ ap (λ b. if b then value_if (effect_before d q n) (slice_get q.answers n) else None) (eq-eqb q.func q.func refl)
+      ∙ ap (value_if (effect_before d q n)) at ∙ ap (λ z. value_for z (answer.Value v)) is)
+  held_here id q n answer.Done (Read t k) made at is ok = absurd ok
+  held_here id q n (answer.Value u) (Write t k v) made at is ok = absurd ok
+  held_here id q n answer.Done (Write t k v) made at is ok =
       let x : Item = record { func = q.func; table = t; key = k } in
-      ap (option_and_then noted_answer) (h.notes x (record { intent = id; step = n }) ∙ ap (owed_by d x n) made ∙ ap (note_if x q.func (effect_before d q n)) at ∙ ap (λ z. note_for x q.func z Done) is
+      ap (option_and_then noted_answer) (h.notes x (record { intent = id; step = n }) ∙ ap (owed_by d x n) made ∙ ap (note_if x q.func (effect_before d q n)) at ∙ ap (λ z. note_for x q.func z answer.Done) is
       ∙ ap (λ o. if is_eq o then Some Wrote else None) (tied_itself item_total x))
   held_here id q n a (Return o) made at is ok = absurd ok
 

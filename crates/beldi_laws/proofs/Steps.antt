@@ -1,5 +1,5 @@
 -- Rows that match a plain state, after one row was set.
-use Rattle.std.proofs.Common.{◌≡◌, ℕ, Bool, true, false, cond, List, [], ◌∷◌, ◌++◌, Option, None, Some, refl, ap, sym, ◌∙◌, subst}
+use Rattle.std.proofs.Common.{◌≡◌, ℕ, Bool, true, false, cond, List, [], ◌∷◌, ◌++◌, length, ◌==◌, Option, None, Some, refl, ap, sym, ◌∙◌, subst, eqb-true, eq-eqb, if◌then◌else◌}
 use Rattle.std.specs.FinMap as map
 use Rattle.std.specs.FinMap.{FinMap, get-insert, get-remove}
 use Rattle.std.specs.Cmp.{Equal-is}
@@ -15,7 +15,9 @@ use Rattle.beldi_lang.specs.declared.effect.Answer.{Answer}
 use Rattle.beldi_lang.specs.declared.effect.Answer.TheVariants.{Done}
 use Rattle.beldi_lang.specs.declared.effect.Effect.TheVariants.{Write}
 use Rattle.beldi_lang.specs.Wants.{or_null}
+use Rattle.beldi_row.specs.Key.{key_cmp}
 use Rattle.beldi_row.specs.KeyOrder.{key_exact}
+use Rattle.beldi_row.specs.declared.key.RowKey.{RowKey}
 use Rattle.beldi_row.specs.declared.notes.Note.TheVariants.{Wrote}
 use Rattle.beldi_row.specs.declared.row.Body.{Body}
 use Rattle.beldi_row.specs.declared.row.Cell.{Cell}
@@ -23,16 +25,23 @@ use Rattle.beldi_row.specs.declared.row.IntentRow.{IntentRow}
 use Rattle.beldi_row.specs.declared.row.Row.{Row}
 use Rattle.beldi_row.specs.declared.row.Row.TheVariants as rows
 use Rattle.beldi_row.specs.Act.{wrote}
-use Rattle.beldi_row.specs.Log.{note_at}
+use Rattle.beldi_row.specs.Log.{note_at, place_eq}
 use Rattle.beldi_row.specs.Table.{Rows, set_row}
 use Rattle.beldi_plain.specs.Item.{Item, item_cmp, item_total, item_exact}
 use Rattle.beldi_plain.specs.Plain.{Instance, PlainState, value_at, set_item, answered, effect_of}
 use Rattle.beldi_step.specs.Host.{root_key}
-use Rattle.beldi_laws.specs.Stands.{head_key, content_in, content_of}
-use Rattle.beldi_laws.specs.Right.{RowsMatch, RootMatches, BodyMatches, IntentFits, CellFits, FitsAt, owed_note, note_for}
-use Rattle.beldi_laws.proofs.Rows.{got, head_in_heads, root_in_heads, head_in_roots, root_in_roots}
-use Rattle.beldi_laws.proofs.Lives.{changed, made_set}
-use Rattle.beldi_laws.proofs.Notes.{next_place, notes_more, once_pushed}
+use Rattle.beldi_laws.specs.Stands.{head_key, content_of}
+use Rattle.beldi_daal.specs.Content.{content_in}
+use Rattle.beldi_laws.specs.Right.{RowsMatch, RootMatches, BodyMatches, IntentFits, CellFits, FitsAt, owed_note, owed_read, owed_value, note_for, value_for}
+use Rattle.beldi_readlog.specs.ReadLog.{log_key, given_in}
+use Rattle.beldi_lang.specs.declared.effect.Answer.TheVariants as answer
+use Rattle.beldi_lang.specs.declared.effect.Effect.TheVariants as effect
+use Rattle.std.specs.Option.{option_map}
+use Rattle.beldi_order.proofs.Entries.{changed, made_set}
+use Rattle.beldi_laws.proofs.Rows.{head_in_heads, root_in_heads, head_in_roots, root_in_roots, log_in_heads, log_in_roots, head_in_logs, root_in_logs, logs_set}
+use Rattle.beldi_laws.proofs.Notes.{next_place, notes_more, owed_same, value_same, value_more, value_next, true_false}
+use Rattle.beldi_row.proofs.Gets.{got, key_self}
+use Rattle.beldi_row.proofs.Logs.{once_pushed, place_self, place_same}
 
 pub id_same : (a b : IntentId) → is_eq (id_cmp a b) ≡ true → a ≡ b
 id_same a b h = id_exact a b ((Equal-is (id_cmp a b)).0 h)
@@ -62,12 +71,13 @@ roots_moved m made t i s here others u =
     by_test true = here
     by_test false = others u
 
-pub root_set : (d : Deployment) (m : Rows) (p q : PlainState) (t : ℕ) (i : IntentRow) → IntentFits 0 (root_of t) i → q.items ≡ p.items → ((x : Item) (a : Place) → owed_note d q x a ≡ owed_note d p x a)
+pub root_set : (d : Deployment) (m : Rows) (p q : PlainState) (t : ℕ) (i : IntentRow) → IntentFits 0 (root_of t) i → q.items ≡ p.items → ((x : Item) (a : Place) → owed_note d q x a ≡ owed_note d p x a) → ((f : ℕ) (a : Place) → owed_read d q f a ≡ owed_read d p f a)
     → ((u : ℕ) → RootMatches (map.get (set_row m (root_key t) (Some (rows.Intent i))) (root_key u)) (map.get q.made (root_of u))) → RowsMatch d m p → RowsMatch d (set_row m (root_key t) (Some (rows.Intent i))) q
-root_set d m p q t i fits items owed roots h = record {
+root_set d m p q t i fits items owed reads roots h = record {
   items = λ x. ap (λ r. (content_in r).value) (head_in_roots m t x (Some (rows.Intent i))) ∙ h.items x ∙ ap (λ f. or_null (map.get f x)) (sym items);
   owners = λ x. ap (λ r. (content_in r).owner) (head_in_roots m t x (Some (rows.Intent i))) ∙ h.owners x;
   notes = λ x a. ap (λ r. note_at (content_in r).notes a) (head_in_roots m t x (Some (rows.Intent i))) ∙ h.notes x a ∙ sym (owed x a);
+  reads = λ f a. ap (option_map given_in) (log_in_roots m t f a (Some (rows.Intent i))) ∙ h.reads f a ∙ sym (reads f a);
   roots = roots;
   one_row = changed key_exact m (set_row m (root_key t) (Some (rows.Intent i))) (root_key t) (Some (rows.Intent i)) (λ q. got m (root_key t) q (Some (rows.Intent i))) (λ k r. FitsAt k r) fits h.one_row;
 }
@@ -79,6 +89,7 @@ cell_made d m p y c fits same h = record {
   items = λ x. ap (λ k. k.value) (content x) ∙ h.items x;
   owners = λ x. ap (λ k. k.owner) (content x) ∙ h.owners x;
   notes = λ x a. ap (λ k. note_at k.notes a) (content x) ∙ h.notes x a;
+  reads = λ f a. ap (option_map given_in) (log_in_heads m y f a (Some (rows.Cell c))) ∙ h.reads f a;
   roots = λ t. subst (λ r. RootMatches r (map.get p.made (root_of t))) (sym (root_in_heads m y t (Some (rows.Cell c)))) (h.roots t);
   one_row = changed key_exact m (set_row m (head_key y) (Some (rows.Cell c))) (head_key y) (Some (rows.Cell c)) (λ q. got m (head_key y) q (Some (rows.Cell c))) (λ k r. FitsAt k r) fits h.one_row;
 }
@@ -122,6 +133,13 @@ root_answered (Some (rows.ReadLog v)) q a h = h
 root_answered (Some (rows.Invoke v)) q a h = h
 root_answered (Some rows.Lockset) q a h = h
 
+-- the roots, where an instance was answered
+roots_answered : (m : Rows) (p : PlainState) (id : IntentId) (q : Instance) (a : Answer) → map.get p.made id ≡ Some q → ((u : ℕ) → RootMatches (map.get m (root_key u)) (map.get p.made (root_of u)))
+    → (u : ℕ) → RootMatches (map.get m (root_key u)) (map.get (map.insert p.made id (answered q a)) (root_of u))
+roots_answered m p id q a is h u = made_set p.made id (answered q a) (λ j o. (u : ℕ) → root_of u ≡ j → RootMatches (map.get m (root_key u)) o)
+    (λ u e. root_answered (map.get m (root_key u)) q a (subst (λ o. RootMatches (map.get m (root_key u)) o) (ap (map.get p.made) e ∙ is) (h u)))
+    (λ j u e. subst (λ z. RootMatches (map.get m (root_key u)) (map.get p.made z)) e (h u)) (root_of u) u refl
+
 module _ (d : Deployment) (m : Rows) (p : PlainState) (id : IntentId) (q : Instance) (t : ℕ) (k : List ℕ) (v : Value) (c : Cell) where
   abbrev item : Item
   item = record { func = q.func; table = t; key = k }
@@ -140,10 +158,8 @@ module _ (d : Deployment) (m : Rows) (p : PlainState) (id : IntentId) (q : Insta
     owners = λ x. ap (λ r. (content_in r).owner) (head_in_heads m item x (Some (rows.Cell cell))) ∙ owner x;
     notes = λ x a. ap (λ r. note_at (content_in r).notes a) (head_in_heads m item x (Some (rows.Cell cell))) ∙ apart x a (is_eq (item_cmp x item))
         ∙ notes_more d x p.made id q Done is item c.log (ap (λ e. note_for x q.func e Done) wants) none (is_eq (item_cmp x item)) refl (content_of m x).notes (old x) (h.notes x) a;
-    roots = λ u. subst (λ r. RootMatches r (map.get state.made (root_of u))) (sym (root_in_heads m item u (Some (rows.Cell cell))))
-        (made_set p.made id (answered q Done) (λ j o. (u : ℕ) → root_of u ≡ j → RootMatches (map.get m (root_key u)) o)
-        (λ u e. root_answered (map.get m (root_key u)) q Done (subst (λ o. RootMatches (map.get m (root_key u)) o) (ap (map.get p.made) e ∙ is) (h.roots u)))
-        (λ j u e. subst (λ z. RootMatches (map.get m (root_key u)) (map.get p.made z)) e (h.roots u)) (root_of u) u refl);
+    reads = λ f a. ap (option_map given_in) (log_in_heads m item f a (Some (rows.Cell cell))) ∙ h.reads f a ∙ sym (value_same d p.made id q Done is f (ap (λ e. value_for e Done) wants) a);
+    roots = λ u. subst (λ r. RootMatches r (map.get state.made (root_of u))) (sym (root_in_heads m item u (Some (rows.Cell cell)))) (roots_answered m p id q Done is h.roots u);
     one_row = changed key_exact m (set_row m (head_key item) (Some (rows.Cell cell))) (head_key item) (Some (rows.Cell cell)) (λ z. got m (head_key item) z (Some (rows.Cell cell))) (λ l r. FitsAt l r)
         (record { head = fits.head; last = fits.last; kept = fits.kept; linked = fits.linked; once = once_pushed c.log (next_place id q) Wrote none fits.once }) h.one_row;
   }
@@ -165,3 +181,46 @@ module _ (d : Deployment) (m : Rows) (p : PlainState) (id : IntentId) (q : Insta
 
       old : (x : Item) → is_eq (item_cmp x item) ≡ true → (content_of m x).notes ≡ c.log
       old x e = ap (λ z. (content_of m z).notes) (item_same x item e) ∙ ap (λ r. (content_in r).notes) there
+
+-- ---- a row of a read was added
+module _ (d : Deployment) (m : Rows) (p : PlainState) (id : IntentId) (q : Instance) (t : ℕ) (k : List ℕ) (v : Value)
+    (is : map.get p.made id ≡ Some q) (wants : effect_of d q ≡ effect.Read t k) (h : RowsMatch d m p) where
+  abbrev read : Instance
+  read = answered q (answer.Value v)
+
+  abbrev log_row : Option Row
+  log_row = Some (rows.ReadLog v)
+
+  abbrev key : RowKey
+  key = log_key q.func (next_place id q)
+
+  -- what is owed is what it was, but at this place
+  apart_by : (f : ℕ) (b : Place) → is_eq (key_cmp (log_key f b) key) ≡ false → (c e : Bool) → place_eq (next_place id q) b ≡ c → (q.func == f) ≡ e
+      → (if c then (if e then value_for (effect_of d q) (answer.Value v) else None) else owed_value d f b.step (map.get p.made b.intent)) ≡ owed_value d f b.step (map.get p.made b.intent)
+  apart_by f b other true true same func =
+      let here : log_key f b ≡ key = sym (λ i. log_key (eqb-true q.func f func i) (place_same (next_place id q) b same i)) in
+      absurd (true_false (sym (ap (λ z. is_eq (key_cmp z key)) here ∙ key_self key) ∙ other))
+  apart_by f b other true false same func = subst (λ (z : Place). None ≡ owed_value d f z.step (map.get p.made z.intent)) (place_same (next_place id q) b same) (sym (ap (owed_value d f (length q.answers)) is ∙ value_next d f q))
+  apart_by f b other false e same func = refl
+
+  here_owed : Some v ≡ owed_value d q.func (length q.answers) (map.get (map.insert p.made id read) id)
+  here_owed = sym (
+      value_more d p.made id q (answer.Value v) is q.func (next_place id q)
+      ∙ ap (λ c. if c then (if q.func == q.func then value_for (effect_of d q) (answer.Value v) else None) else owed_value d q.func (length q.answers) (map.get p.made id)) (place_self (next_place id q))
+      ∙ ap (λ c. if c then value_for (effect_of d q) (answer.Value v) else None) (eq-eqb q.func q.func refl)
+      ∙ ap (λ e. value_for e (answer.Value v)) wants)
+
+  pub read_added : RowsMatch d (set_row m key log_row) (record p { made = map.insert p.made id read })
+  read_added = record {
+    items = λ x. ap (λ r. (content_in r).value) (head_in_logs m q.func (next_place id q) x log_row) ∙ h.items x;
+    owners = λ x. ap (λ r. (content_in r).owner) (head_in_logs m q.func (next_place id q) x log_row) ∙ h.owners x;
+    notes = λ x a. ap (λ r. note_at (content_in r).notes a) (head_in_logs m q.func (next_place id q) x log_row) ∙ h.notes x a
+        ∙ sym (owed_same d p.made id q (answer.Value v) is x (ap (λ e. note_for x q.func e (answer.Value v)) wants) a);
+    reads = logs_set m q.func (next_place id q) log_row (λ f b r. option_map given_in r ≡ owed_value d f b.step (map.get (map.insert p.made id read) b.intent)) here_owed
+        (λ f b other. h.reads f b ∙ sym (value_more d p.made id q (answer.Value v) is f b ∙ apart_by f b other (place_eq (next_place id q) b) (q.func == f) refl refl));
+    roots = λ u. subst (λ r. RootMatches r (map.get (map.insert p.made id read) (root_of u))) (sym (root_in_logs m q.func (next_place id q) u log_row)) (root_more u);
+    one_row = changed key_exact m (set_row m key log_row) key log_row (λ z. got m key z log_row) (λ l r. FitsAt l r) tt h.one_row;
+  }
+    where
+      root_more : (u : ℕ) → RootMatches (map.get m (root_key u)) (map.get (map.insert p.made id (answered q (answer.Value v))) (root_of u))
+      root_more u = roots_answered m p id q (answer.Value v) is h.roots u

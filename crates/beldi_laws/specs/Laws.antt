@@ -1,11 +1,11 @@
 -- What holds of every event, and of every list of events.
-use Rattle.std.specs.Prelude.{◌≡◌, ◌⊎◌, ℕ, option_to_list, List, [], ◌∷◌, ◌++◌, Option, Some, None}
+use Rattle.std.specs.Prelude.{◌≡◌, ◌⊎◌, ℕ, false, option_to_list, List, [], ◌∷◌, ◌++◌, Option, Some, None}
 use Rattle.std.specs.FinMap as map
 use Rattle.beldi_value.specs.declared.value.Value.{Value}
 use Rattle.beldi_value.specs.declared.outcome.Outcome.{Outcome}
 use Rattle.beldi_lang.specs.declared.deployment.Deployment.{Deployment}
 use Rattle.beldi_book.specs.declared.entry.Entry.{Entry}
-use Rattle.beldi_book.specs.declared.entry.Entry.TheVariants.{Start, Step}
+use Rattle.beldi_book.specs.declared.entry.Entry.TheVariants.{Start, Read, Step}
 use Rattle.beldi_row.specs.declared.key.RowKey.{RowKey}
 use Rattle.beldi_row.specs.declared.act.Act.{Act}
 use Rattle.beldi_row.specs.Table.{Rows, after_act}
@@ -13,14 +13,15 @@ use Rattle.beldi_plain.specs.Plain.{PlainState, reply_of}
 use Rattle.beldi_plain.specs.Legal.{IsLegal, run_of}
 use Rattle.beldi_plain.specs.Listing.{listing_of}
 use Rattle.beldi_step.specs.declared.event.Event.{Event}
-use Rattle.beldi_step.specs.declared.event.Event.TheVariants.{Ticket, Request, Turn}
+use Rattle.beldi_step.specs.declared.event.Event.TheVariants.{Ticket, Request, Turn, Lost, Crash, Restart}
 use Rattle.beldi_step.specs.declared.event.Seen.{Seen}
 use Rattle.beldi_step.specs.declared.event.Seen.TheVariants as seen
-use Rattle.beldi_step.specs.Host.{Core, first_core, IsOneEvent, Breaks}
+use Rattle.beldi_step.specs.Host.{Core, first_core, IsOneEvent, Breaks, is_lost}
 use Rattle.beldi_step.specs.Session.{Runs}
 use Rattle.beldi_step.specs.Tables.{tables_text}
 use Rattle.beldi_laws.specs.Stands.{Stands}
 use Rattle.beldi_laws.specs.Right.{Right}
+use Rattle.beldi_laws.specs.OneAnswer.{OneAnswerPerStep, AnswersStay}
 
 -- a host that nothing has happened to is right, over no rows
 abbrev pub BeginsRight : Type 0
@@ -28,7 +29,7 @@ BeginsRight = (d : Deployment) (now : ℕ) → Right d (first_core 0 now) map.em
 
 -- an event keeps it
 abbrev pub KeepsRight : Type 0
-KeepsRight = (d : Deployment) (room : ℕ) (e : Event) (c b : Core) (m n : Rows) (x : Seen) → Right d c m → IsOneEvent d room e c m b n x → Right d b n
+KeepsRight = (d : Deployment) (room old new : ℕ) (e : Event) (c b : Core) (m n : Rows) (x : Seen) → Right d c m → IsOneEvent d room old new e c m b n x → Right d b n
 
 -- want of memory in an event keeps it
 abbrev pub BreaksRight : Type 0
@@ -58,6 +59,8 @@ told_outcome seen.Crowded = None
 told_outcome seen.NoRun = None
 told_outcome seen.RunOver = None
 told_outcome seen.Dropped = None
+told_outcome seen.Crashed = None
+told_outcome (seen.Started run) = None
 told_outcome seen.Spent = None
 
 -- the root of the ticket has this outcome in the run of the book
@@ -68,13 +71,14 @@ pub record HasReply (d : Deployment) (book : List Entry) (t : ℕ) (o : Outcome)
 
 -- an outcome that is told is that of the root in the run of the book
 abbrev pub RepliesAreOutcomes : Type 0
-RepliesAreOutcomes = (d : Deployment) (room : ℕ) (e : Event) (c b : Core) (m n : Rows) (x : Seen) → Right d c m → IsOneEvent d room e c m b n x
+RepliesAreOutcomes = (d : Deployment) (room old new : ℕ) (e : Event) (c b : Core) (m n : Rows) (x : Seen) → Right d c m → IsOneEvent d room old new e c m b n x
     → (t : ℕ) (o : Outcome) → told_outcome x ≡ Some (t, o) → HasReply d b.book t o
 
 -- the roots that a book starts, in order: ticket, function and arguments
 abbrev pub starts_of : List Entry → List (ℕ × (ℕ × Value))
 starts_of [] = []
 starts_of (Start t f a ∷ es) = (t, (f, a)) ∷ starts_of es
+starts_of (Read id seen ∷ es) = starts_of es
 starts_of (Step id ∷ es) = starts_of es
 
 -- what an event asks to be bound
@@ -82,6 +86,9 @@ abbrev pub requested : Event → List (ℕ × (ℕ × Value))
 requested (Request t f a) = (t, (f, a)) ∷ []
 requested Ticket = []
 requested (Turn i) = []
+requested (Lost i) = []
+requested (Crash i) = []
+requested (Restart id f) = []
 
 -- the request that an event bound: the one that was answered so
 abbrev pub bound_of : Event → Seen → List (ℕ × (ℕ × Value))
@@ -90,7 +97,7 @@ bound_of e x = []
 
 -- the book starts exactly what was bound, in order
 abbrev pub StartsAreBound : Type 0
-StartsAreBound = (d : Deployment) (room : ℕ) (e : Event) (c b : Core) (m n : Rows) (x : Seen) → IsOneEvent d room e c m b n x → starts_of b.book ≡ starts_of c.book ++ bound_of e x
+StartsAreBound = (d : Deployment) (room old new : ℕ) (e : Event) (c b : Core) (m n : Rows) (x : Seen) → IsOneEvent d room old new e c m b n x → starts_of b.book ≡ starts_of c.book ++ bound_of e x
 
 -- .. and nothing where want of memory came
 abbrev pub BreaksStartNothing : Type 0
@@ -98,17 +105,26 @@ BreaksStartNothing = (d : Deployment) (e : Event) (c b : Core) (m n : Rows) → 
 
 -- an outcome that a root has stays: the book of a later moment has it too
 pub record OutcomesStay : Type 0 where
-  pub event : (d : Deployment) (room : ℕ) (e : Event) (c b : Core) (m n : Rows) (x : Seen) (t : ℕ) (o : Outcome) → Right d c m → IsOneEvent d room e c m b n x → HasReply d c.book t o → HasReply d b.book t o
+  pub event : (d : Deployment) (room old new : ℕ) (e : Event) (c b : Core) (m n : Rows) (x : Seen) (t : ℕ) (o : Outcome) → Right d c m → IsOneEvent d room old new e c m b n x → HasReply d c.book t o → HasReply d b.book t o
   pub want_of_memory : (d : Deployment) (e : Event) (c b : Core) (m n : Rows) (t : ℕ) (o : Outcome) → Right d c m → Breaks d e c m b n → HasReply d c.book t o → HasReply d b.book t o
 
 -- the listing of the rows is that of the book's run
 abbrev pub ListingIsPlain : Type 0
 ListingIsPlain = (d : Deployment) (c : Core) (m : Rows) (p : PlainState) → Right d c m → run_of d c.book ≡ Some p → tables_text d m ≡ listing_of d p
 
+-- ---- one answer per step
+abbrev pub RightHasOneAnswer : Type 0
+RightHasOneAnswer = (d : Deployment) (c : Core) (m : Rows) → Right d c m → OneAnswerPerStep d c m
+
+-- what the rows hold at a step stays
+pub record HeldAnswersStay : Type 0 where
+  pub event : (d : Deployment) (room old new : ℕ) (e : Event) (c b : Core) (m n : Rows) (x : Seen) → Right d c m → IsOneEvent d room old new e c m b n x → AnswersStay m n
+  pub want_of_memory : (d : Deployment) (e : Event) (c b : Core) (m n : Rows) → Right d c m → Breaks d e c m b n → AnswersStay m n
+
 -- ---- how little one event does
 -- it changes at most one row, by one act
 abbrev pub ChangesOneRow : Type 0
-ChangesOneRow = (d : Deployment) (room : ℕ) (e : Event) (c b : Core) (m n : Rows) (x : Seen) → IsOneEvent d room e c m b n x → (n ≡ m) ⊎ ((k : RowKey) × (a : Act) × (n ≡ after_act a c.now k m))
+ChangesOneRow = (d : Deployment) (room old new : ℕ) (e : Event) (c b : Core) (m n : Rows) (x : Seen) → IsOneEvent d room old new e c m b n x → (n ≡ m) ⊎ ((k : RowKey) × (a : Act) × (n ≡ after_act a c.now k m))
 
 -- the entries that an event's answer tells: the start of a root that was bound, or the entry of a turn
 abbrev pub entries_told : Event → Seen → List Entry
@@ -116,9 +132,14 @@ entries_told (Request t f a) (seen.Bound u run) = Start t f a ∷ []
 entries_told e (seen.Acted entry over reply) = option_to_list entry
 entries_told e x = []
 
--- the book gets what the answer tells: at most one entry
+-- the book gets at most one entry: the one that the answer tells, unless the answer was lost
+pub record BookGrew (e : Event) (c b : Core) (x : Seen) : Type 0 where
+  pub entry : Option Entry
+  pub book : b.book ≡ c.book ++ option_to_list entry
+  pub told : is_lost e ≡ false → option_to_list entry ≡ entries_told e x
+
 abbrev pub WritesWhatIsTold : Type 0
-WritesWhatIsTold = (d : Deployment) (room : ℕ) (e : Event) (c b : Core) (m n : Rows) (x : Seen) → IsOneEvent d room e c m b n x → b.book ≡ c.book ++ entries_told e x
+WritesWhatIsTold = (d : Deployment) (room old new : ℕ) (e : Event) (c b : Core) (m n : Rows) (x : Seen) → IsOneEvent d room old new e c m b n x → BookGrew e c b x
 
 -- ---- lists of events
 -- the requests that events bound, by how they were answered, in order
@@ -133,12 +154,12 @@ TellOutcomes d book (x ∷ xs) = ((t : ℕ) (o : Outcome) → told_outcome x ≡
 
 -- whatever events come, it holds after them ..
 abbrev pub SessionsAreRight : Type 0
-SessionsAreRight = (d : Deployment) (room : ℕ) (es : List Event) (xs : List Seen) (c b : Core) (m n : Rows) → Right d c m → Runs d room es c m b n xs → Right d b n
+SessionsAreRight = (d : Deployment) (room old new : ℕ) (es : List Event) (xs : List Seen) (c b : Core) (m n : Rows) → Right d c m → Runs d room es c m old b n new xs → Right d b n
 
 -- .. the book starts exactly what they bound, in order ..
 abbrev pub SessionsStartTheBound : Type 0
-SessionsStartTheBound = (d : Deployment) (room : ℕ) (es : List Event) (xs : List Seen) (c b : Core) (m n : Rows) → Runs d room es c m b n xs → starts_of b.book ≡ starts_of c.book ++ bound_in es xs
+SessionsStartTheBound = (d : Deployment) (room old new : ℕ) (es : List Event) (xs : List Seen) (c b : Core) (m n : Rows) → Runs d room es c m old b n new xs → starts_of b.book ≡ starts_of c.book ++ bound_in es xs
 
 -- .. and what they told of outcomes holds of the book at the end
 abbrev pub SessionsTellOutcomes : Type 0
-SessionsTellOutcomes = (d : Deployment) (room : ℕ) (es : List Event) (xs : List Seen) (c b : Core) (m n : Rows) → Right d c m → Runs d room es c m b n xs → TellOutcomes d b.book xs
+SessionsTellOutcomes = (d : Deployment) (room old new : ℕ) (es : List Event) (xs : List Seen) (c b : Core) (m n : Rows) → Right d c m → Runs d room es c m old b n new xs → TellOutcomes d b.book xs

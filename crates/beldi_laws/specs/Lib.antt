@@ -1,3 +1,4 @@
 pub mod Laws
+pub mod OneAnswer
 pub mod Right
 pub mod Stands

@@ -1,5 +1,5 @@
 -- What every event keeps: the host and its rows are right.
-use Rattle.std.specs.Prelude.{◌≡◌, ℕ, ◌≤◌, nat_lt, nat_le, ◌&&◌, false, List, ◌++◌, slice_get, Option, Some, None, is_some, IsTrue, if◌then◌else◌}
+use Rattle.std.specs.Prelude.{◌≡◌, ℕ, ◌≤◌, nat_lt, nat_le, ◌&&◌, false, List, [], ◌++◌, slice_get, ◌==◌, Option, Some, None, is_some, IsTrue, if◌then◌else◌}
 use Rattle.std.specs.FinMap as map
 use Rattle.std.specs.FinMap.{FinMap}
 use Rattle.std.specs.Ordering.{nat_cmp, is_eq}
@@ -12,8 +12,9 @@ use Rattle.beldi_lang.specs.declared.deployment.Deployment.{Deployment}
 use Rattle.beldi_lang.specs.declared.deployment.Func.{Func}
 use Rattle.beldi_lang.specs.declared.effect.Answer.{Answer}
 use Rattle.beldi_lang.specs.declared.effect.Answer.TheVariants.{Done}
+use Rattle.beldi_lang.specs.declared.effect.Answer.TheVariants as answer
 use Rattle.beldi_lang.specs.declared.effect.Effect.{Effect}
-use Rattle.beldi_lang.specs.declared.effect.Effect.TheVariants.{Write, Return}
+use Rattle.beldi_lang.specs.declared.effect.Effect.TheVariants.{Read, Write, Return}
 use Rattle.beldi_lang.specs.Wants.{func_at}
 use Rattle.beldi_lang.specs.Machine.{IsAt}
 use Rattle.beldi_row.specs.declared.key.RowKey.{RowKey}
@@ -26,8 +27,15 @@ use Rattle.beldi_row.specs.declared.row.Cell.{Cell}
 use Rattle.beldi_row.specs.declared.row.IntentRow.{IntentRow}
 use Rattle.beldi_row.specs.declared.row.Row.{Row}
 use Rattle.beldi_row.specs.declared.row.Row.TheVariants as rows
-use Rattle.beldi_row.specs.Log.{note_at}
+use Rattle.beldi_row.specs.Log.{note_at, NoneTwice}
 use Rattle.beldi_row.specs.Table.{Rows}
+use Rattle.beldi_value.specs.declared.place.Owner.TheVariants as owner
+use Rattle.beldi_book.specs.declared.entry.Entry.{Entry}
+use Rattle.beldi_book.specs.Order.{count_changes, SeenBounded}
+use Rattle.beldi_readlog.specs.ReadLog.{log_key, given}
+use Rattle.beldi_daal.specs.declared.read_walk.ReadWalk.{ReadWalk}
+use Rattle.beldi_daal.specs.ReadWalk.{first_read}
+use Rattle.beldi_order.specs.Laws.{IsStateAt}
 use Rattle.beldi_daal.specs.declared.walk.Item.TheVariants.{Plain}
 use Rattle.beldi_daal.specs.declared.walk.CellOp.TheVariants as op
 use Rattle.beldi_daal.specs.declared.walk.WriteWalk.{WriteWalk}
@@ -41,12 +49,14 @@ use Rattle.beldi_step.specs.declared.run.Begun.{Begun}
 use Rattle.beldi_step.specs.declared.run.Stage.{Stage}
 use Rattle.beldi_step.specs.declared.run.Stage.TheVariants as stage
 use Rattle.beldi_step.specs.Host.{Core, root_key, most_runs}
-use Rattle.beldi_laws.specs.Stands.{NoneTwice, content_of, effect_before}
+use Rattle.beldi_laws.specs.Stands.{content_of, effect_before}
 
 -- ---- what the rows owe to a plain state
 -- the note of an answer to an effect of a function, where the effect is one of this item
 abbrev pub note_for : Item → ℕ → Effect → Answer → Option Note
 note_for x func (Write t k v) Done = if is_eq (item_cmp (record { func = func; table = t; key = k }) x) then Some Wrote else None
+note_for x func (Write t k v) (answer.Value u) = None
+note_for x func (Read t k) a = None
 note_for x func (Return o) a = None
 
 -- none where there was no answer
@@ -62,6 +72,27 @@ owed_by d x n (Some q) = note_if x q.func (effect_before d q n) (slice_get q.ans
 -- the note that an item has at a place: that of the answer which the place's instance was given at the place's step
 abbrev pub owed_note : Deployment → PlainState → Item → Place → Option Note
 owed_note d p x a = owed_by d x a.step (map.get p.made a.intent)
+
+-- the value of an answer to an effect, where the effect is a read
+abbrev pub value_for : Effect → Answer → Option Value
+value_for (Read t k) (answer.Value v) = Some v
+value_for (Read t k) Done = None
+value_for (Write t k v) a = None
+value_for (Return o) a = None
+
+-- none where there was no answer
+abbrev pub value_if : Effect → Option Answer → Option Value
+value_if e None = None
+value_if e (Some a) = value_for e a
+
+-- the value that the log of a function has of an instance's step, from 0
+abbrev pub owed_value : Deployment → ℕ → ℕ → Option Instance → Option Value
+owed_value d func n None = None
+owed_value d func n (Some q) = if q.func == func then value_if (effect_before d q n) (slice_get q.answers n) else None
+
+-- the value that the log of a function has at a place: the answer to the read that the place's instance made there
+abbrev pub owed_read : Deployment → PlainState → ℕ → Place → Option Value
+owed_read d p func a = owed_value d func a.step (map.get p.made a.intent)
 
 -- the body is a root's, and the instance was made with it and has ended so
 pub record IsRoot (b : Body) (o : Option Outcome) (i : Option Instance) : Type 0 where
@@ -106,9 +137,10 @@ pub record CellFits (row : ℕ) (c : Cell) : Type 0 where
   -- no place occurs twice in it
   pub once : NoneTwice c.log
 
--- a row fits its key: there are rows of roots and first rows of items, and no others
+-- a row fits its key: there are rows of roots, rows of reads and first rows of items, and no others
 abbrev pub Fits : ℕ → Kind → Row → Type 0
 Fits home (kinds.Intent id) (rows.Intent i) = IntentFits home id i
+Fits home (kinds.ReadLog a) (rows.ReadLog v) = Unit {0}
 Fits home (kinds.Data t k n) (rows.Cell c) = CellFits n c
 Fits home k r = ⊥
 
@@ -124,6 +156,8 @@ pub record RowsMatch (d : Deployment) (m : Rows) (p : PlainState) : Type 0 where
   pub owners : (x : Item) → (content_of m x).owner ≡ None
   -- an item has a note at a place exactly where it owes one
   pub notes : (x : Item) (a : Place) → note_at (content_of m x).notes a ≡ owed_note d p x a
+  -- a function's log has a value at a place exactly where it owes one
+  pub reads : (func : ℕ) (a : Place) → given m (log_key func a) ≡ owed_read d p func a
   -- a root was made exactly where its row has a body
   pub roots : (t : ℕ) → RootMatches (map.get m (root_key t)) (map.get p.made (root_of t))
   -- and there are no other rows
@@ -132,7 +166,10 @@ pub record RowsMatch (d : Deployment) (m : Rows) (p : PlainState) : Type 0 where
 -- ---- what every plain state of a legal book is, whatever the rows are
 -- the answer is one to the effect
 abbrev pub IsAnswerTo : Effect → Answer → Type 0
+IsAnswerTo (Read t k) (answer.Value v) = Unit {0}
+IsAnswerTo (Read t k) Done = ⊥
 IsAnswerTo (Write t k v) Done = Unit {0}
+IsAnswerTo (Write t k v) (answer.Value u) = ⊥
 IsAnswerTo (Return o) a = ⊥
 
 -- an instance that went as its body wants
@@ -156,14 +193,40 @@ Sane d p = (id : IntentId) → SaneAt d (map.get p.made id)
 abbrev pub walk_at : Run → ℕ → ℕ → List ℕ → Value → WriteStage → WriteWalk
 walk_at r n t k v s = record (first_walk r.func (Plain t k) (record { intent = r.id; step = n }) (op.Write v)) { stage = s }
 
+-- the walk of a read
+abbrev pub reading_at : Run → ℕ → List ℕ → ReadWalk
+reading_at r t k = first_read r.func (Plain t k) (Some (owner.Intent r.id))
+
 -- where an effect at a step may stand
 abbrev pub StageOk : Run → ℕ → Effect → Stage → Type 0
+StageOk r n (Read t k) (stage.Ask w) = w ≡ reading_at r t k
+StageOk r n (Read t k) (stage.Walk w) = w ≡ reading_at r t k
+StageOk r n (Read t k) (stage.Keep v seen) = Unit {0}
 StageOk r n (Write t k v) (stage.Write w) = (s : WriteStage) × (w ≡ walk_at r n t k v s)
 StageOk r n (Return o) (stage.Close u) = u ≡ o
 StageOk r n e s = ⊥
 
+-- where a read belongs after the first `seen` changes: there its instance had these answers, and the item had this value
+pub record WasThere (d : Deployment) (book : List Entry) (id : IntentId) (answers : List Answer) (x : Item) (v : Value) (seen : ℕ) : Type 0 where
+  pub state : PlainState
+  pub is_state : IsStateAt d book seen state
+  pub instance : Instance
+  pub made : map.get state.made id ≡ Some instance
+  pub same : instance.answers ≡ answers
+  pub value : value_at state x ≡ v
+
+-- a run that is to keep a value: where its instance was not answered since, the read belongs where the value was found
+pub record Keeps (d : Deployment) (book : List Entry) (id : IntentId) (answers later : List Answer) (x : Item) (v : Value) (seen : ℕ) : Type 0 where
+  pub few : seen ≤ count_changes book
+  pub was_there : later ≡ [] → WasThere d book id answers x v seen
+
+-- what it knows of the place of its read
+abbrev pub PlaceOk : Deployment → List Entry → IntentId → ℕ → List Answer → List Answer → Effect → Stage → Type 0
+PlaceOk d book id func answers later (Read t k) (stage.Keep v seen) = Keeps d book id answers later (record { func = func; table = t; key = k }) v seen
+PlaceOk d book id func answers later e s = Unit {0}
+
 -- what a run that has begun knows
-pub record Knows (d : Deployment) (p : PlainState) (r : Run) (g : Begun) : Type 0 where
+pub record Knows (d : Deployment) (book : List Entry) (p : PlainState) (r : Run) (g : Begun) : Type 0 where
   -- its instance was made with its function, which the deployment has
   pub instance : Instance
   pub made : map.get p.made r.id ≡ Some instance
@@ -177,29 +240,32 @@ pub record Knows (d : Deployment) (p : PlainState) (r : Run) (g : Begun) : Type 
   -- its machine stands where these answers lead, and its stage is one of the effect there
   pub machine : IsAt d r.func instance.args g.machine answers
   pub run_stage : StageOk r g.machine.steps g.machine.effect g.stage
+  -- where it is to keep a value, it knows where its read belongs
+  pub run_place : PlaceOk d book r.id r.func answers later g.machine.effect g.stage
 
 -- nothing is known of a run before its first turn
-abbrev pub KnowsAt : Deployment → PlainState → Run → Option Begun → Type 0
-KnowsAt d p r None = Unit {0}
-KnowsAt d p r (Some g) = Knows d p r g
+abbrev pub KnowsAt : Deployment → List Entry → PlainState → Run → Option Begun → Type 0
+KnowsAt d book p r None = Unit {0}
+KnowsAt d book p r (Some g) = Knows d book p r g
 
 -- the run of a number, if it is live, knows so much
-abbrev pub RunAt : Deployment → PlainState → Option Run → Type 0
-RunAt d p None = Unit {0}
-RunAt d p (Some r) = KnowsAt d p r r.at
+abbrev pub RunAt : Deployment → List Entry → PlainState → Option Run → Type 0
+RunAt d book p None = Unit {0}
+RunAt d book p (Some r) = KnowsAt d book p r r.at
 
 -- the live runs
-pub record RunsMatch (d : Deployment) (p : PlainState) (live : FinMap nat_cmp Run) (last : ℕ) : Type 0 where
+pub record RunsMatch (d : Deployment) (book : List Entry) (p : PlainState) (live : FinMap nat_cmp Run) (last : ℕ) : Type 0 where
   -- their numbers were given
   pub numbers : (n : ℕ) → IsTrue (is_some (map.get live n)) → (1 ≤ n) × (n ≤ last)
   -- there are at most as many as may live
   pub few : map.len live ≤ most_runs
   -- each knows what a run knows
-  pub runs : (n : ℕ) → RunAt d p (map.get live n)
+  pub runs : (n : ℕ) → RunAt d book p (map.get live n)
 
 -- ---- the invariant
 pub record Right (d : Deployment) (c : Core) (m : Rows) : Type 0 where
   -- the book is legal, and this is its run
+  pub bounded : SeenBounded 0 c.book
   pub plain : PlainState
   pub legal : run_of d c.book ≡ Some plain
   pub sane : Sane d plain
@@ -208,4 +274,4 @@ pub record Right (d : Deployment) (c : Core) (m : Rows) : Type 0 where
   -- a root has its row exactly where its ticket was issued
   pub tickets : (t : ℕ) → is_some (map.get m (root_key t)) ≡ (nat_lt 0 t && nat_le t c.newest)
   -- each live run knows what the plain state has
-  pub runs : RunsMatch d plain c.runs c.last_run
+  pub runs : RunsMatch d c.book plain c.runs c.last_run

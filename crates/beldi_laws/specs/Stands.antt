@@ -1,18 +1,15 @@
 -- That rows stand for a plain state.
-use Rattle.std.specs.Prelude.{◌≡◌, ℕ, false, List, [], ◌∷◌, take, slice_get, Option, Some, None, option_and_then}
+use Rattle.std.specs.Prelude.{◌≡◌, ℕ, false, take, slice_get, Option, Some, None, option_and_then}
 use Rattle.std.specs.FinMap as map
 use Rattle.beldi_value.specs.Id.{root_of}
 use Rattle.beldi_value.specs.declared.id.IntentId.{IntentId}
-use Rattle.beldi_value.specs.declared.place.Place.{Place}
-use Rattle.beldi_value.specs.declared.place.Owner.{Owner}
 use Rattle.beldi_value.specs.declared.outcome.Outcome.{Outcome}
-use Rattle.beldi_value.specs.declared.value.Value.{Value}
-use Rattle.beldi_value.specs.declared.value.Value.TheVariants.{Null}
 use Rattle.beldi_lang.specs.declared.deployment.Deployment.{Deployment}
 use Rattle.beldi_lang.specs.declared.effect.Answer.{Answer}
 use Rattle.beldi_lang.specs.declared.effect.Answer.TheVariants.{Done}
+use Rattle.beldi_lang.specs.declared.effect.Answer.TheVariants as answer
 use Rattle.beldi_lang.specs.declared.effect.Effect.{Effect}
-use Rattle.beldi_lang.specs.declared.effect.Effect.TheVariants.{Write, Return}
+use Rattle.beldi_lang.specs.declared.effect.Effect.TheVariants.{Read, Write, Return}
 use Rattle.beldi_lang.specs.Wants.{wants}
 use Rattle.beldi_row.specs.declared.key.RowKey.{RowKey}
 use Rattle.beldi_row.specs.declared.key.Kind.TheVariants as kinds
@@ -20,44 +17,25 @@ use Rattle.beldi_row.specs.declared.notes.Note.{Note}
 use Rattle.beldi_row.specs.declared.notes.Note.TheVariants as notes
 use Rattle.beldi_row.specs.declared.row.Body.{Body}
 use Rattle.beldi_row.specs.declared.row.IntentRow.{IntentRow}
-use Rattle.beldi_row.specs.declared.row.Row.{Row}
 use Rattle.beldi_row.specs.declared.row.Row.TheVariants as rows
 use Rattle.beldi_row.specs.Log.{note_at}
 use Rattle.beldi_row.specs.Table.{Rows}
+use Rattle.beldi_daal.specs.Content.{Content, content_in, SoundAt}
+use Rattle.beldi_readlog.specs.ReadLog.{log_key, given}
+use Rattle.std.specs.Option.{option_map}
 use Rattle.beldi_plain.specs.Item.{Item}
 use Rattle.beldi_plain.specs.Plain.{Instance, PlainState, value_at}
 use Rattle.beldi_step.specs.Run.{is_ended}
 use Rattle.beldi_step.specs.Host.{root_key}
 
--- ---- what the rows hold of an item: its value, who owns it, and what was done to it, each with the place that it was done for
-pub record Content : Type 0 where
-  pub value : Value
-  pub owner : Option Owner
-  pub notes : List (Place × Note)
-
+-- ---- what the rows hold of an item
 -- the first row of an item
 abbrev pub head_key : Item → RowKey
 head_key x = record { home = x.func; kind = kinds.Data x.table x.key 0 }
 
--- an item without a row is null, and nothing was done to it
-abbrev pub content_in : Option Row → Content
-content_in (Some (rows.Cell c)) = record { value = c.value; owner = c.owner; notes = c.log }
-content_in r = record { value = Null; owner = None; notes = [] }
-
 -- an item has one row
 abbrev pub content_of : Rows → Item → Content
 content_of m x = content_in (map.get m (head_key x))
-
--- no place occurs twice
-abbrev pub NoneTwice : List (Place × Note) → Type 0
-NoneTwice [] = Unit {0}
-NoneTwice (e ∷ es) = (note_at es e.0 ≡ None) × NoneTwice es
-
--- the rows of an item are one cell that no row follows, and no place occurs twice in it; or there is none
-abbrev pub SoundAt : Option Row → Type 0
-SoundAt None = Unit {0}
-SoundAt (Some (rows.Cell c)) = (c.next ≡ None) × NoneTwice c.log
-SoundAt (Some r) = ⊥
 
 -- the chain of an item is sound
 abbrev pub IsSoundChain : Rows → Item → Type 0
@@ -72,8 +50,10 @@ noted_answer notes.Got = None
 noted_answer (notes.Died h) = None
 noted_answer notes.Freed = None
 
--- the answer that the rows hold at a step of an intent of a function, for the effect that it has there
+-- the answer that the rows hold at a step of an intent of a function, for the effect that it has there: the value that was
+-- given to a read, and the note that a write left
 abbrev pub held_answer : Rows → IntentId → ℕ → ℕ → Effect → Option Answer
+held_answer m id func step (Read t k) = option_map answer.Value (given m (log_key func (record { intent = id; step = step })))
 held_answer m id func step (Write t k v) = option_and_then noted_answer (note_at (content_of m (record { func = func; table = t; key = k })).notes (record { intent = id; step = step }))
 held_answer m id func step (Return o) = None
 

@@ -1,5 +1,5 @@
 // The laws of the step.
-ghost use Rattle.beldi_laws.specs.Laws.{BeginsRight, KeepsRight, BreaksRight, RightIsLegal, RightStands, RepliesAreOutcomes, StartsAreBound, BreaksStartNothing, OutcomesStay, ListingIsPlain, ChangesOneRow, WritesWhatIsTold, SessionsAreRight, SessionsStartTheBound, SessionsTellOutcomes};
+ghost use Rattle.beldi_laws.specs.Laws.{BeginsRight, KeepsRight, BreaksRight, RightIsLegal, RightStands, RepliesAreOutcomes, StartsAreBound, BreaksStartNothing, OutcomesStay, ListingIsPlain, RightHasOneAnswer, HeldAnswersStay, ChangesOneRow, WritesWhatIsTold, SessionsAreRight, SessionsStartTheBound, SessionsTellOutcomes};
 
 /// A host that nothing has happened to is right, over a table without rows.
 pub fn begins_right()
@@ -51,6 +51,17 @@ pub fn listing_is_plain()
     ensures { ListingIsPlain }
 {}
 
+/// Where the host and its rows are right, each step of an instance has one answer, whichever run asks for it: the one that
+/// the rows hold.
+pub fn each_step_has_one_answer()
+    ensures { RightHasOneAnswer }
+{}
+
+/// An answer that the rows hold at a step stays, whatever comes.
+pub fn held_answers_stay()
+    ensures { HeldAnswersStay }
+{}
+
 /// Whatever events come, after them the host and its rows are right, the book starts exactly the requests that were bound,
 /// in order, and every outcome that was told is the root's in the run of the book.
 pub fn every_session_is_right()
@@ -64,7 +75,7 @@ pub fn an_event_changes_one_row()
     ensures { ChangesOneRow }
 {}
 
-/// The book gets at most one entry in an event: the one that the answer tells.
+/// The book gets at most one entry in an event: the one that the answer tells, unless the answer was lost.
 pub fn an_event_writes_what_it_tells()
     ensures { WritesWhatIsTold }
 {}

@@ -1,20 +1,14 @@
 -- What a session over a table without rows leaves: a run without crashes.
-use Rattle.std.proofs.Common.{◌≡◌, ◌≤◌, ◌⊎◌, inl, inr, ℕ, length, arith, zero, suc, Bool, true, false, List, [], ◌∷◌, drop, Option, None, Some, IfSome, refl, ap, sym, ◌∙◌, subst}
+use Rattle.std.proofs.Common.{◌≡◌, ◌≤◌, ◌⊎◌, inl, inr, ℕ, length, arith, zero, suc, Bool, true, false, List, [], ◌∷◌, drop, Option, None, Some, IfSome, refl, ap, sym, ◌∙◌}
 use Rattle.std.specs.FinMap as map
 use Rattle.std.proofs.lemmas.Bool.{false≢true}
-use Rattle.beldi_value.specs.declared.outcome.Outcome.{Outcome}
 use Rattle.beldi_lang.specs.declared.deployment.Deployment.{Deployment}
 use Rattle.beldi_row.specs.Table.{Rows}
-use Rattle.beldi_plain.specs.Plain.{PlainState}
-use Rattle.beldi_plain.specs.Legal.{run_of}
-use Rattle.beldi_step.specs.declared.event.Event.{Event}
-use Rattle.beldi_step.specs.declared.event.Seen.{Seen}
+use Rattle.beldi_plain.specs.Legal.{IsLegal}
 use Rattle.beldi_step.specs.Host.{Core, first_core}
-use Rattle.beldi_step.specs.Session.{Runs}
-use Rattle.beldi_laws.specs.Laws.{starts_of, bound_in, TellOutcomes, HasReply}
+use Rattle.beldi_laws.specs.Laws.{starts_of, bound_in}
 use Rattle.beldi_laws.specs.Right.{Right}
-use Rattle.beldi_laws.proofs.Events.{runs_right, after_break}
-use Rattle.beldi_laws.proofs.Starts.{break_starts, outcomes_stay, session_starts, session_tells}
+use Rattle.beldi_laws.proofs.Starts.{break_starts}
 use Rattle.beldi_laws.proofs.Standing.{right_stands}
 use Rattle.beldi_laws.proofs.Listing.{listing_plain}
 use Rattle.beldi_core.specs.Survey.{newest_of}
@@ -23,78 +17,64 @@ use Rattle.beldi_script.specs.Cut.{lines_of}
 use Rattle.beldi_syntax.specs.declared.grammar.Parsed.{Parsed}
 use Rattle.beldi_syntax.specs.Grammar.{parsed_at}
 use Rattle.beldi_outside.specs.Outside.{Told, max_source}
+use Rattle.beldi_main.specs.declared.deed.Deed.{Deed}
+use Rattle.beldi_main.specs.declared.deed.Deed.TheVariants as deed
 use Rattle.beldi_main.specs.declared.program.Ended.{Ended}
 use Rattle.beldi_main.specs.declared.program.Ended.TheVariants as ended
-use Rattle.beldi_main.specs.Session.{OnTold, Answered, BrokeOff, events_in}
-use Rattle.beldi_main.specs.Headline.{Claim, Anything, BookIsLegal, StartsTheBound, TellsOutcomes, StandsForTheRun, IsWholeSource, LongOn, SessionOn, SourceOn, WordsOn, status_of}
-use Rattle.beldi_main.proofs.Events.{both_map}
+use Rattle.beldi_main.specs.Said.{Said}
+use Rattle.beldi_main.specs.Session.{OnTold, Answered, BreaksIn, BrokeOff, deeds_in}
+use Rattle.beldi_main.specs.Headline.{AreListings, Claim, Anything, BookIsLegal, StartsTheBound, TellsOutcomes, SayOutcomes, StandsAtEnd, StandsForTheRun, IsWholeSource, LongOn, SessionOn, SourceOn, WordsOn, events_among, seen_among, status_of}
+use Rattle.beldi_main.proofs.Deeds.{both_map}
+use Rattle.beldi_main.proofs.Moments.{answered_right, answered_starts, answered_tells, answered_lists, broke_right, broke_goes, broke_keeps}
 
-runs_of : (d : Deployment) (room : ℕ) (es : List Event) (c : Core) (m : Rows) (f : ℕ) (b : Core) (n : Rows) (g : ℕ) (xs : List Seen) → Answered d room es c m f b n g xs → Runs d room es c m b n xs
-runs_of d room [] c m f b n g [] r = (r.0, r.1)
-runs_of d room [] c m f b n g (x ∷ xs) r = absurd r
-runs_of d room (e ∷ es) c m f b n g [] r = absurd r
-runs_of d room (e ∷ es) c m f b n g (x ∷ xs) r = (r.0, r.1, r.3, runs_of d room es r.0 r.1 r.2 b n g xs r.6)
+-- ---- the deed that broke off
+same_starts : (c b : Core) → b ≡ c → starts_of b.book ≡ starts_of c.book
+same_starts c b h = ap (λ (y : Core). starts_of y.book) h
 
--- ---- the events that were carried out, and the one that broke off
-broke_right : (d : Deployment) (es : List Event) (c b : Core) (m n : Rows) → Right d c m → BrokeOff d es c m b n → Right d b n
-broke_right d [] c b m n h s = subst (λ y. Right d y n) (sym s.0) (subst (λ y. Right d c y) (sym s.1) h)
-broke_right d (e ∷ es) c b m n h s = elim s [
-  | inl s ↦ subst (λ y. Right d y n) (sym s.0) (subst (λ y. Right d c y) (sym s.1) h)
-  | inr s ↦ after_break d e c b m n h s
-]
+breaks_starts : (d : Deployment) (x : Deed) (c b : Core) (m n : Rows) → BreaksIn d x c m b n → starts_of b.book ≡ starts_of c.book
+breaks_starts d (deed.Event e) c b m n s = break_starts d e c b m n s
+breaks_starts d (deed.Reply t) c b m n s = same_starts c b s.0
+breaks_starts d deed.Rows c b m n s = same_starts c b s.0
+breaks_starts d deed.Tables c b m n s = same_starts c b s.0
+breaks_starts d deed.Book c b m n s = same_starts c b s.0
 
-broke_starts : (d : Deployment) (es : List Event) (c b : Core) (m n : Rows) → BrokeOff d es c m b n → starts_of b.book ≡ starts_of c.book
-broke_starts d [] c b m n s = ap (λ (y : Core). starts_of y.book) s.0
-broke_starts d (e ∷ es) c b m n s = elim s [
-  | inl s ↦ ap (λ (y : Core). starts_of y.book) s.0
-  | inr s ↦ break_starts d e c b m n s
-]
-
-broke_keeps : (d : Deployment) (es : List Event) (c b : Core) (m n : Rows) (t : ℕ) (o : Outcome) → Right d c m → BrokeOff d es c m b n → HasReply d c.book t o → HasReply d b.book t o
-broke_keeps d [] c b m n t o h s r = subst (λ (y : Core). HasReply d y.book t o) (sym s.0) r
-broke_keeps d (e ∷ es) c b m n t o h s r = elim s [
-  | inl s ↦ subst (λ (y : Core). HasReply d y.book t o) (sym s.0) r
-  | inr s ↦ outcomes_stay.want_of_memory d e c b m n t o h s r
-]
-
-broke_tells : (d : Deployment) (es : List Event) (c b : Core) (m n : Rows) (xs : List Seen) → Right d c m → BrokeOff d es c m b n → TellOutcomes d c.book xs → TellOutcomes d b.book xs
-broke_tells d es c b m n [] h s r = tt
-broke_tells d es c b m n (x ∷ xs) h s r = (λ t o is. broke_keeps d es c b m n t o h s (r.0 t o is), broke_tells d es c b m n xs h s r.1)
+broke_starts : (d : Deployment) (es : List Deed) (c b : Core) (m n : Rows) → BrokeOff d es c m b n → starts_of b.book ≡ starts_of c.book
+broke_starts d [] c b m n s = same_starts c b s.0
+broke_starts d (e ∷ es) c b m n s = elim s [ inl s ↦ same_starts c b s.0 | inr s ↦ breaks_starts d e c b m n s ]
 
 -- ---- a session over no rows
-module _ (d : Deployment) (room : ℕ) (es more : List Event) (xs : List Seen) (m o n : Rows) (f g : ℕ) (last b : Core) (a : Answered d room es (first_core (newest_of m) 0) m f last o g xs) (s : BrokeOff d more last o b n) (none : m ≡ map.empty) where
+module _ (d : Deployment) (room : ℕ) (es more : List Deed) (ys : List Said) (m o n : Rows) (f g : ℕ) (last b : Core) (a : Answered d room es (first_core (newest_of m) 0) m f last o g ys) (s : BrokeOff d more last o b n) (none : m ≡ map.empty) where
   right_before : Right d (first_core (newest_of m) 0) m
   right_before = begins_right d 0 m none
 
-  runs : Runs d room es (first_core (newest_of m) 0) m last o xs
-  runs = runs_of d room es (first_core (newest_of m) 0) m f last o g xs a
-
   right_last : Right d last o
-  right_last = runs_right d room es xs (first_core (newest_of m) 0) last m o right_before runs
+  right_last = answered_right d room es (first_core (newest_of m) 0) m f last o g ys right_before a
 
   right_after : Right d b n
   right_after = broke_right d more last b o n right_last s
 
-  pub legal : (run : PlainState) × (run_of d b.book ≡ Some run)
-  legal = (right_after.plain, right_after.legal)
+  pub legal : IsLegal d b.book
+  legal = record { bounded = right_after.bounded; run = right_after.plain; legal = right_after.legal }
 
-  pub bound : starts_of b.book ≡ bound_in es xs
-  bound = broke_starts d more last b o n s ∙ session_starts d room es xs (first_core (newest_of m) 0) last m o runs
+  pub bound : starts_of b.book ≡ bound_in (events_among es) (seen_among ys)
+  bound = broke_starts d more last b o n s
+      ∙ answered_starts d room es (first_core (newest_of m) 0) m f last o g ys a
 
-  pub replied : TellOutcomes d b.book xs
-  replied = broke_tells d more last b o n xs right_last s (session_tells d room es xs (first_core (newest_of m) 0) last m o right_before runs)
+  pub replied : SayOutcomes d b.book ys
+  replied = answered_tells d room es (first_core (newest_of m) 0) m f last o g ys b.book right_before a (broke_keeps d more last b o n right_last s)
 
-  pub stood : StandsForTheRun d m n es xs b
-  stood e p is = (right_stands d b n p right_after is, listing_plain d b n p right_after is)
+  pub stood : StandsAtEnd d m n es ys b
+  stood p is = (right_stands d b n p right_after is, listing_plain d b n p right_after is)
+
+  pub listed : AreListings d b.book ys
+  listed = answered_lists d room es (first_core (newest_of m) 0) m f last o g ys b.book right_before a (broke_goes d more last b o n s)
 
 -- ---- a claim that holds of every session
 abbrev Holds : Claim → Type 0
-Holds P = (d : Deployment) (room : ℕ) (es more : List Event) (xs : List Seen) (m o n : Rows) (f g : ℕ) (last b : Core) → Answered d room es (first_core (newest_of m) 0) m f last o g xs → BrokeOff d more last o b n → P d m n es xs b
+Holds P = (d : Deployment) (room : ℕ) (es more : List Deed) (xs : List Said) (m o n : Rows) (f g : ℕ) (last b : Core) → Answered d room es (first_core (newest_of m) 0) m f last o g xs → BrokeOff d more last o b n → P d m n es xs b
 
 pub is_legal : Holds BookIsLegal
-is_legal d room es more xs m o n f g last b a s none =
-    let it = legal d room es more xs m o n f g last b a s none in
-    record { run = it.0; legal = it.1 }
+is_legal d room es more xs m o n f g last b a s none = legal d room es more xs m o n f g last b a s none
 
 pub starts_bound : Holds StartsTheBound
 starts_bound d room es more xs m o n f g last b a s none = bound d room es more xs m o n f g last b a s none
@@ -103,14 +83,14 @@ pub tells_outcomes : Holds TellsOutcomes
 tells_outcomes d room es more xs m o n f g last b a s none = replied d room es more xs m o n f g last b a s none
 
 pub stands : Holds StandsForTheRun
-stands d room es more xs m o n f g last b a s none = stood d room es more xs m o n f g last b a s none none
+stands d room es more xs m o n f g last b a s none = (stood d room es more xs m o n f g last b a s none, listed d room es more xs m o n f g last b a s none)
 
 module _ (P : Claim) (holds : Holds P) where
   session : (d : Deployment) (lines : List (List ℕ)) (m n : Rows) (f g : ℕ) (h k : List ℕ) (e : Ended) → SessionOn Anything d lines m n f g h k e → SessionOn P d lines m n f g h k e
-  session d lines m n f g h k ended.Done x = (x.0, (x.1.0, holds d d.room (events_in d lines) [] x.1.0.answers m n n f x.1.0.closed x.1.0.core x.1.0.core x.1.0.answered (refl, refl)))
-  session d lines m n f g h k ended.Refused x = (x.0, (x.1.0, holds d d.room (events_in d lines) [] x.1.0.answers m n n f x.1.0.closed x.1.0.core x.1.0.core x.1.0.answered (refl, refl)))
-  session d lines m n f g h k ended.OutOfMemory x = (x.0, holds d d.room x.0.done x.0.more x.0.answers m x.0.rows n f x.0.closed x.0.last x.0.core x.0.answered x.0.broke_off)
-  session d lines m n f g h k ended.SinkFault x = (x.0, holds d d.room x.0.done x.0.more x.0.answers m x.0.rows n f x.0.closed x.0.last x.0.core x.0.answered x.0.broke_off)
+  session d lines m n f g h k ended.Done x = (x.0, (x.1.0, holds d d.room (deeds_in d lines) [] x.1.0.said m n n x.1.0.opened g x.1.0.core x.1.0.core x.1.0.answered (refl, refl)))
+  session d lines m n f g h k ended.Refused x = (x.0, (x.1.0, holds d d.room (deeds_in d lines) [] x.1.0.said m n n x.1.0.opened g x.1.0.core x.1.0.core x.1.0.answered (refl, refl)))
+  session d lines m n f g h k ended.OutOfMemory x = (x.0, holds d d.room x.0.done x.0.more x.0.said m x.0.rows n x.0.opened x.0.closed x.0.last x.0.core x.0.answered x.0.broke_off)
+  session d lines m n f g h k ended.SinkFault x = (x.0, holds d d.room x.0.done x.0.more x.0.said m x.0.rows n x.0.opened x.0.closed x.0.last x.0.core x.0.answered x.0.broke_off)
   session d lines m n f g h k ended.Usage x = absurd x
   session d lines m n f g h k ended.SourceFault x = x
   session d lines m n f g h k ended.TooLong x = x

@@ -1,8 +1,10 @@
 pub mod Carries
 pub mod Claims
+pub mod Deeds
+pub mod Doings
 pub mod Endings
-pub mod Events
 pub mod Lines
+pub mod Moments
 pub mod Programs
 pub mod Sessions
 pub mod Sights

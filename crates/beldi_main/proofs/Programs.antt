@@ -3,7 +3,7 @@ use Rattle.std.proofs.Common.{◌≡◌, inl, ℕ, ◌≤◌, Bool, true, false,
 use Rattle.std.proofs.lemmas.List.{append-nil}
 use Rattle.beldi_lang.specs.declared.deployment.Deployment.{Deployment}
 use Rattle.beldi_row.specs.Table.{Rows}
-use Rattle.beldi_step.specs.declared.event.Event.{Event}
+use Rattle.beldi_main.specs.declared.deed.Deed.{Deed}
 use Rattle.beldi_step.specs.Host.{Core, first_core}
 use Rattle.beldi_core.specs.Survey.{Opened, Refused, newest_of}
 use Rattle.beldi_core.specs.declared.survey.OpenErr.{OpenErr}
@@ -17,45 +17,35 @@ use Rattle.beldi_outside.proofs.Told.{told_same, told_then, told_map, for_some}
 use Rattle.beldi_main.specs.declared.session.Stop.{Stop}
 use Rattle.beldi_main.specs.declared.session.Stop.TheVariants.{OutOfMemory, SinkFault}
 use Rattle.beldi_main.specs.declared.program.Ended.TheVariants as ended_so
-use Rattle.beldi_main.specs.Session.{state_of, OnTold, BrokeOff, Carried, LinesOn, EndedOn, events_in}
+use Rattle.beldi_main.specs.Session.{state_of, OnTold, BrokeOff, Carried, LinesOn, EndedOn, deeds_in}
 use Rattle.beldi_main.specs.Headline.{Whole, Cut, ScriptOn, SessionOn, SourceOn, RunOn, Anything, end_of, end_unread}
-use Rattle.beldi_main.proofs.Events.{told_tells, both_map}
-use Rattle.beldi_main.proofs.Sessions.{earlier}
+use Rattle.beldi_main.proofs.Deeds.{told_tells, both_map}
 use Rattle.beldi_main.proofs.Endings.{ended, cut_at_end, cut_before}
-
-on_then : {P Q R : Rows → Rows → List ℕ → List ℕ → Type 0} (ra rb rc : Option Rows) (ha hb hc : Option (List ℕ))
-    → ((m n o : Rows) (h k j : List ℕ) → P m n h k → Q n o k j → R m o h j) → OnTold ra rb ha hb P → OnTold rb rc hb hc Q → OnTold ra rc ha hc R
-on_then {P} {Q} {R} ra rb rc ha hb hc f p q =
-    told_then {P = λ m n. Told ha hb (P m n)} {Q = λ m n. Told hb hc (Q m n)} {R = λ m n. Told ha hc (R m n)} ra rb rc
-    (λ m n o v w. told_then {P = P m n} {Q = Q n o} {R = R m o} ha hb hc (λ h k j x y. f m n o h k j x y) v w) p q
 
 -- ---- a script and its ending
 abbrev pub ended_by : Bool → Result (Unit {0}) Stop → Result Bool Stop
 ended_by whole (Ok u) = Ok whole
 ended_by whole (Err s) = Err s
 
-module _ (d : Deployment) (room : ℕ) (lines : List (List ℕ)) (c b : Core) (f g e : ℕ) (p : List ℕ) where
-  script_at_end : (whole : Bool) (r : Result (Unit {0}) Stop) (m n o : Rows) (h k j : List ℕ) → g ≤ e → LinesOn d room lines (state_of c m f h []) (state_of b n g k p) (Ok whole)
-      → (o ≡ n) × EndedOn d whole b p n g e k j r → ScriptOn d room lines c m o f e h j (ended_by whole r)
-  script_at_end whole (Ok u) m n o h k j l v w =
-      (v.0, subst (λ z. Whole d room lines c m z f e h j) (sym w.0) (ended d room lines c b m n f g e h k p j v.1 l (subst (λ z. EndedOn d z b p n g e k j (Ok tt)) (sym v.0) w.1)))
-  script_at_end whole (Err s) m n o h k j l v w =
-      subst (λ z. Cut d room lines c m z f e h j) (sym w.0) (cut_at_end d room lines c b m n f g e h k p j s v.1 l (subst (λ z. EndedOn d z b p n g e k j (Err s)) (sym v.0) w.1))
+module _ (d : Deployment) (room : ℕ) (lines : List (List ℕ)) (c b : Core) (f g : ℕ) (p : List ℕ) where
+  script_at_end : (whole : Bool) (r : Result (Unit {0}) Stop) (m n : Rows) (h k j : List ℕ) → LinesOn d room lines (state_of c m f h []) (state_of b n g k p) (Ok whole) → EndedOn whole p r k j → ScriptOn d room lines c m n f g h j (ended_by whole r)
+  script_at_end whole (Ok u) m n h k j v w = (v.0, ended d room lines c b m n f g h k p j v.1 (subst (λ z. EndedOn z p (Ok tt) k j) (sym v.0) w))
+  script_at_end whole (Err s) m n h k j v w = cut_at_end d room lines c b m n f g h k p j s v.1 (subst (λ z. EndedOn z p (Err s) k j) (sym v.0) w)
 
-  pub script_ended : (code : Deployment) (w : List ℕ) (whole : Bool) (r : Result (Unit {0}) Stop) (ra rb rc : Option Rows) (ha hb hc : Option (List ℕ)) → g ≤ e → code ≡ d → w ≡ []
-      → Carried (λ y q s t x. LinesOn y q lines s t x) d room c b f g w p ra rb ha hb (Ok whole) → OnTold rb rc hb hc (λ m n h k. (n ≡ m) × EndedOn code whole b p m g e h k r)
-      → OnTold ra rc ha hc (λ m n h k. ScriptOn d room lines c m n f e h k (ended_by whole r))
-  script_ended code w whole r ra rb rc ha hb hc l same none v x =
-      on_then {P = λ m n h k. LinesOn d room lines (state_of c m f h []) (state_of b n g k p) (Ok whole)} {Q = λ m n h k. (n ≡ m) × EndedOn d whole b p m g e h k r} {R = λ m n h k. ScriptOn d room lines c m n f e h k (ended_by whole r)} ra rb rc ha hb hc
-      (λ m n o h k j y z. script_at_end whole r m n o h k j l y z)
+  pub script_ended : (w : List ℕ) (whole : Bool) (r : Result (Unit {0}) Stop) (ra rb : Option Rows) (ha hb hc : Option (List ℕ)) → w ≡ []
+      → Carried (λ y q s t x. LinesOn y q lines s t x) d room c b f g w p ra rb ha hb (Ok whole) → Told hb hc (EndedOn whole p r)
+      → OnTold ra rb ha hc (λ m n h k. ScriptOn d room lines c m n f g h k (ended_by whole r))
+  script_ended w whole r ra rb ha hb hc none v x =
+      told_map {P = λ m n. Told ha hb (λ h k. LinesOn d room lines (state_of c m f h []) (state_of b n g k p) (Ok whole))} {Q = λ m n. Told ha hc (λ h k. ScriptOn d room lines c m n f g h k (ended_by whole r))} ra rb
+      (λ m n y. told_then {P = λ h k. LinesOn d room lines (state_of c m f h []) (state_of b n g k p) (Ok whole)} {Q = EndedOn whole p r} {R = λ h k. ScriptOn d room lines c m n f g h k (ended_by whole r)} ha hb hc
+      (λ h k j y z. script_at_end whole r m n h k j y z) y x)
       (subst (λ (z : List ℕ). Carried (λ y q s t x. LinesOn y q lines s t x) d room c b f g z p ra rb ha hb (Ok whole)) none v)
-      (subst (λ (z : Deployment). OnTold rb rc hb hc (λ m n h k. (n ≡ m) × EndedOn z whole b p m g e h k r)) same x)
 
   pub script_cut : (w : List ℕ) (s : Stop) (ra rb : Option Rows) (ha hb : Option (List ℕ)) → w ≡ [] → Carried (λ y q s t x. LinesOn y q lines s t x) d room c b f g w p ra rb ha hb (Err s)
       → OnTold ra rb ha hb (λ m n h k. ScriptOn d room lines c m n f g h k (Err s))
   script_cut w s ra rb ha hb none v =
       both_map {P = λ m n h k. LinesOn d room lines (state_of c m f h []) (state_of b n g k p) (Err s)} {Q = λ m n h k. ScriptOn d room lines c m n f g h k (Err s)} ra rb ha hb
-      (λ m n h k x. cut_before d room lines c b m n f g g h k p x (omega arith))
+      (λ m n h k x. cut_before d room lines c b m n f g h k p x)
       (subst (λ (z : List ℕ). Carried (λ y q s t x. LinesOn y q lines s t x) d room c b f g z p ra rb ha hb (Err s)) none v)
 
 -- ---- a host over a table
@@ -63,26 +53,26 @@ module _ (d : Deployment) (lines : List (List ℕ)) (m n : Rows) (e f g : ℕ) (
   whole_earlier : Whole d d.room lines (first_core (newest_of m) 0) m n f g h k → Whole d d.room lines (first_core (newest_of m) 0) m n e g h k
   whole_earlier w = record {
     core = w.core;
-    answers = w.answers;
-    closed = w.closed;
-    answered = earlier d d.room (events_in d lines) (first_core (newest_of m) 0) m e f w.core n w.closed w.answers before w.answered;
-    later = w.later;
-    ending = w.ending;
-    is_ending = w.is_ending;
+    said = w.said;
+    opened = w.opened;
+    sooner = omega (arith, before, w.sooner);
+    answered = w.answered;
     text = w.text;
   }
 
   cut_earlier : Cut d d.room lines (first_core (newest_of m) 0) m n f g h k → Cut d d.room lines (first_core (newest_of m) 0) m n e g h k
   cut_earlier w = record {
     core = w.core;
-    answers = w.answers;
+    said = w.said;
     done = w.done;
     more = w.more;
-    events = w.events;
+    deeds = w.deeds;
     last = w.last;
     rows = w.rows;
     closed = w.closed;
-    answered = earlier d d.room w.done (first_core (newest_of m) 0) m e f w.last w.rows w.closed w.answers before w.answered;
+    opened = w.opened;
+    sooner = omega (arith, before, w.sooner);
+    answered = w.answered;
     later = w.later;
     broke_off = w.broke_off;
     tail = w.tail;
@@ -116,16 +106,18 @@ hosted d kept room e f g c lines r ra rb rc ha hb o s =
 pub nothing_done : (d : Deployment) (lines : List (List ℕ)) (m : Rows) (f g : ℕ) (h : List ℕ) → f ≤ g → Cut d d.room lines (first_core (newest_of m) 0) m m f g h h
 nothing_done d lines m f g h l = record {
   core = first_core (newest_of m) 0;
-  answers = [];
+  said = [];
   done = [];
-  more = events_in d lines;
-  events = refl;
+  more = deeds_in d lines;
+  deeds = refl;
   last = first_core (newest_of m) 0;
   rows = m;
+  opened = g;
+  sooner = l;
   closed = g;
-  answered = (refl, refl, l);
+  answered = (refl, refl, refl);
   later = omega arith;
-  broke_off = stays (events_in d lines);
+  broke_off = stays (deeds_in d lines);
   tail = [];
   is_tail = inl refl;
   front = [];
@@ -134,7 +126,7 @@ nothing_done d lines m f g h l = record {
   written = sym (append-nil h);
 }
   where
-    stays : (es : List Event) → BrokeOff d es (first_core (newest_of m) 0) m (first_core (newest_of m) 0) m
+    stays : (es : List Deed) → BrokeOff d es (first_core (newest_of m) 0) m (first_core (newest_of m) 0) m
     stays [] = (refl, refl)
     stays (e ∷ es) = inl (refl, refl)
 

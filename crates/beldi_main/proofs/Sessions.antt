@@ -1,34 +1,24 @@
 -- What is done, one part after another.
-use Rattle.std.proofs.Common.{◌≡◌, inl, ℕ, ◌≤◌, List, [], ◌∷◌, ◌++◌, refl, ap, sym, ◌∙◌, subst, arith, append_assoc}
+use Rattle.std.proofs.Common.{◌≡◌, inl, ℕ, List, [], ◌∷◌, ◌++◌, refl, ap, sym, ◌∙◌, subst, arith, append_assoc}
 use Rattle.std.proofs.lemmas.Grind.{flat_map-append}
 use Rattle.std.proofs.lemmas.List.{append-nil}
 use Rattle.beldi_lang.specs.declared.deployment.Deployment.{Deployment}
-use Rattle.beldi_row.specs.Table.{Rows, Rose}
-use Rattle.beldi_step.specs.declared.event.Event.{Event}
-use Rattle.beldi_step.specs.declared.event.Seen.{Seen}
+use Rattle.beldi_row.specs.Table.{Rows}
 use Rattle.beldi_step.specs.Host.{Core}
-use Rattle.beldi_main.specs.Answer.{answer_text, answers_text}
+use Rattle.beldi_main.specs.declared.deed.Deed.{Deed}
+use Rattle.beldi_main.specs.declared.deed.Deed.TheVariants as deed
+use Rattle.beldi_main.specs.Said.{Said, said_text, said_texts}
 use Rattle.beldi_main.specs.Session.{State, Answered, Wrote, Did, BrokeOff, Stopped}
 
-rose_earlier : (e f g : ℕ) → e ≤ f → Rose f g → Rose e g
-rose_earlier e f g h r = omega arith
-
--- the count may have been lower before
-pub earlier : (d : Deployment) (room : ℕ) (es : List Event) (c : Core) (m : Rows) (e f : ℕ) (b : Core) (n : Rows) (g : ℕ) (xs : List Seen) → e ≤ f → Answered d room es c m f b n g xs → Answered d room es c m e b n g xs
-earlier d room [] c m e f b n g [] h r = (r.0, r.1, omega (arith, h, r.2))
-earlier d room [] c m e f b n g (x ∷ xs) h r = absurd r
-earlier d room (v ∷ es) c m e f b n g [] h r = absurd r
-earlier d room (v ∷ es) c m e f b n g (x ∷ xs) h r = (r.0, r.1, r.2, r.3, omega (arith, h, r.4), λ q. rose_earlier e f r.2 h (r.5 q), r.6)
-
-pub answered_then : (d : Deployment) (room : ℕ) (es fs : List Event) (c : Core) (m : Rows) (f : ℕ) (b : Core) (n : Rows) (g : ℕ) (e : Core) (o : Rows) (h : ℕ) (xs ys : List Seen)
+pub answered_then : (d : Deployment) (room : ℕ) (es fs : List Deed) (c : Core) (m : Rows) (f : ℕ) (b : Core) (n : Rows) (g : ℕ) (e : Core) (o : Rows) (h : ℕ) (xs ys : List Said)
     → Answered d room es c m f b n g xs → Answered d room fs b n g e o h ys → Answered d room (es ++ fs) c m f e o h (xs ++ ys)
-answered_then d room [] fs c m f b n g e o h [] ys r s = earlier d room fs c m f g e o h ys r.2 (subst (λ z. Answered d room fs c z g e o h ys) r.1 (subst (λ z. Answered d room fs z n g e o h ys) r.0 s))
+answered_then d room [] fs c m f b n g e o h [] ys r s = subst (λ z. Answered d room fs c m z e o h ys) r.2 (subst (λ z. Answered d room fs c z g e o h ys) r.1 (subst (λ z. Answered d room fs z n g e o h ys) r.0 s))
 answered_then d room [] fs c m f b n g e o h (x ∷ xs) ys r s = absurd r
 answered_then d room (v ∷ es) fs c m f b n g e o h [] ys r s = absurd r
-answered_then d room (v ∷ es) fs c m f b n g e o h (x ∷ xs) ys r s = (r.0, r.1, r.2, r.3, r.4, r.5, answered_then d room es fs r.0 r.1 r.2 b n g e o h xs ys r.6 s)
+answered_then d room (v ∷ es) fs c m f b n g e o h (x ∷ xs) ys r s = (r.0, r.1, r.2, r.3, r.4, answered_then d room es fs r.0 r.1 r.2 b n g e o h xs ys r.5 s)
 
-texts_then : (d : Deployment) (xs ys : List Seen) → answers_text d (xs ++ ys) ≡ answers_text d xs ++ answers_text d ys
-texts_then d xs ys = flat_map-append (answer_text d) xs ys
+texts_then : (d : Deployment) (xs ys : List Said) → said_texts d (xs ++ ys) ≡ said_texts d xs ++ said_texts d ys
+texts_then d xs ys = flat_map-append (said_text d) xs ys
 
 -- a front of a text, and what follows it
 joined : (w v p a b : List ℕ) → w ++ v ≡ p ++ a → (w ++ (v ++ b)) ≡ p ++ (a ++ b)
@@ -43,52 +33,52 @@ wrote_then s t u a b x y = record {
 
 pub did_nothing : (d : Deployment) (room : ℕ) (s : State) → Did d room [] s s
 did_nothing d room s = record {
-  answers = [];
-  answered = (refl, refl, omega arith);
+  said = [];
+  answered = (refl, refl, refl);
   wrote = record { written = []; held = sym (append-nil s.held); whole = sym (append-nil s.waiting) };
 }
 
-pub did_then : (d : Deployment) (room : ℕ) (es fs : List Event) (s t u : State) → Did d room es s t → Did d room fs t u → Did d room (es ++ fs) s u
+pub did_then : (d : Deployment) (room : ℕ) (es fs : List Deed) (s t u : State) → Did d room es s t → Did d room fs t u → Did d room (es ++ fs) s u
 did_then d room es fs s t u x y = record {
-  answers = x.answers ++ y.answers;
-  answered = answered_then d room es fs s.core s.rows s.faults t.core t.rows t.faults u.core u.rows u.faults x.answers y.answers x.answered y.answered;
-  wrote = subst (Wrote s u) (sym (texts_then d x.answers y.answers)) (wrote_then s t u (answers_text d x.answers) (answers_text d y.answers) x.wrote y.wrote);
+  said = x.said ++ y.said;
+  answered = answered_then d room es fs s.core s.rows s.faults t.core t.rows t.faults u.core u.rows u.faults x.said y.said x.answered y.answered;
+  wrote = subst (Wrote s u) (sym (texts_then d x.said y.said)) (wrote_then s t u (said_texts d x.said) (said_texts d y.said) x.wrote y.wrote);
 }
 
-pub stopped_after : (d : Deployment) (room : ℕ) (es fs : List Event) (s t u : State) → Did d room es s t → Stopped d room fs t u → Stopped d room (es ++ fs) s u
+pub stopped_after : (d : Deployment) (room : ℕ) (es fs : List Deed) (s t u : State) → Did d room es s t → Stopped d room fs t u → Stopped d room (es ++ fs) s u
 stopped_after d room es fs s t u x y = record {
   done = es ++ y.done;
   more = y.more;
-  events = append_assoc es y.done y.more ∙ ap (λ z. es ++ z) y.events;
+  deeds = append_assoc es y.done y.more ∙ ap (λ z. es ++ z) y.deeds;
   core = y.core;
   rows = y.rows;
   faults = y.faults;
-  answers = x.answers ++ y.answers;
-  answered = answered_then d room es y.done s.core s.rows s.faults t.core t.rows t.faults y.core y.rows y.faults x.answers y.answers x.answered y.answered;
+  said = x.said ++ y.said;
+  answered = answered_then d room es y.done s.core s.rows s.faults t.core t.rows t.faults y.core y.rows y.faults x.said y.said x.answered y.answered;
   broke_off = y.broke_off;
   later = y.later;
   front = x.wrote.written ++ y.front;
   rest = y.rest;
   held = y.held ∙ ap (λ h. h ++ y.front) x.wrote.held ∙ append_assoc s.held x.wrote.written y.front;
   text = append_assoc x.wrote.written y.front y.rest ∙ ap (λ z. x.wrote.written ++ z) y.text
-      ∙ joined x.wrote.written t.waiting s.waiting (answers_text d x.answers) (answers_text d y.answers) x.wrote.whole
-      ∙ ap (λ z. s.waiting ++ z) (sym (texts_then d x.answers y.answers));
+      ∙ joined x.wrote.written t.waiting s.waiting (said_texts d x.said) (said_texts d y.said) x.wrote.whole
+      ∙ ap (λ z. s.waiting ++ z) (sym (texts_then d x.said y.said));
 }
 
-more_broke_off : (d : Deployment) (es fs : List Event) (c : Core) (m : Rows) (b : Core) (n : Rows) → BrokeOff d es c m b n → BrokeOff d (es ++ fs) c m b n
+more_broke_off : (d : Deployment) (es fs : List Deed) (c : Core) (m : Rows) (b : Core) (n : Rows) → BrokeOff d es c m b n → BrokeOff d (es ++ fs) c m b n
 more_broke_off d [] [] c m b n h = h
 more_broke_off d [] (f ∷ fs) c m b n h = inl h
 more_broke_off d (e ∷ es) fs c m b n h = h
 
-pub stopped_before : (d : Deployment) (room : ℕ) (es fs : List Event) (s t : State) → Stopped d room es s t → Stopped d room (es ++ fs) s t
+pub stopped_before : (d : Deployment) (room : ℕ) (es fs : List Deed) (s t : State) → Stopped d room es s t → Stopped d room (es ++ fs) s t
 stopped_before d room es fs s t x = record {
   done = x.done;
   more = x.more ++ fs;
-  events = sym (append_assoc x.done x.more fs) ∙ ap (λ z. z ++ fs) x.events;
+  deeds = sym (append_assoc x.done x.more fs) ∙ ap (λ z. z ++ fs) x.deeds;
   core = x.core;
   rows = x.rows;
   faults = x.faults;
-  answers = x.answers;
+  said = x.said;
   answered = x.answered;
   broke_off = more_broke_off d x.more fs x.core x.rows t.core t.rows x.broke_off;
   later = x.later;
@@ -102,12 +92,12 @@ pub stopped_now : (d : Deployment) (room : ℕ) (s : State) → Stopped d room [
 stopped_now d room s = record {
   done = [];
   more = [];
-  events = refl;
+  deeds = refl;
   core = s.core;
   rows = s.rows;
   faults = s.faults;
-  answers = [];
-  answered = (refl, refl, omega arith);
+  said = [];
+  answered = (refl, refl, refl);
   broke_off = (refl, refl);
   later = omega arith;
   front = [];

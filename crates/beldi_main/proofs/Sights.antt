@@ -2,7 +2,6 @@
 use Rattle.std.proofs.Common.{◌≡◌, ℕ, ◌+◌, ◌-◌, ◌<◌, ◌≤◌, suc, zero, Bool, true, false, List, [], ◌∷◌, ◌++◌, Option, None, Some, Result, Ok, Err, ap, sym, ◌∙◌, subst, arith}
 use Rattle.beldi_lang.specs.declared.deployment.Deployment.{Deployment}
 use Rattle.beldi_row.specs.Table.{Rows, Rose}
-use Rattle.beldi_step.specs.declared.event.Event.{Event}
 use Rattle.beldi_step.specs.Host.{Core}
 use Rattle.beldi_outside.specs.Outside.{Told}
 use Rattle.beldi_outside.proofs.Told.{told_same, told_then, told_map}
@@ -10,11 +9,11 @@ use Rattle.beldi_script.specs.declared.reading.Line.{Line}
 use Rattle.beldi_script.specs.declared.reading.Line.TheVariants.{Blank}
 use Rattle.beldi_script.specs.Line.{line_at}
 use Rattle.std.proofs.lemmas.List.{append-nil}
-use Rattle.beldi_main.specs.declared.session.Stop.TheVariants as stop
+use Rattle.beldi_main.specs.declared.deed.Deed.{Deed}
 use Rattle.beldi_main.specs.declared.session.Stop.{Stop}
-use Rattle.beldi_main.specs.Session.{State, state_of, Carried, Carrying, Kept, Did, Stopped, LineOn, LinesOn, SoFarOn, line_result, events_of, events_in, and_then, and_whole, times}
-use Rattle.beldi_main.proofs.Sessions.{did_nothing, did_then, stopped_now, stopped_after, stopped_before}
-use Rattle.beldi_main.proofs.Events.{times_more}
+use Rattle.beldi_main.specs.Session.{State, state_of, Carried, Carrying, Kept, Did, Stopped, LineOn, LinesOn, SoFarOn, line_result, deeds_of, deeds_at, and_then, and_whole, listings, times}
+use Rattle.beldi_main.proofs.Sessions.{did_nothing, did_then, stopped_after, stopped_before}
+use Rattle.beldi_main.proofs.Deeds.{times_more}
 use Rattle.beldi_main.proofs.Lines.{begun, goes_on, refused, stops, all_done}
 
 -- what there is to see between two calls
@@ -70,13 +69,13 @@ pub kept_fine : {X : Type 0} (c d : Deployment) (r s f g i j : ℕ) (x : Result 
 kept_fine c d r s f g i j x h = record { code = h.code; room = h.room; table_later = h.table_later; sink_later = h.sink_later; fault = λ v. cc }
 
 -- ---- turns
-times_split : (n k : ℕ) (e : Event) → times n e ++ times k e ≡ times (n + k) e
+times_split : (n k : ℕ) (e : Deed) → times n e ++ times k e ≡ times (n + k) e
 times_split zero k e = ap (λ j. times j e) (omega arith)
 times_split (suc n) k e = ap (λ es. e ∷ es) (times_split n k e) ∙ ap (λ j. times j e) {x = suc (n + k)} (omega arith)
 
-module _ (d e : Deployment) (room new_room : ℕ) (a b c : Sight) (n : ℕ) (v w : Event) (code : e ≡ d) (same_room : new_room ≡ room) (event : w ≡ v) (before : Between (Carrying (times n v)) d room a b (Ok tt)) where
+module _ (d e : Deployment) (room new_room : ℕ) (a b c : Sight) (n : ℕ) (v w : Deed) (code : e ≡ d) (same_room : new_room ≡ room) (deed : w ≡ v) (before : Between (Carrying (times n v)) d room a b (Ok tt)) where
   turn_at : (r : Result (Unit {0}) Stop) → Between (Carrying (w ∷ [])) e new_room b c r → Between (Carrying (v ∷ [])) d room b c r
-  turn_at r h = at (Carrying (v ∷ [])) d e room new_room b c r code same_room (subst (λ (x : Event). Between (Carrying (x ∷ [])) e new_room b c r) event h)
+  turn_at r h = at (Carrying (v ∷ [])) d e room new_room b c r code same_room (subst (λ (x : Deed). Between (Carrying (x ∷ [])) e new_room b c r) deed h)
 
   pub turned_more : Between (Carrying (w ∷ [])) e new_room b c (Ok tt) → Between (Carrying (times (n + 1) v)) d room a c (Ok tt)
   turned_more h =
@@ -94,18 +93,15 @@ module _ (d : Deployment) (room : ℕ) (line : List ℕ) (a b : Sight) where
   pub bad_line : line_at d line ≡ None → Between (λ e r s t x. LineOn e r line s t x) d room a a (Ok false)
   bad_line h = same (λ e r s t x. LineOn e r line s t x) d room a (Ok false) (λ s. (ap (λ o. and_whole o true) h, did_nothing d room s))
 
-  pub unread_line : Between (λ e r s t x. LineOn e r line s t x) d room a a (Err stop.OutOfMemory)
-  unread_line = same (λ e r s t x. LineOn e r line s t x) d room a (Err stop.OutOfMemory) (λ s. stopped_before d room [] (events_in d (line ∷ [])) s s (stopped_now d room s))
+  by_line : (l : Line) → line_at d line ≡ Some l → deeds_at d line ≡ deeds_of l
+  by_line l h = ap (λ o. and_then o []) h ∙ append-nil (deeds_of l)
 
-  by_line : (l : Line) → line_at d line ≡ Some l → events_in d (line ∷ []) ≡ events_of l
-  by_line l h = ap (λ o. and_then o []) h ∙ append-nil (events_of l)
-
-  line_on : (l : Line) (s t : State) (r : Result (Unit {0}) Stop) → line_at d line ≡ Some l → Carrying (events_of l) d room s t r → LineOn d room line s t (line_result r)
+  line_on : (l : Line) (s t : State) (r : Result (Unit {0}) Stop) → line_at d line ≡ Some l → Carrying (deeds_of l) d room s t r → LineOn d room line s t (line_result r)
   line_on l s t (Ok u) h x = (ap (λ o. and_whole o true) h, subst (λ es. Did d room es s t) (sym (by_line l h)) x)
   line_on l s t (Err e) h x = subst (λ es. Stopped d room es s t) (sym (by_line l h)) x
 
-  pub done_line : (l : Line) (r : Result (Unit {0}) Stop) → line_at d line ≡ Some l → Between (Carrying (events_of l)) d room a b r → Between (λ e q s t x. LineOn e q line s t x) d room a b (line_result r)
-  done_line l r h x = between_map (Carrying (events_of l)) (λ e q s t x. LineOn e q line s t x) d room a b r (line_result r) (λ s t y. line_on l s t r h y) x
+  pub done_line : (l : Line) (r : Result (Unit {0}) Stop) → line_at d line ≡ Some l → Between (Carrying (deeds_of l)) d room a b r → Between (λ e q s t x. LineOn e q line s t x) d room a b (line_result r)
+  done_line l r h x = between_map (Carrying (deeds_of l)) (λ e q s t x. LineOn e q line s t x) d room a b r (line_result r) (λ s t y. line_on l s t r h y) x
 
   pub blank_line : line_at d line ≡ Some Blank → Between (λ e r s t x. LineOn e r line s t x) d room a a (Ok true)
   blank_line h = same (λ e r s t x. LineOn e r line s t x) d room a (Ok true) (λ s. line_on Blank s s (Ok tt) h (did_nothing d room s))
@@ -136,6 +132,22 @@ module _ (d e : Deployment) (room new_room : ℕ) (lines rest more : List (List 
 pub lines_begun : (d : Deployment) (room : ℕ) (lines : List (List ℕ)) (a : Sight) → Between (SoFarOn lines lines) d room a a (Ok tt)
 lines_begun d room lines a = same (SoFarOn lines lines) d room a (Ok tt) (begun d room lines)
 
-pub lines_done : (d : Deployment) (room : ℕ) (lines left : List (List ℕ)) (a b : Sight) → left ≡ [] → Between (SoFarOn lines left) d room a b (Ok tt) → Between (λ y q s t x. LinesOn y q lines s t x) d room a b (Ok true)
-lines_done d room lines left a b none h =
-    between_map (SoFarOn lines []) (λ y q s t x. LinesOn y q lines s t x) d room a b (Ok tt) (Ok true) (λ s t x. all_done d room lines s t x) (subst (λ ls. Between (SoFarOn lines ls) d room a b (Ok tt)) none h)
+-- the last listings follow the lines
+module _ (d e : Deployment) (room new_room : ℕ) (lines left : List (List ℕ)) (a b c : Sight) (code : e ≡ d) (same_room : new_room ≡ room) (none : left ≡ []) (before : Between (SoFarOn lines left) d room a b (Ok tt)) where
+  pub lines_done : (r : Result (Unit {0}) Stop) → Between (Carrying listings) e new_room b c r → Between (λ y q s t x. LinesOn y q lines s t x) d room a c (line_result r)
+  lines_done r h =
+      then (SoFarOn lines []) (Carrying listings) (λ y q s t x. LinesOn y q lines s t x) d room a b c (Ok tt) r (line_result r)
+      (λ s t u x y. all_done d room lines s t u r x y) (subst (λ ls. Between (SoFarOn lines ls) d room a b (Ok tt)) none before) (at (Carrying listings) d e room new_room b c r code same_room h)
+
+-- ---- two deeds, the first of them done
+module _ (d e : Deployment) (room new_room : ℕ) (v w : Deed) (a b c : Sight) (code : e ≡ d) (same_room : new_room ≡ room) (before : Between (Carrying (v ∷ [])) d room a b (Ok tt)) where
+  two : (r : Result (Unit {0}) Stop) (s t u : State) → Did d room (v ∷ []) s t → Carrying (w ∷ []) d room t u r → Carrying (v ∷ w ∷ []) d room s u r
+  two (Ok x) s t u p q = did_then d room (v ∷ []) (w ∷ []) s t u p q
+  two (Err x) s t u p q = stopped_after d room (v ∷ []) (w ∷ []) s t u p q
+
+  pub one_more : (r : Result (Unit {0}) Stop) → Between (Carrying (w ∷ [])) e new_room b c r → Between (Carrying (v ∷ w ∷ [])) d room a c r
+  one_more r h =
+      then (Carrying (v ∷ [])) (Carrying (w ∷ [])) (Carrying (v ∷ w ∷ [])) d room a b c (Ok tt) r r (two r) before (at (Carrying (w ∷ [])) d e room new_room b c r code same_room h)
+
+pub one_stopped : (d : Deployment) (room : ℕ) (v w : Deed) (a b : Sight) (why : Stop) → Between (Carrying (v ∷ [])) d room a b (Err why) → Between (Carrying (v ∷ w ∷ [])) d room a b (Err why)
+one_stopped d room v w a b why h = between_map (Carrying (v ∷ [])) (Carrying (v ∷ w ∷ [])) d room a b (Err why) (Err why) (λ s t x. stopped_before d room (v ∷ []) (w ∷ []) s t x) h

@@ -1,5 +1,5 @@
 -- The text of an answer.
-use Rattle.std.specs.Prelude.{ℕ, Bool, true, false, List, [], ◌++◌, flat_map, Option, Some, None, codes}
+use Rattle.std.specs.Prelude.{ℕ, Bool, true, false, List, [], ◌++◌, Option, Some, None, codes}
 use Rattle.std.specs.Fmt.{decimal}
 use Rattle.beldi_value.specs.Json.{text_of}
 use Rattle.beldi_value.specs.Value.{datum_of}
@@ -15,9 +15,13 @@ use Rattle.beldi_step.specs.declared.event.Seen.TheVariants as seen
 abbrev pub numbered : List ℕ → ℕ → List ℕ
 numbered word n = word ++ (decimal n ++ codes "\n")
 
+-- a word, a ticket and a text, as a line
+abbrev pub ticket_line : List ℕ → ℕ → List ℕ → List ℕ
+ticket_line word t text = word ++ (decimal t ++ (codes " " ++ (text ++ codes "\n")))
+
 -- a word, a ticket and an outcome, as a line
 abbrev pub outcome_line : List ℕ → ℕ → Outcome → List ℕ
-outcome_line word t o = word ++ (decimal t ++ (codes " " ++ (outcome_text o ++ codes "\n")))
+outcome_line word t o = ticket_line word t (outcome_text o)
 
 abbrev pub entry_part : Deployment → Option Entry → List ℕ
 entry_part d None = []
@@ -47,8 +51,6 @@ answer_text d seen.Crowded = codes "crowded 1024\n"
 answer_text d seen.NoRun = codes "no-run\n"
 answer_text d seen.RunOver = codes "run-over\n"
 answer_text d seen.Dropped = codes "dropped\n"
+answer_text d seen.Crashed = codes "crashed\n"
+answer_text d (seen.Started r) = numbered (codes "run ") r
 answer_text d seen.Spent = codes "spent\n"
-
--- the answers of a list of events, one after another
-abbrev pub answers_text : Deployment → List Seen → List ℕ
-answers_text d xs = flat_map (answer_text d) xs

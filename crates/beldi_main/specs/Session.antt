@@ -1,42 +1,62 @@
--- A session: the events of a script, how they were answered, and the text that was written.
-use Rattle.std.specs.Prelude.{◌≡◌, ◌⊎◌, ◌≤◌, ℕ, zero, suc, Bool, true, false, List, [], ◌∷◌, ◌++◌, Option, Some, None, Result, Ok, Err, IsErrOf, codes}
+-- A session: the deeds of a script, what was said of them, and the text that was written.
+use Rattle.std.specs.Prelude.{◌≡◌, ◌⊎◌, ◌≤◌, ℕ, zero, suc, Bool, true, false, List, [], ◌∷◌, ◌++◌, Option, Some, None, Result, Ok, Err, OnOk, IsErrOf, codes}
 use Rattle.std.specs.declared.alloc.AllocError.{AllocError}
 use Rattle.beldi_lang.specs.declared.deployment.Deployment.{Deployment}
-use Rattle.beldi_row.specs.Table.{Rows, Rose}
+use Rattle.beldi_value.specs.Id.{root_of}
+use Rattle.beldi_row.specs.Table.{Rows, Rose, row_count}
 use Rattle.beldi_book.specs.Text.{book_text}
 use Rattle.beldi_step.specs.declared.event.Event.{Event}
 use Rattle.beldi_step.specs.declared.event.Event.TheVariants as event
 use Rattle.beldi_step.specs.declared.event.Seen.{Seen}
-use Rattle.beldi_step.specs.declared.event.Seen.TheVariants.{Dropped}
 use Rattle.beldi_step.specs.Host.{Core, IsOneEvent, Breaks, Stepped}
 use Rattle.beldi_step.specs.Tables.{tables_text}
+use Rattle.beldi_core.specs.Survey.{reply_seen}
 use Rattle.beldi_script.specs.declared.reading.Line.{Line}
-use Rattle.beldi_script.specs.declared.reading.Line.TheVariants.{Blank, Ticket, Request, Turn}
+use Rattle.beldi_script.specs.declared.reading.Line.TheVariants as line
+use Rattle.beldi_script.specs.declared.reading.Line.TheVariants.{Blank, Ticket, Request, Turn, Lost, Crash, Restart, Reply, Tables, Book}
 use Rattle.beldi_script.specs.Line.{line_at}
 use Rattle.beldi_outside.specs.Outside.{Told}
+use Rattle.beldi_main.specs.declared.deed.Deed.{Deed}
+use Rattle.beldi_main.specs.declared.deed.Deed.TheVariants as deed
 use Rattle.beldi_main.specs.declared.session.Stop.{Stop}
 use Rattle.beldi_main.specs.declared.session.Stop.TheVariants.{SinkFault}
-use Rattle.beldi_main.specs.Answer.{answer_text, answers_text}
+use Rattle.beldi_main.specs.Answer.{answer_text}
+use Rattle.beldi_main.specs.Said.{Said, Saw, ReplyIs, RowsAre, TablesAre, BookIs, Unread, said_text, said_texts}
 
--- ---- the events of a script
-abbrev pub times : ℕ → Event → List Event
+-- ---- the deeds of a script
+abbrev pub times : ℕ → Deed → List Deed
 times zero e = []
 times (suc n) e = e ∷ times n e
 
-abbrev pub events_of : Line → List Event
-events_of Blank = []
-events_of Ticket = event.Ticket ∷ []
-events_of (Request t f a) = event.Request t f a ∷ []
-events_of (Turn r n) = times n (event.Turn r)
+abbrev pub deeds_of : Line → List Deed
+deeds_of Blank = []
+deeds_of Ticket = deed.Event event.Ticket ∷ []
+deeds_of (Request t f a) = deed.Event (event.Request t f a) ∷ []
+deeds_of (Turn r n) = times n (deed.Event (event.Turn r))
+deeds_of (Lost r) = deed.Event (event.Lost r) ∷ []
+deeds_of (Crash r) = deed.Event (event.Crash r) ∷ []
+deeds_of (Restart t f) = deed.Event (event.Restart (root_of t) f) ∷ []
+deeds_of (Reply t) = deed.Reply t ∷ []
+deeds_of line.Rows = deed.Rows ∷ []
+deeds_of Tables = deed.Tables ∷ []
+deeds_of Book = deed.Book ∷ []
 
-abbrev pub and_then : Option Line → List Event → List Event
+abbrev pub and_then : Option Line → List Deed → List Deed
 and_then None es = []
-and_then (Some l) es = events_of l ++ es
+and_then (Some l) es = deeds_of l ++ es
 
--- the events of the lines before the first one that is refused
-abbrev pub events_in : Deployment → List (List ℕ) → List Event
-events_in d [] = []
-events_in d (l ∷ ls) = and_then (line_at d l) (events_in d ls)
+-- the deeds of one line, none where it is refused
+abbrev pub deeds_at : Deployment → List ℕ → List Deed
+deeds_at d line = and_then (line_at d line) []
+
+-- the last listings
+abbrev pub listings : List Deed
+listings = deed.Tables ∷ deed.Book ∷ []
+
+-- the deeds of the lines before the first one that is refused; where none is, the last listings follow
+abbrev pub deeds_in : Deployment → List (List ℕ) → List Deed
+deeds_in d [] = listings
+deeds_in d (l ∷ ls) = and_then (line_at d l) (deeds_in d ls)
 
 abbrev pub and_whole : Option Line → Bool → Bool
 and_whole None whole = false
@@ -47,6 +67,24 @@ abbrev pub is_whole : Deployment → List (List ℕ) → Bool
 is_whole d [] = true
 is_whole d (l ∷ ls) = and_whole (line_at d l) (is_whole d ls)
 
+-- ---- one deed, as a relation: from the core c and the rows m it leaves b and n, and this is said of it. The table's count
+-- of failures was f before, and is g now.
+-- a reading changes nothing: it says what is to be read, or that the table failed
+abbrev pub IsReading : Deed → Said → ℕ → ℕ → Core → Rows → Core → Rows → Said → Type 0
+IsReading x read f g c m b n y = (b ≡ c) × (n ≡ m) × ((y ≡ read) ⊎ ((y ≡ Unread x) × Rose f g))
+
+abbrev pub IsOneDeed : Deployment → ℕ → ℕ → ℕ → Deed → Core → Rows → Core → Rows → Said → Type 0
+IsOneDeed d room f g (deed.Event e) c m b n y = (x : Seen) × (y ≡ Saw x) × IsOneEvent d room f g e c m b n x
+IsOneDeed d room f g (deed.Reply t) c m b n y = IsReading (deed.Reply t) (ReplyIs t (reply_seen c.newest t m)) f g c m b n y
+IsOneDeed d room f g deed.Rows c m b n y = (b ≡ c) × (n ≡ m) × (y ≡ RowsAre (row_count m))
+IsOneDeed d room f g deed.Tables c m b n y = IsReading deed.Tables (TablesAre (tables_text d m)) f g c m b n y
+IsOneDeed d room f g deed.Book c m b n y = (b ≡ c) × (n ≡ m) × (y ≡ BookIs (book_text d c.book))
+
+-- what want of memory in a deed leaves
+abbrev pub BreaksIn : Deployment → Deed → Core → Rows → Core → Rows → Type 0
+BreaksIn d (deed.Event e) c m b n = Breaks d e c m b n
+BreaksIn d x c m b n = (b ≡ c) × (n ≡ m)
+
 -- ---- what is done
 -- the host without its table, the rows, the table's count of failures, what the sink holds, and the text that waits
 pub record State : Type 0 where
@@ -56,13 +94,13 @@ pub record State : Type 0 where
   pub held : List ℕ
   pub waiting : List ℕ
 
--- these events were answered so, one after another. `Dropped` comes only where the table's count rose in that event.
-abbrev pub Answered : Deployment → ℕ → List Event → Core → Rows → ℕ → Core → Rows → ℕ → List Seen → Type 0
-Answered d room [] c m f b n g [] = (b ≡ c) × (n ≡ m) × (f ≤ g)
-Answered d room [] c m f b n g (x ∷ xs) = ⊥
+-- this was said of these deeds, one after another
+abbrev pub Answered : Deployment → ℕ → List Deed → Core → Rows → ℕ → Core → Rows → ℕ → List Said → Type 0
+Answered d room [] c m f b n g [] = (b ≡ c) × (n ≡ m) × (g ≡ f)
+Answered d room [] c m f b n g (y ∷ ys) = ⊥
 Answered d room (e ∷ es) c m f b n g [] = ⊥
-Answered d room (e ∷ es) c m f b n g (x ∷ xs) =
-    (c' : Core) × (m' : Rows) × (f' : ℕ) × IsOneEvent d room e c m c' m' x × (f ≤ f') × (x ≡ Dropped → Rose f f') × Answered d room es c' m' f' b n g xs
+Answered d room (e ∷ es) c m f b n g (y ∷ ys) =
+    (c' : Core) × (m' : Rows) × (f' : ℕ) × IsOneDeed d room f f' e c m c' m' y × (f ≤ f') × Answered d room es c' m' f' b n g ys
 
 -- this text was written after what the sink held and what waited; some of it may wait
 pub record Wrote (s t : State) (text : List ℕ) : Type 0 where
@@ -70,62 +108,62 @@ pub record Wrote (s t : State) (text : List ℕ) : Type 0 where
   pub held : t.held ≡ s.held ++ written
   pub whole : written ++ t.waiting ≡ s.waiting ++ text
 
--- these events were carried out, and the text of their answers written
-pub record Did (d : Deployment) (room : ℕ) (es : List Event) (s t : State) : Type 0 where
-  pub answers : List Seen
-  pub answered : Answered d room es s.core s.rows s.faults t.core t.rows t.faults answers
-  pub wrote : Wrote s t (answers_text d answers)
+-- these deeds were carried out, and the text of what was said of them written
+pub record Did (d : Deployment) (room : ℕ) (es : List Deed) (s t : State) : Type 0 where
+  pub said : List Said
+  pub answered : Answered d room es s.core s.rows s.faults t.core t.rows t.faults said
+  pub wrote : Wrote s t (said_texts d said)
 
--- nothing more happened, or the next event broke off for want of memory
-abbrev pub BrokeOff : Deployment → List Event → Core → Rows → Core → Rows → Type 0
+-- nothing more happened, or the next deed broke off for want of memory
+abbrev pub BrokeOff : Deployment → List Deed → Core → Rows → Core → Rows → Type 0
 BrokeOff d [] c m b n = (b ≡ c) × (n ≡ m)
-BrokeOff d (e ∷ es) c m b n = ((b ≡ c) × (n ≡ m)) ⊎ Breaks d e c m b n
+BrokeOff d (e ∷ es) c m b n = ((b ≡ c) × (n ≡ m)) ⊎ BreaksIn d e c m b n
 
--- the first of these events were carried out, and a front of the text of their answers was written
-pub record Stopped (d : Deployment) (room : ℕ) (es : List Event) (s t : State) : Type 0 where
-  pub done : List Event
-  pub more : List Event
-  pub events : done ++ more ≡ es
+-- the first of these deeds were carried out, and a front of the text of what was said of them was written
+pub record Stopped (d : Deployment) (room : ℕ) (es : List Deed) (s t : State) : Type 0 where
+  pub done : List Deed
+  pub more : List Deed
+  pub deeds : done ++ more ≡ es
   pub core : Core
   pub rows : Rows
   pub faults : ℕ
-  pub answers : List Seen
-  pub answered : Answered d room done s.core s.rows s.faults core rows faults answers
+  pub said : List Said
+  pub answered : Answered d room done s.core s.rows s.faults core rows faults said
   pub broke_off : BrokeOff d more core rows t.core t.rows
   pub later : faults ≤ t.faults
   pub front : List ℕ
   pub rest : List ℕ
   pub held : t.held ≡ s.held ++ front
-  pub text : front ++ rest ≡ s.waiting ++ answers_text d answers
+  pub text : front ++ rest ≡ s.waiting ++ said_texts d said
 
 abbrev pub state_of : Core → Rows → ℕ → List ℕ → List ℕ → State
 state_of c m f h p = record { core = c; rows = m; faults = f; held = h; waiting = p }
 
--- what a call that carries out these events has done
-abbrev pub Carrying : List Event → Deployment → ℕ → State → State → Result (Unit {0}) Stop → Type 0
+-- what a call that carries out these deeds has done
+abbrev pub Carrying : List Deed → Deployment → ℕ → State → State → Result (Unit {0}) Stop → Type 0
 Carrying es d room s t (Ok u) = Did d room es s t
 Carrying es d room s t (Err e) = Stopped d room es s t
 
 -- what a call that carries out a line has done: whether the line was not refused
 abbrev pub LineOn : Deployment → ℕ → List ℕ → State → State → Result Bool Stop → Type 0
-LineOn d room line s t (Ok true) = (is_whole d (line ∷ []) ≡ true) × Did d room (events_in d (line ∷ [])) s t
+LineOn d room line s t (Ok true) = (is_whole d (line ∷ []) ≡ true) × Did d room (deeds_at d line) s t
 LineOn d room line s t (Ok false) = (is_whole d (line ∷ []) ≡ false) × Did d room [] s t
-LineOn d room line s t (Err e) = Stopped d room (events_in d (line ∷ [])) s t
+LineOn d room line s t (Err e) = Stopped d room (deeds_at d line) s t
 
--- a line that is not refused is answered as its events are
+-- a line that is not refused is answered as its deeds are
 abbrev pub line_result : Result (Unit {0}) Stop → Result Bool Stop
 line_result (Ok u) = Ok true
 line_result (Err e) = Err e
 
 -- the same of all the lines of a script
 abbrev pub LinesOn : Deployment → ℕ → List (List ℕ) → State → State → Result Bool Stop → Type 0
-LinesOn d room lines s t (Ok whole) = (is_whole d lines ≡ whole) × Did d room (events_in d lines) s t
-LinesOn d room lines s t (Err e) = Stopped d room (events_in d lines) s t
+LinesOn d room lines s t (Ok whole) = (is_whole d lines ≡ whole) × Did d room (deeds_in d lines) s t
+LinesOn d room lines s t (Err e) = Stopped d room (deeds_in d lines) s t
 
 -- the lines before these were carried out
 pub record SoFar (d : Deployment) (room : ℕ) (lines left : List (List ℕ)) (s t : State) : Type 0 where
-  pub done : List Event
-  pub events : done ++ events_in d left ≡ events_in d lines
+  pub done : List Deed
+  pub deeds : done ++ deeds_in d left ≡ deeds_in d lines
   pub whole : is_whole d left ≡ is_whole d lines
   pub did : Did d room done s t
 
@@ -154,6 +192,7 @@ abbrev pub Flushed : List ℕ → List ℕ → Result (Unit {0}) Stop → List �
 Flushed p q (Ok u) h k = (w : List ℕ) × (k ≡ h ++ w) × (w ++ q ≡ p)
 Flushed p q (Err e) h k = (w : List ℕ) × (rest : List ℕ) × (k ≡ h ++ w) × (w ++ rest ≡ p)
 
+-- ---- a deed, and the text of what is said of it
 -- the text of an answer went after the text p; nothing is said of the text where memory was wanting
 abbrev pub TellsAnswer : Deployment → List ℕ → List ℕ → Result (Unit {0}) AllocError → Result Seen AllocError → Type 0
 TellsAnswer d p q (Ok u) (Ok x) = q ≡ p ++ answer_text d x
@@ -167,43 +206,46 @@ pub record Answering (d d' : Deployment) (e : Event) (c b : Core) (room room' f 
   pub code : d' ≡ d
   pub text : TellsAnswer d p q result seen
 
+-- what a reading says went after the text p, or that the table failed; nothing is said of the text where memory was wanting
+abbrev pub Appended : Deployment → Deed → Said → ℕ → ℕ → List ℕ → List ℕ → Result (Unit {0}) AllocError → Type 0
+Appended d x read f g p q (Ok u) = (q ≡ p ++ said_text d read) ⊎ ((q ≡ p ++ said_text d (Unread x)) × Rose f g)
+Appended d x read f g p q (Err e) = Unit {0}
+
+-- the rows were read, and what they say was appended
+pub record Reading (x : Deed) (read : Rows → Said) (d d' : Deployment) (c b : Core) (room room' f g : ℕ) (rows rows' : Option Rows) (p q : List ℕ) (result : Result (Unit {0}) AllocError) : Type 0 where
+  pub text : Told rows rows' (λ m n. (n ≡ m) × Appended d x (read m) f g p q result)
+  pub core : b ≡ c
+  pub code : d' ≡ d
+  pub same_room : room' ≡ room
+  pub later : f ≤ g
+
+-- how many rows there are went after the text p
+abbrev pub RowsSaid : Deployment → Option Rows → List ℕ → List ℕ → Result (Unit {0}) AllocError → Type 0
+RowsSaid d None p q result = Unit {0}
+RowsSaid d (Some m) p q result = OnOk result (q ≡ p ++ said_text d (RowsAre (row_count m)))
+
+-- a deed was carried out, and what is said of it went after the text p. Where memory was wanting it may have been carried
+-- out or not, and nothing is said of the text.
+abbrev pub DeedOn : Deployment → ℕ → ℕ → ℕ → Deed → Core → Core → List ℕ → List ℕ → Result (Unit {0}) AllocError → Rows → Rows → Type 0
+DeedOn d room f g x c b p q (Ok u) m n = (y : Said) × IsOneDeed d room f g x c m b n y × (q ≡ p ++ said_text d y)
+DeedOn d room f g x c b p q (Err e) m n = ((y : Said) × IsOneDeed d room f g x c m b n y) ⊎ BreaksIn d x c m b n
+
+pub record Doing (x : Deed) (d d' : Deployment) (c b : Core) (room room' f g : ℕ) (rows rows' : Option Rows) (p q : List ℕ) (result : Result (Unit {0}) AllocError) : Type 0 where
+  pub done : Told rows rows' (DeedOn d room f g x c b p q result)
+  pub code : d' ≡ d
+  pub same_room : room' ≡ room
+  pub later : f ≤ g
+
 -- ---- the end
 abbrev pub refusal : List ℕ
 refusal = codes "refused\n"
 
--- the lines of a listing of the tables; one line in their place where the table failed
-abbrev pub IsListing : Deployment → Rows → ℕ → ℕ → List ℕ → Type 0
-IsListing d m f g text = (text ≡ tables_text d m) ⊎ ((text ≡ codes "dropped\n") × Rose f g)
-
--- the text of the last listings: the tables, and then the book
-pub record Listings (d : Deployment) (c : Core) (m : Rows) (f g : ℕ) (text : List ℕ) : Type 0 where
-  pub listing : List ℕ
-  pub is_listing : IsListing d m f g listing
-  pub whole : text ≡ codes "== tables\n" ++ (listing ++ (codes "== book\n" ++ book_text d c.book))
-
--- what comes after the text of all events of a script: its listings, or its refusal
-abbrev pub IsEnding : Deployment → Bool → Core → Rows → ℕ → ℕ → List ℕ → Type 0
-IsEnding d true c m f g text = Listings d c m f g text
-IsEnding d false c m f g text = text ≡ refusal
-
--- a front of what comes after the text of the events: none of it, or some of the ending
-abbrev pub IsTail : Deployment → Bool → Core → Rows → ℕ → ℕ → List ℕ → Type 0
-IsTail d whole c m f g text = (text ≡ []) ⊎ IsEnding d whole c m f g text
-
--- a text that is P was appended; nothing is said of the text where memory was wanting
-abbrev pub Appended : (List ℕ → Type 0) → List ℕ → List ℕ → Result (Unit {0}) AllocError → Type 0
-Appended P p q (Ok u) = (text : List ℕ) × P text × (q ≡ p ++ text)
-Appended P p q (Err e) = Unit {0}
-
--- the rows were read, and a text that is P of them was appended
-pub record Reading (P : Rows → List ℕ → Type 0) (old_code new_code : Deployment) (c b : Core) (old_room new_room f g : ℕ) (rows rows' : Option Rows) (p q : List ℕ) (result : Result (Unit {0}) AllocError) : Type 0 where
-  pub text : Told rows rows' (λ m n. (n ≡ m) × Appended (P m) p q result)
-  pub core : b ≡ c
-  pub code : new_code ≡ old_code
-  pub room : new_room ≡ old_room
-  pub later : f ≤ g
+-- what comes after the text of all deeds of a script: the refusal of a line, if one is refused
+abbrev pub ending : Bool → List ℕ
+ending true = []
+ending false = refusal
 
 -- what a call that writes the ending has done, after the text that waited
-abbrev pub EndedOn : Deployment → Bool → Core → List ℕ → Rows → ℕ → ℕ → List ℕ → List ℕ → Result (Unit {0}) Stop → Type 0
-EndedOn d whole c p m f g h k (Ok u) = (text : List ℕ) × IsEnding d whole c m f g text × (k ≡ h ++ (p ++ text))
-EndedOn d whole c p m f g h k (Err e) = (text : List ℕ) × IsTail d whole c m f g text × ((front : List ℕ) × (rest : List ℕ) × (k ≡ h ++ front) × (front ++ rest ≡ p ++ text))
+abbrev pub EndedOn : Bool → List ℕ → Result (Unit {0}) Stop → List ℕ → List ℕ → Type 0
+EndedOn whole p (Ok u) h k = k ≡ h ++ (p ++ ending whole)
+EndedOn whole p (Err e) h k = (tail : List ℕ) × ((tail ≡ []) ⊎ (tail ≡ ending whole)) × ((front : List ℕ) × (rest : List ℕ) × (k ≡ h ++ front) × (front ++ rest ≡ p ++ tail))

@@ -4,9 +4,11 @@ ghost use Rattle.std.specs.Fmt.{decimal};
 ghost use Rattle.beldi_value.specs.Json.{text_of};
 ghost use Rattle.beldi_value.specs.Value.{datum_of};
 ghost use Rattle.beldi_book.specs.Text.{func_text};
-ghost use Rattle.beldi_main.specs.Answer.{answer_text, numbered, outcome_line, entry_part, reply_part, over_part};
+ghost use Rattle.beldi_main.specs.Answer.{answer_text, numbered, outcome_line, ticket_line, entry_part, reply_part, over_part};
+ghost use Rattle.beldi_main.specs.Said.{reply_line};
 
 use beldi_book::{Entry, write_func};
+use beldi_core::ReplySeen;
 use beldi_lang::Deployment;
 use beldi_step::Seen;
 use beldi_value::{Outcome, Str, Value};
@@ -23,17 +25,17 @@ pub fn write_answer(
     ensures { OnOk result (out.new ≡ out.old ++ answer_text code.now seen.now) }
 {
     match seen {
-        Seen::Issued(ticket) => write_numbered(alloc, "ticket ", *ticket, out),
+        Seen::Issued(ticket) => write_numbered(alloc, "ticket ", u64::from(*ticket), out),
         Seen::NoTicket => out.push_text("no-ticket\n"),
         Seen::Bound { ticket, run } => {
             let text = format!(in alloc; "bound {ticket} run {run}\n")?;
             out.push_text(text.as_str())
         }
-        Seen::Running(ticket) => write_numbered(alloc, "running ", *ticket, out),
+        Seen::Running(ticket) => write_numbered(alloc, "running ", u64::from(*ticket), out),
         Seen::Replied { ticket, outcome } => write_outcome(alloc, "ended ", *ticket, outcome, out),
         Seen::Other { ticket, func, args } => write_other(alloc, code, *ticket, *func, args, out),
-        Seen::Gone(ticket) => write_numbered(alloc, "gone ", *ticket, out),
-        Seen::Unknown(ticket) => write_numbered(alloc, "unknown ", *ticket, out),
+        Seen::Gone(ticket) => write_numbered(alloc, "gone ", u64::from(*ticket), out),
+        Seen::Unknown(ticket) => write_numbered(alloc, "unknown ", u64::from(*ticket), out),
         Seen::Acted { entry, over, reply } => {
             out.push_text("acted")?;
             write_entry(alloc, code, entry, out)?;
@@ -49,11 +51,19 @@ pub fn write_answer(
         Seen::NoRun => out.push_text("no-run\n"),
         Seen::RunOver => out.push_text("run-over\n"),
         Seen::Dropped => out.push_text("dropped\n"),
+        Seen::Crashed => out.push_text("crashed\n"),
+        Seen::Started(run) => write_numbered(alloc, "run ", *run, out),
         Seen::Spent => out.push_text("spent\n"),
     }
 }
 
-fn write_numbered(alloc: Global, word: &str, number: u32, out: &mut Str) -> Result<(), AllocError>
+/// Appends a word and a number, as a line. After an `Err` the text is as before.
+pub fn write_numbered(
+    alloc: Global,
+    word: &str,
+    number: u64,
+    out: &mut Str,
+) -> Result<(), AllocError>
     ensures { OnOk result (out.new ≡ out.old ++ numbered word.now number) }
 {
     let text = format!(in alloc; "{word}{number}\n")?;
@@ -121,4 +131,28 @@ fn write_reply(
         None => Ok(()),
         Some((ticket, outcome)) => write_outcome(alloc, "reply ", *ticket, outcome, out),
     }
+}
+
+/// Appends the line of what a ticket's run gave. After an `Err` what it appended is a part of it.
+pub fn write_reply_seen(
+    alloc: Global,
+    ticket: u32,
+    seen: &ReplySeen,
+    out: &mut Str,
+) -> Result<(), AllocError>
+    ensures { OnOk result (out.new ≡ out.old ++ reply_line ticket seen.now) }
+{
+    match seen {
+        ReplySeen::Unknown => write_no_reply(alloc, ticket, "unknown", out),
+        ReplySeen::Gone => write_no_reply(alloc, ticket, "gone", out),
+        ReplySeen::Waiting => write_no_reply(alloc, ticket, "waiting", out),
+        ReplySeen::Reply(outcome) => write_outcome(alloc, "reply ", ticket, outcome, out),
+    }
+}
+
+fn write_no_reply(alloc: Global, ticket: u32, why: &str, out: &mut Str) -> Result<(), AllocError>
+    ensures { OnOk result (out.new ≡ out.old ++ ticket_line (codes "reply ") ticket why.now) }
+{
+    let text = format!(in alloc; "reply {ticket} {why}\n")?;
+    out.push_text(text.as_str())
 }

@@ -1,15 +1,20 @@
 //! The program: it reads a deployment and a script, hosts the deployment, and writes what the script's events came to.
-//! It stands on all other crates. Its definitions: `specs/Answer` (the text of answers), `specs/Session` (the events of a
-//! script, how they were answered, and what was written), `specs/Headline` (what a session has to do with rows and text).
+//! It stands on all other crates. Its definitions: `specs/Answer` (the text of answers), `specs/Said` (what is said of a
+//! deed, and its text), `specs/Session` (the deeds of a script, what was said of them, and what was written),
+//! `specs/Headline` (what a session has to do with rows and text).
 //! `main` alone touches the real streams; everything else is over the traits of `beldi_outside` and `beldi_row`.
 #![tactic(auto)]
 
 mod answer;
+mod deed;
+mod doing;
 mod ending;
 mod output;
 #[cfg(test)]
 mod plain_tests;
 mod program;
+#[cfg(test)]
+mod random_tests;
 mod session;
 #[cfg(test)]
 mod tests;

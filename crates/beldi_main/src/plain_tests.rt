@@ -11,8 +11,8 @@ use std::alloc::Global;
 use std::process::Abort;
 use std::test::Fail;
 
-// The sources of `tests/rows`, but for those of blanks alone.
-const SOURCES: [&[u8]; 5] = [
+// The sources of `tests/rows`, but for those of blanks alone, and one with listings in mid-script.
+const SOURCES: [&[u8]; 7] = [
     br#"life 100;
 function f(x) { table t; write t["k"] = x; return x; }
 script
@@ -51,6 +51,28 @@ script
 ticket
 request 1 f 7
 turn 1 5
+"#,
+    br#"life 100;
+function f(x) { table t; read v = t["k"]; write t["k"] = x; return v; }
+script
+ticket
+ticket
+request 1 f 4
+request 2 f 5
+turn 1 3
+turn 2 8
+turn 1 3
+"#,
+    br#"life 100;
+function f(x) { table t; read v = t["k"]; write t["k"] = x; return v; }
+script
+ticket
+request 1 f 4
+turn 1 5
+tables
+book
+turn 1 20
+reply 1
 "#,
 ];
 
@@ -103,11 +125,21 @@ fn read_start(code: &Deployment, words: &str) -> Option<Entry> {
     })
 }
 
-// A start, or a step of a root.
+// `T SEEN`
+fn read_read(alloc: Global, words: &str) -> Option<Entry> {
+    let (ticket, seen) = words.split_once(' ')?;
+    Some(Entry::Read {
+        id: IntentId::root(alloc, read_ticket(ticket)?),
+        seen: read_numeral(seen.as_bytes(), u64::MAX)?,
+    })
+}
+
+// A start, or a read or another step of a root.
 fn read_entry(alloc: Global, code: &Deployment, line: &str) -> Option<Entry> {
     let (word, words) = line.split_once(' ')?;
     match word {
         "start" => read_start(code, words),
+        "read" => read_read(alloc, words),
         "step" => Some(Entry::Step {
             id: IntentId::root(alloc, read_ticket(words)?),
         }),
@@ -187,9 +219,9 @@ fn is_listing(alloc: Global, code: &Deployment, plain: &Plain, tables: &str) -> 
 
 // How many outcomes the program tells of a source. They and the listing must be those of the plain run of its book.
 // A source that is refused has no book, and 0 outcomes.
-fn agree(rt: &impl Abort, alloc: Global, source: &[u8]) -> Result<u32, Fail> {
+pub fn agree(rt: &impl Abort, alloc: Global, source: &[u8]) -> Result<u32, Fail> {
     let text = written(alloc, source)?;
-    let Some((answers, listings)) = text.as_str().split_once("== tables\n") else {
+    let Some((answers, listings)) = text.as_str().rsplit_once("== tables\n") else {
         assert!(rt; text.as_str().ends_with("refused\n"));
         return Ok(0);
     };
@@ -206,7 +238,7 @@ fn what_is_told_is_the_plain_run_of_the_book(rt: HostRuntime) -> Result<(), Fail
     for source in &SOURCES {
         told = told.saturating_add(agree(&rt, rt.alloc(), source)?);
     }
-    // Three lines, of two sources.
-    assert!(rt; told == 3);
+    // Seven lines, of four sources.
+    assert!(rt; told == 7);
     Ok(())
 }

@@ -53,9 +53,10 @@ pub fn top<S: Source, K: Sink, T: Table, N: Link, C: Clock>(
     ensures legal { ByStatus result.0 (λ e. WordsOn BookIsLegal (is_run words.now) (S.left source.old) (T.rows table) (T.rows result.1) (K.held sink.old) (K.held sink.new) (T.faults table) (T.faults result.1) e) }
     // .. it starts exactly the requests that were answered bound, in order ..
     ensures bound { ByStatus result.0 (λ e. WordsOn StartsTheBound (is_run words.now) (S.left source.old) (T.rows table) (T.rows result.1) (K.held sink.old) (K.held sink.new) (T.faults table) (T.faults result.1) e) }
-    // .. each reply is the outcome that its root has in the run of the book ..
+    // .. each outcome that is told is the one that its root has in the run of the book ..
     ensures replies { ByStatus result.0 (λ e. WordsOn TellsOutcomes (is_run words.now) (S.left source.old) (T.rows table) (T.rows result.1) (K.held sink.old) (K.held sink.new) (T.faults table) (T.faults result.1) e) }
-    // .. and the rows stand for that run, and are listed as it is.
+    // .. and the rows stand for that run, and are listed as it is; each listing in mid-script is that of the book of its
+    // moment, a front of the book at the end.
     ensures tables { ByStatus result.0 (λ e. WordsOn StandsForTheRun (is_run words.now) (S.left source.old) (T.rows table) (T.rows result.1) (K.held sink.old) (K.held sink.new) (T.faults table) (T.faults result.1) e) }
     ensures usage { (result.0 ≡ 2 → is_run words.now ≡ false) × (is_run words.now ≡ false → (result.0 ≡ 2) ⊎ (result.0 ≡ 4)) }
     ensures source_fault { result.0 ≡ 3 → Rose (S.faults source.old) (S.faults source.new) }
@@ -225,7 +226,7 @@ fn run_script<K: Sink, T: Table>(
 {
     let mut waiting = Str::new(alloc);
     match do_lines(alloc, host, sink, &mut waiting, script) {
-        Ok(whole) => match finish(alloc, host, sink, &mut waiting, whole) {
+        Ok(whole) => match finish(sink, &mut waiting, whole) {
             Ok(()) => Ok(whole),
             Err(stop) => Err(stop),
         },

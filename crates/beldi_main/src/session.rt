@@ -3,17 +3,19 @@ ghost use Rattle.std.specs.Prelude.{◌≡◌, ◌∷◌, []};
 ghost use Rattle.beldi_core.specs.Host.{core_of};
 ghost use Rattle.beldi_script.specs.Cut.{lines_of};
 ghost use Rattle.beldi_step.specs.declared.event.Event.TheVariants as events;
-ghost use Rattle.beldi_main.specs.Session.{Answering, Carried, Carrying, LineOn, LinesOn, Kept, line_result, times};
+ghost use Rattle.beldi_main.specs.declared.deed.Deed.TheVariants as deeds;
+ghost use Rattle.beldi_main.specs.Session.{Carried, Carrying, LineOn, LinesOn, Kept, line_result, listings, times};
 
-use crate::answer::write_answer;
+use crate::deed::Deed;
+use crate::doing::do_one;
 use crate::output::flush_if_long;
 use beldi_core::Host;
 use beldi_outside::Sink;
 use beldi_row::Table;
 use beldi_script::{Line, ScriptErr, cut_line, read_line};
 use beldi_step::Event;
-use beldi_value::Str;
-use std::alloc::{AllocError, Global};
+use beldi_value::{IntentId, Str};
+use std::alloc::Global;
 
 /// Why a session broke off.
 #[derive(Clone, Copy, Debug, PartialEq, Eq)]
@@ -23,31 +25,18 @@ pub enum Stop {
     SinkFault,
 }
 
-// Carries out an event, and appends the text of its answer to the text that waits.
-fn answer<T: Table>(
-    alloc: Global,
-    host: &mut Host<T>,
-    waiting: &mut Str,
-    event: Event,
-) -> Result<(), AllocError>
-    ensures { Answering host.old.code host.new.code event (core_of host.old) (core_of host.new) (T.room host.old.table) (T.room host.new.table) (T.faults host.old.table) (T.faults host.new.table) (T.rows host.old.table) (T.rows host.new.table) waiting.old waiting.new result }
-{
-    let seen = host.event(event)?;
-    write_answer(alloc, host.code(), &seen, waiting)
-}
-
-// Carries out an event.
-fn do_event<K: Sink, T: Table>(
+// Carries out a deed. Its text is written once long text waits.
+fn do_deed<K: Sink, T: Table>(
     alloc: Global,
     host: &mut Host<T>,
     sink: &mut K,
     waiting: &mut Str,
-    event: Event,
+    deed: Deed,
 ) -> Result<(), Stop>
-    ensures done { Carried (Carrying (event ∷ [])) host.old.code (T.room host.old.table) (core_of host.old) (core_of host.new) (T.faults host.old.table) (T.faults host.new.table) waiting.old waiting.new (T.rows host.old.table) (T.rows host.new.table) (K.held sink.old) (K.held sink.new) result }
+    ensures done { Carried (Carrying (deed ∷ [])) host.old.code (T.room host.old.table) (core_of host.old) (core_of host.new) (T.faults host.old.table) (T.faults host.new.table) waiting.old waiting.new (T.rows host.old.table) (T.rows host.new.table) (K.held sink.old) (K.held sink.new) result }
     ensures kept { Kept host.old.code host.new.code (T.room host.old.table) (T.room host.new.table) (T.faults host.old.table) (T.faults host.new.table) (K.faults sink.old) (K.faults sink.new) result }
 {
-    match answer(alloc, host, waiting, event) {
+    match do_one(alloc, host, waiting, deed) {
         Ok(()) => flush_if_long(sink, waiting),
         Err(_) => Err(Stop::OutOfMemory),
     }
@@ -62,11 +51,12 @@ fn do_turns<K: Sink, T: Table>(
     run: u32,
     count: u32,
 ) -> Result<(), Stop>
-    ensures done { Carried (Carrying (times count (events.Turn run))) host.old.code (T.room host.old.table) (core_of host.old) (core_of host.new) (T.faults host.old.table) (T.faults host.new.table) waiting.old waiting.new (T.rows host.old.table) (T.rows host.new.table) (K.held sink.old) (K.held sink.new) result }
+    ensures done { Carried (Carrying (times count (deeds.Event (events.Turn run)))) host.old.code (T.room host.old.table) (core_of host.old) (core_of host.new) (T.faults host.old.table) (T.faults host.new.table) waiting.old waiting.new (T.rows host.old.table) (T.rows host.new.table) (K.held sink.old) (K.held sink.new) result }
     ensures kept { Kept host.old.code host.new.code (T.room host.old.table) (T.room host.new.table) (T.faults host.old.table) (T.faults host.new.table) (K.faults sink.old) (K.faults sink.new) result }
 {
     for turn in 0..count {
-        match do_event(alloc, host, sink, waiting, Event::Turn(u64::from(run))) {
+        let deed = Deed::Event(Event::Turn(u64::from(run)));
+        match do_deed(alloc, host, sink, waiting, deed) {
             Ok(()) => {}
             Err(stop) => return Err(stop),
         }
@@ -85,23 +75,42 @@ fn do_line<K: Sink, T: Table>(
     ensures done { Carried (λ d room s t r. LineOn d room line.now s t r) host.old.code (T.room host.old.table) (core_of host.old) (core_of host.new) (T.faults host.old.table) (T.faults host.new.table) waiting.old waiting.new (T.rows host.old.table) (T.rows host.new.table) (K.held sink.old) (K.held sink.new) result }
     ensures kept { Kept host.old.code host.new.code (T.room host.old.table) (T.room host.new.table) (T.faults host.old.table) (T.faults host.new.table) (K.faults sink.old) (K.faults sink.new) result }
 {
-    let line = match read_line(alloc, host.code(), line) {
+    let line = match read_line(host.code(), line) {
         Ok(line) => line,
         Err(ScriptErr::BadLine) => return Ok(false),
-        Err(ScriptErr::OutOfMemory) => return Err(Stop::OutOfMemory),
     };
     match line {
         Line::Blank => Ok(true),
-        Line::Ticket => carried(do_event(alloc, host, sink, waiting, Event::Ticket)),
+        Line::Ticket => {
+            let deed = Deed::Event(Event::Ticket);
+            carried(do_deed(alloc, host, sink, waiting, deed))
+        }
         Line::Request { ticket, func, args } => {
-            let event = Event::Request { ticket, func, args };
-            carried(do_event(alloc, host, sink, waiting, event))
+            let deed = Deed::Event(Event::Request { ticket, func, args });
+            carried(do_deed(alloc, host, sink, waiting, deed))
         }
         Line::Turn { run, times } => carried(do_turns(alloc, host, sink, waiting, run, times)),
+        Line::Lost { run } => {
+            let deed = Deed::Event(Event::Lost(u64::from(run)));
+            carried(do_deed(alloc, host, sink, waiting, deed))
+        }
+        Line::Crash { run } => {
+            let deed = Deed::Event(Event::Crash(u64::from(run)));
+            carried(do_deed(alloc, host, sink, waiting, deed))
+        }
+        Line::Restart { ticket, func } => {
+            let id = IntentId::root(alloc, ticket);
+            let deed = Deed::Event(Event::Restart { id, func });
+            carried(do_deed(alloc, host, sink, waiting, deed))
+        }
+        Line::Rows => carried(do_deed(alloc, host, sink, waiting, Deed::Rows)),
+        Line::Reply(ticket) => carried(do_deed(alloc, host, sink, waiting, Deed::Reply(ticket))),
+        Line::Tables => carried(do_deed(alloc, host, sink, waiting, Deed::Tables)),
+        Line::Book => carried(do_deed(alloc, host, sink, waiting, Deed::Book)),
     }
 }
 
-// The events of a line were carried out, so it is not refused.
+// The deeds of a line were carried out, so it is not refused.
 fn carried(done: Result<(), Stop>) -> Result<bool, Stop>
     ensures { result ≡ line_result done }
 {
@@ -111,7 +120,24 @@ fn carried(done: Result<(), Stop>) -> Result<bool, Stop>
     }
 }
 
-/// Carries out the lines of a script, up to its end or to a refused line. `Ok(false)`: one was refused.
+// Lists the tables, and then the book.
+fn do_listings<K: Sink, T: Table>(
+    alloc: Global,
+    host: &mut Host<T>,
+    sink: &mut K,
+    waiting: &mut Str,
+) -> Result<(), Stop>
+    ensures done { Carried (Carrying listings) host.old.code (T.room host.old.table) (core_of host.old) (core_of host.new) (T.faults host.old.table) (T.faults host.new.table) waiting.old waiting.new (T.rows host.old.table) (T.rows host.new.table) (K.held sink.old) (K.held sink.new) result }
+    ensures kept { Kept host.old.code host.new.code (T.room host.old.table) (T.room host.new.table) (T.faults host.old.table) (T.faults host.new.table) (K.faults sink.old) (K.faults sink.new) result }
+{
+    match do_deed(alloc, host, sink, waiting, Deed::Tables) {
+        Ok(()) => do_deed(alloc, host, sink, waiting, Deed::Book),
+        Err(stop) => Err(stop),
+    }
+}
+
+/// Carries out the lines of a script, up to a refused line or to its end, where the last listings follow. `Ok(false)`: one
+/// was refused.
 pub fn do_lines<K: Sink, T: Table>(
     alloc: Global,
     host: &mut Host<T>,
@@ -132,5 +158,5 @@ pub fn do_lines<K: Sink, T: Table>(
         }
         rest = more;
     }
-    Ok(true)
+    carried(do_listings(alloc, host, sink, waiting))
 }

@@ -35,20 +35,31 @@ fn ends(
     Ok(status)
 }
 
-// Whether the smallest path ends so where these reads, writes and calls of the table fail.
+// Whether a source ends so where these reads, writes and calls of the table fail.
+fn source_ends(
+    alloc: Global,
+    source: &[u8],
+    fail: (&[u32], &[u32], &[u32]),
+    wanted: u8,
+    text: &[u8],
+) -> Result<bool, Fail> {
+    let mut source = MemSource::new(
+        Vec::from_slice(alloc, source)?,
+        Vec::from_slice(alloc, fail.0)?,
+    );
+    let mut sink = MemSink::new(alloc, Vec::from_slice(alloc, fail.1)?);
+    let status = ends(alloc, &mut source, &mut sink, fail.2)?;
+    Ok(status == wanted && sink.as_slice() == text)
+}
+
+// The same of the smallest path.
 fn path_ends(
     alloc: Global,
     fail: (&[u32], &[u32], &[u32]),
     wanted: u8,
     text: &[u8],
 ) -> Result<bool, Fail> {
-    let mut source = MemSource::new(
-        Vec::from_slice(alloc, SOURCE)?,
-        Vec::from_slice(alloc, fail.0)?,
-    );
-    let mut sink = MemSink::new(alloc, Vec::from_slice(alloc, fail.1)?);
-    let status = ends(alloc, &mut source, &mut sink, fail.2)?;
-    Ok(status == wanted && sink.as_slice() == text)
+    source_ends(alloc, SOURCE, fail, wanted, text)
 }
 
 #[test]
@@ -131,5 +142,38 @@ fn short_reads_and_writes_go_on(rt: HostRuntime) -> Result<(), Fail> {
     let alloc = rt.alloc();
     assert!(rt; bytes_end(alloc, 1_000, 0, WHOLE)?);
     assert!(rt; bytes_end(alloc, 9, 4, b"ticket 1\n")?);
+    Ok(())
+}
+
+// Readings among the events.
+const READINGS: &[u8] =
+    b"life 1000; function f(x) { table t; write t[\"k\"] = x; return x; } script\nticket\nrequest 1 f 7\nreply 1\nturn 1 4\ntables\nbook\nturn 1\nreply 1\nreply 2\n";
+
+// What is written where this call of the table fails; none has the number 99.
+const READ: [(u32, &[u8]); 4] = [
+    (
+        99,
+        b"ticket 1\nbound 1 run 1\nreply 1 waiting\nacted\nacted\nacted\nacted step 1\n== tables\nf t \"k\" 7\n== book\nstart 1 f 7\nstep 1\nacted step 1 over\nreply 1 value 7\nreply 1 value 7\nreply 2 unknown\n== tables\nf t \"k\" 7\n== book\nstart 1 f 7\nstep 1\nstep 1\n",
+    ),
+    (
+        3,
+        b"ticket 1\nbound 1 run 1\ndropped\nacted\nacted\nacted\nacted step 1\n== tables\nf t \"k\" 7\n== book\nstart 1 f 7\nstep 1\nacted step 1 over\nreply 1 value 7\nreply 1 value 7\nreply 2 unknown\n== tables\nf t \"k\" 7\n== book\nstart 1 f 7\nstep 1\nstep 1\n",
+    ),
+    (
+        9,
+        b"ticket 1\nbound 1 run 1\nreply 1 waiting\nacted\nacted\nacted\nacted step 1\n== tables\ndropped\n== book\nstart 1 f 7\nstep 1\nacted step 1 over\nreply 1 value 7\nreply 1 value 7\nreply 2 unknown\n== tables\nf t \"k\" 7\n== book\nstart 1 f 7\nstep 1\nstep 1\n",
+    ),
+    (
+        12,
+        b"ticket 1\nbound 1 run 1\nreply 1 waiting\nacted\nacted\nacted\nacted step 1\n== tables\nf t \"k\" 7\n== book\nstart 1 f 7\nstep 1\nacted step 1 over\nreply 1 value 7\ndropped\nreply 2 unknown\n== tables\nf t \"k\" 7\n== book\nstart 1 f 7\nstep 1\nstep 1\n",
+    ),
+];
+
+#[test]
+fn readings_tell_their_moment(rt: HostRuntime) -> Result<(), Fail> {
+    let alloc = rt.alloc();
+    for (call, text) in &READ {
+        assert!(rt; source_ends(alloc, READINGS, (&[], &[], &[*call]), 0, text)?);
+    }
     Ok(())
 }

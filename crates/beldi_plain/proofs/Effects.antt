@@ -11,13 +11,15 @@ use Rattle.beldi_lang.specs.declared.deployment.Func.{Func}
 use Rattle.beldi_lang.specs.declared.deployment.TableHead.{TableHead}
 use Rattle.beldi_lang.specs.declared.deployment.Stmt.{Stmt}
 use Rattle.beldi_lang.specs.declared.deployment.Form.{Form}
-use Rattle.beldi_lang.specs.declared.deployment.Form.TheVariants.{Write, Return}
+use Rattle.beldi_lang.specs.declared.deployment.Form.TheVariants.{Read, Write, Return}
 use Rattle.beldi_lang.specs.declared.effect.Effect.{Effect}
 use Rattle.beldi_lang.specs.declared.effect.Effect.TheVariants as effect
 use Rattle.beldi_lang.specs.declared.effect.Answer.{Answer}
 use Rattle.beldi_lang.specs.declared.machine.Machine.{Machine}
-use Rattle.beldi_lang.specs.Wants.{Bindings, table_number, value_of, counted, go_on, wants_answer, wants_of, run_block, run_form, func_at, wants}
+use Rattle.beldi_lang.specs.Wants.{Bindings, table_number, value_of, counted, go_on, first_variables, wants_answer, wants_of, run_block, run_form, func_at, wants}
 use Rattle.beldi_lang.specs.Machine.{begun, effect_of, effect_of_form, IsAt}
+use Rattle.beldi_plain.specs.Plain as plain
+use Rattle.beldi_plain.specs.Plain.{Instance}
 
 -- the statement of this number, and those after it
 abbrev from : Option Stmt → List Stmt → List Stmt
@@ -47,14 +49,18 @@ abbrev Stops : Effect → ℕ → List Answer → Type 0
 Stops e n [] = Unit {0}
 Stops e n (a ∷ more) = (wants_answer e ≡ false) × (n < 10000)
 
+-- an effect that is answered, and that the body may have, does not stop
+goes_past : {X : Type 0} (n : ℕ) (e : Effect) → wants_answer e ≡ true → n < 10000 → wants_answer (counted n e) ≡ false → X
+goes_past n e is few none =
+    let yes : wants_answer (counted n e) ≡ true = ap wants_answer (counted_is n e (nat_lt n 10000) refl few) ∙ is in
+    cc
+
 form_stops : (ts : List TableHead) (n : ℕ) (form : Form) (go : Bindings → List Answer → Effect) (vs : Bindings) (more : List Answer) → Stops (effect_of_form ts n form vs) n more → go_on go (run_form ts n form vs more) ≡ effect_of_form ts n form vs
 form_stops ts n (Return e) go vs more h = refl
+form_stops ts n (Read x t k) go vs [] h = refl
+form_stops ts n (Read x t k) go vs (a ∷ more) h = goes_past n (effect.Read (table_number ts t) k) refl h.1 h.0
 form_stops ts n (Write t k e) go vs [] h = refl
-form_stops ts n (Write t k e) go vs (a ∷ more) h =
-    let w = effect.Write (table_number ts t) k (value_of vs e) in
-    let yes : wants_answer (counted n w) ≡ true = ap wants_answer (counted_is n w (nat_lt n 10000) refl h.1) in
-    let none : wants_answer (counted n w) ≡ false = h.0 in
-    cc
+form_stops ts n (Write t k e) go vs (a ∷ more) h = goes_past n (effect.Write (table_number ts t) k (value_of vs e)) refl h.1 h.0
 
 block_stops : (ts : List TableHead) (n : ℕ) (o : Option Stmt) (ss : List Stmt) (vs : Bindings) (more : List Answer) → Stops (effect_of ts n o vs) n more → run_block ts n (from o ss) vs more ≡ effect_of ts n o vs
 block_stops ts n None ss vs more h = refl
@@ -81,6 +87,8 @@ takes_none d func args m answers i h none few =
 form_few : (ts : List TableHead) (n : ℕ) (form : Form) (go : Bindings → List Answer → Effect) (vs : Bindings) (answers : List Answer) → ((us : Bindings) (rest : List Answer) → IsTrue (wants_answer (go us rest)) → n + 1 + length rest < 10000)
     → IsTrue (wants_answer (go_on go (run_form ts n form vs answers))) → n + length answers < 10000
 form_few ts n (Return e) go vs answers later w = cc
+form_few ts n (Read x t k) go vs [] later w = omega (arith, counted_few n _ (nat_lt n 10000) refl w)
+form_few ts n (Read x t k) go vs (a ∷ rest) later w = omega (arith, later _ rest w)
 form_few ts n (Write t k e) go vs [] later w = omega (arith, counted_few n _ (nat_lt n 10000) refl w)
 form_few ts n (Write t k e) go vs (a ∷ rest) later w = omega (arith, later vs rest w)
 
@@ -90,8 +98,8 @@ block_few ts n (s ∷ ss) vs answers w = form_few ts n s.form (run_block ts (n +
 
 few_of : (o : Option Func) (args : Value) (answers : List Answer) → IsTrue (wants_answer (wants_of o args answers)) → length answers < 10000
 few_of None args answers w = cc
-few_of (Some f) args answers w = omega (arith, block_few f.tables 0 f.body ((f.param, args) ∷ []) answers w)
+few_of (Some f) args answers w = omega (arith, block_few f.tables 0 f.body (first_variables f args) answers w)
 
--- an effect that is answered has few answers before it
-pub few_answers : (d : Deployment) (func : ℕ) (args : Value) (answers : List Answer) → IsTrue (wants_answer (wants d func args answers)) → length answers < 10000
-few_answers d func args answers w = few_of (func_at d func) args answers w
+-- an instance at an effect that is answered has few answers
+pub few_answers : (d : Deployment) (q : Instance) (e : Effect) → e ≡ plain.effect_of d q → IsTrue (wants_answer e) → length q.answers < 10000
+few_answers d q e is w = few_of (func_at d q.func) q.args q.answers (subst (λ (x : Effect). IsTrue (wants_answer x)) is w)

@@ -1,2 +1,3 @@
+mod Bars
 mod Effects
 mod Runs

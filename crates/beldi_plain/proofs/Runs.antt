@@ -5,7 +5,7 @@ use Rattle.beldi_lang.specs.declared.deployment.Deployment.{Deployment}
 use Rattle.beldi_book.specs.declared.entry.Entry.{Entry}
 use Rattle.beldi_plain.specs.Plain.{PlainState, after}
 use Rattle.beldi_plain.specs.Legal.{run_from}
-use Rattle.beldi_plain.specs.Answers.{Did, Ran, StopsAt, bar_of}
+use Rattle.beldi_plain.specs.Answers.{Did, Ran, Began, bar_of}
 use Rattle.beldi_plain.specs.declared.plain.PlainErr.{PlainErr}
 use Rattle.beldi_plain.specs.declared.plain.PlainErr.TheVariants.{OutOfMemory, NotEnabled}
 
@@ -37,16 +37,21 @@ onward d p q (e ∷ es) fs h =
 pub goes_on : (d : Deployment) (p q r : PlainState) (es : List Entry) (i : ℕ) (e : Entry) (u : Unit {0}) → slice_get es i ≡ Some e → run_from d p (take i es) ≡ Some q → Did d e q r (Ok u) → run_from d p (take (i + 1) es) ≡ Some r
 goes_on d p q r es i e u at run did = ap (λ n. run_from d p (take n es)) (add-one i) ∙ ap (run_from d p) (split es i e at).1 ∙ onward d p q (take i es) (e ∷ []) run ∙ and_some (after d q e) ∙ did.0
 
-stops_at : (d : Deployment) (p q r : PlainState) (es : List Entry) (i : ℕ) (e : Entry) → slice_get es i ≡ Some e → run_from d p (take i es) ≡ Some q → r ≡ q → StopsAt d es p r e
-stops_at d p q r es i e at run same = record { done = take i es; left = drop (suc i) es; all = (split es i e at).0; run = run ∙ ap (λ s. Some s) (sym same) }
+begins_at : (d : Deployment) (p q r : PlainState) (es : List Entry) (i : ℕ) (e : Entry) → slice_get es i ≡ Some e → run_from d p (take i es) ≡ Some q → r ≡ q → Began d es p r (e ∷ drop (suc i) es)
+begins_at d p q r es i e at run same = record { done = take i es; all = (split es i e at).0; run = run ∙ ap (λ s. Some s) (sym same) }
 
 -- an entry was not carried out
 pub stops : (d : Deployment) (p q r : PlainState) (es : List Entry) (i : ℕ) (e : Entry) (why : PlainErr) → slice_get es i ≡ Some e → run_from d p (take i es) ≡ Some q → Did d e q r (Err why) → Ran d es p r (Err why)
-stops d p q r es i e OutOfMemory at run did = (e, stops_at d p q r es i e at run did)
+stops d p q r es i e OutOfMemory at run did = (e ∷ drop (suc i) es, begins_at d p q r es i e at run did)
 stops d p q r es i e (NotEnabled b) at run did = (
   ap (run_from d p) (sym (split es i e at).0) ∙ onward d p q (take i es) (e ∷ drop (suc i) es) run ∙ ap (option_and_then (λ s. run_from d s (drop (suc i) es))) did.1,
   e,
-  stops_at d p q r es i e at run did.0,
+  drop (suc i) es,
+  begins_at d p q r es i e at run did.0,
   ap (λ s. after d s e) did.0 ∙ did.1,
-  ap (λ s. bar_of s e) did.0 ∙ did.2,
+  ap (λ s. bar_of d s e) did.0 ∙ did.2,
 )
+
+-- no entry was carried out
+pub none_done : (d : Deployment) (p : PlainState) (es : List Entry) → Ran d es p p (Err OutOfMemory)
+none_done d p es = (es, record { done = []; all = refl; run = refl })

@@ -1,5 +1,5 @@
 -- What the executor's calls answer.
-use Rattle.std.specs.Prelude.{◌≡◌, ℕ, zero, suc, List, ◌∷◌, ◌++◌, Option, Some, None, Result, Ok, Err}
+use Rattle.std.specs.Prelude.{◌≡◌, ℕ, zero, suc, Bool, true, false, List, ◌∷◌, ◌++◌, Option, Some, None, Result, Ok, Err}
 use Rattle.std.specs.FinMap as map
 use Rattle.beldi_value.specs.Id.{root_of}
 use Rattle.beldi_value.specs.declared.id.IntentId.{IntentId}
@@ -7,11 +7,12 @@ use Rattle.beldi_value.specs.declared.outcome.Outcome.{Outcome}
 use Rattle.beldi_lang.specs.declared.deployment.Deployment.{Deployment}
 use Rattle.beldi_lang.specs.declared.effect.Effect.{Effect}
 use Rattle.beldi_book.specs.declared.entry.Entry.{Entry}
-use Rattle.beldi_book.specs.declared.entry.Entry.TheVariants.{Start, Step}
-use Rattle.beldi_plain.specs.Plain.{PlainState, Instance, effect_of, after}
+use Rattle.beldi_book.specs.declared.entry.Entry.TheVariants.{Start, Read, Step}
+use Rattle.beldi_lang.specs.declared.effect.Effect.TheVariants as effect
+use Rattle.beldi_plain.specs.Plain.{PlainState, Instance, effect_of, step, after}
 use Rattle.beldi_plain.specs.Legal.{run_from}
 use Rattle.beldi_plain.specs.declared.plain.Bar.{Bar}
-use Rattle.beldi_plain.specs.declared.plain.Bar.TheVariants.{AlreadyStarted, NotStarted, Over}
+use Rattle.beldi_plain.specs.declared.plain.Bar.TheVariants.{AlreadyStarted, NotStarted, Over, OtherEffect}
 use Rattle.beldi_plain.specs.declared.plain.PlainErr.{PlainErr}
 use Rattle.beldi_plain.specs.declared.plain.PlainErr.TheVariants.{OutOfMemory, NotEnabled}
 
@@ -21,37 +22,59 @@ bar_start zero q = Some AlreadyStarted
 bar_start (suc t) None = None
 bar_start (suc t) (Some q) = Some AlreadyStarted
 
--- what bars a step: that there is no such instance, or that it has returned
-abbrev pub bar_open : Option Outcome → Option Bar
-bar_open None = None
-bar_open (Some o) = Some Over
+-- what bars a step: that there is no such instance, or that it has returned, or else what bars its effect
+abbrev pub bar_open : Option Outcome → Option Bar → Option Bar
+bar_open None b = b
+bar_open (Some o) b = Some Over
 
-abbrev pub bar_step : Option Instance → Option Bar
-bar_step None = Some NotStarted
-bar_step (Some q) = bar_open q.outcome
+abbrev pub bar_step : Option Instance → (Instance → Option Bar) → Option Bar
+bar_step None f = Some NotStarted
+bar_step (Some q) f = bar_open q.outcome (f q)
 
-abbrev pub bar_of : PlainState → Entry → Option Bar
-bar_of p (Start t f a) = bar_start t (map.get p.made (root_of t))
-bar_of p (Step id) = bar_step (map.get p.made id)
+-- what bars an effect from being entered as a read, or as a change
+abbrev pub bar_read : Effect → Option Bar
+bar_read (effect.Read t k) = None
+bar_read (effect.Write t k v) = Some OtherEffect
+bar_read (effect.Return o) = Some OtherEffect
+
+abbrev pub bar_change : Effect → Option Bar
+bar_change (effect.Read t k) = Some OtherEffect
+bar_change (effect.Write t k v) = None
+bar_change (effect.Return o) = None
+
+abbrev pub bar_of : Deployment → PlainState → Entry → Option Bar
+bar_of d p (Start t f a) = bar_start t (map.get p.made (root_of t))
+bar_of d p (Read id seen) = bar_step (map.get p.made id) (λ q. bar_read (effect_of d q))
+bar_of d p (Step id) = bar_step (map.get p.made id) (λ q. bar_change (effect_of d q))
 
 -- an entry: Ok exactly where it is enabled, and then the state is the one after it; else nothing changed, and the answer
 -- is what bars it, but for want of memory
 abbrev pub Did : Deployment → Entry → PlainState → PlainState → Result Unit PlainErr → Type 0
-Did d e p q (Ok u) = (after d p e ≡ Some q) × (bar_of p e ≡ None)
+Did d e p q (Ok u) = (after d p e ≡ Some q) × (bar_of d p e ≡ None)
 Did d e p q (Err OutOfMemory) = q ≡ p
-Did d e p q (Err (NotEnabled b)) = (q ≡ p) × (after d p e ≡ None) × (bar_of p e ≡ Some b)
+Did d e p q (Err (NotEnabled b)) = (q ≡ p) × (after d p e ≡ None) × (bar_of d p e ≡ Some b)
+
+-- a step of an instance, whatever its effect
+abbrev pub DidStep : Deployment → IntentId → PlainState → PlainState → Result Unit PlainErr → Type 0
+DidStep d id p q (Ok u) = step d p id ≡ Some q
+DidStep d id p q (Err OutOfMemory) = q ≡ p
+DidStep d id p q (Err (NotEnabled b)) = (q ≡ p) × (step d p id ≡ None) × (bar_step (map.get p.made id) (λ q. None) ≡ Some b)
+
+-- the next step of an instance, entered as a read or as a change
+abbrev pub Entered : Deployment → IntentId → Bool → PlainState → PlainState → Result Unit PlainErr → Type 0
+Entered d id true p q r = (seen : ℕ) → Did d (Read id seen) p q r
+Entered d id false p q r = Did d (Step id) p q r
 
 -- where a step begins: the instance has not returned, and this is the effect that it stands at
 abbrev pub StandsAt : Deployment → PlainState → IntentId → Result (Instance × Effect) PlainErr → Type 0
 StandsAt d p id (Ok r) = (map.get p.made id ≡ Some r.0) × (r.0.outcome ≡ None) × (r.1 ≡ effect_of d r.0)
 StandsAt d p id (Err OutOfMemory) = Unit {0}
-StandsAt d p id (Err (NotEnabled b)) = (after d p (Step id) ≡ None) × (bar_of p (Step id) ≡ Some b)
+StandsAt d p id (Err (NotEnabled b)) = (f : (Instance → Option Bar)) → bar_step (map.get p.made id) f ≡ Some b
 
--- the first entries were done, and this one comes next
-pub record StopsAt (d : Deployment) (es : List Entry) (p q : PlainState) (e : Entry) : Type 0 where
+-- the first entries were done, and these are left
+pub record Began (d : Deployment) (es : List Entry) (p q : PlainState) (left : List Entry) : Type 0 where
   pub done : List Entry
-  pub left : List Entry
-  pub all : done ++ e ∷ left ≡ es
+  pub all : done ++ left ≡ es
   pub run : run_from d p done ≡ Some q
 
 -- entries in their order: Ok exactly where each is enabled in its turn, and then the state is their run; else they have
@@ -59,5 +82,5 @@ pub record StopsAt (d : Deployment) (es : List Entry) (p q : PlainState) (e : En
 -- entries were done.
 abbrev pub Ran : Deployment → List Entry → PlainState → PlainState → Result Unit PlainErr → Type 0
 Ran d es p q (Ok u) = run_from d p es ≡ Some q
-Ran d es p q (Err OutOfMemory) = (e : Entry) × StopsAt d es p q e
-Ran d es p q (Err (NotEnabled b)) = (run_from d p es ≡ None) × (e : Entry) × StopsAt d es p q e × (after d q e ≡ None) × (bar_of q e ≡ Some b)
+Ran d es p q (Err OutOfMemory) = (left : List Entry) × Began d es p q left
+Ran d es p q (Err (NotEnabled b)) = (run_from d p es ≡ None) × (e : Entry) × (left : List Entry) × Began d es p q (e ∷ left) × (after d q e ≡ None) × (bar_of d q e ≡ Some b)

@@ -9,12 +9,12 @@ use Rattle.beldi_value.specs.declared.value.Value.TheVariants.{Null}
 use Rattle.beldi_value.specs.declared.outcome.Outcome.{Outcome}
 use Rattle.beldi_lang.specs.declared.deployment.Deployment.{Deployment}
 use Rattle.beldi_lang.specs.declared.effect.Answer.{Answer}
-use Rattle.beldi_lang.specs.declared.effect.Answer.TheVariants.{Done}
+use Rattle.beldi_lang.specs.declared.effect.Answer.TheVariants as answer
 use Rattle.beldi_lang.specs.declared.effect.Effect.{Effect}
-use Rattle.beldi_lang.specs.declared.effect.Effect.TheVariants.{Write, Return}
+use Rattle.beldi_lang.specs.declared.effect.Effect.TheVariants as effect
 use Rattle.beldi_lang.specs.Wants.{wants, or_null}
 use Rattle.beldi_book.specs.declared.entry.Entry.{Entry}
-use Rattle.beldi_book.specs.declared.entry.Entry.TheVariants.{Start, Step}
+use Rattle.beldi_book.specs.declared.entry.Entry.TheVariants.{Start, Read, Step}
 use Rattle.beldi_plain.specs.Item.{Item, item_cmp}
 
 -- an instance of a function: what it was called with, what its effects were answered, and how it ended
@@ -52,19 +52,40 @@ effect_of d q = wants d q.func q.args q.answers
 abbrev pub answered : Instance → Answer → Instance
 answered q a = record q { answers = q.answers ++ a ∷ [] }
 
--- what a step does, by the effect that the instance stands at
+-- an item of an instance's function
+abbrev pub item_of : Instance → ℕ → List ℕ → Item
+item_of q t k = record { func = q.func; table = t; key = k }
+
+-- what a step does, by the effect that the instance stands at: a read is answered by the item's value
 abbrev pub step_by : PlainState → IntentId → Instance → Effect → PlainState
-step_by p id q (Write t k v) = with_instance (record p { items = set_item p.items (record { func = q.func; table = t; key = k }) v }) id (answered q Done)
-step_by p id q (Return o) = with_instance p id (record q { outcome = Some o })
+step_by p id q (effect.Read t k) = with_instance p id (answered q (answer.Value (value_at p (item_of q t k))))
+step_by p id q (effect.Write t k v) = with_instance (record p { items = set_item p.items (item_of q t k) v }) id (answered q answer.Done)
+step_by p id q (effect.Return o) = with_instance p id (record q { outcome = Some o })
 
--- an instance that has an outcome makes no step
-abbrev pub step_open : Deployment → PlainState → IntentId → Instance → Option Outcome → Option PlainState
-step_open d p id q None = Some (step_by p id q (effect_of d q))
-step_open d p id q (Some o) = None
+-- what an instance comes to that was made and has no outcome; there is no step of any other
+abbrev pub if_open : {X : Type 0} → Option Outcome → Option X → Option X
+if_open None x = x
+if_open (Some o) x = None
 
-abbrev pub step : Deployment → PlainState → IntentId → Option Instance → Option PlainState
-step d p id None = None
-step d p id (Some q) = step_open d p id q q.outcome
+abbrev pub can_step : {X : Type 0} → Option Instance → (Instance → Option X) → Option X
+can_step None f = None
+can_step (Some q) f = if_open q.outcome (f q)
+
+-- the state after the next step of an instance
+abbrev pub step : Deployment → PlainState → IntentId → Option PlainState
+step d p id = can_step (map.get p.made id) (λ q. Some (step_by p id q (effect_of d q)))
+
+-- a read is entered as one ..
+abbrev pub if_read : {X : Type 0} → Effect → X → Option X
+if_read (effect.Read t k) x = Some x
+if_read (effect.Write t k v) x = None
+if_read (effect.Return o) x = None
+
+-- .. and all else as a change
+abbrev pub if_change : {X : Type 0} → Effect → X → Option X
+if_change (effect.Read t k) x = None
+if_change (effect.Write t k v) x = Some x
+if_change (effect.Return o) x = Some x
 
 -- a root is started once, and tickets begin at 1
 abbrev pub start : PlainState → ℕ → ℕ → Value → Option Instance → Option PlainState
@@ -76,7 +97,8 @@ start p (suc t) f a (Some q) = None
 -- a run has each step once.
 abbrev pub after : Deployment → PlainState → Entry → Option PlainState
 after d p (Start t f a) = start p t f a (map.get p.made (root_of t))
-after d p (Step id) = step d p id (map.get p.made id)
+after d p (Read id seen) = can_step (map.get p.made id) (λ q. if_read (effect_of d q) (step_by p id q (effect_of d q)))
+after d p (Step id) = can_step (map.get p.made id) (λ q. if_change (effect_of d q) (step_by p id q (effect_of d q)))
 
 -- the outcome of a ticket's root
 abbrev pub outcome_of : Option Instance → Option Outcome

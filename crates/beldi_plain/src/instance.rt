@@ -99,11 +99,12 @@ impl Instance {
     }
 }
 
-fn copy_answer(answer: &Answer) -> Answer
-    ensures { result ≡ answer.now }
+fn copy_answer(alloc: Global, answer: &Answer) -> Result<Answer, AllocError>
+    ensures { IfOk result (λ a. a ≡ answer.now) }
 {
     match answer {
-        Answer::Done => Answer::Done,
+        Answer::Value(value) => Ok(Answer::Value(value.copy(alloc)?)),
+        Answer::Done => Ok(Answer::Done),
     }
 }
 
@@ -112,7 +113,7 @@ fn copy_answers(alloc: Global, answers: &[Answer]) -> Result<Vec<Answer>, AllocE
 {
     let mut copied = Vec::new(alloc);
     for answer in answers {
-        copied.push(copy_answer(answer))?;
+        copied.push(copy_answer(alloc, answer)?)?;
     }
     Ok(copied)
 }
@@ -121,6 +122,10 @@ fn copy_effect(alloc: Global, effect: &Effect) -> Result<Effect, AllocError>
     ensures { IfOk result (λ e. e ≡ effect.now) }
 {
     match effect {
+        Effect::Read { table, key } => Ok(Effect::Read {
+            table: *table,
+            key: key.copy(alloc)?,
+        }),
         Effect::Write { table, key, value } => Ok(Effect::Write {
             table: *table,
             key: key.copy(alloc)?,
@@ -134,7 +139,7 @@ fn is_answered(effect: &Effect) -> bool
     ensures { result ≡ wants_answer effect.now }
 {
     match effect {
-        Effect::Write { .. } => true,
+        Effect::Read { .. } | Effect::Write { .. } => true,
         Effect::Return(_) => false,
     }
 }
@@ -159,7 +164,7 @@ fn effect_after(
         if !is_answered(machine.wants()) {
             return copy_effect(alloc, machine.wants());
         }
-        machine = machine.resume(alloc, body, copy_answer(answer))?;
+        machine = machine.resume(alloc, body, copy_answer(alloc, answer)?)?;
     }
     copy_effect(alloc, machine.wants())
 }

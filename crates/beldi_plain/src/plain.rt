@@ -1,11 +1,13 @@
 // The slow executor of the plain machine.
-ghost use Rattle.std.specs.Prelude.{◌≡◌, ◌++◌, ◌<◌, OnOk, OnErr, option_copied, length, Some};
+ghost use Rattle.std.specs.Prelude.{◌≡◌, ◌++◌, ◌<◌, OnOk, OnErr, IsTrue, option_copied, is_none, length, Some};
 ghost use Rattle.std.specs.FinMap as map;
 ghost use Rattle.beldi_lang.specs.declared.deployment.Deployment.{Deployment};
 ghost use Rattle.beldi_lang.specs.declared.effect.Effect.TheVariants as effect;
-ghost use Rattle.beldi_book.specs.declared.entry.Entry.TheVariants.{Start, Step};
-ghost use Rattle.beldi_plain.specs.Plain.{nothing, value_at, reply_of, effect_of, step_by};
-ghost use Rattle.beldi_plain.specs.Answers.{Did, Ran, StandsAt};
+ghost use Rattle.beldi_book.specs.declared.entry.Entry.TheVariants.{Start};
+ghost use Rattle.beldi_plain.specs.Plain.{nothing, value_at, reply_of, step_by};
+ghost use Rattle.beldi_plain.specs.Answers.{Did, DidStep, Entered, Ran, StandsAt, bar_read};
+ghost use Rattle.beldi_book.specs.Order.{linear};
+ghost use Rattle.beldi_lang.specs.Wants.{wants_answer};
 ghost use Rattle.beldi_plain.specs.declared.plain.PlainErr.TheVariants.{OutOfMemory};
 ghost use Rattle.beldi_plain.specs.Listing.{listing_of};
 
@@ -43,6 +45,8 @@ pub enum Bar {
     NotStarted,
     /// The instance has returned.
     Over,
+    /// The entry is a read, and the instance does not stand at one; or it is a step, and it does.
+    OtherEffect,
 }
 
 /// The plain state on ordered maps in memory.
@@ -67,6 +71,12 @@ impl Model for Plain {
     ghost view = { λ a. record { items = a.items; made = a.made } };
 
     ghost invariant = { λ a. a.null ≡ value.Null };
+}
+
+fn is_read(effect: &Effect) -> bool
+    ensures { result ≡ is_none (bar_read effect.now) }
+{
+    matches!(effect, Effect::Read { .. })
 }
 
 impl Plain {
@@ -94,17 +104,38 @@ impl Plain {
         Ok(())
     }
 
-    /// Makes the next step of an instance.
+    /// Makes the next step of an instance, whatever it is.
     pub fn step(&mut self, code: &Deployment, id: &IntentId) -> Result<(), PlainErr>
-        ensures { Did code.now (Step id.now) self.old self.new result }
+        ensures { DidStep code.now id.now self.old self.new result }
     {
         let (instance, effect) = self.stands_at(code, id)?;
+        self.make(id, instance, effect)?;
+        Ok(())
+    }
+
+    // Makes the next step of an instance, where it is a read or else where it is none, as `reads` says.
+    fn enter(&mut self, code: &Deployment, id: &IntentId, reads: bool) -> Result<(), PlainErr>
+        ensures { Entered code.now id.now reads self.old self.new result }
+    {
+        let (instance, effect) = self.stands_at(code, id)?;
+        if is_read(&effect) != reads {
+            return Err(PlainErr::NotEnabled(Bar::OtherEffect));
+        }
+        self.make(id, instance, effect)?;
+        Ok(())
+    }
+
+    // The effect of an instance is made.
+    fn make(&mut self, id: &IntentId, instance: Instance, effect: Effect) -> Result<(), AllocError>
+        requires made { map.get self.old.made id.now ≡ Some instance }
+        requires few { IsTrue (wants_answer effect) → length instance.answers < 10000 }
+        ensures ok { OnOk result (self.new ≡ step_by self.old id.now instance effect) }
+        ensures err { OnErr result (self.new ≡ self.old) }
+    {
         let id = id.copy(self.alloc)?;
         match effect {
-            Effect::Write { table, key, value } => {
-                self.write(id, instance, table, key, value)?;
-                Ok(())
-            }
+            Effect::Read { table, key } => self.read(id, instance, table, key),
+            Effect::Write { table, key, value } => self.write(id, instance, table, key, value),
             Effect::Return(outcome) => {
                 self.end(id, instance, outcome);
                 Ok(())
@@ -126,6 +157,26 @@ impl Plain {
         let instance = found.copy(self.alloc)?;
         let effect = found.effect(self.alloc, code)?;
         Ok((instance, effect))
+    }
+
+    // The instance is answered by the value of an item.
+    fn read(
+        &mut self,
+        id: IntentId,
+        instance: Instance,
+        table: u16,
+        key: Str,
+    ) -> Result<(), AllocError>
+        requires made { map.get self.old.made id ≡ Some instance }
+        requires few { length instance.answers < 10000 }
+        ensures ok { OnOk result (self.new ≡ step_by self.old id instance (effect.Read table key)) }
+        ensures err { OnErr result (self.new ≡ self.old) }
+    {
+        let mut instance = instance;
+        let value = self.value(instance.func(), table, &key).copy(self.alloc)?;
+        instance.answer(Answer::Value(value))?;
+        self.made.replace(id, instance);
+        Ok(())
     }
 
     // The instance sets an item, and its effect is answered.
@@ -172,16 +223,25 @@ impl Plain {
             Entry::Start { ticket, func, args } => {
                 self.start(*ticket, *func, args.copy(self.alloc)?)
             }
-            Entry::Step { id } => self.step(code, id),
+            Entry::Read { id, .. } => self.enter(code, id, true),
+            Entry::Step { id } => self.enter(code, id, false),
         }
     }
 
-    /// Carries out the entries of a book in their order, up to the first that is not enabled.
+    /// Carries out the entries of a book in the order in which they took effect, up to the first that is not enabled.
     pub fn run(&mut self, code: &Deployment, book: &Book) -> Result<(), PlainErr>
-        ensures { Ran code.now book.now.entries self.old self.new result }
+        ensures { Ran code.now (linear book.now.entries) self.old self.new result }
     {
-        for at in 0..book.len() {
-            match book.get(at) {
+        let order = book.linear(self.alloc)?;
+        self.run_in_order(code, &order)
+    }
+
+    // Carries out these entries as they stand.
+    fn run_in_order(&mut self, code: &Deployment, order: &Book) -> Result<(), PlainErr>
+        ensures { Ran code.now order.now.entries self.old self.new result }
+    {
+        for at in 0..order.len() {
+            match order.get(at) {
                 Some(entry) => match self.carry_out(code, entry) {
                     Ok(()) => (),
                     Err(why) => return Err(why),

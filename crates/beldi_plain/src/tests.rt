@@ -5,13 +5,18 @@ use beldi_value::{IntentId, Outcome, Str, Value};
 use std::alloc::{AllocError, Global};
 use std::test::Fail;
 
-// fn f(x) over table t { t["k"] = x; return x }
-fn deployment(alloc: Global) -> Result<Deployment, AllocError> {
-    let mut tables = TableHeads::new(alloc);
-    tables.push(TableHead {
-        name: Str::from_text(alloc, "t")?,
-    })?;
+// read y = t["k"]; t["k"] = x; return y: or else, with no read, t["k"] = x; return x
+fn body(alloc: Global, reads: bool) -> Result<Block, AllocError> {
     let mut body = Block::new(alloc);
+    if reads {
+        body.push(Stmt {
+            form: Form::Read {
+                name: Str::from_text(alloc, "y")?,
+                table: Str::from_text(alloc, "t")?,
+                key: Str::from_text(alloc, "k")?,
+            },
+        })?;
+    }
     body.push(Stmt {
         form: Form::Write {
             table: Str::from_text(alloc, "t")?,
@@ -19,15 +24,25 @@ fn deployment(alloc: Global) -> Result<Deployment, AllocError> {
             value: Expr::Name(Str::from_text(alloc, "x")?),
         },
     })?;
+    let returned = if reads { "y" } else { "x" };
     body.push(Stmt {
-        form: Form::Return(Expr::Name(Str::from_text(alloc, "x")?)),
+        form: Form::Return(Expr::Name(Str::from_text(alloc, returned)?)),
+    })?;
+    Ok(body)
+}
+
+// fn f(x) over table t, with this body
+fn deployment(alloc: Global, reads: bool) -> Result<Deployment, AllocError> {
+    let mut tables = TableHeads::new(alloc);
+    tables.push(TableHead {
+        name: Str::from_text(alloc, "t")?,
     })?;
     let mut funcs = Funcs::new(alloc);
     funcs.push(Func {
         name: Str::from_text(alloc, "f")?,
         param: Str::from_text(alloc, "x")?,
         tables,
-        body,
+        body: body(alloc, reads)?,
     })?;
     Ok(Deployment {
         life: 1000,
@@ -36,21 +51,55 @@ fn deployment(alloc: Global) -> Result<Deployment, AllocError> {
     })
 }
 
+// start TICKET f NUMBER
+fn start(book: &mut Book, ticket: u32, number: i64) -> Result<(), AllocError> {
+    book.reserve()?;
+    book.push(Entry::Start {
+        ticket,
+        func: 1,
+        args: Value::Int(number),
+    });
+    Ok(())
+}
+
+// step TICKET
+fn step(alloc: Global, book: &mut Book, ticket: u32) -> Result<(), AllocError> {
+    book.reserve()?;
+    book.push(Entry::Step {
+        id: IntentId::root(alloc, ticket),
+    });
+    Ok(())
+}
+
+// read TICKET SEEN
+fn read(alloc: Global, book: &mut Book, ticket: u32, seen: u64) -> Result<(), AllocError> {
+    book.reserve()?;
+    book.push(Entry::Read {
+        id: IntentId::root(alloc, ticket),
+        seen,
+    });
+    Ok(())
+}
+
 // start 1 f 7, and then so many steps of it
 fn book(alloc: Global, steps: u32) -> Result<Book, AllocError> {
     let mut book = Book::new(alloc);
-    book.reserve()?;
-    book.push(Entry::Start {
-        ticket: 1,
-        func: 1,
-        args: Value::Int(7),
-    });
+    start(&mut book, 1, 7)?;
     for _ in 0..steps {
-        book.reserve()?;
-        book.push(Entry::Step {
-            id: IntentId::root(alloc, 1),
-        });
+        step(alloc, &mut book, 1)?;
     }
+    Ok(book)
+}
+
+// Two instances, of which the first has returned, and the second has made a read that is kept last.
+fn late(alloc: Global, seen: u64) -> Result<Book, AllocError> {
+    let mut book = Book::new(alloc);
+    start(&mut book, 1, 7)?;
+    start(&mut book, 2, 8)?;
+    read(alloc, &mut book, 1, 2)?;
+    step(alloc, &mut book, 1)?;
+    step(alloc, &mut book, 1)?;
+    read(alloc, &mut book, 2, seen)?;
     Ok(book)
 }
 
@@ -61,6 +110,7 @@ fn word(did: Result<(), PlainErr>) -> &'static str {
         Err(PlainErr::NotEnabled(Bar::AlreadyStarted)) => "already started",
         Err(PlainErr::NotEnabled(Bar::NotStarted)) => "not started",
         Err(PlainErr::NotEnabled(Bar::Over)) => "over",
+        Err(PlainErr::NotEnabled(Bar::OtherEffect)) => "other effect",
     }
 }
 
@@ -88,7 +138,7 @@ fn listing(alloc: Global, code: &Deployment, plain: &Plain) -> Result<Str, Alloc
 #[test]
 fn runs_books(rt: HostRuntime) -> Result<(), Fail> {
     let alloc = rt.alloc();
-    let code = deployment(alloc)?;
+    let code = deployment(alloc, false)?;
     let key = Str::from_text(alloc, "k")?;
     for (steps, said, value, reply, text) in [
         (0, "done", -1, -3, ""),
@@ -124,7 +174,7 @@ fn call(
 #[test]
 fn bars_entries(rt: HostRuntime) -> Result<(), Fail> {
     let alloc = rt.alloc();
-    let code = deployment(alloc)?;
+    let code = deployment(alloc, false)?;
     let mut plain = Plain::new(alloc);
     for (ticket, func, said) in [
         (0, 1, "already started"),
@@ -146,5 +196,57 @@ fn bars_entries(rt: HostRuntime) -> Result<(), Fail> {
     }
     assert!(rt; listing(alloc, &code, &plain)?.len() == 0);
     assert!(rt; ending(plain.reply(3)) == -1);
+    Ok(())
+}
+
+// Carries out an entry of the first root: a read, or else a step.
+fn entered(alloc: Global, code: &Deployment, plain: &mut Plain, reads: bool) -> &'static str {
+    let id = IntentId::root(alloc, 1);
+    if reads {
+        word(plain.carry_out(code, &Entry::Read { id, seen: 0 }))
+    } else {
+        word(plain.carry_out(code, &Entry::Step { id }))
+    }
+}
+
+#[test]
+fn bars_other_effects(rt: HostRuntime) -> Result<(), Fail> {
+    let alloc = rt.alloc();
+    let code = deployment(alloc, true)?;
+    let mut plain = Plain::new(alloc);
+    assert!(rt; entered(alloc, &code, &mut plain, true) == "not started");
+    assert!(rt; call(alloc, &code, &mut plain, 1, 1, Value::Int(7)) == "done");
+    // It stands at a read, at a write, at its return, and at nothing.
+    for (reads, said) in [
+        (false, "other effect"),
+        (true, "done"),
+        (true, "other effect"),
+        (false, "done"),
+        (true, "other effect"),
+        (false, "done"),
+        (true, "over"),
+    ] {
+        assert!(rt; entered(alloc, &code, &mut plain, reads) == said);
+    }
+    Ok(())
+}
+
+#[test]
+fn reads_where_they_were_made(rt: HostRuntime) -> Result<(), Fail> {
+    let alloc = rt.alloc();
+    let code = deployment(alloc, true)?;
+    for (seen, had_read) in [(2, -1), (3, 7), (4, 7)] {
+        let mut plain = Plain::new(alloc);
+        assert!(rt; word(plain.run(&code, &late(alloc, seen)?)) == "done");
+        // The second writes, and returns what it had read. A third reads what the second wrote.
+        for (ticket, func) in [(2, 0), (2, 0), (3, 1), (3, 0), (3, 0), (3, 0)] {
+            let got = call(alloc, &code, &mut plain, ticket, func, Value::Int(9));
+            assert!(rt; got == "done");
+        }
+        assert!(rt; ending(plain.reply(1)) == -1);
+        assert!(rt; ending(plain.reply(2)) == had_read);
+        assert!(rt; ending(plain.reply(3)) == 8);
+        assert!(rt; listing(alloc, &code, &plain)?.as_str() == "f t \"k\" 9\n");
+    }
     Ok(())
 }

@@ -1,3 +1,7 @@
+pub mod Asked
 mod Found
+pub mod Gets
+pub mod Logs
 pub mod Rows
 pub mod Tells
+pub mod Unchanged

@@ -13,7 +13,7 @@ use Rattle.beldi_row.specs.declared.row.Cell.{Cell}
 use Rattle.beldi_row.specs.declared.row.Row.{Row}
 use Rattle.beldi_row.specs.declared.row.Row.TheVariants as rows
 use Rattle.beldi_row.specs.declared.act.Act.{Act}
-use Rattle.beldi_row.specs.declared.act.Act.TheVariants.{Look, Issue, Bind, End, MakeCell, WriteCell}
+use Rattle.beldi_row.specs.declared.act.Act.TheVariants.{Look, Issue, Bind, End, PutRead, MakeCell, WriteCell}
 use Rattle.beldi_row.specs.declared.act.Said.{Said}
 use Rattle.beldi_row.specs.declared.act.Said.TheVariants as said
 use Rattle.beldi_row.specs.declared.act.Change.{Change}
@@ -35,6 +35,7 @@ pub data Tell : Type 0 where
   running : Tell
   already : Tell
   did : Tell
+  kept : Value → Tell
   no_row : Tell
   noted : Note → Tell
   next : ℕ → Tell
@@ -52,6 +53,7 @@ tell_of (said.Ended o) = ended o.now
 tell_of said.Running = running
 tell_of said.Already = already
 tell_of said.Did = did
+tell_of (said.Kept v) = kept v.now
 tell_of said.NoRow = no_row
 tell_of (said.Noted n) = noted n.now
 tell_of (said.Next n) = next n
@@ -77,6 +79,11 @@ finish_at true now (Some f) = Some f
 abbrev pub end_with : Outcome → Bool → ℕ → IntentRow → Option Outcome → IntentRow × Tell
 end_with o stamp now i None = (record i { outcome = Some o; finish = finish_at stamp now i.finish }, did)
 end_with o stamp now i (Some p) = (i, already)
+
+-- ---- the act on what a read was given: it stays as it is, and is told
+abbrev pub kept_tell : Option Row → Tell
+kept_tell (Some (rows.ReadLog v)) = kept v
+kept_tell r = no_row
 
 -- ---- the acts on a cell
 -- the owner, where it is another than this one
@@ -131,6 +138,7 @@ on Look now r = (r, here r)
 on Issue now r = (r, present)
 on (Bind f a) now r = on_intent (λ i. bind_to f a i i.body) gone r
 on (End o s) now r = on_intent (λ i. end_with o s now i i.outcome) gone r
+on (PutRead v) now r = (r, kept_tell (Some r))
 on (MakeCell v o) now r = (r, present)
 on (WriteCell p w v) now r = on_cell (write_at p w v) no_row r
 
@@ -140,16 +148,17 @@ off Look now = (None, absent)
 off Issue now = (Some (rows.Intent (record { issued = now; body = None; outcome = None; finish = None })), added)
 off (Bind f a) now = (None, gone)
 off (End o s) now = (None, gone)
+off (PutRead v) now = (Some (rows.ReadLog v), added)
 off (MakeCell v o) now = (Some (rows.Cell (record { value = v; owner = o; log = []; next = None; marked = false; dangled = None })), added)
 off (WriteCell p w v) now = (None, no_row)
 
-abbrev pub kept : Row × Tell → Option Row × Tell
-kept r = (Some r.0, r.1)
+abbrev pub stays : Row × Tell → Option Row × Tell
+stays r = (Some r.0, r.1)
 
 -- the row afterwards, or none, and what is said
 abbrev pub act : Act → ℕ → Option Row → Option Row × Tell
 act a now None = off a now
-act a now (Some r) = kept (on a now r)
+act a now (Some r) = stays (on a now r)
 
 -- ---- a change, and what is said of it once the row is as the change left it
 abbrev pub here_tell : Option Row → Tell
@@ -192,6 +201,7 @@ said_by change.Ended r = intent_tell (λ i. ended_tell i.outcome) r
 said_by change.Running r = running
 said_by change.Already r = already
 said_by change.Did r = did
+said_by change.Kept r = kept_tell r
 said_by change.NoRow r = no_row
 said_by (change.Noted n) r = cell_tell (λ c. noted_tell (note_of (slice_get c.log n))) r
 said_by (change.Next n) r = next n

@@ -1,4 +1,5 @@
 pub mod Act
+pub mod Asked
 pub mod Key
 pub mod KeyOrder
 pub mod Log

@@ -40,3 +40,8 @@ note_of (Some e) = Some e.1
 abbrev pub NotedAt : List (Place × Note) → Place → Option ℕ → Type 0
 NotedAt es p None = note_at es p ≡ None
 NotedAt es p (Some i) = (n : Note) × (note_of (slice_get es i) ≡ Some n) × (note_at es p ≡ Some n)
+
+-- no place occurs twice
+abbrev pub NoneTwice : List (Place × Note) → Type 0
+NoneTwice [] = Unit {0}
+NoneTwice (e ∷ es) = (note_at es e.0 ≡ None) × NoneTwice es

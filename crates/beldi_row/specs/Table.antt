@@ -33,12 +33,21 @@ tell_act a now k m = (act a now (map.get m k)).1
 abbrev pub adds : Act → ℕ → RowKey → Rows → Bool
 adds a now k m = not (map.contains_key m k) && is_some (off a now).0
 
+-- how many rows there are, as it is answered
+abbrev pub row_count : Rows → ℕ
+row_count m = min (map.len m) (2 ^ 32 - 1)
+
+-- so many rows there are, where they are told
+abbrev pub IsCount : Option Rows → ℕ → Type 0
+IsCount None n = Unit {0}
+IsCount (Some m) n = n ≡ row_count m
+
 -- what an answer to an act says of the rows before and after; Full tells how many there are, and the room
 abbrev pub ActedOn : Act → ℕ → RowKey → ℕ → Rows → Rows → Result Said TableErr → Type 0
 ActedOn a now k room m n (Ok s) = (n ≡ after_act a now k m) × (tell_of s ≡ tell_act a now k m) × (IsTrue (adds a now k m) → map.len m < room)
 ActedOn a now k room m n (Err OutOfMemory) = n ≡ m
 ActedOn a now k room m n (Err Failed) = n ≡ m
-ActedOn a now k room m n (Err (Full live most)) = (n ≡ m) × IsTrue (adds a now k m) × (room ≤ map.len m) × (live ≡ min (map.len m) (2 ^ 32 - 1)) × (most ≡ room)
+ActedOn a now k room m n (Err (Full live most)) = (n ≡ m) × IsTrue (adds a now k m) × (room ≤ map.len m) × (live ≡ row_count m) × (most ≡ room)
 
 -- a count that rose, or stands at its end
 abbrev pub Rose : ℕ → ℕ → Type 0

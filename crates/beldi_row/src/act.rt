@@ -12,7 +12,8 @@ use crate::table::TableErr;
 use beldi_value::{Outcome, Owner, Place, Value};
 use std::alloc::Global;
 
-/// An act on one row. `Look` is for rows of any kind, `MakeCell` and `WriteCell` for cells, the others for intents.
+/// An act on one row. `Look` is for rows of any kind, `PutRead` for what reads were given, `MakeCell` and `WriteCell` for
+/// cells, the others for intents.
 #[derive(Drop)]
 pub enum Act {
     /// Reads the row.
@@ -28,6 +29,10 @@ pub enum Act {
     End {
         outcome: Outcome,
         stamp: bool,
+    },
+    /// Keeps what a read was given, once.
+    PutRead {
+        value: Value,
     },
     /// Adds a cell with this value and owner.
     MakeCell {
@@ -67,6 +72,8 @@ pub enum Said<'a> {
     Already,
     /// It was done now.
     Did,
+    /// The read was given this value before.
+    Kept(&'a Value),
     /// The cell is not there, so the act was not done.
     NoRow,
     /// The place has been here before, and this is what it did.
@@ -91,6 +98,7 @@ pub enum Change {
     Running,
     Already,
     Did,
+    Kept,
     NoRow,
     /// The index of the entry in the log.
     Noted(usize),
@@ -109,6 +117,7 @@ pub fn made(alloc: Global, act: Act, now: u64) -> Option<Row>
             outcome: None,
             finish: None,
         })),
+        Act::PutRead { value } => Some(Row::ReadLog(value)),
         Act::MakeCell { value, owner } => Some(Row::Cell(Cell {
             value,
             owner,
@@ -127,7 +136,7 @@ pub fn missing(act: &Act) -> Change
 {
     match act {
         Act::Look => Change::Absent,
-        Act::Issue | Act::MakeCell { .. } => Change::Added,
+        Act::Issue | Act::PutRead { .. } | Act::MakeCell { .. } => Change::Added,
         Act::Bind { .. } | Act::End { .. } => Change::Gone,
         Act::WriteCell { .. } => Change::NoRow,
     }
@@ -140,6 +149,10 @@ pub fn apply(row: &mut Row, act: Act, now: u64) -> Result<Change, TableErr>
     match act {
         Act::Look => Ok(Change::Row),
         Act::Issue => Ok(Change::Present),
+        Act::PutRead { value: _ } => match row {
+            Row::ReadLog(_) => Ok(Change::Kept),
+            _ => Ok(Change::NoRow),
+        },
         Act::MakeCell { value: _, owner: _ } => Ok(Change::Present),
         Act::Bind { func, args } => match row {
             Row::Intent(intent) => Ok(bind(intent, func, args)),
@@ -249,9 +262,12 @@ pub fn tell(row: Option<&Row>, change: Change) -> Said<'_>
         (Change::Running, _) => Said::Running,
         (Change::Already, _) => Said::Already,
         (Change::Did, _) => Said::Did,
+        (Change::Kept, Some(Row::ReadLog(value))) => Said::Kept(value),
         (Change::Noted(index), Some(Row::Cell(cell))) => tell_noted(cell, index),
         (Change::Held, Some(Row::Cell(cell))) => tell_held(cell),
-        (Change::Noted(_), _) | (Change::Held, _) | (Change::NoRow, _) => Said::NoRow,
+        (Change::Kept, _) | (Change::Noted(_), _) | (Change::Held, _) | (Change::NoRow, _) => {
+            Said::NoRow
+        }
         (Change::Next(next), _) => Said::Next(next),
     }
 }

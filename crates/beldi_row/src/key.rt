@@ -5,7 +5,7 @@ ghost use Rattle.std.specs.Ordering.{as_partial_cmp, eq_by_cmp};
 ghost use Rattle.beldi_row.specs.Key.{kind_cmp, rank_of, ticket_of, key_ticket, least_key};
 ghost use Rattle.beldi_row.specs.KeyOrder.{kind_total};
 
-use beldi_value::{IntentId, Place, Str, TxId};
+use beldi_value::{IntentId, Owner, Place, Str, TxId};
 use std::alloc::{AllocError, Global};
 use std::cmp::Ordering;
 
@@ -115,6 +115,16 @@ fn copy_tx(tx: &TxId, alloc: Global) -> Result<TxId, AllocError>
         begin: tx.begin,
         func: tx.func,
     })
+}
+
+/// An equal owner.
+pub fn copy_owner(owner: &Owner, alloc: Global) -> Result<Owner, AllocError>
+    ensures { IfOk result (λ o. o ≡ owner.now) }
+{
+    match owner {
+        Owner::Intent(id) => Ok(Owner::Intent(id.copy(alloc)?)),
+        Owner::Tx(tx) => Ok(Owner::Tx(copy_tx(tx, alloc)?)),
+    }
 }
 
 impl PartialEq for Kind {

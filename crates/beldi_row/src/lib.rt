@@ -1,7 +1,8 @@
 //! The rows of a table, their keys, the acts on one row, and the trait of a table. It stands on `beldi_value` alone.
 //! Its definitions: `specs/Key` and `specs/KeyOrder` (the order of keys), `specs/Log` (the notes of a cell by place),
 //! `specs/Act` (the act table: what each act does to a row, and what it says), `specs/Table` (rows as a map, and the
-//! words of the trait's contract). `proofs/Rows` and `proofs/Tells` have lemmas that the crates above cite.
+//! words of the trait's contract), `specs/Asked` (a call that makes one act). `proofs/Rows`, `proofs/Tells`,
+//! `proofs/Unchanged` and `proofs/Asked` have lemmas that the crates above cite.
 #![tactic(auto)]
 
 mod act;
@@ -13,7 +14,7 @@ mod table;
 mod tests;
 
 pub use act::{Act, Change, Said, apply, made, missing, tell};
-pub use key::{Kind, RowKey};
+pub use key::{Kind, RowKey, copy_owner};
 pub use notes::{Log, Note};
 pub use row::{Body, Caller, Cell, IntentRow, InvokeRow, Row};
 pub use table::{Table, TableErr};

@@ -2,7 +2,7 @@
 ghost use Rattle.std.specs.Prelude.{ℕ, Option, ⊤};
 ghost use Rattle.std.specs.Borrow.{sem, follows_so};
 ghost use mathlib.Core.Option.{none};
-ghost use Rattle.beldi_row.specs.Table.{Rows, Acted, Went, Readied};
+ghost use Rattle.beldi_row.specs.Table.{Rows, Acted, Went, Readied, IsCount};
 
 use crate::act::{Act, Said};
 use crate::key::RowKey;
@@ -40,6 +40,10 @@ pub trait Table {
 
     /// How many rows it may have: 0 before the first `ready`.
     ghost room: { Self → ℕ };
+
+    /// How many rows it has; 4,294,967,295 where it has more.
+    fn len(&self) -> u32
+        ensures { IsCount (rows self.now) result };
 
     /// Sets the room to the one number of the list, to 0 where the list is empty, and keeps the rows.
     fn ready(&mut self, rooms: &[u32]) -> Result<(), TableErr>

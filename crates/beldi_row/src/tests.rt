@@ -1,4 +1,4 @@
-use crate::{Act, Cell, Kind, Log, Note, Row, RowKey, Said, apply, tell};
+use crate::{Act, Cell, Kind, Log, Note, Row, RowKey, Said, apply, made, tell};
 use beldi_value::{IntentId, Owner, Place, Str, TxId, Value};
 use std::alloc::Global;
 use std::test::Fail;
@@ -58,6 +58,32 @@ fn writes(rt: HostRuntime) -> Result<(), Fail> {
         let change = apply(&mut row, act, 0)?;
         assert_eq!(rt; word(tell(Some(&row), change)), want);
     }
+    Ok(())
+}
+
+// The value that is said to be there already, where another is to be kept; 0 where none is said.
+fn kept(row: Option<Row>, value: i64) -> Result<i64, Fail> {
+    let Some(mut row) = row else {
+        return Ok(0);
+    };
+    let act = Act::PutRead {
+        value: Value::Int(value),
+    };
+    let change = apply(&mut row, act, 0)?;
+    match tell(Some(&row), change) {
+        Said::Kept(Value::Int(there)) => Ok(*there),
+        _ => Ok(0),
+    }
+}
+
+#[test]
+fn reads_are_kept_once(rt: HostRuntime) -> Result<(), Fail> {
+    let alloc = rt.alloc();
+    let first = Act::PutRead {
+        value: Value::Int(5),
+    };
+    assert_eq!(rt; kept(made(alloc, first, 0), 6)?, 5);
+    assert_eq!(rt; kept(Some(cell(alloc, None)?), 6)?, 0);
     Ok(())
 }
 

@@ -37,10 +37,23 @@ fn said(alloc: Global, line: Result<Line, ScriptErr>) -> Result<String, AllocErr
                 args: Value::Int(number),
             },
         ) => format!(in alloc; "request {ticket} {func} {number}"),
-        Ok(Line::Request { .. }) => format!(in alloc; "no number"),
+        Ok(
+            Line::Request {
+                ticket,
+                func,
+                args: Value::Null,
+            },
+        ) => format!(in alloc; "request {ticket} {func} null"),
+        Ok(Line::Request { .. }) => format!(in alloc; "other arguments"),
         Ok(Line::Turn { run, times }) => format!(in alloc; "turn {run} {times}"),
+        Ok(Line::Lost { run }) => format!(in alloc; "lost {run}"),
+        Ok(Line::Crash { run }) => format!(in alloc; "crash {run}"),
+        Ok(Line::Restart { ticket, func }) => format!(in alloc; "restart {ticket} {func}"),
+        Ok(Line::Rows) => format!(in alloc; "rows"),
+        Ok(Line::Reply(ticket)) => format!(in alloc; "reply {ticket}"),
+        Ok(Line::Tables) => format!(in alloc; "tables"),
+        Ok(Line::Book) => format!(in alloc; "book"),
         Err(ScriptErr::BadLine) => format!(in alloc; "bad"),
-        Err(ScriptErr::OutOfMemory) => format!(in alloc; "memory"),
     }
 }
 
@@ -64,6 +77,9 @@ fn reads_lines(rt: HostRuntime) -> Result<(), Fail> {
             "request 0 bank 9223372036854775807",
             "request 0 2 9223372036854775807",
         ),
+        ("request 1 shop null", "request 1 1 null"),
+        ("request 1 shop null ", "bad"),
+        ("request 1 shop nul", "bad"),
         ("request 4294967296 bank 1", "bad"),
         ("request 01 bank 1", "bad"),
         ("request 1 bank 9223372036854775808", "bad"),
@@ -82,9 +98,29 @@ fn reads_lines(rt: HostRuntime) -> Result<(), Fail> {
         ("turn 0\t1", "bad"),
         ("turn 4294967296", "bad"),
         ("turn", "bad"),
+        ("lost 0", "lost 0"),
+        ("lost 1 2", "bad"),
+        ("crash 4294967295", "crash 4294967295"),
+        ("crash 4294967296", "bad"),
+        ("restart 1 bank", "restart 1 2"),
+        ("restart 0 bank", "bad"),
+        ("restart 01 bank", "bad"),
+        ("restart 1 bank ", "bad"),
+        ("restart 1/0 bank", "bad"),
+        ("restart 1", "bad"),
+        ("rows", "rows"),
+        ("rows ", "bad"),
+        ("reply 4294967295", "reply 4294967295"),
+        ("reply 4294967296", "bad"),
+        ("reply 01", "bad"),
+        ("reply 1 ", "bad"),
+        ("reply", "bad"),
+        ("tables", "tables"),
+        ("tables 1", "bad"),
+        ("book", "book"),
         ("halt", "bad"),
     ] {
-        let read = said(rt.alloc(), read_line(rt.alloc(), &code, line.as_bytes()))?;
+        let read = said(rt.alloc(), read_line(&code, line.as_bytes()))?;
         assert_eq!(rt; read.as_str(), want, "{line}");
     }
     Ok(())

@@ -5,6 +5,7 @@ use Rattle.std.specs.FinMap.{FinMap}
 use Rattle.std.specs.Ordering.{nat_cmp}
 use Rattle.std.specs.declared.alloc.AllocError.{AllocError}
 use Rattle.beldi_value.specs.Id.{root_of}
+use Rattle.beldi_value.specs.declared.id.IntentId.{IntentId}
 use Rattle.beldi_value.specs.declared.value.Value.{Value}
 use Rattle.beldi_lang.specs.declared.deployment.Deployment.{Deployment}
 use Rattle.beldi_row.specs.declared.key.RowKey.{RowKey}
@@ -13,9 +14,10 @@ use Rattle.beldi_row.specs.declared.act.Act.TheVariants.{Issue, Bind}
 use Rattle.beldi_row.specs.Act.{Tell, added, bound, running, ended, other}
 use Rattle.beldi_row.specs.Table.{Rows, Tells, Rose, after_act, tell_act, adds}
 use Rattle.beldi_book.specs.declared.entry.Entry.{Entry}
+use Rattle.beldi_book.specs.Order.{count_changes}
 use Rattle.beldi_book.specs.declared.entry.Entry.TheVariants.{Start}
 use Rattle.beldi_step.specs.declared.event.Event.{Event}
-use Rattle.beldi_step.specs.declared.event.Event.TheVariants.{Ticket, Request, Turn}
+use Rattle.beldi_step.specs.declared.event.Event.TheVariants.{Ticket, Request, Turn, Lost, Crash, Restart}
 use Rattle.beldi_step.specs.declared.event.Seen.{Seen}
 use Rattle.beldi_step.specs.declared.event.Seen.TheVariants as seen
 use Rattle.beldi_step.specs.declared.run.Run.{Run}
@@ -44,10 +46,12 @@ most_runs = 1024
 abbrev pub most_events : ℕ
 most_events = 2 ^ 62
 
--- an event is answered at once, or makes one act; the last part says what follows from what the act told
+-- an event is answered at once, or makes one act; the last part says what follows from what the act told. Where the answer
+-- of an act is lost, only the host goes on from it.
 pub data Plan : Type 0 where
   Answer : Core → Seen → Plan
   Do : RowKey → Act → (Tell → Core × Seen) → Plan
+  Lose : RowKey → Act → (Tell → Core) → Plan
 
 -- ---- a ticket
 abbrev pub ticket_next : Core → Tell → Core × Seen
@@ -55,11 +59,11 @@ ticket_next c added = (record c { newest = c.newest + 1 }, seen.Issued (c.newest
 ticket_next c t = (c, seen.Gone (c.newest + 1))
 
 -- ---- a request
-abbrev pub new_run : ℕ → ℕ → Run
-new_run t f = record { id = root_of t; func = f; at = None }
+abbrev pub new_run : IntentId → ℕ → Run
+new_run id f = record { id = id; func = f; at = None }
 
 abbrev pub bound_next : Core → ℕ → ℕ → Value → Core × Seen
-bound_next c t f a = (record c { runs = map.insert c.runs (c.last_run + 1) (new_run t f); last_run = c.last_run + 1; book = c.book ++ Start t f a ∷ [] }, seen.Bound t (c.last_run + 1))
+bound_next c t f a = (record c { runs = map.insert c.runs (c.last_run + 1) (new_run (root_of t) f); last_run = c.last_run + 1; book = c.book ++ Start t f a ∷ [] }, seen.Bound t (c.last_run + 1))
 
 abbrev pub request_next : Core → ℕ → ℕ → Value → Tell → Core × Seen
 request_next c t f a bound = bound_next c t f a
@@ -86,8 +90,32 @@ no_run c i = if (i == 0) || nat_lt c.last_run i then seen.NoRun else seen.RunOve
 
 abbrev pub turn_plan : Deployment → Core → ℕ → Option Run → Plan
 turn_plan d c i None = Answer c (no_run c i)
-turn_plan d c i (Some r) = Do (run_key r) (run_act r) (λ t. turn_next c i (run_turned d r t))
+turn_plan d c i (Some r) = Do (run_key r) (run_act r) (λ t. turn_next c i (run_turned d r (count_changes c.book) t))
 
+-- ---- a turn whose answer is lost: the run is over, and the book has the entry of its act
+abbrev pub lost_next : Core → ℕ → Turned → Core
+lost_next c i s = record c { runs = map.remove c.runs i; book = c.book ++ option_to_list s.entry }
+
+abbrev pub lost_plan : Deployment → Core → ℕ → Option Run → Plan
+lost_plan d c i None = Answer c (no_run c i)
+lost_plan d c i (Some r) = Lose (run_key r) (run_act r) (λ t. lost_next c i (run_turned d r (count_changes c.book) t))
+
+-- ---- a crash
+abbrev pub ended_run : Core → ℕ → Core
+ended_run c i = record c { runs = map.remove c.runs i }
+
+abbrev pub crash_plan : Core → ℕ → Option Run → Plan
+crash_plan c i None = Answer c (no_run c i)
+crash_plan c i (Some r) = Answer (ended_run c i) seen.Crashed
+
+-- ---- a restart
+abbrev pub restarted : Core → IntentId → ℕ → Core
+restarted c id f = record c { runs = map.insert c.runs (c.last_run + 1) (new_run id f); last_run = c.last_run + 1 }
+
+abbrev pub restart_plan : Core → IntentId → ℕ → Plan
+restart_plan c id f = if nat_le most_runs (map.len c.runs) then Answer c seen.Crowded else Answer (restarted c id f) (seen.Started (c.last_run + 1))
+
+-- ---- every event
 abbrev pub request_plan : Core → ℕ → ℕ → Value → Plan
 request_plan c t f a =
     if (t == 0) || nat_lt c.newest t then Answer c (seen.Unknown t) else
@@ -98,6 +126,9 @@ abbrev pub plan_of : Deployment → Event → Core → Plan
 plan_of d Ticket c = if c.newest == 2 ^ 32 - 1 then Answer c seen.NoTicket else Do (root_key (c.newest + 1)) Issue (ticket_next c)
 plan_of d (Request t f a) c = request_plan c t f a
 plan_of d (Turn i) c = turn_plan d c i (map.get c.runs i)
+plan_of d (Lost i) c = lost_plan d c i (map.get c.runs i)
+plan_of d (Crash i) c = crash_plan c i (map.get c.runs i)
+plan_of d (Restart id f) c = restart_plan c id f
 
 abbrev pub counted : Core → Core
 counted c = record c { taken = c.taken + 1 }
@@ -105,42 +136,58 @@ counted c = record c { taken = c.taken + 1 }
 abbrev pub plan : Deployment → Event → Core → Plan
 plan d e c = if nat_lt c.taken most_events then plan_of d e (counted c) else Answer c seen.Spent
 
--- what an event leaves where the table failed in it: a run that had it is over
+-- what an event leaves where its act was not made: a run that had it is over
 abbrev pub dropped : Event → Core → Core
-dropped (Turn i) c = record c { runs = map.remove c.runs i }
+dropped (Turn i) c = ended_run c i
+dropped (Lost i) c = ended_run c i
 dropped e c = c
 
--- ---- one event, as a relation: from the core c and the rows m it leaves d and n, and is answered x
+-- ---- one event, as a relation: from the core c and the rows m it leaves d and n, and is answered x. The table's count of
+-- failures was `old` before, and is `new` now.
 -- the act was made, and there was room for the row that it added, if any
 abbrev pub Made : ℕ → RowKey → Act → (Tell → Core × Seen) → ℕ → Rows → Core → Rows → Seen → Type 0
 Made room k a f now m d n x = (n ≡ after_act a now k m) × ((d, x) ≡ f (tell_act a now k m)) × (IsTrue (adds a now k m) → map.len m < room)
 
 -- the act was made, or refused for want of room, or the table failed
-abbrev pub Acts : ℕ → Event → Core → RowKey → Act → (Tell → Core × Seen) → Rows → Core → Rows → Seen → Type 0
-Acts room e c k a f m d n (seen.Full live most) = (n ≡ m) × (d ≡ c) × IsTrue (adds a c.now k m) × (room ≤ map.len m) × (live ≡ min (map.len m) (2 ^ 32 - 1)) × (most ≡ room)
-Acts room e c k a f m d n seen.Dropped = (n ≡ m) × (d ≡ dropped e c)
-Acts room e c k a f m d n x = Made room k a f c.now m d n x
+abbrev pub Acts : ℕ → ℕ → ℕ → Event → Core → RowKey → Act → (Tell → Core × Seen) → Rows → Core → Rows → Seen → Type 0
+Acts room old new e c k a f m d n (seen.Full live most) = (n ≡ m) × (d ≡ c) × IsTrue (adds a c.now k m) × (room ≤ map.len m) × (live ≡ min (map.len m) (2 ^ 32 - 1)) × (most ≡ room)
+Acts room old new e c k a f m d n seen.Dropped = (n ≡ m) × (d ≡ dropped e c) × Rose old new
+Acts room old new e c k a f m d n x = Made room k a f c.now m d n x
 
-abbrev pub Follows : ℕ → Event → Core → Plan → Rows → Core → Rows → Seen → Type 0
-Follows room e c (Answer b y) m d n x = (n ≡ m) × (d ≡ b) × (x ≡ y)
-Follows room e c (Do k a f) m d n x = Acts room e c k a f m d n x
+-- the act was made; or it was not, since the table had no room for its row, or failed
+abbrev pub Loses : ℕ → ℕ → ℕ → Event → Core → RowKey → Act → (Tell → Core) → Rows → Core → Rows → Type 0
+Loses room old new e c k a f m d n =
+    ((n ≡ after_act a c.now k m) × (d ≡ f (tell_act a c.now k m)) × (IsTrue (adds a c.now k m) → map.len m < room))
+    ⊎ ((n ≡ m) × (d ≡ dropped e c) × ((IsTrue (adds a c.now k m) × (room ≤ map.len m)) ⊎ Rose old new))
 
-abbrev pub IsOneEvent : Deployment → ℕ → Event → Core → Rows → Core → Rows → Seen → Type 0
-IsOneEvent d room e c m b n x = Follows room e (counted c) (plan d e c) m b n x
+abbrev pub Follows : ℕ → ℕ → ℕ → Event → Core → Plan → Rows → Core → Rows → Seen → Type 0
+Follows room old new e c (Answer b y) m d n x = (n ≡ m) × (d ≡ b) × (x ≡ y)
+Follows room old new e c (Do k a f) m d n x = Acts room old new e c k a f m d n x
+Follows room old new e c (Lose k a f) m d n x = (x ≡ seen.Dropped) × Loses room old new e c k a f m d n
+
+abbrev pub IsOneEvent : Deployment → ℕ → ℕ → ℕ → Event → Core → Rows → Core → Rows → Seen → Type 0
+IsOneEvent d room old new e c m b n x = Follows room old new e (counted c) (plan d e c) m b n x
 
 -- want of memory: nothing was done, but that a run that had the event is over; at a turn its act may have been made, and
--- then the book has its entry. It does not come once the host is spent.
+-- then the book has its entry. It does not come once the host is spent, nor at a crash.
 abbrev pub Breaks : Deployment → Event → Core → Rows → Core → Rows → Type 0
 Breaks d (Turn i) c m b n = ((n ≡ m) × (b ≡ dropped (Turn i) (counted c))) ⊎ ((k : RowKey) × (a : Act) × (f : (Tell → Core × Seen)) × (plan d (Turn i) c ≡ Do k a f) × (n ≡ after_act a c.now k m) × (b ≡ dropped (Turn i) (f (tell_act a c.now k m)).0))
+Breaks d (Lost i) c m b n = (n ≡ m) × (b ≡ dropped (Lost i) (counted c))
+Breaks d (Crash i) c m b n = ⊥
 Breaks d e c m b n = (n ≡ m) × (b ≡ counted c)
 
-abbrev pub EventOn : Deployment → ℕ → Event → Core → Rows → Core → Rows → Result Seen AllocError → Type 0
-EventOn d room e c m b n (Ok x) = IsOneEvent d room e c m b n x
-EventOn d room e c m b n (Err w) = (c.taken < most_events) × Breaks d e c m b n
+abbrev pub EventOn : Deployment → ℕ → ℕ → ℕ → Event → Core → Rows → Core → Rows → Result Seen AllocError → Type 0
+EventOn d room old new e c m b n (Ok x) = IsOneEvent d room old new e c m b n x
+EventOn d room old new e c m b n (Err w) = (c.taken < most_events) × Breaks d e c m b n
+
+-- the event of a run whose answer is lost
+abbrev pub is_lost : Event → Bool
+is_lost (Lost i) = true
+is_lost e = false
 
 -- what a call that carries out an event does
 pub record Stepped (d : Deployment) (e : Event) (c b : Core) (old_room new_room old_faults new_faults : ℕ) (before after : Option Rows) (result : Result Seen AllocError) : Type 0 where
-  pub rows : Tells before after (λ m n. EventOn d old_room e c m b n result)
+  pub rows : Tells before after (λ m n. EventOn d old_room old_faults new_faults e c m b n result)
   pub later : old_faults ≤ new_faults
-  pub failed : result ≡ Ok seen.Dropped → Rose old_faults new_faults
+  pub failed : result ≡ Ok seen.Dropped → is_lost e ≡ false → Rose old_faults new_faults
   pub room : new_room ≡ old_room

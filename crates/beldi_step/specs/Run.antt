@@ -11,7 +11,7 @@ use Rattle.beldi_lang.specs.declared.effect.Effect.TheVariants as effect
 use Rattle.beldi_lang.specs.declared.effect.Answer.{Answer}
 use Rattle.beldi_lang.specs.declared.effect.Answer.TheVariants as answer
 use Rattle.beldi_lang.specs.declared.machine.Machine.{Machine}
-use Rattle.beldi_lang.specs.Wants.{func_at}
+use Rattle.beldi_lang.specs.Wants.{func_at, or_null}
 use Rattle.beldi_lang.specs.Machine.{begun as machine_begun, resumed}
 use Rattle.beldi_row.specs.declared.key.RowKey.{RowKey}
 use Rattle.beldi_row.specs.declared.key.Kind.TheVariants.{Intent}
@@ -19,45 +19,64 @@ use Rattle.beldi_row.specs.declared.row.Body.{Body}
 use Rattle.beldi_row.specs.declared.row.IntentRow.{IntentRow}
 use Rattle.beldi_row.specs.declared.row.Row.TheVariants as rows
 use Rattle.beldi_row.specs.declared.act.Act.{Act}
-use Rattle.beldi_row.specs.declared.act.Act.TheVariants.{Look, End}
+use Rattle.beldi_row.specs.declared.act.Act.TheVariants.{Look, PutRead, End}
 use Rattle.beldi_row.specs.Act.{Tell, here, did}
 use Rattle.beldi_daal.specs.declared.walk.WriteWalk.{WriteWalk}
 use Rattle.beldi_daal.specs.declared.walk.Item.TheVariants as item
 use Rattle.beldi_daal.specs.declared.walk.CellOp.TheVariants as op
 use Rattle.beldi_daal.specs.declared.walk.WriteSays.{WriteSays}
-use Rattle.beldi_daal.specs.declared.walk.WriteSays.TheVariants.{Going, Done}
+use Rattle.beldi_daal.specs.declared.walk.WriteSays.TheVariants.{Going, Done, Held}
+use Rattle.beldi_daal.specs.declared.read_walk.ReadWalk.{ReadWalk}
+use Rattle.beldi_daal.specs.declared.read_walk.ReadSays.{ReadSays}
+use Rattle.beldi_daal.specs.declared.read_walk.ReadSays.TheVariants as reading
+use Rattle.beldi_daal.specs.ReadWalk.{first_read, read_key, read_next}
+use Rattle.beldi_readlog.specs.ReadLog.{log_key, given_of, kept_of}
+use Rattle.beldi_readlog.specs.declared.read_log.Kept.{Kept}
+use Rattle.beldi_value.specs.declared.place.Place.{Place}
+use Rattle.beldi_value.specs.declared.place.Owner.TheVariants as owner
 use Rattle.beldi_daal.specs.Walk.{first_walk, walk_key, walk_act, walk_next}
 use Rattle.beldi_book.specs.declared.entry.Entry.{Entry}
-use Rattle.beldi_book.specs.declared.entry.Entry.TheVariants.{Step}
+use Rattle.beldi_book.specs.declared.entry.Entry.TheVariants.{Read, Step}
 use Rattle.beldi_step.specs.declared.run.Run.{Run}
 use Rattle.beldi_step.specs.declared.run.Begun.{Begun}
 use Rattle.beldi_step.specs.declared.run.Stage.{Stage}
-use Rattle.beldi_step.specs.declared.run.Stage.TheVariants.{Write, Close}
+use Rattle.beldi_step.specs.declared.run.Stage.TheVariants.{Ask, Walk, Keep, Write, Close}
 
 -- the row of an intent: a root's stands in the host's home, a callee's in its function's
 abbrev pub intent_key : IntentId → ℕ → RowKey
 intent_key id func = record { home = home_of id func; kind = Intent id }
 
+-- the place of a run's effect at a step
+abbrev pub place_of : IntentId → ℕ → Place
+place_of id step = record { intent = id; step = step }
+
 -- where an effect begins
 abbrev pub first_stage : IntentId → ℕ → ℕ → Effect → Stage
-first_stage id func step (effect.Write t k v) = Write (first_walk func (item.Plain t k) (record { intent = id; step = step }) (op.Write v))
+first_stage id func step (effect.Read t k) = Ask (first_read func (item.Plain t k) (Some (owner.Intent id)))
+first_stage id func step (effect.Write t k v) = Write (first_walk func (item.Plain t k) (place_of id step) (op.Write v))
 first_stage id func step (effect.Return o) = Close o
 
 abbrev pub standing : IntentId → ℕ → Machine → Begun
 standing id func m = record { machine = m; stage = first_stage id func m.steps m.effect }
 
 -- ---- the act of the next turn
-abbrev pub stage_key : Run → Stage → RowKey
-stage_key r (Write w) = walk_key w
-stage_key r (Close o) = intent_key r.id r.func
+abbrev pub stage_key : Run → ℕ → Stage → RowKey
+stage_key r step (Ask w) = log_key r.func (place_of r.id step)
+stage_key r step (Walk w) = read_key w
+stage_key r step (Keep v seen) = log_key r.func (place_of r.id step)
+stage_key r step (Write w) = walk_key w
+stage_key r step (Close o) = intent_key r.id r.func
 
 abbrev pub stage_act : Stage → Act
+stage_act (Ask w) = Look
+stage_act (Walk w) = Look
+stage_act (Keep v seen) = PutRead v
 stage_act (Write w) = walk_act w
 stage_act (Close o) = End o true
 
 abbrev pub key_at : Run → Option Begun → RowKey
 key_at r None = intent_key r.id r.func
-key_at r (Some g) = stage_key r g.stage
+key_at r (Some g) = stage_key r g.machine.steps g.stage
 
 abbrev pub act_at : Option Begun → Act
 act_at None = Look
@@ -116,8 +135,30 @@ abbrev pub step_if : Bool → IntentId → Option Entry
 step_if true id = Some (Step id)
 step_if false id = None
 
+-- by what was given to a read before: it is the answer
+abbrev pub ask_turned : Deployment → Run → Machine → ReadWalk → Option Value → Turned
+ask_turned d r m w None = goes r (record { machine = m; stage = Walk w }) None
+ask_turned d r m w (Some v) = answered d r m (answer.Value v) None
+
+-- by what the walk of a read found, when so many changes had been made. An item without a row is null. A walk that does not
+-- come to the last row, or meets another owner, stays where it is.
+abbrev pub walk_turned : Run → Machine → ReadWalk → ℕ → ReadSays → Turned
+walk_turned r m w changes reading.Going = goes r (record { machine = m; stage = Walk w }) None
+walk_turned r m w changes (reading.Held o) = goes r (record { machine = m; stage = Walk w }) None
+walk_turned r m w changes (reading.Got v) = goes r (record { machine = m; stage = Keep (or_null v) changes }) None
+
+-- the entry of a read, where this act made it
+abbrev pub read_if : Bool → IntentId → ℕ → Option Entry
+read_if true id seen = Some (Read id seen)
+read_if false id seen = None
+
+-- what is kept for a read is its answer, whoever kept it
+abbrev pub keep_turned : Deployment → Run → Machine → ℕ → Kept → Turned
+keep_turned d r m seen k = answered d r m (answer.Value k.value) (read_if k.added r.id seen)
+
 abbrev pub write_turned : Deployment → Run → Machine → WriteWalk × WriteSays → Turned
 write_turned d r m (w, Going) = goes r (record { machine = m; stage = Write w }) None
+write_turned d r m (w, Held o) = goes r (record { machine = m; stage = Write w }) None
 write_turned d r m (w, Done first) = answered d r m answer.Done (step_if first r.id)
 
 -- the first end of a root gives its reply
@@ -129,13 +170,17 @@ abbrev pub close_turned : Run → Outcome → Tell → Turned
 close_turned r o did = record { next = None; entry = Some (Step r.id); reply = reply_if (has_no_hops r.id.hops) r.id o }
 close_turned r o t = over
 
-abbrev pub stage_turned : Deployment → Run → Machine → Stage → Tell → Turned
-stage_turned d r m (Write w) t = write_turned d r m (walk_next w t)
-stage_turned d r m (Close o) t = close_turned r o t
+-- `changes` is how many changes had been made
+abbrev pub stage_turned : Deployment → Run → ℕ → Machine → Stage → Tell → Turned
+stage_turned d r changes m (Ask w) t = ask_turned d r m w (given_of t)
+stage_turned d r changes m (Walk w) t = walk_turned r m w changes (read_next w t)
+stage_turned d r changes m (Keep v seen) t = keep_turned d r m seen (kept_of v t)
+stage_turned d r changes m (Write w) t = write_turned d r m (walk_next w t)
+stage_turned d r changes m (Close o) t = close_turned r o t
 
-abbrev pub turned_at : Deployment → Run → Option Begun → Tell → Turned
-turned_at d r None t = begin_body d r (body_told t)
-turned_at d r (Some g) t = stage_turned d r g.machine g.stage t
+abbrev pub turned_at : Deployment → Run → ℕ → Option Begun → Tell → Turned
+turned_at d r changes None t = begin_body d r (body_told t)
+turned_at d r changes (Some g) t = stage_turned d r changes g.machine g.stage t
 
-abbrev pub run_turned : Deployment → Run → Tell → Turned
-run_turned d r t = turned_at d r r.at t
+abbrev pub run_turned : Deployment → Run → ℕ → Tell → Turned
+run_turned d r changes t = turned_at d r changes r.at t

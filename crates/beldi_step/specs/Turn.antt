@@ -41,16 +41,16 @@ Turns s (Err (Lost e)) t = e ≡ t.entry
 Turns s (Err (Stopped e)) t = ⊥
 
 -- the act was made, and the run turned by what it told; where it was lost after its act, the entry is told
-abbrev pub RanOn : Deployment → Run → Option Begun → Run → ℕ → ℕ → Rows → Rows → Result TurnSays TurnErr → Type 0
-RanOn d r at s now room m n (Ok x) = (n ≡ after_act (act_at at) now (key_at r at) m) × (turned_by s x ≡ turned_at d r at (tell_act (act_at at) now (key_at r at) m)) × (IsTrue (adds (act_at at) now (key_at r at) m) → map.len m < room)
-RanOn d r at s now room m n (Err (Lost e)) = (n ≡ after_act (act_at at) now (key_at r at) m) × (e ≡ (turned_at d r at (tell_act (act_at at) now (key_at r at) m)).entry)
-RanOn d r at s now room m n (Err (Stopped OutOfMemory)) = n ≡ m
-RanOn d r at s now room m n (Err (Stopped Failed)) = n ≡ m
-RanOn d r at s now room m n (Err (Stopped (Full live most))) = (n ≡ m) × (s ≡ r) × IsTrue (adds (act_at at) now (key_at r at) m) × (room ≤ map.len m) × (live ≡ min (map.len m) (2 ^ 32 - 1)) × (most ≡ room)
+abbrev pub RanOn : Deployment → Run → ℕ → Option Begun → Run → ℕ → ℕ → Rows → Rows → Result TurnSays TurnErr → Type 0
+RanOn d r changes at s now room m n (Ok x) = (n ≡ after_act (act_at at) now (key_at r at) m) × (turned_by s x ≡ turned_at d r changes at (tell_act (act_at at) now (key_at r at) m)) × (IsTrue (adds (act_at at) now (key_at r at) m) → map.len m < room)
+RanOn d r changes at s now room m n (Err (Lost e)) = (n ≡ after_act (act_at at) now (key_at r at) m) × (e ≡ (turned_at d r changes at (tell_act (act_at at) now (key_at r at) m)).entry) × (IsTrue (adds (act_at at) now (key_at r at) m) → map.len m < room)
+RanOn d r changes at s now room m n (Err (Stopped OutOfMemory)) = n ≡ m
+RanOn d r changes at s now room m n (Err (Stopped Failed)) = n ≡ m
+RanOn d r changes at s now room m n (Err (Stopped (Full live most))) = (n ≡ m) × (s ≡ r) × IsTrue (adds (act_at at) now (key_at r at) m) × (room ≤ map.len m) × (live ≡ min (map.len m) (2 ^ 32 - 1)) × (most ≡ room)
 
--- a turn of the run r, which stands at `at`
-pub record Ran (d : Deployment) (r : Run) (at : Option Begun) (s : Run) (now old_room new_room old_faults new_faults : ℕ) (before after : Option Rows) (result : Result TurnSays TurnErr) : Type 0 where
-  pub rows : Tells before after (λ m n. RanOn d r at s now old_room m n result)
+-- a turn of the run r, which stands at `at`, when so many changes had been made
+pub record Ran (d : Deployment) (r : Run) (changes : ℕ) (at : Option Begun) (s : Run) (now old_room new_room old_faults new_faults : ℕ) (before after : Option Rows) (result : Result TurnSays TurnErr) : Type 0 where
+  pub rows : Tells before after (λ m n. RanOn d r changes at s now old_room m n result)
   pub later : old_faults ≤ new_faults
   pub failed : IsErrOf result (Stopped Failed) → Rose old_faults new_faults
   pub room : new_room ≡ old_room

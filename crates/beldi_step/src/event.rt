@@ -1,6 +1,6 @@
 // Events, and how they are answered.
 use beldi_book::Entry;
-use beldi_value::{Outcome, Value};
+use beldi_value::{IntentId, Outcome, Value};
 
 /// What may happen to a host.
 #[derive(Drop)]
@@ -11,6 +11,12 @@ pub enum Event {
     Request { ticket: u32, func: u16, args: Value },
     /// The run of this number makes its next turn.
     Turn(u64),
+    /// The run of this number makes the act of its next turn, and ends before it learns what the act told.
+    Lost(u64),
+    /// The run of this number ends between two turns.
+    Crash(u64),
+    /// Another run of an intent is started, as one of a function of this number.
+    Restart { id: IntentId, func: u16 },
 }
 
 /// The answers to events.
@@ -60,8 +66,12 @@ pub enum Seen {
     NoRun,
     /// The run of the number is over.
     RunOver,
-    /// The table failed in this event; a run that had it is over.
+    /// The answer of the run's act was lost, or the table failed in this event; a run that had it is over.
     Dropped,
+    /// The run is over.
+    Crashed,
+    /// A run of this number was started.
+    Started(u64),
     /// 2^62 events were taken before.
     Spent,
 }

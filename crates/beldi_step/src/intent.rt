@@ -4,7 +4,8 @@ ghost use Rattle.beldi_value.specs.Id.{root_of};
 ghost use Rattle.beldi_row.specs.Act.{tell_of};
 ghost use Rattle.beldi_row.specs.declared.act.Act.TheVariants as acts;
 ghost use Rattle.beldi_step.specs.Run.{intent_key, open_body as open_body_of};
-ghost use Rattle.beldi_step.specs.Intent.{Asked, is_added, is_did, binding_of, is_lent, args_in, open_args};
+ghost use Rattle.beldi_row.specs.Asked.{Asked};
+ghost use Rattle.beldi_step.specs.Intent.{is_added, is_did, binding_of, is_lent, args_in, open_args};
 
 use beldi_row::{Act, IntentRow, Kind, Row, RowKey, Said, Table, TableErr};
 use beldi_value::{IntentId, Outcome, Value};

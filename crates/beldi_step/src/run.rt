@@ -1,7 +1,7 @@
 // Runs: executions of instances of functions.
-use beldi_daal::WriteWalk;
+use beldi_daal::{ReadWalk, WriteWalk};
 use beldi_lang::Machine;
-use beldi_value::{IntentId, Outcome};
+use beldi_value::{IntentId, Outcome, Value};
 
 /// An execution of an instance. Before its first turn nothing is known but whose it is.
 #[derive(Drop)]
@@ -21,6 +21,12 @@ pub struct Begun {
 /// The stages of the effects.
 #[derive(Drop)]
 pub enum Stage {
+    /// A read asks whether a value was kept for it. If none was, it goes on this walk.
+    Ask(ReadWalk),
+    /// A read is on its walk.
+    Walk(ReadWalk),
+    /// A read keeps the value that its walk found when `seen` changes had been made.
+    Keep { value: Value, seen: u64 },
     /// A write is on its walk.
     Write(WriteWalk),
     /// The instance is to be ended with this outcome.

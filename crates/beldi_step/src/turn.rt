@@ -1,12 +1,15 @@
 // The turns of runs: one act a turn.
-ghost use Rattle.std.specs.Prelude.{◌≡◌, true, false, Some, None, IfOk, OnOk};
+ghost use Rattle.std.specs.Prelude.{◌≡◌, ℕ, true, false, Some, None, IfOk, OnOk};
 ghost use Rattle.beldi_lang.specs.Wants.{func_at};
 ghost use Rattle.beldi_lang.specs.declared.machine.Machine.{Machine};
-ghost use Rattle.beldi_book.specs.declared.entry.Entry.TheVariants.{Step};
+ghost use Rattle.beldi_book.specs.declared.entry.Entry.TheVariants.{Read, Step};
 ghost use Rattle.beldi_daal.specs.declared.walk.WriteWalk.{WriteWalk};
 ghost use Rattle.beldi_row.specs.declared.act.Act.TheVariants as acts;
-ghost use Rattle.beldi_step.specs.Run.{first_stage as first_stage_of, standing as standing_at, begin_in, write_turned, resumed_in, intent_key};
-ghost use Rattle.beldi_step.specs.Intent.{Asked, is_did};
+ghost use Rattle.beldi_daal.specs.declared.read_walk.ReadWalk.{ReadWalk};
+ghost use Rattle.beldi_value.specs.declared.value.Value.{Value};
+ghost use Rattle.beldi_step.specs.Run.{first_stage as first_stage_of, standing as standing_at, place_of as place_at, begin_in, ask_turned, walk_turned, keep_turned, write_turned, resumed_in, intent_key};
+ghost use Rattle.beldi_row.specs.Asked.{Asked};
+ghost use Rattle.beldi_step.specs.Intent.{is_did};
 ghost use Rattle.beldi_step.specs.Turn.{Ran, Turns, turned_by, answered_run, close_says};
 ghost use Rattle.beldi_step.specs.declared.run.Stage.TheVariants as stages;
 ghost use Rattle.beldi_step.specs.declared.run.Stage.{Stage};
@@ -14,10 +17,11 @@ ghost use Rattle.beldi_step.specs.declared.run.Stage.{Stage};
 use crate::intent::{end, open_body};
 use crate::run::{Begun, Run, Stage};
 use beldi_book::Entry;
-use beldi_daal::{CellOp, Item, WriteSays, WriteWalk};
+use beldi_daal::{CellOp, Item, ReadSays, ReadWalk, WriteSays, WriteWalk};
 use beldi_lang::{Answer, Deployment, Effect, Machine};
+use beldi_readlog::{Kept, get, put_once};
 use beldi_row::{Table, TableErr};
-use beldi_value::{IntentId, Outcome, Place, Value};
+use beldi_value::{IntentId, Outcome, Owner, Place, Value};
 use std::alloc::{AllocError, Global};
 
 /// What a turn did: the entry that its act made, whether the run is over, and the ticket and outcome of the root that
@@ -72,6 +76,14 @@ fn first_stage(
 {
     let step = machine.steps();
     match machine.wants() {
+        Effect::Read { table, key } => {
+            let item = Item::Plain {
+                table: *table,
+                key: key.copy(alloc)?,
+            };
+            let who = Some(Owner::Intent(id.copy(alloc)?));
+            Ok(Stage::Ask(ReadWalk::new(func, item, who)))
+        }
         Effect::Write { table, key, value } => {
             let item = Item::Plain {
                 table: *table,
@@ -95,7 +107,6 @@ fn standing(alloc: Global, id: &IntentId, func: u16, machine: Machine) -> Result
     Ok(Begun { machine, stage })
 }
 
-// A machine that stands at its return takes no answer; none comes there.
 fn resume(
     alloc: Global,
     code: &Deployment,
@@ -105,14 +116,19 @@ fn resume(
 ) -> Result<Machine, AllocError>
     ensures { IfOk result (λ m. m ≡ resumed_in (func_at code.now func) machine answer) }
 {
-    let Some(body) = code.func_at(func) else {
-        return Ok(machine);
-    };
-    if matches!(machine.wants(), Effect::Write { .. }) {
-        machine.resume(alloc, body, answer)
-    } else {
-        Err(AllocError)
+    match code.func_at(func) {
+        None => Ok(machine),
+        Some(body) => machine.resume(alloc, body, answer),
     }
+}
+
+fn place_of(alloc: Global, id: &IntentId, step: u32) -> Result<Place, AllocError>
+    ensures { IfOk result (λ p. p ≡ place_at id.now step) }
+{
+    Ok(Place {
+        intent: id.copy(alloc)?,
+        step,
+    })
 }
 
 // Ends an instance.
@@ -167,20 +183,40 @@ fn goes(entry: Option<Entry>) -> TurnSays
 }
 
 impl Run {
-    /// One act. After `Stopped` the rows are as before, and at `Full` the run is too; after any other `Err` the run is
-    /// to be dropped.
+    /// One act, when so many changes had been made. After `Stopped` the rows are as before, and at `Full` the run is too;
+    /// after any other `Err` the run is to be dropped.
     pub fn turn<T: Table>(
         &mut self,
         alloc: Global,
         code: &Deployment,
         table: &mut T,
         now: u64,
+        changes: u64,
     ) -> Result<TurnSays, TurnErr>
-        ensures { Ran code.now self.old self.old.at self.new now (T.room table.old) (T.room table.new) (T.faults table.old) (T.faults table.new) (T.rows table.old) (T.rows table.new) result }
+        ensures { Ran code.now self.old changes self.old.at self.new now (T.room table.old) (T.room table.new) (T.faults table.old) (T.faults table.new) (T.rows table.old) (T.rows table.new) result }
     {
         match &mut self.at {
             None => self.begin(alloc, code, table, now),
             Some(begun) => match &mut begun.stage {
+                Stage::Ask(_) => {
+                    let place = place_of(alloc, &self.id, begun.machine.steps())?;
+                    let given = get(alloc, table, self.func, &place, now)?;
+                    self.asked(alloc, code, given)
+                }
+                Stage::Walk(walk) => {
+                    let found = walk.turn(alloc, table, now)?;
+                    Ok(self.walked(found, changes))
+                }
+                Stage::Keep { value, seen } => {
+                    let entry = Entry::Read {
+                        id: self.id.copy(alloc)?,
+                        seen: *seen,
+                    };
+                    let place = place_of(alloc, &self.id, begun.machine.steps())?;
+                    let value = value.copy(alloc)?;
+                    let kept = put_once(alloc, table, self.func, &place, value, now)?;
+                    self.kept(alloc, code, entry, kept)
+                }
                 Stage::Write(walk) => {
                     let entry = Entry::Step {
                         id: self.id.copy(alloc)?,
@@ -203,7 +239,7 @@ impl Run {
         table: &mut T,
         now: u64,
     ) -> Result<TurnSays, TurnErr>
-        ensures { Ran code.now self.old None self.new now (T.room table.old) (T.room table.new) (T.faults table.old) (T.faults table.new) (T.rows table.old) (T.rows table.new) result }
+        ensures { (changes : ℕ) → Ran code.now self.old changes None self.new now (T.room table.old) (T.room table.new) (T.faults table.old) (T.faults table.new) (T.rows table.old) (T.rows table.new) result }
     {
         let id = self.id.copy(alloc)?;
         match open_body(alloc, table, id, self.func, now)? {
@@ -230,6 +266,71 @@ impl Run {
         let begun = standing(alloc, &self.id, self.func, machine)?;
         self.at = Some(begun);
         Ok(goes(None))
+    }
+
+    // What was given to a read before.
+    fn asked(
+        &mut self,
+        alloc: Global,
+        code: &Deployment,
+        given: Option<Value>,
+    ) -> Result<TurnSays, TurnErr>
+        ensures { (m : Machine) (w : ReadWalk) → self.old.at ≡ Some (record { machine = m; stage = stages.Ask w }) → Turns self.new result (ask_turned code.now self.old m w given) }
+    {
+        let Some(value) = given else {
+            self.set_out();
+            return Ok(goes(None));
+        };
+        match self.answer(alloc, code, Answer::Value(value)) {
+            Ok(()) => Ok(goes(None)),
+            Err(_) => Err(TurnErr::Lost(None)),
+        }
+    }
+
+    // A read to which nothing was given sets out on its walk.
+    fn set_out(&mut self)
+        ensures { (m : Machine) (w : ReadWalk) → self.old.at ≡ Some (record { machine = m; stage = stages.Ask w }) → self.new ≡ record self.old { at = Some (record { machine = m; stage = stages.Walk w }) } }
+    {
+        if let Some(begun) = self.at.take() {
+            let Begun { machine, stage } = begun;
+            let stage = match stage {
+                Stage::Ask(walk) => Stage::Walk(walk),
+                other => other,
+            };
+            self.at = Some(Begun { machine, stage });
+        }
+    }
+
+    // What the walk of a read said.
+    fn walked(&mut self, says: ReadSays, changes: u64) -> TurnSays
+        ensures { (m : Machine) (w : ReadWalk) → self.old.at ≡ Some (record { machine = m; stage = stages.Walk w }) → turned_by self.new result ≡ walk_turned self.old m w changes says }
+    {
+        if let (ReadSays::Got(value), Some(begun)) = (says, &mut self.at) {
+            let value = value.unwrap_or(Value::Null);
+            begun.stage = Stage::Keep {
+                value,
+                seen: changes,
+            };
+        }
+        goes(None)
+    }
+
+    // What is kept for a read.
+    fn kept(
+        &mut self,
+        alloc: Global,
+        code: &Deployment,
+        entry: Entry,
+        kept: Kept,
+    ) -> Result<TurnSays, TurnErr>
+        ensures { (m : Machine) (v : Value) (seen : ℕ) → entry ≡ Read self.old.id seen → self.old.at ≡ Some (record { machine = m; stage = stages.Keep v seen }) → Turns self.new result (keep_turned code.now self.old m seen kept) }
+    {
+        let Kept { value, added } = kept;
+        let entry = if added { Some(entry) } else { None };
+        match self.answer(alloc, code, Answer::Value(value)) {
+            Ok(()) => Ok(goes(entry)),
+            Err(_) => Err(TurnErr::Lost(entry)),
+        }
     }
 
     // What the walk of a write said.

@@ -1,13 +1,15 @@
 -- The form of a deployment, phrase by phrase. A phrase gives what it says, and what follows it.
---   deployment = "life" INT ";" "function" NAME "(" NAME ")" "{" "table" NAME ";" { write } return "}" "script" end-of-line
---   write = "write" NAME "[" TEXT "]" "=" expr ";"     return = "return" expr ";"     expr = INT | NAME
--- A written table is the function's own, and a NAME in expr is its parameter.
-use Rattle.std.specs.Prelude.{◌≡◌, ℕ, zero, suc, ◌-◌, ◌^◌, ◌==◌, pos, Bool, true, false, List, [], ◌∷◌, ◌++◌, length, Option, Some, None, option_map, Result, Ok, Err, codes, if◌then◌else◌}
+--   deployment = "life" INT ";" "function" NAME "(" NAME ")" "{" "table" NAME ";" { read | write } return "}" "script" end-of-line
+--   read = "read" NAME "=" cell ";"     write = "write" cell "=" expr ";"     return = "return" expr ";"
+--   cell = NAME "[" TEXT "]"     expr = INT | NAME
+-- The NAME of a cell is the function's own table. A NAME in expr is the parameter, or was read before it in the body.
+use Rattle.std.specs.Prelude.{◌≡◌, ℕ, zero, suc, ◌-◌, ◌^◌, ◌==◌, pos, Bool, true, false, ◌||◌, List, [], ◌∷◌, ◌++◌, length, Option, Some, None, option_map, Result, Ok, Err, codes, if◌then◌else◌}
+use Rattle.std.specs.List.{list_any}
 use Rattle.beldi_value.specs.Number.{number_at}
 use Rattle.beldi_lang.specs.declared.deployment.Deployment.{Deployment}
 use Rattle.beldi_lang.specs.declared.deployment.Stmt.{Stmt}
 use Rattle.beldi_lang.specs.declared.deployment.Form.{Form}
-use Rattle.beldi_lang.specs.declared.deployment.Form.TheVariants.{Write, Return}
+use Rattle.beldi_lang.specs.declared.deployment.Form.TheVariants.{Read, Write, Return}
 use Rattle.beldi_lang.specs.declared.deployment.Expr.{Expr}
 use Rattle.beldi_lang.specs.declared.deployment.Expr.TheVariants.{Int, Name}
 use Rattle.beldi_lang.specs.Wants.{is_name}
@@ -46,68 +48,81 @@ table_at bs = do
   rest ← sign_at 59 table.1
   Some (table.0, rest)
 
--- `["KEY"] =`
-abbrev pub key_at : List ℕ → Option (List ℕ × List ℕ)
-key_at bs = do
-  start ← sign_at 91 bs
+-- `T["KEY"]`
+abbrev pub cell_at : List ℕ → List ℕ → Option (List ℕ × List ℕ)
+cell_at table bs = do
+  name ← keyword_at table bs
+  start ← sign_at 91 name
   key ← text_at start
-  after ← sign_at 93 key.1
-  rest ← sign_at 61 after
+  rest ← sign_at 93 key.1
   Some (key.0, rest)
 
--- a number, or the parameter's name
-abbrev pub expr_of : List ℕ → List ℕ → Option ℕ → Option Expr
-expr_of param word (Some n) = Some (Int (pos n))
-expr_of param word None = if is_name word param then Some (Name word) else None
+-- a statement that reads an item into this name
+abbrev pub reads_into : Form → List ℕ → Bool
+reads_into (Read name table key) word = is_name name word
+reads_into (Write table key value) word = false
+reads_into (Return value) word = false
+
+-- the parameter, or a name that one of these statements reads an item into
+abbrev pub is_known : List ℕ → List Stmt → List ℕ → Bool
+is_known param done word = is_name word param || list_any (λ s. reads_into s.form word) done
+
+-- a number, or a name that is known after these statements
+abbrev pub expr_of : List ℕ → List Stmt → List ℕ → Option ℕ → Option Expr
+expr_of param done word (Some n) = Some (Int (pos n))
+expr_of param done word None = if is_known param done word then Some (Name word) else None
 
 -- an expression and `;`
-abbrev pub value_at : List ℕ → List ℕ → Option (Expr × List ℕ)
-value_at param bs = do
-  value ← expr_of param (word_at bs).0 (number_at (2 ^ 63 - 1) (word_at bs).0)
+abbrev pub value_at : List ℕ → List Stmt → List ℕ → Option (Expr × List ℕ)
+value_at param done bs = do
+  value ← expr_of param done (word_at bs).0 (number_at (2 ^ 63 - 1) (word_at bs).0)
   rest ← sign_at 59 (word_at bs).1
   Some (value, rest)
 
+-- `NAME = T["KEY"];`, which follows `read`
+abbrev pub read_at : List ℕ → List ℕ → Option (Form × List ℕ)
+read_at table bs = do
+  name ← name_at bs
+  start ← sign_at 61 name.1
+  key ← cell_at table start
+  rest ← sign_at 59 key.1
+  Some (Read name.0 table key.0, rest)
+
 -- `T["KEY"] = EXPR;`, which follows `write`
-abbrev pub write_at : List ℕ → List ℕ → List ℕ → Option (Form × List ℕ)
-write_at table param bs = do
-  start ← keyword_at table bs
-  key ← key_at start
-  value ← value_at param key.1
+abbrev pub write_at : List ℕ → List ℕ → List Stmt → List ℕ → Option (Form × List ℕ)
+write_at table param done bs = do
+  key ← cell_at table bs
+  start ← sign_at 61 key.1
+  value ← value_at param done start
   Some (Write table key.0 value.0, value.1)
 
--- `return EXPR;`
-abbrev pub return_at : List ℕ → List ℕ → Option (Form × List ℕ)
-return_at param bs = do
-  start ← keyword_at (codes "return") bs
-  value ← value_at param start
-  Some (Return value.0, value.1)
+-- `EXPR;`, which follows `return`
+abbrev pub return_at : List ℕ → List Stmt → List ℕ → Option (Form × List ℕ)
+return_at param done bs = option_map (λ value. (Return value.0, value.1)) (value_at param done bs)
 
--- a write where this word comes first, and a return elsewhere
-abbrev pub stmt_of : List ℕ → List ℕ → List ℕ → Option (List ℕ) → Option (Form × List ℕ)
-stmt_of table param bs (Some start) = write_at table param start
-stmt_of table param bs None = return_at param bs
+-- a statement, by its first word and what follows that
+abbrev pub stmt_of : List ℕ → List ℕ → List Stmt → List ℕ → List ℕ → Option (Form × List ℕ)
+stmt_of table param done word bs = if is_name word (codes "read") then read_at table bs else if is_name word (codes "write") then write_at table param done bs else if is_name word (codes "return") then return_at param done bs else None
 
--- a statement
-abbrev pub stmt_at : List ℕ → List ℕ → List ℕ → Option (Form × List ℕ)
-stmt_at table param bs = stmt_of table param bs (keyword_at (codes "write") bs)
+-- a statement after these
+abbrev pub stmt_at : List ℕ → List ℕ → List Stmt → List ℕ → Option (Form × List ℕ)
+stmt_at table param done bs = stmt_of table param done (word_at bs).0 (word_at bs).1
 
 -- a statement that ends the others
 abbrev pub is_return : Form → Bool
+is_return (Read name table key) = false
 is_return (Write table key value) = false
 is_return (Return value) = true
 
--- statements, and what follows them, after these statements
-abbrev pub joined : List Stmt → Option (List Stmt × List ℕ) → Option (List Stmt × List ℕ)
-joined ss block = option_map (λ b. (ss ++ b.0, b.1)) block
+-- with this one more, a `return` ends the statements
+abbrev pub go_on : (List Stmt → List ℕ → Option (List Stmt × List ℕ)) → List Stmt → Form → List ℕ → Option (List Stmt × List ℕ)
+go_on more done form rest = if is_return form then Some (done ++ record { form = form } ∷ [], rest) else more (done ++ record { form = form } ∷ []) rest
 
--- a `return` ends the statements
-abbrev pub go_on : (List ℕ → Option (List Stmt × List ℕ)) → Form → List ℕ → Option (List Stmt × List ℕ)
-go_on more form rest = if is_return form then Some (record { form = form } ∷ [], rest) else joined (record { form = form } ∷ []) (more rest)
-
--- statements, at most n. Each takes some of the text, so a text has no more of them than bytes
-abbrev pub block_at : ℕ → List ℕ → List ℕ → List ℕ → Option (List Stmt × List ℕ)
-block_at zero table param bs = None
-block_at (suc n) table param bs = stmt_at table param bs >>= λ stmt. go_on (block_at n table param) stmt.0 stmt.1
+-- these statements and at most n more, up to a `return`. Each takes some of the text, so a text has no more of them
+-- than bytes
+abbrev pub block_at : ℕ → List ℕ → List ℕ → List Stmt → List ℕ → Option (List Stmt × List ℕ)
+block_at zero table param done bs = None
+block_at (suc n) table param done bs = stmt_at table param done bs >>= λ stmt. go_on (block_at n table param) done stmt.0 stmt.1
 
 -- the end of a line
 abbrev pub line_end : List ℕ → Option (List ℕ)
@@ -136,7 +151,7 @@ deployment_at bs = do
   name ← func_at life.1
   param ← param_at name.1
   table ← table_at param.1
-  body ← block_at (length table.1) table.0 param.0 table.1
+  body ← block_at (length table.1) table.0 param.0 [] table.1
   script ← end_at body.1
   Some (deployment_of life.0 name.0 param.0 table.0 body.0, script)
 

@@ -1,7 +1,8 @@
 // The form of a deployment, phrase by phrase.
 ghost use Rattle.std.specs.Prelude.{◌≡◌, ◌-◌, ◌^◌, ◌∷◌, [], length, option_copied, option_map, MatchResult, Some, IfOk};
+ghost use Rattle.std.specs.List.{list_any};
 ghost use Rattle.beldi_value.specs.Number.{number_at};
-ghost use Rattle.beldi_syntax.specs.Grammar.{life_at, func_at, param_at, table_at, key_at, value_at, write_at, return_at, stmt_at, block_at, is_return, line_end, end_at, Refuses, Reads, parsed_at, expr_of, deployment_of};
+ghost use Rattle.beldi_syntax.specs.Grammar.{life_at, func_at, param_at, table_at, cell_at, reads_into, value_at, read_at, write_at, return_at, stmt_at, block_at, is_return, line_end, end_at, Refuses, Reads, parsed_at, expr_of, deployment_of};
 
 use crate::words::{Kind, cut, keyword, name, sign, text, word};
 use beldi_lang::{Block, Deployment, Expr, Form, Func, Funcs, Stmt, TableHead, TableHeads};
@@ -77,23 +78,41 @@ fn read_table(bytes: &[u8]) -> Option<(&str, &[u8])>
     Some((table, sign(rest, b';')?))
 }
 
-// `["KEY"] =`
-fn read_key(bytes: &[u8]) -> Option<(&str, &[u8])>
-    ensures { option_map (λ p. (p.0.now, p.1.now)) result ≡ key_at bytes.now }
+// `T["KEY"]`
+fn read_cell<'a>(table: &str, bytes: &'a [u8]) -> Option<(&'a str, &'a [u8])>
+    ensures { option_map (λ p. (p.0.now, p.1.now)) result ≡ cell_at table.now bytes.now }
 {
-    let (key, rest) = text(sign(bytes, b'[')?)?;
-    let rest = sign(rest, b']')?;
-    Some((key, sign(rest, b'=')?))
+    let rest = keyword(bytes, table)?;
+    let (key, rest) = text(sign(rest, b'[')?)?;
+    Some((key, sign(rest, b']')?))
 }
 
-// A number, or the parameter's name.
-fn read_expr(alloc: Global, param: &str, word: &str) -> Result<Expr, SyntaxErr>
-    ensures { Reads (expr_of param.now word.now (number_at (2 ^ 63 - 1) word.now)) result }
+fn reads_into(form: &Form, word: &str) -> bool
+    ensures { result ≡ reads_into form.now word.now }
+{
+    match form {
+        Form::Read { name, .. } => name.as_bytes() == word.as_bytes(),
+        _ => false,
+    }
+}
+
+// Whether one of these statements reads an item into this name.
+fn is_read(done: &Block, word: &str) -> bool
+    ensures { result ≡ list_any (λ s. reads_into s.form word.now) done.now }
+{
+    done.as_slice()
+        .iter()
+        .any(|stmt| reads_into(&stmt.form, word))
+}
+
+// A number, or a name that is known after these statements.
+fn read_expr(alloc: Global, param: &str, done: &Block, word: &str) -> Result<Expr, SyntaxErr>
+    ensures { Reads (expr_of param.now done.now word.now (number_at (2 ^ 63 - 1) word.now)) result }
 {
     match read_number(word.as_bytes(), i64::MAX as u64) {
         Some(number) => Ok(Expr::Int(number as i64)),
         None => {
-            if word == param {
+            if word == param || is_read(done, word) {
                 Ok(Expr::Name(Str::from_text(alloc, word)?))
             } else {
                 Err(SyntaxErr::Refused)
@@ -106,16 +125,39 @@ fn read_expr(alloc: Global, param: &str, word: &str) -> Result<Expr, SyntaxErr>
 fn read_value<'a>(
     alloc: Global,
     param: &str,
+    done: &Block,
     bytes: &'a [u8],
 ) -> Result<(Expr, &'a [u8]), SyntaxErr>
-    ensures { MatchResult result (λ p. value_at param.now bytes.now ≡ Some (p.0, p.1.now)) (λ e. Refuses (value_at param.now bytes.now) e) }
+    ensures { MatchResult result (λ p. value_at param.now done.now bytes.now ≡ Some (p.0, p.1.now)) (λ e. Refuses (value_at param.now done.now bytes.now) e) }
 {
     let (word, rest) = word(bytes);
-    let value = read_expr(alloc, param, word)?;
+    let value = read_expr(alloc, param, done, word)?;
     match sign(rest, b';') {
         Some(rest) => Ok((value, rest)),
         None => Err(SyntaxErr::Refused),
     }
+}
+
+// `NAME = T["KEY"];`, which follows `read`.
+fn read_read<'a>(alloc: Global, table: &str, bytes: &'a [u8]) -> Result<(Form, &'a [u8]), SyntaxErr>
+    ensures { MatchResult result (λ p. read_at table.now bytes.now ≡ Some (p.0, p.1.now)) (λ e. Refuses (read_at table.now bytes.now) e) }
+{
+    let Some((name, rest)) = name(bytes) else {
+        return Err(SyntaxErr::Refused)
+    };
+    let Some(rest) = sign(rest, b'=') else {
+        return Err(SyntaxErr::Refused)
+    };
+    let Some((key, rest)) = read_cell(table, rest) else {
+        return Err(SyntaxErr::Refused)
+    };
+    let Some(rest) = sign(rest, b';') else {
+        return Err(SyntaxErr::Refused)
+    };
+    let name = Str::from_text(alloc, name)?;
+    let table = Str::from_text(alloc, table)?;
+    let key = Str::from_text(alloc, key)?;
+    Ok((Form::Read { name, table, key }, rest))
 }
 
 // `T["KEY"] = EXPR;`, which follows `write`.
@@ -123,17 +165,18 @@ fn read_write<'a>(
     alloc: Global,
     table: &str,
     param: &str,
+    done: &Block,
     bytes: &'a [u8],
 ) -> Result<(Form, &'a [u8]), SyntaxErr>
-    ensures { MatchResult result (λ p. write_at table.now param.now bytes.now ≡ Some (p.0, p.1.now)) (λ e. Refuses (write_at table.now param.now bytes.now) e) }
+    ensures { MatchResult result (λ p. write_at table.now param.now done.now bytes.now ≡ Some (p.0, p.1.now)) (λ e. Refuses (write_at table.now param.now done.now bytes.now) e) }
 {
-    let Some(rest) = keyword(bytes, table) else {
+    let Some((key, rest)) = read_cell(table, bytes) else {
         return Err(SyntaxErr::Refused)
     };
-    let Some((key, rest)) = read_key(rest) else {
+    let Some(rest) = sign(rest, b'=') else {
         return Err(SyntaxErr::Refused)
     };
-    match read_value(alloc, param, rest) {
+    match read_value(alloc, param, done, rest) {
         Ok((value, rest)) => {
             let table = Str::from_text(alloc, table)?;
             let key = Str::from_text(alloc, key)?;
@@ -143,34 +186,40 @@ fn read_write<'a>(
     }
 }
 
-// `return EXPR;`
+// `EXPR;`, which follows `return`.
 fn read_return<'a>(
     alloc: Global,
     param: &str,
+    done: &Block,
     bytes: &'a [u8],
 ) -> Result<(Form, &'a [u8]), SyntaxErr>
-    ensures { MatchResult result (λ p. return_at param.now bytes.now ≡ Some (p.0, p.1.now)) (λ e. Refuses (return_at param.now bytes.now) e) }
+    ensures { MatchResult result (λ p. return_at param.now done.now bytes.now ≡ Some (p.0, p.1.now)) (λ e. Refuses (return_at param.now done.now bytes.now) e) }
 {
-    let Some(rest) = keyword(bytes, "return") else {
-        return Err(SyntaxErr::Refused)
-    };
-    match read_value(alloc, param, rest) {
+    match read_value(alloc, param, done, bytes) {
         Ok((value, rest)) => Ok((Form::Return(value), rest)),
         Err(why) => Err(why),
     }
 }
 
+// A statement after these.
 fn read_stmt<'a>(
     alloc: Global,
     table: &str,
     param: &str,
+    done: &Block,
     bytes: &'a [u8],
 ) -> Result<(Form, &'a [u8]), SyntaxErr>
-    ensures { MatchResult result (λ p. stmt_at table.now param.now bytes.now ≡ Some (p.0, p.1.now)) (λ e. Refuses (stmt_at table.now param.now bytes.now) e) }
+    ensures { MatchResult result (λ p. stmt_at table.now param.now done.now bytes.now ≡ Some (p.0, p.1.now)) (λ e. Refuses (stmt_at table.now param.now done.now bytes.now) e) }
 {
-    match keyword(bytes, "write") {
-        Some(rest) => read_write(alloc, table, param, rest),
-        None => read_return(alloc, param, bytes),
+    let (word, rest) = word(bytes);
+    if word == "read" {
+        read_read(alloc, table, rest)
+    } else if word == "write" {
+        read_write(alloc, table, param, done, rest)
+    } else if word == "return" {
+        read_return(alloc, param, done, rest)
+    } else {
+        Err(SyntaxErr::Refused)
     }
 }
 
@@ -190,12 +239,12 @@ fn read_block<'a>(
     param: &str,
     bytes: &'a [u8],
 ) -> Result<(Block, &'a [u8]), SyntaxErr>
-    ensures { MatchResult result (λ p. block_at (length bytes.now) table.now param.now bytes.now ≡ Some (p.0, p.1.now)) (λ e. Refuses (block_at (length bytes.now) table.now param.now bytes.now) e) }
+    ensures { MatchResult result (λ p. block_at (length bytes.now) table.now param.now [] bytes.now ≡ Some (p.0, p.1.now)) (λ e. Refuses (block_at (length bytes.now) table.now param.now [] bytes.now) e) }
 {
     let mut block = Block::new(alloc);
     let mut rest = bytes;
     for _turn in 0..bytes.len() {
-        let (form, after) = match read_stmt(alloc, table, param, rest) {
+        let (form, after) = match read_stmt(alloc, table, param, &block, rest) {
             Ok(stmt) => stmt,
             Err(why) => return Err(why),
         };
@@ -261,7 +310,8 @@ fn one_function(
 }
 
 /// Reads a deployment, and finds the script that follows it. The text is `Refused` exactly where it is not of the form.
-/// The time it takes grows with the length of the deployment; what follows the line of `script` is not read.
+/// The time it takes grows with the length of the deployment, and a name in an expression is looked for among the
+/// statements before it. What follows the line of `script` is not read.
 pub fn read_deployment(alloc: Global, bytes: &[u8]) -> Result<Parsed, SyntaxErr>
     ensures { Reads (parsed_at bytes.now) result }
 {

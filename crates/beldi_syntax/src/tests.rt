@@ -33,6 +33,19 @@ fn told(alloc: Global, text: &str) -> Result<String, AllocError> {
 
 fn tell(alloc: Global, out: &mut String, form: &Form) -> Result<(), AllocError> {
     match form {
+        Form::Read { name, table, key } => {
+            for word in [
+                " read ",
+                name.as_str(),
+                " ",
+                table.as_str(),
+                " ",
+                key.as_str(),
+            ] {
+                out.push_str(word)?;
+            }
+            Ok(())
+        }
         Form::Write { table, key, value } => {
             out.push_str(" write ")?;
             out.push_str(table.as_str())?;
@@ -85,6 +98,34 @@ fn reads_whole_texts(rt: HostRuntime) -> Result<(), Fail> {
             "refused",
         ),
         ("life 1;function f(x){table t;return y;}script", "refused"),
+        (
+            "life 1;function f(x){table t;read v=t[\"a\"];write t[\"b\"]=v;read x=t[\"\"];write t[\"b\"]=x;return v;}script",
+            "1 65536 f x t read v t a write t b v read x t  write t b x return v at 102",
+        ),
+        (
+            "life 1;function f(x){table t;write t[\"b\"]=v;read v=t[\"a\"];return v;}script",
+            "refused",
+        ),
+        (
+            "life 1;function f(x){table t;read v=t[\"a\"];return w;}script",
+            "refused",
+        ),
+        (
+            "life 1;function f(x){table t;read v=u[\"a\"];return x;}script",
+            "refused",
+        ),
+        (
+            "life 1;function f(x){table t;read read=t[\"a\"];return x;}script",
+            "refused",
+        ),
+        (
+            "life 1;function f(x){table t;read v=x;return x;}script",
+            "refused",
+        ),
+        (
+            "life 1;function f(x){table t;read v=t[\"a\"];}script",
+            "refused",
+        ),
         ("life 1;function f(x){table t;return x}script", "refused"),
         ("life 1;function f(x){table t;return x;}script x", "refused"),
         (

@@ -2,7 +2,7 @@
 use Rattle.std.proofs.Common.{◌≡◌, ℕ, ◌<◌, Bool, false, not, ◌&&◌, Option, None, Some, Result, Ok, Err, ap, sym, ◌∙◌, is_some, IsTrue}
 use Rattle.std.specs.FinMap as map
 use Rattle.beldi_row.specs.KeyOrder.{key_total, key_exact}
-use Rattle.beldi_row.specs.Act.{on, off, act, said_by, kept, Changes}
+use Rattle.beldi_row.specs.Act.{on, off, act, said_by, stays, Changes}
 use Rattle.beldi_row.specs.Table.{Rows, adds, set_row}
 use Rattle.beldi_table.specs.MapTable.{ChangedOn}
 use Rattle.beldi_row.specs.declared.key.RowKey.{RowKey}
@@ -19,7 +19,7 @@ not_both b h e = cc
 -- the row is there, and was changed
 pub there : (a : Act) (now : ℕ) (k : RowKey) (room : ℕ) (m n : Rows) (r s : Row) (c : Change) → map.get m k ≡ Some r → n ≡ map.insert m k s → (s, said_by c (Some s)) ≡ on a now r → ChangedOn a now k room m n (Ok c)
 there a now k room m n r s c here is done =
-    let acted : (Some s, said_by c (Some s)) ≡ act a now (map.get m k) = ap kept done ∙ ap (act a now) (sym here) in (
+    let acted : (Some s, said_by c (Some s)) ≡ act a now (map.get m k) = ap stays done ∙ ap (act a now) (sym here) in (
       is ∙ ap (λ p. set_row m k p.0) acted,
       ap (λ p. said_by c (map.get p k)) is ∙ ap (said_by c) (get_set key_total key_exact m k s) ∙ ap (λ p. p.1) acted,
       λ h. absurd (not_both (adds a now k m) h (ap (λ p. not (is_some p) && is_some (off a now).0) here)),

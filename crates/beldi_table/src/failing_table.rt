@@ -77,6 +77,10 @@ impl Table for FailingTable {
 
     ghost room = { λ t. t.table.room };
 
+    fn len(&self) -> u32 {
+        self.table.len()
+    }
+
     fn ready(&mut self, rooms: &[u32]) -> Result<(), TableErr> {
         self.table.ready(rooms)
     }

@@ -82,6 +82,10 @@ impl Table for MapTable {
 
     ghost room = { λ t. t.room };
 
+    fn len(&self) -> u32 {
+        counted(self.rows.len())
+    }
+
     fn ready(&mut self, rooms: &[u32]) -> Result<(), TableErr> {
         self.room = room_in(rooms);
         Ok(())

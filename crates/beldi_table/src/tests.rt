@@ -10,6 +10,7 @@ enum Step {
     Issue,
     Bind(u16, i64),
     End(i64, bool),
+    Put(i64),
     Make(i64),
     Write(u32, i64),
 }
@@ -25,6 +26,9 @@ fn act(alloc: Global, step: Step) -> Act {
         Step::End(outcome, stamp) => Act::End {
             outcome: Outcome::Value(Value::Int(outcome)),
             stamp,
+        },
+        Step::Put(value) => Act::PutRead {
+            value: Value::Int(value),
         },
         Step::Make(value) => Act::MakeCell {
             value: Value::Int(value),
@@ -81,6 +85,7 @@ fn word(said: Result<Said<'_>, TableErr>) -> (&'static str, i64, u64) {
             let (outcome, finish) = ending(intent);
             ("intent", outcome, finish)
         }
+        Ok(Said::Row(Row::ReadLog(value))) => ("given", number(value), 0),
         Ok(Said::Row(Row::Cell(cell))) => ("cell", number(&cell.value), 0),
         Ok(Said::Added) => ("added", 0, 0),
         Ok(Said::Present) => ("present", 0, 0),
@@ -91,6 +96,7 @@ fn word(said: Result<Said<'_>, TableErr>) -> (&'static str, i64, u64) {
         Ok(Said::Running) => ("running", 0, 0),
         Ok(Said::Already) => ("already", 0, 0),
         Ok(Said::Did) => ("did", 0, 0),
+        Ok(Said::Kept(value)) => ("kept", number(value), 0),
         Ok(Said::NoRow) => ("no row", 0, 0),
         Ok(Said::Noted(_)) => ("noted", 0, 0),
         Ok(_) => ("something else", 0, 0),
@@ -121,6 +127,7 @@ fn acts_say_what_they_did(rt: HostRuntime) -> Result<(), Fail> {
         (Step::Issue, 2, ("added", 0, 0)),
         (Step::Issue, 3, ("present", 0, 0)),
         (Step::Make(4), 3, ("present", 0, 0)),
+        (Step::Put(4), 3, ("no row", 0, 0)),
         (Step::Write(0, 6), 3, ("no row", 0, 0)),
         (Step::Bind(1, 7), 4, ("bound", 0, 0)),
         (Step::Bind(1, 7), 5, ("running", 0, 0)),
@@ -160,6 +167,23 @@ fn acts_say_what_they_did(rt: HostRuntime) -> Result<(), Fail> {
         says(&mut table, root(alloc, 2), Act::Issue, 9),
         ("full", 2, 0)
     );
+    Ok(())
+}
+
+#[test]
+fn reads_are_kept_once(rt: HostRuntime) -> Result<(), Fail> {
+    let alloc = rt.alloc();
+    let mut table = MapTable::new(alloc);
+    table.ready([1].as_slice())?;
+    for (step, want) in [
+        (Step::Look, ("absent", 0, 0)),
+        (Step::Put(4), ("added", 0, 0)),
+        (Step::Put(5), ("kept", 4, 0)),
+        (Step::Look, ("given", 4, 0)),
+    ] {
+        let key = nth_key(alloc, 1, 1, 1, 0)?;
+        assert_eq!(rt; says(&mut table, key, act(alloc, step), 9), want);
+    }
     Ok(())
 }
 

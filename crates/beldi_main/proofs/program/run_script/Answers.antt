@@ -9,20 +9,18 @@ returns-in-Ok-finish-clause-done g c =
     let t = g.T.Table in
     let k = g.K.Sink in
     let old = c.args.host.now in
-    let mid = c.do_lines.new.host in
-    let new = c.finish.new.host in
-    script_ended old.code (t.room old.table) (lines_of c.args.script.now) (core_of old) (core_of mid) (t.faults old.table) (t.faults mid.table) (t.faults new.table) c.do_lines.new.waiting mid.code c.new-waiting.result c.in-Ok.whole (Ok tt)
-    (t.rows old.table) (t.rows mid.table) (t.rows new.table) (k.held c.args.sink.now) (k.held c.do_lines.new.sink) (k.held c.finish.new.sink) c.finish.ensures.kept.table_later c.do_lines.ensures.kept.code c.new-waiting.ensures c.in-Ok.ensures.done c.in-Ok-finish.ensures.done
+    let new = c.do_lines.new.host in
+    script_ended old.code (t.room old.table) (lines_of c.args.script.now) (core_of old) (core_of new) (t.faults old.table) (t.faults new.table) c.do_lines.new.waiting c.new-waiting.result c.in-Ok.whole (Ok tt)
+    (t.rows old.table) (t.rows new.table) (k.held c.args.sink.now) (k.held c.do_lines.new.sink) (k.held c.finish.new.sink) c.new-waiting.ensures c.in-Ok.ensures.done c.in-Ok-finish.ensures.done
 
 pub returns-in-Ok-clause-done : goal.returns-in-Ok-clause-done
 returns-in-Ok-clause-done g c =
     let t = g.T.Table in
     let k = g.K.Sink in
     let old = c.args.host.now in
-    let mid = c.do_lines.new.host in
-    let new = c.finish.new.host in
-    script_ended old.code (t.room old.table) (lines_of c.args.script.now) (core_of old) (core_of mid) (t.faults old.table) (t.faults mid.table) (t.faults new.table) c.do_lines.new.waiting mid.code c.new-waiting.result c.in-Ok.whole (Err c.in-Err-finish.stop)
-    (t.rows old.table) (t.rows mid.table) (t.rows new.table) (k.held c.args.sink.now) (k.held c.do_lines.new.sink) (k.held c.finish.new.sink) c.finish.ensures.kept.table_later c.do_lines.ensures.kept.code c.new-waiting.ensures c.in-Ok.ensures.done c.in-Err-finish.ensures.done
+    let new = c.do_lines.new.host in
+    script_ended old.code (t.room old.table) (lines_of c.args.script.now) (core_of old) (core_of new) (t.faults old.table) (t.faults new.table) c.do_lines.new.waiting c.new-waiting.result c.in-Ok.whole (Err c.in-Err-finish.stop)
+    (t.rows old.table) (t.rows new.table) (k.held c.args.sink.now) (k.held c.do_lines.new.sink) (k.held c.finish.new.sink) c.new-waiting.ensures c.in-Ok.ensures.done c.in-Err-finish.ensures.done
 
 pub returns-clause-done : goal.returns-clause-done
 returns-clause-done g c =
@@ -30,5 +28,5 @@ returns-clause-done g c =
     let k = g.K.Sink in
     let old = c.args.host.now in
     let new = c.do_lines.new.host in
-    script_cut old.code (t.room old.table) (lines_of c.args.script.now) (core_of old) (core_of new) (t.faults old.table) (t.faults new.table) (t.faults new.table) c.do_lines.new.waiting c.new-waiting.result c.in-Err.stop
+    script_cut old.code (t.room old.table) (lines_of c.args.script.now) (core_of old) (core_of new) (t.faults old.table) (t.faults new.table) c.do_lines.new.waiting c.new-waiting.result c.in-Err.stop
     (t.rows old.table) (t.rows new.table) (k.held c.args.sink.now) (k.held c.do_lines.new.sink) c.new-waiting.ensures c.in-Err.ensures.done

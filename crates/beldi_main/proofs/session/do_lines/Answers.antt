@@ -1,8 +1,10 @@
-use Rattle.std.proofs.Common.{rules, ◌≡◌, ◌∙◌, [], ap, length, sym, eqb-true}
+use Rattle.std.proofs.Common.{rules, ◌≡◌, ◌∙◌, Bool, [], Result, ap, length, subst, sym, eqb-true}
 use Rattle.std.proofs.lemmas.List.{nil_from_length}
 use Rattle.beldi_core.specs.Host.{core_of}
 use Rattle.beldi_script.specs.Cut.{lines_of}
-use Rattle.beldi_main.proofs.Sights.{Sight, kept_fine, kept_then, line_goes_on, line_refused, line_stops, lines_begun, lines_done}
+use Rattle.beldi_main.specs.declared.session.Stop.{Stop}
+use Rattle.beldi_main.specs.Session.{LinesOn}
+use Rattle.beldi_main.proofs.Sights.{Sight, Between, kept_fine, kept_then, line_goes_on, line_refused, line_stops, lines_begun, lines_done}
 use Rattle.beldi_main.proofs.session.do_lines.Goals as goal
 
 pub loop-rest-init : goal.loop-rest-init
@@ -75,8 +77,12 @@ returns-clause-done g c =
     let k = g.K.Sink in
     let old = c.args.host.now in
     let now = c.loop-rest.host in
+    let new = c.do_listings.new.host in
     let i = c.loop-rest.invariant in
+    let lines = lines_of c.args.script.now in
     let a : Sight = record { core = core_of old; faults = t.faults old.table; waiting = c.args.waiting.now; rows = t.rows old.table; held = k.held c.args.sink.now } in
     let b : Sight = record { core = core_of now; faults = t.faults now.table; waiting = c.loop-rest.waiting; rows = t.rows now.table; held = k.held c.loop-rest.sink } in
+    let e : Sight = record { core = core_of new; faults = t.faults new.table; waiting = c.do_listings.new.waiting; rows = t.rows new.table; held = k.held c.do_listings.new.sink } in
     let none : c.loop-rest.rest.now ≡ [] = nil_from_length c.loop-rest.rest.now (eqb-true (length c.loop-rest.rest.now) 0 (sym c.is_empty.ensures ∙ c.loop-rest-test.false)) in
-    lines_done old.code (t.room old.table) (lines_of c.args.script.now) (lines_of c.loop-rest.rest.now) a b (ap lines_of none) i.done
+    subst (λ (x : Result Bool Stop). Between (λ y q s t r. LinesOn y q lines s t r) old.code (t.room old.table) a e x) (sym c.carried.ensures)
+    (lines_done old.code now.code (t.room old.table) (t.room now.table) lines (lines_of c.loop-rest.rest.now) a b e i.kept.code i.kept.room (ap lines_of none) i.done c.do_listings.result c.do_listings.ensures.done)

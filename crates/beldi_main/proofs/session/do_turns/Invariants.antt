@@ -1,6 +1,7 @@
 use Rattle.beldi_core.specs.Host.{core_of}
 use Rattle.beldi_step.specs.declared.event.Event.TheVariants as events
 use Rattle.std.proofs.Common.{Result, Ok}
+use Rattle.beldi_main.specs.declared.deed.Deed.TheVariants as deeds
 use Rattle.beldi_main.specs.declared.session.Stop.{Stop}
 use Rattle.beldi_main.specs.Session.{Carried, Carrying, Kept, times}
 use Rattle.beldi_main.proofs.session.do_turns.Given as goal
@@ -13,6 +14,6 @@ invariant-loop-turn g l =
     let new = l.host in
     let fine : Result (Unit {0}) Stop = Ok tt in
     record {
-      done : Carried (Carrying (times l.turn (events.Turn l.run))) old.code (t.room old.table) (core_of old) (core_of new) (t.faults old.table) (t.faults new.table) l.fn.waiting l.waiting (t.rows old.table) (t.rows new.table) (k.held l.fn.sink) (k.held l.sink) fine;
+      done : Carried (Carrying (times l.turn (deeds.Event (events.Turn l.run)))) old.code (t.room old.table) (core_of old) (core_of new) (t.faults old.table) (t.faults new.table) l.fn.waiting l.waiting (t.rows old.table) (t.rows new.table) (k.held l.fn.sink) (k.held l.sink) fine;
       kept : Kept old.code new.code (t.room old.table) (t.room new.table) (t.faults old.table) (t.faults new.table) (k.faults l.fn.sink) (k.faults l.sink) fine;
     }

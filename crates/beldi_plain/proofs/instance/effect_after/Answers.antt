@@ -1,4 +1,4 @@
-use Rattle.std.proofs.Common.{rules, arith, ◌≡◌, ◌+◌, ◌++◌, ◌∷◌, [], List, take, sym, ◌∙◌, ap, subst, false, ℕ, Some}
+use Rattle.std.proofs.Common.{rules, arith, ◌≡◌, ◌+◌, ◌++◌, ◌∷◌, [], List, take, sym, ◌∙◌, ap, subst, false, true, ℕ, Some}
 use Rattle.std.proofs.lemmas.Grind.{common_steps}
 use Rattle.std.proofs.lemmas.List.{take_all}
 use Rattle.std.specs.Result.{IfOk}
@@ -24,12 +24,13 @@ returns-then-not-is_answered c =
 
 pub loop-answer-preserved : goal.loop-answer-preserved
 loop-answer-preserved c =
-    let next : take (c.loop-answer.answer-index + 1) c.args.answers.now ≡ take c.loop-answer.answer-index c.args.answers.now ++ c.copy_answer.result ∷ [] = grind (arith, common_steps) in
+    let next : take (c.loop-answer.answer-index + 1) c.args.answers.now ≡ take c.loop-answer.answer-index c.args.answers.now ++ c.in_ok-copy_answer.field-0 ∷ [] = grind (arith, common_steps) in
     let h = c.loop-answer.invariant in
     let before = take c.loop-answer.answer-index c.args.answers.now in
     let at = subst (λ (f : ℕ). IsAt c.args.code.now f c.args.args.now c.loop-answer.machine before) (sym h.this_func) h in
     let is : func_at c.args.code.now c.loop-answer.machine.func ≡ Some c.in-Some.body.now = ap (func_at c.args.code.now) h.this_func ∙ search rules in
-    let on = c.in_ok-machine-2.ensures.stands c.args.code.now c.args.args.now before is at in
+    let takes : wants_answer c.loop-answer.machine.effect ≡ true = search rules in
+    let on = c.in_ok-machine-2.ensures.stands c.args.code.now c.args.args.now before takes is at in
     subst (λ (f : ℕ). IsAt c.args.code.now f c.args.args.now c.in_ok-machine-2.machine (take (c.loop-answer.answer-index + 1) c.args.answers.now)) h.this_func
     (subst (λ (l : List Answer). IsAt c.args.code.now c.loop-answer.machine.func c.args.args.now c.in_ok-machine-2.machine l) (sym next) on)
 

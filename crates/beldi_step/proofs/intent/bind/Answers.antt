@@ -4,7 +4,8 @@ use Rattle.beldi_row.specs.Act.{tell_of}
 use Rattle.beldi_row.specs.declared.act.Act.TheVariants.{Bind}
 use Rattle.beldi_step.specs.Intent.{binding_of, is_lent}
 use Rattle.beldi_step.specs.Run.{intent_key}
-use Rattle.beldi_step.proofs.Asked.{lost, lent}
+use Rattle.beldi_row.proofs.Asked.{lost}
+use Rattle.beldi_step.proofs.Lent.{lent}
 use Rattle.beldi_step.proofs.intent.bind.Goals as goal
 
 pub returns-in-Err : goal.returns-in-Err

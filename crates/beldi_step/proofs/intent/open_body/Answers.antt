@@ -2,7 +2,8 @@ use Rattle.std.proofs.Common.{rules}
 use Rattle.beldi_row.specs.declared.act.Act.TheVariants.{Look}
 use Rattle.beldi_step.specs.Intent.{open_args}
 use Rattle.beldi_step.specs.Run.{intent_key}
-use Rattle.beldi_step.proofs.Asked.{lost, looked}
+use Rattle.beldi_row.proofs.Asked.{lost}
+use Rattle.beldi_row.proofs.Unchanged.{looked}
 use Rattle.beldi_step.proofs.intent.open_body.Goals as goal
 
 pub returns-in-Err : goal.returns-in-Err

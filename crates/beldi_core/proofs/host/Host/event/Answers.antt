@@ -1,5 +1,5 @@
 use Rattle.std.proofs.Common.{rules}
-use Rattle.beldi_core.proofs.Right.{legal_at, stands_at, event_keeps}
+use Rattle.beldi_core.proofs.Right.{legal_at, stands_at, one_answer_at, event_keeps, event_stays}
 use Rattle.beldi_core.proofs.host.Host.event.Goals as goal
 
 pub returns-clause-right : goal.returns-clause-right
@@ -10,3 +10,9 @@ returns-clause-legal g c = search (rules, legal_at, event_keeps)
 
 pub returns-clause-stands : goal.returns-clause-stands
 returns-clause-stands g c = search (rules, stands_at, event_keeps)
+
+pub returns-clause-one_answer : goal.returns-clause-one_answer
+returns-clause-one_answer g c = search (rules, one_answer_at, event_keeps)
+
+pub returns-clause-answers_stay : goal.returns-clause-answers_stay
+returns-clause-answers_stay g c = search (rules, event_stays)

@@ -1,5 +1,5 @@
 use Rattle.std.proofs.Common.{rules}
-use Rattle.beldi_core.proofs.Right.{legal_at, stands_at, opened}
+use Rattle.beldi_core.proofs.Right.{legal_at, stands_at, one_answer_at, opened}
 use Rattle.beldi_core.proofs.host.Host.open.Goals as goal
 
 pub returns-in-Ok-clause-right : goal.returns-in-Ok-clause-right
@@ -12,3 +12,6 @@ returns-in-Ok-clause-legal g c = λ r. legal_at c.args.code _ (g.T.Table.rows c.
 
 pub returns-in-Ok-clause-stands : goal.returns-in-Ok-clause-stands
 returns-in-Ok-clause-stands g c = λ r. stands_at c.args.code _ (g.T.Table.rows c.prepare.new.table) (returns-in-Ok-clause-right g c r)
+
+pub returns-in-Ok-clause-one_answer : goal.returns-in-Ok-clause-one_answer
+returns-in-Ok-clause-one_answer g c = λ r. one_answer_at c.args.code _ (g.T.Table.rows c.prepare.new.table) (returns-in-Ok-clause-right g c r)

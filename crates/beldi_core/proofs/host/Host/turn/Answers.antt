@@ -1,9 +1,10 @@
-use Rattle.std.proofs.Common.{rules, ◌++◌, Ok, sym, ap, ◌∙◌, subst}
-use Rattle.std.specs.Prelude.{option_to_list}
+use Rattle.std.proofs.Common.{rules, Ok, Err, sym, ap, ◌∙◌, subst}
 use Rattle.std.specs.FinMap as map
-use Rattle.beldi_core.specs.Host.{core_of}
+use Rattle.beldi_book.specs.Order.{count_changes}
+use Rattle.beldi_step.specs.declared.turn.TurnErr.TheVariants.{Lost}
+use Rattle.beldi_core.specs.Host.{core_of, with_runs, written}
 use Rattle.beldi_core.specs.Runs.{Led}
-use Rattle.beldi_core.proofs.Turns.{idle, acted, lost, no_live}
+use Rattle.beldi_core.proofs.Turns.{idle, acted, lost, led_so, no_live}
 use Rattle.beldi_core.proofs.host.Host.turn.Goals as goal
 
 pub returns-then-not-is_live-clause-carried : goal.returns-then-not-is_live-clause-carried
@@ -16,17 +17,25 @@ pub returns-in-Ok-clause-carried : goal.returns-in-Ok-clause-carried
 returns-in-Ok-clause-carried g c =
     let t = g.T.Table in
     let h = c.args.self.now in
-    let k = c.acted.new.self in
-    acted h.code (core_of h) (core_of k) c.turn.new.self.runs c.args.run (t.room h.table) (t.room k.table) (t.faults h.table) (t.faults k.table) (t.rows h.table) (t.rows k.table) c.in-Ok.says
-    (record (core_of h) { runs = c.turn.new.self.runs; last_run = c.turn.new.self.given; book = c.reserve.new.self.entries }) c.acted.result
-    (λ j. record (core_of h) { runs = c.turn.new.self.runs; last_run = c.turn.ensures.given j; book = c.reserve.ensures.entries j })
-    (subst (λ (q : g.row.T.Denot). Led h.code h.runs.runs c.turn.new.self.runs c.args.run h.now (t.room h.table) (t.room q) (t.faults h.table) (t.faults q) (t.rows h.table) (t.rows q) (Ok c.in-Ok.says)) (sym c.acted.ensures.table) c.in-Ok.ensures.led)
+    let r = c.reserve.new.self in
+    let k = c.lead.new.self in
+    let b = c.acted.new.self in
+    let led : Led h.code (count_changes h.book.entries) h.runs.runs k.runs.runs c.args.run h.now (t.room h.table) (t.room k.table) (t.faults h.table) (t.faults k.table) (t.rows h.table) (t.rows k.table) (Ok c.in-Ok.says) =
+    subst (λ (q : g.row.T.Denot). Led h.code (count_changes h.book.entries) h.runs.runs k.runs.runs c.args.run h.now (t.room q) (t.room k.table) (t.faults q) (t.faults k.table) (t.rows q) (t.rows k.table) (Ok c.in-Ok.says)) c.in_ok-reserve.ensures.table
+    (led_so h.code r.code (core_of h) (core_of r) k.runs.runs c.args.run (t.room r.table) (t.room k.table) (t.faults r.table) (t.faults k.table) (t.rows r.table) (t.rows k.table) (Ok c.in-Ok.says) c.in_ok-reserve.ensures.code c.in_ok-reserve.ensures.ok (c.in-Ok.ensures.led)) in
+    acted h.code (core_of h) (core_of b) k.runs.runs c.args.run (t.room h.table) (t.room b.table) (t.faults h.table) (t.faults b.table) (t.rows h.table) (t.rows b.table) c.in-Ok.says (core_of k) c.acted.result
+    (c.lead.ensures.core ∙ ap (λ q. with_runs q k.runs.runs) c.in_ok-reserve.ensures.ok)
+    (subst (λ (q : g.row.T.Denot). Led h.code (count_changes h.book.entries) h.runs.runs k.runs.runs c.args.run h.now (t.room h.table) (t.room q) (t.faults h.table) (t.faults q) (t.rows h.table) (t.rows q) (Ok c.in-Ok.says)) (sym c.acted.ensures.table) led)
     c.acted.ensures.said c.acted.ensures.ok c.acted.ensures.err
 
 pub returns-in-Err-Lost-clause-carried : goal.returns-in-Err-Lost-clause-carried
 returns-in-Err-Lost-clause-carried g c =
     let t = g.T.Table in
     let h = c.args.self.now in
-    let k = c.turn.new.table in
-    lost h.code (core_of h) _ c.turn.new.self.runs c.args.run (t.room h.table) (t.room k) (t.faults h.table) (t.faults k) (t.rows h.table) (t.rows k) c.in-Err-Lost.entry _ (rw c.in-Err-Lost.field-0-is at c.in-Err-Lost.ensures.led)
-    (λ j. record (core_of h) { runs = c.turn.new.self.runs; last_run = c.turn.ensures.given j; book = (c.write.ensures ∙ ap (λ b. b ++ option_to_list c.in-Err-Lost.entry) c.reserve.ensures.entries) j })
+    let r = c.reserve.new.self in
+    let k = c.lead.new.self in
+    let led : Led h.code (count_changes h.book.entries) h.runs.runs k.runs.runs c.args.run h.now (t.room h.table) (t.room k.table) (t.faults h.table) (t.faults k.table) (t.rows h.table) (t.rows k.table) (Err (Lost c.in-Err-Lost.entry)) =
+    subst (λ (q : g.row.T.Denot). Led h.code (count_changes h.book.entries) h.runs.runs k.runs.runs c.args.run h.now (t.room q) (t.room k.table) (t.faults q) (t.faults k.table) (t.rows q) (t.rows k.table) (Err (Lost c.in-Err-Lost.entry))) c.in_ok-reserve.ensures.table
+    (led_so h.code r.code (core_of h) (core_of r) k.runs.runs c.args.run (t.room r.table) (t.room k.table) (t.faults r.table) (t.faults k.table) (t.rows r.table) (t.rows k.table) (Err (Lost c.in-Err-Lost.entry)) c.in_ok-reserve.ensures.code c.in_ok-reserve.ensures.ok (rw c.in-Err-Lost.field-0-is at c.in-Err-Lost.ensures.led)) in
+    lost h.code (core_of h) _ k.runs.runs c.args.run (t.room h.table) (t.room k.table) (t.faults h.table) (t.faults k.table) (t.rows h.table) (t.rows k.table) c.in-Err-Lost.entry _ led
+    ((λ j. record (core_of k) { book = c.write.ensures j }) ∙ ap (λ q. written q c.in-Err-Lost.entry) (c.lead.ensures.core ∙ ap (λ q. with_runs q k.runs.runs) c.in_ok-reserve.ensures.ok))

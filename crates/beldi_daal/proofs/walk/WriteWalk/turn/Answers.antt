@@ -1,10 +1,18 @@
-use Rattle.beldi_daal.proofs.Turn.{turned}
+use Rattle.beldi_daal.proofs.Turn.{turned, lost}
 use Rattle.beldi_daal.proofs.walk.WriteWalk.turn.Goals as goal
 
-pub returns : goal.returns
-returns g c =
+pub returns-in-Ok : goal.returns-in-Ok
+returns-in-Ok g c =
     let t = g.T.Table in
     let old = c.args.table.now in
     let new = c.act-2.follows.lender-at-none in
-    turned c.args.self.now c.told.new.self c.told.result c.args.now (t.room old) (t.room new) (t.faults old) (t.faults new) (t.rows old) (t.rows new) c.in_ok-act.act c.in_ok-key.key c.act-2.result c.in_ok-said.said c.in_ok-said.was
-    c.in_ok-act.ensures.ok c.in_ok-key.ensures.ok c.told.ensures c.act-2.follows.holds-at-none
+    turned c.args.self.now c.told.new.self c.args.now (t.room old) (t.room new) (t.faults old) (t.faults new) (t.rows old) (t.rows new) c.in_ok-said.said c.in_ok-act.act c.in_ok-key.key c.act-2.result c.in_ok-said.was
+    c.in_ok-act.ensures.ok c.in_ok-key.ensures.ok c.act-2.follows.holds-at-none c.in-Ok.says c.in-Ok.ensures.ok
+
+pub returns-in-Err : goal.returns-in-Err
+returns-in-Err g c =
+    let t = g.T.Table in
+    let old = c.args.table.now in
+    let new = c.act-2.follows.lender-at-none in
+    lost c.args.self.now c.told.new.self c.args.now (t.room old) (t.room new) (t.faults old) (t.faults new) (t.rows old) (t.rows new) c.in_ok-said.said c.in_ok-act.act c.in_ok-key.key c.act-2.result c.in_ok-said.was
+    c.in_ok-act.ensures.ok c.in_ok-key.ensures.ok c.act-2.follows.holds-at-none c.in-Err.ensures.err.0 c.in-Err.ensures.err.1

@@ -1,14 +1,13 @@
-use Rattle.std.proofs.Common.{rules, arith}
-use Rattle.beldi_plain.proofs.Runs.{goes_on, stops, within}
+use Rattle.std.proofs.Common.{rules, ◌≡◌, Result, Err, subst, sym}
+use Rattle.beldi_book.specs.Order.{linear}
+use Rattle.beldi_plain.specs.Answers.{Ran}
+use Rattle.beldi_plain.specs.declared.plain.PlainErr.{PlainErr}
+use Rattle.beldi_plain.specs.declared.plain.PlainErr.TheVariants.{OutOfMemory}
+use Rattle.beldi_plain.proofs.Runs.{none_done}
 use Rattle.beldi_plain.proofs.plain.Plain.run.Goals as goal
 
-pub returns-in-Err : goal.returns-in-Err
-returns-in-Err c =
-    stops c.args.code.now c.args.self.now c.loop-at.self c.carry_out.new.self c.args.book.now.entries c.loop-at.at c.in-Some.entry.now c.in-Err.why (search rules) c.loop-at.invariant c.in-Err.ensures
-
-pub unreachable-requires : goal.unreachable-requires
-unreachable-requires c = within c.args.book.now.entries c.loop-at.at (omega arith) (search rules)
-
-pub loop-at-preserved : goal.loop-at-preserved
-loop-at-preserved c =
-    goes_on c.args.code.now c.args.self.now c.loop-at.self c.carry_out.new.self c.args.book.now.entries c.loop-at.at c.in-Some.entry.now c.in-Ok.field-0 (search rules) c.loop-at.invariant c.in-Ok.ensures
+pub returns-in_err-order : goal.returns-in_err-order
+returns-in_err-order c =
+    let es = linear c.args.book.now.entries in
+    let same : c.from_residual.result ≡ Err OutOfMemory = search rules in
+    subst (λ (r : Result (Unit {0}) PlainErr). Ran c.args.code.now es c.args.self.now c.args.self.now r) (sym same) (none_done c.args.code.now c.args.self.now es)

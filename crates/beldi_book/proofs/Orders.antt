@@ -1,0 +1,95 @@
+-- The changes of a book, and the places of its reads.
+use Rattle.std.proofs.Common.{◌≡◌, ℕ, zero, suc, ◌+◌, ◌≤◌, Bool, true, false, List, [], ◌∷◌, ◌++◌, length, take, drop, Option, Some, None, is_none, refl, ap, sym, ◌∙◌, arith, length-append}
+use mir.Val.{bool_byte}
+use Rattle.std.specs.List.{insert}
+use Rattle.std.proofs.Math.Seq.{take-append_seam, drop-append_seam}
+use Rattle.beldi_book.specs.declared.entry.Entry.{Entry}
+use Rattle.beldi_book.specs.Order.{seen_of, if_change, changes_of, count_changes, until_change, by_change, front, back, put_by, put_read, put_reads, linear}
+
+few_by : (o : Option ℕ) (e : Entry) (es : List Entry) (n : ℕ) → length es ≤ n → length (if_change o e es) ≤ n + 1
+few_by None e es n h = omega arith
+few_by (Some s) e es n h = omega arith
+
+-- there are at most as many changes as entries
+pub few : (es : List Entry) → count_changes es ≤ length es
+few [] = omega arith
+few (e ∷ es) = let h = few_by (seen_of e) e (changes_of es) (length es) (few es) in omega arith
+
+if_change_more : (o : Option ℕ) (e : Entry) (xs ys : List Entry) → if_change o e (xs ++ ys) ≡ if_change o e xs ++ ys
+if_change_more None e xs ys = refl
+if_change_more (Some s) e xs ys = refl
+
+pub changes_more : (es fs : List Entry) → changes_of (es ++ fs) ≡ changes_of es ++ changes_of fs
+changes_more [] fs = refl
+changes_more (e ∷ es) fs = ap (if_change (seen_of e) e) (changes_more es fs) ∙ if_change_more (seen_of e) e (changes_of es) (changes_of fs)
+
+counted_by : (o : Option ℕ) (e : Entry) (b : Bool) → b ≡ is_none o → length (if_change o e []) ≡ bool_byte b
+counted_by None e b h = ap bool_byte (sym h)
+counted_by (Some s) e b h = ap bool_byte (sym h)
+
+-- an entry more at the end
+pub counted : (es : List Entry) (e : Entry) (b : Bool) → b ≡ is_none (seen_of e) → count_changes (es ++ e ∷ []) ≡ count_changes es + bool_byte b
+counted es e b h = ap length (changes_more es (e ∷ [])) ∙ length-append (changes_of es) (changes_of (e ∷ [])) ∙ ap (λ n. count_changes es + n) (counted_by (seen_of e) e b h)
+
+here : (o : Option ℕ) (e : Entry) (es : List Entry) (f b : List Entry) → f ++ b ≡ es → until_change o e f ++ by_change o (e ∷ es) b ≡ e ∷ es
+here None e es f b h = refl
+here (Some s) e es f b h = ap (λ xs. e ∷ xs) h
+
+later : (o : Option ℕ) (e : Entry) (es : List Entry) (f b g c : List Entry) → f ++ b ≡ es → g ++ c ≡ es → e ∷ by_change o f g ++ by_change o b c ≡ e ∷ es
+later None e es f b g c h i = ap (λ xs. e ∷ xs) h
+later (Some s) e es f b g c h i = ap (λ xs. e ∷ xs) i
+
+-- the front and the back are all
+pub front_back : (s : ℕ) (es : List Entry) → front s es ++ back s es ≡ es
+front_back s [] = refl
+front_back zero (e ∷ es) = here (seen_of e) e es (front zero es) (back zero es) (front_back zero es)
+front_back (suc s) (e ∷ es) = later (seen_of e) e es (front s es) (back s es) (front (suc s) es) (back (suc s) es) (front_back s es) (front_back (suc s) es)
+
+pub front_taken : (s : ℕ) (es : List Entry) → take (length (front s es)) es ≡ front s es
+front_taken s es = ap (take (length (front s es))) (sym (front_back s es)) ∙ take-append_seam (front s es) (back s es)
+
+pub back_left : (s : ℕ) (es : List Entry) → drop (length (front s es)) es ≡ back s es
+back_left s es = ap (drop (length (front s es))) (sym (front_back s es)) ∙ drop-append_seam (front s es) (back s es)
+
+put_keeps_by : (o : Option ℕ) (e : Entry) (es : List Entry) → seen_of e ≡ o → changes_of (put_by o e es) ≡ changes_of es
+put_keeps_by None e es h = refl
+put_keeps_by (Some s) e es h =
+    changes_more (front s es) (e ∷ back s es)
+    ∙ ap (λ o. changes_of (front s es) ++ if_change o e (changes_of (back s es))) h
+    ∙ sym (changes_more (front s es) (back s es)) ∙ ap changes_of (front_back s es)
+
+-- a read that is put leaves the changes as they are
+pub put_keeps : (e : Entry) (es : List Entry) → changes_of (put_read e es) ≡ changes_of es
+put_keeps e es = put_keeps_by (seen_of e) e es refl
+
+pub puts_keep : (es rs : List Entry) → changes_of (put_reads es rs) ≡ changes_of es
+puts_keep es [] = refl
+puts_keep es (r ∷ rs) = puts_keep (put_read r es) rs ∙ put_keeps r es
+
+twice_by : (o : Option ℕ) (e : Entry) (es : List Entry) → seen_of e ≡ o → changes_of es ≡ es → changes_of (if_change o e es) ≡ if_change o e es
+twice_by None e es h i = ap (λ o. if_change o e (changes_of es)) h ∙ ap (λ xs. e ∷ xs) i
+twice_by (Some s) e es h i = i
+
+pub changes_twice : (es : List Entry) → changes_of (changes_of es) ≡ changes_of es
+changes_twice [] = refl
+changes_twice (e ∷ es) = twice_by (seen_of e) e (changes_of es) refl (changes_twice es)
+
+-- the linear order has the changes of the book
+pub linear_changes : (es : List Entry) → changes_of (linear es) ≡ changes_of es
+linear_changes es = puts_keep (changes_of es) es ∙ changes_twice es
+
+length_front : (s : ℕ) (es : List Entry) → length (front s es) ≤ length es
+length_front s es = let h = ap length (sym (front_back s es)) ∙ length-append (front s es) (back s es) in omega arith
+
+pub within : (s : ℕ) (es : List Entry) (n : ℕ) → n ≡ length (front s es) → n ≤ length es
+within s es n h = let w = length_front s es in omega arith
+
+-- an entry inserted where the front ends is put there
+pub inserted : (e x : Entry) (s : ℕ) (es : List Entry) (n : ℕ) → seen_of e ≡ Some s → x ≡ e → n ≡ length (front s es) → insert es n x ≡ put_read e es
+inserted e x s es n seen same at =
+    ap (λ k. insert es k x) at ∙ ap (λ xs. xs ++ x ∷ drop (length (front s es)) es) (front_taken s es) ∙ ap (λ xs. front s es ++ x ∷ xs) (back_left s es)
+    ∙ ap (λ y. front s es ++ y ∷ back s es) same ∙ ap (λ o. put_by o e es) (sym seen)
+
+pub at_most_one : (b : Bool) (k : ℕ) → k ≡ bool_byte b → k ≤ 1
+at_most_one true k h = omega arith
+at_most_one false k h = omega arith

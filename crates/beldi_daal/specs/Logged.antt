@@ -1,0 +1,60 @@
+-- A chain is a logged cell: a turn of a walk leaves the content of every item as it is, but for its own operation, which has
+-- one effect at its place, however many walks there are for it.
+use Rattle.std.specs.Prelude.{◌≡◌, ℕ, true, false, [], ◌∷◌, ◌++◌, Option, Some, None, Ok}
+use Rattle.std.specs.FinMap as map
+use Rattle.std.specs.Ordering.{is_eq}
+use Rattle.beldi_value.specs.declared.place.Owner.{Owner}
+use Rattle.beldi_value.specs.declared.place.Owner.TheVariants as owner
+use Rattle.beldi_value.specs.declared.place.Place.{Place}
+use Rattle.beldi_row.specs.declared.key.RowKey.{RowKey}
+use Rattle.beldi_row.specs.declared.notes.Note.{Note}
+use Rattle.beldi_row.specs.declared.notes.Note.TheVariants.{Wrote}
+use Rattle.beldi_row.specs.Act.{other_owner}
+use Rattle.beldi_row.specs.Key.{key_cmp}
+use Rattle.beldi_row.specs.Log.{note_at}
+use Rattle.beldi_row.specs.Table.{Rows}
+use Rattle.beldi_daal.specs.declared.walk.CellOp.{CellOp}
+use Rattle.beldi_daal.specs.declared.walk.CellOp.TheVariants.{Write}
+use Rattle.beldi_daal.specs.declared.walk.WriteSays.{WriteSays}
+use Rattle.beldi_daal.specs.declared.walk.WriteSays.TheVariants.{Going, Done, Held}
+use Rattle.beldi_daal.specs.declared.walk.WriteWalk.{WriteWalk}
+use Rattle.beldi_daal.specs.declared.read_walk.ReadWalk.{ReadWalk}
+use Rattle.beldi_daal.specs.declared.read_walk.ReadSays.{ReadSays}
+use Rattle.beldi_daal.specs.declared.read_walk.ReadSays.TheVariants as reading
+use Rattle.beldi_daal.specs.Content.{Content, content_in, SoundAt}
+use Rattle.beldi_daal.specs.ReadWalk.{ReadOn, read_key, in_the_way}
+use Rattle.beldi_daal.specs.Walk.{TurnedOn, walk_key}
+
+-- ---- the walk of a write
+-- the content after an operation for a place
+abbrev pub done_to : Place → CellOp → Content → Content
+done_to p (Write v) c = record { value = v; owner = c.owner; notes = c.notes ++ (p, Wrote) ∷ [] }
+
+-- what a walk for a place says, by the content before its turn, and after it. `Done` with `first`: the place had no note, and
+-- the operation was done. `Done` without: the place has its note. `Held`: another than the place's intent owns the item.
+abbrev pub Logs : Place → CellOp → WriteSays → Content → Content → Type 0
+Logs p op (Done true) c d = (note_at c.notes p ≡ None) × (other_owner (owner.Intent p.intent) c.owner ≡ None) × (d ≡ done_to p op c)
+Logs p op (Done false) c d = ((n : Note) × (note_at c.notes p ≡ Some n)) × (d ≡ c)
+Logs p op (Held o) c d = (note_at c.notes p ≡ None) × (other_owner (owner.Intent p.intent) c.owner ≡ Some o) × (d ≡ c)
+Logs p op Going c d = d ≡ c
+
+-- a turn of a walk whose item's chain is sound
+pub record LoggedTurn (w : WriteWalk) (m n : Rows) (s : WriteSays) : Type 0 where
+  -- all other rows are as before
+  pub others : (k : RowKey) → is_eq (key_cmp k (walk_key w)) ≡ false → map.get n k ≡ map.get m k
+  pub logs : Logs w.place w.op s (content_in (map.get m (walk_key w))) (content_in (map.get n (walk_key w)))
+  pub sound : SoundAt (map.get n (walk_key w))
+
+abbrev pub WritesAreLogged : Type 0
+WritesAreLogged = (w x : WriteWalk) (now room : ℕ) (m n : Rows) (s : WriteSays) → SoundAt (map.get m (walk_key w)) → TurnedOn w x now room m n (Ok s) → LoggedTurn w m n s
+
+-- ---- the walk of a read
+-- what it says is so of the content: the value, none where the item has no row; or the owner that is in the way
+abbrev pub ReadsContent : Option Owner → ReadSays → Content → Type 0
+ReadsContent who (reading.Got None) c = c ≡ content_in None
+ReadsContent who (reading.Got (Some v)) c = (in_the_way who c.owner ≡ None) × (v ≡ c.value)
+ReadsContent who (reading.Held o) c = in_the_way who c.owner ≡ Some o
+ReadsContent who reading.Going c = ⊥
+
+abbrev pub ReadsAreContents : Type 0
+ReadsAreContents = (w : ReadWalk) (now : ℕ) (m n : Rows) (s : ReadSays) → SoundAt (map.get m (read_key w)) → ReadOn w now m n (Ok s) → (n ≡ m) × ReadsContent w.who s (content_in (map.get m (read_key w)))

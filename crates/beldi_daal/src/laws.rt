@@ -1,0 +1,13 @@
+// The laws of the walks.
+ghost use Rattle.beldi_daal.specs.Logged.{WritesAreLogged, ReadsAreContents};
+
+/// A turn of the walk of a write leaves every item as it is, but for its own operation. `Done` says that the place has its
+/// note, and `first` that this turn made it: so a place has one effect, however many walks there are for it.
+pub fn a_chain_is_a_logged_cell()
+    ensures { WritesAreLogged }
+{}
+
+/// What the walk of a read says is what its item holds: its value, or the owner that is in the way.
+pub fn a_read_gives_the_content()
+    ensures { ReadsAreContents }
+{}

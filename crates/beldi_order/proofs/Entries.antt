@@ -1,0 +1,225 @@
+-- What every entry does, and what it keeps.
+use Rattle.std.proofs.Common.{◌≡◌, ℕ, zero, suc, Bool, true, false, cond, List, [], ◌∷◌, ◌++◌, Option, None, Some, refl, ap, sym, ◌∙◌, subst, append-nil, append_assoc}
+use Rattle.std.specs.Prelude.{option_and_then}
+use Rattle.std.specs.FinMap as map
+use Rattle.std.specs.FinMap.{FinMap, IsAntisymmetric, get-insert}
+use Rattle.std.specs.Cmp.{Equal-is}
+use Rattle.std.specs.Ordering.{is_eq}
+use Rattle.std.specs.declared.cmp.Ordering.{Ordering}
+use Rattle.beldi_value.specs.Id.{root_of, id_cmp, id_total, id_exact}
+use Rattle.beldi_value.specs.declared.id.IntentId.{IntentId}
+use Rattle.beldi_value.specs.declared.outcome.Outcome.{Outcome}
+use Rattle.beldi_value.specs.declared.value.Value.{Value}
+use Rattle.beldi_lang.specs.declared.deployment.Deployment.{Deployment}
+use Rattle.beldi_lang.specs.declared.effect.Answer.{Answer}
+use Rattle.beldi_lang.specs.declared.effect.Answer.TheVariants as answer
+use Rattle.beldi_lang.specs.declared.effect.Effect.{Effect}
+use Rattle.beldi_lang.specs.declared.effect.Effect.TheVariants as effect
+use Rattle.beldi_book.specs.declared.entry.Entry.{Entry}
+use Rattle.beldi_book.specs.declared.entry.Entry.TheVariants.{Start, Read, Step}
+use Rattle.beldi_plain.specs.Plain.{Instance, PlainState, after, start, can_step, if_open, if_read, if_change, step_by, with_instance, answered, effect_of, item_of, value_at}
+use Rattle.beldi_plain.specs.Legal.{run_from}
+
+pub same_some : {X : Type 0} {x y : X} → Some x ≡ Some y → x ≡ y
+same_some h = cc
+
+-- ---- what holds at the key that changed, and at all keys before, holds at all keys
+pub changed : {K X : Type 0} {R : K → K → Ordering} → IsAntisymmetric R → (m n : FinMap R X) (k : K) (v : Option X) → ((q : K) → map.get n q ≡ cond (is_eq (R q k)) v (map.get m q))
+    → (P : K → Option X → Type 0) → P k v → ((q : K) → P q (map.get m q)) → (q : K) → P q (map.get n q)
+changed {R = R} exact m n k v is P here others q = subst (P q) (sym (is q)) (elim (is_eq (R q k)) as (λ b. is_eq (R q k) ≡ b → P q (cond b v (map.get m q))) [
+  | true ↦ λ e. subst (λ z. P z v) (sym (exact q k ((Equal-is (R q k)).0 e))) here
+  | false ↦ λ e. others q
+] refl)
+
+pub made_set : (f : FinMap id_cmp Instance) (id : IntentId) (s : Instance) (P : IntentId → Option Instance → Type 0) → P id (Some s) → ((j : IntentId) → P j (map.get f j)) → (j : IntentId) → P j (map.get (map.insert f id s) j)
+made_set f id s P here others = changed id_exact f (map.insert f id s) id (Some s) (get-insert id_total f id s) P here others
+
+-- ---- runs in parts
+pub run_append : (d : Deployment) (p : PlainState) (es fs : List Entry) → run_from d p (es ++ fs) ≡ option_and_then (λ q. run_from d q fs) (run_from d p es)
+run_append d p [] fs = refl
+run_append d p (e ∷ es) fs = by_option (after d p e) (λ q. run_append d q es fs)
+  where
+    by_option : (o : Option PlainState) → ((q : PlainState) → run_from d q (es ++ fs) ≡ option_and_then (λ r. run_from d r fs) (run_from d q es))
+        → option_and_then (λ q. run_from d q (es ++ fs)) o ≡ option_and_then (λ r. run_from d r fs) (option_and_then (λ q. run_from d q es) o)
+    by_option None h = refl
+    by_option (Some q) h = h q
+
+-- a run of two parts has a state between them
+pub record Halves (d : Deployment) (p q : PlainState) (es fs : List Entry) : Type 0 where
+  pub state : PlainState
+  pub first : run_from d p es ≡ Some state
+  pub second : run_from d state fs ≡ Some q
+
+pub halves : (d : Deployment) (p q : PlainState) (es fs : List Entry) → run_from d p (es ++ fs) ≡ Some q → Halves d p q es fs
+halves d p q es fs h = by_option (run_from d p es) refl (sym (run_append d p es fs) ∙ h)
+  where
+    by_option : (o : Option PlainState) → run_from d p es ≡ o → option_and_then (λ r. run_from d r fs) o ≡ Some q → Halves d p q es fs
+    by_option None is h = cc
+    by_option (Some r) is h = record { state = r; first = is; second = h }
+
+pub runs_on : (d : Deployment) (p q : PlainState) (es fs : List Entry) → run_from d p es ≡ Some q → run_from d p (es ++ fs) ≡ run_from d q fs
+runs_on d p q es fs h = run_append d p es fs ∙ ap (option_and_then (λ r. run_from d r fs)) h
+
+pub one_more : (d : Deployment) (p : PlainState) (e : Entry) → run_from d p (e ∷ []) ≡ after d p e
+one_more d p e = by_option (after d p e)
+  where
+    by_option : (o : Option PlainState) → option_and_then (λ q. Some q) o ≡ o
+    by_option None = refl
+    by_option (Some q) = refl
+
+-- ---- what an entry that is enabled does
+abbrev pub new_instance : ℕ → Value → Instance
+new_instance f a = record { func = f; args = a; answers = []; outcome = None }
+
+abbrev pub reads : Effect → Bool
+reads (effect.Read t k) = true
+reads (effect.Write t k v) = false
+reads (effect.Return o) = false
+
+pub record Started (p : PlainState) (t f : ℕ) (a : Value) (q : PlainState) : Type 0 where
+  pub absent : map.get p.made (root_of t) ≡ None
+  pub leads : with_instance p (root_of t) (new_instance f a) ≡ q
+
+-- the next step of an instance, which is a read or not
+pub record Stepped (d : Deployment) (p : PlainState) (id : IntentId) (is_read : Bool) (q : PlainState) : Type 0 where
+  pub instance : Instance
+  pub made : map.get p.made id ≡ Some instance
+  pub open_still : instance.outcome ≡ None
+  pub kind : reads (effect_of d instance) ≡ is_read
+  pub leads : step_by p id instance (effect_of d instance) ≡ q
+
+abbrev pub Did : Deployment → PlainState → Entry → PlainState → Type 0
+Did d p (Start t f a) q = Started p t f a q
+Did d p (Read id s) q = Stepped d p id true q
+Did d p (Step id) q = Stepped d p id false q
+
+started : (p : PlainState) (t f : ℕ) (a : Value) (q : PlainState) (o : Option Instance) → map.get p.made (root_of t) ≡ o → start p t f a o ≡ Some q → Started p t f a q
+started p zero f a q o is h = cc
+started p (suc t) f a q None is h = record { absent = is; leads = same_some h }
+started p (suc t) f a q (Some i) is h = cc
+
+if_read_is : (e : Effect) (x q : PlainState) → if_read e x ≡ Some q → (reads e ≡ true) × (x ≡ q)
+if_read_is (effect.Read t k) x q h = (refl, same_some h)
+if_read_is (effect.Write t k v) x q h = cc
+if_read_is (effect.Return o) x q h = cc
+
+if_change_is : (e : Effect) (x q : PlainState) → if_change e x ≡ Some q → (reads e ≡ false) × (x ≡ q)
+if_change_is (effect.Read t k) x q h = cc
+if_change_is (effect.Write t k v) x q h = (refl, same_some h)
+if_change_is (effect.Return o) x q h = (refl, same_some h)
+
+module _ (d : Deployment) (p : PlainState) (id : IntentId) (b : Bool) (q : PlainState) (enter : Effect → PlainState → Option PlainState)
+    (enters : (e : Effect) (x y : PlainState) → enter e x ≡ Some y → (reads e ≡ b) × (x ≡ y)) where
+  by_outcome : (i : Instance) (o : Option Outcome) → map.get p.made id ≡ Some i → i.outcome ≡ o → if_open o (enter (effect_of d i) (step_by p id i (effect_of d i))) ≡ Some q → Stepped d p id b q
+  by_outcome i None is none h = let t = enters (effect_of d i) (step_by p id i (effect_of d i)) q h in record { instance = i; made = is; open_still = none; kind = t.0; leads = t.1 }
+  by_outcome i (Some o) is some h = cc
+
+  stepped : (o : Option Instance) → map.get p.made id ≡ o → can_step o (λ i. enter (effect_of d i) (step_by p id i (effect_of d i))) ≡ Some q → Stepped d p id b q
+  stepped None is h = cc
+  stepped (Some i) is h = by_outcome i i.outcome is refl h
+
+pub did : (d : Deployment) (p : PlainState) (e : Entry) (q : PlainState) → after d p e ≡ Some q → Did d p e q
+did d p (Start t f a) q h = started p t f a q (map.get p.made (root_of t)) refl h
+did d p (Read id s) q h = stepped d p id true q (λ e x. if_read e x) if_read_is (map.get p.made id) refl h
+did d p (Step id) q h = stepped d p id false q (λ e x. if_change e x) if_change_is (map.get p.made id) refl h
+
+-- ---- and what is so is enabled
+is_if_read : (e : Effect) (x : PlainState) → reads e ≡ true → if_read e x ≡ Some x
+is_if_read (effect.Read t k) x h = refl
+is_if_read (effect.Write t k v) x h = cc
+is_if_read (effect.Return o) x h = cc
+
+is_if_change : (e : Effect) (x : PlainState) → reads e ≡ false → if_change e x ≡ Some x
+is_if_change (effect.Read t k) x h = cc
+is_if_change (effect.Write t k v) x h = refl
+is_if_change (effect.Return o) x h = refl
+
+pub enabled_read : (d : Deployment) (p : PlainState) (id : IntentId) (s : ℕ) (i : Instance) → map.get p.made id ≡ Some i → i.outcome ≡ None → reads (effect_of d i) ≡ true → after d p (Read id s) ≡ Some (step_by p id i (effect_of d i))
+enabled_read d p id s i is none kind =
+    ap (λ o. can_step o (λ j. if_read (effect_of d j) (step_by p id j (effect_of d j)))) is
+    ∙ ap (λ o. if_open o (if_read (effect_of d i) (step_by p id i (effect_of d i)))) none
+    ∙ is_if_read (effect_of d i) (step_by p id i (effect_of d i)) kind
+
+pub enabled_step : (d : Deployment) (p : PlainState) (id : IntentId) (i : Instance) → map.get p.made id ≡ Some i → i.outcome ≡ None → reads (effect_of d i) ≡ false → after d p (Step id) ≡ Some (step_by p id i (effect_of d i))
+enabled_step d p id i is none kind =
+    ap (λ o. can_step o (λ j. if_change (effect_of d j) (step_by p id j (effect_of d j)))) is
+    ∙ ap (λ o. if_open o (if_change (effect_of d i) (step_by p id i (effect_of d i)))) none
+    ∙ is_if_change (effect_of d i) (step_by p id i (effect_of d i)) kind
+
+-- ---- instances only go on
+pub record Grown (i j : Instance) : Type 0 where
+  pub func : j.func ≡ i.func
+  pub args : j.args ≡ i.args
+  pub later : List Answer
+  pub more : i.answers ++ later ≡ j.answers
+  pub over : (o : Outcome) → i.outcome ≡ Some o → j.outcome ≡ Some o
+
+abbrev pub GrownAt : Option Instance → Option Instance → Type 0
+GrownAt None o = Unit {0}
+GrownAt (Some i) None = ⊥
+GrownAt (Some i) (Some j) = Grown i j
+
+abbrev pub Grows : FinMap id_cmp Instance → FinMap id_cmp Instance → Type 0
+Grows f g = (id : IntentId) → GrownAt (map.get f id) (map.get g id)
+
+grown_self : (o : Option Instance) → GrownAt o o
+grown_self None = tt
+grown_self (Some i) = record { func = refl; args = refl; later = []; more = append-nil i.answers; over = λ o h. h }
+
+grown_on : (x y z : Option Instance) → GrownAt x y → GrownAt y z → GrownAt x z
+grown_on None y z g h = tt
+grown_on (Some i) None z g h = absurd g
+grown_on (Some i) (Some j) None g h = absurd h
+grown_on (Some i) (Some j) (Some k) g h = record {
+  func = h.func ∙ g.func;
+  args = h.args ∙ g.args;
+  later = g.later ++ h.later;
+  more = sym (append_assoc i.answers g.later h.later) ∙ ap (λ xs. xs ++ h.later) g.more ∙ h.more;
+  over = λ o is. h.over o (g.over o is);
+}
+
+pub grows_self : (f : FinMap id_cmp Instance) → Grows f f
+grows_self f id = grown_self (map.get f id)
+
+pub grows_set : (f : FinMap id_cmp Instance) (id : IntentId) (s : Instance) → GrownAt (map.get f id) (Some s) → Grows f (map.insert f id s)
+grows_set f id s here = made_set f id s (λ j o. GrownAt (map.get f j) o) here (grows_self f)
+
+grown_answer : (i : Instance) (a : Answer) → Grown i (answered i a)
+grown_answer i a = record { func = refl; args = refl; later = a ∷ []; more = refl; over = λ o h. h }
+
+grown_end : (i : Instance) (o : Outcome) → i.outcome ≡ None → Grown i (record i { outcome = Some o })
+grown_end i o none = record { func = refl; args = refl; later = []; more = append-nil i.answers; over = λ u is. let g = sym none ∙ is in cc }
+
+grows_at : (f : FinMap id_cmp Instance) (id : IntentId) (i j : Instance) → map.get f id ≡ Some i → Grown i j → Grows f (map.insert f id j)
+grows_at f id i j is g = grows_set f id j (subst (λ o. GrownAt o (Some j)) (sym is) g)
+
+step_grows : (p : PlainState) (id : IntentId) (i : Instance) (e : Effect) → map.get p.made id ≡ Some i → i.outcome ≡ None → Grows p.made (step_by p id i e).made
+step_grows p id i (effect.Read t k) is none = let a = answer.Value (value_at p (item_of i t k)) in grows_at p.made id i (answered i a) is (grown_answer i a)
+step_grows p id i (effect.Write t k v) is none = grows_at p.made id i (answered i answer.Done) is (grown_answer i answer.Done)
+step_grows p id i (effect.Return o) is none = grows_at p.made id i (record i { outcome = Some o }) is (grown_end i o none)
+
+stepped_grows : (d : Deployment) (p : PlainState) (id : IntentId) (b : Bool) (q : PlainState) → Stepped d p id b q → Grows p.made q.made
+stepped_grows d p id b q s = subst (λ (r : PlainState). Grows p.made r.made) s.leads (step_grows p id s.instance (effect_of d s.instance) s.made s.open_still)
+
+started_grows : (p : PlainState) (t f : ℕ) (a : Value) (q : PlainState) → Started p t f a q → Grows p.made q.made
+started_grows p t f a q s = subst (λ (r : PlainState). Grows p.made r.made) s.leads (grows_set p.made (root_of t) (new_instance f a) (subst (λ o. GrownAt o (Some (new_instance f a))) (sym s.absent) tt))
+
+did_grows : (d : Deployment) (p : PlainState) (e : Entry) (q : PlainState) → Did d p e q → Grows p.made q.made
+did_grows d p (Start t f a) q s = started_grows p t f a q s
+did_grows d p (Read id k) q s = stepped_grows d p id true q s
+did_grows d p (Step id) q s = stepped_grows d p id false q s
+
+pub after_grows : (d : Deployment) (p : PlainState) (e : Entry) (q : PlainState) → after d p e ≡ Some q → Grows p.made q.made
+after_grows d p e q h = did_grows d p e q (did d p e q h)
+
+-- ---- what every entry keeps, a run keeps
+pub run_keeps : (d : Deployment) (P : PlainState → Type 0) → ((p : PlainState) (e : Entry) (q : PlainState) → P p → after d p e ≡ Some q → P q) → (p : PlainState) (es : List Entry) (q : PlainState) → P p → run_from d p es ≡ Some q → P q
+run_keeps d P keeps p [] q h is = subst P (same_some is) h
+run_keeps d P keeps p (e ∷ es) q h is = by_option (after d p e) refl is (λ r g. run_keeps d P keeps r es q g)
+  where
+    by_option : (o : Option PlainState) → after d p e ≡ o → option_and_then (λ r. run_from d r es) o ≡ Some q → ((r : PlainState) → P r → run_from d r es ≡ Some q → P q) → P q
+    by_option None step is rest = cc
+    by_option (Some r) step is rest = rest r (keeps p e r h step) is
+
+pub run_grows : (d : Deployment) (p : PlainState) (es : List Entry) (q : PlainState) → run_from d p es ≡ Some q → Grows p.made q.made
+run_grows d p es q h = run_keeps d (λ r. Grows p.made r.made) (λ r e s g is id. grown_on (map.get p.made id) (map.get r.made id) (map.get s.made id) (g id) (after_grows d r e s is id)) p es q (grows_self p.made) h

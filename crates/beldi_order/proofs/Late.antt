@@ -1,0 +1,157 @@
+-- A read that is kept late: it passes every entry that leaves its instance as it is.
+use Rattle.std.proofs.Common.{◌≡◌, ℕ, zero, suc, Bool, true, false, cond, List, [], ◌∷◌, ◌++◌, length, Option, None, Some, refl, ap, sym, ◌∙◌, subst, arith, length-append, append-nil}
+use Rattle.std.specs.Prelude.{option_and_then}
+use Rattle.std.specs.FinMap as map
+use Rattle.std.specs.FinMap.{FinMap, get-insert, same_map}
+use Rattle.std.specs.Cmp.{Equal-is}
+use Rattle.std.specs.Ordering.{is_eq}
+use Rattle.std.proofs.lemmas.Cmp.{tied_itself}
+use Rattle.beldi_value.specs.Id.{root_of, id_cmp, id_total, id_exact}
+use Rattle.beldi_value.specs.declared.id.IntentId.{IntentId}
+use Rattle.beldi_value.specs.declared.outcome.Outcome.{Outcome}
+use Rattle.beldi_value.specs.declared.value.Value.{Value}
+use Rattle.beldi_lang.specs.declared.deployment.Deployment.{Deployment}
+use Rattle.beldi_lang.specs.declared.effect.Answer.{Answer}
+use Rattle.beldi_lang.specs.declared.effect.Answer.TheVariants as answer
+use Rattle.beldi_lang.specs.declared.effect.Effect.{Effect}
+use Rattle.beldi_lang.specs.declared.effect.Effect.TheVariants as effect
+use Rattle.beldi_book.specs.declared.entry.Entry.{Entry}
+use Rattle.beldi_book.specs.declared.entry.Entry.TheVariants.{Start, Read, Step}
+use Rattle.beldi_plain.specs.Item.{item_cmp}
+use Rattle.beldi_plain.specs.Plain.{Instance, PlainState, after, start, step_by, with_instance, answered, effect_of, item_of, set_item, value_at}
+use Rattle.beldi_plain.specs.Legal.{run_from}
+use Rattle.beldi_order.proofs.Entries.{same_some, reads, new_instance, Started, Stepped, Did, did, enabled_read, enabled_step, GrownAt, after_grows, run_grows, runs_on}
+
+-- ---- two instances that were set
+same_at : (f : FinMap id_cmp Instance) (i j : IntentId) (x y : Instance) (b c : Bool) (o : Option Instance) → (b ≡ true → c ≡ true → ⊥) → cond b (Some y) (cond c (Some x) o) ≡ cond c (Some x) (cond b (Some y) o)
+same_at f i j x y true true o apart = absurd (apart refl refl)
+same_at f i j x y true false o apart = refl
+same_at f i j x y false c o apart = refl
+
+pub equal : (i j : IntentId) → is_eq (id_cmp i j) ≡ true → i ≡ j
+equal i j h = id_exact i j ((Equal-is (id_cmp i j)).0 h)
+
+pub commutes : (f : FinMap id_cmp Instance) (i j : IntentId) (x y : Instance) → (i ≡ j → ⊥) → map.insert (map.insert f i x) j y ≡ map.insert (map.insert f j y) i x
+commutes f i j x y apart = same_map id_total id_exact _ _ (λ q.
+    get-insert id_total (map.insert f i x) j y q
+    ∙ ap (cond (is_eq (id_cmp q j)) (Some y)) (get-insert id_total f i x q)
+    ∙ same_at f i j x y (is_eq (id_cmp q j)) (is_eq (id_cmp q i)) (map.get f q) (λ a b. apart (sym (equal q i b) ∙ equal q j a))
+    ∙ sym (get-insert id_total (map.insert f j y) i x q ∙ ap (cond (is_eq (id_cmp q i)) (Some x)) (get-insert id_total f j y q)))
+
+pub elsewhere : (f : FinMap id_cmp Instance) (i j : IntentId) (x : Instance) → (i ≡ j → ⊥) → map.get (map.insert f i x) j ≡ map.get f j
+elsewhere f i j x apart = get-insert id_total f i x j ∙ by_test (is_eq (id_cmp j i)) refl
+  where
+    by_test : (b : Bool) → is_eq (id_cmp j i) ≡ b → cond b (Some x) (map.get f j) ≡ map.get f j
+    by_test true e = absurd (apart (sym (equal j i e)))
+    by_test false e = refl
+
+pub here : (f : FinMap id_cmp Instance) (i : IntentId) (x : Instance) → map.get (map.insert f i x) i ≡ Some x
+here f i x = get-insert id_total f i x i ∙ ap (λ b. cond b (Some x) (map.get f i)) (ap is_eq (tied_itself id_total i))
+
+-- ---- an instance that stands at a read
+pub record StandsAtRead (d : Deployment) (p : PlainState) (i : IntentId) (a : Instance) : Type 0 where
+  pub made : map.get p.made i ≡ Some a
+  pub open_still : a.outcome ≡ None
+  pub kind : reads (effect_of d a) ≡ true
+
+not_longer : (a : Instance) (x : Answer) → answered a x ≡ a → ⊥
+not_longer a x h = let n = length-append a.answers (x ∷ []) in let m = ap (λ (q : Instance). length q.answers) h in omega (arith, n, m)
+
+abbrev with_items : FinMap item_cmp Value → FinMap id_cmp Instance → PlainState
+with_items m f = record { items = m; made = f }
+
+-- another instance's step does not see the answer
+step_passes : (p : PlainState) (i j : IntentId) (x y : Instance) (e : Effect) → (i ≡ j → ⊥) → step_by (with_instance p i x) j y e ≡ with_instance (step_by p j y e) i x
+step_passes p i j x y (effect.Read t k) apart = ap (λ f. record p { made = f }) (commutes p.made i j x (answered y (answer.Value (value_at p (item_of y t k)))) apart)
+step_passes p i j x y (effect.Write t k v) apart = ap (with_items (set_item p.items (item_of y t k) v)) (commutes p.made i j x (answered y answer.Done) apart)
+step_passes p i j x y (effect.Return o) apart = ap (λ f. record p { made = f }) (commutes p.made i j x (record y { outcome = Some o }) apart)
+
+-- where the instance stands after an entry as it stood, and the entry comes after its answer
+module _ (d : Deployment) (p q : PlainState) (i : IntentId) (a : Instance) (v : Answer) (stands : StandsAtRead d p i a) (stays : map.get q.made i ≡ Some a) where
+  -- it is not the instance's own: a read would have answered it, and it makes no other step
+  own_read : (e : Effect) → reads e ≡ true → map.get (step_by p i a e).made i ≡ Some a → ⊥
+  own_read (effect.Read t k) kind h = let x = answer.Value (value_at p (item_of a t k)) in not_longer a x (same_some (sym (here p.made i (answered a x)) ∙ h))
+  own_read (effect.Write t k w) kind h = cc
+  own_read (effect.Return o) kind h = cc
+
+  own : (b : Bool) (s : Stepped d p i b q) → ⊥
+  own true s =
+      let same : s.instance ≡ a = same_some (sym s.made ∙ stands.made) in
+      own_read (effect_of d a) stands.kind (ap (λ (r : PlainState). map.get r.made i) (ap (λ x. step_by p i x (effect_of d x)) (sym same) ∙ s.leads) ∙ stays)
+  own false s = let same : s.instance ≡ a = same_some (sym s.made ∙ stands.made) in let k = sym s.kind ∙ ap (λ x. reads (effect_of d x)) same ∙ stands.kind in cc
+
+  apart : (j : IntentId) (b : Bool) → Stepped d p j b q → i ≡ j → ⊥
+  apart j b s same = own b (subst (λ k. Stepped d p k b q) (sym same) s)
+
+  -- another instance's entry is enabled as before, and leads to the same with the answer
+  made_there : (j : IntentId) (b : Bool) (s : Stepped d p j b q) → map.get (map.insert p.made i (answered a v)) j ≡ Some s.instance
+  made_there j b s = elsewhere p.made i j (answered a v) (apart j b s) ∙ s.made
+
+  leads_there : (j : IntentId) (b : Bool) (s : Stepped d p j b q) → step_by (with_instance p i (answered a v)) j s.instance (effect_of d s.instance) ≡ with_instance q i (answered a v)
+  leads_there j b s = step_passes p i j (answered a v) s.instance (effect_of d s.instance) (apart j b s) ∙ ap (λ r. with_instance r i (answered a v)) s.leads
+
+  start_there : (t f : ℕ) (w : Value) → Started p (suc t) f w q → start (with_instance p i (answered a v)) (suc t) f w (map.get (map.insert p.made i (answered a v)) (root_of (suc t))) ≡ Some (with_instance q i (answered a v))
+  start_there t f w s =
+      let other : i ≡ root_of (suc t) → ⊥ = λ same. let c = sym s.absent ∙ ap (map.get p.made) (sym same) ∙ stands.made in cc in
+      ap (start (with_instance p i (answered a v)) (suc t) f w) (elsewhere p.made i (root_of (suc t)) (answered a v) other ∙ s.absent)
+      ∙ ap (λ (f' : FinMap id_cmp Instance). Some (record p { made = f' })) (commutes p.made i (root_of (suc t)) (answered a v) (new_instance f w) other)
+      ∙ ap (λ r. Some (with_instance r i (answered a v))) s.leads
+
+  passes_did : (e : Entry) → after d p e ≡ Some q → Did d p e q → after d (with_instance p i (answered a v)) e ≡ Some (with_instance q i (answered a v))
+  passes_did (Start zero f w) h s = cc
+  passes_did (Start (suc t) f w) h s = start_there t f w s
+  passes_did (Read j k) h s = enabled_read d (with_instance p i (answered a v)) j k s.instance (made_there j true s) s.open_still s.kind ∙ ap (λ r. Some r) (leads_there j true s)
+  passes_did (Step j) h s = enabled_step d (with_instance p i (answered a v)) j s.instance (made_there j false s) s.open_still s.kind ∙ ap (λ r. Some r) (leads_there j false s)
+
+  pub passes : (e : Entry) → after d p e ≡ Some q → after d (with_instance p i (answered a v)) e ≡ Some (with_instance q i (answered a v))
+  passes e h = passes_did e h (did d p e q h)
+
+-- ---- an instance that has gone on and comes back to what it was has not moved
+no_later : (xs ys zs : List Answer) (l m : List Answer) → xs ++ l ≡ ys → ys ++ m ≡ xs → ys ≡ xs
+no_later xs ys zs l m g h = by_list l g (let n = length-append xs l in let k = length-append ys m in let e = ap length g in let f = ap length h in omega arith)
+  where
+    by_list : (l : List Answer) → xs ++ l ≡ ys → length l ≡ 0 → ys ≡ xs
+    by_list [] g n = sym g ∙ append-nil xs
+    by_list (x ∷ l) g n = absurd (omega (arith, n))
+
+pub none_before : (o u : Option Outcome) → ((x : Outcome) → o ≡ Some x → u ≡ Some x) → u ≡ None → o ≡ None
+none_before None u h is = refl
+none_before (Some x) u h is = let g = sym is ∙ h x refl in cc
+
+pub same_instance : (a b : Instance) → a.func ≡ b.func → a.args ≡ b.args → a.answers ≡ b.answers → a.outcome ≡ b.outcome → a ≡ b
+same_instance a b f g h o = λ i. record { func = f i; args = g i; answers = h i; outcome = o i }
+
+pub unmoved : (a : Instance) (o : Option Instance) → a.outcome ≡ None → GrownAt (Some a) o → GrownAt o (Some a) → o ≡ Some a
+unmoved a None none g h = absurd g
+unmoved a (Some b) none g h = ap (λ x. Some x) (same_instance b a g.func g.args (no_later a.answers b.answers [] g.later h.later g.more h.more) (none_before b.outcome a.outcome h.over none ∙ sym none))
+
+-- ---- a read passes all entries that leave its instance as it is
+pub passes_all : (d : Deployment) (p q : PlainState) (es : List Entry) (i : IntentId) (a : Instance) (v : Answer) → StandsAtRead d p i a → map.get q.made i ≡ Some a
+    → run_from d p es ≡ Some q → run_from d (with_instance p i (answered a v)) es ≡ Some (with_instance q i (answered a v))
+passes_all d p q [] i a v stands stays h = ap (λ r. Some (with_instance r i (answered a v))) (same_some h)
+passes_all d p q (e ∷ es) i a v stands stays h = by_option (after d p e) refl h (λ r. passes_all d r q es i a v)
+  where
+    by_option : (o : Option PlainState) → after d p e ≡ o → option_and_then (λ r. run_from d r es) o ≡ Some q
+        → ((r : PlainState) → StandsAtRead d r i a → map.get q.made i ≡ Some a → run_from d r es ≡ Some q → run_from d (with_instance r i (answered a v)) es ≡ Some (with_instance q i (answered a v)))
+        → option_and_then (λ r. run_from d r es) (after d (with_instance p i (answered a v)) e) ≡ Some (with_instance q i (answered a v))
+    by_option None step is rest = cc
+    by_option (Some r) step is rest =
+        let before = subst (λ o. GrownAt o (map.get r.made i)) stands.made (after_grows d p e r step i) in
+        let later = subst (λ o. GrownAt (map.get r.made i) o) stays (run_grows d r es q is i) in
+        let there = unmoved a (map.get r.made i) stands.open_still before later in
+        ap (option_and_then (λ s. run_from d s es)) (passes d p r i a v stands there e step)
+        ∙ rest r (record { made = there; open_still = stands.open_still; kind = stands.kind }) stays is
+
+-- ---- the read itself
+-- put where the instance stands at it, with what comes between and leaves the instance as it is
+pub put_late : (d : Deployment) (p q r : PlainState) (es fs : List Entry) (i : IntentId) (s : ℕ) (a : Instance) (t : ℕ) (k : List ℕ) (v : Value)
+    → run_from d p es ≡ Some q → map.get q.made i ≡ Some a → a.outcome ≡ None → effect_of d a ≡ effect.Read t k → value_at q (item_of a t k) ≡ v
+    → run_from d q fs ≡ Some r → map.get r.made i ≡ Some a
+    → run_from d p (es ++ Read i s ∷ fs) ≡ Some (with_instance r i (answered a (answer.Value v)))
+put_late d p q r es fs i s a t k v before made none reads_it is behind stays =
+    let kind : reads (effect_of d a) ≡ true = ap reads reads_it in
+    let stands : StandsAtRead d q i a = record { made = made; open_still = none; kind = kind } in
+    let leads : step_by q i a (effect_of d a) ≡ with_instance q i (answered a (answer.Value v)) = ap (step_by q i a) reads_it ∙ ap (λ w. with_instance q i (answered a (answer.Value w))) is in
+    runs_on d p q es (Read i s ∷ fs) before
+    ∙ ap (option_and_then (λ x. run_from d x fs)) (enabled_read d q i s a made none kind ∙ ap (λ x. Some x) leads)
+    ∙ passes_all d q r fs i a (answer.Value v) stands stays behind

@@ -1,0 +1,4 @@
+pub mod Entries
+pub mod Growth
+pub mod Late
+pub mod Places

@@ -1,0 +1,63 @@
+-- How a legal book grows.
+use Rattle.std.specs.Prelude.{◌≡◌, ℕ, ◌≤◌, ◌<◌, List, [], ◌∷◌, ◌++◌, Some, None}
+use Rattle.std.specs.FinMap as map
+use Rattle.beldi_value.specs.declared.id.IntentId.{IntentId}
+use Rattle.beldi_value.specs.declared.value.Value.{Value}
+use Rattle.beldi_lang.specs.declared.deployment.Deployment.{Deployment}
+use Rattle.beldi_lang.specs.declared.effect.Answer.TheVariants as answer
+use Rattle.beldi_lang.specs.declared.effect.Effect.TheVariants as effect
+use Rattle.beldi_book.specs.declared.entry.Entry.{Entry}
+use Rattle.beldi_book.specs.declared.entry.Entry.TheVariants.{Read}
+use Rattle.beldi_book.specs.Order.{seen_of, count_changes, front, linear, SeenBounded}
+use Rattle.beldi_plain.specs.Plain.{Instance, PlainState, nothing, after, with_instance, answered, effect_of, item_of, value_at}
+use Rattle.beldi_plain.specs.Legal.{run_from, run_of}
+
+-- this is the state before the change that comes after the first s changes
+abbrev pub IsStateAt : Deployment → List Entry → ℕ → PlainState → Type 0
+IsStateAt d book s q = run_from d nothing (front s (linear book)) ≡ Some q
+
+-- a change that is enabled at the end of a legal book
+pub record EndsWith (d : Deployment) (book : List Entry) (p : PlainState) (e : Entry) (q : PlainState) : Type 0 where
+  pub bounded : SeenBounded 0 book
+  pub legal : run_of d book ≡ Some p
+  pub change : seen_of e ≡ None
+  pub enabled : after d p e ≡ Some q
+
+-- it is the last: the book with it is legal and leads to the state after it, and what came before stands where it stood
+pub record IsLast (d : Deployment) (book : List Entry) (e : Entry) (q : PlainState) : Type 0 where
+  pub bounded : SeenBounded 0 (book ++ e ∷ [])
+  pub legal : run_of d (book ++ e ∷ []) ≡ Some q
+  pub earlier : (s : ℕ) (r : PlainState) → s ≤ count_changes book → IsStateAt d book s r → IsStateAt d (book ++ e ∷ []) s r
+
+abbrev pub ChangesComeLast : Type 0
+ChangesComeLast = (d : Deployment) (book : List Entry) (p : PlainState) (e : Entry) (q : PlainState) → EndsWith d book p e q → IsLast d book e q
+
+-- a read that belongs after the first s changes of a legal book: there its instance stood at it, and the item had the value;
+-- and the instance has not moved since
+pub record BelongsEarlier (d : Deployment) (book : List Entry) (p : PlainState) (id : IntentId) (s : ℕ) (a : Instance) (v : Value) : Type 0 where
+  pub bounded : SeenBounded 0 book
+  pub legal : run_of d book ≡ Some p
+  pub few : s ≤ count_changes book
+  pub state : PlainState
+  pub is_state : IsStateAt d book s state
+  pub was_made : map.get state.made id ≡ Some a
+  pub open_still : a.outcome ≡ None
+  pub table : ℕ
+  pub key : List ℕ
+  pub stands : effect_of d a ≡ effect.Read table key
+  pub value : value_at state (item_of a table key) ≡ v
+  pub has_not_moved : map.get p.made id ≡ Some a
+
+abbrev pub with_answer : PlainState → IntentId → Instance → Value → PlainState
+with_answer p id a v = with_instance p id (answered a (answer.Value v))
+
+-- the book with it is legal and leads to the state with its answer. So do the states from its place on; those before it are
+-- as they were.
+pub record IsKeptLate (d : Deployment) (book : List Entry) (p : PlainState) (id : IntentId) (s : ℕ) (a : Instance) (v : Value) : Type 0 where
+  pub bounded : SeenBounded 0 (book ++ Read id s ∷ [])
+  pub legal : run_of d (book ++ Read id s ∷ []) ≡ Some (with_answer p id a v)
+  pub before : (t : ℕ) (r : PlainState) → t < s → IsStateAt d book t r → IsStateAt d (book ++ Read id s ∷ []) t r
+  pub since : (t : ℕ) (r : PlainState) → s ≤ t → IsStateAt d book t r → IsStateAt d (book ++ Read id s ∷ []) t (with_answer r id a v)
+
+abbrev pub LateReadsBelong : Type 0
+LateReadsBelong = (d : Deployment) (book : List Entry) (p : PlainState) (id : IntentId) (s : ℕ) (a : Instance) (v : Value) → BelongsEarlier d book p id s a v → IsKeptLate d book p id s a v

@@ -1,0 +1,12 @@
+// The laws of the linear order.
+ghost use Rattle.beldi_order.specs.Laws.{ChangesComeLast, LateReadsBelong};
+
+/// A change that is enabled at the end of a legal book is the last of the longer book, which is legal.
+pub fn changes_come_last()
+    ensures { ChangesComeLast }
+{}
+
+/// A read whose instance has not moved since the place where it belongs can be added to a legal book at any time.
+pub fn late_reads_belong()
+    ensures { LateReadsBelong }
+{}

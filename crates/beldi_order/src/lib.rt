@@ -1,0 +1,7 @@
+//! What every run of the plain machine keeps, and how a legal book grows: by a change at its end, or by a read that belongs
+//! earlier. It has no code. It stands on the plain machine. Its definitions: `specs/Laws`.
+#![tactic(auto)]
+
+mod laws;
+
+pub use laws::{changes_come_last, late_reads_belong};

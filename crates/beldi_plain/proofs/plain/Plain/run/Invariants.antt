@@ -1,7 +1,0 @@
-use Rattle.std.proofs.Common.{◌≡◌, take, Some}
-use Rattle.beldi_plain.specs.Legal.{run_from}
-use Rattle.beldi_plain.proofs.plain.Plain.run.Given as goal
-
--- the entries so far were carried out
-abbrev pub invariant-loop-at : goal.invariant-loop-at
-invariant-loop-at l = run_from l.code l.initial.self (take l.at l.book.entries) ≡ Some l.self
