@@ -105,28 +105,28 @@ not_there None h = refl
 not_there (Some r) h = cc
 
 module _ (d : Deployment) (c : Core) (m : Rows) (h : Right d c m) (t : ℕ) where
-  no_reply : reply_of h.plain t ≡ None → HasNoReply d c t
+  no_reply : reply_of h.plain t ≡ None → HasNoReply d c.book t
   no_reply none p is = subst (λ (q : PlainState). reply_of q t ≡ None) (same_run d c m p h is) none
 
-  absent : map.get m (root_key t) ≡ None → HasNoReply d c t
+  absent : map.get m (root_key t) ≡ None → HasNoReply d c.book t
   absent is = no_reply (ap outcome_of (subst (λ (r : Option Row). RootMatches r (map.get h.plain.made (root_of t))) is (h.rows.roots t)))
 
-  by_body : (b : Option Body) (o : Option Outcome) → (b ≡ None → o ≡ None) → BodyMatches b o (map.get h.plain.made (root_of t)) → SaidOf d c t (outcome_seen o)
+  by_body : (b : Option Body) (o : Option Outcome) → (b ≡ None → o ≡ None) → BodyMatches b o (map.get h.plain.made (root_of t)) → SaidOf d c.book t (outcome_seen o)
   by_body None None bare root = no_reply (ap outcome_of root)
   by_body None (Some o) bare root = let clash = bare refl in cc
   by_body (Some b) None bare root = no_reply (ap outcome_of root.made ∙ root.outcome)
   by_body (Some b) (Some o) bare root = record { run = h.plain; legal = h.legal; reply = ap outcome_of root.made ∙ root.outcome }
 
-  by_row : (r : Option Row) → is_some r ≡ true → FitsAt (root_key t) r → RootMatches r (map.get h.plain.made (root_of t)) → SaidOf d c t (row_seen r)
+  by_row : (r : Option Row) → is_some r ≡ true → FitsAt (root_key t) r → RootMatches r (map.get h.plain.made (root_of t)) → SaidOf d c.book t (row_seen r)
   by_row None there fits root = cc
   by_row (Some (Intent i)) there fits root = by_body i.body i.outcome fits.bare root
   by_row (Some r) there fits root = absurd root
 
-  by_ticket : (b : Bool) → is_unknown c.newest t ≡ b → SaidOf d c t (if b then Unknown else row_seen (map.get m (root_key t)))
+  by_ticket : (b : Bool) → is_unknown c.newest t ≡ b → SaidOf d c.book t (if b then Unknown else row_seen (map.get m (root_key t)))
   by_ticket true is = absent (not_there (map.get m (root_key t)) (h.tickets t ∙ not_issued_if t c.newest is))
   by_ticket false is = by_row (map.get m (root_key t)) (h.tickets t ∙ issued_if t c.newest is) (h.rows.one_row (root_key t)) (h.rows.roots t)
 
-  said_of : SaidOf d c t (reply_seen c.newest t m)
+  pub said_of : SaidOf d c.book t (reply_seen c.newest t m)
   said_of = by_ticket (is_unknown c.newest t) refl
 
 pub said : (d : Deployment) (c : Core) (t : ℕ) (room new_room faults new_faults : ℕ) (before after : Option Rows) (x : Result ReplySeen OpenErr)
@@ -134,4 +134,4 @@ pub said : (d : Deployment) (c : Core) (t : ℕ) (room new_room faults new_fault
 said d c t room new_room faults new_faults before after (Err w) s h = tt
 said d c t room new_room faults new_faults None after (Ok y) s h = tt
 said d c t room new_room faults new_faults (Some m) None (Ok y) s h = absurd s.rows
-said d c t room new_room faults new_faults (Some m) (Some n) (Ok y) s h = subst (λ (z : ReplySeen). SaidOf d c t z) (sym s.rows.1) (said_of d c m h t)
+said d c t room new_room faults new_faults (Some m) (Some n) (Ok y) s h = subst (λ (z : ReplySeen). SaidOf d c.book t z) (sym s.rows.1) (said_of d c m h t)

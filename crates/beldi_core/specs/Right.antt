@@ -4,6 +4,7 @@ use Rattle.std.specs.FinMap as map
 use Rattle.beldi_lang.specs.declared.deployment.Deployment.{Deployment}
 use Rattle.beldi_row.specs.declared.table.Table.{Ghosts}
 use Rattle.beldi_row.specs.Table.{Rows}
+use Rattle.beldi_book.specs.declared.entry.Entry.{Entry}
 use Rattle.beldi_plain.specs.Plain.{PlainState, reply_of}
 use Rattle.beldi_plain.specs.Legal.{IsLegal, run_of}
 use Rattle.beldi_plain.specs.Listing.{listing_of}
@@ -54,20 +55,20 @@ ListedAt d c None old new = Unit {0}
 ListedAt d c (Some m) old new = (p : PlainState) → run_of d c.book ≡ Some p → new ≡ old ++ listing_of d p
 
 -- in the run of the book, the root of the ticket has no outcome
-abbrev pub HasNoReply : Deployment → Core → ℕ → Type 0
-HasNoReply d c t = (p : PlainState) → run_of d c.book ≡ Some p → reply_of p t ≡ None
+abbrev pub HasNoReply : Deployment → List Entry → ℕ → Type 0
+HasNoReply d book t = (p : PlainState) → run_of d book ≡ Some p → reply_of p t ≡ None
 
 -- what is said of a reply is so in the run of the book; the row of a ticket that was issued is never absent
-abbrev pub SaidOf : Deployment → Core → ℕ → ReplySeen → Type 0
-SaidOf d c t Unknown = HasNoReply d c t
-SaidOf d c t Gone = ⊥
-SaidOf d c t Waiting = HasNoReply d c t
-SaidOf d c t (Reply o) = HasReply d c.book t o
+abbrev pub SaidOf : Deployment → List Entry → ℕ → ReplySeen → Type 0
+SaidOf d book t Unknown = HasNoReply d book t
+SaidOf d book t Gone = ⊥
+SaidOf d book t Waiting = HasNoReply d book t
+SaidOf d book t (Reply o) = HasReply d book t o
 
 -- .. where the rows are told
 abbrev pub SaidAt : Deployment → Core → Option Rows → ℕ → ReplySeen → Type 0
 SaidAt d c None t x = Unit {0}
-SaidAt d c (Some m) t x = SaidOf d c t x
+SaidAt d c (Some m) t x = SaidOf d c.book t x
 
 -- ---- of a host and its table
 -- the host and its rows are right

@@ -1,5 +1,5 @@
 // The host: each event is carried out by its plan.
-ghost use Rattle.std.specs.Prelude.{◌≡◌, ◌++◌, ◌+◌, ◌≤◌, ◌<◌, ◌^◌, ◌↔◌, IsTrue, IsSome, Ok, IfOk, IfErr, OnOk, OnErr, option_to_list};
+ghost use Rattle.std.specs.Prelude.{◌≡◌, ◌++◌, ◌+◌, ◌≤◌, ◌<◌, ◌^◌, ◌↔◌, IsTrue, IsSome, false, Ok, IfOk, IfErr, OnOk, OnErr, option_to_list};
 ghost use Rattle.beldi_step.specs.Host.{Core, no_run as no_run_of};
 ghost use Rattle.beldi_core.specs.Answers.{refused_by, lost_by, unbound, issued_by, bound_by};
 
@@ -208,10 +208,11 @@ impl<T: Table> Host<T> {
         Ok(())
     }
 
-    /// The reply of a ticket's root, as its row has it.
+    /// The reply of a ticket's root, as its row has it. A ticket that was not issued is unknown without a look at the rows.
     pub fn reply(&mut self, ticket: u32) -> Result<ReplySeen, OpenErr>
         ensures reads { Reads (λ m x. x ≡ reply_seen self.old.newest ticket m) (T.room self.old.table) (T.room self.new.table) (T.faults self.old.table) (T.faults self.new.table) (T.rows self.old.table) (T.rows self.new.table) result }
         ensures unknown { IfOk result (λ x. (x ≡ Unknown) ↔ IsTrue (is_unknown self.old.newest ticket)) }
+        ensures issued { IfErr result (λ e. is_unknown self.old.newest ticket ≡ false) }
         ensures core { core_of self.new ≡ core_of self.old }
         ensures code { self.new.code ≡ self.old.code }
         ensures right { IsRight self.old → IsRight self.new }
@@ -226,6 +227,7 @@ impl<T: Table> Host<T> {
     fn look(&mut self, ticket: u32) -> Result<ReplySeen, OpenErr>
         ensures reads { Reads (λ m x. x ≡ reply_seen self.old.newest ticket m) (T.room self.old.table) (T.room self.new.table) (T.faults self.old.table) (T.faults self.new.table) (T.rows self.old.table) (T.rows self.new.table) result }
         ensures unknown { IfOk result (λ x. (x ≡ Unknown) ↔ IsTrue (is_unknown self.old.newest ticket)) }
+        ensures issued { IfErr result (λ e. is_unknown self.old.newest ticket ≡ false) }
         ensures core { core_of self.new ≡ core_of self.old }
         ensures code { self.new.code ≡ self.old.code }
     {

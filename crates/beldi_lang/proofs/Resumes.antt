@@ -1,20 +1,23 @@
 -- A machine that took an answer stands where the answers so far have led.
-use Rattle.std.proofs.Common.{◌≡◌, ℕ, suc, zero, ◌+◌, ◌<◌, Bool, true, false, List, [], ◌∷◌, ◌++◌, drop, Option, Some, None, refl, ap, sym, ◌∙◌, subst, arith, IsTrue, append_assoc, add-one, length-append, if◌then◌else◌}
+use Rattle.std.proofs.Common.{◌≡◌, ℕ, suc, zero, ◌+◌, ◌<◌, Bool, true, false, List, [], ◌∷◌, ◌++◌, drop, Option, Some, None, refl, ap, sym, ◌∙◌, subst, arith, IsTrue, Result, Ok, Err, append_assoc, add-one, length-append, if◌then◌else◌}
 use Rattle.std.specs.Prelude.{slice_get, nat_lt}
 use borrow.Author.Tests.{ltb-true}
 use Rattle.beldi_value.specs.declared.value.Value.{Value}
 use Rattle.beldi_value.specs.declared.outcome.Outcome.TheVariants as outcome
+use Rattle.beldi_value.specs.declared.outcome.Code.{Code}
 use Rattle.beldi_value.specs.declared.outcome.Code.TheVariants as code
 use Rattle.beldi_lang.specs.declared.effect.Effect.TheVariants as effect
 use Rattle.beldi_lang.specs.declared.deployment.Deployment.{Deployment}
 use Rattle.beldi_lang.specs.declared.deployment.Func.{Func}
 use Rattle.beldi_lang.specs.declared.deployment.Stmt.{Stmt}
+use Rattle.beldi_lang.specs.declared.deployment.Expr.{Expr}
 use Rattle.beldi_lang.specs.declared.deployment.Form.{Form}
 use Rattle.beldi_lang.specs.declared.deployment.Form.TheVariants.{Read, Write, Return}
 use Rattle.beldi_lang.specs.declared.effect.Effect.{Effect}
 use Rattle.beldi_lang.specs.declared.effect.Answer.{Answer}
 use Rattle.beldi_lang.specs.declared.machine.Machine.{Machine}
-use Rattle.beldi_lang.specs.Wants.{Bindings, counted, go_on, wants_answer, after_form, run_block, run_form, func_at, wants}
+use Rattle.beldi_lang.specs.Evaluate.{value_at}
+use Rattle.beldi_lang.specs.Wants.{Bindings, Goes, table_number, counted, writes, returns, past_write, go_on, wants_answer, after_form, run_block, run_form, func_at, wants}
 use Rattle.beldi_lang.specs.Machine.{effect_of, effect_of_form, effect_at, next_step, after_stmt, resumed, IsAt}
 
 same_some : {X : Type 0} {x y : X} → Some x ≡ Some y → x ≡ y
@@ -39,10 +42,21 @@ going : (f : Func) (n : ℕ) (vs : Bindings) (s : Stmt) → slice_get f.body n �
     → GoesOn f n vs (Some s)
 going f n vs s at few one = record { few = few; more = λ a rest. ap (λ ss. run_block f.tables n ss vs (a ∷ rest)) (drop_at f.body n s at) ∙ one a rest }
 
+-- a write that wants an answer has a value, and goes on
+by_write : (f : Func) (n : ℕ) (vs : Bindings) (s : Stmt) (t k : List ℕ) (e : Expr) (r : Result Value Code) → value_at vs e ≡ r → IsTrue (wants_answer (writes n (table_number f.tables t) k r))
+    → (n < 10000 → ((a : Answer) (rest : List Answer) → run_form f.tables n (Write t k e) vs (a ∷ rest) ≡ Goes (after_form (Write t k e) vs a) rest) → GoesOn f n vs (Some s)) → GoesOn f n vs (Some s)
+by_write f n vs s t k e (Ok v) is w so = so (counted_few n _ (nat_lt n 10000) refl w) (λ a rest. ap (λ r. past_write r (after_form (Write t k e) vs a) rest) is)
+by_write f n vs s t k e (Err c) is w so = cc
+
+no_return : (r : Result Value Code) → IsTrue (wants_answer (returns r)) → ⊥
+no_return (Ok v) w = cc
+no_return (Err c) w = cc
+
 by_form : (f : Func) (n : ℕ) (vs : Bindings) (s : Stmt) (form : Form) → slice_get f.body n ≡ Some s → form ≡ s.form → IsTrue (wants_answer (effect_of_form f.tables n form vs)) → GoesOn f n vs (Some s)
-by_form f n vs s (Return e) at is w = cc
+by_form f n vs s (Return e) at is w = absurd (no_return (value_at vs e) w)
 by_form f n vs s (Read x t k) at is w = going f n vs s at (counted_few n _ (nat_lt n 10000) refl w) (λ a rest. subst (λ g. go_on (run_block f.tables (n + 1) (drop (suc n) f.body)) (run_form f.tables n g vs (a ∷ rest)) ≡ run_block f.tables (n + 1) (drop (suc n) f.body) (after_form g vs a) rest) is refl)
-by_form f n vs s (Write t k e) at is w = going f n vs s at (counted_few n _ (nat_lt n 10000) refl w) (λ a rest. subst (λ g. go_on (run_block f.tables (n + 1) (drop (suc n) f.body)) (run_form f.tables n g vs (a ∷ rest)) ≡ run_block f.tables (n + 1) (drop (suc n) f.body) (after_form g vs a) rest) is refl)
+by_form f n vs s (Write t k e) at is w =
+    by_write f n vs s t k e (value_at vs e) refl w (λ few went. going f n vs s at few (λ a rest. subst (λ g. go_on (run_block f.tables (n + 1) (drop (suc n) f.body)) (run_form f.tables n g vs (a ∷ rest)) ≡ run_block f.tables (n + 1) (drop (suc n) f.body) (after_form g vs a) rest) is (ap (go_on (run_block f.tables (n + 1) (drop (suc n) f.body))) (went a rest))))
 
 by_stmt : (f : Func) (n : ℕ) (vs : Bindings) (o : Option Stmt) → slice_get f.body n ≡ o → IsTrue (wants_answer (effect_of f.tables n o vs)) → GoesOn f n vs o
 by_stmt f n vs None at w = cc

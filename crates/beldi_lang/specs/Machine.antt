@@ -13,12 +13,13 @@ use Rattle.beldi_lang.specs.declared.effect.Effect.{Effect}
 use Rattle.beldi_lang.specs.declared.effect.Effect.TheVariants as effect
 use Rattle.beldi_lang.specs.declared.effect.Answer.{Answer}
 use Rattle.beldi_lang.specs.declared.machine.Machine.{Machine}
-use Rattle.beldi_lang.specs.Wants.{Bindings, value_of, table_number, counted, first_variables, set_by, set_to, run_block, func_at, wants}
+use Rattle.beldi_lang.specs.Evaluate.{value_at}
+use Rattle.beldi_lang.specs.Wants.{Bindings, table_number, counted, writes, returns, first_variables, set_by, set_to, run_block, func_at, wants}
 
 abbrev pub effect_of_form : List TableHead → ℕ → Form → Bindings → Effect
 effect_of_form ts used (Read n t k) vs = counted used (effect.Read (table_number ts t) k)
-effect_of_form ts used (Write t k e) vs = counted used (effect.Write (table_number ts t) k (value_of vs e))
-effect_of_form ts used (Return e) vs = effect.Return (outcome.Value (value_of vs e))
+effect_of_form ts used (Write t k e) vs = writes used (table_number ts t) k (value_at vs e)
+effect_of_form ts used (Return e) vs = returns (value_at vs e)
 
 abbrev pub effect_of : List TableHead → ℕ → Option Stmt → Bindings → Effect
 effect_of ts used None vs = effect.Return (outcome.Value Null)

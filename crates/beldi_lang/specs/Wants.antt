@@ -1,14 +1,13 @@
 -- What a body wants: by recursion on its statements, from the first one each time. A statement takes the variables and
--- the answers that remain, and gives either the effect that lacks an answer or what remains.
-use Rattle.std.specs.Prelude.{ℕ, zero, suc, ◌+◌, ◌-◌, ◌^◌, ◌==◌, min, nat_lt, Bool, true, false, List, [], ◌∷◌, Option, Some, None, slice_get, if◌then◌else◌}
+-- the answers that remain, and gives either the effect that lacks an answer or what remains. A fault of an expression ends
+-- the body.
+use Rattle.std.specs.Prelude.{ℕ, zero, suc, ◌+◌, ◌-◌, ◌^◌, ◌==◌, min, nat_lt, Bool, true, false, List, [], ◌∷◌, Option, Some, None, slice_get, Result, Ok, Err, if◌then◌else◌}
 use Rattle.std.specs.FinMap as map
-use Rattle.std.specs.FinMap.{FinMap}
-use Rattle.std.specs.Ordering.{nat_cmp}
-use Rattle.std.specs.Cmp.Lexicographic.{slice_cmp}
 use lib.Pointwise.{pointwise}
 use Rattle.beldi_value.specs.declared.value.Value.{Value}
-use Rattle.beldi_value.specs.declared.value.Value.TheVariants.{Null, Int}
+use Rattle.beldi_value.specs.declared.value.Value.TheVariants.{Null}
 use Rattle.beldi_value.specs.declared.outcome.Outcome.TheVariants as outcome
+use Rattle.beldi_value.specs.declared.outcome.Code.{Code}
 use Rattle.beldi_value.specs.declared.outcome.Code.TheVariants as code
 use Rattle.beldi_lang.specs.declared.deployment.Deployment.{Deployment}
 use Rattle.beldi_lang.specs.declared.deployment.Func.{Func}
@@ -16,32 +15,19 @@ use Rattle.beldi_lang.specs.declared.deployment.TableHead.{TableHead}
 use Rattle.beldi_lang.specs.declared.deployment.Stmt.{Stmt}
 use Rattle.beldi_lang.specs.declared.deployment.Form.{Form}
 use Rattle.beldi_lang.specs.declared.deployment.Form.TheVariants.{Read, Write, Return}
-use Rattle.beldi_lang.specs.declared.deployment.Expr.{Expr}
-use Rattle.beldi_lang.specs.declared.deployment.Expr.TheVariants as expr
 use Rattle.beldi_lang.specs.declared.effect.Effect.{Effect}
 use Rattle.beldi_lang.specs.declared.effect.Effect.TheVariants as effect
 use Rattle.beldi_lang.specs.declared.effect.Answer.{Answer}
 use Rattle.beldi_lang.specs.declared.effect.Answer.TheVariants as answer
+pub use Rattle.beldi_lang.specs.Evaluate.{Bindings, or_null}
+use Rattle.beldi_lang.specs.Evaluate.{value_at}
 
 -- two names are one
 abbrev pub is_name : List ℕ → List ℕ → Bool
 is_name a b = pointwise ◌==◌ a b
 
--- names with their values
-abbrev pub Bindings : Type 0
-Bindings = FinMap (slice_cmp nat_cmp) Value
-
 abbrev pub no_variables : Bindings
 no_variables = map.empty
-
--- a variable that was not set is null
-abbrev pub or_null : Option Value → Value
-or_null None = Null
-or_null (Some v) = v
-
-abbrev pub value_of : Bindings → Expr → Value
-value_of vs (expr.Int z) = Int z
-value_of vs (expr.Name n) = or_null (map.get vs n)
 
 -- the number of the table of this name, from 0
 abbrev pub table_of : List TableHead → List ℕ → ℕ
@@ -59,6 +45,19 @@ most_effects = 10000
 -- an effect that is answered, where the body may have one more
 abbrev pub counted : ℕ → Effect → Effect
 counted used e = if nat_lt used most_effects then e else effect.Return (outcome.Fault code.Steps)
+
+-- a fault ends the body
+abbrev pub faulted : Code → Effect
+faulted c = effect.Return (outcome.Fault c)
+
+-- what a write wants: its value is looked at first
+abbrev pub writes : ℕ → ℕ → List ℕ → Result Value Code → Effect
+writes used t k (Ok v) = counted used (effect.Write t k v)
+writes used t k (Err c) = faulted c
+
+abbrev pub returns : Result Value Code → Effect
+returns (Ok v) = effect.Return (outcome.Value v)
+returns (Err c) = faulted c
 
 -- an effect that is answered
 abbrev pub wants_answer : Effect → Bool
@@ -86,13 +85,18 @@ pub data Went : Type 0 where
   Wants : Effect → Went
   Goes : Bindings → List Answer → Went
 
+-- a write that was answered, where it had a value
+abbrev pub past_write : Result Value Code → Bindings → List Answer → Went
+past_write (Ok v) vs rest = Goes vs rest
+past_write (Err c) vs rest = Wants (faulted c)
+
 -- `used` counts the effects before it
 abbrev pub run_form : List TableHead → ℕ → Form → Bindings → List Answer → Went
 run_form ts used (Read n t k) vs [] = Wants (counted used (effect.Read (table_number ts t) k))
 run_form ts used (Read n t k) vs (a ∷ rest) = Goes (after_form (Read n t k) vs a) rest
-run_form ts used (Write t k e) vs [] = Wants (counted used (effect.Write (table_number ts t) k (value_of vs e)))
-run_form ts used (Write t k e) vs (a ∷ rest) = Goes (after_form (Write t k e) vs a) rest
-run_form ts used (Return e) vs answers = Wants (effect.Return (outcome.Value (value_of vs e)))
+run_form ts used (Write t k e) vs [] = Wants (writes used (table_number ts t) k (value_at vs e))
+run_form ts used (Write t k e) vs (a ∷ rest) = past_write (value_at vs e) (after_form (Write t k e) vs a) rest
+run_form ts used (Return e) vs answers = Wants (returns (value_at vs e))
 
 abbrev pub go_on : (Bindings → List Answer → Effect) → Went → Effect
 go_on f (Wants e) = e

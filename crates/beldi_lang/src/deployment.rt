@@ -1,6 +1,7 @@
 // A deployment: its functions, the tables that each owns, and their bodies.
 ghost use Rattle.std.specs.Prelude.{◌≡◌, ◌++◌, ◌∷◌, [], ◌-◌, ◌<◌, ◌≤◌, length, slice_get, option_copied, OnOk, OnErr, IfOk};
 
+use crate::operands::{Exprs, Members, Operand};
 use beldi_value::Str;
 use std::alloc::{AllocError, Global};
 use std::marker::Model;
@@ -44,11 +45,58 @@ pub enum Form {
     Return(Expr),
 }
 
+/// The forms of expressions.
+#[cycle(expr)]
 #[derive(Drop)]
 pub enum Expr {
     Int(i64),
+    Text(Str),
+    Bool(bool),
+    Null,
     /// A variable: null where it was never set.
     Name(Str),
+    Or(Operand, Operand),
+    And(Operand, Operand),
+    Not(Operand),
+    /// The number with the other sign.
+    Negate(Operand),
+    Binary {
+        op: Op,
+        left: Operand,
+        right: Operand,
+    },
+    /// A field of a record, by its key.
+    Field(Operand, Str),
+    /// An element of a list, by its index from 0.
+    Element(Operand, Operand),
+    List(Exprs),
+    Record(Members),
+    /// How many bytes a text has, or how many elements a list.
+    Len(Operand),
+    /// The canonical text.
+    TextOf(Operand),
+    /// A list and what is appended to it.
+    Push(Operand, Operand),
+    /// A record, a key and the value of this field.
+    With(Operand, Operand, Operand),
+}
+
+/// The operators that take the values of both sides.
+#[derive(Clone, Copy)]
+pub enum Op {
+    Eq,
+    Ne,
+    Lt,
+    Le,
+    Gt,
+    Ge,
+    Add,
+    Sub,
+    /// One text after another.
+    Join,
+    Mul,
+    Div,
+    Rem,
 }
 
 /// The functions of a deployment.
@@ -59,9 +107,13 @@ pub struct Funcs {
 
 impl Model for Funcs {
     ghost use Rattle.std.specs.Prelude.{List};
+    ghost use Rattle.std.specs.Coded.{codes};
     ghost use Rattle.beldi_lang.specs.declared.deployment.Func.{Func};
+    ghost use Rattle.beldi_lang.specs.contracts.deployment.Func as func;
 
     ghost Value = { List Func };
+
+    ghost coded = { Prim.hlevel (codes, func.the_row.coded) };
 
     ghost view = { λ a. a.items.items };
 }
@@ -137,9 +189,13 @@ pub struct Block {
 
 impl Model for Block {
     ghost use Rattle.std.specs.Prelude.{List};
+    ghost use Rattle.std.specs.Coded.{codes};
     ghost use Rattle.beldi_lang.specs.declared.deployment.Stmt.{Stmt};
+    ghost use Rattle.beldi_lang.specs.contracts.deployment.Stmt as stmt;
 
     ghost Value = { List Stmt };
+
+    ghost coded = { Prim.hlevel (codes, stmt.the_row.coded) };
 
     ghost view = { λ a. a.items.items };
 }

@@ -1,6 +1,7 @@
 // The machine that runs a body, one answer at a time.
 ghost use Rattle.std.specs.Prelude.{◌≡◌, ◌+◌, ◌-◌, ◌<◌, ◌^◌, ◌++◌, ◌∷◌, [], ℕ, List, length, slice_get, option_copied, min, IfOk, IsTrue};
-ghost use Rattle.beldi_lang.specs.Wants.{func_at, table_number as table_number_of, counted as counted_of, value_of, wants, wants_answer};
+ghost use Rattle.beldi_lang.specs.Wants.{func_at, table_number as table_number_of, counted as counted_of, writes, returns, wants, wants_answer};
+ghost use Rattle.beldi_lang.specs.Evaluate.{value_at};
 ghost use Rattle.beldi_lang.specs.Machine.{begun, resumed, effect_at, effect_of_form, name_of as name_of_stmt, after_stmt, IsAt};
 ghost use Rattle.beldi_lang.specs.declared.effect.Answer.{Answer};
 ghost use Rattle.beldi_lang.specs.declared.deployment.Deployment.{Deployment};
@@ -8,6 +9,8 @@ ghost use Rattle.beldi_value.specs.declared.value.Value.{Value};
 
 use crate::deployment::{Deployment, Expr, Form, Func, Stmt};
 use crate::effect::{Answer, Effect};
+use crate::evaluation::evaluate;
+use crate::fault::EvalErr;
 use crate::variables::Variables;
 use beldi_value::{Code, Outcome, Str, Value};
 use std::alloc::{AllocError, Global};
@@ -70,15 +73,37 @@ fn counted(used: u32, effect: Effect) -> Effect
     }
 }
 
-fn value_at(alloc: Global, variables: &Variables, expr: &Expr) -> Result<Value, AllocError>
-    ensures { IfOk result (λ v. v ≡ value_of variables.now expr.now) }
+// The value of an expression, or the fault that ends the body.
+fn value_of(
+    alloc: Global,
+    variables: &Variables,
+    expr: &Expr,
+) -> Result<Result<Value, Code>, AllocError>
+    ensures { IfOk result (λ r. r ≡ value_at variables.now expr.now) }
 {
-    match expr {
-        Expr::Int(number) => Ok(Value::Int(*number)),
-        Expr::Name(name) => match variables.get(name) {
-            Some(value) => value.copy(alloc),
-            None => Ok(Value::Null),
-        },
+    match evaluate(alloc, variables, expr) {
+        Ok(value) => Ok(Ok(value)),
+        Err(EvalErr::Fault(code)) => Ok(Err(code)),
+        Err(EvalErr::OutOfMemory) => Err(AllocError),
+    }
+}
+
+fn returned(value: Result<Value, Code>) -> Effect
+    ensures { result ≡ returns value }
+{
+    match value {
+        Ok(value) => Effect::Return(Outcome::Value(value)),
+        Err(code) => Effect::Return(Outcome::Fault(code)),
+    }
+}
+
+// The effect of a write, where the body may have one more.
+fn written(used: u32, table: u16, key: Str, value: Result<Value, Code>) -> Effect
+    ensures { result ≡ writes used table key value }
+{
+    match value {
+        Ok(value) => counted(used, Effect::Write { table, key, value }),
+        Err(code) => Effect::Return(Outcome::Fault(code)),
     }
 }
 
@@ -102,16 +127,11 @@ fn effect_from(
             Ok(counted(used, Effect::Read { table, key }))
         }
         Form::Write { table, key, value } => {
-            let effect = Effect::Write {
-                table: table_number(func, table),
-                key: key.copy(alloc)?,
-                value: value_at(alloc, variables, value)?,
-            };
-            Ok(counted(used, effect))
+            let value = value_of(alloc, variables, value)?;
+            let key = key.copy(alloc)?;
+            Ok(written(used, table_number(func, table), key, value))
         }
-        Form::Return(value) => Ok(Effect::Return(Outcome::Value(value_at(
-            alloc, variables, value,
-        )?))),
+        Form::Return(value) => Ok(returned(value_of(alloc, variables, value)?)),
     }
 }
 

@@ -1,5 +1,5 @@
 // The variables of a body.
-ghost use Rattle.std.specs.Prelude.{◌≡◌, option_copied, OnOk};
+ghost use Rattle.std.specs.Prelude.{◌≡◌, option_copied, OnOk, OnErr};
 ghost use Rattle.std.specs.FinMap as map;
 ghost use Rattle.beldi_lang.specs.Wants.{no_variables};
 
@@ -45,7 +45,8 @@ impl Variables {
 
     /// Gives a name this value.
     pub fn set(&mut self, name: Str, value: Value) -> Result<(), AllocError>
-        ensures { OnOk result (self.new ≡ map.insert self.old name value) }
+        ensures ok { OnOk result (self.new ≡ map.insert self.old name value) }
+        ensures err { OnErr result (self.new ≡ self.old) }
     {
         match self.entries.insert(name, value) {
             Ok(_) => Ok(()),

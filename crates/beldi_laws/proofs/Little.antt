@@ -8,7 +8,7 @@ use Rattle.beldi_row.specs.declared.key.RowKey.{RowKey}
 use Rattle.beldi_row.specs.declared.act.Act.{Act}
 use Rattle.beldi_row.specs.declared.act.Act.TheVariants.{Issue, Bind}
 use Rattle.beldi_row.specs.Act.{Tell, added, bound, running, ended, other}
-use Rattle.beldi_row.specs.Table.{Rows, after_act, tell_act}
+use Rattle.beldi_row.specs.Table.{Rows, tell_act}
 use Rattle.beldi_step.specs.declared.event.Event.{Event}
 use Rattle.beldi_step.specs.declared.event.Event.TheVariants.{Ticket, Request, Turn, Lost, Crash, Restart}
 use Rattle.beldi_step.specs.declared.event.Seen.{Seen}
@@ -19,32 +19,40 @@ use Rattle.std.specs.Prelude.{option_to_list}
 use Rattle.beldi_step.specs.declared.run.Run.{Run}
 use Rattle.beldi_step.specs.Run.{run_turned}
 use Rattle.beldi_book.specs.Order.{count_changes}
-use Rattle.beldi_step.specs.Host.{Core, Plan, Answer, Do, Lose, Acts, Loses, Follows, counted, plan, plan_of, request_next, ticket_next, turn_plan, lost_plan, crash_plan, ended_run, restarted, no_run, is_lost, most_events, most_runs, root_key}
+use Rattle.beldi_step.specs.Host.{Core, Plan, Answer, Do, Lose, Acts, Loses, Follows, counted, plan, plan_of, request_next, ticket_next, turn_plan, lost_plan, crash_plan, ended_run, restarted, no_run, is_lost, IsOneEvent, Breaks, most_events, most_runs, root_key}
 use Rattle.beldi_laws.proofs.Starts.{dropped_book}
-use Rattle.beldi_laws.specs.Laws.{ChangesOneRow, BookGrew, WritesWhatIsTold, entries_told}
+use Rattle.beldi_laws.specs.Laws.{OneRowChanged, ChangesOneRow, BookGrew, WritesWhatIsTold, entries_told}
 
 -- ---- rows
-abbrev OneRow : Core → Rows → Rows → Type 0
-OneRow c m n = (n ≡ m) ⊎ ((k : RowKey) × (a : Act) × (n ≡ after_act a c.now k m))
-
-acts_on_one : (room old new : ℕ) (e : Event) (c : Core) (k : RowKey) (a : Act) (f : Tell → Core × Seen) (m : Rows) (b : Core) (n : Rows) (x : Seen) → Acts room old new e c k a f m b n x → OneRow c m n
+acts_on_one : (room old new : ℕ) (e : Event) (c : Core) (k : RowKey) (a : Act) (f : Tell → Core × Seen) (m : Rows) (b : Core) (n : Rows) (x : Seen) → Acts room old new e c k a f m b n x → OneRowChanged c m n
 acts_on_one room old new e c k a f m b n (seen.Full live most) s = inl s.0
 acts_on_one room old new e c k a f m b n seen.Dropped s = inl s.0
 acts_on_one room old new e c k a f m b n x s = inr (k, a, s.0)
 
-loses_on_one : (room old new : ℕ) (e : Event) (c : Core) (k : RowKey) (a : Act) (f : Tell → Core) (m : Rows) (b : Core) (n : Rows) → Loses room old new e c k a f m b n → OneRow c m n
+loses_on_one : (room old new : ℕ) (e : Event) (c : Core) (k : RowKey) (a : Act) (f : Tell → Core) (m : Rows) (b : Core) (n : Rows) → Loses room old new e c k a f m b n → OneRowChanged c m n
 loses_on_one room old new e c k a f m b n s = elim s [
   | inl s ↦ inr (k, a, s.0)
   | inr s ↦ inl s.0
 ]
 
-follows_on_one : (room old new : ℕ) (e : Event) (c : Core) (p : Plan) (m : Rows) (b : Core) (n : Rows) (x : Seen) → Follows room old new e c p m b n x → OneRow c m n
+follows_on_one : (room old new : ℕ) (e : Event) (c : Core) (p : Plan) (m : Rows) (b : Core) (n : Rows) (x : Seen) → Follows room old new e c p m b n x → OneRowChanged c m n
 follows_on_one room old new e c (Answer k y) m b n x s = inl s.0
 follows_on_one room old new e c (Do k a f) m b n x s = acts_on_one room old new e c k a f m b n x s
 follows_on_one room old new e c (Lose k a f) m b n x s = loses_on_one room old new e c k a f m b n s.1
 
+break_on_one : (d : Deployment) (e : Event) (c b : Core) (m n : Rows) → Breaks d e c m b n → OneRowChanged c m n
+break_on_one d Ticket c b m n s = inl s.0
+break_on_one d (Request t f a) c b m n s = inl s.0
+break_on_one d (Turn i) c b m n s = elim s [ inl s ↦ inl s.0 | inr s ↦ inr (s.0, s.1, s.4) ]
+break_on_one d (Lost i) c b m n s = inl s.0
+break_on_one d (Crash i) c b m n s = absurd s
+break_on_one d (Restart id f) c b m n s = inl s.0
+
 pub one_row : ChangesOneRow
-one_row d room old new e c b m n x s = follows_on_one room old new e (counted c) (plan d e c) m b n x s
+one_row = record {
+  event = λ d room old new e c b m n x s. follows_on_one room old new e (counted c) (plan d e c) m b n x s;
+  want_of_memory = break_on_one;
+}
 
 -- ---- the book
 abbrev PlanWrites : Event → Core → Plan → Type 0
@@ -136,8 +144,28 @@ follows_write room old new e c (Answer k y) m b n x h s = record { entry = h.ent
 follows_write room old new e c (Do k a f) m b n x h s = acts_write room old new e c k a f m b n x h s
 follows_write room old new e c (Lose k a f) m b n x h s = loses_write room old new e c k a f m b n x h s.1
 
+taken_writes : (d : Deployment) (e : Event) (c : Core) → PlanWrites e (counted c) (plan d e c)
+taken_writes d e c = writes_if e (counted c) (nat_lt c.taken most_events) (plan_of d e (counted c)) (Answer c seen.Spent) (plan_writes d e (counted c)) (none e (counted c) c seen.Spent refl (none_told e seen.Spent (inr (inl refl))))
+
+event_writes : (d : Deployment) (room old new : ℕ) (e : Event) (c b : Core) (m n : Rows) (x : Seen) → IsOneEvent d room old new e c m b n x → BookGrew e c b x
+event_writes d room old new e c b m n x s = let g = follows_write room old new e (counted c) (plan d e c) m b n x (taken_writes d e c) s in record { entry = g.entry; book = g.book; told = g.told }
+
+no_entry : (c b : Core) → b.book ≡ c.book → (entry : Option Entry) × (b.book ≡ c.book ++ option_to_list entry)
+no_entry c b same = (None, same ∙ sym (append-nil c.book))
+
+break_writes : (d : Deployment) (e : Event) (c b : Core) (m n : Rows) → Breaks d e c m b n → (entry : Option Entry) × (b.book ≡ c.book ++ option_to_list entry)
+break_writes d Ticket c b m n s = no_entry c b (ap (λ z. z.book) s.1)
+break_writes d (Request t f a) c b m n s = no_entry c b (ap (λ z. z.book) s.1)
+break_writes d (Turn i) c b m n s = elim s [
+  | inl s ↦ no_entry c b (ap (λ z. z.book) s.1)
+  | inr s ↦
+      let t = tell_act s.1 c.now s.0 m in
+      let g : BookGrew (Turn i) (counted c) (s.2 t).0 (s.2 t).1 = (subst (λ p. PlanWrites (Turn i) (counted c) p) s.3 (taken_writes d (Turn i) c)) t in
+      (g.entry, ap (λ z. z.book) s.5 ∙ g.book)
+]
+break_writes d (Lost i) c b m n s = no_entry c b (ap (λ z. z.book) s.1)
+break_writes d (Crash i) c b m n s = absurd s
+break_writes d (Restart id f) c b m n s = no_entry c b (ap (λ z. z.book) s.1)
+
 pub told_entries : WritesWhatIsTold
-told_entries d room old new e c b m n x s =
-    let g = follows_write room old new e (counted c) (plan d e c) m b n x
-    (writes_if e (counted c) (nat_lt c.taken most_events) (plan_of d e (counted c)) (Answer c seen.Spent) (plan_writes d e (counted c)) (none e (counted c) c seen.Spent refl (none_told e seen.Spent (inr (inl refl))))) s in
-    record { entry = g.entry; book = g.book; told = g.told }
+told_entries = record { event = event_writes; want_of_memory = break_writes }

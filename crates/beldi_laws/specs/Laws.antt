@@ -122,9 +122,14 @@ pub record HeldAnswersStay : Type 0 where
   pub want_of_memory : (d : Deployment) (e : Event) (c b : Core) (m n : Rows) → Right d c m → Breaks d e c m b n → AnswersStay m n
 
 -- ---- how little one event does
--- it changes at most one row, by one act
-abbrev pub ChangesOneRow : Type 0
-ChangesOneRow = (d : Deployment) (room old new : ℕ) (e : Event) (c b : Core) (m n : Rows) (x : Seen) → IsOneEvent d room old new e c m b n x → (n ≡ m) ⊎ ((k : RowKey) × (a : Act) × (n ≡ after_act a c.now k m))
+-- at most one row changes, by one act
+abbrev pub OneRowChanged : Core → Rows → Rows → Type 0
+OneRowChanged c m n = (n ≡ m) ⊎ ((k : RowKey) × (a : Act) × (n ≡ after_act a c.now k m))
+
+-- .. in an event, and where want of memory came
+pub record ChangesOneRow : Type 0 where
+  pub event : (d : Deployment) (room old new : ℕ) (e : Event) (c b : Core) (m n : Rows) (x : Seen) → IsOneEvent d room old new e c m b n x → OneRowChanged c m n
+  pub want_of_memory : (d : Deployment) (e : Event) (c b : Core) (m n : Rows) → Breaks d e c m b n → OneRowChanged c m n
 
 -- the entries that an event's answer tells: the start of a root that was bound, or the entry of a turn
 abbrev pub entries_told : Event → Seen → List Entry
@@ -138,8 +143,10 @@ pub record BookGrew (e : Event) (c b : Core) (x : Seen) : Type 0 where
   pub book : b.book ≡ c.book ++ option_to_list entry
   pub told : is_lost e ≡ false → option_to_list entry ≡ entries_told e x
 
-abbrev pub WritesWhatIsTold : Type 0
-WritesWhatIsTold = (d : Deployment) (room old new : ℕ) (e : Event) (c b : Core) (m n : Rows) (x : Seen) → IsOneEvent d room old new e c m b n x → BookGrew e c b x
+-- .. and at most one where want of memory came, which tells nothing
+pub record WritesWhatIsTold : Type 0 where
+  pub event : (d : Deployment) (room old new : ℕ) (e : Event) (c b : Core) (m n : Rows) (x : Seen) → IsOneEvent d room old new e c m b n x → BookGrew e c b x
+  pub want_of_memory : (d : Deployment) (e : Event) (c b : Core) (m n : Rows) → Breaks d e c m b n → (entry : Option Entry) × (b.book ≡ c.book ++ option_to_list entry)
 
 -- ---- lists of events
 -- the requests that events bound, by how they were answered, in order

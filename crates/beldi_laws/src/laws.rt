@@ -75,7 +75,8 @@ pub fn an_event_changes_one_row()
     ensures { ChangesOneRow }
 {}
 
-/// The book gets at most one entry in an event: the one that the answer tells, unless the answer was lost.
+/// The book gets at most one entry in an event: the one that the answer tells, unless the answer was lost, or memory was
+/// wanting.
 pub fn an_event_writes_what_it_tells()
     ensures { WritesWhatIsTold }
 {}

@@ -4,7 +4,6 @@ use Rattle.std.specs.FinMap as map
 use Rattle.std.proofs.lemmas.Bool.{false≢true}
 use Rattle.beldi_lang.specs.declared.deployment.Deployment.{Deployment}
 use Rattle.beldi_row.specs.Table.{Rows}
-use Rattle.beldi_plain.specs.Legal.{IsLegal}
 use Rattle.beldi_step.specs.Host.{Core, first_core}
 use Rattle.beldi_laws.specs.Laws.{starts_of, bound_in}
 use Rattle.beldi_laws.specs.Right.{Right}
@@ -23,9 +22,10 @@ use Rattle.beldi_main.specs.declared.program.Ended.{Ended}
 use Rattle.beldi_main.specs.declared.program.Ended.TheVariants as ended
 use Rattle.beldi_main.specs.Said.{Said}
 use Rattle.beldi_main.specs.Session.{OnTold, Answered, BreaksIn, BrokeOff, deeds_in}
-use Rattle.beldi_main.specs.Headline.{AreListings, Claim, Anything, BookIsLegal, StartsTheBound, TellsOutcomes, SayOutcomes, StandsAtEnd, StandsForTheRun, IsWholeSource, LongOn, SessionOn, SourceOn, WordsOn, events_among, seen_among, status_of}
+use Rattle.beldi_main.specs.PlainRun.{IsPlainRun, RowsStandFor, events_among, seen_among}
+use Rattle.beldi_main.specs.Headline.{Claim, Anything, PlainRun, IsWholeSource, LongOn, SessionOn, SourceOn, WordsOn, status_of}
 use Rattle.beldi_main.proofs.Deeds.{both_map}
-use Rattle.beldi_main.proofs.Moments.{answered_right, answered_starts, answered_tells, answered_lists, broke_right, broke_goes, broke_keeps}
+use Rattle.beldi_main.proofs.Moments.{right_legal, answered_right, answered_starts, answered_tells, answered_moments, broke_right, broke_goes, broke_keeps}
 
 -- ---- the deed that broke off
 same_starts : (c b : Core) → b ≡ c → starts_of b.book ≡ starts_of c.book
@@ -53,37 +53,25 @@ module _ (d : Deployment) (room : ℕ) (es more : List Deed) (ys : List Said) (m
   right_after : Right d b n
   right_after = broke_right d more last b o n right_last s
 
-  pub legal : IsLegal d b.book
-  legal = record { bounded = right_after.bounded; run = right_after.plain; legal = right_after.legal }
-
-  pub bound : starts_of b.book ≡ bound_in (events_among es) (seen_among ys)
-  bound = broke_starts d more last b o n s
-      ∙ answered_starts d room es (first_core (newest_of m) 0) m f last o g ys a
-
-  pub replied : SayOutcomes d b.book ys
-  replied = answered_tells d room es (first_core (newest_of m) 0) m f last o g ys b.book right_before a (broke_keeps d more last b o n right_last s)
-
-  pub stood : StandsAtEnd d m n es ys b
+  stood : RowsStandFor d n b.book
   stood p is = (right_stands d b n p right_after is, listing_plain d b n p right_after is)
 
-  pub listed : AreListings d b.book ys
-  listed = answered_lists d room es (first_core (newest_of m) 0) m f last o g ys b.book right_before a (broke_goes d more last b o n s)
+  pub ran : IsPlainRun d n es ys last.book b.book
+  ran = record {
+    moments = answered_moments d room es (first_core (newest_of m) 0) m f last o g ys right_before a;
+    broke_off = broke_goes d more last b o n s;
+    legal = right_legal d b n right_after;
+    bound = broke_starts d more last b o n s ∙ answered_starts d room es (first_core (newest_of m) 0) m f last o g ys a;
+    replies = answered_tells d room es (first_core (newest_of m) 0) m f last o g ys b.book right_before a (broke_keeps d more last b o n right_last s);
+    tables = stood;
+  }
 
 -- ---- a claim that holds of every session
 abbrev Holds : Claim → Type 0
-Holds P = (d : Deployment) (room : ℕ) (es more : List Deed) (xs : List Said) (m o n : Rows) (f g : ℕ) (last b : Core) → Answered d room es (first_core (newest_of m) 0) m f last o g xs → BrokeOff d more last o b n → P d m n es xs b
+Holds P = (d : Deployment) (room : ℕ) (es more : List Deed) (xs : List Said) (m o n : Rows) (f g : ℕ) (last b : Core) → Answered d room es (first_core (newest_of m) 0) m f last o g xs → BrokeOff d more last o b n → P d m n es xs last b
 
-pub is_legal : Holds BookIsLegal
-is_legal d room es more xs m o n f g last b a s none = legal d room es more xs m o n f g last b a s none
-
-pub starts_bound : Holds StartsTheBound
-starts_bound d room es more xs m o n f g last b a s none = bound d room es more xs m o n f g last b a s none
-
-pub tells_outcomes : Holds TellsOutcomes
-tells_outcomes d room es more xs m o n f g last b a s none = replied d room es more xs m o n f g last b a s none
-
-pub stands : Holds StandsForTheRun
-stands d room es more xs m o n f g last b a s none = (stood d room es more xs m o n f g last b a s none, listed d room es more xs m o n f g last b a s none)
+pub is_plain : Holds PlainRun
+is_plain d room es more xs m o n f g last b a s none = ran d room es more xs m o n f g last b a s none
 
 module _ (P : Claim) (holds : Holds P) where
   session : (d : Deployment) (lines : List (List ℕ)) (m n : Rows) (f g : ℕ) (h k : List ℕ) (e : Ended) → SessionOn Anything d lines m n f g h k e → SessionOn P d lines m n f g h k e

@@ -1,5 +1,5 @@
 -- What every deed keeps, and what is said at its moment.
-use Rattle.std.proofs.Common.{◌≡◌, inl, inr, ℕ, List, [], ◌∷◌, ◌++◌, None, Some, Ok, refl, arith, ap, sym, ◌∙◌, subst, append_assoc}
+use Rattle.std.proofs.Common.{◌≡◌, inl, inr, ℕ, List, [], ◌∷◌, ◌++◌, None, Some, refl, ap, sym, ◌∙◌, subst, append_assoc}
 use Rattle.std.specs.Prelude.{option_to_list}
 use Rattle.std.proofs.lemmas.List.{append-nil}
 use Rattle.std.proofs.lemmas.Option.{same_Some}
@@ -7,44 +7,39 @@ use Rattle.beldi_value.specs.declared.outcome.Outcome.{Outcome}
 use Rattle.beldi_lang.specs.declared.deployment.Deployment.{Deployment}
 use Rattle.beldi_row.specs.Table.{Rows}
 use Rattle.beldi_book.specs.declared.entry.Entry.{Entry}
+use Rattle.beldi_plain.specs.Legal.{IsLegal}
 use Rattle.beldi_step.specs.declared.event.Event.{Event}
 use Rattle.beldi_step.specs.declared.event.Seen.{Seen}
-use Rattle.beldi_step.specs.Host.{Core, IsOneEvent, Breaks}
+use Rattle.beldi_step.specs.Host.{Core, Breaks}
 use Rattle.beldi_laws.specs.Laws.{HasReply, starts_of, bound_of, bound_in}
 use Rattle.beldi_laws.specs.Right.{Right}
 use Rattle.beldi_laws.proofs.Events.{after_event, after_break, replies}
 use Rattle.beldi_laws.proofs.Little.{told_entries}
-use Rattle.beldi_laws.proofs.Starts.{outcomes_stay, break_grew, starts_bound}
+use Rattle.beldi_laws.proofs.Starts.{outcomes_stay, starts_bound}
 use Rattle.beldi_laws.proofs.Listing.{listing_plain}
 use Rattle.beldi_core.specs.Right.{SaidOf}
 use Rattle.beldi_core.specs.Survey.{reply_seen}
 use Rattle.beldi_core.specs.declared.survey.ReplySeen.{ReplySeen}
 use Rattle.beldi_core.specs.declared.survey.ReplySeen.TheVariants.{Unknown, Gone, Waiting, Reply}
-use Rattle.beldi_core.proofs.Right.{said as said_right}
+use Rattle.beldi_core.proofs.Right.{said_of}
 use Rattle.beldi_main.specs.declared.deed.Deed.{Deed}
 use Rattle.beldi_main.specs.declared.deed.Deed.TheVariants as deed
 use Rattle.beldi_main.specs.Said.{Said, Saw, Unread}
 use Rattle.beldi_main.specs.Session.{Answered, BreaksIn, BrokeOff, IsOneDeed, IsReading}
-use Rattle.beldi_main.specs.Headline.{said_outcome, reply_outcome, SayOutcomes, IsListing, AreListings, events_among, seen_among, seen_in}
+use Rattle.beldi_main.specs.PlainRun.{said_outcome, reply_outcome, entries_said, SayOutcomes, IsSo, Grew, Moments, GoesOn, events_among, seen_among, seen_in}
 
 -- ---- the book goes on
-abbrev pub GoesOn : List Entry → List Entry → Type 0
-GoesOn es fs = (more : List Entry) × (es ++ more ≡ fs)
-
 stays : (es : List Entry) → GoesOn es es
 stays es = ([], append-nil es)
-
-goes_then : (es fs gs : List Entry) → GoesOn es fs → GoesOn fs gs → GoesOn es gs
-goes_then es fs gs x y = (x.0 ++ y.0, sym (append_assoc es x.0 y.0) ∙ ap (λ z. z ++ y.0) x.1 ∙ y.1)
 
 same_book : (c b : Core) (es : List Entry) → b ≡ c → GoesOn es c.book → GoesOn es b.book
 same_book c b es h g = subst (λ (z : Core). GoesOn es z.book) (sym h) g
 
-event_goes : (d : Deployment) (room f g : ℕ) (e : Event) (c b : Core) (m n : Rows) (x : Seen) → IsOneEvent d room f g e c m b n x → GoesOn c.book b.book
-event_goes d room f g e c b m n x s = let k = told_entries d room f g e c b m n x s in (option_to_list k.entry, sym k.book)
-
 break_goes : (d : Deployment) (e : Event) (c b : Core) (m n : Rows) → Breaks d e c m b n → GoesOn c.book b.book
-break_goes d e c b m n s = let k = break_grew d e c b m n s in (k.more, sym k.book)
+break_goes d e c b m n s = let k = told_entries.want_of_memory d e c b m n s in (option_to_list k.0, sym k.1)
+
+pub right_legal : (d : Deployment) (c : Core) (m : Rows) → Right d c m → IsLegal d c.book
+right_legal d c m h = record { bounded = h.bounded; run = h.plain; legal = h.legal }
 
 -- ---- what a deed keeps
 both_same : (P : Core → Rows → Type 0) (c b : Core) (m n : Rows) → b ≡ c → n ≡ m → P c m → P b n
@@ -61,13 +56,6 @@ module _ (d : Deployment) (room : ℕ) where
   deed_right f g deed.Tables c b m n y h o = both_same (Right d) c b m n o.0 o.1 h
   deed_right f g deed.Book c b m n y h o = both_same (Right d) c b m n o.0 o.1 h
 
-  deed_goes : (f g : ℕ) (x : Deed) (c b : Core) (m n : Rows) (y : Said) → IsOneDeed d room f g x c m b n y → GoesOn c.book b.book
-  deed_goes f g (deed.Event e) c b m n y o = event_goes d room f g e c b m n o.0 o.2
-  deed_goes f g (deed.Reply t) c b m n y o = same_book c b c.book o.0 (stays c.book)
-  deed_goes f g deed.Rows c b m n y o = same_book c b c.book o.0 (stays c.book)
-  deed_goes f g deed.Tables c b m n y o = same_book c b c.book o.0 (stays c.book)
-  deed_goes f g deed.Book c b m n y o = same_book c b c.book o.0 (stays c.book)
-
   deed_keeps : (f g : ℕ) (x : Deed) (c b : Core) (m n : Rows) (y : Said) → Right d c m → IsOneDeed d room f g x c m b n y → (t : ℕ) (o : Outcome) → HasReply d c.book t o → HasReply d b.book t o
   deed_keeps f g (deed.Event e) c b m n y h s t o r = outcomes_stay.event d room f g e c b m n s.0 t o h s.2 r
   deed_keeps f g (deed.Reply u) c b m n y h s t o r = same_reply d c b t o s.0 r
@@ -76,10 +64,7 @@ module _ (d : Deployment) (room : ℕ) where
   deed_keeps f g deed.Book c b m n y h s t o r = same_reply d c b t o s.0 r
 
   -- ---- what is said at its moment
-  reply_right : (c : Core) (m : Rows) (t : ℕ) → Right d c m → SaidOf d c t (reply_seen c.newest t m)
-  reply_right c m t h = said_right d c t 0 0 0 0 (Some m) (Some m) (Ok (reply_seen c.newest t m)) (record { rows = (refl, refl); later = omega arith; failed = λ v. cc; room = refl }) h
-
-  reply_tells : (c : Core) (u : ℕ) (x : ReplySeen) → SaidOf d c u x → (t : ℕ) (o : Outcome) → reply_outcome u x ≡ Some (t, o) → HasReply d c.book t o
+  reply_tells : (c : Core) (u : ℕ) (x : ReplySeen) → SaidOf d c.book u x → (t : ℕ) (o : Outcome) → reply_outcome u x ≡ Some (t, o) → HasReply d c.book t o
   reply_tells c u (Reply v) s t o is = subst (λ (z : ℕ × Outcome). HasReply d c.book z.0 z.1) (same_Some (u, v) (t, o) is) s
   reply_tells c u Unknown s t o is = cc
   reply_tells c u Gone s t o is = cc
@@ -91,7 +76,7 @@ module _ (d : Deployment) (room : ℕ) where
   deed_tells : (f g : ℕ) (x : Deed) (c b : Core) (m n : Rows) (y : Said) → Right d c m → IsOneDeed d room f g x c m b n y → (t : ℕ) (o : Outcome) → said_outcome y ≡ Some (t, o) → HasReply d b.book t o
   deed_tells f g (deed.Event e) c b m n y h s t o is = replies d room f g e c b m n s.0 h s.2 t o (sym (ap said_outcome s.1) ∙ is)
   deed_tells f g (deed.Reply u) c b m n y h s t o is = same_reply d c b t o s.0 (elim (s.2) [
-    | inl v ↦ reply_tells c u (reply_seen c.newest u m) (reply_right c m u h) t o (sym (ap said_outcome v) ∙ is)
+    | inl v ↦ reply_tells c u (reply_seen c.newest u m) (said_of d c m h u) t o (sym (ap said_outcome v) ∙ is)
     | inr v ↦ absurd (says_none y (Unread (deed.Reply u)) t o v.0 refl is)
   ])
   deed_tells f g deed.Rows c b m n y h s t o is = absurd (says_none y _ t o s.2 refl is)
@@ -101,21 +86,29 @@ module _ (d : Deployment) (room : ℕ) where
   ]
   deed_tells f g deed.Book c b m n y h s t o is = absurd (says_none y _ t o s.2 refl is)
 
-  said_list : (book : List Entry) (y z : Said) → y ≡ z → IsListing d book z → IsListing d book y
-  said_list book y z e h = subst (λ x. IsListing d book x) (sym e) h
+  -- ---- the moment after a deed
+  said_so : (book : List Entry) (y z : Said) → y ≡ z → IsSo d book z → IsSo d book y
+  said_so book y z e h = subst (λ x. IsSo d book x) (sym e) h
 
-  deed_lists : (f g : ℕ) (x : Deed) (c b : Core) (m n : Rows) (y : Said) (book : List Entry) → Right d c m → IsOneDeed d room f g x c m b n y → GoesOn b.book book → IsListing d book y
-  deed_lists f g (deed.Event e) c b m n y book h s w = said_list book y (Saw s.0) s.1 tt
-  deed_lists f g (deed.Reply u) c b m n y book h s w = elim (s.2) [
-    | inl v ↦ said_list book y _ v tt
-    | inr v ↦ said_list book y _ v.0 tt
-  ]
-  deed_lists f g deed.Rows c b m n y book h s w = said_list book y _ s.2 tt
-  deed_lists f g deed.Tables c b m n y book h s w = let u = subst (λ (z : Core). GoesOn z.book book) s.0 w in elim (s.2) [
-    | inl v ↦ said_list book y _ v (record { front = c.book; rest = u.0; whole = u.1; run = h.plain; legal = h.legal; lists = listing_plain d c m h.plain h h.legal })
-    | inr v ↦ said_list book y _ v.0 tt
-  ]
-  deed_lists f g deed.Book c b m n y book h s w = let u = subst (λ (z : Core). GoesOn z.book book) s.0 w in said_list book y _ s.2 (record { front = c.book; rest = u.0; whole = u.1; lists = refl })
+  same_so : (c b : Core) (y : Said) → b ≡ c → IsSo d c.book y → IsSo d b.book y
+  same_so c b y e h = subst (λ (z : Core). IsSo d z.book y) (sym e) h
+
+  deed_so : (f g : ℕ) (x : Deed) (c b : Core) (m n : Rows) (y : Said) → Right d c m → IsOneDeed d room f g x c m b n y → IsSo d b.book y
+  deed_so f g (deed.Event e) c b m n y h s = said_so b.book y (Saw s.0) s.1 (λ t o is. replies d room f g e c b m n s.0 h s.2 t o is)
+  deed_so f g (deed.Reply u) c b m n y h s = same_so c b y s.0 (elim (s.2) [ inl v ↦ said_so c.book y _ v (said_of d c m h u) | inr v ↦ said_so c.book y _ v.0 tt ])
+  deed_so f g deed.Rows c b m n y h s = said_so b.book y _ s.2 tt
+  deed_so f g deed.Tables c b m n y h s = same_so c b y s.0 (elim (s.2) [ inl v ↦ said_so c.book y _ v (λ p is. listing_plain d c m p h is) | inr v ↦ said_so c.book y _ v.0 tt ])
+  deed_so f g deed.Book c b m n y h s = same_so c b y s.0 (said_so c.book y _ s.2 refl)
+
+  reading_grew : (x : Deed) (y : Said) (c b : Core) → b ≡ c → entries_said x y ≡ [] → Grew x y c.book b.book
+  reading_grew x y c b same none = record { entry = None; book = ap (λ (z : Core). z.book) same ∙ sym (append-nil c.book); told = λ v. sym none }
+
+  deed_grew : (f g : ℕ) (x : Deed) (c b : Core) (m n : Rows) (y : Said) → IsOneDeed d room f g x c m b n y → Grew x y c.book b.book
+  deed_grew f g (deed.Event e) c b m n y s = let k = told_entries.event d room f g e c b m n s.0 s.2 in subst (λ z. Grew (deed.Event e) z c.book b.book) (sym s.1) (record { entry = k.entry; book = k.book; told = k.told })
+  deed_grew f g (deed.Reply t) c b m n y s = reading_grew (deed.Reply t) y c b s.0 refl
+  deed_grew f g deed.Rows c b m n y s = reading_grew deed.Rows y c b s.0 refl
+  deed_grew f g deed.Tables c b m n y s = reading_grew deed.Tables y c b s.0 refl
+  deed_grew f g deed.Book c b m n y s = reading_grew deed.Book y c b s.0 refl
 
   -- ---- deeds one after another
   pub answered_right : (es : List Deed) (c : Core) (m : Rows) (f : ℕ) (b : Core) (n : Rows) (g : ℕ) (ys : List Said) → Right d c m → Answered d room es c m f b n g ys → Right d b n
@@ -123,12 +116,6 @@ module _ (d : Deployment) (room : ℕ) where
   answered_right [] c m f b n g (y ∷ ys) h r = absurd r
   answered_right (e ∷ es) c m f b n g [] h r = absurd r
   answered_right (e ∷ es) c m f b n g (y ∷ ys) h r = answered_right es r.0 r.1 r.2 b n g ys (deed_right f r.2 e c r.0 m r.1 y h r.3) r.5
-
-  answered_goes : (es : List Deed) (c : Core) (m : Rows) (f : ℕ) (b : Core) (n : Rows) (g : ℕ) (ys : List Said) → Answered d room es c m f b n g ys → GoesOn c.book b.book
-  answered_goes [] c m f b n g [] r = same_book c b c.book r.0 (stays c.book)
-  answered_goes [] c m f b n g (y ∷ ys) r = absurd r
-  answered_goes (e ∷ es) c m f b n g [] r = absurd r
-  answered_goes (e ∷ es) c m f b n g (y ∷ ys) r = goes_then c.book r.0.book b.book (deed_goes f r.2 e c r.0 m r.1 y r.3) (answered_goes es r.0 r.1 r.2 b n g ys r.5)
 
   answered_keeps : (es : List Deed) (c : Core) (m : Rows) (f : ℕ) (b : Core) (n : Rows) (g : ℕ) (ys : List Said) → Right d c m → Answered d room es c m f b n g ys → (t : ℕ) (o : Outcome) → HasReply d c.book t o → HasReply d b.book t o
   answered_keeps [] c m f b n g [] h r t o k = same_reply d c b t o r.0 k
@@ -166,13 +153,13 @@ module _ (d : Deployment) (room : ℕ) where
       let after = deed_right f r.2 e c r.0 m r.1 y h r.3 in
       (λ t o is. k t o (answered_keeps es r.0 r.1 r.2 b n g ys after r.5 t o (deed_tells f r.2 e c r.0 m r.1 y h r.3 t o is)), answered_tells es r.0 r.1 r.2 b n g ys book after r.5 k)
 
-  -- the listings are those of fronts of a book that goes on from the one at the end
-  pub answered_lists : (es : List Deed) (c : Core) (m : Rows) (f : ℕ) (b : Core) (n : Rows) (g : ℕ) (ys : List Said) (book : List Entry) → Right d c m → Answered d room es c m f b n g ys → GoesOn b.book book → AreListings d book ys
-  answered_lists [] c m f b n g [] book h r k = tt
-  answered_lists [] c m f b n g (y ∷ ys) book h r k = absurd r
-  answered_lists (e ∷ es) c m f b n g [] book h r k = absurd r
-  answered_lists (e ∷ es) c m f b n g (y ∷ ys) book h r k =
-      (deed_lists f r.2 e c r.0 m r.1 y book h r.3 (goes_then r.0.book b.book book (answered_goes es r.0 r.1 r.2 b n g ys r.5) k), answered_lists es r.0 r.1 r.2 b n g ys book (deed_right f r.2 e c r.0 m r.1 y h r.3) r.5 k)
+  pub answered_moments : (es : List Deed) (c : Core) (m : Rows) (f : ℕ) (b : Core) (n : Rows) (g : ℕ) (ys : List Said) → Right d c m → Answered d room es c m f b n g ys → Moments d es ys c.book b.book
+  answered_moments [] c m f b n g [] h r = ap (λ (z : Core). z.book) r.0
+  answered_moments [] c m f b n g (y ∷ ys) h r = absurd r
+  answered_moments (e ∷ es) c m f b n g [] h r = absurd r
+  answered_moments (e ∷ es) c m f b n g (y ∷ ys) h r =
+      let after = deed_right f r.2 e c r.0 m r.1 y h r.3 in
+      (r.0.book, deed_grew f r.2 e c r.0 m r.1 y r.3, right_legal d r.0 r.1 after, deed_so f r.2 e c r.0 m r.1 y h r.3, answered_moments es r.0 r.1 r.2 b n g ys after r.5)
 
 -- ---- a deed that broke off
 module _ (d : Deployment) where

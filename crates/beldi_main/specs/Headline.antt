@@ -1,24 +1,11 @@
 -- What a session over a source has to do with the rows of the table and the text of the sink.
-use Rattle.std.specs.Prelude.{◌≡◌, ◌⊎◌, ◌≤◌, ◌<◌, ◌+◌, ℕ, length, Bool, true, false, List, [], ◌∷◌, ◌++◌, drop, flat_map, Option, Some, None, Result, Ok, Err, IfSome, codes}
+use Rattle.std.specs.Prelude.{◌≡◌, ◌⊎◌, ◌≤◌, ◌<◌, ◌+◌, ℕ, length, Bool, true, false, List, [], ◌∷◌, ◌++◌, drop, Option, Some, None, Result, Ok, Err, IfSome, codes}
 use Rattle.std.specs.FinMap as map
-use Rattle.beldi_value.specs.declared.outcome.Outcome.{Outcome}
 use Rattle.beldi_lang.specs.declared.deployment.Deployment.{Deployment}
 use Rattle.beldi_lang.specs.Wants.{is_name}
-use Rattle.beldi_book.specs.Text.{book_text}
-use Rattle.beldi_book.specs.declared.entry.Entry.{Entry}
 use Rattle.beldi_row.specs.Table.{Rows}
-use Rattle.beldi_plain.specs.Plain.{PlainState}
-use Rattle.beldi_plain.specs.Legal.{IsLegal, run_of}
-use Rattle.beldi_plain.specs.Listing.{listing_of}
-use Rattle.beldi_step.specs.declared.event.Event.{Event}
-use Rattle.beldi_step.specs.declared.event.Seen.{Seen}
 use Rattle.beldi_step.specs.Host.{Core, first_core}
-use Rattle.beldi_step.specs.Tables.{tables_text}
-use Rattle.beldi_laws.specs.Laws.{starts_of, bound_in, told_outcome, HasReply}
-use Rattle.beldi_laws.specs.Stands.{Stands}
 use Rattle.beldi_core.specs.Survey.{newest_of}
-use Rattle.beldi_core.specs.declared.survey.ReplySeen.{ReplySeen}
-use Rattle.beldi_core.specs.declared.survey.ReplySeen.TheVariants.{Reply}
 use Rattle.beldi_script.specs.Cut.{lines_of}
 use Rattle.beldi_syntax.specs.declared.grammar.Parsed.{Parsed}
 use Rattle.beldi_syntax.specs.Grammar.{parsed_at}
@@ -26,12 +13,12 @@ use Rattle.beldi_outside.specs.Outside.{IsPrefixOf, max_source}
 use Rattle.beldi_outside.specs.declared.transfer.ReadErr.{ReadErr}
 use Rattle.beldi_outside.specs.declared.transfer.ReadErr.TheVariants as why
 use Rattle.beldi_main.specs.declared.deed.Deed.{Deed}
-use Rattle.beldi_main.specs.declared.deed.Deed.TheVariants as deed
 use Rattle.beldi_main.specs.declared.session.Stop.{Stop}
 use Rattle.beldi_main.specs.declared.session.Stop.TheVariants as stop
 use Rattle.beldi_main.specs.declared.program.Ended.{Ended}
 use Rattle.beldi_main.specs.declared.program.Ended.TheVariants as ended
-use Rattle.beldi_main.specs.Said.{Said, Saw, ReplyIs, TablesAre, BookIs, said_texts}
+use Rattle.beldi_main.specs.Said.{Said, said_texts}
+use Rattle.beldi_main.specs.PlainRun.{IsPlainRun}
 use Rattle.beldi_main.specs.Session.{Answered, BrokeOff, OnTold, deeds_in, is_whole, ending, refusal}
 
 -- all lines before a refused one were carried out, from the host's state c and the rows m on, and the last listings where
@@ -73,96 +60,24 @@ abbrev pub ScriptOn : Deployment → ℕ → List (List ℕ) → Core → Rows �
 ScriptOn d room lines c m n f g h k (Ok whole) = (is_whole d lines ≡ whole) × Whole d room lines c m n f g h k
 ScriptOn d room lines c m n f g h k (Err e) = Cut d room lines c m n f g h k
 
--- ---- the events among the deeds, and their answers
-abbrev pub event_in : Deed → List Event
-event_in (deed.Event e) = e ∷ []
-event_in x = []
-
-abbrev pub seen_in : Said → List Seen
-seen_in (Saw x) = x ∷ []
-seen_in y = []
-
-abbrev pub events_among : List Deed → List Event
-events_among es = flat_map event_in es
-
-abbrev pub seen_among : List Said → List Seen
-seen_among ys = flat_map seen_in ys
-
--- ---- what was said, and the book at the end
--- the outcome of a root that is said, with the root's ticket
-abbrev pub reply_outcome : ℕ → ReplySeen → Option (ℕ × Outcome)
-reply_outcome t (Reply o) = Some (t, o)
-reply_outcome t x = None
-
-abbrev pub said_outcome : Said → Option (ℕ × Outcome)
-said_outcome (Saw x) = told_outcome x
-said_outcome (ReplyIs t x) = reply_outcome t x
-said_outcome y = None
-
--- every outcome that is said is the root's in the run of the book
-abbrev pub SayOutcomes : Deployment → List Entry → List Said → Type 0
-SayOutcomes d book [] = Unit {0}
-SayOutcomes d book (y ∷ ys) = ((t : ℕ) (o : Outcome) → said_outcome y ≡ Some (t, o) → HasReply d book t o) × SayOutcomes d book ys
-
--- a listing of the tables is that of the run of the book of its moment, a front of the book at the end
-pub record ListsRun (d : Deployment) (book : List Entry) (lines : List ℕ) : Type 0 where
-  pub front : List Entry
-  pub rest : List Entry
-  pub whole : front ++ rest ≡ book
-  pub run : PlainState
-  pub legal : run_of d front ≡ Some run
-  pub lists : lines ≡ listing_of d run
-
--- a listing of the book has a front of the book at the end
-pub record ListsFront (d : Deployment) (book : List Entry) (lines : List ℕ) : Type 0 where
-  pub front : List Entry
-  pub rest : List Entry
-  pub whole : front ++ rest ≡ book
-  pub lists : lines ≡ book_text d front
-
-abbrev pub IsListing : Deployment → List Entry → Said → Type 0
-IsListing d book (TablesAre lines) = ListsRun d book lines
-IsListing d book (BookIs lines) = ListsFront d book lines
-IsListing d book y = Unit {0}
-
-abbrev pub AreListings : Deployment → List Entry → List Said → Type 0
-AreListings d book [] = Unit {0}
-AreListings d book (y ∷ ys) = IsListing d book y × AreListings d book ys
-
 -- ---- what is said of a session: by its deployment, the rows before and after, the deeds that were carried out, what was
--- said of them, and the host at the end
+-- said of them, the host after them, and the host at the end
 abbrev pub Claim : Type 1
-Claim = Deployment → Rows → Rows → List Deed → List Said → Core → Type 0
+Claim = Deployment → Rows → Rows → List Deed → List Said → Core → Core → Type 0
 
 abbrev pub Anything : Claim
-Anything d m n es ys c = Unit {0}
+Anything d m n es ys last c = Unit {0}
 
--- the book is legal
-abbrev pub BookIsLegal : Claim
-BookIsLegal d m n es ys c = m ≡ map.empty → IsLegal d c.book
-
--- the book starts exactly the requests that were answered bound, in order
-abbrev pub StartsTheBound : Claim
-StartsTheBound d m n es ys c = m ≡ map.empty → starts_of c.book ≡ bound_in (events_among es) (seen_among ys)
-
--- every outcome that was told is the root's in the run of the book
-abbrev pub TellsOutcomes : Claim
-TellsOutcomes d m n es ys c = m ≡ map.empty → SayOutcomes d c.book ys
-
--- the rows stand for the run of the book, and their listing is that of the run
-abbrev pub StandsAtEnd : Claim
-StandsAtEnd d m n es ys c = (p : PlainState) → run_of d c.book ≡ Some p → Stands d n p × (tables_text d n ≡ listing_of d p)
-
--- .. and so it was at each listing
-abbrev pub StandsForTheRun : Claim
-StandsForTheRun d m n es ys c = m ≡ map.empty → StandsAtEnd d m n es ys c × AreListings d c.book ys
+-- over a table without rows it is a run of the book without crashes
+abbrev pub PlainRun : Claim
+PlainRun d m n es ys last c = m ≡ map.empty → IsPlainRun d n es ys last.book c.book
 
 -- ---- a session over a deployment, from the first moment of a host on
 abbrev pub WholeWith : Claim → Deployment → List (List ℕ) → Rows → Rows → ℕ → ℕ → List ℕ → List ℕ → Type 0
-WholeWith P d lines m n f g h k = (w : Whole d d.room lines (first_core (newest_of m) 0) m n f g h k) × P d m n (deeds_in d lines) w.said w.core
+WholeWith P d lines m n f g h k = (w : Whole d d.room lines (first_core (newest_of m) 0) m n f g h k) × P d m n (deeds_in d lines) w.said w.core w.core
 
 abbrev pub CutWith : Claim → Deployment → List (List ℕ) → Rows → Rows → ℕ → ℕ → List ℕ → List ℕ → Type 0
-CutWith P d lines m n f g h k = (w : Cut d d.room lines (first_core (newest_of m) 0) m n f g h k) × P d m n w.done w.said w.core
+CutWith P d lines m n f g h k = (w : Cut d d.room lines (first_core (newest_of m) 0) m n f g h k) × P d m n w.done w.said w.last w.core
 
 -- by how the program ended
 abbrev pub SessionOn : Claim → Deployment → List (List ℕ) → Rows → Rows → ℕ → ℕ → List ℕ → List ℕ → Ended → Type 0

@@ -1,4 +1,5 @@
 pub mod Answer
 pub mod Headline
+pub mod PlainRun
 pub mod Said
 pub mod Session

@@ -1,7 +1,7 @@
 //! The program: it reads a deployment and a script, hosts the deployment, and writes what the script's events came to.
 //! It stands on all other crates. Its definitions: `specs/Answer` (the text of answers), `specs/Said` (what is said of a
 //! deed, and its text), `specs/Session` (the deeds of a script, what was said of them, and what was written),
-//! `specs/Headline` (what a session has to do with rows and text).
+//! `specs/PlainRun` (that a session is a run without crashes), `specs/Headline` (what a session has to do with rows and text).
 //! `main` alone touches the real streams; everything else is over the traits of `beldi_outside` and `beldi_row`.
 #![tactic(auto)]
 

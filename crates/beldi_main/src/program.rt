@@ -6,7 +6,7 @@ ghost use Rattle.beldi_script.specs.Cut.{lines_of};
 ghost use Rattle.beldi_syntax.specs.Grammar.{parsed_at};
 ghost use Rattle.beldi_main.specs.declared.program.Ended.TheVariants as ended;
 ghost use Rattle.beldi_main.specs.Session.{OnTold, Kept, is_whole};
-ghost use Rattle.beldi_main.specs.Headline.{Anything, BookIsLegal, ByStatus, IsWholeSource, RunOn, ScriptOn, SessionOn, SourceOn, StandsForTheRun, StartsTheBound, TellsOutcomes, UnreadOn, UsageOn, WordsOn, LongOn, end_of, end_unread, is_of_run, is_of_source, is_run, status_of};
+ghost use Rattle.beldi_main.specs.Headline.{Anything, ByStatus, IsWholeSource, PlainRun, RunOn, ScriptOn, SessionOn, SourceOn, UnreadOn, UsageOn, WordsOn, LongOn, end_of, end_unread, is_of_run, is_of_source, is_run, status_of};
 
 use crate::ending::finish;
 use crate::session::{Stop, do_lines};
@@ -47,17 +47,9 @@ pub fn top<S: Source, K: Sink, T: Table, N: Link, C: Clock>(
     _link: &mut N,
     _clock: &mut C,
 ) -> (u8, T)
-    // The text that the sink got is that of a session of the source.
-    ensures text { ByStatus result.0 (λ e. WordsOn Anything (is_run words.now) (S.left source.old) (T.rows table) (T.rows result.1) (K.held sink.old) (K.held sink.new) (T.faults table) (T.faults result.1) e) }
-    // Over a table without rows, the book of that session is legal: each step of an instance acts once, in its order ..
-    ensures legal { ByStatus result.0 (λ e. WordsOn BookIsLegal (is_run words.now) (S.left source.old) (T.rows table) (T.rows result.1) (K.held sink.old) (K.held sink.new) (T.faults table) (T.faults result.1) e) }
-    // .. it starts exactly the requests that were answered bound, in order ..
-    ensures bound { ByStatus result.0 (λ e. WordsOn StartsTheBound (is_run words.now) (S.left source.old) (T.rows table) (T.rows result.1) (K.held sink.old) (K.held sink.new) (T.faults table) (T.faults result.1) e) }
-    // .. each outcome that is told is the one that its root has in the run of the book ..
-    ensures replies { ByStatus result.0 (λ e. WordsOn TellsOutcomes (is_run words.now) (S.left source.old) (T.rows table) (T.rows result.1) (K.held sink.old) (K.held sink.new) (T.faults table) (T.faults result.1) e) }
-    // .. and the rows stand for that run, and are listed as it is; each listing in mid-script is that of the book of its
-    // moment, a front of the book at the end.
-    ensures tables { ByStatus result.0 (λ e. WordsOn StandsForTheRun (is_run words.now) (S.left source.old) (T.rows table) (T.rows result.1) (K.held sink.old) (K.held sink.new) (T.faults table) (T.faults result.1) e) }
+    // The text that the sink got is that of a session of the source. Over a table without rows this session is a run without
+    // crashes of exactly the requests that were answered bound, and the replies, the tables and the rows are those of that run.
+    ensures session { ByStatus result.0 (λ e. WordsOn PlainRun (is_run words.now) (S.left source.old) (T.rows table) (T.rows result.1) (K.held sink.old) (K.held sink.new) (T.faults table) (T.faults result.1) e) }
     ensures usage { (result.0 ≡ 2 → is_run words.now ≡ false) × (is_run words.now ≡ false → (result.0 ≡ 2) ⊎ (result.0 ≡ 4)) }
     ensures source_fault { result.0 ≡ 3 → Rose (S.faults source.old) (S.faults source.new) }
     ensures sink_fault { result.0 ≡ 4 → Rose (K.faults sink.old) (K.faults sink.new) }

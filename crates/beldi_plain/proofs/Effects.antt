@@ -1,10 +1,11 @@
 -- The effect that a machine stands at is the one that its function's body wants.
-use Rattle.std.proofs.Common.{◌≡◌, ℕ, suc, zero, ◌+◌, ◌<◌, Bool, true, false, List, [], ◌∷◌, ◌++◌, length, take, drop, Option, Some, None, refl, ap, sym, ◌∙◌, subst, arith, append-nil, IsTrue, length-take, if◌then◌else◌}
+use Rattle.std.proofs.Common.{◌≡◌, ℕ, suc, zero, ◌+◌, ◌<◌, Bool, true, false, List, [], ◌∷◌, ◌++◌, length, take, drop, Option, Some, None, refl, ap, sym, ◌∙◌, subst, arith, append-nil, IsTrue, Result, Ok, Err, length-take, if◌then◌else◌}
 use Rattle.std.specs.Prelude.{slice_get, nat_lt}
 use Rattle.std.proofs.lemmas.List.{take-append-drop}
 use borrow.Author.Tests.{ltb-true, ltb-false}
 use Rattle.beldi_value.specs.declared.value.Value.{Value}
 use Rattle.beldi_value.specs.declared.outcome.Outcome.TheVariants as outcome
+use Rattle.beldi_value.specs.declared.outcome.Code.{Code}
 use Rattle.beldi_value.specs.declared.outcome.Code.TheVariants as code
 use Rattle.beldi_lang.specs.declared.deployment.Deployment.{Deployment}
 use Rattle.beldi_lang.specs.declared.deployment.Func.{Func}
@@ -16,7 +17,8 @@ use Rattle.beldi_lang.specs.declared.effect.Effect.{Effect}
 use Rattle.beldi_lang.specs.declared.effect.Effect.TheVariants as effect
 use Rattle.beldi_lang.specs.declared.effect.Answer.{Answer}
 use Rattle.beldi_lang.specs.declared.machine.Machine.{Machine}
-use Rattle.beldi_lang.specs.Wants.{Bindings, table_number, value_of, counted, go_on, first_variables, wants_answer, wants_of, run_block, run_form, func_at, wants}
+use Rattle.beldi_lang.specs.Evaluate.{value_at}
+use Rattle.beldi_lang.specs.Wants.{Bindings, table_number, counted, writes, returns, past_write, go_on, first_variables, wants_answer, wants_of, run_block, run_form, func_at, wants}
 use Rattle.beldi_lang.specs.Machine.{begun, effect_of, effect_of_form, IsAt}
 use Rattle.beldi_plain.specs.Plain as plain
 use Rattle.beldi_plain.specs.Plain.{Instance}
@@ -55,12 +57,16 @@ goes_past n e is few none =
     let yes : wants_answer (counted n e) ≡ true = ap wants_answer (counted_is n e (nat_lt n 10000) refl few) ∙ is in
     cc
 
+write_stops : (n t : ℕ) (k : List ℕ) (r : Result Value Code) (go : Bindings → List Answer → Effect) (vs : Bindings) (more : List Answer) → wants_answer (writes n t k r) ≡ false → n < 10000 → go_on go (past_write r vs more) ≡ writes n t k r
+write_stops n t k (Ok v) go vs more none few = goes_past n (effect.Write t k v) refl few none
+write_stops n t k (Err c) go vs more none few = refl
+
 form_stops : (ts : List TableHead) (n : ℕ) (form : Form) (go : Bindings → List Answer → Effect) (vs : Bindings) (more : List Answer) → Stops (effect_of_form ts n form vs) n more → go_on go (run_form ts n form vs more) ≡ effect_of_form ts n form vs
 form_stops ts n (Return e) go vs more h = refl
 form_stops ts n (Read x t k) go vs [] h = refl
 form_stops ts n (Read x t k) go vs (a ∷ more) h = goes_past n (effect.Read (table_number ts t) k) refl h.1 h.0
 form_stops ts n (Write t k e) go vs [] h = refl
-form_stops ts n (Write t k e) go vs (a ∷ more) h = goes_past n (effect.Write (table_number ts t) k (value_of vs e)) refl h.1 h.0
+form_stops ts n (Write t k e) go vs (a ∷ more) h = write_stops n (table_number ts t) k (value_at vs e) go vs more h.0 h.1
 
 block_stops : (ts : List TableHead) (n : ℕ) (o : Option Stmt) (ss : List Stmt) (vs : Bindings) (more : List Answer) → Stops (effect_of ts n o vs) n more → run_block ts n (from o ss) vs more ≡ effect_of ts n o vs
 block_stops ts n None ss vs more h = refl
@@ -84,13 +90,25 @@ pub takes_none : (d : Deployment) (func : ℕ) (args : Value) (m : Machine) (ans
 takes_none d func args m answers i h none few =
     ap (wants d func args) (sym (take-append-drop i answers)) ∙ at_stop d func args m (take i answers) (drop i answers) h (stops_all m.effect m.steps (drop i answers) none (omega (arith, h.steps, length-take i answers)))
 
+no_return : (r : Result Value Code) → IsTrue (wants_answer (returns r)) → ⊥
+no_return (Ok v) w = cc
+no_return (Err c) w = cc
+
+write_few : (n t : ℕ) (k : List ℕ) (r : Result Value Code) → IsTrue (wants_answer (writes n t k r)) → n < 10000
+write_few n t k (Ok v) w = counted_few n _ (nat_lt n 10000) refl w
+write_few n t k (Err c) w = cc
+
+past_few : (r : Result Value Code) (go : Bindings → List Answer → Effect) (vs : Bindings) (rest : List Answer) → IsTrue (wants_answer (go_on go (past_write r vs rest))) → IsTrue (wants_answer (go vs rest))
+past_few (Ok v) go vs rest w = w
+past_few (Err c) go vs rest w = cc
+
 form_few : (ts : List TableHead) (n : ℕ) (form : Form) (go : Bindings → List Answer → Effect) (vs : Bindings) (answers : List Answer) → ((us : Bindings) (rest : List Answer) → IsTrue (wants_answer (go us rest)) → n + 1 + length rest < 10000)
     → IsTrue (wants_answer (go_on go (run_form ts n form vs answers))) → n + length answers < 10000
-form_few ts n (Return e) go vs answers later w = cc
+form_few ts n (Return e) go vs answers later w = absurd (no_return (value_at vs e) w)
 form_few ts n (Read x t k) go vs [] later w = omega (arith, counted_few n _ (nat_lt n 10000) refl w)
 form_few ts n (Read x t k) go vs (a ∷ rest) later w = omega (arith, later _ rest w)
-form_few ts n (Write t k e) go vs [] later w = omega (arith, counted_few n _ (nat_lt n 10000) refl w)
-form_few ts n (Write t k e) go vs (a ∷ rest) later w = omega (arith, later vs rest w)
+form_few ts n (Write t k e) go vs [] later w = omega (arith, write_few n (table_number ts t) k (value_at vs e) w)
+form_few ts n (Write t k e) go vs (a ∷ rest) later w = omega (arith, later vs rest (past_few (value_at vs e) go vs rest w))
 
 block_few : (ts : List TableHead) (n : ℕ) (ss : List Stmt) (vs : Bindings) (answers : List Answer) → IsTrue (wants_answer (run_block ts n ss vs answers)) → n + length answers < 10000
 block_few ts n [] vs answers w = cc

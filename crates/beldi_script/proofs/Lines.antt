@@ -2,7 +2,8 @@
 use Rattle.std.proofs.Common.{◌≡◌, ℕ, suc, ◌-◌, ◌<◌, ◌==◌, Bool, true, false, ◌&&◌, List, [], ◌∷◌, length, get_or, take, Some, None, refl, ap, sym, ◌∙◌, arith, if◌then◌else◌}
 use Rattle.std.proofs.lemmas.Option.{same_Some}
 use Rattle.std.proofs.lemmas.Bool.Decides.{nat_tests}
-use Rattle.beldi_script.specs.Cut.{before, after, unreturned, ends_here, onto_first, lines_of}
+use Rattle.beldi_value.specs.Cut.{before, after}
+use Rattle.beldi_script.specs.Cut.{unreturned, ends_here, onto_first, lines_of}
 
 -- a byte before a line; the newline is next where t is true
 step : (b c : ℕ) (front : List ℕ) (lines ls : List (List ℕ)) (t : Bool) → lines ≡ unreturned (if t then [] else c ∷ front) ∷ ls

@@ -10,7 +10,7 @@ use Rattle.beldi_lang.specs.Wants.{is_name}
 use Rattle.beldi_script.specs.declared.reading.Line.{Line}
 use Rattle.beldi_script.specs.declared.reading.Line.TheVariants.{Blank, Ticket, Request, Turn, Lost, Crash, Restart, Reply, Rows, Tables, Book}
 use Rattle.beldi_script.specs.declared.reading.ScriptErr.{ScriptErr}
-use Rattle.beldi_script.specs.Cut.{before, after}
+use Rattle.beldi_value.specs.Cut.{before, after}
 
 -- `?`
 infixl 10 ◌>>=◌

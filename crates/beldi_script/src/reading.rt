@@ -5,9 +5,8 @@ ghost use Rattle.beldi_value.specs.Number.{numeral_at};
 ghost use Rattle.beldi_lang.specs.Wants.{is_name};
 ghost use Rattle.beldi_script.specs.Line.{line_at, args_at, request_at, turn_at, run_at, restart_at, reply_at, alone, called, func_named, words_at, Reads, is_space};
 
-use crate::cut::cut_at;
 use beldi_lang::{Deployment, Func};
-use beldi_value::{Value, read_int, read_numeral};
+use beldi_value::{Value, cut_at, read_int, read_numeral};
 
 /// What a line says.
 #[derive(Drop)]

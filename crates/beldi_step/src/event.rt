@@ -60,7 +60,7 @@ pub enum Seen {
         live: u32,
         room: u32,
     },
-    /// 1,024 runs are live, and the event would start one.
+    /// 1,024 runs are live, and the event is a request or a restart.
     Crowded,
     /// The number was never given to a run.
     NoRun,

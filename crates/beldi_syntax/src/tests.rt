@@ -70,6 +70,7 @@ fn tell_expr(alloc: Global, out: &mut String, expr: &Expr) -> Result<(), AllocEr
             out.push_str(" ")?;
             out.push_str(name.as_str())
         }
+        _ => out.push_str(" other"),
     }
 }
 

@@ -13,7 +13,7 @@ use Rattle.beldi_value.specs.Json.{text_of}
 use Rattle.beldi_value.specs.Number.{is_numeral, is_plain, read_on, number_at, numeral_at, negated, int_at}
 use Rattle.beldi_value.proofs.Numbers.{all_read}
 
-own : IsNumeralModel (λ ds. all_ascii_digits ds ≡ true) (read_on 0)
+pub own : IsNumeralModel (λ ds. all_ascii_digits ds ≡ true) (read_on 0)
 own = numerals_by_fold _ (search rules) read_on (search rules)
 
 -- ---- from a number to its text, and back
@@ -29,7 +29,7 @@ plain_decimal (suc n) h = plain_above (decimal (suc n)) (first_decimal (suc n) (
 some_digit : (bs : List ℕ) → 0 < length bs → (length bs == 0) ≡ false
 some_digit bs h = grind (arith, nat_tests)
 
-numeral_of : (most n : ℕ) → n < 2 ^ 64 → n ≤ most → numeral_at most (decimal n) ≡ Some n
+pub numeral_of : (most n : ℕ) → n < 2 ^ 64 → n ≤ most → numeral_at most (decimal n) ≡ Some n
 numeral_of most n h small =
     ap (λ b. if b then number_at most (decimal n) else None) (plain_decimal n h)
     ∙ sym (all_read most n (decimal n) (some_digit (decimal n) (decimal_nonempty n h)) (sym (digits_value-decimal own n h)) (sym (digits_decimal own n h)) small)
@@ -70,7 +70,7 @@ lone_zero [] h e = absurd (omega arith)
 lone_zero (b ∷ []) h e = refl
 lone_zero (b ∷ c ∷ bs) h e = absurd (let f : (b == 48) ≡ true = grind (arith, nat_tests) in cc)
 
-numeral_back : (most n : ℕ) (bs : List ℕ) → most < 2 ^ 64 → numeral_at most bs ≡ Some n → decimal n ≡ bs
+pub numeral_back : (most n : ℕ) (bs : List ℕ) → most < 2 ^ 64 → numeral_at most bs ≡ Some n → decimal n ≡ bs
 numeral_back most n bs h e =
     let plain = where_true (is_plain bs) (number_at most bs) n e in
     let found = where_true (is_numeral bs && nat_le (read_on 0 bs) most) (Some (read_on 0 bs)) n plain.1 in

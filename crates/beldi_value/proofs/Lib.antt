@@ -1,4 +1,13 @@
 pub mod Ages
+pub mod Converting
+pub mod Fields
+pub mod IdTexts
 pub mod Ints
+pub mod JsonText
 pub mod Maps
+pub mod Marks
 pub mod Numbers
+pub mod ReadAgain
+pub mod Results
+pub mod Slashes
+pub mod Within

@@ -1,11 +1,16 @@
 -- What holds of the definitions.
-use Rattle.std.specs.Prelude.{◌≡◌, ◌<◌, ◌^◌, false, IsTrue, List, ℕ, ℤ, Some}
+use Rattle.std.specs.Prelude.{◌≡◌, ◌<◌, ◌≤◌, ◌^◌, false, IsTrue, List, length, ℕ, ℤ, Some}
+use Rattle.std.specs.List.{AllByRecursion}
 use lib.Signed.{mag}
 use Rattle.beldi_value.specs.declared.id.IntentId.{IntentId}
-use Rattle.beldi_value.specs.Datum.{int}
+use Rattle.beldi_value.specs.Datum.{Datum, int}
+use Rattle.beldi_value.specs.Formed.{IsFormed}
 use Rattle.beldi_value.specs.Id.{is_older}
+use Rattle.beldi_value.specs.IdAt.{id_at}
 use Rattle.beldi_value.specs.Json.{text_of}
 use Rattle.beldi_value.specs.Number.{int_at}
+use Rattle.beldi_value.specs.Reading.{IsReadAgain}
+use Rattle.beldi_value.specs.Text.{id_text}
 
 -- of two ids that are not one, just one is older, and what is older than an older one is older
 pub record AgesAreOrdered : Type 0 where
@@ -18,3 +23,12 @@ pub record AgesAreOrdered : Type 0 where
 pub record IntTextIsExact : Type 0 where
   pub reads : (z : ℤ) → mag z < 2 ^ 63 → int_at (text_of (int z)) ≡ Some z
   pub alone : (z : ℤ) (bs : List ℕ) → int_at bs ≡ Some z → text_of (int z) ≡ bs
+
+-- an id has one text, and that alone is read as it
+pub record IdTextIsExact : Type 0 where
+  pub reads : (id : IntentId) → 0 < id.ticket → id.ticket < 2 ^ 32 → AllByRecursion (λ h. h < 2 ^ 32) id.hops → length id.hops ≤ 63 → id_at (id_text id) ≡ Some id
+  pub alone : (id : IntentId) (bs : List ℕ) → id_at bs ≡ Some id → id_text id ≡ bs
+
+-- the canonical text of a value within the limits is read as that value
+abbrev pub TextIsReadAgain : Type 0
+TextIsReadAgain = (d : Datum) → IsFormed d → IsReadAgain d

@@ -1,6 +1,8 @@
 // The texts of ids, places, owners and outcomes.
-ghost use Rattle.std.specs.Prelude.{◌≡◌, ◌++◌, OnOk, OnErr, IfOk, string_bytes};
-ghost use Rattle.beldi_value.specs.Text.{id_text, place_text, owner_text, code_text, outcome_text};
+ghost use Rattle.std.specs.Prelude.{◌≡◌, ◌<◌, ◌^◌, ◌++◌, Some, OnOk, OnErr, IfOk, string_bytes};
+ghost use Rattle.std.specs.List.{AllByRecursion};
+ghost use Rattle.beldi_value.specs.IdAt.{id_at};
+ghost use Rattle.beldi_value.specs.Text.{hops_text, id_text, place_text, owner_text, code_text, outcome_text};
 
 use crate::id::IntentId;
 use crate::outcome::{Code, Outcome};
@@ -9,25 +11,36 @@ use crate::text::Str;
 use std::alloc::{AllocError, Global};
 
 impl IntentId {
-    /// Appends the ticket, and `/` and a step for each hop.
+    /// Appends the ticket, and `/` and a step for each hop. Of a ticket from 1 it is read as that id again.
     pub fn write(&self, alloc: Global, out: &mut Str) -> Result<(), AllocError>
         ensures ok { OnOk result (out.new ≡ out.old ++ id_text self.now) }
         ensures err { OnErr result (out.new ≡ out.old) }
+        ensures again { OnOk result (0 < self.now.ticket → id_at (id_text self.now) ≡ Some self.now) }
     {
         let text = self.text(alloc)?;
         out.push_text(text.as_str())
     }
 
     fn text(&self, alloc: Global) -> Result<String, AllocError>
-        ensures { IfOk result (λ t. string_bytes t ≡ id_text self.now) }
+        ensures text { IfOk result (λ t. string_bytes t ≡ id_text self.now) }
+        ensures again { OnOk result (0 < self.now.ticket → id_at (id_text self.now) ≡ Some self.now) }
     {
-        let mut text = self.ticket.to_string(alloc)?;
-        for step in self.hops.as_slice() {
-            let hop = format!(in alloc; "/{step}")?;
-            text.push_str(hop.as_str())?;
-        }
+        let ticket = self.ticket;
+        let mut text = ticket.to_string(alloc)?;
+        put_hops(alloc, self.hops.as_slice(), &mut text)?;
         Ok(text)
     }
+}
+
+fn put_hops(alloc: Global, steps: &[u32], text: &mut String) -> Result<(), AllocError>
+    ensures text { OnOk result (string_bytes text.new ≡ string_bytes text.old ++ hops_text steps.now) }
+    ensures small { AllByRecursion (λ h. h < 2 ^ 32) steps.now }
+{
+    for step in steps {
+        let hop = format!(in alloc; "/{step}")?;
+        text.push_str(hop.as_str())?;
+    }
+    Ok(())
 }
 
 impl Place {

@@ -3,37 +3,16 @@ use Rattle.beldi_main.specs.declared.program.Ended.TheVariants as ended
 use Rattle.beldi_outside.specs.Outside.{Told, Rose, max_source}
 use Rattle.beldi_syntax.specs.Grammar.{parsed_at}
 use Rattle.beldi_main.specs.Session.{OnTold}
-use Rattle.beldi_main.specs.Headline.{IsWholeSource, BookIsLegal, StartsTheBound, TellsOutcomes, StandsForTheRun, is_run, status_of}
-use Rattle.beldi_main.proofs.Claims.{is_legal, starts_bound, tells_outcomes, stands, claimed, completed, same_end}
+use Rattle.beldi_main.specs.Headline.{IsWholeSource, PlainRun, is_run, status_of}
+use Rattle.beldi_main.proofs.Claims.{is_plain, claimed, completed, same_end}
 use Rattle.beldi_main.proofs.program.top.Goals as goal
 
-pub returns-clause-legal : goal.returns-clause-legal
-returns-clause-legal g c =
+pub returns-clause-session : goal.returns-clause-session
+returns-clause-session g c =
     let t = g.T.Table in
     let k = g.K.Sink in
     let r = c.carry_out-ended.result in
-    (r.0, c.status.ensures, claimed BookIsLegal is_legal (is_run c.args.words.now) (g.S.Source.left c.args.source.now) (t.rows c.args.table) (t.rows r.1) (k.held c.args.sink.now) (k.held c.carry_out-ended.new.sink) (t.faults c.args.table) (t.faults r.1) r.0 c.carry_out-ended.ensures.text)
-
-pub returns-clause-bound : goal.returns-clause-bound
-returns-clause-bound g c =
-    let t = g.T.Table in
-    let k = g.K.Sink in
-    let r = c.carry_out-ended.result in
-    (r.0, c.status.ensures, claimed StartsTheBound starts_bound (is_run c.args.words.now) (g.S.Source.left c.args.source.now) (t.rows c.args.table) (t.rows r.1) (k.held c.args.sink.now) (k.held c.carry_out-ended.new.sink) (t.faults c.args.table) (t.faults r.1) r.0 c.carry_out-ended.ensures.text)
-
-pub returns-clause-replies : goal.returns-clause-replies
-returns-clause-replies g c =
-    let t = g.T.Table in
-    let k = g.K.Sink in
-    let r = c.carry_out-ended.result in
-    (r.0, c.status.ensures, claimed TellsOutcomes tells_outcomes (is_run c.args.words.now) (g.S.Source.left c.args.source.now) (t.rows c.args.table) (t.rows r.1) (k.held c.args.sink.now) (k.held c.carry_out-ended.new.sink) (t.faults c.args.table) (t.faults r.1) r.0 c.carry_out-ended.ensures.text)
-
-pub returns-clause-tables : goal.returns-clause-tables
-returns-clause-tables g c =
-    let t = g.T.Table in
-    let k = g.K.Sink in
-    let r = c.carry_out-ended.result in
-    (r.0, c.status.ensures, claimed StandsForTheRun stands (is_run c.args.words.now) (g.S.Source.left c.args.source.now) (t.rows c.args.table) (t.rows r.1) (k.held c.args.sink.now) (k.held c.carry_out-ended.new.sink) (t.faults c.args.table) (t.faults r.1) r.0 c.carry_out-ended.ensures.text)
+    (r.0, c.status.ensures, claimed PlainRun is_plain (is_run c.args.words.now) (g.S.Source.left c.args.source.now) (t.rows c.args.table) (t.rows r.1) (k.held c.args.sink.now) (k.held c.carry_out-ended.new.sink) (t.faults c.args.table) (t.faults r.1) r.0 c.carry_out-ended.ensures.text)
 
 pub returns-clause-usage : goal.returns-clause-usage
 returns-clause-usage g c = (

@@ -1,0 +1,6 @@
+-- A fact that holds whatever was answered.
+use Rattle.std.proofs.Common.{Result, Ok, Err, OnOk}
+
+pub always : {A E : Type 0} (r : Result A E) (P : Type 0) → P → OnOk r P
+always (Ok x) P p = p
+always (Err e) P p = tt

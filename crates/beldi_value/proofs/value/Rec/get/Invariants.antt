@@ -1,0 +1,8 @@
+use Rattle.std.proofs.Common.{◌≡◌, drop}
+use Rattle.beldi_value.specs.Value.{fields_view}
+use Rattle.beldi_value.specs.Parts.{field_at}
+use Rattle.beldi_value.proofs.value.Rec.get.Given as goal
+
+-- it is up to what is left
+abbrev pub invariant-loop-field : goal.invariant-loop-field
+invariant-loop-field l = field_at l.key (fields_view (drop l.field-index l.field-items)) ≡ field_at l.key (fields_view l.field-items)

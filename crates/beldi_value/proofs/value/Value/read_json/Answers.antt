@@ -1,0 +1,9 @@
+use Rattle.std.proofs.Common.{rules}
+use Rattle.beldi_value.specs.Reading.{read_of, ReadsValue}
+use Rattle.beldi_value.proofs.Within.{answer_within}
+use Rattle.beldi_value.proofs.value.Value.read_json.Goals as goal
+
+pub returns-in-Ok-value_from-clause-within : goal.returns-in-Ok-value_from-clause-within
+returns-in-Ok-value_from-clause-within c =
+    let read : ReadsValue (read_of c.args.bytes.now) c.if_small.result = search rules in
+    answer_within c.args.bytes.now c.if_small.result read

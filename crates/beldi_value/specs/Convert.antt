@@ -1,0 +1,26 @@
+-- What is made of JSON: the value that it is, or a refusal where a number is no whole number of 64 bits.
+use Rattle.std.specs.Prelude.{◌≡◌, ℕ, List, Option, Some, None, Result, Ok, Err}
+use Rattle.serde_json.specs.Data as json
+use Rattle.beldi_value.specs.declared.value.Value.{Value}
+use Rattle.beldi_value.specs.declared.convert.ConvertErr.{ConvertErr}
+use Rattle.beldi_value.specs.declared.convert.ConvertErr.TheVariants.{OutOfMemory, NotInt}
+use Rattle.beldi_value.specs.Datum.{Datum, items_of, fields_of}
+use Rattle.beldi_value.specs.Value.{datum_of}
+use Rattle.beldi_value.specs.Json.{of_json, of_items, of_members}
+
+-- want of memory is free; the other refusal comes where nothing is read
+abbrev pub Refuses : {A : Type 0} → Option A → ConvertErr → Type 0
+Refuses read OutOfMemory = Unit {0}
+Refuses read NotInt = read ≡ None
+
+abbrev pub ConvertsValue : json.Data → Result Value ConvertErr → Type 0
+ConvertsValue d (Ok v) = of_json d ≡ Some (datum_of v)
+ConvertsValue d (Err e) = Refuses (of_json d) e
+
+abbrev pub ConvertsItems : json.Items → Result (List Datum) ConvertErr → Type 0
+ConvertsItems ds (Ok vs) = of_items ds ≡ Some (items_of vs)
+ConvertsItems ds (Err e) = Refuses (of_items ds) e
+
+abbrev pub ConvertsMembers : json.Members → Result (List (List ℕ × Datum)) ConvertErr → Type 0
+ConvertsMembers ms (Ok fs) = of_members ms ≡ Some (fields_of fs)
+ConvertsMembers ms (Err e) = Refuses (of_members ms) e

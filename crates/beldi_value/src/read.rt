@@ -1,0 +1,85 @@
+// Values from JSON.
+ghost use Rattle.std.specs.Prelude.{◌≡◌, ◌≤◌, IfOk, IsTrue, MatchResult};
+ghost use Rattle.serde_json.specs.View.{view};
+ghost use Rattle.serde_json.specs.Data.{depth};
+ghost use Rattle.beldi_value.specs.Limits.{is_within};
+ghost use Rattle.beldi_value.specs.Reading.{json_at, if_small, read_of, ReadsValue, Refuses};
+ghost use Rattle.beldi_value.specs.Value.{datum_of};
+
+use crate::convert::{ConvertErr, depth_of, value_from};
+use crate::text::Str;
+use crate::value::Value;
+use std::alloc::{AllocError, Global};
+
+/// Why bytes were read as no value. Where several causes hold, the one that stands first here is told.
+#[derive(Clone, Copy, Debug, PartialEq, Eq)]
+pub enum ValueErr {
+    /// No more memory.
+    OutOfMemory,
+    /// `serde_json` does not read the bytes: they are no UTF-8 or no JSON, or a number is past the largest float.
+    NotJson,
+    /// Lists and records nest more than 32 deep.
+    TooDeep,
+    /// A number is no whole number of 64 bits with a sign; nor is `-0`.
+    NotInt,
+    /// The canonical text has this many bytes, more than 4,096.
+    TooLarge { bytes: u64 },
+}
+
+impl From<AllocError> for ValueErr {
+    ghost use Rattle.std.specs.Prelude.{◌≡◌};
+    ghost use Rattle.beldi_value.specs.declared.read.ValueErr.TheVariants.{OutOfMemory};
+
+    ghost from_gives = { λ _ e. e ≡ OutOfMemory };
+
+    fn from(_: AllocError) -> Self {
+        ValueErr::OutOfMemory
+    }
+}
+
+// What `serde_json` reads.
+fn json_of(alloc: Global, bytes: &[u8]) -> Result<serde_json::Value, ValueErr>
+    ensures read { MatchResult result (λ j. json_at bytes.now ≡ Some (view j)) (λ e. Refuses (json_at bytes.now) e) }
+    ensures nests { IfOk result (λ j. depth (view j) ≤ 127) }
+{
+    match serde_json::Value::from_slice(alloc, bytes) {
+        Ok(json) => Ok(json),
+        Err(error) if error.is_memory() => Err(ValueErr::OutOfMemory),
+        Err(_) => Err(ValueErr::NotJson),
+    }
+}
+
+impl Value {
+    /// The value that the bytes are in JSON. In a record with a repeated key the last one counts.
+    pub fn read_json(alloc: Global, bytes: &[u8]) -> Result<Value, ValueErr>
+        ensures read { ReadsValue (read_of bytes.now) result }
+        ensures within { IfOk result (λ v. IsTrue (is_within (datum_of v))) }
+    {
+        let json = match json_of(alloc, bytes) {
+            Ok(json) => json,
+            Err(why) => return Err(why),
+        };
+        if depth_of(&json) > 32 {
+            return Err(ValueErr::TooDeep);
+        }
+        match value_from(alloc, &json) {
+            Ok(value) => value.if_small(alloc),
+            Err(ConvertErr::OutOfMemory) => Err(ValueErr::OutOfMemory),
+            Err(ConvertErr::NotInt) => Err(ValueErr::NotInt),
+        }
+    }
+
+    // The value, where its canonical text is not too long.
+    fn if_small(self, alloc: Global) -> Result<Value, ValueErr>
+        ensures { ReadsValue (if_small (datum_of self)) result }
+    {
+        if self.text_left(4096).is_some() {
+            return Ok(self);
+        }
+        let mut text = Str::new(alloc);
+        self.write_json(alloc, &mut text)?;
+        Err(ValueErr::TooLarge {
+            bytes: text.len() as u64,
+        })
+    }
+}
