@@ -1,3 +1,5 @@
+pub mod Least
+pub mod Plans
 pub mod Replies
 pub mod Right
 pub mod RunMaps

@@ -1,6 +1,6 @@
 -- Why the calls of a host keep it and its rows right, and what they tell of the run of the book.
 use Rattle.std.proofs.Common.{◌≡◌, ℕ, ◌++◌, ◌&&◌, Bool, true, false, List, [], Option, None, Some, Result, Ok, Err, refl, ap, sym, ◌∙◌, subst, is_some, arith, if◌then◌else◌}
-use Rattle.std.specs.Prelude.{nat_lt, nat_le, OnOk, IfOk}
+use Rattle.std.specs.Prelude.{nat_lt, nat_le, OnOk, IfOk, IsSome}
 use Rattle.std.specs.FinMap as map
 use Rattle.std.specs.FinMap.{len-entries, len-empty}
 use Rattle.std.specs.declared.alloc.AllocError.{AllocError}
@@ -27,6 +27,7 @@ use Rattle.beldi_core.specs.Survey.{Reads, greatest, newest_of, outcome_seen, ro
 use Rattle.beldi_core.specs.declared.survey.OpenErr.{OpenErr}
 use Rattle.beldi_core.specs.declared.survey.ReplySeen.{ReplySeen}
 use Rattle.beldi_core.specs.declared.survey.ReplySeen.TheVariants.{Unknown}
+use Rattle.beldi_laws.specs.Laws.{is_gone}
 use Rattle.beldi_laws.specs.OneAnswer.{AnswersStay}
 use Rattle.beldi_laws.proofs.OneAnswer.{one_answer, answers_stay}
 use Rattle.beldi_core.specs.Right.{RightAt, LegalAt, StandsAt, OneAnswerAt, StayAt, HasNoRows, ListedAt, HasNoReply, SaidOf, SaidAt}
@@ -65,6 +66,17 @@ pub event_stays : (d : Deployment) (e : Event) (c b : Core) (room new_room fault
 event_stays d e c b room new_room faults new_faults None after x s h = tt
 event_stays d e c b room new_room faults new_faults (Some m) None x s h = absurd s.rows
 event_stays d e c b room new_room faults new_faults (Some m) (Some n) x s h = stays_on d room faults new_faults e c b m n x s.rows h
+
+not_told : false ≡ true → ⊥
+not_told h = cc
+
+-- no ticket is answered gone
+pub never_gone : (d : Deployment) (e : Event) (c b : Core) (room new_room faults new_faults : ℕ) (before after : Option Rows) (x : Result Seen AllocError)
+    → Stepped d e c b room new_room faults new_faults before after x → IsSome before → RightAt d c before → IfOk x (λ y. is_gone y ≡ false)
+never_gone d e c b room new_room faults new_faults before after (Err w) s told h = tt
+never_gone d e c b room new_room faults new_faults None after (Ok x) s told h = let clash : false ≡ true = told in absurd (not_told clash)
+never_gone d e c b room new_room faults new_faults (Some m) None (Ok x) s told h = absurd s.rows
+never_gone d e c b room new_room faults new_faults (Some m) (Some n) (Ok x) s told h = (after_event d room faults new_faults e c b m n x h s.rows).there
 
 -- an event
 pub event_keeps : (d k : Deployment) (e : Event) (c b : Core) (room new_room faults new_faults : ℕ) (before after : Option Rows) (x : Result Seen AllocError)

@@ -24,8 +24,8 @@ use Rattle.beldi_step.specs.declared.turn.TurnErr.TheVariants.{Lost, Stopped}
 use Rattle.beldi_step.specs.Run.{Turned}
 use Rattle.beldi_step.specs.Host.{put_run, is_none}
 use Rattle.beldi_laws.proofs.Lives.{remove_put}
-use Rattle.beldi_step.specs.Turn.{Ran, RanOn, going, turned_by}
-use Rattle.beldi_core.specs.Runs.{RunMap, AllGiven, withdrawn, says_of, ends_run, settled, Led, LedOn, first_past, next_number}
+use Rattle.beldi_step.specs.Turn.{Ran, RanOn, StandsAtFull, going, turned_by}
+use Rattle.beldi_core.specs.Runs.{RunMap, AllGiven, withdrawn, says_of, ends_run, settled, Led, LedOn, OneLed, first_past, next_number}
 
 -- entries without one key
 pub one_removed : (es fs : List (ℕ × Run)) (k : ℕ) → ((q : ℕ) → lookup (is_at (nat_cmp q)) fs ≡ cond (is_at (nat_cmp k) q) None (lookup (is_at (nat_cmp q)) es)) → map.from_entries {R = nat_cmp} fs ≡ map.remove (map.from_entries es) k
@@ -89,18 +89,26 @@ over_back s false = refl
 says_back : (s : Run) (x : TurnSays) → x ≡ says_of (turned_by s x)
 says_back s x = λ j. record { entry = x.entry; over = sym (over_back s x.over) j; reply = x.reply }
 
-led_on : (d : Deployment) (changes : ℕ) (a b : RunMap) (i : ℕ) (r s : Run) (now room : ℕ) (m n : Rows) (x : Result TurnSays TurnErr) → b ≡ settled (ends_run x) (map.insert a i s) i → map.get a i ≡ Some r → RanOn d r changes r.at s now room m n x → LedOn d changes a b i (Some r) now room m n x
-led_on d changes a b i r s now room m n (Ok x) is here h = (h.0, is ∙ put_back a i s x.over ∙ ap (λ (t : Turned). put_run a i t.next) h.1, says_back s x ∙ ap says_of h.1, h.2)
-led_on d changes a b i r s now room m n (Err (Lost e)) is here h = (h.0, is ∙ remove_set a i s, h.1, h.2)
-led_on d changes a b i r s now room m n (Err (Stopped OutOfMemory)) is here h = (h, is ∙ remove_set a i s)
-led_on d changes a b i r s now room m n (Err (Stopped Failed)) is here h = (h, is ∙ remove_set a i s)
-led_on d changes a b i r s now room m n (Err (Stopped (Full live most))) is here h = (h.0, is ∙ ap (map.insert a i) h.1 ∙ same_set nat_cmp_total nat_cmp-IsAntisymmetric a i r here, h.2, h.3, h.4, h.5)
+led_on : (d : Deployment) (changes : ℕ) (a b : RunMap) (i : ℕ) (r s : Run) (now room : ℕ) (m n : Rows) (x : Result TurnSays TurnErr) → b ≡ settled (ends_run x) (map.insert a i s) i → map.get a i ≡ Some r → StandsAtFull r s x → RanOn d r changes r.at s now room m n x → LedOn d changes a b i (Some r) now room m n x
+led_on d changes a b i r s now room m n (Ok x) is here full h = (h.0, is ∙ put_back a i s x.over ∙ ap (λ (t : Turned). put_run a i t.next) h.1, says_back s x ∙ ap says_of h.1, h.2)
+led_on d changes a b i r s now room m n (Err (Lost e)) is here full h = (h.0, is ∙ remove_set a i s, h.1, h.2)
+led_on d changes a b i r s now room m n (Err (Stopped OutOfMemory)) is here full h = (h, is ∙ remove_set a i s)
+led_on d changes a b i r s now room m n (Err (Stopped Failed)) is here full h = (h, is ∙ remove_set a i s)
+led_on d changes a b i r s now room m n (Err (Stopped (Full live most))) is here full h = (h.0, is ∙ ap (map.insert a i) full ∙ same_set nat_cmp_total nat_cmp-IsAntisymmetric a i r here, h.1)
+
+one_led : (a b : RunMap) (i : ℕ) (r s : Run) (x : Result TurnSays TurnErr) → b ≡ settled (ends_run x) (map.insert a i s) i → map.get a i ≡ Some r → StandsAtFull r s x → OneLed a i b x
+one_led a b i r s (Ok x) is here h = (going s x.over, over_back s x.over, is ∙ put_back a i s x.over)
+one_led a b i r s (Err (Lost e)) is here h = is ∙ remove_set a i s
+one_led a b i r s (Err (Stopped OutOfMemory)) is here h = is ∙ remove_set a i s
+one_led a b i r s (Err (Stopped Failed)) is here h = is ∙ remove_set a i s
+one_led a b i r s (Err (Stopped (Full live most))) is here h = is ∙ ap (map.insert a i) h ∙ same_set nat_cmp_total nat_cmp-IsAntisymmetric a i r here
 
 pub led : (d : Deployment) (changes : ℕ) (a b c : RunMap) (i : ℕ) (r s : Run) (now room new_room faults new_faults : ℕ) (before after : Option Rows) (x : Result TurnSays TurnErr) → map.get a i ≡ Some r → b ≡ map.insert a i s → c ≡ settled (ends_run x) b i
     → Ran d r changes r.at s now room new_room faults new_faults before after x → Led d changes a c i now room new_room faults new_faults before after x
 led d changes a b c i r s now room new_room faults new_faults before after x here set is h = record {
   rows = tells_map {P = λ m n. RanOn d r changes r.at s now room m n x} {Q = λ m n. LedOn d changes a c i (map.get a i) now room m n x} before after
-      (λ m n p. subst (λ (o : Option Run). LedOn d changes a c i o now room m n x) (sym here) (led_on d changes a c i r s now room m n x (is ∙ ap (λ q. settled (ends_run x) q i) set) here p)) h.rows;
+      (λ m n p. subst (λ (o : Option Run). LedOn d changes a c i o now room m n x) (sym here) (led_on d changes a c i r s now room m n x (is ∙ ap (λ q. settled (ends_run x) q i) set) here h.stands p)) h.rows;
+  one = one_led a c i r s x (is ∙ ap (λ q. settled (ends_run x) q i) set) here h.stands;
   later = h.later;
   failed = h.failed;
   room = h.room;

@@ -21,10 +21,10 @@ use Rattle.beldi_step.specs.declared.turn.TurnSays.{TurnSays}
 use Rattle.beldi_step.specs.declared.turn.TurnErr.{TurnErr}
 use Rattle.beldi_step.specs.declared.turn.TurnErr.TheVariants.{Lost, Stopped}
 use Rattle.beldi_step.specs.Run.{run_key, run_act, run_turned}
-use Rattle.beldi_step.specs.Host.{Core, Plan, Answer, lost_plan, crash_plan, ended_run, no_run, turn_plan, turn_next, plan, plan_of, counted, most_events, Follows, EventOn, Stepped}
+use Rattle.beldi_step.specs.Host.{Core, Plan, Answer, Answers, without_run, lost_plan, crash_plan, ended_run, no_run, turn_plan, turn_next, plan, plan_of, counted, most_events, Follows, Wanting, EventOn, Stepped}
 use Rattle.beldi_core.specs.Runs.{RunMap, Led, LedOn}
 use Rattle.beldi_core.specs.Answers.{lost_by}
-use Rattle.beldi_core.specs.Host.{Carried, CarriedOn, Wanting, written, with_runs, without_run}
+use Rattle.beldi_core.specs.Host.{Carried, CarriedOn, written, with_runs}
 use Rattle.beldi_laws.proofs.Lives.{remove_put}
 
 -- at a table that tells what it told
@@ -137,7 +137,7 @@ module _ (d : Deployment) (c b : Core) (a : RunMap) (i room old new : ℕ) (m n 
 
   unheard_full : (live most : ℕ) (o : Option Run) → b ≡ ended_run (with_runs c a) i → LedOn d (count_changes c.book) c.runs a i o c.now room m n (Err (Stopped (Full live most))) → Follows room old new (LostTurn i) c (lost_plan d c i o) m b n Dropped
   unheard_full live most None is h = absurd h
-  unheard_full live most (Some r) is h = (refl, inr (h.0, is ∙ ap (λ q. ended_run (with_runs c q) i) h.1, inl (h.2, h.3)))
+  unheard_full live most (Some r) is h = (refl, inr (h.0, is ∙ ap (λ q. ended_run (with_runs c q) i) h.1, inl (h.2.more, h.2.filled)))
 
   unheard_failed : (o : Option Run) → Rose old new → b ≡ ended_run (with_runs c a) i → LedOn d (count_changes c.book) c.runs a i o c.now room m n (Err (Stopped Failed)) → Follows room old new (LostTurn i) c (lost_plan d c i o) m b n Dropped
   unheard_failed None rose is h = absurd h
@@ -187,12 +187,12 @@ plan_is d e c h = ap (λ t. if t then plan_of d e (counted c) else Answer c Spen
 
 event_on : (d : Deployment) (c b : Core) (i room old new : ℕ) (m n : Rows) (x : Result Seen AllocError) → c.taken < most_events → CarriedOn d room old new (Turn i) (counted c) m b n x → EventOn d room old new (Turn i) c m b n x
 event_on d c b i room old new m n (Ok x) few h = subst (λ (p : Plan). Follows room old new (Turn i) (counted c) p m b n x) (sym (plan_is d (Turn i) c few)) h
-event_on d c b i room old new m n (Err w) few (inl h) = (few, inl h)
-event_on d c b i room old new m n (Err w) few (inr h) = (few, inr (h.0, h.1, h.2, plan_is d (Turn i) c few ∙ h.3, h.4, h.5))
+event_on d c b i room old new m n (Err w) few h = (few, h)
 
-pub stepped : (d : Deployment) (c b : Core) (i room new_room faults new_faults : ℕ) (before after : Option Rows) (x : Result Seen AllocError) → c.taken < most_events → Carried d (Turn i) (counted c) b room new_room faults new_faults before after x → Stepped d (Turn i) c b room new_room faults new_faults before after x
-stepped d c b i room new_room faults new_faults before after x few h = record {
+pub stepped : (d : Deployment) (c b : Core) (i room new_room faults new_faults : ℕ) (before after : Option Rows) (x : Result Seen AllocError) → c.taken < most_events → Carried d (Turn i) (counted c) b room new_room faults new_faults before after x → Answers (Turn i) (counted c) (plan_of d (Turn i) (counted c)) b x → Stepped d (Turn i) c b room new_room faults new_faults before after x
+stepped d c b i room new_room faults new_faults before after x few h answers = record {
   rows = tells_map {P = λ m n. CarriedOn d room faults new_faults (Turn i) (counted c) m b n x} {Q = λ m n. EventOn d room faults new_faults (Turn i) c m b n x} before after (λ m n p. event_on d c b i room faults new_faults m n x few p) h.rows;
+  answers = subst (λ p. Answers (Turn i) (counted c) p b x) (sym (plan_is d (Turn i) c few)) answers;
   later = h.later;
   failed = h.failed;
   room = h.room;

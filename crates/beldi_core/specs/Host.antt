@@ -1,19 +1,14 @@
 -- The host as the core that events speak of, and an event that was counted.
-use Rattle.std.specs.Prelude.{◌≡◌, ℕ, false, ◌≤◌, ◌⊎◌, ◌++◌, Option, Result, Ok, Err, option_to_list}
-use Rattle.std.specs.FinMap as map
+use Rattle.std.specs.Prelude.{◌≡◌, ℕ, false, ◌≤◌, ◌++◌, Option, Result, Ok, Err, option_to_list}
 use Rattle.std.specs.declared.alloc.AllocError.{AllocError}
 use Rattle.beldi_lang.specs.declared.deployment.Deployment.{Deployment}
-use Rattle.beldi_row.specs.declared.key.RowKey.{RowKey}
-use Rattle.beldi_row.specs.declared.act.Act.{Act}
-use Rattle.beldi_row.specs.Act.{Tell}
 use Rattle.beldi_row.specs.declared.table.Table.{Ghosts}
-use Rattle.beldi_row.specs.Table.{Rows, after_act, tell_act, Tells, Rose}
+use Rattle.beldi_row.specs.Table.{Rows, Tells, Rose}
 use Rattle.beldi_book.specs.declared.entry.Entry.{Entry}
 use Rattle.beldi_step.specs.declared.event.Event.{Event}
-use Rattle.beldi_step.specs.declared.event.Event.TheVariants.{Turn, Lost, Crash}
 use Rattle.beldi_step.specs.declared.event.Seen.{Seen}
 use Rattle.beldi_step.specs.declared.event.Seen.TheVariants as seen
-use Rattle.beldi_step.specs.Host.{Core, Do, plan_of, dropped, Follows, is_lost}
+use Rattle.beldi_step.specs.Host.{Core, plan_of, Wanting, Follows, is_lost}
 use Rattle.beldi_core.specs.Runs.{RunMap}
 use Rattle.beldi_core.specs.declared.host.Host.{Host}
 
@@ -24,19 +19,8 @@ core_of h = record { newest = h.newest; runs = h.runs.runs; last_run = h.runs.gi
 abbrev pub written : Core → Option Entry → Core
 written c e = record c { book = c.book ++ option_to_list e }
 
--- the run of this number is over, and the book has an entry more, if there is one
-abbrev pub without_run : Core → ℕ → Option Entry → Core
-without_run c i e = record c { runs = map.remove c.runs i; book = c.book ++ option_to_list e }
-
 abbrev pub with_runs : Core → RunMap → Core
 with_runs c m = record c { runs = m }
-
--- want of memory in an event that was counted
-abbrev pub Wanting : Deployment → Event → Core → Rows → Core → Rows → Type 0
-Wanting d (Turn i) c m b n = ((n ≡ m) × (b ≡ dropped (Turn i) c)) ⊎ ((k : RowKey) × (a : Act) × (f : (Tell → Core × Seen)) × (plan_of d (Turn i) c ≡ Do k a f) × (n ≡ after_act a c.now k m) × (b ≡ dropped (Turn i) (f (tell_act a c.now k m)).0))
-Wanting d (Lost i) c m b n = (n ≡ m) × (b ≡ dropped (Lost i) c)
-Wanting d (Crash i) c m b n = ⊥
-Wanting d e c m b n = (n ≡ m) × (b ≡ c)
 
 -- an event that was counted is carried out
 abbrev pub CarriedOn : Deployment → ℕ → ℕ → ℕ → Event → Core → Rows → Core → Rows → Result Seen AllocError → Type 0

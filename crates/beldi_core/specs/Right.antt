@@ -1,5 +1,5 @@
 -- What the calls of a host keep. Where the table does not tell its rows, nothing is said.
-use Rattle.std.specs.Prelude.{◌≡◌, ℕ, ◌++◌, List, Option, Some, None}
+use Rattle.std.specs.Prelude.{◌≡◌, ℕ, ◌++◌, List, IsSome, Option, Some, None}
 use Rattle.std.specs.FinMap as map
 use Rattle.beldi_lang.specs.declared.deployment.Deployment.{Deployment}
 use Rattle.beldi_row.specs.declared.table.Table.{Ghosts}
@@ -74,6 +74,10 @@ SaidAt d c (Some m) t x = SaidOf d c.book t x
 -- the host and its rows are right
 abbrev pub IsRight : {T : Type 0} {G : Ghosts T} → Host T G → Type 0
 IsRight {T} {G} h = RightAt h.code (core_of h) (G.rows h.table)
+
+-- its rows are told
+abbrev pub HasRows : {T : Type 0} {G : Ghosts T} → Host T G → Type 0
+HasRows {T} {G} h = IsSome (G.rows h.table)
 
 -- its book is legal
 abbrev pub HasLegalBook : {T : Type 0} {G : Ghosts T} → Host T G → Type 0

@@ -1,12 +1,12 @@
 -- The live runs by number, and what a turn of one of them does.
-use Rattle.std.specs.Prelude.{◌≡◌, ℕ, ◌+◌, ◌-◌, ◌^◌, ◌≤◌, ◌<◌, min, Bool, true, false, IsTrue, IsErrOf, List, [], ◌∷◌, if◌then◌else◌, Option, Some, None, Result, Ok, Err}
+use Rattle.std.specs.Prelude.{◌≡◌, ℕ, ◌+◌, ◌-◌, ◌^◌, ◌≤◌, ◌<◌, min, Bool, true, false, IsTrue, IsErrOf, IsSome, List, [], ◌∷◌, if◌then◌else◌, Option, Some, None, Result, Ok, Err}
 use Rattle.std.specs.FinMap as map
 use Rattle.std.specs.FinMap.{FinMap}
 use Rattle.std.specs.BTreeMap.{BTreeMap}
 use Rattle.std.specs.Ordering.{nat_cmp, is_lt}
 use Rattle.beldi_lang.specs.declared.deployment.Deployment.{Deployment}
 use Rattle.beldi_row.specs.declared.table.TableErr.TheVariants.{OutOfMemory, Failed, Full}
-use Rattle.beldi_row.specs.Table.{Rows, after_act, tell_act, adds, Tells, Rose}
+use Rattle.beldi_row.specs.Table.{Rows, IsFull, after_act, tell_act, adds, Tells, Rose}
 use Rattle.beldi_step.specs.declared.run.Run.{Run}
 use Rattle.beldi_step.specs.declared.turn.TurnSays.{TurnSays}
 use Rattle.beldi_step.specs.declared.turn.TurnErr.{TurnErr}
@@ -37,6 +37,11 @@ first_past i (e ∷ es) = if is_lt (nat_cmp i e.0) then Some e.0 else first_past
 -- the least number past this one that has a run
 abbrev pub next_number : ℕ → RunMap → Option ℕ
 next_number i m = first_past i (map.entries m)
+
+-- this is the least number of a run past that one; there is none where no run has a greater number
+abbrev pub IsLeastPast : ℕ → RunMap → Option ℕ → Type 0
+IsLeastPast i m None = (j : ℕ) → i < j → map.get m j ≡ None
+IsLeastPast i m (Some n) = (i < n) × IsSome (map.get m n) × ((j : ℕ) → i < j → j < n → map.get m j ≡ None)
 
 -- with a run of the next number
 abbrev pub started : Numbered → Run → Numbered
@@ -69,10 +74,20 @@ LedOn d changes a b i (Some r) now room m n (Ok x) = (n ≡ after_act (run_act r
 LedOn d changes a b i (Some r) now room m n (Err (Lost e)) = (n ≡ after_act (run_act r) now (run_key r) m) × (b ≡ map.remove a i) × (e ≡ (run_turned d r changes (tell_act (run_act r) now (run_key r) m)).entry) × (IsTrue (adds (run_act r) now (run_key r) m) → map.len m < room)
 LedOn d changes a b i (Some r) now room m n (Err (Stopped OutOfMemory)) = (n ≡ m) × (b ≡ map.remove a i)
 LedOn d changes a b i (Some r) now room m n (Err (Stopped Failed)) = (n ≡ m) × (b ≡ map.remove a i)
-LedOn d changes a b i (Some r) now room m n (Err (Stopped (Full live most))) = (n ≡ m) × (b ≡ a) × IsTrue (adds (run_act r) now (run_key r) m) × (room ≤ map.len m) × (live ≡ min (map.len m) (2 ^ 32 - 1)) × (most ≡ room)
+LedOn d changes a b i (Some r) now room m n (Err (Stopped (Full live most))) = (n ≡ m) × (b ≡ a) × IsFull (run_act r) now (run_key r) room m live most
+
+-- what is said over every table: only the run of this number changes. It is over where the answer says so, and after an
+-- error, but that it stands where there was no room.
+abbrev pub OneLed : RunMap → ℕ → RunMap → Result TurnSays TurnErr → Type 0
+OneLed a i b (Ok x) = (o : Option Run) × (is_none o ≡ x.over) × (b ≡ put_run a i o)
+OneLed a i b (Err (Lost e)) = b ≡ map.remove a i
+OneLed a i b (Err (Stopped OutOfMemory)) = b ≡ map.remove a i
+OneLed a i b (Err (Stopped Failed)) = b ≡ map.remove a i
+OneLed a i b (Err (Stopped (Full live most))) = b ≡ a
 
 pub record Led (d : Deployment) (changes : ℕ) (a b : RunMap) (i now old_room new_room old_faults new_faults : ℕ) (before after : Option Rows) (result : Result TurnSays TurnErr) : Type 0 where
   pub rows : Tells before after (λ m n. LedOn d changes a b i (map.get a i) now old_room m n result)
+  pub one : OneLed a i b result
   pub later : old_faults ≤ new_faults
   pub failed : IsErrOf result (Stopped Failed) → Rose old_faults new_faults
   pub room : new_room ≡ old_room

@@ -1,5 +1,5 @@
 -- Calls that read the rows of a table, one after another, and change none.
-use Rattle.std.specs.Prelude.{◌≡◌, ℕ, ◌≤◌, ◌==◌, ◌||◌, max, nat_lt, Bool, ◌++◌, List, [], ◌∷◌, Option, Some, None, Result, IfOk, OnOk, IsErrOf, if◌then◌else◌}
+use Rattle.std.specs.Prelude.{◌≡◌, ◌⊎◌, ℕ, ◌≤◌, ◌==◌, ◌||◌, max, IsSome, nat_lt, Bool, ◌++◌, List, [], ◌∷◌, Option, Some, None, Result, IfOk, OnOk, IsErrOf, if◌then◌else◌}
 use Rattle.std.specs.FinMap as map
 use Rattle.beldi_value.specs.declared.outcome.Outcome.{Outcome}
 use Rattle.beldi_lang.specs.declared.deployment.Deployment.{Deployment}
@@ -31,6 +31,11 @@ greatest (e ∷ es) = max (key_ticket e.0) (greatest es)
 abbrev pub newest_of : Rows → ℕ
 newest_of m = greatest (map.entries m)
 
+-- no key names a greater ticket than this, and some key names it, or it is 0
+pub record IsNewest (m : Rows) (t : ℕ) : Type 0 where
+  pub none_above : (k : RowKey) → IsSome (map.get m k) → key_ticket k ≤ t
+  pub named : (t ≡ 0) ⊎ ((k : RowKey) × IsSome (map.get m k) × (key_ticket k ≡ t))
+
 abbrev pub next_key_of : Option (RowKey × Row) → Option RowKey
 next_key_of None = None
 next_key_of (Some e) = Some e.0
@@ -60,6 +65,10 @@ pub record Refused (old_faults new_faults : ℕ) (before after : Option Rows) (w
   pub rows : Tells before after (λ m n. n ≡ m)
   pub later : old_faults ≤ new_faults
   pub failed : why ≡ Failed → Rose old_faults new_faults
+
+abbrev pub NewestAt : Option Rows → ℕ → Type 0
+NewestAt None t = Unit {0}
+NewestAt (Some m) t = IsNewest m t
 
 abbrev pub outcome_seen : Option Outcome → ReplySeen
 outcome_seen None = Waiting

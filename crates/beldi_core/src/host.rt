@@ -86,16 +86,17 @@ fn write(book: &mut Book, entry: Option<Entry>)
 impl<T: Table> Host<T> {
     ghost use Rattle.std.specs.FinMap as map;
     ghost use Rattle.beldi_row.specs.Table.{IsCount};
-    ghost use Rattle.beldi_step.specs.Host.{Stepped, ended_run};
+    ghost use Rattle.beldi_step.specs.Host.{Stepped, Answers, plan_of, ended_run, without_run};
     ghost use Rattle.beldi_step.specs.declared.event.Event.TheVariants as events;
     ghost use Rattle.beldi_step.specs.declared.event.Seen.TheVariants.{Acted, Dropped};
     ghost use Rattle.beldi_step.specs.Tables.{tables_text};
-    ghost use Rattle.beldi_core.specs.Survey.{Opened, Refused, Reads, reply_seen, is_unknown};
+    ghost use Rattle.beldi_core.specs.Survey.{Opened, Refused, NewestAt, Reads, reply_seen, is_unknown};
     ghost use Rattle.beldi_core.specs.declared.survey.ReplySeen.TheVariants.{Unknown};
     ghost use Rattle.beldi_book.specs.Order.{count_changes};
-    ghost use Rattle.beldi_core.specs.Runs.{next_number, Led};
-    ghost use Rattle.beldi_core.specs.Host.{core_of, Carried, written, with_runs, without_run};
-    ghost use Rattle.beldi_core.specs.Right.{IsRight, HasLegalBook, RowsStand, HasOneAnswerPerStep, AnswersAreKept, ListsRun, TellsRun, HasNoRows, StandsAt};
+    ghost use Rattle.beldi_core.specs.Runs.{next_number, IsLeastPast, Led};
+    ghost use Rattle.beldi_core.specs.Host.{core_of, Carried, written, with_runs};
+    ghost use Rattle.beldi_laws.specs.Laws.{is_gone};
+    ghost use Rattle.beldi_core.specs.Right.{IsRight, HasLegalBook, RowsStand, HasOneAnswerPerStep, AnswersAreKept, HasRows, ListsRun, TellsRun, HasNoRows, StandsAt};
 
     /// Opens a host over a table whose rows it keeps: sets the table's room, and reads all keys to find the newest
     /// ticket. `now` is the moment, in ticks. Where it refuses, it gives the table back.
@@ -108,6 +109,7 @@ impl<T: Table> Host<T> {
         requires { now ≤ 2 ^ 62 }
         ensures ok { IfOk result (λ h. Opened code h.code now (T.room h.table) (T.faults table) (T.faults h.table) (T.rows table) (T.rows h.table) (core_of h)) }
         ensures err { IfErr result (λ e. Refused (T.faults table) (T.faults e.0) (T.rows table) (T.rows e.0) e.1) }
+        ensures newest { IfOk result (λ h. NewestAt (T.rows table) h.newest) }
         ensures right { IfOk result (λ h. HasNoRows (T.rows table) → IsRight h) }
         ensures legal { IfOk result (λ h. HasNoRows (T.rows table) → HasLegalBook h) }
         ensures stands { IfOk result (λ h. HasNoRows (T.rows table) → RowsStand h) }
@@ -177,7 +179,8 @@ impl<T: Table> Host<T> {
 
     /// The least live run past this number.
     pub fn next_run(&self, after: u64) -> Option<u64>
-        ensures { result ≡ next_number after self.entry.now.runs.runs }
+        ensures next { result ≡ next_number after self.entry.now.runs.runs }
+        ensures least { IsLeastPast after self.entry.now.runs.runs result }
     {
         self.runs.next_after(after)
     }
@@ -238,7 +241,8 @@ impl<T: Table> Host<T> {
     }
 
     /// Carries out one event. After want of memory nothing was done, but that the event counts as taken, and that a run
-    /// that had it is over; the act of a turn may then have been made, and the book has its entry. A crash takes no memory.
+    /// that had it is over; the act of a turn may then have been made, and the book has its entry. A crash takes no memory,
+    /// and of the events that make no act only a restart may want it.
     pub fn event(&mut self, event: Event) -> Result<Seen, AllocError>
         ensures step { Stepped self.old.code event (core_of self.old) (core_of self.new) (T.room self.old.table) (T.room self.new.table) (T.faults self.old.table) (T.faults self.new.table) (T.rows self.old.table) (T.rows self.new.table) result }
         ensures code { self.new.code ≡ self.old.code }
@@ -247,6 +251,7 @@ impl<T: Table> Host<T> {
         ensures stands { IsRight self.old → RowsStand self.new }
         ensures one_answer { IsRight self.old → HasOneAnswerPerStep self.new }
         ensures answers_stay { IsRight self.old → AnswersAreKept self.old self.new }
+        ensures has_rows { HasRows self.old → IsRight self.old → IfOk result (λ x. is_gone x ≡ false) }
     {
         self.step(event)
     }
@@ -272,6 +277,7 @@ impl<T: Table> Host<T> {
 
     fn ticket(&mut self) -> Result<Seen, AllocError>
         ensures carried { Carried self.old.code events.Ticket (core_of self.old) (core_of self.new) (T.room self.old.table) (T.room self.new.table) (T.faults self.old.table) (T.faults self.new.table) (T.rows self.old.table) (T.rows self.new.table) result }
+        ensures answers { Answers events.Ticket (core_of self.old) (plan_of self.old.code events.Ticket (core_of self.old)) (core_of self.new) result }
         ensures code { self.new.code ≡ self.old.code }
     {
         if self.newest == u32::MAX {
@@ -301,6 +307,7 @@ impl<T: Table> Host<T> {
         requires given { self.old.runs.given < self.old.taken }
         requires few { self.old.taken ≤ 2 ^ 62 }
         ensures carried { Carried self.old.code (events.Request ticket func args) (core_of self.old) (core_of self.new) (T.room self.old.table) (T.room self.new.table) (T.faults self.old.table) (T.faults self.new.table) (T.rows self.old.table) (T.rows self.new.table) result }
+        ensures answers { Answers (events.Request ticket func args) (core_of self.old) (plan_of self.old.code (events.Request ticket func args) (core_of self.old)) (core_of self.new) result }
         ensures code { self.new.code ≡ self.old.code }
     {
         if ticket == 0 || ticket > self.newest {
@@ -348,6 +355,7 @@ impl<T: Table> Host<T> {
 
     fn turn(&mut self, run: u64) -> Result<Seen, AllocError>
         ensures carried { Carried self.old.code (events.Turn run) (core_of self.old) (core_of self.new) (T.room self.old.table) (T.room self.new.table) (T.faults self.old.table) (T.faults self.new.table) (T.rows self.old.table) (T.rows self.new.table) result }
+        ensures answers { Answers (events.Turn run) (core_of self.old) (plan_of self.old.code (events.Turn run) (core_of self.old)) (core_of self.new) result }
         ensures code { self.new.code ≡ self.old.code }
     {
         if !self.runs.is_live(run) {
@@ -402,6 +410,7 @@ impl<T: Table> Host<T> {
     // A turn whose answer is lost: the run does not go on from it, and nobody is told the reply.
     fn lose(&mut self, run: u64) -> Result<Seen, AllocError>
         ensures carried { Carried self.old.code (events.Lost run) (core_of self.old) (core_of self.new) (T.room self.old.table) (T.room self.new.table) (T.faults self.old.table) (T.faults self.new.table) (T.rows self.old.table) (T.rows self.new.table) result }
+        ensures answers { Answers (events.Lost run) (core_of self.old) (plan_of self.old.code (events.Lost run) (core_of self.old)) (core_of self.new) result }
         ensures code { self.new.code ≡ self.old.code }
     {
         if !self.runs.is_live(run) {
@@ -445,6 +454,7 @@ impl<T: Table> Host<T> {
     // Ends a run between two turns.
     fn crash(&mut self, run: u64) -> Seen
         ensures carried { Carried self.old.code (events.Crash run) (core_of self.old) (core_of self.new) (T.room self.old.table) (T.room self.new.table) (T.faults self.old.table) (T.faults self.new.table) (T.rows self.old.table) (T.rows self.new.table) (Ok result) }
+        ensures answers { Answers (events.Crash run) (core_of self.old) (plan_of self.old.code (events.Crash run) (core_of self.old)) (core_of self.new) (Ok result) }
         ensures code { self.new.code ≡ self.old.code }
     {
         if !self.runs.is_live(run) {
@@ -459,6 +469,7 @@ impl<T: Table> Host<T> {
         requires given { self.old.runs.given < self.old.taken }
         requires few { self.old.taken ≤ 2 ^ 62 }
         ensures carried { Carried self.old.code (events.Restart id func) (core_of self.old) (core_of self.new) (T.room self.old.table) (T.room self.new.table) (T.faults self.old.table) (T.faults self.new.table) (T.rows self.old.table) (T.rows self.new.table) result }
+        ensures answers { Answers (events.Restart id func) (core_of self.old) (plan_of self.old.code (events.Restart id func) (core_of self.old)) (core_of self.new) result }
         ensures code { self.new.code ≡ self.old.code }
     {
         if self.runs.len() >= MOST_RUNS {

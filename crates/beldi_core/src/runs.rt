@@ -1,7 +1,7 @@
 // The live runs of a host, by number.
 ghost use Rattle.std.specs.Prelude.{◌≡◌, ℕ, ◌+◌, ◌-◌, ◌^◌, ◌<◌, ◌≤◌, None, is_some, IsSome, IfOk, OnOk, OnErr};
 ghost use Rattle.std.specs.FinMap as map;
-ghost use Rattle.beldi_core.specs.Runs.{map_of, next_number, started, withdrawn, ends_run, settled, Led};
+ghost use Rattle.beldi_core.specs.Runs.{map_of, next_number, IsLeastPast, started, withdrawn, ends_run, settled, Led};
 
 use beldi_lang::Deployment;
 use beldi_row::{Table, TableErr};
@@ -125,7 +125,8 @@ impl Runs {
 
     /// The least number of a live run past this one.
     pub fn next_after(&self, number: u64) -> Option<u64>
-        ensures { result ≡ next_number number self.now.runs }
+        ensures next { result ≡ next_number number self.now.runs }
+        ensures least { IsLeastPast number self.now.runs result }
     {
         let past = (Bound::Excluded(&number), Bound::Unbounded);
         match self.live.range(past).next() {

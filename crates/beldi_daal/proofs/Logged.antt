@@ -5,6 +5,7 @@ use Rattle.beldi_value.specs.declared.place.Owner.{Owner}
 use Rattle.beldi_value.specs.declared.place.Owner.TheVariants as owner
 use Rattle.beldi_value.specs.declared.value.Value.{Value}
 use Rattle.beldi_row.specs.declared.notes.Note.{Note}
+use Rattle.beldi_row.specs.declared.notes.Note.TheVariants.{Wrote}
 use Rattle.beldi_row.specs.declared.row.Cell.{Cell}
 use Rattle.beldi_row.specs.declared.row.Row.{Row}
 use Rattle.beldi_row.specs.declared.row.Row.TheVariants as rows
@@ -12,25 +13,24 @@ use Rattle.beldi_row.specs.declared.act.Act.TheVariants.{Look}
 use Rattle.beldi_row.specs.Act.{Tell, act, did, other_owner, noted_or, next_or, held_or, write_at, wrote}
 use Rattle.beldi_row.specs.Log.{note_at, NoneTwice}
 use Rattle.beldi_row.proofs.Gets.{got, key_self}
-use Rattle.beldi_row.proofs.Logs.{once_pushed}
+use Rattle.beldi_row.proofs.Logs.{note_here, once_pushed}
 use Rattle.beldi_daal.specs.declared.walk.CellOp.{CellOp}
 use Rattle.beldi_daal.specs.declared.walk.CellOp.TheVariants.{Write}
 use Rattle.beldi_daal.specs.declared.walk.WriteStage.{WriteStage}
 use Rattle.beldi_daal.specs.declared.walk.WriteStage.TheVariants.{Try, Make}
 use Rattle.beldi_daal.specs.declared.walk.WriteWalk.{WriteWalk}
 use Rattle.beldi_daal.specs.declared.read_walk.ReadWalk.{ReadWalk}
-use Rattle.beldi_daal.specs.declared.read_walk.ReadSays.TheVariants as reading
 use Rattle.beldi_daal.specs.Content.{content_in, SoundAt}
 use Rattle.beldi_daal.specs.Logged.{Logs, WritesAreLogged, ReadsContent, ReadsAreContents}
 use Rattle.beldi_daal.specs.ReadWalk.{read_key, read_next, cell_says, got_or_held, in_the_way}
-use Rattle.beldi_daal.specs.Walk.{act_at, op_act, walk_act, walk_key, walk_next}
+use Rattle.beldi_daal.specs.Walk.{act_at, made_note, op_act, walk_act, walk_key, walk_next}
 
 -- what a turn left of the row, and what it told, is right of what stood there
 abbrev Fits : WriteWalk → Option Row → Option Row × Tell → Type 0
 Fits w r z = Logs w.place w.op (walk_next w z.1).1 (content_in r) (content_in z.0) × SoundAt z.0
 
 module _ (w : WriteWalk) where
-  module _ (c : Cell) (last : c.next ≡ None) (once : NoneTwice c.log) (v : Value) where
+  module _ (c : Cell) (last : c.next ≡ None) (once : NoneTwice c.log) (v : Value) (op : w.op ≡ Write v) where
     abbrev who : Owner
     who = owner.Intent w.place.intent
 
@@ -38,7 +38,7 @@ module _ (w : WriteWalk) where
     OnCell z = Logs w.place (Write v) (walk_next w z.1).1 (content_in (Some (rows.Cell c))) (content_in (Some (rows.Cell z.0))) × SoundAt (Some (rows.Cell z.0))
 
     by_owner : (o : Option Owner) → other_owner who c.owner ≡ o → note_at c.log w.place ≡ None → OnCell (held_or c o (wrote w.place v c, did))
-    by_owner None free none = ((none, free, refl), (last, once_pushed c.log w.place _ none once))
+    by_owner None free none = ((note_here c.log w.place Wrote none ∙ ap (λ o. Some (made_note o)) (sym op), (none, free, refl)), (last, once_pushed c.log w.place Wrote none once))
     by_owner (Some o) free none = ((none, free, refl), (last, once))
 
     by_next : (n : Option ℕ) → c.next ≡ n → note_at c.log w.place ≡ None → OnCell (next_or c n (held_or c (other_owner who c.owner) (wrote w.place v c, did)))
@@ -47,12 +47,12 @@ module _ (w : WriteWalk) where
 
     by_note : (n : Option Note) → note_at c.log w.place ≡ n → OnCell (noted_or c n (next_or c c.next (held_or c (other_owner who c.owner) (wrote w.place v c, did))))
     by_note None none = by_next c.next refl none
-    by_note (Some n) some = (((n, some), refl), (last, once))
+    by_note (Some n) some = ((some, refl), (last, once))
 
   by_op : (o : CellOp) → w.op ≡ o → (now : ℕ) (r : Option Row) → SoundAt r → Fits w r (act (op_act w.place o) now r)
   by_op (Write v) is now None h = (refl, tt)
   by_op (Write v) is now (Some (rows.Cell c)) h =
-      let fits = by_note c h.0 h.1 v (note_at c.log w.place) refl in
+      let fits = by_note c h.0 h.1 v is (note_at c.log w.place) refl in
       (subst (λ op. Logs w.place op (walk_next w (write_at w.place (owner.Intent w.place.intent) v c).1).1 (content_in (Some (rows.Cell c))) (content_in (Some (rows.Cell (write_at w.place (owner.Intent w.place.intent) v c).0)))) (sym is) fits.0, fits.1)
   by_op (Write v) is now (Some r) h = absurd h
 

@@ -1,5 +1,5 @@
 -- One turn of a write's walk, by what its act told.
-use Rattle.std.proofs.Common.{◌≡◌, ℕ, true, Option, None, Some, Result, Ok, Err, refl, ap, sym, ◌∙◌}
+use Rattle.std.proofs.Common.{◌≡◌, ℕ, true, Option, None, Some, Result, Ok, Err, refl, ap, sym, ◌∙◌, subst}
 use Rattle.std.specs.FinMap as map
 use Rattle.beldi_value.specs.declared.value.Value.{Value}
 use Rattle.beldi_value.specs.declared.place.Place.{Place}
@@ -14,7 +14,7 @@ use Rattle.beldi_row.specs.declared.act.Act.TheVariants.{WriteCell}
 use Rattle.beldi_row.specs.declared.act.Said.{Said}
 use Rattle.beldi_row.specs.declared.table.TableErr.{TableErr}
 use Rattle.beldi_row.specs.declared.table.TableErr.TheVariants.{OutOfMemory}
-use Rattle.beldi_row.specs.Act.{tell_of, act, did, wrote, noted_or, next_or, held_or, other_owner}
+use Rattle.beldi_row.specs.Act.{Tell, tell_of, act, did, noted, held, wrote, noted_or, next_or, held_or, other_owner}
 use Rattle.beldi_row.specs.Log.{note_at}
 use Rattle.beldi_row.specs.Table.{Rows, Acted, ActedOn}
 use Rattle.beldi_row.proofs.Tells.{tells_map, acted_by}
@@ -25,46 +25,55 @@ use Rattle.beldi_daal.specs.declared.walk.WriteStage.TheVariants.{Try, Make}
 use Rattle.beldi_daal.specs.declared.walk.WriteSays.{WriteSays}
 use Rattle.beldi_daal.specs.declared.walk.CellOp.{CellOp}
 use Rattle.beldi_daal.specs.declared.walk.CellOp.TheVariants.{Write}
-use Rattle.beldi_daal.specs.Walk.{walk_key, walk_act, walk_next, act_at, op_act, is_held, TurnedOn, Turned}
+use Rattle.beldi_daal.specs.Walk.{walk_key, walk_act, walk_next, act_at, op_act, is_lent, StandsUnlessGoing, TurnedOn, Turned}
 
--- an act that tells another owner leaves the row
-held_in_cell : (p : Place) (v : Value) (c : Cell) (n : Option Note) (x : Option ℕ) (o : Option Owner)
-    → is_held (noted_or c n (next_or c x (held_or c o (wrote p v c, did)))).1 ≡ true → (noted_or c n (next_or c x (held_or c o (wrote p v c, did)))).0 ≡ c
-held_in_cell p v c (Some n) x o h = refl
-held_in_cell p v c None (Some x) o h = refl
-held_in_cell p v c None None (Some o) h = refl
-held_in_cell p v c None None None h = cc
+-- an act that tells what lies in the row leaves it
+lent_in_cell : (p : Place) (v : Value) (c : Cell) (n : Option Note) (x : Option ℕ) (o : Option Owner)
+    → is_lent (noted_or c n (next_or c x (held_or c o (wrote p v c, did)))).1 ≡ true → (noted_or c n (next_or c x (held_or c o (wrote p v c, did)))).0 ≡ c
+lent_in_cell p v c (Some n) x o h = refl
+lent_in_cell p v c None (Some x) o h = refl
+lent_in_cell p v c None None (Some o) h = refl
+lent_in_cell p v c None None None h = cc
 
-held_at_cell : (p : Place) (w : Owner) (v : Value) (now : ℕ) (r : Option Row) → is_held (act (WriteCell p w v) now r).1 ≡ true → (act (WriteCell p w v) now r).0 ≡ r
-held_at_cell p w v now None h = refl
-held_at_cell p w v now (Some (rows.Intent i)) h = refl
-held_at_cell p w v now (Some (rows.ReadLog r)) h = refl
-held_at_cell p w v now (Some (rows.Invoke i)) h = refl
-held_at_cell p w v now (Some (rows.Cell c)) h = ap (λ d. Some (rows.Cell d)) (held_in_cell p v c (note_at c.log p) c.next (other_owner w c.owner) h)
-held_at_cell p w v now (Some rows.Lockset) h = refl
+lent_at_cell : (p : Place) (w : Owner) (v : Value) (now : ℕ) (r : Option Row) → is_lent (act (WriteCell p w v) now r).1 ≡ true → (act (WriteCell p w v) now r).0 ≡ r
+lent_at_cell p w v now None h = refl
+lent_at_cell p w v now (Some (rows.Intent i)) h = refl
+lent_at_cell p w v now (Some (rows.ReadLog r)) h = refl
+lent_at_cell p w v now (Some (rows.Invoke i)) h = refl
+lent_at_cell p w v now (Some (rows.Cell c)) h = ap (λ d. Some (rows.Cell d)) (lent_in_cell p v c (note_at c.log p) c.next (other_owner w c.owner) h)
+lent_at_cell p w v now (Some rows.Lockset) h = refl
 
-held_in_op : (p : Place) (op : CellOp) (now : ℕ) (r : Option Row) → is_held (act (op_act p op) now r).1 ≡ true → (act (op_act p op) now r).0 ≡ r
-held_in_op p (Write v) now r h = held_at_cell p _ v now r h
+lent_in_op : (p : Place) (op : CellOp) (now : ℕ) (r : Option Row) → is_lent (act (op_act p op) now r).1 ≡ true → (act (op_act p op) now r).0 ≡ r
+lent_in_op p (Write v) now r h = lent_at_cell p _ v now r h
 
-held_in_stage : (w : WriteWalk) (s : WriteStage) (now : ℕ) (r : Option Row) → is_held (act (act_at w s) now r).1 ≡ true → (act (act_at w s) now r).0 ≡ r
-held_in_stage w Try now r h = held_in_op w.place w.op now r h
-held_in_stage w Make now None h = cc
-held_in_stage w Make now (Some r) h = refl
+lent_in_stage : (w : WriteWalk) (s : WriteStage) (now : ℕ) (r : Option Row) → is_lent (act (act_at w s) now r).1 ≡ true → (act (act_at w s) now r).0 ≡ r
+lent_in_stage w Try now r h = lent_in_op w.place w.op now r h
+lent_in_stage w Make now None h = cc
+lent_in_stage w Make now (Some r) h = refl
+
+-- only where the walk goes on does it go elsewhere
+stands : (w : WriteWalk) (t : Tell) → StandsUnlessGoing w (walk_next w t).0 (Ok (walk_next w t).1)
+stands w did = refl
+stands w (noted n) = refl
+stands w (held o) = refl
+stands w t = tt
 
 module _ (w x : WriteWalk) (now room new_room faults new_faults : ℕ) (before after : Option Rows) (said : Said) where
   told : (s : WriteSays) → (x, s) ≡ walk_next w (tell_of said) → Acted (walk_act w) now (walk_key w) room new_room faults new_faults before after (Ok said)
       → Turned w x now room new_room faults new_faults before after (Ok s)
   told s next h = record {
+    walk = subst (λ (z : WriteWalk × WriteSays). StandsUnlessGoing w z.0 (Ok z.1)) (sym next) (stands w (tell_of said));
     rows = tells_map {P = λ m n. ActedOn (walk_act w) now (walk_key w) room m n (Ok said)} {Q = λ m n. TurnedOn w x now room m n (Ok s)} before after (λ m n p. (p.0, next ∙ ap (walk_next w) p.1, p.2)) h.rows;
     cause = record { later = h.cause.later; failed = λ e. cc };
     room = h.room;
   }
 
-  wanting : x ≡ w → is_held (tell_of said) ≡ true → Acted (walk_act w) now (walk_key w) room new_room faults new_faults before after (Ok said)
+  wanting : x ≡ w → is_lent (tell_of said) ≡ true → Acted (walk_act w) now (walk_key w) room new_room faults new_faults before after (Ok said)
       → Turned w x now room new_room faults new_faults before after (Err OutOfMemory)
-  wanting same held h = record {
+  wanting same lent h = record {
+    walk = same;
     rows = tells_map {P = λ m n. ActedOn (walk_act w) now (walk_key w) room m n (Ok said)} {Q = λ m n. TurnedOn w x now room m n (Err OutOfMemory)} before after
-        (λ m n p. (p.0 ∙ left (walk_act w) now (walk_key w) m (map.get m (walk_key w)) refl (held_in_stage w w.stage now (map.get m (walk_key w)) (ap is_held (sym p.1) ∙ held)), same)) h.rows;
+        (λ m n p. p.0 ∙ left (walk_act w) now (walk_key w) m (map.get m (walk_key w)) refl (lent_in_stage w w.stage now (map.get m (walk_key w)) (ap is_lent (sym p.1) ∙ lent))) h.rows;
     cause = record { later = h.cause.later; failed = λ e. cc };
     room = h.room;
   }
@@ -76,6 +85,6 @@ module _ (w x : WriteWalk) (now room new_room faults new_faults : ℕ) (before a
     pub turned : (s : WriteSays) → (x, s) ≡ walk_next w (tell_of said) → Turned w x now room new_room faults new_faults before after (Ok s)
     turned s next = told s next made
 
-    -- another owner was told, so nothing changed, and then memory was wanting
-    pub lost : x ≡ w → is_held (tell_of said) ≡ true → Turned w x now room new_room faults new_faults before after (Err OutOfMemory)
-    lost same held = wanting same held made
+    -- what lies in the row was told, so nothing changed, and then memory was wanting
+    pub lost : x ≡ w → is_lent (tell_of said) ≡ true → Turned w x now room new_room faults new_faults before after (Err OutOfMemory)
+    lost same lent = wanting same lent made

@@ -1,13 +1,12 @@
 -- A chain is a logged cell: a turn of a walk leaves the content of every item as it is, but for its own operation, which has
 -- one effect at its place, however many walks there are for it.
-use Rattle.std.specs.Prelude.{◌≡◌, ℕ, true, false, [], ◌∷◌, ◌++◌, Option, Some, None, Ok}
+use Rattle.std.specs.Prelude.{◌≡◌, ℕ, Bool, true, false, [], ◌∷◌, ◌++◌, Option, Some, None, Ok}
 use Rattle.std.specs.FinMap as map
 use Rattle.std.specs.Ordering.{is_eq}
 use Rattle.beldi_value.specs.declared.place.Owner.{Owner}
 use Rattle.beldi_value.specs.declared.place.Owner.TheVariants as owner
 use Rattle.beldi_value.specs.declared.place.Place.{Place}
 use Rattle.beldi_row.specs.declared.key.RowKey.{RowKey}
-use Rattle.beldi_row.specs.declared.notes.Note.{Note}
 use Rattle.beldi_row.specs.declared.notes.Note.TheVariants.{Wrote}
 use Rattle.beldi_row.specs.Act.{other_owner}
 use Rattle.beldi_row.specs.Key.{key_cmp}
@@ -16,7 +15,7 @@ use Rattle.beldi_row.specs.Table.{Rows}
 use Rattle.beldi_daal.specs.declared.walk.CellOp.{CellOp}
 use Rattle.beldi_daal.specs.declared.walk.CellOp.TheVariants.{Write}
 use Rattle.beldi_daal.specs.declared.walk.WriteSays.{WriteSays}
-use Rattle.beldi_daal.specs.declared.walk.WriteSays.TheVariants.{Going, Done, Held}
+use Rattle.beldi_daal.specs.declared.walk.WriteSays.TheVariants.{Going, Done, Held, Worn}
 use Rattle.beldi_daal.specs.declared.walk.WriteWalk.{WriteWalk}
 use Rattle.beldi_daal.specs.declared.read_walk.ReadWalk.{ReadWalk}
 use Rattle.beldi_daal.specs.declared.read_walk.ReadSays.{ReadSays}
@@ -30,13 +29,19 @@ use Rattle.beldi_daal.specs.Walk.{TurnedOn, walk_key}
 abbrev pub done_to : Place → CellOp → Content → Content
 done_to p (Write v) c = record { value = v; owner = c.owner; notes = c.notes ++ (p, Wrote) ∷ [] }
 
--- what a walk for a place says, by the content before its turn, and after it. `Done` with `first`: the place had no note, and
--- the operation was done. `Done` without: the place has its note. `Held`: another than the place's intent owns the item.
+-- what a turn did that says `Done`. With `first` the place had no note, no other owned the item, and the operation was done;
+-- without, nothing was done
+abbrev pub DidOnce : Place → CellOp → Bool → Content → Content → Type 0
+DidOnce p op true c d = (note_at c.notes p ≡ None) × (other_owner (owner.Intent p.intent) c.owner ≡ None) × (d ≡ done_to p op c)
+DidOnce p op false c d = d ≡ c
+
+-- what a walk for a place says, by the content before its turn, and after it. `Done`: the content has the note at the place.
+-- `Held`: the place has no note, and another than its intent owns the item.
 abbrev pub Logs : Place → CellOp → WriteSays → Content → Content → Type 0
-Logs p op (Done true) c d = (note_at c.notes p ≡ None) × (other_owner (owner.Intent p.intent) c.owner ≡ None) × (d ≡ done_to p op c)
-Logs p op (Done false) c d = ((n : Note) × (note_at c.notes p ≡ Some n)) × (d ≡ c)
+Logs p op (Done n first) c d = (note_at d.notes p ≡ Some n) × DidOnce p op first c d
 Logs p op (Held o) c d = (note_at c.notes p ≡ None) × (other_owner (owner.Intent p.intent) c.owner ≡ Some o) × (d ≡ c)
 Logs p op Going c d = d ≡ c
+Logs p op Worn c d = d ≡ c
 
 -- a turn of a walk whose item's chain is sound
 pub record LoggedTurn (w : WriteWalk) (m n : Rows) (s : WriteSays) : Type 0 where

@@ -1,18 +1,18 @@
 -- The walk of a write, as a machine that makes one act a turn.
-use Rattle.std.specs.Prelude.{◌≡◌, ℕ, ◌-◌, ◌^◌, ◌≤◌, ◌<◌, min, Bool, true, false, IsTrue, Option, None, Result, Ok, Err}
+use Rattle.std.specs.Prelude.{◌≡◌, ℕ, ◌<◌, Bool, true, false, IsTrue, Option, None, Result, Ok, Err}
 use Rattle.std.specs.FinMap as map
 use Rattle.beldi_value.specs.declared.value.Value.TheVariants.{Null}
 use Rattle.beldi_value.specs.declared.place.Place.{Place}
 use Rattle.beldi_value.specs.declared.place.Owner.TheVariants as owner
 use Rattle.beldi_row.specs.declared.key.RowKey.{RowKey}
-use Rattle.beldi_row.specs.declared.key.Kind.{Kind}
-use Rattle.beldi_row.specs.declared.key.Kind.TheVariants.{Data}
+use Rattle.beldi_row.specs.declared.notes.Note.{Note}
+use Rattle.beldi_row.specs.declared.notes.Note.TheVariants.{Wrote}
+use Rattle.beldi_row.specs.Key.{head_key}
 use Rattle.beldi_row.specs.declared.act.Act.{Act}
 use Rattle.beldi_row.specs.declared.act.Act.TheVariants.{WriteCell, MakeCell}
 use Rattle.beldi_row.specs.declared.table.TableErr.{TableErr}
-use Rattle.beldi_row.specs.declared.table.TableErr.TheVariants.{OutOfMemory, Failed, Full}
 use Rattle.beldi_row.specs.Act.{Tell, no_row, did, noted, held}
-use Rattle.beldi_row.specs.Table.{Rows, after_act, tell_act, adds, Tells, HasCause}
+use Rattle.beldi_row.specs.Table.{Rows, after_act, tell_act, adds, Refused, Tells, HasCause}
 use Rattle.beldi_daal.specs.declared.walk.WriteWalk.{WriteWalk}
 use Rattle.beldi_daal.specs.declared.walk.Item.{Item}
 use Rattle.beldi_daal.specs.declared.walk.Item.TheVariants.{Plain}
@@ -26,16 +26,16 @@ use Rattle.beldi_daal.specs.declared.walk.WriteSays.TheVariants.{Going, Done, He
 abbrev pub first_walk : ℕ → Item → Place → CellOp → WriteWalk
 first_walk home item place op = record { home = home; item = item; place = place; op = op; stage = Try }
 
--- the first row of an item
-abbrev pub head_of : Item → Kind
-head_of (Plain t k) = Data t k 0
-
--- its key, in the home of the function that has the item
+-- the key of an item's first row, in the home of the function that has the item
 abbrev pub first_key : ℕ → Item → RowKey
-first_key home item = record { home = home; kind = head_of item }
+first_key home (Plain t k) = head_key home t k
 
 abbrev pub walk_key : WriteWalk → RowKey
 walk_key w = first_key w.home w.item
+
+-- the note that an operation leaves
+abbrev pub made_note : CellOp → Note
+made_note (Write v) = Wrote
 
 -- the operation's act; the intent of the place asks for it
 abbrev pub op_act : Place → CellOp → Act
@@ -52,24 +52,29 @@ walk_act w = act_at w w.stage
 -- the walk after it was told, and its answer
 abbrev pub walk_next : WriteWalk → Tell → WriteWalk × WriteSays
 walk_next w no_row = (record w { stage = Make }, Going)
-walk_next w did = (w, Done true)
-walk_next w (noted n) = (w, Done false)
+walk_next w did = (w, Done (made_note w.op) true)
+walk_next w (noted n) = (w, Done n false)
 walk_next w (held o) = (w, Held o)
 walk_next w t = (record w { stage = Try }, Going)
 
--- another owner was told
-abbrev pub is_held : Tell → Bool
-is_held (held o) = true
-is_held t = false
+-- what lies in the row was told: a note or another owner
+abbrev pub is_lent : Tell → Bool
+is_lent (noted n) = true
+is_lent (held o) = true
+is_lent t = false
+
+-- the walk stands where it stood, unless it says that it goes on
+abbrev pub StandsUnlessGoing : WriteWalk → WriteWalk → Result WriteSays TableErr → Type 0
+StandsUnlessGoing w x (Ok Going) = Unit {0}
+StandsUnlessGoing w x r = x ≡ w
 
 abbrev pub TurnedOn : WriteWalk → WriteWalk → ℕ → ℕ → Rows → Rows → Result WriteSays TableErr → Type 0
 TurnedOn w x now room m n (Ok s) = (n ≡ after_act (walk_act w) now (walk_key w) m) × ((x, s) ≡ walk_next w (tell_act (walk_act w) now (walk_key w) m)) × (IsTrue (adds (walk_act w) now (walk_key w) m) → map.len m < room)
-TurnedOn w x now room m n (Err OutOfMemory) = (n ≡ m) × (x ≡ w)
-TurnedOn w x now room m n (Err Failed) = (n ≡ m) × (x ≡ w)
-TurnedOn w x now room m n (Err (Full live most)) = (n ≡ m) × (x ≡ w) × IsTrue (adds (walk_act w) now (walk_key w) m) × (room ≤ map.len m) × (live ≡ min (map.len m) (2 ^ 32 - 1)) × (most ≡ room)
+TurnedOn w x now room m n (Err e) = Refused (walk_act w) now (walk_key w) room m n e
 
 -- what one turn does
 pub record Turned (w x : WriteWalk) (now old_room new_room old_faults new_faults : ℕ) (before after : Option Rows) (result : Result WriteSays TableErr) : Type 0 where
+  pub walk : StandsUnlessGoing w x result
   pub rows : Tells before after (λ m n. TurnedOn w x now old_room m n result)
   pub cause : HasCause old_faults new_faults result
   pub room : new_room ≡ old_room

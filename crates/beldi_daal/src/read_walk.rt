@@ -9,6 +9,7 @@ use beldi_row::{Act, Cell, Row, Said, Table, TableErr, copy_owner};
 use beldi_value::{Owner, Value};
 use std::alloc::{AllocError, Global};
 
+/// What a turn of a walk of a read says.
 #[derive(Drop)]
 pub enum ReadSays {
     /// The walk goes on.
@@ -35,7 +36,8 @@ impl ReadWalk {
         ReadWalk { home, item, who }
     }
 
-    /// One Look, so the rows are as before.
+    /// One Look, at the moment `now`, in ticks: the rows are as before, and the walk stands where it stood. `Failed` comes
+    /// only where the table failed, and `Full` never.
     pub fn turn<T: Table>(
         &mut self,
         alloc: Global,

@@ -2,9 +2,9 @@
 ghost use Rattle.std.specs.Prelude.{◌≡◌, true, IfOk, IfErr, OnErr};
 ghost use Rattle.beldi_row.specs.Act.{tell_of};
 ghost use Rattle.beldi_row.specs.declared.table.TableErr.TheVariants.{OutOfMemory};
-ghost use Rattle.beldi_daal.specs.Walk.{first_walk, first_key, op_act, walk_act, walk_next, is_held, Turned};
+ghost use Rattle.beldi_daal.specs.Walk.{first_walk, first_key, made_note, op_act, walk_act, walk_next, is_lent, Turned};
 
-use beldi_row::{Act, Kind, RowKey, Said, Table, TableErr, copy_owner};
+use beldi_row::{Act, Kind, Note, RowKey, Said, Table, TableErr, copy_owner};
 use beldi_value::{Owner, Place, Str, Value};
 use std::alloc::{AllocError, Global};
 
@@ -41,6 +41,18 @@ pub enum CellOp {
     Write(Value),
 }
 
+impl CellOp {
+    // The note that it leaves.
+    fn note(&self) -> Note
+        ensures { result ≡ made_note self.now }
+    {
+        match self {
+            CellOp::Write(_) => Note::Wrote,
+        }
+    }
+}
+
+/// What a walk of a write does next.
 #[derive(Clone, Copy, Debug, PartialEq, Eq)]
 pub enum WriteStage {
     /// The operation is tried next.
@@ -49,14 +61,18 @@ pub enum WriteStage {
     Make,
 }
 
+/// What a turn of a walk of a write says.
 #[derive(Drop)]
 pub enum WriteSays {
     /// The walk goes on.
     Going,
-    /// The place has its note; `first` says that this act made it.
-    Done { first: bool },
+    /// The place has this note; `first` says that this act made it.
+    Done { note: Note, first: bool },
     /// This owner, another than the intent of the place, has the item.
     Held(Owner),
+    /// The item's last row is full and has the greatest id of a row, 4,294,967,295, so no row can follow it. It comes
+    /// only where the rows of an item are linked: as no act says yet that a row is full, no turn answers it.
+    Worn,
 }
 
 /// A walk that makes one entry at a place, however many walks there are for it.
@@ -83,7 +99,9 @@ impl WriteWalk {
         }
     }
 
-    /// One act. After an `Err` the walk stands where it stood, and the rows are as before.
+    /// One act, at the moment `now`, in ticks. Unless it says `Going`, the walk stands where it stood. After an `Err` the
+    /// rows are as before: `Full` comes exactly where the act would add a row and there is no room for it, and `Failed`
+    /// only where the table failed.
     pub fn turn<T: Table>(
         &mut self,
         alloc: Global,
@@ -132,15 +150,21 @@ impl WriteWalk {
     // A cell that a row follows is made by no walk yet: the walk stays.
     fn told(&mut self, alloc: Global, said: Said<'_>) -> Result<WriteSays, AllocError>
         ensures ok { IfOk result (λ s. (self.new, s) ≡ walk_next self.old (tell_of said.entry)) }
-        ensures err { OnErr result ((self.new ≡ self.old) × (is_held (tell_of said.entry) ≡ true)) }
+        ensures err { OnErr result ((self.new ≡ self.old) × (is_lent (tell_of said.entry) ≡ true)) }
     {
         match said {
             Said::NoRow => {
                 self.stage = WriteStage::Make;
                 Ok(WriteSays::Going)
             }
-            Said::Did => Ok(WriteSays::Done { first: true }),
-            Said::Noted(_) => Ok(WriteSays::Done { first: false }),
+            Said::Did => Ok(WriteSays::Done {
+                note: self.op.note(),
+                first: true,
+            }),
+            Said::Noted(note) => Ok(WriteSays::Done {
+                note: note.copy(alloc)?,
+                first: false,
+            }),
             Said::Held(owner) => Ok(WriteSays::Held(copy_owner(owner, alloc)?)),
             _ => {
                 self.stage = WriteStage::Try;

@@ -6,6 +6,7 @@ use Rattle.std.specs.FinMap.{get-empty, len-empty}
 use Rattle.std.specs.Ordering.{is_eq, nat_cmp}
 use borrow.Author.Tests.{leb-true, leb-false, le-leb, lt-leb, lt-ltb}
 use Rattle.std.proofs.lemmas.Cmp.{tied_itself}
+use Rattle.std.proofs.lemmas.Bool.Decides.{nat_tests}
 use Rattle.beldi_value.specs.Id.{id_cmp, id_total, root_of}
 use Rattle.beldi_value.specs.Same.{same_value}
 use Rattle.beldi_value.specs.declared.outcome.Outcome.{Outcome}
@@ -44,7 +45,7 @@ use Rattle.beldi_step.specs.Session.{Runs}
 use Rattle.beldi_laws.specs.Stands.{head_key, effect_before}
 use Rattle.beldi_daal.specs.Content.{content_in}
 use Rattle.beldi_laws.specs.Right.{Right, RootMatches, BodyMatches, IntentFits, FitsAt, Knows, KnowsAt, RunAt, StageOk, PlaceOk, SaneAt, SaneInstance, owed_by, owed_value, value_if}
-use Rattle.beldi_laws.specs.Laws.{told_outcome, HasReply}
+use Rattle.beldi_laws.specs.Laws.{told_outcome, is_gone, HasReply}
 use Rattle.beldi_laws.proofs.Rows.{root_in_roots}
 use Rattle.beldi_row.proofs.Unchanged.{unchanged, looked}
 use Rattle.std.specs.Option.{option_map}
@@ -70,9 +71,13 @@ good_if : (d : Deployment) (s : PlainState) (now : ℕ) (m : Rows) (b : Bool) (p
 good_if d s now m true p q g h = g refl
 good_if d s now m false p q g h = h refl
 
--- an answer that tells no outcome, of a host that is as before
-as_before : (d : Deployment) (c : Core) (m : Rows) (x : Seen) → told_outcome x ≡ None → (h : Right d c m) → After d h.plain c m x
-as_before d c m x none h = record { right = h; goes_on = grows_self h.plain.made; reply = λ t o e. let g = sym none ∙ e in cc }
+-- it tells no outcome, nor that a row is absent
+abbrev SaysLittle : Seen → Type 0
+SaysLittle x = (told_outcome x ≡ None) × (is_gone x ≡ false)
+
+-- such an answer, of a host that is as before
+as_before : (d : Deployment) (c : Core) (m : Rows) (x : Seen) → SaysLittle x → (h : Right d c m) → After d h.plain c m x
+as_before d c m x little h = record { right = h; goes_on = grows_self h.plain.made; there = little.1; reply = λ t o e. let g = sym little.0 ∙ e in cc }
 
 -- ---- a turn
 module _ (d : Deployment) (c : Core) (m : Rows) (i : ℕ) (r : Run) (h : Right d c m) (live : map.get c.runs i ≡ Some r) where
@@ -110,12 +115,12 @@ module _ (d : Deployment) (c : Core) (m : Rows) (i : ℕ) (r : Run) (h : Right d
       (quiet d c m m i r s h live (λ t. refl) (begin_quiet d c.book m h.plain h.rows r c.now (map.get m key) refl (h.rows.one_row key)) h.rows)
   at_turn (Some g) k = stage_turn g k g.stage g.machine.effect refl k.run_stage k.run_place
 
-no_outcome : (b : Bool) → told_outcome (if b then seen.NoRun else seen.RunOver) ≡ None
-no_outcome true = refl
-no_outcome false = refl
+says_no_run : (b : Bool) → SaysLittle (if b then seen.NoRun else seen.RunOver)
+says_no_run true = (refl, refl)
+says_no_run false = (refl, refl)
 
 good_turn : (d : Deployment) (c : Core) (m : Rows) (i : ℕ) (h : Right d c m) (o : Option Run) → map.get c.runs i ≡ o → RunAt d c.book h.plain o → Good d h.plain c.now m (turn_plan d c i o)
-good_turn d c m i h None is k = as_before d c m (no_run c i) (no_outcome ((i == 0) || nat_lt c.last_run i)) h
+good_turn d c m i h None is k = as_before d c m (no_run c i) (says_no_run ((i == 0) || nat_lt c.last_run i)) h
 good_turn d c m i h (Some r) is k = at_turn d c m i r h is r.at k
 
 -- ---- a run that ends
@@ -126,17 +131,17 @@ without d c m i h = record { plain = h.plain; bounded = h.bounded; legal = h.leg
 answer_lost : (d : Deployment) (p : PlainState) (c : Core) (i : ℕ) (s : Turned) (n : Rows) (x : Seen) → After d p (turn_next c i s).0 n x → After d p (lost_next c i s) n seen.Dropped
 answer_lost d p c i s n x a =
     subst (λ r. After d p (record c { runs = r; book = c.book ++ option_to_list s.entry }) n seen.Dropped) (remove_put c.runs i s.next)
-    (record { right = without d (turn_next c i s).0 n i a.right; goes_on = a.goes_on; reply = λ t o e. cc })
+    (record { right = without d (turn_next c i s).0 n i a.right; goes_on = a.goes_on; there = refl; reply = λ t o e. cc })
 
 good_lost : (d : Deployment) (c : Core) (m : Rows) (i : ℕ) (h : Right d c m) (o : Option Run) → map.get c.runs i ≡ o → RunAt d c.book h.plain o → Good d h.plain c.now m (lost_plan d c i o)
-good_lost d c m i h None is k = as_before d c m (no_run c i) (no_outcome ((i == 0) || nat_lt c.last_run i)) h
+good_lost d c m i h None is k = as_before d c m (no_run c i) (says_no_run ((i == 0) || nat_lt c.last_run i)) h
 good_lost d c m i h (Some r) is k =
     let s = run_turned d r (count_changes c.book) (tell_act (run_act r) c.now (run_key r) m) in
     answer_lost d h.plain c i s (after_act (run_act r) c.now (run_key r) m) (turn_next c i s).1 (good_turn d c m i h (Some r) is k)
 
 good_crash : (d : Deployment) (c : Core) (m : Rows) (i : ℕ) (h : Right d c m) (o : Option Run) → Good d h.plain c.now m (crash_plan c i o)
-good_crash d c m i h None = as_before d c m (no_run c i) (no_outcome ((i == 0) || nat_lt c.last_run i)) h
-good_crash d c m i h (Some r) = as_before d (ended_run c i) m seen.Crashed refl (without d c m i h)
+good_crash d c m i h None = as_before d c m (no_run c i) (says_no_run ((i == 0) || nat_lt c.last_run i)) h
+good_crash d c m i h (Some r) = as_before d (ended_run c i) m seen.Crashed (refl, refl) (without d c m i h)
 
 -- ---- a run more
 abbrev with_run : (d : Deployment) (c : Core) (m : Rows) (id : IntentId) (f : ℕ) → map.len c.runs < most_runs → Right d c m → Right d (restarted c id f) m
@@ -144,8 +149,8 @@ with_run d c m id f few h = record { plain = h.plain; bounded = h.bounded; legal
 
 good_restart : (d : Deployment) (c : Core) (m : Rows) (h : Right d c m) (id : IntentId) (f : ℕ) → Good d h.plain c.now m (restart_plan c id f)
 good_restart d c m h id f =
-    good_if d h.plain c.now m (nat_le most_runs (map.len c.runs)) _ _ (λ e. as_before d c m seen.Crowded refl h)
-    (λ few. as_before d (restarted c id f) m (seen.Started (c.last_run + 1)) refl (with_run d c m id f (leb-false most_runs (map.len c.runs) few) h))
+    good_if d h.plain c.now m (nat_le most_runs (map.len c.runs)) _ _ (λ e. as_before d c m seen.Crowded (refl, refl) h)
+    (λ few. as_before d (restarted c id f) m (seen.Started (c.last_run + 1)) (refl, refl) (with_run d c m id f (leb-false most_runs (map.len c.runs) few) h))
 
 -- ---- a ticket
 roots_apart : (t u : ℕ) → is_eq (id_cmp (root_of t) (root_of u)) ≡ false → t ≡ u → ⊥
@@ -160,6 +165,16 @@ next_ticket false t n e x is = is ∙ ap (λ a. nat_lt 0 t && a) (by_size (nat_l
     by_size : (a : Bool) → nat_le t n ≡ a → a ≡ nat_le t (n + 1)
     by_size true a = sym (le-leb t (n + 1) (omega (arith, leb-true t n a)))
     by_size false a = sym (lt-leb t (n + 1) (omega (arith, leb-false t n a, roots_apart t (n + 1) e)))
+
+and_false : (b : Bool) → (b && false) ≡ false
+and_false true = refl
+and_false false = refl
+
+not_issued : (n : ℕ) → (nat_lt 0 (n + 1) && nat_le (n + 1) n) ≡ false
+not_issued n = ap (λ b. nat_lt 0 (n + 1) && b) (lt-leb (n + 1) n (omega arith)) ∙ and_false (nat_lt 0 (n + 1))
+
+is_issued : (t n : ℕ) → ((t == 0) || nat_lt n t) ≡ false → (nat_lt 0 t && nat_le t n) ≡ true
+is_issued t n h = grind (arith, nat_tests)
 
 module _ (d : Deployment) (c : Core) (m : Rows) (h : Right d c m) where
   -- the row of a new ticket, where it is absent
@@ -179,6 +194,7 @@ module _ (d : Deployment) (c : Core) (m : Rows) (h : Right d c m) where
           runs = h.runs;
         };
         goes_on = grows_self h.plain.made;
+        there = refl;
         reply = λ u o e. cc;
       })
     where
@@ -188,10 +204,10 @@ module _ (d : Deployment) (c : Core) (m : Rows) (h : Right d c m) where
 
   ticket_by : (r : Option Row) → map.get m (root_key (c.newest + 1)) ≡ r → AfterAct d h.plain m (root_key (c.newest + 1)) (ticket_next c) (act Issue c.now r)
   ticket_by None is = subst (λ (r : Option Row). After d h.plain (record c { newest = c.newest + 1 }) (set_row m (root_key (c.newest + 1)) (act Issue c.now r).0) (seen.Issued (c.newest + 1))) is (issued is)
-  ticket_by (Some r) is = subst (λ n. After d h.plain c n (seen.Gone (c.newest + 1))) (sym (unchanged m (root_key (c.newest + 1)) (Some r) (sym is))) (as_before d c m (seen.Gone (c.newest + 1)) refl h)
+  ticket_by (Some r) is = let clash : true ≡ false = sym (ap is_some is) ∙ h.tickets (c.newest + 1) ∙ not_issued c.newest in cc
 
   good_ticket : Good d h.plain c.now m (plan_of d Ticket c)
-  good_ticket = good_if d h.plain c.now m (c.newest == 2 ^ 32 - 1) (Answer c seen.NoTicket) (Do (root_key (c.newest + 1)) Issue (ticket_next c)) (λ e. as_before d c m seen.NoTicket refl h) (λ e. ticket_by (map.get m (root_key (c.newest + 1))) refl)
+  good_ticket = good_if d h.plain c.now m (c.newest == 2 ^ 32 - 1) (Answer c seen.NoTicket) (Do (root_key (c.newest + 1)) Issue (ticket_next c)) (λ e. as_before d c m seen.NoTicket (refl, refl) h) (λ e. ticket_by (map.get m (root_key (c.newest + 1))) refl)
 
 -- ---- a request
 start_is : (p : PlainState) (t f : ℕ) (a : Value) (o : Option Instance) → (t == 0) ≡ false → o ≡ None → start p t f a o ≡ Some (with_instance p (root_of t) (new_instance f a))
@@ -209,7 +225,11 @@ new_owes d u n f a = by_test (f == u)
 new_sane : (d : Deployment) (f : ℕ) (a : Value) → SaneInstance d (new_instance f a)
 new_sane d f a = record { past = λ n b e. cc; over = λ o e. cc }
 
-module _ (d : Deployment) (c : Core) (m : Rows) (h : Right d c m) (t f : ℕ) (a : Value) (positive : (t == 0) ≡ false) (room : map.len c.runs < most_runs) where
+first_false : (a b : Bool) → (a || b) ≡ false → a ≡ false
+first_false true b e = cc
+first_false false b e = refl
+
+module _ (d : Deployment) (c : Core) (m : Rows) (h : Right d c m) (t f : ℕ) (a : Value) (known : ((t == 0) || nat_lt c.newest t) ≡ false) (room : map.len c.runs < most_runs) where
   abbrev bound_row : IntentRow → IntentRow
   bound_row i = record i { body = Some (record { func = f; args = a; tx = None; from = None }) }
 
@@ -219,7 +239,7 @@ module _ (d : Deployment) (c : Core) (m : Rows) (h : Right d c m) (t f : ℕ) (a
   request_bound : (i : IntentRow) → map.get m (root_key t) ≡ Some (rows.Intent i) → IntentFits 0 (root_of t) i → i.body ≡ None → map.get h.plain.made (root_of t) ≡ None
       → After d h.plain (bound_next c t f a).0 (set_row m (root_key t) (Some (rows.Intent (bound_row i)))) (bound_next c t f a).1
   request_bound i is fits bare not_made =
-      let last = change_last d c.book h.plain (Start t f a) state (record { bounded = h.bounded; legal = h.legal; change = refl; enabled = start_is h.plain t f a (map.get h.plain.made (root_of t)) positive not_made }) in
+      let last = change_last d c.book h.plain (Start t f a) state (record { bounded = h.bounded; legal = h.legal; change = refl; enabled = start_is h.plain t f a (map.get h.plain.made (root_of t)) (first_false (t == 0) (nat_lt c.newest t) known) not_made }) in
       let grows = grows_set h.plain.made (root_of t) (new_instance f a) (subst (λ z. GrownAt z (Some (new_instance f a))) (sym not_made) tt) in
       record {
         right = record {
@@ -237,21 +257,22 @@ module _ (d : Deployment) (c : Core) (m : Rows) (h : Right d c m) (t f : ℕ) (a
           runs = runs_more d (c.book ++ Start t f a ∷ []) state c.runs c.last_run (new_run (root_of t) f) room tt (runs_on d c.book (Start t f a) h.plain state c.runs c.last_run grows last h.runs);
         };
         goes_on = grows;
+        there = refl;
         reply = λ u o e. cc;
       }
 
   -- an answer that changes no row
-  answer_kept : (v : Option Row) (x : Seen) → v ≡ map.get m (root_key t) → ((u : ℕ) (o : Outcome) → told_outcome x ≡ Some (u, o) → reply_of h.plain u ≡ Some o) → After d h.plain c (set_row m (root_key t) v) x
-  answer_kept v x e told = subst (λ n. After d h.plain c n x) (sym (unchanged m (root_key t) v e)) (record { right = h; goes_on = grows_self h.plain.made; reply = told })
+  answer_kept : (v : Option Row) (x : Seen) → v ≡ map.get m (root_key t) → is_gone x ≡ false → ((u : ℕ) (o : Outcome) → told_outcome x ≡ Some (u, o) → reply_of h.plain u ≡ Some o) → After d h.plain c (set_row m (root_key t) v) x
+  answer_kept v x e there told = subst (λ n. After d h.plain c n x) (sym (unchanged m (root_key t) v e)) (record { right = h; goes_on = grows_self h.plain.made; there = there; reply = told })
 
   told_running : (o : Option Outcome) → reply_of h.plain t ≡ o → (v : Option Row) → v ≡ map.get m (root_key t) → AfterAct d h.plain m (root_key t) (request_next c t f a) (v, outcome_tell o)
-  told_running None is v e = answer_kept v (seen.Running t) e (λ u o told. cc)
-  told_running (Some u) is v e = answer_kept v (seen.Replied t u) e (λ w o told. let both = same_some told in ap (reply_of h.plain) (sym (ap (λ z. z.0) both)) ∙ is ∙ ap (λ z. Some z.1) both)
+  told_running None is v e = answer_kept v (seen.Running t) e refl (λ u o told. cc)
+  told_running (Some u) is v e = answer_kept v (seen.Replied t u) e refl (λ w o told. let both = same_some told in ap (reply_of h.plain) (sym (ap (λ z. z.0) both)) ∙ is ∙ ap (λ z. Some z.1) both)
 
   told_same : (b : Body) (o : Option Outcome) (s : Bool) → reply_of h.plain t ≡ o → (v : Option Row) → v ≡ map.get m (root_key t)
       → AfterAct d h.plain m (root_key t) (request_next c t f a) (v, (if s then outcome_tell o else other b))
   told_same b o true is v e = told_running o is v e
-  told_same b o false is v e = answer_kept v (seen.Other t b.func b.args) e (λ u o told. cc)
+  told_same b o false is v e = answer_kept v (seen.Other t b.func b.args) e refl (λ u o told. cc)
 
   request_by : (i : IntentRow) (b : Option Body) → i.body ≡ b → map.get m (root_key t) ≡ Some (rows.Intent i) → IntentFits 0 (root_of t) i → BodyMatches b i.outcome (map.get h.plain.made (root_of t))
       → AfterAct d h.plain m (root_key t) (request_next c t f a) (Some (rows.Intent (bind_to f a i b).0), (bind_to f a i b).1)
@@ -260,19 +281,15 @@ module _ (d : Deployment) (c : Core) (m : Rows) (h : Right d c m) (t f : ℕ) (a
 
   request_row : (r : Option Row) → map.get m (root_key t) ≡ r → FitsAt (root_key t) r → RootMatches r (map.get h.plain.made (root_of t))
       → AfterAct d h.plain m (root_key t) (request_next c t f a) (act (Bind f a) c.now r)
-  request_row None is fits root = answer_kept None (seen.Gone t) (sym is) (λ u o told. cc)
+  request_row None is fits root = let clash : false ≡ true = sym (ap is_some is) ∙ h.tickets t ∙ is_issued t c.newest known in cc
   request_row (Some (rows.Intent i)) is fits root = request_by i i.body refl is fits root
   request_row (Some r) is fits root = absurd fits
 
-first_false : (a b : Bool) → (a || b) ≡ false → a ≡ false
-first_false true b e = cc
-first_false false b e = refl
-
 good_request : (d : Deployment) (c : Core) (m : Rows) (h : Right d c m) (t f : ℕ) (a : Value) → Good d h.plain c.now m (request_plan c t f a)
 good_request d c m h t f a =
-    good_if d h.plain c.now m ((t == 0) || nat_lt c.newest t) _ _ (λ e. as_before d c m (seen.Unknown t) refl h) (λ known.
-    good_if d h.plain c.now m (nat_le most_runs (map.len c.runs)) _ _ (λ e. as_before d c m seen.Crowded refl h) (λ few.
-    request_row d c m h t f a (first_false (t == 0) (nat_lt c.newest t) known) (leb-false most_runs (map.len c.runs) few) (map.get m (root_key t)) refl (h.rows.one_row (root_key t)) (h.rows.roots t)))
+    good_if d h.plain c.now m ((t == 0) || nat_lt c.newest t) _ _ (λ e. as_before d c m (seen.Unknown t) (refl, refl) h) (λ known.
+    good_if d h.plain c.now m (nat_le most_runs (map.len c.runs)) _ _ (λ e. as_before d c m seen.Crowded (refl, refl) h) (λ few.
+    request_row d c m h t f a known (leb-false most_runs (map.len c.runs) few) (map.get m (root_key t)) refl (h.rows.one_row (root_key t)) (h.rows.roots t)))
 
 -- ---- every event
 -- the host that took the event is as right as before
@@ -288,21 +305,21 @@ good_event d (Crash i) c m h = good_crash d c m i h (map.get c.runs i)
 good_event d (Restart id f) c m h = good_restart d c m h id f
 
 good_plan : (d : Deployment) (e : Event) (c : Core) (m : Rows) (h : Right d c m) → Good d h.plain c.now m (plan d e c)
-good_plan d e c m h = good_if d h.plain c.now m (nat_lt c.taken most_events) _ _ (λ b. good_event d e (counted c) m (taken d c m h)) (λ b. as_before d c m seen.Spent refl h)
+good_plan d e c m h = good_if d h.plain c.now m (nat_lt c.taken most_events) _ _ (λ b. good_event d e (counted c) m (taken d c m h)) (λ b. as_before d c m seen.Spent (refl, refl) h)
 
 after_dropped : (d : Deployment) (e : Event) (c : Core) (m : Rows) (h : Right d c m) → After d h.plain (dropped e c) m seen.Dropped
-after_dropped d Ticket c m h = as_before d c m seen.Dropped refl h
-after_dropped d (Request t f a) c m h = as_before d c m seen.Dropped refl h
-after_dropped d (Turn i) c m h = as_before d (ended_run c i) m seen.Dropped refl (without d c m i h)
-after_dropped d (Lost i) c m h = as_before d (ended_run c i) m seen.Dropped refl (without d c m i h)
-after_dropped d (Crash i) c m h = as_before d c m seen.Dropped refl h
-after_dropped d (Restart id f) c m h = as_before d c m seen.Dropped refl h
+after_dropped d Ticket c m h = as_before d c m seen.Dropped (refl, refl) h
+after_dropped d (Request t f a) c m h = as_before d c m seen.Dropped (refl, refl) h
+after_dropped d (Turn i) c m h = as_before d (ended_run c i) m seen.Dropped (refl, refl) (without d c m i h)
+after_dropped d (Lost i) c m h = as_before d (ended_run c i) m seen.Dropped (refl, refl) (without d c m i h)
+after_dropped d (Crash i) c m h = as_before d c m seen.Dropped (refl, refl) h
+after_dropped d (Restart id f) c m h = as_before d c m seen.Dropped (refl, refl) h
 
 kept : (d : Deployment) (p : PlainState) (c b : Core) (m n : Rows) (x : Seen) → n ≡ m → b ≡ c → After d p c m x → After d p b n x
 kept d p c b m n x rows core h = subst (λ k. After d p b k x) (sym rows) (subst (λ k. After d p k m x) (sym core) h)
 
 after_acts : (d : Deployment) (room old new : ℕ) (e : Event) (c : Core) (k : RowKey) (a : Act) (f : Tell → Core × Seen) (m : Rows) (b : Core) (n : Rows) (x : Seen) (h : Right d c m) → Good d h.plain c.now m (Do k a f) → Acts room old new e c k a f m b n x → After d h.plain b n x
-after_acts d room old new e c k a f m b n (seen.Full live most) h g s = kept d h.plain c b m n (seen.Full live most) s.0 s.1 (as_before d c m (seen.Full live most) refl h)
+after_acts d room old new e c k a f m b n (seen.Full live most) h g s = kept d h.plain c b m n (seen.Full live most) s.0 s.1 (as_before d c m (seen.Full live most) (refl, refl) h)
 after_acts d room old new e c k a f m b n seen.Dropped h g s = kept d h.plain (dropped e c) b m n seen.Dropped s.0 s.1 (after_dropped d e c m h)
 after_acts d room old new e c k a f m b n x h g s = subst (λ l. After d h.plain b l x) (sym s.0) (subst (λ (z : Core × Seen). After d h.plain z.0 (after_act a c.now k m) z.1) (sym s.1) g)
 
@@ -345,7 +362,7 @@ after_break d (Turn i) c b m n h s = elim s [
   | inl s ↦ broken d h.plain (dropped (Turn i) (counted c)) b m n s.0 s.1 (run_lost d h.plain (counted c) m i (taken d c m h) (grows_self h.plain.made))
   | inr s ↦
       let next = s.2 (tell_act s.1 c.now s.0 m) in
-      let after : After d h.plain next.0 (after_act s.1 c.now s.0 m) next.1 = subst (λ p. Good d h.plain c.now m p) s.3 (good_plan d (Turn i) c m h) in
+      let after : After d h.plain next.0 (after_act s.1 c.now s.0 m) next.1 = subst (λ p. Good d h.plain c.now m p) s.3 (good_event d (Turn i) (counted c) m (taken d c m h)) in
       broken d h.plain (dropped (Turn i) next.0) b (after_act s.1 c.now s.0 m) n s.4 s.5 (run_lost d h.plain next.0 (after_act s.1 c.now s.0 m) i after.right after.goes_on)
 ]
 
@@ -360,10 +377,6 @@ runs_right d room old new (e ∷ es) (x ∷ xs) c b m n h s = runs_right d room 
 no_ticket : (t : ℕ) → (nat_lt 0 t && nat_le t 0) ≡ false
 no_ticket zero = refl
 no_ticket (suc t) = ap (λ b. nat_lt 0 (suc t) && b) (lt-leb (suc t) 0 (omega arith)) ∙ and_false (nat_lt 0 (suc t))
-  where
-    and_false : (b : Bool) → (b && false) ≡ false
-    and_false true = refl
-    and_false false = refl
 
 pub begins : (d : Deployment) (now : ℕ) → Right d (first_core 0 now) map.empty
 begins d now = record {

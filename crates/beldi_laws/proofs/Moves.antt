@@ -1,5 +1,5 @@
 -- The host after a turn: the run went on or is over, and the book has the turn's entry.
-use Rattle.std.proofs.Common.{◌≡◌, ℕ, List, [], ◌∷◌, ◌++◌, Option, None, Some, refl, ap, sym, ◌∙◌, subst, is_some, append-nil}
+use Rattle.std.proofs.Common.{◌≡◌, ℕ, false, List, [], ◌∷◌, ◌++◌, Option, None, Some, refl, ap, sym, ◌∙◌, subst, is_some, append-nil}
 use Rattle.std.specs.Prelude.{option_to_list}
 use Rattle.std.specs.FinMap as map
 use Rattle.beldi_value.specs.declared.outcome.Outcome.{Outcome}
@@ -18,7 +18,7 @@ use Rattle.beldi_step.specs.declared.run.Run.{Run}
 use Rattle.beldi_step.specs.Run.{Turned}
 use Rattle.beldi_step.specs.Host.{Core, root_key, put_run, turn_next}
 use Rattle.beldi_laws.specs.Right.{Right, RowsMatch, RunAt, RunsMatch, Sane}
-use Rattle.beldi_laws.specs.Laws.{told_outcome}
+use Rattle.beldi_laws.specs.Laws.{told_outcome, is_gone}
 use Rattle.beldi_row.proofs.Gets.{got}
 use Rattle.beldi_order.specs.Laws.{IsLast}
 use Rattle.beldi_order.proofs.Entries.{Grows, changed, grows_self, after_grows}
@@ -30,6 +30,7 @@ use Rattle.beldi_laws.proofs.Lives.{runs_on, runs_put}
 pub record After (d : Deployment) (p : PlainState) (b : Core) (n : Rows) (x : Seen) : Type 0 where
   pub right : Right d b n
   pub goes_on : Grows p.made right.plain.made
+  pub there : is_gone x ≡ false
   pub reply : (t : ℕ) (o : Outcome) → told_outcome x ≡ Some (t, o) → reply_of right.plain t ≡ Some o
 
 -- the host after a turn
@@ -83,6 +84,7 @@ module _ (d : Deployment) (c : Core) (m n : Rows) (i : ℕ) (r : Run) (s : Turne
       runs = subst (λ b. RunsMatch d b h.plain (put_run c.runs i s.next) c.last_run) book (runs_put d c.book h.plain c.runs c.last_run i s.next (ap is_some live) q.next h.runs);
     };
     goes_on = grows_self h.plain.made;
+    there = refl;
     reply = λ t o e. let g = sym q.reply ∙ e in cc;
   }
 
@@ -100,6 +102,7 @@ module _ (d : Deployment) (c : Core) (m n : Rows) (i : ℕ) (r : Run) (s : Turne
       runs = subst (λ b. RunsMatch d b q (put_run c.runs i s.next) c.last_run) book (runs_put d (c.book ++ e ∷ []) q c.runs c.last_run i s.next (ap is_some live) next runs);
     };
     goes_on = grows;
+    there = refl;
     reply = reply;
   }
 

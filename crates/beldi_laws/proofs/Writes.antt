@@ -39,7 +39,7 @@ use Rattle.beldi_plain.specs.Plain.{Instance, PlainState, step_by, set_item, ans
 use Rattle.beldi_step.specs.declared.run.Run.{Run}
 use Rattle.beldi_step.specs.declared.run.Begun.{Begun}
 use Rattle.beldi_step.specs.declared.run.Stage.TheVariants as stage
-use Rattle.beldi_step.specs.Run.{goes, standing, resumed_in, write_turned, answered as run_answered}
+use Rattle.beldi_step.specs.Run.{goes, standing, resumed_in, is_done_note, noted_turned, write_turned, answered as run_answered}
 use Rattle.beldi_step.specs.Host.{Core, turn_next}
 use Rattle.beldi_laws.specs.Stands.{head_key, effect_before}
 use Rattle.beldi_daal.specs.Content.{content_in}
@@ -142,10 +142,12 @@ module _ (d : Deployment) (c : Core) (m : Rows) (i : ℕ) (r : Run) (g : Begun) 
         (ap (λ ys. k.answers ++ ys) (sym e) ∙ k.run_answers) k.machine is_answered;
   }
 
-  noted_by : (n : Note) (later : List Answer) → k.later ≡ later → Some n ≡ owed later → IsQuiet d c.book h.plain (run_answered d r g.machine Done None)
+  noted_by : (n : Note) (later : List Answer) → k.later ≡ later → Some n ≡ owed later → IsQuiet d c.book h.plain (noted_turned d r g.machine false (is_done_note n))
   unfolding owed
   noted_by n [] e is = cc
-  noted_by n (a ∷ later) e is = noted_quiet later (e ∙ ap (λ z. z ∷ later) (is_done a later e))
+  noted_by n (a ∷ later) e is =
+      let wrote_it : n ≡ Wrote = cc in
+      subst (λ z. IsQuiet d c.book h.plain (noted_turned d r g.machine false (is_done_note z))) (sym wrote_it) (noted_quiet later (e ∙ ap (λ z. z ∷ later) (is_done a later e)))
 
   -- it has none: the step is the instance's next
   none_left : (later : List Answer) → k.later ≡ later → None ≡ owed later → k.later ≡ []
@@ -196,7 +198,7 @@ module _ (d : Deployment) (c : Core) (m : Rows) (i : ℕ) (r : Run) (g : Begun) 
       let at : note_at cell.log place ≡ owed k.later = ap (λ w. note_at (content_in w).notes place) (sym is) ∙ h.rows.notes item place ∙ owed_here k.later refl in
       subst AfterWrite
       (sym (tells_note place (owner.Intent r.id) v cell n note))
-      (still d c m i r g h live k (run_answered d r g.machine Done None) (head_key item) (Some (rows.Cell cell)) (noted_by n k.later refl (sym note ∙ at)) (sym is))
+      (still d c m i r g h live k (noted_turned d r g.machine false (is_done_note n)) (head_key item) (Some (rows.Cell cell)) (noted_by n k.later refl (sym note ∙ at)) (sym is))
   try_cell cell None note is fits =
       let at : note_at cell.log place ≡ owed k.later = ap (λ w. note_at (content_in w).notes place) (sym is) ∙ h.rows.notes item place ∙ owed_here k.later refl in
       let left = none_left k.later refl (sym note ∙ at) in

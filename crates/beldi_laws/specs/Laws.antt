@@ -1,5 +1,5 @@
 -- What holds of every event, and of every list of events.
-use Rattle.std.specs.Prelude.{◌≡◌, ◌⊎◌, ℕ, false, option_to_list, List, [], ◌∷◌, ◌++◌, Option, Some, None}
+use Rattle.std.specs.Prelude.{◌≡◌, ◌⊎◌, ℕ, Bool, true, false, option_to_list, List, [], ◌∷◌, ◌++◌, Option, Some, None}
 use Rattle.std.specs.FinMap as map
 use Rattle.beldi_value.specs.declared.value.Value.{Value}
 use Rattle.beldi_value.specs.declared.outcome.Outcome.{Outcome}
@@ -55,6 +55,7 @@ told_outcome (seen.Gone t) = None
 told_outcome (seen.Unknown t) = None
 told_outcome (seen.Acted e over reply) = reply
 told_outcome (seen.Full live room) = None
+told_outcome seen.Worn = None
 told_outcome seen.Crowded = None
 told_outcome seen.NoRun = None
 told_outcome seen.RunOver = None
@@ -73,6 +74,15 @@ pub record HasReply (d : Deployment) (book : List Entry) (t : ℕ) (o : Outcome)
 abbrev pub RepliesAreOutcomes : Type 0
 RepliesAreOutcomes = (d : Deployment) (room old new : ℕ) (e : Event) (c b : Core) (m n : Rows) (x : Seen) → Right d c m → IsOneEvent d room old new e c m b n x
     → (t : ℕ) (o : Outcome) → told_outcome x ≡ Some (t, o) → HasReply d b.book t o
+
+-- a ticket is answered that its row is absent
+abbrev pub is_gone : Seen → Bool
+is_gone (seen.Gone t) = true
+is_gone x = false
+
+-- where the host and its rows are right, no ticket is answered so
+abbrev pub TicketsHaveRows : Type 0
+TicketsHaveRows = (d : Deployment) (room old new : ℕ) (e : Event) (c b : Core) (m n : Rows) (x : Seen) → Right d c m → IsOneEvent d room old new e c m b n x → is_gone x ≡ false
 
 -- the roots that a book starts, in order: ticket, function and arguments
 abbrev pub starts_of : List Entry → List (ℕ × (ℕ × Value))
@@ -137,10 +147,12 @@ entries_told (Request t f a) (seen.Bound u run) = Start t f a ∷ []
 entries_told e (seen.Acted entry over reply) = option_to_list entry
 entries_told e x = []
 
--- the book gets at most one entry: the one that the answer tells, unless the answer was lost
+-- the book gets at most one entry, which starts what this answer to the event bound: it is the one that the answer tells,
+-- unless the answer was lost
 pub record BookGrew (e : Event) (c b : Core) (x : Seen) : Type 0 where
   pub entry : Option Entry
   pub book : b.book ≡ c.book ++ option_to_list entry
+  pub starts : starts_of (option_to_list entry) ≡ bound_of e x
   pub told : is_lost e ≡ false → option_to_list entry ≡ entries_told e x
 
 -- .. and at most one where want of memory came, which tells nothing

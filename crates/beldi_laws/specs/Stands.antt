@@ -4,6 +4,7 @@ use Rattle.std.specs.FinMap as map
 use Rattle.beldi_value.specs.Id.{root_of}
 use Rattle.beldi_value.specs.declared.id.IntentId.{IntentId}
 use Rattle.beldi_value.specs.declared.outcome.Outcome.{Outcome}
+use Rattle.beldi_value.specs.declared.value.Value.TheVariants as value
 use Rattle.beldi_lang.specs.declared.deployment.Deployment.{Deployment}
 use Rattle.beldi_lang.specs.declared.effect.Answer.{Answer}
 use Rattle.beldi_lang.specs.declared.effect.Answer.TheVariants.{Done}
@@ -18,6 +19,7 @@ use Rattle.beldi_row.specs.declared.notes.Note.TheVariants as notes
 use Rattle.beldi_row.specs.declared.row.Body.{Body}
 use Rattle.beldi_row.specs.declared.row.IntentRow.{IntentRow}
 use Rattle.beldi_row.specs.declared.row.Row.TheVariants as rows
+use Rattle.beldi_row.specs.Key.{head_key as first_row}
 use Rattle.beldi_row.specs.Log.{note_at}
 use Rattle.beldi_row.specs.Table.{Rows}
 use Rattle.beldi_daal.specs.Content.{Content, content_in, SoundAt}
@@ -29,9 +31,9 @@ use Rattle.beldi_step.specs.Run.{is_ended}
 use Rattle.beldi_step.specs.Host.{root_key}
 
 -- ---- what the rows hold of an item
--- the first row of an item
+-- the key of an item's first row
 abbrev pub head_key : Item → RowKey
-head_key x = record { home = x.func; kind = kinds.Data x.table x.key 0 }
+head_key x = first_row x.func x.table x.key
 
 -- an item has one row
 abbrev pub content_of : Rows → Item → Content
@@ -42,13 +44,14 @@ abbrev pub IsSoundChain : Rows → Item → Type 0
 IsSoundChain m x = SoundAt (map.get m (head_key x))
 
 -- ---- the answer that the rows hold
--- a note, read as an answer. The notes of the effects that no body wants yet are none.
+-- a note, read as an answer: what was written, locked or freed was done, and a test has its truth. A death is no answer outside
+-- a transaction.
 abbrev pub noted_answer : Note → Option Answer
 noted_answer notes.Wrote = Some Done
-noted_answer (notes.Cond b) = None
-noted_answer notes.Got = None
+noted_answer (notes.Cond b) = Some (answer.Value (value.Bool b))
+noted_answer notes.Got = Some Done
 noted_answer (notes.Died h) = None
-noted_answer notes.Freed = None
+noted_answer notes.Freed = Some Done
 
 -- the answer that the rows hold at a step of an intent of a function, for the effect that it has there: the value that was
 -- given to a read, and the note that a write left

@@ -1,5 +1,5 @@
 // The laws of the step.
-ghost use Rattle.beldi_laws.specs.Laws.{BeginsRight, KeepsRight, BreaksRight, RightIsLegal, RightStands, RepliesAreOutcomes, StartsAreBound, BreaksStartNothing, OutcomesStay, ListingIsPlain, RightHasOneAnswer, HeldAnswersStay, ChangesOneRow, WritesWhatIsTold, SessionsAreRight, SessionsStartTheBound, SessionsTellOutcomes};
+ghost use Rattle.beldi_laws.specs.Laws.{BeginsRight, KeepsRight, BreaksRight, RightIsLegal, RightStands, RepliesAreOutcomes, TicketsHaveRows, StartsAreBound, BreaksStartNothing, OutcomesStay, ListingIsPlain, RightHasOneAnswer, HeldAnswersStay, ChangesOneRow, WritesWhatIsTold, SessionsAreRight, SessionsStartTheBound, SessionsTellOutcomes};
 
 /// A host that nothing has happened to is right, over a table without rows.
 pub fn begins_right()
@@ -29,6 +29,11 @@ pub fn right_stands()
 /// The outcome of a root that an event tells is the one that the root has in the run of the book.
 pub fn replies_are_outcomes()
     ensures { RepliesAreOutcomes }
+{}
+
+/// Where the host and its rows are right, no event answers that the row of a ticket is absent.
+pub fn tickets_have_rows()
+    ensures { TicketsHaveRows }
 {}
 
 /// The roots that the book starts are the requests that were bound, in order.

@@ -17,7 +17,7 @@ use Rattle.beldi_main.proofs.Deeds.{both, both_map, deed_did, deed_stopped, deed
 module _ (d : Deployment) (room : ℕ) (e : Deed) (c b : Core) (f g : ℕ) (p w q : List ℕ) (ra rb : Option Rows) (later : f ≤ g) where
   flushed_on : (m n : Rows) (h k : List ℕ) (r : Result (Unit {0}) Stop) → DeedOn d room f g e c b p w (Ok tt) m n → Flushed w q r h k → Carrying (e ∷ []) d room (state_of c m f h p) (state_of b n g k q) r
   flushed_on m n h k (Ok u) o t = deed_did d room e c b m n f g h k p later q o.0 o.1 (t.0, t.1, t.2 ∙ o.2)
-  flushed_on m n h k (Err v) o t = deed_stopped d room e c b m n f g h k p later q o.0 t.0 t.1 o.1 t.2 (t.3 ∙ o.2)
+  flushed_on m n h k (Err v) o t = deed_stopped d room e c b m n f g h k p later v q o.0 t.0 t.1 o.1 t.2 (t.3 ∙ o.2)
 
   -- the deed was carried out, and what waits was written where it is long
   pub went_on : (ha hb : Option (List ℕ)) (r : Result (Unit {0}) Stop) → Told ra rb (DeedOn d room f g e c b p w (Ok tt)) → Told ha hb (Flushed w q r) → Carried (Carrying (e ∷ [])) d room c b f g p q ra rb ha hb r
@@ -27,7 +27,7 @@ module _ (d : Deployment) (room : ℕ) (e : Deed) (c b : Core) (f g : ℕ) (p w 
 
   lost_on : (m n : Rows) (h k : List ℕ) (v : AllocError) → DeedOn d room f g e c b p w (Err v) m n → k ≡ h → Carrying (e ∷ []) d room (state_of c m f h p) (state_of b n g k q) (Err OutOfMemory)
   lost_on m n h k v o same = elim o [
-    | inl o ↦ deed_stopped d room e c b m n f g h k p later q o.0 [] (p ++ said_text d o.0) o.1 (same ∙ sym (append-nil h)) refl
+    | inl o ↦ deed_stopped d room e c b m n f g h k p later OutOfMemory q o.0 [] (p ++ said_text d o.0) o.1 (same ∙ sym (append-nil h)) refl
     | inr o ↦ deed_broke d room e c b m n f g h k p later q o same
   ]
 

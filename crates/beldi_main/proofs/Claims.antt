@@ -23,8 +23,9 @@ use Rattle.beldi_main.specs.declared.program.Ended.TheVariants as ended
 use Rattle.beldi_main.specs.Said.{Said}
 use Rattle.beldi_main.specs.Session.{OnTold, Answered, BreaksIn, BrokeOff, deeds_in}
 use Rattle.beldi_main.specs.PlainRun.{IsPlainRun, RowsStandFor, events_among, seen_among}
-use Rattle.beldi_main.specs.Headline.{Claim, Anything, PlainRun, IsWholeSource, LongOn, SessionOn, SourceOn, WordsOn, status_of}
+use Rattle.beldi_main.specs.Headline.{Claim, Anything, AsRead, PlainRun, LongOn, SessionOn, SourceAsRead, SourceOn, WordsOn, is_whole_source, status_of}
 use Rattle.beldi_main.proofs.Deeds.{both_map}
+use Rattle.beldi_main.proofs.Sessions.{still}
 use Rattle.beldi_main.proofs.Moments.{right_legal, answered_right, answered_starts, answered_tells, answered_moments, broke_right, broke_goes, broke_keeps}
 
 -- ---- the deed that broke off
@@ -78,7 +79,7 @@ module _ (P : Claim) (holds : Holds P) where
   session d lines m n f g h k ended.Done x = (x.0, (x.1.0, holds d d.room (deeds_in d lines) [] x.1.0.said m n n x.1.0.opened g x.1.0.core x.1.0.core x.1.0.answered (refl, refl)))
   session d lines m n f g h k ended.Refused x = (x.0, (x.1.0, holds d d.room (deeds_in d lines) [] x.1.0.said m n n x.1.0.opened g x.1.0.core x.1.0.core x.1.0.answered (refl, refl)))
   session d lines m n f g h k ended.OutOfMemory x = (x.0, holds d d.room x.0.done x.0.more x.0.said m x.0.rows n x.0.opened x.0.closed x.0.last x.0.core x.0.answered x.0.broke_off)
-  session d lines m n f g h k ended.SinkFault x = (x.0, holds d d.room x.0.done x.0.more x.0.said m x.0.rows n x.0.opened x.0.closed x.0.last x.0.core x.0.answered x.0.broke_off)
+  session d lines m n f g h k ended.SinkFault x = (x.0, holds d d.room x.0.done x.0.more x.0.said m x.0.rows n x.0.opened x.0.closed x.0.last x.0.core x.0.answered (still d x.0.more x.0.last x.0.rows x.0.core n x.0.broke_off))
   session d lines m n f g h k ended.Usage x = absurd x
   session d lines m n f g h k ended.SourceFault x = x
   session d lines m n f g h k ended.TooLong x = x
@@ -124,31 +125,19 @@ pub same_end : (e f : Ended) → status_of e ≡ status_of f → e ≡ f
 same_end e f h = sym (decoded e) ∙ ap decode h ∙ decoded f
 
 -- ---- a source that is not refused
-not_refused : (bytes : List ℕ) (o : Option Parsed) (m n : Rows) (f g : ℕ) (h k : List ℕ) → IsWholeSource bytes o → SourceOn Anything bytes o m n f g h k ended.Refused → ⊥
-not_refused bytes None m n f g h k w x = w
-not_refused bytes (Some p) m n f g h k w x = false≢true (sym x.0 ∙ w)
+module _ (b c : List ℕ) (P Q : Type 0) (p : P → ⊥) (q : Q → ⊥) (short : length b ≤ max_source) (whole : is_whole_source b (parsed_at b) ≡ true) where
+  done_or_wanting : (e : Ended) → AsRead (is_whole_source b (parsed_at b)) e → LongOn b c e → (e ≡ ended.SourceFault → P) → (e ≡ ended.SinkFault → Q) → (status_of e ≡ 0) ⊎ (status_of e ≡ 1) ⊎ (status_of e ≡ 8)
+  done_or_wanting ended.Done r l s t = inl refl
+  done_or_wanting ended.OutOfMemory r l s t = inr (inl refl)
+  done_or_wanting ended.Usage r l s t = absurd r
+  done_or_wanting ended.SourceFault r l s t = absurd (p (s refl))
+  done_or_wanting ended.SinkFault r l s t = absurd (q (t refl))
+  done_or_wanting ended.Refused r l s t = absurd (false≢true (sym r ∙ whole))
+  done_or_wanting ended.TooLong r l s t = absurd (omega (arith, short, l.0))
+  done_or_wanting ended.TableFault r l s t = inr (inr refl)
 
-module _ (b c : List ℕ) (m n : Rows) (f g : ℕ) (h k : List ℕ) (P Q R : Type 0) (p : P → ⊥) (q : Q → ⊥) (r : R → ⊥) (short : length b ≤ max_source) (whole : IsWholeSource b (parsed_at b)) where
-  done_or_wanting : (e : Ended) → SourceOn Anything b (parsed_at b) m n f g h k e → LongOn b c e → (e ≡ ended.Usage → ⊥) → (e ≡ ended.SourceFault → P) → (e ≡ ended.SinkFault → Q) → (e ≡ ended.TableFault → R) → (status_of e ≡ 0) ⊎ (status_of e ≡ 1)
-  done_or_wanting ended.Done x l u s t v = inl refl
-  done_or_wanting ended.OutOfMemory x l u s t v = inr refl
-  done_or_wanting ended.Usage x l u s t v = absurd (u refl)
-  done_or_wanting ended.SourceFault x l u s t v = absurd (p (s refl))
-  done_or_wanting ended.SinkFault x l u s t v = absurd (q (t refl))
-  done_or_wanting ended.Refused x l u s t v = absurd (not_refused b (parsed_at b) m n f g h k whole x)
-  done_or_wanting ended.TooLong x l u s t v = absurd (omega (arith, short, l.0))
-  done_or_wanting ended.TableFault x l u s t v = absurd (r (v refl))
-
-with_source : (o a : Option (List ℕ)) (m n : Rows) (f g : ℕ) (h k : List ℕ) (e : Ended) {X : Type 0} → ((b c : List ℕ) → SourceOn Anything b (parsed_at b) m n f g h k e → LongOn b c e → length b ≤ max_source → IsWholeSource b (parsed_at b) → X)
-    → IfSome o (λ b. SourceOn Anything b (parsed_at b) m n f g h k e) → Told o a (λ b c. LongOn b c e) → Told o a (λ b c. length b ≤ max_source → IsWholeSource b (parsed_at b) → X)
-with_source None a m n f g h k e x s l = tt
-with_source (Some b) None m n f g h k e x s l = l
-with_source (Some b) (Some c) m n f g h k e x s l = x b c s l
-
-pub completed : (words : Bool) (o a : Option (List ℕ)) (ra rb : Option Rows) (ha hb : Option (List ℕ)) (f g : ℕ) (e : Ended) (P Q R : Type 0) → words ≡ true → WordsOn Anything words o ra rb ha hb f g e → Told o a (λ b c. LongOn b c e)
-    → (e ≡ ended.Usage → words ≡ false) → (e ≡ ended.SourceFault → P) → (e ≡ ended.SinkFault → Q) → (e ≡ ended.TableFault → R) → (P → ⊥) → (Q → ⊥) → (R → ⊥)
-    → OnTold ra rb ha hb (λ m n h k. Told o a (λ b c. length b ≤ max_source → IsWholeSource b (parsed_at b) → (status_of e ≡ 0) ⊎ (status_of e ≡ 1)))
-completed false o a ra rb ha hb f g e P Q R is x l u s t v p q r = absurd (false≢true is)
-completed true o a ra rb ha hb f g e P Q R is x l u s t v p q r =
-    both_map {P = λ m n h k. IfSome o (λ b. SourceOn Anything b (parsed_at b) m n f g h k e)} {Q = λ m n h k. Told o a (λ b c. length b ≤ max_source → IsWholeSource b (parsed_at b) → (status_of e ≡ 0) ⊎ (status_of e ≡ 1))} ra rb ha hb
-    (λ m n h k y. with_source o a m n f g h k e (λ b c z j short whole. done_or_wanting b c m n f g h k P Q R p q r short whole e z j (λ i. false≢true (sym (u i))) s t v) y l) x
+pub completed : (o a : Option (List ℕ)) (e : Ended) (P Q : Type 0) → SourceAsRead o e → Told o a (λ b c. LongOn b c e) → (e ≡ ended.SourceFault → P) → (e ≡ ended.SinkFault → Q) → (P → ⊥) → (Q → ⊥)
+    → Told o a (λ b c. length b ≤ max_source → is_whole_source b (parsed_at b) ≡ true → (status_of e ≡ 0) ⊎ (status_of e ≡ 1) ⊎ (status_of e ≡ 8))
+completed None a e P Q r l s t p q = tt
+completed (Some b) None e P Q r l s t p q = l
+completed (Some b) (Some c) e P Q r l s t p q = λ short whole. done_or_wanting b c P Q p q short whole e r l s t

@@ -9,6 +9,9 @@ use Rattle.beldi_outside.proofs.Told.{told_map}
 use Rattle.beldi_main.specs.declared.deed.Deed.{Deed}
 use Rattle.beldi_main.specs.Said.{Said, said_text, said_texts}
 use Rattle.beldi_main.specs.Session.{state_of, Answered, BreaksIn, Did, IsOneDeed, Stopped, OnTold, Flushed, times}
+use Rattle.beldi_main.specs.declared.session.Stop.{Stop}
+use Rattle.beldi_main.specs.declared.session.Stop.TheVariants.{OutOfMemory}
+use Rattle.beldi_main.proofs.Sessions.{stays}
 
 -- what a table tells is told
 pub told_tells : (rows rows' : Option Rows) (P : Rows → Rows → Type 0) → Tells rows rows' P → Told rows rows' P
@@ -38,8 +41,8 @@ module _ (d : Deployment) (room : ℕ) (e : Deed) (c b : Core) (m n : Rows) (f g
   }
 
   -- the deed was done, and of its text only a front was written
-  pub deed_stopped : (q : List ℕ) (y : Said) (front rest : List ℕ) → IsOneDeed d room f g e c m b n y → k ≡ h ++ front → front ++ rest ≡ p ++ said_text d y → Stopped d room (e ∷ []) (state_of c m f h p) (state_of b n g k q)
-  deed_stopped q y front rest o held text = record {
+  pub deed_stopped : (why : Stop) (q : List ℕ) (y : Said) (front rest : List ℕ) → IsOneDeed d room f g e c m b n y → k ≡ h ++ front → front ++ rest ≡ p ++ said_text d y → Stopped why d room (e ∷ []) (state_of c m f h p) (state_of b n g k q)
+  deed_stopped why q y front rest o held text = record {
     done = e ∷ [];
     more = [];
     deeds = refl;
@@ -48,7 +51,7 @@ module _ (d : Deployment) (room : ℕ) (e : Deed) (c b : Core) (m n : Rows) (f g
     faults = g;
     said = y ∷ [];
     answered = one y o;
-    broke_off = (refl, refl);
+    broke_off = stays why d [] b n;
     later = omega arith;
     front = front;
     rest = rest;
@@ -57,7 +60,7 @@ module _ (d : Deployment) (room : ℕ) (e : Deed) (c b : Core) (m n : Rows) (f g
   }
 
   -- the deed broke off for want of memory
-  pub deed_broke : (q : List ℕ) → BreaksIn d e c m b n → k ≡ h → Stopped d room (e ∷ []) (state_of c m f h p) (state_of b n g k q)
+  pub deed_broke : (q : List ℕ) → BreaksIn d e c m b n → k ≡ h → Stopped OutOfMemory d room (e ∷ []) (state_of c m f h p) (state_of b n g k q)
   deed_broke q o held = record {
     done = [];
     more = e ∷ [];

@@ -38,30 +38,30 @@ module _ (d d' : Deployment) (e : Event) (c b : Core) (room room' f g : ℕ) (ra
 -- ---- a reading of the rows
 module _ (x : Deed) (read : Rows → Said) (d d' : Deployment) (c b : Core) (room room' f g : ℕ) (ra rb : Option Rows) (p q : List ℕ)
     (is : (m n : Rows) (y : Said) → IsReading x (read m) f g c m b n y → IsOneDeed d room f g x c m b n y) (breaks : (m n : Rows) → b ≡ c → n ≡ m → BreaksIn d x c m b n) where
-  reading_on : (r : Result (Unit {0}) AllocError) → b ≡ c → (m n : Rows) → n ≡ m → Appended d x (read m) f g p q r → DeedOn d room f g x c b p q r m n
+  reading_on : (r : Result (Unit {0}) AllocError) → b ≡ c → (m n : Rows) → n ≡ m → Appended d c x (read m) f g p q r → DeedOn d room f g x c b p q r m n
   reading_on (Ok u) core m n same t = elim t [
     | inl t ↦ (read m, is m n (read m) (core, same, inl refl), t)
-    | inr t ↦ (Unread x, is m n (Unread x) (core, same, inr (refl, t.1)), t.0)
+    | inr t ↦ (Unread x, is m n (Unread x) (core, same, inr (refl, t.1, t.2)), t.0)
   ]
   reading_on (Err v) core m n same t = inr (breaks m n core same)
 
   pub reading_done : (r : Result (Unit {0}) AllocError) → Reading x read d d' c b room room' f g ra rb p q r → Doing x d d' c b room room' f g ra rb p q r
   reading_done r a = record {
-    done = told_map {P = λ m n. (n ≡ m) × Appended d x (read m) f g p q r} {Q = DeedOn d room f g x c b p q r} ra rb (λ m n t. reading_on r a.core m n t.0 t.1) a.text;
+    done = told_map {P = λ m n. (n ≡ m) × Appended d c x (read m) f g p q r} {Q = DeedOn d room f g x c b p q r} ra rb (λ m n t. reading_on r a.core m n t.0 t.1) a.text;
     code = a.code;
     same_room = a.same_room;
     later = a.later;
   }
 
 -- the heading of the tables was appended, and the table failed
-module _ (d : Deployment) (room room' f g : ℕ) (ra rb : Option Rows) (p v w q : List ℕ) (P : Rows → Unit {0} → Type 0) (e : OpenErr) (is : e ≡ Failed) (reads : Reads P room room' f g ra rb (Err e))
+module _ (d : Deployment) (c : Core) (room room' f g : ℕ) (ra rb : Option Rows) (p v w q : List ℕ) (P : Rows → Unit {0} → Type 0) (e : OpenErr) (is : e ≡ Failed) (reads : Reads P room room' f g ra rb (Err e))
     (head : v ≡ p ++ tables_head) (kept : w ≡ v) (y : Rows → Said) where
-  failed_on : (r : Result (Unit {0}) AllocError) → OnOk r (q ≡ w ++ codes "dropped\n") → (m : Rows) → Appended d deed.Tables (y m) f g p q r
-  failed_on (Ok u) t m = inr (t ∙ ap (λ z. z ++ codes "dropped\n") (kept ∙ head) ∙ append_assoc p tables_head (codes "dropped\n"), reads.failed (ap Err is))
+  failed_on : (r : Result (Unit {0}) AllocError) → OnOk r (q ≡ w ++ codes "dropped\n") → (m : Rows) → Appended d c deed.Tables (y m) f g p q r
+  failed_on (Ok u) t m = inr (t ∙ ap (λ z. z ++ codes "dropped\n") (kept ∙ head) ∙ append_assoc p tables_head (codes "dropped\n"), reads.failed (ap Err is), refl)
   failed_on (Err k) t m = tt
 
-  pub tables_unread : (r : Result (Unit {0}) AllocError) → OnOk r (q ≡ w ++ codes "dropped\n") → Told ra rb (λ m n. (n ≡ m) × Appended d deed.Tables (y m) f g p q r)
-  tables_unread r t = told_map {P = λ m n. n ≡ m} {Q = λ m n. (n ≡ m) × Appended d deed.Tables (y m) f g p q r} ra rb (λ m n same. (same, failed_on r t m)) (kept_rows ra rb reads.rows)
+  pub tables_unread : (r : Result (Unit {0}) AllocError) → OnOk r (q ≡ w ++ codes "dropped\n") → Told ra rb (λ m n. (n ≡ m) × Appended d c deed.Tables (y m) f g p q r)
+  tables_unread r t = told_map {P = λ m n. n ≡ m} {Q = λ m n. (n ≡ m) × Appended d c deed.Tables (y m) f g p q r} ra rb (λ m n same. (same, failed_on r t m)) (kept_rows ra rb reads.rows)
     where
       kept_rows : (ra rb : Option Rows) → Tells ra rb (λ m n. (n ≡ m) × Unit {0}) → Told ra rb (λ m n. n ≡ m)
       kept_rows None rb t = tt

@@ -9,6 +9,7 @@ use Rattle.beldi_main.specs.declared.session.Stop.{Stop}
 use Rattle.beldi_main.specs.Said.{said_texts}
 use Rattle.beldi_main.specs.Session.{state_of, Did, Stopped, deeds_in, is_whole, ending, EndedOn}
 use Rattle.beldi_main.specs.Headline.{Whole, Cut}
+use Rattle.beldi_main.proofs.Sessions.{stays}
 
 abbrev nil : List Deed
 nil = []
@@ -30,7 +31,7 @@ module _ (d : Deployment) (room : ℕ) (lines : List (List ℕ)) (c b : Core) (m
   tail_by : (tail : List ℕ) → (tail ≡ []) ⊎ (tail ≡ ending (is_whole d lines)) → (tail ≡ []) ⊎ ((nil ≡ []) × (tail ≡ ending (is_whole d lines)))
   tail_by tail v = elim v [ inl v ↦ inl v | inr v ↦ inr (refl, v) ]
 
-  pub cut_at_end : (j : List ℕ) (s : Stop) → Did d room (deeds_in d lines) (state_of c m f h []) (state_of b n g k p) → EndedOn (is_whole d lines) p (Err s) k j → Cut d room lines c m n f g h j
+  pub cut_at_end : (j : List ℕ) (s : Stop) → Did d room (deeds_in d lines) (state_of c m f h []) (state_of b n g k p) → EndedOn (is_whole d lines) p (Err s) k j → Cut s d room lines c m n f g h j
   cut_at_end j s x w = record {
     core = b;
     said = x.said;
@@ -44,7 +45,7 @@ module _ (d : Deployment) (room : ℕ) (lines : List (List ℕ)) (c b : Core) (m
     closed = g;
     answered = x.answered;
     later = omega arith;
-    broke_off = (refl, refl);
+    broke_off = stays s d [] b n;
     tail = w.0;
     is_tail = tail_by w.0 w.1;
     front = x.wrote.written ++ w.2.0;
@@ -54,7 +55,7 @@ module _ (d : Deployment) (room : ℕ) (lines : List (List ℕ)) (c b : Core) (m
   }
 
   -- the deeds broke off before the end
-  pub cut_before : Stopped d room (deeds_in d lines) (state_of c m f h []) (state_of b n g k p) → Cut d room lines c m n f g h k
+  pub cut_before : {why : Stop} → Stopped why d room (deeds_in d lines) (state_of c m f h []) (state_of b n g k p) → Cut why d room lines c m n f g h k
   cut_before x = record {
     core = b;
     said = x.said;

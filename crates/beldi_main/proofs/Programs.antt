@@ -1,6 +1,7 @@
 -- The parts of the program, over what the table and the sink tell.
-use Rattle.std.proofs.Common.{◌≡◌, inl, ℕ, ◌≤◌, Bool, true, false, List, [], ◌∷◌, drop, Option, None, Some, Result, Ok, Err, IfSome, refl, ap, sym, ◌∙◌, subst, arith}
+use Rattle.std.proofs.Common.{◌≡◌, ◌⊎◌, inl, inr, ℕ, ◌≤◌, Bool, true, false, List, [], ◌∷◌, drop, Option, None, Some, Result, Ok, Err, IfOk, IfSome, refl, ap, sym, ◌∙◌, subst, arith}
 use Rattle.std.proofs.lemmas.List.{append-nil}
+use Rattle.std.specs.Global.{Vec}
 use Rattle.beldi_lang.specs.declared.deployment.Deployment.{Deployment}
 use Rattle.beldi_row.specs.Table.{Rows}
 use Rattle.beldi_main.specs.declared.deed.Deed.{Deed}
@@ -12,15 +13,17 @@ use Rattle.beldi_outside.specs.declared.transfer.ReadErr.TheVariants as why
 use Rattle.beldi_script.specs.Cut.{lines_of}
 use Rattle.beldi_syntax.specs.declared.grammar.Parsed.{Parsed}
 use Rattle.beldi_syntax.specs.Grammar.{parsed_at}
-use Rattle.beldi_outside.specs.Outside.{Told}
+use Rattle.beldi_outside.specs.Outside.{ReadAllOn, Told, max_source}
 use Rattle.beldi_outside.proofs.Told.{told_same, told_then, told_map, for_some}
 use Rattle.beldi_main.specs.declared.session.Stop.{Stop}
 use Rattle.beldi_main.specs.declared.session.Stop.TheVariants.{OutOfMemory, SinkFault}
+use Rattle.beldi_main.specs.declared.program.Ended.{Ended}
 use Rattle.beldi_main.specs.declared.program.Ended.TheVariants as ended_so
-use Rattle.beldi_main.specs.Session.{state_of, OnTold, BrokeOff, Carried, LinesOn, EndedOn, deeds_in}
-use Rattle.beldi_main.specs.Headline.{Whole, Cut, ScriptOn, SessionOn, SourceOn, RunOn, Anything, end_of, end_unread}
+use Rattle.beldi_main.specs.Session.{state_of, OnTold, Carried, LinesOn, EndedOn, deeds_in}
+use Rattle.beldi_main.specs.Headline.{Whole, Cut, ScriptOn, SessionOn, SourceOn, RunOn, Anything, AsRead, SourceAsRead, Untouched, end_of, end_unread, is_whole_source}
 use Rattle.beldi_main.proofs.Deeds.{told_tells, both_map}
 use Rattle.beldi_main.proofs.Endings.{ended, cut_at_end, cut_before}
+use Rattle.beldi_main.proofs.Sessions.{stays}
 
 -- ---- a script and its ending
 abbrev pub ended_by : Bool → Result (Unit {0}) Stop → Result Bool Stop
@@ -60,7 +63,7 @@ module _ (d : Deployment) (lines : List (List ℕ)) (m n : Rows) (e f g : ℕ) (
     text = w.text;
   }
 
-  cut_earlier : Cut d d.room lines (first_core (newest_of m) 0) m n f g h k → Cut d d.room lines (first_core (newest_of m) 0) m n e g h k
+  cut_earlier : {why : Stop} → Cut why d d.room lines (first_core (newest_of m) 0) m n f g h k → Cut why d d.room lines (first_core (newest_of m) 0) m n e g h k
   cut_earlier w = record {
     core = w.core;
     said = w.said;
@@ -103,7 +106,7 @@ hosted d kept room e f g c lines r ra rb rc ha hb o s =
         (subst (λ y. ScriptOn d d.room lines c y j f g h k r) v.0 (subst (λ y. ScriptOn d y lines c n j f g h k r) o.room_set (subst (λ y. ScriptOn y room lines c n j f g h k r) o.code_kept x)))
 
 -- nothing was done
-pub nothing_done : (d : Deployment) (lines : List (List ℕ)) (m : Rows) (f g : ℕ) (h : List ℕ) → f ≤ g → Cut d d.room lines (first_core (newest_of m) 0) m m f g h h
+pub nothing_done : (d : Deployment) (lines : List (List ℕ)) (m : Rows) (f g : ℕ) (h : List ℕ) → f ≤ g → Cut OutOfMemory d d.room lines (first_core (newest_of m) 0) m m f g h h
 nothing_done d lines m f g h l = record {
   core = first_core (newest_of m) 0;
   said = [];
@@ -117,7 +120,7 @@ nothing_done d lines m f g h l = record {
   closed = g;
   answered = (refl, refl, refl);
   later = omega arith;
-  broke_off = stays (deeds_in d lines);
+  broke_off = stays OutOfMemory d (deeds_in d lines) (first_core (newest_of m) 0) m;
   tail = [];
   is_tail = inl refl;
   front = [];
@@ -125,16 +128,12 @@ nothing_done d lines m f g h l = record {
   text = refl;
   written = sym (append-nil h);
 }
-  where
-    stays : (es : List Deed) → BrokeOff d es (first_core (newest_of m) 0) m (first_core (newest_of m) 0) m
-    stays [] = (refl, refl)
-    stays (e ∷ es) = inl (refl, refl)
 
 -- ---- a host that was not opened, and a source that was not read
 pub not_opened : (d : Deployment) (lines : List (List ℕ)) (f g : ℕ) (ra rb : Option Rows) (held : Option (List ℕ)) (why : OpenErr) → Refused f g ra rb why → OnTold ra rb held held (λ m n h k. SessionOn Anything d lines m n f g h k ended_so.OutOfMemory)
 not_opened d lines f g ra rb held why o =
     told_map {P = λ m n. n ≡ m} {Q = λ m n. Told held held (λ h k. SessionOn Anything d lines m n f g h k ended_so.OutOfMemory)} ra rb
-    (λ m n e. told_same (λ h k. SessionOn Anything d lines m n f g h k ended_so.OutOfMemory) held (λ h. (subst (λ z. Cut d d.room lines (first_core (newest_of m) 0) m z f g h h) (sym e) (nothing_done d lines m f g h o.later), tt)))
+    (λ m n e. told_same (λ h k. SessionOn Anything d lines m n f g h k ended_so.OutOfMemory) held (λ h. (subst (λ z. Cut OutOfMemory d d.room lines (first_core (newest_of m) 0) m z f g h h) (sym e) (nothing_done d lines m f g h o.later), tt)))
     (told_tells ra rb (λ m n. n ≡ m) o.rows)
 
 at_source : (bytes : List ℕ) (o : Option Parsed) (m : Rows) (f : ℕ) (h : List ℕ) → SourceOn Anything bytes o m m f f h h ended_so.OutOfMemory
@@ -157,3 +156,38 @@ pub not_read : (source : Option (List ℕ)) (rows : Option Rows) (held : Option 
 not_read source rows held f e =
     told_same (λ m n. Told held held (λ h k. IfSome source (λ b. SourceOn Anything b (parsed_at b) m n f f h k (end_unread e)))) rows
     (λ m. told_same (λ h k. IfSome source (λ b. SourceOn Anything b (parsed_at b) m m f f h k (end_unread e))) held (λ h. for_some {P = λ b. SourceOn Anything b (parsed_at b) m m f f h h (end_unread e)} source (λ b. at_unread b (parsed_at b) m f h e)))
+
+-- ---- one of two endings
+pub either_end : (P : Ended → Type 0) (e f g : Ended) → P f → P g → (e ≡ f) ⊎ (e ≡ g) → P e
+either_end P e f g p q h = elim h [ inl s ↦ subst P (sym s) p | inr s ↦ subst P (sym s) q ]
+
+-- ---- whether the source was refused
+pub ran_as_read : (whole : Bool) (r : Result Bool Stop) → IfOk r (λ x. whole ≡ x) → AsRead whole (end_of r)
+ran_as_read whole (Ok true) h = h
+ran_as_read whole (Ok false) h = h
+ran_as_read whole (Err OutOfMemory) h = tt
+ran_as_read whole (Err SinkFault) h = tt
+
+pub source_as_read : (o a : Option (List ℕ)) (v : Vec ℕ) (bytes : List ℕ) (e : Ended) → Told o a (ReadAllOn max_source (Ok v)) → bytes ≡ v.items → AsRead (is_whole_source bytes (parsed_at bytes)) e → SourceAsRead o e
+source_as_read None a v bytes e t same h = tt
+source_as_read (Some b) None v bytes e t same h = absurd t
+source_as_read (Some b) (Some c) v bytes e t same h = subst (λ x. AsRead (is_whole_source x (parsed_at x)) e) (same ∙ t.0) h
+
+pub unread_as_read : (o : Option (List ℕ)) (e : ReadErr) → SourceAsRead o (end_unread e)
+unread_as_read None e = tt
+unread_as_read (Some b) why.OutOfMemory = tt
+unread_as_read (Some b) why.Failed = tt
+unread_as_read (Some b) why.TooLong = tt
+
+-- ---- what was not touched
+module _ (table rows sink : Type 0) where
+  pub ran_untouched : (r : Result Bool Stop) → Untouched (end_of r) table rows sink
+  ran_untouched (Ok true) = tt
+  ran_untouched (Ok false) = tt
+  ran_untouched (Err OutOfMemory) = tt
+  ran_untouched (Err SinkFault) = tt
+
+  pub unread_untouched : (e : ReadErr) → table → sink → Untouched (end_unread e) table rows sink
+  unread_untouched why.OutOfMemory t s = tt
+  unread_untouched why.Failed t s = (t, s)
+  unread_untouched why.TooLong t s = (t, s)

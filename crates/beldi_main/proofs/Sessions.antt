@@ -1,14 +1,15 @@
 -- What is done, one part after another.
-use Rattle.std.proofs.Common.{◌≡◌, inl, ℕ, List, [], ◌∷◌, ◌++◌, refl, ap, sym, ◌∙◌, subst, arith, append_assoc}
+use Rattle.std.proofs.Common.{◌≡◌, inl, inr, ℕ, List, [], ◌∷◌, ◌++◌, refl, ap, sym, ◌∙◌, subst, arith, append_assoc}
 use Rattle.std.proofs.lemmas.Grind.{flat_map-append}
 use Rattle.std.proofs.lemmas.List.{append-nil}
 use Rattle.beldi_lang.specs.declared.deployment.Deployment.{Deployment}
 use Rattle.beldi_row.specs.Table.{Rows}
 use Rattle.beldi_step.specs.Host.{Core}
 use Rattle.beldi_main.specs.declared.deed.Deed.{Deed}
-use Rattle.beldi_main.specs.declared.deed.Deed.TheVariants as deed
+use Rattle.beldi_main.specs.declared.session.Stop.{Stop}
+use Rattle.beldi_main.specs.declared.session.Stop.TheVariants as stop
 use Rattle.beldi_main.specs.Said.{Said, said_text, said_texts}
-use Rattle.beldi_main.specs.Session.{State, Answered, Wrote, Did, BrokeOff, Stopped}
+use Rattle.beldi_main.specs.Session.{State, Answered, Wrote, Did, BrokeOff, Stopped, StoppedAt}
 
 pub answered_then : (d : Deployment) (room : ℕ) (es fs : List Deed) (c : Core) (m : Rows) (f : ℕ) (b : Core) (n : Rows) (g : ℕ) (e : Core) (o : Rows) (h : ℕ) (xs ys : List Said)
     → Answered d room es c m f b n g xs → Answered d room fs b n g e o h ys → Answered d room (es ++ fs) c m f e o h (xs ++ ys)
@@ -45,7 +46,7 @@ did_then d room es fs s t u x y = record {
   wrote = subst (Wrote s u) (sym (texts_then d x.said y.said)) (wrote_then s t u (said_texts d x.said) (said_texts d y.said) x.wrote y.wrote);
 }
 
-pub stopped_after : (d : Deployment) (room : ℕ) (es fs : List Deed) (s t u : State) → Did d room es s t → Stopped d room fs t u → Stopped d room (es ++ fs) s u
+pub stopped_after : {why : Stop} (d : Deployment) (room : ℕ) (es fs : List Deed) (s t u : State) → Did d room es s t → Stopped why d room fs t u → Stopped why d room (es ++ fs) s u
 stopped_after d room es fs s t u x y = record {
   done = es ++ y.done;
   more = y.more;
@@ -65,13 +66,26 @@ stopped_after d room es fs s t u x y = record {
       ∙ ap (λ z. s.waiting ++ z) (sym (texts_then d x.said y.said));
 }
 
+-- nothing more happened
+pub still : (d : Deployment) (es : List Deed) (c : Core) (m : Rows) (b : Core) (n : Rows) → (b ≡ c) × (n ≡ m) → BrokeOff d es c m b n
+still d [] c m b n h = h
+still d (e ∷ es) c m b n h = inl h
+
+pub stays : (why : Stop) (d : Deployment) (es : List Deed) (c : Core) (m : Rows) → StoppedAt why d es c m c m
+stays stop.OutOfMemory d es c m = still d es c m c m (refl, refl)
+stays stop.SinkFault d es c m = (refl, refl)
+
 more_broke_off : (d : Deployment) (es fs : List Deed) (c : Core) (m : Rows) (b : Core) (n : Rows) → BrokeOff d es c m b n → BrokeOff d (es ++ fs) c m b n
 more_broke_off d [] [] c m b n h = h
 more_broke_off d [] (f ∷ fs) c m b n h = inl h
 more_broke_off d (e ∷ es) fs c m b n h = h
 
-pub stopped_before : (d : Deployment) (room : ℕ) (es fs : List Deed) (s t : State) → Stopped d room es s t → Stopped d room (es ++ fs) s t
-stopped_before d room es fs s t x = record {
+more_stopped : (why : Stop) (d : Deployment) (es fs : List Deed) (c : Core) (m : Rows) (b : Core) (n : Rows) → StoppedAt why d es c m b n → StoppedAt why d (es ++ fs) c m b n
+more_stopped stop.OutOfMemory d es fs c m b n h = more_broke_off d es fs c m b n h
+more_stopped stop.SinkFault d es fs c m b n h = h
+
+pub stopped_before : {why : Stop} (d : Deployment) (room : ℕ) (es fs : List Deed) (s t : State) → Stopped why d room es s t → Stopped why d room (es ++ fs) s t
+stopped_before {why} d room es fs s t x = record {
   done = x.done;
   more = x.more ++ fs;
   deeds = sym (append_assoc x.done x.more fs) ∙ ap (λ z. z ++ fs) x.deeds;
@@ -80,28 +94,10 @@ stopped_before d room es fs s t x = record {
   faults = x.faults;
   said = x.said;
   answered = x.answered;
-  broke_off = more_broke_off d x.more fs x.core x.rows t.core t.rows x.broke_off;
+  broke_off = more_stopped why d x.more fs x.core x.rows t.core t.rows x.broke_off;
   later = x.later;
   front = x.front;
   rest = x.rest;
   held = x.held;
   text = x.text;
-}
-
-pub stopped_now : (d : Deployment) (room : ℕ) (s : State) → Stopped d room [] s s
-stopped_now d room s = record {
-  done = [];
-  more = [];
-  deeds = refl;
-  core = s.core;
-  rows = s.rows;
-  faults = s.faults;
-  said = [];
-  answered = (refl, refl, refl);
-  broke_off = (refl, refl);
-  later = omega arith;
-  front = [];
-  rest = s.waiting ++ [];
-  held = sym (append-nil s.held);
-  text = refl;
 }

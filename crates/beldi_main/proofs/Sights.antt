@@ -6,7 +6,6 @@ use Rattle.beldi_step.specs.Host.{Core}
 use Rattle.beldi_outside.specs.Outside.{Told}
 use Rattle.beldi_outside.proofs.Told.{told_same, told_then, told_map}
 use Rattle.beldi_script.specs.declared.reading.Line.{Line}
-use Rattle.beldi_script.specs.declared.reading.Line.TheVariants.{Blank}
 use Rattle.beldi_script.specs.Line.{line_at}
 use Rattle.std.proofs.lemmas.List.{append-nil}
 use Rattle.beldi_main.specs.declared.deed.Deed.{Deed}
@@ -98,13 +97,10 @@ module _ (d : Deployment) (room : ℕ) (line : List ℕ) (a b : Sight) where
 
   line_on : (l : Line) (s t : State) (r : Result (Unit {0}) Stop) → line_at d line ≡ Some l → Carrying (deeds_of l) d room s t r → LineOn d room line s t (line_result r)
   line_on l s t (Ok u) h x = (ap (λ o. and_whole o true) h, subst (λ es. Did d room es s t) (sym (by_line l h)) x)
-  line_on l s t (Err e) h x = subst (λ es. Stopped d room es s t) (sym (by_line l h)) x
+  line_on l s t (Err e) h x = subst (λ es. Stopped e d room es s t) (sym (by_line l h)) x
 
   pub done_line : (l : Line) (r : Result (Unit {0}) Stop) → line_at d line ≡ Some l → Between (Carrying (deeds_of l)) d room a b r → Between (λ e q s t x. LineOn e q line s t x) d room a b (line_result r)
   done_line l r h x = between_map (Carrying (deeds_of l)) (λ e q s t x. LineOn e q line s t x) d room a b r (line_result r) (λ s t y. line_on l s t r h y) x
-
-  pub blank_line : line_at d line ≡ Some Blank → Between (λ e r s t x. LineOn e r line s t x) d room a a (Ok true)
-  blank_line h = same (λ e r s t x. LineOn e r line s t x) d room a (Ok true) (λ s. line_on Blank s s (Ok tt) h (did_nothing d room s))
 
 -- ---- lines
 module _ (d e : Deployment) (room new_room : ℕ) (lines rest more : List (List ℕ)) (line : List ℕ) (a b c : Sight) (code : e ≡ d) (same_room : new_room ≡ room) (cut : rest ≡ line ∷ more) (before : Between (SoFarOn lines rest) d room a b (Ok tt)) where

@@ -47,6 +47,7 @@ answer_text d (seen.Gone t) = numbered (codes "gone ") t
 answer_text d (seen.Unknown t) = numbered (codes "unknown ") t
 answer_text d (seen.Acted e over r) = codes "acted" ++ (entry_part d e ++ (over_part over ++ (codes "\n" ++ reply_part r)))
 answer_text d (seen.Full live room) = codes "full " ++ (decimal live ++ (codes " " ++ (decimal room ++ codes "\n")))
+answer_text d seen.Worn = codes "worn\n"
 answer_text d seen.Crowded = codes "crowded 1024\n"
 answer_text d seen.NoRun = codes "no-run\n"
 answer_text d seen.RunOver = codes "run-over\n"

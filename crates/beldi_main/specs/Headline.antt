@@ -19,7 +19,7 @@ use Rattle.beldi_main.specs.declared.program.Ended.{Ended}
 use Rattle.beldi_main.specs.declared.program.Ended.TheVariants as ended
 use Rattle.beldi_main.specs.Said.{Said, said_texts}
 use Rattle.beldi_main.specs.PlainRun.{IsPlainRun}
-use Rattle.beldi_main.specs.Session.{Answered, BrokeOff, OnTold, deeds_in, is_whole, ending, refusal}
+use Rattle.beldi_main.specs.Session.{Answered, OnTold, StoppedAt, deeds_in, is_whole, ending, refusal}
 
 -- all lines before a refused one were carried out, from the host's state c and the rows m on, and the last listings where
 -- none is refused; the host ends as `core`. The numbers f and g are the table's count of failures before and after, and
@@ -33,8 +33,8 @@ pub record Whole (d : Deployment) (room : ℕ) (lines : List (List ℕ)) (c : Co
   pub text : k ≡ h ++ (said_texts d said ++ ending (is_whole d lines))
 
 -- the first deeds were carried out, and a front of the text was written; where all deeds were carried out, the text may have
--- a part of the ending
-pub record Cut (d : Deployment) (room : ℕ) (lines : List (List ℕ)) (c : Core) (m n : Rows) (f g : ℕ) (h k : List ℕ) : Type 0 where
+-- a part of the ending. Only for want of memory may a deed have broken off.
+pub record Cut (why : Stop) (d : Deployment) (room : ℕ) (lines : List (List ℕ)) (c : Core) (m n : Rows) (f g : ℕ) (h k : List ℕ) : Type 0 where
   pub core : Core
   pub said : List Said
   pub done : List Deed
@@ -47,7 +47,7 @@ pub record Cut (d : Deployment) (room : ℕ) (lines : List (List ℕ)) (c : Core
   pub closed : ℕ
   pub answered : Answered d room done c m opened last rows closed said
   pub later : closed ≤ g
-  pub broke_off : BrokeOff d more last rows core n
+  pub broke_off : StoppedAt why d more last rows core n
   pub tail : List ℕ
   pub is_tail : (tail ≡ []) ⊎ ((more ≡ []) × (tail ≡ ending (is_whole d lines)))
   pub front : List ℕ
@@ -58,7 +58,7 @@ pub record Cut (d : Deployment) (room : ℕ) (lines : List (List ℕ)) (c : Core
 -- what a call that carries out a script and writes its ending has done
 abbrev pub ScriptOn : Deployment → ℕ → List (List ℕ) → Core → Rows → Rows → ℕ → ℕ → List ℕ → List ℕ → Result Bool Stop → Type 0
 ScriptOn d room lines c m n f g h k (Ok whole) = (is_whole d lines ≡ whole) × Whole d room lines c m n f g h k
-ScriptOn d room lines c m n f g h k (Err e) = Cut d room lines c m n f g h k
+ScriptOn d room lines c m n f g h k (Err e) = Cut e d room lines c m n f g h k
 
 -- ---- what is said of a session: by its deployment, the rows before and after, the deeds that were carried out, what was
 -- said of them, the host after them, and the host at the end
@@ -76,15 +76,15 @@ PlainRun d m n es ys last c = m ≡ map.empty → IsPlainRun d n es ys last.book
 abbrev pub WholeWith : Claim → Deployment → List (List ℕ) → Rows → Rows → ℕ → ℕ → List ℕ → List ℕ → Type 0
 WholeWith P d lines m n f g h k = (w : Whole d d.room lines (first_core (newest_of m) 0) m n f g h k) × P d m n (deeds_in d lines) w.said w.core w.core
 
-abbrev pub CutWith : Claim → Deployment → List (List ℕ) → Rows → Rows → ℕ → ℕ → List ℕ → List ℕ → Type 0
-CutWith P d lines m n f g h k = (w : Cut d d.room lines (first_core (newest_of m) 0) m n f g h k) × P d m n w.done w.said w.last w.core
+abbrev pub CutWith : Claim → Stop → Deployment → List (List ℕ) → Rows → Rows → ℕ → ℕ → List ℕ → List ℕ → Type 0
+CutWith P why d lines m n f g h k = (w : Cut why d d.room lines (first_core (newest_of m) 0) m n f g h k) × P d m n w.done w.said w.last w.core
 
 -- by how the program ended
 abbrev pub SessionOn : Claim → Deployment → List (List ℕ) → Rows → Rows → ℕ → ℕ → List ℕ → List ℕ → Ended → Type 0
 SessionOn P d lines m n f g h k ended.Done = (is_whole d lines ≡ true) × WholeWith P d lines m n f g h k
 SessionOn P d lines m n f g h k ended.Refused = (is_whole d lines ≡ false) × WholeWith P d lines m n f g h k
-SessionOn P d lines m n f g h k ended.OutOfMemory = CutWith P d lines m n f g h k
-SessionOn P d lines m n f g h k ended.SinkFault = CutWith P d lines m n f g h k
+SessionOn P d lines m n f g h k ended.OutOfMemory = CutWith P stop.OutOfMemory d lines m n f g h k
+SessionOn P d lines m n f g h k ended.SinkFault = CutWith P stop.SinkFault d lines m n f g h k
 SessionOn P d lines m n f g h k ended.Usage = ⊥
 SessionOn P d lines m n f g h k ended.SourceFault = (n ≡ m) × (k ≡ h)
 SessionOn P d lines m n f g h k ended.TooLong = (n ≡ m) × (k ≡ h)
@@ -175,6 +175,25 @@ LongOn b c ended.TooLong = (max_source < length b) × (c ≡ drop (max_source + 
 LongOn b c e = length b ≤ max_source ⊎ (e ≡ ended.SourceFault) ⊎ (e ≡ ended.OutOfMemory)
 
 -- the source has a deployment, and no line after it is refused
-abbrev pub IsWholeSource : List ℕ → Option Parsed → Type 0
-IsWholeSource bytes None = ⊥
-IsWholeSource bytes (Some p) = is_whole p.code (lines_of (drop p.rest bytes)) ≡ true
+abbrev pub is_whole_source : List ℕ → Option Parsed → Bool
+is_whole_source bytes None = false
+is_whole_source bytes (Some p) = is_whole p.code (lines_of (drop p.rest bytes))
+
+-- only a source that is not refused is carried out whole, and only one that is refused is answered so; the words were right
+abbrev pub AsRead : Bool → Ended → Type 0
+AsRead whole ended.Done = whole ≡ true
+AsRead whole ended.Refused = whole ≡ false
+AsRead whole ended.Usage = ⊥
+AsRead whole e = Unit {0}
+
+abbrev pub SourceAsRead : Option (List ℕ) → Ended → Type 0
+SourceAsRead None e = Unit {0}
+SourceAsRead (Some b) e = AsRead (is_whole_source b (parsed_at b)) e
+
+-- an ending before the host was opened: by it the table is the one that was handed in, or has its rows, and the sink was
+-- not called
+abbrev pub Untouched : Ended → Type 0 → Type 0 → Type 0 → Type 0
+Untouched ended.SourceFault table rows sink = table × sink
+Untouched ended.TooLong table rows sink = table × sink
+Untouched ended.TableFault table rows sink = rows × sink
+Untouched e table rows sink = Unit {0}

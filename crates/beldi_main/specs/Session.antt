@@ -10,7 +10,7 @@ use Rattle.beldi_step.specs.declared.event.Event.TheVariants as event
 use Rattle.beldi_step.specs.declared.event.Seen.{Seen}
 use Rattle.beldi_step.specs.Host.{Core, IsOneEvent, Breaks, Stepped}
 use Rattle.beldi_step.specs.Tables.{tables_text}
-use Rattle.beldi_core.specs.Survey.{reply_seen}
+use Rattle.beldi_core.specs.Survey.{reply_seen, is_unknown}
 use Rattle.beldi_script.specs.declared.reading.Line.{Line}
 use Rattle.beldi_script.specs.declared.reading.Line.TheVariants as line
 use Rattle.beldi_script.specs.declared.reading.Line.TheVariants.{Blank, Ticket, Request, Turn, Lost, Crash, Restart, Reply, Tables, Book}
@@ -19,6 +19,7 @@ use Rattle.beldi_outside.specs.Outside.{Told}
 use Rattle.beldi_main.specs.declared.deed.Deed.{Deed}
 use Rattle.beldi_main.specs.declared.deed.Deed.TheVariants as deed
 use Rattle.beldi_main.specs.declared.session.Stop.{Stop}
+use Rattle.beldi_main.specs.declared.session.Stop.TheVariants as stop
 use Rattle.beldi_main.specs.declared.session.Stop.TheVariants.{SinkFault}
 use Rattle.beldi_main.specs.Answer.{answer_text}
 use Rattle.beldi_main.specs.Said.{Said, Saw, ReplyIs, RowsAre, TablesAre, BookIs, Unread, said_text, said_texts}
@@ -69,9 +70,14 @@ is_whole d (l ∷ ls) = and_whole (line_at d l) (is_whole d ls)
 
 -- ---- one deed, as a relation: from the core c and the rows m it leaves b and n, and this is said of it. The table's count
 -- of failures was f before, and is g now.
--- a reading changes nothing: it says what is to be read, or that the table failed
+-- what a reading says is known without a look at the rows: a ticket that was not issued has no reply
+abbrev pub is_known : Core → Deed → Bool
+is_known c (deed.Reply t) = is_unknown c.newest t
+is_known c x = false
+
+-- a reading changes nothing: it says what is to be read, or, where the rows have to be looked at, that the table failed
 abbrev pub IsReading : Deed → Said → ℕ → ℕ → Core → Rows → Core → Rows → Said → Type 0
-IsReading x read f g c m b n y = (b ≡ c) × (n ≡ m) × ((y ≡ read) ⊎ ((y ≡ Unread x) × Rose f g))
+IsReading x read f g c m b n y = (b ≡ c) × (n ≡ m) × ((y ≡ read) ⊎ ((y ≡ Unread x) × Rose f g × (is_known c x ≡ false)))
 
 abbrev pub IsOneDeed : Deployment → ℕ → ℕ → ℕ → Deed → Core → Rows → Core → Rows → Said → Type 0
 IsOneDeed d room f g (deed.Event e) c m b n y = (x : Seen) × (y ≡ Saw x) × IsOneEvent d room f g e c m b n x
@@ -119,8 +125,13 @@ abbrev pub BrokeOff : Deployment → List Deed → Core → Rows → Core → Ro
 BrokeOff d [] c m b n = (b ≡ c) × (n ≡ m)
 BrokeOff d (e ∷ es) c m b n = ((b ≡ c) × (n ≡ m)) ⊎ BreaksIn d e c m b n
 
+-- by why it stopped: a deed breaks off for want of memory alone, and where the sink failed nothing more happened
+abbrev pub StoppedAt : Stop → Deployment → List Deed → Core → Rows → Core → Rows → Type 0
+StoppedAt stop.OutOfMemory d es c m b n = BrokeOff d es c m b n
+StoppedAt stop.SinkFault d es c m b n = (b ≡ c) × (n ≡ m)
+
 -- the first of these deeds were carried out, and a front of the text of what was said of them was written
-pub record Stopped (d : Deployment) (room : ℕ) (es : List Deed) (s t : State) : Type 0 where
+pub record Stopped (why : Stop) (d : Deployment) (room : ℕ) (es : List Deed) (s t : State) : Type 0 where
   pub done : List Deed
   pub more : List Deed
   pub deeds : done ++ more ≡ es
@@ -129,7 +140,7 @@ pub record Stopped (d : Deployment) (room : ℕ) (es : List Deed) (s t : State) 
   pub faults : ℕ
   pub said : List Said
   pub answered : Answered d room done s.core s.rows s.faults core rows faults said
-  pub broke_off : BrokeOff d more core rows t.core t.rows
+  pub broke_off : StoppedAt why d more core rows t.core t.rows
   pub later : faults ≤ t.faults
   pub front : List ℕ
   pub rest : List ℕ
@@ -142,13 +153,13 @@ state_of c m f h p = record { core = c; rows = m; faults = f; held = h; waiting 
 -- what a call that carries out these deeds has done
 abbrev pub Carrying : List Deed → Deployment → ℕ → State → State → Result (Unit {0}) Stop → Type 0
 Carrying es d room s t (Ok u) = Did d room es s t
-Carrying es d room s t (Err e) = Stopped d room es s t
+Carrying es d room s t (Err e) = Stopped e d room es s t
 
 -- what a call that carries out a line has done: whether the line was not refused
 abbrev pub LineOn : Deployment → ℕ → List ℕ → State → State → Result Bool Stop → Type 0
 LineOn d room line s t (Ok true) = (is_whole d (line ∷ []) ≡ true) × Did d room (deeds_at d line) s t
 LineOn d room line s t (Ok false) = (is_whole d (line ∷ []) ≡ false) × Did d room [] s t
-LineOn d room line s t (Err e) = Stopped d room (deeds_at d line) s t
+LineOn d room line s t (Err e) = Stopped e d room (deeds_at d line) s t
 
 -- a line that is not refused is answered as its deeds are
 abbrev pub line_result : Result (Unit {0}) Stop → Result Bool Stop
@@ -158,7 +169,7 @@ line_result (Err e) = Err e
 -- the same of all the lines of a script
 abbrev pub LinesOn : Deployment → ℕ → List (List ℕ) → State → State → Result Bool Stop → Type 0
 LinesOn d room lines s t (Ok whole) = (is_whole d lines ≡ whole) × Did d room (deeds_in d lines) s t
-LinesOn d room lines s t (Err e) = Stopped d room (deeds_in d lines) s t
+LinesOn d room lines s t (Err e) = Stopped e d room (deeds_in d lines) s t
 
 -- the lines before these were carried out
 pub record SoFar (d : Deployment) (room : ℕ) (lines left : List (List ℕ)) (s t : State) : Type 0 where
@@ -206,14 +217,15 @@ pub record Answering (d d' : Deployment) (e : Event) (c b : Core) (room room' f 
   pub code : d' ≡ d
   pub text : TellsAnswer d p q result seen
 
--- what a reading says went after the text p, or that the table failed; nothing is said of the text where memory was wanting
-abbrev pub Appended : Deployment → Deed → Said → ℕ → ℕ → List ℕ → List ℕ → Result (Unit {0}) AllocError → Type 0
-Appended d x read f g p q (Ok u) = (q ≡ p ++ said_text d read) ⊎ ((q ≡ p ++ said_text d (Unread x)) × Rose f g)
-Appended d x read f g p q (Err e) = Unit {0}
+-- what a reading says went after the text p, or, where the rows have to be looked at, that the table failed; nothing is
+-- said of the text where memory was wanting
+abbrev pub Appended : Deployment → Core → Deed → Said → ℕ → ℕ → List ℕ → List ℕ → Result (Unit {0}) AllocError → Type 0
+Appended d c x read f g p q (Ok u) = (q ≡ p ++ said_text d read) ⊎ ((q ≡ p ++ said_text d (Unread x)) × Rose f g × (is_known c x ≡ false))
+Appended d c x read f g p q (Err e) = Unit {0}
 
 -- the rows were read, and what they say was appended
 pub record Reading (x : Deed) (read : Rows → Said) (d d' : Deployment) (c b : Core) (room room' f g : ℕ) (rows rows' : Option Rows) (p q : List ℕ) (result : Result (Unit {0}) AllocError) : Type 0 where
-  pub text : Told rows rows' (λ m n. (n ≡ m) × Appended d x (read m) f g p q result)
+  pub text : Told rows rows' (λ m n. (n ≡ m) × Appended d c x (read m) f g p q result)
   pub core : b ≡ c
   pub code : d' ≡ d
   pub same_room : room' ≡ room

@@ -1,5 +1,5 @@
 // The text of an answer.
-ghost use Rattle.std.specs.Prelude.{◌≡◌, ◌++◌, OnOk, codes, string_bytes, IfOk};
+ghost use Rattle.std.specs.Prelude.{◌≡◌, ◌++◌, OnErr, OnOk, codes, string_bytes, IfOk};
 ghost use Rattle.std.specs.Fmt.{decimal};
 ghost use Rattle.beldi_value.specs.Json.{text_of};
 ghost use Rattle.beldi_value.specs.Value.{datum_of};
@@ -14,15 +14,15 @@ use beldi_step::Seen;
 use beldi_value::{Outcome, Str, Value};
 use std::alloc::{AllocError, Global};
 
-/// Appends the line of an answer, and a line for the reply that it gives, if any. After an `Err` what it appended is a
-/// part of them.
+/// Appends the line of an answer, and a line for the reply that it gives, if any. After an `Err` the text is as before.
 pub fn write_answer(
     alloc: Global,
     code: &Deployment,
     seen: &Seen,
     out: &mut Str,
 ) -> Result<(), AllocError>
-    ensures { OnOk result (out.new ≡ out.old ++ answer_text code.now seen.now) }
+    ensures ok { OnOk result (out.new ≡ out.old ++ answer_text code.now seen.now) }
+    ensures err { OnErr result (out.new ≡ out.old) }
 {
     match seen {
         Seen::Issued(ticket) => write_numbered(alloc, "ticket ", u64::from(*ticket), out),
@@ -36,17 +36,12 @@ pub fn write_answer(
         Seen::Other { ticket, func, args } => write_other(alloc, code, *ticket, *func, args, out),
         Seen::Gone(ticket) => write_numbered(alloc, "gone ", u64::from(*ticket), out),
         Seen::Unknown(ticket) => write_numbered(alloc, "unknown ", u64::from(*ticket), out),
-        Seen::Acted { entry, over, reply } => {
-            out.push_text("acted")?;
-            write_entry(alloc, code, entry, out)?;
-            out.push_text(if *over { " over" } else { "" })?;
-            out.push_text("\n")?;
-            write_reply(alloc, reply, out)
-        }
+        Seen::Acted { entry, over, reply } => write_acted(alloc, code, entry, *over, reply, out),
         Seen::Full { live, room } => {
             let text = format!(in alloc; "full {live} {room}\n")?;
             out.push_text(text.as_str())
         }
+        Seen::Worn => out.push_text("worn\n"),
         Seen::Crowded => out.push_text("crowded 1024\n"),
         Seen::NoRun => out.push_text("no-run\n"),
         Seen::RunOver => out.push_text("run-over\n"),
@@ -64,7 +59,8 @@ pub fn write_numbered(
     number: u64,
     out: &mut Str,
 ) -> Result<(), AllocError>
-    ensures { OnOk result (out.new ≡ out.old ++ numbered word.now number) }
+    ensures ok { OnOk result (out.new ≡ out.old ++ numbered word.now number) }
+    ensures err { OnErr result (out.new ≡ out.old) }
 {
     let text = format!(in alloc; "{word}{number}\n")?;
     out.push_text(text.as_str())
@@ -77,12 +73,13 @@ fn write_outcome(
     outcome: &Outcome,
     out: &mut Str,
 ) -> Result<(), AllocError>
-    ensures { OnOk result (out.new ≡ out.old ++ outcome_line word.now ticket outcome.now) }
+    ensures ok { OnOk result (out.new ≡ out.old ++ outcome_line word.now ticket outcome.now) }
+    ensures err { OnErr result (out.new ≡ out.old) }
 {
-    let text = format!(in alloc; "{word}{ticket} ")?;
-    out.push_text(text.as_str())?;
-    outcome.write(alloc, out)?;
-    out.push_text("\n")
+    let mut line = Str::from_string(format!(in alloc; "{word}{ticket} ")?);
+    outcome.write(alloc, &mut line)?;
+    line.push_text("\n")?;
+    out.push_text(line.as_str())
 }
 
 fn write_other(
@@ -93,14 +90,34 @@ fn write_other(
     args: &Value,
     out: &mut Str,
 ) -> Result<(), AllocError>
-    ensures { OnOk result (out.new ≡ out.old ++ answer_text code.now (Seen.Other ticket func args.now)) }
+    ensures ok { OnOk result (out.new ≡ out.old ++ answer_text code.now (Seen.Other ticket func args.now)) }
+    ensures err { OnErr result (out.new ≡ out.old) }
 {
-    let text = format!(in alloc; "other {ticket} ")?;
-    out.push_text(text.as_str())?;
-    write_func(alloc, code, func, out)?;
-    out.push_text(" ")?;
-    args.write_json(alloc, out)?;
-    out.push_text("\n")
+    let mut line = Str::from_string(format!(in alloc; "other {ticket} ")?);
+    write_func(alloc, code, func, &mut line)?;
+    line.push_text(" ")?;
+    args.write_json(alloc, &mut line)?;
+    line.push_text("\n")?;
+    out.push_text(line.as_str())
+}
+
+fn write_acted(
+    alloc: Global,
+    code: &Deployment,
+    entry: &Option<Entry>,
+    over: bool,
+    reply: &Option<(u32, Outcome)>,
+    out: &mut Str,
+) -> Result<(), AllocError>
+    ensures ok { OnOk result (out.new ≡ out.old ++ answer_text code.now (Seen.Acted entry.now over reply.now)) }
+    ensures err { OnErr result (out.new ≡ out.old) }
+{
+    let mut lines = Str::from_text(alloc, "acted")?;
+    write_entry(alloc, code, entry, &mut lines)?;
+    lines.push_text(if over { " over" } else { "" })?;
+    lines.push_text("\n")?;
+    write_reply(alloc, reply, &mut lines)?;
+    out.push_text(lines.as_str())
 }
 
 fn write_entry(
@@ -133,14 +150,15 @@ fn write_reply(
     }
 }
 
-/// Appends the line of what a ticket's run gave. After an `Err` what it appended is a part of it.
+/// Appends the line of what a ticket's run gave. After an `Err` the text is as before.
 pub fn write_reply_seen(
     alloc: Global,
     ticket: u32,
     seen: &ReplySeen,
     out: &mut Str,
 ) -> Result<(), AllocError>
-    ensures { OnOk result (out.new ≡ out.old ++ reply_line ticket seen.now) }
+    ensures ok { OnOk result (out.new ≡ out.old ++ reply_line ticket seen.now) }
+    ensures err { OnErr result (out.new ≡ out.old) }
 {
     match seen {
         ReplySeen::Unknown => write_no_reply(alloc, ticket, "unknown", out),
@@ -151,7 +169,8 @@ pub fn write_reply_seen(
 }
 
 fn write_no_reply(alloc: Global, ticket: u32, why: &str, out: &mut Str) -> Result<(), AllocError>
-    ensures { OnOk result (out.new ≡ out.old ++ ticket_line (codes "reply ") ticket why.now) }
+    ensures ok { OnOk result (out.new ≡ out.old ++ ticket_line (codes "reply ") ticket why.now) }
+    ensures err { OnErr result (out.new ≡ out.old) }
 {
     let text = format!(in alloc; "reply {ticket} {why}\n")?;
     out.push_text(text.as_str())

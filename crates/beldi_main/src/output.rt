@@ -8,16 +8,17 @@ use crate::session::Stop;
 use beldi_outside::{Sink, write_all};
 use beldi_value::Str;
 
-/// Text waits until it has so many bytes.
+/// Text waits until it has so many bytes: 64 KiB.
 const PIECE: usize = 65_536;
 
-/// Writes all that waits.
+/// Writes all that waits. `SinkFault`: the sink failed; a front of the text was written, and the text waits as before.
 pub fn flush<K: Sink>(sink: &mut K, waiting: &mut Str) -> Result<(), Stop>
     ensures text { Told (K.held sink.old) (K.held sink.new) (Flushed waiting.old waiting.new result) }
     ensures later { K.faults sink.old ≤ K.faults sink.new }
     ensures fault { OnErr result (Rose (K.faults sink.old) (K.faults sink.new)) }
     ensures cause { IfErr result (λ e. e ≡ SinkFault) }
     ensures empty { OnOk result (waiting.new ≡ []) }
+    ensures same { OnErr result (waiting.new ≡ waiting.old) }
 {
     match write_all(sink, waiting.as_bytes()) {
         Ok(()) => {
@@ -28,7 +29,7 @@ pub fn flush<K: Sink>(sink: &mut K, waiting: &mut Str) -> Result<(), Stop>
     }
 }
 
-/// Writes all that waits, where it is long.
+/// Writes all that waits, where it is long. `SinkFault`: as of `flush`.
 pub fn flush_if_long<K: Sink>(sink: &mut K, waiting: &mut Str) -> Result<(), Stop>
     ensures text { Told (K.held sink.old) (K.held sink.new) (Flushed waiting.old waiting.new result) }
     ensures later { K.faults sink.old ≤ K.faults sink.new }
@@ -36,6 +37,7 @@ pub fn flush_if_long<K: Sink>(sink: &mut K, waiting: &mut Str) -> Result<(), Sto
     ensures cause { IfErr result (λ e. e ≡ SinkFault) }
     ensures short { OnOk result (waiting.new ≡ (if nat_lt (length waiting.old) 65536 then waiting.old else [])) }
     ensures long { OnErr result (65536 ≤ length waiting.old) }
+    ensures same { OnErr result (waiting.new ≡ waiting.old) }
 {
     if waiting.len() < PIECE {
         Ok(())

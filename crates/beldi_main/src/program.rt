@@ -1,12 +1,12 @@
 // The program, over a source, a sink, a table, a link and a clock.
-ghost use Rattle.std.specs.Prelude.{◌≡◌, ◌≤◌, ◌<◌, ◌+◌, ◌⊎◌, true, false, length, drop, IfSome, IsTrue};
+ghost use Rattle.std.specs.Prelude.{◌≡◌, ◌≤◌, ◌<◌, ◌+◌, ◌⊎◌, true, false, length, drop, IfOk, IsTrue};
 ghost use Rattle.beldi_core.specs.Host.{core_of};
 ghost use Rattle.beldi_outside.specs.Outside.{Told, Rose, max_source};
 ghost use Rattle.beldi_script.specs.Cut.{lines_of};
 ghost use Rattle.beldi_syntax.specs.Grammar.{parsed_at};
 ghost use Rattle.beldi_main.specs.declared.program.Ended.TheVariants as ended;
 ghost use Rattle.beldi_main.specs.Session.{OnTold, Kept, is_whole};
-ghost use Rattle.beldi_main.specs.Headline.{Anything, ByStatus, IsWholeSource, PlainRun, RunOn, ScriptOn, SessionOn, SourceOn, UnreadOn, UsageOn, WordsOn, LongOn, end_of, end_unread, is_of_run, is_of_source, is_run, status_of};
+ghost use Rattle.beldi_main.specs.Headline.{Anything, AsRead, ByStatus, PlainRun, RunOn, ScriptOn, SessionOn, SourceAsRead, SourceOn, UnreadOn, Untouched, UsageOn, WordsOn, LongOn, end_of, end_unread, is_of_run, is_of_source, is_run, is_whole_source, status_of};
 
 use crate::ending::finish;
 use crate::session::{Stop, do_lines};
@@ -23,21 +23,23 @@ use std::alloc::Global;
 pub enum Ended {
     /// All lines were carried out, and the last listings written.
     Done,
+    /// Memory is short.
     OutOfMemory,
     /// The words are not those of a command.
     Usage,
+    /// The source failed, and its count of faults has risen. Nothing was done or written.
     SourceFault,
+    /// The sink failed, and its count of faults has risen.
     SinkFault,
     /// The deployment was refused, or a line of the script.
     Refused,
-    /// The source has more than 16,777,216 bytes.
+    /// The source has more than 16,777,216 bytes. Nothing was done or written.
     TooLong,
-    /// The table failed as the host was opened.
+    /// The table failed as the host was opened, and its count has risen. Nothing was done or written.
     TableFault,
 }
 
-/// Carries out what the words ask for, and answers the status. Gives back the table, whatever the status is. The link and
-/// the clock are not asked for anything yet.
+/// Carries out what the words ask for, and answers the status. Gives back the table, whatever the status is.
 pub fn top<S: Source, K: Sink, T: Table, N: Link, C: Clock>(
     alloc: Global,
     words: &[Str],
@@ -50,13 +52,20 @@ pub fn top<S: Source, K: Sink, T: Table, N: Link, C: Clock>(
     // The text that the sink got is that of a session of the source. Over a table without rows this session is a run without
     // crashes of exactly the requests that were answered bound, and the replies, the tables and the rows are those of that run.
     ensures session { ByStatus result.0 (λ e. WordsOn PlainRun (is_run words.now) (S.left source.old) (T.rows table) (T.rows result.1) (K.held sink.old) (K.held sink.new) (T.faults table) (T.faults result.1) e) }
+    // Neither the link nor the clock is asked for anything.
+    ensures unasked { (_link.new ≡ _link.old) × (_clock.new ≡ _clock.old) }
     ensures usage { (result.0 ≡ 2 → is_run words.now ≡ false) × (is_run words.now ≡ false → (result.0 ≡ 2) ⊎ (result.0 ≡ 4)) }
     ensures source_fault { result.0 ≡ 3 → Rose (S.faults source.old) (S.faults source.new) }
     ensures sink_fault { result.0 ≡ 4 → Rose (K.faults sink.old) (K.faults sink.new) }
     ensures open_fault { result.0 ≡ 8 → Rose (T.faults table) (T.faults result.1) }
     ensures too_long { is_run words.now ≡ true → ByStatus result.0 (λ e. Told (S.left source.old) (S.left source.new) (λ b c. LongOn b c e)) }
-    // Where the words are right and no count rises, a source that is not refused is carried out whole, or memory is wanting.
-    ensures complete { is_run words.now ≡ true → (Rose (S.faults source.old) (S.faults source.new) → ⊥) → (Rose (K.faults sink.old) (K.faults sink.new) → ⊥) → (Rose (T.faults table) (T.faults result.1) → ⊥) → OnTold (T.rows table) (T.rows result.1) (K.held sink.old) (K.held sink.new) (λ m n h k. Told (S.left source.old) (S.left source.new) (λ b c. length b ≤ max_source → IsWholeSource b (parsed_at b) → (result.0 ≡ 0) ⊎ (result.0 ≡ 1))) }
+    // Only a source that is not refused is carried out whole, and only one that is refused is answered so.
+    ensures refused { is_run words.now ≡ true → ByStatus result.0 (λ e. SourceAsRead (S.left source.old) e) }
+    // Where the words are right and neither the source nor the sink fails, a source that is not refused is carried out whole,
+    // or the table failed as the host was opened, or memory is wanting.
+    ensures complete { is_run words.now ≡ true → (Rose (S.faults source.old) (S.faults source.new) → ⊥) → (Rose (K.faults sink.old) (K.faults sink.new) → ⊥) → Told (S.left source.old) (S.left source.new) (λ b c. length b ≤ max_source → is_whole_source b (parsed_at b) ≡ true → (result.0 ≡ 0) ⊎ (result.0 ≡ 1) ⊎ (result.0 ≡ 8)) }
+    ensures unread { is_run words.now ≡ false → (source.new ≡ source.old) × (result.1 ≡ table) }
+    ensures untouched { ByStatus result.0 (λ e. Untouched e (result.1 ≡ table) (Told (T.rows table) (T.rows result.1) (λ m n. n ≡ m)) (sink.new ≡ sink.old)) }
 {
     let (ended, table) = carry_out(alloc, words, source, sink, table);
     (status(ended), table)
@@ -75,6 +84,9 @@ fn carry_out<S: Source, K: Sink, T: Table>(
     ensures sink_fault { result.0 ≡ ended.SinkFault → Rose (K.faults sink.old) (K.faults sink.new) }
     ensures open_fault { result.0 ≡ ended.TableFault → Rose (T.faults table) (T.faults result.1) }
     ensures too_long { is_run words.now ≡ true → Told (S.left source.old) (S.left source.new) (λ b c. LongOn b c result.0) }
+    ensures as_read { is_run words.now ≡ true → SourceAsRead (S.left source.old) result.0 }
+    ensures unread { is_run words.now ≡ false → (source.new ≡ source.old) × (result.1 ≡ table) }
+    ensures untouched { Untouched result.0 (result.1 ≡ table) (Told (T.rows table) (T.rows result.1) (λ m n. n ≡ m)) (sink.new ≡ sink.old) }
 {
     if is_run(words) {
         run(alloc, source, sink, table)
@@ -143,6 +155,8 @@ fn run<S: Source, K: Sink, T: Table>(
     ensures sink_fault { result.0 ≡ ended.SinkFault → Rose (K.faults sink.old) (K.faults sink.new) }
     ensures open_fault { result.0 ≡ ended.TableFault → Rose (T.faults table) (T.faults result.1) }
     ensures too_long { Told (S.left source.old) (S.left source.new) (λ b c. LongOn b c result.0) }
+    ensures as_read { SourceAsRead (S.left source.old) result.0 }
+    ensures untouched { Untouched result.0 (result.1 ≡ table) (Told (T.rows table) (T.rows result.1) (λ m n. n ≡ m)) (sink.new ≡ sink.old) }
 {
     match read_all(alloc, source) {
         Ok(bytes) => run_source(alloc, sink, table, bytes.as_slice()),
@@ -164,6 +178,8 @@ fn not_read(why: ReadErr) -> Ended
 fn run_source<K: Sink, T: Table>(alloc: Global, sink: &mut K, table: T, bytes: &[u8]) -> (Ended, T)
     ensures session { OnTold (T.rows table) (T.rows result.1) (K.held sink.old) (K.held sink.new) (λ m n h k. SourceOn Anything bytes.now (parsed_at bytes.now) m n (T.faults table) (T.faults result.1) h k result.0) }
     ensures read { IsTrue (is_of_source result.0) }
+    ensures as_read { AsRead (is_whole_source bytes.now (parsed_at bytes.now)) result.0 }
+    ensures untouched { Untouched result.0 (result.1 ≡ table) (Told (T.rows table) (T.rows result.1) (λ m n. n ≡ m)) (sink.new ≡ sink.old) }
     ensures sink_fault { result.0 ≡ ended.SinkFault → Rose (K.faults sink.old) (K.faults sink.new) }
     ensures open_fault { result.0 ≡ ended.TableFault → Rose (T.faults table) (T.faults result.1) }
 {
@@ -193,6 +209,8 @@ fn host<K: Sink, T: Table>(
 ) -> (Ended, T)
     ensures session { OnTold (T.rows table) (T.rows result.1) (K.held sink.old) (K.held sink.new) (λ m n h k. SessionOn Anything code (lines_of script.now) m n (T.faults table) (T.faults result.1) h k result.0) }
     ensures read { IsTrue (is_of_source result.0) }
+    ensures as_read { AsRead (is_whole code (lines_of script.now)) result.0 }
+    ensures untouched { Untouched result.0 (result.1 ≡ table) (Told (T.rows table) (T.rows result.1) (λ m n. n ≡ m)) (sink.new ≡ sink.old) }
     ensures sink_fault { result.0 ≡ ended.SinkFault → Rose (K.faults sink.old) (K.faults sink.new) }
     ensures open_fault { result.0 ≡ ended.TableFault → Rose (T.faults table) (T.faults result.1) }
 {
@@ -213,6 +231,7 @@ fn run_script<K: Sink, T: Table>(
     sink: &mut K,
     script: &[u8],
 ) -> Result<bool, Stop>
+    ensures whole { IfOk result (λ whole. is_whole host.old.code (lines_of script.now) ≡ whole) }
     ensures done { OnTold (T.rows host.old.table) (T.rows host.new.table) (K.held sink.old) (K.held sink.new) (λ m n h k. ScriptOn host.old.code (T.room host.old.table) (lines_of script.now) (core_of host.old) m n (T.faults host.old.table) (T.faults host.new.table) h k result) }
     ensures kept { Kept host.old.code host.new.code (T.room host.old.table) (T.room host.new.table) (T.faults host.old.table) (T.faults host.new.table) (K.faults sink.old) (K.faults sink.new) result }
 {

@@ -1,10 +1,10 @@
 // A session: the lines of a script, carried out one after another.
-ghost use Rattle.std.specs.Prelude.{◌≡◌, ◌∷◌, []};
+ghost use Rattle.std.specs.Prelude.{◌≡◌, ◌∷◌, [], IfOk};
 ghost use Rattle.beldi_core.specs.Host.{core_of};
 ghost use Rattle.beldi_script.specs.Cut.{lines_of};
 ghost use Rattle.beldi_step.specs.declared.event.Event.TheVariants as events;
 ghost use Rattle.beldi_main.specs.declared.deed.Deed.TheVariants as deeds;
-ghost use Rattle.beldi_main.specs.Session.{Carried, Carrying, LineOn, LinesOn, Kept, line_result, listings, times};
+ghost use Rattle.beldi_main.specs.Session.{Carried, Carrying, LineOn, LinesOn, Kept, deeds_of, is_whole, line_result, listings, times};
 
 use crate::deed::Deed;
 use crate::doing::do_one;
@@ -20,8 +20,9 @@ use std::alloc::Global;
 /// Why a session broke off.
 #[derive(Clone, Copy, Debug, PartialEq, Eq)]
 pub enum Stop {
+    /// Memory is short. The deed that wanted it may be done in part; its text is lost.
     OutOfMemory,
-    /// The sink's count of faults rose.
+    /// The sink failed, and its count of faults has risen. The deeds up to then are done.
     SinkFault,
 }
 
@@ -42,6 +43,20 @@ fn do_deed<K: Sink, T: Table>(
     }
 }
 
+// Carries out an event.
+fn do_event<K: Sink, T: Table>(
+    alloc: Global,
+    host: &mut Host<T>,
+    sink: &mut K,
+    waiting: &mut Str,
+    event: Event,
+) -> Result<(), Stop>
+    ensures done { Carried (Carrying (deeds.Event event ∷ [])) host.old.code (T.room host.old.table) (core_of host.old) (core_of host.new) (T.faults host.old.table) (T.faults host.new.table) waiting.old waiting.new (T.rows host.old.table) (T.rows host.new.table) (K.held sink.old) (K.held sink.new) result }
+    ensures kept { Kept host.old.code host.new.code (T.room host.old.table) (T.room host.new.table) (T.faults host.old.table) (T.faults host.new.table) (K.faults sink.old) (K.faults sink.new) result }
+{
+    do_deed(alloc, host, sink, waiting, Deed::Event(event))
+}
+
 // Gives a run so many turns.
 fn do_turns<K: Sink, T: Table>(
     alloc: Global,
@@ -55,13 +70,44 @@ fn do_turns<K: Sink, T: Table>(
     ensures kept { Kept host.old.code host.new.code (T.room host.old.table) (T.room host.new.table) (T.faults host.old.table) (T.faults host.new.table) (K.faults sink.old) (K.faults sink.new) result }
 {
     for turn in 0..count {
-        let deed = Deed::Event(Event::Turn(u64::from(run)));
-        match do_deed(alloc, host, sink, waiting, deed) {
+        match do_event(alloc, host, sink, waiting, Event::Turn(u64::from(run))) {
             Ok(()) => {}
             Err(stop) => return Err(stop),
         }
     }
     Ok(())
+}
+
+// Does what a line says.
+fn do_said<K: Sink, T: Table>(
+    alloc: Global,
+    host: &mut Host<T>,
+    sink: &mut K,
+    waiting: &mut Str,
+    line: Line,
+) -> Result<(), Stop>
+    ensures done { Carried (Carrying (deeds_of line)) host.old.code (T.room host.old.table) (core_of host.old) (core_of host.new) (T.faults host.old.table) (T.faults host.new.table) waiting.old waiting.new (T.rows host.old.table) (T.rows host.new.table) (K.held sink.old) (K.held sink.new) result }
+    ensures kept { Kept host.old.code host.new.code (T.room host.old.table) (T.room host.new.table) (T.faults host.old.table) (T.faults host.new.table) (K.faults sink.old) (K.faults sink.new) result }
+{
+    match line {
+        Line::Blank => Ok(()),
+        Line::Ticket => do_event(alloc, host, sink, waiting, Event::Ticket),
+        Line::Request { ticket, func, args } => {
+            let event = Event::Request { ticket, func, args };
+            do_event(alloc, host, sink, waiting, event)
+        }
+        Line::Turn { run, times } => do_turns(alloc, host, sink, waiting, run, times),
+        Line::Lost { run } => do_event(alloc, host, sink, waiting, Event::Lost(u64::from(run))),
+        Line::Crash { run } => do_event(alloc, host, sink, waiting, Event::Crash(u64::from(run))),
+        Line::Restart { ticket, func } => {
+            let id = IntentId::root(alloc, ticket);
+            do_event(alloc, host, sink, waiting, Event::Restart { id, func })
+        }
+        Line::Rows => do_deed(alloc, host, sink, waiting, Deed::Rows),
+        Line::Reply(ticket) => do_deed(alloc, host, sink, waiting, Deed::Reply(ticket)),
+        Line::Tables => do_deed(alloc, host, sink, waiting, Deed::Tables),
+        Line::Book => do_deed(alloc, host, sink, waiting, Deed::Book),
+    }
 }
 
 // Carries out a line. `Ok(false)`: it is refused, and nothing was done.
@@ -72,41 +118,13 @@ fn do_line<K: Sink, T: Table>(
     waiting: &mut Str,
     line: &[u8],
 ) -> Result<bool, Stop>
+    ensures whole { IfOk result (λ whole. is_whole host.old.code (line.now ∷ []) ≡ whole) }
     ensures done { Carried (λ d room s t r. LineOn d room line.now s t r) host.old.code (T.room host.old.table) (core_of host.old) (core_of host.new) (T.faults host.old.table) (T.faults host.new.table) waiting.old waiting.new (T.rows host.old.table) (T.rows host.new.table) (K.held sink.old) (K.held sink.new) result }
     ensures kept { Kept host.old.code host.new.code (T.room host.old.table) (T.room host.new.table) (T.faults host.old.table) (T.faults host.new.table) (K.faults sink.old) (K.faults sink.new) result }
 {
-    let line = match read_line(host.code(), line) {
-        Ok(line) => line,
-        Err(ScriptErr::BadLine) => return Ok(false),
-    };
-    match line {
-        Line::Blank => Ok(true),
-        Line::Ticket => {
-            let deed = Deed::Event(Event::Ticket);
-            carried(do_deed(alloc, host, sink, waiting, deed))
-        }
-        Line::Request { ticket, func, args } => {
-            let deed = Deed::Event(Event::Request { ticket, func, args });
-            carried(do_deed(alloc, host, sink, waiting, deed))
-        }
-        Line::Turn { run, times } => carried(do_turns(alloc, host, sink, waiting, run, times)),
-        Line::Lost { run } => {
-            let deed = Deed::Event(Event::Lost(u64::from(run)));
-            carried(do_deed(alloc, host, sink, waiting, deed))
-        }
-        Line::Crash { run } => {
-            let deed = Deed::Event(Event::Crash(u64::from(run)));
-            carried(do_deed(alloc, host, sink, waiting, deed))
-        }
-        Line::Restart { ticket, func } => {
-            let id = IntentId::root(alloc, ticket);
-            let deed = Deed::Event(Event::Restart { id, func });
-            carried(do_deed(alloc, host, sink, waiting, deed))
-        }
-        Line::Rows => carried(do_deed(alloc, host, sink, waiting, Deed::Rows)),
-        Line::Reply(ticket) => carried(do_deed(alloc, host, sink, waiting, Deed::Reply(ticket))),
-        Line::Tables => carried(do_deed(alloc, host, sink, waiting, Deed::Tables)),
-        Line::Book => carried(do_deed(alloc, host, sink, waiting, Deed::Book)),
+    match read_line(host.code(), line) {
+        Ok(line) => carried(do_said(alloc, host, sink, waiting, line)),
+        Err(ScriptErr::BadLine) => Ok(false),
     }
 }
 
@@ -145,6 +163,7 @@ pub fn do_lines<K: Sink, T: Table>(
     waiting: &mut Str,
     script: &[u8],
 ) -> Result<bool, Stop>
+    ensures whole { IfOk result (λ whole. is_whole host.old.code (lines_of script.now) ≡ whole) }
     ensures done { Carried (λ d room s t r. LinesOn d room (lines_of script.now) s t r) host.old.code (T.room host.old.table) (core_of host.old) (core_of host.new) (T.faults host.old.table) (T.faults host.new.table) waiting.old waiting.new (T.rows host.old.table) (T.rows host.new.table) (K.held sink.old) (K.held sink.new) result }
     ensures kept { Kept host.old.code host.new.code (T.room host.old.table) (T.room host.new.table) (T.faults host.old.table) (T.faults host.new.table) (K.faults sink.old) (K.faults sink.new) result }
 {

@@ -1,4 +1,5 @@
 pub mod Entries
 pub mod Growth
+pub mod InOrder
 pub mod Late
 pub mod Places

@@ -1,5 +1,5 @@
 -- How a legal book grows.
-use Rattle.std.specs.Prelude.{◌≡◌, ℕ, ◌≤◌, ◌<◌, List, [], ◌∷◌, ◌++◌, Some, None}
+use Rattle.std.specs.Prelude.{◌≡◌, ◌==◌, ℕ, zero, suc, ◌≤◌, ◌<◌, min, Bool, false, List, [], ◌∷◌, ◌++◌, filter, Option, Some, None}
 use Rattle.std.specs.FinMap as map
 use Rattle.beldi_value.specs.declared.id.IntentId.{IntentId}
 use Rattle.beldi_value.specs.declared.value.Value.{Value}
@@ -8,10 +8,33 @@ use Rattle.beldi_lang.specs.declared.effect.Answer.TheVariants as answer
 use Rattle.beldi_lang.specs.declared.effect.Effect.TheVariants as effect
 use Rattle.beldi_book.specs.declared.entry.Entry.{Entry}
 use Rattle.beldi_book.specs.declared.entry.Entry.TheVariants.{Read}
-use Rattle.beldi_book.specs.Order.{seen_of, count_changes, front, linear, SeenBounded}
+use Rattle.beldi_book.specs.Order.{seen_of, changes_of, count_changes, by_change, front, linear, SeenBounded}
 use Rattle.beldi_plain.specs.Plain.{Instance, PlainState, nothing, after, with_instance, answered, effect_of, item_of, value_at}
 use Rattle.beldi_plain.specs.Legal.{run_from, run_of}
 
+-- ---- the linear order, in its own words
+-- the reads that stand behind n changes and before the next one
+abbrev pub reads_after : ℕ → List Entry → List Entry
+reads_after n [] = []
+reads_after zero (e ∷ es) = by_change (seen_of e) [] (e ∷ reads_after zero es)
+reads_after (suc n) (e ∷ es) = by_change (seen_of e) (reads_after n es) (reads_after (suc n) es)
+
+-- whether an entry of a book of c changes is a read that belongs behind n of them: as many as it had seen, or all where
+-- there are fewer
+abbrev pub belongs : ℕ → ℕ → Option ℕ → Bool
+belongs n c None = false
+belongs n c (Some s) = min s c == n
+
+-- the changes are those of the book, in its order; and behind each number of changes stand the reads of the book that belong
+-- there, in its order
+pub record IsInOrder (book order : List Entry) : Type 0 where
+  pub changes : changes_of order ≡ changes_of book
+  pub reads : (n : ℕ) → reads_after n order ≡ filter (λ e. belongs n (count_changes book) (seen_of e)) book
+
+abbrev pub LinearIsInOrder : Type 0
+LinearIsInOrder = (book : List Entry) → IsInOrder book (linear book)
+
+-- ---- how a book grows
 -- this is the state before the change that comes after the first s changes
 abbrev pub IsStateAt : Deployment → List Entry → ℕ → PlainState → Type 0
 IsStateAt d book s q = run_from d nothing (front s (linear book)) ≡ Some q

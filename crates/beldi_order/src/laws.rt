@@ -1,5 +1,11 @@
 // The laws of the linear order.
-ghost use Rattle.beldi_order.specs.Laws.{ChangesComeLast, LateReadsBelong};
+ghost use Rattle.beldi_order.specs.Laws.{LinearIsInOrder, ChangesComeLast, LateReadsBelong};
+
+/// In the linear order of a book the changes stand in book order, and behind each number of changes the reads that belong
+/// there, in book order too.
+pub fn linear_is_in_order()
+    ensures { LinearIsInOrder }
+{}
 
 /// A change that is enabled at the end of a legal book is the last of the longer book, which is legal.
 pub fn changes_come_last()

@@ -56,7 +56,8 @@ impl FaultPlan {
     }
 }
 
-/// A source of given bytes. Reads are numbered from 0, and those after number 4,294,967,295 have that number too.
+/// A source of given bytes, whose reads fail where they are told to. Reads are numbered from 0, and those after number
+/// 4,294,967,295 have that number too.
 #[derive(Drop)]
 pub struct MemSource {
     bytes: Vec<u8>,
@@ -77,7 +78,7 @@ impl Model for MemSource {
 }
 
 impl MemSource {
-    /// A source whose reads give all that the buffer holds, and fail at the numbers of `fail`.
+    /// A source whose reads give as many bytes as the buffer takes, and fail just at the numbers of `fail`.
     pub fn new(bytes: Vec<u8>, fail: Vec<u32>) -> MemSource
         ensures made { result ≡ new_source bytes.items fail.items (2 ^ 64 - 1) }
     {
@@ -120,7 +121,8 @@ impl Source for MemSource {
     }
 }
 
-/// A sink that keeps its bytes. Writes are numbered from 0, and those after number 4,294,967,295 have that number too.
+/// A sink that keeps its bytes, whose writes fail where they are told to. Writes are numbered from 0, and those after
+/// number 4,294,967,295 have that number too.
 #[derive(Drop)]
 pub struct MemSink {
     bytes: Vec<u8>,
@@ -140,7 +142,7 @@ impl Model for MemSink {
 }
 
 impl MemSink {
-    /// A sink whose writes take whole pieces, and fail at the numbers of `fail`.
+    /// A sink whose writes take all that they are given, and fail at the numbers of `fail`, and where memory is short.
     pub fn new(alloc: Global, fail: Vec<u32>) -> MemSink
         ensures made { result ≡ new_sink fail.items (2 ^ 64 - 1) }
     {
@@ -171,7 +173,7 @@ impl Sink for MemSink {
 
     ghost faults = { λ s. s.plan.faults };
 
-    /// Want of memory is a fault too.
+    /// Takes all that it may. `Failed`: the write's number is one that fails, or memory is short.
     fn write(&mut self, bytes: &[u8]) -> Result<usize, Failed>
         ensures exact { SinkWrote bytes.now self.old result self.new }
         ensures bound { IsWithin bytes.now result }

@@ -6,7 +6,7 @@ ghost use Rattle.beldi_outside.specs.Outside.{CountsReadErrors, CountsWriteError
 use crate::traits::{Failed, Sink, Source};
 use std::io::{Read, Write};
 
-/// A source over a reader. Each error of the reader is a fault.
+/// A source over a reader, such as the standard input. Each error of the reader is a fault, an interrupted read too.
 #[derive(Drop)]
 pub struct StdSource<R: Read + Drop> {
     inner: R,
@@ -44,8 +44,8 @@ impl<R: Read + Drop> Source for StdSource<R> {
     }
 }
 
-/// A sink over a writer. Each error of the writer is a fault, and so is a write that takes nothing of a piece that is
-/// not empty.
+/// A sink over a writer, such as the standard output. Each error of the writer is a fault, an interrupted write too, and
+/// so is a write that takes nothing of a piece that is not empty.
 #[derive(Drop)]
 pub struct StdSink<W: Write + Drop> {
     inner: W,

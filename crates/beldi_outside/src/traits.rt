@@ -2,11 +2,11 @@
 ghost use Rattle.std.specs.Prelude.{◌≤◌, ℕ, Option, List};
 ghost use Rattle.beldi_outside.specs.Outside.{HasCause, IsWithin, Reads, Writes, ZeroIsFault};
 
-/// A call to the outside failed. The count of the object that was called has risen.
+/// A call to the outside failed. The count of the object that was called has risen, or stands at its type's end.
 #[derive(Clone, Copy, Debug, PartialEq, Eq)]
 pub struct Failed;
 
-/// Gives bytes in order, up to an end.
+/// Gives bytes in order, up to an end: a file, a standard input, a text in memory.
 pub trait Source {
     /// The bytes that are left, where it tells them.
     ghost left: { Self → Option (List ℕ) };
@@ -15,14 +15,14 @@ pub trait Source {
     ghost faults: { Self → ℕ };
 
     /// Fills a front of `buf` with the next bytes, and answers how many. Zero for a buffer that is not empty comes only
-    /// at the end. After `Failed` no byte is lost.
+    /// at the end. `Failed`: the read failed, and no byte is lost; it may be tried again.
     fn read(&mut self, buf: &mut [u8]) -> Result<usize, Failed>
         ensures bound { IsWithin buf.new result }
         ensures bytes { Reads (left self.old) (left self.new) buf.new result }
         ensures cause { HasCause (faults self.old) (faults self.new) result };
 }
 
-/// Takes bytes in order.
+/// Takes bytes in order: a file, a standard output, a text in memory.
 pub trait Sink {
     /// The bytes that it got, where it tells them.
     ghost held: { Self → Option (List ℕ) };
@@ -30,7 +30,8 @@ pub trait Sink {
     /// How often it has failed, or took nothing of a piece that is not empty.
     ghost faults: { Self → ℕ };
 
-    /// Takes a front of `bytes`, and answers how many. After `Failed` it has taken none.
+    /// Takes a front of `bytes`, and answers how many it took. `Failed`: the write failed, and none was taken; it may be
+    /// tried again.
     fn write(&mut self, bytes: &[u8]) -> Result<usize, Failed>
         ensures bound { IsWithin bytes.now result }
         ensures bytes { Writes (held self.old) (held self.new) bytes.now result }
@@ -46,24 +47,27 @@ pub trait Link {
     /// How often `read` and `write` have failed, or a `write` took nothing of a piece that is not empty.
     ghost faults: { Self → ℕ };
 
-    /// Begins to listen on the port. `Failed`: the port cannot be had.
+    /// Begins to listen on the TCP port. `Failed`: the port cannot be had; `refusals` has risen.
     fn listen(&mut self, port: u16) -> Result<(), Failed>
         ensures cause { HasCause (refusals self.old) (refusals self.new) result }
         ensures later { faults self.old ≤ faults self.new };
 
-    /// Opens the next connection. `Failed`: there is none, or the link does not listen.
+    /// Opens the next connection, for which it may wait. `Failed`: there is none, or the link does not listen; `refusals`
+    /// has risen.
     fn accept(&mut self) -> Result<(), Failed>
         ensures cause { HasCause (refusals self.old) (refusals self.new) result }
         ensures later { faults self.old ≤ faults self.new };
 
-    /// Fills a front of `buf` with the next bytes of the open connection, and answers how many. Zero for a buffer that
-    /// is not empty is the end of the connection.
+    /// Fills a front of `buf` with the next bytes of the open connection, for which it may wait, and answers how many.
+    /// Zero for a buffer that is not empty is the end of the connection. `Failed`: no connection is open, or it broke;
+    /// `faults` has risen.
     fn read(&mut self, buf: &mut [u8]) -> Result<usize, Failed>
         ensures bound { IsWithin buf.new result }
         ensures cause { HasCause (faults self.old) (faults self.new) result }
         ensures later { refusals self.old ≤ refusals self.new };
 
-    /// Sends a front of `bytes` on the open connection, and answers how many.
+    /// Sends a front of `bytes` on the open connection, and answers how many. `Failed`: no connection is open, or it
+    /// broke; `faults` has risen.
     fn write(&mut self, bytes: &[u8]) -> Result<usize, Failed>
         ensures bound { IsWithin bytes.now result }
         ensures cause { HasCause (faults self.old) (faults self.new) result }
@@ -76,8 +80,8 @@ pub trait Link {
         ensures later_faults { faults self.old ≤ faults self.new };
 }
 
-/// Tells moments, in milliseconds.
+/// Tells moments.
 pub trait Clock {
-    /// The moment of this call. It cannot fail. It may lie before an earlier answer.
+    /// The moment of this call, in milliseconds. It cannot fail. It may lie before an earlier answer.
     fn now(&mut self) -> u64;
 }

@@ -5,14 +5,14 @@ ghost use Rattle.beldi_outside.specs.Outside.{HasCause, ReadAllOn, Rose, Told, W
 use crate::traits::{Failed, Sink, Source};
 use std::alloc::{AllocError, Global};
 
-/// The most bytes that a source of the program may have, 16 MiB.
+/// The most bytes that a source of the program may have: 16 MiB.
 pub const MAX_SOURCE: u32 = 16_777_216;
 
 // Bytes that one read asks for at most.
 const PIECE: usize = 4096;
 
-/// Writes all the bytes, in as many writes as the sink needs. `Failed`: a write failed, or took nothing; a front of the
-/// bytes was written.
+/// Writes all the bytes, in as many writes as the sink needs. `Failed`: a write failed, or took nothing of what was left;
+/// a front of the bytes was written, and not all. No write is tried again.
 pub fn write_all<K: Sink>(sink: &mut K, bytes: &[u8]) -> Result<(), Failed>
     ensures bytes { WritesAll (K.held sink.old) (K.held sink.new) bytes.now result }
     ensures cause { HasCause (K.faults sink.old) (K.faults sink.new) result }
@@ -27,14 +27,14 @@ pub fn write_all<K: Sink>(sink: &mut K, bytes: &[u8]) -> Result<(), Failed>
     Ok(())
 }
 
-/// Why a source was not read to its end.
+/// Why a source was not read to its end. What was taken from it is lost.
 #[derive(Clone, Copy, Debug, PartialEq, Eq)]
 pub enum ReadErr {
-    /// Memory is short. What was taken is lost.
+    /// Memory is short.
     OutOfMemory,
-    /// A read failed. What was taken is lost.
+    /// A read failed, and the source's count of faults has risen. No read is tried again.
     Failed,
-    /// The source had more bytes than were allowed, and one more than those was taken.
+    /// The source had more bytes than were allowed. Just one more than those was taken.
     TooLong,
 }
 
@@ -60,7 +60,7 @@ impl From<AllocError> for ReadErr {
     }
 }
 
-/// All the bytes that a source has, which may be `MAX_SOURCE`. `ReadErr` says when each error comes.
+/// All the bytes that a source has, which may be `MAX_SOURCE` bytes. `ReadErr` says when each error comes.
 pub fn read_all<S: Source>(alloc: Global, source: &mut S) -> Result<Vec<u8>, ReadErr>
     ensures bytes { Told (S.left source.old) (S.left source.new) (ReadAllOn max_source result) }
     ensures most { IfOk result (λ v. length v.items ≤ max_source) }
@@ -70,7 +70,7 @@ pub fn read_all<S: Source>(alloc: Global, source: &mut S) -> Result<Vec<u8>, Rea
     read_up_to(alloc, source, MAX_SOURCE)
 }
 
-/// All the bytes that a source has, which may be `most`. `ReadErr` says when each error comes.
+/// All the bytes that a source has, which may be `most` bytes. `ReadErr` says when each error comes.
 pub fn read_up_to<S: Source>(alloc: Global, source: &mut S, most: u32) -> Result<Vec<u8>, ReadErr>
     ensures bytes { Told (S.left source.old) (S.left source.new) (ReadAllOn most result) }
     ensures most { IfOk result (λ v. length v.items ≤ most) }

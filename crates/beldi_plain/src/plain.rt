@@ -20,11 +20,14 @@ use beldi_lang::{Answer, Deployment, Effect};
 use beldi_value::{IntentId, Outcome, Str, Value};
 use std::alloc::{AllocError, Global};
 use std::marker::Model;
+use thiserror::Error;
 
 /// Why a call was refused.
-#[derive(Clone, Copy, Debug, PartialEq, Eq)]
+#[derive(Clone, Copy, Debug, Error, PartialEq, Eq)]
 pub enum PlainErr {
+    #[error("out of memory")]
     OutOfMemory,
+    #[error("the entry is not enabled")]
     NotEnabled(Bar),
 }
 

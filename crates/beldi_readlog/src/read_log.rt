@@ -14,6 +14,7 @@ use std::alloc::{AllocError, Global};
 /// What a place has after a value was put there.
 #[derive(Drop)]
 pub struct Kept {
+    /// The value that the place has.
     pub value: Value,
     /// This call put it.
     pub added: bool,
@@ -30,7 +31,8 @@ fn key_of(alloc: Global, home: u16, at: &Place) -> Result<RowKey, TableErr>
 }
 
 /// The value that the read of the function `home` at a place was given, None exactly where none was kept. A row of
-/// another kind, which no session writes there, reads as null. It is never refused as `Full`.
+/// another kind, which no session writes there, reads as null. The rows stay as they are, at an `Err` too: `Failed` comes
+/// only where the table failed, and `Full` never.
 pub fn get<T: Table>(
     alloc: Global,
     table: &mut T,
@@ -60,7 +62,8 @@ fn says_given(alloc: Global, said: Said<'_>) -> Result<Option<Value>, AllocError
 }
 
 /// Keeps a value for the read of the function `home` at a place, once, and gives the value that the place then has. At
-/// an `Err` none was kept now.
+/// an `Err` the rows are as before: `Full` comes exactly where none was kept and the table has no room for a row, and
+/// `Failed` only where the table failed.
 pub fn put_once<T: Table>(
     alloc: Global,
     table: &mut T,

@@ -1,6 +1,7 @@
 pub mod Asked
 mod Found
 pub mod Gets
+mod Least
 pub mod Logs
 pub mod Rows
 pub mod Tells

@@ -36,7 +36,7 @@ none_of : (b : Bool) (y : Note) (r : Option Note) → (if b then Some y else r) 
 none_of true y r h = cc
 none_of false y r h = (refl, h)
 
-note_here : (es : List (Place × Note)) (p : Place) (w : Note) → note_at es p ≡ None → note_at (es ++ (p, w) ∷ []) p ≡ Some w
+pub note_here : (es : List (Place × Note)) (p : Place) (w : Note) → note_at es p ≡ None → note_at (es ++ (p, w) ∷ []) p ≡ Some w
 note_here [] p w h = ap (λ b. if b then Some w else None) (place_self p)
 note_here (e ∷ es) p w h =
     let g = none_of (place_eq e.0 p) e.1 (note_at es p) h in

@@ -93,3 +93,7 @@ key_ticket k = ticket_of k.kind
 -- the intent of ticket 0 in home 0
 abbrev pub least_key : RowKey
 least_key = record { home = 0; kind = Intent (record { ticket = 0; hops = [] }) }
+
+-- the first row of an item of a function's own table, in the home of the function
+abbrev pub head_key : ℕ → ℕ → List ℕ → RowKey
+head_key home table key = record { home = home; kind = Data table key 0 }

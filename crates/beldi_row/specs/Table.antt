@@ -3,6 +3,7 @@ use Rattle.std.specs.Prelude.{◌≡◌, ℕ, ◌+◌, ◌-◌, ◌^◌, ◌≤�
 use Rattle.std.specs.FinMap as map
 use Rattle.std.specs.FinMap.{FinMap}
 use Rattle.std.specs.Ordering.{is_lt}
+use Rattle.std.specs.declared.cmp.Ordering.TheVariants.{Less}
 use denote.Bor.{Bor}
 use Rattle.beldi_row.specs.Key.{key_cmp}
 use Rattle.beldi_row.specs.Act.{Tell, act, off, tell_of}
@@ -42,12 +43,23 @@ abbrev pub IsCount : Option Rows → ℕ → Type 0
 IsCount None n = Unit {0}
 IsCount (Some m) n = n ≡ row_count m
 
--- what an answer to an act says of the rows before and after; Full tells how many there are, and the room
+-- the act would add a row where there are as many as the room, or more; it tells how many there are, and the room
+pub record IsFull (a : Act) (now : ℕ) (k : RowKey) (room : ℕ) (m : Rows) (live most : ℕ) : Type 0 where
+  pub more : IsTrue (adds a now k m)
+  pub filled : room ≤ map.len m
+  pub count : live ≡ row_count m
+  pub limit : most ≡ room
+
+-- the act was not made, so the rows are as before; and where it was refused as Full, it was full
+abbrev pub Refused : Act → ℕ → RowKey → ℕ → Rows → Rows → TableErr → Type 0
+Refused a now k room m n OutOfMemory = n ≡ m
+Refused a now k room m n Failed = n ≡ m
+Refused a now k room m n (Full live most) = (n ≡ m) × IsFull a now k room m live most
+
+-- what an answer to an act says of the rows before and after
 abbrev pub ActedOn : Act → ℕ → RowKey → ℕ → Rows → Rows → Result Said TableErr → Type 0
 ActedOn a now k room m n (Ok s) = (n ≡ after_act a now k m) × (tell_of s ≡ tell_act a now k m) × (IsTrue (adds a now k m) → map.len m < room)
-ActedOn a now k room m n (Err OutOfMemory) = n ≡ m
-ActedOn a now k room m n (Err Failed) = n ≡ m
-ActedOn a now k room m n (Err (Full live most)) = (n ≡ m) × IsTrue (adds a now k m) × (room ≤ map.len m) × (live ≡ row_count m) × (most ≡ room)
+ActedOn a now k room m n (Err e) = Refused a now k room m n e
 
 -- a count that rose, or stands at its end
 abbrev pub Rose : ℕ → ℕ → Type 0
@@ -70,6 +82,11 @@ pub record Acted (a : Act) (now : ℕ) (k : RowKey) (old_room new_room old_fault
   pub cause : HasCause old_faults new_faults result
   pub room : new_room ≡ old_room
 
+-- an answer for the row after a key: the row of the least greater key; none, where no key of a row is greater
+abbrev pub IsNext : Rows → RowKey → Option (RowKey × Row) → Type 0
+IsNext m k None = (q : RowKey) → key_cmp k q ≡ Less → map.get m q ≡ None
+IsNext m k (Some e) = (key_cmp k e.0 ≡ Less) × (map.get m e.0 ≡ Some e.1) × ((q : RowKey) → key_cmp k q ≡ Less → key_cmp q e.0 ≡ Less → map.get m q ≡ None)
+
 -- the first entry whose key is greater
 abbrev pub first_above : RowKey → List (RowKey × Row) → Option (RowKey × Row)
 first_above k [] = None
@@ -78,6 +95,9 @@ first_above k (e ∷ es) = if is_lt (key_cmp k e.0) then Some e else first_above
 -- the row after a key
 abbrev pub next_row : Rows → RowKey → Option (RowKey × Row)
 next_row m k = first_above k (map.entries m)
+
+abbrev pub NextRowIsLeast : Type 0
+NextRowIsLeast = (m : Rows) (k : RowKey) → IsNext m k (next_row m k)
 
 abbrev pub entry_of : Option (Bor RowKey × Bor Row) → Option (RowKey × Row)
 entry_of None = None

@@ -84,7 +84,7 @@ pub enum Said<'a> {
     Held(&'a Owner),
 }
 
-/// What an act did: what it says, but for what lies in the row.
+/// What an act did: each says the same as the answer of `Said` with its name, but for what lies in the row.
 #[derive(Clone, Copy)]
 pub enum Change {
     Absent,

@@ -1,12 +1,14 @@
 //! The rows of a table, their keys, the acts on one row, and the trait of a table. It stands on `beldi_value` alone.
 //! Its definitions: `specs/Key` and `specs/KeyOrder` (the order of keys), `specs/Log` (the notes of a cell by place),
 //! `specs/Act` (the act table: what each act does to a row, and what it says), `specs/Table` (rows as a map, and the
-//! words of the trait's contract), `specs/Asked` (a call that makes one act). `proofs/Rows`, `proofs/Tells`,
-//! `proofs/Unchanged` and `proofs/Asked` have lemmas that the crates above cite.
+//! words of the trait's contract: what an act leaves, when it is refused, which row is the next), `specs/Asked` (a call
+//! that makes one act). `proofs/Rows`, `proofs/Gets`, `proofs/Logs`, `proofs/Tells`, `proofs/Unchanged` and `proofs/Asked`
+//! have lemmas that the crates above cite.
 #![tactic(auto)]
 
 mod act;
 mod key;
+mod laws;
 mod notes;
 mod row;
 mod table;
@@ -15,6 +17,7 @@ mod tests;
 
 pub use act::{Act, Change, Said, apply, made, missing, tell};
 pub use key::{Kind, RowKey, copy_owner};
+pub use laws::next_row_is_least;
 pub use notes::{Log, Note};
 pub use row::{Body, Caller, Cell, IntentRow, InvokeRow, Row};
 pub use table::{Table, TableErr};

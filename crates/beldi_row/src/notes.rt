@@ -1,5 +1,5 @@
 // The log of a cell.
-ghost use Rattle.std.specs.Prelude.{◌≡◌, ◌∷◌, [], ◌++◌, OnOk, OnErr, slice_get};
+ghost use Rattle.std.specs.Prelude.{◌≡◌, ◌∷◌, [], ◌++◌, IfOk, OnOk, OnErr, slice_get};
 ghost use Rattle.std.specs.Option.{option_copied};
 ghost use Rattle.beldi_row.specs.Log.{index_at, note_of, NotedAt};
 
@@ -22,6 +22,21 @@ pub enum Note {
     Freed,
 }
 
+impl Note {
+    /// An equal note.
+    pub fn copy(&self, alloc: Global) -> Result<Note, AllocError>
+        ensures { IfOk result (λ n. n ≡ self.now) }
+    {
+        match self {
+            Note::Wrote => Ok(Note::Wrote),
+            Note::Cond(passed) => Ok(Note::Cond(*passed)),
+            Note::Got => Ok(Note::Got),
+            Note::Died(age) => Ok(Note::Died(age.copy(alloc)?)),
+            Note::Freed => Ok(Note::Freed),
+        }
+    }
+}
+
 /// What was done to a cell, each with the place that it was done for, the oldest first.
 #[derive(Drop)]
 pub struct Log {
@@ -40,6 +55,7 @@ impl Model for Log {
 }
 
 impl Log {
+    /// A log without entries.
     pub fn new(alloc: Global) -> Log
         ensures { result ≡ [] }
     {

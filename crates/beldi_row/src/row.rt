@@ -53,9 +53,14 @@ pub struct Cell {
 /// What a row holds. Rows of items and of their shadows are cells.
 #[derive(Drop)]
 pub enum Row {
+    /// An intent.
     Intent(IntentRow),
+    /// The value that a read was given.
     ReadLog(Value),
+    /// A call that was made.
     Invoke(InvokeRow),
+    /// A row of an item, or of a transaction's own copy of one.
     Cell(Cell),
+    /// That a transaction asked for the lock of an item.
     Lockset,
 }

@@ -8,14 +8,20 @@ use crate::act::{Act, Said};
 use crate::key::RowKey;
 use crate::row::Row;
 use std::alloc::AllocError;
+use thiserror::Error;
 
 /// Why a call of a table was not done. After each of these the rows are as before.
-#[derive(Debug, Drop)]
+#[derive(Debug, Drop, Error)]
 pub enum TableErr {
+    /// Memory was wanting.
+    #[error("out of memory")]
     OutOfMemory,
     /// The table failed: only where its count of failures rose in this call.
+    #[error("the table failed")]
     Failed,
-    /// The act would add a row, and the table has `live` rows, which are at least `room`. Only `act` answers so.
+    /// The act would add a row, and the table has `live` rows (at most 4,294,967,295 are told), which are at least
+    /// `room`. Only `act` answers so.
+    #[error("the table is full: {live} rows, and room for {room}")]
     Full { live: u32, room: u32 },
 }
 

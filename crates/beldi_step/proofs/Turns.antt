@@ -10,7 +10,7 @@ use Rattle.beldi_row.proofs.Tells.{tells_map}
 use Rattle.beldi_row.proofs.Unchanged.{looked}
 use Rattle.beldi_daal.specs.declared.walk.WriteWalk.{WriteWalk}
 use Rattle.beldi_daal.specs.declared.walk.WriteSays.{WriteSays}
-use Rattle.beldi_daal.specs.declared.walk.WriteSays.TheVariants.{Going, Done, Held}
+use Rattle.beldi_daal.specs.declared.walk.WriteSays.TheVariants.{Going, Done, Held, Worn}
 use Rattle.beldi_daal.specs.Walk.{TurnedOn, Turned as Walked}
 use Rattle.beldi_daal.specs.declared.read_walk.ReadWalk.{ReadWalk}
 use Rattle.beldi_daal.specs.declared.read_walk.ReadSays.{ReadSays}
@@ -22,15 +22,20 @@ use Rattle.beldi_step.specs.declared.run.Stage.TheVariants.{Walk, Write}
 use Rattle.beldi_step.specs.declared.turn.TurnSays.{TurnSays}
 use Rattle.beldi_step.specs.declared.turn.TurnErr.{TurnErr}
 use Rattle.beldi_step.specs.declared.turn.TurnErr.TheVariants.{Lost, Stopped}
-use Rattle.beldi_step.specs.Run.{Turned, key_at, act_at, turned_at, walk_turned, write_turned}
+use Rattle.beldi_step.specs.Run.{Turned, key_at, act_at, turned_at, is_done_note, noted_turned, walk_turned, write_turned}
 use Rattle.beldi_step.specs.Turn.{Turns, Ran, RanOn, turned_by}
 
 -- ---- a write on its walk
 -- where a walk that said this leads does not ask where the run stood
+same_noted : (d : Deployment) (r : Run) (at : Option Begun) (m : Machine) (first b : Bool) → noted_turned d (record r { at = at }) m first b ≡ noted_turned d r m first b
+same_noted d r at m first true = refl
+same_noted d r at m first false = refl
+
 same_turn : (d : Deployment) (r : Run) (at : Option Begun) (m : Machine) (x : WriteWalk) (y : WriteSays) → write_turned d (record r { at = at }) m (x, y) ≡ write_turned d r m (x, y)
 same_turn d r at m x Going = refl
 same_turn d r at m x (Held o) = refl
-same_turn d r at m x (Done first) = refl
+same_turn d r at m x Worn = refl
+same_turn d r at m x (Done n first) = same_noted d r at m first (is_done_note n)
 
 pub wrote : (d : Deployment) (changes : ℕ) (r s : Run) (m : Machine) (w x : WriteWalk) (y : WriteSays) (now room new_room faults new_faults : ℕ) (before after : Option Rows) (result : Result TurnSays TurnErr)
     → Walked w x now room new_room faults new_faults before after (Ok y)
@@ -39,6 +44,7 @@ pub wrote : (d : Deployment) (changes : ℕ) (r s : Run) (m : Machine) (w x : Wr
 wrote d changes r s m w x y now room new_room faults new_faults before after (Ok z) h turns = record {
   rows = tells_map {P = λ m n. TurnedOn w x now room m n (Ok y)} {Q = λ o n. RanOn d r changes (Some (record { machine = m; stage = Write w })) s now room o n (Ok z)} before after
       (λ o n p. (p.0, turns ∙ same_turn d r (Some (record { machine = m; stage = Write x })) m x y ∙ ap (write_turned d r m) p.1, p.2)) h.rows;
+  stands = tt;
   later = h.cause.later;
   failed = λ e. cc;
   room = h.room;
@@ -46,6 +52,7 @@ wrote d changes r s m w x y now room new_room faults new_faults before after (Ok
 wrote d changes r s m w x y now room new_room faults new_faults before after (Err (Lost e)) h turns = record {
   rows = tells_map {P = λ m n. TurnedOn w x now room m n (Ok y)} {Q = λ o n. RanOn d r changes (Some (record { machine = m; stage = Write w })) s now room o n (Err (Lost e))} before after
       (λ o n p. (p.0, turns ∙ ap (λ (t : Turned). t.entry) (same_turn d r (Some (record { machine = m; stage = Write x })) m x y ∙ ap (write_turned d r m) p.1), p.2)) h.rows;
+  stands = tt;
   later = h.cause.later;
   failed = λ e. cc;
   room = h.room;
@@ -60,6 +67,7 @@ pub followed : {X : Type 0} (f : Tell → X) (d : Deployment) (changes : ℕ) (r
 followed f d changes r s at x next now room new_room faults new_faults before after (Ok z) leads h turns = record {
   rows = tells_map {P = λ m n. AskedOn f (act_at at) now (key_at r at) room m n (Ok x)} {Q = λ m n. RanOn d r changes at s now room m n (Ok z)} before after
       (λ m n p. (p.0, turns ∙ ap next p.1 ∙ leads _, p.2)) h.rows;
+  stands = tt;
   later = h.cause.later;
   failed = λ e. cc;
   room = h.room;
@@ -67,6 +75,7 @@ followed f d changes r s at x next now room new_room faults new_faults before af
 followed f d changes r s at x next now room new_room faults new_faults before after (Err (Lost e)) leads h turns = record {
   rows = tells_map {P = λ m n. AskedOn f (act_at at) now (key_at r at) room m n (Ok x)} {Q = λ m n. RanOn d r changes at s now room m n (Err (Lost e))} before after
       (λ m n p. (p.0, turns ∙ ap (λ y. (next y).entry) p.1 ∙ ap (λ (t : Turned). t.entry) (leads _), p.2)) h.rows;
+  stands = tt;
   later = h.cause.later;
   failed = λ e. cc;
   room = h.room;
@@ -90,6 +99,7 @@ pub walked : (d : Deployment) (changes : ℕ) (r s : Run) (m : Machine) (w x : R
 walked d changes r s m w x y now room new_room faults new_faults before after z h turns = record {
   rows = tells_map {P = λ m n. ReadOn w now m n (Ok y)} {Q = λ o n. RanOn d r changes (Some (record { machine = m; stage = Walk w })) s now room o n (Ok z)} before after
       (λ o n p. (p.0 ∙ sym (looked now (read_key w) o), turns ∙ same_walk r (Some (record { machine = m; stage = Walk x })) m x changes y ∙ ap (λ v. walk_turned r m v changes y) h.walk ∙ ap (walk_turned r m w changes) p.1, λ adds. absurd (adds_none (map.contains_key o (read_key w)) adds))) h.rows;
+  stands = tt;
   later = h.cause.later;
   failed = λ e. cc;
   room = h.room;

@@ -1,5 +1,5 @@
 -- The host without its table, and what one event does.
-use Rattle.std.specs.Prelude.{◌≡◌, ◌⊎◌, ℕ, ◌+◌, ◌-◌, ◌^◌, ◌≤◌, ◌<◌, ◌==◌, ◌||◌, min, nat_lt, nat_le, Bool, true, false, IsTrue, List, [], ◌∷◌, ◌++◌, option_to_list, Option, Some, None, Result, Ok, Err, if◌then◌else◌}
+use Rattle.std.specs.Prelude.{◌≡◌, ◌⊎◌, ℕ, ◌+◌, ◌-◌, ◌^◌, ◌≤◌, ◌<◌, ◌==◌, ◌||◌, nat_lt, nat_le, Bool, true, false, IsTrue, List, [], ◌∷◌, ◌++◌, option_to_list, Option, Some, None, Result, Ok, Err, if◌then◌else◌}
 use Rattle.std.specs.FinMap as map
 use Rattle.std.specs.FinMap.{FinMap}
 use Rattle.std.specs.Ordering.{nat_cmp}
@@ -12,7 +12,7 @@ use Rattle.beldi_row.specs.declared.key.RowKey.{RowKey}
 use Rattle.beldi_row.specs.declared.act.Act.{Act}
 use Rattle.beldi_row.specs.declared.act.Act.TheVariants.{Issue, Bind}
 use Rattle.beldi_row.specs.Act.{Tell, added, bound, running, ended, other}
-use Rattle.beldi_row.specs.Table.{Rows, Tells, Rose, after_act, tell_act, adds}
+use Rattle.beldi_row.specs.Table.{Rows, IsFull, Tells, Rose, after_act, tell_act, adds}
 use Rattle.beldi_book.specs.declared.entry.Entry.{Entry}
 use Rattle.beldi_book.specs.Order.{count_changes}
 use Rattle.beldi_book.specs.declared.entry.Entry.TheVariants.{Start}
@@ -92,9 +92,13 @@ abbrev pub turn_plan : Deployment → Core → ℕ → Option Run → Plan
 turn_plan d c i None = Answer c (no_run c i)
 turn_plan d c i (Some r) = Do (run_key r) (run_act r) (λ t. turn_next c i (run_turned d r (count_changes c.book) t))
 
+-- the run of this number is over, and the book has an entry more, if there is one
+abbrev pub without_run : Core → ℕ → Option Entry → Core
+without_run c i e = record c { runs = map.remove c.runs i; book = c.book ++ option_to_list e }
+
 -- ---- a turn whose answer is lost: the run is over, and the book has the entry of its act
 abbrev pub lost_next : Core → ℕ → Turned → Core
-lost_next c i s = record c { runs = map.remove c.runs i; book = c.book ++ option_to_list s.entry }
+lost_next c i s = without_run c i s.entry
 
 abbrev pub lost_plan : Deployment → Core → ℕ → Option Run → Plan
 lost_plan d c i None = Answer c (no_run c i)
@@ -150,7 +154,7 @@ Made room k a f now m d n x = (n ≡ after_act a now k m) × ((d, x) ≡ f (tell
 
 -- the act was made, or refused for want of room, or the table failed
 abbrev pub Acts : ℕ → ℕ → ℕ → Event → Core → RowKey → Act → (Tell → Core × Seen) → Rows → Core → Rows → Seen → Type 0
-Acts room old new e c k a f m d n (seen.Full live most) = (n ≡ m) × (d ≡ c) × IsTrue (adds a c.now k m) × (room ≤ map.len m) × (live ≡ min (map.len m) (2 ^ 32 - 1)) × (most ≡ room)
+Acts room old new e c k a f m d n (seen.Full live most) = (n ≡ m) × (d ≡ c) × IsFull a c.now k room m live most
 Acts room old new e c k a f m d n seen.Dropped = (n ≡ m) × (d ≡ dropped e c) × Rose old new
 Acts room old new e c k a f m d n x = Made room k a f c.now m d n x
 
@@ -168,17 +172,63 @@ Follows room old new e c (Lose k a f) m d n x = (x ≡ seen.Dropped) × Loses ro
 abbrev pub IsOneEvent : Deployment → ℕ → ℕ → ℕ → Event → Core → Rows → Core → Rows → Seen → Type 0
 IsOneEvent d room old new e c m b n x = Follows room old new e (counted c) (plan d e c) m b n x
 
--- want of memory: nothing was done, but that a run that had the event is over; at a turn its act may have been made, and
--- then the book has its entry. It does not come once the host is spent, nor at a crash.
+-- want of memory in an event that was counted: nothing was done, but that a run that had the event is over; at a turn its
+-- act may have been made, and then the book has its entry. It does not come at a crash.
+abbrev pub Wanting : Deployment → Event → Core → Rows → Core → Rows → Type 0
+Wanting d (Turn i) c m b n = ((n ≡ m) × (b ≡ dropped (Turn i) c)) ⊎ ((k : RowKey) × (a : Act) × (f : (Tell → Core × Seen)) × (plan_of d (Turn i) c ≡ Do k a f) × (n ≡ after_act a c.now k m) × (b ≡ dropped (Turn i) (f (tell_act a c.now k m)).0))
+Wanting d (Lost i) c m b n = (n ≡ m) × (b ≡ dropped (Lost i) c)
+Wanting d (Crash i) c m b n = ⊥
+Wanting d e c m b n = (n ≡ m) × (b ≡ c)
+
+-- .. where the host is not spent
 abbrev pub Breaks : Deployment → Event → Core → Rows → Core → Rows → Type 0
-Breaks d (Turn i) c m b n = ((n ≡ m) × (b ≡ dropped (Turn i) (counted c))) ⊎ ((k : RowKey) × (a : Act) × (f : (Tell → Core × Seen)) × (plan d (Turn i) c ≡ Do k a f) × (n ≡ after_act a c.now k m) × (b ≡ dropped (Turn i) (f (tell_act a c.now k m)).0))
-Breaks d (Lost i) c m b n = (n ≡ m) × (b ≡ dropped (Lost i) (counted c))
-Breaks d (Crash i) c m b n = ⊥
-Breaks d e c m b n = (n ≡ m) × (b ≡ counted c)
+Breaks d e c m b n = Wanting d e (counted c) m b n
 
 abbrev pub EventOn : Deployment → ℕ → ℕ → ℕ → Event → Core → Rows → Core → Rows → Result Seen AllocError → Type 0
 EventOn d room old new e c m b n (Ok x) = IsOneEvent d room old new e c m b n x
 EventOn d room old new e c m b n (Err w) = (c.taken < most_events) × Breaks d e c m b n
+
+-- ---- what is said over every table, also over one that tells no rows
+-- what an event that makes an act leaves and answers, by what the act told; the act of a crash or a restart there is none
+abbrev pub ByAct : Event → Core → Core × Seen → Type 0
+ByAct Ticket c z = (t : Tell) × (z ≡ ticket_next c t)
+ByAct (Request t f a) c z = (u : Tell) × (z ≡ request_next c t f a u)
+ByAct (Turn i) c z = (s : Turned) × (z ≡ turn_next c i s)
+ByAct (Lost i) c z = ⊥
+ByAct (Crash i) c z = ⊥
+ByAct (Restart id f) c z = ⊥
+
+-- .. or the act was not made, and then no more than a run is over
+abbrev pub ActSays : Event → Core → Core → Seen → Type 0
+ActSays e c z (seen.Full live most) = z ≡ c
+ActSays e c z seen.Dropped = z ≡ dropped e c
+ActSays e c z x = ByAct e c (z, x)
+
+-- want of memory where an act is made: a run that had the event is over, and at a turn the act's entry may be in the book
+abbrev pub ActBreaks : Event → Core → Core → Type 0
+ActBreaks (Turn i) c z = (o : Option Entry) × (z ≡ without_run c i o)
+ActBreaks e c z = z ≡ dropped e c
+
+-- where the answer of an act is lost, a run is over, and the act's entry may be in the book
+abbrev pub LossLeaves : Event → Core → Core → Type 0
+LossLeaves (Lost i) c z = (o : Option Entry) × (z ≡ without_run c i o)
+LossLeaves e c z = ⊥
+
+-- a run was started
+abbrev pub StartsRun : Seen → Type 0
+StartsRun (seen.Started i) = Unit {0}
+StartsRun x = ⊥
+
+-- An event that is answered at once leaves that core and has that answer; want of memory comes there only where a run would
+-- start, and leaves all as it was. Every other event has an answer that follows from an act, and no other: so no ticket is
+-- left, a ticket is unknown, the host is crowded or spent, or there is no such run, exactly where this is said.
+abbrev pub Answers : Event → Core → Plan → Core → Result Seen AllocError → Type 0
+Answers e c (Answer b y) z (Ok x) = (z ≡ b) × (x ≡ y)
+Answers e c (Answer b y) z (Err w) = (z ≡ c) × StartsRun y
+Answers e c (Do k a f) z (Ok x) = ActSays e c z x
+Answers e c (Do k a f) z (Err w) = ActBreaks e c z
+Answers e c (Lose k a f) z (Ok x) = (x ≡ seen.Dropped) × LossLeaves e c z
+Answers e c (Lose k a f) z (Err w) = z ≡ dropped e c
 
 -- the event of a run whose answer is lost
 abbrev pub is_lost : Event → Bool
@@ -188,6 +238,7 @@ is_lost e = false
 -- what a call that carries out an event does
 pub record Stepped (d : Deployment) (e : Event) (c b : Core) (old_room new_room old_faults new_faults : ℕ) (before after : Option Rows) (result : Result Seen AllocError) : Type 0 where
   pub rows : Tells before after (λ m n. EventOn d old_room old_faults new_faults e c m b n result)
+  pub answers : Answers e (counted c) (plan d e c) b result
   pub later : old_faults ≤ new_faults
   pub failed : result ≡ Ok seen.Dropped → is_lost e ≡ false → Rose old_faults new_faults
   pub room : new_room ≡ old_room

@@ -21,11 +21,13 @@ use Rattle.beldi_row.specs.declared.row.Row.TheVariants as rows
 use Rattle.beldi_row.specs.declared.act.Act.{Act}
 use Rattle.beldi_row.specs.declared.act.Act.TheVariants.{Look, PutRead, End}
 use Rattle.beldi_row.specs.Act.{Tell, here, did}
+use Rattle.beldi_row.specs.declared.notes.Note.{Note}
+use Rattle.beldi_row.specs.declared.notes.Note.TheVariants.{Wrote, Cond, Got, Died, Freed}
 use Rattle.beldi_daal.specs.declared.walk.WriteWalk.{WriteWalk}
 use Rattle.beldi_daal.specs.declared.walk.Item.TheVariants as item
 use Rattle.beldi_daal.specs.declared.walk.CellOp.TheVariants as op
 use Rattle.beldi_daal.specs.declared.walk.WriteSays.{WriteSays}
-use Rattle.beldi_daal.specs.declared.walk.WriteSays.TheVariants.{Going, Done, Held}
+use Rattle.beldi_daal.specs.declared.walk.WriteSays.TheVariants.{Going, Done, Held, Worn}
 use Rattle.beldi_daal.specs.declared.read_walk.ReadWalk.{ReadWalk}
 use Rattle.beldi_daal.specs.declared.read_walk.ReadSays.{ReadSays}
 use Rattle.beldi_daal.specs.declared.read_walk.ReadSays.TheVariants as reading
@@ -156,10 +158,24 @@ read_if false id seen = None
 abbrev pub keep_turned : Deployment → Run → Machine → ℕ → Kept → Turned
 keep_turned d r m seen k = answered d r m (answer.Value k.value) (read_if k.added r.id seen)
 
+-- a note that is read as the answer of an effect that is done or not
+abbrev pub is_done_note : Note → Bool
+is_done_note Wrote = true
+is_done_note (Cond b) = false
+is_done_note Got = true
+is_done_note (Died h) = false
+is_done_note Freed = true
+
+-- a write whose place has such a note was made; a note of another kind, which no session leaves there, ends the run
+abbrev pub noted_turned : Deployment → Run → Machine → Bool → Bool → Turned
+noted_turned d r m first true = answered d r m answer.Done (step_if first r.id)
+noted_turned d r m first false = over
+
 abbrev pub write_turned : Deployment → Run → Machine → WriteWalk × WriteSays → Turned
 write_turned d r m (w, Going) = goes r (record { machine = m; stage = Write w }) None
 write_turned d r m (w, Held o) = goes r (record { machine = m; stage = Write w }) None
-write_turned d r m (w, Done first) = answered d r m answer.Done (step_if first r.id)
+write_turned d r m (w, Worn) = goes r (record { machine = m; stage = Write w }) None
+write_turned d r m (w, Done n first) = noted_turned d r m first (is_done_note n)
 
 -- the first end of a root gives its reply
 abbrev pub reply_if : Bool → IntentId → Outcome → Option (ℕ × Outcome)

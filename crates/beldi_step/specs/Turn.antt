@@ -1,13 +1,13 @@
 -- What a call that makes the next turn of a run does.
-use Rattle.std.specs.Prelude.{◌≡◌, ℕ, ◌-◌, ◌^◌, ◌≤◌, ◌<◌, min, Bool, true, false, IsTrue, IsErrOf, Option, Some, None, Result, Ok, Err}
+use Rattle.std.specs.Prelude.{◌≡◌, ℕ, ◌≤◌, ◌<◌, Bool, true, false, IsTrue, IsErrOf, Option, Some, None, Result, Ok, Err}
 use Rattle.std.specs.FinMap as map
 use Rattle.beldi_value.specs.Id.{has_no_hops}
 use Rattle.beldi_value.specs.declared.id.IntentId.{IntentId}
 use Rattle.beldi_value.specs.declared.outcome.Outcome.{Outcome}
 use Rattle.beldi_lang.specs.declared.deployment.Deployment.{Deployment}
 use Rattle.beldi_lang.specs.declared.machine.Machine.{Machine}
-use Rattle.beldi_row.specs.declared.table.TableErr.TheVariants.{OutOfMemory, Failed, Full}
-use Rattle.beldi_row.specs.Table.{Rows, after_act, tell_act, adds, Tells, Rose}
+use Rattle.beldi_row.specs.declared.table.TableErr.TheVariants.{Failed, Full}
+use Rattle.beldi_row.specs.Table.{Rows, Refused, after_act, tell_act, adds, Tells, Rose}
 use Rattle.beldi_book.specs.declared.entry.Entry.TheVariants.{Step}
 use Rattle.beldi_step.specs.declared.run.Run.{Run}
 use Rattle.beldi_step.specs.declared.run.Begun.{Begun}
@@ -44,13 +44,17 @@ Turns s (Err (Stopped e)) t = ⊥
 abbrev pub RanOn : Deployment → Run → ℕ → Option Begun → Run → ℕ → ℕ → Rows → Rows → Result TurnSays TurnErr → Type 0
 RanOn d r changes at s now room m n (Ok x) = (n ≡ after_act (act_at at) now (key_at r at) m) × (turned_by s x ≡ turned_at d r changes at (tell_act (act_at at) now (key_at r at) m)) × (IsTrue (adds (act_at at) now (key_at r at) m) → map.len m < room)
 RanOn d r changes at s now room m n (Err (Lost e)) = (n ≡ after_act (act_at at) now (key_at r at) m) × (e ≡ (turned_at d r changes at (tell_act (act_at at) now (key_at r at) m)).entry) × (IsTrue (adds (act_at at) now (key_at r at) m) → map.len m < room)
-RanOn d r changes at s now room m n (Err (Stopped OutOfMemory)) = n ≡ m
-RanOn d r changes at s now room m n (Err (Stopped Failed)) = n ≡ m
-RanOn d r changes at s now room m n (Err (Stopped (Full live most))) = (n ≡ m) × (s ≡ r) × IsTrue (adds (act_at at) now (key_at r at) m) × (room ≤ map.len m) × (live ≡ min (map.len m) (2 ^ 32 - 1)) × (most ≡ room)
+RanOn d r changes at s now room m n (Err (Stopped e)) = Refused (act_at at) now (key_at r at) room m n e
+
+-- where the table had no room, the run stands where it stood
+abbrev pub StandsAtFull : Run → Run → Result TurnSays TurnErr → Type 0
+StandsAtFull r s (Err (Stopped (Full live most))) = s ≡ r
+StandsAtFull r s x = Unit {0}
 
 -- a turn of the run r, which stands at `at`, when so many changes had been made
 pub record Ran (d : Deployment) (r : Run) (changes : ℕ) (at : Option Begun) (s : Run) (now old_room new_room old_faults new_faults : ℕ) (before after : Option Rows) (result : Result TurnSays TurnErr) : Type 0 where
   pub rows : Tells before after (λ m n. RanOn d r changes at s now old_room m n result)
+  pub stands : StandsAtFull r s result
   pub later : old_faults ≤ new_faults
   pub failed : IsErrOf result (Stopped Failed) → Rose old_faults new_faults
   pub room : new_room ≡ old_room

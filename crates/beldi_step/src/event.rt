@@ -60,6 +60,9 @@ pub enum Seen {
         live: u32,
         room: u32,
     },
+    /// The write asks for a row of its item past the greatest. It comes only where the rows of an item are linked: no act
+    /// says so yet.
+    Worn,
     /// 1,024 runs are live, and the event is a request or a restart.
     Crowded,
     /// The number was never given to a run.

@@ -7,7 +7,7 @@ ghost use Rattle.beldi_daal.specs.declared.walk.WriteWalk.{WriteWalk};
 ghost use Rattle.beldi_row.specs.declared.act.Act.TheVariants as acts;
 ghost use Rattle.beldi_daal.specs.declared.read_walk.ReadWalk.{ReadWalk};
 ghost use Rattle.beldi_value.specs.declared.value.Value.{Value};
-ghost use Rattle.beldi_step.specs.Run.{first_stage as first_stage_of, standing as standing_at, place_of as place_at, begin_in, ask_turned, walk_turned, keep_turned, write_turned, resumed_in, intent_key};
+ghost use Rattle.beldi_step.specs.Run.{first_stage as first_stage_of, standing as standing_at, place_of as place_at, begin_in, ask_turned, is_done_note as is_done_note_of, walk_turned, keep_turned, write_turned, resumed_in, intent_key};
 ghost use Rattle.beldi_row.specs.Asked.{Asked};
 ghost use Rattle.beldi_step.specs.Intent.{is_did};
 ghost use Rattle.beldi_step.specs.Turn.{Ran, Turns, turned_by, answered_run, close_says};
@@ -20,7 +20,7 @@ use beldi_book::Entry;
 use beldi_daal::{CellOp, Item, ReadSays, ReadWalk, WriteSays, WriteWalk};
 use beldi_lang::{Answer, Deployment, Effect, Machine};
 use beldi_readlog::{Kept, get, put_once};
-use beldi_row::{Table, TableErr};
+use beldi_row::{Note, Table, TableErr};
 use beldi_value::{IntentId, Outcome, Owner, Place, Value};
 use std::alloc::{AllocError, Global};
 
@@ -159,6 +159,16 @@ fn close<T: Table>(
         })
     } else {
         Ok(over())
+    }
+}
+
+// A note that is read as the answer of an effect that is done or not.
+fn is_done_note(note: &Note) -> bool
+    ensures { result ≡ is_done_note_of note.now }
+{
+    match note {
+        Note::Wrote | Note::Got | Note::Freed => true,
+        Note::Cond(_) | Note::Died(_) => false,
     }
 }
 
@@ -344,9 +354,12 @@ impl Run {
         requires { entry ≡ Step self.old.id }
         ensures { (m : Machine) (w : WriteWalk) → self.old.at ≡ Some (record { machine = m; stage = stages.Write w }) → Turns self.new result (write_turned code.now self.old m (w, says)) }
     {
-        let WriteSays::Done { first } = says else {
+        let WriteSays::Done { note, first } = says else {
             return Ok(goes(None));
         };
+        if !is_done_note(&note) {
+            return Ok(over());
+        }
         let entry = if first { Some(entry) } else { None };
         match self.answer(alloc, code, Answer::Done) {
             Ok(()) => Ok(goes(entry)),

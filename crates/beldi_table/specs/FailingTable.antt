@@ -1,5 +1,6 @@
 -- Which calls of a failing table fail.
-use Rattle.std.specs.Prelude.{ℕ, ◌+◌, ◌-◌, ◌^◌, ◌==◌, min, Bool, true, false, List, [], ◌∷◌, if◌then◌else◌}
+use Rattle.std.specs.Prelude.{◌≡◌, ℕ, ◌+◌, ◌-◌, ◌^◌, ◌==◌, min, Bool, true, false, List, [], ◌∷◌, if◌then◌else◌}
+use Rattle.beldi_table.specs.declared.failing_table.FailingTable.{FailingTable}
 
 -- the number stands in the list
 abbrev pub stands_in : List ℕ → ℕ → Bool
@@ -14,3 +15,15 @@ one_more n = min (n + 1) (2 ^ 64 - 1)
 abbrev pub counted : Bool → ℕ → ℕ
 counted true n = one_more n
 counted false n = n
+
+-- a call of `act` or `next` is counted, and as a failure where its number is one of those that fail; these stay as they are
+pub record Counts (before after : FailingTable) : Type 0 where
+  pub calls : after.calls ≡ one_more before.calls
+  pub faults : after.faults ≡ counted (stands_in before.fail.items before.calls) before.faults
+  pub fail : after.fail ≡ before.fail
+
+-- no call is counted
+pub record CountsNone (before after : FailingTable) : Type 0 where
+  pub calls : after.calls ≡ before.calls
+  pub faults : after.faults ≡ before.faults
+  pub fail : after.fail ≡ before.fail

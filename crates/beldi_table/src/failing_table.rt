@@ -2,12 +2,12 @@
 ghost use Rattle.std.specs.Prelude.{◌≡◌, ◌≤◌, ◌↔◌, Some, ⊤, IsErrOf, IsTrue};
 ghost use Rattle.std.specs.Borrow.{sem, follows_so};
 ghost use mathlib.Core.Option.{none};
-ghost use Rattle.beldi_row.specs.Table.{Acted, Went};
+ghost use Rattle.beldi_row.specs.Table.{Acted, Went, Readied};
 ghost use Rattle.beldi_row.specs.declared.table.TableErr.TheVariants.{Failed};
 ghost use Rattle.beldi_table.specs.contracts.failing_table.FailingTable.{the_row};
 ghost use Rattle.std.specs.FinMap as map;
 ghost use Rattle.beldi_table.specs.MapTable.{rows_of};
-ghost use Rattle.beldi_table.specs.FailingTable.{stands_in, one_more, counted};
+ghost use Rattle.beldi_table.specs.FailingTable.{stands_in, Counts, CountsNone};
 
 use crate::map_table::MapTable;
 use beldi_row::{Act, Row, RowKey, Said, Table, TableErr};
@@ -55,11 +55,9 @@ impl FailingTable {
     // Counts a call, and tells whether it is to fail.
     fn fails(&mut self) -> bool
         ensures told { result ≡ stands_in self.old.fail.items self.old.calls }
-        ensures calls { self.new.calls ≡ one_more self.old.calls }
-        ensures faults { self.new.faults ≡ counted result self.old.faults }
+        ensures counts { Counts self.old self.new }
         ensures later { self.old.faults ≤ self.new.faults }
         ensures table { self.new.table ≡ self.old.table }
-        ensures fail { self.new.fail ≡ self.old.fail }
     {
         let fails = is_in(self.fail.as_slice(), self.calls);
         self.calls = self.calls.saturating_add(1);
@@ -81,7 +79,10 @@ impl Table for FailingTable {
         self.table.len()
     }
 
-    fn ready(&mut self, rooms: &[u32]) -> Result<(), TableErr> {
+    fn ready(&mut self, rooms: &[u32]) -> Result<(), TableErr>
+        ensures set { Readied rooms.now self.old.table.room self.new.table.room self.old.faults self.new.faults (Some (rows_of self.old.table)) (Some (rows_of self.new.table)) result }
+        ensures counts { CountsNone self.old self.new }
+    {
         self.table.ready(rooms)
     }
 

@@ -1,5 +1,5 @@
 // A table over an ordered map in memory.
-ghost use Rattle.std.specs.Prelude.{◌≡◌, ℕ, ◌^◌, ◌-◌, min, Some};
+ghost use Rattle.std.specs.Prelude.{◌≡◌, ℕ, ◌^◌, ◌-◌, min, Some, None, IsTrue};
 ghost use Rattle.std.specs.FinMap as map;
 ghost use Rattle.beldi_row.specs.Table.{room_of};
 
@@ -48,13 +48,24 @@ impl MapTable {
         }
     }
 
-    fn change(&mut self, key: RowKey, act: Act, now: u64) -> Result<Change, TableErr>
-        ensures rows { ChangedOn act now key self.old.room (rows_of self.old) (rows_of self.new) result }
+    // An act on the row with this key, which is there.
+    fn change(&mut self, key: &RowKey, act: Act, now: u64) -> Result<Change, TableErr>
+        requires { IsTrue (map.contains_key (rows_of self.old) key.now) }
+        ensures rows { ChangedOn act now key.now self.old.room (rows_of self.old) (rows_of self.new) (map.get (rows_of self.new) key.now) result }
         ensures room { self.new.room ≡ self.old.room }
     {
-        if let Some(row) = self.rows.get_mut(&key) {
-            return apply(row, act, now);
+        match self.rows.get_mut(key) {
+            Some(row) => apply(row, act, now),
+            None => unreachable!(),
         }
+    }
+
+    // An act where no row has this key. What it says lends nothing.
+    fn add(&mut self, key: RowKey, act: Act, now: u64) -> Result<Change, TableErr>
+        requires { map.get (rows_of self.old) key ≡ None }
+        ensures rows { ChangedOn act now key self.old.room (rows_of self.old) (rows_of self.new) None result }
+        ensures room { self.new.room ≡ self.old.room }
+    {
         let said = missing(&act);
         match made(self.alloc, act, now) {
             None => Ok(said),
@@ -92,12 +103,12 @@ impl Table for MapTable {
     }
 
     fn act(&mut self, key: RowKey, act: Act, now: u64) -> Result<Said<'_>, TableErr> {
-        let place = match key.copy(self.alloc) {
-            Ok(place) => place,
-            Err(_) => return Err(TableErr::OutOfMemory),
-        };
-        let change = self.change(key, act, now)?;
-        Ok(tell(self.rows.get(&place), change))
+        if !self.rows.contains_key(&key) {
+            let added = self.add(key, act, now)?;
+            return Ok(tell(None, added));
+        }
+        let change = self.change(&key, act, now)?;
+        Ok(tell(self.rows.get(&key), change))
     }
 
     fn next(&mut self, after: &RowKey) -> Result<Option<(&RowKey, &Row)>, TableErr> {

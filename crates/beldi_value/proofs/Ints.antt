@@ -80,6 +80,18 @@ numeral_back most n bs h e =
     let same : read_on 0 bs ≡ n = cc (found.1) in
     ap decimal (sym same) ∙ decimal-digits_value own bs digits.0 digits.1 (lone_zero bs plain.0) (omega arith)
 
+pub numeral_within : (most n : ℕ) (bs : List ℕ) → numeral_at most bs ≡ Some n → n ≤ most
+numeral_within most n bs e =
+    let plain = where_true (is_plain bs) (number_at most bs) n e in
+    let found = where_true (is_numeral bs && nat_le (read_on 0 bs) most) (Some (read_on 0 bs)) n plain.1 in
+    let tests = both_true (is_numeral bs) (nat_le (read_on 0 bs) most) found.0 in
+    let same : read_on 0 bs ≡ n = cc (found.1) in
+    omega (arith, leb-true (read_on 0 bs) most tests.1, same)
+
+-- ---- a zero in front
+pub zeros : (most b : ℕ) (bs : List ℕ) → number_at most (48 ∷ b ∷ bs) ≡ number_at most (b ∷ bs)
+zeros most b bs = refl
+
 negated_back : (n : ℕ) (z : ℤ) → negated n ≡ Some z → text_of (int z) ≡ 45 ∷ decimal n
 negated_back Nat.zero z e = cc
 negated_back (suc n) z e =

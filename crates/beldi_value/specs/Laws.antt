@@ -1,5 +1,5 @@
 -- What holds of the definitions.
-use Rattle.std.specs.Prelude.{◌≡◌, ◌<◌, ◌≤◌, ◌^◌, false, IsTrue, List, length, ℕ, ℤ, Some}
+use Rattle.std.specs.Prelude.{◌≡◌, ◌<◌, ◌≤◌, ◌^◌, ◌∷◌, decimal, false, IsTrue, List, length, ℕ, ℤ, Some}
 use Rattle.std.specs.List.{AllByRecursion}
 use lib.Signed.{mag}
 use Rattle.beldi_value.specs.declared.id.IntentId.{IntentId}
@@ -8,7 +8,7 @@ use Rattle.beldi_value.specs.Formed.{IsFormed}
 use Rattle.beldi_value.specs.Id.{is_older}
 use Rattle.beldi_value.specs.IdAt.{id_at}
 use Rattle.beldi_value.specs.Json.{text_of}
-use Rattle.beldi_value.specs.Number.{int_at}
+use Rattle.beldi_value.specs.Number.{int_at, number_at, numeral_at}
 use Rattle.beldi_value.specs.Reading.{IsReadAgain}
 use Rattle.beldi_value.specs.Text.{id_text}
 
@@ -18,6 +18,13 @@ pub record AgesAreOrdered : Type 0 where
   pub further : (a b c : IntentId) → IsTrue (is_older a b) → IsTrue (is_older b c) → IsTrue (is_older a c)
   pub one_way : (a b : IntentId) → IsTrue (is_older a b) → is_older b a ≡ false
   pub either : (a b : IntentId) → is_older a b ≡ false → is_older b a ≡ false → a ≡ b
+
+-- a number below 2^64 has one text without leading zeros, and that alone is read as it, where it is at most `most`; zeros in
+-- front count for nothing where they are allowed
+pub record NumeralTextIsExact : Type 0 where
+  pub reads : (most n : ℕ) → n < 2 ^ 64 → n ≤ most → numeral_at most (decimal n) ≡ Some n
+  pub alone : (most n : ℕ) (bs : List ℕ) → most < 2 ^ 64 → numeral_at most bs ≡ Some n → (decimal n ≡ bs) × (n ≤ most)
+  pub zeros : (most b : ℕ) (bs : List ℕ) → number_at most (48 ∷ b ∷ bs) ≡ number_at most (b ∷ bs)
 
 -- a whole number of 64 bits has one text, and that alone is read as it (`mag` of n and of -(n + 1) is n)
 pub record IntTextIsExact : Type 0 where

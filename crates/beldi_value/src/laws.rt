@@ -1,9 +1,14 @@
 // Laws of the definitions that other crates build on.
-ghost use Rattle.beldi_value.specs.Laws.{AgesAreOrdered, IdTextIsExact, IntTextIsExact, TextIsReadAgain};
+ghost use Rattle.beldi_value.specs.Laws.{AgesAreOrdered, IdTextIsExact, IntTextIsExact, NumeralTextIsExact, TextIsReadAgain};
 
 /// Ages are a total order on ids.
 pub fn ages_are_ordered()
     ensures { AgesAreOrdered }
+{}
+
+/// The text of a number below 2^64 is the one text without leading zeros that is read as it.
+pub fn numeral_text_is_exact()
+    ensures { NumeralTextIsExact }
 {}
 
 /// The canonical text of a whole number of 64 bits is the one text that is read as it.

@@ -28,7 +28,10 @@ mod write;
 
 pub use cut::cut_at;
 pub use id::{Hops, IntentId, older};
-pub use laws::{ages_are_ordered, id_text_is_exact, int_text_is_exact, text_is_read_again};
+pub use laws::{
+    ages_are_ordered, id_text_is_exact, int_text_is_exact, numeral_text_is_exact,
+    text_is_read_again,
+};
 pub use list::{ByteList, Items, Moments, Values32};
 pub use number::{read_int, read_number, read_numeral};
 pub use outcome::{Cause, Code, Outcome};

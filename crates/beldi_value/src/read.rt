@@ -10,19 +10,25 @@ use crate::convert::{ConvertErr, depth_of, value_from};
 use crate::text::Str;
 use crate::value::Value;
 use std::alloc::{AllocError, Global};
+use thiserror::Error;
 
 /// Why bytes were read as no value. Where several causes hold, the one that stands first here is told.
-#[derive(Clone, Copy, Debug, PartialEq, Eq)]
+#[derive(Clone, Copy, Debug, PartialEq, Eq, Error)]
 pub enum ValueErr {
     /// No more memory.
+    #[error("no more memory")]
     OutOfMemory,
     /// `serde_json` does not read the bytes: they are no UTF-8 or no JSON, or a number is past the largest float.
+    #[error("the text is not JSON")]
     NotJson,
     /// Lists and records nest more than 32 deep.
+    #[error("the value nests more than 32 levels deep")]
     TooDeep,
     /// A number is no whole number of 64 bits with a sign; nor is `-0`.
+    #[error("a number is no whole number of 64 bits")]
     NotInt,
     /// The canonical text has this many bytes, more than 4,096.
+    #[error("the canonical text has {bytes} bytes, more than 4,096")]
     TooLarge { bytes: u64 },
 }
 

@@ -6,14 +6,17 @@ use crate::cut::cut_at;
 use crate::id::{Hops, IntentId};
 use crate::number::read_numeral;
 use std::alloc::{AllocError, AllocFailed, Global};
+use thiserror::Error;
 
 /// Why a text was read as no id.
-#[derive(Clone, Copy, Debug, PartialEq, Eq)]
+#[derive(Clone, Copy, Debug, PartialEq, Eq, Error)]
 pub enum IdErr {
     /// No more memory.
+    #[error("no more memory")]
     OutOfMemory,
     /// The text is no id: a ticket from 1, and `/` and a step from 0 for each of at most 63 hops, each below 2^32 and in
     /// decimal without leading zeros.
+    #[error("the text is no id")]
     BadId,
 }
 

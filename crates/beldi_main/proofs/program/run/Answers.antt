@@ -1,7 +1,8 @@
-use Rattle.std.proofs.Common.{sym, subst}
+use Rattle.std.proofs.Common.{◌≡◌, refl, sym, subst}
+use Rattle.beldi_outside.specs.Outside.{Told}
 use Rattle.beldi_main.specs.declared.program.Ended.{Ended}
-use Rattle.beldi_main.specs.Headline.{Anything, RunOn}
-use Rattle.beldi_main.proofs.Programs.{not_read}
+use Rattle.beldi_main.specs.Headline.{Anything, RunOn, SourceAsRead, Untouched}
+use Rattle.beldi_main.proofs.Programs.{not_read, source_as_read, unread_as_read, unread_untouched}
 use Rattle.beldi_main.proofs.program.run.Goals as goal
 
 pub returns-in-Err-clause-session : goal.returns-in-Err-clause-session
@@ -11,3 +12,20 @@ returns-in-Err-clause-session g c =
     let rows = g.T.Table.rows c.args.table in
     let f = g.T.Table.faults c.args.table in
     subst (λ (e : Ended). RunOn Anything source rows rows held held f f e) (sym c.not_read.ensures) (not_read source rows held f c.in-Err.why)
+
+pub returns-in-Err-clause-as_read : goal.returns-in-Err-clause-as_read
+returns-in-Err-clause-as_read g c =
+    let source = g.S.Source.left c.args.source.now in
+    subst (λ (e : Ended). SourceAsRead source e) (sym c.not_read.ensures) (unread_as_read source c.in-Err.why)
+
+pub returns-in-Err-clause-untouched : goal.returns-in-Err-clause-untouched
+returns-in-Err-clause-untouched g c =
+    let rows = g.T.Table.rows c.args.table in
+    let table = c.args.table ≡ c.args.table in
+    let sink = c.args.sink.now ≡ c.args.sink.now in
+    subst (λ (e : Ended). Untouched e table (Told rows rows (λ m n. n ≡ m)) sink) (sym c.not_read.ensures) (unread_untouched table (Told rows rows (λ m n. n ≡ m)) sink c.in-Err.why refl refl)
+
+pub returns-in-Ok-clause-as_read : goal.returns-in-Ok-clause-as_read
+returns-in-Ok-clause-as_read g c =
+    let s = g.S.Source in
+    source_as_read (s.left c.args.source.now) (s.left c.read_all.new.source) c.in-Ok.bytes c.as_slice.result.now _ c.in-Ok.ensures.bytes c.as_slice.ensures.value c.run_source.ensures.as_read

@@ -1,9 +1,8 @@
-use Rattle.std.proofs.Common.{◌≡◌, ◌≤◌, ◌⊎◌, ℕ, length, sym, ap, subst, ◌∙◌, inl, inr}
+use Rattle.std.proofs.Common.{◌≡◌, ◌≤◌, ◌⊎◌, ℕ, true, length, sym, ap, subst, ◌∙◌, inl, inr}
 use Rattle.beldi_main.specs.declared.program.Ended.TheVariants as ended
 use Rattle.beldi_outside.specs.Outside.{Told, Rose, max_source}
 use Rattle.beldi_syntax.specs.Grammar.{parsed_at}
-use Rattle.beldi_main.specs.Session.{OnTold}
-use Rattle.beldi_main.specs.Headline.{IsWholeSource, PlainRun, is_run, status_of}
+use Rattle.beldi_main.specs.Headline.{PlainRun, is_run, is_whole_source, status_of}
 use Rattle.beldi_main.proofs.Claims.{is_plain, claimed, completed, same_end}
 use Rattle.beldi_main.proofs.program.top.Goals as goal
 
@@ -35,16 +34,18 @@ returns-clause-open_fault g c = λ s. c.carry_out-ended.ensures.open_fault (same
 pub returns-clause-too_long : goal.returns-clause-too_long
 returns-clause-too_long g c = λ h. (c.carry_out-ended.result.0, c.status.ensures, c.carry_out-ended.ensures.too_long h)
 
+pub returns-clause-refused : goal.returns-clause-refused
+returns-clause-refused g c = λ h. (c.carry_out-ended.result.0, c.status.ensures, c.carry_out-ended.ensures.as_read h)
+
+pub returns-clause-untouched : goal.returns-clause-untouched
+returns-clause-untouched g c = (c.carry_out-ended.result.0, c.status.ensures, c.carry_out-ended.ensures.untouched)
+
 pub returns-clause-complete : goal.returns-clause-complete
-returns-clause-complete g c = λ w p q r.
-    let t = g.T.Table in
+returns-clause-complete g c = λ w p q.
     let k = g.K.Sink in
     let s = g.S.Source in
-    let x = c.carry_out-ended.result in
     let y = c.carry_out-ended.ensures in
-    let rows = t.rows x.1 in
     let sink = c.carry_out-ended.new.sink in
     let source = c.carry_out-ended.new.source in
-    subst (λ (z : ℕ). OnTold (t.rows c.args.table) rows (k.held c.args.sink.now) (k.held sink) (λ m n h j. Told (s.left c.args.source.now) (s.left source) (λ a b. length a ≤ max_source → IsWholeSource a (parsed_at a) → (z ≡ 0) ⊎ (z ≡ 1)))) (sym c.status.ensures)
-    (completed (is_run c.args.words.now) (s.left c.args.source.now) (s.left source) (t.rows c.args.table) rows (k.held c.args.sink.now) (k.held sink) (t.faults c.args.table) (t.faults x.1) x.0
-    (Rose (s.faults c.args.source.now) (s.faults source)) (Rose (k.faults c.args.sink.now) (k.faults sink)) (Rose (t.faults c.args.table) (t.faults x.1)) w y.text (y.too_long w) y.usage.0 y.source_fault y.sink_fault y.open_fault p q r)
+    subst (λ (z : ℕ). Told (s.left c.args.source.now) (s.left source) (λ a b. length a ≤ max_source → is_whole_source a (parsed_at a) ≡ true → (z ≡ 0) ⊎ (z ≡ 1) ⊎ (z ≡ 8))) (sym c.status.ensures)
+    (completed (s.left c.args.source.now) (s.left source) c.carry_out-ended.result.0 (Rose (s.faults c.args.source.now) (s.faults source)) (Rose (k.faults c.args.sink.now) (k.faults sink)) (y.as_read w) (y.too_long w) y.source_fault y.sink_fault p q)

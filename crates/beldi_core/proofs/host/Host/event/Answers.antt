@@ -1,5 +1,5 @@
 use Rattle.std.proofs.Common.{rules}
-use Rattle.beldi_core.proofs.Right.{legal_at, stands_at, one_answer_at, event_keeps, event_stays}
+use Rattle.beldi_core.proofs.Right.{legal_at, stands_at, one_answer_at, event_keeps, event_stays, never_gone}
 use Rattle.beldi_core.proofs.host.Host.event.Goals as goal
 
 pub returns-clause-right : goal.returns-clause-right
@@ -16,3 +16,6 @@ returns-clause-one_answer g c = search (rules, one_answer_at, event_keeps)
 
 pub returns-clause-answers_stay : goal.returns-clause-answers_stay
 returns-clause-answers_stay g c = search (rules, event_stays)
+
+pub returns-clause-has_rows : goal.returns-clause-has_rows
+returns-clause-has_rows g c = search (rules, never_gone)

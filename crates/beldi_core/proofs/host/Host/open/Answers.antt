@@ -1,4 +1,5 @@
 use Rattle.std.proofs.Common.{rules}
+use Rattle.beldi_core.proofs.Least.{newest_at}
 use Rattle.beldi_core.proofs.Right.{legal_at, stands_at, one_answer_at, opened}
 use Rattle.beldi_core.proofs.host.Host.open.Goals as goal
 
@@ -15,3 +16,6 @@ returns-in-Ok-clause-stands g c = λ r. stands_at c.args.code _ (g.T.Table.rows 
 
 pub returns-in-Ok-clause-one_answer : goal.returns-in-Ok-clause-one_answer
 returns-in-Ok-clause-one_answer g c = λ r. one_answer_at c.args.code _ (g.T.Table.rows c.prepare.new.table) (returns-in-Ok-clause-right g c r)
+
+pub returns-in-Ok-clause-newest : goal.returns-in-Ok-clause-newest
+returns-in-Ok-clause-newest g c = newest_at c.in-Ok.newest (g.T.Table.rows c.args.table) (g.T.Table.rows c.prepare.new.table) c.in-Ok.ensures.rows

@@ -5,8 +5,9 @@ use Rattle.beldi_table.proofs.failing_table.FailingTableTable.next.Goals as goal
 
 pub returns-then-fails : goal.returns-then-fails
 returns-then-fails c =
-    let old = c.args.self.now.faults in
-    let rose = c.fails.ensures.faults ∙ ap (λ b. counted b old) c.if-fails.true in (
+    let old = c.args.self.now in
+    let fails = sym c.fails.ensures.told ∙ c.if-fails.true in
+    let rose = c.fails.ensures.counts.faults ∙ ap (λ b. counted b old.faults) fails in (
       (
         refl,
         λ _. tt,
@@ -16,5 +17,5 @@ returns-then-fails c =
           room = ap (λ t. t.room) c.fails.ensures.table;
         },
       ),
-      record { went = tt; told = (λ _. sym c.fails.ensures.told ∙ c.if-fails.true, λ _. refl) },
+      record { went = tt; told = (λ _. fails, λ _. refl) },
     )
