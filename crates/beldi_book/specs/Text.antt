@@ -9,17 +9,10 @@ use Rattle.beldi_value.specs.Text.{id_text}
 use Rattle.beldi_lang.specs.declared.deployment.Deployment.{Deployment}
 use Rattle.beldi_lang.specs.declared.deployment.Func.{Func}
 use Rattle.beldi_lang.specs.declared.deployment.TableHead.{TableHead}
+use Rattle.beldi_lang.specs.Names.{func_text}
 use Rattle.beldi_lang.specs.Wants.{func_at}
 use Rattle.beldi_book.specs.declared.entry.Entry.{Entry}
 use Rattle.beldi_book.specs.declared.entry.Entry.TheVariants.{Start, Read, Step}
-
-abbrev pub name_or : ℕ → Option Func → List ℕ
-name_or n None = decimal n
-name_or n (Some f) = f.name
-
--- a function by its name, or by its number where the deployment lacks it
-abbrev pub func_text : Deployment → ℕ → List ℕ
-func_text d n = name_or n (func_at d n)
 
 abbrev pub entry_text : Deployment → Entry → List ℕ
 entry_text d (Start t f a) = codes "start " ++ (decimal t ++ (codes " " ++ (func_text d f ++ (codes " " ++ text_of (datum_of a)))))

@@ -1,7 +1,7 @@
 // The entries of a book, and their text.
 ghost use Rattle.std.specs.Prelude.{◌≡◌, ◌++◌, OnOk, OnErr, IfOk, is_none, string_bytes, codes};
 ghost use Rattle.std.specs.Fmt.{decimal};
-ghost use Rattle.beldi_book.specs.Text.{entry_text, func_text};
+ghost use Rattle.beldi_book.specs.Text.{entry_text};
 ghost use Rattle.beldi_book.specs.Order.{seen_of};
 
 use beldi_lang::Deployment;
@@ -58,7 +58,7 @@ impl Entry {
                 text.push_text("start ")?;
                 write_number(alloc, u64::from(*ticket), &mut text)?;
                 text.push_text(" ")?;
-                write_func(alloc, code, *func, &mut text)?;
+                code.write_func(alloc, *func, &mut text)?;
                 text.push_text(" ")?;
                 args.write_json(alloc, &mut text)?;
             }
@@ -82,23 +82,4 @@ fn write_number(alloc: Global, number: u64, out: &mut Str) -> Result<(), AllocEr
 {
     let text = number.to_string(alloc)?;
     out.push_text(text.as_str())
-}
-
-/// Appends the name of a function; its number, where the deployment has none of it.
-pub fn write_func(
-    alloc: Global,
-    code: &Deployment,
-    func: u16,
-    out: &mut Str,
-) -> Result<(), AllocError>
-    ensures ok { OnOk result (out.new ≡ out.old ++ func_text code.now func) }
-    ensures err { OnErr result (out.new ≡ out.old) }
-{
-    match code.func_at(func) {
-        Some(found) => out.push_text(found.name.as_str()),
-        None => {
-            let text = func.to_string(alloc)?;
-            out.push_text(text.as_str())
-        }
-    }
 }

@@ -2,7 +2,6 @@
 ghost use Rattle.std.specs.Prelude.{◌≡◌, ◌++◌, OnOk, OnErr};
 ghost use Rattle.beldi_book.specs.Text.{table_text, item_text, quoted_key};
 
-use crate::entry::write_func;
 use beldi_lang::Deployment;
 use beldi_value::{Str, Value};
 use std::alloc::{AllocError, Global};
@@ -21,7 +20,7 @@ pub fn write_item(
     ensures err { OnErr result (out.new ≡ out.old) }
 {
     let mut text = Str::new(alloc);
-    write_func(alloc, code, func, &mut text)?;
+    code.write_func(alloc, func, &mut text)?;
     text.push_text(" ")?;
     write_table(alloc, code, func, table, &mut text)?;
     text.push_text(" ")?;

@@ -8,7 +8,7 @@ mod entry;
 mod item;
 
 pub use book::Book;
-pub use entry::{Entry, write_func};
+pub use entry::Entry;
 pub use item::write_item;
 
 #[cfg(test)]

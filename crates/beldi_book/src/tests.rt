@@ -1,4 +1,4 @@
-use crate::{Book, Entry, write_func, write_item};
+use crate::{Book, Entry, write_item};
 use beldi_lang::{Block, Deployment, Func, Funcs, TableHead, TableHeads};
 use beldi_value::{Hops, IntentId, Str, Value};
 use std::alloc::{AllocError, Global};
@@ -9,6 +9,7 @@ fn deployment(alloc: Global) -> Result<Deployment, AllocError> {
     let mut tables = TableHeads::new(alloc);
     tables.push(TableHead {
         name: Str::from_text(alloc, "t")?,
+        line: 1,
     })?;
     let mut funcs = Funcs::new(alloc);
     funcs.push(Func {
@@ -16,6 +17,7 @@ fn deployment(alloc: Global) -> Result<Deployment, AllocError> {
         param: Str::from_text(alloc, "x")?,
         tables,
         body: Block::new(alloc),
+        line: 1,
     })?;
     Ok(Deployment {
         life: 1000,
@@ -134,7 +136,7 @@ fn items_have_lines(rt: HostRuntime) -> Result<(), Fail> {
         assert_eq!(rt; item(alloc, &code, func, table)?.as_str(), want);
     }
     let mut out = Str::from_text(alloc, "fn ")?;
-    write_func(alloc, &code, 1, &mut out)?;
+    code.write_func(alloc, 1, &mut out)?;
     assert_eq!(rt; out.as_str(), "fn f");
     Ok(())
 }

@@ -1,3 +1,4 @@
+pub mod Carried
 pub mod Least
 pub mod Plans
 pub mod Replies

@@ -1,9 +1,8 @@
 -- What an event leaves and answers, over every table.
-use Rattle.std.proofs.Common.{◌≡◌, ℕ, ◌+◌, ◌==◌, ◌||◌, Bool, true, false, [], ◌∷◌, ◌++◌, Option, None, Some, Result, Ok, Err, refl, ap, sym, ◌∙◌, subst, if◌then◌else◌, append-nil}
-use Rattle.std.specs.Prelude.{nat_lt, option_to_list, IfOk, OnOk, OnErr, is_some}
+use Rattle.std.proofs.Common.{◌≡◌, ℕ, ◌+◌, Bool, true, false, [], ◌∷◌, ◌++◌, Option, None, Some, Result, Ok, Err, refl, ap, sym, ◌∙◌, subst, if◌then◌else◌, append-nil}
+use Rattle.std.specs.Prelude.{IfOk, OnOk, OnErr, is_some}
 use Rattle.std.specs.FinMap as map
 use Rattle.std.specs.declared.alloc.AllocError.{AllocError}
-use Rattle.beldi_value.specs.Id.{root_of}
 use Rattle.beldi_value.specs.declared.value.Value.{Value}
 use Rattle.beldi_lang.specs.declared.deployment.Deployment.{Deployment}
 use Rattle.beldi_row.specs.declared.key.RowKey.{RowKey}
@@ -12,7 +11,6 @@ use Rattle.beldi_row.specs.Act.{Tell, absent, added, bound, running, ended, othe
 use Rattle.beldi_row.specs.declared.table.TableErr.{TableErr}
 use Rattle.beldi_row.specs.declared.table.TableErr.TheVariants.{OutOfMemory, Failed, Full}
 use Rattle.beldi_book.specs.declared.entry.Entry.{Entry}
-use Rattle.beldi_book.specs.declared.entry.Entry.TheVariants.{Start}
 use Rattle.beldi_step.specs.declared.event.Event.{Event}
 use Rattle.beldi_step.specs.declared.event.Event.TheVariants.{Ticket, Request, Turn, Lost as LostTurn}
 use Rattle.beldi_step.specs.declared.event.Seen.{Seen}
@@ -26,7 +24,7 @@ use Rattle.beldi_step.specs.declared.turn.TurnErr.{TurnErr}
 use Rattle.beldi_step.specs.declared.turn.TurnErr.TheVariants.{Lost, Stopped}
 use Rattle.beldi_step.specs.Run.{Turned, run_key, run_act, run_turned}
 use Rattle.beldi_book.specs.Order.{count_changes}
-use Rattle.beldi_step.specs.Host.{Core, Plan, Answer, Do, Lose, no_run, Answers, ActSays, ActBreaks, bound_next, turn_next, lost_next, turn_plan, lost_plan, put_run, is_none, ended_run, without_run, dropped}
+use Rattle.beldi_step.specs.Host.{Core, Plan, Answer, Do, Lose, no_run, Answers, ActSays, ActBreaks, bound_next, turn_next, lost_next, turn_plan, lost_plan, ended_run, without_run}
 use Rattle.beldi_core.specs.Runs.{RunMap, OneLed}
 use Rattle.beldi_core.specs.Answers.{refused_by, lost_by, issued_by, bound_by, without_last}
 use Rattle.beldi_core.specs.Host.{written, with_runs}

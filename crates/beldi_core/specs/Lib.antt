@@ -1,4 +1,5 @@
 pub mod Answers
+pub mod Built
 pub mod Host
 pub mod Opening
 pub mod Right

@@ -1,4 +1,4 @@
-use crate::{Host, ReplySeen};
+use crate::{Host, ReplySeen, built};
 use beldi_book::Entry;
 use beldi_lang::{Block, Deployment, Expr, Form, Func, Funcs, Stmt, TableHead, TableHeads};
 use beldi_step::{Event, Seen};
@@ -7,39 +7,118 @@ use beldi_value::{Outcome, Str, Value};
 use std::alloc::Global;
 use std::test::Fail;
 
-// A function `f` that writes its argument to the item `k` of its table `t`, and returns it.
-fn write_and_return(alloc: Global) -> Result<Deployment, Fail> {
+// t["k"] = x; return x
+fn write_and_return(alloc: Global) -> Result<Block, Fail> {
     let mut body = Block::new(alloc);
     body.push(Stmt {
+        line: 1,
         form: Form::Write {
             table: Str::from_text(alloc, "t")?,
-            key: Str::from_text(alloc, "k")?,
+            key: Expr::Text(Str::from_text(alloc, "k")?),
             value: Expr::Name(Str::from_text(alloc, "x")?),
         },
     })?;
     body.push(Stmt {
+        line: 2,
         form: Form::Return(Expr::Name(Str::from_text(alloc, "x")?)),
     })?;
+    Ok(body)
+}
+
+// repeat 2 { break; lock t["k"] }
+fn lock_in_a_loop(alloc: Global) -> Result<Block, Fail> {
+    let mut block = Block::new(alloc);
+    block.push(Stmt {
+        line: 4,
+        form: Form::Break,
+    })?;
+    block.push(Stmt {
+        line: 5,
+        form: Form::Lock {
+            table: Str::from_text(alloc, "t")?,
+            key: Expr::Text(Str::from_text(alloc, "k")?),
+        },
+    })?;
+    let mut body = Block::new(alloc);
+    body.push(Stmt {
+        line: 3,
+        form: Form::Repeat { times: 2, block },
+    })?;
+    Ok(body)
+}
+
+// if x { return x } else { abort }
+fn abort_or_return(alloc: Global) -> Result<Block, Fail> {
+    let mut block = Block::new(alloc);
+    block.push(Stmt {
+        line: 7,
+        form: Form::Return(Expr::Name(Str::from_text(alloc, "x")?)),
+    })?;
+    let mut otherwise = Block::new(alloc);
+    otherwise.push(Stmt {
+        line: 8,
+        form: Form::Abort,
+    })?;
+    let mut body = Block::new(alloc);
+    body.push(Stmt {
+        line: 6,
+        form: Form::If {
+            test: Expr::Name(Str::from_text(alloc, "x")?),
+            block,
+            otherwise,
+        },
+    })?;
+    Ok(body)
+}
+
+// fn f(x) over table t
+fn func(alloc: Global, body: Block) -> Result<Func, Fail> {
     let mut tables = TableHeads::new(alloc);
     tables.push(TableHead {
         name: Str::from_text(alloc, "t")?,
+        line: 1,
     })?;
-    let mut funcs = Funcs::new(alloc);
-    funcs.push(Func {
+    Ok(Func {
         name: Str::from_text(alloc, "f")?,
         param: Str::from_text(alloc, "x")?,
         tables,
         body,
-    })?;
-    Ok(Deployment {
-        life: 1000,
-        room: 16,
-        funcs,
+        line: 1,
     })
 }
 
+fn deployment(funcs: Funcs) -> Deployment {
+    Deployment {
+        life: 1000,
+        room: 16,
+        funcs,
+    }
+}
+
+// A function that writes its argument to an item, and returns it.
+fn writing(alloc: Global) -> Result<Deployment, Fail> {
+    let mut funcs = Funcs::new(alloc);
+    funcs.push(func(alloc, write_and_return(alloc)?)?)?;
+    Ok(deployment(funcs))
+}
+
+#[test]
+fn names_the_first_line_that_is_not_carried_out(rt: HostRuntime) -> Result<(), Fail> {
+    let alloc = rt.alloc();
+    let mut funcs = Funcs::new(alloc);
+    funcs.push(func(alloc, write_and_return(alloc)?)?)?;
+    funcs.push(func(alloc, lock_in_a_loop(alloc)?)?)?;
+    funcs.push(func(alloc, abort_or_return(alloc)?)?)?;
+    assert!(rt; built(&deployment(funcs)) == Err(5));
+    let mut funcs = Funcs::new(alloc);
+    funcs.push(func(alloc, abort_or_return(alloc)?)?)?;
+    assert!(rt; built(&deployment(funcs)) == Err(8));
+    assert!(rt; built(&writing(alloc)?) == Ok(()));
+    Ok(())
+}
+
 fn opened(alloc: Global, table: MapTable, now: u32) -> Result<Host<MapTable>, Fail> {
-    match Host::open(alloc, write_and_return(alloc)?, table, u64::from(now)) {
+    match Host::open(alloc, writing(alloc)?, table, u64::from(now)) {
         Ok(host) => Ok(host),
         Err(_) => Err(Fail::new("not opened")),
     }

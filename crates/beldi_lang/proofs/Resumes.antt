@@ -1,96 +1,128 @@
--- A machine that took an answer stands where the answers so far have led.
-use Rattle.std.proofs.Common.{◌≡◌, ℕ, suc, zero, ◌+◌, ◌<◌, Bool, true, false, List, [], ◌∷◌, ◌++◌, drop, Option, Some, None, refl, ap, sym, ◌∙◌, subst, arith, IsTrue, Result, Ok, Err, append_assoc, add-one, length-append, if◌then◌else◌}
-use Rattle.std.specs.Prelude.{slice_get, nat_lt}
-use borrow.Author.Tests.{ltb-true}
+-- The machine stands where the answers so far have led.
+use Rattle.std.proofs.Common.{◌≡◌, ℕ, ◌+◌, ◌<◌, Bool, List, [], ◌∷◌, ◌++◌, length, Result, Ok, Err, refl, ap, sym, ◌∙◌, subst, arith, IsTrue, length-append}
+use Rattle.std.proofs.lemmas.List.{append-nil}
+use Rattle.std.specs.Prelude.{IfOk}
+use Rattle.std.specs.declared.alloc.AllocError.{AllocError}
 use Rattle.beldi_value.specs.declared.value.Value.{Value}
-use Rattle.beldi_value.specs.declared.outcome.Outcome.TheVariants as outcome
-use Rattle.beldi_value.specs.declared.outcome.Code.{Code}
-use Rattle.beldi_value.specs.declared.outcome.Code.TheVariants as code
-use Rattle.beldi_lang.specs.declared.effect.Effect.TheVariants as effect
+use Rattle.beldi_value.specs.declared.outcome.Outcome.{Outcome}
 use Rattle.beldi_lang.specs.declared.deployment.Deployment.{Deployment}
-use Rattle.beldi_lang.specs.declared.deployment.Func.{Func}
-use Rattle.beldi_lang.specs.declared.deployment.Stmt.{Stmt}
-use Rattle.beldi_lang.specs.declared.deployment.Expr.{Expr}
-use Rattle.beldi_lang.specs.declared.deployment.Form.{Form}
-use Rattle.beldi_lang.specs.declared.deployment.Form.TheVariants.{Read, Write, Return}
 use Rattle.beldi_lang.specs.declared.effect.Effect.{Effect}
+use Rattle.beldi_lang.specs.declared.effect.Effect.TheVariants as effect
 use Rattle.beldi_lang.specs.declared.effect.Answer.{Answer}
+use Rattle.beldi_lang.specs.declared.state.HeldLock.{HeldLock}
+use Rattle.beldi_lang.specs.declared.state.State.{State}
+use Rattle.beldi_lang.specs.declared.state.Frame.{Frame}
+use Rattle.beldi_lang.specs.declared.state.Start.TheVariants.{Afresh}
 use Rattle.beldi_lang.specs.declared.machine.Machine.{Machine}
-use Rattle.beldi_lang.specs.Evaluate.{value_at}
-use Rattle.beldi_lang.specs.Wants.{Bindings, Goes, table_number, counted, writes, returns, past_write, go_on, wants_answer, after_form, run_block, run_form, func_at, wants}
-use Rattle.beldi_lang.specs.Machine.{effect_of, effect_of_form, effect_at, next_step, after_stmt, resumed, IsAt}
+use Rattle.beldi_lang.specs.Wants.{Went, stops, leaves, func_at, first_state, outcome_of, releases, effect_of, wants, wants_answer}
+use Rattle.beldi_lang.specs.Machine.{begun, released, standing, led, next_step, gone_on, resumed, IsAt}
+use Rattle.beldi_lang.proofs.Goes.{on, on_body, body_on}
+use Rattle.beldi_lang.proofs.Spends.{few_answers as few, Spends, begun_body, spent_body}
 
-same_some : {X : Type 0} {x y : X} → Some x ≡ Some y → x ≡ y
-same_some h = cc
+-- a body that wants an answer has had few
+pub few_answers : (d : Deployment) (func : ℕ) (args : Value) (inherited : Bool) (answers : List Answer) → IsTrue (wants_answer (wants d func args inherited answers)) → length answers < 30000
+few_answers = few
 
-drop_at : (ss : List Stmt) (n : ℕ) (s : Stmt) → slice_get ss n ≡ Some s → drop n ss ≡ s ∷ drop (suc n) ss
-drop_at [] n s h = cc
-drop_at (t ∷ ts) zero s h = ap (λ u. u ∷ ts) (same_some h)
-drop_at (t ∷ ts) (suc n) s h = drop_at ts n s h
+-- a new machine stands after no answers
+pub at_begin : (d : Deployment) (func : ℕ) (args : Value) (inherited : Bool) → IsAt d func args inherited (begun d func args inherited) []
+at_begin d func args inherited = refl
 
-counted_few : (used : ℕ) (e : Effect) (b : Bool) → nat_lt used 10000 ≡ b → IsTrue (wants_answer (counted used e)) → used < 10000
-counted_few used e true h w = ltb-true used 10000 h
-counted_few used e false h w = let g = subst (λ c. IsTrue (wants_answer (if c then e else effect.Return (outcome.Fault code.Steps)))) h w in cc
+-- ---- the parts of a machine
 
--- the body may have one more effect, and goes on with the variables that the answer leaves
-record GoesOn (f : Func) (n : ℕ) (vs : Bindings) (o : Option Stmt) : Type 0 where
-  few : n < 10000
-  more : (a : Answer) (rest : List Answer) → run_block f.tables n (drop n f.body) vs (a ∷ rest) ≡ run_block f.tables (n + 1) (drop (suc n) f.body) (after_stmt o vs a) rest
+released_effect : (func n : ℕ) (o : Outcome) (s : State) (ls : List HeldLock) (rest : List Answer) → (released func n o s ls rest).effect ≡ releases o ls rest
+released_effect func n o s [] rest = refl
+released_effect func n o s (l ∷ ls) [] = refl
+released_effect func n o s (l ∷ ls) (a ∷ rest) = released_effect func n o s ls rest
 
-going : (f : Func) (n : ℕ) (vs : Bindings) (s : Stmt) → slice_get f.body n ≡ Some s → n < 10000
-    → ((a : Answer) (rest : List Answer) → go_on (run_block f.tables (n + 1) (drop (suc n) f.body)) (run_form f.tables n s.form vs (a ∷ rest)) ≡ run_block f.tables (n + 1) (drop (suc n) f.body) (after_form s.form vs a) rest)
-    → GoesOn f n vs (Some s)
-going f n vs s at few one = record { few = few; more = λ a rest. ap (λ ss. run_block f.tables n ss vs (a ∷ rest)) (drop_at f.body n s at) ∙ one a rest }
+released_steps : (func n : ℕ) (o : Outcome) (s : State) (ls : List HeldLock) (rest : List Answer) → (released func n o s ls rest).steps ≡ n
+released_steps func n o s [] rest = refl
+released_steps func n o s (l ∷ ls) [] = refl
+released_steps func n o s (l ∷ ls) (a ∷ rest) = released_steps func n o s ls rest
 
--- a write that wants an answer has a value, and goes on
-by_write : (f : Func) (n : ℕ) (vs : Bindings) (s : Stmt) (t k : List ℕ) (e : Expr) (r : Result Value Code) → value_at vs e ≡ r → IsTrue (wants_answer (writes n (table_number f.tables t) k r))
-    → (n < 10000 → ((a : Answer) (rest : List Answer) → run_form f.tables n (Write t k e) vs (a ∷ rest) ≡ Goes (after_form (Write t k e) vs a) rest) → GoesOn f n vs (Some s)) → GoesOn f n vs (Some s)
-by_write f n vs s t k e (Ok v) is w so = so (counted_few n _ (nat_lt n 10000) refl w) (λ a rest. ap (λ r. past_write r (after_form (Write t k e) vs a) rest) is)
-by_write f n vs s t k e (Err c) is w so = cc
+released_func : (func n : ℕ) (o : Outcome) (s : State) (ls : List HeldLock) (rest : List Answer) → (released func n o s ls rest).func ≡ func
+released_func func n o s [] rest = refl
+released_func func n o s (l ∷ ls) [] = refl
+released_func func n o s (l ∷ ls) (a ∷ rest) = released_func func n o s ls rest
 
-no_return : (r : Result Value Code) → IsTrue (wants_answer (returns r)) → ⊥
-no_return (Ok v) w = cc
-no_return (Err c) w = cc
+standing_effect : (func n : ℕ) (w : Went (List Frame)) → (standing func n w).effect ≡ effect_of w
+standing_effect func n (stops e at s) = refl
+standing_effect func n (leaves x s rest) = released_effect func n (outcome_of x) s s.held rest
 
-by_form : (f : Func) (n : ℕ) (vs : Bindings) (s : Stmt) (form : Form) → slice_get f.body n ≡ Some s → form ≡ s.form → IsTrue (wants_answer (effect_of_form f.tables n form vs)) → GoesOn f n vs (Some s)
-by_form f n vs s (Return e) at is w = absurd (no_return (value_at vs e) w)
-by_form f n vs s (Read x t k) at is w = going f n vs s at (counted_few n _ (nat_lt n 10000) refl w) (λ a rest. subst (λ g. go_on (run_block f.tables (n + 1) (drop (suc n) f.body)) (run_form f.tables n g vs (a ∷ rest)) ≡ run_block f.tables (n + 1) (drop (suc n) f.body) (after_form g vs a) rest) is refl)
-by_form f n vs s (Write t k e) at is w =
-    by_write f n vs s t k e (value_at vs e) refl w (λ few went. going f n vs s at few (λ a rest. subst (λ g. go_on (run_block f.tables (n + 1) (drop (suc n) f.body)) (run_form f.tables n g vs (a ∷ rest)) ≡ run_block f.tables (n + 1) (drop (suc n) f.body) (after_form g vs a) rest) is (ap (go_on (run_block f.tables (n + 1) (drop (suc n) f.body))) (went a rest))))
+standing_steps : (func n : ℕ) (w : Went (List Frame)) → (standing func n w).steps ≡ n
+standing_steps func n (stops e at s) = refl
+standing_steps func n (leaves x s rest) = released_steps func n (outcome_of x) s s.held rest
 
-by_stmt : (f : Func) (n : ℕ) (vs : Bindings) (o : Option Stmt) → slice_get f.body n ≡ o → IsTrue (wants_answer (effect_of f.tables n o vs)) → GoesOn f n vs o
-by_stmt f n vs None at w = cc
-by_stmt f n vs (Some s) at w = by_form f n vs s s.form at refl w
+standing_func : (func n : ℕ) (w : Went (List Frame)) → (standing func n w).func ≡ func
+standing_func func n (stops e at s) = refl
+standing_func func n (leaves x s rest) = released_func func n (outcome_of x) s s.held rest
 
-next_is : (n : ℕ) → n < 10000 → next_step n ≡ n + 1
+-- the machine wants what the body wants
+pub at_effect : (d : Deployment) (func : ℕ) (args : Value) (inherited : Bool) (m : Machine) (answers : List Answer) → IsAt d func args inherited m answers → (m.effect ≡ wants d func args inherited answers) × (m.steps ≡ length answers)
+at_effect d func args inherited m answers is = (
+  ap (λ (m : Machine). m.effect) is ∙ standing_effect func (length answers) (begun_body d func args inherited answers),
+  ap (λ (m : Machine). m.steps) is ∙ standing_steps func (length answers) (begun_body d func args inherited answers),
+)
+
+-- ---- one answer more
+
+same_held : (func n : ℕ) (o : Outcome) (s : State) (ks ls : List HeldLock) (rest : List Answer) → released func n o (record s { held = ks }) ls rest ≡ released func n o s ls rest
+same_held func n o s ks [] rest = refl
+same_held func n o s ks (l ∷ ls) [] = refl
+same_held func n o s ks (l ∷ ls) (a ∷ rest) = same_held func n o s ks ls rest
+
+-- a machine with another count of answers goes on with these
+abbrev goes : Deployment → ℕ → ℕ → Machine → Answer → List Answer → Machine
+goes d func n m a more = gone_on d func n m.effect m.state m.stage a more
+
+releases_on : (d : Deployment) (func n k : ℕ) (o : Outcome) (s : State) (ls : List HeldLock) (rest : List Answer) (a : Answer) (more : List Answer) → goes d func k (released func n o s ls rest) a more ≡ released func k o s ls (rest ++ a ∷ more)
+releases_on d func n k o s [] rest a more = refl
+releases_on d func n k o s (l ∷ ls) [] a more = same_held func k o s ls ls more
+releases_on d func n k o s (l ∷ ls) (b ∷ rest) a more = releases_on d func n k o s ls rest a more
+
+stands_on : (d : Deployment) (func n k : ℕ) (w : Went (List Frame)) (a : Answer) (more : List Answer) → goes d func k (standing func n w) a more ≡ standing func k (on (on_body d (func_at d func) a more) a more w)
+stands_on d func n k (stops e at s) a more = refl
+stands_on d func n k (leaves x s rest) a more = releases_on d func n k (outcome_of x) s s.held rest a more
+
+next_is : (n : ℕ) → n < 30000 → next_step n ≡ n + 1
 next_is n h = omega arith
 
-goes_on : (d : Deployment) (func : ℕ) (args : Value) (m : Machine) (before : List Answer) (f : Func) (a : Answer) → IsTrue (wants_answer m.effect) → func_at d func ≡ Some f → IsAt d func args m before → IsAt d func args (resumed f m a) (before ++ a ∷ [])
-goes_on d func args m before f a w is h =
-    let same : h.body ≡ f = same_some (sym h.is_body ∙ is) in
-    let e : m.effect ≡ effect_at f m.steps m.variables = h.effect ∙ ap (λ g. effect_at g m.steps m.variables) same in
-    let o = slice_get f.body m.steps in
-    let vs = after_stmt o m.variables a in
-    let step = by_stmt f m.steps m.variables o refl (subst (λ x. IsTrue (wants_answer x)) e w) in
-    let next = next_is m.steps step.few in
-    record {
-      this_func = h.this_func;
-      body = f;
-      is_body = is;
-      steps = next ∙ ap (λ n. n + 1) h.steps ∙ sym (length-append before (a ∷ []));
-      effect = refl;
-      rest = λ more.
-          ap (wants d func args) (append_assoc before (a ∷ []) more) ∙ h.rest (a ∷ more)
-          ∙ ap (λ g. run_block g.tables m.steps (drop m.steps g.body) m.variables (a ∷ more)) same
-          ∙ step.more a more
-          ∙ ap (λ n. run_block f.tables (m.steps + 1) (drop n f.body) vs more) (sym (add-one m.steps))
-          ∙ ap (λ n. run_block f.tables n (drop n f.body) vs more) (sym next);
-    }
+led_on : (d : Deployment) (func : ℕ) (args : Value) (inherited : Bool) (answers : List Answer) (a : Answer) → length answers < 30000 → resumed d (led d func args inherited answers) a ≡ led d func args inherited (answers ++ a ∷ [])
+led_on d func args inherited answers a few =
+    let w = begun_body d func args inherited answers in
+    let m = standing func (length answers) w in
+    let count : next_step m.steps ≡ length (answers ++ a ∷ []) = ap next_step (standing_steps func (length answers) w) ∙ next_is (length answers) few ∙ sym (length-append answers (a ∷ [])) in
+    ap (λ (f : ℕ). goes d f (next_step m.steps) m a []) (standing_func func (length answers) w)
+    ∙ ap (λ (k : ℕ). goes d func k m a []) count
+    ∙ stands_on d func (length answers) (length (answers ++ a ∷ [])) w a []
+    ∙ ap (standing func (length (answers ++ a ∷ []))) (sym (body_on d (func_at d func) a [] Afresh (first_state (func_at d func) args inherited) answers))
 
--- the same of a machine made of its parts
-pub resumes : (d : Deployment) (func : ℕ) (args : Value) (m : Machine) (before : List Answer) (f : Func) (a : Answer) (n : ℕ) (vs : Bindings) (e : Effect)
-    → n ≡ next_step m.steps → vs ≡ after_stmt (slice_get f.body m.steps) m.variables a → e ≡ effect_at f n vs
-    → IsTrue (wants_answer m.effect) → func_at d func ≡ Some f → IsAt d func args m before → IsAt d func args (record { func = m.func; variables = vs; steps = n; effect = e }) (before ++ a ∷ [])
-resumes d func args m before f a n vs e p q r w is h =
-    let whole : record { func = m.func; variables = vs; steps = n; effect = e } ≡ resumed f m a = λ i. record { func = m.func; variables = q i; steps = p i; effect = (r ∙ ap (λ k. effect_at f k vs) p ∙ ap (effect_at f (next_step m.steps)) q) i } in
-    subst (λ (x : Machine). IsAt d func args x (before ++ a ∷ [])) (sym whole) (goes_on d func args m before f a w is h)
+-- with an answer the machine stands one answer further
+pub at_next : (d : Deployment) (func : ℕ) (args : Value) (inherited : Bool) (m : Machine) (answers : List Answer) (a : Answer) → IsTrue (wants_answer m.effect) → IsAt d func args inherited m answers → IsAt d func args inherited (resumed d m a) (answers ++ a ∷ [])
+at_next d func args inherited m answers a w is =
+    ap (λ (m : Machine). resumed d m a) is
+    ∙ led_on d func args inherited answers a (few_answers d func args inherited answers (subst (λ (e : Effect). IsTrue (wants_answer e)) (at_effect d func args inherited m answers is).0 w))
+
+pub stands_next : (d : Deployment) (m : Machine) (a : Answer) (r : Result Machine AllocError) → IfOk r (λ n. n ≡ resumed d m a) → IfOk r (λ n. (args : Value) (inherited : Bool) (before : List Answer) → IsTrue (wants_answer m.effect) → IsAt d m.func args inherited m before → IsAt d m.func args inherited n (before ++ a ∷ []))
+stands_next d m a (Ok n) is = λ args inherited before w at. is ∙ at_next d m.func args inherited m before a w at
+stands_next d m a (Err e) is = tt
+
+-- ---- after the return
+
+releases_stay : (o p : Outcome) (ls : List HeldLock) (rest more : List Answer) → releases o ls rest ≡ effect.Return p → releases o ls (rest ++ more) ≡ effect.Return p
+releases_stay o p [] rest more is = is
+releases_stay o p (l ∷ ls) [] more is = cc
+releases_stay o p (l ∷ ls) (a ∷ rest) more is = releases_stay o p ls rest more is
+
+no_return : (e : Effect) (o : Outcome) → IsTrue (wants_answer e) → e ≡ effect.Return o → ⊥
+no_return e o w is = let f = subst (λ (e : Effect). IsTrue (wants_answer e)) is w in cc
+
+stays : (d : Deployment) (func n : ℕ) (w : Went (List Frame)) (o : Outcome) (a : Answer) (more : List Answer) → Spends n 0 0 w → effect_of w ≡ effect.Return o → effect_of (on (on_body d (func_at d func) a more) a more w) ≡ effect.Return o
+stays d func n (stops e at s) o a more h is = absurd (no_return e o h.0 is)
+stays d func n (leaves x s rest) o a more h is = releases_stay (outcome_of x) o s.held rest (a ∷ more) is
+
+-- what a body returns stays, whatever answers follow
+pub returns_stay : (d : Deployment) (func : ℕ) (args : Value) (inherited : Bool) (o : Outcome) (before more : List Answer) → wants d func args inherited before ≡ effect.Return o → wants d func args inherited (before ++ more) ≡ effect.Return o
+returns_stay d func args inherited o before [] is = ap (wants d func args inherited) (append-nil before) ∙ is
+returns_stay d func args inherited o before (a ∷ more) is =
+    ap effect_of (body_on d (func_at d func) a more Afresh (first_state (func_at d func) args inherited) before)
+    ∙ stays d func (length before) (begun_body d func args inherited before) o a more (spent_body d func args inherited before) is

@@ -1,39 +1,32 @@
 -- The value of an expression, or its fault. The parts are evaluated left to right, and the first fault ends the evaluation.
 use Rattle.std.specs.Prelude.{◌≡◌, ℕ, ◌^◌, nat_lt, nat_le, ℤ, pos, neg_ℤ, ◌+ℤ◌, ◌-ℤ◌, ◌*ℤ◌, int_div, int_rem, Bool, true, false, not, List, [], ◌∷◌, ◌++◌, length, Option, Some, None, option_map, Result, Ok, Err, if◌then◌else◌}
 use Rattle.std.specs.FinMap as map
-use Rattle.std.specs.FinMap.{FinMap}
-use Rattle.std.specs.Ordering.{nat_cmp, int_cmp, int_eq, is_lt, is_gt}
-use Rattle.std.specs.Cmp.Lexicographic.{slice_cmp}
+use Rattle.std.specs.Ordering.{int_eq}
 use Rattle.std.specs.declared.cmp.Ordering.{Ordering}
 use lib.Signed.{mag}
 use Rattle.beldi_value.specs.declared.value.Value.{Value}
 use Rattle.beldi_value.specs.declared.value.Value.TheVariants.{Null, Bool as Truth, Int, Text, List as ListOf, Rec}
 use Rattle.beldi_value.specs.declared.outcome.Code.{Code}
 use Rattle.beldi_value.specs.declared.outcome.Code.TheVariants.{WrongType, Overflow, DivideByZero, ValueTooLarge}
+use Rattle.beldi_value.specs.declared.rel.Rel.{Rel}
+use Rattle.beldi_value.specs.declared.rel.Rel.TheVariants.{Eq, Ne, Lt, Le, Gt, Ge}
 use Rattle.beldi_value.specs.Datum.{Datum}
 use Rattle.beldi_value.specs.Value.{datum_of}
 use Rattle.beldi_value.specs.Injective.{value_of}
 use Rattle.beldi_value.specs.Json.{text_of}
 use Rattle.beldi_value.specs.Limits.{is_within}
 use Rattle.beldi_value.specs.Parts.{field_at, set_field, item_at}
+use Rattle.beldi_value.specs.Passes.{meets, order_of}
 use Rattle.beldi_value.specs.Same.{same_value}
 use Rattle.beldi_lang.specs.declared.fault.EvalErr.{EvalErr}
 use Rattle.beldi_lang.specs.declared.fault.EvalErr.TheVariants.{OutOfMemory, Fault}
 use Rattle.beldi_lang.specs.declared.deployment.Op.{Op}
-use Rattle.beldi_lang.specs.declared.deployment.Op.TheVariants.{Eq, Ne, Lt, Le, Gt, Ge, Add, Sub, Join, Mul, Div, Rem}
+use Rattle.beldi_lang.specs.declared.deployment.Op.TheVariants.{Add, Sub, Join, Mul, Div, Rem}
 use Rattle.beldi_lang.specs.declared.deployment.Expr.{Expr}
 use Rattle.beldi_lang.specs.Term as term
 use Rattle.beldi_lang.specs.Term.{Term, Terms, Members}
 use Rattle.beldi_lang.specs.Expr.{term_of}
-
--- names with their values
-abbrev pub Bindings : Type 0
-Bindings = FinMap (slice_cmp nat_cmp) Value
-
--- a variable that was not set is null, and so is a field or an element that is not there
-abbrev pub or_null : Option Value → Value
-or_null None = Null
-or_null (Some v) = v
+pub use Rattle.beldi_lang.specs.Bindings.{Bindings, or_null}
 
 infixl 10 ◌>>=◌
 abbrev pub and_then : {A B : Type 0} → Result A Code → (A → Result B Code) → Result B Code
@@ -100,24 +93,21 @@ joined x y = do
   t ← text y
   Ok (Text (s ++ t))
 
--- two numbers, or two texts by their bytes
-abbrev pub order : Value → Value → Result Ordering Code
-order (Int m) (Int n) = Ok (int_cmp m n)
-order (Text s) (Text t) = Ok (slice_cmp nat_cmp s t)
-order x y = Err WrongType
+-- the order is one that the relation asks for
+abbrev pub ordered : Rel → Option Ordering → Result Value Code
+ordered r None = Err WrongType
+ordered r (Some o) = Ok (Truth (meets r o))
 
-abbrev pub ordered : (Ordering → Bool) → Value → Value → Result Value Code
-ordered test x y = do
-  o ← order x y
-  Ok (Truth (test o))
+-- any two values are equal or not; two numbers or two texts have an order
+abbrev pub compared : Rel → Value → Value → Result Value Code
+compared Eq x y = Ok (Truth (same_value x y))
+compared Ne x y = Ok (Truth (not (same_value x y)))
+compared Lt x y = ordered Lt (order_of x y)
+compared Le x y = ordered Le (order_of x y)
+compared Gt x y = ordered Gt (order_of x y)
+compared Ge x y = ordered Ge (order_of x y)
 
 abbrev pub operate : Op → Value → Value → Result Value Code
-operate Eq x y = Ok (Truth (same_value x y))
-operate Ne x y = Ok (Truth (not (same_value x y)))
-operate Lt x y = ordered is_lt x y
-operate Le x y = ordered (λ o. not (is_gt o)) x y
-operate Gt x y = ordered is_gt x y
-operate Ge x y = ordered (λ o. not (is_lt o)) x y
 operate Add x y = ints (λ m n. whole (m +ℤ n)) x y
 operate Sub x y = ints (λ m n. whole (m -ℤ n)) x y
 operate Join x y = joined x y
@@ -211,6 +201,7 @@ abbrev mutual
   plain_value vs (term.and t u) = both (plain_value vs t >>= limited) (plain_value vs u >>= limited)
   plain_value vs (term.not t) = plain_value vs t >>= limited >>= opposite
   plain_value vs (term.negate t) = plain_value vs t >>= limited >>= negated
+  plain_value vs (term.compare r t u) = on_two (compared r) (plain_value vs t >>= limited) (plain_value vs u >>= limited)
   plain_value vs (term.binary o t u) = on_two (operate o) (plain_value vs t >>= limited) (plain_value vs u >>= limited)
   plain_value vs (term.field t key) = plain_value vs t >>= limited >>= field_of key
   plain_value vs (term.element t u) = on_two element_of (plain_value vs t >>= limited) (plain_value vs u >>= limited)

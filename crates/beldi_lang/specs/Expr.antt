@@ -1,8 +1,10 @@
 -- The expression that an `Expr` stands for.
-use Rattle.std.specs.Prelude.{ℕ, List, map}
+use Rattle.std.specs.Prelude.{ℕ, List, [], ◌∷◌, map}
 use Rattle.beldi_lang.specs.declared.deployment.Expr.{Expr}
 use Rattle.beldi_lang.specs.declared.deployment.Expr.TheVariants as expr
-use Rattle.beldi_lang.specs.Term.{Term, int, text, boolean, null, name, or, and, not, negate, binary, field, element, list, fields, len, text_of, push, with, items_of, members_of}
+use Rattle.beldi_lang.specs.declared.deployment.Step.{Step}
+use Rattle.beldi_lang.specs.declared.deployment.Step.TheVariants as step
+use Rattle.beldi_lang.specs.Term.{Term, int, text, boolean, null, name, or, and, not, negate, compare, binary, field, element, list, fields, len, text_of, push, with, items_of, members_of}
 
 abbrev pub term_of : Expr → Term
 term_of (expr.Int z) = int z
@@ -10,19 +12,29 @@ term_of (expr.Text s) = text s
 term_of (expr.Bool b) = boolean b
 term_of expr.Null = null
 term_of (expr.Name s) = name s
-term_of (expr.Or t u) = or t u
-term_of (expr.And t u) = and t u
-term_of (expr.Not t) = not t
-term_of (expr.Negate t) = negate t
-term_of (expr.Binary o t u) = binary o t u
-term_of (expr.Field t s) = field t s
-term_of (expr.Element t u) = element t u
 term_of (expr.List ts) = list (items_of ts)
 term_of (expr.Record ms) = fields (members_of ms)
-term_of (expr.Len t) = len t
-term_of (expr.TextOf t) = text_of t
-term_of (expr.Push t u) = push t u
-term_of (expr.With t u v) = with t u v
+term_of (expr.Chain t) = t
+
+-- an expression with one step after it
+abbrev pub applied : Term → Step → Term
+applied t (step.Or e) = or t (term_of e)
+applied t (step.And e) = and t (term_of e)
+applied t step.Not = not t
+applied t step.Negate = negate t
+applied t (step.Compare r e) = compare r t (term_of e)
+applied t (step.Binary o e) = binary o t (term_of e)
+applied t (step.Field s) = field t s
+applied t (step.Element e) = element t (term_of e)
+applied t step.Len = len t
+applied t step.TextOf = text_of t
+applied t (step.Push e) = push t (term_of e)
+applied t (step.With e f) = with t (term_of e) (term_of f)
+
+-- an expression with these steps after it
+abbrev pub chained : Term → List Step → Term
+chained t [] = t
+chained t (s ∷ ss) = chained (applied t s) ss
 
 abbrev pub items_view : List Expr → List Term
 items_view es = map term_of es

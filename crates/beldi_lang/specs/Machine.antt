@@ -1,64 +1,56 @@
--- The machine: it keeps the variables and the place in the body, and takes one answer at a time.
-use Rattle.std.specs.Prelude.{◌≡◌, ℕ, ◌+◌, ◌-◌, ◌^◌, min, List, ◌++◌, length, drop, slice_get, Option, Some, None}
+-- The machine: it keeps the state and the place of a body, and takes one answer at a time.
+use Rattle.std.specs.Prelude.{◌≡◌, ℕ, ◌+◌, ◌-◌, ◌^◌, min, Bool, List, [], ◌∷◌, length}
 use Rattle.beldi_value.specs.declared.value.Value.{Value}
-use Rattle.beldi_value.specs.declared.value.Value.TheVariants.{Null}
-use Rattle.beldi_value.specs.declared.outcome.Outcome.TheVariants as outcome
+use Rattle.beldi_value.specs.declared.outcome.Outcome.{Outcome}
 use Rattle.beldi_lang.specs.declared.deployment.Deployment.{Deployment}
-use Rattle.beldi_lang.specs.declared.deployment.Func.{Func}
-use Rattle.beldi_lang.specs.declared.deployment.TableHead.{TableHead}
-use Rattle.beldi_lang.specs.declared.deployment.Stmt.{Stmt}
-use Rattle.beldi_lang.specs.declared.deployment.Form.{Form}
-use Rattle.beldi_lang.specs.declared.deployment.Form.TheVariants.{Read, Write, Return}
 use Rattle.beldi_lang.specs.declared.effect.Effect.{Effect}
 use Rattle.beldi_lang.specs.declared.effect.Effect.TheVariants as effect
 use Rattle.beldi_lang.specs.declared.effect.Answer.{Answer}
+use Rattle.beldi_lang.specs.declared.state.HeldLock.{HeldLock}
+use Rattle.beldi_lang.specs.declared.state.State.{State}
+use Rattle.beldi_lang.specs.declared.state.Frame.{Frame}
+use Rattle.beldi_lang.specs.declared.state.Start.TheVariants.{Afresh, From}
+use Rattle.beldi_lang.specs.declared.machine.Stage.{Stage}
+use Rattle.beldi_lang.specs.declared.machine.Stage.TheVariants.{Running, Releasing, Returned}
 use Rattle.beldi_lang.specs.declared.machine.Machine.{Machine}
-use Rattle.beldi_lang.specs.Evaluate.{value_at}
-use Rattle.beldi_lang.specs.Wants.{Bindings, table_number, counted, writes, returns, first_variables, set_by, set_to, run_block, func_at, wants}
+use Rattle.beldi_lang.specs.Wants.{Went, stops, leaves, outcome_of, func_at, first_state, run_body}
 
-abbrev pub effect_of_form : List TableHead → ℕ → Form → Bindings → Effect
-effect_of_form ts used (Read n t k) vs = counted used (effect.Read (table_number ts t) k)
-effect_of_form ts used (Write t k e) vs = writes used (table_number ts t) k (value_at vs e)
-effect_of_form ts used (Return e) vs = returns (value_at vs e)
+abbrev pub machine : ℕ → ℕ → Effect → State → Stage → Machine
+machine func steps e s stage = record { func = func; steps = steps; effect = e; state = s; stage = stage }
 
-abbrev pub effect_of : List TableHead → ℕ → Option Stmt → Bindings → Effect
-effect_of ts used None vs = effect.Return (outcome.Value Null)
-effect_of ts used (Some s) vs = effect_of_form ts used s.form vs
+-- before the return each lock is released, in the order of locking
+abbrev pub released : ℕ → ℕ → Outcome → State → List HeldLock → List Answer → Machine
+released func n o s [] rest = machine func n (effect.Return o) (record s { held = [] }) Returned
+released func n o s (l ∷ ls) [] = machine func n (effect.Unlock l.table l.key) (record s { held = ls }) (Releasing o)
+released func n o s (l ∷ ls) (a ∷ rest) = released func n o s ls rest
 
--- the effect of the statement of this number, from 0
-abbrev pub effect_at : Func → ℕ → Bindings → Effect
-effect_at f n vs = effect_of f.tables n (slice_get f.body n) vs
+-- the machine of what the body leads to
+abbrev pub standing : ℕ → ℕ → Went (List Frame) → Machine
+standing func n (stops e at s) = machine func n e s (Running at)
+standing func n (leaves x s rest) = released func n (outcome_of x) s s.held rest
+
+-- the machine after these answers
+abbrev pub led : Deployment → ℕ → Value → Bool → List Answer → Machine
+led d func args inherited answers = standing func (length answers) (run_body d (func_at d func) Afresh (first_state (func_at d func) args inherited) answers)
 
 -- a machine at its first effect
-abbrev pub begun : ℕ → Func → Value → Machine
-begun func f args = record { func = func; variables = first_variables f args; steps = 0; effect = effect_at f 0 (first_variables f args) }
+abbrev pub begun : Deployment → ℕ → Value → Bool → Machine
+begun d func args inherited = led d func args inherited []
 
 -- a count that stands still at its type's end
 abbrev pub next_step : ℕ → ℕ
 next_step n = min (n + 1) (2 ^ 32 - 1)
 
--- the name that a statement sets to its answer
-abbrev pub name_of : Option Stmt → Option (List ℕ)
-name_of None = None
-name_of (Some s) = set_by s.form
-
--- the variables after the statement that the machine stands at had its answer
-abbrev pub after_stmt : Option Stmt → Bindings → Answer → Bindings
-after_stmt o vs a = set_to vs (name_of o) a
-
-abbrev pub standing_at : Func → Machine → ℕ → Bindings → Machine
-standing_at f m n vs = record m { steps = n; variables = vs; effect = effect_at f n vs }
+-- the machine that goes on from this stage, and then has these answers
+abbrev pub gone_on : Deployment → ℕ → ℕ → Effect → State → Stage → Answer → List Answer → Machine
+gone_on d func n e s (Running at) a rest = standing func n (run_body d (func_at d func) (From at a) s rest)
+gone_on d func n e s (Releasing o) a rest = released func n o s s.held rest
+gone_on d func n e s Returned a rest = machine func n e s Returned
 
 -- the machine after an answer
-abbrev pub resumed : Func → Machine → Answer → Machine
-resumed f m a = standing_at f m (next_step m.steps) (after_stmt (slice_get f.body m.steps) m.variables a)
+abbrev pub resumed : Deployment → Machine → Answer → Machine
+resumed d m a = gone_on d m.func (next_step m.steps) m.effect m.state m.stage a []
 
--- the machine runs this function's body with these arguments, and stands where these answers have led:
--- whatever answers come, what is left of it wants what the body wants
-pub record IsAt (d : Deployment) (func : ℕ) (args : Value) (m : Machine) (answers : List Answer) : Type 0 where
-  pub this_func : m.func ≡ func
-  pub body : Func
-  pub is_body : func_at d func ≡ Some body
-  pub steps : m.steps ≡ length answers
-  pub effect : m.effect ≡ effect_at body m.steps m.variables
-  pub rest : (more : List Answer) → wants d func args (answers ++ more) ≡ run_block body.tables m.steps (drop m.steps body.body) m.variables more
+-- the machine runs this function's body with these arguments, and stands where these answers have led
+abbrev pub IsAt : Deployment → ℕ → Value → Bool → Machine → List Answer → Type 0
+IsAt d func args inherited m answers = m ≡ led d func args inherited answers

@@ -3,7 +3,9 @@ use Rattle.std.specs.Prelude.{◌≡◌, ℕ, ◌+◌, ◌==◌, ℤ, pos, Bool,
 use Rattle.std.proofs.Common.{ap, ◌∙◌, append_assoc}
 use Rattle.std.specs.Coded.{Coded, code_by, coded×, coded_ℕ, coded_ℤ, coded_bool, coded_list}
 use Rattle.beldi_lang.specs.declared.deployment.Op.{Op}
-use Rattle.beldi_lang.specs.declared.deployment.Op.TheVariants.{Eq, Ne, Lt, Le, Gt, Ge, Add, Sub, Join, Mul, Div, Rem}
+use Rattle.beldi_lang.specs.declared.deployment.Op.TheVariants.{Add, Sub, Join, Mul, Div, Rem}
+use Rattle.beldi_value.specs.declared.rel.Rel.{Rel}
+use Rattle.beldi_value.specs.declared.rel.Rel.TheVariants.{Eq, Ne, Lt, Le, Gt, Ge}
 
 mutual
   pub data Term : Type 0 where
@@ -16,6 +18,7 @@ mutual
     and : Term → Term → Term
     not : Term → Term
     negate : Term → Term
+    compare : Rel → Term → Term → Term
     binary : Op → Term → Term → Term
     field : Term → List ℕ → Term
     element : Term → Term → Term
@@ -55,6 +58,7 @@ abbrev mutual
   term_size (and t u) = term_size t + term_size u + 2
   term_size (not t) = term_size t + 2
   term_size (negate t) = term_size t + 2
+  term_size (compare r t u) = term_size t + term_size u + 2
   term_size (binary o t u) = term_size t + term_size u + 2
   term_size (field t s) = term_size t + 2
   term_size (element t u) = term_size t + term_size u + 2
@@ -91,38 +95,46 @@ abbrev pub word : ℕ → List ℕ → Row
 word n s = (n, (0, (false, (pos 0, s))))
 
 abbrev pub op_number : Op → ℕ
-op_number Eq = 0
-op_number Ne = 1
-op_number Lt = 2
-op_number Le = 3
-op_number Gt = 4
-op_number Ge = 5
-op_number Add = 6
-op_number Sub = 7
-op_number Join = 8
-op_number Mul = 9
-op_number Div = 10
-op_number Rem = 11
+op_number Add = 0
+op_number Sub = 1
+op_number Join = 2
+op_number Mul = 3
+op_number Div = 4
+op_number Rem = 5
 
 abbrev pub op_of : ℕ → Op
 op_of n =
-    if n == 0 then Eq else if n == 1 then Ne else if n == 2 then Lt else if n == 3 then Le else
-    if n == 4 then Gt else if n == 5 then Ge else if n == 6 then Add else if n == 7 then Sub else
-    if n == 8 then Join else if n == 9 then Mul else if n == 10 then Div else Rem
+    if n == 0 then Add else if n == 1 then Sub else if n == 2 then Join else if n == 3 then Mul else
+    if n == 4 then Div else Rem
 
 op_back : (o : Op) → op_of (op_number o) ≡ o
-op_back Eq = refl
-op_back Ne = refl
-op_back Lt = refl
-op_back Le = refl
-op_back Gt = refl
-op_back Ge = refl
 op_back Add = refl
 op_back Sub = refl
 op_back Join = refl
 op_back Mul = refl
 op_back Div = refl
 op_back Rem = refl
+
+abbrev pub rel_number : Rel → ℕ
+rel_number Eq = 0
+rel_number Ne = 1
+rel_number Lt = 2
+rel_number Le = 3
+rel_number Gt = 4
+rel_number Ge = 5
+
+abbrev pub rel_of : ℕ → Rel
+rel_of n =
+    if n == 0 then Eq else if n == 1 then Ne else if n == 2 then Lt else if n == 3 then Le else
+    if n == 4 then Gt else Ge
+
+pub rel_back : (r : Rel) → rel_of (rel_number r) ≡ r
+rel_back Eq = refl
+rel_back Ne = refl
+rel_back Lt = refl
+rel_back Le = refl
+rel_back Gt = refl
+rel_back Ge = refl
 
 pub data Part : Type 0 where
   one : Term → Part
@@ -140,6 +152,7 @@ abbrev mutual
   write (or t u) = sign 20 ∷ (write t ++ write u)
   write (and t u) = sign 21 ∷ (write t ++ write u)
   write (negate t) = sign 6 ∷ write t
+  write (compare r t u) = (22, (rel_number r, (false, (pos 0, [])))) ∷ (write t ++ write u)
   write (binary o t u) = (7, (op_number o, (false, (pos 0, [])))) ∷ (write t ++ write u)
   write (field t s) = word 8 s ∷ write t
   write (element t u) = sign 9 ∷ (write t ++ write u)
@@ -209,7 +222,8 @@ step r ps =
     if r.0 == 18 then pairs no_members ∷ ps else
     if r.0 == 19 then to_member r.1.1.1.1 ps else
     if r.0 == 20 then on_two or ps else
-    on_two and ps
+    if r.0 == 21 then on_two and ps else
+    on_two (compare (rel_of r.1.0)) ps
 
 abbrev pub read : List Row → List Part
 read [] = []
@@ -234,6 +248,7 @@ mutual
   back (and t u) rs = ap (on_two and) (two t u rs (back t (write u ++ rs)) (back u rs))
   back (not t) rs = ap (on_one not) (back t rs)
   back (negate t) rs = ap (on_one negate) (back t rs)
+  back (compare r t u) rs = ap (on_two (compare (rel_of (rel_number r)))) (two t u rs (back t (write u ++ rs)) (back u rs)) ∙ ap (λ p. one (compare p t u) ∷ read rs) (rel_back r)
   back (binary o t u) rs = ap (on_two (binary (op_of (op_number o)))) (two t u rs (back t (write u ++ rs)) (back u rs)) ∙ ap (λ p. one (binary p t u) ∷ read rs) (op_back o)
   back (field t s) rs = ap (on_one (λ v. field v s)) (back t rs)
   back (element t u) rs = ap (on_two element) (two t u rs (back t (write u ++ rs)) (back u rs))

@@ -1,33 +1,37 @@
--- What a body wants: by recursion on its statements, from the first one each time. A statement takes the variables and
--- the answers that remain, and gives either the effect that lacks an answer or what remains. A fault of an expression ends
--- the body.
-use Rattle.std.specs.Prelude.{ℕ, zero, suc, ◌+◌, ◌-◌, ◌^◌, ◌==◌, min, nat_lt, Bool, true, false, List, [], ◌∷◌, Option, Some, None, slice_get, Result, Ok, Err, if◌then◌else◌}
+-- What a body wants: by recursion on its statements, from the first one each time. A statement takes what the body has (its
+-- state) and the answers that remain. It stops at an effect that lacks an answer, or leaves: at its end, by a break, or by
+-- what ends the body (a return, a fault or an abort), with the state and the answers that remain. Where it stops it also says
+-- the place, so that it can go on from there once the answer comes.
+use Rattle.std.specs.Prelude.{ℕ, zero, suc, ◌+◌, ◌-◌, ◌^◌, ◌++◌, min, nat_lt, Bool, true, false, not, List, [], ◌∷◌, Option, Some, None, slice_get, Result, Ok, Err, if◌then◌else◌}
 use Rattle.std.specs.FinMap as map
-use lib.Pointwise.{pointwise}
 use Rattle.beldi_value.specs.declared.value.Value.{Value}
 use Rattle.beldi_value.specs.declared.value.Value.TheVariants.{Null}
+use Rattle.beldi_value.specs.declared.outcome.Outcome.{Outcome}
 use Rattle.beldi_value.specs.declared.outcome.Outcome.TheVariants as outcome
 use Rattle.beldi_value.specs.declared.outcome.Code.{Code}
 use Rattle.beldi_value.specs.declared.outcome.Code.TheVariants as code
 use Rattle.beldi_lang.specs.declared.deployment.Deployment.{Deployment}
 use Rattle.beldi_lang.specs.declared.deployment.Func.{Func}
 use Rattle.beldi_lang.specs.declared.deployment.TableHead.{TableHead}
-use Rattle.beldi_lang.specs.declared.deployment.Stmt.{Stmt}
-use Rattle.beldi_lang.specs.declared.deployment.Form.{Form}
-use Rattle.beldi_lang.specs.declared.deployment.Form.TheVariants.{Read, Write, Return}
 use Rattle.beldi_lang.specs.declared.effect.Effect.{Effect}
 use Rattle.beldi_lang.specs.declared.effect.Effect.TheVariants as effect
 use Rattle.beldi_lang.specs.declared.effect.Answer.{Answer}
 use Rattle.beldi_lang.specs.declared.effect.Answer.TheVariants as answer
-pub use Rattle.beldi_lang.specs.Evaluate.{Bindings, or_null}
-use Rattle.beldi_lang.specs.Evaluate.{value_at}
-
--- two names are one
-abbrev pub is_name : List ℕ → List ℕ → Bool
-is_name a b = pointwise ◌==◌ a b
-
-abbrev pub no_variables : Bindings
-no_variables = map.empty
+use Rattle.beldi_lang.specs.declared.state.HeldLock.{HeldLock}
+use Rattle.beldi_lang.specs.declared.state.State.{State}
+use Rattle.beldi_lang.specs.declared.state.Exit.{Exit}
+use Rattle.beldi_lang.specs.declared.state.Exit.TheVariants.{Goes, Breaks, Ends}
+use Rattle.beldi_lang.specs.declared.state.Part.{Part}
+use Rattle.beldi_lang.specs.declared.state.Part.TheVariants.{First, Second, Turn, Inside}
+use Rattle.beldi_lang.specs.declared.state.Frame.{Frame}
+use Rattle.beldi_lang.specs.declared.state.Frame.TheVariants.{In, Ending}
+use Rattle.beldi_lang.specs.declared.state.Start.{Start}
+use Rattle.beldi_lang.specs.declared.state.Start.TheVariants.{Afresh, From}
+use Rattle.beldi_lang.specs.Term.{Term}
+use Rattle.beldi_lang.specs.Command.{Command, Commands, no_commands, command, set, read, write, condwrite, call, async, lock, unlock, transaction, abort, break, choose, repeat, return, commands_of}
+pub use Rattle.beldi_lang.specs.Bindings.{Bindings, no_variables, is_name, or_null}
+use Rattle.beldi_lang.specs.Locks.{is_held, is_none_held, without}
+use Rattle.beldi_lang.specs.Evaluate.{◌>>=◌, truth, key_of, term_value}
 
 -- the number of the table of this name, from 0
 abbrev pub table_of : List TableHead → List ℕ → ℕ
@@ -38,88 +42,329 @@ table_of (t ∷ ts) n = if is_name t.name n then 0 else table_of ts n + 1
 abbrev pub table_number : List TableHead → List ℕ → ℕ
 table_number ts n = min (table_of ts n) (2 ^ 16 - 1)
 
--- a body may have so many effects that are answered
+-- the number of the function of this name, from 0
+abbrev pub func_of : List Func → List ℕ → ℕ
+func_of [] n = 0
+func_of (f ∷ fs) n = if is_name f.name n then 0 else func_of fs n + 1
+
+-- the number as an effect has it, from 1
+abbrev pub func_number : List Func → List ℕ → ℕ
+func_number fs n = min (func_of fs n + 1) (2 ^ 16 - 1)
+
+-- ---- what a statement leads to
+
+-- it stops at an effect that lacks an answer, at this place, and has this state once the answer is there; or it leaves
+pub data Went (P : Type 0) : Type 0 where
+  stops : Effect → P → State → Went P
+  leaves : Exit → State → List Answer → Went P
+
+-- in a statement, the place is that in one of its blocks
+abbrev pub within : Part → Went (ℕ × List Frame) → Went (List Frame)
+within p (stops e at s) = stops e (In p at.0 ∷ at.1) s
+within p (leaves x s rest) = leaves x s rest
+
+-- what the first statement of a block leads to
+abbrev pub at_first : Went (List Frame) → Went (ℕ × List Frame)
+at_first (stops e at s) = stops e (0, at) s
+at_first (leaves x s rest) = leaves x s rest
+
+-- what the statements after the first one of a block lead to
+abbrev pub shifted : Went (ℕ × List Frame) → Went (ℕ × List Frame)
+shifted (stops e at s) = stops e (suc at.0, at.1) s
+shifted (leaves x s rest) = leaves x s rest
+
+-- after a statement that was left at its end, the others follow
+abbrev pub followed : (State → List Answer → Went (ℕ × List Frame)) → Went (List Frame) → Went (ℕ × List Frame)
+followed f (stops e at s) = stops e (0, at) s
+followed f (leaves Goes s rest) = shifted (f s rest)
+followed f (leaves Breaks s rest) = leaves Breaks s rest
+followed f (leaves (Ends o) s rest) = leaves (Ends o) s rest
+
+abbrev pub fault : {P : Type 0} → Code → State → List Answer → Went P
+fault c s rest = leaves (Ends (outcome.Fault c)) s rest
+
+-- ---- counting
+
+-- so many effects and turns of loops count at most
 abbrev pub most_effects : ℕ
 most_effects = 10000
 
--- an effect that is answered, where the body may have one more
-abbrev pub counted : ℕ → Effect → Effect
-counted used e = if nat_lt used most_effects then e else effect.Return (outcome.Fault code.Steps)
+abbrev pub may_count : State → Bool
+may_count s = nat_lt s.used most_effects
+
+abbrev pub one_more : State → State
+one_more s = record s { used = s.used + 1 }
+
+-- ---- statements without blocks
+
+-- a statement is done, or asks for an effect and has this state once it is answered
+pub data Request : Type 0 where
+  done : Exit → State → Request
+  asks : Effect → State → Request
 
 -- a fault ends the body
-abbrev pub faulted : Code → Effect
-faulted c = effect.Return (outcome.Fault c)
+abbrev pub or_fault : State → Result Request Code → Request
+or_fault s (Ok q) = q
+or_fault s (Err c) = done (Ends (outcome.Fault c)) s
 
--- what a write wants: its value is looked at first
-abbrev pub writes : ℕ → ℕ → List ℕ → Result Value Code → Effect
-writes used t k (Ok v) = counted used (effect.Write t k v)
-writes used t k (Err c) = faulted c
+-- an effect that counts
+abbrev pub counted : Effect → State → Result Request Code
+counted e s = if may_count s then Ok (asks e (one_more s)) else Err code.Steps
 
-abbrev pub returns : Result Value Code → Effect
-returns (Ok v) = effect.Return (outcome.Value v)
-returns (Err c) = faulted c
+abbrev pub goes : State → Result Request Code
+goes s = Ok (done Goes s)
 
--- an effect that is answered
-abbrev pub wants_answer : Effect → Bool
-wants_answer (effect.Read t k) = true
-wants_answer (effect.Write t k v) = true
-wants_answer (effect.Return o) = false
+-- the key of a cell
+abbrev pub key_value : Bindings → Term → Result (List ℕ) Code
+key_value vs t = term_value vs t >>= key_of
 
--- the name that a form sets to its answer
-abbrev pub set_by : Form → Option (List ℕ)
-set_by (Read n t k) = Some n
-set_by (Write t k e) = None
-set_by (Return e) = None
+abbrev pub set_to : List ℕ → Value → State → State
+set_to n v s = record s { variables = map.insert s.variables n v }
 
--- the variables after this name was to be set to an answer; one that is no value sets nothing
-abbrev pub set_to : Bindings → Option (List ℕ) → Answer → Bindings
-set_to vs (Some n) (answer.Value v) = map.insert vs n v
-set_to vs o a = vs
+-- the lock of a key that is held already is no effect
+abbrev pub locks : ℕ → List ℕ → State → Result Request Code
+locks t k s = if is_held t k s.held then goes s else counted (effect.Lock t k) (record s { held = s.held ++ record { table = t; key = k } ∷ [] })
 
--- the variables after a statement had its answer
-abbrev pub after_form : Form → Bindings → Answer → Bindings
-after_form g vs a = set_to vs (set_by g) a
+-- and so is the unlock of one that is not held
+abbrev pub unlocks : ℕ → List ℕ → State → Result Request Code
+unlocks t k s = if is_held t k s.held then counted (effect.Unlock t k) (record s { held = without t k s.held }) else goes s
 
--- a statement wants an effect, or goes on
-pub data Went : Type 0 where
-  Wants : Effect → Went
-  Goes : Bindings → List Answer → Went
+-- what a statement does first; its parts are evaluated left to right
+abbrev pub requested : Deployment → List TableHead → Command → State → Result Request Code
+requested d ts (set l n e) s = do
+  v ← term_value s.variables e
+  goes (set_to n v s)
+requested d ts (read l n t k) s = do
+  key ← key_value s.variables k
+  counted (effect.Read (table_number ts t) key) s
+requested d ts (write l t k e) s = do
+  key ← key_value s.variables k
+  v ← term_value s.variables e
+  counted (effect.Write (table_number ts t) key v) s
+requested d ts (condwrite l n t k r o e) s = do
+  key ← key_value s.variables k
+  w ← term_value s.variables o
+  v ← term_value s.variables e
+  counted (effect.CondWrite (table_number ts t) key r w v) s
+requested d ts (call l n f e) s = do
+  v ← term_value s.variables e
+  counted (effect.Call (func_number d.funcs f) v) s
+requested d ts (async l f e) s = do
+  v ← term_value s.variables e
+  counted (effect.Async (func_number d.funcs f) v) s
+requested d ts (lock l t k) s = do
+  key ← key_value s.variables k
+  locks (table_number ts t) key s
+requested d ts (unlock l t k) s = do
+  key ← key_value s.variables k
+  unlocks (table_number ts t) key s
+requested d ts (abort l) s = if s.inside then counted effect.Abort s else Err code.NoTx
+requested d ts (break l) s = Ok (done Breaks s)
+requested d ts (return l e) s = do
+  v ← term_value s.variables e
+  Ok (done (Ends (outcome.Value v)) s)
+requested d ts (transaction l b c) s = goes s
+requested d ts (choose l e b c) s = goes s
+requested d ts (repeat l n b) s = goes s
 
--- a write that was answered, where it had a value
-abbrev pub past_write : Result Value Code → Bindings → List Answer → Went
-past_write (Ok v) vs rest = Goes vs rest
-past_write (Err c) vs rest = Wants (faulted c)
+-- the name that a statement sets to its answer
+abbrev pub name_of : Command → Option (List ℕ)
+name_of (read l n t k) = Some n
+name_of (condwrite l n t k r o e) = Some n
+name_of (call l n f e) = Some n
+name_of c = None
 
--- `used` counts the effects before it
-abbrev pub run_form : List TableHead → ℕ → Form → Bindings → List Answer → Went
-run_form ts used (Read n t k) vs [] = Wants (counted used (effect.Read (table_number ts t) k))
-run_form ts used (Read n t k) vs (a ∷ rest) = Goes (after_form (Read n t k) vs a) rest
-run_form ts used (Write t k e) vs [] = Wants (writes used (table_number ts t) k (value_at vs e))
-run_form ts used (Write t k e) vs (a ∷ rest) = past_write (value_at vs e) (after_form (Write t k e) vs a) rest
-run_form ts used (Return e) vs answers = Wants (returns (value_at vs e))
+abbrev pub set_if : Option (List ℕ) → Value → State → State
+set_if (Some n) v s = set_to n v s
+set_if None v s = s
 
-abbrev pub go_on : (Bindings → List Answer → Effect) → Went → Effect
-go_on f (Wants e) = e
-go_on f (Goes vs answers) = f vs answers
+-- a statement after its effect had this answer; a fault and an abort end the body
+abbrev pub answered : Option (List ℕ) → Answer → State → List Answer → Went (List Frame)
+answered n answer.Done s rest = leaves Goes s rest
+answered n (answer.Value v) s rest = leaves Goes (set_if n v s) rest
+answered n (answer.Fault c) s rest = fault c s rest
+answered n (answer.Aborted c) s rest = leaves (Ends (outcome.Aborted c)) s rest
 
--- a body that ends without a return returns null
-abbrev pub run_block : List TableHead → ℕ → List Stmt → Bindings → List Answer → Effect
-run_block ts used [] vs answers = effect.Return (outcome.Value Null)
-run_block ts used (s ∷ ss) vs answers = go_on (run_block ts (used + 1) ss) (run_form ts used s.form vs answers)
+abbrev pub asked : Option (List ℕ) → Request → List Answer → Went (List Frame)
+asked n (done x s) rest = leaves x s rest
+asked n (asks e s) [] = stops e [] s
+asked n (asks e s) (a ∷ rest) = answered n a s rest
+
+-- a statement without blocks
+abbrev pub simple : Option (List ℕ) → (State → Result Request Code) → Start → State → List Answer → Went (List Frame)
+simple n q Afresh s rest = asked n (or_fault s (q s)) rest
+simple n q (From at a) s rest = answered n a s rest
+
+-- ---- statements with blocks
+
+-- a block from the statement of this number on, which is begun so
+abbrev pub Block : Type 0
+Block = ℕ → Start → State → List Answer → Went (ℕ × List Frame)
+
+abbrev pub head : Start → Option Frame
+head Afresh = None
+head (From [] a) = None
+head (From (f ∷ at) a) = Some f
+
+abbrev pub inner : Start → Start
+inner Afresh = Afresh
+inner (From [] a) = From [] a
+inner (From (f ∷ at) a) = From at a
+
+-- a block from its first statement on
+abbrev pub whole_block : Block → State → List Answer → Went (ℕ × List Frame)
+whole_block f s rest = f 0 Afresh s rest
+
+-- a choice: a truth decides
+abbrev pub by_test : Block → Block → Result Bool Code → State → List Answer → Went (List Frame)
+by_test f g (Ok true) s rest = within First (whole_block f s rest)
+by_test f g (Ok false) s rest = within Second (whole_block g s rest)
+by_test f g (Err c) s rest = fault c s rest
+
+abbrev pub choice : Block → Block → Term → Option Frame → Start → State → List Answer → Went (List Frame)
+choice f g e (Some (In First i)) st s rest = within First (f i st s rest)
+choice f g e (Some (In Second i)) st s rest = within Second (g i st s rest)
+choice f g e o st s rest = by_test f g (term_value s.variables e >>= truth) s rest
+
+-- a loop after one of its turns: a break ends it
+abbrev pub looped : (State → List Answer → Went (List Frame)) → Went (List Frame) → Went (List Frame)
+looped more (stops e at s) = stops e at s
+looped more (leaves Goes s rest) = more s rest
+looped more (leaves Breaks s rest) = leaves Goes s rest
+looped more (leaves (Ends o) s rest) = leaves (Ends o) s rest
+
+-- so many turns, each of which counts one
+abbrev pub turns : Block → ℕ → State → List Answer → Went (List Frame)
+turns f zero s rest = leaves Goes s rest
+turns f (suc n) s rest = if may_count s then looped (turns f n) (within (Turn n) (whole_block f (one_more s) rest)) else fault code.Steps s rest
+
+abbrev pub loop : Block → ℕ → Option Frame → Start → State → List Answer → Went (List Frame)
+loop f n (Some (In (Turn m) i)) st s rest = looped (turns f m) (within (Turn m) (f i st s rest))
+loop f n o st s rest = turns f n s rest
+
+-- a transaction commits where its block is left without a fault or an abort
+abbrev pub commits : Exit → Bool
+commits (Ends (outcome.Fault c)) = false
+commits (Ends (outcome.Aborted c)) = false
+commits x = true
+
+abbrev pub outside : State → State
+outside s = record s { saved = no_variables; inside = false }
+
+-- all variables are as at the begin
+abbrev pub restored : State → State
+restored s = record s { variables = s.saved; saved = no_variables; inside = false }
+
+-- after the end of a transaction: where it was aborted the second block runs
+abbrev pub ended : Block → Exit → State → List Answer → Went (List Frame)
+ended g Goes s rest = leaves Goes (outside s) rest
+ended g Breaks s rest = leaves Breaks (outside s) rest
+ended g (Ends (outcome.Value v)) s rest = leaves (Ends (outcome.Value v)) (outside s) rest
+ended g (Ends (outcome.Fault c)) s rest = leaves (Ends (outcome.Fault c)) (outside s) rest
+ended g (Ends (outcome.Aborted c)) s rest = within Second (whole_block g (restored s) rest)
+
+-- a transaction whose block was left wants its end
+abbrev pub closed : Block → Went (List Frame) → Went (List Frame)
+closed g (stops e at s) = stops e at s
+closed g (leaves x s []) = stops (effect.End (commits x)) (Ending x ∷ []) s
+closed g (leaves x s (a ∷ rest)) = ended g x s rest
+
+abbrev pub begun_inside : State → State
+begun_inside s = record s { saved = s.variables; inside = true }
+
+-- a transaction after its begin
+abbrev pub opened : Block → Block → State → List Answer → Went (List Frame)
+opened f g s rest = closed g (within Inside (whole_block f (begun_inside s) rest))
+
+abbrev pub begins : Block → Block → State → List Answer → Went (List Frame)
+begins f g s [] = stops effect.Begin [] s
+begins f g s (a ∷ rest) = opened f g s rest
+
+-- inside another transaction the first block runs as a plain block
+abbrev pub enters : Block → Block → State → List Answer → Went (List Frame)
+enters f g s rest =
+    if s.inside then within First (whole_block f s rest) else
+    if not (is_none_held s.held) then fault code.LocksHeld s rest else
+    if may_count s then begins f g (one_more s) rest else fault code.Steps s rest
+
+abbrev pub transact : Block → Block → Option Frame → Start → State → List Answer → Went (List Frame)
+transact f g (Some (In First i)) st s rest = within First (f i st s rest)
+transact f g (Some (In Second i)) st s rest = within Second (g i st s rest)
+transact f g (Some (In Inside i)) st s rest = closed g (within Inside (f i st s rest))
+transact f g (Some (In (Turn n) i)) st s rest = enters f g s rest
+transact f g (Some (Ending x)) st s rest = ended g x s rest
+transact f g None Afresh s rest = enters f g s rest
+transact f g None (From at a) s rest = opened f g s rest
+
+-- ---- all statements
+
+abbrev mutual
+  pub run : Deployment → List TableHead → Command → Start → State → List Answer → Went (List Frame)
+  run d ts (transaction l b c) st s rest = transact (run_block d ts b) (run_block d ts c) (head st) (inner st) s rest
+  run d ts (choose l e b c) st s rest = choice (run_block d ts b) (run_block d ts c) e (head st) (inner st) s rest
+  run d ts (repeat l n b) st s rest = loop (run_block d ts b) n (head st) (inner st) s rest
+  run d ts c st s rest = simple (name_of c) (requested d ts c) st s rest
+
+  -- a block, from the statement of this number on
+  pub run_block : Deployment → List TableHead → Commands → ℕ → Start → State → List Answer → Went (ℕ × List Frame)
+  run_block d ts no_commands n st s rest = leaves Goes s rest
+  run_block d ts (command c cs) zero st s rest = followed (run_block d ts cs 0 Afresh) (run d ts c st s rest)
+  run_block d ts (command c cs) (suc n) st s rest = shifted (run_block d ts cs n st s rest)
+
+-- ---- bodies
 
 -- the function of this number, from 1
 abbrev pub func_at : Deployment → ℕ → Option Func
 func_at d zero = None
 func_at d (suc n) = slice_get d.funcs n
 
+abbrev pub tables_of : Option Func → List TableHead
+tables_of None = []
+tables_of (Some f) = f.tables
+
+abbrev pub body_of : Option Func → Commands
+body_of None = no_commands
+body_of (Some f) = commands_of f.body
+
 -- the parameter has the arguments
-abbrev pub first_variables : Func → Value → Bindings
-first_variables f args = map.insert no_variables f.param args
+abbrev pub first_variables : Option Func → Value → Bindings
+first_variables None args = no_variables
+first_variables (Some f) args = map.insert no_variables f.param args
 
-abbrev pub wants_of : Option Func → Value → List Answer → Effect
-wants_of None args answers = effect.Return (outcome.Value Null)
-wants_of (Some f) args answers = run_block f.tables 0 f.body (first_variables f args) answers
+-- an inherited body is inside a transaction from its start
+abbrev pub first_state : Option Func → Value → Bool → State
+first_state o args inherited = record { variables = first_variables o args; saved = no_variables; used = 0; held = []; inside = inherited }
 
--- the effect that the function's body wants, with these arguments and after these answers
-abbrev pub wants : Deployment → ℕ → Value → List Answer → Effect
-wants d func args answers = wants_of (func_at d func) args answers
+abbrev pub body : Block → Option Frame → Start → State → List Answer → Went (List Frame)
+body f (Some (In p i)) st s rest = within First (f i st s rest)
+body f (Some (Ending x)) st s rest = within First (whole_block f s rest)
+body f None st s rest = within First (whole_block f s rest)
+
+-- the statements of a function
+abbrev pub run_body : Deployment → Option Func → Start → State → List Answer → Went (List Frame)
+run_body d o st s rest = body (run_block d (tables_of o) (body_of o)) (head st) (inner st) s rest
+
+-- a body that ends without a return returns null
+abbrev pub outcome_of : Exit → Outcome
+outcome_of Goes = outcome.Value Null
+outcome_of Breaks = outcome.Value Null
+outcome_of (Ends o) = o
+
+-- an effect that is answered
+abbrev pub wants_answer : Effect → Bool
+wants_answer (effect.Return o) = false
+wants_answer e = true
+
+-- before the return each lock is released, in the order of locking
+abbrev pub releases : Outcome → List HeldLock → List Answer → Effect
+releases o [] rest = effect.Return o
+releases o (l ∷ ls) [] = effect.Unlock l.table l.key
+releases o (l ∷ ls) (a ∷ rest) = releases o ls rest
+
+abbrev pub effect_of : {P : Type 0} → Went P → Effect
+effect_of (stops e at s) = e
+effect_of (leaves x s rest) = releases (outcome_of x) s.held rest
+
+-- the effect that the function's body wants, with these arguments, begun inside a transaction or not, after these answers
+abbrev pub wants : Deployment → ℕ → Value → Bool → List Answer → Effect
+wants d func args inherited answers = effect_of (run_body d (func_at d func) Afresh (first_state (func_at d func) args inherited) answers)

@@ -1,6 +1,6 @@
 // The values of expressions, and their faults.
-use crate::{EvalErr, Expr, Exprs, Members, Op, Operand, Variables, evaluate, key_at};
-use beldi_value::{Outcome, Rec, Str, Value};
+use crate::{EvalErr, Expr, Exprs, Members, Op, Step, Variables, evaluate, key_at};
+use beldi_value::{Outcome, Rec, Rel, Str, Value};
 use std::alloc::{AllocError, Global};
 use std::test::Fail;
 
@@ -44,6 +44,7 @@ enum Form {
     And,
     Not,
     Negate,
+    Is(Rel),
     Two(Op),
     Field,
     Element,
@@ -97,12 +98,6 @@ fn three_members(alloc: Global) -> Result<Expr, AllocError> {
     Ok(Expr::Record(members))
 }
 
-fn two(alloc: Global, op: Op, left: Expr, right: Expr) -> Result<Expr, AllocError> {
-    let left = Operand::new(alloc, left)?;
-    let right = Operand::new(alloc, right)?;
-    Ok(Expr::Binary { op, left, right })
-}
-
 fn literal(alloc: Global, part: Part) -> Result<Expr, AllocError> {
     match part {
         Null => Ok(Expr::Null),
@@ -117,48 +112,38 @@ fn literal(alloc: Global, part: Part) -> Result<Expr, AllocError> {
         Record => three_members(alloc),
         Empty => Ok(Expr::Record(Members::new(alloc))),
         Inner => {
-            let whole = Operand::new(alloc, Expr::Name(Str::from_text(alloc, "r")?))?;
-            Ok(Expr::Field(whole, Str::from_text(alloc, "k")?))
+            let whole = Expr::Name(Str::from_text(alloc, "r")?);
+            whole.then(alloc, Step::Field(Str::from_text(alloc, "k")?))
         }
         Deep(lists) => nested(alloc, lists),
-        ByZero => two(alloc, Op::Div, Expr::Int(1), Expr::Int(0)),
-        Least => Ok(Expr::Negate(Operand::new(alloc, Expr::Int(i64::MIN))?)),
+        ByZero => Expr::Int(1).then(alloc, Step::Binary(Op::Div, Expr::Int(0))),
+        Least => Expr::Int(i64::MIN).then(alloc, Step::Negate),
     }
 }
 
-fn operand(alloc: Global, of: Part) -> Result<Operand, AllocError> {
-    Operand::new(alloc, literal(alloc, of)?)
-}
-
-fn pair(alloc: Global, a: Part, b: Part) -> Result<(Operand, Operand), AllocError> {
-    let a = operand(alloc, a)?;
-    let b = operand(alloc, b)?;
-    Ok((a, b))
-}
-
-// The forms of two parts.
-fn of_two(form: Form, a: Operand, b: Operand) -> Expr {
+// The step of a form with one part before it and one after.
+fn of_two(form: Form, right: Expr) -> Step {
     match form {
-        Form::Or => Expr::Or(a, b),
-        Form::And => Expr::And(a, b),
-        Form::Two(op) => Expr::Binary {
-            op,
-            left: a,
-            right: b,
-        },
-        Form::Push => Expr::Push(a, b),
-        _ => Expr::Element(a, b),
+        Form::Or => Step::Or(right),
+        Form::And => Step::And(right),
+        Form::Is(rel) => Step::Compare(rel, right),
+        Form::Two(op) => Step::Binary(op, right),
+        Form::Push => Step::Push(right),
+        _ => Step::Element(right),
     }
 }
 
-fn with(alloc: Global, whole: Part, key: Part) -> Result<Expr, AllocError> {
-    let (whole, key) = pair(alloc, whole, key)?;
-    Ok(Expr::With(whole, key, operand(alloc, Int(9))?))
-}
-
-fn set(alloc: Global, whole: Part, value: Part) -> Result<Expr, AllocError> {
-    let (whole, value) = pair(alloc, whole, value)?;
-    Ok(Expr::With(whole, operand(alloc, Text("k"))?, value))
+fn step(alloc: Global, form: Form, of: Part) -> Result<Step, AllocError> {
+    match form {
+        Form::Not => Ok(Step::Not),
+        Form::Negate => Ok(Step::Negate),
+        Form::Field => Ok(Step::Field(Str::from_text(alloc, "k")?)),
+        Form::Len => Ok(Step::Len),
+        Form::TextOf => Ok(Step::TextOf),
+        Form::With => Ok(Step::With(literal(alloc, of)?, Expr::Int(9))),
+        Form::Set => Ok(Step::With(literal(alloc, Text("k"))?, literal(alloc, of)?)),
+        _ => Ok(of_two(form, literal(alloc, of)?)),
+    }
 }
 
 fn one_member(alloc: Global, value: Part) -> Result<Expr, AllocError> {
@@ -170,19 +155,9 @@ fn one_member(alloc: Global, value: Part) -> Result<Expr, AllocError> {
 fn expression(alloc: Global, form: Form, a: Part, b: Part) -> Result<Expr, AllocError> {
     match form {
         Form::Just => literal(alloc, a),
-        Form::Not => Ok(Expr::Not(operand(alloc, a)?)),
-        Form::Negate => Ok(Expr::Negate(operand(alloc, a)?)),
-        Form::Field => Ok(Expr::Field(operand(alloc, a)?, Str::from_text(alloc, "k")?)),
-        Form::Len => Ok(Expr::Len(operand(alloc, a)?)),
-        Form::TextOf => Ok(Expr::TextOf(operand(alloc, a)?)),
-        Form::With => with(alloc, a, b),
-        Form::Set => set(alloc, a, b),
         Form::ListOf => Ok(Expr::List(list_of(alloc, literal(alloc, a)?)?)),
         Form::RecordOf => one_member(alloc, a),
-        _ => {
-            let (a, b) = pair(alloc, a, b)?;
-            Ok(of_two(form, a, b))
-        }
+        _ => literal(alloc, a)?.then(alloc, step(alloc, form, b)?),
     }
 }
 
@@ -239,16 +214,23 @@ const RECORD: usize = 5;
 // Whether an operator takes parts of these kinds.
 fn op_takes(op: Op, a: usize, b: usize) -> bool {
     match op {
-        Op::Eq | Op::Ne => true,
-        Op::Lt | Op::Le | Op::Gt | Op::Ge => a == b && (a == NUMBER || a == TEXT),
         Op::Join => a == TEXT && b == TEXT,
         Op::Add | Op::Sub | Op::Mul | Op::Div | Op::Rem => a == NUMBER && b == NUMBER,
+    }
+}
+
+// Whether a relation takes parts of these kinds.
+fn rel_takes(rel: Rel, a: usize, b: usize) -> bool {
+    match rel {
+        Rel::Eq | Rel::Ne => true,
+        Rel::Lt | Rel::Le | Rel::Gt | Rel::Ge => a == b && (a == NUMBER || a == TEXT),
     }
 }
 
 // Whether a form takes parts of these kinds. The truth among the kinds is true, so that `or` does not look at its right side.
 fn takes(form: Form, a: usize, b: usize) -> bool {
     match form {
+        Form::Is(rel) => rel_takes(rel, a, b),
         Form::Two(op) => op_takes(op, a, b),
         Form::Or | Form::Not => a == TRUTH,
         Form::And => a == TRUTH && b == TRUTH,
@@ -267,12 +249,12 @@ const FORMS: [Form; 26] = [
     Form::And,
     Form::Not,
     Form::Negate,
-    Form::Two(Op::Eq),
-    Form::Two(Op::Ne),
-    Form::Two(Op::Lt),
-    Form::Two(Op::Le),
-    Form::Two(Op::Gt),
-    Form::Two(Op::Ge),
+    Form::Is(Rel::Eq),
+    Form::Is(Rel::Ne),
+    Form::Is(Rel::Lt),
+    Form::Is(Rel::Le),
+    Form::Is(Rel::Gt),
+    Form::Is(Rel::Ge),
     Form::Two(Op::Add),
     Form::Two(Op::Sub),
     Form::Two(Op::Join),
@@ -308,58 +290,78 @@ fn kinds(rt: HostRuntime) -> Result<(), Fail> {
 #[test]
 fn numbers(rt: HostRuntime) -> Result<(), Fail> {
     let cases = [
-        (Op::Add, 2, 3, "value 5"),
-        (Op::Add, i64::MAX, 0, "value 9223372036854775807"),
-        (Op::Add, i64::MAX, 1, OVER),
-        (Op::Add, i64::MIN, -1, OVER),
-        (Op::Sub, 2, 3, "value -1"),
-        (Op::Sub, i64::MIN, 0, "value -9223372036854775808"),
-        (Op::Sub, i64::MIN, 1, OVER),
-        (Op::Sub, i64::MAX, -1, OVER),
-        (Op::Sub, 0, i64::MIN, OVER),
-        (Op::Sub, -1, i64::MIN, "value 9223372036854775807"),
-        (Op::Mul, -3, 4, "value -12"),
-        (Op::Mul, i64::MIN, -1, OVER),
-        (Op::Mul, i64::MIN, 1, "value -9223372036854775808"),
-        (Op::Mul, i64::MAX, 2, OVER),
-        (Op::Div, 7, 2, "value 3"),
-        (Op::Div, -7, 2, "value -3"),
-        (Op::Div, 7, -2, "value -3"),
-        (Op::Div, -7, -2, "value 3"),
-        (Op::Div, 7, 0, ZERO),
-        (Op::Div, i64::MIN, 0, ZERO),
-        (Op::Div, i64::MIN, 1, "value -9223372036854775808"),
-        (Op::Div, i64::MIN, -1, OVER),
-        (Op::Rem, 7, 2, "value 1"),
-        (Op::Rem, -7, 2, "value -1"),
-        (Op::Rem, 7, -2, "value 1"),
-        (Op::Rem, -7, -2, "value -1"),
-        (Op::Rem, 6, -3, "value 0"),
-        (Op::Rem, 7, 0, ZERO),
-        (Op::Rem, i64::MIN, 0, ZERO),
-        (Op::Rem, i64::MIN, 1, "value 0"),
-        (Op::Rem, i64::MIN, i64::MAX, "value -1"),
-        (Op::Rem, i64::MIN, -1, OVER),
-        (Op::Lt, 1, 2, "value true"),
-        (Op::Lt, 2, 2, "value false"),
-        (Op::Lt, 2, 1, "value false"),
-        (Op::Lt, i64::MIN, i64::MAX, "value true"),
-        (Op::Le, 1, 2, "value true"),
-        (Op::Le, 2, 1, "value false"),
-        (Op::Le, 2, 2, "value true"),
-        (Op::Gt, 2, 2, "value false"),
-        (Op::Gt, 1, 2, "value false"),
-        (Op::Gt, -1, -2, "value true"),
-        (Op::Ge, 2, 2, "value true"),
-        (Op::Ge, 1, 2, "value false"),
-        (Op::Ge, 2, 1, "value true"),
-        (Op::Eq, 2, 2, "value true"),
-        (Op::Eq, 1, 2, "value false"),
-        (Op::Ne, 2, 2, "value false"),
-        (Op::Ne, 1, 2, "value true"),
+        (Form::Two(Op::Add), 2, 3, "value 5"),
+        (Form::Two(Op::Add), i64::MAX, 0, "value 9223372036854775807"),
+        (Form::Two(Op::Add), i64::MAX, 1, OVER),
+        (Form::Two(Op::Add), i64::MIN, -1, OVER),
+        (Form::Two(Op::Sub), 2, 3, "value -1"),
+        (
+            Form::Two(Op::Sub),
+            i64::MIN,
+            0,
+            "value -9223372036854775808",
+        ),
+        (Form::Two(Op::Sub), i64::MIN, 1, OVER),
+        (Form::Two(Op::Sub), i64::MAX, -1, OVER),
+        (Form::Two(Op::Sub), 0, i64::MIN, OVER),
+        (
+            Form::Two(Op::Sub),
+            -1,
+            i64::MIN,
+            "value 9223372036854775807",
+        ),
+        (Form::Two(Op::Mul), -3, 4, "value -12"),
+        (Form::Two(Op::Mul), i64::MIN, -1, OVER),
+        (
+            Form::Two(Op::Mul),
+            i64::MIN,
+            1,
+            "value -9223372036854775808",
+        ),
+        (Form::Two(Op::Mul), i64::MAX, 2, OVER),
+        (Form::Two(Op::Div), 7, 2, "value 3"),
+        (Form::Two(Op::Div), -7, 2, "value -3"),
+        (Form::Two(Op::Div), 7, -2, "value -3"),
+        (Form::Two(Op::Div), -7, -2, "value 3"),
+        (Form::Two(Op::Div), 7, 0, ZERO),
+        (Form::Two(Op::Div), i64::MIN, 0, ZERO),
+        (
+            Form::Two(Op::Div),
+            i64::MIN,
+            1,
+            "value -9223372036854775808",
+        ),
+        (Form::Two(Op::Div), i64::MIN, -1, OVER),
+        (Form::Two(Op::Rem), 7, 2, "value 1"),
+        (Form::Two(Op::Rem), -7, 2, "value -1"),
+        (Form::Two(Op::Rem), 7, -2, "value 1"),
+        (Form::Two(Op::Rem), -7, -2, "value -1"),
+        (Form::Two(Op::Rem), 6, -3, "value 0"),
+        (Form::Two(Op::Rem), 7, 0, ZERO),
+        (Form::Two(Op::Rem), i64::MIN, 0, ZERO),
+        (Form::Two(Op::Rem), i64::MIN, 1, "value 0"),
+        (Form::Two(Op::Rem), i64::MIN, i64::MAX, "value -1"),
+        (Form::Two(Op::Rem), i64::MIN, -1, OVER),
+        (Form::Is(Rel::Lt), 1, 2, "value true"),
+        (Form::Is(Rel::Lt), 2, 2, "value false"),
+        (Form::Is(Rel::Lt), 2, 1, "value false"),
+        (Form::Is(Rel::Lt), i64::MIN, i64::MAX, "value true"),
+        (Form::Is(Rel::Le), 1, 2, "value true"),
+        (Form::Is(Rel::Le), 2, 1, "value false"),
+        (Form::Is(Rel::Le), 2, 2, "value true"),
+        (Form::Is(Rel::Gt), 2, 2, "value false"),
+        (Form::Is(Rel::Gt), 1, 2, "value false"),
+        (Form::Is(Rel::Gt), -1, -2, "value true"),
+        (Form::Is(Rel::Ge), 2, 2, "value true"),
+        (Form::Is(Rel::Ge), 1, 2, "value false"),
+        (Form::Is(Rel::Ge), 2, 1, "value true"),
+        (Form::Is(Rel::Eq), 2, 2, "value true"),
+        (Form::Is(Rel::Eq), 1, 2, "value false"),
+        (Form::Is(Rel::Ne), 2, 2, "value false"),
+        (Form::Is(Rel::Ne), 1, 2, "value true"),
     ];
-    for (op, m, n, want) in cases {
-        let text = told(rt.alloc(), Form::Two(op), Int(m), Int(n))?;
+    for (form, m, n, want) in cases {
+        let text = told(rt.alloc(), form, Int(m), Int(n))?;
         assert_eq!(rt; text.as_str(), want);
     }
     Ok(())
@@ -368,41 +370,41 @@ fn numbers(rt: HostRuntime) -> Result<(), Fail> {
 #[test]
 fn operators(rt: HostRuntime) -> Result<(), Fail> {
     let cases = [
-        (Op::Join, Text("a"), Text("b"), "value \"ab\""),
-        (Op::Add, Int(1), Name("x"), "value 8"),
-        (Op::Add, Int(1), Name("y"), TYPE),
-        (Op::Lt, Text("Z"), Text("a"), "value true"),
-        (Op::Lt, Text("a"), Text("aa"), "value true"),
-        (Op::Gt, Text("a"), Text("aa"), "value false"),
-        (Op::Le, Text("b"), Text("a"), "value false"),
-        (Op::Ge, Text("a"), Text("a"), "value true"),
-        (Op::Gt, Text("é"), Text("z"), "value true"),
-        (Op::Lt, Text("｡"), Text("😀"), "value true"),
-        (Op::Div, Text("1"), Int(0), TYPE),
-        (Op::Rem, Null, Int(0), TYPE),
-        (Op::Add, Inner, Int(1), "value 4"),
-        (Op::Eq, Null, Name("y"), "value true"),
-        (Op::Eq, List, List, "value true"),
-        (Op::Eq, Record, Record, "value true"),
-        (Op::Eq, List, Deep(1), "value false"),
-        (Op::Eq, False, Int(0), "value false"),
-        (Op::Eq, Null, False, "value false"),
-        (Op::Eq, Text("null"), Null, "value false"),
-        (Op::Eq, Deep(1), Empty, "value false"),
-        (Op::Eq, Int(1), Text("1"), "value false"),
-        (Op::Ne, List, List, "value false"),
-        (Op::Ne, True, False, "value true"),
-        (Op::Ne, Record, List, "value true"),
-        (Op::Add, ByZero, Least, ZERO),
-        (Op::Add, Least, ByZero, OVER),
-        (Op::Add, Text("a"), ByZero, ZERO),
-        (Op::Eq, Int(1), Least, OVER),
-        (Op::Eq, ByZero, Least, ZERO),
-        (Op::Join, Int(1), ByZero, ZERO),
-        (Op::Lt, Null, ByZero, ZERO),
+        (Form::Two(Op::Join), Text("a"), Text("b"), "value \"ab\""),
+        (Form::Two(Op::Add), Int(1), Name("x"), "value 8"),
+        (Form::Two(Op::Add), Int(1), Name("y"), TYPE),
+        (Form::Is(Rel::Lt), Text("Z"), Text("a"), "value true"),
+        (Form::Is(Rel::Lt), Text("a"), Text("aa"), "value true"),
+        (Form::Is(Rel::Gt), Text("a"), Text("aa"), "value false"),
+        (Form::Is(Rel::Le), Text("b"), Text("a"), "value false"),
+        (Form::Is(Rel::Ge), Text("a"), Text("a"), "value true"),
+        (Form::Is(Rel::Gt), Text("é"), Text("z"), "value true"),
+        (Form::Is(Rel::Lt), Text("｡"), Text("😀"), "value true"),
+        (Form::Two(Op::Div), Text("1"), Int(0), TYPE),
+        (Form::Two(Op::Rem), Null, Int(0), TYPE),
+        (Form::Two(Op::Add), Inner, Int(1), "value 4"),
+        (Form::Is(Rel::Eq), Null, Name("y"), "value true"),
+        (Form::Is(Rel::Eq), List, List, "value true"),
+        (Form::Is(Rel::Eq), Record, Record, "value true"),
+        (Form::Is(Rel::Eq), List, Deep(1), "value false"),
+        (Form::Is(Rel::Eq), False, Int(0), "value false"),
+        (Form::Is(Rel::Eq), Null, False, "value false"),
+        (Form::Is(Rel::Eq), Text("null"), Null, "value false"),
+        (Form::Is(Rel::Eq), Deep(1), Empty, "value false"),
+        (Form::Is(Rel::Eq), Int(1), Text("1"), "value false"),
+        (Form::Is(Rel::Ne), List, List, "value false"),
+        (Form::Is(Rel::Ne), True, False, "value true"),
+        (Form::Is(Rel::Ne), Record, List, "value true"),
+        (Form::Two(Op::Add), ByZero, Least, ZERO),
+        (Form::Two(Op::Add), Least, ByZero, OVER),
+        (Form::Two(Op::Add), Text("a"), ByZero, ZERO),
+        (Form::Is(Rel::Eq), Int(1), Least, OVER),
+        (Form::Is(Rel::Eq), ByZero, Least, ZERO),
+        (Form::Two(Op::Join), Int(1), ByZero, ZERO),
+        (Form::Is(Rel::Lt), Null, ByZero, ZERO),
     ];
-    for (op, a, b, want) in cases {
-        let text = told(rt.alloc(), Form::Two(op), a, b)?;
+    for (form, a, b, want) in cases {
+        let text = told(rt.alloc(), form, a, b)?;
         assert_eq!(rt; text.as_str(), want);
     }
     Ok(())
@@ -576,6 +578,23 @@ fn keys(rt: HostRuntime) -> Result<(), Fail> {
         let mut text = Str::new(alloc);
         key(alloc, of)?.write(alloc, &mut text)?;
         assert_eq!(rt; text.len(), want);
+    }
+    Ok(())
+}
+
+// A row of 32,000 operators is no deep tree.
+#[test]
+fn long_chains(rt: HostRuntime) -> Result<(), Fail> {
+    let mut sum = Expr::Int(0);
+    let mut sign = Expr::Int(7);
+    for _ in 0..32_000 {
+        sum = sum.then(rt.alloc(), Step::Binary(Op::Add, Expr::Int(1)))?;
+        sign = sign.then(rt.alloc(), Step::Negate)?;
+    }
+    for (expr, want) in [(sum, "value 32000"), (sign, "value 7")] {
+        let mut text = Str::new(rt.alloc());
+        outcome(rt.alloc(), &expr)?.write(rt.alloc(), &mut text)?;
+        assert_eq!(rt; text.as_str(), want);
     }
     Ok(())
 }

@@ -1,8 +1,9 @@
 // A deployment: its functions, the tables that each owns, and their bodies.
 ghost use Rattle.std.specs.Prelude.{◌≡◌, ◌++◌, ◌∷◌, [], ◌-◌, ◌<◌, ◌≤◌, length, slice_get, option_copied, OnOk, OnErr, IfOk};
 
-use crate::operands::{Exprs, Members, Operand};
-use beldi_value::Str;
+use crate::block::Block;
+use crate::parts::{Chain, Exprs, Members};
+use beldi_value::{Rel, Str};
 use std::alloc::{AllocError, Global};
 use std::marker::Model;
 
@@ -16,6 +17,35 @@ pub struct Deployment {
     pub funcs: Funcs,
 }
 
+impl Deployment {
+    ghost use Rattle.beldi_lang.specs.Wants.{func_at};
+    ghost use Rattle.beldi_lang.specs.Names.{func_text};
+
+    /// The function of this number, from 1.
+    pub fn func_at(&self, number: u16) -> Option<&Func>
+        ensures { option_copied result ≡ func_at self.now number }
+    {
+        if number == 0 {
+            return None;
+        }
+        self.funcs.as_slice().get(number as usize - 1)
+    }
+
+    /// Appends the name of a function; its number, where there is none of it.
+    pub fn write_func(&self, alloc: Global, number: u16, out: &mut Str) -> Result<(), AllocError>
+        ensures ok { OnOk result (out.new ≡ out.old ++ func_text self.now number) }
+        ensures err { OnErr result (out.new ≡ out.old) }
+    {
+        match self.func_at(number) {
+            Some(found) => out.push_text(found.name.as_str()),
+            None => {
+                let text = number.to_string(alloc)?;
+                out.push_text(text.as_str())
+            }
+        }
+    }
+}
+
 /// A function. Its tables are numbered from 0 in the order of the text.
 #[derive(Drop)]
 pub struct Func {
@@ -23,25 +53,93 @@ pub struct Func {
     pub param: Str,
     pub tables: TableHeads,
     pub body: Block,
+    /// The line of its first token.
+    pub line: u32,
 }
 
 #[derive(Drop)]
 pub struct TableHead {
     pub name: Str,
+    /// The line of its first token.
+    pub line: u32,
 }
 
+#[cycle(stmt)]
 #[derive(Drop)]
 pub struct Stmt {
+    /// The line of its first token.
+    pub line: u32,
     pub form: Form,
 }
 
-/// The forms of statements.
+/// The forms of statements. A table is the function's own.
+#[cycle(stmt)]
 #[derive(Drop)]
 pub enum Form {
-    /// Sets a variable to the value of an item of the function's own table.
-    Read { name: Str, table: Str, key: Str },
-    /// Sets an item of the function's own table.
-    Write { table: Str, key: Str, value: Expr },
+    /// Sets a variable.
+    Set {
+        name: Str,
+        value: Expr,
+    },
+    /// Sets a variable to the value of an item.
+    Read {
+        name: Str,
+        table: Str,
+        key: Expr,
+    },
+    /// Sets an item.
+    Write {
+        table: Str,
+        key: Expr,
+        value: Expr,
+    },
+    /// Sets an item where its value stands so to the operand, and a variable to whether it did.
+    CondWrite {
+        name: Str,
+        table: Str,
+        key: Expr,
+        rel: Rel,
+        operand: Expr,
+        value: Expr,
+    },
+    /// Calls a function and sets a variable to what it returns.
+    Call {
+        name: Str,
+        func: Str,
+        args: Expr,
+    },
+    /// Has a function run, and does not wait for it.
+    Async {
+        func: Str,
+        args: Expr,
+    },
+    Lock {
+        table: Str,
+        key: Expr,
+    },
+    Unlock {
+        table: Str,
+        key: Expr,
+    },
+    /// A block that takes effect as a whole or not at all, and one that runs where it was aborted.
+    Transaction {
+        block: Block,
+        aborted: Block,
+    },
+    /// Aborts the transaction.
+    Abort,
+    /// Leaves the innermost loop.
+    Break,
+    /// Without `else` the second block is empty.
+    If {
+        test: Expr,
+        block: Block,
+        otherwise: Block,
+    },
+    Repeat {
+        times: u32,
+        block: Block,
+    },
     Return(Expr),
 }
 
@@ -55,41 +153,40 @@ pub enum Expr {
     Null,
     /// A variable: null where it was never set.
     Name(Str),
-    Or(Operand, Operand),
-    And(Operand, Operand),
-    Not(Operand),
-    /// The number with the other sign.
-    Negate(Operand),
-    Binary {
-        op: Op,
-        left: Operand,
-        right: Operand,
-    },
-    /// A field of a record, by its key.
-    Field(Operand, Str),
-    /// An element of a list, by its index from 0.
-    Element(Operand, Operand),
     List(Exprs),
     Record(Members),
-    /// How many bytes a text has, or how many elements a list.
-    Len(Operand),
-    /// The canonical text.
-    TextOf(Operand),
-    /// A list and what is appended to it.
-    Push(Operand, Operand),
-    /// A record, a key and the value of this field.
-    With(Operand, Operand, Operand),
+    /// Operators, one after another. So a long row of them is no deep tree.
+    Chain(Chain),
 }
 
-/// The operators that take the values of both sides.
+/// What is made of a value, the left side of an operator.
+#[cycle(expr)]
+#[derive(Drop)]
+pub enum Step {
+    Or(Expr),
+    And(Expr),
+    Not,
+    /// The number with the other sign.
+    Negate,
+    Compare(Rel, Expr),
+    Binary(Op, Expr),
+    /// A field of the record, by its key.
+    Field(Str),
+    /// An element of the list, by its index from 0.
+    Element(Expr),
+    /// How many bytes the text has, or how many elements the list.
+    Len,
+    /// The canonical text.
+    TextOf,
+    /// The list with this appended.
+    Push(Expr),
+    /// The record, where the field of this key has this value.
+    With(Expr, Expr),
+}
+
+/// The operators that take the values of both sides, beside the relations.
 #[derive(Clone, Copy)]
 pub enum Op {
-    Eq,
-    Ne,
-    Lt,
-    Le,
-    Gt,
-    Ge,
     Add,
     Sub,
     /// One text after another.
@@ -175,49 +272,6 @@ impl TableHeads {
     }
 
     pub fn as_slice(&self) -> &[TableHead]
-        ensures { result.now ≡ self.now }
-    {
-        self.items.as_slice()
-    }
-}
-
-/// The statements of a body.
-#[derive(Drop)]
-pub struct Block {
-    items: Vec<Stmt>,
-}
-
-impl Model for Block {
-    ghost use Rattle.std.specs.Prelude.{List};
-    ghost use Rattle.std.specs.Coded.{codes};
-    ghost use Rattle.beldi_lang.specs.declared.deployment.Stmt.{Stmt};
-    ghost use Rattle.beldi_lang.specs.contracts.deployment.Stmt as stmt;
-
-    ghost Value = { List Stmt };
-
-    ghost coded = { Prim.hlevel (codes, stmt.the_row.coded) };
-
-    ghost view = { λ a. a.items.items };
-}
-
-impl Block {
-    pub fn new(alloc: Global) -> Block
-        ensures { result ≡ [] }
-    {
-        Block {
-            items: Vec::new(alloc),
-        }
-    }
-
-    pub fn push(&mut self, item: Stmt) -> Result<(), AllocError>
-        ensures ok { OnOk result (self.new ≡ self.old ++ item ∷ []) }
-        ensures err { OnErr result (self.new ≡ self.old) }
-    {
-        self.items.push(item)?;
-        Ok(())
-    }
-
-    pub fn as_slice(&self) -> &[Stmt]
         ensures { result.now ≡ self.now }
     {
         self.items.as_slice()

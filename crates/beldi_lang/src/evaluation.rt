@@ -1,18 +1,18 @@
 // The value of an expression.
-ghost use Rattle.std.specs.Prelude.{◌≡◌, [], Result, Ok, Err, IfOk, MatchResult};
-ghost use Rattle.beldi_lang.specs.Evaluate.{plain_value, term_value, value_at, key_at as key_of_expr, items_value, fields_value, on_two, on_three, operate as operate_of, element_of, pushed as pushed_of, with_field as with_field_of, either as either_of, both as both_of, IsFault, Evaluates};
-ghost use Rattle.beldi_lang.specs.Seen.{seen_value};
-ghost use Rattle.beldi_lang.specs.Expr.{term_of};
+ghost use Rattle.std.specs.Prelude.{◌≡◌, [], Ok};
+ghost use Rattle.beldi_lang.specs.Evaluate.{term_value, value_at, key_at as key_of_expr, items_value, fields_value, on_two, compared as compared_of, operate as operate_of, pushed as pushed_of, with_field as with_field_of, either as either_of, both as both_of, on_three, Evaluates};
+ghost use Rattle.beldi_lang.specs.Seen.{seen_value, Finds};
+ghost use Rattle.beldi_lang.specs.Steps.{plain_step, stepped};
 ghost use Rattle.beldi_lang.specs.Term.{items_of, members_of};
 
-use crate::deployment::{Expr, Op};
+use crate::deployment::{Expr, Step};
 use crate::fault::EvalErr;
-use crate::operands::{Exprs, Members, Operand};
 use crate::operators::{
-    canonical, copy_or_null, element, field, key, length, limited, negated, operate, opposite,
-    pushed, settled, truth, with_field,
+    canonical, compared, element, field, key, length, negated, operate, opposite, pushed, settled,
+    truth, with_field,
 };
-use crate::seen::{Seen, lent};
+use crate::parts::{Chain, Exprs, Members};
+use crate::seen::{Seen, lent, lent_element, lent_field, made};
 use crate::variables::Variables;
 use beldi_value::{Rec, Str, Value, Values};
 use std::alloc::{AllocError, Global};
@@ -22,150 +22,149 @@ use std::alloc::{AllocError, Global};
 pub fn evaluate(alloc: Global, variables: &Variables, expr: &Expr) -> Result<Value, EvalErr>
     ensures { Evaluates (value_at variables.now expr.now) result }
 {
-    Ok(limited(plain(alloc, variables, expr)?)?)
+    Ok(seen(alloc, variables, expr)?.into_value(alloc)?)
 }
 
 /// The key of a cell: a text of at most 256 bytes.
 pub fn key_at(alloc: Global, variables: &Variables, expr: &Expr) -> Result<Str, EvalErr>
     ensures { Evaluates (key_of_expr variables.now expr.now) result }
 {
-    key(alloc, &evaluate(alloc, variables, expr)?)
+    key(alloc, seen(alloc, variables, expr)?.value())
 }
 
-// The value before its size is looked at.
+// The value, which is not copied where it stands among the variables.
 #[cycle(evaluate)]
-fn plain(alloc: Global, variables: &Variables, expr: &Expr) -> Result<Value, EvalErr>
-    ensures { Evaluates (plain_value variables.now (term_of expr.now)) result }
+fn seen<'a>(alloc: Global, variables: &'a Variables, expr: &Expr) -> Result<Seen<'a>, EvalErr>
+    ensures { Finds (value_at variables.now expr.now) result }
 {
     match expr {
-        Expr::Int(number) => Ok(Value::Int(*number)),
-        Expr::Text(text) => Ok(Value::Text(text.copy(alloc)?)),
-        Expr::Bool(truth) => Ok(Value::Bool(*truth)),
-        Expr::Null => Ok(Value::Null),
-        Expr::Name(name) => Ok(copy_or_null(alloc, variables.get(name))?),
-        Expr::Or(left, right) => either(alloc, variables, left, right),
-        Expr::And(left, right) => both(alloc, variables, left, right),
-        Expr::Not(part) => Ok(opposite(operand(alloc, variables, part)?.value())?),
-        Expr::Negate(part) => Ok(negated(operand(alloc, variables, part)?.value())?),
-        Expr::Binary { op, left, right } => binary(alloc, variables, *op, left, right),
-        Expr::Field(part, name) => field(alloc, operand(alloc, variables, part)?.value(), name),
-        Expr::Element(part, index) => element_at(alloc, variables, part, index),
-        Expr::List(items) => Ok(Value::List(list(alloc, variables, items)?)),
-        Expr::Record(members) => Ok(Value::Rec(record(alloc, variables, members)?)),
-        Expr::Len(part) => Ok(length(operand(alloc, variables, part)?.value())?),
-        Expr::TextOf(part) => Ok(canonical(alloc, operand(alloc, variables, part)?.value())?),
-        Expr::Push(part, item) => push(alloc, variables, part, item),
-        Expr::With(part, name, value) => with(alloc, variables, part, name, value),
+        Expr::Int(number) => made(Value::Int(*number)),
+        Expr::Text(text) => made(Value::Text(text.copy(alloc)?)),
+        Expr::Bool(truth) => made(Value::Bool(*truth)),
+        Expr::Null => made(Value::Null),
+        Expr::Name(name) => lent(variables.get(name)),
+        Expr::List(items) => made(Value::List(list(alloc, variables, items)?)),
+        Expr::Record(members) => made(Value::Rec(record(alloc, variables, members)?)),
+        Expr::Chain(chain) => walk(alloc, variables, chain),
     }
 }
 
-// The value of a part, which is not copied where it stands among the variables.
+// The value at the end of a chain.
 #[cycle(evaluate)]
-fn operand<'a>(
+fn walk<'a>(alloc: Global, variables: &'a Variables, chain: &Chain) -> Result<Seen<'a>, EvalErr>
+    ensures { Finds (term_value variables.now chain.now) result }
+{
+    let first = seen(alloc, variables, &chain.first)?;
+    let mut value = advance(alloc, variables, first, &chain.next)?;
+    for step in &chain.more {
+        value = match advance(alloc, variables, value, step) {
+            Ok(value) => value,
+            Err(why) => return Err(why),
+        };
+    }
+    Ok(value)
+}
+
+// The value after one step. A part of what stands among the variables is not copied.
+#[cycle(evaluate)]
+fn advance<'a>(
     alloc: Global,
     variables: &'a Variables,
-    operand: &Operand,
+    value: Seen<'a>,
+    step: &Step,
 ) -> Result<Seen<'a>, EvalErr>
-    ensures { MatchResult result (λ s. term_value variables.now operand.now ≡ Ok (seen_value s)) (λ e. IsFault (term_value variables.now operand.now) e) }
+    ensures { Finds (stepped variables.now (seen_value value.entry) step.now) result }
 {
-    match lent(variables, &operand.expr) {
-        Some(value) => Ok(Seen::Lent(value)),
-        None => Ok(Seen::Made(evaluate(alloc, variables, &operand.expr)?)),
+    match (value, step) {
+        (Seen::Lent(whole), Step::Field(key)) => lent_field(whole, key),
+        (Seen::Lent(whole), Step::Element(index)) => {
+            lent_element(whole, seen(alloc, variables, index)?.value())
+        }
+        (value, step) => made(apply(alloc, variables, value, step)?),
     }
 }
 
+// What a step makes of a value, before its size is looked at.
+#[cycle(evaluate)]
+fn apply(
+    alloc: Global,
+    variables: &Variables,
+    value: Seen<'_>,
+    step: &Step,
+) -> Result<Value, EvalErr>
+    ensures { Evaluates (plain_step variables.now (seen_value value.entry) step.now) result }
+{
+    match step {
+        Step::Or(right) => either(alloc, variables, value.value(), right),
+        Step::And(right) => both(alloc, variables, value.value(), right),
+        Step::Not => Ok(opposite(value.value())?),
+        Step::Negate => Ok(negated(value.value())?),
+        Step::Compare(rel, right) => Ok(compared(
+            *rel,
+            value.value(),
+            seen(alloc, variables, right)?.value(),
+        )?),
+        Step::Binary(op, right) => operate(
+            alloc,
+            *op,
+            value.value(),
+            seen(alloc, variables, right)?.value(),
+        ),
+        Step::Field(key) => field(alloc, value.value(), key),
+        Step::Element(index) => element(
+            alloc,
+            value.value(),
+            seen(alloc, variables, index)?.value(),
+        ),
+        Step::Len => Ok(length(value.value())?),
+        Step::TextOf => Ok(canonical(alloc, value.value())?),
+        Step::Push(item) => pushed(value.into_value(alloc)?, evaluate(alloc, variables, item)?),
+        Step::With(key, field) => with(alloc, variables, value, key, field),
+    }
+}
+
+// The left side where it is true, and otherwise the right side.
 #[cycle(evaluate)]
 fn either(
     alloc: Global,
     variables: &Variables,
-    left: &Operand,
-    right: &Operand,
+    left: &Value,
+    right: &Expr,
 ) -> Result<Value, EvalErr>
-    ensures { Evaluates (either_of (term_value variables.now left.now) (term_value variables.now right.now)) result }
+    ensures { Evaluates (either_of (Ok left.now) (value_at variables.now right.now)) result }
 {
-    if truth(operand(alloc, variables, left)?.value())? {
+    if truth(left)? {
         return Ok(Value::Bool(true));
     }
-    Ok(settled(operand(alloc, variables, right)?.value())?)
+    Ok(settled(seen(alloc, variables, right)?.value())?)
 }
 
+// The left side where it is false, and otherwise the right side.
 #[cycle(evaluate)]
-fn both(
-    alloc: Global,
-    variables: &Variables,
-    left: &Operand,
-    right: &Operand,
-) -> Result<Value, EvalErr>
-    ensures { Evaluates (both_of (term_value variables.now left.now) (term_value variables.now right.now)) result }
+fn both(alloc: Global, variables: &Variables, left: &Value, right: &Expr) -> Result<Value, EvalErr>
+    ensures { Evaluates (both_of (Ok left.now) (value_at variables.now right.now)) result }
 {
-    if !truth(operand(alloc, variables, left)?.value())? {
+    if !truth(left)? {
         return Ok(Value::Bool(false));
     }
-    Ok(settled(operand(alloc, variables, right)?.value())?)
+    Ok(settled(seen(alloc, variables, right)?.value())?)
 }
 
-#[cycle(evaluate)]
-fn binary(
-    alloc: Global,
-    variables: &Variables,
-    op: Op,
-    left: &Operand,
-    right: &Operand,
-) -> Result<Value, EvalErr>
-    ensures { Evaluates (on_two (operate_of op) (term_value variables.now left.now) (term_value variables.now right.now)) result }
-{
-    let left = operand(alloc, variables, left)?;
-    let right = operand(alloc, variables, right)?;
-    operate(alloc, op, left.value(), right.value())
-}
-
-#[cycle(evaluate)]
-fn element_at(
-    alloc: Global,
-    variables: &Variables,
-    list: &Operand,
-    index: &Operand,
-) -> Result<Value, EvalErr>
-    ensures { Evaluates (on_two element_of (term_value variables.now list.now) (term_value variables.now index.now)) result }
-{
-    let list = operand(alloc, variables, list)?;
-    let index = operand(alloc, variables, index)?;
-    element(alloc, list.value(), index.value())
-}
-
-#[cycle(evaluate)]
-fn push(
-    alloc: Global,
-    variables: &Variables,
-    list: &Operand,
-    item: &Operand,
-) -> Result<Value, EvalErr>
-    ensures { Evaluates (on_two pushed_of (term_value variables.now list.now) (term_value variables.now item.now)) result }
-{
-    let list = operand(alloc, variables, list)?;
-    let item = operand(alloc, variables, item)?;
-    pushed(list.into_value(alloc)?, item.into_value(alloc)?)
-}
-
+// The record, where the field of this key has this value.
 #[cycle(evaluate)]
 fn with(
     alloc: Global,
     variables: &Variables,
-    whole: &Operand,
-    key: &Operand,
-    value: &Operand,
+    whole: Seen<'_>,
+    key: &Expr,
+    value: &Expr,
 ) -> Result<Value, EvalErr>
-    ensures { Evaluates (on_three with_field_of (term_value variables.now whole.now) (term_value variables.now key.now) (term_value variables.now value.now)) result }
+    ensures { Evaluates (on_three with_field_of (Ok (seen_value whole.entry)) (value_at variables.now key.now) (value_at variables.now value.now)) result }
 {
-    let whole = operand(alloc, variables, whole)?;
-    let key = operand(alloc, variables, key)?;
-    let value = operand(alloc, variables, value)?;
-    with_field(
-        alloc,
-        whole.into_value(alloc)?,
-        key.value(),
-        value.into_value(alloc)?,
-    )
+    let whole = whole.into_value(alloc)?;
+    let key = seen(alloc, variables, key)?;
+    let value = evaluate(alloc, variables, value)?;
+    with_field(alloc, whole, key.value(), value)
 }
 
 #[cycle(evaluate)]

@@ -1,29 +1,38 @@
 //! The language of deployments: functions and their bodies, what a body wants, and the machine that runs one.
-//! It stands on `beldi_value`. Its definitions: `specs/Term` (what an expression stands for, by `specs/Expr`),
-//! `specs/Evaluate` (the value of an expression or its fault, by recursion on the expression), `specs/Wants` (what a body
-//! wants after these answers, by recursion on the body) and `specs/Machine` (the machine's steps, and that it wants what
-//! the body wants).
+//! It stands on `beldi_value`. Its definitions: `specs/Term` and `specs/Command` (what an expression and a statement stand
+//! for, by `specs/Expr` and `specs/Statement`), `specs/Evaluate` (the value of an expression or its fault, by recursion on
+//! the expression), `specs/Wants` (what a body wants after these answers, by recursion on its statements) and
+//! `specs/Machine` (the machine after these answers, and one answer further).
 #![tactic(auto)]
 
+mod block;
 mod deployment;
 mod effect;
 mod evaluation;
 mod fault;
 mod machine;
-mod operands;
 mod operators;
+mod parts;
+mod request;
+mod run;
 mod seen;
+mod state;
 mod variables;
 
-pub use deployment::{Block, Deployment, Expr, Form, Func, Funcs, Op, Stmt, TableHead, TableHeads};
+pub use block::Block;
+pub use deployment::{Deployment, Expr, Form, Func, Funcs, Op, Step, Stmt, TableHead, TableHeads};
 pub use effect::{Answer, Effect};
 pub use evaluation::{evaluate, key_at};
 pub use fault::EvalErr;
 pub use machine::Machine;
-pub use operands::{Exprs, Members, Operand};
+pub use parts::{Chain, Exprs, Members};
 pub use variables::Variables;
 
 #[cfg(test)]
 mod cases;
+#[cfg(test)]
+mod random_tests;
+#[cfg(test)]
+mod slow;
 #[cfg(test)]
 mod tests;

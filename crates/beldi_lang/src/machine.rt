@@ -1,206 +1,126 @@
 // The machine that runs a body, one answer at a time.
-ghost use Rattle.std.specs.Prelude.{◌≡◌, ◌+◌, ◌-◌, ◌<◌, ◌^◌, ◌++◌, ◌∷◌, [], ℕ, List, length, slice_get, option_copied, min, IfOk, IsTrue};
-ghost use Rattle.beldi_lang.specs.Wants.{func_at, table_number as table_number_of, counted as counted_of, writes, returns, wants, wants_answer};
-ghost use Rattle.beldi_lang.specs.Evaluate.{value_at};
-ghost use Rattle.beldi_lang.specs.Machine.{begun, resumed, effect_at, effect_of_form, name_of as name_of_stmt, after_stmt, IsAt};
+ghost use Rattle.std.specs.Prelude.{◌≡◌, ◌-◌, ◌++◌, ◌∷◌, [], Bool, List, IfOk, IsTrue, option_copied};
+ghost use Rattle.beldi_lang.specs.Wants.{wants_answer, outcome_of, first_state as first_state_of};
+ghost use Rattle.beldi_lang.specs.Machine.{begun, resumed, released as released_of, standing as standing_of, IsAt};
+ghost use Rattle.beldi_lang.specs.Told.{told};
 ghost use Rattle.beldi_lang.specs.declared.effect.Answer.{Answer};
 ghost use Rattle.beldi_lang.specs.declared.deployment.Deployment.{Deployment};
 ghost use Rattle.beldi_value.specs.declared.value.Value.{Value};
 
-use crate::deployment::{Deployment, Expr, Form, Func, Stmt};
+use crate::deployment::{Deployment, Func};
 use crate::effect::{Answer, Effect};
-use crate::evaluation::evaluate;
-use crate::fault::EvalErr;
+use crate::run::run_body;
+use crate::state::{Exit, HeldLock, Locks, Place, Start, State, Went};
 use crate::variables::Variables;
-use beldi_value::{Code, Outcome, Str, Value};
+use beldi_value::{Outcome, Value};
 use std::alloc::{AllocError, Global};
 
-const MOST_EFFECTS: u32 = 10_000;
+/// What a machine does with the answer to its effect.
+#[derive(Drop)]
+pub enum Stage {
+    /// The body goes on at this place.
+    Running(Place),
+    /// The body is left so, and its locks are released.
+    Releasing(Outcome),
+    Returned,
+}
 
 /// A body that is run: it stands at an effect that lacks its answer.
 #[derive(Drop)]
 pub struct Machine {
     func: u16,
-    variables: Variables,
     steps: u32,
     effect: Effect,
+    state: State,
+    stage: Stage,
 }
 
-impl Deployment {
-    /// The function of this number, from 1.
-    pub fn func_at(&self, number: u16) -> Option<&Func>
-        ensures { option_copied result ≡ func_at self.now number }
-    {
-        if number == 0 {
-            return None;
-        }
-        self.funcs.as_slice().get(number as usize - 1)
-    }
-}
-
-// The number of the table of this name, from 0, as an effect has it.
-fn table_number(func: &Func, name: &Str) -> u16
-    ensures { result ≡ table_number_of func.now.tables name.now }
-{
-    let mut number = 0usize;
-    for table in func.tables.as_slice() {
-        if table.name == *name {
-            return capped(number);
-        }
-        number += 1;
-    }
-    capped(number)
-}
-
-fn capped(number: usize) -> u16
-    ensures { result ≡ min number (2 ^ 16 - 1) }
-{
-    if number < 0xffff {
-        number as u16
-    } else {
-        u16::MAX
-    }
-}
-
-// The effect, where the body may have one more.
-fn counted(used: u32, effect: Effect) -> Effect
-    ensures { result ≡ counted_of used effect }
-{
-    if used < MOST_EFFECTS {
-        effect
-    } else {
-        Effect::Return(Outcome::Fault(Code::Steps))
-    }
-}
-
-// The value of an expression, or the fault that ends the body.
-fn value_of(
+// What a body has at its first statement: the parameter has the arguments.
+fn first_state(
     alloc: Global,
-    variables: &Variables,
-    expr: &Expr,
-) -> Result<Result<Value, Code>, AllocError>
-    ensures { IfOk result (λ r. r ≡ value_at variables.now expr.now) }
+    func: Option<&Func>,
+    args: Value,
+    inherited: bool,
+) -> Result<State, AllocError>
+    ensures { IfOk result (λ s. s ≡ first_state_of (option_copied func.entry) args inherited) }
 {
-    match evaluate(alloc, variables, expr) {
-        Ok(value) => Ok(Ok(value)),
-        Err(EvalErr::Fault(code)) => Ok(Err(code)),
-        Err(EvalErr::OutOfMemory) => Err(AllocError),
+    let mut variables = Variables::new(alloc);
+    if let Some(func) = func {
+        variables.set(func.param.copy(alloc)?, args)?;
+    }
+    Ok(State {
+        variables,
+        saved: Variables::new(alloc),
+        used: 0,
+        held: Locks::new(alloc),
+        inside: inherited,
+    })
+}
+
+// What the body returns.
+fn outcome(exit: Exit) -> Outcome
+    ensures { result ≡ outcome_of exit }
+{
+    match exit {
+        Exit::Ends(outcome) => outcome,
+        Exit::Goes | Exit::Breaks => Outcome::Value(Value::Null),
     }
 }
 
-fn returned(value: Result<Value, Code>) -> Effect
-    ensures { result ≡ returns value }
+// The machine of a body that was left: each lock is released before the return.
+fn released(func: u16, steps: u32, outcome: Outcome, state: State) -> Machine
+    ensures { result ≡ released_of func steps outcome state state.held [] }
 {
-    match value {
-        Ok(value) => Effect::Return(Outcome::Value(value)),
-        Err(code) => Effect::Return(Outcome::Fault(code)),
+    let mut state = state;
+    match state.held.pop() {
+        Some(HeldLock { table, key }) => Machine {
+            func,
+            steps,
+            effect: Effect::Unlock { table, key },
+            state,
+            stage: Stage::Releasing(outcome),
+        },
+        None => Machine {
+            func,
+            steps,
+            effect: Effect::Return(outcome),
+            state,
+            stage: Stage::Returned,
+        },
     }
 }
 
-// The effect of a write, where the body may have one more.
-fn written(used: u32, table: u16, key: Str, value: Result<Value, Code>) -> Effect
-    ensures { result ≡ writes used table key value }
+// The machine of what the body leads to.
+fn standing(func: u16, steps: u32, went: Went, state: State) -> Machine
+    ensures { result ≡ standing_of func steps (told went state) }
 {
-    match value {
-        Ok(value) => counted(used, Effect::Write { table, key, value }),
-        Err(code) => Effect::Return(Outcome::Fault(code)),
+    match went {
+        Went::Stops(effect, place) => Machine {
+            func,
+            steps,
+            effect,
+            state,
+            stage: Stage::Running(place),
+        },
+        Went::Leaves(exit) => released(func, steps, outcome(exit), state),
     }
-}
-
-fn effect_from(
-    alloc: Global,
-    func: &Func,
-    used: u32,
-    variables: &Variables,
-    form: &Form,
-) -> Result<Effect, AllocError>
-    ensures { IfOk result (λ e. e ≡ effect_of_form func.now.tables used form.now variables.now) }
-{
-    match form {
-        Form::Read {
-            name: _,
-            table,
-            key,
-        } => {
-            let table = table_number(func, table);
-            let key = key.copy(alloc)?;
-            Ok(counted(used, Effect::Read { table, key }))
-        }
-        Form::Write { table, key, value } => {
-            let value = value_of(alloc, variables, value)?;
-            let key = key.copy(alloc)?;
-            Ok(written(used, table_number(func, table), key, value))
-        }
-        Form::Return(value) => Ok(returned(value_of(alloc, variables, value)?)),
-    }
-}
-
-// The statement of this number, from 0.
-fn stmt_at(func: &Func, number: u32) -> Option<&Stmt>
-    ensures { option_copied result ≡ slice_get func.now.body number }
-{
-    func.body.as_slice().get(number as usize)
-}
-
-// The effect of the statement of this number, from 0.
-fn effect_of(
-    alloc: Global,
-    func: &Func,
-    number: u32,
-    variables: &Variables,
-) -> Result<Effect, AllocError>
-    ensures { IfOk result (λ e. e ≡ effect_at func.now number variables.now) }
-{
-    match stmt_at(func, number) {
-        Some(stmt) => effect_from(alloc, func, number, variables, &stmt.form),
-        None => Ok(Effect::Return(Outcome::Value(Value::Null))),
-    }
-}
-
-// The name that the statement sets to its answer.
-fn name_of(stmt: Option<&Stmt>) -> Option<&Str>
-    ensures { option_copied result ≡ name_of_stmt (option_copied stmt.entry) }
-{
-    match stmt {
-        Some(
-            Stmt {
-                form: Form::Read { name, .. },
-            },
-        ) => Some(name),
-        _ => None,
-    }
-}
-
-// The variables after a statement had its answer.
-fn answered(
-    alloc: Global,
-    stmt: Option<&Stmt>,
-    variables: Variables,
-    answer: Answer,
-) -> Result<Variables, AllocError>
-    ensures { IfOk result (λ v. v ≡ after_stmt (option_copied stmt.entry) variables answer) }
-{
-    let mut variables = variables;
-    if let (Some(name), Answer::Value(value)) = (name_of(stmt), answer) {
-        variables.set(name.copy(alloc)?, value)?;
-    }
-    Ok(variables)
 }
 
 impl Machine {
-    /// The body of a function of this number, at its first effect.
-    pub fn new(alloc: Global, func: &Func, number: u16, args: Value) -> Result<Machine, AllocError>
-        ensures { IfOk result (λ m. m ≡ begun number func.now args) }
+    /// The body of the function of this number, at its first effect. An inherited body is inside a transaction from its start.
+    pub fn new(
+        alloc: Global,
+        code: &Deployment,
+        func: u16,
+        args: Value,
+        inherited: bool,
+    ) -> Result<Machine, AllocError>
+        ensures begun { IfOk result (λ m. m ≡ begun code.now func args inherited) }
+        ensures stands { IfOk result (λ m. IsAt code.now func args inherited m []) }
     {
-        let mut variables = Variables::new(alloc);
-        variables.set(func.param.copy(alloc)?, args)?;
-        let effect = effect_of(alloc, func, 0, &variables)?;
-        Ok(Machine {
-            func: number,
-            variables,
-            steps: 0,
-            effect,
-        })
+        let mut state = first_state(alloc, code.func_at(func), args, inherited)?;
+        let went = run_body(alloc, code, func, Start::Afresh, &mut state)?;
+        Ok(standing(func, 0, went, state))
     }
 
     /// The effect that lacks its answer.
@@ -216,28 +136,46 @@ impl Machine {
     {
         self.steps
     }
-}
 
-impl Machine {
     /// Takes the answer to the effect, and goes on to the next one.
-    pub fn resume(self, alloc: Global, func: &Func, answer: Answer) -> Result<Machine, AllocError>
-        ensures resumed { IfOk result (λ m. m ≡ resumed func.now self answer) }
-        ensures stands { IfOk result (λ m. (d : Deployment) (args : Value) (before : List Answer) → IsTrue (wants_answer self.effect) → func_at d self.func ≡ Some func.now → IsAt d self.func args self before → IsAt d self.func args m (before ++ answer ∷ [])) }
+    pub fn resume(
+        self,
+        alloc: Global,
+        code: &Deployment,
+        answer: Answer,
+    ) -> Result<Machine, AllocError>
+        ensures resumed { IfOk result (λ m. m ≡ resumed code.now self answer) }
+        ensures stands { IfOk result (λ m. (args : Value) (inherited : Bool) (before : List Answer) → IsTrue (wants_answer self.effect) → IsAt code.now self.func args inherited self before → IsAt code.now self.func args inherited m (before ++ answer ∷ [])) }
+    {
+        self.go_on(alloc, code, answer)
+    }
+
+    fn go_on(self, alloc: Global, code: &Deployment, answer: Answer) -> Result<Machine, AllocError>
+        ensures { IfOk result (λ m. m ≡ resumed code.now self answer) }
     {
         let Machine {
-            func: number,
-            variables,
-            steps,
-            effect: _,
-        } = self;
-        let variables = answered(alloc, stmt_at(func, steps), variables, answer)?;
-        let steps = steps.saturating_add(1);
-        let effect = effect_of(alloc, func, steps, &variables)?;
-        Ok(Machine {
-            func: number,
-            variables,
+            func,
             steps,
             effect,
-        })
+            state,
+            stage,
+        } = self;
+        let mut state = state;
+        let steps = steps.saturating_add(1);
+        match stage {
+            Stage::Running(place) => {
+                let start = Start::From { place, answer };
+                let went = run_body(alloc, code, func, start, &mut state)?;
+                Ok(standing(func, steps, went, state))
+            }
+            Stage::Releasing(outcome) => Ok(released(func, steps, outcome, state)),
+            Stage::Returned => Ok(Machine {
+                func,
+                steps,
+                effect,
+                state,
+                stage: Stage::Returned,
+            }),
+        }
     }
 }

@@ -16,7 +16,7 @@ ghost use Rattle.beldi_lang.specs.Evaluate.{
   remainder as remainder_of,
   ints,
   joined as joined_of,
-  order as order_of,
+  compared as compared_of,
   operate as operate_of,
   opposite as opposite_of,
   negated as negated_of,
@@ -32,9 +32,8 @@ ghost use Rattle.beldi_lang.specs.Evaluate.{
 
 use crate::deployment::Op;
 use crate::fault::EvalErr;
-use beldi_value::{Code, Rec, Str, Value, Values};
+use beldi_value::{Code, Rec, Rel, Str, Value, Values};
 use std::alloc::{AllocError, Global};
-use std::cmp::Ordering;
 
 const MOST_KEY: usize = 256;
 
@@ -155,17 +154,6 @@ fn remainder(m: i64, n: i64) -> Result<Value, Code>
     }
 }
 
-// Two numbers, or two texts by their bytes.
-fn order(left: &Value, right: &Value) -> Result<Ordering, Code>
-    ensures { result ≡ order_of left.now right.now }
-{
-    match (left, right) {
-        (Value::Int(m), Value::Int(n)) => Ok(m.cmp(n)),
-        (Value::Text(s), Value::Text(t)) => Ok(s.cmp(t)),
-        _ => Err(Code::WrongType),
-    }
-}
-
 fn joined(alloc: Global, left: &Value, right: &Value) -> Result<Value, EvalErr>
     ensures { Evaluates (joined_of left.now right.now) result }
 {
@@ -176,17 +164,25 @@ fn joined(alloc: Global, left: &Value, right: &Value) -> Result<Value, EvalErr>
     Ok(Value::Text(all))
 }
 
+// Whether the left side stands so to the right side.
+pub(crate) fn compared(rel: Rel, left: &Value, right: &Value) -> Result<Value, Code>
+    ensures { result ≡ compared_of rel left.now right.now }
+{
+    match rel {
+        Rel::Eq => Ok(Value::Bool(*left == *right)),
+        Rel::Ne => Ok(Value::Bool(!(*left == *right))),
+        _ => match left.order(right) {
+            Some(order) => Ok(Value::Bool(rel.meets(order))),
+            None => Err(Code::WrongType),
+        },
+    }
+}
+
 // What an operator makes of the values of both sides.
 pub(crate) fn operate(alloc: Global, op: Op, left: &Value, right: &Value) -> Result<Value, EvalErr>
     ensures { Evaluates (operate_of op left.now right.now) result }
 {
     match op {
-        Op::Eq => Ok(Value::Bool(*left == *right)),
-        Op::Ne => Ok(Value::Bool(!(*left == *right))),
-        Op::Lt => Ok(Value::Bool(order(left, right)?.is_lt())),
-        Op::Le => Ok(Value::Bool(!order(left, right)?.is_gt())),
-        Op::Gt => Ok(Value::Bool(order(left, right)?.is_gt())),
-        Op::Ge => Ok(Value::Bool(!order(left, right)?.is_lt())),
         Op::Add => Ok(sum(int(left)?, int(right)?)?),
         Op::Sub => Ok(difference(int(left)?, int(right)?)?),
         Op::Join => joined(alloc, left, right),

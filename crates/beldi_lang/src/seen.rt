@@ -1,15 +1,13 @@
 // Values that need no copy.
-ghost use Rattle.std.specs.Prelude.{◌≡◌, Ok, Some, IfOk, IfSome, option_copied};
-ghost use Rattle.beldi_lang.specs.Evaluate.{value_at, limited, field_of};
-ghost use Rattle.beldi_value.specs.declared.value.Value.{Value};
-ghost use Rattle.beldi_lang.specs.Seen.{seen_value};
+ghost use Rattle.std.specs.Prelude.{◌≡◌, Ok, IfOk, option_copied};
+ghost use Rattle.beldi_lang.specs.Evaluate.{limited as limited_of, field_of, element_of, or_null, and_then};
+ghost use Rattle.beldi_lang.specs.Seen.{seen_value, Finds};
 
-use crate::deployment::Expr;
-use crate::variables::Variables;
-use beldi_value::{Str, Value};
+use crate::fault::EvalErr;
+use beldi_value::{Code, Str, Value};
 use std::alloc::{AllocError, Global};
 
-/// The value of a part of an expression.
+/// The value of an expression.
 #[derive(Drop)]
 pub(crate) enum Seen<'a> {
     /// It stands among the variables.
@@ -37,32 +35,49 @@ impl Seen<'_> {
     }
 }
 
-// The value of an expression, where it stands among the variables: a variable, or a field of one.
-pub(crate) fn lent<'a>(variables: &'a Variables, expr: &Expr) -> Option<&'a Value>
-    ensures { IfSome result (λ v. value_at variables.now expr.now ≡ Ok v.now) }
+// The value, within the limits of what is stored.
+fn limited(seen: Seen<'_>) -> Result<Seen<'_>, EvalErr>
+    ensures { Finds (limited_of (seen_value seen.entry)) result }
 {
-    match expr {
-        Expr::Name(name) => within(variables.get(name)),
-        Expr::Field(whole, key) => within(field(lent(variables, &whole.expr), key)),
-        _ => None,
+    if seen.value().is_within() {
+        Ok(seen)
+    } else {
+        Err(EvalErr::Fault(Code::ValueTooLarge))
     }
 }
 
-// The value, where it is one within the limits.
-fn within(value: Option<&Value>) -> Option<&Value>
-    ensures { IfSome result (λ v. (option_copied value.entry ≡ Some v.now) × (limited v.now ≡ Ok v.now)) }
+pub(crate) fn made<'a>(value: Value) -> Result<Seen<'a>, EvalErr>
+    ensures { Finds (limited_of value) result }
 {
-    match value {
-        Some(value) if value.is_within() => Some(value),
-        _ => None,
+    limited(Seen::Made(value))
+}
+
+/// The value, or null where there is none.
+pub(crate) fn lent(found: Option<&Value>) -> Result<Seen<'_>, EvalErr>
+    ensures { Finds (limited_of (or_null (option_copied found.entry))) result }
+{
+    match found {
+        Some(value) => limited(Seen::Lent(value)),
+        None => made(Value::Null),
     }
 }
 
-fn field<'a>(whole: Option<&'a Value>, key: &Str) -> Option<&'a Value>
-    ensures { IfSome result (λ v. (w : Value) × (option_copied whole.entry ≡ Some w) × (field_of key.now w ≡ Ok v.now)) }
+/// A field of a value that stands among the variables.
+pub(crate) fn lent_field<'a>(whole: &'a Value, key: &Str) -> Result<Seen<'a>, EvalErr>
+    ensures { Finds (and_then (field_of key.now whole.entry.now) limited_of) result }
 {
     match whole {
-        Some(Value::Rec(fields)) => fields.get(key),
-        _ => None,
+        Value::Rec(fields) => lent(fields.get(key)),
+        _ => Err(EvalErr::Fault(Code::WrongType)),
+    }
+}
+
+/// An element of a value that stands among the variables.
+pub(crate) fn lent_element<'a>(whole: &'a Value, index: &Value) -> Result<Seen<'a>, EvalErr>
+    ensures { Finds (and_then (element_of whole.entry.now index.now) limited_of) result }
+{
+    match (whole, index) {
+        (Value::List(items), Value::Int(index)) => lent(items.at(*index)),
+        _ => Err(EvalErr::Fault(Code::WrongType)),
     }
 }

@@ -1,7 +1,7 @@
 // The variables of a body.
-ghost use Rattle.std.specs.Prelude.{◌≡◌, option_copied, OnOk, OnErr};
+ghost use Rattle.std.specs.Prelude.{◌≡◌, option_copied, OnOk, OnErr, IfOk};
 ghost use Rattle.std.specs.FinMap as map;
-ghost use Rattle.beldi_lang.specs.Wants.{no_variables};
+ghost use Rattle.beldi_lang.specs.Bindings.{no_variables};
 
 use beldi_value::{Str, Value};
 use std::alloc::{AllocError, Global};
@@ -18,7 +18,7 @@ impl Model for Variables {
     ghost use Rattle.std.specs.FinMap as map;
     ghost use Rattle.std.specs.Coded.{coded_list, coded_ℕ};
     ghost use Rattle.beldi_value.specs.Injective.{coded_value};
-    ghost use Rattle.beldi_lang.specs.Wants.{Bindings};
+    ghost use Rattle.beldi_lang.specs.Bindings.{Bindings};
 
     ghost Value = { Bindings };
 
@@ -34,6 +34,17 @@ impl Variables {
         Variables {
             entries: BTreeMap::new(alloc),
         }
+    }
+
+    /// Equal variables.
+    pub(crate) fn copy(&self, alloc: Global) -> Result<Variables, AllocError>
+        ensures { IfOk result (λ v. v ≡ self.now) }
+    {
+        let mut copy = Variables::new(alloc);
+        for (name, value) in self.entries.iter() {
+            copy.set(name.copy(alloc)?, value.copy(alloc)?)?;
+        }
+        Ok(copy)
     }
 
     /// The value of a name, where it has one.

@@ -39,7 +39,7 @@ use Rattle.beldi_step.specs.declared.run.Begun.{Begun}
 use Rattle.beldi_step.specs.declared.run.Stage.{Stage}
 use Rattle.beldi_step.specs.declared.run.Stage.TheVariants as stage
 use Rattle.beldi_value.specs.declared.id.IntentId.{IntentId}
-use Rattle.beldi_step.specs.Run.{Turned, run_key, run_act, run_turned, intent_key, begin_body, body_told, stage_key, stage_act, stage_turned, key_at, act_at, turned_at, place_of, ask_turned, walk_turned, write_turned}
+use Rattle.beldi_step.specs.Run.{Turned, over, run_key, run_act, run_turned, intent_key, begin_body, body_told, stage_key, stage_act, stage_turned, key_at, act_at, turned_at, place_of, ask_turned, walk_turned, write_turned}
 use Rattle.beldi_step.specs.Host.{Core, Plan, Answer, Do, Lose, first_core, root_key, most_runs, most_events, ticket_next, new_run, restarted, restart_plan, crash_plan, ended_run, lost_next, lost_plan, bound_next, request_next, turn_next, no_run, turn_plan, request_plan, plan_of, counted, plan, dropped, Acts, Loses, Follows, IsOneEvent, Breaks}
 use Rattle.beldi_step.specs.Session.{Runs}
 use Rattle.beldi_laws.specs.Stands.{head_key, effect_before}
@@ -96,16 +96,11 @@ module _ (d : Deployment) (c : Core) (m : Rows) (i : ℕ) (r : Run) (h : Right d
   stage_turn g k (stage.Write w) (Write t key v) is ok at =
       subst (λ w. Good d h.plain c.now m (Do (walk_key w) (walk_act w) (λ t. turn_next c i (write_turned d r g.machine (walk_next w t))))) (sym ok.1) (write_turn d c m i r g h live k t key v is ok.0)
   stage_turn g k (stage.Close o) (Return u) is ok at = close_turn d c m i r g h live k o (map.get m (intent_key r.id r.func)) refl (h.rows.one_row (intent_key r.id r.func)) (is ∙ ap Return (sym ok))
-  stage_turn g k (stage.Ask w) (Write t key v) is ok at = absurd ok
-  stage_turn g k (stage.Ask w) (Return u) is ok at = absurd ok
-  stage_turn g k (stage.Walk w) (Write t key v) is ok at = absurd ok
-  stage_turn g k (stage.Walk w) (Return u) is ok at = absurd ok
-  stage_turn g k (stage.Keep v seen) (Write t key u) is ok at = absurd ok
-  stage_turn g k (stage.Keep v seen) (Return u) is ok at = absurd ok
-  stage_turn g k (stage.Write w) (Read t key) is ok at = absurd ok
-  stage_turn g k (stage.Write w) (Return u) is ok at = absurd ok
-  stage_turn g k (stage.Close o) (Read t key) is ok at = absurd ok
-  stage_turn g k (stage.Close o) (Write t key v) is ok at = absurd ok
+  stage_turn g k stage.Unbuilt e is ok at =
+      let key = intent_key r.id r.func in
+      subst (AfterTurn d h.plain c i over) (sym (looked c.now key m))
+      (quiet d c m m i r over h live (λ t. refl) (record { entry = refl; reply = refl; next = tt }) h.rows)
+  stage_turn g k s e is ok at = absurd ok
 
   at_turn : (at : Option Begun) → KnowsAt d c.book h.plain r at → Good d h.plain c.now m (Do (key_at r at) (act_at at) (λ t. turn_next c i (turned_at d r (count_changes c.book) at t)))
   at_turn None k =

@@ -49,9 +49,8 @@ set_kept f y Null h = changed item_exact f (map.remove f y) y None (get-remove i
 set_kept f y v h = changed item_exact f (map.insert f y v) y (Some v) (get-insert item_total f y v) (λ x o. o ≡ Some Null → ⊥) (λ e. cc) h
 
 by_kept : (p : PlainState) (id : IntentId) (q : Instance) (e : Effect) → NoNull p.items → NoNull (step_by p id q e).items
-by_kept p id q (effect.Read t k) h = h
 by_kept p id q (effect.Write t k v) h = set_kept p.items (record { func = q.func; table = t; key = k }) v h
-by_kept p id q (effect.Return o) h = h
+by_kept p id q e h = h
 
 after_kept : (d : Deployment) (p : PlainState) (e : Entry) (q : PlainState) → NoNull p.items → after d p e ≡ Some q → NoNull q.items
 after_kept d p (Start t f a) q h is = subst (λ (z : PlainState). NoNull z.items) (did d p (Start t f a) q is).leads h

@@ -75,9 +75,9 @@ one_row = record {
 abbrev StartsNone : Turned → Type 0
 StartsNone s = starts_of (option_to_list s.entry) ≡ []
 
-in_none : (r : Run) (f : Option Func) (a : Value) → StartsNone (begin_in r f a)
-in_none r None a = refl
-in_none r (Some f) a = refl
+in_none : (d : Deployment) (r : Run) (f : Option Func) (a : Value) → StartsNone (begin_in d r f a)
+in_none d r None a = refl
+in_none d r (Some f) a = refl
 
 if_none : (b : Bool) (s : Turned) → StartsNone s → StartsNone (if b then s else over)
 if_none true s h = h
@@ -85,7 +85,7 @@ if_none false s h = refl
 
 begin_none : (d : Deployment) (r : Run) (b : Option Body) → StartsNone (begin_body d r b)
 begin_none d r None = refl
-begin_none d r (Some b) = if_none (b.func == r.func) (begin_in r (func_at d r.func) b.args) (in_none r (func_at d r.func) b.args)
+begin_none d r (Some b) = if_none (b.func == r.func) (begin_in d r (func_at d r.func) b.args) (in_none d r (func_at d r.func) b.args)
 
 noted_none : (d : Deployment) (r : Run) (m : Machine) (first b : Bool) → StartsNone (noted_turned d r m first b)
 noted_none d r m true true = refl
@@ -120,6 +120,7 @@ stage_none d r changes m (stage.Ask w) t = ask_none d r m w (given_of t)
 stage_none d r changes m (stage.Walk w) t = walk_none r m w changes (read_next w t)
 stage_none d r changes m (stage.Keep v seen) t = read_none (kept_of v t).added r.id seen
 stage_none d r changes m (stage.Write w) t = write_none d r m (walk_next w t)
+stage_none d r changes m stage.Unbuilt t = refl
 stage_none d r changes m (stage.Close o) t = close_none r o t
 
 turn_none : (d : Deployment) (r : Run) (changes : ℕ) (at : Option Begun) (t : Tell) → StartsNone (turned_at d r changes at t)

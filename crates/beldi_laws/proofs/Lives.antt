@@ -9,7 +9,7 @@ use Rattle.beldi_value.specs.declared.value.Value.{Value}
 use Rattle.beldi_lang.specs.declared.deployment.Deployment.{Deployment}
 use Rattle.beldi_lang.specs.declared.effect.Answer.{Answer}
 use Rattle.beldi_lang.specs.declared.effect.Effect.{Effect}
-use Rattle.beldi_lang.specs.declared.effect.Effect.TheVariants.{Read, Write, Return}
+use Rattle.beldi_lang.specs.declared.effect.Effect.TheVariants.{Read}
 use Rattle.beldi_lang.specs.Machine.{IsAt}
 use Rattle.beldi_book.specs.declared.entry.Entry.{Entry}
 use Rattle.beldi_book.specs.Order.{changes_of, count_changes}
@@ -59,12 +59,10 @@ knows_more d book more p q r g h (Some j) is w on = record {
   instance = j;
   made = is;
   func = w.func ∙ h.func;
-  body = h.body;
-  has_body = h.has_body;
   answers = h.answers;
   later = h.later ++ w.later;
   run_answers = sym (append_assoc h.answers h.later w.later) ∙ ap (λ xs. xs ++ w.later) h.run_answers ∙ w.more;
-  machine = subst (λ a. IsAt d r.func a g.machine h.answers) (sym w.args) h.machine;
+  machine = subst (λ a. IsAt d r.func a false g.machine h.answers) (sym w.args) h.machine;
   run_stage = h.run_stage;
   run_place = on h.answers (h.later ++ w.later) h.later g.machine.effect g.stage (λ none. let both = no_more h.later w.later none in (both.0, not_answered p q r h.instance j h.made is w both.1)) h.run_place;
 }
@@ -98,12 +96,7 @@ places_last d book e p q last r answers later before (Read t k) (stage.Keep v s)
   few = more_changes book e s h.few;
   was_there = λ none. there_last d book e q last r.id answers (record { func = r.func; table = t; key = k }) v s h.few (h.was_there (back none).0);
 }
-places_last d book e p q last r answers later before (Read t k) (stage.Ask w) back h = tt
-places_last d book e p q last r answers later before (Read t k) (stage.Walk w) back h = tt
-places_last d book e p q last r answers later before (Read t k) (stage.Write w) back h = tt
-places_last d book e p q last r answers later before (Read t k) (stage.Close w) back h = tt
-places_last d book e p q last r answers later before (Write t k v) s back h = tt
-places_last d book e p q last r answers later before (Return o) s back h = tt
+places_last d book e p q last r answers later before f s back h = tt
 
 -- a read that is kept late leaves the places of all others as they are
 module _ (d : Deployment) (book : List Entry) (p : PlainState) (id : IntentId) (s : ℕ) (a : Instance) (v : Value) (made : map.get p.made id ≡ Some a) (late : IsKeptLate d book p id s a v) where
@@ -144,12 +137,7 @@ module _ (d : Deployment) (book : List Entry) (p : PlainState) (id : IntentId) (
   places_late : (r : Run) → PlacesOn d book more p then_so r
   unfolding PlacesOn
   places_late r answers later before (Read t k) (stage.Keep u n) back h = keeps_late r answers later before (record { func = r.func; table = t; key = k }) u n back h
-  places_late r answers later before (Read t k) (stage.Ask w) back h = tt
-  places_late r answers later before (Read t k) (stage.Walk w) back h = tt
-  places_late r answers later before (Read t k) (stage.Write w) back h = tt
-  places_late r answers later before (Read t k) (stage.Close w) back h = tt
-  places_late r answers later before (Write t k u) n back h = tt
-  places_late r answers later before (Return o) n back h = tt
+  places_late r answers later before e s back h = tt
 
   pub grows_late : Grows p.made then_so.made
   grows_late = grows_set p.made id (answered a (answer.Value v)) (subst (λ o. GrownAt o (Some (answered a (answer.Value v)))) (sym made) (record { func = refl; args = refl; later = answer.Value v ∷ []; more = refl; over = λ o h. h }))

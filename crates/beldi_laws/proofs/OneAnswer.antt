@@ -10,7 +10,7 @@ use Rattle.beldi_value.specs.declared.value.Value.TheVariants.{Null}
 use Rattle.beldi_lang.specs.declared.deployment.Deployment.{Deployment}
 use Rattle.beldi_lang.specs.declared.effect.Answer.{Answer}
 use Rattle.beldi_lang.specs.declared.effect.Answer.TheVariants as answer
-use Rattle.beldi_lang.specs.declared.effect.Effect.TheVariants.{Read, Write, Return}
+use Rattle.beldi_lang.specs.declared.effect.Effect.TheVariants.{Read, Write}
 use Rattle.beldi_lang.specs.Machine.{IsAt}
 use Rattle.beldi_lang.specs.Wants.{wants}
 use Rattle.beldi_row.specs.declared.notes.Note.{Note}
@@ -44,7 +44,7 @@ module _ (d : Deployment) (c : Core) (m : Rows) (h : Right d c m) (id : IntentId
         given = k.answers;
         later = k.later;
         first = k.run_answers ∙ ap (λ z. z.answers) is;
-        machine = subst (λ a. IsAt d q.func a g.machine k.answers) (ap (λ z. z.args) is) (subst (λ f. IsAt d f k.instance.args g.machine k.answers) func k.machine);
+        machine = subst (λ a. IsAt d q.func a false g.machine k.answers) (ap (λ z. z.args) is) (subst (λ f. IsAt d f k.instance.args false g.machine k.answers) func k.machine);
       }
 
   answers_of : (o : Option Instance) → map.get h.plain.made id ≡ o → HasAnswers d c m id
@@ -83,8 +83,8 @@ module _ (d : Deployment) (q r : Instance) (g : Grown q r) (n : ℕ) where
 
   same_effect : (a : Answer) → slice_get q.answers n ≡ Some a → effect_before d r n ≡ effect_before d q n
   same_effect a e =
-      ap (λ xs. wants d r.func r.args (take n xs)) (sym g.more) ∙ ap (wants d r.func r.args) (take_within q.answers g.later n a e)
-      ∙ (λ i. wants d (g.func i) (g.args i) (take n q.answers))
+      ap (λ xs. wants d r.func r.args false (take n xs)) (sym g.more) ∙ ap (wants d r.func r.args false) (take_within q.answers g.later n a e)
+      ∙ (λ i. wants d (g.func i) (g.args i) false (take n q.answers))
 
   note_stays : (x : Item) (o : Option Answer) (v : Note) → slice_get q.answers n ≡ o → note_if x q.func (effect_before d q n) o ≡ Some v → owed_by d x n (Some r) ≡ Some v
   note_stays x None v at is = cc
@@ -135,4 +135,4 @@ module _ (d : Deployment) (m n : Rows) (p q : PlainState) (h : RowsMatch d m p) 
       let v = of_note (note_at (content_of m x).notes at) a held in
       let now : note_at (content_of n x).notes at ≡ Some v.0 = k.notes x at ∙ owed_stays d x step (map.get p.made id) (map.get q.made id) v.0 (grows id) (sym (h.notes x at) ∙ v.1) in
       ap (option_and_then noted_answer) (now ∙ sym v.1) ∙ held
-  answers_stay id func step (Return o) a held = cc
+  answers_stay id func step e a held = cc

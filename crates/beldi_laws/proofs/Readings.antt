@@ -12,7 +12,8 @@ use Rattle.beldi_lang.specs.declared.deployment.Deployment.{Deployment}
 use Rattle.beldi_lang.specs.declared.effect.Answer.{Answer}
 use Rattle.beldi_lang.specs.declared.effect.Answer.TheVariants as answer
 use Rattle.beldi_lang.specs.declared.effect.Effect.TheVariants.{Read}
-use Rattle.beldi_lang.specs.Wants.{func_at, wants_answer, or_null}
+use Rattle.beldi_lang.specs.Machine.{resumed}
+use Rattle.beldi_lang.specs.Wants.{wants_answer, or_null}
 use Rattle.beldi_book.specs.declared.entry.Entry.TheVariants as entry
 use Rattle.beldi_book.specs.Order.{count_changes, front, back, linear}
 use Rattle.beldi_book.proofs.Orders.{linear_changes, front_back}
@@ -37,7 +38,7 @@ use Rattle.beldi_step.specs.declared.run.Run.{Run}
 use Rattle.beldi_step.specs.declared.run.Begun.{Begun}
 use Rattle.beldi_step.specs.declared.run.Stage.{Stage}
 use Rattle.beldi_step.specs.declared.run.Stage.TheVariants as stage
-use Rattle.beldi_step.specs.Run.{goes, standing, resumed_in, ask_turned, walk_turned, keep_turned, answered as run_answered}
+use Rattle.beldi_step.specs.Run.{goes, standing, ask_turned, walk_turned, keep_turned, answered as run_answered}
 use Rattle.beldi_step.specs.Host.{Core, turn_next}
 use Rattle.beldi_laws.specs.Stands.{head_key, effect_before}
 use Rattle.beldi_daal.specs.Content.{content_in}
@@ -101,14 +102,14 @@ module _ (d : Deployment) (c : Core) (m : Rows) (i : ℕ) (r : Run) (g : Begun) 
       next u later e same = record {
         entry = refl;
         reply = refl;
-        next = knows_next d c.book h.plain (record r { at = Some (standing r.id r.func (resumed_in (func_at d r.func) g.machine (answer.Value v))) }) g.machine k.body k.instance (answer.Value v) k.answers later k.made k.func k.has_body
+        next = knows_next d c.book h.plain (record r { at = Some (standing r.id r.func (resumed d g.machine (answer.Value v))) }) g.machine k.instance (answer.Value v) k.answers later k.made k.func
             (ap (λ w. k.answers ++ answer.Value w ∷ later) (sym same) ∙ ap (λ ys. k.answers ++ ys) (sym e) ∙ k.run_answers) k.machine is_answered;
       }
 
       by_later : (later : List Answer) → k.later ≡ later → owed later ≡ Some v → IsQuiet d c.book h.plain (run_answered d r g.machine (answer.Value v) None)
       by_later [] e is = cc
       by_later (answer.Value u ∷ later) e is = next u later e (same_some is)
-      by_later (answer.Done ∷ later) e is = cc
+      by_later (a ∷ later) e is = cc
 
   -- the run goes on to a stage, of which it knows what it has to
   go_on : (s : Stage) → StageOk r g.machine.steps (Read t key) s → PlaceOk d c.book r.id r.func k.answers k.later (Read t key) s → IsQuiet d c.book h.plain (goes r (record { machine = g.machine; stage = s }) None)
@@ -119,8 +120,6 @@ module _ (d : Deployment) (c : Core) (m : Rows) (i : ℕ) (r : Run) (g : Begun) 
       instance = k.instance;
       made = k.made;
       func = k.func;
-      body = k.body;
-      has_body = k.has_body;
       answers = k.answers;
       later = k.later;
       run_answers = k.run_answers;
@@ -188,7 +187,7 @@ module _ (d : Deployment) (c : Core) (m : Rows) (i : ℕ) (r : Run) (g : Begun) 
   unfolding owed
   none_left [] e is = e
   none_left (answer.Value u ∷ later) e is = cc
-  none_left (answer.Done ∷ later) e is = absurd (answer_is answer.Done later e)
+  none_left (a ∷ later) e is = absurd (answer_is a later e)
 
   -- where the instance is still at the read, it has not moved since its place
   module _ (v : Value) (seen : ℕ) (at : Keeps d c.book r.id k.answers k.later item v seen) (left : k.later ≡ []) where
@@ -246,8 +245,8 @@ module _ (d : Deployment) (c : Core) (m : Rows) (i : ℕ) (r : Run) (g : Begun) 
         (λ u. ap is_some (root_in_logs m r.func place u (Some (rows.ReadLog v)))) state (entry.Read r.id seen) (grows_late d c.book h.plain r.id seen k.instance v k.made late) refl late.bounded late.legal
         (made_set h.plain.made r.id (answered k.instance (answer.Value v)) (λ id s. SaneAt d s) (sane_pushed d k.instance (answer.Value v) not_over (subst (λ z. IsAnswerTo z (answer.Value v)) (sym now) tt) (sane_of d h.plain r.id k.instance h.sane k.made)) h.sane)
         (λ u o told. cc)
-        (knows_next d (c.book ++ entry.Read r.id seen ∷ []) state (record r { at = Some (standing r.id r.func (resumed_in (func_at d r.func) g.machine (answer.Value v))) }) g.machine k.body (answered k.instance (answer.Value v)) (answer.Value v) k.answers []
-        (get_set id_total id_exact h.plain.made r.id (answered k.instance (answer.Value v))) k.func k.has_body (ap (λ xs. xs ++ answer.Value v ∷ []) (all_here d c.book h.plain r g k left)) k.machine is_answered)
+        (knows_next d (c.book ++ entry.Read r.id seen ∷ []) state (record r { at = Some (standing r.id r.func (resumed d g.machine (answer.Value v))) }) g.machine (answered k.instance (answer.Value v)) (answer.Value v) k.answers []
+        (get_set id_total id_exact h.plain.made r.id (answered k.instance (answer.Value v))) k.func (ap (λ xs. xs ++ answer.Value v ∷ []) (all_here d c.book h.plain r g k left)) k.machine is_answered)
         (runs_late d c.book h.plain r.id seen k.instance v c.runs c.last_run k.made late h.runs) kept_rows
 
   pub keep_turn : (v : Value) (seen : ℕ) → Keeps d c.book r.id k.answers k.later item v seen → (w : Option Row) → map.get m (log_key r.func place) ≡ w → FitsAt (log_key r.func place) w

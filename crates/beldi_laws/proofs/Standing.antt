@@ -10,7 +10,7 @@ use Rattle.beldi_lang.specs.declared.deployment.Deployment.{Deployment}
 use Rattle.beldi_lang.specs.declared.effect.Answer.{Answer}
 use Rattle.beldi_lang.specs.declared.effect.Answer.TheVariants as answer
 use Rattle.beldi_lang.specs.declared.effect.Effect.{Effect}
-use Rattle.beldi_lang.specs.declared.effect.Effect.TheVariants.{Read, Write, Return}
+use Rattle.beldi_lang.specs.declared.effect.Effect.TheVariants.{Read, Write}
 use Rattle.beldi_row.specs.declared.key.Kind.TheVariants as kinds
 use Rattle.beldi_row.specs.declared.notes.Note.TheVariants.{Wrote}
 use Rattle.beldi_row.specs.declared.row.Body.{Body}
@@ -55,13 +55,13 @@ module _ (d : Deployment) (m : Rows) (p : PlainState) (h : RowsMatch d m p) wher
       ap (option_map answer.Value) (h.reads q.func (record { intent = id; step = n }) ∙ ap (owed_value d q.func n) made
       ∙ ap (λ b. if b then value_if (effect_before d q n) (slice_get q.answers n) else None) (eq-eqb q.func q.func refl)
       ∙ ap (value_if (effect_before d q n)) at ∙ ap (λ z. value_for z (answer.Value v)) is)
-  held_here id q n answer.Done (Read t k) made at is ok = absurd ok
-  held_here id q n (answer.Value u) (Write t k v) made at is ok = absurd ok
   held_here id q n answer.Done (Write t k v) made at is ok =
       let x : Item = record { func = q.func; table = t; key = k } in
       ap (option_and_then noted_answer) (h.notes x (record { intent = id; step = n }) ∙ ap (owed_by d x n) made ∙ ap (note_if x q.func (effect_before d q n)) at ∙ ap (λ z. note_for x q.func z answer.Done) is
       ∙ ap (λ o. if is_eq o then Some Wrote else None) (tied_itself item_total x))
-  held_here id q n a (Return o) made at is ok = absurd ok
+  held_here id q n (answer.Fault c) (Read t k) made at is ok = absurd ok
+  held_here id q n (answer.Aborted c) (Read t k) made at is ok = absurd ok
+  held_here id q n a e made at is ok = absurd ok
 
   open_by : (t : ℕ) (q : Instance) (r : Option Row) → map.get m (root_key t) ≡ r → FitsAt (root_key t) r → RootMatches r (Some q) → q.outcome ≡ None → IsOpen m (root_key t)
   open_by t q None is fits root none = cc

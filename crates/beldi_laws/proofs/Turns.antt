@@ -24,7 +24,7 @@ use Rattle.beldi_row.specs.declared.act.Act.TheVariants.{Look, End}
 use Rattle.beldi_row.specs.Act.{act, did, end_with, finish_at}
 use Rattle.beldi_row.specs.Table.{Rows, set_row}
 use Rattle.beldi_daal.specs.declared.walk.WriteStage.TheVariants.{Try}
-use Rattle.beldi_plain.specs.Plain.{Instance, PlainState, step_by, with_instance, effect_of, outcome_of}
+use Rattle.beldi_plain.specs.Plain.{Instance, PlainState, step_by, with_instance, effect_of, kind_of, outcome_of}
 use Rattle.beldi_step.specs.declared.run.Run.{Run}
 use Rattle.beldi_step.specs.declared.run.Begun.{Begun}
 use Rattle.beldi_step.specs.Run.{Turned, over, goes, intent_key, first_stage, standing, begin_in, begin_body, body_told, is_ended, close_turned, reply_if}
@@ -32,8 +32,9 @@ use Rattle.beldi_step.specs.Host.{Core, root_key, turn_next}
 use Rattle.beldi_laws.specs.Stands.{effect_before}
 use Rattle.beldi_laws.specs.Right.{Right, RowsMatch, RootMatches, BodyMatches, IsRoot, IntentFits, FitsAt, Knows, StageOk, PlaceOk, Sane, SaneAt, SaneInstance, IsAnswerTo, owed_by, owed_value}
 use Rattle.beldi_row.proofs.Unchanged.{unchanged}
-use Rattle.beldi_order.proofs.Entries.{same_some, reads, enabled_step, made_set}
-use Rattle.beldi_laws.proofs.Effects.{at_effect, at_begin, take_front, get_next, sane_ended}
+use Rattle.beldi_order.proofs.Entries.{same_some, enabled_step, made_set}
+use Rattle.beldi_laws.proofs.Effects.{take_front, get_next, sane_ended}
+use Rattle.beldi_lang.proofs.Resumes.{at_effect, at_begin}
 use Rattle.beldi_laws.proofs.Steps.{root_set, roots_moved}
 use Rattle.beldi_row.proofs.Rows.{get_set}
 use Rattle.beldi_laws.proofs.Moves.{AfterTurn, AfterAct, replaced, IsQuiet, IsStep, quiet, stepped}
@@ -46,11 +47,11 @@ pub first_ok : (r : Run) (n : ℕ) (e : Effect) → StageOk r n e (first_stage r
 first_ok r n (Read t k) = refl
 first_ok r n (Write t k v) = (Try, refl)
 first_ok r n (Return o) = refl
+first_ok r n e = refl
 
 pub first_place : (d : Deployment) (book : List Entry) (id : IntentId) (func : ℕ) (answers later : List Answer) (n : ℕ) (e : Effect) → PlaceOk d book id func answers later e (first_stage id func n e)
 first_place d book id func answers later n (Read t k) = tt
-first_place d book id func answers later n (Write t k v) = tt
-first_place d book id func answers later n (Return o) = tt
+first_place d book id func answers later n e = tt
 
 -- ---- the first turn
 -- the row of a run's intent is that of a root
@@ -63,33 +64,31 @@ module _ (d : Deployment) (book : List Entry) (m : Rows) (p : PlainState) (h : R
   own_root i is f = subst (λ o. BodyMatches i.body i.outcome o) (ap (map.get p.made) (sym f.root))
       (subst (λ w. RootMatches w (map.get p.made (root_of r.id.ticket))) (ap (map.get m) (sym (own_key r i f)) ∙ is) (h.roots r.id.ticket))
 
-  begin_knows : (b : Body) (o : Option Outcome) (f : Func) → IsRoot b o (map.get p.made r.id) → b.func ≡ r.func → func_at d r.func ≡ Some f
-      → IsQuiet d book p (goes r (standing r.id r.func (machine_begun r.func f b.args)) None)
-  begin_knows b o f root same has = record {
+  begin_knows : (b : Body) (o : Option Outcome) → IsRoot b o (map.get p.made r.id) → b.func ≡ r.func
+      → IsQuiet d book p (goes r (standing r.id r.func (machine_begun d r.func b.args false)) None)
+  begin_knows b o root same = let m = machine_begun d r.func b.args false in record {
     entry = refl;
     reply = refl;
     next = record {
       instance = root.instance;
       made = root.made;
       func = root.func ∙ same;
-      body = f;
-      has_body = has;
       answers = [];
       later = root.instance.answers;
       run_answers = refl;
-      machine = subst (λ a. IsAt d r.func a (machine_begun r.func f b.args) []) (sym root.args) (at_begin d r.func b.args f has);
-      run_stage = first_ok r 0 (machine_begun r.func f b.args).effect;
-      run_place = first_place d book r.id r.func [] root.instance.answers 0 (machine_begun r.func f b.args).effect;
+      machine = subst (λ a. IsAt d r.func a false m []) (sym root.args) (at_begin d r.func b.args false);
+      run_stage = first_ok r m.steps m.effect;
+      run_place = first_place d book r.id r.func [] root.instance.answers m.steps m.effect;
     };
   }
 
-  begin_func : (b : Body) (o : Option Outcome) (f : Option Func) → IsRoot b o (map.get p.made r.id) → b.func ≡ r.func → func_at d r.func ≡ f → IsQuiet d book p (begin_in r f b.args)
-  begin_func b o None root same has = is_over d book p
-  begin_func b o (Some f) root same has = begin_knows b o f root same has
+  begin_func : (b : Body) (o : Option Outcome) (f : Option Func) → IsRoot b o (map.get p.made r.id) → b.func ≡ r.func → IsQuiet d book p (begin_in d r f b.args)
+  begin_func b o None root same = is_over d book p
+  begin_func b o (Some f) root same = begin_knows b o root same
 
-  begin_if : (b : Body) (o : Option Outcome) (t : Bool) → IsRoot b o (map.get p.made r.id) → (b.func == r.func) ≡ t → IsQuiet d book p (if t then begin_in r (func_at d r.func) b.args else over)
+  begin_if : (b : Body) (o : Option Outcome) (t : Bool) → IsRoot b o (map.get p.made r.id) → (b.func == r.func) ≡ t → IsQuiet d book p (if t then begin_in d r (func_at d r.func) b.args else over)
   begin_if b o false root same = is_over d book p
-  begin_if b o true root same = begin_func b o (func_at d r.func) root (eqb-true b.func r.func same) refl
+  begin_if b o true root same = begin_func b o (func_at d r.func) root (eqb-true b.func r.func same)
 
   begin_matches : (b : Option Body) (o : Option Outcome) (t : Bool) → BodyMatches b o (map.get p.made r.id) → IsQuiet d book p (begin_body d r (if t then None else b))
   begin_matches b o true root = is_over d book p
@@ -102,21 +101,25 @@ module _ (d : Deployment) (book : List Entry) (m : Rows) (p : PlainState) (h : R
   begin_quiet now (Some w) is f = absurd f
 
 -- ---- where a run stands in its instance's answers
-same_at : (d : Deployment) (q : Instance) (func : ℕ) (xs : List Answer) (n : ℕ) → take n q.answers ≡ xs → q.func ≡ func → effect_before d q n ≡ wants d func q.args xs
-same_at d q func xs n t f = ap (wants d q.func q.args) t ∙ ap (λ g. wants d g q.args xs) f
+same_at : (d : Deployment) (q : Instance) (func : ℕ) (xs : List Answer) (n : ℕ) → take n q.answers ≡ xs → q.func ≡ func → effect_before d q n ≡ wants d func q.args false xs
+same_at d q func xs n t f = ap (wants d q.func q.args false) t ∙ ap (λ g. wants d g q.args false xs) f
 
 module _ (d : Deployment) (book : List Entry) (p : PlainState) (r : Run) (g : Begun) (k : Knows d book p r g) where
+  -- its machine stands where its answers lead
+  at_steps : g.machine.steps ≡ length k.answers
+  at_steps = (at_effect d r.func k.instance.args false g.machine k.answers k.machine).1
+
   -- its effect is the instance's, at this step
   pub effect_here : effect_before d k.instance g.machine.steps ≡ g.machine.effect
   effect_here =
       same_at d k.instance r.func k.answers g.machine.steps
-      (ap (λ n. take n k.instance.answers) k.machine.steps ∙ ap (take (length k.answers)) (sym k.run_answers) ∙ take_front k.answers k.later) k.func
-      ∙ sym (at_effect d r.func k.instance.args g.machine k.answers k.machine)
+      (ap (λ n. take n k.instance.answers) at_steps ∙ ap (take (length k.answers)) (sym k.run_answers) ∙ take_front k.answers k.later) k.func
+      ∙ sym (at_effect d r.func k.instance.args false g.machine k.answers k.machine).0
 
   -- where it was answered already
   pub answer_here : (a : Answer) (rest : List Answer) → k.later ≡ a ∷ rest → slice_get k.instance.answers g.machine.steps ≡ Some a
   answer_here a rest e =
-      ap (slice_get k.instance.answers) k.machine.steps
+      ap (slice_get k.instance.answers) at_steps
       ∙ ap (λ xs. slice_get xs (length k.answers)) (sym (ap (λ ys. k.answers ++ ys) (sym e) ∙ k.run_answers))
       ∙ get_next k.answers rest a
 
@@ -125,12 +128,12 @@ module _ (d : Deployment) (book : List Entry) (p : PlainState) (r : Run) (g : Be
   all_here e = sym (append-nil k.answers) ∙ ap (λ ys. k.answers ++ ys) (sym e) ∙ k.run_answers
 
   pub step_here : k.later ≡ [] → g.machine.steps ≡ length k.instance.answers
-  step_here e = k.machine.steps ∙ ap length (all_here e)
+  step_here e = at_steps ∙ ap length (all_here e)
 
   pub effect_next : k.later ≡ [] → effect_of d k.instance ≡ g.machine.effect
   effect_next e =
-      ap (wants d k.instance.func k.instance.args) (sym (all_here e)) ∙ ap (λ f. wants d f k.instance.args k.answers) k.func
-      ∙ sym (at_effect d r.func k.instance.args g.machine k.answers k.machine)
+      ap (wants d k.instance.func k.instance.args false) (sym (all_here e)) ∙ ap (λ f. wants d f k.instance.args false k.answers) k.func
+      ∙ sym (at_effect d r.func k.instance.args false g.machine k.answers k.machine).0
 
   -- a body that returns was answered nothing more
   at_return : (o : Outcome) → g.machine.effect ≡ Return o → SaneInstance d k.instance → (ys : List Answer) → k.later ≡ ys → k.later ≡ []
@@ -206,7 +209,7 @@ module _ (d : Deployment) (c : Core) (m : Rows) (i : ℕ) (r : Run) (g : Begun) 
         made = Step r.id;
         entry = refl;
         change = refl;
-        after = enabled_step d h.plain r.id k.instance k.made (root_outcome j.body j.outcome k.instance root ∙ none) (ap reads wants_end) ∙ ap (λ z. Some (step_by h.plain r.id k.instance z)) wants_end;
+        after = enabled_step d h.plain r.id k.instance k.made (root_outcome j.body j.outcome k.instance root ∙ none) (ap kind_of wants_end) ∙ ap (λ z. Some (step_by h.plain r.id k.instance z)) wants_end;
         sane = made_set h.plain.made r.id (ended_at k.instance o) (λ id s. SaneAt d s) (sane_ended d k.instance o wants_end sane) h.sane;
         reply = λ t u told.
             let told_is = told_if (has_no_hops r.id.hops) r.id o u t told in

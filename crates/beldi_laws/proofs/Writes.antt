@@ -11,15 +11,13 @@ use Rattle.beldi_value.specs.declared.place.Owner.TheVariants as owner
 use Rattle.beldi_value.specs.declared.value.Value.{Value}
 use Rattle.beldi_value.specs.declared.value.Value.TheVariants.{Null}
 use Rattle.beldi_lang.specs.declared.deployment.Deployment.{Deployment}
-use Rattle.beldi_lang.specs.declared.deployment.Func.{Func}
 use Rattle.beldi_lang.specs.declared.effect.Answer.{Answer}
 use Rattle.beldi_lang.specs.declared.effect.Answer.TheVariants.{Done}
-use Rattle.beldi_lang.specs.declared.effect.Answer.TheVariants as answer
 use Rattle.beldi_lang.specs.declared.effect.Effect.TheVariants.{Write}
 use Rattle.beldi_lang.specs.declared.machine.Machine.{Machine}
 use Rattle.beldi_value.specs.declared.outcome.Outcome.{Outcome}
-use Rattle.beldi_lang.specs.Wants.{func_at, wants_answer}
-use Rattle.beldi_lang.specs.Machine.{IsAt}
+use Rattle.beldi_lang.specs.Wants.{wants_answer}
+use Rattle.beldi_lang.specs.Machine.{IsAt, resumed}
 use Rattle.beldi_book.specs.declared.entry.Entry.{Entry}
 use Rattle.beldi_book.specs.declared.entry.Entry.TheVariants.{Step}
 use Rattle.beldi_row.specs.declared.notes.Note.{Note}
@@ -35,38 +33,37 @@ use Rattle.beldi_daal.specs.declared.walk.WriteStage.{WriteStage}
 use Rattle.beldi_daal.specs.declared.walk.WriteStage.TheVariants.{Try, Make}
 use Rattle.beldi_daal.specs.Walk.{walk_key, walk_act, walk_next}
 use Rattle.beldi_plain.specs.Item.{Item, item_cmp, item_total}
-use Rattle.beldi_plain.specs.Plain.{Instance, PlainState, step_by, set_item, answered, effect_of}
+use Rattle.beldi_plain.specs.Plain.{Instance, PlainState, step_by, set_item, answered, effect_of, kind_of}
 use Rattle.beldi_step.specs.declared.run.Run.{Run}
 use Rattle.beldi_step.specs.declared.run.Begun.{Begun}
 use Rattle.beldi_step.specs.declared.run.Stage.TheVariants as stage
-use Rattle.beldi_step.specs.Run.{goes, standing, resumed_in, is_done_note, noted_turned, write_turned, answered as run_answered}
+use Rattle.beldi_step.specs.Run.{goes, standing, is_done_note, noted_turned, write_turned, answered as run_answered}
 use Rattle.beldi_step.specs.Host.{Core, turn_next}
 use Rattle.beldi_laws.specs.Stands.{head_key, effect_before}
 use Rattle.beldi_daal.specs.Content.{content_in}
 use Rattle.beldi_laws.specs.Right.{Right, RowsMatch, CellFits, FitsAt, Knows, StageOk, PlaceOk, walk_at, SaneAt, owed_by, note_for, note_if, IsAnswerTo}
 use Rattle.beldi_laws.proofs.Rows.{root_in_heads}
-use Rattle.beldi_laws.proofs.Effects.{at_next, sane_pushed}
-use Rattle.beldi_order.proofs.Entries.{reads, enabled_step, made_set}
+use Rattle.beldi_laws.proofs.Effects.{sane_pushed}
+use Rattle.beldi_lang.proofs.Resumes.{at_next}
+use Rattle.beldi_order.proofs.Entries.{enabled_step, made_set}
 use Rattle.beldi_laws.proofs.Notes.{owed_next}
 use Rattle.beldi_laws.proofs.Steps.{cell_made, cell_written}
 use Rattle.beldi_laws.proofs.Moves.{AfterAct, IsQuiet, IsStep, quiet, stepped}
 use Rattle.beldi_laws.proofs.Turns.{still, first_ok, first_place, sane_of, effect_here, answer_here, all_here, step_here, effect_next}
 
 -- a run after an effect was answered
-pub knows_next : (d : Deployment) (book : List Entry) (p : PlainState) (r : Run) (m : Machine) (body : Func) (j : Instance) (a : Answer) (answers later : List Answer) → map.get p.made r.id ≡ Some j → j.func ≡ r.func → func_at d r.func ≡ Some body → answers ++ a ∷ later ≡ j.answers
-    → IsAt d r.func j.args m answers → IsTrue (wants_answer m.effect) → Knows d book p r (standing r.id r.func (resumed_in (func_at d r.func) m a))
-knows_next d book p r m body j a answers later is func has prefix at wants = record {
+pub knows_next : (d : Deployment) (book : List Entry) (p : PlainState) (r : Run) (m : Machine) (j : Instance) (a : Answer) (answers later : List Answer) → map.get p.made r.id ≡ Some j → j.func ≡ r.func → answers ++ a ∷ later ≡ j.answers
+    → IsAt d r.func j.args false m answers → IsTrue (wants_answer m.effect) → Knows d book p r (standing r.id r.func (resumed d m a))
+knows_next d book p r m j a answers later is func prefix at wants = record {
   instance = j;
   made = is;
   func = func;
-  body = body;
-  has_body = has;
   answers = answers ++ a ∷ [];
   later = later;
   run_answers = append_assoc answers (a ∷ []) later ∙ prefix;
-  machine = subst (λ f. IsAt d r.func j.args (resumed_in f m a) (answers ++ a ∷ [])) (sym has) (at_next d r.func j.args m answers body a wants has at);
-  run_stage = let n = resumed_in (func_at d r.func) m a in first_ok r n.steps n.effect;
-  run_place = let n = resumed_in (func_at d r.func) m a in first_place d book r.id r.func (answers ++ a ∷ []) later n.steps n.effect;
+  machine = at_next d r.func j.args false m answers a wants at;
+  run_stage = let n = resumed d m a in first_ok r n.steps n.effect;
+  run_place = let n = resumed d m a in first_place d book r.id r.func (answers ++ a ∷ []) later n.steps n.effect;
 }
 
 -- a cell without a note of the place, without an owner and without a next row is written
@@ -96,7 +93,7 @@ module _ (d : Deployment) (c : Core) (m : Rows) (i : ℕ) (r : Run) (g : Begun) 
     where
       by_answer : (a : Answer) → IsAnswerTo (Write t key v) a → a ≡ Done
       by_answer Done h = refl
-      by_answer (answer.Value u) h = absurd h
+      by_answer a h = absurd h
 
   -- what is owed at the place of this step
   owed : List Answer → Option Note
@@ -122,8 +119,6 @@ module _ (d : Deployment) (c : Core) (m : Rows) (i : ℕ) (r : Run) (g : Begun) 
       instance = k.instance;
       made = k.made;
       func = k.func;
-      body = k.body;
-      has_body = k.has_body;
       answers = k.answers;
       later = k.later;
       run_answers = k.run_answers;
@@ -138,7 +133,7 @@ module _ (d : Deployment) (c : Core) (m : Rows) (i : ℕ) (r : Run) (g : Begun) 
   noted_quiet later e = record {
     entry = refl;
     reply = refl;
-    next = knows_next d c.book h.plain (record r { at = Some (standing r.id r.func (resumed_in (func_at d r.func) g.machine Done)) }) g.machine k.body k.instance Done k.answers later k.made k.func k.has_body
+    next = knows_next d c.book h.plain (record r { at = Some (standing r.id r.func (resumed d g.machine Done)) }) g.machine k.instance Done k.answers later k.made k.func
         (ap (λ ys. k.answers ++ ys) (sym e) ∙ k.run_answers) k.machine is_answered;
   }
 
@@ -167,11 +162,11 @@ module _ (d : Deployment) (c : Core) (m : Rows) (i : ℕ) (r : Run) (g : Begun) 
         made = Step r.id;
         entry = refl;
         change = refl;
-        after = enabled_step d h.plain r.id k.instance k.made none (ap reads now) ∙ ap (λ z. Some (step_by h.plain r.id k.instance z)) now;
+        after = enabled_step d h.plain r.id k.instance k.made none (ap kind_of now) ∙ ap (λ z. Some (step_by h.plain r.id k.instance z)) now;
         sane = made_set h.plain.made r.id (answered k.instance Done) (λ id s. SaneAt d s) (sane_pushed d k.instance Done none (subst (λ z. IsAnswerTo z Done) (sym now) tt) sane) h.sane;
         reply = λ u o told. cc;
-        next = knows_next d (c.book ++ Step r.id ∷ []) state (record r { at = Some (standing r.id r.func (resumed_in (func_at d r.func) g.machine Done)) }) g.machine k.body (answered k.instance Done) Done k.answers []
-            (get_set id_total id_exact h.plain.made r.id (answered k.instance Done)) k.func k.has_body (ap (λ xs. xs ++ Done ∷ []) (all_here d c.book h.plain r g k e)) k.machine is_answered;
+        next = knows_next d (c.book ++ Step r.id ∷ []) state (record r { at = Some (standing r.id r.func (resumed d g.machine Done)) }) g.machine (answered k.instance Done) Done k.answers []
+            (get_set id_total id_exact h.plain.made r.id (answered k.instance Done)) k.func (ap (λ xs. xs ++ Done ∷ []) (all_here d c.book h.plain r g k e)) k.machine is_answered;
       }
     where
       open_still : (o : Option Outcome) → k.instance.outcome ≡ o → effect_of d k.instance ≡ Write t key v → k.instance.outcome ≡ None

@@ -1,5 +1,5 @@
 -- That each step of an instance has one answer, whichever run asks for it: the one that the rows hold.
-use Rattle.std.specs.Prelude.{◌≡◌, ℕ, List, ◌++◌, take, slice_get, Some}
+use Rattle.std.specs.Prelude.{◌≡◌, ℕ, false, List, ◌++◌, take, slice_get, Some}
 use Rattle.std.specs.FinMap as map
 use Rattle.beldi_value.specs.declared.id.IntentId.{IntentId}
 use Rattle.beldi_value.specs.declared.value.Value.{Value}
@@ -20,7 +20,7 @@ pub record WasGiven (d : Deployment) (func : ℕ) (args : Value) (answers : List
   pub given : List Answer
   pub later : List Answer
   pub first : given ++ later ≡ answers
-  pub machine : IsAt d func args g.machine given
+  pub machine : IsAt d func args false g.machine given
 
 -- the steps of an intent have these answers
 pub record HasAnswers (d : Deployment) (c : Core) (m : Rows) (id : IntentId) : Type 0 where
@@ -28,7 +28,7 @@ pub record HasAnswers (d : Deployment) (c : Core) (m : Rows) (id : IntentId) : T
   pub args : Value
   pub answers : List Answer
   -- each is the one that the rows hold at its step
-  pub held : (n : ℕ) (a : Answer) → slice_get answers n ≡ Some a → held_answer m id func n (wants d func args (take n answers)) ≡ Some a
+  pub held : (n : ℕ) (a : Answer) → slice_get answers n ≡ Some a → held_answer m id func n (wants d func args false (take n answers)) ≡ Some a
   -- each live run of the intent that has begun was given the first of them
   pub runs : (i : ℕ) (r : Run) (g : Begun) → map.get c.runs i ≡ Some r → r.id ≡ id → r.at ≡ Some g → WasGiven d func args answers r g
 

@@ -9,13 +9,11 @@ use Rattle.beldi_value.specs.declared.place.Place.{Place}
 use Rattle.beldi_value.specs.declared.outcome.Outcome.{Outcome}
 use Rattle.beldi_value.specs.declared.value.Value.{Value}
 use Rattle.beldi_lang.specs.declared.deployment.Deployment.{Deployment}
-use Rattle.beldi_lang.specs.declared.deployment.Func.{Func}
 use Rattle.beldi_lang.specs.declared.effect.Answer.{Answer}
 use Rattle.beldi_lang.specs.declared.effect.Answer.TheVariants.{Done}
 use Rattle.beldi_lang.specs.declared.effect.Answer.TheVariants as answer
 use Rattle.beldi_lang.specs.declared.effect.Effect.{Effect}
 use Rattle.beldi_lang.specs.declared.effect.Effect.TheVariants.{Read, Write, Return}
-use Rattle.beldi_lang.specs.Wants.{func_at}
 use Rattle.beldi_lang.specs.Machine.{IsAt}
 use Rattle.beldi_row.specs.declared.key.RowKey.{RowKey}
 use Rattle.beldi_row.specs.declared.key.Kind.{Kind}
@@ -42,8 +40,9 @@ use Rattle.beldi_daal.specs.declared.walk.WriteWalk.{WriteWalk}
 use Rattle.beldi_daal.specs.declared.walk.WriteStage.{WriteStage}
 use Rattle.beldi_daal.specs.Walk.{first_walk}
 use Rattle.beldi_plain.specs.Item.{Item, item_cmp}
-use Rattle.beldi_plain.specs.Plain.{Instance, PlainState, value_at, effect_of}
+use Rattle.beldi_plain.specs.Plain.{Instance, PlainState, value_at, effect_of, kind_of}
 use Rattle.beldi_plain.specs.Legal.{run_of}
+use Rattle.beldi_plain.specs.declared.kind.Kind.TheVariants as kind
 use Rattle.beldi_step.specs.declared.run.Run.{Run}
 use Rattle.beldi_step.specs.declared.run.Begun.{Begun}
 use Rattle.beldi_step.specs.declared.run.Stage.{Stage}
@@ -55,9 +54,7 @@ use Rattle.beldi_laws.specs.Stands.{content_of, effect_before}
 -- the note of an answer to an effect of a function, where the effect is one of this item
 abbrev pub note_for : Item → ℕ → Effect → Answer → Option Note
 note_for x func (Write t k v) Done = if is_eq (item_cmp (record { func = func; table = t; key = k }) x) then Some Wrote else None
-note_for x func (Write t k v) (answer.Value u) = None
-note_for x func (Read t k) a = None
-note_for x func (Return o) a = None
+note_for x func e a = None
 
 -- none where there was no answer
 abbrev pub note_if : Item → ℕ → Effect → Option Answer → Option Note
@@ -76,9 +73,7 @@ owed_note d p x a = owed_by d x a.step (map.get p.made a.intent)
 -- the value of an answer to an effect, where the effect is a read
 abbrev pub value_for : Effect → Answer → Option Value
 value_for (Read t k) (answer.Value v) = Some v
-value_for (Read t k) Done = None
-value_for (Write t k v) a = None
-value_for (Return o) a = None
+value_for e a = None
 
 -- none where there was no answer
 abbrev pub value_if : Effect → Option Answer → Option Value
@@ -164,13 +159,11 @@ pub record RowsMatch (d : Deployment) (m : Rows) (p : PlainState) : Type 0 where
   pub one_row : (k : RowKey) → FitsAt k (map.get m k)
 
 -- ---- what every plain state of a legal book is, whatever the rows are
--- the answer is one to the effect
+-- the answer is one to the effect. The effects that are not carried out yet have none.
 abbrev pub IsAnswerTo : Effect → Answer → Type 0
 IsAnswerTo (Read t k) (answer.Value v) = Unit {0}
-IsAnswerTo (Read t k) Done = ⊥
 IsAnswerTo (Write t k v) Done = Unit {0}
-IsAnswerTo (Write t k v) (answer.Value u) = ⊥
-IsAnswerTo (Return o) a = ⊥
+IsAnswerTo e a = ⊥
 
 -- an instance that went as its body wants
 pub record SaneInstance (d : Deployment) (q : Instance) : Type 0 where
@@ -204,6 +197,7 @@ StageOk r n (Read t k) (stage.Walk w) = w ≡ reading_at r t k
 StageOk r n (Read t k) (stage.Keep v seen) = Unit {0}
 StageOk r n (Write t k v) (stage.Write w) = (s : WriteStage) × (w ≡ walk_at r n t k v s)
 StageOk r n (Return o) (stage.Close u) = u ≡ o
+StageOk r n e stage.Unbuilt = kind_of e ≡ kind.Unbuilt
 StageOk r n e s = ⊥
 
 -- where a read belongs after the first `seen` changes: there its instance had these answers, and the item had this value
@@ -227,18 +221,16 @@ PlaceOk d book id func answers later e s = Unit {0}
 
 -- what a run that has begun knows
 pub record Knows (d : Deployment) (book : List Entry) (p : PlainState) (r : Run) (g : Begun) : Type 0 where
-  -- its instance was made with its function, which the deployment has
+  -- its instance was made with its function
   pub instance : Instance
   pub made : map.get p.made r.id ≡ Some instance
   pub func : instance.func ≡ r.func
-  pub body : Func
-  pub has_body : func_at d r.func ≡ Some body
   -- what it was answered is how the plain answers begin
   pub answers : List Answer
   pub later : List Answer
   pub run_answers : answers ++ later ≡ instance.answers
   -- its machine stands where these answers lead, and its stage is one of the effect there
-  pub machine : IsAt d r.func instance.args g.machine answers
+  pub machine : IsAt d r.func instance.args false g.machine answers
   pub run_stage : StageOk r g.machine.steps g.machine.effect g.stage
   -- where it is to keep a value, it knows where its read belongs
   pub run_place : PlaceOk d book r.id r.func answers later g.machine.effect g.stage

@@ -10,7 +10,7 @@ use Rattle.beldi_lang.specs.declared.effect.Answer.{Answer}
 use Rattle.beldi_lang.specs.declared.effect.Answer.TheVariants.{Done}
 use Rattle.beldi_lang.specs.declared.effect.Answer.TheVariants as answer
 use Rattle.beldi_lang.specs.declared.effect.Effect.{Effect}
-use Rattle.beldi_lang.specs.declared.effect.Effect.TheVariants.{Read, Write, Return}
+use Rattle.beldi_lang.specs.declared.effect.Effect.TheVariants.{Read, Write}
 use Rattle.beldi_lang.specs.Wants.{wants}
 use Rattle.beldi_row.specs.declared.key.RowKey.{RowKey}
 use Rattle.beldi_row.specs.declared.key.Kind.TheVariants as kinds
@@ -58,11 +58,11 @@ noted_answer notes.Freed = Some Done
 abbrev pub held_answer : Rows → IntentId → ℕ → ℕ → Effect → Option Answer
 held_answer m id func step (Read t k) = option_map answer.Value (given m (log_key func (record { intent = id; step = step })))
 held_answer m id func step (Write t k v) = option_and_then noted_answer (note_at (content_of m (record { func = func; table = t; key = k })).notes (record { intent = id; step = step }))
-held_answer m id func step (Return o) = None
+held_answer m id func step e = None
 
 -- the effect that an instance had at a step, from 0
 abbrev pub effect_before : Deployment → Instance → ℕ → Effect
-effect_before d q n = wants d q.func q.args (take n q.answers)
+effect_before d q n = wants d q.func q.args false (take n q.answers)
 
 -- ---- the rows stand for a plain state
 -- the instance was made with the body's function and arguments; and its outcome is the row's, where the row has one

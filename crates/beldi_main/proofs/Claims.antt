@@ -1,29 +1,29 @@
 -- What a session over a table without rows leaves: a run without crashes.
-use Rattle.std.proofs.Common.{◌≡◌, ◌≤◌, ◌⊎◌, inl, inr, ℕ, length, arith, zero, suc, Bool, true, false, List, [], ◌∷◌, drop, Option, None, Some, IfSome, refl, ap, sym, ◌∙◌}
+use Rattle.std.proofs.Common.{◌≡◌, ◌≤◌, ◌⊎◌, inl, inr, ℕ, length, arith, zero, suc, Bool, true, false, List, [], ◌∷◌, Option, None, Some, Result, Ok, Err, IfSome, refl, ap, sym, ◌∙◌}
 use Rattle.std.specs.FinMap as map
 use Rattle.std.proofs.lemmas.Bool.{false≢true}
 use Rattle.beldi_lang.specs.declared.deployment.Deployment.{Deployment}
 use Rattle.beldi_row.specs.Table.{Rows}
 use Rattle.beldi_step.specs.Host.{Core, first_core}
-use Rattle.beldi_laws.specs.Laws.{starts_of, bound_in}
+use Rattle.beldi_laws.specs.Laws.{starts_of}
 use Rattle.beldi_laws.specs.Right.{Right}
 use Rattle.beldi_laws.proofs.Starts.{break_starts}
 use Rattle.beldi_laws.proofs.Standing.{right_stands}
 use Rattle.beldi_laws.proofs.Listing.{listing_plain}
 use Rattle.beldi_core.specs.Survey.{newest_of}
 use Rattle.beldi_core.proofs.Right.{begins_right}
-use Rattle.beldi_script.specs.Cut.{lines_of}
-use Rattle.beldi_syntax.specs.declared.grammar.Parsed.{Parsed}
-use Rattle.beldi_syntax.specs.Grammar.{parsed_at}
+use Rattle.beldi_syntax.specs.declared.reading.Parsed.{Parsed}
 use Rattle.beldi_outside.specs.Outside.{Told, max_source}
 use Rattle.beldi_main.specs.declared.deed.Deed.{Deed}
 use Rattle.beldi_main.specs.declared.deed.Deed.TheVariants as deed
+use Rattle.beldi_main.specs.declared.refusal.Refusal.{Refusal}
 use Rattle.beldi_main.specs.declared.program.Ended.{Ended}
 use Rattle.beldi_main.specs.declared.program.Ended.TheVariants as ended
 use Rattle.beldi_main.specs.Said.{Said}
-use Rattle.beldi_main.specs.Session.{OnTold, Answered, BreaksIn, BrokeOff, deeds_in}
-use Rattle.beldi_main.specs.PlainRun.{IsPlainRun, RowsStandFor, events_among, seen_among}
+use Rattle.beldi_main.specs.Session.{Answered, BreaksIn, BrokeOff, deeds_in}
+use Rattle.beldi_main.specs.PlainRun.{IsPlainRun, RowsStandFor}
 use Rattle.beldi_main.specs.Headline.{Claim, Anything, AsRead, PlainRun, LongOn, SessionOn, SourceAsRead, SourceOn, WordsOn, is_whole_source, status_of}
+use Rattle.beldi_main.specs.Source.{Numbered, script_of, source_at}
 use Rattle.beldi_main.proofs.Deeds.{both_map}
 use Rattle.beldi_main.proofs.Sessions.{still}
 use Rattle.beldi_main.proofs.Moments.{right_legal, answered_right, answered_starts, answered_tells, answered_moments, broke_right, broke_goes, broke_keeps}
@@ -75,7 +75,7 @@ pub is_plain : Holds PlainRun
 is_plain d room es more xs m o n f g last b a s none = ran d room es more xs m o n f g last b a s none
 
 module _ (P : Claim) (holds : Holds P) where
-  session : (d : Deployment) (lines : List (List ℕ)) (m n : Rows) (f g : ℕ) (h k : List ℕ) (e : Ended) → SessionOn Anything d lines m n f g h k e → SessionOn P d lines m n f g h k e
+  session : (d : Deployment) (lines : List Numbered) (m n : Rows) (f g : ℕ) (h k : List ℕ) (e : Ended) → SessionOn Anything d lines m n f g h k e → SessionOn P d lines m n f g h k e
   session d lines m n f g h k ended.Done x = (x.0, (x.1.0, holds d d.room (deeds_in d lines) [] x.1.0.said m n n x.1.0.opened g x.1.0.core x.1.0.core x.1.0.answered (refl, refl)))
   session d lines m n f g h k ended.Refused x = (x.0, (x.1.0, holds d d.room (deeds_in d lines) [] x.1.0.said m n n x.1.0.opened g x.1.0.core x.1.0.core x.1.0.answered (refl, refl)))
   session d lines m n f g h k ended.OutOfMemory x = (x.0, holds d d.room x.0.done x.0.more x.0.said m x.0.rows n x.0.opened x.0.closed x.0.last x.0.core x.0.answered x.0.broke_off)
@@ -85,17 +85,17 @@ module _ (P : Claim) (holds : Holds P) where
   session d lines m n f g h k ended.TooLong x = x
   session d lines m n f g h k ended.TableFault x = x
 
-  source : (bytes : List ℕ) (o : Option Parsed) (m n : Rows) (f g : ℕ) (h k : List ℕ) (e : Ended) → SourceOn Anything bytes o m n f g h k e → SourceOn P bytes o m n f g h k e
-  source bytes None m n f g h k e x = x
-  source bytes (Some p) m n f g h k e x = session p.code (lines_of (drop p.rest bytes)) m n f g h k e x
+  source : (bytes : List ℕ) (o : Result Parsed Refusal) (m n : Rows) (f g : ℕ) (h k : List ℕ) (e : Ended) → SourceOn Anything bytes o m n f g h k e → SourceOn P bytes o m n f g h k e
+  source bytes (Err y) m n f g h k e x = x
+  source bytes (Ok p) m n f g h k e x = session p.code (script_of bytes p) m n f g h k e x
 
-  told : (o : Option (List ℕ)) (m n : Rows) (f g : ℕ) (h k : List ℕ) (e : Ended) → IfSome o (λ b. SourceOn Anything b (parsed_at b) m n f g h k e) → IfSome o (λ b. SourceOn P b (parsed_at b) m n f g h k e)
+  told : (o : Option (List ℕ)) (m n : Rows) (f g : ℕ) (h k : List ℕ) (e : Ended) → IfSome o (λ b. SourceOn Anything b (source_at b) m n f g h k e) → IfSome o (λ b. SourceOn P b (source_at b) m n f g h k e)
   told None m n f g h k e x = tt
-  told (Some b) m n f g h k e x = source b (parsed_at b) m n f g h k e x
+  told (Some b) m n f g h k e x = source b (source_at b) m n f g h k e x
 
   pub claimed : (words : Bool) (o : Option (List ℕ)) (ra rb : Option Rows) (ha hb : Option (List ℕ)) (f g : ℕ) (e : Ended) → WordsOn Anything words o ra rb ha hb f g e → WordsOn P words o ra rb ha hb f g e
   claimed true o ra rb ha hb f g e x =
-      both_map {P = λ m n h k. IfSome o (λ b. SourceOn Anything b (parsed_at b) m n f g h k e)} {Q = λ m n h k. IfSome o (λ b. SourceOn P b (parsed_at b) m n f g h k e)} ra rb ha hb
+      both_map {P = λ m n h k. IfSome o (λ b. SourceOn Anything b (source_at b) m n f g h k e)} {Q = λ m n h k. IfSome o (λ b. SourceOn P b (source_at b) m n f g h k e)} ra rb ha hb
       (λ m n h k y. told o m n f g h k e y) x
   claimed false o ra rb ha hb f g e x = x
 
@@ -125,8 +125,8 @@ pub same_end : (e f : Ended) → status_of e ≡ status_of f → e ≡ f
 same_end e f h = sym (decoded e) ∙ ap decode h ∙ decoded f
 
 -- ---- a source that is not refused
-module _ (b c : List ℕ) (P Q : Type 0) (p : P → ⊥) (q : Q → ⊥) (short : length b ≤ max_source) (whole : is_whole_source b (parsed_at b) ≡ true) where
-  done_or_wanting : (e : Ended) → AsRead (is_whole_source b (parsed_at b)) e → LongOn b c e → (e ≡ ended.SourceFault → P) → (e ≡ ended.SinkFault → Q) → (status_of e ≡ 0) ⊎ (status_of e ≡ 1) ⊎ (status_of e ≡ 8)
+module _ (b c : List ℕ) (P Q : Type 0) (p : P → ⊥) (q : Q → ⊥) (short : length b ≤ max_source) (whole : is_whole_source b (source_at b) ≡ true) where
+  done_or_wanting : (e : Ended) → AsRead (is_whole_source b (source_at b)) e → LongOn b c e → (e ≡ ended.SourceFault → P) → (e ≡ ended.SinkFault → Q) → (status_of e ≡ 0) ⊎ (status_of e ≡ 1) ⊎ (status_of e ≡ 8)
   done_or_wanting ended.Done r l s t = inl refl
   done_or_wanting ended.OutOfMemory r l s t = inr (inl refl)
   done_or_wanting ended.Usage r l s t = absurd r
@@ -137,7 +137,7 @@ module _ (b c : List ℕ) (P Q : Type 0) (p : P → ⊥) (q : Q → ⊥) (short 
   done_or_wanting ended.TableFault r l s t = inr (inr refl)
 
 pub completed : (o a : Option (List ℕ)) (e : Ended) (P Q : Type 0) → SourceAsRead o e → Told o a (λ b c. LongOn b c e) → (e ≡ ended.SourceFault → P) → (e ≡ ended.SinkFault → Q) → (P → ⊥) → (Q → ⊥)
-    → Told o a (λ b c. length b ≤ max_source → is_whole_source b (parsed_at b) ≡ true → (status_of e ≡ 0) ⊎ (status_of e ≡ 1) ⊎ (status_of e ≡ 8))
+    → Told o a (λ b c. length b ≤ max_source → is_whole_source b (source_at b) ≡ true → (status_of e ≡ 0) ⊎ (status_of e ≡ 1) ⊎ (status_of e ≡ 8))
 completed None a e P Q r l s t p q = tt
 completed (Some b) None e P Q r l s t p q = l
 completed (Some b) (Some c) e P Q r l s t p q = λ short whole. done_or_wanting b c P Q p q short whole e r l s t

@@ -7,31 +7,32 @@ use Rattle.beldi_step.specs.Host.{Core}
 use Rattle.beldi_main.specs.declared.deed.Deed.{Deed}
 use Rattle.beldi_main.specs.declared.session.Stop.{Stop}
 use Rattle.beldi_main.specs.Said.{said_texts}
-use Rattle.beldi_main.specs.Session.{state_of, Did, Stopped, deeds_in, is_whole, ending, EndedOn}
+use Rattle.beldi_main.specs.Session.{state_of, Did, Stopped, deeds_in, refused_in, ending, EndedOn}
 use Rattle.beldi_main.specs.Headline.{Whole, Cut}
+use Rattle.beldi_main.specs.Source.{Numbered}
 use Rattle.beldi_main.proofs.Sessions.{stays}
 
 abbrev nil : List Deed
 nil = []
 
-module _ (d : Deployment) (room : ℕ) (lines : List (List ℕ)) (c b : Core) (m n : Rows) (f g : ℕ) (h k p : List ℕ) where
+module _ (d : Deployment) (room : ℕ) (lines : List Numbered) (c b : Core) (m n : Rows) (f g : ℕ) (h k p : List ℕ) where
   all_before : (x : Did d room (deeds_in d lines) (state_of c m f h []) (state_of b n g k p)) → k ++ p ≡ h ++ said_texts d x.said
   all_before x = ap (λ z. z ++ p) x.wrote.held ∙ append_assoc h x.wrote.written p ∙ ap (λ z. h ++ z) x.wrote.whole
 
-  pub ended : (j : List ℕ) → Did d room (deeds_in d lines) (state_of c m f h []) (state_of b n g k p) → EndedOn (is_whole d lines) p (Ok tt) k j → Whole d room lines c m n f g h j
+  pub ended : (j : List ℕ) → Did d room (deeds_in d lines) (state_of c m f h []) (state_of b n g k p) → EndedOn (refused_in d lines) p (Ok tt) k j → Whole d room lines c m n f g h j
   ended j x w = record {
     core = b;
     said = x.said;
     opened = f;
     sooner = omega arith;
     answered = x.answered;
-    text = w ∙ sym (append_assoc k p (ending (is_whole d lines))) ∙ ap (λ z. z ++ ending (is_whole d lines)) (all_before x) ∙ append_assoc h (said_texts d x.said) (ending (is_whole d lines));
+    text = w ∙ sym (append_assoc k p (ending (refused_in d lines))) ∙ ap (λ z. z ++ ending (refused_in d lines)) (all_before x) ∙ append_assoc h (said_texts d x.said) (ending (refused_in d lines));
   }
 
-  tail_by : (tail : List ℕ) → (tail ≡ []) ⊎ (tail ≡ ending (is_whole d lines)) → (tail ≡ []) ⊎ ((nil ≡ []) × (tail ≡ ending (is_whole d lines)))
+  tail_by : (tail : List ℕ) → (tail ≡ []) ⊎ (tail ≡ ending (refused_in d lines)) → (tail ≡ []) ⊎ ((nil ≡ []) × (tail ≡ ending (refused_in d lines)))
   tail_by tail v = elim v [ inl v ↦ inl v | inr v ↦ inr (refl, v) ]
 
-  pub cut_at_end : (j : List ℕ) (s : Stop) → Did d room (deeds_in d lines) (state_of c m f h []) (state_of b n g k p) → EndedOn (is_whole d lines) p (Err s) k j → Cut s d room lines c m n f g h j
+  pub cut_at_end : (j : List ℕ) (s : Stop) → Did d room (deeds_in d lines) (state_of c m f h []) (state_of b n g k p) → EndedOn (refused_in d lines) p (Err s) k j → Cut s d room lines c m n f g h j
   cut_at_end j s x w = record {
     core = b;
     said = x.said;

@@ -6,5 +6,6 @@ pub mod Endings
 pub mod Lines
 pub mod Moments
 pub mod Programs
+pub mod Refusals
 pub mod Sessions
 pub mod Sights

@@ -9,7 +9,6 @@ use Rattle.beldi_row.specs.Table.{Rows}
 use Rattle.beldi_book.specs.declared.entry.Entry.{Entry}
 use Rattle.beldi_plain.specs.Legal.{IsLegal}
 use Rattle.beldi_step.specs.declared.event.Event.{Event}
-use Rattle.beldi_step.specs.declared.event.Seen.{Seen}
 use Rattle.beldi_step.specs.Host.{Core, Breaks}
 use Rattle.beldi_laws.specs.Laws.{HasReply, starts_of, bound_of, bound_in}
 use Rattle.beldi_laws.specs.Right.{Right}

@@ -1,41 +1,41 @@
 -- The parts of the program, over what the table and the sink tell.
-use Rattle.std.proofs.Common.{◌≡◌, ◌⊎◌, inl, inr, ℕ, ◌≤◌, Bool, true, false, List, [], ◌∷◌, drop, Option, None, Some, Result, Ok, Err, IfOk, IfSome, refl, ap, sym, ◌∙◌, subst, arith}
+use Rattle.std.proofs.Common.{◌≡◌, ◌⊎◌, inl, inr, ℕ, ◌≤◌, List, [], drop, length, IsTrue, Option, None, Some, Result, Ok, Err, IfOk, IfSome, refl, ap, sym, ◌∙◌, subst, arith}
 use Rattle.std.proofs.lemmas.List.{append-nil}
 use Rattle.std.specs.Global.{Vec}
 use Rattle.beldi_lang.specs.declared.deployment.Deployment.{Deployment}
 use Rattle.beldi_row.specs.Table.{Rows}
-use Rattle.beldi_main.specs.declared.deed.Deed.{Deed}
 use Rattle.beldi_step.specs.Host.{Core, first_core}
 use Rattle.beldi_core.specs.Survey.{Opened, Refused, newest_of}
 use Rattle.beldi_core.specs.declared.survey.OpenErr.{OpenErr}
 use Rattle.beldi_outside.specs.declared.transfer.ReadErr.{ReadErr}
 use Rattle.beldi_outside.specs.declared.transfer.ReadErr.TheVariants as why
 use Rattle.beldi_script.specs.Cut.{lines_of}
-use Rattle.beldi_syntax.specs.declared.grammar.Parsed.{Parsed}
-use Rattle.beldi_syntax.specs.Grammar.{parsed_at}
+use Rattle.beldi_syntax.specs.declared.reading.Parsed.{Parsed}
 use Rattle.beldi_outside.specs.Outside.{ReadAllOn, Told, max_source}
 use Rattle.beldi_outside.proofs.Told.{told_same, told_then, told_map, for_some}
+use Rattle.beldi_main.specs.declared.refusal.Refusal.{Refusal}
 use Rattle.beldi_main.specs.declared.session.Stop.{Stop}
 use Rattle.beldi_main.specs.declared.session.Stop.TheVariants.{OutOfMemory, SinkFault}
 use Rattle.beldi_main.specs.declared.program.Ended.{Ended}
 use Rattle.beldi_main.specs.declared.program.Ended.TheVariants as ended_so
 use Rattle.beldi_main.specs.Session.{state_of, OnTold, Carried, LinesOn, EndedOn, deeds_in}
-use Rattle.beldi_main.specs.Headline.{Whole, Cut, ScriptOn, SessionOn, SourceOn, RunOn, Anything, AsRead, SourceAsRead, Untouched, end_of, end_unread, is_whole_source}
+use Rattle.beldi_main.specs.Source.{Numbered, numbered, script_of, source_at}
+use Rattle.beldi_main.specs.Headline.{Whole, Cut, ScriptOn, SessionOn, SourceOn, RunOn, Anything, AsRead, LongOn, SourceAsRead, Untouched, is_of_source, end_of, end_unread, is_none, is_whole_source}
 use Rattle.beldi_main.proofs.Deeds.{told_tells, both_map}
 use Rattle.beldi_main.proofs.Endings.{ended, cut_at_end, cut_before}
 use Rattle.beldi_main.proofs.Sessions.{stays}
 
 -- ---- a script and its ending
-abbrev pub ended_by : Bool → Result (Unit {0}) Stop → Result Bool Stop
-ended_by whole (Ok u) = Ok whole
-ended_by whole (Err s) = Err s
+abbrev pub ended_by : Option Refusal → Result (Unit {0}) Stop → Result (Option Refusal) Stop
+ended_by refused (Ok u) = Ok refused
+ended_by refused (Err s) = Err s
 
-module _ (d : Deployment) (room : ℕ) (lines : List (List ℕ)) (c b : Core) (f g : ℕ) (p : List ℕ) where
-  script_at_end : (whole : Bool) (r : Result (Unit {0}) Stop) (m n : Rows) (h k j : List ℕ) → LinesOn d room lines (state_of c m f h []) (state_of b n g k p) (Ok whole) → EndedOn whole p r k j → ScriptOn d room lines c m n f g h j (ended_by whole r)
+module _ (d : Deployment) (room : ℕ) (lines : List Numbered) (c b : Core) (f g : ℕ) (p : List ℕ) where
+  script_at_end : (whole : Option Refusal) (r : Result (Unit {0}) Stop) (m n : Rows) (h k j : List ℕ) → LinesOn d room lines (state_of c m f h []) (state_of b n g k p) (Ok whole) → EndedOn whole p r k j → ScriptOn d room lines c m n f g h j (ended_by whole r)
   script_at_end whole (Ok u) m n h k j v w = (v.0, ended d room lines c b m n f g h k p j v.1 (subst (λ z. EndedOn z p (Ok tt) k j) (sym v.0) w))
   script_at_end whole (Err s) m n h k j v w = cut_at_end d room lines c b m n f g h k p j s v.1 (subst (λ z. EndedOn z p (Err s) k j) (sym v.0) w)
 
-  pub script_ended : (w : List ℕ) (whole : Bool) (r : Result (Unit {0}) Stop) (ra rb : Option Rows) (ha hb hc : Option (List ℕ)) → w ≡ []
+  pub script_ended : (w : List ℕ) (whole : Option Refusal) (r : Result (Unit {0}) Stop) (ra rb : Option Rows) (ha hb hc : Option (List ℕ)) → w ≡ []
       → Carried (λ y q s t x. LinesOn y q lines s t x) d room c b f g w p ra rb ha hb (Ok whole) → Told hb hc (EndedOn whole p r)
       → OnTold ra rb ha hc (λ m n h k. ScriptOn d room lines c m n f g h k (ended_by whole r))
   script_ended w whole r ra rb ha hb hc none v x =
@@ -52,7 +52,7 @@ module _ (d : Deployment) (room : ℕ) (lines : List (List ℕ)) (c b : Core) (f
       (subst (λ (z : List ℕ). Carried (λ y q s t x. LinesOn y q lines s t x) d room c b f g z p ra rb ha hb (Err s)) none v)
 
 -- ---- a host over a table
-module _ (d : Deployment) (lines : List (List ℕ)) (m n : Rows) (e f g : ℕ) (h k : List ℕ) (before : e ≤ f) where
+module _ (d : Deployment) (lines : List Numbered) (m n : Rows) (e f g : ℕ) (h k : List ℕ) (before : e ≤ f) where
   whole_earlier : Whole d d.room lines (first_core (newest_of m) 0) m n f g h k → Whole d d.room lines (first_core (newest_of m) 0) m n e g h k
   whole_earlier w = record {
     core = w.core;
@@ -86,13 +86,13 @@ module _ (d : Deployment) (lines : List (List ℕ)) (m n : Rows) (e f g : ℕ) (
     written = w.written;
   }
 
-  session_on : (r : Result Bool Stop) → ScriptOn d d.room lines (first_core (newest_of m) 0) m n f g h k r → SessionOn Anything d lines m n e g h k (end_of r)
-  session_on (Ok true) x = (x.0, (whole_earlier x.1, tt))
-  session_on (Ok false) x = (x.0, (whole_earlier x.1, tt))
+  session_on : (r : Result (Option Refusal) Stop) → ScriptOn d d.room lines (first_core (newest_of m) 0) m n f g h k r → SessionOn Anything d lines m n e g h k (end_of r)
+  session_on (Ok None) x = (ap is_none x.0, (whole_earlier x.1, tt))
+  session_on (Ok (Some y)) x = (ap is_none x.0, (whole_earlier x.1, tt))
   session_on (Err OutOfMemory) x = (cut_earlier x, tt)
   session_on (Err SinkFault) x = (cut_earlier x, tt)
 
-pub hosted : (d kept : Deployment) (room e f g : ℕ) (c : Core) (lines : List (List ℕ)) (r : Result Bool Stop) (ra rb rc : Option Rows) (ha hb : Option (List ℕ)) → Opened d kept 0 room e f ra rb c
+pub hosted : (d kept : Deployment) (room e f g : ℕ) (c : Core) (lines : List Numbered) (r : Result (Option Refusal) Stop) (ra rb rc : Option Rows) (ha hb : Option (List ℕ)) → Opened d kept 0 room e f ra rb c
     → OnTold rb rc ha hb (λ m n h k. ScriptOn kept room lines c m n f g h k r) → OnTold ra rc ha hb (λ m n h k. SessionOn Anything d lines m n e g h k (end_of r))
 hosted d kept room e f g c lines r ra rb rc ha hb o s =
     told_then {P = λ m n. (n ≡ m) × (c.newest ≡ newest_of m)} {Q = λ m n. Told ha hb (λ h k. ScriptOn kept room lines c m n f g h k r)} {R = λ m n. Told ha hb (λ h k. SessionOn Anything d lines m n e g h k (end_of r))} ra rb rc
@@ -106,7 +106,7 @@ hosted d kept room e f g c lines r ra rb rc ha hb o s =
         (subst (λ y. ScriptOn d d.room lines c y j f g h k r) v.0 (subst (λ y. ScriptOn d y lines c n j f g h k r) o.room_set (subst (λ y. ScriptOn y room lines c n j f g h k r) o.code_kept x)))
 
 -- nothing was done
-pub nothing_done : (d : Deployment) (lines : List (List ℕ)) (m : Rows) (f g : ℕ) (h : List ℕ) → f ≤ g → Cut OutOfMemory d d.room lines (first_core (newest_of m) 0) m m f g h h
+pub nothing_done : (d : Deployment) (lines : List Numbered) (m : Rows) (f g : ℕ) (h : List ℕ) → f ≤ g → Cut OutOfMemory d d.room lines (first_core (newest_of m) 0) m m f g h h
 nothing_done d lines m f g h l = record {
   core = first_core (newest_of m) 0;
   said = [];
@@ -130,48 +130,85 @@ nothing_done d lines m f g h l = record {
 }
 
 -- ---- a host that was not opened, and a source that was not read
-pub not_opened : (d : Deployment) (lines : List (List ℕ)) (f g : ℕ) (ra rb : Option Rows) (held : Option (List ℕ)) (why : OpenErr) → Refused f g ra rb why → OnTold ra rb held held (λ m n h k. SessionOn Anything d lines m n f g h k ended_so.OutOfMemory)
+pub not_opened : (d : Deployment) (lines : List Numbered) (f g : ℕ) (ra rb : Option Rows) (held : Option (List ℕ)) (why : OpenErr) → Refused f g ra rb why → OnTold ra rb held held (λ m n h k. SessionOn Anything d lines m n f g h k ended_so.OutOfMemory)
 not_opened d lines f g ra rb held why o =
     told_map {P = λ m n. n ≡ m} {Q = λ m n. Told held held (λ h k. SessionOn Anything d lines m n f g h k ended_so.OutOfMemory)} ra rb
     (λ m n e. told_same (λ h k. SessionOn Anything d lines m n f g h k ended_so.OutOfMemory) held (λ h. (subst (λ z. Cut OutOfMemory d d.room lines (first_core (newest_of m) 0) m z f g h h) (sym e) (nothing_done d lines m f g h o.later), tt)))
     (told_tells ra rb (λ m n. n ≡ m) o.rows)
 
-at_source : (bytes : List ℕ) (o : Option Parsed) (m : Rows) (f : ℕ) (h : List ℕ) → SourceOn Anything bytes o m m f f h h ended_so.OutOfMemory
-at_source bytes None m f h = (refl, refl)
-at_source bytes (Some p) m f h = (nothing_done p.code (lines_of (drop p.rest bytes)) m f f h (omega arith), tt)
+at_source : (bytes : List ℕ) (o : Result Parsed Refusal) (m : Rows) (f : ℕ) (h : List ℕ) → SourceOn Anything bytes o m m f f h h ended_so.OutOfMemory
+at_source bytes (Err x) m f h = (refl, refl)
+at_source bytes (Ok p) m f h = (nothing_done p.code (script_of bytes p) m f f h (omega arith), tt)
 
-pub not_parsed : (bytes : List ℕ) (rows : Option Rows) (held : Option (List ℕ)) (f : ℕ) → OnTold rows rows held held (λ m n h k. SourceOn Anything bytes (parsed_at bytes) m n f f h k ended_so.OutOfMemory)
+pub not_parsed : (bytes : List ℕ) (rows : Option Rows) (held : Option (List ℕ)) (f : ℕ) → OnTold rows rows held held (λ m n h k. SourceOn Anything bytes (source_at bytes) m n f f h k ended_so.OutOfMemory)
 not_parsed bytes rows held f =
-    told_same (λ m n. Told held held (λ h k. SourceOn Anything bytes (parsed_at bytes) m n f f h k ended_so.OutOfMemory)) rows
-    (λ m. told_same (λ h k. SourceOn Anything bytes (parsed_at bytes) m m f f h k ended_so.OutOfMemory) held (λ h. at_source bytes (parsed_at bytes) m f h))
+    told_same (λ m n. Told held held (λ h k. SourceOn Anything bytes (source_at bytes) m n f f h k ended_so.OutOfMemory)) rows
+    (λ m. told_same (λ h k. SourceOn Anything bytes (source_at bytes) m m f f h k ended_so.OutOfMemory) held (λ h. at_source bytes (source_at bytes) m f h))
 
-at_unread : (bytes : List ℕ) (o : Option Parsed) (m : Rows) (f : ℕ) (h : List ℕ) (e : ReadErr) → SourceOn Anything bytes o m m f f h h (end_unread e)
+at_unread : (bytes : List ℕ) (o : Result Parsed Refusal) (m : Rows) (f : ℕ) (h : List ℕ) (e : ReadErr) → SourceOn Anything bytes o m m f f h h (end_unread e)
 at_unread bytes o m f h why.OutOfMemory = at_source bytes o m f h
-at_unread bytes None m f h why.Failed = (refl, refl)
-at_unread bytes (Some p) m f h why.Failed = (refl, refl)
-at_unread bytes None m f h why.TooLong = (refl, refl)
-at_unread bytes (Some p) m f h why.TooLong = (refl, refl)
+at_unread bytes (Err x) m f h why.Failed = (refl, refl)
+at_unread bytes (Ok p) m f h why.Failed = (refl, refl)
+at_unread bytes (Err x) m f h why.TooLong = (refl, refl)
+at_unread bytes (Ok p) m f h why.TooLong = (refl, refl)
 
 pub not_read : (source : Option (List ℕ)) (rows : Option Rows) (held : Option (List ℕ)) (f : ℕ) (e : ReadErr) → RunOn Anything source rows rows held held f f (end_unread e)
 not_read source rows held f e =
-    told_same (λ m n. Told held held (λ h k. IfSome source (λ b. SourceOn Anything b (parsed_at b) m n f f h k (end_unread e)))) rows
-    (λ m. told_same (λ h k. IfSome source (λ b. SourceOn Anything b (parsed_at b) m m f f h k (end_unread e))) held (λ h. for_some {P = λ b. SourceOn Anything b (parsed_at b) m m f f h h (end_unread e)} source (λ b. at_unread b (parsed_at b) m f h e)))
+    told_same (λ m n. Told held held (λ h k. IfSome source (λ b. SourceOn Anything b (source_at b) m n f f h k (end_unread e)))) rows
+    (λ m. told_same (λ h k. IfSome source (λ b. SourceOn Anything b (source_at b) m m f f h k (end_unread e))) held (λ h. for_some {P = λ b. SourceOn Anything b (source_at b) m m f f h h (end_unread e)} source (λ b. at_unread b (source_at b) m f h e)))
 
 -- ---- one of two endings
 pub either_end : (P : Ended → Type 0) (e f g : Ended) → P f → P g → (e ≡ f) ⊎ (e ≡ g) → P e
 either_end P e f g p q h = elim h [ inl s ↦ subst P (sym s) p | inr s ↦ subst P (sym s) q ]
 
--- ---- whether the source was refused
-pub ran_as_read : (whole : Bool) (r : Result Bool Stop) → IfOk r (λ x. whole ≡ x) → AsRead whole (end_of r)
-ran_as_read whole (Ok true) h = h
-ran_as_read whole (Ok false) h = h
-ran_as_read whole (Err OutOfMemory) h = tt
-ran_as_read whole (Err SinkFault) h = tt
+pub refused_end : (P : Ended → Type 0) (e : Ended) → P ended_so.Refused → P ended_so.SinkFault → P ended_so.OutOfMemory → (e ≡ ended_so.Refused) ⊎ (e ≡ ended_so.SinkFault) ⊎ (e ≡ ended_so.OutOfMemory) → P e
+refused_end P e p q r h = elim h [ inl s ↦ subst P (sym s) p | inr s ↦ either_end P e ended_so.SinkFault ended_so.OutOfMemory q r s ]
 
-pub source_as_read : (o a : Option (List ℕ)) (v : Vec ℕ) (bytes : List ℕ) (e : Ended) → Told o a (ReadAllOn max_source (Ok v)) → bytes ≡ v.items → AsRead (is_whole_source bytes (parsed_at bytes)) e → SourceAsRead o e
+-- ---- a source that was read
+-- its deployment is hosted, and its lines are those after it
+pub sourced : (bytes script : List ℕ) (p : Parsed) (e : Ended) (ra rb : Option Rows) (ha hb : Option (List ℕ)) (f g : ℕ) → source_at bytes ≡ Ok p → script ≡ drop p.rest bytes
+    → OnTold ra rb ha hb (λ m n h k. SessionOn Anything p.code (numbered p.line (lines_of script)) m n f g h k e) → OnTold ra rb ha hb (λ m n h k. SourceOn Anything bytes (source_at bytes) m n f g h k e)
+sourced bytes script p e ra rb ha hb f g is at s =
+    subst (λ (o : Result Parsed Refusal). OnTold ra rb ha hb (λ m n h k. SourceOn Anything bytes o m n f g h k e)) (sym is)
+    (subst (λ (t : List ℕ). OnTold ra rb ha hb (λ m n h k. SessionOn Anything p.code (numbered p.line (lines_of t)) m n f g h k e)) at s)
+
+module _ (v : Vec ℕ) (bytes : List ℕ) (e : Ended) (same : bytes ≡ v.items) where
+  ran_at : (o a : Option (List ℕ)) (m n : Rows) (f g : ℕ) (h k : List ℕ) → Told o a (ReadAllOn max_source (Ok v)) → SourceOn Anything bytes (source_at bytes) m n f g h k e → IfSome o (λ b. SourceOn Anything b (source_at b) m n f g h k e)
+  ran_at None a m n f g h k t x = tt
+  ran_at (Some b) None m n f g h k t x = absurd t
+  ran_at (Some b) (Some c) m n f g h k t x = subst (λ (z : List ℕ). SourceOn Anything z (source_at z) m n f g h k e) (same ∙ t.0) x
+
+  pub ran : (o a : Option (List ℕ)) (ra rb : Option Rows) (ha hb : Option (List ℕ)) (f g : ℕ) → Told o a (ReadAllOn max_source (Ok v)) → OnTold ra rb ha hb (λ m n h k. SourceOn Anything bytes (source_at bytes) m n f g h k e) → RunOn Anything o ra rb ha hb f g e
+  ran o a ra rb ha hb f g t s =
+      both_map {P = λ m n h k. SourceOn Anything bytes (source_at bytes) m n f g h k e} {Q = λ m n h k. IfSome o (λ b. SourceOn Anything b (source_at b) m n f g h k e)} ra rb ha hb (λ m n h k x. ran_at o a m n f g h k t x) s
+
+-- a source that is not too long
+short_by : (b c : List ℕ) (e : Ended) → IsTrue (is_of_source e) → length b ≤ max_source → LongOn b c e
+short_by b c ended_so.Done is l = inl l
+short_by b c ended_so.OutOfMemory is l = inl l
+short_by b c ended_so.Usage is l = inl l
+short_by b c ended_so.SourceFault is l = inl l
+short_by b c ended_so.SinkFault is l = inl l
+short_by b c ended_so.Refused is l = inl l
+short_by b c ended_so.TooLong is l = cc
+short_by b c ended_so.TableFault is l = inl l
+
+pub ran_short : (o a : Option (List ℕ)) (v : Vec ℕ) (e : Ended) → Told o a (ReadAllOn max_source (Ok v)) → length v.items ≤ max_source → IsTrue (is_of_source e) → Told o a (λ b c. LongOn b c e)
+ran_short None a v e t l is = tt
+ran_short (Some b) None v e t l is = absurd t
+ran_short (Some b) (Some c) v e t l is = short_by b c e is (subst (λ (z : List ℕ). length z ≤ max_source) t.0 l)
+
+-- ---- whether the source was refused
+pub ran_as_read : (refused : Option Refusal) (r : Result (Option Refusal) Stop) → IfOk r (λ x. refused ≡ x) → AsRead (is_none refused) (end_of r)
+ran_as_read refused (Ok None) h = ap is_none h
+ran_as_read refused (Ok (Some x)) h = ap is_none h
+ran_as_read refused (Err OutOfMemory) h = tt
+ran_as_read refused (Err SinkFault) h = tt
+
+pub source_as_read : (o a : Option (List ℕ)) (v : Vec ℕ) (bytes : List ℕ) (e : Ended) → Told o a (ReadAllOn max_source (Ok v)) → bytes ≡ v.items → AsRead (is_whole_source bytes (source_at bytes)) e → SourceAsRead o e
 source_as_read None a v bytes e t same h = tt
 source_as_read (Some b) None v bytes e t same h = absurd t
-source_as_read (Some b) (Some c) v bytes e t same h = subst (λ x. AsRead (is_whole_source x (parsed_at x)) e) (same ∙ t.0) h
+source_as_read (Some b) (Some c) v bytes e t same h = subst (λ x. AsRead (is_whole_source x (source_at x)) e) (same ∙ t.0) h
 
 pub unread_as_read : (o : Option (List ℕ)) (e : ReadErr) → SourceAsRead o (end_unread e)
 unread_as_read None e = tt
@@ -181,9 +218,9 @@ unread_as_read (Some b) why.TooLong = tt
 
 -- ---- what was not touched
 module _ (table rows sink : Type 0) where
-  pub ran_untouched : (r : Result Bool Stop) → Untouched (end_of r) table rows sink
-  ran_untouched (Ok true) = tt
-  ran_untouched (Ok false) = tt
+  pub ran_untouched : (r : Result (Option Refusal) Stop) → Untouched (end_of r) table rows sink
+  ran_untouched (Ok None) = tt
+  ran_untouched (Ok (Some x)) = tt
   ran_untouched (Err OutOfMemory) = tt
   ran_untouched (Err SinkFault) = tt
 

@@ -1,5 +1,5 @@
 -- What is done, one part after another.
-use Rattle.std.proofs.Common.{◌≡◌, inl, inr, ℕ, List, [], ◌∷◌, ◌++◌, refl, ap, sym, ◌∙◌, subst, arith, append_assoc}
+use Rattle.std.proofs.Common.{◌≡◌, inl, ℕ, List, [], ◌∷◌, ◌++◌, refl, ap, sym, ◌∙◌, subst, arith, append_assoc}
 use Rattle.std.proofs.lemmas.Grind.{flat_map-append}
 use Rattle.std.proofs.lemmas.List.{append-nil}
 use Rattle.beldi_lang.specs.declared.deployment.Deployment.{Deployment}
@@ -74,6 +74,25 @@ still d (e ∷ es) c m b n h = inl h
 pub stays : (why : Stop) (d : Deployment) (es : List Deed) (c : Core) (m : Rows) → StoppedAt why d es c m c m
 stays stop.OutOfMemory d es c m = still d es c m c m (refl, refl)
 stays stop.SinkFault d es c m = (refl, refl)
+
+-- it stopped before the first deed
+pub stopped_at_once : (why : Stop) (d : Deployment) (room : ℕ) (es : List Deed) (s : State) → Stopped why d room es s s
+stopped_at_once why d room es s = record {
+  done = [];
+  more = es;
+  deeds = refl;
+  core = s.core;
+  rows = s.rows;
+  faults = s.faults;
+  said = [];
+  answered = (refl, refl, refl);
+  broke_off = stays why d es s.core s.rows;
+  later = omega arith;
+  front = [];
+  rest = s.waiting ++ [];
+  held = sym (append-nil s.held);
+  text = refl;
+}
 
 more_broke_off : (d : Deployment) (es fs : List Deed) (c : Core) (m : Rows) (b : Core) (n : Rows) → BrokeOff d es c m b n → BrokeOff d (es ++ fs) c m b n
 more_broke_off d [] [] c m b n h = h

@@ -1,17 +1,21 @@
 -- Calls one after another, over what the table and the sink tell.
-use Rattle.std.proofs.Common.{◌≡◌, ℕ, ◌+◌, ◌-◌, ◌<◌, ◌≤◌, suc, zero, Bool, true, false, List, [], ◌∷◌, ◌++◌, Option, None, Some, Result, Ok, Err, ap, sym, ◌∙◌, subst, arith}
+use Rattle.std.proofs.Common.{◌≡◌, ℕ, ◌+◌, ◌-◌, ◌<◌, ◌≤◌, suc, zero, List, [], ◌∷◌, ◌++◌, Option, None, Some, Result, Ok, Err, ap, sym, ◌∙◌, subst, arith}
 use Rattle.beldi_lang.specs.declared.deployment.Deployment.{Deployment}
 use Rattle.beldi_row.specs.Table.{Rows, Rose}
 use Rattle.beldi_step.specs.Host.{Core}
 use Rattle.beldi_outside.specs.Outside.{Told}
 use Rattle.beldi_outside.proofs.Told.{told_same, told_then, told_map}
-use Rattle.beldi_script.specs.declared.reading.Line.{Line}
-use Rattle.beldi_script.specs.Line.{line_at}
+use Rattle.beldi_script.specs.declared.line.Line.{Line}
 use Rattle.std.proofs.lemmas.List.{append-nil}
 use Rattle.beldi_main.specs.declared.deed.Deed.{Deed}
+use Rattle.beldi_main.specs.declared.refusal.Refusal.{Refusal}
+use Rattle.beldi_main.specs.declared.refusal.SourceErr.{SourceErr}
+use Rattle.beldi_main.specs.declared.refusal.SourceErr.TheVariants.{Refused, OutOfMemory}
 use Rattle.beldi_main.specs.declared.session.Stop.{Stop}
-use Rattle.beldi_main.specs.Session.{State, state_of, Carried, Carrying, Kept, Did, Stopped, LineOn, LinesOn, SoFarOn, line_result, deeds_of, deeds_at, and_then, and_whole, listings, times}
-use Rattle.beldi_main.proofs.Sessions.{did_nothing, did_then, stopped_after, stopped_before}
+use Rattle.beldi_main.specs.declared.session.Stop.TheVariants as stop
+use Rattle.beldi_main.specs.Session.{State, state_of, Carried, Carrying, Kept, Did, Stopped, LineOn, LinesOn, SoFarOn, line_result, unread_result, deeds_of, deeds_at, and_then, or_refused, listings, times}
+use Rattle.beldi_main.specs.Source.{Numbered, ReadsAs, said_at}
+use Rattle.beldi_main.proofs.Sessions.{did_nothing, did_then, stopped_after, stopped_at_once, stopped_before}
 use Rattle.beldi_main.proofs.Deeds.{times_more}
 use Rattle.beldi_main.proofs.Lines.{begun, goes_on, refused, stops, all_done}
 
@@ -87,49 +91,60 @@ module _ (d e : Deployment) (room new_room : ℕ) (a b c : Sight) (n : ℕ) (v w
       (λ s t u x y. subst (λ es. Carrying es d room s u (Err why)) (ap (λ es. es ++ times (count - (n + 1)) v) (times_more n v) ∙ times_split (n + 1) (count - (n + 1)) v ∙ ap (λ j. times j v) {x = n + 1 + (count - (n + 1))} (omega arith))
       (stopped_before d room (times n v ++ v ∷ []) (times (count - (n + 1)) v) s u (stopped_after d room (times n v) (v ∷ []) s t u x y))) before (turn_at (Err why) h)
 
--- ---- a line
-module _ (d : Deployment) (room : ℕ) (line : List ℕ) (a b : Sight) where
-  pub bad_line : line_at d line ≡ None → Between (λ e r s t x. LineOn e r line s t x) d room a a (Ok false)
-  bad_line h = same (λ e r s t x. LineOn e r line s t x) d room a (Ok false) (λ s. (ap (λ o. and_whole o true) h, did_nothing d room s))
+-- nothing is done for a line without deeds
+pub nothing_said : (d : Deployment) (room : ℕ) (a : Sight) (l : Line) → deeds_of l ≡ [] → Between (Carrying (deeds_of l)) d room a a (Ok tt)
+nothing_said d room a l none = subst (λ es. Between (Carrying es) d room a a (Ok tt)) (sym none) (same (Carrying []) d room a (Ok tt) (did_nothing d room))
 
-  by_line : (l : Line) → line_at d line ≡ Some l → deeds_at d line ≡ deeds_of l
+-- ---- a line
+module _ (d : Deployment) (room : ℕ) (line : Numbered) (a b : Sight) where
+  pub bad_line : (y : Refusal) → said_at d line ≡ Err y → Between (λ e r s t x. LineOn e r line s t x) d room a a (Ok (Some y))
+  bad_line y h = same (λ e r s t x. LineOn e r line s t x) d room a (Ok (Some y)) (λ s. (ap (λ o. or_refused o None) h, did_nothing d room s))
+
+  pub unread_line : (why : Stop) → Between (λ e r s t x. LineOn e r line s t x) d room a a (Err why)
+  unread_line why = same (λ e r s t x. LineOn e r line s t x) d room a (Err why) (λ s. stopped_at_once why d room (deeds_at d line) s)
+
+  pub unread : (why : SourceErr) → ReadsAs (said_at d line) (Err why) → Between (λ e r s t x. LineOn e r line s t x) d room a a (unread_result why)
+  unread (Refused x) h = bad_line x h
+  unread OutOfMemory h = unread_line stop.OutOfMemory
+
+  by_line : (l : Line) → said_at d line ≡ Ok l → deeds_at d line ≡ deeds_of l
   by_line l h = ap (λ o. and_then o []) h ∙ append-nil (deeds_of l)
 
-  line_on : (l : Line) (s t : State) (r : Result (Unit {0}) Stop) → line_at d line ≡ Some l → Carrying (deeds_of l) d room s t r → LineOn d room line s t (line_result r)
-  line_on l s t (Ok u) h x = (ap (λ o. and_whole o true) h, subst (λ es. Did d room es s t) (sym (by_line l h)) x)
+  line_on : (l : Line) (s t : State) (r : Result (Unit {0}) Stop) → said_at d line ≡ Ok l → Carrying (deeds_of l) d room s t r → LineOn d room line s t (line_result r)
+  line_on l s t (Ok u) h x = (ap (λ o. or_refused o None) h, subst (λ es. Did d room es s t) (sym (by_line l h)) x)
   line_on l s t (Err e) h x = subst (λ es. Stopped e d room es s t) (sym (by_line l h)) x
 
-  pub done_line : (l : Line) (r : Result (Unit {0}) Stop) → line_at d line ≡ Some l → Between (Carrying (deeds_of l)) d room a b r → Between (λ e q s t x. LineOn e q line s t x) d room a b (line_result r)
+  pub done_line : (l : Line) (r : Result (Unit {0}) Stop) → said_at d line ≡ Ok l → Between (Carrying (deeds_of l)) d room a b r → Between (λ e q s t x. LineOn e q line s t x) d room a b (line_result r)
   done_line l r h x = between_map (Carrying (deeds_of l)) (λ e q s t x. LineOn e q line s t x) d room a b r (line_result r) (λ s t y. line_on l s t r h y) x
 
 -- ---- lines
-module _ (d e : Deployment) (room new_room : ℕ) (lines rest more : List (List ℕ)) (line : List ℕ) (a b c : Sight) (code : e ≡ d) (same_room : new_room ≡ room) (cut : rest ≡ line ∷ more) (before : Between (SoFarOn lines rest) d room a b (Ok tt)) where
+module _ (d e : Deployment) (room new_room : ℕ) (lines rest more : List Numbered) (line : Numbered) (a b c : Sight) (code : e ≡ d) (same_room : new_room ≡ room) (cut : rest ≡ line ∷ more) (before : Between (SoFarOn lines rest) d room a b (Ok tt)) where
   cut_before : Between (SoFarOn lines (line ∷ more)) d room a b (Ok tt)
   cut_before = subst (λ ls. Between (SoFarOn lines ls) d room a b (Ok tt)) cut before
 
-  line_there : (r : Result Bool Stop) → Between (λ y q s t x. LineOn y q line s t x) e new_room b c r → Between (λ y q s t x. LineOn y q line s t x) d room b c r
+  line_there : (r : Result (Option Refusal) Stop) → Between (λ y q s t x. LineOn y q line s t x) e new_room b c r → Between (λ y q s t x. LineOn y q line s t x) d room b c r
   line_there r h = at (λ y q s t x. LineOn y q line s t x) d e room new_room b c r code same_room h
 
-  pub line_goes_on : Between (λ y q s t x. LineOn y q line s t x) e new_room b c (Ok true) → Between (SoFarOn lines more) d room a c (Ok tt)
+  pub line_goes_on : Between (λ y q s t x. LineOn y q line s t x) e new_room b c (Ok None) → Between (SoFarOn lines more) d room a c (Ok tt)
   line_goes_on h =
-      then (SoFarOn lines (line ∷ more)) (λ y q s t x. LineOn y q line s t x) (SoFarOn lines more) d room a b c (Ok tt) (Ok true) (Ok tt)
-      (λ s t u x y. goes_on d room lines more line s t u x y) cut_before (line_there (Ok true) h)
+      then (SoFarOn lines (line ∷ more)) (λ y q s t x. LineOn y q line s t x) (SoFarOn lines more) d room a b c (Ok tt) (Ok None) (Ok tt)
+      (λ s t u x y. goes_on d room lines more line s t u x y) cut_before (line_there (Ok None) h)
 
-  pub line_refused : Between (λ y q s t x. LineOn y q line s t x) e new_room b c (Ok false) → Between (λ y q s t x. LinesOn y q lines s t x) d room a c (Ok false)
-  line_refused h =
-      then (SoFarOn lines (line ∷ more)) (λ y q s t x. LineOn y q line s t x) (λ y q s t x. LinesOn y q lines s t x) d room a b c (Ok tt) (Ok false) (Ok false)
-      (λ s t u x y. refused d room lines more line s t u x y) cut_before (line_there (Ok false) h)
+  pub line_refused : (x : Refusal) → Between (λ y q s t r. LineOn y q line s t r) e new_room b c (Ok (Some x)) → Between (λ y q s t r. LinesOn y q lines s t r) d room a c (Ok (Some x))
+  line_refused x h =
+      then (SoFarOn lines (line ∷ more)) (λ y q s t r. LineOn y q line s t r) (λ y q s t r. LinesOn y q lines s t r) d room a b c (Ok tt) (Ok (Some x)) (Ok (Some x))
+      (λ s t u v w. refused d room lines more line s t u v x w) cut_before (line_there (Ok (Some x)) h)
 
   pub line_stops : (why : Stop) → Between (λ y q s t x. LineOn y q line s t x) e new_room b c (Err why) → Between (λ y q s t x. LinesOn y q lines s t x) d room a c (Err why)
   line_stops why h =
       then (SoFarOn lines (line ∷ more)) (λ y q s t x. LineOn y q line s t x) (λ y q s t x. LinesOn y q lines s t x) d room a b c (Ok tt) (Err why) (Err why)
       (λ s t u x y. stops d room lines more line s t u x why y) cut_before (line_there (Err why) h)
 
-pub lines_begun : (d : Deployment) (room : ℕ) (lines : List (List ℕ)) (a : Sight) → Between (SoFarOn lines lines) d room a a (Ok tt)
+pub lines_begun : (d : Deployment) (room : ℕ) (lines : List Numbered) (a : Sight) → Between (SoFarOn lines lines) d room a a (Ok tt)
 lines_begun d room lines a = same (SoFarOn lines lines) d room a (Ok tt) (begun d room lines)
 
 -- the last listings follow the lines
-module _ (d e : Deployment) (room new_room : ℕ) (lines left : List (List ℕ)) (a b c : Sight) (code : e ≡ d) (same_room : new_room ≡ room) (none : left ≡ []) (before : Between (SoFarOn lines left) d room a b (Ok tt)) where
+module _ (d e : Deployment) (room new_room : ℕ) (lines left : List Numbered) (a b c : Sight) (code : e ≡ d) (same_room : new_room ≡ room) (none : left ≡ []) (before : Between (SoFarOn lines left) d room a b (Ok tt)) where
   pub lines_done : (r : Result (Unit {0}) Stop) → Between (Carrying listings) e new_room b c r → Between (λ y q s t x. LinesOn y q lines s t x) d room a c (line_result r)
   lines_done r h =
       then (SoFarOn lines []) (Carrying listings) (λ y q s t x. LinesOn y q lines s t x) d room a b c (Ok tt) r (line_result r)

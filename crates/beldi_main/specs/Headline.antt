@@ -6,35 +6,36 @@ use Rattle.beldi_lang.specs.Wants.{is_name}
 use Rattle.beldi_row.specs.Table.{Rows}
 use Rattle.beldi_step.specs.Host.{Core, first_core}
 use Rattle.beldi_core.specs.Survey.{newest_of}
-use Rattle.beldi_script.specs.Cut.{lines_of}
-use Rattle.beldi_syntax.specs.declared.grammar.Parsed.{Parsed}
-use Rattle.beldi_syntax.specs.Grammar.{parsed_at}
+use Rattle.beldi_syntax.specs.declared.reading.Parsed.{Parsed}
 use Rattle.beldi_outside.specs.Outside.{IsPrefixOf, max_source}
 use Rattle.beldi_outside.specs.declared.transfer.ReadErr.{ReadErr}
 use Rattle.beldi_outside.specs.declared.transfer.ReadErr.TheVariants as why
 use Rattle.beldi_main.specs.declared.deed.Deed.{Deed}
+use Rattle.beldi_main.specs.declared.refusal.Refusal.{Refusal}
 use Rattle.beldi_main.specs.declared.session.Stop.{Stop}
 use Rattle.beldi_main.specs.declared.session.Stop.TheVariants as stop
 use Rattle.beldi_main.specs.declared.program.Ended.{Ended}
 use Rattle.beldi_main.specs.declared.program.Ended.TheVariants as ended
 use Rattle.beldi_main.specs.Said.{Said, said_texts}
 use Rattle.beldi_main.specs.PlainRun.{IsPlainRun}
-use Rattle.beldi_main.specs.Session.{Answered, OnTold, StoppedAt, deeds_in, is_whole, ending, refusal}
+use Rattle.beldi_main.specs.Refusal.{refusal_text}
+use Rattle.beldi_main.specs.Session.{Answered, OnTold, StoppedAt, deeds_in, refused_in, ending}
+use Rattle.beldi_main.specs.Source.{Numbered, script_of, source_at}
 
 -- all lines before a refused one were carried out, from the host's state c and the rows m on, and the last listings where
 -- none is refused; the host ends as `core`. The numbers f and g are the table's count of failures before and after, and
 -- `opened` is the count once the host was open.
-pub record Whole (d : Deployment) (room : ℕ) (lines : List (List ℕ)) (c : Core) (m n : Rows) (f g : ℕ) (h k : List ℕ) : Type 0 where
+pub record Whole (d : Deployment) (room : ℕ) (lines : List Numbered) (c : Core) (m n : Rows) (f g : ℕ) (h k : List ℕ) : Type 0 where
   pub core : Core
   pub said : List Said
   pub opened : ℕ
   pub sooner : f ≤ opened
   pub answered : Answered d room (deeds_in d lines) c m opened core n g said
-  pub text : k ≡ h ++ (said_texts d said ++ ending (is_whole d lines))
+  pub text : k ≡ h ++ (said_texts d said ++ ending (refused_in d lines))
 
 -- the first deeds were carried out, and a front of the text was written; where all deeds were carried out, the text may have
 -- a part of the ending. Only for want of memory may a deed have broken off.
-pub record Cut (why : Stop) (d : Deployment) (room : ℕ) (lines : List (List ℕ)) (c : Core) (m n : Rows) (f g : ℕ) (h k : List ℕ) : Type 0 where
+pub record Cut (why : Stop) (d : Deployment) (room : ℕ) (lines : List Numbered) (c : Core) (m n : Rows) (f g : ℕ) (h k : List ℕ) : Type 0 where
   pub core : Core
   pub said : List Said
   pub done : List Deed
@@ -49,15 +50,15 @@ pub record Cut (why : Stop) (d : Deployment) (room : ℕ) (lines : List (List �
   pub later : closed ≤ g
   pub broke_off : StoppedAt why d more last rows core n
   pub tail : List ℕ
-  pub is_tail : (tail ≡ []) ⊎ ((more ≡ []) × (tail ≡ ending (is_whole d lines)))
+  pub is_tail : (tail ≡ []) ⊎ ((more ≡ []) × (tail ≡ ending (refused_in d lines)))
   pub front : List ℕ
   pub rest : List ℕ
   pub text : front ++ rest ≡ said_texts d said ++ tail
   pub written : k ≡ h ++ front
 
 -- what a call that carries out a script and writes its ending has done
-abbrev pub ScriptOn : Deployment → ℕ → List (List ℕ) → Core → Rows → Rows → ℕ → ℕ → List ℕ → List ℕ → Result Bool Stop → Type 0
-ScriptOn d room lines c m n f g h k (Ok whole) = (is_whole d lines ≡ whole) × Whole d room lines c m n f g h k
+abbrev pub ScriptOn : Deployment → ℕ → List Numbered → Core → Rows → Rows → ℕ → ℕ → List ℕ → List ℕ → Result (Option Refusal) Stop → Type 0
+ScriptOn d room lines c m n f g h k (Ok refused) = (refused_in d lines ≡ refused) × Whole d room lines c m n f g h k
 ScriptOn d room lines c m n f g h k (Err e) = Cut e d room lines c m n f g h k
 
 -- ---- what is said of a session: by its deployment, the rows before and after, the deeds that were carried out, what was
@@ -73,14 +74,22 @@ abbrev pub PlainRun : Claim
 PlainRun d m n es ys last c = m ≡ map.empty → IsPlainRun d n es ys last.book c.book
 
 -- ---- a session over a deployment, from the first moment of a host on
-abbrev pub WholeWith : Claim → Deployment → List (List ℕ) → Rows → Rows → ℕ → ℕ → List ℕ → List ℕ → Type 0
+abbrev pub WholeWith : Claim → Deployment → List Numbered → Rows → Rows → ℕ → ℕ → List ℕ → List ℕ → Type 0
 WholeWith P d lines m n f g h k = (w : Whole d d.room lines (first_core (newest_of m) 0) m n f g h k) × P d m n (deeds_in d lines) w.said w.core w.core
 
-abbrev pub CutWith : Claim → Stop → Deployment → List (List ℕ) → Rows → Rows → ℕ → ℕ → List ℕ → List ℕ → Type 0
+abbrev pub CutWith : Claim → Stop → Deployment → List Numbered → Rows → Rows → ℕ → ℕ → List ℕ → List ℕ → Type 0
 CutWith P why d lines m n f g h k = (w : Cut why d d.room lines (first_core (newest_of m) 0) m n f g h k) × P d m n w.done w.said w.last w.core
 
+abbrev pub is_none : Option Refusal → Bool
+is_none None = true
+is_none (Some x) = false
+
+-- no line is refused
+abbrev pub is_whole : Deployment → List Numbered → Bool
+is_whole d lines = is_none (refused_in d lines)
+
 -- by how the program ended
-abbrev pub SessionOn : Claim → Deployment → List (List ℕ) → Rows → Rows → ℕ → ℕ → List ℕ → List ℕ → Ended → Type 0
+abbrev pub SessionOn : Claim → Deployment → List Numbered → Rows → Rows → ℕ → ℕ → List ℕ → List ℕ → Ended → Type 0
 SessionOn P d lines m n f g h k ended.Done = (is_whole d lines ≡ true) × WholeWith P d lines m n f g h k
 SessionOn P d lines m n f g h k ended.Refused = (is_whole d lines ≡ false) × WholeWith P d lines m n f g h k
 SessionOn P d lines m n f g h k ended.OutOfMemory = CutWith P stop.OutOfMemory d lines m n f g h k
@@ -94,24 +103,25 @@ SessionOn P d lines m n f g h k ended.TableFault = (n ≡ m) × (k ≡ h)
 abbrev pub SaysOn : List ℕ → List ℕ → List ℕ → Type 0
 SaysOn text h k = (w : List ℕ) × IsPrefixOf w text × (k ≡ h ++ w)
 
--- the source has no deployment: nothing is done, and the refusal is written
-abbrev pub UnreadOn : List ℕ → List ℕ → Ended → Type 0
-UnreadOn h k ended.Done = ⊥
-UnreadOn h k ended.Refused = k ≡ h ++ refusal
-UnreadOn h k ended.OutOfMemory = k ≡ h
-UnreadOn h k ended.SinkFault = SaysOn refusal h k
-UnreadOn h k ended.Usage = ⊥
-UnreadOn h k ended.SourceFault = k ≡ h
-UnreadOn h k ended.TooLong = k ≡ h
-UnreadOn h k ended.TableFault = ⊥
+-- the source is refused before its script: nothing is done, and the refusal is written
+abbrev pub UnreadOn : Refusal → List ℕ → List ℕ → Ended → Type 0
+UnreadOn x h k ended.Done = ⊥
+UnreadOn x h k ended.Refused = k ≡ h ++ refusal_text x
+UnreadOn x h k ended.OutOfMemory = k ≡ h
+UnreadOn x h k ended.SinkFault = SaysOn (refusal_text x) h k
+UnreadOn x h k ended.Usage = ⊥
+UnreadOn x h k ended.SourceFault = k ≡ h
+UnreadOn x h k ended.TooLong = k ≡ h
+UnreadOn x h k ended.TableFault = ⊥
 
--- by what the source has
-abbrev pub SourceOn : Claim → List ℕ → Option Parsed → Rows → Rows → ℕ → ℕ → List ℕ → List ℕ → Ended → Type 0
-SourceOn P bytes None m n f g h k e = (n ≡ m) × UnreadOn h k e
-SourceOn P bytes (Some p) m n f g h k e = SessionOn P p.code (lines_of (drop p.rest bytes)) m n f g h k e
+-- by what the source says: its deployment was read, keeps every rule and can be carried out, and its lines are carried out;
+-- or it is refused before
+abbrev pub SourceOn : Claim → List ℕ → Result Parsed Refusal → Rows → Rows → ℕ → ℕ → List ℕ → List ℕ → Ended → Type 0
+SourceOn P bytes (Err x) m n f g h k e = (n ≡ m) × UnreadOn x h k e
+SourceOn P bytes (Ok p) m n f g h k e = SessionOn P p.code (script_of bytes p) m n f g h k e
 
 abbrev pub RunOn : Claim → Option (List ℕ) → Option Rows → Option Rows → Option (List ℕ) → Option (List ℕ) → ℕ → ℕ → Ended → Type 0
-RunOn P source rows rows' held held' f g e = OnTold rows rows' held held' (λ m n h k. IfSome source (λ b. SourceOn P b (parsed_at b) m n f g h k e))
+RunOn P source rows rows' held held' f g e = OnTold rows rows' held held' (λ m n h k. IfSome source (λ b. SourceOn P b (source_at b) m n f g h k e))
 
 -- ---- the words
 abbrev pub usage : List ℕ
@@ -147,9 +157,9 @@ status_of ended.TableFault = 8
 abbrev pub ByStatus : ℕ → (Ended → Type 0) → Type 0
 ByStatus status P = (e : Ended) × (status ≡ status_of e) × P e
 
-abbrev pub end_of : Result Bool Stop → Ended
-end_of (Ok true) = ended.Done
-end_of (Ok false) = ended.Refused
+abbrev pub end_of : Result (Option Refusal) Stop → Ended
+end_of (Ok None) = ended.Done
+end_of (Ok (Some x)) = ended.Refused
 end_of (Err stop.OutOfMemory) = ended.OutOfMemory
 end_of (Err stop.SinkFault) = ended.SinkFault
 
@@ -174,10 +184,10 @@ abbrev pub LongOn : List ℕ → List ℕ → Ended → Type 0
 LongOn b c ended.TooLong = (max_source < length b) × (c ≡ drop (max_source + 1) b)
 LongOn b c e = length b ≤ max_source ⊎ (e ≡ ended.SourceFault) ⊎ (e ≡ ended.OutOfMemory)
 
--- the source has a deployment, and no line after it is refused
-abbrev pub is_whole_source : List ℕ → Option Parsed → Bool
-is_whole_source bytes None = false
-is_whole_source bytes (Some p) = is_whole p.code (lines_of (drop p.rest bytes))
+-- nothing of the source is refused: neither its deployment nor a line of its script
+abbrev pub is_whole_source : List ℕ → Result Parsed Refusal → Bool
+is_whole_source bytes (Err x) = false
+is_whole_source bytes (Ok p) = is_whole p.code (script_of bytes p)
 
 -- only a source that is not refused is carried out whole, and only one that is refused is answered so; the words were right
 abbrev pub AsRead : Bool → Ended → Type 0
@@ -188,7 +198,7 @@ AsRead whole e = Unit {0}
 
 abbrev pub SourceAsRead : Option (List ℕ) → Ended → Type 0
 SourceAsRead None e = Unit {0}
-SourceAsRead (Some b) e = AsRead (is_whole_source b (parsed_at b)) e
+SourceAsRead (Some b) e = AsRead (is_whole_source b (source_at b)) e
 
 -- an ending before the host was opened: by it the table is the one that was handed in, or has its rows, and the sink was
 -- not called

@@ -1,8 +1,7 @@
 -- A session: the deeds of a script, what was said of them, and the text that was written.
-use Rattle.std.specs.Prelude.{◌≡◌, ◌⊎◌, ◌≤◌, ℕ, zero, suc, Bool, true, false, List, [], ◌∷◌, ◌++◌, Option, Some, None, Result, Ok, Err, OnOk, IsErrOf, codes}
+use Rattle.std.specs.Prelude.{◌≡◌, ◌⊎◌, ◌≤◌, ℕ, zero, suc, Bool, false, List, [], ◌∷◌, ◌++◌, Option, Some, None, Result, Ok, Err, OnOk, IsErrOf}
 use Rattle.std.specs.declared.alloc.AllocError.{AllocError}
 use Rattle.beldi_lang.specs.declared.deployment.Deployment.{Deployment}
-use Rattle.beldi_value.specs.Id.{root_of}
 use Rattle.beldi_row.specs.Table.{Rows, Rose, row_count}
 use Rattle.beldi_book.specs.Text.{book_text}
 use Rattle.beldi_step.specs.declared.event.Event.{Event}
@@ -11,62 +10,66 @@ use Rattle.beldi_step.specs.declared.event.Seen.{Seen}
 use Rattle.beldi_step.specs.Host.{Core, IsOneEvent, Breaks, Stepped}
 use Rattle.beldi_step.specs.Tables.{tables_text}
 use Rattle.beldi_core.specs.Survey.{reply_seen, is_unknown}
-use Rattle.beldi_script.specs.declared.reading.Line.{Line}
-use Rattle.beldi_script.specs.declared.reading.Line.TheVariants as line
-use Rattle.beldi_script.specs.declared.reading.Line.TheVariants.{Blank, Ticket, Request, Turn, Lost, Crash, Restart, Reply, Tables, Book}
-use Rattle.beldi_script.specs.Line.{line_at}
+use Rattle.beldi_script.specs.declared.line.Line.{Line}
+use Rattle.beldi_script.specs.declared.line.Line.TheVariants as line
 use Rattle.beldi_outside.specs.Outside.{Told}
 use Rattle.beldi_main.specs.declared.deed.Deed.{Deed}
 use Rattle.beldi_main.specs.declared.deed.Deed.TheVariants as deed
+use Rattle.beldi_main.specs.declared.refusal.Refusal.{Refusal}
+use Rattle.beldi_main.specs.declared.refusal.SourceErr.{SourceErr}
+use Rattle.beldi_main.specs.declared.refusal.SourceErr.TheVariants.{Refused, OutOfMemory}
 use Rattle.beldi_main.specs.declared.session.Stop.{Stop}
 use Rattle.beldi_main.specs.declared.session.Stop.TheVariants as stop
 use Rattle.beldi_main.specs.declared.session.Stop.TheVariants.{SinkFault}
 use Rattle.beldi_main.specs.Answer.{answer_text}
+use Rattle.beldi_main.specs.Refusal.{refusal_text}
 use Rattle.beldi_main.specs.Said.{Said, Saw, ReplyIs, RowsAre, TablesAre, BookIs, Unread, said_text, said_texts}
+use Rattle.beldi_main.specs.Source.{Numbered, said_at}
 
 -- ---- the deeds of a script
 abbrev pub times : ℕ → Deed → List Deed
 times zero e = []
 times (suc n) e = e ∷ times n e
 
+-- none where the program cannot do yet what the line says
 abbrev pub deeds_of : Line → List Deed
-deeds_of Blank = []
-deeds_of Ticket = deed.Event event.Ticket ∷ []
-deeds_of (Request t f a) = deed.Event (event.Request t f a) ∷ []
-deeds_of (Turn r n) = times n (deed.Event (event.Turn r))
-deeds_of (Lost r) = deed.Event (event.Lost r) ∷ []
-deeds_of (Crash r) = deed.Event (event.Crash r) ∷ []
-deeds_of (Restart t f) = deed.Event (event.Restart (root_of t) f) ∷ []
-deeds_of (Reply t) = deed.Reply t ∷ []
+deeds_of line.Ticket = deed.Event event.Ticket ∷ []
+deeds_of (line.Request t f a) = deed.Event (event.Request t f a) ∷ []
+deeds_of (line.Turn r n) = times n (deed.Event (event.Turn r))
+deeds_of (line.Lost r) = deed.Event (event.Lost r) ∷ []
+deeds_of (line.Crash r) = deed.Event (event.Crash r) ∷ []
+deeds_of (line.Restart id f) = deed.Event (event.Restart id f) ∷ []
+deeds_of (line.Reply t) = deed.Reply t ∷ []
 deeds_of line.Rows = deed.Rows ∷ []
-deeds_of Tables = deed.Tables ∷ []
-deeds_of Book = deed.Book ∷ []
+deeds_of line.Tables = deed.Tables ∷ []
+deeds_of line.Book = deed.Book ∷ []
+deeds_of l = []
 
-abbrev pub and_then : Option Line → List Deed → List Deed
-and_then None es = []
-and_then (Some l) es = deeds_of l ++ es
+abbrev pub and_then : Result Line Refusal → List Deed → List Deed
+and_then (Ok l) es = deeds_of l ++ es
+and_then (Err x) es = []
 
 -- the deeds of one line, none where it is refused
-abbrev pub deeds_at : Deployment → List ℕ → List Deed
-deeds_at d line = and_then (line_at d line) []
+abbrev pub deeds_at : Deployment → Numbered → List Deed
+deeds_at d line = and_then (said_at d line) []
 
 -- the last listings
 abbrev pub listings : List Deed
 listings = deed.Tables ∷ deed.Book ∷ []
 
 -- the deeds of the lines before the first one that is refused; where none is, the last listings follow
-abbrev pub deeds_in : Deployment → List (List ℕ) → List Deed
+abbrev pub deeds_in : Deployment → List Numbered → List Deed
 deeds_in d [] = listings
-deeds_in d (l ∷ ls) = and_then (line_at d l) (deeds_in d ls)
+deeds_in d (l ∷ ls) = and_then (said_at d l) (deeds_in d ls)
 
-abbrev pub and_whole : Option Line → Bool → Bool
-and_whole None whole = false
-and_whole (Some l) whole = whole
+abbrev pub or_refused : Result Line Refusal → Option Refusal → Option Refusal
+or_refused (Ok l) r = r
+or_refused (Err x) r = Some x
 
--- no line is refused
-abbrev pub is_whole : Deployment → List (List ℕ) → Bool
-is_whole d [] = true
-is_whole d (l ∷ ls) = and_whole (line_at d l) (is_whole d ls)
+-- the refusal of the first line that is refused
+abbrev pub refused_in : Deployment → List Numbered → Option Refusal
+refused_in d [] = None
+refused_in d (l ∷ ls) = or_refused (said_at d l) (refused_in d ls)
 
 -- ---- one deed, as a relation: from the core c and the rows m it leaves b and n, and this is said of it. The table's count
 -- of failures was f before, and is g now.
@@ -155,30 +158,35 @@ abbrev pub Carrying : List Deed → Deployment → ℕ → State → State → R
 Carrying es d room s t (Ok u) = Did d room es s t
 Carrying es d room s t (Err e) = Stopped e d room es s t
 
--- what a call that carries out a line has done: whether the line was not refused
-abbrev pub LineOn : Deployment → ℕ → List ℕ → State → State → Result Bool Stop → Type 0
-LineOn d room line s t (Ok true) = (is_whole d (line ∷ []) ≡ true) × Did d room (deeds_at d line) s t
-LineOn d room line s t (Ok false) = (is_whole d (line ∷ []) ≡ false) × Did d room [] s t
+-- what a call that carries out a line has done: the line's refusal, if it has one
+abbrev pub LineOn : Deployment → ℕ → Numbered → State → State → Result (Option Refusal) Stop → Type 0
+LineOn d room line s t (Ok None) = (refused_in d (line ∷ []) ≡ None) × Did d room (deeds_at d line) s t
+LineOn d room line s t (Ok (Some x)) = (refused_in d (line ∷ []) ≡ Some x) × Did d room [] s t
 LineOn d room line s t (Err e) = Stopped e d room (deeds_at d line) s t
 
 -- a line that is not refused is answered as its deeds are
-abbrev pub line_result : Result (Unit {0}) Stop → Result Bool Stop
-line_result (Ok u) = Ok true
+abbrev pub line_result : Result (Unit {0}) Stop → Result (Option Refusal) Stop
+line_result (Ok u) = Ok None
 line_result (Err e) = Err e
 
+-- a line that was not read is answered by why
+abbrev pub unread_result : SourceErr → Result (Option Refusal) Stop
+unread_result (Refused x) = Ok (Some x)
+unread_result OutOfMemory = Err stop.OutOfMemory
+
 -- the same of all the lines of a script
-abbrev pub LinesOn : Deployment → ℕ → List (List ℕ) → State → State → Result Bool Stop → Type 0
-LinesOn d room lines s t (Ok whole) = (is_whole d lines ≡ whole) × Did d room (deeds_in d lines) s t
+abbrev pub LinesOn : Deployment → ℕ → List Numbered → State → State → Result (Option Refusal) Stop → Type 0
+LinesOn d room lines s t (Ok refused) = (refused_in d lines ≡ refused) × Did d room (deeds_in d lines) s t
 LinesOn d room lines s t (Err e) = Stopped e d room (deeds_in d lines) s t
 
 -- the lines before these were carried out
-pub record SoFar (d : Deployment) (room : ℕ) (lines left : List (List ℕ)) (s t : State) : Type 0 where
+pub record SoFar (d : Deployment) (room : ℕ) (lines left : List Numbered) (s t : State) : Type 0 where
   pub done : List Deed
   pub deeds : done ++ deeds_in d left ≡ deeds_in d lines
-  pub whole : is_whole d left ≡ is_whole d lines
+  pub refused : refused_in d left ≡ refused_in d lines
   pub did : Did d room done s t
 
-abbrev pub SoFarOn : List (List ℕ) → List (List ℕ) → Deployment → ℕ → State → State → Result (Unit {0}) Stop → Type 0
+abbrev pub SoFarOn : List Numbered → List Numbered → Deployment → ℕ → State → State → Result (Unit {0}) Stop → Type 0
 SoFarOn lines left d room s t r = SoFar d room lines left s t
 
 -- over what the rows and the sink tell
@@ -249,15 +257,12 @@ pub record Doing (x : Deed) (d d' : Deployment) (c b : Core) (room room' f g : �
   pub later : f ≤ g
 
 -- ---- the end
-abbrev pub refusal : List ℕ
-refusal = codes "refused\n"
-
 -- what comes after the text of all deeds of a script: the refusal of a line, if one is refused
-abbrev pub ending : Bool → List ℕ
-ending true = []
-ending false = refusal
+abbrev pub ending : Option Refusal → List ℕ
+ending None = []
+ending (Some x) = refusal_text x
 
 -- what a call that writes the ending has done, after the text that waited
-abbrev pub EndedOn : Bool → List ℕ → Result (Unit {0}) Stop → List ℕ → List ℕ → Type 0
-EndedOn whole p (Ok u) h k = k ≡ h ++ (p ++ ending whole)
-EndedOn whole p (Err e) h k = (tail : List ℕ) × ((tail ≡ []) ⊎ (tail ≡ ending whole)) × ((front : List ℕ) × (rest : List ℕ) × (k ≡ h ++ front) × (front ++ rest ≡ p ++ tail))
+abbrev pub EndedOn : Option Refusal → List ℕ → Result (Unit {0}) Stop → List ℕ → List ℕ → Type 0
+EndedOn refused p (Ok u) h k = k ≡ h ++ (p ++ ending refused)
+EndedOn refused p (Err e) h k = (tail : List ℕ) × ((tail ≡ []) ⊎ (tail ≡ ending refused)) × ((front : List ℕ) × (rest : List ℕ) × (k ≡ h ++ front) × (front ++ rest ≡ p ++ tail))

@@ -3,11 +3,11 @@ ghost use Rattle.std.specs.Prelude.{◌≡◌, ◌++◌, OnErr, OnOk, codes, str
 ghost use Rattle.std.specs.Fmt.{decimal};
 ghost use Rattle.beldi_value.specs.Json.{text_of};
 ghost use Rattle.beldi_value.specs.Value.{datum_of};
-ghost use Rattle.beldi_book.specs.Text.{func_text};
+ghost use Rattle.beldi_lang.specs.Names.{func_text};
 ghost use Rattle.beldi_main.specs.Answer.{answer_text, numbered, outcome_line, ticket_line, entry_part, reply_part, over_part};
 ghost use Rattle.beldi_main.specs.Said.{reply_line};
 
-use beldi_book::{Entry, write_func};
+use beldi_book::Entry;
 use beldi_core::ReplySeen;
 use beldi_lang::Deployment;
 use beldi_step::Seen;
@@ -94,7 +94,7 @@ fn write_other(
     ensures err { OnErr result (out.new ≡ out.old) }
 {
     let mut line = Str::from_string(format!(in alloc; "other {ticket} ")?);
-    write_func(alloc, code, func, &mut line)?;
+    code.write_func(alloc, func, &mut line)?;
     line.push_text(" ")?;
     args.write_json(alloc, &mut line)?;
     line.push_text("\n")?;

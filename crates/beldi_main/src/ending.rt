@@ -5,29 +5,34 @@ ghost use Rattle.beldi_main.specs.Session.{EndedOn, ending};
 ghost use Rattle.beldi_main.specs.declared.session.Stop.TheVariants.{SinkFault};
 
 use crate::output::flush;
+use crate::refusal::{Refusal, write_refusal};
 use crate::session::Stop;
 use beldi_outside::Sink;
 use beldi_value::Str;
-use std::alloc::AllocError;
+use std::alloc::{AllocError, Global};
 
-// Appends the refusal where a line was refused.
-fn write_ending(out: &mut Str, whole: bool) -> Result<(), AllocError>
-    ensures { OnOk result (out.new ≡ out.old ++ ending whole) }
+// Appends the refusal of a line, if there is one.
+fn write_ending(alloc: Global, out: &mut Str, refused: &Option<Refusal>) -> Result<(), AllocError>
+    ensures { OnOk result (out.new ≡ out.old ++ ending refused.now) }
 {
-    if whole {
-        Ok(())
-    } else {
-        out.push_text("refused\n")
+    match refused {
+        Some(refusal) => write_refusal(alloc, refusal, out),
+        None => Ok(()),
     }
 }
 
-/// Writes the text that waits, and the refusal after it where a line was refused.
-pub fn finish<K: Sink>(sink: &mut K, waiting: &mut Str, whole: bool) -> Result<(), Stop>
-    ensures done { Told (K.held sink.old) (K.held sink.new) (EndedOn whole waiting.old result) }
+/// Writes the text that waits, and after it the refusal of a line, if there is one.
+pub fn finish<K: Sink>(
+    alloc: Global,
+    sink: &mut K,
+    waiting: &mut Str,
+    refused: &Option<Refusal>,
+) -> Result<(), Stop>
+    ensures done { Told (K.held sink.old) (K.held sink.new) (EndedOn refused.now waiting.old result) }
     ensures later { K.faults sink.old ≤ K.faults sink.new }
     ensures fault { IsErrOf result SinkFault → Rose (K.faults sink.old) (K.faults sink.new) }
 {
-    match write_ending(waiting, whole) {
+    match write_ending(alloc, waiting, refused) {
         Ok(()) => flush(sink, waiting),
         Err(_) => Err(Stop::OutOfMemory),
     }

@@ -6,13 +6,13 @@ use beldi_outside::{ClosedLink, MemClock, MemSink, MemSource};
 use beldi_plain::Plain;
 use beldi_syntax::read_deployment;
 use beldi_table::MapTable;
-use beldi_value::{IntentId, Str, Value, read_int, read_numeral};
+use beldi_value::{IntentId, Str, Value, read_numeral};
 use std::alloc::Global;
 use std::process::Abort;
 use std::test::Fail;
 
 // The sources of `tests/rows`, but for those of blanks alone, and one with listings in mid-script.
-const SOURCES: [&[u8]; 7] = [
+const SOURCES: [&[u8]; 10] = [
     br#"life 100;
 function f(x) { table t; write t["k"] = x; return x; }
 script
@@ -74,6 +74,36 @@ book
 turn 1 20
 reply 1
 "#,
+    br#"life 100;
+function f(x) { table t; read v = t["k"]; return v; }
+script
+ticket
+request 1 f null
+turn 1 5
+rows
+"#,
+    br#"life 100;
+function f(x) { table t; if x == null { read v = t["k"]; return v; } write t["k"] = x; return x; }
+script
+ticket
+ticket
+request 1 f null
+request 2 f 5
+turn 1 3
+turn 2 5
+turn 1 2
+"#,
+    br#"life 100;
+function f(x) { table t; read v = t["n"]; if v == null { set v = 0; } write t["n"] = v + 1; return v + 1; }
+script
+ticket
+ticket
+request 1 f null
+request 2 f null
+turn 1 4
+turn 2 8
+turn 1 2
+"#,
 ];
 
 // What the program writes.
@@ -114,14 +144,14 @@ fn func_named(code: &Deployment, name: &str) -> Option<u16> {
     None
 }
 
-// `T F N`
-fn read_start(code: &Deployment, words: &str) -> Option<Entry> {
+// `T F JSON`
+fn read_start(alloc: Global, code: &Deployment, words: &str) -> Option<Entry> {
     let (ticket, words) = words.split_once(' ')?;
     let (func, args) = words.split_once(' ')?;
     Some(Entry::Start {
         ticket: read_ticket(ticket)?,
         func: func_named(code, func)?,
-        args: Value::Int(read_int(args.as_bytes())?),
+        args: Value::read_json(alloc, args.as_bytes()).ok()?,
     })
 }
 
@@ -138,7 +168,7 @@ fn read_read(alloc: Global, words: &str) -> Option<Entry> {
 fn read_entry(alloc: Global, code: &Deployment, line: &str) -> Option<Entry> {
     let (word, words) = line.split_once(' ')?;
     match word {
-        "start" => read_start(code, words),
+        "start" => read_start(alloc, code, words),
         "read" => read_read(alloc, words),
         "step" => Some(Entry::Step {
             id: IntentId::root(alloc, read_ticket(words)?),
@@ -222,7 +252,8 @@ fn is_listing(alloc: Global, code: &Deployment, plain: &Plain, tables: &str) -> 
 pub fn agree(rt: &impl Abort, alloc: Global, source: &[u8]) -> Result<u32, Fail> {
     let text = written(alloc, source)?;
     let Some((answers, listings)) = text.as_str().rsplit_once("== tables\n") else {
-        assert!(rt; text.as_str().ends_with("refused\n"));
+        let last = text.as_str().lines().next_back().ok_or("no line")?;
+        assert!(rt; last.starts_with("refused line "));
         return Ok(0);
     };
     let (tables, lines) = listings.split_once("== book\n").ok_or("no book")?;
@@ -238,7 +269,7 @@ fn what_is_told_is_the_plain_run_of_the_book(rt: HostRuntime) -> Result<(), Fail
     for source in &SOURCES {
         told = told.saturating_add(agree(&rt, rt.alloc(), source)?);
     }
-    // Seven lines, of four sources.
-    assert!(rt; told == 7);
+    // Twelve lines, of seven sources.
+    assert!(rt; told == 12);
     Ok(())
 }

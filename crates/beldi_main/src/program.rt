@@ -3,18 +3,20 @@ ghost use Rattle.std.specs.Prelude.{◌≡◌, ◌≤◌, ◌<◌, ◌+◌, ◌�
 ghost use Rattle.beldi_core.specs.Host.{core_of};
 ghost use Rattle.beldi_outside.specs.Outside.{Told, Rose, max_source};
 ghost use Rattle.beldi_script.specs.Cut.{lines_of};
-ghost use Rattle.beldi_syntax.specs.Grammar.{parsed_at};
 ghost use Rattle.beldi_main.specs.declared.program.Ended.TheVariants as ended;
-ghost use Rattle.beldi_main.specs.Session.{OnTold, Kept, is_whole};
-ghost use Rattle.beldi_main.specs.Headline.{Anything, AsRead, ByStatus, PlainRun, RunOn, ScriptOn, SessionOn, SourceAsRead, SourceOn, UnreadOn, Untouched, UsageOn, WordsOn, LongOn, end_of, end_unread, is_of_run, is_of_source, is_run, is_whole_source, status_of};
+ghost use Rattle.beldi_main.specs.Session.{OnTold, Kept, refused_in};
+ghost use Rattle.beldi_main.specs.Source.{numbered, source_at};
+ghost use Rattle.beldi_main.specs.Headline.{Anything, AsRead, ByStatus, PlainRun, RunOn, ScriptOn, SessionOn, SourceAsRead, SourceOn, UnreadOn, Untouched, UsageOn, WordsOn, LongOn, end_of, end_unread, is_of_run, is_of_source, is_run, is_whole, is_whole_source, status_of};
 
 use crate::ending::finish;
+use crate::refusal::{Refusal, SourceErr, write_refusal};
 use crate::session::{Stop, do_lines};
+use crate::source::read_source;
 use beldi_core::{Host, OpenErr};
 use beldi_lang::Deployment;
 use beldi_outside::{Clock, Link, ReadErr, Sink, Source, read_all, write_all};
 use beldi_row::Table;
-use beldi_syntax::{Parsed, SyntaxErr, read_deployment};
+use beldi_syntax::Parsed;
 use beldi_value::Str;
 use std::alloc::Global;
 
@@ -63,7 +65,7 @@ pub fn top<S: Source, K: Sink, T: Table, N: Link, C: Clock>(
     ensures refused { is_run words.now ≡ true → ByStatus result.0 (λ e. SourceAsRead (S.left source.old) e) }
     // Where the words are right and neither the source nor the sink fails, a source that is not refused is carried out whole,
     // or the table failed as the host was opened, or memory is wanting.
-    ensures complete { is_run words.now ≡ true → (Rose (S.faults source.old) (S.faults source.new) → ⊥) → (Rose (K.faults sink.old) (K.faults sink.new) → ⊥) → Told (S.left source.old) (S.left source.new) (λ b c. length b ≤ max_source → is_whole_source b (parsed_at b) ≡ true → (result.0 ≡ 0) ⊎ (result.0 ≡ 1) ⊎ (result.0 ≡ 8)) }
+    ensures complete { is_run words.now ≡ true → (Rose (S.faults source.old) (S.faults source.new) → ⊥) → (Rose (K.faults sink.old) (K.faults sink.new) → ⊥) → Told (S.left source.old) (S.left source.new) (λ b c. length b ≤ max_source → is_whole_source b (source_at b) ≡ true → (result.0 ≡ 0) ⊎ (result.0 ≡ 1) ⊎ (result.0 ≡ 8)) }
     ensures unread { is_run words.now ≡ false → (source.new ≡ source.old) × (result.1 ≡ table) }
     ensures untouched { ByStatus result.0 (λ e. Untouched e (result.1 ≡ table) (Told (T.rows table) (T.rows result.1) (λ m n. n ≡ m)) (sink.new ≡ sink.old)) }
 {
@@ -131,15 +133,19 @@ fn refuse_words<K: Sink>(sink: &mut K) -> Ended
     }
 }
 
-// The source has no deployment.
-fn refuse_source<K: Sink>(sink: &mut K) -> Ended
-    ensures text { Told (K.held sink.old) (K.held sink.new) (λ h k. UnreadOn h k result) }
-    ensures source { (result ≡ ended.Refused) ⊎ (result ≡ ended.SinkFault) }
+// The source is refused before its script.
+fn refuse_source<K: Sink>(alloc: Global, sink: &mut K, refusal: &Refusal) -> Ended
+    ensures text { Told (K.held sink.old) (K.held sink.new) (λ h k. UnreadOn refusal.now h k result) }
+    ensures source { (result ≡ ended.Refused) ⊎ (result ≡ ended.SinkFault) ⊎ (result ≡ ended.OutOfMemory) }
     ensures sink_fault { result ≡ ended.SinkFault → Rose (K.faults sink.old) (K.faults sink.new) }
 {
-    match write_all(sink, b"refused\n") {
-        Ok(()) => Ended::Refused,
-        Err(_) => Ended::SinkFault,
+    let mut text = Str::new(alloc);
+    match write_refusal(alloc, refusal, &mut text) {
+        Ok(()) => match write_all(sink, text.as_bytes()) {
+            Ok(()) => Ended::Refused,
+            Err(_) => Ended::SinkFault,
+        },
+        Err(_) => Ended::OutOfMemory,
     }
 }
 
@@ -176,17 +182,19 @@ fn not_read(why: ReadErr) -> Ended
 
 // Carries out the script of a source that was read.
 fn run_source<K: Sink, T: Table>(alloc: Global, sink: &mut K, table: T, bytes: &[u8]) -> (Ended, T)
-    ensures session { OnTold (T.rows table) (T.rows result.1) (K.held sink.old) (K.held sink.new) (λ m n h k. SourceOn Anything bytes.now (parsed_at bytes.now) m n (T.faults table) (T.faults result.1) h k result.0) }
+    ensures session { OnTold (T.rows table) (T.rows result.1) (K.held sink.old) (K.held sink.new) (λ m n h k. SourceOn Anything bytes.now (source_at bytes.now) m n (T.faults table) (T.faults result.1) h k result.0) }
     ensures read { IsTrue (is_of_source result.0) }
-    ensures as_read { AsRead (is_whole_source bytes.now (parsed_at bytes.now)) result.0 }
+    ensures as_read { AsRead (is_whole_source bytes.now (source_at bytes.now)) result.0 }
     ensures untouched { Untouched result.0 (result.1 ≡ table) (Told (T.rows table) (T.rows result.1) (λ m n. n ≡ m)) (sink.new ≡ sink.old) }
     ensures sink_fault { result.0 ≡ ended.SinkFault → Rose (K.faults sink.old) (K.faults sink.new) }
     ensures open_fault { result.0 ≡ ended.TableFault → Rose (T.faults table) (T.faults result.1) }
 {
-    match read_deployment(alloc, bytes) {
-        Ok(Parsed { code, rest }) => host(alloc, sink, table, code, script_at(bytes, rest)),
-        Err(SyntaxErr::Refused) => (refuse_source(sink), table),
-        Err(SyntaxErr::OutOfMemory) => (Ended::OutOfMemory, table),
+    match read_source(alloc, bytes) {
+        Ok(Parsed { code, rest, line }) => {
+            host(alloc, sink, table, code, line, script_at(bytes, rest))
+        }
+        Err(SourceErr::Refused(refusal)) => (refuse_source(alloc, sink, &refusal), table),
+        Err(SourceErr::OutOfMemory) => (Ended::OutOfMemory, table),
     }
 }
 
@@ -199,24 +207,25 @@ fn script_at(bytes: &[u8], rest: usize) -> &[u8]
     }
 }
 
-// Hosts a deployment, and carries out a script.
+// Hosts a deployment, and carries out a script, the first line of which has this number in the source.
 fn host<K: Sink, T: Table>(
     alloc: Global,
     sink: &mut K,
     table: T,
     code: Deployment,
+    first: u32,
     script: &[u8],
 ) -> (Ended, T)
-    ensures session { OnTold (T.rows table) (T.rows result.1) (K.held sink.old) (K.held sink.new) (λ m n h k. SessionOn Anything code (lines_of script.now) m n (T.faults table) (T.faults result.1) h k result.0) }
+    ensures session { OnTold (T.rows table) (T.rows result.1) (K.held sink.old) (K.held sink.new) (λ m n h k. SessionOn Anything code (numbered first (lines_of script.now)) m n (T.faults table) (T.faults result.1) h k result.0) }
     ensures read { IsTrue (is_of_source result.0) }
-    ensures as_read { AsRead (is_whole code (lines_of script.now)) result.0 }
+    ensures as_read { AsRead (is_whole code (numbered first (lines_of script.now))) result.0 }
     ensures untouched { Untouched result.0 (result.1 ≡ table) (Told (T.rows table) (T.rows result.1) (λ m n. n ≡ m)) (sink.new ≡ sink.old) }
     ensures sink_fault { result.0 ≡ ended.SinkFault → Rose (K.faults sink.old) (K.faults sink.new) }
     ensures open_fault { result.0 ≡ ended.TableFault → Rose (T.faults table) (T.faults result.1) }
 {
     match Host::open(alloc, code, table, 0) {
         Ok(mut host) => {
-            let ran = run_script(alloc, &mut host, sink, script);
+            let ran = run_script(alloc, &mut host, sink, first, script);
             (end_of(ran), host.close())
         }
         Err((table, OpenErr::Failed)) => (Ended::TableFault, table),
@@ -229,28 +238,29 @@ fn run_script<K: Sink, T: Table>(
     alloc: Global,
     host: &mut Host<T>,
     sink: &mut K,
+    first: u32,
     script: &[u8],
-) -> Result<bool, Stop>
-    ensures whole { IfOk result (λ whole. is_whole host.old.code (lines_of script.now) ≡ whole) }
-    ensures done { OnTold (T.rows host.old.table) (T.rows host.new.table) (K.held sink.old) (K.held sink.new) (λ m n h k. ScriptOn host.old.code (T.room host.old.table) (lines_of script.now) (core_of host.old) m n (T.faults host.old.table) (T.faults host.new.table) h k result) }
+) -> Result<Option<Refusal>, Stop>
+    ensures refused { IfOk result (λ refused. refused_in host.old.code (numbered first (lines_of script.now)) ≡ refused) }
+    ensures done { OnTold (T.rows host.old.table) (T.rows host.new.table) (K.held sink.old) (K.held sink.new) (λ m n h k. ScriptOn host.old.code (T.room host.old.table) (numbered first (lines_of script.now)) (core_of host.old) m n (T.faults host.old.table) (T.faults host.new.table) h k result) }
     ensures kept { Kept host.old.code host.new.code (T.room host.old.table) (T.room host.new.table) (T.faults host.old.table) (T.faults host.new.table) (K.faults sink.old) (K.faults sink.new) result }
 {
     let mut waiting = Str::new(alloc);
-    match do_lines(alloc, host, sink, &mut waiting, script) {
-        Ok(whole) => match finish(sink, &mut waiting, whole) {
-            Ok(()) => Ok(whole),
+    match do_lines(alloc, host, sink, &mut waiting, first, script) {
+        Ok(refused) => match finish(alloc, sink, &mut waiting, &refused) {
+            Ok(()) => Ok(refused),
             Err(stop) => Err(stop),
         },
         Err(stop) => Err(stop),
     }
 }
 
-fn end_of(ran: Result<bool, Stop>) -> Ended
+fn end_of(ran: Result<Option<Refusal>, Stop>) -> Ended
     ensures { result ≡ end_of ran }
 {
     match ran {
-        Ok(true) => Ended::Done,
-        Ok(false) => Ended::Refused,
+        Ok(None) => Ended::Done,
+        Ok(Some(_)) => Ended::Refused,
         Err(Stop::OutOfMemory) => Ended::OutOfMemory,
         Err(Stop::SinkFault) => Ended::SinkFault,
     }

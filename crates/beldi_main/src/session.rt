@@ -4,17 +4,20 @@ ghost use Rattle.beldi_core.specs.Host.{core_of};
 ghost use Rattle.beldi_script.specs.Cut.{lines_of};
 ghost use Rattle.beldi_step.specs.declared.event.Event.TheVariants as events;
 ghost use Rattle.beldi_main.specs.declared.deed.Deed.TheVariants as deeds;
-ghost use Rattle.beldi_main.specs.Session.{Carried, Carrying, LineOn, LinesOn, Kept, deeds_of, is_whole, line_result, listings, times};
+ghost use Rattle.beldi_main.specs.Session.{Carried, Carrying, LineOn, LinesOn, Kept, deeds_of, refused_in, line_result, listings, times, unread_result};
+ghost use Rattle.beldi_main.specs.Source.{numbered};
 
 use crate::deed::Deed;
 use crate::doing::do_one;
 use crate::output::flush_if_long;
+use crate::refusal::{Refusal, SourceErr};
+use crate::source::read_said;
 use beldi_core::Host;
 use beldi_outside::Sink;
 use beldi_row::Table;
-use beldi_script::{Line, ScriptErr, cut_line, read_line};
+use beldi_script::{Line, cut_line};
 use beldi_step::Event;
-use beldi_value::{IntentId, Str};
+use beldi_value::Str;
 use std::alloc::Global;
 
 /// Why a session broke off.
@@ -90,7 +93,6 @@ fn do_said<K: Sink, T: Table>(
     ensures kept { Kept host.old.code host.new.code (T.room host.old.table) (T.room host.new.table) (T.faults host.old.table) (T.faults host.new.table) (K.faults sink.old) (K.faults sink.new) result }
 {
     match line {
-        Line::Blank => Ok(()),
         Line::Ticket => do_event(alloc, host, sink, waiting, Event::Ticket),
         Line::Request { ticket, func, args } => {
             let event = Event::Request { ticket, func, args };
@@ -99,41 +101,58 @@ fn do_said<K: Sink, T: Table>(
         Line::Turn { run, times } => do_turns(alloc, host, sink, waiting, run, times),
         Line::Lost { run } => do_event(alloc, host, sink, waiting, Event::Lost(u64::from(run))),
         Line::Crash { run } => do_event(alloc, host, sink, waiting, Event::Crash(u64::from(run))),
-        Line::Restart { ticket, func } => {
-            let id = IntentId::root(alloc, ticket);
+        Line::Restart { id, func } => {
             do_event(alloc, host, sink, waiting, Event::Restart { id, func })
         }
         Line::Rows => do_deed(alloc, host, sink, waiting, Deed::Rows),
-        Line::Reply(ticket) => do_deed(alloc, host, sink, waiting, Deed::Reply(ticket)),
+        Line::Reply { ticket } => do_deed(alloc, host, sink, waiting, Deed::Reply(ticket)),
         Line::Tables => do_deed(alloc, host, sink, waiting, Deed::Tables),
         Line::Book => do_deed(alloc, host, sink, waiting, Deed::Book),
+        Line::Blank => Ok(()),
+        Line::Ic { .. } => Ok(()),
+        Line::Gc { .. } => Ok(()),
+        Line::Sweep { .. } => Ok(()),
+        Line::Settle { .. } => Ok(()),
+        Line::Tick { .. } => Ok(()),
+        Line::Halt => Ok(()),
     }
 }
 
-// Carries out a line. `Ok(false)`: it is refused, and nothing was done.
+// Carries out the line of this number. Where it is refused, nothing is done, and its refusal given.
 fn do_line<K: Sink, T: Table>(
     alloc: Global,
     host: &mut Host<T>,
     sink: &mut K,
     waiting: &mut Str,
+    number: u32,
     line: &[u8],
-) -> Result<bool, Stop>
-    ensures whole { IfOk result (λ whole. is_whole host.old.code (line.now ∷ []) ≡ whole) }
-    ensures done { Carried (λ d room s t r. LineOn d room line.now s t r) host.old.code (T.room host.old.table) (core_of host.old) (core_of host.new) (T.faults host.old.table) (T.faults host.new.table) waiting.old waiting.new (T.rows host.old.table) (T.rows host.new.table) (K.held sink.old) (K.held sink.new) result }
+) -> Result<Option<Refusal>, Stop>
+    ensures refused { IfOk result (λ refused. refused_in host.old.code ((number, line.now) ∷ []) ≡ refused) }
+    ensures done { Carried (λ d room s t r. LineOn d room (number, line.now) s t r) host.old.code (T.room host.old.table) (core_of host.old) (core_of host.new) (T.faults host.old.table) (T.faults host.new.table) waiting.old waiting.new (T.rows host.old.table) (T.rows host.new.table) (K.held sink.old) (K.held sink.new) result }
     ensures kept { Kept host.old.code host.new.code (T.room host.old.table) (T.room host.new.table) (T.faults host.old.table) (T.faults host.new.table) (K.faults sink.old) (K.faults sink.new) result }
 {
-    match read_line(host.code(), line) {
-        Ok(line) => carried(do_said(alloc, host, sink, waiting, line)),
-        Err(ScriptErr::BadLine) => Ok(false),
+    match read_said(alloc, host.code(), number, line) {
+        Ok(said) => carried(do_said(alloc, host, sink, waiting, said)),
+        Err(why) => unread(why),
+    }
+}
+
+// A line was not read, so nothing was done.
+fn unread(why: SourceErr) -> Result<Option<Refusal>, Stop>
+    ensures { result ≡ unread_result why }
+{
+    match why {
+        SourceErr::Refused(refusal) => Ok(Some(refusal)),
+        SourceErr::OutOfMemory => Err(Stop::OutOfMemory),
     }
 }
 
 // The deeds of a line were carried out, so it is not refused.
-fn carried(done: Result<(), Stop>) -> Result<bool, Stop>
+fn carried(done: Result<(), Stop>) -> Result<Option<Refusal>, Stop>
     ensures { result ≡ line_result done }
 {
     match done {
-        Ok(()) => Ok(true),
+        Ok(()) => Ok(None),
         Err(stop) => Err(stop),
     }
 }
@@ -154,27 +173,30 @@ fn do_listings<K: Sink, T: Table>(
     }
 }
 
-/// Carries out the lines of a script, up to a refused line or to its end, where the last listings follow. `Ok(false)`: one
-/// was refused.
+/// Carries out the lines of a script, the first of which has this number in the source, up to a refused line or to the end,
+/// where the last listings follow. The result has the refusal, if there is one.
 pub fn do_lines<K: Sink, T: Table>(
     alloc: Global,
     host: &mut Host<T>,
     sink: &mut K,
     waiting: &mut Str,
+    first: u32,
     script: &[u8],
-) -> Result<bool, Stop>
-    ensures whole { IfOk result (λ whole. is_whole host.old.code (lines_of script.now) ≡ whole) }
-    ensures done { Carried (λ d room s t r. LinesOn d room (lines_of script.now) s t r) host.old.code (T.room host.old.table) (core_of host.old) (core_of host.new) (T.faults host.old.table) (T.faults host.new.table) waiting.old waiting.new (T.rows host.old.table) (T.rows host.new.table) (K.held sink.old) (K.held sink.new) result }
+) -> Result<Option<Refusal>, Stop>
+    ensures refused { IfOk result (λ refused. refused_in host.old.code (numbered first (lines_of script.now)) ≡ refused) }
+    ensures done { Carried (λ d room s t r. LinesOn d room (numbered first (lines_of script.now)) s t r) host.old.code (T.room host.old.table) (core_of host.old) (core_of host.new) (T.faults host.old.table) (T.faults host.new.table) waiting.old waiting.new (T.rows host.old.table) (T.rows host.new.table) (K.held sink.old) (K.held sink.new) result }
     ensures kept { Kept host.old.code host.new.code (T.room host.old.table) (T.room host.new.table) (T.faults host.old.table) (T.faults host.new.table) (K.faults sink.old) (K.faults sink.new) result }
 {
+    let mut number = first;
     let mut rest = script;
     while !rest.is_empty() {
         let (line, more) = cut_line(rest);
-        match do_line(alloc, host, sink, waiting, line) {
-            Ok(true) => {}
-            Ok(false) => return Ok(false),
+        match do_line(alloc, host, sink, waiting, number, line) {
+            Ok(None) => {}
+            Ok(Some(refusal)) => return Ok(Some(refusal)),
             Err(stop) => return Err(stop),
         }
+        number = number.saturating_add(1);
         rest = more;
     }
     carried(do_listings(alloc, host, sink, waiting))

@@ -177,3 +177,55 @@ fn readings_tell_their_moment(rt: HostRuntime) -> Result<(), Fail> {
     }
     Ok(())
 }
+
+// Sources that are refused, and what is written.
+const REFUSED: [(&[u8], &[u8]); 12] = [
+    (b"life 1;\n\xff", b"refused line 2: utf8\n"),
+    (b"life 1;\nscript x", b"refused line 2: syntax\n"),
+    (b"life 1;\nroom 65537;", b"refused line 2: number\n"),
+    (
+        b"life 1;\nfunction f(x) { }\nfunction f(x) { }",
+        b"refused line 3: duplicate f\n",
+    ),
+    (
+        b"life 1;\nfunction f(x) { break; }",
+        b"refused line 2: break-outside f\n",
+    ),
+    (
+        b"life 1;\nfunction f(x) {\nabort; }",
+        b"refused line 3: unbuilt\n",
+    ),
+    (
+        b"life 1;\nfunction f(x) { } script\n# 3\nticket\nturn 1 0\n",
+        b"ticket 1\nrefused line 5: line\n",
+    ),
+    (
+        b"life 1;\nfunction f(x) { } script\nrequest 1 g 5",
+        b"refused line 3: unknown-function g\n",
+    ),
+    (
+        b"life 1;\nfunction f(x) { } script\nrequest 1 f [",
+        b"refused line 3: value\n",
+    ),
+    (
+        b"life 1;\nscript\nhalt\nticket\n",
+        b"refused line 3: unbuilt\n",
+    ),
+    (
+        b"life 1;\nfunction f(x) { } script\n\nrestart 1/2 f",
+        b"refused line 4: unbuilt\n",
+    ),
+    (
+        b"life 1;\nfunction f(x) { } script\n\nrestart 1 g",
+        b"refused line 4: unknown-function g\n",
+    ),
+];
+
+#[test]
+fn refusals_tell_line_and_cause(rt: HostRuntime) -> Result<(), Fail> {
+    let alloc = rt.alloc();
+    for (source, text) in &REFUSED {
+        assert!(rt; source_ends(alloc, source, (&[], &[], &[]), 5, text)?);
+    }
+    Ok(())
+}

@@ -1,5 +1,5 @@
 -- What every entry does, and what it keeps.
-use Rattle.std.proofs.Common.{◌≡◌, ℕ, zero, suc, Bool, true, false, cond, List, [], ◌∷◌, ◌++◌, Option, None, Some, refl, ap, sym, ◌∙◌, subst, append-nil, append_assoc}
+use Rattle.std.proofs.Common.{◌≡◌, ℕ, zero, suc, true, false, cond, List, [], ◌∷◌, ◌++◌, Option, None, Some, refl, ap, sym, ◌∙◌, subst, append-nil, append_assoc}
 use Rattle.std.specs.Prelude.{option_and_then}
 use Rattle.std.specs.FinMap as map
 use Rattle.std.specs.FinMap.{FinMap, IsAntisymmetric, get-insert}
@@ -17,8 +17,10 @@ use Rattle.beldi_lang.specs.declared.effect.Effect.{Effect}
 use Rattle.beldi_lang.specs.declared.effect.Effect.TheVariants as effect
 use Rattle.beldi_book.specs.declared.entry.Entry.{Entry}
 use Rattle.beldi_book.specs.declared.entry.Entry.TheVariants.{Start, Read, Step}
-use Rattle.beldi_plain.specs.Plain.{Instance, PlainState, after, start, can_step, if_open, if_read, if_change, step_by, with_instance, answered, effect_of, item_of, value_at}
+use Rattle.beldi_plain.specs.Plain.{Instance, PlainState, after, start, can_step, if_open, if_read, if_change, step_by, with_instance, answered, effect_of, kind_of, item_of, value_at}
 use Rattle.beldi_plain.specs.Legal.{run_from}
+use Rattle.beldi_plain.specs.declared.kind.Kind.{Kind}
+use Rattle.beldi_plain.specs.declared.kind.Kind.TheVariants as kinds
 
 pub same_some : {X : Type 0} {x y : X} → Some x ≡ Some y → x ≡ y
 same_some h = cc
@@ -71,80 +73,65 @@ one_more d p e = by_option (after d p e)
 abbrev pub new_instance : ℕ → Value → Instance
 new_instance f a = record { func = f; args = a; answers = []; outcome = None }
 
-abbrev pub reads : Effect → Bool
-reads (effect.Read t k) = true
-reads (effect.Write t k v) = false
-reads (effect.Return o) = false
-
 pub record Started (p : PlainState) (t f : ℕ) (a : Value) (q : PlainState) : Type 0 where
   pub absent : map.get p.made (root_of t) ≡ None
   pub leads : with_instance p (root_of t) (new_instance f a) ≡ q
 
--- the next step of an instance, which is a read or not
-pub record Stepped (d : Deployment) (p : PlainState) (id : IntentId) (is_read : Bool) (q : PlainState) : Type 0 where
+-- the next step of an instance, which is of this kind
+pub record Stepped (d : Deployment) (p : PlainState) (id : IntentId) (k : Kind) (q : PlainState) : Type 0 where
   pub instance : Instance
   pub made : map.get p.made id ≡ Some instance
   pub open_still : instance.outcome ≡ None
-  pub kind : reads (effect_of d instance) ≡ is_read
+  pub kind : kind_of (effect_of d instance) ≡ k
   pub leads : step_by p id instance (effect_of d instance) ≡ q
 
 abbrev pub Did : Deployment → PlainState → Entry → PlainState → Type 0
 Did d p (Start t f a) q = Started p t f a q
-Did d p (Read id s) q = Stepped d p id true q
-Did d p (Step id) q = Stepped d p id false q
+Did d p (Read id s) q = Stepped d p id kinds.Read q
+Did d p (Step id) q = Stepped d p id kinds.Change q
 
 started : (p : PlainState) (t f : ℕ) (a : Value) (q : PlainState) (o : Option Instance) → map.get p.made (root_of t) ≡ o → start p t f a o ≡ Some q → Started p t f a q
 started p zero f a q o is h = cc
 started p (suc t) f a q None is h = record { absent = is; leads = same_some h }
 started p (suc t) f a q (Some i) is h = cc
 
-if_read_is : (e : Effect) (x q : PlainState) → if_read e x ≡ Some q → (reads e ≡ true) × (x ≡ q)
-if_read_is (effect.Read t k) x q h = (refl, same_some h)
-if_read_is (effect.Write t k v) x q h = cc
-if_read_is (effect.Return o) x q h = cc
+if_read_is : (k : Kind) (x q : PlainState) → if_read k x ≡ Some q → (k ≡ kinds.Read) × (x ≡ q)
+if_read_is kinds.Read x q h = (refl, same_some h)
+if_read_is kinds.Change x q h = cc
+if_read_is kinds.Unbuilt x q h = cc
 
-if_change_is : (e : Effect) (x q : PlainState) → if_change e x ≡ Some q → (reads e ≡ false) × (x ≡ q)
-if_change_is (effect.Read t k) x q h = cc
-if_change_is (effect.Write t k v) x q h = (refl, same_some h)
-if_change_is (effect.Return o) x q h = (refl, same_some h)
+if_change_is : (k : Kind) (x q : PlainState) → if_change k x ≡ Some q → (k ≡ kinds.Change) × (x ≡ q)
+if_change_is kinds.Read x q h = cc
+if_change_is kinds.Change x q h = (refl, same_some h)
+if_change_is kinds.Unbuilt x q h = cc
 
-module _ (d : Deployment) (p : PlainState) (id : IntentId) (b : Bool) (q : PlainState) (enter : Effect → PlainState → Option PlainState)
-    (enters : (e : Effect) (x y : PlainState) → enter e x ≡ Some y → (reads e ≡ b) × (x ≡ y)) where
-  by_outcome : (i : Instance) (o : Option Outcome) → map.get p.made id ≡ Some i → i.outcome ≡ o → if_open o (enter (effect_of d i) (step_by p id i (effect_of d i))) ≡ Some q → Stepped d p id b q
-  by_outcome i None is none h = let t = enters (effect_of d i) (step_by p id i (effect_of d i)) q h in record { instance = i; made = is; open_still = none; kind = t.0; leads = t.1 }
+module _ (d : Deployment) (p : PlainState) (id : IntentId) (b : Kind) (q : PlainState) (enter : Kind → PlainState → Option PlainState)
+    (enters : (k : Kind) (x y : PlainState) → enter k x ≡ Some y → (k ≡ b) × (x ≡ y)) where
+  by_outcome : (i : Instance) (o : Option Outcome) → map.get p.made id ≡ Some i → i.outcome ≡ o → if_open o (enter (kind_of (effect_of d i)) (step_by p id i (effect_of d i))) ≡ Some q → Stepped d p id b q
+  by_outcome i None is none h = let t = enters (kind_of (effect_of d i)) (step_by p id i (effect_of d i)) q h in record { instance = i; made = is; open_still = none; kind = t.0; leads = t.1 }
   by_outcome i (Some o) is some h = cc
 
-  stepped : (o : Option Instance) → map.get p.made id ≡ o → can_step o (λ i. enter (effect_of d i) (step_by p id i (effect_of d i))) ≡ Some q → Stepped d p id b q
+  stepped : (o : Option Instance) → map.get p.made id ≡ o → can_step o (λ i. enter (kind_of (effect_of d i)) (step_by p id i (effect_of d i))) ≡ Some q → Stepped d p id b q
   stepped None is h = cc
   stepped (Some i) is h = by_outcome i i.outcome is refl h
 
 pub did : (d : Deployment) (p : PlainState) (e : Entry) (q : PlainState) → after d p e ≡ Some q → Did d p e q
 did d p (Start t f a) q h = started p t f a q (map.get p.made (root_of t)) refl h
-did d p (Read id s) q h = stepped d p id true q (λ e x. if_read e x) if_read_is (map.get p.made id) refl h
-did d p (Step id) q h = stepped d p id false q (λ e x. if_change e x) if_change_is (map.get p.made id) refl h
+did d p (Read id s) q h = stepped d p id kinds.Read q (λ k x. if_read k x) if_read_is (map.get p.made id) refl h
+did d p (Step id) q h = stepped d p id kinds.Change q (λ k x. if_change k x) if_change_is (map.get p.made id) refl h
 
 -- ---- and what is so is enabled
-is_if_read : (e : Effect) (x : PlainState) → reads e ≡ true → if_read e x ≡ Some x
-is_if_read (effect.Read t k) x h = refl
-is_if_read (effect.Write t k v) x h = cc
-is_if_read (effect.Return o) x h = cc
-
-is_if_change : (e : Effect) (x : PlainState) → reads e ≡ false → if_change e x ≡ Some x
-is_if_change (effect.Read t k) x h = cc
-is_if_change (effect.Write t k v) x h = refl
-is_if_change (effect.Return o) x h = refl
-
-pub enabled_read : (d : Deployment) (p : PlainState) (id : IntentId) (s : ℕ) (i : Instance) → map.get p.made id ≡ Some i → i.outcome ≡ None → reads (effect_of d i) ≡ true → after d p (Read id s) ≡ Some (step_by p id i (effect_of d i))
+pub enabled_read : (d : Deployment) (p : PlainState) (id : IntentId) (s : ℕ) (i : Instance) → map.get p.made id ≡ Some i → i.outcome ≡ None → kind_of (effect_of d i) ≡ kinds.Read → after d p (Read id s) ≡ Some (step_by p id i (effect_of d i))
 enabled_read d p id s i is none kind =
-    ap (λ o. can_step o (λ j. if_read (effect_of d j) (step_by p id j (effect_of d j)))) is
-    ∙ ap (λ o. if_open o (if_read (effect_of d i) (step_by p id i (effect_of d i)))) none
-    ∙ is_if_read (effect_of d i) (step_by p id i (effect_of d i)) kind
+    ap (λ o. can_step o (λ j. if_read (kind_of (effect_of d j)) (step_by p id j (effect_of d j)))) is
+    ∙ ap (λ o. if_open o (if_read (kind_of (effect_of d i)) (step_by p id i (effect_of d i)))) none
+    ∙ ap (λ k. if_read k (step_by p id i (effect_of d i))) kind
 
-pub enabled_step : (d : Deployment) (p : PlainState) (id : IntentId) (i : Instance) → map.get p.made id ≡ Some i → i.outcome ≡ None → reads (effect_of d i) ≡ false → after d p (Step id) ≡ Some (step_by p id i (effect_of d i))
+pub enabled_step : (d : Deployment) (p : PlainState) (id : IntentId) (i : Instance) → map.get p.made id ≡ Some i → i.outcome ≡ None → kind_of (effect_of d i) ≡ kinds.Change → after d p (Step id) ≡ Some (step_by p id i (effect_of d i))
 enabled_step d p id i is none kind =
-    ap (λ o. can_step o (λ j. if_change (effect_of d j) (step_by p id j (effect_of d j)))) is
-    ∙ ap (λ o. if_open o (if_change (effect_of d i) (step_by p id i (effect_of d i)))) none
-    ∙ is_if_change (effect_of d i) (step_by p id i (effect_of d i)) kind
+    ap (λ o. can_step o (λ j. if_change (kind_of (effect_of d j)) (step_by p id j (effect_of d j)))) is
+    ∙ ap (λ o. if_open o (if_change (kind_of (effect_of d i)) (step_by p id i (effect_of d i)))) none
+    ∙ ap (λ k. if_change k (step_by p id i (effect_of d i))) kind
 
 -- ---- instances only go on
 pub record Grown (i j : Instance) : Type 0 where
@@ -197,8 +184,9 @@ step_grows : (p : PlainState) (id : IntentId) (i : Instance) (e : Effect) → ma
 step_grows p id i (effect.Read t k) is none = let a = answer.Value (value_at p (item_of i t k)) in grows_at p.made id i (answered i a) is (grown_answer i a)
 step_grows p id i (effect.Write t k v) is none = grows_at p.made id i (answered i answer.Done) is (grown_answer i answer.Done)
 step_grows p id i (effect.Return o) is none = grows_at p.made id i (record i { outcome = Some o }) is (grown_end i o none)
+step_grows p id i e is none = grows_self p.made
 
-stepped_grows : (d : Deployment) (p : PlainState) (id : IntentId) (b : Bool) (q : PlainState) → Stepped d p id b q → Grows p.made q.made
+stepped_grows : (d : Deployment) (p : PlainState) (id : IntentId) (b : Kind) (q : PlainState) → Stepped d p id b q → Grows p.made q.made
 stepped_grows d p id b q s = subst (λ (r : PlainState). Grows p.made r.made) s.leads (step_grows p id s.instance (effect_of d s.instance) s.made s.open_still)
 
 started_grows : (p : PlainState) (t f : ℕ) (a : Value) (q : PlainState) → Started p t f a q → Grows p.made q.made
@@ -206,8 +194,8 @@ started_grows p t f a q s = subst (λ (r : PlainState). Grows p.made r.made) s.l
 
 did_grows : (d : Deployment) (p : PlainState) (e : Entry) (q : PlainState) → Did d p e q → Grows p.made q.made
 did_grows d p (Start t f a) q s = started_grows p t f a q s
-did_grows d p (Read id k) q s = stepped_grows d p id true q s
-did_grows d p (Step id) q s = stepped_grows d p id false q s
+did_grows d p (Read id k) q s = stepped_grows d p id kinds.Read q s
+did_grows d p (Step id) q s = stepped_grows d p id kinds.Change q s
 
 pub after_grows : (d : Deployment) (p : PlainState) (e : Entry) (q : PlainState) → after d p e ≡ Some q → Grows p.made q.made
 after_grows d p e q h = did_grows d p e q (did d p e q h)

@@ -18,9 +18,11 @@ use Rattle.beldi_lang.specs.declared.effect.Effect.TheVariants as effect
 use Rattle.beldi_book.specs.declared.entry.Entry.{Entry}
 use Rattle.beldi_book.specs.declared.entry.Entry.TheVariants.{Start, Read, Step}
 use Rattle.beldi_plain.specs.Item.{item_cmp}
-use Rattle.beldi_plain.specs.Plain.{Instance, PlainState, after, start, step_by, with_instance, answered, effect_of, item_of, set_item, value_at}
+use Rattle.beldi_plain.specs.Plain.{Instance, PlainState, after, start, step_by, with_instance, answered, effect_of, kind_of, item_of, set_item, value_at}
 use Rattle.beldi_plain.specs.Legal.{run_from}
-use Rattle.beldi_order.proofs.Entries.{same_some, reads, new_instance, Started, Stepped, Did, did, enabled_read, enabled_step, GrownAt, after_grows, run_grows, runs_on}
+use Rattle.beldi_plain.specs.declared.kind.Kind.{Kind}
+use Rattle.beldi_plain.specs.declared.kind.Kind.TheVariants as kinds
+use Rattle.beldi_order.proofs.Entries.{same_some, new_instance, Started, Stepped, Did, did, enabled_read, enabled_step, GrownAt, after_grows, run_grows, runs_on}
 
 -- ---- two instances that were set
 same_at : (f : FinMap id_cmp Instance) (i j : IntentId) (x y : Instance) (b c : Bool) (o : Option Instance) → (b ≡ true → c ≡ true → ⊥) → cond b (Some y) (cond c (Some x) o) ≡ cond c (Some x) (cond b (Some y) o)
@@ -52,7 +54,7 @@ here f i x = get-insert id_total f i x i ∙ ap (λ b. cond b (Some x) (map.get 
 pub record StandsAtRead (d : Deployment) (p : PlainState) (i : IntentId) (a : Instance) : Type 0 where
   pub made : map.get p.made i ≡ Some a
   pub open_still : a.outcome ≡ None
-  pub kind : reads (effect_of d a) ≡ true
+  pub kind : kind_of (effect_of d a) ≡ kinds.Read
 
 not_longer : (a : Instance) (x : Answer) → answered a x ≡ a → ⊥
 not_longer a x h = let n = length-append a.answers (x ∷ []) in let m = ap (λ (q : Instance). length q.answers) h in omega (arith, n, m)
@@ -65,29 +67,29 @@ step_passes : (p : PlainState) (i j : IntentId) (x y : Instance) (e : Effect) �
 step_passes p i j x y (effect.Read t k) apart = ap (λ f. record p { made = f }) (commutes p.made i j x (answered y (answer.Value (value_at p (item_of y t k)))) apart)
 step_passes p i j x y (effect.Write t k v) apart = ap (with_items (set_item p.items (item_of y t k) v)) (commutes p.made i j x (answered y answer.Done) apart)
 step_passes p i j x y (effect.Return o) apart = ap (λ f. record p { made = f }) (commutes p.made i j x (record y { outcome = Some o }) apart)
+step_passes p i j x y e apart = refl
 
 -- where the instance stands after an entry as it stood, and the entry comes after its answer
 module _ (d : Deployment) (p q : PlainState) (i : IntentId) (a : Instance) (v : Answer) (stands : StandsAtRead d p i a) (stays : map.get q.made i ≡ Some a) where
   -- it is not the instance's own: a read would have answered it, and it makes no other step
-  own_read : (e : Effect) → reads e ≡ true → map.get (step_by p i a e).made i ≡ Some a → ⊥
+  own_read : (e : Effect) → kind_of e ≡ kinds.Read → map.get (step_by p i a e).made i ≡ Some a → ⊥
   own_read (effect.Read t k) kind h = let x = answer.Value (value_at p (item_of a t k)) in not_longer a x (same_some (sym (here p.made i (answered a x)) ∙ h))
-  own_read (effect.Write t k w) kind h = cc
-  own_read (effect.Return o) kind h = cc
+  own_read e kind h = cc
 
-  own : (b : Bool) (s : Stepped d p i b q) → ⊥
-  own true s =
+  own : (b : Kind) (s : Stepped d p i b q) → ⊥
+  own kinds.Read s =
       let same : s.instance ≡ a = same_some (sym s.made ∙ stands.made) in
       own_read (effect_of d a) stands.kind (ap (λ (r : PlainState). map.get r.made i) (ap (λ x. step_by p i x (effect_of d x)) (sym same) ∙ s.leads) ∙ stays)
-  own false s = let same : s.instance ≡ a = same_some (sym s.made ∙ stands.made) in let k = sym s.kind ∙ ap (λ x. reads (effect_of d x)) same ∙ stands.kind in cc
+  own b s = let same : s.instance ≡ a = same_some (sym s.made ∙ stands.made) in let k = sym s.kind ∙ ap (λ x. kind_of (effect_of d x)) same ∙ stands.kind in cc
 
-  apart : (j : IntentId) (b : Bool) → Stepped d p j b q → i ≡ j → ⊥
+  apart : (j : IntentId) (b : Kind) → Stepped d p j b q → i ≡ j → ⊥
   apart j b s same = own b (subst (λ k. Stepped d p k b q) (sym same) s)
 
   -- another instance's entry is enabled as before, and leads to the same with the answer
-  made_there : (j : IntentId) (b : Bool) (s : Stepped d p j b q) → map.get (map.insert p.made i (answered a v)) j ≡ Some s.instance
+  made_there : (j : IntentId) (b : Kind) (s : Stepped d p j b q) → map.get (map.insert p.made i (answered a v)) j ≡ Some s.instance
   made_there j b s = elsewhere p.made i j (answered a v) (apart j b s) ∙ s.made
 
-  leads_there : (j : IntentId) (b : Bool) (s : Stepped d p j b q) → step_by (with_instance p i (answered a v)) j s.instance (effect_of d s.instance) ≡ with_instance q i (answered a v)
+  leads_there : (j : IntentId) (b : Kind) (s : Stepped d p j b q) → step_by (with_instance p i (answered a v)) j s.instance (effect_of d s.instance) ≡ with_instance q i (answered a v)
   leads_there j b s = step_passes p i j (answered a v) s.instance (effect_of d s.instance) (apart j b s) ∙ ap (λ r. with_instance r i (answered a v)) s.leads
 
   start_there : (t f : ℕ) (w : Value) → Started p (suc t) f w q → start (with_instance p i (answered a v)) (suc t) f w (map.get (map.insert p.made i (answered a v)) (root_of (suc t))) ≡ Some (with_instance q i (answered a v))
@@ -100,8 +102,8 @@ module _ (d : Deployment) (p q : PlainState) (i : IntentId) (a : Instance) (v : 
   passes_did : (e : Entry) → after d p e ≡ Some q → Did d p e q → after d (with_instance p i (answered a v)) e ≡ Some (with_instance q i (answered a v))
   passes_did (Start zero f w) h s = cc
   passes_did (Start (suc t) f w) h s = start_there t f w s
-  passes_did (Read j k) h s = enabled_read d (with_instance p i (answered a v)) j k s.instance (made_there j true s) s.open_still s.kind ∙ ap (λ r. Some r) (leads_there j true s)
-  passes_did (Step j) h s = enabled_step d (with_instance p i (answered a v)) j s.instance (made_there j false s) s.open_still s.kind ∙ ap (λ r. Some r) (leads_there j false s)
+  passes_did (Read j k) h s = enabled_read d (with_instance p i (answered a v)) j k s.instance (made_there j kinds.Read s) s.open_still s.kind ∙ ap (λ r. Some r) (leads_there j kinds.Read s)
+  passes_did (Step j) h s = enabled_step d (with_instance p i (answered a v)) j s.instance (made_there j kinds.Change s) s.open_still s.kind ∙ ap (λ r. Some r) (leads_there j kinds.Change s)
 
   pub passes : (e : Entry) → after d p e ≡ Some q → after d (with_instance p i (answered a v)) e ≡ Some (with_instance q i (answered a v))
   passes e h = passes_did e h (did d p e q h)
@@ -149,7 +151,7 @@ pub put_late : (d : Deployment) (p q r : PlainState) (es fs : List Entry) (i : I
     → run_from d q fs ≡ Some r → map.get r.made i ≡ Some a
     → run_from d p (es ++ Read i s ∷ fs) ≡ Some (with_instance r i (answered a (answer.Value v)))
 put_late d p q r es fs i s a t k v before made none reads_it is behind stays =
-    let kind : reads (effect_of d a) ≡ true = ap reads reads_it in
+    let kind : kind_of (effect_of d a) ≡ kinds.Read = ap kind_of reads_it in
     let stands : StandsAtRead d q i a = record { made = made; open_still = none; kind = kind } in
     let leads : step_by q i a (effect_of d a) ≡ with_instance q i (answered a (answer.Value v)) = ap (step_by q i a) reads_it ∙ ap (λ w. with_instance q i (answered a (answer.Value w))) is in
     runs_on d p q es (Read i s ∷ fs) before

@@ -8,9 +8,10 @@ use Rattle.beldi_lang.specs.declared.deployment.Deployment.{Deployment}
 use Rattle.beldi_lang.specs.declared.effect.Effect.{Effect}
 use Rattle.beldi_book.specs.declared.entry.Entry.{Entry}
 use Rattle.beldi_book.specs.declared.entry.Entry.TheVariants.{Start, Read, Step}
-use Rattle.beldi_lang.specs.declared.effect.Effect.TheVariants as effect
-use Rattle.beldi_plain.specs.Plain.{PlainState, Instance, effect_of, step, after}
+use Rattle.beldi_plain.specs.Plain.{PlainState, Instance, effect_of, kind_of, step, after}
 use Rattle.beldi_plain.specs.Legal.{run_from}
+use Rattle.beldi_plain.specs.declared.kind.Kind.{Kind}
+use Rattle.beldi_plain.specs.declared.kind.Kind.TheVariants as kinds
 use Rattle.beldi_plain.specs.declared.plain.Bar.{Bar}
 use Rattle.beldi_plain.specs.declared.plain.Bar.TheVariants.{AlreadyStarted, NotStarted, Over, OtherEffect}
 use Rattle.beldi_plain.specs.declared.plain.PlainErr.{PlainErr}
@@ -31,21 +32,24 @@ abbrev pub bar_step : Option Instance → (Instance → Option Bar) → Option B
 bar_step None f = Some NotStarted
 bar_step (Some q) f = bar_open q.outcome (f q)
 
--- what bars an effect from being entered as a read, or as a change
-abbrev pub bar_read : Effect → Option Bar
-bar_read (effect.Read t k) = None
-bar_read (effect.Write t k v) = Some OtherEffect
-bar_read (effect.Return o) = Some OtherEffect
+-- what bars an effect of this kind from being entered as a read, or else as a change
+abbrev pub bar_as : Bool → Kind → Option Bar
+bar_as true kinds.Read = None
+bar_as true kinds.Change = Some OtherEffect
+bar_as false kinds.Read = Some OtherEffect
+bar_as false kinds.Change = None
+bar_as b kinds.Unbuilt = Some OtherEffect
 
-abbrev pub bar_change : Effect → Option Bar
-bar_change (effect.Read t k) = Some OtherEffect
-bar_change (effect.Write t k v) = None
-bar_change (effect.Return o) = None
+-- what bars it from being made at all
+abbrev pub bar_made : Kind → Option Bar
+bar_made kinds.Read = None
+bar_made kinds.Change = None
+bar_made kinds.Unbuilt = Some OtherEffect
 
 abbrev pub bar_of : Deployment → PlainState → Entry → Option Bar
 bar_of d p (Start t f a) = bar_start t (map.get p.made (root_of t))
-bar_of d p (Read id seen) = bar_step (map.get p.made id) (λ q. bar_read (effect_of d q))
-bar_of d p (Step id) = bar_step (map.get p.made id) (λ q. bar_change (effect_of d q))
+bar_of d p (Read id seen) = bar_step (map.get p.made id) (λ q. bar_as true (kind_of (effect_of d q)))
+bar_of d p (Step id) = bar_step (map.get p.made id) (λ q. bar_as false (kind_of (effect_of d q)))
 
 -- an entry: Ok exactly where it is enabled, and then the state is the one after it; else nothing changed, and the answer
 -- is what bars it, but for want of memory
@@ -54,11 +58,11 @@ Did d e p q (Ok u) = (after d p e ≡ Some q) × (bar_of d p e ≡ None)
 Did d e p q (Err OutOfMemory) = q ≡ p
 Did d e p q (Err (NotEnabled b)) = (q ≡ p) × (after d p e ≡ None) × (bar_of d p e ≡ Some b)
 
--- a step of an instance, whatever its effect
+-- a step of an instance, whatever its effect: Ok exactly where there is one
 abbrev pub DidStep : Deployment → IntentId → PlainState → PlainState → Result Unit PlainErr → Type 0
 DidStep d id p q (Ok u) = step d p id ≡ Some q
 DidStep d id p q (Err OutOfMemory) = q ≡ p
-DidStep d id p q (Err (NotEnabled b)) = (q ≡ p) × (step d p id ≡ None) × (bar_step (map.get p.made id) (λ q. None) ≡ Some b)
+DidStep d id p q (Err (NotEnabled b)) = (q ≡ p) × (step d p id ≡ None) × (bar_step (map.get p.made id) (λ q. bar_made (kind_of (effect_of d q))) ≡ Some b)
 
 -- the next step of an instance, entered as a read or as a change
 abbrev pub Entered : Deployment → IntentId → Bool → PlainState → PlainState → Result Unit PlainErr → Type 0

@@ -1,5 +1,5 @@
 -- The plain state, its step, and the state after an entry.
-use Rattle.std.specs.Prelude.{ℕ, suc, zero, List, [], ◌∷◌, ◌++◌, Option, Some, None}
+use Rattle.std.specs.Prelude.{ℕ, suc, zero, false, List, [], ◌∷◌, ◌++◌, Option, Some, None}
 use Rattle.std.specs.FinMap as map
 use Rattle.std.specs.FinMap.{FinMap}
 use Rattle.beldi_value.specs.Id.{id_cmp, root_of}
@@ -16,6 +16,8 @@ use Rattle.beldi_lang.specs.Wants.{wants, or_null}
 use Rattle.beldi_book.specs.declared.entry.Entry.{Entry}
 use Rattle.beldi_book.specs.declared.entry.Entry.TheVariants.{Start, Read, Step}
 use Rattle.beldi_plain.specs.Item.{Item, item_cmp}
+use Rattle.beldi_plain.specs.declared.kind.Kind.{Kind}
+use Rattle.beldi_plain.specs.declared.kind.Kind.TheVariants as kinds
 
 -- an instance of a function: what it was called with, what its effects were answered, and how it ended
 pub record Instance : Type 0 where
@@ -47,7 +49,22 @@ with_instance p id q = record p { made = map.insert p.made id q }
 
 -- the effect that an instance stands at
 abbrev pub effect_of : Deployment → Instance → Effect
-effect_of d q = wants d q.func q.args q.answers
+effect_of d q = wants d q.func q.args false q.answers
+
+-- how an effect is entered in a book: a read as one, a write and a return as a change. The effects that the host does not
+-- carry out yet are not entered.
+abbrev pub kind_of : Effect → Kind
+kind_of (effect.Read t k) = kinds.Read
+kind_of (effect.Write t k v) = kinds.Change
+kind_of (effect.Return o) = kinds.Change
+kind_of (effect.CondWrite t k r o v) = kinds.Unbuilt
+kind_of (effect.Call f a) = kinds.Unbuilt
+kind_of (effect.Async f a) = kinds.Unbuilt
+kind_of (effect.Lock t k) = kinds.Unbuilt
+kind_of (effect.Unlock t k) = kinds.Unbuilt
+kind_of effect.Begin = kinds.Unbuilt
+kind_of (effect.End b) = kinds.Unbuilt
+kind_of effect.Abort = kinds.Unbuilt
 
 abbrev pub answered : Instance → Answer → Instance
 answered q a = record q { answers = q.answers ++ a ∷ [] }
@@ -56,11 +73,13 @@ answered q a = record q { answers = q.answers ++ a ∷ [] }
 abbrev pub item_of : Instance → ℕ → List ℕ → Item
 item_of q t k = record { func = q.func; table = t; key = k }
 
--- what a step does, by the effect that the instance stands at: a read is answered by the item's value
+-- what a step does, by the effect that the instance stands at: a read is answered by the item's value. The other effects
+-- are not carried out yet.
 abbrev pub step_by : PlainState → IntentId → Instance → Effect → PlainState
 step_by p id q (effect.Read t k) = with_instance p id (answered q (answer.Value (value_at p (item_of q t k))))
 step_by p id q (effect.Write t k v) = with_instance (record p { items = set_item p.items (item_of q t k) v }) id (answered q answer.Done)
 step_by p id q (effect.Return o) = with_instance p id (record q { outcome = Some o })
+step_by p id q e = p
 
 -- what an instance comes to that was made and has no outcome; there is no step of any other
 abbrev pub if_open : {X : Type 0} → Option Outcome → Option X → Option X
@@ -71,21 +90,27 @@ abbrev pub can_step : {X : Type 0} → Option Instance → (Instance → Option 
 can_step None f = None
 can_step (Some q) f = if_open q.outcome (f q)
 
--- the state after the next step of an instance
+-- what there is only of an effect that is carried out ..
+abbrev pub if_built : {X : Type 0} → Kind → X → Option X
+if_built kinds.Read x = Some x
+if_built kinds.Change x = Some x
+if_built kinds.Unbuilt x = None
+
+-- .. only of a read ..
+abbrev pub if_read : {X : Type 0} → Kind → X → Option X
+if_read kinds.Read x = Some x
+if_read kinds.Change x = None
+if_read kinds.Unbuilt x = None
+
+-- .. and only of a change
+abbrev pub if_change : {X : Type 0} → Kind → X → Option X
+if_change kinds.Read x = None
+if_change kinds.Change x = Some x
+if_change kinds.Unbuilt x = None
+
+-- the state after the next step of an instance; none where its effect is not carried out yet
 abbrev pub step : Deployment → PlainState → IntentId → Option PlainState
-step d p id = can_step (map.get p.made id) (λ q. Some (step_by p id q (effect_of d q)))
-
--- a read is entered as one ..
-abbrev pub if_read : {X : Type 0} → Effect → X → Option X
-if_read (effect.Read t k) x = Some x
-if_read (effect.Write t k v) x = None
-if_read (effect.Return o) x = None
-
--- .. and all else as a change
-abbrev pub if_change : {X : Type 0} → Effect → X → Option X
-if_change (effect.Read t k) x = None
-if_change (effect.Write t k v) x = Some x
-if_change (effect.Return o) x = Some x
+step d p id = can_step (map.get p.made id) (λ q. if_built (kind_of (effect_of d q)) (step_by p id q (effect_of d q)))
 
 -- a root is started once, and tickets begin at 1
 abbrev pub start : PlainState → ℕ → ℕ → Value → Option Instance → Option PlainState
@@ -97,8 +122,8 @@ start p (suc t) f a (Some q) = None
 -- a run has each step once.
 abbrev pub after : Deployment → PlainState → Entry → Option PlainState
 after d p (Start t f a) = start p t f a (map.get p.made (root_of t))
-after d p (Read id seen) = can_step (map.get p.made id) (λ q. if_read (effect_of d q) (step_by p id q (effect_of d q)))
-after d p (Step id) = can_step (map.get p.made id) (λ q. if_change (effect_of d q) (step_by p id q (effect_of d q)))
+after d p (Read id seen) = can_step (map.get p.made id) (λ q. if_read (kind_of (effect_of d q)) (step_by p id q (effect_of d q)))
+after d p (Step id) = can_step (map.get p.made id) (λ q. if_change (kind_of (effect_of d q)) (step_by p id q (effect_of d q)))
 
 -- the outcome of a ticket's root
 abbrev pub outcome_of : Option Instance → Option Outcome

@@ -1,5 +1,5 @@
 // An instance of a function.
-ghost use Rattle.std.specs.Prelude.{◌≡◌, ◌≤◌, ◌<◌, ◌++◌, ◌∷◌, [], None, Some, length, is_some, option_copied, OnOk, OnErr, IfOk, IsTrue};
+ghost use Rattle.std.specs.Prelude.{◌≡◌, false, ◌≤◌, ◌<◌, ◌++◌, ◌∷◌, [], None, Some, length, is_some, option_copied, OnOk, OnErr, IfOk, IsTrue};
 ghost use Rattle.beldi_lang.specs.Wants.{wants, wants_answer};
 ghost use Rattle.beldi_plain.specs.Plain.{effect_of, answered};
 
@@ -8,7 +8,7 @@ use beldi_value::{Outcome, Value};
 use std::alloc::{AllocError, Global};
 use std::marker::Model;
 
-/// What it was called with, what its effects were answered, and how it ended. It has at most 10,000 answers.
+/// What it was called with, what its effects were answered, and how it ended. It has at most 30,000 answers.
 #[derive(Drop)]
 pub struct Instance {
     func: u16,
@@ -28,7 +28,7 @@ impl Model for Instance {
 
     ghost view = { λ a. record { func = a.func; args = a.args; answers = a.answers.items; outcome = a.outcome } };
 
-    ghost invariant = { λ a. length a.answers.items ≤ 10000 };
+    ghost invariant = { λ a. length a.answers.items ≤ 30000 };
 }
 
 impl Instance {
@@ -84,7 +84,7 @@ impl Instance {
 
     /// Its effect is answered.
     pub fn answer(&mut self, answer: Answer) -> Result<(), AllocError>
-        requires { length self.old.answers < 10000 }
+        requires { length self.old.answers < 30000 }
         ensures ok { OnOk result (self.new ≡ answered self.old answer) }
     {
         self.answers.push(answer)?;
@@ -103,8 +103,10 @@ fn copy_answer(alloc: Global, answer: &Answer) -> Result<Answer, AllocError>
     ensures { IfOk result (λ a. a ≡ answer.now) }
 {
     match answer {
-        Answer::Value(value) => Ok(Answer::Value(value.copy(alloc)?)),
         Answer::Done => Ok(Answer::Done),
+        Answer::Value(value) => Ok(Answer::Value(value.copy(alloc)?)),
+        Answer::Fault(code) => Ok(Answer::Fault(*code)),
+        Answer::Aborted(cause) => Ok(Answer::Aborted(cause.copy(alloc)?)),
     }
 }
 
@@ -131,6 +133,38 @@ fn copy_effect(alloc: Global, effect: &Effect) -> Result<Effect, AllocError>
             key: key.copy(alloc)?,
             value: value.copy(alloc)?,
         }),
+        Effect::CondWrite {
+            table,
+            key,
+            rel,
+            operand,
+            value,
+        } => Ok(Effect::CondWrite {
+            table: *table,
+            key: key.copy(alloc)?,
+            rel: *rel,
+            operand: operand.copy(alloc)?,
+            value: value.copy(alloc)?,
+        }),
+        Effect::Call { func, args } => Ok(Effect::Call {
+            func: *func,
+            args: args.copy(alloc)?,
+        }),
+        Effect::Async { func, args } => Ok(Effect::Async {
+            func: *func,
+            args: args.copy(alloc)?,
+        }),
+        Effect::Lock { table, key } => Ok(Effect::Lock {
+            table: *table,
+            key: key.copy(alloc)?,
+        }),
+        Effect::Unlock { table, key } => Ok(Effect::Unlock {
+            table: *table,
+            key: key.copy(alloc)?,
+        }),
+        Effect::Begin => Ok(Effect::Begin),
+        Effect::End { commit } => Ok(Effect::End { commit: *commit }),
+        Effect::Abort => Ok(Effect::Abort),
         Effect::Return(outcome) => Ok(Effect::Return(outcome.copy(alloc)?)),
     }
 }
@@ -138,10 +172,7 @@ fn copy_effect(alloc: Global, effect: &Effect) -> Result<Effect, AllocError>
 fn is_answered(effect: &Effect) -> bool
     ensures { result ≡ wants_answer effect.now }
 {
-    match effect {
-        Effect::Read { .. } | Effect::Write { .. } => true,
-        Effect::Return(_) => false,
-    }
+    !matches!(effect, Effect::Return(_))
 }
 
 // The effect that a function's body wants after these answers, run from its start.
@@ -152,19 +183,15 @@ fn effect_after(
     args: &Value,
     answers: &[Answer],
 ) -> Result<Effect, AllocError>
-    requires { length answers.now ≤ 10000 }
-    ensures { IfOk result (λ e. e ≡ wants code.now func args.now answers.now) }
+    requires { length answers.now ≤ 30000 }
+    ensures { IfOk result (λ e. e ≡ wants code.now func args.now false answers.now) }
 {
-    let body = match code.func_at(func) {
-        Some(body) => body,
-        None => return Ok(Effect::Return(Outcome::Value(Value::Null))),
-    };
-    let mut machine = Machine::new(alloc, body, func, args.copy(alloc)?)?;
+    let mut machine = Machine::new(alloc, code, func, args.copy(alloc)?, false)?;
     for answer in answers {
         if !is_answered(machine.wants()) {
             return copy_effect(alloc, machine.wants());
         }
-        machine = machine.resume(alloc, body, copy_answer(alloc, answer)?)?;
+        machine = machine.resume(alloc, code, copy_answer(alloc, answer)?)?;
     }
     copy_effect(alloc, machine.wants())
 }

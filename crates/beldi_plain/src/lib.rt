@@ -9,6 +9,7 @@ mod instance;
 mod instances;
 mod item;
 mod items;
+mod kind;
 mod plain;
 #[cfg(test)]
 mod tests;

@@ -1,11 +1,11 @@
 // The slow executor of the plain machine.
-ghost use Rattle.std.specs.Prelude.{◌≡◌, ◌++◌, ◌<◌, OnOk, OnErr, IsTrue, option_copied, is_none, length, Some};
+ghost use Rattle.std.specs.Prelude.{◌≡◌, ◌++◌, ◌<◌, OnOk, OnErr, IsTrue, option_copied, length, Some};
 ghost use Rattle.std.specs.FinMap as map;
 ghost use Rattle.beldi_lang.specs.declared.deployment.Deployment.{Deployment};
 ghost use Rattle.beldi_lang.specs.declared.effect.Effect.TheVariants as effect;
 ghost use Rattle.beldi_book.specs.declared.entry.Entry.TheVariants.{Start};
 ghost use Rattle.beldi_plain.specs.Plain.{nothing, value_at, reply_of, step_by};
-ghost use Rattle.beldi_plain.specs.Answers.{Did, DidStep, Entered, Ran, StandsAt, bar_read};
+ghost use Rattle.beldi_plain.specs.Answers.{Did, DidStep, Entered, Ran, StandsAt};
 ghost use Rattle.beldi_book.specs.Order.{linear};
 ghost use Rattle.beldi_lang.specs.Wants.{wants_answer};
 ghost use Rattle.beldi_plain.specs.declared.plain.PlainErr.TheVariants.{OutOfMemory};
@@ -15,6 +15,7 @@ use crate::instance::Instance;
 use crate::instances::Instances;
 use crate::item::Item;
 use crate::items::Items;
+use crate::kind::{Kind, kind_of};
 use beldi_book::{Book, Entry};
 use beldi_lang::{Answer, Deployment, Effect};
 use beldi_value::{IntentId, Outcome, Str, Value};
@@ -48,7 +49,8 @@ pub enum Bar {
     NotStarted,
     /// The instance has returned.
     Over,
-    /// The entry is a read, and the instance does not stand at one; or it is a step, and it does.
+    /// The entry is a read, and the instance does not stand at one; or it is a step, and it does; or the instance stands at
+    /// an effect that is not carried out yet.
     OtherEffect,
 }
 
@@ -76,12 +78,6 @@ impl Model for Plain {
     ghost invariant = { λ a. a.null ≡ value.Null };
 }
 
-fn is_read(effect: &Effect) -> bool
-    ensures { result ≡ is_none (bar_read effect.now) }
-{
-    matches!(effect, Effect::Read { .. })
-}
-
 impl Plain {
     /// Neither items nor instances.
     pub fn new(alloc: Global) -> Plain
@@ -107,31 +103,36 @@ impl Plain {
         Ok(())
     }
 
-    /// Makes the next step of an instance, whatever it is.
+    /// Makes the next step of an instance, whatever it is, but for the effects that are not carried out yet.
     pub fn step(&mut self, code: &Deployment, id: &IntentId) -> Result<(), PlainErr>
         ensures { DidStep code.now id.now self.old self.new result }
     {
         let (instance, effect) = self.stands_at(code, id)?;
-        self.make(id, instance, effect)?;
-        Ok(())
-    }
-
-    // Makes the next step of an instance, where it is a read or else where it is none, as `reads` says.
-    fn enter(&mut self, code: &Deployment, id: &IntentId, reads: bool) -> Result<(), PlainErr>
-        ensures { Entered code.now id.now reads self.old self.new result }
-    {
-        let (instance, effect) = self.stands_at(code, id)?;
-        if is_read(&effect) != reads {
+        if matches!(kind_of(&effect), Kind::Unbuilt) {
+            drop(effect);
             return Err(PlainErr::NotEnabled(Bar::OtherEffect));
         }
         self.make(id, instance, effect)?;
         Ok(())
     }
 
-    // The effect of an instance is made.
+    // Makes the next step of an instance, where it is a read or else where it is a change, as `reads` says.
+    fn enter(&mut self, code: &Deployment, id: &IntentId, reads: bool) -> Result<(), PlainErr>
+        ensures { Entered code.now id.now reads self.old self.new result }
+    {
+        let (instance, effect) = self.stands_at(code, id)?;
+        if !kind_of(&effect).is_entered(reads) {
+            drop(effect);
+            return Err(PlainErr::NotEnabled(Bar::OtherEffect));
+        }
+        self.make(id, instance, effect)?;
+        Ok(())
+    }
+
+    // The effect of an instance is made. One that is not carried out yet changes nothing.
     fn make(&mut self, id: &IntentId, instance: Instance, effect: Effect) -> Result<(), AllocError>
         requires made { map.get self.old.made id.now ≡ Some instance }
-        requires few { IsTrue (wants_answer effect) → length instance.answers < 10000 }
+        requires few { IsTrue (wants_answer effect) → length instance.answers < 30000 }
         ensures ok { OnOk result (self.new ≡ step_by self.old id.now instance effect) }
         ensures err { OnErr result (self.new ≡ self.old) }
     {
@@ -141,6 +142,17 @@ impl Plain {
             Effect::Write { table, key, value } => self.write(id, instance, table, key, value),
             Effect::Return(outcome) => {
                 self.end(id, instance, outcome);
+                Ok(())
+            }
+            Effect::CondWrite { .. }
+            | Effect::Call { .. }
+            | Effect::Async { .. }
+            | Effect::Lock { .. }
+            | Effect::Unlock { .. }
+            | Effect::Begin
+            | Effect::End { .. }
+            | Effect::Abort => {
+                drop(effect);
                 Ok(())
             }
         }
@@ -171,7 +183,7 @@ impl Plain {
         key: Str,
     ) -> Result<(), AllocError>
         requires made { map.get self.old.made id ≡ Some instance }
-        requires few { length instance.answers < 10000 }
+        requires few { length instance.answers < 30000 }
         ensures ok { OnOk result (self.new ≡ step_by self.old id instance (effect.Read table key)) }
         ensures err { OnErr result (self.new ≡ self.old) }
     {
@@ -192,7 +204,7 @@ impl Plain {
         value: Value,
     ) -> Result<(), AllocError>
         requires made { map.get self.old.made id ≡ Some instance }
-        requires few { length instance.answers < 10000 }
+        requires few { length instance.answers < 30000 }
         ensures ok { OnOk result (self.new ≡ step_by self.old id instance (effect.Write table key value)) }
         ensures err { OnErr result (self.new ≡ self.old) }
     {

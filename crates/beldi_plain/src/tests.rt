@@ -10,39 +10,44 @@ fn body(alloc: Global, reads: bool) -> Result<Block, AllocError> {
     let mut body = Block::new(alloc);
     if reads {
         body.push(Stmt {
+            line: 1,
             form: Form::Read {
                 name: Str::from_text(alloc, "y")?,
                 table: Str::from_text(alloc, "t")?,
-                key: Str::from_text(alloc, "k")?,
+                key: Expr::Text(Str::from_text(alloc, "k")?),
             },
         })?;
     }
     body.push(Stmt {
+        line: 1,
         form: Form::Write {
             table: Str::from_text(alloc, "t")?,
-            key: Str::from_text(alloc, "k")?,
+            key: Expr::Text(Str::from_text(alloc, "k")?),
             value: Expr::Name(Str::from_text(alloc, "x")?),
         },
     })?;
     let returned = if reads { "y" } else { "x" };
     body.push(Stmt {
+        line: 1,
         form: Form::Return(Expr::Name(Str::from_text(alloc, returned)?)),
     })?;
     Ok(body)
 }
 
 // fn f(x) over table t, with this body
-fn deployment(alloc: Global, reads: bool) -> Result<Deployment, AllocError> {
+fn deployment(alloc: Global, body: Block) -> Result<Deployment, AllocError> {
     let mut tables = TableHeads::new(alloc);
     tables.push(TableHead {
         name: Str::from_text(alloc, "t")?,
+        line: 1,
     })?;
     let mut funcs = Funcs::new(alloc);
     funcs.push(Func {
         name: Str::from_text(alloc, "f")?,
         param: Str::from_text(alloc, "x")?,
         tables,
-        body: body(alloc, reads)?,
+        body,
+        line: 1,
     })?;
     Ok(Deployment {
         life: 1000,
@@ -138,7 +143,7 @@ fn listing(alloc: Global, code: &Deployment, plain: &Plain) -> Result<Str, Alloc
 #[test]
 fn runs_books(rt: HostRuntime) -> Result<(), Fail> {
     let alloc = rt.alloc();
-    let code = deployment(alloc, false)?;
+    let code = deployment(alloc, body(alloc, false)?)?;
     let key = Str::from_text(alloc, "k")?;
     for (steps, said, value, reply, text) in [
         (0, "done", -1, -3, ""),
@@ -174,7 +179,7 @@ fn call(
 #[test]
 fn bars_entries(rt: HostRuntime) -> Result<(), Fail> {
     let alloc = rt.alloc();
-    let code = deployment(alloc, false)?;
+    let code = deployment(alloc, body(alloc, false)?)?;
     let mut plain = Plain::new(alloc);
     for (ticket, func, said) in [
         (0, 1, "already started"),
@@ -212,7 +217,7 @@ fn entered(alloc: Global, code: &Deployment, plain: &mut Plain, reads: bool) -> 
 #[test]
 fn bars_other_effects(rt: HostRuntime) -> Result<(), Fail> {
     let alloc = rt.alloc();
-    let code = deployment(alloc, true)?;
+    let code = deployment(alloc, body(alloc, true)?)?;
     let mut plain = Plain::new(alloc);
     assert!(rt; entered(alloc, &code, &mut plain, true) == "not started");
     assert!(rt; call(alloc, &code, &mut plain, 1, 1, Value::Int(7)) == "done");
@@ -231,10 +236,37 @@ fn bars_other_effects(rt: HostRuntime) -> Result<(), Fail> {
     Ok(())
 }
 
+// lock t["k"]
+fn locking(alloc: Global) -> Result<Block, AllocError> {
+    let mut body = Block::new(alloc);
+    body.push(Stmt {
+        line: 1,
+        form: Form::Lock {
+            table: Str::from_text(alloc, "t")?,
+            key: Expr::Text(Str::from_text(alloc, "k")?),
+        },
+    })?;
+    Ok(body)
+}
+
+#[test]
+fn bars_what_is_not_carried_out(rt: HostRuntime) -> Result<(), Fail> {
+    let alloc = rt.alloc();
+    let code = deployment(alloc, locking(alloc)?)?;
+    let mut plain = Plain::new(alloc);
+    for (func, said) in [(1, "done"), (0, "other effect")] {
+        assert!(rt; call(alloc, &code, &mut plain, 1, func, Value::Null) == said);
+    }
+    for reads in [false, true] {
+        assert!(rt; entered(alloc, &code, &mut plain, reads) == "other effect");
+    }
+    Ok(())
+}
+
 #[test]
 fn reads_where_they_were_made(rt: HostRuntime) -> Result<(), Fail> {
     let alloc = rt.alloc();
-    let code = deployment(alloc, true)?;
+    let code = deployment(alloc, body(alloc, true)?)?;
     for (seen, had_read) in [(2, -1), (3, 7), (4, 7)] {
         let mut plain = Plain::new(alloc);
         assert!(rt; word(plain.run(&code, &late(alloc, seen)?)) == "done");

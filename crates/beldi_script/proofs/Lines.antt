@@ -1,9 +1,12 @@
--- A text cut at its first newline: its first line, and the text of the lines that follow.
-use Rattle.std.proofs.Common.{◌≡◌, ℕ, suc, ◌-◌, ◌<◌, ◌==◌, Bool, true, false, ◌&&◌, List, [], ◌∷◌, length, get_or, take, Some, None, refl, ap, sym, ◌∙◌, arith, if◌then◌else◌}
+-- A text cut into lines: its first line, and the text of the lines that follow; and lines that were put together.
+use Rattle.std.proofs.Common.{◌≡◌, ℕ, suc, ◌-◌, ◌<◌, ◌==◌, Bool, true, false, ◌&&◌, List, [], ◌∷◌, ◌++◌, map, append_assoc, length, get_or, take, Some, None, refl, ap, sym, ◌∙◌, arith, if◌then◌else◌}
 use Rattle.std.proofs.lemmas.Option.{same_Some}
 use Rattle.std.proofs.lemmas.Bool.Decides.{nat_tests}
 use Rattle.beldi_value.specs.Cut.{before, after}
-use Rattle.beldi_script.specs.Cut.{unreturned, ends_here, onto_first, lines_of}
+use Rattle.std.specs.Prelude.{flat_map}
+use Rattle.std.specs.List.{AllByRecursion}
+use Rattle.beldi_script.specs.Cut.{unreturned, ends_here, onto_first, lines_of, ended, IsLine}
+use Rattle.beldi_script.proofs.Parted.{parts, none_after}
 
 -- a byte before a line; the newline is next where t is true
 step : (b c : ℕ) (front : List ℕ) (lines ls : List (List ℕ)) (t : Bool) → lines ≡ unreturned (if t then [] else c ∷ front) ∷ ls
@@ -57,3 +60,23 @@ not_returned [] e = refl
 not_returned (b ∷ []) e = ap (λ t. if t then [] else b ∷ []) (sym e)
 not_returned (b ∷ c ∷ bs) e = let one : length (b ∷ c ∷ bs) - 1 ≡ suc (length (c ∷ bs) - 1) = omega arith in
     ap (λ r. b ∷ r) (not_returned (c ∷ bs) (sym (ap (λ n. get_or (b ∷ c ∷ bs) n 0 == 13) one) ∙ e))
+
+-- lines, each with its end
+unreturned_end : (l : List ℕ) → unreturned (l ++ 13 ∷ []) ≡ l
+unreturned_end [] = refl
+unreturned_end (b ∷ []) = refl
+unreturned_end (b ∷ c ∷ bs) = ap (λ r. b ∷ r) (unreturned_end (c ∷ bs))
+
+one_cut : (l w rest : List ℕ) → after 10 w ≡ None → unreturned w ≡ l → lines_of (w ++ 10 ∷ rest) ≡ l ∷ lines_of rest
+one_cut l w rest h e =
+    let p = parts 10 w rest h in
+    cut_some (w ++ 10 ∷ rest) rest p.back ∙ ap (λ v. unreturned v ∷ lines_of rest) p.front ∙ ap (λ v. v ∷ lines_of rest) e
+
+first_cut : (l rest : List ℕ) (returned : Bool) → IsLine l → lines_of (ended (l, returned) ++ rest) ≡ l ∷ lines_of rest
+first_cut l rest true h =
+    ap lines_of (append_assoc l (13 ∷ 10 ∷ []) rest ∙ sym (append_assoc l (13 ∷ []) (10 ∷ rest))) ∙ one_cut l (l ++ 13 ∷ []) rest (none_after 10 l (13 ∷ []) h.0 refl) (unreturned_end l)
+first_cut l rest false h = ap lines_of (append_assoc l (10 ∷ []) rest) ∙ one_cut l l rest h.0 h.1
+
+pub are_cut : (lines : List (List ℕ × Bool)) → AllByRecursion (λ l. IsLine l.0) lines → lines_of (flat_map ended lines) ≡ map (λ l. l.0) lines
+are_cut [] h = refl
+are_cut ((l, r) ∷ ls) h = first_cut l (flat_map ended ls) r h.0 ∙ ap (λ rest. l ∷ rest) (are_cut ls h.1)

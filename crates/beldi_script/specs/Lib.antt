@@ -1,2 +1,4 @@
 pub mod Cut
 pub mod Line
+pub mod Text
+pub mod Words

@@ -42,7 +42,7 @@ use Rattle.beldi_book.specs.declared.entry.Entry.TheVariants.{Read, Step}
 use Rattle.beldi_step.specs.declared.run.Run.{Run}
 use Rattle.beldi_step.specs.declared.run.Begun.{Begun}
 use Rattle.beldi_step.specs.declared.run.Stage.{Stage}
-use Rattle.beldi_step.specs.declared.run.Stage.TheVariants.{Ask, Walk, Keep, Write, Close}
+use Rattle.beldi_step.specs.declared.run.Stage.TheVariants.{Ask, Walk, Keep, Write, Close, Unbuilt}
 
 -- the row of an intent: a root's stands in the host's home, a callee's in its function's
 abbrev pub intent_key : IntentId → ℕ → RowKey
@@ -52,11 +52,12 @@ intent_key id func = record { home = home_of id func; kind = Intent id }
 abbrev pub place_of : IntentId → ℕ → Place
 place_of id step = record { intent = id; step = step }
 
--- where an effect begins
+-- where an effect begins. The other effects are not carried out yet.
 abbrev pub first_stage : IntentId → ℕ → ℕ → Effect → Stage
 first_stage id func step (effect.Read t k) = Ask (first_read func (item.Plain t k) (Some (owner.Intent id)))
 first_stage id func step (effect.Write t k v) = Write (first_walk func (item.Plain t k) (place_of id step) (op.Write v))
 first_stage id func step (effect.Return o) = Close o
+first_stage id func step e = Unbuilt
 
 abbrev pub standing : IntentId → ℕ → Machine → Begun
 standing id func m = record { machine = m; stage = first_stage id func m.steps m.effect }
@@ -68,6 +69,7 @@ stage_key r step (Walk w) = read_key w
 stage_key r step (Keep v seen) = log_key r.func (place_of r.id step)
 stage_key r step (Write w) = walk_key w
 stage_key r step (Close o) = intent_key r.id r.func
+stage_key r step Unbuilt = intent_key r.id r.func
 
 abbrev pub stage_act : Stage → Act
 stage_act (Ask w) = Look
@@ -75,6 +77,7 @@ stage_act (Walk w) = Look
 stage_act (Keep v seen) = PutRead v
 stage_act (Write w) = walk_act w
 stage_act (Close o) = End o true
+stage_act Unbuilt = Look
 
 abbrev pub key_at : Run → Option Begun → RowKey
 key_at r None = intent_key r.id r.func
@@ -108,13 +111,13 @@ abbrev pub is_ended : IntentRow → Bool
 is_ended i = is_some i.outcome || is_some i.finish
 
 -- a run of a function begins with the arguments of its body
-abbrev pub begin_in : Run → Option Func → Value → Turned
-begin_in r None args = over
-begin_in r (Some f) args = goes r (standing r.id r.func (machine_begun r.func f args)) None
+abbrev pub begin_in : Deployment → Run → Option Func → Value → Turned
+begin_in d r None args = over
+begin_in d r (Some f) args = goes r (standing r.id r.func (machine_begun d r.func args false)) None
 
 abbrev pub begin_body : Deployment → Run → Option Body → Turned
 begin_body d r None = over
-begin_body d r (Some b) = if b.func == r.func then begin_in r (func_at d r.func) b.args else over
+begin_body d r (Some b) = if b.func == r.func then begin_in d r (func_at d r.func) b.args else over
 
 -- the body of an intent that has not ended
 abbrev pub open_body : IntentRow → Option Body
@@ -124,13 +127,9 @@ abbrev pub body_told : Tell → Option Body
 body_told (here (rows.Intent i)) = open_body i
 body_told t = None
 
-abbrev pub resumed_in : Option Func → Machine → Answer → Machine
-resumed_in None m a = m
-resumed_in (Some f) m a = resumed f m a
-
 -- an effect has its answer
 abbrev pub answered : Deployment → Run → Machine → Answer → Option Entry → Turned
-answered d r m a e = goes r (standing r.id r.func (resumed_in (func_at d r.func) m a)) e
+answered d r m a e = goes r (standing r.id r.func (resumed d m a)) e
 
 -- the entry of a step, where this act made it
 abbrev pub step_if : Bool → IntentId → Option Entry
@@ -193,6 +192,7 @@ stage_turned d r changes m (Walk w) t = walk_turned r m w changes (read_next w t
 stage_turned d r changes m (Keep v seen) t = keep_turned d r m seen (kept_of v t)
 stage_turned d r changes m (Write w) t = write_turned d r m (walk_next w t)
 stage_turned d r changes m (Close o) t = close_turned r o t
+stage_turned d r changes m Unbuilt t = over
 
 abbrev pub turned_at : Deployment → Run → ℕ → Option Begun → Tell → Turned
 turned_at d r changes None t = begin_body d r (body_told t)

@@ -136,6 +136,14 @@ fn args_of(alloc: Global, intent: &IntentRow, func: u16) -> Result<Option<Value>
     }
 }
 
+/// Looks at the row of an intent, and says nothing of it.
+pub fn look<T: Table>(table: &mut T, id: IntentId, func: u16, now: u64) -> Result<(), TableErr>
+    ensures { Asked (λ t. tt) acts.Look now (intent_key id func) (T.room table.old) (T.room table.new) (T.faults table.old) (T.faults table.new) (T.rows table.old) (T.rows table.new) result }
+{
+    table.act(key_of(id, func), Act::Look, now)?;
+    Ok(())
+}
+
 /// Ends an intent with an outcome, once, and says whether this act did.
 pub fn end<T: Table>(
     table: &mut T,

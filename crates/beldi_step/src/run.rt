@@ -31,4 +31,6 @@ pub enum Stage {
     Write(WriteWalk),
     /// The instance is to be ended with this outcome.
     Close(Outcome),
+    /// The effect is not carried out yet: the run is over in its next turn.
+    Unbuilt,
 }

@@ -7,14 +7,15 @@ ghost use Rattle.beldi_daal.specs.declared.walk.WriteWalk.{WriteWalk};
 ghost use Rattle.beldi_row.specs.declared.act.Act.TheVariants as acts;
 ghost use Rattle.beldi_daal.specs.declared.read_walk.ReadWalk.{ReadWalk};
 ghost use Rattle.beldi_value.specs.declared.value.Value.{Value};
-ghost use Rattle.beldi_step.specs.Run.{first_stage as first_stage_of, standing as standing_at, place_of as place_at, begin_in, ask_turned, is_done_note as is_done_note_of, walk_turned, keep_turned, write_turned, resumed_in, intent_key};
+ghost use Rattle.beldi_step.specs.Run.{first_stage as first_stage_of, standing as standing_at, place_of as place_at, begin_in, ask_turned, is_done_note as is_done_note_of, walk_turned, keep_turned, write_turned, intent_key};
+ghost use Rattle.beldi_lang.specs.Machine.{resumed};
 ghost use Rattle.beldi_row.specs.Asked.{Asked};
 ghost use Rattle.beldi_step.specs.Intent.{is_did};
 ghost use Rattle.beldi_step.specs.Turn.{Ran, Turns, turned_by, answered_run, close_says};
 ghost use Rattle.beldi_step.specs.declared.run.Stage.TheVariants as stages;
 ghost use Rattle.beldi_step.specs.declared.run.Stage.{Stage};
 
-use crate::intent::{end, open_body};
+use crate::intent::{end, look, open_body};
 use crate::run::{Begun, Run, Stage};
 use beldi_book::Entry;
 use beldi_daal::{CellOp, Item, ReadSays, ReadWalk, WriteSays, WriteWalk};
@@ -97,6 +98,14 @@ fn first_stage(
             Ok(Stage::Write(WriteWalk::new(func, item, place, op)))
         }
         Effect::Return(outcome) => Ok(Stage::Close(outcome.copy(alloc)?)),
+        Effect::CondWrite { .. }
+        | Effect::Call { .. }
+        | Effect::Async { .. }
+        | Effect::Lock { .. }
+        | Effect::Unlock { .. }
+        | Effect::Begin
+        | Effect::End { .. }
+        | Effect::Abort => Ok(Stage::Unbuilt),
     }
 }
 
@@ -105,21 +114,6 @@ fn standing(alloc: Global, id: &IntentId, func: u16, machine: Machine) -> Result
 {
     let stage = first_stage(alloc, id, func, &machine)?;
     Ok(Begun { machine, stage })
-}
-
-fn resume(
-    alloc: Global,
-    code: &Deployment,
-    func: u16,
-    machine: Machine,
-    answer: Answer,
-) -> Result<Machine, AllocError>
-    ensures { IfOk result (λ m. m ≡ resumed_in (func_at code.now func) machine answer) }
-{
-    match code.func_at(func) {
-        None => Ok(machine),
-        Some(body) => machine.resume(alloc, body, answer),
-    }
 }
 
 fn place_of(alloc: Global, id: &IntentId, step: u32) -> Result<Place, AllocError>
@@ -237,6 +231,10 @@ impl Run {
                 Stage::Close(outcome) => {
                     Ok(close(alloc, &self.id, self.func, outcome, table, now)?)
                 }
+                Stage::Unbuilt => {
+                    look(table, self.id.copy(alloc)?, self.func, now)?;
+                    Ok(over())
+                }
             },
         }
     }
@@ -267,12 +265,12 @@ impl Run {
         code: &Deployment,
         args: Value,
     ) -> Result<TurnSays, AllocError>
-        ensures { IfOk result (λ x. turned_by self.new x ≡ begin_in self.old (func_at code.now self.old.func) args) }
+        ensures { IfOk result (λ x. turned_by self.new x ≡ begin_in code.now self.old (func_at code.now self.old.func) args) }
     {
-        let Some(func) = code.func_at(self.func) else {
+        if code.func_at(self.func).is_none() {
             return Ok(over());
-        };
-        let machine = Machine::new(alloc, func, self.func, args)?;
+        }
+        let machine = Machine::new(alloc, code, self.func, args, false)?;
         let begun = standing(alloc, &self.id, self.func, machine)?;
         self.at = Some(begun);
         Ok(goes(None))
@@ -368,12 +366,12 @@ impl Run {
     }
 
     fn answer(&mut self, alloc: Global, code: &Deployment, answer: Answer) -> Result<(), AllocError>
-        ensures { OnOk result ((m : Machine) (s : Stage) → self.old.at ≡ Some (record { machine = m; stage = s }) → self.new ≡ answered_run self.old (resumed_in (func_at code.now self.old.func) m answer)) }
+        ensures { OnOk result ((m : Machine) (s : Stage) → self.old.at ≡ Some (record { machine = m; stage = s }) → self.new ≡ answered_run self.old (resumed code.now m answer)) }
     {
         let Some(begun) = self.at.take() else {
             return Ok(());
         };
-        let machine = resume(alloc, code, self.func, begun.machine, answer)?;
+        let machine = begun.machine.resume(alloc, code, answer)?;
         let begun = standing(alloc, &self.id, self.func, machine)?;
         self.at = Some(begun);
         Ok(())

@@ -1,170 +1,167 @@
--- The form of a deployment, phrase by phrase. A phrase gives what it says, and what follows it.
---   deployment = "life" INT ";" "function" NAME "(" NAME ")" "{" "table" NAME ";" { read | write } return "}" "script" end-of-line
---   read = "read" NAME "=" cell ";"     write = "write" cell "=" expr ";"     return = "return" expr ";"
---   cell = NAME "[" TEXT "]"     expr = INT | NAME
--- The NAME of a cell is the function's own table. A NAME in expr is the parameter, or was read before it in the body.
-use Rattle.std.specs.Prelude.{◌≡◌, ℕ, zero, suc, ◌-◌, ◌^◌, ◌==◌, pos, Bool, true, false, ◌||◌, List, [], ◌∷◌, ◌++◌, length, Option, Some, None, option_map, Result, Ok, Err, codes, if◌then◌else◌}
-use Rattle.std.specs.List.{list_any}
-use Rattle.beldi_value.specs.Number.{number_at}
+-- The grammar as a relation: which lists of tokens are a deployment, whatever a number's size and however deep they nest.
+use Rattle.std.specs.Prelude.{◌≡◌, ◌⊎◌, ℕ, List, [], ◌∷◌, ◌++◌, map, Option, codes}
+use Rattle.beldi_syntax.specs.declared.refusal.What.TheVariants.{Syntax}
 use Rattle.beldi_lang.specs.declared.deployment.Deployment.{Deployment}
-use Rattle.beldi_lang.specs.declared.deployment.Stmt.{Stmt}
-use Rattle.beldi_lang.specs.declared.deployment.Form.{Form}
-use Rattle.beldi_lang.specs.declared.deployment.Form.TheVariants.{Read, Write, Return}
-use Rattle.beldi_lang.specs.declared.deployment.Expr.{Expr}
-use Rattle.beldi_lang.specs.declared.deployment.Expr.TheVariants.{Int, Name}
-use Rattle.beldi_lang.specs.Wants.{is_name}
-use Rattle.beldi_syntax.specs.declared.words.Kind.TheVariants.{Space}
-use Rattle.beldi_syntax.specs.declared.grammar.SyntaxErr.{SyntaxErr}
-use Rattle.beldi_syntax.specs.declared.grammar.SyntaxErr.TheVariants.{OutOfMemory, Refused}
-use Rattle.beldi_syntax.specs.declared.grammar.Parsed.{Parsed}
-use Rattle.beldi_syntax.specs.Words.{◌>>=◌, past, word_at, keyword_at, sign_at, name_at, text_at}
+use Rattle.beldi_syntax.specs.declared.token.Lexeme.{Lexeme}
+use Rattle.beldi_syntax.specs.declared.token.Token.{Token}
+use Rattle.beldi_syntax.specs.declared.token.Token.TheVariants.{Sign, Name, Number, Text, End}
+use Rattle.beldi_syntax.specs.Phrase.{got, bad}
+use Rattle.beldi_syntax.specs.Lexer.{lexemes}
+use Rattle.beldi_syntax.specs.Deployments.{deployment as read_deployment}
 
--- `life N;`
-abbrev pub life_at : List ℕ → Option (ℕ × List ℕ)
-life_at bs = do
-  start ← keyword_at (codes "life") bs
-  life ← number_at (2 ^ 32) (word_at start).0
-  rest ← sign_at 59 (word_at start).1
-  if life == 0 then None else Some (life, rest)
+-- what stands in a rule: a token, or a phrase. `more_` and what ends in `_tail` are repetitions and parts that may be
+-- left out
+pub data Symbol : Type 0 where
+  word : List ℕ → Symbol
+  NAME : Symbol
+  INT : Symbol
+  TEXT : Symbol
+  END : Symbol
+  deployment : Symbol
+  room : Symbol
+  more_functions : Symbol
+  the_end : Symbol
+  function : Symbol
+  more_tables : Symbol
+  block : Symbol
+  more_stmts : Symbol
+  stmt : Symbol
+  else_tail : Symbol
+  cell : Symbol
+  REL : Symbol
+  expr : Symbol
+  or_tail : Symbol
+  conj : Symbol
+  and_tail : Symbol
+  neg : Symbol
+  rel : Symbol
+  rel_tail : Symbol
+  sum : Symbol
+  sum_tail : Symbol
+  prod : Symbol
+  prod_tail : Symbol
+  unary : Symbol
+  post : Symbol
+  post_tail : Symbol
+  atom : Symbol
+  exprs : Symbol
+  more_exprs : Symbol
+  members : Symbol
+  member : Symbol
+  more_members : Symbol
 
--- `function F`
-abbrev pub func_at : List ℕ → Option (List ℕ × List ℕ)
-func_at bs = keyword_at (codes "function") bs >>= name_at
+-- this sign or reserved word
+abbrev pub q : List ℕ → Symbol
+q w = word w
 
--- `(X) {`
-abbrev pub param_at : List ℕ → Option (List ℕ × List ℕ)
-param_at bs = do
-  start ← sign_at 40 bs
-  param ← name_at start
-  after ← sign_at 41 param.1
-  rest ← sign_at 123 after
-  Some (param.0, rest)
+-- the alternatives of each symbol that is no token
+abbrev pub rules : Symbol → List (List Symbol)
+rules deployment = (q (codes "life") ∷ INT ∷ q (codes ";") ∷ room ∷ more_functions ∷ the_end ∷ []) ∷ []
+rules room = (q (codes "room") ∷ INT ∷ q (codes ";") ∷ []) ∷ [] ∷ []
+rules more_functions = (function ∷ more_functions ∷ []) ∷ [] ∷ []
+rules the_end = (q (codes "script") ∷ []) ∷ (END ∷ []) ∷ []
+rules function =
+    (q (codes "function") ∷ NAME ∷ q (codes "(") ∷ NAME ∷ q (codes ")") ∷ q (codes "{") ∷ more_tables ∷ more_stmts ∷ q (codes "}") ∷ [])
+    ∷ []
+rules more_tables = (q (codes "table") ∷ NAME ∷ q (codes ";") ∷ more_tables ∷ []) ∷ [] ∷ []
+rules block = (q (codes "{") ∷ more_stmts ∷ q (codes "}") ∷ []) ∷ []
+rules more_stmts = (stmt ∷ more_stmts ∷ []) ∷ [] ∷ []
+rules stmt =
+    (q (codes "set") ∷ NAME ∷ q (codes "=") ∷ expr ∷ q (codes ";") ∷ [])
+    ∷ (q (codes "read") ∷ NAME ∷ q (codes "=") ∷ cell ∷ q (codes ";") ∷ [])
+    ∷ (q (codes "write") ∷ cell ∷ q (codes "=") ∷ expr ∷ q (codes ";") ∷ [])
+    ∷ (q (codes "condwrite") ∷ NAME ∷ q (codes "=") ∷ cell ∷ REL ∷ sum ∷ q (codes "then") ∷ expr ∷ q (codes ";") ∷ [])
+    ∷ (q (codes "call") ∷ NAME ∷ q (codes "=") ∷ NAME ∷ q (codes "(") ∷ expr ∷ q (codes ")") ∷ q (codes ";") ∷ [])
+    ∷ (q (codes "async") ∷ NAME ∷ q (codes "(") ∷ expr ∷ q (codes ")") ∷ q (codes ";") ∷ [])
+    ∷ (q (codes "lock") ∷ cell ∷ q (codes ";") ∷ []) ∷ (q (codes "unlock") ∷ cell ∷ q (codes ";") ∷ [])
+    ∷ (q (codes "transaction") ∷ block ∷ q (codes "aborted") ∷ block ∷ []) ∷ (q (codes "abort") ∷ q (codes ";") ∷ [])
+    ∷ (q (codes "break") ∷ q (codes ";") ∷ []) ∷ (q (codes "if") ∷ expr ∷ block ∷ else_tail ∷ [])
+    ∷ (q (codes "repeat") ∷ INT ∷ block ∷ []) ∷ (q (codes "return") ∷ expr ∷ q (codes ";") ∷ []) ∷ []
+rules else_tail = (q (codes "else") ∷ block ∷ []) ∷ [] ∷ []
+rules cell = (NAME ∷ q (codes "[") ∷ expr ∷ q (codes "]") ∷ []) ∷ []
+rules REL =
+    (q (codes "==") ∷ []) ∷ (q (codes "!=") ∷ []) ∷ (q (codes "<") ∷ []) ∷ (q (codes "<=") ∷ [])
+    ∷ (q (codes ">") ∷ []) ∷ (q (codes ">=") ∷ []) ∷ []
+rules expr = (conj ∷ or_tail ∷ []) ∷ []
+rules or_tail = (q (codes "or") ∷ conj ∷ or_tail ∷ []) ∷ [] ∷ []
+rules conj = (neg ∷ and_tail ∷ []) ∷ []
+rules and_tail = (q (codes "and") ∷ neg ∷ and_tail ∷ []) ∷ [] ∷ []
+rules neg = (q (codes "not") ∷ neg ∷ []) ∷ (rel ∷ []) ∷ []
+rules rel = (sum ∷ rel_tail ∷ []) ∷ []
+rules rel_tail = (REL ∷ sum ∷ []) ∷ [] ∷ []
+rules sum = (prod ∷ sum_tail ∷ []) ∷ []
+rules sum_tail =
+    (q (codes "+") ∷ prod ∷ sum_tail ∷ []) ∷ (q (codes "-") ∷ prod ∷ sum_tail ∷ [])
+    ∷ (q (codes "++") ∷ prod ∷ sum_tail ∷ []) ∷ [] ∷ []
+rules prod = (unary ∷ prod_tail ∷ []) ∷ []
+rules prod_tail =
+    (q (codes "*") ∷ unary ∷ prod_tail ∷ []) ∷ (q (codes "/") ∷ unary ∷ prod_tail ∷ [])
+    ∷ (q (codes "%") ∷ unary ∷ prod_tail ∷ []) ∷ [] ∷ []
+rules unary = (q (codes "-") ∷ unary ∷ []) ∷ (post ∷ []) ∷ []
+rules post = (atom ∷ post_tail ∷ []) ∷ []
+rules post_tail =
+    (q (codes ".") ∷ NAME ∷ post_tail ∷ []) ∷ (q (codes "[") ∷ expr ∷ q (codes "]") ∷ post_tail ∷ []) ∷ [] ∷ []
+rules atom =
+    (INT ∷ []) ∷ (TEXT ∷ []) ∷ (q (codes "true") ∷ []) ∷ (q (codes "false") ∷ []) ∷ (q (codes "null") ∷ [])
+    ∷ (NAME ∷ []) ∷ (q (codes "(") ∷ expr ∷ q (codes ")") ∷ []) ∷ (q (codes "[") ∷ exprs ∷ q (codes "]") ∷ [])
+    ∷ (q (codes "{") ∷ members ∷ q (codes "}") ∷ []) ∷ (q (codes "len") ∷ q (codes "(") ∷ expr ∷ q (codes ")") ∷ [])
+    ∷ (q (codes "text") ∷ q (codes "(") ∷ expr ∷ q (codes ")") ∷ [])
+    ∷ (q (codes "push") ∷ q (codes "(") ∷ expr ∷ q (codes ",") ∷ expr ∷ q (codes ")") ∷ [])
+    ∷ (q (codes "with") ∷ q (codes "(") ∷ expr ∷ q (codes ",") ∷ expr ∷ q (codes ",") ∷ expr ∷ q (codes ")") ∷ [])
+    ∷ []
+rules exprs = (expr ∷ more_exprs ∷ []) ∷ [] ∷ []
+rules more_exprs = (q (codes ",") ∷ expr ∷ more_exprs ∷ []) ∷ [] ∷ []
+rules members = (member ∷ more_members ∷ []) ∷ [] ∷ []
+rules member = (TEXT ∷ q (codes ":") ∷ expr ∷ []) ∷ []
+rules more_members = (q (codes ",") ∷ member ∷ more_members ∷ []) ∷ [] ∷ []
+rules a = []
 
--- `table T;`
-abbrev pub table_at : List ℕ → Option (List ℕ × List ℕ)
-table_at bs = do
-  start ← keyword_at (codes "table") bs
-  table ← name_at start
-  rest ← sign_at 59 table.1
-  Some (table.0, rest)
+-- one of these lists
+abbrev pub OneOf : List Symbol → List (List Symbol) → Type 0
+OneOf bs [] = ⊥
+OneOf bs (cs ∷ css) = (bs ≡ cs) ⊎ OneOf bs css
 
--- `T["KEY"]`
-abbrev pub cell_at : List ℕ → List ℕ → Option (List ℕ × List ℕ)
-cell_at table bs = do
-  name ← keyword_at table bs
-  start ← sign_at 91 name
-  key ← text_at start
-  rest ← sign_at 93 key.1
-  Some (key.0, rest)
+-- which token a symbol is; a number and a text of any length
+pub data IsToken : Symbol → Token → Type 0 where
+  is_word : (w : List ℕ) → IsToken (word w) (Sign w)
+  is_name : (w : List ℕ) → IsToken NAME (Name w)
+  is_int : (n : Option ℕ) → IsToken INT (Number n)
+  is_text : (t : Option (List ℕ)) → IsToken TEXT (Text t)
+  is_end : IsToken END End
 
--- a statement that reads an item into this name
-abbrev pub reads_into : Form → List ℕ → Bool
-reads_into (Read name table key) word = is_name name word
-reads_into (Write table key value) word = false
-reads_into (Return value) word = false
+-- these tokens are these symbols, one after another
+pub data Yields : List Symbol → List Token → Type 0 where
+  nothing : Yields [] []
+  token : (a : Symbol) (t : Token) (cs : List Symbol) (ts : List Token) → IsToken a t → Yields cs ts → Yields (a ∷ cs) (t ∷ ts)
+  phrase : (a : Symbol) (bs cs : List Symbol) (ts : List Token) → OneOf bs (rules a) → Yields (bs ++ cs) ts → Yields (a ∷ cs) ts
 
--- the parameter, or a name that one of these statements reads an item into
-abbrev pub is_known : List ℕ → List Stmt → List ℕ → Bool
-is_known param done word = is_name word param || list_any (λ s. reads_into s.form word) done
+abbrev pub tokens_in : List Lexeme → List Token
+tokens_in ts = map (λ t. t.token) ts
 
--- a number, or a name that is known after these statements
-abbrev pub expr_of : List ℕ → List Stmt → List ℕ → Option ℕ → Option Expr
-expr_of param done word (Some n) = Some (Int (pos n))
-expr_of param done word None = if is_known param done word then Some (Name word) else None
+-- tokens that are these symbols, and what follows them
+pub record Took (cs : List Symbol) (s rest : List Lexeme) : Type 0 where
+  pub ts : List Lexeme
+  pub all : s ≡ ts ++ rest
+  pub yields : Yields cs (tokens_in ts)
 
--- an expression and `;`
-abbrev pub value_at : List ℕ → List Stmt → List ℕ → Option (Expr × List ℕ)
-value_at param done bs = do
-  value ← expr_of param done (word_at bs).0 (number_at (2 ^ 63 - 1) (word_at bs).0)
-  rest ← sign_at 59 (word_at bs).1
-  Some (value, rest)
+-- what is read is a deployment of the grammar, up to the tokens that are left
+abbrev pub Accepts : Type 0
+Accepts = (s : List Lexeme) (code : Deployment) (left : List Lexeme) → read_deployment s ≡ got code left → Took (deployment ∷ []) s left
 
--- `NAME = T["KEY"];`, which follows `read`
-abbrev pub read_at : List ℕ → List ℕ → Option (Form × List ℕ)
-read_at table bs = do
-  name ← name_at bs
-  start ← sign_at 61 name.1
-  key ← cell_at table start
-  rest ← sign_at 59 key.1
-  Some (Read name.0 table key.0, rest)
+-- some deployment begins with these tokens
+abbrev pub Begins : List Token → Type 0
+Begins ts = (more : List Token) × Yields (deployment ∷ []) (ts ++ more)
 
--- `T["KEY"] = EXPR;`, which follows `write`
-abbrev pub write_at : List ℕ → List ℕ → List Stmt → List ℕ → Option (Form × List ℕ)
-write_at table param done bs = do
-  key ← cell_at table bs
-  start ← sign_at 61 key.1
-  value ← value_at param done start
-  Some (Write table key.0 value.0, value.1)
+-- the first token such that no deployment begins with the tokens up to it, which is in this line
+pub record Wrong (s : List Lexeme) (line : ℕ) : Type 0 where
+  pub before : List Lexeme
+  pub first : Lexeme
+  pub after : List Lexeme
+  pub all : s ≡ before ++ first ∷ after
+  pub here : line ≡ first.line
+  pub begins : Begins (tokens_in before)
+  pub ends : Begins (tokens_in (before ++ first ∷ [])) → ⊥
 
--- `EXPR;`, which follows `return`
-abbrev pub return_at : List ℕ → List Stmt → List ℕ → Option (Form × List ℕ)
-return_at param done bs = option_map (λ value. (Return value.0, value.1)) (value_at param done bs)
-
--- a statement, by its first word and what follows that
-abbrev pub stmt_of : List ℕ → List ℕ → List Stmt → List ℕ → List ℕ → Option (Form × List ℕ)
-stmt_of table param done word bs = if is_name word (codes "read") then read_at table bs else if is_name word (codes "write") then write_at table param done bs else if is_name word (codes "return") then return_at param done bs else None
-
--- a statement after these
-abbrev pub stmt_at : List ℕ → List ℕ → List Stmt → List ℕ → Option (Form × List ℕ)
-stmt_at table param done bs = stmt_of table param done (word_at bs).0 (word_at bs).1
-
--- a statement that ends the others
-abbrev pub is_return : Form → Bool
-is_return (Read name table key) = false
-is_return (Write table key value) = false
-is_return (Return value) = true
-
--- with this one more, a `return` ends the statements
-abbrev pub go_on : (List Stmt → List ℕ → Option (List Stmt × List ℕ)) → List Stmt → Form → List ℕ → Option (List Stmt × List ℕ)
-go_on more done form rest = if is_return form then Some (done ++ record { form = form } ∷ [], rest) else more (done ++ record { form = form } ∷ []) rest
-
--- these statements and at most n more, up to a `return`. Each takes some of the text, so a text has no more of them
--- than bytes
-abbrev pub block_at : ℕ → List ℕ → List ℕ → List Stmt → List ℕ → Option (List Stmt × List ℕ)
-block_at zero table param done bs = None
-block_at (suc n) table param done bs = stmt_at table param done bs >>= λ stmt. go_on (block_at n table param) done stmt.0 stmt.1
-
--- the end of a line
-abbrev pub line_end : List ℕ → Option (List ℕ)
-line_end [] = Some []
-line_end (b ∷ bs) = if b == 10 then Some bs else None
-
--- `}` and a line that ends with `script`
-abbrev pub end_at : List ℕ → Option (List ℕ)
-end_at bs = do
-  after ← sign_at 125 bs
-  rest ← keyword_at (codes "script") after
-  line_end (past Space rest)
-
--- a deployment of one function
-abbrev pub deployment_of : ℕ → List ℕ → List ℕ → List ℕ → List Stmt → Deployment
-deployment_of life name param table body = record {
-  life = life;
-  room = 65536;
-  funcs = record { name = name; param = param; tables = record { name = table } ∷ []; body = body } ∷ [];
-}
-
--- the deployment, and the script that follows it
-abbrev pub deployment_at : List ℕ → Option (Deployment × List ℕ)
-deployment_at bs = do
-  life ← life_at bs
-  name ← func_at life.1
-  param ← param_at name.1
-  table ← table_at param.1
-  body ← block_at (length table.1) table.0 param.0 [] table.1
-  script ← end_at body.1
-  Some (deployment_of life.0 name.0 param.0 table.0 body.0, script)
-
--- the same, with the place where the script begins
-abbrev pub parsed_at : List ℕ → Option Parsed
-parsed_at bs = option_map (λ p. record { code = p.0; rest = length bs - length p.1 }) (deployment_at bs)
-
--- refused exactly where there is nothing to read
-abbrev pub Refuses : {A : Type 0} → Option A → SyntaxErr → Type 0
-Refuses o Refused = o ≡ None
-Refuses o OutOfMemory = Unit {0}
-
--- read as this, and refused exactly where there is nothing to read
-abbrev pub Reads : {A : Type 0} → Option A → Result A SyntaxErr → Type 0
-Reads o (Ok x) = o ≡ Some x
-Reads o (Err e) = Refuses o e
+-- where a text is refused for its form, the line is that of this token
+abbrev pub RefusesFirst : Type 0
+RefusesFirst = (bytes : List ℕ) (line : ℕ) → read_deployment (lexemes 0 1 bytes) ≡ bad line Syntax → Wrong (lexemes 0 1 bytes) line

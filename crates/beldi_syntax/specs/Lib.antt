@@ -1,2 +1,7 @@
+pub mod Deployments
+pub mod Expressions
 pub mod Grammar
-pub mod Words
+pub mod Lexer
+pub mod Operators
+pub mod Phrase
+pub mod Statements

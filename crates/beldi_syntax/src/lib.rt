@@ -1,12 +1,23 @@
 //! The reader of deployments: from a text to its functions and the place where the script begins.
-//! It stands on `beldi_value` (numbers and texts) and `beldi_lang` (what a deployment is).
-//! Its definitions: `specs/Words` (words, names, numbers, texts and signs at the front of a text) and `specs/Grammar`
-//! (the form of a deployment, phrase by phrase).
+//! It stands on `beldi_value` (numbers and texts), `beldi_lang` (what a deployment is) and `serde_json` (what a text says).
+//! Its definitions: `specs/Lexer` (tokens on bytes), `specs/Phrase` (what is read off the front of the tokens, or the line
+//! and the cause of a refusal), `specs/Operators`, `specs/Expressions`, `specs/Statements` and `specs/Deployments` (the
+//! grammar, phrase by phrase, and what a text is read as), and `specs/Grammar` (the grammar as a relation).
 #![tactic(auto)]
 
-mod grammar;
+mod deployments;
+mod expressions;
+mod laws;
+mod lexer;
+mod operators;
+mod reading;
+mod refusal;
+mod statements;
 #[cfg(test)]
 mod tests;
-mod words;
+mod token;
+mod tokens;
 
-pub use grammar::{Parsed, SyntaxErr, read_deployment};
+pub use laws::{accepts_the_grammar, refuses_first};
+pub use reading::{Parsed, read_deployment};
+pub use refusal::{SyntaxErr, What};

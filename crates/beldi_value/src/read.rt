@@ -16,7 +16,7 @@ use thiserror::Error;
 #[derive(Clone, Copy, Debug, PartialEq, Eq, Error)]
 pub enum ValueErr {
     /// No more memory.
-    #[error("no more memory")]
+    #[error("out of memory")]
     OutOfMemory,
     /// `serde_json` does not read the bytes: they are no UTF-8 or no JSON, or a number is past the largest float.
     #[error("the text is not JSON")]

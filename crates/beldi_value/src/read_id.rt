@@ -12,7 +12,7 @@ use thiserror::Error;
 #[derive(Clone, Copy, Debug, PartialEq, Eq, Error)]
 pub enum IdErr {
     /// No more memory.
-    #[error("no more memory")]
+    #[error("out of memory")]
     OutOfMemory,
     /// The text is no id: a ticket from 1, and `/` and a step from 0 for each of at most 63 hops, each below 2^32 and in
     /// decimal without leading zeros.

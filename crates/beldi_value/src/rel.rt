@@ -1,6 +1,6 @@
 // Comparing a value with an operand.
 ghost use Rattle.std.specs.Prelude.{◌≡◌};
-ghost use Rattle.beldi_value.specs.Passes.{order_of as order_between, meets, passes};
+ghost use Rattle.beldi_value.specs.Passes.{order_of, meets, passes};
 
 use crate::value::Value;
 use std::cmp::Ordering;
@@ -16,20 +16,9 @@ pub enum Rel {
     Ge,
 }
 
-// How two whole numbers, or two texts, are ordered.
-fn order_of(value: &Value, operand: &Value) -> Option<Ordering>
-    ensures { result ≡ order_between value.now operand.now }
-{
-    match (value, operand) {
-        (Value::Int(m), Value::Int(n)) => Some(m.cmp(n)),
-        (Value::Text(s), Value::Text(t)) => Some(s.cmp(t)),
-        _ => None,
-    }
-}
-
 impl Rel {
-    // Whether this order is one that the relation asks for.
-    fn meets(self, order: Ordering) -> bool
+    /// Whether this order is one that the relation asks for.
+    pub fn meets(self, order: Ordering) -> bool
         ensures { result ≡ meets self order }
     {
         match self {
@@ -44,15 +33,26 @@ impl Rel {
 }
 
 impl Value {
+    /// How two whole numbers are ordered, or two texts by their bytes. Other values have no order.
+    pub fn order(&self, operand: &Value) -> Option<Ordering>
+        ensures { result ≡ order_of self.now operand.now }
+    {
+        match (self, operand) {
+            (Value::Int(m), Value::Int(n)) => Some(m.cmp(n)),
+            (Value::Text(s), Value::Text(t)) => Some(s.cmp(t)),
+            _ => None,
+        }
+    }
+
     /// Whether the value stands so to the operand. `Eq` and `Ne` ask whether the two are equal. The other four hold only
-    /// of two whole numbers, or of two texts, by their bytes.
+    /// of two values that have an order.
     pub fn passes(&self, rel: Rel, operand: &Value) -> bool
         ensures { result ≡ passes self.now rel operand.now }
     {
         match rel {
             Rel::Eq => self == operand,
             Rel::Ne => self != operand,
-            _ => match order_of(self, operand) {
+            _ => match self.order(operand) {
                 Some(order) => rel.meets(order),
                 None => false,
             },

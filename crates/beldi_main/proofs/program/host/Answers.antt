@@ -1,12 +1,12 @@
-use Rattle.std.proofs.Common.{◌≡◌, IfOk, refl, sym, subst}
+use Rattle.std.proofs.Common.{◌≡◌, IfOk, sym, subst}
 use Rattle.beldi_core.specs.Host.{core_of}
 use Rattle.beldi_script.specs.Cut.{lines_of}
 use Rattle.beldi_main.specs.declared.program.Ended.{Ended}
 use Rattle.beldi_lang.specs.declared.deployment.Deployment.{Deployment}
 use Rattle.beldi_outside.specs.Outside.{Told}
-use Rattle.beldi_main.specs.Session.{OnTold, is_whole}
-use Rattle.beldi_main.proofs.Deeds.{told_tells}
-use Rattle.beldi_main.specs.Headline.{Anything, AsRead, SessionOn, Untouched, end_of}
+use Rattle.beldi_main.specs.Session.{OnTold, refused_in}
+use Rattle.beldi_main.specs.Source.{numbered}
+use Rattle.beldi_main.specs.Headline.{Anything, AsRead, SessionOn, Untouched, end_of, is_whole}
 use Rattle.beldi_main.proofs.Programs.{hosted, not_opened, ran_as_read, ran_untouched}
 use Rattle.beldi_main.proofs.program.host.Goals as goal
 
@@ -15,7 +15,7 @@ returns-in-Ok-clause-session g c =
     let t = g.T.Table in
     let ha = g.K.Sink.held c.args.sink.now in
     let hb = g.K.Sink.held c.run_script-ran.new.sink in
-    let lines = lines_of c.args.script.now in
+    let lines = numbered c.args.first (lines_of c.args.script.now) in
     let first = c.in-Ok.host in
     let last = c.run_script-ran.new.host in
     let r = c.run_script-ran.result in
@@ -30,14 +30,14 @@ pub returns-in-Err-default-OutOfMemory-clause-session :
 returns-in-Err-default-OutOfMemory-clause-session g c =
     let t = g.T.Table in
     let e = c.in-Err-default-OutOfMemory in
-    not_opened c.args.code (lines_of c.args.script.now) (t.faults c.args.table) (t.faults e.table) (t.rows c.args.table) (t.rows e.table) (g.K.Sink.held c.args.sink.now) e.field-0-1 e.ensures.err
+    not_opened c.args.code (numbered c.args.first (lines_of c.args.script.now)) (t.faults c.args.table) (t.faults e.table) (t.rows c.args.table) (t.rows e.table) (g.K.Sink.held c.args.sink.now) e.field-0-1 e.ensures.err
 
 pub returns-in-Ok-clause-as_read : goal.returns-in-Ok-clause-as_read
 returns-in-Ok-clause-as_read g c =
-    let lines = lines_of c.args.script.now in
+    let lines = numbered c.args.first (lines_of c.args.script.now) in
     let r = c.run_script-ran.result in
     subst (λ (e : Ended). AsRead (is_whole c.args.code lines) e) (sym c.end_of.ensures)
-    (ran_as_read (is_whole c.args.code lines) r (subst (λ (d : Deployment). IfOk r (λ x. is_whole d lines ≡ x)) c.in-Ok.ensures.ok.code_kept c.run_script-ran.ensures.whole))
+    (ran_as_read (refused_in c.args.code lines) r (subst (λ (d : Deployment). IfOk r (λ x. refused_in d lines ≡ x)) c.in-Ok.ensures.ok.code_kept c.run_script-ran.ensures.refused))
 
 pub returns-in-Ok-clause-untouched : goal.returns-in-Ok-clause-untouched
 returns-in-Ok-clause-untouched g c =

@@ -2,7 +2,7 @@ use Rattle.std.proofs.Common.{◌≡◌, refl, sym, subst}
 use Rattle.beldi_outside.specs.Outside.{Told}
 use Rattle.beldi_main.specs.declared.program.Ended.{Ended}
 use Rattle.beldi_main.specs.Headline.{Anything, RunOn, SourceAsRead, Untouched}
-use Rattle.beldi_main.proofs.Programs.{not_read, source_as_read, unread_as_read, unread_untouched}
+use Rattle.beldi_main.proofs.Programs.{not_read, ran, ran_short, source_as_read, unread_as_read, unread_untouched}
 use Rattle.beldi_main.proofs.program.run.Goals as goal
 
 pub returns-in-Err-clause-session : goal.returns-in-Err-clause-session
@@ -29,3 +29,17 @@ pub returns-in-Ok-clause-as_read : goal.returns-in-Ok-clause-as_read
 returns-in-Ok-clause-as_read g c =
     let s = g.S.Source in
     source_as_read (s.left c.args.source.now) (s.left c.read_all.new.source) c.in-Ok.bytes c.as_slice.result.now _ c.in-Ok.ensures.bytes c.as_slice.ensures.value c.run_source.ensures.as_read
+
+pub returns-in-Ok-clause-session : goal.returns-in-Ok-clause-session
+returns-in-Ok-clause-session g c =
+    let s = g.S.Source in
+    let t = g.T.Table in
+    let k = g.K.Sink in
+    let r = c.run_source.result in
+    ran c.in-Ok.bytes c.as_slice.result.now r.0 c.as_slice.ensures.value (s.left c.args.source.now) (s.left c.read_all.new.source) (t.rows c.args.table) (t.rows r.1) (k.held c.args.sink.now) (k.held c.run_source.new.sink) (t.faults c.args.table) (t.faults r.1)
+    c.in-Ok.ensures.bytes c.run_source.ensures.session
+
+pub returns-in-Ok-clause-too_long : goal.returns-in-Ok-clause-too_long
+returns-in-Ok-clause-too_long g c =
+    let s = g.S.Source in
+    ran_short (s.left c.args.source.now) (s.left c.read_all.new.source) c.in-Ok.bytes c.run_source.result.0 c.in-Ok.ensures.bytes c.in-Ok.ensures.most c.run_source.ensures.read

@@ -1,6 +1,7 @@
 use Rattle.beldi_core.specs.Host.{core_of}
 use Rattle.beldi_script.specs.Cut.{lines_of}
 use Rattle.std.proofs.Common.{Ok, Err}
+use Rattle.beldi_main.specs.Source.{numbered}
 use Rattle.beldi_main.proofs.Programs.{script_ended, script_cut}
 use Rattle.beldi_main.proofs.program.run_script.Goals as goal
 
@@ -10,7 +11,7 @@ returns-in-Ok-finish-clause-done g c =
     let k = g.K.Sink in
     let old = c.args.host.now in
     let new = c.do_lines.new.host in
-    script_ended old.code (t.room old.table) (lines_of c.args.script.now) (core_of old) (core_of new) (t.faults old.table) (t.faults new.table) c.do_lines.new.waiting c.new-waiting.result c.in-Ok.whole (Ok tt)
+    script_ended old.code (t.room old.table) (numbered c.args.first (lines_of c.args.script.now)) (core_of old) (core_of new) (t.faults old.table) (t.faults new.table) c.do_lines.new.waiting c.new-waiting.result c.in-Ok.refused (Ok tt)
     (t.rows old.table) (t.rows new.table) (k.held c.args.sink.now) (k.held c.do_lines.new.sink) (k.held c.finish.new.sink) c.new-waiting.ensures c.in-Ok.ensures.done c.in-Ok-finish.ensures.done
 
 pub returns-in-Ok-clause-done : goal.returns-in-Ok-clause-done
@@ -19,7 +20,7 @@ returns-in-Ok-clause-done g c =
     let k = g.K.Sink in
     let old = c.args.host.now in
     let new = c.do_lines.new.host in
-    script_ended old.code (t.room old.table) (lines_of c.args.script.now) (core_of old) (core_of new) (t.faults old.table) (t.faults new.table) c.do_lines.new.waiting c.new-waiting.result c.in-Ok.whole (Err c.in-Err-finish.stop)
+    script_ended old.code (t.room old.table) (numbered c.args.first (lines_of c.args.script.now)) (core_of old) (core_of new) (t.faults old.table) (t.faults new.table) c.do_lines.new.waiting c.new-waiting.result c.in-Ok.refused (Err c.in-Err-finish.stop)
     (t.rows old.table) (t.rows new.table) (k.held c.args.sink.now) (k.held c.do_lines.new.sink) (k.held c.finish.new.sink) c.new-waiting.ensures c.in-Ok.ensures.done c.in-Err-finish.ensures.done
 
 pub returns-clause-done : goal.returns-clause-done
@@ -28,5 +29,5 @@ returns-clause-done g c =
     let k = g.K.Sink in
     let old = c.args.host.now in
     let new = c.do_lines.new.host in
-    script_cut old.code (t.room old.table) (lines_of c.args.script.now) (core_of old) (core_of new) (t.faults old.table) (t.faults new.table) c.do_lines.new.waiting c.new-waiting.result c.in-Err.stop
+    script_cut old.code (t.room old.table) (numbered c.args.first (lines_of c.args.script.now)) (core_of old) (core_of new) (t.faults old.table) (t.faults new.table) c.do_lines.new.waiting c.new-waiting.result c.in-Err.stop
     (t.rows old.table) (t.rows new.table) (k.held c.args.sink.now) (k.held c.do_lines.new.sink) c.new-waiting.ensures c.in-Err.ensures.done

@@ -1,9 +1,8 @@
-use Rattle.std.proofs.Common.{◌≡◌, None, ap}
-use Rattle.beldi_syntax.specs.Grammar.{parsed_at}
+use Rattle.std.proofs.Common.{◌≡◌, Err, ap}
 use Rattle.beldi_outside.specs.Outside.{Told}
-use Rattle.beldi_main.specs.declared.program.Ended.TheVariants as ended
+use Rattle.beldi_main.specs.Source.{source_at}
 use Rattle.beldi_main.specs.Headline.{AsRead, Untouched, is_whole_source}
-use Rattle.beldi_main.proofs.Programs.{either_end, not_parsed}
+use Rattle.beldi_main.proofs.Programs.{refused_end, not_parsed, sourced}
 use Rattle.beldi_main.proofs.program.run_source.Goals as goal
 
 pub returns-in-Err-OutOfMemory-clause-session : goal.returns-in-Err-OutOfMemory-clause-session
@@ -12,11 +11,18 @@ returns-in-Err-OutOfMemory-clause-session g c = not_parsed c.args.bytes.now (g.T
 pub returns-in-Err-Refused-clause-as_read : goal.returns-in-Err-Refused-clause-as_read
 returns-in-Err-Refused-clause-as_read g c =
     let bytes = c.args.bytes.now in
-    let refused : parsed_at bytes ≡ None = rw c.in-Err-Refused.field-0-is at c.in-Err-Refused.ensures in
+    let refused : source_at bytes ≡ Err c.in-Err-Refused.refusal = rw c.in-Err-Refused.field-0-is at c.in-Err-Refused.ensures in
     let none = ap (is_whole_source bytes) refused in
-    either_end (AsRead (is_whole_source bytes (parsed_at bytes))) c.refuse_source.result ended.Refused ended.SinkFault none tt c.refuse_source.ensures.source
+    refused_end (AsRead (is_whole_source bytes (source_at bytes))) c.refuse_source.result none tt tt c.refuse_source.ensures.source
 
 pub returns-in-Err-Refused-clause-untouched : goal.returns-in-Err-Refused-clause-untouched
 returns-in-Err-Refused-clause-untouched g c =
     let rows = g.T.Table.rows c.args.table in
-    either_end (λ e. Untouched e (c.args.table ≡ c.args.table) (Told rows rows (λ m n. n ≡ m)) (c.refuse_source.new.sink ≡ c.args.sink.now)) c.refuse_source.result ended.Refused ended.SinkFault tt tt c.refuse_source.ensures.source
+    refused_end (λ e. Untouched e (c.args.table ≡ c.args.table) (Told rows rows (λ m n. n ≡ m)) (c.refuse_source.new.sink ≡ c.args.sink.now)) c.refuse_source.result tt tt tt c.refuse_source.ensures.source
+
+pub returns-in-Ok-clause-session : goal.returns-in-Ok-clause-session
+returns-in-Ok-clause-session g c =
+    let t = g.T.Table in
+    let k = g.K.Sink in
+    sourced c.args.bytes.now c.script_at.result.now c.in-Ok.field-0 c.host.result.0 (t.rows c.args.table) (t.rows c.host.result.1) (k.held c.args.sink.now) (k.held c.host.new.sink) (t.faults c.args.table) (t.faults c.host.result.1)
+    c.in-Ok.ensures c.script_at.ensures c.host.ensures.session

@@ -1,7 +1,7 @@
 use Rattle.std.proofs.Common.{◌≡◌, ◌≤◌, ◌⊎◌, ℕ, true, length, sym, ap, subst, ◌∙◌, inl, inr}
 use Rattle.beldi_main.specs.declared.program.Ended.TheVariants as ended
 use Rattle.beldi_outside.specs.Outside.{Told, Rose, max_source}
-use Rattle.beldi_syntax.specs.Grammar.{parsed_at}
+use Rattle.beldi_main.specs.Source.{source_at}
 use Rattle.beldi_main.specs.Headline.{PlainRun, is_run, is_whole_source, status_of}
 use Rattle.beldi_main.proofs.Claims.{is_plain, claimed, completed, same_end}
 use Rattle.beldi_main.proofs.program.top.Goals as goal
@@ -47,5 +47,5 @@ returns-clause-complete g c = λ w p q.
     let y = c.carry_out-ended.ensures in
     let sink = c.carry_out-ended.new.sink in
     let source = c.carry_out-ended.new.source in
-    subst (λ (z : ℕ). Told (s.left c.args.source.now) (s.left source) (λ a b. length a ≤ max_source → is_whole_source a (parsed_at a) ≡ true → (z ≡ 0) ⊎ (z ≡ 1) ⊎ (z ≡ 8))) (sym c.status.ensures)
+    subst (λ (z : ℕ). Told (s.left c.args.source.now) (s.left source) (λ a b. length a ≤ max_source → is_whole_source a (source_at a) ≡ true → (z ≡ 0) ⊎ (z ≡ 1) ⊎ (z ≡ 8))) (sym c.status.ensures)
     (completed (s.left c.args.source.now) (s.left source) c.carry_out-ended.result.0 (Rose (s.faults c.args.source.now) (s.faults source)) (Rose (k.faults c.args.sink.now) (k.faults sink)) (y.as_read w) (y.too_long w) y.source_fault y.sink_fault p q)

@@ -2,7 +2,8 @@ use Rattle.std.proofs.Common.{◌≡◌, Result, Ok, length}
 use Rattle.beldi_core.specs.Host.{core_of}
 use Rattle.beldi_script.specs.Cut.{lines_of}
 use Rattle.beldi_main.specs.declared.session.Stop.{Stop}
-use Rattle.beldi_main.specs.Session.{Carried, SoFarOn, Kept, is_whole}
+use Rattle.beldi_main.specs.Session.{Carried, SoFarOn, Kept, refused_in}
+use Rattle.beldi_main.specs.Source.{numbered}
 use Rattle.beldi_main.proofs.session.do_lines.Given as goal
 
 abbrev pub invariant-loop-rest : goal.invariant-loop-rest
@@ -13,8 +14,8 @@ invariant-loop-rest g l =
     let new = l.host in
     let fine : Result (Unit {0}) Stop = Ok tt in
     record {
-      whole : is_whole old.code (lines_of l.rest) ≡ is_whole old.code (lines_of l.script);
-      done : Carried (SoFarOn (lines_of l.script) (lines_of l.rest)) old.code (t.room old.table) (core_of old) (core_of new) (t.faults old.table) (t.faults new.table) l.fn.waiting l.waiting (t.rows old.table) (t.rows new.table) (k.held l.fn.sink) (k.held l.sink) fine;
+      refused : refused_in old.code (numbered l.number (lines_of l.rest)) ≡ refused_in old.code (numbered l.first (lines_of l.script));
+      done : Carried (SoFarOn (numbered l.first (lines_of l.script)) (numbered l.number (lines_of l.rest))) old.code (t.room old.table) (core_of old) (core_of new) (t.faults old.table) (t.faults new.table) l.fn.waiting l.waiting (t.rows old.table) (t.rows new.table) (k.held l.fn.sink) (k.held l.sink) fine;
       kept : Kept old.code new.code (t.room old.table) (t.room new.table) (t.faults old.table) (t.faults new.table) (k.faults l.fn.sink) (k.faults l.sink) fine;
     }
 

@@ -1,10 +1,7 @@
-use Rattle.std.proofs.Common.{[], Ok}
+use Rattle.std.proofs.Common.{ap}
 use Rattle.beldi_core.specs.Host.{core_of}
-use Rattle.beldi_script.specs.declared.reading.Line.{Line}
-use Rattle.std.proofs.Common.{sym, subst}
-use Rattle.beldi_main.specs.Session.{Carrying, deeds_of}
-use Rattle.beldi_main.proofs.Sessions.{did_nothing}
-use Rattle.beldi_main.proofs.Sights.{Sight, Between, same}
+use Rattle.beldi_main.specs.Session.{deeds_of}
+use Rattle.beldi_main.proofs.Sights.{Sight, nothing_said}
 use Rattle.beldi_main.proofs.session.do_said.Goals as goal
 
 pub returns-in-Blank-clause-done : goal.returns-in-Blank-clause-done
@@ -12,5 +9,46 @@ returns-in-Blank-clause-done g c =
     let t = g.T.Table in
     let old = c.args.host.now in
     let a : Sight = record { core = core_of old; faults = t.faults old.table; waiting = c.args.waiting.now; rows = t.rows old.table; held = g.K.Sink.held c.args.sink.now } in
-    subst (λ (l : Line). Between (Carrying (deeds_of l)) old.code (t.room old.table) a a (Ok tt)) (sym c.in-Blank.is)
-    (same (Carrying []) old.code (t.room old.table) a (Ok tt) (did_nothing old.code (t.room old.table)))
+    nothing_said old.code (t.room old.table) a c.args.line (ap deeds_of c.in-Blank.is)
+
+pub returns-in-Ic-clause-done : goal.returns-in-Ic-clause-done
+returns-in-Ic-clause-done g c =
+    let t = g.T.Table in
+    let old = c.args.host.now in
+    let a : Sight = record { core = core_of old; faults = t.faults old.table; waiting = c.args.waiting.now; rows = t.rows old.table; held = g.K.Sink.held c.args.sink.now } in
+    nothing_said old.code (t.room old.table) a c.args.line (ap deeds_of c.in-Ic.is)
+
+pub returns-in-Gc-clause-done : goal.returns-in-Gc-clause-done
+returns-in-Gc-clause-done g c =
+    let t = g.T.Table in
+    let old = c.args.host.now in
+    let a : Sight = record { core = core_of old; faults = t.faults old.table; waiting = c.args.waiting.now; rows = t.rows old.table; held = g.K.Sink.held c.args.sink.now } in
+    nothing_said old.code (t.room old.table) a c.args.line (ap deeds_of c.in-Gc.is)
+
+pub returns-in-Sweep-clause-done : goal.returns-in-Sweep-clause-done
+returns-in-Sweep-clause-done g c =
+    let t = g.T.Table in
+    let old = c.args.host.now in
+    let a : Sight = record { core = core_of old; faults = t.faults old.table; waiting = c.args.waiting.now; rows = t.rows old.table; held = g.K.Sink.held c.args.sink.now } in
+    nothing_said old.code (t.room old.table) a c.args.line (ap deeds_of c.in-Sweep.is)
+
+pub returns-in-Settle-clause-done : goal.returns-in-Settle-clause-done
+returns-in-Settle-clause-done g c =
+    let t = g.T.Table in
+    let old = c.args.host.now in
+    let a : Sight = record { core = core_of old; faults = t.faults old.table; waiting = c.args.waiting.now; rows = t.rows old.table; held = g.K.Sink.held c.args.sink.now } in
+    nothing_said old.code (t.room old.table) a c.args.line (ap deeds_of c.in-Settle.is)
+
+pub returns-in-Tick-clause-done : goal.returns-in-Tick-clause-done
+returns-in-Tick-clause-done g c =
+    let t = g.T.Table in
+    let old = c.args.host.now in
+    let a : Sight = record { core = core_of old; faults = t.faults old.table; waiting = c.args.waiting.now; rows = t.rows old.table; held = g.K.Sink.held c.args.sink.now } in
+    nothing_said old.code (t.room old.table) a c.args.line (ap deeds_of c.in-Tick.is)
+
+pub returns-in-Halt-clause-done : goal.returns-in-Halt-clause-done
+returns-in-Halt-clause-done g c =
+    let t = g.T.Table in
+    let old = c.args.host.now in
+    let a : Sight = record { core = core_of old; faults = t.faults old.table; waiting = c.args.waiting.now; rows = t.rows old.table; held = g.K.Sink.held c.args.sink.now } in
+    nothing_said old.code (t.room old.table) a c.args.line (ap deeds_of c.in-Halt.is)

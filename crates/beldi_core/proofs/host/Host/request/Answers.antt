@@ -1,4 +1,4 @@
-use Rattle.std.proofs.Common.{◌≡◌, ℕ, ◌==◌, ◌||◌, ◌+◌, [], ◌∷◌, ◌++◌, None, rules, ap, ◌∙◌, Ok, if◌then◌else◌}
+use Rattle.std.proofs.Common.{◌≡◌, ◌==◌, ◌||◌, ◌+◌, [], ◌∷◌, ◌++◌, None, rules, ap, ◌∙◌, Ok, if◌then◌else◌}
 use Rattle.std.specs.Prelude.{nat_lt, nat_le}
 use Rattle.std.specs.FinMap as map
 use Rattle.beldi_row.specs.declared.act.Act.TheVariants.{Bind}

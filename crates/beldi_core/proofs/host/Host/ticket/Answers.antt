@@ -1,4 +1,4 @@
-use Rattle.std.proofs.Common.{ℕ, ◌==◌, ◌+◌, rules, Ok}
+use Rattle.std.proofs.Common.{◌==◌, ◌+◌, rules, Ok}
 use Rattle.std.specs.Prelude.{◌-◌, ◌^◌}
 use Rattle.beldi_row.specs.declared.act.Act.TheVariants.{Issue}
 use Rattle.beldi_step.specs.declared.event.Event.TheVariants.{Ticket}

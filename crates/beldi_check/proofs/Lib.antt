@@ -1,0 +1,4 @@
+pub mod Firsts
+pub mod Grids
+pub mod Keeps
+pub mod Paths

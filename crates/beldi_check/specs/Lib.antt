@@ -1,0 +1,4 @@
+pub mod Calls
+pub mod Keeps
+pub mod Rules
+pub mod Site

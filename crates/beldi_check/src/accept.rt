@@ -1,0 +1,102 @@
+// The checks of a deployment, and one that passed them.
+ghost use Rattle.std.specs.Prelude.{◌≡◌, ◌<◌, length, MatchResult, IfSome};
+ghost use Rattle.std.specs.List.{position};
+ghost use Rattle.beldi_lang.specs.Wants.{is_name};
+ghost use Rattle.beldi_check.specs.Rules.{Refuses, first_offence, IsChecked, number_of};
+
+use crate::calls::{Link, reach};
+use crate::listed::{Listed, list_all};
+use crate::rules::{Rule, all_kept, no_cycle, no_double_name, within_most};
+use crate::why::CheckErr;
+use beldi_lang::{Deployment, Func};
+use std::alloc::Global;
+use std::marker::Model;
+
+// The rules before that of cycles.
+const PLACE_RULES: [Rule; 5] = [
+    Rule::UnknownFunction,
+    Rule::UnknownTable,
+    Rule::BreakOutside,
+    Rule::NestedTx,
+    Rule::LeavesTx,
+];
+
+// The rules after it.
+const TRANSACTION_RULES: [Rule; 2] = [Rule::AsyncInTx, Rule::LockInTx];
+
+/// A deployment that keeps every rule.
+#[derive(Drop)]
+pub struct Checked {
+    code: Deployment,
+}
+
+impl Model for Checked {
+    ghost use Rattle.beldi_lang.specs.declared.deployment.Deployment.{Deployment};
+    ghost use Rattle.beldi_lang.specs.contracts.deployment.Deployment as deployment;
+    ghost use Rattle.beldi_check.specs.Rules.{IsChecked};
+
+    ghost Value = { Deployment };
+
+    ghost coded = { deployment.the_row.coded };
+
+    ghost view = { λ a. a.code };
+
+    ghost invariant = { λ a. IsChecked a.code };
+}
+
+impl Checked {
+    /// The deployment.
+    pub fn code(&self) -> &Deployment
+        ensures same { result.now ≡ self.now }
+        ensures checked { IsChecked self.now }
+    {
+        &self.code
+    }
+
+    /// The deployment, taken out.
+    pub fn into_code(self) -> Deployment
+        ensures same { result ≡ self }
+        ensures checked { IsChecked self }
+    {
+        self.code
+    }
+
+    /// The number of the function of this name, from 1 in the order of the text. None where no function has it.
+    pub fn func(&self, name: &[u8]) -> Option<u16>
+        ensures { result ≡ number_of self.now.funcs name.now }
+    {
+        let place = place_of(self.code.funcs.as_slice(), name)?;
+        Some(place as u16 + 1)
+    }
+}
+
+// The first function of this name, from 0.
+fn place_of(funcs: &[Func], name: &[u8]) -> Option<usize>
+    ensures found { result ≡ position (λ f. is_name f.name name.now) funcs.now }
+    ensures within { IfSome result (λ i. i < length funcs.now) }
+{
+    funcs.iter().position(|func| func.name.as_bytes() == name)
+}
+
+// No function breaks a rule.
+fn all_rules(alloc: Global, funcs: &[Func]) -> Result<(), CheckErr>
+    ensures { MatchResult result (λ _. first_offence funcs.now ≡ None) (λ e. Refuses (first_offence funcs.now) e) }
+{
+    let all = list_all(alloc, funcs)?;
+    no_double_name(alloc, &all)?;
+    within_most(&all)?;
+    let inside = reach(alloc, Link::Call, &all)?;
+    all_kept(alloc, &PLACE_RULES, &all, &inside)?;
+    no_cycle(alloc, &all)?;
+    all_kept(alloc, &TRANSACTION_RULES, &all, &inside)
+}
+
+/// Accepts a deployment that keeps every rule. The rules are tried in the order `Duplicate`, `TooMany`, `UnknownFunction`,
+/// `UnknownTable`, `BreakOutside`, `NestedTx`, `LeavesTx`, `CallCycle`, `AsyncInTx`, `LockInTx`: `Refused` names the first
+/// place in the text that breaks the first rule that is broken. `OutOfMemory` comes where memory is short.
+pub fn check(alloc: Global, code: Deployment) -> Result<Checked, CheckErr>
+    ensures { MatchResult result (λ c. (c ≡ code) × (first_offence code.funcs ≡ None)) (λ e. Refuses (first_offence code.funcs) e) }
+{
+    all_rules(alloc, code.funcs.as_slice())?;
+    Ok(Checked { code })
+}

@@ -1,0 +1,60 @@
+// What the host can carry out of a deployment.
+ghost use Rattle.std.specs.Prelude.{◌≡◌, OnOk};
+ghost use Rattle.beldi_lang.specs.Command.{commands_of};
+ghost use Rattle.beldi_lang.specs.Statement.{command_of};
+ghost use Rattle.beldi_core.specs.Built.{unbuilt, unbuilt_in as unbuilt_among, unbuilt_of, refused_at, IsCarriedOut};
+
+use beldi_lang::{Block, Deployment, Form, Stmt};
+
+/// Tests that the host can carry out each statement of a deployment. If not, the error is the line of the first
+/// statement that it cannot carry out yet, in the order of the text: a `condwrite`, `call`, `async`, `lock`, `unlock`,
+/// `transaction` or `abort`. If so, no body wants an effect that the host does not carry out.
+pub fn built(code: &Deployment) -> Result<(), u32>
+    ensures exact { result ≡ refused_at (unbuilt_of code.now.funcs) }
+    ensures carried { OnOk result (IsCarriedOut code.now) }
+{
+    for func in code.funcs.as_slice() {
+        if let Some(line) = unbuilt_in(&func.body) {
+            return Err(line);
+        }
+    }
+    Ok(())
+}
+
+#[cycle(unbuilt)]
+fn unbuilt_in(block: &Block) -> Option<u32>
+    ensures { result ≡ unbuilt_among (commands_of block.now) }
+{
+    for stmt in block.as_slice() {
+        if let Some(line) = unbuilt_at(stmt) {
+            return Some(line);
+        }
+    }
+    None
+}
+
+#[cycle(unbuilt)]
+fn unbuilt_at(stmt: &Stmt) -> Option<u32>
+    ensures { result ≡ unbuilt (command_of stmt.now) }
+{
+    match &stmt.form {
+        Form::Set { .. } | Form::Read { .. } | Form::Write { .. } | Form::Break | Form::Return(_) =>
+            None,
+        Form::If {
+            block,
+            otherwise,
+            ..
+        } => match unbuilt_in(block) {
+            Some(line) => Some(line),
+            None => unbuilt_in(otherwise),
+        },
+        Form::Repeat { block, .. } => unbuilt_in(block),
+        Form::CondWrite { .. }
+        | Form::Call { .. }
+        | Form::Async { .. }
+        | Form::Lock { .. }
+        | Form::Unlock { .. }
+        | Form::Transaction { .. }
+        | Form::Abort => Some(stmt.line),
+    }
+}

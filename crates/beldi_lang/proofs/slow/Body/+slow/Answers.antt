@@ -1,0 +1,8 @@
+use Rattle.std.proofs.Common.{arith}
+use Rattle.beldi_lang.specs.Falls.{seen_falls}
+use Rattle.beldi_lang.proofs.slow.Body.+slow.Goals as goal
+
+pub block-statement-requires : goal.block-statement-requires
+block-statement-requires t c =
+    let f = seen_falls c.as_slice-stmt-items.result.now c.args.block.now c.loop-stmt.stmt-index c.stmt-item.result c.as_slice-stmt-items.ensures c.loop-stmt-test.true c.stmt-item.is in
+    (omega arith, tt)

@@ -1,0 +1,8 @@
+use Rattle.std.proofs.Common.{◌≡◌}
+use Rattle.beldi_lang.specs.Term.{not}
+use Rattle.beldi_lang.specs.Expr.{term_of}
+use Rattle.beldi_syntax.specs.Phrase.{times}
+use Rattle.beldi_syntax.proofs.expressions.negated.Given as goal
+
+abbrev pub invariant-loop-turn : goal.invariant-loop-turn
+invariant-loop-turn l = term_of l.whole ≡ times l._turn not (term_of l.fn.expr)
