@@ -6,11 +6,11 @@ use Rattle.beldi_value.specs.Datum.{text}
 use Rattle.beldi_value.specs.Value.{datum_of}
 use Rattle.beldi_value.specs.declared.value.Value.{Value}
 use Rattle.beldi_value.specs.Text.{id_text}
-use Rattle.beldi_lang.specs.declared.deployment.Deployment.{Deployment}
-use Rattle.beldi_lang.specs.declared.deployment.Func.{Func}
-use Rattle.beldi_lang.specs.declared.deployment.TableHead.{TableHead}
-use Rattle.beldi_lang.specs.Names.{func_text}
-use Rattle.beldi_lang.specs.Wants.{func_at}
+use Rattle.beldi_tree.specs.declared.deployment.Deployment.{Deployment}
+use Rattle.beldi_tree.specs.declared.deployment.Func.{Func}
+use Rattle.beldi_tree.specs.declared.deployment.TableHead.{TableHead}
+use Rattle.beldi_tree.specs.Names.{func_text}
+use Rattle.beldi_tree.specs.Names.{func_at}
 use Rattle.beldi_book.specs.declared.entry.Entry.{Entry}
 use Rattle.beldi_book.specs.declared.entry.Entry.TheVariants.{Start, Read, Step}
 

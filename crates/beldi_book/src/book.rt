@@ -4,7 +4,7 @@ ghost use Rattle.beldi_book.specs.Text.{book_text};
 ghost use Rattle.beldi_book.specs.Order.{count_changes, changes_of, linear, front};
 
 use crate::entry::Entry;
-use beldi_lang::Deployment;
+use beldi_tree::Deployment;
 use beldi_value::Str;
 use std::alloc::{AllocError, Global};
 use std::marker::Model;

@@ -4,7 +4,7 @@ ghost use Rattle.std.specs.Fmt.{decimal};
 ghost use Rattle.beldi_book.specs.Text.{entry_text};
 ghost use Rattle.beldi_book.specs.Order.{seen_of};
 
-use beldi_lang::Deployment;
+use beldi_tree::Deployment;
 use beldi_value::{IntentId, Str, Value};
 use std::alloc::{AllocError, Global};
 

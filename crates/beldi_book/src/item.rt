@@ -2,7 +2,7 @@
 ghost use Rattle.std.specs.Prelude.{◌≡◌, ◌++◌, OnOk, OnErr};
 ghost use Rattle.beldi_book.specs.Text.{table_text, item_text, quoted_key};
 
-use beldi_lang::Deployment;
+use beldi_tree::Deployment;
 use beldi_value::{Str, Value};
 use std::alloc::{AllocError, Global};
 

@@ -1,5 +1,5 @@
 use crate::{Book, Entry, write_item};
-use beldi_lang::{Block, Deployment, Func, Funcs, TableHead, TableHeads};
+use beldi_tree::{Block, Deployment, Func, Funcs, TableHead, TableHeads};
 use beldi_value::{Hops, IntentId, Str, Value};
 use std::alloc::{AllocError, Global};
 use std::test::Fail;

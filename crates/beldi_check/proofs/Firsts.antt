@@ -5,7 +5,7 @@ use Rattle.std.proofs.Math.Seq.{drop-cons}
 use Rattle.beldi_check.specs.declared.why.Why.TheVariants.{TooMany}
 use Rattle.std.specs.Option.{option_or}
 use Rattle.std.specs.List.{list_any}
-use Rattle.beldi_lang.specs.declared.deployment.Func.{Func}
+use Rattle.beldi_tree.specs.declared.deployment.Func.{Func}
 use Rattle.beldi_check.specs.Site.{sites_of}
 use Rattle.beldi_check.specs.Calls.{edge, reaches, blocks}
 use Rattle.beldi_check.specs.declared.calls.Link.TheVariants.{Call}

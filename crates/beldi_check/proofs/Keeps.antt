@@ -5,9 +5,9 @@ use Rattle.std.proofs.lemmas.Bool.{lt-ltb}
 use Rattle.std.proofs.lemmas.Option.{slice_get_past}
 use Rattle.std.specs.Option.{option_or}
 use Rattle.std.specs.List.{list_any}
-use Rattle.beldi_lang.specs.declared.deployment.Func.{Func}
-use Rattle.beldi_lang.specs.declared.deployment.TableHead.{TableHead}
-use Rattle.beldi_lang.specs.Wants.{is_name}
+use Rattle.beldi_tree.specs.declared.deployment.Func.{Func}
+use Rattle.beldi_tree.specs.declared.deployment.TableHead.{TableHead}
+use Rattle.beldi_tree.specs.Bindings.{is_name}
 use Rattle.beldi_check.specs.Site.{Spot, sites_of, line_at}
 use Rattle.beldi_check.specs.Calls.{edge, reaches, blocks}
 use Rattle.beldi_check.specs.declared.calls.Link.TheVariants.{Call, Start}

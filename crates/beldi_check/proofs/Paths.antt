@@ -3,7 +3,7 @@ use Rattle.std.proofs.Common.{◌≡◌, ℕ, zero, suc, ◌<◌, ◌≤◌, Boo
 use Rattle.std.proofs.lemmas.Bool.{ltb-true}
 use Rattle.std.proofs.lemmas.Bool.Decides.{nat_tests}
 use Rattle.std.proofs.lemmas.Option.{slice_get_within}
-use Rattle.beldi_lang.specs.declared.deployment.Func.{Func}
+use Rattle.beldi_tree.specs.declared.deployment.Func.{Func}
 use Rattle.beldi_check.specs.Calls.{Link, edge, edge_to, through, reaches, IsPath, ReachesByPaths}
 
 left : (a b : Bool) → IsTrue a → IsTrue (a || b)

@@ -1,9 +1,9 @@
 -- What it is to keep every rule, said of each function, table and statement.
 use Rattle.std.specs.Prelude.{◌≡◌, ◌↔◌, ◌<◌, ◌≤◌, ℕ, false, List, length, slice_get, Some, None}
-use Rattle.beldi_lang.specs.declared.deployment.Deployment.{Deployment}
-use Rattle.beldi_lang.specs.declared.deployment.Func.{Func}
-use Rattle.beldi_lang.specs.declared.deployment.TableHead.{TableHead}
-use Rattle.beldi_lang.specs.Wants.{is_name}
+use Rattle.beldi_tree.specs.declared.deployment.Deployment.{Deployment}
+use Rattle.beldi_tree.specs.declared.deployment.Func.{Func}
+use Rattle.beldi_tree.specs.declared.deployment.TableHead.{TableHead}
+use Rattle.beldi_tree.specs.Bindings.{is_name}
 use Rattle.beldi_check.specs.Site.{Spot, sites_of}
 use Rattle.beldi_check.specs.Calls.{edge, reaches, blocks}
 use Rattle.beldi_check.specs.declared.calls.Link.TheVariants.{Call, Start}

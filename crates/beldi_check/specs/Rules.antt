@@ -1,12 +1,13 @@
 -- The rules that a deployment keeps, and the first place where it breaks one.
 use Rattle.std.specs.Prelude.{◌≡◌, ℕ, ◌+◌, nat_lt, Bool, true, false, not, ◌&&◌, ◌||◌, List, [], ◌∷◌, ◌++◌, slice_get, Option, Some, None, option_map, option_and_then, if◌then◌else◌}
 use Rattle.std.specs.Option.{option_or}
-use Rattle.std.specs.List.{list_any, position}
-use Rattle.beldi_lang.specs.declared.deployment.Deployment.{Deployment}
-use Rattle.beldi_lang.specs.declared.deployment.Func.{Func}
-use Rattle.beldi_lang.specs.declared.deployment.TableHead.{TableHead}
-use Rattle.beldi_lang.specs.Command.{Command, read, write, condwrite, call, async, lock, unlock, transaction, break, return}
-use Rattle.beldi_lang.specs.Wants.{is_name}
+use Rattle.std.specs.List.{list_any}
+use Rattle.beldi_tree.specs.declared.deployment.Deployment.{Deployment}
+use Rattle.beldi_tree.specs.declared.deployment.Func.{Func}
+use Rattle.beldi_tree.specs.declared.deployment.TableHead.{TableHead}
+use Rattle.beldi_tree.specs.Command.{Command, read, write, condwrite, call, async, lock, unlock, transaction, break, return}
+use Rattle.beldi_tree.specs.Bindings.{is_name}
+use Rattle.beldi_tree.specs.Names.{func_place}
 use Rattle.beldi_check.specs.Site.{Spot, sites_of, line_at}
 use Rattle.beldi_check.specs.Calls.{edge, reaches, blocks}
 use Rattle.beldi_check.specs.declared.calls.Link.TheVariants.{Call, Start}
@@ -162,4 +163,4 @@ IsChecked d = first_offence d.funcs ≡ None
 
 -- the number of the function of this name, from 1 in the order of the text
 abbrev pub number_of : List Func → List ℕ → Option ℕ
-number_of fs n = option_map (λ i. i + 1) (position (λ f. is_name f.name n) fs)
+number_of fs n = option_map (λ i. i + 1) (func_place fs n)

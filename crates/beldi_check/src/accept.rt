@@ -1,14 +1,12 @@
 // The checks of a deployment, and one that passed them.
-ghost use Rattle.std.specs.Prelude.{◌≡◌, ◌<◌, length, MatchResult, IfSome};
-ghost use Rattle.std.specs.List.{position};
-ghost use Rattle.beldi_lang.specs.Wants.{is_name};
+ghost use Rattle.std.specs.Prelude.{◌≡◌, MatchResult};
 ghost use Rattle.beldi_check.specs.Rules.{Refuses, first_offence, IsChecked, number_of};
 
 use crate::calls::{Link, reach};
-use crate::listed::{Listed, list_all};
+use crate::listed::list_all;
 use crate::rules::{Rule, all_kept, no_cycle, no_double_name, within_most};
 use crate::why::CheckErr;
-use beldi_lang::{Deployment, Func};
+use beldi_tree::{Deployment, Func};
 use std::alloc::Global;
 use std::marker::Model;
 
@@ -31,8 +29,8 @@ pub struct Checked {
 }
 
 impl Model for Checked {
-    ghost use Rattle.beldi_lang.specs.declared.deployment.Deployment.{Deployment};
-    ghost use Rattle.beldi_lang.specs.contracts.deployment.Deployment as deployment;
+    ghost use Rattle.beldi_tree.specs.declared.deployment.Deployment.{Deployment};
+    ghost use Rattle.beldi_tree.specs.contracts.deployment.Deployment as deployment;
     ghost use Rattle.beldi_check.specs.Rules.{IsChecked};
 
     ghost Value = { Deployment };
@@ -65,17 +63,9 @@ impl Checked {
     pub fn func(&self, name: &[u8]) -> Option<u16>
         ensures { result ≡ number_of self.now.funcs name.now }
     {
-        let place = place_of(self.code.funcs.as_slice(), name)?;
+        let place = self.code.funcs.place(name)?;
         Some(place as u16 + 1)
     }
-}
-
-// The first function of this name, from 0.
-fn place_of(funcs: &[Func], name: &[u8]) -> Option<usize>
-    ensures found { result ≡ position (λ f. is_name f.name name.now) funcs.now }
-    ensures within { IfSome result (λ i. i < length funcs.now) }
-{
-    funcs.iter().position(|func| func.name.as_bytes() == name)
 }
 
 // No function breaks a rule.

@@ -1,13 +1,13 @@
 // Which function leads to which.
 ghost use Rattle.std.specs.Prelude.{◌≡◌, ◌+◌, ◌*◌, ◌<◌, ◌≤◌, ◌&&◌, ◌||◌, ℕ, Bool, length, IfOk, option_copied, slice_get, slice_index};
 ghost use Rattle.std.specs.List.{list_any};
-ghost use Rattle.beldi_lang.specs.Statement.{command_of};
+ghost use Rattle.beldi_tree.specs.Statement.{command_of};
 ghost use Rattle.beldi_check.specs.Calls.{leads, leads_to, leads_within, edge, edge_to, through, reaches, IsGrid, cell};
 ghost use Rattle.beldi_check.specs.Site.{site_of, sites_of};
 
 use crate::listed::Listed;
 use crate::site::Site;
-use beldi_lang::{Form, Stmt};
+use beldi_tree::{Form, Stmt};
 use beldi_value::Str;
 use std::alloc::{AllocError, Global};
 

@@ -3,7 +3,7 @@ ghost use Rattle.std.specs.Prelude.{◌≡◌, ◌++◌, ◌∷◌, [], map, IfO
 ghost use Rattle.beldi_check.specs.Site.{sites_of, site_of};
 
 use crate::site::{Site, sites_of};
-use beldi_lang::Func;
+use beldi_tree::Func;
 use std::alloc::{AllocError, Global};
 use std::marker::Model;
 
@@ -16,8 +16,8 @@ pub struct Listed<'a> {
 
 impl<'a> Model for Listed<'a> {
     ghost use Rattle.std.specs.Prelude.{◌≡◌, map};
-    ghost use Rattle.beldi_lang.specs.declared.deployment.Func.{Func};
-    ghost use Rattle.beldi_lang.specs.contracts.deployment.Func as function;
+    ghost use Rattle.beldi_tree.specs.declared.deployment.Func.{Func};
+    ghost use Rattle.beldi_tree.specs.contracts.deployment.Func as function;
     ghost use Rattle.beldi_check.specs.Site.{sites_of, site_of};
 
     ghost Value = { Func };

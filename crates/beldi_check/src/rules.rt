@@ -1,8 +1,8 @@
 // The rules that a deployment keeps.
 ghost use Rattle.std.specs.Prelude.{◌≡◌, ◌≤◌, [], not, length, slice_get, MatchResult, OnOk, option_copied, option_and_then};
 ghost use Rattle.std.specs.List.{list_any};
-ghost use Rattle.beldi_lang.specs.Wants.{is_name};
-ghost use Rattle.beldi_lang.specs.Statement.{command_of};
+ghost use Rattle.beldi_tree.specs.Bindings.{is_name};
+ghost use Rattle.beldi_tree.specs.Statement.{command_of};
 ghost use Rattle.beldi_check.specs.Calls.{edge, reaches, IsGrid};
 ghost use Rattle.beldi_check.specs.Rules.{Refuses, has_function, has_table, double_table, double_name, past_most, some_if, func_in, table_in, is_break, is_return, is_transaction, is_async, is_lock, named, why_of, offence_at, first_site, first_statement, first_cycle, first_broken};
 ghost use Rattle.beldi_check.specs.Site.{site_of, sites_of};
@@ -12,9 +12,9 @@ use crate::calls::{BLOCKS, Link, cell, reach};
 use crate::listed::Listed;
 use crate::site::Site;
 use crate::why::{CheckErr, Why};
-use beldi_lang::{Form, Stmt, TableHead};
+use beldi_tree::{Form, Stmt, TableHead};
 use beldi_value::Str;
-use std::alloc::{AllocError, Global};
+use std::alloc::Global;
 
 /// The rules on statements.
 #[derive(Clone, Copy)]

@@ -1,10 +1,10 @@
 // The statements of a body, and where each stands.
 ghost use Rattle.std.specs.Prelude.{◌≡◌, ◌++◌, map, IfOk, OnOk};
-ghost use Rattle.beldi_lang.specs.Command.{commands_of};
+ghost use Rattle.beldi_tree.specs.Command.{commands_of};
 ghost use Rattle.beldi_check.specs.Site.{outside, repeated, transacted, sites, inside, sites_of, site_of, line_at};
-ghost use Rattle.beldi_lang.specs.Statement.{command_of};
+ghost use Rattle.beldi_tree.specs.Statement.{command_of};
 
-use beldi_lang::{Block, Form, Stmt};
+use beldi_tree::{Block, Form, Stmt};
 use std::alloc::{AllocError, Global};
 
 /// Where a statement stands in its function.

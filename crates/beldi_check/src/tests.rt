@@ -1,5 +1,5 @@
 use super::*;
-use beldi_lang::{Block, Deployment, Expr, Form, Func, Funcs, Stmt, TableHead, TableHeads};
+use beldi_tree::{Block, Deployment, Expr, Form, Func, Funcs, Stmt, TableHead, TableHeads};
 use beldi_value::{Rel, Str};
 use std::alloc::{AllocError, Global};
 use std::mem;

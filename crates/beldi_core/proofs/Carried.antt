@@ -1,12 +1,11 @@
 -- A body without a statement that is not carried out yet wants no effect that is not.
 use Rattle.std.proofs.Common.{◌≡◌, ℕ, zero, suc, Bool, true, false, List, [], ◌∷◌, Option, Some, None, Result, Ok, Err, refl, ap, sym, ◌∙◌, if◌then◌else◌}
 use Rattle.std.specs.Prelude.{slice_get}
-use Rattle.beldi_value.specs.declared.value.Value.{Value}
 use Rattle.beldi_value.specs.declared.outcome.Code.{Code}
 use Rattle.beldi_value.specs.declared.outcome.Code.TheVariants as code
-use Rattle.beldi_lang.specs.declared.deployment.Deployment.{Deployment}
-use Rattle.beldi_lang.specs.declared.deployment.Func.{Func}
-use Rattle.beldi_lang.specs.declared.deployment.TableHead.{TableHead}
+use Rattle.beldi_tree.specs.declared.deployment.Deployment.{Deployment}
+use Rattle.beldi_tree.specs.declared.deployment.Func.{Func}
+use Rattle.beldi_tree.specs.declared.deployment.TableHead.{TableHead}
 use Rattle.beldi_lang.specs.declared.effect.Effect.{Effect}
 use Rattle.beldi_lang.specs.declared.effect.Effect.TheVariants as effect
 use Rattle.beldi_lang.specs.declared.effect.Answer.{Answer}
@@ -18,9 +17,10 @@ use Rattle.beldi_lang.specs.declared.state.Part.{Part}
 use Rattle.beldi_lang.specs.declared.state.Part.TheVariants.{First, Second, Turn}
 use Rattle.beldi_lang.specs.declared.state.Frame.{Frame}
 use Rattle.beldi_lang.specs.declared.state.Start.TheVariants.{Afresh}
-use Rattle.beldi_lang.specs.Evaluate.{◌>>=◌, truth, term_value}
-use Rattle.beldi_lang.specs.Command.{Command, Commands, no_commands, command, set, read, write, condwrite, call, async, lock, unlock, transaction, abort, break, choose, repeat, return}
-use Rattle.beldi_lang.specs.Wants.{Went, stops, leaves, within, shifted, followed, table_number, may_count, one_more, Request, done, asks, or_fault, counted, key_value, answered, asked, Block, by_test, looped, turns, run, run_block, func_at, tables_of, body_of, first_state, run_body, outcome_of, releases, effect_of}
+use Rattle.beldi_tree.specs.Evaluate.{◌>>=◌, truth, term_value}
+use Rattle.beldi_tree.specs.Command.{Command, Commands, no_commands, command, set, read, write, condwrite, call, async, lock, unlock, transaction, abort, break, choose, repeat, return}
+use Rattle.beldi_tree.specs.Names.{func_at}
+use Rattle.beldi_lang.specs.Wants.{Went, stops, leaves, within, shifted, followed, table_number, may_count, one_more, Request, done, asks, or_fault, counted, key_value, answered, asked, Block, by_test, looped, turns, run, run_block, tables_of, body_of, first_state, run_body, outcome_of, releases, effect_of}
 use Rattle.beldi_plain.specs.Plain.{kind_of}
 use Rattle.beldi_plain.specs.declared.kind.Kind.TheVariants.{Unbuilt}
 use Rattle.beldi_core.specs.Built.{or_else, unbuilt, unbuilt_in, unbuilt_of, IsCarriedOut}

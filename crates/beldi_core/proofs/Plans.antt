@@ -4,10 +4,10 @@ use Rattle.std.specs.Prelude.{IfOk, OnOk, OnErr, is_some}
 use Rattle.std.specs.FinMap as map
 use Rattle.std.specs.declared.alloc.AllocError.{AllocError}
 use Rattle.beldi_value.specs.declared.value.Value.{Value}
-use Rattle.beldi_lang.specs.declared.deployment.Deployment.{Deployment}
+use Rattle.beldi_tree.specs.declared.deployment.Deployment.{Deployment}
 use Rattle.beldi_row.specs.declared.key.RowKey.{RowKey}
 use Rattle.beldi_row.specs.declared.act.Act.{Act}
-use Rattle.beldi_row.specs.Act.{Tell, absent, added, bound, running, ended, other}
+use Rattle.beldi_row.specs.Act.{Tell}
 use Rattle.beldi_row.specs.declared.table.TableErr.{TableErr}
 use Rattle.beldi_row.specs.declared.table.TableErr.TheVariants.{OutOfMemory, Failed, Full}
 use Rattle.beldi_book.specs.declared.entry.Entry.{Entry}
@@ -24,9 +24,9 @@ use Rattle.beldi_step.specs.declared.turn.TurnErr.{TurnErr}
 use Rattle.beldi_step.specs.declared.turn.TurnErr.TheVariants.{Lost, Stopped}
 use Rattle.beldi_step.specs.Run.{Turned, run_key, run_act, run_turned}
 use Rattle.beldi_book.specs.Order.{count_changes}
-use Rattle.beldi_step.specs.Host.{Core, Plan, Answer, Do, Lose, no_run, Answers, ActSays, ActBreaks, bound_next, turn_next, lost_next, turn_plan, lost_plan, ended_run, without_run}
+use Rattle.beldi_step.specs.Host.{Core, Plan, Answer, Do, Lose, no_run, Answers, ActSays, ActBreaks, ticket_next, bound_next, turn_next, lost_next, turn_plan, lost_plan, ended_run, without_run}
 use Rattle.beldi_core.specs.Runs.{RunMap, OneLed}
-use Rattle.beldi_core.specs.Answers.{refused_by, lost_by, issued_by, bound_by, without_last}
+use Rattle.beldi_core.specs.Answers.{refused_by, lost_by, bound_by, without_last}
 use Rattle.beldi_core.specs.Host.{written, with_runs}
 use Rattle.beldi_laws.proofs.Lives.{remove_put}
 
@@ -40,20 +40,19 @@ pub idle : (e : Event) (c : Core) (i : ℕ) (x : Seen) (plan : Option Run → Pl
 idle e c i x plan at none is = subst (λ (o : Option Run). Answers e c (plan o) c (Ok x)) (sym none) (subst (λ p. Answers e c p c (Ok x)) (sym at) (refl, is))
 
 -- ---- a ticket
-pub issued : (c z : Core) (b : Bool) (x : Seen) → (z, x) ≡ issued_by c (c.newest + 1) b → ActSays Ticket c z x
-issued c z true x is = subst (λ (w : Core × Seen). ActSays Ticket c w.0 w.1) (sym is) (added, refl)
-issued c z false x is = subst (λ (w : Core × Seen). ActSays Ticket c w.0 w.1) (sym is) (absent, refl)
+pub issued : (c z : Core) (b : Bool) (x : Seen) → (z, x) ≡ ticket_next c b → ActSays Ticket c z x
+issued c z true x is = subst (λ (w : Core × Seen). ActSays Ticket c w.0 w.1) (sym is) (true, refl)
+issued c z false x is = subst (λ (w : Core × Seen). ActSays Ticket c w.0 w.1) (sym is) (false, refl)
 
 -- ---- a request
 pub requested : (c k z : Core) (t f i : ℕ) (a : Value) (e : Entry) (b : Binding) (x : Seen) → (z, x) ≡ bound_by k t i e b
     → without_last k ≡ c → (record k { book = k.book ++ e ∷ [] }) ≡ (bound_next c t f a).0 → i ≡ c.last_run + 1 → ActSays (Request t f a) c z x
 requested c k z t f i a e binding.Bound x is back on number =
-    subst (λ (w : Core × Seen). ActSays (Request t f a) c w.0 w.1) (sym is) (bound, λ j. (on j, seen.Bound t (number j)))
-requested c k z t f i a e binding.Running x is back on number = subst (λ (w : Core × Seen). ActSays (Request t f a) c w.0 w.1) (sym is) (running, λ j. (back j, seen.Running t))
-requested c k z t f i a e (binding.Other g v) x is back on number =
-    subst (λ (w : Core × Seen). ActSays (Request t f a) c w.0 w.1) (sym is) (other (record { func = g; args = v; tx = None; from = None }), λ j. (back j, seen.Other t g v))
-requested c k z t f i a e (binding.Ended o) x is back on number = subst (λ (w : Core × Seen). ActSays (Request t f a) c w.0 w.1) (sym is) (ended o, λ j. (back j, seen.Replied t o))
-requested c k z t f i a e binding.Gone x is back on number = subst (λ (w : Core × Seen). ActSays (Request t f a) c w.0 w.1) (sym is) (absent, λ j. (back j, seen.Gone t))
+    subst (λ (w : Core × Seen). ActSays (Request t f a) c w.0 w.1) (sym is) (binding.Bound, λ j. (on j, seen.Bound t (number j)))
+requested c k z t f i a e binding.Running x is back on number = subst (λ (w : Core × Seen). ActSays (Request t f a) c w.0 w.1) (sym is) (binding.Running, λ j. (back j, seen.Running t))
+requested c k z t f i a e (binding.Other g v) x is back on number = subst (λ (w : Core × Seen). ActSays (Request t f a) c w.0 w.1) (sym is) (binding.Other g v, λ j. (back j, seen.Other t g v))
+requested c k z t f i a e (binding.Ended o) x is back on number = subst (λ (w : Core × Seen). ActSays (Request t f a) c w.0 w.1) (sym is) (binding.Ended o, λ j. (back j, seen.Replied t o))
+requested c k z t f i a e binding.Gone x is back on number = subst (λ (w : Core × Seen). ActSays (Request t f a) c w.0 w.1) (sym is) (binding.Gone, λ j. (back j, seen.Gone t))
 
 -- ---- a turn of a live run
 pub live_turn : (d : Deployment) (c z : Core) (i : ℕ) (r : Result Seen AllocError) (o : Option Run) (b : Bool) → b ≡ is_some o → b ≡ true → ((k : RowKey) (a : Act) (f : Tell → Core × Seen) → Answers (Turn i) c (Do k a f) z r) → Answers (Turn i) c (turn_plan d c i o) z r

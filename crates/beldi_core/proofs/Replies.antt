@@ -8,7 +8,7 @@ use Rattle.beldi_row.specs.declared.act.Act.TheVariants.{Look}
 use Rattle.beldi_row.specs.declared.act.Said.{Said}
 use Rattle.beldi_row.specs.declared.table.TableErr.{TableErr}
 use Rattle.beldi_row.specs.Act.{act, tell_of}
-use Rattle.beldi_row.specs.Table.{Rows, Acted, ActedOn}
+use Rattle.beldi_row.specs.Table.{Rows, TableState, Acted, ActedOn}
 use Rattle.beldi_row.proofs.Tells.{tells_map}
 use Rattle.beldi_row.proofs.Unchanged.{looked}
 use Rattle.beldi_core.specs.declared.survey.OpenErr.{OpenErr}
@@ -24,24 +24,24 @@ right : (x : Result ReplySeen OpenErr) (s y : ReplySeen) → s ≡ y → IfOk x 
 right (Ok x) s y e h = h ∙ e
 right (Err e) s y p h = tt
 
-module _ (k key : RowKey) (now room new_room faults new_faults : ℕ) (before after : Option Rows) (r : Result Said TableErr) (said : Said) (was : r ≡ Ok said) (is : key ≡ k) (h : Acted Look now key room new_room faults new_faults before after r) where
-  told : Acted Look now k room new_room faults new_faults before after (Ok said)
-  told = subst (λ (l : RowKey). Acted Look now l room new_room faults new_faults before after (Ok said)) is (subst (λ (q : Result Said TableErr). Acted Look now key room new_room faults new_faults before after q) was h)
+module _ (k key : RowKey) (now : ℕ) (old new : TableState) (r : Result Said TableErr) (said : Said) (was : r ≡ Ok said) (is : key ≡ k) (h : Acted Look now key old new r) where
+  told : Acted Look now k old new (Ok said)
+  told = subst (λ (l : RowKey). Acted Look now l old new (Ok said)) is (subst (λ (q : Result Said TableErr). Acted Look now key old new q) was h)
 
-  seen_on : (x : Result ReplySeen OpenErr) → IfOk x (λ z. z ≡ told_seen (tell_of said)) → (m n : Rows) → ActedOn Look now k room m n (Ok said) → (n ≡ m) × IfOk x (λ z. z ≡ row_seen (map.get m k))
+  seen_on : (x : Result ReplySeen OpenErr) → IfOk x (λ z. z ≡ told_seen (tell_of said)) → (m n : Rows) → ActedOn Look now k old.room m n (Ok said) → (n ≡ m) × IfOk x (λ z. z ≡ row_seen (map.get m k))
   seen_on x right_of m n p = (p.0 ∙ looked now k m, right x (told_seen (tell_of said)) (row_seen (map.get m k)) (ap told_seen p.1 ∙ seen_at now (map.get m k)) right_of)
 
-  pub seen : (x : ReplySeen) → x ≡ told_seen (tell_of said) → Reads (λ m z. z ≡ row_seen (map.get m k)) room new_room faults new_faults before after (Ok x)
+  pub seen : (x : ReplySeen) → x ≡ told_seen (tell_of said) → Reads (λ m z. z ≡ row_seen (map.get m k)) old new (Ok x)
   seen x right_of = record {
-    rows = tells_map {P = λ m n. ActedOn Look now k room m n (Ok said)} {Q = λ m n. (n ≡ m) × IfOk {E = OpenErr} (Ok x) (λ z. z ≡ row_seen (map.get m k))} before after (seen_on (Ok x) right_of) told.rows;
+    rows = tells_map {P = λ m n. ActedOn Look now k old.room m n (Ok said)} {Q = λ m n. (n ≡ m) × IfOk {E = OpenErr} (Ok x) (λ z. z ≡ row_seen (map.get m k))} old.rows new.rows (seen_on (Ok x) right_of) told.rows;
     later = told.cause.later;
     failed = λ e. cc;
     room = told.room;
   }
 
-  pub unseen : Reads (λ m (z : ReplySeen). z ≡ row_seen (map.get m k)) room new_room faults new_faults before after (Err OutOfMemory)
+  pub unseen : Reads (λ m (z : ReplySeen). z ≡ row_seen (map.get m k)) old new (Err OutOfMemory)
   unseen = record {
-    rows = tells_map {P = λ m n. ActedOn Look now k room m n (Ok said)} {Q = λ m n. (n ≡ m) × IfOk {E = OpenErr} (Err OutOfMemory) (λ (z : ReplySeen). z ≡ row_seen (map.get m k))} before after (seen_on (Err OutOfMemory) tt) told.rows;
+    rows = tells_map {P = λ m n. ActedOn Look now k old.room m n (Ok said)} {Q = λ m n. (n ≡ m) × IfOk {E = OpenErr} (Err OutOfMemory) (λ (z : ReplySeen). z ≡ row_seen (map.get m k))} old.rows new.rows (seen_on (Err OutOfMemory) tt) told.rows;
     later = told.cause.later;
     failed = λ e. cc;
     room = told.room;

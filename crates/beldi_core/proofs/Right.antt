@@ -8,12 +8,12 @@ use Rattle.std.proofs.lemmas.Bool.Decides.{nat_tests}
 use Rattle.std.proofs.lemmas.List.{nil_from_length}
 use Rattle.beldi_value.specs.Id.{root_of}
 use Rattle.beldi_value.specs.declared.outcome.Outcome.{Outcome}
-use Rattle.beldi_lang.specs.declared.deployment.Deployment.{Deployment}
+use Rattle.beldi_tree.specs.declared.deployment.Deployment.{Deployment}
 use Rattle.beldi_row.specs.Key.{key_cmp}
 use Rattle.beldi_row.specs.declared.row.Body.{Body}
 use Rattle.beldi_row.specs.declared.row.Row.{Row}
 use Rattle.beldi_row.specs.declared.row.Row.TheVariants.{Intent}
-use Rattle.beldi_row.specs.Table.{Rows, Tells}
+use Rattle.beldi_row.specs.Table.{Rows, TableState, Tells}
 use Rattle.beldi_plain.specs.Plain.{PlainState, reply_of, outcome_of}
 use Rattle.beldi_step.specs.declared.event.Event.{Event}
 use Rattle.beldi_step.specs.declared.event.Seen.{Seen}
@@ -57,32 +57,39 @@ event_on d room old new e c b m n (Ok x) s h = (after_event d room old new e c b
 event_on d room old new e c b m n (Err w) s h = (after_break d e c b m n h s.1).right
 
 -- what the rows held stays
-stays_on : (d : Deployment) (room old new : ℕ) (e : Event) (c b : Core) (m n : Rows) (x : Result Seen AllocError) → EventOn d room old new e c m b n x → Right d c m → AnswersStay m n
-stays_on d room old new e c b m n (Ok x) s h = let a = after_event d room old new e c b m n x h s in answers_stay d m n h.plain a.right.plain h.rows a.right.rows a.goes_on
-stays_on d room old new e c b m n (Err w) s h = let a = after_break d e c b m n h s.1 in answers_stay d m n h.plain a.right.plain h.rows a.right.rows a.goes_on
+stays_on : (d : Deployment) (room old new : ℕ) (e : Event) (c b : Core) (m n : Rows) (x : Result Seen AllocError) → EventOn d room old new e c m b n x → AnswersStay m n
+stays_on d room old new e c b m n (Ok x) s = answers_stay.event d room old new e c b m n x s
+stays_on d room old new e c b m n (Err w) s = answers_stay.want_of_memory d e c b m n s.1
 
-pub event_stays : (d : Deployment) (e : Event) (c b : Core) (room new_room faults new_faults : ℕ) (before after : Option Rows) (x : Result Seen AllocError)
-    → Stepped d e c b room new_room faults new_faults before after x → RightAt d c before → StayAt before after
-event_stays d e c b room new_room faults new_faults None after x s h = tt
-event_stays d e c b room new_room faults new_faults (Some m) None x s h = absurd s.rows
-event_stays d e c b room new_room faults new_faults (Some m) (Some n) x s h = stays_on d room faults new_faults e c b m n x s.rows h
+stays_told : (d : Deployment) (room old new : ℕ) (e : Event) (c b : Core) (before after : Option Rows) (x : Result Seen AllocError)
+    → Tells before after (λ m n. EventOn d room old new e c m b n x) → StayAt before after
+stays_told d room old new e c b None after x s = tt
+stays_told d room old new e c b (Some m) None x s = absurd s
+stays_told d room old new e c b (Some m) (Some n) x s = stays_on d room old new e c b m n x s
+
+pub event_stays : (d : Deployment) (e : Event) (c b : Core) (old new : TableState) (x : Result Seen AllocError) → Stepped d e c b old new x → StayAt old.rows new.rows
+event_stays d e c b old new x s = stays_told d old.room old.faults new.faults e c b old.rows new.rows x s.rows
 
 not_told : false ≡ true → ⊥
 not_told h = cc
 
 -- no ticket is answered gone
-pub never_gone : (d : Deployment) (e : Event) (c b : Core) (room new_room faults new_faults : ℕ) (before after : Option Rows) (x : Result Seen AllocError)
-    → Stepped d e c b room new_room faults new_faults before after x → IsSome before → RightAt d c before → IfOk x (λ y. is_gone y ≡ false)
-never_gone d e c b room new_room faults new_faults before after (Err w) s told h = tt
-never_gone d e c b room new_room faults new_faults None after (Ok x) s told h = let clash : false ≡ true = told in absurd (not_told clash)
-never_gone d e c b room new_room faults new_faults (Some m) None (Ok x) s told h = absurd s.rows
-never_gone d e c b room new_room faults new_faults (Some m) (Some n) (Ok x) s told h = (after_event d room faults new_faults e c b m n x h s.rows).there
+none_gone : (d : Deployment) (room old new : ℕ) (e : Event) (c b : Core) (before after : Option Rows) (x : Result Seen AllocError)
+    → Tells before after (λ m n. EventOn d room old new e c m b n x) → IsSome before → RightAt d c before → IfOk x (λ y. is_gone y ≡ false)
+none_gone d room old new e c b before after (Err w) s told h = tt
+none_gone d room old new e c b None after (Ok x) s told h = let clash : false ≡ true = told in absurd (not_told clash)
+none_gone d room old new e c b (Some m) None (Ok x) s told h = absurd s
+none_gone d room old new e c b (Some m) (Some n) (Ok x) s told h = (after_event d room old new e c b m n x h s).there
+
+pub never_gone : (d : Deployment) (e : Event) (c b : Core) (old new : TableState) (x : Result Seen AllocError)
+    → Stepped d e c b old new x → IsSome old.rows → RightAt d c old.rows → IfOk x (λ y. is_gone y ≡ false)
+never_gone d e c b old new x s told h = none_gone d old.room old.faults new.faults e c b old.rows new.rows x s.rows told h
 
 -- an event
-pub event_keeps : (d k : Deployment) (e : Event) (c b : Core) (room new_room faults new_faults : ℕ) (before after : Option Rows) (x : Result Seen AllocError)
-    → k ≡ d → Stepped d e c b room new_room faults new_faults before after x → RightAt d c before → RightAt k b after
-event_keeps d k e c b room new_room faults new_faults before after x code s h =
-    subst (λ (z : Deployment). RightAt z b after) (sym code) (keeps d c b (λ m n. EventOn d room faults new_faults e c m b n x) before after (λ m n p r. event_on d room faults new_faults e c b m n x p r) s.rows h)
+pub event_keeps : (d k : Deployment) (e : Event) (c b : Core) (old new : TableState) (x : Result Seen AllocError)
+    → k ≡ d → Stepped d e c b old new x → RightAt d c old.rows → RightAt k b new.rows
+event_keeps d k e c b old new x code s h =
+    subst (λ (z : Deployment). RightAt z b new.rows) (sym code) (keeps d c b (λ m n. EventOn d old.room old.faults new.faults e c m b n x) old.rows new.rows (λ m n p r. event_on d old.room old.faults new.faults e c b m n x p r) s.rows h)
 
 -- ---- a host that was opened over no rows
 no_entries : map.entries (map.empty {X = Row} {R = key_cmp}) ≡ []
@@ -98,12 +105,16 @@ opened d c now (Some m) (Some n) core t none =
     subst (λ (y : Rows). Right d c y) (sym t.0) (subst (λ (z : Core). Right d z m) (sym (core ∙ ap (λ k. first_core k now) t.1)) (begins_right d now m none))
 
 -- ---- the listing
-pub listed : (d : Deployment) (c : Core) (old new : List ℕ) (room new_room faults new_faults : ℕ) (before after : Option Rows) (x : Result (Unit {0}) OpenErr)
-    → Reads (λ m u. new ≡ old ++ tables_text d m) room new_room faults new_faults before after x → RightAt d c before → OnOk x (ListedAt d c before old new)
-listed d c old new room new_room faults new_faults before after (Err w) s h = tt
-listed d c old new room new_room faults new_faults None after (Ok u) s h = tt
-listed d c old new room new_room faults new_faults (Some m) None (Ok u) s h = absurd s.rows
-listed d c old new room new_room faults new_faults (Some m) (Some n) (Ok u) s h = λ p is. s.rows.1 ∙ ap (λ t. old ++ t) (listing_plain d c m p h is)
+listed_told : (d : Deployment) (c : Core) (text longer : List ℕ) (before after : Option Rows) (x : Result (Unit {0}) OpenErr)
+    → Tells before after (λ m n. (n ≡ m) × IfOk x (λ u. longer ≡ text ++ tables_text d m)) → RightAt d c before → OnOk x (ListedAt d c before text longer)
+listed_told d c text longer before after (Err w) s h = tt
+listed_told d c text longer None after (Ok u) s h = tt
+listed_told d c text longer (Some m) None (Ok u) s h = absurd s
+listed_told d c text longer (Some m) (Some n) (Ok u) s h = λ p is. s.1 ∙ ap (λ t. text ++ t) (listing_plain d c m p h is)
+
+pub listed : (d : Deployment) (c : Core) (text longer : List ℕ) (old new : TableState) (x : Result (Unit {0}) OpenErr)
+    → Reads (λ m u. longer ≡ text ++ tables_text d m) old new x → RightAt d c old.rows → OnOk x (ListedAt d c old.rows text longer)
+listed d c text longer old new x s h = listed_told d c text longer old.rows new.rows x s.rows h
 
 -- ---- a reply
 issued_if : (t n : ℕ) → is_unknown n t ≡ false → (nat_lt 0 t && nat_le t n) ≡ true
@@ -141,9 +152,13 @@ module _ (d : Deployment) (c : Core) (m : Rows) (h : Right d c m) (t : ℕ) wher
   pub said_of : SaidOf d c.book t (reply_seen c.newest t m)
   said_of = by_ticket (is_unknown c.newest t) refl
 
-pub said : (d : Deployment) (c : Core) (t : ℕ) (room new_room faults new_faults : ℕ) (before after : Option Rows) (x : Result ReplySeen OpenErr)
-    → Reads (λ m y. y ≡ reply_seen c.newest t m) room new_room faults new_faults before after x → RightAt d c before → IfOk x (λ y. SaidAt d c before t y)
-said d c t room new_room faults new_faults before after (Err w) s h = tt
-said d c t room new_room faults new_faults None after (Ok y) s h = tt
-said d c t room new_room faults new_faults (Some m) None (Ok y) s h = absurd s.rows
-said d c t room new_room faults new_faults (Some m) (Some n) (Ok y) s h = subst (λ (z : ReplySeen). SaidOf d c.book t z) (sym s.rows.1) (said_of d c m h t)
+said_told : (d : Deployment) (c : Core) (t : ℕ) (before after : Option Rows) (x : Result ReplySeen OpenErr)
+    → Tells before after (λ m n. (n ≡ m) × IfOk x (λ y. y ≡ reply_seen c.newest t m)) → RightAt d c before → IfOk x (λ y. SaidAt d c before t y)
+said_told d c t before after (Err w) s h = tt
+said_told d c t None after (Ok y) s h = tt
+said_told d c t (Some m) None (Ok y) s h = absurd s
+said_told d c t (Some m) (Some n) (Ok y) s h = subst (λ (z : ReplySeen). SaidOf d c.book t z) (sym s.1) (said_of d c m h t)
+
+pub said : (d : Deployment) (c : Core) (t : ℕ) (old new : TableState) (x : Result ReplySeen OpenErr)
+    → Reads (λ m y. y ≡ reply_seen c.newest t m) old new x → RightAt d c old.rows → IfOk x (λ y. SaidAt d c old.rows t y)
+said d c t old new x s h = said_told d c t old.rows new.rows x s.rows h

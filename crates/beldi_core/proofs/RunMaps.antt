@@ -1,5 +1,5 @@
 -- The runs as a map, and a turn of one of them.
-use Rattle.std.proofs.Common.{◌≡◌, ℕ, ◌+◌, ◌-◌, ◌<◌, ◌≤◌, Bool, true, false, cond, List, [], ◌∷◌, Option, None, Some, Result, Ok, Err, refl, ap, sym, ◌∙◌, subst, arith}
+use Rattle.std.proofs.Common.{◌≡◌, ℕ, ◌+◌, ◌-◌, ◌<◌, ◌≤◌, Bool, true, false, cond, List, [], ◌∷◌, Option, None, Some, is_none, Result, Ok, Err, refl, ap, sym, ◌∙◌, subst, arith}
 use Rattle.std.specs.Prelude.{nat_lt, IsSome, if◌then◌else◌, ◌&&◌, filter}
 use Rattle.std.specs.Option.{MatchOption, option_map}
 use denote.Bor.{Bor}
@@ -12,8 +12,8 @@ use Rattle.std.specs.FinMap.{nat_cmp-IsAntisymmetric, get-insert, get-remove, sa
 use Rattle.std.specs.Cmp.{nat_cmp_total, Equal-is}
 use Rattle.std.specs.Ordering.{nat_cmp, eq_by_cmp, is_eq, is_lt}
 use Rattle.std.proofs.lemmas.Cmp.{eq_by_cmp_equiv, tied_itself}
-use Rattle.beldi_lang.specs.declared.deployment.Deployment.{Deployment}
-use Rattle.beldi_row.specs.Table.{Rows}
+use Rattle.beldi_tree.specs.declared.deployment.Deployment.{Deployment}
+use Rattle.beldi_row.specs.Table.{Rows, TableState}
 use Rattle.beldi_row.specs.declared.table.TableErr.TheVariants.{OutOfMemory, Failed, Full}
 use Rattle.beldi_row.proofs.Rows.{get_rows, same_set, none_removed, entries_rows}
 use Rattle.beldi_row.proofs.Tells.{tells_map}
@@ -22,7 +22,7 @@ use Rattle.beldi_step.specs.declared.turn.TurnSays.{TurnSays}
 use Rattle.beldi_step.specs.declared.turn.TurnErr.{TurnErr}
 use Rattle.beldi_step.specs.declared.turn.TurnErr.TheVariants.{Lost, Stopped}
 use Rattle.beldi_step.specs.Run.{Turned}
-use Rattle.beldi_step.specs.Host.{put_run, is_none}
+use Rattle.beldi_step.specs.Host.{put_run}
 use Rattle.beldi_laws.proofs.Lives.{remove_put}
 use Rattle.beldi_step.specs.Turn.{Ran, RanOn, StandsAtFull, going, turned_by}
 use Rattle.beldi_core.specs.Runs.{RunMap, AllGiven, withdrawn, says_of, ends_run, settled, Led, LedOn, OneLed, first_past, next_number}
@@ -103,15 +103,16 @@ one_led a b i r s (Err (Stopped OutOfMemory)) is here h = is ∙ remove_set a i 
 one_led a b i r s (Err (Stopped Failed)) is here h = is ∙ remove_set a i s
 one_led a b i r s (Err (Stopped (Full live most))) is here h = is ∙ ap (map.insert a i) h ∙ same_set nat_cmp_total nat_cmp-IsAntisymmetric a i r here
 
-pub led : (d : Deployment) (changes : ℕ) (a b c : RunMap) (i : ℕ) (r s : Run) (now room new_room faults new_faults : ℕ) (before after : Option Rows) (x : Result TurnSays TurnErr) → map.get a i ≡ Some r → b ≡ map.insert a i s → c ≡ settled (ends_run x) b i
-    → Ran d r changes r.at s now room new_room faults new_faults before after x → Led d changes a c i now room new_room faults new_faults before after x
-led d changes a b c i r s now room new_room faults new_faults before after x here set is h = record {
-  rows = tells_map {P = λ m n. RanOn d r changes r.at s now room m n x} {Q = λ m n. LedOn d changes a c i (map.get a i) now room m n x} before after
-      (λ m n p. subst (λ (o : Option Run). LedOn d changes a c i o now room m n x) (sym here) (led_on d changes a c i r s now room m n x (is ∙ ap (λ q. settled (ends_run x) q i) set) here h.stands p)) h.rows;
+pub led : (d : Deployment) (changes : ℕ) (a b c : RunMap) (i : ℕ) (r s : Run) (now : ℕ) (old new : TableState) (x : Result TurnSays TurnErr) → map.get a i ≡ Some r → b ≡ map.insert a i s → c ≡ settled (ends_run x) b i
+    → Ran d r changes r.at s now old new x → Led d changes a c i now old new x
+led d changes a b c i r s now old new x here set is h = record {
+  rows = tells_map {P = λ m n. RanOn d r changes r.at s now old.room m n x} {Q = λ m n. LedOn d changes a c i (map.get a i) now old.room m n x} old.rows new.rows
+      (λ m n p. subst (λ (o : Option Run). LedOn d changes a c i o now old.room m n x) (sym here) (led_on d changes a c i r s now old.room m n x (is ∙ ap (λ q. settled (ends_run x) q i) set) here h.stands p)) h.rows;
   one = one_led a c i r s x (is ∙ ap (λ q. settled (ends_run x) q i) set) here h.stands;
   later = h.later;
   failed = h.failed;
   room = h.room;
+  calls = h.calls;
 }
 
 pub absent_run : (o : Option Run) → IsSome o → o ≡ None → ⊥

@@ -8,14 +8,14 @@ use Rattle.std.specs.declared.cmp.Ordering.{Ordering}
 use Rattle.std.specs.declared.cmp.Ordering.TheVariants.{Less, Equal, Greater}
 use Rattle.std.proofs.lemmas.Cmp.{tied_itself}
 use Rattle.std.specs.Cmp.{nat_cmp_is}
-use Rattle.beldi_lang.specs.declared.deployment.Deployment.{Deployment}
+use Rattle.beldi_tree.specs.declared.deployment.Deployment.{Deployment}
 use Rattle.beldi_row.specs.Key.{key_cmp, kind_cmp, key_ticket, ticket_of, least_key}
 use Rattle.beldi_row.specs.KeyOrder.{key_total}
 use Rattle.beldi_row.specs.declared.key.RowKey.{RowKey}
 use Rattle.beldi_row.specs.declared.key.Kind.{Kind}
 use Rattle.beldi_row.specs.declared.key.Kind.TheVariants.{Intent, ReadLog, Invoke, Data, Shadow, Lockset}
 use Rattle.beldi_row.specs.declared.row.Row.{Row}
-use Rattle.beldi_row.specs.Table.{Rows, Tells, first_above, next_row}
+use Rattle.beldi_row.specs.Table.{Rows, TableState, Tells, first_above, next_row}
 use Rattle.beldi_step.specs.Tables.{row_line, line_at, tables_text}
 use Rattle.beldi_core.specs.Survey.{Reads, greatest, newest_of, next_key_of, next_line_of}
 
@@ -179,18 +179,18 @@ listed_last d text new k m h next =
     e.1 ∙ sym (append-nil text) ∙ ap (λ es. text ++ flat_map (row_line d) es) (sym (at_end m k e.0)) ∙ h
 
 -- ---- a reading that goes on, and ends
-pub record Surveying (P : Rows → Type 0) (old_room new_room old_faults new_faults : ℕ) (before after : Option Rows) : Type 0 where
-  pub rows : Tells before after (λ m n. (n ≡ m) × P m)
-  pub later : old_faults ≤ new_faults
-  pub room : new_room ≡ old_room
+pub record Surveying (P : Rows → Type 0) (old new : TableState) : Type 0 where
+  pub rows : Tells old.rows new.rows (λ m n. (n ≡ m) × P m)
+  pub later : old.faults ≤ new.faults
+  pub room : new.room ≡ old.room
 
 same_rows : (P : Rows → Rows → Type 0) (rows : Option Rows) → ((m : Rows) → P m m) → Tells rows rows P
 same_rows P None f = refl
 same_rows P (Some m) f = f m
 
-pub begins : (P : Rows → Type 0) → ((m : Rows) → P m) → (room faults : ℕ) (rows : Option Rows) → Surveying P room room faults faults rows rows
-begins P f room faults rows = record {
-  rows = same_rows (λ m n. (n ≡ m) × P m) rows (λ m. (refl, f m));
+pub begins : (P : Rows → Type 0) → ((m : Rows) → P m) → (a : TableState) → Surveying P a a
+begins P f a = record {
+  rows = same_rows (λ m n. (n ≡ m) × P m) a.rows (λ m. (refl, f m));
   later = omega arith;
   room = refl;
 }
@@ -201,17 +201,17 @@ join P Q R f (Some m) None c h k = absurd h
 join P Q R f (Some m) (Some n) None h k = absurd k
 join P Q R f (Some m) (Some n) (Some o) h k = (k.0 ∙ h.0, f m h.1 (subst (λ (q : Rows). Q q) h.0 k.1))
 
-module _ {X : Type 0} (P : Rows → Type 0) (Q : Rows → X → Type 0) (room room1 room2 faults faults1 faults2 : ℕ) (a b c : Option Rows) (h : Surveying P room room1 faults faults1 a b) where
-  pub goes : (S : Rows → Type 0) (x : X) → ((m : Rows) → P m → Q m x → S m) → Reads Q room1 room2 faults1 faults2 b c (Ok x) → Surveying S room room2 faults faults2 a c
+module _ {X : Type 0} (P : Rows → Type 0) (Q : Rows → X → Type 0) (a b c : TableState) (h : Surveying P a b) where
+  pub goes : (S : Rows → Type 0) (x : X) → ((m : Rows) → P m → Q m x → S m) → Reads Q b c (Ok x) → Surveying S a c
   goes S x f k = record {
-    rows = join P (λ m. Q m x) S f a b c h.rows k.rows;
+    rows = join P (λ m. Q m x) S f a.rows b.rows c.rows h.rows k.rows;
     later = omega (arith, h.later, k.later);
     room = k.room ∙ h.room;
   }
 
-  pub ends : {Y : Type 0} (R : Rows → Y → Type 0) (x : X) (y : Y) → ((m : Rows) → P m → Q m x → R m y) → Reads Q room1 room2 faults1 faults2 b c (Ok x) → Reads R room room2 faults faults2 a c (Ok y)
+  pub ends : {Y : Type 0} (R : Rows → Y → Type 0) (x : X) (y : Y) → ((m : Rows) → P m → Q m x → R m y) → Reads Q b c (Ok x) → Reads R a c (Ok y)
   ends R x y f k = record {
-    rows = join P (λ m. Q m x) (λ m. R m y) f a b c h.rows k.rows;
+    rows = join P (λ m. Q m x) (λ m. R m y) f a.rows b.rows c.rows h.rows k.rows;
     later = omega (arith, h.later, k.later);
     failed = λ e. cc;
     room = k.room ∙ h.room;

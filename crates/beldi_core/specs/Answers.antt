@@ -1,5 +1,5 @@
 -- The answers to events, by what their acts came to.
-use Rattle.std.specs.Prelude.{ℕ, ◌++◌, ◌∷◌, [], Bool, true, false, Result, Ok, Err}
+use Rattle.std.specs.Prelude.{ℕ, ◌++◌, ◌∷◌, [], Result, Ok, Err}
 use Rattle.std.specs.declared.alloc.AllocError.{AllocError}
 use Rattle.beldi_row.specs.declared.table.TableErr.{TableErr}
 use Rattle.beldi_row.specs.declared.table.TableErr.TheVariants.{OutOfMemory, Failed, Full}
@@ -8,7 +8,7 @@ use Rattle.beldi_step.specs.declared.event.Seen.{Seen}
 use Rattle.beldi_step.specs.declared.event.Seen.TheVariants as seen
 use Rattle.beldi_step.specs.declared.intent.Binding.{Binding}
 use Rattle.beldi_step.specs.declared.intent.Binding.TheVariants as binding
-use Rattle.beldi_step.specs.Host.{Core}
+use Rattle.beldi_step.specs.Host.{Core, unbound}
 use Rattle.beldi_core.specs.Runs.{Numbered, withdrawn}
 
 -- an error of a table, as an event is answered
@@ -23,19 +23,6 @@ lost_by OutOfMemory = Err (record {})
 lost_by Failed = Ok seen.Dropped
 lost_by (Full live room) = Ok seen.Dropped
 
--- the answer to a request that was not bound now
-abbrev pub unbound : ℕ → Binding → Seen
-unbound t binding.Bound = seen.Gone t
-unbound t binding.Running = seen.Running t
-unbound t (binding.Other f a) = seen.Other t f a
-unbound t (binding.Ended o) = seen.Replied t o
-unbound t binding.Gone = seen.Gone t
-
--- a ticket, by whether its row was added
-abbrev pub issued_by : Core → ℕ → Bool → Core × Seen
-issued_by c t true = (record c { newest = t }, seen.Issued t)
-issued_by c t false = (c, seen.Gone t)
-
 abbrev pub runs_of : Core → Numbered
 runs_of c = record { runs = c.runs; given = c.last_run }
 
@@ -46,7 +33,4 @@ without_last c = record c { runs = (withdrawn (runs_of c)).runs; last_run = (wit
 -- a request whose run was started, by what its bind came to
 abbrev pub bound_by : Core → ℕ → ℕ → Entry → Binding → Core × Seen
 bound_by c t i e binding.Bound = (record c { book = c.book ++ e ∷ [] }, seen.Bound t i)
-bound_by c t i e binding.Running = (without_last c, unbound t binding.Running)
-bound_by c t i e (binding.Other f a) = (without_last c, unbound t (binding.Other f a))
-bound_by c t i e (binding.Ended o) = (without_last c, unbound t (binding.Ended o))
-bound_by c t i e binding.Gone = (without_last c, unbound t binding.Gone)
+bound_by c t i e b = (without_last c, unbound t b)

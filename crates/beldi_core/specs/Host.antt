@@ -1,9 +1,9 @@
 -- The host as the core that events speak of, and an event that was counted.
 use Rattle.std.specs.Prelude.{◌≡◌, ℕ, false, ◌≤◌, ◌++◌, Option, Result, Ok, Err, option_to_list}
 use Rattle.std.specs.declared.alloc.AllocError.{AllocError}
-use Rattle.beldi_lang.specs.declared.deployment.Deployment.{Deployment}
+use Rattle.beldi_tree.specs.declared.deployment.Deployment.{Deployment}
 use Rattle.beldi_row.specs.declared.table.Table.{Ghosts}
-use Rattle.beldi_row.specs.Table.{Rows, Tells, Rose}
+use Rattle.beldi_row.specs.Table.{Rows, TableState, Tells, Rose, AtMostOne}
 use Rattle.beldi_book.specs.declared.entry.Entry.{Entry}
 use Rattle.beldi_step.specs.declared.event.Event.{Event}
 use Rattle.beldi_step.specs.declared.event.Seen.{Seen}
@@ -27,8 +27,9 @@ abbrev pub CarriedOn : Deployment → ℕ → ℕ → ℕ → Event → Core →
 CarriedOn d room old new e c m b n (Ok x) = Follows room old new e c (plan_of d e c) m b n x
 CarriedOn d room old new e c m b n (Err w) = Wanting d e c m b n
 
-pub record Carried (d : Deployment) (e : Event) (c b : Core) (old_room new_room old_faults new_faults : ℕ) (before after : Option Rows) (result : Result Seen AllocError) : Type 0 where
-  pub rows : Tells before after (λ m n. CarriedOn d old_room old_faults new_faults e c m b n result)
-  pub later : old_faults ≤ new_faults
-  pub failed : result ≡ Ok seen.Dropped → is_lost e ≡ false → Rose old_faults new_faults
-  pub room : new_room ≡ old_room
+pub record Carried (d : Deployment) (e : Event) (c b : Core) (old new : TableState) (result : Result Seen AllocError) : Type 0 where
+  pub rows : Tells old.rows new.rows (λ m n. CarriedOn d old.room old.faults new.faults e c m b n result)
+  pub later : old.faults ≤ new.faults
+  pub failed : result ≡ Ok seen.Dropped → is_lost e ≡ false → Rose old.faults new.faults
+  pub room : new.room ≡ old.room
+  pub calls : AtMostOne old.calls new.calls

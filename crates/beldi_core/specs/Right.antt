@@ -1,7 +1,7 @@
 -- What the calls of a host keep. Where the table does not tell its rows, nothing is said.
 use Rattle.std.specs.Prelude.{◌≡◌, ℕ, ◌++◌, List, IsSome, Option, Some, None}
 use Rattle.std.specs.FinMap as map
-use Rattle.beldi_lang.specs.declared.deployment.Deployment.{Deployment}
+use Rattle.beldi_tree.specs.declared.deployment.Deployment.{Deployment}
 use Rattle.beldi_row.specs.declared.table.Table.{Ghosts}
 use Rattle.beldi_row.specs.Table.{Rows}
 use Rattle.beldi_book.specs.declared.entry.Entry.{Entry}
@@ -73,32 +73,32 @@ SaidAt d c (Some m) t x = SaidOf d c.book t x
 -- ---- of a host and its table
 -- the host and its rows are right
 abbrev pub IsRight : {T : Type 0} {G : Ghosts T} → Host T G → Type 0
-IsRight {T} {G} h = RightAt h.code (core_of h) (G.rows h.table)
+IsRight {T} {G} h = RightAt h.code (core_of h) (G.state h.table).rows
 
 -- its rows are told
 abbrev pub HasRows : {T : Type 0} {G : Ghosts T} → Host T G → Type 0
-HasRows {T} {G} h = IsSome (G.rows h.table)
+HasRows {T} {G} h = IsSome (G.state h.table).rows
 
 -- its book is legal
 abbrev pub HasLegalBook : {T : Type 0} {G : Ghosts T} → Host T G → Type 0
-HasLegalBook {T} {G} h = LegalAt h.code (core_of h) (G.rows h.table)
+HasLegalBook {T} {G} h = LegalAt h.code (core_of h) (G.state h.table).rows
 
 -- its rows stand for the run of its book
 abbrev pub RowsStand : {T : Type 0} {G : Ghosts T} → Host T G → Type 0
-RowsStand {T} {G} h = StandsAt h.code (core_of h) (G.rows h.table)
+RowsStand {T} {G} h = StandsAt h.code (core_of h) (G.state h.table).rows
 
 -- each step of an instance has one answer, whichever run asks for it: the one that its rows hold
 abbrev pub HasOneAnswerPerStep : {T : Type 0} {G : Ghosts T} → Host T G → Type 0
-HasOneAnswerPerStep {T} {G} h = OneAnswerAt h.code (core_of h) (G.rows h.table)
+HasOneAnswerPerStep {T} {G} h = OneAnswerAt h.code (core_of h) (G.state h.table).rows
 
 -- the answers that the first one's rows hold are held by the second one's
 abbrev pub AnswersAreKept : {T : Type 0} {G : Ghosts T} → Host T G → Host T G → Type 0
-AnswersAreKept {T} {G} h k = StayAt (G.rows h.table) (G.rows k.table)
+AnswersAreKept {T} {G} h k = StayAt (G.state h.table).rows (G.state k.table).rows
 
 -- the text was the old one, and has the listing of the run of its book after it
 abbrev pub ListsRun : {T : Type 0} {G : Ghosts T} → Host T G → List ℕ → List ℕ → Type 0
-ListsRun {T} {G} h old new = ListedAt h.code (core_of h) (G.rows h.table) old new
+ListsRun {T} {G} h old new = ListedAt h.code (core_of h) (G.state h.table).rows old new
 
 -- what is said of the ticket's reply is so in the run of its book
 abbrev pub TellsRun : {T : Type 0} {G : Ghosts T} → Host T G → ℕ → ReplySeen → Type 0
-TellsRun {T} {G} h t x = SaidAt h.code (core_of h) (G.rows h.table) t x
+TellsRun {T} {G} h t x = SaidAt h.code (core_of h) (G.state h.table).rows t x

@@ -1,18 +1,18 @@
 -- The live runs by number, and what a turn of one of them does.
-use Rattle.std.specs.Prelude.{◌≡◌, ℕ, ◌+◌, ◌-◌, ◌≤◌, ◌<◌, Bool, true, false, IsTrue, IsErrOf, IsSome, List, [], ◌∷◌, if◌then◌else◌, Option, Some, None, Result, Ok, Err}
+use Rattle.std.specs.Prelude.{◌≡◌, ℕ, ◌+◌, ◌-◌, ◌≤◌, ◌<◌, Bool, true, false, IsTrue, IsErrOf, IsSome, List, [], ◌∷◌, if◌then◌else◌, Option, Some, None, is_none, Result, Ok, Err}
 use Rattle.std.specs.FinMap as map
 use Rattle.std.specs.FinMap.{FinMap}
 use Rattle.std.specs.BTreeMap.{BTreeMap}
 use Rattle.std.specs.Ordering.{nat_cmp, is_lt}
-use Rattle.beldi_lang.specs.declared.deployment.Deployment.{Deployment}
+use Rattle.beldi_tree.specs.declared.deployment.Deployment.{Deployment}
 use Rattle.beldi_row.specs.declared.table.TableErr.TheVariants.{OutOfMemory, Failed, Full}
-use Rattle.beldi_row.specs.Table.{Rows, IsFull, after_act, tell_act, adds, Tells, Rose}
+use Rattle.beldi_row.specs.Table.{Rows, TableState, IsFull, after_act, tell_act, adds, Tells, Rose, AtMostOne}
 use Rattle.beldi_step.specs.declared.run.Run.{Run}
 use Rattle.beldi_step.specs.declared.turn.TurnSays.{TurnSays}
 use Rattle.beldi_step.specs.declared.turn.TurnErr.{TurnErr}
 use Rattle.beldi_step.specs.declared.turn.TurnErr.TheVariants.{Lost, Stopped}
 use Rattle.beldi_step.specs.Run.{Turned, run_key, run_act, run_turned}
-use Rattle.beldi_step.specs.Host.{put_run, is_none}
+use Rattle.beldi_step.specs.Host.{put_run}
 
 abbrev pub RunMap : Type 0
 RunMap = FinMap nat_cmp Run
@@ -85,9 +85,10 @@ OneLed a i b (Err (Stopped OutOfMemory)) = b ≡ map.remove a i
 OneLed a i b (Err (Stopped Failed)) = b ≡ map.remove a i
 OneLed a i b (Err (Stopped (Full live most))) = b ≡ a
 
-pub record Led (d : Deployment) (changes : ℕ) (a b : RunMap) (i now old_room new_room old_faults new_faults : ℕ) (before after : Option Rows) (result : Result TurnSays TurnErr) : Type 0 where
-  pub rows : Tells before after (λ m n. LedOn d changes a b i (map.get a i) now old_room m n result)
+pub record Led (d : Deployment) (changes : ℕ) (a b : RunMap) (i now : ℕ) (old new : TableState) (result : Result TurnSays TurnErr) : Type 0 where
+  pub rows : Tells old.rows new.rows (λ m n. LedOn d changes a b i (map.get a i) now old.room m n result)
   pub one : OneLed a i b result
-  pub later : old_faults ≤ new_faults
-  pub failed : IsErrOf result (Stopped Failed) → Rose old_faults new_faults
-  pub room : new_room ≡ old_room
+  pub later : old.faults ≤ new.faults
+  pub failed : IsErrOf result (Stopped Failed) → Rose old.faults new.faults
+  pub room : new.room ≡ old.room
+  pub calls : AtMostOne old.calls new.calls

@@ -2,13 +2,13 @@
 use Rattle.std.specs.Prelude.{◌≡◌, ◌⊎◌, ℕ, ◌≤◌, ◌==◌, ◌||◌, max, IsSome, nat_lt, Bool, ◌++◌, List, [], ◌∷◌, Option, Some, None, Result, IfOk, OnOk, IsErrOf, if◌then◌else◌}
 use Rattle.std.specs.FinMap as map
 use Rattle.beldi_value.specs.declared.outcome.Outcome.{Outcome}
-use Rattle.beldi_lang.specs.declared.deployment.Deployment.{Deployment}
+use Rattle.beldi_tree.specs.declared.deployment.Deployment.{Deployment}
 use Rattle.beldi_row.specs.Key.{key_ticket}
 use Rattle.beldi_row.specs.declared.key.RowKey.{RowKey}
 use Rattle.beldi_row.specs.declared.row.Row.{Row}
 use Rattle.beldi_row.specs.declared.row.Row.TheVariants.{Intent}
 use Rattle.beldi_row.specs.Act.{Tell, absent, here}
-use Rattle.beldi_row.specs.Table.{Rows, Tells, Rose}
+use Rattle.beldi_row.specs.Table.{Rows, TableState, Tells, Rose}
 use Rattle.beldi_step.specs.Host.{Core, first_core, root_key}
 use Rattle.beldi_step.specs.Tables.{row_line}
 use Rattle.beldi_core.specs.declared.survey.OpenErr.{OpenErr}
@@ -17,11 +17,11 @@ use Rattle.beldi_core.specs.declared.survey.ReplySeen.{ReplySeen}
 use Rattle.beldi_core.specs.declared.survey.ReplySeen.TheVariants.{Unknown, Gone, Waiting, Reply}
 
 -- the rows are as before, and an answer is right of them
-pub record Reads {X : Type 0} (P : Rows → X → Type 0) (old_room new_room old_faults new_faults : ℕ) (before after : Option Rows) (result : Result X OpenErr) : Type 0 where
-  pub rows : Tells before after (λ m n. (n ≡ m) × IfOk result (P m))
-  pub later : old_faults ≤ new_faults
-  pub failed : IsErrOf result Failed → Rose old_faults new_faults
-  pub room : new_room ≡ old_room
+pub record Reads {X : Type 0} (P : Rows → X → Type 0) (old new : TableState) (result : Result X OpenErr) : Type 0 where
+  pub rows : Tells old.rows new.rows (λ m n. (n ≡ m) × IfOk result (P m))
+  pub later : old.faults ≤ new.faults
+  pub failed : IsErrOf result Failed → Rose old.faults new.faults
+  pub room : new.room ≡ old.room
 
 -- the greatest ticket that a key names, 0 where there is none
 abbrev pub greatest : List (RowKey × Row) → ℕ
@@ -46,25 +46,25 @@ next_line_of d text None = (None, text)
 next_line_of d text (Some e) = (Some e.0, text ++ row_line d e)
 
 -- a table is made ready for a host: its room is set
-pub record Prepared (wanted old_room new_room old_faults new_faults : ℕ) (before after : Option Rows) (result : Result ℕ OpenErr) : Type 0 where
-  pub rows : Tells before after (λ m n. (n ≡ m) × IfOk result (λ x. x ≡ newest_of m))
-  pub later : old_faults ≤ new_faults
-  pub failed : IsErrOf result Failed → Rose old_faults new_faults
-  pub room : OnOk result (new_room ≡ wanted)
+pub record Prepared (wanted : ℕ) (old new : TableState) (result : Result ℕ OpenErr) : Type 0 where
+  pub rows : Tells old.rows new.rows (λ m n. (n ≡ m) × IfOk result (λ x. x ≡ newest_of m))
+  pub later : old.faults ≤ new.faults
+  pub failed : IsErrOf result Failed → Rose old.faults new.faults
+  pub room : OnOk result (new.room ≡ wanted)
 
 -- a host that was opened: nothing has happened to it
-pub record Opened (code kept : Deployment) (now room old_faults new_faults : ℕ) (before after : Option Rows) (c : Core) : Type 0 where
-  pub rows : Tells before after (λ m n. (n ≡ m) × (c.newest ≡ newest_of m))
+pub record Opened (code kept : Deployment) (now : ℕ) (old new : TableState) (c : Core) : Type 0 where
+  pub rows : Tells old.rows new.rows (λ m n. (n ≡ m) × (c.newest ≡ newest_of m))
   pub core : c ≡ first_core c.newest now
   pub code_kept : kept ≡ code
-  pub room_set : room ≡ code.room
-  pub later : old_faults ≤ new_faults
+  pub room_set : new.room ≡ code.room
+  pub later : old.faults ≤ new.faults
 
 -- the table is given back
-pub record Refused (old_faults new_faults : ℕ) (before after : Option Rows) (why : OpenErr) : Type 0 where
-  pub rows : Tells before after (λ m n. n ≡ m)
-  pub later : old_faults ≤ new_faults
-  pub failed : why ≡ Failed → Rose old_faults new_faults
+pub record Refused (old new : TableState) (why : OpenErr) : Type 0 where
+  pub rows : Tells old.rows new.rows (λ m n. n ≡ m)
+  pub later : old.faults ≤ new.faults
+  pub failed : why ≡ Failed → Rose old.faults new.faults
 
 abbrev pub NewestAt : Option Rows → ℕ → Type 0
 NewestAt None t = Unit {0}

@@ -1,7 +1,7 @@
 // The host: each event is carried out by its plan.
 ghost use Rattle.std.specs.Prelude.{◌≡◌, ◌++◌, ◌+◌, ◌≤◌, ◌<◌, ◌^◌, ◌↔◌, IsTrue, IsSome, false, Ok, IfOk, IfErr, OnOk, OnErr, option_to_list};
-ghost use Rattle.beldi_step.specs.Host.{Core, no_run as no_run_of};
-ghost use Rattle.beldi_core.specs.Answers.{refused_by, lost_by, unbound, issued_by, bound_by};
+ghost use Rattle.beldi_step.specs.Host.{Core, no_run as no_run_of, ticket_next, unbound};
+ghost use Rattle.beldi_core.specs.Answers.{refused_by, lost_by, bound_by};
 
 use crate::runs::Runs;
 use crate::survey::{OpenErr, ReplySeen, list_tables, prepare, read_reply};
@@ -85,7 +85,7 @@ fn write(book: &mut Book, entry: Option<Entry>)
 
 impl<T: Table> Host<T> {
     ghost use Rattle.std.specs.FinMap as map;
-    ghost use Rattle.beldi_row.specs.Table.{IsCount};
+    ghost use Rattle.beldi_row.specs.Table.{IsCount, AtMostOne};
     ghost use Rattle.beldi_step.specs.Host.{Stepped, Answers, plan_of, ended_run, without_run};
     ghost use Rattle.beldi_step.specs.declared.event.Event.TheVariants as events;
     ghost use Rattle.beldi_step.specs.declared.event.Seen.TheVariants.{Acted, Dropped};
@@ -107,13 +107,13 @@ impl<T: Table> Host<T> {
         now: u64,
     ) -> Result<Host<T>, (T, OpenErr)>
         requires { now ≤ 2 ^ 62 }
-        ensures ok { IfOk result (λ h. Opened code h.code now (T.room h.table) (T.faults table) (T.faults h.table) (T.rows table) (T.rows h.table) (core_of h)) }
-        ensures err { IfErr result (λ e. Refused (T.faults table) (T.faults e.0) (T.rows table) (T.rows e.0) e.1) }
-        ensures newest { IfOk result (λ h. NewestAt (T.rows table) h.newest) }
-        ensures right { IfOk result (λ h. HasNoRows (T.rows table) → IsRight h) }
-        ensures legal { IfOk result (λ h. HasNoRows (T.rows table) → HasLegalBook h) }
-        ensures stands { IfOk result (λ h. HasNoRows (T.rows table) → RowsStand h) }
-        ensures one_answer { IfOk result (λ h. HasNoRows (T.rows table) → HasOneAnswerPerStep h) }
+        ensures ok { IfOk result (λ h. Opened code h.code now (T.state table) (T.state h.table) (core_of h)) }
+        ensures err { IfErr result (λ e. Refused (T.state table) (T.state e.0) e.1) }
+        ensures newest { IfOk result (λ h. NewestAt (T.state table).rows h.newest) }
+        ensures right { IfOk result (λ h. HasNoRows (T.state table).rows → IsRight h) }
+        ensures legal { IfOk result (λ h. HasNoRows (T.state table).rows → HasLegalBook h) }
+        ensures stands { IfOk result (λ h. HasNoRows (T.state table).rows → RowsStand h) }
+        ensures one_answer { IfOk result (λ h. HasNoRows (T.state table).rows → HasOneAnswerPerStep h) }
     {
         match prepare(alloc, code.room, &mut table) {
             Ok(newest) => Ok(Host {
@@ -133,7 +133,7 @@ impl<T: Table> Host<T> {
     /// Gives the table back.
     pub fn close(self) -> T
         ensures table { result ≡ self.table }
-        ensures stands { IsRight self → StandsAt self.code (core_of self) (T.rows result) }
+        ensures stands { IsRight self → StandsAt self.code (core_of self) (T.state result).rows }
     {
         let Host {
             alloc: _,
@@ -172,7 +172,7 @@ impl<T: Table> Host<T> {
 
     /// How many rows its table has; 4,294,967,295 where it has more.
     pub fn rows(&self) -> u32
-        ensures { IsCount (T.rows self.entry.now.table) result }
+        ensures { IsCount (T.state self.entry.now.table).rows result }
     {
         self.table.len()
     }
@@ -187,7 +187,7 @@ impl<T: Table> Host<T> {
 
     /// Appends the listing of tables. After an `Err` the text is as before.
     pub fn tables(&mut self, out: &mut Str) -> Result<(), OpenErr>
-        ensures reads { Reads (λ m u. out.new ≡ out.old ++ tables_text self.old.code m) (T.room self.old.table) (T.room self.new.table) (T.faults self.old.table) (T.faults self.new.table) (T.rows self.old.table) (T.rows self.new.table) result }
+        ensures reads { Reads (λ m u. out.new ≡ out.old ++ tables_text self.old.code m) (T.state self.old.table) (T.state self.new.table) result }
         ensures err { OnErr result (out.new ≡ out.old) }
         ensures core { core_of self.new ≡ core_of self.old }
         ensures code { self.new.code ≡ self.old.code }
@@ -201,7 +201,7 @@ impl<T: Table> Host<T> {
 
     // The listing, by the rows alone.
     fn list(&mut self, out: &mut Str) -> Result<(), OpenErr>
-        ensures reads { Reads (λ m u. out.new ≡ out.old ++ tables_text self.old.code m) (T.room self.old.table) (T.room self.new.table) (T.faults self.old.table) (T.faults self.new.table) (T.rows self.old.table) (T.rows self.new.table) result }
+        ensures reads { Reads (λ m u. out.new ≡ out.old ++ tables_text self.old.code m) (T.state self.old.table) (T.state self.new.table) result }
         ensures err { OnErr result (out.new ≡ out.old) }
         ensures core { core_of self.new ≡ core_of self.old }
         ensures code { self.new.code ≡ self.old.code }
@@ -211,11 +211,13 @@ impl<T: Table> Host<T> {
         Ok(())
     }
 
-    /// The reply of a ticket's root, as its row has it. A ticket that was not issued is unknown without a look at the rows.
+    /// The reply of a ticket's root, as its row has it. A ticket that was not issued is unknown without a look at the rows;
+    /// for any other its row is looked at once.
     pub fn reply(&mut self, ticket: u32) -> Result<ReplySeen, OpenErr>
-        ensures reads { Reads (λ m x. x ≡ reply_seen self.old.newest ticket m) (T.room self.old.table) (T.room self.new.table) (T.faults self.old.table) (T.faults self.new.table) (T.rows self.old.table) (T.rows self.new.table) result }
+        ensures reads { Reads (λ m x. x ≡ reply_seen self.old.newest ticket m) (T.state self.old.table) (T.state self.new.table) result }
         ensures unknown { IfOk result (λ x. (x ≡ Unknown) ↔ IsTrue (is_unknown self.old.newest ticket)) }
         ensures issued { IfErr result (λ e. is_unknown self.old.newest ticket ≡ false) }
+        ensures calls { AtMostOne (T.state self.old.table).calls (T.state self.new.table).calls }
         ensures core { core_of self.new ≡ core_of self.old }
         ensures code { self.new.code ≡ self.old.code }
         ensures right { IsRight self.old → IsRight self.new }
@@ -228,9 +230,10 @@ impl<T: Table> Host<T> {
 
     // The reply, by its row alone.
     fn look(&mut self, ticket: u32) -> Result<ReplySeen, OpenErr>
-        ensures reads { Reads (λ m x. x ≡ reply_seen self.old.newest ticket m) (T.room self.old.table) (T.room self.new.table) (T.faults self.old.table) (T.faults self.new.table) (T.rows self.old.table) (T.rows self.new.table) result }
+        ensures reads { Reads (λ m x. x ≡ reply_seen self.old.newest ticket m) (T.state self.old.table) (T.state self.new.table) result }
         ensures unknown { IfOk result (λ x. (x ≡ Unknown) ↔ IsTrue (is_unknown self.old.newest ticket)) }
         ensures issued { IfErr result (λ e. is_unknown self.old.newest ticket ≡ false) }
+        ensures calls { AtMostOne (T.state self.old.table).calls (T.state self.new.table).calls }
         ensures core { core_of self.new ≡ core_of self.old }
         ensures code { self.new.code ≡ self.old.code }
     {
@@ -240,17 +243,17 @@ impl<T: Table> Host<T> {
         read_reply(self.alloc, &mut self.table, ticket, self.now)
     }
 
-    /// Carries out one event. After want of memory nothing was done, but that the event counts as taken, and that a run
-    /// that had it is over; the act of a turn may then have been made, and the book has its entry. A crash takes no memory,
-    /// and of the events that make no act only a restart may want it.
+    /// Carries out one event, with at most one call of the table's `act` or `next`. After want of memory nothing was done,
+    /// but that the event counts as taken, and that a run that had it is over; the act of a turn may then have been made,
+    /// and the book has its entry. A crash takes no memory, and of the events that make no act only a restart may want it.
     pub fn event(&mut self, event: Event) -> Result<Seen, AllocError>
-        ensures step { Stepped self.old.code event (core_of self.old) (core_of self.new) (T.room self.old.table) (T.room self.new.table) (T.faults self.old.table) (T.faults self.new.table) (T.rows self.old.table) (T.rows self.new.table) result }
+        ensures step { Stepped self.old.code event (core_of self.old) (core_of self.new) (T.state self.old.table) (T.state self.new.table) result }
         ensures code { self.new.code ≡ self.old.code }
         ensures right { IsRight self.old → IsRight self.new }
         ensures legal { IsRight self.old → HasLegalBook self.new }
         ensures stands { IsRight self.old → RowsStand self.new }
         ensures one_answer { IsRight self.old → HasOneAnswerPerStep self.new }
-        ensures answers_stay { IsRight self.old → AnswersAreKept self.old self.new }
+        ensures answers_stay { AnswersAreKept self.old self.new }
         ensures has_rows { HasRows self.old → IsRight self.old → IfOk result (λ x. is_gone x ≡ false) }
     {
         self.step(event)
@@ -258,7 +261,7 @@ impl<T: Table> Host<T> {
 
     // One step of the definition.
     fn step(&mut self, event: Event) -> Result<Seen, AllocError>
-        ensures step { Stepped self.old.code event (core_of self.old) (core_of self.new) (T.room self.old.table) (T.room self.new.table) (T.faults self.old.table) (T.faults self.new.table) (T.rows self.old.table) (T.rows self.new.table) result }
+        ensures step { Stepped self.old.code event (core_of self.old) (core_of self.new) (T.state self.old.table) (T.state self.new.table) result }
         ensures code { self.new.code ≡ self.old.code }
     {
         if self.taken >= MOST_EVENTS {
@@ -276,7 +279,7 @@ impl<T: Table> Host<T> {
     }
 
     fn ticket(&mut self) -> Result<Seen, AllocError>
-        ensures carried { Carried self.old.code events.Ticket (core_of self.old) (core_of self.new) (T.room self.old.table) (T.room self.new.table) (T.faults self.old.table) (T.faults self.new.table) (T.rows self.old.table) (T.rows self.new.table) result }
+        ensures carried { Carried self.old.code events.Ticket (core_of self.old) (core_of self.new) (T.state self.old.table) (T.state self.new.table) result }
         ensures answers { Answers events.Ticket (core_of self.old) (plan_of self.old.code events.Ticket (core_of self.old)) (core_of self.new) result }
         ensures code { self.new.code ≡ self.old.code }
     {
@@ -291,7 +294,8 @@ impl<T: Table> Host<T> {
     }
 
     fn issued(&mut self, ticket: u32, added: bool) -> Seen
-        ensures done { (core_of self.new, result) ≡ issued_by (core_of self.old) ticket added }
+        requires { ticket ≡ self.old.newest + 1 }
+        ensures done { (core_of self.new, result) ≡ ticket_next (core_of self.old) added }
         ensures table { self.new.table ≡ self.old.table }
         ensures code { self.new.code ≡ self.old.code }
     {
@@ -306,7 +310,7 @@ impl<T: Table> Host<T> {
     fn request(&mut self, ticket: u32, func: u16, args: Value) -> Result<Seen, AllocError>
         requires given { self.old.runs.given < self.old.taken }
         requires few { self.old.taken ≤ 2 ^ 62 }
-        ensures carried { Carried self.old.code (events.Request ticket func args) (core_of self.old) (core_of self.new) (T.room self.old.table) (T.room self.new.table) (T.faults self.old.table) (T.faults self.new.table) (T.rows self.old.table) (T.rows self.new.table) result }
+        ensures carried { Carried self.old.code (events.Request ticket func args) (core_of self.old) (core_of self.new) (T.state self.old.table) (T.state self.new.table) result }
         ensures answers { Answers (events.Request ticket func args) (core_of self.old) (plan_of self.old.code (events.Request ticket func args) (core_of self.old)) (core_of self.new) result }
         ensures code { self.new.code ≡ self.old.code }
     {
@@ -354,7 +358,7 @@ impl<T: Table> Host<T> {
     }
 
     fn turn(&mut self, run: u64) -> Result<Seen, AllocError>
-        ensures carried { Carried self.old.code (events.Turn run) (core_of self.old) (core_of self.new) (T.room self.old.table) (T.room self.new.table) (T.faults self.old.table) (T.faults self.new.table) (T.rows self.old.table) (T.rows self.new.table) result }
+        ensures carried { Carried self.old.code (events.Turn run) (core_of self.old) (core_of self.new) (T.state self.old.table) (T.state self.new.table) result }
         ensures answers { Answers (events.Turn run) (core_of self.old) (plan_of self.old.code (events.Turn run) (core_of self.old)) (core_of self.new) result }
         ensures code { self.new.code ≡ self.old.code }
     {
@@ -391,7 +395,7 @@ impl<T: Table> Host<T> {
     // The next turn of a live run.
     fn lead(&mut self, run: u64) -> Result<TurnSays, TurnErr>
         requires { IsSome (map.get self.old.runs.runs run) }
-        ensures led { Led self.old.code (count_changes self.old.book.entries) self.old.runs.runs self.new.runs.runs run self.old.now (T.room self.old.table) (T.room self.new.table) (T.faults self.old.table) (T.faults self.new.table) (T.rows self.old.table) (T.rows self.new.table) result }
+        ensures led { Led self.old.code (count_changes self.old.book.entries) self.old.runs.runs self.new.runs.runs run self.old.now (T.state self.old.table) (T.state self.new.table) result }
         ensures core { core_of self.new ≡ with_runs (core_of self.old) self.new.runs.runs }
         ensures book { self.new.book ≡ self.old.book }
         ensures code { self.new.code ≡ self.old.code }
@@ -409,7 +413,7 @@ impl<T: Table> Host<T> {
 
     // A turn whose answer is lost: the run does not go on from it, and nobody is told the reply.
     fn lose(&mut self, run: u64) -> Result<Seen, AllocError>
-        ensures carried { Carried self.old.code (events.Lost run) (core_of self.old) (core_of self.new) (T.room self.old.table) (T.room self.new.table) (T.faults self.old.table) (T.faults self.new.table) (T.rows self.old.table) (T.rows self.new.table) result }
+        ensures carried { Carried self.old.code (events.Lost run) (core_of self.old) (core_of self.new) (T.state self.old.table) (T.state self.new.table) result }
         ensures answers { Answers (events.Lost run) (core_of self.old) (plan_of self.old.code (events.Lost run) (core_of self.old)) (core_of self.new) result }
         ensures code { self.new.code ≡ self.old.code }
     {
@@ -453,7 +457,7 @@ impl<T: Table> Host<T> {
 
     // Ends a run between two turns.
     fn crash(&mut self, run: u64) -> Seen
-        ensures carried { Carried self.old.code (events.Crash run) (core_of self.old) (core_of self.new) (T.room self.old.table) (T.room self.new.table) (T.faults self.old.table) (T.faults self.new.table) (T.rows self.old.table) (T.rows self.new.table) (Ok result) }
+        ensures carried { Carried self.old.code (events.Crash run) (core_of self.old) (core_of self.new) (T.state self.old.table) (T.state self.new.table) (Ok result) }
         ensures answers { Answers (events.Crash run) (core_of self.old) (plan_of self.old.code (events.Crash run) (core_of self.old)) (core_of self.new) (Ok result) }
         ensures code { self.new.code ≡ self.old.code }
     {
@@ -468,7 +472,7 @@ impl<T: Table> Host<T> {
     fn restart(&mut self, id: IntentId, func: u16) -> Result<Seen, AllocError>
         requires given { self.old.runs.given < self.old.taken }
         requires few { self.old.taken ≤ 2 ^ 62 }
-        ensures carried { Carried self.old.code (events.Restart id func) (core_of self.old) (core_of self.new) (T.room self.old.table) (T.room self.new.table) (T.faults self.old.table) (T.faults self.new.table) (T.rows self.old.table) (T.rows self.new.table) result }
+        ensures carried { Carried self.old.code (events.Restart id func) (core_of self.old) (core_of self.new) (T.state self.old.table) (T.state self.new.table) result }
         ensures answers { Answers (events.Restart id func) (core_of self.old) (plan_of self.old.code (events.Restart id func) (core_of self.old)) (core_of self.new) result }
         ensures code { self.new.code ≡ self.old.code }
     {

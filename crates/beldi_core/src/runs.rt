@@ -80,7 +80,7 @@ fn lead<T: Table>(
     changes: u64,
 ) -> Result<TurnSays, TurnErr>
     requires { IsSome (map.get (map_of live.old) number) }
-    ensures led { Led code.now changes (map_of live.old) (map_of live.new) number now (T.room table.old) (T.room table.new) (T.faults table.old) (T.faults table.new) (T.rows table.old) (T.rows table.new) result }
+    ensures led { Led code.now changes (map_of live.old) (map_of live.new) number now (T.state table.old) (T.state table.new) result }
     ensures none_new { (i : ℕ) → map.get (map_of live.old) i ≡ None → map.get (map_of live.new) i ≡ None }
 {
     let Some(run) = live.get_mut(&number) else {
@@ -177,7 +177,7 @@ impl Runs {
         changes: u64,
     ) -> Result<TurnSays, TurnErr>
         requires { IsSome (map.get self.old.runs number) }
-        ensures led { Led code.now changes self.old.runs self.new.runs number now (T.room table.old) (T.room table.new) (T.faults table.old) (T.faults table.new) (T.rows table.old) (T.rows table.new) result }
+        ensures led { Led code.now changes self.old.runs self.new.runs number now (T.state table.old) (T.state table.new) result }
         ensures given { self.new.given ≡ self.old.given }
     {
         lead(&mut self.live, number, alloc, code, table, now, changes)

@@ -2,7 +2,7 @@
 ghost use Rattle.std.specs.Prelude.{◌≡◌, ◌≢◌, ◌++◌, IfOk, OnOk};
 ghost use Rattle.std.specs.FinMap as map;
 ghost use Rattle.beldi_row.specs.Act.{tell_of};
-ghost use Rattle.beldi_row.specs.Table.{next_row};
+ghost use Rattle.beldi_row.specs.Table.{next_row, AtMostOne};
 ghost use Rattle.beldi_step.specs.Host.{root_key};
 ghost use Rattle.beldi_step.specs.Tables.{tables_text, row_line};
 ghost use Rattle.beldi_core.specs.Survey.{Reads, Prepared, newest_of, next_key_of, next_line_of, row_seen, told_seen};
@@ -66,7 +66,7 @@ fn next_key<T: Table>(
     table: &mut T,
     after: &RowKey,
 ) -> Result<Option<RowKey>, OpenErr>
-    ensures { Reads (λ m k. k ≡ next_key_of (next_row m after.now)) (T.room table.old) (T.room table.new) (T.faults table.old) (T.faults table.new) (T.rows table.old) (T.rows table.new) result }
+    ensures { Reads (λ m k. k ≡ next_key_of (next_row m after.now)) (T.state table.old) (T.state table.new) result }
 {
     match table.next(after)? {
         None => Ok(None),
@@ -76,7 +76,7 @@ fn next_key<T: Table>(
 
 // The greatest ticket that a key names, or 0.
 fn find_newest<T: Table>(alloc: Global, table: &mut T) -> Result<u32, OpenErr>
-    ensures { Reads (λ m t. t ≡ newest_of m) (T.room table.old) (T.room table.new) (T.faults table.old) (T.faults table.new) (T.rows table.old) (T.rows table.new) result }
+    ensures { Reads (λ m t. t ≡ newest_of m) (T.state table.old) (T.state table.new) result }
 {
     let mut newest = 0u32;
     let mut at = RowKey::least(alloc);
@@ -95,7 +95,7 @@ fn find_newest<T: Table>(alloc: Global, table: &mut T) -> Result<u32, OpenErr>
 
 /// Makes a table ready for a host: sets its room, and finds the greatest ticket that a key names, or 0.
 pub fn prepare<T: Table>(alloc: Global, room: u32, table: &mut T) -> Result<u32, OpenErr>
-    ensures { Prepared room (T.room table.old) (T.room table.new) (T.faults table.old) (T.faults table.new) (T.rows table.old) (T.rows table.new) result }
+    ensures { Prepared room (T.state table.old) (T.state table.new) result }
 {
     match table.ready(&[room]) {
         Ok(()) => find_newest(alloc, table),
@@ -137,7 +137,7 @@ fn next_line<T: Table>(
     after: &RowKey,
     text: &mut Str,
 ) -> Result<Option<RowKey>, OpenErr>
-    ensures { Reads (λ m k. (k, text.new) ≡ next_line_of code.now text.old (next_row m after.now)) (T.room table.old) (T.room table.new) (T.faults table.old) (T.faults table.new) (T.rows table.old) (T.rows table.new) result }
+    ensures { Reads (λ m k. (k, text.new) ≡ next_line_of code.now text.old (next_row m after.now)) (T.state table.old) (T.state table.new) result }
 {
     match table.next(after)? {
         None => Ok(None),
@@ -154,7 +154,7 @@ pub fn list_tables<T: Table>(
     code: &Deployment,
     table: &mut T,
 ) -> Result<Str, OpenErr>
-    ensures { Reads (λ m s. s ≡ tables_text code.now m) (T.room table.old) (T.room table.new) (T.faults table.old) (T.faults table.new) (T.rows table.old) (T.rows table.new) result }
+    ensures { Reads (λ m s. s ≡ tables_text code.now m) (T.state table.old) (T.state table.new) result }
 {
     let mut text = Str::new(alloc);
     let mut at = RowKey::least(alloc);
@@ -175,8 +175,9 @@ pub fn read_reply<T: Table>(
     ticket: u32,
     now: u64,
 ) -> Result<ReplySeen, OpenErr>
-    ensures reads { Reads (λ m x. x ≡ row_seen (map.get m (root_key ticket))) (T.room table.old) (T.room table.new) (T.faults table.old) (T.faults table.new) (T.rows table.old) (T.rows table.new) result }
+    ensures reads { Reads (λ m x. x ≡ row_seen (map.get m (root_key ticket))) (T.state table.old) (T.state table.new) result }
     ensures known { IfOk result (λ x. x ≢ Unknown) }
+    ensures calls { AtMostOne (T.state table.old).calls (T.state table.new).calls }
 {
     let key = RowKey {
         home: 0,

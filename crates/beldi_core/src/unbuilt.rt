@@ -1,7 +1,7 @@
 // What the host can carry out of a deployment.
 ghost use Rattle.std.specs.Prelude.{◌≡◌, OnOk};
-ghost use Rattle.beldi_lang.specs.Command.{commands_of};
-ghost use Rattle.beldi_lang.specs.Statement.{command_of};
+ghost use Rattle.beldi_tree.specs.Command.{commands_of};
+ghost use Rattle.beldi_tree.specs.Statement.{command_of};
 ghost use Rattle.beldi_core.specs.Built.{unbuilt, unbuilt_in as unbuilt_among, unbuilt_of, refused_at, IsCarriedOut};
 
 use beldi_lang::{Block, Deployment, Form, Stmt};

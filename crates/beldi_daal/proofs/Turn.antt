@@ -1,5 +1,5 @@
 -- One turn of a write's walk, by what its act told.
-use Rattle.std.proofs.Common.{◌≡◌, ℕ, true, Option, None, Some, Result, Ok, Err, refl, ap, sym, ◌∙◌, subst}
+use Rattle.std.proofs.Common.{◌≡◌, ℕ, true, Option, None, Some, Result, Ok, Err, refl, ap, sym, ◌∙◌, subst, inr}
 use Rattle.std.specs.FinMap as map
 use Rattle.beldi_value.specs.declared.value.Value.{Value}
 use Rattle.beldi_value.specs.declared.place.Place.{Place}
@@ -13,10 +13,10 @@ use Rattle.beldi_row.specs.declared.act.Act.{Act}
 use Rattle.beldi_row.specs.declared.act.Act.TheVariants.{WriteCell}
 use Rattle.beldi_row.specs.declared.act.Said.{Said}
 use Rattle.beldi_row.specs.declared.table.TableErr.{TableErr}
-use Rattle.beldi_row.specs.declared.table.TableErr.TheVariants.{OutOfMemory}
+use Rattle.beldi_row.specs.declared.table.TableErr.TheVariants.{OutOfMemory, Failed}
 use Rattle.beldi_row.specs.Act.{Tell, tell_of, act, did, noted, held, wrote, noted_or, next_or, held_or, other_owner}
 use Rattle.beldi_row.specs.Log.{note_at}
-use Rattle.beldi_row.specs.Table.{Rows, Acted, ActedOn}
+use Rattle.beldi_row.specs.Table.{TableState, Acted, ActedOn, Rose}
 use Rattle.beldi_row.proofs.Tells.{tells_map, acted_by}
 use Rattle.beldi_row.proofs.Unchanged.{left}
 use Rattle.beldi_daal.specs.declared.walk.WriteWalk.{WriteWalk}
@@ -58,33 +58,43 @@ stands w (noted n) = refl
 stands w (held o) = refl
 stands w t = tt
 
-module _ (w x : WriteWalk) (now room new_room faults new_faults : ℕ) (before after : Option Rows) (said : Said) where
-  told : (s : WriteSays) → (x, s) ≡ walk_next w (tell_of said) → Acted (walk_act w) now (walk_key w) room new_room faults new_faults before after (Ok said)
-      → Turned w x now room new_room faults new_faults before after (Ok s)
+module _ (w x : WriteWalk) (now : ℕ) (old new : TableState) (said : Said) where
+  told : (s : WriteSays) → (x, s) ≡ walk_next w (tell_of said) → Acted (walk_act w) now (walk_key w) old new (Ok said)
+      → Turned w x now old new (Ok s)
   told s next h = record {
     walk = subst (λ (z : WriteWalk × WriteSays). StandsUnlessGoing w z.0 (Ok z.1)) (sym next) (stands w (tell_of said));
-    rows = tells_map {P = λ m n. ActedOn (walk_act w) now (walk_key w) room m n (Ok said)} {Q = λ m n. TurnedOn w x now room m n (Ok s)} before after (λ m n p. (p.0, next ∙ ap (walk_next w) p.1, p.2)) h.rows;
+    rows = tells_map {P = λ m n. ActedOn (walk_act w) now (walk_key w) old.room m n (Ok said)} {Q = λ m n. TurnedOn w x now old.room m n (Ok s)} old.rows new.rows (λ m n p. (p.0, next ∙ ap (walk_next w) p.1, p.2)) h.rows;
     cause = record { later = h.cause.later; failed = λ e. cc };
     room = h.room;
+    calls = inr h.calls;
   }
 
-  wanting : x ≡ w → is_lent (tell_of said) ≡ true → Acted (walk_act w) now (walk_key w) room new_room faults new_faults before after (Ok said)
-      → Turned w x now room new_room faults new_faults before after (Err OutOfMemory)
+  wanting : x ≡ w → is_lent (tell_of said) ≡ true → Acted (walk_act w) now (walk_key w) old new (Ok said)
+      → Turned w x now old new (Err OutOfMemory)
   wanting same lent h = record {
     walk = same;
-    rows = tells_map {P = λ m n. ActedOn (walk_act w) now (walk_key w) room m n (Ok said)} {Q = λ m n. TurnedOn w x now room m n (Err OutOfMemory)} before after
+    rows = tells_map {P = λ m n. ActedOn (walk_act w) now (walk_key w) old.room m n (Ok said)} {Q = λ m n. TurnedOn w x now old.room m n (Err OutOfMemory)} old.rows new.rows
         (λ m n p. p.0 ∙ left (walk_act w) now (walk_key w) m (map.get m (walk_key w)) refl (lent_in_stage w w.stage now (map.get m (walk_key w)) (ap is_lent (sym p.1) ∙ lent))) h.rows;
     cause = record { later = h.cause.later; failed = λ e. cc };
     room = h.room;
+    calls = inr h.calls;
   }
 
-  module _ (a : Act) (k : RowKey) (r : Result Said TableErr) (is : r ≡ Ok said) (act : a ≡ walk_act w) (key : k ≡ walk_key w) (h : Acted a now k room new_room faults new_faults before after r) where
-    made : Acted (walk_act w) now (walk_key w) room new_room faults new_faults before after (Ok said)
-    made = acted_by now room new_room faults new_faults before after a (walk_act w) k (walk_key w) r (Ok said) act key is h
+  module _ (a : Act) (k : RowKey) (r : Result Said TableErr) (is : r ≡ Ok said) (act : a ≡ walk_act w) (key : k ≡ walk_key w) (h : Acted a now k old new r) where
+    made : Acted (walk_act w) now (walk_key w) old new (Ok said)
+    made = acted_by now old new a (walk_act w) k (walk_key w) r (Ok said) act key is h
 
-    pub turned : (s : WriteSays) → (x, s) ≡ walk_next w (tell_of said) → Turned w x now room new_room faults new_faults before after (Ok s)
+    pub turned : (s : WriteSays) → (x, s) ≡ walk_next w (tell_of said) → Turned w x now old new (Ok s)
     turned s next = told s next made
 
     -- what lies in the row was told, so nothing changed, and then memory was wanting
-    pub lost : x ≡ w → is_lent (tell_of said) ≡ true → Turned w x now room new_room faults new_faults before after (Err OutOfMemory)
+    pub lost : x ≡ w → is_lent (tell_of said) ≡ true → Turned w x now old new (Err OutOfMemory)
     lost same lent = wanting same lent made
+
+-- the act was not made, and the walk stands
+pub refused : (w : WriteWalk) (now : ℕ) (old new : TableState) (a : Act) (k : RowKey) (r : Result Said TableErr) (e : TableErr) (result : Result WriteSays TableErr) → r ≡ Err e → result ≡ Err e → a ≡ walk_act w → k ≡ walk_key w → Acted a now k old new r
+    → Turned w w now old new result
+refused w now old new a k r e result was is to at h =
+    let made : Acted (walk_act w) now (walk_key w) old new (Err e) = acted_by now old new a (walk_act w) k (walk_key w) r (Err e) to at was h in
+    let failed : e ≡ Failed → Rose old.faults new.faults = λ f. made.cause.failed (ap Err f) in
+    subst (λ (x : Result WriteSays TableErr). Turned w w now old new x) (sym is) (record { walk = refl; rows = made.rows; cause = record { later = made.cause.later; failed = λ f. failed cc }; room = made.room; calls = inr made.calls })

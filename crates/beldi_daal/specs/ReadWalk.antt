@@ -8,7 +8,7 @@ use Rattle.beldi_row.specs.declared.act.Act.TheVariants.{Look}
 use Rattle.beldi_row.specs.declared.table.TableErr.{TableErr}
 use Rattle.beldi_row.specs.declared.table.TableErr.TheVariants.{OutOfMemory, Failed, Full}
 use Rattle.beldi_row.specs.Act.{Tell, absent, here, other_owner}
-use Rattle.beldi_row.specs.Table.{Rows, tell_act, Tells, HasCause}
+use Rattle.beldi_row.specs.Table.{Rows, TableState, tell_act, Tells, HasCause, AtMostOne}
 use Rattle.beldi_daal.specs.declared.walk.Item.{Item}
 use Rattle.beldi_daal.specs.declared.read_walk.ReadWalk.{ReadWalk}
 use Rattle.beldi_daal.specs.declared.read_walk.ReadSays.{ReadSays}
@@ -50,8 +50,9 @@ ReadOn w now m n (Err Failed) = n ≡ m
 ReadOn w now m n (Err (Full live most)) = ⊥
 
 -- what one turn does
-pub record ReadTurned (w x : ReadWalk) (now old_room new_room old_faults new_faults : ℕ) (before after : Option Rows) (result : Result ReadSays TableErr) : Type 0 where
+pub record ReadTurned (w x : ReadWalk) (now : ℕ) (old new : TableState) (result : Result ReadSays TableErr) : Type 0 where
   pub walk : x ≡ w
-  pub rows : Tells before after (λ m n. ReadOn w now m n result)
-  pub cause : HasCause old_faults new_faults result
-  pub room : new_room ≡ old_room
+  pub rows : Tells old.rows new.rows (λ m n. ReadOn w now m n result)
+  pub cause : HasCause old.faults new.faults result
+  pub room : new.room ≡ old.room
+  pub calls : AtMostOne old.calls new.calls

@@ -1,5 +1,5 @@
 -- The walk of a write, as a machine that makes one act a turn.
-use Rattle.std.specs.Prelude.{◌≡◌, ℕ, ◌<◌, Bool, true, false, IsTrue, Option, None, Result, Ok, Err}
+use Rattle.std.specs.Prelude.{◌≡◌, ℕ, ◌<◌, Bool, true, false, IsTrue, None, Result, Ok, Err}
 use Rattle.std.specs.FinMap as map
 use Rattle.beldi_value.specs.declared.value.Value.TheVariants.{Null}
 use Rattle.beldi_value.specs.declared.place.Place.{Place}
@@ -12,7 +12,7 @@ use Rattle.beldi_row.specs.declared.act.Act.{Act}
 use Rattle.beldi_row.specs.declared.act.Act.TheVariants.{WriteCell, MakeCell}
 use Rattle.beldi_row.specs.declared.table.TableErr.{TableErr}
 use Rattle.beldi_row.specs.Act.{Tell, no_row, did, noted, held}
-use Rattle.beldi_row.specs.Table.{Rows, after_act, tell_act, adds, Refused, Tells, HasCause}
+use Rattle.beldi_row.specs.Table.{Rows, TableState, after_act, tell_act, adds, Refused, Tells, HasCause, AtMostOne}
 use Rattle.beldi_daal.specs.declared.walk.WriteWalk.{WriteWalk}
 use Rattle.beldi_daal.specs.declared.walk.Item.{Item}
 use Rattle.beldi_daal.specs.declared.walk.Item.TheVariants.{Plain}
@@ -73,8 +73,9 @@ TurnedOn w x now room m n (Ok s) = (n ≡ after_act (walk_act w) now (walk_key w
 TurnedOn w x now room m n (Err e) = Refused (walk_act w) now (walk_key w) room m n e
 
 -- what one turn does
-pub record Turned (w x : WriteWalk) (now old_room new_room old_faults new_faults : ℕ) (before after : Option Rows) (result : Result WriteSays TableErr) : Type 0 where
+pub record Turned (w x : WriteWalk) (now : ℕ) (old new : TableState) (result : Result WriteSays TableErr) : Type 0 where
   pub walk : StandsUnlessGoing w x result
-  pub rows : Tells before after (λ m n. TurnedOn w x now old_room m n result)
-  pub cause : HasCause old_faults new_faults result
-  pub room : new_room ≡ old_room
+  pub rows : Tells old.rows new.rows (λ m n. TurnedOn w x now old.room m n result)
+  pub cause : HasCause old.faults new.faults result
+  pub room : new.room ≡ old.room
+  pub calls : AtMostOne old.calls new.calls

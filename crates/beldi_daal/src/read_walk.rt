@@ -44,7 +44,7 @@ impl ReadWalk {
         table: &mut T,
         now: u64,
     ) -> Result<ReadSays, TableErr>
-        ensures { ReadTurned self.old self.new now (T.room table.old) (T.room table.new) (T.faults table.old) (T.faults table.new) (T.rows table.old) (T.rows table.new) result }
+        ensures { ReadTurned self.old self.new now (T.state table.old) (T.state table.new) result }
     {
         let key = self.item.first_key(alloc, self.home)?;
         let said = table.act(key, Act::Look, now)?;

@@ -108,7 +108,7 @@ impl WriteWalk {
         table: &mut T,
         now: u64,
     ) -> Result<WriteSays, TableErr>
-        ensures { Turned self.old self.new now (T.room table.old) (T.room table.new) (T.faults table.old) (T.faults table.new) (T.rows table.old) (T.rows table.new) result }
+        ensures { Turned self.old self.new now (T.state table.old) (T.state table.new) result }
     {
         let key = self.item.first_key(alloc, self.home)?;
         let act = self.act(alloc)?;

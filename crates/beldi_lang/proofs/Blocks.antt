@@ -2,15 +2,15 @@
 use Rattle.std.proofs.Common.{◌≡◌, ℕ, zero, suc, ◌+◌, ◌-◌, ◌<◌, Bool, true, if◌then◌else◌, List, [], ◌∷◌, drop, length, get_or, Option, Some, None, Result, refl, subst, ap, sym, ◌∙◌, arith, add-one}
 use Rattle.std.specs.Prelude.{option_map, IfOk}
 use Rattle.std.specs.declared.alloc.AllocError.{AllocError}
-use Rattle.beldi_lang.specs.declared.deployment.Deployment.{Deployment}
-use Rattle.beldi_lang.specs.declared.deployment.TableHead.{TableHead}
+use Rattle.beldi_tree.specs.declared.deployment.Deployment.{Deployment}
+use Rattle.beldi_tree.specs.declared.deployment.TableHead.{TableHead}
 use Rattle.beldi_lang.specs.declared.effect.Answer.{Answer}
 use Rattle.beldi_lang.specs.declared.state.State.{State}
 use Rattle.beldi_lang.specs.declared.state.Start.{Start}
 use Rattle.beldi_lang.specs.declared.state.Frame.{Frame}
-use Rattle.beldi_lang.specs.Command.{Command, commands_of}
+use Rattle.beldi_tree.specs.Command.{Command, commands_of}
 use Rattle.beldi_lang.specs.Wants.{Went, stops, leaves, within, shifted, followed, fault, may_count, one_more, Block, looped, turns, opened, enters, transact, run, run_block}
-use Rattle.beldi_lang.specs.Statement.{command_of, statements_view}
+use Rattle.beldi_tree.specs.Statement.{command_of, statements_view}
 use Rattle.beldi_lang.specs.Told.{told, is_afresh, left_at, turn_left}
 use Rattle.beldi_lang.specs.declared.state.Part.{Part}
 use Rattle.beldi_lang.specs.declared.state.Part.TheVariants.{Turn}
@@ -20,7 +20,7 @@ use Rattle.beldi_lang.specs.declared.state.Exit.TheVariants.{Goes, Breaks, Ends}
 use Rattle.beldi_lang.specs.declared.state.Start.TheVariants.{Afresh, From}
 use Rattle.beldi_lang.specs.declared.state.Went.{Went as Told}
 use Rattle.beldi_lang.specs.declared.state.Went.TheVariants.{Stops, Leaves}
-use Rattle.beldi_lang.specs.declared.deployment.Stmt.{Stmt}
+use Rattle.beldi_tree.specs.declared.deployment.Stmt.{Stmt}
 
 -- what the statements from this number on lead to, as statements of the whole block
 abbrev pub shifted_by : ℕ → Went (ℕ × List Frame) → Went (ℕ × List Frame)

@@ -4,9 +4,9 @@ use Rattle.std.specs.Prelude.{not}
 use Rattle.beldi_value.specs.declared.outcome.Outcome.TheVariants as outcome
 use Rattle.beldi_value.specs.declared.outcome.Code.{Code}
 use Rattle.beldi_value.specs.declared.outcome.Code.TheVariants as code
-use Rattle.beldi_lang.specs.declared.deployment.Deployment.{Deployment}
-use Rattle.beldi_lang.specs.declared.deployment.Func.{Func}
-use Rattle.beldi_lang.specs.declared.deployment.TableHead.{TableHead}
+use Rattle.beldi_tree.specs.declared.deployment.Deployment.{Deployment}
+use Rattle.beldi_tree.specs.declared.deployment.Func.{Func}
+use Rattle.beldi_tree.specs.declared.deployment.TableHead.{TableHead}
 use Rattle.beldi_lang.specs.declared.effect.Answer.{Answer}
 use Rattle.beldi_lang.specs.declared.effect.Answer.TheVariants as answer
 use Rattle.beldi_lang.specs.declared.state.State.{State}
@@ -18,9 +18,9 @@ use Rattle.beldi_lang.specs.declared.state.Frame.{Frame}
 use Rattle.beldi_lang.specs.declared.state.Frame.TheVariants.{In, Ending}
 use Rattle.beldi_lang.specs.declared.state.Start.{Start}
 use Rattle.beldi_lang.specs.declared.state.Start.TheVariants.{Afresh, From}
-use Rattle.beldi_lang.specs.Term.{Term}
-use Rattle.beldi_lang.specs.Evaluate.{and_then, truth, term_value}
-use Rattle.beldi_lang.specs.Command.{Command, Commands, no_commands, command, set, read, write, condwrite, call, async, lock, unlock, transaction, abort, break, choose, repeat, return}
+use Rattle.beldi_tree.specs.Term.{Term}
+use Rattle.beldi_tree.specs.Evaluate.{and_then, truth, term_value}
+use Rattle.beldi_tree.specs.Command.{Command, Commands, no_commands, command, set, read, write, condwrite, call, async, lock, unlock, transaction, abort, break, choose, repeat, return}
 use Rattle.beldi_lang.specs.Locks.{is_none_held}
 use Rattle.beldi_lang.specs.Wants.{Went, stops, leaves, within, shifted, followed, fault, may_count, one_more, Request, done, asks, or_fault, requested, name_of, answered, asked, simple, Block, head, inner, by_test, choice, looped, turns, loop, restored, ended, closed, begun_inside, begins, enters, transact, run, run_block, body, tables_of, body_of, run_body}
 

@@ -5,7 +5,7 @@ use Rattle.std.specs.Prelude.{IfOk}
 use Rattle.std.specs.declared.alloc.AllocError.{AllocError}
 use Rattle.beldi_value.specs.declared.value.Value.{Value}
 use Rattle.beldi_value.specs.declared.outcome.Outcome.{Outcome}
-use Rattle.beldi_lang.specs.declared.deployment.Deployment.{Deployment}
+use Rattle.beldi_tree.specs.declared.deployment.Deployment.{Deployment}
 use Rattle.beldi_lang.specs.declared.effect.Effect.{Effect}
 use Rattle.beldi_lang.specs.declared.effect.Effect.TheVariants as effect
 use Rattle.beldi_lang.specs.declared.effect.Answer.{Answer}
@@ -14,7 +14,8 @@ use Rattle.beldi_lang.specs.declared.state.State.{State}
 use Rattle.beldi_lang.specs.declared.state.Frame.{Frame}
 use Rattle.beldi_lang.specs.declared.state.Start.TheVariants.{Afresh}
 use Rattle.beldi_lang.specs.declared.machine.Machine.{Machine}
-use Rattle.beldi_lang.specs.Wants.{Went, stops, leaves, func_at, first_state, outcome_of, releases, effect_of, wants, wants_answer}
+use Rattle.beldi_tree.specs.Names.{func_at}
+use Rattle.beldi_lang.specs.Wants.{Went, stops, leaves, first_state, outcome_of, releases, effect_of, wants, wants_answer}
 use Rattle.beldi_lang.specs.Machine.{begun, released, standing, led, next_step, gone_on, resumed, IsAt}
 use Rattle.beldi_lang.proofs.Goes.{on, on_body, body_on}
 use Rattle.beldi_lang.proofs.Spends.{few_answers as few, Spends, begun_body, spent_body}

@@ -8,8 +8,8 @@ use Rattle.beldi_value.specs.declared.outcome.Outcome.{Outcome}
 use Rattle.beldi_value.specs.declared.outcome.Outcome.TheVariants as outcome
 use Rattle.beldi_value.specs.declared.outcome.Code.{Code}
 use Rattle.beldi_value.specs.declared.outcome.Code.TheVariants as code
-use Rattle.beldi_lang.specs.declared.deployment.Deployment.{Deployment}
-use Rattle.beldi_lang.specs.declared.deployment.TableHead.{TableHead}
+use Rattle.beldi_tree.specs.declared.deployment.Deployment.{Deployment}
+use Rattle.beldi_tree.specs.declared.deployment.TableHead.{TableHead}
 use Rattle.beldi_lang.specs.declared.effect.Effect.{Effect}
 use Rattle.beldi_lang.specs.declared.effect.Effect.TheVariants as effect
 use Rattle.beldi_lang.specs.declared.effect.Answer.{Answer}
@@ -22,10 +22,11 @@ use Rattle.beldi_lang.specs.declared.state.Part.{Part}
 use Rattle.beldi_lang.specs.declared.state.Part.TheVariants.{First, Second, Turn, Inside}
 use Rattle.beldi_lang.specs.declared.state.Frame.{Frame}
 use Rattle.beldi_lang.specs.declared.state.Start.TheVariants.{Afresh}
-use Rattle.beldi_lang.specs.Evaluate.{and_then, truth, term_value}
-use Rattle.beldi_lang.specs.Command.{Command, Commands, no_commands, command, set, read, write, condwrite, call, async, lock, unlock, transaction, abort, break, choose, repeat, return}
+use Rattle.beldi_tree.specs.Evaluate.{and_then, truth, term_value}
+use Rattle.beldi_tree.specs.Command.{Command, Commands, no_commands, command, set, read, write, condwrite, call, async, lock, unlock, transaction, abort, break, choose, repeat, return}
 use Rattle.beldi_lang.specs.Locks.{is_lock, is_held, is_none_held, without}
-use Rattle.beldi_lang.specs.Wants.{Went, stops, leaves, within, shifted, followed, fault, may_count, one_more, table_number, func_number, Request, done, asks, or_fault, counted, goes, set_to, locks, unlocks, key_value, requested, name_of, answered, asked, Block, by_test, looped, turns, outside, restored, ended, closed, begun_inside, begins, enters, run, run_block, tables_of, body_of, first_state, run_body, outcome_of, wants_answer, releases, effect_of, func_at, wants}
+use Rattle.beldi_tree.specs.Names.{func_at}
+use Rattle.beldi_lang.specs.Wants.{Went, stops, leaves, within, shifted, followed, fault, may_count, one_more, table_number, func_number, Request, done, asks, or_fault, counted, goes, set_to, locks, unlocks, key_value, requested, name_of, answered, asked, Block, by_test, looped, turns, outside, restored, ended, closed, begun_inside, begins, enters, run, run_block, tables_of, body_of, first_state, run_body, outcome_of, wants_answer, releases, effect_of, wants}
 
 -- ---- what is spent
 

@@ -1,14 +1,4 @@
-pub mod Bindings
-pub mod Command
-pub mod Evaluate
-pub mod Expr
-pub mod Falls
 pub mod Locks
 pub mod Machine
-pub mod Names
-pub mod Seen
-pub mod Statement
-pub mod Steps
-pub mod Term
 pub mod Told
 pub mod Wants

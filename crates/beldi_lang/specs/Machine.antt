@@ -2,7 +2,7 @@
 use Rattle.std.specs.Prelude.{◌≡◌, ℕ, ◌+◌, ◌-◌, ◌^◌, min, Bool, List, [], ◌∷◌, length}
 use Rattle.beldi_value.specs.declared.value.Value.{Value}
 use Rattle.beldi_value.specs.declared.outcome.Outcome.{Outcome}
-use Rattle.beldi_lang.specs.declared.deployment.Deployment.{Deployment}
+use Rattle.beldi_tree.specs.declared.deployment.Deployment.{Deployment}
 use Rattle.beldi_lang.specs.declared.effect.Effect.{Effect}
 use Rattle.beldi_lang.specs.declared.effect.Effect.TheVariants as effect
 use Rattle.beldi_lang.specs.declared.effect.Answer.{Answer}
@@ -13,7 +13,8 @@ use Rattle.beldi_lang.specs.declared.state.Start.TheVariants.{Afresh, From}
 use Rattle.beldi_lang.specs.declared.machine.Stage.{Stage}
 use Rattle.beldi_lang.specs.declared.machine.Stage.TheVariants.{Running, Releasing, Returned}
 use Rattle.beldi_lang.specs.declared.machine.Machine.{Machine}
-use Rattle.beldi_lang.specs.Wants.{Went, stops, leaves, outcome_of, func_at, first_state, run_body}
+use Rattle.beldi_tree.specs.Names.{func_at}
+use Rattle.beldi_lang.specs.Wants.{Went, stops, leaves, outcome_of, first_state, run_body}
 
 abbrev pub machine : ℕ → ℕ → Effect → State → Stage → Machine
 machine func steps e s stage = record { func = func; steps = steps; effect = e; state = s; stage = stage }

@@ -1,8 +1,10 @@
 -- What the code tells of a statement: it has one answer at most, so none remains where it leaves.
 use Rattle.std.specs.Prelude.{◌≡◌, ℕ, Bool, true, false, List, [], ◌∷◌, Option, Some, None, Result, Ok, Err}
 use Rattle.beldi_value.specs.declared.outcome.Code.{Code}
-use Rattle.beldi_lang.specs.declared.fault.EvalErr.{EvalErr}
-use Rattle.beldi_lang.specs.declared.fault.EvalErr.TheVariants.{OutOfMemory, Fault}
+use Rattle.beldi_tree.specs.declared.fault.EvalErr.{EvalErr}
+use Rattle.beldi_tree.specs.declared.fault.EvalErr.TheVariants.{OutOfMemory, Fault}
+use Rattle.beldi_tree.specs.Command.{Command, commands_of}
+use Rattle.beldi_lang.specs.declared.scope.Scope.{Scope}
 use Rattle.beldi_lang.specs.declared.state.State.{State}
 use Rattle.beldi_lang.specs.declared.state.Exit.TheVariants.{Goes, Breaks, Ends}
 use Rattle.beldi_lang.specs.declared.state.Part.{Part}
@@ -14,7 +16,7 @@ use Rattle.beldi_lang.specs.declared.state.Went.{Went as Told}
 use Rattle.beldi_lang.specs.declared.state.Went.TheVariants.{Stops, Leaves}
 use Rattle.beldi_lang.specs.declared.request.Request.{Request as Wish}
 use Rattle.beldi_lang.specs.declared.request.Request.TheVariants.{Done, Asks}
-use Rattle.beldi_lang.specs.Wants.{Went, stops, leaves, Request, done, asks, may_count, one_more}
+use Rattle.beldi_lang.specs.Wants.{Went, stops, leaves, Request, done, asks, may_count, one_more, Block, run_block}
 
 abbrev pub told : Told → State → Went (List Frame)
 told (Stops e at) s = stops e at s
@@ -52,3 +54,7 @@ turn_left (leaves (Ends o) s rest) = Some (leaves (Ends o) s rest)
 abbrev pub is_afresh : Start → Bool
 is_afresh Afresh = true
 is_afresh (From at a) = false
+
+-- what these statements of a block lead to in a scope
+abbrev pub block_in : Scope → List Command → Block
+block_in s cs = run_block s.code.now s.tables.now (commands_of cs)

@@ -2,7 +2,7 @@
 -- state) and the answers that remain. It stops at an effect that lacks an answer, or leaves: at its end, by a break, or by
 -- what ends the body (a return, a fault or an abort), with the state and the answers that remain. Where it stops it also says
 -- the place, so that it can go on from there once the answer comes.
-use Rattle.std.specs.Prelude.{ℕ, zero, suc, ◌+◌, ◌-◌, ◌^◌, ◌++◌, min, nat_lt, Bool, true, false, not, List, [], ◌∷◌, Option, Some, None, slice_get, Result, Ok, Err, if◌then◌else◌}
+use Rattle.std.specs.Prelude.{ℕ, zero, suc, ◌+◌, ◌-◌, ◌^◌, ◌++◌, min, nat_lt, Bool, true, false, not, List, [], ◌∷◌, length, Option, Some, None, Result, Ok, Err, if◌then◌else◌}
 use Rattle.std.specs.FinMap as map
 use Rattle.beldi_value.specs.declared.value.Value.{Value}
 use Rattle.beldi_value.specs.declared.value.Value.TheVariants.{Null}
@@ -10,9 +10,9 @@ use Rattle.beldi_value.specs.declared.outcome.Outcome.{Outcome}
 use Rattle.beldi_value.specs.declared.outcome.Outcome.TheVariants as outcome
 use Rattle.beldi_value.specs.declared.outcome.Code.{Code}
 use Rattle.beldi_value.specs.declared.outcome.Code.TheVariants as code
-use Rattle.beldi_lang.specs.declared.deployment.Deployment.{Deployment}
-use Rattle.beldi_lang.specs.declared.deployment.Func.{Func}
-use Rattle.beldi_lang.specs.declared.deployment.TableHead.{TableHead}
+use Rattle.beldi_tree.specs.declared.deployment.Deployment.{Deployment}
+use Rattle.beldi_tree.specs.declared.deployment.Func.{Func}
+use Rattle.beldi_tree.specs.declared.deployment.TableHead.{TableHead}
 use Rattle.beldi_lang.specs.declared.effect.Effect.{Effect}
 use Rattle.beldi_lang.specs.declared.effect.Effect.TheVariants as effect
 use Rattle.beldi_lang.specs.declared.effect.Answer.{Answer}
@@ -27,29 +27,25 @@ use Rattle.beldi_lang.specs.declared.state.Frame.{Frame}
 use Rattle.beldi_lang.specs.declared.state.Frame.TheVariants.{In, Ending}
 use Rattle.beldi_lang.specs.declared.state.Start.{Start}
 use Rattle.beldi_lang.specs.declared.state.Start.TheVariants.{Afresh, From}
-use Rattle.beldi_lang.specs.Term.{Term}
-use Rattle.beldi_lang.specs.Command.{Command, Commands, no_commands, command, set, read, write, condwrite, call, async, lock, unlock, transaction, abort, break, choose, repeat, return, commands_of}
-pub use Rattle.beldi_lang.specs.Bindings.{Bindings, no_variables, is_name, or_null}
+use Rattle.beldi_tree.specs.Term.{Term}
+use Rattle.beldi_tree.specs.Command.{Command, Commands, no_commands, command, set, read, write, condwrite, call, async, lock, unlock, transaction, abort, break, choose, repeat, return, commands_of}
+use Rattle.beldi_tree.specs.Bindings.{Bindings, no_variables}
+use Rattle.beldi_tree.specs.Names.{func_place, table_place, func_at}
 use Rattle.beldi_lang.specs.Locks.{is_held, is_none_held, without}
-use Rattle.beldi_lang.specs.Evaluate.{◌>>=◌, truth, key_of, term_value}
+use Rattle.beldi_tree.specs.Evaluate.{◌>>=◌, truth, key_of, term_value}
 
--- the number of the table of this name, from 0
-abbrev pub table_of : List TableHead → List ℕ → ℕ
-table_of [] n = 0
-table_of (t ∷ ts) n = if is_name t.name n then 0 else table_of ts n + 1
+-- a place, or the one past the last where there is none
+abbrev pub or_past : Option ℕ → ℕ → ℕ
+or_past (Some i) n = i
+or_past None n = n
 
--- the number as an effect has it
+-- the number of the table of this name, from 0, as an effect has it
 abbrev pub table_number : List TableHead → List ℕ → ℕ
-table_number ts n = min (table_of ts n) (2 ^ 16 - 1)
+table_number ts n = min (or_past (table_place ts n) (length ts)) (2 ^ 16 - 1)
 
--- the number of the function of this name, from 0
-abbrev pub func_of : List Func → List ℕ → ℕ
-func_of [] n = 0
-func_of (f ∷ fs) n = if is_name f.name n then 0 else func_of fs n + 1
-
--- the number as an effect has it, from 1
+-- the number of the function of this name, from 1, as an effect has it
 abbrev pub func_number : List Func → List ℕ → ℕ
-func_number fs n = min (func_of fs n + 1) (2 ^ 16 - 1)
+func_number fs n = min (or_past (func_place fs n) (length fs) + 1) (2 ^ 16 - 1)
 
 -- ---- what a statement leads to
 
@@ -312,11 +308,6 @@ abbrev mutual
   run_block d ts (command c cs) (suc n) st s rest = shifted (run_block d ts cs n st s rest)
 
 -- ---- bodies
-
--- the function of this number, from 1
-abbrev pub func_at : Deployment → ℕ → Option Func
-func_at d zero = None
-func_at d (suc n) = slice_get d.funcs n
 
 abbrev pub tables_of : Option Func → List TableHead
 tables_of None = []

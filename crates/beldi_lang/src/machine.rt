@@ -4,14 +4,13 @@ ghost use Rattle.beldi_lang.specs.Wants.{wants_answer, outcome_of, first_state a
 ghost use Rattle.beldi_lang.specs.Machine.{begun, resumed, released as released_of, standing as standing_of, IsAt};
 ghost use Rattle.beldi_lang.specs.Told.{told};
 ghost use Rattle.beldi_lang.specs.declared.effect.Answer.{Answer};
-ghost use Rattle.beldi_lang.specs.declared.deployment.Deployment.{Deployment};
+ghost use Rattle.beldi_tree.specs.declared.deployment.Deployment.{Deployment};
 ghost use Rattle.beldi_value.specs.declared.value.Value.{Value};
 
-use crate::deployment::{Deployment, Func};
 use crate::effect::{Answer, Effect};
 use crate::run::run_body;
 use crate::state::{Exit, HeldLock, Locks, Place, Start, State, Went};
-use crate::variables::Variables;
+use beldi_tree::{Deployment, Func, Variables};
 use beldi_value::{Outcome, Value};
 use std::alloc::{AllocError, Global};
 

@@ -1,8 +1,6 @@
 // What a statement without blocks does first.
-ghost use Rattle.std.specs.Prelude.{◌≡◌, ◌+◌, ◌<◌, ◌-◌, ◌^◌, [], min, Ok, Err, None, IfOk, option_copied, if◌then◌else◌};
+ghost use Rattle.std.specs.Prelude.{◌≡◌, ◌+◌, ◌<◌, [], Ok, Err, None, IfOk, option_copied, if◌then◌else◌};
 ghost use Rattle.beldi_lang.specs.Wants.{
-  table_number as table_number_of,
-  func_number as func_number_of,
   counted as counted_of,
   goes,
   set_to,
@@ -15,8 +13,8 @@ ghost use Rattle.beldi_lang.specs.Wants.{
   done,
   simple as simple_of,
 };
-ghost use Rattle.beldi_lang.specs.Statement.{command_of};
-ghost use Rattle.beldi_lang.specs.Evaluate.{and_then, value_at, key_at as key_of_expr};
+ghost use Rattle.beldi_tree.specs.Statement.{command_of};
+ghost use Rattle.beldi_tree.specs.Evaluate.{and_then, value_at, key_at as key_of_expr};
 ghost use Rattle.beldi_lang.specs.Told.{told, wished, Requests, Counts};
 ghost use Rattle.beldi_lang.specs.declared.state.State.{State};
 ghost use Rattle.beldi_lang.specs.declared.state.Exit.TheVariants.{Ends};
@@ -24,11 +22,10 @@ ghost use Rattle.beldi_lang.specs.declared.effect.Effect.TheVariants as effect;
 ghost use Rattle.beldi_value.specs.declared.outcome.Outcome.TheVariants as outcome;
 ghost use Rattle.beldi_value.specs.declared.outcome.Code.TheVariants as code;
 
-use crate::deployment::{Deployment, Expr, Form, Stmt, TableHeads};
 use crate::effect::{Answer, Effect};
-use crate::evaluation::{evaluate, key_at};
-use crate::fault::EvalErr;
+use crate::scope::Scope;
 use crate::state::{Exit, HeldLock, Place, Start, State, Went};
+use beldi_tree::{EvalErr, Expr, Form, Stmt, evaluate, key_at};
 use beldi_value::{Code, Outcome, Rel, Str};
 use std::alloc::{AllocError, Global};
 
@@ -39,44 +36,6 @@ const MOST_EFFECTS: u32 = 10_000;
 pub enum Request {
     Done(Exit),
     Asks(Effect),
-}
-
-// The number of the table of this name, from 0, as an effect has it.
-fn table_number(tables: &TableHeads, name: &Str) -> u16
-    ensures { result ≡ table_number_of tables.now name.now }
-{
-    let mut number = 0usize;
-    for table in tables.as_slice() {
-        if table.name == *name {
-            return capped(number);
-        }
-        number += 1;
-    }
-    capped(number)
-}
-
-// The number of the function of this name, from 1, as an effect has it.
-fn func_number(code: &Deployment, name: &Str) -> u16
-    ensures { result ≡ func_number_of code.now.funcs name.now }
-{
-    let mut number = 0usize;
-    for func in code.funcs.as_slice() {
-        if func.name == *name {
-            return capped(number.saturating_add(1));
-        }
-        number += 1;
-    }
-    capped(number.saturating_add(1))
-}
-
-fn capped(number: usize) -> u16
-    ensures { result ≡ min number (2 ^ 16 - 1) }
-{
-    if number < 0xffff {
-        number as u16
-    } else {
-        u16::MAX
-    }
 }
 
 impl State {
@@ -122,37 +81,34 @@ fn read(alloc: Global, table: u16, key: &Expr, state: &mut State) -> Result<Requ
 
 fn write(
     alloc: Global,
-    tables: &TableHeads,
-    table: &Str,
+    table: u16,
     key: &Expr,
     value: &Expr,
     state: &mut State,
 ) -> Result<Request, EvalErr>
-    ensures { Requests state.old (and_then (key_of_expr state.old.variables key.now) (λ k. and_then (value_at state.old.variables value.now) (λ v. counted_of (effect.Write (table_number_of tables.now table.now) k v) state.old))) state.new result }
+    ensures { Requests state.old (and_then (key_of_expr state.old.variables key.now) (λ k. and_then (value_at state.old.variables value.now) (λ v. counted_of (effect.Write table k v) state.old))) state.new result }
 {
     let key = key_at(alloc, &state.variables, key)?;
     let value = evaluate(alloc, &state.variables, value)?;
-    let table = table_number(tables, table);
     counted(Effect::Write { table, key, value }, state)
 }
 
 fn write_if(
     alloc: Global,
-    tables: &TableHeads,
-    table: &Str,
+    table: u16,
     key: &Expr,
     rel: Rel,
     operand: &Expr,
     value: &Expr,
     state: &mut State,
 ) -> Result<Request, EvalErr>
-    ensures { Requests state.old (and_then (key_of_expr state.old.variables key.now) (λ k. and_then (value_at state.old.variables operand.now) (λ w. and_then (value_at state.old.variables value.now) (λ v. counted_of (effect.CondWrite (table_number_of tables.now table.now) k rel w v) state.old)))) state.new result }
+    ensures { Requests state.old (and_then (key_of_expr state.old.variables key.now) (λ k. and_then (value_at state.old.variables operand.now) (λ w. and_then (value_at state.old.variables value.now) (λ v. counted_of (effect.CondWrite table k rel w v) state.old)))) state.new result }
 {
     let key = key_at(alloc, &state.variables, key)?;
     let operand = evaluate(alloc, &state.variables, operand)?;
     let value = evaluate(alloc, &state.variables, value)?;
     let effect = Effect::CondWrite {
-        table: table_number(tables, table),
+        table,
         key,
         rel,
         operand,
@@ -224,49 +180,6 @@ fn give_back(alloc: Global, value: &Expr, state: &State) -> Result<Request, Eval
     Ok(Request::Done(Exit::Ends(Outcome::Value(value))))
 }
 
-// The statement's first step.
-fn requested(
-    alloc: Global,
-    code: &Deployment,
-    tables: &TableHeads,
-    stmt: &Stmt,
-    state: &mut State,
-) -> Result<Request, EvalErr>
-    ensures { Requests state.old (requested_of code.now tables.now (command_of stmt.now) state.old) state.new result }
-{
-    match &stmt.form {
-        Form::Set { name, value } => set(alloc, name, value, state),
-        Form::Read {
-            name: _,
-            table,
-            key,
-        } => read(alloc, table_number(tables, table), key, state),
-        Form::Write { table, key, value } => write(alloc, tables, table, key, value, state),
-        Form::CondWrite {
-            name: _,
-            table,
-            key,
-            rel,
-            operand,
-            value,
-        } => write_if(alloc, tables, table, key, *rel, operand, value, state),
-        Form::Call {
-            name: _,
-            func,
-            args,
-        } => call(alloc, func_number(code, func), args, state),
-        Form::Async { func, args } => start(alloc, func_number(code, func), args, state),
-        Form::Lock { table, key } => lock(alloc, table_number(tables, table), key, state),
-        Form::Unlock { table, key } => unlock(alloc, table_number(tables, table), key, state),
-        Form::Abort => abort(state),
-        Form::Break => Ok(Request::Done(Exit::Breaks)),
-        Form::Return(value) => give_back(alloc, value, state),
-        Form::Transaction { .. } | Form::If { .. } | Form::Repeat { .. } => {
-            Ok(Request::Done(Exit::Goes))
-        }
-    }
-}
-
 // The name that the statement sets to its answer.
 fn name_of(stmt: &Stmt) -> Option<&Str>
     ensures { option_copied result ≡ name_of_command (command_of stmt.now) }
@@ -310,23 +223,66 @@ fn asked(alloc: Global, request: Request) -> Went
     }
 }
 
-// A statement without blocks.
-pub(crate) fn simple(
-    alloc: Global,
-    code: &Deployment,
-    tables: &TableHeads,
-    stmt: &Stmt,
-    start: Start,
-    state: &mut State,
-) -> Result<Went, AllocError>
-    ensures { IfOk result (λ w. told w state.new ≡ simple_of (name_of_command (command_of stmt.now)) (requested_of code.now tables.now (command_of stmt.now)) start state.old []) }
-{
-    match start {
-        Start::From { place: _, answer } => answered(alloc, name_of(stmt), answer, state),
-        Start::Afresh => match requested(alloc, code, tables, stmt, state) {
-            Ok(request) => Ok(asked(alloc, request)),
-            Err(EvalErr::Fault(code)) => Ok(Went::Leaves(Exit::Ends(Outcome::Fault(code)))),
-            Err(EvalErr::OutOfMemory) => Err(AllocError),
-        },
+impl Scope<'_> {
+    // The statement's first step.
+    fn requested(self, stmt: &Stmt, state: &mut State) -> Result<Request, EvalErr>
+        ensures { Requests state.old (requested_of self.entry.code.now self.entry.tables.now (command_of stmt.now) state.old) state.new result }
+    {
+        let alloc = self.alloc;
+        match &stmt.form {
+            Form::Set { name, value } => set(alloc, name, value, state),
+            Form::Read {
+                name: _,
+                table,
+                key,
+            } => read(alloc, self.table_number(table), key, state),
+            Form::Write { table, key, value } => {
+                write(alloc, self.table_number(table), key, value, state)
+            }
+            Form::CondWrite {
+                name: _,
+                table,
+                key,
+                rel,
+                operand,
+                value,
+            } => {
+                let table = self.table_number(table);
+                write_if(alloc, table, key, *rel, operand, value, state)
+            }
+            Form::Call {
+                name: _,
+                func,
+                args,
+            } => call(alloc, self.func_number(func), args, state),
+            Form::Async { func, args } => start(alloc, self.func_number(func), args, state),
+            Form::Lock { table, key } => lock(alloc, self.table_number(table), key, state),
+            Form::Unlock { table, key } => unlock(alloc, self.table_number(table), key, state),
+            Form::Abort => abort(state),
+            Form::Break => Ok(Request::Done(Exit::Breaks)),
+            Form::Return(value) => give_back(alloc, value, state),
+            Form::Transaction { .. } | Form::If { .. } | Form::Repeat { .. } => {
+                Ok(Request::Done(Exit::Goes))
+            }
+        }
+    }
+
+    /// A statement without blocks.
+    pub(crate) fn simple(
+        self,
+        stmt: &Stmt,
+        start: Start,
+        state: &mut State,
+    ) -> Result<Went, AllocError>
+        ensures { IfOk result (λ w. told w state.new ≡ simple_of (name_of_command (command_of stmt.now)) (requested_of self.entry.code.now self.entry.tables.now (command_of stmt.now)) start state.old []) }
+    {
+        match start {
+            Start::From { place: _, answer } => answered(self.alloc, name_of(stmt), answer, state),
+            Start::Afresh => match self.requested(stmt, state) {
+                Ok(request) => Ok(asked(self.alloc, request)),
+                Err(EvalErr::Fault(code)) => Ok(Went::Leaves(Exit::Ends(Outcome::Fault(code)))),
+                Err(EvalErr::OutOfMemory) => Err(AllocError),
+            },
+        }
     }
 }

@@ -1,9 +1,9 @@
 // The statements of a body, from one effect to the next.
 ghost use Rattle.std.specs.Prelude.{◌≡◌, [], ◌∷◌, Some, IfOk, if◌then◌else◌, option_map, option_copied};
+ghost use Rattle.beldi_tree.specs.Names.{func_at};
 ghost use Rattle.beldi_lang.specs.Wants.{
   stops,
   fault as fault_of,
-  func_at,
   run_body as run_body_of,
   within,
   Block as BlockOf,
@@ -20,25 +20,18 @@ ghost use Rattle.beldi_lang.specs.Wants.{
   enters as enters_of,
   transact as transact_of,
   run as run_of,
-  run_block as run_block_of,
 };
-ghost use Rattle.beldi_lang.specs.Evaluate.{and_then, value_at, truth as truth_of};
-ghost use Rattle.beldi_lang.specs.Expr.{term_of};
-ghost use Rattle.beldi_lang.specs.Command.{commands_of};
-ghost use Rattle.beldi_lang.specs.Statement.{command_of};
-ghost use Rattle.beldi_lang.specs.Told.{told, is_afresh, left_at, turn_left};
+ghost use Rattle.beldi_tree.specs.Evaluate.{and_then, value_at, truth as truth_of};
+ghost use Rattle.beldi_tree.specs.Expr.{term_of};
+ghost use Rattle.beldi_tree.specs.Statement.{command_of};
+ghost use Rattle.beldi_lang.specs.Told.{told, is_afresh, left_at, turn_left, block_in};
 ghost use Rattle.beldi_lang.specs.declared.state.Frame.TheVariants as frame;
 ghost use Rattle.beldi_lang.specs.declared.state.State.{State};
 
-use crate::block::Block;
-use crate::deployment::{Deployment, Expr, Form, Func, Stmt, TableHeads};
 use crate::effect::Effect;
-use crate::evaluation::evaluate;
-use crate::fault::EvalErr;
-use crate::operators::truth;
-use crate::request::simple;
+use crate::scope::Scope;
 use crate::state::{Exit, Frame, Part, Place, Start, State, Went};
-use crate::variables::Variables;
+use beldi_tree::{Block, Deployment, EvalErr, Expr, Form, Func, Stmt, Variables, evaluate, truth};
 use beldi_value::{Code, Outcome};
 use std::alloc::{AllocError, Global};
 use std::mem::replace;
@@ -129,101 +122,6 @@ fn turned(went: Went) -> Option<Went>
     }
 }
 
-// A statement, begun so.
-#[cycle(run)]
-fn run(
-    alloc: Global,
-    code: &Deployment,
-    tables: &TableHeads,
-    stmt: &Stmt,
-    start: Start,
-    state: &mut State,
-) -> Result<Went, AllocError>
-    ensures { IfOk result (λ w. told w state.new ≡ run_of code.now tables.now (command_of stmt.now) start state.old []) }
-{
-    match &stmt.form {
-        Form::Transaction { block, aborted } => {
-            transact(alloc, code, tables, block, aborted, start, state)
-        }
-        Form::If {
-            test,
-            block,
-            otherwise,
-        } => choose(alloc, code, tables, test, block, otherwise, start, state),
-        Form::Repeat { times, block } => repeat(alloc, code, tables, *times, block, start, state),
-        _ => simple(alloc, code, tables, stmt, start, state),
-    }
-}
-
-// The block, as this part of its statement, from the statement of this number on, which is begun so.
-#[cycle(run)]
-pub(crate) fn run_block(
-    alloc: Global,
-    code: &Deployment,
-    tables: &TableHeads,
-    block: &Block,
-    part: Part,
-    from: usize,
-    start: Start,
-    state: &mut State,
-) -> Result<Went, AllocError>
-    ensures { IfOk result (λ w. told w state.new ≡ within part (run_block_of code.now tables.now (commands_of block.now) from start state.old [])) }
-{
-    let stmts = block.items.as_slice();
-    let mut index = from;
-    let mut next = start;
-    while index < stmts.len() {
-        let went = run(alloc, code, tables, &stmts[index], next, state)?;
-        if let Some(went) = left(went, part, index)? {
-            return Ok(went);
-        }
-        next = Start::Afresh;
-        index += 1;
-    }
-    Ok(Went::Leaves(Exit::Goes))
-}
-
-// A choice.
-#[cycle(run)]
-fn choose(
-    alloc: Global,
-    code: &Deployment,
-    tables: &TableHeads,
-    test: &Expr,
-    first: &Block,
-    second: &Block,
-    start: Start,
-    state: &mut State,
-) -> Result<Went, AllocError>
-    ensures { IfOk result (λ w. told w state.new ≡ choice (run_block_of code.now tables.now (commands_of first.now)) (run_block_of code.now tables.now (commands_of second.now)) (term_of test.now) (head start) (inner start) state.old []) }
-{
-    let (frame, start) = start.entered();
-    match frame {
-        Some(
-            Frame::In {
-                part: Part::First,
-                index,
-            },
-        ) => run_block(alloc, code, tables, first, Part::First, index, start, state),
-        Some(
-            Frame::In {
-                part: Part::Second,
-                index,
-            },
-        ) => run_block(
-            alloc,
-            code,
-            tables,
-            second,
-            Part::Second,
-            index,
-            start,
-            state,
-        ),
-        _ => by_test(alloc, code, tables, test, first, second, state),
-    }
-}
-
 // Whether the test holds, or its fault.
 fn tested(
     alloc: Global,
@@ -239,234 +137,268 @@ fn tested(
     }
 }
 
-#[cycle(run)]
-fn by_test(
-    alloc: Global,
-    code: &Deployment,
-    tables: &TableHeads,
-    test: &Expr,
-    first: &Block,
-    second: &Block,
-    state: &mut State,
-) -> Result<Went, AllocError>
-    ensures { IfOk result (λ w. told w state.new ≡ by_test_of (run_block_of code.now tables.now (commands_of first.now)) (run_block_of code.now tables.now (commands_of second.now)) (and_then (value_at state.old.variables test.now) truth_of) state.old []) }
-{
-    match tested(alloc, &state.variables, test)? {
-        Ok(true) => {
-            let part = Part::First;
-            run_block(alloc, code, tables, first, part, 0, Start::Afresh, state)
+impl Scope<'_> {
+    // A statement, begun so.
+    #[cycle(run)]
+    fn run(self, stmt: &Stmt, start: Start, state: &mut State) -> Result<Went, AllocError>
+        ensures { IfOk result (λ w. told w state.new ≡ run_of self.entry.code.now self.entry.tables.now (command_of stmt.now) start state.old []) }
+    {
+        match &stmt.form {
+            Form::Transaction { block, aborted } => { self.transact(block, aborted, start, state) }
+            Form::If {
+                test,
+                block,
+                otherwise,
+            } => self.choose(test, block, otherwise, start, state),
+            Form::Repeat { times, block } => self.repeat(*times, block, start, state),
+            _ => self.simple(stmt, start, state),
         }
-        Ok(false) => {
-            let part = Part::Second;
-            run_block(alloc, code, tables, second, part, 0, Start::Afresh, state)
-        }
-        Err(code) => Ok(fault(code)),
     }
-}
 
-// A loop.
-#[cycle(run)]
-fn repeat(
-    alloc: Global,
-    code: &Deployment,
-    tables: &TableHeads,
-    times: u32,
-    block: &Block,
-    start: Start,
-    state: &mut State,
-) -> Result<Went, AllocError>
-    ensures { IfOk result (λ w. told w state.new ≡ loop_of (run_block_of code.now tables.now (commands_of block.now)) times (head start) (inner start) state.old []) }
-{
-    let (frame, start) = start.entered();
-    match frame {
-        Some(
-            Frame::In {
-                part: Part::Turn(left),
-                index,
-            },
-        ) => {
+    // The block, as this part of its statement, from the statement of this number on, which is begun so.
+    #[cycle(run)]
+    fn run_block(
+        self,
+        block: &Block,
+        part: Part,
+        from: usize,
+        start: Start,
+        state: &mut State,
+    ) -> Result<Went, AllocError>
+        ensures { IfOk result (λ w. told w state.new ≡ within part (block_in self.entry block.now from start state.old [])) }
+    {
+        let stmts = block.as_slice();
+        let mut index = from;
+        let mut next = start;
+        while index < stmts.len() {
+            let went = self.run(&stmts[index], next, state)?;
+            if let Some(went) = left(went, part, index)? {
+                return Ok(went);
+            }
+            next = Start::Afresh;
+            index += 1;
+        }
+        Ok(Went::Leaves(Exit::Goes))
+    }
+
+    // A choice.
+    #[cycle(run)]
+    fn choose(
+        self,
+        test: &Expr,
+        first: &Block,
+        second: &Block,
+        start: Start,
+        state: &mut State,
+    ) -> Result<Went, AllocError>
+        ensures { IfOk result (λ w. told w state.new ≡ choice (block_in self.entry first.now) (block_in self.entry second.now) (term_of test.now) (head start) (inner start) state.old []) }
+    {
+        let (frame, start) = start.entered();
+        match frame {
+            Some(
+                Frame::In {
+                    part: Part::First,
+                    index,
+                },
+            ) => self.run_block(first, Part::First, index, start, state),
+            Some(
+                Frame::In {
+                    part: Part::Second,
+                    index,
+                },
+            ) => self.run_block(second, Part::Second, index, start, state),
+            _ => self.by_test(test, first, second, state),
+        }
+    }
+
+    #[cycle(run)]
+    fn by_test(
+        self,
+        test: &Expr,
+        first: &Block,
+        second: &Block,
+        state: &mut State,
+    ) -> Result<Went, AllocError>
+        ensures { IfOk result (λ w. told w state.new ≡ by_test_of (block_in self.entry first.now) (block_in self.entry second.now) (and_then (value_at state.old.variables test.now) truth_of) state.old []) }
+    {
+        match tested(self.alloc, &state.variables, test)? {
+            Ok(true) => {
+                let part = Part::First;
+                self.run_block(first, part, 0, Start::Afresh, state)
+            }
+            Ok(false) => {
+                let part = Part::Second;
+                self.run_block(second, part, 0, Start::Afresh, state)
+            }
+            Err(code) => Ok(fault(code)),
+        }
+    }
+
+    // A loop.
+    #[cycle(run)]
+    fn repeat(
+        self,
+        times: u32,
+        block: &Block,
+        start: Start,
+        state: &mut State,
+    ) -> Result<Went, AllocError>
+        ensures { IfOk result (λ w. told w state.new ≡ loop_of (block_in self.entry block.now) times (head start) (inner start) state.old []) }
+    {
+        let (frame, start) = start.entered();
+        match frame {
+            Some(
+                Frame::In {
+                    part: Part::Turn(left),
+                    index,
+                },
+            ) => {
+                let part = Part::Turn(left);
+                let went = self.run_block(block, part, index, start, state)?;
+                match turned(went) {
+                    Some(went) => Ok(went),
+                    None => self.turns(left, block, state),
+                }
+            }
+            _ => self.turns(times, block, state),
+        }
+    }
+
+    // So many turns of a loop.
+    #[cycle(run)]
+    fn turns(self, times: u32, block: &Block, state: &mut State) -> Result<Went, AllocError>
+        ensures { IfOk result (λ w. told w state.new ≡ turns_of (block_in self.entry block.now) times state.old []) }
+    {
+        let mut left = times;
+        while left > 0 {
+            left -= 1;
+            if !state.count() {
+                return Ok(fault(Code::Steps));
+            }
             let part = Part::Turn(left);
-            let went = run_block(alloc, code, tables, block, part, index, start, state)?;
-            match turned(went) {
-                Some(went) => Ok(went),
-                None => turns(alloc, code, tables, left, block, state),
+            let went = self.run_block(block, part, 0, Start::Afresh, state)?;
+            if let Some(went) = turned(went) {
+                return Ok(went);
             }
         }
-        _ => turns(alloc, code, tables, times, block, state),
+        Ok(Went::Leaves(Exit::Goes))
     }
-}
 
-// So many turns of a loop.
-#[cycle(run)]
-fn turns(
-    alloc: Global,
-    code: &Deployment,
-    tables: &TableHeads,
-    times: u32,
-    block: &Block,
-    state: &mut State,
-) -> Result<Went, AllocError>
-    ensures { IfOk result (λ w. told w state.new ≡ turns_of (run_block_of code.now tables.now (commands_of block.now)) times state.old []) }
-{
-    let mut left = times;
-    while left > 0 {
-        left -= 1;
-        if !state.count() {
-            return Ok(fault(Code::Steps));
-        }
-        let part = Part::Turn(left);
-        let went = run_block(alloc, code, tables, block, part, 0, Start::Afresh, state)?;
-        if let Some(went) = turned(went) {
-            return Ok(went);
+    // A transaction.
+    #[cycle(run)]
+    fn transact(
+        self,
+        first: &Block,
+        second: &Block,
+        start: Start,
+        state: &mut State,
+    ) -> Result<Went, AllocError>
+        ensures { IfOk result (λ w. told w state.new ≡ transact_of (block_in self.entry first.now) (block_in self.entry second.now) (head start) (inner start) state.old []) }
+    {
+        let (frame, start) = start.entered();
+        match frame {
+            None => self.begin(first, start.is_afresh(), state),
+            Some(Frame::Ending(exit)) => self.end(second, exit, state),
+            Some(Frame::In { part, index }) => self.resume_block(
+                first, second, part, index, start, state,
+            ),
         }
     }
-    Ok(Went::Leaves(Exit::Goes))
-}
 
-// A transaction.
-#[cycle(run)]
-fn transact(
-    alloc: Global,
-    code: &Deployment,
-    tables: &TableHeads,
-    first: &Block,
-    second: &Block,
-    start: Start,
-    state: &mut State,
-) -> Result<Went, AllocError>
-    ensures { IfOk result (λ w. told w state.new ≡ transact_of (run_block_of code.now tables.now (commands_of first.now)) (run_block_of code.now tables.now (commands_of second.now)) (head start) (inner start) state.old []) }
-{
-    let (frame, start) = start.entered();
-    match frame {
-        None => begin(alloc, code, tables, first, start.is_afresh(), state),
-        Some(Frame::Ending(exit)) => end(alloc, code, tables, second, exit, state),
-        Some(Frame::In { part, index }) => resume_block(
-            alloc, code, tables, first, second, part, index, start, state,
-        ),
-    }
-}
-
-// A transaction, in this part from the statement of this number on.
-#[cycle(run)]
-fn resume_block(
-    alloc: Global,
-    code: &Deployment,
-    tables: &TableHeads,
-    first: &Block,
-    second: &Block,
-    part: Part,
-    index: usize,
-    start: Start,
-    state: &mut State,
-) -> Result<Went, AllocError>
-    ensures { IfOk result (λ w. told w state.new ≡ transact_of (run_block_of code.now tables.now (commands_of first.now)) (run_block_of code.now tables.now (commands_of second.now)) (Some (frame.In part index)) start state.old []) }
-{
-    match part {
-        Part::First => run_block(alloc, code, tables, first, Part::First, index, start, state),
-        Part::Second => {
-            let part = Part::Second;
-            run_block(alloc, code, tables, second, part, index, start, state)
+    // A transaction, in this part from the statement of this number on.
+    #[cycle(run)]
+    fn resume_block(
+        self,
+        first: &Block,
+        second: &Block,
+        part: Part,
+        index: usize,
+        start: Start,
+        state: &mut State,
+    ) -> Result<Went, AllocError>
+        ensures { IfOk result (λ w. told w state.new ≡ transact_of (block_in self.entry first.now) (block_in self.entry second.now) (Some (frame.In part index)) start state.old []) }
+    {
+        match part {
+            Part::First => self.run_block(first, Part::First, index, start, state),
+            Part::Second => {
+                let part = Part::Second;
+                self.run_block(second, part, index, start, state)
+            }
+            Part::Inside => {
+                let part = Part::Inside;
+                close(
+                    self.alloc,
+                    self.run_block(first, part, index, start, state)?,
+                )
+            }
+            Part::Turn(_) => self.enter(first, state),
         }
-        Part::Inside => {
-            let part = Part::Inside;
-            close(
-                alloc,
-                run_block(alloc, code, tables, first, part, index, start, state)?,
-            )
+    }
+
+    // A transaction at its begin: from its start, or after the answer.
+    #[cycle(run)]
+    fn begin(self, first: &Block, afresh: bool, state: &mut State) -> Result<Went, AllocError>
+        ensures { (g : BlockOf) → IfOk result (λ w. told w state.new ≡ (if afresh then enters_of (block_in self.entry first.now) g state.old [] else opened_of (block_in self.entry first.now) g state.old [])) }
+    {
+        if afresh {
+            self.enter(first, state)
+        } else {
+            self.open(first, state)
         }
-        Part::Turn(_) => enter(alloc, code, tables, first, state),
     }
-}
 
-// A transaction at its begin: from its start, or after the answer.
-#[cycle(run)]
-fn begin(
-    alloc: Global,
-    code: &Deployment,
-    tables: &TableHeads,
-    first: &Block,
-    afresh: bool,
-    state: &mut State,
-) -> Result<Went, AllocError>
-    ensures { (g : BlockOf) → IfOk result (λ w. told w state.new ≡ (if afresh then enters_of (run_block_of code.now tables.now (commands_of first.now)) g state.old [] else opened_of (run_block_of code.now tables.now (commands_of first.now)) g state.old [])) }
-{
-    if afresh {
-        enter(alloc, code, tables, first, state)
-    } else {
-        open(alloc, code, tables, first, state)
-    }
-}
-
-// A transaction from its start. Inside another one the first block runs as a plain block.
-#[cycle(run)]
-fn enter(
-    alloc: Global,
-    code: &Deployment,
-    tables: &TableHeads,
-    first: &Block,
-    state: &mut State,
-) -> Result<Went, AllocError>
-    ensures { (g : BlockOf) → IfOk result (λ w. told w state.new ≡ enters_of (run_block_of code.now tables.now (commands_of first.now)) g state.old []) }
-{
-    if state.inside {
-        let part = Part::First;
-        return run_block(alloc, code, tables, first, part, 0, Start::Afresh, state);
-    }
-    if !state.held.is_empty() {
-        return Ok(fault(Code::LocksHeld));
-    }
-    if state.count() {
-        Ok(Went::Stops(Effect::Begin, Place::new(alloc)))
-    } else {
-        Ok(fault(Code::Steps))
-    }
-}
-
-// A transaction after its begin.
-#[cycle(run)]
-fn open(
-    alloc: Global,
-    code: &Deployment,
-    tables: &TableHeads,
-    first: &Block,
-    state: &mut State,
-) -> Result<Went, AllocError>
-    ensures { (g : BlockOf) → IfOk result (λ w. told w state.new ≡ opened_of (run_block_of code.now tables.now (commands_of first.now)) g state.old []) }
-{
-    state.saved = state.variables.copy(alloc)?;
-    state.inside = true;
-    let part = Part::Inside;
-    close(
-        alloc,
-        run_block(alloc, code, tables, first, part, 0, Start::Afresh, state)?,
-    )
-}
-
-// A transaction after its end.
-#[cycle(run)]
-fn end(
-    alloc: Global,
-    code: &Deployment,
-    tables: &TableHeads,
-    second: &Block,
-    exit: Exit,
-    state: &mut State,
-) -> Result<Went, AllocError>
-    ensures { IfOk result (λ w. told w state.new ≡ ended_of (run_block_of code.now tables.now (commands_of second.now)) exit state.old []) }
-{
-    let saved = replace(&mut state.saved, Variables::new(alloc));
-    state.inside = false;
-    match exit {
-        Exit::Ends(Outcome::Aborted(_)) => {
-            state.variables = saved;
-            let part = Part::Second;
-            run_block(alloc, code, tables, second, part, 0, Start::Afresh, state)
+    // A transaction from its start. Inside another one the first block runs as a plain block.
+    #[cycle(run)]
+    fn enter(self, first: &Block, state: &mut State) -> Result<Went, AllocError>
+        ensures { (g : BlockOf) → IfOk result (λ w. told w state.new ≡ enters_of (block_in self.entry first.now) g state.old []) }
+    {
+        if state.inside {
+            let part = Part::First;
+            return self.run_block(first, part, 0, Start::Afresh, state);
         }
-        exit => Ok(Went::Leaves(exit)),
+        if !state.held.is_empty() {
+            return Ok(fault(Code::LocksHeld));
+        }
+        if state.count() {
+            Ok(Went::Stops(Effect::Begin, Place::new(self.alloc)))
+        } else {
+            Ok(fault(Code::Steps))
+        }
+    }
+
+    // A transaction after its begin.
+    #[cycle(run)]
+    fn open(self, first: &Block, state: &mut State) -> Result<Went, AllocError>
+        ensures { (g : BlockOf) → IfOk result (λ w. told w state.new ≡ opened_of (block_in self.entry first.now) g state.old []) }
+    {
+        state.saved = state.variables.copy(self.alloc)?;
+        state.inside = true;
+        let part = Part::Inside;
+        close(
+            self.alloc,
+            self.run_block(first, part, 0, Start::Afresh, state)?,
+        )
+    }
+
+    // A transaction after its end.
+    #[cycle(run)]
+    fn end(self, second: &Block, exit: Exit, state: &mut State) -> Result<Went, AllocError>
+        ensures { IfOk result (λ w. told w state.new ≡ ended_of (block_in self.entry second.now) exit state.old []) }
+    {
+        let saved = replace(&mut state.saved, Variables::new(self.alloc));
+        state.inside = false;
+        match exit {
+            Exit::Ends(Outcome::Aborted(_)) => {
+                state.variables = saved;
+                let part = Part::Second;
+                self.run_block(second, part, 0, Start::Afresh, state)
+            }
+            exit => Ok(Went::Leaves(exit)),
+        }
     }
 }
 
-// The statements of a function.
+// The statements of the function of this number.
 pub(crate) fn run_body(
     alloc: Global,
     code: &Deployment,
@@ -491,24 +423,13 @@ fn body(
 ) -> Result<Went, AllocError>
     ensures { IfOk result (λ w. told w state.new ≡ run_body_of code.now (Some func.now) start state.old []) }
 {
-    let (frame, start) = start.entered();
+    let scope = Scope::new(alloc, code, &func.tables);
     let part = Part::First;
+    let (frame, start) = start.entered();
     match frame {
         Some(Frame::In { part: _, index }) => {
-            run_block(
-                alloc,
-                code,
-                &func.tables,
-                &func.body,
-                part,
-                index,
-                start,
-                state,
-            )
+            scope.run_block(&func.body, part, index, start, state)
         }
-        _ => {
-            let start = Start::Afresh;
-            run_block(alloc, code, &func.tables, &func.body, part, 0, start, state)
-        }
+        _ => scope.run_block(&func.body, part, 0, Start::Afresh, state),
     }
 }

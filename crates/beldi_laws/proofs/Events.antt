@@ -1,5 +1,5 @@
 -- Every event keeps the host and its rows right.
-use Rattle.std.proofs.Common.{◌≡◌, inl, inr, ℕ, zero, suc, ◌+◌, ◌<◌, ◌≤◌, ◌==◌, ◌||◌, ◌&&◌, Bool, true, false, cond, List, [], ◌∷◌, ◌++◌, Option, None, Some, refl, ap, sym, ◌∙◌, subst, IsTrue, is_some, arith, if◌then◌else◌}
+use Rattle.std.proofs.Common.{◌≡◌, inl, inr, ℕ, zero, suc, ◌+◌, ◌<◌, ◌≤◌, ◌==◌, ◌||◌, ◌&&◌, Bool, true, false, cond, [], ◌∷◌, ◌++◌, Option, None, Some, refl, ap, sym, ◌∙◌, subst, IsTrue, is_some, arith, if◌then◌else◌}
 use Rattle.std.specs.Prelude.{nat_lt, nat_le, ◌^◌, ◌-◌, option_to_list}
 use Rattle.std.specs.FinMap as map
 use Rattle.std.specs.FinMap.{get-empty, len-empty}
@@ -11,13 +11,13 @@ use Rattle.beldi_value.specs.Id.{id_cmp, id_total, root_of}
 use Rattle.beldi_value.specs.Same.{same_value}
 use Rattle.beldi_value.specs.declared.outcome.Outcome.{Outcome}
 use Rattle.beldi_value.specs.declared.value.Value.{Value}
-use Rattle.beldi_lang.specs.declared.deployment.Deployment.{Deployment}
+use Rattle.beldi_tree.specs.declared.deployment.Deployment.{Deployment}
 use Rattle.beldi_lang.specs.declared.effect.Effect.{Effect}
 use Rattle.beldi_lang.specs.declared.effect.Effect.TheVariants.{Read, Write, Return}
 use Rattle.beldi_book.specs.declared.entry.Entry.TheVariants.{Start}
 use Rattle.beldi_row.specs.Key.{key_cmp}
 use Rattle.beldi_row.specs.Log.{note_at}
-use Rattle.beldi_lang.specs.Wants.{or_null}
+use Rattle.beldi_tree.specs.Bindings.{or_null}
 use Rattle.beldi_plain.specs.Item.{item_cmp}
 use Rattle.beldi_row.specs.declared.key.RowKey.{RowKey}
 use Rattle.beldi_row.specs.declared.row.Body.{Body}
@@ -40,8 +40,8 @@ use Rattle.beldi_step.specs.declared.run.Stage.{Stage}
 use Rattle.beldi_step.specs.declared.run.Stage.TheVariants as stage
 use Rattle.beldi_value.specs.declared.id.IntentId.{IntentId}
 use Rattle.beldi_step.specs.Run.{Turned, over, run_key, run_act, run_turned, intent_key, begin_body, body_told, stage_key, stage_act, stage_turned, key_at, act_at, turned_at, place_of, ask_turned, walk_turned, write_turned}
+use Rattle.beldi_step.specs.Intent.{is_added, binding_of}
 use Rattle.beldi_step.specs.Host.{Core, Plan, Answer, Do, Lose, first_core, root_key, most_runs, most_events, ticket_next, new_run, restarted, restart_plan, crash_plan, ended_run, lost_next, lost_plan, bound_next, request_next, turn_next, no_run, turn_plan, request_plan, plan_of, counted, plan, dropped, Acts, Loses, Follows, IsOneEvent, Breaks}
-use Rattle.beldi_step.specs.Session.{Runs}
 use Rattle.beldi_laws.specs.Stands.{head_key, effect_before}
 use Rattle.beldi_daal.specs.Content.{content_in}
 use Rattle.beldi_laws.specs.Right.{Right, RootMatches, BodyMatches, IntentFits, FitsAt, Knows, KnowsAt, RunAt, StageOk, PlaceOk, SaneAt, SaneInstance, owed_by, owed_value, value_if}
@@ -197,12 +197,12 @@ module _ (d : Deployment) (c : Core) (m : Rows) (h : Right d c m) where
       some_if true r = refl
       some_if false r = refl
 
-  ticket_by : (r : Option Row) → map.get m (root_key (c.newest + 1)) ≡ r → AfterAct d h.plain m (root_key (c.newest + 1)) (ticket_next c) (act Issue c.now r)
+  ticket_by : (r : Option Row) → map.get m (root_key (c.newest + 1)) ≡ r → AfterAct d h.plain m (root_key (c.newest + 1)) (λ t. ticket_next c (is_added t)) (act Issue c.now r)
   ticket_by None is = subst (λ (r : Option Row). After d h.plain (record c { newest = c.newest + 1 }) (set_row m (root_key (c.newest + 1)) (act Issue c.now r).0) (seen.Issued (c.newest + 1))) is (issued is)
   ticket_by (Some r) is = let clash : true ≡ false = sym (ap is_some is) ∙ h.tickets (c.newest + 1) ∙ not_issued c.newest in cc
 
   good_ticket : Good d h.plain c.now m (plan_of d Ticket c)
-  good_ticket = good_if d h.plain c.now m (c.newest == 2 ^ 32 - 1) (Answer c seen.NoTicket) (Do (root_key (c.newest + 1)) Issue (ticket_next c)) (λ e. as_before d c m seen.NoTicket (refl, refl) h) (λ e. ticket_by (map.get m (root_key (c.newest + 1))) refl)
+  good_ticket = good_if d h.plain c.now m (c.newest == 2 ^ 32 - 1) (Answer c seen.NoTicket) (Do (root_key (c.newest + 1)) Issue (λ t. ticket_next c (is_added t))) (λ e. as_before d c m seen.NoTicket (refl, refl) h) (λ e. ticket_by (map.get m (root_key (c.newest + 1))) refl)
 
 -- ---- a request
 start_is : (p : PlainState) (t f : ℕ) (a : Value) (o : Option Instance) → (t == 0) ≡ false → o ≡ None → start p t f a o ≡ Some (with_instance p (root_of t) (new_instance f a))
@@ -260,22 +260,22 @@ module _ (d : Deployment) (c : Core) (m : Rows) (h : Right d c m) (t f : ℕ) (a
   answer_kept : (v : Option Row) (x : Seen) → v ≡ map.get m (root_key t) → is_gone x ≡ false → ((u : ℕ) (o : Outcome) → told_outcome x ≡ Some (u, o) → reply_of h.plain u ≡ Some o) → After d h.plain c (set_row m (root_key t) v) x
   answer_kept v x e there told = subst (λ n. After d h.plain c n x) (sym (unchanged m (root_key t) v e)) (record { right = h; goes_on = grows_self h.plain.made; there = there; reply = told })
 
-  told_running : (o : Option Outcome) → reply_of h.plain t ≡ o → (v : Option Row) → v ≡ map.get m (root_key t) → AfterAct d h.plain m (root_key t) (request_next c t f a) (v, outcome_tell o)
+  told_running : (o : Option Outcome) → reply_of h.plain t ≡ o → (v : Option Row) → v ≡ map.get m (root_key t) → AfterAct d h.plain m (root_key t) (λ u. request_next c t f a (binding_of u)) (v, outcome_tell o)
   told_running None is v e = answer_kept v (seen.Running t) e refl (λ u o told. cc)
   told_running (Some u) is v e = answer_kept v (seen.Replied t u) e refl (λ w o told. let both = same_some told in ap (reply_of h.plain) (sym (ap (λ z. z.0) both)) ∙ is ∙ ap (λ z. Some z.1) both)
 
   told_same : (b : Body) (o : Option Outcome) (s : Bool) → reply_of h.plain t ≡ o → (v : Option Row) → v ≡ map.get m (root_key t)
-      → AfterAct d h.plain m (root_key t) (request_next c t f a) (v, (if s then outcome_tell o else other b))
+      → AfterAct d h.plain m (root_key t) (λ u. request_next c t f a (binding_of u)) (v, (if s then outcome_tell o else other b))
   told_same b o true is v e = told_running o is v e
   told_same b o false is v e = answer_kept v (seen.Other t b.func b.args) e refl (λ u o told. cc)
 
   request_by : (i : IntentRow) (b : Option Body) → i.body ≡ b → map.get m (root_key t) ≡ Some (rows.Intent i) → IntentFits 0 (root_of t) i → BodyMatches b i.outcome (map.get h.plain.made (root_of t))
-      → AfterAct d h.plain m (root_key t) (request_next c t f a) (Some (rows.Intent (bind_to f a i b).0), (bind_to f a i b).1)
+      → AfterAct d h.plain m (root_key t) (λ u. request_next c t f a (binding_of u)) (Some (rows.Intent (bind_to f a i b).0), (bind_to f a i b).1)
   request_by i None bare is fits root = request_bound i is fits bare root
   request_by i (Some b) has is fits root = told_same b i.outcome ((b.func == f) && same_value b.args a) (ap outcome_of root.made ∙ root.outcome) (Some (rows.Intent i)) (sym is)
 
   request_row : (r : Option Row) → map.get m (root_key t) ≡ r → FitsAt (root_key t) r → RootMatches r (map.get h.plain.made (root_of t))
-      → AfterAct d h.plain m (root_key t) (request_next c t f a) (act (Bind f a) c.now r)
+      → AfterAct d h.plain m (root_key t) (λ u. request_next c t f a (binding_of u)) (act (Bind f a) c.now r)
   request_row None is fits root = let clash : false ≡ true = sym (ap is_some is) ∙ h.tickets t ∙ is_issued t c.newest known in cc
   request_row (Some (rows.Intent i)) is fits root = request_by i i.body refl is fits root
   request_row (Some r) is fits root = absurd fits
@@ -360,13 +360,6 @@ after_break d (Turn i) c b m n h s = elim s [
       let after : After d h.plain next.0 (after_act s.1 c.now s.0 m) next.1 = subst (λ p. Good d h.plain c.now m p) s.3 (good_event d (Turn i) (counted c) m (taken d c m h)) in
       broken d h.plain (dropped (Turn i) next.0) b (after_act s.1 c.now s.0 m) n s.4 s.5 (run_lost d h.plain next.0 (after_act s.1 c.now s.0 m) i after.right after.goes_on)
 ]
-
--- ---- lists of events
-pub runs_right : (d : Deployment) (room old new : ℕ) (es : List Event) (xs : List Seen) (c b : Core) (m n : Rows) → Right d c m → Runs d room es c m old b n new xs → Right d b n
-runs_right d room old new [] [] c b m n h s = subst (λ k. Right d k n) (sym s.0) (subst (λ k. Right d c k) (sym s.1) h)
-runs_right d room old new [] (x ∷ xs) c b m n h s = absurd s
-runs_right d room old new (e ∷ es) [] c b m n h s = absurd s
-runs_right d room old new (e ∷ es) (x ∷ xs) c b m n h s = runs_right d room s.2 new es xs s.0 b s.1 n (after_event d room old s.2 e c s.0 m s.1 x h s.3).right s.5
 
 -- ---- a host that nothing has happened to
 no_ticket : (t : ℕ) → (nat_lt 0 t && nat_le t 0) ≡ false

@@ -1,22 +1,17 @@
 -- The listing of the rows is that of the plain state.
 use Rattle.std.proofs.Common.{◌≡◌, ℕ, zero, Bool, true, false, cond, ◌&&◌, T, List, [], ◌∷◌, ◌++◌, Option, None, Some, refl, ap, sym, ◌∙◌, subst, flat_map}
 use Rattle.std.specs.FinMap as map
-use Rattle.std.specs.FinMap.{FinMap, entries_sorted, get-entries, get-empty, get-insert, get-remove}
+use Rattle.std.specs.FinMap.{entries_sorted, get-entries}
 use Rattle.std.specs.FinMap.Entries.{find, is_sorted, below_all, same_entries}
 use Rattle.std.specs.Ordering.{is_eq, is_lt}
 use Rattle.std.specs.declared.cmp.Ordering.{Ordering}
 use Rattle.std.specs.declared.cmp.Ordering.TheVariants.{Less, Equal, Greater}
 use Rattle.std.proofs.lemmas.Cmp.{tied_itself}
-use Rattle.beldi_value.specs.declared.id.IntentId.{IntentId}
 use Rattle.beldi_value.specs.declared.value.Value.{Value}
 use Rattle.beldi_value.specs.declared.value.Value.TheVariants.{Null}
-use Rattle.beldi_lang.specs.declared.deployment.Deployment.{Deployment}
-use Rattle.beldi_lang.specs.declared.effect.Effect.{Effect}
-use Rattle.beldi_lang.specs.declared.effect.Effect.TheVariants as effect
-use Rattle.beldi_lang.specs.Wants.{or_null}
+use Rattle.beldi_tree.specs.declared.deployment.Deployment.{Deployment}
+use Rattle.beldi_tree.specs.Bindings.{or_null}
 use Rattle.beldi_book.specs.Text.{item_text}
-use Rattle.beldi_book.specs.declared.entry.Entry.{Entry}
-use Rattle.beldi_book.specs.declared.entry.Entry.TheVariants.{Start, Read, Step}
 use Rattle.beldi_row.specs.Key.{key_cmp}
 use Rattle.beldi_row.specs.declared.key.RowKey.{RowKey}
 use Rattle.beldi_row.specs.declared.key.Kind.{Kind}
@@ -25,7 +20,7 @@ use Rattle.beldi_row.specs.declared.row.Row.{Row}
 use Rattle.beldi_row.specs.declared.row.Row.TheVariants as rows
 use Rattle.beldi_row.specs.Table.{Rows}
 use Rattle.beldi_plain.specs.Item.{Item, item_cmp, item_total, item_exact}
-use Rattle.beldi_plain.specs.Plain.{Instance, PlainState, nothing, after, step_by, set_item, effect_of}
+use Rattle.beldi_plain.specs.Plain.{PlainState}
 use Rattle.beldi_plain.specs.Legal.{run_of}
 use Rattle.beldi_plain.specs.Listing.{listing_of}
 use Rattle.beldi_step.specs.Host.{Core}
@@ -35,34 +30,9 @@ use Rattle.beldi_daal.specs.Content.{content_in}
 use Rattle.beldi_laws.specs.Right.{Right}
 use Rattle.beldi_row.proofs.Gets.{key_same}
 use Rattle.beldi_laws.proofs.Rows.{head_order}
-use Rattle.beldi_book.specs.Order.{linear}
-use Rattle.beldi_order.proofs.Entries.{changed, did, run_keeps}
+use Rattle.beldi_order.specs.Laws.{KeepsNoNull}
+use Rattle.beldi_order.proofs.Nulls.{no_null}
 use Rattle.beldi_laws.proofs.Standing.{same_run}
-
--- ---- no item of a plain state is kept as null
-NoNull : FinMap item_cmp Value → Type 0
-NoNull f = (x : Item) → map.get f x ≡ Some Null → ⊥
-
-set_kept : (f : FinMap item_cmp Value) (y : Item) (v : Value) → NoNull f → NoNull (set_item f y v)
-unfolding NoNull
-set_kept f y Null h = changed item_exact f (map.remove f y) y None (get-remove item_total f y) (λ x o. o ≡ Some Null → ⊥) (λ e. cc) h
-set_kept f y v h = changed item_exact f (map.insert f y v) y (Some v) (get-insert item_total f y v) (λ x o. o ≡ Some Null → ⊥) (λ e. cc) h
-
-by_kept : (p : PlainState) (id : IntentId) (q : Instance) (e : Effect) → NoNull p.items → NoNull (step_by p id q e).items
-by_kept p id q (effect.Write t k v) h = set_kept p.items (record { func = q.func; table = t; key = k }) v h
-by_kept p id q e h = h
-
-after_kept : (d : Deployment) (p : PlainState) (e : Entry) (q : PlainState) → NoNull p.items → after d p e ≡ Some q → NoNull q.items
-after_kept d p (Start t f a) q h is = subst (λ (z : PlainState). NoNull z.items) (did d p (Start t f a) q is).leads h
-after_kept d p (Read id seen) q h is = let s = did d p (Read id seen) q is in subst (λ (z : PlainState). NoNull z.items) s.leads (by_kept p id s.instance (effect_of d s.instance) h)
-after_kept d p (Step id) q h is = let s = did d p (Step id) q is in subst (λ (z : PlainState). NoNull z.items) s.leads (by_kept p id s.instance (effect_of d s.instance) h)
-
-none_null : NoNull nothing.items
-unfolding NoNull
-none_null x e = let g = sym (get-empty item_cmp x) ∙ e in cc
-
-no_null : (d : Deployment) (es : List Entry) (p : PlainState) → run_of d es ≡ Some p → NoNull p.items
-no_null d es p is = run_keeps d (λ q. NoNull q.items) (after_kept d) nothing (linear es) p none_null is
 
 -- ---- the entries of rows, as entries of items
 not_null : Value → Option Value
@@ -197,8 +167,8 @@ kept_value (Some Null) h = absurd (h refl)
 kept_value (Some v) h = refl
 
 -- the items of the plain state are those of the rows
-same_items : (m : Rows) (p : PlainState) → NoNull p.items → ((x : Item) → (content_of m x).value ≡ or_null (map.get p.items x)) → map.entries p.items ≡ items_in (map.entries m)
-unfolding NoNull value_in
+same_items : (m : Rows) (p : PlainState) → KeepsNoNull p → ((x : Item) → (content_of m x).value ≡ or_null (map.get p.items x)) → map.entries p.items ≡ items_in (map.entries m)
+unfolding value_in
 same_items m p none is = same_entries item_cmp item_total item_exact (map.entries p.items) (items_in (map.entries m)) (entries_sorted p.items) (sorted_items (map.entries m) (entries_sorted m)) (λ x.
     sym (get-entries p.items x) ∙ kept_value (map.get p.items x) (none x) ∙ ap not_null (sym (is x)) ∙ ap value_in (get-entries m (head_key x)) ∙ sym (found x (map.entries m) (entries_sorted m)))
 

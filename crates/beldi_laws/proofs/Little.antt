@@ -1,14 +1,20 @@
 -- How little one event does.
-use Rattle.std.proofs.Common.{◌≡◌, ◌⊎◌, inl, inr, ℕ, ◌==◌, ◌^◌, ◌-◌, ◌+◌, ◌||◌, nat_lt, nat_le, Bool, true, false, [], ◌++◌, Option, Some, None, if◌then◌else◌, refl, ap, sym, ◌∙◌, subst}
+use Rattle.std.proofs.Common.{◌≡◌, ◌⊎◌, inl, inr, ℕ, ◌==◌, ◌^◌, ◌-◌, ◌+◌, ◌||◌, nat_lt, nat_le, Bool, true, false, cond, [], ◌++◌, Option, Some, None, if◌then◌else◌, refl, ap, sym, ◌∙◌, subst}
 use Rattle.std.proofs.lemmas.List.{append-nil}
 use Rattle.std.specs.FinMap as map
+use Rattle.std.specs.Ordering.{is_eq}
 use Rattle.beldi_value.specs.declared.value.Value.{Value}
-use Rattle.beldi_lang.specs.declared.deployment.Deployment.{Deployment}
+use Rattle.beldi_tree.specs.declared.deployment.Deployment.{Deployment}
 use Rattle.beldi_row.specs.declared.key.RowKey.{RowKey}
 use Rattle.beldi_row.specs.declared.act.Act.{Act}
 use Rattle.beldi_row.specs.declared.act.Act.TheVariants.{Issue, Bind}
-use Rattle.beldi_row.specs.Act.{Tell, added, bound, running, ended, other, did}
-use Rattle.beldi_row.specs.Table.{Rows, tell_act}
+use Rattle.beldi_row.specs.Act.{Tell, act, did}
+use Rattle.beldi_row.specs.declared.row.Row.{Row}
+use Rattle.beldi_row.specs.Key.{key_cmp, least_key}
+use Rattle.beldi_row.specs.Table.{Rows, set_row, after_act, tell_act}
+use Rattle.beldi_row.proofs.Gets.{got, key_same}
+use Rattle.beldi_daal.specs.Content.{content_in}
+use Rattle.beldi_laws.specs.Stands.{head_key, content_of}
 use Rattle.beldi_step.specs.declared.event.Event.{Event}
 use Rattle.beldi_step.specs.declared.event.Event.TheVariants.{Ticket, Request, Turn, Lost, Crash, Restart}
 use Rattle.beldi_step.specs.declared.event.Seen.{Seen}
@@ -19,9 +25,9 @@ use Rattle.std.specs.Prelude.{option_to_list}
 use Rattle.beldi_step.specs.declared.run.Run.{Run}
 use Rattle.beldi_value.specs.declared.id.IntentId.{IntentId}
 use Rattle.beldi_value.specs.declared.outcome.Outcome.{Outcome}
-use Rattle.beldi_lang.specs.declared.deployment.Func.{Func}
+use Rattle.beldi_tree.specs.declared.deployment.Func.{Func}
 use Rattle.beldi_lang.specs.declared.machine.Machine.{Machine}
-use Rattle.beldi_lang.specs.Wants.{func_at}
+use Rattle.beldi_tree.specs.Names.{func_at}
 use Rattle.beldi_row.specs.declared.row.Body.{Body}
 use Rattle.beldi_daal.specs.declared.walk.WriteWalk.{WriteWalk}
 use Rattle.beldi_daal.specs.declared.walk.WriteSays.{WriteSays}
@@ -33,6 +39,9 @@ use Rattle.beldi_daal.specs.declared.read_walk.ReadSays.TheVariants as reading
 use Rattle.beldi_daal.specs.ReadWalk.{read_next}
 use Rattle.beldi_readlog.specs.ReadLog.{given_of, kept_of}
 use Rattle.beldi_step.specs.declared.run.Begun.{Begun}
+use Rattle.beldi_step.specs.declared.intent.Binding.{Binding}
+use Rattle.beldi_step.specs.declared.intent.Binding.TheVariants as binding
+use Rattle.beldi_step.specs.Intent.{is_added, binding_of}
 use Rattle.beldi_step.specs.declared.run.Stage.{Stage}
 use Rattle.beldi_step.specs.declared.run.Stage.TheVariants as stage
 use Rattle.beldi_step.specs.Run.{Turned, over, begin_in, begin_body, body_told, ask_turned, walk_turned, read_if, is_done_note, noted_turned, write_turned, close_turned, stage_turned, turned_at, run_turned}
@@ -41,33 +50,46 @@ use Rattle.beldi_step.specs.Host.{Core, Plan, Answer, Do, Lose, Acts, Loses, Fol
 use Rattle.beldi_laws.specs.Laws.{OneRowChanged, ChangesOneRow, BookGrew, WritesWhatIsTold, entries_told, starts_of, bound_of}
 
 -- ---- rows
+same_rows : (c : Core) (m n : Rows) → n ≡ m → OneRowChanged c m n
+same_rows c m n same = record { key = least_key; rows = inl same; others = λ x apart. ap (λ l. content_of l x) same }
+
+other_row : (m : Rows) (k q : RowKey) (v : Option Row) → (q ≡ k → ⊥) → map.get (set_row m k v) q ≡ map.get m q
+other_row m k q v apart = got m k q v ∙ (elim (is_eq (key_cmp q k)) as (λ b. is_eq (key_cmp q k) ≡ b → cond b v (map.get m q) ≡ map.get m q) [
+  | true ↦ λ e. absurd (apart (key_same q k e))
+  | false ↦ λ e. refl
+] refl)
+
+one_act : (c : Core) (m n : Rows) (k : RowKey) (a : Act) → n ≡ after_act a c.now k m → OneRowChanged c m n
+one_act c m n k a is = record {
+  key = k;
+  rows = inr (a, is);
+  others = λ x apart. ap (λ l. content_of l x) is ∙ ap content_in (other_row m k (head_key x) (act a c.now (map.get m k)).0 apart);
+}
+
 acts_on_one : (room old new : ℕ) (e : Event) (c : Core) (k : RowKey) (a : Act) (f : Tell → Core × Seen) (m : Rows) (b : Core) (n : Rows) (x : Seen) → Acts room old new e c k a f m b n x → OneRowChanged c m n
-acts_on_one room old new e c k a f m b n (seen.Full live most) s = inl s.0
-acts_on_one room old new e c k a f m b n seen.Dropped s = inl s.0
-acts_on_one room old new e c k a f m b n x s = inr (k, a, s.0)
+acts_on_one room old new e c k a f m b n (seen.Full live most) s = same_rows c m n s.0
+acts_on_one room old new e c k a f m b n seen.Dropped s = same_rows c m n s.0
+acts_on_one room old new e c k a f m b n x s = one_act c m n k a s.0
 
 loses_on_one : (room old new : ℕ) (e : Event) (c : Core) (k : RowKey) (a : Act) (f : Tell → Core) (m : Rows) (b : Core) (n : Rows) → Loses room old new e c k a f m b n → OneRowChanged c m n
-loses_on_one room old new e c k a f m b n s = elim s [
-  | inl s ↦ inr (k, a, s.0)
-  | inr s ↦ inl s.0
-]
+loses_on_one room old new e c k a f m b n s = elim s [ inl s ↦ one_act c m n k a s.0 | inr s ↦ same_rows c m n s.0 ]
 
 follows_on_one : (room old new : ℕ) (e : Event) (c : Core) (p : Plan) (m : Rows) (b : Core) (n : Rows) (x : Seen) → Follows room old new e c p m b n x → OneRowChanged c m n
-follows_on_one room old new e c (Answer k y) m b n x s = inl s.0
+follows_on_one room old new e c (Answer k y) m b n x s = same_rows c m n s.0
 follows_on_one room old new e c (Do k a f) m b n x s = acts_on_one room old new e c k a f m b n x s
 follows_on_one room old new e c (Lose k a f) m b n x s = loses_on_one room old new e c k a f m b n s.1
 
 break_on_one : (d : Deployment) (e : Event) (c b : Core) (m n : Rows) → Breaks d e c m b n → OneRowChanged c m n
-break_on_one d Ticket c b m n s = inl s.0
-break_on_one d (Request t f a) c b m n s = inl s.0
-break_on_one d (Turn i) c b m n s = elim s [ inl s ↦ inl s.0 | inr s ↦ inr (s.0, s.1, s.4) ]
-break_on_one d (Lost i) c b m n s = inl s.0
+break_on_one d Ticket c b m n s = same_rows c m n s.0
+break_on_one d (Request t f a) c b m n s = same_rows c m n s.0
+break_on_one d (Turn i) c b m n s = elim s [ inl s ↦ same_rows c m n s.0 | inr s ↦ one_act c m n s.0 s.1 s.4 ]
+break_on_one d (Lost i) c b m n s = same_rows c m n s.0
 break_on_one d (Crash i) c b m n s = absurd s
-break_on_one d (Restart id f) c b m n s = inl s.0
+break_on_one d (Restart id f) c b m n s = same_rows c m n s.0
 
 pub one_row : ChangesOneRow
 one_row = record {
-  event = λ d room old new e c b m n x s. follows_on_one room old new e (counted c) (plan d e c) m b n x s;
+  event = λ d room old new e c b m n x s. let o = follows_on_one room old new e (counted c) (plan d e c) m b n x s in record { key = o.key; rows = o.rows; others = o.others };
   want_of_memory = break_on_one;
 }
 
@@ -158,16 +180,16 @@ dropped_book (Lost i) c = refl
 dropped_book (Crash i) c = refl
 dropped_book (Restart id f) c = refl
 
-ticket_writes : (c : Core) (t : Tell) → BookGrew Ticket c (ticket_next c t).0 (ticket_next c t).1
-ticket_writes c added = none Ticket c (record c { newest = c.newest + 1 }) (seen.Issued (c.newest + 1)) refl refl refl
-ticket_writes c t = none Ticket c c (seen.Gone (c.newest + 1)) refl refl refl
+ticket_writes : (c : Core) (b : Bool) → BookGrew Ticket c (ticket_next c b).0 (ticket_next c b).1
+ticket_writes c true = none Ticket c (record c { newest = c.newest + 1 }) (seen.Issued (c.newest + 1)) refl refl refl
+ticket_writes c false = none Ticket c c (seen.Gone (c.newest + 1)) refl refl refl
 
-request_writes : (c : Core) (t f : ℕ) (a : Value) (u : Tell) → BookGrew (Request t f a) c (request_next c t f a u).0 (request_next c t f a u).1
-request_writes c t f a bound = record { entry = Some (Start t f a); book = refl; starts = refl; told = λ l. refl }
-request_writes c t f a (other b) = none (Request t f a) c c (seen.Other t b.func b.args) refl refl refl
-request_writes c t f a (ended o) = none (Request t f a) c c (seen.Replied t o) refl refl refl
-request_writes c t f a running = none (Request t f a) c c (seen.Running t) refl refl refl
-request_writes c t f a u = none (Request t f a) c c (seen.Gone t) refl refl refl
+request_writes : (c : Core) (t f : ℕ) (a : Value) (u : Binding) → BookGrew (Request t f a) c (request_next c t f a u).0 (request_next c t f a u).1
+request_writes c t f a binding.Bound = record { entry = Some (Start t f a); book = refl; starts = refl; told = λ l. refl }
+request_writes c t f a (binding.Other g v) = none (Request t f a) c c (seen.Other t g v) refl refl refl
+request_writes c t f a (binding.Ended o) = none (Request t f a) c c (seen.Replied t o) refl refl refl
+request_writes c t f a binding.Running = none (Request t f a) c c (seen.Running t) refl refl refl
+request_writes c t f a binding.Gone = none (Request t f a) c c (seen.Gone t) refl refl refl
 
 not_bound : (e : Event) (b : Bool) → bound_of e (if b then seen.NoRun else seen.RunOver) ≡ []
 not_bound e true = refl
@@ -201,11 +223,11 @@ crash_writes c i None = none_live (Crash i) c i (crash_told i)
 crash_writes c i (Some r) = none (Crash i) c (ended_run c i) seen.Crashed refl refl refl
 
 plan_writes : (d : Deployment) (e : Event) (c : Core) → PlanWrites e c (plan_of d e c)
-plan_writes d Ticket c = writes_if Ticket c (c.newest == 2 ^ 32 - 1) (Answer c seen.NoTicket) (Do (root_key (c.newest + 1)) Issue (ticket_next c)) (none Ticket c c seen.NoTicket refl refl refl) (ticket_writes c)
+plan_writes d Ticket c = writes_if Ticket c (c.newest == 2 ^ 32 - 1) (Answer c seen.NoTicket) (Do (root_key (c.newest + 1)) Issue (λ t. ticket_next c (is_added t))) (none Ticket c c seen.NoTicket refl refl refl) (λ t. ticket_writes c (is_added t))
 plan_writes d (Request t f a) c =
-    writes_if (Request t f a) c ((t == 0) || nat_lt c.newest t) (Answer c (seen.Unknown t)) (if nat_le most_runs (map.len c.runs) then Answer c seen.Crowded else Do (root_key t) (Bind f a) (request_next c t f a))
+    writes_if (Request t f a) c ((t == 0) || nat_lt c.newest t) (Answer c (seen.Unknown t)) (if nat_le most_runs (map.len c.runs) then Answer c seen.Crowded else Do (root_key t) (Bind f a) (λ u. request_next c t f a (binding_of u)))
     (none (Request t f a) c c (seen.Unknown t) refl refl refl)
-    (writes_if (Request t f a) c (nat_le most_runs (map.len c.runs)) (Answer c seen.Crowded) (Do (root_key t) (Bind f a) (request_next c t f a)) (none (Request t f a) c c seen.Crowded refl refl refl) (request_writes c t f a))
+    (writes_if (Request t f a) c (nat_le most_runs (map.len c.runs)) (Answer c seen.Crowded) (Do (root_key t) (Bind f a) (λ u. request_next c t f a (binding_of u))) (none (Request t f a) c c seen.Crowded refl refl refl) (λ u. request_writes c t f a (binding_of u)))
 plan_writes d (Turn i) c = turn_writes d c i (map.get c.runs i)
 plan_writes d (Lost i) c = lost_writes d c i (map.get c.runs i)
 plan_writes d (Crash i) c = crash_writes c i (map.get c.runs i)

@@ -3,7 +3,7 @@ use Rattle.std.proofs.Common.{◌≡◌, ℕ, false, List, [], ◌∷◌, ◌++�
 use Rattle.std.specs.Prelude.{option_to_list}
 use Rattle.std.specs.FinMap as map
 use Rattle.beldi_value.specs.declared.outcome.Outcome.{Outcome}
-use Rattle.beldi_lang.specs.declared.deployment.Deployment.{Deployment}
+use Rattle.beldi_tree.specs.declared.deployment.Deployment.{Deployment}
 use Rattle.beldi_book.specs.declared.entry.Entry.{Entry}
 use Rattle.beldi_book.specs.Order.{seen_of, SeenBounded}
 use Rattle.beldi_row.specs.KeyOrder.{key_exact}

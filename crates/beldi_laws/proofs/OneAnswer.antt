@@ -1,31 +1,45 @@
--- Where the host and its rows are right, each step of an instance has one answer, and it stays.
-use Rattle.std.proofs.Common.{◌≡◌, ℕ, zero, suc, ◌==◌, Bool, true, false, List, [], ◌∷◌, ◌++◌, take, Option, None, Some, refl, ap, sym, ◌∙◌, subst, if◌then◌else◌}
-use Rattle.std.specs.Prelude.{slice_get, option_and_then}
+-- Where the host and its rows are right, each step of an instance has one answer; and it stays, whatever comes.
+use Rattle.std.proofs.Common.{◌≡◌, inl, inr, ℕ, Bool, true, false, cond, List, [], ◌∷◌, ◌++◌, Option, None, Some, refl, ap, sym, ◌∙◌, subst, if◌then◌else◌}
+use Rattle.std.specs.Prelude.{option_and_then}
 use Rattle.std.specs.Option.{option_map}
 use Rattle.std.specs.FinMap as map
+use Rattle.std.specs.Ordering.{is_eq}
 use Rattle.beldi_value.specs.declared.id.IntentId.{IntentId}
 use Rattle.beldi_value.specs.declared.place.Place.{Place}
+use Rattle.beldi_value.specs.declared.place.Owner.{Owner}
 use Rattle.beldi_value.specs.declared.value.Value.{Value}
 use Rattle.beldi_value.specs.declared.value.Value.TheVariants.{Null}
-use Rattle.beldi_lang.specs.declared.deployment.Deployment.{Deployment}
+use Rattle.beldi_tree.specs.declared.deployment.Deployment.{Deployment}
 use Rattle.beldi_lang.specs.declared.effect.Answer.{Answer}
 use Rattle.beldi_lang.specs.declared.effect.Answer.TheVariants as answer
 use Rattle.beldi_lang.specs.declared.effect.Effect.TheVariants.{Read, Write}
 use Rattle.beldi_lang.specs.Machine.{IsAt}
-use Rattle.beldi_lang.specs.Wants.{wants}
+use Rattle.beldi_row.specs.declared.key.RowKey.{RowKey}
 use Rattle.beldi_row.specs.declared.notes.Note.{Note}
-use Rattle.beldi_row.specs.Log.{note_at}
-use Rattle.beldi_row.specs.Table.{Rows}
-use Rattle.beldi_readlog.specs.ReadLog.{given, log_key}
-use Rattle.beldi_plain.specs.Item.{Item}
-use Rattle.beldi_plain.specs.Plain.{Instance, PlainState}
+use Rattle.beldi_row.specs.declared.notes.Note.TheVariants.{Wrote}
+use Rattle.beldi_row.specs.declared.row.Cell.{Cell}
+use Rattle.beldi_row.specs.declared.row.IntentRow.{IntentRow}
+use Rattle.beldi_row.specs.declared.row.Row.{Row}
+use Rattle.beldi_row.specs.declared.row.Row.TheVariants as rows
+use Rattle.beldi_row.specs.declared.act.Act.{Act}
+use Rattle.beldi_row.specs.declared.act.Act.TheVariants.{Look, Issue, Bind, End, PutRead, MakeCell, WriteCell}
+use Rattle.beldi_row.specs.Act.{Tell, gone, did, act, on, on_intent, bind_to, end_with, noted_or, next_or, held_or, other_owner, wrote, write_at}
+use Rattle.beldi_row.specs.Key.{key_cmp}
+use Rattle.beldi_row.specs.Log.{note_at, place_eq}
+use Rattle.beldi_row.specs.Table.{Rows, after_act}
+use Rattle.beldi_row.proofs.Gets.{got, key_same}
+use Rattle.beldi_daal.specs.Content.{content_in}
+use Rattle.beldi_readlog.specs.ReadLog.{given_in, log_key}
+use Rattle.beldi_plain.specs.Plain.{Instance}
 use Rattle.beldi_step.specs.declared.run.Run.{Run}
 use Rattle.beldi_step.specs.declared.run.Begun.{Begun}
 use Rattle.beldi_step.specs.Host.{Core}
-use Rattle.beldi_order.proofs.Entries.{same_some, Grown, GrownAt, Grows}
+use Rattle.beldi_order.proofs.Entries.{same_some}
+use Rattle.beldi_laws.specs.Laws.{HeldAnswersStay, OneRowChanged}
 use Rattle.beldi_laws.specs.OneAnswer.{WasGiven, HasAnswers, OneAnswerPerStep, AnswersStay}
-use Rattle.beldi_laws.specs.Right.{Right, RowsMatch, Knows, KnowsAt, RunAt, owed_by, owed_value, note_if, value_if}
-use Rattle.beldi_laws.specs.Stands.{noted_answer, content_of, effect_before}
+use Rattle.beldi_laws.specs.Right.{Right, Knows, KnowsAt, RunAt}
+use Rattle.beldi_laws.specs.Stands.{noted_answer, held_answer, head_key, effect_before}
+use Rattle.beldi_laws.proofs.Little.{one_row}
 use Rattle.beldi_laws.proofs.Standing.{held_here}
 use Rattle.beldi_laws.proofs.Turns.{sane_of}
 
@@ -66,73 +80,90 @@ module _ (d : Deployment) (c : Core) (m : Rows) (h : Right d c m) (id : IntentId
 pub one_answer : (d : Deployment) (c : Core) (m : Rows) → Right d c m → OneAnswerPerStep d c m
 one_answer d c m h id = answers_of d c m h id (map.get h.plain.made id) refl
 
--- ---- it stays
-get_front : (xs ys : List Answer) (n : ℕ) (a : Answer) → slice_get xs n ≡ Some a → slice_get (xs ++ ys) n ≡ Some a
-get_front [] ys n a e = cc
-get_front (x ∷ xs) ys zero a e = e
-get_front (x ∷ xs) ys (suc n) a e = get_front xs ys n a e
+-- ---- it stays: no act takes away what a read was given, or a note
+front_note : (es fs : List (Place × Note)) (p : Place) (n : Note) → note_at es p ≡ Some n → note_at (es ++ fs) p ≡ Some n
+front_note [] fs p n is = cc
+front_note (e ∷ es) fs p n is = by_test (place_eq e.0 p) is (front_note es fs p n)
+  where
+    by_test : (b : Bool) → (if b then Some e.1 else note_at es p) ≡ Some n → (note_at es p ≡ Some n → note_at (es ++ fs) p ≡ Some n) → (if b then Some e.1 else note_at (es ++ fs) p) ≡ Some n
+    by_test true is more = is
+    by_test false is more = more is
 
-take_within : (xs ys : List Answer) (n : ℕ) (a : Answer) → slice_get xs n ≡ Some a → take n (xs ++ ys) ≡ take n xs
-take_within [] ys n a e = cc
-take_within (x ∷ xs) ys zero a e = refl
-take_within (x ∷ xs) ys (suc n) a e = ap (λ zs. x ∷ zs) (take_within xs ys n a e)
+module _ (c : Cell) where
+  abbrev KeepsNotes : Cell × Tell → Type 0
+  KeepsNotes z = (p : Place) (n : Note) → note_at c.log p ≡ Some n → note_at z.0.log p ≡ Some n
 
-module _ (d : Deployment) (q r : Instance) (g : Grown q r) (n : ℕ) where
-  same_answer : (a : Answer) → slice_get q.answers n ≡ Some a → slice_get r.answers n ≡ Some a
-  same_answer a e = ap (λ xs. slice_get xs n) (sym g.more) ∙ get_front q.answers g.later n a e
+  by_note : (o : Option Note) (z : Cell × Tell) → KeepsNotes z → KeepsNotes (noted_or c o z)
+  by_note None z h = h
+  by_note (Some n) z h = λ p n is. is
 
-  same_effect : (a : Answer) → slice_get q.answers n ≡ Some a → effect_before d r n ≡ effect_before d q n
-  same_effect a e =
-      ap (λ xs. wants d r.func r.args false (take n xs)) (sym g.more) ∙ ap (wants d r.func r.args false) (take_within q.answers g.later n a e)
-      ∙ (λ i. wants d (g.func i) (g.args i) false (take n q.answers))
+  by_next : (o : Option ℕ) (z : Cell × Tell) → KeepsNotes z → KeepsNotes (next_or c o z)
+  by_next None z h = h
+  by_next (Some n) z h = λ p n is. is
 
-  note_stays : (x : Item) (o : Option Answer) (v : Note) → slice_get q.answers n ≡ o → note_if x q.func (effect_before d q n) o ≡ Some v → owed_by d x n (Some r) ≡ Some v
-  note_stays x None v at is = cc
-  note_stays x (Some a) v at is =
-      ap (note_if x r.func (effect_before d r n)) (same_answer a at) ∙ ap (λ f. note_if x f (effect_before d r n) (Some a)) g.func
-      ∙ ap (λ e. note_if x q.func e (Some a)) (same_effect a at) ∙ is
+  by_owner : (o : Option Owner) (z : Cell × Tell) → KeepsNotes z → KeepsNotes (held_or c o z)
+  by_owner None z h = h
+  by_owner (Some o) z h = λ p n is. is
 
-  value_stays : (func : ℕ) (o : Option Answer) (v : Value) → slice_get q.answers n ≡ o → (if q.func == func then value_if (effect_before d q n) o else None) ≡ Some v → owed_value d func n (Some r) ≡ Some v
-  value_stays func None v at is = by_test (q.func == func) is
-    where
-      by_test : (b : Bool) → (if b then None else None) ≡ Some v → owed_value d func n (Some r) ≡ Some v
-      by_test true e = cc
-      by_test false e = cc
-  value_stays func (Some a) v at is =
-      ap (λ f. if f == func then value_if (effect_before d r n) (slice_get r.answers n) else None) g.func
-      ∙ ap (λ o. if q.func == func then value_if (effect_before d r n) o else None) (same_answer a at)
-      ∙ ap (λ e. if q.func == func then value_if e (Some a) else None) (same_effect a at) ∙ is
+  written : (p : Place) (w : Owner) (v : Value) → KeepsNotes (write_at p w v c)
+  written p w v =
+      let r : Cell × Tell = (wrote p v c, did) in
+      let s = held_or c (other_owner w c.owner) r in
+      by_note (note_at c.log p) (next_or c c.next s) (by_next c.next s (by_owner (other_owner w c.owner) r (λ q n is. front_note c.log ((p, Wrote) ∷ []) q n is)))
 
-owed_stays : (d : Deployment) (x : Item) (n : ℕ) (o u : Option Instance) (v : Note) → GrownAt o u → owed_by d x n o ≡ Some v → owed_by d x n u ≡ Some v
-owed_stays d x n None u v g is = cc
-owed_stays d x n (Some q) None v g is = absurd g
-owed_stays d x n (Some q) (Some r) v g is = note_stays d q r g n x (slice_get q.answers n) v refl is
+-- the row s has what the row r has
+abbrev Stays : Row → Row → Type 0
+Stays r s = (given_in s ≡ given_in r) × ((p : Place) (n : Note) → note_at (content_in (Some r)).notes p ≡ Some n → note_at (content_in (Some s)).notes p ≡ Some n)
 
-read_stays : (d : Deployment) (func n : ℕ) (o u : Option Instance) (v : Value) → GrownAt o u → owed_value d func n o ≡ Some v → owed_value d func n u ≡ Some v
-read_stays d func n None u v g is = cc
-read_stays d func n (Some q) None v g is = absurd g
-read_stays d func n (Some q) (Some r) v g is = value_stays d q r g n func (slice_get q.answers n) v refl is
+intent_stays : (f : IntentRow → IntentRow × Tell) (t : Tell) (r : Row) → Stays r (on_intent f t r).0
+intent_stays f t (rows.Intent i) = (refl, λ p n is. is)
+intent_stays f t r = (refl, λ p n is. is)
 
--- what was read as an answer is there
-of_value : (o : Option Value) (a : Answer) → option_map answer.Value o ≡ Some a → (v : Value) × (o ≡ Some v)
-of_value None a e = cc
-of_value (Some v) a e = (v, refl)
+row_stays : (a : Act) (now : ℕ) (r : Row) → Stays r (on a now r).0
+row_stays Look now r = (refl, λ p n is. is)
+row_stays Issue now r = (refl, λ p n is. is)
+row_stays (Bind f v) now r = intent_stays (λ i. bind_to f v i i.body) gone r
+row_stays (End o s) now r = intent_stays (λ i. end_with o s now i i.outcome) gone r
+row_stays (PutRead v) now r = (refl, λ p n is. is)
+row_stays (MakeCell v o) now r = (refl, λ p n is. is)
+row_stays (WriteCell q w v) now (rows.Cell c) = (refl, written c q w v)
+row_stays (WriteCell q w v) now r = (refl, λ p n is. is)
 
-of_note : (o : Option Note) (a : Answer) → option_and_then noted_answer o ≡ Some a → (v : Note) × (o ≡ Some v)
-of_note None a e = cc
-of_note (Some v) a e = (v, refl)
+of_note : (o : Option Note) (x : Answer) → option_and_then noted_answer o ≡ Some x → (n : Note) × (o ≡ Some n)
+of_note None x is = cc
+of_note (Some n) x is = (n, refl)
 
-module _ (d : Deployment) (m n : Rows) (p q : PlainState) (h : RowsMatch d m p) (k : RowsMatch d n q) (grows : Grows p.made q.made) where
-  pub answers_stay : AnswersStay m n
-  answers_stay id func step (Read t key) a held =
-      let at : Place = record { intent = id; step = step } in
-      let v = of_value (given m (log_key func at)) a held in
-      let now : given n (log_key func at) ≡ Some v.0 = k.reads func at ∙ read_stays d func step (map.get p.made id) (map.get q.made id) v.0 (grows id) (sym (h.reads func at) ∙ v.1) in
-      ap (option_map answer.Value) (now ∙ sym v.1) ∙ held
-  answers_stay id func step (Write t key u) a held =
-      let at : Place = record { intent = id; step = step } in
-      let x : Item = record { func = func; table = t; key = key } in
-      let v = of_note (note_at (content_of m x).notes at) a held in
-      let now : note_at (content_of n x).notes at ≡ Some v.0 = k.notes x at ∙ owed_stays d x step (map.get p.made id) (map.get q.made id) v.0 (grows id) (sym (h.notes x at) ∙ v.1) in
-      ap (option_and_then noted_answer) (now ∙ sym v.1) ∙ held
-  answers_stay id func step e a held = cc
+value_stays : (a : Act) (now : ℕ) (x : Answer) (o : Option Row) → option_map answer.Value (option_map given_in o) ≡ Some x → option_map answer.Value (option_map given_in (act a now o).0) ≡ Some x
+value_stays a now x None is = cc
+value_stays a now x (Some r) is = ap (λ v. Some (answer.Value v)) (row_stays a now r).0 ∙ is
+
+note_stays : (a : Act) (now : ℕ) (p : Place) (x : Answer) (o : Option Row) → option_and_then noted_answer (note_at (content_in o).notes p) ≡ Some x → option_and_then noted_answer (note_at (content_in (act a now o).0).notes p) ≡ Some x
+note_stays a now p x None is = cc
+note_stays a now p x (Some r) is = let n = of_note (note_at (content_in (Some r)).notes p) x is in ap (option_and_then noted_answer) ((row_stays a now r).1 p n.0 n.1 ∙ sym n.1) ∙ is
+
+-- what is so of each row that an act finds, and of the one that it leaves
+module _ (a : Act) (now : ℕ) (k : RowKey) (m : Rows) (P : Option Row → Type 0) (stays : (o : Option Row) → P o → P (act a now o).0) where
+  at_key : (q : RowKey) → P (map.get m q) → P (map.get (after_act a now k m) q)
+  at_key q here = subst P (sym (got m k q (act a now (map.get m k)).0)) (elim (is_eq (key_cmp q k)) as (λ b. is_eq (key_cmp q k) ≡ b → P (cond b (act a now (map.get m k)).0 (map.get m q))) [
+    | true ↦ λ e. stays (map.get m k) (subst (λ z. P (map.get m z)) (key_same q k e) here)
+    | false ↦ λ e. here
+  ] refl)
+
+act_keeps : (a : Act) (now : ℕ) (k : RowKey) (m : Rows) → AnswersStay m (after_act a now k m)
+act_keeps a now k m id func step (Read t key) x held = at_key a now k m (λ o. option_map answer.Value (option_map given_in o) ≡ Some x) (value_stays a now x) (log_key func (record { intent = id; step = step })) held
+act_keeps a now k m id func step (Write t key v) x held =
+    let at : Place = record { intent = id; step = step } in
+    at_key a now k m (λ o. option_and_then noted_answer (note_at (content_in o).notes at) ≡ Some x) (note_stays a now at x) (head_key (record { func = func; table = t; key = key })) held
+act_keeps a now k m id func step e x held = cc
+
+one_keeps : (c : Core) (m n : Rows) → OneRowChanged c m n → AnswersStay m n
+one_keeps c m n o = elim o.rows [
+  | inl same ↦ λ id func step e x held. subst (λ l. held_answer l id func step e ≡ Some x) (sym same) held
+  | inr s ↦ subst (AnswersStay m) (sym s.1) (act_keeps s.0 c.now o.key m)
+]
+
+pub answers_stay : HeldAnswersStay
+answers_stay = record {
+  event = λ d room old new e c b m n x s. one_keeps c m n (one_row.event d room old new e c b m n x s);
+  want_of_memory = λ d e c b m n s. one_keeps c m n (one_row.want_of_memory d e c b m n s);
+}

@@ -8,12 +8,13 @@ use Rattle.beldi_value.specs.declared.place.Place.{Place}
 use Rattle.beldi_value.specs.declared.place.Owner.TheVariants as owner
 use Rattle.beldi_value.specs.declared.value.Value.{Value}
 use Rattle.beldi_value.specs.declared.outcome.Outcome.{Outcome}
-use Rattle.beldi_lang.specs.declared.deployment.Deployment.{Deployment}
+use Rattle.beldi_tree.specs.declared.deployment.Deployment.{Deployment}
 use Rattle.beldi_lang.specs.declared.effect.Answer.{Answer}
 use Rattle.beldi_lang.specs.declared.effect.Answer.TheVariants as answer
 use Rattle.beldi_lang.specs.declared.effect.Effect.TheVariants.{Read}
 use Rattle.beldi_lang.specs.Machine.{resumed}
-use Rattle.beldi_lang.specs.Wants.{wants_answer, or_null}
+use Rattle.beldi_tree.specs.Bindings.{or_null}
+use Rattle.beldi_lang.specs.Wants.{wants_answer}
 use Rattle.beldi_book.specs.declared.entry.Entry.TheVariants as entry
 use Rattle.beldi_book.specs.Order.{count_changes, front, back, linear}
 use Rattle.beldi_book.proofs.Orders.{linear_changes, front_back}

@@ -1,22 +1,21 @@
 -- The roots that a book starts are the requests that were bound; and the outcomes that were told stay.
-use Rattle.std.proofs.Common.{◌≡◌, ℕ, List, [], ◌∷◌, ◌++◌, Option, None, Some, refl, ap, sym, ◌∙◌, subst, append-nil, append_assoc}
+use Rattle.std.proofs.Common.{◌≡◌, ℕ, List, [], ◌∷◌, ◌++◌, Option, None, Some, refl, ap, sym, ◌∙◌, append-nil}
 use Rattle.std.specs.Prelude.{option_to_list}
 use Rattle.std.specs.FinMap as map
 use Rattle.beldi_value.specs.declared.outcome.Outcome.{Outcome}
-use Rattle.beldi_lang.specs.declared.deployment.Deployment.{Deployment}
+use Rattle.beldi_tree.specs.declared.deployment.Deployment.{Deployment}
 use Rattle.beldi_book.specs.declared.entry.Entry.{Entry}
 use Rattle.beldi_book.specs.declared.entry.Entry.TheVariants.{Start, Read, Step}
 use Rattle.beldi_row.specs.Table.{Rows}
 use Rattle.beldi_step.specs.declared.event.Event.{Event}
 use Rattle.beldi_step.specs.declared.event.Seen.{Seen}
 use Rattle.beldi_step.specs.Host.{Core, IsOneEvent, Breaks}
-use Rattle.beldi_step.specs.Session.{Runs}
 use Rattle.beldi_laws.specs.Right.{Right}
-use Rattle.beldi_laws.specs.Laws.{starts_of, bound_of, bound_in, HasReply, OutcomesStay, TellOutcomes}
+use Rattle.beldi_laws.specs.Laws.{starts_of, bound_of, HasReply, OutcomesStay}
 use Rattle.beldi_value.specs.Id.{root_of}
 use Rattle.beldi_plain.specs.Plain.{Instance, reply_of, outcome_of}
 use Rattle.beldi_order.proofs.Entries.{same_some, GrownAt, Grows}
-use Rattle.beldi_laws.proofs.Events.{after_event, after_break, replies}
+use Rattle.beldi_laws.proofs.Events.{after_event, after_break}
 use Rattle.beldi_laws.proofs.Little.{told_entries, break_grew}
 
 starts_push : (es fs : List Entry) → starts_of (es ++ fs) ≡ starts_of es ++ starts_of fs
@@ -52,26 +51,3 @@ outcomes_stay = record {
   event = λ d room old new e c b m n x t o h s r. let a = after_event d room old new e c b m n x h s in reply_stays d c b m n t o h a.right a.goes_on r;
   want_of_memory = λ d e c b m n t o h s r. let a = after_break d e c b m n h s in reply_stays d c b m n t o h a.right a.goes_on r;
 }
-
--- ---- lists of events
-pub session_starts : (d : Deployment) (room old new : ℕ) (es : List Event) (xs : List Seen) (c b : Core) (m n : Rows) → Runs d room es c m old b n new xs → starts_of b.book ≡ starts_of c.book ++ bound_in es xs
-session_starts d room old new [] [] c b m n s = ap (λ z. starts_of z.book) s.0 ∙ sym (append-nil (starts_of c.book))
-session_starts d room old new [] (x ∷ xs) c b m n s = absurd s
-session_starts d room old new (e ∷ es) [] c b m n s = absurd s
-session_starts d room old new (e ∷ es) (x ∷ xs) c b m n s =
-    session_starts d room s.2 new es xs s.0 b s.1 n s.5 ∙ ap (λ z. z ++ bound_in es xs) (starts_bound d room old s.2 e c s.0 m s.1 x s.3) ∙ append_assoc (starts_of c.book) (bound_of e x) (bound_in es xs)
-
-reply_at_end : (d : Deployment) (room old new : ℕ) (es : List Event) (xs : List Seen) (c b : Core) (m n : Rows) (t : ℕ) (o : Outcome) → Right d c m → Runs d room es c m old b n new xs → HasReply d c.book t o → HasReply d b.book t o
-reply_at_end d room old new [] [] c b m n t o h s r = subst (λ z. HasReply d z.book t o) (sym s.0) r
-reply_at_end d room old new [] (x ∷ xs) c b m n t o h s r = absurd s
-reply_at_end d room old new (e ∷ es) [] c b m n t o h s r = absurd s
-reply_at_end d room old new (e ∷ es) (x ∷ xs) c b m n t o h s r =
-    reply_at_end d room s.2 new es xs s.0 b s.1 n t o (after_event d room old s.2 e c s.0 m s.1 x h s.3).right s.5 (outcomes_stay.event d room old s.2 e c s.0 m s.1 x t o h s.3 r)
-
-pub session_tells : (d : Deployment) (room old new : ℕ) (es : List Event) (xs : List Seen) (c b : Core) (m n : Rows) → Right d c m → Runs d room es c m old b n new xs → TellOutcomes d b.book xs
-session_tells d room old new [] [] c b m n h s = tt
-session_tells d room old new [] (x ∷ xs) c b m n h s = absurd s
-session_tells d room old new (e ∷ es) [] c b m n h s = absurd s
-session_tells d room old new (e ∷ es) (x ∷ xs) c b m n h s =
-    let g = (after_event d room old s.2 e c s.0 m s.1 x h s.3).right in
-    (λ t o told. reply_at_end d room s.2 new es xs s.0 b s.1 n t o g s.5 (replies d room old s.2 e c s.0 m s.1 x h s.3 t o told), session_tells d room s.2 new es xs s.0 b s.1 n g s.5)

@@ -1,14 +1,15 @@
--- What holds of every event, and of every list of events.
+-- What holds of every event.
 use Rattle.std.specs.Prelude.{◌≡◌, ◌⊎◌, ℕ, Bool, true, false, option_to_list, List, [], ◌∷◌, ◌++◌, Option, Some, None}
 use Rattle.std.specs.FinMap as map
 use Rattle.beldi_value.specs.declared.value.Value.{Value}
 use Rattle.beldi_value.specs.declared.outcome.Outcome.{Outcome}
-use Rattle.beldi_lang.specs.declared.deployment.Deployment.{Deployment}
+use Rattle.beldi_tree.specs.declared.deployment.Deployment.{Deployment}
 use Rattle.beldi_book.specs.declared.entry.Entry.{Entry}
 use Rattle.beldi_book.specs.declared.entry.Entry.TheVariants.{Start, Read, Step}
 use Rattle.beldi_row.specs.declared.key.RowKey.{RowKey}
 use Rattle.beldi_row.specs.declared.act.Act.{Act}
 use Rattle.beldi_row.specs.Table.{Rows, after_act}
+use Rattle.beldi_plain.specs.Item.{Item}
 use Rattle.beldi_plain.specs.Plain.{PlainState, reply_of}
 use Rattle.beldi_plain.specs.Legal.{IsLegal, run_of}
 use Rattle.beldi_plain.specs.Listing.{listing_of}
@@ -17,9 +18,8 @@ use Rattle.beldi_step.specs.declared.event.Event.TheVariants.{Ticket, Request, T
 use Rattle.beldi_step.specs.declared.event.Seen.{Seen}
 use Rattle.beldi_step.specs.declared.event.Seen.TheVariants as seen
 use Rattle.beldi_step.specs.Host.{Core, first_core, IsOneEvent, Breaks, is_lost}
-use Rattle.beldi_step.specs.Session.{Runs}
 use Rattle.beldi_step.specs.Tables.{tables_text}
-use Rattle.beldi_laws.specs.Stands.{Stands}
+use Rattle.beldi_laws.specs.Stands.{head_key, content_of, Stands}
 use Rattle.beldi_laws.specs.Right.{Right}
 use Rattle.beldi_laws.specs.OneAnswer.{OneAnswerPerStep, AnswersStay}
 
@@ -126,15 +126,17 @@ ListingIsPlain = (d : Deployment) (c : Core) (m : Rows) (p : PlainState) → Rig
 abbrev pub RightHasOneAnswer : Type 0
 RightHasOneAnswer = (d : Deployment) (c : Core) (m : Rows) → Right d c m → OneAnswerPerStep d c m
 
--- what the rows hold at a step stays
+-- what rows hold at a step stays, whether they are right or not
 pub record HeldAnswersStay : Type 0 where
-  pub event : (d : Deployment) (room old new : ℕ) (e : Event) (c b : Core) (m n : Rows) (x : Seen) → Right d c m → IsOneEvent d room old new e c m b n x → AnswersStay m n
-  pub want_of_memory : (d : Deployment) (e : Event) (c b : Core) (m n : Rows) → Right d c m → Breaks d e c m b n → AnswersStay m n
+  pub event : (d : Deployment) (room old new : ℕ) (e : Event) (c b : Core) (m n : Rows) (x : Seen) → IsOneEvent d room old new e c m b n x → AnswersStay m n
+  pub want_of_memory : (d : Deployment) (e : Event) (c b : Core) (m n : Rows) → Breaks d e c m b n → AnswersStay m n
 
 -- ---- how little one event does
--- at most one row changes, by one act
-abbrev pub OneRowChanged : Core → Rows → Rows → Type 0
-OneRowChanged c m n = (n ≡ m) ⊎ ((k : RowKey) × (a : Act) × (n ≡ after_act a c.now k m))
+-- at most the row of this key changes, by one act; and an item that it is no row of has the content that it had
+pub record OneRowChanged (c : Core) (m n : Rows) : Type 0 where
+  pub key : RowKey
+  pub rows : (n ≡ m) ⊎ ((a : Act) × (n ≡ after_act a c.now key m))
+  pub others : (x : Item) → (head_key x ≡ key → ⊥) → content_of n x ≡ content_of m x
 
 -- .. in an event, and where want of memory came
 pub record ChangesOneRow : Type 0 where
@@ -165,20 +167,3 @@ pub record WritesWhatIsTold : Type 0 where
 abbrev pub bound_in : List Event → List Seen → List (ℕ × (ℕ × Value))
 bound_in (e ∷ es) (x ∷ xs) = bound_of e x ++ bound_in es xs
 bound_in es xs = []
-
--- every outcome that these answers tell is the root's in the run of the book
-abbrev pub TellOutcomes : Deployment → List Entry → List Seen → Type 0
-TellOutcomes d book [] = Unit {0}
-TellOutcomes d book (x ∷ xs) = ((t : ℕ) (o : Outcome) → told_outcome x ≡ Some (t, o) → HasReply d book t o) × TellOutcomes d book xs
-
--- whatever events come, it holds after them ..
-abbrev pub SessionsAreRight : Type 0
-SessionsAreRight = (d : Deployment) (room old new : ℕ) (es : List Event) (xs : List Seen) (c b : Core) (m n : Rows) → Right d c m → Runs d room es c m old b n new xs → Right d b n
-
--- .. the book starts exactly what they bound, in order ..
-abbrev pub SessionsStartTheBound : Type 0
-SessionsStartTheBound = (d : Deployment) (room old new : ℕ) (es : List Event) (xs : List Seen) (c b : Core) (m n : Rows) → Runs d room es c m old b n new xs → starts_of b.book ≡ starts_of c.book ++ bound_in es xs
-
--- .. and what they told of outcomes holds of the book at the end
-abbrev pub SessionsTellOutcomes : Type 0
-SessionsTellOutcomes = (d : Deployment) (room old new : ℕ) (es : List Event) (xs : List Seen) (c b : Core) (m n : Rows) → Right d c m → Runs d room es c m old b n new xs → TellOutcomes d b.book xs

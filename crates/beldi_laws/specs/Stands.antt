@@ -5,7 +5,7 @@ use Rattle.beldi_value.specs.Id.{root_of}
 use Rattle.beldi_value.specs.declared.id.IntentId.{IntentId}
 use Rattle.beldi_value.specs.declared.outcome.Outcome.{Outcome}
 use Rattle.beldi_value.specs.declared.value.Value.TheVariants as value
-use Rattle.beldi_lang.specs.declared.deployment.Deployment.{Deployment}
+use Rattle.beldi_tree.specs.declared.deployment.Deployment.{Deployment}
 use Rattle.beldi_lang.specs.declared.effect.Answer.{Answer}
 use Rattle.beldi_lang.specs.declared.effect.Answer.TheVariants.{Done}
 use Rattle.beldi_lang.specs.declared.effect.Answer.TheVariants as answer

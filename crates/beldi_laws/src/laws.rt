@@ -1,5 +1,5 @@
 // The laws of the step.
-ghost use Rattle.beldi_laws.specs.Laws.{BeginsRight, KeepsRight, BreaksRight, RightIsLegal, RightStands, RepliesAreOutcomes, TicketsHaveRows, StartsAreBound, BreaksStartNothing, OutcomesStay, ListingIsPlain, RightHasOneAnswer, HeldAnswersStay, ChangesOneRow, WritesWhatIsTold, SessionsAreRight, SessionsStartTheBound, SessionsTellOutcomes};
+ghost use Rattle.beldi_laws.specs.Laws.{BeginsRight, KeepsRight, BreaksRight, RightIsLegal, RightStands, RepliesAreOutcomes, TicketsHaveRows, StartsAreBound, BreaksStartNothing, OutcomesStay, ListingIsPlain, RightHasOneAnswer, HeldAnswersStay, ChangesOneRow, WritesWhatIsTold};
 
 /// A host that nothing has happened to is right, over a table without rows.
 pub fn begins_right()
@@ -67,15 +67,7 @@ pub fn held_answers_stay()
     ensures { HeldAnswersStay }
 {}
 
-/// Whatever events come, after them the host and its rows are right, the book starts exactly the requests that were bound,
-/// in order, and every outcome that was told is the root's in the run of the book.
-pub fn every_session_is_right()
-    ensures right { SessionsAreRight }
-    ensures starts { SessionsStartTheBound }
-    ensures outcomes { SessionsTellOutcomes }
-{}
-
-/// An event changes at most one row, by one act.
+/// An event changes at most one row, by one act, and an item that it is no row of keeps its content.
 pub fn an_event_changes_one_row()
     ensures { ChangesOneRow }
 {}

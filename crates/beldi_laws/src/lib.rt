@@ -8,7 +8,7 @@ mod laws;
 
 pub use laws::{
     an_event_changes_one_row, an_event_keeps_right, an_event_writes_what_it_tells, begins_right,
-    each_step_has_one_answer, every_session_is_right, held_answers_stay, listing_is_plain,
-    outcomes_stay, replies_are_outcomes, right_is_legal, right_stands, starts_are_bound,
-    tickets_have_rows, want_of_memory_keeps_right, want_of_memory_starts_nothing,
+    each_step_has_one_answer, held_answers_stay, listing_is_plain, outcomes_stay,
+    replies_are_outcomes, right_is_legal, right_stands, starts_are_bound, tickets_have_rows,
+    want_of_memory_keeps_right, want_of_memory_starts_nothing,
 };

@@ -2,8 +2,8 @@
 use Rattle.std.proofs.Common.{◌≡◌, ◌≤◌, ◌⊎◌, inl, inr, ℕ, length, arith, zero, suc, Bool, true, false, List, [], ◌∷◌, Option, None, Some, Result, Ok, Err, IfSome, refl, ap, sym, ◌∙◌}
 use Rattle.std.specs.FinMap as map
 use Rattle.std.proofs.lemmas.Bool.{false≢true}
-use Rattle.beldi_lang.specs.declared.deployment.Deployment.{Deployment}
-use Rattle.beldi_row.specs.Table.{Rows}
+use Rattle.beldi_tree.specs.declared.deployment.Deployment.{Deployment}
+use Rattle.beldi_row.specs.Table.{Rows, TableState}
 use Rattle.beldi_step.specs.Host.{Core, first_core}
 use Rattle.beldi_laws.specs.Laws.{starts_of}
 use Rattle.beldi_laws.specs.Right.{Right}
@@ -22,7 +22,7 @@ use Rattle.beldi_main.specs.declared.program.Ended.TheVariants as ended
 use Rattle.beldi_main.specs.Said.{Said}
 use Rattle.beldi_main.specs.Session.{Answered, BreaksIn, BrokeOff, deeds_in}
 use Rattle.beldi_main.specs.PlainRun.{IsPlainRun, RowsStandFor}
-use Rattle.beldi_main.specs.Headline.{Claim, Anything, AsRead, PlainRun, LongOn, SessionOn, SourceAsRead, SourceOn, WordsOn, is_whole_source, status_of}
+use Rattle.beldi_main.specs.Headline.{Claim, Anything, AsRead, PlainRun, LongOn, SessionOn, SourceAsRead, SourceOn, TakenOn, WordsOn, is_whole_source, status_of}
 use Rattle.beldi_main.specs.Source.{Numbered, script_of, source_at}
 use Rattle.beldi_main.proofs.Deeds.{both_map}
 use Rattle.beldi_main.proofs.Sessions.{still}
@@ -80,24 +80,27 @@ module _ (P : Claim) (holds : Holds P) where
   session d lines m n f g h k ended.Refused x = (x.0, (x.1.0, holds d d.room (deeds_in d lines) [] x.1.0.said m n n x.1.0.opened g x.1.0.core x.1.0.core x.1.0.answered (refl, refl)))
   session d lines m n f g h k ended.OutOfMemory x = (x.0, holds d d.room x.0.done x.0.more x.0.said m x.0.rows n x.0.opened x.0.closed x.0.last x.0.core x.0.answered x.0.broke_off)
   session d lines m n f g h k ended.SinkFault x = (x.0, holds d d.room x.0.done x.0.more x.0.said m x.0.rows n x.0.opened x.0.closed x.0.last x.0.core x.0.answered (still d x.0.more x.0.last x.0.rows x.0.core n x.0.broke_off))
-  session d lines m n f g h k ended.Usage x = absurd x
-  session d lines m n f g h k ended.SourceFault x = x
-  session d lines m n f g h k ended.TooLong x = x
   session d lines m n f g h k ended.TableFault x = x
+  session d lines m n f g h k e x = absurd x
 
   source : (bytes : List ℕ) (o : Result Parsed Refusal) (m n : Rows) (f g : ℕ) (h k : List ℕ) (e : Ended) → SourceOn Anything bytes o m n f g h k e → SourceOn P bytes o m n f g h k e
   source bytes (Err y) m n f g h k e x = x
   source bytes (Ok p) m n f g h k e x = session p.code (script_of bytes p) m n f g h k e x
 
-  told : (o : Option (List ℕ)) (m n : Rows) (f g : ℕ) (h k : List ℕ) (e : Ended) → IfSome o (λ b. SourceOn Anything b (source_at b) m n f g h k e) → IfSome o (λ b. SourceOn P b (source_at b) m n f g h k e)
-  told None m n f g h k e x = tt
-  told (Some b) m n f g h k e x = source b (source_at b) m n f g h k e x
+  taken : (bytes : List ℕ) (m n : Rows) (f g : ℕ) (h k : List ℕ) (e : Ended) → TakenOn Anything bytes m n f g h k e → TakenOn P bytes m n f g h k e
+  taken bytes m n f g h k ended.SourceFault x = x
+  taken bytes m n f g h k ended.TooLong x = x
+  taken bytes m n f g h k e x = source bytes (source_at bytes) m n f g h k e x
 
-  pub claimed : (words : Bool) (o : Option (List ℕ)) (ra rb : Option Rows) (ha hb : Option (List ℕ)) (f g : ℕ) (e : Ended) → WordsOn Anything words o ra rb ha hb f g e → WordsOn P words o ra rb ha hb f g e
-  claimed true o ra rb ha hb f g e x =
-      both_map {P = λ m n h k. IfSome o (λ b. SourceOn Anything b (source_at b) m n f g h k e)} {Q = λ m n h k. IfSome o (λ b. SourceOn P b (source_at b) m n f g h k e)} ra rb ha hb
-      (λ m n h k y. told o m n f g h k e y) x
-  claimed false o ra rb ha hb f g e x = x
+  told : (o : Option (List ℕ)) (m n : Rows) (f g : ℕ) (h k : List ℕ) (e : Ended) → IfSome o (λ b. TakenOn Anything b m n f g h k e) → IfSome o (λ b. TakenOn P b m n f g h k e)
+  told None m n f g h k e x = tt
+  told (Some b) m n f g h k e x = taken b m n f g h k e x
+
+  pub claimed : (words : Bool) (o : Option (List ℕ)) (s t : TableState) (ha hb : Option (List ℕ)) (e : Ended) → WordsOn Anything words o s t ha hb e → WordsOn P words o s t ha hb e
+  claimed true o s t ha hb e x =
+      both_map {P = λ m n h k. IfSome o (λ b. TakenOn Anything b m n s.faults t.faults h k e)} {Q = λ m n h k. IfSome o (λ b. TakenOn P b m n s.faults t.faults h k e)} s.rows t.rows ha hb
+      (λ m n h k y. told o m n s.faults t.faults h k e y) x
+  claimed false o s t ha hb e x = x
 
 -- ---- the status
 abbrev decode : ℕ → Ended

@@ -1,10 +1,10 @@
 -- What every deed keeps, and what is said at its moment.
-use Rattle.std.proofs.Common.{◌≡◌, inl, inr, ℕ, List, [], ◌∷◌, ◌++◌, None, Some, refl, ap, sym, ◌∙◌, subst, append_assoc}
+use Rattle.std.proofs.Common.{◌≡◌, inl, inr, ℕ, Bool, List, [], ◌∷◌, ◌++◌, None, Some, refl, ap, sym, ◌∙◌, subst, append_assoc}
 use Rattle.std.specs.Prelude.{option_to_list}
 use Rattle.std.proofs.lemmas.List.{append-nil}
 use Rattle.std.proofs.lemmas.Option.{same_Some}
 use Rattle.beldi_value.specs.declared.outcome.Outcome.{Outcome}
-use Rattle.beldi_lang.specs.declared.deployment.Deployment.{Deployment}
+use Rattle.beldi_tree.specs.declared.deployment.Deployment.{Deployment}
 use Rattle.beldi_row.specs.Table.{Rows}
 use Rattle.beldi_book.specs.declared.entry.Entry.{Entry}
 use Rattle.beldi_plain.specs.Legal.{IsLegal}
@@ -23,7 +23,7 @@ use Rattle.beldi_core.specs.declared.survey.ReplySeen.TheVariants.{Unknown, Gone
 use Rattle.beldi_core.proofs.Right.{said_of}
 use Rattle.beldi_main.specs.declared.deed.Deed.{Deed}
 use Rattle.beldi_main.specs.declared.deed.Deed.TheVariants as deed
-use Rattle.beldi_main.specs.Said.{Said, Saw, Unread}
+use Rattle.beldi_main.specs.Said.{Said, Saw, ReplyUnread, TablesUnread}
 use Rattle.beldi_main.specs.Session.{Answered, BreaksIn, BrokeOff, IsOneDeed, IsReading}
 use Rattle.beldi_main.specs.PlainRun.{said_outcome, reply_outcome, entries_said, SayOutcomes, IsSo, Grew, Moments, GoesOn, events_among, seen_among, seen_in}
 
@@ -76,12 +76,12 @@ module _ (d : Deployment) (room : ℕ) where
   deed_tells f g (deed.Event e) c b m n y h s t o is = replies d room f g e c b m n s.0 h s.2 t o (sym (ap said_outcome s.1) ∙ is)
   deed_tells f g (deed.Reply u) c b m n y h s t o is = same_reply d c b t o s.0 (elim (s.2) [
     | inl v ↦ reply_tells c u (reply_seen c.newest u m) (said_of d c m h u) t o (sym (ap said_outcome v) ∙ is)
-    | inr v ↦ absurd (says_none y (Unread (deed.Reply u)) t o v.0 refl is)
+    | inr v ↦ absurd (says_none y ReplyUnread t o v.0 refl is)
   ])
   deed_tells f g deed.Rows c b m n y h s t o is = absurd (says_none y _ t o s.2 refl is)
   deed_tells f g deed.Tables c b m n y h s t o is = elim (s.2) [
     | inl v ↦ absurd (says_none y _ t o v refl is)
-    | inr v ↦ absurd (says_none y (Unread deed.Tables) t o v.0 refl is)
+    | inr v ↦ absurd (says_none y TablesUnread t o v.0 refl is)
   ]
   deed_tells f g deed.Book c b m n y h s t o is = absurd (says_none y _ t o s.2 refl is)
 
@@ -126,8 +126,8 @@ module _ (d : Deployment) (room : ℕ) where
   reads_start : (x : Deed) (es : List Deed) (c k b : Core) (y : Said) (ys : List Said) → k ≡ c → seen_in y ≡ [] → events_among (x ∷ es) ≡ events_among es → starts_of b.book ≡ starts_of k.book ++ bound_in (events_among es) (seen_among ys) → starts_of b.book ≡ starts_of c.book ++ bound_in (events_among (x ∷ es)) (seen_in y ++ seen_among ys)
   reads_start x es c k b y ys core none no_event h = h ∙ (λ i. starts_of (core i).book ++ bound_in (sym no_event i) (sym none i ++ seen_among ys))
 
-  unseen : (x : Deed) (read : Said) (f g : ℕ) (c b : Core) (m n : Rows) (y : Said) → seen_in read ≡ [] → IsReading x read f g c m b n y → seen_in y ≡ []
-  unseen x read f g c b m n y none o = elim (o.2) [ inl v ↦ ap seen_in v ∙ none | inr v ↦ ap seen_in v.0 ]
+  unseen : (known : Bool) (read unread : Said) (f g : ℕ) (c b : Core) (m n : Rows) (y : Said) → seen_in read ≡ [] → seen_in unread ≡ [] → IsReading known read unread f g c m b n y → seen_in y ≡ []
+  unseen known read unread f g c b m n y none still o = elim (o.2) [ inl v ↦ ap seen_in v ∙ none | inr v ↦ ap seen_in v.0 ∙ still ]
 
   pub answered_starts : (es : List Deed) (c : Core) (m : Rows) (f : ℕ) (b : Core) (n : Rows) (g : ℕ) (ys : List Said) → Answered d room es c m f b n g ys → starts_of b.book ≡ starts_of c.book ++ bound_in (events_among es) (seen_among ys)
   answered_starts [] c m f b n g [] r = ap (λ (z : Core). starts_of z.book) r.0 ∙ sym (append-nil (starts_of c.book))
@@ -137,9 +137,9 @@ module _ (d : Deployment) (room : ℕ) where
       subst (λ z. starts_of b.book ≡ starts_of c.book ++ bound_in (e ∷ events_among es) (seen_in z ++ seen_among ys)) (sym r.3.1)
       (answered_starts es r.0 r.1 r.2 b n g ys r.5 ∙ ap (λ z. z ++ bound_in (events_among es) (seen_among ys)) (starts_bound d room f r.2 e c r.0 m r.1 r.3.0 r.3.2)
       ∙ append_assoc (starts_of c.book) (bound_of e r.3.0) (bound_in (events_among es) (seen_among ys)))
-  answered_starts (deed.Reply t ∷ es) c m f b n g (y ∷ ys) r = reads_start (deed.Reply t) es c r.0 b y ys r.3.0 (unseen (deed.Reply t) _ f r.2 c r.0 m r.1 y refl r.3) refl (answered_starts es r.0 r.1 r.2 b n g ys r.5)
+  answered_starts (deed.Reply t ∷ es) c m f b n g (y ∷ ys) r = reads_start (deed.Reply t) es c r.0 b y ys r.3.0 (unseen _ _ ReplyUnread f r.2 c r.0 m r.1 y refl refl r.3) refl (answered_starts es r.0 r.1 r.2 b n g ys r.5)
   answered_starts (deed.Rows ∷ es) c m f b n g (y ∷ ys) r = reads_start deed.Rows es c r.0 b y ys r.3.0 (ap seen_in r.3.2) refl (answered_starts es r.0 r.1 r.2 b n g ys r.5)
-  answered_starts (deed.Tables ∷ es) c m f b n g (y ∷ ys) r = reads_start deed.Tables es c r.0 b y ys r.3.0 (unseen deed.Tables _ f r.2 c r.0 m r.1 y refl r.3) refl (answered_starts es r.0 r.1 r.2 b n g ys r.5)
+  answered_starts (deed.Tables ∷ es) c m f b n g (y ∷ ys) r = reads_start deed.Tables es c r.0 b y ys r.3.0 (unseen _ _ TablesUnread f r.2 c r.0 m r.1 y refl refl r.3) refl (answered_starts es r.0 r.1 r.2 b n g ys r.5)
   answered_starts (deed.Book ∷ es) c m f b n g (y ∷ ys) r = reads_start deed.Book es c r.0 b y ys r.3.0 (ap seen_in r.3.2) refl (answered_starts es r.0 r.1 r.2 b n g ys r.5)
 
   -- what was said of outcomes holds of a book that has the outcomes of the one at the end

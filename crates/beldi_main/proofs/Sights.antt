@@ -1,7 +1,7 @@
 -- Calls one after another, over what the table and the sink tell.
 use Rattle.std.proofs.Common.{◌≡◌, ℕ, ◌+◌, ◌-◌, ◌<◌, ◌≤◌, suc, zero, List, [], ◌∷◌, ◌++◌, Option, None, Some, Result, Ok, Err, ap, sym, ◌∙◌, subst, arith}
-use Rattle.beldi_lang.specs.declared.deployment.Deployment.{Deployment}
-use Rattle.beldi_row.specs.Table.{Rows, Rose}
+use Rattle.beldi_tree.specs.declared.deployment.Deployment.{Deployment}
+use Rattle.beldi_row.specs.Table.{Rows, TableState, Rose}
 use Rattle.beldi_step.specs.Host.{Core}
 use Rattle.beldi_outside.specs.Outside.{Told}
 use Rattle.beldi_outside.proofs.Told.{told_same, told_then, told_map}
@@ -13,7 +13,7 @@ use Rattle.beldi_main.specs.declared.refusal.SourceErr.{SourceErr}
 use Rattle.beldi_main.specs.declared.refusal.SourceErr.TheVariants.{Refused, OutOfMemory}
 use Rattle.beldi_main.specs.declared.session.Stop.{Stop}
 use Rattle.beldi_main.specs.declared.session.Stop.TheVariants as stop
-use Rattle.beldi_main.specs.Session.{State, state_of, Carried, Carrying, Kept, Did, Stopped, LineOn, LinesOn, SoFarOn, line_result, unread_result, deeds_of, deeds_at, and_then, or_refused, listings, times}
+use Rattle.beldi_main.specs.Session.{State, state_of, OnTold, Carrying, Kept, Did, Stopped, LineOn, LinesOn, SoFarOn, line_result, unread_result, deeds_of, deeds_at, and_then, or_refused, listings, times}
 use Rattle.beldi_main.specs.Source.{Numbered, ReadsAs, said_at}
 use Rattle.beldi_main.proofs.Sessions.{did_nothing, did_then, stopped_after, stopped_at_once, stopped_before}
 use Rattle.beldi_main.proofs.Deeds.{times_more}
@@ -22,35 +22,34 @@ use Rattle.beldi_main.proofs.Lines.{begun, goes_on, refused, stops, all_done}
 -- what there is to see between two calls
 pub record Sight : Type 0 where
   pub core : Core
-  pub faults : ℕ
+  pub table : TableState
   pub waiting : List ℕ
-  pub rows : Option Rows
   pub held : Option (List ℕ)
 
 abbrev pub Relation : Type 0 → Type 1
 Relation R = Deployment → ℕ → State → State → R → Type 0
 
 abbrev pub Between : {R : Type 0} → Relation R → Deployment → ℕ → Sight → Sight → R → Type 0
-Between P d room a b r = Carried P d room a.core b.core a.faults b.faults a.waiting b.waiting a.rows b.rows a.held b.held r
+Between P d room a b r = OnTold a.table.rows b.table.rows a.held b.held (λ m n h k. P d room (state_of a.core m a.table.faults h a.waiting) (state_of b.core n b.table.faults k b.waiting) r)
 
 abbrev On : {R : Type 0} → Relation R → Deployment → ℕ → Sight → Sight → R → Rows → Rows → List ℕ → List ℕ → Type 0
-On P d room a b r m n h k = P d room (state_of a.core m a.faults h a.waiting) (state_of b.core n b.faults k b.waiting) r
+On P d room a b r m n h k = P d room (state_of a.core m a.table.faults h a.waiting) (state_of b.core n b.table.faults k b.waiting) r
 
 pub same : {R : Type 0} (P : Relation R) (d : Deployment) (room : ℕ) (a : Sight) (r : R) → ((s : State) → P d room s s r) → Between P d room a a r
-same P d room a r f = told_same (λ m n. Told a.held a.held (On P d room a a r m n)) a.rows (λ m. told_same (On P d room a a r m m) a.held (λ h. f (state_of a.core m a.faults h a.waiting)))
+same P d room a r f = told_same (λ m n. Told a.held a.held (On P d room a a r m n)) a.table.rows (λ m. told_same (On P d room a a r m m) a.held (λ h. f (state_of a.core m a.table.faults h a.waiting)))
 
 pub then : {A B C : Type 0} (P : Relation A) (Q : Relation B) (R : Relation C) (d : Deployment) (room : ℕ) (a b c : Sight) (x : A) (y : B) (z : C)
     → ((s t u : State) → P d room s t x → Q d room t u y → R d room s u z) → Between P d room a b x → Between Q d room b c y → Between R d room a c z
 then P Q R d room a b c x y z f p q =
-    told_then {P = λ m n. Told a.held b.held (On P d room a b x m n)} {Q = λ m n. Told b.held c.held (On Q d room b c y m n)} {R = λ m n. Told a.held c.held (On R d room a c z m n)} a.rows b.rows c.rows
+    told_then {P = λ m n. Told a.held b.held (On P d room a b x m n)} {Q = λ m n. Told b.held c.held (On Q d room b c y m n)} {R = λ m n. Told a.held c.held (On R d room a c z m n)} a.table.rows b.table.rows c.table.rows
     (λ m n o v w. told_then {P = On P d room a b x m n} {Q = On Q d room b c y n o} {R = On R d room a c z m o} a.held b.held c.held
-    (λ h k j v w. f (state_of a.core m a.faults h a.waiting) (state_of b.core n b.faults k b.waiting) (state_of c.core o c.faults j c.waiting) v w) v w) p q
+    (λ h k j v w. f (state_of a.core m a.table.faults h a.waiting) (state_of b.core n b.table.faults k b.waiting) (state_of c.core o c.table.faults j c.waiting) v w) v w) p q
 
 pub between_map : {A B : Type 0} (P : Relation A) (Q : Relation B) (d : Deployment) (room : ℕ) (a b : Sight) (x : A) (y : B) → ((s t : State) → P d room s t x → Q d room s t y) → Between P d room a b x → Between Q d room a b y
 between_map P Q d room a b x y f p =
-    told_map {P = λ m n. Told a.held b.held (On P d room a b x m n)} {Q = λ m n. Told a.held b.held (On Q d room a b y m n)} a.rows b.rows
+    told_map {P = λ m n. Told a.held b.held (On P d room a b x m n)} {Q = λ m n. Told a.held b.held (On Q d room a b y m n)} a.table.rows b.table.rows
     (λ m n v. told_map {P = On P d room a b x m n} {Q = On Q d room a b y m n} a.held b.held
-    (λ h k v. f (state_of a.core m a.faults h a.waiting) (state_of b.core n b.faults k b.waiting) v) v) p
+    (λ h k v. f (state_of a.core m a.table.faults h a.waiting) (state_of b.core n b.table.faults k b.waiting) v) v) p
 
 -- the same deployment, and the same room
 pub at : {R : Type 0} (P : Relation R) (d e : Deployment) (room new_room : ℕ) (a b : Sight) (r : R) → e ≡ d → new_room ≡ room → Between P e new_room a b r → Between P d room a b r
@@ -59,8 +58,8 @@ at P d e room new_room a b r p q h = subst (λ (y : Deployment). Between P y roo
 rose_later : (a b c : ℕ) → a ≤ b → Rose b c → Rose a c
 rose_later a b c h r = omega arith
 
-pub kept_then : {X Y : Type 0} (c d e : Deployment) (r s t f g h i j k : ℕ) (x : Result X Stop) (y : Result Y Stop) → Kept c d r s f g i j x → Kept d e s t g h j k y → Kept c e r t f h i k y
-kept_then c d e r s t f g h i j k x y p q = record {
+pub kept_then : {X Y : Type 0} (c d e : Deployment) (s t u : TableState) (i j k : ℕ) (x : Result X Stop) (y : Result Y Stop) → Kept c d s t i j x → Kept d e t u j k y → Kept c e s u i k y
+kept_then c d e s t u i j k x y p q = record {
   code = q.code ∙ p.code;
   room = q.room ∙ p.room;
   table_later = omega (arith, p.table_later, q.table_later);
@@ -68,8 +67,8 @@ kept_then c d e r s t f g h i j k x y p q = record {
   fault = λ v. rose_later i j k p.sink_later (q.fault v);
 }
 
-pub kept_fine : {X : Type 0} (c d : Deployment) (r s f g i j : ℕ) (x : Result X Stop) → Kept c d r s f g i j x → Kept {X = Unit {0}} c d r s f g i j (Ok tt)
-kept_fine c d r s f g i j x h = record { code = h.code; room = h.room; table_later = h.table_later; sink_later = h.sink_later; fault = λ v. cc }
+pub kept_fine : {X : Type 0} (c d : Deployment) (s t : TableState) (i j : ℕ) (x : Result X Stop) → Kept c d s t i j x → Kept {X = Unit {0}} c d s t i j (Ok tt)
+kept_fine c d s t i j x h = record { code = h.code; room = h.room; table_later = h.table_later; sink_later = h.sink_later; fault = λ v. cc }
 
 -- ---- turns
 times_split : (n k : ℕ) (e : Deed) → times n e ++ times k e ≡ times (n + k) e

@@ -5,8 +5,8 @@ use Rattle.beldi_value.specs.Json.{text_of}
 use Rattle.beldi_value.specs.Value.{datum_of}
 use Rattle.beldi_value.specs.Text.{outcome_text}
 use Rattle.beldi_value.specs.declared.outcome.Outcome.{Outcome}
-use Rattle.beldi_lang.specs.declared.deployment.Deployment.{Deployment}
-use Rattle.beldi_lang.specs.Names.{func_text}
+use Rattle.beldi_tree.specs.declared.deployment.Deployment.{Deployment}
+use Rattle.beldi_tree.specs.Names.{func_text}
 use Rattle.beldi_book.specs.Text.{entry_text}
 use Rattle.beldi_book.specs.declared.entry.Entry.{Entry}
 use Rattle.beldi_step.specs.declared.event.Seen.{Seen}

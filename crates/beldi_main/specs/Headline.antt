@@ -1,9 +1,9 @@
 -- What a session over a source has to do with the rows of the table and the text of the sink.
-use Rattle.std.specs.Prelude.{◌≡◌, ◌⊎◌, ◌≤◌, ◌<◌, ◌+◌, ℕ, length, Bool, true, false, List, [], ◌∷◌, ◌++◌, drop, Option, Some, None, Result, Ok, Err, IfSome, codes}
+use Rattle.std.specs.Prelude.{◌≡◌, ◌⊎◌, ◌≤◌, ◌<◌, ◌+◌, ℕ, length, Bool, true, false, List, [], ◌∷◌, ◌++◌, drop, Option, Some, None, is_none, Result, Ok, Err, IfSome, codes}
 use Rattle.std.specs.FinMap as map
-use Rattle.beldi_lang.specs.declared.deployment.Deployment.{Deployment}
-use Rattle.beldi_lang.specs.Wants.{is_name}
-use Rattle.beldi_row.specs.Table.{Rows}
+use Rattle.beldi_tree.specs.declared.deployment.Deployment.{Deployment}
+use Rattle.beldi_tree.specs.Bindings.{is_name}
+use Rattle.beldi_row.specs.Table.{Rows, TableState}
 use Rattle.beldi_step.specs.Host.{Core, first_core}
 use Rattle.beldi_core.specs.Survey.{newest_of}
 use Rattle.beldi_syntax.specs.declared.reading.Parsed.{Parsed}
@@ -19,7 +19,7 @@ use Rattle.beldi_main.specs.declared.program.Ended.TheVariants as ended
 use Rattle.beldi_main.specs.Said.{Said, said_texts}
 use Rattle.beldi_main.specs.PlainRun.{IsPlainRun}
 use Rattle.beldi_main.specs.Refusal.{refusal_text}
-use Rattle.beldi_main.specs.Session.{Answered, OnTold, StoppedAt, deeds_in, refused_in, ending}
+use Rattle.beldi_main.specs.Session.{Answered, OnStates, StoppedAt, deeds_in, refused_in, ending}
 use Rattle.beldi_main.specs.Source.{Numbered, script_of, source_at}
 
 -- all lines before a refused one were carried out, from the host's state c and the rows m on, and the last listings where
@@ -80,24 +80,18 @@ WholeWith P d lines m n f g h k = (w : Whole d d.room lines (first_core (newest_
 abbrev pub CutWith : Claim → Stop → Deployment → List Numbered → Rows → Rows → ℕ → ℕ → List ℕ → List ℕ → Type 0
 CutWith P why d lines m n f g h k = (w : Cut why d d.room lines (first_core (newest_of m) 0) m n f g h k) × P d m n w.done w.said w.last w.core
 
-abbrev pub is_none : Option Refusal → Bool
-is_none None = true
-is_none (Some x) = false
-
 -- no line is refused
 abbrev pub is_whole : Deployment → List Numbered → Bool
 is_whole d lines = is_none (refused_in d lines)
 
--- by how the program ended
+-- by how the program ended: each of these ways, and no other
 abbrev pub SessionOn : Claim → Deployment → List Numbered → Rows → Rows → ℕ → ℕ → List ℕ → List ℕ → Ended → Type 0
 SessionOn P d lines m n f g h k ended.Done = (is_whole d lines ≡ true) × WholeWith P d lines m n f g h k
 SessionOn P d lines m n f g h k ended.Refused = (is_whole d lines ≡ false) × WholeWith P d lines m n f g h k
 SessionOn P d lines m n f g h k ended.OutOfMemory = CutWith P stop.OutOfMemory d lines m n f g h k
 SessionOn P d lines m n f g h k ended.SinkFault = CutWith P stop.SinkFault d lines m n f g h k
-SessionOn P d lines m n f g h k ended.Usage = ⊥
-SessionOn P d lines m n f g h k ended.SourceFault = (n ≡ m) × (k ≡ h)
-SessionOn P d lines m n f g h k ended.TooLong = (n ≡ m) × (k ≡ h)
 SessionOn P d lines m n f g h k ended.TableFault = (n ≡ m) × (k ≡ h)
+SessionOn P d lines m n f g h k e = ⊥
 
 -- a text is written by an ending of its own, or a front of it where the sink failed; no other ending writes
 abbrev pub SaysOn : List ℕ → List ℕ → List ℕ → Type 0
@@ -105,14 +99,10 @@ SaysOn text h k = (w : List ℕ) × IsPrefixOf w text × (k ≡ h ++ w)
 
 -- the source is refused before its script: nothing is done, and the refusal is written
 abbrev pub UnreadOn : Refusal → List ℕ → List ℕ → Ended → Type 0
-UnreadOn x h k ended.Done = ⊥
 UnreadOn x h k ended.Refused = k ≡ h ++ refusal_text x
 UnreadOn x h k ended.OutOfMemory = k ≡ h
 UnreadOn x h k ended.SinkFault = SaysOn (refusal_text x) h k
-UnreadOn x h k ended.Usage = ⊥
-UnreadOn x h k ended.SourceFault = k ≡ h
-UnreadOn x h k ended.TooLong = k ≡ h
-UnreadOn x h k ended.TableFault = ⊥
+UnreadOn x h k e = ⊥
 
 -- by what the source says: its deployment was read, keeps every rule and can be carried out, and its lines are carried out;
 -- or it is refused before
@@ -120,8 +110,14 @@ abbrev pub SourceOn : Claim → List ℕ → Result Parsed Refusal → Rows → 
 SourceOn P bytes (Err x) m n f g h k e = (n ≡ m) × UnreadOn x h k e
 SourceOn P bytes (Ok p) m n f g h k e = SessionOn P p.code (script_of bytes p) m n f g h k e
 
-abbrev pub RunOn : Claim → Option (List ℕ) → Option Rows → Option Rows → Option (List ℕ) → Option (List ℕ) → ℕ → ℕ → Ended → Type 0
-RunOn P source rows rows' held held' f g e = OnTold rows rows' held held' (λ m n h k. IfSome source (λ b. SourceOn P b (source_at b) m n f g h k e))
+-- .. or the source was not read, since it failed or is too long, and nothing is done
+abbrev pub TakenOn : Claim → List ℕ → Rows → Rows → ℕ → ℕ → List ℕ → List ℕ → Ended → Type 0
+TakenOn P bytes m n f g h k ended.SourceFault = (n ≡ m) × (k ≡ h)
+TakenOn P bytes m n f g h k ended.TooLong = (n ≡ m) × (k ≡ h)
+TakenOn P bytes m n f g h k e = SourceOn P bytes (source_at bytes) m n f g h k e
+
+abbrev pub RunOn : Claim → Option (List ℕ) → TableState → TableState → Option (List ℕ) → Option (List ℕ) → Ended → Type 0
+RunOn P source old new held held' e = OnStates old new held held' (λ m n f g h k. IfSome source (λ b. TakenOn P b m n f g h k e))
 
 -- ---- the words
 abbrev pub usage : List ℕ
@@ -133,9 +129,9 @@ UsageOn h k ended.Usage = k ≡ h ++ usage
 UsageOn h k ended.SinkFault = SaysOn usage h k
 UsageOn h k e = ⊥
 
-abbrev pub WordsOn : Claim → Bool → Option (List ℕ) → Option Rows → Option Rows → Option (List ℕ) → Option (List ℕ) → ℕ → ℕ → Ended → Type 0
-WordsOn P true source rows rows' held held' f g e = RunOn P source rows rows' held held' f g e
-WordsOn P false source rows rows' held held' f g e = OnTold rows rows' held held' (λ m n h k. (n ≡ m) × UsageOn h k e)
+abbrev pub WordsOn : Claim → Bool → Option (List ℕ) → TableState → TableState → Option (List ℕ) → Option (List ℕ) → Ended → Type 0
+WordsOn P true source old new held held' e = RunOn P source old new held held' e
+WordsOn P false source old new held held' e = OnStates old new held held' (λ m n f g h k. (n ≡ m) × UsageOn h k e)
 
 abbrev pub is_run : List (List ℕ) → Bool
 is_run [] = false

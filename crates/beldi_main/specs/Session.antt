@@ -1,8 +1,8 @@
 -- A session: the deeds of a script, what was said of them, and the text that was written.
 use Rattle.std.specs.Prelude.{◌≡◌, ◌⊎◌, ◌≤◌, ℕ, zero, suc, Bool, false, List, [], ◌∷◌, ◌++◌, Option, Some, None, Result, Ok, Err, OnOk, IsErrOf}
 use Rattle.std.specs.declared.alloc.AllocError.{AllocError}
-use Rattle.beldi_lang.specs.declared.deployment.Deployment.{Deployment}
-use Rattle.beldi_row.specs.Table.{Rows, Rose, row_count}
+use Rattle.beldi_tree.specs.declared.deployment.Deployment.{Deployment}
+use Rattle.beldi_row.specs.Table.{Rows, TableState, Rose, row_count}
 use Rattle.beldi_book.specs.Text.{book_text}
 use Rattle.beldi_step.specs.declared.event.Event.{Event}
 use Rattle.beldi_step.specs.declared.event.Event.TheVariants as event
@@ -23,7 +23,7 @@ use Rattle.beldi_main.specs.declared.session.Stop.TheVariants as stop
 use Rattle.beldi_main.specs.declared.session.Stop.TheVariants.{SinkFault}
 use Rattle.beldi_main.specs.Answer.{answer_text}
 use Rattle.beldi_main.specs.Refusal.{refusal_text}
-use Rattle.beldi_main.specs.Said.{Said, Saw, ReplyIs, RowsAre, TablesAre, BookIs, Unread, said_text, said_texts}
+use Rattle.beldi_main.specs.Said.{Said, Saw, ReplyIs, RowsAre, TablesAre, BookIs, ReplyUnread, TablesUnread, said_text, said_texts}
 use Rattle.beldi_main.specs.Source.{Numbered, said_at}
 
 -- ---- the deeds of a script
@@ -73,20 +73,16 @@ refused_in d (l ∷ ls) = or_refused (said_at d l) (refused_in d ls)
 
 -- ---- one deed, as a relation: from the core c and the rows m it leaves b and n, and this is said of it. The table's count
 -- of failures was f before, and is g now.
--- what a reading says is known without a look at the rows: a ticket that was not issued has no reply
-abbrev pub is_known : Core → Deed → Bool
-is_known c (deed.Reply t) = is_unknown c.newest t
-is_known c x = false
-
--- a reading changes nothing: it says what is to be read, or, where the rows have to be looked at, that the table failed
-abbrev pub IsReading : Deed → Said → ℕ → ℕ → Core → Rows → Core → Rows → Said → Type 0
-IsReading x read f g c m b n y = (b ≡ c) × (n ≡ m) × ((y ≡ read) ⊎ ((y ≡ Unread x) × Rose f g × (is_known c x ≡ false)))
+-- a reading changes nothing: it says what is to be read, or that the table failed, where that is not known without a look
+-- at the rows
+abbrev pub IsReading : Bool → Said → Said → ℕ → ℕ → Core → Rows → Core → Rows → Said → Type 0
+IsReading known read unread f g c m b n y = (b ≡ c) × (n ≡ m) × ((y ≡ read) ⊎ ((y ≡ unread) × Rose f g × (known ≡ false)))
 
 abbrev pub IsOneDeed : Deployment → ℕ → ℕ → ℕ → Deed → Core → Rows → Core → Rows → Said → Type 0
 IsOneDeed d room f g (deed.Event e) c m b n y = (x : Seen) × (y ≡ Saw x) × IsOneEvent d room f g e c m b n x
-IsOneDeed d room f g (deed.Reply t) c m b n y = IsReading (deed.Reply t) (ReplyIs t (reply_seen c.newest t m)) f g c m b n y
+IsOneDeed d room f g (deed.Reply t) c m b n y = IsReading (is_unknown c.newest t) (ReplyIs t (reply_seen c.newest t m)) ReplyUnread f g c m b n y
 IsOneDeed d room f g deed.Rows c m b n y = (b ≡ c) × (n ≡ m) × (y ≡ RowsAre (row_count m))
-IsOneDeed d room f g deed.Tables c m b n y = IsReading deed.Tables (TablesAre (tables_text d m)) f g c m b n y
+IsOneDeed d room f g deed.Tables c m b n y = IsReading false (TablesAre (tables_text d m)) TablesUnread f g c m b n y
 IsOneDeed d room f g deed.Book c m b n y = (b ≡ c) × (n ≡ m) × (y ≡ BookIs (book_text d c.book))
 
 -- what want of memory in a deed leaves
@@ -193,16 +189,20 @@ SoFarOn lines left d room s t r = SoFar d room lines left s t
 abbrev pub OnTold : Option Rows → Option Rows → Option (List ℕ) → Option (List ℕ) → (Rows → Rows → List ℕ → List ℕ → Type 0) → Type 0
 OnTold rows rows' held held' P = Told rows rows' (λ m n. Told held held' (P m n))
 
+-- .. of two states of a table, with its counts of failures
+abbrev pub OnStates : TableState → TableState → Option (List ℕ) → Option (List ℕ) → (Rows → Rows → ℕ → ℕ → List ℕ → List ℕ → Type 0) → Type 0
+OnStates old new held held' P = OnTold old.rows new.rows held held' (λ m n h k. P m n old.faults new.faults h k)
+
 -- what a call does, by a relation P of its result to the deployment, the room, and the state before and after: over the
--- host, the table's count of failures, the text that waits, and what the table and the sink tell
-abbrev pub Carried : {R : Type 0} → (Deployment → ℕ → State → State → R → Type 0) → Deployment → ℕ → Core → Core → ℕ → ℕ → List ℕ → List ℕ → Option Rows → Option Rows → Option (List ℕ) → Option (List ℕ) → R → Type 0
-Carried P d room c b f g p q rows rows' held held' r = OnTold rows rows' held held' (λ m n h k. P d room (state_of c m f h p) (state_of b n g k q) r)
+-- host, its table, the text that waits, and what the sink tells
+abbrev pub Carried : {R : Type 0} → (Deployment → ℕ → State → State → R → Type 0) → Deployment → Core → Core → TableState → TableState → List ℕ → List ℕ → Option (List ℕ) → Option (List ℕ) → R → Type 0
+Carried P d c b old new p q held held' r = OnStates old new held held' (λ m n f g h k. P d old.room (state_of c m f h p) (state_of b n g k q) r)
 
 -- what such a call keeps: the deployment, the room; no count falls, and the sink's fault is told only where its count rose
-pub record Kept {X : Type 0} (old_code new_code : Deployment) (old_room new_room old_table new_table old_sink new_sink : ℕ) (result : Result X Stop) : Type 0 where
+pub record Kept {X : Type 0} (old_code new_code : Deployment) (old new : TableState) (old_sink new_sink : ℕ) (result : Result X Stop) : Type 0 where
   pub code : new_code ≡ old_code
-  pub room : new_room ≡ old_room
-  pub table_later : old_table ≤ new_table
+  pub room : new.room ≡ old.room
+  pub table_later : old.faults ≤ new.faults
   pub sink_later : old_sink ≤ new_sink
   pub fault : IsErrOf result SinkFault → Rose old_sink new_sink
 
@@ -219,25 +219,25 @@ TellsAnswer d p q (Ok u) (Err v) = ⊥
 TellsAnswer d p q (Err w) seen = Unit {0}
 
 -- an event was carried out, and its answer appended
-pub record Answering (d d' : Deployment) (e : Event) (c b : Core) (room room' f g : ℕ) (rows rows' : Option Rows) (p q : List ℕ) (result : Result (Unit {0}) AllocError) : Type 0 where
+pub record Answering (d d' : Deployment) (e : Event) (c b : Core) (old new : TableState) (p q : List ℕ) (result : Result (Unit {0}) AllocError) : Type 0 where
   pub seen : Result Seen AllocError
-  pub stepped : Stepped d e c b room room' f g rows rows' seen
+  pub stepped : Stepped d e c b old new seen
   pub code : d' ≡ d
   pub text : TellsAnswer d p q result seen
 
--- what a reading says went after the text p, or, where the rows have to be looked at, that the table failed; nothing is
--- said of the text where memory was wanting
-abbrev pub Appended : Deployment → Core → Deed → Said → ℕ → ℕ → List ℕ → List ℕ → Result (Unit {0}) AllocError → Type 0
-Appended d c x read f g p q (Ok u) = (q ≡ p ++ said_text d read) ⊎ ((q ≡ p ++ said_text d (Unread x)) × Rose f g × (is_known c x ≡ false))
-Appended d c x read f g p q (Err e) = Unit {0}
+-- what a reading says went after the text p, or that the table failed, where that is not known without a look at the rows;
+-- nothing is said of the text where memory was wanting
+abbrev pub Appended : Deployment → Bool → Said → Said → ℕ → ℕ → List ℕ → List ℕ → Result (Unit {0}) AllocError → Type 0
+Appended d known read unread f g p q (Ok u) = (q ≡ p ++ said_text d read) ⊎ ((q ≡ p ++ said_text d unread) × Rose f g × (known ≡ false))
+Appended d known read unread f g p q (Err e) = Unit {0}
 
 -- the rows were read, and what they say was appended
-pub record Reading (x : Deed) (read : Rows → Said) (d d' : Deployment) (c b : Core) (room room' f g : ℕ) (rows rows' : Option Rows) (p q : List ℕ) (result : Result (Unit {0}) AllocError) : Type 0 where
-  pub text : Told rows rows' (λ m n. (n ≡ m) × Appended d c x (read m) f g p q result)
+pub record Reading (known : Bool) (read : Rows → Said) (unread : Said) (d d' : Deployment) (c b : Core) (old new : TableState) (p q : List ℕ) (result : Result (Unit {0}) AllocError) : Type 0 where
+  pub text : Told old.rows new.rows (λ m n. (n ≡ m) × Appended d known (read m) unread old.faults new.faults p q result)
   pub core : b ≡ c
   pub code : d' ≡ d
-  pub same_room : room' ≡ room
-  pub later : f ≤ g
+  pub same_room : new.room ≡ old.room
+  pub later : old.faults ≤ new.faults
 
 -- how many rows there are went after the text p
 abbrev pub RowsSaid : Deployment → Option Rows → List ℕ → List ℕ → Result (Unit {0}) AllocError → Type 0
@@ -250,11 +250,11 @@ abbrev pub DeedOn : Deployment → ℕ → ℕ → ℕ → Deed → Core → Cor
 DeedOn d room f g x c b p q (Ok u) m n = (y : Said) × IsOneDeed d room f g x c m b n y × (q ≡ p ++ said_text d y)
 DeedOn d room f g x c b p q (Err e) m n = ((y : Said) × IsOneDeed d room f g x c m b n y) ⊎ BreaksIn d x c m b n
 
-pub record Doing (x : Deed) (d d' : Deployment) (c b : Core) (room room' f g : ℕ) (rows rows' : Option Rows) (p q : List ℕ) (result : Result (Unit {0}) AllocError) : Type 0 where
-  pub done : Told rows rows' (DeedOn d room f g x c b p q result)
+pub record Doing (x : Deed) (d d' : Deployment) (c b : Core) (old new : TableState) (p q : List ℕ) (result : Result (Unit {0}) AllocError) : Type 0 where
+  pub done : Told old.rows new.rows (DeedOn d old.room old.faults new.faults x c b p q result)
   pub code : d' ≡ d
-  pub same_room : room' ≡ room
-  pub later : f ≤ g
+  pub same_room : new.room ≡ old.room
+  pub later : old.faults ≤ new.faults
 
 -- ---- the end
 -- what comes after the text of all deeds of a script: the refusal of a line, if one is refused

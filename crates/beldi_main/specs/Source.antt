@@ -1,7 +1,7 @@
 -- What a source says: where and why it is refused, or a deployment and the lines of a script.
 use Rattle.std.specs.Prelude.{◌≡◌, ℕ, ◌+◌, ◌-◌, ◌^◌, min, Bool, true, false, List, [], ◌∷◌, drop, Option, Some, None, Result, Ok, Err, if◌then◌else◌}
 use Rattle.beldi_value.specs.Id.{has_no_hops}
-use Rattle.beldi_lang.specs.declared.deployment.Deployment.{Deployment}
+use Rattle.beldi_tree.specs.declared.deployment.Deployment.{Deployment}
 use Rattle.beldi_core.specs.Built.{unbuilt_of}
 use Rattle.beldi_check.specs.Rules.{Offence, first_offence}
 use Rattle.beldi_script.specs.Cut.{lines_of}

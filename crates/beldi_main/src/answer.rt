@@ -3,7 +3,7 @@ ghost use Rattle.std.specs.Prelude.{◌≡◌, ◌++◌, OnErr, OnOk, codes, str
 ghost use Rattle.std.specs.Fmt.{decimal};
 ghost use Rattle.beldi_value.specs.Json.{text_of};
 ghost use Rattle.beldi_value.specs.Value.{datum_of};
-ghost use Rattle.beldi_lang.specs.Names.{func_text};
+ghost use Rattle.beldi_tree.specs.Names.{func_text};
 ghost use Rattle.beldi_main.specs.Answer.{answer_text, numbered, outcome_line, ticket_line, entry_part, reply_part, over_part};
 ghost use Rattle.beldi_main.specs.Said.{reply_line};
 

@@ -1,11 +1,10 @@
 // One deed: it is carried out, and the text of what is said of it is appended.
-ghost use Rattle.std.specs.Prelude.{◌≡◌, ◌++◌, OnOk};
+ghost use Rattle.std.specs.Prelude.{◌≡◌, ◌++◌, OnOk, false};
 ghost use Rattle.beldi_book.specs.Text.{book_text};
 ghost use Rattle.beldi_step.specs.Tables.{tables_text};
 ghost use Rattle.beldi_core.specs.Host.{core_of};
-ghost use Rattle.beldi_core.specs.Survey.{reply_seen};
-ghost use Rattle.beldi_main.specs.declared.deed.Deed.TheVariants as deeds;
-ghost use Rattle.beldi_main.specs.Said.{ReplyIs, TablesAre, BookIs, said_text};
+ghost use Rattle.beldi_core.specs.Survey.{is_unknown, reply_seen};
+ghost use Rattle.beldi_main.specs.Said.{ReplyIs, ReplyUnread, TablesAre, TablesUnread, BookIs, said_text};
 ghost use Rattle.beldi_main.specs.Session.{Answering, Doing, Reading, RowsSaid};
 
 use crate::answer::{write_answer, write_numbered, write_reply_seen};
@@ -23,7 +22,7 @@ fn answer<T: Table>(
     out: &mut Str,
     event: Event,
 ) -> Result<(), AllocError>
-    ensures { Answering host.old.code host.new.code event (core_of host.old) (core_of host.new) (T.room host.old.table) (T.room host.new.table) (T.faults host.old.table) (T.faults host.new.table) (T.rows host.old.table) (T.rows host.new.table) out.old out.new result }
+    ensures { Answering host.old.code host.new.code event (core_of host.old) (core_of host.new) (T.state host.old.table) (T.state host.new.table) out.old out.new result }
 {
     let seen = host.event(event)?;
     write_answer(alloc, host.code(), &seen, out)
@@ -36,7 +35,7 @@ fn tell_reply<T: Table>(
     out: &mut Str,
     ticket: u32,
 ) -> Result<(), AllocError>
-    ensures { Reading (deeds.Reply ticket) (λ m. ReplyIs ticket (reply_seen (core_of host.old).newest ticket m)) host.old.code host.new.code (core_of host.old) (core_of host.new) (T.room host.old.table) (T.room host.new.table) (T.faults host.old.table) (T.faults host.new.table) (T.rows host.old.table) (T.rows host.new.table) out.old out.new result }
+    ensures { Reading (is_unknown (core_of host.old).newest ticket) (λ m. ReplyIs ticket (reply_seen (core_of host.old).newest ticket m)) ReplyUnread host.old.code host.new.code (core_of host.old) (core_of host.new) (T.state host.old.table) (T.state host.new.table) out.old out.new result }
 {
     match host.reply(ticket) {
         Ok(seen) => write_reply_seen(alloc, ticket, &seen, out),
@@ -47,14 +46,14 @@ fn tell_reply<T: Table>(
 
 // Appends how many rows there are.
 fn count_rows<T: Table>(alloc: Global, host: &Host<T>, out: &mut Str) -> Result<(), AllocError>
-    ensures { RowsSaid host.entry.now.code (T.rows host.entry.now.table) out.old out.new result }
+    ensures { RowsSaid host.entry.now.code (T.state host.entry.now.table).rows out.old out.new result }
 {
     write_numbered(alloc, "rows ", u64::from(host.rows()), out)
 }
 
 // Appends the listing of the tables; one line in place of its lines where the table failed.
 fn list_tables<T: Table>(host: &mut Host<T>, out: &mut Str) -> Result<(), AllocError>
-    ensures { Reading deeds.Tables (λ m. TablesAre (tables_text host.old.code m)) host.old.code host.new.code (core_of host.old) (core_of host.new) (T.room host.old.table) (T.room host.new.table) (T.faults host.old.table) (T.faults host.new.table) (T.rows host.old.table) (T.rows host.new.table) out.old out.new result }
+    ensures { Reading false (λ m. TablesAre (tables_text host.old.code m)) TablesUnread host.old.code host.new.code (core_of host.old) (core_of host.new) (T.state host.old.table) (T.state host.new.table) out.old out.new result }
 {
     out.push_text("== tables\n")?;
     match host.tables(out) {
@@ -79,7 +78,7 @@ pub fn do_one<T: Table>(
     out: &mut Str,
     deed: Deed,
 ) -> Result<(), AllocError>
-    ensures { Doing deed host.old.code host.new.code (core_of host.old) (core_of host.new) (T.room host.old.table) (T.room host.new.table) (T.faults host.old.table) (T.faults host.new.table) (T.rows host.old.table) (T.rows host.new.table) out.old out.new result }
+    ensures { Doing deed host.old.code host.new.code (core_of host.old) (core_of host.new) (T.state host.old.table) (T.state host.new.table) out.old out.new result }
 {
     match deed {
         Deed::Event(event) => answer(alloc, host, out, event),

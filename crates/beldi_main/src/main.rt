@@ -30,7 +30,6 @@ use beldi_outside::{ClosedLink, MemClock, StdSink, StdSource};
 use beldi_table::MapTable;
 use beldi_value::Str;
 use program::top;
-use std::alloc::{AllocError, Global};
 use std::process::ExitCode;
 use std::{env, io};
 

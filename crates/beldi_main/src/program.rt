@@ -4,7 +4,7 @@ ghost use Rattle.beldi_core.specs.Host.{core_of};
 ghost use Rattle.beldi_outside.specs.Outside.{Told, Rose, max_source};
 ghost use Rattle.beldi_script.specs.Cut.{lines_of};
 ghost use Rattle.beldi_main.specs.declared.program.Ended.TheVariants as ended;
-ghost use Rattle.beldi_main.specs.Session.{OnTold, Kept, refused_in};
+ghost use Rattle.beldi_main.specs.Session.{OnStates, Kept, refused_in};
 ghost use Rattle.beldi_main.specs.Source.{numbered, source_at};
 ghost use Rattle.beldi_main.specs.Headline.{Anything, AsRead, ByStatus, PlainRun, RunOn, ScriptOn, SessionOn, SourceAsRead, SourceOn, UnreadOn, Untouched, UsageOn, WordsOn, LongOn, end_of, end_unread, is_of_run, is_of_source, is_run, is_whole, is_whole_source, status_of};
 
@@ -53,13 +53,13 @@ pub fn top<S: Source, K: Sink, T: Table, N: Link, C: Clock>(
 ) -> (u8, T)
     // The text that the sink got is that of a session of the source. Over a table without rows this session is a run without
     // crashes of exactly the requests that were answered bound, and the replies, the tables and the rows are those of that run.
-    ensures session { ByStatus result.0 (λ e. WordsOn PlainRun (is_run words.now) (S.left source.old) (T.rows table) (T.rows result.1) (K.held sink.old) (K.held sink.new) (T.faults table) (T.faults result.1) e) }
+    ensures session { ByStatus result.0 (λ e. WordsOn PlainRun (is_run words.now) (S.left source.old) (T.state table) (T.state result.1) (K.held sink.old) (K.held sink.new) e) }
     // Neither the link nor the clock is asked for anything.
     ensures unasked { (_link.new ≡ _link.old) × (_clock.new ≡ _clock.old) }
     ensures usage { (result.0 ≡ 2 → is_run words.now ≡ false) × (is_run words.now ≡ false → (result.0 ≡ 2) ⊎ (result.0 ≡ 4)) }
     ensures source_fault { result.0 ≡ 3 → Rose (S.faults source.old) (S.faults source.new) }
     ensures sink_fault { result.0 ≡ 4 → Rose (K.faults sink.old) (K.faults sink.new) }
-    ensures open_fault { result.0 ≡ 8 → Rose (T.faults table) (T.faults result.1) }
+    ensures open_fault { result.0 ≡ 8 → Rose (T.state table).faults (T.state result.1).faults }
     ensures too_long { is_run words.now ≡ true → ByStatus result.0 (λ e. Told (S.left source.old) (S.left source.new) (λ b c. LongOn b c e)) }
     // Only a source that is not refused is carried out whole, and only one that is refused is answered so.
     ensures refused { is_run words.now ≡ true → ByStatus result.0 (λ e. SourceAsRead (S.left source.old) e) }
@@ -67,7 +67,7 @@ pub fn top<S: Source, K: Sink, T: Table, N: Link, C: Clock>(
     // or the table failed as the host was opened, or memory is wanting.
     ensures complete { is_run words.now ≡ true → (Rose (S.faults source.old) (S.faults source.new) → ⊥) → (Rose (K.faults sink.old) (K.faults sink.new) → ⊥) → Told (S.left source.old) (S.left source.new) (λ b c. length b ≤ max_source → is_whole_source b (source_at b) ≡ true → (result.0 ≡ 0) ⊎ (result.0 ≡ 1) ⊎ (result.0 ≡ 8)) }
     ensures unread { is_run words.now ≡ false → (source.new ≡ source.old) × (result.1 ≡ table) }
-    ensures untouched { ByStatus result.0 (λ e. Untouched e (result.1 ≡ table) (Told (T.rows table) (T.rows result.1) (λ m n. n ≡ m)) (sink.new ≡ sink.old)) }
+    ensures untouched { ByStatus result.0 (λ e. Untouched e (result.1 ≡ table) (Told (T.state table).rows (T.state result.1).rows (λ m n. n ≡ m)) (sink.new ≡ sink.old)) }
 {
     let (ended, table) = carry_out(alloc, words, source, sink, table);
     (status(ended), table)
@@ -80,15 +80,15 @@ fn carry_out<S: Source, K: Sink, T: Table>(
     sink: &mut K,
     table: T,
 ) -> (Ended, T)
-    ensures text { WordsOn Anything (is_run words.now) (S.left source.old) (T.rows table) (T.rows result.1) (K.held sink.old) (K.held sink.new) (T.faults table) (T.faults result.1) result.0 }
+    ensures text { WordsOn Anything (is_run words.now) (S.left source.old) (T.state table) (T.state result.1) (K.held sink.old) (K.held sink.new) result.0 }
     ensures usage { (result.0 ≡ ended.Usage → is_run words.now ≡ false) × (is_run words.now ≡ false → (result.0 ≡ ended.Usage) ⊎ (result.0 ≡ ended.SinkFault)) }
     ensures source_fault { result.0 ≡ ended.SourceFault → Rose (S.faults source.old) (S.faults source.new) }
     ensures sink_fault { result.0 ≡ ended.SinkFault → Rose (K.faults sink.old) (K.faults sink.new) }
-    ensures open_fault { result.0 ≡ ended.TableFault → Rose (T.faults table) (T.faults result.1) }
+    ensures open_fault { result.0 ≡ ended.TableFault → Rose (T.state table).faults (T.state result.1).faults }
     ensures too_long { is_run words.now ≡ true → Told (S.left source.old) (S.left source.new) (λ b c. LongOn b c result.0) }
     ensures as_read { is_run words.now ≡ true → SourceAsRead (S.left source.old) result.0 }
     ensures unread { is_run words.now ≡ false → (source.new ≡ source.old) × (result.1 ≡ table) }
-    ensures untouched { Untouched result.0 (result.1 ≡ table) (Told (T.rows table) (T.rows result.1) (λ m n. n ≡ m)) (sink.new ≡ sink.old) }
+    ensures untouched { Untouched result.0 (result.1 ≡ table) (Told (T.state table).rows (T.state result.1).rows (λ m n. n ≡ m)) (sink.new ≡ sink.old) }
 {
     if is_run(words) {
         run(alloc, source, sink, table)
@@ -155,14 +155,14 @@ fn run<S: Source, K: Sink, T: Table>(
     sink: &mut K,
     table: T,
 ) -> (Ended, T)
-    ensures session { RunOn Anything (S.left source.old) (T.rows table) (T.rows result.1) (K.held sink.old) (K.held sink.new) (T.faults table) (T.faults result.1) result.0 }
+    ensures session { RunOn Anything (S.left source.old) (T.state table) (T.state result.1) (K.held sink.old) (K.held sink.new) result.0 }
     ensures run { IsTrue (is_of_run result.0) }
     ensures source_fault { result.0 ≡ ended.SourceFault → Rose (S.faults source.old) (S.faults source.new) }
     ensures sink_fault { result.0 ≡ ended.SinkFault → Rose (K.faults sink.old) (K.faults sink.new) }
-    ensures open_fault { result.0 ≡ ended.TableFault → Rose (T.faults table) (T.faults result.1) }
+    ensures open_fault { result.0 ≡ ended.TableFault → Rose (T.state table).faults (T.state result.1).faults }
     ensures too_long { Told (S.left source.old) (S.left source.new) (λ b c. LongOn b c result.0) }
     ensures as_read { SourceAsRead (S.left source.old) result.0 }
-    ensures untouched { Untouched result.0 (result.1 ≡ table) (Told (T.rows table) (T.rows result.1) (λ m n. n ≡ m)) (sink.new ≡ sink.old) }
+    ensures untouched { Untouched result.0 (result.1 ≡ table) (Told (T.state table).rows (T.state result.1).rows (λ m n. n ≡ m)) (sink.new ≡ sink.old) }
 {
     match read_all(alloc, source) {
         Ok(bytes) => run_source(alloc, sink, table, bytes.as_slice()),
@@ -182,12 +182,12 @@ fn not_read(why: ReadErr) -> Ended
 
 // Carries out the script of a source that was read.
 fn run_source<K: Sink, T: Table>(alloc: Global, sink: &mut K, table: T, bytes: &[u8]) -> (Ended, T)
-    ensures session { OnTold (T.rows table) (T.rows result.1) (K.held sink.old) (K.held sink.new) (λ m n h k. SourceOn Anything bytes.now (source_at bytes.now) m n (T.faults table) (T.faults result.1) h k result.0) }
+    ensures session { OnStates (T.state table) (T.state result.1) (K.held sink.old) (K.held sink.new) (λ m n f g h k. SourceOn Anything bytes.now (source_at bytes.now) m n f g h k result.0) }
     ensures read { IsTrue (is_of_source result.0) }
     ensures as_read { AsRead (is_whole_source bytes.now (source_at bytes.now)) result.0 }
-    ensures untouched { Untouched result.0 (result.1 ≡ table) (Told (T.rows table) (T.rows result.1) (λ m n. n ≡ m)) (sink.new ≡ sink.old) }
+    ensures untouched { Untouched result.0 (result.1 ≡ table) (Told (T.state table).rows (T.state result.1).rows (λ m n. n ≡ m)) (sink.new ≡ sink.old) }
     ensures sink_fault { result.0 ≡ ended.SinkFault → Rose (K.faults sink.old) (K.faults sink.new) }
-    ensures open_fault { result.0 ≡ ended.TableFault → Rose (T.faults table) (T.faults result.1) }
+    ensures open_fault { result.0 ≡ ended.TableFault → Rose (T.state table).faults (T.state result.1).faults }
 {
     match read_source(alloc, bytes) {
         Ok(Parsed { code, rest, line }) => {
@@ -216,12 +216,12 @@ fn host<K: Sink, T: Table>(
     first: u32,
     script: &[u8],
 ) -> (Ended, T)
-    ensures session { OnTold (T.rows table) (T.rows result.1) (K.held sink.old) (K.held sink.new) (λ m n h k. SessionOn Anything code (numbered first (lines_of script.now)) m n (T.faults table) (T.faults result.1) h k result.0) }
+    ensures session { OnStates (T.state table) (T.state result.1) (K.held sink.old) (K.held sink.new) (λ m n f g h k. SessionOn Anything code (numbered first (lines_of script.now)) m n f g h k result.0) }
     ensures read { IsTrue (is_of_source result.0) }
     ensures as_read { AsRead (is_whole code (numbered first (lines_of script.now))) result.0 }
-    ensures untouched { Untouched result.0 (result.1 ≡ table) (Told (T.rows table) (T.rows result.1) (λ m n. n ≡ m)) (sink.new ≡ sink.old) }
+    ensures untouched { Untouched result.0 (result.1 ≡ table) (Told (T.state table).rows (T.state result.1).rows (λ m n. n ≡ m)) (sink.new ≡ sink.old) }
     ensures sink_fault { result.0 ≡ ended.SinkFault → Rose (K.faults sink.old) (K.faults sink.new) }
-    ensures open_fault { result.0 ≡ ended.TableFault → Rose (T.faults table) (T.faults result.1) }
+    ensures open_fault { result.0 ≡ ended.TableFault → Rose (T.state table).faults (T.state result.1).faults }
 {
     match Host::open(alloc, code, table, 0) {
         Ok(mut host) => {
@@ -242,8 +242,8 @@ fn run_script<K: Sink, T: Table>(
     script: &[u8],
 ) -> Result<Option<Refusal>, Stop>
     ensures refused { IfOk result (λ refused. refused_in host.old.code (numbered first (lines_of script.now)) ≡ refused) }
-    ensures done { OnTold (T.rows host.old.table) (T.rows host.new.table) (K.held sink.old) (K.held sink.new) (λ m n h k. ScriptOn host.old.code (T.room host.old.table) (numbered first (lines_of script.now)) (core_of host.old) m n (T.faults host.old.table) (T.faults host.new.table) h k result) }
-    ensures kept { Kept host.old.code host.new.code (T.room host.old.table) (T.room host.new.table) (T.faults host.old.table) (T.faults host.new.table) (K.faults sink.old) (K.faults sink.new) result }
+    ensures done { OnStates (T.state host.old.table) (T.state host.new.table) (K.held sink.old) (K.held sink.new) (λ m n f g h k. ScriptOn host.old.code (T.state host.old.table).room (numbered first (lines_of script.now)) (core_of host.old) m n f g h k result) }
+    ensures kept { Kept host.old.code host.new.code (T.state host.old.table) (T.state host.new.table) (K.faults sink.old) (K.faults sink.new) result }
 {
     let mut waiting = Str::new(alloc);
     match do_lines(alloc, host, sink, &mut waiting, first, script) {

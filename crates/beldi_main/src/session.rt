@@ -37,8 +37,8 @@ fn do_deed<K: Sink, T: Table>(
     waiting: &mut Str,
     deed: Deed,
 ) -> Result<(), Stop>
-    ensures done { Carried (Carrying (deed ∷ [])) host.old.code (T.room host.old.table) (core_of host.old) (core_of host.new) (T.faults host.old.table) (T.faults host.new.table) waiting.old waiting.new (T.rows host.old.table) (T.rows host.new.table) (K.held sink.old) (K.held sink.new) result }
-    ensures kept { Kept host.old.code host.new.code (T.room host.old.table) (T.room host.new.table) (T.faults host.old.table) (T.faults host.new.table) (K.faults sink.old) (K.faults sink.new) result }
+    ensures done { Carried (Carrying (deed ∷ [])) host.old.code (core_of host.old) (core_of host.new) (T.state host.old.table) (T.state host.new.table) waiting.old waiting.new (K.held sink.old) (K.held sink.new) result }
+    ensures kept { Kept host.old.code host.new.code (T.state host.old.table) (T.state host.new.table) (K.faults sink.old) (K.faults sink.new) result }
 {
     match do_one(alloc, host, waiting, deed) {
         Ok(()) => flush_if_long(sink, waiting),
@@ -54,8 +54,8 @@ fn do_event<K: Sink, T: Table>(
     waiting: &mut Str,
     event: Event,
 ) -> Result<(), Stop>
-    ensures done { Carried (Carrying (deeds.Event event ∷ [])) host.old.code (T.room host.old.table) (core_of host.old) (core_of host.new) (T.faults host.old.table) (T.faults host.new.table) waiting.old waiting.new (T.rows host.old.table) (T.rows host.new.table) (K.held sink.old) (K.held sink.new) result }
-    ensures kept { Kept host.old.code host.new.code (T.room host.old.table) (T.room host.new.table) (T.faults host.old.table) (T.faults host.new.table) (K.faults sink.old) (K.faults sink.new) result }
+    ensures done { Carried (Carrying (deeds.Event event ∷ [])) host.old.code (core_of host.old) (core_of host.new) (T.state host.old.table) (T.state host.new.table) waiting.old waiting.new (K.held sink.old) (K.held sink.new) result }
+    ensures kept { Kept host.old.code host.new.code (T.state host.old.table) (T.state host.new.table) (K.faults sink.old) (K.faults sink.new) result }
 {
     do_deed(alloc, host, sink, waiting, Deed::Event(event))
 }
@@ -69,8 +69,8 @@ fn do_turns<K: Sink, T: Table>(
     run: u32,
     count: u32,
 ) -> Result<(), Stop>
-    ensures done { Carried (Carrying (times count (deeds.Event (events.Turn run)))) host.old.code (T.room host.old.table) (core_of host.old) (core_of host.new) (T.faults host.old.table) (T.faults host.new.table) waiting.old waiting.new (T.rows host.old.table) (T.rows host.new.table) (K.held sink.old) (K.held sink.new) result }
-    ensures kept { Kept host.old.code host.new.code (T.room host.old.table) (T.room host.new.table) (T.faults host.old.table) (T.faults host.new.table) (K.faults sink.old) (K.faults sink.new) result }
+    ensures done { Carried (Carrying (times count (deeds.Event (events.Turn run)))) host.old.code (core_of host.old) (core_of host.new) (T.state host.old.table) (T.state host.new.table) waiting.old waiting.new (K.held sink.old) (K.held sink.new) result }
+    ensures kept { Kept host.old.code host.new.code (T.state host.old.table) (T.state host.new.table) (K.faults sink.old) (K.faults sink.new) result }
 {
     for turn in 0..count {
         match do_event(alloc, host, sink, waiting, Event::Turn(u64::from(run))) {
@@ -89,8 +89,8 @@ fn do_said<K: Sink, T: Table>(
     waiting: &mut Str,
     line: Line,
 ) -> Result<(), Stop>
-    ensures done { Carried (Carrying (deeds_of line)) host.old.code (T.room host.old.table) (core_of host.old) (core_of host.new) (T.faults host.old.table) (T.faults host.new.table) waiting.old waiting.new (T.rows host.old.table) (T.rows host.new.table) (K.held sink.old) (K.held sink.new) result }
-    ensures kept { Kept host.old.code host.new.code (T.room host.old.table) (T.room host.new.table) (T.faults host.old.table) (T.faults host.new.table) (K.faults sink.old) (K.faults sink.new) result }
+    ensures done { Carried (Carrying (deeds_of line)) host.old.code (core_of host.old) (core_of host.new) (T.state host.old.table) (T.state host.new.table) waiting.old waiting.new (K.held sink.old) (K.held sink.new) result }
+    ensures kept { Kept host.old.code host.new.code (T.state host.old.table) (T.state host.new.table) (K.faults sink.old) (K.faults sink.new) result }
 {
     match line {
         Line::Ticket => do_event(alloc, host, sink, waiting, Event::Ticket),
@@ -128,8 +128,8 @@ fn do_line<K: Sink, T: Table>(
     line: &[u8],
 ) -> Result<Option<Refusal>, Stop>
     ensures refused { IfOk result (λ refused. refused_in host.old.code ((number, line.now) ∷ []) ≡ refused) }
-    ensures done { Carried (λ d room s t r. LineOn d room (number, line.now) s t r) host.old.code (T.room host.old.table) (core_of host.old) (core_of host.new) (T.faults host.old.table) (T.faults host.new.table) waiting.old waiting.new (T.rows host.old.table) (T.rows host.new.table) (K.held sink.old) (K.held sink.new) result }
-    ensures kept { Kept host.old.code host.new.code (T.room host.old.table) (T.room host.new.table) (T.faults host.old.table) (T.faults host.new.table) (K.faults sink.old) (K.faults sink.new) result }
+    ensures done { Carried (λ d room s t r. LineOn d room (number, line.now) s t r) host.old.code (core_of host.old) (core_of host.new) (T.state host.old.table) (T.state host.new.table) waiting.old waiting.new (K.held sink.old) (K.held sink.new) result }
+    ensures kept { Kept host.old.code host.new.code (T.state host.old.table) (T.state host.new.table) (K.faults sink.old) (K.faults sink.new) result }
 {
     match read_said(alloc, host.code(), number, line) {
         Ok(said) => carried(do_said(alloc, host, sink, waiting, said)),
@@ -164,8 +164,8 @@ fn do_listings<K: Sink, T: Table>(
     sink: &mut K,
     waiting: &mut Str,
 ) -> Result<(), Stop>
-    ensures done { Carried (Carrying listings) host.old.code (T.room host.old.table) (core_of host.old) (core_of host.new) (T.faults host.old.table) (T.faults host.new.table) waiting.old waiting.new (T.rows host.old.table) (T.rows host.new.table) (K.held sink.old) (K.held sink.new) result }
-    ensures kept { Kept host.old.code host.new.code (T.room host.old.table) (T.room host.new.table) (T.faults host.old.table) (T.faults host.new.table) (K.faults sink.old) (K.faults sink.new) result }
+    ensures done { Carried (Carrying listings) host.old.code (core_of host.old) (core_of host.new) (T.state host.old.table) (T.state host.new.table) waiting.old waiting.new (K.held sink.old) (K.held sink.new) result }
+    ensures kept { Kept host.old.code host.new.code (T.state host.old.table) (T.state host.new.table) (K.faults sink.old) (K.faults sink.new) result }
 {
     match do_deed(alloc, host, sink, waiting, Deed::Tables) {
         Ok(()) => do_deed(alloc, host, sink, waiting, Deed::Book),
@@ -184,8 +184,8 @@ pub fn do_lines<K: Sink, T: Table>(
     script: &[u8],
 ) -> Result<Option<Refusal>, Stop>
     ensures refused { IfOk result (λ refused. refused_in host.old.code (numbered first (lines_of script.now)) ≡ refused) }
-    ensures done { Carried (λ d room s t r. LinesOn d room (numbered first (lines_of script.now)) s t r) host.old.code (T.room host.old.table) (core_of host.old) (core_of host.new) (T.faults host.old.table) (T.faults host.new.table) waiting.old waiting.new (T.rows host.old.table) (T.rows host.new.table) (K.held sink.old) (K.held sink.new) result }
-    ensures kept { Kept host.old.code host.new.code (T.room host.old.table) (T.room host.new.table) (T.faults host.old.table) (T.faults host.new.table) (K.faults sink.old) (K.faults sink.new) result }
+    ensures done { Carried (λ d room s t r. LinesOn d room (numbered first (lines_of script.now)) s t r) host.old.code (core_of host.old) (core_of host.new) (T.state host.old.table) (T.state host.new.table) waiting.old waiting.new (K.held sink.old) (K.held sink.new) result }
+    ensures kept { Kept host.old.code host.new.code (T.state host.old.table) (T.state host.new.table) (K.faults sink.old) (K.faults sink.new) result }
 {
     let mut number = first;
     let mut rest = script;

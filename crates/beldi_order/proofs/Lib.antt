@@ -2,4 +2,5 @@ pub mod Entries
 pub mod Growth
 pub mod InOrder
 pub mod Late
+pub mod Nulls
 pub mod Places

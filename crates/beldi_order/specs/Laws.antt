@@ -1,14 +1,16 @@
--- How a legal book grows.
+-- What every run keeps, and how a legal book grows.
 use Rattle.std.specs.Prelude.{◌≡◌, ◌==◌, ℕ, zero, suc, ◌≤◌, ◌<◌, min, Bool, false, List, [], ◌∷◌, ◌++◌, filter, Option, Some, None}
 use Rattle.std.specs.FinMap as map
 use Rattle.beldi_value.specs.declared.id.IntentId.{IntentId}
 use Rattle.beldi_value.specs.declared.value.Value.{Value}
-use Rattle.beldi_lang.specs.declared.deployment.Deployment.{Deployment}
+use Rattle.beldi_value.specs.declared.value.Value.TheVariants.{Null}
+use Rattle.beldi_tree.specs.declared.deployment.Deployment.{Deployment}
 use Rattle.beldi_lang.specs.declared.effect.Answer.TheVariants as answer
 use Rattle.beldi_lang.specs.declared.effect.Effect.TheVariants as effect
 use Rattle.beldi_book.specs.declared.entry.Entry.{Entry}
 use Rattle.beldi_book.specs.declared.entry.Entry.TheVariants.{Read}
 use Rattle.beldi_book.specs.Order.{seen_of, changes_of, count_changes, by_change, front, linear, SeenBounded}
+use Rattle.beldi_plain.specs.Item.{Item}
 use Rattle.beldi_plain.specs.Plain.{Instance, PlainState, nothing, after, with_instance, answered, effect_of, item_of, value_at}
 use Rattle.beldi_plain.specs.Legal.{run_from, run_of}
 
@@ -33,6 +35,15 @@ pub record IsInOrder (book order : List Entry) : Type 0 where
 
 abbrev pub LinearIsInOrder : Type 0
 LinearIsInOrder = (book : List Entry) → IsInOrder book (linear book)
+
+-- ---- the items
+-- no item is kept as null: one that is null is absent
+abbrev pub KeepsNoNull : PlainState → Type 0
+KeepsNoNull p = (x : Item) → map.get p.items x ≡ Some Null → ⊥
+
+-- so it is at the end of a legal book
+abbrev pub NullIsAbsent : Type 0
+NullIsAbsent = (d : Deployment) (book : List Entry) (p : PlainState) → run_of d book ≡ Some p → KeepsNoNull p
 
 -- ---- how a book grows
 -- this is the state before the change that comes after the first s changes

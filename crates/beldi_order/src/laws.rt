@@ -1,10 +1,15 @@
-// The laws of the linear order.
-ghost use Rattle.beldi_order.specs.Laws.{LinearIsInOrder, ChangesComeLast, LateReadsBelong};
+// The laws of the linear order, and of legal books.
+ghost use Rattle.beldi_order.specs.Laws.{LinearIsInOrder, NullIsAbsent, ChangesComeLast, LateReadsBelong};
 
 /// In the linear order of a book the changes stand in book order, and behind each number of changes the reads that belong
 /// there, in book order too.
 pub fn linear_is_in_order()
     ensures { LinearIsInOrder }
+{}
+
+/// No item of the run of a legal book is kept as null: one that is null is absent.
+pub fn null_is_absent()
+    ensures { NullIsAbsent }
 {}
 
 /// A change that is enabled at the end of a legal book is the last of the longer book, which is legal.

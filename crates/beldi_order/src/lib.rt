@@ -4,4 +4,4 @@
 
 mod laws;
 
-pub use laws::{changes_come_last, late_reads_belong, linear_is_in_order};
+pub use laws::{changes_come_last, late_reads_belong, linear_is_in_order, null_is_absent};

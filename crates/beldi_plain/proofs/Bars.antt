@@ -3,7 +3,7 @@ use Rattle.std.proofs.Common.{◌≡◌, Bool, true, false, Option, Some, None, 
 use Rattle.std.specs.Prelude.{is_none}
 use Rattle.std.specs.FinMap as map
 use Rattle.beldi_value.specs.declared.id.IntentId.{IntentId}
-use Rattle.beldi_lang.specs.declared.deployment.Deployment.{Deployment}
+use Rattle.beldi_tree.specs.declared.deployment.Deployment.{Deployment}
 use Rattle.beldi_lang.specs.declared.effect.Effect.{Effect}
 use Rattle.beldi_plain.specs.Plain.{PlainState, Instance, effect_of, kind_of, step_by, if_open, can_step, if_built, if_read, if_change}
 use Rattle.beldi_plain.specs.Answers.{Entered, DidStep, bar_open, bar_step, bar_as, bar_made}

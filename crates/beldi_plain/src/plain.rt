@@ -1,7 +1,7 @@
 // The slow executor of the plain machine.
 ghost use Rattle.std.specs.Prelude.{◌≡◌, ◌++◌, ◌<◌, OnOk, OnErr, IsTrue, option_copied, length, Some};
 ghost use Rattle.std.specs.FinMap as map;
-ghost use Rattle.beldi_lang.specs.declared.deployment.Deployment.{Deployment};
+ghost use Rattle.beldi_tree.specs.declared.deployment.Deployment.{Deployment};
 ghost use Rattle.beldi_lang.specs.declared.effect.Effect.TheVariants as effect;
 ghost use Rattle.beldi_book.specs.declared.entry.Entry.TheVariants.{Start};
 ghost use Rattle.beldi_plain.specs.Plain.{nothing, value_at, reply_of, step_by};

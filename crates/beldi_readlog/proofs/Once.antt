@@ -13,7 +13,7 @@ use Rattle.beldi_row.specs.declared.table.TableErr.{TableErr}
 use Rattle.beldi_row.specs.declared.table.TableErr.TheVariants.{OutOfMemory}
 use Rattle.beldi_row.specs.Act.{tell_of, act, kept_tell}
 use Rattle.beldi_row.specs.KeyOrder.{key_total, key_exact}
-use Rattle.beldi_row.specs.Table.{Rows, Tells, Acted, ActedOn, set_row, after_act, tell_act}
+use Rattle.beldi_row.specs.Table.{Rows, TableState, Tells, Acted, ActedOn, set_row, after_act, tell_act}
 use Rattle.beldi_row.proofs.Rows.{get_set, same_set}
 use Rattle.beldi_row.proofs.Tells.{tells_map, acted_by}
 use Rattle.beldi_row.proofs.Unchanged.{left, looked}
@@ -51,21 +51,21 @@ put_at v now k m n x (Some r) here is says =
       subst (Once v m n x) (sym (ap (option_map given_in) here)) (same, there),
     )
 
-module _ (now room new_room faults new_faults : ℕ) (before after : Option Rows) (k key : RowKey) (said : Said) (r : Result Said TableErr) (was : r ≡ Ok said) (is : key ≡ k) where
-  made : (a : Act) → Acted a now key room new_room faults new_faults before after r → Acted a now k room new_room faults new_faults before after (Ok said)
-  made a h = acted_by now room new_room faults new_faults before after a a key k r (Ok said) refl is was h
+module _ (now : ℕ) (old new : TableState) (k key : RowKey) (said : Said) (r : Result Said TableErr) (was : r ≡ Ok said) (is : key ≡ k) where
+  made : (a : Act) → Acted a now key old new r → Acted a now k old new (Ok said)
+  made a h = acted_by now old new a a key k r (Ok said) refl is was h
 
-  pub gave : (x : Option Value) → x ≡ given_of (tell_of said) → Acted Look now key room new_room faults new_faults before after r → Tells before after (λ m n. Gives k m n (Ok x))
-  gave x says h = tells_map {P = λ m n. ActedOn Look now k room m n (Ok said)} {Q = λ m n. Gives k m n (Ok x)} before after
+  pub gave : (x : Option Value) → x ≡ given_of (tell_of said) → Acted Look now key old new r → Tells old.rows new.rows (λ m n. Gives k m n (Ok x))
+  gave x says h = tells_map {P = λ m n. ActedOn Look now k old.room m n (Ok said)} {Q = λ m n. Gives k m n (Ok x)} old.rows new.rows
       (λ m n p. (p.0 ∙ looked now k m, says ∙ ap given_of p.1 ∙ given_row now (map.get m k))) (made Look h).rows
 
-  pub gave_none : Acted Look now key room new_room faults new_faults before after r → Tells before after (λ m n. Gives k m n (Err OutOfMemory))
-  gave_none h = tells_map {P = λ m n. ActedOn Look now k room m n (Ok said)} {Q = λ m n. Gives k m n (Err OutOfMemory)} before after (λ m n p. p.0 ∙ looked now k m) (made Look h).rows
+  pub gave_none : Acted Look now key old new r → Tells old.rows new.rows (λ m n. Gives k m n (Err OutOfMemory))
+  gave_none h = tells_map {P = λ m n. ActedOn Look now k old.room m n (Ok said)} {Q = λ m n. Gives k m n (Err OutOfMemory)} old.rows new.rows (λ m n p. p.0 ∙ looked now k m) (made Look h).rows
 
-  pub put : (v : Value) (x : Kept) → x ≡ kept_of v (tell_of said) → Acted (PutRead v) now key room new_room faults new_faults before after r → Tells before after (λ m n. PutsOnce v k m n (Ok x))
-  put v x says h = tells_map {P = λ m n. ActedOn (PutRead v) now k room m n (Ok said)} {Q = λ m n. PutsOnce v k m n (Ok x)} before after
+  pub put : (v : Value) (x : Kept) → x ≡ kept_of v (tell_of said) → Acted (PutRead v) now key old new r → Tells old.rows new.rows (λ m n. PutsOnce v k m n (Ok x))
+  put v x says h = tells_map {P = λ m n. ActedOn (PutRead v) now k old.room m n (Ok said)} {Q = λ m n. PutsOnce v k m n (Ok x)} old.rows new.rows
       (λ m n p. put_at v now k m n x (map.get m k) refl p.0 (says ∙ ap (kept_of v) p.1)) (made (PutRead v) h).rows
 
-  pub put_none : (v : Value) → is_kept (tell_of said) ≡ true → Acted (PutRead v) now key room new_room faults new_faults before after r → Tells before after (λ m n. PutsOnce v k m n (Err OutOfMemory))
-  put_none v held h = tells_map {P = λ m n. ActedOn (PutRead v) now k room m n (Ok said)} {Q = λ m n. PutsOnce v k m n (Err OutOfMemory)} before after
+  pub put_none : (v : Value) → is_kept (tell_of said) ≡ true → Acted (PutRead v) now key old new r → Tells old.rows new.rows (λ m n. PutsOnce v k m n (Err OutOfMemory))
+  put_none v held h = tells_map {P = λ m n. ActedOn (PutRead v) now k old.room m n (Ok said)} {Q = λ m n. PutsOnce v k m n (Err OutOfMemory)} old.rows new.rows
       (λ m n p. p.0 ∙ stayed v now k m (ap is_kept (sym p.1) ∙ held)) (made (PutRead v) h).rows

@@ -40,8 +40,8 @@ pub fn get<T: Table>(
     at: &Place,
     now: u64,
 ) -> Result<Option<Value>, TableErr>
-    ensures asks { Asked given_of acts.Look now (log_key home at.now) (T.room table.old) (T.room table.new) (T.faults table.old) (T.faults table.new) (T.rows table.old) (T.rows table.new) result }
-    ensures gives { Tells (T.rows table.old) (T.rows table.new) (λ m n. Gives (log_key home at.now) m n result) }
+    ensures asks { Asked given_of acts.Look now (log_key home at.now) (T.state table.old) (T.state table.new) result }
+    ensures gives { Tells (T.state table.old).rows (T.state table.new).rows (λ m n. Gives (log_key home at.now) m n result) }
 {
     let key = key_of(alloc, home, at)?;
     let said = table.act(key, Act::Look, now)?;
@@ -72,8 +72,8 @@ pub fn put_once<T: Table>(
     value: Value,
     now: u64,
 ) -> Result<Kept, TableErr>
-    ensures asks { Asked (kept_of value) (acts.PutRead value) now (log_key home at.now) (T.room table.old) (T.room table.new) (T.faults table.old) (T.faults table.new) (T.rows table.old) (T.rows table.new) result }
-    ensures once { Tells (T.rows table.old) (T.rows table.new) (λ m n. PutsOnce value (log_key home at.now) m n result) }
+    ensures asks { Asked (kept_of value) (acts.PutRead value) now (log_key home at.now) (T.state table.old) (T.state table.new) result }
+    ensures once { Tells (T.state table.old).rows (T.state table.new).rows (λ m n. PutsOnce value (log_key home at.now) m n result) }
 {
     let key = key_of(alloc, home, at)?;
     let copy = value.copy(alloc)?;

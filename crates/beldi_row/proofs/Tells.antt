@@ -4,7 +4,7 @@ use Rattle.beldi_row.specs.declared.key.RowKey.{RowKey}
 use Rattle.beldi_row.specs.declared.act.Act.{Act}
 use Rattle.beldi_row.specs.declared.act.Said.{Said}
 use Rattle.beldi_row.specs.declared.table.TableErr.{TableErr}
-use Rattle.beldi_row.specs.Table.{Rows, Tells, Acted}
+use Rattle.beldi_row.specs.Table.{Rows, TableState, Tells, Acted}
 
 -- what follows on told rows
 pub tells_map : {P Q : Rows → Rows → Type 0} (before after : Option Rows) → ((m n : Rows) → P m n → Q m n) → Tells before after P → Tells before after Q
@@ -13,9 +13,9 @@ tells_map (Some m) None f h = h
 tells_map (Some m) (Some n) f h = f m n h
 
 -- an act, by what it, its key and its answer are equal to
-pub acted_by : (now room new_room faults new_faults : ℕ) (before after : Option Rows) (a b : Act) (k l : RowKey) (r s : Result Said TableErr) → a ≡ b → k ≡ l → r ≡ s
-    → Acted a now k room new_room faults new_faults before after r → Acted b now l room new_room faults new_faults before after s
-acted_by now room new_room faults new_faults before after a b k l r s act key is h =
-    subst (λ (c : Act). Acted c now l room new_room faults new_faults before after s) act
-    (subst (λ (q : RowKey). Acted a now q room new_room faults new_faults before after s) key
-    (subst (λ (x : Result Said TableErr). Acted a now k room new_room faults new_faults before after x) is h))
+pub acted_by : (now : ℕ) (old new : TableState) (a b : Act) (k l : RowKey) (r s : Result Said TableErr) → a ≡ b → k ≡ l → r ≡ s
+    → Acted a now k old new r → Acted b now l old new s
+acted_by now old new a b k l r s act key is h =
+    subst (λ (c : Act). Acted c now l old new s) act
+    (subst (λ (q : RowKey). Acted a now q old new s) key
+    (subst (λ (x : Result Said TableErr). Acted a now k old new x) is h))

@@ -1,7 +1,8 @@
 -- The rows of a table as a map, and what a call of a table does.
-use Rattle.std.specs.Prelude.{◌≡◌, ℕ, ◌+◌, ◌-◌, ◌^◌, ◌≤◌, ◌<◌, min, Bool, not, ◌&&◌, is_some, List, [], ◌∷◌, Option, Some, None, Result, Ok, Err, if◌then◌else◌, IsTrue, IsErrOf}
+use Rattle.std.specs.Prelude.{◌≡◌, ℕ, ◌+◌, ◌-◌, ◌^◌, ◌≤◌, ◌<◌, ◌⊎◌, min, Bool, not, ◌&&◌, is_some, List, [], ◌∷◌, Option, Some, None, Result, Ok, Err, if◌then◌else◌, IsTrue, IsErrOf}
 use Rattle.std.specs.FinMap as map
 use Rattle.std.specs.FinMap.{FinMap}
+use Rattle.std.specs.Option.{option_map}
 use Rattle.std.specs.Ordering.{is_lt}
 use Rattle.std.specs.declared.cmp.Ordering.TheVariants.{Less}
 use denote.Bor.{Bor}
@@ -16,6 +17,29 @@ use Rattle.beldi_row.specs.declared.table.TableErr.TheVariants.{OutOfMemory, Fai
 
 abbrev pub Rows : Type 0
 Rows = FinMap key_cmp Row
+
+-- what contracts see of a table
+pub record TableState : Type 0 where
+  -- its rows, where it tells them
+  pub rows : Option Rows
+  -- how often it has failed; it never falls, and at its end it stands still
+  pub faults : ℕ
+  -- how many rows it may have: 0 before the first `ready`
+  pub room : ℕ
+  -- how many calls of `act` and `next` it has had, where it counts them; at its end it stands still
+  pub calls : Option ℕ
+
+-- one more, up to the end of a count
+abbrev pub one_more : ℕ → ℕ
+one_more n = min (n + 1) (2 ^ 64 - 1)
+
+-- exactly one call was made, where calls are counted
+abbrev pub OneCall : Option ℕ → Option ℕ → Type 0
+OneCall before now = now ≡ option_map one_more before
+
+-- no call was made, or exactly one
+abbrev pub AtMostOne : Option ℕ → Option ℕ → Type 0
+AtMostOne before now = (now ≡ before) ⊎ OneCall before now
 
 -- the rows with this at the key
 abbrev pub set_row : Rows → RowKey → Option Row → Rows
@@ -63,7 +87,7 @@ ActedOn a now k room m n (Err e) = Refused a now k room m n e
 
 -- a count that rose, or stands at its end
 abbrev pub Rose : ℕ → ℕ → Type 0
-Rose before now = min (before + 1) (2 ^ 64 - 1) ≤ now
+Rose before now = one_more before ≤ now
 
 -- the count of failures never falls, and a failure comes only where it rose
 pub record HasCause {T : Type 0} (before now : ℕ) (result : Result T TableErr) : Type 0 where
@@ -77,10 +101,11 @@ Tells (Some m) None P = ⊥
 Tells (Some m) (Some n) P = P m n
 
 -- an act
-pub record Acted (a : Act) (now : ℕ) (k : RowKey) (old_room new_room old_faults new_faults : ℕ) (before after : Option Rows) (result : Result Said TableErr) : Type 0 where
-  pub rows : Tells before after (λ m n. ActedOn a now k old_room m n result)
-  pub cause : HasCause old_faults new_faults result
-  pub room : new_room ≡ old_room
+pub record Acted (a : Act) (now : ℕ) (k : RowKey) (old new : TableState) (result : Result Said TableErr) : Type 0 where
+  pub rows : Tells old.rows new.rows (λ m n. ActedOn a now k old.room m n result)
+  pub cause : HasCause old.faults new.faults result
+  pub room : new.room ≡ old.room
+  pub calls : OneCall old.calls new.calls
 
 -- an answer for the row after a key: the row of the least greater key; none, where no key of a row is greater
 abbrev pub IsNext : Rows → RowKey → Option (RowKey × Row) → Type 0
@@ -110,10 +135,11 @@ NextOn k (Err Failed) m n = n ≡ m
 NextOn k (Err (Full live most)) m n = ⊥
 
 -- a step to the row after a key
-pub record Went (k : RowKey) (old_room new_room old_faults new_faults : ℕ) (before after : Option Rows) (result : Result (Option (Bor RowKey × Bor Row)) TableErr) : Type 0 where
-  pub rows : Tells before after (NextOn k result)
-  pub cause : HasCause old_faults new_faults result
-  pub room : new_room ≡ old_room
+pub record Went (k : RowKey) (old new : TableState) (result : Result (Option (Bor RowKey × Bor Row)) TableErr) : Type 0 where
+  pub rows : Tells old.rows new.rows (NextOn k result)
+  pub cause : HasCause old.faults new.faults result
+  pub room : new.room ≡ old.room
+  pub calls : OneCall old.calls new.calls
 
 -- the one room that a table is given, 0 where it is given none
 abbrev pub room_of : List ℕ → ℕ
@@ -127,7 +153,8 @@ RoomSet rooms old new (Err Failed) = new ≡ old
 RoomSet rooms old new (Err (Full live most)) = ⊥
 
 -- the room is set, and the rows are as before
-pub record Readied (rooms : List ℕ) (old_room new_room old_faults new_faults : ℕ) (before after : Option Rows) (result : Result Unit TableErr) : Type 0 where
-  pub rows : Tells before after (λ m n. n ≡ m)
-  pub cause : HasCause old_faults new_faults result
-  pub room : RoomSet rooms old_room new_room result
+pub record Readied (rooms : List ℕ) (old new : TableState) (result : Result Unit TableErr) : Type 0 where
+  pub rows : Tells old.rows new.rows (λ m n. n ≡ m)
+  pub cause : HasCause old.faults new.faults result
+  pub room : RoomSet rooms old.room new.room result
+  pub calls : new.calls ≡ old.calls

@@ -1,8 +1,8 @@
 // The trait of a table.
-ghost use Rattle.std.specs.Prelude.{ℕ, Option, ⊤};
+ghost use Rattle.std.specs.Prelude.{⊤};
 ghost use Rattle.std.specs.Borrow.{sem, follows_so};
 ghost use mathlib.Core.Option.{none};
-ghost use Rattle.beldi_row.specs.Table.{Rows, Acted, Went, Readied, IsCount};
+ghost use Rattle.beldi_row.specs.Table.{TableState, Acted, Went, Readied, IsCount};
 
 use crate::act::{Act, Said};
 use crate::key::RowKey;
@@ -38,32 +38,26 @@ impl From<AllocError> for TableErr {
 
 /// A table of rows, ordered by their keys.
 pub trait Table {
-    /// Its rows, where it tells them.
-    ghost rows: { Self → Option Rows };
-
-    /// How often it has failed. It never falls, and at its end it stands still.
-    ghost faults: { Self → ℕ };
-
-    /// How many rows it may have: 0 before the first `ready`.
-    ghost room: { Self → ℕ };
+    /// What contracts see of it: its rows, its failures, its room, and how many calls of `act` and `next` it has had.
+    ghost state: { Self → TableState };
 
     /// How many rows it has; 4,294,967,295 where it has more.
     fn len(&self) -> u32
-        ensures { IsCount (rows self.now) result };
+        ensures { IsCount (state self.now).rows result };
 
-    /// Sets the room to the one number of the list, to 0 where the list is empty, and keeps the rows.
+    /// Sets the room to the one number of the list, to 0 where the list is empty, and keeps the rows. It counts no call.
     fn ready(&mut self, rooms: &[u32]) -> Result<(), TableErr>
-        ensures { Readied rooms.now (room self.old) (room self.new) (faults self.old) (faults self.new) (rows self.old) (rows self.new) result };
+        ensures { Readied rooms.now (state self.old) (state self.new) result };
 
     /// Carries out an act on the row with the key, at the moment `now`, in ticks. An act that adds a row is refused as
     /// `Full` exactly where the table has as many rows as its room or more. An act that does not fit the kind of the
-    /// row changes nothing.
+    /// row changes nothing. It counts one call.
     fn act(&mut self, key: RowKey, act: Act, now: u64) -> Result<Said<'_>, TableErr>
         ensures* acts { sem 𝓛 (follows_so Self.row Self.row self.entry.ghost_name none (λ _ _. ⊤) (λ after.
-            Acted act now key (room self.entry.now) (room after) (faults self.entry.now) (faults after) (rows self.entry.now) (rows after) result)) };
+            Acted act now key (state self.entry.now) (state after) result)) };
 
-    /// The first row whose key is greater than `after`, and None exactly where there is none.
+    /// The first row whose key is greater than `after`, and None exactly where there is none. It counts one call.
     fn next(&mut self, after: &RowKey) -> Result<Option<(&RowKey, &Row)>, TableErr>
         ensures* went { sem 𝓛 (follows_so Self.row Self.row self.entry.ghost_name none (λ _ _. ⊤) (λ now.
-            Went after.now (room self.entry.now) (room now) (faults self.entry.now) (faults now) (rows self.entry.now) (rows now) result)) };
+            Went after.now (state self.entry.now) (state now) result)) };
 }

@@ -17,14 +17,14 @@ use Rattle.beldi_value.specs.declared.value.Value.{Value}
 use Rattle.beldi_value.proofs.IdTexts.{reads}
 use Rattle.beldi_value.proofs.Ints.{numeral_of}
 use Rattle.beldi_value.proofs.ReadAgain.{read_again}
-use Rattle.beldi_lang.specs.declared.deployment.Deployment.{Deployment}
-use Rattle.beldi_lang.specs.declared.deployment.Func.{Func}
-use Rattle.beldi_lang.specs.Wants.{is_name}
+use Rattle.beldi_tree.specs.declared.deployment.Deployment.{Deployment}
+use Rattle.beldi_tree.specs.declared.deployment.Func.{Func}
+use Rattle.beldi_tree.specs.Bindings.{is_name}
 use Rattle.beldi_script.specs.declared.line.Line.{Line}
 use Rattle.beldi_script.specs.declared.line.Line.TheVariants.{Blank, Ticket, Request, Turn, Lost, Crash, Restart, Ic, Gc, Sweep, Settle, Tick, Halt, Reply, Rows, Tables, Book}
 use Rattle.beldi_script.specs.declared.line.ScriptErr.TheVariants.{UnknownFunction}
 use Rattle.beldi_script.specs.Line.{formed, number_or, func_named, value_or, value_at, request_at, restart_at, line_at}
-use Rattle.beldi_lang.specs.Names.{name_or, func_text}
+use Rattle.beldi_tree.specs.Names.{name_or, func_text}
 use Rattle.beldi_script.specs.Text.{line_text, AreNamed, IsFunc, IsId, IsValue, IsTimes, IsBudget, IsProper}
 use Rattle.beldi_script.specs.Words.{is_word, name_at, small_at, collector_at, count_at, budget_at, turn_at, gc_at, sweep_at}
 use Rattle.beldi_script.proofs.Parted.{Parts, parts, no_space, number_unspaced, id_unspaced}

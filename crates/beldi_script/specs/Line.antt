@@ -1,7 +1,6 @@
 -- What a line of a script says, or why it is refused: it has none of the forms, no function has the name that stands there,
 -- or the JSON is no value. The first cause in this order counts.
 use Rattle.std.specs.Prelude.{◌≡◌, ℕ, ◌+◌, ◌-◌, ◌^◌, nat_lt, List, Option, Some, None, Result, Ok, Err, ok_or, codes, if◌then◌else◌}
-use Rattle.std.specs.List.{position}
 use Rattle.beldi_value.specs.declared.value.Value.{Value}
 use Rattle.beldi_value.specs.declared.read.ValueErr.{ValueErr}
 use Rattle.beldi_value.specs.Cut.{before, after}
@@ -9,9 +8,10 @@ use Rattle.beldi_value.specs.Datum.{Datum}
 use Rattle.beldi_value.specs.IdAt.{id_at}
 use Rattle.beldi_value.specs.Injective.{value_of}
 use Rattle.beldi_value.specs.Reading.{read_of}
-use Rattle.beldi_lang.specs.declared.deployment.Deployment.{Deployment}
-use Rattle.beldi_lang.specs.declared.deployment.Func.{Func}
-use Rattle.beldi_lang.specs.Wants.{is_name}
+use Rattle.beldi_tree.specs.declared.deployment.Deployment.{Deployment}
+use Rattle.beldi_tree.specs.declared.deployment.Func.{Func}
+use Rattle.beldi_tree.specs.Bindings.{is_name}
+use Rattle.beldi_tree.specs.Names.{func_place}
 use Rattle.beldi_script.specs.declared.line.Line.{Line}
 use Rattle.beldi_script.specs.declared.line.Line.TheVariants.{Blank, Request, Restart}
 use Rattle.beldi_script.specs.declared.line.ScriptErr.{ScriptErr}
@@ -35,7 +35,7 @@ number_or name (Some place) = if nat_lt place (2 ^ 16 - 1) then Ok (place + 1) e
 
 -- the number of the first function of this name
 abbrev pub func_named : List Func → List ℕ → Result ℕ ScriptErr
-func_named fs name = number_or name (position (λ f. is_name f.name name) fs)
+func_named fs name = number_or name (func_place fs name)
 
 abbrev pub value_or : Result Datum ValueErr → Result Value ScriptErr
 value_or (Ok d) = Ok (value_of d)

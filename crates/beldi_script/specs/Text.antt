@@ -8,10 +8,10 @@ use Rattle.beldi_value.specs.Limits.{is_within}
 use Rattle.beldi_value.specs.Text.{id_text}
 use Rattle.beldi_value.specs.Value.{datum_of}
 use Rattle.beldi_value.specs.declared.id.IntentId.{IntentId}
-use Rattle.beldi_lang.specs.declared.deployment.Deployment.{Deployment}
-use Rattle.beldi_lang.specs.declared.deployment.Func.{Func}
-use Rattle.beldi_lang.specs.Names.{func_text}
-use Rattle.beldi_lang.specs.Wants.{func_at}
+use Rattle.beldi_tree.specs.declared.deployment.Deployment.{Deployment}
+use Rattle.beldi_tree.specs.declared.deployment.Func.{Func}
+use Rattle.beldi_tree.specs.Names.{func_text}
+use Rattle.beldi_tree.specs.Names.{func_at}
 use Rattle.beldi_script.specs.declared.line.Line.{Line}
 use Rattle.beldi_script.specs.declared.line.Line.TheVariants.{Blank, Ticket, Request, Turn, Lost, Crash, Restart, Ic, Gc, Sweep, Settle, Tick, Halt, Reply, Rows, Tables, Book}
 use Rattle.beldi_script.specs.Line.{line_at}

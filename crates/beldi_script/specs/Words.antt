@@ -4,7 +4,7 @@ use Rattle.std.specs.List.{list_all}
 use Rattle.std.specs.Str.{is_utf8}
 use Rattle.beldi_value.specs.Cut.{before, after}
 use Rattle.beldi_value.specs.Number.{numeral_at}
-use Rattle.beldi_lang.specs.Wants.{is_name}
+use Rattle.beldi_tree.specs.Bindings.{is_name}
 use Rattle.beldi_script.specs.declared.line.Line.{Line}
 use Rattle.beldi_script.specs.declared.line.Line.TheVariants.{Ticket, Turn, Lost, Crash, Ic, Gc, Sweep, Settle, Tick, Halt, Reply, Rows, Tables, Book}
 

@@ -1,30 +1,20 @@
 // What a line of a script says.
 ghost use Rattle.std.specs.Prelude.{◌≡◌};
-ghost use Rattle.std.specs.List.{position};
 ghost use Rattle.beldi_value.specs.IdAt.{id_at};
-ghost use Rattle.beldi_lang.specs.Wants.{is_name};
 ghost use Rattle.beldi_script.specs.Line.{formed, func_named, value_at, request_at, restart_at, called, said, line_at, Reads};
 ghost use Rattle.beldi_script.specs.Words.{alone};
 
 use crate::line::{Line, ScriptErr};
 use crate::words::{is_blank, is_word, read_alone, read_counted, read_name, read_small};
-use beldi_lang::{Deployment, Func};
+use beldi_tree::Deployment;
 use beldi_value::{IdErr, IntentId, Str, Value, ValueErr, cut_at};
 use std::alloc::Global;
-
-fn place_named(funcs: &[Func], name: &str) -> Option<usize>
-    ensures { result ≡ position (λ f. is_name f.name name.now) funcs.now }
-{
-    funcs
-        .iter()
-        .position(|func| func.name.as_bytes() == name.as_bytes())
-}
 
 // The number of the first function of this name, from 1.
 fn func_named(alloc: Global, code: &Deployment, name: &str) -> Result<u16, ScriptErr>
     ensures { Reads (func_named code.now.funcs name.now) result }
 {
-    match place_named(code.funcs.as_slice(), name) {
+    match code.funcs.place(name.as_bytes()) {
         Some(place) if place < 0xffff => Ok(place as u16 + 1),
         _ => Err(ScriptErr::UnknownFunction(Str::from_text(alloc, name)?)),
     }

@@ -1,5 +1,5 @@
 use super::*;
-use beldi_lang::{Block, Deployment, Func, Funcs, TableHeads};
+use beldi_tree::{Block, Deployment, Func, Funcs, TableHeads};
 use beldi_value::{Str, Value};
 use std::alloc::{AllocError, Global};
 use std::test::Fail;

@@ -4,10 +4,10 @@ ghost use Rattle.beldi_value.specs.Json.{text_of};
 ghost use Rattle.beldi_value.specs.Text.{id_text};
 ghost use Rattle.beldi_value.specs.Value.{datum_of};
 ghost use Rattle.beldi_script.specs.Text.{line_text};
-ghost use Rattle.beldi_lang.specs.Names.{func_text};
+ghost use Rattle.beldi_tree.specs.Names.{func_text};
 
 use crate::line::Line;
-use beldi_lang::Deployment;
+use beldi_tree::Deployment;
 use beldi_value::{IntentId, OutOfMemory, Str, Value};
 use std::alloc::{AllocError, Global};
 

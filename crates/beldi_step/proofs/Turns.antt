@@ -1,11 +1,11 @@
 -- The turns of runs, by what their calls did.
 use Rattle.std.proofs.Common.{◌≡◌, ℕ, Bool, true, false, not, ◌&&◌, IsTrue, Option, Some, Result, Ok, Err, refl, ap, sym, ◌∙◌}
 use Rattle.std.specs.FinMap as map
-use Rattle.beldi_lang.specs.declared.deployment.Deployment.{Deployment}
+use Rattle.beldi_tree.specs.declared.deployment.Deployment.{Deployment}
 use Rattle.beldi_lang.specs.declared.machine.Machine.{Machine}
 use Rattle.beldi_row.specs.Act.{Tell}
 use Rattle.beldi_row.specs.Asked.{Asked, AskedOn}
-use Rattle.beldi_row.specs.Table.{Rows}
+use Rattle.beldi_row.specs.Table.{TableState}
 use Rattle.beldi_row.proofs.Tells.{tells_map}
 use Rattle.beldi_row.proofs.Unchanged.{looked}
 use Rattle.beldi_daal.specs.declared.walk.WriteWalk.{WriteWalk}
@@ -37,50 +37,54 @@ same_turn d r at m x (Held o) = refl
 same_turn d r at m x Worn = refl
 same_turn d r at m x (Done n first) = same_noted d r at m first (is_done_note n)
 
-pub wrote : (d : Deployment) (changes : ℕ) (r s : Run) (m : Machine) (w x : WriteWalk) (y : WriteSays) (now room new_room faults new_faults : ℕ) (before after : Option Rows) (result : Result TurnSays TurnErr)
-    → Walked w x now room new_room faults new_faults before after (Ok y)
+pub wrote : (d : Deployment) (changes : ℕ) (r s : Run) (m : Machine) (w x : WriteWalk) (y : WriteSays) (now : ℕ) (old new : TableState) (result : Result TurnSays TurnErr)
+    → Walked w x now old new (Ok y)
     → Turns s result (write_turned d (record r { at = Some (record { machine = m; stage = Write x }) }) m (x, y))
-    → Ran d r changes (Some (record { machine = m; stage = Write w })) s now room new_room faults new_faults before after result
-wrote d changes r s m w x y now room new_room faults new_faults before after (Ok z) h turns = record {
-  rows = tells_map {P = λ m n. TurnedOn w x now room m n (Ok y)} {Q = λ o n. RanOn d r changes (Some (record { machine = m; stage = Write w })) s now room o n (Ok z)} before after
+    → Ran d r changes (Some (record { machine = m; stage = Write w })) s now old new result
+wrote d changes r s m w x y now old new (Ok z) h turns = record {
+  rows = tells_map {P = λ m n. TurnedOn w x now old.room m n (Ok y)} {Q = λ o n. RanOn d r changes (Some (record { machine = m; stage = Write w })) s now old.room o n (Ok z)} old.rows new.rows
       (λ o n p. (p.0, turns ∙ same_turn d r (Some (record { machine = m; stage = Write x })) m x y ∙ ap (write_turned d r m) p.1, p.2)) h.rows;
   stands = tt;
   later = h.cause.later;
   failed = λ e. cc;
   room = h.room;
+  calls = h.calls;
 }
-wrote d changes r s m w x y now room new_room faults new_faults before after (Err (Lost e)) h turns = record {
-  rows = tells_map {P = λ m n. TurnedOn w x now room m n (Ok y)} {Q = λ o n. RanOn d r changes (Some (record { machine = m; stage = Write w })) s now room o n (Err (Lost e))} before after
+wrote d changes r s m w x y now old new (Err (Lost e)) h turns = record {
+  rows = tells_map {P = λ m n. TurnedOn w x now old.room m n (Ok y)} {Q = λ o n. RanOn d r changes (Some (record { machine = m; stage = Write w })) s now old.room o n (Err (Lost e))} old.rows new.rows
       (λ o n p. (p.0, turns ∙ ap (λ (t : Turned). t.entry) (same_turn d r (Some (record { machine = m; stage = Write x })) m x y ∙ ap (write_turned d r m) p.1), p.2)) h.rows;
   stands = tt;
   later = h.cause.later;
   failed = λ e. cc;
   room = h.room;
+  calls = h.calls;
 }
-wrote d changes r s m w x y now room new_room faults new_faults before after (Err (Stopped e)) h turns = absurd turns
+wrote d changes r s m w x y now old new (Err (Stopped e)) h turns = absurd turns
 
 -- ---- a call that made the run's act, and what followed from its answer
-pub followed : {X : Type 0} (f : Tell → X) (d : Deployment) (changes : ℕ) (r s : Run) (at : Option Begun) (x : X) (next : X → Turned) (now room new_room faults new_faults : ℕ) (before after : Option Rows) (result : Result TurnSays TurnErr)
+pub followed : {X : Type 0} (f : Tell → X) (d : Deployment) (changes : ℕ) (r s : Run) (at : Option Begun) (x : X) (next : X → Turned) (now : ℕ) (old new : TableState) (result : Result TurnSays TurnErr)
     → ((t : Tell) → next (f t) ≡ turned_at d r changes at t)
-    → Asked f (act_at at) now (key_at r at) room new_room faults new_faults before after (Ok x) → Turns s result (next x)
-    → Ran d r changes at s now room new_room faults new_faults before after result
-followed f d changes r s at x next now room new_room faults new_faults before after (Ok z) leads h turns = record {
-  rows = tells_map {P = λ m n. AskedOn f (act_at at) now (key_at r at) room m n (Ok x)} {Q = λ m n. RanOn d r changes at s now room m n (Ok z)} before after
+    → Asked f (act_at at) now (key_at r at) old new (Ok x) → Turns s result (next x)
+    → Ran d r changes at s now old new result
+followed f d changes r s at x next now old new (Ok z) leads h turns = record {
+  rows = tells_map {P = λ m n. AskedOn f (act_at at) now (key_at r at) old.room m n (Ok x)} {Q = λ m n. RanOn d r changes at s now old.room m n (Ok z)} old.rows new.rows
       (λ m n p. (p.0, turns ∙ ap next p.1 ∙ leads _, p.2)) h.rows;
   stands = tt;
   later = h.cause.later;
   failed = λ e. cc;
   room = h.room;
+  calls = h.calls;
 }
-followed f d changes r s at x next now room new_room faults new_faults before after (Err (Lost e)) leads h turns = record {
-  rows = tells_map {P = λ m n. AskedOn f (act_at at) now (key_at r at) room m n (Ok x)} {Q = λ m n. RanOn d r changes at s now room m n (Err (Lost e))} before after
+followed f d changes r s at x next now old new (Err (Lost e)) leads h turns = record {
+  rows = tells_map {P = λ m n. AskedOn f (act_at at) now (key_at r at) old.room m n (Ok x)} {Q = λ m n. RanOn d r changes at s now old.room m n (Err (Lost e))} old.rows new.rows
       (λ m n p. (p.0, turns ∙ ap (λ y. (next y).entry) p.1 ∙ ap (λ (t : Turned). t.entry) (leads _), p.2)) h.rows;
   stands = tt;
   later = h.cause.later;
   failed = λ e. cc;
   room = h.room;
+  calls = h.calls;
 }
-followed f d changes r s at x next now room new_room faults new_faults before after (Err (Stopped e)) leads h turns = absurd turns
+followed f d changes r s at x next now old new (Err (Stopped e)) leads h turns = absurd turns
 
 -- ---- a read on its walk
 -- a Look adds no row
@@ -93,14 +97,15 @@ same_walk r at m x changes reading.Going = refl
 same_walk r at m x changes (reading.Held o) = refl
 same_walk r at m x changes (reading.Got v) = refl
 
-pub walked : (d : Deployment) (changes : ℕ) (r s : Run) (m : Machine) (w x : ReadWalk) (y : ReadSays) (now room new_room faults new_faults : ℕ) (before after : Option Rows) (z : TurnSays)
-    → ReadTurned w x now room new_room faults new_faults before after (Ok y) → turned_by s z ≡ walk_turned (record r { at = Some (record { machine = m; stage = Walk x }) }) m x changes y
-    → Ran d r changes (Some (record { machine = m; stage = Walk w })) s now room new_room faults new_faults before after (Ok z)
-walked d changes r s m w x y now room new_room faults new_faults before after z h turns = record {
-  rows = tells_map {P = λ m n. ReadOn w now m n (Ok y)} {Q = λ o n. RanOn d r changes (Some (record { machine = m; stage = Walk w })) s now room o n (Ok z)} before after
+pub walked : (d : Deployment) (changes : ℕ) (r s : Run) (m : Machine) (w x : ReadWalk) (y : ReadSays) (now : ℕ) (old new : TableState) (z : TurnSays)
+    → ReadTurned w x now old new (Ok y) → turned_by s z ≡ walk_turned (record r { at = Some (record { machine = m; stage = Walk x }) }) m x changes y
+    → Ran d r changes (Some (record { machine = m; stage = Walk w })) s now old new (Ok z)
+walked d changes r s m w x y now old new z h turns = record {
+  rows = tells_map {P = λ m n. ReadOn w now m n (Ok y)} {Q = λ o n. RanOn d r changes (Some (record { machine = m; stage = Walk w })) s now old.room o n (Ok z)} old.rows new.rows
       (λ o n p. (p.0 ∙ sym (looked now (read_key w) o), turns ∙ same_walk r (Some (record { machine = m; stage = Walk x })) m x changes y ∙ ap (λ v. walk_turned r m v changes y) h.walk ∙ ap (walk_turned r m w changes) p.1, λ adds. absurd (adds_none (map.contains_key o (read_key w)) adds))) h.rows;
   stands = tt;
   later = h.cause.later;
   failed = λ e. cc;
   room = h.room;
+  calls = h.calls;
 }

@@ -1,5 +1,5 @@
 -- The host without its table, and what one event does.
-use Rattle.std.specs.Prelude.{◌≡◌, ◌⊎◌, ℕ, ◌+◌, ◌-◌, ◌^◌, ◌≤◌, ◌<◌, ◌==◌, ◌||◌, nat_lt, nat_le, Bool, true, false, IsTrue, List, [], ◌∷◌, ◌++◌, option_to_list, Option, Some, None, Result, Ok, Err, if◌then◌else◌}
+use Rattle.std.specs.Prelude.{◌≡◌, ◌⊎◌, ℕ, ◌+◌, ◌-◌, ◌^◌, ◌≤◌, ◌<◌, ◌==◌, ◌||◌, nat_lt, nat_le, Bool, true, false, IsTrue, List, [], ◌∷◌, ◌++◌, option_to_list, Option, Some, None, is_none, Result, Ok, Err, if◌then◌else◌}
 use Rattle.std.specs.FinMap as map
 use Rattle.std.specs.FinMap.{FinMap}
 use Rattle.std.specs.Ordering.{nat_cmp}
@@ -7,12 +7,12 @@ use Rattle.std.specs.declared.alloc.AllocError.{AllocError}
 use Rattle.beldi_value.specs.Id.{root_of}
 use Rattle.beldi_value.specs.declared.id.IntentId.{IntentId}
 use Rattle.beldi_value.specs.declared.value.Value.{Value}
-use Rattle.beldi_lang.specs.declared.deployment.Deployment.{Deployment}
+use Rattle.beldi_tree.specs.declared.deployment.Deployment.{Deployment}
 use Rattle.beldi_row.specs.declared.key.RowKey.{RowKey}
 use Rattle.beldi_row.specs.declared.act.Act.{Act}
 use Rattle.beldi_row.specs.declared.act.Act.TheVariants.{Issue, Bind}
-use Rattle.beldi_row.specs.Act.{Tell, added, bound, running, ended, other}
-use Rattle.beldi_row.specs.Table.{Rows, IsFull, Tells, Rose, after_act, tell_act, adds}
+use Rattle.beldi_row.specs.Act.{Tell}
+use Rattle.beldi_row.specs.Table.{Rows, TableState, IsFull, Tells, Rose, AtMostOne, after_act, tell_act, adds}
 use Rattle.beldi_book.specs.declared.entry.Entry.{Entry}
 use Rattle.beldi_book.specs.Order.{count_changes}
 use Rattle.beldi_book.specs.declared.entry.Entry.TheVariants.{Start}
@@ -20,7 +20,10 @@ use Rattle.beldi_step.specs.declared.event.Event.{Event}
 use Rattle.beldi_step.specs.declared.event.Event.TheVariants.{Ticket, Request, Turn, Lost, Crash, Restart}
 use Rattle.beldi_step.specs.declared.event.Seen.{Seen}
 use Rattle.beldi_step.specs.declared.event.Seen.TheVariants as seen
+use Rattle.beldi_step.specs.declared.intent.Binding.{Binding}
+use Rattle.beldi_step.specs.declared.intent.Binding.TheVariants as binding
 use Rattle.beldi_step.specs.declared.run.Run.{Run}
+use Rattle.beldi_step.specs.Intent.{is_added, binding_of}
 use Rattle.beldi_step.specs.Run.{intent_key, Turned, run_key, run_act, run_turned}
 
 -- the newest ticket, the live runs by number, how many runs were ever started, the book, the moment, and how many events
@@ -53,10 +56,10 @@ pub data Plan : Type 0 where
   Do : RowKey → Act → (Tell → Core × Seen) → Plan
   Lose : RowKey → Act → (Tell → Core) → Plan
 
--- ---- a ticket
-abbrev pub ticket_next : Core → Tell → Core × Seen
-ticket_next c added = (record c { newest = c.newest + 1 }, seen.Issued (c.newest + 1))
-ticket_next c t = (c, seen.Gone (c.newest + 1))
+-- ---- a ticket, by whether its row was added
+abbrev pub ticket_next : Core → Bool → Core × Seen
+ticket_next c true = (record c { newest = c.newest + 1 }, seen.Issued (c.newest + 1))
+ticket_next c false = (c, seen.Gone (c.newest + 1))
 
 -- ---- a request
 abbrev pub new_run : IntentId → ℕ → Run
@@ -65,21 +68,23 @@ new_run id f = record { id = id; func = f; at = None }
 abbrev pub bound_next : Core → ℕ → ℕ → Value → Core × Seen
 bound_next c t f a = (record c { runs = map.insert c.runs (c.last_run + 1) (new_run (root_of t) f); last_run = c.last_run + 1; book = c.book ++ Start t f a ∷ [] }, seen.Bound t (c.last_run + 1))
 
-abbrev pub request_next : Core → ℕ → ℕ → Value → Tell → Core × Seen
-request_next c t f a bound = bound_next c t f a
-request_next c t f a running = (c, seen.Running t)
-request_next c t f a (ended o) = (c, seen.Replied t o)
-request_next c t f a (other b) = (c, seen.Other t b.func b.args)
-request_next c t f a told = (c, seen.Gone t)
+-- the answer where it was not bound now
+abbrev pub unbound : ℕ → Binding → Seen
+unbound t binding.Bound = seen.Gone t
+unbound t binding.Running = seen.Running t
+unbound t (binding.Other f a) = seen.Other t f a
+unbound t (binding.Ended o) = seen.Replied t o
+unbound t binding.Gone = seen.Gone t
+
+-- by what its bind came to
+abbrev pub request_next : Core → ℕ → ℕ → Value → Binding → Core × Seen
+request_next c t f a binding.Bound = bound_next c t f a
+request_next c t f a b = (c, unbound t b)
 
 -- ---- a turn
 abbrev pub put_run : FinMap nat_cmp Run → ℕ → Option Run → FinMap nat_cmp Run
 put_run m i None = map.remove m i
 put_run m i (Some r) = map.insert m i r
-
-abbrev pub is_none : {X : Type 0} → Option X → Bool
-is_none None = true
-is_none (Some x) = false
 
 abbrev pub turn_next : Core → ℕ → Turned → Core × Seen
 turn_next c i s = (record c { runs = put_run c.runs i s.next; book = c.book ++ option_to_list s.entry }, seen.Acted s.entry (is_none s.next) s.reply)
@@ -124,10 +129,10 @@ abbrev pub request_plan : Core → ℕ → ℕ → Value → Plan
 request_plan c t f a =
     if (t == 0) || nat_lt c.newest t then Answer c (seen.Unknown t) else
     if nat_le most_runs (map.len c.runs) then Answer c seen.Crowded else
-    Do (root_key t) (Bind f a) (request_next c t f a)
+    Do (root_key t) (Bind f a) (λ u. request_next c t f a (binding_of u))
 
 abbrev pub plan_of : Deployment → Event → Core → Plan
-plan_of d Ticket c = if c.newest == 2 ^ 32 - 1 then Answer c seen.NoTicket else Do (root_key (c.newest + 1)) Issue (ticket_next c)
+plan_of d Ticket c = if c.newest == 2 ^ 32 - 1 then Answer c seen.NoTicket else Do (root_key (c.newest + 1)) Issue (λ t. ticket_next c (is_added t))
 plan_of d (Request t f a) c = request_plan c t f a
 plan_of d (Turn i) c = turn_plan d c i (map.get c.runs i)
 plan_of d (Lost i) c = lost_plan d c i (map.get c.runs i)
@@ -189,10 +194,10 @@ EventOn d room old new e c m b n (Ok x) = IsOneEvent d room old new e c m b n x
 EventOn d room old new e c m b n (Err w) = (c.taken < most_events) × Breaks d e c m b n
 
 -- ---- what is said over every table, also over one that tells no rows
--- what an event that makes an act leaves and answers, by what the act told; the act of a crash or a restart there is none
+-- what an event that makes an act leaves and answers, by what the act came to; the act of a crash or a restart there is none
 abbrev pub ByAct : Event → Core → Core × Seen → Type 0
-ByAct Ticket c z = (t : Tell) × (z ≡ ticket_next c t)
-ByAct (Request t f a) c z = (u : Tell) × (z ≡ request_next c t f a u)
+ByAct Ticket c z = (added : Bool) × (z ≡ ticket_next c added)
+ByAct (Request t f a) c z = (b : Binding) × (z ≡ request_next c t f a b)
 ByAct (Turn i) c z = (s : Turned) × (z ≡ turn_next c i s)
 ByAct (Lost i) c z = ⊥
 ByAct (Crash i) c z = ⊥
@@ -236,9 +241,10 @@ is_lost (Lost i) = true
 is_lost e = false
 
 -- what a call that carries out an event does
-pub record Stepped (d : Deployment) (e : Event) (c b : Core) (old_room new_room old_faults new_faults : ℕ) (before after : Option Rows) (result : Result Seen AllocError) : Type 0 where
-  pub rows : Tells before after (λ m n. EventOn d old_room old_faults new_faults e c m b n result)
+pub record Stepped (d : Deployment) (e : Event) (c b : Core) (old new : TableState) (result : Result Seen AllocError) : Type 0 where
+  pub rows : Tells old.rows new.rows (λ m n. EventOn d old.room old.faults new.faults e c m b n result)
   pub answers : Answers e (counted c) (plan d e c) b result
-  pub later : old_faults ≤ new_faults
-  pub failed : result ≡ Ok seen.Dropped → is_lost e ≡ false → Rose old_faults new_faults
-  pub room : new_room ≡ old_room
+  pub later : old.faults ≤ new.faults
+  pub failed : result ≡ Ok seen.Dropped → is_lost e ≡ false → Rose old.faults new.faults
+  pub room : new.room ≡ old.room
+  pub calls : AtMostOne old.calls new.calls

@@ -1,6 +1,5 @@
 pub mod Host
 pub mod Intent
 pub mod Run
-pub mod Session
 pub mod Tables
 pub mod Turn

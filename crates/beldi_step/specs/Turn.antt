@@ -4,10 +4,10 @@ use Rattle.std.specs.FinMap as map
 use Rattle.beldi_value.specs.Id.{has_no_hops}
 use Rattle.beldi_value.specs.declared.id.IntentId.{IntentId}
 use Rattle.beldi_value.specs.declared.outcome.Outcome.{Outcome}
-use Rattle.beldi_lang.specs.declared.deployment.Deployment.{Deployment}
+use Rattle.beldi_tree.specs.declared.deployment.Deployment.{Deployment}
 use Rattle.beldi_lang.specs.declared.machine.Machine.{Machine}
 use Rattle.beldi_row.specs.declared.table.TableErr.TheVariants.{Failed, Full}
-use Rattle.beldi_row.specs.Table.{Rows, Refused, after_act, tell_act, adds, Tells, Rose}
+use Rattle.beldi_row.specs.Table.{Rows, TableState, Refused, after_act, tell_act, adds, Tells, Rose, AtMostOne}
 use Rattle.beldi_book.specs.declared.entry.Entry.TheVariants.{Step}
 use Rattle.beldi_step.specs.declared.run.Run.{Run}
 use Rattle.beldi_step.specs.declared.run.Begun.{Begun}
@@ -52,9 +52,10 @@ StandsAtFull r s (Err (Stopped (Full live most))) = s ≡ r
 StandsAtFull r s x = Unit {0}
 
 -- a turn of the run r, which stands at `at`, when so many changes had been made
-pub record Ran (d : Deployment) (r : Run) (changes : ℕ) (at : Option Begun) (s : Run) (now old_room new_room old_faults new_faults : ℕ) (before after : Option Rows) (result : Result TurnSays TurnErr) : Type 0 where
-  pub rows : Tells before after (λ m n. RanOn d r changes at s now old_room m n result)
+pub record Ran (d : Deployment) (r : Run) (changes : ℕ) (at : Option Begun) (s : Run) (now : ℕ) (old new : TableState) (result : Result TurnSays TurnErr) : Type 0 where
+  pub rows : Tells old.rows new.rows (λ m n. RanOn d r changes at s now old.room m n result)
   pub stands : StandsAtFull r s result
-  pub later : old_faults ≤ new_faults
-  pub failed : IsErrOf result (Stopped Failed) → Rose old_faults new_faults
-  pub room : new_room ≡ old_room
+  pub later : old.faults ≤ new.faults
+  pub failed : IsErrOf result (Stopped Failed) → Rose old.faults new.faults
+  pub room : new.room ≡ old.room
+  pub calls : AtMostOne old.calls new.calls

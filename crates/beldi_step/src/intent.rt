@@ -43,7 +43,7 @@ pub fn issue<T: Table>(
     ticket: u32,
     now: u64,
 ) -> Result<bool, TableErr>
-    ensures { Asked is_added acts.Issue now (intent_key (root_of ticket) 0) (T.room table.old) (T.room table.new) (T.faults table.old) (T.faults table.new) (T.rows table.old) (T.rows table.new) result }
+    ensures { Asked is_added acts.Issue now (intent_key (root_of ticket) 0) (T.state table.old) (T.state table.new) result }
 {
     let key = key_of(IntentId::root(alloc, ticket), 0);
     let said = table.act(key, Act::Issue, now)?;
@@ -65,7 +65,7 @@ pub fn bind<T: Table>(
     args: Value,
     now: u64,
 ) -> Result<Binding, TableErr>
-    ensures { Asked binding_of (acts.Bind func args) now (intent_key (root_of ticket) 0) (T.room table.old) (T.room table.new) (T.faults table.old) (T.faults table.new) (T.rows table.old) (T.rows table.new) result }
+    ensures { Asked binding_of (acts.Bind func args) now (intent_key (root_of ticket) 0) (T.state table.old) (T.state table.new) result }
 {
     let key = key_of(IntentId::root(alloc, ticket), 0);
     let said = table.act(key, Act::Bind { func, args }, now)?;
@@ -100,7 +100,7 @@ pub fn open_body<T: Table>(
     func: u16,
     now: u64,
 ) -> Result<Option<Value>, TableErr>
-    ensures { Asked (open_args func) acts.Look now (intent_key id func) (T.room table.old) (T.room table.new) (T.faults table.old) (T.faults table.new) (T.rows table.old) (T.rows table.new) result }
+    ensures { Asked (open_args func) acts.Look now (intent_key id func) (T.state table.old) (T.state table.new) result }
 {
     let said = table.act(key_of(id, func), Act::Look, now)?;
     match says_open(alloc, said, func) {
@@ -138,7 +138,7 @@ fn args_of(alloc: Global, intent: &IntentRow, func: u16) -> Result<Option<Value>
 
 /// Looks at the row of an intent, and says nothing of it.
 pub fn look<T: Table>(table: &mut T, id: IntentId, func: u16, now: u64) -> Result<(), TableErr>
-    ensures { Asked (λ t. tt) acts.Look now (intent_key id func) (T.room table.old) (T.room table.new) (T.faults table.old) (T.faults table.new) (T.rows table.old) (T.rows table.new) result }
+    ensures { Asked (λ t. tt) acts.Look now (intent_key id func) (T.state table.old) (T.state table.new) result }
 {
     table.act(key_of(id, func), Act::Look, now)?;
     Ok(())
@@ -152,7 +152,7 @@ pub fn end<T: Table>(
     outcome: Outcome,
     now: u64,
 ) -> Result<bool, TableErr>
-    ensures { Asked is_did (acts.End outcome true) now (intent_key id func) (T.room table.old) (T.room table.new) (T.faults table.old) (T.faults table.new) (T.rows table.old) (T.rows table.new) result }
+    ensures { Asked is_did (acts.End outcome true) now (intent_key id func) (T.state table.old) (T.state table.new) result }
 {
     let act = Act::End {
         outcome,

@@ -2,8 +2,8 @@
 //! It stands on the language, the rows, the walks and the book. Its definitions: `specs/Run` (the act of a run's next
 //! turn, and where the run goes after what it was told), `specs/Intent` (calls that make one act on the row of an
 //! intent), `specs/Turn` (calls that make a turn), `specs/Host` (the host without its table, and one event as a relation
-//! between the host and the rows before and after; and what is so over every table), `specs/Session` (lists of events)
-//! and `specs/Tables` (the listing of the rows).
+//! between the host and the rows before and after; and what is so over every table) and `specs/Tables` (the listing of
+//! the rows).
 #![tactic(auto)]
 
 mod event;

@@ -1,6 +1,6 @@
 // The turns of runs: one act a turn.
 ghost use Rattle.std.specs.Prelude.{◌≡◌, ℕ, true, false, Some, None, IfOk, OnOk};
-ghost use Rattle.beldi_lang.specs.Wants.{func_at};
+ghost use Rattle.beldi_tree.specs.Names.{func_at};
 ghost use Rattle.beldi_lang.specs.declared.machine.Machine.{Machine};
 ghost use Rattle.beldi_book.specs.declared.entry.Entry.TheVariants.{Read, Step};
 ghost use Rattle.beldi_daal.specs.declared.walk.WriteWalk.{WriteWalk};
@@ -134,7 +134,7 @@ fn close<T: Table>(
     table: &mut T,
     now: u64,
 ) -> Result<TurnSays, TableErr>
-    ensures { Asked (λ t. close_says id.now outcome.now (is_did t)) (acts.End outcome.now true) now (intent_key id.now func) (T.room table.old) (T.room table.new) (T.faults table.old) (T.faults table.new) (T.rows table.old) (T.rows table.new) result }
+    ensures { Asked (λ t. close_says id.now outcome.now (is_did t)) (acts.End outcome.now true) now (intent_key id.now func) (T.state table.old) (T.state table.new) result }
 {
     let entry = Entry::Step {
         id: id.copy(alloc)?,
@@ -197,7 +197,7 @@ impl Run {
         now: u64,
         changes: u64,
     ) -> Result<TurnSays, TurnErr>
-        ensures { Ran code.now self.old changes self.old.at self.new now (T.room table.old) (T.room table.new) (T.faults table.old) (T.faults table.new) (T.rows table.old) (T.rows table.new) result }
+        ensures { Ran code.now self.old changes self.old.at self.new now (T.state table.old) (T.state table.new) result }
     {
         match &mut self.at {
             None => self.begin(alloc, code, table, now),
@@ -247,7 +247,7 @@ impl Run {
         table: &mut T,
         now: u64,
     ) -> Result<TurnSays, TurnErr>
-        ensures { (changes : ℕ) → Ran code.now self.old changes None self.new now (T.room table.old) (T.room table.new) (T.faults table.old) (T.faults table.new) (T.rows table.old) (T.rows table.new) result }
+        ensures { (changes : ℕ) → Ran code.now self.old changes None self.new now (T.state table.old) (T.state table.new) result }
     {
         let id = self.id.copy(alloc)?;
         match open_body(alloc, table, id, self.func, now)? {

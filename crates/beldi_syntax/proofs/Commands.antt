@@ -7,11 +7,11 @@ use Rattle.beldi_syntax.specs.declared.refusal.What.TheVariants.{Syntax, TooDeep
 use Rattle.beldi_syntax.specs.Phrase.{end_token, is_end as is_at_end, line_of, refuse, Read, got, bad, after, ◌>>=◌, give, next_is, after_first, take, name, number}
 use Rattle.beldi_value.specs.declared.rel.Rel.{Rel}
 use Rattle.std.specs.Prelude.{◌^◌}
-use Rattle.beldi_lang.specs.Term.{Term}
+use Rattle.beldi_tree.specs.Term.{Term}
 use Rattle.beldi_syntax.specs.Operators.{relation_at}
 use Rattle.beldi_syntax.specs.Expressions.{expr_at}
 use Rattle.std.specs.Prelude.{◌||◌}
-use Rattle.beldi_lang.specs.Command.{Command, set, read, write, condwrite, call as run, async, lock, unlock, transaction, abort, break, choose, repeat, return, commands_of}
+use Rattle.beldi_tree.specs.Command.{Command, set, read, write, condwrite, call as run, async, lock, unlock, transaction, abort, break, choose, repeat, return, commands_of}
 use Rattle.beldi_syntax.specs.Statements.{cell as read_cell, relation_or, relation, set_of, read_of, write_of, condition, condwrite_of, call_of, async_of, lock_of, unlock_of, return_of, word_of, otherwise, if_of, repeat_of, transaction_of, on_item, plain, stmt_of, stmt as read_stmt, next_stmt, stmts, braced, block_at}
 use Rattle.beldi_syntax.specs.Deployments.{table_of, next_table, tables, head, body, function_of, next_function, functions, life, room_of, room as read_room, the_end as read_end, deployment as read_deployment}
 use Rattle.beldi_syntax.specs.Grammar.{deployment, room, more_functions, the_end, function, more_tables, block, more_stmts, stmt, else_tail, cell, Symbol, word, NAME, INT, END, REL, expr, sum, IsToken, is_end, Yields, Accepts}

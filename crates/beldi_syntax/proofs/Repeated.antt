@@ -1,7 +1,7 @@
 -- Phrases that go on.
 use Rattle.std.proofs.Common.{◌≡◌, ℕ, zero, suc, ◌+◌, ◌-◌, ◌<◌, Bool, true, false, List, [], ◌∷◌, ◌++◌, drop, Option, Some, None, Err, refl, ap, sym, ◌∙◌, arith, add-one, codes, if◌then◌else◌}
 use Rattle.std.specs.List.{list_any}
-use Rattle.beldi_lang.specs.Term.{Term}
+use Rattle.beldi_tree.specs.Term.{Term}
 use Rattle.beldi_syntax.specs.declared.refusal.SyntaxErr.{SyntaxErr}
 use Rattle.beldi_syntax.specs.declared.refusal.SyntaxErr.TheVariants.{OutOfMemory, Refused}
 use Rattle.beldi_syntax.specs.declared.token.Lexeme.{Lexeme}

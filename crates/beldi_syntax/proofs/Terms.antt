@@ -8,9 +8,9 @@ use Rattle.beldi_syntax.specs.Phrase.{is_past_numbers, is_name as is_a_name, is_
 use Rattle.std.specs.Prelude.{option_map}
 use Rattle.beldi_value.specs.declared.rel.Rel.{Rel}
 use Rattle.beldi_value.specs.declared.rel.Rel.TheVariants.{Eq, Ne, Lt, Le, Gt, Ge}
-use Rattle.beldi_lang.specs.declared.deployment.Op.TheVariants.{Add, Sub, Join, Mul, Div, Rem}
+use Rattle.beldi_tree.specs.declared.deployment.Op.TheVariants.{Add, Sub, Join, Mul, Div, Rem}
 use Rattle.std.specs.Prelude.{◌^◌, ◌-◌, pos}
-use Rattle.beldi_lang.specs.Term.{Term, int, text as text_term, boolean, null, name as name_term, not as not_term, negate as negate_term, field, element, list, fields, len, text_of as json_of, push, with, items_of, members_of}
+use Rattle.beldi_tree.specs.Term.{Term, int, text as text_term, boolean, null, name as name_term, not as not_term, negate as negate_term, field, element, list, fields, len, text_of as json_of, push, with, items_of, members_of}
 use Rattle.beldi_syntax.specs.declared.operators.Level.{Level}
 use Rattle.beldi_syntax.specs.declared.operators.Level.TheVariants.{Disjunction, Conjunction, Relation, Sum, Product}
 use Rattle.beldi_syntax.specs.declared.operators.Operator.{Operator}

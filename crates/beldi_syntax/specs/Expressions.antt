@@ -10,7 +10,7 @@
 -- Each phrase is given what an expr in it is, which has one level of nesting less.
 use Rattle.std.specs.Prelude.{ℕ, zero, suc, ◌^◌, ◌-◌, pos, Bool, true, false, ◌||◌, List, [], ◌∷◌, ◌++◌, length, Option, Some, None, codes, if◌then◌else◌}
 use Rattle.std.specs.List.{list_any}
-use Rattle.beldi_lang.specs.Term.{Term, int, text as text_term, boolean, null, name as name_term, not as not_term, negate, field, element, list, fields, len, text_of as json_of, push, with, items_of, members_of}
+use Rattle.beldi_tree.specs.Term.{Term, int, text as text_term, boolean, null, name as name_term, not as not_term, negate, field, element, list, fields, len, text_of as json_of, push, with, items_of, members_of}
 use Rattle.beldi_syntax.specs.declared.refusal.What.TheVariants.{Syntax, Number as OfNumber, TooDeep}
 use Rattle.beldi_syntax.specs.declared.token.Lexeme.{Lexeme}
 use Rattle.beldi_syntax.specs.declared.operators.Level.{Level}

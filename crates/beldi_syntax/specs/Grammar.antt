@@ -1,7 +1,7 @@
 -- The grammar as a relation: which lists of tokens are a deployment, whatever a number's size and however deep they nest.
 use Rattle.std.specs.Prelude.{◌≡◌, ◌⊎◌, ℕ, List, [], ◌∷◌, ◌++◌, map, Option, codes}
 use Rattle.beldi_syntax.specs.declared.refusal.What.TheVariants.{Syntax}
-use Rattle.beldi_lang.specs.declared.deployment.Deployment.{Deployment}
+use Rattle.beldi_tree.specs.declared.deployment.Deployment.{Deployment}
 use Rattle.beldi_syntax.specs.declared.token.Lexeme.{Lexeme}
 use Rattle.beldi_syntax.specs.declared.token.Token.{Token}
 use Rattle.beldi_syntax.specs.declared.token.Token.TheVariants.{Sign, Name, Number, Text, End}

@@ -11,8 +11,8 @@
 -- statement is a phrase of its own.
 use Rattle.std.specs.Prelude.{ℕ, zero, suc, List, [], ◌∷◌, ◌++◌, length, Option, Some, None, codes, if◌then◌else◌}
 use Rattle.beldi_value.specs.declared.rel.Rel.{Rel}
-use Rattle.beldi_lang.specs.Term.{Term}
-use Rattle.beldi_lang.specs.Command.{Command, set, read, write, condwrite, call, async, lock, unlock, transaction, abort, break, choose, repeat, return, commands_of}
+use Rattle.beldi_tree.specs.Term.{Term}
+use Rattle.beldi_tree.specs.Command.{Command, set, read, write, condwrite, call, async, lock, unlock, transaction, abort, break, choose, repeat, return, commands_of}
 use Rattle.beldi_syntax.specs.declared.refusal.What.TheVariants.{Syntax, TooDeep}
 use Rattle.beldi_syntax.specs.declared.token.Lexeme.{Lexeme}
 use Rattle.beldi_syntax.specs.Operators.{relation_at}

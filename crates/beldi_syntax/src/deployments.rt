@@ -5,7 +5,7 @@ ghost use Rattle.beldi_syntax.specs.Deployments.{table_of, tables, head, body, f
 
 use crate::refusal::{SyntaxErr, What};
 use crate::tokens::Tokens;
-use beldi_lang::{Block, Deployment, Func, Funcs, TableHead, TableHeads};
+use beldi_tree::{Block, Deployment, Func, Funcs, TableHead, TableHeads};
 use beldi_value::Str;
 use std::alloc::Global;
 

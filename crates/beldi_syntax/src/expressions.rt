@@ -1,14 +1,14 @@
 // The grammar of expressions. `depth` is how many levels of nesting an expression in the phrase may open.
 ghost use Rattle.std.specs.Prelude.{◌≡◌, ◌^◌, ◌-◌, ◌||◌, codes, length, IfOk, map};
-ghost use Rattle.beldi_lang.specs.Term.{items_of, members_of, len, text_of, list, fields, negate, not};
-ghost use Rattle.beldi_lang.specs.Expr.{term_of};
+ghost use Rattle.beldi_tree.specs.Term.{items_of, members_of, len, text_of, list, fields, negate, not};
+ghost use Rattle.beldi_tree.specs.Expr.{term_of};
 ghost use Rattle.beldi_syntax.specs.Phrase.{Reads, ReadsAs, times};
 ghost use Rattle.beldi_syntax.specs.Expressions.{literal, begins_expr, no_expr, expr_at, chain, side, negation, unary, post, suffix, more, atom, bracketed, call, listed, member, argument, part, push_of, with_of, field_of};
 
 use crate::operators::{Level, step};
 use crate::refusal::{SyntaxErr, What};
 use crate::tokens::Tokens;
-use beldi_lang::{Expr, Exprs, Members, Step};
+use beldi_tree::{Expr, Exprs, Members, Step};
 use beldi_value::Str;
 use std::alloc::{AllocError, Global};
 

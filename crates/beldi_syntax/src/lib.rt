@@ -1,5 +1,5 @@
 //! The reader of deployments: from a text to its functions and the place where the script begins.
-//! It stands on `beldi_value` (numbers and texts), `beldi_lang` (what a deployment is) and `serde_json` (what a text says).
+//! It stands on `beldi_value` (numbers and texts), `beldi_tree` (what a deployment is) and `serde_json` (what a text says).
 //! Its definitions: `specs/Lexer` (tokens on bytes), `specs/Phrase` (what is read off the front of the tokens, or the line
 //! and the cause of a refusal), `specs/Operators`, `specs/Expressions`, `specs/Statements` and `specs/Deployments` (the
 //! grammar, phrase by phrase, and what a text is read as), and `specs/Grammar` (the grammar as a relation).

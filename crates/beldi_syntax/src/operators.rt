@@ -1,11 +1,11 @@
 // Operators with two sides.
 ghost use Rattle.std.specs.Prelude.{◌≡◌, length};
-ghost use Rattle.beldi_lang.specs.Expr.{term_of, applied};
-ghost use Rattle.beldi_lang.specs.Term.{Term};
+ghost use Rattle.beldi_tree.specs.Expr.{term_of, applied};
+ghost use Rattle.beldi_tree.specs.Term.{Term};
 ghost use Rattle.beldi_syntax.specs.Operators.{relation_at, sum_at, product_at, operator_at, joined, turns};
 
 use crate::tokens::Tokens;
-use beldi_lang::{Expr, Op, Step};
+use beldi_tree::{Expr, Op, Step};
 use beldi_value::Rel;
 
 /// What binds expressions to each other, the loosest first.

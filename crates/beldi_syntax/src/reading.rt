@@ -5,7 +5,7 @@ ghost use Rattle.beldi_syntax.specs.Deployments.{line_past, is_space, line_end, 
 
 use crate::lexer::{front_of, tokens_of};
 use crate::refusal::{SyntaxErr, What};
-use beldi_lang::Deployment;
+use beldi_tree::Deployment;
 use std::alloc::Global;
 
 /// The most bytes that a deployment has.

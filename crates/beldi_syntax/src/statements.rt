@@ -1,8 +1,8 @@
 // The grammar of statements. `depth` is how many levels of nesting a block or an expression in the phrase may open.
 ghost use Rattle.std.specs.Prelude.{◌≡◌, length};
-ghost use Rattle.beldi_lang.specs.Expr.{term_of};
-ghost use Rattle.beldi_lang.specs.Command.{abort, break};
-ghost use Rattle.beldi_lang.specs.Statement.{command_of};
+ghost use Rattle.beldi_tree.specs.Expr.{term_of};
+ghost use Rattle.beldi_tree.specs.Command.{abort, break};
+ghost use Rattle.beldi_tree.specs.Statement.{command_of};
 ghost use Rattle.beldi_syntax.specs.Phrase.{Reads, ReadsAs};
 ghost use Rattle.beldi_syntax.specs.Expressions.{part, expr_at};
 ghost use Rattle.beldi_syntax.specs.Statements.{cell, relation, set_of, read_of, write_of, condition, condwrite_of, call_of, async_of, lock_of, unlock_of, return_of, word_of, otherwise, if_of, repeat_of, transaction_of, on_item, plain, stmt_of, stmt, stmts, braced, no_block, block_at};
@@ -10,7 +10,7 @@ ghost use Rattle.beldi_syntax.specs.Statements.{cell, relation, set_of, read_of,
 use crate::operators::Level;
 use crate::refusal::{SyntaxErr, What};
 use crate::tokens::Tokens;
-use beldi_lang::{Block, Expr, Form, Stmt};
+use beldi_tree::{Block, Expr, Form, Stmt};
 use beldi_value::{Rel, Str};
 use std::alloc::Global;
 

@@ -1,5 +1,5 @@
 use super::*;
-use beldi_lang::{Expr, Form, Op, Step};
+use beldi_tree::{Expr, Form, Op, Step};
 use std::alloc::{AllocError, Global};
 use std::test::Fail;
 

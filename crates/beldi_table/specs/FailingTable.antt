@@ -1,5 +1,7 @@
 -- Which calls of a failing table fail.
-use Rattle.std.specs.Prelude.{◌≡◌, ℕ, ◌+◌, ◌-◌, ◌^◌, ◌==◌, min, Bool, true, false, List, [], ◌∷◌, if◌then◌else◌}
+use Rattle.std.specs.Prelude.{◌≡◌, ℕ, ◌==◌, Bool, true, false, List, [], ◌∷◌, Some, if◌then◌else◌}
+use Rattle.beldi_row.specs.Table.{TableState, one_more}
+use Rattle.beldi_table.specs.MapTable.{rows_of}
 use Rattle.beldi_table.specs.declared.failing_table.FailingTable.{FailingTable}
 
 -- the number stands in the list
@@ -7,9 +9,9 @@ abbrev pub stands_in : List ℕ → ℕ → Bool
 stands_in [] n = false
 stands_in (x ∷ xs) n = if x == n then true else stands_in xs n
 
--- one more, up to the end of the count
-abbrev pub one_more : ℕ → ℕ
-one_more n = min (n + 1) (2 ^ 64 - 1)
+-- it tells its failures and its calls
+abbrev pub failing_state : FailingTable → TableState
+failing_state t = record { rows = Some (rows_of t.table); faults = t.faults; room = t.table.room; calls = Some t.calls }
 
 -- the count of failures after a call that failed or did not
 abbrev pub counted : Bool → ℕ → ℕ

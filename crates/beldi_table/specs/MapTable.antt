@@ -1,8 +1,8 @@
 -- The rows of a table over an ordered map.
-use Rattle.std.specs.Prelude.{◌≡◌, ℕ, ◌<◌, Option, Result, Ok, Err, IsTrue}
+use Rattle.std.specs.Prelude.{◌≡◌, ℕ, ◌<◌, Option, Some, None, Result, Ok, Err, IsTrue}
 use Rattle.std.specs.FinMap as map
 use Rattle.beldi_row.specs.Act.{said_by}
-use Rattle.beldi_row.specs.Table.{Rows, after_act, tell_act, adds, IsFull}
+use Rattle.beldi_row.specs.Table.{Rows, TableState, after_act, tell_act, adds, IsFull}
 use Rattle.beldi_row.specs.declared.key.RowKey.{RowKey}
 use Rattle.beldi_row.specs.declared.row.Row.{Row}
 use Rattle.beldi_row.specs.declared.act.Act.{Act}
@@ -13,6 +13,10 @@ use Rattle.beldi_table.specs.declared.map_table.MapTable.{MapTable}
 
 abbrev pub rows_of : MapTable → Rows
 rows_of t = map.from_entries t.rows.entries
+
+-- it never fails, and counts no calls
+abbrev pub map_state : MapTable → TableState
+map_state t = record { rows = Some (rows_of t); faults = 0; room = t.room; calls = None }
 
 -- what a change leaves of the rows, and what is said of it, where the row is then this one
 abbrev pub ChangedOn : Act → ℕ → RowKey → ℕ → Rows → Rows → Option Row → Result Change TableErr → Type 0

@@ -1,5 +1,5 @@
 // A table that fails the calls that it is told to.
-ghost use Rattle.std.specs.Prelude.{◌≡◌, ◌≤◌, ◌↔◌, Some, ⊤, IsErrOf, IsTrue};
+ghost use Rattle.std.specs.Prelude.{◌≡◌, ◌≤◌, ◌↔◌, ⊤, IsErrOf, IsTrue};
 ghost use Rattle.std.specs.Borrow.{sem, follows_so};
 ghost use mathlib.Core.Option.{none};
 ghost use Rattle.beldi_row.specs.Table.{Acted, Went, Readied};
@@ -7,14 +7,14 @@ ghost use Rattle.beldi_row.specs.declared.table.TableErr.TheVariants.{Failed};
 ghost use Rattle.beldi_table.specs.contracts.failing_table.FailingTable.{the_row};
 ghost use Rattle.std.specs.FinMap as map;
 ghost use Rattle.beldi_table.specs.MapTable.{rows_of};
-ghost use Rattle.beldi_table.specs.FailingTable.{stands_in, Counts, CountsNone};
+ghost use Rattle.beldi_table.specs.FailingTable.{failing_state, stands_in, Counts, CountsNone};
 
 use crate::map_table::MapTable;
 use beldi_row::{Act, Row, RowKey, Said, Table, TableErr};
 use std::alloc::Global;
 
 /// A table over an ordered map that fails some of its calls of `act` and `next`. A call that fails changes no row. It
-/// tells its rows.
+/// tells its rows, and counts those calls.
 #[derive(Drop)]
 pub struct FailingTable {
     table: MapTable,
@@ -69,18 +69,14 @@ impl FailingTable {
 }
 
 impl Table for FailingTable {
-    ghost rows = { λ t. Some (rows_of t.table) };
-
-    ghost faults = { λ t. t.faults };
-
-    ghost room = { λ t. t.table.room };
+    ghost state = { failing_state };
 
     fn len(&self) -> u32 {
         self.table.len()
     }
 
     fn ready(&mut self, rooms: &[u32]) -> Result<(), TableErr>
-        ensures set { Readied rooms.now self.old.table.room self.new.table.room self.old.faults self.new.faults (Some (rows_of self.old.table)) (Some (rows_of self.new.table)) result }
+        ensures set { Readied rooms.now (failing_state self.old) (failing_state self.new) result }
         ensures counts { CountsNone self.old self.new }
     {
         self.table.ready(rooms)
@@ -88,7 +84,7 @@ impl Table for FailingTable {
 
     fn act(&mut self, key: RowKey, act: Act, now: u64) -> Result<Said<'_>, TableErr>
         ensures* acts { sem 𝓛 (follows_so the_row the_row self.entry.ghost_name none (λ _ _. ⊤) (λ after.
-            Acted act now key self.entry.now.table.room after.table.room self.entry.now.faults after.faults (Some (rows_of self.entry.now.table)) (Some (rows_of after.table)) result)) }
+            Acted act now key (failing_state self.entry.now) (failing_state after) result)) }
         ensures told { IsErrOf result Failed ↔ IsTrue (stands_in self.entry.now.fail.items self.entry.now.calls) }
     {
         if self.fails() {
@@ -101,7 +97,7 @@ impl Table for FailingTable {
 
     fn next(&mut self, after: &RowKey) -> Result<Option<(&RowKey, &Row)>, TableErr>
         ensures* went { sem 𝓛 (follows_so the_row the_row self.entry.ghost_name none (λ _ _. ⊤) (λ now.
-            Went after.now self.entry.now.table.room now.table.room self.entry.now.faults now.faults (Some (rows_of self.entry.now.table)) (Some (rows_of now.table)) result)) }
+            Went after.now (failing_state self.entry.now) (failing_state now) result)) }
         ensures told { IsErrOf result Failed ↔ IsTrue (stands_in self.entry.now.fail.items self.entry.now.calls) }
     {
         if self.fails() {

@@ -1,5 +1,5 @@
 // A table over an ordered map in memory.
-ghost use Rattle.std.specs.Prelude.{◌≡◌, ℕ, ◌^◌, ◌-◌, min, Some, None, IsTrue};
+ghost use Rattle.std.specs.Prelude.{◌≡◌, ℕ, ◌^◌, ◌-◌, min, None, IsTrue};
 ghost use Rattle.std.specs.FinMap as map;
 ghost use Rattle.beldi_row.specs.Table.{room_of};
 
@@ -8,7 +8,7 @@ use std::alloc::Global;
 use std::collections::BTreeMap;
 use std::ops::Bound;
 
-/// A table that never fails. It tells its rows.
+/// A table that never fails. It tells its rows, and counts no calls.
 #[derive(Drop)]
 pub struct MapTable {
     alloc: Global,
@@ -87,11 +87,9 @@ impl MapTable {
 }
 
 impl Table for MapTable {
-    ghost rows = { λ t. Some (map.from_entries t.rows.entries) };
+    ghost use Rattle.beldi_table.specs.MapTable.{map_state};
 
-    ghost faults = { λ t. 0 };
-
-    ghost room = { λ t. t.room };
+    ghost state = { map_state };
 
     fn len(&self) -> u32 {
         counted(self.rows.len())

@@ -1,6 +1,6 @@
 use Rattle.std.proofs.Common.{◌≡◌, ◌++◌, map, drop}
-use Rattle.beldi_lang.specs.Command.{commands_of, command_size, block_size}
-use Rattle.beldi_lang.specs.Statement.{command_of, statements_view}
+use Rattle.beldi_tree.specs.Command.{commands_of, command_size, block_size}
+use Rattle.beldi_tree.specs.Statement.{command_of, statements_view}
 use Rattle.beldi_check.specs.Site.{sites, site_of}
 use Rattle.beldi_check.proofs.site.+walk.Given as goal
 

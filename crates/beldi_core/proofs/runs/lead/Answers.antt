@@ -19,7 +19,7 @@ returns-clause-led g c =
     let s = c.turn-result.new.self in
     let h = c.get_mut.follows.holds s in
     let tree = c.get_mut.follows.lender s in
-    led c.args.code.now c.args.changes (map_of c.args.live.now) (map_of tree) (map_of c.settle.new.live) c.args.number c.in-Some.run'.now s c.args.now (t.room old) (t.room new) (t.faults old) (t.faults new) (t.rows old) (t.rows new) c.turn-result.result
+    led c.args.code.now c.args.changes (map_of c.args.live.now) (map_of tree) (map_of c.settle.new.live) c.args.number c.in-Some.run'.now s c.args.now (t.state old) (t.state new) c.turn-result.result
     (get_rows nat_cmp_total nat_cmp-IsAntisymmetric c.args.live.now.entries c.args.number ∙ sym c.get_mut.ensures.value ∙ ap option_copied_mut c.in-Some.is)
     (one_set nat_cmp_total nat_cmp-IsAntisymmetric c.args.live.now.entries tree.entries c.args.number s (h.3 (search rules)).0)
     (search rules) c.turn-result.ensures

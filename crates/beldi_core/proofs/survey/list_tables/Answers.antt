@@ -12,7 +12,7 @@ loop-init g c =
     let t = g.T.Table in
     let h = c.args.table.now in
     let d = c.args.code.now in
-    begins (Listed d c.new-text.result c.least-at.result) (λ m. subst (λ (k : RowKey). Listed d c.new-text.result k m) (sym c.least-at.ensures) (subst (λ (s : List ℕ). Listed d s least_key m) (sym c.new-text.ensures) (listed_first d m))) (t.room h) (t.faults h) (t.rows h)
+    begins (Listed d c.new-text.result c.least-at.result) (λ m. subst (λ (k : RowKey). Listed d c.new-text.result k m) (sym c.least-at.ensures) (subst (λ (s : List ℕ). Listed d s least_key m) (sym c.new-text.ensures) (listed_first d m))) (t.state h)
 
 pub returns-in-Ok-None : goal.returns-in-Ok-None
 returns-in-Ok-None g c =
@@ -22,7 +22,7 @@ returns-in-Ok-None g c =
     let k = c.next_line.new.table in
     let d = c.args.code.now in
     let new = c.next_line.new.text in
-    ends (Listed d c.loop.text c.loop.at) (λ m (q : Option RowKey). (q, new) ≡ next_line_of d c.loop.text (next_row m c.loop.at)) (t.room a) (t.room b) (t.room k) (t.faults a) (t.faults b) (t.faults k) (t.rows a) (t.rows b) (t.rows k) c.loop.invariant
+    ends (Listed d c.loop.text c.loop.at) (λ m (q : Option RowKey). (q, new) ≡ next_line_of d c.loop.text (next_row m c.loop.at)) (t.state a) (t.state b) (t.state k) c.loop.invariant
     (λ m (s : List ℕ). s ≡ tables_text d m) None new (λ m p q. listed_last d c.loop.text new c.loop.at m p q) (rw c.in-Ok-None.field-0-is at c.in-Ok-None.ensures)
 
 pub loop-preserved : goal.loop-preserved
@@ -33,5 +33,5 @@ loop-preserved g c =
     let k = c.next_line.new.table in
     let d = c.args.code.now in
     let new = c.next_line.new.text in
-    goes (Listed d c.loop.text c.loop.at) (λ m (q : Option RowKey). (q, new) ≡ next_line_of d c.loop.text (next_row m c.loop.at)) (t.room a) (t.room b) (t.room k) (t.faults a) (t.faults b) (t.faults k) (t.rows a) (t.rows b) (t.rows k) c.loop.invariant
+    goes (Listed d c.loop.text c.loop.at) (λ m (q : Option RowKey). (q, new) ≡ next_line_of d c.loop.text (next_row m c.loop.at)) (t.state a) (t.state b) (t.state k) c.loop.invariant
     (Listed d new c.in-Ok-Some.key) (Some c.in-Ok-Some.key) (λ m p q. listed_next d c.loop.text new c.loop.at c.in-Ok-Some.key m p q) (rw c.in-Ok-Some.field-0-is at c.in-Ok-Some.ensures)

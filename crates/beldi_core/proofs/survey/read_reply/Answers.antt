@@ -14,7 +14,7 @@ returns-in-Ok-clause-reads g c =
     let t = g.T.Table in
     let old = c.args.table.now in
     let new = c.act.follows.lender-at-none in
-    seen (root_key c.args.ticket) (at_root c.root.result) c.args.now (t.room old) (t.room new) (t.faults old) (t.faults new) (t.rows old) (t.rows new) c.act.result c.in_ok-said.said c.in_ok-said.was
+    seen (root_key c.args.ticket) (at_root c.root.result) c.args.now (t.state old) (t.state new) c.act.result c.in_ok-said.said c.in_ok-said.was
     (ap at_root c.root.ensures) c.act.follows.holds-at-none c.in-Ok.reply c.in-Ok.ensures.reply
 
 pub returns-in-Err-clause-reads : goal.returns-in-Err-clause-reads
@@ -22,5 +22,5 @@ returns-in-Err-clause-reads g c =
     let t = g.T.Table in
     let old = c.args.table.now in
     let new = c.act.follows.lender-at-none in
-    unseen (root_key c.args.ticket) (at_root c.root.result) c.args.now (t.room old) (t.room new) (t.faults old) (t.faults new) (t.rows old) (t.rows new) c.act.result c.in_ok-said.said c.in_ok-said.was
+    unseen (root_key c.args.ticket) (at_root c.root.result) c.args.now (t.state old) (t.state new) c.act.result c.in_ok-said.said c.in_ok-said.was
     (ap at_root c.root.ensures) c.act.follows.holds-at-none

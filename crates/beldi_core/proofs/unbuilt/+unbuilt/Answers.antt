@@ -1,5 +1,5 @@
 use Rattle.std.proofs.Common.{arith}
-use Rattle.beldi_lang.specs.Falls.{seen_falls}
+use Rattle.beldi_tree.specs.Falls.{seen_falls}
 use Rattle.beldi_core.proofs.unbuilt.+unbuilt.Goals as goal
 
 pub unbuilt_in-unbuilt_at-requires : goal.unbuilt_in-unbuilt_at-requires

@@ -1,6 +1,6 @@
 use Rattle.std.proofs.Common.{◌≡◌, drop}
-use Rattle.beldi_lang.specs.Command.{commands_of, command_size, block_size}
-use Rattle.beldi_lang.specs.Statement.{command_of, statements_view}
+use Rattle.beldi_tree.specs.Command.{commands_of, command_size, block_size}
+use Rattle.beldi_tree.specs.Statement.{command_of, statements_view}
 use Rattle.beldi_core.specs.Built.{unbuilt_in}
 use Rattle.beldi_core.proofs.unbuilt.+unbuilt.Given as goal
 

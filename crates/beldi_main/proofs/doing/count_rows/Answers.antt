@@ -9,5 +9,5 @@ returns g c =
     let h = c.args.host.now in
     let out = c.write_numbered.new.out in
     let r = c.write_numbered.result in
-    rows_said h.code c.rows.result (g.T.Table.rows h.table) c.args.out.now out r c.rows.ensures
+    rows_said h.code c.rows.result (g.T.Table.state h.table).rows c.args.out.now out r c.rows.ensures
     (subst (λ (n : ℕ). OnOk r (out ≡ c.args.out.now ++ said_text h.code (RowsAre n))) c.from.ensures c.write_numbered.ensures.ok)

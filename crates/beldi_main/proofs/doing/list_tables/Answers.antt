@@ -11,7 +11,7 @@ returns-in-Err-Failed g c =
     let new = c.tables.new.self in
     let e = c.in-Err-Failed in
     record {
-      text = tables_unread old.code (core_of old) (t.room old.table) (t.room new.table) (t.faults old.table) (t.faults new.table) (t.rows old.table) (t.rows new.table) c.args.out.now c.push_text.new.self c.tables.new.out c.push_text-in-Err-Failed.new.self _
+      text = tables_unread old.code (core_of old) (t.state old.table) (t.state new.table) c.args.out.now c.push_text.new.self c.tables.new.out c.push_text-in-Err-Failed.new.self _
           e.field-0 e.field-0-is e.ensures.reads c.in_ok-push_text.ensures.ok e.ensures.err (λ m. TablesAre (tables_text old.code m)) c.push_text-in-Err-Failed.result c.push_text-in-Err-Failed.ensures.ok;
       core = e.ensures.core;
       code = e.ensures.code;

@@ -9,9 +9,8 @@ pub returns-in-Err-clause-session : goal.returns-in-Err-clause-session
 returns-in-Err-clause-session g c =
     let source = g.S.Source.left c.args.source.now in
     let held = g.K.Sink.held c.args.sink.now in
-    let rows = g.T.Table.rows c.args.table in
-    let f = g.T.Table.faults c.args.table in
-    subst (λ (e : Ended). RunOn Anything source rows rows held held f f e) (sym c.not_read.ensures) (not_read source rows held f c.in-Err.why)
+    let table = g.T.Table.state c.args.table in
+    subst (λ (e : Ended). RunOn Anything source table table held held e) (sym c.not_read.ensures) (not_read source table held c.in-Err.why)
 
 pub returns-in-Err-clause-as_read : goal.returns-in-Err-clause-as_read
 returns-in-Err-clause-as_read g c =
@@ -20,7 +19,7 @@ returns-in-Err-clause-as_read g c =
 
 pub returns-in-Err-clause-untouched : goal.returns-in-Err-clause-untouched
 returns-in-Err-clause-untouched g c =
-    let rows = g.T.Table.rows c.args.table in
+    let rows = (g.T.Table.state c.args.table).rows in
     let table = c.args.table ≡ c.args.table in
     let sink = c.args.sink.now ≡ c.args.sink.now in
     subst (λ (e : Ended). Untouched e table (Told rows rows (λ m n. n ≡ m)) sink) (sym c.not_read.ensures) (unread_untouched table (Told rows rows (λ m n. n ≡ m)) sink c.in-Err.why refl refl)
@@ -36,7 +35,7 @@ returns-in-Ok-clause-session g c =
     let t = g.T.Table in
     let k = g.K.Sink in
     let r = c.run_source.result in
-    ran c.in-Ok.bytes c.as_slice.result.now r.0 c.as_slice.ensures.value (s.left c.args.source.now) (s.left c.read_all.new.source) (t.rows c.args.table) (t.rows r.1) (k.held c.args.sink.now) (k.held c.run_source.new.sink) (t.faults c.args.table) (t.faults r.1)
+    ran c.in-Ok.bytes c.as_slice.result.now r.0 c.as_slice.ensures.value (s.left c.args.source.now) (s.left c.read_all.new.source) (t.state c.args.table) (t.state r.1) (k.held c.args.sink.now) (k.held c.run_source.new.sink)
     c.in-Ok.ensures.bytes c.run_source.ensures.session
 
 pub returns-in-Ok-clause-too_long : goal.returns-in-Ok-clause-too_long

@@ -11,8 +11,8 @@ returns-in-Ok-finish-clause-done g c =
     let k = g.K.Sink in
     let old = c.args.host.now in
     let new = c.do_lines.new.host in
-    script_ended old.code (t.room old.table) (numbered c.args.first (lines_of c.args.script.now)) (core_of old) (core_of new) (t.faults old.table) (t.faults new.table) c.do_lines.new.waiting c.new-waiting.result c.in-Ok.refused (Ok tt)
-    (t.rows old.table) (t.rows new.table) (k.held c.args.sink.now) (k.held c.do_lines.new.sink) (k.held c.finish.new.sink) c.new-waiting.ensures c.in-Ok.ensures.done c.in-Ok-finish.ensures.done
+    script_ended old.code (numbered c.args.first (lines_of c.args.script.now)) (core_of old) (core_of new) (t.state old.table) (t.state new.table) c.do_lines.new.waiting c.new-waiting.result c.in-Ok.refused (Ok tt)
+    (k.held c.args.sink.now) (k.held c.do_lines.new.sink) (k.held c.finish.new.sink) c.new-waiting.ensures c.in-Ok.ensures.done c.in-Ok-finish.ensures.done
 
 pub returns-in-Ok-clause-done : goal.returns-in-Ok-clause-done
 returns-in-Ok-clause-done g c =
@@ -20,8 +20,8 @@ returns-in-Ok-clause-done g c =
     let k = g.K.Sink in
     let old = c.args.host.now in
     let new = c.do_lines.new.host in
-    script_ended old.code (t.room old.table) (numbered c.args.first (lines_of c.args.script.now)) (core_of old) (core_of new) (t.faults old.table) (t.faults new.table) c.do_lines.new.waiting c.new-waiting.result c.in-Ok.refused (Err c.in-Err-finish.stop)
-    (t.rows old.table) (t.rows new.table) (k.held c.args.sink.now) (k.held c.do_lines.new.sink) (k.held c.finish.new.sink) c.new-waiting.ensures c.in-Ok.ensures.done c.in-Err-finish.ensures.done
+    script_ended old.code (numbered c.args.first (lines_of c.args.script.now)) (core_of old) (core_of new) (t.state old.table) (t.state new.table) c.do_lines.new.waiting c.new-waiting.result c.in-Ok.refused (Err c.in-Err-finish.stop)
+    (k.held c.args.sink.now) (k.held c.do_lines.new.sink) (k.held c.finish.new.sink) c.new-waiting.ensures c.in-Ok.ensures.done c.in-Err-finish.ensures.done
 
 pub returns-clause-done : goal.returns-clause-done
 returns-clause-done g c =
@@ -29,5 +29,5 @@ returns-clause-done g c =
     let k = g.K.Sink in
     let old = c.args.host.now in
     let new = c.do_lines.new.host in
-    script_cut old.code (t.room old.table) (numbered c.args.first (lines_of c.args.script.now)) (core_of old) (core_of new) (t.faults old.table) (t.faults new.table) c.do_lines.new.waiting c.new-waiting.result c.in-Err.stop
-    (t.rows old.table) (t.rows new.table) (k.held c.args.sink.now) (k.held c.do_lines.new.sink) c.new-waiting.ensures c.in-Err.ensures.done
+    script_cut old.code (numbered c.args.first (lines_of c.args.script.now)) (core_of old) (core_of new) (t.state old.table) (t.state new.table) c.do_lines.new.waiting c.new-waiting.result c.in-Err.stop
+    (k.held c.args.sink.now) (k.held c.do_lines.new.sink) c.new-waiting.ensures c.in-Err.ensures.done

@@ -11,7 +11,7 @@ returns-clause-session g c =
     let t = g.T.Table in
     let k = g.K.Sink in
     let r = c.carry_out-ended.result in
-    (r.0, c.status.ensures, claimed PlainRun is_plain (is_run c.args.words.now) (g.S.Source.left c.args.source.now) (t.rows c.args.table) (t.rows r.1) (k.held c.args.sink.now) (k.held c.carry_out-ended.new.sink) (t.faults c.args.table) (t.faults r.1) r.0 c.carry_out-ended.ensures.text)
+    (r.0, c.status.ensures, claimed PlainRun is_plain (is_run c.args.words.now) (g.S.Source.left c.args.source.now) (t.state c.args.table) (t.state r.1) (k.held c.args.sink.now) (k.held c.carry_out-ended.new.sink) r.0 c.carry_out-ended.ensures.text)
 
 pub returns-clause-usage : goal.returns-clause-usage
 returns-clause-usage g c = (

@@ -1,5 +1,5 @@
 use Rattle.std.proofs.Common.{◌≡◌, ◌∙◌, [], ◌∷◌, Option, Err, Result, IfOk, ap, sym, subst}
-use Rattle.beldi_lang.specs.declared.deployment.Deployment.{Deployment}
+use Rattle.beldi_tree.specs.declared.deployment.Deployment.{Deployment}
 use Rattle.beldi_core.specs.Host.{core_of}
 use Rattle.beldi_main.specs.declared.refusal.Refusal.{Refusal}
 use Rattle.beldi_main.specs.declared.session.Stop.{Stop}
@@ -14,10 +14,10 @@ returns-in-Err-clause-done g c =
     let t = g.T.Table in
     let old = c.args.host.now in
     let line : Numbered = (c.args.number, c.args.line.now) in
-    let a : Sight = record { core = core_of old; faults = t.faults old.table; waiting = c.args.waiting.now; rows = t.rows old.table; held = g.K.Sink.held c.args.sink.now } in
+    let a : Sight = record { core = core_of old; table = t.state old.table; waiting = c.args.waiting.now; held = g.K.Sink.held c.args.sink.now } in
     let why = c.in-Err.why in
-    subst (λ (x : Result (Option Refusal) Stop). Between (λ d room s t r. LineOn d room line s t r) old.code (t.room old.table) a a x) (sym c.unread.ensures)
-    (unread old.code (t.room old.table) line a a why (subst (λ (d : Deployment). ReadsAs (said_at d line) (Err why)) c.code.ensures c.in-Err.ensures))
+    subst (λ (x : Result (Option Refusal) Stop). Between (λ d room s t r. LineOn d room line s t r) old.code (t.state old.table).room a a x) (sym c.unread.ensures)
+    (unread old.code (t.state old.table).room line a a why (subst (λ (d : Deployment). ReadsAs (said_at d line) (Err why)) c.code.ensures c.in-Err.ensures))
 
 pub returns-in-Ok-clause-done : goal.returns-in-Ok-clause-done
 returns-in-Ok-clause-done g c =
@@ -25,10 +25,10 @@ returns-in-Ok-clause-done g c =
     let old = c.args.host.now in
     let new = c.do_said.new.host in
     let line : Numbered = (c.args.number, c.args.line.now) in
-    let a : Sight = record { core = core_of old; faults = t.faults old.table; waiting = c.args.waiting.now; rows = t.rows old.table; held = g.K.Sink.held c.args.sink.now } in
-    let b : Sight = record { core = core_of new; faults = t.faults new.table; waiting = c.do_said.new.waiting; rows = t.rows new.table; held = g.K.Sink.held c.do_said.new.sink } in
-    subst (λ (x : Result (Option Refusal) Stop). Between (λ d room s t r. LineOn d room line s t r) old.code (t.room old.table) a b x) (sym c.carried.ensures)
-    (done_line old.code (t.room old.table) line a b c.in-Ok.said c.do_said.result (ap (λ d. said_at d line) (sym c.code.ensures) ∙ c.in-Ok.ensures) c.do_said.ensures.done)
+    let a : Sight = record { core = core_of old; table = t.state old.table; waiting = c.args.waiting.now; held = g.K.Sink.held c.args.sink.now } in
+    let b : Sight = record { core = core_of new; table = t.state new.table; waiting = c.do_said.new.waiting; held = g.K.Sink.held c.do_said.new.sink } in
+    subst (λ (x : Result (Option Refusal) Stop). Between (λ d room s t r. LineOn d room line s t r) old.code (t.state old.table).room a b x) (sym c.carried.ensures)
+    (done_line old.code (t.state old.table).room line a b c.in-Ok.said c.do_said.result (ap (λ d. said_at d line) (sym c.code.ensures) ∙ c.in-Ok.ensures) c.do_said.ensures.done)
 
 pub returns-in-Err-clause-refused : goal.returns-in-Err-clause-refused
 returns-in-Err-clause-refused g c =

@@ -14,10 +14,10 @@ pub loop-rest-init : goal.loop-rest-init
 loop-rest-init g c =
     let t = g.T.Table in
     let old = c.args.host.now in
-    let a : Sight = record { core = core_of old; faults = t.faults old.table; waiting = c.args.waiting.now; rows = t.rows old.table; held = g.K.Sink.held c.args.sink.now } in
+    let a : Sight = record { core = core_of old; table = t.state old.table; waiting = c.args.waiting.now; held = g.K.Sink.held c.args.sink.now } in
     record {
       refused = refl;
-      done = lines_begun old.code (t.room old.table) (numbered c.args.first (lines_of c.args.script.now)) a;
+      done = lines_begun old.code (t.state old.table).room (numbered c.args.first (lines_of c.args.script.now)) a;
       kept = search rules;
     }
 
@@ -35,10 +35,10 @@ returns-in-Ok-Some-clause-done g c =
     let more = numbered (next number) (lines_of c.cut_line.result.1.now) in
     let line : Numbered = (number, c.cut_line.result.0.now) in
     let cut = ap (numbered number) c.cut_line.ensures.lines in
-    let a : Sight = record { core = core_of old; faults = t.faults old.table; waiting = c.args.waiting.now; rows = t.rows old.table; held = k.held c.args.sink.now } in
-    let b : Sight = record { core = core_of now; faults = t.faults now.table; waiting = c.loop-rest.waiting; rows = t.rows now.table; held = k.held c.loop-rest.sink } in
-    let e : Sight = record { core = core_of new; faults = t.faults new.table; waiting = c.do_line.new.waiting; rows = t.rows new.table; held = k.held c.do_line.new.sink } in
-    line_refused old.code now.code (t.room old.table) (t.room now.table) lines rest more line a b e i.kept.code i.kept.room cut i.done c.in-Ok-Some.refusal (rw c.in-Ok-Some.field-0-is at c.in-Ok-Some.ensures.done)
+    let a : Sight = record { core = core_of old; table = t.state old.table; waiting = c.args.waiting.now; held = k.held c.args.sink.now } in
+    let b : Sight = record { core = core_of now; table = t.state now.table; waiting = c.loop-rest.waiting; held = k.held c.loop-rest.sink } in
+    let e : Sight = record { core = core_of new; table = t.state new.table; waiting = c.do_line.new.waiting; held = k.held c.do_line.new.sink } in
+    line_refused old.code now.code (t.state old.table).room (t.state now.table).room lines rest more line a b e i.kept.code i.kept.room cut i.done c.in-Ok-Some.refusal (rw c.in-Ok-Some.field-0-is at c.in-Ok-Some.ensures.done)
 
 pub returns-in-Err-clause-done : goal.returns-in-Err-clause-done
 returns-in-Err-clause-done g c =
@@ -54,10 +54,10 @@ returns-in-Err-clause-done g c =
     let more = numbered (next number) (lines_of c.cut_line.result.1.now) in
     let line : Numbered = (number, c.cut_line.result.0.now) in
     let cut = ap (numbered number) c.cut_line.ensures.lines in
-    let a : Sight = record { core = core_of old; faults = t.faults old.table; waiting = c.args.waiting.now; rows = t.rows old.table; held = k.held c.args.sink.now } in
-    let b : Sight = record { core = core_of now; faults = t.faults now.table; waiting = c.loop-rest.waiting; rows = t.rows now.table; held = k.held c.loop-rest.sink } in
-    let e : Sight = record { core = core_of new; faults = t.faults new.table; waiting = c.do_line.new.waiting; rows = t.rows new.table; held = k.held c.do_line.new.sink } in
-    line_stops old.code now.code (t.room old.table) (t.room now.table) lines rest more line a b e i.kept.code i.kept.room cut i.done c.in-Err.stop c.in-Err.ensures.done
+    let a : Sight = record { core = core_of old; table = t.state old.table; waiting = c.args.waiting.now; held = k.held c.args.sink.now } in
+    let b : Sight = record { core = core_of now; table = t.state now.table; waiting = c.loop-rest.waiting; held = k.held c.loop-rest.sink } in
+    let e : Sight = record { core = core_of new; table = t.state new.table; waiting = c.do_line.new.waiting; held = k.held c.do_line.new.sink } in
+    line_stops old.code now.code (t.state old.table).room (t.state now.table).room lines rest more line a b e i.kept.code i.kept.room cut i.done c.in-Err.stop c.in-Err.ensures.done
 
 pub loop-rest-preserved : goal.loop-rest-preserved
 loop-rest-preserved g c =
@@ -73,13 +73,13 @@ loop-rest-preserved g c =
     let more = numbered c.saturating_add-number.result (lines_of c.cut_line.result.1.now) in
     let line : Numbered = (number, c.cut_line.result.0.now) in
     let cut = ap (numbered number) c.cut_line.ensures.lines ∙ ap (λ n. line ∷ numbered n (lines_of c.cut_line.result.1.now)) (sym c.saturating_add-number.ensures) in
-    let a : Sight = record { core = core_of old; faults = t.faults old.table; waiting = c.args.waiting.now; rows = t.rows old.table; held = k.held c.args.sink.now } in
-    let b : Sight = record { core = core_of now; faults = t.faults now.table; waiting = c.loop-rest.waiting; rows = t.rows now.table; held = k.held c.loop-rest.sink } in
-    let e : Sight = record { core = core_of new; faults = t.faults new.table; waiting = c.do_line.new.waiting; rows = t.rows new.table; held = k.held c.do_line.new.sink } in
+    let a : Sight = record { core = core_of old; table = t.state old.table; waiting = c.args.waiting.now; held = k.held c.args.sink.now } in
+    let b : Sight = record { core = core_of now; table = t.state now.table; waiting = c.loop-rest.waiting; held = k.held c.loop-rest.sink } in
+    let e : Sight = record { core = core_of new; table = t.state new.table; waiting = c.do_line.new.waiting; held = k.held c.do_line.new.sink } in
     record {
       refused = refused_more old.code line more rest cut (ap (λ d. refused_in d (line ∷ [])) (sym i.kept.code) ∙ rw c.in-Ok-None.field-0-is at c.in-Ok-None.ensures.refused) ∙ i.refused;
-      done = line_goes_on old.code now.code (t.room old.table) (t.room now.table) lines rest more line a b e i.kept.code i.kept.room cut i.done (rw c.in-Ok-None.field-0-is at c.in-Ok-None.ensures.done);
-      kept = kept_fine old.code new.code (t.room old.table) (t.room new.table) (t.faults old.table) (t.faults new.table) (k.faults c.args.sink.now) (k.faults c.do_line.new.sink) _ (kept_then old.code now.code new.code (t.room old.table) (t.room now.table) (t.room new.table) (t.faults old.table) (t.faults now.table) (t.faults new.table) (k.faults c.args.sink.now) (k.faults c.loop-rest.sink) (k.faults c.do_line.new.sink) _ _ i.kept c.in-Ok-None.ensures.kept);
+      done = line_goes_on old.code now.code (t.state old.table).room (t.state now.table).room lines rest more line a b e i.kept.code i.kept.room cut i.done (rw c.in-Ok-None.field-0-is at c.in-Ok-None.ensures.done);
+      kept = kept_fine old.code new.code (t.state old.table) (t.state new.table) (k.faults c.args.sink.now) (k.faults c.do_line.new.sink) _ (kept_then old.code now.code new.code (t.state old.table) (t.state now.table) (t.state new.table) (k.faults c.args.sink.now) (k.faults c.loop-rest.sink) (k.faults c.do_line.new.sink) _ _ i.kept c.in-Ok-None.ensures.kept);
     }
 
 pub returns-clause-done : goal.returns-clause-done
@@ -91,12 +91,12 @@ returns-clause-done g c =
     let new = c.do_listings.new.host in
     let i = c.loop-rest.invariant in
     let lines = numbered c.args.first (lines_of c.args.script.now) in
-    let a : Sight = record { core = core_of old; faults = t.faults old.table; waiting = c.args.waiting.now; rows = t.rows old.table; held = k.held c.args.sink.now } in
-    let b : Sight = record { core = core_of now; faults = t.faults now.table; waiting = c.loop-rest.waiting; rows = t.rows now.table; held = k.held c.loop-rest.sink } in
-    let e : Sight = record { core = core_of new; faults = t.faults new.table; waiting = c.do_listings.new.waiting; rows = t.rows new.table; held = k.held c.do_listings.new.sink } in
+    let a : Sight = record { core = core_of old; table = t.state old.table; waiting = c.args.waiting.now; held = k.held c.args.sink.now } in
+    let b : Sight = record { core = core_of now; table = t.state now.table; waiting = c.loop-rest.waiting; held = k.held c.loop-rest.sink } in
+    let e : Sight = record { core = core_of new; table = t.state new.table; waiting = c.do_listings.new.waiting; held = k.held c.do_listings.new.sink } in
     let none : c.loop-rest.rest.now ≡ [] = nil_from_length c.loop-rest.rest.now (eqb-true (length c.loop-rest.rest.now) 0 (sym c.is_empty.ensures ∙ c.loop-rest-test.false)) in
-    subst (λ (x : Result (Option Refusal) Stop). Between (λ y q s t r. LinesOn y q lines s t r) old.code (t.room old.table) a e x) (sym c.carried.ensures)
-    (lines_done old.code now.code (t.room old.table) (t.room now.table) lines (numbered c.loop-rest.number (lines_of c.loop-rest.rest.now)) a b e i.kept.code i.kept.room (ap (λ r. numbered c.loop-rest.number (lines_of r)) none) i.done c.do_listings.result c.do_listings.ensures.done)
+    subst (λ (x : Result (Option Refusal) Stop). Between (λ y q s t r. LinesOn y q lines s t r) old.code (t.state old.table).room a e x) (sym c.carried.ensures)
+    (lines_done old.code now.code (t.state old.table).room (t.state now.table).room lines (numbered c.loop-rest.number (lines_of c.loop-rest.rest.now)) a b e i.kept.code i.kept.room (ap (λ r. numbered c.loop-rest.number (lines_of r)) none) i.done c.do_listings.result c.do_listings.ensures.done)
 
 pub returns-in-Ok-Some-clause-refused : goal.returns-in-Ok-Some-clause-refused
 returns-in-Ok-Some-clause-refused g c =

@@ -15,8 +15,8 @@ invariant-loop-rest g l =
     let fine : Result (Unit {0}) Stop = Ok tt in
     record {
       refused : refused_in old.code (numbered l.number (lines_of l.rest)) ≡ refused_in old.code (numbered l.first (lines_of l.script));
-      done : Carried (SoFarOn (numbered l.first (lines_of l.script)) (numbered l.number (lines_of l.rest))) old.code (t.room old.table) (core_of old) (core_of new) (t.faults old.table) (t.faults new.table) l.fn.waiting l.waiting (t.rows old.table) (t.rows new.table) (k.held l.fn.sink) (k.held l.sink) fine;
-      kept : Kept old.code new.code (t.room old.table) (t.room new.table) (t.faults old.table) (t.faults new.table) (k.faults l.fn.sink) (k.faults l.sink) fine;
+      done : Carried (SoFarOn (numbered l.first (lines_of l.script)) (numbered l.number (lines_of l.rest))) old.code (core_of old) (core_of new) (t.state old.table) (t.state new.table) l.fn.waiting l.waiting (k.held l.fn.sink) (k.held l.sink) fine;
+      kept : Kept old.code new.code (t.state old.table) (t.state new.table) (k.faults l.fn.sink) (k.faults l.sink) fine;
     }
 
 abbrev pub decreases-loop-rest : goal.decreases-loop-rest

@@ -14,6 +14,6 @@ invariant-loop-turn g l =
     let new = l.host in
     let fine : Result (Unit {0}) Stop = Ok tt in
     record {
-      done : Carried (Carrying (times l.turn (deeds.Event (events.Turn l.run)))) old.code (t.room old.table) (core_of old) (core_of new) (t.faults old.table) (t.faults new.table) l.fn.waiting l.waiting (t.rows old.table) (t.rows new.table) (k.held l.fn.sink) (k.held l.sink) fine;
-      kept : Kept old.code new.code (t.room old.table) (t.room new.table) (t.faults old.table) (t.faults new.table) (k.faults l.fn.sink) (k.faults l.sink) fine;
+      done : Carried (Carrying (times l.turn (deeds.Event (events.Turn l.run)))) old.code (core_of old) (core_of new) (t.state old.table) (t.state new.table) l.fn.waiting l.waiting (k.held l.fn.sink) (k.held l.sink) fine;
+      kept : Kept old.code new.code (t.state old.table) (t.state new.table) (k.faults l.fn.sink) (k.faults l.sink) fine;
     }

@@ -10,7 +10,7 @@ returns-in-Ok-clause-gives g c =
     let t = g.T.Table in
     let old = c.args.table.now in
     let new = c.act.follows.lender-at-none in
-    gave c.args.now (t.room old) (t.room new) (t.faults old) (t.faults new) (t.rows old) (t.rows new) (log_key c.args.home c.args.at.now) c.in_ok-key.key c.in_ok-said.said c.act.result c.in_ok-said.was c.in_ok-key.ensures.ok
+    gave c.args.now (t.state old) (t.state new) (log_key c.args.home c.args.at.now) c.in_ok-key.key c.in_ok-said.said c.act.result c.in_ok-said.was c.in_ok-key.ensures.ok
     c.in-Ok.given c.in-Ok.ensures c.act.follows.holds-at-none
 
 pub returns-in-Err-clause-asks : goal.returns-in-Err-clause-asks
@@ -19,7 +19,7 @@ returns-in-Err-clause-asks g c =
     let old = c.args.table.now in
     let new = c.act.follows.lender-at-none in
     let key = log_key c.args.home c.args.at.now in
-    lost given_of c.args.now (t.room old) (t.room new) (t.faults old) (t.faults new) (t.rows old) (t.rows new) Look key c.in_ok-said.said c.in_ok-key.key c.act.result c.in_ok-said.was c.in_ok-key.ensures.ok
+    lost given_of c.args.now (t.state old) (t.state new) Look key c.in_ok-said.said c.in_ok-key.key c.act.result c.in_ok-said.was c.in_ok-key.ensures.ok
     (λ m e. looked c.args.now key m) c.act.follows.holds-at-none
 
 pub returns-in-Err-clause-gives : goal.returns-in-Err-clause-gives
@@ -27,5 +27,5 @@ returns-in-Err-clause-gives g c =
     let t = g.T.Table in
     let old = c.args.table.now in
     let new = c.act.follows.lender-at-none in
-    gave_none c.args.now (t.room old) (t.room new) (t.faults old) (t.faults new) (t.rows old) (t.rows new) (log_key c.args.home c.args.at.now) c.in_ok-key.key c.in_ok-said.said c.act.result c.in_ok-said.was c.in_ok-key.ensures.ok
+    gave_none c.args.now (t.state old) (t.state new) (log_key c.args.home c.args.at.now) c.in_ok-key.key c.in_ok-said.said c.act.result c.in_ok-said.was c.in_ok-key.ensures.ok
     c.act.follows.holds-at-none

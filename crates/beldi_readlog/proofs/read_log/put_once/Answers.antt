@@ -10,7 +10,7 @@ returns-in-Ok-clause-once g c =
     let t = g.T.Table in
     let old = c.args.table.now in
     let new = c.act.follows.lender-at-none in
-    put c.args.now (t.room old) (t.room new) (t.faults old) (t.faults new) (t.rows old) (t.rows new) (log_key c.args.home c.args.at.now) c.in_ok-key.key c.in_ok-said.said c.act.result c.in_ok-said.was c.in_ok-key.ensures.ok
+    put c.args.now (t.state old) (t.state new) (log_key c.args.home c.args.at.now) c.in_ok-key.key c.in_ok-said.said c.act.result c.in_ok-said.was c.in_ok-key.ensures.ok
     c.args.value c.in-Ok.kept (search rules) c.act.follows.holds-at-none
 
 pub returns-in-Err-clause-asks : goal.returns-in-Err-clause-asks
@@ -19,7 +19,7 @@ returns-in-Err-clause-asks g c =
     let old = c.args.table.now in
     let new = c.act.follows.lender-at-none in
     let key = log_key c.args.home c.args.at.now in
-    lost (kept_of c.args.value) c.args.now (t.room old) (t.room new) (t.faults old) (t.faults new) (t.rows old) (t.rows new) (PutRead c.args.value) key c.in_ok-said.said c.in_ok-key.key c.act.result c.in_ok-said.was c.in_ok-key.ensures.ok
+    lost (kept_of c.args.value) c.args.now (t.state old) (t.state new) (PutRead c.args.value) key c.in_ok-said.said c.in_ok-key.key c.act.result c.in_ok-said.was c.in_ok-key.ensures.ok
     (λ m e. stayed c.args.value c.args.now key m (ap is_kept (sym e) ∙ c.in-Err.ensures.err)) c.act.follows.holds-at-none
 
 pub returns-in-Err-clause-once : goal.returns-in-Err-clause-once
@@ -27,5 +27,5 @@ returns-in-Err-clause-once g c =
     let t = g.T.Table in
     let old = c.args.table.now in
     let new = c.act.follows.lender-at-none in
-    put_none c.args.now (t.room old) (t.room new) (t.faults old) (t.faults new) (t.rows old) (t.rows new) (log_key c.args.home c.args.at.now) c.in_ok-key.key c.in_ok-said.said c.act.result c.in_ok-said.was c.in_ok-key.ensures.ok
+    put_none c.args.now (t.state old) (t.state new) (log_key c.args.home c.args.at.now) c.in_ok-key.key c.in_ok-said.said c.act.result c.in_ok-said.was c.in_ok-key.ensures.ok
     c.args.value c.in-Err.ensures.err c.act.follows.holds-at-none

@@ -15,5 +15,5 @@ returns-in-Err g c =
     let new = c.act.follows.lender-at-none in
     let key = intent_key (root_of c.args.ticket) 0 in
     let says : is_lent (tell_of c.in_ok-said.said) ≡ true = c.in-Err.ensures.err in
-    lost binding_of c.args.now (t.room old) (t.room new) (t.faults old) (t.faults new) (t.rows old) (t.rows new) (Bind c.args.func c.args.args) key c.in_ok-said.said c.key_of-key.result c.act.result c.in_ok-said.was
+    lost binding_of c.args.now (t.state old) (t.state new) (Bind c.args.func c.args.args) key c.in_ok-said.said c.key_of-key.result c.act.result c.in_ok-said.was
     (search rules) (λ m e. lent c.args.func c.args.args c.args.now key m (ap is_lent (sym e) ∙ says)) c.act.follows.holds-at-none

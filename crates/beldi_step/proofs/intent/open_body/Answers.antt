@@ -12,5 +12,5 @@ returns-in-Err g c =
     let old = c.args.table.now in
     let new = c.act.follows.lender-at-none in
     let key = intent_key c.args.id c.args.func in
-    lost (open_args c.args.func) c.args.now (t.room old) (t.room new) (t.faults old) (t.faults new) (t.rows old) (t.rows new) Look key c.in_ok-said.said c.key_of.result c.act.result c.in_ok-said.was
+    lost (open_args c.args.func) c.args.now (t.state old) (t.state new) Look key c.in_ok-said.said c.key_of.result c.act.result c.in_ok-said.was
     (search rules) (λ m e. looked c.args.now key m) c.act.follows.holds-at-none

@@ -1,6 +1,6 @@
 use Rattle.std.proofs.Common.{◌≡◌}
-use Rattle.beldi_lang.specs.Term.{not}
-use Rattle.beldi_lang.specs.Expr.{term_of}
+use Rattle.beldi_tree.specs.Term.{not}
+use Rattle.beldi_tree.specs.Expr.{term_of}
 use Rattle.beldi_syntax.specs.Phrase.{times}
 use Rattle.beldi_syntax.proofs.expressions.negated.Given as goal
 

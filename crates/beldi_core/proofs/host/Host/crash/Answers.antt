@@ -11,7 +11,7 @@ pub returns-then-not-is_live-clause-carried : goal.returns-then-not-is_live-clau
 returns-then-not-is_live-clause-carried g c =
     let t = g.T.Table in
     let h = c.args.self.now in
-    idle_crash h.code (core_of h) c.args.run (t.room h.table) (t.faults h.table) (t.rows h.table) c.no_run.result (no_live (map.get h.runs.runs c.args.run) c.is_live.result c.is_live.ensures (search rules)) (c.no_run.ensures (core_of h) (sym c.given.ensures))
+    idle_crash h.code (core_of h) c.args.run (t.state h.table) c.no_run.result (no_live (map.get h.runs.runs c.args.run) c.is_live.result c.is_live.ensures (search rules)) (c.no_run.ensures (core_of h) (sym c.given.ensures))
 
 pub returns-then-not-is_live-clause-answers : goal.returns-then-not-is_live-clause-answers
 returns-then-not-is_live-clause-answers g c =

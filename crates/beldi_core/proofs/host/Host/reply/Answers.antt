@@ -14,4 +14,4 @@ returns-clause-plain g c =
     let t = g.T.Table in
     let h = c.args.self.now in
     let k = c.look.new.self in
-    said h.code (core_of h) c.args.ticket (t.room h.table) (t.room k.table) (t.faults h.table) (t.faults k.table) (t.rows h.table) (t.rows k.table) c.look.result c.look.ensures.reads
+    said h.code (core_of h) c.args.ticket (t.state h.table) (t.state k.table) c.look.result c.look.ensures.reads

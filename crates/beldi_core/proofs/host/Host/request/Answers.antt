@@ -1,9 +1,10 @@
-use Rattle.std.proofs.Common.{◌≡◌, ◌==◌, ◌||◌, ◌+◌, [], ◌∷◌, ◌++◌, None, rules, ap, ◌∙◌, Ok, if◌then◌else◌}
+use Rattle.std.proofs.Common.{◌≡◌, ◌==◌, ◌||◌, [], ◌∷◌, ◌++◌, None, rules, ap, ◌∙◌, Ok, if◌then◌else◌}
 use Rattle.std.specs.Prelude.{nat_lt, nat_le}
 use Rattle.std.specs.FinMap as map
 use Rattle.beldi_row.specs.declared.act.Act.TheVariants.{Bind}
 use Rattle.beldi_step.specs.declared.event.Event.TheVariants as events
 use Rattle.beldi_step.specs.declared.event.Seen.TheVariants.{Unknown, Crowded}
+use Rattle.beldi_step.specs.Intent.{binding_of}
 use Rattle.beldi_step.specs.Host.{Answer, Do, root_key, most_runs, new_run, request_next}
 use Rattle.beldi_value.specs.Id.{root_of}
 use Rattle.beldi_book.specs.declared.entry.Entry.TheVariants.{Start}
@@ -17,7 +18,7 @@ returns-in-Ok-clause-answers g c =
     let h = core_of c.args.self.now in
     let b = core_of c.bound.new.self in
     let e = events.Request c.args.ticket c.args.func c.args.args in
-    let makes = Do (root_key c.args.ticket) (Bind c.args.func c.args.args) (request_next h c.args.ticket c.args.func c.args.args) in
+    let makes = Do (root_key c.args.ticket) (Bind c.args.func c.args.args) (λ u. request_next h c.args.ticket c.args.func c.args.args (binding_of u)) in
     let run : c.start.new.self ≡ started c.args.self.now.runs (new_run (root_of c.args.ticket) c.args.func) =
     c.in_ok-run.ensures.ok ∙ ap (λ id. started c.args.self.now.runs (record { id = id; func = c.args.func; at = None })) c.root.ensures in
     if_not e h b (Ok c.bound.result) ((c.args.ticket == 0) || nat_lt h.newest c.args.ticket) (Answer h (Unknown c.args.ticket)) (if nat_le most_runs (map.len h.runs) then Answer h Crowded else makes) (search rules)

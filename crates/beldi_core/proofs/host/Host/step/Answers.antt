@@ -10,5 +10,5 @@ returns-in-Turn-clause-step g c =
     let t = g.T.Table in
     let h = c.args.self.now in
     let k = c.turn.new.self in
-    subst (λ (e : Event). Stepped h.code e (core_of h) (core_of k) (t.room h.table) (t.room k.table) (t.faults h.table) (t.faults k.table) (t.rows h.table) (t.rows k.table) c.turn.result) (search rules)
-    (stepped h.code (core_of h) (core_of k) c.in-Turn.run' (t.room h.table) (t.room k.table) (t.faults h.table) (t.faults k.table) (t.rows h.table) (t.rows k.table) c.turn.result (omega arith) c.turn.ensures.carried c.turn.ensures.answers)
+    subst (λ (e : Event). Stepped h.code e (core_of h) (core_of k) (t.state h.table) (t.state k.table) c.turn.result) (search rules)
+    (stepped h.code (core_of h) (core_of k) c.in-Turn.run' (t.state h.table) (t.state k.table) c.turn.result (omega arith) c.turn.ensures.carried c.turn.ensures.answers)

@@ -14,7 +14,7 @@ pub returns-then-not-is_live-clause-carried : goal.returns-then-not-is_live-clau
 returns-then-not-is_live-clause-carried g c =
     let t = g.T.Table in
     let h = c.args.self.now in
-    idle h.code (core_of h) c.args.run (t.room h.table) (t.faults h.table) (t.rows h.table) c.no_run.result (no_live (map.get h.runs.runs c.args.run) c.is_live.result c.is_live.ensures (search rules)) (c.no_run.ensures (core_of h) (sym c.given.ensures))
+    idle h.code (core_of h) c.args.run (t.state h.table) c.no_run.result (no_live (map.get h.runs.runs c.args.run) c.is_live.result c.is_live.ensures (search rules)) (c.no_run.ensures (core_of h) (sym c.given.ensures))
 
 pub returns-in-Ok-clause-carried : goal.returns-in-Ok-clause-carried
 returns-in-Ok-clause-carried g c =
@@ -23,12 +23,12 @@ returns-in-Ok-clause-carried g c =
     let r = c.reserve.new.self in
     let k = c.lead.new.self in
     let b = c.acted.new.self in
-    let led : Led h.code (count_changes h.book.entries) h.runs.runs k.runs.runs c.args.run h.now (t.room h.table) (t.room k.table) (t.faults h.table) (t.faults k.table) (t.rows h.table) (t.rows k.table) (Ok c.in-Ok.says) =
-    subst (λ (q : g.row.T.Denot). Led h.code (count_changes h.book.entries) h.runs.runs k.runs.runs c.args.run h.now (t.room q) (t.room k.table) (t.faults q) (t.faults k.table) (t.rows q) (t.rows k.table) (Ok c.in-Ok.says)) c.in_ok-reserve.ensures.table
-    (led_so h.code r.code (core_of h) (core_of r) k.runs.runs c.args.run (t.room r.table) (t.room k.table) (t.faults r.table) (t.faults k.table) (t.rows r.table) (t.rows k.table) (Ok c.in-Ok.says) c.in_ok-reserve.ensures.code c.in_ok-reserve.ensures.ok (c.in-Ok.ensures.led)) in
-    acted h.code (core_of h) (core_of b) k.runs.runs c.args.run (t.room h.table) (t.room b.table) (t.faults h.table) (t.faults b.table) (t.rows h.table) (t.rows b.table) c.in-Ok.says (core_of k) c.acted.result
+    let led : Led h.code (count_changes h.book.entries) h.runs.runs k.runs.runs c.args.run h.now (t.state h.table) (t.state k.table) (Ok c.in-Ok.says) =
+    subst (λ (q : g.row.T.Denot). Led h.code (count_changes h.book.entries) h.runs.runs k.runs.runs c.args.run h.now (t.state q) (t.state k.table) (Ok c.in-Ok.says)) c.in_ok-reserve.ensures.table
+    (led_so h.code r.code (core_of h) (core_of r) k.runs.runs c.args.run (t.state r.table) (t.state k.table) (Ok c.in-Ok.says) c.in_ok-reserve.ensures.code c.in_ok-reserve.ensures.ok (c.in-Ok.ensures.led)) in
+    acted h.code (core_of h) (core_of b) k.runs.runs c.args.run (t.state h.table) (t.state b.table) c.in-Ok.says (core_of k) c.acted.result
     (c.lead.ensures.core ∙ ap (λ q. with_runs q k.runs.runs) c.in_ok-reserve.ensures.ok)
-    (subst (λ (q : g.row.T.Denot). Led h.code (count_changes h.book.entries) h.runs.runs k.runs.runs c.args.run h.now (t.room h.table) (t.room q) (t.faults h.table) (t.faults q) (t.rows h.table) (t.rows q) (Ok c.in-Ok.says)) (sym c.acted.ensures.table) led)
+    (subst (λ (q : g.row.T.Denot). Led h.code (count_changes h.book.entries) h.runs.runs k.runs.runs c.args.run h.now (t.state h.table) (t.state q) (Ok c.in-Ok.says)) (sym c.acted.ensures.table) led)
     c.acted.ensures.said c.acted.ensures.ok c.acted.ensures.err
 
 pub returns-in-Err-Lost-clause-carried : goal.returns-in-Err-Lost-clause-carried
@@ -37,10 +37,10 @@ returns-in-Err-Lost-clause-carried g c =
     let h = c.args.self.now in
     let r = c.reserve.new.self in
     let k = c.lead.new.self in
-    let led : Led h.code (count_changes h.book.entries) h.runs.runs k.runs.runs c.args.run h.now (t.room h.table) (t.room k.table) (t.faults h.table) (t.faults k.table) (t.rows h.table) (t.rows k.table) (Err (Lost c.in-Err-Lost.entry)) =
-    subst (λ (q : g.row.T.Denot). Led h.code (count_changes h.book.entries) h.runs.runs k.runs.runs c.args.run h.now (t.room q) (t.room k.table) (t.faults q) (t.faults k.table) (t.rows q) (t.rows k.table) (Err (Lost c.in-Err-Lost.entry))) c.in_ok-reserve.ensures.table
-    (led_so h.code r.code (core_of h) (core_of r) k.runs.runs c.args.run (t.room r.table) (t.room k.table) (t.faults r.table) (t.faults k.table) (t.rows r.table) (t.rows k.table) (Err (Lost c.in-Err-Lost.entry)) c.in_ok-reserve.ensures.code c.in_ok-reserve.ensures.ok (rw c.in-Err-Lost.field-0-is at c.in-Err-Lost.ensures.led)) in
-    lost h.code (core_of h) _ k.runs.runs c.args.run (t.room h.table) (t.room k.table) (t.faults h.table) (t.faults k.table) (t.rows h.table) (t.rows k.table) c.in-Err-Lost.entry _ led
+    let led : Led h.code (count_changes h.book.entries) h.runs.runs k.runs.runs c.args.run h.now (t.state h.table) (t.state k.table) (Err (Lost c.in-Err-Lost.entry)) =
+    subst (λ (q : g.row.T.Denot). Led h.code (count_changes h.book.entries) h.runs.runs k.runs.runs c.args.run h.now (t.state q) (t.state k.table) (Err (Lost c.in-Err-Lost.entry))) c.in_ok-reserve.ensures.table
+    (led_so h.code r.code (core_of h) (core_of r) k.runs.runs c.args.run (t.state r.table) (t.state k.table) (Err (Lost c.in-Err-Lost.entry)) c.in_ok-reserve.ensures.code c.in_ok-reserve.ensures.ok (rw c.in-Err-Lost.field-0-is at c.in-Err-Lost.ensures.led)) in
+    lost h.code (core_of h) _ k.runs.runs c.args.run (t.state h.table) (t.state k.table) c.in-Err-Lost.entry _ led
     ((λ j. record (core_of k) { book = c.write.ensures j }) ∙ ap (λ q. written q c.in-Err-Lost.entry) (c.lead.ensures.core ∙ ap (λ q. with_runs q k.runs.runs) c.in_ok-reserve.ensures.ok))
 
 pub returns-then-not-is_live-clause-answers : goal.returns-then-not-is_live-clause-answers

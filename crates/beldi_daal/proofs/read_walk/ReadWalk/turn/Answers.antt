@@ -6,7 +6,7 @@ returns-in-Ok g c =
     let t = g.T.Table in
     let old = c.args.table.now in
     let new = c.act.follows.lender-at-none in
-    turned c.args.self.now c.args.now (t.room old) (t.room new) (t.faults old) (t.faults new) (t.rows old) (t.rows new) c.in_ok-said.said c.in_ok-key.key c.act.result c.in_ok-said.was
+    turned c.args.self.now c.args.now (t.state old) (t.state new) c.in_ok-said.said c.in_ok-key.key c.act.result c.in_ok-said.was
     c.in_ok-key.ensures.ok c.act.follows.holds-at-none c.in-Ok.says c.in-Ok.ensures
 
 pub returns-in-Err : goal.returns-in-Err
@@ -14,5 +14,5 @@ returns-in-Err g c =
     let t = g.T.Table in
     let old = c.args.table.now in
     let new = c.act.follows.lender-at-none in
-    lost c.args.self.now c.args.now (t.room old) (t.room new) (t.faults old) (t.faults new) (t.rows old) (t.rows new) c.in_ok-said.said c.in_ok-key.key c.act.result c.in_ok-said.was
+    lost c.args.self.now c.args.now (t.state old) (t.state new) c.in_ok-said.said c.in_ok-key.key c.act.result c.in_ok-said.was
     c.in_ok-key.ensures.ok c.act.follows.holds-at-none

@@ -1,7 +1,7 @@
 use Rattle.std.proofs.Common.{◌≡◌, ℕ, List, Err, ◌≤◌, ◌-◌, ap, sym, subst, ◌∙◌, rules, arith, codes}
-use Rattle.beldi_lang.specs.declared.deployment.Expr.{Expr}
-use Rattle.beldi_lang.specs.Term.{Term, not, negate}
-use Rattle.beldi_lang.specs.Expr.{term_of}
+use Rattle.beldi_tree.specs.declared.deployment.Expr.{Expr}
+use Rattle.beldi_tree.specs.Term.{Term, not, negate}
+use Rattle.beldi_tree.specs.Expr.{term_of}
 use Rattle.beldi_syntax.specs.declared.operators.Level.TheVariants.{Relation}
 use Rattle.beldi_syntax.specs.Phrase.{ReadsAs, next_is, after_first}
 use Rattle.beldi_syntax.specs.Expressions.{expr_at, chain, side, sum, post, member, more, next_item}

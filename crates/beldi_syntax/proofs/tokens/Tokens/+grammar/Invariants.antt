@@ -1,5 +1,5 @@
 use Rattle.std.proofs.Common.{◌≡◌, ◌+◌, ◌*◌, ◌-◌, ℕ}
-use Rattle.beldi_lang.specs.Expr.{term_of}
+use Rattle.beldi_tree.specs.Expr.{term_of}
 use Rattle.beldi_syntax.specs.declared.operators.Level.{Level}
 use Rattle.beldi_syntax.specs.declared.operators.Level.TheVariants.{Disjunction, Conjunction, Relation, Sum, Product}
 use Rattle.beldi_syntax.specs.Phrase.{repeated}

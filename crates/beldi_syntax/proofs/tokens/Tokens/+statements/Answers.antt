@@ -1,7 +1,7 @@
 use Rattle.std.proofs.Common.{◌≡◌, ◌≤◌, ◌-◌, sym, subst, ◌∙◌, rules, arith, codes}
-use Rattle.beldi_lang.specs.declared.deployment.Stmt.{Stmt}
-use Rattle.beldi_lang.specs.Command.{Command}
-use Rattle.beldi_lang.specs.Statement.{command_of}
+use Rattle.beldi_tree.specs.declared.deployment.Stmt.{Stmt}
+use Rattle.beldi_tree.specs.Command.{Command}
+use Rattle.beldi_tree.specs.Statement.{command_of}
 use Rattle.beldi_syntax.specs.Phrase.{Reads, next_is}
 use Rattle.beldi_syntax.specs.Expressions.{expr_at}
 use Rattle.beldi_syntax.specs.Statements.{stmt, stmts, next_stmt, block_at}

@@ -1,4 +1,4 @@
-use Rattle.std.proofs.Common.{arith, ◌∙◌, refl, ap, sym}
+use Rattle.std.proofs.Common.{arith, Some, ◌∙◌, refl, ap, sym}
 use Rattle.beldi_table.specs.MapTable.{rows_of}
 use Rattle.beldi_table.specs.FailingTable.{counted}
 use Rattle.beldi_table.proofs.failing_table.FailingTableTable.act.Goals as goal
@@ -15,6 +15,7 @@ returns-then-fails c =
           rows = ap rows_of c.fails.ensures.table;
           cause = record { later = c.fails.ensures.later; failed = λ _. omega (arith, rose) };
           room = ap (λ t. t.room) c.fails.ensures.table;
+          calls = ap (λ n. Some n) c.fails.ensures.counts.calls;
         },
       ),
       record { acts = tt; told = (λ _. fails, λ _. refl) },

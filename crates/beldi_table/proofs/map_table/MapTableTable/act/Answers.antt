@@ -19,6 +19,7 @@ returns c =
           rows = (done.0, c.tell-2.ensures ∙ ap (said_by c.in_ok-change.change) (sym found) ∙ done.1, done.2);
           cause = record { later = omega arith; failed = search rules };
           room = c.change.ensures.room;
+          calls = refl;
         },
       ),
       record { acts = tt },

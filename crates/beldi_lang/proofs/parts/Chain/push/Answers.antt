@@ -1,9 +1,0 @@
-use Rattle.std.proofs.Common.{ap, ◌∙◌}
-use Rattle.beldi_lang.specs.Expr.{term_of, applied, chained}
-use Rattle.beldi_lang.proofs.Evaluated.{chained_more}
-use Rattle.beldi_lang.proofs.parts.Chain.push.Goals as goal
-
-pub returns-clause-ok : goal.returns-clause-ok
-returns-clause-ok c =
-    let t = applied (term_of c.self.inside.first.value) c.self.inside.next.value in
-    ap (chained t) c.in_ok-push.ensures.items ∙ chained_more t c.self.inside.more.items c.args.step ∙ ap (λ u. applied u c.args.step) c.self.view_is

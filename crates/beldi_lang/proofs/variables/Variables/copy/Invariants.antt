@@ -1,8 +1,0 @@
-use Rattle.std.specs.Ordering.{nat_cmp}
-use Rattle.std.specs.Cmp.Lexicographic.{slice_cmp}
-use Rattle.beldi_lang.proofs.Copies.{IsCopied}
-use Rattle.beldi_lang.proofs.variables.Variables.copy.Given as goal
-
--- the names that are left, with those that are copied, are all names
-abbrev pub invariant-loop-name : goal.invariant-loop-name
-invariant-loop-name l = IsCopied (slice_cmp nat_cmp) l.copy l.self l.name-iterator

@@ -1,0 +1,36 @@
+-- No item of a run is kept as null.
+use Rattle.std.proofs.Common.{◌≡◌, None, Some, sym, ◌∙◌, subst}
+use Rattle.std.specs.FinMap as map
+use Rattle.std.specs.FinMap.{FinMap, get-empty, get-insert, get-remove}
+use Rattle.beldi_value.specs.declared.id.IntentId.{IntentId}
+use Rattle.beldi_value.specs.declared.value.Value.{Value}
+use Rattle.beldi_value.specs.declared.value.Value.TheVariants.{Null}
+use Rattle.beldi_tree.specs.declared.deployment.Deployment.{Deployment}
+use Rattle.beldi_lang.specs.declared.effect.Effect.{Effect}
+use Rattle.beldi_lang.specs.declared.effect.Effect.TheVariants as effect
+use Rattle.beldi_book.specs.declared.entry.Entry.{Entry}
+use Rattle.beldi_book.specs.declared.entry.Entry.TheVariants.{Start, Read, Step}
+use Rattle.beldi_book.specs.Order.{linear}
+use Rattle.beldi_plain.specs.Item.{Item, item_cmp, item_total, item_exact}
+use Rattle.beldi_plain.specs.Plain.{Instance, PlainState, nothing, after, step_by, set_item, effect_of}
+use Rattle.beldi_order.specs.Laws.{KeepsNoNull, NullIsAbsent}
+use Rattle.beldi_order.proofs.Entries.{changed, did, run_keeps}
+
+set_kept : (f : FinMap item_cmp Value) (y : Item) (v : Value) → ((x : Item) → map.get f x ≡ Some Null → ⊥) → (x : Item) → map.get (set_item f y v) x ≡ Some Null → ⊥
+set_kept f y Null h = changed item_exact f (map.remove f y) y None (get-remove item_total f y) (λ x o. o ≡ Some Null → ⊥) (λ e. cc) h
+set_kept f y v h = changed item_exact f (map.insert f y v) y (Some v) (get-insert item_total f y v) (λ x o. o ≡ Some Null → ⊥) (λ e. cc) h
+
+by_kept : (p : PlainState) (id : IntentId) (q : Instance) (e : Effect) → KeepsNoNull p → KeepsNoNull (step_by p id q e)
+by_kept p id q (effect.Write t k v) h = set_kept p.items (record { func = q.func; table = t; key = k }) v h
+by_kept p id q e h = h
+
+after_kept : (d : Deployment) (p : PlainState) (e : Entry) (q : PlainState) → KeepsNoNull p → after d p e ≡ Some q → KeepsNoNull q
+after_kept d p (Start t f a) q h is = subst KeepsNoNull (did d p (Start t f a) q is).leads h
+after_kept d p (Read id seen) q h is = let s = did d p (Read id seen) q is in subst KeepsNoNull s.leads (by_kept p id s.instance (effect_of d s.instance) h)
+after_kept d p (Step id) q h is = let s = did d p (Step id) q is in subst KeepsNoNull s.leads (by_kept p id s.instance (effect_of d s.instance) h)
+
+none_null : KeepsNoNull nothing
+none_null x e = let g = sym (get-empty item_cmp x) ∙ e in cc
+
+pub no_null : NullIsAbsent
+no_null d es p is = run_keeps d KeepsNoNull (after_kept d) nothing (linear es) p none_null is

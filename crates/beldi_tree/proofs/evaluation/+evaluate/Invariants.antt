@@ -1,0 +1,51 @@
+use Rattle.std.proofs.Common.{◌≡◌, ◌+◌, ◌*◌, drop, []}
+use Rattle.beldi_tree.specs.Term.{term_size, terms_size, members_size, items_of, members_of}
+use Rattle.beldi_tree.specs.Expr.{term_of, items_view, members_view}
+use Rattle.beldi_tree.specs.Evaluate.{items_value, fields_value, term_value}
+use Rattle.beldi_tree.specs.Seen.{seen_value}
+use Rattle.beldi_tree.specs.Steps.{ended}
+use Rattle.beldi_tree.proofs.Evaluated.{onto, step_size}
+use Rattle.beldi_tree.proofs.evaluation.+evaluate.Given as goal
+
+-- three times the size of what is evaluated, and a step more for each call on the way to a part
+abbrev pub decreases-walk : goal.decreases-walk
+decreases-walk l = 3 * term_size l.chain.now
+
+abbrev pub decreases-seen : goal.decreases-seen
+decreases-seen l = 3 * term_size (term_of l.expr.now) + 1
+
+abbrev pub decreases-evaluate : goal.decreases-evaluate
+decreases-evaluate l = 3 * term_size (term_of l.expr.now) + 2
+
+abbrev pub decreases-advance : goal.decreases-advance
+decreases-advance l = 3 * step_size l.step.now + 5
+
+abbrev pub decreases-apply : goal.decreases-apply
+decreases-apply l = 3 * step_size l.step.now + 4
+
+abbrev pub decreases-either : goal.decreases-either
+decreases-either l = 3 * term_size (term_of l.right.now) + 2
+
+abbrev pub decreases-both : goal.decreases-both
+decreases-both l = 3 * term_size (term_of l.right.now) + 2
+
+abbrev pub decreases-with : goal.decreases-with
+decreases-with l = 3 * (term_size (term_of l.key.now) + term_size (term_of l.value.now)) + 3
+
+abbrev pub decreases-list : goal.decreases-list
+decreases-list l = 3 * terms_size l.exprs.now + 3
+
+abbrev pub decreases-record : goal.decreases-record
+decreases-record l = 3 * members_size l.members.now + 3
+
+-- the items so far, put before those of the rest, are all of them
+abbrev pub invariant-list-loop-expr : goal.invariant-list-loop-expr
+invariant-list-loop-expr l = onto l.items (items_value l.variables (items_of (items_view (drop l.expr-index l.expr-items)))) ≡ items_value l.variables (items_of (items_view l.expr-items))
+
+-- the fields so far, with those of the rest set in them, are all of them
+abbrev pub invariant-record-loop-member : goal.invariant-record-loop-member
+invariant-record-loop-member l = fields_value l.variables l.fields (members_of (members_view (drop l.member-index l.member-items))) ≡ fields_value l.variables [] (members_of (members_view l.member-items))
+
+-- what the steps that are left make of the value so far is the value of the chain
+abbrev pub invariant-walk-loop-step : goal.invariant-walk-loop-step
+invariant-walk-loop-step l = ended l.variables (seen_value l.value) (drop l.step-index l.step-items) ≡ term_value l.variables l.chain

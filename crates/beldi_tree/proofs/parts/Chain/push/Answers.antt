@@ -1,0 +1,9 @@
+use Rattle.std.proofs.Common.{ap, ◌∙◌}
+use Rattle.beldi_tree.specs.Expr.{term_of, applied, chained}
+use Rattle.beldi_tree.proofs.Evaluated.{chained_more}
+use Rattle.beldi_tree.proofs.parts.Chain.push.Goals as goal
+
+pub returns-clause-ok : goal.returns-clause-ok
+returns-clause-ok c =
+    let t = applied (term_of c.self.inside.first.value) c.self.inside.next.value in
+    ap (chained t) c.in_ok-push.ensures.items ∙ chained_more t c.self.inside.more.items c.args.step ∙ ap (λ u. applied u c.args.step) c.self.view_is

@@ -1,0 +1,8 @@
+use Rattle.std.specs.Ordering.{nat_cmp}
+use Rattle.std.specs.Cmp.Lexicographic.{slice_cmp}
+use Rattle.beldi_tree.proofs.Copies.{IsCopied}
+use Rattle.beldi_tree.proofs.variables.Variables.copy.Given as goal
+
+-- the names that are left, with those that are copied, are all names
+abbrev pub invariant-loop-name : goal.invariant-loop-name
+invariant-loop-name l = IsCopied (slice_cmp nat_cmp) l.copy l.self l.name-iterator

@@ -1,0 +1,8 @@
+use Rattle.std.proofs.Common.{◌∙◌, sym, ap}
+use Rattle.std.specs.FinMap as map
+use Rattle.std.specs.Cmp.Lexicographic.{nat_list_cmp_total}
+use Rattle.beldi_value.proofs.Maps.{get_made}
+use Rattle.beldi_tree.proofs.variables.Variables.get.Goals as goal
+
+pub returns : goal.returns
+returns c = c.get.ensures.value ∙ sym (get_made nat_list_cmp_total c.self.inside.entries.entries c.args.name.now) ∙ ap (λ m. map.get m c.args.name.now) c.self.view_is

@@ -1,0 +1,10 @@
+pub mod Bindings
+pub mod Command
+pub mod Evaluate
+pub mod Expr
+pub mod Falls
+pub mod Names
+pub mod Seen
+pub mod Statement
+pub mod Steps
+pub mod Term

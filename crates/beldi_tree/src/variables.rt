@@ -1,0 +1,67 @@
+// The variables of a body.
+ghost use Rattle.std.specs.Prelude.{◌≡◌, option_copied, OnOk, OnErr, IfOk};
+ghost use Rattle.std.specs.FinMap as map;
+ghost use Rattle.beldi_tree.specs.Bindings.{no_variables};
+
+use beldi_value::{Str, Value};
+use std::alloc::{AllocError, Global};
+use std::collections::BTreeMap;
+use std::marker::Model;
+
+/// Names with their values.
+#[derive(Drop)]
+pub struct Variables {
+    entries: BTreeMap<Str, Value>,
+}
+
+impl Model for Variables {
+    ghost use Rattle.std.specs.FinMap as map;
+    ghost use Rattle.std.specs.Coded.{coded_list, coded_ℕ};
+    ghost use Rattle.beldi_value.specs.Injective.{coded_value};
+    ghost use Rattle.beldi_tree.specs.Bindings.{Bindings};
+
+    ghost Value = { Bindings };
+
+    ghost coded = { map.code (coded_list coded_ℕ) coded_value };
+
+    ghost view = { λ a. map.from_entries a.entries.entries };
+}
+
+impl Variables {
+    pub fn new(alloc: Global) -> Variables
+        ensures { result ≡ no_variables }
+    {
+        Variables {
+            entries: BTreeMap::new(alloc),
+        }
+    }
+
+    /// Equal variables.
+    pub fn copy(&self, alloc: Global) -> Result<Variables, AllocError>
+        ensures { IfOk result (λ v. v ≡ self.now) }
+    {
+        let mut copy = Variables::new(alloc);
+        for (name, value) in self.entries.iter() {
+            copy.set(name.copy(alloc)?, value.copy(alloc)?)?;
+        }
+        Ok(copy)
+    }
+
+    /// The value of a name, where it has one.
+    pub fn get(&self, name: &Str) -> Option<&Value>
+        ensures { option_copied result ≡ map.get self.now name.now }
+    {
+        self.entries.get(name)
+    }
+
+    /// Gives a name this value.
+    pub fn set(&mut self, name: Str, value: Value) -> Result<(), AllocError>
+        ensures ok { OnOk result (self.new ≡ map.insert self.old name value) }
+        ensures err { OnErr result (self.new ≡ self.old) }
+    {
+        match self.entries.insert(name, value) {
+            Ok(_) => Ok(()),
+            Err(_) => Err(AllocError),
+        }
+    }
+}
