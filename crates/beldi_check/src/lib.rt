@@ -2,6 +2,13 @@
 //! Its definitions: `specs/Site` (the statements of a body, and where each stands), `specs/Calls` (which function leads to
 //! which), `specs/Rules` (the first place that breaks each rule, and the first of all) and `specs/Keeps` (the same rules, said
 //! of each function, table and statement).
+//!
+//! Proved:
+//! - `check` accepts a deployment just where no rule is broken, and else names the first place that breaks the first
+//!   rule that is broken (`Refuses (first_offence ..)`).
+//! - It is accepted exactly where each rule holds at each function, table and statement (`accepts_exactly`); among at
+//!   most 64 functions, one reaches another exactly where there is a path from it (`reaches_by_paths`).
+//! - `Checked` keeps that it was checked (`checked`), and `func` finds a function by its name.
 #![tactic(auto)]
 
 mod accept;
@@ -10,8 +17,6 @@ mod laws;
 mod listed;
 mod rules;
 mod site;
-#[cfg(test)]
-mod tests;
 mod why;
 
 pub use accept::{Checked, check};

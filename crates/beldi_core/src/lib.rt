@@ -3,13 +3,37 @@
 //! definitions: `specs/Host` (the host as the core that events speak of), `specs/Runs` (the live runs by number),
 //! `specs/Answers` (answers by what an act came to), `specs/Survey` (calls that read the rows), `specs/Opening` (their
 //! errors), `specs/Built` (what it can carry out of a deployment) and `specs/Right` (what the calls keep).
+//!
+//! Proved:
+//! - `Host::event` is one step of the definition, for every table that keeps the trait's contract; crashes, lost
+//!   answers, restarts, faults, want of room and want of memory are cases of the step (`step`, `code`).
+//! - Over every table, also over one that tells no rows, an event that needs no act is answered at once and leaves the
+//!   core that the definition names, and such an answer comes to no other event; what another event leaves and answers
+//!   follows from what some act came to, or the act was not made, and then no more than a run is over (`Answers` in
+//!   `step`).
+//! - An event makes at most one call of the table's `act` and `next` (`calls` in `step`), and so does `reply`
+//!   (`calls`).
+//! - What the rows held at a step stays after an event, whether the host is right or not (`answers_stay`).
+//! - Where the host is right and its table tells its rows, no ticket is answered `gone` (`has_rows`).
+//! - `Host::rows` tells how many rows the table has, as `len` does (`IsCount`).
+//! - `built` tells the line of the first statement that the host cannot carry out yet (`exact`); no body of a
+//!   deployment that has none comes to an effect that is not carried out (`carried`).
+//! - `Host::open`, at a moment of at most 2^62, finds the newest ticket, which is the greatest that any key names
+//!   (`newest`), and changes no row (`ok`); where it refuses, it gives the table back (`err`).
+//! - `Host::tables` and `Host::reply` say what the rows say, and change nothing (`reads`, `err`, `unknown`, `core`,
+//!   `code`).
+//! - A host opened over no rows is right, and so are the host and its rows after `event`, `tables` and `reply` where
+//!   they were before, also after want of memory (`right`); then the book is legal (`legal`), the rows stand for its
+//!   run, also in the table that `close` gives back (`stands`), each step of an instance has one answer after an
+//!   event, whichever of its runs asks, and it is the one that the rows hold (`one_answer`), the listing of `tables`
+//!   is that of the run (`listing`), and what `reply` tells is the outcome that the root has in the run, or none
+//!   (`plain`).
+//! - `next_run` is the least live run past a number (`least`).
 #![tactic(auto)]
 
 mod host;
 mod runs;
 mod survey;
-#[cfg(test)]
-mod tests;
 mod unbuilt;
 
 pub use host::Host;

@@ -1,35 +1,17 @@
-//! The program: it reads a deployment and a script, hosts the deployment, and writes what the script's events came to.
-//! It stands on the host (`beldi_core`), the readers of its source (`beldi_syntax`, `beldi_script`), the checks of a deployment
-//! (`beldi_check`), the table that it hands to the host (`beldi_table`) and what is outside (`beldi_outside`); its clauses
-//! speak of definitions of the crates below them.
-//! Its own definitions: `specs/Source` (what a source says: its refusal, or a deployment and numbered lines), `specs/Refusal`
-//! (the text of a refusal), `specs/Answer` (the text of answers), `specs/Said` (what is said of a deed, and its text),
-//! `specs/Session` (the deeds of a script, what was said of them, and what was written), `specs/PlainRun` (that a session is
-//! a run without crashes), `specs/Headline` (what a session has to do with rows and text, and what each status says).
-//! `main` alone touches the real streams; everything else is over the traits of `beldi_outside` and `beldi_row`. It has no
-//! error type: `top` answers a status, and `Ended` has one variant for each.
+//! The program over the real streams, a table in memory, no link and no clock. What it does is `top` of `beldi_program`.
+//! Its tests call what no clause can show: that calls succeed where memory is ample, what is written where a read, a write
+//! or a call of the table fails, and what the adapters do over real readers and writers.
 #![tactic(auto)]
 
-mod answer;
-mod deed;
-mod doing;
-mod ending;
-mod output;
 #[cfg(test)]
-mod plain_tests;
-mod program;
-#[cfg(test)]
-mod random_tests;
-mod refusal;
-mod session;
-mod source;
+mod calls;
 #[cfg(test)]
 mod tests;
 
 use beldi_outside::{ClosedLink, MemClock, StdSink, StdSource};
+use beldi_program::top;
 use beldi_table::MapTable;
 use beldi_value::Str;
-use program::top;
 use std::process::ExitCode;
 use std::{env, io};
 

@@ -1,5 +1,5 @@
-use crate::program::top;
 use beldi_outside::{ClosedLink, MemClock, MemSink, MemSource};
+use beldi_program::top;
 use beldi_table::FailingTable;
 use beldi_value::Str;
 use std::alloc::Global;
@@ -35,31 +35,20 @@ fn ends(
     Ok(status)
 }
 
-// Whether a source ends so where these reads, writes and calls of the table fail.
-fn source_ends(
-    alloc: Global,
-    source: &[u8],
-    fail: (&[u32], &[u32], &[u32]),
-    wanted: u8,
-    text: &[u8],
-) -> Result<bool, Fail> {
-    let mut source = MemSource::new(
-        Vec::from_slice(alloc, source)?,
-        Vec::from_slice(alloc, fail.0)?,
-    );
-    let mut sink = MemSink::new(alloc, Vec::from_slice(alloc, fail.1)?);
-    let status = ends(alloc, &mut source, &mut sink, fail.2)?;
-    Ok(status == wanted && sink.as_slice() == text)
-}
-
-// The same of the smallest path.
+// Whether the smallest path ends so where these reads, writes and calls of the table fail.
 fn path_ends(
     alloc: Global,
     fail: (&[u32], &[u32], &[u32]),
     wanted: u8,
     text: &[u8],
 ) -> Result<bool, Fail> {
-    source_ends(alloc, SOURCE, fail, wanted, text)
+    let mut source = MemSource::new(
+        Vec::from_slice(alloc, SOURCE)?,
+        Vec::from_slice(alloc, fail.0)?,
+    );
+    let mut sink = MemSink::new(alloc, Vec::from_slice(alloc, fail.1)?);
+    let status = ends(alloc, &mut source, &mut sink, fail.2)?;
+    Ok(status == wanted && sink.as_slice() == text)
 }
 
 #[test]
@@ -75,30 +64,14 @@ fn a_read_or_a_write_that_fails_ends_the_program(rt: HostRuntime) -> Result<(), 
 }
 
 // What is written where this call of the table fails.
-const DROPPED: [(u32, &[u8]); 10] = [
+const DROPPED: [(u32, &[u8]); 4] = [
     (
         1,
         b"dropped\nunknown 1\nno-run\nno-run\nno-run\nno-run\nno-run\n== tables\n== book\n",
     ),
     (
-        2,
-        b"ticket 1\ndropped\nno-run\nno-run\nno-run\nno-run\nno-run\n== tables\n== book\n",
-    ),
-    (
         3,
         b"ticket 1\nbound 1 run 1\ndropped\nrun-over\nrun-over\nrun-over\nrun-over\n== tables\n== book\nstart 1 f 7\n",
-    ),
-    (
-        4,
-        b"ticket 1\nbound 1 run 1\nacted\ndropped\nrun-over\nrun-over\nrun-over\n== tables\n== book\nstart 1 f 7\n",
-    ),
-    (
-        5,
-        b"ticket 1\nbound 1 run 1\nacted\nacted\ndropped\nrun-over\nrun-over\n== tables\n== book\nstart 1 f 7\n",
-    ),
-    (
-        6,
-        b"ticket 1\nbound 1 run 1\nacted\nacted\nacted\ndropped\nrun-over\n== tables\n== book\nstart 1 f 7\n",
     ),
     (
         7,
@@ -106,14 +79,6 @@ const DROPPED: [(u32, &[u8]); 10] = [
     ),
     (
         8,
-        b"ticket 1\nbound 1 run 1\nacted\nacted\nacted\nacted step 1\nacted step 1 over\nreply 1 value 7\n== tables\ndropped\n== book\nstart 1 f 7\nstep 1\nstep 1\n",
-    ),
-    (
-        9,
-        b"ticket 1\nbound 1 run 1\nacted\nacted\nacted\nacted step 1\nacted step 1 over\nreply 1 value 7\n== tables\ndropped\n== book\nstart 1 f 7\nstep 1\nstep 1\n",
-    ),
-    (
-        10,
         b"ticket 1\nbound 1 run 1\nacted\nacted\nacted\nacted step 1\nacted step 1 over\nreply 1 value 7\n== tables\ndropped\n== book\nstart 1 f 7\nstep 1\nstep 1\n",
     ),
 ];
@@ -142,90 +107,5 @@ fn short_reads_and_writes_go_on(rt: HostRuntime) -> Result<(), Fail> {
     let alloc = rt.alloc();
     assert!(rt; bytes_end(alloc, 1_000, 0, WHOLE)?);
     assert!(rt; bytes_end(alloc, 9, 4, b"ticket 1\n")?);
-    Ok(())
-}
-
-// Readings among the events.
-const READINGS: &[u8] =
-    b"life 1000; function f(x) { table t; write t[\"k\"] = x; return x; } script\nticket\nrequest 1 f 7\nreply 1\nturn 1 4\ntables\nbook\nturn 1\nreply 1\nreply 2\n";
-
-// What is written where this call of the table fails; none has the number 99.
-const READ: [(u32, &[u8]); 4] = [
-    (
-        99,
-        b"ticket 1\nbound 1 run 1\nreply 1 waiting\nacted\nacted\nacted\nacted step 1\n== tables\nf t \"k\" 7\n== book\nstart 1 f 7\nstep 1\nacted step 1 over\nreply 1 value 7\nreply 1 value 7\nreply 2 unknown\n== tables\nf t \"k\" 7\n== book\nstart 1 f 7\nstep 1\nstep 1\n",
-    ),
-    (
-        3,
-        b"ticket 1\nbound 1 run 1\ndropped\nacted\nacted\nacted\nacted step 1\n== tables\nf t \"k\" 7\n== book\nstart 1 f 7\nstep 1\nacted step 1 over\nreply 1 value 7\nreply 1 value 7\nreply 2 unknown\n== tables\nf t \"k\" 7\n== book\nstart 1 f 7\nstep 1\nstep 1\n",
-    ),
-    (
-        9,
-        b"ticket 1\nbound 1 run 1\nreply 1 waiting\nacted\nacted\nacted\nacted step 1\n== tables\ndropped\n== book\nstart 1 f 7\nstep 1\nacted step 1 over\nreply 1 value 7\nreply 1 value 7\nreply 2 unknown\n== tables\nf t \"k\" 7\n== book\nstart 1 f 7\nstep 1\nstep 1\n",
-    ),
-    (
-        12,
-        b"ticket 1\nbound 1 run 1\nreply 1 waiting\nacted\nacted\nacted\nacted step 1\n== tables\nf t \"k\" 7\n== book\nstart 1 f 7\nstep 1\nacted step 1 over\nreply 1 value 7\ndropped\nreply 2 unknown\n== tables\nf t \"k\" 7\n== book\nstart 1 f 7\nstep 1\nstep 1\n",
-    ),
-];
-
-#[test]
-fn readings_tell_their_moment(rt: HostRuntime) -> Result<(), Fail> {
-    let alloc = rt.alloc();
-    for (call, text) in &READ {
-        assert!(rt; source_ends(alloc, READINGS, (&[], &[], &[*call]), 0, text)?);
-    }
-    Ok(())
-}
-
-// Sources that are refused, and what is written.
-const REFUSED: [(&[u8], &[u8]); 12] = [
-    (b"life 1;\n\xff", b"refused line 2: utf8\n"),
-    (b"life 1;\nscript x", b"refused line 2: syntax\n"),
-    (b"life 1;\nroom 65537;", b"refused line 2: number\n"),
-    (
-        b"life 1;\nfunction f(x) { }\nfunction f(x) { }",
-        b"refused line 3: duplicate f\n",
-    ),
-    (
-        b"life 1;\nfunction f(x) { break; }",
-        b"refused line 2: break-outside f\n",
-    ),
-    (
-        b"life 1;\nfunction f(x) {\nabort; }",
-        b"refused line 3: unbuilt\n",
-    ),
-    (
-        b"life 1;\nfunction f(x) { } script\n# 3\nticket\nturn 1 0\n",
-        b"ticket 1\nrefused line 5: line\n",
-    ),
-    (
-        b"life 1;\nfunction f(x) { } script\nrequest 1 g 5",
-        b"refused line 3: unknown-function g\n",
-    ),
-    (
-        b"life 1;\nfunction f(x) { } script\nrequest 1 f [",
-        b"refused line 3: value\n",
-    ),
-    (
-        b"life 1;\nscript\nhalt\nticket\n",
-        b"refused line 3: unbuilt\n",
-    ),
-    (
-        b"life 1;\nfunction f(x) { } script\n\nrestart 1/2 f",
-        b"refused line 4: unbuilt\n",
-    ),
-    (
-        b"life 1;\nfunction f(x) { } script\n\nrestart 1 g",
-        b"refused line 4: unknown-function g\n",
-    ),
-];
-
-#[test]
-fn refusals_tell_line_and_cause(rt: HostRuntime) -> Result<(), Fail> {
-    let alloc = rt.alloc();
-    for (source, text) in &REFUSED {
-        assert!(rt; source_ends(alloc, source, (&[], &[], &[]), 5, text)?);
-    }
     Ok(())
 }

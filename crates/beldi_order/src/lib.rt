@@ -1,5 +1,15 @@
 //! What every run of the plain machine keeps, and how a legal book grows: by a change at its end, or by a read that belongs
 //! earlier. It has no code. It stands on the plain machine. Its definitions: `specs/Laws`.
+//!
+//! Proved:
+//! - In the linear order the changes stand in book order, and behind each number of changes the reads that belong
+//!   there, in book order (`linear_is_in_order`).
+//! - No item of the run of a legal book is kept as null: one that is null is absent (`null_is_absent`).
+//! - A change that is enabled at its end is the last: the longer book is legal, and what came before stands where it
+//!   stood (`changes_come_last`).
+//! - A read that belongs earlier, whose instance has not moved since, can be added at any time: the longer book is
+//!   legal, its state is that of the book with the read's answer, and so are the states from its place on
+//!   (`late_reads_belong`).
 #![tactic(auto)]
 
 mod laws;

@@ -1,6 +1,15 @@
 //! What the host meets outside: a source and a sink of bytes, a link to clients and a clock. Each counts its faults.
 //! It stands on std alone. Its definitions: `specs/Outside` (what each call does, and what a count says), `specs/Memory`
 //! (the objects in memory, which tell their bytes and fail at given calls).
+//!
+//! Proved:
+//! - `write_all` writes all bytes, or a front of them and the sink's count has risen (`bytes`, `cause`).
+//! - `read_all` and `read_up_to` give all bytes of the source, within their bound (`bytes`, `most`, `later`,
+//!   `failed`).
+//! - `StdSource` and `StdSink` hand on what the reader and writer below them do, and count each of their errors
+//!   (`given`, `handed`, `counts`).
+//! - The source and the sink in memory do exactly what their definitions say (`exact`); the closed link refuses or
+//!   fails each call but `close`, and the clock in memory tells the next moment.
 #![tactic(auto)]
 
 mod memory;
@@ -12,6 +21,3 @@ pub use memory::{ClosedLink, MemClock, MemSink, MemSource};
 pub use real::{StdSink, StdSource};
 pub use traits::{Clock, Failed, Link, Sink, Source};
 pub use transfer::{MAX_SOURCE, ReadErr, read_all, read_up_to, write_all};
-
-#[cfg(test)]
-mod tests;

@@ -3,6 +3,12 @@
 //! It stands on `beldi_lang` and `beldi_book`. Its definitions: `specs/Plain` (the plain state, its step, the enabled
 //! entry and the state after it), `specs/Item` (an item and its order), `specs/Legal` (the legal book and its run),
 //! `specs/Listing` (the listing of a plain state) and `specs/Answers` (what a call answers, and what bars an entry).
+//!
+//! Proved:
+//! - `Plain::start` and `carry_out` succeed just where the entry is enabled, and else say what bars it and change
+//!   nothing (`Did`); `step` makes the next step of an instance, whatever it is (`DidStep`).
+//! - `Plain::run` runs a book in its linear order, or stops at the first entry that is not enabled (`Ran`).
+//! - `reply`, `value` and `tables` read its state (`reply_of`, `value_at`; `ok`, `err`).
 #![tactic(auto)]
 
 mod instance;
@@ -11,7 +17,5 @@ mod item;
 mod items;
 mod kind;
 mod plain;
-#[cfg(test)]
-mod tests;
 
 pub use plain::{Bar, Plain, PlainErr};

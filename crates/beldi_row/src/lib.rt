@@ -4,6 +4,19 @@
 //! words of the trait's contract: what an act leaves, when it is refused, which row is the next), `specs/Asked` (a call
 //! that makes one act). `proofs/Rows`, `proofs/Gets`, `proofs/Logs`, `proofs/Tells`, `proofs/Unchanged` and `proofs/Asked`
 //! have lemmas that the crates above cite.
+//!
+//! Proved:
+//! - `apply`, `made` and `missing` are the act table, and `tell` gives the answer that a change stands for (`Changes`,
+//!   `off`, `said_by`).
+//! - `Log::find` finds the note of a place (`is`, `note`).
+//! - Keys compare by a total order.
+//! - The row after a key is the least of a greater key (`next_row_is_least`).
+//! - The trait `Table` says what a table owes.
+//! - Contracts see one state of it (`TableState`): its rows, where it tells them, its failures, its room, and its
+//!   calls, where it counts them.
+//! - `len` tells the number of rows, 4,294,967,295 where there are more (`IsCount`), `ready` sets the room
+//!   (`Readied`), `act` carries out an act (`acts`), `next` finds the row after (`went`); `act` and `next` count one
+//!   call, `ready` none.
 #![tactic(auto)]
 
 mod act;
@@ -12,8 +25,6 @@ mod laws;
 mod notes;
 mod row;
 mod table;
-#[cfg(test)]
-mod tests;
 
 pub use act::{Act, Change, Said, apply, made, missing, tell};
 pub use key::{Kind, RowKey, copy_owner};

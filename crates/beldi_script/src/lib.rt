@@ -2,14 +2,21 @@
 //! It stands on `beldi_value` (numbers, ids and values) and `beldi_tree` (the functions that a line can name).
 //! Its definitions: `specs/Cut` (a text cut into lines), `specs/Words` (the words of a line, and the lines of numbers),
 //! `specs/Line` (what a line says, or why it is refused) and `specs/Text` (the text of a line, and that it is read again).
+//!
+//! Proved:
+//! - `read_line` reads just the lines that have one of the forms, and tells the first cause in its order why a line
+//!   has none (`Reads (line_at ..)`).
+//! - `write_line` writes a line (`ok`, `err`), and where the names of the functions are words and differ, a line that
+//!   was written, within the limits of its form, is read as it was (`line_is_read_again`).
+//! - `cut_line` takes the first line off a text that is not empty (`lines`, `shorter`); lines without newlines in
+//!   them, nor a carriage return at their end, that are put after one another are cut into just these
+//!   (`lines_are_cut`).
 #![tactic(auto)]
 
 mod cut;
 mod laws;
 mod line;
 mod reading;
-#[cfg(test)]
-mod tests;
 mod words;
 mod writing;
 

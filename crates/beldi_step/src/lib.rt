@@ -4,6 +4,14 @@
 //! intent), `specs/Turn` (calls that make a turn), `specs/Host` (the host without its table, and one event as a relation
 //! between the host and the rows before and after; and what is so over every table) and `specs/Tables` (the listing of
 //! the rows).
+//!
+//! Proved:
+//! - `issue`, `bind`, `open_body` and `end` make one act on the row of an intent, and answer by what it told
+//!   (`Asked`).
+//! - `Run::turn` makes one act, and goes where the definition of a run goes; where memory was wanting after the act,
+//!   the error tells the act's entry; where the table has no room the run stands, whatever the table tells (`Ran`).
+//! - Each of these makes at most one call of the table (`calls` in `Asked` and `Ran`).
+//! - What one event does is defined here.
 #![tactic(auto)]
 
 mod event;

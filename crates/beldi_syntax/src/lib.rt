@@ -3,6 +3,13 @@
 //! Its definitions: `specs/Lexer` (tokens on bytes), `specs/Phrase` (what is read off the front of the tokens, or the line
 //! and the cause of a refusal), `specs/Operators`, `specs/Expressions`, `specs/Statements` and `specs/Deployments` (the
 //! grammar, phrase by phrase, and what a text is read as), and `specs/Grammar` (the grammar as a relation).
+//!
+//! Proved:
+//! - `read_deployment` reads just the texts of the grammar, as the deployment that they say, refuses the others with
+//!   the line and the cause of the definition, and finds where the script begins (`ReadsText (parsed_at ..)`).
+//! - The definition reads phrase by phrase; the grammar is also a relation, with a rule for each alternative: what is
+//!   read is of that grammar (`accepts_the_grammar`), and a text that is refused for its form is refused at the first
+//!   token such that no deployment begins with the tokens up to it (`refuses_first`).
 #![tactic(auto)]
 
 mod deployments;
@@ -13,8 +20,6 @@ mod operators;
 mod reading;
 mod refusal;
 mod statements;
-#[cfg(test)]
-mod tests;
 mod token;
 mod tokens;
 

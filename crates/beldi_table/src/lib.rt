@@ -1,12 +1,15 @@
 //! Two tables: `MapTable`, over an ordered map in memory, and `FailingTable`, which fails the calls that it is told to.
 //! It stands on `beldi_row`. Its definitions: `specs/MapTable` (what a change leaves of the rows), `specs/FailingTable`
 //! (which calls fail).
+//!
+//! Proved:
+//! - `MapTable` and `FailingTable` keep the contract of the trait.
+//! - `FailingTable` fails a call of the numbers that it is given, counted from 0, and no other (`told` of `act` and
+//!   `next`); each raises its number by one (`acts`, `went`), until that stands at its end.
 #![tactic(auto)]
 
 mod failing_table;
 mod map_table;
-#[cfg(test)]
-mod tests;
 
 pub use failing_table::FailingTable;
 pub use map_table::MapTable;

@@ -2,6 +2,14 @@
 //! It stands on `beldi_value`. Its definitions: `specs/Term` and `specs/Command` (what an expression and a statement stand
 //! for, by `specs/Expr` and `specs/Statement`), `specs/Names` (what names mean), `specs/Evaluate` (the value of an expression
 //! or its fault, by recursion on the expression) and `specs/Steps` (the same along a chain of operators).
+//!
+//! Proved:
+//! - `evaluate` gives the value of an expression, or its first fault: the definition by recursion on the syntax, with
+//!   every operator, its faults in the order of evaluation, and the limits of results (`Evaluates (value_at ..)`);
+//!   `key_at` gives a cell's key, a text of at most 256 bytes.
+//! - `Funcs::place` and `TableHeads::place` give the first place of a name (`func_place`, `table_place`),
+//!   `Deployment::func_at` the function of a number (`func_at`), and `write_func` its name or, where there is none of
+//!   it, the number (`ok`, `err`).
 #![tactic(auto)]
 
 mod block;
@@ -20,8 +28,3 @@ pub use fault::EvalErr;
 pub use operators::truth;
 pub use parts::{Chain, Exprs, Members};
 pub use variables::Variables;
-
-#[cfg(test)]
-mod cases;
-#[cfg(test)]
-mod tests;

@@ -163,13 +163,6 @@ impl Chain {
         self.more.push(step)?;
         Ok(())
     }
-
-    /// The expression, the first step from its value on, and the others.
-    pub fn parts(&self) -> (&Expr, &Step, &[Step])
-        ensures { chained (applied (term_of result.0.now) result.1.now) result.2.now ≡ self.now }
-    {
-        (&self.first, &self.next, self.more.as_slice())
-    }
 }
 
 impl Expr {

@@ -6,6 +6,25 @@
 //! operand), `specs/Id` (the order of ids), `specs/IdAt` (the id that a text is), `specs/Cut` (a text cut at a byte),
 //! `specs/Number` (numbers in decimal), `specs/Text` (the texts of ids, places, owners and outcomes), `specs/Laws` (what
 //! holds of them). `proofs/Maps` has lemmas on maps that the crates above cite.
+//!
+//! Proved:
+//! - Copies are equal; `Value::is_same` is equality.
+//! - The texts of values, ids, places, owners and outcomes are those of the definitions, and after want of memory the
+//!   text is as before (`ok`, `err` of `Value::write_json`, `IntentId::write`, `Place::write`, `Owner::write`,
+//!   `Outcome::write`).
+//! - Numbers are read exactly (`number_at`, `numeral_at`, `int_at` of `read_number`, `read_numeral`, `read_int`).
+//! - `Value::read_json` gives the value that the bytes are in JSON, or the first cause in its order why they are none:
+//!   each cause exactly where it holds (`read`, by `read_of`); what it gives is within the limits, 32 levels and 4,096
+//!   bytes of canonical text (`within`), and the canonical text of a value within them is read as that value again
+//!   (`text_is_read_again`).
+//! - `IntentId::read` reads just the texts of ids (`ReadsId`); an id has one text, and no other is read as it
+//!   (`id_text_is_exact`).
+//! - `Value::passes` is equality, or the order of two whole numbers or two texts (`passes`); `Value::is_within` tests
+//!   the limits without memory.
+//! - Parts of lists and records are those of the definitions (`Values::at`, `push`, `Rec::get`, `set`).
+//! - `older` is the order of ages (`is_older`), which is total (`ages_are_ordered`); a whole number has one text, and
+//!   no other text is read as it, and so has a number without a sign or zeros in front (`int_text_is_exact`,
+//!   `numeral_text_is_exact`).
 #![tactic(auto)]
 
 mod canonical;
@@ -42,8 +61,3 @@ pub use rel::Rel;
 pub use std::alloc::AllocError as OutOfMemory;
 pub use text::Str;
 pub use value::{Rec, Value, Values};
-
-#[cfg(test)]
-mod reading_tests;
-#[cfg(test)]
-mod tests;

@@ -1,0 +1,213 @@
+// Calls that the program does not make, each where memory is ample: that it is wanting, no contract rules out.
+use beldi_book::{Book, Entry};
+use beldi_core::Host;
+use beldi_daal::{CellOp, Item, ReadSays, ReadWalk, WriteSays, WriteWalk};
+use beldi_lang::Deployment;
+use beldi_outside::{Clock, ClosedLink, Failed, Link, MemClock, MemSource, read_up_to};
+use beldi_plain::{Bar, Plain, PlainErr};
+use beldi_readlog::{get, put_once};
+use beldi_row::Table;
+use beldi_script::{read_line, write_line};
+use beldi_step::{Binding, Event, bind, end, issue};
+use beldi_syntax::read_deployment;
+use beldi_table::MapTable;
+use beldi_value::{IntentId, Outcome, Owner, Place, Rel, Str, Value, older, read_int};
+use std::alloc::Global;
+use std::test::Fail;
+
+const CODE: &[u8] =
+    b"life 9; function f(x) { table t; read v = t[\"k\"]; write t[\"k\"] = x; return v; }";
+
+fn deployment(alloc: Global) -> Result<Deployment, Fail> {
+    Ok(read_deployment(alloc, CODE)?.code)
+}
+
+#[test]
+fn ids_and_values(rt: HostRuntime) -> Result<(), Fail> {
+    let alloc = rt.alloc();
+    let root = IntentId::root(alloc, 7);
+    let child = root.child(alloc, 3)?;
+    assert!(rt; older(&root, &child) && !older(&child, &root));
+    let owner = Owner::Intent(child);
+    let mut text = Str::new(alloc);
+    owner.age().write(alloc, &mut text)?;
+    owner.write(alloc, &mut text)?;
+    assert_eq!(rt; text.as_str(), "7/3intent 7/3");
+    assert_eq!(rt; read_int(b"-5"), Some(-5));
+    assert!(rt; Value::Int(1).passes(Rel::Lt, &Value::Int(2)));
+    Ok(())
+}
+
+#[test]
+fn a_line_is_written(rt: HostRuntime) -> Result<(), Fail> {
+    let alloc = rt.alloc();
+    let code = deployment(alloc)?;
+    let line = read_line(alloc, &code, b"request 1 f {\"a\": 2}")?;
+    let mut text = Str::new(alloc);
+    write_line(alloc, &code, &line, &mut text)?;
+    assert_eq!(rt; text.as_str(), "request 1 f {\"a\":2}");
+    Ok(())
+}
+
+fn entered(book: &mut Book, entry: Entry) -> Result<(), Fail> {
+    book.reserve()?;
+    book.push(entry);
+    Ok(())
+}
+
+// A start of the function f by a ticket, and a read and two steps of it. The read had seen so many changes.
+fn add_request(
+    alloc: Global,
+    book: &mut Book,
+    ticket: u32,
+    args: Value,
+    seen: u64,
+) -> Result<(), Fail> {
+    let func = 1;
+    entered(book, Entry::Start { ticket, func, args })?;
+    for _ in 0..2 {
+        let id = IntentId::root(alloc, ticket);
+        entered(book, Entry::Step { id })?;
+    }
+    let id = IntentId::root(alloc, ticket);
+    entered(book, Entry::Read { id, seen })
+}
+
+#[test]
+fn a_book_is_carried_out(rt: HostRuntime) -> Result<(), Fail> {
+    let alloc = rt.alloc();
+    let code = deployment(alloc)?;
+    let mut book = Book::new(alloc);
+    add_request(alloc, &mut book, 1, Value::Int(5), 1)?;
+    add_request(alloc, &mut book, 2, Value::Int(6), 4)?;
+    assert!(rt; book.len() == 8 && matches!(book.get(7), Some(Entry::Read { seen: 4, .. })));
+    let mut text = Str::new(alloc);
+    book.linear(alloc)?.write(alloc, &code, &mut text)?;
+    assert_eq!(rt;
+        text.as_str(),
+        "start 1 f 5\nread 1 1\nstep 1\nstep 1\nstart 2 f 6\nread 2 4\nstep 2\nstep 2\n"
+    );
+    let mut plain = Plain::new(alloc);
+    plain.run(&code, &book)?;
+    let key = Str::from_text(alloc, "k")?;
+    assert!(rt; matches!(plain.value(1, 0, &key), Value::Int(6)));
+    assert!(rt; matches!(plain.reply(2), Some(Outcome::Value(Value::Int(5)))));
+    let mut text = Str::new(alloc);
+    plain.tables(&code, &mut text)?;
+    assert_eq!(rt; text.as_str(), "f t \"k\" 6\n");
+    plain.start(3, 1, Value::Null)?;
+    let id = IntentId::root(alloc, 3);
+    plain.step(&code, &id)?;
+    plain.carry_out(&code, &Entry::Step { id })?;
+    let id = IntentId::root(alloc, 1);
+    assert_eq!(rt;
+        plain.step(&code, &id),
+        Err(PlainErr::NotEnabled(Bar::Over))
+    );
+    Ok(())
+}
+
+fn item(alloc: Global) -> Result<Item, Fail> {
+    let key = Str::from_text(alloc, "k")?;
+    Ok(Item::Plain { table: 0, key })
+}
+
+fn roomy(alloc: Global) -> Result<MapTable, Fail> {
+    let mut table = MapTable::new(alloc);
+    table.ready(&[9])?;
+    Ok(table)
+}
+
+fn place(alloc: Global) -> Place {
+    Place {
+        intent: IntentId::root(alloc, 1),
+        step: 0,
+    }
+}
+
+#[test]
+fn an_item_is_written_and_read(rt: HostRuntime) -> Result<(), Fail> {
+    let alloc = rt.alloc();
+    let mut table = roomy(alloc)?;
+    let op = CellOp::Write(Value::Int(7));
+    let mut write = WriteWalk::new(1, item(alloc)?, place(alloc), op);
+    let mut turns = 0;
+    for _ in 0..9 {
+        match write.turn(alloc, &mut table, 5)? {
+            WriteSays::Going => turns += 1,
+            WriteSays::Done { first, note: _ } => {
+                assert!(rt; first && turns == 2);
+                break;
+            }
+            WriteSays::Held(_) | WriteSays::Worn => return Err(Fail::new("held")),
+        }
+    }
+    let mut read = ReadWalk::new(1, item(alloc)?, None);
+    assert!(rt;
+        matches!(
+            read.turn(alloc, &mut table, 5)?,
+            ReadSays::Got(Some(Value::Int(7)))
+        )
+    );
+    Ok(())
+}
+
+#[test]
+fn logs_and_intents(rt: HostRuntime) -> Result<(), Fail> {
+    let alloc = rt.alloc();
+    let mut table = roomy(alloc)?;
+    let at = place(alloc);
+    assert!(rt; put_once(alloc, &mut table, 1, &at, Value::Int(7), 5)?.added);
+    assert!(rt; matches!(get(alloc, &mut table, 1, &at, 5)?, Some(Value::Int(7))));
+    assert!(rt; issue(alloc, &mut table, 1, 5)?);
+    assert!(rt;
+        matches!(
+            bind(alloc, &mut table, 1, 1, Value::Null, 5)?,
+            Binding::Bound
+        )
+    );
+    assert!(rt;
+        end(
+            &mut table,
+            IntentId::root(alloc, 1),
+            1,
+            Outcome::Value(Value::Null),
+            5
+        )?
+    );
+    Ok(())
+}
+
+#[test]
+fn a_host_tells_its_runs(rt: HostRuntime) -> Result<(), Fail> {
+    let alloc = rt.alloc();
+    let Ok(mut host) = Host::open(alloc, deployment(alloc)?, MapTable::new(alloc), 3) else {
+        return Err(Fail::new("refused"));
+    };
+    host.event(Event::Ticket)?;
+    let args = Value::Null;
+    host.event(Event::Request {
+        ticket: 1,
+        func: 1,
+        args,
+    })?;
+    assert_eq!(rt; host.next_run(0), Some(1));
+    assert_eq!(rt; host.now(), 3);
+    Ok(())
+}
+
+#[test]
+fn what_is_outside(rt: HostRuntime) -> Result<(), Fail> {
+    let alloc = rt.alloc();
+    let mut source = MemSource::new(b"0123".to_vec(alloc)?, Vec::new(alloc));
+    assert_eq!(rt; read_up_to(alloc, &mut source, 4)?.len(), 4);
+    let mut link = ClosedLink::new();
+    assert_eq!(rt; link.listen(8080), Err(Failed));
+    assert_eq!(rt; link.accept(), Err(Failed));
+    assert_eq!(rt; link.read(&mut [0; 4]), Err(Failed));
+    assert_eq!(rt; link.write(b"a"), Err(Failed));
+    link.close();
+    assert_eq!(rt; (link.refusals, link.faults), (2, 2));
+    assert_eq!(rt; MemClock::new([5].to_vec(alloc)?).now(), 5);
+    Ok(())
+}

@@ -1,0 +1,177 @@
+// The text of an answer.
+ghost use Rattle.std.specs.Prelude.{◌≡◌, ◌++◌, OnErr, OnOk, codes, string_bytes, IfOk};
+ghost use Rattle.std.specs.Fmt.{decimal};
+ghost use Rattle.beldi_value.specs.Json.{text_of};
+ghost use Rattle.beldi_value.specs.Value.{datum_of};
+ghost use Rattle.beldi_tree.specs.Names.{func_text};
+ghost use Rattle.beldi_program.specs.Answer.{answer_text, numbered, outcome_line, ticket_line, entry_part, reply_part, over_part};
+ghost use Rattle.beldi_program.specs.Said.{reply_line};
+
+use beldi_book::Entry;
+use beldi_core::ReplySeen;
+use beldi_lang::Deployment;
+use beldi_step::Seen;
+use beldi_value::{Outcome, Str, Value};
+use std::alloc::{AllocError, Global};
+
+/// Appends the line of an answer, and a line for the reply that it gives, if any. After an `Err` the text is as before.
+pub fn write_answer(
+    alloc: Global,
+    code: &Deployment,
+    seen: &Seen,
+    out: &mut Str,
+) -> Result<(), AllocError>
+    ensures ok { OnOk result (out.new ≡ out.old ++ answer_text code.now seen.now) }
+    ensures err { OnErr result (out.new ≡ out.old) }
+{
+    match seen {
+        Seen::Issued(ticket) => write_numbered(alloc, "ticket ", u64::from(*ticket), out),
+        Seen::NoTicket => out.push_text("no-ticket\n"),
+        Seen::Bound { ticket, run } => {
+            let text = format!(in alloc; "bound {ticket} run {run}\n")?;
+            out.push_text(text.as_str())
+        }
+        Seen::Running(ticket) => write_numbered(alloc, "running ", u64::from(*ticket), out),
+        Seen::Replied { ticket, outcome } => write_outcome(alloc, "ended ", *ticket, outcome, out),
+        Seen::Other { ticket, func, args } => write_other(alloc, code, *ticket, *func, args, out),
+        Seen::Gone(ticket) => write_numbered(alloc, "gone ", u64::from(*ticket), out),
+        Seen::Unknown(ticket) => write_numbered(alloc, "unknown ", u64::from(*ticket), out),
+        Seen::Acted { entry, over, reply } => write_acted(alloc, code, entry, *over, reply, out),
+        Seen::Full { live, room } => {
+            let text = format!(in alloc; "full {live} {room}\n")?;
+            out.push_text(text.as_str())
+        }
+        Seen::Worn => out.push_text("worn\n"),
+        Seen::Crowded => out.push_text("crowded 1024\n"),
+        Seen::NoRun => out.push_text("no-run\n"),
+        Seen::RunOver => out.push_text("run-over\n"),
+        Seen::Dropped => out.push_text("dropped\n"),
+        Seen::Crashed => out.push_text("crashed\n"),
+        Seen::Started(run) => write_numbered(alloc, "run ", *run, out),
+        Seen::Spent => out.push_text("spent\n"),
+    }
+}
+
+/// Appends a word and a number, as a line. After an `Err` the text is as before.
+pub fn write_numbered(
+    alloc: Global,
+    word: &str,
+    number: u64,
+    out: &mut Str,
+) -> Result<(), AllocError>
+    ensures ok { OnOk result (out.new ≡ out.old ++ numbered word.now number) }
+    ensures err { OnErr result (out.new ≡ out.old) }
+{
+    let text = format!(in alloc; "{word}{number}\n")?;
+    out.push_text(text.as_str())
+}
+
+fn write_outcome(
+    alloc: Global,
+    word: &str,
+    ticket: u32,
+    outcome: &Outcome,
+    out: &mut Str,
+) -> Result<(), AllocError>
+    ensures ok { OnOk result (out.new ≡ out.old ++ outcome_line word.now ticket outcome.now) }
+    ensures err { OnErr result (out.new ≡ out.old) }
+{
+    let mut line = Str::from_string(format!(in alloc; "{word}{ticket} ")?);
+    outcome.write(alloc, &mut line)?;
+    line.push_text("\n")?;
+    out.push_text(line.as_str())
+}
+
+fn write_other(
+    alloc: Global,
+    code: &Deployment,
+    ticket: u32,
+    func: u16,
+    args: &Value,
+    out: &mut Str,
+) -> Result<(), AllocError>
+    ensures ok { OnOk result (out.new ≡ out.old ++ answer_text code.now (Seen.Other ticket func args.now)) }
+    ensures err { OnErr result (out.new ≡ out.old) }
+{
+    let mut line = Str::from_string(format!(in alloc; "other {ticket} ")?);
+    code.write_func(alloc, func, &mut line)?;
+    line.push_text(" ")?;
+    args.write_json(alloc, &mut line)?;
+    line.push_text("\n")?;
+    out.push_text(line.as_str())
+}
+
+fn write_acted(
+    alloc: Global,
+    code: &Deployment,
+    entry: &Option<Entry>,
+    over: bool,
+    reply: &Option<(u32, Outcome)>,
+    out: &mut Str,
+) -> Result<(), AllocError>
+    ensures ok { OnOk result (out.new ≡ out.old ++ answer_text code.now (Seen.Acted entry.now over reply.now)) }
+    ensures err { OnErr result (out.new ≡ out.old) }
+{
+    let mut lines = Str::from_text(alloc, "acted")?;
+    write_entry(alloc, code, entry, &mut lines)?;
+    lines.push_text(if over { " over" } else { "" })?;
+    lines.push_text("\n")?;
+    write_reply(alloc, reply, &mut lines)?;
+    out.push_text(lines.as_str())
+}
+
+fn write_entry(
+    alloc: Global,
+    code: &Deployment,
+    entry: &Option<Entry>,
+    out: &mut Str,
+) -> Result<(), AllocError>
+    ensures { OnOk result (out.new ≡ out.old ++ entry_part code.now entry.now) }
+{
+    match entry {
+        None => Ok(()),
+        Some(entry) => {
+            out.push_text(" ")?;
+            entry.write(alloc, code, out)
+        }
+    }
+}
+
+fn write_reply(
+    alloc: Global,
+    reply: &Option<(u32, Outcome)>,
+    out: &mut Str,
+) -> Result<(), AllocError>
+    ensures { OnOk result (out.new ≡ out.old ++ reply_part reply.now) }
+{
+    match reply {
+        None => Ok(()),
+        Some((ticket, outcome)) => write_outcome(alloc, "reply ", *ticket, outcome, out),
+    }
+}
+
+/// Appends the line of what a ticket's run gave. After an `Err` the text is as before.
+pub fn write_reply_seen(
+    alloc: Global,
+    ticket: u32,
+    seen: &ReplySeen,
+    out: &mut Str,
+) -> Result<(), AllocError>
+    ensures ok { OnOk result (out.new ≡ out.old ++ reply_line ticket seen.now) }
+    ensures err { OnErr result (out.new ≡ out.old) }
+{
+    match seen {
+        ReplySeen::Unknown => write_no_reply(alloc, ticket, "unknown", out),
+        ReplySeen::Gone => write_no_reply(alloc, ticket, "gone", out),
+        ReplySeen::Waiting => write_no_reply(alloc, ticket, "waiting", out),
+        ReplySeen::Reply(outcome) => write_outcome(alloc, "reply ", ticket, outcome, out),
+    }
+}
+
+fn write_no_reply(alloc: Global, ticket: u32, why: &str, out: &mut Str) -> Result<(), AllocError>
+    ensures ok { OnOk result (out.new ≡ out.old ++ ticket_line (codes "reply ") ticket why.now) }
+    ensures err { OnErr result (out.new ≡ out.old) }
+{
+    let text = format!(in alloc; "reply {ticket} {why}\n")?;
+    out.push_text(text.as_str())
+}
