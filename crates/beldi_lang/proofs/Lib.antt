@@ -2,3 +2,5 @@ pub mod Blocks
 pub mod Goes
 pub mod Resumes
 pub mod Spends
+pub mod SameWants
+pub mod Occurs

@@ -1,14 +1,17 @@
 //! Bodies: what a body wants, and the machine that runs one.
 //! It stands on `beldi_tree`, whose deployments it takes and passes on. Its definitions: `specs/Wants` (what a body wants
-//! after these answers, by recursion on its statements), `specs/Machine` (the machine after these answers, and one answer
-//! further) and `specs/Locks`.
+//! after these answers, by recursion on its statements), `specs/Runs` (how the machine runs a body, and goes on from a place),
+//! `specs/Machine` (the machine after these answers, and one answer further) and `specs/Locks`.
 //!
 //! Proved:
-//! - What a body wants after these answers is a definition by recursion on its statements, over the whole language:
-//!   transactions, also inherited ones, aborts, loops, locks that are released before the return, the count of 10,000.
-//! - `Machine::new` and `Machine::resume` make the machine's steps (`begun`; `resumed`), and a machine that stood
-//!   where the answers so far lead, at an effect that wants an answer, stands there after one more: its effect is the
-//!   one that the body wants, and its steps are the number of the answers (`stands`).
+//! - What a body wants after these answers is a definition by recursion on its statements alone, from the first one each
+//!   time, over the whole language: transactions, also inherited ones, aborts, loops, locks that are released before the
+//!   return, the count of 10,000 (`specs/Wants`). It knows no place where a machine stands.
+//! - A machine that stands where the answers so far lead wants what the body wants (`wants` of `Machine::wants`), its steps
+//!   are the number of these answers (`number` of `Machine::steps`), and it is inside a transaction just where the body is
+//!   (`Machine::is_inside`).
+//! - `Machine::new` stands where no answers lead (`begun`), and `Machine::resume`, at an effect that wants an answer, where
+//!   one more leads (`resumed`, `stands`).
 #![tactic(auto)]
 
 mod effect;
