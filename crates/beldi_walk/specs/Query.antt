@@ -1,0 +1,73 @@
+-- What is asked of a table, what it tells, and what a query came to.
+use Rattle.std.specs.Prelude.{◌≡◌, ℕ, ◌<◌, Bool, true, false, IsTrue, Option, Result, Ok, Err}
+use Rattle.std.specs.FinMap as map
+use Rattle.beldi_row.specs.declared.key.RowKey.{RowKey}
+use Rattle.beldi_row.specs.declared.row.Row.{Row}
+use Rattle.beldi_row.specs.declared.act.Act.{Act}
+use Rattle.beldi_row.specs.declared.table.TableErr.{TableErr}
+use Rattle.beldi_row.specs.declared.table.TableErr.TheVariants.{OutOfMemory, Failed, Full}
+use Rattle.beldi_row.specs.Act.{Tell, here, other, ended, kept, noted, held, tell_of, act}
+use Rattle.beldi_row.specs.Table.{Rows, TableState, after_act, tell_act, adds, Refused, Tells, HasCause, AtMostOne, next_row, entry_of}
+use Rattle.beldi_walk.specs.declared.query.Query.{Query}
+use Rattle.beldi_walk.specs.declared.query.Query.TheVariants as query
+use Rattle.beldi_walk.specs.declared.query.Heard.{Heard}
+use Rattle.beldi_walk.specs.declared.query.Heard.TheVariants as heard
+
+-- what a table told, without where it lies in memory
+pub data Told : Type 0 where
+  said : Tell → Told
+  found : Option (RowKey × Row) → Told
+
+abbrev pub told_of : Heard → Told
+told_of (heard.Said s) = said (tell_of s)
+told_of (heard.Found e) = found (entry_of e)
+
+-- the rows after a query
+abbrev pub rows_after : Query → ℕ → Rows → Rows
+rows_after (query.Act k a) now m = after_act a now k m
+rows_after (query.After k) now m = m
+
+-- what it tells
+abbrev pub told_by : Query → ℕ → Rows → Told
+told_by (query.Act k a) now m = said (tell_act a now k m)
+told_by (query.After k) now m = found (next_row m k)
+
+abbrev pub query_adds : Query → ℕ → Rows → Bool
+query_adds (query.Act k a) now m = adds a now k m
+query_adds (query.After k) now m = false
+
+abbrev pub RefusedBy : Query → ℕ → ℕ → Rows → Rows → TableErr → Type 0
+RefusedBy (query.Act k a) now room m n e = Refused a now k room m n e
+RefusedBy (query.After k) now room m n OutOfMemory = n ≡ m
+RefusedBy (query.After k) now room m n Failed = n ≡ m
+RefusedBy (query.After k) now room m n (Full live most) = ⊥
+
+-- what a query came to, over rows that are told
+abbrev pub CameOn : Query → ℕ → ℕ → Result Told TableErr → Rows → Rows → Type 0
+CameOn q now room (Ok t) m n = (n ≡ rows_after q now m) × (t ≡ told_by q now m) × (IsTrue (query_adds q now m) → map.len m < room)
+CameOn q now room (Err e) m n = RefusedBy q now room m n e
+
+-- a query of a table came to this: it told so, or it was refused. Where memory was wanting before, no call was made.
+pub record Came (q : Query) (now : ℕ) (w : Result Told TableErr) (old new : TableState) : Type 0 where
+  pub rows : Tells old.rows new.rows (λ m n. CameOn q now old.room w m n)
+  pub cause : HasCause old.faults new.faults w
+  pub room : new.room ≡ old.room
+  pub calls : AtMostOne old.calls new.calls
+
+-- ---- what lies in a row was lent
+abbrev pub lent : Tell → Bool
+lent (here r) = true
+lent (other b) = true
+lent (ended o) = true
+lent (kept v) = true
+lent (noted n) = true
+lent (held o) = true
+lent t = false
+
+abbrev pub lends : Told → Bool
+lends (said t) = lent t
+lends (found e) = true
+
+-- an act that lends what lies in the row has left it as it was
+abbrev pub LentStands : Type 0
+LentStands = (a : Act) (now : ℕ) (r : Option Row) → lent (act a now r).1 ≡ true → (act a now r).0 ≡ r

@@ -1,0 +1,26 @@
+-- One turn of a walk.
+use Rattle.std.specs.Prelude.{◌≡◌, ℕ, true, Result, Ok, Err}
+use Rattle.beldi_row.specs.declared.table.TableErr.{TableErr}
+use Rattle.beldi_row.specs.declared.table.TableErr.TheVariants.{OutOfMemory}
+use Rattle.beldi_row.specs.Table.{TableState, Tells}
+use Rattle.beldi_walk.specs.declared.query.Query.{Query}
+use Rattle.beldi_walk.specs.Query.{Told, Came, lends}
+
+-- by what its query came to: the walk is moved and says so, or else it stands where it stood
+abbrev pub Heeds : {W X : Type 0} → (Told → W) → (Told → X) → W → W → Result X TableErr → Result Told TableErr → Type 0
+Heeds f g w x (Ok s) (Ok t) = (x ≡ f t) × (s ≡ g t)
+Heeds f g w x (Ok s) (Err v) = ⊥
+Heeds f g w x (Err e) (Ok t) = (x ≡ w) × (e ≡ OutOfMemory) × (lends t ≡ true)
+Heeds f g w x (Err e) (Err v) = (x ≡ w) × (e ≡ v)
+
+-- one witness: what the query came to
+abbrev pub Turned : {W X : Type 0} → Query → ℕ → (Told → W) → (Told → X) → W → W → TableState → TableState → Result X TableErr → Type 0
+Turned q now f g w x old new result = (t : Result Told TableErr) × Heeds f g w x result t × Came q now t old new
+
+-- a call that makes one query, and answers by what it told
+abbrev pub Answered : {X : Type 0} → Query → ℕ → (Told → X) → TableState → TableState → Result X TableErr → Type 0
+Answered q now g old new result = (t : Result Told TableErr) × Heeds (λ t. tt {0}) g (tt {0}) (tt {0}) result t × Came q now t old new
+
+-- after an error of a turn the rows are as before
+abbrev pub ErrorsLeaveRows : {W X : Type 0} → (W → Query) → (W → Told → W) → (W → Told → X) → Type 0
+ErrorsLeaveRows {W} asks next says = (w x : W) (now : ℕ) (e : TableErr) (old new : TableState) → Turned (asks w) now (next w) (says w) w x old new (Err e) → Tells old.rows new.rows (λ m n. n ≡ m)
