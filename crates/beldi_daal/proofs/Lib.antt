@@ -1,3 +1,1 @@
 mod Logged
-pub mod ReadTurn
-pub mod Turn

@@ -1,6 +1,6 @@
 -- A chain is a logged cell: a turn of a walk leaves the content of every item as it is, but for its own operation, which has
 -- one effect at its place, however many walks there are for it.
-use Rattle.std.specs.Prelude.{◌≡◌, ℕ, Bool, true, false, [], ◌∷◌, ◌++◌, Option, Some, None, Ok}
+use Rattle.std.specs.Prelude.{◌≡◌, ℕ, Bool, true, false, [], ◌∷◌, ◌++◌, Option, Some, None, Result, Ok, Err}
 use Rattle.std.specs.FinMap as map
 use Rattle.std.specs.Ordering.{is_eq}
 use Rattle.beldi_value.specs.declared.place.Owner.{Owner}
@@ -11,7 +11,10 @@ use Rattle.beldi_row.specs.declared.notes.Note.TheVariants.{Wrote}
 use Rattle.beldi_row.specs.Act.{other_owner}
 use Rattle.beldi_row.specs.Key.{key_cmp}
 use Rattle.beldi_row.specs.Log.{note_at}
-use Rattle.beldi_row.specs.Table.{Rows}
+use Rattle.beldi_row.specs.declared.table.TableErr.{TableErr}
+use Rattle.beldi_row.specs.declared.table.TableErr.TheVariants.{OutOfMemory, Failed, Full}
+use Rattle.beldi_row.specs.Table.{Rows, TableState, Tells}
+use Rattle.beldi_walk.specs.Walk.{Turned}
 use Rattle.beldi_daal.specs.declared.walk.CellOp.{CellOp}
 use Rattle.beldi_daal.specs.declared.walk.CellOp.TheVariants.{Write}
 use Rattle.beldi_daal.specs.declared.walk.WriteSays.{WriteSays}
@@ -21,8 +24,9 @@ use Rattle.beldi_daal.specs.declared.read_walk.ReadWalk.{ReadWalk}
 use Rattle.beldi_daal.specs.declared.read_walk.ReadSays.{ReadSays}
 use Rattle.beldi_daal.specs.declared.read_walk.ReadSays.TheVariants as reading
 use Rattle.beldi_daal.specs.Content.{Content, content_in, SoundAt}
-use Rattle.beldi_daal.specs.ReadWalk.{ReadOn, read_key, in_the_way}
-use Rattle.beldi_daal.specs.Walk.{TurnedOn, walk_key}
+use Rattle.beldi_daal.specs.Cell.{in_the_way}
+use Rattle.beldi_daal.specs.ReadWalk.{read_key, read_asks, read_next, read_says}
+use Rattle.beldi_daal.specs.Walk.{walk_key, walk_asks, walk_next, walk_says}
 
 -- ---- the walk of a write
 -- the content after an operation for a place
@@ -43,15 +47,17 @@ Logs p op (Held o) c d = (note_at c.notes p ≡ None) × (other_owner (owner.Int
 Logs p op Going c d = d ≡ c
 Logs p op Worn c d = d ≡ c
 
--- a turn of a walk whose item's chain is sound
+-- what a turn of a walk leaves, where its item's chain is sound
 pub record LoggedTurn (w : WriteWalk) (m n : Rows) (s : WriteSays) : Type 0 where
   -- all other rows are as before
   pub others : (k : RowKey) → is_eq (key_cmp k (walk_key w)) ≡ false → map.get n k ≡ map.get m k
   pub logs : Logs w.place w.op s (content_in (map.get m (walk_key w))) (content_in (map.get n (walk_key w)))
   pub sound : SoundAt (map.get n (walk_key w))
 
+-- for every turn that says something, over every table that tells its rows
 abbrev pub WritesAreLogged : Type 0
-WritesAreLogged = (w x : WriteWalk) (now room : ℕ) (m n : Rows) (s : WriteSays) → SoundAt (map.get m (walk_key w)) → TurnedOn w x now room m n (Ok s) → LoggedTurn w m n s
+WritesAreLogged = (w x : WriteWalk) (now : ℕ) (old new : TableState) (s : WriteSays) → Turned (walk_asks w) now (walk_next w) (walk_says w) w x old new (Ok s)
+    → Tells old.rows new.rows (λ m n. SoundAt (map.get m (walk_key w)) → LoggedTurn w m n s)
 
 -- ---- the walk of a read
 -- what it says is so of the content: the value, none where the item has no row; or the owner that is in the way
@@ -61,5 +67,12 @@ ReadsContent who (reading.Got (Some v)) c = (in_the_way who c.owner ≡ None) ×
 ReadsContent who (reading.Held o) c = in_the_way who c.owner ≡ Some o
 ReadsContent who reading.Going c = ⊥
 
+-- the rows are as before, and a Look adds none, so it is never refused as Full; what is said is so where the chain is sound
+abbrev pub ReadTurn : ReadWalk → Rows → Rows → Result ReadSays TableErr → Type 0
+ReadTurn w m n (Ok s) = (n ≡ m) × (SoundAt (map.get m (read_key w)) → ReadsContent w.who s (content_in (map.get m (read_key w))))
+ReadTurn w m n (Err OutOfMemory) = n ≡ m
+ReadTurn w m n (Err Failed) = n ≡ m
+ReadTurn w m n (Err (Full live most)) = ⊥
+
 abbrev pub ReadsAreContents : Type 0
-ReadsAreContents = (w : ReadWalk) (now : ℕ) (m n : Rows) (s : ReadSays) → SoundAt (map.get m (read_key w)) → ReadOn w now m n (Ok s) → (n ≡ m) × ReadsContent w.who s (content_in (map.get m (read_key w)))
+ReadsAreContents = (w x : ReadWalk) (now : ℕ) (old new : TableState) (r : Result ReadSays TableErr) → Turned (read_asks w) now (read_next w) (read_says w) w x old new r → Tells old.rows new.rows (λ m n. ReadTurn w m n r)

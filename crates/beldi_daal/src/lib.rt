@@ -1,24 +1,27 @@
-//! The walks over the rows of an item. It stands on `beldi_row`.
-//! Their definitions: `specs/Walk` (the act of each turn of a write's walk, and where the walk goes after what it was told),
-//! `specs/ReadWalk` (what a read's walk says of what it was told), `specs/Content` (what the rows of an item hold) and
+//! The walks over the rows of an item, and their parts, which runs share. It stands on `beldi_row` and `beldi_walk`.
+//! Their definitions: `specs/Cell` (what is asked of the rows of an item, and what follows from what is told), `specs/Walk`
+//! (the walk of a write), `specs/ReadWalk` (the walk of a read), `specs/Content` (what the rows of an item hold) and
 //! `specs/Logged` (that turns leave it as it is, but for one effect a place).
 //!
 //! Proved:
-//! - `WriteWalk::turn` makes one act, and goes where the definition of the walk goes after what the act told; unless
-//!   it goes on, the walk stands where it stood, whatever the table tells, and at an error the rows are as before
-//!   (`Turned`); where it is done it tells the note that is kept at the place, and whether this act made it.
-//! - `ReadWalk::turn` looks at one row, changes nothing, and says what the definition says (`ReadTurned`).
-//! - Each makes at most one call of the table (`calls` in both).
+//! - The parts say what the definitions say: what a write asks, and where a write and a read go after they were told
+//!   (`write_asks`, `write_goes`, `read_goes`); memory is wanting after a call only where what lies in a row was lent.
+//! - `WriteWalk::turn` and `ReadWalk::turn` ask what the definition asks, in at most one call of the table, and go and say by
+//!   what was told, whatever the table tells; unless a write's walk goes on, it stands where it stood, and so does every walk
+//!   at an error (`Turned`), which leaves the rows as before (`an_error_leaves_the_rows` of `beldi_walk`).
 //! - Laws: where an item's chain is sound, a turn of a write's walk leaves it sound, and leaves the content of every
-//!   item as it is, but for its own operation's effect, of which a place has one, however many walks there are for it
-//!   (`a_chain_is_a_logged_cell`); what a read's walk says is the content's value, or the owner that is in the way
+//!   item as it is, but for its own operation's effect, of which a place has one, however many walks there are for it; where
+//!   it is done it tells the note that is kept at the place, and whether this turn made it (`a_chain_is_a_logged_cell`). A
+//!   read's walk changes nothing, is never refused as `Full`, and says the content's value, or the owner that is in the way
 //!   (`a_read_gives_the_content`).
 #![tactic(auto)]
 
+mod cell;
 mod laws;
 mod read_walk;
 mod walk;
 
+pub use cell::{ReadGoes, WriteAt, WriteGoes, cell_key, read_told, write_query, write_told};
 pub use laws::{a_chain_is_a_logged_cell, a_read_gives_the_content};
 pub use read_walk::{ReadSays, ReadWalk};
-pub use walk::{CellOp, Item, WriteSays, WriteStage, WriteWalk};
+pub use walk::{CellOp, Item, WriteSays, WriteWalk};

@@ -1,11 +1,12 @@
-// The walk of a write: one act a turn.
-ghost use Rattle.std.specs.Prelude.{◌≡◌, true, IfOk, IfErr, OnErr};
-ghost use Rattle.beldi_row.specs.Act.{tell_of};
-ghost use Rattle.beldi_row.specs.declared.table.TableErr.TheVariants.{OutOfMemory};
-ghost use Rattle.beldi_daal.specs.Walk.{first_walk, first_key, made_note, op_act, walk_act, walk_next, is_lent, Turned};
+// The walk of a write, as a call of its own: one act a turn.
+ghost use Rattle.std.specs.Prelude.{◌≡◌, IfOk};
+ghost use Rattle.beldi_walk.specs.Walk.{Turned};
+ghost use Rattle.beldi_daal.specs.Walk.{first_walk, first_key, walk_asks, walk_next, walk_says};
 
-use beldi_row::{Act, Kind, Note, RowKey, Said, Table, TableErr, copy_owner};
+use crate::cell::{WriteAt, WriteGoes, cell_key, write_query, write_told};
+use beldi_row::{Note, RowKey, Table, TableErr};
 use beldi_value::{Owner, Place, Str, Value};
+use beldi_walk::{Heard, Query, Walk, turn};
 use std::alloc::{AllocError, Global};
 
 /// What a walk is on.
@@ -17,19 +18,11 @@ pub enum Item {
 
 impl Item {
     // The key of its first row, where this function has the item.
-    pub(crate) fn first_key(&self, alloc: Global, home: u16) -> Result<RowKey, TableErr>
-        ensures ok { IfOk result (λ k. k ≡ first_key home self.now) }
-        ensures err { IfErr result (λ e. e ≡ OutOfMemory) }
+    pub(crate) fn first_key(&self, alloc: Global, home: u16) -> Result<RowKey, AllocError>
+        ensures { IfOk result (λ k. k ≡ first_key home self.now) }
     {
         match self {
-            Item::Plain { table, key } => Ok(RowKey {
-                home,
-                kind: Kind::Data {
-                    table: *table,
-                    key: key.copy(alloc)?,
-                    row: 0,
-                },
-            }),
+            Item::Plain { table, key } => cell_key(alloc, home, *table, key),
         }
     }
 }
@@ -39,26 +32,6 @@ impl Item {
 pub enum CellOp {
     /// Sets the value.
     Write(Value),
-}
-
-impl CellOp {
-    // The note that it leaves.
-    fn note(&self) -> Note
-        ensures { result ≡ made_note self.now }
-    {
-        match self {
-            CellOp::Write(_) => Note::Wrote,
-        }
-    }
-}
-
-/// What a walk of a write does next.
-#[derive(Clone, Copy, Debug, PartialEq, Eq)]
-pub enum WriteStage {
-    /// The operation is tried next.
-    Try,
-    /// The item's first row is made next.
-    Make,
 }
 
 /// What a turn of a walk of a write says.
@@ -82,7 +55,41 @@ pub struct WriteWalk {
     item: Item,
     place: Place,
     op: CellOp,
-    stage: WriteStage,
+    at: WriteAt,
+}
+
+impl Walk for WriteWalk {
+    ghost use Rattle.beldi_daal.specs.Walk.{walk_asks, walk_next, walk_says};
+
+    type Says = WriteSays;
+
+    ghost asks = { walk_asks };
+
+    ghost next = { walk_next };
+
+    ghost says = { walk_says };
+
+    fn ask(&self, alloc: Global) -> Result<Query, AllocError> {
+        let key = self.item.first_key(alloc, self.home)?;
+        let place = self.place.copy(alloc)?;
+        let who = Owner::Intent(self.place.intent.copy(alloc)?);
+        match &self.op {
+            CellOp::Write(value) => {
+                Ok(write_query(key, place, who, value.copy(alloc)?, self.at))
+            }
+        }
+    }
+
+    fn told(&mut self, alloc: Global, heard: Heard<'_>) -> Result<WriteSays, AllocError> {
+        match write_told(alloc, heard)? {
+            WriteGoes::On(at) => {
+                self.at = at;
+                Ok(WriteSays::Going)
+            }
+            WriteGoes::Done { note, first } => Ok(WriteSays::Done { note, first }),
+            WriteGoes::Held(owner) => Ok(WriteSays::Held(owner)),
+        }
+    }
 }
 
 impl WriteWalk {
@@ -95,7 +102,7 @@ impl WriteWalk {
             item,
             place,
             op,
-            stage: WriteStage::Try,
+            at: WriteAt::Try,
         }
     }
 
@@ -108,68 +115,8 @@ impl WriteWalk {
         table: &mut T,
         now: u64,
     ) -> Result<WriteSays, TableErr>
-        ensures { Turned self.old self.new now (T.state table.old) (T.state table.new) result }
+        ensures { Turned (walk_asks self.old) now (walk_next self.old) (walk_says self.old) self.old self.new (T.state table.old) (T.state table.new) result }
     {
-        let key = self.item.first_key(alloc, self.home)?;
-        let act = self.act(alloc)?;
-        let said = table.act(key, act, now)?;
-        match self.told(alloc, said) {
-            Ok(says) => Ok(says),
-            Err(_) => Err(TableErr::OutOfMemory),
-        }
-    }
-
-    fn act(&self, alloc: Global) -> Result<Act, TableErr>
-        ensures ok { IfOk result (λ a. a ≡ walk_act self.now) }
-        ensures err { IfErr result (λ e. e ≡ OutOfMemory) }
-    {
-        match self.stage {
-            WriteStage::Try => self.operation(alloc),
-            WriteStage::Make => Ok(Act::MakeCell {
-                value: Value::Null,
-                owner: None,
-            }),
-        }
-    }
-
-    fn operation(&self, alloc: Global) -> Result<Act, TableErr>
-        ensures ok { IfOk result (λ a. a ≡ op_act self.now.place self.now.op) }
-        ensures err { IfErr result (λ e. e ≡ OutOfMemory) }
-    {
-        let place = self.place.copy(alloc)?;
-        let who = Owner::Intent(self.place.intent.copy(alloc)?);
-        match &self.op {
-            CellOp::Write(value) => Ok(Act::WriteCell {
-                place,
-                who,
-                value: value.copy(alloc)?,
-            }),
-        }
-    }
-
-    // A cell that a row follows is made by no walk yet: the walk stays.
-    fn told(&mut self, alloc: Global, said: Said<'_>) -> Result<WriteSays, AllocError>
-        ensures ok { IfOk result (λ s. (self.new, s) ≡ walk_next self.old (tell_of said.entry)) }
-        ensures err { OnErr result ((self.new ≡ self.old) × (is_lent (tell_of said.entry) ≡ true)) }
-    {
-        match said {
-            Said::NoRow => {
-                self.stage = WriteStage::Make;
-                Ok(WriteSays::Going)
-            }
-            Said::Did => Ok(WriteSays::Done {
-                note: self.op.note(),
-                first: true,
-            }),
-            Said::Noted(note) => Ok(WriteSays::Done {
-                note: note.copy(alloc)?,
-                first: false,
-            }),
-            Said::Held(owner) => Ok(WriteSays::Held(copy_owner(owner, alloc)?)),
-            _ => {
-                self.stage = WriteStage::Try;
-                Ok(WriteSays::Going)
-            }
-        }
+        turn(alloc, self, table, now)
     }
 }

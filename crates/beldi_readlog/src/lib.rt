@@ -1,12 +1,17 @@
-//! What reads were given, kept once a place. It stands on `beldi_row`.
-//! Its definitions: `specs/ReadLog` (what a place was given, by its row, and what the calls answer).
+//! What reads were given, kept once a place, and the parts of it that runs share. It stands on `beldi_row` and `beldi_walk`.
+//! Its definitions: `specs/ReadLog` (what a place was given, by its row; what is asked, and what is answered by what was told).
 //!
 //! Proved:
-//! - `get` gives the value that a read was given, none exactly where there is no row, and changes nothing (`gives`).
-//! - `put_once` keeps a value where none was, and gives the value that is kept, which stays (`once`).
-//! - Each makes one act, in at most one call of the table (`asks`).
+//! - `given_told` and `kept_told` answer by what was told as the definition says (`given_of`, `kept_of`), and `log_key` is the
+//!   key of a place.
+//! - `get` and `put_once` each ask one thing, in at most one call of the table, and answer so by what was told (`Answered`).
+//! - Laws: `get` gives the value that a read was given, none exactly where there is no row, and changes nothing
+//!   (`what_was_given_is_given`); `put_once` keeps a value where none was, and gives the value that is kept, which stays, and
+//!   at an error the rows are as before (`a_value_is_put_once`).
 #![tactic(auto)]
 
+mod laws;
 mod read_log;
 
-pub use read_log::{Kept, get, put_once};
+pub use laws::{a_value_is_put_once, what_was_given_is_given};
+pub use read_log::{Kept, get, given_told, kept_told, log_key, put_once};

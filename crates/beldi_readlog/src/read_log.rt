@@ -1,14 +1,12 @@
 // The value that a read was given, by its place. Each call makes one act.
-ghost use Rattle.std.specs.Prelude.{◌≡◌, true, IfOk, IfErr, OnErr};
-ghost use Rattle.beldi_row.specs.Act.{tell_of};
-ghost use Rattle.beldi_row.specs.Asked.{Asked};
-ghost use Rattle.beldi_row.specs.Table.{Tells};
-ghost use Rattle.beldi_row.specs.declared.act.Act.TheVariants as acts;
-ghost use Rattle.beldi_row.specs.declared.table.TableErr.TheVariants.{OutOfMemory};
-ghost use Rattle.beldi_readlog.specs.ReadLog.{log_key, given_of, kept_of, is_kept, Gives, PutsOnce};
+ghost use Rattle.std.specs.Prelude.{◌≡◌, true, IfOk, OnErr};
+ghost use Rattle.beldi_walk.specs.Query.{told_of, lends};
+ghost use Rattle.beldi_walk.specs.Walk.{Answered};
+ghost use Rattle.beldi_readlog.specs.ReadLog.{log_key as key_of, given_asks, given_of, keep_asks, kept_of, kept_so};
 
 use beldi_row::{Act, Kind, Row, RowKey, Said, Table, TableErr};
 use beldi_value::{Place, Value};
+use beldi_walk::{Heard, Query, Walk, turn};
 use std::alloc::{AllocError, Global};
 
 /// What a place has after a value was put there.
@@ -20,14 +18,74 @@ pub struct Kept {
     pub added: bool,
 }
 
-fn key_of(alloc: Global, home: u16, at: &Place) -> Result<RowKey, TableErr>
-    ensures ok { IfOk result (λ k. k ≡ log_key home at.now) }
-    ensures err { IfErr result (λ e. e ≡ OutOfMemory) }
+/// The key of what the read of the function `home` at a place was given.
+pub fn log_key(home: u16, at: Place) -> RowKey
+    ensures { result ≡ key_of home at }
 {
-    Ok(RowKey {
+    RowKey {
         home,
-        kind: Kind::ReadLog(at.copy(alloc)?),
-    })
+        kind: Kind::ReadLog(at),
+    }
+}
+
+/// The value that was given, after a Look; None exactly where no row was there. A row of another kind, which no session
+/// writes there, reads as null. Memory may be wanting only for what was lent.
+pub fn given_told(alloc: Global, heard: Heard<'_>) -> Result<Option<Value>, AllocError>
+    ensures ok { IfOk result (λ v. v ≡ given_of (told_of heard.entry)) }
+    ensures err { OnErr result (lends (told_of heard.entry) ≡ true) }
+{
+    match heard {
+        Heard::Said(Said::Row(Row::ReadLog(value))) => Ok(Some(value.copy(alloc)?)),
+        Heard::Said(Said::Row(_)) => Ok(Some(Value::Null)),
+        _ => Ok(None),
+    }
+}
+
+/// What a place has after `value` was put there: a copy of it, or of the value that was there before.
+pub fn kept_told(alloc: Global, value: &Value, heard: Heard<'_>) -> Result<Kept, AllocError>
+    ensures { IfOk result (λ k. k ≡ kept_of value.now (told_of heard.entry)) }
+{
+    match heard {
+        Heard::Said(Said::Added) => Ok(Kept {
+            value: value.copy(alloc)?,
+            added: true,
+        }),
+        Heard::Said(Said::Kept(there)) => Ok(Kept {
+            value: there.copy(alloc)?,
+            added: false,
+        }),
+        _ => Ok(Kept {
+            value: Value::Null,
+            added: false,
+        }),
+    }
+}
+
+// Looks for the value that a place was given.
+#[derive(Drop)]
+struct Given {
+    home: u16,
+    at: Place,
+}
+
+impl Walk for Given {
+    ghost use Rattle.beldi_readlog.specs.ReadLog.{look_asks, look_next, look_says};
+
+    type Says = Option<Value>;
+
+    ghost asks = { look_asks };
+
+    ghost next = { look_next };
+
+    ghost says = { look_says };
+
+    fn ask(&self, alloc: Global) -> Result<Query, AllocError> {
+        Ok(Query::Act(log_key(self.home, self.at.copy(alloc)?), Act::Look))
+    }
+
+    fn told(&mut self, alloc: Global, heard: Heard<'_>) -> Result<Option<Value>, AllocError> {
+        given_told(alloc, heard)
+    }
 }
 
 /// The value that the read of the function `home` at a place was given, None exactly where none was kept. A row of
@@ -40,24 +98,61 @@ pub fn get<T: Table>(
     at: &Place,
     now: u64,
 ) -> Result<Option<Value>, TableErr>
-    ensures asks { Asked given_of acts.Look now (log_key home at.now) (T.state table.old) (T.state table.new) result }
-    ensures gives { Tells (T.state table.old).rows (T.state table.new).rows (λ m n. Gives (log_key home at.now) m n result) }
+    ensures { Answered (given_asks home at.now) now given_of (T.state table.old) (T.state table.new) result }
 {
-    let key = key_of(alloc, home, at)?;
-    let said = table.act(key, Act::Look, now)?;
-    match says_given(alloc, said) {
-        Ok(given) => Ok(given),
-        Err(_) => Err(TableErr::OutOfMemory),
+    let Ok(at) = at.copy(alloc) else {
+        return Err(TableErr::OutOfMemory);
+    };
+    let mut look = Given { home, at };
+    turn(alloc, &mut look, table, now)
+}
+
+// Keeps a value at a place, once: it says the value that was there, None where this one was put.
+#[derive(Drop)]
+struct Keep {
+    home: u16,
+    at: Place,
+    value: Value,
+}
+
+impl Walk for Keep {
+    ghost use Rattle.beldi_readlog.specs.ReadLog.{put_asks, put_next, put_says};
+
+    type Says = Option<Value>;
+
+    ghost asks = { put_asks };
+
+    ghost next = { put_next };
+
+    ghost says = { put_says };
+
+    fn ask(&self, alloc: Global) -> Result<Query, AllocError> {
+        Ok(Query::Act(
+            log_key(self.home, self.at.copy(alloc)?),
+            Act::PutRead {
+                value: self.value.copy(alloc)?,
+            },
+        ))
+    }
+
+    fn told(&mut self, alloc: Global, heard: Heard<'_>) -> Result<Option<Value>, AllocError> {
+        match heard {
+            Heard::Said(Said::Added) => Ok(None),
+            Heard::Said(Said::Kept(there)) => Ok(Some(there.copy(alloc)?)),
+            _ => Ok(Some(Value::Null)),
+        }
     }
 }
 
-fn says_given(alloc: Global, said: Said<'_>) -> Result<Option<Value>, AllocError>
-    ensures { IfOk result (λ v. v ≡ given_of (tell_of said.entry)) }
+fn kept_now(value: Value, there: Option<Value>) -> Kept
+    ensures { result ≡ kept_so value there }
 {
-    match said {
-        Said::Row(Row::ReadLog(value)) => Ok(Some(value.copy(alloc)?)),
-        Said::Row(_) => Ok(Some(Value::Null)),
-        _ => Ok(None),
+    match there {
+        None => Kept { value, added: true },
+        Some(value) => Kept {
+            value,
+            added: false,
+        },
     }
 }
 
@@ -72,32 +167,14 @@ pub fn put_once<T: Table>(
     value: Value,
     now: u64,
 ) -> Result<Kept, TableErr>
-    ensures asks { Asked (kept_of value) (acts.PutRead value) now (log_key home at.now) (T.state table.old) (T.state table.new) result }
-    ensures once { Tells (T.state table.old).rows (T.state table.new).rows (λ m n. PutsOnce value (log_key home at.now) m n result) }
+    ensures { Answered (keep_asks home at.now value) now (kept_of value) (T.state table.old) (T.state table.new) result }
 {
-    let key = key_of(alloc, home, at)?;
-    let copy = value.copy(alloc)?;
-    let said = table.act(key, Act::PutRead { value }, now)?;
-    match says_kept(alloc, copy, said) {
-        Ok(kept) => Ok(kept),
-        Err(_) => Err(TableErr::OutOfMemory),
-    }
-}
-
-// The value that was put has its copy already, so memory may be wanting only where another was there.
-fn says_kept(alloc: Global, value: Value, said: Said<'_>) -> Result<Kept, AllocError>
-    ensures ok { IfOk result (λ k. k ≡ kept_of value (tell_of said.entry)) }
-    ensures err { OnErr result (is_kept (tell_of said.entry) ≡ true) }
-{
-    match said {
-        Said::Added => Ok(Kept { value, added: true }),
-        Said::Kept(there) => Ok(Kept {
-            value: there.copy(alloc)?,
-            added: false,
-        }),
-        _ => Ok(Kept {
-            value: Value::Null,
-            added: false,
-        }),
+    let (Ok(at), Ok(copy)) = (at.copy(alloc), value.copy(alloc)) else {
+        return Err(TableErr::OutOfMemory);
+    };
+    let mut keep = Keep { home, at, value };
+    match turn(alloc, &mut keep, table, now) {
+        Ok(there) => Ok(kept_now(copy, there)),
+        Err(why) => Err(why),
     }
 }
