@@ -1,24 +1,21 @@
 -- A change of one row, over the rows as a map.
-use Rattle.std.proofs.Common.{◌≡◌, ℕ, ◌<◌, Bool, false, not, ◌&&◌, Option, None, Some, Result, Ok, Err, refl, ap, sym, ◌∙◌, is_some, IsTrue}
+use Rattle.std.proofs.Common.{◌≡◌, ℕ, ◌<◌, Bool, true, false, not, ◌&&◌, Option, None, Some, Ok, refl, subst, ap, sym, ◌∙◌, is_some, IsTrue}
 use Rattle.std.specs.FinMap as map
 use Rattle.beldi_row.specs.KeyOrder.{key_total, key_exact}
-use Rattle.beldi_row.specs.Act.{on, off, act, said_by, stays, Changes}
+use Rattle.beldi_row.specs.Act.{on, off, act, said_by, stays, here_tell}
 use Rattle.beldi_row.specs.Table.{Rows, adds, set_row}
 use Rattle.beldi_table.specs.MapTable.{ChangedOn}
 use Rattle.beldi_row.specs.declared.key.RowKey.{RowKey}
 use Rattle.beldi_row.specs.declared.row.Row.{Row}
+use Rattle.beldi_row.specs.declared.act.Change.TheVariants as change
 use Rattle.beldi_row.specs.declared.act.Act.{Act}
+use Rattle.beldi_row.specs.declared.act.Act.TheVariants.{Look}
 use Rattle.beldi_row.specs.declared.act.Change.{Change}
-use Rattle.beldi_row.specs.declared.table.TableErr.TheVariants.{OutOfMemory, Failed, Full}
-use Rattle.beldi_row.specs.declared.table.TableErr.{TableErr}
 use Rattle.beldi_row.proofs.Rows.{get_set, same_set, none_removed}
+use Rattle.beldi_row.proofs.Unchanged.{looked}
 
 pub not_both : (b : Bool) → IsTrue b → b ≡ false → ⊥
 not_both b h e = cc
-
-pub not_there : {X : Type 0} (o : Option X) → is_some o ≡ false → o ≡ None
-not_there None h = refl
-not_there (Some x) h = cc
 
 -- the row is there, and was changed
 pub there : (a : Act) (now : ℕ) (k : RowKey) (room : ℕ) (m n : Rows) (r s : Row) (c : Change) → map.get m k ≡ Some r → n ≡ map.insert m k s → (s, said_by c (Some s)) ≡ on a now r → ChangedOn a now k room m n (map.get n k) (Ok c)
@@ -46,16 +43,21 @@ one_added a now k room m n s c here some tells is fits = (
 )
 
 -- the row is there, and nothing changed
-pub unchanged : (a : Act) (now : ℕ) (k : RowKey) (room : ℕ) (m n : Rows) (r : Row) → map.get m k ≡ Some r → n ≡ map.insert m k r → ChangedOn a now k room m n (map.get n k) (Err OutOfMemory)
-unchanged a now k room m n r here is = is ∙ same_set key_total key_exact m k r here
+pub unchanged : (k : RowKey) (m n : Rows) (r s : Row) → map.get m k ≡ Some r → n ≡ map.insert m k s → s ≡ r → n ≡ m
+unchanged k m n r s here is same = is ∙ ap (map.insert m k) same ∙ same_set key_total key_exact m k r here
 
 -- one would be added
 pub would_add : (a : Act) (now : ℕ) (k : RowKey) (m : Rows) (s : Row) → map.get m k ≡ None → (off a now).0 ≡ Some s → IsTrue (adds a now k m)
 would_add a now k m s here some = ap (λ p. not (is_some p) && is_some (off a now).0) here ∙ ap is_some some
 
--- what a change of the row leaves of the rows
-pub changed : (a : Act) (now : ℕ) (k : RowKey) (room : ℕ) (m n : Rows) (r s : Row) (e : Result Change TableErr) → map.get m k ≡ Some r → n ≡ map.insert m k s → Changes a now r s e → ChangedOn a now k room m n (map.get n k) e
-changed a now k room m n r s (Ok c) here is done = there a now k room m n r s c here is done
-changed a now k room m n r s (Err OutOfMemory) here is done = unchanged a now k room m n r here (is ∙ ap (map.insert m k) done.0)
-changed a now k room m n r s (Err Failed) here is done = cc
-changed a now k room m n r s (Err (Full live most)) here is done = cc
+-- a Look: the rows stay, and the row is told
+look_tell : (now : ℕ) (r : Option Row) → here_tell r ≡ (act Look now r).1
+look_tell now None = refl
+look_tell now (Some r) = refl
+
+adds_none : (b : Bool) → IsTrue (b && false) → ⊥
+adds_none true h = cc
+adds_none false h = cc
+
+pub looks : (a : Act) (now : ℕ) (k : RowKey) (room : ℕ) (m : Rows) → a ≡ Look → ChangedOn a now k room m m (map.get m k) (Ok change.Row)
+looks a now k room m is = subst (λ (b : Act). ChangedOn b now k room m m (map.get m k) (Ok change.Row)) (sym is) (sym (looked now k m), look_tell now (map.get m k), λ h. absurd (adds_none _ h))

@@ -10,6 +10,8 @@ use Rattle.beldi_row.specs.declared.act.Change.{Change}
 use Rattle.beldi_row.specs.declared.table.TableErr.{TableErr}
 use Rattle.beldi_row.specs.declared.table.TableErr.TheVariants.{OutOfMemory, Failed, Full}
 use Rattle.beldi_table.specs.declared.map_table.MapTable.{MapTable}
+use Rattle.beldi_table.specs.declared.map_table.Tried.{Tried}
+use Rattle.beldi_table.specs.declared.map_table.Tried.TheVariants.{Done, Absent}
 
 abbrev pub rows_of : MapTable → Rows
 rows_of t = map.from_entries t.rows.entries
@@ -24,3 +26,9 @@ ChangedOn a now k room m n r (Ok c) = (n ≡ after_act a now k m) × (said_by c 
 ChangedOn a now k room m n r (Err OutOfMemory) = n ≡ m
 ChangedOn a now k room m n r (Err Failed) = ⊥
 ChangedOn a now k room m n r (Err (Full live most)) = (n ≡ m) × IsFull a now k room m live most
+
+-- an act on the row with a key: it was done so; or there is no row, and the act is given back; or the rows are as before
+abbrev pub Tries : Act → ℕ → RowKey → MapTable → MapTable → Result Tried TableErr → Type 0
+Tries a now k s t (Ok (Done c)) = ChangedOn a now k s.room (rows_of s) (rows_of t) (map.get (rows_of t) k) (Ok c)
+Tries a now k s t (Ok (Absent b)) = (b ≡ a) × (t ≡ s) × (map.get (rows_of s) k ≡ None)
+Tries a now k s t (Err e) = (rows_of t ≡ rows_of s) × (e ≡ OutOfMemory)

@@ -1,6 +1,8 @@
 // A table over an ordered map in memory.
-ghost use Rattle.std.specs.Prelude.{◌≡◌, ℕ, ◌^◌, ◌-◌, min, None, IsTrue};
+ghost use Rattle.std.specs.Prelude.{◌≡◌, ℕ, ◌^◌, ◌-◌, min, None};
+ghost use Rattle.std.specs.Option.{option_copied};
 ghost use Rattle.std.specs.FinMap as map;
+ghost use Rattle.beldi_row.specs.Act.{said_by};
 ghost use Rattle.beldi_row.specs.Table.{room_of};
 
 use beldi_row::{Act, Change, Row, RowKey, Said, Table, TableErr, apply, made, missing, tell};
@@ -33,8 +35,17 @@ pub(crate) fn room_in(rooms: &[u32]) -> u32
     }
 }
 
+// What came of an act on the row with a key.
+#[derive(Drop)]
+enum Tried {
+    // This was done.
+    Done(Change),
+    // No row is there, so the act is given back.
+    Absent(Act),
+}
+
 impl MapTable {
-    ghost use Rattle.beldi_table.specs.MapTable.{rows_of, ChangedOn};
+    ghost use Rattle.beldi_table.specs.MapTable.{rows_of, ChangedOn, Tries};
 
     /// A table without rows and without room for any.
     pub fn new(alloc: Global) -> MapTable
@@ -48,15 +59,35 @@ impl MapTable {
         }
     }
 
-    // An act on the row with this key, which is there.
-    fn change(&mut self, key: &RowKey, act: Act, now: u64) -> Result<Change, TableErr>
-        requires { IsTrue (map.contains_key (rows_of self.old) key.now) }
-        ensures rows { ChangedOn act now key.now self.old.room (rows_of self.old) (rows_of self.new) (map.get (rows_of self.new) key.now) result }
+    // An act on the row with this key. A Look changes nothing, so it needs no row yet.
+    fn change(&mut self, key: &RowKey, act: Act, now: u64) -> Result<Tried, TableErr>
+        ensures tries { Tries act now key.now self.old self.new result }
         ensures room { self.new.room ≡ self.old.room }
     {
+        if let Act::Look = act {
+            return Ok(Tried::Done(Change::Row));
+        }
         match self.rows.get_mut(key) {
-            Some(row) => apply(row, act, now),
-            None => unreachable!(),
+            Some(row) => match apply(row, act, now) {
+                Ok(change) => Ok(Tried::Done(change)),
+                Err(why) => Err(why),
+            },
+            None => Ok(Tried::Absent(act)),
+        }
+    }
+
+    // The row, where a change tells what lies in it.
+    fn row_told(&self, key: &RowKey, change: Change) -> Option<&Row>
+        ensures { said_by change (option_copied result) ≡ said_by change (map.get (rows_of self.now) key.now) }
+    {
+        match change {
+            Change::Row
+            | Change::Other
+            | Change::Ended
+            | Change::Kept
+            | Change::Noted(_)
+            | Change::Held => self.rows.get(key),
+            _ => None,
         }
     }
 
@@ -101,12 +132,13 @@ impl Table for MapTable {
     }
 
     fn act(&mut self, key: RowKey, act: Act, now: u64) -> Result<Said<'_>, TableErr> {
-        if !self.rows.contains_key(&key) {
-            let added = self.add(key, act, now)?;
-            return Ok(tell(None, added));
+        match self.change(&key, act, now)? {
+            Tried::Done(change) => Ok(tell(self.row_told(&key, change), change)),
+            Tried::Absent(act) => {
+                let added = self.add(key, act, now)?;
+                Ok(tell(None, added))
+            }
         }
-        let change = self.change(&key, act, now)?;
-        Ok(tell(self.rows.get(&key), change))
     }
 
     fn next(&mut self, after: &RowKey) -> Result<Option<(&RowKey, &Row)>, TableErr> {

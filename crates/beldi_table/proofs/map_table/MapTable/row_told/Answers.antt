@@ -1,0 +1,8 @@
+use Rattle.std.proofs.Common.{sym, ◌∙◌, ap}
+use Rattle.beldi_row.specs.Act.{said_by}
+use Rattle.beldi_row.specs.KeyOrder.{key_total, key_exact}
+use Rattle.beldi_row.proofs.Rows.{get_rows}
+use Rattle.beldi_table.proofs.map_table.MapTable.row_told.Goals as goal
+
+pub returns-in-Row : goal.returns-in-Row
+returns-in-Row c = ap (said_by c.args.change) (c.get.ensures.value ∙ sym (get_rows key_total key_exact c.args.self.now.rows.entries c.args.key.now))
