@@ -5,4 +5,3 @@ pub mod Replies
 pub mod Right
 pub mod RunMaps
 pub mod Steps
-pub mod Turns

@@ -17,7 +17,10 @@ use Rattle.beldi_row.specs.Table.{Rows, TableState, Tells}
 use Rattle.beldi_plain.specs.Plain.{PlainState, reply_of, outcome_of}
 use Rattle.beldi_step.specs.declared.event.Event.{Event}
 use Rattle.beldi_step.specs.declared.event.Seen.{Seen}
-use Rattle.beldi_step.specs.Host.{Core, first_core, root_key, EventOn, Stepped}
+use Rattle.beldi_step.specs.Intent.{root_key}
+use Rattle.beldi_step.specs.Host.{Core, first_core, Stepped}
+use Rattle.beldi_step.specs.Forms.{EventOn}
+use Rattle.beldi_step.proofs.Forms.{over_rows}
 use Rattle.beldi_step.specs.Tables.{tables_text}
 use Rattle.beldi_laws.specs.Right.{Right, RootMatches, BodyMatches, FitsAt}
 use Rattle.beldi_laws.proofs.Events.{begins, after_event, after_break}
@@ -68,7 +71,7 @@ stays_told d room old new e c b (Some m) None x s = absurd s
 stays_told d room old new e c b (Some m) (Some n) x s = stays_on d room old new e c b m n x s
 
 pub event_stays : (d : Deployment) (e : Event) (c b : Core) (old new : TableState) (x : Result Seen AllocError) → Stepped d e c b old new x → StayAt old.rows new.rows
-event_stays d e c b old new x s = stays_told d old.room old.faults new.faults e c b old.rows new.rows x s.rows
+event_stays d e c b old new x s = stays_told d old.room old.faults new.faults e c b old.rows new.rows x (over_rows d e c b old new x s)
 
 not_told : false ≡ true → ⊥
 not_told h = cc
@@ -83,13 +86,13 @@ none_gone d room old new e c b (Some m) (Some n) (Ok x) s told h = (after_event 
 
 pub never_gone : (d : Deployment) (e : Event) (c b : Core) (old new : TableState) (x : Result Seen AllocError)
     → Stepped d e c b old new x → IsSome old.rows → RightAt d c old.rows → IfOk x (λ y. is_gone y ≡ false)
-never_gone d e c b old new x s told h = none_gone d old.room old.faults new.faults e c b old.rows new.rows x s.rows told h
+never_gone d e c b old new x s told h = none_gone d old.room old.faults new.faults e c b old.rows new.rows x (over_rows d e c b old new x s) told h
 
 -- an event
 pub event_keeps : (d k : Deployment) (e : Event) (c b : Core) (old new : TableState) (x : Result Seen AllocError)
     → k ≡ d → Stepped d e c b old new x → RightAt d c old.rows → RightAt k b new.rows
 event_keeps d k e c b old new x code s h =
-    subst (λ (z : Deployment). RightAt z b new.rows) (sym code) (keeps d c b (λ m n. EventOn d old.room old.faults new.faults e c m b n x) old.rows new.rows (λ m n p r. event_on d old.room old.faults new.faults e c b m n x p r) s.rows h)
+    subst (λ (z : Deployment). RightAt z b new.rows) (sym code) (keeps d c b (λ m n. EventOn d old.room old.faults new.faults e c m b n x) old.rows new.rows (λ m n p r. event_on d old.room old.faults new.faults e c b m n x p r) (over_rows d e c b old new x s) h)
 
 -- ---- a host that was opened over no rows
 no_entries : map.entries (map.empty {X = Row} {R = key_cmp}) ≡ []

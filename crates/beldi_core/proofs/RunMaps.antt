@@ -13,19 +13,17 @@ use Rattle.std.specs.Cmp.{nat_cmp_total, Equal-is}
 use Rattle.std.specs.Ordering.{nat_cmp, eq_by_cmp, is_eq, is_lt}
 use Rattle.std.proofs.lemmas.Cmp.{eq_by_cmp_equiv, tied_itself}
 use Rattle.beldi_tree.specs.declared.deployment.Deployment.{Deployment}
-use Rattle.beldi_row.specs.Table.{Rows, TableState}
-use Rattle.beldi_row.specs.declared.table.TableErr.TheVariants.{OutOfMemory, Failed, Full}
-use Rattle.beldi_row.proofs.Rows.{get_rows, same_set, none_removed, entries_rows}
-use Rattle.beldi_row.proofs.Tells.{tells_map}
+use Rattle.beldi_walk.specs.declared.query.Query.{Query}
+use Rattle.beldi_walk.specs.Query.{Told}
+use Rattle.beldi_core.specs.declared.runs.Names.{Names}
 use Rattle.beldi_step.specs.declared.run.Run.{Run}
-use Rattle.beldi_step.specs.declared.turn.TurnSays.{TurnSays}
-use Rattle.beldi_step.specs.declared.turn.TurnErr.{TurnErr}
-use Rattle.beldi_step.specs.declared.turn.TurnErr.TheVariants.{Lost, Stopped}
-use Rattle.beldi_step.specs.Run.{Turned}
+use Rattle.beldi_step.specs.declared.run.TurnSays.{TurnSays}
+use Rattle.beldi_step.specs.declared.run.Mark.{Mark}
+use Rattle.beldi_step.specs.Run.{Turned, Turns, going, followed, run_told}
 use Rattle.beldi_step.specs.Host.{put_run}
 use Rattle.beldi_laws.proofs.Lives.{remove_put}
-use Rattle.beldi_step.specs.Turn.{Ran, RanOn, StandsAtFull, going, turned_by}
-use Rattle.beldi_core.specs.Runs.{RunMap, AllGiven, withdrawn, says_of, ends_run, settled, Led, LedOn, OneLed, first_past, next_number}
+use Rattle.beldi_core.specs.Runs.{RunMap, AllGiven, withdrawn, says_of, ends_run, settled, asked_of, asked_by, Led, first_past, next_number}
+use Rattle.beldi_row.proofs.Rows.{get_rows, none_removed, entries_rows}
 
 -- entries without one key
 pub one_removed : (es fs : List (ℕ × Run)) (k : ℕ) → ((q : ℕ) → lookup (is_at (nat_cmp q)) fs ≡ cond (is_at (nat_cmp k) q) None (lookup (is_at (nat_cmp q)) es)) → map.from_entries {R = nat_cmp} fs ≡ map.remove (map.from_entries es) k
@@ -86,37 +84,27 @@ over_back : (s : Run) (over : Bool) → is_none (going s over) ≡ over
 over_back s true = refl
 over_back s false = refl
 
-says_back : (s : Run) (x : TurnSays) → x ≡ says_of (turned_by s x)
-says_back s x = λ j. record { entry = x.entry; over = sym (over_back s x.over) j; reply = x.reply }
+says_back : (s : Run) (x : TurnSays) → x ≡ says_of (followed s x)
+says_back s x = λ j. record { mark = x.mark; over = sym (over_back s x.over) j; wait = x.wait; reply = x.reply }
 
-led_on : (d : Deployment) (changes : ℕ) (a b : RunMap) (i : ℕ) (r s : Run) (now room : ℕ) (m n : Rows) (x : Result TurnSays TurnErr) → b ≡ settled (ends_run x) (map.insert a i s) i → map.get a i ≡ Some r → StandsAtFull r s x → RanOn d r changes r.at s now room m n x → LedOn d changes a b i (Some r) now room m n x
-led_on d changes a b i r s now room m n (Ok x) is here full h = (h.0, is ∙ put_back a i s x.over ∙ ap (λ (t : Turned). put_run a i t.next) h.1, says_back s x ∙ ap says_of h.1, h.2)
-led_on d changes a b i r s now room m n (Err (Lost e)) is here full h = (h.0, is ∙ remove_set a i s, h.1, h.2)
-led_on d changes a b i r s now room m n (Err (Stopped OutOfMemory)) is here full h = (h, is ∙ remove_set a i s)
-led_on d changes a b i r s now room m n (Err (Stopped Failed)) is here full h = (h, is ∙ remove_set a i s)
-led_on d changes a b i r s now room m n (Err (Stopped (Full live most))) is here full h = (h.0, is ∙ ap (map.insert a i) full ∙ same_set nat_cmp_total nat_cmp-IsAntisymmetric a i r here, h.1)
-
-one_led : (a b : RunMap) (i : ℕ) (r s : Run) (x : Result TurnSays TurnErr) → b ≡ settled (ends_run x) (map.insert a i s) i → map.get a i ≡ Some r → StandsAtFull r s x → OneLed a i b x
-one_led a b i r s (Ok x) is here h = (going s x.over, over_back s x.over, is ∙ put_back a i s x.over)
-one_led a b i r s (Err (Lost e)) is here h = is ∙ remove_set a i s
-one_led a b i r s (Err (Stopped OutOfMemory)) is here h = is ∙ remove_set a i s
-one_led a b i r s (Err (Stopped Failed)) is here h = is ∙ remove_set a i s
-one_led a b i r s (Err (Stopped (Full live most))) is here h = is ∙ ap (map.insert a i) h ∙ same_set nat_cmp_total nat_cmp-IsAntisymmetric a i r here
-
-pub led : (d : Deployment) (changes : ℕ) (a b c : RunMap) (i : ℕ) (r s : Run) (now : ℕ) (old new : TableState) (x : Result TurnSays TurnErr) → map.get a i ≡ Some r → b ≡ map.insert a i s → c ≡ settled (ends_run x) b i
-    → Ran d r changes r.at s now old new x → Led d changes a c i now old new x
-led d changes a b c i r s now old new x here set is h = record {
-  rows = tells_map {P = λ m n. RanOn d r changes r.at s now old.room m n x} {Q = λ m n. LedOn d changes a c i (map.get a i) now old.room m n x} old.rows new.rows
-      (λ m n p. subst (λ (o : Option Run). LedOn d changes a c i o now old.room m n x) (sym here) (led_on d changes a c i r s now old.room m n x (is ∙ ap (λ q. settled (ends_run x) q i) set) here h.stands p)) h.rows;
-  one = one_led a c i r s x (is ∙ ap (λ q. settled (ends_run x) q i) set) here h.stands;
-  later = h.later;
-  failed = h.failed;
-  room = h.room;
-  calls = h.calls;
-}
+pub led : (d : Deployment) (changes : ℕ) (a b c : RunMap) (i : ℕ) (r s : Run) (t : Told) (x : Result TurnSays (Option Mark)) → map.get a i ≡ Some r → b ≡ map.insert a i s → c ≡ settled (ends_run x) b i
+    → Turns s x (run_told d changes r t) → Led d changes a c i (map.get a i) t x
+led d changes a b c i r s t (Ok x) here set is h = subst (λ (o : Option Run). Led d changes a c i o t (Ok x)) (sym here)
+    (is ∙ ap (λ q. settled x.over q i) set ∙ put_back a i s x.over ∙ ap (λ (z : Turned). put_run a i z.next) h, says_back s x ∙ ap says_of h)
+led d changes a b c i r s t (Err m) here set is h = subst (λ (o : Option Run). Led d changes a c i o t (Err m)) (sym here) (is ∙ ap (λ q. map.remove q i) set ∙ remove_set a i s, h)
 
 pub absent_run : (o : Option Run) → IsSome o → o ≡ None → ⊥
 absent_run o h is = cc
+
+-- ---- what is asked
+pub run_asked : (o : Option Run) (r : Run) (x : Query × Names) → o ≡ Some r → x ≡ asked_of r → Some x ≡ asked_by o
+run_asked o r x is at = ap Some at ∙ ap asked_by (sym is)
+
+pub none_asked : (o : Option Run) → o ≡ None → None ≡ asked_by o
+none_asked o is = ap asked_by (sym is)
+
+pub is_there : (o : Option Run) (r : Run) → o ≡ Some r → IsSome o
+is_there o r is = cc
 
 -- ---- the first run past a number
 abbrev head_of : List (ℕ × Run) → Option ℕ

@@ -1,7 +1,7 @@
-pub mod Answers
 pub mod Built
 pub mod Host
 pub mod Opening
+pub mod Parts
 pub mod Right
 pub mod Runs
 pub mod Survey

@@ -1,18 +1,19 @@
--- The live runs by number, and what a turn of one of them does.
-use Rattle.std.specs.Prelude.{◌≡◌, ℕ, ◌+◌, ◌-◌, ◌≤◌, ◌<◌, Bool, true, false, IsTrue, IsErrOf, IsSome, List, [], ◌∷◌, if◌then◌else◌, Option, Some, None, is_none, Result, Ok, Err}
+-- The live runs by number, what each asks, and what becomes of one that is told.
+use Rattle.std.specs.Prelude.{◌≡◌, ℕ, ◌+◌, ◌-◌, ◌<◌, Bool, true, false, IsSome, List, [], ◌∷◌, if◌then◌else◌, Option, Some, None, is_none, Result, Ok, Err}
 use Rattle.std.specs.FinMap as map
 use Rattle.std.specs.FinMap.{FinMap}
 use Rattle.std.specs.BTreeMap.{BTreeMap}
 use Rattle.std.specs.Ordering.{nat_cmp, is_lt}
 use Rattle.beldi_tree.specs.declared.deployment.Deployment.{Deployment}
-use Rattle.beldi_row.specs.declared.table.TableErr.TheVariants.{OutOfMemory, Failed, Full}
-use Rattle.beldi_row.specs.Table.{Rows, TableState, IsFull, after_act, tell_act, adds, Tells, Rose, AtMostOne}
+use Rattle.beldi_value.specs.declared.id.IntentId.{IntentId}
+use Rattle.beldi_walk.specs.declared.query.Query.{Query}
+use Rattle.beldi_walk.specs.Query.{Told}
+use Rattle.beldi_step.specs.declared.run.Mark.{Mark}
 use Rattle.beldi_step.specs.declared.run.Run.{Run}
-use Rattle.beldi_step.specs.declared.turn.TurnSays.{TurnSays}
-use Rattle.beldi_step.specs.declared.turn.TurnErr.{TurnErr}
-use Rattle.beldi_step.specs.declared.turn.TurnErr.TheVariants.{Lost, Stopped}
-use Rattle.beldi_step.specs.Run.{Turned, run_key, run_act, run_turned}
+use Rattle.beldi_step.specs.declared.run.TurnSays.{TurnSays}
+use Rattle.beldi_step.specs.Run.{Turned, run_asks, run_told}
 use Rattle.beldi_step.specs.Host.{put_run}
+use Rattle.beldi_core.specs.declared.runs.Names.{Names}
 
 abbrev pub RunMap : Type 0
 RunMap = FinMap nat_cmp Run
@@ -51,44 +52,33 @@ started a r = record { runs = map.insert a.runs (a.given + 1) r; given = a.given
 abbrev pub withdrawn : Numbered → Numbered
 withdrawn a = record { runs = map.remove a.runs a.given; given = a.given - 1 }
 
+-- ---- a turn
+abbrev pub named : IntentId → Names
+named id = record { book = id; told = id }
+
+-- what a run asks, with its names; one that is not live asks nothing
+abbrev pub asked_of : Run → Query × Names
+asked_of r = (run_asks r, named r.id)
+
+abbrev pub asked_by : Option Run → Option (Query × Names)
+asked_by None = None
+asked_by (Some r) = Some (asked_of r)
+
 -- the answer to a turn
 abbrev pub says_of : Turned → TurnSays
-says_of t = record { entry = t.entry; over = is_none t.next; reply = t.reply }
+says_of t = record { mark = t.mark; over = is_none t.next; wait = t.wait; reply = t.reply }
 
 -- a run is gone after this
-abbrev pub ends_run : Result TurnSays TurnErr → Bool
+abbrev pub ends_run : Result TurnSays (Option Mark) → Bool
 ends_run (Ok x) = x.over
-ends_run (Err (Lost e)) = true
-ends_run (Err (Stopped OutOfMemory)) = true
-ends_run (Err (Stopped Failed)) = true
-ends_run (Err (Stopped (Full live most))) = false
+ends_run (Err m) = true
 
 abbrev pub settled : Bool → RunMap → ℕ → RunMap
 settled true m i = map.remove m i
 settled false m i = m
 
--- what a turn of the run of number i leaves; after an error it is gone, but at Full
-abbrev pub LedOn : Deployment → ℕ → RunMap → RunMap → ℕ → Option Run → ℕ → ℕ → Rows → Rows → Result TurnSays TurnErr → Type 0
-LedOn d changes a b i None now room m n x = ⊥
-LedOn d changes a b i (Some r) now room m n (Ok x) = (n ≡ after_act (run_act r) now (run_key r) m) × (b ≡ put_run a i (run_turned d r changes (tell_act (run_act r) now (run_key r) m)).next) × (x ≡ says_of (run_turned d r changes (tell_act (run_act r) now (run_key r) m))) × (IsTrue (adds (run_act r) now (run_key r) m) → map.len m < room)
-LedOn d changes a b i (Some r) now room m n (Err (Lost e)) = (n ≡ after_act (run_act r) now (run_key r) m) × (b ≡ map.remove a i) × (e ≡ (run_turned d r changes (tell_act (run_act r) now (run_key r) m)).entry) × (IsTrue (adds (run_act r) now (run_key r) m) → map.len m < room)
-LedOn d changes a b i (Some r) now room m n (Err (Stopped OutOfMemory)) = (n ≡ m) × (b ≡ map.remove a i)
-LedOn d changes a b i (Some r) now room m n (Err (Stopped Failed)) = (n ≡ m) × (b ≡ map.remove a i)
-LedOn d changes a b i (Some r) now room m n (Err (Stopped (Full live most))) = (n ≡ m) × (b ≡ a) × IsFull (run_act r) now (run_key r) room m live most
-
--- what is said over every table: only the run of this number changes. It is over where the answer says so, and after an
--- error, but that it stands where there was no room.
-abbrev pub OneLed : RunMap → ℕ → RunMap → Result TurnSays TurnErr → Type 0
-OneLed a i b (Ok x) = (o : Option Run) × (is_none o ≡ x.over) × (b ≡ put_run a i o)
-OneLed a i b (Err (Lost e)) = b ≡ map.remove a i
-OneLed a i b (Err (Stopped OutOfMemory)) = b ≡ map.remove a i
-OneLed a i b (Err (Stopped Failed)) = b ≡ map.remove a i
-OneLed a i b (Err (Stopped (Full live most))) = b ≡ a
-
-pub record Led (d : Deployment) (changes : ℕ) (a b : RunMap) (i now : ℕ) (old new : TableState) (result : Result TurnSays TurnErr) : Type 0 where
-  pub rows : Tells old.rows new.rows (λ m n. LedOn d changes a b i (map.get a i) now old.room m n result)
-  pub one : OneLed a i b result
-  pub later : old.faults ≤ new.faults
-  pub failed : IsErrOf result (Stopped Failed) → Rose old.faults new.faults
-  pub room : new.room ≡ old.room
-  pub calls : AtMostOne old.calls new.calls
+-- the run of number i was told: it goes on, or is gone. After want of memory it is gone, and the mark of its act is told.
+abbrev pub Led : Deployment → ℕ → RunMap → RunMap → ℕ → Option Run → Told → Result TurnSays (Option Mark) → Type 0
+Led d changes a b i None t x = ⊥
+Led d changes a b i (Some r) t (Ok x) = (b ≡ put_run a i (run_told d changes r t).next) × (x ≡ says_of (run_told d changes r t))
+Led d changes a b i (Some r) t (Err m) = (b ≡ map.remove a i) × (m ≡ (run_told d changes r t).mark)

@@ -1,18 +1,21 @@
-//! The host: it carries out events over a table, one at a time, and reads the table's rows.
+//! The host: it carries out events over a table, one at a time, and reads the table's rows. Each event is planned, asks the
+//! table at most one thing, and is followed by what the table told; only `Host` touches the table.
 //! It stands on `beldi_step`, which says what one event does, and on `beldi_laws`, which says what every event keeps. Its
-//! definitions: `specs/Host` (the host as the core that events speak of), `specs/Runs` (the live runs by number),
-//! `specs/Answers` (answers by what an act came to), `specs/Survey` (calls that read the rows), `specs/Opening` (their
-//! errors), `specs/Built` (what it can carry out of a deployment) and `specs/Right` (what the calls keep).
+//! definitions: `specs/Host` (the host as the core that events speak of), `specs/Parts` (what holds between an event's
+//! question and its answer), `specs/Runs` (the live runs by number), `specs/Survey` (calls that read the rows),
+//! `specs/Opening` (their errors), `specs/Built` (what it can carry out of a deployment) and `specs/Right` (what the calls
+//! keep).
 //!
 //! Proved:
 //! - `Host::event` is one step of the definition, for every table that keeps the trait's contract; crashes, lost
-//!   answers, restarts, faults, want of room and want of memory are cases of the step (`step`, `code`).
-//! - Over every table, also over one that tells no rows, an event that needs no act is answered at once and leaves the
-//!   core that the definition names, and such an answer comes to no other event; what another event leaves and answers
-//!   follows from what some act came to, or the act was not made, and then no more than a run is over (`Answers` in
-//!   `step`).
-//! - An event makes at most one call of the table's `act` and `next` (`calls` in `step`), and so does `reply`
-//!   (`calls`).
+//!   answers, restarts, faults, want of room and want of memory are cases of the step (`step`, `code`). An event that
+//!   is answered at once makes no call of the table and leaves it as it was; any other makes at most one query, and one
+//!   word of the table, or one refusal, says what followed. A run that met an error is over, but for want of room.
+//! - Over rows that are told that is a relation between the host and the rows before and after (`over_rows`). Over any
+//!   table, also over one that tells no rows, what an event leaves and answers follows from something that a table may
+//!   tell, or the query was not made, and then no more than a run is over; failures are told only where the table's count
+//!   rose; at most one call of `act` and `next` is made (`over_any_table`).
+//! - `reply` makes at most one call of the table's `act` and `next` (`calls`).
 //! - What the rows held at a step stays after an event, whether the host is right or not (`answers_stay`).
 //! - Where the host is right and its table tells its rows, no ticket is answered `gone` (`has_rows`).
 //! - `Host::rows` tells how many rows the table has, as `len` does (`IsCount`).
@@ -31,7 +34,9 @@
 //! - `next_run` is the least live run past a number (`least`).
 #![tactic(auto)]
 
+mod events;
 mod host;
+mod host_core;
 mod runs;
 mod survey;
 mod unbuilt;

@@ -1,11 +1,13 @@
 // The live runs of a host, by number.
 ghost use Rattle.std.specs.Prelude.{◌≡◌, ℕ, ◌+◌, ◌-◌, ◌^◌, ◌<◌, ◌≤◌, None, is_some, IsSome, IfOk, OnOk, OnErr};
 ghost use Rattle.std.specs.FinMap as map;
-ghost use Rattle.beldi_core.specs.Runs.{map_of, next_number, IsLeastPast, started, withdrawn, ends_run, settled, Led};
+ghost use Rattle.beldi_walk.specs.Query.{told_of};
+ghost use Rattle.beldi_core.specs.Runs.{map_of, next_number, IsLeastPast, started, withdrawn, ends_run, settled, asked_of, asked_by, Led};
 
 use beldi_lang::Deployment;
-use beldi_row::{Table, TableErr};
-use beldi_step::{Run, TurnErr, TurnSays};
+use beldi_step::{Mark, Run, TurnSays};
+use beldi_value::IntentId;
+use beldi_walk::{Heard, Query};
 use std::alloc::{AllocError, Global};
 use std::collections::BTreeMap;
 use std::marker::Model;
@@ -51,12 +53,11 @@ fn take(live: &mut BTreeMap<u64, Run>, number: u64)
 }
 
 // Whether a run is gone after this.
-fn ends(turn: &Result<TurnSays, TurnErr>) -> bool
+fn ends(turn: &Result<TurnSays, Option<Mark>>) -> bool
     ensures { result ≡ ends_run turn.now }
 {
     match turn {
         Ok(says) => says.over,
-        Err(TurnErr::Stopped(TableErr::Full { .. })) => false,
         Err(_) => true,
     }
 }
@@ -69,26 +70,41 @@ fn settle(live: &mut BTreeMap<u64, Run>, number: u64, over: bool)
     }
 }
 
-// The next turn of the run of this number, which is live.
-fn lead<T: Table>(
+// The run of this number, which is live, is told.
+fn lead(
     live: &mut BTreeMap<u64, Run>,
     number: u64,
     alloc: Global,
     code: &Deployment,
-    table: &mut T,
-    now: u64,
     changes: u64,
-) -> Result<TurnSays, TurnErr>
+    heard: Heard<'_>,
+) -> Result<TurnSays, Option<Mark>>
     requires { IsSome (map.get (map_of live.old) number) }
-    ensures led { Led code.now changes (map_of live.old) (map_of live.new) number now (T.state table.old) (T.state table.new) result }
+    ensures led { Led code.now changes (map_of live.old) (map_of live.new) number (map.get (map_of live.old) number) (told_of heard.entry) result }
     ensures none_new { (i : ℕ) → map.get (map_of live.old) i ≡ None → map.get (map_of live.new) i ≡ None }
 {
     let Some(run) = live.get_mut(&number) else {
         unreachable!()
     };
-    let result = run.turn(alloc, code, table, now, changes);
+    let result = run.told(alloc, code, changes, heard);
     settle(live, number, ends(&result));
     result
+}
+
+/// The id of an instance, once for the entry in the book and once for the one that is told.
+#[derive(Drop)]
+pub struct Names {
+    pub book: IntentId,
+    pub told: IntentId,
+}
+
+// What a run asks, and its names.
+fn asked(run: &Run, alloc: Global) -> Result<(Query, Names), AllocError>
+    ensures { IfOk result (λ x. x ≡ asked_of run.now) }
+{
+    let book = run.id.copy(alloc)?;
+    let told = run.id.copy(alloc)?;
+    Ok((run.ask(alloc)?, Names { book, told }))
 }
 
 impl Runs {
@@ -165,21 +181,34 @@ impl Runs {
         take(&mut self.live, number);
     }
 
-    /// The next turn of the run of this number, which is live. A run that is over is gone afterwards, and so is one that
-    /// met an error, but for `Full`.
-    pub fn turn<T: Table>(
+    /// What the run of this number asks, and its names; none where it is not live. Memory is wanting only where it is.
+    pub fn ask(&self, number: u64, alloc: Global) -> Result<Option<(Query, Names)>, AllocError>
+        ensures ok { IfOk result (λ q. q ≡ asked_by (map.get self.now.runs number)) }
+        ensures err { OnErr result (IsSome (map.get self.now.runs number)) }
+    {
+        match self.live.get(&number) {
+            None => Ok(None),
+            Some(run) => match asked(run, alloc) {
+                Ok(asked) => Ok(Some(asked)),
+                Err(why) => Err(why),
+            },
+        }
+    }
+
+    /// The run of this number, which is live, is told, when so many changes had been made. A run that is over is gone
+    /// afterwards, and so is one that met want of memory.
+    pub fn told(
         &mut self,
         number: u64,
         alloc: Global,
         code: &Deployment,
-        table: &mut T,
-        now: u64,
         changes: u64,
-    ) -> Result<TurnSays, TurnErr>
+        heard: Heard<'_>,
+    ) -> Result<TurnSays, Option<Mark>>
         requires { IsSome (map.get self.old.runs number) }
-        ensures led { Led code.now changes self.old.runs self.new.runs number now (T.state table.old) (T.state table.new) result }
+        ensures led { Led code.now changes self.old.runs self.new.runs number (map.get self.old.runs number) (told_of heard.entry) result }
         ensures given { self.new.given ≡ self.old.given }
     {
-        lead(&mut self.live, number, alloc, code, table, now, changes)
+        lead(&mut self.live, number, alloc, code, changes, heard)
     }
 }

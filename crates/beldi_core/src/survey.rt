@@ -3,7 +3,7 @@ ghost use Rattle.std.specs.Prelude.{◌≡◌, ◌≢◌, ◌++◌, IfOk, OnOk};
 ghost use Rattle.std.specs.FinMap as map;
 ghost use Rattle.beldi_row.specs.Act.{tell_of};
 ghost use Rattle.beldi_row.specs.Table.{next_row, AtMostOne};
-ghost use Rattle.beldi_step.specs.Host.{root_key};
+ghost use Rattle.beldi_step.specs.Intent.{root_key as root_key_of};
 ghost use Rattle.beldi_step.specs.Tables.{tables_text, row_line};
 ghost use Rattle.beldi_core.specs.Survey.{Reads, Prepared, newest_of, next_key_of, next_line_of, row_seen, told_seen};
 ghost use Rattle.beldi_core.specs.declared.survey.ReplySeen.TheVariants.{Unknown};
@@ -11,7 +11,8 @@ ghost use Rattle.beldi_core.specs.declared.survey.ReplySeen.TheVariants.{Unknown
 use beldi_book::write_item;
 use beldi_lang::Deployment;
 use beldi_row::{Act, Kind, Row, RowKey, Said, Table, TableErr};
-use beldi_value::{IntentId, Outcome, Str, Value};
+use beldi_step::root_key;
+use beldi_value::{Outcome, Str, Value};
 use std::alloc::{AllocError, Global};
 
 /// Why the rows could not be read. They are as before.
@@ -175,15 +176,11 @@ pub fn read_reply<T: Table>(
     ticket: u32,
     now: u64,
 ) -> Result<ReplySeen, OpenErr>
-    ensures reads { Reads (λ m x. x ≡ row_seen (map.get m (root_key ticket))) (T.state table.old) (T.state table.new) result }
+    ensures reads { Reads (λ m x. x ≡ row_seen (map.get m (root_key_of ticket))) (T.state table.old) (T.state table.new) result }
     ensures known { IfOk result (λ x. x ≢ Unknown) }
     ensures calls { AtMostOne (T.state table.old).calls (T.state table.new).calls }
 {
-    let key = RowKey {
-        home: 0,
-        kind: Kind::Intent(IntentId::root(alloc, ticket)),
-    };
-    let said = table.act(key, Act::Look, now)?;
+    let said = table.act(root_key(alloc, ticket), Act::Look, now)?;
     match says_reply(alloc, said) {
         Ok(reply) => Ok(reply),
         Err(_) => Err(OpenErr::OutOfMemory),

@@ -17,9 +17,9 @@ pub take_front : (xs bs : List Answer) → take (length xs) (xs ++ bs) ≡ xs
 take_front [] bs = refl
 take_front (a ∷ xs) bs = ap (λ ys. a ∷ ys) (take_front xs bs)
 
-pub get_next : (xs bs : List Answer) (b : Answer) → slice_get (xs ++ b ∷ bs) (length xs) ≡ Some b
-get_next [] bs b = refl
-get_next (a ∷ xs) bs b = get_next xs bs b
+pub get_after : (xs bs : List Answer) → slice_get (xs ++ bs) (length xs) ≡ slice_get bs 0
+get_after [] bs = refl
+get_after (a ∷ xs) bs = get_after xs bs
 
 -- a function of the answers before a step and of the answer there, after one was put at the end
 pushed_at : {X : Type 0} (f : List Answer → Option Answer → X) → ((ts us : List Answer) → f ts None ≡ f us None) → (xs : List Answer) (a : Answer) (n : ℕ)

@@ -1,6 +1,6 @@
 -- Every event keeps the host and its rows right.
 use Rattle.std.proofs.Common.{◌≡◌, inl, inr, ℕ, zero, suc, ◌+◌, ◌<◌, ◌≤◌, ◌==◌, ◌||◌, ◌&&◌, Bool, true, false, cond, [], ◌∷◌, ◌++◌, Option, None, Some, refl, ap, sym, ◌∙◌, subst, IsTrue, is_some, arith, if◌then◌else◌}
-use Rattle.std.specs.Prelude.{nat_lt, nat_le, ◌^◌, ◌-◌, option_to_list}
+use Rattle.std.specs.Prelude.{nat_lt, nat_le}
 use Rattle.std.specs.FinMap as map
 use Rattle.std.specs.FinMap.{get-empty, len-empty}
 use Rattle.std.specs.Ordering.{is_eq, nat_cmp}
@@ -19,19 +19,16 @@ use Rattle.beldi_row.specs.Key.{key_cmp}
 use Rattle.beldi_row.specs.Log.{note_at}
 use Rattle.beldi_tree.specs.Bindings.{or_null}
 use Rattle.beldi_plain.specs.Item.{item_cmp}
-use Rattle.beldi_row.specs.declared.key.RowKey.{RowKey}
 use Rattle.beldi_row.specs.declared.row.Body.{Body}
 use Rattle.beldi_row.specs.declared.row.IntentRow.{IntentRow}
 use Rattle.beldi_row.specs.declared.row.Row.{Row}
 use Rattle.beldi_row.specs.declared.row.Row.TheVariants as rows
-use Rattle.beldi_row.specs.declared.act.Act.{Act}
-use Rattle.beldi_row.specs.declared.act.Act.TheVariants.{Look, Issue, Bind}
+use Rattle.beldi_row.specs.declared.act.Act.TheVariants.{Issue, Bind}
 use Rattle.beldi_row.specs.Act.{Tell, act, other, outcome_tell, bind_to}
-use Rattle.beldi_row.specs.Table.{Rows, set_row, after_act, tell_act}
-use Rattle.beldi_daal.specs.Walk.{walk_key, walk_act, walk_next}
+use Rattle.beldi_row.specs.Table.{Rows, set_row, after_act}
 use Rattle.beldi_plain.specs.Plain.{Instance, PlainState, start, nothing, with_instance, reply_of, outcome_of}
 use Rattle.beldi_step.specs.declared.event.Event.{Event}
-use Rattle.beldi_step.specs.declared.event.Event.TheVariants.{Ticket, Request, Turn, Lost, Crash, Restart}
+use Rattle.beldi_step.specs.declared.event.Event.TheVariants.{Ticket, Request, Turn, Lost, Crash}
 use Rattle.beldi_step.specs.declared.event.Seen.{Seen}
 use Rattle.beldi_step.specs.declared.event.Seen.TheVariants as seen
 use Rattle.beldi_step.specs.declared.run.Run.{Run}
@@ -39,9 +36,13 @@ use Rattle.beldi_step.specs.declared.run.Begun.{Begun}
 use Rattle.beldi_step.specs.declared.run.Stage.{Stage}
 use Rattle.beldi_step.specs.declared.run.Stage.TheVariants as stage
 use Rattle.beldi_value.specs.declared.id.IntentId.{IntentId}
-use Rattle.beldi_step.specs.Run.{Turned, over, run_key, run_act, run_turned, intent_key, begin_body, body_told, stage_key, stage_act, stage_turned, key_at, act_at, turned_at, place_of, ask_turned, walk_turned, write_turned}
-use Rattle.beldi_step.specs.Intent.{is_added, binding_of}
-use Rattle.beldi_step.specs.Host.{Core, Plan, Answer, Do, Lose, first_core, root_key, most_runs, most_events, ticket_next, new_run, restarted, restart_plan, crash_plan, ended_run, lost_next, lost_plan, bound_next, request_next, turn_next, no_run, turn_plan, request_plan, plan_of, counted, plan, dropped, Acts, Loses, Follows, IsOneEvent, Breaks}
+use Rattle.beldi_walk.specs.declared.query.Query.{Query}
+use Rattle.beldi_walk.specs.Query.{rows_after, told_by}
+use Rattle.beldi_step.specs.Intent.{intent_key, root_key, is_added, binding_of}
+use Rattle.beldi_step.specs.Run.{over, turned_by, stage_asks, stage_says, asks_at, told_at, run_asks, run_told}
+use Rattle.beldi_step.specs.Host.{Core, Plan, at_once, asks, first_core, most_runs, new_run, restarted, ended_run, marked, ticket_next, bound_next, request_next, turn_next, run_next, unheard_next, plan_of, counted, plan, heard}
+use Rattle.beldi_step.proofs.Plans.{PlanHolds, AskHolds, plan_of_holds, plan_holds}
+use Rattle.beldi_step.specs.Forms.{is_lost, dropped, Made, Acts, Asks, Follows, IsOneEvent, Breaks}
 use Rattle.beldi_laws.specs.Stands.{head_key, effect_before}
 use Rattle.beldi_daal.specs.Content.{content_in}
 use Rattle.beldi_laws.specs.Right.{Right, RootMatches, BodyMatches, IntentFits, FitsAt, Knows, KnowsAt, RunAt, StageOk, PlaceOk, SaneAt, SaneInstance, owed_by, owed_value, value_if}
@@ -50,102 +51,56 @@ use Rattle.beldi_laws.proofs.Rows.{root_in_roots}
 use Rattle.beldi_row.proofs.Unchanged.{unchanged, looked}
 use Rattle.std.specs.Option.{option_map}
 use Rattle.beldi_book.specs.Order.{count_changes}
-use Rattle.beldi_daal.specs.ReadWalk.{read_key, read_next}
-use Rattle.beldi_readlog.specs.ReadLog.{log_key, given_in, given_of}
-use Rattle.beldi_order.proofs.Entries.{same_some, new_instance, GrownAt, Grows, made_set, grows_self, grows_set}
-use Rattle.beldi_order.proofs.Growth.{change_last}
-use Rattle.beldi_laws.proofs.Lives.{runs_on, runs_more, runs_less, remove_put}
+use Rattle.beldi_readlog.specs.ReadLog.{log_key, given_in}
+use Rattle.beldi_order.proofs.Entries.{same_some, new_instance, made_set, grows_self}
+use Rattle.beldi_laws.proofs.Lives.{runs_more, runs_less, remove_put}
 use Rattle.beldi_laws.proofs.Steps.{root_set, roots_kept, roots_moved, id_same}
-use Rattle.beldi_laws.proofs.Moves.{After, AfterTurn, AfterAct, replaced, quiet}
-use Rattle.beldi_laws.proofs.Turns.{begin_quiet, close_turn}
+use Rattle.beldi_laws.proofs.Moves.{After, AfterTurn, AfterQuery, AfterAct, replaced, change_entered}
+use Rattle.beldi_laws.proofs.Turns.{begin_turn, close_turn, ends}
 use Rattle.beldi_laws.proofs.Writes.{write_turn}
 use Rattle.beldi_laws.proofs.Readings.{ask_turn, walk_turn, keep_turn}
 
--- what a plan leads to is right
-abbrev Good : Deployment → PlainState → ℕ → Rows → Plan → Type 0
-Good d s now m (Answer b y) = After d s b m y
-Good d s now m (Do k a f) = AfterAct d s m k f (act a now (map.get m k))
-Good d s now m (Lose k a f) = After d s (f (tell_act a now k m)) (after_act a now k m) seen.Dropped
-
-good_if : (d : Deployment) (s : PlainState) (now : ℕ) (m : Rows) (b : Bool) (p q : Plan) → (b ≡ true → Good d s now m p) → (b ≡ false → Good d s now m q) → Good d s now m (if b then p else q)
-good_if d s now m true p q g h = g refl
-good_if d s now m false p q g h = h refl
-
 -- it tells no outcome, nor that a row is absent
-abbrev SaysLittle : Seen → Type 0
-SaysLittle x = (told_outcome x ≡ None) × (is_gone x ≡ false)
+abbrev TellsNothing : Seen → Type 0
+TellsNothing x = (told_outcome x ≡ None) × (is_gone x ≡ false)
 
 -- such an answer, of a host that is as before
-as_before : (d : Deployment) (c : Core) (m : Rows) (x : Seen) → SaysLittle x → (h : Right d c m) → After d h.plain c m x
-as_before d c m x little h = record { right = h; goes_on = grows_self h.plain.made; there = little.1; reply = λ t o e. let g = sym little.0 ∙ e in cc }
-
--- ---- a turn
-module _ (d : Deployment) (c : Core) (m : Rows) (i : ℕ) (r : Run) (h : Right d c m) (live : map.get c.runs i ≡ Some r) where
-  stage_turn : (g : Begun) (k : Knows d c.book h.plain r g) (s : Stage) (e : Effect) → g.machine.effect ≡ e → StageOk r g.machine.steps e s → PlaceOk d c.book r.id r.func k.answers k.later e s
-      → Good d h.plain c.now m (Do (stage_key r g.machine.steps s) (stage_act s) (λ t. turn_next c i (stage_turned d r (count_changes c.book) g.machine s t)))
-  stage_turn g k (stage.Ask w) (Read t key) is ok at =
-      let k0 = log_key r.func (place_of r.id g.machine.steps) in
-      subst (λ w. Good d h.plain c.now m (Do k0 Look (λ t. turn_next c i (ask_turned d r g.machine w (given_of t))))) (sym ok) (ask_turn d c m i r g h live k t key is (map.get m k0) refl)
-  stage_turn g k (stage.Walk w) (Read t key) is ok at =
-      let head = head_key (record { func = r.func; table = t; key = key }) in
-      subst (λ w. Good d h.plain c.now m (Do (read_key w) Look (λ t. turn_next c i (walk_turned r g.machine w (count_changes c.book) (read_next w t))))) (sym ok)
-      (walk_turn d c m i r g h live k t key is (map.get m head) refl (h.rows.one_row head))
-  stage_turn g k (stage.Keep v seen) (Read t key) is ok at =
-      let k0 = log_key r.func (place_of r.id g.machine.steps) in
-      keep_turn d c m i r g h live k t key is v seen at (map.get m k0) refl (h.rows.one_row k0)
-  stage_turn g k (stage.Write w) (Write t key v) is ok at =
-      subst (λ w. Good d h.plain c.now m (Do (walk_key w) (walk_act w) (λ t. turn_next c i (write_turned d r g.machine (walk_next w t))))) (sym ok.1) (write_turn d c m i r g h live k t key v is ok.0)
-  stage_turn g k (stage.Close o) (Return u) is ok at = close_turn d c m i r g h live k o (map.get m (intent_key r.id r.func)) refl (h.rows.one_row (intent_key r.id r.func)) (is ∙ ap Return (sym ok))
-  stage_turn g k stage.Unbuilt e is ok at =
-      let key = intent_key r.id r.func in
-      subst (AfterTurn d h.plain c i over) (sym (looked c.now key m))
-      (quiet d c m m i r over h live (λ t. refl) (record { entry = refl; reply = refl; next = tt }) h.rows)
-  stage_turn g k s e is ok at = absurd ok
-
-  at_turn : (at : Option Begun) → KnowsAt d c.book h.plain r at → Good d h.plain c.now m (Do (key_at r at) (act_at at) (λ t. turn_next c i (turned_at d r (count_changes c.book) at t)))
-  at_turn None k =
-      let key = intent_key r.id r.func in
-      let s = begin_body d r (body_told (tell_act Look c.now key m)) in
-      subst (AfterTurn d h.plain c i s) (sym (looked c.now key m))
-      (quiet d c m m i r s h live (λ t. refl) (begin_quiet d c.book m h.plain h.rows r c.now (map.get m key) refl (h.rows.one_row key)) h.rows)
-  at_turn (Some g) k = stage_turn g k g.stage g.machine.effect refl k.run_stage k.run_place
-
-says_no_run : (b : Bool) → SaysLittle (if b then seen.NoRun else seen.RunOver)
-says_no_run true = (refl, refl)
-says_no_run false = (refl, refl)
-
-good_turn : (d : Deployment) (c : Core) (m : Rows) (i : ℕ) (h : Right d c m) (o : Option Run) → map.get c.runs i ≡ o → RunAt d c.book h.plain o → Good d h.plain c.now m (turn_plan d c i o)
-good_turn d c m i h None is k = as_before d c m (no_run c i) (says_no_run ((i == 0) || nat_lt c.last_run i)) h
-good_turn d c m i h (Some r) is k = at_turn d c m i r h is r.at k
+as_before : (d : Deployment) (c : Core) (m : Rows) (x : Seen) → TellsNothing x → (h : Right d c m) → After d h.plain c m x
+as_before d c m x nothing h = record { right = h; goes_on = grows_self h.plain.made; there = nothing.1; reply = λ t o e. let g = sym nothing.0 ∙ e in cc }
 
 -- ---- a run that ends
 abbrev without : (d : Deployment) (c : Core) (m : Rows) (i : ℕ) → Right d c m → Right d (ended_run c i) m
 without d c m i h = record { plain = h.plain; bounded = h.bounded; legal = h.legal; sane = h.sane; rows = h.rows; tickets = h.tickets; runs = runs_less d c.book h.plain c.runs c.last_run i h.runs }
 
--- a turn whose answer is lost leaves what the turn leaves, without the run
-answer_lost : (d : Deployment) (p : PlainState) (c : Core) (i : ℕ) (s : Turned) (n : Rows) (x : Seen) → After d p (turn_next c i s).0 n x → After d p (lost_next c i s) n seen.Dropped
-answer_lost d p c i s n x a =
-    subst (λ r. After d p (record c { runs = r; book = c.book ++ option_to_list s.entry }) n seen.Dropped) (remove_put c.runs i s.next)
-    (record { right = without d (turn_next c i s).0 n i a.right; goes_on = a.goes_on; there = refl; reply = λ t o e. cc })
+-- ---- a turn
+module _ (d : Deployment) (c : Core) (m : Rows) (i : ℕ) (h : Right d c m) (r : Run) (live : map.get c.runs i ≡ Some r) where
+  stage_turn : (g : Begun) (k : Knows d c.book h.plain r g) (e : Effect) (s : Stage) → g.machine.effect ≡ e → StageOk e s → PlaceOk d c.book r.id r.func k.answers k.later e s
+      → AfterQuery d h.plain c.now m (λ t. turn_next c i r.id (turned_by d r g (stage_says r.id (count_changes c.book) e s t))) (stage_asks r.id r.func g.machine.steps e s)
+  stage_turn g k (Read t key) stage.Ask is ok at = ask_turn d c m i r g h live k t key is
+  stage_turn g k (Read t key) stage.Walk is ok at = let head = head_key (record { func = r.func; table = t; key = key }) in walk_turn d c m i r g h live k t key is (map.get m head) refl (h.rows.one_row head)
+  stage_turn g k (Read t key) (stage.Keep v seen) is ok at = keep_turn d c m i r g h live k t key is v seen at
+  stage_turn g k (Write t key v) (stage.Write w) is ok at = write_turn d c m i r g h live k t key v is w
+  stage_turn g k (Return o) stage.Close is ok at = close_turn d c m i r g h live k o is (map.get m (intent_key r.id r.func)) refl (h.rows.one_row (intent_key r.id r.func))
+  stage_turn g k e stage.Unbuilt is ok at = subst (AfterTurn d h.plain c i r.id over) (sym (looked c.now (intent_key r.id r.func) m)) (ends d c m i r g h live k e is)
+  stage_turn g k e s is ok at = absurd ok
 
-good_lost : (d : Deployment) (c : Core) (m : Rows) (i : ℕ) (h : Right d c m) (o : Option Run) → map.get c.runs i ≡ o → RunAt d c.book h.plain o → Good d h.plain c.now m (lost_plan d c i o)
-good_lost d c m i h None is k = as_before d c m (no_run c i) (says_no_run ((i == 0) || nat_lt c.last_run i)) h
-good_lost d c m i h (Some r) is k =
-    let s = run_turned d r (count_changes c.book) (tell_act (run_act r) c.now (run_key r) m) in
-    answer_lost d h.plain c i s (after_act (run_act r) c.now (run_key r) m) (turn_next c i s).1 (good_turn d c m i h (Some r) is k)
+  at_turn : (at : Option Begun) → KnowsAt d c.book h.plain r at → AfterQuery d h.plain c.now m (λ t. turn_next c i r.id (told_at d (count_changes c.book) r at t)) (asks_at r at)
+  at_turn None k = begin_turn d c m i r h live
+  at_turn (Some g) k = stage_turn g k g.machine.effect g.stage refl k.run_stage k.run_place
 
-good_crash : (d : Deployment) (c : Core) (m : Rows) (i : ℕ) (h : Right d c m) (o : Option Run) → Good d h.plain c.now m (crash_plan c i o)
-good_crash d c m i h None = as_before d c m (no_run c i) (says_no_run ((i == 0) || nat_lt c.last_run i)) h
-good_crash d c m i h (Some r) = as_before d (ended_run c i) m seen.Crashed (refl, refl) (without d c m i h)
+  turn_made : AfterQuery d h.plain c.now m (λ t. run_next d c i t (Some r)) (run_asks r)
+  turn_made = at_turn r.at (subst (RunAt d c.book h.plain) live (h.runs.runs i))
+
+  -- nobody hears what it told: it leaves what the turn leaves, without the run
+  turn_unheard : AfterQuery d h.plain c.now m (λ t. (unheard_next d c i t (Some r), seen.Dropped)) (run_asks r)
+  turn_unheard =
+      let s = run_told d (count_changes c.book) r (told_by (run_asks r) c.now m) in
+      subst (λ f. After d h.plain (record c { runs = f; book = marked c.book r.id s.mark }) (rows_after (run_asks r) c.now m) seen.Dropped) (remove_put c.runs i s.next)
+      (record { right = without d (turn_next c i r.id s).0 (rows_after (run_asks r) c.now m) i turn_made.right; goes_on = turn_made.goes_on; there = refl; reply = λ t o e. cc })
 
 -- ---- a run more
 abbrev with_run : (d : Deployment) (c : Core) (m : Rows) (id : IntentId) (f : ℕ) → map.len c.runs < most_runs → Right d c m → Right d (restarted c id f) m
 with_run d c m id f few h = record { plain = h.plain; bounded = h.bounded; legal = h.legal; sane = h.sane; rows = h.rows; tickets = h.tickets; runs = runs_more d c.book h.plain c.runs c.last_run (new_run id f) few tt h.runs }
-
-good_restart : (d : Deployment) (c : Core) (m : Rows) (h : Right d c m) (id : IntentId) (f : ℕ) → Good d h.plain c.now m (restart_plan c id f)
-good_restart d c m h id f =
-    good_if d h.plain c.now m (nat_le most_runs (map.len c.runs)) _ _ (λ e. as_before d c m seen.Crowded (refl, refl) h)
-    (λ few. as_before d (restarted c id f) m (seen.Started (c.last_run + 1)) (refl, refl) (with_run d c m id f (leb-false most_runs (map.len c.runs) few) h))
 
 -- ---- a ticket
 roots_apart : (t u : ℕ) → is_eq (id_cmp (root_of t) (root_of u)) ≡ false → t ≡ u → ⊥
@@ -201,9 +156,6 @@ module _ (d : Deployment) (c : Core) (m : Rows) (h : Right d c m) where
   ticket_by None is = subst (λ (r : Option Row). After d h.plain (record c { newest = c.newest + 1 }) (set_row m (root_key (c.newest + 1)) (act Issue c.now r).0) (seen.Issued (c.newest + 1))) is (issued is)
   ticket_by (Some r) is = let clash : true ≡ false = sym (ap is_some is) ∙ h.tickets (c.newest + 1) ∙ not_issued c.newest in cc
 
-  good_ticket : Good d h.plain c.now m (plan_of d Ticket c)
-  good_ticket = good_if d h.plain c.now m (c.newest == 2 ^ 32 - 1) (Answer c seen.NoTicket) (Do (root_key (c.newest + 1)) Issue (λ t. ticket_next c (is_added t))) (λ e. as_before d c m seen.NoTicket (refl, refl) h) (λ e. ticket_by (map.get m (root_key (c.newest + 1))) refl)
-
 -- ---- a request
 start_is : (p : PlainState) (t f : ℕ) (a : Value) (o : Option Instance) → (t == 0) ≡ false → o ≡ None → start p t f a o ≡ Some (with_instance p (root_of t) (new_instance f a))
 start_is p zero f a o z e = cc
@@ -234,13 +186,12 @@ module _ (d : Deployment) (c : Core) (m : Rows) (h : Right d c m) (t f : ℕ) (a
   request_bound : (i : IntentRow) → map.get m (root_key t) ≡ Some (rows.Intent i) → IntentFits 0 (root_of t) i → i.body ≡ None → map.get h.plain.made (root_of t) ≡ None
       → After d h.plain (bound_next c t f a).0 (set_row m (root_key t) (Some (rows.Intent (bound_row i)))) (bound_next c t f a).1
   request_bound i is fits bare not_made =
-      let last = change_last d c.book h.plain (Start t f a) state (record { bounded = h.bounded; legal = h.legal; change = refl; enabled = start_is h.plain t f a (map.get h.plain.made (root_of t)) (first_false (t == 0) (nat_lt c.newest t) known) not_made }) in
-      let grows = grows_set h.plain.made (root_of t) (new_instance f a) (subst (λ z. GrownAt z (Some (new_instance f a))) (sym not_made) tt) in
+      let leads = change_entered d c m h (Start t f a) state refl (start_is h.plain t f a (map.get h.plain.made (root_of t)) (first_false (t == 0) (nat_lt c.newest t) known) not_made) in
       record {
         right = record {
           plain = state;
-          bounded = last.bounded;
-          legal = last.legal;
+          bounded = leads.bounded;
+          legal = leads.legal;
           sane = made_set h.plain.made (root_of t) (new_instance f a) (λ id s. SaneAt d s) (new_sane d f a) h.sane;
           rows = root_set d m h.plain state t (bound_row i) (record { root = refl; home_is = refl; bare = λ e. cc; finishes = fits.finishes }) refl
               (λ x b. made_set h.plain.made (root_of t) (new_instance f a) (λ id s. owed_by d x b.step s ≡ owed_by d x b.step (map.get h.plain.made id)) (ap (owed_by d x b.step) (sym not_made)) (λ id. refl) b.intent)
@@ -249,9 +200,9 @@ module _ (d : Deployment) (c : Core) (m : Rows) (h : Right d c m) (t f : ℕ) (a
               (record { instance = new_instance f a; made = refl; func = refl; args = refl; outcome = sym (fits.bare bare); no_tx = refl; no_caller = refl }) h.rows.roots)
               h.rows;
           tickets = λ u. replaced m (root_key t) (Some (rows.Intent (bound_row i))) (ap is_some (sym is)) u ∙ h.tickets u;
-          runs = runs_more d (c.book ++ Start t f a ∷ []) state c.runs c.last_run (new_run (root_of t) f) room tt (runs_on d c.book (Start t f a) h.plain state c.runs c.last_run grows last h.runs);
+          runs = runs_more d (c.book ++ Start t f a ∷ []) state c.runs c.last_run (new_run (root_of t) f) room tt leads.runs;
         };
-        goes_on = grows;
+        goes_on = leads.grows;
         there = refl;
         reply = λ u o e. cc;
       }
@@ -280,86 +231,82 @@ module _ (d : Deployment) (c : Core) (m : Rows) (h : Right d c m) (t f : ℕ) (a
   request_row (Some (rows.Intent i)) is fits root = request_by i i.body refl is fits root
   request_row (Some r) is fits root = absurd fits
 
-good_request : (d : Deployment) (c : Core) (m : Rows) (h : Right d c m) (t f : ℕ) (a : Value) → Good d h.plain c.now m (request_plan c t f a)
-good_request d c m h t f a =
-    good_if d h.plain c.now m ((t == 0) || nat_lt c.newest t) _ _ (λ e. as_before d c m (seen.Unknown t) (refl, refl) h) (λ known.
-    good_if d h.plain c.now m (nat_le most_runs (map.len c.runs)) _ _ (λ e. as_before d c m seen.Crowded (refl, refl) h) (λ few.
-    request_row d c m h t f a known (leb-false most_runs (map.len c.runs) few) (map.get m (root_key t)) refl (h.rows.one_row (root_key t)) (h.rows.roots t)))
-
 -- ---- every event
 -- the host that took the event is as right as before
 abbrev taken : (d : Deployment) (c : Core) (m : Rows) → Right d c m → Right d (counted c) m
 taken d c m h = record { plain = h.plain; bounded = h.bounded; legal = h.legal; sane = h.sane; rows = h.rows; tickets = h.tickets; runs = h.runs }
 
-good_event : (d : Deployment) (e : Event) (c : Core) (m : Rows) (h : Right d c m) → Good d h.plain c.now m (plan_of d e c)
-good_event d Ticket c m h = good_ticket d c m h
-good_event d (Request t f a) c m h = good_request d c m h t f a
-good_event d (Turn i) c m h = good_turn d c m i h (map.get c.runs i) refl (h.runs.runs i)
-good_event d (Lost i) c m h = good_lost d c m i h (map.get c.runs i) refl (h.runs.runs i)
-good_event d (Crash i) c m h = good_crash d c m i h (map.get c.runs i)
-good_event d (Restart id f) c m h = good_restart d c m h id f
+module _ (d : Deployment) (m : Rows) (p : PlainState) (e : Event) (c : Core) where
+  -- the host after an event that was counted, if it is answered at once
+  abbrev RightAtOnce : Core → Seen → Type 0
+  RightAtOnce b y = After d p b m y
 
-good_plan : (d : Deployment) (e : Event) (c : Core) (m : Rows) (h : Right d c m) → Good d h.plain c.now m (plan d e c)
-good_plan d e c m h = good_if d h.plain c.now m (nat_lt c.taken most_events) _ _ (λ b. good_event d e (counted c) m (taken d c m h)) (λ b. as_before d c m seen.Spent (refl, refl) h)
+  -- .. and if it asks
+  abbrev RightAsked : Query → Type 0
+  RightAsked q = AfterQuery d p c.now m (heard d e c) q
 
+right_asked : (d : Deployment) (e : Event) (c : Core) (m : Rows) (h : Right d c m) → AskHolds (RightAtOnce d m h.plain e c) (RightAsked d m h.plain e c) e c
+right_asked d Ticket c m h = ticket_by d c m h (map.get m (root_key (c.newest + 1))) refl
+right_asked d (Request t f a) c m h = λ known few. request_row d c m h t f a known few (map.get m (root_key t)) refl (h.rows.one_row (root_key t)) (h.rows.roots t)
+right_asked d (Turn i) c m h = λ r live. subst (λ o. AfterQuery d h.plain c.now m (λ t. run_next d c i t o) (run_asks r)) (sym live) (turn_made d c m i h r live)
+right_asked d (Lost i) c m h = λ r live. subst (λ o. AfterQuery d h.plain c.now m (λ t. (unheard_next d c i t o, seen.Dropped)) (run_asks r)) (sym live) (turn_unheard d c m i h r live)
+right_asked d e c m h = tt
+
+right_counted : (d : Deployment) (e : Event) (c : Core) (m : Rows) (h : Right d c m) → PlanHolds (RightAtOnce d m h.plain e c) (RightAsked d m h.plain e c) (plan_of e c)
+right_counted d e c m h = plan_of_holds (RightAtOnce d m h.plain e c) (RightAsked d m h.plain e c) e c (record {
+  no_ticket = as_before d c m seen.NoTicket (refl, refl) h;
+  unknown = λ t. as_before d c m (seen.Unknown t) (refl, refl) h;
+  crowded = as_before d c m seen.Crowded (refl, refl) h;
+  no_run = as_before d c m seen.NoRun (refl, refl) h;
+  run_over = as_before d c m seen.RunOver (refl, refl) h;
+  crashed = λ i. as_before d (ended_run c i) m seen.Crashed (refl, refl) (without d c m i h);
+  restarts = λ id f is room. as_before d (restarted c id f) m (seen.Started (c.last_run + 1)) (refl, refl) (with_run d c m id f room h);
+}) (right_asked d e c m h)
+
+right_planned : (d : Deployment) (e : Event) (c : Core) (m : Rows) (h : Right d c m) → PlanHolds (RightAtOnce d m h.plain e (counted c)) (RightAsked d m h.plain e (counted c)) (plan e c)
+right_planned d e c m h = plan_holds (RightAtOnce d m h.plain e (counted c)) (RightAsked d m h.plain e (counted c)) e c (as_before d c m seen.Spent (refl, refl) h) (λ few. right_counted d e (counted c) m (taken d c m h))
+
+-- the query was not made
 after_dropped : (d : Deployment) (e : Event) (c : Core) (m : Rows) (h : Right d c m) → After d h.plain (dropped e c) m seen.Dropped
-after_dropped d Ticket c m h = as_before d c m seen.Dropped (refl, refl) h
-after_dropped d (Request t f a) c m h = as_before d c m seen.Dropped (refl, refl) h
 after_dropped d (Turn i) c m h = as_before d (ended_run c i) m seen.Dropped (refl, refl) (without d c m i h)
 after_dropped d (Lost i) c m h = as_before d (ended_run c i) m seen.Dropped (refl, refl) (without d c m i h)
-after_dropped d (Crash i) c m h = as_before d c m seen.Dropped (refl, refl) h
-after_dropped d (Restart id f) c m h = as_before d c m seen.Dropped (refl, refl) h
+after_dropped d e c m h = as_before d c m seen.Dropped (refl, refl) h
 
-kept : (d : Deployment) (p : PlainState) (c b : Core) (m n : Rows) (x : Seen) → n ≡ m → b ≡ c → After d p c m x → After d p b n x
-kept d p c b m n x rows core h = subst (λ k. After d p b k x) (sym rows) (subst (λ k. After d p k m x) (sym core) h)
+so_left : (d : Deployment) (p : PlainState) (c b : Core) (m n : Rows) (x : Seen) → n ≡ m → b ≡ c → After d p c m x → After d p b n x
+so_left d p c b m n x rows core h = subst (λ k. After d p b k x) (sym rows) (subst (λ k. After d p k m x) (sym core) h)
 
-after_acts : (d : Deployment) (room old new : ℕ) (e : Event) (c : Core) (k : RowKey) (a : Act) (f : Tell → Core × Seen) (m : Rows) (b : Core) (n : Rows) (x : Seen) (h : Right d c m) → Good d h.plain c.now m (Do k a f) → Acts room old new e c k a f m b n x → After d h.plain b n x
-after_acts d room old new e c k a f m b n (seen.Full live most) h g s = kept d h.plain c b m n (seen.Full live most) s.0 s.1 (as_before d c m (seen.Full live most) (refl, refl) h)
-after_acts d room old new e c k a f m b n seen.Dropped h g s = kept d h.plain (dropped e c) b m n seen.Dropped s.0 s.1 (after_dropped d e c m h)
-after_acts d room old new e c k a f m b n x h g s = subst (λ l. After d h.plain b l x) (sym s.0) (subst (λ (z : Core × Seen). After d h.plain z.0 (after_act a c.now k m) z.1) (sym s.1) g)
+module _ (d : Deployment) (room old new : ℕ) (e : Event) (c b : Core) (m n : Rows) (h : Right d c m) where
+  after_made : (q : Query) (x : Seen) → AfterQuery d h.plain c.now m (heard d e c) q → Made d room e c q m b n x → After d h.plain b n x
+  after_made q x g s = subst (λ l. After d h.plain b l x) (sym s.0) (subst (λ (z : Core × Seen). After d h.plain z.0 (rows_after q c.now m) z.1) (sym s.1) g)
 
-after_loses : (d : Deployment) (room old new : ℕ) (e : Event) (c : Core) (k : RowKey) (a : Act) (f : Tell → Core) (m : Rows) (b : Core) (n : Rows) (h : Right d c m) → Good d h.plain c.now m (Lose k a f) → Loses room old new e c k a f m b n → After d h.plain b n seen.Dropped
-after_loses d room old new e c k a f m b n h g s = elim s [
-  | inl s ↦ kept d h.plain (f (tell_act a c.now k m)) b (after_act a c.now k m) n seen.Dropped s.0 s.1 g
-  | inr s ↦ kept d h.plain (dropped e c) b m n seen.Dropped s.0 s.1 (after_dropped d e c m h)
-]
+  after_acts : (q : Query) (x : Seen) → AfterQuery d h.plain c.now m (heard d e c) q → Acts d room old new e c q m b n x → After d h.plain b n x
+  after_acts q (seen.Full live most) g s = so_left d h.plain c b m n (seen.Full live most) s.0 s.1 (as_before d c m (seen.Full live most) (refl, refl) h)
+  after_acts q seen.Dropped g s = so_left d h.plain (dropped e c) b m n seen.Dropped s.0 s.1 (after_dropped d e c m h)
+  after_acts q x g s = after_made q x g s
 
-after_plan : (d : Deployment) (room old new : ℕ) (e : Event) (c : Core) (p : Plan) (m : Rows) (b : Core) (n : Rows) (x : Seen) (h : Right d c m) → Good d h.plain c.now m p → Follows room old new e c p m b n x → After d h.plain b n x
-after_plan d room old new e c (Answer k y) m b n x h g s = kept d h.plain k b m n x s.0 s.1 (subst (λ z. After d h.plain k m z) (sym s.2) g)
-after_plan d room old new e c (Do k a f) m b n x h g s = after_acts d room old new e c k a f m b n x h g s
-after_plan d room old new e c (Lose k a f) m b n x h g s = subst (λ z. After d h.plain b n z) (sym s.0) (after_loses d room old new e c k a f m b n h g s.1)
+  after_asks : (lost : Bool) (q : Query) (x : Seen) → AfterQuery d h.plain c.now m (heard d e c) q → Asks d room old new lost e c q m b n x → After d h.plain b n x
+  after_asks false q x g s = after_acts q x g s
+  after_asks true q x g s = subst (λ z. After d h.plain b n z) (sym s.0) (elim s.1 [
+    | inl s ↦ after_made q seen.Dropped g s
+    | inr s ↦ so_left d h.plain (dropped e c) b m n seen.Dropped s.0 s.1 (after_dropped d e c m h)
+  ])
 
--- an event
+  after_follows : (p : Plan) (x : Seen) → PlanHolds (RightAtOnce d m h.plain e c) (RightAsked d m h.plain e c) p → Follows d room old new e c p m b n x → After d h.plain b n x
+  after_follows (at_once k y) x g s = so_left d h.plain k b m n x s.0 s.1 (subst (λ z. After d h.plain k m z) (sym s.2) g)
+  after_follows (asks q) x g s = after_asks (is_lost e) q x g s
+
 pub after_event : (d : Deployment) (room old new : ℕ) (e : Event) (c b : Core) (m n : Rows) (x : Seen) (h : Right d c m) → IsOneEvent d room old new e c m b n x → After d h.plain b n x
-after_event d room old new e c b m n x h s = after_plan d room old new e (counted c) (plan d e c) m b n x (taken d c m h) (good_plan d e c m h) s
+after_event d room old new e c b m n x h s = after_follows d room old new e (counted c) b m n (taken d c m h) (plan e c) x (right_planned d e c m h) s
 
--- want of memory in an event
-pub record AfterBreak (d : Deployment) (p : PlainState) (b : Core) (n : Rows) : Type 0 where
-  pub right : Right d b n
-  pub goes_on : Grows p.made right.plain.made
-
-broken : (d : Deployment) (p : PlainState) (c b : Core) (m n : Rows) → n ≡ m → b ≡ c → AfterBreak d p c m → AfterBreak d p b n
-broken d p c b m n rows core h = subst (λ k. AfterBreak d p b k) (sym rows) (subst (λ k. AfterBreak d p k m) (sym core) h)
-
-untouched : (d : Deployment) (c : Core) (m : Rows) (h : Right d c m) → AfterBreak d h.plain c m
-untouched d c m h = record { right = h; goes_on = grows_self h.plain.made }
-
-run_lost : (d : Deployment) (p : PlainState) (c : Core) (m : Rows) (i : ℕ) (h : Right d c m) → Grows p.made h.plain.made → AfterBreak d p (dropped (Turn i) c) m
-run_lost d p c m i h grows = record { right = without d c m i h; goes_on = grows }
-
-pub after_break : (d : Deployment) (e : Event) (c b : Core) (m n : Rows) (h : Right d c m) → Breaks d e c m b n → AfterBreak d h.plain b n
-after_break d Ticket c b m n h s = broken d h.plain (counted c) b m n s.0 s.1 (untouched d (counted c) m (taken d c m h))
-after_break d (Request t f a) c b m n h s = broken d h.plain (counted c) b m n s.0 s.1 (untouched d (counted c) m (taken d c m h))
-after_break d (Lost i) c b m n h s = broken d h.plain (ended_run (counted c) i) b m n s.0 s.1 (run_lost d h.plain (counted c) m i (taken d c m h) (grows_self h.plain.made))
+-- after want of memory the host is as after an event that was dropped
+pub after_break : (d : Deployment) (e : Event) (c b : Core) (m n : Rows) (h : Right d c m) → Breaks d e c m b n → After d h.plain b n seen.Dropped
 after_break d (Crash i) c b m n h s = absurd s
-after_break d (Restart id f) c b m n h s = broken d h.plain (counted c) b m n s.0 s.1 (untouched d (counted c) m (taken d c m h))
 after_break d (Turn i) c b m n h s = elim s [
-  | inl s ↦ broken d h.plain (dropped (Turn i) (counted c)) b m n s.0 s.1 (run_lost d h.plain (counted c) m i (taken d c m h) (grows_self h.plain.made))
-  | inr s ↦
-      let next = s.2 (tell_act s.1 c.now s.0 m) in
-      let after : After d h.plain next.0 (after_act s.1 c.now s.0 m) next.1 = subst (λ p. Good d h.plain c.now m p) s.3 (good_event d (Turn i) (counted c) m (taken d c m h)) in
-      broken d h.plain (dropped (Turn i) next.0) b (after_act s.1 c.now s.0 m) n s.4 s.5 (run_lost d h.plain next.0 (after_act s.1 c.now s.0 m) i after.right after.goes_on)
+  | inl s ↦ so_left d h.plain (ended_run (counted c) i) b m n seen.Dropped s.0 s.1 (after_dropped d (Turn i) (counted c) m (taken d c m h))
+  | inr s ↦ so_left d h.plain (unheard_next d (counted c) i (told_by s.0 c.now m) (map.get c.runs i)) b (rows_after s.0 c.now m) n seen.Dropped s.2 (same_some (sym s.3))
+      (subst (PlanHolds (RightAtOnce d m h.plain (Lost i) (counted c)) (RightAsked d m h.plain (Lost i) (counted c))) s.1 (right_counted d (Lost i) (counted c) m (taken d c m h)))
 ]
+after_break d e c b m n h s = so_left d h.plain (dropped e (counted c)) b m n seen.Dropped s.0 s.1 (after_dropped d e (counted c) m (taken d c m h))
 
 -- ---- a host that nothing has happened to
 no_ticket : (t : ℕ) → (nat_lt 0 t && nat_le t 0) ≡ false

@@ -1,11 +1,11 @@
 mod Effects
 pub mod Events
 pub mod Listing
-pub mod Little
 pub mod Lives
 mod Moves
 mod Notes
 pub mod OneAnswer
+pub mod OneEvent
 mod Readings
 mod Rows
 pub mod Standing

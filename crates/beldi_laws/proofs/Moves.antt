@@ -1,7 +1,8 @@
--- The host after a turn: the run went on or is over, and the book has the turn's entry.
-use Rattle.std.proofs.Common.{◌≡◌, ℕ, false, List, [], ◌∷◌, ◌++◌, Option, None, Some, refl, ap, sym, ◌∙◌, subst, is_some, append-nil}
-use Rattle.std.specs.Prelude.{option_to_list}
+-- The host after an event: what it makes of the table, and how the book and the runs went on.
+use Rattle.std.proofs.Common.{◌≡◌, ℕ, false, [], ◌∷◌, ◌++◌, Option, None, Some, refl, ap, sym, ◌∙◌, subst, is_some, append-nil}
+use Rattle.std.specs.Option.{option_map}
 use Rattle.std.specs.FinMap as map
+use Rattle.beldi_value.specs.declared.id.IntentId.{IntentId}
 use Rattle.beldi_value.specs.declared.outcome.Outcome.{Outcome}
 use Rattle.beldi_tree.specs.declared.deployment.Deployment.{Deployment}
 use Rattle.beldi_book.specs.declared.entry.Entry.{Entry}
@@ -11,21 +12,25 @@ use Rattle.beldi_row.specs.declared.key.RowKey.{RowKey}
 use Rattle.beldi_row.specs.declared.row.Row.{Row}
 use Rattle.beldi_row.specs.Act.{Tell}
 use Rattle.beldi_row.specs.Table.{Rows, set_row}
+use Rattle.beldi_walk.specs.declared.query.Query.{Query}
+use Rattle.beldi_walk.specs.Query.{Told, said, rows_after, told_by}
 use Rattle.beldi_plain.specs.Plain.{PlainState, after, reply_of}
 use Rattle.beldi_plain.specs.Legal.{run_of}
 use Rattle.beldi_step.specs.declared.event.Seen.{Seen}
+use Rattle.beldi_step.specs.declared.run.Mark.{Mark}
 use Rattle.beldi_step.specs.declared.run.Run.{Run}
+use Rattle.beldi_step.specs.Intent.{root_key}
 use Rattle.beldi_step.specs.Run.{Turned}
-use Rattle.beldi_step.specs.Host.{Core, root_key, put_run, turn_next}
+use Rattle.beldi_step.specs.Host.{Core, put_run, entry_of, turn_next}
 use Rattle.beldi_laws.specs.Right.{Right, RowsMatch, RunAt, RunsMatch, Sane}
 use Rattle.beldi_laws.specs.Laws.{told_outcome, is_gone}
 use Rattle.beldi_row.proofs.Gets.{got}
+use Rattle.beldi_row.proofs.Unchanged.{unchanged}
 use Rattle.beldi_order.specs.Laws.{IsLast}
-use Rattle.beldi_order.proofs.Entries.{Grows, changed, grows_self, after_grows}
+use Rattle.beldi_order.proofs.Entries.{Grows, same_some, changed, grows_self, after_grows}
 use Rattle.beldi_order.proofs.Growth.{change_last}
 use Rattle.beldi_laws.proofs.Lives.{runs_on, runs_put}
 
--- ---- the host after an event
 -- it is right; what was made before, in the plain state p, goes on; and an outcome that the answer tells is the plain one
 pub record After (d : Deployment) (p : PlainState) (b : Core) (n : Rows) (x : Seen) : Type 0 where
   pub right : Right d b n
@@ -33,13 +38,21 @@ pub record After (d : Deployment) (p : PlainState) (b : Core) (n : Rows) (x : Se
   pub there : is_gone x ≡ false
   pub reply : (t : ℕ) (o : Outcome) → told_outcome x ≡ Some (t, o) → reply_of right.plain t ≡ Some o
 
--- the host after a turn
-abbrev pub AfterTurn : Deployment → PlainState → Core → ℕ → Turned → Rows → Type 0
-AfterTurn d p c i s n = After d p (turn_next c i s).0 n (turn_next c i s).1
+-- after a query, by what follows from what it told
+abbrev pub AfterQuery : Deployment → PlainState → ℕ → Rows → (Told → Core × Seen) → Query → Type 0
+AfterQuery d p now m f q = After d p (f (told_by q now m)).0 (rows_after q now m) (f (told_by q now m)).1
 
--- the host after an act on the row of a key, by what it left there and what it told
-abbrev pub AfterAct : Deployment → PlainState → Rows → RowKey → (Tell → Core × Seen) → Option Row × Tell → Type 0
-AfterAct d p m k f z = After d p (f z.1).0 (set_row m k z.0) (f z.1).1
+-- after an act on the row of a key, by what it left there and what it told
+abbrev pub AfterAct : Deployment → PlainState → Rows → RowKey → (Told → Core × Seen) → Option Row × Tell → Type 0
+AfterAct d p m k f z = After d p (f (said z.1)).0 (set_row m k z.0) (f (said z.1)).1
+
+-- an act that left the row as it was
+pub still : {b : Core} {x : Seen} (d : Deployment) (p : PlainState) (m : Rows) (k : RowKey) (v : Option Row) → v ≡ map.get m k → After d p b m x → After d p b (set_row m k v) x
+still {b} {x} d p m k v same a = subst (λ n. After d p b n x) (sym (unchanged m k v same)) a
+
+-- after a turn
+abbrev pub AfterTurn : Deployment → PlainState → Core → ℕ → IntentId → Turned → Rows → Type 0
+AfterTurn d p c i id s n = After d p (turn_next c i id s).0 n (turn_next c i id s).1
 
 -- the same roots have rows
 abbrev pub SameRoots : Rows → Rows → Type 0
@@ -48,66 +61,58 @@ SameRoots m n = (t : ℕ) → is_some (map.get n (root_key t)) ≡ is_some (map.
 pub replaced : (m : Rows) (k : RowKey) (v : Option Row) → is_some v ≡ is_some (map.get m k) → SameRoots m (set_row m k v)
 replaced m k v h t = changed key_exact m (set_row m k v) k v (λ q. got m k q v) (λ q r. is_some r ≡ is_some (map.get m q)) h (λ q. refl) (root_key t)
 
--- a turn without an entry
-pub record IsQuiet (d : Deployment) (book : List Entry) (p : PlainState) (s : Turned) : Type 0 where
-  pub entry : s.entry ≡ None
-  pub reply : s.reply ≡ None
-  pub next : RunAt d book p s.next
+-- ---- the book with an entry more leads to the plain state q, and the live runs know what they have to
+pub record Entered (d : Deployment) (c : Core) (p : PlainState) (e : Entry) (q : PlainState) : Type 0 where
+  pub grows : Grows p.made q.made
+  pub bounded : SeenBounded 0 (c.book ++ e ∷ [])
+  pub legal : run_of d (c.book ++ e ∷ []) ≡ Some q
+  pub runs : RunsMatch d (c.book ++ e ∷ []) q c.runs c.last_run
 
--- a turn whose entry is a change, that leads to the plain state q
-pub record IsStep (d : Deployment) (book : List Entry) (p q : PlainState) (s : Turned) : Type 0 where
-  pub made : Entry
-  pub entry : s.entry ≡ Some made
-  pub change : seen_of made ≡ None
-  pub after : after d p made ≡ Some q
-  pub sane : Sane d q
-  pub reply : (t : ℕ) (o : Outcome) → s.reply ≡ Some (t, o) → reply_of q t ≡ Some o
-  pub next : RunAt d (book ++ made ∷ []) q s.next
+-- where the entry is a change
+pub change_entered : (d : Deployment) (c : Core) (m : Rows) (h : Right d c m) (e : Entry) (q : PlainState) → seen_of e ≡ None → after d h.plain e ≡ Some q → Entered d c h.plain e q
+change_entered d c m h e q change enabled =
+    let last : IsLast d c.book e q = change_last d c.book h.plain e q (record { bounded = h.bounded; legal = h.legal; change = change; enabled = enabled }) in
+    let grows = after_grows d h.plain e q enabled in
+    record { grows = grows; bounded = last.bounded; legal = last.legal; runs = runs_on d c.book e h.plain q c.runs c.last_run grows last h.runs }
 
-module _ (d : Deployment) (c : Core) (m n : Rows) (i : ℕ) (r : Run) (s : Turned) (h : Right d c m) (live : map.get c.runs i ≡ Some r) (roots : SameRoots m n) where
-  -- the book is so afterwards
-  no_entry : s.entry ≡ None → c.book ≡ c.book ++ option_to_list s.entry
-  no_entry e = sym (ap (λ o. c.book ++ option_to_list o) e ∙ append-nil c.book)
+-- ---- a run turned, and the book has the entry of its act, if any
+abbrev reply_told : ℕ → Option Outcome → Option (ℕ × Outcome)
+reply_told t u = option_map (λ (o : Outcome). (t, o)) u
 
-  with_entry : (e : Entry) → s.entry ≡ Some e → c.book ++ e ∷ [] ≡ c.book ++ option_to_list s.entry
-  with_entry e is = ap (λ o. c.book ++ option_to_list o) (sym is)
+told_reply : (q : PlainState) (t : ℕ) (u : Option Outcome) → ((o : Outcome) → u ≡ Some o → reply_of q t ≡ Some o) → (s : ℕ) (o : Outcome) → reply_told t u ≡ Some (s, o) → reply_of q s ≡ Some o
+told_reply q t None h s o e = cc
+told_reply q t (Some u) h s o e = let both = same_some e in ap (reply_of q) (ap (λ z. z.0) (sym both)) ∙ h u refl ∙ ap (λ z. Some z.1) both
 
-  pub quiet : IsQuiet d c.book h.plain s → RowsMatch d n h.plain → AfterTurn d h.plain c i s n
-  quiet q rows = let book = no_entry q.entry in record {
+module _ (d : Deployment) (c : Core) (m n : Rows) (i : ℕ) (r : Run) (h : Right d c m) (live : map.get c.runs i ≡ Some r) (roots : SameRoots m n) where
+  pub quiet : (o : Option Run) → RunAt d c.book h.plain o → RowsMatch d n h.plain → AfterTurn d h.plain c i r.id (record { next = o; mark = None; wait = None; reply = None }) n
+  quiet o next rows = let book = sym (append-nil c.book) in record {
     right = record {
       plain = h.plain;
       bounded = subst (SeenBounded 0) book h.bounded;
-      legal = ap (run_of d) (sym book) ∙ h.legal;
+      legal = ap (run_of d) (append-nil c.book) ∙ h.legal;
       sane = h.sane;
       rows = rows;
       tickets = λ t. roots t ∙ h.tickets t;
-      runs = subst (λ b. RunsMatch d b h.plain (put_run c.runs i s.next) c.last_run) book (runs_put d c.book h.plain c.runs c.last_run i s.next (ap is_some live) q.next h.runs);
+      runs = subst (λ b. RunsMatch d b h.plain (put_run c.runs i o) c.last_run) book (runs_put d c.book h.plain c.runs c.last_run i o (ap is_some live) next h.runs);
     };
     goes_on = grows_self h.plain.made;
     there = refl;
-    reply = λ t o e. let g = sym q.reply ∙ e in cc;
+    reply = λ t o e. cc;
   }
 
-  -- with an entry more, by what the longer book leads to
-  pub entered : (q : PlainState) (e : Entry) → Grows h.plain.made q.made → s.entry ≡ Some e → SeenBounded 0 (c.book ++ e ∷ []) → run_of d (c.book ++ e ∷ []) ≡ Some q → Sane d q
-      → ((t : ℕ) (o : Outcome) → s.reply ≡ Some (t, o) → reply_of q t ≡ Some o) → RunAt d (c.book ++ e ∷ []) q s.next → RunsMatch d (c.book ++ e ∷ []) q c.runs c.last_run → RowsMatch d n q → AfterTurn d h.plain c i s n
-  entered q e grows is bounded legal sane reply next runs rows = let book = with_entry e is in record {
+  pub entered : (k : Mark) (o : Option Run) (u : Option Outcome) (q : PlainState) → Entered d c h.plain (entry_of r.id k) q → Sane d q → ((v : Outcome) → u ≡ Some v → reply_of q r.id.ticket ≡ Some v) → RunAt d (c.book ++ entry_of r.id k ∷ []) q o → RowsMatch d n q
+      → AfterTurn d h.plain c i r.id (record { next = o; mark = Some k; wait = None; reply = u }) n
+  entered k o u q leads sane reply next rows = record {
     right = record {
       plain = q;
-      bounded = subst (SeenBounded 0) book bounded;
-      legal = ap (run_of d) (sym book) ∙ legal;
+      bounded = leads.bounded;
+      legal = leads.legal;
       sane = sane;
       rows = rows;
       tickets = λ t. roots t ∙ h.tickets t;
-      runs = subst (λ b. RunsMatch d b q (put_run c.runs i s.next) c.last_run) book (runs_put d (c.book ++ e ∷ []) q c.runs c.last_run i s.next (ap is_some live) next runs);
+      runs = runs_put d (c.book ++ entry_of r.id k ∷ []) q c.runs c.last_run i o (ap is_some live) next leads.runs;
     };
-    goes_on = grows;
+    goes_on = leads.grows;
     there = refl;
-    reply = reply;
+    reply = told_reply q r.id.ticket u reply;
   }
-
-  pub stepped : (q : PlainState) → IsStep d c.book h.plain q s → RowsMatch d n q → AfterTurn d h.plain c i s n
-  stepped q k rows =
-      let last : IsLast d c.book k.made q = change_last d c.book h.plain k.made q (record { bounded = h.bounded; legal = h.legal; change = k.change; enabled = k.after }) in
-      let grows = after_grows d h.plain k.made q k.after in
-      entered q k.made grows k.entry last.bounded last.legal k.sane k.reply k.next (runs_on d c.book k.made h.plain q c.runs c.last_run grows last h.runs) rows

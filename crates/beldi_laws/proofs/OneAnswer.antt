@@ -39,7 +39,7 @@ use Rattle.beldi_laws.specs.Laws.{HeldAnswersStay, OneRowChanged}
 use Rattle.beldi_laws.specs.OneAnswer.{WasGiven, HasAnswers, OneAnswerPerStep, AnswersStay}
 use Rattle.beldi_laws.specs.Right.{Right, Knows, KnowsAt, RunAt}
 use Rattle.beldi_laws.specs.Stands.{noted_answer, held_answer, head_key, effect_before}
-use Rattle.beldi_laws.proofs.Little.{one_row}
+use Rattle.beldi_laws.proofs.OneEvent.{one_row}
 use Rattle.beldi_laws.proofs.Standing.{held_here}
 use Rattle.beldi_laws.proofs.Turns.{sane_of}
 

@@ -16,7 +16,7 @@ use Rattle.beldi_row.specs.declared.key.Kind.{Kind}
 use Rattle.beldi_row.specs.declared.key.Kind.TheVariants.{ReadLog}
 use Rattle.beldi_readlog.specs.ReadLog.{log_key}
 use Rattle.beldi_plain.specs.Item.{Item, item_cmp}
-use Rattle.beldi_step.specs.Host.{root_key}
+use Rattle.beldi_step.specs.Intent.{root_key}
 use Rattle.beldi_laws.specs.Stands.{head_key}
 
 then_equal : (o : Ordering) → ordering_then o Equal ≡ o

@@ -21,8 +21,8 @@ use Rattle.beldi_row.specs.Table.{Rows}
 use Rattle.beldi_plain.specs.Item.{Item, item_total}
 use Rattle.beldi_plain.specs.Plain.{Instance, PlainState}
 use Rattle.beldi_plain.specs.Legal.{run_of}
-use Rattle.beldi_step.specs.Run.{is_ended}
-use Rattle.beldi_step.specs.Host.{Core, root_key}
+use Rattle.beldi_step.specs.Intent.{root_key, is_ended}
+use Rattle.beldi_step.specs.Host.{Core}
 use Rattle.beldi_daal.specs.Content.{SoundAt}
 use Rattle.beldi_laws.specs.Stands.{Stands, IsMade, IsOpen, head_key, key_in, held_answer, noted_answer, effect_before}
 use Rattle.beldi_laws.specs.Right.{Right, RowsMatch, RootMatches, BodyMatches, IsRoot, IntentFits, FitsAt, Sane, IsAnswerTo, note_if, note_for, owed_by, value_if, value_for, owed_value}

@@ -9,14 +9,15 @@ use Rattle.beldi_book.specs.declared.entry.Entry.TheVariants.{Start, Read, Step}
 use Rattle.beldi_row.specs.Table.{Rows}
 use Rattle.beldi_step.specs.declared.event.Event.{Event}
 use Rattle.beldi_step.specs.declared.event.Seen.{Seen}
-use Rattle.beldi_step.specs.Host.{Core, IsOneEvent, Breaks}
+use Rattle.beldi_step.specs.Host.{Core}
+use Rattle.beldi_step.specs.Forms.{IsOneEvent, Breaks}
 use Rattle.beldi_laws.specs.Right.{Right}
 use Rattle.beldi_laws.specs.Laws.{starts_of, bound_of, HasReply, OutcomesStay}
 use Rattle.beldi_value.specs.Id.{root_of}
 use Rattle.beldi_plain.specs.Plain.{Instance, reply_of, outcome_of}
 use Rattle.beldi_order.proofs.Entries.{same_some, GrownAt, Grows}
 use Rattle.beldi_laws.proofs.Events.{after_event, after_break}
-use Rattle.beldi_laws.proofs.Little.{told_entries, break_grew}
+use Rattle.beldi_laws.proofs.OneEvent.{told_entries, break_grew}
 
 starts_push : (es fs : List Entry) → starts_of (es ++ fs) ≡ starts_of es ++ starts_of fs
 starts_push [] fs = refl

@@ -29,7 +29,7 @@ use Rattle.beldi_row.specs.Log.{note_at, place_eq}
 use Rattle.beldi_row.specs.Table.{Rows, set_row}
 use Rattle.beldi_plain.specs.Item.{Item, item_cmp, item_total, item_exact}
 use Rattle.beldi_plain.specs.Plain.{Instance, PlainState, value_at, set_item, answered, effect_of}
-use Rattle.beldi_step.specs.Host.{root_key}
+use Rattle.beldi_step.specs.Intent.{root_key}
 use Rattle.beldi_laws.specs.Stands.{head_key, content_of}
 use Rattle.beldi_daal.specs.Content.{content_in}
 use Rattle.beldi_laws.specs.Right.{RowsMatch, RootMatches, BodyMatches, IntentFits, CellFits, FitsAt, owed_note, owed_read, owed_value, note_for, value_for}

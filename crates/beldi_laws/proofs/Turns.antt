@@ -1,19 +1,22 @@
--- The turns of a run.
-use Rattle.std.proofs.Common.{◌≡◌, ℕ, ◌==◌, Bool, true, false, List, [], ◌∷◌, ◌++◌, length, take, Option, None, Some, refl, ap, sym, ◌∙◌, subst, is_some, append-nil, eqb-true, if◌then◌else◌}
+-- The turns of a run: where it stands, and what each thing that a stage says leaves.
+use Rattle.std.proofs.Common.{◌≡◌, ℕ, ◌==◌, Bool, true, false, List, [], ◌∷◌, ◌++◌, length, take, Option, None, Some, refl, ap, sym, ◌∙◌, subst, IsTrue, is_some, append_assoc, append-nil, eqb-true, if◌then◌else◌}
 use Rattle.std.specs.Prelude.{slice_get}
 use Rattle.std.specs.FinMap as map
 use Rattle.beldi_value.specs.Id.{id_total, id_exact, root_of, has_no_hops}
 use Rattle.beldi_value.specs.declared.id.IntentId.{IntentId}
 use Rattle.beldi_value.specs.declared.outcome.Outcome.{Outcome}
+use Rattle.beldi_value.specs.declared.value.Value.{Value}
 use Rattle.beldi_tree.specs.declared.deployment.Deployment.{Deployment}
 use Rattle.beldi_tree.specs.declared.deployment.Func.{Func}
+use Rattle.beldi_tree.specs.Names.{func_at}
 use Rattle.beldi_lang.specs.declared.effect.Answer.{Answer}
 use Rattle.beldi_lang.specs.declared.effect.Effect.{Effect}
 use Rattle.beldi_lang.specs.declared.effect.Effect.TheVariants.{Read, Write, Return}
+use Rattle.beldi_lang.specs.declared.machine.Machine.{Machine}
+use Rattle.beldi_lang.specs.Wants.{wants, wants_answer}
+use Rattle.beldi_lang.specs.Machine.{begun as machine_begun, resumed, IsAt}
+use Rattle.beldi_lang.proofs.Resumes.{at_effect, at_begin, at_next}
 use Rattle.beldi_book.specs.declared.entry.Entry.{Entry}
-use Rattle.beldi_tree.specs.Names.{func_at}
-use Rattle.beldi_lang.specs.Wants.{wants}
-use Rattle.beldi_lang.specs.Machine.{begun as machine_begun, IsAt}
 use Rattle.beldi_book.specs.declared.entry.Entry.TheVariants.{Step}
 use Rattle.beldi_row.specs.declared.key.RowKey.{RowKey}
 use Rattle.beldi_row.specs.declared.key.Kind.TheVariants as kinds
@@ -22,84 +25,96 @@ use Rattle.beldi_row.specs.declared.row.IntentRow.{IntentRow}
 use Rattle.beldi_row.specs.declared.row.Row.{Row}
 use Rattle.beldi_row.specs.declared.row.Row.TheVariants as rows
 use Rattle.beldi_row.specs.declared.act.Act.TheVariants.{Look, End}
-use Rattle.beldi_row.specs.Act.{act, did, end_with, finish_at}
+use Rattle.beldi_row.specs.Act.{Tell, act, end_with, finish_at}
 use Rattle.beldi_row.specs.Table.{Rows, set_row}
-use Rattle.beldi_daal.specs.declared.walk.WriteStage.TheVariants.{Try}
-use Rattle.beldi_plain.specs.Plain.{Instance, PlainState, step_by, with_instance, effect_of, kind_of, outcome_of}
+use Rattle.beldi_row.proofs.Rows.{get_set}
+use Rattle.beldi_row.proofs.Unchanged.{looked}
+use Rattle.beldi_walk.specs.Query.{said}
+use Rattle.beldi_plain.specs.Plain.{Instance, PlainState, answered, step_by, with_instance, effect_of, kind_of, outcome_of}
 use Rattle.beldi_step.specs.declared.run.Run.{Run}
 use Rattle.beldi_step.specs.declared.run.Begun.{Begun}
-use Rattle.beldi_step.specs.Run.{Turned, over, goes, intent_key, first_stage, standing, begin_in, begin_body, body_told, is_ended, close_turned, reply_if}
-use Rattle.beldi_step.specs.Host.{Core, root_key, turn_next}
+use Rattle.beldi_step.specs.declared.run.Mark.{Mark}
+use Rattle.beldi_step.specs.declared.run.Mark.TheVariants as mark
+use Rattle.beldi_step.specs.declared.run.Says.{Says}
+use Rattle.beldi_step.specs.declared.run.Says.TheVariants.{On, Answers, Ends}
+use Rattle.beldi_step.specs.declared.run.Stage.{Stage}
+use Rattle.beldi_step.specs.Intent.{intent_key, root_key, look_asks, is_ended, is_did, args_in, args_told}
+use Rattle.beldi_step.specs.Run.{first_stage, standing, begin_in, turned_by, close_says, reply_if}
+use Rattle.beldi_step.specs.Host.{Core, entry_of, turn_next}
 use Rattle.beldi_laws.specs.Stands.{effect_before}
-use Rattle.beldi_laws.specs.Right.{Right, RowsMatch, RootMatches, BodyMatches, IsRoot, IntentFits, FitsAt, Knows, StageOk, PlaceOk, Sane, SaneAt, SaneInstance, IsAnswerTo, owed_by, owed_value}
-use Rattle.beldi_row.proofs.Unchanged.{unchanged}
+use Rattle.beldi_laws.specs.Right.{Right, RowsMatch, RootMatches, BodyMatches, IntentFits, FitsAt, Knows, StageOk, PlaceOk, Sane, SaneAt, SaneInstance, IsAnswerTo, owed_by, owed_value}
 use Rattle.beldi_order.proofs.Entries.{same_some, enabled_step, made_set}
-use Rattle.beldi_laws.proofs.Effects.{take_front, get_next, sane_ended}
-use Rattle.beldi_lang.proofs.Resumes.{at_effect, at_begin}
+use Rattle.beldi_laws.proofs.Effects.{take_front, get_after, sane_pushed, sane_ended}
 use Rattle.beldi_laws.proofs.Steps.{root_set, roots_moved}
-use Rattle.beldi_row.proofs.Rows.{get_set}
-use Rattle.beldi_laws.proofs.Moves.{AfterTurn, AfterAct, replaced, IsQuiet, IsStep, quiet, stepped}
-
-abbrev is_over : (d : Deployment) (book : List Entry) (p : PlainState) → IsQuiet d book p over
-is_over d book p = record { entry = refl; reply = refl; next = tt }
+use Rattle.beldi_laws.proofs.Moves.{AfterTurn, AfterAct, AfterQuery, SameRoots, Entered, replaced, still, change_entered, quiet, entered}
 
 -- where an effect begins is one of its stages
-pub first_ok : (r : Run) (n : ℕ) (e : Effect) → StageOk r n e (first_stage r.id r.func n e)
-first_ok r n (Read t k) = refl
-first_ok r n (Write t k v) = (Try, refl)
-first_ok r n (Return o) = refl
-first_ok r n e = refl
+first_ok : (e : Effect) → StageOk e (first_stage e)
+first_ok (Read t k) = tt
+first_ok (Write t k v) = tt
+first_ok (Return o) = tt
+first_ok e = refl
 
-pub first_place : (d : Deployment) (book : List Entry) (id : IntentId) (func : ℕ) (answers later : List Answer) (n : ℕ) (e : Effect) → PlaceOk d book id func answers later e (first_stage id func n e)
-first_place d book id func answers later n (Read t k) = tt
-first_place d book id func answers later n e = tt
+first_place : (d : Deployment) (book : List Entry) (id : IntentId) (func : ℕ) (answers later : List Answer) (e : Effect) → PlaceOk d book id func answers later e (first_stage e)
+first_place d book id func answers later (Read t k) = tt
+first_place d book id func answers later e = tt
 
 -- ---- the first turn
 -- the row of a run's intent is that of a root
 own_key : (r : Run) (i : IntentRow) → IntentFits (intent_key r.id r.func).home r.id i → intent_key r.id r.func ≡ root_key r.id.ticket
 own_key r i f = λ j. record { home = f.home_is j; kind = kinds.Intent (f.root j) }
 
-module _ (d : Deployment) (book : List Entry) (m : Rows) (p : PlainState) (h : RowsMatch d m p) (r : Run) where
-  -- what the row of a run's intent says of its instance
-  own_root : (i : IntentRow) → map.get m (intent_key r.id r.func) ≡ Some (rows.Intent i) → IntentFits (intent_key r.id r.func).home r.id i → BodyMatches i.body i.outcome (map.get p.made r.id)
-  own_root i is f = subst (λ o. BodyMatches i.body i.outcome o) (ap (map.get p.made) (sym f.root))
-      (subst (λ w. RootMatches w (map.get p.made (root_of r.id.ticket))) (ap (map.get m) (sym (own_key r i f)) ∙ is) (h.roots r.id.ticket))
+-- what the row of a run's intent says of its instance
+own_root : (d : Deployment) (m : Rows) (p : PlainState) (h : RowsMatch d m p) (r : Run) (i : IntentRow) → map.get m (intent_key r.id r.func) ≡ Some (rows.Intent i) → IntentFits (intent_key r.id r.func).home r.id i → BodyMatches i.body i.outcome (map.get p.made r.id)
+own_root d m p h r i is f = subst (λ o. BodyMatches i.body i.outcome o) (ap (map.get p.made) (sym f.root))
+    (subst (λ w. RootMatches w (map.get p.made (root_of r.id.ticket))) (ap (map.get m) (sym (own_key r i f)) ∙ is) (h.roots r.id.ticket))
 
-  begin_knows : (b : Body) (o : Option Outcome) → IsRoot b o (map.get p.made r.id) → b.func ≡ r.func
-      → IsQuiet d book p (goes r (standing r.id r.func (machine_begun d r.func b.args false)) None)
-  begin_knows b o root same = let m = machine_begun d r.func b.args false in record {
-    entry = refl;
-    reply = refl;
-    next = record {
-      instance = root.instance;
-      made = root.made;
-      func = root.func ∙ same;
-      answers = [];
-      later = root.instance.answers;
-      run_answers = refl;
-      machine = subst (λ a. IsAt d r.func a false m []) (sym root.args) (at_begin d r.func b.args false);
-      run_stage = first_ok r m.steps m.effect;
-      run_place = first_place d book r.id r.func [] root.instance.answers m.steps m.effect;
-    };
-  }
+module _ (d : Deployment) (c : Core) (m : Rows) (i : ℕ) (r : Run) (h : Right d c m) (live : map.get c.runs i ≡ Some r) where
+  -- the run's instance was made with these arguments
+  MadeWith : Option Value → Type 0
+  MadeWith None = Unit {0}
+  MadeWith (Some a) = (q : Instance) × (map.get h.plain.made r.id ≡ Some q) × (q.func ≡ r.func) × (q.args ≡ a)
 
-  begin_func : (b : Body) (o : Option Outcome) (f : Option Func) → IsRoot b o (map.get p.made r.id) → b.func ≡ r.func → IsQuiet d book p (begin_in d r f b.args)
-  begin_func b o None root same = is_over d book p
-  begin_func b o (Some f) root same = begin_knows b o root same
+  made_if : (b : Body) (o : Option Outcome) (t : Bool) → BodyMatches (Some b) o (map.get h.plain.made r.id) → (b.func == r.func) ≡ t → MadeWith (if t then Some b.args else None)
+  unfolding MadeWith
+  made_if b o false root same = tt
+  made_if b o true root same = (root.instance, root.made, root.func ∙ eqb-true b.func r.func same, root.args)
 
-  begin_if : (b : Body) (o : Option Outcome) (t : Bool) → IsRoot b o (map.get p.made r.id) → (b.func == r.func) ≡ t → IsQuiet d book p (if t then begin_in d r (func_at d r.func) b.args else over)
-  begin_if b o false root same = is_over d book p
-  begin_if b o true root same = begin_func b o (func_at d r.func) root (eqb-true b.func r.func same)
+  made_open : (b : Option Body) (o : Option Outcome) (t : Bool) → BodyMatches b o (map.get h.plain.made r.id) → MadeWith (args_in r.func (if t then None else b))
+  unfolding MadeWith
+  made_open b o true root = tt
+  made_open None o false root = tt
+  made_open (Some b) o false root = made_if b o (b.func == r.func) root refl
 
-  begin_matches : (b : Option Body) (o : Option Outcome) (t : Bool) → BodyMatches b o (map.get p.made r.id) → IsQuiet d book p (begin_body d r (if t then None else b))
-  begin_matches b o true root = is_over d book p
-  begin_matches None o false root = is_over d book p
-  begin_matches (Some b) o false root = begin_if b o (b.func == r.func) root refl
+  made_told : (w : Option Row) → map.get m (intent_key r.id r.func) ≡ w → FitsAt (intent_key r.id r.func) w → MadeWith (args_told r.func (said (act Look c.now w).1))
+  unfolding MadeWith
+  made_told None is f = tt
+  made_told (Some (rows.Intent j)) is f = made_open j.body j.outcome (is_ended j) (own_root d m h.plain h.rows r j is f)
+  made_told (Some w) is f = absurd f
 
-  pub begin_quiet : (now : ℕ) (w : Option Row) → map.get m (intent_key r.id r.func) ≡ w → FitsAt (intent_key r.id r.func) w → IsQuiet d book p (begin_body d r (body_told (act Look now w).1))
-  begin_quiet now None is f = is_over d book p
-  begin_quiet now (Some (rows.Intent i)) is f = begin_matches i.body i.outcome (is_ended i) (own_root i is f)
-  begin_quiet now (Some w) is f = absurd f
+  begins : (f : Option Func) (a : Option Value) → MadeWith a → AfterTurn d h.plain c i r.id (begin_in d r f a) m
+  unfolding MadeWith
+  begins f None made = quiet d c m m i r h live (λ t. refl) None tt h.rows
+  begins None (Some a) made = quiet d c m m i r h live (λ t. refl) None tt h.rows
+  begins (Some f) (Some a) made =
+      let machine = machine_begun d r.func a false in
+      quiet d c m m i r h live (λ t. refl) (Some (record r { at = Some (standing machine) })) (record {
+        instance = made.0;
+        made = made.1;
+        func = made.2;
+        answers = [];
+        later = made.0.answers;
+        run_answers = refl;
+        machine = subst (λ b. IsAt d r.func b false machine []) (sym made.3) (at_begin d r.func a false);
+        run_stage = first_ok machine.effect;
+        run_place = first_place d c.book r.id r.func [] made.0.answers machine.effect;
+      }) h.rows
+
+  pub begin_turn : AfterQuery d h.plain c.now m (λ t. turn_next c i r.id (begin_in d r (func_at d r.func) (args_told r.func t))) (look_asks r.id r.func)
+  begin_turn =
+      let key = intent_key r.id r.func in
+      let s = begin_in d r (func_at d r.func) (args_told r.func (said (act Look c.now (map.get m key)).1)) in
+      subst (AfterTurn d h.plain c i r.id s) (sym (looked c.now key m)) (begins (func_at d r.func) (args_told r.func (said (act Look c.now (map.get m key)).1)) (made_told (map.get m key) refl (h.rows.one_row key)))
 
 -- ---- where a run stands in its instance's answers
 same_at : (d : Deployment) (q : Instance) (func : ℕ) (xs : List Answer) (n : ℕ) → take n q.answers ≡ xs → q.func ≡ func → effect_before d q n ≡ wants d func q.args false xs
@@ -117,14 +132,11 @@ module _ (d : Deployment) (book : List Entry) (p : PlainState) (r : Run) (g : Be
       (ap (λ n. take n k.instance.answers) at_steps ∙ ap (take (length k.answers)) (sym k.run_answers) ∙ take_front k.answers k.later) k.func
       ∙ sym (at_effect d r.func k.instance.args false g.machine k.answers k.machine).0
 
-  -- where it was answered already
-  pub answer_here : (a : Answer) (rest : List Answer) → k.later ≡ a ∷ rest → slice_get k.instance.answers g.machine.steps ≡ Some a
-  answer_here a rest e =
-      ap (slice_get k.instance.answers) at_steps
-      ∙ ap (λ xs. slice_get xs (length k.answers)) (sym (ap (λ ys. k.answers ++ ys) (sym e) ∙ k.run_answers))
-      ∙ get_next k.answers rest a
+  -- what the step was answered is the first answer that the run has still to be given
+  pub answer_here : (later : List Answer) → k.later ≡ later → slice_get k.instance.answers g.machine.steps ≡ slice_get later 0
+  answer_here later e = ap (slice_get k.instance.answers) at_steps ∙ ap (λ xs. slice_get xs (length k.answers)) (sym k.run_answers) ∙ get_after k.answers k.later ∙ ap (λ xs. slice_get xs 0) e
 
-  -- where it was not, it is at the instance's next step
+  -- where there is none, it is at the instance's next step
   pub all_here : k.later ≡ [] → k.answers ≡ k.instance.answers
   all_here e = sym (append-nil k.answers) ∙ ap (λ ys. k.answers ++ ys) (sym e) ∙ k.run_answers
 
@@ -136,13 +148,83 @@ module _ (d : Deployment) (book : List Entry) (p : PlainState) (r : Run) (g : Be
       ap (wants d k.instance.func k.instance.args false) (sym (all_here e)) ∙ ap (λ f. wants d f k.instance.args false k.answers) k.func
       ∙ sym (at_effect d r.func k.instance.args false g.machine k.answers k.machine).0
 
-  -- a body that returns was answered nothing more
-  at_return : (o : Outcome) → g.machine.effect ≡ Return o → SaneInstance d k.instance → (ys : List Answer) → k.later ≡ ys → k.later ≡ []
-  at_return o e s [] is = is
-  at_return o e s (a ∷ rest) is = absurd (subst (λ z. IsAnswerTo z a) (effect_here ∙ e) (s.past g.machine.steps a (answer_here a rest is)))
-
 pub sane_of : (d : Deployment) (p : PlainState) (id : IntentId) (q : Instance) → Sane d p → map.get p.made id ≡ Some q → SaneInstance d q
 sane_of d p id q s is = subst (λ o. SaneAt d o) is (s id)
+
+-- an effect with an answer wants one
+wants_it : (e : Effect) (a : Answer) → IsAnswerTo e a → IsTrue (wants_answer e)
+wants_it (Return o) a is = absurd is
+wants_it e a is = refl
+
+-- a run after an effect was answered
+knows_next : (d : Deployment) (book : List Entry) (p : PlainState) (r : Run) (m : Machine) (j : Instance) (a : Answer) (answers later : List Answer) → map.get p.made r.id ≡ Some j → j.func ≡ r.func → answers ++ a ∷ later ≡ j.answers
+    → IsAt d r.func j.args false m answers → IsTrue (wants_answer m.effect) → Knows d book p (record r { at = Some (standing (resumed d m a)) }) (standing (resumed d m a))
+knows_next d book p r m j a answers later is func prefix at wants = record {
+  instance = j;
+  made = is;
+  func = func;
+  answers = answers ++ a ∷ [];
+  later = later;
+  run_answers = append_assoc answers (a ∷ []) later ∙ prefix;
+  machine = at_next d r.func j.args false m answers a wants at;
+  run_stage = first_ok (resumed d m a).effect;
+  run_place = first_place d book r.id r.func (answers ++ a ∷ []) later (resumed d m a).effect;
+}
+
+-- ---- what each thing that a stage says leaves
+module _ (d : Deployment) (c : Core) (m : Rows) (i : ℕ) (r : Run) (g : Begun) (h : Right d c m) (live : map.get c.runs i ≡ Some r) (k : Knows d c.book h.plain r g) (e : Effect) (is : g.machine.effect ≡ e) where
+  abbrev Leaves : Says → Rows → Type 0
+  Leaves s n = AfterTurn d h.plain c i r.id (turned_by d r g s) n
+
+  pub sane_here : SaneInstance d k.instance
+  sane_here = sane_of d h.plain r.id k.instance h.sane k.made
+
+  -- the effect goes on from a stage, of which the run knows what it has to
+  pub goes_on : (n : Rows) (s : Stage) → SameRoots m n → RowsMatch d n h.plain → StageOk e s → PlaceOk d c.book r.id r.func k.answers k.later e s → Leaves (On s None) n
+  goes_on n s roots rows ok at = quiet d c m n i r h live roots (Some (record r { at = Some (record { machine = g.machine; stage = s }) })) (record {
+    instance = k.instance;
+    made = k.made;
+    func = k.func;
+    answers = k.answers;
+    later = k.later;
+    run_answers = k.run_answers;
+    machine = k.machine;
+    run_stage = subst (λ e. StageOk e s) (sym is) ok;
+    run_place = subst (λ e. PlaceOk d c.book r.id r.func k.answers k.later e s) (sym is) at;
+  }) rows
+
+  -- the run is over
+  pub ends : Leaves (Ends None None) m
+  ends = quiet d c m m i r h live (λ t. refl) None tt h.rows
+
+  -- what the step was answered, where it was, is an answer to its effect
+  pub fits : (a : Answer) (rest : List Answer) → k.later ≡ a ∷ rest → IsAnswerTo e a
+  fits a rest left = subst (λ z. IsAnswerTo z a) (effect_here d c.book h.plain r g k ∙ is) (sane_here.past g.machine.steps a (answer_here d c.book h.plain r g k (a ∷ rest) left))
+
+  answers_it : (a : Answer) → IsAnswerTo e a → IsTrue (wants_answer g.machine.effect)
+  answers_it a ok = subst (λ e. IsTrue (wants_answer e)) (sym is) (wants_it e a ok)
+
+  -- it replays: the answer is the one that its instance has
+  pub replays : (a : Answer) (rest : List Answer) → k.later ≡ a ∷ rest → Leaves (Answers a None) m
+  replays a rest left = quiet d c m m i r h live (λ t. refl) (Some (record r { at = Some (standing (resumed d g.machine a)) }))
+      (knows_next d c.book h.plain r g.machine k.instance a k.answers rest k.made k.func (ap (λ ys. k.answers ++ ys) (sym left) ∙ k.run_answers) k.machine (answers_it a (fits a rest left))) h.rows
+
+  -- it steps on: the instance has the answer now
+  pub not_over : k.later ≡ [] → IsTrue (wants_answer e) → k.instance.outcome ≡ None
+  not_over left wants = by_outcome k.instance.outcome refl
+    where
+      by_outcome : (o : Option Outcome) → k.instance.outcome ≡ o → k.instance.outcome ≡ None
+      by_outcome None none = none
+      by_outcome (Some o) some = let clash = ap wants_answer (sym (sane_here.over o some) ∙ effect_next d c.book h.plain r g k left ∙ is) ∙ wants in cc
+
+  pub steps_on : (a : Answer) (by : Mark) (q : PlainState) (n : Rows) → k.later ≡ [] → IsAnswerTo e a → q.made ≡ map.insert h.plain.made r.id (answered k.instance a) → Entered d c h.plain (entry_of r.id by) q → SameRoots m n → RowsMatch d n q → Leaves (Answers a (Some by)) n
+  steps_on a by q n left ok made leads roots rows = entered d c m n i r h live roots by (Some (record r { at = Some (standing (resumed d g.machine a)) })) None q leads
+      (λ id. subst (λ f. SaneAt d (map.get f id)) (sym made) (made_set h.plain.made r.id (answered k.instance a) (λ id s. SaneAt d s)
+      (sane_pushed d k.instance a (not_over left (wants_it e a ok)) (subst (λ z. IsAnswerTo z a) (sym (effect_next d c.book h.plain r g k left ∙ is)) ok) sane_here) h.sane id))
+      (λ o told. cc)
+      (knows_next d (c.book ++ entry_of r.id by ∷ []) q r g.machine (answered k.instance a) a k.answers []
+      (ap (λ f. map.get f r.id) made ∙ get_set id_total id_exact h.plain.made r.id (answered k.instance a)) k.func (ap (λ xs. xs ++ a ∷ []) (all_here d c.book h.plain r g k left)) k.machine (answers_it a ok))
+      rows
 
 -- ---- the last turn
 abbrev end_row : Outcome → ℕ → IntentRow → IntentRow
@@ -175,23 +257,24 @@ root_outcome : (b : Option Body) (o : Option Outcome) (q : Instance) → BodyMat
 root_outcome None o q h = cc
 root_outcome (Some b) o q h = ap (λ z. z.outcome) (same_some h.made) ∙ h.outcome
 
-told_if : (b : Bool) (id : IntentId) (o u : Outcome) (t : ℕ) → reply_if b id o ≡ Some (t, u) → (t ≡ id.ticket) × (u ≡ o)
-told_if true id o u t h = let e = same_some h in (ap (λ z. z.0) (sym e), ap (λ z. z.1) (sym e))
-told_if false id o u t h = cc
+replied : (b : Bool) (o u : Outcome) → reply_if b o ≡ Some u → u ≡ o
+replied true o u h = same_some (sym h)
+replied false o u h = cc
 
-module _ (d : Deployment) (c : Core) (m : Rows) (i : ℕ) (r : Run) (g : Begun) (h : Right d c m) (live : map.get c.runs i ≡ Some r) (k : Knows d c.book h.plain r g) where
-  -- a turn that changes no row
-  pub still : (s : Turned) (key : RowKey) (v : Option Row) → IsQuiet d c.book h.plain s → v ≡ map.get m key → AfterTurn d h.plain c i s (set_row m key v)
-  still s key v q e = subst (AfterTurn d h.plain c i s) (sym (unchanged m key v e)) (quiet d c m m i r s h live (λ t. refl) q h.rows)
+module _ (d : Deployment) (c : Core) (m : Rows) (i : ℕ) (r : Run) (g : Begun) (h : Right d c m) (live : map.get c.runs i ≡ Some r) (k : Knows d c.book h.plain r g) (o : Outcome) (is : g.machine.effect ≡ Return o) where
+  abbrev key : RowKey
+  key = intent_key r.id r.func
 
-  ended_rows : (o : Outcome) (j : IntentRow) → IntentFits (intent_key r.id r.func).home r.id j → BodyMatches j.body j.outcome (Some k.instance)
-      → RowsMatch d (set_row m (intent_key r.id r.func) (Some (rows.Intent (end_row o c.now j)))) (with_instance h.plain r.id (ended_at k.instance o))
-  ended_rows o j f root =
+  abbrev state : PlainState
+  state = with_instance h.plain r.id (ended_at k.instance o)
+
+  ended_rows : (j : IntentRow) → IntentFits key.home r.id j → BodyMatches j.body j.outcome (Some k.instance) → RowsMatch d (set_row m key (Some (rows.Intent (end_row o c.now j)))) state
+  ended_rows j f root =
       let t = r.id.ticket in
       let q = ended_at k.instance o in
       let row = Some (rows.Intent (end_row o c.now j)) in
       let made : map.get h.plain.made (root_of t) ≡ Some k.instance = ap (map.get h.plain.made) (sym f.root) ∙ k.made in
-      subst (λ z. RowsMatch d (set_row m z row) (with_instance h.plain r.id q)) (sym (own_key r j f))
+      subst (λ z. RowsMatch d (set_row m z row) state) (sym (own_key r j f))
       (subst (λ z. RowsMatch d (set_row m (root_key t) row) (with_instance h.plain z q)) (sym f.root)
       (root_set d m h.plain (with_instance h.plain (root_of t) q) t (end_row o c.now j)
       (record { root = refl; home_is = refl; bare = λ e. absurd (has_body j.body j.outcome k.instance root e); finishes = finished c.now j.finish })
@@ -201,40 +284,33 @@ module _ (d : Deployment) (c : Core) (m : Rows) (i : ℕ) (r : Run) (g : Begun) 
       (roots_moved m h.plain.made t (end_row o c.now j) q (root_ended j.body j.outcome k.instance o root) h.rows.roots)
       h.rows))
 
-  ended_step : (o : Outcome) (j : IntentRow) → IntentFits (intent_key r.id r.func).home r.id j → BodyMatches j.body j.outcome (Some k.instance) → j.outcome ≡ None → g.machine.effect ≡ Return o
-      → IsStep d c.book h.plain (with_instance h.plain r.id (ended_at k.instance o)) (close_turned r o did)
-  ended_step o j f root none e =
-      let sane = sane_of d h.plain r.id k.instance h.sane k.made in
-      let wants_end : effect_of d k.instance ≡ Return o = effect_next d c.book h.plain r g k (at_return d c.book h.plain r g k o e sane k.later refl) ∙ e in
-      record {
-        made = Step r.id;
-        entry = refl;
-        change = refl;
-        after = enabled_step d h.plain r.id k.instance k.made (root_outcome j.body j.outcome k.instance root ∙ none) (ap kind_of wants_end) ∙ ap (λ z. Some (step_by h.plain r.id k.instance z)) wants_end;
-        sane = made_set h.plain.made r.id (ended_at k.instance o) (λ id s. SaneAt d s) (sane_ended d k.instance o wants_end sane) h.sane;
-        reply = λ t u told.
-            let told_is = told_if (has_no_hops r.id.hops) r.id o u t told in
-            ap (λ n. outcome_of (map.get (map.insert h.plain.made r.id (ended_at k.instance o)) (root_of n))) told_is.0
-            ∙ ap (λ z. outcome_of (map.get (map.insert h.plain.made r.id (ended_at k.instance o)) z)) (sym f.root)
-            ∙ ap outcome_of (get_set id_total id_exact h.plain.made r.id (ended_at k.instance o)) ∙ ap Some (sym told_is.1);
-        next = tt;
-      }
+  -- a body that returns was answered nothing more
+  no_answer : (later : List Answer) → k.later ≡ later → k.later ≡ []
+  no_answer [] left = left
+  no_answer (a ∷ rest) left = absurd (fits d c m i r g h live k (Return o) is a rest left)
 
-  close_did : (o : Outcome) (j : IntentRow) → map.get m (intent_key r.id r.func) ≡ Some (rows.Intent j) → IntentFits (intent_key r.id r.func).home r.id j → g.machine.effect ≡ Return o → j.outcome ≡ None
-      → AfterTurn d h.plain c i (close_turned r o did) (set_row m (intent_key r.id r.func) (Some (rows.Intent (end_row o c.now j))))
-  close_did o j is f e none =
-      let root : BodyMatches j.body j.outcome (Some k.instance) = subst (λ z. BodyMatches j.body j.outcome z) k.made (own_root d c.book m h.plain h.rows r j is f) in
-      stepped d c m (set_row m (intent_key r.id r.func) (Some (rows.Intent (end_row o c.now j)))) i r (close_turned r o did) h live
-      (replaced m (intent_key r.id r.func) (Some (rows.Intent (end_row o c.now j))) (ap is_some (sym is)))
-      (with_instance h.plain r.id (ended_at k.instance o)) (ended_step o j f root none e) (ended_rows o j f root)
+  returns_now : effect_of d k.instance ≡ Return o
+  returns_now = effect_next d c.book h.plain r g k (no_answer k.later refl) ∙ is
 
-  close_by : (o : Outcome) (j : IntentRow) (u : Option Outcome) → j.outcome ≡ u → map.get m (intent_key r.id r.func) ≡ Some (rows.Intent j) → IntentFits (intent_key r.id r.func).home r.id j → g.machine.effect ≡ Return o
-      → AfterTurn d h.plain c i (close_turned r o (end_with o true c.now j u).1) (set_row m (intent_key r.id r.func) (Some (rows.Intent (end_with o true c.now j u).0)))
-  close_by o j None n is f e = close_did o j is f e n
-  close_by o j (Some u) n is f e = still over (intent_key r.id r.func) (Some (rows.Intent j)) (is_over d c.book h.plain) (sym is)
+  close_did : (j : IntentRow) → map.get m key ≡ Some (rows.Intent j) → IntentFits key.home r.id j → j.outcome ≡ None
+      → AfterTurn d h.plain c i r.id (turned_by d r g (close_says r.id (Return o) true)) (set_row m key (Some (rows.Intent (end_row o c.now j))))
+  close_did j at f none =
+      let root : BodyMatches j.body j.outcome (Some k.instance) = subst (λ z. BodyMatches j.body j.outcome z) k.made (own_root d m h.plain h.rows r j at f) in
+      entered d c m (set_row m key (Some (rows.Intent (end_row o c.now j)))) i r h live (replaced m key (Some (rows.Intent (end_row o c.now j))) (ap is_some (sym at)))
+      mark.Step None (reply_if (has_no_hops r.id.hops) o) state
+      (change_entered d c m h (Step r.id) state refl (enabled_step d h.plain r.id k.instance k.made (root_outcome j.body j.outcome k.instance root ∙ none) (ap kind_of returns_now) ∙ ap (λ z. Some (step_by h.plain r.id k.instance z)) returns_now))
+      (made_set h.plain.made r.id (ended_at k.instance o) (λ id s. SaneAt d s) (sane_ended d k.instance o returns_now (sane_here d c m i r g h live k (Return o) is)) h.sane)
+      (λ u told. ap (λ z. outcome_of (map.get state.made z)) (sym f.root) ∙ ap outcome_of (get_set id_total id_exact h.plain.made r.id (ended_at k.instance o)) ∙ ap Some (sym (replied (has_no_hops r.id.hops) o u told)))
+      tt (ended_rows j f root)
 
-  pub close_turn : (o : Outcome) (w : Option Row) → map.get m (intent_key r.id r.func) ≡ w → FitsAt (intent_key r.id r.func) w → g.machine.effect ≡ Return o
-      → AfterAct d h.plain m (intent_key r.id r.func) (λ t. turn_next c i (close_turned r o t)) (act (End o true) c.now w)
-  close_turn o None is f e = still over (intent_key r.id r.func) None (is_over d c.book h.plain) (sym is)
-  close_turn o (Some (rows.Intent j)) is f e = close_by o j j.outcome refl is f e
-  close_turn o (Some w) is f e = absurd f
+  abbrev AfterClose : Option Row × Tell → Type 0
+  AfterClose z = AfterAct d h.plain m key (λ t. turn_next c i r.id (turned_by d r g (close_says r.id (Return o) (is_did t)))) z
+
+  close_by : (j : IntentRow) (u : Option Outcome) → j.outcome ≡ u → map.get m key ≡ Some (rows.Intent j) → IntentFits key.home r.id j → AfterClose (Some (rows.Intent (end_with o true c.now j u).0), (end_with o true c.now j u).1)
+  close_by j None none at f = close_did j at f none
+  close_by j (Some u) some at f = still d h.plain m key (Some (rows.Intent j)) (sym at) (ends d c m i r g h live k (Return o) is)
+
+  pub close_turn : (w : Option Row) → map.get m key ≡ w → FitsAt key w → AfterClose (act (End o true) c.now w)
+  close_turn None at f = still d h.plain m key None (sym at) (ends d c m i r g h live k (Return o) is)
+  close_turn (Some (rows.Intent j)) at f = close_by j j.outcome refl at f
+  close_turn (Some w) at f = absurd f

@@ -1,10 +1,9 @@
--- The turns of a write's walk.
-use Rattle.std.proofs.Common.{◌≡◌, ℕ, false, List, [], ◌∷◌, ◌++◌, Option, None, Some, refl, ap, sym, ◌∙◌, subst, IsTrue, is_some, append_assoc, if◌then◌else◌}
+-- The turns of a write.
+use Rattle.std.proofs.Common.{◌≡◌, ℕ, false, List, [], ◌∷◌, Option, None, Some, refl, ap, sym, ◌∙◌, subst, is_some, if◌then◌else◌}
+use Rattle.std.specs.Prelude.{slice_get}
 use Rattle.std.specs.FinMap as map
 use Rattle.std.specs.Ordering.{is_eq}
 use Rattle.std.proofs.lemmas.Cmp.{tied_itself}
-use Rattle.beldi_row.proofs.Rows.{get_set}
-use Rattle.beldi_value.specs.Id.{id_total, id_exact}
 use Rattle.beldi_value.specs.declared.place.Place.{Place}
 use Rattle.beldi_value.specs.declared.place.Owner.{Owner}
 use Rattle.beldi_value.specs.declared.place.Owner.TheVariants as owner
@@ -14,11 +13,6 @@ use Rattle.beldi_tree.specs.declared.deployment.Deployment.{Deployment}
 use Rattle.beldi_lang.specs.declared.effect.Answer.{Answer}
 use Rattle.beldi_lang.specs.declared.effect.Answer.TheVariants.{Done}
 use Rattle.beldi_lang.specs.declared.effect.Effect.TheVariants.{Write}
-use Rattle.beldi_lang.specs.declared.machine.Machine.{Machine}
-use Rattle.beldi_value.specs.declared.outcome.Outcome.{Outcome}
-use Rattle.beldi_lang.specs.Wants.{wants_answer}
-use Rattle.beldi_lang.specs.Machine.{IsAt, resumed}
-use Rattle.beldi_book.specs.declared.entry.Entry.{Entry}
 use Rattle.beldi_book.specs.declared.entry.Entry.TheVariants.{Step}
 use Rattle.beldi_row.specs.declared.notes.Note.{Note}
 use Rattle.beldi_row.specs.declared.notes.Note.TheVariants.{Wrote}
@@ -29,42 +23,25 @@ use Rattle.beldi_row.specs.declared.act.Act.TheVariants.{MakeCell, WriteCell}
 use Rattle.beldi_row.specs.Act.{Tell, act, did, noted, write_at, wrote, noted_or, next_or, held_or, other_owner}
 use Rattle.beldi_row.specs.Log.{note_at}
 use Rattle.beldi_row.specs.Table.{Rows, set_row}
-use Rattle.beldi_daal.specs.declared.walk.WriteStage.{WriteStage}
-use Rattle.beldi_daal.specs.declared.walk.WriteStage.TheVariants.{Try, Make}
-use Rattle.beldi_daal.specs.Walk.{walk_key, walk_act, walk_next}
-use Rattle.beldi_plain.specs.Item.{Item, item_cmp, item_total}
-use Rattle.beldi_plain.specs.Plain.{Instance, PlainState, step_by, set_item, answered, effect_of, kind_of}
+use Rattle.beldi_daal.specs.declared.cell.WriteAt.{WriteAt}
+use Rattle.beldi_daal.specs.declared.cell.WriteAt.TheVariants.{Try, Make}
+use Rattle.beldi_daal.specs.Cell.{cell_key, write_asks, write_goes}
+use Rattle.beldi_daal.specs.Content.{content_in}
+use Rattle.beldi_plain.specs.Item.{Item, item_total}
+use Rattle.beldi_plain.specs.Plain.{PlainState, step_by, item_of, effect_of, kind_of}
 use Rattle.beldi_step.specs.declared.run.Run.{Run}
 use Rattle.beldi_step.specs.declared.run.Begun.{Begun}
+use Rattle.beldi_step.specs.declared.run.Mark.TheVariants as mark
 use Rattle.beldi_step.specs.declared.run.Stage.TheVariants as stage
-use Rattle.beldi_step.specs.Run.{goes, standing, is_done_note, noted_turned, write_turned, answered as run_answered}
+use Rattle.beldi_step.specs.Run.{place_of, turned_by, write_says}
 use Rattle.beldi_step.specs.Host.{Core, turn_next}
 use Rattle.beldi_laws.specs.Stands.{head_key, effect_before}
-use Rattle.beldi_daal.specs.Content.{content_in}
-use Rattle.beldi_laws.specs.Right.{Right, RowsMatch, CellFits, FitsAt, Knows, StageOk, PlaceOk, walk_at, SaneAt, owed_by, note_for, note_if, IsAnswerTo}
+use Rattle.beldi_laws.specs.Right.{Right, RowsMatch, CellFits, FitsAt, Knows, owed_by, note_if}
+use Rattle.beldi_order.proofs.Entries.{enabled_step}
 use Rattle.beldi_laws.proofs.Rows.{root_in_heads}
-use Rattle.beldi_laws.proofs.Effects.{sane_pushed}
-use Rattle.beldi_lang.proofs.Resumes.{at_next}
-use Rattle.beldi_order.proofs.Entries.{enabled_step, made_set}
-use Rattle.beldi_laws.proofs.Notes.{owed_next}
 use Rattle.beldi_laws.proofs.Steps.{cell_made, cell_written}
-use Rattle.beldi_laws.proofs.Moves.{AfterAct, IsQuiet, IsStep, quiet, stepped}
-use Rattle.beldi_laws.proofs.Turns.{still, first_ok, first_place, sane_of, effect_here, answer_here, all_here, step_here, effect_next}
-
--- a run after an effect was answered
-pub knows_next : (d : Deployment) (book : List Entry) (p : PlainState) (r : Run) (m : Machine) (j : Instance) (a : Answer) (answers later : List Answer) → map.get p.made r.id ≡ Some j → j.func ≡ r.func → answers ++ a ∷ later ≡ j.answers
-    → IsAt d r.func j.args false m answers → IsTrue (wants_answer m.effect) → Knows d book p r (standing r.id r.func (resumed d m a))
-knows_next d book p r m j a answers later is func prefix at wants = record {
-  instance = j;
-  made = is;
-  func = func;
-  answers = answers ++ a ∷ [];
-  later = later;
-  run_answers = append_assoc answers (a ∷ []) later ∙ prefix;
-  machine = at_next d r.func j.args false m answers a wants at;
-  run_stage = let n = resumed d m a in first_ok r n.steps n.effect;
-  run_place = let n = resumed d m a in first_place d book r.id r.func (answers ++ a ∷ []) later n.steps n.effect;
-}
+use Rattle.beldi_laws.proofs.Moves.{AfterAct, AfterQuery, still, change_entered}
+use Rattle.beldi_laws.proofs.Turns.{effect_here, answer_here, step_here, effect_next, fits, not_over, goes_on, replays, steps_on}
 
 -- a cell without a note of the place, without an owner and without a next row is written
 writes : (p : Place) (w : Owner) (v : Value) (c : Cell) → note_at c.log p ≡ None → c.next ≡ None → c.owner ≡ None → write_at p w v c ≡ (wrote p v c, did)
@@ -77,147 +54,70 @@ tells_note : (p : Place) (w : Owner) (v : Value) (c : Cell) (n : Note) → note_
 tells_note p w v c n note = ap (λ o. noted_or c o (next_or c c.next (held_or c (other_owner w c.owner) (wrote p v c, did)))) note
 
 module _ (d : Deployment) (c : Core) (m : Rows) (i : ℕ) (r : Run) (g : Begun) (h : Right d c m) (live : map.get c.runs i ≡ Some r) (k : Knows d c.book h.plain r g)
-    (t : ℕ) (key : List ℕ) (v : Value) (wants : g.machine.effect ≡ Write t key v) where
+    (t : ℕ) (key : List ℕ) (v : Value) (is : g.machine.effect ≡ Write t key v) where
   abbrev item : Item
   item = record { func = r.func; table = t; key = key }
 
   abbrev place : Place
-  place = record { intent = r.id; step = g.machine.steps }
+  place = place_of r.id g.machine.steps
 
-  is_answered : IsTrue (wants_answer g.machine.effect)
-  is_answered = subst (λ e. IsTrue (wants_answer e)) (sym wants) refl
-
-  -- what the step was answered, where it was
-  is_done : (a : Answer) (later : List Answer) → k.later ≡ a ∷ later → a ≡ Done
-  is_done a later e = by_answer a (subst (λ z. IsAnswerTo z a) (effect_here d c.book h.plain r g k ∙ wants) ((sane_of d h.plain r.id k.instance h.sane k.made).past g.machine.steps a (answer_here d c.book h.plain r g k a later e)))
-    where
-      by_answer : (a : Answer) → IsAnswerTo (Write t key v) a → a ≡ Done
-      by_answer Done h = refl
-      by_answer a h = absurd h
-
-  -- what is owed at the place of this step
-  owed : List Answer → Option Note
-  owed [] = None
-  owed (a ∷ later) = Some Wrote
-
-  owed_here : (later : List Answer) → k.later ≡ later → owed_by d item g.machine.steps (map.get h.plain.made r.id) ≡ owed later
-  unfolding owed
-  owed_here [] e = ap (owed_by d item g.machine.steps) k.made ∙ ap (λ n. owed_by d item n (Some k.instance)) (step_here d c.book h.plain r g k e) ∙ owed_next d item k.instance
-  owed_here (a ∷ later) e =
-      ap (owed_by d item g.machine.steps) k.made
-      ∙ ap (λ o. note_if item k.instance.func (effect_before d k.instance g.machine.steps) o) (answer_here d c.book h.plain r g k a later e ∙ ap (λ z. Some z) (is_done a later e))
-      ∙ ap (λ z. note_for item k.instance.func z Done) (effect_here d c.book h.plain r g k ∙ wants)
-      ∙ ap (λ f. if is_eq (item_cmp (record { func = f; table = t; key = key }) item) then Some Wrote else None) k.func
-      ∙ ap (λ o. if is_eq o then Some Wrote else None) (tied_itself item_total item)
-
-  -- the walk goes on
-  walk_on : (s : WriteStage) → IsQuiet d c.book h.plain (goes r (record { machine = g.machine; stage = stage.Write (walk_at r g.machine.steps t key v s) }) None)
-  walk_on s = record {
-    entry = refl;
-    reply = refl;
-    next = record {
-      instance = k.instance;
-      made = k.made;
-      func = k.func;
-      answers = k.answers;
-      later = k.later;
-      run_answers = k.run_answers;
-      machine = k.machine;
-      run_stage = subst (λ e. StageOk r g.machine.steps e (stage.Write (walk_at r g.machine.steps t key v s))) (sym wants) (s, refl);
-      run_place = subst (λ e. PlaceOk d c.book r.id r.func k.answers k.later e (stage.Write (walk_at r g.machine.steps t key v s))) (sym wants) tt;
-    };
-  }
-
-  -- the place has its note: the step was answered
-  noted_quiet : (later : List Answer) → k.later ≡ Done ∷ later → IsQuiet d c.book h.plain (run_answered d r g.machine Done None)
-  noted_quiet later e = record {
-    entry = refl;
-    reply = refl;
-    next = knows_next d c.book h.plain (record r { at = Some (standing r.id r.func (resumed d g.machine Done)) }) g.machine k.instance Done k.answers later k.made k.func
-        (ap (λ ys. k.answers ++ ys) (sym e) ∙ k.run_answers) k.machine is_answered;
-  }
-
-  noted_by : (n : Note) (later : List Answer) → k.later ≡ later → Some n ≡ owed later → IsQuiet d c.book h.plain (noted_turned d r g.machine false (is_done_note n))
-  unfolding owed
-  noted_by n [] e is = cc
-  noted_by n (a ∷ later) e is =
-      let wrote_it : n ≡ Wrote = cc in
-      subst (λ z. IsQuiet d c.book h.plain (noted_turned d r g.machine false (is_done_note z))) (sym wrote_it) (noted_quiet later (e ∙ ap (λ z. z ∷ later) (is_done a later e)))
-
-  -- it has none: the step is the instance's next
-  none_left : (later : List Answer) → k.later ≡ later → None ≡ owed later → k.later ≡ []
-  unfolding owed
-  none_left [] e is = e
-  none_left (a ∷ later) e is = cc
+  -- the item has the note of what the step was answered
+  note_here : (later : List Answer) → k.later ≡ later → (cell : Cell) → map.get m (head_key item) ≡ Some (rows.Cell cell) → note_at cell.log place ≡ note_if item r.func (Write t key v) (slice_get later 0)
+  note_here later left cell at =
+      ap (λ w. note_at (content_in w).notes place) (sym at) ∙ h.rows.notes item place
+      ∙ ap (owed_by d item g.machine.steps) k.made
+      ∙ ap (note_if item k.instance.func (effect_before d k.instance g.machine.steps)) (answer_here d c.book h.plain r g k later left)
+      ∙ ap (λ e. note_if item k.instance.func e (slice_get later 0)) (effect_here d c.book h.plain r g k ∙ is)
+      ∙ ap (λ f. note_if item f (Write t key v) (slice_get later 0)) k.func
 
   abbrev state : PlainState
-  state = record { items = set_item h.plain.items (record { func = k.instance.func; table = t; key = key }) v; made = map.insert h.plain.made r.id (answered k.instance Done) }
+  state = step_by h.plain r.id k.instance (Write t key v)
 
-  written_step : k.later ≡ [] → IsStep d c.book h.plain state (run_answered d r g.machine Done (Some (Step r.id)))
-  written_step e =
-      let sane = sane_of d h.plain r.id k.instance h.sane k.made in
-      let now : effect_of d k.instance ≡ Write t key v = effect_next d c.book h.plain r g k e ∙ wants in
-      let none = open_still k.instance.outcome refl now in
-      record {
-        made = Step r.id;
-        entry = refl;
-        change = refl;
-        after = enabled_step d h.plain r.id k.instance k.made none (ap kind_of now) ∙ ap (λ z. Some (step_by h.plain r.id k.instance z)) now;
-        sane = made_set h.plain.made r.id (answered k.instance Done) (λ id s. SaneAt d s) (sane_pushed d k.instance Done none (subst (λ z. IsAnswerTo z Done) (sym now) tt) sane) h.sane;
-        reply = λ u o told. cc;
-        next = knows_next d (c.book ++ Step r.id ∷ []) state (record r { at = Some (standing r.id r.func (resumed d g.machine Done)) }) g.machine (answered k.instance Done) Done k.answers []
-            (get_set id_total id_exact h.plain.made r.id (answered k.instance Done)) k.func (ap (λ xs. xs ++ Done ∷ []) (all_here d c.book h.plain r g k e)) k.machine is_answered;
-      }
-    where
-      open_still : (o : Option Outcome) → k.instance.outcome ≡ o → effect_of d k.instance ≡ Write t key v → k.instance.outcome ≡ None
-      open_still None e now = e
-      open_still (Some o) e now = let ends = (sane_of d h.plain r.id k.instance h.sane k.made).over o e in cc
+  now : k.later ≡ [] → effect_of d k.instance ≡ Write t key v
+  now left = effect_next d c.book h.plain r g k left ∙ is
 
   written_rows : (cell : Cell) → map.get m (head_key item) ≡ Some (rows.Cell cell) → CellFits 0 cell → note_at cell.log place ≡ None → k.later ≡ [] → RowsMatch d (set_row m (head_key item) (Some (rows.Cell (wrote place v cell)))) state
-  written_rows cell is fits none e =
-      let now : effect_of d k.instance ≡ Write t key v = effect_next d c.book h.plain r g k e ∙ wants in
-      let steps = step_here d c.book h.plain r g k e in
+  written_rows cell at fits none left =
+      let steps = step_here d c.book h.plain r g k left in
       subst (λ f. RowsMatch d (set_row m (head_key (record { func = f; table = t; key = key })) (Some (rows.Cell (wrote place v cell)))) state) k.func
-      (subst (λ n. RowsMatch d (set_row m (head_key (record { func = k.instance.func; table = t; key = key })) (Some (rows.Cell (wrote (record { intent = r.id; step = n }) v cell)))) state) (sym steps)
-      (cell_written d m h.plain r.id k.instance t key v cell k.made now
-      (ap (λ f. map.get m (head_key (record { func = f; table = t; key = key }))) k.func ∙ is)
-      (ap (λ n. note_at cell.log (record { intent = r.id; step = n })) (sym steps) ∙ none) fits h.rows))
+      (subst (λ n. RowsMatch d (set_row m (head_key (item_of k.instance t key)) (Some (rows.Cell (wrote (place_of r.id n) v cell)))) state) (sym steps)
+      (cell_written d m h.plain r.id k.instance t key v cell k.made (now left)
+      (ap (λ f. map.get m (head_key (record { func = f; table = t; key = key }))) k.func ∙ at)
+      (ap (λ n. note_at cell.log (place_of r.id n)) (sym steps) ∙ none) fits h.rows))
+
+  abbrev AfterWrite : Option Row × Tell → Type 0
+  AfterWrite z = AfterAct d h.plain m (head_key item) (λ u. turn_next c i r.id (turned_by d r g (write_says (write_goes u)))) z
 
   -- the operation was tried on the item's row
-  abbrev AfterWrite : Cell × Tell → Type 0
-  AfterWrite z = AfterAct d h.plain m (head_key item) (λ u. turn_next c i (write_turned d r g.machine (walk_next (walk_at r g.machine.steps t key v Try) u))) (Some (rows.Cell z.0), z.1)
+  try_cell : (later : List Answer) → k.later ≡ later → (cell : Cell) → map.get m (head_key item) ≡ Some (rows.Cell cell) → CellFits 0 cell
+      → AfterWrite (Some (rows.Cell (write_at place (owner.Intent r.id) v cell).0), (write_at place (owner.Intent r.id) v cell).1)
+  try_cell [] left cell at fits =
+      let none = note_here [] left cell at in
+      let free : cell.owner ≡ None = ap (λ w. (content_in w).owner) (sym at) ∙ h.rows.owners item in
+      let row : Option Row = Some (rows.Cell (wrote place v cell)) in
+      subst (λ (z : Cell × Tell). AfterWrite (Some (rows.Cell z.0), z.1)) (sym (writes place (owner.Intent r.id) v cell none fits.last free))
+      (steps_on d c m i r g h live k (Write t key v) is Done mark.Step state (set_row m (head_key item) row) left tt refl
+      (change_entered d c m h (Step r.id) state refl (enabled_step d h.plain r.id k.instance k.made (not_over d c m i r g h live k (Write t key v) is left refl) (ap kind_of (now left)) ∙ ap (λ z. Some (step_by h.plain r.id k.instance z)) (now left)))
+      (λ u. ap is_some (root_in_heads m item u row)) (written_rows cell at fits none left))
+  try_cell (Done ∷ rest) left cell at fits =
+      let note : note_at cell.log place ≡ Some Wrote = note_here (Done ∷ rest) left cell at ∙ ap (λ o. if is_eq o then Some Wrote else None) (tied_itself item_total item) in
+      subst (λ (z : Cell × Tell). AfterWrite (Some (rows.Cell z.0), z.1)) (sym (tells_note place (owner.Intent r.id) v cell Wrote note))
+      (still d h.plain m (head_key item) (Some (rows.Cell cell)) (sym at) (replays d c m i r g h live k (Write t key v) is Done rest left))
+  try_cell (a ∷ rest) left cell at cell_fits = absurd (fits d c m i r g h live k (Write t key v) is a rest left)
 
-  try_cell : (cell : Cell) (o : Option Note) → note_at cell.log place ≡ o → map.get m (head_key item) ≡ Some (rows.Cell cell) → CellFits 0 cell
-      → AfterWrite (write_at place (owner.Intent r.id) v cell)
-  try_cell cell (Some n) note is fits =
-      let at : note_at cell.log place ≡ owed k.later = ap (λ w. note_at (content_in w).notes place) (sym is) ∙ h.rows.notes item place ∙ owed_here k.later refl in
-      subst AfterWrite
-      (sym (tells_note place (owner.Intent r.id) v cell n note))
-      (still d c m i r g h live k (noted_turned d r g.machine false (is_done_note n)) (head_key item) (Some (rows.Cell cell)) (noted_by n k.later refl (sym note ∙ at)) (sym is))
-  try_cell cell None note is fits =
-      let at : note_at cell.log place ≡ owed k.later = ap (λ w. note_at (content_in w).notes place) (sym is) ∙ h.rows.notes item place ∙ owed_here k.later refl in
-      let left = none_left k.later refl (sym note ∙ at) in
-      let free : cell.owner ≡ None = ap (λ w. (content_in w).owner) (sym is) ∙ h.rows.owners item in
-      subst AfterWrite
-      (sym (writes place (owner.Intent r.id) v cell note fits.last free))
-      (stepped d c m (set_row m (head_key item) (Some (rows.Cell (wrote place v cell)))) i r (run_answered d r g.machine Done (Some (Step r.id))) h live
-      (λ u. ap is_some (root_in_heads m item u (Some (rows.Cell (wrote place v cell))))) state (written_step left) (written_rows cell is fits note left))
-
-  try_turn : (w : Option Row) → map.get m (head_key item) ≡ w → FitsAt (head_key item) w → AfterAct d h.plain m (head_key item) (λ u. turn_next c i (write_turned d r g.machine (walk_next (walk_at r g.machine.steps t key v Try) u))) (act (WriteCell place (owner.Intent r.id) v) c.now w)
-  try_turn None is f = still d c m i r g h live k (goes r (record { machine = g.machine; stage = stage.Write (walk_at r g.machine.steps t key v Make) }) None) (head_key item) None (walk_on Make) (sym is)
-  try_turn (Some (rows.Cell cell)) is f = try_cell cell (note_at cell.log place) refl is f
-  try_turn (Some w) is f = absurd f
+  try_turn : (w : Option Row) → map.get m (head_key item) ≡ w → FitsAt (head_key item) w → AfterWrite (act (WriteCell place (owner.Intent r.id) v) c.now w)
+  try_turn None at f = still d h.plain m (head_key item) None (sym at) (goes_on d c m i r g h live k (Write t key v) is m (stage.Write Make) (λ u. refl) h.rows tt tt)
+  try_turn (Some (rows.Cell cell)) at f = try_cell k.later refl cell at f
+  try_turn (Some w) at f = absurd f
 
   -- the item's row is made
-  make_turn : (w : Option Row) → map.get m (head_key item) ≡ w → AfterAct d h.plain m (head_key item) (λ u. turn_next c i (write_turned d r g.machine (walk_next (walk_at r g.machine.steps t key v Make) u))) (act (MakeCell Null None) c.now w)
-  make_turn None is =
+  make_turn : (w : Option Row) → map.get m (head_key item) ≡ w → AfterWrite (act (MakeCell Null None) c.now w)
+  make_turn None at =
       let cell : Cell = record { value = Null; owner = None; log = []; next = None; marked = false; dangled = None } in
-      let s = goes r (record { machine = g.machine; stage = stage.Write (walk_at r g.machine.steps t key v Try) }) None in
-      quiet d c m (set_row m (head_key item) (Some (rows.Cell cell))) i r s h live (λ u. ap is_some (root_in_heads m item u (Some (rows.Cell cell)))) (walk_on Try)
-      (cell_made d m h.plain item cell (record { head = refl; last = refl; kept = refl; linked = refl; once = tt }) (ap content_in (sym is)) h.rows)
-  make_turn (Some w) is = still d c m i r g h live k (goes r (record { machine = g.machine; stage = stage.Write (walk_at r g.machine.steps t key v Try) }) None) (head_key item) (Some w) (walk_on Try) (sym is)
+      goes_on d c m i r g h live k (Write t key v) is (set_row m (head_key item) (Some (rows.Cell cell))) (stage.Write Try) (λ u. ap is_some (root_in_heads m item u (Some (rows.Cell cell))))
+      (cell_made d m h.plain item cell (record { head = refl; last = refl; kept = refl; linked = refl; once = tt }) (ap content_in (sym at)) h.rows) tt tt
+  make_turn (Some w) at = still d h.plain m (head_key item) (Some w) (sym at) (goes_on d c m i r g h live k (Write t key v) is m (stage.Write Try) (λ u. refl) h.rows tt tt)
 
-  -- a turn of the walk
-  pub write_turn : (s : WriteStage) → let w = walk_at r g.machine.steps t key v s in AfterAct d h.plain m (walk_key w) (λ u. turn_next c i (write_turned d r g.machine (walk_next w u))) (act (walk_act w) c.now (map.get m (walk_key w)))
+  pub write_turn : (at : WriteAt) → AfterQuery d h.plain c.now m (λ u. turn_next c i r.id (turned_by d r g (write_says (write_goes u)))) (write_asks (cell_key r.func t key) place (owner.Intent r.id) v at)
   write_turn Try = try_turn (map.get m (head_key item)) refl (h.rows.one_row (head_key item))
   write_turn Make = make_turn (map.get m (head_key item)) refl

@@ -17,7 +17,8 @@ use Rattle.beldi_step.specs.declared.event.Event.{Event}
 use Rattle.beldi_step.specs.declared.event.Event.TheVariants.{Ticket, Request, Turn, Lost, Crash, Restart}
 use Rattle.beldi_step.specs.declared.event.Seen.{Seen}
 use Rattle.beldi_step.specs.declared.event.Seen.TheVariants as seen
-use Rattle.beldi_step.specs.Host.{Core, first_core, IsOneEvent, Breaks, is_lost}
+use Rattle.beldi_step.specs.Host.{Core, first_core}
+use Rattle.beldi_step.specs.Forms.{IsOneEvent, Breaks, is_lost}
 use Rattle.beldi_step.specs.Tables.{tables_text}
 use Rattle.beldi_laws.specs.Stands.{head_key, content_of, Stands}
 use Rattle.beldi_laws.specs.Right.{Right}
@@ -131,7 +132,7 @@ pub record HeldAnswersStay : Type 0 where
   pub event : (d : Deployment) (room old new : ℕ) (e : Event) (c b : Core) (m n : Rows) (x : Seen) → IsOneEvent d room old new e c m b n x → AnswersStay m n
   pub want_of_memory : (d : Deployment) (e : Event) (c b : Core) (m n : Rows) → Breaks d e c m b n → AnswersStay m n
 
--- ---- how little one event does
+-- ---- what one event changes
 -- at most the row of this key changes, by one act; and an item that it is no row of has the content that it had
 pub record OneRowChanged (c : Core) (m n : Rows) : Type 0 where
   pub key : RowKey
@@ -145,8 +146,8 @@ pub record ChangesOneRow : Type 0 where
 
 -- the entries that an event's answer tells: the start of a root that was bound, or the entry of a turn
 abbrev pub entries_told : Event → Seen → List Entry
-entries_told (Request t f a) (seen.Bound u run) = Start t f a ∷ []
 entries_told e (seen.Acted entry over reply) = option_to_list entry
+entries_told (Request t f a) (seen.Bound u run) = Start t f a ∷ []
 entries_told e x = []
 
 -- the book gets at most one entry, which starts what this answer to the event bound: it is the one that the answer tells,

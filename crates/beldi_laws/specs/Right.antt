@@ -27,18 +27,10 @@ use Rattle.beldi_row.specs.declared.row.Row.{Row}
 use Rattle.beldi_row.specs.declared.row.Row.TheVariants as rows
 use Rattle.beldi_row.specs.Log.{note_at, NoneTwice}
 use Rattle.beldi_row.specs.Table.{Rows}
-use Rattle.beldi_value.specs.declared.place.Owner.TheVariants as owner
 use Rattle.beldi_book.specs.declared.entry.Entry.{Entry}
 use Rattle.beldi_book.specs.Order.{count_changes, SeenBounded}
 use Rattle.beldi_readlog.specs.ReadLog.{log_key, given}
-use Rattle.beldi_daal.specs.declared.read_walk.ReadWalk.{ReadWalk}
-use Rattle.beldi_daal.specs.ReadWalk.{first_read}
 use Rattle.beldi_order.specs.Laws.{IsStateAt}
-use Rattle.beldi_daal.specs.declared.walk.Item.TheVariants.{Plain}
-use Rattle.beldi_daal.specs.declared.walk.CellOp.TheVariants as op
-use Rattle.beldi_daal.specs.declared.walk.WriteWalk.{WriteWalk}
-use Rattle.beldi_daal.specs.declared.walk.WriteStage.{WriteStage}
-use Rattle.beldi_daal.specs.Walk.{first_walk}
 use Rattle.beldi_plain.specs.Item.{Item, item_cmp}
 use Rattle.beldi_plain.specs.Plain.{Instance, PlainState, value_at, effect_of, kind_of}
 use Rattle.beldi_plain.specs.Legal.{run_of}
@@ -47,7 +39,8 @@ use Rattle.beldi_step.specs.declared.run.Run.{Run}
 use Rattle.beldi_step.specs.declared.run.Begun.{Begun}
 use Rattle.beldi_step.specs.declared.run.Stage.{Stage}
 use Rattle.beldi_step.specs.declared.run.Stage.TheVariants as stage
-use Rattle.beldi_step.specs.Host.{Core, root_key, most_runs}
+use Rattle.beldi_step.specs.Intent.{root_key}
+use Rattle.beldi_step.specs.Host.{Core, most_runs}
 use Rattle.beldi_laws.specs.Stands.{content_of, effect_before}
 
 -- ---- what the rows owe to a plain state
@@ -182,23 +175,15 @@ abbrev pub Sane : Deployment → PlainState → Type 0
 Sane d p = (id : IntentId) → SaneAt d (map.get p.made id)
 
 -- ---- what a run knows
--- the walk of a write at this step, at a stage
-abbrev pub walk_at : Run → ℕ → ℕ → List ℕ → Value → WriteStage → WriteWalk
-walk_at r n t k v s = record (first_walk r.func (Plain t k) (record { intent = r.id; step = n }) (op.Write v)) { stage = s }
-
--- the walk of a read
-abbrev pub reading_at : Run → ℕ → List ℕ → ReadWalk
-reading_at r t k = first_read r.func (Plain t k) (Some (owner.Intent r.id))
-
--- where an effect at a step may stand
-abbrev pub StageOk : Run → ℕ → Effect → Stage → Type 0
-StageOk r n (Read t k) (stage.Ask w) = w ≡ reading_at r t k
-StageOk r n (Read t k) (stage.Walk w) = w ≡ reading_at r t k
-StageOk r n (Read t k) (stage.Keep v seen) = Unit {0}
-StageOk r n (Write t k v) (stage.Write w) = (s : WriteStage) × (w ≡ walk_at r n t k v s)
-StageOk r n (Return o) (stage.Close u) = u ≡ o
-StageOk r n e stage.Unbuilt = kind_of e ≡ kind.Unbuilt
-StageOk r n e s = ⊥
+-- where an effect may stand
+abbrev pub StageOk : Effect → Stage → Type 0
+StageOk (Read t k) stage.Ask = Unit {0}
+StageOk (Read t k) stage.Walk = Unit {0}
+StageOk (Read t k) (stage.Keep v seen) = Unit {0}
+StageOk (Write t k v) (stage.Write at) = Unit {0}
+StageOk (Return o) stage.Close = Unit {0}
+StageOk e stage.Unbuilt = kind_of e ≡ kind.Unbuilt
+StageOk e s = ⊥
 
 -- where a read belongs after the first `seen` changes: there its instance had these answers, and the item had this value
 pub record WasThere (d : Deployment) (book : List Entry) (id : IntentId) (answers : List Answer) (x : Item) (v : Value) (seen : ℕ) : Type 0 where
@@ -231,7 +216,7 @@ pub record Knows (d : Deployment) (book : List Entry) (p : PlainState) (r : Run)
   pub run_answers : answers ++ later ≡ instance.answers
   -- its machine stands where these answers lead, and its stage is one of the effect there
   pub machine : IsAt d r.func instance.args false g.machine answers
-  pub run_stage : StageOk r g.machine.steps g.machine.effect g.stage
+  pub run_stage : StageOk g.machine.effect g.stage
   -- where it is to keep a value, it knows where its read belongs
   pub run_place : PlaceOk d book r.id r.func answers later g.machine.effect g.stage
 

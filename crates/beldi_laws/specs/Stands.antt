@@ -27,8 +27,7 @@ use Rattle.beldi_readlog.specs.ReadLog.{log_key, given}
 use Rattle.std.specs.Option.{option_map}
 use Rattle.beldi_plain.specs.Item.{Item}
 use Rattle.beldi_plain.specs.Plain.{Instance, PlainState, value_at}
-use Rattle.beldi_step.specs.Run.{is_ended}
-use Rattle.beldi_step.specs.Host.{root_key}
+use Rattle.beldi_step.specs.Intent.{root_key, is_ended}
 
 -- ---- what the rows hold of an item
 -- the key of an item's first row

@@ -7,7 +7,9 @@ use Rattle.beldi_row.specs.Table.{Rows, TableState, Tells, IsCount, row_count}
 use Rattle.beldi_book.specs.Text.{book_text}
 use Rattle.beldi_step.specs.declared.event.Event.{Event}
 use Rattle.beldi_step.specs.declared.event.Seen.{Seen}
-use Rattle.beldi_step.specs.Host.{Core, EventOn}
+use Rattle.beldi_step.specs.Host.{Core}
+use Rattle.beldi_step.specs.Forms.{EventOn}
+use Rattle.beldi_step.proofs.Forms.{over_rows, over_any_table}
 use Rattle.beldi_core.specs.Survey.{Reads}
 use Rattle.beldi_core.specs.declared.survey.OpenErr.{OpenErr}
 use Rattle.beldi_core.specs.declared.survey.OpenErr.TheVariants.{Failed}
@@ -29,10 +31,10 @@ module _ (d d' : Deployment) (e : Event) (c b : Core) (old new : TableState) (p 
 
   pub event_done : (r : Result (Unit {0}) AllocError) → Answering d d' e c b old new p q r → Doing (deed.Event e) d d' c b old new p q r
   event_done r a = record {
-    done = told_map {P = λ m n. EventOn d old.room old.faults new.faults e c m b n a.seen} {Q = DeedOn d old.room old.faults new.faults (deed.Event e) c b p q r} old.rows new.rows (event_on r a.seen a.text) (told_tells old.rows new.rows (λ m n. EventOn d old.room old.faults new.faults e c m b n a.seen) a.stepped.rows);
+    done = told_map {P = λ m n. EventOn d old.room old.faults new.faults e c m b n a.seen} {Q = DeedOn d old.room old.faults new.faults (deed.Event e) c b p q r} old.rows new.rows (event_on r a.seen a.text) (told_tells old.rows new.rows (λ m n. EventOn d old.room old.faults new.faults e c m b n a.seen) (over_rows d e c b old new a.seen a.stepped));
     code = a.code;
-    same_room = a.stepped.room;
-    later = a.stepped.later;
+    same_room = (over_any_table d e c b old new a.seen a.stepped).room;
+    later = (over_any_table d e c b old new a.seen a.stepped).later;
   }
 
 -- ---- a reading of the rows

@@ -9,11 +9,12 @@ use Rattle.beldi_row.specs.Table.{Rows}
 use Rattle.beldi_book.specs.declared.entry.Entry.{Entry}
 use Rattle.beldi_plain.specs.Legal.{IsLegal}
 use Rattle.beldi_step.specs.declared.event.Event.{Event}
-use Rattle.beldi_step.specs.Host.{Core, Breaks}
+use Rattle.beldi_step.specs.Host.{Core}
+use Rattle.beldi_step.specs.Forms.{Breaks}
 use Rattle.beldi_laws.specs.Laws.{HasReply, starts_of, bound_of, bound_in}
 use Rattle.beldi_laws.specs.Right.{Right}
 use Rattle.beldi_laws.proofs.Events.{after_event, after_break, replies}
-use Rattle.beldi_laws.proofs.Little.{told_entries}
+use Rattle.beldi_laws.proofs.OneEvent.{told_entries}
 use Rattle.beldi_laws.proofs.Starts.{outcomes_stay, starts_bound}
 use Rattle.beldi_laws.proofs.Listing.{listing_plain}
 use Rattle.beldi_core.specs.Right.{SaidOf}

@@ -10,7 +10,7 @@ use Rattle.beldi_plain.specs.Legal.{IsLegal, run_of}
 use Rattle.beldi_plain.specs.Listing.{listing_of}
 use Rattle.beldi_step.specs.declared.event.Event.{Event}
 use Rattle.beldi_step.specs.declared.event.Seen.{Seen}
-use Rattle.beldi_step.specs.Host.{is_lost}
+use Rattle.beldi_step.specs.Forms.{is_lost}
 use Rattle.beldi_step.specs.Tables.{tables_text}
 use Rattle.beldi_laws.specs.Laws.{starts_of, bound_in, entries_told, told_outcome, HasReply}
 use Rattle.beldi_laws.specs.Stands.{Stands}

@@ -7,7 +7,8 @@ use Rattle.beldi_book.specs.Text.{book_text}
 use Rattle.beldi_step.specs.declared.event.Event.{Event}
 use Rattle.beldi_step.specs.declared.event.Event.TheVariants as event
 use Rattle.beldi_step.specs.declared.event.Seen.{Seen}
-use Rattle.beldi_step.specs.Host.{Core, IsOneEvent, Breaks, Stepped}
+use Rattle.beldi_step.specs.Host.{Core, Stepped}
+use Rattle.beldi_step.specs.Forms.{IsOneEvent, Breaks}
 use Rattle.beldi_step.specs.Tables.{tables_text}
 use Rattle.beldi_core.specs.Survey.{reply_seen, is_unknown}
 use Rattle.beldi_script.specs.declared.line.Line.{Line}

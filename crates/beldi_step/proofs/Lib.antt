@@ -1,2 +1,3 @@
-pub mod Lent
-pub mod Turns
+pub mod Forms
+pub mod Plans
+mod Told

@@ -1,5 +1,6 @@
 -- The host without its table, and what one event does.
-use Rattle.std.specs.Prelude.{◌≡◌, ◌⊎◌, ℕ, ◌+◌, ◌-◌, ◌^◌, ◌≤◌, ◌<◌, ◌==◌, ◌||◌, nat_lt, nat_le, Bool, true, false, IsTrue, List, [], ◌∷◌, ◌++◌, option_to_list, Option, Some, None, is_none, Result, Ok, Err, if◌then◌else◌}
+use Rattle.std.specs.Prelude.{◌≡◌, ℕ, ◌+◌, ◌-◌, ◌^◌, ◌==◌, ◌||◌, nat_lt, nat_le, Bool, true, false, List, [], ◌∷◌, ◌++◌, option_to_list, Option, Some, None, is_none, Result, Ok, Err, if◌then◌else◌}
+use Rattle.std.specs.Option.{option_map}
 use Rattle.std.specs.FinMap as map
 use Rattle.std.specs.FinMap.{FinMap}
 use Rattle.std.specs.Ordering.{nat_cmp}
@@ -7,24 +8,27 @@ use Rattle.std.specs.declared.alloc.AllocError.{AllocError}
 use Rattle.beldi_value.specs.Id.{root_of}
 use Rattle.beldi_value.specs.declared.id.IntentId.{IntentId}
 use Rattle.beldi_value.specs.declared.value.Value.{Value}
+use Rattle.beldi_value.specs.declared.outcome.Outcome.{Outcome}
 use Rattle.beldi_tree.specs.declared.deployment.Deployment.{Deployment}
-use Rattle.beldi_row.specs.declared.key.RowKey.{RowKey}
-use Rattle.beldi_row.specs.declared.act.Act.{Act}
-use Rattle.beldi_row.specs.declared.act.Act.TheVariants.{Issue, Bind}
-use Rattle.beldi_row.specs.Act.{Tell}
-use Rattle.beldi_row.specs.Table.{Rows, TableState, IsFull, Tells, Rose, AtMostOne, after_act, tell_act, adds}
+use Rattle.beldi_row.specs.declared.table.TableErr.{TableErr}
+use Rattle.beldi_row.specs.declared.table.TableErr.TheVariants as err
+use Rattle.beldi_row.specs.Table.{TableState}
 use Rattle.beldi_book.specs.declared.entry.Entry.{Entry}
+use Rattle.beldi_book.specs.declared.entry.Entry.TheVariants as entry
 use Rattle.beldi_book.specs.Order.{count_changes}
-use Rattle.beldi_book.specs.declared.entry.Entry.TheVariants.{Start}
+use Rattle.beldi_walk.specs.declared.query.Query.{Query}
+use Rattle.beldi_walk.specs.Query.{Told, lends, Came}
 use Rattle.beldi_step.specs.declared.event.Event.{Event}
 use Rattle.beldi_step.specs.declared.event.Event.TheVariants.{Ticket, Request, Turn, Lost, Crash, Restart}
 use Rattle.beldi_step.specs.declared.event.Seen.{Seen}
 use Rattle.beldi_step.specs.declared.event.Seen.TheVariants as seen
 use Rattle.beldi_step.specs.declared.intent.Binding.{Binding}
 use Rattle.beldi_step.specs.declared.intent.Binding.TheVariants as binding
+use Rattle.beldi_step.specs.declared.run.Mark.{Mark}
+use Rattle.beldi_step.specs.declared.run.Mark.TheVariants as mark
 use Rattle.beldi_step.specs.declared.run.Run.{Run}
-use Rattle.beldi_step.specs.Intent.{is_added, binding_of}
-use Rattle.beldi_step.specs.Run.{intent_key, Turned, run_key, run_act, run_turned}
+use Rattle.beldi_step.specs.Intent.{issue_asks, bind_asks, is_added, binding_of}
+use Rattle.beldi_step.specs.Run.{Turned, run_asks, run_told}
 
 -- the newest ticket, the live runs by number, how many runs were ever started, the book, the moment, and how many events
 -- were taken
@@ -40,35 +44,73 @@ pub record Core : Type 0 where
 abbrev pub first_core : ℕ → ℕ → Core
 first_core newest now = record { newest = newest; runs = map.empty; last_run = 0; book = []; now = now; taken = 0 }
 
-abbrev pub root_key : ℕ → RowKey
-root_key t = intent_key (root_of t) 0
-
 abbrev pub most_runs : ℕ
 most_runs = 1024
 
 abbrev pub most_events : ℕ
 most_events = 2 ^ 62
 
--- an event is answered at once, or makes one act; the last part says what follows from what the act told. Where the answer
--- of an act is lost, only the host goes on from it.
+-- an event is answered at once, or asks one thing of the table
 pub data Plan : Type 0 where
-  Answer : Core → Seen → Plan
-  Do : RowKey → Act → (Tell → Core × Seen) → Plan
-  Lose : RowKey → Act → (Tell → Core) → Plan
+  at_once : Core → Seen → Plan
+  asks : Query → Plan
 
--- ---- a ticket, by whether its row was added
+-- ---- what an event asks
+-- a number that no live run has
+abbrev pub no_run : Core → ℕ → Seen
+no_run c i = if (i == 0) || nat_lt c.last_run i then seen.NoRun else seen.RunOver
+
+abbrev pub ended_run : Core → ℕ → Core
+ended_run c i = record c { runs = map.remove c.runs i }
+
+abbrev pub new_run : IntentId → ℕ → Run
+new_run id f = record { id = id; func = f; at = None }
+
+abbrev pub restarted : Core → IntentId → ℕ → Core
+restarted c id f = record c { runs = map.insert c.runs (c.last_run + 1) (new_run id f); last_run = c.last_run + 1 }
+
+abbrev pub request_plan : Core → ℕ → ℕ → Value → Plan
+request_plan c t f a =
+    if (t == 0) || nat_lt c.newest t then at_once c (seen.Unknown t) else
+    if nat_le most_runs (map.len c.runs) then at_once c seen.Crowded else
+    asks (bind_asks t f a)
+
+abbrev pub run_plan : Core → ℕ → Option Run → Plan
+run_plan c i None = at_once c (no_run c i)
+run_plan c i (Some r) = asks (run_asks r)
+
+abbrev pub crash_plan : Core → ℕ → Option Run → Plan
+crash_plan c i None = at_once c (no_run c i)
+crash_plan c i (Some r) = at_once (ended_run c i) seen.Crashed
+
+abbrev pub restart_plan : Core → IntentId → ℕ → Plan
+restart_plan c id f = if nat_le most_runs (map.len c.runs) then at_once c seen.Crowded else at_once (restarted c id f) (seen.Started (c.last_run + 1))
+
+abbrev pub plan_of : Event → Core → Plan
+plan_of Ticket c = if c.newest == 2 ^ 32 - 1 then at_once c seen.NoTicket else asks (issue_asks (c.newest + 1))
+plan_of (Request t f a) c = request_plan c t f a
+plan_of (Turn i) c = run_plan c i (map.get c.runs i)
+plan_of (Lost i) c = run_plan c i (map.get c.runs i)
+plan_of (Crash i) c = crash_plan c i (map.get c.runs i)
+plan_of (Restart id f) c = restart_plan c id f
+
+abbrev pub counted : Core → Core
+counted c = record c { taken = c.taken + 1 }
+
+-- a host that is spent counts no event
+abbrev pub plan : Event → Core → Plan
+plan e c = if nat_lt c.taken most_events then plan_of e (counted c) else at_once c seen.Spent
+
+-- ---- what follows where the table told
+-- a ticket, by whether its row was added
 abbrev pub ticket_next : Core → Bool → Core × Seen
 ticket_next c true = (record c { newest = c.newest + 1 }, seen.Issued (c.newest + 1))
 ticket_next c false = (c, seen.Gone (c.newest + 1))
 
--- ---- a request
-abbrev pub new_run : IntentId → ℕ → Run
-new_run id f = record { id = id; func = f; at = None }
-
 abbrev pub bound_next : Core → ℕ → ℕ → Value → Core × Seen
-bound_next c t f a = (record c { runs = map.insert c.runs (c.last_run + 1) (new_run (root_of t) f); last_run = c.last_run + 1; book = c.book ++ Start t f a ∷ [] }, seen.Bound t (c.last_run + 1))
+bound_next c t f a = (record c { runs = map.insert c.runs (c.last_run + 1) (new_run (root_of t) f); last_run = c.last_run + 1; book = c.book ++ entry.Start t f a ∷ [] }, seen.Bound t (c.last_run + 1))
 
--- the answer where it was not bound now
+-- the answer where the root was not bound now
 abbrev pub unbound : ℕ → Binding → Seen
 unbound t binding.Bound = seen.Gone t
 unbound t binding.Running = seen.Running t
@@ -76,175 +118,105 @@ unbound t (binding.Other f a) = seen.Other t f a
 unbound t (binding.Ended o) = seen.Replied t o
 unbound t binding.Gone = seen.Gone t
 
--- by what its bind came to
+-- a request, by what its bind came to
 abbrev pub request_next : Core → ℕ → ℕ → Value → Binding → Core × Seen
 request_next c t f a binding.Bound = bound_next c t f a
 request_next c t f a b = (c, unbound t b)
 
--- ---- a turn
+-- the entry of a mark
+abbrev pub entry_of : IntentId → Mark → Entry
+entry_of id (mark.Read seen) = entry.Read id seen
+entry_of id mark.Step = entry.Step id
+
+-- the book with the entry of an act, if it made one
+abbrev pub marked : List Entry → IntentId → Option Mark → List Entry
+marked book id m = book ++ option_to_list (option_map (entry_of id) m)
+
 abbrev pub put_run : FinMap nat_cmp Run → ℕ → Option Run → FinMap nat_cmp Run
 put_run m i None = map.remove m i
 put_run m i (Some r) = map.insert m i r
 
-abbrev pub turn_next : Core → ℕ → Turned → Core × Seen
-turn_next c i s = (record c { runs = put_run c.runs i s.next; book = c.book ++ option_to_list s.entry }, seen.Acted s.entry (is_none s.next) s.reply)
+-- the answer to a turn. A run that waits has one of a turn that did nothing.
+abbrev pub acted : IntentId → Turned → Seen
+acted id s = seen.Acted (option_map (entry_of id) s.mark) (is_none s.next) (option_map (λ (o : Outcome). (id.ticket, o)) s.reply)
 
--- a number that no live run has
-abbrev pub no_run : Core → ℕ → Seen
-no_run c i = if (i == 0) || nat_lt c.last_run i then seen.NoRun else seen.RunOver
+abbrev pub turn_next : Core → ℕ → IntentId → Turned → Core × Seen
+turn_next c i id s = (record c { runs = put_run c.runs i s.next; book = marked c.book id s.mark }, acted id s)
 
-abbrev pub turn_plan : Deployment → Core → ℕ → Option Run → Plan
-turn_plan d c i None = Answer c (no_run c i)
-turn_plan d c i (Some r) = Do (run_key r) (run_act r) (λ t. turn_next c i (run_turned d r (count_changes c.book) t))
+-- the run of this number is over, and the book has the entry of its act
+abbrev pub without_run : Core → ℕ → IntentId → Option Mark → Core
+without_run c i id m = record c { runs = map.remove c.runs i; book = marked c.book id m }
 
--- the run of this number is over, and the book has an entry more, if there is one
-abbrev pub without_run : Core → ℕ → Option Entry → Core
-without_run c i e = record c { runs = map.remove c.runs i; book = c.book ++ option_to_list e }
+abbrev pub run_next : Deployment → Core → ℕ → Told → Option Run → Core × Seen
+run_next d c i t None = (c, no_run c i)
+run_next d c i t (Some r) = turn_next c i r.id (run_told d (count_changes c.book) r t)
 
--- ---- a turn whose answer is lost: the run is over, and the book has the entry of its act
-abbrev pub lost_next : Core → ℕ → Turned → Core
-lost_next c i s = without_run c i s.entry
+-- .. and nobody heard it
+abbrev pub unheard_next : Deployment → Core → ℕ → Told → Option Run → Core
+unheard_next d c i t None = c
+unheard_next d c i t (Some r) = without_run c i r.id (run_told d (count_changes c.book) r t).mark
 
-abbrev pub lost_plan : Deployment → Core → ℕ → Option Run → Plan
-lost_plan d c i None = Answer c (no_run c i)
-lost_plan d c i (Some r) = Lose (run_key r) (run_act r) (λ t. lost_next c i (run_turned d r (count_changes c.book) t))
+-- a crash and a restart ask nothing, so they hear nothing
+abbrev pub heard : Deployment → Event → Core → Told → Core × Seen
+heard d Ticket c t = ticket_next c (is_added t)
+heard d (Request t f a) c u = request_next c t f a (binding_of u)
+heard d (Turn i) c t = run_next d c i t (map.get c.runs i)
+heard d (Lost i) c t = (unheard_next d c i t (map.get c.runs i), seen.Dropped)
+heard d (Crash i) c t = (c, seen.Crashed)
+heard d (Restart id f) c t = (c, seen.Crowded)
 
--- ---- a crash
-abbrev pub ended_run : Core → ℕ → Core
-ended_run c i = record c { runs = map.remove c.runs i }
+-- .. and then memory was wanting: what is left, none where memory cannot be wanting
+abbrev pub if_lent : Bool → Core → Option Core
+if_lent true c = Some c
+if_lent false c = None
 
-abbrev pub crash_plan : Core → ℕ → Option Run → Plan
-crash_plan c i None = Answer c (no_run c i)
-crash_plan c i (Some r) = Answer (ended_run c i) seen.Crashed
+abbrev pub wanted : Deployment → Event → Core → Told → Option Core
+wanted d Ticket c t = None
+wanted d (Request t f a) c u = if_lent (lends u) c
+wanted d (Turn i) c t = Some (unheard_next d c i t (map.get c.runs i))
+wanted d (Lost i) c t = None
+wanted d (Crash i) c t = None
+wanted d (Restart id f) c t = None
 
--- ---- a restart
-abbrev pub restarted : Core → IntentId → ℕ → Core
-restarted c id f = record c { runs = map.insert c.runs (c.last_run + 1) (new_run id f); last_run = c.last_run + 1 }
+-- ---- what follows where it did not
+abbrev pub refused_by : TableErr → Result Seen AllocError
+refused_by err.OutOfMemory = Err (record {})
+refused_by err.Failed = Ok seen.Dropped
+refused_by (err.Full live room) = Ok (seen.Full live room)
 
-abbrev pub restart_plan : Core → IntentId → ℕ → Plan
-restart_plan c id f = if nat_le most_runs (map.len c.runs) then Answer c seen.Crowded else Answer (restarted c id f) (seen.Started (c.last_run + 1))
+-- a run that had the event is over, but for a turn where there was no room
+abbrev pub refused : Event → Core → TableErr → Core × Result Seen AllocError
+refused Ticket c e = (c, refused_by e)
+refused (Request t f a) c e = (c, refused_by e)
+refused (Turn i) c (err.Full live room) = (c, Ok (seen.Full live room))
+refused (Turn i) c e = (ended_run c i, refused_by e)
+refused (Lost i) c err.OutOfMemory = (ended_run c i, Err (record {}))
+refused (Lost i) c e = (ended_run c i, Ok seen.Dropped)
+refused (Crash i) c e = (c, refused_by e)
+refused (Restart id f) c e = (c, refused_by e)
 
--- ---- every event
-abbrev pub request_plan : Core → ℕ → ℕ → Value → Plan
-request_plan c t f a =
-    if (t == 0) || nat_lt c.newest t then Answer c (seen.Unknown t) else
-    if nat_le most_runs (map.len c.runs) then Answer c seen.Crowded else
-    Do (root_key t) (Bind f a) (λ u. request_next c t f a (binding_of u))
-
-abbrev pub plan_of : Deployment → Event → Core → Plan
-plan_of d Ticket c = if c.newest == 2 ^ 32 - 1 then Answer c seen.NoTicket else Do (root_key (c.newest + 1)) Issue (λ t. ticket_next c (is_added t))
-plan_of d (Request t f a) c = request_plan c t f a
-plan_of d (Turn i) c = turn_plan d c i (map.get c.runs i)
-plan_of d (Lost i) c = lost_plan d c i (map.get c.runs i)
-plan_of d (Crash i) c = crash_plan c i (map.get c.runs i)
-plan_of d (Restart id f) c = restart_plan c id f
-
-abbrev pub counted : Core → Core
-counted c = record c { taken = c.taken + 1 }
-
-abbrev pub plan : Deployment → Event → Core → Plan
-plan d e c = if nat_lt c.taken most_events then plan_of d e (counted c) else Answer c seen.Spent
-
--- what an event leaves where its act was not made: a run that had it is over
-abbrev pub dropped : Event → Core → Core
-dropped (Turn i) c = ended_run c i
-dropped (Lost i) c = ended_run c i
-dropped e c = c
-
--- ---- one event, as a relation: from the core c and the rows m it leaves d and n, and is answered x. The table's count of
--- failures was `old` before, and is `new` now.
--- the act was made, and there was room for the row that it added, if any
-abbrev pub Made : ℕ → RowKey → Act → (Tell → Core × Seen) → ℕ → Rows → Core → Rows → Seen → Type 0
-Made room k a f now m d n x = (n ≡ after_act a now k m) × ((d, x) ≡ f (tell_act a now k m)) × (IsTrue (adds a now k m) → map.len m < room)
-
--- the act was made, or refused for want of room, or the table failed
-abbrev pub Acts : ℕ → ℕ → ℕ → Event → Core → RowKey → Act → (Tell → Core × Seen) → Rows → Core → Rows → Seen → Type 0
-Acts room old new e c k a f m d n (seen.Full live most) = (n ≡ m) × (d ≡ c) × IsFull a c.now k room m live most
-Acts room old new e c k a f m d n seen.Dropped = (n ≡ m) × (d ≡ dropped e c) × Rose old new
-Acts room old new e c k a f m d n x = Made room k a f c.now m d n x
-
--- the act was made; or it was not, since the table had no room for its row, or failed
-abbrev pub Loses : ℕ → ℕ → ℕ → Event → Core → RowKey → Act → (Tell → Core) → Rows → Core → Rows → Type 0
-Loses room old new e c k a f m d n =
-    ((n ≡ after_act a c.now k m) × (d ≡ f (tell_act a c.now k m)) × (IsTrue (adds a c.now k m) → map.len m < room))
-    ⊎ ((n ≡ m) × (d ≡ dropped e c) × ((IsTrue (adds a c.now k m) × (room ≤ map.len m)) ⊎ Rose old new))
-
-abbrev pub Follows : ℕ → ℕ → ℕ → Event → Core → Plan → Rows → Core → Rows → Seen → Type 0
-Follows room old new e c (Answer b y) m d n x = (n ≡ m) × (d ≡ b) × (x ≡ y)
-Follows room old new e c (Do k a f) m d n x = Acts room old new e c k a f m d n x
-Follows room old new e c (Lose k a f) m d n x = (x ≡ seen.Dropped) × Loses room old new e c k a f m d n
-
-abbrev pub IsOneEvent : Deployment → ℕ → ℕ → ℕ → Event → Core → Rows → Core → Rows → Seen → Type 0
-IsOneEvent d room old new e c m b n x = Follows room old new e (counted c) (plan d e c) m b n x
-
--- want of memory in an event that was counted: nothing was done, but that a run that had the event is over; at a turn its
--- act may have been made, and then the book has its entry. It does not come at a crash.
-abbrev pub Wanting : Deployment → Event → Core → Rows → Core → Rows → Type 0
-Wanting d (Turn i) c m b n = ((n ≡ m) × (b ≡ dropped (Turn i) c)) ⊎ ((k : RowKey) × (a : Act) × (f : (Tell → Core × Seen)) × (plan_of d (Turn i) c ≡ Do k a f) × (n ≡ after_act a c.now k m) × (b ≡ dropped (Turn i) (f (tell_act a c.now k m)).0))
-Wanting d (Lost i) c m b n = (n ≡ m) × (b ≡ dropped (Lost i) c)
-Wanting d (Crash i) c m b n = ⊥
-Wanting d e c m b n = (n ≡ m) × (b ≡ c)
-
--- .. where the host is not spent
-abbrev pub Breaks : Deployment → Event → Core → Rows → Core → Rows → Type 0
-Breaks d e c m b n = Wanting d e (counted c) m b n
-
-abbrev pub EventOn : Deployment → ℕ → ℕ → ℕ → Event → Core → Rows → Core → Rows → Result Seen AllocError → Type 0
-EventOn d room old new e c m b n (Ok x) = IsOneEvent d room old new e c m b n x
-EventOn d room old new e c m b n (Err w) = (c.taken < most_events) × Breaks d e c m b n
-
--- ---- what is said over every table, also over one that tells no rows
--- what an event that makes an act leaves and answers, by what the act came to; the act of a crash or a restart there is none
-abbrev pub ByAct : Event → Core → Core × Seen → Type 0
-ByAct Ticket c z = (added : Bool) × (z ≡ ticket_next c added)
-ByAct (Request t f a) c z = (b : Binding) × (z ≡ request_next c t f a b)
-ByAct (Turn i) c z = (s : Turned) × (z ≡ turn_next c i s)
-ByAct (Lost i) c z = ⊥
-ByAct (Crash i) c z = ⊥
-ByAct (Restart id f) c z = ⊥
-
--- .. or the act was not made, and then no more than a run is over
-abbrev pub ActSays : Event → Core → Core → Seen → Type 0
-ActSays e c z (seen.Full live most) = z ≡ c
-ActSays e c z seen.Dropped = z ≡ dropped e c
-ActSays e c z x = ByAct e c (z, x)
-
--- want of memory where an act is made: a run that had the event is over, and at a turn the act's entry may be in the book
-abbrev pub ActBreaks : Event → Core → Core → Type 0
-ActBreaks (Turn i) c z = (o : Option Entry) × (z ≡ without_run c i o)
-ActBreaks e c z = z ≡ dropped e c
-
--- where the answer of an act is lost, a run is over, and the act's entry may be in the book
-abbrev pub LossLeaves : Event → Core → Core → Type 0
-LossLeaves (Lost i) c z = (o : Option Entry) × (z ≡ without_run c i o)
-LossLeaves e c z = ⊥
+-- ---- one event
+-- what followed, by what the query came to
+abbrev pub Followed : Deployment → Event → Core → Result Told TableErr → Core → Result Seen AllocError → Type 0
+Followed d e c (Ok t) z (Ok x) = (z, x) ≡ heard d e c t
+Followed d e c (Ok t) z (Err w) = wanted d e c t ≡ Some z
+Followed d e c (Err v) z r = (z, r) ≡ refused e c v
 
 -- a run was started
 abbrev pub StartsRun : Seen → Type 0
 StartsRun (seen.Started i) = Unit {0}
 StartsRun x = ⊥
 
--- An event that is answered at once leaves that core and has that answer; want of memory comes there only where a run would
--- start, and leaves all as it was. Every other event has an answer that follows from an act, and no other: so no ticket is
--- left, a ticket is unknown, the host is crowded or spent, or there is no such run, exactly where this is said.
-abbrev pub Answers : Event → Core → Plan → Core → Result Seen AllocError → Type 0
-Answers e c (Answer b y) z (Ok x) = (z ≡ b) × (x ≡ y)
-Answers e c (Answer b y) z (Err w) = (z ≡ c) × StartsRun y
-Answers e c (Do k a f) z (Ok x) = ActSays e c z x
-Answers e c (Do k a f) z (Err w) = ActBreaks e c z
-Answers e c (Lose k a f) z (Ok x) = (x ≡ seen.Dropped) × LossLeaves e c z
-Answers e c (Lose k a f) z (Err w) = z ≡ dropped e c
+-- an event that is answered at once makes no call; memory may be wanting there only where a run would start
+abbrev pub AtOnce : Core → Core → Seen → Core → Result Seen AllocError → Type 0
+AtOnce c b y z (Ok x) = (z ≡ b) × (x ≡ y)
+AtOnce c b y z (Err w) = (z ≡ c) × StartsRun y
 
--- the event of a run whose answer is lost
-abbrev pub is_lost : Event → Bool
-is_lost (Lost i) = true
-is_lost e = false
+-- any other makes one query, and one witness says what it came to
+abbrev pub StepBy : Deployment → Event → Core → Plan → Core → TableState → TableState → Result Seen AllocError → Type 0
+StepBy d e c (at_once b y) z old new r = AtOnce c b y z r × (new ≡ old)
+StepBy d e c (asks q) z old new r = (w : Result Told TableErr) × Followed d e c w z r × Came q c.now w old new
 
 -- what a call that carries out an event does
-pub record Stepped (d : Deployment) (e : Event) (c b : Core) (old new : TableState) (result : Result Seen AllocError) : Type 0 where
-  pub rows : Tells old.rows new.rows (λ m n. EventOn d old.room old.faults new.faults e c m b n result)
-  pub answers : Answers e (counted c) (plan d e c) b result
-  pub later : old.faults ≤ new.faults
-  pub failed : result ≡ Ok seen.Dropped → is_lost e ≡ false → Rose old.faults new.faults
-  pub room : new.room ≡ old.room
-  pub calls : AtMostOne old.calls new.calls
+abbrev pub Stepped : Deployment → Event → Core → Core → TableState → TableState → Result Seen AllocError → Type 0
+Stepped d e c z old new r = StepBy d e (counted c) (plan e c) z old new r

@@ -1,5 +1,5 @@
+pub mod Forms
 pub mod Host
 pub mod Intent
 pub mod Run
 pub mod Tables
-pub mod Turn

@@ -1,14 +1,13 @@
-// Acts on the rows of intents: each of these makes one act.
+// The rows of intents: what is asked of one, and what follows from what is told.
 ghost use Rattle.std.specs.Prelude.{◌≡◌, true, IfOk, OnErr};
 ghost use Rattle.beldi_value.specs.Id.{root_of};
-ghost use Rattle.beldi_row.specs.Act.{tell_of};
-ghost use Rattle.beldi_row.specs.declared.act.Act.TheVariants as acts;
-ghost use Rattle.beldi_step.specs.Run.{intent_key, open_body as open_body_of};
-ghost use Rattle.beldi_row.specs.Asked.{Asked};
-ghost use Rattle.beldi_step.specs.Intent.{is_added, is_did, binding_of, is_lent, args_in, open_args};
+ghost use Rattle.beldi_walk.specs.Query.{told_of, lends};
+ghost use Rattle.beldi_walk.specs.Walk.{Answered};
+ghost use Rattle.beldi_step.specs.Intent.{intent_key as key_of, root_key as root_key_of, issue_asks, bind_asks, end_asks, is_added, is_did, binding_of};
 
-use beldi_row::{Act, IntentRow, Kind, Row, RowKey, Said, Table, TableErr};
+use beldi_row::{Act, Kind, RowKey, Said, Table, TableErr};
 use beldi_value::{IntentId, Outcome, Value};
+use beldi_walk::{Heard, Query};
 use std::alloc::{AllocError, Global};
 
 /// What binding a root to a function and arguments came to.
@@ -26,14 +25,66 @@ pub enum Binding {
     Gone,
 }
 
-// The key of the row of an intent, whose function is this one.
-fn key_of(id: IntentId, func: u16) -> RowKey
-    ensures { result ≡ intent_key id func }
+/// The key of the row of an intent, whose function is this one.
+pub fn intent_key(id: IntentId, func: u16) -> RowKey
+    ensures { result ≡ key_of id func }
 {
     RowKey {
         home: id.home(func),
         kind: Kind::Intent(id),
     }
+}
+
+/// The key of the row of a ticket's root.
+pub fn root_key(alloc: Global, ticket: u32) -> RowKey
+    ensures { result ≡ root_key_of ticket }
+{
+    intent_key(IntentId::root(alloc, ticket), 0)
+}
+
+/// Asks for the row of a ticket's root to be added.
+pub fn issue_query(alloc: Global, ticket: u32) -> Query
+    ensures { result ≡ issue_asks ticket }
+{
+    Query::Act(root_key(alloc, ticket), Act::Issue)
+}
+
+/// Whether it was added: a row that is there stays as it is.
+pub fn issue_told(heard: Heard<'_>) -> bool
+    ensures { result ≡ is_added (told_of heard.entry) }
+{
+    matches!(heard, Heard::Said(Said::Added))
+}
+
+/// Asks for the root of a ticket to be bound to a function and arguments, once.
+pub fn bind_query(alloc: Global, ticket: u32, func: u16, args: Value) -> Query
+    ensures { result ≡ bind_asks ticket func args }
+{
+    Query::Act(root_key(alloc, ticket), Act::Bind { func, args })
+}
+
+/// What the bind came to. Memory may be wanting only for what was lent.
+pub fn bind_told(alloc: Global, heard: Heard<'_>) -> Result<Binding, AllocError>
+    ensures ok { IfOk result (λ b. b ≡ binding_of (told_of heard.entry)) }
+    ensures err { OnErr result (lends (told_of heard.entry) ≡ true) }
+{
+    match heard {
+        Heard::Said(Said::Bound) => Ok(Binding::Bound),
+        Heard::Said(Said::Running) => Ok(Binding::Running),
+        Heard::Said(Said::Other(body)) => Ok(Binding::Other {
+            func: body.func,
+            args: body.args.copy(alloc)?,
+        }),
+        Heard::Said(Said::Ended(outcome)) => Ok(Binding::Ended(outcome.copy(alloc)?)),
+        _ => Ok(Binding::Gone),
+    }
+}
+
+/// Whether an end was made by this act.
+pub fn end_told(heard: &Heard<'_>) -> bool
+    ensures { result ≡ is_did (told_of heard.entry.now) }
+{
+    matches!(heard, Heard::Said(Said::Did))
 }
 
 /// Adds the row of the root of a ticket, and says whether it did: a row that is there stays as it is.
@@ -43,17 +94,12 @@ pub fn issue<T: Table>(
     ticket: u32,
     now: u64,
 ) -> Result<bool, TableErr>
-    ensures { Asked is_added acts.Issue now (intent_key (root_of ticket) 0) (T.state table.old) (T.state table.new) result }
+    ensures { Answered (issue_asks ticket) now is_added (T.state table.old) (T.state table.new) result }
 {
-    let key = key_of(IntentId::root(alloc, ticket), 0);
-    let said = table.act(key, Act::Issue, now)?;
-    Ok(says_added(said))
-}
-
-fn says_added(said: Said<'_>) -> bool
-    ensures { result ≡ is_added (tell_of said.entry) }
-{
-    matches!(said, Said::Added)
+    match table.act(root_key(alloc, ticket), Act::Issue, now) {
+        Ok(said) => Ok(issue_told(Heard::Said(said))),
+        Err(why) => Err(why),
+    }
 }
 
 /// Binds the root of a ticket to a function and arguments, once. At want of memory nothing was bound.
@@ -65,83 +111,15 @@ pub fn bind<T: Table>(
     args: Value,
     now: u64,
 ) -> Result<Binding, TableErr>
-    ensures { Asked binding_of (acts.Bind func args) now (intent_key (root_of ticket) 0) (T.state table.old) (T.state table.new) result }
+    ensures { Answered (bind_asks ticket func args) now binding_of (T.state table.old) (T.state table.new) result }
 {
-    let key = key_of(IntentId::root(alloc, ticket), 0);
-    let said = table.act(key, Act::Bind { func, args }, now)?;
-    match says_binding(alloc, said) {
-        Ok(binding) => Ok(binding),
-        Err(_) => Err(TableErr::OutOfMemory),
+    match table.act(root_key(alloc, ticket), Act::Bind { func, args }, now) {
+        Ok(said) => match bind_told(alloc, Heard::Said(said)) {
+            Ok(binding) => Ok(binding),
+            Err(_) => Err(TableErr::OutOfMemory),
+        },
+        Err(why) => Err(why),
     }
-}
-
-// What was lent is copied.
-fn says_binding(alloc: Global, said: Said<'_>) -> Result<Binding, AllocError>
-    ensures ok { IfOk result (λ b. b ≡ binding_of (tell_of said.entry)) }
-    ensures err { OnErr result (is_lent (tell_of said.entry) ≡ true) }
-{
-    match said {
-        Said::Bound => Ok(Binding::Bound),
-        Said::Running => Ok(Binding::Running),
-        Said::Other(body) => Ok(Binding::Other {
-            func: body.func,
-            args: body.args.copy(alloc)?,
-        }),
-        Said::Ended(outcome) => Ok(Binding::Ended(outcome.copy(alloc)?)),
-        _ => Ok(Binding::Gone),
-    }
-}
-
-/// The arguments of an intent that has not ended and is to run this function; none in any other case.
-pub fn open_body<T: Table>(
-    alloc: Global,
-    table: &mut T,
-    id: IntentId,
-    func: u16,
-    now: u64,
-) -> Result<Option<Value>, TableErr>
-    ensures { Asked (open_args func) acts.Look now (intent_key id func) (T.state table.old) (T.state table.new) result }
-{
-    let said = table.act(key_of(id, func), Act::Look, now)?;
-    match says_open(alloc, said, func) {
-        Ok(args) => Ok(args),
-        Err(_) => Err(TableErr::OutOfMemory),
-    }
-}
-
-fn says_open(alloc: Global, said: Said<'_>, func: u16) -> Result<Option<Value>, AllocError>
-    ensures { IfOk result (λ a. a ≡ open_args func (tell_of said.entry)) }
-{
-    match said {
-        Said::Row(Row::Intent(intent)) => args_of(alloc, intent, func),
-        _ => Ok(None),
-    }
-}
-
-fn args_of(alloc: Global, intent: &IntentRow, func: u16) -> Result<Option<Value>, AllocError>
-    ensures { IfOk result (λ a. a ≡ args_in func (open_body_of intent.now)) }
-{
-    if intent.outcome.is_some() || intent.finish.is_some() {
-        return Ok(None);
-    }
-    match &intent.body {
-        None => Ok(None),
-        Some(body) => {
-            if body.func == func {
-                Ok(Some(body.args.copy(alloc)?))
-            } else {
-                Ok(None)
-            }
-        }
-    }
-}
-
-/// Looks at the row of an intent, and says nothing of it.
-pub fn look<T: Table>(table: &mut T, id: IntentId, func: u16, now: u64) -> Result<(), TableErr>
-    ensures { Asked (λ t. tt) acts.Look now (intent_key id func) (T.state table.old) (T.state table.new) result }
-{
-    table.act(key_of(id, func), Act::Look, now)?;
-    Ok(())
 }
 
 /// Ends an intent with an outcome, once, and says whether this act did.
@@ -152,18 +130,14 @@ pub fn end<T: Table>(
     outcome: Outcome,
     now: u64,
 ) -> Result<bool, TableErr>
-    ensures { Asked is_did (acts.End outcome true) now (intent_key id func) (T.state table.old) (T.state table.new) result }
+    ensures { Answered (end_asks id func outcome) now is_did (T.state table.old) (T.state table.new) result }
 {
     let act = Act::End {
         outcome,
         stamp: true,
     };
-    let said = table.act(key_of(id, func), act, now)?;
-    Ok(says_did(said))
-}
-
-fn says_did(said: Said<'_>) -> bool
-    ensures { result ≡ is_did (tell_of said.entry) }
-{
-    matches!(said, Said::Did)
+    match table.act(intent_key(id, func), act, now) {
+        Ok(said) => Ok(end_told(&Heard::Said(said))),
+        Err(why) => Err(why),
+    }
 }

@@ -1,25 +1,27 @@
-//! The step of the host: events, their answers, the runs of instances, and what one event does.
-//! It stands on the language, the rows, the walks and the book. Its definitions: `specs/Run` (the act of a run's next
-//! turn, and where the run goes after what it was told), `specs/Intent` (calls that make one act on the row of an
-//! intent), `specs/Turn` (calls that make a turn), `specs/Host` (the host without its table, and one event as a relation
-//! between the host and the rows before and after; and what is so over every table) and `specs/Tables` (the listing of
-//! the rows).
+//! The step of the host: events, their answers, the runs of instances, and what one event does. Nothing here touches a
+//! table but the calls on the rows of intents. Its definitions: `specs/Intent` (what is asked of the row of an intent, and
+//! what follows), `specs/Run` (what a run asks in its next turn, and where it goes after what it was told), `specs/Host`
+//! (the host without its table, what an event asks, and what follows), `specs/Forms` (what one event does over rows that
+//! are told, and over any table) and `specs/Tables` (the listing of the rows).
 //!
 //! Proved:
-//! - `issue`, `bind`, `open_body` and `end` make one act on the row of an intent, and answer by what it told
-//!   (`Asked`).
-//! - `Run::turn` makes one act, and goes where the definition of a run goes; where memory was wanting after the act,
-//!   the error tells the act's entry; where the table has no room the run stands, whatever the table tells (`Ran`).
-//! - Each of these makes at most one call of the table (`calls` in `Asked` and `Ran`).
-//! - What one event does is defined here.
+//! - `Run::ask` asks what the definition of a run asks, and `Run::told` goes where it goes; where memory was wanting,
+//!   the error tells the mark of the act (`Turns`).
+//! - `issue`, `bind` and `end` make one act on the row of an intent, in at most one call of the table, and answer by
+//!   what it told (`Answered`).
+//! - What one event does is defined here. Over rows that are told it is a relation between the host and the rows before
+//!   and after (`a_step_over_rows`); over any table an event that is answered at once leaves the table as it was and
+//!   makes no call, and every other answer follows from something that a table may tell (`a_step_over_any_table`).
 #![tactic(auto)]
 
 mod event;
 mod intent;
+mod laws;
 mod run;
-mod turn;
 
 pub use event::{Event, Seen};
-pub use intent::{Binding, bind, end, issue, open_body};
-pub use run::{Begun, Run, Stage};
-pub use turn::{TurnErr, TurnSays};
+pub use intent::{
+    Binding, bind, bind_query, bind_told, end, issue, issue_query, issue_told, root_key,
+};
+pub use laws::{a_step_over_any_table, a_step_over_rows};
+pub use run::{Begun, Mark, Run, Says, Stage, TurnSays, Wait};

@@ -4,32 +4,30 @@ use Rattle.std.specs.FinMap as map
 use Rattle.std.specs.FinMap.{nat_cmp-IsAntisymmetric}
 use Rattle.std.specs.Cmp.{nat_cmp_total}
 use Rattle.beldi_row.proofs.Rows.{get_rows, one_set}
+use Rattle.beldi_walk.specs.Query.{told_of}
 use Rattle.beldi_core.specs.Runs.{map_of, ends_run}
 use Rattle.beldi_core.proofs.RunMaps.{led, none_new, absent_run}
 use Rattle.beldi_core.proofs.runs.lead.Goals as goal
 
 pub unreachable-requires : goal.unreachable-requires
-unreachable-requires g c = absent_run (map.get (map_of c.args.live.now) c.args.number) c.requires (get_rows nat_cmp_total nat_cmp-IsAntisymmetric c.args.live.now.entries c.args.number ∙ sym c.get_mut.ensures.value ∙ ap option_copied_mut c.in_default.is)
+unreachable-requires c = absent_run (map.get (map_of c.args.live.now) c.args.number) c.requires (get_rows nat_cmp_total nat_cmp-IsAntisymmetric c.args.live.now.entries c.args.number ∙ sym c.get_mut.ensures.value ∙ ap option_copied_mut c.in_default.is)
 
 pub returns-clause-led : goal.returns-clause-led
-returns-clause-led g c =
-    let t = g.T.Table in
-    let old = c.args.table.now in
-    let new = c.turn-result.new.table in
-    let s = c.turn-result.new.self in
+returns-clause-led c =
+    let s = c.told-result.new.self in
     let h = c.get_mut.follows.holds s in
     let tree = c.get_mut.follows.lender s in
-    led c.args.code.now c.args.changes (map_of c.args.live.now) (map_of tree) (map_of c.settle.new.live) c.args.number c.in-Some.run'.now s c.args.now (t.state old) (t.state new) c.turn-result.result
+    led c.args.code.now c.args.changes (map_of c.args.live.now) (map_of tree) (map_of c.settle.new.live) c.args.number c.in-Some.run'.now s (told_of c.args.heard) c.told-result.result
     (get_rows nat_cmp_total nat_cmp-IsAntisymmetric c.args.live.now.entries c.args.number ∙ sym c.get_mut.ensures.value ∙ ap option_copied_mut c.in-Some.is)
     (one_set nat_cmp_total nat_cmp-IsAntisymmetric c.args.live.now.entries tree.entries c.args.number s (h.3 (search rules)).0)
-    (search rules) c.turn-result.ensures
+    (search rules) c.told-result.ensures
 
 pub returns-clause-none_new : goal.returns-clause-none_new
-returns-clause-none_new g c =
-    let s = c.turn-result.new.self in
+returns-clause-none_new c =
+    let s = c.told-result.new.self in
     let h = c.get_mut.follows.holds s in
     let tree = c.get_mut.follows.lender s in
-    none_new (map_of c.args.live.now) (map_of tree) (map_of c.settle.new.live) c.args.number c.in-Some.run'.now s (ends_run c.turn-result.result)
+    none_new (map_of c.args.live.now) (map_of tree) (map_of c.settle.new.live) c.args.number c.in-Some.run'.now s (ends_run c.told-result.result)
     (get_rows nat_cmp_total nat_cmp-IsAntisymmetric c.args.live.now.entries c.args.number ∙ sym c.get_mut.ensures.value ∙ ap option_copied_mut c.in-Some.is)
     (one_set nat_cmp_total nat_cmp-IsAntisymmetric c.args.live.now.entries tree.entries c.args.number s (h.3 (search rules)).0)
     (search rules)

@@ -1,4 +1,4 @@
-use Rattle.beldi_laws.proofs.Little.{one_row}
+use Rattle.beldi_laws.proofs.OneEvent.{one_row}
 use Rattle.beldi_laws.proofs.laws.an_event_changes_one_row.Goals as goal
 
 pub returns : goal.returns

@@ -1,4 +1,4 @@
-use Rattle.beldi_laws.proofs.Little.{told_entries}
+use Rattle.beldi_laws.proofs.OneEvent.{told_entries}
 use Rattle.beldi_laws.proofs.laws.an_event_writes_what_it_tells.Goals as goal
 
 pub returns : goal.returns

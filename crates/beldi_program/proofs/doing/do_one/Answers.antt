@@ -28,7 +28,7 @@ returns-in-Reply g c =
     let r = c.tell_reply.result in
     let ticket = c.in-Reply.ticket in
     subst (λ (x : Deed). Doing x old.code new.code (core_of old) (core_of new) (t.state old.table) (t.state new.table) c.args.out.now out r) (sym c.in-Reply.is)
-    (reading_done (deeds.Reply ticket) (is_unknown old.newest ticket) (λ m. ReplyIs ticket (reply_seen old.newest ticket m)) ReplyUnread old.code new.code (core_of old) (core_of new) (t.state old.table) (t.state new.table) c.args.out.now out (λ m n y h. h) (λ m n core same. (core, same)) r c.tell_reply.ensures)
+    (reading_done (deeds.Reply ticket) (is_unknown (core_of old).newest ticket) (λ m. ReplyIs ticket (reply_seen (core_of old).newest ticket m)) ReplyUnread old.code new.code (core_of old) (core_of new) (t.state old.table) (t.state new.table) c.args.out.now out (λ m n y h. h) (λ m n core same. (core, same)) r c.tell_reply.ensures)
 
 pub returns-in-Rows : goal.returns-in-Rows
 returns-in-Rows g c =

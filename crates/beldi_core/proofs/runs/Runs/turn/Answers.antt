@@ -1,4 +1,0 @@
-use Rattle.beldi_core.proofs.runs.Runs.turn.Goals as goal
-
-pub invariant_of-self : goal.invariant_of-self
-invariant_of-self g c = λ i p. c.lead.ensures.none_new i (c.self.invariant i p)

@@ -1,0 +1,130 @@
+-- An event is planned, and then followed: what holds between the two.
+use Rattle.std.specs.Prelude.{◌≡◌, ℕ, ◌-◌, ◌^◌, ◌≤◌, ◌<◌, true, ◌++◌, ◌∷◌, [], Option, Some, None, Result, Ok, Err, IsSome}
+use Rattle.std.specs.Option.{option_map}
+use Rattle.std.specs.FinMap as map
+use Rattle.std.specs.declared.alloc.AllocError.{AllocError}
+use Rattle.beldi_value.specs.Id.{root_of}
+use Rattle.beldi_value.specs.declared.id.IntentId.{IntentId}
+use Rattle.beldi_value.specs.declared.value.Value.{Value}
+use Rattle.beldi_value.specs.declared.outcome.Outcome.{Outcome}
+use Rattle.beldi_tree.specs.declared.deployment.Deployment.{Deployment}
+use Rattle.beldi_row.specs.declared.table.TableErr.{TableErr}
+use Rattle.beldi_row.specs.declared.table.TableErr.TheVariants.{OutOfMemory}
+use Rattle.beldi_row.specs.Table.{TableState}
+use Rattle.beldi_book.specs.declared.entry.Entry.TheVariants.{Start}
+use Rattle.beldi_walk.specs.declared.query.Query.{Query}
+use Rattle.beldi_walk.specs.Query.{Told, Came, lends}
+use Rattle.beldi_step.specs.declared.event.Event.{Event}
+use Rattle.beldi_step.specs.declared.event.Event.TheVariants.{Ticket, Request, Turn, Lost}
+use Rattle.beldi_step.specs.declared.event.Seen.{Seen}
+use Rattle.beldi_step.specs.declared.event.Seen.TheVariants as seen
+use Rattle.beldi_step.specs.declared.intent.Binding.{Binding}
+use Rattle.beldi_step.specs.declared.intent.Binding.TheVariants as binding
+use Rattle.beldi_step.specs.declared.run.Mark.{Mark}
+use Rattle.beldi_step.specs.declared.run.Run.{Run}
+use Rattle.beldi_step.specs.declared.run.TurnSays.{TurnSays}
+use Rattle.beldi_step.specs.Intent.{binding_of}
+use Rattle.beldi_step.specs.Run.{run_asks}
+use Rattle.beldi_step.specs.Host.{Core, Plan, at_once, asks, plan, plan_of, counted, new_run, unbound, refused, ended_run, entry_of, StartsRun, Followed}
+use Rattle.beldi_core.specs.declared.host_core.HostCore.{HostCore}
+use Rattle.beldi_core.specs.declared.events.Planned.TheVariants as planned
+use Rattle.beldi_core.specs.declared.events.Planned.{Planned as Plans}
+use Rattle.beldi_core.specs.declared.events.Pending.{Pending}
+use Rattle.beldi_core.specs.declared.events.Pending.TheVariants as pending
+use Rattle.beldi_core.specs.declared.runs.Names.{Names}
+use Rattle.beldi_core.specs.Runs.{Numbered, withdrawn, started, named}
+
+-- the host without its table, as events speak of it
+abbrev pub core_in : HostCore → Core
+core_in h = record { newest = h.newest; runs = h.runs.runs; last_run = h.runs.given; book = h.book.entries; now = h.now; taken = h.taken }
+
+abbrev pub runs_of : Core → Numbered
+runs_of c = record { runs = c.runs; given = c.last_run }
+
+-- without the run that was started last
+abbrev pub without_last : Core → Core
+without_last c = record c { runs = (withdrawn (runs_of c)).runs; last_run = (withdrawn (runs_of c)).given }
+
+-- the core that the definition sees while an event waits for its answer: a request has its run's place already
+abbrev pub base : Event → Core → Core
+base (Request t f a) c = without_last c
+base e c = c
+
+abbrev pub event_of : Pending → Event
+event_of pending.Ticket = Ticket
+event_of (pending.Request t f a) = Request t f a
+event_of (pending.Turn i n) = Turn i
+event_of (pending.Lost i n) = Lost i
+
+abbrev pub Named : Names → Option Run → Type 0
+Named n None = ⊥
+Named n (Some r) = n ≡ named r.id
+
+-- ---- what was made ready for the answer; `spare` is how many places the book has
+pub record RequestReady (c : Core) (t f : ℕ) (spare : ℕ) : Type 0 where
+  pub run : runs_of c ≡ started (withdrawn (runs_of c)) (new_run (root_of t) f)
+  pub given : 1 ≤ c.last_run
+  pub room : 1 ≤ spare
+
+pub record RunReady (c : Core) (i : ℕ) (n : Names) (spare : ℕ) : Type 0 where
+  pub live : IsSome (map.get c.runs i)
+  pub names : Named n (map.get c.runs i)
+  pub room : 1 ≤ spare
+
+abbrev pub Ready : Pending → Core → ℕ → Type 0
+Ready pending.Ticket c spare = c.newest < 2 ^ 32 - 1
+Ready (pending.Request t f a) c spare = RequestReady c t f spare
+Ready (pending.Turn i n) c spare = RunReady c i n spare
+Ready (pending.Lost i n) c spare = RunReady c i n spare
+
+-- ---- planning
+-- memory was wanting before anything was asked; of the events that ask nothing only one that starts a run may want it
+abbrev pub AtWant : Event → Core → Plan → Core → Type 0
+AtWant e c (at_once b y) z = (z ≡ c) × StartsRun y
+AtWant e c (asks q) z = z ≡ (refused e c OutOfMemory).0
+
+pub record Asking (e : Event) (c z : Core) (spare : ℕ) (q : Query) (p : Pending) (k : Plan) : Type 0 where
+  pub is : k ≡ asks q
+  pub event : event_of p ≡ e
+  pub core : base e z ≡ c
+  pub ready : Ready p z spare
+
+abbrev pub PlannedBy : Event → Core → Core → ℕ → Plan → Result Plans AllocError → Type 0
+PlannedBy e c z spare k (Ok (planned.Now y)) = k ≡ at_once z y
+PlannedBy e c z spare k (Ok (planned.Asks q p)) = Asking e c z spare q p k
+PlannedBy e c z spare k (Err w) = AtWant e c k z
+
+-- an event that was counted
+abbrev pub PlannedOf : Event → Core → Core → ℕ → Result Plans AllocError → Type 0
+PlannedOf e c z spare r = PlannedBy e c z spare (plan_of e c) r
+
+abbrev pub Planned : Event → Core → Core → ℕ → Result Plans AllocError → Type 0
+Planned e c z spare r = PlannedBy e (counted c) z spare (plan e c) r
+
+-- what a run of this number asks
+abbrev pub RunPlanned : Core → Core → ℕ → Option Run → ℕ → Result (Option (Query × Names)) AllocError → Type 0
+RunPlanned c z i None spare r = (z ≡ c) × (r ≡ Ok None)
+RunPlanned c z i (Some run) spare (Ok x) = (z ≡ c) × (x ≡ Some (run_asks run, named run.id)) × (1 ≤ spare)
+RunPlanned c z i (Some run) spare (Err w) = z ≡ ended_run c i
+
+-- ---- following
+-- a request whose run was started, by what its bind came to
+abbrev pub BoundTo : Core → ℕ → ℕ → Value → Binding → Core → Seen → Type 0
+BoundTo k t f a binding.Bound z x = (z ≡ record k { book = k.book ++ Start t f a ∷ [] }) × (x ≡ seen.Bound t k.last_run)
+BoundTo k t f a b z x = (z ≡ without_last k) × (x ≡ unbound t b)
+
+abbrev pub BoundBy : Core → ℕ → ℕ → Value → Told → Core → Result Seen AllocError → Type 0
+BoundBy k t f a u z (Ok x) = BoundTo k t f a (binding_of u) z x
+BoundBy k t f a u z (Err w) = (z ≡ without_last k) × (lends u ≡ true)
+
+-- the answer to a turn
+abbrev pub acted_by : IntentId → TurnSays → Seen
+acted_by id x = seen.Acted (option_map (entry_of id) x.mark) x.over (option_map (λ (o : Outcome). (id.ticket, o)) x.reply)
+
+abbrev pub mark_told : Result TurnSays (Option Mark) → Option Mark
+mark_told (Ok x) = x.mark
+mark_told (Err m) = m
+
+-- the one query of an event that was planned, and what follows
+abbrev pub Asked : Deployment → Pending → Core → Core → Query → TableState → TableState → Result Seen AllocError → Type 0
+Asked d p k z q old new r = (w : Result Told TableErr) × Followed d (event_of p) (base (event_of p) k) w z r × Came q k.now w old new

@@ -1,0 +1,19 @@
+// The host without its deployment and its table.
+ghost use Rattle.std.specs.Prelude.{◌≤◌};
+
+use crate::runs::Runs;
+use beldi_book::Book;
+use std::alloc::Global;
+
+/// What a host knows beside its deployment and its table: the newest ticket, the live runs, the book of what was done, the
+/// moment in ticks, and how many events it took; each event gives at most one number to a run.
+#[derive(Drop)]
+pub struct HostCore {
+    pub alloc: Global,
+    pub newest: u32,
+    pub runs: Runs,
+    pub book: Book,
+    pub now: u64,
+    pub taken: u64,
+    ghost few: { runs.given ≤ taken },
+}
