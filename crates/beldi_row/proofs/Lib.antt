@@ -1,4 +1,3 @@
-pub mod Asked
 mod Found
 pub mod Gets
 mod Least

@@ -1,5 +1,4 @@
 pub mod Act
-pub mod Asked
 pub mod Key
 pub mod KeyOrder
 pub mod Log

@@ -1,9 +1,8 @@
 //! The rows of a table, their keys, the acts on one row, and the trait of a table. It stands on `beldi_value` alone.
 //! Its definitions: `specs/Key` and `specs/KeyOrder` (the order of keys), `specs/Log` (the notes of a cell by place),
 //! `specs/Act` (the act table: what each act does to a row, and what it says), `specs/Table` (rows as a map, and the
-//! words of the trait's contract: what an act leaves, when it is refused, which row is the next), `specs/Asked` (a call
-//! that makes one act). `proofs/Rows`, `proofs/Gets`, `proofs/Logs`, `proofs/Tells`, `proofs/Unchanged` and `proofs/Asked`
-//! have lemmas that the crates above cite.
+//! words of the trait's contract: what an act leaves, when it is refused, which row is the next). `proofs/Rows`,
+//! `proofs/Gets`, `proofs/Logs`, `proofs/Tells` and `proofs/Unchanged` have lemmas that the crates above cite.
 //!
 //! Proved:
 //! - `apply`, `made` and `missing` are the act table, and `tell` gives the answer that a change stands for (`Changes`,
@@ -11,9 +10,8 @@
 //! - `Log::find` finds the note of a place (`is`, `note`).
 //! - Keys compare by a total order.
 //! - The row after a key is the least of a greater key (`next_row_is_least`).
-//! - The trait `Table` says what a table owes.
-//! - Contracts see one state of it (`TableState`): its rows, where it tells them, its failures, its room, and its
-//!   calls, where it counts them.
+//! - The trait `Table` says what a table owes. Contracts see one state of it (`TableState`): its rows, where it tells
+//!   them, its failures, its room, and its calls, where it counts them.
 //! - `len` tells the number of rows, 4,294,967,295 where there are more (`IsCount`), `ready` sets the room
 //!   (`Readied`), `act` carries out an act (`acts`), `next` finds the row after (`went`); `act` and `next` count one
 //!   call, `ready` none.
