@@ -1,1 +1,8 @@
+pub mod Again
+pub mod Books
+pub mod Cuts
+pub mod LineFeeds
 pub mod Orders
+pub mod Others
+pub mod Places
+pub mod Starts

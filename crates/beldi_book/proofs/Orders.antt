@@ -1,8 +1,6 @@
 -- The changes of a book, and the places of its reads.
-use Rattle.std.proofs.Common.{◌≡◌, ℕ, zero, suc, ◌+◌, ◌≤◌, Bool, true, false, List, [], ◌∷◌, ◌++◌, length, take, drop, Option, Some, None, is_none, refl, ap, sym, ◌∙◌, arith, length-append}
+use Rattle.std.proofs.Common.{◌≡◌, ℕ, zero, suc, ◌+◌, ◌≤◌, Bool, true, false, List, [], ◌∷◌, ◌++◌, length, Option, Some, None, is_none, refl, ap, sym, ◌∙◌, arith, length-append}
 use mir.Val.{bool_byte}
-use Rattle.std.specs.List.{insert}
-use Rattle.std.proofs.Math.Seq.{take-append_seam, drop-append_seam}
 use Rattle.beldi_book.specs.declared.entry.Entry.{Entry}
 use Rattle.beldi_book.specs.Order.{seen_of, if_change, changes_of, count_changes, until_change, by_change, front, back, put_by, put_read, put_reads, linear}
 
@@ -45,12 +43,6 @@ front_back s [] = refl
 front_back zero (e ∷ es) = here (seen_of e) e es (front zero es) (back zero es) (front_back zero es)
 front_back (suc s) (e ∷ es) = later (seen_of e) e es (front s es) (back s es) (front (suc s) es) (back (suc s) es) (front_back s es) (front_back (suc s) es)
 
-pub front_taken : (s : ℕ) (es : List Entry) → take (length (front s es)) es ≡ front s es
-front_taken s es = ap (take (length (front s es))) (sym (front_back s es)) ∙ take-append_seam (front s es) (back s es)
-
-pub back_left : (s : ℕ) (es : List Entry) → drop (length (front s es)) es ≡ back s es
-back_left s es = ap (drop (length (front s es))) (sym (front_back s es)) ∙ drop-append_seam (front s es) (back s es)
-
 put_keeps_by : (o : Option ℕ) (e : Entry) (es : List Entry) → seen_of e ≡ o → changes_of (put_by o e es) ≡ changes_of es
 put_keeps_by None e es h = refl
 put_keeps_by (Some s) e es h =
@@ -77,18 +69,6 @@ changes_twice (e ∷ es) = twice_by (seen_of e) e (changes_of es) refl (changes_
 -- the linear order has the changes of the book
 pub linear_changes : (es : List Entry) → changes_of (linear es) ≡ changes_of es
 linear_changes es = puts_keep (changes_of es) es ∙ changes_twice es
-
-length_front : (s : ℕ) (es : List Entry) → length (front s es) ≤ length es
-length_front s es = let h = ap length (sym (front_back s es)) ∙ length-append (front s es) (back s es) in omega arith
-
-pub within : (s : ℕ) (es : List Entry) (n : ℕ) → n ≡ length (front s es) → n ≤ length es
-within s es n h = let w = length_front s es in omega arith
-
--- an entry inserted where the front ends is put there
-pub inserted : (e x : Entry) (s : ℕ) (es : List Entry) (n : ℕ) → seen_of e ≡ Some s → x ≡ e → n ≡ length (front s es) → insert es n x ≡ put_read e es
-inserted e x s es n seen same at =
-    ap (λ k. insert es k x) at ∙ ap (λ xs. xs ++ x ∷ drop (length (front s es)) es) (front_taken s es) ∙ ap (λ xs. front s es ++ x ∷ xs) (back_left s es)
-    ∙ ap (λ y. front s es ++ y ∷ back s es) same ∙ ap (λ o. put_by o e es) (sym seen)
 
 pub at_most_one : (b : Bool) (k : ℕ) → k ≡ bool_byte b → k ≤ 1
 at_most_one true k h = omega arith

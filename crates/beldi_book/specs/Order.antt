@@ -1,13 +1,15 @@
 -- The order in which the entries of a book took effect. A read may be kept late: it belongs where it was made.
 use Rattle.std.specs.Prelude.{ℕ, zero, suc, ◌≤◌, List, [], ◌∷◌, ◌++◌, length, Option, Some, None}
 use Rattle.beldi_book.specs.declared.entry.Entry.{Entry}
-use Rattle.beldi_book.specs.declared.entry.Entry.TheVariants.{Start, Read, Step}
+use Rattle.beldi_book.specs.declared.entry.Entry.TheVariants.{Start, Read, Step, Tx, Try}
 
 -- how many changes had been made where a read belongs; none of an entry that is a change
 abbrev pub seen_of : Entry → Option ℕ
 seen_of (Start t f a) = None
 seen_of (Read id seen) = Some seen
 seen_of (Step id) = None
+seen_of (Tx id) = None
+seen_of (Try id p h) = None
 
 abbrev pub if_change : Option ℕ → Entry → List Entry → List Entry
 if_change None e es = e ∷ es

@@ -5,19 +5,27 @@ use Rattle.beldi_value.specs.Json.{text_of}
 use Rattle.beldi_value.specs.Datum.{text}
 use Rattle.beldi_value.specs.Value.{datum_of}
 use Rattle.beldi_value.specs.declared.value.Value.{Value}
-use Rattle.beldi_value.specs.Text.{id_text}
+use Rattle.beldi_value.specs.Text.{id_text, place_text}
+use Rattle.beldi_value.specs.declared.id.IntentId.{IntentId}
 use Rattle.beldi_tree.specs.declared.deployment.Deployment.{Deployment}
 use Rattle.beldi_tree.specs.declared.deployment.Func.{Func}
 use Rattle.beldi_tree.specs.declared.deployment.TableHead.{TableHead}
 use Rattle.beldi_tree.specs.Names.{func_text}
 use Rattle.beldi_tree.specs.Names.{func_at}
 use Rattle.beldi_book.specs.declared.entry.Entry.{Entry}
-use Rattle.beldi_book.specs.declared.entry.Entry.TheVariants.{Start, Read, Step}
+use Rattle.beldi_book.specs.declared.entry.Entry.TheVariants.{Start, Read, Step, Tx, Try}
+
+-- a holder's id, or `-`
+abbrev pub holder_text : Option IntentId → List ℕ
+holder_text None = codes "-"
+holder_text (Some id) = id_text id
 
 abbrev pub entry_text : Deployment → Entry → List ℕ
 entry_text d (Start t f a) = codes "start " ++ (decimal t ++ (codes " " ++ (func_text d f ++ (codes " " ++ text_of (datum_of a)))))
 entry_text d (Read id seen) = codes "read " ++ (id_text id ++ (codes " " ++ decimal seen))
 entry_text d (Step id) = codes "step " ++ id_text id
+entry_text d (Tx id) = codes "tx " ++ id_text id
+entry_text d (Try id p h) = codes "try " ++ (id_text id ++ (codes " " ++ (place_text p ++ (codes " " ++ holder_text h))))
 
 -- a line for each entry
 abbrev pub book_text : Deployment → List Entry → List ℕ

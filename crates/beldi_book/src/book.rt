@@ -1,13 +1,41 @@
 // The book.
-ghost use Rattle.std.specs.Prelude.{◌≡◌, ◌+◌, ◌-◌, ◌≤◌, ◌<◌, ◌++◌, ◌∷◌, [], ℕ, length, slice_get, option_copied, OnOk, OnErr, IfOk, string_bytes};
+ghost use Rattle.std.specs.Prelude.{◌≡◌, ◌+◌, ◌-◌, ◌≤◌, ◌<◌, ◌++◌, ◌∷◌, [], ℕ, suc, ◌^◌, min, length, slice_get, option_copied, OnOk, OnErr, IfOk, string_bytes};
 ghost use Rattle.beldi_book.specs.Text.{book_text};
-ghost use Rattle.beldi_book.specs.Order.{count_changes, changes_of, linear, front};
+ghost use Rattle.beldi_book.specs.Order.{count_changes, linear};
+ghost use Rattle.beldi_book.specs.Line.{ReadsBook};
+ghost use Rattle.beldi_book.specs.declared.book.BookErr.TheVariants.{BadEntry};
 
 use crate::entry::Entry;
+use crate::order::in_order;
+use crate::reading::read_entry;
 use beldi_tree::Deployment;
-use beldi_value::Str;
+use beldi_value::{Str, cut_at};
 use std::alloc::{AllocError, Global};
 use std::marker::Model;
+use thiserror::Error;
+
+/// Why a text is read as no book.
+#[derive(Clone, Copy, Debug, PartialEq, Eq, Error)]
+pub enum BookErr {
+    /// No more memory.
+    #[error("out of memory")]
+    OutOfMemory,
+    /// The line of this number, from 1, is the first that is the text of no entry within the limits, or that lacks its
+    /// line feed, which `write` puts at the end of the last line too. Past 32 bits the number stays.
+    #[error("line {line} of the book is no entry")]
+    BadEntry { line: u32 },
+}
+
+impl From<AllocError> for BookErr {
+    ghost use Rattle.std.specs.Prelude.{◌≡◌};
+    ghost use Rattle.beldi_book.specs.declared.book.BookErr.TheVariants.{OutOfMemory};
+
+    ghost from_gives = { λ _ e. e ≡ OutOfMemory };
+
+    fn from(_: AllocError) -> BookErr {
+        BookErr::OutOfMemory
+    }
+}
 
 /// A list of entries. Contracts see them, and how many more it has room for.
 #[derive(Drop)]
@@ -83,21 +111,17 @@ impl Book {
     }
 
     /// The entries in the order in which they took effect: each read stands where it was made. It takes time by the
-    /// number of entries for each read.
+    /// number of entries.
     pub fn linear(&self, alloc: Global) -> Result<Book, AllocError>
         ensures { IfOk result (λ b. b.entries ≡ linear self.now.entries) }
     {
-        let mut entries = changes_of(alloc, self.entries.as_slice())?;
-        for entry in &self.entries {
-            put_read(alloc, &mut entries, entry)?;
-        }
         Ok(Book {
-            entries,
+            entries: in_order(alloc, self.entries.as_slice())?,
             changes: self.changes,
         })
     }
 
-    /// Appends a line for each entry.
+    /// Appends a line for each entry, each with its line feed. Of entries within their limits `read` reads it again.
     pub fn write(&self, alloc: Global, code: &Deployment, out: &mut Str) -> Result<(), AllocError>
         ensures ok { OnOk result (out.new ≡ out.old ++ book_text code.now self.now.entries) }
         ensures err { OnErr result (out.new ≡ out.old) }
@@ -109,46 +133,51 @@ impl Book {
         }
         out.push_text(text.as_str())
     }
-}
 
-// Copies of the changes among the entries.
-fn changes_of(alloc: Global, entries: &[Entry]) -> Result<Vec<Entry>, AllocError>
-    ensures { IfOk result (λ v. v.items ≡ changes_of entries.now) }
-{
-    let mut changes = Vec::new(alloc);
-    for entry in entries {
-        if entry.is_change() {
-            changes.push(entry.copy(alloc)?)?;
-        }
-    }
-    Ok(changes)
-}
-
-// Where the entries end that stand before the change after the first `seen` changes.
-fn end_of_front(entries: &[Entry], seen: u64) -> usize
-    ensures { result ≡ length (front seen entries.now) }
-{
-    let mut left = seen;
-    for index in 0..entries.len() {
-        if entries[index].is_change() {
-            if left == 0 {
-                return index;
+    /// The book whose text this is: a line for each entry, as `write` gives it, of entries whose ids, numbers and values
+    /// are within their limits. Nothing else is read.
+    pub fn read(alloc: Global, text: &[u8], code: &Deployment) -> Result<Book, BookErr>
+        ensures { ReadsBook code.now text.now result }
+    {
+        let mut book = Book::new(alloc);
+        let mut rest = text;
+        while !rest.is_empty() {
+            let (line, more) = cut_at(rest, b'\n');
+            let Some(more) = more else {
+                return Err(book.bad_line())
+            };
+            match read_entry(alloc, code, line) {
+                Ok(Some(entry)) => match book.append(entry) {
+                    Ok(()) => (),
+                    Err(_) => return Err(BookErr::OutOfMemory),
+                },
+                Ok(None) => return Err(book.bad_line()),
+                Err(_) => return Err(BookErr::OutOfMemory),
             }
-            left -= 1;
+            rest = more;
+        }
+        Ok(book)
+    }
+
+    fn append(&mut self, entry: Entry) -> Result<(), AllocError>
+        ensures { OnOk result (self.new.entries ≡ self.old.entries ++ entry ∷ []) }
+    {
+        self.reserve()?;
+        self.push(entry);
+        Ok(())
+    }
+
+    // The line after those of the entries is refused.
+    fn bad_line(&self) -> BookErr
+        ensures { result ≡ BadEntry (min (suc (length self.now.entries)) (2 ^ 32 - 1)) }
+    {
+        let count = self.len();
+        BookErr::BadEntry {
+            line: if count < 0xffff_ffff {
+                count as u32 + 1
+            } else {
+                0xffff_ffff
+            },
         }
     }
-    entries.len()
 }
-
-// Puts a copy of the entry in its place, if it is a read.
-fn put_read(alloc: Global, entries: &mut Vec<Entry>, entry: &Entry) -> Result<(), AllocError>
-    ensures { OnOk result (entries.new.items ≡ put_read entry.now entries.old.items) }
-{
-    if let Entry::Read { seen, .. } = entry {
-        let at = end_of_front(entries.as_slice(), *seen);
-        entries.insert(at, entry.copy(alloc)?)?;
-    }
-    Ok(())
-}
-
-ghost use Rattle.beldi_book.specs.Order.{put_read};

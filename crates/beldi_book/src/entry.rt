@@ -1,22 +1,41 @@
 // The entries of a book, and their text.
 ghost use Rattle.std.specs.Prelude.{◌≡◌, ◌++◌, OnOk, OnErr, IfOk, is_none, string_bytes, codes};
 ghost use Rattle.std.specs.Fmt.{decimal};
-ghost use Rattle.beldi_book.specs.Text.{entry_text};
+ghost use Rattle.beldi_book.specs.Text.{entry_text, holder_text};
 ghost use Rattle.beldi_book.specs.Order.{seen_of};
 
 use beldi_tree::Deployment;
-use beldi_value::{IntentId, Str, Value};
+use beldi_value::{IntentId, Place, Str, Value};
 use std::alloc::{AllocError, Global};
 
 /// What a step of the run was.
 #[derive(Drop)]
 pub enum Entry {
     /// A root was started.
-    Start { ticket: u32, func: u16, args: Value },
+    Start {
+        ticket: u32,
+        func: u16,
+        args: Value,
+    },
     /// An instance made its next step, which was a read. `seen` changes had been made when it read.
-    Read { id: IntentId, seen: u64 },
+    Read {
+        id: IntentId,
+        seen: u64,
+    },
     /// An instance made its next step, which was no read.
-    Step { id: IntentId },
+    Step {
+        id: IntentId,
+    },
+    /// A transaction of an instance committed: all of its steps, in one piece.
+    Tx {
+        id: IntentId,
+    },
+    /// A transaction of an instance was aborted at this place: by its body, or where it met an item of the holder.
+    Try {
+        id: IntentId,
+        place: Place,
+        holder: Option<IntentId>,
+    },
 }
 
 impl Entry {
@@ -36,6 +55,14 @@ impl Entry {
             }),
             Entry::Step { id } => Ok(Entry::Step {
                 id: id.copy(alloc)?,
+            }),
+            Entry::Tx { id } => Ok(Entry::Tx {
+                id: id.copy(alloc)?,
+            }),
+            Entry::Try { id, place, holder } => Ok(Entry::Try {
+                id: id.copy(alloc)?,
+                place: place.copy(alloc)?,
+                holder: copy_holder(alloc, holder)?,
             }),
         }
     }
@@ -72,8 +99,39 @@ impl Entry {
                 text.push_text("step ")?;
                 id.write(alloc, &mut text)?;
             }
+            Entry::Tx { id } => {
+                text.push_text("tx ")?;
+                id.write(alloc, &mut text)?;
+            }
+            Entry::Try { id, place, holder } => {
+                text.push_text("try ")?;
+                id.write(alloc, &mut text)?;
+                text.push_text(" ")?;
+                place.write(alloc, &mut text)?;
+                text.push_text(" ")?;
+                write_holder(alloc, holder, &mut text)?;
+            }
         }
         out.push_text(text.as_str())
+    }
+}
+
+fn copy_holder(alloc: Global, holder: &Option<IntentId>) -> Result<Option<IntentId>, AllocError>
+    ensures { IfOk result (λ h. h ≡ holder.now) }
+{
+    match holder {
+        Some(id) => Ok(Some(id.copy(alloc)?)),
+        None => Ok(None),
+    }
+}
+
+// Appends the holder's id, or `-`.
+fn write_holder(alloc: Global, holder: &Option<IntentId>, out: &mut Str) -> Result<(), AllocError>
+    ensures { OnOk result (out.new ≡ out.old ++ holder_text holder.now) }
+{
+    match holder {
+        Some(id) => id.write(alloc, out),
+        None => out.push_text("-"),
     }
 }
 

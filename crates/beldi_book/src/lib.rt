@@ -1,6 +1,9 @@
-//! The book: the entries of a session's run, in the order in which they were made, and their text.
-//! It stands on `beldi_tree`. Its definitions: `specs/Book` (what contracts see of a book), `specs/Order` (the order in
-//! which its entries took effect) and `specs/Text` (the lines). What that order keeps is said in `beldi_order`.
+//! The book: the entries of a session's run, in the order in which they were made, and their text, written and read. It
+//! stands on `beldi_value` and `beldi_tree`, and on `thiserror`; on `json` and `serde_json` only for lemmas on the text of
+//! values. Its definitions: `specs/Book` (what contracts see of a book), `specs/Order` (the order in which its entries took
+//! effect; what that order keeps is said in `beldi_order`), `specs/Places` (the same order, place by place), `specs/Text`
+//! (the lines), `specs/Line` (which line is the text of which entry, and which text that of which book), `specs/Words` (the
+//! parts that a line is read by), `specs/Laws` (what holds of a book's text).
 //!
 //! Proved:
 //! - `Book::push` adds the entry at the end (`entries`), within the room that `Book::reserve` made (`room`, `spare`).
@@ -8,12 +11,20 @@
 //!   and `changes` counts those that are no reads.
 //! - The texts of entries, of the book and of the lines of listings are those of the definitions (`ok`, `err` of
 //!   `Entry::write`, `Book::write`, `write_item`).
+//! - `Book::read` reads just the texts of books whose ids, numbers and values are within their limits, and else names the
+//!   first line that is the text of no entry (`ReadsBook`). Where the names of the functions are words and differ, a book
+//!   that was written is read as it was (`book_is_read_again`); a text that is no book's is refused (`nothing_else_is_read`);
+//!   the bad line is one, and a text that has one is no book's (`bad_line_is_first`).
 #![tactic(auto)]
 
 mod book;
 mod entry;
 mod item;
+mod laws;
+mod order;
+mod reading;
 
-pub use book::Book;
+pub use book::{Book, BookErr};
 pub use entry::Entry;
 pub use item::write_item;
+pub use laws::{bad_line_is_first, book_is_read_again, nothing_else_is_read};

@@ -5,7 +5,7 @@ use Rattle.std.specs.FinMap as map
 use Rattle.beldi_value.specs.declared.outcome.Outcome.{Outcome}
 use Rattle.beldi_tree.specs.declared.deployment.Deployment.{Deployment}
 use Rattle.beldi_book.specs.declared.entry.Entry.{Entry}
-use Rattle.beldi_book.specs.declared.entry.Entry.TheVariants.{Start, Read, Step}
+use Rattle.beldi_book.specs.declared.entry.Entry.TheVariants.{Start, Read, Step, Tx, Try}
 use Rattle.beldi_row.specs.Table.{Rows}
 use Rattle.beldi_step.specs.declared.event.Event.{Event}
 use Rattle.beldi_step.specs.declared.event.Seen.{Seen}
@@ -24,6 +24,8 @@ starts_push [] fs = refl
 starts_push (Start t f a ∷ es) fs = ap (λ r. (t, (f, a)) ∷ r) (starts_push es fs)
 starts_push (Read id seen ∷ es) fs = starts_push es fs
 starts_push (Step id ∷ es) fs = starts_push es fs
+starts_push (Tx id ∷ es) fs = starts_push es fs
+starts_push (Try id p h ∷ es) fs = starts_push es fs
 
 more_starts : (es : List Entry) (entry : Option Entry) (bs : List Entry) → bs ≡ es ++ option_to_list entry → starts_of bs ≡ starts_of es ++ starts_of (option_to_list entry)
 more_starts es entry bs is = ap starts_of is ∙ starts_push es (option_to_list entry)

@@ -5,7 +5,7 @@ use Rattle.beldi_value.specs.declared.value.Value.{Value}
 use Rattle.beldi_value.specs.declared.outcome.Outcome.{Outcome}
 use Rattle.beldi_tree.specs.declared.deployment.Deployment.{Deployment}
 use Rattle.beldi_book.specs.declared.entry.Entry.{Entry}
-use Rattle.beldi_book.specs.declared.entry.Entry.TheVariants.{Start, Read, Step}
+use Rattle.beldi_book.specs.declared.entry.Entry.TheVariants.{Start, Read, Step, Tx, Try}
 use Rattle.beldi_row.specs.declared.key.RowKey.{RowKey}
 use Rattle.beldi_row.specs.declared.act.Act.{Act}
 use Rattle.beldi_row.specs.Table.{Rows, after_act}
@@ -91,6 +91,8 @@ starts_of [] = []
 starts_of (Start t f a ∷ es) = (t, (f, a)) ∷ starts_of es
 starts_of (Read id seen ∷ es) = starts_of es
 starts_of (Step id ∷ es) = starts_of es
+starts_of (Tx id ∷ es) = starts_of es
+starts_of (Try id p h ∷ es) = starts_of es
 
 -- what an event asks to be bound
 abbrev pub requested : Event → List (ℕ × (ℕ × Value))

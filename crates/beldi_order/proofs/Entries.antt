@@ -16,7 +16,7 @@ use Rattle.beldi_lang.specs.declared.effect.Answer.TheVariants as answer
 use Rattle.beldi_lang.specs.declared.effect.Effect.{Effect}
 use Rattle.beldi_lang.specs.declared.effect.Effect.TheVariants as effect
 use Rattle.beldi_book.specs.declared.entry.Entry.{Entry}
-use Rattle.beldi_book.specs.declared.entry.Entry.TheVariants.{Start, Read, Step}
+use Rattle.beldi_book.specs.declared.entry.Entry.TheVariants.{Start, Read, Step, Tx, Try}
 use Rattle.beldi_plain.specs.Plain.{Instance, PlainState, after, start, can_step, if_open, if_read, if_change, step_by, with_instance, answered, effect_of, kind_of, item_of, value_at}
 use Rattle.beldi_plain.specs.Legal.{run_from}
 use Rattle.beldi_plain.specs.declared.kind.Kind.{Kind}
@@ -89,6 +89,8 @@ abbrev pub Did : Deployment → PlainState → Entry → PlainState → Type 0
 Did d p (Start t f a) q = Started p t f a q
 Did d p (Read id s) q = Stepped d p id kinds.Read q
 Did d p (Step id) q = Stepped d p id kinds.Change q
+Did d p (Tx id) q = ⊥
+Did d p (Try id place holder) q = ⊥
 
 started : (p : PlainState) (t f : ℕ) (a : Value) (q : PlainState) (o : Option Instance) → map.get p.made (root_of t) ≡ o → start p t f a o ≡ Some q → Started p t f a q
 started p zero f a q o is h = cc
@@ -119,6 +121,8 @@ pub did : (d : Deployment) (p : PlainState) (e : Entry) (q : PlainState) → aft
 did d p (Start t f a) q h = started p t f a q (map.get p.made (root_of t)) refl h
 did d p (Read id s) q h = stepped d p id kinds.Read q (λ k x. if_read k x) if_read_is (map.get p.made id) refl h
 did d p (Step id) q h = stepped d p id kinds.Change q (λ k x. if_change k x) if_change_is (map.get p.made id) refl h
+did d p (Tx id) q h = cc
+did d p (Try id place holder) q h = cc
 
 -- ---- and what is so is enabled
 pub enabled_read : (d : Deployment) (p : PlainState) (id : IntentId) (s : ℕ) (i : Instance) → map.get p.made id ≡ Some i → i.outcome ≡ None → kind_of (effect_of d i) ≡ kinds.Read → after d p (Read id s) ≡ Some (step_by p id i (effect_of d i))
@@ -196,6 +200,8 @@ did_grows : (d : Deployment) (p : PlainState) (e : Entry) (q : PlainState) → D
 did_grows d p (Start t f a) q s = started_grows p t f a q s
 did_grows d p (Read id k) q s = stepped_grows d p id kinds.Read q s
 did_grows d p (Step id) q s = stepped_grows d p id kinds.Change q s
+did_grows d p (Tx id) q s = absurd s
+did_grows d p (Try id place holder) q s = absurd s
 
 pub after_grows : (d : Deployment) (p : PlainState) (e : Entry) (q : PlainState) → after d p e ≡ Some q → Grows p.made q.made
 after_grows d p e q h = did_grows d p e q (did d p e q h)

@@ -4,7 +4,7 @@ use Rattle.std.specs.Prelude.{min, filter}
 use Rattle.std.proofs.lemmas.Bool.Decides.{nat_tests}
 use Rattle.beldi_value.specs.declared.id.IntentId.{IntentId}
 use Rattle.beldi_book.specs.declared.entry.Entry.{Entry}
-use Rattle.beldi_book.specs.declared.entry.Entry.TheVariants.{Start, Read, Step}
+use Rattle.beldi_book.specs.declared.entry.Entry.TheVariants.{Start, Read, Step, Tx, Try}
 use Rattle.beldi_book.specs.Order.{seen_of, changes_of, count_changes, front, back, put_read, put_reads}
 use Rattle.beldi_book.proofs.Orders.{put_keeps, changes_twice, linear_changes}
 use Rattle.beldi_order.specs.Laws.{reads_after, belongs, LinearIsInOrder}
@@ -44,15 +44,23 @@ module _ (id : IntentId) (seen : ℕ) where
   put_at s n [] = before_all s n
   put_at zero zero (Start t f a ∷ es) = ap here (first_zero (suc (count_changes es)))
   put_at zero zero (Step i ∷ es) = ap here (first_zero (suc (count_changes es)))
+  put_at zero zero (Tx i ∷ es) = ap here (first_zero (suc (count_changes es)))
+  put_at zero zero (Try i p h ∷ es) = ap here (first_zero (suc (count_changes es)))
   put_at zero zero (Read i s ∷ es) = ap (λ xs. Read i s ∷ xs) (put_at zero zero es)
   put_at zero (suc n) (Start t f a ∷ es) = not_here n es (min 0 (suc (count_changes es)) == suc n) (first_more (suc (count_changes es)) n)
   put_at zero (suc n) (Step i ∷ es) = not_here n es (min 0 (suc (count_changes es)) == suc n) (first_more (suc (count_changes es)) n)
+  put_at zero (suc n) (Tx i ∷ es) = not_here n es (min 0 (suc (count_changes es)) == suc n) (first_more (suc (count_changes es)) n)
+  put_at zero (suc n) (Try i p h ∷ es) = not_here n es (min 0 (suc (count_changes es)) == suc n) (first_more (suc (count_changes es)) n)
   put_at zero (suc n) (Read i s ∷ es) = put_at zero (suc n) es
   put_at (suc k) zero (Start t f a ∷ es) = ap here (both_zero k (count_changes es))
   put_at (suc k) zero (Step i ∷ es) = ap here (both_zero k (count_changes es))
+  put_at (suc k) zero (Tx i ∷ es) = ap here (both_zero k (count_changes es))
+  put_at (suc k) zero (Try i p h ∷ es) = ap here (both_zero k (count_changes es))
   put_at (suc k) zero (Read i s ∷ es) = ap (λ xs. Read i s ∷ xs) (put_at (suc k) zero es)
   put_at (suc k) (suc n) (Start t f a ∷ es) = put_at k n es ∙ ap (λ b. reads_after n es ++ here b) (both_more k (count_changes es) n)
   put_at (suc k) (suc n) (Step i ∷ es) = put_at k n es ∙ ap (λ b. reads_after n es ++ here b) (both_more k (count_changes es) n)
+  put_at (suc k) (suc n) (Tx i ∷ es) = put_at k n es ∙ ap (λ b. reads_after n es ++ here b) (both_more k (count_changes es) n)
+  put_at (suc k) (suc n) (Try i p h ∷ es) = put_at k n es ∙ ap (λ b. reads_after n es ++ here b) (both_more k (count_changes es) n)
   put_at (suc k) (suc n) (Read i s ∷ es) = put_at (suc k) (suc n) es
 
   joined : (b : Bool) (xs : List Entry) → here b ++ xs ≡ cond b (Read id seen ∷ xs) xs
@@ -67,6 +75,8 @@ puts_at : (n : ℕ) (es rs : List Entry) → reads_after n (put_reads es rs) ≡
 puts_at n es [] = sym (append-nil (reads_after n es))
 puts_at n es (Start t f a ∷ rs) = puts_at n es rs
 puts_at n es (Step id ∷ rs) = puts_at n es rs
+puts_at n es (Tx id ∷ rs) = puts_at n es rs
+puts_at n es (Try id p h ∷ rs) = puts_at n es rs
 puts_at n es (Read id s ∷ rs) =
     let more = put_read (Read id s) es in
     let rest = belonging n (count_changes es) rs in
@@ -77,8 +87,12 @@ no_reads : (n : ℕ) (es : List Entry) → reads_after n (changes_of es) ≡ []
 no_reads n [] = refl
 no_reads zero (Start t f a ∷ es) = refl
 no_reads zero (Step id ∷ es) = refl
+no_reads zero (Tx id ∷ es) = refl
+no_reads zero (Try id p h ∷ es) = refl
 no_reads (suc n) (Start t f a ∷ es) = no_reads n es
 no_reads (suc n) (Step id ∷ es) = no_reads n es
+no_reads (suc n) (Tx id ∷ es) = no_reads n es
+no_reads (suc n) (Try id p h ∷ es) = no_reads n es
 no_reads n (Read id s ∷ es) = no_reads n es
 
 pub in_order : LinearIsInOrder

@@ -16,7 +16,7 @@ use Rattle.beldi_lang.specs.declared.effect.Answer.TheVariants as answer
 use Rattle.beldi_lang.specs.declared.effect.Effect.{Effect}
 use Rattle.beldi_lang.specs.declared.effect.Effect.TheVariants as effect
 use Rattle.beldi_book.specs.declared.entry.Entry.{Entry}
-use Rattle.beldi_book.specs.declared.entry.Entry.TheVariants.{Start, Read, Step}
+use Rattle.beldi_book.specs.declared.entry.Entry.TheVariants.{Start, Read, Step, Tx, Try}
 use Rattle.beldi_plain.specs.Item.{item_cmp}
 use Rattle.beldi_plain.specs.Plain.{Instance, PlainState, after, start, step_by, with_instance, answered, effect_of, kind_of, item_of, set_item, value_at}
 use Rattle.beldi_plain.specs.Legal.{run_from}
@@ -104,6 +104,8 @@ module _ (d : Deployment) (p q : PlainState) (i : IntentId) (a : Instance) (v : 
   passes_did (Start (suc t) f w) h s = start_there t f w s
   passes_did (Read j k) h s = enabled_read d (with_instance p i (answered a v)) j k s.instance (made_there j kinds.Read s) s.open_still s.kind ∙ ap (λ r. Some r) (leads_there j kinds.Read s)
   passes_did (Step j) h s = enabled_step d (with_instance p i (answered a v)) j s.instance (made_there j kinds.Change s) s.open_still s.kind ∙ ap (λ r. Some r) (leads_there j kinds.Change s)
+  passes_did (Tx j) h s = cc
+  passes_did (Try j place holder) h s = cc
 
   pub passes : (e : Entry) → after d p e ≡ Some q → after d (with_instance p i (answered a v)) e ≡ Some (with_instance q i (answered a v))
   passes e h = passes_did e h (did d p e q h)

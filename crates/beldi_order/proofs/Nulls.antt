@@ -9,7 +9,7 @@ use Rattle.beldi_tree.specs.declared.deployment.Deployment.{Deployment}
 use Rattle.beldi_lang.specs.declared.effect.Effect.{Effect}
 use Rattle.beldi_lang.specs.declared.effect.Effect.TheVariants as effect
 use Rattle.beldi_book.specs.declared.entry.Entry.{Entry}
-use Rattle.beldi_book.specs.declared.entry.Entry.TheVariants.{Start, Read, Step}
+use Rattle.beldi_book.specs.declared.entry.Entry.TheVariants.{Start, Read, Step, Tx, Try}
 use Rattle.beldi_book.specs.Order.{linear}
 use Rattle.beldi_plain.specs.Item.{Item, item_cmp, item_total, item_exact}
 use Rattle.beldi_plain.specs.Plain.{Instance, PlainState, nothing, after, step_by, set_item, effect_of}
@@ -28,6 +28,8 @@ after_kept : (d : Deployment) (p : PlainState) (e : Entry) (q : PlainState) → 
 after_kept d p (Start t f a) q h is = subst KeepsNoNull (did d p (Start t f a) q is).leads h
 after_kept d p (Read id seen) q h is = let s = did d p (Read id seen) q is in subst KeepsNoNull s.leads (by_kept p id s.instance (effect_of d s.instance) h)
 after_kept d p (Step id) q h is = let s = did d p (Step id) q is in subst KeepsNoNull s.leads (by_kept p id s.instance (effect_of d s.instance) h)
+after_kept d p (Tx id) q h is = cc
+after_kept d p (Try id place holder) q h is = cc
 
 none_null : KeepsNoNull nothing
 none_null x e = let g = sym (get-empty item_cmp x) ∙ e in cc

@@ -7,7 +7,7 @@ use Rattle.beldi_value.specs.declared.outcome.Outcome.{Outcome}
 use Rattle.beldi_tree.specs.declared.deployment.Deployment.{Deployment}
 use Rattle.beldi_lang.specs.declared.effect.Effect.{Effect}
 use Rattle.beldi_book.specs.declared.entry.Entry.{Entry}
-use Rattle.beldi_book.specs.declared.entry.Entry.TheVariants.{Start, Read, Step}
+use Rattle.beldi_book.specs.declared.entry.Entry.TheVariants.{Start, Read, Step, Tx, Try}
 use Rattle.beldi_plain.specs.Plain.{PlainState, Instance, effect_of, kind_of, step, after}
 use Rattle.beldi_plain.specs.Legal.{run_from}
 use Rattle.beldi_plain.specs.declared.kind.Kind.{Kind}
@@ -50,6 +50,8 @@ abbrev pub bar_of : Deployment → PlainState → Entry → Option Bar
 bar_of d p (Start t f a) = bar_start t (map.get p.made (root_of t))
 bar_of d p (Read id seen) = bar_step (map.get p.made id) (λ q. bar_as true (kind_of (effect_of d q)))
 bar_of d p (Step id) = bar_step (map.get p.made id) (λ q. bar_as false (kind_of (effect_of d q)))
+bar_of d p (Tx id) = bar_step (map.get p.made id) (λ q. Some OtherEffect)
+bar_of d p (Try id place holder) = bar_step (map.get p.made id) (λ q. Some OtherEffect)
 
 -- an entry: Ok exactly where it is enabled, and then the state is the one after it; else nothing changed, and the answer
 -- is what bars it, but for want of memory

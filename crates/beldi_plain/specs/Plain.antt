@@ -15,7 +15,7 @@ use Rattle.beldi_lang.specs.declared.effect.Effect.TheVariants as effect
 use Rattle.beldi_tree.specs.Bindings.{or_null}
 use Rattle.beldi_lang.specs.Wants.{wants}
 use Rattle.beldi_book.specs.declared.entry.Entry.{Entry}
-use Rattle.beldi_book.specs.declared.entry.Entry.TheVariants.{Start, Read, Step}
+use Rattle.beldi_book.specs.declared.entry.Entry.TheVariants.{Start, Read, Step, Tx, Try}
 use Rattle.beldi_plain.specs.Item.{Item, item_cmp}
 use Rattle.beldi_plain.specs.declared.kind.Kind.{Kind}
 use Rattle.beldi_plain.specs.declared.kind.Kind.TheVariants as kinds
@@ -120,11 +120,13 @@ start p (suc t) f a None = Some (with_instance p (root_of (suc t)) (record { fun
 start p (suc t) f a (Some q) = None
 
 -- the state after an entry; none where it is not enabled. An entry is enabled only as the next step of its instance, so
--- a run has each step once.
+-- a run has each step once. Transactions are not carried out yet.
 abbrev pub after : Deployment → PlainState → Entry → Option PlainState
 after d p (Start t f a) = start p t f a (map.get p.made (root_of t))
 after d p (Read id seen) = can_step (map.get p.made id) (λ q. if_read (kind_of (effect_of d q)) (step_by p id q (effect_of d q)))
 after d p (Step id) = can_step (map.get p.made id) (λ q. if_change (kind_of (effect_of d q)) (step_by p id q (effect_of d q)))
+after d p (Tx id) = None
+after d p (Try id place holder) = None
 
 -- the outcome of a ticket's root
 abbrev pub outcome_of : Option Instance → Option Outcome

@@ -1,11 +1,12 @@
 // The slow executor of the plain machine.
 ghost use Rattle.std.specs.Prelude.{◌≡◌, ◌++◌, ◌<◌, OnOk, OnErr, IsTrue, option_copied, length, Some};
+ghost use Rattle.beldi_plain.specs.declared.plain.Bar.TheVariants.{OtherEffect};
 ghost use Rattle.std.specs.FinMap as map;
 ghost use Rattle.beldi_tree.specs.declared.deployment.Deployment.{Deployment};
 ghost use Rattle.beldi_lang.specs.declared.effect.Effect.TheVariants as effect;
 ghost use Rattle.beldi_book.specs.declared.entry.Entry.TheVariants.{Start};
 ghost use Rattle.beldi_plain.specs.Plain.{nothing, value_at, reply_of, step_by};
-ghost use Rattle.beldi_plain.specs.Answers.{Did, DidStep, Entered, Ran, StandsAt};
+ghost use Rattle.beldi_plain.specs.Answers.{Did, DidStep, Entered, Ran, StandsAt, bar_step};
 ghost use Rattle.beldi_book.specs.Order.{linear};
 ghost use Rattle.beldi_lang.specs.Wants.{wants_answer};
 ghost use Rattle.beldi_plain.specs.declared.plain.PlainErr.TheVariants.{OutOfMemory};
@@ -129,6 +130,17 @@ impl Plain {
         Ok(())
     }
 
+    // What bars a transaction of an instance: none is carried out yet.
+    fn bar_of_tx(&self, id: &IntentId) -> Bar
+        ensures { bar_step (map.get self.now.made id.now) (λ q. Some OtherEffect) ≡ Some result }
+    {
+        match self.made.get(id) {
+            None => Bar::NotStarted,
+            Some(found) if found.outcome().is_some() => Bar::Over,
+            Some(_) => Bar::OtherEffect,
+        }
+    }
+
     // The effect of an instance is made. One that is not carried out yet changes nothing.
     fn make(&mut self, id: &IntentId, instance: Instance, effect: Effect) -> Result<(), AllocError>
         requires made { map.get self.old.made id.now ≡ Some instance }
@@ -240,6 +252,9 @@ impl Plain {
             }
             Entry::Read { id, .. } => self.enter(code, id, true),
             Entry::Step { id } => self.enter(code, id, false),
+            Entry::Tx { id } | Entry::Try { id, .. } => Err(PlainErr::NotEnabled(self.bar_of_tx(
+                id,
+            ))),
         }
     }
 

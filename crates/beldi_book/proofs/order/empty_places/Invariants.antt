@@ -1,0 +1,6 @@
+use Rattle.std.proofs.Common.{◌≡◌, ◌++◌, [], map, drop}
+use Rattle.beldi_book.specs.Places.{empty_places}
+use Rattle.beldi_book.proofs.order.empty_places.Given as goal
+
+abbrev pub invariant-loop-change : goal.invariant-loop-change
+invariant-loop-change l = l.places.items ++ map (λ c. []) (drop l._change-index l.changes) ≡ empty_places l.changes

@@ -1,0 +1,12 @@
+use Rattle.std.proofs.Common.{◌≡◌, ◌++◌, length}
+use Rattle.std.specs.Vec.Iter.{into_iter_items, into_iter_len}
+use Rattle.beldi_book.specs.Places.{woven}
+use Rattle.beldi_book.proofs.order.woven.Given as goal
+
+-- what was put, and what is left woven, make all
+abbrev pub invariant-loop-reads : goal.invariant-loop-reads
+invariant-loop-reads l = record {
+  all : l.entries.items ++ woven (into_iter_items l.changes) (into_iter_items l.reads-iterator) ≡ woven l.fn.changes.items l.fn.places.items;
+  changes : into_iter_len l.changes ≡ length (into_iter_items l.changes);
+  places : into_iter_len l.reads-iterator ≡ length (into_iter_items l.reads-iterator);
+}
