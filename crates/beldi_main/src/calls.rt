@@ -2,7 +2,7 @@
 use beldi_book::{Book, Entry};
 use beldi_core::Host;
 use beldi_daal::{CellOp, Item, ReadSays, ReadWalk, WriteSays, WriteWalk};
-use beldi_lang::Deployment;
+use beldi_lang::{Deployment, Machine};
 use beldi_outside::{Clock, ClosedLink, Failed, Link, MemClock, MemSource, read_up_to};
 use beldi_plain::{Bar, Plain, PlainErr};
 use beldi_readlog::{get, put_once};
@@ -74,6 +74,14 @@ fn add_request(
 }
 
 #[test]
+fn a_body_is_inside_what_it_inherits(rt: HostRuntime) -> Result<(), Fail> {
+    let alloc = rt.alloc();
+    let code = deployment(alloc)?;
+    assert!(rt; Machine::new(alloc, &code, 1, Value::Null, true)?.is_inside());
+    Ok(())
+}
+
+#[test]
 fn a_book_is_carried_out(rt: HostRuntime) -> Result<(), Fail> {
     let alloc = rt.alloc();
     let code = deployment(alloc)?;
@@ -82,28 +90,28 @@ fn a_book_is_carried_out(rt: HostRuntime) -> Result<(), Fail> {
     add_request(alloc, &mut book, 2, Value::Int(6), 4)?;
     assert!(rt; book.len() == 8 && matches!(book.get(7), Some(Entry::Read { seen: 4, .. })));
     let mut text = Str::new(alloc);
+    book.write(alloc, &code, &mut text)?;
+    assert_eq!(rt; Book::read(alloc, text.as_bytes(), &code)?.len(), 8);
+    let mut text = Str::new(alloc);
     book.linear(alloc)?.write(alloc, &code, &mut text)?;
     assert_eq!(rt;
         text.as_str(),
         "start 1 f 5\nread 1 1\nstep 1\nstep 1\nstart 2 f 6\nread 2 4\nstep 2\nstep 2\n"
     );
-    let mut plain = Plain::new(alloc);
-    plain.run(&code, &book)?;
+    let mut plain = Plain::new(alloc, &code);
+    plain.run(&book)?;
     let key = Str::from_text(alloc, "k")?;
     assert!(rt; matches!(plain.value(1, 0, &key), Value::Int(6)));
     assert!(rt; matches!(plain.reply(2), Some(Outcome::Value(Value::Int(5)))));
     let mut text = Str::new(alloc);
-    plain.tables(&code, &mut text)?;
+    plain.tables(&mut text)?;
     assert_eq!(rt; text.as_str(), "f t \"k\" 6\n");
     plain.start(3, 1, Value::Null)?;
     let id = IntentId::root(alloc, 3);
-    plain.step(&code, &id)?;
-    plain.carry_out(&code, &Entry::Step { id })?;
+    plain.step(&id)?;
+    plain.carry_out(&Entry::Step { id })?;
     let id = IntentId::root(alloc, 1);
-    assert_eq!(rt;
-        plain.step(&code, &id),
-        Err(PlainErr::NotEnabled(Bar::Over))
-    );
+    assert_eq!(rt; plain.step(&id), Err(PlainErr::NotEnabled(Bar::Over)));
     Ok(())
 }
 

@@ -1,3 +1,5 @@
 mod Bars
-mod Effects
+mod ByTable
+mod Finite
+mod Kept
 mod Runs

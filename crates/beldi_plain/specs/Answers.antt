@@ -5,10 +5,11 @@ use Rattle.beldi_value.specs.Id.{root_of}
 use Rattle.beldi_value.specs.declared.id.IntentId.{IntentId}
 use Rattle.beldi_value.specs.declared.outcome.Outcome.{Outcome}
 use Rattle.beldi_tree.specs.declared.deployment.Deployment.{Deployment}
-use Rattle.beldi_lang.specs.declared.effect.Effect.{Effect}
+use Rattle.beldi_lang.specs.declared.machine.Machine.{Machine}
 use Rattle.beldi_book.specs.declared.entry.Entry.{Entry}
 use Rattle.beldi_book.specs.declared.entry.Entry.TheVariants.{Start, Read, Step, Tx, Try}
 use Rattle.beldi_plain.specs.Plain.{PlainState, Instance, effect_of, kind_of, step, after}
+use Rattle.beldi_plain.specs.Executor.{StandsFor}
 use Rattle.beldi_plain.specs.Legal.{run_from}
 use Rattle.beldi_plain.specs.declared.kind.Kind.{Kind}
 use Rattle.beldi_plain.specs.declared.kind.Kind.TheVariants as kinds
@@ -71,9 +72,16 @@ abbrev pub Entered : Deployment → IntentId → Bool → PlainState → PlainSt
 Entered d id true p q r = (seen : ℕ) → Did d (Read id seen) p q r
 Entered d id false p q r = Did d (Step id) p q r
 
--- where a step begins: the instance has not returned, and this is the effect that it stands at
-abbrev pub StandsAt : Deployment → PlainState → IntentId → Result (Instance × Effect) PlainErr → Type 0
-StandsAt d p id (Ok r) = (map.get p.made id ≡ Some r.0) × (r.0.outcome ≡ None) × (r.1 ≡ effect_of d r.0)
+-- an instance that has not returned, and a machine that stands for it
+pub record IsReady (d : Deployment) (p : PlainState) (id : IntentId) (m : Machine) : Type 0 where
+  pub instance : Instance
+  pub made : map.get p.made id ≡ Some instance
+  pub yet : instance.outcome ≡ None
+  pub stands : StandsFor d instance m
+
+-- where a step begins
+abbrev pub StandsAt : Deployment → PlainState → IntentId → Result Machine PlainErr → Type 0
+StandsAt d p id (Ok m) = IsReady d p id m
 StandsAt d p id (Err OutOfMemory) = Unit {0}
 StandsAt d p id (Err (NotEnabled b)) = (f : (Instance → Option Bar)) → bar_step (map.get p.made id) f ≡ Some b
 

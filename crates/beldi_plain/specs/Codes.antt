@@ -10,8 +10,11 @@ use Rattle.beldi_value.specs.declared.value.Value.{Value}
 use Rattle.beldi_value.specs.declared.outcome.Outcome.{Outcome}
 use Rattle.beldi_lang.specs.contracts.effect.Answer as answer
 use Rattle.beldi_lang.specs.declared.effect.Answer.{Answer}
+use Rattle.beldi_tree.specs.contracts.deployment.Deployment as deployment
+use Rattle.beldi_tree.specs.declared.deployment.Deployment.{Deployment}
 use Rattle.beldi_plain.specs.Item.{item_cmp, coded_item}
 use Rattle.beldi_plain.specs.Plain.{Instance, PlainState}
+use Rattle.beldi_plain.specs.Executor.{Executor}
 
 abbrev pub coded_instance : Coded Instance
 coded_instance = code_by (ℕ × (Value × (List Answer × Option Outcome)))
@@ -22,3 +25,7 @@ coded_instance = code_by (ℕ × (Value × (List Answer × Option Outcome)))
 abbrev pub coded_state : Coded PlainState
 coded_state = code_by (FinMap item_cmp Value × FinMap id_cmp Instance) (coded× (map.code coded_item coded_value) (map.code coded_id coded_instance))
     (λ p. (p.items, p.made)) (λ p. record { items = p.0; made = p.1 }) (λ _. refl)
+
+abbrev pub coded_executor : Coded Executor
+coded_executor = code_by (Deployment × PlainState) (coded× deployment.the_row.coded coded_state)
+    (λ e. (e.code, e.state)) (λ p. record { code = p.0; state = p.1 }) (λ _. refl)

@@ -1,14 +1,17 @@
 // An instance of a function.
-ghost use Rattle.std.specs.Prelude.{◌≡◌, false, ◌≤◌, ◌<◌, ◌++◌, ◌∷◌, [], None, Some, length, is_some, option_copied, OnOk, OnErr, IfOk, IsTrue};
+ghost use Rattle.std.specs.Prelude.{◌≡◌, ◌++◌, ◌∷◌, [], None, Some, option_copied, OnOk, OnErr, IfOk};
 ghost use Rattle.beldi_lang.specs.Wants.{wants, wants_answer};
-ghost use Rattle.beldi_plain.specs.Plain.{effect_of, answered};
+ghost use Rattle.beldi_lang.specs.Machine.{IsAt};
+ghost use Rattle.beldi_lang.specs.declared.effect.Effect.TheVariants as effect;
+ghost use Rattle.beldi_plain.specs.Executor.{StandsFor, StandsAfter, Acted};
 
+use crate::items::Items;
 use beldi_lang::{Answer, Deployment, Effect, Machine};
-use beldi_value::{Outcome, Value};
+use beldi_value::{Outcome, Str, Value};
 use std::alloc::{AllocError, Global};
 use std::marker::Model;
 
-/// What it was called with, what its effects were answered, and how it ended. It has at most 30,000 answers.
+/// What it was called with, what its effects were answered, and how it ended.
 #[derive(Drop)]
 pub struct Instance {
     func: u16,
@@ -18,7 +21,6 @@ pub struct Instance {
 }
 
 impl Model for Instance {
-    ghost use Rattle.std.specs.Prelude.{◌≤◌, length};
     ghost use Rattle.beldi_plain.specs.Plain.{Instance};
     ghost use Rattle.beldi_plain.specs.Codes.{coded_instance};
 
@@ -27,8 +29,6 @@ impl Model for Instance {
     ghost coded = { coded_instance };
 
     ghost view = { λ a. record { func = a.func; args = a.args; answers = a.answers.items; outcome = a.outcome } };
-
-    ghost invariant = { λ a. length a.answers.items ≤ 30000 };
 }
 
 impl Instance {
@@ -44,12 +44,6 @@ impl Instance {
         }
     }
 
-    pub fn func(&self) -> u16
-        ensures { result ≡ self.now.func }
-    {
-        self.func
-    }
-
     pub fn outcome(&self) -> Option<&Outcome>
         ensures { option_copied result ≡ self.now.outcome }
     {
@@ -59,43 +53,74 @@ impl Instance {
         }
     }
 
-    /// An equal instance.
-    pub fn copy(&self, alloc: Global) -> Result<Instance, AllocError>
-        ensures { IfOk result (λ q. q ≡ self.now) }
+    /// A machine that stands where its answers led. Its body is run from its start.
+    pub fn machine(&self, alloc: Global, code: &Deployment) -> Result<Machine, AllocError>
+        ensures { IfOk result (λ m. StandsFor code.now self.now m) }
     {
-        let outcome = match &self.outcome {
-            Some(outcome) => Some(outcome.copy(alloc)?),
-            None => None,
-        };
-        Ok(Instance {
-            func: self.func,
-            args: self.args.copy(alloc)?,
-            answers: copy_answers(alloc, self.answers.as_slice())?,
-            outcome,
-        })
+        machine_after(alloc, code, self.func, &self.args, self.answers.as_slice())
     }
 
-    /// The effect that it stands at.
-    pub fn effect(&self, alloc: Global, code: &Deployment) -> Result<Effect, AllocError>
-        ensures { IfOk result (λ e. e ≡ effect_of code.now self.now) }
+    /// Makes an effect, and gives the answer to it. One that is not carried out yet changes nothing.
+    pub fn make(
+        &mut self,
+        alloc: Global,
+        items: &mut Items,
+        effect: &Effect,
+    ) -> Result<Option<Answer>, AllocError>
+        ensures { Acted items.old items.new self.old self.new effect.now result }
     {
-        effect_after(alloc, code, self.func, &self.args, self.answers.as_slice())
+        match effect {
+            Effect::Read { table, key } => self.read(alloc, items, *table, key),
+            Effect::Write { table, key, value } => {
+                let key = key.copy(alloc)?;
+                let value = value.copy(alloc)?;
+                self.write(items, *table, key, value)
+            }
+            Effect::Return(outcome) => {
+                self.outcome = Some(outcome.copy(alloc)?);
+                Ok(None)
+            }
+            Effect::CondWrite { .. }
+            | Effect::Call { .. }
+            | Effect::Async { .. }
+            | Effect::Lock { .. }
+            | Effect::Unlock { .. }
+            | Effect::Begin
+            | Effect::End { .. }
+            | Effect::Abort => Ok(None),
+        }
     }
 
-    /// Its effect is answered.
-    pub fn answer(&mut self, answer: Answer) -> Result<(), AllocError>
-        requires { length self.old.answers < 30000 }
-        ensures ok { OnOk result (self.new ≡ answered self.old answer) }
+    // Reads an item.
+    fn read(
+        &mut self,
+        alloc: Global,
+        items: &Items,
+        table: u16,
+        key: &Str,
+    ) -> Result<Option<Answer>, AllocError>
+        ensures { Acted items.now items.now self.old self.new (effect.Read table key.now) result }
     {
-        self.answers.push(answer)?;
-        Ok(())
+        let value = items.copy_of(alloc, self.func, table, key)?;
+        let kept = value.copy(alloc)?;
+        self.answers.push(Answer::Value(kept))?;
+        Ok(Some(Answer::Value(value)))
     }
 
-    /// It returns.
-    pub fn end(&mut self, outcome: Outcome)
-        ensures { self.new ≡ record self.old { outcome = Some outcome } }
+    // Sets an item.
+    fn write(
+        &mut self,
+        items: &mut Items,
+        table: u16,
+        key: Str,
+        value: Value,
+    ) -> Result<Option<Answer>, AllocError>
+        ensures { Acted items.old items.new self.old self.new (effect.Write table key value) result }
     {
-        self.outcome = Some(outcome);
+        self.answers.reserve(1)?;
+        items.set(self.func, table, key, value)?;
+        self.answers.push_reserved(Answer::Done);
+        Ok(Some(Answer::Done))
     }
 }
 
@@ -110,88 +135,28 @@ fn copy_answer(alloc: Global, answer: &Answer) -> Result<Answer, AllocError>
     }
 }
 
-fn copy_answers(alloc: Global, answers: &[Answer]) -> Result<Vec<Answer>, AllocError>
-    ensures { IfOk result (λ v. v.items ≡ answers.now) }
-{
-    let mut copied = Vec::new(alloc);
-    for answer in answers {
-        copied.push(copy_answer(alloc, answer)?)?;
-    }
-    Ok(copied)
-}
-
-fn copy_effect(alloc: Global, effect: &Effect) -> Result<Effect, AllocError>
-    ensures { IfOk result (λ e. e ≡ effect.now) }
-{
-    match effect {
-        Effect::Read { table, key } => Ok(Effect::Read {
-            table: *table,
-            key: key.copy(alloc)?,
-        }),
-        Effect::Write { table, key, value } => Ok(Effect::Write {
-            table: *table,
-            key: key.copy(alloc)?,
-            value: value.copy(alloc)?,
-        }),
-        Effect::CondWrite {
-            table,
-            key,
-            rel,
-            operand,
-            value,
-        } => Ok(Effect::CondWrite {
-            table: *table,
-            key: key.copy(alloc)?,
-            rel: *rel,
-            operand: operand.copy(alloc)?,
-            value: value.copy(alloc)?,
-        }),
-        Effect::Call { func, args } => Ok(Effect::Call {
-            func: *func,
-            args: args.copy(alloc)?,
-        }),
-        Effect::Async { func, args } => Ok(Effect::Async {
-            func: *func,
-            args: args.copy(alloc)?,
-        }),
-        Effect::Lock { table, key } => Ok(Effect::Lock {
-            table: *table,
-            key: key.copy(alloc)?,
-        }),
-        Effect::Unlock { table, key } => Ok(Effect::Unlock {
-            table: *table,
-            key: key.copy(alloc)?,
-        }),
-        Effect::Begin => Ok(Effect::Begin),
-        Effect::End { commit } => Ok(Effect::End { commit: *commit }),
-        Effect::Abort => Ok(Effect::Abort),
-        Effect::Return(outcome) => Ok(Effect::Return(outcome.copy(alloc)?)),
-    }
-}
-
 fn is_answered(effect: &Effect) -> bool
     ensures { result ≡ wants_answer effect.now }
 {
     !matches!(effect, Effect::Return(_))
 }
 
-// The effect that a function's body wants after these answers, run from its start.
-fn effect_after(
+// The machine of a function's body after these answers, run from its start.
+fn machine_after(
     alloc: Global,
     code: &Deployment,
     func: u16,
     args: &Value,
     answers: &[Answer],
-) -> Result<Effect, AllocError>
-    requires { length answers.now ≤ 30000 }
-    ensures { IfOk result (λ e. e ≡ wants code.now func args.now false answers.now) }
+) -> Result<Machine, AllocError>
+    ensures { IfOk result (λ m. StandsAfter code.now func args.now answers.now m) }
 {
     let mut machine = Machine::new(alloc, code, func, args.copy(alloc)?, false)?;
     for answer in answers {
         if !is_answered(machine.wants()) {
-            return copy_effect(alloc, machine.wants());
+            return Ok(machine);
         }
         machine = machine.resume(alloc, code, copy_answer(alloc, answer)?)?;
     }
-    copy_effect(alloc, machine.wants())
+    Ok(machine)
 }

@@ -1,8 +1,12 @@
 // The instances that were made.
-ghost use Rattle.std.specs.Prelude.{◌≡◌, None, OnOk, OnErr, IsTrue, is_some, option_copied};
+ghost use Rattle.std.specs.Prelude.{◌≡◌, Some, OnOk, OnErr, option_copied};
 ghost use Rattle.std.specs.FinMap as map;
+ghost use Rattle.beldi_plain.specs.Plain.{Instance};
+ghost use Rattle.beldi_plain.specs.Executor.{ActedAt};
 
 use crate::instance::Instance;
+use crate::items::Items;
+use beldi_lang::{Answer, Effect};
 use beldi_value::IntentId;
 use std::alloc::{AllocError, Global};
 use std::collections::BTreeMap;
@@ -41,11 +45,9 @@ impl Instances {
         self.entries.get(id)
     }
 
-    // Only a new id takes memory.
     pub fn set(&mut self, id: IntentId, instance: Instance) -> Result<(), AllocError>
         ensures ok { OnOk result (self.new ≡ map.insert self.old id instance) }
         ensures err { OnErr result (self.new ≡ self.old) }
-        ensures absent { OnErr result (map.get self.old id ≡ None) }
     {
         match self.entries.insert(id, instance) {
             Ok(_) => Ok(()),
@@ -53,14 +55,19 @@ impl Instances {
         }
     }
 
-    // What is there takes no memory.
-    pub fn replace(&mut self, id: IntentId, instance: Instance)
-        requires { IsTrue (map.contains_key self.old id) }
-        ensures { self.new ≡ map.insert self.old id instance }
+    /// The instance of this id makes an effect, and is answered. Where there is none, nothing is made.
+    pub fn make(
+        &mut self,
+        alloc: Global,
+        id: &IntentId,
+        items: &mut Items,
+        effect: &Effect,
+    ) -> Result<Option<Answer>, AllocError>
+        ensures { (q : Instance) → map.get self.old id.now ≡ Some q → ActedAt items.old items.new self.old self.new id.now q effect.now result }
     {
-        match self.set(id, instance) {
-            Ok(()) => (),
-            Err(_) => unreachable!(),
-        }
+        let Some(instance) = self.entries.get_mut(id) else {
+            return Ok(None);
+        };
+        instance.make(alloc, items, effect)
     }
 }

@@ -1,20 +1,20 @@
 // The items that are not null.
-ghost use Rattle.std.specs.Prelude.{◌≡◌, ◌++◌, OnOk, OnErr, option_copied, flat_map};
+ghost use Rattle.std.specs.Prelude.{◌≡◌, ◌++◌, OnOk, OnErr, IfOk, option_copied};
 ghost use Rattle.std.specs.FinMap as map;
+ghost use Rattle.beldi_tree.specs.Bindings.{or_null};
 ghost use Rattle.beldi_plain.specs.Plain.{set_item};
 ghost use Rattle.beldi_plain.specs.Listing.{items_text};
 
-use crate::item::Item;
-use beldi_book::write_item;
+use crate::tables::{TableId, Tables};
 use beldi_lang::Deployment;
 use beldi_value::{Str, Value};
 use std::alloc::{AllocError, Global};
-use std::collections::BTreeMap;
 use std::marker::Model;
 
 #[derive(Drop)]
 pub struct Items {
-    entries: BTreeMap<Item, Value>,
+    alloc: Global,
+    tables: Tables,
 }
 
 impl Model for Items {
@@ -22,12 +22,13 @@ impl Model for Items {
     ghost use Rattle.beldi_value.specs.declared.value.Value as value;
     ghost use Rattle.beldi_value.specs.Injective.{coded_value};
     ghost use Rattle.beldi_plain.specs.Item.{item_cmp, coded_item};
+    ghost use Rattle.beldi_plain.specs.ByTable.{items_of};
 
     ghost Value = { map.FinMap item_cmp value.Value };
 
     ghost coded = { map.code coded_item coded_value };
 
-    ghost view = { λ a. map.from_entries a.entries.entries };
+    ghost view = { λ a. items_of a.tables };
 }
 
 impl Items {
@@ -35,34 +36,42 @@ impl Items {
         ensures { result ≡ map.empty }
     {
         Items {
-            entries: BTreeMap::new(alloc),
+            alloc,
+            tables: Tables::new(alloc),
         }
     }
 
-    // It takes time by the number of items, and no memory.
     pub fn get(&self, func: u16, table: u16, key: &Str) -> Option<&Value>
         ensures { option_copied result ≡ map.get self.now (record { func = func; table = table; key = key.now }) }
     {
-        for (item, value) in self.entries.iter() {
-            if item.is_at(func, table, key) {
-                return Some(value);
-            }
+        match self.tables.get(TableId { func, table }) {
+            Some(cells) => cells.get(key),
+            None => None,
         }
-        None
     }
 
-    pub fn set(&mut self, item: Item, value: Value) -> Result<(), AllocError>
-        ensures ok { OnOk result (self.new ≡ set_item self.old item value) }
+    /// A copy of the value of an item, null where it was never set.
+    pub fn copy_of(
+        &self,
+        alloc: Global,
+        func: u16,
+        table: u16,
+        key: &Str,
+    ) -> Result<Value, AllocError>
+        ensures { IfOk result (λ v. v ≡ or_null (map.get self.now (record { func = func; table = table; key = key.now }))) }
+    {
+        match self.get(func, table, key) {
+            Some(value) => value.copy(alloc),
+            None => Ok(Value::Null),
+        }
+    }
+
+    pub fn set(&mut self, func: u16, table: u16, key: Str, value: Value) -> Result<(), AllocError>
+        ensures ok { OnOk result (self.new ≡ set_item self.old (record { func = func; table = table; key = key }) value) }
         ensures err { OnErr result (self.new ≡ self.old) }
     {
-        if let Value::Null = value {
-            self.entries.remove(&item);
-            return Ok(());
-        }
-        match self.entries.insert(item, value) {
-            Ok(_) => Ok(()),
-            Err(_) => Err(AllocError),
-        }
+        self.tables
+            .set(self.alloc, TableId { func, table }, key, value)
     }
 
     // Appends a line for each item, in their order.
@@ -71,11 +80,7 @@ impl Items {
         ensures err { OnErr result (out.new ≡ out.old) }
     {
         let mut text = Str::new(alloc);
-        for (item, value) in self.entries.iter() {
-            write_item(
-                alloc, code, item.func, item.table, &item.key, value, &mut text,
-            )?;
-        }
+        self.tables.write(alloc, code, &mut text)?;
         out.push_text(text.as_str())
     }
 }

@@ -2,7 +2,9 @@
 //! and carries one out.
 //! It stands on `beldi_lang` and `beldi_book`. Its definitions: `specs/Plain` (the plain state, its step, the enabled
 //! entry and the state after it), `specs/Item` (an item and its order), `specs/Legal` (the legal book and its run),
-//! `specs/Listing` (the listing of a plain state) and `specs/Answers` (what a call answers, and what bars an entry).
+//! `specs/Listing` (the listing of a plain state), `specs/Answers` (what a call answers, and what bars an entry),
+//! `specs/Executor` (what contracts see of the executor, and which machines it keeps) and `specs/ByTable` (the items table
+//! by table).
 //!
 //! Proved:
 //! - `Plain::start` and `carry_out` succeed just where the entry is enabled, and else say what bars it and change
@@ -11,11 +13,14 @@
 //! - `reply`, `value` and `tables` read its state (`reply_of`, `value_at`; `ok`, `err`).
 #![tactic(auto)]
 
+mod cells;
 mod instance;
 mod instances;
-mod item;
 mod items;
 mod kind;
+mod machines;
 mod plain;
+mod state;
+mod tables;
 
 pub use plain::{Bar, Plain, PlainErr};

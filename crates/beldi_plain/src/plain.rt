@@ -1,24 +1,20 @@
-// The slow executor of the plain machine.
-ghost use Rattle.std.specs.Prelude.{◌≡◌, ◌++◌, ◌<◌, OnOk, OnErr, IsTrue, option_copied, length, Some};
-ghost use Rattle.beldi_plain.specs.declared.plain.Bar.TheVariants.{OtherEffect};
+// The executor of the plain machine.
+ghost use Rattle.std.specs.Prelude.{◌≡◌, ◌++◌, Some, OnOk, OnErr, IfSome, option_copied};
 ghost use Rattle.std.specs.FinMap as map;
-ghost use Rattle.beldi_tree.specs.declared.deployment.Deployment.{Deployment};
-ghost use Rattle.beldi_lang.specs.declared.effect.Effect.TheVariants as effect;
 ghost use Rattle.beldi_book.specs.declared.entry.Entry.TheVariants.{Start};
-ghost use Rattle.beldi_plain.specs.Plain.{nothing, value_at, reply_of, step_by};
-ghost use Rattle.beldi_plain.specs.Answers.{Did, DidStep, Entered, Ran, StandsAt, bar_step};
 ghost use Rattle.beldi_book.specs.Order.{linear};
-ghost use Rattle.beldi_lang.specs.Wants.{wants_answer};
+ghost use Rattle.beldi_plain.specs.Plain.{Instance, nothing, value_at, reply_of, step_by};
+ghost use Rattle.beldi_plain.specs.Answers.{Did, DidStep, Entered, Ran, IsReady, StandsAt, bar_step};
+ghost use Rattle.beldi_plain.specs.declared.plain.Bar.TheVariants.{OtherEffect};
 ghost use Rattle.beldi_plain.specs.declared.plain.PlainErr.TheVariants.{OutOfMemory};
 ghost use Rattle.beldi_plain.specs.Listing.{listing_of};
 
 use crate::instance::Instance;
-use crate::instances::Instances;
-use crate::item::Item;
-use crate::items::Items;
 use crate::kind::{Kind, kind_of};
+use crate::machines::Machines;
+use crate::state::State;
 use beldi_book::{Book, Entry};
-use beldi_lang::{Answer, Deployment, Effect};
+use beldi_lang::{Deployment, Machine};
 use beldi_value::{IntentId, Outcome, Str, Value};
 use std::alloc::{AllocError, Global};
 use std::marker::Model;
@@ -55,224 +51,191 @@ pub enum Bar {
     OtherEffect,
 }
 
-/// The plain state on ordered maps in memory.
+/// The plain state, and the machines of its instances as far as there was memory to keep them.
 #[derive(Drop)]
-pub struct Plain {
+pub struct Plain<'a> {
     alloc: Global,
-    items: Items,
-    made: Instances,
-    null: Value,
+    code: &'a Deployment,
+    state: State,
+    machines: Machines,
 }
 
-impl Model for Plain {
-    ghost use Rattle.std.specs.Prelude.{◌≡◌};
-    ghost use Rattle.beldi_value.specs.declared.value.Value.TheVariants as value;
-    ghost use Rattle.beldi_plain.specs.Plain.{PlainState};
-    ghost use Rattle.beldi_plain.specs.Codes.{coded_state};
+impl<'a> Model for Plain<'a> {
+    ghost use Rattle.beldi_plain.specs.Executor.{Executor, AllStand};
+    ghost use Rattle.beldi_plain.specs.Codes.{coded_executor};
 
-    ghost Value = { PlainState };
+    ghost Value = { Executor };
 
-    ghost coded = { coded_state };
+    ghost coded = { coded_executor };
 
-    ghost view = { λ a. record { items = a.items; made = a.made } };
+    ghost view = { λ a. record { code = a.code.now; state = a.state } };
 
-    ghost invariant = { λ a. a.null ≡ value.Null };
+    ghost invariant = { λ a. AllStand a.code.now a.state.made a.machines };
 }
 
-impl Plain {
-    /// Neither items nor instances.
-    pub fn new(alloc: Global) -> Plain
-        ensures { result ≡ nothing }
+impl<'a> Plain<'a> {
+    /// Neither items nor instances. It runs the bodies of this deployment.
+    pub fn new(alloc: Global, code: &'a Deployment) -> Plain<'a>
+        ensures { result ≡ record { code = code.now; state = nothing } }
     {
         Plain {
             alloc,
-            items: Items::new(alloc),
-            made: Instances::new(alloc),
-            null: Value::Null,
+            code,
+            state: State::new(alloc),
+            machines: Machines::new(alloc),
         }
     }
 
     /// Starts the root of a ticket. Tickets begin at 1.
     pub fn start(&mut self, ticket: u32, func: u16, args: Value) -> Result<(), PlainErr>
-        ensures { (code : Deployment) → Did code (Start ticket func args) self.old self.new result }
+        ensures code { self.new.code ≡ self.old.code }
+        ensures did { Did self.old.code (Start ticket func args) self.old.state self.new.state result }
     {
         let id = IntentId::root(self.alloc, ticket);
-        if ticket == 0 || self.made.get(&id).is_some() {
+        if ticket == 0 || self.state.instance(&id).is_some() {
             return Err(PlainErr::NotEnabled(Bar::AlreadyStarted));
         }
-        self.made.set(id, Instance::new(self.alloc, func, args))?;
+        self.state
+            .set_instance(id, Instance::new(self.alloc, func, args))?;
         Ok(())
     }
 
     /// Makes the next step of an instance, whatever it is, but for the effects that are not carried out yet.
-    pub fn step(&mut self, code: &Deployment, id: &IntentId) -> Result<(), PlainErr>
-        ensures { DidStep code.now id.now self.old self.new result }
+    pub fn step(&mut self, id: &IntentId) -> Result<(), PlainErr>
+        ensures code { self.new.code ≡ self.old.code }
+        ensures did { DidStep self.old.code id.now self.old.state self.new.state result }
     {
-        let (instance, effect) = self.stands_at(code, id)?;
-        if matches!(kind_of(&effect), Kind::Unbuilt) {
-            drop(effect);
+        let id = id.copy(self.alloc)?;
+        let machine = self.machine(&id)?;
+        if matches!(kind_of(machine.wants()), Kind::Unbuilt) {
+            self.keep(id, machine);
             return Err(PlainErr::NotEnabled(Bar::OtherEffect));
         }
-        self.make(id, instance, effect)?;
+        self.make(id, machine)?;
         Ok(())
     }
 
     // Makes the next step of an instance, where it is a read or else where it is a change, as `reads` says.
-    fn enter(&mut self, code: &Deployment, id: &IntentId, reads: bool) -> Result<(), PlainErr>
-        ensures { Entered code.now id.now reads self.old self.new result }
+    fn enter(&mut self, id: &IntentId, reads: bool) -> Result<(), PlainErr>
+        ensures code { self.new.code ≡ self.old.code }
+        ensures did { Entered self.old.code id.now reads self.old.state self.new.state result }
     {
-        let (instance, effect) = self.stands_at(code, id)?;
-        if !kind_of(&effect).is_entered(reads) {
-            drop(effect);
+        let id = id.copy(self.alloc)?;
+        let machine = self.machine(&id)?;
+        if !kind_of(machine.wants()).is_entered(reads) {
+            self.keep(id, machine);
             return Err(PlainErr::NotEnabled(Bar::OtherEffect));
         }
-        self.make(id, instance, effect)?;
+        self.make(id, machine)?;
         Ok(())
     }
 
-    // What bars a transaction of an instance: none is carried out yet.
-    fn bar_of_tx(&self, id: &IntentId) -> Bar
-        ensures { bar_step (map.get self.now.made id.now) (λ q. Some OtherEffect) ≡ Some result }
+    // The machine of an instance that has not returned: the one that is kept, or else one that its answers lead anew.
+    fn machine(&mut self, id: &IntentId) -> Result<Machine, PlainErr>
+        ensures same { self.new ≡ self.old }
+        ensures stands { StandsAt self.old.code self.old.state id.now result }
     {
-        match self.made.get(id) {
-            None => Bar::NotStarted,
-            Some(found) if found.outcome().is_some() => Bar::Over,
-            Some(_) => Bar::OtherEffect,
+        match self.take(id) {
+            Some(machine) => Ok(machine),
+            None => self.lead(id),
         }
     }
 
-    // The effect of an instance is made. One that is not carried out yet changes nothing.
-    fn make(&mut self, id: &IntentId, instance: Instance, effect: Effect) -> Result<(), AllocError>
-        requires made { map.get self.old.made id.now ≡ Some instance }
-        requires few { IsTrue (wants_answer effect) → length instance.answers < 30000 }
-        ensures ok { OnOk result (self.new ≡ step_by self.old id.now instance effect) }
-        ensures err { OnErr result (self.new ≡ self.old) }
+    // Takes the machine out that is kept for an instance.
+    fn take(&mut self, id: &IntentId) -> Option<Machine>
+        ensures same { self.new ≡ self.old }
+        ensures stands { IfSome result (λ m. IsReady self.old.code self.old.state id.now m) }
     {
-        let id = id.copy(self.alloc)?;
-        match effect {
-            Effect::Read { table, key } => self.read(id, instance, table, key),
-            Effect::Write { table, key, value } => self.write(id, instance, table, key, value),
-            Effect::Return(outcome) => {
-                self.end(id, instance, outcome);
-                Ok(())
-            }
-            Effect::CondWrite { .. }
-            | Effect::Call { .. }
-            | Effect::Async { .. }
-            | Effect::Lock { .. }
-            | Effect::Unlock { .. }
-            | Effect::Begin
-            | Effect::End { .. }
-            | Effect::Abort => {
-                drop(effect);
-                Ok(())
-            }
-        }
+        self.machines.take(id)
     }
 
-    // A copy of an instance that has not returned, and the effect that it stands at.
-    fn stands_at(&self, code: &Deployment, id: &IntentId) -> Result<(Instance, Effect), PlainErr>
-        ensures { StandsAt code.now self.now id.now result }
+    // Runs the body of an instance that has not returned from its start.
+    fn lead(&self, id: &IntentId) -> Result<Machine, PlainErr>
+        ensures { StandsAt self.now.code self.now.state id.now result }
     {
-        let found = match self.made.get(id) {
+        let found = match self.state.instance(id) {
             Some(found) => found,
             None => return Err(PlainErr::NotEnabled(Bar::NotStarted)),
         };
         if found.outcome().is_some() {
             return Err(PlainErr::NotEnabled(Bar::Over));
         }
-        let instance = found.copy(self.alloc)?;
-        let effect = found.effect(self.alloc, code)?;
-        Ok((instance, effect))
+        Ok(found.machine(self.alloc, self.code)?)
     }
 
-    // The instance is answered by the value of an item.
-    fn read(
-        &mut self,
-        id: IntentId,
-        instance: Instance,
-        table: u16,
-        key: Str,
-    ) -> Result<(), AllocError>
-        requires made { map.get self.old.made id ≡ Some instance }
-        requires few { length instance.answers < 30000 }
-        ensures ok { OnOk result (self.new ≡ step_by self.old id instance (effect.Read table key)) }
-        ensures err { OnErr result (self.new ≡ self.old) }
+    // Keeps the machine of an instance, where there is memory.
+    fn keep(&mut self, id: IntentId, machine: Machine)
+        requires { IsReady self.old.code self.old.state id machine }
+        ensures { self.new ≡ self.old }
     {
-        let mut instance = instance;
-        let value = self.value(instance.func(), table, &key).copy(self.alloc)?;
-        instance.answer(Answer::Value(value))?;
-        self.made.replace(id, instance);
-        Ok(())
+        self.machines.keep(id, machine);
     }
 
-    // The instance sets an item, and its effect is answered.
-    fn write(
-        &mut self,
-        id: IntentId,
-        instance: Instance,
-        table: u16,
-        key: Str,
-        value: Value,
-    ) -> Result<(), AllocError>
-        requires made { map.get self.old.made id ≡ Some instance }
-        requires few { length instance.answers < 30000 }
-        ensures ok { OnOk result (self.new ≡ step_by self.old id instance (effect.Write table key value)) }
-        ensures err { OnErr result (self.new ≡ self.old) }
+    // The effect that the machine wants is made, and the machine goes on.
+    fn make(&mut self, id: IntentId, machine: Machine) -> Result<(), AllocError>
+        requires { IsReady self.old.code self.old.state id machine }
+        ensures code { self.new.code ≡ self.old.code }
+        ensures ok { (q : Instance) → map.get self.old.state.made id ≡ Some q → OnOk result (self.new.state ≡ step_by self.old.state id q machine.effect) }
+        ensures err { OnErr result (self.new.state ≡ self.old.state) }
     {
-        let mut instance = instance;
-        instance.answer(Answer::Done)?;
-        let item = Item {
-            func: instance.func(),
-            table,
-            key,
+        let made = self.state.make(self.alloc, &id, machine.wants());
+        let answer = match made {
+            Ok(answer) => answer,
+            Err(error) => {
+                drop(machine);
+                return Err(error);
+            }
         };
-        self.items.set(item, value)?;
-        self.made.replace(id, instance);
+        self.machines
+            .go_on(self.alloc, self.code, id, machine, answer);
         Ok(())
-    }
-
-    // The instance returns.
-    fn end(&mut self, id: IntentId, instance: Instance, outcome: Outcome)
-        requires { map.get self.old.made id ≡ Some instance }
-        ensures { self.new ≡ step_by self.old id instance (effect.Return outcome) }
-    {
-        let mut instance = instance;
-        instance.end(outcome);
-        self.made.replace(id, instance);
     }
 
     /// Carries out an entry of a book.
-    pub fn carry_out(&mut self, code: &Deployment, entry: &Entry) -> Result<(), PlainErr>
-        ensures { Did code.now entry.now self.old self.new result }
+    pub fn carry_out(&mut self, entry: &Entry) -> Result<(), PlainErr>
+        ensures code { self.new.code ≡ self.old.code }
+        ensures did { Did self.old.code entry.now self.old.state self.new.state result }
     {
         match entry {
             Entry::Start { ticket, func, args } => {
                 self.start(*ticket, *func, args.copy(self.alloc)?)
             }
-            Entry::Read { id, .. } => self.enter(code, id, true),
-            Entry::Step { id } => self.enter(code, id, false),
+            Entry::Read { id, .. } => self.enter(id, true),
+            Entry::Step { id } => self.enter(id, false),
             Entry::Tx { id } | Entry::Try { id, .. } => Err(PlainErr::NotEnabled(self.bar_of_tx(
                 id,
             ))),
         }
     }
 
+    // What bars a transaction of an instance: none is carried out yet.
+    fn bar_of_tx(&self, id: &IntentId) -> Bar
+        ensures { bar_step (map.get self.now.state.made id.now) (λ q. Some OtherEffect) ≡ Some result }
+    {
+        match self.state.instance(id) {
+            None => Bar::NotStarted,
+            Some(found) if found.outcome().is_some() => Bar::Over,
+            Some(_) => Bar::OtherEffect,
+        }
+    }
+
     /// Carries out the entries of a book in the order in which they took effect, up to the first that is not enabled.
-    pub fn run(&mut self, code: &Deployment, book: &Book) -> Result<(), PlainErr>
-        ensures { Ran code.now (linear book.now.entries) self.old self.new result }
+    pub fn run(&mut self, book: &Book) -> Result<(), PlainErr>
+        ensures code { self.new.code ≡ self.old.code }
+        ensures ran { Ran self.old.code (linear book.now.entries) self.old.state self.new.state result }
     {
         let order = book.linear(self.alloc)?;
-        self.run_in_order(code, &order)
+        self.run_in_order(&order)
     }
 
     // Carries out these entries as they stand.
-    fn run_in_order(&mut self, code: &Deployment, order: &Book) -> Result<(), PlainErr>
-        ensures { Ran code.now order.now.entries self.old self.new result }
+    fn run_in_order(&mut self, order: &Book) -> Result<(), PlainErr>
+        ensures code { self.new.code ≡ self.old.code }
+        ensures ran { Ran self.old.code order.now.entries self.old.state self.new.state result }
     {
         for at in 0..order.len() {
             match order.get(at) {
-                Some(entry) => match self.carry_out(code, entry) {
+                Some(entry) => match self.carry_out(entry) {
                     Ok(()) => (),
                     Err(why) => return Err(why),
                 },
@@ -284,29 +247,26 @@ impl Plain {
 
     /// The outcome of a ticket's root, where it has one.
     pub fn reply(&self, ticket: u32) -> Option<&Outcome>
-        ensures { option_copied result ≡ reply_of self.now ticket }
+        ensures { option_copied result ≡ reply_of self.now.state ticket }
     {
-        match self.made.get(&IntentId::root(self.alloc, ticket)) {
+        match self.state.instance(&IntentId::root(self.alloc, ticket)) {
             Some(instance) => instance.outcome(),
             None => None,
         }
     }
 
     /// Appends a line for each item that is not null.
-    pub fn tables(&self, code: &Deployment, out: &mut Str) -> Result<(), AllocError>
-        ensures ok { OnOk result (out.new ≡ out.old ++ listing_of code.now self.now) }
+    pub fn tables(&self, out: &mut Str) -> Result<(), AllocError>
+        ensures ok { OnOk result (out.new ≡ out.old ++ listing_of self.now.code self.now.state) }
         ensures err { OnErr result (out.new ≡ out.old) }
     {
-        self.items.write(self.alloc, code, out)
+        self.state.write(self.alloc, self.code, out)
     }
 
-    /// The value of an item, null where it was never set. It takes time by the number of items.
+    /// The value of an item, null where it was never set.
     pub fn value(&self, func: u16, table: u16, key: &Str) -> &Value
-        ensures { result.now ≡ value_at self.now (record { func = func; table = table; key = key.now }) }
+        ensures { result.now ≡ value_at self.now.state (record { func = func; table = table; key = key.now }) }
     {
-        match self.items.get(func, table, key) {
-            Some(value) => value,
-            None => &self.null,
-        }
+        self.state.value(func, table, key)
     }
 }

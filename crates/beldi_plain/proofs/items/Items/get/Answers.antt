@@ -1,12 +1,15 @@
-use Rattle.std.proofs.Common.{◌∙◌, sym, ap}
+use Rattle.std.proofs.Common.{◌∙◌, sym, ap, option_copied}
 use Rattle.std.specs.FinMap as map
-use Rattle.std.specs.Map.{lookup}
-use Rattle.std.specs.BTreeMap.{is_at}
-use Rattle.beldi_plain.specs.Item.{Item, item_cmp, item_total}
-use Rattle.beldi_value.proofs.Maps.{get_made}
+use Rattle.beldi_plain.specs.Item.{Item}
+use Rattle.beldi_plain.proofs.ByTable.{get_items, at_key}
 use Rattle.beldi_plain.proofs.items.Items.get.Goals as goal
 
-pub loop-item-init : goal.loop-item-init
-loop-item-init c =
-    let q : Item = record { func = c.args.func; table = c.args.table; key = c.args.key.now } in
-    ap (lookup (is_at (item_cmp q))) (c.into_iter-item-iterator.ensures.into_iter_gives ∙ c.iter-item-items.ensures.rest) ∙ sym (get_made item_total c.self.inside.entries.entries q) ∙ ap (λ m. map.get m q) c.self.view_is
+pub returns-in-Some : goal.returns-in-Some
+returns-in-Some c =
+    let x : Item = record { func = c.args.func; table = c.args.table; key = c.args.key.now } in
+    c.get-in-Some.ensures ∙ ap (at_key x.key) (ap option_copied (sym c.in-Some.is) ∙ c.get.ensures) ∙ sym (get_items c.self.inside.tables x) ∙ ap (λ m. map.get m x) c.self.view_is
+
+pub returns-in-None : goal.returns-in-None
+returns-in-None c =
+    let x : Item = record { func = c.args.func; table = c.args.table; key = c.args.key.now } in
+    ap (at_key x.key) (ap option_copied (sym c.in-None.is) ∙ c.get.ensures) ∙ sym (get_items c.self.inside.tables x) ∙ ap (λ m. map.get m x) c.self.view_is

@@ -6,8 +6,9 @@ use Rattle.beldi_plain.specs.declared.plain.PlainErr.TheVariants.{OutOfMemory}
 use Rattle.beldi_plain.proofs.Runs.{none_done}
 use Rattle.beldi_plain.proofs.plain.Plain.run.Goals as goal
 
-pub returns-in_err-order : goal.returns-in_err-order
-returns-in_err-order c =
+pub returns-in_err-order-clause-ran : goal.returns-in_err-order-clause-ran
+returns-in_err-order-clause-ran c =
+    let p = c.args.self.now in
     let es = linear c.args.book.now.entries in
     let same : c.from_residual.result ≡ Err OutOfMemory = search rules in
-    subst (λ (r : Result (Unit {0}) PlainErr). Ran c.args.code.now es c.args.self.now c.args.self.now r) (sym same) (none_done c.args.code.now c.args.self.now es)
+    subst (λ (r : Result (Unit {0}) PlainErr). Ran p.code es p.state p.state r) (sym same) (none_done p.code p.state es)

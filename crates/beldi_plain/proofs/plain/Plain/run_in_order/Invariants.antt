@@ -4,4 +4,4 @@ use Rattle.beldi_plain.proofs.plain.Plain.run_in_order.Given as goal
 
 -- the entries so far were carried out
 abbrev pub invariant-loop-at : goal.invariant-loop-at
-invariant-loop-at l = run_from l.code l.initial.self (take l.at l.order.entries) ≡ Some l.self
+invariant-loop-at l = (l.self.code ≡ l.initial.self.code) × (run_from l.initial.self.code l.initial.self.state (take l.at l.order.entries) ≡ Some l.self.state)

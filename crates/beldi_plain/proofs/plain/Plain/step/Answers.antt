@@ -1,12 +1,18 @@
-use Rattle.std.proofs.Common.{rules}
+use Rattle.std.proofs.Common.{rules, ◌∙◌, sym, ap, subst, Err}
+use Rattle.beldi_value.specs.declared.id.IntentId.{IntentId}
+use Rattle.beldi_plain.specs.Plain.{PlainState}
+use Rattle.beldi_plain.specs.Executor.{Executor}
+use Rattle.beldi_plain.specs.Answers.{IsReady, DidStep}
+use Rattle.beldi_plain.specs.declared.plain.Bar.TheVariants.{OtherEffect}
+use Rattle.beldi_plain.specs.declared.plain.PlainErr.TheVariants.{NotEnabled}
 use Rattle.beldi_plain.proofs.Bars.{not_built}
-use Rattle.beldi_plain.proofs.Effects.{few_answers}
 use Rattle.beldi_plain.proofs.plain.Plain.step.Goals as goal
 
-pub make-requires-clause-few : goal.make-requires-clause-few
-make-requires-clause-few c = few_answers c.args.code.now c.in_ok-instance.instance c.in_ok-instance.effect c.in_ok-instance.ensures.2
-
-pub returns-then-matches : goal.returns-then-matches
-returns-then-matches c =
-    let at = c.in_ok-instance.ensures in
-    not_built c.args.code.now c.args.self.now c.args.id.now c.in_ok-instance.instance c.in_ok-instance.effect at.0 at.1 at.2 (search rules)
+pub returns-then-matches-clause-did : goal.returns-then-matches-clause-did
+returns-then-matches-clause-did c =
+    let d = c.args.self.now.code in
+    let p = c.args.self.now.state in
+    let m = c.in_ok-machine.machine in
+    let ready = subst (λ (i : IntentId). IsReady d p i m) c.in_ok-id.ensures c.in_ok-machine.ensures.stands in
+    let same = ap (λ (x : Executor). x.state) (c.keep.ensures ∙ c.in_ok-machine.ensures.same) in
+    subst (λ (q : PlainState). DidStep d c.args.id.now p q (Err (NotEnabled OtherEffect))) (sym same) (not_built d p c.args.id.now m ready (search rules))

@@ -1,6 +1,6 @@
 use Rattle.std.proofs.Common.{take, false}
 use Rattle.beldi_lang.specs.Machine.{IsAt}
-use Rattle.beldi_plain.proofs.instance.effect_after.Given as goal
+use Rattle.beldi_plain.proofs.instance.machine_after.Given as goal
 
 -- the machine stands where the answers so far have led
 abbrev pub invariant-loop-answer : goal.invariant-loop-answer

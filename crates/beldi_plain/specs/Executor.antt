@@ -1,0 +1,85 @@
+-- What contracts see of the executor, and which machines it keeps.
+use Rattle.std.specs.Prelude.{◌≡◌, ◌⊎◌, ℕ, List, Option, Some, None, Result, Ok, Err, IsTrue, false}
+use Rattle.std.specs.FinMap as map
+use Rattle.std.specs.FinMap.{FinMap}
+use Rattle.std.specs.declared.alloc.AllocError.{AllocError}
+use Rattle.beldi_value.specs.Id.{id_cmp}
+use Rattle.beldi_value.specs.declared.id.IntentId.{IntentId}
+use Rattle.beldi_value.specs.declared.value.Value.{Value}
+use Rattle.beldi_tree.specs.Bindings.{or_null}
+use Rattle.beldi_tree.specs.declared.deployment.Deployment.{Deployment}
+use Rattle.beldi_lang.specs.declared.effect.Answer.{Answer}
+use Rattle.beldi_lang.specs.declared.effect.Answer.TheVariants as answer
+use Rattle.beldi_lang.specs.declared.effect.Effect.{Effect}
+use Rattle.beldi_lang.specs.declared.effect.Effect.TheVariants as effect
+use Rattle.beldi_lang.specs.declared.machine.Machine.{Machine}
+use Rattle.beldi_lang.specs.Machine.{IsAt, resumed}
+use Rattle.beldi_lang.specs.Wants.{wants, wants_answer}
+use Rattle.beldi_plain.specs.Item.{item_cmp}
+use Rattle.beldi_plain.specs.Plain.{PlainState, Instance, answered, item_of, set_item, step_by}
+
+-- the deployment whose bodies are run, and the plain state
+pub record Executor : Type 0 where
+  pub code : Deployment
+  pub state : PlainState
+
+-- the machine wants the effect that a body wants after these answers, and where that is answered, it stands where they led
+abbrev pub StandsAfter : Deployment → ℕ → Value → List Answer → Machine → Type 0
+StandsAfter d func args answers m = (m.effect ≡ wants d func args false answers) × (IsTrue (wants_answer m.effect) → IsAt d func args false m answers)
+
+-- .. after the answers of an instance
+abbrev pub StandsFor : Deployment → Instance → Machine → Type 0
+StandsFor d q m = StandsAfter d q.func q.args q.answers m
+
+-- .. that has not returned
+abbrev pub StandsForOne : Deployment → Option Instance → Machine → Type 0
+StandsForOne d None m = ⊥
+StandsForOne d (Some q) m = (q.outcome ≡ None) × StandsFor d q m
+
+-- each machine that is kept stands for the instance of its id, and that has not returned
+abbrev pub AllStand : Deployment → FinMap id_cmp Instance → FinMap id_cmp Machine → Type 0
+AllStand d made machines = (id : IntentId) (m : Machine) → map.get machines id ≡ Some m → StandsForOne d (map.get made id) m
+
+-- the machine of this id is kept, or none is
+abbrev pub IsKept : FinMap id_cmp Machine → FinMap id_cmp Machine → IntentId → Machine → Type 0
+IsKept a b id m = (b ≡ map.remove a id) ⊎ (b ≡ map.insert a id m)
+
+-- the machine of this id goes on from an answer; where there is none, it is not kept
+abbrev pub GoesOn : Deployment → FinMap id_cmp Machine → FinMap id_cmp Machine → IntentId → Machine → Option Answer → Type 0
+GoesOn d a b id m None = b ≡ map.remove a id
+GoesOn d a b id m (Some x) = IsKept a b id (resumed d m x)
+
+-- ---- what an effect does, part by part
+
+-- the answer to an effect, where it has one and is carried out
+abbrev pub answer_by : FinMap item_cmp Value → Instance → Effect → Option Answer
+answer_by items q (effect.Read t k) = Some (answer.Value (or_null (map.get items (item_of q t k))))
+answer_by items q (effect.Write t k v) = Some answer.Done
+answer_by items q e = None
+
+-- the instance that made it
+abbrev pub instance_by : FinMap item_cmp Value → Instance → Effect → Instance
+instance_by items q (effect.Read t k) = answered q (answer.Value (or_null (map.get items (item_of q t k))))
+instance_by items q (effect.Write t k v) = answered q answer.Done
+instance_by items q (effect.Return o) = record q { outcome = Some o }
+instance_by items q e = q
+
+-- the items
+abbrev pub items_by : FinMap item_cmp Value → Instance → Effect → FinMap item_cmp Value
+items_by items q (effect.Write t k v) = set_item items (item_of q t k) v
+items_by items q e = items
+
+-- an instance makes an effect: Ok with its answer; at want of memory nothing changed
+abbrev pub Acted : FinMap item_cmp Value → FinMap item_cmp Value → Instance → Instance → Effect → Result (Option Answer) AllocError → Type 0
+Acted old new q r e (Ok o) = (new ≡ items_by old q e) × (r ≡ instance_by old q e) × (o ≡ answer_by old q e)
+Acted old new q r e (Err w) = (new ≡ old) × (r ≡ q)
+
+-- .. among all instances
+abbrev pub ActedAt : FinMap item_cmp Value → FinMap item_cmp Value → FinMap id_cmp Instance → FinMap id_cmp Instance → IntentId → Instance → Effect → Result (Option Answer) AllocError → Type 0
+ActedAt old new a b id q e (Ok o) = (new ≡ items_by old q e) × (b ≡ map.insert a id (instance_by old q e)) × (o ≡ answer_by old q e)
+ActedAt old new a b id q e (Err w) = (new ≡ old) × (b ≡ a)
+
+-- .. and of the whole state: Ok with the state after the step
+abbrev pub Made : PlainState → PlainState → IntentId → Instance → Effect → Result (Option Answer) AllocError → Type 0
+Made p r id q e (Ok o) = (r ≡ step_by p id q e) × (o ≡ answer_by p.items q e)
+Made p r id q e (Err w) = r ≡ p
