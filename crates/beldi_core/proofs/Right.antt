@@ -22,7 +22,7 @@ use Rattle.beldi_step.specs.Host.{Core, first_core, Stepped}
 use Rattle.beldi_step.specs.Forms.{EventOn}
 use Rattle.beldi_step.proofs.Forms.{over_rows}
 use Rattle.beldi_step.specs.Tables.{tables_text}
-use Rattle.beldi_laws.specs.Right.{Right, RootMatches, BodyMatches, FitsAt}
+use Rattle.beldi_laws.specs.Right.{Right, IntentMatches, BodyMatches}
 use Rattle.beldi_laws.proofs.Events.{begins, after_event, after_break}
 use Rattle.beldi_laws.proofs.Standing.{same_run, right_stands}
 use Rattle.beldi_laws.proofs.Listing.{listing_plain}
@@ -135,7 +135,7 @@ module _ (d : Deployment) (c : Core) (m : Rows) (h : Right d c m) (t : ℕ) wher
   no_reply none p is = subst (λ (q : PlainState). reply_of q t ≡ None) (same_run d c m p h is) none
 
   absent : map.get m (root_key t) ≡ None → HasNoReply d c.book t
-  absent is = no_reply (ap outcome_of (subst (λ (r : Option Row). RootMatches r (map.get h.plain.made (root_of t))) is (h.rows.roots t)))
+  absent is = no_reply (ap outcome_of (subst (λ (r : Option Row). IntentMatches true r (map.get h.plain.made (root_of t))) is (h.rows.keys (root_key t))))
 
   by_body : (b : Option Body) (o : Option Outcome) → (b ≡ None → o ≡ None) → BodyMatches b o (map.get h.plain.made (root_of t)) → SaidOf d c.book t (outcome_seen o)
   by_body None None bare root = no_reply (ap outcome_of root)
@@ -143,14 +143,14 @@ module _ (d : Deployment) (c : Core) (m : Rows) (h : Right d c m) (t : ℕ) wher
   by_body (Some b) None bare root = no_reply (ap outcome_of root.made ∙ root.outcome)
   by_body (Some b) (Some o) bare root = record { run = h.plain; legal = h.legal; reply = ap outcome_of root.made ∙ root.outcome }
 
-  by_row : (r : Option Row) → is_some r ≡ true → FitsAt (root_key t) r → RootMatches r (map.get h.plain.made (root_of t)) → SaidOf d c.book t (row_seen r)
-  by_row None there fits root = cc
-  by_row (Some (Intent i)) there fits root = by_body i.body i.outcome fits.bare root
-  by_row (Some r) there fits root = absurd root
+  by_row : (r : Option Row) → is_some r ≡ true → IntentMatches true r (map.get h.plain.made (root_of t)) → SaidOf d c.book t (row_seen r)
+  by_row None there root = cc
+  by_row (Some (Intent i)) there root = by_body i.body i.outcome root.bare root.body
+  by_row (Some r) there root = absurd root
 
   by_ticket : (b : Bool) → is_unknown c.newest t ≡ b → SaidOf d c.book t (if b then Unknown else row_seen (map.get m (root_key t)))
   by_ticket true is = absent (not_there (map.get m (root_key t)) (h.tickets t ∙ not_issued_if t c.newest is))
-  by_ticket false is = by_row (map.get m (root_key t)) (h.tickets t ∙ issued_if t c.newest is) (h.rows.one_row (root_key t)) (h.rows.roots t)
+  by_ticket false is = by_row (map.get m (root_key t)) (h.tickets t ∙ issued_if t c.newest is) (h.rows.keys (root_key t))
 
   pub said_of : SaidOf d c.book t (reply_seen c.newest t m)
   said_of = by_ticket (is_unknown c.newest t) refl

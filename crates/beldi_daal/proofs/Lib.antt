@@ -1,1 +1,1 @@
-mod Logged
+pub mod Logged

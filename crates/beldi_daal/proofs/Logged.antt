@@ -16,7 +16,7 @@ use Rattle.beldi_row.specs.declared.act.Act.TheVariants.{Look, MakeCell, WriteCe
 use Rattle.beldi_row.specs.declared.table.TableErr.{TableErr}
 use Rattle.beldi_row.specs.declared.table.TableErr.TheVariants.{OutOfMemory, Failed, Full}
 use Rattle.beldi_row.specs.Act.{Tell, act, did, other_owner, noted_or, next_or, held_or, wrote}
-use Rattle.beldi_row.specs.Log.{note_at, NoneTwice}
+use Rattle.beldi_row.specs.Log.{note_at}
 use Rattle.beldi_row.specs.Table.{Rows, after_act}
 use Rattle.beldi_row.proofs.Gets.{got, key_self}
 use Rattle.beldi_row.proofs.Logs.{note_here, once_pushed}
@@ -44,29 +44,29 @@ module _ (p : Place) (v : Value) where
   abbrev who : Owner
   who = owner.Intent p.intent
 
-  module _ (c : Cell) (last : c.next ≡ None) (once : NoneTwice c.log) where
+  module _ (c : Cell) (sound : SoundAt (Some (rows.Cell c))) where
     abbrev OnCell : Cell × Tell → Type 0
     OnCell z = Fits p (Write v) (Some (rows.Cell c)) (Some (rows.Cell z.0), z.1)
 
     by_owner : (o : Option Owner) → other_owner who c.owner ≡ o → note_at c.log p ≡ None → OnCell (held_or c o (wrote p v c, did))
-    by_owner None free none = ((note_here c.log p Wrote none, (none, free, refl)), (last, once_pushed c.log p Wrote none once))
-    by_owner (Some o) free none = ((none, free, refl), (last, once))
+    by_owner None free none = ((note_here c.log p Wrote none, (none, free, refl)), (sound.0, once_pushed c.log p Wrote none sound.1, sound.2, sound.3))
+    by_owner (Some o) free none = ((none, free, refl), sound)
 
     by_next : (n : Option ℕ) → c.next ≡ n → note_at c.log p ≡ None → OnCell (next_or c n (held_or c (other_owner who c.owner) (wrote p v c, did)))
     by_next None is none = by_owner (other_owner who c.owner) refl none
-    by_next (Some n) is none = let clash = sym is ∙ last in cc
+    by_next (Some n) is none = let clash = sym is ∙ sound.0 in cc
 
     by_note : (n : Option Note) → note_at c.log p ≡ n → OnCell (noted_or c n (next_or c c.next (held_or c (other_owner who c.owner) (wrote p v c, did))))
     by_note None none = by_next c.next refl none
-    by_note (Some n) some = ((some, refl), (last, once))
+    by_note (Some n) some = ((some, refl), sound)
 
   tried : (now : ℕ) (r : Option Row) → SoundAt r → Fits p (Write v) r (act (WriteCell p who v) now r)
   tried now None h = (refl, tt)
-  tried now (Some (rows.Cell c)) h = by_note c h.0 h.1 (note_at c.log p) refl
+  tried now (Some (rows.Cell c)) h = by_note c h (note_at c.log p) refl
   tried now (Some r) h = absurd h
 
   made : (now : ℕ) (r : Option Row) → SoundAt r → Fits p (Write v) r (act (MakeCell Null None) now r)
-  made now None h = (refl, (refl, tt))
+  made now None h = (refl, (refl, tt, refl, refl))
   made now (Some (rows.Cell c)) h = (refl, h)
   made now (Some r) h = absurd h
 
@@ -83,7 +83,7 @@ module _ (w : WriteWalk) (m n : Rows) (sound : SoundAt (map.get m (walk_key w)))
         sound = subst SoundAt (sym here) fits.1;
       }
 
-  by_op : (at : WriteAt) (op : CellOp) → op ≡ w.op → (now : ℕ) → n ≡ rows_after (op_asks (walk_key w) w.place at op) now m
+  pub by_op : (at : WriteAt) (op : CellOp) → op ≡ w.op → (now : ℕ) → n ≡ rows_after (op_asks (walk_key w) w.place at op) now m
       → LoggedTurn w m n (walk_so (write_goes (told_by (op_asks (walk_key w) w.place at op) now m)))
   by_op Try (Write v) op now is = by_act (WriteCell w.place (owner.Intent w.place.intent) v) now is (subst (λ o. Fits w.place o (map.get m (walk_key w)) (act (WriteCell w.place (owner.Intent w.place.intent) v) now (map.get m (walk_key w)))) op (tried w.place v now (map.get m (walk_key w)) sound))
   by_op Make (Write v) op now is = by_act (MakeCell Null None) now is (subst (λ o. Fits w.place o (map.get m (walk_key w)) (act (MakeCell Null None) now (map.get m (walk_key w)))) op (made w.place v now (map.get m (walk_key w)) sound))
@@ -103,7 +103,7 @@ module _ (w : ReadWalk) where
   by_last c None is last = by_way c (in_the_way w.who c.owner) refl
   by_last c (Some n) is last = let clash = sym is ∙ last in cc
 
-  by_row : (now : ℕ) (r : Option Row) → SoundAt r → ReadsContent w.who (read_says w (said (act Look now r).1)) (content_in r)
+  pub by_row : (now : ℕ) (r : Option Row) → SoundAt r → ReadsContent w.who (read_says w (said (act Look now r).1)) (content_in r)
   by_row now None h = refl
   by_row now (Some (rows.Cell c)) h = by_last c c.next refl h.0
   by_row now (Some r) h = absurd h

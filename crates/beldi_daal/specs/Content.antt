@@ -1,5 +1,5 @@
 -- What the rows of an item hold.
-use Rattle.std.specs.Prelude.{◌≡◌, List, [], Option, Some, None}
+use Rattle.std.specs.Prelude.{◌≡◌, false, List, [], Option, Some, None}
 use Rattle.beldi_value.specs.declared.place.Owner.{Owner}
 use Rattle.beldi_value.specs.declared.place.Place.{Place}
 use Rattle.beldi_value.specs.declared.value.Value.{Value}
@@ -20,8 +20,9 @@ abbrev pub content_in : Option Row → Content
 content_in (Some (rows.Cell c)) = record { value = c.value; owner = c.owner; notes = c.log }
 content_in r = record { value = Null; owner = None; notes = [] }
 
--- the rows of an item are one cell that no row follows, and no place occurs twice in it; or there is none
+-- the rows of an item are one cell that no row follows, in which no place occurs twice, and which is not to be removed; or
+-- there is none
 abbrev pub SoundAt : Option Row → Type 0
 SoundAt None = Unit {0}
-SoundAt (Some (rows.Cell c)) = (c.next ≡ None) × NoneTwice c.log
+SoundAt (Some (rows.Cell c)) = (c.next ≡ None) × NoneTwice c.log × (c.marked ≡ false) × (c.dangled ≡ None)
 SoundAt (Some r) = ⊥

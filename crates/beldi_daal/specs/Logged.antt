@@ -3,10 +3,13 @@
 use Rattle.std.specs.Prelude.{◌≡◌, ℕ, Bool, true, false, [], ◌∷◌, ◌++◌, Option, Some, None, Result, Ok, Err}
 use Rattle.std.specs.FinMap as map
 use Rattle.std.specs.Ordering.{is_eq}
+use Rattle.beldi_value.specs.declared.id.IntentId.{IntentId}
 use Rattle.beldi_value.specs.declared.place.Owner.{Owner}
 use Rattle.beldi_value.specs.declared.place.Owner.TheVariants as owner
 use Rattle.beldi_value.specs.declared.place.Place.{Place}
+use Rattle.beldi_value.specs.declared.value.Value.{Value}
 use Rattle.beldi_row.specs.declared.key.RowKey.{RowKey}
+use Rattle.beldi_row.specs.declared.notes.Note.{Note}
 use Rattle.beldi_row.specs.declared.notes.Note.TheVariants.{Wrote}
 use Rattle.beldi_row.specs.Act.{other_owner}
 use Rattle.beldi_row.specs.Key.{key_cmp}
@@ -29,9 +32,20 @@ use Rattle.beldi_daal.specs.ReadWalk.{read_key, read_asks, read_next, read_says}
 use Rattle.beldi_daal.specs.Walk.{walk_key, walk_asks, walk_next, walk_says}
 
 -- ---- the walk of a write
+-- what an operation makes of the value, and of the owner where this intent asked; and the note that it leaves, by the value
+-- that was there. A new operation is a line in each.
+abbrev pub value_after : CellOp → Value → Value
+value_after (Write v) w = v
+
+abbrev pub owner_after : CellOp → IntentId → Option Owner → Option Owner
+owner_after (Write v) id o = o
+
+abbrev pub note_after : CellOp → Value → Note
+note_after (Write v) w = Wrote
+
 -- the content after an operation for a place
 abbrev pub done_to : Place → CellOp → Content → Content
-done_to p (Write v) c = record { value = v; owner = c.owner; notes = c.notes ++ (p, Wrote) ∷ [] }
+done_to p op c = record { value = value_after op c.value; owner = owner_after op p.intent c.owner; notes = c.notes ++ (p, note_after op c.value) ∷ [] }
 
 -- what a turn did that says `Done`. With `first` the place had no note, no other owned the item, and the operation was done;
 -- without, nothing was done

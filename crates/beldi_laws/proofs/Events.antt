@@ -7,7 +7,11 @@ use Rattle.std.specs.Ordering.{is_eq, nat_cmp}
 use borrow.Author.Tests.{leb-true, leb-false, le-leb, lt-leb, lt-ltb}
 use Rattle.std.proofs.lemmas.Cmp.{tied_itself}
 use Rattle.std.proofs.lemmas.Bool.Decides.{nat_tests}
-use Rattle.beldi_value.specs.Id.{id_cmp, id_total, root_of}
+use Rattle.std.proofs.Math.Bool.{and-false}
+use Rattle.std.proofs.lemmas.Bool.{or_parts}
+use Rattle.beldi_value.specs.Id.{id_cmp, id_total, root_of, has_no_hops}
+use Rattle.beldi_value.specs.declared.place.Owner.{Owner}
+use Rattle.beldi_value.specs.declared.place.Owner.TheVariants as owner
 use Rattle.beldi_value.specs.Same.{same_value}
 use Rattle.beldi_value.specs.declared.outcome.Outcome.{Outcome}
 use Rattle.beldi_value.specs.declared.value.Value.{Value}
@@ -16,9 +20,11 @@ use Rattle.beldi_lang.specs.declared.effect.Effect.{Effect}
 use Rattle.beldi_lang.specs.declared.effect.Effect.TheVariants.{Read, Write, Return}
 use Rattle.beldi_book.specs.declared.entry.Entry.TheVariants.{Start}
 use Rattle.beldi_row.specs.Key.{key_cmp}
-use Rattle.beldi_row.specs.Log.{note_at}
+use Rattle.beldi_row.specs.declared.key.Kind.{Kind}
+use Rattle.beldi_row.specs.declared.key.Kind.TheVariants as kinds
 use Rattle.beldi_tree.specs.Bindings.{or_null}
-use Rattle.beldi_plain.specs.Item.{item_cmp}
+use Rattle.beldi_plain.specs.Item.{Item, item_cmp}
+use Rattle.beldi_plain.specs.Operation.{write, holds, holds_as}
 use Rattle.beldi_row.specs.declared.row.Body.{Body}
 use Rattle.beldi_row.specs.declared.row.IntentRow.{IntentRow}
 use Rattle.beldi_row.specs.declared.row.Row.{Row}
@@ -39,25 +45,26 @@ use Rattle.beldi_value.specs.declared.id.IntentId.{IntentId}
 use Rattle.beldi_walk.specs.declared.query.Query.{Query}
 use Rattle.beldi_walk.specs.Query.{rows_after, told_by}
 use Rattle.beldi_step.specs.Intent.{intent_key, root_key, is_added, binding_of}
-use Rattle.beldi_step.specs.Run.{over, turned_by, stage_asks, stage_says, asks_at, told_at, run_asks, run_told}
+use Rattle.beldi_step.specs.Run.{over, turned_by, write_says, stage_asks, stage_says, asks_at, told_at, run_asks, run_told}
 use Rattle.beldi_step.specs.Host.{Core, Plan, at_once, asks, first_core, most_runs, new_run, restarted, ended_run, marked, ticket_next, bound_next, request_next, turn_next, run_next, unheard_next, plan_of, counted, plan, heard}
 use Rattle.beldi_step.proofs.Plans.{PlanHolds, AskHolds, plan_of_holds, plan_holds}
 use Rattle.beldi_step.specs.Forms.{is_lost, dropped, Made, Acts, Asks, Follows, IsOneEvent, Breaks}
-use Rattle.beldi_laws.specs.Stands.{head_key, effect_before}
+use Rattle.beldi_order.specs.Sane.{effect_before}
+use Rattle.beldi_laws.specs.Stands.{head_key}
 use Rattle.beldi_daal.specs.Content.{content_in}
-use Rattle.beldi_laws.specs.Right.{Right, RootMatches, BodyMatches, IntentFits, FitsAt, Knows, KnowsAt, RunAt, StageOk, PlaceOk, SaneAt, SaneInstance, owed_by, owed_value, value_if}
+use Rattle.beldi_daal.specs.declared.walk.CellOp.TheVariants as cell
+use Rattle.beldi_laws.specs.Right.{Right, ItemMatches, RowMatches, IntentMatches, IsRootRow, BodyMatches, Knows, KnowsAt, RunAt, StageOk, PlaceOk, is_owner, owed_by, owed_value, value_if}
 use Rattle.beldi_laws.specs.Laws.{told_outcome, is_gone, HasReply}
-use Rattle.beldi_laws.proofs.Rows.{root_in_roots}
+use Rattle.beldi_row.proofs.Gets.{got}
 use Rattle.beldi_row.proofs.Unchanged.{unchanged, looked}
-use Rattle.std.specs.Option.{option_map}
 use Rattle.beldi_book.specs.Order.{count_changes}
-use Rattle.beldi_readlog.specs.ReadLog.{log_key, given_in}
-use Rattle.beldi_order.proofs.Entries.{same_some, new_instance, made_set, grows_self}
+use Rattle.beldi_order.proofs.Entries.{same_some, new_instance, grows_self}
 use Rattle.beldi_laws.proofs.Lives.{runs_more, runs_less, remove_put}
-use Rattle.beldi_laws.proofs.Steps.{root_set, roots_kept, roots_moved, id_same}
+use Rattle.beldi_order.proofs.Operations.{id_same}
+use Rattle.beldi_laws.proofs.Steps.{OwesSame, row_set, root_moved}
 use Rattle.beldi_laws.proofs.Moves.{After, AfterTurn, AfterQuery, AfterAct, replaced, change_entered}
 use Rattle.beldi_laws.proofs.Turns.{begin_turn, close_turn, ends}
-use Rattle.beldi_laws.proofs.Writes.{write_turn}
+use Rattle.beldi_laws.proofs.Operations.{write_is, operation_turn}
 use Rattle.beldi_laws.proofs.Readings.{ask_turn, walk_turn, keep_turn}
 
 -- it tells no outcome, nor that a row is absent
@@ -70,17 +77,17 @@ as_before d c m x nothing h = record { right = h; goes_on = grows_self h.plain.m
 
 -- ---- a run that ends
 abbrev without : (d : Deployment) (c : Core) (m : Rows) (i : ℕ) → Right d c m → Right d (ended_run c i) m
-without d c m i h = record { plain = h.plain; bounded = h.bounded; legal = h.legal; sane = h.sane; rows = h.rows; tickets = h.tickets; runs = runs_less d c.book h.plain c.runs c.last_run i h.runs }
+without d c m i h = record { plain = h.plain; bounded = h.bounded; legal = h.legal; rows = h.rows; tickets = h.tickets; runs = runs_less d c.book h.plain c.runs c.last_run i h.runs }
 
 -- ---- a turn
 module _ (d : Deployment) (c : Core) (m : Rows) (i : ℕ) (h : Right d c m) (r : Run) (live : map.get c.runs i ≡ Some r) where
   stage_turn : (g : Begun) (k : Knows d c.book h.plain r g) (e : Effect) (s : Stage) → g.machine.effect ≡ e → StageOk e s → PlaceOk d c.book r.id r.func k.answers k.later e s
       → AfterQuery d h.plain c.now m (λ t. turn_next c i r.id (turned_by d r g (stage_says r.id (count_changes c.book) e s t))) (stage_asks r.id r.func g.machine.steps e s)
   stage_turn g k (Read t key) stage.Ask is ok at = ask_turn d c m i r g h live k t key is
-  stage_turn g k (Read t key) stage.Walk is ok at = let head = head_key (record { func = r.func; table = t; key = key }) in walk_turn d c m i r g h live k t key is (map.get m head) refl (h.rows.one_row head)
+  stage_turn g k (Read t key) stage.Walk is ok at = walk_turn d c m i r g h live k t key is
   stage_turn g k (Read t key) (stage.Keep v seen) is ok at = keep_turn d c m i r g h live k t key is v seen at
-  stage_turn g k (Write t key v) (stage.Write w) is ok at = write_turn d c m i r g h live k t key v is w
-  stage_turn g k (Return o) stage.Close is ok at = close_turn d c m i r g h live k o is (map.get m (intent_key r.id r.func)) refl (h.rows.one_row (intent_key r.id r.func))
+  stage_turn g k (Write t key v) (stage.Write w) is ok at = operation_turn d c m i r g h live k (Write t key v) (record { table = t; key = key; does = write v }) (cell.Write v) write_says (write_is t key v) is w
+  stage_turn g k (Return o) stage.Close is ok at = close_turn d c m i r g h live k o is
   stage_turn g k e stage.Unbuilt is ok at = subst (AfterTurn d h.plain c i r.id over) (sym (looked c.now (intent_key r.id r.func) m)) (ends d c m i r g h live k e is)
   stage_turn g k e s is ok at = absurd ok
 
@@ -100,7 +107,7 @@ module _ (d : Deployment) (c : Core) (m : Rows) (i : ℕ) (h : Right d c m) (r :
 
 -- ---- a run more
 abbrev with_run : (d : Deployment) (c : Core) (m : Rows) (id : IntentId) (f : ℕ) → map.len c.runs < most_runs → Right d c m → Right d (restarted c id f) m
-with_run d c m id f few h = record { plain = h.plain; bounded = h.bounded; legal = h.legal; sane = h.sane; rows = h.rows; tickets = h.tickets; runs = runs_more d c.book h.plain c.runs c.last_run (new_run id f) few tt h.runs }
+with_run d c m id f few h = record { plain = h.plain; bounded = h.bounded; legal = h.legal; rows = h.rows; tickets = h.tickets; runs = runs_more d c.book h.plain c.runs c.last_run (new_run id f) few tt h.runs }
 
 -- ---- a ticket
 roots_apart : (t u : ℕ) → is_eq (id_cmp (root_of t) (root_of u)) ≡ false → t ≡ u → ⊥
@@ -116,12 +123,8 @@ next_ticket false t n e x is = is ∙ ap (λ a. nat_lt 0 t && a) (by_size (nat_l
     by_size true a = sym (le-leb t (n + 1) (omega (arith, leb-true t n a)))
     by_size false a = sym (lt-leb t (n + 1) (omega (arith, leb-false t n a, roots_apart t (n + 1) e)))
 
-and_false : (b : Bool) → (b && false) ≡ false
-and_false true = refl
-and_false false = refl
-
 not_issued : (n : ℕ) → (nat_lt 0 (n + 1) && nat_le (n + 1) n) ≡ false
-not_issued n = ap (λ b. nat_lt 0 (n + 1) && b) (lt-leb (n + 1) n (omega arith)) ∙ and_false (nat_lt 0 (n + 1))
+not_issued n = ap (λ b. nat_lt 0 (n + 1) && b) (lt-leb (n + 1) n (omega arith)) ∙ and-false (nat_lt 0 (n + 1))
 
 is_issued : (t n : ℕ) → ((t == 0) || nat_lt n t) ≡ false → (nat_lt 0 t && nat_le t n) ≡ true
 is_issued t n h = grind (arith, nat_tests)
@@ -132,15 +135,14 @@ module _ (d : Deployment) (c : Core) (m : Rows) (h : Right d c m) where
   issued is =
       let t = c.newest + 1 in
       let i : IntentRow = record { issued = c.now; body = None; outcome = None; finish = None } in
-      let not_made : map.get h.plain.made (root_of t) ≡ None = subst (λ r. RootMatches r (map.get h.plain.made (root_of t))) is (h.rows.roots t) in
+      let not_made : map.get h.plain.made (root_of t) ≡ None = subst (λ r. IntentMatches true r (map.get h.plain.made (root_of t))) is (h.rows.keys (root_key t)) in
       subst (λ (w : Option Row × Tell). After d h.plain (record c { newest = c.newest + 1 }) (set_row m (root_key t) w.0) (seen.Issued t)) (ap (act Issue c.now) (sym is)) (record {
         right = record {
           plain = h.plain;
           bounded = h.bounded;
           legal = h.legal;
-          sane = h.sane;
-          rows = root_set d m h.plain h.plain t i (record { root = refl; home_is = refl; bare = λ e. refl; finishes = refl }) refl (λ x a. refl) (λ f a. refl) (roots_kept m h.plain.made t i not_made h.rows.roots) h.rows;
-          tickets = λ u. ap is_some (root_in_roots m t u (Some (rows.Intent i))) ∙ some_if (is_eq (id_cmp (root_of u) (root_of t))) (map.get m (root_key u)) ∙ next_ticket (is_eq (id_cmp (root_of u) (root_of t))) u c.newest refl (is_some (map.get m (root_key u))) (h.tickets u);
+          rows = row_set d m h.plain h.plain (root_key t) (Some (rows.Intent i)) refl (record { bare = λ e. refl; finishes = refl; body = not_made }) (λ l other g. g) (λ x k g. g) h.rows;
+          tickets = λ u. ap is_some (got m (root_key t) (root_key u) (Some (rows.Intent i))) ∙ some_if (is_eq (id_cmp (root_of u) (root_of t))) (map.get m (root_key u)) ∙ next_ticket (is_eq (id_cmp (root_of u) (root_of t))) u c.newest refl (is_some (map.get m (root_key u))) (h.tickets u);
           runs = h.runs;
         };
         goes_on = grows_self h.plain.made;
@@ -169,13 +171,6 @@ new_owes d u n f a = by_test (f == u)
     by_test true = refl
     by_test false = refl
 
-new_sane : (d : Deployment) (f : ℕ) (a : Value) → SaneInstance d (new_instance f a)
-new_sane d f a = record { past = λ n b e. cc; over = λ o e. cc }
-
-first_false : (a b : Bool) → (a || b) ≡ false → a ≡ false
-first_false true b e = cc
-first_false false b e = refl
-
 module _ (d : Deployment) (c : Core) (m : Rows) (h : Right d c m) (t f : ℕ) (a : Value) (known : ((t == 0) || nat_lt c.newest t) ≡ false) (room : map.len c.runs < most_runs) where
   abbrev bound_row : IntentRow → IntentRow
   bound_row i = record i { body = Some (record { func = f; args = a; tx = None; from = None }) }
@@ -183,21 +178,17 @@ module _ (d : Deployment) (c : Core) (m : Rows) (h : Right d c m) (t f : ℕ) (a
   abbrev state : PlainState
   state = with_instance h.plain (root_of t) (new_instance f a)
 
-  request_bound : (i : IntentRow) → map.get m (root_key t) ≡ Some (rows.Intent i) → IntentFits 0 (root_of t) i → i.body ≡ None → map.get h.plain.made (root_of t) ≡ None
+  request_bound : (i : IntentRow) → map.get m (root_key t) ≡ Some (rows.Intent i) → IsRootRow i (map.get h.plain.made (root_of t)) → i.body ≡ None → map.get h.plain.made (root_of t) ≡ None
       → After d h.plain (bound_next c t f a).0 (set_row m (root_key t) (Some (rows.Intent (bound_row i)))) (bound_next c t f a).1
   request_bound i is fits bare not_made =
-      let leads = change_entered d c m h (Start t f a) state refl (start_is h.plain t f a (map.get h.plain.made (root_of t)) (first_false (t == 0) (nat_lt c.newest t) known) not_made) in
+      let leads = change_entered d c m h (Start t f a) state refl (start_is h.plain t f a (map.get h.plain.made (root_of t)) (or_parts (t == 0) (nat_lt c.newest t) known).0 not_made) in
       record {
         right = record {
           plain = state;
           bounded = leads.bounded;
           legal = leads.legal;
-          sane = made_set h.plain.made (root_of t) (new_instance f a) (λ id s. SaneAt d s) (new_sane d f a) h.sane;
-          rows = root_set d m h.plain state t (bound_row i) (record { root = refl; home_is = refl; bare = λ e. cc; finishes = fits.finishes }) refl
-              (λ x b. made_set h.plain.made (root_of t) (new_instance f a) (λ id s. owed_by d x b.step s ≡ owed_by d x b.step (map.get h.plain.made id)) (ap (owed_by d x b.step) (sym not_made)) (λ id. refl) b.intent)
-              (λ u b. made_set h.plain.made (root_of t) (new_instance f a) (λ id s. owed_value d u b.step s ≡ owed_value d u b.step (map.get h.plain.made id)) (new_owes d u b.step f a ∙ ap (owed_value d u b.step) (sym not_made)) (λ id. refl) b.intent)
-              (roots_moved m h.plain.made t (bound_row i) (new_instance f a)
-              (record { instance = new_instance f a; made = refl; func = refl; args = refl; outcome = sym (fits.bare bare); no_tx = refl; no_caller = refl }) h.rows.roots)
+          rows = root_moved d h.plain (root_of t) (new_instance f a) (subst (λ o. OwesSame d o (new_instance f a)) (sym not_made) (record { notes = λ x n. refl; holds = λ x. refl; values = λ u n. new_owes d u n f a })) m (bound_row i) refl
+              (record { bare = λ e. cc; finishes = fits.finishes; body = record { instance = new_instance f a; made = refl; func = refl; args = refl; outcome = sym (fits.bare bare); no_tx = refl; no_caller = refl } })
               h.rows;
           tickets = λ u. replaced m (root_key t) (Some (rows.Intent (bound_row i))) (ap is_some (sym is)) u ∙ h.tickets u;
           runs = runs_more d (c.book ++ Start t f a ∷ []) state c.runs c.last_run (new_run (root_of t) f) room tt leads.runs;
@@ -220,21 +211,20 @@ module _ (d : Deployment) (c : Core) (m : Rows) (h : Right d c m) (t f : ℕ) (a
   told_same b o true is v e = told_running o is v e
   told_same b o false is v e = answer_kept v (seen.Other t b.func b.args) e refl (λ u o told. cc)
 
-  request_by : (i : IntentRow) (b : Option Body) → i.body ≡ b → map.get m (root_key t) ≡ Some (rows.Intent i) → IntentFits 0 (root_of t) i → BodyMatches b i.outcome (map.get h.plain.made (root_of t))
+  request_by : (i : IntentRow) (b : Option Body) → i.body ≡ b → map.get m (root_key t) ≡ Some (rows.Intent i) → IsRootRow i (map.get h.plain.made (root_of t)) → BodyMatches b i.outcome (map.get h.plain.made (root_of t))
       → AfterAct d h.plain m (root_key t) (λ u. request_next c t f a (binding_of u)) (Some (rows.Intent (bind_to f a i b).0), (bind_to f a i b).1)
   request_by i None bare is fits root = request_bound i is fits bare root
   request_by i (Some b) has is fits root = told_same b i.outcome ((b.func == f) && same_value b.args a) (ap outcome_of root.made ∙ root.outcome) (Some (rows.Intent i)) (sym is)
 
-  request_row : (r : Option Row) → map.get m (root_key t) ≡ r → FitsAt (root_key t) r → RootMatches r (map.get h.plain.made (root_of t))
-      → AfterAct d h.plain m (root_key t) (λ u. request_next c t f a (binding_of u)) (act (Bind f a) c.now r)
-  request_row None is fits root = let clash : false ≡ true = sym (ap is_some is) ∙ h.tickets t ∙ is_issued t c.newest known in cc
-  request_row (Some (rows.Intent i)) is fits root = request_by i i.body refl is fits root
-  request_row (Some r) is fits root = absurd fits
+  request_row : (r : Option Row) → map.get m (root_key t) ≡ r → IntentMatches true r (map.get h.plain.made (root_of t)) → AfterAct d h.plain m (root_key t) (λ u. request_next c t f a (binding_of u)) (act (Bind f a) c.now r)
+  request_row None is root = let clash : false ≡ true = sym (ap is_some is) ∙ h.tickets t ∙ is_issued t c.newest known in cc
+  request_row (Some (rows.Intent i)) is root = request_by i i.body refl is root root.body
+  request_row (Some r) is root = absurd root
 
 -- ---- every event
 -- the host that took the event is as right as before
 abbrev taken : (d : Deployment) (c : Core) (m : Rows) → Right d c m → Right d (counted c) m
-taken d c m h = record { plain = h.plain; bounded = h.bounded; legal = h.legal; sane = h.sane; rows = h.rows; tickets = h.tickets; runs = h.runs }
+taken d c m h = record { plain = h.plain; bounded = h.bounded; legal = h.legal; rows = h.rows; tickets = h.tickets; runs = h.runs }
 
 module _ (d : Deployment) (m : Rows) (p : PlainState) (e : Event) (c : Core) where
   -- the host after an event that was counted, if it is answered at once
@@ -247,7 +237,7 @@ module _ (d : Deployment) (m : Rows) (p : PlainState) (e : Event) (c : Core) whe
 
 right_asked : (d : Deployment) (e : Event) (c : Core) (m : Rows) (h : Right d c m) → AskHolds (RightAtOnce d m h.plain e c) (RightAsked d m h.plain e c) e c
 right_asked d Ticket c m h = ticket_by d c m h (map.get m (root_key (c.newest + 1))) refl
-right_asked d (Request t f a) c m h = λ known few. request_row d c m h t f a known few (map.get m (root_key t)) refl (h.rows.one_row (root_key t)) (h.rows.roots t)
+right_asked d (Request t f a) c m h = λ known few. request_row d c m h t f a known few (map.get m (root_key t)) refl (h.rows.keys (root_key t))
 right_asked d (Turn i) c m h = λ r live. subst (λ o. AfterQuery d h.plain c.now m (λ t. run_next d c i t o) (run_asks r)) (sym live) (turn_made d c m i h r live)
 right_asked d (Lost i) c m h = λ r live. subst (λ o. AfterQuery d h.plain c.now m (λ t. (unheard_next d c i t o, seen.Dropped)) (run_asks r)) (sym live) (turn_unheard d c m i h r live)
 right_asked d e c m h = tt
@@ -311,21 +301,35 @@ after_break d e c b m n h s = so_left d h.plain (dropped e (counted c)) b m n se
 -- ---- a host that nothing has happened to
 no_ticket : (t : ℕ) → (nat_lt 0 t && nat_le t 0) ≡ false
 no_ticket zero = refl
-no_ticket (suc t) = ap (λ b. nat_lt 0 (suc t) && b) (lt-leb (suc t) 0 (omega arith)) ∙ and_false (nat_lt 0 (suc t))
+no_ticket (suc t) = ap (λ b. nat_lt 0 (suc t) && b) (lt-leb (suc t) 0 (omega arith)) ∙ and-false (nat_lt 0 (suc t))
+
+no_row : (d : Deployment) (home : ℕ) (k : Kind) → RowMatches d nothing home k None
+no_row d home (kinds.Intent id) = by_home ((home == 0) && has_no_hops id.hops)
+  where
+    by_home : (b : Bool) → IntentMatches b None (map.get nothing.made id)
+    by_home true = get-empty id_cmp id
+    by_home false = refl
+no_row d home (kinds.ReadLog a) = ap (owed_value d home a.step) (get-empty id_cmp a.intent)
+no_row d home (kinds.Data t k zero) = tt
+no_row d home (kinds.Data t k (suc n)) = refl
+no_row d home k = refl
+
+no_holder : (d : Deployment) (x : Item) (o : Owner) → is_owner None o ≡ holds_as d nothing x o
+no_holder d x (owner.Intent id) = sym (ap (holds d x) (get-empty id_cmp id))
+no_holder d x (owner.Tx t) = refl
 
 pub begins : (d : Deployment) (now : ℕ) → Right d (first_core 0 now) map.empty
 begins d now = record {
   plain = nothing;
   bounded = tt;
   legal = refl;
-  sane = λ id. subst (λ o. SaneAt d o) (sym (get-empty id_cmp id)) tt;
   rows = record {
-    items = λ x. ap (λ r. (content_in r).value) (get-empty key_cmp (head_key x)) ∙ sym (ap or_null (get-empty item_cmp x));
-    owners = λ x. ap (λ r. (content_in r).owner) (get-empty key_cmp (head_key x));
-    notes = λ x a. ap (λ r. note_at (content_in r).notes a) (get-empty key_cmp (head_key x)) ∙ sym (ap (owed_by d x a.step) (get-empty id_cmp a.intent));
-    reads = λ f a. ap (option_map given_in) (get-empty key_cmp (log_key f a)) ∙ sym (ap (owed_value d f a.step) (get-empty id_cmp a.intent));
-    roots = λ t. subst (λ r. RootMatches r (map.get nothing.made (root_of t))) (sym (get-empty key_cmp (root_key t))) (get-empty id_cmp (root_of t));
-    one_row = λ k. subst (λ r. FitsAt k r) (sym (get-empty key_cmp k)) tt;
+    keys = λ k. subst (RowMatches d nothing k.home k.kind) (sym (get-empty key_cmp k)) (no_row d k.home k.kind);
+    items = λ x. subst (λ r. ItemMatches d nothing x (content_in r)) (sym (get-empty key_cmp (head_key x))) (record {
+      value = sym (ap or_null (get-empty item_cmp x));
+      owner = no_holder d x;
+      notes = λ a. sym (ap (owed_by d x a.step) (get-empty id_cmp a.intent));
+    });
   };
   tickets = λ t. ap is_some (get-empty key_cmp (root_key t)) ∙ sym (no_ticket t);
   runs = record {

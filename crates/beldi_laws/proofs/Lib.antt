@@ -1,4 +1,3 @@
-mod Effects
 pub mod Events
 pub mod Listing
 pub mod Lives
@@ -6,10 +5,10 @@ mod Moves
 mod Notes
 pub mod OneAnswer
 pub mod OneEvent
+mod Operations
 mod Readings
 mod Rows
 pub mod Standing
 pub mod Starts
 mod Steps
 mod Turns
-mod Writes

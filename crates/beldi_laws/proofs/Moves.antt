@@ -19,10 +19,11 @@ use Rattle.beldi_plain.specs.Legal.{run_of}
 use Rattle.beldi_step.specs.declared.event.Seen.{Seen}
 use Rattle.beldi_step.specs.declared.run.Mark.{Mark}
 use Rattle.beldi_step.specs.declared.run.Run.{Run}
+use Rattle.beldi_step.specs.declared.run.Wait.{Wait}
 use Rattle.beldi_step.specs.Intent.{root_key}
 use Rattle.beldi_step.specs.Run.{Turned}
 use Rattle.beldi_step.specs.Host.{Core, put_run, entry_of, turn_next}
-use Rattle.beldi_laws.specs.Right.{Right, RowsMatch, RunAt, RunsMatch, Sane}
+use Rattle.beldi_laws.specs.Right.{Right, RowsMatch, RunAt, RunsMatch}
 use Rattle.beldi_laws.specs.Laws.{told_outcome, is_gone}
 use Rattle.beldi_row.proofs.Gets.{got}
 use Rattle.beldi_row.proofs.Unchanged.{unchanged}
@@ -84,13 +85,12 @@ told_reply q t None h s o e = cc
 told_reply q t (Some u) h s o e = let both = same_some e in ap (reply_of q) (ap (λ z. z.0) (sym both)) ∙ h u refl ∙ ap (λ z. Some z.1) both
 
 module _ (d : Deployment) (c : Core) (m n : Rows) (i : ℕ) (r : Run) (h : Right d c m) (live : map.get c.runs i ≡ Some r) (roots : SameRoots m n) where
-  pub quiet : (o : Option Run) → RunAt d c.book h.plain o → RowsMatch d n h.plain → AfterTurn d h.plain c i r.id (record { next = o; mark = None; wait = None; reply = None }) n
-  quiet o next rows = let book = sym (append-nil c.book) in record {
+  pub quiet : (w : Option Wait) (o : Option Run) → RunAt d c.book h.plain o → RowsMatch d n h.plain → AfterTurn d h.plain c i r.id (record { next = o; mark = None; wait = w; reply = None }) n
+  quiet w o next rows = let book = sym (append-nil c.book) in record {
     right = record {
       plain = h.plain;
       bounded = subst (SeenBounded 0) book h.bounded;
       legal = ap (run_of d) (append-nil c.book) ∙ h.legal;
-      sane = h.sane;
       rows = rows;
       tickets = λ t. roots t ∙ h.tickets t;
       runs = subst (λ b. RunsMatch d b h.plain (put_run c.runs i o) c.last_run) book (runs_put d c.book h.plain c.runs c.last_run i o (ap is_some live) next h.runs);
@@ -100,14 +100,13 @@ module _ (d : Deployment) (c : Core) (m n : Rows) (i : ℕ) (r : Run) (h : Right
     reply = λ t o e. cc;
   }
 
-  pub entered : (k : Mark) (o : Option Run) (u : Option Outcome) (q : PlainState) → Entered d c h.plain (entry_of r.id k) q → Sane d q → ((v : Outcome) → u ≡ Some v → reply_of q r.id.ticket ≡ Some v) → RunAt d (c.book ++ entry_of r.id k ∷ []) q o → RowsMatch d n q
+  pub entered : (k : Mark) (o : Option Run) (u : Option Outcome) (q : PlainState) → Entered d c h.plain (entry_of r.id k) q → ((v : Outcome) → u ≡ Some v → reply_of q r.id.ticket ≡ Some v) → RunAt d (c.book ++ entry_of r.id k ∷ []) q o → RowsMatch d n q
       → AfterTurn d h.plain c i r.id (record { next = o; mark = Some k; wait = None; reply = u }) n
-  entered k o u q leads sane reply next rows = record {
+  entered k o u q leads reply next rows = record {
     right = record {
       plain = q;
       bounded = leads.bounded;
       legal = leads.legal;
-      sane = sane;
       rows = rows;
       tickets = λ t. roots t ∙ h.tickets t;
       runs = runs_put d (c.book ++ entry_of r.id k ∷ []) q c.runs c.last_run i o (ap is_some live) next leads.runs;

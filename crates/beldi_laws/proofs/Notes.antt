@@ -1,38 +1,52 @@
 -- What is owed, after one answer more.
-use Rattle.std.proofs.Common.{◌≡◌, ℕ, ◌==◌, Bool, true, false, cond, List, [], ◌∷◌, ◌++◌, length, Option, None, Some, refl, ap, sym, ◌∙◌, subst, eqb-true, eq-eqb, if◌then◌else◌}
+use Rattle.std.proofs.Common.{◌≡◌, ℕ, zero, suc, ◌==◌, Bool, true, false, take, arith, List, [], ◌∷◌, ◌++◌, length, Option, None, Some, refl, ap, sym, ◌∙◌, subst, eqb-true, eq-eqb, if◌then◌else◌}
 use Rattle.std.specs.Prelude.{slice_get}
 use Rattle.std.specs.FinMap as map
 use Rattle.std.specs.FinMap.{FinMap}
-use Rattle.std.specs.Ordering.{is_eq}
-use Rattle.std.proofs.lemmas.Cmp.{eq_by_cmp_equiv}
 use Rattle.beldi_value.specs.Id.{id_cmp, id_total, id_exact}
 use Rattle.beldi_value.specs.declared.id.IntentId.{IntentId}
 use Rattle.beldi_value.specs.declared.place.Place.{Place}
 use Rattle.beldi_tree.specs.declared.deployment.Deployment.{Deployment}
 use Rattle.beldi_lang.specs.declared.effect.Answer.{Answer}
-use Rattle.beldi_row.specs.declared.notes.Note.{Note}
-use Rattle.beldi_row.specs.declared.notes.Note.TheVariants.{Wrote}
-use Rattle.beldi_row.specs.Log.{note_at, place_eq}
-use Rattle.beldi_row.proofs.Logs.{place_same, place_self, note_pushed}
-use Rattle.beldi_plain.specs.Item.{Item, item_cmp, item_total}
+use Rattle.beldi_row.specs.Log.{place_eq}
+use Rattle.beldi_row.proofs.Logs.{place_same, place_self}
+use Rattle.beldi_plain.specs.Item.{Item}
 use Rattle.beldi_plain.specs.Plain.{Instance, answered, effect_of}
-use Rattle.beldi_laws.specs.Stands.{effect_before}
+use Rattle.beldi_order.specs.Sane.{effect_before}
 use Rattle.beldi_laws.specs.Right.{owed_by, note_if, note_for, owed_value, value_if, value_for}
-use Rattle.beldi_laws.proofs.Effects.{owed_pushed, value_pushed}
+use lib.Dec.{eqb-suc-suc, eqb-suc-zero, eqb-zero-suc}
+use Rattle.std.proofs.lemmas.Option.{slice_get_past}
+use Rattle.beldi_lang.specs.Wants.{wants}
 use Rattle.beldi_order.proofs.Entries.{made_set}
 use Rattle.beldi_row.proofs.Rows.{get_set}
 
 pub true_false : true ≡ false → ⊥
 true_false h = cc
 
--- ---- what is owed
-none_at_end : {X : Type 0} (xs : List X) → slice_get xs (length xs) ≡ None
-none_at_end [] = refl
-none_at_end (x ∷ xs) = none_at_end xs
+-- ---- one answer more
+pub get_after : (xs bs : List Answer) → slice_get (xs ++ bs) (length xs) ≡ slice_get bs 0
+get_after [] bs = refl
+get_after (a ∷ xs) bs = get_after xs bs
 
+-- a function of the answers before a step and of the answer there, after one was put at the end
+pushed_at : {X : Type 0} (f : List Answer → Option Answer → X) → ((ts us : List Answer) → f ts None ≡ f us None) → (xs : List Answer) (a : Answer) (n : ℕ)
+    → f (take n (xs ++ a ∷ [])) (slice_get (xs ++ a ∷ []) n) ≡ (if n == length xs then f xs (Some a) else f (take n xs) (slice_get xs n))
+pushed_at f none [] a zero = refl
+pushed_at f none [] a (suc n) = none (take (suc n) (a ∷ [])) [] ∙ ap (λ c. if c then f [] (Some a) else f [] None) (sym (eqb-suc-zero n))
+pushed_at f none (b ∷ bs) a zero = ap (λ c. if c then f (b ∷ bs) (Some a) else f [] (Some b)) (sym (eqb-zero-suc (length bs)))
+pushed_at f none (b ∷ bs) a (suc n) = pushed_at (λ ts o. f (b ∷ ts) o) (λ ts us. none (b ∷ ts) (b ∷ us)) bs a n
+    ∙ ap (λ c. if c then f (b ∷ bs) (Some a) else f (b ∷ take n bs) (slice_get bs n)) (sym (eqb-suc-suc n (length bs)))
+
+owed_pushed : (d : Deployment) (x : Item) (n : ℕ) (q : Instance) (a : Answer) → owed_by d x n (Some (answered q a)) ≡ (if n == length q.answers then note_for x q.func (effect_of d q) a else owed_by d x n (Some q))
+owed_pushed d x n q a = pushed_at (λ xs o. note_if x q.func (wants d q.func q.args false xs) o) (λ ts us. refl) q.answers a n
+
+value_pushed : (d : Deployment) (f n : ℕ) (q : Instance) (a : Answer) → owed_value d f n (Some (answered q a)) ≡ (if n == length q.answers then (if q.func == f then value_for (effect_of d q) a else None) else owed_value d f n (Some q))
+value_pushed d f n q a = pushed_at (λ xs o. if q.func == f then value_if (wants d q.func q.args false xs) o else None) (λ ts us. refl) q.answers a n
+
+-- ---- what is owed
 -- nothing is owed at the next step
 pub owed_next : (d : Deployment) (x : Item) (q : Instance) → owed_by d x (length q.answers) (Some q) ≡ None
-owed_next d x q = ap (note_if x q.func (effect_before d q (length q.answers))) (none_at_end q.answers)
+owed_next d x q = ap (note_if x q.func (effect_before d q (length q.answers))) (slice_get_past q.answers (length q.answers) (omega arith))
 
 -- the place of an instance's next step
 abbrev pub next_place : IntentId → Instance → Place
@@ -71,7 +85,7 @@ always_none true = refl
 always_none false = refl
 
 pub value_next : (d : Deployment) (f : ℕ) (q : Instance) → owed_value d f (length q.answers) (Some q) ≡ None
-value_next d f q = ap (λ o. if q.func == f then value_if (effect_before d q (length q.answers)) o else None) (none_at_end q.answers) ∙ always_none (q.func == f)
+value_next d f q = ap (λ o. if q.func == f then value_if (effect_before d q (length q.answers)) o else None) (slice_get_past q.answers (length q.answers) (omega arith)) ∙ always_none (q.func == f)
 
 module _ (d : Deployment) (made : FinMap id_cmp Instance) (id : IntentId) (q : Instance) (a : Answer) (is : map.get made id ≡ Some q) where
   pub owed_more : (x : Item) (b : Place) → owed_by d x b.step (map.get (map.insert made id (answered q a)) b.intent) ≡ (if place_eq (next_place id q) b then note_for x q.func (effect_of d q) a else owed_by d x b.step (map.get made b.intent))
@@ -88,24 +102,3 @@ module _ (d : Deployment) (made : FinMap id_cmp Instance) (id : IntentId) (q : I
   -- an answer that is not to a read
   pub value_same : (f : ℕ) → value_for (effect_of d q) a ≡ None → (b : Place) → owed_value d f b.step (map.get (map.insert made id (answered q a)) b.intent) ≡ owed_value d f b.step (map.get made b.intent)
   value_same f none b = answer_same (owed_value d f) made id q a is (if q.func == f then value_for (effect_of d q) a else None) (λ n. value_pushed d f n q a) (value_next d f q ∙ sym (ap (λ v. if q.func == f then v else None) none ∙ always_none (q.func == f))) b
-
-module _ (d : Deployment) (x : Item) (made : FinMap id_cmp Instance) (id : IntentId) (q : Instance) (a : Answer) (is : map.get made id ≡ Some q) where
-  -- a write's note in its item's log is the one that is owed from then on
-  pub notes_more : (y : Item) (log : List (Place × Note)) → (note_for x q.func (effect_of d q) a ≡ (if is_eq (item_cmp y x) then Some Wrote else None)) → note_at log (next_place id q) ≡ None
-      → (c : Bool) → is_eq (item_cmp x y) ≡ c → (old : List (Place × Note)) → (c ≡ true → old ≡ log) → ((b : Place) → note_at old b ≡ owed_by d x b.step (map.get made b.intent))
-      → (b : Place) → note_at (cond c (log ++ (next_place id q, Wrote) ∷ []) old) b ≡ owed_by d x b.step (map.get (map.insert made id (answered q a)) b.intent)
-  notes_more y log for none true e old same h b =
-      note_pushed log (next_place id q) b Wrote none
-      ∙ ap (λ (es : List (Place × Note)). if place_eq (next_place id q) b then Some Wrote else note_at es b) (sym (same refl))
-      ∙ ap (λ r. if place_eq (next_place id q) b then Some Wrote else r) (h b)
-      ∙ ap (λ r. if place_eq (next_place id q) b then r else owed_by d x b.step (map.get made b.intent))
-      (sym (for ∙ ap (λ c. if c then Some Wrote else None) ((eq_by_cmp_equiv item_total).symm y x ∙ e)))
-      ∙ sym (owed_more d made id q a is x b)
-  notes_more y log for none false e old same h b = h b
-      ∙ (elim (place_eq (next_place id q) b) as (λ c. place_eq (next_place id q) b ≡ c
-      → owed_by d x b.step (map.get made b.intent) ≡ (if c then note_for x q.func (effect_of d q) a else owed_by d x b.step (map.get made b.intent))) [
-        | true ↦ λ g. subst (λ (z : Place). owed_by d x z.step (map.get made z.intent) ≡ note_for x q.func (effect_of d q) a) (place_same (next_place id q) b g)
-            (ap (owed_by d x (length q.answers)) is ∙ owed_next d x q ∙ sym (for ∙ ap (λ c. if c then Some Wrote else None) ((eq_by_cmp_equiv item_total).symm y x ∙ e)))
-        | false ↦ λ g. refl
-      ] refl)
-      ∙ sym (owed_more d made id q a is x b)

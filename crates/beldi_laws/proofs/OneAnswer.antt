@@ -1,9 +1,8 @@
 -- Where the host and its rows are right, each step of an instance has one answer; and it stays, whatever comes.
-use Rattle.std.proofs.Common.{◌≡◌, inl, inr, ℕ, Bool, true, false, cond, List, [], ◌∷◌, ◌++◌, Option, None, Some, refl, ap, sym, ◌∙◌, subst, if◌then◌else◌}
+use Rattle.std.proofs.Common.{◌≡◌, inl, inr, ℕ, Bool, true, false, List, [], ◌∷◌, ◌++◌, Option, None, Some, refl, ap, sym, ◌∙◌, subst, if◌then◌else◌}
 use Rattle.std.specs.Prelude.{option_and_then}
 use Rattle.std.specs.Option.{option_map}
 use Rattle.std.specs.FinMap as map
-use Rattle.std.specs.Ordering.{is_eq}
 use Rattle.beldi_value.specs.declared.id.IntentId.{IntentId}
 use Rattle.beldi_value.specs.declared.place.Place.{Place}
 use Rattle.beldi_value.specs.declared.place.Owner.{Owner}
@@ -12,7 +11,7 @@ use Rattle.beldi_value.specs.declared.value.Value.TheVariants.{Null}
 use Rattle.beldi_tree.specs.declared.deployment.Deployment.{Deployment}
 use Rattle.beldi_lang.specs.declared.effect.Answer.{Answer}
 use Rattle.beldi_lang.specs.declared.effect.Answer.TheVariants as answer
-use Rattle.beldi_lang.specs.declared.effect.Effect.TheVariants.{Read, Write}
+use Rattle.beldi_lang.specs.declared.effect.Effect.TheVariants.{Read}
 use Rattle.beldi_lang.specs.Machine.{IsAt}
 use Rattle.beldi_row.specs.declared.key.RowKey.{RowKey}
 use Rattle.beldi_row.specs.declared.notes.Note.{Note}
@@ -24,12 +23,11 @@ use Rattle.beldi_row.specs.declared.row.Row.TheVariants as rows
 use Rattle.beldi_row.specs.declared.act.Act.{Act}
 use Rattle.beldi_row.specs.declared.act.Act.TheVariants.{Look, Issue, Bind, End, PutRead, MakeCell, WriteCell}
 use Rattle.beldi_row.specs.Act.{Tell, gone, did, act, on, on_intent, bind_to, end_with, noted_or, next_or, held_or, other_owner, wrote, write_at}
-use Rattle.beldi_row.specs.Key.{key_cmp}
 use Rattle.beldi_row.specs.Log.{note_at, place_eq}
 use Rattle.beldi_row.specs.Table.{Rows, after_act}
-use Rattle.beldi_row.proofs.Gets.{got, key_same}
 use Rattle.beldi_daal.specs.Content.{content_in}
 use Rattle.beldi_readlog.specs.ReadLog.{given_in, log_key}
+use Rattle.beldi_plain.specs.Operation.{OnItem, op_of, item_in}
 use Rattle.beldi_plain.specs.Plain.{Instance}
 use Rattle.beldi_step.specs.declared.run.Run.{Run}
 use Rattle.beldi_step.specs.declared.run.Begun.{Begun}
@@ -38,10 +36,12 @@ use Rattle.beldi_order.proofs.Entries.{same_some}
 use Rattle.beldi_laws.specs.Laws.{HeldAnswersStay, OneRowChanged}
 use Rattle.beldi_laws.specs.OneAnswer.{WasGiven, HasAnswers, OneAnswerPerStep, AnswersStay}
 use Rattle.beldi_laws.specs.Right.{Right, Knows, KnowsAt, RunAt}
-use Rattle.beldi_laws.specs.Stands.{noted_answer, held_answer, head_key, effect_before}
+use Rattle.beldi_laws.specs.Stands.{noted_answer, held_answer, held_note, head_key}
+use Rattle.beldi_laws.proofs.Rows.{keys_at, set_here, set_others}
 use Rattle.beldi_laws.proofs.OneEvent.{one_row}
 use Rattle.beldi_laws.proofs.Standing.{held_here}
-use Rattle.beldi_laws.proofs.Turns.{sane_of}
+use Rattle.beldi_order.specs.Sane.{effect_before}
+use Rattle.beldi_order.proofs.Sanes.{sane_of, legal_is_sane}
 
 -- ---- one answer
 module _ (d : Deployment) (c : Core) (m : Rows) (h : Right d c m) (id : IntentId) where
@@ -73,7 +73,7 @@ module _ (d : Deployment) (c : Core) (m : Rows) (h : Right d c m) (id : IntentId
     func = q.func;
     args = q.args;
     answers = q.answers;
-    held = λ n a e. held_here d m h.plain h.rows id q n a (effect_before d q n) made e refl ((sane_of d h.plain id q h.sane made).past n a e);
+    held = λ n a e. held_here d m h.plain h.rows id q n a (effect_before d q n) made e refl ((sane_of d h.plain id q (legal_is_sane d c.book h.plain h.legal) made).past n a e);
     runs = λ i r g live same at. given_of q r g made same (known i r g live at);
   }
 
@@ -144,17 +144,15 @@ note_stays a now p x (Some r) is = let n = of_note (note_at (content_in (Some r)
 -- what is so of each row that an act finds, and of the one that it leaves
 module _ (a : Act) (now : ℕ) (k : RowKey) (m : Rows) (P : Option Row → Type 0) (stays : (o : Option Row) → P o → P (act a now o).0) where
   at_key : (q : RowKey) → P (map.get m q) → P (map.get (after_act a now k m) q)
-  at_key q here = subst P (sym (got m k q (act a now (map.get m k)).0)) (elim (is_eq (key_cmp q k)) as (λ b. is_eq (key_cmp q k) ≡ b → P (cond b (act a now (map.get m k)).0 (map.get m q))) [
-    | true ↦ λ e. stays (map.get m k) (subst (λ z. P (map.get m z)) (key_same q k e) here)
-    | false ↦ λ e. here
-  ] refl)
+  at_key q = keys_at m (after_act a now k m) k (λ l r. P (map.get m l) → P r) (set_others m k (act a now (map.get m k)).0) (λ h. subst P (sym (set_here m k (act a now (map.get m k)).0)) (stays (map.get m k) h)) (λ l e h. h) q
+
+notes_keep : (a : Act) (now : ℕ) (k : RowKey) (m : Rows) (at : Place) (func : ℕ) (o : Option OnItem) (x : Answer) → held_note m at func o ≡ Some x → held_note (after_act a now k m) at func o ≡ Some x
+notes_keep a now k m at func None x held = cc
+notes_keep a now k m at func (Some o) x held = at_key a now k m (λ r. option_and_then noted_answer (note_at (content_in r).notes at) ≡ Some x) (note_stays a now at x) (head_key (item_in func o)) held
 
 act_keeps : (a : Act) (now : ℕ) (k : RowKey) (m : Rows) → AnswersStay m (after_act a now k m)
 act_keeps a now k m id func step (Read t key) x held = at_key a now k m (λ o. option_map answer.Value (option_map given_in o) ≡ Some x) (value_stays a now x) (log_key func (record { intent = id; step = step })) held
-act_keeps a now k m id func step (Write t key v) x held =
-    let at : Place = record { intent = id; step = step } in
-    at_key a now k m (λ o. option_and_then noted_answer (note_at (content_in o).notes at) ≡ Some x) (note_stays a now at x) (head_key (record { func = func; table = t; key = key })) held
-act_keeps a now k m id func step e x held = cc
+act_keeps a now k m id func step e x held = notes_keep a now k m (record { intent = id; step = step }) func (op_of e) x held
 
 one_keeps : (c : Core) (m n : Rows) → OneRowChanged c m n → AnswersStay m n
 one_keeps c m n o = elim o.rows [

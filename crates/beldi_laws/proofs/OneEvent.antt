@@ -1,10 +1,9 @@
 -- What one event changes: at most one row, and at most one entry of the book, which its answer tells.
-use Rattle.std.proofs.Common.{◌≡◌, inl, inr, ℕ, ◌==◌, ◌+◌, ◌||◌, nat_lt, Bool, true, false, cond, [], ◌++◌, Option, Some, None, if◌then◌else◌, refl, ap, sym, ◌∙◌, subst}
+use Rattle.std.proofs.Common.{◌≡◌, inl, inr, ℕ, ◌==◌, ◌+◌, ◌||◌, nat_lt, Bool, true, false, [], ◌++◌, Option, Some, None, if◌then◌else◌, refl, ap, sym, ◌∙◌, subst}
 use Rattle.std.proofs.lemmas.List.{append-nil}
 use Rattle.std.specs.Prelude.{option_to_list}
 use Rattle.std.specs.Option.{option_map}
 use Rattle.std.specs.FinMap as map
-use Rattle.std.specs.Ordering.{is_eq}
 use Rattle.beldi_value.specs.declared.id.IntentId.{IntentId}
 use Rattle.beldi_value.specs.declared.value.Value.{Value}
 use Rattle.beldi_tree.specs.declared.deployment.Deployment.{Deployment}
@@ -14,10 +13,8 @@ use Rattle.beldi_book.specs.Order.{count_changes}
 use Rattle.beldi_row.specs.declared.key.RowKey.{RowKey}
 use Rattle.beldi_row.specs.declared.act.Act.{Act as RowAct}
 use Rattle.beldi_row.specs.Act.{act}
-use Rattle.beldi_row.specs.declared.row.Row.{Row}
-use Rattle.beldi_row.specs.Key.{key_cmp, least_key}
-use Rattle.beldi_row.specs.Table.{Rows, set_row, after_act}
-use Rattle.beldi_row.proofs.Gets.{got, key_same}
+use Rattle.beldi_row.specs.Key.{least_key}
+use Rattle.beldi_row.specs.Table.{Rows, after_act}
 use Rattle.beldi_walk.specs.declared.query.Query.{Query}
 use Rattle.beldi_walk.specs.declared.query.Query.TheVariants.{Act, After}
 use Rattle.beldi_walk.specs.Query.{Told, rows_after, told_by}
@@ -38,23 +35,18 @@ use Rattle.beldi_step.proofs.Plans.{PlanHolds, AskHolds, plan_of_holds, plan_hol
 use Rattle.beldi_step.specs.Forms.{is_lost, dropped, Made, Acts, Asks, Follows, IsOneEvent, Breaks}
 use Rattle.beldi_order.proofs.Entries.{same_some}
 use Rattle.beldi_laws.specs.Stands.{head_key, content_of}
+use Rattle.beldi_laws.proofs.Rows.{set_others}
 use Rattle.beldi_laws.specs.Laws.{OneRowChanged, ChangesOneRow, BookGrew, WritesWhatIsTold, entries_told, starts_of, bound_of}
 
 -- ---- rows
 same_rows : (c : Core) (m n : Rows) → n ≡ m → OneRowChanged c m n
 same_rows c m n same = record { key = least_key; rows = inl same; others = λ x apart. ap (λ l. content_of l x) same }
 
-other_row : (m : Rows) (k q : RowKey) (v : Option Row) → (q ≡ k → ⊥) → map.get (set_row m k v) q ≡ map.get m q
-other_row m k q v apart = got m k q v ∙ (elim (is_eq (key_cmp q k)) as (λ b. is_eq (key_cmp q k) ≡ b → cond b v (map.get m q) ≡ map.get m q) [
-  | true ↦ λ e. absurd (apart (key_same q k e))
-  | false ↦ λ e. refl
-] refl)
-
 one_act : (c : Core) (m n : Rows) (k : RowKey) (a : RowAct) → n ≡ after_act a c.now k m → OneRowChanged c m n
 one_act c m n k a is = record {
   key = k;
   rows = inr (a, is);
-  others = λ x apart. ap (λ l. content_of l x) is ∙ ap content_in (other_row m k (head_key x) (act a c.now (map.get m k)).0 apart);
+  others = λ x apart. ap (λ l. content_of l x) is ∙ ap content_in (set_others m k (act a c.now (map.get m k)).0 (head_key x) apart);
 }
 
 by_query : (c : Core) (q : Query) (m n : Rows) → n ≡ rows_after q c.now m → OneRowChanged c m n

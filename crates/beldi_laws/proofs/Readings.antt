@@ -15,23 +15,30 @@ use Rattle.beldi_book.specs.declared.entry.Entry.TheVariants as entry
 use Rattle.beldi_book.specs.Order.{count_changes, front, back, linear}
 use Rattle.beldi_book.proofs.Orders.{linear_changes, front_back}
 use Rattle.beldi_row.specs.declared.key.RowKey.{RowKey}
-use Rattle.beldi_row.specs.declared.row.Cell.{Cell}
+use Rattle.beldi_row.specs.declared.key.Kind.TheVariants as kinds
 use Rattle.beldi_row.specs.declared.row.Row.{Row}
 use Rattle.beldi_row.specs.declared.row.Row.TheVariants as rows
 use Rattle.beldi_row.specs.declared.act.Act.TheVariants.{Look, PutRead}
 use Rattle.beldi_row.specs.Act.{Tell, act}
 use Rattle.beldi_row.specs.Table.{Rows, set_row}
+use Rattle.beldi_row.proofs.Unchanged.{looked}
+use Rattle.beldi_walk.specs.Query.{said}
 use Rattle.beldi_daal.specs.declared.cell.ReadGoes.TheVariants as reads
-use Rattle.beldi_daal.specs.Cell.{cell_goes, got_or_held, in_the_way}
-use Rattle.beldi_daal.specs.Content.{content_in}
+use Rattle.beldi_daal.specs.declared.cell.ReadGoes.{ReadGoes}
+use Rattle.beldi_daal.specs.declared.read_walk.ReadWalk.{ReadWalk}
+use Rattle.beldi_daal.specs.declared.walk.Item.TheVariants.{Plain}
+use Rattle.beldi_daal.specs.Cell.{read_goes}
+use Rattle.beldi_daal.specs.Logged.{ReadsContent}
+use Rattle.beldi_daal.specs.ReadWalk.{read_so}
+use Rattle.beldi_daal.proofs.Logged.{by_row}
 use Rattle.beldi_readlog.specs.ReadLog.{log_key, given_in}
 use Rattle.beldi_plain.specs.Item.{Item}
-use Rattle.beldi_plain.specs.Plain.{Instance, PlainState, nothing, effect_of, value_at}
+use Rattle.beldi_plain.specs.Plain.{PlainState, nothing, effect_of, value_at}
 use Rattle.beldi_plain.specs.Legal.{run_from}
 use Rattle.beldi_order.specs.Laws.{IsStateAt, BelongsEarlier, with_answer, IsKeptLate}
 use Rattle.beldi_order.proofs.Places.{front_all}
-use Rattle.beldi_order.proofs.Entries.{same_some, Grown, GrownAt, runs_on, run_grows}
-use Rattle.beldi_order.proofs.Late.{none_before, same_instance}
+use Rattle.beldi_order.proofs.Entries.{same_some, runs_on, run_grows}
+use Rattle.beldi_order.proofs.Late.{not_moved}
 use Rattle.beldi_order.proofs.Growth.{kept_late}
 use Rattle.beldi_step.specs.declared.run.Run.{Run}
 use Rattle.beldi_step.specs.declared.run.Begun.{Begun}
@@ -39,24 +46,24 @@ use Rattle.beldi_step.specs.declared.run.Mark.TheVariants as mark
 use Rattle.beldi_step.specs.declared.run.Says.TheVariants.{Answers}
 use Rattle.beldi_step.specs.declared.run.Stage.{Stage}
 use Rattle.beldi_step.specs.declared.run.Stage.TheVariants as stage
+use Rattle.beldi_step.specs.declared.run.Wait.TheVariants as wait
+use Rattle.beldi_step.specs.Intent.{root_key}
 use Rattle.beldi_step.specs.Run.{place_of, turned_by, stage_says, walk_says}
 use Rattle.beldi_step.specs.Host.{Core, turn_next}
-use Rattle.beldi_laws.specs.Stands.{head_key, effect_before}
-use Rattle.beldi_laws.specs.Right.{Right, RowsMatch, FitsAt, WasThere, Keeps, Knows, owed_value, value_if}
-use Rattle.beldi_laws.proofs.Rows.{root_in_logs}
+use Rattle.beldi_order.specs.Sane.{effect_before}
+use Rattle.beldi_laws.specs.Stands.{head_key, content_of}
+use Rattle.beldi_laws.specs.Right.{Right, RowsMatch, LogMatches, WasThere, Keeps, Knows, owed_read, owed_value, value_if}
+use Rattle.beldi_laws.proofs.Rows.{no_root, set_others}
 use Rattle.beldi_laws.proofs.Steps.{read_added}
 use Rattle.beldi_laws.proofs.Lives.{grows_late, runs_late}
 use Rattle.beldi_laws.proofs.Moves.{AfterAct, AfterTurn, Entered, still}
-use Rattle.beldi_laws.proofs.Turns.{effect_here, answer_here, all_here, step_here, effect_next, fits, not_over, goes_on, replays, steps_on}
+use Rattle.beldi_laws.proofs.Turns.{effect_here, answer_here, all_here, step_here, effect_next, fits, not_over, goes_on, waits, replays, steps_on}
 
--- an instance that has gone on with no answer more, and has no outcome, is as it was
-not_moved : (i j : Instance) → Grown i j → i.answers ≡ j.answers → j.outcome ≡ None → i ≡ j
-not_moved i j g same none = same_instance i j (sym g.func) (sym g.args) same (none_before i.outcome j.outcome g.over none ∙ sym none)
-
-grown_in : (o u : Option Instance) (i j : Instance) → o ≡ Some i → u ≡ Some j → GrownAt o u → Grown i j
-grown_in None u i j p q g = cc
-grown_in (Some x) None i j p q g = cc
-grown_in (Some x) (Some y) i j p q g = subst (λ z. Grown i z) (same_some q) (subst (λ z. Grown z y) (same_some p) g)
+-- what a log gives is what it owes
+pub given_owed : (w : Option Row) (o : Option Value) → LogMatches w o → option_map given_in w ≡ o
+given_owed None o h = sym h
+given_owed (Some (rows.ReadLog v)) o h = sym h
+given_owed (Some w) o h = absurd h
 
 module _ (d : Deployment) (c : Core) (m : Rows) (i : ℕ) (r : Run) (g : Begun) (h : Right d c m) (live : map.get c.runs i ≡ Some r) (k : Knows d c.book h.plain r g)
     (t : ℕ) (key : List ℕ) (is : g.machine.effect ≡ Read t key) where
@@ -72,7 +79,7 @@ module _ (d : Deployment) (c : Core) (m : Rows) (i : ℕ) (r : Run) (g : Begun) 
   -- the log has the value that the step was answered
   given_here : (later : List Answer) → k.later ≡ later → (w : Option Row) → map.get m (log_key r.func place) ≡ w → option_map given_in w ≡ value_if (Read t key) (slice_get later 0)
   given_here later left w at =
-      ap (option_map given_in) (sym at) ∙ h.rows.reads r.func place
+      given_owed w (owed_read d h.plain r.func place) (subst (λ o. LogMatches o (owed_read d h.plain r.func place)) at (h.rows.keys (log_key r.func place)))
       ∙ ap (owed_value d r.func g.machine.steps) k.made
       ∙ ap (λ b. if b then value_if (effect_before d k.instance g.machine.steps) (slice_get k.instance.answers g.machine.steps) else None) (eq-eqb k.instance.func r.func k.func)
       ∙ ap (value_if (effect_before d k.instance g.machine.steps)) (answer_here d c.book h.plain r g k later left)
@@ -80,7 +87,7 @@ module _ (d : Deployment) (c : Core) (m : Rows) (i : ℕ) (r : Run) (g : Begun) 
 
   -- a value that is there is the answer
   replays_it : (u v : Value) (rest : List Answer) → k.later ≡ answer.Value u ∷ rest → Some v ≡ Some u → AfterTurn d h.plain c i r.id (turned_by d r g (Answers (answer.Value v) None)) m
-  replays_it u v rest left same = replays d c m i r g h live k (Read t key) is (answer.Value v) rest (left ∙ ap (λ w. answer.Value w ∷ rest) (sym (same_some same)))
+  replays_it u v rest left same = replays d c m i r g h live k (Read t key) is m (answer.Value v) rest (λ u. refl) h.rows (left ∙ ap (λ w. answer.Value w ∷ rest) (sym (same_some same)))
 
   -- ---- it asks for what was given
   ask_by : (later : List Answer) → k.later ≡ later → (w : Option Row) → map.get m (log_key r.func place) ≡ w → AfterRead stage.Ask (log_key r.func place) (act Look c.now w)
@@ -113,16 +120,19 @@ module _ (d : Deployment) (c : Core) (m : Rows) (i : ℕ) (r : Run) (g : Begun) 
     };
   })
 
-  free : (c : Cell) → c.next ≡ None → c.owner ≡ None → cell_goes (Some (owner.Intent r.id)) c c.next ≡ reads.Got (Some c.value)
-  free c last none = ap (cell_goes (Some (owner.Intent r.id)) c) last ∙ ap (λ o. got_or_held c (in_the_way (Some (owner.Intent r.id)) o)) none
+  abbrev walk : ReadWalk
+  walk = record { home = r.func; item = Plain t key; who = Some (owner.Intent r.id) }
 
-  pub walk_turn : (w : Option Row) → map.get m (head_key item) ≡ w → FitsAt (head_key item) w → AfterRead stage.Walk (head_key item) (act Look c.now w)
-  walk_turn None at f = still d h.plain m (head_key item) None (sym at) (found None (sym (h.rows.items item) ∙ ap (λ w. (content_in w).value) at))
-  walk_turn (Some (rows.Cell cell)) at f = still d h.plain m (head_key item) (Some (rows.Cell cell)) (sym at)
-      (subst (λ z. AfterTurn d h.plain c i r.id (turned_by d r g (walk_says (count_changes c.book) z)) m)
-      (sym (free cell f.last (ap (λ w. (content_in w).owner) (sym at) ∙ h.rows.owners item)))
-      (found (Some cell.value) (sym (h.rows.items item) ∙ ap (λ w. (content_in w).value) at)))
-  walk_turn (Some w) at f = absurd f
+  walked : (z : ReadGoes) → ReadsContent walk.who (read_so z) (content_of m item) → AfterTurn d h.plain c i r.id (turned_by d r g (walk_says (count_changes c.book) z)) m
+  walked reads.On never = absurd never
+  walked (reads.Got None) empty = found None (sym (h.rows.items item).value ∙ ap (λ x. x.value) empty)
+  walked (reads.Got (Some v)) there = found (Some v) (sym (h.rows.items item).value ∙ sym there.1)
+  walked (reads.Held o) held = waits d c m i r g h live k (Read t key) is (wait.Held o) m (λ u. refl) h.rows
+
+  pub walk_turn : AfterRead stage.Walk (head_key item) (act Look c.now (map.get m (head_key item)))
+  walk_turn =
+      let z = read_goes walk.who (said (act Look c.now (map.get m (head_key item))).1) in
+      subst (AfterTurn d h.plain c i r.id (turned_by d r g (walk_says (count_changes c.book) z))) (sym (looked c.now (head_key item) m)) (walked z (by_row walk c.now (map.get m (head_key item)) (h.rows.keys (head_key item))))
 
   -- ---- it keeps what it found
   module _ (v : Value) (seen : ℕ) (at : Keeps d c.book r.id k.answers k.later item v seen) where
@@ -141,8 +151,7 @@ module _ (d : Deployment) (c : Core) (m : Rows) (i : ℕ) (r : Run) (g : Begun) 
       behind = sym (runs_on d nothing there.state (front seen (linear c.book)) (back seen (linear c.book)) there.is_state) ∙ ap (run_from d nothing) (front_back seen (linear c.book)) ∙ h.legal
 
       same : there.instance ≡ k.instance
-      same = not_moved there.instance k.instance
-          (grown_in (map.get there.state.made r.id) (map.get h.plain.made r.id) there.instance k.instance there.made k.made (run_grows d there.state (back seen (linear c.book)) h.plain behind r.id))
+      same = not_moved (map.get there.state.made r.id) (map.get h.plain.made r.id) there.instance k.instance there.made k.made (run_grows d there.state (back seen (linear c.book)) h.plain behind r.id)
           (there.same ∙ all_here d c.book h.plain r g k left) open_still
 
       belongs : BelongsEarlier d c.book h.plain r.id seen k.instance v
@@ -175,9 +184,9 @@ module _ (d : Deployment) (c : Core) (m : Rows) (i : ℕ) (r : Run) (g : Begun) 
           (subst (λ n. RowsMatch d (set_row m (log_key k.instance.func (place_of r.id n)) (Some (rows.ReadLog v))) state) (sym (step_here d c.book h.plain r g k left))
           (read_added d m h.plain r.id k.instance t key v k.made now h.rows))
 
-    keep_by : (later : List Answer) → k.later ≡ later → (w : Option Row) → map.get m (log_key r.func place) ≡ w → FitsAt (log_key r.func place) w → AfterRead (stage.Keep v seen) (log_key r.func place) (act (PutRead v) c.now w)
+    keep_by : (later : List Answer) → k.later ≡ later → (w : Option Row) → map.get m (log_key r.func place) ≡ w → LogMatches w (owed_read d h.plain r.func place) → AfterRead (stage.Keep v seen) (log_key r.func place) (act (PutRead v) c.now w)
     keep_by [] left None is_there f = steps_on d c m i r g h live k (Read t key) is (answer.Value v) (mark.Read seen) (state left) (set_row m (log_key r.func place) (Some (rows.ReadLog v))) left tt refl (read_entered left)
-        (λ u. ap is_some (root_in_logs m r.func place u (Some (rows.ReadLog v)))) (kept_rows left)
+        (λ u. ap is_some (set_others m (log_key r.func place) (Some (rows.ReadLog v)) (root_key u) (no_root u r.func (kinds.ReadLog place) refl))) (kept_rows left)
     keep_by [] left (Some (rows.ReadLog u)) is_there f = let clash = given_here [] left (Some (rows.ReadLog u)) is_there in cc
     keep_by (answer.Value u ∷ rest) left None is_there f = let clash = given_here (answer.Value u ∷ rest) left None is_there in cc
     keep_by (answer.Value u ∷ rest) left (Some (rows.ReadLog w)) is_there f =
@@ -187,4 +196,4 @@ module _ (d : Deployment) (c : Core) (m : Rows) (i : ℕ) (r : Run) (g : Begun) 
     keep_by (a ∷ rest) left w is_there f = absurd (fits d c m i r g h live k (Read t key) is a rest left)
 
     pub keep_turn : AfterRead (stage.Keep v seen) (log_key r.func place) (act (PutRead v) c.now (map.get m (log_key r.func place)))
-    keep_turn = keep_by k.later refl (map.get m (log_key r.func place)) refl (h.rows.one_row (log_key r.func place))
+    keep_turn = keep_by k.later refl (map.get m (log_key r.func place)) refl (h.rows.keys (log_key r.func place))

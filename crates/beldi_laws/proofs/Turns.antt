@@ -1,7 +1,8 @@
 -- The turns of a run: where it stands, and what each thing that a stage says leaves.
-use Rattle.std.proofs.Common.{◌≡◌, ℕ, ◌==◌, Bool, true, false, List, [], ◌∷◌, ◌++◌, length, take, Option, None, Some, refl, ap, sym, ◌∙◌, subst, IsTrue, is_some, append_assoc, append-nil, eqb-true, if◌then◌else◌}
+use Rattle.std.proofs.Common.{◌≡◌, ℕ, ◌==◌, ◌&&◌, Bool, true, false, List, [], ◌∷◌, ◌++◌, length, take, Option, None, Some, refl, ap, sym, ◌∙◌, subst, IsTrue, is_some, append_assoc, append-nil, eqb-true, if◌then◌else◌}
 use Rattle.std.specs.Prelude.{slice_get}
 use Rattle.std.specs.FinMap as map
+use Rattle.std.specs.Cmp.{second_so}
 use Rattle.beldi_value.specs.Id.{id_total, id_exact, root_of, has_no_hops}
 use Rattle.beldi_value.specs.declared.id.IntentId.{IntentId}
 use Rattle.beldi_value.specs.declared.outcome.Outcome.{Outcome}
@@ -36,16 +37,19 @@ use Rattle.beldi_step.specs.declared.run.Begun.{Begun}
 use Rattle.beldi_step.specs.declared.run.Mark.{Mark}
 use Rattle.beldi_step.specs.declared.run.Mark.TheVariants as mark
 use Rattle.beldi_step.specs.declared.run.Says.{Says}
-use Rattle.beldi_step.specs.declared.run.Says.TheVariants.{On, Answers, Ends}
+use Rattle.beldi_step.specs.declared.run.Says.TheVariants.{On, Waits, Answers, Ends}
 use Rattle.beldi_step.specs.declared.run.Stage.{Stage}
-use Rattle.beldi_step.specs.Intent.{intent_key, root_key, look_asks, is_ended, is_did, args_in, args_told}
+use Rattle.beldi_step.specs.declared.run.Wait.{Wait}
+use Rattle.beldi_step.specs.Intent.{intent_key, look_asks, is_ended, is_did, args_in, args_told}
 use Rattle.beldi_step.specs.Run.{first_stage, standing, begin_in, turned_by, close_says, reply_if}
 use Rattle.beldi_step.specs.Host.{Core, entry_of, turn_next}
-use Rattle.beldi_laws.specs.Stands.{effect_before}
-use Rattle.beldi_laws.specs.Right.{Right, RowsMatch, RootMatches, BodyMatches, IntentFits, FitsAt, Knows, StageOk, PlaceOk, Sane, SaneAt, SaneInstance, IsAnswerTo, owed_by, owed_value}
-use Rattle.beldi_order.proofs.Entries.{same_some, enabled_step, made_set}
-use Rattle.beldi_laws.proofs.Effects.{take_front, get_after, sane_pushed, sane_ended}
-use Rattle.beldi_laws.proofs.Steps.{root_set, roots_moved}
+use Rattle.beldi_laws.specs.Right.{Right, RowsMatch, IntentMatches, IsRootRow, BodyMatches, RunAt, Knows, StageOk, PlaceOk}
+use Rattle.beldi_order.specs.Sane.{SaneInstance, IsAnswerTo, effect_before}
+use Rattle.beldi_order.proofs.Entries.{same_some, enabled_step}
+use Rattle.beldi_order.proofs.Sanes.{sane_of, legal_is_sane}
+use Rattle.beldi_laws.proofs.Notes.{get_after}
+use Rattle.std.proofs.Math.Seq.{take-append_seam}
+use Rattle.beldi_laws.proofs.Steps.{OwesSame, root_row, is_root, root_moved}
 use Rattle.beldi_laws.proofs.Moves.{AfterTurn, AfterAct, AfterQuery, SameRoots, Entered, replaced, still, change_entered, quiet, entered}
 
 -- where an effect begins is one of its stages
@@ -60,15 +64,6 @@ first_place d book id func answers later (Read t k) = tt
 first_place d book id func answers later e = tt
 
 -- ---- the first turn
--- the row of a run's intent is that of a root
-own_key : (r : Run) (i : IntentRow) → IntentFits (intent_key r.id r.func).home r.id i → intent_key r.id r.func ≡ root_key r.id.ticket
-own_key r i f = λ j. record { home = f.home_is j; kind = kinds.Intent (f.root j) }
-
--- what the row of a run's intent says of its instance
-own_root : (d : Deployment) (m : Rows) (p : PlainState) (h : RowsMatch d m p) (r : Run) (i : IntentRow) → map.get m (intent_key r.id r.func) ≡ Some (rows.Intent i) → IntentFits (intent_key r.id r.func).home r.id i → BodyMatches i.body i.outcome (map.get p.made r.id)
-own_root d m p h r i is f = subst (λ o. BodyMatches i.body i.outcome o) (ap (map.get p.made) (sym f.root))
-    (subst (λ w. RootMatches w (map.get p.made (root_of r.id.ticket))) (ap (map.get m) (sym (own_key r i f)) ∙ is) (h.roots r.id.ticket))
-
 module _ (d : Deployment) (c : Core) (m : Rows) (i : ℕ) (r : Run) (h : Right d c m) (live : map.get c.runs i ≡ Some r) where
   -- the run's instance was made with these arguments
   MadeWith : Option Value → Type 0
@@ -86,19 +81,19 @@ module _ (d : Deployment) (c : Core) (m : Rows) (i : ℕ) (r : Run) (h : Right d
   made_open None o false root = tt
   made_open (Some b) o false root = made_if b o (b.func == r.func) root refl
 
-  made_told : (w : Option Row) → map.get m (intent_key r.id r.func) ≡ w → FitsAt (intent_key r.id r.func) w → MadeWith (args_told r.func (said (act Look c.now w).1))
+  made_told : (b : Bool) (w : Option Row) → IntentMatches b w (map.get h.plain.made r.id) → MadeWith (args_told r.func (said (act Look c.now w).1))
   unfolding MadeWith
-  made_told None is f = tt
-  made_told (Some (rows.Intent j)) is f = made_open j.body j.outcome (is_ended j) (own_root d m h.plain h.rows r j is f)
-  made_told (Some w) is f = absurd f
+  made_told b None f = tt
+  made_told b (Some (rows.Intent j)) f = made_open j.body j.outcome (is_ended j) (root_row b j (map.get h.plain.made r.id) f).body
+  made_told b (Some w) f = tt
 
   begins : (f : Option Func) (a : Option Value) → MadeWith a → AfterTurn d h.plain c i r.id (begin_in d r f a) m
   unfolding MadeWith
-  begins f None made = quiet d c m m i r h live (λ t. refl) None tt h.rows
-  begins None (Some a) made = quiet d c m m i r h live (λ t. refl) None tt h.rows
+  begins f None made = quiet d c m m i r h live (λ t. refl) None None tt h.rows
+  begins None (Some a) made = quiet d c m m i r h live (λ t. refl) None None tt h.rows
   begins (Some f) (Some a) made =
       let machine = machine_begun d r.func a false in
-      quiet d c m m i r h live (λ t. refl) (Some (record r { at = Some (standing machine) })) (record {
+      quiet d c m m i r h live (λ t. refl) None (Some (record r { at = Some (standing machine) })) (record {
         instance = made.0;
         made = made.1;
         func = made.2;
@@ -114,7 +109,7 @@ module _ (d : Deployment) (c : Core) (m : Rows) (i : ℕ) (r : Run) (h : Right d
   begin_turn =
       let key = intent_key r.id r.func in
       let s = begin_in d r (func_at d r.func) (args_told r.func (said (act Look c.now (map.get m key)).1)) in
-      subst (AfterTurn d h.plain c i r.id s) (sym (looked c.now key m)) (begins (func_at d r.func) (args_told r.func (said (act Look c.now (map.get m key)).1)) (made_told (map.get m key) refl (h.rows.one_row key)))
+      subst (AfterTurn d h.plain c i r.id s) (sym (looked c.now key m)) (begins (func_at d r.func) (args_told r.func (said (act Look c.now (map.get m key)).1)) (made_told ((key.home == 0) && has_no_hops r.id.hops) (map.get m key) (h.rows.keys key)))
 
 -- ---- where a run stands in its instance's answers
 same_at : (d : Deployment) (q : Instance) (func : ℕ) (xs : List Answer) (n : ℕ) → take n q.answers ≡ xs → q.func ≡ func → effect_before d q n ≡ wants d func q.args false xs
@@ -129,7 +124,7 @@ module _ (d : Deployment) (book : List Entry) (p : PlainState) (r : Run) (g : Be
   pub effect_here : effect_before d k.instance g.machine.steps ≡ g.machine.effect
   effect_here =
       same_at d k.instance r.func k.answers g.machine.steps
-      (ap (λ n. take n k.instance.answers) at_steps ∙ ap (take (length k.answers)) (sym k.run_answers) ∙ take_front k.answers k.later) k.func
+      (ap (λ n. take n k.instance.answers) at_steps ∙ ap (take (length k.answers)) (sym k.run_answers) ∙ take-append_seam k.answers k.later) k.func
       ∙ sym (at_effect d r.func k.instance.args false g.machine k.answers k.machine).0
 
   -- what the step was answered is the first answer that the run has still to be given
@@ -148,11 +143,8 @@ module _ (d : Deployment) (book : List Entry) (p : PlainState) (r : Run) (g : Be
       ap (wants d k.instance.func k.instance.args false) (sym (all_here e)) ∙ ap (λ f. wants d f k.instance.args false k.answers) k.func
       ∙ sym (at_effect d r.func k.instance.args false g.machine k.answers k.machine).0
 
-pub sane_of : (d : Deployment) (p : PlainState) (id : IntentId) (q : Instance) → Sane d p → map.get p.made id ≡ Some q → SaneInstance d q
-sane_of d p id q s is = subst (λ o. SaneAt d o) is (s id)
-
 -- an effect with an answer wants one
-wants_it : (e : Effect) (a : Answer) → IsAnswerTo e a → IsTrue (wants_answer e)
+pub wants_it : (e : Effect) (a : Answer) → IsAnswerTo e a → IsTrue (wants_answer e)
 wants_it (Return o) a is = absurd is
 wants_it e a is = refl
 
@@ -177,11 +169,11 @@ module _ (d : Deployment) (c : Core) (m : Rows) (i : ℕ) (r : Run) (g : Begun) 
   Leaves s n = AfterTurn d h.plain c i r.id (turned_by d r g s) n
 
   pub sane_here : SaneInstance d k.instance
-  sane_here = sane_of d h.plain r.id k.instance h.sane k.made
+  sane_here = sane_of d h.plain r.id k.instance (legal_is_sane d c.book h.plain h.legal) k.made
 
   -- the effect goes on from a stage, of which the run knows what it has to
   pub goes_on : (n : Rows) (s : Stage) → SameRoots m n → RowsMatch d n h.plain → StageOk e s → PlaceOk d c.book r.id r.func k.answers k.later e s → Leaves (On s None) n
-  goes_on n s roots rows ok at = quiet d c m n i r h live roots (Some (record r { at = Some (record { machine = g.machine; stage = s }) })) (record {
+  goes_on n s roots rows ok at = quiet d c m n i r h live roots None (Some (record r { at = Some (record { machine = g.machine; stage = s }) })) (record {
     instance = k.instance;
     made = k.made;
     func = k.func;
@@ -193,9 +185,13 @@ module _ (d : Deployment) (c : Core) (m : Rows) (i : ℕ) (r : Run) (g : Begun) 
     run_place = subst (λ e. PlaceOk d c.book r.id r.func k.answers k.later e s) (sym is) at;
   }) rows
 
+  -- it waits where it stands
+  pub waits : (w : Wait) (n : Rows) → SameRoots m n → RowsMatch d n h.plain → Leaves (Waits w) n
+  waits w n roots rows = quiet d c m n i r h live roots (Some w) (Some r) (subst (RunAt d c.book h.plain) live (h.runs.runs i)) rows
+
   -- the run is over
   pub ends : Leaves (Ends None None) m
-  ends = quiet d c m m i r h live (λ t. refl) None tt h.rows
+  ends = quiet d c m m i r h live (λ t. refl) None None tt h.rows
 
   -- what the step was answered, where it was, is an answer to its effect
   pub fits : (a : Answer) (rest : List Answer) → k.later ≡ a ∷ rest → IsAnswerTo e a
@@ -205,9 +201,9 @@ module _ (d : Deployment) (c : Core) (m : Rows) (i : ℕ) (r : Run) (g : Begun) 
   answers_it a ok = subst (λ e. IsTrue (wants_answer e)) (sym is) (wants_it e a ok)
 
   -- it replays: the answer is the one that its instance has
-  pub replays : (a : Answer) (rest : List Answer) → k.later ≡ a ∷ rest → Leaves (Answers a None) m
-  replays a rest left = quiet d c m m i r h live (λ t. refl) (Some (record r { at = Some (standing (resumed d g.machine a)) }))
-      (knows_next d c.book h.plain r g.machine k.instance a k.answers rest k.made k.func (ap (λ ys. k.answers ++ ys) (sym left) ∙ k.run_answers) k.machine (answers_it a (fits a rest left))) h.rows
+  pub replays : (n : Rows) (a : Answer) (rest : List Answer) → SameRoots m n → RowsMatch d n h.plain → k.later ≡ a ∷ rest → Leaves (Answers a None) n
+  replays n a rest roots rows left = quiet d c m n i r h live roots None (Some (record r { at = Some (standing (resumed d g.machine a)) }))
+      (knows_next d c.book h.plain r g.machine k.instance a k.answers rest k.made k.func (ap (λ ys. k.answers ++ ys) (sym left) ∙ k.run_answers) k.machine (answers_it a (fits a rest left))) rows
 
   -- it steps on: the instance has the answer now
   pub not_over : k.later ≡ [] → IsTrue (wants_answer e) → k.instance.outcome ≡ None
@@ -219,8 +215,6 @@ module _ (d : Deployment) (c : Core) (m : Rows) (i : ℕ) (r : Run) (g : Begun) 
 
   pub steps_on : (a : Answer) (by : Mark) (q : PlainState) (n : Rows) → k.later ≡ [] → IsAnswerTo e a → q.made ≡ map.insert h.plain.made r.id (answered k.instance a) → Entered d c h.plain (entry_of r.id by) q → SameRoots m n → RowsMatch d n q → Leaves (Answers a (Some by)) n
   steps_on a by q n left ok made leads roots rows = entered d c m n i r h live roots by (Some (record r { at = Some (standing (resumed d g.machine a)) })) None q leads
-      (λ id. subst (λ f. SaneAt d (map.get f id)) (sym made) (made_set h.plain.made r.id (answered k.instance a) (λ id s. SaneAt d s)
-      (sane_pushed d k.instance a (not_over left (wants_it e a ok)) (subst (λ z. IsAnswerTo z a) (sym (effect_next d c.book h.plain r g k left ∙ is)) ok) sane_here) h.sane id))
       (λ o told. cc)
       (knows_next d (c.book ++ entry_of r.id by ∷ []) q r g.machine (answered k.instance a) a k.answers []
       (ap (λ f. map.get f r.id) made ∙ get_set id_total id_exact h.plain.made r.id (answered k.instance a)) k.func (ap (λ xs. xs ++ a ∷ []) (all_here d c.book h.plain r g k left)) k.machine (answers_it a ok))
@@ -257,9 +251,9 @@ root_outcome : (b : Option Body) (o : Option Outcome) (q : Instance) → BodyMat
 root_outcome None o q h = cc
 root_outcome (Some b) o q h = ap (λ z. z.outcome) (same_some h.made) ∙ h.outcome
 
-replied : (b : Bool) (o u : Outcome) → reply_if b o ≡ Some u → u ≡ o
-replied true o u h = same_some (sym h)
-replied false o u h = cc
+root_is : (t : ℕ) (hops : List ℕ) → has_no_hops hops ≡ true → record { ticket = t; hops = hops } ≡ root_of t
+root_is t [] h = refl
+root_is t (x ∷ xs) h = cc
 
 module _ (d : Deployment) (c : Core) (m : Rows) (i : ℕ) (r : Run) (g : Begun) (h : Right d c m) (live : map.get c.runs i ≡ Some r) (k : Knows d c.book h.plain r g) (o : Outcome) (is : g.machine.effect ≡ Return o) where
   abbrev key : RowKey
@@ -268,21 +262,13 @@ module _ (d : Deployment) (c : Core) (m : Rows) (i : ℕ) (r : Run) (g : Begun) 
   abbrev state : PlainState
   state = with_instance h.plain r.id (ended_at k.instance o)
 
-  ended_rows : (j : IntentRow) → IntentFits key.home r.id j → BodyMatches j.body j.outcome (Some k.instance) → RowsMatch d (set_row m key (Some (rows.Intent (end_row o c.now j)))) state
-  ended_rows j f root =
-      let t = r.id.ticket in
+  ended_rows : (j : IntentRow) → has_no_hops r.id.hops ≡ true → IsRootRow j (Some k.instance) → RowsMatch d (set_row m key (Some (rows.Intent (end_row o c.now j)))) state
+  ended_rows j root f =
       let q = ended_at k.instance o in
-      let row = Some (rows.Intent (end_row o c.now j)) in
-      let made : map.get h.plain.made (root_of t) ≡ Some k.instance = ap (map.get h.plain.made) (sym f.root) ∙ k.made in
-      subst (λ z. RowsMatch d (set_row m z row) state) (sym (own_key r j f))
-      (subst (λ z. RowsMatch d (set_row m (root_key t) row) (with_instance h.plain z q)) (sym f.root)
-      (root_set d m h.plain (with_instance h.plain (root_of t) q) t (end_row o c.now j)
-      (record { root = refl; home_is = refl; bare = λ e. absurd (has_body j.body j.outcome k.instance root e); finishes = finished c.now j.finish })
-      refl
-      (λ x a. made_set h.plain.made (root_of t) q (λ id s. owed_by d x a.step s ≡ owed_by d x a.step (map.get h.plain.made id)) (ap (owed_by d x a.step) (sym made)) (λ id. refl) a.intent)
-      (λ u a. made_set h.plain.made (root_of t) q (λ id s. owed_value d u a.step s ≡ owed_value d u a.step (map.get h.plain.made id)) (ap (owed_value d u a.step) (sym made)) (λ id. refl) a.intent)
-      (roots_moved m h.plain.made t (end_row o c.now j) q (root_ended j.body j.outcome k.instance o root) h.rows.roots)
-      h.rows))
+      let own : record { home = 0; kind = kinds.Intent r.id } ≡ key = λ i. record { home = if sym root i then 0 else r.func; kind = kinds.Intent r.id } in
+      subst (λ z. RowsMatch d (set_row m z (Some (rows.Intent (end_row o c.now j)))) state) own
+      (root_moved d h.plain r.id q (subst (λ s. OwesSame d s q) (sym k.made) (record { notes = λ x n. refl; holds = λ x. refl; values = λ f n. refl })) m (end_row o c.now j) root
+      (record { bare = λ e. absurd (has_body j.body j.outcome k.instance f.body e); finishes = finished c.now j.finish; body = root_ended j.body j.outcome k.instance o f.body }) h.rows)
 
   -- a body that returns was answered nothing more
   no_answer : (later : List Answer) → k.later ≡ later → k.later ≡ []
@@ -292,25 +278,26 @@ module _ (d : Deployment) (c : Core) (m : Rows) (i : ℕ) (r : Run) (g : Begun) 
   returns_now : effect_of d k.instance ≡ Return o
   returns_now = effect_next d c.book h.plain r g k (no_answer k.later refl) ∙ is
 
-  close_did : (j : IntentRow) → map.get m key ≡ Some (rows.Intent j) → IntentFits key.home r.id j → j.outcome ≡ None
+  close_did : (j : IntentRow) → map.get m key ≡ Some (rows.Intent j) → has_no_hops r.id.hops ≡ true → IsRootRow j (Some k.instance) → j.outcome ≡ None
       → AfterTurn d h.plain c i r.id (turned_by d r g (close_says r.id (Return o) true)) (set_row m key (Some (rows.Intent (end_row o c.now j))))
-  close_did j at f none =
-      let root : BodyMatches j.body j.outcome (Some k.instance) = subst (λ z. BodyMatches j.body j.outcome z) k.made (own_root d m h.plain h.rows r j at f) in
+  close_did j at root f none =
       entered d c m (set_row m key (Some (rows.Intent (end_row o c.now j)))) i r h live (replaced m key (Some (rows.Intent (end_row o c.now j))) (ap is_some (sym at)))
       mark.Step None (reply_if (has_no_hops r.id.hops) o) state
-      (change_entered d c m h (Step r.id) state refl (enabled_step d h.plain r.id k.instance k.made (root_outcome j.body j.outcome k.instance root ∙ none) (ap kind_of returns_now) ∙ ap (λ z. Some (step_by h.plain r.id k.instance z)) returns_now))
-      (made_set h.plain.made r.id (ended_at k.instance o) (λ id s. SaneAt d s) (sane_ended d k.instance o returns_now (sane_here d c m i r g h live k (Return o) is)) h.sane)
-      (λ u told. ap (λ z. outcome_of (map.get state.made z)) (sym f.root) ∙ ap outcome_of (get_set id_total id_exact h.plain.made r.id (ended_at k.instance o)) ∙ ap Some (sym (replied (has_no_hops r.id.hops) o u told)))
-      tt (ended_rows j f root)
+      (change_entered d c m h (Step r.id) state refl (enabled_step d h.plain r.id k.instance k.made (root_outcome j.body j.outcome k.instance f.body ∙ none) (ap kind_of returns_now) ∙ ap (λ z. Some (step_by h.plain r.id k.instance z)) returns_now))
+      (λ u told. ap (λ z. outcome_of (map.get state.made z)) (sym (root_is r.id.ticket r.id.hops root)) ∙ ap outcome_of (get_set id_total id_exact h.plain.made r.id (ended_at k.instance o)) ∙ sym (ap (λ b. reply_if b o) root) ∙ told)
+      tt (ended_rows j root f)
 
   abbrev AfterClose : Option Row × Tell → Type 0
   AfterClose z = AfterAct d h.plain m key (λ t. turn_next c i r.id (turned_by d r g (close_says r.id (Return o) (is_did t)))) z
 
-  close_by : (j : IntentRow) (u : Option Outcome) → j.outcome ≡ u → map.get m key ≡ Some (rows.Intent j) → IntentFits key.home r.id j → AfterClose (Some (rows.Intent (end_with o true c.now j u).0), (end_with o true c.now j u).1)
-  close_by j None none at f = close_did j at f none
-  close_by j (Some u) some at f = still d h.plain m key (Some (rows.Intent j)) (sym at) (ends d c m i r g h live k (Return o) is)
+  close_by : (j : IntentRow) (u : Option Outcome) → j.outcome ≡ u → map.get m key ≡ Some (rows.Intent j) → has_no_hops r.id.hops ≡ true → IsRootRow j (Some k.instance) → AfterClose (Some (rows.Intent (end_with o true c.now j u).0), (end_with o true c.now j u).1)
+  close_by j None none at root f = close_did j at root f none
+  close_by j (Some u) some at root f = still d h.plain m key (Some (rows.Intent j)) (sym at) (ends d c m i r g h live k (Return o) is)
 
-  pub close_turn : (w : Option Row) → map.get m key ≡ w → FitsAt key w → AfterClose (act (End o true) c.now w)
-  close_turn None at f = still d h.plain m key None (sym at) (ends d c m i r g h live k (Return o) is)
-  close_turn (Some (rows.Intent j)) at f = close_by j j.outcome refl at f
-  close_turn (Some w) at f = absurd f
+  close_at : (b : Bool) → ((key.home == 0) && has_no_hops r.id.hops) ≡ b → (w : Option Row) → map.get m key ≡ w → IntentMatches b w (Some k.instance) → AfterClose (act (End o true) c.now w)
+  close_at b root None at f = still d h.plain m key None (sym at) (ends d c m i r g h live k (Return o) is)
+  close_at b root (Some (rows.Intent j)) at f = close_by j j.outcome refl at (second_so (key.home == 0) (has_no_hops r.id.hops) (root ∙ is_root b (rows.Intent j) (Some k.instance) f)) (root_row b j (Some k.instance) f)
+  close_at b root (Some w) at f = still d h.plain m key (Some w) (sym at) (ends d c m i r g h live k (Return o) is)
+
+  pub close_turn : AfterClose (act (End o true) c.now (map.get m key))
+  close_turn = let b = (key.home == 0) && has_no_hops r.id.hops in close_at b refl (map.get m key) refl (subst (IntentMatches b (map.get m key)) k.made (h.rows.keys key))

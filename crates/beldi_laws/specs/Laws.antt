@@ -20,7 +20,7 @@ use Rattle.beldi_step.specs.declared.event.Seen.TheVariants as seen
 use Rattle.beldi_step.specs.Host.{Core, first_core}
 use Rattle.beldi_step.specs.Forms.{IsOneEvent, Breaks, is_lost}
 use Rattle.beldi_step.specs.Tables.{tables_text}
-use Rattle.beldi_laws.specs.Stands.{head_key, content_of, Stands}
+use Rattle.beldi_laws.specs.Stands.{is_row_of, content_of, Stands}
 use Rattle.beldi_laws.specs.Right.{Right}
 use Rattle.beldi_laws.specs.OneAnswer.{OneAnswerPerStep, AnswersStay}
 
@@ -139,7 +139,7 @@ pub record HeldAnswersStay : Type 0 where
 pub record OneRowChanged (c : Core) (m n : Rows) : Type 0 where
   pub key : RowKey
   pub rows : (n ≡ m) ⊎ ((a : Act) × (n ≡ after_act a c.now key m))
-  pub others : (x : Item) → (head_key x ≡ key → ⊥) → content_of n x ≡ content_of m x
+  pub others : (x : Item) → is_row_of x key ≡ false → content_of n x ≡ content_of m x
 
 -- .. in an event, and where want of memory came
 pub record ChangesOneRow : Type 0 where

@@ -1,16 +1,16 @@
 -- What every event keeps: the host and its rows are right.
-use Rattle.std.specs.Prelude.{◌≡◌, ℕ, ◌≤◌, nat_lt, nat_le, ◌&&◌, false, List, [], ◌++◌, slice_get, ◌==◌, Option, Some, None, is_some, IsTrue, if◌then◌else◌}
+use Rattle.std.specs.Prelude.{◌≡◌, ℕ, zero, suc, ◌≤◌, nat_lt, nat_le, ◌&&◌, Bool, true, false, List, [], ◌++◌, slice_get, ◌==◌, Option, Some, None, is_some, IsTrue, if◌then◌else◌}
 use Rattle.std.specs.FinMap as map
 use Rattle.std.specs.FinMap.{FinMap}
 use Rattle.std.specs.Ordering.{nat_cmp, is_eq}
-use Rattle.beldi_value.specs.Id.{root_of}
+use Rattle.beldi_value.specs.Id.{has_no_hops}
 use Rattle.beldi_value.specs.declared.id.IntentId.{IntentId}
+use Rattle.beldi_value.specs.declared.place.Owner.{Owner}
 use Rattle.beldi_value.specs.declared.place.Place.{Place}
 use Rattle.beldi_value.specs.declared.outcome.Outcome.{Outcome}
 use Rattle.beldi_value.specs.declared.value.Value.{Value}
 use Rattle.beldi_tree.specs.declared.deployment.Deployment.{Deployment}
 use Rattle.beldi_lang.specs.declared.effect.Answer.{Answer}
-use Rattle.beldi_lang.specs.declared.effect.Answer.TheVariants.{Done}
 use Rattle.beldi_lang.specs.declared.effect.Answer.TheVariants as answer
 use Rattle.beldi_lang.specs.declared.effect.Effect.{Effect}
 use Rattle.beldi_lang.specs.declared.effect.Effect.TheVariants.{Read, Write, Return}
@@ -19,20 +19,20 @@ use Rattle.beldi_row.specs.declared.key.RowKey.{RowKey}
 use Rattle.beldi_row.specs.declared.key.Kind.{Kind}
 use Rattle.beldi_row.specs.declared.key.Kind.TheVariants as kinds
 use Rattle.beldi_row.specs.declared.notes.Note.{Note}
-use Rattle.beldi_row.specs.declared.notes.Note.TheVariants.{Wrote}
 use Rattle.beldi_row.specs.declared.row.Body.{Body}
-use Rattle.beldi_row.specs.declared.row.Cell.{Cell}
 use Rattle.beldi_row.specs.declared.row.IntentRow.{IntentRow}
 use Rattle.beldi_row.specs.declared.row.Row.{Row}
 use Rattle.beldi_row.specs.declared.row.Row.TheVariants as rows
-use Rattle.beldi_row.specs.Log.{note_at, NoneTwice}
+use Rattle.beldi_row.specs.Log.{note_at, owner_eq}
 use Rattle.beldi_row.specs.Table.{Rows}
 use Rattle.beldi_book.specs.declared.entry.Entry.{Entry}
 use Rattle.beldi_book.specs.Order.{count_changes, SeenBounded}
-use Rattle.beldi_readlog.specs.ReadLog.{log_key, given}
+use Rattle.beldi_daal.specs.Content.{Content, SoundAt}
 use Rattle.beldi_order.specs.Laws.{IsStateAt}
+use Rattle.beldi_order.specs.Sane.{effect_before}
 use Rattle.beldi_plain.specs.Item.{Item, item_cmp}
-use Rattle.beldi_plain.specs.Plain.{Instance, PlainState, value_at, effect_of, kind_of}
+use Rattle.beldi_plain.specs.Operation.{OnItem, op_of, item_in, holds_as}
+use Rattle.beldi_plain.specs.Plain.{Instance, PlainState, value_at, kind_of}
 use Rattle.beldi_plain.specs.Legal.{run_of}
 use Rattle.beldi_plain.specs.declared.kind.Kind.TheVariants as kind
 use Rattle.beldi_step.specs.declared.run.Run.{Run}
@@ -41,13 +41,17 @@ use Rattle.beldi_step.specs.declared.run.Stage.{Stage}
 use Rattle.beldi_step.specs.declared.run.Stage.TheVariants as stage
 use Rattle.beldi_step.specs.Intent.{root_key}
 use Rattle.beldi_step.specs.Host.{Core, most_runs}
-use Rattle.beldi_laws.specs.Stands.{content_of, effect_before}
+use Rattle.beldi_laws.specs.Stands.{content_of, noted}
 
 -- ---- what the rows owe to a plain state
--- the note of an answer to an effect of a function, where the effect is one of this item
+-- the note of an answer to an operation of a function, where it is one on this item
+abbrev pub note_of : Item → ℕ → Option OnItem → Answer → Option Note
+note_of x func None a = None
+note_of x func (Some o) a = if is_eq (item_cmp (item_in func o) x) then noted o.does a else None
+
+-- that of an answer to an effect
 abbrev pub note_for : Item → ℕ → Effect → Answer → Option Note
-note_for x func (Write t k v) Done = if is_eq (item_cmp (record { func = func; table = t; key = k }) x) then Some Wrote else None
-note_for x func e a = None
+note_for x func e a = note_of x func (op_of e) a
 
 -- none where there was no answer
 abbrev pub note_if : Item → ℕ → Effect → Option Answer → Option Note
@@ -97,82 +101,57 @@ abbrev pub BodyMatches : Option Body → Option Outcome → Option Instance → 
 BodyMatches None o i = i ≡ None
 BodyMatches (Some b) o i = IsRoot b o i
 
--- no row, or one without body: not made. A body: made with its function and arguments, with the row's outcome.
-abbrev pub RootMatches : Option Row → Option Instance → Type 0
-RootMatches None i = i ≡ None
-RootMatches (Some (rows.Intent r)) i = BodyMatches r.body r.outcome i
-RootMatches (Some r) i = ⊥
+-- ---- the rows match a plain state: key by key, and item by item
+-- the owner, if any, is this one
+abbrev pub is_owner : Option Owner → Owner → Bool
+is_owner None o = false
+is_owner (Some w) o = owner_eq w o
 
--- ---- what rows there are
--- the row of an intent
-pub record IntentFits (home : ℕ) (id : IntentId) (i : IntentRow) : Type 0 where
-  -- it is a root's, and stands in home 0
-  pub root : id ≡ root_of id.ticket
-  pub home_is : home ≡ 0
-  -- a row without body has no outcome
-  pub bare : i.body ≡ None → i.outcome ≡ None
+-- an item has its plain value; its owner is who holds its lock; and it has a note at a place exactly where it owes one
+pub record ItemMatches (d : Deployment) (p : PlainState) (x : Item) (c : Content) : Type 0 where
+  pub value : c.value ≡ value_at p x
+  pub owner : (o : Owner) → is_owner c.owner o ≡ holds_as d p x o
+  pub notes : (a : Place) → note_at c.notes a ≡ owed_note d p x a
+
+-- the row of a root
+pub record IsRootRow (r : IntentRow) (i : Option Instance) : Type 0 where
+  -- one without body has no outcome
+  pub bare : r.body ≡ None → r.outcome ≡ None
   -- there is a finish exactly where there is an outcome
-  pub finishes : is_some i.finish ≡ is_some i.outcome
+  pub finishes : is_some r.finish ≡ is_some r.outcome
+  -- the root was made exactly where there is a body
+  pub body : BodyMatches r.body r.outcome i
 
--- a row of an item
-pub record CellFits (row : ℕ) (c : Cell) : Type 0 where
-  -- it is the first, and no row follows it
-  pub head : row ≡ 0
-  pub last : c.next ≡ None
-  -- it is not to be removed
-  pub kept : c.marked ≡ false
-  pub linked : c.dangled ≡ None
-  -- no place occurs twice in it
-  pub once : NoneTwice c.log
+-- the row of an intent, by whether its key is that of a root. No other intent has one yet.
+abbrev pub IntentMatches : Bool → Option Row → Option Instance → Type 0
+IntentMatches true None i = i ≡ None
+IntentMatches true (Some (rows.Intent r)) i = IsRootRow r i
+IntentMatches true (Some r) i = ⊥
+IntentMatches false r i = r ≡ None
 
--- a row fits its key: there are rows of roots, rows of reads and first rows of items, and no others
-abbrev pub Fits : ℕ → Kind → Row → Type 0
-Fits home (kinds.Intent id) (rows.Intent i) = IntentFits home id i
-Fits home (kinds.ReadLog a) (rows.ReadLog v) = Unit {0}
-Fits home (kinds.Data t k n) (rows.Cell c) = CellFits n c
-Fits home k r = ⊥
+-- the row of a read, by the value that is owed there
+abbrev pub LogMatches : Option Row → Option Value → Type 0
+LogMatches None o = o ≡ None
+LogMatches (Some (rows.ReadLog v)) o = o ≡ Some v
+LogMatches (Some r) o = ⊥
 
--- what is at a key, if anything, fits it
-abbrev pub FitsAt : RowKey → Option Row → Type 0
-FitsAt k None = Unit {0}
-FitsAt k (Some r) = Fits k.home k.kind r
+-- the shape of an item's rows: there is a first one or none, and no other. What it holds is said of the item.
+abbrev pub CellMatches : ℕ → Option Row → Type 0
+CellMatches zero r = SoundAt r
+CellMatches (suc n) r = r ≡ None
 
--- the rows match a plain state; each part speaks of all keys, and in both directions
+-- the row of a key, by its kind. There are no rows of other kinds yet.
+abbrev pub RowMatches : Deployment → PlainState → ℕ → Kind → Option Row → Type 0
+RowMatches d p home (kinds.Intent id) r = IntentMatches ((home == 0) && has_no_hops id.hops) r (map.get p.made id)
+RowMatches d p home (kinds.ReadLog a) r = LogMatches r (owed_read d p home a)
+RowMatches d p home (kinds.Data t k n) r = CellMatches n r
+RowMatches d p home k r = r ≡ None
+
 pub record RowsMatch (d : Deployment) (m : Rows) (p : PlainState) : Type 0 where
-  -- each item has its plain value, and no owner
-  pub items : (x : Item) → (content_of m x).value ≡ value_at p x
-  pub owners : (x : Item) → (content_of m x).owner ≡ None
-  -- an item has a note at a place exactly where it owes one
-  pub notes : (x : Item) (a : Place) → note_at (content_of m x).notes a ≡ owed_note d p x a
-  -- a function's log has a value at a place exactly where it owes one
-  pub reads : (func : ℕ) (a : Place) → given m (log_key func a) ≡ owed_read d p func a
-  -- a root was made exactly where its row has a body
-  pub roots : (t : ℕ) → RootMatches (map.get m (root_key t)) (map.get p.made (root_of t))
-  -- and there are no other rows
-  pub one_row : (k : RowKey) → FitsAt k (map.get m k)
-
--- ---- what every plain state of a legal book is, whatever the rows are
--- the answer is one to the effect. The effects that are not carried out yet have none.
-abbrev pub IsAnswerTo : Effect → Answer → Type 0
-IsAnswerTo (Read t k) (answer.Value v) = Unit {0}
-IsAnswerTo (Write t k v) Done = Unit {0}
-IsAnswerTo e a = ⊥
-
--- an instance that went as its body wants
-pub record SaneInstance (d : Deployment) (q : Instance) : Type 0 where
-  -- what was answered was an effect that is answered so
-  pub past : (n : ℕ) (a : Answer) → slice_get q.answers n ≡ Some a → IsAnswerTo (effect_before d q n) a
-  -- an outcome is there only where the body returns it
-  pub over : (o : Outcome) → q.outcome ≡ Some o → effect_of d q ≡ Return o
-
--- what is at an id, if anything, is sane
-abbrev pub SaneAt : Deployment → Option Instance → Type 0
-SaneAt d None = Unit {0}
-SaneAt d (Some q) = SaneInstance d q
-
--- every instance that was made is
-abbrev pub Sane : Deployment → PlainState → Type 0
-Sane d p = (id : IntentId) → SaneAt d (map.get p.made id)
+  -- every row, there or absent, matches at its key
+  pub keys : (k : RowKey) → RowMatches d p k.home k.kind (map.get m k)
+  -- every item matches by its content
+  pub items : (x : Item) → ItemMatches d p x (content_of m x)
 
 -- ---- what a run knows
 -- where an effect may stand
@@ -245,7 +224,6 @@ pub record Right (d : Deployment) (c : Core) (m : Rows) : Type 0 where
   pub bounded : SeenBounded 0 c.book
   pub plain : PlainState
   pub legal : run_of d c.book ≡ Some plain
-  pub sane : Sane d plain
   -- the rows stand for it
   pub rows : RowsMatch d m plain
   -- a root has its row exactly where its ticket was issued

@@ -1,17 +1,18 @@
 -- That rows stand for a plain state.
-use Rattle.std.specs.Prelude.{◌≡◌, ℕ, false, take, slice_get, Option, Some, None, option_and_then}
+use Rattle.std.specs.Prelude.{◌≡◌, ℕ, Bool, false, slice_get, Option, Some, None, option_and_then}
 use Rattle.std.specs.FinMap as map
+use Rattle.std.specs.Ordering.{is_eq}
 use Rattle.beldi_value.specs.Id.{root_of}
 use Rattle.beldi_value.specs.declared.id.IntentId.{IntentId}
 use Rattle.beldi_value.specs.declared.outcome.Outcome.{Outcome}
+use Rattle.beldi_value.specs.declared.place.Place.{Place}
 use Rattle.beldi_value.specs.declared.value.Value.TheVariants as value
 use Rattle.beldi_tree.specs.declared.deployment.Deployment.{Deployment}
 use Rattle.beldi_lang.specs.declared.effect.Answer.{Answer}
 use Rattle.beldi_lang.specs.declared.effect.Answer.TheVariants.{Done}
 use Rattle.beldi_lang.specs.declared.effect.Answer.TheVariants as answer
 use Rattle.beldi_lang.specs.declared.effect.Effect.{Effect}
-use Rattle.beldi_lang.specs.declared.effect.Effect.TheVariants.{Read, Write}
-use Rattle.beldi_lang.specs.Wants.{wants}
+use Rattle.beldi_lang.specs.declared.effect.Effect.TheVariants.{Read}
 use Rattle.beldi_row.specs.declared.key.RowKey.{RowKey}
 use Rattle.beldi_row.specs.declared.key.Kind.TheVariants as kinds
 use Rattle.beldi_row.specs.declared.notes.Note.{Note}
@@ -19,20 +20,26 @@ use Rattle.beldi_row.specs.declared.notes.Note.TheVariants as notes
 use Rattle.beldi_row.specs.declared.row.Body.{Body}
 use Rattle.beldi_row.specs.declared.row.IntentRow.{IntentRow}
 use Rattle.beldi_row.specs.declared.row.Row.TheVariants as rows
-use Rattle.beldi_row.specs.Key.{head_key as first_row}
+use Rattle.beldi_row.specs.Key.{key_cmp, head_key as first_row}
 use Rattle.beldi_row.specs.Log.{note_at}
 use Rattle.beldi_row.specs.Table.{Rows}
 use Rattle.beldi_daal.specs.Content.{Content, content_in, SoundAt}
 use Rattle.beldi_readlog.specs.ReadLog.{log_key, given}
 use Rattle.std.specs.Option.{option_map}
 use Rattle.beldi_plain.specs.Item.{Item}
+use Rattle.beldi_plain.specs.Operation.{Operation, OnItem, op_of, item_in, write, cond, lock, free}
 use Rattle.beldi_plain.specs.Plain.{Instance, PlainState, value_at}
+use Rattle.beldi_order.specs.Sane.{effect_before}
 use Rattle.beldi_step.specs.Intent.{root_key, is_ended}
 
 -- ---- what the rows hold of an item
 -- the key of an item's first row
 abbrev pub head_key : Item → RowKey
 head_key x = first_row x.func x.table x.key
+
+-- whether a key is that of a row of an item
+abbrev pub is_row_of : Item → RowKey → Bool
+is_row_of x k = is_eq (key_cmp (head_key x) k)
 
 -- an item has one row
 abbrev pub content_of : Rows → Item → Content
@@ -52,16 +59,24 @@ noted_answer notes.Got = Some Done
 noted_answer (notes.Died h) = None
 noted_answer notes.Freed = Some Done
 
+-- and the note that an answer to an operation leaves
+abbrev pub noted : Operation → Answer → Option Note
+noted (write v) Done = Some notes.Wrote
+noted (cond r o v) (answer.Value (value.Bool b)) = Some (notes.Cond b)
+noted lock Done = Some notes.Got
+noted free Done = Some notes.Freed
+noted o a = None
+
+-- the answer that an item's rows hold at a place, for an operation of a function on it
+abbrev pub held_note : Rows → Place → ℕ → Option OnItem → Option Answer
+held_note m p func None = None
+held_note m p func (Some o) = option_and_then noted_answer (note_at (content_of m (item_in func o)).notes p)
+
 -- the answer that the rows hold at a step of an intent of a function, for the effect that it has there: the value that was
--- given to a read, and the note that a write left
+-- given to a read, and the note that an operation left
 abbrev pub held_answer : Rows → IntentId → ℕ → ℕ → Effect → Option Answer
 held_answer m id func step (Read t k) = option_map answer.Value (given m (log_key func (record { intent = id; step = step })))
-held_answer m id func step (Write t k v) = option_and_then noted_answer (note_at (content_of m (record { func = func; table = t; key = k })).notes (record { intent = id; step = step }))
-held_answer m id func step e = None
-
--- the effect that an instance had at a step, from 0
-abbrev pub effect_before : Deployment → Instance → ℕ → Effect
-effect_before d q n = wants d q.func q.args false (take n q.answers)
+held_answer m id func step e = held_note m (record { intent = id; step = step }) func (op_of e)
 
 -- ---- the rows stand for a plain state
 -- the instance was made with the body's function and arguments; and its outcome is the row's, where the row has one

@@ -22,7 +22,7 @@ use Rattle.beldi_plain.specs.Plain.{Instance, PlainState, after, start, step_by,
 use Rattle.beldi_plain.specs.Legal.{run_from}
 use Rattle.beldi_plain.specs.declared.kind.Kind.{Kind}
 use Rattle.beldi_plain.specs.declared.kind.Kind.TheVariants as kinds
-use Rattle.beldi_order.proofs.Entries.{same_some, new_instance, Started, Stepped, Did, did, enabled_read, enabled_step, GrownAt, after_grows, run_grows, runs_on}
+use Rattle.beldi_order.proofs.Entries.{same_some, new_instance, Started, Stepped, Did, did, enabled_read, enabled_step, Grown, GrownAt, after_grows, run_grows, runs_on}
 
 -- ---- two instances that were set
 same_at : (f : FinMap id_cmp Instance) (i j : IntentId) (x y : Instance) (b c : Bool) (o : Option Instance) → (b ≡ true → c ≡ true → ⊥) → cond b (Some y) (cond c (Some x) o) ≡ cond c (Some x) (cond b (Some y) o)
@@ -82,7 +82,7 @@ module _ (d : Deployment) (p q : PlainState) (i : IntentId) (a : Instance) (v : 
       own_read (effect_of d a) stands.kind (ap (λ (r : PlainState). map.get r.made i) (ap (λ x. step_by p i x (effect_of d x)) (sym same) ∙ s.leads) ∙ stays)
   own b s = let same : s.instance ≡ a = same_some (sym s.made ∙ stands.made) in let k = sym s.kind ∙ ap (λ x. kind_of (effect_of d x)) same ∙ stands.kind in cc
 
-  apart : (j : IntentId) (b : Kind) → Stepped d p j b q → i ≡ j → ⊥
+  pub apart : (j : IntentId) (b : Kind) → Stepped d p j b q → i ≡ j → ⊥
   apart j b s same = own b (subst (λ k. Stepped d p k b q) (sym same) s)
 
   -- another instance's entry is enabled as before, and leads to the same with the answer
@@ -118,16 +118,22 @@ no_later xs ys zs l m g h = by_list l g (let n = length-append xs l in let k = l
     by_list [] g n = sym g ∙ append-nil xs
     by_list (x ∷ l) g n = absurd (omega (arith, n))
 
-pub none_before : (o u : Option Outcome) → ((x : Outcome) → o ≡ Some x → u ≡ Some x) → u ≡ None → o ≡ None
+none_before : (o u : Option Outcome) → ((x : Outcome) → o ≡ Some x → u ≡ Some x) → u ≡ None → o ≡ None
 none_before None u h is = refl
 none_before (Some x) u h is = let g = sym is ∙ h x refl in cc
 
-pub same_instance : (a b : Instance) → a.func ≡ b.func → a.args ≡ b.args → a.answers ≡ b.answers → a.outcome ≡ b.outcome → a ≡ b
+same_instance : (a b : Instance) → a.func ≡ b.func → a.args ≡ b.args → a.answers ≡ b.answers → a.outcome ≡ b.outcome → a ≡ b
 same_instance a b f g h o = λ i. record { func = f i; args = g i; answers = h i; outcome = o i }
 
 pub unmoved : (a : Instance) (o : Option Instance) → a.outcome ≡ None → GrownAt (Some a) o → GrownAt o (Some a) → o ≡ Some a
 unmoved a None none g h = absurd g
 unmoved a (Some b) none g h = ap (λ x. Some x) (same_instance b a g.func g.args (no_later a.answers b.answers [] g.later h.later g.more h.more) (none_before b.outcome a.outcome h.over none ∙ sym none))
+
+-- an instance that has gone on with no answer more, and has no outcome, is as it was
+pub not_moved : (o u : Option Instance) (i j : Instance) → o ≡ Some i → u ≡ Some j → GrownAt o u → i.answers ≡ j.answers → j.outcome ≡ None → i ≡ j
+not_moved o u i j was is g same none =
+    let h : Grown i j = subst (λ z. GrownAt (Some i) z) is (subst (λ z. GrownAt z u) was g) in
+    same_instance i j (sym h.func) (sym h.args) same (none_before i.outcome j.outcome h.over none ∙ sym none)
 
 -- ---- a read passes all entries that leave its instance as it is
 pub passes_all : (d : Deployment) (p q : PlainState) (es : List Entry) (i : IntentId) (a : Instance) (v : Answer) → StandsAtRead d p i a → map.get q.made i ≡ Some a

@@ -1,1 +1,3 @@
+pub mod Guard
 pub mod Laws
+pub mod Sane

@@ -1,5 +1,7 @@
 // The laws of the linear order, and of legal books.
 ghost use Rattle.beldi_order.specs.Laws.{LinearIsInOrder, NullIsAbsent, ChangesComeLast, LateReadsBelong};
+ghost use Rattle.beldi_order.specs.Guard.{LateReadsLeaveGuards};
+ghost use Rattle.beldi_order.specs.Sane.{LegalIsSane};
 
 /// In the linear order of a book the changes stand in book order, and behind each number of changes the reads that belong
 /// there, in book order too.
@@ -20,4 +22,15 @@ pub fn changes_come_last()
 /// A read whose instance has not moved since the place where it belongs can be added to a legal book at any time.
 pub fn late_reads_belong()
     ensures { LateReadsBelong }
+{}
+
+/// In the run of a legal book each instance was answered as its effects are, and has an outcome only where its body returns it.
+pub fn legal_is_sane()
+    ensures { LegalIsSane }
+{}
+
+/// Entries that are guarded by locks stay so where an instance that stands at a read, and still does after them, is answered
+/// before them.
+pub fn late_reads_leave_guards()
+    ensures { LateReadsLeaveGuards }
 {}

@@ -1,5 +1,6 @@
 //! What every run of the plain machine keeps, and how a legal book grows: by a change at its end, or by a read that belongs
-//! earlier. It has no code. It stands on the plain machine. Its definitions: `specs/Laws`.
+//! earlier. It has no code. It stands on the plain machine. Its definitions: `specs/Laws`, `specs/Sane` (instances that
+//! went as their bodies want), and `specs/Guard` (entries that are guarded by locks).
 //!
 //! Proved:
 //! - In the linear order the changes stand in book order, and behind each number of changes the reads that belong
@@ -10,8 +11,15 @@
 //! - A read that belongs earlier, whose instance has not moved since, can be added at any time: the longer book is
 //!   legal, its state is that of the book with the read's answer, and so are the states from its place on
 //!   (`late_reads_belong`).
+//! - In the run of a legal book each instance went as its body wants: what was answered was an effect that is answered
+//!   so, and an outcome is there only where the body returns it (`legal_is_sane`).
+//! - Entries that are guarded by locks stay so where a read that belongs earlier is answered before them
+//!   (`late_reads_leave_guards`). A legal book is not asked to be guarded yet.
 #![tactic(auto)]
 
 mod laws;
 
-pub use laws::{changes_come_last, late_reads_belong, linear_is_in_order, null_is_absent};
+pub use laws::{
+    changes_come_last, late_reads_belong, late_reads_leave_guards, legal_is_sane,
+    linear_is_in_order, null_is_absent,
+};

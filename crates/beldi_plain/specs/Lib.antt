@@ -5,4 +5,5 @@ pub mod Executor
 pub mod Item
 pub mod Legal
 pub mod Listing
+pub mod Operation
 pub mod Plain

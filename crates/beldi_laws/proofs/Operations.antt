@@ -1,0 +1,200 @@
+-- The turns of an operation on an item: they rest on the law that a chain is a logged cell, and on what each operation is.
+use Rattle.std.proofs.Common.{◌≡◌, ℕ, Bool, true, false, List, [], ◌∷◌, Option, None, Some, refl, ap, sym, ◌∙◌, subst, is_some, if◌then◌else◌}
+use Rattle.std.specs.Prelude.{slice_get, option_and_then}
+use Rattle.std.specs.FinMap as map
+use Rattle.std.specs.Ordering.{is_eq}
+use Rattle.std.proofs.lemmas.Cmp.{tied_itself}
+use Rattle.beldi_value.specs.declared.id.IntentId.{IntentId}
+use Rattle.beldi_value.specs.declared.place.Owner.{Owner}
+use Rattle.beldi_value.specs.declared.place.Place.{Place}
+use Rattle.beldi_value.specs.declared.value.Value.{Value}
+use Rattle.beldi_tree.specs.declared.deployment.Deployment.{Deployment}
+use Rattle.beldi_lang.specs.declared.effect.Answer.{Answer}
+use Rattle.beldi_lang.specs.declared.effect.Answer.TheVariants as answer
+use Rattle.beldi_lang.specs.declared.effect.Effect.{Effect}
+use Rattle.beldi_lang.specs.declared.effect.Effect.TheVariants as effect
+use Rattle.beldi_book.specs.declared.entry.Entry.{Entry}
+use Rattle.beldi_book.specs.declared.entry.Entry.TheVariants.{Step}
+use Rattle.beldi_row.specs.declared.key.RowKey.{RowKey}
+use Rattle.beldi_row.specs.declared.key.Kind.TheVariants as kinds
+use Rattle.beldi_row.specs.declared.notes.Note.{Note}
+use Rattle.beldi_row.specs.Key.{key_cmp}
+use Rattle.beldi_row.specs.Log.{note_at}
+use Rattle.beldi_row.specs.Table.{Rows}
+use Rattle.beldi_row.proofs.Logs.{note_here}
+use Rattle.beldi_walk.specs.declared.query.Query.{Query}
+use Rattle.beldi_walk.specs.Query.{rows_after, told_by}
+use Rattle.beldi_daal.specs.declared.cell.WriteAt.{WriteAt}
+use Rattle.beldi_daal.specs.declared.cell.WriteGoes.{WriteGoes}
+use Rattle.beldi_daal.specs.declared.cell.WriteGoes.TheVariants as writes
+use Rattle.beldi_daal.specs.declared.walk.CellOp.{CellOp}
+use Rattle.beldi_daal.specs.declared.walk.CellOp.TheVariants as cell
+use Rattle.beldi_daal.specs.declared.walk.Item.TheVariants.{Plain}
+use Rattle.beldi_daal.specs.declared.walk.WriteWalk.{WriteWalk}
+use Rattle.beldi_daal.specs.Cell.{cell_key, write_goes}
+use Rattle.beldi_daal.specs.Content.{SoundAt}
+use Rattle.beldi_daal.specs.Logged.{note_after, DidOnce, Logs, LoggedTurn}
+use Rattle.beldi_daal.specs.Walk.{op_asks, walk_so}
+use Rattle.beldi_daal.proofs.Logged.{by_op}
+use Rattle.beldi_plain.specs.Item.{Item, item_total}
+use Rattle.beldi_plain.specs.Operation.{OnItem, Operation, op_of, item_in, sets, set_if, answer_after, write}
+use Rattle.beldi_plain.specs.Plain.{Instance, PlainState, value_at, step_by, effect_of, answered, kind_of}
+use Rattle.beldi_plain.specs.declared.kind.Kind.TheVariants as kind
+use Rattle.beldi_order.specs.Sane.{Answers as OpAnswered, IsAnswerTo, effect_before}
+use Rattle.beldi_order.proofs.Entries.{same_some, enabled_step}
+use Rattle.beldi_step.specs.declared.run.Run.{Run}
+use Rattle.beldi_step.specs.declared.run.Begun.{Begun}
+use Rattle.beldi_step.specs.declared.run.Mark.TheVariants as mark
+use Rattle.beldi_step.specs.declared.run.Says.{Says}
+use Rattle.beldi_step.specs.declared.run.Says.TheVariants.{On, Waits, Answers}
+use Rattle.beldi_step.specs.declared.run.Stage.TheVariants as stage
+use Rattle.beldi_step.specs.declared.run.Wait.TheVariants as wait
+use Rattle.beldi_step.specs.Intent.{root_key}
+use Rattle.beldi_step.specs.Run.{place_of, turned_by, mark_if, write_says}
+use Rattle.beldi_step.specs.Host.{Core, turn_next}
+use Rattle.beldi_laws.specs.Stands.{head_key, content_of, noted, noted_answer}
+use Rattle.beldi_laws.specs.Right.{Right, RowsMatch, Knows, StageOk, PlaceOk, owed_by, note_if, note_of}
+use Rattle.beldi_laws.proofs.Rows.{no_root}
+use Rattle.beldi_laws.proofs.Steps.{Does, DoneRows, operation_done, content_kept}
+use Rattle.beldi_laws.proofs.Moves.{AfterTurn, AfterQuery, SameRoots, change_entered}
+use Rattle.beldi_laws.proofs.Turns.{effect_here, answer_here, step_here, effect_next, wants_it, fits, not_over, goes_on, waits, replays, steps_on}
+
+-- what is answered to an operation is what its note reads as
+pub noted_back : (o : Operation) (a : Answer) → OpAnswered o a → option_and_then noted_answer (noted o a) ≡ Some a
+noted_back (write v) answer.Done ok = refl
+noted_back o a ok = absurd ok
+
+has_note : (n : Option Note) (a : Answer) → option_and_then noted_answer n ≡ Some a → is_some n ≡ true
+has_note None a h = cc
+has_note (Some n) a h = refl
+
+-- ---- what an effect is that is an operation on an item: its plain step, its operation on cells, and what its stage says. This
+-- is all that the turns ask of it.
+pub record IsOperation (e : Effect) (o : OnItem) (op : CellOp) (says : WriteGoes → Says) : Type 0 where
+  is_op : op_of e ≡ Some o
+  does : Does o.does op
+  -- its plain step
+  change : kind_of e ≡ kind.Change
+  step : (p : PlainState) (id : IntentId) (q : Instance) → let x = item_in q.func o in
+      step_by p id q e ≡ record { items = set_if p.items x (sets o.does (value_at p x)); made = map.insert p.made id (answered q (answer_after o.does (value_at p x))) }
+  answers : (w : Value) → IsAnswerTo e (answer_after o.does w)
+  answered_so : (a : Answer) → IsAnswerTo e a → OpAnswered o.does a
+  -- its stage, and what that says: a note is told as the answer that it reads as
+  stage_ok : (at : WriteAt) → StageOk e (stage.Write at)
+  place_ok : (d : Deployment) (book : List Entry) (id : IntentId) (func : ℕ) (given later : List Answer) (at : WriteAt) → PlaceOk d book id func given later e (stage.Write at)
+  goes : (at : WriteAt) → says (writes.On at) ≡ On (stage.Write at) None
+  held : (w : Owner) → says (writes.Held w) ≡ Waits (wait.Held w)
+  done : (b : Bool) (n : Note) (a : Answer) → noted o.does a ≡ Some n → says (writes.Done n b) ≡ Answers a (mark_if b mark.Step)
+
+pub write_is : (t : ℕ) (k : List ℕ) (v : Value) → IsOperation (effect.Write t k v) (record { table = t; key = k; does = write v }) (cell.Write v) write_says
+write_is t k v = record {
+  is_op = refl;
+  does = record { value = λ w. refl; note = λ w. refl; own = λ id was free. refl; others = λ id was free who other. refl };
+  change = refl;
+  step = λ p id q. refl;
+  answers = λ w. tt;
+  answered_so = λ a h. h;
+  stage_ok = λ at. tt;
+  place_ok = λ d book id func given later at. tt;
+  goes = λ at. refl;
+  held = λ w. refl;
+  done = told;
+}
+  where
+    told : (b : Bool) (n : Note) (a : Answer) → noted (write v) a ≡ Some n → write_says (writes.Done n b) ≡ Answers a (mark_if b mark.Step)
+    told b n answer.Done same = ap (λ z. write_says (writes.Done z b)) (same_some (sym same))
+    told b n a same = cc
+
+-- ---- the turn
+module _ (d : Deployment) (c : Core) (m : Rows) (i : ℕ) (r : Run) (g : Begun) (h : Right d c m) (live : map.get c.runs i ≡ Some r) (k : Knows d c.book h.plain r g)
+    (e : Effect) (o : OnItem) (op : CellOp) (says : WriteGoes → Says) (known : IsOperation e o op says) (is : g.machine.effect ≡ e) (at : WriteAt) where
+  abbrev item : Item
+  item = item_in r.func o
+
+  abbrev place : Place
+  place = place_of r.id g.machine.steps
+
+  abbrev walk : WriteWalk
+  walk = record { home = r.func; item = Plain o.table o.key; place = place; op = op; at = at }
+
+  abbrev asks : Query
+  asks = op_asks (cell_key r.func o.table o.key) place at op
+
+  -- the rows after it
+  abbrev n : Rows
+  n = rows_after asks c.now m
+
+  -- the item has the note of what the step was answered
+  note_is : (later : List Answer) → k.later ≡ later → note_at (content_of m item).notes place ≡ note_if item r.func e (slice_get later 0)
+  note_is later left =
+      (h.rows.items item).notes place
+      ∙ ap (owed_by d item g.machine.steps) k.made
+      ∙ ap (note_if item k.instance.func (effect_before d k.instance g.machine.steps)) (answer_here d c.book h.plain r g k later left)
+      ∙ ap (λ z. note_if item k.instance.func z (slice_get later 0)) (effect_here d c.book h.plain r g k ∙ is)
+      ∙ ap (λ f. note_if item f e (slice_get later 0)) k.func
+
+  note_read : (a : Answer) (rest : List Answer) → k.later ≡ a ∷ rest → note_at (content_of m item).notes place ≡ noted o.does a
+  note_read a rest left = note_is (a ∷ rest) left ∙ ap (λ z. note_of item r.func z a) known.is_op ∙ ap (λ b. if is_eq b then noted o.does a else None) (tied_itself item_total item)
+
+  abbrev After : Says → Type 0
+  After s = AfterTurn d h.plain c i r.id (turned_by d r g s) n
+
+  module _ (same : (l : RowKey) → is_eq (key_cmp l (head_key item)) ≡ false → map.get n l ≡ map.get m l) (sound : SoundAt (map.get n (head_key item))) where
+    roots : SameRoots m n
+    roots t = ap is_some (same (root_key t) (no_root t r.func (kinds.Data o.table o.key 0) refl))
+
+    kept : content_of n item ≡ content_of m item → RowsMatch d n h.plain
+    kept held = content_kept d m n item same sound h.plain held h.rows
+
+    -- it was done now: it is the instance's next
+    module _ (left : k.later ≡ []) (did : DidOnce place op true (content_of m item) (content_of n item)) where
+      abbrev old : Value
+      old = value_at h.plain (item_in k.instance.func o)
+
+      abbrev a : Answer
+      a = answer_after o.does old
+
+      now : effect_of d k.instance ≡ e
+      now = effect_next d c.book h.plain r g k left ∙ is
+
+      value_here : (content_of m item).value ≡ old
+      value_here = (h.rows.items item).value ∙ ap (λ f. value_at h.plain (item_in f o)) (sym k.func)
+
+      told : (w : Note) → note_at (content_of n item).notes place ≡ Some w → noted o.does a ≡ Some w
+      told w there = known.does.note old ∙ ap (λ v. Some (note_after op v)) (sym value_here) ∙ sym (note_here (content_of m item).notes place (note_after op (content_of m item).value) did.0)
+          ∙ ap (λ x. note_at x.notes place) (sym did.2) ∙ there
+
+      abbrev state : PlainState
+      state = record { items = set_if h.plain.items (item_in k.instance.func o) (sets o.does old); made = map.insert h.plain.made r.id (answered k.instance a) }
+
+      rows_done : RowsMatch d n state
+      rows_done = operation_done d h.plain r.id k.instance o op k.made (ap op_of now ∙ known.is_op) known.does m n
+          (subst (λ s. DoneRows m n (item_in k.instance.func o) (place_of r.id s) op) (step_here d c.book h.plain r g k left)
+          (subst (λ f. DoneRows m n (item_in f o) place op) (sym k.func) (record { same = same; sound = sound; none = did.0; free = did.1; here = did.2 })))
+          h.rows
+
+      steps : After (Answers a (Some mark.Step))
+      steps = steps_on d c m i r g h live k e is a mark.Step state n left (known.answers old) refl
+          (change_entered d c m h (Step r.id) state refl
+          (enabled_step d h.plain r.id k.instance k.made (not_over d c m i r g h live k e is left (wants_it e a (known.answers old))) (ap kind_of now ∙ known.change)
+          ∙ ap Some (ap (step_by h.plain r.id k.instance) now ∙ known.step h.plain r.id k.instance)))
+          roots rows_done
+
+    done_now : (later : List Answer) → k.later ≡ later → (w : Note) → note_at (content_of n item).notes place ≡ Some w → DidOnce place op true (content_of m item) (content_of n item) → After (says (writes.Done w true))
+    done_now [] left w there did = subst After (sym (known.done true w (a left did) (told left did w there))) (steps left did)
+    done_now (b ∷ rest) left w there did = let clash = sym (has_note (noted o.does b) b (noted_back o.does b (known.answered_so b (fits d c m i r g h live k e is b rest left)))) ∙ ap is_some (sym (note_read b rest left) ∙ did.0) in cc
+
+    done_before : (later : List Answer) → k.later ≡ later → (w : Note) → note_at (content_of m item).notes place ≡ Some w → content_of n item ≡ content_of m item → After (says (writes.Done w false))
+    done_before [] left w there held = let clash = sym there ∙ note_is [] left in cc
+    done_before (b ∷ rest) left w there held = subst After (sym (known.done false w b (sym (note_read b rest left) ∙ there))) (replays d c m i r g h live k e is n b rest roots (kept held) left)
+
+    by_says : (z : WriteGoes) → Logs place op (walk_so z) (content_of m item) (content_of n item) → After (says z)
+    by_says (writes.On to) held = subst After (sym (known.goes to)) (goes_on d c m i r g h live k e is n (stage.Write to) roots (kept held) (known.stage_ok to) (known.place_ok d c.book r.id r.func k.answers k.later to))
+    by_says (writes.Done w true) l = done_now k.later refl w l.0 l.1
+    by_says (writes.Done w false) l = done_before k.later refl w (ap (λ x. note_at x.notes place) (sym l.1) ∙ l.0) l.1
+    by_says (writes.Held w) l = subst After (sym (known.held w)) (waits d c m i r g h live k e is (wait.Held w) n roots (kept l.2))
+
+  pub operation_turn : AfterQuery d h.plain c.now m (λ u. turn_next c i r.id (turned_by d r g (says (write_goes u)))) (op_asks (cell_key r.func o.table o.key) place at op)
+  operation_turn =
+      let logged : LoggedTurn walk m n (walk_so (write_goes (told_by asks c.now m))) = by_op walk m n (h.rows.keys (head_key item)) at op refl c.now refl in
+      by_says logged.others logged.sound (write_goes (told_by asks c.now m)) logged.logs

@@ -1,0 +1,66 @@
+-- A read that is kept late leaves the entries that it passes guarded.
+use Rattle.std.proofs.Common.{◌≡◌, Bool, false, List, [], ◌∷◌, Option, None, Some, refl, ap, sym, ◌∙◌, subst, ℕ}
+use Rattle.std.specs.Prelude.{option_and_then}
+use Rattle.std.specs.FinMap as map
+use Rattle.beldi_value.specs.declared.id.IntentId.{IntentId}
+use Rattle.beldi_tree.specs.declared.deployment.Deployment.{Deployment}
+use Rattle.beldi_lang.specs.declared.effect.Answer.{Answer}
+use Rattle.beldi_lang.specs.declared.effect.Effect.{Effect}
+use Rattle.beldi_lang.specs.declared.effect.Effect.TheVariants as effect
+use Rattle.beldi_book.specs.declared.entry.Entry.{Entry}
+use Rattle.beldi_book.specs.declared.entry.Entry.TheVariants.{Start, Read, Step, Tx, Try}
+use Rattle.beldi_plain.specs.Item.{Item}
+use Rattle.beldi_plain.specs.Operation.{op_of, held_if, holds}
+use Rattle.beldi_plain.specs.Plain.{Instance, PlainState, after, with_instance, answered, effect_of, kind_of}
+use Rattle.beldi_plain.specs.Legal.{run_from}
+use Rattle.beldi_plain.specs.declared.kind.Kind.TheVariants as kinds
+use Rattle.beldi_order.specs.Guard.{touched_by, actor, IsFree, IsGuarded, LateReadsLeaveGuards}
+use Rattle.beldi_order.proofs.Entries.{same_some, made_set, did, Did, GrownAt, after_grows, run_grows}
+use Rattle.beldi_order.proofs.Late.{StandsAtRead, passes, apart, unmoved, elsewhere}
+use Rattle.beldi_order.proofs.Operations.{held_pushed}
+
+-- a read moves no lock
+no_op : (e : Effect) → kind_of e ≡ kinds.Read → (x : Item) (f : ℕ) (b : Bool) → held_if x f (op_of e) b ≡ b
+no_op (effect.Read t k) h x f b = refl
+no_op e h x f b = cc
+
+module _ (d : Deployment) (p : PlainState) (i : IntentId) (a : Instance) (v : Answer) (stands : StandsAtRead d p i a) where
+  abbrev later : PlainState
+  later = with_instance p i (answered a v)
+
+  same_holds : (x : Item) (j : IntentId) → holds d x (map.get later.made j) ≡ holds d x (map.get p.made j)
+  same_holds x = made_set p.made i (answered a v) (λ j o. holds d x o ≡ holds d x (map.get p.made j))
+      (held_pushed d x a.func a.args [] a.answers v false ∙ no_op (effect_of d a) stands.kind x a.func (holds d x (Some a)) ∙ ap (holds d x) (sym stands.made)) (λ j. refl)
+
+  module _ (r : PlainState) (stays : map.get r.made i ≡ Some a) where
+    other : (e : Entry) → Did d p e r → i ≡ actor e → ⊥
+    other (Start t f w) s same = let clash = sym s.absent ∙ ap (map.get p.made) (sym same) ∙ stands.made in cc
+    other (Read j k) s same = apart d p r i a v stands stays j kinds.Read s same
+    other (Step j) s same = apart d p r i a v stands stays j kinds.Change s same
+    other (Tx j) s same = s
+    other (Try j place holder) s same = s
+
+    free_there : (e : Entry) → after d p e ≡ Some r → IsFree d p e → IsFree d later e
+    free_there e h free x touched j held =
+        free x (ap (touched_by d) (sym (elsewhere p.made i (actor e) (answered a v) (other e (did d p e r h)))) ∙ touched) j (sym (same_holds x j) ∙ held)
+
+past : (d : Deployment) (p q : PlainState) (es : List Entry) (i : IntentId) (a : Instance) (v : Answer) → StandsAtRead d p i a → map.get q.made i ≡ Some a → run_from d p es ≡ Some q
+    → IsGuarded d p es → IsGuarded d (with_instance p i (answered a v)) es
+past d p q [] i a v stands stays h g = tt
+past d p q (e ∷ es) i a v stands stays h g = by_option (after d p e) refl h (λ r. past d r q es i a v)
+  where
+    by_option : (o : Option PlainState) → after d p e ≡ o → option_and_then (λ r. run_from d r es) o ≡ Some q
+        → ((r : PlainState) → StandsAtRead d r i a → map.get q.made i ≡ Some a → run_from d r es ≡ Some q → IsGuarded d r es → IsGuarded d (with_instance r i (answered a v)) es)
+        → IsGuarded d (with_instance p i (answered a v)) (e ∷ es)
+    by_option None step is rest = cc
+    by_option (Some r) step is rest =
+        let before = subst (λ o. GrownAt o (map.get r.made i)) stands.made (after_grows d p e r step i) in
+        let since = subst (λ o. GrownAt (map.get r.made i) o) stays (run_grows d r es q is i) in
+        let there = unmoved a (map.get r.made i) stands.open_still before since in (
+          free_there d p i a v stands r there e step g.0,
+          λ s led. subst (λ z. IsGuarded d z es) (same_some (sym (passes d p r i a v stands there e step) ∙ led))
+              (rest r (record { made = there; open_still = stands.open_still; kind = stands.kind }) stays is (g.1 r step)),
+        )
+
+pub guards_left : LateReadsLeaveGuards
+guards_left d p q es i a v h = past d p q es i a v (record { made = h.made; open_still = h.open_still; kind = h.kind }) h.stays h.run

@@ -1,0 +1,71 @@
+-- What an operation leaves of the plain items, and of who holds their locks.
+use Rattle.std.proofs.Common.{◌≡◌, Bool, true, false, cond, List, [], ◌∷◌, ◌++◌, Option, None, Some, refl, ap, sym, ◌∙◌, subst, append_assoc, append-nil, ℕ}
+use Rattle.std.specs.FinMap as map
+use Rattle.std.specs.FinMap.{FinMap, get-insert, get-remove}
+use Rattle.std.specs.Cmp.{Equal-is}
+use Rattle.std.specs.Ordering.{is_eq}
+use Rattle.beldi_value.specs.Id.{id_cmp, id_total, id_exact}
+use Rattle.beldi_value.specs.declared.id.IntentId.{IntentId}
+use Rattle.beldi_value.specs.declared.place.Owner.{Owner}
+use Rattle.beldi_value.specs.declared.place.Owner.TheVariants.{Intent, Tx}
+use Rattle.beldi_value.specs.declared.value.Value.{Value}
+use Rattle.beldi_value.specs.declared.value.Value.TheVariants.{Null}
+use Rattle.beldi_tree.specs.Bindings.{or_null}
+use Rattle.beldi_tree.specs.declared.deployment.Deployment.{Deployment}
+use Rattle.beldi_lang.specs.declared.effect.Answer.{Answer}
+use Rattle.beldi_lang.specs.Wants.{wants}
+use Rattle.beldi_plain.specs.Item.{Item, item_cmp, item_total, item_exact}
+use Rattle.beldi_plain.specs.Operation.{op_of, or_old, set_if, held_if, held_along, holds, holds_as}
+use Rattle.beldi_plain.specs.Plain.{Instance, PlainState, set_item, answered, effect_of}
+
+pub item_same : (x y : Item) → is_eq (item_cmp x y) ≡ true → x ≡ y
+item_same x y h = item_exact x y ((Equal-is (item_cmp x y)).0 h)
+
+pub id_same : (a b : IntentId) → is_eq (id_cmp a b) ≡ true → a ≡ b
+id_same a b h = id_exact a b ((Equal-is (id_cmp a b)).0 h)
+
+-- ---- the items
+-- the plain items, after one was set
+item_put : (f : FinMap item_cmp Value) (y x : Item) (v : Value) → or_null (map.get (set_item f y v) x) ≡ cond (is_eq (item_cmp x y)) v (or_null (map.get f x))
+item_put f y x Null = ap or_null (get-remove item_total f y x) ∙ by_test (is_eq (item_cmp x y))
+  where
+    by_test : (b : Bool) → or_null (cond b None (map.get f x)) ≡ cond b Null (or_null (map.get f x))
+    by_test true = refl
+    by_test false = refl
+item_put f y x v = ap or_null (get-insert item_total f y v x) ∙ by_test (is_eq (item_cmp x y))
+  where
+    by_test : (b : Bool) → or_null (cond b (Some v) (map.get f x)) ≡ cond b v (or_null (map.get f x))
+    by_test true = refl
+    by_test false = refl
+
+-- .. to the value that an operation sets, if any
+pub plain_set : (f : FinMap item_cmp Value) (y x : Item) (o : Option Value) → or_null (map.get (set_if f y o) x) ≡ cond (is_eq (item_cmp x y)) (or_old o (or_null (map.get f y))) (or_null (map.get f x))
+plain_set f y x None = elim (is_eq (item_cmp x y)) as (λ b. is_eq (item_cmp x y) ≡ b → or_null (map.get f x) ≡ cond b (or_null (map.get f y)) (or_null (map.get f x))) [
+  | true ↦ λ e. ap (λ z. or_null (map.get f z)) (item_same x y e)
+  | false ↦ λ e. refl
+] refl
+plain_set f y x (Some v) = item_put f y x v
+
+-- ---- who holds an item's lock
+-- whether a lock is held, after one answer more
+pub held_pushed : (d : Deployment) (x : Item) (f : ℕ) (args : Value) (given rest : List Answer) (a : Answer) (b : Bool)
+    → held_along d x f args given (rest ++ a ∷ []) b ≡ held_if x f (op_of (wants d f args false (given ++ rest))) (held_along d x f args given rest b)
+held_pushed d x f args given [] a b = ap (λ g. held_if x f (op_of (wants d f args false g)) b) (sym (append-nil given))
+held_pushed d x f args given (r ∷ rest) a b =
+    let c = held_if x f (op_of (wants d f args false given)) b in
+    held_pushed d x f args (given ++ r ∷ []) rest a c ∙ ap (λ g. held_if x f (op_of (wants d f args false g)) (held_along d x f args (given ++ r ∷ []) rest c)) (append_assoc given (r ∷ []) rest)
+
+-- an owner that is not this intent
+abbrev pub IsOther : IntentId → Owner → Type 0
+IsOther id (Intent j) = is_eq (id_cmp j id) ≡ false
+IsOther id (Tx t) = Unit {0}
+
+-- what is so of its holder after an answer more, and of all others before, is so of all
+pub holds_more : (d : Deployment) (p : PlainState) (items : FinMap item_cmp Value) (id : IntentId) (q : Instance) (a : Answer) → map.get p.made id ≡ Some q → (x : Item) (P : Owner → Bool → Type 0)
+    → P (Intent id) (held_if x q.func (op_of (effect_of d q)) (holds d x (map.get p.made id))) → ((o : Owner) → IsOther id o → P o (holds_as d p x o)) → (o : Owner) → P o (holds_as d (record { items = items; made = map.insert p.made id (answered q a) }) x o)
+holds_more d p items id q a is x P here others (Tx t) = others (Tx t) tt
+holds_more d p items id q a is x P here others (Intent j) = subst (λ o. P (Intent j) (holds d x o)) (sym (get-insert id_total p.made id (answered q a) j)) (elim (is_eq (id_cmp j id)) as (λ b. is_eq (id_cmp j id) ≡ b → P (Intent j) (holds d x (cond b (Some (answered q a)) (map.get p.made j)))) [
+  | true ↦ λ e. subst (λ z. P (Intent z) (holds d x (Some (answered q a)))) (sym (id_same j id e))
+      (subst (P (Intent id)) (ap (λ o. held_if x q.func (op_of (effect_of d q)) (holds d x o)) is ∙ sym (held_pushed d x q.func q.args [] q.answers a false)) here)
+  | false ↦ λ e. others (Intent j) e
+] refl)

@@ -1,0 +1,53 @@
+-- What every state of a legal book is: each instance went as its body wants.
+use Rattle.std.specs.Prelude.{◌≡◌, ℕ, false, List, take, slice_get, Option, Some, None}
+use Rattle.std.specs.FinMap as map
+use Rattle.beldi_value.specs.declared.id.IntentId.{IntentId}
+use Rattle.beldi_value.specs.declared.outcome.Outcome.{Outcome}
+use Rattle.beldi_tree.specs.declared.deployment.Deployment.{Deployment}
+use Rattle.beldi_lang.specs.declared.effect.Answer.{Answer}
+use Rattle.beldi_lang.specs.declared.effect.Answer.TheVariants.{Value, Done}
+use Rattle.beldi_lang.specs.declared.effect.Effect.{Effect}
+use Rattle.beldi_lang.specs.declared.effect.Effect.TheVariants.{Read, Return}
+use Rattle.beldi_lang.specs.Wants.{wants}
+use Rattle.beldi_book.specs.declared.entry.Entry.{Entry}
+use Rattle.beldi_plain.specs.Operation.{Operation, OnItem, op_of, write}
+use Rattle.beldi_plain.specs.Plain.{Instance, PlainState, effect_of}
+use Rattle.beldi_plain.specs.Legal.{run_of}
+
+-- the effect that an instance had at a step, from 0
+abbrev pub effect_before : Deployment → Instance → ℕ → Effect
+effect_before d q n = wants d q.func q.args false (take n q.answers)
+
+-- the answer is one to the operation. Those that are not carried out yet have none.
+abbrev pub Answers : Operation → Answer → Type 0
+Answers (write v) Done = Unit {0}
+Answers o a = ⊥
+
+abbrev pub OpAnswers : Option OnItem → Answer → Type 0
+OpAnswers None a = ⊥
+OpAnswers (Some o) a = Answers o.does a
+
+-- the answer is one to the effect: the value of a read, or else that of an operation on an item. The other effects have none.
+abbrev pub IsAnswerTo : Effect → Answer → Type 0
+IsAnswerTo (Read t k) (Value v) = Unit {0}
+IsAnswerTo e a = OpAnswers (op_of e) a
+
+-- an instance that went as its body wants
+pub record SaneInstance (d : Deployment) (q : Instance) : Type 0 where
+  -- what was answered was an effect that is answered so
+  pub past : (n : ℕ) (a : Answer) → slice_get q.answers n ≡ Some a → IsAnswerTo (effect_before d q n) a
+  -- an outcome is there only where the body returns it
+  pub over : (o : Outcome) → q.outcome ≡ Some o → effect_of d q ≡ Return o
+
+-- what is at an id, if anything, is sane
+abbrev pub SaneAt : Deployment → Option Instance → Type 0
+SaneAt d None = Unit {0}
+SaneAt d (Some q) = SaneInstance d q
+
+pub record Sane (d : Deployment) (p : PlainState) : Type 0 where
+  -- every instance that was made is
+  pub each : (id : IntentId) → SaneAt d (map.get p.made id)
+
+-- so it is at the end of a legal book
+abbrev pub LegalIsSane : Type 0
+LegalIsSane = (d : Deployment) (book : List Entry) (p : PlainState) → run_of d book ≡ Some p → Sane d p
