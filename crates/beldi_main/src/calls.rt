@@ -81,37 +81,70 @@ fn a_body_is_inside_what_it_inherits(rt: HostRuntime) -> Result<(), Fail> {
     Ok(())
 }
 
-#[test]
-fn a_book_is_carried_out(rt: HostRuntime) -> Result<(), Fail> {
-    let alloc = rt.alloc();
-    let code = deployment(alloc)?;
+// Two requests of the function f, each with its read kept last.
+fn two_requests(alloc: Global) -> Result<Book, Fail> {
     let mut book = Book::new(alloc);
     add_request(alloc, &mut book, 1, Value::Int(5), 1)?;
     add_request(alloc, &mut book, 2, Value::Int(6), 4)?;
+    Ok(book)
+}
+
+#[test]
+fn a_book_is_read_again(rt: HostRuntime) -> Result<(), Fail> {
+    let alloc = rt.alloc();
+    let code = deployment(alloc)?;
+    let book = two_requests(alloc)?;
     assert!(rt; book.len() == 8 && matches!(book.get(7), Some(Entry::Read { seen: 4, .. })));
     let mut text = Str::new(alloc);
     book.write(alloc, &code, &mut text)?;
     assert_eq!(rt; Book::read(alloc, text.as_bytes(), &code)?.len(), 8);
+    Ok(())
+}
+
+#[test]
+fn a_book_is_ordered_in_time(rt: HostRuntime) -> Result<(), Fail> {
+    let alloc = rt.alloc();
+    let code = deployment(alloc)?;
     let mut text = Str::new(alloc);
-    book.linear(alloc)?.write(alloc, &code, &mut text)?;
+    two_requests(alloc)?
+        .linear(alloc)?
+        .write(alloc, &code, &mut text)?;
     assert_eq!(rt;
         text.as_str(),
         "start 1 f 5\nread 1 1\nstep 1\nstep 1\nstart 2 f 6\nread 2 4\nstep 2\nstep 2\n"
     );
-    let mut plain = Plain::new(alloc, &code);
-    plain.run(&book)?;
+    Ok(())
+}
+
+#[test]
+fn a_book_is_run(rt: HostRuntime) -> Result<(), Fail> {
+    let alloc = rt.alloc();
+    let code = deployment(alloc)?;
     let key = Str::from_text(alloc, "k")?;
+    let mut plain = Plain::new(alloc, &code);
+    plain.run(&two_requests(alloc)?)?;
     assert!(rt; matches!(plain.value(1, 0, &key), Value::Int(6)));
     assert!(rt; matches!(plain.reply(2), Some(Outcome::Value(Value::Int(5)))));
+    Ok(())
+}
+
+#[test]
+fn steps_are_made(rt: HostRuntime) -> Result<(), Fail> {
+    let alloc = rt.alloc();
+    let code = deployment(alloc)?;
+    let id = IntentId::root(alloc, 1);
+    let mut plain = Plain::new(alloc, &code);
+    plain.start(1, 1, Value::Int(6))?;
+    plain.carry_out(&Entry::Read {
+        id: IntentId::root(alloc, 1),
+        seen: 1,
+    })?;
+    plain.step(&id)?;
+    plain.step(&id)?;
+    assert_eq!(rt; plain.step(&id), Err(PlainErr::NotEnabled(Bar::Over)));
     let mut text = Str::new(alloc);
     plain.tables(&mut text)?;
     assert_eq!(rt; text.as_str(), "f t \"k\" 6\n");
-    plain.start(3, 1, Value::Null)?;
-    let id = IntentId::root(alloc, 3);
-    plain.step(&id)?;
-    plain.carry_out(&Entry::Step { id })?;
-    let id = IntentId::root(alloc, 1);
-    assert_eq!(rt; plain.step(&id), Err(PlainErr::NotEnabled(Bar::Over)));
     Ok(())
 }
 
@@ -139,17 +172,17 @@ fn an_item_is_written_and_read(rt: HostRuntime) -> Result<(), Fail> {
     let mut table = roomy(alloc)?;
     let op = CellOp::Write(Value::Int(7));
     let mut write = WriteWalk::new(1, item(alloc)?, place(alloc), op);
-    let mut turns = 0;
-    for _ in 0..9 {
-        match write.turn(alloc, &mut table, 5)? {
-            WriteSays::Going => turns += 1,
-            WriteSays::Done { first, note: _ } => {
-                assert!(rt; first && turns == 2);
-                break;
+    assert!(rt; matches!(write.turn(alloc, &mut table, 5)?, WriteSays::Going));
+    assert!(rt; matches!(write.turn(alloc, &mut table, 5)?, WriteSays::Going));
+    assert!(rt;
+        matches!(
+            write.turn(alloc, &mut table, 5)?,
+            WriteSays::Done {
+                first: true,
+                note: _
             }
-            WriteSays::Held(_) | WriteSays::Worn => return Err(Fail::new("held")),
-        }
-    }
+        )
+    );
     let mut read = ReadWalk::new(1, item(alloc)?, None);
     assert!(rt;
         matches!(
