@@ -23,7 +23,7 @@ use Rattle.beldi_step.specs.Forms.{EventOn}
 use Rattle.beldi_step.proofs.Forms.{over_rows}
 use Rattle.beldi_step.specs.Tables.{tables_text}
 use Rattle.beldi_laws.specs.Right.{Right, IntentMatches, BodyMatches}
-use Rattle.beldi_laws.proofs.Events.{begins, after_event, after_break}
+use Rattle.beldi_laws.proofs.Events.{begins, after_event, keeps_right}
 use Rattle.beldi_laws.proofs.Standing.{same_run, right_stands}
 use Rattle.beldi_laws.proofs.Listing.{listing_plain}
 use Rattle.beldi_core.specs.Survey.{Reads, greatest, newest_of, outcome_seen, row_seen, is_unknown, reply_seen}
@@ -31,7 +31,6 @@ use Rattle.beldi_core.specs.declared.survey.OpenErr.{OpenErr}
 use Rattle.beldi_core.specs.declared.survey.ReplySeen.{ReplySeen}
 use Rattle.beldi_core.specs.declared.survey.ReplySeen.TheVariants.{Unknown}
 use Rattle.beldi_laws.specs.Laws.{is_gone}
-use Rattle.beldi_laws.specs.OneAnswer.{AnswersStay}
 use Rattle.beldi_laws.proofs.OneAnswer.{one_answer, answers_stay}
 use Rattle.beldi_core.specs.Right.{RightAt, LegalAt, StandsAt, OneAnswerAt, StayAt, HasNoRows, ListedAt, HasNoReply, SaidOf, SaidAt}
 
@@ -56,19 +55,14 @@ module _ (d : Deployment) (c b : Core) where
   keeps P (Some m) (Some n) f t h = f m n t h
 
 event_on : (d : Deployment) (room old new : ℕ) (e : Event) (c b : Core) (m n : Rows) (x : Result Seen AllocError) → EventOn d room old new e c m b n x → Right d c m → Right d b n
-event_on d room old new e c b m n (Ok x) s h = (after_event d room old new e c b m n x h s).right
-event_on d room old new e c b m n (Err w) s h = (after_break d e c b m n h s.1).right
+event_on d room old new e c b m n x s h = keeps_right d room old new e c b m n x h s
 
 -- what the rows held stays
-stays_on : (d : Deployment) (room old new : ℕ) (e : Event) (c b : Core) (m n : Rows) (x : Result Seen AllocError) → EventOn d room old new e c m b n x → AnswersStay m n
-stays_on d room old new e c b m n (Ok x) s = answers_stay.event d room old new e c b m n x s
-stays_on d room old new e c b m n (Err w) s = answers_stay.want_of_memory d e c b m n s.1
-
 stays_told : (d : Deployment) (room old new : ℕ) (e : Event) (c b : Core) (before after : Option Rows) (x : Result Seen AllocError)
     → Tells before after (λ m n. EventOn d room old new e c m b n x) → StayAt before after
 stays_told d room old new e c b None after x s = tt
 stays_told d room old new e c b (Some m) None x s = absurd s
-stays_told d room old new e c b (Some m) (Some n) x s = stays_on d room old new e c b m n x s
+stays_told d room old new e c b (Some m) (Some n) x s = answers_stay d room old new e c b m n x s
 
 pub event_stays : (d : Deployment) (e : Event) (c b : Core) (old new : TableState) (x : Result Seen AllocError) → Stepped d e c b old new x → StayAt old.rows new.rows
 event_stays d e c b old new x s = stays_told d old.room old.faults new.faults e c b old.rows new.rows x (over_rows d e c b old new x s)

@@ -1,5 +1,5 @@
 -- Every event keeps the host and its rows right.
-use Rattle.std.proofs.Common.{◌≡◌, inl, inr, ℕ, zero, suc, ◌+◌, ◌<◌, ◌≤◌, ◌==◌, ◌||◌, ◌&&◌, Bool, true, false, cond, [], ◌∷◌, ◌++◌, Option, None, Some, refl, ap, sym, ◌∙◌, subst, IsTrue, is_some, arith, if◌then◌else◌}
+use Rattle.std.proofs.Common.{◌≡◌, inl, inr, ℕ, zero, suc, ◌+◌, ◌<◌, ◌≤◌, ◌==◌, ◌||◌, ◌&&◌, Bool, true, false, cond, [], ◌∷◌, ◌++◌, Option, None, Some, Ok, Err, refl, ap, sym, ◌∙◌, subst, IsTrue, is_some, arith, if◌then◌else◌}
 use Rattle.std.specs.Prelude.{nat_lt, nat_le}
 use Rattle.std.specs.FinMap as map
 use Rattle.std.specs.FinMap.{get-empty, len-empty}
@@ -54,7 +54,7 @@ use Rattle.beldi_laws.specs.Stands.{head_key}
 use Rattle.beldi_daal.specs.Content.{content_in}
 use Rattle.beldi_daal.specs.declared.walk.CellOp.TheVariants as cell
 use Rattle.beldi_laws.specs.Right.{Right, ItemMatches, RowMatches, IntentMatches, IsRootRow, BodyMatches, Knows, KnowsAt, RunAt, StageOk, PlaceOk, is_owner, owed_by, owed_value, value_if}
-use Rattle.beldi_laws.specs.Laws.{told_outcome, is_gone, HasReply}
+use Rattle.beldi_laws.specs.Laws.{told_outcome, is_gone, HasReply, KeepsRight}
 use Rattle.beldi_row.proofs.Gets.{got}
 use Rattle.beldi_row.proofs.Unchanged.{unchanged, looked}
 use Rattle.beldi_book.specs.Order.{count_changes}
@@ -341,6 +341,11 @@ begins d now = record {
   where
     not_there : IsTrue false → ⊥
     not_there e = cc
+
+-- whatever it came to
+pub keeps_right : KeepsRight
+keeps_right d room old new e c b m n (Ok x) h s = (after_event d room old new e c b m n x h s).right
+keeps_right d room old new e c b m n (Err w) h s = (after_break d e c b m n h s.1).right
 
 -- ---- what is told
 pub replies : (d : Deployment) (room old new : ℕ) (e : Event) (c b : Core) (m n : Rows) (x : Seen) → Right d c m → IsOneEvent d room old new e c m b n x → (t : ℕ) (o : Outcome) → told_outcome x ≡ Some (t, o) → HasReply d b.book t o

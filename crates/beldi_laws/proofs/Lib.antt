@@ -1,7 +1,7 @@
 pub mod Events
 pub mod Listing
 pub mod Lives
-mod Moves
+pub mod Moves
 mod Notes
 pub mod OneAnswer
 pub mod OneEvent

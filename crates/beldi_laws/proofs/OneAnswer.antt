@@ -161,7 +161,4 @@ one_keeps c m n o = elim o.rows [
 ]
 
 pub answers_stay : HeldAnswersStay
-answers_stay = record {
-  event = λ d room old new e c b m n x s. one_keeps c m n (one_row.event d room old new e c b m n x s);
-  want_of_memory = λ d e c b m n s. one_keeps c m n (one_row.want_of_memory d e c b m n s);
-}
+answers_stay d room old new e c b m n r s = one_keeps c m n (one_row d room old new e c b m n r s)

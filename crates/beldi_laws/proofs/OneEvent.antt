@@ -1,5 +1,5 @@
 -- What one event changes: at most one row, and at most one entry of the book, which its answer tells.
-use Rattle.std.proofs.Common.{◌≡◌, inl, inr, ℕ, ◌==◌, ◌+◌, ◌||◌, nat_lt, Bool, true, false, [], ◌++◌, Option, Some, None, if◌then◌else◌, refl, ap, sym, ◌∙◌, subst}
+use Rattle.std.proofs.Common.{◌≡◌, inl, inr, ℕ, ◌==◌, ◌+◌, ◌||◌, nat_lt, Bool, true, false, [], ◌++◌, Option, Some, None, Ok, Err, if◌then◌else◌, refl, ap, sym, ◌∙◌, subst}
 use Rattle.std.proofs.lemmas.List.{append-nil}
 use Rattle.std.specs.Prelude.{option_to_list}
 use Rattle.std.specs.Option.{option_map}
@@ -73,10 +73,8 @@ break_on_one d (Crash i) c b m n s = absurd s
 break_on_one d e c b m n s = same_rows c m n s.0
 
 pub one_row : ChangesOneRow
-one_row = record {
-  event = λ d room old new e c b m n x s. let o = follows_on_one d room old new e (counted c) b m n x (plan e c) s in record { key = o.key; rows = o.rows; others = o.others };
-  want_of_memory = break_on_one;
-}
+one_row d room old new e c b m n (Ok x) s = let o = follows_on_one d room old new e (counted c) b m n x (plan e c) s in record { key = o.key; rows = o.rows; others = o.others }
+one_row d room old new e c b m n (Err w) s = break_on_one d e c b m n s.1
 
 -- ---- the book
 -- the entry of an act starts nothing
@@ -194,7 +192,7 @@ module _ (d : Deployment) (room old new : ℕ) (e : Event) (c b : Core) (m n : R
   follows_grew (at_once k y) x silent s = subst (BookGrew e c b) (sym s.2) (none e c b y (ap (λ z. z.book) s.1 ∙ silent.0) silent.1)
   follows_grew (asks q) x silent s = asks_grew (is_lost e) q x s
 
-event_grew : (d : Deployment) (room old new : ℕ) (e : Event) (c b : Core) (m n : Rows) (x : Seen) → IsOneEvent d room old new e c m b n x → BookGrew e c b x
+pub event_grew : (d : Deployment) (room old new : ℕ) (e : Event) (c b : Core) (m n : Rows) (x : Seen) → IsOneEvent d room old new e c m b n x → BookGrew e c b x
 event_grew d room old new e c b m n x s = let g = follows_grew d room old new e (counted c) b m n (plan e c) x (plan_silent e c) s in record { entry = g.entry; book = g.book; starts = g.starts; told = g.told }
 
 -- want of memory
@@ -207,4 +205,5 @@ break_grew d (Crash i) c b m n s = absurd s
 break_grew d e c b m n s = wrote_none c b (ap (λ z. z.book) s.1 ∙ dropped_book e (counted c))
 
 pub told_entries : WritesWhatIsTold
-told_entries = record { event = event_grew; want_of_memory = λ d e c b m n s. let g = break_grew d e c b m n s in (g.entry, g.book) }
+told_entries d room old new e c b m n (Ok x) s = event_grew d room old new e c b m n x s
+told_entries d room old new e c b m n (Err w) s = let g = break_grew d e c b m n s.1 in (g.entry, g.book)

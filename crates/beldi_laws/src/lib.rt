@@ -5,8 +5,7 @@
 //!
 //! Proved:
 //! - A host that nothing has happened to is right, over no rows (`begins_right`).
-//! - Every event keeps it right (`an_event_keeps_right`), and so does want of memory in it
-//!   (`want_of_memory_keeps_right`).
+//! - Every event keeps it right, also where memory was wanting in it (`an_event_keeps_right`).
 //! - Where it is right, the book is legal (`right_is_legal`), the rows stand for the book's run (`right_stands`), and
 //!   the listing of the rows is that of the run (`listing_is_plain`).
 //! - Also where it is right, an outcome that an event tells is the root's in that run (`replies_are_outcomes`), and
@@ -14,8 +13,7 @@
 //!   instance has one answer, which the rows hold, and each of its runs was given the first of them
 //!   (`each_step_has_one_answer`).
 //! - Whether it is right or not, what rows hold at a step stays (`held_answers_stay`).
-//! - The book starts the requests that were bound, in order (`starts_are_bound`), and none at want of memory
-//!   (`want_of_memory_starts_nothing`).
+//! - The book starts the requests that were bound, in order, and none at want of memory (`starts_are_bound`).
 //! - An event changes at most one row, by one act, and an item that it is no row of keeps its content
 //!   (`an_event_changes_one_row`), and the book gets at most one entry, the one that its answer tells where the answer
 //!   was not lost (`an_event_writes_what_it_tells`).
@@ -27,5 +25,4 @@ pub use laws::{
     an_event_changes_one_row, an_event_keeps_right, an_event_writes_what_it_tells, begins_right,
     each_step_has_one_answer, held_answers_stay, listing_is_plain, outcomes_stay,
     replies_are_outcomes, right_is_legal, right_stands, starts_are_bound, tickets_have_rows,
-    want_of_memory_keeps_right, want_of_memory_starts_nothing,
 };

@@ -13,9 +13,10 @@ use Rattle.beldi_step.specs.Host.{Core}
 use Rattle.beldi_step.specs.Forms.{Breaks}
 use Rattle.beldi_laws.specs.Laws.{HasReply, starts_of, bound_of, bound_in}
 use Rattle.beldi_laws.specs.Right.{Right}
+use Rattle.beldi_step.specs.declared.event.Seen.TheVariants as seen
 use Rattle.beldi_laws.proofs.Events.{after_event, after_break, replies}
-use Rattle.beldi_laws.proofs.OneEvent.{told_entries}
-use Rattle.beldi_laws.proofs.Starts.{outcomes_stay, starts_bound}
+use Rattle.beldi_laws.proofs.OneEvent.{event_grew, break_grew}
+use Rattle.beldi_laws.proofs.Starts.{outcome_kept, starts_bound}
 use Rattle.beldi_laws.proofs.Listing.{listing_plain}
 use Rattle.beldi_core.specs.Right.{SaidOf}
 use Rattle.beldi_core.specs.Survey.{reply_seen}
@@ -36,7 +37,7 @@ same_book : (c b : Core) (es : List Entry) → b ≡ c → GoesOn es c.book → 
 same_book c b es h g = subst (λ (z : Core). GoesOn es z.book) (sym h) g
 
 break_goes : (d : Deployment) (e : Event) (c b : Core) (m n : Rows) → Breaks d e c m b n → GoesOn c.book b.book
-break_goes d e c b m n s = let k = told_entries.want_of_memory d e c b m n s in (option_to_list k.0, sym k.1)
+break_goes d e c b m n s = let k = break_grew d e c b m n s in (option_to_list k.entry, sym k.book)
 
 pub right_legal : (d : Deployment) (c : Core) (m : Rows) → Right d c m → IsLegal d c.book
 right_legal d c m h = record { bounded = h.bounded; run = h.plain; legal = h.legal }
@@ -57,7 +58,7 @@ module _ (d : Deployment) (room : ℕ) where
   deed_right f g deed.Book c b m n y h o = both_same (Right d) c b m n o.0 o.1 h
 
   deed_keeps : (f g : ℕ) (x : Deed) (c b : Core) (m n : Rows) (y : Said) → Right d c m → IsOneDeed d room f g x c m b n y → (t : ℕ) (o : Outcome) → HasReply d c.book t o → HasReply d b.book t o
-  deed_keeps f g (deed.Event e) c b m n y h s t o r = outcomes_stay.event d room f g e c b m n s.0 t o h s.2 r
+  deed_keeps f g (deed.Event e) c b m n y h s t o r = outcome_kept d c b m n s.0 t o h (after_event d room f g e c b m n s.0 h s.2) r
   deed_keeps f g (deed.Reply u) c b m n y h s t o r = same_reply d c b t o s.0 r
   deed_keeps f g deed.Rows c b m n y h s t o r = same_reply d c b t o s.0 r
   deed_keeps f g deed.Tables c b m n y h s t o r = same_reply d c b t o s.0 r
@@ -104,7 +105,7 @@ module _ (d : Deployment) (room : ℕ) where
   reading_grew x y c b same none = record { entry = None; book = ap (λ (z : Core). z.book) same ∙ sym (append-nil c.book); told = λ v. sym none }
 
   deed_grew : (f g : ℕ) (x : Deed) (c b : Core) (m n : Rows) (y : Said) → IsOneDeed d room f g x c m b n y → Grew x y c.book b.book
-  deed_grew f g (deed.Event e) c b m n y s = let k = told_entries.event d room f g e c b m n s.0 s.2 in subst (λ z. Grew (deed.Event e) z c.book b.book) (sym s.1) (record { entry = k.entry; book = k.book; told = k.told })
+  deed_grew f g (deed.Event e) c b m n y s = let k = event_grew d room f g e c b m n s.0 s.2 in subst (λ z. Grew (deed.Event e) z c.book b.book) (sym s.1) (record { entry = k.entry; book = k.book; told = k.told })
   deed_grew f g (deed.Reply t) c b m n y s = reading_grew (deed.Reply t) y c b s.0 refl
   deed_grew f g deed.Rows c b m n y s = reading_grew deed.Rows y c b s.0 refl
   deed_grew f g deed.Tables c b m n y s = reading_grew deed.Tables y c b s.0 refl
@@ -178,7 +179,7 @@ module _ (d : Deployment) where
   breaks_going deed.Book c b m n s = same_book c b c.book s.0 (stays c.book)
 
   breaks_keeping : (x : Deed) (c b : Core) (m n : Rows) → Right d c m → BreaksIn d x c m b n → (t : ℕ) (o : Outcome) → HasReply d c.book t o → HasReply d b.book t o
-  breaks_keeping (deed.Event e) c b m n h s t o r = outcomes_stay.want_of_memory d e c b m n t o h s r
+  breaks_keeping (deed.Event e) c b m n h s t o r = outcome_kept d c b m n seen.Dropped t o h (after_break d e c b m n h s) r
   breaks_keeping (deed.Reply u) c b m n h s t o r = same_reply d c b t o s.0 r
   breaks_keeping deed.Rows c b m n h s t o r = same_reply d c b t o s.0 r
   breaks_keeping deed.Tables c b m n h s t o r = same_reply d c b t o s.0 r

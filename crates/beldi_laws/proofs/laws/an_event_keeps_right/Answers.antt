@@ -1,5 +1,5 @@
-use Rattle.beldi_laws.proofs.Events.{after_event}
+use Rattle.beldi_laws.proofs.Events.{keeps_right}
 use Rattle.beldi_laws.proofs.laws.an_event_keeps_right.Goals as goal
 
 pub returns : goal.returns
-returns c = λ d room old new e k b m n x h s. (after_event d room old new e k b m n x h s).right
+returns c = keeps_right
