@@ -1,6 +1,10 @@
 -- Cells that say of each two whether one leads to the other.
-use Rattle.std.proofs.Common.{◌≡◌, ℕ, zero, suc, ◌+◌, ◌*◌, ◌/◌, ◌%◌, ◌<◌, Bool, ◌||◌, ◌&&◌, List, refl, ap, ◌∙◌, sym, arith}
-use Rattle.beldi_check.specs.Calls.{IsGrid, cell, through}
+use Rattle.std.proofs.Common.{◌≡◌, ℕ, zero, suc, ◌+◌, ◌*◌, ◌/◌, ◌%◌, ◌<◌, ◌≤◌, Bool, false, ◌||◌, ◌&&◌, List, length, refl, ap, ◌∙◌, sym, arith}
+use Rattle.std.proofs.Math.Bool.{or-false, and-false}
+use Rattle.std.proofs.lemmas.Bool.{or_from}
+use Rattle.std.proofs.lemmas.Option.{slice_get_past}
+use Rattle.beldi_tree.specs.declared.deployment.Func.{Func}
+use Rattle.beldi_check.specs.Calls.{Link, IsGrid, cell, edge, edge_to, through}
 
 row_of : (i j : ℕ) → j < 65 → (65 * i + j) / 65 ≡ i
 row_of i j h = omega arith
@@ -37,3 +41,19 @@ widens e n old new h g w = record {
 pub begins : (e : ℕ → ℕ → Bool) (cells : List Bool) → IsGrid e cells → IsGrid (through e zero) cells
 unfolding through
 begins e cells g = g
+
+-- what is no function is led to by nothing
+unled : (k : Link) (fs : List Func) (m i n : ℕ) → length fs ≤ n → through (edge k fs) m i n ≡ false
+unfolding through
+unled k fs zero i n h = ap (edge_to k fs i) (slice_get_past fs n h)
+unled k fs (suc m) i n h = or_from (through (edge k fs) m i n) (through (edge k fs) m i m && through (edge k fs) m m n) (unled k fs m i n h) (ap (λ b. through (edge k fs) m i m && b) (unled k fs m m n h) ∙ and-false (through (edge k fs) m i m))
+
+-- so nothing leads over it
+pub stays : (k : Link) (fs : List Func) (n : ℕ) (cells : List Bool) → length fs ≤ n → IsGrid (through (edge k fs) n) cells → IsGrid (through (edge k fs) (suc n)) cells
+stays k fs n cells h g = record {
+  all = g.all;
+  each = λ x w.
+      let i = x / 65 in
+      let j = x % 65 in
+      g.each x w ∙ sym (through_more (edge k fs) n i j ∙ ap (λ b. through (edge k fs) n i j || (b && through (edge k fs) n n j)) (unled k fs n i n h) ∙ or-false (through (edge k fs) n i j));
+}

@@ -22,7 +22,7 @@ use Rattle.beldi_check.specs.declared.why.CheckErr.TheVariants.{OutOfMemory, Ref
 abbrev pub Offence : Type 0
 Offence = ℕ × Why
 
--- a refusal names the first offence; want of memory may come in its place
+-- a refusal names the first offence; out of memory may come in its place
 abbrev pub Refuses : Option Offence → CheckErr → Type 0
 Refuses o OutOfMemory = Unit {0}
 Refuses o (Refused l w) = o ≡ Some (l, w)

@@ -133,7 +133,10 @@ pub fn reach(alloc: Global, link: Link, all: &[Listed]) -> Result<Vec<bool>, All
 {
     let mut cells = edges(alloc, link, all)?;
     for over in 0..BLOCKS {
-        cells = widened(alloc, &cells, over)?;
+        // Only functions are led to.
+        if over < all.len() {
+            cells = widened(alloc, &cells, over)?;
+        }
     }
     Ok(cells)
 }
