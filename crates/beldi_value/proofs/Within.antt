@@ -1,6 +1,10 @@
 -- What is read is within the limits.
-use Rattle.std.proofs.Common.{◌≡◌, ℕ, max, suc, true, false, ◌&&◌, List, Option, Some, None, Result, Ok, Err, IsTrue, IfOk, refl, ap, ap₂, ◌∙◌, subst, arith, if◌then◌else◌}
+use Rattle.std.proofs.Common.{◌≡◌, ℕ, ◌<◌, ◌≤◌, ◌^◌, ℤ, length, max, suc, true, false, ◌&&◌, List, Option, Some, None, Result, Ok, Err, IsTrue, IfOk, refl, ap, ap₂, ◌∙◌, subst, arith, if◌then◌else◌}
 use Rattle.std.specs.Prelude.{nat_le, ok_or, option_map, option_and_then}
+use Rattle.std.specs.Fmt.{signed_decimal}
+use Rattle.std.proofs.lemmas.Bool.Decides.{nat_tests}
+use Rattle.std.proofs.lemmas.Fmt.{length_signed_le}
+use lib.Signed.{mag}
 use Rattle.serde_json.specs.Data as json
 use Rattle.beldi_value.specs.declared.value.Value.{Value}
 use Rattle.beldi_value.specs.declared.read.ValueErr.{ValueErr}
@@ -81,3 +85,7 @@ read_within bytes d e = subst Within e (reading_within (json_at bytes))
 pub answer_within : (bytes : List ℕ) (r : Result Value ValueErr) → ReadsValue (read_of bytes) r → IfOk r (λ v. IsTrue (is_within (datum_of v)))
 answer_within bytes (Ok v) h = read_within bytes (datum_of v) h
 answer_within bytes (Err e) h = tt
+
+-- a whole number of 64 bits is within the limits
+pub int_within : (z : ℤ) → mag z < 2 ^ 63 → true ≡ is_within (int z)
+int_within z h = let few : length (signed_decimal z) ≤ 21 = length_signed_le 20 z (omega arith) h in grind (arith, nat_tests)

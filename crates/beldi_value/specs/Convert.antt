@@ -8,7 +8,7 @@ use Rattle.beldi_value.specs.Datum.{Datum, items_of, fields_of}
 use Rattle.beldi_value.specs.Value.{datum_of}
 use Rattle.beldi_value.specs.Json.{of_json, of_items, of_members}
 
--- want of memory is free; the other refusal comes where nothing is read
+-- out of memory is a free answer; the other refusal comes where nothing is read
 abbrev pub Refuses : {A : Type 0} → Option A → ConvertErr → Type 0
 Refuses read OutOfMemory = Unit {0}
 Refuses read NotInt = read ≡ None

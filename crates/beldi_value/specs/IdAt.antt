@@ -49,7 +49,7 @@ id_from (p ∷ ps) = option_and_then (with_hops (hops_at ps)) (ticket_at p)
 abbrev pub id_at : List ℕ → Option IntentId
 id_at text = id_from (parts_of text)
 
--- this is read, and refused exactly where it is none, but for want of memory
+-- this is read, and refused exactly where it is none, unless out of memory
 abbrev pub RefusesId : {A : Type 0} → Option A → IdErr → Type 0
 RefusesId o OutOfMemory = Unit {0}
 RefusesId o BadId = o ≡ None

@@ -41,7 +41,7 @@ read_of bytes = do
 abbrev pub IsReadAgain : Datum → Type 0
 IsReadAgain d = IsTrue (is_within d) → read_of (text_of d) ≡ Ok d
 
--- this is answered, but for want of memory
+-- this is answered, unless out of memory
 abbrev pub ReadsValue : Result Datum ValueErr → Result Value ValueErr → Type 0
 ReadsValue r (Ok v) = r ≡ Ok (datum_of v)
 ReadsValue r (Err OutOfMemory) = Unit {0}

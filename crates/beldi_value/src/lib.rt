@@ -9,7 +9,7 @@
 //!
 //! Proved:
 //! - Copies are equal; `Value::is_same` is equality.
-//! - The texts of values, ids, places, owners and outcomes are those of the definitions, and after want of memory the
+//! - The texts of values, ids, places, owners and outcomes are those of the definitions, and, out of memory, the
 //!   text is as before (`ok`, `err` of `Value::write_json`, `IntentId::write`, `Place::write`, `Owner::write`,
 //!   `Outcome::write`).
 //! - Numbers are read exactly (`number_at`, `numeral_at`, `int_at` of `read_number`, `read_numeral`, `read_int`).

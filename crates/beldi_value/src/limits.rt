@@ -4,7 +4,7 @@ ghost use Rattle.std.specs.Fmt.{signed_decimal};
 ghost use Rattle.serde_json.specs.Written.{comma_if, items_text, members_text};
 ghost use Rattle.json.specs.Print.{escape_byte, escape, quoted};
 ghost use Rattle.beldi_value.specs.Value.{datum_of};
-ghost use Rattle.beldi_value.specs.Datum.{items_of, fields_of};
+ghost use Rattle.beldi_value.specs.Datum.{int, items_of, fields_of};
 ghost use Rattle.beldi_value.specs.Json.{json_items, json_fields};
 ghost use Rattle.beldi_value.specs.Limits.{depth_of, items_depth, fields_depth, text_size, item_size, field_size, is_within};
 
@@ -20,7 +20,11 @@ impl Value {
     pub fn is_within(&self) -> bool
         ensures { result ≡ is_within (datum_of self.now) }
     {
-        self.nests_within(MOST_DEPTH) && self.text_left(MOST_BYTES).is_some()
+        match self {
+            Value::Null | Value::Bool(_) => true,
+            Value::Int(number) => int_is_within(*number),
+            _ => self.nests_within(MOST_DEPTH) && self.text_left(MOST_BYTES).is_some(),
+        }
     }
 
     /// Whether lists and records nest so many levels deep at most.
@@ -79,6 +83,13 @@ fn int_len(number: i64) -> usize
 {
     let digits = digits(number.unsigned_abs());
     if number < 0 { digits + 1 } else { digits }
+}
+
+// A number has 20 bytes at most.
+fn int_is_within(number: i64) -> bool
+    ensures { result ≡ is_within (int number) }
+{
+    true
 }
 
 // How many bytes stand for a byte of a text.

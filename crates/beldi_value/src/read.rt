@@ -1,12 +1,14 @@
 // Values from JSON.
-ghost use Rattle.std.specs.Prelude.{◌≡◌, ◌≤◌, IfOk, IsTrue, MatchResult};
+ghost use Rattle.std.specs.Prelude.{◌≡◌, ◌≤◌, Some, IfOk, IsTrue, MatchResult};
 ghost use Rattle.serde_json.specs.View.{view};
 ghost use Rattle.serde_json.specs.Data.{depth};
 ghost use Rattle.beldi_value.specs.Limits.{is_within};
+ghost use Rattle.beldi_value.specs.Number.{int_at};
 ghost use Rattle.beldi_value.specs.Reading.{json_at, if_small, read_of, ReadsValue, Refuses};
 ghost use Rattle.beldi_value.specs.Value.{datum_of};
 
 use crate::convert::{ConvertErr, depth_of, value_from};
+use crate::number::read_int;
 use crate::text::Str;
 use crate::value::Value;
 use std::alloc::{AllocError, Global};
@@ -55,12 +57,25 @@ fn json_of(alloc: Global, bytes: &[u8]) -> Result<serde_json::Value, ValueErr>
     }
 }
 
+// The number that the bytes are the text of.
+fn int_read(bytes: &[u8], number: i64) -> Result<Value, ValueErr>
+    requires { int_at bytes.now ≡ Some number }
+    ensures read { ReadsValue (read_of bytes.now) result }
+    ensures within { IfOk result (λ v. IsTrue (is_within (datum_of v))) }
+{
+    Ok(Value::Int(number))
+}
+
 impl Value {
     /// The value that the bytes are in JSON. In a record with a repeated key the last one counts.
     pub fn read_json(alloc: Global, bytes: &[u8]) -> Result<Value, ValueErr>
         ensures read { ReadsValue (read_of bytes.now) result }
         ensures within { IfOk result (λ v. IsTrue (is_within (datum_of v))) }
     {
+        // Most values of scripts are numbers, which need no reader of JSON.
+        if let Some(number) = read_int(bytes) {
+            return int_read(bytes, number);
+        }
         let json = match json_of(alloc, bytes) {
             Ok(json) => json,
             Err(why) => return Err(why),

@@ -1,0 +1,6 @@
+use Rattle.std.proofs.Common.{arith}
+use Rattle.beldi_value.proofs.Within.{int_within}
+use Rattle.beldi_value.proofs.limits.int_is_within.Goals as goal
+
+pub returns : goal.returns
+returns c = int_within c.args.number (omega arith)

@@ -1,0 +1,15 @@
+use Rattle.std.proofs.Common.{◌≡◌, Ok, List, ℕ, sym, subst, arith, rules}
+use Rattle.beldi_value.specs.Datum.{int}
+use Rattle.beldi_value.specs.Reading.{read_of}
+use Rattle.beldi_value.proofs.Ints.{alone}
+use Rattle.beldi_value.proofs.ReadAgain.{read_again}
+use Rattle.beldi_value.proofs.Within.{int_within}
+use Rattle.beldi_value.proofs.read.int_read.Goals as goal
+
+pub returns-clause-read : goal.returns-clause-read
+returns-clause-read c =
+    let again = subst (λ (bs : List ℕ). read_of bs ≡ Ok (int c.args.number)) (alone c.args.number c.args.bytes.now c.requires) (read_again (int c.args.number) (omega arith) (sym (int_within c.args.number (omega arith)))) in
+    search (rules, again)
+
+pub returns-clause-within : goal.returns-clause-within
+returns-clause-within c = let within = sym (int_within c.args.number (omega arith)) in search (rules, within)
