@@ -240,7 +240,7 @@ term_value vs t = plain_value vs t >>= limited
 abbrev pub value_at : Bindings → Expr → Result Value Code
 value_at vs e = term_value vs (term_of e)
 
--- an answer gives what is meant, but for want of memory
+-- an answer gives what is meant, unless out of memory
 abbrev pub IsFault : {A : Type 0} → Result A Code → EvalErr → Type 0
 IsFault r OutOfMemory = Unit {0}
 IsFault r (Fault c) = r ≡ Err c

@@ -11,7 +11,7 @@ abbrev pub seen_value : Seen → Value
 seen_value (Lent v) = v.now
 seen_value (Made v) = v
 
--- an answer gives what is meant, but for want of memory
+-- an answer gives what is meant, unless out of memory
 abbrev pub Finds : Result Value Code → Result Seen EvalErr → Type 0
 Finds r (Ok s) = r ≡ Ok (seen_value s)
 Finds r (Err e) = IsFault r e

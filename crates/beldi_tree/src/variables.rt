@@ -42,7 +42,7 @@ impl Variables {
     {
         let mut copy = Variables::new(alloc);
         for (name, value) in self.entries.iter() {
-            copy.set(name.copy(alloc)?, value.copy(alloc)?)?;
+            copy.set(alloc, name, value.copy(alloc)?)?;
         }
         Ok(copy)
     }
@@ -54,14 +54,20 @@ impl Variables {
         self.entries.get(name)
     }
 
-    /// Gives a name this value.
-    pub fn set(&mut self, name: Str, value: Value) -> Result<(), AllocError>
-        ensures ok { OnOk result (self.new ≡ map.insert self.old name value) }
+    /// Gives a name this value. The name is copied only where it had none.
+    pub fn set(&mut self, alloc: Global, name: &Str, value: Value) -> Result<(), AllocError>
+        ensures ok { OnOk result (self.new ≡ map.insert self.old name.now value) }
         ensures err { OnErr result (self.new ≡ self.old) }
     {
-        match self.entries.insert(name, value) {
-            Ok(_) => Ok(()),
-            Err(_) => Err(AllocError),
+        match self.entries.get_mut(name) {
+            Some(old) => {
+                *old = value;
+                Ok(())
+            }
+            None => match self.entries.insert(name.copy(alloc)?, value) {
+                Ok(_) => Ok(()),
+                Err(_) => Err(AllocError),
+            },
         }
     }
 }
