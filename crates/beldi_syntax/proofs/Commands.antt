@@ -1,68 +1,79 @@
 -- Statements and deployments are read as the grammar has them.
-use Rattle.std.proofs.Common.{◌≡◌, ℕ, zero, suc, Bool, true, false, List, [], ◌∷◌, ◌++◌, Option, Some, None, refl, ap, subst, ◌∙◌, inl, inr, codes, if◌then◌else◌}
+use Rattle.std.proofs.Common.{◌≡◌, ℕ, zero, suc, ◌+◌, ◌<◌, Bool, true, false, ◌||◌, List, [], ◌∷◌, ◌++◌, Option, Some, None, refl, ap, subst, ◌∙◌, arith, inl, inr, codes, if◌then◌else◌}
+use Rattle.std.specs.Prelude.{◌^◌}
+use Rattle.beldi_value.specs.declared.rel.Rel.{Rel}
+use Rattle.beldi_tree.specs.declared.deployment.Deployment.{Deployment}
+use Rattle.beldi_tree.specs.declared.deployment.Func.{Func}
+use Rattle.beldi_tree.specs.declared.deployment.TableHead.{TableHead}
+use Rattle.beldi_tree.specs.Term.{Term}
+use Rattle.beldi_tree.specs.Command.{Command, set, read, write, condwrite, call as run, async, lock, unlock, transaction, abort, break, choose, repeat, return, commands_of}
+use Rattle.beldi_syntax.specs.declared.refusal.What.TheVariants.{Syntax, Number as OfNumber, TooDeep}
 use Rattle.beldi_syntax.specs.declared.token.Lexeme.{Lexeme}
 use Rattle.beldi_syntax.specs.declared.token.Token.{Token}
 use Rattle.beldi_syntax.specs.declared.token.Token.TheVariants.{Sign, End}
-use Rattle.beldi_syntax.specs.declared.refusal.What.TheVariants.{Syntax, TooDeep}
-use Rattle.beldi_syntax.specs.Phrase.{end_token, is_end as is_at_end, line_of, refuse, Read, got, bad, after, ◌>>=◌, give, next_is, after_first, take, name, number}
-use Rattle.beldi_value.specs.declared.rel.Rel.{Rel}
-use Rattle.std.specs.Prelude.{◌^◌}
-use Rattle.beldi_tree.specs.Term.{Term}
+use Rattle.beldi_syntax.specs.Phrase.{past_token, end_token, is_end as is_at_end, line_of, refuse, Read, got, bad, after, ◌>>=◌, give, next_is, after_first, take}
 use Rattle.beldi_syntax.specs.Operators.{relation_at}
 use Rattle.beldi_syntax.specs.Expressions.{expr_at}
-use Rattle.std.specs.Prelude.{◌||◌}
-use Rattle.beldi_tree.specs.Command.{Command, set, read, write, condwrite, call as run, async, lock, unlock, transaction, abort, break, choose, repeat, return, commands_of}
-use Rattle.beldi_syntax.specs.Statements.{cell as read_cell, relation_or, relation, set_of, read_of, write_of, condition, condwrite_of, call_of, async_of, lock_of, unlock_of, return_of, word_of, otherwise, if_of, repeat_of, transaction_of, on_item, plain, stmt_of, stmt as read_stmt, next_stmt, stmts, braced, block_at}
-use Rattle.beldi_syntax.specs.Deployments.{table_of, next_table, tables, head, body, function_of, next_function, functions, life, room_of, room as read_room, the_end as read_end, deployment as read_deployment}
-use Rattle.beldi_syntax.specs.Grammar.{deployment, room, more_functions, the_end, function, more_tables, block, more_stmts, stmt, else_tail, cell, Symbol, word, NAME, INT, END, REL, expr, sum, IsToken, is_end, Yields, Accepts}
-use Rattle.beldi_syntax.proofs.Lookahead.{starts, sole, first_of_two}
-use Rattle.beldi_syntax.proofs.Sound.{Passed, Failed, Told, Sound, Decided, by_rule_before, one, seq, given, told_made, made, told_by, ruled, told_if, NoneOf, nothing_of, also_not, by_next, by_sign, sign_skips, not_sign, first_took, told_bad, taken, named, numbered, Else, choice, whole, else_refused, else_given, some_same, Turns, repeats, guarded_as, guarded}
-use Rattle.beldi_syntax.proofs.Terms.{Reads, expr_ops, relates, relates_not, rel_took, parts, arguments, sums_read, exprs_at}
+use Rattle.beldi_syntax.specs.Statements.{cell as read_cell, relation_or, relation, set_of, read_of, write_of, condition, condwrite_of, call_of, async_of, lock_of, unlock_of, return_of, otherwise, if_of, repeat_of, transaction_of, on_item, plain, stmt_of, stmt as read_stmt, next_stmt, stmts, block_at}
+use Rattle.beldi_syntax.specs.Deployments.{table_of, tables, head, body, function_of, functions, life, room as read_room, the_end as read_end, deployment as read_deployment}
+use Rattle.beldi_syntax.specs.Grammar.{deployment, room, more_functions, the_end, function, more_tables, block, more_stmts, stmt, else_tail, cell, Symbol, word, NAME, INT, END, REL, expr, sum, Place, place, at, Act, by, rules}
+use Rattle.beldi_syntax.specs.Grammar.{is_long}
+use Rattle.beldi_syntax.proofs.Lookahead.{is_that, select, starts, first_of_two}
+use Rattle.beldi_syntax.proofs.Sound.{Stack, stack, Step, Run, went, Halt, Told, Sound, push, opened, by_rule, seq, given, told_made, made, told_by, ruled, told_if, Low, NoneOf, nothing_of, also_not, skips, skips_end, by_sign, sign_skips, not_sign, free, one, halted, told_bad, taken, named, numbered, Eaten, Else, sign_run, choice, whole, else_refused, else_given, some_same, Turn, Turns, repeats, Leads, leads, guarded, onwards, next_one, none_more}
+use Rattle.beldi_syntax.proofs.Terms.{Reads, expr_ops, relates, relates_not, rel_run, parts, arguments, sums_read, exprs_at, first_is, kind_step, too_deep, low_at}
 
 -- ---- statements
 
-relation_told : (es : List Symbol) (s : List Lexeme) (o : Option Rel) → relation_at s ≡ o → Told (relation_or o s) (REL ∷ []) es s
-relation_told es s None g = told_bad REL es s refl refl (relates_not s g)
-relation_told es s (Some v) g = rel_took es s (relates s v g)
+relation_told : (n : ℕ) (es : List Place) (k : Rel → Act es Deployment) (s : List Lexeme) (o : Option Rel) → Low n → relation_at s ≡ o → Told (relation_or o s) (push n REL es k) (λ r. stack es (k r)) s
+relation_told n es k s None l g = told_bad n REL es k s refl refl (relates_not s g)
+relation_told n es k s (Some v) l g = rel_run n es k s v l (relates s v g)
 
-relation_is : (es : List Symbol) → Sound relation (REL ∷ []) es
-relation_is es = record { told = λ s. relation_told es s (relation_at s) refl }
+relation_is : (n : ℕ) (es : List Place) (k : Rel → Act es Deployment) → Low n → Sound relation (push n REL es k) (λ r. stack es (k r))
+relation_is n es k l = record { told = λ s. relation_told n es k s (relation_at s) l refl }
 
-closed : (c : Command) (es : List Symbol) → Sound (take (codes ";") >>= λ u. give c) (word (codes ";") ∷ []) es
-closed c es = made (take (codes ";")) (λ u. c) (word (codes ";") ∷ []) es (taken (codes ";") es)
+-- `;`
+closed : {A : Type 0} (n : ℕ) (es : List Place) (k : A → Act es Deployment) (c : A) → Low n → Sound (take (codes ";") >>= λ u. give c) (stack (place n (word (codes ";")) ∷ es) (λ line. k c)) (λ x. stack es (k x))
+closed n es k c l = seq (taken (codes ";") n es (k c) l) (λ u. given c (λ x. stack es (k x)))
 
-cells : (p : List Lexeme → Read Term) → Reads p expr expr_ops → (es : List Symbol) → Sound (read_cell p) (cell ∷ []) es
-cells p h es = ruled cell _ es (read_cell p) refl (seq name _ (NAME ∷ []) _ es (named _) (λ t. seq _ _ (word (codes "[") ∷ expr ∷ []) _ es (parts p (codes "[") _ (h _ refl)) (λ k. seq _ _ (word (codes "]") ∷ []) [] es (taken (codes "]") es) (λ u. given (t, k) es))))
+cells : (n : ℕ) (p : List Lexeme → Read Term) (es : List Place) (k : List ℕ × Term → Act es Deployment) → Low n → Reads expr p n expr_ops → Sound (read_cell p) (push n cell es k) (λ c. stack es (k c))
+cells n p es k l h = ruled n cell _ es k refl (seq (named n _ (λ t a key b. k (t, key)) l) (λ t. seq (parts n p (codes "[") _ (λ key b. k (t, key)) l h refl) (λ key. seq (taken (codes "]") n es (k (t, key)) l) (λ u. given (t, key) (λ c. stack es (k c))))))
 
-sets : (p : List Lexeme → Read Term) → Reads p expr expr_ops → (line : ℕ) (es : List Symbol) → Sound (set_of p line) (NAME ∷ word (codes "=") ∷ expr ∷ word (codes ";") ∷ []) es
-sets p h line es = seq name _ (NAME ∷ []) _ es (named _) (λ n. seq _ _ (word (codes "=") ∷ expr ∷ []) _ es (parts p (codes "=") _ (h _ refl)) (λ e. closed (set line n e) es))
+-- what follows the first word of a statement
+abbrev Follows : (n : ℕ) (es : List Place) → (Command → Act es Deployment) → (p : List Lexeme → Read Command) (bs : List Symbol) → Act (at n bs) Command → Type 0
+Follows n es k p bs m = Sound p (opened stmt (by (at n bs) m) es k) (λ c. stack es (k c))
 
-reads : (p : List Lexeme → Read Term) → Reads p expr expr_ops → (line : ℕ) (es : List Symbol) → Sound (read_of p line) (NAME ∷ word (codes "=") ∷ cell ∷ word (codes ";") ∷ []) es
-reads p h line es = seq name _ (NAME ∷ []) _ es (named _) (λ n. seq _ _ (word (codes "=") ∷ []) _ es (taken (codes "=") _) (λ u. seq _ _ (cell ∷ []) _ es (cells p h _) (λ c. closed (read line n c.0 c.1) es)))
+sets : (n line : ℕ) (p : List Lexeme → Read Term) (es : List Place) (k : Command → Act es Deployment) → Low n → Reads expr p n expr_ops → Follows n es k (set_of p line) (NAME ∷ word (codes "=") ∷ expr ∷ word (codes ";") ∷ []) (λ x a e b. set line x e)
+sets n line p es k l h = seq (named n _ (λ x a e b. k (set line x e)) l) (λ x. seq (parts n p (codes "=") _ (λ e b. k (set line x e)) l h refl) (λ e. closed n es k (set line x e) l))
 
-writes : (p : List Lexeme → Read Term) → Reads p expr expr_ops → (line : ℕ) (es : List Symbol) → Sound (write_of p line) (cell ∷ word (codes "=") ∷ expr ∷ word (codes ";") ∷ []) es
-writes p h line es = seq _ _ (cell ∷ []) _ es (cells p h _) (λ c. seq _ _ (word (codes "=") ∷ expr ∷ []) _ es (parts p (codes "=") _ (h _ refl)) (λ e. closed (write line c.0 c.1 e) es))
+reads : (n line : ℕ) (p : List Lexeme → Read Term) (es : List Place) (k : Command → Act es Deployment) → Low n → Reads expr p n expr_ops → Follows n es k (read_of p line) (NAME ∷ word (codes "=") ∷ cell ∷ word (codes ";") ∷ []) (λ x a c b. read line x c.0 c.1)
+reads n line p es k l h = seq (named n _ (λ x a c b. k (read line x c.0 c.1)) l) (λ x. seq (taken (codes "=") n _ (λ c b. k (read line x c.0 c.1)) l) (λ u. seq (cells n p _ (λ c b. k (read line x c.0 c.1)) l h) (λ c. closed n es k (read line x c.0 c.1) l)))
 
-conditions : (p : List Lexeme → Read Term) → Reads p expr expr_ops → (es : List Symbol) → Sound (condition p) (REL ∷ sum ∷ word (codes "then") ∷ expr ∷ word (codes ";") ∷ []) es
-conditions p h es = seq _ _ (REL ∷ []) _ es (relation_is _) (λ r. seq _ _ (sum ∷ []) _ es (sums_read p h _ refl) (λ o. seq _ _ (word (codes "then") ∷ expr ∷ []) _ es (parts p (codes "then") _ (h _ refl)) (λ e. seq _ _ (word (codes ";") ∷ []) [] es (taken (codes ";") es) (λ u. given (r, (o, e)) es))))
+writes : (n line : ℕ) (p : List Lexeme → Read Term) (es : List Place) (k : Command → Act es Deployment) → Low n → Reads expr p n expr_ops → Follows n es k (write_of p line) (cell ∷ word (codes "=") ∷ expr ∷ word (codes ";") ∷ []) (λ c a e b. write line c.0 c.1 e)
+writes n line p es k l h = seq (cells n p _ (λ c a e b. k (write line c.0 c.1 e)) l h) (λ c. seq (parts n p (codes "=") _ (λ e b. k (write line c.0 c.1 e)) l h refl) (λ e. closed n es k (write line c.0 c.1 e) l))
 
-condwrites : (p : List Lexeme → Read Term) → Reads p expr expr_ops → (line : ℕ) (es : List Symbol) → Sound (condwrite_of p line) (NAME ∷ word (codes "=") ∷ cell ∷ REL ∷ sum ∷ word (codes "then") ∷ expr ∷ word (codes ";") ∷ []) es
-condwrites p h line es = seq name _ (NAME ∷ []) _ es (named _) (λ n. seq _ _ (word (codes "=") ∷ []) _ es (taken (codes "=") _) (λ u. seq _ _ (cell ∷ []) _ es (cells p h _) (λ c. made (condition p) (λ w. condwrite line n c.0 c.1 w.0 w.1.0 w.1.1) _ es (conditions p h es))))
+conditions : (n : ℕ) (p : List Lexeme → Read Term) (es : List Place) (k : Rel × (Term × Term) → Act es Deployment) → Low n → Reads expr p n expr_ops → Sound (condition p) (stack (at n (REL ∷ sum ∷ word (codes "then") ∷ expr ∷ word (codes ";") ∷ []) ++ es) (λ r o a e b. k (r, (o, e)))) (λ w. stack es (k w))
+conditions n p es k l h = seq (relation_is n _ (λ r o a e b. k (r, (o, e))) l) (λ r. seq (sums_read n p l h _ (λ o a e b. k (r, (o, e))) refl) (λ o. seq (parts n p (codes "then") _ (λ e b. k (r, (o, e))) l h refl) (λ e. closed n es k (r, (o, e)) l)))
 
-calls_read : (p : List Lexeme → Read Term) → Reads p expr expr_ops → (line : ℕ) (es : List Symbol) → Sound (call_of p line) (NAME ∷ word (codes "=") ∷ NAME ∷ word (codes "(") ∷ expr ∷ word (codes ")") ∷ word (codes ";") ∷ []) es
-calls_read p h line es = seq name _ (NAME ∷ []) _ es (named _) (λ n. seq _ _ (word (codes "=") ∷ []) _ es (taken (codes "=") _) (λ u. seq name _ (NAME ∷ []) _ es (named _) (λ f. seq _ _ (word (codes "(") ∷ expr ∷ word (codes ")") ∷ []) _ es (arguments p h _) (λ e. closed (run line n f e) es))))
+condwrites : (n line : ℕ) (p : List Lexeme → Read Term) (es : List Place) (k : Command → Act es Deployment) → Low n → Reads expr p n expr_ops
+    → Follows n es k (condwrite_of p line) (NAME ∷ word (codes "=") ∷ cell ∷ REL ∷ sum ∷ word (codes "then") ∷ expr ∷ word (codes ";") ∷ []) (λ x a c r o b e d. condwrite line x c.0 c.1 r o e)
+condwrites n line p es k l h = seq (named n _ (λ x a c r o b e d. k (condwrite line x c.0 c.1 r o e)) l) (λ x. seq (taken (codes "=") n _ (λ c r o b e d. k (condwrite line x c.0 c.1 r o e)) l) (λ u. seq (cells n p _ (λ c r o b e d. k (condwrite line x c.0 c.1 r o e)) l h) (λ c.
+    made (λ w. condwrite line x c.0 c.1 w.0 w.1.0 w.1.1) (conditions n p es (λ w. k (condwrite line x c.0 c.1 w.0 w.1.0 w.1.1)) l h))))
 
-asyncs : (p : List Lexeme → Read Term) → Reads p expr expr_ops → (line : ℕ) (es : List Symbol) → Sound (async_of p line) (NAME ∷ word (codes "(") ∷ expr ∷ word (codes ")") ∷ word (codes ";") ∷ []) es
-asyncs p h line es = seq name _ (NAME ∷ []) _ es (named _) (λ f. seq _ _ (word (codes "(") ∷ expr ∷ word (codes ")") ∷ []) _ es (arguments p h _) (λ e. closed (async line f e) es))
+calls_read : (n line : ℕ) (p : List Lexeme → Read Term) (es : List Place) (k : Command → Act es Deployment) → Low n → Reads expr p n expr_ops
+    → Follows n es k (call_of p line) (NAME ∷ word (codes "=") ∷ NAME ∷ word (codes "(") ∷ expr ∷ word (codes ")") ∷ word (codes ";") ∷ []) (λ x a f b e c d. run line x f e)
+calls_read n line p es k l h = seq (named n _ (λ x a f b e c d. k (run line x f e)) l) (λ x. seq (taken (codes "=") n _ (λ f b e c d. k (run line x f e)) l) (λ u. seq (named n _ (λ f b e c d. k (run line x f e)) l) (λ f. seq (arguments n p _ (λ e d. k (run line x f e)) l h) (λ e. closed n es k (run line x f e) l))))
 
-locks : (p : List Lexeme → Read Term) → Reads p expr expr_ops → (line : ℕ) (es : List Symbol) → Sound (lock_of p line) (cell ∷ word (codes ";") ∷ []) es
-locks p h line es = seq _ _ (cell ∷ []) _ es (cells p h _) (λ c. closed (lock line c.0 c.1) es)
+asyncs : (n line : ℕ) (p : List Lexeme → Read Term) (es : List Place) (k : Command → Act es Deployment) → Low n → Reads expr p n expr_ops → Follows n es k (async_of p line) (NAME ∷ word (codes "(") ∷ expr ∷ word (codes ")") ∷ word (codes ";") ∷ []) (λ f b e c d. async line f e)
+asyncs n line p es k l h = seq (named n _ (λ f b e c d. k (async line f e)) l) (λ f. seq (arguments n p _ (λ e d. k (async line f e)) l h) (λ e. closed n es k (async line f e) l))
 
-unlocks : (p : List Lexeme → Read Term) → Reads p expr expr_ops → (line : ℕ) (es : List Symbol) → Sound (unlock_of p line) (cell ∷ word (codes ";") ∷ []) es
-unlocks p h line es = seq _ _ (cell ∷ []) _ es (cells p h _) (λ c. closed (unlock line c.0 c.1) es)
+locks : (n line : ℕ) (p : List Lexeme → Read Term) (es : List Place) (k : Command → Act es Deployment) → Low n → Reads expr p n expr_ops → Follows n es k (lock_of p line) (cell ∷ word (codes ";") ∷ []) (λ c a. lock line c.0 c.1)
+locks n line p es k l h = seq (cells n p _ (λ c a. k (lock line c.0 c.1)) l h) (λ c. closed n es k (lock line c.0 c.1) l)
 
-returns : (p : List Lexeme → Read Term) → Reads p expr expr_ops → (line : ℕ) (es : List Symbol) → Sound (return_of p line) (expr ∷ word (codes ";") ∷ []) es
-returns p h line es = seq p _ (expr ∷ []) _ es (h _ refl) (λ e. closed (return line e) es)
+unlocks : (n line : ℕ) (p : List Lexeme → Read Term) (es : List Place) (k : Command → Act es Deployment) → Low n → Reads expr p n expr_ops → Follows n es k (unlock_of p line) (cell ∷ word (codes ";") ∷ []) (λ c a. unlock line c.0 c.1)
+unlocks n line p es k l h = seq (cells n p _ (λ c a. k (unlock line c.0 c.1)) l h) (λ c. closed n es k (unlock line c.0 c.1) l)
+
+returns : (n line : ℕ) (p : List Lexeme → Read Term) (es : List Place) (k : Command → Act es Deployment) → Low n → Reads expr p n expr_ops → Follows n es k (return_of p line) (expr ∷ word (codes ";") ∷ []) (λ e a. return line e)
+returns n line p es k l h = seq (h _ (λ e a. k (return line e)) refl) (λ e. closed n es k (return line e) l)
 
 abbrev for_block : List Token
 for_block = Sign (codes "transaction") ∷ Sign (codes "repeat") ∷ Sign (codes "if") ∷ []
@@ -70,47 +81,45 @@ for_block = Sign (codes "transaction") ∷ Sign (codes "repeat") ∷ Sign (codes
 abbrev for_plain : List Token
 for_plain = Sign (codes "break") ∷ Sign (codes "abort") ∷ Sign (codes "return") ∷ Sign (codes "async") ∷ Sign (codes "call") ∷ Sign (codes "set") ∷ for_block
 
-on_items : (p : List Lexeme → Read Term) → Reads p expr expr_ops → (line : ℕ) (es : List Symbol) → Else for_plain (on_item p line) stmt es
-on_items p h line es =
-    choice _ (codes "read") (read_of p line) _ stmt _ es refl refl (reads p h line es)
-    (choice _ (codes "write") (write_of p line) _ stmt _ es refl refl (writes p h line es)
-    (choice _ (codes "condwrite") (condwrite_of p line) _ stmt _ es refl refl (condwrites p h line es)
-    (choice _ (codes "lock") (lock_of p line) _ stmt _ es refl refl (locks p h line es)
-    (choice _ (codes "unlock") (unlock_of p line) (refuse Syntax) stmt _ es refl refl (unlocks p h line es) (else_refused stmt es refl refl)))))
+on_items : (n line : ℕ) (p : List Lexeme → Read Term) (es : List Place) (k : Command → Act es Deployment) → Low n → Reads expr p n expr_ops → Else true line for_plain (on_item p line) (push n stmt es k) (λ c. stack es (k c))
+on_items n line p es k l h =
+    choice line _ (codes "read") n stmt _ _ es k l refl refl (reads n line p es k l h)
+    (choice line _ (codes "write") n stmt _ _ es k l refl refl (writes n line p es k l h)
+    (choice line _ (codes "condwrite") n stmt _ _ es k l refl refl (condwrites n line p es k l h)
+    (choice line _ (codes "lock") n stmt _ _ es k l refl refl (locks n line p es k l h)
+    (choice line _ (codes "unlock") n stmt _ _ es k l refl refl (unlocks n line p es k l h) (else_refused line n stmt es k refl refl)))))
 
-plains : (p : List Lexeme → Read Term) → Reads p expr expr_ops → (line : ℕ) (es : List Symbol) → Else for_block (plain p line) stmt es
-plains p h line es =
-    choice _ (codes "set") (set_of p line) _ stmt _ es refl refl (sets p h line es)
-    (choice _ (codes "call") (call_of p line) _ stmt _ es refl refl (calls_read p h line es)
-    (choice _ (codes "async") (async_of p line) _ stmt _ es refl refl (asyncs p h line es)
-    (choice _ (codes "return") (return_of p line) _ stmt _ es refl refl (returns p h line es)
-    (choice _ (codes "abort") (word_of (abort line)) _ stmt _ es refl refl (closed (abort line) es)
-    (choice _ (codes "break") (word_of (break line)) _ stmt _ es refl refl (closed (break line) es) (on_items p h line es))))))
+plains : (n line : ℕ) (p : List Lexeme → Read Term) (es : List Place) (k : Command → Act es Deployment) → Low n → Reads expr p n expr_ops → Else true line for_block (plain p line) (push n stmt es k) (λ c. stack es (k c))
+plains n line p es k l h =
+    choice line _ (codes "set") n stmt _ _ es k l refl refl (sets n line p es k l h)
+    (choice line _ (codes "call") n stmt _ _ es k l refl refl (calls_read n line p es k l h)
+    (choice line _ (codes "async") n stmt _ _ es k l refl refl (asyncs n line p es k l h)
+    (choice line _ (codes "return") n stmt _ _ es k l refl refl (returns n line p es k l h)
+    (choice line _ (codes "abort") n stmt _ _ es k l refl refl (closed n es k (abort line) l)
+    (choice line _ (codes "break") n stmt _ _ es k l refl refl (closed n es k (break line) l) (on_items n line p es k l h))))))
 
 -- a phrase is a block, whatever follows
-abbrev Blocks : (List Lexeme → Read (List Command)) → Type 0
-Blocks b = (es : List Symbol) → Sound b (block ∷ []) es
+abbrev Blocks : ℕ → (List Lexeme → Read (List Command)) → Type 0
+Blocks n b = (es : List Place) (k : List Command → Act es Deployment) → Sound b (push n block es k) (λ c. stack es (k c))
 
-elses : (b : List Lexeme → Read (List Command)) → Blocks b → (es : List Symbol) → starts es (Sign (codes "else")) ≡ false → Sound (otherwise b) (else_tail ∷ []) es
-elses b k es a = whole (otherwise b) else_tail es (choice _ (codes "else") b (give []) else_tail (block ∷ []) es refl a (k es) (else_given [] else_tail es refl refl))
+elses : (n : ℕ) (b : List Lexeme → Read (List Command)) (es : List Place) (k : List Command → Act es Deployment) → Low n → Blocks n b → starts es (Sign (codes "else")) ≡ false → Sound (otherwise b) (push n else_tail es k) (λ c. stack es (k c))
+elses n b es k l h a = whole false (λ line. choice line _ (codes "else") n else_tail _ _ es k l refl a (h es k) (else_given [] line n else_tail [] es k refl refl refl))
 
-ifs : (p : List Lexeme → Read Term) (b : List Lexeme → Read (List Command)) → Reads p expr expr_ops → Blocks b → (line : ℕ) (es : List Symbol) → starts es (Sign (codes "else")) ≡ false → Sound (if_of p b line) (expr ∷ block ∷ else_tail ∷ []) es
-ifs p b h k line es a = seq p _ (expr ∷ []) _ es (h _ refl) (λ e. seq b _ (block ∷ []) _ es (k _) (λ c. made (otherwise b) (λ d. choose line e (commands_of c) (commands_of d)) (else_tail ∷ []) es (elses b k es a)))
+ifs : (n line : ℕ) (p : List Lexeme → Read Term) (b : List Lexeme → Read (List Command)) (es : List Place) (k : Command → Act es Deployment) → Low n → Reads expr p n expr_ops → Blocks n b → starts es (Sign (codes "else")) ≡ false
+    → Follows n es k (if_of p b line) (expr ∷ block ∷ else_tail ∷ []) (λ e b c. choose line e (commands_of b) (commands_of c))
+ifs n line p b es k l h g a = seq (h _ (λ e b c. k (choose line e (commands_of b) (commands_of c))) refl) (λ e. seq (g _ (λ b c. k (choose line e (commands_of b) (commands_of c)))) (λ c. made (λ d. choose line e (commands_of c) (commands_of d)) (elses n b es (λ d. k (choose line e (commands_of c) (commands_of d))) l g a)))
 
-loops : (b : List Lexeme → Read (List Command)) → Blocks b → (line : ℕ) (es : List Symbol) → Sound (repeat_of b line) (INT ∷ block ∷ []) es
-loops b k line es = seq (number 0 1000) _ (INT ∷ []) _ es (numbered 0 1000 _) (λ n. made b (λ c. repeat line n (commands_of c)) (block ∷ []) es (k es))
+loops : (n line : ℕ) (b : List Lexeme → Read (List Command)) (es : List Place) (k : Command → Act es Deployment) → Low n → Blocks n b → Follows n es k (repeat_of b line) (INT 0 1000 ∷ block ∷ []) (λ m b. repeat line m (commands_of b))
+loops n line b es k l g = seq (numbered 0 1000 n _ (λ m b. k (repeat line m (commands_of b))) l) (λ m. made (λ c. repeat line m (commands_of c)) (g es (λ c. k (repeat line m (commands_of c)))))
 
-transactions : (b : List Lexeme → Read (List Command)) → Blocks b → (line : ℕ) (es : List Symbol) → Sound (transaction_of b line) (block ∷ word (codes "aborted") ∷ block ∷ []) es
-transactions b k line es = seq b _ (block ∷ []) _ es (k _) (λ c. seq _ _ (word (codes "aborted") ∷ []) _ es (taken (codes "aborted") _) (λ u. made b (λ d. transaction line (commands_of c) (commands_of d)) (block ∷ []) es (k es)))
+transactions : (n line : ℕ) (b : List Lexeme → Read (List Command)) (es : List Place) (k : Command → Act es Deployment) → Low n → Blocks n b → Follows n es k (transaction_of b line) (block ∷ word (codes "aborted") ∷ block ∷ []) (λ b a c. transaction line (commands_of b) (commands_of c))
+transactions n line b es k l g = seq (g _ (λ b a c. k (transaction line (commands_of b) (commands_of c)))) (λ c. seq (taken (codes "aborted") n _ (λ d. k (transaction line (commands_of c) (commands_of d))) l) (λ u. made (λ d. transaction line (commands_of c) (commands_of d)) (g es (λ d. k (transaction line (commands_of c) (commands_of d))))))
 
-stmts_of : (p : List Lexeme → Read Term) (b : List Lexeme → Read (List Command)) → Reads p expr expr_ops → Blocks b → (line : ℕ) (es : List Symbol) → starts es (Sign (codes "else")) ≡ false → Sound (stmt_of p b line) (stmt ∷ []) es
-stmts_of p b h k line es a = whole (stmt_of p b line) stmt es
-    (choice _ (codes "if") (if_of p b line) _ stmt _ es refl refl (ifs p b h k line es a)
-    (choice _ (codes "repeat") (repeat_of b line) _ stmt _ es refl refl (loops b k line es)
-    (choice _ (codes "transaction") (transaction_of b line) _ stmt _ es refl refl (transactions b k line es) (plains p h line es))))
-
-each : (p : List Lexeme → Read Term) (b : List Lexeme → Read (List Command)) → Reads p expr expr_ops → Blocks b → (es : List Symbol) → starts es (Sign (codes "else")) ≡ false → Sound (read_stmt p b) (stmt ∷ []) es
-each p b h k es a = record { told = λ s. (stmts_of p b h k (line_of s) es a).told s }
+stmts_of : (n line : ℕ) (p : List Lexeme → Read Term) (b : List Lexeme → Read (List Command)) (es : List Place) (k : Command → Act es Deployment) → Low n → Reads expr p n expr_ops → Blocks n b → starts es (Sign (codes "else")) ≡ false → Else true line [] (stmt_of p b line) (push n stmt es k) (λ c. stack es (k c))
+stmts_of n line p b es k l h g a =
+    choice line _ (codes "if") n stmt _ _ es k l refl refl (ifs n line p b es k l h g a)
+    (choice line _ (codes "repeat") n stmt _ _ es k l refl refl (loops n line b es k l g)
+    (choice line _ (codes "transaction") n stmt _ _ es k l refl refl (transactions n line b es k l g) (plains n line p es k l h)))
 
 -- where a step goes on unless a sign comes
 is_on_unless : {B : Type 0} (b : Bool) (x z : B) → (if b then None else Some x) ≡ Some z → (b ≡ false) × (x ≡ z)
@@ -121,89 +130,128 @@ is_off_unless : {B : Type 0} (b : Bool) (x : B) → (if b then None else Some x)
 is_off_unless true x e = refl
 is_off_unless false x e = absurd (cc)
 
-stmt_turns : (p : List Lexeme → Read Term) (b : List Lexeme → Read (List Command)) → Reads p expr expr_ops → Blocks b → (es : List Symbol) → Turns (next_stmt p b) more_stmts (word (codes "}") ∷ es)
-stmt_turns p b h k es = record {
-  on = λ cs s q e. let i = is_on_unless (next_is (codes "}") s) (after (read_stmt p b s) (λ y. give (cs ++ y ∷ []))) q e in record {
-    cs = stmt ∷ [];
-    rule = inl refl;
-    decided = λ v m y. first_of_two more_stmts (stmt ∷ more_stmts ∷ []) [] (word (codes "}") ∷ es) v refl (not_sign (codes "}") es s i.0 v m) y;
-    some = refl;
-    told = subst (λ r. Told r (stmt ∷ []) (more_stmts ∷ word (codes "}") ∷ es) s) i.1 (told_made (read_stmt p b s) (λ y. cs ++ y ∷ []) (stmt ∷ []) (more_stmts ∷ word (codes "}") ∷ es) s ((each p b h k (more_stmts ∷ word (codes "}") ∷ es) refl).told s));
-  };
-  ends = λ cs s e. sign_skips (codes "}") more_stmts (word (codes "}") ∷ es) s (is_off_unless (next_is (codes "}") s) (after (read_stmt p b s) (λ y. give (cs ++ y ∷ []))) e) refl;
-}
+eaten_made : {A B : Type 0} (q : Read A) (m : A → B) (s : List Lexeme) → Eaten q s → Eaten (after q (λ x. give (m x))) s
+eaten_made (got x r) m s h = h
+eaten_made (bad line what) m s h = h
 
-all_stmts : (p : List Lexeme → Read Term) (b : List Lexeme → Read (List Command)) → Reads p expr expr_ops → Blocks b → (es : List Symbol) → Sound (stmts p b) (more_stmts ∷ []) (word (codes "}") ∷ es)
-all_stmts p b h k es = repeats (next_stmt p b) more_stmts (word (codes "}") ∷ es) refl (stmt_turns p b h k es) []
+stmt_turn : (n : ℕ) (p : List Lexeme → Read Term) (b : List Lexeme → Read (List Command)) (es : List Place) (kk : List Command → ℕ → Act es Deployment) → Low n → Reads expr p n expr_ops → Blocks n b
+    → (cs : List Command) (s : List Lexeme) (q : Read (List Command)) → next_stmt p b cs s ≡ Some q → Turn (λ xs. push n more_stmts (place n (word (codes "}")) ∷ es) (onwards kk xs)) cs s q
+stmt_turn n p b es kk l h g cs s q e =
+    let zs : List Place = place n (word (codes "}")) ∷ es in
+    let f : List Command → Stack = λ xs. push n more_stmts zs (onwards kk xs) in
+    let i = is_on_unless (next_is (codes "}") s) (after (read_stmt p b s) (λ y. give (cs ++ y ∷ []))) q e in
+    let j : Stack = push n stmt (place n more_stmts ∷ zs) (λ c l. onwards kk cs (c ∷ l)) in
+    let d = stmts_of n (line_of s) p b (place n more_stmts ∷ zs) (λ c l. onwards kk cs (c ∷ l)) l h g refl in
+    let t : Told (read_stmt p b s) j (λ c. f (cs ++ c ∷ [])) s = subst (λ m. Told (read_stmt p b s) j m s) (λ i y. push n more_stmts zs (next_one kk cs y i)) (d.told s refl (nothing_of s)) in
+    let u : Told (after (read_stmt p b s) (λ y. give (cs ++ y ∷ []))) j f s = told_made (read_stmt p b s) (λ y. cs ++ y ∷ []) j f s t in
+    let a : Eaten (after (read_stmt p b s) (λ y. give (cs ++ y ∷ []))) s = eaten_made (read_stmt p b s) (λ y. cs ++ y ∷ []) s (d.eaten s refl) in
+    record {
+      told = told_by q (f cs) j f s (by_rule n more_stmts _ zs (onwards kk cs) s (inl refl) (λ v y m c. first_of_two n more_stmts _ (by [] []) zs (onwards kk cs) v y refl (not_sign (codes "}") n es (onwards kk cs []) s i.0 v y m) c)) (subst (λ r. Told r j f s) i.1 u);
+      eaten = subst (λ r. Eaten r s) i.1 a;
+    }
 
-blocks_at : (d : ℕ) → Blocks (block_at d)
+stmt_turns : (n : ℕ) (p : List Lexeme → Read Term) (b : List Lexeme → Read (List Command)) (es : List Place) (kk : List Command → ℕ → Act es Deployment) → Low n → Reads expr p n expr_ops → Blocks n b
+    → Turns (next_stmt p b) (λ xs. push n more_stmts (place n (word (codes "}")) ∷ es) (onwards kk xs)) (λ xs. stack (place n (word (codes "}")) ∷ es) (kk xs))
+stmt_turns n p b es kk l h g =
+    let zs : List Place = place n (word (codes "}")) ∷ es in
+    record {
+      on = stmt_turn n p b es kk l h g;
+      ends = λ cs s e. subst (λ c. Step (push n more_stmts zs (onwards kk cs)) (stack zs c) s) (none_more kk cs) (sign_skips (codes "}") n more_stmts [] zs (onwards kk cs) s refl (is_off_unless (next_is (codes "}") s) (after (read_stmt p b s) (λ y. give (cs ++ y ∷ []))) e) refl);
+      over = λ cs. subst (λ c. Step (push n more_stmts zs (onwards kk cs)) (stack zs c) []) (none_more kk cs) (skips_end n more_stmts [] zs (onwards kk cs) refl);
+    }
+
+-- statements, up to `}`
+all_stmts : (n : ℕ) (p : List Lexeme → Read Term) (b : List Lexeme → Read (List Command)) (es : List Place) (kk : List Command → ℕ → Act es Deployment) → Low n → Reads expr p n expr_ops → Blocks n b
+    → Sound (stmts p b) (push n more_stmts (place n (word (codes "}")) ∷ es) kk) (λ xs. stack (place n (word (codes "}")) ∷ es) (kk xs))
+all_stmts n p b es kk l h g = repeats (stmt_turns n p b es kk l h g) []
+
+deep_block : (n : ℕ) (es : List Place) (k : List Command → Act es Deployment) (s : List Lexeme) → 64 < n + 1 → next_is (codes "{") s ≡ true → Halt (push n block es k) s (line_of s) TooDeep
+deep_block n es k [] h i = absurd (cc)
+deep_block n es k (t ∷ ts) h i = halted (push n block es k) (t ∷ ts) TooDeep (too_deep n block (word (codes "{")) _ _ es k t ts TooDeep refl refl refl h (ap (λ b. b || false) i) (ap (λ c. if past_token c then Some OfNumber else Some TooDeep) (is_that (codes "{") t.token i)))
+
+blocks_at : (d n : ℕ) → n + d ≡ 64 → Blocks n (block_at d)
 unfolding block_at
-blocks_at zero es = record { told = λ s. told_if (next_is (codes "{") s) (refuse TooDeep s) (refuse Syntax s) (block ∷ []) es s (λ i e. absurd (cc)) (λ i. told_bad block es s refl refl (also_not (codes "{") [] s i (nothing_of s))) }
-blocks_at (suc d) es = ruled block _ es (braced (stmts (expr_at d) (block_at d))) refl (seq _ _ (word (codes "{") ∷ []) _ es (taken (codes "{") _) (λ u. seq _ _ (more_stmts ∷ []) _ es (all_stmts (expr_at d) (block_at d) (exprs_at d) (blocks_at d) es) (λ cs. seq _ _ (word (codes "}") ∷ []) [] es (taken (codes "}") es) (λ v. given cs es))))
+blocks_at zero n e es k = record { told = λ s. told_if (next_is (codes "{") s) (refuse TooDeep s) (refuse Syntax s) (push n block es k) (λ c. stack es (k c)) s (λ i. deep_block n es k s (omega (arith, e)) i) (λ i. told_bad n block es k s refl refl (also_not (codes "{") [] s i (nothing_of s))) }
+blocks_at (suc d) n e es k =
+    let f : (n + 1) + d ≡ 64 = omega (arith, e) in
+    let l = low_at (n + 1) d f in
+    ruled n block _ es k refl (seq (taken (codes "{") (n + 1) _ (λ cs b. k cs) l) (λ u. seq (all_stmts (n + 1) (expr_at d) (block_at d) es (λ cs b. k cs) l (exprs_at d (n + 1) f) (blocks_at d (n + 1) f)) (λ cs. seq (taken (codes "}") (n + 1) es (k cs) l) (λ v. given cs (λ c. stack es (k c))))))
 
 -- ---- deployments
 
-table_is : (line : ℕ) (es : List Symbol) → Sound (table_of line) (NAME ∷ word (codes ";") ∷ []) es
-table_is line es = seq name _ (NAME ∷ []) _ es (named _) (λ n. seq _ _ (word (codes ";") ∷ []) [] es (taken (codes ";") es) (λ u. given _ es))
+table_is : (n line : ℕ) (es : List Place) (k : TableHead → Act es Deployment) → Low n → Sound (table_of line) (stack (at n (NAME ∷ word (codes ";") ∷ []) ++ es) (λ t a. k (record { name = t; line = line }))) (λ t. stack es (k t))
+table_is n line es k l = seq (named n _ (λ t a. k (record { name = t; line = line })) l) (λ t. seq (taken (codes ";") n es (k (record { name = t; line = line })) l) (λ u. given (record { name = t; line = line }) (λ x. stack es (k x))))
 
-all_tables : (es : List Symbol) → starts es (Sign (codes "table")) ≡ false → Sound tables (more_tables ∷ []) es
-all_tables es a = repeats next_table more_tables es refl (guarded (codes "table") (λ s. table_of (line_of s)) more_tables (NAME ∷ word (codes ";") ∷ []) es refl refl a (λ s. table_is (line_of s) (more_tables ∷ es))) []
+all_tables : (n : ℕ) (es : List Place) (k : List TableHead → Act es Deployment) → Low n → starts es (Sign (codes "table")) ≡ false → Sound tables (push n more_tables es k) (λ ts. stack es (k ts))
+all_tables n es k l a = repeats (guarded (codes "table") (λ s. table_of (line_of s)) (λ xs. push n more_tables es (onwards k xs)) (λ xs. stack es (k xs))
+    (λ xs s i. leads (codes "table") n more_tables _ _ es (onwards k xs) s l refl a i
+    (subst (λ g. Sound (table_of (line_of s)) (stack (at n (NAME ∷ word (codes ";") ∷ more_tables ∷ []) ++ es) (λ t b ts. onwards k xs (record { name = t; line = line_of s } ∷ ts))) g) (λ i y. push n more_tables es (next_one k xs y i)) (table_is n (line_of s) (place n more_tables ∷ es) (λ t ts. onwards k xs (t ∷ ts)) l)))
+    (λ xs s i. subst (λ c. Step (push n more_tables es (onwards k xs)) (stack es c) s) (none_more k xs) (skips n more_tables [] es (onwards k xs) s refl refl (also_not (codes "table") [] s i (nothing_of s))))
+    (λ xs. subst (λ c. Step (push n more_tables es (onwards k xs)) (stack es c) []) (none_more k xs) (skips_end n more_tables [] es (onwards k xs) refl))) []
 
-heads : (es : List Symbol) → Sound head (NAME ∷ word (codes "(") ∷ NAME ∷ word (codes ")") ∷ []) es
-heads es = seq name _ (NAME ∷ []) _ es (named _) (λ n. seq _ _ (word (codes "(") ∷ []) _ es (taken (codes "(") _) (λ u. seq name _ (NAME ∷ []) _ es (named _) (λ m. seq _ _ (word (codes ")") ∷ []) [] es (taken (codes ")") es) (λ v. given (n, m) es))))
+heads : (n : ℕ) (es : List Place) (k : List ℕ × List ℕ → Act es Deployment) → Low n → Sound head (stack (at n (NAME ∷ word (codes "(") ∷ NAME ∷ word (codes ")") ∷ []) ++ es) (λ f a x b. k (f, x))) (λ h. stack es (k h))
+heads n es k l = seq (named n _ (λ f a x b. k (f, x)) l) (λ f. seq (taken (codes "(") n _ (λ x b. k (f, x)) l) (λ u. seq (named n _ (λ x b. k (f, x)) l) (λ x. seq (taken (codes ")") n es (k (f, x)) l) (λ v. given (f, x) (λ h. stack es (k h))))))
 
-bodies : (es : List Symbol) → Sound body (word (codes "{") ∷ more_tables ∷ more_stmts ∷ word (codes "}") ∷ []) es
-bodies es = seq _ _ (word (codes "{") ∷ []) _ es (taken (codes "{") _) (λ u. seq tables _ (more_tables ∷ []) _ es (all_tables _ refl) (λ ts. seq (stmts (expr_at 64) (block_at 64)) _ (more_stmts ∷ []) _ es (all_stmts (expr_at 64) (block_at 64) (exprs_at 64) (blocks_at 64) es) (λ cs. seq _ _ (word (codes "}") ∷ []) [] es (taken (codes "}") es) (λ v. given (ts, cs) es))))
+bodies : (es : List Place) (k : List TableHead × List Command → Act es Deployment) → Sound body (stack (at 0 (word (codes "{") ∷ more_tables ∷ more_stmts ∷ word (codes "}") ∷ []) ++ es) (λ a ts cs b. k (ts, cs))) (λ b. stack es (k b))
+bodies es k = seq (taken (codes "{") 0 _ (λ ts cs b. k (ts, cs)) refl) (λ u. seq (all_tables 0 _ (λ ts cs b. k (ts, cs)) refl refl) (λ ts. seq (all_stmts 0 (expr_at 64) (block_at 64) es (λ cs b. k (ts, cs)) refl (exprs_at 64 0 refl) (blocks_at 64 0 refl)) (λ cs. seq (taken (codes "}") 0 es (k (ts, cs)) refl) (λ v. given (ts, cs) (λ b. stack es (k b))))))
 
-functions_of : (line : ℕ) (es : List Symbol) → Sound (function_of line) (NAME ∷ word (codes "(") ∷ NAME ∷ word (codes ")") ∷ word (codes "{") ∷ more_tables ∷ more_stmts ∷ word (codes "}") ∷ []) es
-functions_of line es = seq head _ (NAME ∷ word (codes "(") ∷ NAME ∷ word (codes ")") ∷ []) _ es (heads _) (λ h. made body _ (word (codes "{") ∷ more_tables ∷ more_stmts ∷ word (codes "}") ∷ []) es (bodies es))
+functions_of : (line : ℕ) (es : List Place) (k : Func → Act es Deployment)
+    → Sound (function_of line) (stack (at 0 (NAME ∷ word (codes "(") ∷ NAME ∷ word (codes ")") ∷ word (codes "{") ∷ more_tables ∷ more_stmts ∷ word (codes "}") ∷ []) ++ es) (λ f a x b c ts cs d. k (record { name = f; param = x; tables = ts; body = cs; line = line }))) (λ f. stack es (k f))
+functions_of line es k = seq (heads 0 _ (λ h c ts cs d. k (record { name = h.0; param = h.1; tables = ts; body = cs; line = line })) refl) (λ h.
+    made (λ b. record { name = h.0; param = h.1; tables = b.0; body = b.1; line = line }) (bodies es (λ b. k (record { name = h.0; param = h.1; tables = b.0; body = b.1; line = line }))))
 
-all_functions : (es : List Symbol) → starts es (Sign (codes "function")) ≡ false → Sound functions (more_functions ∷ []) es
-all_functions es a = repeats next_function more_functions es refl (guarded_as (codes "function") (λ s. function_of (line_of s)) more_functions _ (function ∷ []) es refl refl a refl
-    (λ s q k. told_by q function _ (more_functions ∷ es) s (inl refl) (λ v m y. sole function _ (more_functions ∷ es) v refl y) k)
-    (λ s. functions_of (line_of s) (more_functions ∷ es))) []
+function_leads : (es : List Place) (k : List Func → Act es Deployment) (xs : List Func) (s : List Lexeme) → starts es (Sign (codes "function")) ≡ false → next_is (codes "function") s ≡ true → Leads (push 0 more_functions es (onwards k xs)) (function_of (line_of s)) (λ y. push 0 more_functions es (onwards k (xs ++ y ∷ []))) s
+function_leads es k xs s a i =
+    let zs : List Place = place 0 more_functions ∷ es in
+    let kk : Func → Act zs Deployment = λ f fs. onwards k xs (f ∷ fs) in
+    let d = leads (codes "function") 0 function _ _ zs kk s refl refl refl i (subst (λ g. Sound (function_of (line_of s)) (stack (at 0 (NAME ∷ word (codes "(") ∷ NAME ∷ word (codes ")") ∷ word (codes "{") ∷ more_tables ∷ more_stmts ∷ word (codes "}") ∷ []) ++ zs) (λ f a x b c ts cs d. kk (record { name = f; param = x; tables = ts; body = cs; line = line_of s }))) g) (λ i y. push 0 more_functions es (next_one k xs y i)) (functions_of (line_of s) zs kk)) in
+    record {
+      mid = d.mid;
+      less = d.less;
+      run = went (push 0 more_functions es (onwards k xs)) (push 0 function zs kk) s d.mid (after_first s) (by_sign (codes "function") 0 more_functions _ es (onwards k xs) s i refl a) d.run;
+      sound = d.sound;
+    }
 
-lives : (es : List Symbol) → Sound life (word (codes "life") ∷ INT ∷ word (codes ";") ∷ []) es
-lives es = seq _ _ (word (codes "life") ∷ []) _ es (taken (codes "life") _) (λ u. seq (number 1 (2 ^ 32)) _ (INT ∷ []) _ es (numbered 1 (2 ^ 32) _) (λ n. seq _ _ (word (codes ";") ∷ []) [] es (taken (codes ";") es) (λ v. given n es)))
+all_functions : (es : List Place) (k : List Func → Act es Deployment) → starts es (Sign (codes "function")) ≡ false → Sound functions (push 0 more_functions es k) (λ fs. stack es (k fs))
+all_functions es k a = repeats (guarded (codes "function") (λ s. function_of (line_of s)) (λ xs. push 0 more_functions es (onwards k xs)) (λ xs. stack es (k xs))
+    (λ xs s i. function_leads es k xs s a i)
+    (λ xs s i. subst (λ c. Step (push 0 more_functions es (onwards k xs)) (stack es c) s) (none_more k xs) (skips 0 more_functions [] es (onwards k xs) s refl refl (also_not (codes "function") [] s i (nothing_of s))))
+    (λ xs. subst (λ c. Step (push 0 more_functions es (onwards k xs)) (stack es c) []) (none_more k xs) (skips_end 0 more_functions [] es (onwards k xs) refl))) []
 
-rooms : (es : List Symbol) → starts es (Sign (codes "room")) ≡ false → Sound read_room (room ∷ []) es
-rooms es a = whole read_room room es (choice _ (codes "room") room_of (give 65536) room (INT ∷ word (codes ";") ∷ []) es refl a (seq (number 1 65536) _ (INT ∷ []) _ es (numbered 1 65536 _) (λ n. seq _ _ (word (codes ";") ∷ []) [] es (taken (codes ";") es) (λ v. given n es))) (else_given 65536 room es refl refl))
+lives : (es : List Place) (k : ℕ → Act es Deployment) → Sound life (stack (at 0 (word (codes "life") ∷ INT 1 (2 ^ 32) ∷ word (codes ";") ∷ []) ++ es) (λ a l b. k l)) (λ l. stack es (k l))
+lives es k = seq (taken (codes "life") 0 _ (λ l b. k l) refl) (λ u. seq (numbered 1 (2 ^ 32) 0 _ (λ l b. k l) refl) (λ l. seq (taken (codes ";") 0 es (k l) refl) (λ v. given l (λ x. stack es (k x)))))
 
-end_next : (k : Token) (es : List Symbol) (v : List Token) (t : Token) → end_token k ≡ true → k ≡ t → Yields (the_end ∷ es) (t ∷ v) → Yields (END ∷ es) (t ∷ v)
-end_next End es v t h g y = by_next End the_end (END ∷ []) es v refl refl t g y
-end_next k es v t h g y = absurd (cc)
+rooms : (es : List Place) (k : ℕ → Act es Deployment) → starts es (Sign (codes "room")) ≡ false → Sound read_room (push 0 room es k) (λ r. stack es (k r))
+rooms es k a = whole false (λ line. choice line _ (codes "room") 0 room _ _ es k refl refl a (seq (numbered 1 65536 0 _ (λ r b. k r) refl) (λ r. seq (taken (codes ";") 0 es (k r) refl) (λ v. given r (λ x. stack es (k x))))) (else_given 65536 line 0 room 65536 es k refl refl refl))
 
-ends_by : (es : List Symbol) (s : List Lexeme) → is_at_end s ≡ true → Decided the_end (END ∷ []) es s
-ends_by es [] h v m y = absurd (cc)
-ends_by es (l ∷ ls) h [] m y = absurd m
-ends_by es (l ∷ ls) h (t ∷ v) m y = end_next l.token es v t h m y
+end_selects : (t : Token) → end_token t ≡ true → select (rules 0 the_end) t ≡ by (place 0 END ∷ []) (λ line. line) ∷ []
+end_selects End h = refl
+end_selects t h = absurd (cc)
 
-an_end : (t : Token) → end_token t ≡ true → IsToken END t
-an_end End h = is_end
-an_end t h = absurd (cc)
+end_first : (s : List Lexeme) → first_is end_token s ≡ is_at_end s
+end_first [] = refl
+end_first (l ∷ ls) = refl
 
-end_took : (es : List Symbol) (s : List Lexeme) → is_at_end s ≡ true → Passed (END ∷ []) es s (after_first s)
-end_took es [] h = absurd (cc)
-end_took es (t ∷ ts) h = one END es t ts (an_end t.token h)
+is_end_token : (t : Token) → end_token t ≡ true → t ≡ End
+is_end_token End h = refl
+is_end_token t h = absurd (cc)
+
+end_took : (k : ℕ → Deployment) (s : List Lexeme) → is_at_end s ≡ true → Run (push 0 END [] k) s (stack [] (k (line_of s))) (after_first s)
+end_took k [] h = absurd (cc)
+end_took k (t ∷ ts) h = let e = is_end_token t.token h in one 0 END [] k t t.line ts (e, refl) (free 0 END t.token refl refl (ap is_long e))
 
 no_end : (s : List Lexeme) → next_is (codes "script") s ≡ false → is_at_end s ≡ false → NoneOf (Sign (codes "script") ∷ End ∷ []) s
 no_end [] h k = record { is = refl }
 no_end (l ∷ ls) h k = record { is = ap (λ b. b || (end_token l.token || false)) h ∙ ap (λ b. b || false) k }
 
-end_told : (es : List Symbol) (s : List Lexeme) (b c : Bool) → next_is (codes "script") s ≡ b → is_at_end s ≡ c → (let q : Read (Unit {0}) = (if b || c then got tt (after_first s) else refuse Syntax s) in Told q (the_end ∷ []) es s)
-end_told es s true c g f = by_rule_before the_end (word (codes "script") ∷ []) [] es s (after_first s) (inl refl) (by_sign (codes "script") the_end (word (codes "script") ∷ []) es s g refl refl) (first_took (codes "script") es s g)
-end_told es s false true g f = by_rule_before the_end (END ∷ []) [] es s (after_first s) (inr (inl refl)) (ends_by es s f) (end_took es s f)
-end_told es s false false g f = told_bad the_end es s refl refl (no_end s g f)
+end_told : (c : Deployment) (s : List Lexeme) (a b : Bool) → next_is (codes "script") s ≡ a → is_at_end s ≡ b → Told {A = Unit {0}} (if a || b then got tt (after_first s) else refuse Syntax s) (push 0 the_end [] (λ line. c)) (λ u. stack [] c) s
+end_told c s true b g f = sign_run (codes "script") 0 the_end _ _ [] (λ line. c) s refl refl refl g
+end_told c s false true g f = went (push 0 the_end [] (λ line. c)) (push 0 END [] (λ line. c)) s (stack [] c) (after_first s) (kind_step end_token 0 the_end _ [] (λ line. c) (inr (inl refl)) end_selects refl s (end_first s ∙ f)) (end_took (λ line. c) s f)
+end_told c s false false g f = told_bad 0 the_end [] (λ line. c) s refl refl (no_end s g f)
 
-ended_by : (es : List Symbol) → Sound read_end (the_end ∷ []) es
-ended_by es = record { told = λ s. end_told es s (next_is (codes "script") s) (is_at_end s) refl refl }
+ended_by : (c : Deployment) → Sound read_end (push 0 the_end [] (λ line. c)) (λ u. stack [] c)
+ended_by c = record { told = λ s. end_told c s (next_is (codes "script") s) (is_at_end s) refl refl }
 
-deployments : Sound read_deployment (deployment ∷ []) []
-deployments = ruled deployment _ [] read_deployment refl
-    (seq life _ (word (codes "life") ∷ INT ∷ word (codes ";") ∷ []) _ [] (lives _) (λ l. seq read_room _ (room ∷ []) _ [] (rooms _ refl) (λ r. seq functions _ (more_functions ∷ []) _ [] (all_functions _ refl) (λ fs. made read_end _ (the_end ∷ []) [] (ended_by [])))))
-
-pub accepts : Accepts
-accepts s code left e = let h : Passed (deployment ∷ []) [] s left = subst (λ q. Told q (deployment ∷ []) [] s) e (deployments.told s) in record { ts = h.ts; all = h.all; yields = h.yields }
-
-pub refused : (s : List Lexeme) (line : ℕ) → read_deployment s ≡ bad line Syntax → Failed (deployment ∷ []) [] s line
-refused s line e = let h : Syntax ≡ Syntax → Failed (deployment ∷ []) [] s line = subst (λ q. Told q (deployment ∷ []) [] s) e (deployments.told s) in h refl
+pub deployments : Sound read_deployment (push 0 deployment [] (λ c. c)) (λ c. stack [] c)
+deployments = ruled 0 deployment _ [] (λ c. c) refl
+    (seq (lives _ (λ l r fs e. record { life = l; room = r; funcs = fs })) (λ l. seq (rooms _ (λ r fs e. record { life = l; room = r; funcs = fs }) refl) (λ r. seq (all_functions _ (λ fs e. record { life = l; room = r; funcs = fs }) refl) (λ fs. seq (ended_by (record { life = l; room = r; funcs = fs })) (λ u. given (record { life = l; room = r; funcs = fs }) (λ c. stack [] c))))))

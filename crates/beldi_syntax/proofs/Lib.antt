@@ -1,7 +1,10 @@
 pub mod Commands
+pub mod Deep
+pub mod Fill
 pub mod First
 pub mod Lookahead
 pub mod Pieces
 pub mod Repeated
 pub mod Sound
 pub mod Terms
+pub mod Texts

@@ -1,13 +1,15 @@
 -- One token decides by which rule a phrase goes.
-use Rattle.std.proofs.Common.{◌≡◌, ◌⊎◌, inl, inr, ℕ, zero, suc, Bool, true, false, not, ◌&&◌, ◌||◌, List, [], ◌∷◌, ◌++◌, None, refl, ap, sym, subst, ◌∙◌, codes, if◌then◌else◌}
+use Rattle.std.proofs.Common.{◌≡◌, ◌⊎◌, inl, inr, ℕ, zero, suc, ◌-◌, ◌^◌, Bool, true, false, not, ◌&&◌, ◌||◌, List, [], ◌∷◌, ◌++◌, None, refl, ap, sym, subst, ◌∙◌, codes, if◌then◌else◌}
 use Rattle.std.specs.Prelude.{◌==◌}
 use Rattle.std.proofs.Common.{eqb-true}
 use Rattle.std.proofs.lemmas.Bool.{eq-eqb}
 use Rattle.std.specs.List.{list_all, list_any}
+use Rattle.beldi_tree.specs.declared.deployment.Deployment.{Deployment}
+use Rattle.beldi_syntax.specs.declared.token.Lexeme.{Lexeme}
 use Rattle.beldi_syntax.specs.declared.token.Token.{Token}
 use Rattle.beldi_syntax.specs.declared.token.Token.TheVariants.{Sign, Name, Number, Text, End, Bad}
 use Rattle.beldi_syntax.specs.Phrase.{same, is_sign, name_token, text_token, number_token, end_token}
-use Rattle.beldi_syntax.specs.Grammar.{deployment, the_end, Symbol, word, NAME, INT, TEXT, END, OneOf, rules, IsToken, is_word, is_name, is_int, is_text, is_end, Yields, nothing, token, phrase}
+use Rattle.beldi_syntax.specs.Grammar.{Symbol, word, NAME, INT, TEXT, END, deployment, the_end, Of, Place, place, Act, Rule, by, shape, means, rules, OneOf, IsToken, Marked, Yields, nothing, token, phrase}
 
 -- ---- tests
 
@@ -23,7 +25,7 @@ and_is : (a b : Bool) → a ≡ true → b ≡ true → (a && b) ≡ true
 and_is true b h k = k
 and_is false b h k = absurd (cc)
 
-is_not : (a : Bool) → not a ≡ true → a ≡ false
+pub is_not : (a : Bool) → not a ≡ true → a ≡ false
 is_not true h = absurd (cc)
 is_not false h = refl
 
@@ -59,7 +61,7 @@ is_that w t h = absurd (cc)
 -- ---- first tokens
 
 -- of one kind; signs, where they are the same sign
-abbrev like : Token → Token → Bool
+abbrev pub like : Token → Token → Bool
 like (Sign w) t = is_sign w t
 like (Name v) t = name_token t
 like (Number n) t = number_token t
@@ -76,20 +78,20 @@ abbrev pub among : List Token → List Token → Bool
 among [] ks = true
 among (h ∷ hs) ks = one_of ks h && among hs ks
 
-abbrev of_rules : (Symbol → List Token) → List (List Symbol) → List Token
+abbrev pub of_rules : {A : Type 0} → (Symbol → List Token) → List (Rule A) → List Token
 of_rules f [] = []
-of_rules f ([] ∷ css) = of_rules f css
-of_rules f ((b ∷ bs) ∷ css) = f b ++ of_rules f css
+of_rules f (by [] m ∷ rs) = of_rules f rs
+of_rules f (by (place n b ∷ bs) m ∷ rs) = f b ++ of_rules f rs
 
-abbrev of_symbol : (Symbol → List Token) → Symbol → List Token
+abbrev pub of_symbol : (Symbol → List Token) → Symbol → List Token
 of_symbol f (word w) = Sign w ∷ []
 of_symbol f NAME = Name [] ∷ []
-of_symbol f INT = Number None ∷ []
+of_symbol f (INT least most) = Number None ∷ []
 of_symbol f TEXT = Text None ∷ []
 of_symbol f END = End ∷ []
-of_symbol f a = of_rules f (rules a)
+of_symbol f a = of_rules f (rules 0 a)
 
-abbrev firsts_in : ℕ → Symbol → List Token
+abbrev pub firsts_in : ℕ → Symbol → List Token
 firsts_in zero = λ a. []
 firsts_in (suc n) = of_symbol (firsts_in n)
 
@@ -101,18 +103,21 @@ abbrev pub is_empty : {A : Type 0} → List A → Bool
 is_empty [] = true
 is_empty (x ∷ xs) = false
 
+abbrev pub leaves_out : {A : Type 0} → Rule A → Bool
+leaves_out (by bs f) = is_empty bs
+
 -- whether a symbol may be no token
 abbrev pub nullable : Symbol → Bool
-nullable a = list_any is_empty (rules a)
+nullable a = list_any leaves_out (rules 0 a)
 
 -- whether these symbols may begin with the token
-abbrev pub starts : List Symbol → Token → Bool
+abbrev pub starts : List Place → Token → Bool
 starts [] t = false
-starts (a ∷ cs) t = one_of (firsts a) t || (nullable a && starts cs t)
+starts (place n a ∷ cs) t = one_of (firsts a) t || (nullable a && starts cs t)
 
-abbrev pub vanishes : List Symbol → Bool
+abbrev pub vanishes : List Place → Bool
 vanishes [] = true
-vanishes (a ∷ cs) = nullable a && vanishes cs
+vanishes (place n a ∷ cs) = nullable a && vanishes cs
 
 -- whether a symbol has neither `script` nor the end in it
 abbrev pub inner : Symbol → Bool
@@ -122,31 +127,40 @@ inner the_end = false
 inner deployment = false
 inner a = true
 
--- whether only the last of them has
-abbrev pub ended : List Symbol → Bool
-ended [] = true
-ended (a ∷ cs) = if inner a then ended cs else is_empty cs
+abbrev pub all_inner : List Place → Bool
+all_inner [] = true
+all_inner (place n a ∷ cs) = inner a && all_inner cs
+
+-- whether just the last of them has
+abbrev pub ended : List Place → Bool
+ended [] = false
+ended (place n a ∷ cs) = if inner a then ended cs else is_empty cs
+
+-- an INT in an expression has the widest limits
+abbrev pub is_wide : Symbol → Bool
+is_wide (INT least most) = (least == 0) && (most == 2 ^ 63 - 1)
+is_wide a = true
 
 -- what holds of each rule
-abbrev pub fits : Symbol → List Symbol → Bool
-fits a [] = nullable a
-fits a (b ∷ bs) = among (firsts b) (firsts a) && (not (nullable b) && (if inner a then list_all inner (b ∷ bs) else ended (b ∷ bs)))
+abbrev pub fits : {A : Type 0} → Symbol → Rule A → Bool
+fits a (by [] f) = nullable a && inner a
+fits a (by (place n b ∷ bs) f) = among (firsts b) (firsts a) && (not (nullable b) && ((if inner a then all_inner (place n b ∷ bs) else ended (place n b ∷ bs)) && is_wide b))
 
-all_fit : (a : Symbol) → list_all (fits a) (rules a) ≡ true
-all_fit (word w) = refl
-all_fit a = refl
+all_fit : (n : ℕ) (a : Symbol) → list_all (fits a) (rules n a) ≡ true
+all_fit n (word w) = refl
+all_fit n a = refl
 
-fit_of : (f : List Symbol → Bool) (bs : List Symbol) (css : List (List Symbol)) → OneOf bs css → list_all f css ≡ true → f bs ≡ true
-fit_of f bs [] h k = absurd h
-fit_of f bs (cs ∷ css) (inl e) k = ap f e ∙ left_is (f cs) (list_all f css) k
-fit_of f bs (cs ∷ css) (inr h) k = fit_of f bs css h (right_is (f cs) (list_all f css) k)
+fit_of : {A : Type 0} (f : Rule A → Bool) (r : Rule A) (rs : List (Rule A)) → OneOf r rs → list_all f rs ≡ true → f r ≡ true
+fit_of f r [] h k = absurd h
+fit_of f r (s ∷ rs) (inl e) k = ap f e ∙ left_is (f s) (list_all f rs) k
+fit_of f r (s ∷ rs) (inr h) k = fit_of f r rs h (right_is (f s) (list_all f rs) k)
 
-pub fit : (a : Symbol) (bs : List Symbol) → OneOf bs (rules a) → fits a bs ≡ true
-fit a bs r = fit_of (fits a) bs (rules a) r (all_fit a)
+pub fit : (n : ℕ) (a : Symbol) (r : Rule (Of a)) → OneOf r (rules n a) → fits a r ≡ true
+fit n a r h = fit_of (fits a) r (rules n a) h (all_fit n a)
 
 -- no rule begins with what may be no token
-solid : (a b : Symbol) (bs : List Symbol) → OneOf (b ∷ bs) (rules a) → nullable b ≡ false
-solid a b bs r = is_not (nullable b) (left_is (not (nullable b)) _ (right_is (among (firsts b) (firsts a)) _ (fit a (b ∷ bs) r)))
+solid : (n m : ℕ) (a b : Symbol) (bs : List Place) (f : Act (place m b ∷ bs) (Of a)) → OneOf (by (place m b ∷ bs) f) (rules n a) → nullable b ≡ false
+solid n m a b bs f r = is_not (nullable b) (left_is (not (nullable b)) _ (right_is (among (firsts b) (firsts a)) _ (fit n a (by (place m b ∷ bs) f) r)))
 
 -- what is like a token that is like this
 like_both : (k h t : Token) → like h t ≡ true → like k h ≡ true → like k t ≡ true
@@ -168,7 +182,7 @@ one_like (k ∷ ks) h t e f = elim (or_cases (like k h) (one_of ks h) f) [
   | inr g ↦ or_right (like k t) (one_of ks t) (one_like ks h t e g)
 ]
 
-of_more : (hs ks : List Token) (t : Token) → among hs ks ≡ true → one_of hs t ≡ true → one_of ks t ≡ true
+pub of_more : (hs ks : List Token) (t : Token) → among hs ks ≡ true → one_of hs t ≡ true → one_of ks t ≡ true
 of_more [] ks t h e = absurd (cc)
 of_more (k ∷ hs) ks t h e = elim (or_cases (like k t) (one_of hs t) e) [
   | inl g ↦ one_like ks k t g (left_is (one_of ks k) (among hs ks) h)
@@ -183,161 +197,171 @@ none_of_fewer hs ks t h e = elim (one_of hs t) as (λ b. one_of hs t ≡ b → b
 
 -- ---- what a derivation begins with
 
-abbrev Begun : List Symbol → List Token → Type 0
+abbrev pub Gives : (cs : List Place) → Act cs Deployment → List Marked → Deployment → Type 0
+Gives cs k us y = Yields Deployment cs k us y
+
+abbrev Begun : List Place → List Marked → Type 0
 Begun cs [] = vanishes cs ≡ true
-Begun cs (t ∷ ts) = starts cs t ≡ true
+Begun cs (u ∷ us) = starts cs u.lexeme.token ≡ true
 
 -- a token begins itself
-is_first : (a : Symbol) (t : Token) → IsToken a t → one_of (firsts a) t ≡ true
-is_first _ _ (is_word w) = or_left (same w w) false (same_self w)
-is_first _ _ (is_name w) = refl
-is_first _ _ (is_int n) = refl
-is_first _ _ (is_text t) = refl
-is_first _ _ is_end = refl
+is_first : (a : Symbol) (t : Lexeme) (x : Of a) → IsToken a t x → one_of (firsts a) t.token ≡ true
+is_first (word w) t x i = ap (one_of (Sign w ∷ [])) i.0 ∙ or_left (same w w) false (same_self w)
+is_first NAME t x i = ap (one_of (Name [] ∷ [])) i
+is_first (INT least most) t x (inl i) = ap (one_of (Number None ∷ [])) i
+is_first (INT least most) t x (inr i) = ap (one_of (Number None ∷ [])) i
+is_first TEXT t x (inl i) = ap (one_of (Text None ∷ [])) i
+is_first TEXT t x (inr i) = ap (one_of (Text None ∷ [])) i
+is_first END t x i = ap (one_of (End ∷ [])) i.0
+is_first a t x i = absurd i
 
 -- a rule that has symbols begins with the first of them
-first_of_rule : (a b : Symbol) (bs cs : List Symbol) (t : Token) → OneOf (b ∷ bs) (rules a) → starts (b ∷ bs ++ cs) t ≡ true → (one_of (firsts b) t ≡ true) × (one_of (firsts a) t ≡ true)
-first_of_rule a b bs cs t r k =
+first_of_rule : (n m : ℕ) (a b : Symbol) (bs cs : List Place) (f : Act (place m b ∷ bs) (Of a)) (t : Token) → OneOf (by (place m b ∷ bs) f) (rules n a) → starts (place m b ∷ bs ++ cs) t ≡ true → (one_of (firsts b) t ≡ true) × (one_of (firsts a) t ≡ true)
+first_of_rule n m a b bs cs f t r k =
     let e : one_of (firsts b) t ≡ true = elim (or_cases (one_of (firsts b) t) (nullable b && starts (bs ++ cs) t) k) [
       | inl g ↦ g
-      | inr g ↦ never_both (nullable b) (left_is (nullable b) (starts (bs ++ cs) t) g) (solid a b bs r)
+      | inr g ↦ never_both (nullable b) (left_is (nullable b) (starts (bs ++ cs) t) g) (solid n m a b bs f r)
     ] in
-    (e, of_more (firsts b) (firsts a) t (left_is (among (firsts b) (firsts a)) _ (fit a (b ∷ bs) r)) e)
+    (e, of_more (firsts b) (firsts a) t (left_is (among (firsts b) (firsts a)) _ (fit n a (by (place m b ∷ bs) f) r)) e)
 
-by_rule : (a : Symbol) (bs cs : List Symbol) (ts : List Token) → OneOf bs (rules a) → Begun (bs ++ cs) ts → Begun (a ∷ cs) ts
-by_rule a [] cs [] r k = and_is (nullable a) (vanishes cs) (fit a [] r) k
-by_rule a [] cs (t ∷ ts) r k = or_right (one_of (firsts a) t) (nullable a && starts cs t) (and_is (nullable a) (starts cs t) (fit a [] r) k)
-by_rule a (b ∷ bs) cs [] r k = never_both (nullable b) (left_is (nullable b) (vanishes (bs ++ cs)) k) (solid a b bs r)
-by_rule a (b ∷ bs) cs (t ∷ ts) r k = or_left (one_of (firsts a) t) (nullable a && starts cs t) (first_of_rule a b bs cs t r k).1
+by_rule : (n : ℕ) (a : Symbol) (r : Rule (Of a)) (cs : List Place) (us : List Marked) → OneOf r (rules n a) → Begun (shape r ++ cs) us → Begun (place n a ∷ cs) us
+by_rule n a (by [] f) cs [] r k = and_is (nullable a) (vanishes cs) (left_is (nullable a) _ (fit n a (by [] f) r)) k
+by_rule n a (by [] f) cs (u ∷ us) r k = or_right (one_of (firsts a) u.lexeme.token) (nullable a && starts cs u.lexeme.token) (and_is (nullable a) (starts cs u.lexeme.token) (left_is (nullable a) _ (fit n a (by [] f) r)) k)
+by_rule n a (by (place m b ∷ bs) f) cs [] r k = never_both (nullable b) (left_is (nullable b) (vanishes (bs ++ cs)) k) (solid n m a b bs f r)
+by_rule n a (by (place m b ∷ bs) f) cs (u ∷ us) r k = or_left (one_of (firsts a) u.lexeme.token) (nullable a && starts cs u.lexeme.token) (first_of_rule n m a b bs cs f u.lexeme.token r k).1
 
-pub begun : (cs : List Symbol) (ts : List Token) → Yields cs ts → Begun cs ts
-begun [] [] nothing = refl
-begun _ _ (token a t cs ts i h) = or_left (one_of (firsts a) t) (nullable a && starts cs t) (is_first a t i)
-begun _ _ (phrase a bs cs ts r h) = by_rule a bs cs ts r (begun (bs ++ cs) ts h)
+pub begun : (cs : List Place) (k : Act cs Deployment) (us : List Marked) (y : Deployment) → Gives cs k us y → Begun cs us
+begun _ _ _ _ (nothing y) = refl
+begun _ _ _ _ (token n a cs k u x us y i m h) = or_left (one_of (firsts a) u.lexeme.token) (nullable a && starts cs u.lexeme.token) (is_first a u.lexeme x i)
+begun _ _ _ _ (phrase n a r cs k us y o h) = by_rule n a r cs us o (begun (shape r ++ cs) (means Deployment r cs k) us y h)
 
 -- ---- which rule it goes by
 
-token_rules : (a : Symbol) (t : Token) → IsToken a t → rules a ≡ []
-token_rules _ _ (is_word w) = refl
-token_rules _ _ (is_name w) = refl
-token_rules _ _ (is_int n) = refl
-token_rules _ _ (is_text t) = refl
-token_rules _ _ is_end = refl
+pub token_rules : (n : ℕ) (a : Symbol) (t : Lexeme) (x : Of a) → IsToken a t x → rules n a ≡ []
+token_rules n (word w) t x i = refl
+token_rules n NAME t x i = refl
+token_rules n (INT least most) t x i = refl
+token_rules n TEXT t x i = refl
+token_rules n END t x i = refl
+token_rules n a t x i = absurd i
 
--- a symbol that is a token is that token alone
-pub after_token : (a : Symbol) (t : Token) (es : List Symbol) (ts : List Token) → IsToken a t → Yields (a ∷ es) (t ∷ ts) → Yields es ts
-after_token a t es ts i (token _ _ _ _ j h) = h
-after_token a t es ts i (phrase _ bs _ _ r h) = absurd (subst (OneOf bs) (token_rules a t i) r)
+-- whether a rule begins with the token
+abbrev pub opens_with : {A : Type 0} → Rule A → Token → Bool
+opens_with (by [] f) t = false
+opens_with (by (place n b ∷ bs) f) t = one_of (firsts b) t
 
--- the rules that may begin with this token
-abbrev pub select : List (List Symbol) → Token → List (List Symbol)
-select [] t = []
-select ([] ∷ css) t = select css t
-select ((b ∷ bs) ∷ css) t = if one_of (firsts b) t then (b ∷ bs) ∷ select css t else select css t
+-- the rules of which this holds
+abbrev pub choose : {A : Type 0} → (Rule A → Bool) → List (Rule A) → List (Rule A)
+choose p [] = []
+choose p (r ∷ rs) = if p r then r ∷ choose p rs else choose p rs
 
-one_more : (bs cs : List Symbol) (css : List (List Symbol)) (b : Bool) → OneOf bs css → OneOf bs (if b then cs ∷ css else css)
-one_more bs cs css true h = inr h
-one_more bs cs css false h = h
+-- the rules that may begin with the token
+abbrev pub select : {A : Type 0} → List (Rule A) → Token → List (Rule A)
+select rs t = choose (λ r. opens_with r t) rs
 
-is_selected : (b : Symbol) (bs : List Symbol) (css : List (List Symbol)) (t : Token) → one_of (firsts b) t ≡ true → OneOf (b ∷ bs) css → OneOf (b ∷ bs) (select css t)
-is_selected b bs [] t e h = absurd h
-is_selected b bs ([] ∷ css) t e (inl h) = absurd (cc)
-is_selected b bs ([] ∷ css) t e (inr h) = is_selected b bs css t e h
-is_selected b bs ((c ∷ cs) ∷ css) t e (inl h) =
-    let g : one_of (firsts c) t ≡ true = subst (λ a. one_of (firsts a) t ≡ true) (let f : b ≡ c = cc in f) e in
-    subst (λ x. OneOf (b ∷ bs) (if x then (c ∷ cs) ∷ select css t else select css t)) (sym g) (inl h)
-is_selected b bs ((c ∷ cs) ∷ css) t e (inr h) = one_more (b ∷ bs) (c ∷ cs) (select css t) (one_of (firsts c) t) (is_selected b bs css t e h)
+one_more : {A : Type 0} (x y : A) (ys : List A) (b : Bool) → OneOf x ys → OneOf x (if b then y ∷ ys else ys)
+one_more x y ys true h = inr h
+one_more x y ys false h = h
 
-of_either : (cs : List Symbol) (picks css : List (List Symbol)) (bs : List Symbol) (b : Bool) → OneOf bs (if b then cs ∷ picks else picks) → (OneOf bs picks → OneOf bs css) → OneOf bs (cs ∷ css)
-of_either cs picks css bs true (inl e) f = inl e
-of_either cs picks css bs true (inr h) f = inr (f h)
-of_either cs picks css bs false h f = inr (f h)
+is_chosen : {A : Type 0} (p : Rule A → Bool) (r : Rule A) (rs : List (Rule A)) → p r ≡ true → OneOf r rs → OneOf r (choose p rs)
+is_chosen p r [] e h = absurd h
+is_chosen p r (s ∷ rs) e (inl h) =
+    let g : p s ≡ true = subst (λ q. p q ≡ true) h e in
+    subst (λ x. OneOf r (if x then s ∷ choose p rs else choose p rs)) (sym g) (inl h)
+is_chosen p r (s ∷ rs) e (inr h) = one_more r s (choose p rs) (p s) (is_chosen p r rs e h)
 
--- what may begin with a token is a rule
-of_select : (css : List (List Symbol)) (t : Token) (bs : List Symbol) → OneOf bs (select css t) → OneOf bs css
-of_select [] t bs h = absurd h
-of_select ([] ∷ css) t bs h = inr (of_select css t bs h)
-of_select ((b ∷ cs) ∷ css) t bs h = of_either (b ∷ cs) (select css t) css bs (one_of (firsts b) t) h (of_select css t bs)
+of_either : {A : Type 0} (x y : A) (picks ys : List A) (b : Bool) → OneOf x (if b then y ∷ picks else picks) → (OneOf x picks → OneOf x ys) → OneOf x (y ∷ ys)
+of_either x y picks ys true (inl e) f = inl e
+of_either x y picks ys true (inr h) f = inr (f h)
+of_either x y picks ys false h f = inr (f h)
 
-alone : (bs cs : List Symbol) → OneOf bs (cs ∷ []) → bs ≡ cs
-alone bs cs (inl e) = e
-alone bs cs (inr h) = absurd h
+of_chosen : {A : Type 0} (p : Rule A → Bool) (rs : List (Rule A)) (r : Rule A) → OneOf r (choose p rs) → OneOf r rs
+of_chosen p [] r h = absurd h
+of_chosen p (s ∷ rs) r h = of_either r s (choose p rs) rs (p s) h (of_chosen p rs r)
 
-rule_picked : (a : Symbol) (bs cs es : List Symbol) (t : Token) (ts : List Token) → OneOf bs (rules a) → select (rules a) t ≡ cs ∷ [] → (nullable a && starts es t) ≡ false → Yields (bs ++ es) (t ∷ ts) → Yields (cs ++ es) (t ∷ ts)
-rule_picked a [] cs es t ts r e f h = never_both (nullable a && starts es t) (and_is (nullable a) (starts es t) (fit a [] r) (begun es (t ∷ ts) h)) f
-rule_picked a (b ∷ bs) cs es t ts r e f h =
-    let g = first_of_rule a b bs es t r (begun (b ∷ bs ++ es) (t ∷ ts) h) in
-    let k : b ∷ bs ≡ cs = alone (b ∷ bs) cs (subst (OneOf (b ∷ bs)) e (is_selected b bs (rules a) t g.0 r)) in
-    subst (λ ds. Yields (ds ++ es) (t ∷ ts)) k h
+-- the only one that was chosen is a rule
+pub chosen_rule : {A : Type 0} (p : Rule A → Bool) (rs : List (Rule A)) (r : Rule A) → choose p rs ≡ r ∷ [] → OneOf r rs
+chosen_rule p rs r e = of_chosen p rs r (subst (OneOf r) (sym e) (inl refl))
+
+alone : {A : Type 0} (x y : A) → OneOf x (y ∷ []) → x ≡ y
+alone x y (inl e) = e
+alone x y (inr h) = absurd h
+
+only_chosen : {A : Type 0} (p : Rule A → Bool) (r s : Rule A) (rs : List (Rule A)) → p r ≡ true → OneOf r rs → choose p rs ≡ s ∷ [] → r ≡ s
+only_chosen p r s rs e h g = alone r s (subst (OneOf r) g (is_chosen p r rs e h))
+
+-- by this rule, and what follows
+abbrev pub ByRule : (a : Symbol) (r : Rule (Of a)) (es : List Place) → (Of a → Act es Deployment) → List Marked → Deployment → Type 0
+ByRule a r es k us y = Gives (shape r ++ es) (means Deployment r es k) us y
+
+no_token : {B : Type 0} (n : ℕ) (a : Symbol) (t : Lexeme) (x : Of a) (r : Rule (Of a)) (rs : List (Rule (Of a))) → IsToken a t x → rules n a ≡ r ∷ rs → B
+no_token n a t x r rs i e = absurd (let g : [] ≡ r ∷ rs = sym (token_rules n a t x i) ∙ e in cc)
+
+none_chosen : {B : Type 0} (p : Rule B → Bool) (rs : List (Rule B)) (r : Rule B) → rs ≡ [] → choose p rs ≡ r ∷ [] → ⊥
+none_chosen p rs r h e = let g : [] ≡ r ∷ [] = sym (ap (choose p) h) ∙ e in cc
+
+rule_picked : (n : ℕ) (a : Symbol) (r s : Rule (Of a)) (es : List Place) (k : Of a → Act es Deployment) (u : Marked) (us : List Marked) (y : Deployment)
+    → OneOf r (rules n a) → select (rules n a) u.lexeme.token ≡ s ∷ [] → (nullable a && starts es u.lexeme.token) ≡ false → ByRule a r es k (u ∷ us) y → ByRule a s es k (u ∷ us) y
+rule_picked n a (by [] f) s es k u us y r e g h =
+    never_both (nullable a && starts es u.lexeme.token) (and_is (nullable a) (starts es u.lexeme.token) (left_is (nullable a) _ (fit n a (by [] f) r)) (begun es (k f) (u ∷ us) y h)) g
+rule_picked n a (by (place m b ∷ bs) f) s es k u us y r e g h =
+    let p = first_of_rule n m a b bs es f u.lexeme.token r (begun (place m b ∷ bs ++ es) (means Deployment (by (place m b ∷ bs) f) es k) (u ∷ us) y h) in
+    let o : by (place m b ∷ bs) f ≡ s = only_chosen (λ c. opens_with c u.lexeme.token) (by (place m b ∷ bs) f) s (rules n a) p.0 r e in
+    subst (λ c. ByRule a c es k (u ∷ us) y) o h
 
 -- the one that may begin with the token, where what follows may not
-pub picked : (a : Symbol) (cs es : List Symbol) (t : Token) (ts : List Token) → select (rules a) t ≡ cs ∷ [] → (nullable a && starts es t) ≡ false → Yields (a ∷ es) (t ∷ ts) → Yields (cs ++ es) (t ∷ ts)
-picked a cs es t ts e f (token _ _ _ _ i h) = absurd (let g : [] ≡ cs ∷ [] = sym (ap (λ css. select css t) (token_rules a t i)) ∙ e in cc)
-picked a cs es t ts e f (phrase _ bs _ _ r h) = rule_picked a bs cs es t ts r e f h
+pub picked : (n : ℕ) (a : Symbol) (r : Rule (Of a)) (es : List Place) (k : Of a → Act es Deployment) (u : Marked) (us : List Marked) (y : Deployment)
+    → select (rules n a) u.lexeme.token ≡ r ∷ [] → (nullable a && starts es u.lexeme.token) ≡ false → Gives (place n a ∷ es) k (u ∷ us) y → ByRule a r es k (u ∷ us) y
+picked n a r es k u us y e f (token _ _ _ _ _ x _ _ i m h) = absurd (none_chosen (λ c. opens_with c u.lexeme.token) (rules n a) r (token_rules n a u.lexeme x i) e)
+picked n a r es k u us y e f (phrase _ _ s _ _ _ _ o h) = rule_picked n a s r es k u us y o e f h
 
-rule_skipped : (a : Symbol) (bs es : List Symbol) (t : Token) (ts : List Token) → OneOf bs (rules a) → one_of (firsts a) t ≡ false → Yields (bs ++ es) (t ∷ ts) → Yields es (t ∷ ts)
-rule_skipped a [] es t ts r e h = h
-rule_skipped a (b ∷ bs) es t ts r e h = never_both (one_of (firsts a) t) (first_of_rule a b bs es t r (begun (b ∷ bs ++ es) (t ∷ ts) h)).1 e
+rule_skipped : (n : ℕ) (a : Symbol) (r : Rule (Of a)) (x : Of a) (es : List Place) (k : Of a → Act es Deployment) (u : Marked) (us : List Marked) (y : Deployment)
+    → OneOf r (rules n a) → choose leaves_out (rules n a) ≡ by [] x ∷ [] → one_of (firsts a) u.lexeme.token ≡ false → ByRule a r es k (u ∷ us) y → Gives es (k x) (u ∷ us) y
+rule_skipped n a (by [] f) x es k u us y r e g h = subst (λ c. ByRule a c es k (u ∷ us) y) (only_chosen leaves_out (by [] f) (by [] x) (rules n a) refl r e) h
+rule_skipped n a (by (place m b ∷ bs) f) x es k u us y r e g h =
+    never_both (one_of (firsts a) u.lexeme.token) (first_of_rule n m a b bs es f u.lexeme.token r (begun (place m b ∷ bs ++ es) (means Deployment (by (place m b ∷ bs) f) es k) (u ∷ us) y h)).1 g
 
 -- none, where the symbol does not begin with the token
-pub skipped : (a : Symbol) (es : List Symbol) (t : Token) (ts : List Token) → one_of (firsts a) t ≡ false → Yields (a ∷ es) (t ∷ ts) → Yields es (t ∷ ts)
-skipped a es t ts e (token _ _ _ _ i h) = never_both (one_of (firsts a) t) (is_first a t i) e
-skipped a es t ts e (phrase _ bs _ _ r h) = rule_skipped a bs es t ts r e h
+pub skipped : (n : ℕ) (a : Symbol) (x : Of a) (es : List Place) (k : Of a → Act es Deployment) (u : Marked) (us : List Marked) (y : Deployment)
+    → choose leaves_out (rules n a) ≡ by [] x ∷ [] → one_of (firsts a) u.lexeme.token ≡ false → Gives (place n a ∷ es) k (u ∷ us) y → Gives es (k x) (u ∷ us) y
+skipped n a x es k u us y e f (token _ _ _ _ _ z _ _ i m h) = never_both (one_of (firsts a) u.lexeme.token) (is_first a u.lexeme z i) f
+skipped n a x es k u us y e f (phrase _ _ r _ _ _ _ o h) = rule_skipped n a r x es k u us y o e f h
 
-rule_vanished : (a : Symbol) (bs es : List Symbol) → OneOf bs (rules a) → Yields (bs ++ es) [] → Yields es []
-rule_vanished a [] es r h = h
-rule_vanished a (b ∷ bs) es r h = never_both (nullable b) (left_is (nullable b) (vanishes (bs ++ es)) (begun (b ∷ bs ++ es) [] h)) (solid a b bs r)
+rule_vanished : (n : ℕ) (a : Symbol) (r : Rule (Of a)) (x : Of a) (es : List Place) (k : Of a → Act es Deployment) (y : Deployment)
+    → OneOf r (rules n a) → choose leaves_out (rules n a) ≡ by [] x ∷ [] → ByRule a r es k [] y → Gives es (k x) [] y
+rule_vanished n a (by [] f) x es k y r e h = subst (λ c. ByRule a c es k [] y) (only_chosen leaves_out (by [] f) (by [] x) (rules n a) refl r e) h
+rule_vanished n a (by (place m b ∷ bs) f) x es k y r e h =
+    never_both (nullable b) (left_is (nullable b) (vanishes (bs ++ es)) (begun (place m b ∷ bs ++ es) (means Deployment (by (place m b ∷ bs) f) es k) [] y h)) (solid n m a b bs f r)
 
-pub vanished : (a : Symbol) (es : List Symbol) → Yields (a ∷ es) [] → Yields es []
-vanished a es (phrase _ bs _ _ r h) = rule_vanished a bs es r h
+pub vanished : (n : ℕ) (a : Symbol) (x : Of a) (es : List Place) (k : Of a → Act es Deployment) (y : Deployment)
+    → choose leaves_out (rules n a) ≡ by [] x ∷ [] → Gives (place n a ∷ es) k [] y → Gives es (k x) [] y
+vanished n a x es k y e (phrase _ _ r _ _ _ _ o h) = rule_vanished n a r x es k y o e h
 
-one_or_other : {A : Type 0} (bs cs ds : List Symbol) → OneOf bs (cs ∷ ds ∷ []) → (bs ≡ cs → A) → (bs ≡ ds → A) → A
-one_or_other bs cs ds (inl e) f g = f e
-one_or_other bs cs ds (inr (inl e)) f g = g e
-one_or_other bs cs ds (inr (inr h)) f g = absurd h
-
-no_token : {A : Type 0} (a : Symbol) (t : Token) (cs : List Symbol) (css : List (List Symbol)) → IsToken a t → rules a ≡ cs ∷ css → A
-no_token a t cs css i e = absurd (let g : [] ≡ cs ∷ css = sym (token_rules a t i) ∙ e in cc)
+one_or_other : {A B : Type 0} (x y z : A) → OneOf x (y ∷ z ∷ []) → (x ≡ y → B) → (x ≡ z → B) → B
+one_or_other x y z (inl e) f g = f e
+one_or_other x y z (inr (inl e)) f g = g e
+one_or_other x y z (inr (inr h)) f g = absurd h
 
 -- the only one
-pub sole : (a : Symbol) (cs es : List Symbol) (ts : List Token) → rules a ≡ cs ∷ [] → Yields (a ∷ es) ts → Yields (cs ++ es) ts
-sole a cs es _ e (token _ t _ ts i h) = no_token a t cs [] i e
-sole a cs es ts e (phrase _ bs _ _ r h) = subst (λ ds. Yields (ds ++ es) ts) (alone bs cs (subst (OneOf bs) e r)) h
+pub sole : (n : ℕ) (a : Symbol) (r : Rule (Of a)) (es : List Place) (k : Of a → Act es Deployment) (us : List Marked) (y : Deployment) → rules n a ≡ r ∷ [] → Gives (place n a ∷ es) k us y → ByRule a r es k us y
+sole n a r es k _ y e (token _ _ _ _ u x us _ i m h) = no_token n a u.lexeme x r [] i e
+sole n a r es k us y e (phrase _ _ s _ _ _ _ o h) = subst (λ c. ByRule a c es k us y) (alone s r (subst (OneOf s) e o)) h
 
 -- one of two, where the other is excluded
-pub first_of_two : (a : Symbol) (cs ds es : List Symbol) (ts : List Token) → rules a ≡ cs ∷ ds ∷ [] → (Yields (ds ++ es) ts → ⊥) → Yields (a ∷ es) ts → Yields (cs ++ es) ts
-first_of_two a cs ds es _ e n (token _ t _ ts i h) = no_token a t cs (ds ∷ []) i e
-first_of_two a cs ds es ts e n (phrase _ bs _ _ r h) =
-    one_or_other bs cs ds (subst (OneOf bs) e r) (λ f. subst (λ x. Yields (x ++ es) ts) f h) (λ f. absurd (n (subst (λ x. Yields (x ++ es) ts) f h)))
+pub first_of_two : (n : ℕ) (a : Symbol) (r s : Rule (Of a)) (es : List Place) (k : Of a → Act es Deployment) (us : List Marked) (y : Deployment) → rules n a ≡ r ∷ s ∷ [] → (ByRule a s es k us y → ⊥) → Gives (place n a ∷ es) k us y → ByRule a r es k us y
+first_of_two n a r s es k _ y e c (token _ _ _ _ u x us _ i m h) = no_token n a u.lexeme x r (s ∷ []) i e
+first_of_two n a r s es k us y e c (phrase _ _ p _ _ _ _ o h) =
+    one_or_other p r s (subst (OneOf p) e o) (λ f. subst (λ x. ByRule a x es k us y) f h) (λ f. absurd (c (subst (λ x. ByRule a x es k us y) f h)))
 
-pub second_of_two : (a : Symbol) (cs ds es : List Symbol) (ts : List Token) → rules a ≡ cs ∷ ds ∷ [] → (Yields (cs ++ es) ts → ⊥) → Yields (a ∷ es) ts → Yields (ds ++ es) ts
-second_of_two a cs ds es _ e n (token _ t _ ts i h) = no_token a t cs (ds ∷ []) i e
-second_of_two a cs ds es ts e n (phrase _ bs _ _ r h) =
-    one_or_other bs cs ds (subst (OneOf bs) e r) (λ f. absurd (n (subst (λ x. Yields (x ++ es) ts) f h))) (λ f. subst (λ x. Yields (x ++ es) ts) f h)
-
--- ---- which rules there are
-
-has_empty : (css : List (List Symbol)) → list_any is_empty css ≡ true → OneOf [] css
-has_empty [] h = absurd (cc)
-has_empty ([] ∷ css) h = inl refl
-has_empty ((b ∷ bs) ∷ css) h = inr (has_empty css h)
-
-pub no_symbols : (a : Symbol) → nullable a ≡ true → OneOf [] (rules a)
-no_symbols a h = has_empty (rules a) h
-
-pub first_rule : (a : Symbol) (bs : List Symbol) (css : List (List Symbol)) → rules a ≡ bs ∷ css → OneOf bs (rules a)
-first_rule a bs css e = subst (OneOf bs) (sym e) (inl refl)
-
-pub second_rule : (a : Symbol) (bs cs : List Symbol) (css : List (List Symbol)) → rules a ≡ bs ∷ cs ∷ css → OneOf cs (rules a)
-second_rule a bs cs css e = subst (OneOf cs) (sym e) (inr (inl refl))
-
-pub selected_rule : (a : Symbol) (t : Token) (bs : List Symbol) → select (rules a) t ≡ bs ∷ [] → OneOf bs (rules a)
-selected_rule a t bs e = of_select (rules a) t bs (subst (OneOf bs) (sym e) (inl refl))
+pub second_of_two : (n : ℕ) (a : Symbol) (r s : Rule (Of a)) (es : List Place) (k : Of a → Act es Deployment) (us : List Marked) (y : Deployment) → rules n a ≡ r ∷ s ∷ [] → (ByRule a r es k us y → ⊥) → Gives (place n a ∷ es) k us y → ByRule a s es k us y
+second_of_two n a r s es k _ y e c (token _ _ _ _ u x us _ i m h) = no_token n a u.lexeme x r (s ∷ []) i e
+second_of_two n a r s es k us y e c (phrase _ _ p _ _ _ _ o h) =
+    one_or_other p r s (subst (OneOf p) e o) (λ f. absurd (c (subst (λ x. ByRule a x es k us y) f h))) (λ f. subst (λ x. ByRule a x es k us y) f h)
 
 -- ---- what may not follow
 
 -- what follows begins with none of these signs
-abbrev pub avoids : List (List ℕ) → List Symbol → Bool
+abbrev pub avoids : List (List ℕ) → List Place → Bool
 avoids [] es = true
 avoids (w ∷ ws) es = not (starts es (Sign w)) && avoids ws es
 
@@ -345,13 +369,13 @@ abbrev pub listed_in : List (List ℕ) → List ℕ → Bool
 listed_in [] w = false
 listed_in (v ∷ vs) w = same v w || listed_in vs w
 
-pub avoided : (ws : List (List ℕ)) (es : List Symbol) (w : List ℕ) → listed_in ws w ≡ true → avoids ws es ≡ true → starts es (Sign w) ≡ false
+pub avoided : (ws : List (List ℕ)) (es : List Place) (w : List ℕ) → listed_in ws w ≡ true → avoids ws es ≡ true → starts es (Sign w) ≡ false
 avoided [] es w h k = absurd (cc)
 avoided (v ∷ ws) es w h k = elim (or_cases (same v w) (listed_in ws w) h) [
   | inl e ↦ subst (λ u. starts es (Sign u) ≡ false) (same_is v w e) (is_not (starts es (Sign v)) (left_is (not (starts es (Sign v))) (avoids ws es) k))
   | inr e ↦ avoided ws es w e (right_is (not (starts es (Sign v))) (avoids ws es) k)
 ]
 
-pub avoids_rest : (vs ws : List (List ℕ)) (es : List Symbol) → avoids (vs ++ ws) es ≡ true → avoids ws es ≡ true
+pub avoids_rest : (vs ws : List (List ℕ)) (es : List Place) → avoids (vs ++ ws) es ≡ true → avoids ws es ≡ true
 avoids_rest [] ws es h = h
 avoids_rest (v ∷ vs) ws es h = avoids_rest vs ws es (right_is (not (starts es (Sign v))) (avoids (vs ++ ws) es) h)

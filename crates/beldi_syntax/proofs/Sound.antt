@@ -1,293 +1,161 @@
 -- What a phrase reads is of the grammar, and nothing else that begins so is.
-use Rattle.std.proofs.Common.{◌≡◌, ℕ, zero, suc, Bool, true, false, ◌&&◌, List, [], ◌∷◌, ◌++◌, Option, Some, None, refl, ap, sym, subst, ◌∙◌, append_assoc, arith, ◌+◌, ◌<◌, ◌≤◌, inl, inr, codes, if◌then◌else◌}
+use Rattle.std.proofs.Common.{◌≡◌, ℕ, zero, suc, ◌<◌, ◌≤◌, Bool, true, false, not, ◌&&◌, ◌||◌, List, [], ◌∷◌, ◌++◌, Option, Some, None, refl, ap, sym, subst, ◌∙◌, append_assoc, arith, inl, inr, if◌then◌else◌}
+use Rattle.std.specs.Prelude.{nat_le, length}
+use Rattle.beldi_tree.specs.declared.deployment.Deployment.{Deployment}
 use Rattle.beldi_syntax.specs.declared.token.Lexeme.{Lexeme}
 use Rattle.beldi_syntax.specs.declared.token.Token.{Token}
-use Rattle.beldi_syntax.specs.declared.token.Token.TheVariants.{Sign, Name, Number, Text, End}
-use Rattle.std.specs.Prelude.{nat_le, length}
-use Rattle.beldi_syntax.specs.declared.refusal.What.TheVariants.{Syntax, Number as OfNumber}
-use Rattle.beldi_syntax.specs.Phrase.{line_of, refuse, Read, got, bad, after, ◌>>=◌, give, go_on, repeated, is_sign, next_is, after_first, take, name, name_of, text, text_of, number, number_of}
-use Rattle.std.specs.Prelude.{◌||◌}
-use Rattle.beldi_syntax.specs.Grammar.{deployment, room, more_functions, the_end, function, more_tables, block, more_stmts, stmt, cell, post, post_tail, Symbol, word, NAME, INT, TEXT, END, REL, expr, or_tail, conj, and_tail, neg, rel, rel_tail, sum, sum_tail, prod, prod_tail, unary, OneOf, rules, atom, member, IsToken, is_word, is_name, is_int, is_text, is_end, Yields, nothing, token, phrase, tokens_in}
-use Rattle.beldi_syntax.proofs.Lookahead.{among, none_of_fewer, no_symbols, first_rule, selected_rule, one_of, firsts, nullable, starts, vanishes, begun, select, picked, skipped, vanished, after_token, sole, left_is, or_cases, never_both, same_self, is_that}
+use Rattle.beldi_syntax.specs.declared.token.Token.TheVariants.{Sign, Name, Number, Text}
+use Rattle.beldi_syntax.specs.declared.refusal.What.{What}
+use Rattle.beldi_syntax.specs.declared.refusal.What.TheVariants.{Utf8, Syntax, Number as OfNumber, TooDeep, TooLarge}
+use Rattle.beldi_syntax.specs.Phrase.{line_of, refuse, Read, got, bad, after, ◌>>=◌, give, go_on, repeated, next_is, after_first, take, name, name_of, text, text_of, number, number_of}
+use Rattle.beldi_syntax.specs.Grammar.{Symbol, word, NAME, INT, TEXT, END, Of, Place, place, Act, Rule, by, shape, means, rules, OneOf, IsToken, is_outside, is_long, in_range, limit, Marked, marked, token, phrase}
+use Rattle.beldi_syntax.proofs.Lookahead.{Gives, ByRule, among, none_of_fewer, choose, leaves_out, chosen_rule, one_of, firsts, nullable, starts, vanishes, begun, select, picked, skipped, vanished, sole, left_is, or_cases, never_both, same_self, is_that}
+use Rattle.beldi_syntax.proofs.Fill.{fills}
+
+-- symbols that are still expected, and what is made of them
+pub record Stack : Type 0 where
+  pub cs : List Place
+  pub k : Act cs Deployment
+
+abbrev pub stack : (cs : List Place) → Act cs Deployment → Stack
+stack cs k = record { cs = cs; k = k }
+
+abbrev pub Makes : Stack → List Marked → Deployment → Type 0
+Makes f us y = Gives f.cs f.k us y
 
 -- a text and tokens that begin alike
-abbrev pub Meets : List Lexeme → List Token → Type 0
+abbrev pub Meets : List Lexeme → List Marked → Type 0
 Meets [] [] = Unit {0}
-Meets [] (t ∷ v) = ⊥
+Meets [] (u ∷ v) = ⊥
 Meets (l ∷ ls) [] = ⊥
-Meets (l ∷ ls) (t ∷ v) = l.token ≡ t
+Meets (l ∷ ls) (u ∷ v) = l ≡ u.lexeme
 
--- the text begins with these symbols; and what begins with the same tokens, and is these symbols and others, goes on with
--- the others where the text goes on
-pub record Passed (cs es : List Symbol) (s rest : List Lexeme) : Type 0 where
-  pub ts : List Lexeme
-  pub all : s ≡ ts ++ rest
-  pub yields : Yields cs (tokens_in ts)
-  pub only : (v : List Token) → Meets rest v → Yields (cs ++ es) (tokens_in ts ++ v) → Yields es v
+-- on this text one stack is as good as the other
+pub record Step (f g : Stack) (s : List Lexeme) : Type 0 where
+  pub back : (v : List Marked) (y : Deployment) → Makes g v y → Makes f v y
+  pub on : (v : List Marked) (y : Deployment) → Meets s v → Makes f v y → Makes g v y
 
--- the text begins as these symbols do, up to a token in this line; and nothing that begins with the same tokens, and with
--- that one, is these symbols and others
-pub record Failed (cs es : List Symbol) (s : List Lexeme) (line : ℕ) : Type 0 where
-  pub before : List Lexeme
+-- from one stack to another, over the tokens between two texts, which break no limit
+pub data Run : Stack → List Lexeme → Stack → List Lexeme → Type 0 where
+  here : (f : Stack) (s : List Lexeme) → Run f s f s
+  took : (n : ℕ) (a : Symbol) (cs : List Place) (k : Of a → Act cs Deployment) (t : Lexeme) (x : Of a) (s : List Lexeme) (g : Stack) (r : List Lexeme)
+      → IsToken a t x → limit n a t.token ≡ None → Run (stack cs (k x)) s g r → Run (stack (place n a ∷ cs) k) (t ∷ s) g r
+  went : (f h : Stack) (s : List Lexeme) (g : Stack) (r : List Lexeme) → Step f h s → Run h s g r → Run f s g r
+
+pub and_on : (f g h : Stack) (s r u : List Lexeme) → Run f s g r → Run g r h u → Run f s h u
+and_on _ _ h _ _ u (here f s) k = k
+and_on _ _ h _ _ u (took n a cs m t x s g r i l e) k = took n a cs m t x s h u i l (and_on (stack cs (m x)) g h s r u e k)
+and_on _ _ h _ _ u (went f j s g r d e) k = went f j s h u d (and_on j g h s r u e k)
+
+kept : (f g : Stack) (s r : List Lexeme) → Run f s g r → length r ≤ length s
+kept _ _ _ _ (here f s) = omega arith
+kept _ _ _ _ (took n a cs m t x s g r i l e) = let k = kept (stack cs (m x)) g s r e in omega (arith, k)
+kept _ _ _ _ (went f j s g r d e) = kept j g s r e
+
+-- ---- what is said of a refusal
+
+-- the next token breaks this limit
+pub record Broken (g : Stack) (s : List Lexeme) (what : What) : Type 0 where
+  pub first : Lexeme
+  pub rest : List Lexeme
+  pub more : List Marked
+  pub code : Deployment
+  pub all : s ≡ first ∷ rest
+  pub goes : Makes g (marked (Some what) first ∷ more) code
+  pub sure : (m : Option What) (v : List Marked) (y : Deployment) → Makes g (marked m first ∷ v) y → m ≡ Some what
+
+-- no deployment goes on with the next token
+pub record Never (g : Stack) (s : List Lexeme) : Type 0 where
+  pub never : (v : List Marked) (y : Deployment) → Meets s v → Makes g v y → ⊥
+
+abbrev pub Stuck : Stack → List Lexeme → What → Type 0
+Stuck g s Utf8 = ⊥
+Stuck g s Syntax = Never g s
+Stuck g s OfNumber = Broken g s OfNumber
+Stuck g s TooDeep = Broken g s TooDeep
+Stuck g s TooLarge = Broken g s TooLarge
+
+-- over tokens that break no limit, up to a token in this line with a cause
+pub record Halt (f : Stack) (s : List Lexeme) (line : ℕ) (what : What) : Type 0 where
+  pub stop : Stack
   pub left : List Lexeme
-  pub more : List Token
-  pub all : s ≡ before ++ left
-  pub here : line ≡ line_of left
-  pub yields : Yields cs (tokens_in before ++ more)
-  pub never : (v : List Token) → Meets left v → Yields (cs ++ es) (tokens_in before ++ v) → ⊥
+  pub run : Run f s stop left
+  pub line_is : line ≡ line_of left
+  pub stuck : Stuck stop left what
 
--- what is said of a text by what is read of it; only a refusal for its form says anything
-abbrev pub Told : {A : Type 0} → Read A → List Symbol → List Symbol → List Lexeme → Type 0
-Told (got x rest) cs es s = Passed cs es s rest
-Told (bad line what) cs es s = what ≡ Syntax → Failed cs es s line
+-- what is said of a text by what is read of it
+abbrev pub Told : {A : Type 0} → Read A → Stack → (A → Stack) → List Lexeme → Type 0
+Told (got x r) f g s = Run f s (g x) r
+Told (bad line what) f g s = Halt f s line what
 
--- a phrase reads these symbols, where the others follow
-pub record Sound {A : Type 0} (p : List Lexeme → Read A) (cs es : List Symbol) : Type 0 where
-  pub told : (s : List Lexeme) → Told (p s) cs es s
-
--- on this text the symbol goes by this rule
-abbrev pub Decided : Symbol → List Symbol → List Symbol → List Lexeme → Type 0
-Decided a bs es s = (v : List Token) → Meets s v → Yields (a ∷ es) v → Yields (bs ++ es) v
-
-pub append_nil : {A : Type 0} (cs : List A) → cs ++ [] ≡ cs
-append_nil [] = refl
-append_nil (c ∷ cs) = ap (λ ds. c ∷ ds) (append_nil cs)
-
-pub tokens_append : (ts us : List Lexeme) → tokens_in (ts ++ us) ≡ tokens_in ts ++ tokens_in us
-tokens_append [] us = refl
-tokens_append (t ∷ ts) us = ap (λ vs. t.token ∷ vs) (tokens_append ts us)
-
-yields_both : (cs : List Symbol) (ts : List Token) (ds : List Symbol) (us : List Token) → Yields cs ts → Yields ds us → Yields (cs ++ ds) (ts ++ us)
-yields_both [] [] ds us nothing k = k
-yields_both _ _ ds us (token a t cs ts i h) k = token a t (cs ++ ds) (ts ++ us) i (yields_both cs ts ds us h k)
-yields_both _ _ ds us (phrase a bs cs ts r h) k = phrase a bs (cs ++ ds) (ts ++ us) r (subst (λ es. Yields es (ts ++ us)) (append_assoc bs cs ds) (yields_both (bs ++ cs) ts ds us h k))
-
-met : (ts u : List Lexeme) (v : List Token) → Meets u v → Meets (ts ++ u) (tokens_in ts ++ v)
-met [] u v m = m
-met (t ∷ ts) u v m = refl
-
-met_at : (s ts u : List Lexeme) (v : List Token) → s ≡ ts ++ u → Meets u v → Meets s (tokens_in ts ++ v)
-met_at s ts u v e m = subst (λ q. Meets q (tokens_in ts ++ v)) (sym e) (met ts u v m)
-
-apart : (cs ds es : List Symbol) (ts us : List Lexeme) (v : List Token) → Yields ((cs ++ ds) ++ es) (tokens_in (ts ++ us) ++ v) → Yields (cs ++ (ds ++ es)) (tokens_in ts ++ (tokens_in us ++ v))
-apart cs ds es ts us v h =
-    subst (λ w. Yields (cs ++ (ds ++ es)) w) (ap (λ w. w ++ v) (tokens_append ts us) ∙ append_assoc (tokens_in ts) (tokens_in us) v)
-    (subst (λ c. Yields c (tokens_in (ts ++ us) ++ v)) (append_assoc cs ds es) h)
-
-both : (cs ds es : List Symbol) (s r u : List Lexeme) → Passed cs (ds ++ es) s r → Passed ds es r u → Passed (cs ++ ds) es s u
-both cs ds es s r u h k = record {
-  ts = h.ts ++ k.ts;
-  all = h.all ∙ ap (λ v. h.ts ++ v) k.all ∙ sym (append_assoc h.ts k.ts u);
-  yields = subst (λ v. Yields (cs ++ ds) v) (sym (tokens_append h.ts k.ts)) (yields_both cs (tokens_in h.ts) ds (tokens_in k.ts) h.yields k.yields);
-  only = λ v m y. k.only v m (h.only (tokens_in k.ts ++ v) (met_at r k.ts u v k.all m) (apart cs ds es h.ts k.ts v y));
-}
-
-pub by_rule_before : (a : Symbol) (bs cs es : List Symbol) (s r : List Lexeme) → OneOf bs (rules a) → Decided a bs (cs ++ es) s → Passed (bs ++ cs) es s r → Passed (a ∷ cs) es s r
-by_rule_before a bs cs es s r rule d h = record {
-  ts = h.ts;
-  all = h.all;
-  yields = phrase a bs cs (tokens_in h.ts) rule h.yields;
-  only = λ v m y. h.only v m (subst (λ c. Yields c (tokens_in h.ts ++ v)) (sym (append_assoc bs cs es)) (d (tokens_in h.ts ++ v) (met_at s h.ts r v h.all m) y));
-}
-
-none : (es : List Symbol) (s r : List Lexeme) → s ≡ r → Passed [] es s r
-none es s r e = record { ts = []; all = e; yields = nothing; only = λ v m y. y }
-
-pub one : (c : Symbol) (es : List Symbol) (t : Lexeme) (ts : List Lexeme) → IsToken c t.token → Passed (c ∷ []) es (t ∷ ts) ts
-one c es t ts h = record { ts = t ∷ []; all = refl; yields = token c t.token [] [] h nothing; only = λ v m y. after_token c t.token es v h y }
-
--- ---- every list of symbols is some tokens
-
-pub record Filled (cs : List Symbol) : Type 0 where
-  pub ts : List Token
-  pub yields : Yields cs ts
-
-fill_nothing : Filled []
-fill_nothing = record { ts = []; yields = nothing }
-
-fill_both : (cs ds : List Symbol) → Filled cs → Filled ds → Filled (cs ++ ds)
-fill_both cs ds h k = record { ts = h.ts ++ k.ts; yields = yields_both cs h.ts ds k.ts h.yields k.yields }
-
-fill : (a : Symbol) (bs : List Symbol) → OneOf bs (rules a) → Filled bs → Filled (a ∷ [])
-fill a bs rule h = record { ts = h.ts; yields = phrase a bs [] h.ts rule (subst (λ cs. Yields cs h.ts) (sym (append_nil bs)) h.yields) }
-
-fill_token : (a : Symbol) (t : Token) → IsToken a t → Filled (a ∷ [])
-fill_token a t i = record { ts = t ∷ []; yields = token a t [] [] i nothing }
-
-and_then : (a : Symbol) (cs : List Symbol) → Filled (a ∷ []) → Filled cs → Filled (a ∷ cs)
-and_then a cs h k = fill_both (a ∷ []) cs h k
-
-the_word : (w : List ℕ) → Filled (word w ∷ [])
-the_word w = fill_token (word w) (Sign w) (is_word w)
-
-an_int : Filled (INT ∷ [])
-an_int = fill_token INT (Number None) (is_int None)
-
-name_there : Filled (NAME ∷ [])
-name_there = fill_token NAME (Name []) (is_name [])
-
-text_there : Filled (TEXT ∷ [])
-text_there = fill_token TEXT (Text None) (is_text None)
-
-left_out : (a : Symbol) → nullable a ≡ true → Filled (a ∷ [])
-left_out a h = fill a [] (no_symbols a h) fill_nothing
-
-an_atom : Filled (atom ∷ [])
-an_atom = fill atom _ (inl refl) an_int
-
-a_post : Filled (post ∷ [])
-a_post = fill post _ (inl refl) (and_then atom _ an_atom (left_out post_tail refl))
-
-a_unary : Filled (unary ∷ [])
-a_unary = fill unary _ (inr (inl refl)) a_post
-
-a_prod : Filled (prod ∷ [])
-a_prod = fill prod _ (inl refl) (and_then unary _ a_unary (left_out prod_tail refl))
-
-a_sum : Filled (sum ∷ [])
-a_sum = fill sum _ (inl refl) (and_then prod _ a_prod (left_out sum_tail refl))
-
-a_rel : Filled (rel ∷ [])
-a_rel = fill rel _ (inl refl) (and_then sum _ a_sum (left_out rel_tail refl))
-
-a_neg : Filled (neg ∷ [])
-a_neg = fill neg _ (inr (inl refl)) a_rel
-
-a_conj : Filled (conj ∷ [])
-a_conj = fill conj _ (inl refl) (and_then neg _ a_neg (left_out and_tail refl))
-
-an_expr : Filled (expr ∷ [])
-an_expr = fill expr _ (inl refl) (and_then conj _ a_conj (left_out or_tail refl))
-
-a_member : Filled (member ∷ [])
-a_member = fill member _ (inl refl) (and_then TEXT _ text_there (and_then (word (codes ":")) _ (the_word (codes ":")) an_expr))
-
-a_block : Filled (block ∷ [])
-a_block = fill block _ (inl refl) (and_then (word (codes "{")) _ (the_word (codes "{")) (and_then more_stmts _ (left_out more_stmts refl) (the_word (codes "}"))))
-
-a_stmt : Filled (stmt ∷ [])
-a_stmt = fill stmt _ (selected_rule stmt (Sign (codes "abort")) _ refl) (and_then (word (codes "abort")) _ (the_word (codes "abort")) (the_word (codes ";")))
-
-a_cell : Filled (cell ∷ [])
-a_cell = fill cell _ (inl refl) (and_then NAME _ name_there (and_then (word (codes "[")) _ (the_word (codes "[")) (and_then expr _ an_expr (the_word (codes "]")))))
-
-a_function : Filled (function ∷ [])
-a_function = fill function _ (inl refl) (and_then (word (codes "function")) _ (the_word (codes "function")) (and_then NAME _ name_there (and_then (word (codes "(")) _ (the_word (codes "(")) (and_then NAME _ name_there (and_then (word (codes ")")) _ (the_word (codes ")"))
-    (and_then (word (codes "{")) _ (the_word (codes "{")) (and_then more_tables _ (left_out more_tables refl) (and_then more_stmts _ (left_out more_stmts refl) (the_word (codes "}"))))))))))
-
-a_deployment : Filled (deployment ∷ [])
-a_deployment = fill deployment _ (inl refl) (and_then (word (codes "life")) _ (the_word (codes "life")) (and_then INT _ an_int (and_then (word (codes ";")) _ (the_word (codes ";")) (and_then room _ (left_out room refl) (and_then more_functions _ (left_out more_functions refl) (fill the_end _ (inl refl) (the_word (codes "script"))))))))
-
-fill_one : (a : Symbol) → Filled (a ∷ [])
-fill_one (word w) = the_word w
-fill_one NAME = name_there
-fill_one INT = an_int
-fill_one TEXT = text_there
-fill_one END = fill_token END End is_end
-fill_one deployment = a_deployment
-fill_one the_end = fill the_end _ (inl refl) (the_word (codes "script"))
-fill_one function = a_function
-fill_one block = a_block
-fill_one stmt = a_stmt
-fill_one cell = a_cell
-fill_one REL = fill REL _ (inl refl) (the_word (codes "=="))
-fill_one expr = an_expr
-fill_one conj = a_conj
-fill_one neg = a_neg
-fill_one rel = a_rel
-fill_one sum = a_sum
-fill_one prod = a_prod
-fill_one unary = a_unary
-fill_one post = a_post
-fill_one atom = an_atom
-fill_one member = a_member
-fill_one a = left_out a refl
-
-fills : (cs : List Symbol) → Filled cs
-fills [] = fill_nothing
-fills (c ∷ cs) = and_then c cs (fill_one c) (fills cs)
-
--- ---- where a phrase is refused
-
-stuck_first : (cs ds es : List Symbol) (s : List Lexeme) (line : ℕ) → Failed cs (ds ++ es) s line → Failed (cs ++ ds) es s line
-stuck_first cs ds es s line h = record {
-  before = h.before;
-  left = h.left;
-  more = h.more ++ (fills ds).ts;
-  all = h.all;
-  here = h.here;
-  yields = subst (λ v. Yields (cs ++ ds) v) (append_assoc (tokens_in h.before) h.more (fills ds).ts) (yields_both cs (tokens_in h.before ++ h.more) ds (fills ds).ts h.yields (fills ds).yields);
-  never = λ v m y. h.never v m (subst (λ c. Yields c (tokens_in h.before ++ v)) (append_assoc cs ds es) y);
-}
-
-stuck_then : (cs ds es : List Symbol) (s r : List Lexeme) (line : ℕ) → Passed cs (ds ++ es) s r → Failed ds es r line → Failed (cs ++ ds) es s line
-stuck_then cs ds es s r line h k = record {
-  before = h.ts ++ k.before;
-  left = k.left;
-  more = k.more;
-  all = h.all ∙ ap (λ v. h.ts ++ v) k.all ∙ sym (append_assoc h.ts k.before k.left);
-  here = k.here;
-  yields = subst (λ v. Yields (cs ++ ds) v) (sym (append_assoc (tokens_in h.ts) (tokens_in k.before) k.more) ∙ ap (λ v. v ++ k.more) (sym (tokens_append h.ts k.before))) (yields_both cs (tokens_in h.ts) ds (tokens_in k.before ++ k.more) h.yields k.yields);
-  never = λ v m y. k.never v m (h.only (tokens_in k.before ++ v) (met_at r k.before k.left v k.all m) (apart cs ds es h.ts k.before v y));
-}
-
-stuck_by_before : (a : Symbol) (bs cs es : List Symbol) (s : List Lexeme) (line : ℕ) → OneOf bs (rules a) → Decided a bs (cs ++ es) s → Failed (bs ++ cs) es s line → Failed (a ∷ cs) es s line
-stuck_by_before a bs cs es s line rule d h = record {
-  before = h.before;
-  left = h.left;
-  more = h.more;
-  all = h.all;
-  here = h.here;
-  yields = phrase a bs cs (tokens_in h.before ++ h.more) rule h.yields;
-  never = λ v m y. h.never v m (subst (λ c. Yields c (tokens_in h.before ++ v)) (sym (append_assoc bs cs es)) (d (tokens_in h.before ++ v) (met_at s h.before h.left v h.all m) y));
-}
-
-stuck_here : (cs es : List Symbol) (s : List Lexeme) → ((v : List Token) → Meets s v → Yields (cs ++ es) v → ⊥) → Failed cs es s (line_of s)
-stuck_here cs es s n = record { before = []; left = s; more = (fills cs).ts; all = refl; here = refl; yields = (fills cs).yields; never = n }
+-- a phrase leads from one stack to another
+pub record Sound {A : Type 0} (p : List Lexeme → Read A) (f : Stack) (g : A → Stack) : Type 0 where
+  pub told : (s : List Lexeme) → Told (p s) f g s
 
 -- ---- phrases one after another
 
--- after some symbols
-pub told_on : {A : Type 0} (q : Read A) (cs ds es : List Symbol) (s r : List Lexeme) → Passed cs (ds ++ es) s r → Told q ds es r → Told q (cs ++ ds) es s
-told_on (got x u) cs ds es s r h k = both cs ds es s r u h k
-told_on (bad line what) cs ds es s r h k = λ e. stuck_then cs ds es s r line h (k e)
+halt_on : (f g : Stack) (s r : List Lexeme) (line : ℕ) (what : What) → Run f s g r → Halt g r line what → Halt f s line what
+halt_on f g s r line what e h = record { stop = h.stop; left = h.left; run = and_on f g h.stop s r h.left e h.run; line_is = h.line_is; stuck = h.stuck }
 
-told_then : {A B : Type 0} (q : Read A) (f : A → List Lexeme → Read B) (cs ds es : List Symbol) (s : List Lexeme) → Told q cs (ds ++ es) s → ((x : A) → Sound (f x) ds es) → Told (after q f) (cs ++ ds) es s
-told_then (got x r) f cs ds es s h k = told_on (f x r) cs ds es s r h ((k x).told r)
-told_then (bad line what) f cs ds es s h k = λ e. stuck_first cs ds es s line (h e)
+-- after a run
+pub told_on : {A : Type 0} (q : Read A) (f g : Stack) (h : A → Stack) (s r : List Lexeme) → Run f s g r → Told q g h r → Told q f h s
+told_on (got x u) f g h s r e k = and_on f g (h x) s r u e k
+told_on (bad line what) f g h s r e k = halt_on f g s r line what e k
 
-pub seq : {A B : Type 0} (p : List Lexeme → Read A) (f : A → List Lexeme → Read B) (cs ds es : List Symbol) → Sound p cs (ds ++ es) → ((x : A) → Sound (f x) ds es) → Sound (p >>= f) (cs ++ ds) es
-seq p f cs ds es h k = record { told = λ s. told_then (p s) f cs ds es s (h.told s) k }
+pub told_then : {A B : Type 0} (q : Read A) (p : A → List Lexeme → Read B) (f : Stack) (g : A → Stack) (h : B → Stack) (s : List Lexeme) → Told q f g s → ((x : A) → Sound (p x) (g x) h) → Told (after q p) f h s
+told_then (got x r) p f g h s e k = told_on (p x r) f (g x) h s r e ((k x).told r)
+told_then (bad line what) p f g h s e k = e
 
-pub given : {A : Type 0} (x : A) (es : List Symbol) → Sound (give x) [] es
-given x es = record { told = λ s. none es s s refl }
+pub seq : {A B : Type 0} {p : List Lexeme → Read A} {m : A → List Lexeme → Read B} {f : Stack} {g : A → Stack} {h : B → Stack} → Sound p f g → ((x : A) → Sound (m x) (g x) h) → Sound (p >>= m) f h
+seq {p = p} {m = m} {f = f} {g = g} {h = h} d k = record { told = λ s. told_then (p s) m f g h s (d.told s) k }
 
-pub told_made : {A B : Type 0} (q : Read A) (f : A → B) (cs es : List Symbol) (s : List Lexeme) → Told q cs es s → Told (after q (λ x. give (f x))) cs es s
-told_made (got x r) f cs es s h = h
-told_made (bad line what) f cs es s h = h
+pub given : {A : Type 0} (x : A) (g : A → Stack) → Sound (give x) (g x) g
+given x g = record { told = λ s. here (g x) s }
+
+pub told_made : {A B : Type 0} (q : Read A) (m : A → B) (f : Stack) (g : B → Stack) (s : List Lexeme) → Told q f (λ x. g (m x)) s → Told (after q (λ x. give (m x))) f g s
+told_made (got x r) m f g s h = h
+told_made (bad line what) m f g s h = h
 
 -- a phrase, and what is made of it
-pub made : {A B : Type 0} (p : List Lexeme → Read A) (f : A → B) (cs es : List Symbol) → Sound p cs es → Sound (p >>= λ x. give (f x)) cs es
-made p f cs es h = record { told = λ s. told_made (p s) f cs es s (h.told s) }
+pub made : {A B : Type 0} {p : List Lexeme → Read A} {f : Stack} {g : B → Stack} (m : A → B) → Sound p f (λ x. g (m x)) → Sound (p >>= λ x. give (m x)) f g
+made {p = p} {f = f} {g = g} m h = record { told = λ s. told_made (p s) m f g s (h.told s) }
 
--- by a rule
-pub told_by_before : {A : Type 0} (q : Read A) (a : Symbol) (bs cs es : List Symbol) (s : List Lexeme) → OneOf bs (rules a) → Decided a bs (cs ++ es) s → Told q (bs ++ cs) es s → Told q (a ∷ cs) es s
-told_by_before (got x r) a bs cs es s rule d h = by_rule_before a bs cs es s r rule d h
-told_by_before (bad line what) a bs cs es s rule d h = λ e. stuck_by_before a bs cs es s line rule d (h e)
-
-pub told_by : {A : Type 0} (q : Read A) (a : Symbol) (bs es : List Symbol) (s : List Lexeme) → OneOf bs (rules a) → Decided a bs es s → Told q bs es s → Told q (a ∷ []) es s
-told_by q a bs es s rule d h = told_by_before q a bs [] es s rule d (subst (λ cs. Told q cs es s) (sym (append_nil bs)) h)
-
--- a symbol that has one rule
-pub ruled : {A : Type 0} (a : Symbol) (bs es : List Symbol) (p : List Lexeme → Read A) → rules a ≡ bs ∷ [] → Sound p bs es → Sound p (a ∷ []) es
-ruled a bs es p e h = record { told = λ s. told_by (p s) a bs es s (first_rule a bs [] e) (λ v m y. sole a bs es v e y) (h.told s) }
+-- where one stack is as good as another
+pub told_by : {A : Type 0} (q : Read A) (f j : Stack) (h : A → Stack) (s : List Lexeme) → Step f j s → Told q j h s → Told q f h s
+told_by q f j h s d e = told_on q f j h s s (went f j s j s d (here j s)) e
 
 -- one or the other
-pub told_if : {A : Type 0} (b : Bool) (q r : Read A) (cs es : List Symbol) (s : List Lexeme) → (b ≡ true → Told q cs es s) → (b ≡ false → Told r cs es s) → Told (if b then q else r) cs es s
-told_if true q r cs es s f g = f refl
-told_if false q r cs es s f g = g refl
+pub told_if : {A : Type 0} (b : Bool) (q r : Read A) (f : Stack) (h : A → Stack) (s : List Lexeme) → (b ≡ true → Told q f h s) → (b ≡ false → Told r f h s) → Told (if b then q else r) f h s
+told_if true q r f h s d e = d refl
+told_if false q r f h s d e = e refl
+
+-- ---- rules
+
+-- a symbol and what is made of it, with what follows
+abbrev pub push : ℕ → (a : Symbol) → (es : List Place) → (Of a → Act es Deployment) → Stack
+push n a es k = stack (place n a ∷ es) k
+
+-- a symbol's rule in its place
+abbrev pub opened : (a : Symbol) → Rule (Of a) → (es : List Place) → (Of a → Act es Deployment) → Stack
+opened a r es k = stack (shape r ++ es) (means Deployment r es k)
+
+pub by_rule : (n : ℕ) (a : Symbol) (r : Rule (Of a)) (es : List Place) (k : Of a → Act es Deployment) (s : List Lexeme) → OneOf r (rules n a)
+    → ((v : List Marked) (y : Deployment) → Meets s v → Gives (place n a ∷ es) k v y → ByRule a r es k v y) → Step (push n a es k) (opened a r es k) s
+by_rule n a r es k s o d = record { back = λ v y h. phrase n a r es k v y o h; on = d }
+
+-- the only one
+pub sole_step : (n : ℕ) (a : Symbol) (r : Rule (Of a)) (es : List Place) (k : Of a → Act es Deployment) (s : List Lexeme) → rules n a ≡ r ∷ [] → Step (push n a es k) (opened a r es k) s
+sole_step n a r es k s e = by_rule n a r es k s (subst (OneOf r) (sym e) (inl refl)) (λ v y m h. sole n a r es k v y e h)
+
+-- a symbol that has one rule
+pub ruled : {A : Type 0} {p : List Lexeme → Read A} {h : A → Stack} (n : ℕ) (a : Symbol) (r : Rule (Of a)) (es : List Place) (k : Of a → Act es Deployment) → rules n a ≡ r ∷ [] → Sound p (opened a r es k) h → Sound p (push n a es k) h
+ruled {p = p} {h = h} n a r es k e d = record { told = λ s. told_by (p s) (push n a es k) (opened a r es k) h s (sole_step n a r es k s e) (d.told s) }
 
 -- ---- one token
+
+-- so many levels may be open
+abbrev pub Low : ℕ → Type 0
+Low n = nat_le n 64 ≡ true
 
 -- whether the next token is of the kind of one of these
 abbrev opens : List Token → List Lexeme → Bool
@@ -306,130 +174,211 @@ also_not w ks [] h n = record { is = refl }
 also_not w ks (l ∷ ls) h n = record { is = ap (λ b. b || one_of ks l.token) h ∙ n.is }
 
 -- what begins with none of a symbol's first tokens is not that symbol
-cannot : {ks : List Token} (a : Symbol) (es : List Symbol) (s : List Lexeme) → nullable a ≡ false → among (firsts a) ks ≡ true → NoneOf ks s → (v : List Token) → Meets s v → Yields (a ∷ es) v → ⊥
-cannot a es [] n f h [] m y = never_both (nullable a) (left_is (nullable a) (vanishes es) (begun (a ∷ es) [] y)) n
-cannot a es [] n f h (t ∷ v) m y = m
-cannot a es (l ∷ ls) n f h [] m y = m
-cannot {ks = ks} a es (l ∷ ls) n f h (t ∷ v) m y = elim (or_cases (one_of (firsts a) t) (nullable a && starts es t) (begun (a ∷ es) (t ∷ v) y)) [
-  | inl g ↦ never_both (one_of (firsts a) t) g (none_of_fewer (firsts a) ks t f (subst (λ u. one_of ks u ≡ false) m h.is))
-  | inr g ↦ never_both (nullable a) (left_is (nullable a) (starts es t) g) n
+cannot : {ks : List Token} (n : ℕ) (a : Symbol) (es : List Place) (k : Of a → Act es Deployment) (s : List Lexeme) → nullable a ≡ false → among (firsts a) ks ≡ true → NoneOf ks s → (v : List Marked) (y : Deployment) → Meets s v → Gives (place n a ∷ es) k v y → ⊥
+cannot n a es k [] z f h [] y m d = never_both (nullable a) (left_is (nullable a) (vanishes es) (begun (place n a ∷ es) k [] y d)) z
+cannot n a es k [] z f h (u ∷ v) y m d = m
+cannot n a es k (l ∷ ls) z f h [] y m d = m
+cannot {ks = ks} n a es k (l ∷ ls) z f h (u ∷ v) y m d = elim (or_cases (one_of (firsts a) u.lexeme.token) (nullable a && starts es u.lexeme.token) (begun (place n a ∷ es) k (u ∷ v) y d)) [
+  | inl g ↦ never_both (one_of (firsts a) u.lexeme.token) g (none_of_fewer (firsts a) ks u.lexeme.token f (subst (λ t. one_of ks t.token ≡ false) m h.is))
+  | inr g ↦ never_both (nullable a) (left_is (nullable a) (starts es u.lexeme.token) g) z
 ]
 
 -- or it is nothing of it
-pub skips : {ks : List Token} (a : Symbol) (es : List Symbol) (s : List Lexeme) → among (firsts a) ks ≡ true → NoneOf ks s → Decided a [] es s
-skips a es [] f h [] m y = vanished a es y
-skips a es [] f h (t ∷ v) m y = absurd m
-skips a es (l ∷ ls) f h [] m y = absurd m
-skips {ks = ks} a es (l ∷ ls) f h (t ∷ v) m y = skipped a es t v (none_of_fewer (firsts a) ks t f (subst (λ u. one_of ks u ≡ false) m h.is)) y
+skipping : {ks : List Token} (n : ℕ) (a : Symbol) (x : Of a) (es : List Place) (k : Of a → Act es Deployment) (s : List Lexeme) → choose leaves_out (rules n a) ≡ by [] x ∷ [] → among (firsts a) ks ≡ true → NoneOf ks s
+    → (v : List Marked) (y : Deployment) → Meets s v → Gives (place n a ∷ es) k v y → Gives es (k x) v y
+skipping n a x es k [] e f h [] y m d = vanished n a x es k y e d
+skipping n a x es k [] e f h (u ∷ v) y m d = absurd m
+skipping n a x es k (l ∷ ls) e f h [] y m d = absurd m
+skipping {ks = ks} n a x es k (l ∷ ls) e f h (u ∷ v) y m d = skipped n a x es k u v y e (none_of_fewer (firsts a) ks u.lexeme.token f (subst (λ t. one_of ks t.token ≡ false) m h.is)) d
+
+pub skips : {ks : List Token} (n : ℕ) (a : Symbol) (x : Of a) (es : List Place) (k : Of a → Act es Deployment) (s : List Lexeme) → choose leaves_out (rules n a) ≡ by [] x ∷ [] → among (firsts a) ks ≡ true → NoneOf ks s → Step (push n a es k) (stack es (k x)) s
+skips {ks = ks} n a x es k s e f h = by_rule n a (by [] x) es k s (chosen_rule leaves_out (rules n a) (by [] x) e) (skipping {ks = ks} n a x es k s e f h)
 
 -- where nothing is left, it is nothing of it
-skips_end : (a : Symbol) (es : List Symbol) → Decided a [] es []
-skips_end a es [] m y = vanished a es y
-skips_end a es (t ∷ v) m y = absurd m
+end_skips : (n : ℕ) (a : Symbol) (x : Of a) (es : List Place) (k : Of a → Act es Deployment) → choose leaves_out (rules n a) ≡ by [] x ∷ [] → (v : List Marked) (y : Deployment) → Meets [] v → Gives (place n a ∷ es) k v y → Gives es (k x) v y
+end_skips n a x es k e [] y m d = vanished n a x es k y e d
+end_skips n a x es k e (u ∷ v) y m d = absurd m
+
+pub skips_end : (n : ℕ) (a : Symbol) (x : Of a) (es : List Place) (k : Of a → Act es Deployment) → choose leaves_out (rules n a) ≡ by [] x ∷ [] → Step (push n a es k) (stack es (k x)) []
+skips_end n a x es k e = by_rule n a (by [] x) es k [] (chosen_rule leaves_out (rules n a) (by [] x) e) (end_skips n a x es k e)
 
 -- the next token decides
-pub by_next : (k : Token) (a : Symbol) (bs es : List Symbol) (v : List Token) → select (rules a) k ≡ bs ∷ [] → (nullable a && starts es k) ≡ false → (t : Token) → k ≡ t → Yields (a ∷ es) (t ∷ v) → Yields (bs ++ es) (t ∷ v)
-by_next k a bs es v e f t g y = subst (λ u. Yields (bs ++ es) (u ∷ v)) g (picked a bs es k v e f (subst (λ u. Yields (a ∷ es) (u ∷ v)) (sym g) y))
+pub by_next : (t : Token) (n : ℕ) (a : Symbol) (r : Rule (Of a)) (es : List Place) (k : Of a → Act es Deployment) (u : Marked) (v : List Marked) (y : Deployment) → select (rules n a) t ≡ r ∷ [] → (nullable a && starts es t) ≡ false → t ≡ u.lexeme.token → Gives (place n a ∷ es) k (u ∷ v) y → ByRule a r es k (u ∷ v) y
+by_next t n a r es k u v y e f g d = picked n a r es k u v y (subst (λ w. select (rules n a) w ≡ r ∷ []) g e) (subst (λ w. (nullable a && starts es w) ≡ false) g f) d
 
-pub by_sign : (w : List ℕ) (a : Symbol) (bs es : List Symbol) (s : List Lexeme) → next_is w s ≡ true → select (rules a) (Sign w) ≡ bs ∷ [] → (nullable a && starts es (Sign w)) ≡ false → Decided a bs es s
-by_sign w a bs es [] h e f v m y = absurd (cc)
-by_sign w a bs es (l ∷ ls) h e f [] m y = absurd m
-by_sign w a bs es (l ∷ ls) h e f (t ∷ v) m y = by_next (Sign w) a bs es v e f t (sym (is_that w l.token h) ∙ m) y
+signed_by : (w : List ℕ) (n : ℕ) (a : Symbol) (r : Rule (Of a)) (es : List Place) (k : Of a → Act es Deployment) (s : List Lexeme) → next_is w s ≡ true → select (rules n a) (Sign w) ≡ r ∷ [] → (nullable a && starts es (Sign w)) ≡ false
+    → (v : List Marked) (y : Deployment) → Meets s v → Gives (place n a ∷ es) k v y → ByRule a r es k v y
+signed_by w n a r es k [] h e f v y m d = absurd (cc)
+signed_by w n a r es k (l ∷ ls) h e f [] y m d = absurd m
+signed_by w n a r es k (l ∷ ls) h e f (u ∷ v) y m d = by_next (Sign w) n a r es k u v y e f (sym (is_that w l.token h) ∙ ap (λ t. t.token) m) d
 
-pub sign_skips : (w : List ℕ) (a : Symbol) (es : List Symbol) (s : List Lexeme) → next_is w s ≡ true → one_of (firsts a) (Sign w) ≡ false → Decided a [] es s
-sign_skips w a es [] h e v m y = absurd (cc)
-sign_skips w a es (l ∷ ls) h e [] m y = absurd m
-sign_skips w a es (l ∷ ls) h e (t ∷ v) m y = skipped a es t v (subst (λ u. one_of (firsts a) u ≡ false) (sym (is_that w l.token h) ∙ m) e) y
+pub by_sign : (w : List ℕ) (n : ℕ) (a : Symbol) (r : Rule (Of a)) (es : List Place) (k : Of a → Act es Deployment) (s : List Lexeme) → next_is w s ≡ true → select (rules n a) (Sign w) ≡ r ∷ [] → (nullable a && starts es (Sign w)) ≡ false → Step (push n a es k) (opened a r es k) s
+by_sign w n a r es k s h e f = by_rule n a r es k s (chosen_rule _ (rules n a) r e) (signed_by w n a r es k s h e f)
+
+sign_skipping : (w : List ℕ) (n : ℕ) (a : Symbol) (x : Of a) (es : List Place) (k : Of a → Act es Deployment) (s : List Lexeme) → choose leaves_out (rules n a) ≡ by [] x ∷ [] → next_is w s ≡ true → one_of (firsts a) (Sign w) ≡ false
+    → (v : List Marked) (y : Deployment) → Meets s v → Gives (place n a ∷ es) k v y → Gives es (k x) v y
+sign_skipping w n a x es k [] c h e v y m d = absurd (cc)
+sign_skipping w n a x es k (l ∷ ls) c h e [] y m d = absurd m
+sign_skipping w n a x es k (l ∷ ls) c h e (u ∷ v) y m d = skipped n a x es k u v y c (subst (λ t. one_of (firsts a) t ≡ false) (sym (is_that w l.token h) ∙ ap (λ t. t.token) m) e) d
+
+pub sign_skips : (w : List ℕ) (n : ℕ) (a : Symbol) (x : Of a) (es : List Place) (k : Of a → Act es Deployment) (s : List Lexeme) → choose leaves_out (rules n a) ≡ by [] x ∷ [] → next_is w s ≡ true → one_of (firsts a) (Sign w) ≡ false → Step (push n a es k) (stack es (k x)) s
+sign_skips w n a x es k s c h e = by_rule n a (by [] x) es k s (chosen_rule leaves_out (rules n a) (by [] x) c) (sign_skipping w n a x es k s c h e)
 
 -- nothing that begins so begins with this sign
-pub not_sign : (w : List ℕ) (es : List Symbol) (s : List Lexeme) → next_is w s ≡ false → (v : List Token) → Meets s v → Yields (word w ∷ es) v → ⊥
-not_sign w es s h = cannot (word w) es s refl (ap (λ b. (b || false) && true) (same_self w)) (also_not w [] s h (nothing_of s))
+pub not_sign : (w : List ℕ) (n : ℕ) (es : List Place) (k : ℕ → Act es Deployment) (s : List Lexeme) → next_is w s ≡ false → (v : List Marked) (y : Deployment) → Meets s v → Gives (place n (word w) ∷ es) k v y → ⊥
+not_sign w n es k s h = cannot n (word w) es k s refl (ap (λ b. (b || false) && true) (same_self w)) (also_not w [] s h (nothing_of s))
 
-sign_is : (w : List ℕ) (t : Token) → is_sign w t ≡ true → IsToken (word w) t
-sign_is w t h = subst (λ u. IsToken (word w) u) (sym (is_that w t h)) (is_word w)
+pub free : (n : ℕ) (a : Symbol) (t : Token) → is_outside a t ≡ false → Low n → is_long t ≡ false → limit n a t ≡ None
+free n a t o l d =
+    ap (λ b. if b then Some OfNumber else if not (nat_le n 64) then Some TooDeep else if is_long t then Some TooLarge else None) o
+    ∙ ap (λ b. if not b then Some TooDeep else if is_long t then Some TooLarge else None) l ∙ ap (λ b. if b then Some TooLarge else None) d
 
-pub first_took : (w : List ℕ) (es : List Symbol) (s : List Lexeme) → next_is w s ≡ true → Passed (word w ∷ []) es s (after_first s)
-first_took w es [] h = absurd (cc)
-first_took w es (t ∷ ts) h = one (word w) es t ts (sign_is w t.token h)
+pub one : (n : ℕ) (a : Symbol) (es : List Place) (k : Of a → Act es Deployment) (t : Lexeme) (x : Of a) (s : List Lexeme) → IsToken a t x → limit n a t.token ≡ None → Run (push n a es k) (t ∷ s) (stack es (k x)) s
+one n a es k t x s i l = took n a es k t x s (stack es (k x)) s i l (here (stack es (k x)) s)
 
--- where the next token is none that the symbol begins with
-pub told_bad : {ks : List Token} (a : Symbol) (es : List Symbol) (s : List Lexeme) → nullable a ≡ false → among (firsts a) ks ≡ true → NoneOf ks s → Syntax ≡ Syntax → Failed (a ∷ []) es s (line_of s)
-told_bad a es s n f h e = stuck_here (a ∷ []) es s (cannot a es s n f h)
+pub first_took : (w : List ℕ) (n : ℕ) (es : List Place) (k : ℕ → Act es Deployment) (s : List Lexeme) → Low n → next_is w s ≡ true → Run (push n (word w) es k) s (stack es (k (line_of s))) (after_first s)
+first_took w n es k [] l h = absurd (cc)
+first_took w n es k (t ∷ ts) l h = let e = is_that w t.token h in one n (word w) es k t t.line ts (e, refl) (free n (word w) t.token refl l (ap is_long e))
 
-pub taken : (w : List ℕ) (es : List Symbol) → Sound (take w) (word w ∷ []) es
-taken w es = record { told = λ s. told_if (next_is w s) (got tt (after_first s)) (refuse Syntax s) (word w ∷ []) es s (λ i. first_took w es s i) (λ i e. stuck_here (word w ∷ []) es s (not_sign w es s i)) }
+-- where a text is refused here
+pub halted : (f : Stack) (s : List Lexeme) (what : What) → Stuck f s what → Halt f s (line_of s) what
+halted f s what h = record { stop = f; left = s; run = here f s; line_is = refl; stuck = h }
 
-name_told : (k : Token) (es : List Symbol) (t : Lexeme) (ts : List Lexeme) → t.token ≡ k → Told (name_of k (t ∷ ts) ts) (NAME ∷ []) es (t ∷ ts)
-name_told (Name v) es t ts g = one NAME es t ts (subst (IsToken NAME) (sym g) (is_name v))
-name_told k es t ts g = told_bad {ks = Name [] ∷ []} NAME es (t ∷ ts) refl refl (record { is = ap (one_of (Name [] ∷ [])) g })
+pub told_bad : {ks : List Token} (n : ℕ) (a : Symbol) (es : List Place) (k : Of a → Act es Deployment) (s : List Lexeme) → nullable a ≡ false → among (firsts a) ks ≡ true → NoneOf ks s → Halt (push n a es k) s (line_of s) Syntax
+told_bad {ks = ks} n a es k s z f h = halted (push n a es k) s Syntax (record { never = cannot {ks = ks} n a es k s z f h })
 
-nothing_read : (ks : List Token) (a : Symbol) (es : List Symbol) → nullable a ≡ false → among (firsts a) ks ≡ true → Syntax ≡ Syntax → Failed (a ∷ []) es [] 0
-nothing_read ks a es n f = told_bad {ks = ks} a es [] n f (record { is = refl })
+pub taken : (w : List ℕ) (n : ℕ) (es : List Place) (k : Act es Deployment) → Low n → Sound (take w) (stack (place n (word w) ∷ es) (λ line. k)) (λ u. stack es k)
+taken w n es k l = record { told = λ s. told_if (next_is w s) (got tt (after_first s)) (refuse Syntax s) _ _ s (λ i. first_took w n es (λ line. k) s l i) (λ i. halted _ s Syntax (record { never = not_sign w n es (λ line. k) s i })) }
 
-name_read : (es : List Symbol) (s : List Lexeme) → Told (name s) (NAME ∷ []) es s
-name_read es [] = nothing_read (Name [] ∷ []) NAME es refl refl
-name_read es (t ∷ ts) = name_told t.token es t ts refl
+name_told : (c : Token) (n : ℕ) (es : List Place) (k : List ℕ → Act es Deployment) (t : Lexeme) (ts : List Lexeme) → Low n → t.token ≡ c → Told (name_of c (t ∷ ts) ts) (push n NAME es k) (λ x. stack es (k x)) (t ∷ ts)
+name_told (Name v) n es k t ts l g = one n NAME es k t v ts g (free n NAME t.token refl l (ap is_long g))
+name_told c n es k t ts l g = told_bad {ks = Name [] ∷ []} n NAME es k (t ∷ ts) refl refl (record { is = ap (one_of (Name [] ∷ [])) g })
 
-pub named : (es : List Symbol) → Sound name (NAME ∷ []) es
-named es = record { told = name_read es }
+nothing_read : (ks : List Token) (n : ℕ) (a : Symbol) (es : List Place) (k : Of a → Act es Deployment) → nullable a ≡ false → among (firsts a) ks ≡ true → Halt (push n a es k) [] 0 Syntax
+nothing_read ks n a es k z f = told_bad {ks = ks} n a es k [] z f (record { is = refl })
 
-text_told : (k : Token) (es : List Symbol) (t : Lexeme) (ts : List Lexeme) → t.token ≡ k → Told (text_of k (t ∷ ts) ts) (TEXT ∷ []) es (t ∷ ts)
-text_told (Text None) es t ts g = λ e. absurd (cc)
-text_told (Text (Some v)) es t ts g = one TEXT es t ts (subst (IsToken TEXT) (sym g) (is_text (Some v)))
-text_told k es t ts g = told_bad {ks = Text None ∷ []} TEXT es (t ∷ ts) refl refl (record { is = ap (one_of (Text None ∷ [])) g })
+name_read : (n : ℕ) (es : List Place) (k : List ℕ → Act es Deployment) (s : List Lexeme) → Low n → Told (name s) (push n NAME es k) (λ x. stack es (k x)) s
+name_read n es k [] l = nothing_read (Name [] ∷ []) n NAME es k refl refl
+name_read n es k (t ∷ ts) l = name_told t.token n es k t ts l refl
 
-text_read : (es : List Symbol) (s : List Lexeme) → Told (text s) (TEXT ∷ []) es s
-text_read es [] = nothing_read (Text None ∷ []) TEXT es refl refl
-text_read es (t ∷ ts) = text_told t.token es t ts refl
+pub named : (n : ℕ) (es : List Place) (k : List ℕ → Act es Deployment) → Low n → Sound name (stack (place n NAME ∷ es) k) (λ x. stack es (k x))
+named n es k l = record { told = λ s. name_read n es k s l }
 
-pub texted : (es : List Symbol) → Sound text (TEXT ∷ []) es
-texted es = record { told = text_read es }
+-- ---- a token that breaks a limit
 
-number_told : (least most : ℕ) (k : Token) (es : List Symbol) (t : Lexeme) (ts : List Lexeme) → t.token ≡ k → Told (number_of least most k (t ∷ ts) ts) (INT ∷ []) es (t ∷ ts)
-number_told least most (Number None) es t ts g = λ e. absurd (cc)
-number_told least most (Number (Some n)) es t ts g =
-    told_if (nat_le least n && nat_le n most) (got n ts) (refuse OfNumber (t ∷ ts)) (INT ∷ []) es (t ∷ ts) (λ i. one INT es t ts (subst (IsToken INT) (sym g) (is_int (Some n)))) (λ i e. absurd (cc))
-number_told least most k es t ts g = told_bad {ks = Number None ∷ []} INT es (t ∷ ts) refl refl (record { is = ap (one_of (Number None ∷ [])) g })
+pub token_mark : (n : ℕ) (a : Symbol) (es : List Place) (k : Of a → Act es Deployment) (u : Marked) (v : List Marked) (y : Deployment) → rules n a ≡ [] → Gives (place n a ∷ es) k (u ∷ v) y → u.breaks ≡ limit n a u.lexeme.token
+token_mark n a es k u v y e (token _ _ _ _ _ x _ _ i m d) = m
+token_mark n a es k u v y e (phrase _ _ r _ _ _ _ o d) = absurd (subst (OneOf r) e o)
 
-number_read : (least most : ℕ) (es : List Symbol) (s : List Lexeme) → Told (number least most s) (INT ∷ []) es s
-number_read least most es [] = nothing_read (Number None ∷ []) INT es refl refl
-number_read least most es (t ∷ ts) = number_told least most t.token es t ts refl
+broken : (n : ℕ) (a : Symbol) (es : List Place) (k : Of a → Act es Deployment) (t : Lexeme) (x : Of a) (s : List Lexeme) (what : What) → rules n a ≡ [] → IsToken a t x → limit n a t.token ≡ Some what → Broken (push n a es k) (t ∷ s) what
+broken n a es k t x s what e i l = record {
+  first = t;
+  rest = s;
+  more = (fills es (k x)).us;
+  code = (fills es (k x)).code;
+  all = refl;
+  goes = token n a es k (marked (Some what) t) x (fills es (k x)).us (fills es (k x)).code i (sym l) (fills es (k x)).yields;
+  sure = λ m v y d. token_mark n a es k (marked m t) v y e d ∙ l;
+}
 
-pub numbered : (least most : ℕ) (es : List Symbol) → Sound (number least most) (INT ∷ []) es
-numbered least most es = record { told = number_read least most es }
+too_large : (n : ℕ) (t : Token) → Low n → t ≡ Text None → limit n TEXT t ≡ Some TooLarge
+too_large n t l e = ap (limit n TEXT) e ∙ ap (λ b. if not b then Some TooDeep else Some TooLarge) l
+
+text_told : (c : Token) (n : ℕ) (es : List Place) (k : List ℕ → Act es Deployment) (t : Lexeme) (ts : List Lexeme) → Low n → t.token ≡ c → Told (text_of c (t ∷ ts) ts) (push n TEXT es k) (λ x. stack es (k x)) (t ∷ ts)
+text_told (Text None) n es k t ts l g = halted (push n TEXT es k) (t ∷ ts) TooLarge (broken n TEXT es k t [] ts TooLarge refl (inr g) (too_large n t.token l g))
+text_told (Text (Some v)) n es k t ts l g = one n TEXT es k t v ts (inl g) (free n TEXT t.token refl l (ap is_long g))
+text_told c n es k t ts l g = told_bad {ks = Text None ∷ []} n TEXT es k (t ∷ ts) refl refl (record { is = ap (one_of (Text None ∷ [])) g })
+
+text_read : (n : ℕ) (es : List Place) (k : List ℕ → Act es Deployment) (s : List Lexeme) → Low n → Told (text s) (push n TEXT es k) (λ x. stack es (k x)) s
+text_read n es k [] l = nothing_read (Text None ∷ []) n TEXT es k refl refl
+text_read n es k (t ∷ ts) l = text_told t.token n es k t ts l refl
+
+pub texted : (n : ℕ) (es : List Place) (k : List ℕ → Act es Deployment) → Low n → Sound text (stack (place n TEXT ∷ es) k) (λ x. stack es (k x))
+texted n es k l = record { told = λ s. text_read n es k s l }
+
+outside : (n least most : ℕ) (t : Token) (m : Option ℕ) → t ≡ Number m → in_range least most m ≡ false → limit n (INT least most) t ≡ Some OfNumber
+outside n least most t m e h = ap (limit n (INT least most)) e ∙ ap (λ b. if not b then Some OfNumber else if not (nat_le n 64) then Some TooDeep else None) h
+
+inside : (n least most : ℕ) (t : Token) (m : ℕ) → Low n → t ≡ Number (Some m) → in_range least most (Some m) ≡ true → limit n (INT least most) t ≡ None
+inside n least most t m l e h = free n (INT least most) t (ap (is_outside (INT least most)) e ∙ ap not h) l (ap is_long e)
+
+number_told : (least most : ℕ) (c : Token) (n : ℕ) (es : List Place) (k : ℕ → Act es Deployment) (t : Lexeme) (ts : List Lexeme) → Low n → t.token ≡ c → Told (number_of least most c (t ∷ ts) ts) (push n (INT least most) es k) (λ x. stack es (k x)) (t ∷ ts)
+number_told least most (Number None) n es k t ts l g = halted (push n (INT least most) es k) (t ∷ ts) OfNumber (broken n (INT least most) es k t 0 ts OfNumber refl (inr g) (outside n least most t.token None g refl))
+number_told least most (Number (Some m)) n es k t ts l g =
+    told_if (nat_le least m && nat_le m most) (got m ts) (refuse OfNumber (t ∷ ts)) (push n (INT least most) es k) (λ x. stack es (k x)) (t ∷ ts)
+    (λ i. one n (INT least most) es k t m ts (inl g) (inside n least most t.token m l g i))
+    (λ i. halted (push n (INT least most) es k) (t ∷ ts) OfNumber (broken n (INT least most) es k t m ts OfNumber refl (inl g) (outside n least most t.token (Some m) g i)))
+number_told least most c n es k t ts l g = told_bad {ks = Number None ∷ []} n (INT least most) es k (t ∷ ts) refl refl (record { is = ap (one_of (Number None ∷ [])) g })
+
+number_read : (least most : ℕ) (n : ℕ) (es : List Place) (k : ℕ → Act es Deployment) (s : List Lexeme) → Low n → Told (number least most s) (push n (INT least most) es k) (λ x. stack es (k x)) s
+number_read least most n es k [] l = nothing_read (Number None ∷ []) n (INT least most) es k refl refl
+number_read least most n es k (t ∷ ts) l = number_told least most t.token n es k t ts l refl
+
+pub numbered : (least most : ℕ) (n : ℕ) (es : List Place) (k : ℕ → Act es Deployment) → Low n → Sound (number least most) (stack (place n (INT least most) ∷ es) k) (λ x. stack es (k x))
+numbered least most n es k l = record { told = λ s. number_read least most n es k s l }
 
 -- ---- choices
 
--- a phrase for a symbol, where the next token is of none of these kinds
-pub record Else {A : Type 0} (ks : List Token) (p : List Lexeme → Read A) (a : Symbol) (es : List Symbol) : Type 0 where
-  pub told : (s : List Lexeme) → NoneOf ks s → Told (p s) (a ∷ []) es s
+-- fewer tokens are left
+abbrev pub Eaten : {A : Type 0} → Read A → List Lexeme → Type 0
+Eaten (got x r) s = length r < length s
+Eaten (bad line what) s = Unit {0}
+
+pub shorter : (w : List ℕ) (s : List Lexeme) → next_is w s ≡ true → length (after_first s) < length s
+shorter w [] i = absurd (cc)
+shorter w (t ∷ ts) i = omega arith
+
+pub fewer : {A : Type 0} (q : Read A) (f : Stack) (g : A → Stack) (s : List Lexeme) → length (after_first s) < length s → Told q f g (after_first s) → Eaten q s
+fewer (got x r) f g s l h = let e = kept f (g x) (after_first s) r h in omega (arith, e, l)
+fewer (bad line what) f g s l h = tt
+
+-- a phrase for a symbol, where the next token stands in this line and is of none of these kinds; it takes tokens, if so asked
+pub record Else {A : Type 0} (eats : Bool) (line : ℕ) (ks : List Token) (p : List Lexeme → Read A) (f : Stack) (g : A → Stack) : Type 0 where
+  pub told : (s : List Lexeme) → line_of s ≡ line → NoneOf ks s → Told (p s) f g s
+  pub eaten : (s : List Lexeme) → eats ≡ true → Eaten (p s) s
 
 -- what a sign decides, or something else
-pub chosen : {A : Type 0} (ks : List Token) (w : List ℕ) (p q : List Lexeme → Read A) (a : Symbol) (bs es : List Symbol) → select (rules a) (Sign w) ≡ bs ∷ [] → (nullable a && starts es (Sign w)) ≡ false
-    → ((s : List Lexeme) → next_is w s ≡ true → Told (p s) bs es s) → Else (Sign w ∷ ks) q a es → Else ks (λ s. if next_is w s then p s else q s) a es
-chosen ks w p q a bs es e f g k = record { told = λ s n. told_if (next_is w s) (p s) (q s) (a ∷ []) es s (λ i. told_by (p s) a bs es s (selected_rule a (Sign w) bs e) (by_sign w a bs es s i e f) (g s i)) (λ i. k.told s (also_not w ks s i n)) }
+pub chosen : {A : Type 0} {p q : List Lexeme → Read A} {h : A → Stack} (line : ℕ) (ks : List Token) (w : List ℕ) (n : ℕ) (a : Symbol) (r : Rule (Of a)) (es : List Place) (k : Of a → Act es Deployment) → select (rules n a) (Sign w) ≡ r ∷ [] → (nullable a && starts es (Sign w)) ≡ false
+    → ((s : List Lexeme) → next_is w s ≡ true → line_of s ≡ line → Told (p s) (opened a r es k) h s) → Else false line (Sign w ∷ ks) q (push n a es k) h → Else false line ks (λ s. if next_is w s then p s else q s) (push n a es k) h
+chosen {p = p} {q = q} {h = h} line ks w n a r es k e f g c = record {
+  told = λ s l z. told_if (next_is w s) (p s) (q s) (push n a es k) h s (λ i. told_by (p s) (push n a es k) (opened a r es k) h s (by_sign w n a r es k s i e f) (g s i l)) (λ i. c.told s l (also_not w ks s i z));
+  eaten = λ s t. absurd (cc);
+}
 
--- after a sign
-pub told_after : {A : Type 0} (w : List ℕ) (p : List Lexeme → Read A) (bs es : List Symbol) (s : List Lexeme) → Sound p bs es → next_is w s ≡ true → Told (p (after_first s)) (word w ∷ bs) es s
-told_after w p bs es s h i = told_on (p (after_first s)) (word w ∷ []) bs es s (after_first s) (first_took w (bs ++ es) s i) (h.told (after_first s))
+-- over the sign that decides
+pub sign_run : (w : List ℕ) (n : ℕ) (a : Symbol) (bs : List Place) (m : ℕ → Act bs (Of a)) (es : List Place) (k : Of a → Act es Deployment) (s : List Lexeme) → Low n → select (rules n a) (Sign w) ≡ by (place n (word w) ∷ bs) m ∷ [] → (nullable a && starts es (Sign w)) ≡ false
+    → next_is w s ≡ true → Run (push n a es k) s (opened a (by bs (m (line_of s))) es k) (after_first s)
+sign_run w n a bs m es k s l e f i =
+    let r : Rule (Of a) = by (place n (word w) ∷ bs) m in
+    went (push n a es k) (opened a r es k) s (opened a (by bs (m (line_of s))) es k) (after_first s) (by_sign w n a r es k s i e f) (first_took w n (bs ++ es) (means Deployment r es k) s l i)
+
+eaten_if : {A : Type 0} (b : Bool) (q r : Read A) (s : List Lexeme) → (b ≡ true → Eaten q s) → (b ≡ false → Eaten r s) → Eaten (if b then q else r) s
+eaten_if true q r s d e = d refl
+eaten_if false q r s d e = e refl
 
 -- a sign and what follows it, or something else
-pub choice : {A : Type 0} (ks : List Token) (w : List ℕ) (p q : List Lexeme → Read A) (a : Symbol) (bs es : List Symbol) → select (rules a) (Sign w) ≡ (word w ∷ bs) ∷ [] → (nullable a && starts es (Sign w)) ≡ false
-    → Sound p bs es → Else (Sign w ∷ ks) q a es → Else ks (λ s. if next_is w s then p (after_first s) else q s) a es
-choice ks w p q a bs es e f h k = chosen ks w (λ s. p (after_first s)) q a (word w ∷ bs) es e f (λ s i. told_after w p bs es s h i) k
+pub choice : {A : Type 0} {p q : List Lexeme → Read A} {h : A → Stack} {eats : Bool} (line : ℕ) (ks : List Token) (w : List ℕ) (n : ℕ) (a : Symbol) (bs : List Place) (m : ℕ → Act bs (Of a)) (es : List Place) (k : Of a → Act es Deployment) → Low n → select (rules n a) (Sign w) ≡ by (place n (word w) ∷ bs) m ∷ [] → (nullable a && starts es (Sign w)) ≡ false
+    → Sound p (opened a (by bs (m line)) es k) h → Else eats line (Sign w ∷ ks) q (push n a es k) h → Else eats line ks (λ s. if next_is w s then p (after_first s) else q s) (push n a es k) h
+choice {p = p} {q = q} {h = h} line ks w n a bs m es k l e f d c =
+    record {
+      told = λ s j z. told_if (next_is w s) (p (after_first s)) (q s) (push n a es k) h s
+          (λ i. told_on (p (after_first s)) (push n a es k) (opened a (by bs (m (line_of s))) es k) h s (after_first s) (sign_run w n a bs m es k s l e f i) ((subst (λ x. Sound p (opened a (by bs (m x)) es k) h) (sym j) d).told (after_first s)))
+          (λ i. c.told s j (also_not w ks s i z));
+      eaten = λ s t. eaten_if (next_is w s) (p (after_first s)) (q s) s (λ i. fewer (p (after_first s)) (opened a (by bs (m line)) es k) h s (shorter w s i) (d.told (after_first s))) (λ i. c.eaten s t);
+    }
 
-pub whole : {A : Type 0} (p : List Lexeme → Read A) (a : Symbol) (es : List Symbol) → Else [] p a es → Sound p (a ∷ []) es
-whole p a es h = record { told = λ s. h.told s (nothing_of s) }
+pub whole : {A : Type 0} {p : List Lexeme → Read A} {f : Stack} {g : A → Stack} (eats : Bool) → ((line : ℕ) → Else eats line [] p f g) → Sound p f g
+whole eats h = record { told = λ s. (h (line_of s)).told s refl (nothing_of s) }
 
-pub else_refused : {A : Type 0} {ks : List Token} (a : Symbol) (es : List Symbol) → nullable a ≡ false → among (firsts a) ks ≡ true → Else {A = A} ks (refuse Syntax) a es
-else_refused a es n f = record { told = λ s h. told_bad a es s n f h }
+pub else_refused : {A : Type 0} {ks : List Token} {g : A → Stack} {eats : Bool} (line n : ℕ) (a : Symbol) (es : List Place) (k : Of a → Act es Deployment) → nullable a ≡ false → among (firsts a) ks ≡ true → Else {A = A} eats line ks (refuse Syntax) (push n a es k) g
+else_refused {ks = ks} line n a es k z f = record { told = λ s l h. told_bad {ks = ks} n a es k s z f h; eaten = λ s t. tt }
 
--- nothing of it
-pub left_off : (a : Symbol) (es : List Symbol) (s : List Lexeme) → nullable a ≡ true → Decided a [] es s → Passed (a ∷ []) es s s
-left_off a es s n d = by_rule_before a [] [] es s s (no_symbols a n) d (none es s s refl)
-
-pub else_given : {A : Type 0} {ks : List Token} (x : A) (a : Symbol) (es : List Symbol) → nullable a ≡ true → among (firsts a) ks ≡ true → Else ks (give x) a es
-else_given x a es n f = record { told = λ s h. left_off a es s n (skips a es s f h) }
+pub else_given : {A : Type 0} {ks : List Token} {g : A → Stack} (x : A) (line n : ℕ) (a : Symbol) (z : Of a) (es : List Place) (k : Of a → Act es Deployment) → choose leaves_out (rules n a) ≡ by [] z ∷ [] → among (firsts a) ks ≡ true
+    → stack es (k z) ≡ g x → Else false line ks (give x) (push n a es k) g
+else_given {ks = ks} {g = g} x line n a z es k e f c = record {
+  told = λ s l h. subst (λ j. Run (push n a es k) s j s) c (went (push n a es k) (stack es (k z)) s (stack es (k z)) s (skips {ks = ks} n a z es k s e f h) (here (stack es (k z)) s));
+  eaten = λ s t. absurd (cc);
+}
 
 pub some_same : {A : Type 0} (x y : A) → Some x ≡ Some y → x ≡ y
 some_same x y e = cc
@@ -437,43 +386,37 @@ some_same x y e = cc
 -- ---- repetitions
 
 -- one turn of a repetition
-pub record Turn {A : Type 0} (a : Symbol) (es : List Symbol) (s : List Lexeme) (q : Read A) : Type 0 where
-  pub cs : List Symbol
-  pub rule : OneOf (cs ++ a ∷ []) (rules a)
-  pub decided : Decided a (cs ++ a ∷ []) es s
-  pub some : vanishes cs ≡ false
-  pub told : Told q cs (a ∷ es) s
+pub record Turn {A : Type 0} (f : A → Stack) (x : A) (s : List Lexeme) (q : Read A) : Type 0 where
+  pub told : Told q (f x) f s
+  pub eaten : Eaten q s
 
-pub record Turns {A : Type 0} (step : A → List Lexeme → Option (Read A)) (a : Symbol) (es : List Symbol) : Type 0 where
-  pub on : (x : A) (s : List Lexeme) (q : Read A) → step x s ≡ Some q → Turn a es s q
-  pub ends : (x : A) (s : List Lexeme) → step x s ≡ None → Decided a [] es s
+-- what was read so far is the stack's; at the end it is the whole
+pub record Turns {A : Type 0} (step : A → List Lexeme → Option (Read A)) (f g : A → Stack) : Type 0 where
+  pub on : (x : A) (s : List Lexeme) (q : Read A) → step x s ≡ Some q → Turn f x s q
+  pub ends : (x : A) (s : List Lexeme) → step x s ≡ None → Step (f x) (g x) s
+  pub over : (x : A) → Step (f x) (g x) []
 
-length_both : (ts r : List Lexeme) → length (ts ++ r) ≡ length ts + length r
-length_both [] r = omega arith
-length_both (t ∷ ts) r = let e = length_both ts r in omega (arith, e)
+told_again : {A : Type 0} (q : Read A) (p : A → List Lexeme → Read A) (j : Stack) (f g : A → Stack) (s : List Lexeme) → Told q j f s → Eaten q s → ((x : A) (r : List Lexeme) → length r < length s → Told (p x r) (f x) g r) → Told (after q p) j g s
+told_again (got x r) p j f g s h e k = told_on (p x r) j (f x) g s r h (k x r e)
+told_again (bad line what) p j f g s h e k = h
 
-longer : (cs : List Symbol) (ts s r : List Lexeme) → Yields cs (tokens_in ts) → vanishes cs ≡ false → s ≡ ts ++ r → length r < length s
-longer cs [] s r y n e = never_both (vanishes cs) (begun cs [] y) n
-longer cs (t ∷ ts) s r y n e = let f = ap length e in let g = length_both ts r in omega (arith, f, g)
+pub stays : (f g : Stack) (s : List Lexeme) → Step f g s → Run f s g s
+stays f g s d = went f g s g s d (here g s)
 
-told_again : {A : Type 0} (q : Read A) (f : A → List Lexeme → Read A) (cs ds es : List Symbol) (s : List Lexeme) → vanishes cs ≡ false → Told q cs (ds ++ es) s → ((x : A) (r : List Lexeme) → length r < length s → Told (f x r) ds es r) → Told (after q f) (cs ++ ds) es s
-told_again (got x r) f cs ds es s n h k = told_on (f x r) cs ds es s r h (k x r (longer cs h.ts s r h.yields n h.all))
-told_again (bad line what) f cs ds es s n h k = λ e. stuck_first cs ds es s line (h e)
+looped_on : {A : Type 0} (step : A → List Lexeme → Option (Read A)) (f g : A → Stack) → Turns step f g → (n : ℕ) → ((x : A) (s : List Lexeme) → length s ≤ n → Told (repeated n step x s) (f x) g s)
+    → (x : A) (s : List Lexeme) → length s ≤ suc n → (o : Option (Read A)) → step x s ≡ o → Told (go_on (repeated n step) o x s) (f x) g s
+looped_on step f g h n again x s l None e = stays (f x) (g x) s (h.ends x s e)
+looped_on step f g h n again x s l (Some q) e =
+    let t = h.on x s q e in
+    told_again q (repeated n step) (f x) f g s t.told t.eaten (λ y r m. again y r (omega (arith, l, m)))
 
-looped_on : {A : Type 0} (step : A → List Lexeme → Option (Read A)) (a : Symbol) (es : List Symbol) → nullable a ≡ true → Turns step a es → (n : ℕ) → ((x : A) (s : List Lexeme) → length s ≤ n → Told (repeated n step x s) (a ∷ []) es s)
-    → (x : A) (s : List Lexeme) → length s ≤ suc n → (o : Option (Read A)) → step x s ≡ o → Told (go_on (repeated n step) o x s) (a ∷ []) es s
-looped_on step a es z h n again x s l None g = left_off a es s z (h.ends x s g)
-looped_on step a es z h n again x s l (Some q) g =
-    let t = h.on x s q g in
-    told_by (after q (repeated n step)) a (t.cs ++ a ∷ []) es s t.rule t.decided (told_again q (repeated n step) t.cs (a ∷ []) es s t.some t.told (λ y r m. again y r (omega (arith, l, m))))
+looped : {A : Type 0} (step : A → List Lexeme → Option (Read A)) (f g : A → Stack) → Turns step f g → (n : ℕ) (x : A) (s : List Lexeme) → length s ≤ n → Told (repeated n step x s) (f x) g s
+looped step f g h zero x [] l = stays (f x) (g x) [] (h.over x)
+looped step f g h zero x (t ∷ ts) l = absurd (omega (arith, l))
+looped step f g h (suc n) x s l = looped_on step f g h n (looped step f g h n) x s l (step x s) refl
 
-looped : {A : Type 0} (step : A → List Lexeme → Option (Read A)) (a : Symbol) (es : List Symbol) → nullable a ≡ true → Turns step a es → (n : ℕ) (x : A) (s : List Lexeme) → length s ≤ n → Told (repeated n step x s) (a ∷ []) es s
-looped step a es z h zero x [] l = left_off a es [] z (skips_end a es)
-looped step a es z h zero x (t ∷ ts) l = absurd (omega (arith, l))
-looped step a es z h (suc n) x s l = looped_on step a es z h n (looped step a es z h n) x s l (step x s) refl
-
-pub repeats : {A : Type 0} (step : A → List Lexeme → Option (Read A)) (a : Symbol) (es : List Symbol) → nullable a ≡ true → Turns step a es → (x : A) → Sound (λ s. repeated (length s) step x s) (a ∷ []) es
-repeats step a es z h x = record { told = λ s. looped step a es z h (length s) x s (omega arith) }
+pub repeats : {A : Type 0} {step : A → List Lexeme → Option (Read A)} {f g : A → Stack} → Turns step f g → (x : A) → Sound (λ s. repeated (length s) step x s) (f x) g
+repeats {step = step} {f = f} {g = g} h x = record { told = λ s. looped step f g h (length s) x s (omega arith) }
 
 -- ---- steps after a sign
 
@@ -485,20 +428,61 @@ pub is_off : {B : Type 0} (b : Bool) (x : B) → (if b then Some x else None) �
 is_off true x e = absurd (cc)
 is_off false x e = refl
 
--- a sign and one more of a list, as the rule has it
-pub guarded_as : {A : Type 0} (w : List ℕ) (p : List Lexeme → List Lexeme → Read A) (a : Symbol) (bs cs es : List Symbol) → select (rules a) (Sign w) ≡ (cs ++ a ∷ []) ∷ [] → among (firsts a) (Sign w ∷ []) ≡ true → (nullable a && starts es (Sign w)) ≡ false → vanishes cs ≡ false
-    → ((s : List Lexeme) (q : Read (List A)) → Told q (word w ∷ bs) (a ∷ es) s → Told q cs (a ∷ es) s) → ((s : List Lexeme) → Sound (p s) bs (a ∷ es)) → Turns (λ xs s. if next_is w s then Some (after (p s (after_first s)) (λ y. give (xs ++ y ∷ []))) else None) a es
-guarded_as w p a bs cs es e f g n to h = record {
-  on = λ xs s q d. let i = is_on (next_is w s) (after (p s (after_first s)) (λ y. give (xs ++ y ∷ []))) q d in record {
-    cs = cs;
-    rule = selected_rule a (Sign w) (cs ++ a ∷ []) e;
-    decided = by_sign w a (cs ++ a ∷ []) es s i.0 e g;
-    some = n;
-    told = subst (λ o. Told o cs (a ∷ es) s) i.1 (to s (after (p s (after_first s)) (λ y. give (xs ++ y ∷ []))) (told_after w (p s >>= λ y. give (xs ++ y ∷ [])) bs (a ∷ es) s (made (p s) (λ y. xs ++ y ∷ []) bs (a ∷ es) (h s)) i.0));
-  };
-  ends = λ xs s d. skips a es s f (also_not w [] s (is_off (next_is w s) (after (p s (after_first s)) (λ y. give (xs ++ y ∷ []))) d) (nothing_of s));
+-- ---- lists
+
+append_nil : {A : Type 0} (xs : List A) → xs ++ [] ≡ xs
+append_nil [] = refl
+append_nil (x ∷ xs) = ap (λ ys. x ∷ ys) (append_nil xs)
+
+-- from a stack over a sign, and on by a phrase
+pub record Leads {A : Type 0} (f : Stack) (p : List Lexeme → Read A) (g : A → Stack) (s : List Lexeme) : Type 0 where
+  pub mid : Stack
+  pub less : length (after_first s) < length s
+  pub run : Run f s mid (after_first s)
+  pub sound : Sound p mid g
+
+-- a sign and one more of a list; the lists of a symbol are its items and what follows them
+pub guarded : {A : Type 0} (w : List ℕ) (p : List Lexeme → List Lexeme → Read A) (f g : List A → Stack)
+    → ((xs : List A) (s : List Lexeme) → next_is w s ≡ true → Leads (f xs) (p s) (λ y. f (xs ++ y ∷ [])) s) → ((xs : List A) (s : List Lexeme) → next_is w s ≡ false → Step (f xs) (g xs) s) → ((xs : List A) → Step (f xs) (g xs) [])
+    → Turns (λ xs s. if next_is w s then Some (after (p s (after_first s)) (λ y. give (xs ++ y ∷ []))) else None) f g
+guarded w p f g h e o = record {
+  on = λ xs s q d. let i = is_on (next_is w s) (after (p s (after_first s)) (λ y. give (xs ++ y ∷ []))) q d in
+      let l = h xs s i.0 in
+      let t : Told (after (p s (after_first s)) (λ y. give (xs ++ y ∷ []))) l.mid f (after_first s) = told_made (p s (after_first s)) (λ y. xs ++ y ∷ []) l.mid f (after_first s) (l.sound.told (after_first s)) in
+      let u : Told q l.mid f (after_first s) = subst (λ r. Told r l.mid f (after_first s)) i.1 t in
+      record { told = told_on q (f xs) l.mid f s (after_first s) l.run u; eaten = fewer q l.mid f s l.less u };
+  ends = λ xs s d. e xs s (is_off (next_is w s) (after (p s (after_first s)) (λ y. give (xs ++ y ∷ []))) d);
+  over = o;
 }
 
-pub guarded : {A : Type 0} (w : List ℕ) (p : List Lexeme → List Lexeme → Read A) (a : Symbol) (bs es : List Symbol) → select (rules a) (Sign w) ≡ (word w ∷ bs ++ a ∷ []) ∷ [] → among (firsts a) (Sign w ∷ []) ≡ true → (nullable a && starts es (Sign w)) ≡ false
-    → ((s : List Lexeme) → Sound (p s) bs (a ∷ es)) → Turns (λ xs s. if next_is w s then Some (after (p s (after_first s)) (λ y. give (xs ++ y ∷ []))) else None) a es
-guarded w p a bs es e f g h = guarded_as w p a bs (word w ∷ bs) es e f g refl (λ s q k. k) h
+-- what is made of a list that goes on with what stands for a symbol
+abbrev pub onwards : {A B : Type 0} → (List A → B) → List A → List A → B
+onwards k xs l = k (xs ++ l)
+
+pub next_one : {A B : Type 0} (k : List A → B) (xs : List A) (y : A) → (λ l. onwards k xs (y ∷ l)) ≡ onwards k (xs ++ y ∷ [])
+next_one k xs y = λ i l. k (sym (append_assoc xs (y ∷ []) l) i)
+
+pub none_more : {A B : Type 0} (k : List A → B) (xs : List A) → onwards k xs [] ≡ k xs
+none_more k xs = ap k (append_nil xs)
+
+-- over a sign that decides, and on
+pub leads : {A : Type 0} {p : List Lexeme → Read A} {g : A → Stack} (w : List ℕ) (n : ℕ) (a : Symbol) (bs : List Place) (m : ℕ → Act bs (Of a)) (es : List Place) (k : Of a → Act es Deployment) (s : List Lexeme) → Low n → select (rules n a) (Sign w) ≡ by (place n (word w) ∷ bs) m ∷ [] → (nullable a && starts es (Sign w)) ≡ false
+    → next_is w s ≡ true → Sound p (opened a (by bs (m (line_of s))) es k) g → Leads (push n a es k) p g s
+leads w n a bs m es k s l e f i d = record { mid = opened a (by bs (m (line_of s))) es k; less = shorter w s i; run = sign_run w n a bs m es k s l e f i; sound = d }
+
+-- a token within its limits stands for one thing
+pub one_value : (n : ℕ) (a : Symbol) (t : Lexeme) (x z : Of a) → IsToken a t x → IsToken a t z → limit n a t.token ≡ None → x ≡ z
+one_value n (word w) t x z i j l = i.1 ∙ sym j.1
+one_value n NAME t x z i j l = let e : Name x ≡ Name z = sym i ∙ j in cc
+one_value n (INT least most) t x z (inl i) (inl j) l = let e : Number (Some x) ≡ Number (Some z) = sym i ∙ j in cc
+one_value n (INT least most) t x z (inl i) (inr j) l = absurd (let e : Number (Some x) ≡ Number None = sym i ∙ j in cc)
+one_value n (INT least most) t x z (inr i) j l = absurd (let e : Some OfNumber ≡ None = sym (outside n least most t.token None i refl) ∙ l in cc)
+one_value n TEXT t x z (inl i) (inl j) l = let e : Text (Some x) ≡ Text (Some z) = sym i ∙ j in cc
+one_value n TEXT t x z (inl i) (inr j) l = absurd (let e : Text (Some x) ≡ Text None = sym i ∙ j in cc)
+one_value n TEXT t x z (inr i) j l = absurd (long_breaks n (nat_le n 64) (sym (ap (limit n TEXT) i) ∙ l))
+  where
+    long_breaks : (n : ℕ) (b : Bool) → (if not b then Some TooDeep else Some TooLarge) ≡ None → ⊥
+    long_breaks n true e = cc
+    long_breaks n false e = cc
+one_value n END t x z i j l = i.1 ∙ sym j.1
+one_value n a t x z i j l = absurd i

@@ -1,33 +1,33 @@
 -- Expressions are read as the grammar has them.
-use Rattle.std.proofs.Common.{◌≡◌, ℕ, zero, suc, Bool, true, false, ◌&&◌, List, [], ◌∷◌, Option, Some, None, refl, ap, sym, subst, inl, inr, codes, if◌then◌else◌}
+use Rattle.std.proofs.Common.{◌≡◌, ℕ, zero, suc, ◌+◌, ◌-◌, ◌^◌, ◌<◌, Bool, true, false, ◌&&◌, ◌||◌, List, [], ◌∷◌, ◌++◌, Option, Some, None, refl, ap, sym, subst, ◌∙◌, arith, inl, inr, codes, if◌then◌else◌}
+use Rattle.std.specs.Prelude.{pos, option_map}
+use Rattle.std.specs.List.{list_any}
+use Rattle.beldi_value.specs.declared.rel.Rel.{Rel}
+use Rattle.beldi_value.specs.declared.rel.Rel.TheVariants.{Eq, Ne, Lt, Le, Gt, Ge}
+use Rattle.beldi_tree.specs.declared.deployment.Deployment.{Deployment}
+use Rattle.beldi_tree.specs.declared.deployment.Op.TheVariants.{Add, Sub, Join, Mul, Div, Rem}
+use Rattle.beldi_tree.specs.Term.{Term, int, text as text_term, boolean, null, name as name_term, or, and, not as not_term, negate as negate_term, compare, binary, field, element, list, fields, len, text_of as json_of, push as push_term, with, items_of, members_of}
+use Rattle.beldi_syntax.specs.declared.refusal.What.{What}
+use Rattle.beldi_syntax.specs.declared.refusal.What.TheVariants.{Syntax, Number as OfNumber, TooDeep}
 use Rattle.beldi_syntax.specs.declared.token.Lexeme.{Lexeme}
 use Rattle.beldi_syntax.specs.declared.token.Token.{Token}
 use Rattle.beldi_syntax.specs.declared.token.Token.TheVariants.{Sign, Name, Number, Text}
-use Rattle.beldi_syntax.specs.declared.refusal.What.TheVariants.{Syntax, Number as OfNumber, TooDeep}
-use Rattle.beldi_syntax.specs.Phrase.{is_past_numbers, is_name as is_a_name, is_text as is_a_text, is_number as is_a_number, number_of, refuse, Read, got, after, ◌>>=◌, give, go_on, is_sign, next_is, after_first, take, name, text, number, name_token, text_token, number_token}
-use Rattle.std.specs.Prelude.{option_map}
-use Rattle.beldi_value.specs.declared.rel.Rel.{Rel}
-use Rattle.beldi_value.specs.declared.rel.Rel.TheVariants.{Eq, Ne, Lt, Le, Gt, Ge}
-use Rattle.beldi_tree.specs.declared.deployment.Op.TheVariants.{Add, Sub, Join, Mul, Div, Rem}
-use Rattle.std.specs.Prelude.{◌^◌, ◌-◌, pos}
-use Rattle.beldi_tree.specs.Term.{Term, int, text as text_term, boolean, null, name as name_term, not as not_term, negate as negate_term, field, element, list, fields, len, text_of as json_of, push, with, items_of, members_of}
 use Rattle.beldi_syntax.specs.declared.operators.Level.{Level}
 use Rattle.beldi_syntax.specs.declared.operators.Level.TheVariants.{Disjunction, Conjunction, Relation, Sum, Product}
 use Rattle.beldi_syntax.specs.declared.operators.Operator.{Operator}
 use Rattle.beldi_syntax.specs.declared.operators.Operator.TheVariants.{Or, And, Compare, Binary}
-use Rattle.beldi_syntax.specs.Operators.{relation_at, sum_at, product_at, operator_at, joined}
+use Rattle.beldi_syntax.specs.Phrase.{past_token, is_past_numbers, is_name as is_a_name, is_text as is_a_text, is_number as is_a_number, number_of, refuse, Read, got, after, ◌>>=◌, give, go_on, is_sign, next_is, after_first, take, name, text, number, name_token, text_token, number_token}
+use Rattle.beldi_syntax.specs.Operators.{relation_at, sum_at, product_at, operator_at, joined, turns}
+use Rattle.std.proofs.lemmas.Bool.{le-leb}
 use Rattle.beldi_syntax.specs.Expressions.{prefixed, join as join_step, join_of, chain, listed, more, next_item, part, argument, member as read_member, push_of, with_of, literal, call, bracketed, atom as read_atom, field_of, element_of, next_suffix, post as read_post, unary as read_unary, product, sum as read_sum, negation, conjunction, begins_expr, expr_at}
-use Rattle.std.specs.List.{list_any}
-use Rattle.std.specs.Prelude.{◌||◌}
-use Rattle.beldi_syntax.specs.Grammar.{post, post_tail, Symbol, word, NAME, INT, TEXT, REL, expr, or_tail, conj, and_tail, neg, rel, rel_tail, sum, sum_tail, prod, prod_tail, unary, OneOf, rules, atom, exprs, more_exprs, member, members, more_members, Yields}
-use Rattle.beldi_syntax.proofs.Lookahead.{among, is_empty, first_rule, second_rule, selected_rule, one_of, firsts, nullable, starts, select, first_of_two, second_of_two, avoids, listed_in, avoided, avoids_rest}
-use Rattle.beldi_syntax.proofs.Sound.{Passed, Told, Sound, Decided, by_rule_before, told_on, seq, given, told_made, made, told_by_before, told_by, ruled, told_if, NoneOf, nothing_of, also_not, skips, by_next, by_sign, sign_skips, not_sign, first_took, told_bad, taken, named, texted, numbered, Else, chosen, told_after, choice, left_off, whole, some_same, Turn, Turns, repeats, is_off, guarded}
-
--- ---- expressions
+use Rattle.beldi_syntax.specs.Grammar.{post, post_tail, Symbol, word, NAME, INT, TEXT, REL, expr, or_tail, conj, and_tail, neg, rel, rel_tail, sum, sum_tail, prod, prod_tail, unary, OneOf, rules, atom, exprs, more_exprs, member, members, more_members, Of, Place, place, at, Act, Rule, by, means, Marked, marked}
+use Rattle.beldi_syntax.proofs.Lookahead.{of_more, is_wide, Gives, ByRule, one_of, firsts, nullable, starts, select, sole, first_of_two, second_of_two, avoids, listed_in, avoided, avoids_rest}
+use Rattle.beldi_syntax.proofs.Deep.{begins_with, deep_first}
+use Rattle.beldi_syntax.proofs.Sound.{Stack, stack, Meets, Step, Run, went, Broken, Told, Sound, push, opened, by_rule, told_on, seq, given, told_made, made, told_by, ruled, told_if, Low, NoneOf, nothing_of, also_not, skips, skips_end, by_next, by_sign, sign_skips, not_sign, first_took, halted, told_bad, taken, named, texted, numbered, shorter, fewer, Else, chosen, sign_run, choice, whole, some_same, Turn, Turns, stays, repeats, is_off, Leads, leads, guarded, onwards, next_one, none_more}
 
 -- a phrase is this symbol, where none of these signs follows
-abbrev pub Reads : {A : Type 0} → (List Lexeme → Read A) → Symbol → List (List ℕ) → Type 0
-Reads p c ops = (es : List Symbol) → avoids ops es ≡ true → Sound p (c ∷ []) es
+abbrev pub Reads : (a : Symbol) → (List Lexeme → Read (Of a)) → ℕ → List (List ℕ) → Type 0
+Reads a p n ops = (es : List Place) (k : Of a → Act es Deployment) → avoids ops es ≡ true → Sound p (push n a es k) (λ t. stack es (k t))
 
 abbrev post_ops : List (List ℕ)
 post_ops = codes "." ∷ codes "[" ∷ []
@@ -47,38 +47,31 @@ and_ops = codes "and" ∷ relation_ops
 abbrev pub expr_ops : List (List ℕ)
 expr_ops = codes "or" ∷ and_ops
 
--- sides with operators between them
+-- ---- a sign, any number of times, before a phrase
 
-unsigned : (w : List ℕ) (a c : Symbol) (es : List Symbol) (s : List Lexeme) → rules a ≡ (word w ∷ a ∷ []) ∷ (c ∷ []) ∷ [] → next_is w s ≡ false → Decided a (c ∷ []) es s
-unsigned w a c es s e i v m y = second_of_two a (word w ∷ a ∷ []) (c ∷ []) es v e (not_sign w (a ∷ es) s i v m) y
+signed_told : (w : List ℕ) (wrap : Term → Term) (p : List Lexeme → Read Term) (es : List Place) (f : (Term → Act es Deployment) → Stack)
+    → ((k : Term → Act es Deployment) (s : List Lexeme) → next_is w s ≡ true → Run (f k) s (f (λ t. k (wrap t))) (after_first s))
+    → ((k : Term → Act es Deployment) (s : List Lexeme) → next_is w s ≡ false → Told (p s) (f k) (λ t. stack es (k t)) s)
+    → (k : Term → Act es Deployment) (s : List Lexeme) → Told (prefixed w wrap p s) (f k) (λ t. stack es (k t)) s
+signed_told w wrap p es f more last k [] = last k [] refl
+signed_told w wrap p es f more last k (t ∷ ts) = told_if (is_sign w t.token) (after (prefixed w wrap p ts) (λ y. give (wrap y))) (p (t ∷ ts)) (f k) (λ t. stack es (k t)) (t ∷ ts)
+    (λ i. told_on (after (prefixed w wrap p ts) (λ y. give (wrap y))) (f k) (f (λ t. k (wrap t))) (λ t. stack es (k t)) (t ∷ ts) ts (more k (t ∷ ts) i)
+    (told_made (prefixed w wrap p ts) wrap (f (λ t. k (wrap t))) (λ t. stack es (k t)) ts (signed_told w wrap p es f more last (λ t. k (wrap t)) ts)))
+    (λ i. last k (t ∷ ts) i)
 
--- a sign, any number of times, before a phrase
-signed_told : (w : List ℕ) (wrap : Term → Term) (p : List Lexeme → Read Term) (a c : Symbol) (es : List Symbol) → rules a ≡ (word w ∷ a ∷ []) ∷ (c ∷ []) ∷ [] → select (rules a) (Sign w) ≡ (word w ∷ a ∷ []) ∷ [] → nullable a ≡ false → Sound p (c ∷ []) es → (s : List Lexeme) → Told (prefixed w wrap p s) (a ∷ []) es s
-signed_told w wrap p a c es two sel n h [] = told_by (p []) a (c ∷ []) es [] (second_rule a (word w ∷ a ∷ []) (c ∷ []) [] two) (unsigned w a c es [] two refl) (h.told [])
-signed_told w wrap p a c es two sel n h (t ∷ ts) = told_if (is_sign w t.token) (after (prefixed w wrap p ts) (λ y. give (wrap y))) (p (t ∷ ts)) (a ∷ []) es (t ∷ ts)
-    (λ i. told_by (after (prefixed w wrap p ts) (λ y. give (wrap y))) a (word w ∷ a ∷ []) es (t ∷ ts) (selected_rule a (Sign w) (word w ∷ a ∷ []) sel) (by_sign w a (word w ∷ a ∷ []) es (t ∷ ts) i sel (ap (λ b. b && starts es (Sign w)) n))
-    (told_on (after (prefixed w wrap p ts) (λ y. give (wrap y))) (word w ∷ []) (a ∷ []) es (t ∷ ts) ts (first_took w (a ∷ es) (t ∷ ts) i) (told_made (prefixed w wrap p ts) wrap (a ∷ []) es ts (signed_told w wrap p a c es two sel n h ts))))
-    (λ i. told_by (p (t ∷ ts)) a (c ∷ []) es (t ∷ ts) (second_rule a (word w ∷ a ∷ []) (c ∷ []) [] two) (unsigned w a c es (t ∷ ts) two i) (h.told (t ∷ ts)))
+-- ---- operators
 
-signed : (w : List ℕ) (wrap : Term → Term) (p : List Lexeme → Read Term) (a c : Symbol) (es : List Symbol) → rules a ≡ (word w ∷ a ∷ []) ∷ (c ∷ []) ∷ [] → select (rules a) (Sign w) ≡ (word w ∷ a ∷ []) ∷ [] → nullable a ≡ false → Sound p (c ∷ []) es → Sound (prefixed w wrap p) (a ∷ []) es
-signed w wrap p a c es two sel n h = record { told = signed_told w wrap p a c es two sel n h }
-
-pub record OpAt (a c : Symbol) (es : List Symbol) (s : List Lexeme) : Type 0 where
-  pub w : List ℕ
-  pub rule : OneOf (word w ∷ c ∷ a ∷ []) (rules a)
-  pub next : next_is w s ≡ true
-  pub decided : Decided a (word w ∷ c ∷ a ∷ []) es s
+pub record Ops (level : Level) (p : List Lexeme → Read Term) (f g : Term → Stack) : Type 0 where
+  pub at : (t : Term) (s : List Lexeme) (o : Operator) → operator_at level s ≡ Some o → Leads (f t) p (λ u. f (joined o t u)) s
+  pub ends : (t : Term) (s : List Lexeme) → operator_at level s ≡ None → Step (f t) (g t) s
+  pub over : (t : Term) → Step (f t) (g t) []
 
 -- the first of several signs, or one of the others
-pick : {B : Type 0} (a c : Symbol) (es : List Symbol) (w : List ℕ) (s : List Lexeme) (x o : B) (y : Option B) → select (rules a) (Sign w) ≡ (word w ∷ c ∷ a ∷ []) ∷ [] → (nullable a && starts es (Sign w)) ≡ false
-    → (if next_is w s then Some x else y) ≡ Some o → (y ≡ Some o → OpAt a c es s) → OpAt a c es s
-pick a c es w s x o y sel n e f = elim (next_is w s) as (λ b. next_is w s ≡ b → (if b then Some x else y) ≡ Some o → OpAt a c es s) [
-  | true ↦ λ g d. record { w = w; rule = selected_rule a (Sign w) (word w ∷ c ∷ a ∷ []) sel; next = g; decided = by_sign w a (word w ∷ c ∷ a ∷ []) es s g sel n }
-  | false ↦ λ g d. f d
+pick : {B C : Type 0} (w : List ℕ) (s : List Lexeme) (x o : B) (y : Option B) → (if next_is w s then Some x else y) ≡ Some o → (next_is w s ≡ true → x ≡ o → C) → (y ≡ Some o → C) → C
+pick {C = C} w s x o y e f g = elim (next_is w s) as (λ b. next_is w s ≡ b → (if b then Some x else y) ≡ Some o → C) [
+  | true ↦ λ i d. f i (some_same x o d)
+  | false ↦ λ i d. g d
 ] refl e
-
-no_op : {B : Type 0} (a c : Symbol) (es : List Symbol) (s : List Lexeme) (o : B) → None ≡ Some o → OpAt a c es s
-no_op a c es s o e = absurd (cc)
 
 -- none of several signs
 unpick : {B C : Type 0} (w : List ℕ) (ks : List Token) (s : List Lexeme) (x : B) (y : Option B) → (if next_is w s then Some x else y) ≡ None → NoneOf ks s → (y ≡ None → NoneOf (Sign w ∷ ks) s → C) → C
@@ -87,115 +80,125 @@ unpick {C = C} w ks s x y e n f = elim (next_is w s) as (λ b. next_is w s ≡ b
   | false ↦ λ g d. f d (also_not w ks s g n)
 ] refl e
 
-pub record Ops (level : Level) (a c : Symbol) (es : List Symbol) : Type 0 where
-  pub at : (s : List Lexeme) (o : Operator) → operator_at level s ≡ Some o → OpAt a c es s
-  pub ends : (s : List Lexeme) → operator_at level s ≡ None → Decided a [] es s
+no_other : {B C : Type 0} (o : B) → None ≡ Some o → C
+no_other o e = absurd (cc)
 
-ors : (es : List Symbol) → avoids expr_ops es ≡ true → Ops Disjunction or_tail conj es
-ors es a = record {
-  at = λ s o e. pick or_tail conj es (codes "or") s Or o None refl (avoided expr_ops es (codes "or") refl a) e (no_op or_tail conj es s o);
-  ends = λ s e. unpick (codes "or") _ s Or None e (nothing_of s) (λ d n. skips or_tail es s refl n);
-}
-
-ands : (es : List Symbol) → avoids and_ops es ≡ true → Ops Conjunction and_tail neg es
-ands es a = record {
-  at = λ s o e. pick and_tail neg es (codes "and") s And o None refl (avoided and_ops es (codes "and") refl a) e (no_op and_tail neg es s o);
-  ends = λ s e. unpick (codes "and") _ s And None e (nothing_of s) (λ d n. skips and_tail es s refl n);
-}
-
-mapped : {B C : Type 0} (f : B → C) (x : Option B) (o : C) → option_map f x ≡ Some o → (y : B) × (x ≡ Some y)
+mapped : {B C : Type 0} (f : B → C) (x : Option B) (o : C) → option_map f x ≡ Some o → (y : B) × (x ≡ Some y) × (f y ≡ o)
 mapped f None o e = absurd (cc)
-mapped f (Some y) o e = (y, refl)
+mapped f (Some y) o e = (y, refl, some_same (f y) o e)
 
 unmapped : {B C : Type 0} (f : B → C) (x : Option B) → option_map f x ≡ None → x ≡ None
 unmapped f None e = refl
 unmapped f (Some y) e = absurd (cc)
 
-sums : (es : List Symbol) → avoids sum_ops es ≡ true → Ops Sum sum_tail prod es
-sums es a = record {
-  at = λ s o e. let m = mapped Binary (sum_at s) o e in
-      pick sum_tail prod es (codes "+") s Add m.0 _ refl (avoided sum_ops es (codes "+") refl a) m.1 (λ d.
-      pick sum_tail prod es (codes "-") s Sub m.0 _ refl (avoided sum_ops es (codes "-") refl a) d (λ d.
-      pick sum_tail prod es (codes "++") s Join m.0 None refl (avoided sum_ops es (codes "++") refl a) d (no_op sum_tail prod es s m.0)));
-  ends = λ s e.
-      unpick (codes "+") _ s Add _ (unmapped Binary (sum_at s) e) (nothing_of s) (λ d n. unpick (codes "-") _ s Sub _ d n (λ d n. unpick (codes "++") _ s Join None d n (λ d n. skips sum_tail es s refl n)));
-}
-
-products : (es : List Symbol) → avoids product_ops es ≡ true → Ops Product prod_tail unary es
-products es a = record {
-  at = λ s o e. let m = mapped Binary (product_at s) o e in
-      pick prod_tail unary es (codes "*") s Mul m.0 _ refl (avoided product_ops es (codes "*") refl a) m.1 (λ d.
-      pick prod_tail unary es (codes "/") s Div m.0 _ refl (avoided product_ops es (codes "/") refl a) d (λ d.
-      pick prod_tail unary es (codes "%") s Rem m.0 None refl (avoided product_ops es (codes "%") refl a) d (no_op prod_tail unary es s m.0)));
-  ends = λ s e.
-      unpick (codes "*") _ s Mul _ (unmapped Binary (product_at s) e) (nothing_of s) (λ d n. unpick (codes "/") _ s Div _ d n (λ d n. unpick (codes "%") _ s Rem None d n (λ d n. skips prod_tail es s refl n)));
-}
-
-side_told : (o : Option Operator) (p : List Lexeme → Read Term) (c : Symbol) (es : List Symbol) → Sound p (c ∷ []) es → (t : Term) (s : List Lexeme) (q : Read Term) → join_of p o t s ≡ Some q → Told q (c ∷ []) es (after_first s)
-side_told None p c es h t s q e = absurd (cc)
-side_told (Some o) p c es h t s q e = subst (λ r. Told r (c ∷ []) es (after_first s)) (some_same _ _ e) (told_made (p (after_first s)) (joined o t) (c ∷ []) es (after_first s) (h.told (after_first s)))
-
-some_op : (o : Option Operator) (p : List Lexeme → Read Term) (t : Term) (s : List Lexeme) (q : Read Term) → join_of p o t s ≡ Some q → (v : Operator) × (o ≡ Some v)
+some_op : (o : Option Operator) (p : List Lexeme → Read Term) (t : Term) (s : List Lexeme) (q : Read Term) → join_of p o t s ≡ Some q → (v : Operator) × (o ≡ Some v) × (after (p (after_first s)) (λ u. give (joined v t u)) ≡ q)
 some_op None p t s q e = absurd (cc)
-some_op (Some o) p t s q e = (o, refl)
+some_op (Some o) p t s q e = (o, refl, some_same _ q e)
 
 none_op : (o : Option Operator) (p : List Lexeme → Read Term) (t : Term) (s : List Lexeme) → join_of p o t s ≡ None → o ≡ None
 none_op None p t s e = refl
 none_op (Some o) p t s e = absurd (cc)
 
-joins : (level : Level) (a c : Symbol) (p : List Lexeme → Read Term) (es : List Symbol) → Ops level a c es → Sound p (c ∷ []) (a ∷ es) → Turns (join_step level p) a es
-joins level a c p es ops h = record {
-  on = λ t s q e. let v = some_op (operator_at level s) p t s q e in let f = ops.at s v.0 v.1 in record {
-    cs = word f.w ∷ c ∷ [];
-    rule = f.rule;
-    decided = f.decided;
-    some = refl;
-    told = told_on q (word f.w ∷ []) (c ∷ []) (a ∷ es) s (after_first s) (first_took f.w (c ∷ a ∷ es) s f.next) (side_told (operator_at level s) p c (a ∷ es) h t s q e);
-  };
-  ends = λ t s e. ops.ends s (none_op (operator_at level s) p t s e);
+-- over an operator and its right side
+joined_turn : (level : Level) (p : List Lexeme → Read Term) (f g h : Term → Stack) → Ops level p f g → ((t : Term) (s : List Lexeme) (q : Read Term) → join_step level p t s ≡ Some q → Turn f t s q)
+joined_turn level p f g h ops t s q e =
+    let v = some_op (operator_at level s) p t s q e in
+    let l = ops.at t s v.0 v.1 in
+    let u : Told q l.mid f (after_first s) = subst (λ r. Told r l.mid f (after_first s)) v.2 (told_made (p (after_first s)) (joined v.0 t) l.mid f (after_first s) (l.sound.told (after_first s))) in
+    record { told = told_on q (f t) l.mid f s (after_first s) l.run u; eaten = fewer q l.mid f s l.less u }
+
+joins : (level : Level) (p : List Lexeme → Read Term) (f g : Term → Stack) → Ops level p f g → Turns (join_step level p) f g
+joins level p f g ops = record {
+  on = joined_turn level p f g g ops;
+  ends = λ t s e. ops.ends t s (none_op (operator_at level s) p t s e);
+  over = ops.over;
 }
 
-disjunctions : (p : List Lexeme → Read Term) → Reads p conj and_ops → Reads (chain Disjunction p) expr expr_ops
-disjunctions p h es a =
-    let b : avoids and_ops (or_tail ∷ es) ≡ true = avoids_rest (codes "or" ∷ []) and_ops es a in
-    ruled expr _ es (chain Disjunction p) refl (seq p _ (conj ∷ []) (or_tail ∷ []) es (h (or_tail ∷ es) b) (λ t. repeats (join_step Disjunction p) or_tail es refl (joins Disjunction or_tail conj p es (ors es a) (h (or_tail ∷ es) b)) t))
+ors : (n : ℕ) (p : List Lexeme → Read Term) (es : List Place) (k : Term → Act es Deployment) → Low n → Reads conj p n and_ops → avoids expr_ops es ≡ true → Ops Disjunction p (λ t. push n or_tail es (λ f. k (f t))) (λ t. stack es (k t))
+ors n p es k l h a = record {
+  at = λ t s o e. pick (codes "or") s Or o None e
+      (λ i j. subst (λ v. Leads (push n or_tail es (λ f. k (f t))) p (λ u. push n or_tail es (λ f. k (f (joined v t u)))) s) j
+      (leads (codes "or") n or_tail _ _ es (λ f. k (f t)) s l refl (avoided expr_ops es (codes "or") refl a) i (h (place n or_tail ∷ es) (λ u f. k (f (or t u))) (avoids_rest (codes "or" ∷ []) and_ops es a))))
+      (no_other o);
+  ends = λ t s e. unpick (codes "or") _ s Or None e (nothing_of s) (λ d z. skips n or_tail (λ t. t) es (λ f. k (f t)) s refl refl z);
+  over = λ t. skips_end n or_tail (λ t. t) es (λ f. k (f t)) refl;
+}
 
-conjunctions : (p : List Lexeme → Read Term) → Reads p neg relation_ops → Reads (chain Conjunction p) conj and_ops
-conjunctions p h es a =
-    let b : avoids relation_ops (and_tail ∷ es) ≡ true = avoids_rest (codes "and" ∷ []) relation_ops es a in
-    ruled conj _ es (chain Conjunction p) refl (seq p _ (neg ∷ []) (and_tail ∷ []) es (h (and_tail ∷ es) b) (λ t. repeats (join_step Conjunction p) and_tail es refl (joins Conjunction and_tail neg p es (ands es a) (h (and_tail ∷ es) b)) t))
+ands : (n : ℕ) (p : List Lexeme → Read Term) (es : List Place) (k : Term → Act es Deployment) → Low n → Reads neg p n relation_ops → avoids and_ops es ≡ true → Ops Conjunction p (λ t. push n and_tail es (λ f. k (f t))) (λ t. stack es (k t))
+ands n p es k l h a = record {
+  at = λ t s o e. pick (codes "and") s And o None e
+      (λ i j. subst (λ v. Leads (push n and_tail es (λ f. k (f t))) p (λ u. push n and_tail es (λ f. k (f (joined v t u)))) s) j
+      (leads (codes "and") n and_tail _ _ es (λ f. k (f t)) s l refl (avoided and_ops es (codes "and") refl a) i (h (place n and_tail ∷ es) (λ u f. k (f (and t u))) (avoids_rest (codes "and" ∷ []) relation_ops es a))))
+      (no_other o);
+  ends = λ t s e. unpick (codes "and") _ s And None e (nothing_of s) (λ d z. skips n and_tail (λ t. t) es (λ f. k (f t)) s refl refl z);
+  over = λ t. skips_end n and_tail (λ t. t) es (λ f. k (f t)) refl;
+}
 
-all_sums : (p : List Lexeme → Read Term) → Reads p prod product_ops → Reads (chain Sum p) sum sum_ops
-all_sums p h es a =
-    let b : avoids product_ops (sum_tail ∷ es) ≡ true = avoids_rest (codes "+" ∷ codes "-" ∷ codes "++" ∷ []) product_ops es a in
-    ruled sum _ es (chain Sum p) refl (seq p _ (prod ∷ []) (sum_tail ∷ []) es (h (sum_tail ∷ es) b) (λ t. repeats (join_step Sum p) sum_tail es refl (joins Sum sum_tail prod p es (sums es a) (h (sum_tail ∷ es) b)) t))
+-- a sum's or a product's operator, which is this one
+abbrev SumLeads : (n : ℕ) (p : List Lexeme → Read Term) (es : List Place) → (Term → Act es Deployment) → Term → List Lexeme → Operator → Type 0
+SumLeads n p es k t s o = Leads (push n sum_tail es (λ f. k (f t))) p (λ u. push n sum_tail es (λ f. k (f (joined o t u)))) s
 
-all_products : (p : List Lexeme → Read Term) → Reads p unary post_ops → Reads (chain Product p) prod product_ops
-all_products p h es a =
-    let b : avoids post_ops (prod_tail ∷ es) ≡ true = avoids_rest (codes "*" ∷ codes "/" ∷ codes "%" ∷ []) post_ops es a in
-    ruled prod _ es (chain Product p) refl (seq p _ (unary ∷ []) (prod_tail ∷ []) es (h (prod_tail ∷ es) b) (λ t. repeats (join_step Product p) prod_tail es refl (joins Product prod_tail unary p es (products es a) (h (prod_tail ∷ es) b)) t))
+sums : (n : ℕ) (p : List Lexeme → Read Term) (es : List Place) (k : Term → Act es Deployment) → Low n → Reads prod p n product_ops → avoids sum_ops es ≡ true → Ops Sum p (λ t. push n sum_tail es (λ f. k (f t))) (λ t. stack es (k t))
+sums n p es k l h a =
+    let b : avoids product_ops (place n sum_tail ∷ es) ≡ true = avoids_rest (codes "+" ∷ codes "-" ∷ codes "++" ∷ []) product_ops es a in
+    record {
+      at = λ t s o e. let m = mapped Binary (sum_at s) o e in
+          subst (SumLeads n p es k t s) m.2
+          (pick (codes "+") s Add m.0 _ m.1 (λ i j. subst (λ v. SumLeads n p es k t s (Binary v)) j (leads (codes "+") n sum_tail _ _ es (λ f. k (f t)) s l refl (avoided sum_ops es (codes "+") refl a) i (h (place n sum_tail ∷ es) (λ u f. k (f (binary Add t u))) b))) (λ d.
+          pick (codes "-") s Sub m.0 _ d (λ i j. subst (λ v. SumLeads n p es k t s (Binary v)) j (leads (codes "-") n sum_tail _ _ es (λ f. k (f t)) s l refl (avoided sum_ops es (codes "-") refl a) i (h (place n sum_tail ∷ es) (λ u f. k (f (binary Sub t u))) b))) (λ d.
+          pick (codes "++") s Join m.0 None d (λ i j. subst (λ v. SumLeads n p es k t s (Binary v)) j (leads (codes "++") n sum_tail _ _ es (λ f. k (f t)) s l refl (avoided sum_ops es (codes "++") refl a) i (h (place n sum_tail ∷ es) (λ u f. k (f (binary Join t u))) b))) (no_other m.0))));
+      ends = λ t s e.
+          unpick (codes "+") _ s Add _ (unmapped Binary (sum_at s) e) (nothing_of s) (λ d z. unpick (codes "-") _ s Sub _ d z (λ d z. unpick (codes "++") _ s Join None d z (λ d z. skips n sum_tail (λ t. t) es (λ f. k (f t)) s refl refl z)));
+      over = λ t. skips_end n sum_tail (λ t. t) es (λ f. k (f t)) refl;
+    }
 
--- a relation
+abbrev ProductLeads : (n : ℕ) (p : List Lexeme → Read Term) (es : List Place) → (Term → Act es Deployment) → Term → List Lexeme → Operator → Type 0
+ProductLeads n p es k t s o = Leads (push n prod_tail es (λ f. k (f t))) p (λ u. push n prod_tail es (λ f. k (f (joined o t u)))) s
 
-pub record Relates (s : List Lexeme) : Type 0 where
+products : (n : ℕ) (p : List Lexeme → Read Term) (es : List Place) (k : Term → Act es Deployment) → Low n → Reads unary p n post_ops → avoids product_ops es ≡ true → Ops Product p (λ t. push n prod_tail es (λ f. k (f t))) (λ t. stack es (k t))
+products n p es k l h a =
+    let b : avoids post_ops (place n prod_tail ∷ es) ≡ true = avoids_rest (codes "*" ∷ codes "/" ∷ codes "%" ∷ []) post_ops es a in
+    record {
+      at = λ t s o e. let m = mapped Binary (product_at s) o e in
+          subst (ProductLeads n p es k t s) m.2
+          (pick (codes "*") s Mul m.0 _ m.1 (λ i j. subst (λ v. ProductLeads n p es k t s (Binary v)) j (leads (codes "*") n prod_tail _ _ es (λ f. k (f t)) s l refl (avoided product_ops es (codes "*") refl a) i (h (place n prod_tail ∷ es) (λ u f. k (f (binary Mul t u))) b))) (λ d.
+          pick (codes "/") s Div m.0 _ d (λ i j. subst (λ v. ProductLeads n p es k t s (Binary v)) j (leads (codes "/") n prod_tail _ _ es (λ f. k (f t)) s l refl (avoided product_ops es (codes "/") refl a) i (h (place n prod_tail ∷ es) (λ u f. k (f (binary Div t u))) b))) (λ d.
+          pick (codes "%") s Rem m.0 None d (λ i j. subst (λ v. ProductLeads n p es k t s (Binary v)) j (leads (codes "%") n prod_tail _ _ es (λ f. k (f t)) s l refl (avoided product_ops es (codes "%") refl a) i (h (place n prod_tail ∷ es) (λ u f. k (f (binary Rem t u))) b))) (no_other m.0))));
+      ends = λ t s e.
+          unpick (codes "*") _ s Mul _ (unmapped Binary (product_at s) e) (nothing_of s) (λ d z. unpick (codes "/") _ s Div _ d z (λ d z. unpick (codes "%") _ s Rem None d z (λ d z. skips n prod_tail (λ t. t) es (λ f. k (f t)) s refl refl z)));
+      over = λ t. skips_end n prod_tail (λ t. t) es (λ f. k (f t)) refl;
+    }
+
+disjunctions : (n : ℕ) (p : List Lexeme → Read Term) → Low (n + 1) → Reads conj p (n + 1) and_ops → Reads expr (chain Disjunction p) n expr_ops
+disjunctions n p l h es k a = ruled n expr _ es k refl (seq (h (place (n + 1) or_tail ∷ es) (λ t f. k (f t)) (avoids_rest (codes "or" ∷ []) and_ops es a)) (λ t. repeats (joins Disjunction p _ _ (ors (n + 1) p es k l h a)) t))
+
+conjunctions : (n : ℕ) (p : List Lexeme → Read Term) → Low n → Reads neg p n relation_ops → Reads conj (chain Conjunction p) n and_ops
+conjunctions n p l h es k a = ruled n conj _ es k refl (seq (h (place n and_tail ∷ es) (λ t f. k (f t)) (avoids_rest (codes "and" ∷ []) relation_ops es a)) (λ t. repeats (joins Conjunction p _ _ (ands n p es k l h a)) t))
+
+all_sums : (n : ℕ) (p : List Lexeme → Read Term) → Low n → Reads prod p n product_ops → Reads sum (chain Sum p) n sum_ops
+all_sums n p l h es k a = ruled n sum _ es k refl (seq (h (place n sum_tail ∷ es) (λ t f. k (f t)) (avoids_rest (codes "+" ∷ codes "-" ∷ codes "++" ∷ []) product_ops es a)) (λ t. repeats (joins Sum p _ _ (sums n p es k l h a)) t))
+
+all_products : (n : ℕ) (p : List Lexeme → Read Term) → Low n → Reads unary p n post_ops → Reads prod (chain Product p) n product_ops
+all_products n p l h es k a = ruled n prod _ es k refl (seq (h (place n prod_tail ∷ es) (λ t f. k (f t)) (avoids_rest (codes "*" ∷ codes "/" ∷ codes "%" ∷ []) post_ops es a)) (λ t. repeats (joins Product p _ _ (products n p es k l h a)) t))
+
+-- ---- a relation
+
+pub record Relates (s : List Lexeme) (o : Rel) : Type 0 where
   pub w : List ℕ
-  pub rule : OneOf (word w ∷ []) (rules REL)
   pub next : next_is w s ≡ true
-  pub itself : select (rules REL) (Sign w) ≡ (word w ∷ []) ∷ []
-  pub tail : select (rules rel_tail) (Sign w) ≡ (REL ∷ sum ∷ []) ∷ []
+  pub itself : (n : ℕ) → select (rules n REL) (Sign w) ≡ by (place n (word w) ∷ []) (λ line. o) ∷ []
+  pub tail : (n : ℕ) → select (rules n rel_tail) (Sign w) ≡ by (place n REL ∷ place n sum ∷ []) (λ r u t. compare r t u) ∷ []
   pub listed : listed_in relation_ops w ≡ true
 
-rel_pick : {B : Type 0} (w : List ℕ) (s : List Lexeme) (x o : B) (y : Option B) → select (rules REL) (Sign w) ≡ (word w ∷ []) ∷ [] → select (rules rel_tail) (Sign w) ≡ (REL ∷ sum ∷ []) ∷ [] → listed_in relation_ops w ≡ true → (if next_is w s then Some x else y) ≡ Some o → (y ≡ Some o → Relates s) → Relates s
-rel_pick w s x o y i j l e f = elim (next_is w s) as (λ b. next_is w s ≡ b → (if b then Some x else y) ≡ Some o → Relates s) [
-  | true ↦ λ g d. record { w = w; rule = selected_rule REL (Sign w) (word w ∷ []) i; next = g; itself = i; tail = j; listed = l }
-  | false ↦ λ g d. f d
-] refl e
+rel_pick : (w : List ℕ) (s : List Lexeme) (x o : Rel) (y : Option Rel) → ((n : ℕ) → select (rules n REL) (Sign w) ≡ by (place n (word w) ∷ []) (λ line. x) ∷ []) → ((n : ℕ) → select (rules n rel_tail) (Sign w) ≡ by (place n REL ∷ place n sum ∷ []) (λ r u t. compare r t u) ∷ []) → listed_in relation_ops w ≡ true
+    → (if next_is w s then Some x else y) ≡ Some o → (y ≡ Some o → Relates s o) → Relates s o
+rel_pick w s x o y i j c e f = pick w s x o y e (λ g d. subst (Relates s) d (record { w = w; next = g; itself = i; tail = j; listed = c })) f
 
-pub relates : (s : List Lexeme) (o : Rel) → relation_at s ≡ Some o → Relates s
+pub relates : (s : List Lexeme) (o : Rel) → relation_at s ≡ Some o → Relates s o
 relates s o e =
-    rel_pick (codes "==") s Eq o _ refl refl refl e (λ d. rel_pick (codes "!=") s Ne o _ refl refl refl d (λ d.
-    rel_pick (codes "<") s Lt o _ refl refl refl d (λ d. rel_pick (codes "<=") s Le o _ refl refl refl d (λ d.
-    rel_pick (codes ">") s Gt o _ refl refl refl d (λ d. rel_pick (codes ">=") s Ge o None refl refl refl d (λ d. absurd (cc)))))))
+    rel_pick (codes "==") s Eq o _ (λ n. refl) (λ n. refl) refl e (λ d. rel_pick (codes "!=") s Ne o _ (λ n. refl) (λ n. refl) refl d (λ d.
+    rel_pick (codes "<") s Lt o _ (λ n. refl) (λ n. refl) refl d (λ d. rel_pick (codes "<=") s Le o _ (λ n. refl) (λ n. refl) refl d (λ d.
+    rel_pick (codes ">") s Gt o _ (λ n. refl) (λ n. refl) refl d (λ d. rel_pick (codes ">=") s Ge o None (λ n. refl) (λ n. refl) refl d (λ d. absurd (cc)))))))
 
 abbrev for_relation : List Token
 for_relation = Sign (codes ">=") ∷ Sign (codes ">") ∷ Sign (codes "<=") ∷ Sign (codes "<") ∷ Sign (codes "!=") ∷ Sign (codes "==") ∷ []
@@ -206,61 +209,106 @@ relates_not s e =
     unpick (codes "<") _ s Lt _ d n (λ d n. unpick (codes "<=") _ s Le _ d n (λ d n.
     unpick (codes ">") _ s Gt _ d n (λ d n. unpick (codes ">=") _ s Ge None d n (λ d n. n))))))
 
-pub rel_took : (es : List Symbol) (s : List Lexeme) → Relates s → Passed (REL ∷ []) es s (after_first s)
-rel_took es s h = by_rule_before REL (word h.w ∷ []) [] es s (after_first s) h.rule (by_sign h.w REL (word h.w ∷ []) es s h.next h.itself refl) (first_took h.w es s h.next)
+pub rel_run : (n : ℕ) (es : List Place) (k : Rel → Act es Deployment) (s : List Lexeme) (o : Rel) → Low n → Relates s o → Run (push n REL es k) s (stack es (k o)) (after_first s)
+rel_run n es k s o l h = sign_run h.w n REL [] (λ line. o) es k s l (h.itself n) refl h.next
 
-related : (es : List Symbol) (s : List Lexeme) → avoids relation_ops es ≡ true → Relates s → Decided rel_tail (REL ∷ sum ∷ []) es s
-related es s a h = by_sign h.w rel_tail (REL ∷ sum ∷ []) es s h.next h.tail (avoided relation_ops es h.w h.listed a)
+-- a relation and its right side
+rel_leads : (n : ℕ) (p : List Lexeme → Read Term) (es : List Place) (k : Term → Act es Deployment) (t : Term) (s : List Lexeme) (o : Rel) → Low n → Sound p (push n sum es (λ u. k (compare o t u))) (λ u. stack es (k (compare o t u))) → avoids relation_ops es ≡ true → Relates s o
+    → Leads (push n rel_tail es (λ f. k (f t))) p (λ u. stack es (k (compare o t u))) s
+rel_leads n p es k t s o l d a h = record {
+  mid = push n sum es (λ u. k (compare o t u));
+  less = shorter h.w s h.next;
+  run = went (push n rel_tail es (λ f. k (f t))) (stack (place n REL ∷ place n sum ∷ es) (λ r u. k (compare r t u))) s (push n sum es (λ u. k (compare o t u))) (after_first s)
+      (by_sign h.w n rel_tail (by (place n REL ∷ place n sum ∷ []) (λ r u t. compare r t u)) es (λ f. k (f t)) s h.next (h.tail n) (avoided relation_ops es h.w h.listed a))
+      (rel_run n (place n sum ∷ es) (λ r u. k (compare r t u)) s o l h);
+  sound = d;
+}
 
-once : (p : List Lexeme → Read Term) (es : List Symbol) → Sound p (sum ∷ []) es → avoids relation_ops es ≡ true → (t : Term) (s : List Lexeme) (o : Option (Read Term)) → join_step Relation p t s ≡ o → Told (go_on (λ x r. got x r) o t s) (rel_tail ∷ []) es s
-once p es h a t s None g = left_off rel_tail es s refl (skips rel_tail es s refl (relates_not s (unmapped Compare (relation_at s) (none_op (operator_at Relation s) p t s g))))
-once p es h a t s (Some q) g =
+once : (n : ℕ) (p : List Lexeme → Read Term) (es : List Place) (k : Term → Act es Deployment) → Low n → Reads sum p n sum_ops → avoids relation_ops es ≡ true → (t : Term) (s : List Lexeme) (o : Option (Read Term)) → join_step Relation p t s ≡ o
+    → Told (go_on (λ x r. got x r) o t s) (push n rel_tail es (λ f. k (f t))) (λ t. stack es (k t)) s
+once n p es k l h a t s None g = stays (push n rel_tail es (λ f. k (f t))) (stack es (k t)) s (skips n rel_tail (λ t. t) es (λ f. k (f t)) s refl refl (relates_not s (unmapped Compare (relation_at s) (none_op (operator_at Relation s) p t s g))))
+once n p es k l h a t s (Some q) g =
     let v = some_op (operator_at Relation s) p t s q g in
     let c = mapped Compare (relation_at s) v.0 v.1 in
-    let k = relates s c.0 c.1 in
-    told_by (after q (λ x r. got x r)) rel_tail (REL ∷ sum ∷ []) es s (inl refl) (related es s a k)
-    (told_on (after q (λ x r. got x r)) (REL ∷ []) (sum ∷ []) es s (after_first s) (rel_took (sum ∷ es) s k) (told_made q (λ x. x) (sum ∷ []) es (after_first s) (side_told (operator_at Relation s) p sum es h t s q g)))
-
-relations : (p : List Lexeme → Read Term) → Reads p sum sum_ops → Reads (chain Relation p) rel relation_ops
-relations p h es a =
     let b : avoids sum_ops es ≡ true = avoids_rest (codes "==" ∷ codes "!=" ∷ codes "<" ∷ codes "<=" ∷ codes ">" ∷ codes ">=" ∷ []) sum_ops es a in
-    ruled rel _ es (chain Relation p) refl (seq p _ (sum ∷ []) (rel_tail ∷ []) es (h (rel_tail ∷ es) b) (λ t. record { told = λ s. once p es (h es b) a t s (join_step Relation p t s) refl }))
+    let d = rel_leads n p es k t s c.0 l (h es (λ u. k (compare c.0 t u)) b) a (relates s c.0 c.1) in
+    let u : Told (after (p (after_first s)) (λ u. give (joined (Compare c.0) t u))) d.mid (λ t. stack es (k t)) (after_first s) = told_made (p (after_first s)) (joined (Compare c.0) t) d.mid (λ t. stack es (k t)) (after_first s) (d.sound.told (after_first s)) in
+    let w : Told q d.mid (λ t. stack es (k t)) (after_first s) = subst (λ r. Told r d.mid (λ t. stack es (k t)) (after_first s)) (ap (λ i. after (p (after_first s)) (λ u. give (joined i t u))) c.2 ∙ v.2) u in
+    told_on (after q (λ x r. got x r)) (push n rel_tail es (λ f. k (f t))) d.mid (λ t. stack es (k t)) s (after_first s) d.run (told_made q (λ x. x) d.mid (λ t. stack es (k t)) (after_first s) w)
+
+relations : (n : ℕ) (p : List Lexeme → Read Term) → Low n → Reads sum p n sum_ops → Reads rel (chain Relation p) n relation_ops
+relations n p l h es k a =
+    let b : avoids sum_ops es ≡ true = avoids_rest (codes "==" ∷ codes "!=" ∷ codes "<" ∷ codes "<=" ∷ codes ">" ∷ codes ">=" ∷ []) sum_ops es a in
+    ruled n rel _ es k refl (seq (h (place n rel_tail ∷ es) (λ t f. k (f t)) b) (λ t. record { told = λ s. once n p es k l h a t s (join_step Relation p t s) refl }))
 
 -- ---- what stands between operators
 
-mores : {A : Type 0} (p : List Lexeme → Read A) (c tail : Symbol) (es : List Symbol) → rules tail ≡ (word (codes ",") ∷ c ∷ tail ∷ []) ∷ [] ∷ [] → among (firsts tail) (Sign (codes ",") ∷ []) ≡ true → (nullable tail && starts es (Sign (codes ","))) ≡ false
-    → Sound p (c ∷ []) (tail ∷ es) → (xs : List A) → Sound (more p xs) (tail ∷ []) es
-mores p c tail es e f n h xs = repeats (next_item p) tail es (ap (list_any is_empty) e) (guarded (codes ",") (λ s. p) tail (c ∷ []) es (ap (λ css. select css (Sign (codes ","))) e) f n (λ s. h)) xs
-
-lists : {A : Type 0} (p : List Lexeme → Read A) (c all tail : Symbol) (w : List ℕ) (es : List Symbol)
-    → rules all ≡ (c ∷ tail ∷ []) ∷ [] ∷ [] → one_of (firsts all) (Sign w) ≡ false → rules tail ≡ (word (codes ",") ∷ c ∷ tail ∷ []) ∷ [] ∷ [] → among (firsts tail) (Sign (codes ",") ∷ []) ≡ true → (nullable tail && starts (word w ∷ es) (Sign (codes ","))) ≡ false
-    → Sound p (c ∷ []) (tail ∷ word w ∷ es) → Sound (listed w p) (all ∷ word w ∷ []) es
-lists p c all tail w es two out e f n h =
-    let inside : Sound (p >>= λ x. more p (x ∷ []) >>= λ xs. take w >>= λ u. give xs) (c ∷ tail ∷ word w ∷ []) es =
-    seq p _ (c ∷ []) (tail ∷ word w ∷ []) es h (λ x. seq (more p (x ∷ [])) _ (tail ∷ []) (word w ∷ []) es (mores p c tail (word w ∷ es) e f n h (x ∷ [])) (λ xs. seq (take w) _ (word w ∷ []) [] es (taken w es) (λ u. given xs es))) in
+-- items with `,` between them, up to a sign
+lists : {A : Type 0} (p : List Lexeme → Read A) (w : List ℕ) (all first : Stack) (f end out : List A → Stack)
+    → ((s : List Lexeme) → next_is w s ≡ true → Run all s (out []) (after_first s)) → ((s : List Lexeme) → next_is w s ≡ false → Step all first s)
+    → Sound p first (λ x. f (x ∷ [])) → Turns (next_item p) f end → ((xs : List A) → Sound (take w) (end xs) (λ u. out xs)) → Sound (listed w p) all out
+lists p w all first f end out empty full d turns close =
+    let inside : Sound (p >>= λ x. more p (x ∷ []) >>= λ xs. take w >>= λ u. give xs) first out = seq d (λ x. seq (repeats turns (x ∷ [])) (λ xs. seq (close xs) (λ u. given xs out))) in
     record {
-      told = λ s. told_if (next_is w s) (got [] (after_first s)) ((p >>= λ x. more p (x ∷ []) >>= λ xs. take w >>= λ u. give xs) s) (all ∷ word w ∷ []) es s
-          (λ i. by_rule_before all [] (word w ∷ []) es s (after_first s) (second_rule all (c ∷ tail ∷ []) [] [] two) (sign_skips w all (word w ∷ es) s i out) (first_took w es s i))
-          (λ i. told_by_before ((p >>= λ x. more p (x ∷ []) >>= λ xs. take w >>= λ u. give xs) s) all (c ∷ tail ∷ []) (word w ∷ []) es s (first_rule all (c ∷ tail ∷ []) ([] ∷ []) two) (λ v m y. first_of_two all (c ∷ tail ∷ []) [] (word w ∷ es) v two (not_sign w es s i v m) y) (inside.told s));
+      told = λ s. told_if (next_is w s) (got [] (after_first s)) ((p >>= λ x. more p (x ∷ []) >>= λ xs. take w >>= λ u. give xs) s) all out s
+          (λ i. empty s i)
+          (λ i. told_by ((p >>= λ x. more p (x ∷ []) >>= λ xs. take w >>= λ u. give xs) s) all first out s (full s i) (inside.told s));
     }
 
+-- what follows a comma
+comma : {A : Type 0} {g : List A → Stack} (p : List Lexeme → Read A) (f : List A → Stack) → ((xs : List A) (s : List Lexeme) → next_is (codes ",") s ≡ true → Leads (f xs) p (λ y. f (xs ++ y ∷ [])) s)
+    → ((xs : List A) (s : List Lexeme) → next_is (codes ",") s ≡ false → Step (f xs) (g xs) s) → ((xs : List A) → Step (f xs) (g xs) []) → Turns (next_item p) f g
+comma {g = g} p f h e o = guarded (codes ",") (λ s. p) f g h e o
+
+exprs_listed : (n : ℕ) (p : List Lexeme → Read Term) (es : List Place) (k : List Term → Act es Deployment) → Low n → Reads expr p n expr_ops → Sound (listed (codes "]") p) (stack (place n exprs ∷ place n (word (codes "]")) ∷ es) (λ ts line. k ts)) (λ ts. stack es (k ts))
+exprs_listed n p es k l h =
+    let zs : List Place = place n (word (codes "]")) ∷ es in
+    let kk : List Term → Act zs Deployment = λ ts line. k ts in
+    lists p (codes "]") (push n exprs zs kk) (stack (place n expr ∷ place n more_exprs ∷ zs) (λ t ts. kk (t ∷ ts))) (λ xs. push n more_exprs zs (onwards kk xs)) (λ xs. stack zs (kk xs)) (λ xs. stack es (k xs))
+    (λ s i. went (push n exprs zs kk) (stack zs (kk [])) s (stack es (k [])) (after_first s) (sign_skips (codes "]") n exprs [] zs kk s refl i refl) (first_took (codes "]") n es (λ line. k []) s l i))
+    (λ s i. by_rule n exprs _ zs kk s (inl refl) (λ v y m d. first_of_two n exprs _ (by [] []) zs kk v y refl (not_sign (codes "]") n es (λ line. k []) s i v y m) d))
+    (h (place n more_exprs ∷ zs) (λ t ts. kk (t ∷ ts)) refl)
+    (comma p (λ xs. push n more_exprs zs (onwards kk xs))
+    (λ xs s i. leads (codes ",") n more_exprs _ _ zs (onwards kk xs) s l refl refl i
+    (subst (λ g. Sound p (push n expr (place n more_exprs ∷ zs) (λ t ts. onwards kk xs (t ∷ ts))) g) (λ i y. push n more_exprs zs (next_one kk xs y i)) (h (place n more_exprs ∷ zs) (λ t ts. onwards kk xs (t ∷ ts)) refl)))
+    (λ xs s i. subst (λ c. Step (push n more_exprs zs (onwards kk xs)) (stack zs c) s) (none_more kk xs) (skips n more_exprs [] zs (onwards kk xs) s refl refl (also_not (codes ",") [] s i (nothing_of s))))
+    (λ xs. subst (λ c. Step (push n more_exprs zs (onwards kk xs)) (stack zs c) []) (none_more kk xs) (skips_end n more_exprs [] zs (onwards kk xs) refl)))
+    (λ xs. taken (codes "]") n es (k xs) l)
+
 -- this sign and an expression
-pub parts : (p : List Lexeme → Read Term) (w : List ℕ) (es : List Symbol) → Sound p (expr ∷ []) es → Sound (part p w) (word w ∷ expr ∷ []) es
-parts p w es h = seq (take w) _ (word w ∷ []) (expr ∷ []) es (taken w (expr ∷ es)) (λ u. h)
+pub parts : (n : ℕ) (p : List Lexeme → Read Term) (w : List ℕ) (es : List Place) (k : Term → Act es Deployment) → Low n → Reads expr p n expr_ops → avoids expr_ops es ≡ true → Sound (part p w) (stack (place n (word w) ∷ place n expr ∷ es) (λ line t. k t)) (λ t. stack es (k t))
+parts n p w es k l h a = seq (taken w n (place n expr ∷ es) (λ t. k t) l) (λ u. h es k a)
 
-pub arguments : (p : List Lexeme → Read Term) → Reads p expr expr_ops → (es : List Symbol) → Sound (argument p) (word (codes "(") ∷ expr ∷ word (codes ")") ∷ []) es
-arguments p h es = seq _ _ (word (codes "(") ∷ []) _ es (taken (codes "(") _) (λ u. seq p _ (expr ∷ []) _ es (h _ refl) (λ t. seq _ _ (word (codes ")") ∷ []) [] es (taken (codes ")") es) (λ v. given t es)))
+pub arguments : (n : ℕ) (p : List Lexeme → Read Term) (es : List Place) (k : Term → Act es Deployment) → Low n → Reads expr p n expr_ops → Sound (argument p) (stack (place n (word (codes "(")) ∷ place n expr ∷ place n (word (codes ")")) ∷ es) (λ line t end. k t)) (λ t. stack es (k t))
+arguments n p es k l h = seq (taken (codes "(") n _ (λ t end. k t) l) (λ u. seq (h _ (λ t end. k t) refl) (λ t. seq (taken (codes ")") n es (k t) l) (λ v. given t (λ x. stack es (k x)))))
 
-member_is_read : (p : List Lexeme → Read Term) → Reads p expr expr_ops → (es : List Symbol) → avoids expr_ops es ≡ true → Sound (read_member p) (member ∷ []) es
-member_is_read p h es a = ruled member _ es (read_member p) refl (seq text _ (TEXT ∷ []) _ es (texted _) (λ k. seq _ _ (word (codes ":") ∷ []) _ es (taken (codes ":") _) (λ u. seq p _ (expr ∷ []) [] es (h es a) (λ t. given (k, t) es))))
+member_is_read : (n : ℕ) (p : List Lexeme → Read Term) → Low n → Reads expr p n expr_ops → Reads member (read_member p) n expr_ops
+member_is_read n p l h es k a = ruled n member _ es k refl (seq (texted n _ (λ key line t. k (key, t)) l) (λ key. seq (taken (codes ":") n _ (λ t. k (key, t)) l) (λ u. seq (h es (λ t. k (key, t)) a) (λ t. given (key, t) (λ m. stack es (k m))))))
 
-pushes_read : (p : List Lexeme → Read Term) → Reads p expr expr_ops → (es : List Symbol) → Sound (push_of p) (word (codes "(") ∷ expr ∷ word (codes ",") ∷ expr ∷ word (codes ")") ∷ []) es
-pushes_read p h es = seq _ _ (word (codes "(") ∷ expr ∷ []) _ es (parts p (codes "(") _ (h _ refl)) (λ t. seq _ _ (word (codes ",") ∷ expr ∷ []) _ es (parts p (codes ",") _ (h _ refl)) (λ u. seq _ _ (word (codes ")") ∷ []) [] es (taken (codes ")") es) (λ v. given (push t u) es)))
+members_listed : (n : ℕ) (p : List Lexeme → Read (List ℕ × Term)) (es : List Place) (k : List (List ℕ × Term) → Act es Deployment) → Low n → Reads member p n expr_ops → Sound (listed (codes "}") p) (stack (place n members ∷ place n (word (codes "}")) ∷ es) (λ ms line. k ms)) (λ ms. stack es (k ms))
+members_listed n p es k l h =
+    let zs : List Place = place n (word (codes "}")) ∷ es in
+    let kk : List (List ℕ × Term) → Act zs Deployment = λ ms line. k ms in
+    lists p (codes "}") (push n members zs kk) (stack (place n member ∷ place n more_members ∷ zs) (λ t ts. kk (t ∷ ts))) (λ xs. push n more_members zs (onwards kk xs)) (λ xs. stack zs (kk xs)) (λ xs. stack es (k xs))
+    (λ s i. went (push n members zs kk) (stack zs (kk [])) s (stack es (k [])) (after_first s) (sign_skips (codes "}") n members [] zs kk s refl i refl) (first_took (codes "}") n es (λ line. k []) s l i))
+    (λ s i. by_rule n members _ zs kk s (inl refl) (λ v y m d. first_of_two n members _ (by [] []) zs kk v y refl (not_sign (codes "}") n es (λ line. k []) s i v y m) d))
+    (h (place n more_members ∷ zs) (λ t ts. kk (t ∷ ts)) refl)
+    (comma p (λ xs. push n more_members zs (onwards kk xs))
+    (λ xs s i. leads (codes ",") n more_members _ _ zs (onwards kk xs) s l refl refl i
+    (subst (λ g. Sound p (push n member (place n more_members ∷ zs) (λ t ts. onwards kk xs (t ∷ ts))) g) (λ i y. push n more_members zs (next_one kk xs y i)) (h (place n more_members ∷ zs) (λ t ts. onwards kk xs (t ∷ ts)) refl)))
+    (λ xs s i. subst (λ c. Step (push n more_members zs (onwards kk xs)) (stack zs c) s) (none_more kk xs) (skips n more_members [] zs (onwards kk xs) s refl refl (also_not (codes ",") [] s i (nothing_of s))))
+    (λ xs. subst (λ c. Step (push n more_members zs (onwards kk xs)) (stack zs c) []) (none_more kk xs) (skips_end n more_members [] zs (onwards kk xs) refl)))
+    (λ xs. taken (codes "}") n es (k xs) l)
 
-withs_read : (p : List Lexeme → Read Term) → Reads p expr expr_ops → (es : List Symbol) → Sound (with_of p) (word (codes "(") ∷ expr ∷ word (codes ",") ∷ expr ∷ word (codes ",") ∷ expr ∷ word (codes ")") ∷ []) es
-withs_read p h es = seq _ _ (word (codes "(") ∷ expr ∷ []) _ es (parts p (codes "(") _ (h _ refl)) (λ t. seq _ _ (word (codes ",") ∷ expr ∷ []) _ es (parts p (codes ",") _ (h _ refl)) (λ u. seq _ _ (word (codes ",") ∷ expr ∷ []) _ es (parts p (codes ",") _ (h _ refl)) (λ x. seq _ _ (word (codes ")") ∷ []) [] es (taken (codes ")") es) (λ v. given (with t u x) es))))
+pushes_read : (n : ℕ) (p : List Lexeme → Read Term) (es : List Place) (k : Term → Act es Deployment) → Low n → Reads expr p n expr_ops
+    → Sound (push_of p) (stack (at n (word (codes "(") ∷ expr ∷ word (codes ",") ∷ expr ∷ word (codes ")") ∷ []) ++ es) (λ a t b u c. k (push_term t u))) (λ t. stack es (k t))
+pushes_read n p es k l h = seq (parts n p (codes "(") _ (λ t b u c. k (push_term t u)) l h refl) (λ t. seq (parts n p (codes ",") _ (λ u c. k (push_term t u)) l h refl) (λ u. seq (taken (codes ")") n es (k (push_term t u)) l) (λ v. given (push_term t u) (λ x. stack es (k x)))))
 
--- a name, a text or a number
+withs_read : (n : ℕ) (p : List Lexeme → Read Term) (es : List Place) (k : Term → Act es Deployment) → Low n → Reads expr p n expr_ops
+    → Sound (with_of p) (stack (at n (word (codes "(") ∷ expr ∷ word (codes ",") ∷ expr ∷ word (codes ",") ∷ expr ∷ word (codes ")") ∷ []) ++ es) (λ a t b u c v d. k (with t u v))) (λ t. stack es (k t))
+withs_read n p es k l h = seq (parts n p (codes "(") _ (λ t b u c v d. k (with t u v)) l h refl) (λ t. seq (parts n p (codes ",") _ (λ u c v d. k (with t u v)) l h refl) (λ u. seq (parts n p (codes ",") _ (λ v d. k (with t u v)) l h refl) (λ v. seq (taken (codes ")") n es (k (with t u v)) l) (λ x. given (with t u v) (λ y. stack es (k y))))))
+
+-- ---- a name, a text or a number
 
 abbrev for_constant : List Token
 for_constant = Sign (codes "null") ∷ Sign (codes "false") ∷ Sign (codes "true") ∷ []
@@ -271,32 +319,44 @@ for_bracket = Sign (codes "{") ∷ Sign (codes "[") ∷ Sign (codes "(") ∷ for
 abbrev for_words : List Token
 for_words = Sign (codes "with") ∷ Sign (codes "push") ∷ Sign (codes "text") ∷ Sign (codes "len") ∷ for_bracket
 
-named_next : (k : Token) (es : List Symbol) (v : List Token) (t : Token) → name_token k ≡ true → k ≡ t → Yields (atom ∷ es) (t ∷ v) → Yields (NAME ∷ es) (t ∷ v)
-named_next (Name w) es v t h g y = by_next (Name w) atom (NAME ∷ []) es v refl refl t g y
-named_next k es v t h g y = absurd (cc)
+-- whether the next token is of a kind
+abbrev pub first_is : (Token → Bool) → List Lexeme → Bool
+first_is test [] = false
+first_is test (l ∷ ls) = test l.token
 
-texted_next : (k : Token) (es : List Symbol) (v : List Token) (t : Token) → text_token k ≡ true → k ≡ t → Yields (atom ∷ es) (t ∷ v) → Yields (TEXT ∷ es) (t ∷ v)
-texted_next (Text w) es v t h g y = by_next (Text w) atom (TEXT ∷ []) es v refl refl t g y
-texted_next k es v t h g y = absurd (cc)
+-- what a kind of tokens decides
+kind_decides : (test : Token → Bool) (n : ℕ) (a : Symbol) (r : Rule (Of a)) (es : List Place) (k : Of a → Act es Deployment) → ((t : Token) → test t ≡ true → select (rules n a) t ≡ r ∷ []) → nullable a ≡ false
+    → (s : List Lexeme) → first_is test s ≡ true → (v : List Marked) (y : Deployment) → Meets s v → Gives (place n a ∷ es) k v y → ByRule a r es k v y
+kind_decides test n a r es k e z [] h v y m d = absurd (cc)
+kind_decides test n a r es k e z (l ∷ ls) h [] y m d = absurd m
+kind_decides test n a r es k e z (l ∷ ls) h (u ∷ v) y m d = by_next l.token n a r es k u v y (e l.token h) (ap (λ b. b && starts es l.token) z) (ap (λ t. t.token) m) d
 
-numbered_next : (k : Token) (es : List Symbol) (v : List Token) (t : Token) → number_token k ≡ true → k ≡ t → Yields (atom ∷ es) (t ∷ v) → Yields (INT ∷ es) (t ∷ v)
-numbered_next (Number n) es v t h g y = by_next (Number n) atom (INT ∷ []) es v refl refl t g y
-numbered_next k es v t h g y = absurd (cc)
+pub kind_step : (test : Token → Bool) (n : ℕ) (a : Symbol) (r : Rule (Of a)) (es : List Place) (k : Of a → Act es Deployment) → OneOf r (rules n a) → ((t : Token) → test t ≡ true → select (rules n a) t ≡ r ∷ []) → nullable a ≡ false → (s : List Lexeme) → first_is test s ≡ true → Step (push n a es k) (opened a r es k) s
+kind_step test n a r es k o e z s h = by_rule n a r es k s o (kind_decides test n a r es k e z s h)
 
-atom_is_name : (es : List Symbol) (s : List Lexeme) → is_a_name s ≡ true → Decided atom (NAME ∷ []) es s
-atom_is_name es [] h v m y = absurd (cc)
-atom_is_name es (l ∷ ls) h [] m y = absurd m
-atom_is_name es (l ∷ ls) h (t ∷ v) m y = named_next l.token es v t h m y
+name_selects : (n : ℕ) (t : Token) → name_token t ≡ true → select (rules n atom) t ≡ by (place n NAME ∷ []) (λ x. name_term x) ∷ []
+name_selects n (Name v) h = refl
+name_selects n t h = absurd (cc)
 
-atom_is_text : (es : List Symbol) (s : List Lexeme) → is_a_text s ≡ true → Decided atom (TEXT ∷ []) es s
-atom_is_text es [] h v m y = absurd (cc)
-atom_is_text es (l ∷ ls) h [] m y = absurd m
-atom_is_text es (l ∷ ls) h (t ∷ v) m y = texted_next l.token es v t h m y
+text_selects : (n : ℕ) (t : Token) → text_token t ≡ true → select (rules n atom) t ≡ by (place n TEXT ∷ []) (λ x. text_term x) ∷ []
+text_selects n (Text v) h = refl
+text_selects n t h = absurd (cc)
 
-atom_is_number : (es : List Symbol) (s : List Lexeme) → is_a_number s ≡ true → Decided atom (INT ∷ []) es s
-atom_is_number es [] h v m y = absurd (cc)
-atom_is_number es (l ∷ ls) h [] m y = absurd m
-atom_is_number es (l ∷ ls) h (t ∷ v) m y = numbered_next l.token es v t h m y
+number_selects : (n : ℕ) (t : Token) → number_token t ≡ true → select (rules n atom) t ≡ by (place n (INT 0 (2 ^ 63 - 1)) ∷ []) (λ m. int (pos m)) ∷ []
+number_selects n (Number v) h = refl
+number_selects n t h = absurd (cc)
+
+name_first : (s : List Lexeme) → first_is name_token s ≡ is_a_name s
+name_first [] = refl
+name_first (l ∷ ls) = refl
+
+text_first : (s : List Lexeme) → first_is text_token s ≡ is_a_text s
+text_first [] = refl
+text_first (l ∷ ls) = refl
+
+number_first : (s : List Lexeme) → first_is number_token s ≡ is_a_number s
+number_first [] = refl
+number_first (l ∷ ls) = refl
 
 none_of_four : (a b c d : Bool) → a ≡ false → b ≡ false → c ≡ false → d ≡ false → (a || (b || (c || d))) ≡ false
 none_of_four true b c d h i j k = h
@@ -319,88 +379,114 @@ number_refused : (least most : ℕ) (s : List Lexeme) → is_a_number s ≡ fals
 number_refused least most [] h = refl
 number_refused least most (t ∷ ts) h = no_number least most t.token (t ∷ ts) ts h
 
-int_told : (es : List Symbol) (s : List Lexeme) → NoneOf for_words s → is_a_name s ≡ false → is_a_text s ≡ false → (b : Bool) → is_a_number s ≡ b → Told (after (number 0 (2 ^ 63 - 1) s) (λ n. give (int (pos n)))) (atom ∷ []) es s
-int_told es s h i j true k = told_by (after (number 0 (2 ^ 63 - 1) s) (λ n. give (int (pos n)))) atom (INT ∷ []) es s (selected_rule atom (Number None) (INT ∷ []) refl) (atom_is_number es s k) ((made (number 0 (2 ^ 63 - 1)) (λ n. int (pos n)) (INT ∷ []) es (numbered 0 (2 ^ 63 - 1) es)).told s)
-int_told es s h i j false k = subst (λ q. Told (after q (λ n. give (int (pos n)))) (atom ∷ []) es s) (sym (number_refused 0 (2 ^ 63 - 1) s k)) (told_bad atom es s refl refl (no_atom s h i j k))
+int_told : (n : ℕ) (es : List Place) (k : Term → Act es Deployment) (s : List Lexeme) → Low n → NoneOf for_words s → is_a_name s ≡ false → is_a_text s ≡ false → (b : Bool) → is_a_number s ≡ b → Told (after (number 0 (2 ^ 63 - 1) s) (λ m. give (int (pos m)))) (push n atom es k) (λ t. stack es (k t)) s
+int_told n es k s l h i j true c = told_by (after (number 0 (2 ^ 63 - 1) s) (λ m. give (int (pos m)))) (push n atom es k) (push n (INT 0 (2 ^ 63 - 1)) es (λ m. k (int (pos m)))) (λ t. stack es (k t)) s
+    (kind_step number_token n atom (by (place n (INT 0 (2 ^ 63 - 1)) ∷ []) (λ m. int (pos m))) es k (inl refl) (number_selects n) refl s (number_first s ∙ c))
+    (told_made (number 0 (2 ^ 63 - 1) s) (λ m. int (pos m)) (push n (INT 0 (2 ^ 63 - 1)) es (λ m. k (int (pos m)))) (λ t. stack es (k t)) s ((numbered 0 (2 ^ 63 - 1) n es (λ m. k (int (pos m))) l).told s))
+int_told n es k s l h i j false c = subst (λ q. Told (after q (λ m. give (int (pos m)))) (push n atom es k) (λ t. stack es (k t)) s) (sym (number_refused 0 (2 ^ 63 - 1) s c)) (told_bad {ks = for_atom} n atom es k s refl refl (no_atom s h i j c))
 
-literals : (es : List Symbol) → Else for_words literal atom es
-literals es = record {
-  told = λ s n. told_if (is_a_name s) _ _ (atom ∷ []) es s
-      (λ i. told_by ((name >>= λ n. give (name_term n)) s) atom (NAME ∷ []) es s (selected_rule atom (Name []) (NAME ∷ []) refl) (atom_is_name es s i) ((made name name_term (NAME ∷ []) es (named es)).told s))
-      (λ i. told_if (is_a_text s) _ _ (atom ∷ []) es s
-      (λ j. told_by ((text >>= λ t. give (text_term t)) s) atom (TEXT ∷ []) es s (selected_rule atom (Text None) (TEXT ∷ []) refl) (atom_is_text es s j) ((made text text_term (TEXT ∷ []) es (texted es)).told s))
-      (λ j. int_told es s n i j (is_a_number s) refl));
+literals : (line n : ℕ) (es : List Place) (k : Term → Act es Deployment) → Low n → Else false line for_words literal (push n atom es k) (λ t. stack es (k t))
+literals line n es k l = record {
+  told = λ s j z. told_if (is_a_name s) _ _ (push n atom es k) (λ t. stack es (k t)) s
+      (λ i. told_by _ (push n atom es k) (push n NAME es (λ x. k (name_term x))) (λ t. stack es (k t)) s (kind_step name_token n atom (by (place n NAME ∷ []) (λ x. name_term x)) es k (inr (inr (inr (inr (inr (inl refl)))))) (name_selects n) refl s (name_first s ∙ i))
+      (told_made (name s) name_term (push n NAME es (λ x. k (name_term x))) (λ t. stack es (k t)) s ((named n es (λ x. k (name_term x)) l).told s)))
+      (λ i. told_if (is_a_text s) _ _ (push n atom es k) (λ t. stack es (k t)) s
+      (λ c. told_by _ (push n atom es k) (push n TEXT es (λ x. k (text_term x))) (λ t. stack es (k t)) s (kind_step text_token n atom (by (place n TEXT ∷ []) (λ x. text_term x)) es k (inr (inl refl)) (text_selects n) refl s (text_first s ∙ c))
+      (told_made (text s) text_term (push n TEXT es (λ x. k (text_term x))) (λ t. stack es (k t)) s ((texted n es (λ x. k (text_term x)) l).told s)))
+      (λ c. int_told n es k s l z i c (is_a_number s) refl));
+  eaten = λ s t. absurd (cc);
 }
 
-calls : (p : List Lexeme → Read Term) → Reads p expr expr_ops → (es : List Symbol) → Else for_bracket (call p) atom es
-calls p h es =
-    choice _ (codes "len") (argument p >>= λ t. give (len t)) _ atom _ es refl refl (made (argument p) len _ es (arguments p h es))
-    (choice _ (codes "text") (argument p >>= λ t. give (json_of t)) _ atom _ es refl refl (made (argument p) json_of _ es (arguments p h es))
-    (choice _ (codes "push") (push_of p) _ atom _ es refl refl (pushes_read p h es)
-    (choice _ (codes "with") (with_of p) _ atom _ es refl refl (withs_read p h es) (literals es))))
+calls : (line n : ℕ) (p : List Lexeme → Read Term) (es : List Place) (k : Term → Act es Deployment) → Low n → Reads expr p n expr_ops → Else false line for_bracket (call p) (push n atom es k) (λ t. stack es (k t))
+calls line n p es k l h =
+    choice line _ (codes "len") n atom _ _ es k l refl refl (made len (arguments n p es (λ t. k (len t)) l h))
+    (choice line _ (codes "text") n atom _ _ es k l refl refl (made json_of (arguments n p es (λ t. k (json_of t)) l h))
+    (choice line _ (codes "push") n atom _ _ es k l refl refl (pushes_read n p es k l h)
+    (choice line _ (codes "with") n atom _ _ es k l refl refl (withs_read n p es k l h) (literals line n es k l))))
 
-brackets : (p : List Lexeme → Read Term) → Reads p expr expr_ops → (es : List Symbol) → Else for_constant (bracketed p) atom es
-brackets p h es =
-    chosen _ (codes "(") (argument p) _ atom _ es refl refl (λ s i. (arguments p h es).told s)
-    (choice _ (codes "[") (listed (codes "]") p >>= λ ts. give (list (items_of ts))) _ atom _ es refl refl (made (listed (codes "]") p) (λ ts. list (items_of ts)) _ es (lists p expr exprs more_exprs (codes "]") es refl refl refl refl refl (h _ refl)))
-    (choice _ (codes "{") (listed (codes "}") (read_member p) >>= λ ms. give (fields (members_of ms))) _ atom _ es refl refl (made (listed (codes "}") (read_member p)) (λ ms. fields (members_of ms)) _ es (lists (read_member p) member members more_members (codes "}") es refl refl refl refl refl (member_is_read p h _ refl)))
-    (calls p h es)))
+brackets : (line n : ℕ) (p : List Lexeme → Read Term) (es : List Place) (k : Term → Act es Deployment) → Low n → Reads expr p n expr_ops → Else false line for_constant (bracketed p) (push n atom es k) (λ t. stack es (k t))
+brackets line n p es k l h =
+    chosen line _ (codes "(") n atom _ es k refl refl (λ s i j. (arguments n p es k l h).told s)
+    (choice line _ (codes "[") n atom _ _ es k l refl refl (made (λ ts. list (items_of ts)) (exprs_listed n p es (λ ts. k (list (items_of ts))) l h))
+    (choice line _ (codes "{") n atom _ _ es k l refl refl (made (λ ms. fields (members_of ms)) (members_listed n (read_member p) es (λ ms. k (fields (members_of ms))) l (member_is_read n p l h)))
+    (calls line n p es k l h)))
 
-atoms : (p : List Lexeme → Read Term) → Reads p expr expr_ops → (es : List Symbol) → Sound (read_atom p) (atom ∷ []) es
-atoms p h es = whole (read_atom p) atom es
-    (choice _ (codes "true") (give (boolean true)) _ atom [] es refl refl (given (boolean true) es)
-    (choice _ (codes "false") (give (boolean false)) _ atom [] es refl refl (given (boolean false) es)
-    (choice _ (codes "null") (give null) _ atom [] es refl refl (given null es) (brackets p h es))))
+atoms : (n : ℕ) (p : List Lexeme → Read Term) (es : List Place) (k : Term → Act es Deployment) → Low n → Reads expr p n expr_ops → Sound (read_atom p) (push n atom es k) (λ t. stack es (k t))
+atoms n p es k l h = whole false (λ line.
+    choice line _ (codes "true") n atom _ _ es k l refl refl (given (boolean true) (λ t. stack es (k t)))
+    (choice line _ (codes "false") n atom _ _ es k l refl refl (given (boolean false) (λ t. stack es (k t)))
+    (choice line _ (codes "null") n atom _ _ es k l refl refl (given null (λ t. stack es (k t))) (brackets line n p es k l h))))
 
 -- ---- from suffixes to expressions
 
-elements : (p : List Lexeme → Read Term) → Reads p expr expr_ops → (t : Term) (es : List Symbol) → Sound (element_of p t) (word (codes "[") ∷ expr ∷ word (codes "]") ∷ []) es
-elements p h t es = seq _ _ (word (codes "[") ∷ expr ∷ []) _ es (parts p (codes "[") _ (h _ refl)) (λ i. seq _ _ (word (codes "]") ∷ []) [] es (taken (codes "]") es) (λ u. given (element t i) es))
+take_is : (w : List ℕ) (s : List Lexeme) → next_is w s ≡ true → take w s ≡ got tt (after_first s)
+take_is w s i = ap (λ b. if b then got tt (after_first s) else refuse Syntax s) i
 
 second_of : (a b : Bool) → (a || (b || false)) ≡ true → a ≡ false → b ≡ true
 second_of true b h e = absurd (cc)
 second_of false true h e = refl
 second_of false false h e = h
 
-suffix_turn : (p : List Lexeme → Read Term) → Reads p expr expr_ops → (es : List Symbol) → avoids post_ops es ≡ true → (t : Term) (s : List Lexeme) (q : Read Term) (b c : Bool) → next_is (codes ".") s ≡ b → list_any (λ w. next_is w s) (codes "." ∷ codes "[" ∷ []) ≡ c
-    → (if c then Some (if b then field_of t (after_first s) else element_of p t s) else None) ≡ Some q → Turn post_tail es s q
-suffix_turn p h es a t s q b false g f e = absurd (cc)
-suffix_turn p h es a t s q true true g f e = record {
-  cs = word (codes ".") ∷ NAME ∷ [];
-  rule = inl refl;
-  decided = by_sign (codes ".") post_tail (word (codes ".") ∷ NAME ∷ post_tail ∷ []) es s g refl (avoided post_ops es (codes ".") refl a);
-  some = refl;
-  told = subst (λ r. Told r (word (codes ".") ∷ NAME ∷ []) (post_tail ∷ es) s) (some_same _ _ e) (told_after (codes ".") (field_of t) (NAME ∷ []) (post_tail ∷ es) s (made name (field t) (NAME ∷ []) (post_tail ∷ es) (named (post_tail ∷ es))) g);
-}
-suffix_turn p h es a t s q false true g f e = record {
-  cs = word (codes "[") ∷ expr ∷ word (codes "]") ∷ [];
-  rule = inr (inl refl);
-  decided = by_sign (codes "[") post_tail (word (codes "[") ∷ expr ∷ word (codes "]") ∷ post_tail ∷ []) es s (second_of (next_is (codes ".") s) (next_is (codes "[") s) f g) refl (avoided post_ops es (codes "[") refl a);
-  some = refl;
-  told = subst (λ r. Told r (word (codes "[") ∷ expr ∷ word (codes "]") ∷ []) (post_tail ∷ es) s) (some_same _ _ e) ((elements p h t (post_tail ∷ es)).told s);
-}
+-- an expression and `]`
+elements : (n : ℕ) (p : List Lexeme → Read Term) (es : List Place) (k : Term → Act es Deployment) (t : Term) → Low n → Reads expr p n expr_ops
+    → Sound (p >>= λ i. take (codes "]") >>= λ u. give (element t i)) (stack (place n expr ∷ place n (word (codes "]")) ∷ es) (λ i line. k (element t i))) (λ x. stack es (k x))
+elements n p es k t l h = seq (h _ (λ i line. k (element t i)) refl) (λ i. seq (taken (codes "]") n es (k (element t i)) l) (λ u. given (element t i) (λ x. stack es (k x))))
+
+led_turn : (f : Term → Stack) (t : Term) (s : List Lexeme) (p : List Lexeme → Read Term) (q : Read Term) → Leads (f t) p f s → p (after_first s) ≡ q → Turn f t s q
+led_turn f t s p q d e =
+    let u : Told q d.mid f (after_first s) = subst (λ r. Told r d.mid f (after_first s)) e (d.sound.told (after_first s)) in
+    record { told = told_on q (f t) d.mid f s (after_first s) d.run u; eaten = fewer q d.mid f s d.less u }
+
+-- what may follow an atom
+abbrev suffixed : (n : ℕ) (es : List Place) → (Term → Act es Deployment) → Term → Stack
+suffixed n es k t = push n post_tail es (λ f. k (f t))
+
+suffix_turn : (n : ℕ) (p : List Lexeme → Read Term) (es : List Place) (k : Term → Act es Deployment) → Low n → Reads expr p n expr_ops → avoids post_ops es ≡ true → (t : Term) (s : List Lexeme) (q : Read Term) (b c : Bool) → next_is (codes ".") s ≡ b → list_any (λ w. next_is w s) (codes "." ∷ codes "[" ∷ []) ≡ c
+    → (if c then Some (if b then field_of t (after_first s) else element_of p t s) else None) ≡ Some q → Turn (suffixed n es k) t s q
+suffix_turn n p es k l h a t s q b false g f e = absurd (cc)
+suffix_turn n p es k l h a t s q true true g f e = led_turn (suffixed n es k) t s (field_of t) q
+    (leads (codes ".") n post_tail _ _ es (λ f. k (f t)) s l refl (avoided post_ops es (codes ".") refl a) g (made (λ key. field t key) (named n (place n post_tail ∷ es) (λ key f. k (f (field t key))) l)))
+    (some_same _ q e)
+suffix_turn n p es k l h a t s q false true g f e =
+    let i : next_is (codes "[") s ≡ true = second_of (next_is (codes ".") s) (next_is (codes "[") s) f g in
+    led_turn (suffixed n es k) t s (p >>= λ i. take (codes "]") >>= λ u. give (element t i)) q
+    (leads (codes "[") n post_tail _ _ es (λ f. k (f t)) s l refl (avoided post_ops es (codes "[") refl a) i (elements n p (place n post_tail ∷ es) (λ x f. k (f x)) t l h))
+    (ap (λ r. after (after r (λ u. p)) (λ i. take (codes "]") >>= λ u. give (element t i))) (sym (take_is (codes "[") s i)) ∙ some_same _ q e)
 
 no_suffix : (s : List Lexeme) → list_any (λ w. next_is w s) (codes "." ∷ codes "[" ∷ []) ≡ false → NoneOf (Sign (codes ".") ∷ Sign (codes "[") ∷ []) s
 no_suffix [] h = record { is = refl }
 no_suffix (l ∷ ls) h = record { is = h }
 
-suffixes : (p : List Lexeme → Read Term) → Reads p expr expr_ops → (es : List Symbol) → avoids post_ops es ≡ true → Turns (next_suffix p) post_tail es
-suffixes p h es a = record {
-  on = λ t s q e. suffix_turn p h es a t s q (next_is (codes ".") s) (list_any (λ w. next_is w s) (codes "." ∷ codes "[" ∷ [])) refl refl e;
-  ends = λ t s e. skips post_tail es s refl (no_suffix s (is_off (list_any (λ w. next_is w s) (codes "." ∷ codes "[" ∷ [])) (if next_is (codes ".") s then field_of t (after_first s) else element_of p t s) e));
+suffixes : (n : ℕ) (p : List Lexeme → Read Term) (es : List Place) (k : Term → Act es Deployment) → Low n → Reads expr p n expr_ops → avoids post_ops es ≡ true → Turns (next_suffix p) (suffixed n es k) (λ t. stack es (k t))
+suffixes n p es k l h a = record {
+  on = λ t s q e. suffix_turn n p es k l h a t s q (next_is (codes ".") s) (list_any (λ w. next_is w s) (codes "." ∷ codes "[" ∷ [])) refl refl e;
+  ends = λ t s e. skips n post_tail (λ t. t) es (λ f. k (f t)) s refl refl (no_suffix s (is_off (list_any (λ w. next_is w s) (codes "." ∷ codes "[" ∷ [])) (if next_is (codes ".") s then field_of t (after_first s) else element_of p t s) e));
+  over = λ t. skips_end n post_tail (λ t. t) es (λ f. k (f t)) refl;
 }
 
-posts : (p : List Lexeme → Read Term) → Reads p expr expr_ops → Reads (read_post p) post post_ops
-posts p h es a = ruled post _ es (read_post p) refl (seq (read_atom p) _ (atom ∷ []) (post_tail ∷ []) es (atoms p h (post_tail ∷ es)) (λ t. repeats (next_suffix p) post_tail es refl (suffixes p h es a) t))
+posts : (n : ℕ) (p : List Lexeme → Read Term) → Low n → Reads expr p n expr_ops → Reads post (read_post p) n post_ops
+posts n p l h es k a = ruled n post _ es k refl (seq (atoms n p (place n post_tail ∷ es) (λ t f. k (f t)) l h) (λ t. repeats (suffixes n p es k l h a) t))
 
-unaries : (p : List Lexeme → Read Term) → Reads p expr expr_ops → Reads (read_unary p) unary post_ops
-unaries p h es a = signed (codes "-") negate_term (read_post p) unary post es refl refl refl (posts p h es a)
+unaries : (n : ℕ) (p : List Lexeme → Read Term) → Low n → Reads expr p n expr_ops → Reads unary (read_unary p) n post_ops
+unaries n p l h es k a = record {
+  told = λ s. signed_told (codes "-") negate_term (read_post p) es (λ m. push n unary es m)
+      (λ m s i. sign_run (codes "-") n unary _ _ es m s l refl refl i)
+      (λ m s i. told_by (read_post p s) (push n unary es m) (push n post es m) (λ t. stack es (m t)) s (by_rule n unary (by (place n post ∷ []) (λ t. t)) es m s (inr (inl refl)) (λ v y c d. second_of_two n unary _ _ es m v y refl (not_sign (codes "-") n (place n unary ∷ es) (λ line t. m (negate_term t)) s i v y c) d)) ((posts n p l h es m a).told s))
+      k s;
+}
 
-pub sums_read : (p : List Lexeme → Read Term) → Reads p expr expr_ops → Reads (read_sum p) sum sum_ops
-sums_read p h = all_sums (product p) (all_products (read_unary p) (unaries p h))
+pub sums_read : (n : ℕ) (p : List Lexeme → Read Term) → Low n → Reads expr p n expr_ops → Reads sum (read_sum p) n sum_ops
+sums_read n p l h = all_sums n (product p) l (all_products n (read_unary p) l (unaries n p l h))
 
-negations : (p : List Lexeme → Read Term) → Reads p expr expr_ops → Reads (negation p) neg relation_ops
-negations p h es a = signed (codes "not") not_term (chain Relation (read_sum p)) neg rel es refl refl refl (relations (read_sum p) (sums_read p h) es a)
+negations : (n : ℕ) (p : List Lexeme → Read Term) → Low n → Reads expr p n expr_ops → Reads neg (negation p) n relation_ops
+negations n p l h es k a = record {
+  told = λ s. signed_told (codes "not") not_term (chain Relation (read_sum p)) es (λ m. push n neg es m)
+      (λ m s i. sign_run (codes "not") n neg _ _ es m s l refl refl i)
+      (λ m s i. told_by (chain Relation (read_sum p) s) (push n neg es m) (push n rel es m) (λ t. stack es (m t)) s (by_rule n neg (by (place n rel ∷ []) (λ t. t)) es m s (inr (inl refl)) (λ v y c d. second_of_two n neg _ _ es m v y refl (not_sign (codes "not") n (place n neg ∷ es) (λ line t. m (not_term t)) s i v y c) d)) ((relations n (read_sum p) l (sums_read n p l h) es m a).told s))
+      k s;
+}
+
+-- ---- levels
 
 regroup : (a b c d : Bool) → (((a || b) || c) || d) ≡ false → (a || (b || (c || d))) ≡ false
 regroup true b c d h = h
@@ -417,10 +503,40 @@ no_beginning : (s : List Lexeme) → begins_expr s ≡ false → NoneOf for_expr
 no_beginning [] h = record { is = refl }
 no_beginning (l ∷ ls) h = record { is = regroup (name_token l.token) (number_token l.token) (text_token l.token) _ h }
 
-pub exprs_at : (d : ℕ) → Reads (expr_at d) expr expr_ops
+-- the next token opens one level too many
+pub too_deep : (n : ℕ) (a b : Symbol) (bs : List Place) (m : Act (place (n + 1) b ∷ bs) (Of a)) (es : List Place) (k : Of a → Act es Deployment) (t : Lexeme) (ts : List Lexeme) (what : What) → rules n a ≡ by (place (n + 1) b ∷ bs) m ∷ [] → nullable b ≡ false → is_wide b ≡ true → 64 < n + 1
+    → one_of (firsts a) t.token ≡ true → (if past_token t.token then Some OfNumber else Some TooDeep) ≡ Some what → Broken (push n a es k) (t ∷ ts) what
+too_deep n a b bs m es k t ts what e z w h i c =
+    let r : Rule (Of a) = by (place (n + 1) b ∷ bs) m in
+    let sure = λ (o : Option What) (v : List Marked) (y : Deployment) (d : Gives (place n a ∷ es) k (marked o t ∷ v) y). deep_first (n + 1) b (bs ++ es) (means Deployment r es k) (marked o t) v y h z w (sole n a r es k (marked o t ∷ v) y e d) ∙ c in
+    let g = begins_with n a t i es k in
+    record { first = t; rest = ts; more = g.more; code = g.code; all = refl; goes = subst (λ o. Gives (place n a ∷ es) k (marked o t ∷ g.more) g.code) (sure g.mark g.more g.code g.yields) g.yields; sure = sure }
+
+past_starts : (t : Token) → past_token t ≡ true → one_of (firsts expr) t ≡ true
+past_starts (Number v) h = refl
+past_starts t h = absurd (cc)
+
+regroup_true : (a b c d : Bool) → (((a || b) || c) || d) ≡ true → (a || (b || (c || d))) ≡ true
+regroup_true true b c d h = refl
+regroup_true false true c d h = refl
+regroup_true false false true d h = refl
+regroup_true false false false d h = h
+
+deep_expr : (n : ℕ) (es : List Place) (k : Term → Act es Deployment) (s : List Lexeme) → 64 < n + 1 → (b c : Bool) → is_past_numbers s ≡ b → begins_expr s ≡ c → Told {A = Term} (if b then refuse OfNumber s else if c then refuse TooDeep s else refuse Syntax s) (push n expr es k) (λ t. stack es (k t)) s
+deep_expr n es k [] h true c e f = absurd (cc)
+deep_expr n es k (t ∷ ts) h true c e f = halted (push n expr es k) (t ∷ ts) OfNumber (too_deep n expr conj _ _ es k t ts OfNumber refl refl refl h (past_starts t.token e) (ap (λ x. if x then Some OfNumber else Some TooDeep) e))
+deep_expr n es k [] h false true e f = absurd (cc)
+deep_expr n es k (t ∷ ts) h false true e f = halted (push n expr es k) (t ∷ ts) TooDeep (too_deep n expr conj _ _ es k t ts TooDeep refl refl refl h
+    (of_more for_expr (firsts expr) t.token refl (regroup_true (name_token t.token) (number_token t.token) (text_token t.token) _ f)) (ap (λ x. if x then Some OfNumber else Some TooDeep) e))
+deep_expr n es k s h false false e f = told_bad {ks = for_expr} n expr es k s refl refl (no_beginning s f)
+
+pub low_at : (n d : ℕ) → n + d ≡ 64 → Low n
+low_at n d e = le-leb n 64 (omega (arith, e))
+
+pub exprs_at : (d n : ℕ) → n + d ≡ 64 → Reads expr (expr_at d) n expr_ops
 unfolding expr_at
-exprs_at zero es a = record {
-  told = λ s. told_if (is_past_numbers s) (refuse OfNumber s) (if begins_expr s then refuse TooDeep s else refuse Syntax s) (expr ∷ []) es s (λ i e. absurd (cc))
-      (λ i. told_if (begins_expr s) (refuse TooDeep s) (refuse Syntax s) (expr ∷ []) es s (λ j e. absurd (cc)) (λ j. told_bad expr es s refl refl (no_beginning s j)));
-}
-exprs_at (suc d) es a = disjunctions (conjunction (expr_at d)) (conjunctions (negation (expr_at d)) (negations (expr_at d) (exprs_at d))) es a
+exprs_at zero n e es k a = record { told = λ s. deep_expr n es k s (omega (arith, e)) (is_past_numbers s) (begins_expr s) refl refl }
+exprs_at (suc d) n e es k a =
+    let f : (n + 1) + d ≡ 64 = omega (arith, e) in
+    let l = low_at (n + 1) d f in
+    disjunctions n (conjunction (expr_at d)) l (conjunctions (n + 1) (negation (expr_at d)) l (negations (n + 1) (expr_at d) l (exprs_at d (n + 1) f))) es k a

@@ -5,3 +5,4 @@ pub mod Lexer
 pub mod Operators
 pub mod Phrase
 pub mod Statements
+pub mod Text

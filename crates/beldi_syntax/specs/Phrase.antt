@@ -1,5 +1,5 @@
 -- Phrases: what is read off the front of the tokens.
-use Rattle.std.specs.Prelude.{◌≡◌, ℕ, zero, suc, nat_le, Bool, true, false, ◌&&◌, List, [], ◌∷◌, Option, Some, None, Result, Ok, Err, if◌then◌else◌}
+use Rattle.std.specs.Prelude.{◌≡◌, ℕ, zero, suc, ◌-◌, ◌^◌, nat_le, Bool, true, false, not, ◌&&◌, List, [], ◌∷◌, Option, Some, None, Result, Ok, Err, if◌then◌else◌}
 use Rattle.std.specs.Bool.{◌==◌}
 use lib.Pointwise.{pointwise}
 use Rattle.beldi_syntax.specs.declared.refusal.SyntaxErr.{SyntaxErr}
@@ -93,7 +93,7 @@ abbrev pub past_token : Token → Bool
 past_token (Sign v) = false
 past_token (Name v) = false
 past_token (Number None) = true
-past_token (Number (Some n)) = false
+past_token (Number (Some n)) = not (nat_le n (2 ^ 63 - 1))
 past_token (Text v) = false
 past_token End = false
 past_token Bad = false

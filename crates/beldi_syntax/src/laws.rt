@@ -1,12 +1,12 @@
 // The laws of the reader.
-ghost use Rattle.beldi_syntax.specs.Grammar.{Accepts, RefusesFirst};
+ghost use Rattle.beldi_syntax.specs.Text.{ReadsGrammar, RefusesFirst};
 
-/// What is read is of the grammar.
-pub fn accepts_the_grammar()
-    ensures { Accepts }
+/// What is read: what a text holds by the grammar, where no token of its deployment breaks a limit.
+pub fn reads_the_grammar()
+    ensures { ReadsGrammar }
 {}
 
-/// What is refused for its form is refused at the first token with which it ceases to be the beginning of a deployment.
+/// What is refused: the first cause in the text is told, with its line.
 pub fn refuses_first()
     ensures { RefusesFirst }
 {}

@@ -2,14 +2,19 @@
 //! It stands on `beldi_value` (numbers and texts), `beldi_tree` (what a deployment is) and `serde_json` (what a text says).
 //! Its definitions: `specs/Lexer` (tokens on bytes), `specs/Phrase` (what is read off the front of the tokens, or the line
 //! and the cause of a refusal), `specs/Operators`, `specs/Expressions`, `specs/Statements` and `specs/Deployments` (the
-//! grammar, phrase by phrase, and what a text is read as), and `specs/Grammar` (the grammar as a relation).
+//! grammar, phrase by phrase, and what a text is read as), `specs/Grammar` (the grammar as a relation: a table of rules, each
+//! with what it makes of what its symbols stand for, and which token breaks which limit) and `specs/Text` (what a text holds
+//! by that grammar, and why one is refused).
 //!
 //! Proved:
 //! - `read_deployment` reads just the texts of the grammar, as the deployment that they say, refuses the others with
 //!   the line and the cause of the definition, and finds where the script begins (`ReadsText (parsed_at ..)`).
-//! - The definition reads phrase by phrase; the grammar is also a relation, with a rule for each alternative: what is
-//!   read is of that grammar (`accepts_the_grammar`), and a text that is refused for its form is refused at the first
-//!   token such that no deployment begins with the tokens up to it (`refuses_first`).
+//! - That definition reads phrase by phrase. It reads exactly what a text holds by the grammar: the deployment that its tokens
+//!   are by the rules, where none of them breaks a limit, and the script after a blank line's rest (`reads_the_grammar`).
+//! - It refuses exactly where the grammar has a cause, the first one in the text: bytes that are not UTF-8, or too many; a token
+//!   with which no deployment goes on; a number outside the limits of its place, a token in more than 64 open levels, a text
+//!   that is too long, of two causes at one token the first in this order; a line of `script` that is not blank
+//!   (`refuses_first`).
 #![tactic(auto)]
 
 mod deployments;
@@ -23,6 +28,6 @@ mod statements;
 mod token;
 mod tokens;
 
-pub use laws::{accepts_the_grammar, refuses_first};
+pub use laws::{reads_the_grammar, refuses_first};
 pub use reading::{Parsed, read_deployment};
 pub use refusal::{SyntaxErr, What};

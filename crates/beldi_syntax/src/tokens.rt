@@ -11,6 +11,9 @@ use std::alloc::{AllocError, Global};
 use std::collections::VecDeque;
 use std::marker::Model;
 
+/// The greatest number.
+const MOST_NUMBER: u64 = 9_223_372_036_854_775_807;
+
 /// Tokens that are still to be read.
 #[derive(Drop)]
 pub(crate) struct Tokens {
@@ -122,10 +125,10 @@ impl Tokens {
         match self.items.front() {
             Some(
                 Lexeme {
-                    token: Token::Number(None),
+                    token: Token::Number(number),
                     ..
                 },
-            ) => true,
+            ) => number.is_none_or(|number| number > MOST_NUMBER),
             _ => false,
         }
     }

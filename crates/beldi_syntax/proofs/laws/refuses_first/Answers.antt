@@ -1,4 +1,4 @@
-use Rattle.beldi_syntax.proofs.First.{refuses_first}
+use Rattle.beldi_syntax.proofs.Texts.{refuses_first}
 use Rattle.beldi_syntax.proofs.laws.refuses_first.Goals as goal
 
 pub returns : goal.returns
