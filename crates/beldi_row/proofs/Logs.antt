@@ -1,11 +1,12 @@
 -- Places that are one, and logs with a note more.
 use Rattle.std.proofs.Common.{◌≡◌, ℕ, ◌==◌, ◌&&◌, Bool, true, false, List, [], ◌∷◌, ◌++◌, Option, None, Some, refl, ap, sym, ◌∙◌, subst, eqb-true, eq-eqb, if◌then◌else◌}
 use lib.Pointwise.{pointwise}
+use Rattle.beldi_value.specs.declared.id.IntentId.{IntentId}
 use Rattle.beldi_value.specs.declared.place.Place.{Place}
 use Rattle.beldi_row.specs.declared.notes.Note.{Note}
 use Rattle.beldi_row.specs.Log.{note_at, place_eq, id_eq, NoneTwice}
 
--- ---- places
+-- ---- intents and places
 both : (a b : Bool) → (a && b) ≡ true → (a ≡ true) × (b ≡ true)
 both true b h = (refl, h)
 both false b h = cc
@@ -20,16 +21,19 @@ hops_self : (xs : List ℕ) → pointwise ◌==◌ xs xs ≡ true
 hops_self [] = refl
 hops_self (x ∷ xs) = ap (λ b. b && pointwise ◌==◌ xs xs) (eq-eqb x x refl) ∙ hops_self xs
 
+pub id_same : (a b : IntentId) → id_eq a b ≡ true → a ≡ b
+id_same a b h = let e = both (a.ticket == b.ticket) (pointwise ◌==◌ a.hops b.hops) h in λ i. record { ticket = eqb-true a.ticket b.ticket e.0 i; hops = hops_same a.hops b.hops e.1 i }
+
+pub id_self : (a : IntentId) → id_eq a a ≡ true
+id_self a = ap (λ b. b && pointwise ◌==◌ a.hops a.hops) (eq-eqb a.ticket a.ticket refl) ∙ hops_self a.hops
+
 pub place_same : (a b : Place) → place_eq a b ≡ true → a ≡ b
 place_same a b h =
     let e = both (id_eq a.intent b.intent) (a.step == b.step) h in
-    let f = both (a.intent.ticket == b.intent.ticket) (pointwise ◌==◌ a.intent.hops b.intent.hops) e.0 in
-    λ i. record { intent = record { ticket = eqb-true a.intent.ticket b.intent.ticket f.0 i; hops = hops_same a.intent.hops b.intent.hops f.1 i }; step = eqb-true a.step b.step e.1 i }
+    λ i. record { intent = id_same a.intent b.intent e.0 i; step = eqb-true a.step b.step e.1 i }
 
 pub place_self : (a : Place) → place_eq a a ≡ true
-place_self a =
-    ap (λ b. (b && pointwise ◌==◌ a.intent.hops a.intent.hops) && (a.step == a.step)) (eq-eqb a.intent.ticket a.intent.ticket refl)
-    ∙ ap (λ b. b && (a.step == a.step)) (hops_self a.intent.hops) ∙ eq-eqb a.step a.step refl
+place_self a = ap (λ b. b && (a.step == a.step)) (id_self a.intent) ∙ eq-eqb a.step a.step refl
 
 -- ---- logs
 none_of : (b : Bool) (y : Note) (r : Option Note) → (if b then Some y else r) ≡ None → (b ≡ false) × (r ≡ None)

@@ -4,16 +4,19 @@ use Rattle.beldi_value.specs.declared.value.Value.{Value}
 use Rattle.beldi_value.specs.declared.outcome.Outcome.{Outcome}
 use Rattle.beldi_value.specs.declared.place.Place.{Place}
 use Rattle.beldi_value.specs.declared.place.Owner.{Owner}
+use Rattle.beldi_value.specs.declared.rel.Rel.{Rel}
+use Rattle.beldi_value.specs.Passes.{passes}
 use Rattle.beldi_value.specs.Same.{same_value}
 use Rattle.beldi_row.specs.declared.notes.Note.{Note}
-use Rattle.beldi_row.specs.declared.notes.Note.TheVariants.{Wrote}
+use Rattle.beldi_row.specs.declared.notes.Note.TheVariants.{Wrote, Cond, Got, Freed}
 use Rattle.beldi_row.specs.declared.row.Body.{Body}
 use Rattle.beldi_row.specs.declared.row.IntentRow.{IntentRow}
+use Rattle.beldi_row.specs.declared.row.InvokeRow.{InvokeRow}
 use Rattle.beldi_row.specs.declared.row.Cell.{Cell}
 use Rattle.beldi_row.specs.declared.row.Row.{Row}
 use Rattle.beldi_row.specs.declared.row.Row.TheVariants as rows
 use Rattle.beldi_row.specs.declared.act.Act.{Act}
-use Rattle.beldi_row.specs.declared.act.Act.TheVariants.{Look, Issue, Bind, End, PutRead, MakeCell, WriteCell}
+use Rattle.beldi_row.specs.declared.act.Act.TheVariants.{Look, Issue, Bind, Register, End, PutRead, OpenInvoke, CallBack, NoteRegistered, MakeCell, WriteCell, CondCell, LockCell, FreeCell}
 use Rattle.beldi_row.specs.declared.act.Said.{Said}
 use Rattle.beldi_row.specs.declared.act.Said.TheVariants as said
 use Rattle.beldi_row.specs.declared.act.Change.{Change}
@@ -40,6 +43,8 @@ pub data Tell : Type 0 where
   noted : Note → Tell
   next : ℕ → Tell
   held : Owner → Tell
+  not_owner : Tell
+  tested : Bool → Tell
 
 abbrev pub tell_of : Said → Tell
 tell_of said.Absent = absent
@@ -58,6 +63,8 @@ tell_of said.NoRow = no_row
 tell_of (said.Noted n) = noted n.now
 tell_of (said.Next n) = next n
 tell_of (said.Held o) = held o.now
+tell_of said.NotOwner = not_owner
+tell_of (said.Tested b) = tested b
 
 -- ---- the acts on the row of an intent
 abbrev pub outcome_tell : Option Outcome → Tell
@@ -85,6 +92,17 @@ abbrev pub kept_tell : Option Row → Tell
 kept_tell (Some (rows.ReadLog v)) = kept v
 kept_tell r = no_row
 
+-- ---- the acts on the row of a call
+-- sets what it gave back, by what is there
+abbrev pub call_back_to : Outcome → InvokeRow → Option Outcome → InvokeRow × Tell
+call_back_to o i None = (record i { result = Some o }, did)
+call_back_to o i (Some p) = (i, already)
+
+-- says that it is registered, by whether that was said
+abbrev pub register_to : InvokeRow → Bool → InvokeRow × Tell
+register_to i false = (record i { registered = true }, did)
+register_to i true = (i, already)
+
 -- ---- the acts on a cell
 -- the owner, where it is another than this one
 abbrev pub other_owner : Owner → Option Owner → Option Owner
@@ -110,12 +128,42 @@ noted_or c (Some n) r = (c, noted n)
 abbrev pub at_tail : Place → Cell → Cell × Tell → Cell × Tell
 at_tail p c r = noted_or c (note_at c.log p) (next_or c c.next r)
 
--- the value is set, and an entry made
-abbrev pub wrote : Place → Value → Cell → Cell
-wrote p v c = record c { value = v; log = c.log ++ (p, Wrote) ∷ [] }
+-- an entry is made for a place: the cell has its note, this value and this owner
+abbrev pub entered : Place → Note → Value → Option Owner → Cell → Cell
+entered p n v o c = record c { value = v; owner = o; log = c.log ++ (p, n) ∷ [] }
+
+-- .. where no other than who asks owns it
+abbrev pub unless_held : Owner → Cell → Cell × Tell → Cell × Tell
+unless_held w c r = held_or c (other_owner w c.owner) r
+
+-- .. or where who asks owns it
+abbrev pub owns : Owner → Option Owner → Bool
+owns who None = false
+owns who (Some o) = owner_eq o who
+
+abbrev pub if_owned : Owner → Cell → Cell × Tell → Cell × Tell
+if_owned w c r = if owns w c.owner then r else (c, not_owner)
+
+-- the value, or the one that is there
+abbrev pub given_or : Option Value → Value → Value
+given_or None w = w
+given_or (Some v) w = v
 
 abbrev pub write_at : Place → Owner → Value → Cell → Cell × Tell
-write_at p w v c = at_tail p c (held_or c (other_owner w c.owner) (wrote p v c, did))
+write_at p w v c = at_tail p c (unless_held w c (entered p Wrote v c.owner c, did))
+
+-- a condition, by the test of the value that is there
+abbrev pub cond_to : Bool → Place → Value → Cell → Cell × Tell
+cond_to b p v c = (entered p (Cond b) (if b then v else c.value) c.owner c, tested b)
+
+abbrev pub cond_at : Place → Owner → Rel → Value → Value → Cell → Cell × Tell
+cond_at p w r o v c = at_tail p c (unless_held w c (cond_to (passes c.value r o) p v c))
+
+abbrev pub lock_at : Place → Owner → Cell → Cell × Tell
+lock_at p w c = at_tail p c (unless_held w c (entered p Got c.value (Some w) c, did))
+
+abbrev pub free_at : Place → Owner → Option Value → Cell → Cell × Tell
+free_at p w v c = at_tail p c (if_owned w c (entered p Freed (given_or v c.value) None c, did))
 
 -- ---- the acts on a row of any kind: one that does not fit its kind changes nothing, and says this
 abbrev pub on_intent : (IntentRow → IntentRow × Tell) → Tell → Row → Row × Tell
@@ -124,6 +172,13 @@ on_intent f t (rows.ReadLog v) = (rows.ReadLog v, t)
 on_intent f t (rows.Invoke v) = (rows.Invoke v, t)
 on_intent f t (rows.Cell c) = (rows.Cell c, t)
 on_intent f t rows.Lockset = (rows.Lockset, t)
+
+abbrev pub on_invoke : (InvokeRow → InvokeRow × Tell) → Tell → Row → Row × Tell
+on_invoke f t (rows.Intent i) = (rows.Intent i, t)
+on_invoke f t (rows.ReadLog v) = (rows.ReadLog v, t)
+on_invoke f t (rows.Invoke i) = (rows.Invoke (f i).0, (f i).1)
+on_invoke f t (rows.Cell c) = (rows.Cell c, t)
+on_invoke f t rows.Lockset = (rows.Lockset, t)
 
 abbrev pub on_cell : (Cell → Cell × Tell) → Tell → Row → Row × Tell
 on_cell f t (rows.Intent i) = (rows.Intent i, t)
@@ -137,20 +192,34 @@ abbrev pub on : Act → ℕ → Row → Row × Tell
 on Look now r = (r, here r)
 on Issue now r = (r, present)
 on (Bind f a) now r = on_intent (λ i. bind_to f a i i.body) gone r
+on (Register b) now r = (r, here r)
 on (End o s) now r = on_intent (λ i. end_with o s now i i.outcome) gone r
 on (PutRead v) now r = (r, kept_tell (Some r))
+on (OpenInvoke f) now r = (r, here r)
+on (CallBack o) now r = on_invoke (λ i. call_back_to o i i.result) gone r
+on NoteRegistered now r = on_invoke (λ i. register_to i i.registered) gone r
 on (MakeCell v o) now r = (r, present)
 on (WriteCell p w v) now r = on_cell (write_at p w v) no_row r
+on (CondCell p w k o v) now r = on_cell (cond_at p w k o v) no_row r
+on (LockCell p w) now r = on_cell (lock_at p w) no_row r
+on (FreeCell p w v) now r = on_cell (free_at p w v) no_row r
 
 -- where no row is
 abbrev pub off : Act → ℕ → Option Row × Tell
 off Look now = (None, absent)
 off Issue now = (Some (rows.Intent (record { issued = now; body = None; outcome = None; finish = None })), added)
 off (Bind f a) now = (None, gone)
+off (Register b) now = (Some (rows.Intent (record { issued = now; body = Some b; outcome = None; finish = None })), added)
 off (End o s) now = (None, gone)
 off (PutRead v) now = (Some (rows.ReadLog v), added)
+off (OpenInvoke f) now = (Some (rows.Invoke (record { func = f; result = None; registered = false })), added)
+off (CallBack o) now = (None, gone)
+off NoteRegistered now = (None, gone)
 off (MakeCell v o) now = (Some (rows.Cell (record { value = v; owner = o; log = []; next = None; marked = false; dangled = None })), added)
 off (WriteCell p w v) now = (None, no_row)
+off (CondCell p w k o v) now = (None, no_row)
+off (LockCell p w) now = (None, no_row)
+off (FreeCell p w v) now = (None, no_row)
 
 abbrev pub stays : Row × Tell → Option Row × Tell
 stays r = (Some r.0, r.1)
@@ -206,13 +275,15 @@ said_by change.NoRow r = no_row
 said_by (change.Noted n) r = cell_tell (λ c. noted_tell (note_of (slice_get c.log n))) r
 said_by (change.Next n) r = next n
 said_by change.Held r = cell_tell (λ c. held_tell c.owner) r
+said_by change.NotOwner r = not_owner
+said_by (change.Tested b) r = tested b
 
 -- what stands in the way of an act on a cell is told, or else the act is done
 abbrev pub way_or : Option Change → Cell → Cell × Tell → Cell × Tell
 way_or None c r = r
 way_or (Some w) c r = (c, said_by w (Some (rows.Cell c)))
 
--- the row and the answer of a change are those of the act; at want of memory the row is as before
+-- the row and the answer of a change are those of the act; out of memory, the row is as before
 abbrev pub Changes : Act → ℕ → Row → Row → Result Change TableErr → Type 0
 Changes a now before after (Ok c) = (after, said_by c (Some after)) ≡ on a now before
 Changes a now before after (Err e) = (after ≡ before) × (e ≡ OutOfMemory)

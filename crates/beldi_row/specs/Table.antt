@@ -134,9 +134,17 @@ NextOn k (Err OutOfMemory) m n = n ≡ m
 NextOn k (Err Failed) m n = n ≡ m
 NextOn k (Err (Full live most)) m n = ⊥
 
+-- it was not refused as full
+abbrev pub IsNotFull : {T : Type 0} → Result T TableErr → Type 0
+IsNotFull (Ok x) = Unit {0}
+IsNotFull (Err OutOfMemory) = Unit {0}
+IsNotFull (Err Failed) = Unit {0}
+IsNotFull (Err (Full live most)) = ⊥
+
 -- a step to the row after a key
 pub record Went (k : RowKey) (old new : TableState) (result : Result (Option (Bor RowKey × Bor Row)) TableErr) : Type 0 where
   pub rows : Tells old.rows new.rows (NextOn k result)
+  pub fits : IsNotFull result
   pub cause : HasCause old.faults new.faults result
   pub room : new.room ≡ old.room
   pub calls : OneCall old.calls new.calls

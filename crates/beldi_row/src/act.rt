@@ -1,19 +1,18 @@
 // The acts on one row.
-ghost use Rattle.std.specs.Prelude.{◌≡◌, ℕ, Some, Option, is_some, slice_get};
-ghost use Rattle.std.specs.Option.{option_copied};
+ghost use Rattle.std.specs.Prelude.{◌≡◌, ℕ, Some, Option};
 ghost use Rattle.beldi_row.specs.declared.row.Row as row_data;
-ghost use Rattle.beldi_row.specs.declared.row.Cell as cell_data;
-ghost use Rattle.beldi_row.specs.Act.{Tell, at_tail, way_or, tell_of, bind_to, end_with, other_owner, off, said_by, Changes, ended_tell, other_tell, held_tell, noted_tell};
-ghost use Rattle.beldi_row.specs.Log.{note_of};
+ghost use Rattle.beldi_row.specs.Act.{bind_to, end_with, call_back_to, register_to, off, said_by, Changes};
 
+use crate::cell::{free, lock, write, write_where};
 use crate::notes::{Log, Note};
-use crate::row::{Body, Cell, IntentRow, Row};
+use crate::row::{Body, Cell, IntentRow, InvokeRow, Row};
 use crate::table::TableErr;
-use beldi_value::{Outcome, Owner, Place, Value};
+use beldi_value::{Outcome, Owner, Place, Rel, Value};
 use std::alloc::Global;
 
-/// An act on one row. `Look` is for rows of any kind, `PutRead` for what reads were given, `MakeCell` and `WriteCell` for
-/// cells, the others for intents.
+/// An act on one row. `Look` is for rows of any kind, `Issue`, `Bind`, `Register` and `End` are for intents, `PutRead` for what
+/// reads were given, `OpenInvoke`, `CallBack` and `NoteRegistered` for calls, the others for cells. A cell that has the place
+/// already, or that a row follows, is left as it is.
 #[derive(Drop)]
 pub enum Act {
     /// Reads the row.
@@ -25,6 +24,10 @@ pub enum Act {
         func: u16,
         args: Value,
     },
+    /// Adds the row of an intent that was called, with what it is to do.
+    Register {
+        body: Body,
+    },
     /// Sets the outcome, once, and with `stamp` also the moment of the finish.
     End {
         outcome: Outcome,
@@ -34,6 +37,16 @@ pub enum Act {
     PutRead {
         value: Value,
     },
+    /// Adds the row of a call of this function.
+    OpenInvoke {
+        func: u16,
+    },
+    /// Sets what a call gave back, once.
+    CallBack {
+        outcome: Outcome,
+    },
+    /// Says, once, that the intent of an asynchronous call has its row.
+    NoteRegistered,
     /// Adds a cell with this value and owner.
     MakeCell {
         value: Value,
@@ -44,6 +57,27 @@ pub enum Act {
         place: Place,
         who: Owner,
         value: Value,
+    },
+    /// Tests the value for the operation at this place, once, where no other than `who` owns the item, and sets it where it
+    /// stands so to the operand.
+    CondCell {
+        place: Place,
+        who: Owner,
+        rel: Rel,
+        operand: Value,
+        value: Value,
+    },
+    /// Makes `who` the owner, once, where no other owns the item. Whoever asks waits for another owner: that a younger
+    /// transaction dies there comes with transactions.
+    LockCell {
+        place: Place,
+        who: Owner,
+    },
+    /// Leaves the item without an owner, once, where `who` owns it, and sets the value where one is given.
+    FreeCell {
+        place: Place,
+        who: Owner,
+        value: Option<Value>,
     },
 }
 
@@ -82,6 +116,10 @@ pub enum Said<'a> {
     Next(u32),
     /// Another owner has the item.
     Held(&'a Owner),
+    /// Who would give the item back does not own it.
+    NotOwner,
+    /// The value was tested now, with this answer.
+    Tested(bool),
 }
 
 /// What an act did: each says the same as the answer of `Said` with its name, but for what lies in the row.
@@ -104,6 +142,8 @@ pub enum Change {
     Noted(usize),
     Next(u32),
     Held,
+    NotOwner,
+    Tested(bool),
 }
 
 /// What an act makes where no row is, if anything. It takes no memory.
@@ -117,7 +157,18 @@ pub fn made(alloc: Global, act: Act, now: u64) -> Option<Row>
             outcome: None,
             finish: None,
         })),
+        Act::Register { body } => Some(Row::Intent(IntentRow {
+            issued: now,
+            body: Some(body),
+            outcome: None,
+            finish: None,
+        })),
         Act::PutRead { value } => Some(Row::ReadLog(value)),
+        Act::OpenInvoke { func } => Some(Row::Invoke(InvokeRow {
+            func,
+            result: None,
+            registered: false,
+        })),
         Act::MakeCell { value, owner } => Some(Row::Cell(Cell {
             value,
             owner,
@@ -126,7 +177,10 @@ pub fn made(alloc: Global, act: Act, now: u64) -> Option<Row>
             marked: false,
             dangled: None,
         })),
-        _ => None,
+        Act::Look | Act::Bind { .. } | Act::End { .. } => None,
+        Act::CallBack { .. } | Act::NoteRegistered => None,
+        Act::WriteCell { .. } | Act::CondCell { .. } => None,
+        Act::LockCell { .. } | Act::FreeCell { .. } => None,
     }
 }
 
@@ -136,24 +190,26 @@ pub fn missing(act: &Act) -> Change
 {
     match act {
         Act::Look => Change::Absent,
-        Act::Issue | Act::PutRead { .. } | Act::MakeCell { .. } => Change::Added,
+        Act::Issue | Act::Register { .. } | Act::PutRead { .. } => Change::Added,
+        Act::OpenInvoke { .. } | Act::MakeCell { .. } => Change::Added,
         Act::Bind { .. } | Act::End { .. } => Change::Gone,
-        Act::WriteCell { .. } => Change::NoRow,
+        Act::CallBack { .. } | Act::NoteRegistered => Change::Gone,
+        Act::WriteCell { .. } | Act::CondCell { .. } => Change::NoRow,
+        Act::LockCell { .. } | Act::FreeCell { .. } => Change::NoRow,
     }
 }
 
-/// An act on a row that is there. At want of memory, the one error, the row is as before.
+/// An act on a row that is there. Out of memory, the one error, the row is as before.
 pub fn apply(row: &mut Row, act: Act, now: u64) -> Result<Change, TableErr>
     ensures { Changes act now row.old row.new result }
 {
     match act {
-        Act::Look => Ok(Change::Row),
-        Act::Issue => Ok(Change::Present),
+        Act::Look | Act::Register { body: _ } | Act::OpenInvoke { func: _ } => Ok(Change::Row),
+        Act::Issue | Act::MakeCell { value: _, owner: _ } => Ok(Change::Present),
         Act::PutRead { value: _ } => match row {
             Row::ReadLog(_) => Ok(Change::Kept),
             _ => Ok(Change::NoRow),
         },
-        Act::MakeCell { value: _, owner: _ } => Ok(Change::Present),
         Act::Bind { func, args } => match row {
             Row::Intent(intent) => Ok(bind(intent, func, args)),
             _ => Ok(Change::Gone),
@@ -162,8 +218,34 @@ pub fn apply(row: &mut Row, act: Act, now: u64) -> Result<Change, TableErr>
             Row::Intent(intent) => Ok(end(intent, outcome, stamp, now)),
             _ => Ok(Change::Gone),
         },
+        Act::CallBack { outcome } => match row {
+            Row::Invoke(call) => Ok(call_back(call, outcome)),
+            _ => Ok(Change::Gone),
+        },
+        Act::NoteRegistered => match row {
+            Row::Invoke(call) => Ok(note_registered(call)),
+            _ => Ok(Change::Gone),
+        },
         Act::WriteCell { place, who, value } => match row {
             Row::Cell(cell) => write(cell, place, who, value),
+            _ => Ok(Change::NoRow),
+        },
+        Act::CondCell {
+            place,
+            who,
+            rel,
+            operand,
+            value,
+        } => match row {
+            Row::Cell(cell) => write_where(cell, place, who, rel, operand, value),
+            _ => Ok(Change::NoRow),
+        },
+        Act::LockCell { place, who } => match row {
+            Row::Cell(cell) => lock(cell, place, who),
+            _ => Ok(Change::NoRow),
+        },
+        Act::FreeCell { place, who, value } => match row {
+            Row::Cell(cell) => free(cell, place, who, value),
             _ => Ok(Change::NoRow),
         },
     }
@@ -209,101 +291,22 @@ fn end(intent: &mut IntentRow, outcome: Outcome, stamp: bool, now: u64) -> Chang
     Change::Did
 }
 
-// Whether the owner, if any, is another than `who`.
-fn is_held(owner: &Option<Owner>, who: &Owner) -> bool
-    ensures { result ≡ is_some (other_owner who.now owner.now) }
+fn call_back(call: &mut InvokeRow, outcome: Outcome) -> Change
+    ensures { (call.new, said_by result (Some (Row.Invoke call.new))) ≡ call_back_to outcome call.old call.old.result }
 {
-    match owner {
-        None => false,
-        Some(owner) => owner != who,
+    if call.result.is_some() {
+        return Change::Already;
     }
+    call.result = Some(outcome);
+    Change::Did
 }
 
-// The entry that the place has already, or else the row after this one.
-fn in_the_way(cell: &Cell, place: &Place) -> Option<Change>
-    ensures { (r : cell_data.Cell × Tell) → at_tail place.now cell.now r ≡ way_or result cell.now r }
+fn note_registered(call: &mut InvokeRow) -> Change
+    ensures { (call.new, said_by result (Some (Row.Invoke call.new))) ≡ register_to call.old call.old.registered }
 {
-    match cell.log.find(place) {
-        Some(index) => Some(Change::Noted(index)),
-        None => match cell.next {
-            Some(next) => Some(Change::Next(next)),
-            None => None,
-        },
+    if call.registered {
+        return Change::Already;
     }
-}
-
-fn write(cell: &mut Cell, place: Place, who: Owner, value: Value) -> Result<Change, TableErr>
-    ensures { Changes (Act.WriteCell place who value) 0 (Row.Cell cell.old) (Row.Cell cell.new) result }
-{
-    if let Some(change) = in_the_way(cell, &place) {
-        return Ok(change);
-    }
-    if is_held(&cell.owner, &who) {
-        return Ok(Change::Held);
-    }
-    cell.log.push(place, Note::Wrote)?;
-    cell.value = value;
-    Ok(Change::Did)
-}
-
-/// What a change says, with what lies in the row as the change left it.
-pub fn tell(row: Option<&Row>, change: Change) -> Said<'_>
-    ensures { tell_of result ≡ said_by change (option_copied row.entry) }
-{
-    match (change, row) {
-        (Change::Row, Some(row)) => Said::Row(row),
-        (Change::Absent, _) | (Change::Row, None) => Said::Absent,
-        (Change::Added, _) => Said::Added,
-        (Change::Present, _) => Said::Present,
-        (Change::Other, Some(Row::Intent(intent))) => tell_other(intent),
-        (Change::Ended, Some(Row::Intent(intent))) => tell_ended(intent),
-        (Change::Other, _) | (Change::Ended, _) | (Change::Gone, _) => Said::Gone,
-        (Change::Bound, _) => Said::Bound,
-        (Change::Running, _) => Said::Running,
-        (Change::Already, _) => Said::Already,
-        (Change::Did, _) => Said::Did,
-        (Change::Kept, Some(Row::ReadLog(value))) => Said::Kept(value),
-        (Change::Noted(index), Some(Row::Cell(cell))) => tell_noted(cell, index),
-        (Change::Held, Some(Row::Cell(cell))) => tell_held(cell),
-        (Change::Kept, _) | (Change::Noted(_), _) | (Change::Held, _) | (Change::NoRow, _) => {
-            Said::NoRow
-        }
-        (Change::Next(next), _) => Said::Next(next),
-    }
-}
-
-fn tell_other(intent: &IntentRow) -> Said<'_>
-    ensures { tell_of result ≡ other_tell intent.now.body }
-{
-    match &intent.body {
-        Some(body) => Said::Other(body),
-        None => Said::Gone,
-    }
-}
-
-fn tell_ended(intent: &IntentRow) -> Said<'_>
-    ensures { tell_of result ≡ ended_tell intent.now.outcome }
-{
-    match &intent.outcome {
-        Some(outcome) => Said::Ended(outcome),
-        None => Said::Gone,
-    }
-}
-
-fn tell_noted(cell: &Cell, index: usize) -> Said<'_>
-    ensures { tell_of result ≡ noted_tell (note_of (slice_get cell.now.log index)) }
-{
-    match cell.log.note(index) {
-        Some(note) => Said::Noted(note),
-        None => Said::NoRow,
-    }
-}
-
-fn tell_held(cell: &Cell) -> Said<'_>
-    ensures { tell_of result ≡ held_tell cell.now.owner }
-{
-    match &cell.owner {
-        Some(owner) => Said::Held(owner),
-        None => Said::NoRow,
-    }
+    call.registered = true;
+    Change::Did
 }

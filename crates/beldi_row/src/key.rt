@@ -107,7 +107,8 @@ impl Kind {
     }
 }
 
-fn copy_tx(tx: &TxId, alloc: Global) -> Result<TxId, AllocError>
+/// An equal transaction.
+pub(crate) fn copy_tx(tx: &TxId, alloc: Global) -> Result<TxId, AllocError>
     ensures { IfOk result (λ t. t ≡ tx.now) }
 {
     Ok(TxId {

@@ -13,20 +13,23 @@
 //! - The trait `Table` says what a table owes. Contracts see one state of it (`TableState`): its rows, where it tells
 //!   them, its failures, its room, and its calls, where it counts them.
 //! - `len` tells the number of rows, 4,294,967,295 where there are more (`IsCount`), `ready` sets the room
-//!   (`Readied`), `act` carries out an act (`acts`), `next` finds the row after (`went`); `act` and `next` count one
-//!   call, `ready` none.
+//!   (`Readied`), `act` carries out an act (`acts`), `next` finds the row after and is never refused as full (`went`); `act`
+//!   and `next` count one call, `ready` none.
 #![tactic(auto)]
 
 mod act;
+mod cell;
 mod key;
 mod laws;
 mod notes;
 mod row;
 mod table;
+mod telling;
 
-pub use act::{Act, Change, Said, apply, made, missing, tell};
+pub use act::{Act, Change, Said, apply, made, missing};
 pub use key::{Kind, RowKey, copy_owner};
 pub use laws::next_row_is_least;
 pub use notes::{Log, Note};
 pub use row::{Body, Caller, Cell, IntentRow, InvokeRow, Row};
 pub use table::{Table, TableErr};
+pub use telling::tell;

@@ -93,7 +93,7 @@ impl Log {
         }
     }
 
-    /// Puts an entry at the end. After want of memory the log is as before.
+    /// Puts an entry at the end. Out of memory, the log is as before.
     pub fn push(&mut self, place: Place, note: Note) -> Result<(), AllocError>
         ensures ok { OnOk result (self.new ≡ self.old ++ (place, note) ∷ []) }
         ensures err { OnErr result (self.new ≡ self.old) }

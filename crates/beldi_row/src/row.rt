@@ -1,6 +1,10 @@
 // What rows hold.
+ghost use Rattle.std.specs.Prelude.{◌≡◌, IfOk};
+
+use crate::key::copy_tx;
 use crate::notes::Log;
 use beldi_value::{Outcome, Owner, Place, TxId, Value};
+use std::alloc::{AllocError, Global};
 
 /// Who called an instance: the place of the call, the caller's function, and whether the caller waits for the answer.
 #[derive(Drop)]
@@ -8,6 +12,19 @@ pub struct Caller {
     pub place: Place,
     pub func: u16,
     pub waits: bool,
+}
+
+impl Caller {
+    /// An equal caller.
+    pub fn copy(&self, alloc: Global) -> Result<Caller, AllocError>
+        ensures { IfOk result (λ c. c ≡ self.now) }
+    {
+        Ok(Caller {
+            place: self.place.copy(alloc)?,
+            func: self.func,
+            waits: self.waits,
+        })
+    }
 }
 
 /// What an instance is to do: a function, its arguments, the transaction that it is called in, and its caller. A root
@@ -20,6 +37,29 @@ pub struct Body {
     pub from: Option<Caller>,
 }
 
+impl Body {
+    /// An equal body.
+    pub fn copy(&self, alloc: Global) -> Result<Body, AllocError>
+        ensures { IfOk result (λ b. b ≡ self.now) }
+    {
+        let args = self.args.copy(alloc)?;
+        let tx = match &self.tx {
+            None => None,
+            Some(tx) => Some(copy_tx(tx, alloc)?),
+        };
+        let from = match &self.from {
+            None => None,
+            Some(from) => Some(from.copy(alloc)?),
+        };
+        Ok(Body {
+            func: self.func,
+            args,
+            tx,
+            from,
+        })
+    }
+}
+
 /// The row of an intent. Moments are in ticks: `issued` is when the row was made, `finish` is when all of its work was
 /// done.
 #[derive(Drop)]
@@ -28,6 +68,28 @@ pub struct IntentRow {
     pub body: Option<Body>,
     pub outcome: Option<Outcome>,
     pub finish: Option<u64>,
+}
+
+impl IntentRow {
+    /// An equal intent.
+    pub fn copy(&self, alloc: Global) -> Result<IntentRow, AllocError>
+        ensures { IfOk result (λ i. i ≡ self.now) }
+    {
+        let body = match &self.body {
+            None => None,
+            Some(body) => Some(body.copy(alloc)?),
+        };
+        let outcome = match &self.outcome {
+            None => None,
+            Some(outcome) => Some(outcome.copy(alloc)?),
+        };
+        Ok(IntentRow {
+            issued: self.issued,
+            body,
+            outcome,
+            finish: self.finish,
+        })
+    }
 }
 
 /// The row of a call: the function called, what it gave back, and whether an asynchronous call has been registered.

@@ -13,7 +13,7 @@ use thiserror::Error;
 /// Why a call of a table was not done. After each of these the rows are as before.
 #[derive(Debug, Drop, Error)]
 pub enum TableErr {
-    /// Memory was wanting.
+    /// Out of memory.
     #[error("out of memory")]
     OutOfMemory,
     /// The table failed: only where its count of failures rose in this call.
@@ -56,7 +56,8 @@ pub trait Table {
         ensures* acts { sem 𝓛 (follows_so Self.row Self.row self.entry.ghost_name none (λ _ _. ⊤) (λ after.
             Acted act now key (state self.entry.now) (state after) result)) };
 
-    /// The first row whose key is greater than `after`, and None exactly where there is none. It counts one call.
+    /// The first row whose key is greater than `after`, and None exactly where there is none. It is never refused as `Full`,
+    /// and counts one call.
     fn next(&mut self, after: &RowKey) -> Result<Option<(&RowKey, &Row)>, TableErr>
         ensures* went { sem 𝓛 (follows_so Self.row Self.row self.entry.ghost_name none (λ _ _. ⊤) (λ now.
             Went after.now (state self.entry.now) (state now) result)) };

@@ -13,6 +13,7 @@ returns-then-fails c =
         λ _. tt,
         record {
           rows = ap rows_of c.fails.ensures.table;
+          fits = tt;
           cause = record { later = c.fails.ensures.later; failed = λ _. omega (arith, rose) };
           room = ap (λ t. t.room) c.fails.ensures.table;
           calls = ap (λ n. Some n) c.fails.ensures.counts.calls;

@@ -15,6 +15,7 @@ returns c =
         λ _. tt,
         record {
           rows = (refl, next_is c.args.after.now es c.range.result c.next.new.self c.next.result b s ∙ ap (first_above c.args.after.now) (sym (entries_rows key_total key_exact es c.range.ensures.ordered)));
+          fits = tt;
           cause = record { later = omega arith; failed = search rules };
           room = refl;
           calls = refl;
