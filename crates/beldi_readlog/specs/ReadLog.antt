@@ -1,5 +1,5 @@
 -- What reads were given, by their places.
-use Rattle.std.specs.Prelude.{◌≡◌, ℕ, true, false, Option, Some, None, Result, Ok, Err}
+use Rattle.std.specs.Prelude.{◌≡◌, ℕ, true, false, Option, Some, None}
 use Rattle.std.specs.Option.{option_map}
 use Rattle.std.specs.FinMap as map
 use Rattle.beldi_value.specs.declared.value.Value.{Value}
@@ -10,14 +10,12 @@ use Rattle.beldi_row.specs.declared.key.Kind.TheVariants.{ReadLog}
 use Rattle.beldi_row.specs.declared.row.Row.{Row}
 use Rattle.beldi_row.specs.declared.row.Row.TheVariants as rows
 use Rattle.beldi_row.specs.declared.act.Act.TheVariants.{Look, PutRead}
-use Rattle.beldi_row.specs.declared.table.TableErr.{TableErr}
-use Rattle.beldi_row.specs.declared.table.TableErr.TheVariants.{OutOfMemory, Failed, Full}
 use Rattle.beldi_row.specs.Act.{here, added, kept}
-use Rattle.beldi_row.specs.Table.{Rows, TableState, Tells}
+use Rattle.beldi_row.specs.Table.{Rows, set_row}
 use Rattle.beldi_walk.specs.declared.query.Query.{Query}
 use Rattle.beldi_walk.specs.declared.query.Query.TheVariants.{Act}
 use Rattle.beldi_walk.specs.Query.{Told, said}
-use Rattle.beldi_walk.specs.Walk.{Answered}
+use Rattle.beldi_walk.specs.Walk.{Promises}
 use Rattle.beldi_readlog.specs.declared.read_log.Kept.{Kept}
 use Rattle.beldi_readlog.specs.declared.read_log.Given.{Given}
 use Rattle.beldi_readlog.specs.declared.read_log.Keep.{Keep}
@@ -78,28 +76,15 @@ kept_so v None = record { value = v; added = true }
 kept_so v (Some w) = record { value = w; added = false }
 
 -- ---- what the calls promise
--- the rows stay as they are, and the answer is what was given
-abbrev pub Gives : RowKey → Rows → Rows → Result (Option Value) TableErr → Type 0
-Gives k m n (Ok r) = (n ≡ m) × (r ≡ given m k)
-Gives k m n (Err OutOfMemory) = n ≡ m
-Gives k m n (Err Failed) = n ≡ m
-Gives k m n (Err (Full live most)) = ⊥
-
--- by the value that was given before: it stays, with all rows; or this one is put
-abbrev pub Once : Value → Rows → Rows → Kept → Option Value → Type 0
-Once v m n r None = r ≡ record { value = v; added = true }
-Once v m n r (Some w) = (n ≡ m) × (r ≡ record { value = w; added = false })
-
--- the value that is answered is the one given from then on, and is put once
-abbrev pub PutsOnce : Value → RowKey → Rows → Rows → Result Kept TableErr → Type 0
-PutsOnce v k m n (Ok r) = (given n k ≡ Some r.value) × Once v m n r (given m k)
-PutsOnce v k m n (Err e) = n ≡ m
-
--- so it is of all that `get` and `put_once` answer
+-- what was given is told, and all rows stay
 abbrev pub GetGives : Type 0
-GetGives = (home : ℕ) (at : Place) (now : ℕ) (old new : TableState) (r : Result (Option Value) TableErr) → Answered (given_asks home at) now given_of old new r
-    → Tells old.rows new.rows (λ m n. Gives (log_key home at) m n r)
+GetGives = (home : ℕ) (at : Place) (now : ℕ) → Promises (given_asks home at) now given_of (λ m n r. (n ≡ m) × (r ≡ given m (log_key home at)))
+
+-- where no row was, the value is put; where one was, what it says was given is told, and all rows stay
+abbrev pub PutOn : Value → RowKey → Option Row → Rows → Rows → Kept → Type 0
+PutOn v k None m n r = (n ≡ set_row m k (Some (rows.ReadLog v))) × (r ≡ record { value = v; added = true })
+PutOn v k (Some w) m n r = (n ≡ m) × (r ≡ record { value = given_in w; added = false })
 
 abbrev pub ValuesArePutOnce : Type 0
-ValuesArePutOnce = (home : ℕ) (at : Place) (v : Value) (now : ℕ) (old new : TableState) (r : Result Kept TableErr) → Answered (keep_asks home at v) now (kept_of v) old new r
-    → Tells old.rows new.rows (λ m n. PutsOnce v (log_key home at) m n r)
+ValuesArePutOnce = (home : ℕ) (at : Place) (v : Value) (now : ℕ) → let k = log_key home at in
+    Promises (keep_asks home at v) now (kept_of v) (λ m. PutOn v k (map.get m k) m)

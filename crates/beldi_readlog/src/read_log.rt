@@ -29,7 +29,7 @@ pub fn log_key(home: u16, at: Place) -> RowKey
 }
 
 /// The value that was given, after a Look; None exactly where no row was there. A row of another kind, which no session
-/// writes there, reads as null. Memory may be wanting only for what was lent.
+/// writes there, reads as null. Out of memory only for what was lent.
 pub fn given_told(alloc: Global, heard: Heard<'_>) -> Result<Option<Value>, AllocError>
     ensures ok { IfOk result (λ v. v ≡ given_of (told_of heard.entry)) }
     ensures err { OnErr result (lends (told_of heard.entry) ≡ true) }

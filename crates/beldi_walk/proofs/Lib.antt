@@ -1,3 +1,4 @@
 pub mod Queries
 pub mod Lent
 pub mod Looks
+pub mod Promises

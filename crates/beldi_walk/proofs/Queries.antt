@@ -68,7 +68,7 @@ pub went : (q : Query) (k : RowKey) (now : ℕ) (old new : TableState) (r s : Re
 went q k now old new r s was is h = subst (λ (p : Query). Came p now (next_came s) old new) (sym is) (subst (λ (x : Result (Option (Bor RowKey × Bor Row)) TableErr). Came (query.After k) now (next_came x) old new) was (next_made k now old new r h))
 
 -- ---- nothing was asked
-same_rows : (o : Option Rows) → Tells o o (λ m n. n ≡ m)
+pub same_rows : (o : Option Rows) → Tells o o (λ m n. n ≡ m)
 same_rows None = refl
 same_rows (Some m) = refl
 

@@ -47,7 +47,7 @@ abbrev pub CameOn : Query → ℕ → ℕ → Result Told TableErr → Rows → 
 CameOn q now room (Ok t) m n = (n ≡ rows_after q now m) × (t ≡ told_by q now m) × (IsTrue (query_adds q now m) → map.len m < room)
 CameOn q now room (Err e) m n = RefusedBy q now room m n e
 
--- a query of a table came to this: it told so, or it was refused. Where memory was wanting before, no call was made.
+-- a query of a table came to this: it told so, or it was refused. Out of memory before, no call was made.
 pub record Came (q : Query) (now : ℕ) (w : Result Told TableErr) (old new : TableState) : Type 0 where
   pub rows : Tells old.rows new.rows (λ m n. CameOn q now old.room w m n)
   pub cause : HasCause old.faults new.faults w

@@ -1,10 +1,10 @@
 -- One turn of a walk.
-use Rattle.std.specs.Prelude.{◌≡◌, ℕ, true, Result, Ok, Err}
+use Rattle.std.specs.Prelude.{◌≡◌, ℕ, true, IsTrue, Result, Ok, Err}
 use Rattle.beldi_row.specs.declared.table.TableErr.{TableErr}
-use Rattle.beldi_row.specs.declared.table.TableErr.TheVariants.{OutOfMemory}
-use Rattle.beldi_row.specs.Table.{TableState, Tells}
+use Rattle.beldi_row.specs.declared.table.TableErr.TheVariants.{OutOfMemory, Failed, Full}
+use Rattle.beldi_row.specs.Table.{Rows, TableState, Tells}
 use Rattle.beldi_walk.specs.declared.query.Query.{Query}
-use Rattle.beldi_walk.specs.Query.{Told, Came, lends}
+use Rattle.beldi_walk.specs.Query.{Told, Came, lends, query_adds}
 
 -- by what its query came to: the walk is moved and says so, or else it stands where it stood
 abbrev pub Heeds : {W X : Type 0} → (Told → W) → (Told → X) → W → W → Result X TableErr → Result Told TableErr → Type 0
@@ -24,3 +24,15 @@ Answered q now g old new result = (t : Result Told TableErr) × Heeds (λ t. tt 
 -- after an error of a turn the rows are as before
 abbrev pub ErrorsLeaveRows : {W X : Type 0} → (W → Query) → (W → Told → W) → (W → Told → X) → Type 0
 ErrorsLeaveRows {W} asks next says = (w x : W) (now : ℕ) (e : TableErr) (old new : TableState) → Turned (asks w) now (next w) (says w) w x old new (Err e) → Tells old.rows new.rows (λ m n. n ≡ m)
+
+-- an answer says this of the rows before and after; a refusal leaves them as they were, and is `Full` only where the query adds
+-- a row
+abbrev pub Leaves : {X : Type 0} → Query → ℕ → (Rows → Rows → X → Type 0) → Rows → Rows → Result X TableErr → Type 0
+Leaves q now P m n (Ok x) = P m n x
+Leaves q now P m n (Err OutOfMemory) = n ≡ m
+Leaves q now P m n (Err Failed) = n ≡ m
+Leaves q now P m n (Err (Full live most)) = (n ≡ m) × IsTrue (query_adds q now m)
+
+-- so it is of every call that makes this query, over every table that tells its rows
+abbrev pub Promises : {X : Type 0} → Query → ℕ → (Told → X) → (Rows → Rows → X → Type 0) → Type 0
+Promises {X} q now g P = (old new : TableState) (r : Result X TableErr) → Answered q now g old new r → Tells old.rows new.rows (λ m n. Leaves q now P m n r)

@@ -1,11 +1,11 @@
 //! One call of a table, and walks that never touch one. It stands on `beldi_row`.
 //! Its definitions: `specs/Query` (what is asked of a table, what it tells, and what a query came to) and `specs/Walk` (one
-//! turn of a walk, or of a call that makes one query). `proofs/Queries`, `proofs/Lent` and `proofs/Looks` have lemmas that the
-//! crates above cite.
+//! turn of a walk, or of a call that makes one query, and what such a call promises of the rows). `proofs/Queries`,
+//! `proofs/Promises`, `proofs/Lent` and `proofs/Looks` have lemmas that the crates above cite.
 //!
 //! Proved:
 //! - `turn` asks a table what the walk asks, in at most one call, and moves the walk by what the table told; at an error the
-//!   walk stands where it stood. The error is the table's, or want of memory: before the call, or for what was lent (`Turned`).
+//!   walk stands where it stood. The error is the table's, or out of memory: before the call, or for what was lent (`Turned`).
 //! - Laws: an act that lends what lies in the row has left the row as it was (`what_is_lent_stands`); so after an error of a
 //!   turn the rows are as before, for every walk (`an_error_leaves_the_rows`).
 #![tactic(auto)]

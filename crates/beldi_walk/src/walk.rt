@@ -26,7 +26,7 @@ pub trait Walk {
     fn ask(&self, alloc: Global) -> Result<Query, AllocError>
         ensures { IfOk result (λ q. q ≡ asks self.now) };
 
-    /// Moves it. Memory may be wanting only where what lies in a row was lent.
+    /// Moves it. Out of memory only where what lies in a row was lent.
     fn told(&mut self, alloc: Global, heard: Heard<'_>) -> Result<Self::Says, AllocError>
         ensures ok { IfOk result (λ s. (self.new ≡ next self.old (told_of heard.entry)) × (s ≡ says self.old (told_of heard.entry))) }
         ensures err { OnErr result ((self.new ≡ self.old) × (lends (told_of heard.entry) ≡ true)) };
@@ -42,7 +42,7 @@ fn hear<W: Walk>(alloc: Global, walk: &mut W, heard: Heard<'_>) -> Result<W::Say
     }
 }
 
-/// One turn of a walk, at the moment `now`, in ticks. It makes one call of the table, or none where memory is wanting before.
+/// One turn of a walk, at the moment `now`, in ticks. It makes one call of the table, or none where it is out of memory before.
 /// After an `Err` the walk stands where it stood, and the rows are as before, since what is lent was left as it was
 /// (`what_is_lent_stands`). `Failed` comes only where the table failed, and `Full` exactly where the query adds a row and the
 /// table has no room for it.
