@@ -1,21 +1,19 @@
 -- A chain is a logged cell.
-use Rattle.std.proofs.Common.{◌≡◌, ℕ, cond, Option, None, Some, Ok, Err, refl, ap, sym, ◌∙◌, subst}
+use Rattle.std.proofs.Common.{◌≡◌, ℕ, Bool, true, false, cond, if◌then◌else◌, Option, None, Some, Ok, Err, refl, ap, sym, ◌∙◌, subst}
 use Rattle.std.specs.FinMap as map
 use Rattle.beldi_value.specs.declared.place.Owner.{Owner}
-use Rattle.beldi_value.specs.declared.place.Owner.TheVariants as owner
 use Rattle.beldi_value.specs.declared.place.Place.{Place}
-use Rattle.beldi_value.specs.declared.value.Value.{Value}
+use Rattle.beldi_value.specs.Passes.{passes}
 use Rattle.beldi_value.specs.declared.value.Value.TheVariants.{Null}
 use Rattle.beldi_row.specs.declared.notes.Note.{Note}
-use Rattle.beldi_row.specs.declared.notes.Note.TheVariants.{Wrote}
 use Rattle.beldi_row.specs.declared.row.Cell.{Cell}
 use Rattle.beldi_row.specs.declared.row.Row.{Row}
 use Rattle.beldi_row.specs.declared.row.Row.TheVariants as rows
 use Rattle.beldi_row.specs.declared.act.Act.{Act}
-use Rattle.beldi_row.specs.declared.act.Act.TheVariants.{Look, MakeCell, WriteCell}
+use Rattle.beldi_row.specs.declared.act.Act.TheVariants.{Look, MakeCell}
 use Rattle.beldi_row.specs.declared.table.TableErr.{TableErr}
 use Rattle.beldi_row.specs.declared.table.TableErr.TheVariants.{OutOfMemory, Failed, Full}
-use Rattle.beldi_row.specs.Act.{Tell, act, did, other_owner, noted_or, next_or, held_or, wrote}
+use Rattle.beldi_row.specs.Act.{Tell, act, did, not_owner, tested, other_owner, owns, noted_or, next_or, held_or, at_tail, unless_held, if_owned, entered}
 use Rattle.beldi_row.specs.Log.{note_at}
 use Rattle.beldi_row.specs.Table.{Rows, after_act}
 use Rattle.beldi_row.proofs.Gets.{got, key_self}
@@ -23,74 +21,111 @@ use Rattle.beldi_row.proofs.Logs.{note_here, once_pushed}
 use Rattle.beldi_row.proofs.Tells.{tells_map}
 use Rattle.beldi_walk.specs.Query.{Told, said, rows_after, told_by, CameOn}
 use Rattle.beldi_walk.proofs.Looks.{look_stands, never_full}
+use Rattle.beldi_daal.specs.declared.cell.CellOp.{CellOp}
+use Rattle.beldi_daal.specs.declared.cell.CellOp.TheVariants.{Write, Cond, Lock, Free}
 use Rattle.beldi_daal.specs.declared.cell.WriteAt.{WriteAt}
 use Rattle.beldi_daal.specs.declared.cell.WriteAt.TheVariants.{Try, Make}
-use Rattle.beldi_daal.specs.declared.walk.CellOp.{CellOp}
-use Rattle.beldi_daal.specs.declared.walk.CellOp.TheVariants.{Write}
+use Rattle.beldi_daal.specs.declared.cell.WriteGoes.TheVariants as writes
 use Rattle.beldi_daal.specs.declared.walk.WriteWalk.{WriteWalk}
 use Rattle.beldi_daal.specs.declared.read_walk.ReadSays.{ReadSays}
 use Rattle.beldi_daal.specs.declared.read_walk.ReadWalk.{ReadWalk}
-use Rattle.beldi_daal.specs.Cell.{write_goes, cell_goes, got_or_held, in_the_way}
+use Rattle.beldi_daal.specs.Cell.{op_act, done_note, write_asks, write_goes, cell_goes, got_or_held, in_the_way}
 use Rattle.beldi_daal.specs.Content.{content_in, SoundAt}
-use Rattle.beldi_daal.specs.Logged.{Logs, LoggedTurn, WritesAreLogged, ReadsContent, ReadTurn, ReadsAreContents}
+use Rattle.beldi_daal.specs.Logged.{note_after, value_after, owner_after, held_by, unless_owned, barred, done_to, Logs, LoggedTurn, WritesAreLogged, ReadsContent, ReadTurn, ReadsAreContents}
 use Rattle.beldi_daal.specs.ReadWalk.{read_key, read_asks, read_says, read_so}
-use Rattle.beldi_daal.specs.Walk.{op_asks, walk_key, walk_asks, walk_says, walk_so}
+use Rattle.beldi_daal.specs.Walk.{walk_key, walk_asks, walk_says, walk_so}
 
 -- what an act left of the row, and what it told, is right of what stood there
-abbrev Fits : Place → CellOp → Option Row → Option Row × Tell → Type 0
-Fits p op r z = Logs p op (walk_so (write_goes (said z.1))) (content_in r) (content_in z.0) × SoundAt z.0
+abbrev Fits : Place → Owner → CellOp → Option Row → Option Row × Tell → Type 0
+Fits p who op r z = Logs p who op (walk_so (write_goes (done_note op) (said z.1))) (content_in r) (content_in z.0) × SoundAt z.0
 
-module _ (p : Place) (v : Value) where
-  abbrev who : Owner
-  who = owner.Intent p.intent
-
+module _ (p : Place) (who : Owner) (op : CellOp) where
   module _ (c : Cell) (sound : SoundAt (Some (rows.Cell c))) where
     abbrev OnCell : Cell × Tell → Type 0
-    OnCell z = Fits p (Write v) (Some (rows.Cell c)) (Some (rows.Cell z.0), z.1)
+    OnCell z = Fits p who op (Some (rows.Cell c)) (Some (rows.Cell z.0), z.1)
 
-    by_owner : (o : Option Owner) → other_owner who c.owner ≡ o → note_at c.log p ≡ None → OnCell (held_or c o (wrote p v c, did))
-    by_owner None free none = ((note_here c.log p Wrote none, (none, free, refl)), (sound.0, once_pushed c.log p Wrote none sound.1, sound.2, sound.3))
-    by_owner (Some o) free none = ((none, free, refl), sound)
+    by_next : (n : Option ℕ) (z : Cell × Tell) → c.next ≡ n → OnCell z → OnCell (next_or c n z)
+    by_next None z is h = h
+    by_next (Some n) z is h = let clash = sym is ∙ sound.0 in cc
 
-    by_next : (n : Option ℕ) → c.next ≡ n → note_at c.log p ≡ None → OnCell (next_or c n (held_or c (other_owner who c.owner) (wrote p v c, did)))
-    by_next None is none = by_owner (other_owner who c.owner) refl none
-    by_next (Some n) is none = let clash = sym is ∙ sound.0 in cc
+    by_note : (n : Option Note) (z : Cell × Tell) → note_at c.log p ≡ n → (note_at c.log p ≡ None → OnCell z) → OnCell (noted_or c n (next_or c c.next z))
+    by_note None z none h = by_next c.next z refl (h none)
+    by_note (Some n) z some h = ((some, refl), sound)
 
-    by_note : (n : Option Note) → note_at c.log p ≡ n → OnCell (noted_or c n (next_or c c.next (held_or c (other_owner who c.owner) (wrote p v c, did))))
-    by_note None none = by_next c.next refl none
-    by_note (Some n) some = ((some, refl), sound)
+    -- another owner bars it ..
+    by_other : (o : Option Owner) (z : Cell × Tell) → other_owner who c.owner ≡ o → barred op who c.owner ≡ held_by o → note_at c.log p ≡ None → (barred op who c.owner ≡ None → OnCell z) → OnCell (held_or c o z)
+    by_other None z is bar none h = h bar
+    by_other (Some o) z is bar none h = ((none, bar, refl), sound)
 
-  tried : (now : ℕ) (r : Option Row) → SoundAt r → Fits p (Write v) r (act (WriteCell p who v) now r)
-  tried now None h = (refl, tt)
-  tried now (Some (rows.Cell c)) h = by_note c h (note_at c.log p) refl
-  tried now (Some r) h = absurd h
+    -- .. or that who asks is not the owner
+    by_own : (b : Bool) (z : Cell × Tell) → owns who c.owner ≡ b → barred op who c.owner ≡ unless_owned b → note_at c.log p ≡ None → (barred op who c.owner ≡ None → OnCell z) → OnCell (if b then z else (c, not_owner))
+    by_own true z is bar none h = h bar
+    by_own false z is bar none h = ((none, bar, refl), sound)
 
-  made : (now : ℕ) (r : Option Row) → SoundAt r → Fits p (Write v) r (act (MakeCell Null None) now r)
+    -- it was done, and this told: the entry is made
+    abbrev entry : Tell → Cell × Tell
+    entry t = (entered p (note_after op c.value) (value_after op c.value) (owner_after op who c.owner) c, t)
+
+    abbrev IsDone : Tell → Type 0
+    IsDone t = write_goes (done_note op) (said t) ≡ writes.Done (note_after op c.value) true
+
+    done : (t : Tell) → IsDone t → note_at c.log p ≡ None → barred op who c.owner ≡ None → OnCell (entry t)
+    done t goes none free = (
+      subst (λ g. Logs p who op (walk_so g) (content_in (Some (rows.Cell c))) (done_to p who op (content_in (Some (rows.Cell c))))) (sym goes) (note_here c.log p (note_after op c.value) none, (none, free, refl)),
+      (sound.0, once_pushed c.log p (note_after op c.value) none sound.1, sound.2, sound.3),
+    )
+
+    unheld : (t : Tell) → IsDone t → barred op who c.owner ≡ held_by (other_owner who c.owner) → OnCell (at_tail p c (unless_held who c (entry t)))
+    unheld t goes bar = by_note (note_at c.log p) (unless_held who c (entry t)) refl (λ none. by_other (other_owner who c.owner) (entry t) refl bar none (done t goes none))
+
+    owned : (t : Tell) → IsDone t → barred op who c.owner ≡ unless_owned (owns who c.owner) → OnCell (at_tail p c (if_owned who c (entry t)))
+    owned t goes bar = by_note (note_at c.log p) (if_owned who c (entry t)) refl (λ none. by_own (owns who c.owner) (entry t) refl bar none (done t goes none))
+
+  made : (now : ℕ) (r : Option Row) → SoundAt r → Fits p who op r (act (MakeCell Null None) now r)
   made now None h = (refl, (refl, tt, refl, refl))
   made now (Some (rows.Cell c)) h = (refl, h)
   made now (Some r) h = absurd h
 
+-- each operation on a cell, and where no row is
+module _ (p : Place) (who : Owner) (now : ℕ) where
+  on_cell : (op : CellOp) (c : Cell) → SoundAt (Some (rows.Cell c)) → Fits p who op (Some (rows.Cell c)) (act (op_act p who op) now (Some (rows.Cell c)))
+  on_cell (Write v) c h = unheld p who (Write v) c h did refl refl
+  on_cell (Cond r o v) c h = unheld p who (Cond r o v) c h (tested (passes c.value r o)) refl refl
+  on_cell Lock c h = unheld p who Lock c h did refl refl
+  on_cell (Free v) c h = owned p who (Free v) c h did refl refl
+
+  on_none : (op : CellOp) → Fits p who op None (act (op_act p who op) now None)
+  on_none (Write v) = (refl, tt)
+  on_none (Cond r o v) = (refl, tt)
+  on_none Lock = (refl, tt)
+  on_none (Free v) = (refl, tt)
+
+  tried : (op : CellOp) (r : Option Row) → SoundAt r → Fits p who op r (act (op_act p who op) now r)
+  tried op None h = on_none op
+  tried op (Some (rows.Cell c)) h = on_cell op c h
+  tried op (Some r) h = absurd h
+
 module _ (w : WriteWalk) (m n : Rows) (sound : SoundAt (map.get m (walk_key w))) where
-  by_act : (a : Act) (now : ℕ) → n ≡ after_act a now (walk_key w) m → Fits w.place w.op (map.get m (walk_key w)) (act a now (map.get m (walk_key w)))
-      → LoggedTurn w m n (walk_so (write_goes (said (act a now (map.get m (walk_key w))).1)))
+  by_act : (a : Act) (now : ℕ) → n ≡ after_act a now (walk_key w) m → Fits w.place w.who w.op (map.get m (walk_key w)) (act a now (map.get m (walk_key w)))
+      → LoggedTurn w m n (walk_so (write_goes (done_note w.op) (said (act a now (map.get m (walk_key w))).1)))
   by_act a now is fits =
       let k = walk_key w in
       let z = act a now (map.get m k) in
       let here : map.get n k ≡ z.0 = ap (λ l. map.get l k) is ∙ got m k k z.0 ∙ ap (λ b. cond b z.0 (map.get m k)) (key_self k) in
       record {
         others = λ q apart. ap (λ l. map.get l q) is ∙ got m k q z.0 ∙ ap (λ b. cond b z.0 (map.get m q)) apart;
-        logs = subst (λ r. Logs w.place w.op (walk_so (write_goes (said z.1))) (content_in (map.get m k)) (content_in r)) (sym here) fits.0;
+        logs = subst (λ r. Logs w.place w.who w.op (walk_so (write_goes (done_note w.op) (said z.1))) (content_in (map.get m k)) (content_in r)) (sym here) fits.0;
         sound = subst SoundAt (sym here) fits.1;
       }
 
-  pub by_op : (at : WriteAt) (op : CellOp) → op ≡ w.op → (now : ℕ) → n ≡ rows_after (op_asks (walk_key w) w.place at op) now m
-      → LoggedTurn w m n (walk_so (write_goes (told_by (op_asks (walk_key w) w.place at op) now m)))
-  by_op Try (Write v) op now is = by_act (WriteCell w.place (owner.Intent w.place.intent) v) now is (subst (λ o. Fits w.place o (map.get m (walk_key w)) (act (WriteCell w.place (owner.Intent w.place.intent) v) now (map.get m (walk_key w)))) op (tried w.place v now (map.get m (walk_key w)) sound))
-  by_op Make (Write v) op now is = by_act (MakeCell Null None) now is (subst (λ o. Fits w.place o (map.get m (walk_key w)) (act (MakeCell Null None) now (map.get m (walk_key w)))) op (made w.place v now (map.get m (walk_key w)) sound))
+  pub by_op : (at : WriteAt) (now : ℕ) → n ≡ rows_after (write_asks (walk_key w) w.place w.who w.op at) now m
+      → LoggedTurn w m n (walk_so (write_goes (done_note w.op) (told_by (write_asks (walk_key w) w.place w.who w.op at) now m)))
+  by_op Try now is = by_act (op_act w.place w.who w.op) now is (tried w.place w.who now w.op (map.get m (walk_key w)) sound)
+  by_op Make now is = by_act (MakeCell Null None) now is (made w.place w.who w.op now (map.get m (walk_key w)) sound)
 
 pub writes_are_logged : WritesAreLogged
 writes_are_logged w x now old new s (Ok t, h, c) = tells_map {P = λ m n. CameOn (walk_asks w) now old.room (Ok t) m n} {Q = λ m n. SoundAt (map.get m (walk_key w)) → LoggedTurn w m n s} old.rows new.rows
-    (λ m n p sound. subst (LoggedTurn w m n) (sym (h.1 ∙ ap (walk_says w) p.1)) (by_op w m n sound w.at w.op refl now p.0)) c.rows
+    (λ m n p sound. subst (LoggedTurn w m n) (sym (h.1 ∙ ap (walk_says w) p.1)) (by_op w m n sound w.at now p.0)) c.rows
 writes_are_logged w x now old new s (Err v, h, c) = absurd h
 
 -- ---- the walk of a read
@@ -112,7 +147,7 @@ module _ (w : ReadWalk) where
     read : (s : ReadSays) (t : Told) → s ≡ read_says w t → CameOn (read_asks w) now room (Ok t) m n → ReadTurn w m n (Ok s)
     read s t is h = (look_stands (read_key w) now room m n (Ok t) h, λ sound. subst (λ y. ReadsContent w.who y (content_in (map.get m (read_key w)))) (sym (is ∙ ap (read_says w) h.1)) (by_row now (map.get m (read_key w)) sound))
 
-    -- memory was wanting after the Look, or there was none
+    -- it was out of memory after the Look, or there was none
     lost : (e : TableErr) (t : Told) → e ≡ OutOfMemory → CameOn (read_asks w) now room (Ok t) m n → ReadTurn w m n (Err e)
     lost e t is h = subst (λ v. ReadTurn w m n (Err v)) (sym is) (look_stands (read_key w) now room m n (Ok t) h)
 

@@ -1,19 +1,22 @@
 -- What is asked of the rows of an item, and what follows from what is told.
 use Rattle.std.specs.Prelude.{ℕ, List, true, false, Option, Some, None}
-use Rattle.beldi_value.specs.declared.value.Value.{Value}
 use Rattle.beldi_value.specs.declared.value.Value.TheVariants.{Null}
 use Rattle.beldi_value.specs.declared.place.Place.{Place}
 use Rattle.beldi_value.specs.declared.place.Owner.{Owner}
 use Rattle.beldi_row.specs.declared.key.RowKey.{RowKey}
-use Rattle.beldi_row.specs.declared.notes.Note.TheVariants.{Wrote}
+use Rattle.beldi_row.specs.declared.act.Act.{Act}
+use Rattle.beldi_row.specs.declared.notes.Note.{Note}
+use Rattle.beldi_row.specs.declared.notes.Note.TheVariants.{Wrote, Cond, Got, Freed}
 use Rattle.beldi_row.specs.declared.row.Cell.{Cell}
 use Rattle.beldi_row.specs.declared.row.Row.TheVariants as rows
-use Rattle.beldi_row.specs.declared.act.Act.TheVariants.{WriteCell, MakeCell}
+use Rattle.beldi_row.specs.declared.act.Act.TheVariants.{MakeCell, WriteCell, CondCell, LockCell, FreeCell}
 use Rattle.beldi_row.specs.Key.{head_key}
-use Rattle.beldi_row.specs.Act.{absent, here, no_row, did, noted, held, other_owner}
+use Rattle.beldi_row.specs.Act.{absent, here, no_row, did, noted, held, not_owner, tested, other_owner}
 use Rattle.beldi_walk.specs.declared.query.Query.{Query}
-use Rattle.beldi_walk.specs.declared.query.Query.TheVariants.{Act}
+use Rattle.beldi_walk.specs.declared.query.Query.TheVariants as query
 use Rattle.beldi_walk.specs.Query.{Told, said}
+use Rattle.beldi_daal.specs.declared.cell.CellOp.{CellOp}
+use Rattle.beldi_daal.specs.declared.cell.CellOp.TheVariants as op
 use Rattle.beldi_daal.specs.declared.cell.WriteAt.{WriteAt}
 use Rattle.beldi_daal.specs.declared.cell.WriteAt.TheVariants.{Try, Make}
 use Rattle.beldi_daal.specs.declared.cell.WriteGoes.{WriteGoes}
@@ -25,18 +28,34 @@ use Rattle.beldi_daal.specs.declared.cell.ReadGoes.TheVariants as reads
 abbrev pub cell_key : ℕ → ℕ → List ℕ → RowKey
 cell_key home t k = head_key home t k
 
--- what a write asks: the operation, or that the first row be made
-abbrev pub write_asks : RowKey → Place → Owner → Value → WriteAt → Query
-write_asks k p who v Try = Act k (WriteCell p who v)
-write_asks k p who v Make = Act k (MakeCell Null None)
+-- the act of an operation, for a place and an owner
+abbrev pub op_act : Place → Owner → CellOp → Act
+op_act p who (op.Write v) = WriteCell p who v
+op_act p who (op.Cond r o v) = CondCell p who r o v
+op_act p who op.Lock = LockCell p who
+op_act p who (op.Free v) = FreeCell p who v
 
--- where a write goes after it was told
-abbrev pub write_goes : Told → WriteGoes
-write_goes (said no_row) = writes.On Make
-write_goes (said did) = writes.Done Wrote true
-write_goes (said (noted n)) = writes.Done n false
-write_goes (said (held o)) = writes.Held o
-write_goes t = writes.On Try
+-- the note that it leaves where its act says that it was done; the act of a condition says the test
+abbrev pub done_note : CellOp → Note
+done_note (op.Write v) = Wrote
+done_note (op.Cond r o v) = Cond true
+done_note op.Lock = Got
+done_note (op.Free v) = Freed
+
+-- what a write asks: the operation, or that the first row be made
+abbrev pub write_asks : RowKey → Place → Owner → CellOp → WriteAt → Query
+write_asks k p who op Try = query.Act k (op_act p who op)
+write_asks k p who op Make = query.Act k (MakeCell Null None)
+
+-- where a write goes after it was told, by the note that it leaves where it was done
+abbrev pub write_goes : Note → Told → WriteGoes
+write_goes d (said no_row) = writes.On Make
+write_goes d (said did) = writes.Done d true
+write_goes d (said (tested b)) = writes.Done (Cond b) true
+write_goes d (said (noted n)) = writes.Done n false
+write_goes d (said (held o)) = writes.Held o
+write_goes d (said not_owner) = writes.NotOwner
+write_goes d t = writes.On Try
 
 -- the owner that stands in the way of who reads: none does where the read is for nobody
 abbrev pub in_the_way : Option Owner → Option Owner → Option Owner

@@ -1,27 +1,28 @@
 -- A chain is a logged cell: a turn of a walk leaves the content of every item as it is, but for its own operation, which has
 -- one effect at its place, however many walks there are for it.
-use Rattle.std.specs.Prelude.{◌≡◌, ℕ, Bool, true, false, [], ◌∷◌, ◌++◌, Option, Some, None, Result, Ok, Err}
+use Rattle.std.specs.Prelude.{◌≡◌, ℕ, Bool, true, false, if◌then◌else◌, [], ◌∷◌, ◌++◌, Option, Some, None, Result, Ok, Err}
 use Rattle.std.specs.FinMap as map
 use Rattle.std.specs.Ordering.{is_eq}
-use Rattle.beldi_value.specs.declared.id.IntentId.{IntentId}
 use Rattle.beldi_value.specs.declared.place.Owner.{Owner}
-use Rattle.beldi_value.specs.declared.place.Owner.TheVariants as owner
 use Rattle.beldi_value.specs.declared.place.Place.{Place}
 use Rattle.beldi_value.specs.declared.value.Value.{Value}
+use Rattle.beldi_value.specs.Passes.{passes}
 use Rattle.beldi_row.specs.declared.key.RowKey.{RowKey}
+use Rattle.beldi_row.specs.declared.act.Act.{Act}
 use Rattle.beldi_row.specs.declared.notes.Note.{Note}
-use Rattle.beldi_row.specs.declared.notes.Note.TheVariants.{Wrote}
-use Rattle.beldi_row.specs.Act.{other_owner}
+use Rattle.beldi_row.specs.declared.notes.Note.TheVariants as note
+use Rattle.beldi_row.specs.Act.{act, other_owner, owns, given_or}
 use Rattle.beldi_row.specs.Key.{key_cmp}
+use Rattle.beldi_row.specs.declared.row.Row.{Row}
 use Rattle.beldi_row.specs.Log.{note_at}
 use Rattle.beldi_row.specs.declared.table.TableErr.{TableErr}
 use Rattle.beldi_row.specs.declared.table.TableErr.TheVariants.{OutOfMemory, Failed, Full}
 use Rattle.beldi_row.specs.Table.{Rows, TableState, Tells}
 use Rattle.beldi_walk.specs.Walk.{Turned}
-use Rattle.beldi_daal.specs.declared.walk.CellOp.{CellOp}
-use Rattle.beldi_daal.specs.declared.walk.CellOp.TheVariants.{Write}
+use Rattle.beldi_daal.specs.declared.cell.CellOp.{CellOp}
+use Rattle.beldi_daal.specs.declared.cell.CellOp.TheVariants.{Write, Cond, Lock, Free}
 use Rattle.beldi_daal.specs.declared.walk.WriteSays.{WriteSays}
-use Rattle.beldi_daal.specs.declared.walk.WriteSays.TheVariants.{Going, Done, Held, Worn}
+use Rattle.beldi_daal.specs.declared.walk.WriteSays.TheVariants.{Going, Done, NotOwner, Held, Worn}
 use Rattle.beldi_daal.specs.declared.walk.WriteWalk.{WriteWalk}
 use Rattle.beldi_daal.specs.declared.read_walk.ReadWalk.{ReadWalk}
 use Rattle.beldi_daal.specs.declared.read_walk.ReadSays.{ReadSays}
@@ -32,46 +33,80 @@ use Rattle.beldi_daal.specs.ReadWalk.{read_key, read_asks, read_next, read_says}
 use Rattle.beldi_daal.specs.Walk.{walk_key, walk_asks, walk_next, walk_says}
 
 -- ---- the walk of a write
--- what an operation makes of the value, and of the owner where this intent asked; and the note that it leaves, by the value
--- that was there. A new operation is a line in each.
+-- what an operation makes of the value, and of the owner, where this one asks; and the note that it leaves, by the value that
+-- was there. A new operation is a line in each.
 abbrev pub value_after : CellOp → Value → Value
 value_after (Write v) w = v
+value_after (Cond r o v) w = if passes w r o then v else w
+value_after Lock w = w
+value_after (Free v) w = given_or v w
 
-abbrev pub owner_after : CellOp → IntentId → Option Owner → Option Owner
-owner_after (Write v) id o = o
+abbrev pub owner_after : CellOp → Owner → Option Owner → Option Owner
+owner_after (Write v) who o = o
+owner_after (Cond r u v) who o = o
+owner_after Lock who o = Some who
+owner_after (Free v) who o = None
 
 abbrev pub note_after : CellOp → Value → Note
-note_after (Write v) w = Wrote
+note_after (Write v) w = note.Wrote
+note_after (Cond r o v) w = note.Cond (passes w r o)
+note_after Lock w = note.Got
+note_after (Free v) w = note.Freed
+
+-- what bars it, as the walk says: another owner, or, where it gives the item back, that who asks does not own it
+abbrev pub held_by : Option Owner → Option WriteSays
+held_by None = None
+held_by (Some o) = Some (Held o)
+
+abbrev pub unless_owned : Bool → Option WriteSays
+unless_owned true = None
+unless_owned false = Some NotOwner
+
+abbrev pub barred : CellOp → Owner → Option Owner → Option WriteSays
+barred (Write v) who o = held_by (other_owner who o)
+barred (Cond r u v) who o = held_by (other_owner who o)
+barred Lock who o = held_by (other_owner who o)
+barred (Free v) who o = unless_owned (owns who o)
 
 -- the content after an operation for a place
-abbrev pub done_to : Place → CellOp → Content → Content
-done_to p op c = record { value = value_after op c.value; owner = owner_after op p.intent c.owner; notes = c.notes ++ (p, note_after op c.value) ∷ [] }
+abbrev pub done_to : Place → Owner → CellOp → Content → Content
+done_to p who op c = record { value = value_after op c.value; owner = owner_after op who c.owner; notes = c.notes ++ (p, note_after op c.value) ∷ [] }
 
--- what a turn did that says `Done`. With `first` the place had no note, no other owned the item, and the operation was done;
--- without, nothing was done
-abbrev pub DidOnce : Place → CellOp → Bool → Content → Content → Type 0
-DidOnce p op true c d = (note_at c.notes p ≡ None) × (other_owner (owner.Intent p.intent) c.owner ≡ None) × (d ≡ done_to p op c)
-DidOnce p op false c d = d ≡ c
+-- what a turn did that says `Done`. With `first` the place had no note, nothing barred the operation, and it was done; without,
+-- nothing was done
+abbrev pub DidOnce : Place → Owner → CellOp → Bool → Content → Content → Type 0
+DidOnce p who op true c d = (note_at c.notes p ≡ None) × (barred op who c.owner ≡ None) × (d ≡ done_to p who op c)
+DidOnce p who op false c d = d ≡ c
+
+-- .. and what one left that says that the operation was barred
+abbrev pub WasBarred : Place → Owner → CellOp → WriteSays → Content → Content → Type 0
+WasBarred p who op s c d = (note_at c.notes p ≡ None) × (barred op who c.owner ≡ Some s) × (d ≡ c)
 
 -- what a walk for a place says, by the content before its turn, and after it. `Done`: the content has the note at the place.
--- `Held`: the place has no note, and another than its intent owns the item.
-abbrev pub Logs : Place → CellOp → WriteSays → Content → Content → Type 0
-Logs p op (Done n first) c d = (note_at d.notes p ≡ Some n) × DidOnce p op first c d
-Logs p op (Held o) c d = (note_at c.notes p ≡ None) × (other_owner (owner.Intent p.intent) c.owner ≡ Some o) × (d ≡ c)
-Logs p op Going c d = d ≡ c
-Logs p op Worn c d = d ≡ c
+-- `Held`, `NotOwner`: the place has no note, and this barred the operation. No turn says `Worn` yet.
+abbrev pub Logs : Place → Owner → CellOp → WriteSays → Content → Content → Type 0
+Logs p who op (Done n first) c d = (note_at d.notes p ≡ Some n) × DidOnce p who op first c d
+Logs p who op NotOwner c d = WasBarred p who op NotOwner c d
+Logs p who op (Held o) c d = WasBarred p who op (Held o) c d
+Logs p who op Going c d = d ≡ c
+Logs p who op Worn c d = ⊥
 
 -- what a turn of a walk leaves, where its item's chain is sound
 pub record LoggedTurn (w : WriteWalk) (m n : Rows) (s : WriteSays) : Type 0 where
   -- all other rows are as before
   pub others : (k : RowKey) → is_eq (key_cmp k (walk_key w)) ≡ false → map.get n k ≡ map.get m k
-  pub logs : Logs w.place w.op s (content_in (map.get m (walk_key w))) (content_in (map.get n (walk_key w)))
+  pub logs : Logs w.place w.who w.op s (content_in (map.get m (walk_key w))) (content_in (map.get n (walk_key w)))
   pub sound : SoundAt (map.get n (walk_key w))
 
 -- for every turn that says something, over every table that tells its rows
 abbrev pub WritesAreLogged : Type 0
 WritesAreLogged = (w x : WriteWalk) (now : ℕ) (old new : TableState) (s : WriteSays) → Turned (walk_asks w) now (walk_next w) (walk_says w) w x old new (Ok s)
     → Tells old.rows new.rows (λ m n. SoundAt (map.get m (walk_key w)) → LoggedTurn w m n s)
+
+-- ---- whatever comes
+-- no act takes away the note that a place has on a row of an item
+abbrev pub NotesStay : Type 0
+NotesStay = (a : Act) (now : ℕ) (r : Option Row) (p : Place) (n : Note) → note_at (content_in r).notes p ≡ Some n → note_at (content_in (act a now r).0).notes p ≡ Some n
 
 -- ---- the walk of a read
 -- what it says is so of the content: the value, none where the item has no row; or the owner that is in the way

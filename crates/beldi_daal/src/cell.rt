@@ -2,12 +2,86 @@
 ghost use Rattle.std.specs.Prelude.{◌≡◌, true, IfOk, OnErr};
 ghost use Rattle.std.specs.Option.{option_copied};
 ghost use Rattle.beldi_walk.specs.Query.{told_of, lends};
-ghost use Rattle.beldi_daal.specs.Cell.{cell_key as key_of, write_asks, write_goes, read_goes, cell_goes, in_the_way};
+ghost use Rattle.beldi_daal.specs.Cell.{cell_key as key_of, op_act, done_note as done_note_of, write_asks, write_goes, read_goes, cell_goes, in_the_way};
 
 use beldi_row::{Act, Cell, Kind, Note, Row, RowKey, Said, copy_owner};
-use beldi_value::{Owner, Place, Str, Value};
+use beldi_value::{Owner, Place, Rel, Str, Value};
 use beldi_walk::{Heard, Query};
 use std::alloc::{AllocError, Global};
+
+/// What is done to an item.
+#[derive(Drop)]
+pub enum CellOp {
+    /// Sets the value.
+    Write(Value),
+    /// Sets the value where the one that is there stands so to the operand.
+    Cond {
+        rel: Rel,
+        operand: Value,
+        value: Value,
+    },
+    /// Takes the lock: who asks is then the owner.
+    Lock,
+    /// Gives the lock back, and sets the value where one is given. Who asks must be the owner, so the item has a row.
+    Free(Option<Value>),
+}
+
+impl CellOp {
+    /// An equal operation.
+    pub fn copy(&self, alloc: Global) -> Result<CellOp, AllocError>
+        ensures { IfOk result (λ o. o ≡ self.now) }
+    {
+        match self {
+            CellOp::Write(value) => Ok(CellOp::Write(value.copy(alloc)?)),
+            CellOp::Cond {
+                rel,
+                operand,
+                value,
+            } => Ok(CellOp::Cond {
+                rel: *rel,
+                operand: operand.copy(alloc)?,
+                value: value.copy(alloc)?,
+            }),
+            CellOp::Lock => Ok(CellOp::Lock),
+            CellOp::Free(None) => Ok(CellOp::Free(None)),
+            CellOp::Free(Some(value)) => Ok(CellOp::Free(Some(value.copy(alloc)?))),
+        }
+    }
+
+    /// The note that it leaves where its act says `Did`. The act of a condition says `Tested`, and leaves the answer.
+    pub fn done_note(&self) -> Note
+        ensures { result ≡ done_note_of self.now }
+    {
+        match self {
+            CellOp::Write(_) => Note::Wrote,
+            CellOp::Cond { .. } => Note::Cond(true),
+            CellOp::Lock => Note::Got,
+            CellOp::Free(_) => Note::Freed,
+        }
+    }
+
+    // Its act, for a place and an owner.
+    fn act(self, place: Place, who: Owner) -> Act
+        ensures { result ≡ op_act place who self }
+    {
+        match self {
+            CellOp::Write(value) => Act::WriteCell { place, who, value },
+            CellOp::Cond {
+                rel,
+                operand,
+                value,
+            } => Act::CondCell {
+                place,
+                who,
+                rel,
+                operand,
+                value,
+            },
+            CellOp::Lock => Act::LockCell { place, who },
+            CellOp::Free(value) => Act::FreeCell { place, who, value },
+        }
+    }
+}
 
 /// Where the walk of a write stands.
 #[derive(Clone, Copy, Debug, PartialEq, Eq)]
@@ -25,7 +99,9 @@ pub enum WriteGoes {
     On(WriteAt),
     /// The place has this note; `first` says that this act made it.
     Done { note: Note, first: bool },
-    /// This owner, another than the one who writes, has the item.
+    /// The item was to be given back, and who asks does not own it.
+    NotOwner,
+    /// This owner, another than the one who asks, has the item.
     Held(Owner),
 }
 
@@ -55,11 +131,11 @@ pub fn cell_key(alloc: Global, home: u16, table: u16, key: &Str) -> Result<RowKe
 }
 
 /// What a write asks at the key of its item: the operation, for a place and an owner, or that the first row be made.
-pub fn write_query(key: RowKey, place: Place, who: Owner, value: Value, at: WriteAt) -> Query
-    ensures { result ≡ write_asks key place who value at }
+pub fn write_query(key: RowKey, place: Place, who: Owner, op: CellOp, at: WriteAt) -> Query
+    ensures { result ≡ write_asks key place who op at }
 {
     match at {
-        WriteAt::Try => Query::Act(key, Act::WriteCell { place, who, value }),
+        WriteAt::Try => Query::Act(key, op.act(place, who)),
         WriteAt::Make => Query::Act(
             key,
             Act::MakeCell {
@@ -70,10 +146,10 @@ pub fn write_query(key: RowKey, place: Place, who: Owner, value: Value, at: Writ
     }
 }
 
-/// Where a write goes after it was told. Memory may be wanting only for what was lent. A cell that a row follows is
-/// written by no walk yet: the walk stays.
-pub fn write_told(alloc: Global, heard: Heard<'_>) -> Result<WriteGoes, AllocError>
-    ensures ok { IfOk result (λ s. s ≡ write_goes (told_of heard.entry)) }
+/// Where a write goes after it was told; `done` is the note that its operation leaves where the act says `Did`. Out of memory only
+/// for what was lent. A cell that a row follows is written by no walk yet: the walk stays.
+pub fn write_told(alloc: Global, done: Note, heard: Heard<'_>) -> Result<WriteGoes, AllocError>
+    ensures ok { IfOk result (λ s. s ≡ write_goes done (told_of heard.entry)) }
     ensures err { OnErr result (lends (told_of heard.entry) ≡ true) }
 {
     let Heard::Said(said) = heard else {
@@ -82,7 +158,11 @@ pub fn write_told(alloc: Global, heard: Heard<'_>) -> Result<WriteGoes, AllocErr
     match said {
         Said::NoRow => Ok(WriteGoes::On(WriteAt::Make)),
         Said::Did => Ok(WriteGoes::Done {
-            note: Note::Wrote,
+            note: done,
+            first: true,
+        }),
+        Said::Tested(passed) => Ok(WriteGoes::Done {
+            note: Note::Cond(passed),
             first: true,
         }),
         Said::Noted(note) => Ok(WriteGoes::Done {
@@ -90,6 +170,7 @@ pub fn write_told(alloc: Global, heard: Heard<'_>) -> Result<WriteGoes, AllocErr
             first: false,
         }),
         Said::Held(owner) => Ok(WriteGoes::Held(copy_owner(owner, alloc)?)),
+        Said::NotOwner => Ok(WriteGoes::NotOwner),
         _ => Ok(WriteGoes::On(WriteAt::Try)),
     }
 }

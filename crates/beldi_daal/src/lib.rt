@@ -5,15 +5,17 @@
 //!
 //! Proved:
 //! - The parts say what the definitions say: what a write asks, and where a write and a read go after they were told
-//!   (`write_asks`, `write_goes`, `read_goes`); memory is wanting after a call only where what lies in a row was lent.
+//!   (`write_asks`, `write_goes`, `read_goes`); after a call it is out of memory only where what lies in a row was lent.
 //! - `WriteWalk::turn` and `ReadWalk::turn` ask what the definition asks, in at most one call of the table, and go and say by
 //!   what was told, whatever the table tells; unless a write's walk goes on, it stands where it stood, and so does every walk
 //!   at an error (`Turned`), which leaves the rows as before (`an_error_leaves_the_rows` of `beldi_walk`).
 //! - Laws: where an item's chain is sound, a turn of a write's walk leaves it sound, and leaves the content of every
-//!   item as it is, but for its own operation's effect, of which a place has one, however many walks there are for it; where
-//!   it is done it tells the note that is kept at the place, and whether this turn made it (`a_chain_is_a_logged_cell`). A
-//!   read's walk changes nothing, is never refused as `Full`, and says the content's value, or the owner that is in the way
-//!   (`a_read_gives_the_content`).
+//!   item as it is, but for its own operation's effect, of which a place has one, however many walks there are for it. The
+//!   operation sets the value, sets it where it passes a test, takes the lock, or gives it back. Where it is done the walk tells
+//!   the note that is kept at the place, and whether this turn made it; where it is not, since another owns the item, or who
+//!   gives the lock back does not, it tells that (`a_chain_is_a_logged_cell`). No act takes away the note of a place, so every
+//!   later walk for it is told the same (`a_note_stays`). A read's walk changes nothing, is never refused as `Full`, and says
+//!   the content's value, or the owner that is in the way (`a_read_gives_the_content`).
 #![tactic(auto)]
 
 mod cell;
@@ -21,7 +23,9 @@ mod laws;
 mod read_walk;
 mod walk;
 
-pub use cell::{ReadGoes, WriteAt, WriteGoes, cell_key, read_told, write_query, write_told};
-pub use laws::{a_chain_is_a_logged_cell, a_read_gives_the_content};
+pub use cell::{
+    CellOp, ReadGoes, WriteAt, WriteGoes, cell_key, read_told, write_query, write_told,
+};
+pub use laws::{a_chain_is_a_logged_cell, a_note_stays, a_read_gives_the_content};
 pub use read_walk::{ReadSays, ReadWalk};
-pub use walk::{CellOp, Item, WriteSays, WriteWalk};
+pub use walk::{Item, WriteSays, WriteWalk};

@@ -3,9 +3,9 @@ ghost use Rattle.std.specs.Prelude.{◌≡◌, IfOk};
 ghost use Rattle.beldi_walk.specs.Walk.{Turned};
 ghost use Rattle.beldi_daal.specs.Walk.{first_walk, first_key, walk_asks, walk_next, walk_says};
 
-use crate::cell::{WriteAt, WriteGoes, cell_key, write_query, write_told};
-use beldi_row::{Note, RowKey, Table, TableErr};
-use beldi_value::{Owner, Place, Str, Value};
+use crate::cell::{CellOp, WriteAt, WriteGoes, cell_key, write_query, write_told};
+use beldi_row::{Note, RowKey, Table, TableErr, copy_owner};
+use beldi_value::{Owner, Place, Str};
 use beldi_walk::{Heard, Query, Walk, turn};
 use std::alloc::{AllocError, Global};
 
@@ -27,13 +27,6 @@ impl Item {
     }
 }
 
-/// What a walk does to its item.
-#[derive(Drop)]
-pub enum CellOp {
-    /// Sets the value.
-    Write(Value),
-}
-
 /// What a turn of a walk of a write says.
 #[derive(Drop)]
 pub enum WriteSays {
@@ -41,7 +34,9 @@ pub enum WriteSays {
     Going,
     /// The place has this note; `first` says that this act made it.
     Done { note: Note, first: bool },
-    /// This owner, another than the intent of the place, has the item.
+    /// The item was to be given back, and who asks does not own it.
+    NotOwner,
+    /// This owner, another than the one who asks, has the item.
     Held(Owner),
     /// The item's last row is full and has the greatest id of a row, 4,294,967,295, so no row can follow it. It comes
     /// only where the rows of an item are linked: as no act says yet that a row is full, no turn answers it.
@@ -54,6 +49,7 @@ pub struct WriteWalk {
     home: u16,
     item: Item,
     place: Place,
+    who: Owner,
     op: CellOp,
     at: WriteAt,
 }
@@ -72,35 +68,33 @@ impl Walk for WriteWalk {
     fn ask(&self, alloc: Global) -> Result<Query, AllocError> {
         let key = self.item.first_key(alloc, self.home)?;
         let place = self.place.copy(alloc)?;
-        let who = Owner::Intent(self.place.intent.copy(alloc)?);
-        match &self.op {
-            CellOp::Write(value) => {
-                Ok(write_query(key, place, who, value.copy(alloc)?, self.at))
-            }
-        }
+        let who = copy_owner(&self.who, alloc)?;
+        Ok(write_query(key, place, who, self.op.copy(alloc)?, self.at))
     }
 
     fn told(&mut self, alloc: Global, heard: Heard<'_>) -> Result<WriteSays, AllocError> {
-        match write_told(alloc, heard)? {
+        match write_told(alloc, self.op.done_note(), heard)? {
             WriteGoes::On(at) => {
                 self.at = at;
                 Ok(WriteSays::Going)
             }
             WriteGoes::Done { note, first } => Ok(WriteSays::Done { note, first }),
+            WriteGoes::NotOwner => Ok(WriteSays::NotOwner),
             WriteGoes::Held(owner) => Ok(WriteSays::Held(owner)),
         }
     }
 }
 
 impl WriteWalk {
-    /// A walk for an operation of the intent of `place`, on an item of the function `home`.
-    pub fn new(home: u16, item: Item, place: Place, op: CellOp) -> WriteWalk
-        ensures { result ≡ first_walk home item place op }
+    /// A walk for an operation that `who` asks for at `place`, on an item of the function `home`.
+    pub fn new(home: u16, item: Item, place: Place, who: Owner, op: CellOp) -> WriteWalk
+        ensures { result ≡ first_walk home item place who op }
     {
         WriteWalk {
             home,
             item,
             place,
+            who,
             op,
             at: WriteAt::Try,
         }
