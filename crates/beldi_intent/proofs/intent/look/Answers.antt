@@ -1,0 +1,16 @@
+use Rattle.std.proofs.Common.{refl, ap, sym, Ok, Err}
+use Rattle.beldi_row.specs.declared.act.Act.TheVariants.{Look}
+use Rattle.beldi_row.specs.declared.key.RowKey.{RowKey}
+use Rattle.beldi_walk.specs.declared.query.Query.TheVariants.{Act}
+use Rattle.beldi_walk.proofs.Queries.{acted}
+use Rattle.beldi_intent.specs.Intent.{look_asks}
+use Rattle.beldi_intent.proofs.intent.look.Goals as goal
+
+pub returns-in-Ok-intent_told : goal.returns-in-Ok-intent_told
+returns-in-Ok-intent_told g c = (_, (refl, c.in-Ok-intent_told.ensures.ok), acted (look_asks c.args.id c.args.func) c.intent_key.result Look c.args.now (g.T.Table.state c.args.table.now) (g.T.Table.state c.act.follows.lender-at-none) c.act.result (Ok c.in-Ok.said) c.in-Ok.is (ap (λ (k : RowKey). Act k Look) (sym c.intent_key.ensures)) c.act.follows.holds-at-none)
+
+pub returns-in-Err-intent_told : goal.returns-in-Err-intent_told
+returns-in-Err-intent_told g c = (_, (refl, refl, c.in-Err-intent_told.ensures.err), acted (look_asks c.args.id c.args.func) c.intent_key.result Look c.args.now (g.T.Table.state c.args.table.now) (g.T.Table.state c.act.follows.lender-at-none) c.act.result (Ok c.in-Ok.said) c.in-Ok.is (ap (λ (k : RowKey). Act k Look) (sym c.intent_key.ensures)) c.act.follows.holds-at-none)
+
+pub returns-in-Err : goal.returns-in-Err
+returns-in-Err g c = (Err c.in-Err.why, (refl, refl), acted (look_asks c.args.id c.args.func) c.intent_key.result Look c.args.now (g.T.Table.state c.args.table.now) (g.T.Table.state c.act.follows.lender-at-none) c.act.result (Err c.in-Err.why) c.in-Err.is (ap (λ (k : RowKey). Act k Look) (sym c.intent_key.ensures)) c.act.follows.holds-at-none)
