@@ -1,0 +1,5 @@
+use Rattle.beldi_call.proofs.Turns.{callees_enrolled}
+use Rattle.beldi_call.proofs.laws.a_callee_is_enrolled.Goals as goal
+
+pub returns : goal.returns
+returns c = callees_enrolled

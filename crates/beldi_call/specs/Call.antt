@@ -1,0 +1,82 @@
+-- A call that waits for its result, as a machine that asks one thing a turn.
+use Rattle.std.specs.Prelude.{◌≡◌, ℕ, Bool, true, is_some, is_none, Option, Some, None, Ok}
+use Rattle.std.specs.FinMap as map
+use Rattle.beldi_value.specs.declared.outcome.Outcome.{Outcome}
+use Rattle.beldi_value.specs.declared.place.Place.{Place}
+use Rattle.beldi_row.specs.declared.key.RowKey.{RowKey}
+use Rattle.beldi_row.specs.declared.row.Row.{Row}
+use Rattle.beldi_row.specs.Table.{Rows, TableState, Tells}
+use Rattle.beldi_walk.specs.declared.query.Query.{Query}
+use Rattle.beldi_walk.specs.Query.{Told}
+use Rattle.beldi_walk.specs.Walk.{Turned}
+use Rattle.beldi_invokelog.specs.InvokeLog.{invoke_key, call_at, result_in, open_asks, result_asks, invoked_of, result_of}
+use Rattle.beldi_call.specs.declared.call.CallAt.{CallAt}
+use Rattle.beldi_call.specs.declared.call.CallAt.TheVariants.{Open, Look}
+use Rattle.beldi_call.specs.declared.call.CallSays.{CallSays}
+use Rattle.beldi_call.specs.declared.call.CallSays.TheVariants.{Opened, NotYet, Done}
+use Rattle.beldi_call.specs.declared.call.CallWalk.{CallWalk}
+
+-- ---- what is asked, and what follows from what is told
+-- the call is opened in the first turn, and looked at from then on
+abbrev pub call_asks : ℕ → Place → ℕ → CallAt → Query
+call_asks home p func Open = open_asks home p func
+call_asks home p func Look = result_asks home p
+
+-- what is said of a call that is there, by its result
+abbrev pub open_says : Bool → Option Outcome → CallSays
+open_says first None = Opened first
+open_says first (Some o) = Done o
+
+abbrev pub look_says : Option Outcome → CallSays
+look_says None = NotYet
+look_says (Some o) = Done o
+
+abbrev pub call_says : ℕ → CallAt → Told → CallSays
+call_says func Open t = open_says (invoked_of func t).added (invoked_of func t).result
+call_says func Look t = look_says (result_of t)
+
+-- where the call stands after it said so
+abbrev pub call_next : CallAt → CallSays → CallAt
+call_next at (Opened first) = Look
+call_next at NotYet = at
+call_next at (Done o) = at
+
+-- ---- as a walk
+abbrev pub first_call : ℕ → Place → ℕ → CallWalk
+first_call home p func = record { home = home; place = p; func = func; at = Open }
+
+abbrev pub call_key : CallWalk → RowKey
+call_key w = invoke_key w.home w.place
+
+abbrev pub walk_asks : CallWalk → Query
+walk_asks w = call_asks w.home w.place w.func w.at
+
+abbrev pub walk_says : CallWalk → Told → CallSays
+walk_says w t = call_says w.func w.at t
+
+abbrev pub walk_next : CallWalk → Told → CallWalk
+walk_next w t = record w { at = call_next w.at (walk_says w t) }
+
+-- ---- what a turn promises
+-- the result that it tells
+abbrev pub result_said : CallSays → Option Outcome
+result_said (Opened first) = None
+result_said NotYet = None
+result_said (Done o) = Some o
+
+-- by the row of the call before the turn and after it. `Opened` comes at the turn that opens the call, and says whether this
+-- turn put it; `NotYet` comes at the turns that look
+abbrev pub SaidAt : CallAt → CallSays → Option Row → Option Row → Type 0
+SaidAt at (Opened first) r s = (at ≡ Open) × (first ≡ is_none r) × (is_some s ≡ true)
+SaidAt at NotYet r s = (at ≡ Look) × (s ≡ r)
+SaidAt at (Done o) r s = s ≡ r
+
+pub record CallTurn (w : CallWalk) (m n : Rows) (s : CallSays) : Type 0 where
+  -- it is done exactly where a result is kept, and tells that one
+  pub done : result_said s ≡ result_in (call_at n (call_key w))
+  pub said : SaidAt w.at s (map.get m (call_key w)) (map.get n (call_key w))
+
+-- so it is of each turn that says something, over every table that tells its rows
+abbrev pub CallsTellTheirResult : Type 0
+CallsTellTheirResult = (w x : CallWalk) (now : ℕ) (old new : TableState) (s : CallSays) → Turned (walk_asks w) now (walk_next w) (walk_says w) w x old new (Ok s)
+    → Tells old.rows new.rows (λ m n. CallTurn w m n s)

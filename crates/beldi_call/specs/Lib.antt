@@ -1,0 +1,2 @@
+pub mod Async
+pub mod Call

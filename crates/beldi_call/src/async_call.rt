@@ -1,0 +1,195 @@
+// A call that nobody waits for: what is asked, and what follows; as parts, and as a walk.
+ghost use Rattle.std.specs.Prelude.{◌≡◌, ◌<◌, true, length, IfOk, OnErr};
+ghost use Rattle.beldi_walk.specs.Query.{told_of, lends};
+ghost use Rattle.beldi_walk.specs.Walk.{Turned};
+ghost use Rattle.beldi_call.specs.Async.{async_asks, async_says, async_next as next_of, callee_of, first_async, walk_asks, walk_next, walk_says};
+
+use beldi_intent::register_query;
+use beldi_invokelog::{Back, back_told, invoked_told, open_query, registered_query};
+use beldi_row::{Body, Table, TableErr};
+use beldi_value::{IntentId, Place};
+use beldi_walk::{Heard, Query, Walk, turn};
+use std::alloc::{AllocError, Global};
+use std::marker::Model;
+
+/// A place that a call can be made at: its intent has fewer than 63 hops, so what it calls has an id.
+#[derive(Drop)]
+pub struct CallPlace {
+    place: Place,
+}
+
+impl Model for CallPlace {
+    ghost use Rattle.std.specs.Prelude.{length, ◌<◌};
+    ghost use Rattle.beldi_value.specs.declared.place.Place.{Place};
+
+    ghost Value = { Place };
+
+    ghost view = { λ a. a.place };
+
+    ghost invariant = { λ a. length a.place.intent.hops < 63 };
+}
+
+impl CallPlace {
+    /// This place.
+    pub fn new(place: Place) -> CallPlace
+        requires { length place.intent.hops < 63 }
+        ensures { result ≡ place }
+    {
+        CallPlace { place }
+    }
+
+    /// The place again.
+    pub fn copy_place(&self, alloc: Global) -> Result<Place, AllocError>
+        ensures { IfOk result (λ p. p ≡ self.now) }
+    {
+        self.place.copy(alloc)
+    }
+
+    /// The id of what is called there.
+    pub fn callee(&self, alloc: Global) -> Result<IntentId, AllocError>
+        ensures { IfOk result (λ id. id ≡ callee_of self.now) }
+    {
+        self.place.intent.child(alloc, self.place.step)
+    }
+}
+
+/// Where an asynchronous call stands.
+#[derive(Clone, Copy, Debug, PartialEq, Eq)]
+pub enum AsyncAt {
+    /// It is opened next.
+    Open,
+    /// The row of the callee is put next.
+    Register,
+    /// The row of the callee is there, and the call is marked as registered next.
+    Note,
+}
+
+/// What a turn of an asynchronous call says.
+#[derive(Clone, Copy, Debug, PartialEq, Eq)]
+pub enum AsyncSays {
+    /// The call goes on.
+    Going,
+    /// The call is there and not registered; `first` says that this act put it.
+    Opened { first: bool },
+    /// The call is registered.
+    Done,
+}
+
+/// What a call asks that the function `home` makes at a place; the callee has this to do.
+pub fn async_query(
+    alloc: Global,
+    home: u16,
+    place: &CallPlace,
+    body: &Body,
+    at: AsyncAt,
+) -> Result<Query, AllocError>
+    ensures { IfOk result (λ q. q ≡ async_asks home place.now body.now at) }
+{
+    match at {
+        AsyncAt::Open => Ok(open_query(home, place.copy_place(alloc)?, body.func)),
+        AsyncAt::Register => {
+            let callee = place.callee(alloc)?;
+            Ok(register_query(callee, body.copy(alloc)?))
+        }
+        AsyncAt::Note => Ok(registered_query(home, place.copy_place(alloc)?)),
+    }
+}
+
+/// What a call of `func` says of what it was told. Out of memory only for what was lent.
+pub fn async_told(
+    alloc: Global,
+    func: u16,
+    at: AsyncAt,
+    heard: Heard<'_>,
+) -> Result<AsyncSays, AllocError>
+    ensures ok { IfOk result (λ s. s ≡ async_says func at (told_of heard.entry)) }
+    ensures err { OnErr result (lends (told_of heard.entry) ≡ true) }
+{
+    match at {
+        AsyncAt::Open => {
+            let call = invoked_told(alloc, func, heard)?;
+            if call.registered {
+                Ok(AsyncSays::Done)
+            } else {
+                Ok(AsyncSays::Opened { first: call.added })
+            }
+        }
+        AsyncAt::Register => Ok(AsyncSays::Going),
+        AsyncAt::Note => match back_told(heard) {
+            Back::Set | Back::AlreadySet => Ok(AsyncSays::Done),
+            Back::Absent => Ok(AsyncSays::Going),
+        },
+    }
+}
+
+/// Where a call stands after it said so.
+pub fn async_next(at: AsyncAt, says: AsyncSays) -> AsyncAt
+    ensures { result ≡ next_of at says }
+{
+    match (at, says) {
+        (AsyncAt::Open, AsyncSays::Opened { .. }) => AsyncAt::Register,
+        (AsyncAt::Open, _) => AsyncAt::Open,
+        (AsyncAt::Register | AsyncAt::Note, _) => AsyncAt::Note,
+    }
+}
+
+/// A walk that puts the row of a callee, once, and then marks the call as registered.
+#[derive(Drop)]
+pub struct AsyncWalk {
+    home: u16,
+    place: CallPlace,
+    body: Body,
+    at: AsyncAt,
+}
+
+impl Walk for AsyncWalk {
+    ghost use Rattle.beldi_call.specs.Async.{walk_asks, walk_next, walk_says};
+
+    type Says = AsyncSays;
+
+    ghost asks = { walk_asks };
+
+    ghost next = { walk_next };
+
+    ghost says = { walk_says };
+
+    fn ask(&self, alloc: Global) -> Result<Query, AllocError> {
+        async_query(alloc, self.home, &self.place, &self.body, self.at)
+    }
+
+    fn told(&mut self, alloc: Global, heard: Heard<'_>) -> Result<AsyncSays, AllocError> {
+        let says = async_told(alloc, self.body.func, self.at, heard)?;
+        self.at = async_next(self.at, says);
+        Ok(says)
+    }
+}
+
+impl AsyncWalk {
+    /// A walk of the call that the function `home` makes at a place, of a callee that has this to do. The intent of the place
+    /// has fewer than 63 hops.
+    pub fn new(home: u16, place: Place, body: Body) -> AsyncWalk
+        requires { length place.intent.hops < 63 }
+        ensures { result ≡ first_async home place body }
+    {
+        AsyncWalk {
+            home,
+            place: CallPlace::new(place),
+            body,
+            at: AsyncAt::Open,
+        }
+    }
+
+    /// One act, at the moment `now`, in ticks. After `Done` the walk stands where it stood, and after an `Err` too, which leaves
+    /// the rows as before: `Full` comes exactly where a row would be put and there is no room for it, and `Failed` only where
+    /// the table failed. Where the call's row is no longer there to be marked, the walk says `Going` and stands.
+    pub fn turn<T: Table>(
+        &mut self,
+        alloc: Global,
+        table: &mut T,
+        now: u64,
+    ) -> Result<AsyncSays, TableErr>
+        ensures { Turned (walk_asks self.old) now (walk_next self.old) (walk_says self.old) self.old self.new (T.state table.old) (T.state table.new) result }
+    {
+        turn(alloc, self, table, now)
+    }
+}
