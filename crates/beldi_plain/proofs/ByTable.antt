@@ -12,7 +12,7 @@ use Rattle.std.specs.declared.cmp.Ordering.TheVariants.{Less, Equal, Greater}
 use Rattle.beldi_value.specs.declared.value.Value.{Value}
 use Rattle.beldi_value.specs.declared.value.Value.TheVariants as value
 use Rattle.beldi_plain.specs.Item.{Item, item_cmp, item_total, item_exact}
-use Rattle.beldi_plain.specs.Plain.{set_item}
+use Rattle.beldi_plain.specs.Operation.{set_item}
 use Rattle.beldi_plain.specs.ByTable.{key_cmp, key_total, table_cmp, table_total, table_exact, Cells, Tables, item_at, cells_at, items_in, items_of, set_cell, or_none, with_cell}
 use Rattle.beldi_plain.specs.declared.tables.TableId.{TableId}
 use Rattle.beldi_plain.proofs.Finite.{same_key, same_set}

@@ -10,19 +10,18 @@ use Rattle.beldi_value.specs.Id.{id_cmp, id_total, id_exact}
 use Rattle.beldi_value.specs.declared.id.IntentId.{IntentId}
 use Rattle.beldi_value.specs.declared.value.Value.{Value}
 use Rattle.beldi_value.specs.declared.outcome.Outcome.{Outcome}
-use Rattle.beldi_tree.specs.Bindings.{or_null}
 use Rattle.beldi_tree.specs.declared.deployment.Deployment.{Deployment}
 use Rattle.beldi_lang.specs.declared.effect.Effect.{Effect}
 use Rattle.beldi_lang.specs.declared.effect.Effect.TheVariants as effect
 use Rattle.beldi_lang.specs.declared.effect.Answer.{Answer}
-use Rattle.beldi_lang.specs.declared.effect.Answer.TheVariants as answer
 use Rattle.beldi_lang.specs.declared.machine.Machine.{Machine}
 use Rattle.beldi_lang.specs.Wants.{wants_answer, wants}
 use Rattle.beldi_lang.specs.Machine.{IsAt, resumed}
 use Rattle.beldi_lang.proofs.Resumes.{at_effect, at_next, returns_stay}
 use Rattle.beldi_plain.specs.Item.{item_cmp}
-use Rattle.beldi_plain.specs.Plain.{PlainState, Instance, answered, item_of, with_instance, step_by}
-use Rattle.beldi_plain.specs.Executor.{StandsAfter, StandsFor, StandsForOne, AllStand, IsKept, GoesOn, Acted, ActedAt, Made, answer_by, instance_by, items_by}
+use Rattle.beldi_plain.specs.Operation.{OnItem, op_of}
+use Rattle.beldi_plain.specs.Plain.{PlainState, Instance, answered, operated, with_instance, step_by}
+use Rattle.beldi_plain.specs.Executor.{StandsAfter, StandsFor, StandsForOne, AllStand, IsKept, GoesOn, Acted, ActedAt, Made, answer_if, answer_by, answered_if, instance_by, items_if, items_by}
 use Rattle.beldi_plain.specs.Answers.{IsReady}
 use Rattle.beldi_plain.proofs.Finite.{apart, there, gone, same_key, same_set}
 
@@ -90,11 +89,14 @@ acted_at old new a b id q r e x here is h s also =
     subst (λ (s : Instance). ActedAt old new a b id s e x) same (acted_one old new a b id q r e x here is h)
 
 -- what the parts of a step are together
+operation_so : (p : PlainState) (id : IntentId) (q : Instance) (o : Option OnItem) → map.get p.made id ≡ Some q → record { items = items_if p.items q o; made = map.insert p.made id (answered_if q (answer_if p.items q o)) } ≡ operated p id q o
+operation_so p id q None here = λ i. record { items = p.items; made = same_set id_total id_exact p.made id q here i }
+operation_so p id q (Some o) here = refl
+
 steps_so : (p : PlainState) (id : IntentId) (q : Instance) (e : Effect) → map.get p.made id ≡ Some q → record { items = items_by p.items q e; made = map.insert p.made id (instance_by p.items q e) } ≡ step_by p id q e
 steps_so p id q (effect.Read t k) here = refl
-steps_so p id q (effect.Write t k v) here = refl
 steps_so p id q (effect.Return o) here = refl
-steps_so p id q e here = λ i. record { items = p.items; made = same_set id_total id_exact p.made id q here i }
+steps_so p id q e here = operation_so p id q (op_of e) here
 
 pub made_so : (p r : PlainState) (id : IntentId) (q : Instance) (e : Effect) (x : Result (Option Answer) AllocError) → map.get p.made id ≡ Some q → ActedAt p.items r.items p.made r.made id q e x → Made p r id q e x
 made_so p r id q e (Ok o) here h = ((λ i. record { items = h.0 i; made = h.1 i }) ∙ steps_so p id q e here, h.2)
@@ -109,17 +111,12 @@ answered_so : (d : Deployment) (q : Instance) (m : Machine) (a : Answer) → Sta
 answered_so d q m a h w = stands_there d q.func q.args (resumed d m a) (q.answers ++ a ∷ []) (at_next d q.func q.args false m q.answers a w (h.1 w))
 
 goes_so : (d : Deployment) (items : FinMap item_cmp Value) (q : Instance) (m : Machine) (e : Effect) (a : Answer) → StandsFor d q m → m.effect ≡ e → Some a ≡ answer_by items q e → StandsFor d (instance_by items q e) (resumed d m a)
-goes_so d items q m (effect.Read t k) a h is by =
-    let same : a ≡ answer.Value (or_null (map.get items (item_of q t k))) = cc in
-    subst (λ (x : Answer). StandsFor d (answered q x) (resumed d m a)) same (answered_so d q m a h (ap wants_answer is))
-goes_so d items q m (effect.Write t k v) a h is by =
-    let same : a ≡ answer.Done = cc in
-    subst (λ (x : Answer). StandsFor d (answered q x) (resumed d m a)) same (answered_so d q m a h (ap wants_answer is))
-goes_so d items q m e a h is by = cc
+goes_so d items q m (effect.Return o) a h is by = cc
+goes_so d items q m e a h is by = subst (λ o. StandsFor d (answered_if q o) (resumed d m a)) by (answered_so d q m a h (ap wants_answer is))
 
 yet_so : (items : FinMap item_cmp Value) (q : Instance) (e : Effect) (a : Answer) → q.outcome ≡ None → Some a ≡ answer_by items q e → (instance_by items q e).outcome ≡ None
 yet_so items q (effect.Return o) a yet by = cc
-yet_so items q e a yet by = yet
+yet_so items q e a yet by = subst (λ o. (answered_if q o).outcome ≡ None) by yet
 
 -- a step keeps the machines with their instances
 pub step_stands : (d : Deployment) (p r : PlainState) (a b : FinMap id_cmp Machine) (id : IntentId) (m : Machine) (o : Option Answer) → AllStand d p.made a → (h : IsReady d p id m) → Made p r id h.instance m.effect (Ok o) → GoesOn d a b id m o → AllStand d r.made b

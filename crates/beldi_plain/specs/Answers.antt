@@ -55,7 +55,7 @@ bar_of d p (Tx id) = bar_step (map.get p.made id) (λ q. Some OtherEffect)
 bar_of d p (Try id place holder) = bar_step (map.get p.made id) (λ q. Some OtherEffect)
 
 -- an entry: Ok exactly where it is enabled, and then the state is the one after it; else nothing changed, and the answer
--- is what bars it, but for want of memory
+-- is what bars it, unless out of memory
 abbrev pub Did : Deployment → Entry → PlainState → PlainState → Result Unit PlainErr → Type 0
 Did d e p q (Ok u) = (after d p e ≡ Some q) × (bar_of d p e ≡ None)
 Did d e p q (Err OutOfMemory) = q ≡ p
@@ -92,7 +92,7 @@ pub record Began (d : Deployment) (es : List Entry) (p q : PlainState) (left : L
   pub run : run_from d p done ≡ Some q
 
 -- entries in their order: Ok exactly where each is enabled in its turn, and then the state is their run; else they have
--- no run, and the answer is what bars the first that is not enabled, after those before it. At want of memory some first
+-- no run, and the answer is what bars the first that is not enabled, after those before it. Out of memory, some first
 -- entries were done.
 abbrev pub Ran : Deployment → List Entry → PlainState → PlainState → Result Unit PlainErr → Type 0
 Ran d es p q (Ok u) = run_from d p es ≡ Some q

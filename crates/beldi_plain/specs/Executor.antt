@@ -15,8 +15,9 @@ use Rattle.beldi_lang.specs.declared.effect.Effect.TheVariants as effect
 use Rattle.beldi_lang.specs.declared.machine.Machine.{Machine}
 use Rattle.beldi_lang.specs.Machine.{IsAt, resumed}
 use Rattle.beldi_lang.specs.Wants.{wants, wants_answer}
-use Rattle.beldi_plain.specs.Item.{item_cmp}
-use Rattle.beldi_plain.specs.Plain.{PlainState, Instance, answered, item_of, set_item, step_by}
+use Rattle.beldi_plain.specs.Item.{Item, item_cmp}
+use Rattle.beldi_plain.specs.Operation.{Operation, OnItem, op_of, item_in, sets, set_if, answer_after}
+use Rattle.beldi_plain.specs.Plain.{PlainState, Instance, answered, item_of, step_by}
 
 -- the deployment whose bodies are run, and the plain state
 pub record Executor : Type 0 where
@@ -51,25 +52,41 @@ GoesOn d a b id m (Some x) = IsKept a b id (resumed d m x)
 
 -- ---- what an effect does, part by part
 
+-- the answer to an operation on an item
+abbrev pub answer_on : FinMap item_cmp Value → Item → Operation → Answer
+answer_on items x o = answer_after o (or_null (map.get items x))
+
+abbrev pub answer_if : FinMap item_cmp Value → Instance → Option OnItem → Option Answer
+answer_if items q None = None
+answer_if items q (Some o) = Some (answer_on items (item_in q.func o) o.does)
+
 -- the answer to an effect, where it has one and is carried out
 abbrev pub answer_by : FinMap item_cmp Value → Instance → Effect → Option Answer
 answer_by items q (effect.Read t k) = Some (answer.Value (or_null (map.get items (item_of q t k))))
-answer_by items q (effect.Write t k v) = Some answer.Done
-answer_by items q e = None
+answer_by items q e = answer_if items q (op_of e)
+
+abbrev pub answered_if : Instance → Option Answer → Instance
+answered_if q None = q
+answered_if q (Some a) = answered q a
 
 -- the instance that made it
 abbrev pub instance_by : FinMap item_cmp Value → Instance → Effect → Instance
-instance_by items q (effect.Read t k) = answered q (answer.Value (or_null (map.get items (item_of q t k))))
-instance_by items q (effect.Write t k v) = answered q answer.Done
 instance_by items q (effect.Return o) = record q { outcome = Some o }
-instance_by items q e = q
+instance_by items q e = answered_if q (answer_by items q e)
 
--- the items
+-- the items, after an operation
+abbrev pub items_on : FinMap item_cmp Value → Item → Operation → FinMap item_cmp Value
+items_on items x o = set_if items x (sets o (or_null (map.get items x)))
+
+abbrev pub items_if : FinMap item_cmp Value → Instance → Option OnItem → FinMap item_cmp Value
+items_if items q None = items
+items_if items q (Some o) = items_on items (item_in q.func o) o.does
+
+-- .. and after an effect
 abbrev pub items_by : FinMap item_cmp Value → Instance → Effect → FinMap item_cmp Value
-items_by items q (effect.Write t k v) = set_item items (item_of q t k) v
-items_by items q e = items
+items_by items q e = items_if items q (op_of e)
 
--- an instance makes an effect: Ok with its answer; at want of memory nothing changed
+-- an instance makes an effect: Ok with its answer; out of memory, nothing changed
 abbrev pub Acted : FinMap item_cmp Value → FinMap item_cmp Value → Instance → Instance → Effect → Result (Option Answer) AllocError → Type 0
 Acted old new q r e (Ok o) = (new ≡ items_by old q e) × (r ≡ instance_by old q e) × (o ≡ answer_by old q e)
 Acted old new q r e (Err w) = (new ≡ old) × (r ≡ q)

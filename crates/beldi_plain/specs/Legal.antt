@@ -3,6 +3,7 @@ use Rattle.std.specs.Prelude.{◌≡◌, List, [], ◌∷◌, Option, Some, opti
 use Rattle.beldi_book.specs.Order.{linear, SeenBounded}
 use Rattle.beldi_tree.specs.declared.deployment.Deployment.{Deployment}
 use Rattle.beldi_book.specs.declared.entry.Entry.{Entry}
+use Rattle.beldi_plain.specs.Guard.{IsGuarded}
 use Rattle.beldi_plain.specs.Plain.{PlainState, nothing, after}
 
 -- the state at the end, where each entry is enabled in its turn
@@ -14,9 +15,10 @@ run_from d p (e ∷ es) = option_and_then (λ q. run_from d q es) (after d p e)
 abbrev pub run_of : Deployment → List Entry → Option PlainState
 run_of d es = run_from d nothing (linear es)
 
--- no read had seen more changes than the book has before it, and each entry of the linear order is enabled in its turn,
--- from the empty state; `run` is the state at the end
+-- no read had seen more changes than the book has before it; each entry of the linear order is enabled in its turn, from the
+-- empty state, and `run` is the state at the end; and nobody else holds the lock of the item that an entry touches
 pub record IsLegal (d : Deployment) (book : List Entry) : Type 0 where
   pub bounded : SeenBounded 0 book
   pub run : PlainState
   pub legal : run_of d book ≡ Some run
+  pub guarded : IsGuarded d nothing (linear book)

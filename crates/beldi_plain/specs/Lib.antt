@@ -2,6 +2,8 @@ pub mod Answers
 pub mod ByTable
 pub mod Codes
 pub mod Executor
+pub mod Guard
+pub mod Holds
 pub mod Item
 pub mod Legal
 pub mod Listing

@@ -5,7 +5,6 @@ use Rattle.std.specs.FinMap.{FinMap}
 use Rattle.beldi_value.specs.Id.{id_cmp, root_of}
 use Rattle.beldi_value.specs.declared.id.IntentId.{IntentId}
 use Rattle.beldi_value.specs.declared.value.Value.{Value}
-use Rattle.beldi_value.specs.declared.value.Value.TheVariants.{Null}
 use Rattle.beldi_value.specs.declared.outcome.Outcome.{Outcome}
 use Rattle.beldi_tree.specs.declared.deployment.Deployment.{Deployment}
 use Rattle.beldi_lang.specs.declared.effect.Answer.{Answer}
@@ -17,6 +16,7 @@ use Rattle.beldi_lang.specs.Wants.{wants}
 use Rattle.beldi_book.specs.declared.entry.Entry.{Entry}
 use Rattle.beldi_book.specs.declared.entry.Entry.TheVariants.{Start, Read, Step, Tx, Try}
 use Rattle.beldi_plain.specs.Item.{Item, item_cmp}
+use Rattle.beldi_plain.specs.Operation.{Operation, OnItem, op_of, item_in, sets, set_if, answer_after}
 use Rattle.beldi_plain.specs.declared.kind.Kind.{Kind}
 use Rattle.beldi_plain.specs.declared.kind.Kind.TheVariants as kinds
 
@@ -40,10 +40,6 @@ nothing = record { items = map.empty; made = map.empty }
 abbrev pub value_at : PlainState → Item → Value
 value_at p x = or_null (map.get p.items x)
 
-abbrev pub set_item : FinMap item_cmp Value → Item → Value → FinMap item_cmp Value
-set_item m x Null = map.remove m x
-set_item m x v = map.insert m x v
-
 -- the instance is so from now on
 abbrev pub with_instance : PlainState → IntentId → Instance → PlainState
 with_instance p id q = record p { made = map.insert p.made id q }
@@ -52,17 +48,17 @@ with_instance p id q = record p { made = map.insert p.made id q }
 abbrev pub effect_of : Deployment → Instance → Effect
 effect_of d q = wants d q.func q.args false q.answers
 
--- how an effect is entered in a book: a read as one, a write and a return as a change. The effects that the host does not
--- carry out yet are not entered.
+-- how an effect is entered in a book: a read as one, an operation on an item and a return as a change. The effects that the
+-- host does not carry out yet are not entered.
 abbrev pub kind_of : Effect → Kind
 kind_of (effect.Read t k) = kinds.Read
 kind_of (effect.Write t k v) = kinds.Change
+kind_of (effect.CondWrite t k r o v) = kinds.Change
+kind_of (effect.Lock t k) = kinds.Change
+kind_of (effect.Unlock t k) = kinds.Change
 kind_of (effect.Return o) = kinds.Change
-kind_of (effect.CondWrite t k r o v) = kinds.Unbuilt
 kind_of (effect.Call f a) = kinds.Unbuilt
 kind_of (effect.Async f a) = kinds.Unbuilt
-kind_of (effect.Lock t k) = kinds.Unbuilt
-kind_of (effect.Unlock t k) = kinds.Unbuilt
 kind_of effect.Begin = kinds.Unbuilt
 kind_of (effect.End b) = kinds.Unbuilt
 kind_of effect.Abort = kinds.Unbuilt
@@ -74,13 +70,20 @@ answered q a = record q { answers = q.answers ++ a ∷ [] }
 abbrev pub item_of : Instance → ℕ → List ℕ → Item
 item_of q t k = record { func = q.func; table = t; key = k }
 
--- what a step does, by the effect that the instance stands at: a read is answered by the item's value. The other effects
--- are not carried out yet.
+-- an operation on an item, by the value that is there
+abbrev pub operate : PlainState → IntentId → Instance → Item → Operation → PlainState
+operate p id q x o = with_instance (record p { items = set_if p.items x (sets o (value_at p x)) }) id (answered q (answer_after o (value_at p x)))
+
+abbrev pub operated : PlainState → IntentId → Instance → Option OnItem → PlainState
+operated p id q None = p
+operated p id q (Some o) = operate p id q (item_in q.func o) o.does
+
+-- what a step does, by the effect that the instance stands at: a read is answered by the item's value, and an operation on an
+-- item is done. The other effects are not carried out yet.
 abbrev pub step_by : PlainState → IntentId → Instance → Effect → PlainState
 step_by p id q (effect.Read t k) = with_instance p id (answered q (answer.Value (value_at p (item_of q t k))))
-step_by p id q (effect.Write t k v) = with_instance (record p { items = set_item p.items (item_of q t k) v }) id (answered q answer.Done)
 step_by p id q (effect.Return o) = with_instance p id (record q { outcome = Some o })
-step_by p id q e = p
+step_by p id q e = operated p id q (op_of e)
 
 -- what an instance comes to that was made and has no outcome; there is no step of any other
 abbrev pub if_open : {X : Type 0} → Option Outcome → Option X → Option X

@@ -3,7 +3,11 @@ ghost use Rattle.std.specs.Prelude.{◌≡◌, ◌++◌, ◌∷◌, [], None, So
 ghost use Rattle.beldi_lang.specs.Wants.{wants, wants_answer};
 ghost use Rattle.beldi_lang.specs.Machine.{IsAt};
 ghost use Rattle.beldi_lang.specs.declared.effect.Effect.TheVariants as effect;
+ghost use Rattle.beldi_lang.specs.declared.effect.Answer.TheVariants as answer;
+ghost use Rattle.beldi_value.specs.declared.value.Value.TheVariants as value;
 ghost use Rattle.beldi_plain.specs.Executor.{StandsFor, StandsAfter, Acted};
+ghost use Rattle.beldi_plain.specs.Operation.{set_item};
+ghost use Rattle.beldi_plain.specs.Plain.{answered};
 
 use crate::items::Items;
 use beldi_lang::{Answer, Deployment, Effect, Machine};
@@ -74,17 +78,36 @@ impl Instance {
             Effect::Write { table, key, value } => {
                 let key = key.copy(alloc)?;
                 let value = value.copy(alloc)?;
-                self.write(items, *table, key, value)
+                self.set(items, *table, key, value, Answer::Done)?;
+                Ok(Some(Answer::Done))
+            }
+            Effect::CondWrite {
+                table,
+                key,
+                rel,
+                operand,
+                value,
+            } => {
+                let passes = items.passes(self.func, *table, key, *rel, operand);
+                if passes {
+                    let key = key.copy(alloc)?;
+                    let value = value.copy(alloc)?;
+                    self.set(items, *table, key, value, tested(true))?;
+                } else {
+                    self.answers.push(tested(false))?;
+                }
+                Ok(Some(tested(passes)))
+            }
+            Effect::Lock { .. } | Effect::Unlock { .. } => {
+                self.answers.push(Answer::Done)?;
+                Ok(Some(Answer::Done))
             }
             Effect::Return(outcome) => {
                 self.outcome = Some(outcome.copy(alloc)?);
                 Ok(None)
             }
-            Effect::CondWrite { .. }
-            | Effect::Call { .. }
+            Effect::Call { .. }
             | Effect::Async { .. }
-            | Effect::Lock { .. }
-            | Effect::Unlock { .. }
             | Effect::Begin
             | Effect::End { .. }
             | Effect::Abort => Ok(None),
@@ -107,21 +130,30 @@ impl Instance {
         Ok(Some(Answer::Value(value)))
     }
 
-    // Sets an item.
-    fn write(
+    // Sets an item, and is answered so.
+    fn set(
         &mut self,
         items: &mut Items,
         table: u16,
         key: Str,
         value: Value,
-    ) -> Result<Option<Answer>, AllocError>
-        ensures { Acted items.old items.new self.old self.new (effect.Write table key value) result }
+        answer: Answer,
+    ) -> Result<(), AllocError>
+        ensures ok { OnOk result ((items.new ≡ set_item items.old (record { func = self.old.func; table = table; key = key }) value) × (self.new ≡ answered self.old answer)) }
+        ensures err { OnErr result ((items.new ≡ items.old) × (self.new ≡ self.old)) }
     {
         self.answers.reserve(1)?;
         items.set(self.func, table, key, value)?;
-        self.answers.push_reserved(Answer::Done);
-        Ok(Some(Answer::Done))
+        self.answers.push_reserved(answer);
+        Ok(())
     }
+}
+
+// The answer to a test.
+fn tested(passes: bool) -> Answer
+    ensures { result ≡ answer.Value (value.Bool passes) }
+{
+    Answer::Value(Value::Bool(passes))
 }
 
 fn copy_answer(alloc: Global, answer: &Answer) -> Result<Answer, AllocError>

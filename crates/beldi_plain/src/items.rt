@@ -2,12 +2,13 @@
 ghost use Rattle.std.specs.Prelude.{◌≡◌, ◌++◌, OnOk, OnErr, IfOk, option_copied};
 ghost use Rattle.std.specs.FinMap as map;
 ghost use Rattle.beldi_tree.specs.Bindings.{or_null};
-ghost use Rattle.beldi_plain.specs.Plain.{set_item};
+ghost use Rattle.beldi_value.specs.Passes.{passes};
+ghost use Rattle.beldi_plain.specs.Operation.{set_item};
 ghost use Rattle.beldi_plain.specs.Listing.{items_text};
 
 use crate::tables::{TableId, Tables};
 use beldi_lang::Deployment;
-use beldi_value::{Str, Value};
+use beldi_value::{Rel, Str, Value};
 use std::alloc::{AllocError, Global};
 use std::marker::Model;
 
@@ -63,6 +64,16 @@ impl Items {
         match self.get(func, table, key) {
             Some(value) => value.copy(alloc),
             None => Ok(Value::Null),
+        }
+    }
+
+    /// Whether the value of an item, null where it was never set, stands so to the operand.
+    pub fn passes(&self, func: u16, table: u16, key: &Str, rel: Rel, operand: &Value) -> bool
+        ensures { result ≡ passes (or_null (map.get self.now (record { func = func; table = table; key = key.now }))) rel operand.now }
+    {
+        match self.get(func, table, key) {
+            Some(value) => value.passes(rel, operand),
+            None => Value::Null.passes(rel, operand),
         }
     }
 

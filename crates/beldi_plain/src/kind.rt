@@ -19,12 +19,13 @@ pub fn kind_of(effect: &Effect) -> Kind
 {
     match effect {
         Effect::Read { .. } => Kind::Read,
-        Effect::Write { .. } | Effect::Return(_) => Kind::Change,
-        Effect::CondWrite { .. }
-        | Effect::Call { .. }
-        | Effect::Async { .. }
+        Effect::Write { .. }
+        | Effect::CondWrite { .. }
         | Effect::Lock { .. }
         | Effect::Unlock { .. }
+        | Effect::Return(_) => Kind::Change,
+        Effect::Call { .. }
+        | Effect::Async { .. }
         | Effect::Begin
         | Effect::End { .. }
         | Effect::Abort => Kind::Unbuilt,
