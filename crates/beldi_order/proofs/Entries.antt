@@ -17,8 +17,10 @@ use Rattle.beldi_lang.specs.declared.effect.Effect.{Effect}
 use Rattle.beldi_lang.specs.declared.effect.Effect.TheVariants as effect
 use Rattle.beldi_book.specs.declared.entry.Entry.{Entry}
 use Rattle.beldi_book.specs.declared.entry.Entry.TheVariants.{Start, Read, Step, Tx, Try}
-use Rattle.beldi_plain.specs.Plain.{Instance, PlainState, after, start, can_step, if_open, if_read, if_change, step_by, with_instance, answered, effect_of, kind_of, item_of, value_at}
+use Rattle.beldi_order.specs.Grown.{Grown, GrownAt, Grows}
+use Rattle.beldi_plain.specs.Plain.{Instance, PlainState, after, start, can_step, if_open, if_read, if_change, step_by, operated, with_instance, answered, effect_of, kind_of, item_of, value_at}
 use Rattle.beldi_plain.specs.Legal.{run_from}
+use Rattle.beldi_plain.specs.Operation.{OnItem, op_of, item_in, answer_after}
 use Rattle.beldi_plain.specs.declared.kind.Kind.{Kind}
 use Rattle.beldi_plain.specs.declared.kind.Kind.TheVariants as kinds
 
@@ -138,21 +140,6 @@ enabled_step d p id i is none kind =
     ∙ ap (λ k. if_change k (step_by p id i (effect_of d i))) kind
 
 -- ---- instances only go on
-pub record Grown (i j : Instance) : Type 0 where
-  pub func : j.func ≡ i.func
-  pub args : j.args ≡ i.args
-  pub later : List Answer
-  pub more : i.answers ++ later ≡ j.answers
-  pub over : (o : Outcome) → i.outcome ≡ Some o → j.outcome ≡ Some o
-
-abbrev pub GrownAt : Option Instance → Option Instance → Type 0
-GrownAt None o = Unit {0}
-GrownAt (Some i) None = ⊥
-GrownAt (Some i) (Some j) = Grown i j
-
-abbrev pub Grows : FinMap id_cmp Instance → FinMap id_cmp Instance → Type 0
-Grows f g = (id : IntentId) → GrownAt (map.get f id) (map.get g id)
-
 grown_self : (o : Option Instance) → GrownAt o o
 grown_self None = tt
 grown_self (Some i) = record { func = refl; args = refl; later = []; more = append-nil i.answers; over = λ o h. h }
@@ -184,11 +171,14 @@ grown_end i o none = record { func = refl; args = refl; later = []; more = appen
 grows_at : (f : FinMap id_cmp Instance) (id : IntentId) (i j : Instance) → map.get f id ≡ Some i → Grown i j → Grows f (map.insert f id j)
 grows_at f id i j is g = grows_set f id j (subst (λ o. GrownAt o (Some j)) (sym is) g)
 
+operation_grows : (p : PlainState) (id : IntentId) (i : Instance) (o : Option OnItem) → map.get p.made id ≡ Some i → Grows p.made (operated p id i o).made
+operation_grows p id i None is = grows_self p.made
+operation_grows p id i (Some o) is = let a = answer_after o.does (value_at p (item_in i.func o)) in grows_at p.made id i (answered i a) is (grown_answer i a)
+
 step_grows : (p : PlainState) (id : IntentId) (i : Instance) (e : Effect) → map.get p.made id ≡ Some i → i.outcome ≡ None → Grows p.made (step_by p id i e).made
 step_grows p id i (effect.Read t k) is none = let a = answer.Value (value_at p (item_of i t k)) in grows_at p.made id i (answered i a) is (grown_answer i a)
-step_grows p id i (effect.Write t k v) is none = grows_at p.made id i (answered i answer.Done) is (grown_answer i answer.Done)
 step_grows p id i (effect.Return o) is none = grows_at p.made id i (record i { outcome = Some o }) is (grown_end i o none)
-step_grows p id i e is none = grows_self p.made
+step_grows p id i e is none = operation_grows p id i (op_of e) is
 
 stepped_grows : (d : Deployment) (p : PlainState) (id : IntentId) (b : Kind) (q : PlainState) → Stepped d p id b q → Grows p.made q.made
 stepped_grows d p id b q s = subst (λ (r : PlainState). Grows p.made r.made) s.leads (step_grows p id s.instance (effect_of d s.instance) s.made s.open_still)

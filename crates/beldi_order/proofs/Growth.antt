@@ -8,12 +8,16 @@ use Rattle.beldi_book.specs.declared.entry.Entry.{Entry}
 use Rattle.beldi_book.specs.declared.entry.Entry.TheVariants.{Read}
 use Rattle.beldi_book.specs.Order.{count_changes, front, back, linear}
 use Rattle.beldi_book.proofs.Orders.{linear_changes, front_back}
-use Rattle.beldi_plain.specs.Plain.{Instance, PlainState, nothing}
+use Rattle.beldi_lang.specs.declared.effect.Answer.TheVariants as answer
+use Rattle.beldi_plain.specs.Guard.{IsGuarded}
+use Rattle.beldi_plain.specs.Plain.{Instance, PlainState, nothing, after, kind_of, step_by}
 use Rattle.beldi_plain.specs.Legal.{run_from}
 use Rattle.beldi_order.specs.Laws.{EndsWith, IsLast, BelongsEarlier, with_answer, IsKeptLate}
 use Rattle.beldi_order.proofs.Places.{front_more, linear_change, linear_read, put_between, put_after, SeenAt, bounded_more}
-use Rattle.beldi_order.proofs.Entries.{GrownAt, runs_on, one_more, run_grows}
-use Rattle.beldi_order.proofs.Late.{unmoved, put_late}
+use Rattle.beldi_order.proofs.Entries.{same_some, runs_on, one_more, run_grows, enabled_read}
+use Rattle.beldi_order.proofs.Guard.{guarded_parts, guarded_first, guarded_second, past, same_holds}
+use Rattle.beldi_order.proofs.Late.{StandsAtRead, unmoved, put_late}
+use Rattle.beldi_order.specs.Grown.{GrownAt}
 
 from_zero : (n : ℕ) → n ≡ 0 + n
 from_zero n = omega arith
@@ -27,6 +31,7 @@ change_last d book p e q h =
     record {
       bounded = bounded_more book e 0 h.bounded (subst (λ o. SeenAt o (0 + count_changes book)) (sym h.change) tt);
       legal = ap (run_from d nothing) last ∙ runs_on d nothing p (linear book) (e ∷ []) h.legal ∙ one_more d p e ∙ h.enabled;
+      guarded = subst (IsGuarded d nothing) (sym last) (guarded_parts d nothing p (linear book) (e ∷ []) h.legal h.guarded (h.free, λ r led. tt));
       earlier = λ s r few is. ap (λ xs. run_from d nothing (front s xs)) last ∙ ap (run_from d nothing) (front_more e h.change s (linear book) (in_order book s few)) ∙ is;
     }
 
@@ -47,15 +52,41 @@ module _ (d : Deployment) (book : List Entry) (p : PlainState) (id : IntentId) (
   behind : run_from d h.state (back s (linear book)) ≡ Some p
   behind = sym (runs_on d nothing h.state (front s (linear book)) (back s (linear book)) h.is_state) ∙ ap (run_from d nothing) (front_back s (linear book)) ∙ h.legal
 
+  whole : IsGuarded d nothing (front s (linear book) ++ back s (linear book))
+  whole = subst (IsGuarded d nothing) (sym (front_back s (linear book))) h.guarded
+
+  stands : StandsAtRead d h.state id a
+  stands = record { made = h.was_made; open_still = h.open_still; kind = ap kind_of h.stands }
+
+  -- from its place on the instance stands there
+  to : (t : ℕ) (r : PlainState) (le : s ≤ t) → run_from d nothing (front t (linear book)) ≡ Some r → run_from d h.state (put_between (Read id s) s refl s t (linear book) le).between ≡ Some r
+  to t r le is =
+      let b = put_between (Read id s) s refl s t (linear book) le in
+      sym (runs_on d nothing h.state (front s (linear book)) b.between h.is_state) ∙ ap (run_from d nothing) (sym b.longer) ∙ is
+
+  still : (t : ℕ) (r : PlainState) → s ≤ t → run_from d nothing (front t (linear book)) ≡ Some r → map.get r.made id ≡ Some a
+  still t r le is =
+      there (put_between (Read id s) s refl s t (linear book) le).between (back t (linear book)) r (to t r le is)
+      (sym (runs_on d nothing r (front t (linear book)) (back t (linear book)) is) ∙ ap (run_from d nothing) (front_back t (linear book)) ∙ h.legal)
+
+  -- the read is enabled at its place, and answered by the value
+  answers : after d h.state (Read id s) ≡ Some (with_answer h.state id a v)
+  answers = enabled_read d h.state id s a h.was_made h.open_still stands.kind ∙ ap Some (ap (step_by h.state id a) h.stands ∙ ap (λ w. with_answer h.state id a w) h.value)
+
   pub kept_late : IsKeptLate d book p id s a v
   kept_late = record {
     bounded = bounded_more book (Read id s) 0 h.bounded (subst (λ n. s ≤ n) (from_zero (count_changes book)) h.few);
     legal = ap (run_from d nothing) order ∙ put (back s (linear book)) p behind h.has_not_moved;
+    guarded = subst (IsGuarded d nothing) (sym order) (guarded_parts d nothing h.state (front s (linear book)) (Read id s ∷ back s (linear book)) h.is_state
+        (guarded_first d nothing (front s (linear book)) (back s (linear book)) whole) (
+          h.free,
+          λ r led. subst (λ z. IsGuarded d z (back s (linear book))) (same_some (sym answers ∙ led)) (past d h.state p (back s (linear book)) id a (answer.Value v) stands h.has_not_moved behind
+              (guarded_second d nothing h.state (front s (linear book)) (back s (linear book)) h.is_state whole)),
+        ));
     before = λ t r lt is. ap (λ xs. run_from d nothing (front t xs)) order
         ∙ ap (run_from d nothing) (put_after t s (linear book) (Read id s ∷ back s (linear book)) lt (in_order book s h.few)) ∙ is;
     since = λ t r le is.
         let b = put_between (Read id s) s refl s t (linear book) le in
-        let to : run_from d h.state b.between ≡ Some r = sym (runs_on d nothing h.state (front s (linear book)) b.between h.is_state) ∙ ap (run_from d nothing) (sym b.longer) ∙ is in
-        let from : run_from d r (back t (linear book)) ≡ Some p = sym (runs_on d nothing r (front t (linear book)) (back t (linear book)) is) ∙ ap (run_from d nothing) (front_back t (linear book)) ∙ h.legal in
-        ap (λ xs. run_from d nothing (front t xs)) order ∙ ap (run_from d nothing) b.with_read ∙ put b.between r to (there b.between (back t (linear book)) r to from);
+        ap (λ xs. run_from d nothing (front t xs)) order ∙ ap (run_from d nothing) b.with_read ∙ put b.between r (to t r le is) (still t r le is);
+    locks = λ t r le is. same_holds d r id a (answer.Value v) (record { made = still t r le is; open_still = h.open_still; kind = stands.kind });
   }

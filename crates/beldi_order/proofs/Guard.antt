@@ -1,5 +1,5 @@
--- A read that is kept late leaves the entries that it passes guarded.
-use Rattle.std.proofs.Common.{◌≡◌, Bool, false, List, [], ◌∷◌, Option, None, Some, refl, ap, sym, ◌∙◌, subst, ℕ}
+-- Entries that are guarded, in parts; and a read that is kept late leaves those that it passes guarded.
+use Rattle.std.proofs.Common.{◌≡◌, Bool, false, List, [], ◌∷◌, ◌++◌, Option, None, Some, refl, ap, sym, ◌∙◌, subst, ℕ}
 use Rattle.std.specs.Prelude.{option_and_then}
 use Rattle.std.specs.FinMap as map
 use Rattle.beldi_value.specs.declared.id.IntentId.{IntentId}
@@ -10,15 +10,36 @@ use Rattle.beldi_lang.specs.declared.effect.Effect.TheVariants as effect
 use Rattle.beldi_book.specs.declared.entry.Entry.{Entry}
 use Rattle.beldi_book.specs.declared.entry.Entry.TheVariants.{Start, Read, Step, Tx, Try}
 use Rattle.beldi_plain.specs.Item.{Item}
-use Rattle.beldi_plain.specs.Operation.{op_of, held_if, holds}
+use Rattle.beldi_plain.specs.Guard.{touched_by, actor, IsFree, IsGuarded}
+use Rattle.beldi_plain.specs.Holds.{held_if, holds}
+use Rattle.beldi_plain.specs.Operation.{op_of}
 use Rattle.beldi_plain.specs.Plain.{Instance, PlainState, after, with_instance, answered, effect_of, kind_of}
 use Rattle.beldi_plain.specs.Legal.{run_from}
 use Rattle.beldi_plain.specs.declared.kind.Kind.TheVariants as kinds
-use Rattle.beldi_order.specs.Guard.{touched_by, actor, IsFree, IsGuarded, LateReadsLeaveGuards}
-use Rattle.beldi_order.proofs.Entries.{same_some, made_set, did, Did, GrownAt, after_grows, run_grows}
+use Rattle.beldi_order.specs.Guard.{LateReadsLeaveGuards}
+use Rattle.beldi_order.proofs.Entries.{same_some, made_set, did, Did, after_grows, run_grows}
+use Rattle.beldi_order.specs.Grown.{GrownAt}
 use Rattle.beldi_order.proofs.Late.{StandsAtRead, passes, apart, unmoved, elsewhere}
 use Rattle.beldi_order.proofs.Operations.{held_pushed}
 
+-- ---- entries in parts
+pub guarded_parts : (d : Deployment) (p q : PlainState) (es fs : List Entry) → run_from d p es ≡ Some q → IsGuarded d p es → IsGuarded d q fs → IsGuarded d p (es ++ fs)
+guarded_parts d p q [] fs h g k = subst (λ z. IsGuarded d z fs) (sym (same_some h)) k
+guarded_parts d p q (e ∷ es) fs h g k = (g.0, λ r led. guarded_parts d r q es fs (sym (ap (option_and_then (λ s. run_from d s es)) led) ∙ h) (g.1 r led) k)
+
+pub guarded_first : (d : Deployment) (p : PlainState) (es fs : List Entry) → IsGuarded d p (es ++ fs) → IsGuarded d p es
+guarded_first d p [] fs g = tt
+guarded_first d p (e ∷ es) fs g = (g.0, λ r led. guarded_first d r es fs (g.1 r led))
+
+pub guarded_second : (d : Deployment) (p q : PlainState) (es fs : List Entry) → run_from d p es ≡ Some q → IsGuarded d p (es ++ fs) → IsGuarded d q fs
+guarded_second d p q [] fs h g = subst (λ z. IsGuarded d z fs) (same_some h) g
+guarded_second d p q (e ∷ es) fs h g =
+    (elim (after d p e) as (λ o. after d p e ≡ o → option_and_then (λ r. run_from d r es) o ≡ Some q → IsGuarded d q fs) [
+      | None ↦ λ step is. cc
+      | Some r ↦ λ step is. guarded_second d r q es fs is (g.1 r step)
+    ]) refl h
+
+-- ---- a late read
 -- a read moves no lock
 no_op : (e : Effect) → kind_of e ≡ kinds.Read → (x : Item) (f : ℕ) (b : Bool) → held_if x f (op_of e) b ≡ b
 no_op (effect.Read t k) h x f b = refl
@@ -28,7 +49,7 @@ module _ (d : Deployment) (p : PlainState) (i : IntentId) (a : Instance) (v : An
   abbrev later : PlainState
   later = with_instance p i (answered a v)
 
-  same_holds : (x : Item) (j : IntentId) → holds d x (map.get later.made j) ≡ holds d x (map.get p.made j)
+  pub same_holds : (x : Item) (j : IntentId) → holds d x (map.get later.made j) ≡ holds d x (map.get p.made j)
   same_holds x = made_set p.made i (answered a v) (λ j o. holds d x o ≡ holds d x (map.get p.made j))
       (held_pushed d x a.func a.args [] a.answers v false ∙ no_op (effect_of d a) stands.kind x a.func (holds d x (Some a)) ∙ ap (holds d x) (sym stands.made)) (λ j. refl)
 
@@ -44,7 +65,7 @@ module _ (d : Deployment) (p : PlainState) (i : IntentId) (a : Instance) (v : An
     free_there e h free x touched j held =
         free x (ap (touched_by d) (sym (elsewhere p.made i (actor e) (answered a v) (other e (did d p e r h)))) ∙ touched) j (sym (same_holds x j) ∙ held)
 
-past : (d : Deployment) (p q : PlainState) (es : List Entry) (i : IntentId) (a : Instance) (v : Answer) → StandsAtRead d p i a → map.get q.made i ≡ Some a → run_from d p es ≡ Some q
+pub past : (d : Deployment) (p q : PlainState) (es : List Entry) (i : IntentId) (a : Instance) (v : Answer) → StandsAtRead d p i a → map.get q.made i ≡ Some a → run_from d p es ≡ Some q
     → IsGuarded d p es → IsGuarded d (with_instance p i (answered a v)) es
 past d p q [] i a v stands stays h g = tt
 past d p q (e ∷ es) i a v stands stays h g = by_option (after d p e) refl h (λ r. past d r q es i a v)

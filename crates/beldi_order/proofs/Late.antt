@@ -18,11 +18,13 @@ use Rattle.beldi_lang.specs.declared.effect.Effect.TheVariants as effect
 use Rattle.beldi_book.specs.declared.entry.Entry.{Entry}
 use Rattle.beldi_book.specs.declared.entry.Entry.TheVariants.{Start, Read, Step, Tx, Try}
 use Rattle.beldi_plain.specs.Item.{item_cmp}
-use Rattle.beldi_plain.specs.Plain.{Instance, PlainState, after, start, step_by, with_instance, answered, effect_of, kind_of, item_of, set_item, value_at}
+use Rattle.beldi_plain.specs.Plain.{Instance, PlainState, after, start, step_by, with_instance, answered, effect_of, kind_of, item_of, operated, value_at}
+use Rattle.beldi_plain.specs.Operation.{OnItem, op_of, item_in, sets, set_if, answer_after}
 use Rattle.beldi_plain.specs.Legal.{run_from}
 use Rattle.beldi_plain.specs.declared.kind.Kind.{Kind}
 use Rattle.beldi_plain.specs.declared.kind.Kind.TheVariants as kinds
-use Rattle.beldi_order.proofs.Entries.{same_some, new_instance, Started, Stepped, Did, did, enabled_read, enabled_step, Grown, GrownAt, after_grows, run_grows, runs_on}
+use Rattle.beldi_order.proofs.Entries.{same_some, new_instance, Started, Stepped, Did, did, enabled_read, enabled_step, after_grows, run_grows, runs_on}
+use Rattle.beldi_order.specs.Grown.{Grown, GrownAt}
 
 -- ---- two instances that were set
 same_at : (f : FinMap id_cmp Instance) (i j : IntentId) (x y : Instance) (b c : Bool) (o : Option Instance) → (b ≡ true → c ≡ true → ⊥) → cond b (Some y) (cond c (Some x) o) ≡ cond c (Some x) (cond b (Some y) o)
@@ -63,11 +65,16 @@ abbrev with_items : FinMap item_cmp Value → FinMap id_cmp Instance → PlainSt
 with_items m f = record { items = m; made = f }
 
 -- another instance's step does not see the answer
+operation_passes : (p : PlainState) (i j : IntentId) (x y : Instance) (o : Option OnItem) → (i ≡ j → ⊥) → operated (with_instance p i x) j y o ≡ with_instance (operated p j y o) i x
+operation_passes p i j x y None apart = refl
+operation_passes p i j x y (Some o) apart =
+    let w = value_at p (item_in y.func o) in
+    ap (with_items (set_if p.items (item_in y.func o) (sets o.does w))) (commutes p.made i j x (answered y (answer_after o.does w)) apart)
+
 step_passes : (p : PlainState) (i j : IntentId) (x y : Instance) (e : Effect) → (i ≡ j → ⊥) → step_by (with_instance p i x) j y e ≡ with_instance (step_by p j y e) i x
 step_passes p i j x y (effect.Read t k) apart = ap (λ f. record p { made = f }) (commutes p.made i j x (answered y (answer.Value (value_at p (item_of y t k)))) apart)
-step_passes p i j x y (effect.Write t k v) apart = ap (with_items (set_item p.items (item_of y t k) v)) (commutes p.made i j x (answered y answer.Done) apart)
 step_passes p i j x y (effect.Return o) apart = ap (λ f. record p { made = f }) (commutes p.made i j x (record y { outcome = Some o }) apart)
-step_passes p i j x y e apart = refl
+step_passes p i j x y e apart = operation_passes p i j x y (op_of e) apart
 
 -- where the instance stands after an entry as it stood, and the entry comes after its answer
 module _ (d : Deployment) (p q : PlainState) (i : IntentId) (a : Instance) (v : Answer) (stands : StandsAtRead d p i a) (stays : map.get q.made i ≡ Some a) where

@@ -1,8 +1,9 @@
 pub mod Entries
 pub mod Growth
-mod Guard
+pub mod Guard
 pub mod InOrder
 pub mod Late
+mod Locks
 pub mod Nulls
 pub mod Operations
 pub mod Places

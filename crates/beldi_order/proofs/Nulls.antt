@@ -1,5 +1,5 @@
 -- No item of a run is kept as null.
-use Rattle.std.proofs.Common.{◌≡◌, None, Some, sym, ◌∙◌, subst}
+use Rattle.std.proofs.Common.{◌≡◌, Option, None, Some, sym, ◌∙◌, subst}
 use Rattle.std.specs.FinMap as map
 use Rattle.std.specs.FinMap.{FinMap, get-empty, get-insert, get-remove}
 use Rattle.beldi_value.specs.declared.id.IntentId.{IntentId}
@@ -12,7 +12,8 @@ use Rattle.beldi_book.specs.declared.entry.Entry.{Entry}
 use Rattle.beldi_book.specs.declared.entry.Entry.TheVariants.{Start, Read, Step, Tx, Try}
 use Rattle.beldi_book.specs.Order.{linear}
 use Rattle.beldi_plain.specs.Item.{Item, item_cmp, item_total, item_exact}
-use Rattle.beldi_plain.specs.Plain.{Instance, PlainState, nothing, after, step_by, set_item, effect_of}
+use Rattle.beldi_plain.specs.Operation.{OnItem, op_of, item_in, sets, set_if, set_item}
+use Rattle.beldi_plain.specs.Plain.{Instance, PlainState, nothing, after, step_by, operated, value_at, effect_of}
 use Rattle.beldi_order.specs.Laws.{KeepsNoNull, NullIsAbsent}
 use Rattle.beldi_order.proofs.Entries.{changed, did, run_keeps}
 
@@ -20,9 +21,18 @@ set_kept : (f : FinMap item_cmp Value) (y : Item) (v : Value) → ((x : Item) �
 set_kept f y Null h = changed item_exact f (map.remove f y) y None (get-remove item_total f y) (λ x o. o ≡ Some Null → ⊥) (λ e. cc) h
 set_kept f y v h = changed item_exact f (map.insert f y v) y (Some v) (get-insert item_total f y v) (λ x o. o ≡ Some Null → ⊥) (λ e. cc) h
 
+set_if_kept : (f : FinMap item_cmp Value) (y : Item) (o : Option Value) → ((x : Item) → map.get f x ≡ Some Null → ⊥) → (x : Item) → map.get (set_if f y o) x ≡ Some Null → ⊥
+set_if_kept f y None h = h
+set_if_kept f y (Some v) h = set_kept f y v h
+
+operation_kept : (p : PlainState) (id : IntentId) (q : Instance) (o : Option OnItem) → KeepsNoNull p → KeepsNoNull (operated p id q o)
+operation_kept p id q None h = h
+operation_kept p id q (Some o) h = set_if_kept p.items (item_in q.func o) (sets o.does (value_at p (item_in q.func o))) h
+
 by_kept : (p : PlainState) (id : IntentId) (q : Instance) (e : Effect) → KeepsNoNull p → KeepsNoNull (step_by p id q e)
-by_kept p id q (effect.Write t k v) h = set_kept p.items (record { func = q.func; table = t; key = k }) v h
-by_kept p id q e h = h
+by_kept p id q (effect.Read t k) h = h
+by_kept p id q (effect.Return o) h = h
+by_kept p id q e h = operation_kept p id q (op_of e) h
 
 after_kept : (d : Deployment) (p : PlainState) (e : Entry) (q : PlainState) → KeepsNoNull p → after d p e ≡ Some q → KeepsNoNull q
 after_kept d p (Start t f a) q h is = subst KeepsNoNull (did d p (Start t f a) q is).leads h

@@ -15,8 +15,9 @@ use Rattle.beldi_tree.specs.declared.deployment.Deployment.{Deployment}
 use Rattle.beldi_lang.specs.declared.effect.Answer.{Answer}
 use Rattle.beldi_lang.specs.Wants.{wants}
 use Rattle.beldi_plain.specs.Item.{Item, item_cmp, item_total, item_exact}
-use Rattle.beldi_plain.specs.Operation.{op_of, or_old, set_if, held_if, held_along, holds, holds_as}
-use Rattle.beldi_plain.specs.Plain.{Instance, PlainState, set_item, answered, effect_of}
+use Rattle.beldi_plain.specs.Holds.{held_if, held_along, holds, holds_as}
+use Rattle.beldi_plain.specs.Operation.{op_of, or_old, set_if, set_item}
+use Rattle.beldi_plain.specs.Plain.{Instance, PlainState, answered, effect_of}
 
 pub item_same : (x y : Item) → is_eq (item_cmp x y) ≡ true → x ≡ y
 item_same x y h = item_exact x y ((Equal-is (item_cmp x y)).0 h)

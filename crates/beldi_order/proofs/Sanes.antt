@@ -1,5 +1,5 @@
 -- Every state of a legal book is sane: entry by entry.
-use Rattle.std.proofs.Common.{◌≡◌, false, ◌⊎◌, inl, inr, ℕ, suc, zero, List, [], ◌∷◌, ◌++◌, take, None, Some, refl, ap, sym, ◌∙◌, subst}
+use Rattle.std.proofs.Common.{◌≡◌, false, ◌⊎◌, inl, inr, ℕ, suc, zero, List, [], ◌∷◌, ◌++◌, take, Option, None, Some, refl, ap, sym, ◌∙◌, subst}
 use Rattle.std.specs.Prelude.{slice_get}
 use Rattle.std.specs.FinMap as map
 use Rattle.std.specs.FinMap.{get-empty}
@@ -15,10 +15,12 @@ use Rattle.beldi_lang.specs.Wants.{wants}
 use Rattle.beldi_book.specs.declared.entry.Entry.{Entry}
 use Rattle.beldi_book.specs.declared.entry.Entry.TheVariants.{Start, Read, Step, Tx, Try}
 use Rattle.beldi_book.specs.Order.{linear}
-use Rattle.beldi_plain.specs.Plain.{Instance, PlainState, nothing, step_by, answered, effect_of, item_of, value_at}
+use Rattle.beldi_value.specs.declared.value.Value.{Value}
+use Rattle.beldi_plain.specs.Operation.{Operation, OnItem, op_of, item_in, answer_after, write, cond, lock, free}
+use Rattle.beldi_plain.specs.Plain.{Instance, PlainState, nothing, step_by, operated, answered, effect_of, item_of, value_at}
 use Rattle.beldi_plain.specs.declared.kind.Kind.{Kind}
 use Rattle.beldi_plain.specs.declared.kind.Kind.TheVariants as kinds
-use Rattle.beldi_order.specs.Sane.{Sane, SaneAt, SaneInstance, IsAnswerTo, LegalIsSane}
+use Rattle.beldi_order.specs.Sane.{Sane, SaneAt, SaneInstance, Answers, OpAnswers, IsAnswerTo, LegalIsSane}
 use Rattle.beldi_order.proofs.Entries.{same_some, new_instance, made_set, did, Did, Stepped, run_keeps}
 
 -- an answer of a longer list is the last one, or was there before
@@ -47,18 +49,34 @@ sane_ended d q o is h = record { past = h.past; over = λ u g. is ∙ ap effect.
 pub sane_of : (d : Deployment) (p : PlainState) (id : IntentId) (q : Instance) → Sane d p → map.get p.made id ≡ Some q → SaneInstance d q
 sane_of d p id q s is = subst (λ o. SaneAt d o) is (s.each id)
 
+-- an operation is answered so
+answers_so : (o : Operation) (w : Value) → Answers o (answer_after o w)
+answers_so (write v) w = tt
+answers_so (cond r u v) w = tt
+answers_so lock w = tt
+answers_so free w = tt
+
+to_effect : (e : Effect) (a : Answer) → OpAnswers (op_of e) a → IsAnswerTo e a
+to_effect (effect.Read t k) a ok = absurd ok
+to_effect e a ok = ok
+
 -- what an instance comes to that is sane
 module _ (d : Deployment) (p : PlainState) (id : IntentId) (i : Instance) (made : map.get p.made id ≡ Some i) (none : i.outcome ≡ None) (h : Sane d p) where
   so : (s : Instance) → SaneInstance d s → (j : IntentId) → SaneAt d (map.get (map.insert p.made id s) j)
   so s sane j = made_set p.made id s (λ j o. SaneAt d o) sane h.each j
 
+  by_operation : (o : Option OnItem) → ((a : Answer) → OpAnswers o a → IsAnswerTo (effect_of d i) a) → Sane d (operated p id i o)
+  by_operation None fits = h
+  by_operation (Some o) fits =
+      let a = answer_after o.does (value_at p (item_in i.func o)) in
+      record { each = so (answered i a) (sane_pushed d i a none (fits a (answers_so o.does (value_at p (item_in i.func o)))) (sane_of d p id i h made)) }
+
   by_effect : (e : Effect) → effect_of d i ≡ e → Sane d (step_by p id i e)
   by_effect (effect.Read t k) is =
       let a = answer.Value (value_at p (item_of i t k)) in
       record { each = so (answered i a) (sane_pushed d i a none (subst (λ z. IsAnswerTo z a) (sym is) tt) (sane_of d p id i h made)) }
-  by_effect (effect.Write t k v) is = record { each = so (answered i answer.Done) (sane_pushed d i answer.Done none (subst (λ z. IsAnswerTo z answer.Done) (sym is) tt) (sane_of d p id i h made)) }
   by_effect (effect.Return o) is = record { each = so (record i { outcome = Some o }) (sane_ended d i o is (sane_of d p id i h made)) }
-  by_effect e is = h
+  by_effect e is = by_operation (op_of e) (λ a ok. subst (λ z. IsAnswerTo z a) (sym is) (to_effect e a ok))
 
 stepped : (d : Deployment) (p : PlainState) (id : IntentId) (b : Kind) (q : PlainState) → Stepped d p id b q → Sane d p → Sane d q
 stepped d p id b q s h = subst (Sane d) s.leads (by_effect d p id s.instance s.made s.open_still h (effect_of d s.instance) refl)

@@ -1,47 +1,18 @@
--- That entries are guarded by locks: nobody else holds the lock of the item that an entry touches. Who holds a lock is read off
--- the answers of the instances, so the run of a book is as it is. A legal book is not asked to be guarded yet.
-use Rattle.std.specs.Prelude.{◌≡◌, true, List, [], ◌∷◌, Option, Some, None}
+-- Guards of a legal book, in words; and that a read that is kept late leaves them.
+use Rattle.std.specs.Prelude.{◌≡◌, List, ◌∷◌, ◌++◌, Some, None}
 use Rattle.std.specs.FinMap as map
-use Rattle.std.specs.Option.{option_map}
-use Rattle.beldi_value.specs.Id.{root_of}
 use Rattle.beldi_value.specs.declared.id.IntentId.{IntentId}
 use Rattle.beldi_tree.specs.declared.deployment.Deployment.{Deployment}
 use Rattle.beldi_lang.specs.declared.effect.Answer.{Answer}
-use Rattle.beldi_lang.specs.declared.effect.Effect.{Effect}
-use Rattle.beldi_lang.specs.declared.effect.Effect.TheVariants as effect
+use Rattle.beldi_book.specs.Order.{linear}
 use Rattle.beldi_book.specs.declared.entry.Entry.{Entry}
-use Rattle.beldi_book.specs.declared.entry.Entry.TheVariants.{Start, Read, Step, Tx, Try}
+use Rattle.beldi_book.specs.declared.entry.Entry.TheVariants.{Step}
+use Rattle.beldi_plain.specs.Guard.{IsGuarded, actor, touched_by}
 use Rattle.beldi_plain.specs.Item.{Item}
-use Rattle.beldi_plain.specs.Operation.{op_of, item_in, holds}
-use Rattle.beldi_plain.specs.Plain.{Instance, PlainState, after, with_instance, answered, effect_of, item_of, kind_of}
-use Rattle.beldi_plain.specs.Legal.{run_from}
+use Rattle.beldi_plain.specs.Legal.{IsLegal, run_from}
+use Rattle.beldi_plain.specs.Operation.{Operation, OnItem, op_of, item_in, lock, free}
+use Rattle.beldi_plain.specs.Plain.{Instance, PlainState, nothing, with_instance, answered, effect_of, kind_of}
 use Rattle.beldi_plain.specs.declared.kind.Kind.TheVariants as kinds
-
--- the item that an instance's next effect touches, if any
-abbrev pub item_touched : Instance → Effect → Option Item
-item_touched q (effect.Read t k) = Some (item_of q t k)
-item_touched q e = option_map (item_in q.func) (op_of e)
-
-abbrev pub touched_by : Deployment → Option Instance → Option Item
-touched_by d None = None
-touched_by d (Some q) = item_touched q (effect_of d q)
-
--- the instance that an entry is of
-abbrev pub actor : Entry → IntentId
-actor (Start t f a) = root_of t
-actor (Read id seen) = id
-actor (Step id) = id
-actor (Tx id) = id
-actor (Try id place holder) = id
-
--- nobody else holds the lock of the item that an entry touches ..
-abbrev pub IsFree : Deployment → PlainState → Entry → Type 0
-IsFree d p e = (x : Item) → touched_by d (map.get p.made (actor e)) ≡ Some x → (j : IntentId) → holds d x (map.get p.made j) ≡ true → j ≡ actor e
-
--- .. at each entry in its turn
-abbrev pub IsGuarded : Deployment → PlainState → List Entry → Type 0
-IsGuarded d p [] = Unit {0}
-IsGuarded d p (e ∷ es) = IsFree d p e × ((q : PlainState) → after d p e ≡ Some q → IsGuarded d q es)
 
 -- an instance that stands at a read, and still does after these entries
 pub record StandsStill (d : Deployment) (p q : PlainState) (es : List Entry) (i : IntentId) (a : Instance) : Type 0 where
@@ -54,3 +25,25 @@ pub record StandsStill (d : Deployment) (p q : PlainState) (es : List Entry) (i 
 -- its answer before them leaves them guarded
 abbrev pub LateReadsLeaveGuards : Type 0
 LateReadsLeaveGuards = (d : Deployment) (p q : PlainState) (es : List Entry) (i : IntentId) (a : Instance) (v : Answer) → StandsStill d p q es i a → IsGuarded d p es → IsGuarded d (with_instance p i (answered a v)) es
+
+-- after these entries an instance stands at an operation on an item
+pub record StandsAtOperation (d : Deployment) (es : List Entry) (i : IntentId) (x : Item) (o : Operation) : Type 0 where
+  pub state : PlainState
+  pub run : run_from d nothing es ≡ Some state
+  pub instance : Instance
+  pub made : map.get state.made i ≡ Some instance
+  pub on : OnItem
+  pub wants_it : op_of (effect_of d instance) ≡ Some on
+  pub item : item_in instance.func on ≡ x
+  pub does : on.does ≡ o
+
+-- after these entries the entry touches the item
+abbrev pub Touches : Deployment → List Entry → Entry → Item → Type 0
+Touches d es e x = (p : PlainState) × (run_from d nothing es ≡ Some p) × (touched_by d (map.get p.made (actor e)) ≡ Some x)
+
+-- From the step in which an instance locks an item to the one in which it unlocks it, no entry of another instance touches it.
+abbrev pub LegalIsGuarded : Type 0
+LegalIsGuarded = (d : Deployment) (book : List Entry) → IsLegal d book → (i : IntentId) (x : Item) (before between rest : List Entry) (e : Entry)
+    → linear book ≡ before ++ Step i ∷ (between ++ e ∷ rest) → StandsAtOperation d before i x lock
+    → ((some more : List Entry) → between ≡ some ++ Step i ∷ more → StandsAtOperation d (before ++ Step i ∷ some) i x free → ⊥)
+    → Touches d (before ++ Step i ∷ between) e x → actor e ≡ i

@@ -10,6 +10,8 @@ use Rattle.beldi_lang.specs.declared.effect.Effect.TheVariants as effect
 use Rattle.beldi_book.specs.declared.entry.Entry.{Entry}
 use Rattle.beldi_book.specs.declared.entry.Entry.TheVariants.{Read}
 use Rattle.beldi_book.specs.Order.{seen_of, changes_of, count_changes, by_change, front, linear, SeenBounded}
+use Rattle.beldi_plain.specs.Guard.{IsFree, IsGuarded}
+use Rattle.beldi_plain.specs.Holds.{holds}
 use Rattle.beldi_plain.specs.Item.{Item}
 use Rattle.beldi_plain.specs.Plain.{Instance, PlainState, nothing, after, with_instance, answered, effect_of, item_of, value_at}
 use Rattle.beldi_plain.specs.Legal.{run_from, run_of}
@@ -50,27 +52,31 @@ NullIsAbsent = (d : Deployment) (book : List Entry) (p : PlainState) → run_of 
 abbrev pub IsStateAt : Deployment → List Entry → ℕ → PlainState → Type 0
 IsStateAt d book s q = run_from d nothing (front s (linear book)) ≡ Some q
 
--- a change that is enabled at the end of a legal book
+-- a change that is enabled at the end of a legal book, and whose item nobody else has locked
 pub record EndsWith (d : Deployment) (book : List Entry) (p : PlainState) (e : Entry) (q : PlainState) : Type 0 where
   pub bounded : SeenBounded 0 book
   pub legal : run_of d book ≡ Some p
+  pub guarded : IsGuarded d nothing (linear book)
   pub change : seen_of e ≡ None
   pub enabled : after d p e ≡ Some q
+  pub free : IsFree d p e
 
 -- it is the last: the book with it is legal and leads to the state after it, and what came before stands where it stood
 pub record IsLast (d : Deployment) (book : List Entry) (e : Entry) (q : PlainState) : Type 0 where
   pub bounded : SeenBounded 0 (book ++ e ∷ [])
   pub legal : run_of d (book ++ e ∷ []) ≡ Some q
+  pub guarded : IsGuarded d nothing (linear (book ++ e ∷ []))
   pub earlier : (s : ℕ) (r : PlainState) → s ≤ count_changes book → IsStateAt d book s r → IsStateAt d (book ++ e ∷ []) s r
 
 abbrev pub ChangesComeLast : Type 0
 ChangesComeLast = (d : Deployment) (book : List Entry) (p : PlainState) (e : Entry) (q : PlainState) → EndsWith d book p e q → IsLast d book e q
 
--- a read that belongs after the first s changes of a legal book: there its instance stood at it, and the item had the value;
--- and the instance has not moved since
+-- a read that belongs after the first s changes of a legal book: there its instance stood at it, and the item had the value and
+-- was not locked by another; and the instance has not moved since
 pub record BelongsEarlier (d : Deployment) (book : List Entry) (p : PlainState) (id : IntentId) (s : ℕ) (a : Instance) (v : Value) : Type 0 where
   pub bounded : SeenBounded 0 book
   pub legal : run_of d book ≡ Some p
+  pub guarded : IsGuarded d nothing (linear book)
   pub few : s ≤ count_changes book
   pub state : PlainState
   pub is_state : IsStateAt d book s state
@@ -80,6 +86,7 @@ pub record BelongsEarlier (d : Deployment) (book : List Entry) (p : PlainState) 
   pub key : List ℕ
   pub stands : effect_of d a ≡ effect.Read table key
   pub value : value_at state (item_of a table key) ≡ v
+  pub free : IsFree d state (Read id s)
   pub has_not_moved : map.get p.made id ≡ Some a
 
 abbrev pub with_answer : PlainState → IntentId → Instance → Value → PlainState
@@ -90,8 +97,11 @@ with_answer p id a v = with_instance p id (answered a (answer.Value v))
 pub record IsKeptLate (d : Deployment) (book : List Entry) (p : PlainState) (id : IntentId) (s : ℕ) (a : Instance) (v : Value) : Type 0 where
   pub bounded : SeenBounded 0 (book ++ Read id s ∷ [])
   pub legal : run_of d (book ++ Read id s ∷ []) ≡ Some (with_answer p id a v)
+  pub guarded : IsGuarded d nothing (linear (book ++ Read id s ∷ []))
   pub before : (t : ℕ) (r : PlainState) → t < s → IsStateAt d book t r → IsStateAt d (book ++ Read id s ∷ []) t r
   pub since : (t : ℕ) (r : PlainState) → s ≤ t → IsStateAt d book t r → IsStateAt d (book ++ Read id s ∷ []) t (with_answer r id a v)
+  -- and no lock moved by it
+  pub locks : (t : ℕ) (r : PlainState) → s ≤ t → IsStateAt d book t r → (x : Item) (j : IntentId) → holds d x (map.get (with_answer r id a v).made j) ≡ holds d x (map.get r.made j)
 
 abbrev pub LateReadsBelong : Type 0
 LateReadsBelong = (d : Deployment) (book : List Entry) (p : PlainState) (id : IntentId) (s : ℕ) (a : Instance) (v : Value) → BelongsEarlier d book p id s a v → IsKeptLate d book p id s a v

@@ -1,3 +1,4 @@
+pub mod Grown
 pub mod Guard
 pub mod Laws
 pub mod Sane

@@ -5,12 +5,13 @@ use Rattle.beldi_value.specs.declared.id.IntentId.{IntentId}
 use Rattle.beldi_value.specs.declared.outcome.Outcome.{Outcome}
 use Rattle.beldi_tree.specs.declared.deployment.Deployment.{Deployment}
 use Rattle.beldi_lang.specs.declared.effect.Answer.{Answer}
+use Rattle.beldi_value.specs.declared.value.Value.TheVariants.{Bool}
 use Rattle.beldi_lang.specs.declared.effect.Answer.TheVariants.{Value, Done}
 use Rattle.beldi_lang.specs.declared.effect.Effect.{Effect}
 use Rattle.beldi_lang.specs.declared.effect.Effect.TheVariants.{Read, Return}
 use Rattle.beldi_lang.specs.Wants.{wants}
 use Rattle.beldi_book.specs.declared.entry.Entry.{Entry}
-use Rattle.beldi_plain.specs.Operation.{Operation, OnItem, op_of, write}
+use Rattle.beldi_plain.specs.Operation.{Operation, OnItem, op_of, write, cond, lock, free}
 use Rattle.beldi_plain.specs.Plain.{Instance, PlainState, effect_of}
 use Rattle.beldi_plain.specs.Legal.{run_of}
 
@@ -18,9 +19,12 @@ use Rattle.beldi_plain.specs.Legal.{run_of}
 abbrev pub effect_before : Deployment → Instance → ℕ → Effect
 effect_before d q n = wants d q.func q.args false (take n q.answers)
 
--- the answer is one to the operation. Those that are not carried out yet have none.
+-- the answer is one to the operation: the truth of a test, and else that it was done
 abbrev pub Answers : Operation → Answer → Type 0
 Answers (write v) Done = Unit {0}
+Answers (cond r o v) (Value (Bool b)) = Unit {0}
+Answers lock Done = Unit {0}
+Answers free Done = Unit {0}
 Answers o a = ⊥
 
 abbrev pub OpAnswers : Option OnItem → Answer → Type 0

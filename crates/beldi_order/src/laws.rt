@@ -1,6 +1,6 @@
 // The laws of the linear order, and of legal books.
 ghost use Rattle.beldi_order.specs.Laws.{LinearIsInOrder, NullIsAbsent, ChangesComeLast, LateReadsBelong};
-ghost use Rattle.beldi_order.specs.Guard.{LateReadsLeaveGuards};
+ghost use Rattle.beldi_order.specs.Guard.{LateReadsLeaveGuards, LegalIsGuarded};
 ghost use Rattle.beldi_order.specs.Sane.{LegalIsSane};
 
 /// In the linear order of a book the changes stand in book order, and behind each number of changes the reads that belong
@@ -33,4 +33,10 @@ pub fn legal_is_sane()
 /// before them.
 pub fn late_reads_leave_guards()
     ensures { LateReadsLeaveGuards }
+{}
+
+/// In the linear order of a legal book, from the step in which an instance locks an item to the one in which it unlocks it, no
+/// entry of another instance touches the item. A read touches the item that it reads, at its place in that order.
+pub fn legal_is_guarded()
+    ensures { LegalIsGuarded }
 {}

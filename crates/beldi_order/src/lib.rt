@@ -1,6 +1,7 @@
 //! What every run of the plain machine keeps, and how a legal book grows: by a change at its end, or by a read that belongs
 //! earlier. It has no code. It stands on the plain machine. Its definitions: `specs/Laws`, `specs/Sane` (instances that
-//! went as their bodies want), and `specs/Guard` (entries that are guarded by locks).
+//! went as their bodies want), `specs/Grown` (instances that go on), and `specs/Guard` (what the guard of a legal book says in
+//! words, and that late reads leave it).
 //!
 //! Proved:
 //! - In the linear order the changes stand in book order, and behind each number of changes the reads that belong
@@ -13,13 +14,15 @@
 //!   (`late_reads_belong`).
 //! - In the run of a legal book each instance went as its body wants: what was answered was an effect that is answered
 //!   so, and an outcome is there only where the body returns it (`legal_is_sane`).
+//! - From the step of a legal book in which an instance locks an item to the one in which it unlocks it, no entry of another
+//!   touches the item (`legal_is_guarded`).
 //! - Entries that are guarded by locks stay so where a read that belongs earlier is answered before them
-//!   (`late_reads_leave_guards`). A legal book is not asked to be guarded yet.
+//!   (`late_reads_leave_guards`).
 #![tactic(auto)]
 
 mod laws;
 
 pub use laws::{
-    changes_come_last, late_reads_belong, late_reads_leave_guards, legal_is_sane,
+    changes_come_last, late_reads_belong, late_reads_leave_guards, legal_is_guarded, legal_is_sane,
     linear_is_in_order, null_is_absent,
 };

@@ -1,0 +1,140 @@
+-- From a lock to its unlock nobody else touches the item.
+use Rattle.std.proofs.Common.{◌≡◌, true, false, cond, List, [], ◌∷◌, ◌++◌, Option, None, Some, refl, ap, sym, ◌∙◌, subst, append_assoc, append-nil}
+use Rattle.std.specs.Prelude.{option_and_then}
+use Rattle.std.specs.FinMap as map
+use Rattle.std.specs.Ordering.{is_eq}
+use Rattle.std.proofs.lemmas.Cmp.{tied_itself}
+use Rattle.beldi_value.specs.Id.{root_of}
+use Rattle.beldi_value.specs.declared.id.IntentId.{IntentId}
+use Rattle.beldi_tree.specs.declared.deployment.Deployment.{Deployment}
+use Rattle.beldi_lang.specs.declared.effect.Answer.{Answer}
+use Rattle.beldi_lang.specs.declared.effect.Answer.TheVariants as answer
+use Rattle.beldi_lang.specs.declared.effect.Effect.{Effect}
+use Rattle.beldi_lang.specs.declared.effect.Effect.TheVariants as effect
+use Rattle.beldi_book.specs.declared.entry.Entry.{Entry}
+use Rattle.beldi_book.specs.declared.entry.Entry.TheVariants.{Start, Read, Step, Tx, Try}
+use Rattle.beldi_plain.specs.Guard.{IsGuarded, actor}
+use Rattle.beldi_plain.specs.Holds.{holds, held_by, held_if}
+use Rattle.beldi_plain.specs.Item.{Item, item_cmp, item_total}
+use Rattle.beldi_plain.specs.Legal.{run_from}
+use Rattle.beldi_plain.specs.Operation as operation
+use Rattle.beldi_plain.specs.Operation.{Operation, OnItem, op_of, item_in, write, lock, free, answer_after}
+use Rattle.beldi_plain.specs.Plain.{Instance, PlainState, nothing, after, step_by, operated, answered, effect_of, item_of, value_at, kind_of}
+use Rattle.beldi_plain.specs.declared.kind.Kind.{Kind}
+use Rattle.beldi_plain.specs.declared.kind.Kind.TheVariants as kinds
+use Rattle.beldi_order.specs.Guard.{StandsAtOperation, LegalIsGuarded}
+use Rattle.beldi_order.proofs.Entries.{same_some, made_set, did, Did, Stepped, runs_on, new_instance}
+use Rattle.beldi_order.proofs.Guard.{guarded_second}
+use Rattle.beldi_order.proofs.Late.{here}
+use Rattle.beldi_order.proofs.Operations.{held_pushed, item_same}
+
+-- what an operation on an item leaves
+operation_step : (p : PlainState) (id : IntentId) (q : Instance) (e : Effect) (o : OnItem) → op_of e ≡ Some o → step_by p id q e ≡ operated p id q (Some o)
+operation_step p id q (effect.Read t k) o h = cc
+operation_step p id q (effect.Return u) o h = cc
+operation_step p id q e o h = ap (operated p id q) h
+
+same_item : (x y : Item) → x ≡ y → is_eq (item_cmp x y) ≡ true
+same_item x y h = subst (λ z. is_eq (item_cmp x z) ≡ true) h (ap is_eq (tied_itself item_total x))
+
+-- an instance that stands at an operation on an item
+abbrev At : Deployment → Instance → Item → Operation → OnItem → Type 0
+At d q x o on = (op_of (effect_of d q) ≡ Some on) × (item_in q.func on ≡ x) × (on.does ≡ o)
+
+module _ (d : Deployment) (x : Item) where
+  -- who has locked an item holds its lock
+  locks : (q : Instance) (on : OnItem) (a : Answer) → At d q x lock on → holds d x (Some (answered q a)) ≡ true
+  locks q on a h =
+      held_pushed d x q.func q.args [] q.answers a false
+      ∙ ap (λ o. held_if x q.func o (holds d x (Some q))) h.0
+      ∙ ap (λ b. cond b (held_by on.does (holds d x (Some q))) (holds d x (Some q))) (same_item (item_in q.func on) x h.1)
+      ∙ ap (λ o. held_by o (holds d x (Some q))) h.2
+
+  -- and holds it after any other operation than an unlock of it
+  by_does : (q : Instance) (on : OnItem) (does : Operation) → on.does ≡ does → (item_in q.func on ≡ x → on.does ≡ free → ⊥) → item_in q.func on ≡ x → held_by does true ≡ true
+  by_does q on (write v) is never same = refl
+  by_does q on (operation.cond r o v) is never same = refl
+  by_does q on lock is never same = refl
+  by_does q on free is never same = absurd (never same is)
+
+  keeps : (q : Instance) (o : Option OnItem) (a : Answer) → op_of (effect_of d q) ≡ o → ((on : OnItem) → o ≡ Some on → item_in q.func on ≡ x → on.does ≡ free → ⊥) → holds d x (Some q) ≡ true → holds d x (Some (answered q a)) ≡ true
+  keeps q o a is never h =
+      held_pushed d x q.func q.args [] q.answers a false ∙ ap (λ u. held_if x q.func u (holds d x (Some q))) is ∙ ap (held_if x q.func o) h ∙ by_op o never
+    where
+      by_op : (o : Option OnItem) → ((on : OnItem) → o ≡ Some on → item_in q.func on ≡ x → on.does ≡ free → ⊥) → held_if x q.func o true ≡ true
+      by_op None never = refl
+      by_op (Some on) never = elim (is_eq (item_cmp (item_in q.func on) x)) as (λ b. is_eq (item_cmp (item_in q.func on) x) ≡ b → cond b (held_by on.does true) true ≡ true) [
+        | true ↦ λ e. by_does q on on.does refl (never on refl) (item_same (item_in q.func on) x e)
+        | false ↦ λ e. refl
+      ] refl
+
+module _ (d : Deployment) (x : Item) (i : IntentId) where
+  -- the instance held the lock, and holds it
+  abbrev Kept : PlainState → IntentId → Option Instance → Type 0
+  Kept p j o = j ≡ i → holds d x (map.get p.made j) ≡ true → holds d x o ≡ true
+
+  -- a step of any instance, but for the unlock of this item by this one
+  step_keeps : (p : PlainState) (j : IntentId) (q : Instance) (e : Effect) → effect_of d q ≡ e → map.get p.made j ≡ Some q → (j ≡ i → (on : OnItem) → At d q x free on → ⊥) → (k : IntentId) → Kept p k (map.get (step_by p j q e).made k)
+  step_keeps p j q (effect.Read t k) is made never =
+      let a = answer.Value (value_at p (item_of q t k)) in
+      made_set p.made j (answered q a) (Kept p) (λ same h. keeps d x q None a (ap op_of is) (λ on n. cc) (ap (holds d x) (sym made) ∙ h)) (λ k same h. h)
+  step_keeps p j q (effect.Return o) is made never = made_set p.made j (record q { outcome = Some o }) (Kept p) (λ same h. ap (holds d x) (sym made) ∙ h) (λ k same h. h)
+  step_keeps p j q e is made never = by_op (op_of e) (ap op_of is)
+    where
+      by_op : (o : Option OnItem) → op_of (effect_of d q) ≡ o → (k : IntentId) → Kept p k (map.get (operated p j q o).made k)
+      by_op None is = λ k same h. h
+      by_op (Some on) is =
+          let a = answer_after on.does (value_at p (item_in q.func on)) in
+          made_set p.made j (answered q a) (Kept p) (λ same h. keeps d x q (Some on) a is (λ u so item freed. never same u (is ∙ so, item, freed)) (ap (holds d x) (sym made) ∙ h)) (λ k same h. h)
+
+  stepped_keeps : (p : PlainState) (j : IntentId) (b : Kind) (r : PlainState) (s : Stepped d p j b r) → (j ≡ i → (on : OnItem) → At d s.instance x free on → ⊥) → Kept p i (map.get r.made i)
+  stepped_keeps p j b r s never = subst (λ (z : PlainState). Kept p i (map.get z.made i)) s.leads (step_keeps p j s.instance (effect_of d s.instance) refl s.made never i)
+
+  -- an entry that is not that unlock
+  entry_keeps : (p r : PlainState) (e : Entry) → Did d p e r → ((q : Instance) (on : OnItem) → e ≡ Step i → map.get p.made i ≡ Some q → At d q x free on → ⊥) → Kept p i (map.get r.made i)
+  entry_keeps p r (Start t f w) s never = subst (λ (z : PlainState). Kept p i (map.get z.made i)) s.leads (made_set p.made (root_of t) (new_instance f w) (Kept p) (λ same h. let g = sym (ap (holds d x) s.absent) ∙ h in cc) (λ k same h. h) i)
+  entry_keeps p r (Read j k) s never = stepped_keeps p j kinds.Read r s (λ same on h. no_change s.instance on s.kind h.0)
+    where
+      no_op : (e : Effect) (on : OnItem) → kind_of e ≡ kinds.Read → op_of e ≡ Some on → ⊥
+      no_op (effect.Read t k) on kind h = cc
+      no_op e on kind h = cc
+
+      no_change : (q : Instance) (on : OnItem) → kind_of (effect_of d q) ≡ kinds.Read → op_of (effect_of d q) ≡ Some on → ⊥
+      no_change q on kind h = no_op (effect_of d q) on kind h
+  entry_keeps p r (Step j) s never = stepped_keeps p j kinds.Change r s (λ same on h. never s.instance on (ap Step same) (ap (map.get p.made) (sym same) ∙ s.made) h)
+  entry_keeps p r (Tx j) s never = absurd s
+  entry_keeps p r (Try j place holder) s never = absurd s
+
+  -- entries without it
+  run_keeps : (done es : List Entry) (p r : PlainState) → run_from d nothing done ≡ Some p → run_from d p es ≡ Some r
+      → ((some more : List Entry) → es ≡ some ++ Step i ∷ more → StandsAtOperation d (done ++ some) i x free → ⊥) → holds d x (map.get p.made i) ≡ true → holds d x (map.get r.made i) ≡ true
+  run_keeps done [] p r run on never h = ap (λ (z : PlainState). holds d x (map.get z.made i)) (sym (same_some on)) ∙ h
+  run_keeps done (e ∷ es) p r run on never h =
+      (elim (after d p e) as (λ o. after d p e ≡ o → option_and_then (λ q. run_from d q es) o ≡ Some r → holds d x (map.get r.made i) ≡ true) [
+        | None ↦ λ step is. cc
+        | Some q ↦ λ step is. run_keeps (done ++ e ∷ []) es q r
+            (runs_on d nothing p done (e ∷ []) run ∙ ap (option_and_then (λ z. Some z)) step)
+            is
+            (λ some more split st. never (e ∷ some) more (ap (λ l. e ∷ l) split) (subst (λ l. StandsAtOperation d l i x free) (append_assoc done (e ∷ []) some) st))
+            (entry_keeps p q e (did d p e q step) (λ a on same made at. never [] es (ap (λ z. z ∷ es) same)
+            (record { state = p; run = ap (run_from d nothing) (append-nil done) ∙ run; instance = a; made = made; on = on; wants_it = at.0; item = at.1; does = at.2 })) refl h)
+      ]) refl on
+
+pub legal_is_guarded : LegalIsGuarded
+legal_is_guarded d book g i x before between rest e order at never t =
+    let p = at.state in
+    let whole = guarded_second d nothing p before (Step i ∷ (between ++ e ∷ rest)) at.run (subst (IsGuarded d nothing) order g.guarded) in
+    let run : run_from d p (Step i ∷ between) ≡ Some t.0 = sym (runs_on d nothing p before (Step i ∷ between) at.run) ∙ t.1 in
+    (elim (after d p (Step i)) as (λ o. after d p (Step i) ≡ o → option_and_then (λ q. run_from d q between) o ≡ Some t.0 → actor e ≡ i) [
+      | None ↦ λ step is. cc
+      | Some q ↦ λ step is.
+          let s = did d p (Step i) q step in
+          let same : s.instance ≡ at.instance = same_some (sym s.made ∙ at.made) in
+          let holder : holds d x (map.get q.made i) ≡ true =
+          ap (λ (z : PlainState). holds d x (map.get z.made i)) (sym s.leads ∙ ap (λ a. step_by p i a (effect_of d a)) same ∙ operation_step p i at.instance (effect_of d at.instance) at.on at.wants_it)
+          ∙ ap (holds d x) (here p.made i (answered at.instance (answer_after at.on.does (value_at p (item_in at.instance.func at.on)))))
+          ∙ locks d x at.instance at.on (answer_after at.on.does (value_at p (item_in at.instance.func at.on))) (at.wants_it, at.item, at.does) in
+          let still = run_keeps d x i (before ++ Step i ∷ []) between q t.0 (runs_on d nothing p before (Step i ∷ []) at.run ∙ ap (option_and_then (λ z. Some z)) step) is
+          (λ some more split st. never some more split (subst (λ l. StandsAtOperation d l i x free) (append_assoc before (Step i ∷ []) some) st)) holder in
+          sym ((guarded_second d q t.0 between (e ∷ rest) is (whole.1 q step)).0 x t.2 i still)
+    ]) refl run
