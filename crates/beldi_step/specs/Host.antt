@@ -12,22 +12,24 @@ use Rattle.beldi_value.specs.declared.outcome.Outcome.{Outcome}
 use Rattle.beldi_tree.specs.declared.deployment.Deployment.{Deployment}
 use Rattle.beldi_row.specs.declared.table.TableErr.{TableErr}
 use Rattle.beldi_row.specs.declared.table.TableErr.TheVariants as err
-use Rattle.beldi_row.specs.Table.{TableState}
+use Rattle.beldi_row.specs.Table.{Rows, TableState, HasCause}
 use Rattle.beldi_book.specs.declared.entry.Entry.{Entry}
 use Rattle.beldi_book.specs.declared.entry.Entry.TheVariants as entry
 use Rattle.beldi_book.specs.Order.{count_changes}
 use Rattle.beldi_walk.specs.declared.query.Query.{Query}
-use Rattle.beldi_walk.specs.Query.{Told, lends, Came}
+use Rattle.beldi_walk.specs.Query.{Told, lends, Came, CameOn}
 use Rattle.beldi_step.specs.declared.event.Event.{Event}
 use Rattle.beldi_step.specs.declared.event.Event.TheVariants.{Ticket, Request, Turn, Lost, Crash, Restart}
 use Rattle.beldi_step.specs.declared.event.Seen.{Seen}
 use Rattle.beldi_step.specs.declared.event.Seen.TheVariants as seen
-use Rattle.beldi_step.specs.declared.intent.Binding.{Binding}
-use Rattle.beldi_step.specs.declared.intent.Binding.TheVariants as binding
+use Rattle.beldi_intent.specs.declared.intent.Binding.{Binding}
+use Rattle.beldi_intent.specs.declared.intent.Binding.TheVariants as binding
 use Rattle.beldi_step.specs.declared.run.Mark.{Mark}
 use Rattle.beldi_step.specs.declared.run.Mark.TheVariants as mark
 use Rattle.beldi_step.specs.declared.run.Run.{Run}
-use Rattle.beldi_step.specs.Intent.{issue_asks, bind_asks, is_added, binding_of}
+use Rattle.beldi_step.specs.declared.run.Wait.{Wait}
+use Rattle.beldi_step.specs.declared.run.Wait.TheVariants as wait
+use Rattle.beldi_intent.specs.Intent.{issue_asks, bind_asks, is_added, binding_of}
 use Rattle.beldi_step.specs.Run.{Turned, run_asks, run_told}
 
 -- the newest ticket, the live runs by number, how many runs were ever started, the book, the moment, and how many events
@@ -136,12 +138,19 @@ abbrev pub put_run : FinMap nat_cmp Run → ℕ → Option Run → FinMap nat_cm
 put_run m i None = map.remove m i
 put_run m i (Some r) = map.insert m i r
 
--- the answer to a turn. A run that waits has one of a turn that did nothing.
+-- the answer to a turn: what the run waits for, or what it did
+abbrev pub waiting : Wait → Seen
+waiting (wait.Held o) = seen.Held o
+
 abbrev pub acted : IntentId → Turned → Seen
 acted id s = seen.Acted (option_map (entry_of id) s.mark) (is_none s.next) (option_map (λ (o : Outcome). (id.ticket, o)) s.reply)
 
+abbrev pub turn_seen : IntentId → Turned → Option Wait → Seen
+turn_seen id s (Some w) = waiting w
+turn_seen id s None = acted id s
+
 abbrev pub turn_next : Core → ℕ → IntentId → Turned → Core × Seen
-turn_next c i id s = (record c { runs = put_run c.runs i s.next; book = marked c.book id s.mark }, acted id s)
+turn_next c i id s = (record c { runs = put_run c.runs i s.next; book = marked c.book id s.mark }, turn_seen id s s.wait)
 
 -- the run of this number is over, and the book has the entry of its act
 abbrev pub without_run : Core → ℕ → IntentId → Option Mark → Core
@@ -165,18 +174,18 @@ heard d (Lost i) c t = (unheard_next d c i t (map.get c.runs i), seen.Dropped)
 heard d (Crash i) c t = (c, seen.Crashed)
 heard d (Restart id f) c t = (c, seen.Crowded)
 
--- .. and then memory was wanting: what is left, none where memory cannot be wanting
+-- .. and then out of memory: what is left, none where that cannot be
 abbrev pub if_lent : Bool → Core → Option Core
 if_lent true c = Some c
 if_lent false c = None
 
-abbrev pub wanted : Deployment → Event → Core → Told → Option Core
-wanted d Ticket c t = None
-wanted d (Request t f a) c u = if_lent (lends u) c
-wanted d (Turn i) c t = Some (unheard_next d c i t (map.get c.runs i))
-wanted d (Lost i) c t = None
-wanted d (Crash i) c t = None
-wanted d (Restart id f) c t = None
+abbrev pub no_memory : Deployment → Event → Core → Told → Option Core
+no_memory d Ticket c t = None
+no_memory d (Request t f a) c u = if_lent (lends u) c
+no_memory d (Turn i) c t = Some (unheard_next d c i t (map.get c.runs i))
+no_memory d (Lost i) c t = None
+no_memory d (Crash i) c t = None
+no_memory d (Restart id f) c t = None
 
 -- ---- what follows where it did not
 abbrev pub refused_by : TableErr → Result Seen AllocError
@@ -199,7 +208,7 @@ refused (Restart id f) c e = (c, refused_by e)
 -- what followed, by what the query came to
 abbrev pub Followed : Deployment → Event → Core → Result Told TableErr → Core → Result Seen AllocError → Type 0
 Followed d e c (Ok t) z (Ok x) = (z, x) ≡ heard d e c t
-Followed d e c (Ok t) z (Err w) = wanted d e c t ≡ Some z
+Followed d e c (Ok t) z (Err w) = no_memory d e c t ≡ Some z
 Followed d e c (Err v) z r = (z, r) ≡ refused e c v
 
 -- a run was started
@@ -207,7 +216,7 @@ abbrev pub StartsRun : Seen → Type 0
 StartsRun (seen.Started i) = Unit {0}
 StartsRun x = ⊥
 
--- an event that is answered at once makes no call; memory may be wanting there only where a run would start
+-- an event that is answered at once makes no call; out of memory it is only where a run would start
 abbrev pub AtOnce : Core → Core → Seen → Core → Result Seen AllocError → Type 0
 AtOnce c b y z (Ok x) = (z ≡ b) × (x ≡ y)
 AtOnce c b y z (Err w) = (z ≡ c) × StartsRun y
@@ -220,3 +229,23 @@ StepBy d e c (asks q) z old new r = (w : Result Told TableErr) × Followed d e c
 -- what a call that carries out an event does
 abbrev pub Stepped : Deployment → Event → Core → Core → TableState → TableState → Result Seen AllocError → Type 0
 Stepped d e c z old new r = StepBy d e (counted c) (plan e c) z old new r
+
+-- .. and over rows that are told: from the core c and the rows m an event leaves z and n, and comes to r. The table's count of
+-- failures was `old` before, and is `new` now.
+abbrev pub EventBy : Deployment → ℕ → ℕ → ℕ → Event → Core → Plan → Rows → Core → Rows → Result Seen AllocError → Type 0
+EventBy d room old new e c (at_once b y) m z n r = AtOnce c b y z r × (n ≡ m) × (new ≡ old)
+EventBy d room old new e c (asks q) m z n r = (w : Result Told TableErr) × Followed d e c w z r × CameOn q c.now room w m n × HasCause old new w
+
+abbrev pub EventOn : Deployment → ℕ → ℕ → ℕ → Event → Core → Rows → Core → Rows → Result Seen AllocError → Type 0
+EventOn d room old new e c m z n r = EventBy d room old new e (counted c) (plan e c) m z n r
+
+-- ---- an answer that is lost
+-- the event of a run whose answer is lost
+abbrev pub is_lost : Event → Bool
+is_lost (Lost i) = true
+is_lost e = false
+
+-- the answer that tells nothing of what was done: it was lost, or the table failed
+abbrev pub is_dropped : Seen → Bool
+is_dropped seen.Dropped = true
+is_dropped x = false

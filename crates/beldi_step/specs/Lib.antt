@@ -1,5 +1,4 @@
-pub mod Forms
 pub mod Host
-pub mod Intent
+pub mod Laws
 pub mod Run
 pub mod Tables

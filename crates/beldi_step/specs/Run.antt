@@ -1,8 +1,9 @@
 -- A run, as a machine that asks one thing a turn.
-use Rattle.std.specs.Prelude.{◌≡◌, ℕ, Bool, true, false, Option, Some, None, Result, Ok, Err}
+use Rattle.std.specs.Prelude.{◌≡◌, ℕ, Bool, true, false, Option, Some, None, Result, Ok, Err, if◌then◌else◌}
 use Rattle.beldi_value.specs.Id.{has_no_hops}
 use Rattle.beldi_value.specs.declared.id.IntentId.{IntentId}
 use Rattle.beldi_value.specs.declared.value.Value.{Value}
+use Rattle.beldi_value.specs.declared.value.Value.TheVariants as value
 use Rattle.beldi_value.specs.declared.outcome.Outcome.{Outcome}
 use Rattle.beldi_value.specs.declared.place.Place.{Place}
 use Rattle.beldi_value.specs.declared.place.Owner.TheVariants as owner
@@ -12,6 +13,7 @@ use Rattle.beldi_tree.specs.Bindings.{or_null}
 use Rattle.beldi_tree.specs.Names.{func_at}
 use Rattle.beldi_lang.specs.declared.effect.Effect.{Effect}
 use Rattle.beldi_lang.specs.declared.effect.Effect.TheVariants as effect
+use Rattle.beldi_lang.specs.declared.effect.Answer.{Answer}
 use Rattle.beldi_lang.specs.declared.effect.Answer.TheVariants as answer
 use Rattle.beldi_lang.specs.declared.machine.Machine.{Machine}
 use Rattle.beldi_lang.specs.Machine.{begun as machine_begun, resumed}
@@ -27,13 +29,16 @@ use Rattle.beldi_daal.specs.declared.cell.WriteGoes.{WriteGoes}
 use Rattle.beldi_daal.specs.declared.cell.WriteGoes.TheVariants as writes
 use Rattle.beldi_daal.specs.declared.cell.ReadGoes.{ReadGoes}
 use Rattle.beldi_daal.specs.declared.cell.ReadGoes.TheVariants as reads
-use Rattle.beldi_daal.specs.Cell.{cell_key, write_asks, write_goes, read_goes}
+use Rattle.beldi_daal.specs.declared.cell.CellOp.{CellOp}
+use Rattle.beldi_daal.specs.declared.cell.CellOp.TheVariants as op
+use Rattle.beldi_daal.specs.Cell.{cell_key, done_note, write_asks, write_goes, read_goes}
 use Rattle.beldi_readlog.specs.declared.read_log.Kept.{Kept}
 use Rattle.beldi_readlog.specs.ReadLog.{log_key, given_of, kept_of}
 use Rattle.beldi_step.specs.declared.run.Mark.{Mark}
 use Rattle.beldi_step.specs.declared.run.Mark.TheVariants as mark
 use Rattle.beldi_step.specs.declared.run.Wait.{Wait}
 use Rattle.beldi_step.specs.declared.run.Wait.TheVariants as wait
+use Rattle.beldi_step.specs.declared.run.OnCell.{OnCell}
 use Rattle.beldi_step.specs.declared.run.Run.{Run}
 use Rattle.beldi_step.specs.declared.run.Begun.{Begun}
 use Rattle.beldi_step.specs.declared.run.TurnSays.{TurnSays}
@@ -41,16 +46,60 @@ use Rattle.beldi_step.specs.declared.run.Stage.{Stage}
 use Rattle.beldi_step.specs.declared.run.Stage.TheVariants.{Ask, Walk, Keep, Write, Close, Unbuilt}
 use Rattle.beldi_step.specs.declared.run.Says.{Says}
 use Rattle.beldi_step.specs.declared.run.Says.TheVariants.{On, Waits, Answers, Ends}
-use Rattle.beldi_step.specs.Intent.{look_asks, end_asks, is_did, args_told}
+use Rattle.beldi_intent.specs.Intent.{look_asks, end_asks, is_did, args_told}
 
 -- the place of a run's effect at a step
 abbrev pub place_of : IntentId → ℕ → Place
 place_of id step = record { intent = id; step = step }
 
+-- ---- an operation on an item
+-- the operation of an effect, and its item
+abbrev pub cell_op : Effect → Option OnCell
+cell_op (effect.Write t k v) = Some (record { table = t; key = k; op = op.Write v })
+cell_op (effect.CondWrite t k r o v) = Some (record { table = t; key = k; op = op.Cond r o v })
+cell_op (effect.Lock t k) = Some (record { table = t; key = k; op = op.Lock })
+cell_op (effect.Unlock t k) = Some (record { table = t; key = k; op = op.Free None })
+cell_op e = None
+
+-- the note that its act leaves where it says that it was done
+abbrev pub note_of_op : Option OnCell → Option Note
+note_of_op None = None
+note_of_op (Some o) = Some (done_note o.op)
+
+abbrev pub note_done : Effect → Option Note
+note_done e = note_of_op (cell_op e)
+
+-- a note, read as an answer: what was written, locked or freed was done, and a test has its truth. A death is no answer outside
+-- a transaction.
+abbrev pub noted_answer : Note → Option Answer
+noted_answer Wrote = Some answer.Done
+noted_answer (Cond b) = Some (answer.Value (value.Bool b))
+noted_answer Got = Some answer.Done
+noted_answer (Died h) = None
+noted_answer Freed = Some answer.Done
+
+-- .. to an effect, none where it is of another kind than the effect's answers
+abbrev pub answers_it : Effect → Answer → Bool
+answers_it (effect.Write t k v) answer.Done = true
+answers_it (effect.CondWrite t k r o v) (answer.Value w) = true
+answers_it (effect.Lock t k) answer.Done = true
+answers_it (effect.Unlock t k) answer.Done = true
+answers_it e a = false
+
+abbrev pub if_answers : Effect → Option Answer → Option Answer
+if_answers e None = None
+if_answers e (Some a) = if answers_it e a then Some a else None
+
+abbrev pub answer_noted : Effect → Note → Option Answer
+answer_noted e n = if_answers e (noted_answer n)
+
 -- where an effect begins. The other effects are not carried out yet.
 abbrev pub first_stage : Effect → Stage
 first_stage (effect.Read t k) = Ask
 first_stage (effect.Write t k v) = Write Try
+first_stage (effect.CondWrite t k r o v) = Write Try
+first_stage (effect.Lock t k) = Write Try
+first_stage (effect.Unlock t k) = Write Try
 first_stage (effect.Return o) = Close
 first_stage e = Unbuilt
 
@@ -63,19 +112,19 @@ abbrev pub walk_asks : IntentId → ℕ → Effect → Query
 walk_asks id func (effect.Read t k) = Act (cell_key func t k) Look
 walk_asks id func e = look_asks id func
 
-abbrev pub put_asks : IntentId → ℕ → ℕ → WriteAt → Effect → Query
-put_asks id func step at (effect.Write t k v) = write_asks (cell_key func t k) (place_of id step) (owner.Intent id) v at
-put_asks id func step at e = look_asks id func
+abbrev pub put_asks : IntentId → ℕ → ℕ → WriteAt → Option OnCell → Query
+put_asks id func step at (Some o) = write_asks (cell_key func o.table o.key) (place_of id step) (owner.Intent id) o.op at
+put_asks id func step at None = look_asks id func
 
 abbrev pub close_asks : IntentId → ℕ → Effect → Query
-close_asks id func (effect.Return o) = end_asks id func o
+close_asks id func (effect.Return o) = end_asks id func o true
 close_asks id func e = look_asks id func
 
 abbrev pub stage_asks : IntentId → ℕ → ℕ → Effect → Stage → Query
 stage_asks id func step e Ask = Act (log_key func (place_of id step)) Look
 stage_asks id func step e Walk = walk_asks id func e
 stage_asks id func step e (Keep v seen) = Act (log_key func (place_of id step)) (PutRead v)
-stage_asks id func step e (Write at) = put_asks id func step at e
+stage_asks id func step e (Write at) = put_asks id func step at (cell_op e)
 stage_asks id func step e Close = close_asks id func e
 stage_asks id func step e Unbuilt = look_asks id func
 
@@ -107,23 +156,21 @@ walk_says changes (reads.Held o) = Waits (wait.Held o)
 abbrev pub keep_says : ℕ → Kept → Says
 keep_says seen k = Answers (answer.Value k.value) (mark_if k.added (mark.Read seen))
 
--- a note that is read as the answer of an effect that is done or not
-abbrev pub is_done_note : Note → Bool
-is_done_note Wrote = true
-is_done_note (Cond b) = false
-is_done_note Got = true
-is_done_note (Died h) = false
-is_done_note Freed = true
+-- an operation whose place has its note was made; a note of another kind, which no session leaves there, ends the run
+abbrev pub done_says : Bool → Option Answer → Says
+done_says first (Some a) = Answers a (mark_if first mark.Step)
+done_says first None = Ends None None
 
--- a write whose place has such a note was made; a note of another kind, which no session leaves there, ends the run
-abbrev pub done_says : Bool → Bool → Says
-done_says first true = Answers answer.Done (mark_if first mark.Step)
-done_says first false = Ends None None
+-- a run that is to give back what it does not own is over; no session comes to that
+abbrev pub write_says : Effect → WriteGoes → Says
+write_says e (writes.On at) = On (Write at) None
+write_says e (writes.Done n first) = done_says first (answer_noted e n)
+write_says e writes.NotOwner = Ends None None
+write_says e (writes.Held w) = Waits (wait.Held w)
 
-abbrev pub write_says : WriteGoes → Says
-write_says (writes.On at) = On (Write at) None
-write_says (writes.Done n first) = done_says first (is_done_note n)
-write_says (writes.Held o) = Waits (wait.Held o)
+abbrev pub put_says : Effect → Option Note → Told → Says
+put_says e None t = Ends None None
+put_says e (Some n) t = write_says e (write_goes n t)
 
 -- the first end of a root gives its reply
 abbrev pub reply_if : Bool → Outcome → Option Outcome
@@ -139,7 +186,7 @@ abbrev pub stage_says : IntentId → ℕ → Effect → Stage → Told → Says
 stage_says id changes e Ask t = ask_says (given_of t)
 stage_says id changes e Walk t = walk_says changes (read_goes (Some (owner.Intent id)) t)
 stage_says id changes e (Keep v seen) t = keep_says seen (kept_of v t)
-stage_says id changes e (Write at) t = write_says (write_goes t)
+stage_says id changes e (Write at) t = put_says e (note_done e) t
 stage_says id changes e Close t = close_says id e (is_did t)
 stage_says id changes e Unbuilt t = Ends None None
 
@@ -195,7 +242,7 @@ followed s x = record { next = going s x.over; mark = x.mark; wait = x.wait; rep
 abbrev pub answered_run : Run → Machine → Run
 answered_run r m = record r { at = Some (standing m) }
 
--- the run turned so; at want of memory the mark is told
+-- the run turned so; out of memory the mark is told
 abbrev pub Turns : Run → Result TurnSays (Option Mark) → Turned → Type 0
 Turns s (Ok x) t = followed s x ≡ t
 Turns s (Err e) t = e ≡ t.mark

@@ -1,6 +1,6 @@
 // Events, and how they are answered.
 use beldi_book::Entry;
-use beldi_value::{IntentId, Outcome, Value};
+use beldi_value::{IntentId, Outcome, Owner, Value};
 
 /// What may happen to a host.
 #[derive(Drop)]
@@ -55,6 +55,8 @@ pub enum Seen {
         over: bool,
         reply: Option<(u32, Outcome)>,
     },
+    /// This owner has the lock of the item that the run is at: the run waits, and all is as before.
+    Held(Owner),
     /// The table has no room for the row that the act would add: it has `live` rows, which are at least `room`.
     Full {
         live: u32,

@@ -1,13 +1,13 @@
 // What one step of the host says over rows that are told, and over any table.
-ghost use Rattle.beldi_step.specs.Forms.{StepsOverRows, StepsOverAnyTable};
+ghost use Rattle.beldi_step.specs.Laws.{StepsOverRows, StepsOverAnyTable};
 
 /// Over rows that are told, a step is a relation between the host and the rows before and after.
 pub fn a_step_over_rows()
     ensures { StepsOverRows }
 {}
 
-/// Over any table, also one that tells no rows, an answer follows from something that a table may tell, and an event that is
-/// answered at once leaves the table as it was and makes no call.
+/// Over any table, also one that tells no rows, a step makes at most one call, and none for an event that is answered at once:
+/// that leaves the table as it was.
 pub fn a_step_over_any_table()
     ensures { StepsOverAnyTable }
 {}

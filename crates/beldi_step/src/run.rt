@@ -5,18 +5,20 @@ ghost use Rattle.beldi_value.specs.declared.place.Owner.TheVariants as owners;
 ghost use Rattle.beldi_tree.specs.Names.{func_at};
 ghost use Rattle.beldi_lang.specs.Machine.{resumed};
 ghost use Rattle.beldi_walk.specs.Query.{told_of};
-ghost use Rattle.beldi_daal.specs.Cell.{read_goes, write_goes};
+ghost use Rattle.beldi_daal.specs.Cell.{read_goes};
 ghost use Rattle.beldi_readlog.specs.ReadLog.{given_of, kept_of};
-ghost use Rattle.beldi_step.specs.Intent.{args_in, args_told, is_did as is_did_of, look_asks, open_body};
-ghost use Rattle.beldi_step.specs.Run.{run_asks, run_told, stage_asks, stage_says, mark_of, followed, first_stage as first_stage_of, standing, is_done_note as is_done_note_of, done_says, mark_if as mark_if_of, ask_says, walk_says, keep_says, write_says, close_says, begin_in, turned_by, Turns, answered_run, place_of as place_at};
+ghost use Rattle.beldi_intent.specs.Intent.{args_in, args_told, is_did as is_did_of, look_asks, open_body};
+ghost use Rattle.beldi_step.specs.Run.{run_asks, run_told, stage_asks, stage_says, mark_of, followed, first_stage as first_stage_of, standing, note_done as note_done_of, answer_noted as answer_noted_of, cell_op, done_says, mark_if as mark_if_of, ask_says, walk_says, keep_says, put_says, close_says, begin_in, turned_by, Turns, answered_run, place_of as place_at};
 ghost use Rattle.beldi_step.specs.declared.run.Begun.{Begun};
 
-use crate::intent::{end_told, intent_key};
-use beldi_daal::{ReadGoes, WriteAt, WriteGoes, cell_key, read_told, write_query, write_told};
+use beldi_daal::{
+    CellOp, ReadGoes, WriteAt, WriteGoes, cell_key, read_told, write_query, write_told,
+};
+use beldi_intent::{end_told, intent_key};
 use beldi_lang::{Answer, Deployment, Effect, Machine};
 use beldi_readlog::{given_told, kept_told, log_key};
 use beldi_row::{Act, IntentRow, Note, Row, Said};
-use beldi_value::{IntentId, Outcome, Owner, Place, Value};
+use beldi_value::{IntentId, Outcome, Owner, Place, Str, Value};
 use beldi_walk::{Heard, Query};
 use std::alloc::{AllocError, Global};
 
@@ -44,7 +46,7 @@ pub enum Stage {
     Walk,
     /// A read keeps the value that was found when `seen` changes had been made.
     Keep { value: Value, seen: u64 },
-    /// A write stands here.
+    /// An operation on an item stands here.
     Write(WriteAt),
     /// The instance is to be ended with its outcome.
     Close,
@@ -106,6 +108,80 @@ fn look(alloc: Global, id: &IntentId, func: u16) -> Result<Query, AllocError>
     Ok(Query::Act(intent_key(id.copy(alloc)?, func), Act::Look))
 }
 
+// An operation on an item, and where the item is.
+#[derive(Drop)]
+struct OnCell {
+    table: u16,
+    key: Str,
+    op: CellOp,
+}
+
+fn on_cell(alloc: Global, table: u16, key: &Str, op: CellOp) -> Result<Option<OnCell>, AllocError>
+    ensures { IfOk result (λ o. o ≡ Some (record { table = table; key = key.now; op = op })) }
+{
+    let key = key.copy(alloc)?;
+    Ok(Some(OnCell { table, key, op }))
+}
+
+// The operation of an effect.
+fn operation(alloc: Global, effect: &Effect) -> Result<Option<OnCell>, AllocError>
+    ensures { IfOk result (λ o. o ≡ cell_op effect.now) }
+{
+    match effect {
+        Effect::Write { table, key, value } => {
+            on_cell(alloc, *table, key, CellOp::Write(value.copy(alloc)?))
+        }
+        Effect::CondWrite {
+            table,
+            key,
+            rel,
+            operand,
+            value,
+        } => {
+            let operand = operand.copy(alloc)?;
+            let value = value.copy(alloc)?;
+            let op = CellOp::Cond {
+                rel: *rel,
+                operand,
+                value,
+            };
+            on_cell(alloc, *table, key, op)
+        }
+        Effect::Lock { table, key } => on_cell(alloc, *table, key, CellOp::Lock),
+        Effect::Unlock { table, key } => on_cell(alloc, *table, key, CellOp::Free(None)),
+        _ => Ok(None),
+    }
+}
+
+// The note that its act leaves where it says that it was done.
+fn note_done(effect: &Effect) -> Option<Note>
+    ensures { result ≡ note_done_of effect.now }
+{
+    match effect {
+        Effect::Write { .. } => Some(Note::Wrote),
+        Effect::CondWrite { .. } => Some(Note::Cond(true)),
+        Effect::Lock { .. } => Some(Note::Got),
+        Effect::Unlock { .. } => Some(Note::Freed),
+        _ => None,
+    }
+}
+
+// A note, read as the answer to an effect; none where it is of another kind than the effect's answers.
+fn answer_noted(effect: &Effect, note: &Note) -> Option<Answer>
+    ensures { result ≡ answer_noted_of effect.now note.now }
+{
+    match (effect, note) {
+        (
+            Effect::Write { .. } | Effect::Lock { .. } | Effect::Unlock { .. },
+            Note::Wrote | Note::Got | Note::Freed,
+        ) => Some(Answer::Done),
+        (Effect::CondWrite { .. }, Note::Cond(passed)) => {
+            Some(Answer::Value(Value::Bool(*passed)))
+        }
+        _ => None,
+    }
+}
+
 // What a stage asks. The table takes the key and the act, so what they have of the effect is copied; the machine keeps it.
 fn stage_query(
     alloc: Global,
@@ -129,11 +205,14 @@ fn stage_query(
         (Stage::Walk, Effect::Read { table, key }) => {
             Ok(Query::Act(cell_key(alloc, func, *table, key)?, Act::Look))
         }
-        (Stage::Write(at), Effect::Write { table, key, value }) => {
-            let key = cell_key(alloc, func, *table, key)?;
+        (Stage::Write(at), effect) => {
+            let Some(on) = operation(alloc, effect)? else {
+                return look(alloc, id, func);
+            };
             let place = place_of(alloc, id, machine.steps())?;
             let who = Owner::Intent(id.copy(alloc)?);
-            Ok(write_query(key, place, who, value.copy(alloc)?, *at))
+            let key = cell_key(alloc, func, on.table, &on.key)?;
+            Ok(write_query(key, place, who, on.op, *at))
         }
         (Stage::Close, Effect::Return(outcome)) => Ok(Query::Act(
             intent_key(id.copy(alloc)?, func),
@@ -146,33 +225,22 @@ fn stage_query(
     }
 }
 
-// A note that is read as the answer of an effect that is done or not.
-fn is_done_note(note: &Note) -> bool
-    ensures { result ≡ is_done_note_of note.now }
-{
-    match note {
-        Note::Wrote | Note::Got | Note::Freed => true,
-        Note::Cond(_) | Note::Died(_) => false,
-    }
-}
-
 fn mark_if(made: bool, mark: Mark) -> Option<Mark>
     ensures { result ≡ mark_if_of made mark }
 {
     if made { Some(mark) } else { None }
 }
 
-fn write_done(note: &Note, first: bool) -> Says
-    ensures { result ≡ done_says first (is_done_note_of note.now) }
+fn write_done(effect: &Effect, note: &Note, first: bool) -> Says
+    ensures { result ≡ done_says first (answer_noted_of effect.now note.now) }
 {
-    if is_done_note(note) {
-        Says::Answers(Answer::Done, mark_if(first, Mark::Step))
-    } else {
-        Says::Ends(None, None)
+    match answer_noted(effect, note) {
+        Some(answer) => Says::Answers(answer, mark_if(first, Mark::Step)),
+        None => Says::Ends(None, None),
     }
 }
 
-// What a stage says of what it was told. At want of memory it tells the mark of its act.
+// What a stage says of what it was told. Out of memory, it tells the mark of its act.
 fn hear(
     alloc: Global,
     id: &IntentId,
@@ -188,7 +256,7 @@ fn hear(
         Stage::Ask => hear_ask(alloc, heard),
         Stage::Walk => hear_walk(alloc, id, changes, heard),
         Stage::Keep { value, seen } => hear_keep(alloc, value, *seen, heard),
-        Stage::Write(_) => hear_write(alloc, heard),
+        Stage::Write(_) => hear_write(alloc, effect, heard),
         Stage::Close => hear_close(alloc, id, effect, heard),
         Stage::Unbuilt => Ok(Says::Ends(None, None)),
     }
@@ -257,15 +325,19 @@ fn is_added(heard: &Heard<'_>) -> bool
     matches!(heard, Heard::Said(Said::Added))
 }
 
-fn hear_write(alloc: Global, heard: Heard<'_>) -> Result<Says, Option<Mark>>
-    ensures ok { IfOk result (λ s. s ≡ write_says (write_goes (told_of heard.entry))) }
-    ensures err { IfErr result (λ e. e ≡ mark_of (write_says (write_goes (told_of heard.entry)))) }
+// An act that lends made nothing, so it is out of memory only where there is no mark.
+fn hear_write(alloc: Global, effect: &Effect, heard: Heard<'_>) -> Result<Says, Option<Mark>>
+    ensures ok { IfOk result (λ s. s ≡ put_says effect.now (note_done_of effect.now) (told_of heard.entry)) }
+    ensures err { IfErr result (λ e. e ≡ mark_of (put_says effect.now (note_done_of effect.now) (told_of heard.entry))) }
 {
-    let made = end_told(&heard);
-    match write_told(alloc, heard) {
-        Err(_) => Err(mark_if(made, Mark::Step)),
+    let Some(done) = note_done(effect) else {
+        return Ok(Says::Ends(None, None));
+    };
+    match write_told(alloc, done, heard) {
+        Err(_) => Err(None),
         Ok(WriteGoes::On(at)) => Ok(Says::On(Stage::Write(at), None)),
-        Ok(WriteGoes::Done { note, first }) => Ok(write_done(&note, first)),
+        Ok(WriteGoes::Done { note, first }) => Ok(write_done(effect, &note, first)),
+        Ok(WriteGoes::NotOwner) => Ok(Says::Ends(None, None)),
         Ok(WriteGoes::Held(owner)) => Ok(Says::Waits(Wait::Held(owner))),
     }
 }
@@ -302,13 +374,13 @@ fn first_stage(effect: &Effect) -> Stage
 {
     match effect {
         Effect::Read { .. } => Stage::Ask,
-        Effect::Write { .. } => Stage::Write(WriteAt::Try),
-        Effect::Return(_) => Stage::Close,
-        Effect::CondWrite { .. }
-        | Effect::Call { .. }
-        | Effect::Async { .. }
+        Effect::Write { .. }
+        | Effect::CondWrite { .. }
         | Effect::Lock { .. }
-        | Effect::Unlock { .. }
+        | Effect::Unlock { .. } => Stage::Write(WriteAt::Try),
+        Effect::Return(_) => Stage::Close,
+        Effect::Call { .. }
+        | Effect::Async { .. }
         | Effect::Begin
         | Effect::End { .. }
         | Effect::Abort => Stage::Unbuilt,
@@ -372,7 +444,7 @@ impl Run {
         }
     }
 
-    /// Where it goes after it was told, when so many changes had been made. At want of memory it is to be dropped, and the
+    /// Where it goes after it was told, when so many changes had been made. Out of memory, it is to be dropped, and the
     /// mark of its act is told.
     pub fn told(
         &mut self,

@@ -1,0 +1,35 @@
+-- What one step says over rows that are told, and over any table: by the plan, and what its query came to.
+use Rattle.std.proofs.Common.{◌≡◌, ◌≤◌, Result, refl, ap, sym, ◌∙◌, subst, inl, arith}
+use Rattle.std.specs.declared.alloc.AllocError.{AllocError}
+use Rattle.beldi_tree.specs.declared.deployment.Deployment.{Deployment}
+use Rattle.beldi_row.specs.Table.{TableState, Tells}
+use Rattle.beldi_row.proofs.Tells.{tells_map}
+use Rattle.beldi_walk.specs.Query.{CameOn}
+use Rattle.beldi_walk.proofs.Queries.{same_rows}
+use Rattle.beldi_step.specs.declared.event.Event.{Event}
+use Rattle.beldi_step.specs.declared.event.Seen.{Seen}
+use Rattle.beldi_step.specs.Host.{Core, Plan, at_once, asks, plan, counted, StepBy, EventBy}
+use Rattle.beldi_step.specs.Laws.{StepsOverRows, StepsOverAnyTable, TableAfter}
+
+module _ (d : Deployment) (e : Event) (c b : Core) (old new : TableState) (r : Result Seen AllocError) where
+  on_rows : (p : Plan) → StepBy d e c p b old new r → Tells old.rows new.rows (λ m n. EventBy d old.room old.faults new.faults e c p m b n r)
+  on_rows (at_once k y) h =
+      tells_map {P = λ m n. n ≡ m} {Q = λ m n. EventBy d old.room old.faults new.faults e c (at_once k y) m b n r} old.rows new.rows (λ m n same. (h.0, same, ap (λ (s : TableState). s.faults) h.1))
+      (subst (λ (s : TableState). Tells old.rows s.rows (λ m n. n ≡ m)) (sym h.1) (same_rows old.rows))
+  on_rows (asks q) h =
+      tells_map {P = λ m n. CameOn q c.now old.room h.0 m n} {Q = λ m n. EventBy d old.room old.faults new.faults e c (asks q) m b n r} old.rows new.rows (λ m n came. (h.0, h.1, came, h.2.cause)) h.2.rows
+
+  on_table : (k : Core) (p : Plan) → plan e k ≡ p → StepBy d e c p b old new r → TableAfter e k old new
+  on_table k (at_once z y) is h = record {
+    untouched = λ x w same. h.1;
+    room = ap (λ (s : TableState). s.room) h.1;
+    calls = inl (ap (λ (s : TableState). s.calls) h.1);
+    later = subst (λ (s : TableState). old.faults ≤ s.faults) (sym h.1) (omega arith);
+  }
+  on_table k (asks q) is h = record { untouched = λ x w same. let clash = sym is ∙ same in cc; room = h.2.room; calls = h.2.calls; later = h.2.cause.later }
+
+pub over_rows : StepsOverRows
+over_rows d e c b old new r h = on_rows d e (counted c) b old new r (plan e c) h
+
+pub over_any_table : StepsOverAnyTable
+over_any_table d e c b old new r h = on_table d e (counted c) b old new r c (plan e c) refl h
