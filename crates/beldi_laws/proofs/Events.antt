@@ -1,9 +1,10 @@
 -- Every event keeps the host and its rows right.
-use Rattle.std.proofs.Common.{◌≡◌, inl, inr, ℕ, zero, suc, ◌+◌, ◌<◌, ◌≤◌, ◌==◌, ◌||◌, ◌&&◌, Bool, true, false, cond, [], ◌∷◌, ◌++◌, Option, None, Some, Ok, Err, refl, ap, sym, ◌∙◌, subst, IsTrue, is_some, arith, if◌then◌else◌}
-use Rattle.std.specs.Prelude.{nat_lt, nat_le}
+use Rattle.std.proofs.Common.{◌≡◌, ℕ, zero, suc, ◌+◌, ◌<◌, ◌≤◌, ◌==◌, ◌||◌, ◌&&◌, Bool, true, false, cond, [], ◌∷◌, ◌++◌, Option, None, Some, Result, Ok, Err, refl, ap, sym, ◌∙◌, subst, IsTrue, is_some, arith, if◌then◌else◌}
+use Rattle.std.specs.Prelude.{◌-◌, ◌^◌, nat_lt, nat_le}
 use Rattle.std.specs.FinMap as map
 use Rattle.std.specs.FinMap.{get-empty, len-empty}
 use Rattle.std.specs.Ordering.{is_eq, nat_cmp}
+use Rattle.std.specs.declared.alloc.AllocError.{AllocError}
 use borrow.Author.Tests.{leb-true, leb-false, le-leb, lt-leb, lt-ltb}
 use Rattle.std.proofs.lemmas.Cmp.{tied_itself}
 use Rattle.std.proofs.lemmas.Bool.Decides.{nat_tests}
@@ -17,24 +18,28 @@ use Rattle.beldi_value.specs.declared.outcome.Outcome.{Outcome}
 use Rattle.beldi_value.specs.declared.value.Value.{Value}
 use Rattle.beldi_tree.specs.declared.deployment.Deployment.{Deployment}
 use Rattle.beldi_lang.specs.declared.effect.Effect.{Effect}
-use Rattle.beldi_lang.specs.declared.effect.Effect.TheVariants.{Read, Write, Return}
+use Rattle.beldi_lang.specs.declared.effect.Effect.TheVariants.{Read, Write, CondWrite, Lock, Unlock, Return}
 use Rattle.beldi_book.specs.declared.entry.Entry.TheVariants.{Start}
 use Rattle.beldi_row.specs.Key.{key_cmp}
 use Rattle.beldi_row.specs.declared.key.Kind.{Kind}
 use Rattle.beldi_row.specs.declared.key.Kind.TheVariants as kinds
 use Rattle.beldi_tree.specs.Bindings.{or_null}
 use Rattle.beldi_plain.specs.Item.{Item, item_cmp}
-use Rattle.beldi_plain.specs.Operation.{write, holds, holds_as}
+use Rattle.beldi_plain.specs.Holds.{holds, holds_as}
+use Rattle.beldi_plain.specs.Operation as operation
+use Rattle.beldi_plain.specs.Operation.{write, lock, free}
 use Rattle.beldi_row.specs.declared.row.Body.{Body}
 use Rattle.beldi_row.specs.declared.row.IntentRow.{IntentRow}
 use Rattle.beldi_row.specs.declared.row.Row.{Row}
 use Rattle.beldi_row.specs.declared.row.Row.TheVariants as rows
 use Rattle.beldi_row.specs.declared.act.Act.TheVariants.{Issue, Bind}
 use Rattle.beldi_row.specs.Act.{Tell, act, other, outcome_tell, bind_to}
+use Rattle.beldi_row.specs.declared.table.TableErr.{TableErr}
+use Rattle.beldi_row.specs.declared.table.TableErr.TheVariants.{OutOfMemory, Failed, Full}
 use Rattle.beldi_row.specs.Table.{Rows, set_row, after_act}
 use Rattle.beldi_plain.specs.Plain.{Instance, PlainState, start, nothing, with_instance, reply_of, outcome_of}
 use Rattle.beldi_step.specs.declared.event.Event.{Event}
-use Rattle.beldi_step.specs.declared.event.Event.TheVariants.{Ticket, Request, Turn, Lost, Crash}
+use Rattle.beldi_step.specs.declared.event.Event.TheVariants.{Ticket, Request, Turn, Lost, Crash, Restart}
 use Rattle.beldi_step.specs.declared.event.Seen.{Seen}
 use Rattle.beldi_step.specs.declared.event.Seen.TheVariants as seen
 use Rattle.beldi_step.specs.declared.run.Run.{Run}
@@ -43,18 +48,17 @@ use Rattle.beldi_step.specs.declared.run.Stage.{Stage}
 use Rattle.beldi_step.specs.declared.run.Stage.TheVariants as stage
 use Rattle.beldi_value.specs.declared.id.IntentId.{IntentId}
 use Rattle.beldi_walk.specs.declared.query.Query.{Query}
-use Rattle.beldi_walk.specs.Query.{rows_after, told_by}
-use Rattle.beldi_step.specs.Intent.{intent_key, root_key, is_added, binding_of}
-use Rattle.beldi_step.specs.Run.{over, turned_by, write_says, stage_asks, stage_says, asks_at, told_at, run_asks, run_told}
-use Rattle.beldi_step.specs.Host.{Core, Plan, at_once, asks, first_core, most_runs, new_run, restarted, ended_run, marked, ticket_next, bound_next, request_next, turn_next, run_next, unheard_next, plan_of, counted, plan, heard}
-use Rattle.beldi_step.proofs.Plans.{PlanHolds, AskHolds, plan_of_holds, plan_holds}
-use Rattle.beldi_step.specs.Forms.{is_lost, dropped, Made, Acts, Asks, Follows, IsOneEvent, Breaks}
+use Rattle.beldi_walk.specs.Query.{Told, lends, rows_after, told_by, CameOn}
+use Rattle.beldi_walk.proofs.Lent.{rows_stand, refused_stand}
+use Rattle.beldi_intent.specs.Intent.{intent_key, root_key, bind_asks, is_added, binding_of}
+use Rattle.beldi_step.specs.Run.{over, turned_by, stage_asks, stage_says, asks_at, told_at, run_asks, run_told}
+use Rattle.beldi_step.specs.Host.{Core, Plan, at_once, asks, first_core, most_runs, most_events, run_plan, crash_plan, new_run, restarted, ended_run, marked, ticket_next, bound_next, request_next, turn_next, run_next, unheard_next, plan_of, counted, plan, heard, no_memory, refused, refused_by, Followed, EventBy, EventOn}
 use Rattle.beldi_order.specs.Sane.{effect_before}
 use Rattle.beldi_laws.specs.Stands.{head_key}
 use Rattle.beldi_daal.specs.Content.{content_in}
-use Rattle.beldi_daal.specs.declared.walk.CellOp.TheVariants as cell
+use Rattle.beldi_daal.specs.declared.cell.CellOp.TheVariants as cell
 use Rattle.beldi_laws.specs.Right.{Right, ItemMatches, RowMatches, IntentMatches, IsRootRow, BodyMatches, Knows, KnowsAt, RunAt, StageOk, PlaceOk, is_owner, owed_by, owed_value, value_if}
-use Rattle.beldi_laws.specs.Laws.{told_outcome, is_gone, HasReply, KeepsRight}
+use Rattle.beldi_laws.specs.Laws.{told_outcome, is_gone, RepliesAreOutcomes, KeepsRight, RightIsLegal}
 use Rattle.beldi_row.proofs.Gets.{got}
 use Rattle.beldi_row.proofs.Unchanged.{unchanged, looked}
 use Rattle.beldi_book.specs.Order.{count_changes}
@@ -62,10 +66,12 @@ use Rattle.beldi_order.proofs.Entries.{same_some, new_instance, grows_self}
 use Rattle.beldi_laws.proofs.Lives.{runs_more, runs_less, remove_put}
 use Rattle.beldi_order.proofs.Operations.{id_same}
 use Rattle.beldi_laws.proofs.Steps.{OwesSame, row_set, root_moved}
-use Rattle.beldi_laws.proofs.Moves.{After, AfterTurn, AfterQuery, AfterAct, replaced, change_entered}
+use Rattle.beldi_laws.proofs.Moves.{seen_by, After, AfterTurn, AfterQuery, AfterAct, replaced, change_entered}
+use Rattle.beldi_laws.proofs.OneEvent.{if_plan, lent_only}
 use Rattle.beldi_laws.proofs.Turns.{begin_turn, close_turn, ends}
-use Rattle.beldi_laws.proofs.Operations.{write_is, operation_turn}
+use Rattle.beldi_laws.proofs.Operations.{write_is, cond_is, lock_is, unlock_is, operation_turn}
 use Rattle.beldi_laws.proofs.Readings.{ask_turn, walk_turn, keep_turn}
+use Rattle.beldi_plain.specs.Guard.{touched_by}
 
 -- it tells no outcome, nor that a row is absent
 abbrev TellsNothing : Seen → Type 0
@@ -77,7 +83,7 @@ as_before d c m x nothing h = record { right = h; goes_on = grows_self h.plain.m
 
 -- ---- a run that ends
 abbrev without : (d : Deployment) (c : Core) (m : Rows) (i : ℕ) → Right d c m → Right d (ended_run c i) m
-without d c m i h = record { plain = h.plain; bounded = h.bounded; legal = h.legal; rows = h.rows; tickets = h.tickets; runs = runs_less d c.book h.plain c.runs c.last_run i h.runs }
+without d c m i h = record { plain = h.plain; bounded = h.bounded; legal = h.legal; guarded = h.guarded; rows = h.rows; tickets = h.tickets; runs = runs_less d c.book h.plain c.runs c.last_run i h.runs }
 
 -- ---- a turn
 module _ (d : Deployment) (c : Core) (m : Rows) (i : ℕ) (h : Right d c m) (r : Run) (live : map.get c.runs i ≡ Some r) where
@@ -86,9 +92,12 @@ module _ (d : Deployment) (c : Core) (m : Rows) (i : ℕ) (h : Right d c m) (r :
   stage_turn g k (Read t key) stage.Ask is ok at = ask_turn d c m i r g h live k t key is
   stage_turn g k (Read t key) stage.Walk is ok at = walk_turn d c m i r g h live k t key is
   stage_turn g k (Read t key) (stage.Keep v seen) is ok at = keep_turn d c m i r g h live k t key is v seen at
-  stage_turn g k (Write t key v) (stage.Write w) is ok at = operation_turn d c m i r g h live k (Write t key v) (record { table = t; key = key; does = write v }) (cell.Write v) write_says (write_is t key v) is w
+  stage_turn g k (Write t key v) (stage.Write w) is ok at = operation_turn d c m i r g h live k (Write t key v) (record { table = t; key = key; does = write v }) (cell.Write v) (write_is t key v) is w
+  stage_turn g k (CondWrite t key u o v) (stage.Write w) is ok at = operation_turn d c m i r g h live k (CondWrite t key u o v) (record { table = t; key = key; does = operation.cond u o v }) (cell.Cond u o v) (cond_is t key u o v) is w
+  stage_turn g k (Lock t key) (stage.Write w) is ok at = operation_turn d c m i r g h live k (Lock t key) (record { table = t; key = key; does = lock }) cell.Lock (lock_is t key) is w
+  stage_turn g k (Unlock t key) (stage.Write w) is ok at = operation_turn d c m i r g h live k (Unlock t key) (record { table = t; key = key; does = free }) (cell.Free None) (unlock_is t key) is w
   stage_turn g k (Return o) stage.Close is ok at = close_turn d c m i r g h live k o is
-  stage_turn g k e stage.Unbuilt is ok at = subst (AfterTurn d h.plain c i r.id over) (sym (looked c.now (intent_key r.id r.func) m)) (ends d c m i r g h live k e is)
+  stage_turn g k e stage.Unbuilt is ok at = subst (AfterTurn d h.plain c i r.id over) (sym (looked c.now (intent_key r.id r.func) m)) (ends d c m i r g h live k e is m (λ t. refl) h.rows)
   stage_turn g k e s is ok at = absurd ok
 
   at_turn : (at : Option Begun) → KnowsAt d c.book h.plain r at → AfterQuery d h.plain c.now m (λ t. turn_next c i r.id (told_at d (count_changes c.book) r at t)) (asks_at r at)
@@ -107,7 +116,7 @@ module _ (d : Deployment) (c : Core) (m : Rows) (i : ℕ) (h : Right d c m) (r :
 
 -- ---- a run more
 abbrev with_run : (d : Deployment) (c : Core) (m : Rows) (id : IntentId) (f : ℕ) → map.len c.runs < most_runs → Right d c m → Right d (restarted c id f) m
-with_run d c m id f few h = record { plain = h.plain; bounded = h.bounded; legal = h.legal; rows = h.rows; tickets = h.tickets; runs = runs_more d c.book h.plain c.runs c.last_run (new_run id f) few tt h.runs }
+with_run d c m id f few h = record { plain = h.plain; bounded = h.bounded; legal = h.legal; guarded = h.guarded; rows = h.rows; tickets = h.tickets; runs = runs_more d c.book h.plain c.runs c.last_run (new_run id f) few tt h.runs }
 
 -- ---- a ticket
 roots_apart : (t u : ℕ) → is_eq (id_cmp (root_of t) (root_of u)) ≡ false → t ≡ u → ⊥
@@ -141,6 +150,7 @@ module _ (d : Deployment) (c : Core) (m : Rows) (h : Right d c m) where
           plain = h.plain;
           bounded = h.bounded;
           legal = h.legal;
+          guarded = h.guarded;
           rows = row_set d m h.plain h.plain (root_key t) (Some (rows.Intent i)) refl (record { bare = λ e. refl; finishes = refl; body = not_made }) (λ l other g. g) (λ x k g. g) h.rows;
           tickets = λ u. ap is_some (got m (root_key t) (root_key u) (Some (rows.Intent i))) ∙ some_if (is_eq (id_cmp (root_of u) (root_of t))) (map.get m (root_key u)) ∙ next_ticket (is_eq (id_cmp (root_of u) (root_of t))) u c.newest refl (is_some (map.get m (root_key u))) (h.tickets u);
           runs = h.runs;
@@ -181,12 +191,14 @@ module _ (d : Deployment) (c : Core) (m : Rows) (h : Right d c m) (t f : ℕ) (a
   request_bound : (i : IntentRow) → map.get m (root_key t) ≡ Some (rows.Intent i) → IsRootRow i (map.get h.plain.made (root_of t)) → i.body ≡ None → map.get h.plain.made (root_of t) ≡ None
       → After d h.plain (bound_next c t f a).0 (set_row m (root_key t) (Some (rows.Intent (bound_row i)))) (bound_next c t f a).1
   request_bound i is fits bare not_made =
-      let leads = change_entered d c m h (Start t f a) state refl (start_is h.plain t f a (map.get h.plain.made (root_of t)) (or_parts (t == 0) (nat_lt c.newest t) known).0 not_made) in
+      let leads = change_entered d c m h (Start t f a) state refl (start_is h.plain t f a (map.get h.plain.made (root_of t)) (or_parts (t == 0) (nat_lt c.newest t) known).0 not_made)
+      (λ x touched. let none = sym (ap (touched_by d) not_made) ∙ touched in cc) in
       record {
         right = record {
           plain = state;
           bounded = leads.bounded;
           legal = leads.legal;
+          guarded = leads.guarded;
           rows = root_moved d h.plain (root_of t) (new_instance f a) (subst (λ o. OwesSame d o (new_instance f a)) (sym not_made) (record { notes = λ x n. refl; holds = λ x. refl; values = λ u n. new_owes d u n f a })) m (bound_row i) refl
               (record { bare = λ e. cc; finishes = fits.finishes; body = record { instance = new_instance f a; made = refl; func = refl; args = refl; outcome = sym (fits.bare bare); no_tx = refl; no_caller = refl } })
               h.rows;
@@ -224,79 +236,82 @@ module _ (d : Deployment) (c : Core) (m : Rows) (h : Right d c m) (t f : ℕ) (a
 -- ---- every event
 -- the host that took the event is as right as before
 abbrev taken : (d : Deployment) (c : Core) (m : Rows) → Right d c m → Right d (counted c) m
-taken d c m h = record { plain = h.plain; bounded = h.bounded; legal = h.legal; rows = h.rows; tickets = h.tickets; runs = h.runs }
+taken d c m h = record { plain = h.plain; bounded = h.bounded; legal = h.legal; guarded = h.guarded; rows = h.rows; tickets = h.tickets; runs = h.runs }
 
-module _ (d : Deployment) (m : Rows) (p : PlainState) (e : Event) (c : Core) where
-  -- the host after an event that was counted, if it is answered at once
-  abbrev RightAtOnce : Core → Seen → Type 0
-  RightAtOnce b y = After d p b m y
-
-  -- .. and if it asks
-  abbrev RightAsked : Query → Type 0
-  RightAsked q = AfterQuery d p c.now m (heard d e c) q
-
-right_asked : (d : Deployment) (e : Event) (c : Core) (m : Rows) (h : Right d c m) → AskHolds (RightAtOnce d m h.plain e c) (RightAsked d m h.plain e c) e c
-right_asked d Ticket c m h = ticket_by d c m h (map.get m (root_key (c.newest + 1))) refl
-right_asked d (Request t f a) c m h = λ known few. request_row d c m h t f a known few (map.get m (root_key t)) refl (h.rows.keys (root_key t))
-right_asked d (Turn i) c m h = λ r live. subst (λ o. AfterQuery d h.plain c.now m (λ t. run_next d c i t o) (run_asks r)) (sym live) (turn_made d c m i h r live)
-right_asked d (Lost i) c m h = λ r live. subst (λ o. AfterQuery d h.plain c.now m (λ t. (unheard_next d c i t o, seen.Dropped)) (run_asks r)) (sym live) (turn_unheard d c m i h r live)
-right_asked d e c m h = tt
-
-right_counted : (d : Deployment) (e : Event) (c : Core) (m : Rows) (h : Right d c m) → PlanHolds (RightAtOnce d m h.plain e c) (RightAsked d m h.plain e c) (plan_of e c)
-right_counted d e c m h = plan_of_holds (RightAtOnce d m h.plain e c) (RightAsked d m h.plain e c) e c (record {
-  no_ticket = as_before d c m seen.NoTicket (refl, refl) h;
-  unknown = λ t. as_before d c m (seen.Unknown t) (refl, refl) h;
-  crowded = as_before d c m seen.Crowded (refl, refl) h;
-  no_run = as_before d c m seen.NoRun (refl, refl) h;
-  run_over = as_before d c m seen.RunOver (refl, refl) h;
-  crashed = λ i. as_before d (ended_run c i) m seen.Crashed (refl, refl) (without d c m i h);
-  restarts = λ id f is room. as_before d (restarted c id f) m (seen.Started (c.last_run + 1)) (refl, refl) (with_run d c m id f room h);
-}) (right_asked d e c m h)
-
-right_planned : (d : Deployment) (e : Event) (c : Core) (m : Rows) (h : Right d c m) → PlanHolds (RightAtOnce d m h.plain e (counted c)) (RightAsked d m h.plain e (counted c)) (plan e c)
-right_planned d e c m h = plan_holds (RightAtOnce d m h.plain e (counted c)) (RightAsked d m h.plain e (counted c)) e c (as_before d c m seen.Spent (refl, refl) h) (λ few. right_counted d e (counted c) m (taken d c m h))
-
--- the query was not made
-after_dropped : (d : Deployment) (e : Event) (c : Core) (m : Rows) (h : Right d c m) → After d h.plain (dropped e c) m seen.Dropped
-after_dropped d (Turn i) c m h = as_before d (ended_run c i) m seen.Dropped (refl, refl) (without d c m i h)
-after_dropped d (Lost i) c m h = as_before d (ended_run c i) m seen.Dropped (refl, refl) (without d c m i h)
-after_dropped d e c m h = as_before d c m seen.Dropped (refl, refl) h
+-- the host after an event that was counted, if it is answered at once; and if it asks: what was told was heard, or it was out
+-- of memory then
+abbrev RightPlan : (d : Deployment) (m : Rows) (p : PlainState) (e : Event) (c : Core) → Plan → Type 0
+RightPlan d m p e c (at_once b y) = After d p b m y
+RightPlan d m p e c (asks q) = AfterQuery d p c.now m (heard d e c) q × ((b : Core) → no_memory d e c (told_by q c.now m) ≡ Some b → After d p b (rows_after q c.now m) seen.Dropped)
 
 so_left : (d : Deployment) (p : PlainState) (c b : Core) (m n : Rows) (x : Seen) → n ≡ m → b ≡ c → After d p c m x → After d p b n x
 so_left d p c b m n x rows core h = subst (λ k. After d p b k x) (sym rows) (subst (λ k. After d p k m x) (sym core) h)
 
+right_no_run : (d : Deployment) (c : Core) (m : Rows) (h : Right d c m) (b : Bool) → After d h.plain c m (if b then seen.NoRun else seen.RunOver)
+right_no_run d c m h true = as_before d c m seen.NoRun (refl, refl) h
+right_no_run d c m h false = as_before d c m seen.RunOver (refl, refl) h
+
+right_of : (d : Deployment) (e : Event) (c : Core) (m : Rows) (h : Right d c m) → RightPlan d m h.plain e c (plan_of e c)
+right_of d Ticket c m h = if_plan (RightPlan d m h.plain Ticket c) (c.newest == 2 ^ 32 - 1) _ _ (λ t. as_before d c m seen.NoTicket (refl, refl) h) (λ t. (ticket_by d c m h (map.get m (root_key (c.newest + 1))) refl, λ b w. cc))
+right_of d (Request t f a) c m h =
+    if_plan (RightPlan d m h.plain (Request t f a) c) ((t == 0) || nat_lt c.newest t) _ _ (λ u. as_before d c m (seen.Unknown t) (refl, refl) h) (λ known.
+    if_plan (RightPlan d m h.plain (Request t f a) c) (nat_le most_runs (map.len c.runs)) _ _ (λ u. as_before d c m seen.Crowded (refl, refl) h) (λ few. (
+      request_row d c m h t f a known (leb-false most_runs (map.len c.runs) few) (map.get m (root_key t)) refl (h.rows.keys (root_key t)),
+      λ b w.
+          let q = bind_asks t f a in
+          let z = lent_only (lends (told_by q c.now m)) c b w in
+          so_left d h.plain c b m (rows_after q c.now m) seen.Dropped (rows_stand q c.now m z.1) z.0 (as_before d c m seen.Dropped (refl, refl) h),
+    )))
+right_of d (Turn i) c m h = by_run (map.get c.runs i) refl
+  where
+    by_run : (o : Option Run) → map.get c.runs i ≡ o → RightPlan d m h.plain (Turn i) c (run_plan c i o)
+    by_run None gone = right_no_run d c m h ((i == 0) || nat_lt c.last_run i)
+    by_run (Some r) live =
+        subst (λ o. AfterQuery d h.plain c.now m (λ t. run_next d c i t o) (run_asks r) × ((b : Core) → Some (unheard_next d c i (told_by (run_asks r) c.now m) o) ≡ Some b → After d h.plain b (rows_after (run_asks r) c.now m) seen.Dropped)) (sym live)
+        (turn_made d c m i h r live, λ b w. subst (λ z. After d h.plain z (rows_after (run_asks r) c.now m) seen.Dropped) (same_some w) (turn_unheard d c m i h r live))
+right_of d (Lost i) c m h = by_run (map.get c.runs i) refl
+  where
+    by_run : (o : Option Run) → map.get c.runs i ≡ o → RightPlan d m h.plain (Lost i) c (run_plan c i o)
+    by_run None gone = right_no_run d c m h ((i == 0) || nat_lt c.last_run i)
+    by_run (Some r) live = (subst (λ o. AfterQuery d h.plain c.now m (λ t. (unheard_next d c i t o, seen.Dropped)) (run_asks r)) (sym live) (turn_unheard d c m i h r live), λ b w. cc)
+right_of d (Crash i) c m h = by_run (map.get c.runs i)
+  where
+    by_run : (o : Option Run) → RightPlan d m h.plain (Crash i) c (crash_plan c i o)
+    by_run None = right_no_run d c m h ((i == 0) || nat_lt c.last_run i)
+    by_run (Some r) = as_before d (ended_run c i) m seen.Crashed (refl, refl) (without d c m i h)
+right_of d (Restart id f) c m h = if_plan (RightPlan d m h.plain (Restart id f) c) (nat_le most_runs (map.len c.runs)) _ _ (λ u. as_before d c m seen.Crowded (refl, refl) h)
+    (λ few. as_before d (restarted c id f) m (seen.Started (c.last_run + 1)) (refl, refl) (with_run d c m id f (leb-false most_runs (map.len c.runs) few) h))
+
+right_plan : (d : Deployment) (e : Event) (c : Core) (m : Rows) (h : Right d c m) → RightPlan d m h.plain e (counted c) (plan e c)
+right_plan d e c m h = if_plan (RightPlan d m h.plain e (counted c)) (nat_lt c.taken most_events) _ _ (λ few. right_of d e (counted c) m (taken d c m h)) (λ spent. as_before d c m seen.Spent (refl, refl) h)
+
+-- the query was not made, so no more than a run is over
+refusal_tells : (v : TableErr) → TellsNothing (seen_by (refused_by v))
+refusal_tells OutOfMemory = (refl, refl)
+refusal_tells Failed = (refl, refl)
+refusal_tells (Full live most) = (refl, refl)
+
+after_refused : (d : Deployment) (e : Event) (c : Core) (m : Rows) (h : Right d c m) (v : TableErr) → After d h.plain (refused e c v).0 m (seen_by (refused e c v).1)
+after_refused d (Turn i) c m h (Full live most) = as_before d c m (seen.Full live most) (refl, refl) h
+after_refused d (Turn i) c m h v = as_before d (ended_run c i) m (seen_by (refused_by v)) (refusal_tells v) (without d c m i h)
+after_refused d (Lost i) c m h OutOfMemory = as_before d (ended_run c i) m seen.Dropped (refl, refl) (without d c m i h)
+after_refused d (Lost i) c m h v = as_before d (ended_run c i) m seen.Dropped (refl, refl) (without d c m i h)
+after_refused d e c m h v = as_before d c m (seen_by (refused_by v)) (refusal_tells v) h
+
 module _ (d : Deployment) (room old new : ℕ) (e : Event) (c b : Core) (m n : Rows) (h : Right d c m) where
-  after_made : (q : Query) (x : Seen) → AfterQuery d h.plain c.now m (heard d e c) q → Made d room e c q m b n x → After d h.plain b n x
-  after_made q x g s = subst (λ l. After d h.plain b l x) (sym s.0) (subst (λ (z : Core × Seen). After d h.plain z.0 (rows_after q c.now m) z.1) (sym s.1) g)
+  after_came : (q : Query) (w : Result Told TableErr) (r : Result Seen AllocError) → RightPlan d m h.plain e c (asks q) → Followed d e c w b r → CameOn q c.now room w m n → After d h.plain b n (seen_by r)
+  after_came q (Ok t) (Ok x) g s p = subst (λ l. After d h.plain b l x) (sym p.0) (subst (λ (z : Core × Seen). After d h.plain z.0 (rows_after q c.now m) z.1) (sym (s ∙ ap (heard d e c) p.1)) g.0)
+  after_came q (Ok t) (Err w) g s p = subst (λ l. After d h.plain b l seen.Dropped) (sym p.0) (g.1 b (ap (no_memory d e c) (sym p.1) ∙ s))
+  after_came q (Err v) r g s p =
+      subst (λ l. After d h.plain b l (seen_by r)) (sym (refused_stand q c.now room v m n p)) (subst (λ (z : Core × Result Seen AllocError). After d h.plain z.0 m (seen_by z.1)) (sym s) (after_refused d e c m h v))
 
-  after_acts : (q : Query) (x : Seen) → AfterQuery d h.plain c.now m (heard d e c) q → Acts d room old new e c q m b n x → After d h.plain b n x
-  after_acts q (seen.Full live most) g s = so_left d h.plain c b m n (seen.Full live most) s.0 s.1 (as_before d c m (seen.Full live most) (refl, refl) h)
-  after_acts q seen.Dropped g s = so_left d h.plain (dropped e c) b m n seen.Dropped s.0 s.1 (after_dropped d e c m h)
-  after_acts q x g s = after_made q x g s
+  after_by : (p : Plan) (r : Result Seen AllocError) → RightPlan d m h.plain e c p → EventBy d room old new e c p m b n r → After d h.plain b n (seen_by r)
+  after_by (at_once k y) (Ok x) g s = so_left d h.plain k b m n x s.1 s.0.0 (subst (λ z. After d h.plain k m z) (sym s.0.1) g)
+  after_by (at_once k y) (Err w) g s = so_left d h.plain c b m n seen.Dropped s.1 s.0.0 (as_before d c m seen.Dropped (refl, refl) h)
+  after_by (asks q) r g s = after_came q s.0 r g s.1 s.2
 
-  after_asks : (lost : Bool) (q : Query) (x : Seen) → AfterQuery d h.plain c.now m (heard d e c) q → Asks d room old new lost e c q m b n x → After d h.plain b n x
-  after_asks false q x g s = after_acts q x g s
-  after_asks true q x g s = subst (λ z. After d h.plain b n z) (sym s.0) (elim s.1 [
-    | inl s ↦ after_made q seen.Dropped g s
-    | inr s ↦ so_left d h.plain (dropped e c) b m n seen.Dropped s.0 s.1 (after_dropped d e c m h)
-  ])
-
-  after_follows : (p : Plan) (x : Seen) → PlanHolds (RightAtOnce d m h.plain e c) (RightAsked d m h.plain e c) p → Follows d room old new e c p m b n x → After d h.plain b n x
-  after_follows (at_once k y) x g s = so_left d h.plain k b m n x s.0 s.1 (subst (λ z. After d h.plain k m z) (sym s.2) g)
-  after_follows (asks q) x g s = after_asks (is_lost e) q x g s
-
-pub after_event : (d : Deployment) (room old new : ℕ) (e : Event) (c b : Core) (m n : Rows) (x : Seen) (h : Right d c m) → IsOneEvent d room old new e c m b n x → After d h.plain b n x
-after_event d room old new e c b m n x h s = after_follows d room old new e (counted c) b m n (taken d c m h) (plan e c) x (right_planned d e c m h) s
-
--- after want of memory the host is as after an event that was dropped
-pub after_break : (d : Deployment) (e : Event) (c b : Core) (m n : Rows) (h : Right d c m) → Breaks d e c m b n → After d h.plain b n seen.Dropped
-after_break d (Crash i) c b m n h s = absurd s
-after_break d (Turn i) c b m n h s = elim s [
-  | inl s ↦ so_left d h.plain (ended_run (counted c) i) b m n seen.Dropped s.0 s.1 (after_dropped d (Turn i) (counted c) m (taken d c m h))
-  | inr s ↦ so_left d h.plain (unheard_next d (counted c) i (told_by s.0 c.now m) (map.get c.runs i)) b (rows_after s.0 c.now m) n seen.Dropped s.2 (same_some (sym s.3))
-      (subst (PlanHolds (RightAtOnce d m h.plain (Lost i) (counted c)) (RightAsked d m h.plain (Lost i) (counted c))) s.1 (right_counted d (Lost i) (counted c) m (taken d c m h)))
-]
-after_break d e c b m n h s = so_left d h.plain (dropped e (counted c)) b m n seen.Dropped s.0 s.1 (after_dropped d e (counted c) m (taken d c m h))
+pub after_event : (d : Deployment) (room old new : ℕ) (e : Event) (c b : Core) (m n : Rows) (r : Result Seen AllocError) (h : Right d c m) → EventOn d room old new e c m b n r → After d h.plain b n (seen_by r)
+after_event d room old new e c b m n r h s = after_by d room old new e (counted c) b m n (taken d c m h) (plan e c) r (right_plan d e c m h) s
 
 -- ---- a host that nothing has happened to
 no_ticket : (t : ℕ) → (nat_lt 0 t && nat_le t 0) ≡ false
@@ -323,6 +338,7 @@ begins d now = record {
   plain = nothing;
   bounded = tt;
   legal = refl;
+  guarded = tt;
   rows = record {
     keys = λ k. subst (RowMatches d nothing k.home k.kind) (sym (get-empty key_cmp k)) (no_row d k.home k.kind);
     items = λ x. subst (λ r. ItemMatches d nothing x (content_in r)) (sym (get-empty key_cmp (head_key x))) (record {
@@ -342,13 +358,13 @@ begins d now = record {
     not_there : IsTrue false → ⊥
     not_there e = cc
 
--- whatever it came to
+-- ---- what is right
+pub right_legal : RightIsLegal
+right_legal d c m h = record { bounded = h.bounded; run = h.plain; legal = h.legal; guarded = h.guarded }
+
 pub keeps_right : KeepsRight
-keeps_right d room old new e c b m n (Ok x) h s = (after_event d room old new e c b m n x h s).right
-keeps_right d room old new e c b m n (Err w) h s = (after_break d e c b m n h s.1).right
+keeps_right d room old new e c b m n r h s = (after_event d room old new e c b m n r h s).right
 
 -- ---- what is told
-pub replies : (d : Deployment) (room old new : ℕ) (e : Event) (c b : Core) (m n : Rows) (x : Seen) → Right d c m → IsOneEvent d room old new e c m b n x → (t : ℕ) (o : Outcome) → told_outcome x ≡ Some (t, o) → HasReply d b.book t o
-replies d room old new e c b m n x h s t o told =
-    let a = after_event d room old new e c b m n x h s in
-    record { run = a.right.plain; legal = a.right.legal; reply = a.reply t o told }
+pub replies : RepliesAreOutcomes
+replies d room old new e c b m n x h s t o told = let a = after_event d room old new e c b m n (Ok x) h s in record { run = a.right.plain; legal = a.right.legal; reply = a.reply t o told }

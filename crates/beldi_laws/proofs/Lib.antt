@@ -6,6 +6,7 @@ mod Notes
 pub mod OneAnswer
 pub mod OneEvent
 mod Operations
+mod Owners
 mod Readings
 mod Rows
 pub mod Standing

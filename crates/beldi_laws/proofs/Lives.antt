@@ -22,7 +22,8 @@ use Rattle.beldi_lang.specs.declared.effect.Answer.TheVariants as answer
 use Rattle.beldi_book.specs.declared.entry.Entry.TheVariants as entry
 use Rattle.beldi_plain.specs.Plain.{answered}
 use Rattle.beldi_order.specs.Laws.{IsLast, with_answer, IsKeptLate}
-use Rattle.beldi_order.proofs.Entries.{changed, Grown, GrownAt, Grows, grows_set}
+use Rattle.beldi_order.proofs.Entries.{changed, grows_set}
+use Rattle.beldi_order.specs.Grown.{Grown, GrownAt, Grows}
 use Rattle.beldi_order.proofs.Late.{elsewhere, here}
 use Rattle.beldi_step.specs.declared.run.Run.{Run}
 use Rattle.beldi_step.specs.declared.run.Begun.{Begun}
@@ -84,6 +85,7 @@ there_last d book e q last id answers x v s few w = record {
   made = w.made;
   same = w.same;
   value = w.value;
+  unlocked = w.unlocked;
 }
 
 more_changes : (book : List Entry) (e : Entry) (s : ℕ) → s ≤ count_changes book → s ≤ count_changes (book ++ e ∷ [])
@@ -117,7 +119,7 @@ module _ (d : Deployment) (book : List Entry) (p : PlainState) (id : IntentId) (
 
   there_late : (other : IntentId) (answers : List Answer) (x : Item) (u : Value) (t : ℕ) → (id ≡ other → ⊥) → WasThere d book other answers x u t → WasThere d more other answers x u t
   there_late other answers x u t apart w = elim (nat_lt t s) as (λ b. nat_lt t s ≡ b → WasThere d more other answers x u t) [
-    | true ↦ λ e. record { state = w.state; is_state = late.before t w.state (ltb-true t s e) w.is_state; instance = w.instance; made = w.made; same = w.same; value = w.value }
+    | true ↦ λ e. record { state = w.state; is_state = late.before t w.state (ltb-true t s e) w.is_state; instance = w.instance; made = w.made; same = w.same; value = w.value; unlocked = w.unlocked }
     | false ↦ λ e. record {
       state = with_answer w.state id a v;
       is_state = late.since t w.state (ltb-false t s e) w.is_state;
@@ -125,6 +127,7 @@ module _ (d : Deployment) (book : List Entry) (p : PlainState) (id : IntentId) (
       made = elsewhere w.state.made id other (answered a (answer.Value v)) apart ∙ w.made;
       same = w.same;
       value = w.value;
+      unlocked = λ j held. w.unlocked j (sym (late.locks t w.state (ltb-false t s e) w.is_state x j) ∙ held);
     }
   ] refl
 

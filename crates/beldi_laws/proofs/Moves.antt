@@ -1,6 +1,7 @@
 -- The host after an event: what it makes of the table, and how the book and the runs went on.
-use Rattle.std.proofs.Common.{◌≡◌, ℕ, false, [], ◌∷◌, ◌++◌, Option, None, Some, refl, ap, sym, ◌∙◌, subst, is_some, append-nil}
+use Rattle.std.proofs.Common.{◌≡◌, ℕ, false, [], ◌∷◌, ◌++◌, Option, None, Some, Result, Ok, Err, refl, ap, sym, ◌∙◌, subst, is_some, append-nil}
 use Rattle.std.specs.Option.{option_map}
+use Rattle.std.specs.declared.alloc.AllocError.{AllocError}
 use Rattle.std.specs.FinMap as map
 use Rattle.beldi_value.specs.declared.id.IntentId.{IntentId}
 use Rattle.beldi_value.specs.declared.outcome.Outcome.{Outcome}
@@ -17,20 +18,31 @@ use Rattle.beldi_walk.specs.Query.{Told, said, rows_after, told_by}
 use Rattle.beldi_plain.specs.Plain.{PlainState, after, reply_of}
 use Rattle.beldi_plain.specs.Legal.{run_of}
 use Rattle.beldi_step.specs.declared.event.Seen.{Seen}
+use Rattle.beldi_step.specs.declared.event.Seen.TheVariants as seen
 use Rattle.beldi_step.specs.declared.run.Mark.{Mark}
 use Rattle.beldi_step.specs.declared.run.Run.{Run}
 use Rattle.beldi_step.specs.declared.run.Wait.{Wait}
-use Rattle.beldi_step.specs.Intent.{root_key}
+use Rattle.beldi_step.specs.declared.run.Wait.TheVariants as wait
+use Rattle.beldi_intent.specs.Intent.{root_key}
 use Rattle.beldi_step.specs.Run.{Turned}
-use Rattle.beldi_step.specs.Host.{Core, put_run, entry_of, turn_next}
+use Rattle.beldi_step.specs.Host.{Core, put_run, entry_of, turn_next, turn_seen}
 use Rattle.beldi_laws.specs.Right.{Right, RowsMatch, RunAt, RunsMatch}
 use Rattle.beldi_laws.specs.Laws.{told_outcome, is_gone}
 use Rattle.beldi_row.proofs.Gets.{got}
 use Rattle.beldi_row.proofs.Unchanged.{unchanged}
 use Rattle.beldi_order.specs.Laws.{IsLast}
-use Rattle.beldi_order.proofs.Entries.{Grows, same_some, changed, grows_self, after_grows}
+use Rattle.beldi_order.proofs.Entries.{same_some, changed, grows_self, after_grows}
+use Rattle.beldi_order.specs.Grown.{Grows}
 use Rattle.beldi_order.proofs.Growth.{change_last}
 use Rattle.beldi_laws.proofs.Lives.{runs_on, runs_put}
+use Rattle.beldi_book.specs.Order.{linear}
+use Rattle.beldi_plain.specs.Guard.{IsFree, IsGuarded}
+use Rattle.beldi_plain.specs.Plain.{nothing}
+
+-- what an event came to, as an answer: out of memory it tells no more than one that was lost
+abbrev pub seen_by : Result Seen AllocError → Seen
+seen_by (Ok x) = x
+seen_by (Err w) = seen.Dropped
 
 -- it is right; what was made before, in the plain state p, goes on; and an outcome that the answer tells is the plain one
 pub record After (d : Deployment) (p : PlainState) (b : Core) (n : Rows) (x : Seen) : Type 0 where
@@ -67,14 +79,15 @@ pub record Entered (d : Deployment) (c : Core) (p : PlainState) (e : Entry) (q :
   pub grows : Grows p.made q.made
   pub bounded : SeenBounded 0 (c.book ++ e ∷ [])
   pub legal : run_of d (c.book ++ e ∷ []) ≡ Some q
+  pub guarded : IsGuarded d nothing (linear (c.book ++ e ∷ []))
   pub runs : RunsMatch d (c.book ++ e ∷ []) q c.runs c.last_run
 
--- where the entry is a change
-pub change_entered : (d : Deployment) (c : Core) (m : Rows) (h : Right d c m) (e : Entry) (q : PlainState) → seen_of e ≡ None → after d h.plain e ≡ Some q → Entered d c h.plain e q
-change_entered d c m h e q change enabled =
-    let last : IsLast d c.book e q = change_last d c.book h.plain e q (record { bounded = h.bounded; legal = h.legal; change = change; enabled = enabled }) in
+-- where the entry is a change, and nobody else has locked its item
+pub change_entered : (d : Deployment) (c : Core) (m : Rows) (h : Right d c m) (e : Entry) (q : PlainState) → seen_of e ≡ None → after d h.plain e ≡ Some q → IsFree d h.plain e → Entered d c h.plain e q
+change_entered d c m h e q change enabled free =
+    let last : IsLast d c.book e q = change_last d c.book h.plain e q (record { bounded = h.bounded; legal = h.legal; guarded = h.guarded; change = change; enabled = enabled; free = free }) in
     let grows = after_grows d h.plain e q enabled in
-    record { grows = grows; bounded = last.bounded; legal = last.legal; runs = runs_on d c.book e h.plain q c.runs c.last_run grows last h.runs }
+    record { grows = grows; bounded = last.bounded; legal = last.legal; guarded = last.guarded; runs = runs_on d c.book e h.plain q c.runs c.last_run grows last h.runs }
 
 -- ---- a run turned, and the book has the entry of its act, if any
 abbrev reply_told : ℕ → Option Outcome → Option (ℕ × Outcome)
@@ -84,6 +97,15 @@ told_reply : (q : PlainState) (t : ℕ) (u : Option Outcome) → ((o : Outcome) 
 told_reply q t None h s o e = cc
 told_reply q t (Some u) h s o e = let both = same_some e in ap (reply_of q) (ap (λ z. z.0) (sym both)) ∙ h u refl ∙ ap (λ z. Some z.1) both
 
+-- the answer to a turn does not tell that a row is absent, and tells an outcome only where the turn gave one
+turn_there : (id : IntentId) (s : Turned) (w : Option Wait) → is_gone (turn_seen id s w) ≡ false
+turn_there id s None = refl
+turn_there id s (Some (wait.Held u)) = refl
+
+turn_silent : (id : IntentId) (s : Turned) (w : Option Wait) → s.reply ≡ None → told_outcome (turn_seen id s w) ≡ None
+turn_silent id s None none = ap (reply_told id.ticket) none
+turn_silent id s (Some (wait.Held u)) none = refl
+
 module _ (d : Deployment) (c : Core) (m n : Rows) (i : ℕ) (r : Run) (h : Right d c m) (live : map.get c.runs i ≡ Some r) (roots : SameRoots m n) where
   pub quiet : (w : Option Wait) (o : Option Run) → RunAt d c.book h.plain o → RowsMatch d n h.plain → AfterTurn d h.plain c i r.id (record { next = o; mark = None; wait = w; reply = None }) n
   quiet w o next rows = let book = sym (append-nil c.book) in record {
@@ -91,13 +113,14 @@ module _ (d : Deployment) (c : Core) (m n : Rows) (i : ℕ) (r : Run) (h : Right
       plain = h.plain;
       bounded = subst (SeenBounded 0) book h.bounded;
       legal = ap (run_of d) (append-nil c.book) ∙ h.legal;
+      guarded = subst (λ b. IsGuarded d nothing (linear b)) book h.guarded;
       rows = rows;
       tickets = λ t. roots t ∙ h.tickets t;
       runs = subst (λ b. RunsMatch d b h.plain (put_run c.runs i o) c.last_run) book (runs_put d c.book h.plain c.runs c.last_run i o (ap is_some live) next h.runs);
     };
     goes_on = grows_self h.plain.made;
-    there = refl;
-    reply = λ t o e. cc;
+    there = turn_there r.id (record { next = o; mark = None; wait = w; reply = None }) w;
+    reply = λ t u e. let none = sym (turn_silent r.id (record { next = o; mark = None; wait = w; reply = None }) w refl) ∙ e in cc;
   }
 
   pub entered : (k : Mark) (o : Option Run) (u : Option Outcome) (q : PlainState) → Entered d c h.plain (entry_of r.id k) q → ((v : Outcome) → u ≡ Some v → reply_of q r.id.ticket ≡ Some v) → RunAt d (c.book ++ entry_of r.id k ∷ []) q o → RowsMatch d n q
@@ -107,6 +130,7 @@ module _ (d : Deployment) (c : Core) (m n : Rows) (i : ℕ) (r : Run) (h : Right
       plain = q;
       bounded = leads.bounded;
       legal = leads.legal;
+      guarded = leads.guarded;
       rows = rows;
       tickets = λ t. roots t ∙ h.tickets t;
       runs = runs_put d (c.book ++ entry_of r.id k ∷ []) q c.runs c.last_run i o (ap is_some live) next leads.runs;

@@ -1,13 +1,10 @@
 -- Where the host and its rows are right, each step of an instance has one answer; and it stays, whatever comes.
-use Rattle.std.proofs.Common.{◌≡◌, inl, inr, ℕ, Bool, true, false, List, [], ◌∷◌, ◌++◌, Option, None, Some, refl, ap, sym, ◌∙◌, subst, if◌then◌else◌}
+use Rattle.std.proofs.Common.{◌≡◌, inl, inr, ℕ, false, Option, None, Some, refl, ap, sym, ◌∙◌, subst}
 use Rattle.std.specs.Prelude.{option_and_then}
 use Rattle.std.specs.Option.{option_map}
 use Rattle.std.specs.FinMap as map
 use Rattle.beldi_value.specs.declared.id.IntentId.{IntentId}
 use Rattle.beldi_value.specs.declared.place.Place.{Place}
-use Rattle.beldi_value.specs.declared.place.Owner.{Owner}
-use Rattle.beldi_value.specs.declared.value.Value.{Value}
-use Rattle.beldi_value.specs.declared.value.Value.TheVariants.{Null}
 use Rattle.beldi_tree.specs.declared.deployment.Deployment.{Deployment}
 use Rattle.beldi_lang.specs.declared.effect.Answer.{Answer}
 use Rattle.beldi_lang.specs.declared.effect.Answer.TheVariants as answer
@@ -15,17 +12,18 @@ use Rattle.beldi_lang.specs.declared.effect.Effect.TheVariants.{Read}
 use Rattle.beldi_lang.specs.Machine.{IsAt}
 use Rattle.beldi_row.specs.declared.key.RowKey.{RowKey}
 use Rattle.beldi_row.specs.declared.notes.Note.{Note}
-use Rattle.beldi_row.specs.declared.notes.Note.TheVariants.{Wrote}
 use Rattle.beldi_row.specs.declared.row.Cell.{Cell}
 use Rattle.beldi_row.specs.declared.row.IntentRow.{IntentRow}
 use Rattle.beldi_row.specs.declared.row.Row.{Row}
 use Rattle.beldi_row.specs.declared.row.Row.TheVariants as rows
 use Rattle.beldi_row.specs.declared.act.Act.{Act}
-use Rattle.beldi_row.specs.declared.act.Act.TheVariants.{Look, Issue, Bind, End, PutRead, MakeCell, WriteCell}
-use Rattle.beldi_row.specs.Act.{Tell, gone, did, act, on, on_intent, bind_to, end_with, noted_or, next_or, held_or, other_owner, wrote, write_at}
-use Rattle.beldi_row.specs.Log.{note_at, place_eq}
+use Rattle.beldi_row.specs.declared.act.Act.TheVariants.{Look, Issue, Bind, Register, End, PutRead, OpenInvoke, CallBack, NoteRegistered, MakeCell, WriteCell, CondCell, LockCell, FreeCell}
+use Rattle.beldi_row.specs.Act.{Tell, gone, no_row, act, on, on_intent, on_invoke, on_cell, bind_to, end_with, call_back_to, register_to, write_at, cond_at, lock_at, free_at}
+use Rattle.beldi_row.specs.declared.row.InvokeRow.{InvokeRow}
+use Rattle.beldi_row.specs.Log.{note_at}
 use Rattle.beldi_row.specs.Table.{Rows, after_act}
 use Rattle.beldi_daal.specs.Content.{content_in}
+use Rattle.beldi_daal.proofs.Stays.{notes_stay}
 use Rattle.beldi_readlog.specs.ReadLog.{given_in, log_key}
 use Rattle.beldi_plain.specs.Operation.{OnItem, op_of, item_in}
 use Rattle.beldi_plain.specs.Plain.{Instance}
@@ -33,15 +31,16 @@ use Rattle.beldi_step.specs.declared.run.Run.{Run}
 use Rattle.beldi_step.specs.declared.run.Begun.{Begun}
 use Rattle.beldi_step.specs.Host.{Core}
 use Rattle.beldi_order.proofs.Entries.{same_some}
-use Rattle.beldi_laws.specs.Laws.{HeldAnswersStay, OneRowChanged}
-use Rattle.beldi_laws.specs.OneAnswer.{WasGiven, HasAnswers, OneAnswerPerStep, AnswersStay}
+use Rattle.beldi_laws.specs.Laws.{HeldAnswersStay, OneRowChanged, RightHasOneAnswer}
+use Rattle.beldi_laws.specs.OneAnswer.{WasGiven, AnswersOf, OneAnswerPerStep, AnswersStay}
 use Rattle.beldi_laws.specs.Right.{Right, Knows, KnowsAt, RunAt}
-use Rattle.beldi_laws.specs.Stands.{noted_answer, held_answer, held_note, head_key}
+use Rattle.beldi_laws.specs.Stands.{held_answer, held_note, head_key}
 use Rattle.beldi_laws.proofs.Rows.{keys_at, set_here, set_others}
 use Rattle.beldi_laws.proofs.OneEvent.{one_row}
-use Rattle.beldi_laws.proofs.Standing.{held_here}
+use Rattle.beldi_laws.proofs.Standing.{held_here, same_run}
 use Rattle.beldi_order.specs.Sane.{effect_before}
 use Rattle.beldi_order.proofs.Sanes.{sane_of, legal_is_sane}
+use Rattle.beldi_step.specs.Run.{noted_answer}
 
 -- ---- one answer
 module _ (d : Deployment) (c : Core) (m : Rows) (h : Right d c m) (id : IntentId) where
@@ -49,7 +48,7 @@ module _ (d : Deployment) (c : Core) (m : Rows) (h : Right d c m) (id : IntentId
   known : (i : ℕ) (r : Run) (g : Begun) → map.get c.runs i ≡ Some r → r.at ≡ Some g → Knows d c.book h.plain r g
   known i r g live at = subst (λ o. KnowsAt d c.book h.plain r o) at (subst (λ o. RunAt d c.book h.plain o) live (h.runs.runs i))
 
-  given_of : (q : Instance) (r : Run) (g : Begun) → map.get h.plain.made id ≡ Some q → r.id ≡ id → Knows d c.book h.plain r g → WasGiven d q.func q.args q.answers r g
+  given_of : (q : Instance) (r : Run) (g : Begun) → map.get h.plain.made id ≡ Some q → r.id ≡ id → Knows d c.book h.plain r g → WasGiven d q r g
   given_of q r g made same k =
       let is : k.instance ≡ q = same_some (sym k.made ∙ ap (map.get h.plain.made) same ∙ made) in
       let func : r.func ≡ q.func = sym k.func ∙ ap (λ z. z.func) is in
@@ -61,73 +60,44 @@ module _ (d : Deployment) (c : Core) (m : Rows) (h : Right d c m) (id : IntentId
         machine = subst (λ a. IsAt d q.func a false g.machine k.answers) (ap (λ z. z.args) is) (subst (λ f. IsAt d f k.instance.args false g.machine k.answers) func k.machine);
       }
 
-  answers_of : (o : Option Instance) → map.get h.plain.made id ≡ o → HasAnswers d c m id
-  answers_of None none = record {
-    func = 0;
-    args = Null;
-    answers = [];
-    held = λ n a e. cc;
-    runs = λ i r g live same at. let k = known i r g live at in let clash : Some k.instance ≡ None = sym k.made ∙ ap (map.get h.plain.made) same ∙ none in cc;
-  }
+  answers_of : (o : Option Instance) → map.get h.plain.made id ≡ o → AnswersOf d c m id o
+  answers_of None none = λ r g b. let k = known b.number r g b.live b.begun in let clash : Some k.instance ≡ None = sym k.made ∙ ap (map.get h.plain.made) b.same_id ∙ none in cc
   answers_of (Some q) made = record {
-    func = q.func;
-    args = q.args;
-    answers = q.answers;
     held = λ n a e. held_here d m h.plain h.rows id q n a (effect_before d q n) made e refl ((sane_of d h.plain id q (legal_is_sane d c.book h.plain h.legal) made).past n a e);
-    runs = λ i r g live same at. given_of q r g made same (known i r g live at);
+    runs = λ r g b. given_of q r g made b.same_id (known b.number r g b.live b.begun);
   }
 
-pub one_answer : (d : Deployment) (c : Core) (m : Rows) → Right d c m → OneAnswerPerStep d c m
-one_answer d c m h id = answers_of d c m h id (map.get h.plain.made id) refl
+pub one_answer : RightHasOneAnswer
+one_answer d c m p h is = subst (OneAnswerPerStep d c m) (same_run d c m p h is) (λ id. answers_of d c m h id (map.get h.plain.made id) refl)
 
--- ---- it stays: no act takes away what a read was given, or a note
-front_note : (es fs : List (Place × Note)) (p : Place) (n : Note) → note_at es p ≡ Some n → note_at (es ++ fs) p ≡ Some n
-front_note [] fs p n is = cc
-front_note (e ∷ es) fs p n is = by_test (place_eq e.0 p) is (front_note es fs p n)
-  where
-    by_test : (b : Bool) → (if b then Some e.1 else note_at es p) ≡ Some n → (note_at es p ≡ Some n → note_at (es ++ fs) p ≡ Some n) → (if b then Some e.1 else note_at (es ++ fs) p) ≡ Some n
-    by_test true is more = is
-    by_test false is more = more is
+-- ---- it stays: no act takes away what a read was given, nor a note
+on_intents : (f : IntentRow → IntentRow × Tell) (t : Tell) (r : Row) → given_in (on_intent f t r).0 ≡ given_in r
+on_intents f t (rows.Intent i) = refl
+on_intents f t r = refl
 
-module _ (c : Cell) where
-  abbrev KeepsNotes : Cell × Tell → Type 0
-  KeepsNotes z = (p : Place) (n : Note) → note_at c.log p ≡ Some n → note_at z.0.log p ≡ Some n
+on_calls : (f : InvokeRow → InvokeRow × Tell) (t : Tell) (r : Row) → given_in (on_invoke f t r).0 ≡ given_in r
+on_calls f t (rows.Invoke i) = refl
+on_calls f t r = refl
 
-  by_note : (o : Option Note) (z : Cell × Tell) → KeepsNotes z → KeepsNotes (noted_or c o z)
-  by_note None z h = h
-  by_note (Some n) z h = λ p n is. is
+on_cells : (f : Cell → Cell × Tell) (t : Tell) (r : Row) → given_in (on_cell f t r).0 ≡ given_in r
+on_cells f t (rows.Cell c) = refl
+on_cells f t r = refl
 
-  by_next : (o : Option ℕ) (z : Cell × Tell) → KeepsNotes z → KeepsNotes (next_or c o z)
-  by_next None z h = h
-  by_next (Some n) z h = λ p n is. is
-
-  by_owner : (o : Option Owner) (z : Cell × Tell) → KeepsNotes z → KeepsNotes (held_or c o z)
-  by_owner None z h = h
-  by_owner (Some o) z h = λ p n is. is
-
-  written : (p : Place) (w : Owner) (v : Value) → KeepsNotes (write_at p w v c)
-  written p w v =
-      let r : Cell × Tell = (wrote p v c, did) in
-      let s = held_or c (other_owner w c.owner) r in
-      by_note (note_at c.log p) (next_or c c.next s) (by_next c.next s (by_owner (other_owner w c.owner) r (λ q n is. front_note c.log ((p, Wrote) ∷ []) q n is)))
-
--- the row s has what the row r has
-abbrev Stays : Row → Row → Type 0
-Stays r s = (given_in s ≡ given_in r) × ((p : Place) (n : Note) → note_at (content_in (Some r)).notes p ≡ Some n → note_at (content_in (Some s)).notes p ≡ Some n)
-
-intent_stays : (f : IntentRow → IntentRow × Tell) (t : Tell) (r : Row) → Stays r (on_intent f t r).0
-intent_stays f t (rows.Intent i) = (refl, λ p n is. is)
-intent_stays f t r = (refl, λ p n is. is)
-
-row_stays : (a : Act) (now : ℕ) (r : Row) → Stays r (on a now r).0
-row_stays Look now r = (refl, λ p n is. is)
-row_stays Issue now r = (refl, λ p n is. is)
-row_stays (Bind f v) now r = intent_stays (λ i. bind_to f v i i.body) gone r
-row_stays (End o s) now r = intent_stays (λ i. end_with o s now i i.outcome) gone r
-row_stays (PutRead v) now r = (refl, λ p n is. is)
-row_stays (MakeCell v o) now r = (refl, λ p n is. is)
-row_stays (WriteCell q w v) now (rows.Cell c) = (refl, written c q w v)
-row_stays (WriteCell q w v) now r = (refl, λ p n is. is)
+given_stays : (a : Act) (now : ℕ) (r : Row) → given_in (on a now r).0 ≡ given_in r
+given_stays Look now r = refl
+given_stays Issue now r = refl
+given_stays (Bind f v) now r = on_intents (λ i. bind_to f v i i.body) gone r
+given_stays (Register b) now r = refl
+given_stays (End o s) now r = on_intents (λ i. end_with o s now i i.outcome) gone r
+given_stays (PutRead v) now r = refl
+given_stays (OpenInvoke f) now r = refl
+given_stays (CallBack o) now r = on_calls (λ i. call_back_to o i i.result) gone r
+given_stays NoteRegistered now r = on_calls (λ i. register_to i i.registered) gone r
+given_stays (MakeCell v o) now r = refl
+given_stays (WriteCell p w v) now r = on_cells (write_at p w v) no_row r
+given_stays (CondCell p w k o v) now r = on_cells (cond_at p w k o v) no_row r
+given_stays (LockCell p w) now r = on_cells (lock_at p w) no_row r
+given_stays (FreeCell p w v) now r = on_cells (free_at p w v) no_row r
 
 of_note : (o : Option Note) (x : Answer) → option_and_then noted_answer o ≡ Some x → (n : Note) × (o ≡ Some n)
 of_note None x is = cc
@@ -135,11 +105,10 @@ of_note (Some n) x is = (n, refl)
 
 value_stays : (a : Act) (now : ℕ) (x : Answer) (o : Option Row) → option_map answer.Value (option_map given_in o) ≡ Some x → option_map answer.Value (option_map given_in (act a now o).0) ≡ Some x
 value_stays a now x None is = cc
-value_stays a now x (Some r) is = ap (λ v. Some (answer.Value v)) (row_stays a now r).0 ∙ is
+value_stays a now x (Some r) is = ap (λ v. Some (answer.Value v)) (given_stays a now r) ∙ is
 
 note_stays : (a : Act) (now : ℕ) (p : Place) (x : Answer) (o : Option Row) → option_and_then noted_answer (note_at (content_in o).notes p) ≡ Some x → option_and_then noted_answer (note_at (content_in (act a now o).0).notes p) ≡ Some x
-note_stays a now p x None is = cc
-note_stays a now p x (Some r) is = let n = of_note (note_at (content_in (Some r)).notes p) x is in ap (option_and_then noted_answer) ((row_stays a now r).1 p n.0 n.1 ∙ sym n.1) ∙ is
+note_stays a now p x o is = let n = of_note (note_at (content_in o).notes p) x is in ap (option_and_then noted_answer) (notes_stay a now o p n.0 n.1 ∙ sym n.1) ∙ is
 
 -- what is so of each row that an act finds, and of the one that it leaves
 module _ (a : Act) (now : ℕ) (k : RowKey) (m : Rows) (P : Option Row → Type 0) (stays : (o : Option Row) → P o → P (act a now o).0) where

@@ -1,42 +1,54 @@
--- What one event changes: at most one row, and at most one entry of the book, which its answer tells.
-use Rattle.std.proofs.Common.{◌≡◌, inl, inr, ℕ, ◌==◌, ◌+◌, ◌||◌, nat_lt, Bool, true, false, [], ◌++◌, Option, Some, None, Ok, Err, if◌then◌else◌, refl, ap, sym, ◌∙◌, subst}
+-- What one event changes: at most one row, never past the room, and at most one entry of the book, which its answer tells.
+use Rattle.std.proofs.Common.{◌≡◌, inl, inr, ℕ, ◌≤◌, ◌<◌, not, cond, IsTrue, is_some, arith, ◌==◌, ◌+◌, ◌||◌, nat_lt, Bool, true, false, [], Option, Some, None, Result, Ok, Err, if◌then◌else◌, refl, ap, sym, ◌∙◌, subst}
 use Rattle.std.proofs.lemmas.List.{append-nil}
-use Rattle.std.specs.Prelude.{option_to_list}
+use Rattle.std.specs.Prelude.{◌&&◌, ◌-◌, ◌^◌, nat_le, option_to_list, IfOk}
+use Rattle.std.specs.declared.alloc.AllocError.{AllocError}
 use Rattle.std.specs.Option.{option_map}
 use Rattle.std.specs.FinMap as map
+use Rattle.std.specs.FinMap.{len-insert, len-remove}
 use Rattle.beldi_value.specs.declared.id.IntentId.{IntentId}
 use Rattle.beldi_value.specs.declared.value.Value.{Value}
 use Rattle.beldi_tree.specs.declared.deployment.Deployment.{Deployment}
-use Rattle.beldi_book.specs.declared.entry.Entry.{Entry}
 use Rattle.beldi_book.specs.declared.entry.Entry.TheVariants.{Start}
 use Rattle.beldi_book.specs.Order.{count_changes}
 use Rattle.beldi_row.specs.declared.key.RowKey.{RowKey}
 use Rattle.beldi_row.specs.declared.act.Act.{Act as RowAct}
-use Rattle.beldi_row.specs.Act.{act}
+use Rattle.beldi_row.specs.Act.{act, off}
+use Rattle.beldi_row.specs.KeyOrder.{key_total}
+use Rattle.beldi_row.specs.declared.row.Row.{Row}
 use Rattle.beldi_row.specs.Key.{least_key}
-use Rattle.beldi_row.specs.Table.{Rows, after_act}
+use Rattle.beldi_row.specs.declared.table.TableErr.{TableErr}
+use Rattle.beldi_row.specs.declared.table.TableErr.TheVariants.{OutOfMemory, Failed, Full}
+use Rattle.beldi_row.specs.Table.{Rows, TableState, Rose, set_row, after_act}
 use Rattle.beldi_walk.specs.declared.query.Query.{Query}
 use Rattle.beldi_walk.specs.declared.query.Query.TheVariants.{Act, After}
-use Rattle.beldi_walk.specs.Query.{Told, rows_after, told_by}
+use Rattle.beldi_walk.specs.Query.{Told, lends, rows_after, query_adds, CameOn}
+use Rattle.beldi_walk.proofs.Lent.{refused_stand}
 use Rattle.beldi_daal.specs.Content.{content_in}
 use Rattle.beldi_step.specs.declared.event.Event.{Event}
 use Rattle.beldi_step.specs.declared.event.Event.TheVariants.{Ticket, Request, Turn, Lost, Crash, Restart}
 use Rattle.beldi_step.specs.declared.event.Seen.{Seen}
 use Rattle.beldi_step.specs.declared.event.Seen.TheVariants as seen
-use Rattle.beldi_step.specs.declared.intent.Binding.{Binding}
-use Rattle.beldi_step.specs.declared.intent.Binding.TheVariants as binding
+use Rattle.beldi_intent.specs.declared.intent.Binding.{Binding}
+use Rattle.beldi_intent.specs.declared.intent.Binding.TheVariants as binding
 use Rattle.beldi_step.specs.declared.run.Mark.{Mark}
 use Rattle.beldi_step.specs.declared.run.Mark.TheVariants as mark
 use Rattle.beldi_step.specs.declared.run.Run.{Run}
-use Rattle.beldi_step.specs.Intent.{is_added, binding_of}
-use Rattle.beldi_step.specs.Run.{run_told}
-use Rattle.beldi_step.specs.Host.{Core, Plan, at_once, asks, counted, plan, no_run, entry_of, ticket_next, request_next, run_next, unheard_next, heard}
-use Rattle.beldi_step.proofs.Plans.{PlanHolds, AskHolds, plan_of_holds, plan_holds}
-use Rattle.beldi_step.specs.Forms.{is_lost, dropped, Made, Acts, Asks, Follows, IsOneEvent, Breaks}
+use Rattle.beldi_step.specs.declared.run.Begun.{Begun}
+use Rattle.beldi_step.specs.declared.run.Wait.{Wait}
+use Rattle.beldi_step.specs.declared.run.Wait.TheVariants as wait
+use Rattle.beldi_step.specs.declared.run.Says.{Says}
+use Rattle.beldi_step.specs.declared.run.Says.TheVariants as says
+use Rattle.beldi_tree.specs.declared.deployment.Func.{Func}
+use Rattle.beldi_tree.specs.Names.{func_at}
+use Rattle.beldi_intent.specs.Intent.{args_told}
+use Rattle.beldi_intent.specs.Intent.{is_added, binding_of}
+use Rattle.beldi_step.specs.Run.{Turned, turned_by, begin_in, told_at, stage_says, run_told}
+use Rattle.beldi_step.specs.Host.{turn_next, turn_seen, acted, Core, Plan, at_once, asks, counted, plan, plan_of, run_plan, crash_plan, most_runs, most_events, no_run, ended_run, entry_of, marked, ticket_next, request_next, run_next, unheard_next, heard, no_memory, if_lent, refused, refused_by, Followed, StepBy, EventBy, is_lost, is_dropped}
 use Rattle.beldi_order.proofs.Entries.{same_some}
 use Rattle.beldi_laws.specs.Stands.{head_key, content_of}
 use Rattle.beldi_laws.proofs.Rows.{set_others}
-use Rattle.beldi_laws.specs.Laws.{OneRowChanged, ChangesOneRow, BookGrew, WritesWhatIsTold, entries_told, starts_of, bound_of}
+use Rattle.beldi_laws.specs.Laws.{OneRowChanged, ChangesOneRow, KeepsRoom, BookGrew, WritesWhatIsTold, DropsHaveCause, entries_told, starts_of, bound_of, bound_by}
 
 -- ---- rows
 same_rows : (c : Core) (m n : Rows) → n ≡ m → OneRowChanged c m n
@@ -53,28 +65,48 @@ by_query : (c : Core) (q : Query) (m n : Rows) → n ≡ rows_after q c.now m �
 by_query c (Act k a) m n is = one_act c m n k a is
 by_query c (After k) m n is = same_rows c m n is
 
-module _ (d : Deployment) (room old new : ℕ) (e : Event) (c b : Core) (m n : Rows) (x : Seen) where
-  acts_on_one : (q : Query) (x : Seen) → Acts d room old new e c q m b n x → OneRowChanged c m n
-  acts_on_one q (seen.Full live most) s = same_rows c m n s.0
-  acts_on_one q seen.Dropped s = same_rows c m n s.0
-  acts_on_one q x s = by_query c q m n s.0
+came_on_one : (c : Core) (room : ℕ) (q : Query) (w : Result Told TableErr) (m n : Rows) → CameOn q c.now room w m n → OneRowChanged c m n
+came_on_one c room q (Ok t) m n p = by_query c q m n p.0
+came_on_one c room q (Err v) m n p = same_rows c m n (refused_stand q c.now room v m n p)
 
-  asks_on_one : (lost : Bool) (q : Query) → Asks d room old new lost e c q m b n x → OneRowChanged c m n
-  asks_on_one false q s = acts_on_one q x s
-  asks_on_one true q s = elim s.1 [ inl s ↦ by_query c q m n s.0 | inr s ↦ same_rows c m n s.0 ]
-
-  follows_on_one : (p : Plan) → Follows d room old new e c p m b n x → OneRowChanged c m n
-  follows_on_one (at_once k y) s = same_rows c m n s.0
-  follows_on_one (asks q) s = asks_on_one (is_lost e) q s
-
-break_on_one : (d : Deployment) (e : Event) (c b : Core) (m n : Rows) → Breaks d e c m b n → OneRowChanged c m n
-break_on_one d (Turn i) c b m n s = elim s [ inl s ↦ same_rows c m n s.0 | inr s ↦ by_query c s.0 m n s.2 ]
-break_on_one d (Crash i) c b m n s = absurd s
-break_on_one d e c b m n s = same_rows c m n s.0
+by_plan : (d : Deployment) (room old new : ℕ) (e : Event) (c b : Core) (m n : Rows) (r : Result Seen AllocError) (p : Plan) → EventBy d room old new e c p m b n r → OneRowChanged c m n
+by_plan d room old new e c b m n r (at_once k y) s = same_rows c m n s.1
+by_plan d room old new e c b m n r (asks q) s = came_on_one c room q s.0 m n s.2
 
 pub one_row : ChangesOneRow
-one_row d room old new e c b m n (Ok x) s = let o = follows_on_one d room old new e (counted c) b m n x (plan e c) s in record { key = o.key; rows = o.rows; others = o.others }
-one_row d room old new e c b m n (Err w) s = break_on_one d e c b m n s.1
+one_row d room old new e c b m n r s = let o = by_plan d room old new e (counted c) b m n r (plan e c) s in record { key = o.key; rows = o.rows; others = o.others }
+
+-- ---- no event takes the rows past the room
+set_fits : (m : Rows) (k : RowKey) (room : ℕ) (v : Option Row) → map.len m ≤ room → (IsTrue (not (map.contains_key m k) && is_some v) → map.len m < room) → map.len (set_row m k v) ≤ room
+set_fits m k room None h more = subst (λ n. n ≤ room) (sym (len-remove key_total m k)) (by_test (map.contains_key m k))
+  where
+    by_test : (b : Bool) → cond b (map.len m - 1) (map.len m) ≤ room
+    by_test true = omega (arith, h)
+    by_test false = h
+set_fits m k room (Some r) h more = subst (λ n. n ≤ room) (sym (len-insert key_total m k r)) (by_test (map.contains_key m k) more)
+  where
+    by_test : (b : Bool) → (IsTrue (not b && true) → map.len m < room) → cond b (map.len m) (map.len m + 1) ≤ room
+    by_test true more = h
+    by_test false more = omega (arith, more refl)
+
+adds_row : (a : RowAct) (now : ℕ) (o : Option Row) → IsTrue (not (is_some o) && is_some (act a now o).0) → IsTrue (not (is_some o) && is_some (off a now).0)
+adds_row a now None h = h
+adds_row a now (Some r) h = cc
+
+query_fits : (q : Query) (now room : ℕ) (m : Rows) → map.len m ≤ room → (IsTrue (query_adds q now m) → map.len m < room) → map.len (rows_after q now m) ≤ room
+query_fits (Act k a) now room m h more = set_fits m k room (act a now (map.get m k)).0 h (λ t. more (adds_row a now (map.get m k) t))
+query_fits (After k) now room m h more = h
+
+came_fits : (q : Query) (now room : ℕ) (w : Result Told TableErr) (m n : Rows) → CameOn q now room w m n → map.len m ≤ room → map.len n ≤ room
+came_fits q now room (Ok t) m n p h = subst (λ l. map.len l ≤ room) (sym p.0) (query_fits q now room m h p.2)
+came_fits q now room (Err v) m n p h = subst (λ l. map.len l ≤ room) (sym (refused_stand q now room v m n p)) h
+
+plan_fits : (d : Deployment) (room old new : ℕ) (e : Event) (c b : Core) (m n : Rows) (r : Result Seen AllocError) (p : Plan) → EventBy d room old new e c p m b n r → map.len m ≤ room → map.len n ≤ room
+plan_fits d room old new e c b m n r (at_once k y) s h = subst (λ l. map.len l ≤ room) (sym s.1) h
+plan_fits d room old new e c b m n r (asks q) s h = came_fits q c.now room s.0 m n s.2 h
+
+pub keeps_room : KeepsRoom
+keeps_room d room old new e c b m n r s h = plan_fits d room old new e (counted c) b m n r (plan e c) s h
 
 -- ---- the book
 -- the entry of an act starts nothing
@@ -83,127 +115,202 @@ act_starts_none id None = refl
 act_starts_none id (Some (mark.Read seen)) = refl
 act_starts_none id (Some mark.Step) = refl
 
-dropped_book : (e : Event) (c : Core) → (dropped e c).book ≡ c.book
-dropped_book (Turn i) c = refl
-dropped_book e c = refl
-
 -- an answer that tells no entry
-IsSilent : Seen → Type 0
-IsSilent (seen.Bound t run) = ⊥
-IsSilent (seen.Acted entry over reply) = ⊥
-IsSilent x = Unit {0}
+abbrev is_silent : Seen → Bool
+is_silent (seen.Bound t run) = false
+is_silent (seen.Acted entry over reply) = false
+is_silent x = true
 
-told_none : (e : Event) (x : Seen) → IsSilent x → entries_told e x ≡ []
-unfolding IsSilent
-told_none e (seen.Bound t run) silent = absurd silent
-told_none e (seen.Acted entry over reply) silent = absurd silent
-told_none e x silent = refl
+told_none : (e : Event) (x : Seen) → is_silent x ≡ true → (entries_told e x ≡ []) × (bound_of e x ≡ [])
+told_none e (seen.Bound t run) silent = cc
+told_none e (seen.Acted entry over reply) silent = cc
+told_none e x silent = (refl, refl)
 
-bound_none : (e : Event) (x : Seen) → IsSilent x → bound_of e x ≡ []
-unfolding IsSilent
-bound_none e (seen.Bound t run) silent = absurd silent
-bound_none e x silent = refl
+-- out of memory for what was lent, nothing was done
+pub lent_only : (b : Bool) (c z : Core) → if_lent b c ≡ Some z → (z ≡ c) × (b ≡ true)
+lent_only true c z h = (same_some (sym h), refl)
+lent_only false c z h = cc
 
 -- nothing is written, and nothing told
-none : (e : Event) (c b : Core) (x : Seen) → b.book ≡ c.book → IsSilent x → BookGrew e c b x
-none e c b x same silent = record { entry = None; book = same ∙ sym (append-nil c.book); starts = sym (bound_none e x silent); told = λ l. sym (told_none e x silent) }
+none : (e : Event) (c b : Core) (x : Seen) → b.book ≡ c.book → is_silent x ≡ true → BookGrew e c b (Ok x)
+none e c b x same silent = let t = told_none e x silent in record { entry = None; book = same ∙ sym (append-nil c.book); starts = sym t.1; told = λ l. sym t.0 }
 
-no_run_silent : (b : Bool) → IsSilent (if b then seen.NoRun else seen.RunOver)
-unfolding IsSilent
-no_run_silent true = tt
-no_run_silent false = tt
+none_told : (e : Event) (c b : Core) (w : AllocError) → b.book ≡ c.book → BookGrew e c b (Err w)
+none_told e c b w same = record { entry = None; book = same ∙ sym (append-nil c.book); starts = refl; told = tt }
 
--- an answer at once leaves the book as it was, and tells no entry
-Silent : Core → Core → Seen → Type 0
-Silent c b y = (b.book ≡ c.book) × IsSilent y
+-- a plan by a test
+pub if_plan : (S : Plan → Type 0) (b : Bool) (p q : Plan) → (b ≡ true → S p) → (b ≡ false → S q) → S (if b then p else q)
+if_plan S true p q g h = g refl
+if_plan S false p q g h = h refl
 
-plan_silent : (e : Event) (c : Core) → PlanHolds (Silent (counted c)) (λ q. Unit {0}) (plan e c)
-unfolding Silent IsSilent
-plan_silent e c = plan_holds (Silent (counted c)) (λ q. Unit {0}) e c (refl, tt) (λ few. plan_of_holds (Silent (counted c)) (λ q. Unit {0}) e (counted c)
-    (record { no_ticket = (refl, tt); unknown = λ t. (refl, tt); crowded = (refl, tt); no_run = (refl, tt); run_over = (refl, tt); crashed = λ i. (refl, tt); restarts = λ id f is room. (refl, tt) }) (asks_any e (counted c)))
+-- an answer at once leaves the book as it was, and tells no entry; and it is not dropped
+abbrev PlanTells : Core → Plan → Type 0
+PlanTells c (at_once b y) = (b.book ≡ c.book) × (is_silent y ≡ true) × (is_dropped y ≡ false)
+PlanTells c (asks q) = Unit {0}
+
+no_run_tells : (c : Core) (b : Bool) → PlanTells c (at_once c (if b then seen.NoRun else seen.RunOver))
+no_run_tells c true = (refl, refl, refl)
+no_run_tells c false = (refl, refl, refl)
+
+run_tells : (c : Core) (i : ℕ) (o : Option Run) → PlanTells c (run_plan c i o)
+run_tells c i None = no_run_tells c ((i == 0) || nat_lt c.last_run i)
+run_tells c i (Some r) = tt
+
+crash_tells : (c : Core) (i : ℕ) (o : Option Run) → PlanTells c (crash_plan c i o)
+crash_tells c i None = no_run_tells c ((i == 0) || nat_lt c.last_run i)
+crash_tells c i (Some r) = (refl, refl, refl)
+
+plan_of_tells : (e : Event) (c : Core) → PlanTells c (plan_of e c)
+plan_of_tells Ticket c = if_plan (PlanTells c) (c.newest == 2 ^ 32 - 1) _ _ (λ t. (refl, refl, refl)) (λ t. tt)
+plan_of_tells (Request t f a) c =
+    if_plan (PlanTells c) ((t == 0) || nat_lt c.newest t) _ _ (λ u. (refl, refl, refl)) (λ u. if_plan (PlanTells c) (nat_le most_runs (map.len c.runs)) _ _ (λ u. (refl, refl, refl)) (λ u. tt))
+plan_of_tells (Turn i) c = run_tells c i (map.get c.runs i)
+plan_of_tells (Lost i) c = run_tells c i (map.get c.runs i)
+plan_of_tells (Crash i) c = crash_tells c i (map.get c.runs i)
+plan_of_tells (Restart id f) c = if_plan (PlanTells c) (nat_le most_runs (map.len c.runs)) _ _ (λ u. (refl, refl, refl)) (λ u. (refl, refl, refl))
+
+plan_tells : (e : Event) (c : Core) → PlanTells (counted c) (plan e c)
+plan_tells e c = if_plan (PlanTells (counted c)) (nat_lt c.taken most_events) _ _ (λ few. plan_of_tells e (counted c)) (λ spent. (refl, refl, refl))
+
+-- a run that waits has made no entry
+says_unmarked : (d : Deployment) (r : Run) (g : Begun) (s : Says) (w : Wait) → (turned_by d r g s).wait ≡ Some w → (turned_by d r g s).mark ≡ None
+says_unmarked d r g (says.Waits u) w is = refl
+says_unmarked d r g s w is = cc
+
+begins_unmarked : (d : Deployment) (r : Run) (f : Option Func) (a : Option Value) (w : Wait) → (begin_in d r f a).wait ≡ Some w → (begin_in d r f a).mark ≡ None
+begins_unmarked d r f None w is = cc
+begins_unmarked d r None (Some a) w is = cc
+begins_unmarked d r (Some f) (Some a) w is = cc
+
+waits_unmarked : (d : Deployment) (n : ℕ) (r : Run) (t : Told) (w : Wait) → (run_told d n r t).wait ≡ Some w → (run_told d n r t).mark ≡ None
+waits_unmarked d n r t w = by_at r.at
   where
-    asks_any : (e : Event) (k : Core) → AskHolds (Silent (counted c)) (λ q. Unit {0}) e k
-    asks_any (Request t f a) k = λ known few. tt
-    asks_any (Turn i) k = λ r is. tt
-    asks_any (Lost i) k = λ r is. tt
-    asks_any e k = tt
+    by_at : (at : Option Begun) → (told_at d n r at t).wait ≡ Some w → (told_at d n r at t).mark ≡ None
+    by_at None is = begins_unmarked d r (func_at d r.func) (args_told r.func t) w is
+    by_at (Some g) is = says_unmarked d r g (stage_says r.id n g.machine.effect g.stage t) w is
 
--- where nobody hears, or memory was wanting, the book gets at most one entry, which starts nothing
-pub record Wrote (c b : Core) : Type 0 where
-  pub entry : Option Entry
-  pub book : b.book ≡ c.book ++ option_to_list entry
-  pub starts : starts_of (option_to_list entry) ≡ []
+-- what is left by an act of an intent, which makes an entry or none
+act_grew : (e : Event) (c b : Core) (r : Result Seen AllocError) (id : IntentId) (k : Option Mark) → b.book ≡ marked c.book id k → bound_by e r ≡ []
+    → IfOk r (λ x. (is_lost e && is_dropped x) ≡ false → option_to_list (option_map (entry_of id) k) ≡ entries_told e x) → BookGrew e c b r
+act_grew e c b r id k book none told = record { entry = option_map (entry_of id) k; book = book; starts = act_starts_none id k ∙ sym none; told = told }
 
-wrote_none : (c b : Core) → b.book ≡ c.book → Wrote c b
-wrote_none c b same = record { entry = None; book = same ∙ sym (append-nil c.book); starts = refl }
-
-unheard_wrote : (d : Deployment) (c : Core) (i : ℕ) (t : Told) (o : Option Run) → Wrote c (unheard_next d c i t o)
-unheard_wrote d c i t None = wrote_none c c refl
-unheard_wrote d c i t (Some r) = let k = (run_told d (count_changes c.book) r t).mark in record { entry = option_map (entry_of r.id) k; book = refl; starts = act_starts_none r.id k }
-
--- what was heard: the entry of the act is told
 module _ (d : Deployment) (c : Core) where
-  ticket_grew : (b : Bool) → BookGrew Ticket c (ticket_next c b).0 (ticket_next c b).1
-  unfolding IsSilent
-  ticket_grew true = none Ticket c (record c { newest = c.newest + 1 }) (seen.Issued (c.newest + 1)) refl tt
-  ticket_grew false = none Ticket c c (seen.Gone (c.newest + 1)) refl tt
+  ticket_grew : (b : Bool) → BookGrew Ticket c (ticket_next c b).0 (Ok (ticket_next c b).1)
+  ticket_grew true = none Ticket c (record c { newest = c.newest + 1 }) (seen.Issued (c.newest + 1)) refl refl
+  ticket_grew false = none Ticket c c (seen.Gone (c.newest + 1)) refl refl
 
-  request_grew : (t f : ℕ) (a : Value) (u : Binding) → BookGrew (Request t f a) c (request_next c t f a u).0 (request_next c t f a u).1
-  unfolding IsSilent
+  request_grew : (t f : ℕ) (a : Value) (u : Binding) → BookGrew (Request t f a) c (request_next c t f a u).0 (Ok (request_next c t f a u).1)
   request_grew t f a binding.Bound = record { entry = Some (Start t f a); book = refl; starts = refl; told = λ l. refl }
-  request_grew t f a (binding.Other g v) = none (Request t f a) c c (seen.Other t g v) refl tt
-  request_grew t f a (binding.Ended o) = none (Request t f a) c c (seen.Replied t o) refl tt
-  request_grew t f a binding.Running = none (Request t f a) c c (seen.Running t) refl tt
-  request_grew t f a binding.Gone = none (Request t f a) c c (seen.Gone t) refl tt
+  request_grew t f a (binding.Other g v) = none (Request t f a) c c (seen.Other t g v) refl refl
+  request_grew t f a (binding.Ended o) = none (Request t f a) c c (seen.Replied t o) refl refl
+  request_grew t f a binding.Running = none (Request t f a) c c (seen.Running t) refl refl
+  request_grew t f a binding.Gone = none (Request t f a) c c (seen.Gone t) refl refl
 
-  run_grew : (i : ℕ) (t : Told) (o : Option Run) → BookGrew (Turn i) c (run_next d c i t o).0 (run_next d c i t o).1
-  run_grew i t None = none (Turn i) c c (no_run c i) refl (no_run_silent ((i == 0) || nat_lt c.last_run i))
-  run_grew i t (Some r) = let k = (run_told d (count_changes c.book) r t).mark in record { entry = option_map (entry_of r.id) k; book = refl; starts = act_starts_none r.id k; told = λ l. refl }
+  run_grew : (i : ℕ) (t : Told) (o : Option Run) → BookGrew (Turn i) c (run_next d c i t o).0 (Ok (run_next d c i t o).1)
+  run_grew i t None = none (Turn i) c c (no_run c i) refl (no_run_tells c ((i == 0) || nat_lt c.last_run i)).1
+  run_grew i t (Some r) = by_wait (run_told d (count_changes c.book) r t) (run_told d (count_changes c.book) r t).wait refl (waits_unmarked d (count_changes c.book) r t)
+    where
+      by_wait : (s : Turned) (o : Option Wait) → s.wait ≡ o → ((w : Wait) → s.wait ≡ Some w → s.mark ≡ None) → BookGrew (Turn i) c (turn_next c i r.id s).0 (Ok (turn_seen r.id s o))
+      by_wait s None is none = act_grew (Turn i) c (turn_next c i r.id s).0 (Ok (acted r.id s)) r.id s.mark refl refl (λ l. refl)
+      by_wait s (Some (wait.Held w)) is none = act_grew (Turn i) c (turn_next c i r.id s).0 (Ok (seen.Held w)) r.id s.mark refl refl (λ l. ap (λ m. option_to_list (option_map (entry_of r.id) m)) (none (wait.Held w) is))
 
-  heard_grew : (e : Event) (t : Told) → BookGrew e c (heard d e c t).0 (heard d e c t).1
-  unfolding IsSilent
+  -- nobody hears
+  lost_grew : (i : ℕ) (t : Told) (o : Option Run) → BookGrew (Lost i) c (unheard_next d c i t o) (Ok seen.Dropped)
+  lost_grew i t None = none (Lost i) c c seen.Dropped refl refl
+  lost_grew i t (Some r) = act_grew (Lost i) c (unheard_next d c i t (Some r)) (Ok seen.Dropped) r.id (run_told d (count_changes c.book) r t).mark refl refl (λ l. cc)
+
+  unheard_grew : (i : ℕ) (t : Told) (w : AllocError) (o : Option Run) → BookGrew (Turn i) c (unheard_next d c i t o) (Err w)
+  unheard_grew i t w None = none_told (Turn i) c c w refl
+  unheard_grew i t w (Some r) = act_grew (Turn i) c (unheard_next d c i t (Some r)) (Err w) r.id (run_told d (count_changes c.book) r t).mark refl refl tt
+
+  heard_grew : (e : Event) (t : Told) → BookGrew e c (heard d e c t).0 (Ok (heard d e c t).1)
   heard_grew Ticket t = ticket_grew (is_added t)
   heard_grew (Request u f a) t = request_grew u f a (binding_of t)
   heard_grew (Turn i) t = run_grew i t (map.get c.runs i)
-  heard_grew (Lost i) t = let w = unheard_wrote d c i t (map.get c.runs i) in record { entry = w.entry; book = w.book; starts = w.starts; told = λ l. cc }
-  heard_grew (Crash i) t = none (Crash i) c c seen.Crashed refl tt
-  heard_grew (Restart id f) t = none (Restart id f) c c seen.Crowded refl tt
+  heard_grew (Lost i) t = lost_grew i t (map.get c.runs i)
+  heard_grew (Crash i) t = none (Crash i) c c seen.Crashed refl refl
+  heard_grew (Restart id f) t = none (Restart id f) c c seen.Crowded refl refl
 
-module _ (d : Deployment) (room old new : ℕ) (e : Event) (c b : Core) (m n : Rows) where
-  made_grew : (q : Query) (x : Seen) → Made d room e c q m b n x → BookGrew e c b x
-  made_grew q x s = subst (λ (z : Core × Seen). BookGrew e c z.0 z.1) (sym s.1) (heard_grew d c e (told_by q c.now m))
+  no_memory_grew : (e : Event) (t : Told) (w : AllocError) (b : Core) → no_memory d e c t ≡ Some b → BookGrew e c b (Err w)
+  no_memory_grew (Turn i) t w b is = subst (λ z. BookGrew (Turn i) c z (Err w)) (same_some is) (unheard_grew i t w (map.get c.runs i))
+  no_memory_grew (Request u f a) t w b is = none_told (Request u f a) c b w (ap (λ (z : Core). z.book) (lent_only (lends t) c b is).0)
+  no_memory_grew e t w b is = cc
 
-  unmade_grew : b ≡ dropped e c → BookGrew e c b seen.Dropped
-  unfolding IsSilent
-  unmade_grew is = none e c b seen.Dropped (ap (λ z. z.book) is ∙ dropped_book e c) tt
+  error_grew : (e : Event) (b : Core) (v : TableErr) → b.book ≡ c.book → BookGrew e c b (refused_by v)
+  error_grew e b OutOfMemory same = none_told e c b (record {}) same
+  error_grew e b Failed same = none e c b seen.Dropped same refl
+  error_grew e b (Full live most) same = none e c b (seen.Full live most) same refl
 
-  acts_grew : (q : Query) (x : Seen) → Acts d room old new e c q m b n x → BookGrew e c b x
-  unfolding IsSilent
-  acts_grew q (seen.Full live most) s = none e c b (seen.Full live most) (ap (λ z. z.book) s.1) tt
-  acts_grew q seen.Dropped s = unmade_grew s.1
-  acts_grew q x s = made_grew q x s
+  refused_grew : (e : Event) (v : TableErr) → BookGrew e c (refused e c v).0 (refused e c v).1
+  refused_grew (Turn i) (Full live most) = none (Turn i) c c (seen.Full live most) refl refl
+  refused_grew (Turn i) v = error_grew (Turn i) (ended_run c i) v refl
+  refused_grew (Lost i) OutOfMemory = none_told (Lost i) c (ended_run c i) (record {}) refl
+  refused_grew (Lost i) v = none (Lost i) c (ended_run c i) seen.Dropped refl refl
+  refused_grew e v = error_grew e c v refl
 
-  asks_grew : (lost : Bool) (q : Query) (x : Seen) → Asks d room old new lost e c q m b n x → BookGrew e c b x
-  asks_grew false q x s = acts_grew q x s
-  asks_grew true q x s = subst (BookGrew e c b) (sym s.0) (elim s.1 [ inl s ↦ made_grew q seen.Dropped s | inr s ↦ unmade_grew s.1 ])
+  came_grew : (e : Event) (b : Core) (w : Result Told TableErr) (r : Result Seen AllocError) → Followed d e c w b r → BookGrew e c b r
+  came_grew e b (Ok t) (Ok x) s = subst (λ (z : Core × Seen). BookGrew e c z.0 (Ok z.1)) (sym s) (heard_grew e t)
+  came_grew e b (Ok t) (Err w) s = no_memory_grew e t w b s
+  came_grew e b (Err v) r s = subst (λ (z : Core × Result Seen AllocError). BookGrew e c z.0 z.1) (sym s) (refused_grew e v)
 
-  follows_grew : (p : Plan) (x : Seen) → PlanHolds (Silent c) (λ q. Unit {0}) p → Follows d room old new e c p m b n x → BookGrew e c b x
-  unfolding Silent
-  follows_grew (at_once k y) x silent s = subst (BookGrew e c b) (sym s.2) (none e c b y (ap (λ z. z.book) s.1 ∙ silent.0) silent.1)
-  follows_grew (asks q) x silent s = asks_grew (is_lost e) q x s
+  plan_grew : (room old new : ℕ) (e : Event) (b : Core) (m n : Rows) (r : Result Seen AllocError) (p : Plan) → PlanTells c p → EventBy d room old new e c p m b n r → BookGrew e c b r
+  plan_grew room old new e b m n (Ok x) (at_once k y) g s = none e c b x (ap (λ (z : Core). z.book) s.0.0 ∙ g.0) (ap is_silent s.0.1 ∙ g.1)
+  plan_grew room old new e b m n (Err w) (at_once k y) g s = none_told e c b w (ap (λ (z : Core). z.book) s.0.0)
+  plan_grew room old new e b m n r (asks q) g s = came_grew e b s.0 r s.1
 
-pub event_grew : (d : Deployment) (room old new : ℕ) (e : Event) (c b : Core) (m n : Rows) (x : Seen) → IsOneEvent d room old new e c m b n x → BookGrew e c b x
-event_grew d room old new e c b m n x s = let g = follows_grew d room old new e (counted c) b m n (plan e c) x (plan_silent e c) s in record { entry = g.entry; book = g.book; starts = g.starts; told = g.told }
+pub book_grew : WritesWhatIsTold
+book_grew d room old new e c b m n r s = let g = plan_grew d (counted c) room old new e b m n r (plan e c) (plan_tells e c) s in record { entry = g.entry; book = g.book; starts = g.starts; told = g.told }
 
--- want of memory
-pub break_grew : (d : Deployment) (e : Event) (c b : Core) (m n : Rows) → Breaks d e c m b n → Wrote c b
-break_grew d (Turn i) c b m n s = elim s [
-  | inl s ↦ wrote_none c b (ap (λ z. z.book) s.1)
-  | inr s ↦ let w = unheard_wrote d (counted c) i (told_by s.0 c.now m) (map.get c.runs i) in record { entry = w.entry; book = ap (λ z. z.book) (same_some (sym s.3)) ∙ w.book; starts = w.starts }
-]
-break_grew d (Crash i) c b m n s = absurd s
-break_grew d e c b m n s = wrote_none c b (ap (λ z. z.book) s.1 ∙ dropped_book e (counted c))
+-- ---- an answer is dropped only where it was lost, or the table failed
+abbrev says_dropped : Result Seen AllocError → Bool
+says_dropped (Ok x) = is_dropped x
+says_dropped (Err w) = false
 
-pub told_entries : WritesWhatIsTold
-told_entries d room old new e c b m n (Ok x) s = event_grew d room old new e c b m n x s
-told_entries d room old new e c b m n (Err w) s = let g = break_grew d e c b m n s.1 in (g.entry, g.book)
+module _ (d : Deployment) (c : Core) where
+  ticket_heard : (b : Bool) → is_dropped (ticket_next c b).1 ≡ false
+  ticket_heard true = refl
+  ticket_heard false = refl
+
+  request_heard : (t f : ℕ) (a : Value) (u : Binding) → is_dropped (request_next c t f a u).1 ≡ false
+  request_heard t f a binding.Bound = refl
+  request_heard t f a (binding.Other g v) = refl
+  request_heard t f a (binding.Ended o) = refl
+  request_heard t f a binding.Running = refl
+  request_heard t f a binding.Gone = refl
+
+  turn_heard : (id : IntentId) (s : Turned) (o : Option Wait) → is_dropped (turn_seen id s o) ≡ false
+  turn_heard id s None = refl
+  turn_heard id s (Some (wait.Held w)) = refl
+
+  run_heard : (i : ℕ) (t : Told) (o : Option Run) → is_dropped (run_next d c i t o).1 ≡ false
+  run_heard i t None = (no_run_tells c ((i == 0) || nat_lt c.last_run i)).2
+  run_heard i t (Some r) = turn_heard r.id (run_told d (count_changes c.book) r t) (run_told d (count_changes c.book) r t).wait
+
+  heard_lost : (e : Event) (t : Told) → is_dropped (heard d e c t).1 ≡ is_lost e
+  heard_lost Ticket t = ticket_heard (is_added t)
+  heard_lost (Request u f a) t = request_heard u f a (binding_of t)
+  heard_lost (Turn i) t = run_heard i t (map.get c.runs i)
+  heard_lost (Lost i) t = refl
+  heard_lost (Crash i) t = refl
+  heard_lost (Restart id f) t = refl
+
+  error_heard : (v : TableErr) → says_dropped (refused_by v) ≡ true → v ≡ Failed
+  error_heard OutOfMemory h = cc
+  error_heard Failed h = refl
+  error_heard (Full live most) h = cc
+
+  refused_heard : (e : Event) (v : TableErr) → is_lost e ≡ false → says_dropped (refused e c v).1 ≡ true → v ≡ Failed
+  refused_heard (Lost i) v lost h = cc
+  refused_heard (Turn i) (Full live most) lost h = cc
+  refused_heard e v lost h = error_heard v h
+
+  came_heard : (e : Event) (b : Core) (w : Result Told TableErr) → is_lost e ≡ false → Followed d e c w b (Ok seen.Dropped) → w ≡ Err Failed
+  came_heard e b (Ok t) lost s = let clash : true ≡ false = ap (λ (z : Core × Seen). is_dropped z.1) s ∙ heard_lost e t ∙ lost in cc
+  came_heard e b (Err v) lost s = ap Err (refused_heard e v lost (sym (ap (λ (z : Core × Result Seen AllocError). says_dropped z.1) s)))
+
+  plan_heard : (e : Event) (b : Core) (old new : TableState) (p : Plan) → is_lost e ≡ false → PlanTells c p → StepBy d e c p b old new (Ok seen.Dropped) → Rose old.faults new.faults
+  plan_heard e b old new (at_once k y) lost g s = let clash : true ≡ false = ap is_dropped s.0.1 ∙ g.2 in cc
+  plan_heard e b old new (asks q) lost g s = s.2.cause.failed (came_heard e b s.0 lost s.1)
+
+pub drops_have_cause : DropsHaveCause
+drops_have_cause d e c b old new lost s = plan_heard d (counted c) e b old new (plan e c) lost (plan_tells e c) s

@@ -1,11 +1,15 @@
 -- The turns of an operation on an item: they rest on the law that a chain is a logged cell, and on what each operation is.
-use Rattle.std.proofs.Common.{◌≡◌, ℕ, Bool, true, false, List, [], ◌∷◌, Option, None, Some, refl, ap, sym, ◌∙◌, subst, is_some, if◌then◌else◌}
+use Rattle.std.proofs.Common.{◌≡◌, inr, ℕ, Bool, true, false, List, [], ◌∷◌, Option, None, Some, refl, ap, sym, ◌∙◌, subst, is_some, if◌then◌else◌}
 use Rattle.std.specs.Prelude.{slice_get, option_and_then}
+use Rattle.std.specs.Option.{option_map}
 use Rattle.std.specs.FinMap as map
 use Rattle.std.specs.Ordering.{is_eq}
 use Rattle.std.proofs.lemmas.Cmp.{tied_itself}
 use Rattle.beldi_value.specs.declared.id.IntentId.{IntentId}
-use Rattle.beldi_value.specs.declared.place.Owner.{Owner}
+use Rattle.beldi_value.specs.declared.place.Owner.TheVariants as owner
+use Rattle.beldi_value.specs.declared.rel.Rel.{Rel}
+use Rattle.beldi_value.specs.declared.value.Value.TheVariants as value
+use Rattle.beldi_value.specs.Passes.{passes}
 use Rattle.beldi_value.specs.declared.place.Place.{Place}
 use Rattle.beldi_value.specs.declared.value.Value.{Value}
 use Rattle.beldi_tree.specs.declared.deployment.Deployment.{Deployment}
@@ -27,18 +31,21 @@ use Rattle.beldi_walk.specs.Query.{rows_after, told_by}
 use Rattle.beldi_daal.specs.declared.cell.WriteAt.{WriteAt}
 use Rattle.beldi_daal.specs.declared.cell.WriteGoes.{WriteGoes}
 use Rattle.beldi_daal.specs.declared.cell.WriteGoes.TheVariants as writes
-use Rattle.beldi_daal.specs.declared.walk.CellOp.{CellOp}
-use Rattle.beldi_daal.specs.declared.walk.CellOp.TheVariants as cell
+use Rattle.beldi_daal.specs.declared.cell.CellOp.{CellOp}
+use Rattle.beldi_daal.specs.declared.cell.CellOp.TheVariants as cell
 use Rattle.beldi_daal.specs.declared.walk.Item.TheVariants.{Plain}
 use Rattle.beldi_daal.specs.declared.walk.WriteWalk.{WriteWalk}
-use Rattle.beldi_daal.specs.Cell.{cell_key, write_goes}
+use Rattle.beldi_daal.specs.Cell.{cell_key, done_note, write_asks, write_goes}
 use Rattle.beldi_daal.specs.Content.{SoundAt}
 use Rattle.beldi_daal.specs.Logged.{note_after, DidOnce, Logs, LoggedTurn}
-use Rattle.beldi_daal.specs.Walk.{op_asks, walk_so}
+use Rattle.beldi_daal.specs.Walk.{walk_so}
 use Rattle.beldi_daal.proofs.Logged.{by_op}
 use Rattle.beldi_plain.specs.Item.{Item, item_total}
-use Rattle.beldi_plain.specs.Operation.{OnItem, Operation, op_of, item_in, sets, set_if, answer_after, write}
-use Rattle.beldi_plain.specs.Plain.{Instance, PlainState, value_at, step_by, effect_of, answered, kind_of}
+use Rattle.beldi_plain.specs.Guard.{IsFree, touched_by, item_touched}
+use Rattle.beldi_plain.specs.Holds.{holds}
+use Rattle.beldi_plain.specs.Operation as operation
+use Rattle.beldi_plain.specs.Operation.{OnItem, Operation, op_of, item_in, or_old, answer_after, write, lock, free}
+use Rattle.beldi_plain.specs.Plain.{Instance, PlainState, value_at, step_by, operate, effect_of, kind_of}
 use Rattle.beldi_plain.specs.declared.kind.Kind.TheVariants as kind
 use Rattle.beldi_order.specs.Sane.{Answers as OpAnswered, IsAnswerTo, effect_before}
 use Rattle.beldi_order.proofs.Entries.{same_some, enabled_step}
@@ -46,22 +53,27 @@ use Rattle.beldi_step.specs.declared.run.Run.{Run}
 use Rattle.beldi_step.specs.declared.run.Begun.{Begun}
 use Rattle.beldi_step.specs.declared.run.Mark.TheVariants as mark
 use Rattle.beldi_step.specs.declared.run.Says.{Says}
-use Rattle.beldi_step.specs.declared.run.Says.TheVariants.{On, Waits, Answers}
+use Rattle.beldi_step.specs.declared.run.Says.TheVariants.{Answers}
 use Rattle.beldi_step.specs.declared.run.Stage.TheVariants as stage
 use Rattle.beldi_step.specs.declared.run.Wait.TheVariants as wait
-use Rattle.beldi_step.specs.Intent.{root_key}
-use Rattle.beldi_step.specs.Run.{place_of, turned_by, mark_if, write_says}
+use Rattle.beldi_intent.specs.Intent.{root_key}
+use Rattle.beldi_step.specs.Run.{place_of, turned_by, put_asks, put_says, write_says, done_says, note_done, note_of_op, answer_noted, cell_op}
 use Rattle.beldi_step.specs.Host.{Core, turn_next}
-use Rattle.beldi_laws.specs.Stands.{head_key, content_of, noted, noted_answer}
+use Rattle.beldi_laws.specs.Stands.{head_key, content_of, noted}
 use Rattle.beldi_laws.specs.Right.{Right, RowsMatch, Knows, StageOk, PlaceOk, owed_by, note_if, note_of}
 use Rattle.beldi_laws.proofs.Rows.{no_root}
 use Rattle.beldi_laws.proofs.Steps.{Does, DoneRows, operation_done, content_kept}
 use Rattle.beldi_laws.proofs.Moves.{AfterTurn, AfterQuery, SameRoots, change_entered}
-use Rattle.beldi_laws.proofs.Turns.{effect_here, answer_here, step_here, effect_next, wants_it, fits, not_over, goes_on, waits, replays, steps_on}
+use Rattle.beldi_laws.proofs.Turns.{effect_here, answer_here, step_here, effect_next, wants_it, fits, not_over, goes_on, waits, ends, replays, steps_on}
+use Rattle.beldi_laws.proofs.Owners.{unbarred, nobody_else, not_hers, her_own}
+use Rattle.beldi_step.specs.Run.{noted_answer}
 
 -- what is answered to an operation is what its note reads as
 pub noted_back : (o : Operation) (a : Answer) → OpAnswered o a → option_and_then noted_answer (noted o a) ≡ Some a
 noted_back (write v) answer.Done ok = refl
+noted_back (operation.cond r u v) (answer.Value (value.Bool b)) ok = refl
+noted_back lock answer.Done ok = refl
+noted_back free answer.Done ok = refl
 noted_back o a ok = absurd ok
 
 has_note : (n : Option Note) (a : Answer) → option_and_then noted_answer n ≡ Some a → is_some n ≡ true
@@ -70,23 +82,21 @@ has_note (Some n) a h = refl
 
 -- ---- what an effect is that is an operation on an item: its plain step, its operation on cells, and what its stage says. This
 -- is all that the turns ask of it.
-pub record IsOperation (e : Effect) (o : OnItem) (op : CellOp) (says : WriteGoes → Says) : Type 0 where
+pub record IsOperation (e : Effect) (o : OnItem) (op : CellOp) : Type 0 where
   is_op : op_of e ≡ Some o
   does : Does o.does op
   -- its plain step
   change : kind_of e ≡ kind.Change
-  step : (p : PlainState) (id : IntentId) (q : Instance) → let x = item_in q.func o in
-      step_by p id q e ≡ record { items = set_if p.items x (sets o.does (value_at p x)); made = map.insert p.made id (answered q (answer_after o.does (value_at p x))) }
+  step : (p : PlainState) (id : IntentId) (q : Instance) → step_by p id q e ≡ operate p id q (item_in q.func o) o.does
   answers : (w : Value) → IsAnswerTo e (answer_after o.does w)
   answered_so : (a : Answer) → IsAnswerTo e a → OpAnswered o.does a
-  -- its stage, and what that says: a note is told as the answer that it reads as
+  -- what it asks, and its stage: a note is told as the answer that it reads as
+  cell : cell_op e ≡ Some (record { table = o.table; key = o.key; op = op })
   stage_ok : (at : WriteAt) → StageOk e (stage.Write at)
   place_ok : (d : Deployment) (book : List Entry) (id : IntentId) (func : ℕ) (given later : List Answer) (at : WriteAt) → PlaceOk d book id func given later e (stage.Write at)
-  goes : (at : WriteAt) → says (writes.On at) ≡ On (stage.Write at) None
-  held : (w : Owner) → says (writes.Held w) ≡ Waits (wait.Held w)
-  done : (b : Bool) (n : Note) (a : Answer) → noted o.does a ≡ Some n → says (writes.Done n b) ≡ Answers a (mark_if b mark.Step)
+  done : (n : Note) (a : Answer) → noted o.does a ≡ Some n → answer_noted e n ≡ Some a
 
-pub write_is : (t : ℕ) (k : List ℕ) (v : Value) → IsOperation (effect.Write t k v) (record { table = t; key = k; does = write v }) (cell.Write v) write_says
+pub write_is : (t : ℕ) (k : List ℕ) (v : Value) → IsOperation (effect.Write t k v) (record { table = t; key = k; does = write v }) (cell.Write v)
 write_is t k v = record {
   is_op = refl;
   does = record { value = λ w. refl; note = λ w. refl; own = λ id was free. refl; others = λ id was free who other. refl };
@@ -94,20 +104,82 @@ write_is t k v = record {
   step = λ p id q. refl;
   answers = λ w. tt;
   answered_so = λ a h. h;
+  cell = refl;
   stage_ok = λ at. tt;
   place_ok = λ d book id func given later at. tt;
-  goes = λ at. refl;
-  held = λ w. refl;
   done = told;
 }
   where
-    told : (b : Bool) (n : Note) (a : Answer) → noted (write v) a ≡ Some n → write_says (writes.Done n b) ≡ Answers a (mark_if b mark.Step)
-    told b n answer.Done same = ap (λ z. write_says (writes.Done z b)) (same_some (sym same))
-    told b n a same = cc
+    told : (n : Note) (a : Answer) → noted (write v) a ≡ Some n → answer_noted (effect.Write t k v) n ≡ Some a
+    told n answer.Done same = ap (answer_noted (effect.Write t k v)) (same_some (sym same))
+    told n a same = cc
+
+pub cond_is : (t : ℕ) (k : List ℕ) (r : Rel) (u v : Value) → IsOperation (effect.CondWrite t k r u v) (record { table = t; key = k; does = operation.cond r u v }) (cell.Cond r u v)
+cond_is t k r u v = record {
+  is_op = refl;
+  does = record { value = λ w. by_test (passes w r u) w; note = λ w. refl; own = λ id was free. refl; others = λ id was free who other. refl };
+  change = refl;
+  step = λ p id q. refl;
+  answers = λ w. tt;
+  answered_so = λ a h. h;
+  cell = refl;
+  stage_ok = λ at. tt;
+  place_ok = λ d book id func given later at. tt;
+  done = told;
+}
+  where
+    by_test : (b : Bool) (w : Value) → or_old (if b then Some v else None) w ≡ (if b then v else w)
+    by_test true w = refl
+    by_test false w = refl
+
+    told : (n : Note) (a : Answer) → noted (operation.cond r u v) a ≡ Some n → answer_noted (effect.CondWrite t k r u v) n ≡ Some a
+    told n (answer.Value (value.Bool b)) same = ap (answer_noted (effect.CondWrite t k r u v)) (same_some (sym same))
+    told n a same = cc
+
+pub lock_is : (t : ℕ) (k : List ℕ) → IsOperation (effect.Lock t k) (record { table = t; key = k; does = lock }) cell.Lock
+lock_is t k = record {
+  is_op = refl;
+  does = record { value = λ w. refl; note = λ w. refl; own = λ id was free. her_own id; others = λ id was free who other. not_hers id (Some (owner.Intent id)) (inr refl) who other ∙ sym (not_hers id was (unbarred cell.Lock id was free) who other) };
+  change = refl;
+  step = λ p id q. refl;
+  answers = λ w. tt;
+  answered_so = λ a h. h;
+  cell = refl;
+  stage_ok = λ at. tt;
+  place_ok = λ d book id func given later at. tt;
+  done = told;
+}
+  where
+    told : (n : Note) (a : Answer) → noted lock a ≡ Some n → answer_noted (effect.Lock t k) n ≡ Some a
+    told n answer.Done same = ap (answer_noted (effect.Lock t k)) (same_some (sym same))
+    told n a same = cc
+
+pub unlock_is : (t : ℕ) (k : List ℕ) → IsOperation (effect.Unlock t k) (record { table = t; key = k; does = free }) (cell.Free None)
+unlock_is t k = record {
+  is_op = refl;
+  does = record { value = λ w. refl; note = λ w. refl; own = λ id was free. refl; others = λ id was free who other. sym (not_hers id was (unbarred (cell.Free None) id was free) who other) };
+  change = refl;
+  step = λ p id q. refl;
+  answers = λ w. tt;
+  answered_so = λ a h. h;
+  cell = refl;
+  stage_ok = λ at. tt;
+  place_ok = λ d book id func given later at. tt;
+  done = told;
+}
+  where
+    told : (n : Note) (a : Answer) → noted free a ≡ Some n → answer_noted (effect.Unlock t k) n ≡ Some a
+    told n answer.Done same = ap (answer_noted (effect.Unlock t k)) (same_some (sym same))
+    told n a same = cc
+
+-- the item that it touches
+by_touch : (e : Effect) (o : OnItem) (q : Instance) → op_of e ≡ Some o → item_touched q e ≡ Some (item_in q.func o)
+by_touch (effect.Read t k) o q h = cc
+by_touch e o q h = ap (option_map (item_in q.func)) h
 
 -- ---- the turn
 module _ (d : Deployment) (c : Core) (m : Rows) (i : ℕ) (r : Run) (g : Begun) (h : Right d c m) (live : map.get c.runs i ≡ Some r) (k : Knows d c.book h.plain r g)
-    (e : Effect) (o : OnItem) (op : CellOp) (says : WriteGoes → Says) (known : IsOperation e o op says) (is : g.machine.effect ≡ e) (at : WriteAt) where
+    (e : Effect) (o : OnItem) (op : CellOp) (known : IsOperation e o op) (is : g.machine.effect ≡ e) (at : WriteAt) where
   abbrev item : Item
   item = item_in r.func o
 
@@ -115,10 +187,10 @@ module _ (d : Deployment) (c : Core) (m : Rows) (i : ℕ) (r : Run) (g : Begun) 
   place = place_of r.id g.machine.steps
 
   abbrev walk : WriteWalk
-  walk = record { home = r.func; item = Plain o.table o.key; place = place; op = op; at = at }
+  walk = record { home = r.func; item = Plain o.table o.key; place = place; who = owner.Intent r.id; op = op; at = at }
 
   abbrev asks : Query
-  asks = op_asks (cell_key r.func o.table o.key) place at op
+  asks = write_asks (cell_key r.func o.table o.key) place (owner.Intent r.id) op at
 
   -- the rows after it
   abbrev n : Rows
@@ -147,7 +219,7 @@ module _ (d : Deployment) (c : Core) (m : Rows) (i : ℕ) (r : Run) (g : Begun) 
     kept held = content_kept d m n item same sound h.plain held h.rows
 
     -- it was done now: it is the instance's next
-    module _ (left : k.later ≡ []) (did : DidOnce place op true (content_of m item) (content_of n item)) where
+    module _ (left : k.later ≡ []) (did : DidOnce place (owner.Intent r.id) op true (content_of m item) (content_of n item)) where
       abbrev old : Value
       old = value_at h.plain (item_in k.instance.func o)
 
@@ -165,7 +237,7 @@ module _ (d : Deployment) (c : Core) (m : Rows) (i : ℕ) (r : Run) (g : Begun) 
           ∙ ap (λ x. note_at x.notes place) (sym did.2) ∙ there
 
       abbrev state : PlainState
-      state = record { items = set_if h.plain.items (item_in k.instance.func o) (sets o.does old); made = map.insert h.plain.made r.id (answered k.instance a) }
+      state = operate h.plain r.id k.instance (item_in k.instance.func o) o.does
 
       rows_done : RowsMatch d n state
       rows_done = operation_done d h.plain r.id k.instance o op k.made (ap op_of now ∙ known.is_op) known.does m n
@@ -173,28 +245,39 @@ module _ (d : Deployment) (c : Core) (m : Rows) (i : ℕ) (r : Run) (g : Begun) 
           (subst (λ f. DoneRows m n (item_in f o) place op) (sym k.func) (record { same = same; sound = sound; none = did.0; free = did.1; here = did.2 })))
           h.rows
 
+      -- nobody else has locked the item
+      free_here : IsFree d h.plain (Step r.id)
+      free_here x touched j held =
+          let touches : Some item ≡ Some x =
+          ap (λ f. Some (item_in f o)) (sym k.func) ∙ sym (ap (touched_by d) k.made ∙ ap (item_touched k.instance) now ∙ by_touch e o k.instance known.is_op) ∙ touched in
+          nobody_else r.id (content_of m item).owner (unbarred op r.id (content_of m item).owner did.1) j
+          ((h.rows.items item).owner (owner.Intent j) ∙ ap (λ z. holds d z (map.get h.plain.made j)) (same_some touches) ∙ held)
+
       steps : After (Answers a (Some mark.Step))
       steps = steps_on d c m i r g h live k e is a mark.Step state n left (known.answers old) refl
           (change_entered d c m h (Step r.id) state refl
           (enabled_step d h.plain r.id k.instance k.made (not_over d c m i r g h live k e is left (wants_it e a (known.answers old))) (ap kind_of now ∙ known.change)
-          ∙ ap Some (ap (step_by h.plain r.id k.instance) now ∙ known.step h.plain r.id k.instance)))
+          ∙ ap Some (ap (step_by h.plain r.id k.instance) now ∙ known.step h.plain r.id k.instance)) free_here)
           roots rows_done
 
-    done_now : (later : List Answer) → k.later ≡ later → (w : Note) → note_at (content_of n item).notes place ≡ Some w → DidOnce place op true (content_of m item) (content_of n item) → After (says (writes.Done w true))
-    done_now [] left w there did = subst After (sym (known.done true w (a left did) (told left did w there))) (steps left did)
+    done_now : (later : List Answer) → k.later ≡ later → (w : Note) → note_at (content_of n item).notes place ≡ Some w → DidOnce place (owner.Intent r.id) op true (content_of m item) (content_of n item) → After (write_says e (writes.Done w true))
+    done_now [] left w there did = subst (λ x. After (done_says true x)) (sym (known.done w (a left did) (told left did w there))) (steps left did)
     done_now (b ∷ rest) left w there did = let clash = sym (has_note (noted o.does b) b (noted_back o.does b (known.answered_so b (fits d c m i r g h live k e is b rest left)))) ∙ ap is_some (sym (note_read b rest left) ∙ did.0) in cc
 
-    done_before : (later : List Answer) → k.later ≡ later → (w : Note) → note_at (content_of m item).notes place ≡ Some w → content_of n item ≡ content_of m item → After (says (writes.Done w false))
+    done_before : (later : List Answer) → k.later ≡ later → (w : Note) → note_at (content_of m item).notes place ≡ Some w → content_of n item ≡ content_of m item → After (write_says e (writes.Done w false))
     done_before [] left w there held = let clash = sym there ∙ note_is [] left in cc
-    done_before (b ∷ rest) left w there held = subst After (sym (known.done false w b (sym (note_read b rest left) ∙ there))) (replays d c m i r g h live k e is n b rest roots (kept held) left)
+    done_before (b ∷ rest) left w there held = subst (λ x. After (done_says false x)) (sym (known.done w b (sym (note_read b rest left) ∙ there))) (replays d c m i r g h live k e is n b rest roots (kept held) left)
 
-    by_says : (z : WriteGoes) → Logs place op (walk_so z) (content_of m item) (content_of n item) → After (says z)
-    by_says (writes.On to) held = subst After (sym (known.goes to)) (goes_on d c m i r g h live k e is n (stage.Write to) roots (kept held) (known.stage_ok to) (known.place_ok d c.book r.id r.func k.answers k.later to))
+    by_says : (z : WriteGoes) → Logs place (owner.Intent r.id) op (walk_so z) (content_of m item) (content_of n item) → After (write_says e z)
+    by_says (writes.On to) held = goes_on d c m i r g h live k e is n (stage.Write to) roots (kept held) (known.stage_ok to) (known.place_ok d c.book r.id r.func k.answers k.later to)
     by_says (writes.Done w true) l = done_now k.later refl w l.0 l.1
     by_says (writes.Done w false) l = done_before k.later refl w (ap (λ x. note_at x.notes place) (sym l.1) ∙ l.0) l.1
-    by_says (writes.Held w) l = subst After (sym (known.held w)) (waits d c m i r g h live k e is (wait.Held w) n roots (kept l.2))
+    by_says writes.NotOwner l = ends d c m i r g h live k e is n roots (kept l.2)
+    by_says (writes.Held w) l = waits d c m i r g h live k e is (wait.Held w) n roots (kept l.2)
 
-  pub operation_turn : AfterQuery d h.plain c.now m (λ u. turn_next c i r.id (turned_by d r g (says (write_goes u)))) (op_asks (cell_key r.func o.table o.key) place at op)
+  pub operation_turn : AfterQuery d h.plain c.now m (λ u. turn_next c i r.id (turned_by d r g (put_says e (note_done e) u))) (put_asks r.id r.func g.machine.steps at (cell_op e))
   operation_turn =
-      let logged : LoggedTurn walk m n (walk_so (write_goes (told_by asks c.now m))) = by_op walk m n (h.rows.keys (head_key item)) at op refl c.now refl in
-      by_says logged.others logged.sound (write_goes (told_by asks c.now m)) logged.logs
+      let z = write_goes (done_note op) (told_by asks c.now m) in
+      let logged : LoggedTurn walk m n (walk_so z) = by_op walk m n (h.rows.keys (head_key item)) at c.now refl in
+      subst (λ x. AfterQuery d h.plain c.now m (λ u. turn_next c i r.id (turned_by d r g (put_says e (note_of_op x) u))) (put_asks r.id r.func g.machine.steps at x)) (sym known.cell)
+      (by_says logged.others logged.sound z logged.logs)

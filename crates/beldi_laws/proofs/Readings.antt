@@ -27,7 +27,7 @@ use Rattle.beldi_daal.specs.declared.cell.ReadGoes.TheVariants as reads
 use Rattle.beldi_daal.specs.declared.cell.ReadGoes.{ReadGoes}
 use Rattle.beldi_daal.specs.declared.read_walk.ReadWalk.{ReadWalk}
 use Rattle.beldi_daal.specs.declared.walk.Item.TheVariants.{Plain}
-use Rattle.beldi_daal.specs.Cell.{read_goes}
+use Rattle.beldi_daal.specs.Cell.{in_the_way, read_goes}
 use Rattle.beldi_daal.specs.Logged.{ReadsContent}
 use Rattle.beldi_daal.specs.ReadWalk.{read_so}
 use Rattle.beldi_daal.proofs.Logged.{by_row}
@@ -47,7 +47,7 @@ use Rattle.beldi_step.specs.declared.run.Says.TheVariants.{Answers}
 use Rattle.beldi_step.specs.declared.run.Stage.{Stage}
 use Rattle.beldi_step.specs.declared.run.Stage.TheVariants as stage
 use Rattle.beldi_step.specs.declared.run.Wait.TheVariants as wait
-use Rattle.beldi_step.specs.Intent.{root_key}
+use Rattle.beldi_intent.specs.Intent.{root_key}
 use Rattle.beldi_step.specs.Run.{place_of, turned_by, stage_says, walk_says}
 use Rattle.beldi_step.specs.Host.{Core, turn_next}
 use Rattle.beldi_order.specs.Sane.{effect_before}
@@ -58,6 +58,9 @@ use Rattle.beldi_laws.proofs.Steps.{read_added}
 use Rattle.beldi_laws.proofs.Lives.{grows_late, runs_late}
 use Rattle.beldi_laws.proofs.Moves.{AfterAct, AfterTurn, Entered, still}
 use Rattle.beldi_laws.proofs.Turns.{effect_here, answer_here, all_here, step_here, effect_next, fits, not_over, goes_on, waits, replays, steps_on}
+use Rattle.beldi_laws.proofs.Owners.{unowned, nobody_else}
+use Rattle.beldi_plain.specs.Guard.{touched_by, item_touched}
+use Rattle.beldi_plain.specs.Holds.{holds}
 
 -- what a log gives is what it owes
 pub given_owed : (w : Option Row) (o : Option Value) → LogMatches w o → option_map given_in w ≡ o
@@ -107,8 +110,8 @@ module _ (d : Deployment) (c : Core) (m : Rows) (i : ℕ) (r : Run) (g : Begun) 
       few : count_changes (linear c.book) ≤ count_changes c.book
       few = let n = ap length (linear_changes c.book) in omega (arith, n)
 
-  found : (o : Option Value) → value_at h.plain item ≡ or_null o → AfterTurn d h.plain c i r.id (turned_by d r g (walk_says (count_changes c.book) (reads.Got o))) m
-  found o same = goes_on d c m i r g h live k (Read t key) is m (stage.Keep (or_null o) (count_changes c.book)) (λ u. refl) h.rows tt (record {
+  found : (o : Option Value) → value_at h.plain item ≡ or_null o → in_the_way (Some (owner.Intent r.id)) (content_of m item).owner ≡ None → AfterTurn d h.plain c i r.id (turned_by d r g (walk_says (count_changes c.book) (reads.Got o))) m
+  found o same free = goes_on d c m i r g h live k (Read t key) is m (stage.Keep (or_null o) (count_changes c.book)) (λ u. refl) h.rows tt (record {
     few = omega arith;
     was_there = λ none. record {
       state = h.plain;
@@ -117,6 +120,7 @@ module _ (d : Deployment) (c : Core) (m : Rows) (i : ℕ) (r : Run) (g : Begun) 
       made = k.made;
       same = sym (all_here d c.book h.plain r g k none);
       value = same;
+      unlocked = λ j held. nobody_else r.id (content_of m item).owner (unowned r.id (content_of m item).owner free) j ((h.rows.items item).owner (owner.Intent j) ∙ held);
     };
   })
 
@@ -125,8 +129,8 @@ module _ (d : Deployment) (c : Core) (m : Rows) (i : ℕ) (r : Run) (g : Begun) 
 
   walked : (z : ReadGoes) → ReadsContent walk.who (read_so z) (content_of m item) → AfterTurn d h.plain c i r.id (turned_by d r g (walk_says (count_changes c.book) z)) m
   walked reads.On never = absurd never
-  walked (reads.Got None) empty = found None (sym (h.rows.items item).value ∙ ap (λ x. x.value) empty)
-  walked (reads.Got (Some v)) there = found (Some v) (sym (h.rows.items item).value ∙ sym there.1)
+  walked (reads.Got None) empty = found None (sym (h.rows.items item).value ∙ ap (λ x. x.value) empty) (ap (λ x. in_the_way (Some (owner.Intent r.id)) x.owner) empty)
+  walked (reads.Got (Some v)) there = found (Some v) (sym (h.rows.items item).value ∙ sym there.1) there.0
   walked (reads.Held o) held = waits d c m i r g h live k (Read t key) is (wait.Held o) m (λ u. refl) h.rows
 
   pub walk_turn : AfterRead stage.Walk (head_key item) (act Look c.now (map.get m (head_key item)))
@@ -158,6 +162,7 @@ module _ (d : Deployment) (c : Core) (m : Rows) (i : ℕ) (r : Run) (g : Begun) 
       belongs = record {
         bounded = h.bounded;
         legal = h.legal;
+        guarded = h.guarded;
         few = at.few;
         state = there.state;
         is_state = there.is_state;
@@ -167,6 +172,7 @@ module _ (d : Deployment) (c : Core) (m : Rows) (i : ℕ) (r : Run) (g : Begun) 
         key = key;
         stands = now;
         value = ap (λ f. value_at there.state (record { func = f; table = t; key = key })) k.func ∙ there.value;
+        free = λ x touched j held. there.unlocked j (ap (λ z. holds d z (map.get there.state.made j)) (same_some (sym (ap (touched_by d) (there.made ∙ ap Some same) ∙ ap (item_touched k.instance) now ∙ ap (λ f. Some (record { func = f; table = t; key = key })) k.func) ∙ touched)) ∙ held);
         has_not_moved = k.made;
       }
 
@@ -176,7 +182,7 @@ module _ (d : Deployment) (c : Core) (m : Rows) (i : ℕ) (r : Run) (g : Begun) 
       read_entered : Entered d c h.plain (entry.Read r.id seen) state
       read_entered =
           let late : IsKeptLate d c.book h.plain r.id seen k.instance v = kept_late d c.book h.plain r.id seen k.instance v belongs in
-          record { grows = grows_late d c.book h.plain r.id seen k.instance v k.made late; bounded = late.bounded; legal = late.legal; runs = runs_late d c.book h.plain r.id seen k.instance v c.runs c.last_run k.made late h.runs }
+          record { grows = grows_late d c.book h.plain r.id seen k.instance v k.made late; bounded = late.bounded; legal = late.legal; guarded = late.guarded; runs = runs_late d c.book h.plain r.id seen k.instance v c.runs c.last_run k.made late h.runs }
 
       kept_rows : RowsMatch d (set_row m (log_key r.func place) (Some (rows.ReadLog v))) state
       kept_rows =

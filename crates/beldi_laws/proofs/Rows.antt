@@ -13,7 +13,7 @@ use Rattle.beldi_row.specs.declared.row.Row.{Row}
 use Rattle.beldi_row.specs.Table.{Rows, set_row}
 use Rattle.beldi_row.proofs.Gets.{got, key_self, key_same}
 use Rattle.beldi_plain.specs.Item.{Item, item_cmp}
-use Rattle.beldi_step.specs.Intent.{root_key}
+use Rattle.beldi_intent.specs.Intent.{root_key}
 use Rattle.beldi_laws.specs.Stands.{head_key}
 
 -- ---- which keys differ

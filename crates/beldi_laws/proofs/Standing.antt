@@ -20,11 +20,11 @@ use Rattle.beldi_plain.specs.Item.{Item, item_total}
 use Rattle.beldi_plain.specs.Operation.{OnItem, op_of, item_in}
 use Rattle.beldi_plain.specs.Plain.{Instance, PlainState}
 use Rattle.beldi_plain.specs.Legal.{run_of}
-use Rattle.beldi_step.specs.Intent.{root_key, is_ended}
+use Rattle.beldi_intent.specs.Intent.{root_key, is_ended}
 use Rattle.beldi_step.specs.Host.{Core}
 use Rattle.beldi_readlog.specs.ReadLog.{log_key}
 use Rattle.beldi_order.specs.Sane.{Sane, OpAnswers, IsAnswerTo, effect_before}
-use Rattle.beldi_laws.specs.Stands.{Stands, IsMade, IsOpen, head_key, key_in, held_answer, held_note, noted_answer, noted}
+use Rattle.beldi_laws.specs.Stands.{Stands, IsMade, IsOpen, head_key, key_in, held_answer, held_note, noted}
 use Rattle.beldi_laws.specs.Right.{Right, RowsMatch, IntentMatches, IsRootRow, BodyMatches, IsRoot, note_if, note_of, owed_by, value_if, value_for, owed_read, owed_value}
 use Rattle.std.specs.Option.{option_map}
 use Rattle.beldi_order.proofs.Entries.{same_some}
@@ -32,6 +32,7 @@ use Rattle.beldi_order.proofs.Sanes.{sane_of, legal_is_sane}
 use Rattle.beldi_laws.proofs.Steps.{root_row}
 use Rattle.beldi_laws.proofs.Readings.{given_owed}
 use Rattle.beldi_laws.proofs.Operations.{noted_back}
+use Rattle.beldi_step.specs.Run.{noted_answer}
 
 made_so : (p : PlainState) (id : IntentId) (i : IntentRow) (b : Body) → IsRoot b i.outcome (map.get p.made id) → IsMade p id i b
 made_so p id i b h = record { instance = h.instance; made = h.made; func = h.func; args = h.args; outcome = λ o e. h.outcome ∙ e }

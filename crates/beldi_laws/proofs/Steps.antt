@@ -16,7 +16,6 @@ use Rattle.beldi_lang.specs.declared.effect.Answer.{Answer}
 use Rattle.beldi_lang.specs.declared.effect.Answer.TheVariants as answer
 use Rattle.beldi_lang.specs.declared.effect.Effect.{Effect}
 use Rattle.beldi_lang.specs.declared.effect.Effect.TheVariants as effect
-use Rattle.beldi_row.specs.Act.{other_owner}
 use Rattle.beldi_row.specs.Key.{key_cmp}
 use Rattle.beldi_row.specs.declared.key.RowKey.{RowKey}
 use Rattle.beldi_row.specs.declared.key.Kind.{Kind}
@@ -30,12 +29,13 @@ use Rattle.beldi_row.specs.Table.{Rows, set_row}
 use Rattle.beldi_row.proofs.Gets.{key_self}
 use Rattle.beldi_row.proofs.Rows.{get_set}
 use Rattle.beldi_row.proofs.Logs.{note_pushed, place_same, place_self}
-use Rattle.beldi_daal.specs.declared.walk.CellOp.{CellOp}
+use Rattle.beldi_daal.specs.declared.cell.CellOp.{CellOp}
 use Rattle.beldi_daal.specs.Content.{Content, content_in, SoundAt}
-use Rattle.beldi_daal.specs.Logged.{value_after, owner_after, note_after, done_to}
+use Rattle.beldi_daal.specs.Logged.{value_after, owner_after, note_after, barred, done_to}
 use Rattle.beldi_readlog.specs.ReadLog.{log_key}
 use Rattle.beldi_plain.specs.Item.{Item, item_cmp, item_total}
-use Rattle.beldi_plain.specs.Operation.{OnItem, Operation, op_of, item_in, sets, or_old, set_if, answer_after, held_by, held_if, holds, holds_as}
+use Rattle.beldi_plain.specs.Holds.{held_by, held_if, holds, holds_as}
+use Rattle.beldi_plain.specs.Operation.{OnItem, Operation, op_of, item_in, sets, or_old, set_if, answer_after}
 use Rattle.beldi_plain.specs.Plain.{Instance, PlainState, value_at, with_instance, answered, effect_of}
 use Rattle.beldi_order.proofs.Entries.{same_some, made_set}
 use Rattle.beldi_laws.specs.Stands.{head_key, content_of, noted}
@@ -154,16 +154,16 @@ module _ (d : Deployment) (p : PlainState) (items : FinMap item_cmp Value) (id :
 pub record Does (o : Operation) (op : CellOp) : Type 0 where
   pub value : (w : Value) → or_old (sets o w) w ≡ value_after op w
   pub note : (w : Value) → noted o (answer_after o w) ≡ Some (note_after op w)
-  pub own : (id : IntentId) (was : Option Owner) → other_owner (owner.Intent id) was ≡ None → is_owner (owner_after op id was) (owner.Intent id) ≡ held_by o (is_owner was (owner.Intent id))
-  pub others : (id : IntentId) (was : Option Owner) → other_owner (owner.Intent id) was ≡ None → (who : Owner) → IsOther id who → is_owner (owner_after op id was) who ≡ is_owner was who
+  pub own : (id : IntentId) (was : Option Owner) → barred op (owner.Intent id) was ≡ None → is_owner (owner_after op (owner.Intent id) was) (owner.Intent id) ≡ held_by o (is_owner was (owner.Intent id))
+  pub others : (id : IntentId) (was : Option Owner) → barred op (owner.Intent id) was ≡ None → (who : Owner) → IsOther id who → is_owner (owner_after op (owner.Intent id) was) who ≡ is_owner was who
 
 -- .. and it was done on an item, for a place
 pub record DoneRows (m n : Rows) (x : Item) (p : Place) (op : CellOp) : Type 0 where
   pub same : (l : RowKey) → is_eq (key_cmp l (head_key x)) ≡ false → map.get n l ≡ map.get m l
   pub sound : SoundAt (map.get n (head_key x))
   pub none : note_at (content_of m x).notes p ≡ None
-  pub free : other_owner (owner.Intent p.intent) (content_of m x).owner ≡ None
-  pub here : content_of n x ≡ done_to p op (content_of m x)
+  pub free : barred op (owner.Intent p.intent) (content_of m x).owner ≡ None
+  pub here : content_of n x ≡ done_to p (owner.Intent p.intent) op (content_of m x)
 
 no_value : (e : Effect) (o : OnItem) (a : Answer) → op_of e ≡ Some o → value_for e a ≡ None
 no_value (effect.Read t k) o a h = cc
@@ -189,10 +189,10 @@ module _ (d : Deployment) (p : PlainState) (id : IntentId) (q : Instance) (o : O
   held_wanted x b = ap (λ z. held_if x q.func z b) wants
 
   -- its item, where the place had no note and no other owned it
-  item_done : (c : Content) → note_at c.notes (next_place id q) ≡ None → other_owner (owner.Intent id) c.owner ≡ None → ItemMatches d p item c → ItemMatches d state item (done_to (next_place id q) op c)
+  item_done : (c : Content) → note_at c.notes (next_place id q) ≡ None → barred op (owner.Intent id) c.owner ≡ None → ItemMatches d p item c → ItemMatches d state item (done_to (next_place id q) (owner.Intent id) op c)
   item_done c none free h = record {
     value = sym (does.value c.value) ∙ ap (λ w. or_old (sets o.does w) w) h.value ∙ sym (plain_set p.items item item (sets o.does old) ∙ ap (λ b. cond (is_eq b) (or_old (sets o.does old) old) old) (tied_itself item_total item));
-    owner = holds_more d p state.items id q a is item (λ w b. is_owner (owner_after op id c.owner) w ≡ b)
+    owner = holds_more d p state.items id q a is item (λ w b. is_owner (owner_after op (owner.Intent id) c.owner) w ≡ b)
         (does.own id c.owner free ∙ ap (held_by o.does) (h.owner (owner.Intent id)) ∙ sym (held_wanted item (holds d item (map.get p.made id)) ∙ ap (λ t. if is_eq t then held_by o.does (holds d item (map.get p.made id)) else holds d item (map.get p.made id)) (tied_itself item_total item)))
         (λ w other. does.others id c.owner free w other ∙ h.owner w);
     notes = λ b. note_pushed c.notes (next_place id q) b (note_after op c.value) none

@@ -12,7 +12,7 @@ use Rattle.beldi_tree.specs.declared.deployment.Func.{Func}
 use Rattle.beldi_tree.specs.Names.{func_at}
 use Rattle.beldi_lang.specs.declared.effect.Answer.{Answer}
 use Rattle.beldi_lang.specs.declared.effect.Effect.{Effect}
-use Rattle.beldi_lang.specs.declared.effect.Effect.TheVariants.{Read, Write, Return}
+use Rattle.beldi_lang.specs.declared.effect.Effect.TheVariants.{Read, Write, CondWrite, Lock, Unlock, Return}
 use Rattle.beldi_lang.specs.declared.machine.Machine.{Machine}
 use Rattle.beldi_lang.specs.Wants.{wants, wants_answer}
 use Rattle.beldi_lang.specs.Machine.{begun as machine_begun, resumed, IsAt}
@@ -40,7 +40,7 @@ use Rattle.beldi_step.specs.declared.run.Says.{Says}
 use Rattle.beldi_step.specs.declared.run.Says.TheVariants.{On, Waits, Answers, Ends}
 use Rattle.beldi_step.specs.declared.run.Stage.{Stage}
 use Rattle.beldi_step.specs.declared.run.Wait.{Wait}
-use Rattle.beldi_step.specs.Intent.{intent_key, look_asks, is_ended, is_did, args_in, args_told}
+use Rattle.beldi_intent.specs.Intent.{intent_key, look_asks, is_ended, is_did, args_in, args_told}
 use Rattle.beldi_step.specs.Run.{first_stage, standing, begin_in, turned_by, close_says, reply_if}
 use Rattle.beldi_step.specs.Host.{Core, entry_of, turn_next}
 use Rattle.beldi_laws.specs.Right.{Right, RowsMatch, IntentMatches, IsRootRow, BodyMatches, RunAt, Knows, StageOk, PlaceOk}
@@ -51,11 +51,15 @@ use Rattle.beldi_laws.proofs.Notes.{get_after}
 use Rattle.std.proofs.Math.Seq.{take-append_seam}
 use Rattle.beldi_laws.proofs.Steps.{OwesSame, root_row, is_root, root_moved}
 use Rattle.beldi_laws.proofs.Moves.{AfterTurn, AfterAct, AfterQuery, SameRoots, Entered, replaced, still, change_entered, quiet, entered}
+use Rattle.beldi_plain.specs.Guard.{touched_by, item_touched}
 
 -- where an effect begins is one of its stages
 first_ok : (e : Effect) → StageOk e (first_stage e)
 first_ok (Read t k) = tt
 first_ok (Write t k v) = tt
+first_ok (CondWrite t k r o v) = tt
+first_ok (Lock t k) = tt
+first_ok (Unlock t k) = tt
 first_ok (Return o) = tt
 first_ok e = refl
 
@@ -190,8 +194,8 @@ module _ (d : Deployment) (c : Core) (m : Rows) (i : ℕ) (r : Run) (g : Begun) 
   waits w n roots rows = quiet d c m n i r h live roots (Some w) (Some r) (subst (RunAt d c.book h.plain) live (h.runs.runs i)) rows
 
   -- the run is over
-  pub ends : Leaves (Ends None None) m
-  ends = quiet d c m m i r h live (λ t. refl) None None tt h.rows
+  pub ends : (n : Rows) → SameRoots m n → RowsMatch d n h.plain → Leaves (Ends None None) n
+  ends n roots rows = quiet d c m n i r h live roots None None tt rows
 
   -- what the step was answered, where it was, is an answer to its effect
   pub fits : (a : Answer) (rest : List Answer) → k.later ≡ a ∷ rest → IsAnswerTo e a
@@ -283,7 +287,8 @@ module _ (d : Deployment) (c : Core) (m : Rows) (i : ℕ) (r : Run) (g : Begun) 
   close_did j at root f none =
       entered d c m (set_row m key (Some (rows.Intent (end_row o c.now j)))) i r h live (replaced m key (Some (rows.Intent (end_row o c.now j))) (ap is_some (sym at)))
       mark.Step None (reply_if (has_no_hops r.id.hops) o) state
-      (change_entered d c m h (Step r.id) state refl (enabled_step d h.plain r.id k.instance k.made (root_outcome j.body j.outcome k.instance f.body ∙ none) (ap kind_of returns_now) ∙ ap (λ z. Some (step_by h.plain r.id k.instance z)) returns_now))
+      (change_entered d c m h (Step r.id) state refl (enabled_step d h.plain r.id k.instance k.made (root_outcome j.body j.outcome k.instance f.body ∙ none) (ap kind_of returns_now) ∙ ap (λ z. Some (step_by h.plain r.id k.instance z)) returns_now)
+      (λ x touched. let none = sym (ap (touched_by d) k.made ∙ ap (item_touched k.instance) returns_now) ∙ touched in cc))
       (λ u told. ap (λ z. outcome_of (map.get state.made z)) (sym (root_is r.id.ticket r.id.hops root)) ∙ ap outcome_of (get_set id_total id_exact h.plain.made r.id (ended_at k.instance o)) ∙ sym (ap (λ b. reply_if b o) root) ∙ told)
       tt (ended_rows j root f)
 
@@ -292,12 +297,12 @@ module _ (d : Deployment) (c : Core) (m : Rows) (i : ℕ) (r : Run) (g : Begun) 
 
   close_by : (j : IntentRow) (u : Option Outcome) → j.outcome ≡ u → map.get m key ≡ Some (rows.Intent j) → has_no_hops r.id.hops ≡ true → IsRootRow j (Some k.instance) → AfterClose (Some (rows.Intent (end_with o true c.now j u).0), (end_with o true c.now j u).1)
   close_by j None none at root f = close_did j at root f none
-  close_by j (Some u) some at root f = still d h.plain m key (Some (rows.Intent j)) (sym at) (ends d c m i r g h live k (Return o) is)
+  close_by j (Some u) some at root f = still d h.plain m key (Some (rows.Intent j)) (sym at) (ends d c m i r g h live k (Return o) is m (λ t. refl) h.rows)
 
   close_at : (b : Bool) → ((key.home == 0) && has_no_hops r.id.hops) ≡ b → (w : Option Row) → map.get m key ≡ w → IntentMatches b w (Some k.instance) → AfterClose (act (End o true) c.now w)
-  close_at b root None at f = still d h.plain m key None (sym at) (ends d c m i r g h live k (Return o) is)
+  close_at b root None at f = still d h.plain m key None (sym at) (ends d c m i r g h live k (Return o) is m (λ t. refl) h.rows)
   close_at b root (Some (rows.Intent j)) at f = close_by j j.outcome refl at (second_so (key.home == 0) (has_no_hops r.id.hops) (root ∙ is_root b (rows.Intent j) (Some k.instance) f)) (root_row b j (Some k.instance) f)
-  close_at b root (Some w) at f = still d h.plain m key (Some w) (sym at) (ends d c m i r g h live k (Return o) is)
+  close_at b root (Some w) at f = still d h.plain m key (Some w) (sym at) (ends d c m i r g h live k (Return o) is m (λ t. refl) h.rows)
 
   pub close_turn : AfterClose (act (End o true) c.now (map.get m key))
   close_turn = let b = (key.home == 0) && has_no_hops r.id.hops in close_at b refl (map.get m key) refl (subst (IntentMatches b (map.get m key)) k.made (h.rows.keys key))

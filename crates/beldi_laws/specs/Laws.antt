@@ -1,5 +1,5 @@
 -- What holds of every event.
-use Rattle.std.specs.Prelude.{◌≡◌, ◌⊎◌, ℕ, Bool, true, false, option_to_list, List, [], ◌∷◌, ◌++◌, Option, Some, None, Result, Ok, Err}
+use Rattle.std.specs.Prelude.{◌≡◌, ◌⊎◌, ◌&&◌, ◌≤◌, ℕ, Bool, true, false, option_to_list, List, [], ◌∷◌, ◌++◌, Option, Some, None, Result, Ok, Err, IfOk}
 use Rattle.std.specs.declared.alloc.AllocError.{AllocError}
 use Rattle.std.specs.FinMap as map
 use Rattle.beldi_value.specs.declared.value.Value.{Value}
@@ -9,17 +9,17 @@ use Rattle.beldi_book.specs.declared.entry.Entry.{Entry}
 use Rattle.beldi_book.specs.declared.entry.Entry.TheVariants.{Start, Read, Step, Tx, Try}
 use Rattle.beldi_row.specs.declared.key.RowKey.{RowKey}
 use Rattle.beldi_row.specs.declared.act.Act.{Act}
-use Rattle.beldi_row.specs.Table.{Rows, after_act}
+use Rattle.beldi_row.specs.Table.{Rows, TableState, Rose, after_act}
 use Rattle.beldi_plain.specs.Item.{Item}
 use Rattle.beldi_plain.specs.Plain.{PlainState, reply_of}
 use Rattle.beldi_plain.specs.Legal.{IsLegal, run_of}
 use Rattle.beldi_plain.specs.Listing.{listing_of}
+use Rattle.beldi_order.specs.Grown.{Grows}
 use Rattle.beldi_step.specs.declared.event.Event.{Event}
 use Rattle.beldi_step.specs.declared.event.Event.TheVariants.{Ticket, Request, Turn, Lost, Crash, Restart}
 use Rattle.beldi_step.specs.declared.event.Seen.{Seen}
 use Rattle.beldi_step.specs.declared.event.Seen.TheVariants as seen
-use Rattle.beldi_step.specs.Host.{Core, first_core}
-use Rattle.beldi_step.specs.Forms.{EventOn, IsOneEvent, is_lost}
+use Rattle.beldi_step.specs.Host.{Core, Stepped, EventOn, first_core, is_lost, is_dropped}
 use Rattle.beldi_step.specs.Tables.{tables_text}
 use Rattle.beldi_laws.specs.Stands.{is_row_of, content_of, Stands}
 use Rattle.beldi_laws.specs.Right.{Right}
@@ -29,7 +29,7 @@ use Rattle.beldi_laws.specs.OneAnswer.{OneAnswerPerStep, AnswersStay}
 abbrev pub BeginsRight : Type 0
 BeginsRight = (d : Deployment) (now : ℕ) → Right d (first_core 0 now) map.empty
 
--- an event keeps it, whatever it came to: an answer, or want of memory
+-- an event keeps it, whatever it came to: an answer, or out of memory
 abbrev pub KeepsRight : Type 0
 KeepsRight = (d : Deployment) (room old new : ℕ) (e : Event) (c b : Core) (m n : Rows) (r : Result Seen AllocError) → Right d c m → EventOn d room old new e c m b n r → Right d b n
 
@@ -52,6 +52,7 @@ told_outcome (seen.Other t f a) = None
 told_outcome (seen.Gone t) = None
 told_outcome (seen.Unknown t) = None
 told_outcome (seen.Acted e over reply) = reply
+told_outcome (seen.Held owner) = None
 told_outcome (seen.Full live room) = None
 told_outcome seen.Worn = None
 told_outcome seen.Crowded = None
@@ -70,7 +71,7 @@ pub record HasReply (d : Deployment) (book : List Entry) (t : ℕ) (o : Outcome)
 
 -- an outcome that is told is that of the root in the run of the book
 abbrev pub RepliesAreOutcomes : Type 0
-RepliesAreOutcomes = (d : Deployment) (room old new : ℕ) (e : Event) (c b : Core) (m n : Rows) (x : Seen) → Right d c m → IsOneEvent d room old new e c m b n x
+RepliesAreOutcomes = (d : Deployment) (room old new : ℕ) (e : Event) (c b : Core) (m n : Rows) (x : Seen) → Right d c m → EventOn d room old new e c m b n (Ok x)
     → (t : ℕ) (o : Outcome) → told_outcome x ≡ Some (t, o) → HasReply d b.book t o
 
 -- a ticket is answered that its row is absent
@@ -80,7 +81,7 @@ is_gone x = false
 
 -- where the host and its rows are right, no ticket is answered so
 abbrev pub TicketsHaveRows : Type 0
-TicketsHaveRows = (d : Deployment) (room old new : ℕ) (e : Event) (c b : Core) (m n : Rows) (x : Seen) → Right d c m → IsOneEvent d room old new e c m b n x → is_gone x ≡ false
+TicketsHaveRows = (d : Deployment) (room old new : ℕ) (e : Event) (c b : Core) (m n : Rows) (x : Seen) → Right d c m → EventOn d room old new e c m b n (Ok x) → is_gone x ≡ false
 
 -- the roots that a book starts, in order: ticket, function and arguments
 abbrev pub starts_of : List Entry → List (ℕ × (ℕ × Value))
@@ -105,7 +106,7 @@ abbrev pub bound_of : Event → Seen → List (ℕ × (ℕ × Value))
 bound_of e (seen.Bound t run) = requested e
 bound_of e x = []
 
--- .. by what it came to: none where memory was wanting
+-- .. by what it came to: none out of memory
 abbrev pub bound_by : Event → Result Seen AllocError → List (ℕ × (ℕ × Value))
 bound_by e (Ok x) = bound_of e x
 bound_by e (Err w) = []
@@ -113,6 +114,12 @@ bound_by e (Err w) = []
 -- the book starts exactly what was bound, in order
 abbrev pub StartsAreBound : Type 0
 StartsAreBound = (d : Deployment) (room old new : ℕ) (e : Event) (c b : Core) (m n : Rows) (r : Result Seen AllocError) → EventOn d room old new e c m b n r → starts_of b.book ≡ starts_of c.book ++ bound_by e r
+
+-- what was made goes on: the run of the book after an event has each instance with its function and arguments, and its answers
+-- are the first of those that it has then
+abbrev pub InstancesGoOn : Type 0
+InstancesGoOn = (d : Deployment) (room old new : ℕ) (e : Event) (c b : Core) (m n : Rows) (r : Result Seen AllocError) (p q : PlainState) → Right d c m → EventOn d room old new e c m b n r
+    → run_of d c.book ≡ Some p → run_of d b.book ≡ Some q → Grows p.made q.made
 
 -- an outcome that a root has stays: the book of a later moment has it too
 abbrev pub OutcomesStay : Type 0
@@ -123,8 +130,9 @@ abbrev pub ListingIsPlain : Type 0
 ListingIsPlain = (d : Deployment) (c : Core) (m : Rows) (p : PlainState) → Right d c m → run_of d c.book ≡ Some p → tables_text d m ≡ listing_of d p
 
 -- ---- one answer per step
+-- in the run of the book
 abbrev pub RightHasOneAnswer : Type 0
-RightHasOneAnswer = (d : Deployment) (c : Core) (m : Rows) → Right d c m → OneAnswerPerStep d c m
+RightHasOneAnswer = (d : Deployment) (c : Core) (m : Rows) (p : PlainState) → Right d c m → run_of d c.book ≡ Some p → OneAnswerPerStep d c m p
 
 -- what rows hold at a step stays, whether they are right or not
 abbrev pub HeldAnswersStay : Type 0
@@ -140,27 +148,30 @@ pub record OneRowChanged (c : Core) (m n : Rows) : Type 0 where
 abbrev pub ChangesOneRow : Type 0
 ChangesOneRow = (d : Deployment) (room old new : ℕ) (e : Event) (c b : Core) (m n : Rows) (r : Result Seen AllocError) → EventOn d room old new e c m b n r → OneRowChanged c m n
 
+-- the rows never exceed the room, where they did not before: a row is added only where there was room, also out of memory
+abbrev pub KeepsRoom : Type 0
+KeepsRoom = (d : Deployment) (room old new : ℕ) (e : Event) (c b : Core) (m n : Rows) (r : Result Seen AllocError) → EventOn d room old new e c m b n r → map.len m ≤ room → map.len n ≤ room
+
 -- the entries that an event's answer tells: the start of a root that was bound, or the entry of a turn
 abbrev pub entries_told : Event → Seen → List Entry
 entries_told e (seen.Acted entry over reply) = option_to_list entry
 entries_told (Request t f a) (seen.Bound u run) = Start t f a ∷ []
 entries_told e x = []
 
--- the book gets at most one entry, which starts what this answer to the event bound: it is the one that the answer tells,
--- unless the answer was lost
-pub record BookGrew (e : Event) (c b : Core) (x : Seen) : Type 0 where
+-- the book gets at most one entry, which starts what the event bound: it is the one that the answer tells, unless the answer was
+-- lost. Out of memory nothing is told.
+pub record BookGrew (e : Event) (c b : Core) (r : Result Seen AllocError) : Type 0 where
   pub entry : Option Entry
   pub book : b.book ≡ c.book ++ option_to_list entry
-  pub starts : starts_of (option_to_list entry) ≡ bound_of e x
-  pub told : is_lost e ≡ false → option_to_list entry ≡ entries_told e x
-
--- .. and at most one where memory was wanting, which tells nothing
-abbrev pub GrewBy : Event → Core → Core → Result Seen AllocError → Type 0
-GrewBy e c b (Ok x) = BookGrew e c b x
-GrewBy e c b (Err w) = (entry : Option Entry) × (b.book ≡ c.book ++ option_to_list entry)
+  pub starts : starts_of (option_to_list entry) ≡ bound_by e r
+  pub told : IfOk r (λ x. (is_lost e && is_dropped x) ≡ false → option_to_list entry ≡ entries_told e x)
 
 abbrev pub WritesWhatIsTold : Type 0
-WritesWhatIsTold = (d : Deployment) (room old new : ℕ) (e : Event) (c b : Core) (m n : Rows) (r : Result Seen AllocError) → EventOn d room old new e c m b n r → GrewBy e c b r
+WritesWhatIsTold = (d : Deployment) (room old new : ℕ) (e : Event) (c b : Core) (m n : Rows) (r : Result Seen AllocError) → EventOn d room old new e c m b n r → BookGrew e c b r
+
+-- an answer is dropped only where it was lost, or the table failed
+abbrev pub DropsHaveCause : Type 0
+DropsHaveCause = (d : Deployment) (e : Event) (c b : Core) (old new : TableState) → is_lost e ≡ false → Stepped d e c b old new (Ok seen.Dropped) → Rose old.faults new.faults
 
 -- ---- lists of events
 -- the requests that events bound, by how they were answered, in order

@@ -1,40 +1,49 @@
 -- That each step of an instance has one answer, whichever run asks for it: the one that the rows hold.
-use Rattle.std.specs.Prelude.{◌≡◌, ℕ, false, List, ◌++◌, take, slice_get, Some}
+use Rattle.std.specs.Prelude.{◌≡◌, ℕ, false, List, ◌++◌, take, slice_get, Option, Some, None}
 use Rattle.std.specs.FinMap as map
 use Rattle.beldi_value.specs.declared.id.IntentId.{IntentId}
-use Rattle.beldi_value.specs.declared.value.Value.{Value}
 use Rattle.beldi_tree.specs.declared.deployment.Deployment.{Deployment}
 use Rattle.beldi_lang.specs.declared.effect.Answer.{Answer}
 use Rattle.beldi_lang.specs.declared.effect.Effect.{Effect}
 use Rattle.beldi_lang.specs.Wants.{wants}
 use Rattle.beldi_lang.specs.Machine.{IsAt}
 use Rattle.beldi_row.specs.Table.{Rows}
+use Rattle.beldi_plain.specs.Plain.{Instance, PlainState}
 use Rattle.beldi_step.specs.declared.run.Run.{Run}
 use Rattle.beldi_step.specs.declared.run.Begun.{Begun}
 use Rattle.beldi_step.specs.Host.{Core}
 use Rattle.beldi_laws.specs.Stands.{held_answer}
 
--- a run of a function has these arguments, and was given the first of these answers
-pub record WasGiven (d : Deployment) (func : ℕ) (args : Value) (answers : List Answer) (r : Run) (g : Begun) : Type 0 where
-  pub same_func : r.func ≡ func
+-- a run is one of the instance, and was given the first of its answers
+pub record WasGiven (d : Deployment) (q : Instance) (r : Run) (g : Begun) : Type 0 where
+  pub same_func : r.func ≡ q.func
   pub given : List Answer
   pub later : List Answer
-  pub first : given ++ later ≡ answers
-  pub machine : IsAt d func args false g.machine given
+  pub first : given ++ later ≡ q.answers
+  pub machine : IsAt d q.func q.args false g.machine given
 
--- the steps of an intent have these answers
-pub record HasAnswers (d : Deployment) (c : Core) (m : Rows) (id : IntentId) : Type 0 where
-  pub func : ℕ
-  pub args : Value
-  pub answers : List Answer
+-- a live run of an intent that has begun
+pub record IsBegun (c : Core) (id : IntentId) (r : Run) (g : Begun) : Type 0 where
+  pub number : ℕ
+  pub live : map.get c.runs number ≡ Some r
+  pub same_id : r.id ≡ id
+  pub begun : r.at ≡ Some g
+
+-- the steps of an intent have the answers of this instance
+pub record HasAnswers (d : Deployment) (c : Core) (m : Rows) (id : IntentId) (q : Instance) : Type 0 where
   -- each is the one that the rows hold at its step
-  pub held : (n : ℕ) (a : Answer) → slice_get answers n ≡ Some a → held_answer m id func n (wants d func args false (take n answers)) ≡ Some a
-  -- each live run of the intent that has begun was given the first of them
-  pub runs : (i : ℕ) (r : Run) (g : Begun) → map.get c.runs i ≡ Some r → r.id ≡ id → r.at ≡ Some g → WasGiven d func args answers r g
+  pub held : (n : ℕ) (a : Answer) → slice_get q.answers n ≡ Some a → held_answer m id q.func n (wants d q.func q.args false (take n q.answers)) ≡ Some a
+  -- each run was given the first of them
+  pub runs : (r : Run) (g : Begun) → IsBegun c id r g → WasGiven d q r g
 
--- the steps of each intent have
-abbrev pub OneAnswerPerStep : Deployment → Core → Rows → Type 0
-OneAnswerPerStep d c m = (id : IntentId) → HasAnswers d c m id
+-- by the instance that it has in the run of the book. No run of one that was not made has begun, so nothing is answered.
+abbrev pub AnswersOf : Deployment → Core → Rows → IntentId → Option Instance → Type 0
+AnswersOf d c m id None = (r : Run) (g : Begun) → IsBegun c id r g → ⊥
+AnswersOf d c m id (Some q) = HasAnswers d c m id q
+
+-- the steps of each intent have the answers of its instance in the plain state p
+abbrev pub OneAnswerPerStep : Deployment → Core → Rows → PlainState → Type 0
+OneAnswerPerStep d c m p = (id : IntentId) → AnswersOf d c m id (map.get p.made id)
 
 -- an answer that the rows m hold is held by the rows n
 abbrev pub AnswersStay : Rows → Rows → Type 0

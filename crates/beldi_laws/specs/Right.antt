@@ -13,7 +13,7 @@ use Rattle.beldi_tree.specs.declared.deployment.Deployment.{Deployment}
 use Rattle.beldi_lang.specs.declared.effect.Answer.{Answer}
 use Rattle.beldi_lang.specs.declared.effect.Answer.TheVariants as answer
 use Rattle.beldi_lang.specs.declared.effect.Effect.{Effect}
-use Rattle.beldi_lang.specs.declared.effect.Effect.TheVariants.{Read, Write, Return}
+use Rattle.beldi_lang.specs.declared.effect.Effect.TheVariants.{Read, Write, CondWrite, Lock, Unlock, Return}
 use Rattle.beldi_lang.specs.Machine.{IsAt}
 use Rattle.beldi_row.specs.declared.key.RowKey.{RowKey}
 use Rattle.beldi_row.specs.declared.key.Kind.{Kind}
@@ -26,20 +26,22 @@ use Rattle.beldi_row.specs.declared.row.Row.TheVariants as rows
 use Rattle.beldi_row.specs.Log.{note_at, owner_eq}
 use Rattle.beldi_row.specs.Table.{Rows}
 use Rattle.beldi_book.specs.declared.entry.Entry.{Entry}
-use Rattle.beldi_book.specs.Order.{count_changes, SeenBounded}
+use Rattle.beldi_book.specs.Order.{count_changes, linear, SeenBounded}
 use Rattle.beldi_daal.specs.Content.{Content, SoundAt}
 use Rattle.beldi_order.specs.Laws.{IsStateAt}
 use Rattle.beldi_order.specs.Sane.{effect_before}
 use Rattle.beldi_plain.specs.Item.{Item, item_cmp}
-use Rattle.beldi_plain.specs.Operation.{OnItem, op_of, item_in, holds_as}
-use Rattle.beldi_plain.specs.Plain.{Instance, PlainState, value_at, kind_of}
+use Rattle.beldi_plain.specs.Guard.{IsGuarded}
+use Rattle.beldi_plain.specs.Holds.{holds, holds_as}
+use Rattle.beldi_plain.specs.Operation.{OnItem, op_of, item_in}
+use Rattle.beldi_plain.specs.Plain.{Instance, PlainState, nothing, value_at, kind_of}
 use Rattle.beldi_plain.specs.Legal.{run_of}
 use Rattle.beldi_plain.specs.declared.kind.Kind.TheVariants as kind
 use Rattle.beldi_step.specs.declared.run.Run.{Run}
 use Rattle.beldi_step.specs.declared.run.Begun.{Begun}
 use Rattle.beldi_step.specs.declared.run.Stage.{Stage}
 use Rattle.beldi_step.specs.declared.run.Stage.TheVariants as stage
-use Rattle.beldi_step.specs.Intent.{root_key}
+use Rattle.beldi_intent.specs.Intent.{root_key}
 use Rattle.beldi_step.specs.Host.{Core, most_runs}
 use Rattle.beldi_laws.specs.Stands.{content_of, noted}
 
@@ -160,11 +162,15 @@ StageOk (Read t k) stage.Ask = Unit {0}
 StageOk (Read t k) stage.Walk = Unit {0}
 StageOk (Read t k) (stage.Keep v seen) = Unit {0}
 StageOk (Write t k v) (stage.Write at) = Unit {0}
+StageOk (CondWrite t k r o v) (stage.Write at) = Unit {0}
+StageOk (Lock t k) (stage.Write at) = Unit {0}
+StageOk (Unlock t k) (stage.Write at) = Unit {0}
 StageOk (Return o) stage.Close = Unit {0}
 StageOk e stage.Unbuilt = kind_of e ≡ kind.Unbuilt
 StageOk e s = ⊥
 
--- where a read belongs after the first `seen` changes: there its instance had these answers, and the item had this value
+-- where a read belongs after the first `seen` changes: there its instance had these answers, and the item had this value and
+-- was not locked by another
 pub record WasThere (d : Deployment) (book : List Entry) (id : IntentId) (answers : List Answer) (x : Item) (v : Value) (seen : ℕ) : Type 0 where
   pub state : PlainState
   pub is_state : IsStateAt d book seen state
@@ -172,6 +178,7 @@ pub record WasThere (d : Deployment) (book : List Entry) (id : IntentId) (answer
   pub made : map.get state.made id ≡ Some instance
   pub same : instance.answers ≡ answers
   pub value : value_at state x ≡ v
+  pub unlocked : (j : IntentId) → holds d x (map.get state.made j) ≡ true → j ≡ id
 
 -- a run that is to keep a value: where its instance was not answered since, the read belongs where the value was found
 pub record Keeps (d : Deployment) (book : List Entry) (id : IntentId) (answers later : List Answer) (x : Item) (v : Value) (seen : ℕ) : Type 0 where
@@ -224,6 +231,7 @@ pub record Right (d : Deployment) (c : Core) (m : Rows) : Type 0 where
   pub bounded : SeenBounded 0 c.book
   pub plain : PlainState
   pub legal : run_of d c.book ≡ Some plain
+  pub guarded : IsGuarded d nothing (linear c.book)
   -- the rows stand for it
   pub rows : RowsMatch d m plain
   -- a root has its row exactly where its ticket was issued

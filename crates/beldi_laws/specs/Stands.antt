@@ -30,7 +30,8 @@ use Rattle.beldi_plain.specs.Item.{Item}
 use Rattle.beldi_plain.specs.Operation.{Operation, OnItem, op_of, item_in, write, cond, lock, free}
 use Rattle.beldi_plain.specs.Plain.{Instance, PlainState, value_at}
 use Rattle.beldi_order.specs.Sane.{effect_before}
-use Rattle.beldi_step.specs.Intent.{root_key, is_ended}
+use Rattle.beldi_step.specs.Run.{noted_answer}
+use Rattle.beldi_intent.specs.Intent.{root_key, is_ended}
 
 -- ---- what the rows hold of an item
 -- the key of an item's first row
@@ -50,16 +51,7 @@ abbrev pub IsSoundChain : Rows → Item → Type 0
 IsSoundChain m x = SoundAt (map.get m (head_key x))
 
 -- ---- the answer that the rows hold
--- a note, read as an answer: what was written, locked or freed was done, and a test has its truth. A death is no answer outside
--- a transaction.
-abbrev pub noted_answer : Note → Option Answer
-noted_answer notes.Wrote = Some Done
-noted_answer (notes.Cond b) = Some (answer.Value (value.Bool b))
-noted_answer notes.Got = Some Done
-noted_answer (notes.Died h) = None
-noted_answer notes.Freed = Some Done
-
--- and the note that an answer to an operation leaves
+-- the note that an answer to an operation leaves
 abbrev pub noted : Operation → Answer → Option Note
 noted (write v) Done = Some notes.Wrote
 noted (cond r o v) (answer.Value (value.Bool b)) = Some (notes.Cond b)

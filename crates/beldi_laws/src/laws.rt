@@ -1,12 +1,12 @@
 // The laws of the step.
-ghost use Rattle.beldi_laws.specs.Laws.{BeginsRight, KeepsRight, RightIsLegal, RightStands, RepliesAreOutcomes, TicketsHaveRows, StartsAreBound, OutcomesStay, ListingIsPlain, RightHasOneAnswer, HeldAnswersStay, ChangesOneRow, WritesWhatIsTold};
+ghost use Rattle.beldi_laws.specs.Laws.{BeginsRight, KeepsRight, RightIsLegal, RightStands, RepliesAreOutcomes, TicketsHaveRows, StartsAreBound, InstancesGoOn, OutcomesStay, ListingIsPlain, RightHasOneAnswer, HeldAnswersStay, ChangesOneRow, KeepsRoom, WritesWhatIsTold, DropsHaveCause};
 
 /// A host that nothing has happened to is right, over a table without rows.
 pub fn begins_right()
     ensures { BeginsRight }
 {}
 
-/// Every event keeps the host and its rows right, also where memory was wanting in it.
+/// Every event keeps the host and its rows right, also out of memory.
 pub fn an_event_keeps_right()
     ensures { KeepsRight }
 {}
@@ -31,9 +31,15 @@ pub fn tickets_have_rows()
     ensures { TicketsHaveRows }
 {}
 
-/// The roots that the book starts are the requests that were bound, in order; none where memory was wanting.
+/// The roots that the book starts are the requests that were bound, in order; none out of memory.
 pub fn starts_are_bound()
     ensures { StartsAreBound }
+{}
+
+/// What was made goes on: an instance keeps its function and its arguments, and its answers are the first of those that it has
+/// later, whatever comes.
+pub fn instances_go_on()
+    ensures { InstancesGoOn }
 {}
 
 /// An outcome that a root has in the run of the book stays, whatever comes.
@@ -46,8 +52,8 @@ pub fn listing_is_plain()
     ensures { ListingIsPlain }
 {}
 
-/// Where the host and its rows are right, each step of an instance has one answer, whichever run asks for it: the one that
-/// the rows hold.
+/// Where the host and its rows are right, each step of an instance in the run of the book has one answer, whichever run asks
+/// for it: the one that the rows hold. So runs that never live together are given the same.
 pub fn each_step_has_one_answer()
     ensures { RightHasOneAnswer }
 {}
@@ -62,8 +68,18 @@ pub fn an_event_changes_one_row()
     ensures { ChangesOneRow }
 {}
 
-/// The book gets at most one entry in an event: the one that the answer tells, unless the answer was lost, or memory was
-/// wanting.
+/// The rows never exceed the room, where they did not before, also out of memory.
+pub fn an_event_keeps_the_room()
+    ensures { KeepsRoom }
+{}
+
+/// The book gets at most one entry in an event: the one that the answer tells, unless the answer was lost, or it was out of
+/// memory.
 pub fn an_event_writes_what_it_tells()
     ensures { WritesWhatIsTold }
+{}
+
+/// An event is answered as dropped only where its answer was lost, or where the table's count of failures rose.
+pub fn a_dropped_answer_has_a_cause()
+    ensures { DropsHaveCause }
 {}

@@ -5,24 +5,29 @@
 //!
 //! Proved:
 //! - A host that nothing has happened to is right, over no rows (`begins_right`).
-//! - Every event keeps it right, also where memory was wanting in it (`an_event_keeps_right`).
+//! - Every event keeps it right, also out of memory (`an_event_keeps_right`).
 //! - Where it is right, the book is legal (`right_is_legal`), the rows stand for the book's run (`right_stands`), and
 //!   the listing of the rows is that of the run (`listing_is_plain`).
 //! - Also where it is right, an outcome that an event tells is the root's in that run (`replies_are_outcomes`), and
 //!   stays (`outcomes_stay`); no ticket is answered as one without a row (`tickets_have_rows`); and each step of an
-//!   instance has one answer, which the rows hold, and each of its runs was given the first of them
-//!   (`each_step_has_one_answer`).
+//!   instance in the run of the book has one answer, which the rows hold, and each of its runs was given the first of
+//!   them (`each_step_has_one_answer`). What was made goes on (`instances_go_on`), so runs that never live together are
+//!   given the same.
 //! - Whether it is right or not, what rows hold at a step stays (`held_answers_stay`).
-//! - The book starts the requests that were bound, in order, and none at want of memory (`starts_are_bound`).
+//! - The book starts the requests that were bound, in order, and none out of memory (`starts_are_bound`).
 //! - An event changes at most one row, by one act, and an item that it is no row of keeps its content
 //!   (`an_event_changes_one_row`), and the book gets at most one entry, the one that its answer tells where the answer
 //!   was not lost (`an_event_writes_what_it_tells`).
+//! - The rows never exceed the room, where they did not before (`an_event_keeps_the_room`).
+//! - Over any table, an event is answered as dropped only where its answer was lost, or where the table's count of
+//!   failures rose (`a_dropped_answer_has_a_cause`).
 #![tactic(auto)]
 
 mod laws;
 
 pub use laws::{
-    an_event_changes_one_row, an_event_keeps_right, an_event_writes_what_it_tells, begins_right,
-    each_step_has_one_answer, held_answers_stay, listing_is_plain, outcomes_stay,
-    replies_are_outcomes, right_is_legal, right_stands, starts_are_bound, tickets_have_rows,
+    a_dropped_answer_has_a_cause, an_event_changes_one_row, an_event_keeps_right,
+    an_event_keeps_the_room, an_event_writes_what_it_tells, begins_right, each_step_has_one_answer,
+    held_answers_stay, instances_go_on, listing_is_plain, outcomes_stay, replies_are_outcomes,
+    right_is_legal, right_stands, starts_are_bound, tickets_have_rows,
 };

@@ -1,5 +1,5 @@
-use Rattle.beldi_laws.proofs.OneEvent.{told_entries}
+use Rattle.beldi_laws.proofs.OneEvent.{book_grew}
 use Rattle.beldi_laws.proofs.laws.an_event_writes_what_it_tells.Goals as goal
 
 pub returns : goal.returns
-returns c = told_entries
+returns c = book_grew
