@@ -3,6 +3,8 @@ use Rattle.std.proofs.Common.{◌≡◌, ℕ, zero, suc, Bool, true, false, List
 use Rattle.std.specs.Prelude.{slice_get}
 use Rattle.beldi_tree.specs.declared.deployment.Deployment.{Deployment}
 use Rattle.beldi_tree.specs.declared.deployment.Func.{Func}
+use Rattle.beldi_value.specs.declared.outcome.Outcome.{Outcome}
+use Rattle.beldi_lang.specs.declared.effect.Answer.{Answer}
 use Rattle.beldi_lang.specs.declared.effect.Effect.{Effect}
 use Rattle.beldi_lang.specs.declared.state.HeldLock.{HeldLock}
 use Rattle.beldi_tree.specs.Command.{Command, Commands, no_commands, command, set, read, write, condwrite, call, async, lock, unlock, transaction, abort, break, choose, repeat, return}
@@ -16,15 +18,22 @@ use Rattle.beldi_core.specs.Built.{or_else, unbuilt, unbuilt_in, unbuilt_of, IsC
 abbrev IsCarried : Bool → Effect → Type 0
 IsCarried i e = kind_of e ≡ Unbuilt → ⊥
 
-abbrev NoneHeld : List HeldLock → Type 0
-NoneHeld hs = hs ≡ []
+-- nothing is asked of the locks that are held
+abbrev AnyHeld : List HeldLock → Type 0
+AnyHeld hs = Unit {0}
+
+-- those that are given back before the return are given back by unlocks
+released : (o : Outcome) (hs : List HeldLock) (rest : List Answer) → kind_of (releases o hs rest) ≡ Unbuilt → ⊥
+released o [] rest is = cc
+released o (l ∷ ls) [] is = cc
+released o (l ∷ ls) (a ∷ rest) is = released o ls rest is
 
 none_of : (o p : Option ℕ) → or_else o p ≡ None → (o ≡ None) × (p ≡ None)
 none_of None p h = (refl, h)
 none_of (Some l) p h = cc
 
 mutual
-  each : (i : Bool) (c : Command) → unbuilt c ≡ None → Each NoneHeld IsCarried i c
+  each : (i : Bool) (c : Command) → unbuilt c ≡ None → Each AnyHeld IsCarried i c
   each i (set l n e) none = tt
   each i (read l n t k) none = λ t' k' is. cc
   each i (write l t k e) none = λ t' k' v is. cc
@@ -32,17 +41,17 @@ mutual
   each i (return l e) none = tt
   each i (choose l e b c) none = let n = none_of (unbuilt_in b) (unbuilt_in c) none in (all i b n.0, all i c n.1)
   each i (repeat l n b) none = all i b none
-  each i (condwrite l n t k r o e) none = cc
+  each i (condwrite l n t k r o e) none = λ t' k' w v is. cc
   each i (call l n f e) none = cc
   each i (async l f e) none = cc
-  each i (lock l t k) none = cc
-  each i (unlock l t k) none = cc
+  each i (lock l t k) none = λ t' k'. ((λ is. cc), λ hs h. tt)
+  each i (unlock l t k) none = λ t' k'. ((λ is. cc), λ hs h. tt)
   each true (transaction l b c) none = cc
   each false (transaction l b c) none = cc
   each true (abort l) none = cc
   each false (abort l) none = cc
 
-  all : (i : Bool) (b : Commands) → unbuilt_in b ≡ None → EachOf NoneHeld IsCarried i b
+  all : (i : Bool) (b : Commands) → unbuilt_in b ≡ None → EachOf AnyHeld IsCarried i b
   all i no_commands none = tt
   all i (command c cs) none = let n = none_of (unbuilt c) (unbuilt_in cs) none in (each i c n.0, all i cs n.1)
 
@@ -59,6 +68,6 @@ fine_func d (suc n) none = fine_at d.funcs n none
 -- in a deployment that is carried out whole
 pub carried : (d : Deployment) → unbuilt_of d.funcs ≡ None → IsCarriedOut d
 carried d none func args inherited answers =
-    wants_only NoneHeld IsCarried d func args inherited answers refl
-    (λ o hs rest held is. let g = sym (ap (λ (ls : List HeldLock). kind_of (releases o ls rest)) held) ∙ is in cc)
+    wants_only AnyHeld IsCarried d func args inherited answers tt
+    (λ o hs rest held is. released o hs rest is)
     (all inherited (body_of (func_at d func)) (fine_func d func none))

@@ -1,13 +1,16 @@
 -- The least number past another, and the greatest ticket, of the entries of a map.
 use Rattle.std.proofs.Common.{◌≡◌, ◌⊎◌, inl, inr, ℕ, ◌<◌, ◌≤◌, Bool, true, false, cond, ◌&&◌, T, List, [], ◌∷◌, Option, None, Some, refl, ap, sym, ◌∙◌, subst, arith}
 use borrow.Author.Tests.{ltb-true, ltb-false}
-use Rattle.std.specs.Prelude.{IsSome, max, nat_lt, if◌then◌else◌}
+use Rattle.std.specs.Prelude.{IsSome, max, nat_lt, filter}
+use Rattle.std.specs.Option.{MatchOption, option_map}
+use denote.Bor.{Bor}
+use Rattle.std.specs.Map.{keys_of}
+use Rattle.std.specs.List.Sorted.{IsStrictlySortedBy}
 use Rattle.std.specs.FinMap as map
 use Rattle.std.specs.FinMap.{nat_cmp-IsAntisymmetric, get-entries, entries_sorted}
 use Rattle.std.specs.FinMap.Entries.{find, is_sorted, below_all}
-use Rattle.std.specs.Cmp.{nat_cmp_total, nat_cmp_is, Equal-is}
-use Rattle.std.specs.Ordering.{nat_cmp, is_eq, is_lt}
-use Rattle.std.specs.declared.cmp.Ordering.TheVariants.{Equal, Greater}
+use Rattle.std.specs.Cmp.{nat_cmp_total, ranks, Equal-is}
+use Rattle.std.specs.Ordering.{nat_cmp, is_eq, is_lt, MatchOrdering}
 use Rattle.std.proofs.lemmas.Cmp.{tied_itself}
 use Rattle.std.proofs.lemmas.Map.Keys.{ge_from_not_lt}
 use Rattle.beldi_row.specs.Key.{key_cmp, key_ticket}
@@ -16,21 +19,11 @@ use Rattle.beldi_row.specs.declared.key.RowKey.{RowKey}
 use Rattle.beldi_row.specs.declared.row.Row.{Row}
 use Rattle.beldi_row.specs.Table.{Rows, Tells}
 use Rattle.beldi_row.proofs.Gets.{key_same}
+use Rattle.beldi_row.proofs.Rows.{entries_rows}
+use Rattle.beldi_core.proofs.Steps.{first, second, test_true, less}
 use Rattle.beldi_step.specs.declared.run.Run.{Run}
-use Rattle.beldi_core.specs.Runs.{RunMap, first_past, next_number, IsLeastPast}
+use Rattle.beldi_core.specs.Runs.{RunMap, IsLeastPast}
 use Rattle.beldi_core.specs.Survey.{greatest, newest_of, IsNewest, NewestAt}
-
-first : (a b : Bool) → T (a && b) → T a
-first true b p = tt
-first false b p = p
-
-second : (a b : Bool) → T (a && b) → T b
-second true b p = p
-second false b p = absurd p
-
-is_true : (b : Bool) → T b → b ≡ true
-is_true true h = refl
-is_true false h = absurd h
 
 not_some : false ≡ true → ⊥
 not_some h = cc
@@ -42,14 +35,8 @@ apart j k h = (elim (is_eq (nat_cmp j k)) as (λ b. is_eq (nat_cmp j k) ≡ b �
   | false ↦ λ e. refl
 ]) refl
 
-less : (j k : ℕ) → is_lt (nat_cmp j k) ≡ true → j < k
-less j k h = (elim (nat_lt j k) as (λ b. nat_lt j k ≡ b → j < k) [
-  | true ↦ λ e. ltb-true j k e
-  | false ↦ λ e. (elim (nat_lt k j) as (λ b. nat_lt k j ≡ b → j < k) [
-    | true ↦ λ f. let clash : true ≡ false = sym h ∙ sym (ap is_lt (nat_cmp_is j k Greater (ltb-true k j f))) in cc
-    | false ↦ λ f. let same : j ≡ k = omega (arith, ltb-false j k e, ltb-false k j f) in let clash : true ≡ false = sym h ∙ sym (ap is_lt (nat_cmp_is j k Equal same)) in cc
-  ]) refl
-]) refl
+below : (j k : ℕ) → is_lt (nat_cmp j k) ≡ true → j < k
+below j k h = subst (λ r. MatchOrdering r (j < k) (j ≡ k) (k < j)) (less (nat_cmp j k) h) (ranks j k)
 
 -- an entry of another key is passed over
 skip : (j : ℕ) (e : ℕ × Run) (es : List (ℕ × Run)) → (j ≡ e.0 → ⊥) → find nat_cmp j (e ∷ es) ≡ find nat_cmp j es
@@ -58,7 +45,7 @@ skip j e es h = ap (λ b. cond b (Some e.1) (find nat_cmp j es)) (apart j e.0 h)
 none_under : (j k : ℕ) (es : List (ℕ × Run)) → j < k → T (below_all nat_cmp k es) → find nat_cmp j es ≡ None
 none_under j k [] p h = refl
 none_under j k (e ∷ es) p h =
-    let above : k < e.0 = less k e.0 (is_true _ (first _ _ h)) in
+    let above : k < e.0 = below k e.0 (test_true _ (first _ _ h)) in
     skip j e es (λ s. omega arith) ∙ none_under j k es p (second _ _ h)
 
 abbrev LeastIn : ℕ → List (ℕ × Run) → Option ℕ → Type 0
@@ -69,19 +56,35 @@ past : (i : ℕ) (e : ℕ × Run) (es : List (ℕ × Run)) (o : Option ℕ) → 
 past i e es None p h = λ j q. skip j e es (λ s. omega arith) ∙ h j q
 past i e es (Some n) p h = (h.0, subst IsSome (sym (skip n e es (λ s. omega (arith, h.0)))) h.1, λ j q r. skip j e es (λ s. omega arith) ∙ h.2 j q r)
 
-least : (i : ℕ) (es : List (ℕ × Run)) → T (is_sorted nat_cmp es) → LeastIn i es (first_past i es)
+-- those past a number, and the first of them
+abbrev past_all : ℕ → List (ℕ × Run) → List (ℕ × Run)
+past_all i es = filter (λ e. is_lt (nat_cmp i e.0) && true) es
+
+abbrev head_of : List (ℕ × Run) → Option ℕ
+head_of [] = None
+head_of (e ∷ es) = Some e.0
+
+least : (i : ℕ) (es : List (ℕ × Run)) → T (is_sorted nat_cmp es) → LeastIn i es (head_of (past_all i es))
 least i [] s = λ j p. refl
-least i (e ∷ es) s = (elim (is_lt (nat_cmp i e.0)) as (λ b. is_lt (nat_cmp i e.0) ≡ b → LeastIn i (e ∷ es) (if b then Some e.0 else first_past i es)) [
-  | true ↦ λ t. (less i e.0 t, subst (λ (o : Option Run). IsSome o) (ap (λ b. cond b (Some e.1) (find nat_cmp e.0 es)) (sym (ap is_eq (tied_itself nat_cmp_total e.0)))) refl, λ j p q. skip j e es (λ s. omega arith) ∙ none_under j e.0 es q (first _ _ s))
-  | false ↦ λ t. past i e es (first_past i es) (ge_from_not_lt i e.0 t) (least i es (second _ _ s))
+least i (e ∷ es) s = (elim (is_lt (nat_cmp i e.0)) as (λ b. is_lt (nat_cmp i e.0) ≡ b → LeastIn i (e ∷ es) (head_of (cond (b && true) (e ∷ past_all i es) (past_all i es)))) [
+  | true ↦ λ t. (below i e.0 t, subst (λ (o : Option Run). IsSome o) (ap (λ b. cond b (Some e.1) (find nat_cmp e.0 es)) (sym (ap is_eq (tied_itself nat_cmp_total e.0)))) refl, λ j p q. skip j e es (λ s. omega arith) ∙ none_under j e.0 es q (first _ _ s))
+  | false ↦ λ t. past i e es (head_of (past_all i es)) (ge_from_not_lt i e.0 t) (least i es (second _ _ s))
 ]) refl
 
 of_map : (i : ℕ) (m : RunMap) (o : Option ℕ) → LeastIn i (map.entries m) o → IsLeastPast i m o
 of_map i m None h = λ j p. get-entries m j ∙ h j p
 of_map i m (Some n) h = (h.0, subst IsSome (sym (get-entries m n)) h.1, λ j p q. get-entries m j ∙ h.2 j p q)
 
-pub next_is_least : (i : ℕ) (m : RunMap) (o : Option ℕ) → o ≡ next_number i m → IsLeastPast i m o
-next_is_least i m o is = subst (IsLeastPast i m) (sym is) (of_map i m (next_number i m) (least i (map.entries m) (entries_sorted m)))
+-- what a range past the number gives first
+first_is : (i : ℕ) (es list new : List (ℕ × Run)) (r : Option (Bor ℕ × Bor Run)) → list ≡ past_all i es → MatchOption r ((list ≡ []) × (new ≡ [])) (λ x. list ≡ (x.0.now, x.1.now) ∷ new) → head_of (past_all i es) ≡ option_map (λ e. e.0.now) r
+first_is i es list new None e h = ap head_of (sym e ∙ h.0)
+first_is i es list new (Some x) e h = ap head_of (sym e ∙ h)
+
+pub next_is : (i : ℕ) (es list new : List (ℕ × Run)) (r : Option (Bor ℕ × Bor Run)) → IsStrictlySortedBy nat_cmp (keys_of es) → list ≡ past_all i es
+    → MatchOption r ((list ≡ []) × (new ≡ [])) (λ x. list ≡ (x.0.now, x.1.now) ∷ new) → (m : RunMap) (o : Option ℕ) → map.from_entries es ≡ m → option_map (λ e. e.0.now) r ≡ o → IsLeastPast i m o
+next_is i es list new r sorted e h m o is next =
+    let all : map.entries m ≡ es = ap map.entries (sym is) ∙ entries_rows nat_cmp_total nat_cmp-IsAntisymmetric es sorted in
+    of_map i m o (subst (LeastIn i (map.entries m)) (ap (λ xs. head_of (past_all i xs)) all ∙ first_is i es list new r e h ∙ next) (least i (map.entries m) (entries_sorted m)))
 
 -- ---- the greatest ticket
 at_most : (k : RowKey) (es : List (RowKey × Row)) → IsSome (find key_cmp k es) → key_ticket k ≤ greatest es

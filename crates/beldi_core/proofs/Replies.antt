@@ -1,6 +1,6 @@
 -- The reply of a root, by a look at its row.
 use Rattle.std.proofs.Common.{◌≡◌, ℕ, Option, None, Some, Result, Ok, Err, refl, ap, ◌∙◌, subst}
-use Rattle.std.specs.Prelude.{IfOk}
+use Rattle.std.specs.Prelude.{IfOk, IsErrOf}
 use Rattle.std.specs.FinMap as map
 use Rattle.beldi_row.specs.declared.key.RowKey.{RowKey}
 use Rattle.beldi_row.specs.declared.row.Row.{Row}
@@ -12,7 +12,7 @@ use Rattle.beldi_row.specs.Table.{Rows, TableState, Acted, ActedOn}
 use Rattle.beldi_row.proofs.Tells.{tells_map}
 use Rattle.beldi_row.proofs.Unchanged.{looked}
 use Rattle.beldi_core.specs.declared.survey.OpenErr.{OpenErr}
-use Rattle.beldi_core.specs.declared.survey.OpenErr.TheVariants.{OutOfMemory}
+use Rattle.beldi_core.specs.declared.survey.OpenErr.TheVariants.{Failed}
 use Rattle.beldi_core.specs.declared.survey.ReplySeen.{ReplySeen}
 use Rattle.beldi_core.specs.Survey.{Reads, row_seen, told_seen}
 
@@ -31,18 +31,10 @@ module _ (k key : RowKey) (now : ℕ) (old new : TableState) (r : Result Said Ta
   seen_on : (x : Result ReplySeen OpenErr) → IfOk x (λ z. z ≡ told_seen (tell_of said)) → (m n : Rows) → ActedOn Look now k old.room m n (Ok said) → (n ≡ m) × IfOk x (λ z. z ≡ row_seen (map.get m k))
   seen_on x right_of m n p = (p.0 ∙ looked now k m, right x (told_seen (tell_of said)) (row_seen (map.get m k)) (ap told_seen p.1 ∙ seen_at now (map.get m k)) right_of)
 
-  pub seen : (x : ReplySeen) → x ≡ told_seen (tell_of said) → Reads (λ m z. z ≡ row_seen (map.get m k)) old new (Ok x)
-  seen x right_of = record {
-    rows = tells_map {P = λ m n. ActedOn Look now k old.room m n (Ok said)} {Q = λ m n. (n ≡ m) × IfOk {E = OpenErr} (Ok x) (λ z. z ≡ row_seen (map.get m k))} old.rows new.rows (seen_on (Ok x) right_of) told.rows;
+  pub seen : (x : Result ReplySeen OpenErr) → (IsErrOf x Failed → ⊥) → IfOk x (λ z. z ≡ told_seen (tell_of said)) → Reads (λ m z. z ≡ row_seen (map.get m k)) old new x
+  seen x sound right_of = record {
+    rows = tells_map {P = λ m n. ActedOn Look now k old.room m n (Ok said)} {Q = λ m n. (n ≡ m) × IfOk x (λ z. z ≡ row_seen (map.get m k))} old.rows new.rows (seen_on x right_of) told.rows;
     later = told.cause.later;
-    failed = λ e. cc;
-    room = told.room;
-  }
-
-  pub unseen : Reads (λ m (z : ReplySeen). z ≡ row_seen (map.get m k)) old new (Err OutOfMemory)
-  unseen = record {
-    rows = tells_map {P = λ m n. ActedOn Look now k old.room m n (Ok said)} {Q = λ m n. (n ≡ m) × IfOk {E = OpenErr} (Err OutOfMemory) (λ (z : ReplySeen). z ≡ row_seen (map.get m k))} old.rows new.rows (seen_on (Err OutOfMemory) tt) told.rows;
-    later = told.cause.later;
-    failed = λ e. cc;
+    failed = λ e. absurd (sound e);
     room = told.room;
   }

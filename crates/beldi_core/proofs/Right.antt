@@ -1,6 +1,6 @@
 -- Why the calls of a host keep it and its rows right, and what they tell of the run of the book.
 use Rattle.std.proofs.Common.{◌≡◌, ℕ, ◌++◌, ◌&&◌, Bool, true, false, List, [], Option, None, Some, Result, Ok, Err, refl, ap, sym, ◌∙◌, subst, is_some, arith, if◌then◌else◌}
-use Rattle.std.specs.Prelude.{nat_lt, nat_le, OnOk, IfOk, IsSome}
+use Rattle.std.specs.Prelude.{nat_lt, nat_le, OnOk, IfOk, IfSome, IsSome}
 use Rattle.std.specs.FinMap as map
 use Rattle.std.specs.FinMap.{len-entries, len-empty}
 use Rattle.std.specs.declared.alloc.AllocError.{AllocError}
@@ -17,13 +17,12 @@ use Rattle.beldi_row.specs.Table.{Rows, TableState, Tells}
 use Rattle.beldi_plain.specs.Plain.{PlainState, reply_of, outcome_of}
 use Rattle.beldi_step.specs.declared.event.Event.{Event}
 use Rattle.beldi_step.specs.declared.event.Seen.{Seen}
-use Rattle.beldi_step.specs.Intent.{root_key}
-use Rattle.beldi_step.specs.Host.{Core, first_core, Stepped}
-use Rattle.beldi_step.specs.Forms.{EventOn}
-use Rattle.beldi_step.proofs.Forms.{over_rows}
+use Rattle.beldi_intent.specs.Intent.{root_key}
+use Rattle.beldi_step.specs.Host.{Core, first_core, Stepped, EventOn}
+use Rattle.beldi_step.proofs.Steps.{over_rows}
 use Rattle.beldi_step.specs.Tables.{tables_text}
 use Rattle.beldi_laws.specs.Right.{Right, IntentMatches, BodyMatches}
-use Rattle.beldi_laws.proofs.Events.{begins, after_event, keeps_right}
+use Rattle.beldi_laws.proofs.Events.{begins, after_event, keeps_right, right_legal}
 use Rattle.beldi_laws.proofs.Standing.{same_run, right_stands}
 use Rattle.beldi_laws.proofs.Listing.{listing_plain}
 use Rattle.beldi_core.specs.Survey.{Reads, greatest, newest_of, outcome_seen, row_seen, is_unknown, reply_seen}
@@ -31,62 +30,57 @@ use Rattle.beldi_core.specs.declared.survey.OpenErr.{OpenErr}
 use Rattle.beldi_core.specs.declared.survey.ReplySeen.{ReplySeen}
 use Rattle.beldi_core.specs.declared.survey.ReplySeen.TheVariants.{Unknown}
 use Rattle.beldi_laws.specs.Laws.{is_gone}
+use Rattle.beldi_laws.specs.Stands.{Stands}
+use Rattle.beldi_laws.specs.OneAnswer.{OneAnswerPerStep, AnswersStay}
+use Rattle.beldi_laws.proofs.Moves.{seen_by}
 use Rattle.beldi_laws.proofs.OneAnswer.{one_answer, answers_stay}
-use Rattle.beldi_core.specs.Right.{RightAt, LegalAt, StandsAt, OneAnswerAt, StayAt, HasNoRows, ListedAt, HasNoReply, SaidOf, SaidAt}
+use Rattle.beldi_plain.specs.Legal.{IsLegal, run_of}
+use Rattle.beldi_plain.specs.Listing.{listing_of}
+use Rattle.beldi_row.proofs.Tells.{tells_map}
+use Rattle.beldi_core.specs.Right.{RowsStandFor, HasNoRows, HasNoReply, SaidOf}
 
--- ---- what follows where it is right
-pub legal_at : (d : Deployment) (c : Core) (told : Option Rows) → RightAt d c told → LegalAt d c told
-legal_at d c None h = tt
-legal_at d c (Some m) h = record { bounded = h.bounded; run = h.plain; legal = h.legal }
+-- ---- what is told
+if_told : {P Q : Rows → Type 0} (told : Option Rows) → ((m : Rows) → P m → Q m) → IfSome told P → IfSome told Q
+if_told None f h = h
+if_told (Some m) f h = f m h
 
-pub stands_at : (d : Deployment) (c : Core) (told : Option Rows) → RightAt d c told → StandsAt d c told
-stands_at d c None h = tt
-stands_at d c (Some m) h = λ p is. right_stands d c m p h is
+-- what follows from what is told before and after
+tells_so : {R : Rows → Rows → Type 0} (Z : Option Rows → Option Rows → Type 0) → Z None None → ((m n : Rows) → R m n → Z (Some m) (Some n)) → (before after : Option Rows) → Tells before after R → Z before after
+tells_so Z none some None after h = subst (Z None) (sym h) none
+tells_so Z none some (Some m) None h = absurd h
+tells_so Z none some (Some m) (Some n) h = some m n h
 
-pub one_answer_at : (d : Deployment) (c : Core) (told : Option Rows) → RightAt d c told → OneAnswerAt d c told
-one_answer_at d c None h = tt
-one_answer_at d c (Some m) h = one_answer d c m h
+-- ---- what a right host has
+module _ (d : Deployment) (c : Core) (told : Option Rows) where
+  pub legal_at : IfSome told (Right d c) → IfSome told (λ m. IsLegal d c.book)
+  legal_at h = if_told {P = Right d c} {Q = λ m. IsLegal d c.book} told (right_legal d c) h
 
--- ---- the host after a call
-module _ (d : Deployment) (c b : Core) where
-  keeps : (P : Rows → Rows → Type 0) (before after : Option Rows) → ((m n : Rows) → P m n → Right d c m → Right d b n) → Tells before after P → RightAt d c before → RightAt d b after
-  keeps P None after f t h = subst (λ (o : Option Rows). RightAt d b o) (sym t) tt
-  keeps P (Some m) None f t h = absurd t
-  keeps P (Some m) (Some n) f t h = f m n t h
+  pub stands_at : IfSome told (Right d c) → RowsStandFor d c.book told
+  stands_at h = if_told {P = Right d c} {Q = λ m. (p : PlainState) → run_of d c.book ≡ Some p → Stands d m p} told (λ m r p is. right_stands d c m p r is) h
 
-event_on : (d : Deployment) (room old new : ℕ) (e : Event) (c b : Core) (m n : Rows) (x : Result Seen AllocError) → EventOn d room old new e c m b n x → Right d c m → Right d b n
-event_on d room old new e c b m n x s h = keeps_right d room old new e c b m n x h s
+  pub one_answer_at : IfSome told (Right d c) → IfSome told (λ m. (p : PlainState) → run_of d c.book ≡ Some p → OneAnswerPerStep d c m p)
+  one_answer_at h = if_told {P = Right d c} {Q = λ m. (p : PlainState) → run_of d c.book ≡ Some p → OneAnswerPerStep d c m p} told (λ m r p is. one_answer d c m p r is) h
 
--- what the rows held stays
-stays_told : (d : Deployment) (room old new : ℕ) (e : Event) (c b : Core) (before after : Option Rows) (x : Result Seen AllocError)
-    → Tells before after (λ m n. EventOn d room old new e c m b n x) → StayAt before after
-stays_told d room old new e c b None after x s = tt
-stays_told d room old new e c b (Some m) None x s = absurd s
-stays_told d room old new e c b (Some m) (Some n) x s = answers_stay d room old new e c b m n x s
+-- ---- the host after an event
+module _ (d : Deployment) (e : Event) (c b : Core) (old new : TableState) (x : Result Seen AllocError) (s : Stepped d e c b old new x) where
+  abbrev On : Rows → Rows → Type 0
+  On m n = EventOn d old.room old.faults new.faults e c m b n x
 
-pub event_stays : (d : Deployment) (e : Event) (c b : Core) (old new : TableState) (x : Result Seen AllocError) → Stepped d e c b old new x → StayAt old.rows new.rows
-event_stays d e c b old new x s = stays_told d old.room old.faults new.faults e c b old.rows new.rows x (over_rows d e c b old new x s)
+  pub event_stays : Tells old.rows new.rows AnswersStay
+  event_stays = tells_map {P = On} {Q = AnswersStay} old.rows new.rows (λ m n h. answers_stay d old.room old.faults new.faults e c b m n x h) (over_rows d e c b old new x s)
 
-not_told : false ≡ true → ⊥
-not_told h = cc
+  pub event_keeps : (k : Deployment) → k ≡ d → IfSome old.rows (Right d c) → IfSome new.rows (Right k b)
+  event_keeps k code = subst (λ (z : Deployment). IfSome old.rows (Right d c) → IfSome new.rows (Right z b)) (sym code)
+      (tells_so {R = On} (λ o u. IfSome o (Right d c) → IfSome u (Right d b)) (λ h. tt) (λ m n h r. keeps_right d old.room old.faults new.faults e c b m n x r h) old.rows new.rows (over_rows d e c b old new x s))
 
--- no ticket is answered gone
-none_gone : (d : Deployment) (room old new : ℕ) (e : Event) (c b : Core) (before after : Option Rows) (x : Result Seen AllocError)
-    → Tells before after (λ m n. EventOn d room old new e c m b n x) → IsSome before → RightAt d c before → IfOk x (λ y. is_gone y ≡ false)
-none_gone d room old new e c b before after (Err w) s told h = tt
-none_gone d room old new e c b None after (Ok x) s told h = let clash : false ≡ true = told in absurd (not_told clash)
-none_gone d room old new e c b (Some m) None (Ok x) s told h = absurd s
-none_gone d room old new e c b (Some m) (Some n) (Ok x) s told h = (after_event d room old new e c b m n x h s).there
-
-pub never_gone : (d : Deployment) (e : Event) (c b : Core) (old new : TableState) (x : Result Seen AllocError)
-    → Stepped d e c b old new x → IsSome old.rows → RightAt d c old.rows → IfOk x (λ y. is_gone y ≡ false)
-never_gone d e c b old new x s told h = none_gone d old.room old.faults new.faults e c b old.rows new.rows x (over_rows d e c b old new x s) told h
-
--- an event
-pub event_keeps : (d k : Deployment) (e : Event) (c b : Core) (old new : TableState) (x : Result Seen AllocError)
-    → k ≡ d → Stepped d e c b old new x → RightAt d c old.rows → RightAt k b new.rows
-event_keeps d k e c b old new x code s h =
-    subst (λ (z : Deployment). RightAt z b new.rows) (sym code) (keeps d c b (λ m n. EventOn d old.room old.faults new.faults e c m b n x) old.rows new.rows (λ m n p r. event_on d old.room old.faults new.faults e c b m n x p r) (over_rows d e c b old new x s) h)
+  -- no ticket is answered gone
+  pub never_gone : IsSome old.rows → IfSome old.rows (Right d c) → IfOk x (λ y. is_gone y ≡ false)
+  never_gone = tells_so {R = On} (λ o u. IsSome o → IfSome o (Right d c) → IfOk x (λ y. is_gone y ≡ false)) (λ some. let clash : false ≡ true = some in cc)
+      (λ m n h some r. answered x (after_event d old.room old.faults new.faults e c b m n x r h).there) old.rows new.rows (over_rows d e c b old new x s)
+    where
+      answered : (y : Result Seen AllocError) → is_gone (seen_by y) ≡ false → IfOk y (λ z. is_gone z ≡ false)
+      answered (Ok z) h = h
+      answered (Err w) h = tt
 
 -- ---- a host that was opened over no rows
 no_entries : map.entries (map.empty {X = Row} {R = key_cmp}) ≡ []
@@ -95,23 +89,17 @@ no_entries = nil_from_length (map.entries (map.empty {X = Row} {R = key_cmp})) (
 pub begins_right : (d : Deployment) (now : ℕ) (m : Rows) → m ≡ map.empty → Right d (first_core (newest_of m) now) m
 begins_right d now m none = subst (λ (y : Rows). Right d (first_core (newest_of y) now) y) (sym none) (subst (λ (k : ℕ). Right d (first_core k now) map.empty) (sym (ap greatest no_entries)) (begins d now))
 
-pub opened : (d : Deployment) (c : Core) (now : ℕ) (before after : Option Rows) → c ≡ first_core c.newest now → Tells before after (λ m n. (n ≡ m) × (c.newest ≡ newest_of m)) → HasNoRows before → RightAt d c after
-opened d c now None after core t none = subst (λ (o : Option Rows). RightAt d c o) (sym t) tt
-opened d c now (Some m) None core t none = absurd t
-opened d c now (Some m) (Some n) core t none =
-    subst (λ (y : Rows). Right d c y) (sym t.0) (subst (λ (z : Core). Right d z m) (sym (core ∙ ap (λ k. first_core k now) t.1)) (begins_right d now m none))
+pub opened : (d : Deployment) (c : Core) (now : ℕ) (before after : Option Rows) → c ≡ first_core c.newest now → Tells before after (λ m n. (n ≡ m) × (c.newest ≡ newest_of m)) → HasNoRows before → IfSome after (Right d c)
+opened d c now before after core = tells_so {R = λ m n. (n ≡ m) × (c.newest ≡ newest_of m)} (λ o u. HasNoRows o → IfSome u (Right d c)) (λ h. tt)
+    (λ m n t none. subst (Right d c) (sym t.0) (subst (λ (z : Core). Right d z m) (sym (core ∙ ap (λ k. first_core k now) t.1)) (begins_right d now m none))) before after
 
 -- ---- the listing
-listed_told : (d : Deployment) (c : Core) (text longer : List ℕ) (before after : Option Rows) (x : Result (Unit {0}) OpenErr)
-    → Tells before after (λ m n. (n ≡ m) × IfOk x (λ u. longer ≡ text ++ tables_text d m)) → RightAt d c before → OnOk x (ListedAt d c before text longer)
-listed_told d c text longer before after (Err w) s h = tt
-listed_told d c text longer None after (Ok u) s h = tt
-listed_told d c text longer (Some m) None (Ok u) s h = absurd s
-listed_told d c text longer (Some m) (Some n) (Ok u) s h = λ p is. s.1 ∙ ap (λ t. text ++ t) (listing_plain d c m p h is)
-
-pub listed : (d : Deployment) (c : Core) (text longer : List ℕ) (old new : TableState) (x : Result (Unit {0}) OpenErr)
-    → Reads (λ m u. longer ≡ text ++ tables_text d m) old new x → RightAt d c old.rows → OnOk x (ListedAt d c old.rows text longer)
-listed d c text longer old new x s h = listed_told d c text longer old.rows new.rows x s.rows h
+pub listed : (d : Deployment) (c : Core) (text longer : List ℕ) (old new : TableState) (x : Result (Unit {0}) OpenErr) → Reads (λ m u. longer ≡ text ++ tables_text d m) old new x
+    → IfSome old.rows (Right d c) → OnOk x (IfSome old.rows (λ m. (p : PlainState) → run_of d c.book ≡ Some p → longer ≡ text ++ listing_of d p))
+listed d c text longer old new (Err w) s h = tt
+listed d c text longer old new (Ok u) s h = tells_so {R = λ m n. (n ≡ m) × (longer ≡ text ++ tables_text d m)}
+    (λ o u. IfSome o (Right d c) → IfSome o (λ m. (p : PlainState) → run_of d c.book ≡ Some p → longer ≡ text ++ listing_of d p)) (λ h. tt)
+    (λ m n t h p is. t.1 ∙ ap (λ z. text ++ z) (listing_plain d c m p h is)) old.rows new.rows s.rows h
 
 -- ---- a reply
 issued_if : (t n : ℕ) → is_unknown n t ≡ false → (nat_lt 0 t && nat_le t n) ≡ true
@@ -149,13 +137,8 @@ module _ (d : Deployment) (c : Core) (m : Rows) (h : Right d c m) (t : ℕ) wher
   pub said_of : SaidOf d c.book t (reply_seen c.newest t m)
   said_of = by_ticket (is_unknown c.newest t) refl
 
-said_told : (d : Deployment) (c : Core) (t : ℕ) (before after : Option Rows) (x : Result ReplySeen OpenErr)
-    → Tells before after (λ m n. (n ≡ m) × IfOk x (λ y. y ≡ reply_seen c.newest t m)) → RightAt d c before → IfOk x (λ y. SaidAt d c before t y)
-said_told d c t before after (Err w) s h = tt
-said_told d c t None after (Ok y) s h = tt
-said_told d c t (Some m) None (Ok y) s h = absurd s
-said_told d c t (Some m) (Some n) (Ok y) s h = subst (λ (z : ReplySeen). SaidOf d c.book t z) (sym s.1) (said_of d c m h t)
-
 pub said : (d : Deployment) (c : Core) (t : ℕ) (old new : TableState) (x : Result ReplySeen OpenErr)
-    → Reads (λ m y. y ≡ reply_seen c.newest t m) old new x → RightAt d c old.rows → IfOk x (λ y. SaidAt d c old.rows t y)
-said d c t old new x s h = said_told d c t old.rows new.rows x s.rows h
+    → Reads (λ m y. y ≡ reply_seen c.newest t m) old new x → IfSome old.rows (Right d c) → IfOk x (λ y. IfSome old.rows (λ m. SaidOf d c.book t y))
+said d c t old new (Err w) s h = tt
+said d c t old new (Ok y) s h = tells_so {R = λ m n. (n ≡ m) × (y ≡ reply_seen c.newest t m)} (λ o u. IfSome o (Right d c) → IfSome o (λ m. SaidOf d c.book t y)) (λ h. tt)
+    (λ m n z h. subst (λ (r : ReplySeen). SaidOf d c.book t r) (sym z.1) (said_of d c m h t)) old.rows new.rows s.rows h

@@ -1,16 +1,13 @@
 -- The runs as a map, and a turn of one of them.
-use Rattle.std.proofs.Common.{◌≡◌, ℕ, ◌+◌, ◌-◌, ◌<◌, ◌≤◌, Bool, true, false, cond, List, [], ◌∷◌, Option, None, Some, is_none, Result, Ok, Err, refl, ap, sym, ◌∙◌, subst, arith}
-use Rattle.std.specs.Prelude.{nat_lt, IsSome, if◌then◌else◌, ◌&&◌, filter}
-use Rattle.std.specs.Option.{MatchOption, option_map}
-use denote.Bor.{Bor}
+use Rattle.std.proofs.Common.{◌≡◌, ℕ, ◌+◌, ◌-◌, ◌<◌, ◌≤◌, Bool, true, false, cond, List, Option, None, Some, is_none, Result, Ok, Err, refl, ap, sym, ◌∙◌, subst, arith}
+use Rattle.std.specs.Prelude.{nat_lt, IsSome}
 use borrow.Author.Tests.{ltb-true, ltb-false}
-use Rattle.std.specs.Map.{lookup, keys_of}
-use Rattle.std.specs.List.Sorted.{IsStrictlySortedBy}
+use Rattle.std.specs.Map.{lookup}
 use Rattle.std.specs.BTreeMap.{is_at}
 use Rattle.std.specs.FinMap as map
 use Rattle.std.specs.FinMap.{nat_cmp-IsAntisymmetric, get-insert, get-remove, same_map}
 use Rattle.std.specs.Cmp.{nat_cmp_total, Equal-is}
-use Rattle.std.specs.Ordering.{nat_cmp, eq_by_cmp, is_eq, is_lt}
+use Rattle.std.specs.Ordering.{nat_cmp, eq_by_cmp, is_eq}
 use Rattle.std.proofs.lemmas.Cmp.{eq_by_cmp_equiv, tied_itself}
 use Rattle.beldi_tree.specs.declared.deployment.Deployment.{Deployment}
 use Rattle.beldi_walk.specs.declared.query.Query.{Query}
@@ -22,18 +19,14 @@ use Rattle.beldi_step.specs.declared.run.Mark.{Mark}
 use Rattle.beldi_step.specs.Run.{Turned, Turns, going, followed, run_told}
 use Rattle.beldi_step.specs.Host.{put_run}
 use Rattle.beldi_laws.proofs.Lives.{remove_put}
-use Rattle.beldi_core.specs.Runs.{RunMap, AllGiven, withdrawn, says_of, ends_run, settled, asked_of, asked_by, Led, first_past, next_number}
-use Rattle.beldi_row.proofs.Rows.{get_rows, none_removed, entries_rows}
+use Rattle.beldi_core.specs.Runs.{RunMap, AllGiven, withdrawn, says_of, ends_run, settled, asked_of, asked_by, RunTold}
+use Rattle.beldi_row.proofs.Rows.{get_rows, none_removed}
 
 -- entries without one key
 pub one_removed : (es fs : List (ℕ × Run)) (k : ℕ) → ((q : ℕ) → lookup (is_at (nat_cmp q)) fs ≡ cond (is_at (nat_cmp k) q) None (lookup (is_at (nat_cmp q)) es)) → map.from_entries {R = nat_cmp} fs ≡ map.remove (map.from_entries es) k
 one_removed es fs k h = same_map nat_cmp_total nat_cmp-IsAntisymmetric _ _ (λ q.
     get_rows nat_cmp_total nat_cmp-IsAntisymmetric fs q ∙ h q ∙ ap (λ b. cond b None (lookup (is_at (nat_cmp q)) es)) ((eq_by_cmp_equiv nat_cmp_total).symm k q)
     ∙ sym (get-remove nat_cmp_total (map.from_entries es) k q ∙ ap (cond (is_at (nat_cmp q) k) None) (get_rows nat_cmp_total nat_cmp-IsAntisymmetric es q)))
-
--- what was set is taken out
-pub remove_set : (m : RunMap) (k : ℕ) (r : Run) → map.remove (map.insert m k r) k ≡ map.remove m k
-remove_set m k r = remove_put m k (Some r)
 
 -- ---- no number past the last has a run
 both_none : (b : Bool) (o : Option Run) → o ≡ None → cond b None o ≡ None
@@ -61,13 +54,13 @@ given_withdrawn g m n some h is i p = ap (λ q. map.get q i) is ∙ get-remove n
 -- the last number, taken back
 pub back : (g : ℕ) (m n : RunMap) (r : Run) → AllGiven g m → n ≡ map.insert m (g + 1) r → withdrawn (record { runs = n; given = g + 1 }) ≡ record { runs = m; given = g }
 back g m n r h is =
-    let runs : map.remove n (g + 1) ≡ m = ap (λ q. map.remove q (g + 1)) is ∙ remove_set m (g + 1) r ∙ none_removed nat_cmp_total nat_cmp-IsAntisymmetric m (g + 1) (h (g + 1) (omega arith)) in
+    let runs : map.remove n (g + 1) ≡ m = ap (λ q. map.remove q (g + 1)) is ∙ remove_put m (g + 1) (Some r) ∙ none_removed nat_cmp_total nat_cmp-IsAntisymmetric m (g + 1) (h (g + 1) (omega arith)) in
     let given : g + 1 - 1 ≡ g = omega arith in
     λ j. record { runs = runs j; given = given j }
 
 -- ---- a turn
 still_none : (a : RunMap) (i j : ℕ) (r s : Run) (over : Bool) → map.get a i ≡ Some r → map.get a j ≡ None → map.get (settled over (map.insert a i s) i) j ≡ None
-still_none a i j r s true here none = ap (λ q. map.get q j) (remove_set a i s) ∙ get-remove nat_cmp_total a i j ∙ both_none _ _ none
+still_none a i j r s true here none = ap (λ q. map.get q j) (remove_put a i (Some s)) ∙ get-remove nat_cmp_total a i j ∙ both_none _ _ none
 still_none a i j r s false here none = get-insert nat_cmp_total a i s j ∙ (elim (eq_by_cmp nat_cmp j i) as (λ b. eq_by_cmp nat_cmp j i ≡ b → cond b (Some s) (map.get a j) ≡ None) [
   | true ↦ λ e. let same = ap (map.get a) (nat_cmp-IsAntisymmetric j i ((Equal-is (nat_cmp j i)).0 e)) in let clash : None ≡ Some r = sym none ∙ same ∙ here in cc
   | false ↦ λ e. none
@@ -77,7 +70,7 @@ pub none_new : (a b c : RunMap) (i : ℕ) (r s : Run) (over : Bool) → map.get 
 none_new a b c i r s over here set is j none = ap (λ q. map.get q j) (is ∙ ap (λ q. settled over q i) set) ∙ still_none a i j r s over here none
 
 put_back : (a : RunMap) (i : ℕ) (s : Run) (over : Bool) → settled over (map.insert a i s) i ≡ put_run a i (going s over)
-put_back a i s true = remove_set a i s
+put_back a i s true = remove_put a i (Some s)
 put_back a i s false = refl
 
 over_back : (s : Run) (over : Bool) → is_none (going s over) ≡ over
@@ -87,11 +80,11 @@ over_back s false = refl
 says_back : (s : Run) (x : TurnSays) → x ≡ says_of (followed s x)
 says_back s x = λ j. record { mark = x.mark; over = sym (over_back s x.over) j; wait = x.wait; reply = x.reply }
 
-pub led : (d : Deployment) (changes : ℕ) (a b c : RunMap) (i : ℕ) (r s : Run) (t : Told) (x : Result TurnSays (Option Mark)) → map.get a i ≡ Some r → b ≡ map.insert a i s → c ≡ settled (ends_run x) b i
-    → Turns s x (run_told d changes r t) → Led d changes a c i (map.get a i) t x
-led d changes a b c i r s t (Ok x) here set is h = subst (λ (o : Option Run). Led d changes a c i o t (Ok x)) (sym here)
+pub run_was_told : (d : Deployment) (changes : ℕ) (a b c : RunMap) (i : ℕ) (r s : Run) (t : Told) (x : Result TurnSays (Option Mark)) → map.get a i ≡ Some r → b ≡ map.insert a i s → c ≡ settled (ends_run x) b i
+    → Turns s x (run_told d changes r t) → RunTold d changes a c i (map.get a i) t x
+run_was_told d changes a b c i r s t (Ok x) here set is h = subst (λ (o : Option Run). RunTold d changes a c i o t (Ok x)) (sym here)
     (is ∙ ap (λ q. settled x.over q i) set ∙ put_back a i s x.over ∙ ap (λ (z : Turned). put_run a i z.next) h, says_back s x ∙ ap says_of h)
-led d changes a b c i r s t (Err m) here set is h = subst (λ (o : Option Run). Led d changes a c i o t (Err m)) (sym here) (is ∙ ap (λ q. map.remove q i) set ∙ remove_set a i s, h)
+run_was_told d changes a b c i r s t (Err m) here set is h = subst (λ (o : Option Run). RunTold d changes a c i o t (Err m)) (sym here) (is ∙ ap (λ q. map.remove q i) set ∙ remove_put a i (Some s), h)
 
 pub absent_run : (o : Option Run) → IsSome o → o ≡ None → ⊥
 absent_run o h is = cc
@@ -105,26 +98,3 @@ none_asked o is = ap asked_by (sym is)
 
 pub is_there : (o : Option Run) (r : Run) → o ≡ Some r → IsSome o
 is_there o r is = cc
-
--- ---- the first run past a number
-abbrev head_of : List (ℕ × Run) → Option ℕ
-head_of [] = None
-head_of (e ∷ es) = Some e.0
-
-first_of : (i : ℕ) (es : List (ℕ × Run)) → first_past i es ≡ head_of (filter (λ e. is_lt (nat_cmp i e.0) && true) es)
-first_of i [] = refl
-first_of i (e ∷ es) =
-    elim (is_lt (nat_cmp i e.0)) as (λ b. (if b then Some e.0 else first_past i es) ≡ head_of (cond (b && true) (e ∷ filter (λ f. is_lt (nat_cmp i f.0) && true) es) (filter (λ f. is_lt (nat_cmp i f.0) && true) es))) [
-      | true ↦ refl
-      | false ↦ first_of i es
-    ]
-
-first_is : (i : ℕ) (es list new : List (ℕ × Run)) (r : Option (Bor ℕ × Bor Run)) → list ≡ filter (λ e. is_lt (nat_cmp i e.0) && true) es
-    → MatchOption r ((list ≡ []) × (new ≡ [])) (λ x. list ≡ (x.0.now, x.1.now) ∷ new) → option_map (λ e. e.0.now) r ≡ first_past i es
-first_is i es list new None e h = ap head_of (sym h.0 ∙ e) ∙ sym (first_of i es)
-first_is i es list new (Some x) e h = ap head_of (sym h ∙ e) ∙ sym (first_of i es)
-
--- what a range past the number gives first
-pub next_is : (i : ℕ) (es list new : List (ℕ × Run)) (r : Option (Bor ℕ × Bor Run)) → IsStrictlySortedBy nat_cmp (keys_of es) → list ≡ filter (λ e. is_lt (nat_cmp i e.0) && true) es
-    → MatchOption r ((list ≡ []) × (new ≡ [])) (λ x. list ≡ (x.0.now, x.1.now) ∷ new) → option_map (λ e. e.0.now) r ≡ next_number i (map.from_entries es)
-next_is i es list new r sorted e h = first_is i es list new r e h ∙ ap (first_past i) (sym (entries_rows nat_cmp_total nat_cmp-IsAntisymmetric es sorted))

@@ -16,6 +16,8 @@ use Rattle.beldi_row.specs.declared.key.Kind.{Kind}
 use Rattle.beldi_row.specs.declared.key.Kind.TheVariants.{Intent, ReadLog, Invoke, Data, Shadow, Lockset}
 use Rattle.beldi_row.specs.declared.row.Row.{Row}
 use Rattle.beldi_row.specs.Table.{Rows, TableState, Tells, first_above, next_row}
+use Rattle.beldi_row.proofs.Tells.{tells_map}
+use Rattle.beldi_walk.proofs.Queries.{same_rows}
 use Rattle.beldi_step.specs.Tables.{row_line, line_at, tables_text}
 use Rattle.beldi_core.specs.Survey.{Reads, greatest, newest_of, next_key_of, next_line_of}
 
@@ -27,19 +29,19 @@ abbrev pub rest : RowKey → List (RowKey × Row) → List (RowKey × Row)
 rest k [] = []
 rest k (e ∷ es) = if is_lt (key_cmp k e.0) then e ∷ es else rest k es
 
-first : (a b : Bool) → T (a && b) → T a
+pub first : (a b : Bool) → T (a && b) → T a
 first true b p = tt
 first false b p = p
 
-second : (a b : Bool) → T (a && b) → T b
+pub second : (a b : Bool) → T (a && b) → T b
 second true b p = p
 second false b p = absurd p
 
-test_true : (b : Bool) → T b → b ≡ true
+pub test_true : (b : Bool) → T b → b ≡ true
 test_true true h = refl
 test_true false h = absurd h
 
-less : (o : Ordering) → is_lt o ≡ true → o ≡ Less
+pub less : (o : Ordering) → is_lt o ≡ true → o ≡ Less
 less Less h = refl
 less Equal h = cc
 less Greater h = cc
@@ -184,13 +186,9 @@ pub record Surveying (P : Rows → Type 0) (old new : TableState) : Type 0 where
   pub later : old.faults ≤ new.faults
   pub room : new.room ≡ old.room
 
-same_rows : (P : Rows → Rows → Type 0) (rows : Option Rows) → ((m : Rows) → P m m) → Tells rows rows P
-same_rows P None f = refl
-same_rows P (Some m) f = f m
-
 pub begins : (P : Rows → Type 0) → ((m : Rows) → P m) → (a : TableState) → Surveying P a a
 begins P f a = record {
-  rows = same_rows (λ m n. (n ≡ m) × P m) a.rows (λ m. (refl, f m));
+  rows = tells_map {P = λ m n. n ≡ m} {Q = λ m n. (n ≡ m) × P m} a.rows a.rows (λ m n same. (same, f m)) (same_rows a.rows);
   later = omega arith;
   room = refl;
 }

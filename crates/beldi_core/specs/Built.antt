@@ -20,11 +20,11 @@ abbrev mutual
   unbuilt (set l n e) = None
   unbuilt (read l n t k) = None
   unbuilt (write l t k e) = None
-  unbuilt (condwrite l n t k r o e) = Some l
+  unbuilt (condwrite l n t k r o e) = None
   unbuilt (call l n f e) = Some l
   unbuilt (async l f e) = Some l
-  unbuilt (lock l t k) = Some l
-  unbuilt (unlock l t k) = Some l
+  unbuilt (lock l t k) = None
+  unbuilt (unlock l t k) = None
   unbuilt (transaction l b c) = Some l
   unbuilt (abort l) = Some l
   unbuilt (break l) = None

@@ -18,14 +18,15 @@ use Rattle.beldi_step.specs.declared.event.Event.{Event}
 use Rattle.beldi_step.specs.declared.event.Event.TheVariants.{Ticket, Request, Turn, Lost}
 use Rattle.beldi_step.specs.declared.event.Seen.{Seen}
 use Rattle.beldi_step.specs.declared.event.Seen.TheVariants as seen
-use Rattle.beldi_step.specs.declared.intent.Binding.{Binding}
-use Rattle.beldi_step.specs.declared.intent.Binding.TheVariants as binding
+use Rattle.beldi_intent.specs.declared.intent.Binding.{Binding}
+use Rattle.beldi_intent.specs.declared.intent.Binding.TheVariants as binding
 use Rattle.beldi_step.specs.declared.run.Mark.{Mark}
 use Rattle.beldi_step.specs.declared.run.Run.{Run}
 use Rattle.beldi_step.specs.declared.run.TurnSays.{TurnSays}
-use Rattle.beldi_step.specs.Intent.{binding_of}
+use Rattle.beldi_step.specs.declared.run.Wait.{Wait}
+use Rattle.beldi_intent.specs.Intent.{binding_of}
 use Rattle.beldi_step.specs.Run.{run_asks}
-use Rattle.beldi_step.specs.Host.{Core, Plan, at_once, asks, plan, plan_of, counted, new_run, unbound, refused, ended_run, entry_of, StartsRun, Followed}
+use Rattle.beldi_step.specs.Host.{Core, Plan, at_once, asks, plan, plan_of, counted, new_run, unbound, waiting, refused, ended_run, entry_of, AtOnce, Followed}
 use Rattle.beldi_core.specs.declared.host_core.HostCore.{HostCore}
 use Rattle.beldi_core.specs.declared.events.Planned.TheVariants as planned
 use Rattle.beldi_core.specs.declared.events.Planned.{Planned as Plans}
@@ -78,10 +79,10 @@ Ready (pending.Turn i n) c spare = RunReady c i n spare
 Ready (pending.Lost i n) c spare = RunReady c i n spare
 
 -- ---- planning
--- memory was wanting before anything was asked; of the events that ask nothing only one that starts a run may want it
-abbrev pub AtWant : Event → Core → Plan → Core → Type 0
-AtWant e c (at_once b y) z = (z ≡ c) × StartsRun y
-AtWant e c (asks q) z = z ≡ (refused e c OutOfMemory).0
+-- out of memory before anything was asked; of the events that ask nothing only one that starts a run may be so
+abbrev pub NoMemory : Event → Core → Plan → Core → Result Seen AllocError → Type 0
+NoMemory e c (at_once b y) z r = AtOnce c b y z r
+NoMemory e c (asks q) z r = (z, r) ≡ refused e c OutOfMemory
 
 pub record Asking (e : Event) (c z : Core) (spare : ℕ) (q : Query) (p : Pending) (k : Plan) : Type 0 where
   pub is : k ≡ asks q
@@ -92,7 +93,7 @@ pub record Asking (e : Event) (c z : Core) (spare : ℕ) (q : Query) (p : Pendin
 abbrev pub PlannedBy : Event → Core → Core → ℕ → Plan → Result Plans AllocError → Type 0
 PlannedBy e c z spare k (Ok (planned.Now y)) = k ≡ at_once z y
 PlannedBy e c z spare k (Ok (planned.Asks q p)) = Asking e c z spare q p k
-PlannedBy e c z spare k (Err w) = AtWant e c k z
+PlannedBy e c z spare k (Err w) = NoMemory e c k z (Err w)
 
 -- an event that was counted
 abbrev pub PlannedOf : Event → Core → Core → ℕ → Result Plans AllocError → Type 0
@@ -117,9 +118,10 @@ abbrev pub BoundBy : Core → ℕ → ℕ → Value → Told → Core → Result
 BoundBy k t f a u z (Ok x) = BoundTo k t f a (binding_of u) z x
 BoundBy k t f a u z (Err w) = (z ≡ without_last k) × (lends u ≡ true)
 
--- the answer to a turn
-abbrev pub acted_by : IntentId → TurnSays → Seen
-acted_by id x = seen.Acted (option_map (entry_of id) x.mark) x.over (option_map (λ (o : Outcome). (id.ticket, o)) x.reply)
+-- the answer to a turn: what the run waits for, or what it did
+abbrev pub acted_by : IntentId → TurnSays → Option Wait → Seen
+acted_by id x (Some w) = waiting w
+acted_by id x None = seen.Acted (option_map (entry_of id) x.mark) x.over (option_map (λ (o : Outcome). (id.ticket, o)) x.reply)
 
 abbrev pub mark_told : Result TurnSays (Option Mark) → Option Mark
 mark_told (Ok x) = x.mark

@@ -1,14 +1,13 @@
 -- What the calls of a host keep. Where the table does not tell its rows, nothing is said.
-use Rattle.std.specs.Prelude.{◌≡◌, ℕ, ◌++◌, List, IsSome, Option, Some, None}
+use Rattle.std.specs.Prelude.{◌≡◌, ℕ, ◌++◌, List, IsSome, IfSome, Option, Some, None}
 use Rattle.std.specs.FinMap as map
 use Rattle.beldi_tree.specs.declared.deployment.Deployment.{Deployment}
 use Rattle.beldi_row.specs.declared.table.Table.{Ghosts}
-use Rattle.beldi_row.specs.Table.{Rows}
+use Rattle.beldi_row.specs.Table.{Rows, Tells}
 use Rattle.beldi_book.specs.declared.entry.Entry.{Entry}
 use Rattle.beldi_plain.specs.Plain.{PlainState, reply_of}
 use Rattle.beldi_plain.specs.Legal.{IsLegal, run_of}
 use Rattle.beldi_plain.specs.Listing.{listing_of}
-use Rattle.beldi_step.specs.Host.{Core}
 use Rattle.beldi_laws.specs.Right.{Right}
 use Rattle.beldi_laws.specs.OneAnswer.{OneAnswerPerStep, AnswersStay}
 use Rattle.beldi_laws.specs.Stands.{Stands}
@@ -17,42 +16,6 @@ use Rattle.beldi_core.specs.declared.host.Host.{Host}
 use Rattle.beldi_core.specs.declared.survey.ReplySeen.{ReplySeen}
 use Rattle.beldi_core.specs.declared.survey.ReplySeen.TheVariants.{Unknown, Gone, Waiting, Reply}
 use Rattle.beldi_core.specs.Host.{core_of}
-
--- ---- of a core and the rows that are told
--- the host and its rows are right
-abbrev pub RightAt : Deployment → Core → Option Rows → Type 0
-RightAt d c None = Unit {0}
-RightAt d c (Some m) = Right d c m
-
--- the book is legal
-abbrev pub LegalAt : Deployment → Core → Option Rows → Type 0
-LegalAt d c None = Unit {0}
-LegalAt d c (Some m) = IsLegal d c.book
-
--- the rows stand for the run of the book
-abbrev pub StandsAt : Deployment → Core → Option Rows → Type 0
-StandsAt d c None = Unit {0}
-StandsAt d c (Some m) = (p : PlainState) → run_of d c.book ≡ Some p → Stands d m p
-
--- each step of an instance has one answer, which the rows hold
-abbrev pub OneAnswerAt : Deployment → Core → Option Rows → Type 0
-OneAnswerAt d c None = Unit {0}
-OneAnswerAt d c (Some m) = OneAnswerPerStep d c m
-
--- an answer that the rows held is held by them after
-abbrev pub StayAt : Option Rows → Option Rows → Type 0
-StayAt (Some m) (Some n) = AnswersStay m n
-StayAt before after = Unit {0}
-
--- the table tells no rows, or it has none
-abbrev pub HasNoRows : Option Rows → Type 0
-HasNoRows None = Unit {0}
-HasNoRows (Some m) = m ≡ map.empty
-
--- the new text is the old one with the listing of the run of the book
-abbrev pub ListedAt : Deployment → Core → Option Rows → List ℕ → List ℕ → Type 0
-ListedAt d c None old new = Unit {0}
-ListedAt d c (Some m) old new = (p : PlainState) → run_of d c.book ≡ Some p → new ≡ old ++ listing_of d p
 
 -- in the run of the book, the root of the ticket has no outcome
 abbrev pub HasNoReply : Deployment → List Entry → ℕ → Type 0
@@ -65,40 +28,47 @@ SaidOf d book t Gone = ⊥
 SaidOf d book t Waiting = HasNoReply d book t
 SaidOf d book t (Reply o) = HasReply d book t o
 
--- .. where the rows are told
-abbrev pub SaidAt : Deployment → Core → Option Rows → ℕ → ReplySeen → Type 0
-SaidAt d c None t x = Unit {0}
-SaidAt d c (Some m) t x = SaidOf d c.book t x
+-- the rows stand for the run of a book, if they are told
+abbrev pub RowsStandFor : Deployment → List Entry → Option Rows → Type 0
+RowsStandFor d book told = IfSome told (λ m. (p : PlainState) → run_of d book ≡ Some p → Stands d m p)
 
--- ---- of a host and its table
--- the host and its rows are right
-abbrev pub IsRight : {T : Type 0} {G : Ghosts T} → Host T G → Type 0
-IsRight {T} {G} h = RightAt h.code (core_of h) (G.state h.table).rows
+-- the table tells no rows, or it has none
+abbrev pub HasNoRows : Option Rows → Type 0
+HasNoRows told = IfSome told (λ m. m ≡ map.empty)
 
--- its rows are told
-abbrev pub HasRows : {T : Type 0} {G : Ghosts T} → Host T G → Type 0
-HasRows {T} {G} h = IsSome (G.state h.table).rows
+module _ {T : Type 0} {G : Ghosts T} where
+  -- the rows of a host, where its table tells them
+  abbrev pub rows_of : Host T G → Option Rows
+  rows_of h = (G.state h.table).rows
 
--- its book is legal
-abbrev pub HasLegalBook : {T : Type 0} {G : Ghosts T} → Host T G → Type 0
-HasLegalBook {T} {G} h = LegalAt h.code (core_of h) (G.state h.table).rows
+  -- the host and its rows are right
+  abbrev pub IsRight : Host T G → Type 0
+  IsRight h = IfSome (rows_of h) (Right h.code (core_of h))
 
--- its rows stand for the run of its book
-abbrev pub RowsStand : {T : Type 0} {G : Ghosts T} → Host T G → Type 0
-RowsStand {T} {G} h = StandsAt h.code (core_of h) (G.state h.table).rows
+  -- its rows are told
+  abbrev pub HasRows : Host T G → Type 0
+  HasRows h = IsSome (rows_of h)
 
--- each step of an instance has one answer, whichever run asks for it: the one that its rows hold
-abbrev pub HasOneAnswerPerStep : {T : Type 0} {G : Ghosts T} → Host T G → Type 0
-HasOneAnswerPerStep {T} {G} h = OneAnswerAt h.code (core_of h) (G.state h.table).rows
+  -- its book is legal
+  abbrev pub HasLegalBook : Host T G → Type 0
+  HasLegalBook h = IfSome (rows_of h) (λ m. IsLegal h.code (core_of h).book)
 
--- the answers that the first one's rows hold are held by the second one's
-abbrev pub AnswersAreKept : {T : Type 0} {G : Ghosts T} → Host T G → Host T G → Type 0
-AnswersAreKept {T} {G} h k = StayAt (G.state h.table).rows (G.state k.table).rows
+  -- its rows stand for the run of its book
+  abbrev pub RowsStand : Host T G → Type 0
+  RowsStand h = RowsStandFor h.code (core_of h).book (rows_of h)
 
--- the text was the old one, and has the listing of the run of its book after it
-abbrev pub ListsRun : {T : Type 0} {G : Ghosts T} → Host T G → List ℕ → List ℕ → Type 0
-ListsRun {T} {G} h old new = ListedAt h.code (core_of h) (G.state h.table).rows old new
+  -- each step of an instance of that run has one answer, whichever run asks for it: the one that the rows hold
+  abbrev pub HasOneAnswerPerStep : Host T G → Type 0
+  HasOneAnswerPerStep h = IfSome (rows_of h) (λ m. (p : PlainState) → run_of h.code (core_of h).book ≡ Some p → OneAnswerPerStep h.code (core_of h) m p)
 
--- what is said of the ticket's reply is so in the run of its book
-abbrev pub TellsRun : {T : Type 0} {G : Ghosts T} → Host T G → ℕ → ReplySeen → Type 0
-TellsRun {T} {G} h t x = SaidAt h.code (core_of h) (G.state h.table).rows t x
+  -- the answers that the first one's rows hold are held by the second one's
+  abbrev pub AnswersAreKept : Host T G → Host T G → Type 0
+  AnswersAreKept h k = Tells (rows_of h) (rows_of k) AnswersStay
+
+  -- the text was the old one, and has the listing of the run of its book after it
+  abbrev pub ListsRun : Host T G → List ℕ → List ℕ → Type 0
+  ListsRun h old new = IfSome (rows_of h) (λ m. (p : PlainState) → run_of h.code (core_of h).book ≡ Some p → new ≡ old ++ listing_of h.code p)
+
+  -- what is said of the ticket's reply is so in the run of its book
+  abbrev pub TellsRun : Host T G → ℕ → ReplySeen → Type 0
+  TellsRun h t x = IfSome (rows_of h) (λ m. SaidOf h.code (core_of h).book t x)

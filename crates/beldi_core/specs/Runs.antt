@@ -1,9 +1,9 @@
 -- The live runs by number, what each asks, and what becomes of one that is told.
-use Rattle.std.specs.Prelude.{◌≡◌, ℕ, ◌+◌, ◌-◌, ◌<◌, Bool, true, false, IsSome, List, [], ◌∷◌, if◌then◌else◌, Option, Some, None, is_none, Result, Ok, Err}
+use Rattle.std.specs.Prelude.{◌≡◌, ℕ, ◌+◌, ◌-◌, ◌<◌, Bool, true, false, IsSome, Option, Some, None, is_none, Result, Ok, Err}
 use Rattle.std.specs.FinMap as map
 use Rattle.std.specs.FinMap.{FinMap}
 use Rattle.std.specs.BTreeMap.{BTreeMap}
-use Rattle.std.specs.Ordering.{nat_cmp, is_lt}
+use Rattle.std.specs.Ordering.{nat_cmp}
 use Rattle.beldi_tree.specs.declared.deployment.Deployment.{Deployment}
 use Rattle.beldi_value.specs.declared.id.IntentId.{IntentId}
 use Rattle.beldi_walk.specs.declared.query.Query.{Query}
@@ -30,14 +30,6 @@ pub record Numbered : Type 0 where
 -- no number past this one has a run
 abbrev pub AllGiven : ℕ → RunMap → Type 0
 AllGiven given m = (i : ℕ) → given < i → map.get m i ≡ None
-
-abbrev pub first_past : ℕ → List (ℕ × Run) → Option ℕ
-first_past i [] = None
-first_past i (e ∷ es) = if is_lt (nat_cmp i e.0) then Some e.0 else first_past i es
-
--- the least number past this one that has a run
-abbrev pub next_number : ℕ → RunMap → Option ℕ
-next_number i m = first_past i (map.entries m)
 
 -- this is the least number of a run past that one; there is none where no run has a greater number
 abbrev pub IsLeastPast : ℕ → RunMap → Option ℕ → Type 0
@@ -77,8 +69,8 @@ abbrev pub settled : Bool → RunMap → ℕ → RunMap
 settled true m i = map.remove m i
 settled false m i = m
 
--- the run of number i was told: it goes on, or is gone. After want of memory it is gone, and the mark of its act is told.
-abbrev pub Led : Deployment → ℕ → RunMap → RunMap → ℕ → Option Run → Told → Result TurnSays (Option Mark) → Type 0
-Led d changes a b i None t x = ⊥
-Led d changes a b i (Some r) t (Ok x) = (b ≡ put_run a i (run_told d changes r t).next) × (x ≡ says_of (run_told d changes r t))
-Led d changes a b i (Some r) t (Err m) = (b ≡ map.remove a i) × (m ≡ (run_told d changes r t).mark)
+-- the run of number i was told: it goes on, or is gone. Out of memory it is gone, and the mark of its act is told.
+abbrev pub RunTold : Deployment → ℕ → RunMap → RunMap → ℕ → Option Run → Told → Result TurnSays (Option Mark) → Type 0
+RunTold d changes a b i None t x = ⊥
+RunTold d changes a b i (Some r) t (Ok x) = (b ≡ put_run a i (run_told d changes r t).next) × (x ≡ says_of (run_told d changes r t))
+RunTold d changes a b i (Some r) t (Err m) = (b ≡ map.remove a i) × (m ≡ (run_told d changes r t).mark)

@@ -9,7 +9,7 @@ use Rattle.beldi_row.specs.declared.row.Row.{Row}
 use Rattle.beldi_row.specs.declared.row.Row.TheVariants.{Intent}
 use Rattle.beldi_row.specs.Act.{Tell, absent, here}
 use Rattle.beldi_row.specs.Table.{Rows, TableState, Tells, Rose}
-use Rattle.beldi_step.specs.Intent.{root_key}
+use Rattle.beldi_intent.specs.Intent.{root_key}
 use Rattle.beldi_step.specs.Host.{Core, first_core}
 use Rattle.beldi_step.specs.Tables.{row_line}
 use Rattle.beldi_core.specs.declared.survey.OpenErr.{OpenErr}

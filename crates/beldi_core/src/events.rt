@@ -11,11 +11,10 @@ ghost use Rattle.beldi_core.specs.Parts.{core_in, Planned as IsPlanned, PlannedO
 use crate::host_core::HostCore;
 use crate::runs::Names;
 use beldi_book::{Book, Entry};
+use beldi_intent::{Binding, bind_query, bind_told, issue_query, issue_told};
 use beldi_lang::Deployment;
 use beldi_row::TableErr;
-use beldi_step::{
-    Binding, Event, Mark, Run, Seen, TurnSays, bind_query, bind_told, issue_query, issue_told,
-};
+use beldi_step::{Event, Mark, Run, Seen, TurnSays, Wait};
 use beldi_value::{IntentId, Value};
 use beldi_walk::{Heard, Query};
 use std::alloc::AllocError;
@@ -103,16 +102,19 @@ fn write(book: &mut Book, id: IntentId, mark: Option<Mark>)
     }
 }
 
-// The answer to a turn. A run that waits has one of a turn that did nothing.
+// The answer to a turn: what the run waits for, or what it did.
 fn seen_of(id: IntentId, says: TurnSays) -> Seen
-    ensures { result ≡ acted_by id says }
+    ensures { result ≡ acted_by id says says.wait }
 {
     let TurnSays {
         mark,
         over,
-        wait: _,
+        wait,
         reply,
     } = says;
+    if let Some(Wait::Held(owner)) = wait {
+        return Seen::Held(owner);
+    }
     let reply = match reply {
         Some(outcome) => Some((id.ticket, outcome)),
         None => None,
@@ -136,7 +138,7 @@ fn told_mark(turn: Result<TurnSays, Option<Mark>>) -> Option<Mark>
 
 impl HostCore {
     /// What an event asks of a table, or its answer. It makes the places that the answer will need; what the definition
-    /// sees is as it was, but that the event was counted. At want of memory a run that had the event is over.
+    /// sees is as it was, but that the event was counted. Out of memory, a run that had the event is over.
     pub fn plan(&mut self, event: Event) -> Result<Planned, AllocError>
         ensures { IsPlanned event (core_in self.old) (core_in self.new) self.new.book.spare result }
     {
@@ -201,7 +203,7 @@ impl HostCore {
     }
 
     // What the run of this number asks, none where it is not live. A place in the book is taken for the entry of its act.
-    // At want of memory the run is over.
+    // Out of memory, the run is over.
     fn plan_run(&mut self, run: u64) -> Result<Option<(Query, Names)>, AllocError>
         ensures { RunPlanned (core_in self.old) (core_in self.new) run (map.get self.old.runs.runs run) self.new.book.spare result }
     {

@@ -1,5 +1,5 @@
 // The host: the one place where an event touches the table.
-ghost use Rattle.std.specs.Prelude.{◌≡◌, ◌++◌, ◌≤◌, ◌^◌, ◌↔◌, IsTrue, false, IfOk, IfErr, OnOk, OnErr};
+ghost use Rattle.std.specs.Prelude.{◌≡◌, ◌++◌, ◌≤◌, ◌^◌, ◌↔◌, IsTrue, true, false, IfOk, IfErr, OnOk, OnErr};
 
 use crate::events::{Pending, Planned};
 use crate::host_core::HostCore;
@@ -23,17 +23,16 @@ pub struct Host<T: Table> {
 }
 
 impl<T: Table> Host<T> {
-    ghost use Rattle.beldi_row.specs.Table.{IsCount, AtMostOne, Tells};
+    ghost use Rattle.beldi_row.specs.Table.{IsCount, AtMostOne};
     ghost use Rattle.beldi_step.specs.Host.{Stepped};
-    ghost use Rattle.beldi_step.specs.Forms.{EventOn, SteppedAnyTable};
     ghost use Rattle.beldi_step.specs.Tables.{tables_text};
     ghost use Rattle.beldi_core.specs.Survey.{Opened, Refused, NewestAt, Reads, reply_seen, is_unknown};
     ghost use Rattle.beldi_core.specs.declared.survey.ReplySeen.TheVariants.{Unknown};
-    ghost use Rattle.beldi_core.specs.Runs.{next_number, IsLeastPast};
+    ghost use Rattle.beldi_core.specs.Runs.{IsLeastPast};
     ghost use Rattle.beldi_core.specs.Host.{core_of};
     ghost use Rattle.beldi_core.specs.Parts.{core_in, Ready, Asked};
     ghost use Rattle.beldi_laws.specs.Laws.{is_gone};
-    ghost use Rattle.beldi_core.specs.Right.{IsRight, HasLegalBook, RowsStand, HasOneAnswerPerStep, AnswersAreKept, HasRows, ListsRun, TellsRun, HasNoRows, StandsAt};
+    ghost use Rattle.beldi_core.specs.Right.{IsRight, HasLegalBook, AnswersAreKept, HasRows, ListsRun, TellsRun, HasNoRows, RowsStandFor};
 
     /// Opens a host over a table whose rows it keeps: sets the table's room, and reads all keys to find the newest
     /// ticket. `now` is the moment, in ticks. Where it refuses, it gives the table back.
@@ -48,9 +47,6 @@ impl<T: Table> Host<T> {
         ensures err { IfErr result (λ e. Refused (T.state table) (T.state e.0) e.1) }
         ensures newest { IfOk result (λ h. NewestAt (T.state table).rows h.core.newest) }
         ensures right { IfOk result (λ h. HasNoRows (T.state table).rows → IsRight h) }
-        ensures legal { IfOk result (λ h. HasNoRows (T.state table).rows → HasLegalBook h) }
-        ensures stands { IfOk result (λ h. HasNoRows (T.state table).rows → RowsStand h) }
-        ensures one_answer { IfOk result (λ h. HasNoRows (T.state table).rows → HasOneAnswerPerStep h) }
     {
         match prepare(alloc, code.room, &mut table) {
             Ok(newest) => Ok(Host {
@@ -72,7 +68,7 @@ impl<T: Table> Host<T> {
     /// Gives the table back.
     pub fn close(self) -> T
         ensures table { result ≡ self.table }
-        ensures stands { IsRight self → StandsAt self.code (core_of self) (T.state result).rows }
+        ensures stands { IsRight self → RowsStandFor self.code (core_of self).book (T.state result).rows }
     {
         let Host {
             code: _,
@@ -113,8 +109,7 @@ impl<T: Table> Host<T> {
 
     /// The least live run past this number.
     pub fn next_run(&self, after: u64) -> Option<u64>
-        ensures next { result ≡ next_number after self.entry.now.core.runs.runs }
-        ensures least { IsLeastPast after self.entry.now.core.runs.runs result }
+        ensures { IsLeastPast after self.entry.now.core.runs.runs result }
     {
         self.core.runs.next_after(after)
     }
@@ -126,8 +121,6 @@ impl<T: Table> Host<T> {
         ensures core { core_of self.new ≡ core_of self.old }
         ensures code { self.new.code ≡ self.old.code }
         ensures right { IsRight self.old → IsRight self.new }
-        ensures legal { IsRight self.old → HasLegalBook self.new }
-        ensures stands { IsRight self.old → RowsStand self.new }
         ensures listing { IsRight self.old → OnOk result (ListsRun self.old out.old out.new) }
     {
         self.list(out)
@@ -145,18 +138,17 @@ impl<T: Table> Host<T> {
         Ok(())
     }
 
-    /// The reply of a ticket's root, as its row has it. A ticket that was not issued is unknown without a look at the rows;
+    /// The reply of a ticket's root, as its row has it. A ticket that was not issued is unknown without a call of the table;
     /// for any other its row is looked at once.
     pub fn reply(&mut self, ticket: u32) -> Result<ReplySeen, OpenErr>
         ensures reads { Reads (λ m x. x ≡ reply_seen self.old.core.newest ticket m) (T.state self.old.table) (T.state self.new.table) result }
         ensures unknown { IfOk result (λ x. (x ≡ Unknown) ↔ IsTrue (is_unknown self.old.core.newest ticket)) }
         ensures issued { IfErr result (λ e. is_unknown self.old.core.newest ticket ≡ false) }
         ensures calls { AtMostOne (T.state self.old.table).calls (T.state self.new.table).calls }
+        ensures untouched { is_unknown self.old.core.newest ticket ≡ true → T.state self.new.table ≡ T.state self.old.table }
         ensures core { core_of self.new ≡ core_of self.old }
         ensures code { self.new.code ≡ self.old.code }
         ensures right { IsRight self.old → IsRight self.new }
-        ensures legal { IsRight self.old → HasLegalBook self.new }
-        ensures stands { IsRight self.old → RowsStand self.new }
         ensures plain { IsRight self.old → IfOk result (λ x. TellsRun self.old ticket x) }
     {
         self.look(ticket)
@@ -168,6 +160,7 @@ impl<T: Table> Host<T> {
         ensures unknown { IfOk result (λ x. (x ≡ Unknown) ↔ IsTrue (is_unknown self.old.core.newest ticket)) }
         ensures issued { IfErr result (λ e. is_unknown self.old.core.newest ticket ≡ false) }
         ensures calls { AtMostOne (T.state self.old.table).calls (T.state self.new.table).calls }
+        ensures untouched { is_unknown self.old.core.newest ticket ≡ true → T.state self.new.table ≡ T.state self.old.table }
         ensures core { core_of self.new ≡ core_of self.old }
         ensures code { self.new.code ≡ self.old.code }
     {
@@ -178,18 +171,14 @@ impl<T: Table> Host<T> {
     }
 
     /// Carries out one event, with at most one call of the table's `act` or `next`; an event that is answered at once makes
-    /// none. After want of memory nothing was done, but that the event counts as taken, and that a run that had it is over;
-    /// the act of a turn may then have been made, and the book has its entry. A crash takes no memory, and of the events that
-    /// make no act only a restart may want it.
+    /// none. Out of memory, nothing was done, but that the event counts as taken, and that a run that had it is over; the act
+    /// of a turn may then have been made, and the book has its entry. A crash takes no memory, and of the events that make no
+    /// act only a restart may be out of it. Over rows that are told it is the relation that `a_step_over_rows` of `beldi_step`
+    /// gives.
     pub fn event(&mut self, event: Event) -> Result<Seen, AllocError>
         ensures step { Stepped self.old.code event (core_of self.old) (core_of self.new) (T.state self.old.table) (T.state self.new.table) result }
-        ensures over_rows { Tells (T.state self.old.table).rows (T.state self.new.table).rows (λ m n. EventOn self.old.code (T.state self.old.table).room (T.state self.old.table).faults (T.state self.new.table).faults event (core_of self.old) m (core_of self.new) n result) }
-        ensures over_any_table { SteppedAnyTable self.old.code event (core_of self.old) (core_of self.new) (T.state self.old.table) (T.state self.new.table) result }
         ensures code { self.new.code ≡ self.old.code }
         ensures right { IsRight self.old → IsRight self.new }
-        ensures legal { IsRight self.old → HasLegalBook self.new }
-        ensures stands { IsRight self.old → RowsStand self.new }
-        ensures one_answer { IsRight self.old → HasOneAnswerPerStep self.new }
         ensures answers_stay { AnswersAreKept self.old self.new }
         ensures has_rows { HasRows self.old → IsRight self.old → IfOk result (λ x. is_gone x ≡ false) }
     {

@@ -4,18 +4,17 @@
 //! definitions: `specs/Host` (the host as the core that events speak of), `specs/Parts` (what holds between an event's
 //! question and its answer), `specs/Runs` (the live runs by number), `specs/Survey` (calls that read the rows),
 //! `specs/Opening` (their errors), `specs/Built` (what it can carry out of a deployment) and `specs/Right` (what the calls
-//! keep).
+//! keep, and what a right host has).
 //!
 //! Proved:
 //! - `Host::event` is one step of the definition, for every table that keeps the trait's contract; crashes, lost
-//!   answers, restarts, faults, want of room and want of memory are cases of the step (`step`, `code`). An event that
-//!   is answered at once makes no call of the table and leaves it as it was; any other makes at most one query, and one
-//!   word of the table, or one refusal, says what followed. A run that met an error is over, but for want of room.
-//! - Over rows that are told that is a relation between the host and the rows before and after (`over_rows`). Over any
-//!   table, also over one that tells no rows, what an event leaves and answers follows from something that a table may
-//!   tell, or the query was not made, and then no more than a run is over; failures are told only where the table's count
-//!   rose; at most one call of `act` and `next` is made (`over_any_table`).
-//! - `reply` makes at most one call of the table's `act` and `next` (`calls`).
+//!   answers, restarts, faults, want of room and out of memory are cases of the step (`step`, `code`). An event that is
+//!   answered at once makes no call of the table and leaves it as it was; any other makes at most one query, and one word
+//!   of the table, or one refusal, says what followed. A run that met an error is over, but for want of room. What that is
+//!   over rows that are told, and over any table, laws of `beldi_step` and `beldi_laws` say (`a_step_over_rows`,
+//!   `a_step_over_any_table`, `a_dropped_answer_has_a_cause`).
+//! - `reply` makes at most one call of the table's `act` and `next` (`calls`), and none for a ticket that was not issued,
+//!   which leaves the table as it was (`untouched`).
 //! - What the rows held at a step stays after an event, whether the host is right or not (`answers_stay`).
 //! - Where the host is right and its table tells its rows, no ticket is answered `gone` (`has_rows`).
 //! - `Host::rows` tells how many rows the table has, as `len` does (`IsCount`).
@@ -26,21 +25,24 @@
 //! - `Host::tables` and `Host::reply` say what the rows say, and change nothing (`reads`, `err`, `unknown`, `core`,
 //!   `code`).
 //! - A host opened over no rows is right, and so are the host and its rows after `event`, `tables` and `reply` where
-//!   they were before, also after want of memory (`right`); then the book is legal (`legal`), the rows stand for its
-//!   run, also in the table that `close` gives back (`stands`), each step of an instance has one answer after an
-//!   event, whichever of its runs asks, and it is the one that the rows hold (`one_answer`), the listing of `tables`
-//!   is that of the run (`listing`), and what `reply` tells is the outcome that the root has in the run, or none
-//!   (`plain`).
-//! - `next_run` is the least live run past a number (`least`).
+//!   they were before, also out of memory (`right`). A right host has a legal book (`right_is_legal`, and `legal` of
+//!   `book`), its rows stand for the book's run (`right_stands`), also in the table that `close` gives back (`stands`), and
+//!   each step of an instance of that run has one answer, whichever of its runs asks, and it is the one that the rows hold
+//!   (`right_has_one_answer`).
+//! - Where the host is right, the listing of `tables` is that of the run (`listing`), and what `reply` tells is the
+//!   outcome that the root has in the run, or none (`plain`).
+//! - `next_run` is the least live run past a number (`IsLeastPast`).
 #![tactic(auto)]
 
 mod events;
 mod host;
 mod host_core;
+mod laws;
 mod runs;
 mod survey;
 mod unbuilt;
 
 pub use host::Host;
+pub use laws::{right_has_one_answer, right_is_legal, right_stands};
 pub use survey::{OpenErr, ReplySeen};
 pub use unbuilt::built;

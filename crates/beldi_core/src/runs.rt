@@ -2,7 +2,7 @@
 ghost use Rattle.std.specs.Prelude.{◌≡◌, ℕ, ◌+◌, ◌-◌, ◌^◌, ◌<◌, ◌≤◌, None, is_some, IsSome, IfOk, OnOk, OnErr};
 ghost use Rattle.std.specs.FinMap as map;
 ghost use Rattle.beldi_walk.specs.Query.{told_of};
-ghost use Rattle.beldi_core.specs.Runs.{map_of, next_number, IsLeastPast, started, withdrawn, ends_run, settled, asked_of, asked_by, Led};
+ghost use Rattle.beldi_core.specs.Runs.{map_of, IsLeastPast, started, withdrawn, ends_run, settled, asked_of, asked_by, RunTold};
 
 use beldi_lang::Deployment;
 use beldi_step::{Mark, Run, TurnSays};
@@ -71,7 +71,7 @@ fn settle(live: &mut BTreeMap<u64, Run>, number: u64, over: bool)
 }
 
 // The run of this number, which is live, is told.
-fn lead(
+fn tell(
     live: &mut BTreeMap<u64, Run>,
     number: u64,
     alloc: Global,
@@ -80,7 +80,7 @@ fn lead(
     heard: Heard<'_>,
 ) -> Result<TurnSays, Option<Mark>>
     requires { IsSome (map.get (map_of live.old) number) }
-    ensures led { Led code.now changes (map_of live.old) (map_of live.new) number (map.get (map_of live.old) number) (told_of heard.entry) result }
+    ensures told { RunTold code.now changes (map_of live.old) (map_of live.new) number (map.get (map_of live.old) number) (told_of heard.entry) result }
     ensures none_new { (i : ℕ) → map.get (map_of live.old) i ≡ None → map.get (map_of live.new) i ≡ None }
 {
     let Some(run) = live.get_mut(&number) else {
@@ -141,8 +141,7 @@ impl Runs {
 
     /// The least number of a live run past this one.
     pub fn next_after(&self, number: u64) -> Option<u64>
-        ensures next { result ≡ next_number number self.now.runs }
-        ensures least { IsLeastPast number self.now.runs result }
+        ensures { IsLeastPast number self.now.runs result }
     {
         let past = (Bound::Excluded(&number), Bound::Unbounded);
         match self.live.range(past).next() {
@@ -181,7 +180,7 @@ impl Runs {
         take(&mut self.live, number);
     }
 
-    /// What the run of this number asks, and its names; none where it is not live. Memory is wanting only where it is.
+    /// What the run of this number asks, and its names; none where it is not live. Out of memory only where it is.
     pub fn ask(&self, number: u64, alloc: Global) -> Result<Option<(Query, Names)>, AllocError>
         ensures ok { IfOk result (λ q. q ≡ asked_by (map.get self.now.runs number)) }
         ensures err { OnErr result (IsSome (map.get self.now.runs number)) }
@@ -196,7 +195,7 @@ impl Runs {
     }
 
     /// The run of this number, which is live, is told, when so many changes had been made. A run that is over is gone
-    /// afterwards, and so is one that met want of memory.
+    /// afterwards, and so is one that was out of memory.
     pub fn told(
         &mut self,
         number: u64,
@@ -206,9 +205,9 @@ impl Runs {
         heard: Heard<'_>,
     ) -> Result<TurnSays, Option<Mark>>
         requires { IsSome (map.get self.old.runs number) }
-        ensures led { Led code.now changes self.old.runs self.new.runs number (map.get self.old.runs number) (told_of heard.entry) result }
+        ensures told { RunTold code.now changes self.old.runs self.new.runs number (map.get self.old.runs number) (told_of heard.entry) result }
         ensures given { self.new.given ≡ self.old.given }
     {
-        lead(&mut self.live, number, alloc, code, changes, heard)
+        tell(&mut self.live, number, alloc, code, changes, heard)
     }
 }

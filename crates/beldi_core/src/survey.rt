@@ -3,15 +3,15 @@ ghost use Rattle.std.specs.Prelude.{◌≡◌, ◌≢◌, ◌++◌, IfOk, OnOk};
 ghost use Rattle.std.specs.FinMap as map;
 ghost use Rattle.beldi_row.specs.Act.{tell_of};
 ghost use Rattle.beldi_row.specs.Table.{next_row, AtMostOne};
-ghost use Rattle.beldi_step.specs.Intent.{root_key as root_key_of};
+ghost use Rattle.beldi_intent.specs.Intent.{root_key as root_key_of};
 ghost use Rattle.beldi_step.specs.Tables.{tables_text, row_line};
 ghost use Rattle.beldi_core.specs.Survey.{Reads, Prepared, newest_of, next_key_of, next_line_of, row_seen, told_seen};
 ghost use Rattle.beldi_core.specs.declared.survey.ReplySeen.TheVariants.{Unknown};
 
 use beldi_book::write_item;
+use beldi_intent::root_key;
 use beldi_lang::Deployment;
 use beldi_row::{Act, Kind, Row, RowKey, Said, Table, TableErr};
-use beldi_step::root_key;
 use beldi_value::{Outcome, Str, Value};
 use std::alloc::{AllocError, Global};
 

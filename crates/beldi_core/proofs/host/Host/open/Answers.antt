@@ -1,21 +1,12 @@
 use Rattle.std.proofs.Common.{rules}
 use Rattle.beldi_core.proofs.Least.{newest_at}
-use Rattle.beldi_core.proofs.Right.{legal_at, stands_at, one_answer_at, opened}
+use Rattle.beldi_core.proofs.Right.{opened}
 use Rattle.beldi_core.proofs.host.Host.open.Goals as goal
 
 pub returns-in-Ok-clause-right : goal.returns-in-Ok-clause-right
 returns-in-Ok-clause-right g c =
     let t = g.T.Table in
     opened c.args.code _ c.args.now (t.state c.args.table).rows (t.state c.prepare.new.table).rows (search rules) c.in-Ok.ensures.rows
-
-pub returns-in-Ok-clause-legal : goal.returns-in-Ok-clause-legal
-returns-in-Ok-clause-legal g c = λ r. legal_at c.args.code _ (g.T.Table.state c.prepare.new.table).rows (returns-in-Ok-clause-right g c r)
-
-pub returns-in-Ok-clause-stands : goal.returns-in-Ok-clause-stands
-returns-in-Ok-clause-stands g c = λ r. stands_at c.args.code _ (g.T.Table.state c.prepare.new.table).rows (returns-in-Ok-clause-right g c r)
-
-pub returns-in-Ok-clause-one_answer : goal.returns-in-Ok-clause-one_answer
-returns-in-Ok-clause-one_answer g c = λ r. one_answer_at c.args.code _ (g.T.Table.state c.prepare.new.table).rows (returns-in-Ok-clause-right g c r)
 
 pub returns-in-Ok-clause-newest : goal.returns-in-Ok-clause-newest
 returns-in-Ok-clause-newest g c = newest_at c.in-Ok.newest (g.T.Table.state c.args.table).rows (g.T.Table.state c.prepare.new.table).rows c.in-Ok.ensures.rows

@@ -1,13 +1,6 @@
-use Rattle.std.proofs.Common.{rules}
 use Rattle.beldi_core.specs.Host.{core_of}
-use Rattle.beldi_core.proofs.Right.{legal_at, stands_at, said}
+use Rattle.beldi_core.proofs.Right.{said}
 use Rattle.beldi_core.proofs.host.Host.reply.Goals as goal
-
-pub returns-clause-legal : goal.returns-clause-legal
-returns-clause-legal g c = search (rules, legal_at)
-
-pub returns-clause-stands : goal.returns-clause-stands
-returns-clause-stands g c = search (rules, stands_at)
 
 pub returns-clause-plain : goal.returns-clause-plain
 returns-clause-plain g c =

@@ -6,18 +6,18 @@ use Rattle.std.specs.Cmp.{nat_cmp_total}
 use Rattle.beldi_row.proofs.Rows.{get_rows, one_set}
 use Rattle.beldi_walk.specs.Query.{told_of}
 use Rattle.beldi_core.specs.Runs.{map_of, ends_run}
-use Rattle.beldi_core.proofs.RunMaps.{led, none_new, absent_run}
-use Rattle.beldi_core.proofs.runs.lead.Goals as goal
+use Rattle.beldi_core.proofs.RunMaps.{run_was_told, none_new, absent_run}
+use Rattle.beldi_core.proofs.runs.tell.Goals as goal
 
 pub unreachable-requires : goal.unreachable-requires
 unreachable-requires c = absent_run (map.get (map_of c.args.live.now) c.args.number) c.requires (get_rows nat_cmp_total nat_cmp-IsAntisymmetric c.args.live.now.entries c.args.number ∙ sym c.get_mut.ensures.value ∙ ap option_copied_mut c.in_default.is)
 
-pub returns-clause-led : goal.returns-clause-led
-returns-clause-led c =
+pub returns-clause-told : goal.returns-clause-told
+returns-clause-told c =
     let s = c.told-result.new.self in
     let h = c.get_mut.follows.holds s in
     let tree = c.get_mut.follows.lender s in
-    led c.args.code.now c.args.changes (map_of c.args.live.now) (map_of tree) (map_of c.settle.new.live) c.args.number c.in-Some.run'.now s (told_of c.args.heard) c.told-result.result
+    run_was_told c.args.code.now c.args.changes (map_of c.args.live.now) (map_of tree) (map_of c.settle.new.live) c.args.number c.in-Some.run'.now s (told_of c.args.heard) c.told-result.result
     (get_rows nat_cmp_total nat_cmp-IsAntisymmetric c.args.live.now.entries c.args.number ∙ sym c.get_mut.ensures.value ∙ ap option_copied_mut c.in-Some.is)
     (one_set nat_cmp_total nat_cmp-IsAntisymmetric c.args.live.now.entries tree.entries c.args.number s (h.3 (search rules)).0)
     (search rules) c.told-result.ensures
