@@ -1,11 +1,7 @@
-pub mod Carries
-pub mod Claims
-pub mod Deeds
-pub mod Doings
-pub mod Endings
+pub mod Calls
+pub mod Ends
 pub mod Lines
-pub mod Moments
-pub mod Programs
+pub mod PlainRuns
 pub mod Refusals
-pub mod Sessions
-pub mod Sights
+pub mod Responses
+pub mod Went

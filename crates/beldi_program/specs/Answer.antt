@@ -3,8 +3,9 @@ use Rattle.std.specs.Prelude.{ℕ, Bool, true, false, List, [], ◌++◌, Option
 use Rattle.std.specs.Fmt.{decimal}
 use Rattle.beldi_value.specs.Json.{text_of}
 use Rattle.beldi_value.specs.Value.{datum_of}
-use Rattle.beldi_value.specs.Text.{outcome_text}
+use Rattle.beldi_value.specs.Text.{outcome_text, owner_text}
 use Rattle.beldi_value.specs.declared.outcome.Outcome.{Outcome}
+use Rattle.beldi_value.specs.declared.place.Owner.{Owner}
 use Rattle.beldi_tree.specs.declared.deployment.Deployment.{Deployment}
 use Rattle.beldi_tree.specs.Names.{func_text}
 use Rattle.beldi_book.specs.Text.{entry_text}
@@ -23,6 +24,10 @@ ticket_line word t text = word ++ (decimal t ++ (codes " " ++ (text ++ codes "\n
 -- a word, a ticket and an outcome, as a line
 abbrev pub outcome_line : List ℕ → ℕ → Outcome → List ℕ
 outcome_line word t o = ticket_line word t (outcome_text o)
+
+-- the line of who has the lock of an item
+abbrev pub held_line : Owner → List ℕ
+held_line o = codes "held " ++ (owner_text o ++ codes "\n")
 
 abbrev pub entry_part : Deployment → Option Entry → List ℕ
 entry_part d None = []
@@ -47,6 +52,7 @@ answer_text d (seen.Other t f a) = codes "other " ++ (decimal t ++ (codes " " ++
 answer_text d (seen.Gone t) = numbered (codes "gone ") t
 answer_text d (seen.Unknown t) = numbered (codes "unknown ") t
 answer_text d (seen.Acted e over r) = codes "acted" ++ (entry_part d e ++ (over_part over ++ (codes "\n" ++ reply_part r)))
+answer_text d (seen.Held o) = held_line o
 answer_text d (seen.Full live room) = codes "full " ++ (decimal live ++ (codes " " ++ (decimal room ++ codes "\n")))
 answer_text d seen.Worn = codes "worn\n"
 answer_text d seen.Crowded = codes "crowded 1024\n"

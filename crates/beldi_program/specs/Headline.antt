@@ -1,5 +1,5 @@
--- What a session over a source has to do with the rows of the table and the text of the sink.
-use Rattle.std.specs.Prelude.{◌≡◌, ◌⊎◌, ◌≤◌, ◌<◌, ◌+◌, ℕ, length, Bool, true, false, List, [], ◌∷◌, ◌++◌, drop, Option, Some, None, is_none, Result, Ok, Err, IfSome, codes}
+-- How the program ends: the cause of each way of ending, and what it leaves of the source, the sink and the table.
+use Rattle.std.specs.Prelude.{◌≡◌, ◌⊎◌, ◌≤◌, ◌<◌, ◌+◌, ℕ, length, Bool, true, false, List, [], ◌∷◌, drop, Option, Some, None, Result, Ok, Err, codes}
 use Rattle.std.specs.FinMap as map
 use Rattle.beldi_tree.specs.declared.deployment.Deployment.{Deployment}
 use Rattle.beldi_tree.specs.Bindings.{is_name}
@@ -7,136 +7,122 @@ use Rattle.beldi_row.specs.Table.{Rows, TableState}
 use Rattle.beldi_step.specs.Host.{Core, first_core}
 use Rattle.beldi_core.specs.Survey.{newest_of}
 use Rattle.beldi_syntax.specs.declared.reading.Parsed.{Parsed}
-use Rattle.beldi_outside.specs.Outside.{IsPrefixOf, max_source}
-use Rattle.beldi_outside.specs.declared.transfer.ReadErr.{ReadErr}
-use Rattle.beldi_outside.specs.declared.transfer.ReadErr.TheVariants as why
-use Rattle.beldi_program.specs.declared.deed.Deed.{Deed}
+use Rattle.beldi_outside.specs.Outside.{IsPrefixOf, Told, Rose, TookFront, max_source}
 use Rattle.beldi_program.specs.declared.refusal.Refusal.{Refusal}
 use Rattle.beldi_program.specs.declared.session.Stop.{Stop}
 use Rattle.beldi_program.specs.declared.session.Stop.TheVariants as stop
 use Rattle.beldi_program.specs.declared.program.Ended.{Ended}
 use Rattle.beldi_program.specs.declared.program.Ended.TheVariants as ended
-use Rattle.beldi_program.specs.Said.{Said, said_texts}
-use Rattle.beldi_program.specs.PlainRun.{IsPlainRun}
+use Rattle.beldi_program.specs.PlainRun.{IsMoment, IsPlainRun}
 use Rattle.beldi_program.specs.Refusal.{refusal_text}
-use Rattle.beldi_program.specs.Session.{Answered, OnStates, StoppedAt, deeds_in, refused_in, ending}
+use Rattle.beldi_program.specs.Script.{Action, actions_in, is_whole}
+use Rattle.beldi_program.specs.Session.{State, Went, Stopped, Writes}
 use Rattle.beldi_program.specs.Source.{Numbered, script_of, source_at}
 
--- all lines before a refused one were carried out, from the host's state c and the rows m on, and the last listings where
--- none is refused; the host ends as `core`. The numbers f and g are the table's count of failures before and after, and
--- `opened` is the count once the host was open.
-pub record Whole (d : Deployment) (room : ℕ) (lines : List Numbered) (c : Core) (m n : Rows) (f g : ℕ) (h k : List ℕ) : Type 0 where
-  pub core : Core
-  pub said : List Said
-  pub opened : ℕ
-  pub sooner : f ≤ opened
-  pub answered : Answered d room (deeds_in d lines) c m opened core n g said
-  pub text : k ≡ h ++ (said_texts d said ++ ending (refused_in d lines))
-
--- the first deeds were carried out, and a front of the text was written; where all deeds were carried out, the text may have
--- a part of the ending. Only for want of memory may a deed have broken off.
-pub record Cut (why : Stop) (d : Deployment) (room : ℕ) (lines : List Numbered) (c : Core) (m n : Rows) (f g : ℕ) (h k : List ℕ) : Type 0 where
-  pub core : Core
-  pub said : List Said
-  pub done : List Deed
-  pub more : List Deed
-  pub deeds : done ++ more ≡ deeds_in d lines
-  pub last : Core
-  pub rows : Rows
-  pub opened : ℕ
-  pub sooner : f ≤ opened
-  pub closed : ℕ
-  pub answered : Answered d room done c m opened last rows closed said
-  pub later : closed ≤ g
-  pub broke_off : StoppedAt why d more last rows core n
-  pub tail : List ℕ
-  pub is_tail : (tail ≡ []) ⊎ ((more ≡ []) × (tail ≡ ending (refused_in d lines)))
-  pub front : List ℕ
-  pub rest : List ℕ
-  pub text : front ++ rest ≡ said_texts d said ++ tail
-  pub written : k ≡ h ++ front
-
--- what a call that carries out a script and writes its ending has done
-abbrev pub ScriptOn : Deployment → ℕ → List Numbered → Core → Rows → Rows → ℕ → ℕ → List ℕ → List ℕ → Result (Option Refusal) Stop → Type 0
-ScriptOn d room lines c m n f g h k (Ok refused) = (refused_in d lines ≡ refused) × Whole d room lines c m n f g h k
-ScriptOn d room lines c m n f g h k (Err e) = Cut e d room lines c m n f g h k
-
--- ---- what is said of a session: by its deployment, the rows before and after, the deeds that were carried out, what was
--- said of them, the host after them, and the host at the end
-abbrev pub Claim : Type 1
-Claim = Deployment → Rows → Rows → List Deed → List Said → Core → Core → Type 0
-
-abbrev pub Anything : Claim
-Anything d m n es ys last c = Unit {0}
-
--- over a table without rows it is a run of the book without crashes
-abbrev pub PlainRun : Claim
-PlainRun d m n es ys last c = m ≡ map.empty → IsPlainRun d n es ys last.book c.book
-
--- ---- a session over a deployment, from the first moment of a host on
-abbrev pub WholeWith : Claim → Deployment → List Numbered → Rows → Rows → ℕ → ℕ → List ℕ → List ℕ → Type 0
-WholeWith P d lines m n f g h k = (w : Whole d d.room lines (first_core (newest_of m) 0) m n f g h k) × P d m n (deeds_in d lines) w.said w.core w.core
-
-abbrev pub CutWith : Claim → Stop → Deployment → List Numbered → Rows → Rows → ℕ → ℕ → List ℕ → List ℕ → Type 0
-CutWith P why d lines m n f g h k = (w : Cut why d d.room lines (first_core (newest_of m) 0) m n f g h k) × P d m n w.done w.said w.last w.core
-
--- no line is refused
-abbrev pub is_whole : Deployment → List Numbered → Bool
-is_whole d lines = is_none (refused_in d lines)
-
--- by how the program ended: each of these ways, and no other
-abbrev pub SessionOn : Claim → Deployment → List Numbered → Rows → Rows → ℕ → ℕ → List ℕ → List ℕ → Ended → Type 0
-SessionOn P d lines m n f g h k ended.Done = (is_whole d lines ≡ true) × WholeWith P d lines m n f g h k
-SessionOn P d lines m n f g h k ended.Refused = (is_whole d lines ≡ false) × WholeWith P d lines m n f g h k
-SessionOn P d lines m n f g h k ended.OutOfMemory = CutWith P stop.OutOfMemory d lines m n f g h k
-SessionOn P d lines m n f g h k ended.SinkFault = CutWith P stop.SinkFault d lines m n f g h k
-SessionOn P d lines m n f g h k ended.TableFault = (n ≡ m) × (k ≡ h)
-SessionOn P d lines m n f g h k e = ⊥
-
--- a text is written by an ending of its own, or a front of it where the sink failed; no other ending writes
-abbrev pub SaysOn : List ℕ → List ℕ → List ℕ → Type 0
-SaysOn text h k = (w : List ℕ) × IsPrefixOf w text × (k ≡ h ++ w)
-
--- the source is refused before its script: nothing is done, and the refusal is written
-abbrev pub UnreadOn : Refusal → List ℕ → List ℕ → Ended → Type 0
-UnreadOn x h k ended.Refused = k ≡ h ++ refusal_text x
-UnreadOn x h k ended.OutOfMemory = k ≡ h
-UnreadOn x h k ended.SinkFault = SaysOn (refusal_text x) h k
-UnreadOn x h k e = ⊥
-
--- by what the source says: its deployment was read, keeps every rule and can be carried out, and its lines are carried out;
--- or it is refused before
-abbrev pub SourceOn : Claim → List ℕ → Result Parsed Refusal → Rows → Rows → ℕ → ℕ → List ℕ → List ℕ → Ended → Type 0
-SourceOn P bytes (Err x) m n f g h k e = (n ≡ m) × UnreadOn x h k e
-SourceOn P bytes (Ok p) m n f g h k e = SessionOn P p.code (script_of bytes p) m n f g h k e
-
--- .. or the source was not read, since it failed or is too long, and nothing is done
-abbrev pub TakenOn : Claim → List ℕ → Rows → Rows → ℕ → ℕ → List ℕ → List ℕ → Ended → Type 0
-TakenOn P bytes m n f g h k ended.SourceFault = (n ≡ m) × (k ≡ h)
-TakenOn P bytes m n f g h k ended.TooLong = (n ≡ m) × (k ≡ h)
-TakenOn P bytes m n f g h k e = SourceOn P bytes (source_at bytes) m n f g h k e
-
-abbrev pub RunOn : Claim → Option (List ℕ) → TableState → TableState → Option (List ℕ) → Option (List ℕ) → Ended → Type 0
-RunOn P source old new held held' e = OnStates old new held held' (λ m n f g h k. IfSome source (λ b. TakenOn P b m n f g h k e))
-
--- ---- the words
 abbrev pub usage : List ℕ
 usage = codes "usage: beldi run\n"
-
--- other words: nothing is done, and the usage is written
-abbrev pub UsageOn : List ℕ → List ℕ → Ended → Type 0
-UsageOn h k ended.Usage = k ≡ h ++ usage
-UsageOn h k ended.SinkFault = SaysOn usage h k
-UsageOn h k e = ⊥
-
-abbrev pub WordsOn : Claim → Bool → Option (List ℕ) → TableState → TableState → Option (List ℕ) → Option (List ℕ) → Ended → Type 0
-WordsOn P true source old new held held' e = RunOn P source old new held held' e
-WordsOn P false source old new held held' e = OnStates old new held held' (λ m n f g h k. (n ≡ m) × UsageOn h k e)
 
 abbrev pub is_run : List (List ℕ) → Bool
 is_run [] = false
 is_run (word ∷ []) = is_name word (codes "run")
 is_run (word ∷ more ∷ words) = false
+
+-- ---- a session over a deployment, from the rows m to the rows n, with the text that was written. The numbers f and g are the
+-- table's count of failures before and after, and `opened` is the count once the host was open. Over a table without rows it
+-- is a run of the book without crashes.
+abbrev pub opened_at : Rows → ℕ → State
+opened_at m f = record { core = first_core (newest_of m) 0; rows = m; faults = f }
+
+-- all actions of the lines were done, and all text was written
+pub record Whole (d : Deployment) (lines : List Numbered) (m n : Rows) (f g : ℕ) (written : List ℕ) : Type 0 where
+  pub opened : ℕ
+  pub sooner : f ≤ opened
+  pub core : Core
+  pub went : Went (IsMoment d (m ≡ map.empty)) d (actions_in d lines) [] (opened_at m opened) (record { core = core; rows = n; faults = g }) [] written []
+  pub plain : m ≡ map.empty → IsPlainRun d n went.responses core.book core.book
+
+-- the first actions were done, but for `more`, and a front of the text was written; then it stopped
+pub record Cut (why : Stop) (d : Deployment) (lines : List Numbered) (m n : Rows) (f g : ℕ) (written : List ℕ) : Type 0 where
+  pub opened : ℕ
+  pub sooner : f ≤ opened
+  pub more : List Action
+  pub last : State
+  pub rest : List ℕ
+  pub went : Went (IsMoment d (m ≡ map.empty)) d (actions_in d lines) more (opened_at m opened) last [] written rest
+  pub core : Core
+  pub stopped : Stopped why d d.room more last (record { core = core; rows = n; faults = g })
+  pub plain : m ≡ map.empty → IsPlainRun d n went.responses last.core.book core.book
+
+-- ---- by how the program ended. A sink is seen by what it got and its faults ..
+module _ {K : Type 0} (held : K → Option (List ℕ)) (faults : K → ℕ) where
+  -- all of a text was written
+  abbrev pub Wrote : List ℕ → K → K → Type 0
+  Wrote text k k' = Writes (held k) (held k') text
+
+  -- the sink failed, and a front of the text was written
+  abbrev pub WroteFront : List ℕ → K → K → Type 0
+  WroteFront text k k' = Rose (faults k) (faults k') × ((written : List ℕ) × IsPrefixOf written text × Wrote written k k')
+
+  -- other words: the usage is written
+  abbrev pub UsageEnds : K → K → Ended → Type 0
+  UsageEnds k k' ended.Usage = Wrote usage k k'
+  UsageEnds k k' ended.SinkFault = WroteFront usage k k'
+  UsageEnds k k' e = ⊥
+
+  -- the source is refused before its script: the refusal is written
+  abbrev pub RefusalEnds : Refusal → K → K → Ended → Type 0
+  RefusalEnds x k k' ended.Refused = Wrote (refusal_text x) k k'
+  RefusalEnds x k k' ended.SinkFault = WroteFront (refusal_text x) k k'
+  RefusalEnds x k k' ended.OutOfMemory = k' ≡ k
+  RefusalEnds x k k' e = ⊥
+
+-- .. a table by its state
+module _ {K T : Type 0} (held : K → Option (List ℕ)) (faults : K → ℕ) (state : T → TableState) where
+  -- nothing was done or written
+  abbrev pub NothingDone : K → K → T → T → Type 0
+  NothingDone k k' t t' = (k' ≡ k) × Told (state t).rows (state t').rows (λ m n. n ≡ m) × ((state t).faults ≤ (state t').faults)
+
+  -- a session and its text: the one that the sink got, where it tells it; and what came of the rows, where they are told
+  abbrev pub Ran : (Rows → Rows → ℕ → ℕ → List ℕ → Type 0) → K → K → T → T → Type 0
+  Ran Session k k' t t' = (written : List ℕ) × Writes (held k) (held k') written × Told (state t).rows (state t').rows (λ m n. Session m n (state t).faults (state t').faults written)
+
+  -- the lines of a deployment are carried out
+  abbrev pub SessionEnds : Deployment → List Numbered → K → K → T → T → Ended → Type 0
+  SessionEnds d lines k k' t t' ended.Done = (is_whole d lines ≡ true) × Ran (Whole d lines) k k' t t'
+  SessionEnds d lines k k' t t' ended.Refused = (is_whole d lines ≡ false) × Ran (Whole d lines) k k' t t'
+  SessionEnds d lines k k' t t' ended.OutOfMemory = NothingDone k k' t t' ⊎ Ran (Cut stop.OutOfMemory d lines) k k' t t'
+  SessionEnds d lines k k' t t' ended.SinkFault = Rose (faults k) (faults k') × Ran (Cut stop.SinkFault d lines) k k' t t'
+  SessionEnds d lines k k' t t' ended.TableFault = Rose (state t).faults (state t').faults × NothingDone k k' t t'
+  SessionEnds d lines k k' t t' e = ⊥
+
+  -- by what the source says: its deployment was read, keeps every rule and can be carried out; or it is refused
+  abbrev pub SourceEnds : List ℕ → Result Parsed Refusal → K → K → T → T → Ended → Type 0
+  SourceEnds bytes (Ok p) k k' t t' e = SessionEnds p.code (script_of bytes p) k k' t t' e
+  SourceEnds bytes (Err x) k k' t t' e = (t' ≡ t) × RefusalEnds held faults x k k' e
+
+-- .. and a source by the bytes that it has left and its faults
+module _ {S K T : Type 0} (left : S → Option (List ℕ)) (source_faults : S → ℕ) (held : K → Option (List ℕ)) (faults : K → ℕ) (state : T → TableState) where
+  -- the source was read: these are all of its bytes, and no more than it may have
+  abbrev pub ReadEnds : S → S → K → K → T → T → Ended → Type 0
+  ReadEnds s s' k k' t t' e = (bytes : List ℕ) × (length bytes ≤ max_source) × Told (left s) (left s') (λ b c. (b ≡ bytes) × (c ≡ [])) × SourceEnds held faults state bytes (source_at bytes) k k' t t' e
+
+  -- the words are right: the source is read, unless it failed, has more bytes than it may, of which just one more was taken, or
+  -- memory ran out; then nothing is done or written
+  abbrev pub RunEnds : S → S → K → K → T → T → Ended → Type 0
+  RunEnds s s' k k' t t' ended.Usage = ⊥
+  RunEnds s s' k k' t t' ended.SourceFault = Rose (source_faults s) (source_faults s') × Told (left s) (left s') (TookFront max_source) × (t' ≡ t) × (k' ≡ k)
+  RunEnds s s' k k' t t' ended.TooLong = Told (left s) (left s') (λ b c. (max_source < length b) × (c ≡ drop (max_source + 1) b)) × (t' ≡ t) × (k' ≡ k)
+  RunEnds s s' k k' t t' ended.OutOfMemory = (Told (left s) (left s') (TookFront (max_source + 1)) × (t' ≡ t) × (k' ≡ k)) ⊎ ReadEnds s s' k k' t t' ended.OutOfMemory
+  RunEnds s s' k k' t t' e = ReadEnds s s' k k' t t' e
+
+  -- by whether the words are right
+  abbrev pub Ends : Bool → S → S → K → K → T → T → Ended → Type 0
+  Ends true s s' k k' t t' e = RunEnds s s' k k' t t' e
+  Ends false s s' k k' t t' e = (s' ≡ s) × (t' ≡ t) × UsageEnds held faults k k' e
+
+-- the program ended so
+pub record HasEnded {S K T : Type 0} (left : S → Option (List ℕ)) (source_faults : S → ℕ) (held : K → Option (List ℕ)) (faults : K → ℕ) (state : T → TableState) (words : Bool) (s s' : S) (k k' : K) (t t' : T) (e : Ended) : Type 0 where
+  pub ends : Ends left source_faults held faults state words s s' k k' t t' e
 
 -- ---- the status
 abbrev pub status_of : Ended → ℕ
@@ -149,31 +135,15 @@ status_of ended.Refused = 5
 status_of ended.TooLong = 7
 status_of ended.TableFault = 8
 
--- the status is that of an ending of which P holds
-abbrev pub ByStatus : ℕ → (Ended → Type 0) → Type 0
-ByStatus status P = (e : Ended) × (status ≡ status_of e) × P e
-
-abbrev pub end_of : Result (Option Refusal) Stop → Ended
-end_of (Ok None) = ended.Done
-end_of (Ok (Some x)) = ended.Refused
+abbrev pub end_of : Result Bool Stop → Ended
+end_of (Ok true) = ended.Done
+end_of (Ok false) = ended.Refused
 end_of (Err stop.OutOfMemory) = ended.OutOfMemory
 end_of (Err stop.SinkFault) = ended.SinkFault
 
-abbrev pub end_unread : ReadErr → Ended
-end_unread why.OutOfMemory = ended.OutOfMemory
-end_unread why.Failed = ended.SourceFault
-end_unread why.TooLong = ended.TooLong
-
--- how the program may end once the source was read
-abbrev pub is_of_source : Ended → Bool
-is_of_source ended.Usage = false
-is_of_source ended.SourceFault = false
-is_of_source ended.TooLong = false
-is_of_source e = true
-
-abbrev pub is_of_run : Ended → Bool
-is_of_run ended.Usage = false
-is_of_run e = true
+-- the status is that of an ending of which P holds
+abbrev pub ByStatus : ℕ → (Ended → Type 0) → Type 0
+ByStatus status P = (e : Ended) × (status ≡ status_of e) × P e
 
 -- the source has more than it may, and just one byte more than it may have was taken
 abbrev pub LongOn : List ℕ → List ℕ → Ended → Type 0

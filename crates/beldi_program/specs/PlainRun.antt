@@ -1,5 +1,6 @@
 -- That a session is a run without crashes, of exactly the requests that were bound.
-use Rattle.std.specs.Prelude.{◌≡◌, ℕ, Bool, false, List, [], ◌∷◌, ◌++◌, flat_map, Option, Some, None, option_to_list}
+use Rattle.std.specs.Prelude.{◌≡◌, ◌&&◌, ℕ, Bool, false, List, [], ◌∷◌, ◌++◌, flat_map, Option, Some, None, option_to_list}
+use Rattle.beldi_value.specs.declared.value.Value.{Value}
 use Rattle.beldi_value.specs.declared.outcome.Outcome.{Outcome}
 use Rattle.beldi_tree.specs.declared.deployment.Deployment.{Deployment}
 use Rattle.beldi_book.specs.Text.{book_text}
@@ -8,80 +9,69 @@ use Rattle.beldi_row.specs.Table.{Rows}
 use Rattle.beldi_plain.specs.Plain.{PlainState}
 use Rattle.beldi_plain.specs.Legal.{IsLegal, run_of}
 use Rattle.beldi_plain.specs.Listing.{listing_of}
-use Rattle.beldi_step.specs.declared.event.Event.{Event}
-use Rattle.beldi_step.specs.declared.event.Seen.{Seen}
-use Rattle.beldi_step.specs.Forms.{is_lost}
+use Rattle.beldi_step.specs.Host.{is_lost, is_dropped}
 use Rattle.beldi_step.specs.Tables.{tables_text}
-use Rattle.beldi_laws.specs.Laws.{starts_of, bound_in, entries_told, told_outcome, HasReply}
+use Rattle.beldi_laws.specs.Laws.{starts_of, bound_of, entries_told, told_outcome, HasReply}
 use Rattle.beldi_laws.specs.Stands.{Stands}
 use Rattle.beldi_core.specs.Right.{SaidOf}
-use Rattle.beldi_core.specs.declared.survey.ReplySeen.{ReplySeen}
 use Rattle.beldi_core.specs.declared.survey.ReplySeen.TheVariants.{Reply}
-use Rattle.beldi_program.specs.declared.deed.Deed.{Deed}
-use Rattle.beldi_program.specs.declared.deed.Deed.TheVariants as deed
-use Rattle.beldi_program.specs.Said.{Said, Saw, ReplyIs, TablesAre, BookIs}
+use Rattle.beldi_program.specs.Response.{Report, ReplyIs, TablesAre, BookIs, Response, Answered, Reported}
+use Rattle.beldi_program.specs.Session.{State, IsStep}
 
--- ---- the events among the deeds, and their answers
-abbrev pub event_in : Deed → List Event
-event_in (deed.Event e) = e ∷ []
-event_in x = []
+-- ---- the moment after an action
+-- the entries that a response tells
+abbrev pub entries_in : Response → List Entry
+entries_in (Answered e x) = entries_told e x
+entries_in (Reported r) = []
 
-abbrev pub seen_in : Said → List Seen
-seen_in (Saw x) = x ∷ []
-seen_in y = []
+-- the answer of an act was lost
+abbrev pub loses : Response → Bool
+loses (Answered e x) = is_lost e && is_dropped x
+loses (Reported r) = false
 
-abbrev pub events_among : List Deed → List Event
-events_among es = flat_map event_in es
+abbrev pub IsReportSo : Deployment → List Entry → Report → Type 0
+IsReportSo d book (ReplyIs t (Some x)) = SaidOf d book t x
+IsReportSo d book (TablesAre (Some lines)) = (p : PlainState) → run_of d book ≡ Some p → lines ≡ listing_of d p
+IsReportSo d book (BookIs lines) = lines ≡ book_text d book
+IsReportSo d book r = Unit {0}
 
-abbrev pub seen_among : List Said → List Seen
-seen_among ys = flat_map seen_in ys
+-- what a response says is so in the run of the book
+abbrev pub IsSo : Deployment → List Entry → Response → Type 0
+IsSo d book (Answered e x) = (t : ℕ) (o : Outcome) → told_outcome x ≡ Some (t, o) → HasReply d book t o
+IsSo d book (Reported r) = IsReportSo d book r
 
--- ---- what was said, at its moment
-abbrev pub entries_said : Deed → Said → List Entry
-entries_said (deed.Event e) (Saw x) = entries_told e x
-entries_said x y = []
-
-abbrev pub loses : Deed → Bool
-loses (deed.Event e) = is_lost e
-loses x = false
-
--- the book got at most one entry: the one that is said, unless the answer was lost
-pub record Grew (x : Deed) (y : Said) (before after : List Entry) : Type 0 where
+-- the book got at most one entry, the one that the response tells, unless the answer was lost; it is legal; and what is said
+-- is so in its run
+pub record Moment (d : Deployment) (y : Response) (before book : List Entry) : Type 0 where
   pub entry : Option Entry
-  pub book : after ≡ before ++ option_to_list entry
-  pub told : loses x ≡ false → option_to_list entry ≡ entries_said x y
+  pub grew : book ≡ before ++ option_to_list entry
+  pub told : loses y ≡ false → option_to_list entry ≡ entries_in y
+  pub legal : IsLegal d book
+  pub so : IsSo d book y
 
--- what is said is so in the run of the book
-abbrev pub IsSo : Deployment → List Entry → Said → Type 0
-IsSo d book (Saw x) = (t : ℕ) (o : Outcome) → told_outcome x ≡ Some (t, o) → HasReply d book t o
-IsSo d book (ReplyIs t x) = SaidOf d book t x
-IsSo d book (TablesAre lines) = (p : PlainState) → run_of d book ≡ Some p → lines ≡ listing_of d p
-IsSo d book (BookIs lines) = lines ≡ book_text d book
-IsSo d book y = Unit {0}
+-- one step, and where the session began over no rows the moment after it: the book is that of the step's own host
+abbrev pub IsMoment : Deployment → Type 0 → State → State → Response → Type 0
+IsMoment d over_no_rows s t y = IsStep d d.room s t y × (over_no_rows → Moment d y s.core.book t.core.book)
 
--- this was said of these deeds, one after another, while the book went on from `before` to `after`: at each moment it was
--- legal, and what was said is so in its run
-abbrev pub Moments : Deployment → List Deed → List Said → List Entry → List Entry → Type 0
-Moments d [] [] before after = after ≡ before
-Moments d [] (y ∷ ys) before after = ⊥
-Moments d (e ∷ es) [] before after = ⊥
-Moments d (e ∷ es) (y ∷ ys) before after = (book : List Entry) × Grew e y before book × IsLegal d book × IsSo d book y × Moments d es ys book after
+-- ---- the book at the end
+-- the requests that were bound
+abbrev pub bound_by : Response → List (ℕ × (ℕ × Value))
+bound_by (Answered e x) = bound_of e x
+bound_by (Reported r) = []
 
--- ---- what was said, and the book at the end
--- the outcome of a root that is said, with the root's ticket
-abbrev pub reply_outcome : ℕ → ReplySeen → Option (ℕ × Outcome)
-reply_outcome t (Reply o) = Some (t, o)
-reply_outcome t x = None
+abbrev pub bound_in : List Response → List (ℕ × (ℕ × Value))
+bound_in ys = flat_map bound_by ys
 
-abbrev pub said_outcome : Said → Option (ℕ × Outcome)
-said_outcome (Saw x) = told_outcome x
-said_outcome (ReplyIs t x) = reply_outcome t x
-said_outcome y = None
+-- the outcome of a root that a response tells, with the root's ticket
+abbrev pub outcome_in : Response → Option (ℕ × Outcome)
+outcome_in (Answered e x) = told_outcome x
+outcome_in (Reported (ReplyIs t (Some (Reply o)))) = Some (t, o)
+outcome_in y = None
 
--- every outcome that is said is the root's in the run of the book
-abbrev pub SayOutcomes : Deployment → List Entry → List Said → Type 0
-SayOutcomes d book [] = Unit {0}
-SayOutcomes d book (y ∷ ys) = ((t : ℕ) (o : Outcome) → said_outcome y ≡ Some (t, o) → HasReply d book t o) × SayOutcomes d book ys
+-- every outcome that is told is the root's in the run of the book
+abbrev pub TellOutcomes : Deployment → List Entry → List Response → Type 0
+TellOutcomes d book [] = Unit {0}
+TellOutcomes d book (y ∷ ys) = ((t : ℕ) (o : Outcome) → outcome_in y ≡ Some (t, o) → HasReply d book t o) × TellOutcomes d book ys
 
 -- the rows stand for the run of the book, and their listing is that of the run
 abbrev pub RowsStandFor : Deployment → Rows → List Entry → Type 0
@@ -90,14 +80,12 @@ RowsStandFor d n book = (p : PlainState) → run_of d book ≡ Some p → Stands
 abbrev pub GoesOn : List Entry → List Entry → Type 0
 GoesOn before after = (more : List Entry) × (before ++ more ≡ after)
 
--- this was said of these deeds while the book, from the empty one on, became `last`; a deed that broke off for want of
--- memory may have gone on to `book`, the one at the end. That is legal, so that each step of an instance acts once and in its
--- order; it starts exactly the requests that were answered bound, in order; every outcome that was said is its root's; and
--- the rows stand for its run.
-pub record IsPlainRun (d : Deployment) (rows : Rows) (es : List Deed) (ys : List Said) (last book : List Entry) : Type 0 where
-  pub moments : Moments d es ys [] last
-  pub broke_off : GoesOn last book
+-- the book at the end goes on from the last moment's, where an event broke off out of memory. It is legal, so that each step
+-- of an instance acts once and in its order; it starts exactly the requests that were answered bound, in order; every outcome
+-- that was told is its root's; and the rows stand for its run.
+pub record IsPlainRun (d : Deployment) (rows : Rows) (ys : List Response) (last book : List Entry) : Type 0 where
+  pub goes_on : GoesOn last book
   pub legal : IsLegal d book
-  pub bound : starts_of book ≡ bound_in (events_among es) (seen_among ys)
-  pub replies : SayOutcomes d book ys
+  pub bound : starts_of book ≡ bound_in ys
+  pub replies : TellOutcomes d book ys
   pub tables : RowsStandFor d rows book

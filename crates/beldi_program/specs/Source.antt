@@ -38,7 +38,7 @@ abbrev pub accepted : {A : Type 0} → A → Option Refusal → Result A Refusal
 accepted a None = Ok a
 accepted a (Some r) = Err r
 
--- a text is never read as want of memory
+-- a text is never read as out of memory
 abbrev pub source_by : Result Parsed SyntaxErr → Result Parsed Refusal
 source_by (Ok p) = accepted p (refusal_in p.code)
 source_by (Err (syntax.Refused n w)) = Err (refusal_at (cause.Syntax w) n)
@@ -77,7 +77,7 @@ is_built (line.Tick n) = false
 is_built line.Halt = false
 is_built l = true
 
--- a line is never read as want of memory
+-- a line is never read as out of memory
 abbrev pub cause_of : ScriptErr → Cause
 cause_of script.OutOfMemory = cause.BadLine
 cause_of script.BadLine = cause.BadLine

@@ -4,14 +4,14 @@ ghost use Rattle.std.specs.Fmt.{decimal};
 ghost use Rattle.beldi_value.specs.Json.{text_of};
 ghost use Rattle.beldi_value.specs.Value.{datum_of};
 ghost use Rattle.beldi_tree.specs.Names.{func_text};
-ghost use Rattle.beldi_program.specs.Answer.{answer_text, numbered, outcome_line, ticket_line, entry_part, reply_part, over_part};
-ghost use Rattle.beldi_program.specs.Said.{reply_line};
+ghost use Rattle.beldi_program.specs.Answer.{answer_text, numbered, held_line, outcome_line, ticket_line, entry_part, reply_part, over_part};
+ghost use Rattle.beldi_program.specs.Response.{reply_line};
 
 use beldi_book::Entry;
 use beldi_core::ReplySeen;
 use beldi_lang::Deployment;
 use beldi_step::Seen;
-use beldi_value::{Outcome, Str, Value};
+use beldi_value::{Outcome, Owner, Str, Value};
 use std::alloc::{AllocError, Global};
 
 /// Appends the line of an answer, and a line for the reply that it gives, if any. After an `Err` the text is as before.
@@ -37,6 +37,7 @@ pub fn write_answer(
         Seen::Gone(ticket) => write_numbered(alloc, "gone ", u64::from(*ticket), out),
         Seen::Unknown(ticket) => write_numbered(alloc, "unknown ", u64::from(*ticket), out),
         Seen::Acted { entry, over, reply } => write_acted(alloc, code, entry, *over, reply, out),
+        Seen::Held(owner) => write_held(alloc, owner, out),
         Seen::Full { live, room } => {
             let text = format!(in alloc; "full {live} {room}\n")?;
             out.push_text(text.as_str())
@@ -97,6 +98,16 @@ fn write_other(
     code.write_func(alloc, func, &mut line)?;
     line.push_text(" ")?;
     args.write_json(alloc, &mut line)?;
+    line.push_text("\n")?;
+    out.push_text(line.as_str())
+}
+
+fn write_held(alloc: Global, owner: &Owner, out: &mut Str) -> Result<(), AllocError>
+    ensures ok { OnOk result (out.new ≡ out.old ++ held_line owner.now) }
+    ensures err { OnErr result (out.new ≡ out.old) }
+{
+    let mut line = Str::from_text(alloc, "held ")?;
+    owner.write(alloc, &mut line)?;
     line.push_text("\n")?;
     out.push_text(line.as_str())
 }

@@ -4,30 +4,31 @@
 //! (`beldi_check`), the table that a host is over (`beldi_row`) and what is outside (`beldi_outside`); its clauses speak of
 //! definitions of the crates below them.
 //! Its own definitions: `specs/Source` (what a source says: its refusal, or a deployment and numbered lines), `specs/Refusal`
-//! (the text of a refusal), `specs/Answer` (the text of answers), `specs/Said` (what is said of a deed, and its text),
-//! `specs/Session` (the deeds of a script, what was said of them, and what was written), `specs/PlainRun` (that a session is
-//! a run without crashes), `specs/Headline` (what a session has to do with rows and text, and what each status says).
+//! (the text of a refusal), `specs/Script` (what a script has the program do), `specs/Answer` and `specs/Response` (what is said of
+//! it, and the text), `specs/Session` (steps one after another, and what was written), `specs/PlainRun` (that they are a run
+//! without crashes), `specs/Headline` (how the program ends: by it the cause, and what is left of source, sink and table).
 //! It has no error type: `top` answers a status, and `Ended` has one variant for each.
 //!
 //! Proved:
-//! - `top` says, over what the source, the sink and the table tell: the text that the sink got is that of a session of
-//!   the source, by the status (`session`).
+//! - `top` says by one definition how it ended (`session`: `Ends`): the text that was written is that of a session of the source,
+//!   by the status; where the sink or the source do not tell, of some text and of some bytes, and where the table tells, its
+//!   rows are those of that session.
 //! - With 0 all lines were carried out, and the last listings follow; with 5 the lines before the one that is refused,
 //!   and the line of the refusal follows, with its number in the source and its cause, or the deployment was refused
 //!   so; with 1 and 4 the first events and readings were carried out, at 1 perhaps a part of the next one, and the
 //!   sink got a front of their text, with a front of the ending only where all were carried out; where the source was
 //!   refused before its script, or the words were others, 4 leaves a front of that one line; with 3, 7 and 8 nothing
 //!   was done or written; with 2 the words are not those of a command (`usage`).
-//! - Over a table without rows, that session is a run without crashes (`IsPlainRun`): at each moment the book has the
+//! - Over a table without rows, that session is a run without crashes: after each step the book of that step's host has the
 //!   entries that were told, is legal, and each outcome, reply, listing of the tables and of the book is that of its
-//!   run then (`moments`); at the end it is legal, so each step of an instance acts once and in its order (`legal`),
+//!   run then (`Moment`); at the end (`IsPlainRun`) it is legal, so each step of an instance acts once and in its order (`legal`),
 //!   it starts exactly the requests that were answered `bound`, in order (`bound`), each outcome that was told is the
 //!   root's in its run (`replies`), and the rows stand for that run, and are listed as it is (`tables`).
 //! - 3, 4 and 8 come only where the count of the source, the sink or the table rose (`source_fault`, `sink_fault`,
 //!   `open_fault`); 7 only where the source has more than 16,777,216 bytes, of which 16,777,217 were taken, and where,
 //!   with the right words, it has more, only 7, 3 or 1 (`too_long`); with the right words, a source of at most
-//!   16,777,216 bytes that is not refused is carried out whole, where neither source nor sink fails, nor memory is
-//!   wanting, nor the table failed as it was opened (`complete`); 0 comes only where the source is not refused, and 5
+//!   16,777,216 bytes that is not refused is carried out whole, where neither source nor sink fails, nor memory runs
+//!   out, nor the table failed as it was opened (`complete`); 0 comes only where the source is not refused, and 5
 //!   only where it is, whatever sink and table tell (`refused`).
 //! - With other words neither source nor table is touched (`unread`); with 3 and 7 the table is the one handed in and
 //!   the sink is not called, with 8 the rows are as before (`untouched`).
@@ -35,9 +36,6 @@
 #![tactic(auto)]
 
 mod answer;
-mod deed;
-mod doing;
-mod ending;
 mod output;
 mod program;
 mod refusal;

@@ -1,7 +1,7 @@
 // Text on its way to the sink.
 ghost use Rattle.std.specs.Prelude.{◌≡◌, ◌≤◌, [], length, nat_lt, if◌then◌else◌, IfErr, OnOk, OnErr};
-ghost use Rattle.beldi_outside.specs.Outside.{Rose, Told};
-ghost use Rattle.beldi_program.specs.Session.{Flushed};
+ghost use Rattle.beldi_outside.specs.Outside.{Rose};
+ghost use Rattle.beldi_program.specs.Session.{Flushes};
 ghost use Rattle.beldi_program.specs.declared.session.Stop.TheVariants.{SinkFault};
 
 use crate::session::Stop;
@@ -13,7 +13,7 @@ const PIECE: usize = 65_536;
 
 /// Writes all that waits. `SinkFault`: the sink failed; a front of the text was written, and the text waits as before.
 pub fn flush<K: Sink>(sink: &mut K, waiting: &mut Str) -> Result<(), Stop>
-    ensures text { Told (K.held sink.old) (K.held sink.new) (Flushed waiting.old waiting.new result) }
+    ensures text { Flushes (K.held sink.old) (K.held sink.new) waiting.old waiting.new result }
     ensures later { K.faults sink.old ≤ K.faults sink.new }
     ensures fault { OnErr result (Rose (K.faults sink.old) (K.faults sink.new)) }
     ensures cause { IfErr result (λ e. e ≡ SinkFault) }
@@ -31,7 +31,7 @@ pub fn flush<K: Sink>(sink: &mut K, waiting: &mut Str) -> Result<(), Stop>
 
 /// Writes all that waits, where it is long. `SinkFault`: as of `flush`.
 pub fn flush_if_long<K: Sink>(sink: &mut K, waiting: &mut Str) -> Result<(), Stop>
-    ensures text { Told (K.held sink.old) (K.held sink.new) (Flushed waiting.old waiting.new result) }
+    ensures text { Flushes (K.held sink.old) (K.held sink.new) waiting.old waiting.new result }
     ensures later { K.faults sink.old ≤ K.faults sink.new }
     ensures fault { OnErr result (Rose (K.faults sink.old) (K.faults sink.new)) }
     ensures cause { IfErr result (λ e. e ≡ SinkFault) }

@@ -1,16 +1,12 @@
 // The program, over a source, a sink, a table, a link and a clock.
-ghost use Rattle.std.specs.Prelude.{◌≡◌, ◌≤◌, ◌<◌, ◌+◌, ◌⊎◌, true, false, length, drop, IfOk, IsTrue};
-ghost use Rattle.beldi_core.specs.Host.{core_of};
+ghost use Rattle.std.specs.Prelude.{◌≡◌, ◌≤◌, ◌<◌, ◌+◌, ◌⊎◌, true, false, length, drop};
 ghost use Rattle.beldi_outside.specs.Outside.{Told, Rose, max_source};
 ghost use Rattle.beldi_script.specs.Cut.{lines_of};
-ghost use Rattle.beldi_program.specs.declared.program.Ended.TheVariants as ended;
-ghost use Rattle.beldi_program.specs.Session.{OnStates, Kept, refused_in};
 ghost use Rattle.beldi_program.specs.Source.{numbered, source_at};
-ghost use Rattle.beldi_program.specs.Headline.{Anything, AsRead, ByStatus, PlainRun, RunOn, ScriptOn, SessionOn, SourceAsRead, SourceOn, UnreadOn, Untouched, UsageOn, WordsOn, LongOn, end_of, end_unread, is_of_run, is_of_source, is_run, is_whole, is_whole_source, status_of};
+ghost use Rattle.beldi_program.specs.Headline.{ByStatus, Ends, HasEnded, LongOn, RefusalEnds, RunEnds, SessionEnds, SourceAsRead, SourceEnds, Untouched, UsageEnds, end_of, is_run, is_whole_source, status_of};
 
-use crate::ending::finish;
 use crate::refusal::{Refusal, SourceErr, write_refusal};
-use crate::session::{Stop, do_lines};
+use crate::session::{Stop, run_script};
 use crate::source::read_source;
 use beldi_core::{Host, OpenErr};
 use beldi_lang::Deployment;
@@ -25,7 +21,7 @@ use std::alloc::Global;
 pub enum Ended {
     /// All lines were carried out, and the last listings written.
     Done,
-    /// Memory is short.
+    /// Out of memory.
     OutOfMemory,
     /// The words are not those of a command.
     Usage,
@@ -51,9 +47,10 @@ pub fn top<S: Source, K: Sink, T: Table, N: Link, C: Clock>(
     _link: &mut N,
     _clock: &mut C,
 ) -> (u8, T)
-    // The text that the sink got is that of a session of the source. Over a table without rows this session is a run without
-    // crashes of exactly the requests that were answered bound, and the replies, the tables and the rows are those of that run.
-    ensures session { ByStatus result.0 (λ e. WordsOn PlainRun (is_run words.now) (S.left source.old) (T.state table) (T.state result.1) (K.held sink.old) (K.held sink.new) e) }
+    // The status tells how the program ended: by it the cause, and what is left of source, sink and table. The text is that of
+    // a session of the source. Over a table without rows this session is a run without crashes of exactly the requests that
+    // were answered bound, and the replies, the tables and the rows are those of that run.
+    ensures session { ByStatus result.0 (λ e. Ends S.left S.faults K.held K.faults T.state (is_run words.now) source.old source.new sink.old sink.new table result.1 e) }
     // Neither the link nor the clock is asked for anything.
     ensures unasked { (_link.new ≡ _link.old) × (_clock.new ≡ _clock.old) }
     ensures usage { (result.0 ≡ 2 → is_run words.now ≡ false) × (is_run words.now ≡ false → (result.0 ≡ 2) ⊎ (result.0 ≡ 4)) }
@@ -64,7 +61,7 @@ pub fn top<S: Source, K: Sink, T: Table, N: Link, C: Clock>(
     // Only a source that is not refused is carried out whole, and only one that is refused is answered so.
     ensures refused { is_run words.now ≡ true → ByStatus result.0 (λ e. SourceAsRead (S.left source.old) e) }
     // Where the words are right and neither the source nor the sink fails, a source that is not refused is carried out whole,
-    // or the table failed as the host was opened, or memory is wanting.
+    // or the table failed as the host was opened, or memory ran out.
     ensures complete { is_run words.now ≡ true → (Rose (S.faults source.old) (S.faults source.new) → ⊥) → (Rose (K.faults sink.old) (K.faults sink.new) → ⊥) → Told (S.left source.old) (S.left source.new) (λ b c. length b ≤ max_source → is_whole_source b (source_at b) ≡ true → (result.0 ≡ 0) ⊎ (result.0 ≡ 1) ⊎ (result.0 ≡ 8)) }
     ensures unread { is_run words.now ≡ false → (source.new ≡ source.old) × (result.1 ≡ table) }
     ensures untouched { ByStatus result.0 (λ e. Untouched e (result.1 ≡ table) (Told (T.state table).rows (T.state result.1).rows (λ m n. n ≡ m)) (sink.new ≡ sink.old)) }
@@ -80,15 +77,7 @@ fn carry_out<S: Source, K: Sink, T: Table>(
     sink: &mut K,
     table: T,
 ) -> (Ended, T)
-    ensures text { WordsOn Anything (is_run words.now) (S.left source.old) (T.state table) (T.state result.1) (K.held sink.old) (K.held sink.new) result.0 }
-    ensures usage { (result.0 ≡ ended.Usage → is_run words.now ≡ false) × (is_run words.now ≡ false → (result.0 ≡ ended.Usage) ⊎ (result.0 ≡ ended.SinkFault)) }
-    ensures source_fault { result.0 ≡ ended.SourceFault → Rose (S.faults source.old) (S.faults source.new) }
-    ensures sink_fault { result.0 ≡ ended.SinkFault → Rose (K.faults sink.old) (K.faults sink.new) }
-    ensures open_fault { result.0 ≡ ended.TableFault → Rose (T.state table).faults (T.state result.1).faults }
-    ensures too_long { is_run words.now ≡ true → Told (S.left source.old) (S.left source.new) (λ b c. LongOn b c result.0) }
-    ensures as_read { is_run words.now ≡ true → SourceAsRead (S.left source.old) result.0 }
-    ensures unread { is_run words.now ≡ false → (source.new ≡ source.old) × (result.1 ≡ table) }
-    ensures untouched { Untouched result.0 (result.1 ≡ table) (Told (T.state table).rows (T.state result.1).rows (λ m n. n ≡ m)) (sink.new ≡ sink.old) }
+    ensures { HasEnded S.left S.faults K.held K.faults T.state (is_run words.now) source.old source.new sink.old sink.new table result.1 result.0 }
 {
     if is_run(words) {
         run(alloc, source, sink, table)
@@ -123,9 +112,7 @@ fn status(ended: Ended) -> u8
 
 // The words are not those of a command.
 fn refuse_words<K: Sink>(sink: &mut K) -> Ended
-    ensures text { Told (K.held sink.old) (K.held sink.new) (λ h k. UsageOn h k result) }
-    ensures usage { (result ≡ ended.Usage) ⊎ (result ≡ ended.SinkFault) }
-    ensures sink_fault { result ≡ ended.SinkFault → Rose (K.faults sink.old) (K.faults sink.new) }
+    ensures { UsageEnds K.held K.faults sink.old sink.new result }
 {
     match write_all(sink, b"usage: beldi run\n") {
         Ok(()) => Ended::Usage,
@@ -135,9 +122,7 @@ fn refuse_words<K: Sink>(sink: &mut K) -> Ended
 
 // The source is refused before its script.
 fn refuse_source<K: Sink>(alloc: Global, sink: &mut K, refusal: &Refusal) -> Ended
-    ensures text { Told (K.held sink.old) (K.held sink.new) (λ h k. UnreadOn refusal.now h k result) }
-    ensures source { (result ≡ ended.Refused) ⊎ (result ≡ ended.SinkFault) ⊎ (result ≡ ended.OutOfMemory) }
-    ensures sink_fault { result ≡ ended.SinkFault → Rose (K.faults sink.old) (K.faults sink.new) }
+    ensures { RefusalEnds K.held K.faults refusal.now sink.old sink.new result }
 {
     let mut text = Str::new(alloc);
     match write_refusal(alloc, refusal, &mut text) {
@@ -155,39 +140,19 @@ fn run<S: Source, K: Sink, T: Table>(
     sink: &mut K,
     table: T,
 ) -> (Ended, T)
-    ensures session { RunOn Anything (S.left source.old) (T.state table) (T.state result.1) (K.held sink.old) (K.held sink.new) result.0 }
-    ensures run { IsTrue (is_of_run result.0) }
-    ensures source_fault { result.0 ≡ ended.SourceFault → Rose (S.faults source.old) (S.faults source.new) }
-    ensures sink_fault { result.0 ≡ ended.SinkFault → Rose (K.faults sink.old) (K.faults sink.new) }
-    ensures open_fault { result.0 ≡ ended.TableFault → Rose (T.state table).faults (T.state result.1).faults }
-    ensures too_long { Told (S.left source.old) (S.left source.new) (λ b c. LongOn b c result.0) }
-    ensures as_read { SourceAsRead (S.left source.old) result.0 }
-    ensures untouched { Untouched result.0 (result.1 ≡ table) (Told (T.state table).rows (T.state result.1).rows (λ m n. n ≡ m)) (sink.new ≡ sink.old) }
+    ensures { RunEnds S.left S.faults K.held K.faults T.state source.old source.new sink.old sink.new table result.1 result.0 }
 {
     match read_all(alloc, source) {
         Ok(bytes) => run_source(alloc, sink, table, bytes.as_slice()),
-        Err(why) => (not_read(why), table),
-    }
-}
-
-fn not_read(why: ReadErr) -> Ended
-    ensures { result ≡ end_unread why }
-{
-    match why {
-        ReadErr::OutOfMemory => Ended::OutOfMemory,
-        ReadErr::Failed => Ended::SourceFault,
-        ReadErr::TooLong => Ended::TooLong,
+        Err(ReadErr::OutOfMemory) => (Ended::OutOfMemory, table),
+        Err(ReadErr::Failed) => (Ended::SourceFault, table),
+        Err(ReadErr::TooLong) => (Ended::TooLong, table),
     }
 }
 
 // Carries out the script of a source that was read.
 fn run_source<K: Sink, T: Table>(alloc: Global, sink: &mut K, table: T, bytes: &[u8]) -> (Ended, T)
-    ensures session { OnStates (T.state table) (T.state result.1) (K.held sink.old) (K.held sink.new) (λ m n f g h k. SourceOn Anything bytes.now (source_at bytes.now) m n f g h k result.0) }
-    ensures read { IsTrue (is_of_source result.0) }
-    ensures as_read { AsRead (is_whole_source bytes.now (source_at bytes.now)) result.0 }
-    ensures untouched { Untouched result.0 (result.1 ≡ table) (Told (T.state table).rows (T.state result.1).rows (λ m n. n ≡ m)) (sink.new ≡ sink.old) }
-    ensures sink_fault { result.0 ≡ ended.SinkFault → Rose (K.faults sink.old) (K.faults sink.new) }
-    ensures open_fault { result.0 ≡ ended.TableFault → Rose (T.state table).faults (T.state result.1).faults }
+    ensures { SourceEnds K.held K.faults T.state bytes.now (source_at bytes.now) sink.old sink.new table result.1 result.0 }
 {
     match read_source(alloc, bytes) {
         Ok(Parsed { code, rest, line }) => {
@@ -216,16 +181,12 @@ fn host<K: Sink, T: Table>(
     first: u32,
     script: &[u8],
 ) -> (Ended, T)
-    ensures session { OnStates (T.state table) (T.state result.1) (K.held sink.old) (K.held sink.new) (λ m n f g h k. SessionOn Anything code (numbered first (lines_of script.now)) m n f g h k result.0) }
-    ensures read { IsTrue (is_of_source result.0) }
-    ensures as_read { AsRead (is_whole code (numbered first (lines_of script.now))) result.0 }
-    ensures untouched { Untouched result.0 (result.1 ≡ table) (Told (T.state table).rows (T.state result.1).rows (λ m n. n ≡ m)) (sink.new ≡ sink.old) }
-    ensures sink_fault { result.0 ≡ ended.SinkFault → Rose (K.faults sink.old) (K.faults sink.new) }
-    ensures open_fault { result.0 ≡ ended.TableFault → Rose (T.state table).faults (T.state result.1).faults }
+    ensures { SessionEnds K.held K.faults T.state code (numbered first (lines_of script.now)) sink.old sink.new table result.1 result.0 }
 {
     match Host::open(alloc, code, table, 0) {
         Ok(mut host) => {
-            let ran = run_script(alloc, &mut host, sink, first, script);
+            let mut waiting = Str::new(alloc);
+            let ran = run_script(alloc, &mut host, sink, &mut waiting, first, script);
             (end_of(ran), host.close())
         }
         Err((table, OpenErr::Failed)) => (Ended::TableFault, table),
@@ -233,34 +194,12 @@ fn host<K: Sink, T: Table>(
     }
 }
 
-// Carries out a script, and writes the ending.
-fn run_script<K: Sink, T: Table>(
-    alloc: Global,
-    host: &mut Host<T>,
-    sink: &mut K,
-    first: u32,
-    script: &[u8],
-) -> Result<Option<Refusal>, Stop>
-    ensures refused { IfOk result (λ refused. refused_in host.old.code (numbered first (lines_of script.now)) ≡ refused) }
-    ensures done { OnStates (T.state host.old.table) (T.state host.new.table) (K.held sink.old) (K.held sink.new) (λ m n f g h k. ScriptOn host.old.code (T.state host.old.table).room (numbered first (lines_of script.now)) (core_of host.old) m n f g h k result) }
-    ensures kept { Kept host.old.code host.new.code (T.state host.old.table) (T.state host.new.table) (K.faults sink.old) (K.faults sink.new) result }
-{
-    let mut waiting = Str::new(alloc);
-    match do_lines(alloc, host, sink, &mut waiting, first, script) {
-        Ok(refused) => match finish(alloc, sink, &mut waiting, &refused) {
-            Ok(()) => Ok(refused),
-            Err(stop) => Err(stop),
-        },
-        Err(stop) => Err(stop),
-    }
-}
-
-fn end_of(ran: Result<Option<Refusal>, Stop>) -> Ended
+fn end_of(ran: Result<bool, Stop>) -> Ended
     ensures { result ≡ end_of ran }
 {
     match ran {
-        Ok(None) => Ended::Done,
-        Ok(Some(_)) => Ended::Refused,
+        Ok(true) => Ended::Done,
+        Ok(false) => Ended::Refused,
         Err(Stop::OutOfMemory) => Ended::OutOfMemory,
         Err(Stop::SinkFault) => Ended::SinkFault,
     }

@@ -36,7 +36,7 @@ pub struct Refusal {
 /// Why a source, or a line of it, was not read.
 #[derive(Drop)]
 pub enum SourceErr {
-    /// Memory is short.
+    /// Out of memory.
     OutOfMemory,
     /// It is refused.
     Refused(Refusal),

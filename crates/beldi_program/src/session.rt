@@ -1,79 +1,83 @@
 // A session: the lines of a script, carried out one after another.
-ghost use Rattle.std.specs.Prelude.{◌≡◌, ◌∷◌, [], IfOk};
-ghost use Rattle.beldi_core.specs.Host.{core_of};
+ghost use Rattle.std.specs.Prelude.{◌≡◌, ◌∷◌, ◌++◌, [], ℕ, List, Option, IfOk, OnOk, true};
 ghost use Rattle.beldi_script.specs.Cut.{lines_of};
 ghost use Rattle.beldi_step.specs.declared.event.Event.TheVariants as events;
-ghost use Rattle.beldi_program.specs.declared.deed.Deed.TheVariants as deeds;
-ghost use Rattle.beldi_program.specs.Session.{Carried, Carrying, LineOn, LinesOn, Kept, deeds_of, refused_in, line_result, listings, times, unread_result};
-ghost use Rattle.beldi_program.specs.Source.{numbered};
+ghost use Rattle.beldi_program.specs.Script.{Carry, TellReply, CountRows, ListTables, ListBook, actions_of, actions_in, and_then, is_ok, is_whole, times};
+ghost use Rattle.beldi_book.specs.Text.{book_text};
+ghost use Rattle.beldi_program.specs.Response.{BookIs, report_text};
+ghost use Rattle.beldi_program.specs.Session.{Does, by_done, by_text, sight};
+ghost use Rattle.beldi_program.specs.Source.{numbered, said_at};
 
-use crate::deed::Deed;
-use crate::doing::do_one;
-use crate::output::flush_if_long;
-use crate::refusal::{Refusal, SourceErr};
+use crate::answer::{write_answer, write_numbered, write_reply_seen};
+use crate::output::{flush, flush_if_long};
+use crate::refusal::{SourceErr, write_refusal};
 use crate::source::read_said;
-use beldi_core::Host;
+use beldi_book::Book;
+use beldi_core::{Host, OpenErr};
+use beldi_lang::Deployment;
 use beldi_outside::Sink;
 use beldi_row::Table;
 use beldi_script::{Line, cut_line};
 use beldi_step::Event;
 use beldi_value::Str;
-use std::alloc::Global;
+use std::alloc::{AllocError, Global};
 
 /// Why a session broke off.
 #[derive(Clone, Copy, Debug, PartialEq, Eq)]
 pub enum Stop {
-    /// Memory is short. The deed that wanted it may be done in part; its text is lost.
+    /// Out of memory. The event that wanted it may be done in part; its text is lost.
     OutOfMemory,
-    /// The sink failed, and its count of faults has risen. The deeds up to then are done.
+    /// The sink failed, and its count of faults has risen. The actions up to then are done.
     SinkFault,
 }
 
-// Carries out a deed. Its text is written once long text waits.
-fn do_deed<K: Sink, T: Table>(
-    alloc: Global,
-    host: &mut Host<T>,
-    sink: &mut K,
-    waiting: &mut Str,
-    deed: Deed,
-) -> Result<(), Stop>
-    ensures done { Carried (Carrying (deed ∷ [])) host.old.code (core_of host.old) (core_of host.new) (T.state host.old.table) (T.state host.new.table) waiting.old waiting.new (K.held sink.old) (K.held sink.new) result }
-    ensures kept { Kept host.old.code host.new.code (T.state host.old.table) (T.state host.new.table) (K.faults sink.old) (K.faults sink.new) result }
+// The text of a response was appended, or memory ran out.
+fn appended(wrote: Result<(), AllocError>) -> Result<(), Stop>
+    ensures { result ≡ by_text wrote }
 {
-    match do_one(alloc, host, waiting, deed) {
-        Ok(()) => flush_if_long(sink, waiting),
+    match wrote {
+        Ok(()) => Ok(()),
         Err(_) => Err(Stop::OutOfMemory),
     }
 }
 
-// Carries out an event.
-fn do_event<K: Sink, T: Table>(
+// Where all was done, whether the script goes on.
+fn done(whole: bool, ran: Result<(), Stop>) -> Result<bool, Stop>
+    ensures { result ≡ by_done whole ran }
+{
+    match ran {
+        Ok(()) => Ok(whole),
+        Err(stop) => Err(stop),
+    }
+}
+
+// Carries out an event, and appends the text of its answer.
+fn answer<T: Table>(
     alloc: Global,
     host: &mut Host<T>,
-    sink: &mut K,
-    waiting: &mut Str,
+    out: &mut Str,
     event: Event,
 ) -> Result<(), Stop>
-    ensures done { Carried (Carrying (deeds.Event event ∷ [])) host.old.code (core_of host.old) (core_of host.new) (T.state host.old.table) (T.state host.new.table) waiting.old waiting.new (K.held sink.old) (K.held sink.new) result }
-    ensures kept { Kept host.old.code host.new.code (T.state host.old.table) (T.state host.new.table) (K.faults sink.old) (K.faults sink.new) result }
+    ensures { (held : Option (List ℕ)) (faults : ℕ) → Does (Carry event ∷ []) (sight host.old out.old held faults) (sight host.new out.new held faults) result }
 {
-    do_deed(alloc, host, sink, waiting, Deed::Event(event))
+    match host.event(event) {
+        Ok(seen) => appended(write_answer(alloc, host.code(), &seen, out)),
+        Err(_) => Err(Stop::OutOfMemory),
+    }
 }
 
 // Gives a run so many turns.
-fn do_turns<K: Sink, T: Table>(
+fn give_turns<T: Table>(
     alloc: Global,
     host: &mut Host<T>,
-    sink: &mut K,
-    waiting: &mut Str,
+    out: &mut Str,
     run: u32,
     count: u32,
 ) -> Result<(), Stop>
-    ensures done { Carried (Carrying (times count (deeds.Event (events.Turn run)))) host.old.code (core_of host.old) (core_of host.new) (T.state host.old.table) (T.state host.new.table) waiting.old waiting.new (K.held sink.old) (K.held sink.new) result }
-    ensures kept { Kept host.old.code host.new.code (T.state host.old.table) (T.state host.new.table) (K.faults sink.old) (K.faults sink.new) result }
+    ensures { (held : Option (List ℕ)) (faults : ℕ) → Does (times count (Carry (events.Turn run))) (sight host.old out.old held faults) (sight host.new out.new held faults) result }
 {
     for turn in 0..count {
-        match do_event(alloc, host, sink, waiting, Event::Turn(u64::from(run))) {
+        match answer(alloc, host, out, Event::Turn(u64::from(run))) {
             Ok(()) => {}
             Err(stop) => return Err(stop),
         }
@@ -81,33 +85,79 @@ fn do_turns<K: Sink, T: Table>(
     Ok(())
 }
 
-// Does what a line says.
-fn do_said<K: Sink, T: Table>(
+// Appends what a ticket's run gave; one line in its place where the table failed.
+fn tell_reply<T: Table>(
     alloc: Global,
     host: &mut Host<T>,
-    sink: &mut K,
-    waiting: &mut Str,
-    line: Line,
+    out: &mut Str,
+    ticket: u32,
 ) -> Result<(), Stop>
-    ensures done { Carried (Carrying (deeds_of line)) host.old.code (core_of host.old) (core_of host.new) (T.state host.old.table) (T.state host.new.table) waiting.old waiting.new (K.held sink.old) (K.held sink.new) result }
-    ensures kept { Kept host.old.code host.new.code (T.state host.old.table) (T.state host.new.table) (K.faults sink.old) (K.faults sink.new) result }
+    ensures { (held : Option (List ℕ)) (faults : ℕ) → Does (TellReply ticket ∷ []) (sight host.old out.old held faults) (sight host.new out.new held faults) result }
+{
+    match host.reply(ticket) {
+        Ok(seen) => appended(write_reply_seen(alloc, ticket, &seen, out)),
+        Err(OpenErr::Failed) => appended(out.push_text("dropped\n")),
+        Err(OpenErr::OutOfMemory) => Err(Stop::OutOfMemory),
+    }
+}
+
+// Appends how many rows there are.
+fn count_rows<T: Table>(alloc: Global, host: &mut Host<T>, out: &mut Str) -> Result<(), Stop>
+    ensures { (held : Option (List ℕ)) (faults : ℕ) → Does (CountRows ∷ []) (sight host.old out.old held faults) (sight host.new out.new held faults) result }
+{
+    appended(write_numbered(alloc, "rows ", u64::from(host.rows()), out))
+}
+
+// Appends the listing of the tables; one line in place of its lines where the table failed.
+fn list_tables<T: Table>(host: &mut Host<T>, out: &mut Str) -> Result<(), Stop>
+    ensures { (held : Option (List ℕ)) (faults : ℕ) → Does (ListTables ∷ []) (sight host.old out.old held faults) (sight host.new out.new held faults) result }
+{
+    match out.push_text("== tables\n") {
+        Ok(()) => match host.tables(out) {
+            Ok(()) => Ok(()),
+            Err(OpenErr::Failed) => appended(out.push_text("dropped\n")),
+            Err(OpenErr::OutOfMemory) => Err(Stop::OutOfMemory),
+        },
+        Err(_) => Err(Stop::OutOfMemory),
+    }
+}
+
+// Appends the listing of the book.
+fn list_book<T: Table>(alloc: Global, host: &mut Host<T>, out: &mut Str) -> Result<(), Stop>
+    ensures { (held : Option (List ℕ)) (faults : ℕ) → Does (ListBook ∷ []) (sight host.old out.old held faults) (sight host.new out.new held faults) result }
+{
+    appended(write_book(alloc, host.book(), host.code(), out))
+}
+
+fn write_book(
+    alloc: Global,
+    book: &Book,
+    code: &Deployment,
+    out: &mut Str,
+) -> Result<(), AllocError>
+    ensures { OnOk result (out.new ≡ out.old ++ report_text (BookIs (book_text code.now book.now.entries))) }
+{
+    out.push_text("== book\n")?;
+    book.write(alloc, code, out)
+}
+
+// Does what a line says, and appends the text of what is said of it.
+fn say<T: Table>(alloc: Global, host: &mut Host<T>, out: &mut Str, line: Line) -> Result<(), Stop>
+    ensures { (held : Option (List ℕ)) (faults : ℕ) → Does (actions_of line) (sight host.old out.old held faults) (sight host.new out.new held faults) result }
 {
     match line {
-        Line::Ticket => do_event(alloc, host, sink, waiting, Event::Ticket),
+        Line::Ticket => answer(alloc, host, out, Event::Ticket),
         Line::Request { ticket, func, args } => {
-            let event = Event::Request { ticket, func, args };
-            do_event(alloc, host, sink, waiting, event)
+            answer(alloc, host, out, Event::Request { ticket, func, args })
         }
-        Line::Turn { run, times } => do_turns(alloc, host, sink, waiting, run, times),
-        Line::Lost { run } => do_event(alloc, host, sink, waiting, Event::Lost(u64::from(run))),
-        Line::Crash { run } => do_event(alloc, host, sink, waiting, Event::Crash(u64::from(run))),
-        Line::Restart { id, func } => {
-            do_event(alloc, host, sink, waiting, Event::Restart { id, func })
-        }
-        Line::Rows => do_deed(alloc, host, sink, waiting, Deed::Rows),
-        Line::Reply { ticket } => do_deed(alloc, host, sink, waiting, Deed::Reply(ticket)),
-        Line::Tables => do_deed(alloc, host, sink, waiting, Deed::Tables),
-        Line::Book => do_deed(alloc, host, sink, waiting, Deed::Book),
+        Line::Turn { run, times } => give_turns(alloc, host, out, run, times),
+        Line::Lost { run } => answer(alloc, host, out, Event::Lost(u64::from(run))),
+        Line::Crash { run } => answer(alloc, host, out, Event::Crash(u64::from(run))),
+        Line::Restart { id, func } => answer(alloc, host, out, Event::Restart { id, func }),
+        Line::Reply { ticket } => tell_reply(alloc, host, out, ticket),
+        Line::Rows => count_rows(alloc, host, out),
+        Line::Tables => list_tables(host, out),
+        Line::Book => list_book(alloc, host, out),
         Line::Blank => Ok(()),
         Line::Ic { .. } => Ok(()),
         Line::Gc { .. } => Ok(()),
@@ -118,7 +168,8 @@ fn do_said<K: Sink, T: Table>(
     }
 }
 
-// Carries out the line of this number. Where it is refused, nothing is done, and its refusal given.
+// Carries out the line of this number, and writes the text that waits where it is long. `false`: the line is refused, and its
+// refusal appended.
 fn do_line<K: Sink, T: Table>(
     alloc: Global,
     host: &mut Host<T>,
@@ -126,35 +177,48 @@ fn do_line<K: Sink, T: Table>(
     waiting: &mut Str,
     number: u32,
     line: &[u8],
-) -> Result<Option<Refusal>, Stop>
-    ensures refused { IfOk result (λ refused. refused_in host.old.code ((number, line.now) ∷ []) ≡ refused) }
-    ensures done { Carried (λ d room s t r. LineOn d room (number, line.now) s t r) host.old.code (core_of host.old) (core_of host.new) (T.state host.old.table) (T.state host.new.table) waiting.old waiting.new (K.held sink.old) (K.held sink.new) result }
-    ensures kept { Kept host.old.code host.new.code (T.state host.old.table) (T.state host.new.table) (K.faults sink.old) (K.faults sink.new) result }
+) -> Result<bool, Stop>
+    ensures does { Does (and_then (said_at host.old.code (number, line.now)) []) (sight host.old waiting.old (K.held sink.old) (K.faults sink.old)) (sight host.new waiting.new (K.held sink.new) (K.faults sink.new)) result }
+    ensures whole { IfOk result (λ whole. is_ok (said_at host.old.code (number, line.now)) ≡ whole) }
 {
     match read_said(alloc, host.code(), number, line) {
-        Ok(said) => carried(do_said(alloc, host, sink, waiting, said)),
-        Err(why) => unread(why),
+        Ok(said) => match say(alloc, host, waiting, said) {
+            Ok(()) => done(true, flush_if_long(sink, waiting)),
+            Err(stop) => Err(stop),
+        },
+        Err(SourceErr::Refused(refusal)) => {
+            done(false, appended(write_refusal(alloc, &refusal, waiting)))
+        }
+        Err(SourceErr::OutOfMemory) => Err(Stop::OutOfMemory),
     }
 }
 
-// A line was not read, so nothing was done.
-fn unread(why: SourceErr) -> Result<Option<Refusal>, Stop>
-    ensures { result ≡ unread_result why }
+// Carries out the lines of a script, the first of which has this number in the source, up to a refused line or to the end,
+// where the last listings follow. `false`: a line is refused.
+fn do_lines<K: Sink, T: Table>(
+    alloc: Global,
+    host: &mut Host<T>,
+    sink: &mut K,
+    waiting: &mut Str,
+    first: u32,
+    script: &[u8],
+) -> Result<bool, Stop>
+    ensures does { Does (actions_in host.old.code (numbered first (lines_of script.now))) (sight host.old waiting.old (K.held sink.old) (K.faults sink.old)) (sight host.new waiting.new (K.held sink.new) (K.faults sink.new)) result }
+    ensures whole { IfOk result (λ whole. is_whole host.old.code (numbered first (lines_of script.now)) ≡ whole) }
 {
-    match why {
-        SourceErr::Refused(refusal) => Ok(Some(refusal)),
-        SourceErr::OutOfMemory => Err(Stop::OutOfMemory),
+    let mut number = first;
+    let mut rest = script;
+    while !rest.is_empty() {
+        let (line, more) = cut_line(rest);
+        match do_line(alloc, host, sink, waiting, number, line) {
+            Ok(true) => {}
+            Ok(false) => return Ok(false),
+            Err(stop) => return Err(stop),
+        }
+        number = number.saturating_add(1);
+        rest = more;
     }
-}
-
-// The deeds of a line were carried out, so it is not refused.
-fn carried(done: Result<(), Stop>) -> Result<Option<Refusal>, Stop>
-    ensures { result ≡ line_result done }
-{
-    match done {
-        Ok(()) => Ok(None),
-        Err(stop) => Err(stop),
-    }
+    do_listings(alloc, host, sink, waiting)
 }
 
 // Lists the tables, and then the book.
@@ -163,41 +227,35 @@ fn do_listings<K: Sink, T: Table>(
     host: &mut Host<T>,
     sink: &mut K,
     waiting: &mut Str,
-) -> Result<(), Stop>
-    ensures done { Carried (Carrying listings) host.old.code (core_of host.old) (core_of host.new) (T.state host.old.table) (T.state host.new.table) waiting.old waiting.new (K.held sink.old) (K.held sink.new) result }
-    ensures kept { Kept host.old.code host.new.code (T.state host.old.table) (T.state host.new.table) (K.faults sink.old) (K.faults sink.new) result }
+) -> Result<bool, Stop>
+    ensures does { Does (ListTables ∷ ListBook ∷ []) (sight host.old waiting.old (K.held sink.old) (K.faults sink.old)) (sight host.new waiting.new (K.held sink.new) (K.faults sink.new)) result }
+    ensures whole { IfOk result (λ whole. whole ≡ true) }
 {
-    match do_deed(alloc, host, sink, waiting, Deed::Tables) {
-        Ok(()) => do_deed(alloc, host, sink, waiting, Deed::Book),
+    match list_tables(host, waiting) {
+        Ok(()) => match flush_if_long(sink, waiting) {
+            Ok(()) => done(true, list_book(alloc, host, waiting)),
+            Err(stop) => Err(stop),
+        },
         Err(stop) => Err(stop),
     }
 }
 
-/// Carries out the lines of a script, the first of which has this number in the source, up to a refused line or to the end,
-/// where the last listings follow. The result has the refusal, if there is one.
-pub fn do_lines<K: Sink, T: Table>(
+/// Carries out a script, the first line of which has this number in the source, and writes all text. `false`: a line is
+/// refused; its refusal is written, and the lines after it are not read.
+pub fn run_script<K: Sink, T: Table>(
     alloc: Global,
     host: &mut Host<T>,
     sink: &mut K,
     waiting: &mut Str,
     first: u32,
     script: &[u8],
-) -> Result<Option<Refusal>, Stop>
-    ensures refused { IfOk result (λ refused. refused_in host.old.code (numbered first (lines_of script.now)) ≡ refused) }
-    ensures done { Carried (λ d room s t r. LinesOn d room (numbered first (lines_of script.now)) s t r) host.old.code (core_of host.old) (core_of host.new) (T.state host.old.table) (T.state host.new.table) waiting.old waiting.new (K.held sink.old) (K.held sink.new) result }
-    ensures kept { Kept host.old.code host.new.code (T.state host.old.table) (T.state host.new.table) (K.faults sink.old) (K.faults sink.new) result }
+) -> Result<bool, Stop>
+    ensures does { Does (actions_in host.old.code (numbered first (lines_of script.now))) (sight host.old waiting.old (K.held sink.old) (K.faults sink.old)) (sight host.new waiting.new (K.held sink.new) (K.faults sink.new)) result }
+    ensures whole { IfOk result (λ whole. is_whole host.old.code (numbered first (lines_of script.now)) ≡ whole) }
+    ensures empty { OnOk result (waiting.new ≡ []) }
 {
-    let mut number = first;
-    let mut rest = script;
-    while !rest.is_empty() {
-        let (line, more) = cut_line(rest);
-        match do_line(alloc, host, sink, waiting, number, line) {
-            Ok(None) => {}
-            Ok(Some(refusal)) => return Ok(Some(refusal)),
-            Err(stop) => return Err(stop),
-        }
-        number = number.saturating_add(1);
-        rest = more;
+    match do_lines(alloc, host, sink, waiting, first, script) {
+        Ok(whole) => done(whole, flush(sink, waiting)),
+        Err(stop) => Err(stop),
     }
-    carried(do_listings(alloc, host, sink, waiting))
 }

@@ -81,7 +81,7 @@ said code word (Some words) = called code word words
 abbrev pub line_at : Deployment → List ℕ → Result Line ScriptErr
 line_at code line = if is_blank line then Ok Blank else said code (before 32 line) (after 32 line)
 
--- this is answered, but for want of memory
+-- this is answered, unless out of memory
 abbrev pub Refuses : {A : Type 0} → Result A ScriptErr → ScriptErr → Type 0
 Refuses r OutOfMemory = Unit {0}
 Refuses r BadLine = r ≡ Err BadLine

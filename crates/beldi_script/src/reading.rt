@@ -106,7 +106,7 @@ fn read_called(
 /// of the deployment. Of the refusals the first that holds is told: `BadLine` where the line has none of the forms,
 /// `UnknownFunction` where no function has the name that stands in its place, and `BadValue` where the rest of a line of
 /// `request` is no value; there spaces, tabs and carriage returns around the value are its own. Beside these it refuses
-/// for want of memory alone.
+/// out of memory alone.
 pub fn read_line(alloc: Global, code: &Deployment, line: &[u8]) -> Result<Line, ScriptErr>
     ensures { Reads (line_at code.now line.now) result }
 {

@@ -1,26 +1,33 @@
+use Rattle.std.proofs.Common.{[], ◌∷◌, true, Ok, refl, sym, subst}
 use Rattle.beldi_core.specs.Host.{core_of}
-use Rattle.beldi_program.specs.declared.deed.Deed.TheVariants as deeds
-use Rattle.beldi_program.proofs.Sights.{Sight, one_more, one_stopped}
+use Rattle.beldi_program.specs.Script.{ListTables, ListBook}
+use Rattle.beldi_program.specs.Session.{Does, sight}
+use Rattle.beldi_program.proofs.Calls.{does_then, does_before, does_done, flushed}
 use Rattle.beldi_program.proofs.session.do_listings.Goals as goal
 
-pub returns-in-Ok-clause-done : goal.returns-in-Ok-clause-done
-returns-in-Ok-clause-done g c =
-    let t = g.T.Table in
+pub returns-in-Ok-flush_if_long-clause-does : goal.returns-in-Ok-flush_if_long-clause-does
+returns-in-Ok-flush_if_long-clause-does g c =
     let k = g.K.Sink in
-    let old = c.args.host.now in
-    let now = c.do_deed.new.host in
-    let new = c.do_deed-in-Ok.new.host in
-    let a : Sight = record { core = core_of old; table = t.state old.table; waiting = c.args.waiting.now; held = k.held c.args.sink.now } in
-    let b : Sight = record { core = core_of now; table = t.state now.table; waiting = c.do_deed.new.waiting; held = k.held c.do_deed.new.sink } in
-    let e : Sight = record { core = core_of new; table = t.state new.table; waiting = c.do_deed-in-Ok.new.waiting; held = k.held c.do_deed-in-Ok.new.sink } in
-    one_more old.code now.code (t.state old.table).room (t.state now.table).room deeds.Tables deeds.Book a b e c.do_deed.ensures.kept.code c.do_deed.ensures.kept.room c.in-Ok.ensures.done c.do_deed-in-Ok.result c.do_deed-in-Ok.ensures.done
+    let new = c.list_tables.new.host in
+    let f = c.flush_if_long.ensures in
+    let a = sight c.args.host.now c.args.waiting.now (k.held c.args.sink.now) (k.faults c.args.sink.now) in
+    let e = sight c.list_book.new.host c.list_book.new.out (k.held c.flush_if_long.new.sink) (k.faults c.flush_if_long.new.sink) in
+    subst (λ r. Does (ListTables ∷ ListBook ∷ []) a e r) (sym c.done.ensures)
+    (does_done true c.list_book.result (does_then {fs = ListTables ∷ []} refl
+    (does_then {fs = ListTables ∷ []} {gs = ListTables ∷ []} refl (c.in-Ok.ensures (k.held c.args.sink.now) (k.faults c.args.sink.now))
+    (flushed new.code (core_of new) (g.T.Table.state new.table) c.list_tables.new.out c.flush_if_long.new.waiting (k.held c.args.sink.now) (k.held c.flush_if_long.new.sink) (k.faults c.args.sink.now) (k.faults c.flush_if_long.new.sink) (Ok tt) c.in-Ok-flush_if_long.ensures.text f.later c.in-Ok-flush_if_long.ensures.fault))
+    (c.list_book.ensures (k.held c.flush_if_long.new.sink) (k.faults c.flush_if_long.new.sink))))
 
-pub returns-in-Err-clause-done : goal.returns-in-Err-clause-done
-returns-in-Err-clause-done g c =
-    let t = g.T.Table in
+pub returns-in-Err-flush_if_long-clause-does : goal.returns-in-Err-flush_if_long-clause-does
+returns-in-Err-flush_if_long-clause-does g c =
     let k = g.K.Sink in
-    let old = c.args.host.now in
-    let new = c.do_deed.new.host in
-    let a : Sight = record { core = core_of old; table = t.state old.table; waiting = c.args.waiting.now; held = k.held c.args.sink.now } in
-    let b : Sight = record { core = core_of new; table = t.state new.table; waiting = c.do_deed.new.waiting; held = k.held c.do_deed.new.sink } in
-    one_stopped old.code (t.state old.table).room deeds.Tables deeds.Book a b c.in-Err.stop c.in-Err.ensures.done
+    let new = c.list_tables.new.host in
+    let f = c.in-Err-flush_if_long.ensures in
+    does_before {fs = ListTables ∷ []} (ListBook ∷ []) refl
+    (does_then {fs = ListTables ∷ []} {gs = ListTables ∷ []} refl (c.in-Ok.ensures (k.held c.args.sink.now) (k.faults c.args.sink.now))
+    (flushed new.code (core_of new) (g.T.Table.state new.table) c.list_tables.new.out c.flush_if_long.new.waiting (k.held c.args.sink.now) (k.held c.flush_if_long.new.sink) (k.faults c.args.sink.now) (k.faults c.flush_if_long.new.sink) _ f.text f.later f.fault))
+
+pub returns-in-Err-clause-does : goal.returns-in-Err-clause-does
+returns-in-Err-clause-does g c =
+    let k = g.K.Sink in
+    does_before {fs = ListTables ∷ []} (ListBook ∷ []) refl (c.in-Err.ensures (k.held c.args.sink.now) (k.faults c.args.sink.now))

@@ -1,0 +1,313 @@
+-- How the program ends.
+use Rattle.std.proofs.Common.{◌≡◌, ◌⊎◌, inl, inr, ◌≤◌, ◌+◌, ℕ, zero, suc, length, Bool, true, false, List, [], Option, None, Some, Result, Ok, Err, refl, ap, sym, ◌∙◌, subst, arith}
+use Rattle.std.specs.Prelude.{IfOk, OnOk, IsErrOf}
+use Rattle.std.specs.Global.{Vec}
+use Rattle.std.specs.FinMap as map
+use Rattle.std.proofs.lemmas.Bool.{false≢true}
+use Rattle.beldi_tree.specs.declared.deployment.Deployment.{Deployment}
+use Rattle.beldi_row.specs.Table.{Rows, TableState}
+use Rattle.beldi_step.specs.Host.{Core, first_core}
+use Rattle.beldi_core.specs.Survey.{Opened, Refused, newest_of}
+use Rattle.beldi_core.specs.declared.survey.OpenErr.{OpenErr}
+use Rattle.beldi_laws.specs.Right.{Right}
+use Rattle.beldi_core.proofs.Right.{begins_right}
+use Rattle.beldi_syntax.specs.declared.reading.Parsed.{Parsed}
+use Rattle.beldi_outside.specs.Outside.{IsPrefixOf, ReadAllOn, Told, Rose, TookFront, WroteOn, max_source}
+use Rattle.beldi_outside.specs.declared.traits.Failed.{Failed}
+use Rattle.beldi_outside.proofs.Told.{told_same, told_then, told_map}
+use Rattle.beldi_program.specs.declared.refusal.Refusal.{Refusal}
+use Rattle.beldi_program.specs.declared.session.Stop.{Stop}
+use Rattle.beldi_program.specs.declared.session.Stop.TheVariants.{OutOfMemory, SinkFault}
+use Rattle.beldi_program.specs.declared.program.Ended.{Ended}
+use Rattle.beldi_program.specs.declared.program.Ended.TheVariants as ended
+use Rattle.beldi_program.specs.Script.{actions_in, is_whole}
+use Rattle.beldi_program.specs.Session.{Sight, Does, WentBy, Writes, state_at}
+use Rattle.beldi_program.specs.Source.{Numbered, source_at}
+use Rattle.beldi_program.specs.Headline.{Whole, Cut, NothingDone, SessionEnds, SourceEnds, ReadEnds, RunEnds, Ends, UsageEnds, LongOn, AsRead, SourceAsRead, Untouched, end_of, is_whole_source, opened_at, status_of, HasEnded, ByStatus}
+use Rattle.beldi_program.proofs.Responses.{told_tells}
+use Rattle.beldi_program.proofs.Went.{fine, unchanged}
+use Rattle.beldi_program.proofs.PlainRuns.{at_moments, plain_run}
+
+-- ---- a text that was written, or a front of it
+pub front : (a b : Option (List ℕ)) (text : List ℕ) (e : Failed) → Told a b (WroteOn text (Err e)) → (w : List ℕ) × IsPrefixOf w text × Writes a b w
+front None b text e h = ([], (text, refl), tt)
+front (Some x) None text e h = absurd h
+front (Some x) (Some y) text e h = (h.0, h.1, h.3)
+
+-- ---- a session
+abbrev pub SessionBy : {X : Type 0} → Result X Stop → Deployment → List Numbered → Rows → Rows → ℕ → ℕ → List ℕ → Type 0
+SessionBy (Ok x) d lines m n f g w = Whole d lines m n f g w
+SessionBy (Err why) d lines m n f g w = Cut why d lines m n f g w
+
+module _ (d : Deployment) (lines : List Numbered) (m n : Rows) (f opened g : ℕ) (sooner : f ≤ opened) (core : Core) (w q : List ℕ) where
+  begins : m ≡ map.empty → Right d (first_core (newest_of m) 0) m
+  begins none = begins_right d 0 m none
+
+  session : {X : Type 0} (r : Result X Stop) → OnOk r (q ≡ []) → WentBy d d.room (actions_in d lines) (opened_at m opened) (record { core = core; rows = n; faults = g }) [] w q r → SessionBy r d lines m n f g w
+  session (Ok x) none h =
+      let k = subst (λ z. WentBy d d.room (actions_in d lines) (opened_at m opened) (record { core = core; rows = n; faults = g }) [] w z (fine x)) none h in
+      record {
+        opened = opened;
+        sooner = sooner;
+        core = core;
+        went = at_moments d (m ≡ map.empty) (actions_in d lines) [] (opened_at m opened) (record { core = core; rows = n; faults = g }) [] w [] begins k;
+        plain = λ none. plain_run d k.responses SinkFault [] (opened_at m opened) (record { core = core; rows = n; faults = g }) (record { core = core; rows = n; faults = g }) refl (begins none) k.steps (inl (unchanged _));
+      }
+  session (Err why) none h = record {
+    opened = opened;
+    sooner = sooner;
+    more = h.0;
+    last = h.1;
+    rest = h.2;
+    went = at_moments d (m ≡ map.empty) (actions_in d lines) h.0 (opened_at m opened) h.1 [] w h.2 begins h.3;
+    core = core;
+    stopped = h.4;
+    plain = λ none. plain_run d h.3.responses why h.0 (opened_at m opened) h.1 (record { core = core; rows = n; faults = g }) refl (begins none) h.3.steps h.4;
+  }
+
+-- a host that was opened over a table, and the script that it carried out
+pub hosted : {X : Type 0} (d : Deployment) (t : TableState) (a b : Sight) (lines : List Numbered) (r : Result X Stop) → Opened d a.code 0 t a.table a.core → a.waiting ≡ [] → OnOk r (b.waiting ≡ []) → Does (actions_in a.code lines) a b r
+    → (w : List ℕ) × Writes a.held b.held w × Told t.rows b.table.rows (λ m n. SessionBy r d lines m n t.faults b.table.faults w)
+hosted d t a b lines r o none end x = (
+  x.written,
+  x.sink,
+  told_then {P = λ m n. (n ≡ m) × (a.core.newest ≡ newest_of m)} {Q = λ m n. WentBy a.code a.table.room (actions_in a.code lines) (state_at a m) (state_at b n) a.waiting x.written b.waiting r} {R = λ m n. SessionBy r d lines m n t.faults b.table.faults x.written} t.rows a.table.rows b.table.rows
+      (λ m n j v w. session d lines m j t.faults a.table.faults b.table.faults o.later b.core x.written b.waiting r end (begun m n j v w)) (told_tells t.rows a.table.rows (λ m n. (n ≡ m) × (a.core.newest ≡ newest_of m)) o.rows) x.went,
+)
+  where
+    begun : (m n j : Rows) → (n ≡ m) × (a.core.newest ≡ newest_of m) → WentBy a.code a.table.room (actions_in a.code lines) (state_at a n) (state_at b j) a.waiting x.written b.waiting r → WentBy d d.room (actions_in d lines) (opened_at m a.table.faults) (state_at b j) [] x.written b.waiting r
+    begun m n j v w =
+        subst (λ (p : List ℕ). WentBy d d.room (actions_in d lines) (opened_at m a.table.faults) (state_at b j) p x.written b.waiting r) none
+        (subst (λ (c : Core). WentBy d d.room (actions_in d lines) (record { core = c; rows = m; faults = a.table.faults }) (state_at b j) a.waiting x.written b.waiting r) (o.core ∙ ap (λ z. first_core z 0) v.1)
+        (subst (λ (k : Rows). WentBy d d.room (actions_in d lines) (record { core = a.core; rows = k; faults = a.table.faults }) (state_at b j) a.waiting x.written b.waiting r) v.0
+        (subst (λ (z : ℕ). WentBy d z (actions_in d lines) (state_at a n) (state_at b j) a.waiting x.written b.waiting r) o.room_set
+        (subst (λ (z : Deployment). WentBy z a.table.room (actions_in z lines) (state_at a n) (state_at b j) a.waiting x.written b.waiting r) o.code_kept w))))
+
+-- ---- the parts of the program
+-- the source was read whole
+pub was_read : (o a : Option (List ℕ)) (v : Vec ℕ) (bytes : List ℕ) → bytes ≡ v.items → Told o a (ReadAllOn max_source (Ok v)) → Told o a (λ b c. (b ≡ bytes) × (c ≡ []))
+was_read o a v bytes same h = told_map {P = ReadAllOn max_source (Ok v)} {Q = λ b c. (b ≡ bytes) × (c ≡ [])} o a (λ b c x. (sym (same ∙ x.0), x.1)) h
+
+module _ {K T : Type 0} (held : K → Option (List ℕ)) (faults : K → ℕ) (state : T → TableState) where
+  pub session_ends : (d : Deployment) (lines : List Numbered) (k k' : K) (t t' : T) (r : Result Bool Stop) → IfOk r (λ whole. is_whole d lines ≡ whole) → (IsErrOf r SinkFault → Rose (faults k) (faults k'))
+      → (w : List ℕ) × Writes (held k) (held k') w × Told (state t).rows (state t').rows (λ m n. SessionBy r d lines m n (state t).faults (state t').faults w) → SessionEnds held faults state d lines k k' t t' (end_of r)
+  session_ends d lines k k' t t' (Ok true) whole fault x = (whole, x)
+  session_ends d lines k k' t t' (Ok false) whole fault x = (whole, x)
+  session_ends d lines k k' t t' (Err OutOfMemory) whole fault x = inr x
+  session_ends d lines k k' t t' (Err SinkFault) whole fault x = (fault refl, x)
+
+  pub not_opened : (k : K) (t t' : T) (why : OpenErr) → Refused (state t) (state t') why → NothingDone held faults state k k t t'
+  not_opened k t t' why h = (refl, told_tells (state t).rows (state t').rows (λ m n. n ≡ m) h.rows, h.later)
+
+  -- out of memory before anything was done
+  pub unread_source : (bytes : List ℕ) (o : Result Parsed Refusal) (k : K) (t : T) → SourceEnds held faults state bytes o k k t t ended.OutOfMemory
+  unread_source bytes (Ok p) k t = inl (refl, told_same (λ m n. n ≡ m) (state t).rows (λ m. refl), omega arith)
+  unread_source bytes (Err x) k t = (refl, refl)
+
+  -- how a source that was read does not end
+  abbrev pub is_read_end : Ended → Bool
+  is_read_end ended.Usage = false
+  is_read_end ended.SourceFault = false
+  is_read_end ended.TooLong = false
+  is_read_end e = true
+
+  ends_read : (bytes : List ℕ) (o : Result Parsed Refusal) (k k' : K) (t t' : T) (e : Ended) → SourceEnds held faults state bytes o k k' t t' e → is_read_end e ≡ true
+  ends_read bytes o k k' t t' ended.Done x = refl
+  ends_read bytes o k k' t t' ended.OutOfMemory x = refl
+  ends_read bytes o k k' t t' ended.SinkFault x = refl
+  ends_read bytes o k k' t t' ended.Refused x = refl
+  ends_read bytes o k k' t t' ended.TableFault x = refl
+  ends_read bytes (Ok p) k k' t t' e x = absurd x
+  ends_read bytes (Err y) k k' t t' e x = absurd x.1
+
+  as_read : (bytes : List ℕ) (o : Result Parsed Refusal) (k k' : K) (t t' : T) (e : Ended) → SourceEnds held faults state bytes o k k' t t' e → AsRead (is_whole_source bytes o) e
+  as_read bytes (Ok p) k k' t t' ended.Done x = x.0
+  as_read bytes (Ok p) k k' t t' ended.Refused x = x.0
+  as_read bytes (Err y) k k' t t' ended.Done x = absurd x.1
+  as_read bytes (Err y) k k' t t' ended.Refused x = refl
+  as_read bytes (Ok p) k k' t t' ended.Usage x = x
+  as_read bytes (Err y) k k' t t' ended.Usage x = x.1
+  as_read bytes o k k' t t' e x = tt
+
+  pub sink_rose : (bytes : List ℕ) (o : Result Parsed Refusal) (k k' : K) (t t' : T) → SourceEnds held faults state bytes o k k' t t' ended.SinkFault → Rose (faults k) (faults k')
+  sink_rose bytes (Ok p) k k' t t' x = x.0
+  sink_rose bytes (Err y) k k' t t' x = x.1.0
+
+  pub table_rose : (bytes : List ℕ) (o : Result Parsed Refusal) (k k' : K) (t t' : T) → SourceEnds held faults state bytes o k k' t t' ended.TableFault
+      → Rose (state t).faults (state t').faults × (Told (state t).rows (state t').rows (λ m n. n ≡ m) × (k' ≡ k))
+  table_rose bytes (Ok p) k k' t t' x = (x.0, (x.1.1, x.1.0))
+  table_rose bytes (Err y) k k' t t' x = absurd x.1
+
+-- ---- what is read off the ending
+module _ {S K T : Type 0} (left : S → Option (List ℕ)) (source_faults : S → ℕ) (held : K → Option (List ℕ)) (faults : K → ℕ) (state : T → TableState) (s s' : S) (k k' : K) (t t' : T) where
+  pub run_ends : (e : Ended) → ReadEnds left source_faults held faults state s s' k k' t t' e → RunEnds left source_faults held faults state s s' k k' t t' e
+  run_ends ended.OutOfMemory x = inr x
+  run_ends ended.Usage x = let clash = ends_read held faults state x.0 (source_at x.0) k k' t t' ended.Usage x.3 in cc
+  run_ends ended.SourceFault x = let clash = ends_read held faults state x.0 (source_at x.0) k k' t t' ended.SourceFault x.3 in cc
+  run_ends ended.TooLong x = let clash = ends_read held faults state x.0 (source_at x.0) k k' t t' ended.TooLong x.3 in cc
+  run_ends e x = x
+
+  pub not_run : (words : Bool) → Ends left source_faults held faults state words s s' k k' t t' ended.Usage → words ≡ false
+  not_run true x = absurd x
+  not_run false x = refl
+
+  other_words : (e : Ended) → UsageEnds held faults k k' e → (status_of e ≡ 2) ⊎ (status_of e ≡ 4)
+  other_words ended.Usage x = inl refl
+  other_words ended.SinkFault x = inr refl
+  other_words e x = absurd x
+
+  pub unread : (words : Bool) (e : Ended) → words ≡ false → Ends left source_faults held faults state words s s' k k' t t' e → (s' ≡ s) × (t' ≡ t) × ((status_of e ≡ 2) ⊎ (status_of e ≡ 4))
+  unread true e h x = cc
+  unread false e h x = (x.0, x.1, other_words e x.2)
+
+  pub source_fault : (words : Bool) → Ends left source_faults held faults state words s s' k k' t t' ended.SourceFault → Rose (source_faults s) (source_faults s')
+  source_fault true x = x.0
+  source_fault false x = absurd x.2
+
+  pub sink_fault : (words : Bool) → Ends left source_faults held faults state words s s' k k' t t' ended.SinkFault → Rose (faults k) (faults k')
+  sink_fault true x = sink_rose held faults state x.0 (source_at x.0) k k' t t' x.3
+  sink_fault false x = x.2.0
+
+  pub open_fault : (words : Bool) → Ends left source_faults held faults state words s s' k k' t t' ended.TableFault → Rose (state t).faults (state t').faults
+  open_fault true x = (table_rose held faults state x.0 (source_at x.0) k k' t t' x.3).0
+  open_fault false x = absurd x.2
+
+  pub untouched : (words : Bool) (e : Ended) → Ends left source_faults held faults state words s s' k k' t t' e → Untouched e (t' ≡ t) (Told (state t).rows (state t').rows (λ m n. n ≡ m)) (k' ≡ k)
+  untouched true ended.SourceFault x = (x.2, x.3)
+  untouched true ended.TooLong x = (x.1, x.2)
+  untouched true ended.TableFault x = (table_rose held faults state x.0 (source_at x.0) k k' t t' x.3).1
+  untouched false ended.SourceFault x = absurd x.2
+  untouched false ended.TooLong x = absurd x.2
+  untouched false ended.TableFault x = absurd x.2
+  untouched words e x = tt
+
+  abbrev Long : Ended → Type 0
+  Long e = Told (left s) (left s') (λ b c. LongOn b c e)
+
+  short : (e : Ended) → is_read_end held faults state e ≡ true → (b c bytes : List ℕ) → length bytes ≤ max_source → b ≡ bytes → LongOn b c e
+  short ended.TooLong is b c bytes l same = cc
+  short e is b c bytes l same = inl (subst (λ (z : List ℕ). length z ≤ max_source) (sym same) l)
+
+  read_short : (e : Ended) → ReadEnds left source_faults held faults state s s' k k' t t' e → Long e
+  read_short e x = told_map {P = λ b c. (b ≡ x.0) × (c ≡ [])} {Q = λ b c. LongOn b c e} (left s) (left s') (λ b c v. short e (ends_read held faults state x.0 (source_at x.0) k k' t t' e x.3) b c x.0 x.1 v.0) x.2
+
+  pub too_long : (words : Bool) (e : Ended) → words ≡ true → Ends left source_faults held faults state words s s' k k' t t' e → Long e
+  too_long false e h x = cc
+  too_long true ended.Usage h x = absurd x
+  too_long true ended.SourceFault h x = told_map {P = TookFront max_source} {Q = λ b c. LongOn b c ended.SourceFault} (left s) (left s') (λ b c v. inr (inl refl)) x.1
+  too_long true ended.TooLong h x = x.0
+  too_long true ended.OutOfMemory h x = elim x [
+    | inl y ↦ told_map {P = TookFront (max_source + 1)} {Q = λ b c. LongOn b c ended.OutOfMemory} (left s) (left s') (λ b c v. inr (inr refl)) y.0
+    | inr y ↦ read_short ended.OutOfMemory y
+  ]
+  too_long true e h x = read_short e x
+
+  read_as : (o a : Option (List ℕ)) (bytes : List ℕ) (e : Ended) → Told o a (λ b c. (b ≡ bytes) × (c ≡ [])) → AsRead (is_whole_source bytes (source_at bytes)) e → SourceAsRead o e
+  read_as None a bytes e t h = tt
+  read_as (Some b) None bytes e t h = absurd t
+  read_as (Some b) (Some c) bytes e t h = subst (λ z. AsRead (is_whole_source z (source_at z)) e) (sym t.0) h
+
+  any_read : (o : Option (List ℕ)) (e : Ended) → ((whole : Bool) → AsRead whole e) → SourceAsRead o e
+  any_read None e h = tt
+  any_read (Some b) e h = h (is_whole_source b (source_at b))
+
+  read_refused : (e : Ended) → ReadEnds left source_faults held faults state s s' k k' t t' e → SourceAsRead (left s) e
+  read_refused e x = read_as (left s) (left s') x.0 e x.2 (as_read held faults state x.0 (source_at x.0) k k' t t' e x.3)
+
+  pub refused : (words : Bool) (e : Ended) → words ≡ true → Ends left source_faults held faults state words s s' k k' t t' e → SourceAsRead (left s) e
+  refused false e h x = cc
+  refused true ended.Usage h x = absurd x
+  refused true ended.SourceFault h x = any_read (left s) ended.SourceFault (λ w. tt)
+  refused true ended.TooLong h x = any_read (left s) ended.TooLong (λ w. tt)
+  refused true ended.OutOfMemory h x = any_read (left s) ended.OutOfMemory (λ w. tt)
+  refused true e h x = read_refused e x
+
+-- ---- the status
+abbrev decode : ℕ → Ended
+decode zero = ended.Done
+decode (suc zero) = ended.OutOfMemory
+decode (suc (suc zero)) = ended.Usage
+decode (suc (suc (suc zero))) = ended.SourceFault
+decode (suc (suc (suc (suc zero)))) = ended.SinkFault
+decode (suc (suc (suc (suc (suc zero))))) = ended.Refused
+decode (suc (suc (suc (suc (suc (suc (suc zero))))))) = ended.TooLong
+decode n = ended.TableFault
+
+decoded : (e : Ended) → decode (status_of e) ≡ e
+decoded ended.Done = refl
+decoded ended.OutOfMemory = refl
+decoded ended.Usage = refl
+decoded ended.SourceFault = refl
+decoded ended.SinkFault = refl
+decoded ended.Refused = refl
+decoded ended.TooLong = refl
+decoded ended.TableFault = refl
+
+-- a status has one ending
+pub same_end : (e f : Ended) → status_of e ≡ status_of f → e ≡ f
+same_end e f h = sym (decoded e) ∙ ap decode h ∙ decoded f
+
+-- ---- a source that is not refused
+module _ (b c : List ℕ) (P Q : Type 0) (p : P → ⊥) (q : Q → ⊥) (short : length b ≤ max_source) (whole : is_whole_source b (source_at b) ≡ true) where
+  done_or_short : (e : Ended) → AsRead (is_whole_source b (source_at b)) e → LongOn b c e → (e ≡ ended.SourceFault → P) → (e ≡ ended.SinkFault → Q) → (status_of e ≡ 0) ⊎ (status_of e ≡ 1) ⊎ (status_of e ≡ 8)
+  done_or_short ended.Done r l s t = inl refl
+  done_or_short ended.OutOfMemory r l s t = inr (inl refl)
+  done_or_short ended.Usage r l s t = absurd r
+  done_or_short ended.SourceFault r l s t = absurd (p (s refl))
+  done_or_short ended.SinkFault r l s t = absurd (q (t refl))
+  done_or_short ended.Refused r l s t = absurd (false≢true (sym r ∙ whole))
+  done_or_short ended.TooLong r l s t = absurd (omega (arith, short, l.0))
+  done_or_short ended.TableFault r l s t = inr (inr refl)
+
+pub completed : (o a : Option (List ℕ)) (e : Ended) (P Q : Type 0) → SourceAsRead o e → Told o a (λ b c. LongOn b c e) → (e ≡ ended.SourceFault → P) → (e ≡ ended.SinkFault → Q) → (P → ⊥) → (Q → ⊥)
+    → Told o a (λ b c. length b ≤ max_source → is_whole_source b (source_at b) ≡ true → (status_of e ≡ 0) ⊎ (status_of e ≡ 1) ⊎ (status_of e ≡ 8))
+completed None a e P Q r l s t p q = tt
+completed (Some b) None e P Q r l s t p q = l
+completed (Some b) (Some c) e P Q r l s t p q = λ short whole. done_or_short b c P Q p q short whole e r l s t
+
+-- ---- what the clauses of `top` say is read off how the program ended, and the status
+module _ {S K T : Type 0} {left : S → Option (List ℕ)} {source_faults : S → ℕ} {held : K → Option (List ℕ)} {faults : K → ℕ} {state : T → TableState} {words : Bool} {s s' : S} {k k' : K} {t t' : T} {e : Ended}
+    (x : HasEnded left source_faults held faults state words s s' k k' t t' e) (n : ℕ) (is : n ≡ status_of e) where
+  by_ending : (f : Ended) → e ≡ f → Ends left source_faults held faults state words s s' k k' t t' f
+  by_ending f h = subst (Ends left source_faults held faults state words s s' k k' t t') h x.ends
+
+  by_status : (f : Ended) → n ≡ status_of f → Ends left source_faults held faults state words s s' k k' t t' f
+  by_status f h = by_ending f (same_end e f (sym is ∙ h))
+
+  pub usage_at : (n ≡ 2 → words ≡ false) × (words ≡ false → (n ≡ 2) ⊎ (n ≡ 4))
+  usage_at = (
+    λ h. not_run left source_faults held faults state s s' k k' t t' words (by_status ended.Usage h),
+    λ h. subst (λ (z : ℕ). (z ≡ 2) ⊎ (z ≡ 4)) (sym is) (unread left source_faults held faults state s s' k k' t t' words e h x.ends).2,
+  )
+
+  pub source_fault_at : n ≡ 3 → Rose (source_faults s) (source_faults s')
+  source_fault_at h = source_fault left source_faults held faults state s s' k k' t t' words (by_status ended.SourceFault h)
+
+  pub sink_fault_at : n ≡ 4 → Rose (faults k) (faults k')
+  sink_fault_at h = sink_fault left source_faults held faults state s s' k k' t t' words (by_status ended.SinkFault h)
+
+  pub open_fault_at : n ≡ 8 → Rose (state t).faults (state t').faults
+  open_fault_at h = open_fault left source_faults held faults state s s' k k' t t' words (by_status ended.TableFault h)
+
+  pub session_at : ByStatus n (Ends left source_faults held faults state words s s' k k' t t')
+  session_at = (e, is, x.ends)
+
+  pub too_long_at : words ≡ true → ByStatus n (λ e. Told (left s) (left s') (λ b c. LongOn b c e))
+  too_long_at h = (e, is, too_long left source_faults held faults state s s' k k' t t' words e h x.ends)
+
+  pub refused_at : words ≡ true → ByStatus n (λ e. SourceAsRead (left s) e)
+  refused_at h = (e, is, refused left source_faults held faults state s s' k k' t t' words e h x.ends)
+
+  pub untouched_at : ByStatus n (λ e. Untouched e (t' ≡ t) (Told (state t).rows (state t').rows (λ m n. n ≡ m)) (k' ≡ k))
+  untouched_at = (e, is, untouched left source_faults held faults state s s' k k' t t' words e x.ends)
+
+  pub unread_at : words ≡ false → (s' ≡ s) × (t' ≡ t)
+  unread_at h = let u = unread left source_faults held faults state s s' k k' t t' words e h x.ends in (u.0, u.1)
+
+  pub complete_at : words ≡ true → (Rose (source_faults s) (source_faults s') → ⊥) → (Rose (faults k) (faults k') → ⊥)
+      → Told (left s) (left s') (λ b c. length b ≤ max_source → is_whole_source b (source_at b) ≡ true → (n ≡ 0) ⊎ (n ≡ 1) ⊎ (n ≡ 8))
+  complete_at h p q =
+      subst (λ (z : ℕ). Told (left s) (left s') (λ b c. length b ≤ max_source → is_whole_source b (source_at b) ≡ true → (z ≡ 0) ⊎ (z ≡ 1) ⊎ (z ≡ 8))) (sym is)
+      (completed (left s) (left s') e (Rose (source_faults s) (source_faults s')) (Rose (faults k) (faults k')) (refused left source_faults held faults state s s' k k' t t' words e h x.ends) (too_long left source_faults held faults state s s' k k' t t' words e h x.ends)
+      (λ f. source_fault left source_faults held faults state s s' k k' t t' words (by_ending ended.SourceFault f))
+      (λ f. sink_fault left source_faults held faults state s s' k k' t t' words (by_ending ended.SinkFault f)) p q)

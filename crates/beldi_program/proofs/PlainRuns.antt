@@ -1,0 +1,160 @@
+-- What every step keeps, what is said at its moment, and what is so at the end.
+use Rattle.std.proofs.Common.{◌≡◌, inl, inr, ℕ, List, [], ◌∷◌, ◌++◌, None, Some, Result, Ok, Err, refl, ap, sym, ◌∙◌, subst, append_assoc}
+use Rattle.std.specs.Prelude.{option_to_list}
+use Rattle.std.proofs.lemmas.List.{append-nil}
+use Rattle.std.proofs.lemmas.Option.{same_Some}
+use Rattle.std.specs.declared.alloc.AllocError.{AllocError}
+use Rattle.beldi_value.specs.declared.value.Value.{Value}
+use Rattle.beldi_value.specs.declared.outcome.Outcome.{Outcome}
+use Rattle.beldi_tree.specs.declared.deployment.Deployment.{Deployment}
+use Rattle.beldi_row.specs.Table.{Rows}
+use Rattle.beldi_book.specs.declared.entry.Entry.{Entry}
+use Rattle.beldi_step.specs.declared.event.Event.{Event}
+use Rattle.beldi_step.specs.declared.event.Seen.{Seen}
+use Rattle.beldi_step.specs.Host.{Core, EventOn}
+use Rattle.beldi_laws.specs.Laws.{HasReply, BookGrew, starts_of}
+use Rattle.beldi_laws.specs.Laws.{bound_by as bound_by_event}
+use Rattle.beldi_laws.specs.Right.{Right}
+use Rattle.beldi_laws.proofs.Events.{keeps_right, replies, right_legal}
+use Rattle.beldi_laws.proofs.OneEvent.{book_grew}
+use Rattle.beldi_laws.proofs.Starts.{outcomes_stay, starts_bound}
+use Rattle.beldi_laws.proofs.Standing.{right_stands}
+use Rattle.beldi_laws.proofs.Listing.{listing_plain}
+use Rattle.beldi_core.specs.Right.{SaidOf}
+use Rattle.beldi_core.specs.declared.survey.ReplySeen.{ReplySeen}
+use Rattle.beldi_core.specs.declared.survey.ReplySeen.TheVariants.{Unknown, Gone, Waiting, Reply}
+use Rattle.beldi_core.proofs.Right.{said_of}
+use Rattle.beldi_program.specs.declared.session.Stop.{Stop}
+use Rattle.beldi_program.specs.declared.session.Stop.TheVariants.{OutOfMemory}
+use Rattle.beldi_program.specs.Script.{Action, Carry}
+use Rattle.beldi_program.specs.Response.{Report, ReplyIs, RowsAre, TablesAre, BookIs, LineRefused, Response, Answered, Reported}
+use Rattle.beldi_program.specs.Session.{State, Unchanged, IsReport, IsStep, Steps, Went, BrokeOff, Stopped}
+use Rattle.beldi_program.proofs.Went.{unchanged}
+use Rattle.beldi_program.specs.PlainRun.{IsReportSo, IsSo, Moment, IsMoment, TellOutcomes, GoesOn, IsPlainRun, bound_by, bound_in, outcome_in}
+
+abbrev Bound : Type 0
+Bound = List (ℕ × (ℕ × Value))
+
+-- ---- what lies between two states of a host that is right, and what was bound
+record Kept (d : Deployment) (s t : State) (bound : Bound) : Type 0 where
+  pub right : Right d t.core t.rows
+  pub starts : starts_of t.core.book ≡ starts_of s.core.book ++ bound
+  pub keeps : (n : ℕ) (o : Outcome) → HasReply d s.core.book n o → HasReply d t.core.book n o
+  pub goes_on : GoesOn s.core.book t.core.book
+
+still : (P : Core → Rows → Type 0) (s t : State) → Unchanged s t → P s.core s.rows → P t.core t.rows
+still P s t u h = subst (λ c. P c t.rows) (sym u.core) (subst (λ m. P s.core m) (sym u.rows) h)
+
+module _ (d : Deployment) (room : ℕ) where
+  kept_same : (s t : State) → Right d s.core s.rows → Unchanged s t → Kept d s t []
+  kept_same s t h u = record {
+    right = still (Right d) s t u h;
+    starts = ap (λ (c : Core). starts_of c.book) u.core ∙ sym (append-nil (starts_of s.core.book));
+    keeps = λ n o r. still (λ c m. HasReply d c.book n o) s t u r;
+    goes_on = ([], append-nil s.core.book ∙ sym (ap (λ (c : Core). c.book) u.core));
+  }
+
+  kept_then : (s t u : State) (x y : Bound) → Kept d s t x → Kept d t u y → Kept d s u (x ++ y)
+  kept_then s t u x y p q = record {
+    right = q.right;
+    starts = q.starts ∙ ap (λ z. z ++ y) p.starts ∙ append_assoc (starts_of s.core.book) x y;
+    keeps = λ n o r. q.keeps n o (p.keeps n o r);
+    goes_on = (p.goes_on.0 ++ q.goes_on.0, sym (append_assoc s.core.book p.goes_on.0 q.goes_on.0) ∙ ap (λ z. z ++ q.goes_on.0) p.goes_on.1 ∙ q.goes_on.1);
+  }
+
+  grew : (e : Event) (s t : State) (r : Result Seen AllocError) → EventOn d room s.faults t.faults e s.core s.rows t.core t.rows r → BookGrew e s.core t.core r
+  grew e s t r o = book_grew d room s.faults t.faults e s.core t.core s.rows t.rows r o
+
+  kept_event : (e : Event) (s t : State) (r : Result Seen AllocError) → Right d s.core s.rows → EventOn d room s.faults t.faults e s.core s.rows t.core t.rows r → Kept d s t (bound_by_event e r)
+  kept_event e s t r h o = record {
+    right = keeps_right d room s.faults t.faults e s.core t.core s.rows t.rows r h o;
+    starts = starts_bound d room s.faults t.faults e s.core t.core s.rows t.rows r o;
+    keeps = λ n w k. outcomes_stay d room s.faults t.faults e s.core t.core s.rows t.rows r n w h o k;
+    goes_on = (option_to_list (grew e s t r o).entry, sym (grew e s t r o).book);
+  }
+
+  kept_step : (s t : State) (y : Response) → Right d s.core s.rows → IsStep d room s t y → Kept d s t (bound_by y)
+  kept_step s t (Answered e x) h o = kept_event e s t (Ok x) h o.0
+  kept_step s t (Reported r) h o = kept_same s t h o.0
+
+  kept_steps : (ys : List Response) (s t : State) → Right d s.core s.rows → Steps (IsStep d room) ys s t → Kept d s t (bound_in ys)
+  kept_steps [] s t h x = subst (λ z. Kept d s z []) (sym x) (kept_same s s h (unchanged s))
+  kept_steps (y ∷ ys) s t h x = let k = kept_step s x.0 y h x.1 in kept_then s x.0 t (bound_by y) (bound_in ys) k (kept_steps ys x.0 t k.right x.2)
+
+  broke : (why : Stop) (more : List Action) (s t : State) → Right d s.core s.rows → BrokeOff why d room more s t → Kept d s t []
+  broke OutOfMemory (Carry e ∷ more) s t h o = kept_event e s t (Err (record {})) h o.0
+  broke why more s t h o = absurd o
+
+  kept_stop : (why : Stop) (more : List Action) (s t : State) → Right d s.core s.rows → Stopped why d room more s t → Kept d s t []
+  kept_stop why more s t h o = elim o [ inl u ↦ kept_same s t h u | inr b ↦ broke why more s t h b ]
+
+  -- ---- the moment after a step
+  report_so : (s t : State) (r : Report) → Right d s.core s.rows → IsReport d s t r → IsReportSo d s.core.book r
+  report_so s t (ReplyIs n None) h o = tt
+  report_so s t (ReplyIs n (Some x)) h o = subst (λ z. SaidOf d s.core.book n z) (sym o) (said_of d s.core s.rows h n)
+  report_so s t (RowsAre n) h o = tt
+  report_so s t (TablesAre None) h o = tt
+  report_so s t (TablesAre (Some lines)) h o = λ p is. o ∙ listing_plain d s.core s.rows p h is
+  report_so s t (BookIs lines) h o = o
+  report_so s t (LineRefused x) h o = tt
+
+  moment : (s t : State) (y : Response) → Right d s.core s.rows → IsStep d room s t y → Moment d y s.core.book t.core.book
+  moment s t (Answered e x) h o =
+      let g = grew e s t (Ok x) o.0 in
+      record {
+        entry = g.entry;
+        grew = g.book;
+        told = g.told;
+        legal = right_legal d t.core t.rows (kept_step s t (Answered e x) h o).right;
+        so = λ n w is. replies d room s.faults t.faults e s.core t.core s.rows t.rows x h o.0 n w is;
+      }
+  moment s t (Reported r) h o = record {
+    entry = None;
+    grew = ap (λ (c : Core). c.book) o.0.core ∙ sym (append-nil s.core.book);
+    told = λ v. refl;
+    legal = right_legal d t.core t.rows (kept_step s t (Reported r) h o).right;
+    so = subst (λ (c : Core). IsReportSo d c.book r) (sym o.0.core) (report_so s t r h o.1);
+  }
+
+  -- ---- outcomes
+  reply_tells : (book : List Entry) (u n : ℕ) (x : ReplySeen) (o : Outcome) → SaidOf d book u x → outcome_in (Reported (ReplyIs u (Some x))) ≡ Some (n, o) → HasReply d book n o
+  reply_tells book u n (Reply v) o s is = subst (λ (z : ℕ × Outcome). HasReply d book z.0 z.1) (same_Some (u, v) (n, o) is) s
+  reply_tells book u n Unknown o s is = cc
+  reply_tells book u n Gone o s is = cc
+  reply_tells book u n Waiting o s is = cc
+
+  tells : (book : List Entry) (y : Response) (n : ℕ) (o : Outcome) → IsSo d book y → outcome_in y ≡ Some (n, o) → HasReply d book n o
+  tells book (Answered e x) n o s is = s n o is
+  tells book (Reported (ReplyIs u (Some x))) n o s is = reply_tells book u n x o s is
+  tells book (Reported (ReplyIs u None)) n o s is = cc
+  tells book (Reported (RowsAre k)) n o s is = cc
+  tells book (Reported (TablesAre lines)) n o s is = cc
+  tells book (Reported (BookIs lines)) n o s is = cc
+  tells book (Reported (LineRefused x)) n o s is = cc
+
+  told_all : (ys : List Response) (s t : State) (book : List Entry) → Right d s.core s.rows → Steps (IsStep d room) ys s t → ((n : ℕ) (o : Outcome) → HasReply d t.core.book n o → HasReply d book n o) → TellOutcomes d book ys
+  told_all [] s t book h x k = tt
+  told_all (y ∷ ys) s t book h x k =
+      let after = (kept_step s x.0 y h x.1).right in
+      (λ n o is. k n o ((kept_steps ys x.0 t after x.2).keeps n o (tells x.0.core.book y n o (moment s x.0 y h x.1).so is)), told_all ys x.0 t book after x.2 k)
+
+-- ---- a session
+module _ (d : Deployment) (P : Type 0) where
+  pub moments : (ys : List Response) (s t : State) → (P → Right d s.core s.rows) → Steps (IsStep d d.room) ys s t → Steps (IsMoment d P) ys s t
+  moments [] s t h x = x
+  moments (y ∷ ys) s t h x = (x.0, (x.1, λ p. moment d d.room s x.0 y (h p) x.1), moments ys x.0 t (λ p. (kept_step d d.room s x.0 y (h p) x.1).right) x.2)
+
+  abbrev pub at_moments : (fs more : List Action) (s t : State) (p w rest : List ℕ) → (P → Right d s.core s.rows) → Went (IsStep d d.room) d fs more s t p w rest → Went (IsMoment d P) d fs more s t p w rest
+  at_moments fs more s t p w rest h x = record { responses = x.responses; actions_are = x.actions_are; steps = moments x.responses s t h x.steps; text = x.text }
+
+pub plain_run : (d : Deployment) (ys : List Response) (why : Stop) (more : List Action) (s t u : State) → s.core.book ≡ [] → Right d s.core s.rows → Steps (IsStep d d.room) ys s t → Stopped why d d.room more t u → IsPlainRun d u.rows ys t.core.book u.core.book
+plain_run d ys why more s t u empty h x o =
+    let k = kept_steps d d.room ys s t h x in
+    let l = kept_stop d d.room why more t u k.right o in
+    record {
+      goes_on = l.goes_on;
+      legal = right_legal d u.core u.rows l.right;
+      bound = l.starts ∙ append-nil (starts_of t.core.book) ∙ k.starts ∙ ap (λ z. starts_of z ++ bound_in ys) empty;
+      replies = told_all d d.room ys s t u.core.book h x l.keeps;
+      tables = λ p is. (right_stands d u.core u.rows p l.right is, listing_plain d u.core u.rows p l.right is);
+    }
