@@ -1,14 +1,20 @@
-// Calls that the program does not make, each where memory is ample: that it is wanting, no contract rules out.
+// Calls that the program does not make, each where memory is ample: that it is not, no contract rules out.
+ghost use Rattle.std.specs.Prelude.{◌≡◌, []};
+
 use beldi_book::{Book, Entry};
+use beldi_call::{AsyncSays, AsyncWalk, CallSays, CallWalk};
 use beldi_core::Host;
 use beldi_daal::{CellOp, Item, ReadSays, ReadWalk, WriteSays, WriteWalk};
+use beldi_intent::{Binding, Put, bind, end, issue, look, register};
+use beldi_invokelog::{Back, call_back, open_once, registered, result};
 use beldi_lang::{Deployment, Machine};
+use beldi_lock::{LockSays, LockWalk};
 use beldi_outside::{Clock, ClosedLink, Failed, Link, MemClock, MemSource, read_up_to};
 use beldi_plain::{Bar, Plain, PlainErr};
 use beldi_readlog::{get, put_once};
-use beldi_row::Table;
+use beldi_row::{Body, Note, Table};
 use beldi_script::{read_line, write_line};
-use beldi_step::{Binding, Event, bind, end, issue};
+use beldi_step::Event;
 use beldi_syntax::read_deployment;
 use beldi_table::MapTable;
 use beldi_value::{IntentId, Outcome, Owner, Place, Rel, Str, Value, older, read_int};
@@ -159,11 +165,30 @@ fn roomy(alloc: Global) -> Result<MapTable, Fail> {
     Ok(table)
 }
 
-fn place(alloc: Global) -> Place {
+fn place(alloc: Global) -> Place
+    ensures { result.intent.hops ≡ [] }
+{
     Place {
         intent: IntentId::root(alloc, 1),
         step: 0,
     }
+}
+
+// One turn of an operation of a root at a step, on the one item.
+fn turn_of(
+    alloc: Global,
+    table: &mut MapTable,
+    ticket: u32,
+    step: u32,
+    op: CellOp,
+) -> Result<WriteSays, Fail> {
+    let who = Owner::Intent(IntentId::root(alloc, ticket));
+    let place = Place {
+        intent: IntentId::root(alloc, ticket),
+        step,
+    };
+    let mut walk = WriteWalk::new(1, item(alloc)?, place, who, op);
+    Ok(walk.turn(alloc, table, 5)?)
 }
 
 #[test]
@@ -171,7 +196,8 @@ fn an_item_is_written_and_read(rt: HostRuntime) -> Result<(), Fail> {
     let alloc = rt.alloc();
     let mut table = roomy(alloc)?;
     let op = CellOp::Write(Value::Int(7));
-    let mut write = WriteWalk::new(1, item(alloc)?, place(alloc), op);
+    let who = Owner::Intent(IntentId::root(alloc, 1));
+    let mut write = WriteWalk::new(1, item(alloc)?, place(alloc), who, op);
     assert!(rt; matches!(write.turn(alloc, &mut table, 5)?, WriteSays::Going));
     assert!(rt; matches!(write.turn(alloc, &mut table, 5)?, WriteSays::Going));
     assert!(rt;
@@ -193,6 +219,87 @@ fn an_item_is_written_and_read(rt: HostRuntime) -> Result<(), Fail> {
     Ok(())
 }
 
+// The lock of the one item, as the first root asks for it.
+fn lock_walk(alloc: Global) -> Result<LockWalk, Fail> {
+    let who = Owner::Intent(IntentId::root(alloc, 1));
+    let key = Str::from_text(alloc, "k")?;
+    Ok(LockWalk::new(1, place(alloc), who, 0, key))
+}
+
+// A table whose one item the first root has.
+fn locked(alloc: Global) -> Result<MapTable, Fail> {
+    let mut table = roomy(alloc)?;
+    let mut lock = lock_walk(alloc)?;
+    lock.turn(alloc, &mut table, 5)?;
+    lock.turn(alloc, &mut table, 5)?;
+    lock.turn(alloc, &mut table, 5)?;
+    Ok(table)
+}
+
+#[test]
+fn a_lock_is_taken_once(rt: HostRuntime) -> Result<(), Fail> {
+    let alloc = rt.alloc();
+    let mut table = locked(alloc)?;
+    let mut lock = lock_walk(alloc)?;
+    assert!(rt;
+        matches!(
+            lock.turn(alloc, &mut table, 5)?,
+            LockSays::Got { first: false }
+        )
+    );
+    assert!(rt;
+        matches!(
+            turn_of(alloc, &mut table, 2, 0, CellOp::Lock)?,
+            WriteSays::Held(_)
+        )
+    );
+    Ok(())
+}
+
+#[test]
+fn a_value_is_tested(rt: HostRuntime) -> Result<(), Fail> {
+    let alloc = rt.alloc();
+    let mut table = locked(alloc)?;
+    let op = CellOp::Cond {
+        rel: Rel::Eq,
+        operand: Value::Null,
+        value: Value::Int(7),
+    };
+    assert!(rt;
+        matches!(
+            turn_of(alloc, &mut table, 1, 1, op)?,
+            WriteSays::Done {
+                note: Note::Cond(true),
+                first: true
+            }
+        )
+    );
+    Ok(())
+}
+
+#[test]
+fn a_lock_is_given_back(rt: HostRuntime) -> Result<(), Fail> {
+    let alloc = rt.alloc();
+    let mut table = locked(alloc)?;
+    assert!(rt;
+        matches!(
+            turn_of(alloc, &mut table, 2, 0, CellOp::Free(None))?,
+            WriteSays::NotOwner
+        )
+    );
+    let op = CellOp::Free(Some(Value::Int(8)));
+    assert!(rt;
+        matches!(
+            turn_of(alloc, &mut table, 1, 1, op)?,
+            WriteSays::Done {
+                note: Note::Freed,
+                first: true
+            }
+        )
+    );
+    Ok(())
+}
+
 #[test]
 fn logs_and_intents(rt: HostRuntime) -> Result<(), Fail> {
     let alloc = rt.alloc();
@@ -207,15 +314,87 @@ fn logs_and_intents(rt: HostRuntime) -> Result<(), Fail> {
             Binding::Bound
         )
     );
-    assert!(rt;
-        end(
-            &mut table,
-            IntentId::root(alloc, 1),
-            1,
-            Outcome::Value(Value::Null),
-            5
-        )?
+    let outcome = Outcome::Value(Value::Null);
+    let id = IntentId::root(alloc, 1);
+    assert_eq!(rt; end(&mut table, id, 1, outcome, true, 5)?, Put::Did);
+    Ok(())
+}
+
+fn body() -> Body {
+    Body {
+        func: 2,
+        args: Value::Null,
+        tx: None,
+        from: None,
+    }
+}
+
+#[test]
+fn calls_are_kept(rt: HostRuntime) -> Result<(), Fail> {
+    let alloc = rt.alloc();
+    let mut table = roomy(alloc)?;
+    let at = place(alloc);
+    assert!(rt; open_once(alloc, &mut table, 1, &at, 2, 5)?.added);
+    assert_eq!(rt; registered(alloc, &mut table, 1, &at, 5)?, Back::Set);
+    let outcome = Outcome::Value(Value::Int(7));
+    assert_eq!(rt;
+        call_back(alloc, &mut table, 1, &at, outcome, 5)?,
+        Back::Set
     );
+    assert!(rt;
+        matches!(
+            result(alloc, &mut table, 1, &at, 5)?,
+            Some(Outcome::Value(Value::Int(7)))
+        )
+    );
+    Ok(())
+}
+
+#[test]
+fn callees_are_registered(rt: HostRuntime) -> Result<(), Fail> {
+    let alloc = rt.alloc();
+    let mut table = roomy(alloc)?;
+    let callee = IntentId::root(alloc, 1).child(alloc, 0)?;
+    assert!(rt; register(alloc, &mut table, callee, body(), 5)?.is_none());
+    let callee = IntentId::root(alloc, 1).child(alloc, 0)?;
+    assert!(rt; look(alloc, &mut table, callee, 2, 5)?.is_some());
+    Ok(())
+}
+
+#[test]
+fn a_call_is_walked(rt: HostRuntime) -> Result<(), Fail> {
+    let alloc = rt.alloc();
+    let mut table = roomy(alloc)?;
+    let mut call = CallWalk::new(1, place(alloc), 2);
+    assert!(rt;
+        matches!(
+            call.turn(alloc, &mut table, 5)?,
+            CallSays::Opened { first: true }
+        )
+    );
+    assert!(rt; matches!(call.turn(alloc, &mut table, 5)?, CallSays::NotYet));
+    let outcome = Outcome::Value(Value::Int(7));
+    call_back(alloc, &mut table, 1, &place(alloc), outcome, 5)?;
+    assert!(rt;
+        matches!(
+            call.turn(alloc, &mut table, 5)?,
+            CallSays::Done(Outcome::Value(Value::Int(7)))
+        )
+    );
+    Ok(())
+}
+
+#[test]
+fn a_callee_is_left_to_itself(rt: HostRuntime) -> Result<(), Fail> {
+    let alloc = rt.alloc();
+    let mut table = roomy(alloc)?;
+    let mut call = AsyncWalk::new(1, place(alloc), body());
+    assert_eq!(rt;
+        call.turn(alloc, &mut table, 5)?,
+        AsyncSays::Opened { first: true }
+    );
+    assert_eq!(rt; call.turn(alloc, &mut table, 5)?, AsyncSays::Going);
+    assert_eq!(rt; call.turn(alloc, &mut table, 5)?, AsyncSays::Done);
     Ok(())
 }
 
