@@ -27,9 +27,10 @@ mod table;
 mod telling;
 
 pub use act::{Act, Change, Said, apply, made, missing};
+pub use beldi_value::Caller;
 pub use key::{Kind, RowKey, copy_owner};
 pub use laws::next_row_is_least;
 pub use notes::{Log, Note};
-pub use row::{Body, Caller, Cell, IntentRow, InvokeRow, Row};
+pub use row::{Body, Cell, IntentRow, InvokeRow, Row};
 pub use table::{Table, TableErr};
 pub use telling::tell;

@@ -3,29 +3,8 @@ ghost use Rattle.std.specs.Prelude.{◌≡◌, IfOk};
 
 use crate::key::copy_tx;
 use crate::notes::Log;
-use beldi_value::{Outcome, Owner, Place, TxId, Value};
+use beldi_value::{Caller, Outcome, Owner, Place, TxId, Value};
 use std::alloc::{AllocError, Global};
-
-/// Who called an instance: the place of the call, the caller's function, and whether the caller waits for the answer.
-#[derive(Drop)]
-pub struct Caller {
-    pub place: Place,
-    pub func: u16,
-    pub waits: bool,
-}
-
-impl Caller {
-    /// An equal caller.
-    pub fn copy(&self, alloc: Global) -> Result<Caller, AllocError>
-        ensures { IfOk result (λ c. c ≡ self.now) }
-    {
-        Ok(Caller {
-            place: self.place.copy(alloc)?,
-            func: self.func,
-            waits: self.waits,
-        })
-    }
-}
 
 /// What an instance is to do: a function, its arguments, the transaction that it is called in, and its caller. A root
 /// has neither of the last two.

@@ -1,4 +1,5 @@
 pub mod Ages
+pub mod Callees
 pub mod Converting
 pub mod Fields
 pub mod IdTexts

@@ -1,5 +1,5 @@
 -- Ids: their order, and what is made of them.
-use Rattle.std.specs.Prelude.{◌≡◌, ℕ, Bool, true, false, List, [], ◌∷◌, ◌++◌, refl, if◌then◌else◌}
+use Rattle.std.specs.Prelude.{◌≡◌, ℕ, nat_lt, Bool, true, false, List, [], ◌∷◌, ◌++◌, length, refl, if◌then◌else◌}
 use Rattle.std.specs.Coded.{Coded, code_by, coded×, coded_ℕ, coded_list}
 use Rattle.std.specs.Cmp.{IsTotalOrder, nat_cmp_total, on_total, then_total}
 use Rattle.std.specs.Ordering.{nat_cmp, ordering_then, is_lt}
@@ -26,6 +26,10 @@ root_of ticket = record { ticket = ticket; hops = [] }
 -- the id of what an intent calls at a step
 abbrev pub child_of : IntentId → ℕ → IntentId
 child_of a step = record { ticket = a.ticket; hops = a.hops ++ step ∷ [] }
+
+-- an id has at most 63 hops: what an intent with so many calls has none
+abbrev pub has_callees : IntentId → Bool
+has_callees a = nat_lt (length a.hops) 63
 
 -- no call leads to it
 abbrev pub has_no_hops : List ℕ → Bool

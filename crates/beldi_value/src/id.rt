@@ -144,7 +144,7 @@ pub struct IntentId {
 }
 
 impl IntentId {
-    ghost use Rattle.beldi_value.specs.Id.{root_of, child_of, has_no_hops, home_of};
+    ghost use Rattle.beldi_value.specs.Id.{root_of, child_of, has_callees, has_no_hops, home_of};
 
     /// The id of the root of a ticket.
     pub fn root(alloc: Global, ticket: u32) -> IntentId
@@ -165,6 +165,13 @@ impl IntentId {
             ticket: self.ticket,
             hops: self.hops.with(alloc, step)?,
         })
+    }
+
+    /// Whether what this intent calls has an id: it has fewer than 63 hops.
+    pub fn has_callees(&self) -> bool
+        ensures { result ≡ has_callees self.now }
+    {
+        self.hops.len() < 63
     }
 
     /// Whether no call leads to the intent.

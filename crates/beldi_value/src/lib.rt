@@ -54,7 +54,7 @@ pub use laws::{
 pub use list::{ByteList, Items, Moments, Values32};
 pub use number::{read_int, read_number, read_numeral};
 pub use outcome::{Cause, Code, Outcome};
-pub use place::{Owner, Place, TxId};
+pub use place::{Caller, Owner, Place, TxId};
 pub use read::ValueErr;
 pub use read_id::IdErr;
 pub use rel::Rel;

@@ -23,6 +23,27 @@ impl Place {
     }
 }
 
+/// Who called an instance: the place of the call, the caller's function, and whether the caller waits for the answer.
+#[derive(Drop)]
+pub struct Caller {
+    pub place: Place,
+    pub func: u16,
+    pub waits: bool,
+}
+
+impl Caller {
+    /// An equal caller.
+    pub fn copy(&self, alloc: Global) -> Result<Caller, AllocError>
+        ensures { IfOk result (λ c. c ≡ self.now) }
+    {
+        Ok(Caller {
+            place: self.place.copy(alloc)?,
+            func: self.func,
+            waits: self.waits,
+        })
+    }
+}
+
 /// A transaction: the intent that began it, the step of its begin, and the function of that intent.
 #[derive(Drop, PartialEq, Eq)]
 pub struct TxId {
