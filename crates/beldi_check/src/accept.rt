@@ -83,10 +83,13 @@ fn all_rules(alloc: Global, funcs: &[Func]) -> Result<(), CheckErr>
 
 /// Accepts a deployment that keeps every rule. The rules are tried in the order `Duplicate`, `TooMany`, `UnknownFunction`,
 /// `UnknownTable`, `BreakOutside`, `NestedTx`, `LeavesTx`, `CallCycle`, `AsyncInTx`, `LockInTx`: `Refused` names the first
-/// place in the text that breaks the first rule that is broken. `OutOfMemory` comes where memory is short.
+/// place in the text that breaks the first rule that is broken. `OutOfMemory` comes where memory is short. The names in the
+/// statements of what is accepted are found.
 pub fn check(alloc: Global, code: Deployment) -> Result<Checked, CheckErr>
     ensures { MatchResult result (λ c. (c ≡ code) × (first_offence code.funcs ≡ None)) (λ e. Refuses (first_offence code.funcs) e) }
 {
     all_rules(alloc, code.funcs.as_slice())?;
+    let mut code = code;
+    code.funcs.find_names(alloc);
     Ok(Checked { code })
 }

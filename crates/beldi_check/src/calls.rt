@@ -31,8 +31,8 @@ fn leads(link: Link, name: &Str, stmt: &Stmt) -> bool
     ensures { result ≡ leads link name.now (command_of stmt.now) }
 {
     match (link, &stmt.form) {
-        (_, Form::Call { func, .. }) => func == name,
-        (Link::Start, Form::Async { func, .. }) => func == name,
+        (_, Form::Call { func, .. }) => func.text() == name,
+        (Link::Start, Form::Async { func, .. }) => func.text() == name,
         _ => false,
     }
 }

@@ -112,7 +112,7 @@ fn func_in(stmt: &Stmt) -> Option<&Str>
     ensures { option_copied result ≡ func_in (command_of stmt.now) }
 {
     match &stmt.form {
-        Form::Call { func, .. } | Form::Async { func, .. } => Some(func),
+        Form::Call { func, .. } | Form::Async { func, .. } => Some(func.text()),
         _ => None,
     }
 }
@@ -126,7 +126,7 @@ fn table_in(stmt: &Stmt) -> Option<&Str>
         | Form::Write { table, .. }
         | Form::CondWrite { table, .. }
         | Form::Lock { table, .. }
-        | Form::Unlock { table, .. } => Some(table),
+        | Form::Unlock { table, .. } => Some(table.text()),
         _ => None,
     }
 }

@@ -10,8 +10,8 @@ ghost use Rattle.beldi_syntax.specs.Statements.{cell, relation, set_of, read_of,
 use crate::operators::Level;
 use crate::refusal::{SyntaxErr, What};
 use crate::tokens::Tokens;
-use beldi_tree::{Block, Expr, Form, Stmt};
-use beldi_value::{Rel, Str};
+use beldi_tree::{Block, Expr, Form, Name, Stmt};
+use beldi_value::Rel;
 use std::alloc::Global;
 
 impl Tokens {
@@ -24,10 +24,10 @@ impl Tokens {
     }
 
     // `NAME[expr]`
-    fn cell(&mut self, alloc: Global, depth: u32) -> Result<(Str, Expr), SyntaxErr>
+    fn cell(&mut self, alloc: Global, depth: u32) -> Result<(Name, Expr), SyntaxErr>
         ensures { ReadsAs (λ c. (c.0, term_of c.1)) (cell (expr_at depth) self.old) result self.new }
     {
-        let table = self.name()?;
+        let table = Name::new(self.name()?);
         let key = self.value(alloc, depth, "[")?;
         self.take("]")?;
         Ok((table, key))
@@ -119,7 +119,7 @@ impl Tokens {
     {
         let name = self.name()?;
         self.take("=")?;
-        let func = self.name()?;
+        let func = Name::new(self.name()?);
         let args = self.argument(alloc, depth)?;
         self.take(";")?;
         Ok(Stmt {
@@ -131,7 +131,7 @@ impl Tokens {
     fn async_stmt(&mut self, alloc: Global, depth: u32, line: u32) -> Result<Stmt, SyntaxErr>
         ensures { ReadsAs command_of (async_of (expr_at depth) line self.old) result self.new }
     {
-        let func = self.name()?;
+        let func = Name::new(self.name()?);
         let args = self.argument(alloc, depth)?;
         self.take(";")?;
         Ok(Stmt {

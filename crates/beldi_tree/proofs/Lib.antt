@@ -1,2 +1,3 @@
+pub mod Aparts
 pub mod Copies
 pub mod Evaluated

@@ -1,3 +1,4 @@
+pub mod Apart
 pub mod Bindings
 pub mod Command
 pub mod Evaluate

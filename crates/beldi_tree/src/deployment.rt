@@ -3,6 +3,8 @@ ghost use Rattle.std.specs.Prelude.{◌≡◌, ◌++◌, ◌∷◌, [], ◌-◌,
 ghost use Rattle.beldi_tree.specs.Names.{func_place as func_place_of, table_place as table_place_of};
 
 use crate::block::Block;
+use crate::find::{find_all, func_place_by, funcs_apart, table_place_by, tables_apart};
+use crate::name::Name;
 use crate::parts::{Chain, Exprs, Members};
 use beldi_value::{Rel, Str};
 use std::alloc::{AllocError, Global};
@@ -84,19 +86,19 @@ pub enum Form {
     /// Sets a variable to the value of an item.
     Read {
         name: Str,
-        table: Str,
+        table: Name,
         key: Expr,
     },
     /// Sets an item.
     Write {
-        table: Str,
+        table: Name,
         key: Expr,
         value: Expr,
     },
     /// Sets an item where its value stands so to the operand, and a variable to whether it did.
     CondWrite {
         name: Str,
-        table: Str,
+        table: Name,
         key: Expr,
         rel: Rel,
         operand: Expr,
@@ -105,20 +107,20 @@ pub enum Form {
     /// Calls a function and sets a variable to what it returns.
     Call {
         name: Str,
-        func: Str,
+        func: Name,
         args: Expr,
     },
     /// Has a function run, and does not wait for it.
     Async {
-        func: Str,
+        func: Name,
         args: Expr,
     },
     Lock {
-        table: Str,
+        table: Name,
         key: Expr,
     },
     Unlock {
-        table: Str,
+        table: Name,
         key: Expr,
     },
     /// A block that takes effect as a whole or not at all, and one that runs where it was aborted.
@@ -196,14 +198,14 @@ pub enum Op {
     Rem,
 }
 
-fn func_place(funcs: &[Func], name: &[u8]) -> Option<usize>
+pub(crate) fn func_place(funcs: &[Func], name: &[u8]) -> Option<usize>
     ensures found { result ≡ func_place_of funcs.now name.now }
     ensures within { IfSome result (λ i. i < length funcs.now) }
 {
     funcs.iter().position(|func| func.name.as_bytes() == name)
 }
 
-fn table_place(tables: &[TableHead], name: &[u8]) -> Option<usize>
+pub(crate) fn table_place(tables: &[TableHead], name: &[u8]) -> Option<usize>
     ensures { result ≡ table_place_of tables.now name.now }
 {
     tables
@@ -215,6 +217,8 @@ fn table_place(tables: &[TableHead], name: &[u8]) -> Option<usize>
 #[derive(Drop)]
 pub struct Funcs {
     items: Vec<Func>,
+    /// Whether it was seen that no two have one name.
+    apart: bool,
 }
 
 impl Model for Funcs {
@@ -228,6 +232,11 @@ impl Model for Funcs {
     ghost coded = { Prim.hlevel (codes, func.the_row.coded) };
 
     ghost view = { λ a. a.items.items };
+
+    ghost use Rattle.std.specs.Prelude.{IsTrue};
+    ghost use Rattle.beldi_tree.specs.Apart.{AreApart};
+
+    ghost invariant = { λ a. IsTrue a.apart → AreApart (λ f. f.name) a.items.items };
 }
 
 impl Funcs {
@@ -236,6 +245,7 @@ impl Funcs {
     {
         Funcs {
             items: Vec::new(alloc),
+            apart: false,
         }
     }
 
@@ -243,6 +253,7 @@ impl Funcs {
         ensures ok { OnOk result (self.new ≡ self.old ++ item ∷ []) }
         ensures err { OnErr result (self.new ≡ self.old) }
     {
+        self.apart = false;
         self.items.push(item)?;
         Ok(())
     }
@@ -260,12 +271,29 @@ impl Funcs {
     {
         func_place(self.as_slice(), name)
     }
+
+    /// The same for a name in a statement, which is not searched where it was found before.
+    pub fn place_of(&self, name: &Name) -> Option<usize>
+        ensures { result ≡ func_place_of self.now name.now }
+    {
+        func_place_by(self.items.as_slice(), self.apart, name)
+    }
+
+    /// Finds each name in each statement, among all functions and the tables of its own.
+    pub fn find_names(&mut self, alloc: Global)
+        ensures { self.new ≡ self.old }
+    {
+        find_all(alloc, &mut self.items);
+        self.apart = funcs_apart(self.items.as_slice());
+    }
 }
 
 /// The tables that a function owns.
 #[derive(Drop)]
 pub struct TableHeads {
     items: Vec<TableHead>,
+    /// Whether it was seen that no two have one name.
+    apart: bool,
 }
 
 impl Model for TableHeads {
@@ -275,6 +303,11 @@ impl Model for TableHeads {
     ghost Value = { List TableHead };
 
     ghost view = { λ a. a.items.items };
+
+    ghost use Rattle.std.specs.Prelude.{IsTrue};
+    ghost use Rattle.beldi_tree.specs.Apart.{AreApart};
+
+    ghost invariant = { λ a. IsTrue a.apart → AreApart (λ t. t.name) a.items.items };
 }
 
 impl TableHeads {
@@ -283,6 +316,7 @@ impl TableHeads {
     {
         TableHeads {
             items: Vec::new(alloc),
+            apart: false,
         }
     }
 
@@ -290,6 +324,7 @@ impl TableHeads {
         ensures ok { OnOk result (self.new ≡ self.old ++ item ∷ []) }
         ensures err { OnErr result (self.new ≡ self.old) }
     {
+        self.apart = false;
         self.items.push(item)?;
         Ok(())
     }
@@ -305,5 +340,18 @@ impl TableHeads {
         ensures { result ≡ table_place_of self.now name.now }
     {
         table_place(self.as_slice(), name)
+    }
+
+    /// The same for a name in a statement, which is not searched where it was found before.
+    pub fn place_of(&self, name: &Name) -> Option<usize>
+        ensures { result ≡ table_place_of self.now name.now }
+    {
+        table_place_by(self.items.as_slice(), self.apart, name)
+    }
+
+    pub(crate) fn see_apart(&mut self)
+        ensures { self.new ≡ self.old }
+    {
+        self.apart = tables_apart(self.items.as_slice());
     }
 }

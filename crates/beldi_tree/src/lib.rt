@@ -8,6 +8,7 @@
 //!   every operator, its faults in the order of evaluation, and the limits of results (`Evaluates (value_at ..)`);
 //!   `key_at` gives a cell's key, a text of at most 256 bytes.
 //! - `Funcs::place` and `TableHeads::place` give the first place of a name (`func_place`, `table_place`),
+//!   and `place_of` the same of a name in a statement, which is not searched where `find_names` found it;
 //!   `Deployment::func_at` the function of a number (`func_at`), and `write_func` its name or, where there is none of
 //!   it, the number (`ok`, `err`).
 #![tactic(auto)]
@@ -16,6 +17,8 @@ mod block;
 mod deployment;
 mod evaluation;
 mod fault;
+mod find;
+mod name;
 mod operators;
 mod parts;
 mod seen;
@@ -25,6 +28,7 @@ pub use block::Block;
 pub use deployment::{Deployment, Expr, Form, Func, Funcs, Op, Step, Stmt, TableHead, TableHeads};
 pub use evaluation::{evaluate, key_at};
 pub use fault::EvalErr;
+pub use name::Name;
 pub use operators::truth;
 pub use parts::{Chain, Exprs, Members};
 pub use variables::Variables;
