@@ -96,15 +96,15 @@ is_ended i = is_some i.outcome || is_some i.finish
 abbrev pub open_body : IntentRow → Option Body
 open_body i = if is_ended i then None else i.body
 
--- the arguments of a body of this function
-abbrev pub args_in : ℕ → Option Body → Option Value
-args_in func None = None
-args_in func (Some b) = if b.func == func then Some b.args else None
+-- a body, if it is one of this function
+abbrev pub body_in : ℕ → Option Body → Option Body
+body_in func None = None
+body_in func (Some b) = if b.func == func then Some b else None
 
--- those of an intent that has not ended
-abbrev pub args_told : ℕ → Told → Option Value
-args_told func (said (here (rows.Intent i))) = args_in func (open_body i)
-args_told func t = None
+-- that of an intent that has not ended
+abbrev pub body_told : ℕ → Told → Option Body
+body_told func (said (here (rows.Intent i))) = body_in func (open_body i)
+body_told func t = None
 
 -- ---- what the calls promise
 -- the row is set to this intent
