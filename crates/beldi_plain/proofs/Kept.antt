@@ -14,16 +14,20 @@ use Rattle.beldi_tree.specs.declared.deployment.Deployment.{Deployment}
 use Rattle.beldi_lang.specs.declared.effect.Effect.{Effect}
 use Rattle.beldi_lang.specs.declared.effect.Effect.TheVariants as effect
 use Rattle.beldi_lang.specs.declared.effect.Answer.{Answer}
+use Rattle.beldi_lang.specs.declared.effect.Answer.TheVariants as answer
+use Rattle.beldi_lang.specs.Callee.{answer_of}
 use Rattle.beldi_lang.specs.declared.machine.Machine.{Machine}
 use Rattle.beldi_lang.specs.Wants.{wants_answer, wants}
 use Rattle.beldi_lang.specs.Machine.{IsAt, resumed}
 use Rattle.beldi_lang.proofs.Resumes.{at_effect, at_next, returns_stay}
 use Rattle.beldi_plain.specs.Item.{item_cmp}
-use Rattle.beldi_plain.specs.Operation.{OnItem, op_of}
-use Rattle.beldi_plain.specs.Plain.{PlainState, Instance, answered, operated, with_instance, step_by}
-use Rattle.beldi_plain.specs.Executor.{StandsAfter, StandsFor, StandsForOne, AllStand, IsKept, GoesOn, Acted, ActedAt, Made, answer_if, answer_by, answered_if, instance_by, items_if, items_by}
-use Rattle.beldi_plain.specs.Answers.{IsReady}
+use Rattle.beldi_plain.specs.Operation.{OnItem, op_of, item_in}
+use Rattle.beldi_plain.specs.Plain.{PlainState, Instance, answered, ended, give, operated, with_instance, step_by, value_at, item_of, new_instance, callee_of, calls_at, waits_at}
+use Rattle.beldi_plain.specs.Executor.{StandsAfter, StandsFor, StandsForOne, AllStand, IsKept, Passes, Follows, Acted, ActedAt, Made, answer_if, answer_on, next_of, next_told, next_by, waiter}
+use Rattle.beldi_plain.specs.declared.next.Next.{Next}
+use Rattle.beldi_plain.specs.Answers.{IsReady, IsFree}
 use Rattle.beldi_plain.proofs.Finite.{apart, there, gone, same_key, same_set}
+use Rattle.beldi_plain.proofs.Made.{tell, caller_told, none_of}
 
 -- an effect that is not answered is a return
 returns_so : (e : Effect) → wants_answer e ≡ false → (o : Outcome) × (e ≡ effect.Return o)
@@ -76,59 +80,6 @@ started d p r machines id q all none is = λ j m h.
       | false ↦ λ e. subst (λ o. StandsForOne d o m) (sym (ap (λ (s : PlainState). map.get s.made j) is ∙ apart id_total p.made id j q e)) (all j m h)
     ] refl
 
--- ---- a step
-
--- an instance makes an effect, among all instances
-acted_one : (old new : FinMap item_cmp Value) (a b : FinMap id_cmp Instance) (id : IntentId) (q r : Instance) (e : Effect) (x : Result (Option Answer) AllocError) → map.get a id ≡ Some q → b ≡ map.insert a id r → Acted old new q r e x → ActedAt old new a b id q e x
-acted_one old new a b id q r e (Ok o) here is h = (h.0, is ∙ ap (map.insert a id) h.1, h.2)
-acted_one old new a b id q r e (Err w) here is h = (h.0, is ∙ ap (map.insert a id) h.1 ∙ same_set id_total id_exact a id q here)
-
-pub acted_at : (old new : FinMap item_cmp Value) (a b : FinMap id_cmp Instance) (id : IntentId) (q r : Instance) (e : Effect) (x : Result (Option Answer) AllocError) → map.get a id ≡ Some q → b ≡ map.insert a id r → Acted old new q r e x → (s : Instance) → map.get a id ≡ Some s → ActedAt old new a b id s e x
-acted_at old new a b id q r e x here is h s also =
-    let same : q ≡ s = let both = sym here ∙ also in cc in
-    subst (λ (s : Instance). ActedAt old new a b id s e x) same (acted_one old new a b id q r e x here is h)
-
--- what the parts of a step are together
-operation_so : (p : PlainState) (id : IntentId) (q : Instance) (o : Option OnItem) → map.get p.made id ≡ Some q → record { items = items_if p.items q o; made = map.insert p.made id (answered_if q (answer_if p.items q o)) } ≡ operated p id q o
-operation_so p id q None here = λ i. record { items = p.items; made = same_set id_total id_exact p.made id q here i }
-operation_so p id q (Some o) here = refl
-
-steps_so : (p : PlainState) (id : IntentId) (q : Instance) (e : Effect) → map.get p.made id ≡ Some q → record { items = items_by p.items q e; made = map.insert p.made id (instance_by p.items q e) } ≡ step_by p id q e
-steps_so p id q (effect.Read t k) here = refl
-steps_so p id q (effect.Return o) here = refl
-steps_so p id q e here = operation_so p id q (op_of e) here
-
-pub made_so : (p r : PlainState) (id : IntentId) (q : Instance) (e : Effect) (x : Result (Option Answer) AllocError) → map.get p.made id ≡ Some q → ActedAt p.items r.items p.made r.made id q e x → Made p r id q e x
-made_so p r id q e (Ok o) here h = ((λ i. record { items = h.0 i; made = h.1 i }) ∙ steps_so p id q e here, h.2)
-made_so p r id q e (Err w) here h = λ i. record { items = h.0 i; made = h.1 i }
-
--- a step changes no other instance
-pub elsewhere : (p : PlainState) (id : IntentId) (q : Instance) (e : Effect) (j : IntentId) → map.get p.made id ≡ Some q → is_eq (id_cmp j id) ≡ false → map.get (step_by p id q e).made j ≡ map.get p.made j
-elsewhere p id q e j here off = ap (λ (s : PlainState). map.get s.made j) (sym (steps_so p id q e here)) ∙ apart id_total p.made id j (instance_by p.items q e) off
-
--- the machine of an instance that was answered
-answered_so : (d : Deployment) (q : Instance) (m : Machine) (a : Answer) → StandsFor d q m → wants_answer m.effect ≡ true → StandsFor d (answered q a) (resumed d m a)
-answered_so d q m a h w = stands_there d q.func q.args (resumed d m a) (q.answers ++ a ∷ []) (at_next d q.func q.args false m q.answers a w (h.1 w))
-
-goes_so : (d : Deployment) (items : FinMap item_cmp Value) (q : Instance) (m : Machine) (e : Effect) (a : Answer) → StandsFor d q m → m.effect ≡ e → Some a ≡ answer_by items q e → StandsFor d (instance_by items q e) (resumed d m a)
-goes_so d items q m (effect.Return o) a h is by = cc
-goes_so d items q m e a h is by = subst (λ o. StandsFor d (answered_if q o) (resumed d m a)) by (answered_so d q m a h (ap wants_answer is))
-
-yet_so : (items : FinMap item_cmp Value) (q : Instance) (e : Effect) (a : Answer) → q.outcome ≡ None → Some a ≡ answer_by items q e → (instance_by items q e).outcome ≡ None
-yet_so items q (effect.Return o) a yet by = cc
-yet_so items q e a yet by = subst (λ o. (answered_if q o).outcome ≡ None) by yet
-
--- a step keeps the machines with their instances
-pub step_stands : (d : Deployment) (p r : PlainState) (a b : FinMap id_cmp Machine) (id : IntentId) (m : Machine) (o : Option Answer) → AllStand d p.made a → (h : IsReady d p id m) → Made p r id h.instance m.effect (Ok o) → GoesOn d a b id m o → AllStand d r.made b
-step_stands d p r a b id m None all h made goes =
-    others_stand d p.made r.made a b id all (λ j off. ap (λ (s : PlainState). map.get s.made j) made.0 ∙ elsewhere p id h.instance m.effect j h.made off) goes
-step_stands d p r a b id m (Some x) all h made goes =
-    let q = h.instance in
-    let is : map.get r.made id ≡ Some (instance_by p.items q m.effect) = ap (λ (s : PlainState). map.get s.made id) (made.0 ∙ sym (steps_so p id q m.effect h.made)) ∙ there id_total p.made id id (instance_by p.items q m.effect) ((eq_by_cmp_equiv id_total).refl id) in
-    let stands : StandsForOne d (Some (instance_by p.items q m.effect)) (resumed d m x) = (yet_so p.items q m.effect x h.yet made.1, goes_so d p.items q m m.effect x h.stands refl made.1) in
-    kept_stand d p.made r.made a b id (resumed d m x) all (λ j off. ap (λ (s : PlainState). map.get s.made j) made.0 ∙ elsewhere p id q m.effect j h.made off)
-    (subst (λ o. StandsForOne d o (resumed d m x)) (sym is) stands) goes
-
 -- the machine that is kept for an instance
 pub ready_so : (d : Deployment) (p : PlainState) (id : IntentId) (m : Machine) → StandsForOne d (map.get p.made id) m → IsReady d p id m
 ready_so d p id m h =
@@ -145,12 +96,72 @@ taken_so d p machines id (Some m) all is = ready_so d p id m (all id m (sym is))
 pub ready_one : (d : Deployment) (p : PlainState) (id : IntentId) (m : Machine) → IsReady d p id m → StandsForOne d (map.get p.made id) m
 ready_one d p id m h = subst (λ o. StandsForOne d o m) (sym h.made) (h.yet, h.stands)
 
+-- with the machine that was put back
+pub back_stand : (d : Deployment) (p : PlainState) (a b : FinMap id_cmp Machine) (id : IntentId) (m : Machine) → AllStand d p.made a → IsReady d p id m → IsKept a b id m → AllStand d p.made b
+back_stand d p a b id m all h kept = kept_stand d p.made p.made a b id m all (λ j off. refl) (ready_one d p id m h) kept
+
+-- ---- a step
+
+-- an instance makes an effect, among all instances
+acted_one : (old new : FinMap item_cmp Value) (a b : FinMap id_cmp Instance) (id : IntentId) (q r : Instance) (e : Effect) (x : Result (Option Answer) AllocError) → map.get a id ≡ Some q → b ≡ map.insert a id r → Acted old new q r e x → ActedAt old new a b id q e x
+acted_one old new a b id q r e (Ok o) here is h = (h.0, is ∙ ap (map.insert a id) h.1, h.2)
+acted_one old new a b id q r e (Err w) here is h = (h.0, is ∙ ap (map.insert a id) h.1 ∙ same_set id_total id_exact a id q here)
+
+pub acted_at : (old new : FinMap item_cmp Value) (a b : FinMap id_cmp Instance) (id : IntentId) (q r : Instance) (e : Effect) (x : Result (Option Answer) AllocError) → map.get a id ≡ Some q → b ≡ map.insert a id r → Acted old new q r e x → (s : Instance) → map.get a id ≡ Some s → ActedAt old new a b id s e x
+acted_at old new a b id q r e x here is h s also =
+    let same : q ≡ s = let both = sym here ∙ also in cc in
+    subst (λ (s : Instance). ActedAt old new a b id s e x) same (acted_one old new a b id q r e x here is h)
+
+-- the machine of an instance that was answered
+answered_so : (d : Deployment) (q : Instance) (m : Machine) (a : Answer) → StandsFor d q m → wants_answer m.effect ≡ true → StandsFor d (answered q a) (resumed d m a)
+answered_so d q m a h w = stands_there d q.func q.args (resumed d m a) (q.answers ++ a ∷ []) (at_next d q.func q.args false m q.answers a w (h.1 w))
+
+-- an instance is answered, and its machine goes on
+goes_so : (d : Deployment) (made : FinMap id_cmp Instance) (a b : FinMap id_cmp Machine) (id : IntentId) (q : Instance) (m : Machine) (x : Answer) → AllStand d made a → q.outcome ≡ None → StandsFor d q m → wants_answer m.effect ≡ true → IsKept a b id (resumed d m x) → AllStand d (map.insert made id (answered q x)) b
+goes_so d made a b id q m x all yet h w kept =
+    kept_stand d made (map.insert made id (answered q x)) a b id (resumed d m x) all (λ j off. apart id_total made id j (answered q x) off)
+    (subst (λ o. StandsForOne d o (resumed d m x)) (sym (there id_total made id id (answered q x) ((eq_by_cmp_equiv id_total).refl id))) (yet, answered_so d q m x h w)) kept
+
+-- an operation on an item, or a read
+acts_so : (d : Deployment) (p : PlainState) (a b : FinMap id_cmp Machine) (id : IntentId) (m : Machine) (o : Option OnItem) → AllStand d p.made a → (h : IsReady d p id m) → wants_answer m.effect ≡ true → Follows d a b id m (next_of (answer_if p.items h.instance o)) → AllStand d (operated p id h.instance o).made b
+acts_so d p a b id m None all h w kept = back_stand d p a b id m all h kept
+acts_so d p a b id m (Some o) all h w kept = goes_so d p.made a b id h.instance m (answer_on p.items (item_in h.instance.func o) o.does) all h.yet h.stands w kept
+
+-- who waits is answered, where the machine that is kept for it goes on
+gives_so : (d : Deployment) (p : PlainState) (a b : FinMap id_cmp Machine) (c : IntentId) (x : Answer) (o : Option Instance) → AllStand d p.made a → map.get p.made c ≡ o → Passes d a b c x → AllStand d (give p c x o).made b
+gives_so d p a b c x None all is (inl left) = others_stand d p.made p.made a b c all (λ j off. refl) left
+gives_so d p a b c x (Some q) all is (inl left) = others_stand d p.made (map.insert p.made c (answered q x)) a b c all (λ j off. apart id_total p.made c j (answered q x) off) left
+gives_so d p a b c x None all is (inr (m, at, w, kept)) = absurd (subst (λ o. StandsForOne d o m) is (all c m at))
+gives_so d p a b c x (Some q) all is (inr (m, at, w, kept)) =
+    let stands : StandsForOne d (Some q) m = subst (λ o. StandsForOne d o m) is (all c m at) in
+    let rest = others_stand d p.made p.made a (map.remove a c) c all (λ j off. refl) refl in
+    goes_so d p.made (map.remove a c) b c q m x rest stands.0 stands.1 w kept
+
+ends_so : (d : Deployment) (p : PlainState) (a b : FinMap id_cmp Machine) (id : IntentId) (m : Machine) (c : Option IntentId) (o : Outcome) → AllStand d p.made (map.remove a id) → Follows d a b id m (next_told c o) → AllStand d (tell p c o).made b
+ends_so d p a b id m None o all is = subst (AllStand d p.made) (sym is) all
+ends_so d p a b id m (Some c) o all passes = gives_so d p (map.remove a id) b c (answer_of o) (map.get p.made c) all refl passes
+
+-- a step keeps the machines with their instances
+step_of : (d : Deployment) (p : PlainState) (a b : FinMap id_cmp Machine) (id : IntentId) (m : Machine) (e : Effect) → AllStand d p.made a → (h : IsReady d p id m) → m.effect ≡ e → waits_at p.made id h.instance e ≡ false → Follows d a b id m (next_by p.items h.instance e) → AllStand d (step_by p id h.instance e).made b
+step_of d p a b id m (effect.Read t k) all h is free goes = goes_so d p.made a b id h.instance m (answer.Value (value_at p (item_of h.instance t k))) all h.yet h.stands (ap wants_answer is) goes
+step_of d p a b id m (effect.Call f x) all h is free goes =
+    let q = h.instance in
+    let made : PlainState = with_instance p (callee_of id q) (new_instance f x (Some (calls_at id q))) in
+    started d p made b (callee_of id q) (new_instance f x (Some (calls_at id q))) (back_stand d p a b id m all h goes) (none_of (map.get p.made (callee_of id q)) free) refl
+step_of d p a b id m (effect.Return o) all h is free goes =
+    let q = h.instance in
+    let one = with_instance p id (ended q o) in
+    subst (λ (r : PlainState). AllStand d r.made b) (sym (caller_told one q.from o))
+    (ends_so d one a b id m (waiter q.from) o (others_stand d p.made one.made a (map.remove a id) id all (λ j off. apart id_total p.made id j (ended q o) off) refl) goes)
+step_of d p a b id m e all h is free goes = acts_so d p a b id m (op_of e) all h (ap wants_answer is) goes
+
+pub step_stands : (d : Deployment) (p r : PlainState) (a b : FinMap id_cmp Machine) (id : IntentId) (m : Machine) (n : Next) → AllStand d p.made a → (h : IsFree d p id m) → Made p r id h.ready.instance m.effect (Ok n) → Follows d a b id m n → AllStand d r.made b
+step_stands d p r a b id m n all h made goes =
+    subst (λ (s : PlainState). AllStand d s.made b) (sym made.0)
+    (step_of d p a b id m m.effect all h.ready refl (ap (waits_at p.made id h.ready.instance) h.ready.stands.0 ∙ h.free) (subst (Follows d a b id m) made.1 goes))
+
 -- ---- calls
 
 -- without the machine that was taken
 pub rest_stand : (d : Deployment) (made : FinMap id_cmp Instance) (a b : FinMap id_cmp Machine) (id : IntentId) → AllStand d made a → b ≡ map.remove a id → AllStand d made b
 rest_stand d made a b id all is = others_stand d made made a b id all (λ j off. refl) is
-
--- with the machine that was put back
-pub back_stand : (d : Deployment) (p : PlainState) (a b : FinMap id_cmp Machine) (id : IntentId) (m : Machine) → AllStand d p.made a → IsReady d p id m → IsKept a b id m → AllStand d p.made b
-back_stand d p a b id m all h kept = kept_stand d p.made p.made a b id m all (λ j off. refl) (ready_one d p id m h) kept

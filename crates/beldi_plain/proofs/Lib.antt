@@ -2,4 +2,5 @@ mod Bars
 mod ByTable
 mod Finite
 mod Kept
+mod Made
 mod Runs

@@ -1,5 +1,5 @@
 -- What the executor's calls answer.
-use Rattle.std.specs.Prelude.{◌≡◌, ℕ, zero, suc, Bool, true, false, List, ◌∷◌, ◌++◌, Option, Some, None, Result, Ok, Err}
+use Rattle.std.specs.Prelude.{◌≡◌, ℕ, zero, suc, Bool, true, false, List, ◌∷◌, ◌++◌, Option, Some, None, Result, Ok, Err, is_none}
 use Rattle.std.specs.FinMap as map
 use Rattle.beldi_value.specs.Id.{root_of}
 use Rattle.beldi_value.specs.declared.id.IntentId.{IntentId}
@@ -8,13 +8,13 @@ use Rattle.beldi_tree.specs.declared.deployment.Deployment.{Deployment}
 use Rattle.beldi_lang.specs.declared.machine.Machine.{Machine}
 use Rattle.beldi_book.specs.declared.entry.Entry.{Entry}
 use Rattle.beldi_book.specs.declared.entry.Entry.TheVariants.{Start, Read, Step, Tx, Try}
-use Rattle.beldi_plain.specs.Plain.{PlainState, Instance, effect_of, kind_of, step, after}
+use Rattle.beldi_plain.specs.Plain.{PlainState, Instance, effect_of, kind_of, is_waiting, step, after}
 use Rattle.beldi_plain.specs.Executor.{StandsFor}
 use Rattle.beldi_plain.specs.Legal.{run_from}
 use Rattle.beldi_plain.specs.declared.kind.Kind.{Kind}
 use Rattle.beldi_plain.specs.declared.kind.Kind.TheVariants as kinds
 use Rattle.beldi_plain.specs.declared.plain.Bar.{Bar}
-use Rattle.beldi_plain.specs.declared.plain.Bar.TheVariants.{AlreadyStarted, NotStarted, Over, OtherEffect}
+use Rattle.beldi_plain.specs.declared.plain.Bar.TheVariants.{AlreadyStarted, NotStarted, Over, Waiting, OtherEffect}
 use Rattle.beldi_plain.specs.declared.plain.PlainErr.{PlainErr}
 use Rattle.beldi_plain.specs.declared.plain.PlainErr.TheVariants.{OutOfMemory, NotEnabled}
 
@@ -24,14 +24,19 @@ bar_start zero q = Some AlreadyStarted
 bar_start (suc t) None = None
 bar_start (suc t) (Some q) = Some AlreadyStarted
 
--- what bars a step: that there is no such instance, or that it has returned, or else what bars its effect
+-- what bars a step: that there is no such instance, that it has returned, or that it waits for a callee, or else what bars its
+-- effect
 abbrev pub bar_open : Option Outcome → Option Bar → Option Bar
 bar_open None b = b
 bar_open (Some o) b = Some Over
 
-abbrev pub bar_step : Option Instance → (Instance → Option Bar) → Option Bar
-bar_step None f = Some NotStarted
-bar_step (Some q) f = bar_open q.outcome (f q)
+abbrev pub bar_waiting : Bool → Option Bar → Option Bar
+bar_waiting true b = Some Waiting
+bar_waiting false b = b
+
+abbrev pub bar_step : Option Instance → (Instance → Bool) → (Instance → Option Bar) → Option Bar
+bar_step None w f = Some NotStarted
+bar_step (Some q) w f = bar_open q.outcome (bar_waiting (w q) (f q))
 
 -- what bars an effect of this kind from being entered as a read, or else as a change
 abbrev pub bar_as : Bool → Kind → Option Bar
@@ -49,10 +54,10 @@ bar_made kinds.Unbuilt = Some OtherEffect
 
 abbrev pub bar_of : Deployment → PlainState → Entry → Option Bar
 bar_of d p (Start t f a) = bar_start t (map.get p.made (root_of t))
-bar_of d p (Read id seen) = bar_step (map.get p.made id) (λ q. bar_as true (kind_of (effect_of d q)))
-bar_of d p (Step id) = bar_step (map.get p.made id) (λ q. bar_as false (kind_of (effect_of d q)))
-bar_of d p (Tx id) = bar_step (map.get p.made id) (λ q. Some OtherEffect)
-bar_of d p (Try id place holder) = bar_step (map.get p.made id) (λ q. Some OtherEffect)
+bar_of d p (Read id seen) = bar_step (map.get p.made id) (is_waiting d p id) (λ q. bar_as true (kind_of id (effect_of d q)))
+bar_of d p (Step id) = bar_step (map.get p.made id) (is_waiting d p id) (λ q. bar_as false (kind_of id (effect_of d q)))
+bar_of d p (Tx id) = bar_step (map.get p.made id) (is_waiting d p id) (λ q. Some OtherEffect)
+bar_of d p (Try id place holder) = bar_step (map.get p.made id) (is_waiting d p id) (λ q. Some OtherEffect)
 
 -- an entry: Ok exactly where it is enabled, and then the state is the one after it; else nothing changed, and the answer
 -- is what bars it, unless out of memory
@@ -65,7 +70,7 @@ Did d e p q (Err (NotEnabled b)) = (q ≡ p) × (after d p e ≡ None) × (bar_o
 abbrev pub DidStep : Deployment → IntentId → PlainState → PlainState → Result Unit PlainErr → Type 0
 DidStep d id p q (Ok u) = step d p id ≡ Some q
 DidStep d id p q (Err OutOfMemory) = q ≡ p
-DidStep d id p q (Err (NotEnabled b)) = (q ≡ p) × (step d p id ≡ None) × (bar_step (map.get p.made id) (λ q. bar_made (kind_of (effect_of d q))) ≡ Some b)
+DidStep d id p q (Err (NotEnabled b)) = (q ≡ p) × (step d p id ≡ None) × (bar_step (map.get p.made id) (is_waiting d p id) (λ q. bar_made (kind_of id (effect_of d q))) ≡ Some b)
 
 -- the next step of an instance, entered as a read or as a change
 abbrev pub Entered : Deployment → IntentId → Bool → PlainState → PlainState → Result Unit PlainErr → Type 0
@@ -79,11 +84,32 @@ pub record IsReady (d : Deployment) (p : PlainState) (id : IntentId) (m : Machin
   pub yet : instance.outcome ≡ None
   pub stands : StandsFor d instance m
 
+-- .. that does not wait for a callee
+pub record IsFree (d : Deployment) (p : PlainState) (id : IntentId) (m : Machine) : Type 0 where
+  pub ready : IsReady d p id m
+  pub free : is_waiting d p id ready.instance ≡ false
+
+-- .. and whose effect is carried out
+abbrev pub Makes : Deployment → PlainState → IntentId → Machine → Type 0
+Makes d p id m = IsFree d p id m × (is_none (bar_made (kind_of id m.effect)) ≡ true)
+
 -- where a step begins
 abbrev pub StandsAt : Deployment → PlainState → IntentId → Result Machine PlainErr → Type 0
 StandsAt d p id (Ok m) = IsReady d p id m
 StandsAt d p id (Err OutOfMemory) = Unit {0}
-StandsAt d p id (Err (NotEnabled b)) = (f : (Instance → Option Bar)) → bar_step (map.get p.made id) f ≡ Some b
+StandsAt d p id (Err (NotEnabled b)) = (w : (Instance → Bool)) (f : (Instance → Option Bar)) → bar_step (map.get p.made id) w f ≡ Some b
+
+-- .. where the instance may wait
+abbrev pub StandsFree : Deployment → PlainState → IntentId → Result Machine PlainErr → Type 0
+StandsFree d p id (Ok m) = IsFree d p id m
+StandsFree d p id (Err OutOfMemory) = Unit {0}
+StandsFree d p id (Err (NotEnabled b)) = (f : (Instance → Option Bar)) → bar_step (map.get p.made id) (is_waiting d p id) f ≡ Some b
+
+-- a transaction of an instance is not carried out yet
+abbrev pub Barred : Deployment → PlainState → PlainState → IntentId → Result Unit PlainErr → Type 0
+Barred d p q id (Ok u) = ⊥
+Barred d p q id (Err OutOfMemory) = q ≡ p
+Barred d p q id (Err (NotEnabled b)) = (q ≡ p) × (bar_step (map.get p.made id) (is_waiting d p id) (λ q. Some OtherEffect) ≡ Some b)
 
 -- the first entries were done, and these are left
 pub record Began (d : Deployment) (es : List Entry) (p q : PlainState) (left : List Entry) : Type 0 where

@@ -1,17 +1,19 @@
 -- The plain state, its step, and the state after an entry.
-use Rattle.std.specs.Prelude.{ℕ, suc, zero, false, List, [], ◌∷◌, ◌++◌, Option, Some, None}
+use Rattle.std.specs.Prelude.{ℕ, suc, zero, Bool, true, false, List, [], ◌∷◌, ◌++◌, length, Option, Some, None, is_some, if◌then◌else◌}
 use Rattle.std.specs.FinMap as map
 use Rattle.std.specs.FinMap.{FinMap}
-use Rattle.beldi_value.specs.Id.{id_cmp, root_of}
+use Rattle.beldi_value.specs.Id.{id_cmp, root_of, child_of, has_callees}
 use Rattle.beldi_value.specs.declared.id.IntentId.{IntentId}
 use Rattle.beldi_value.specs.declared.value.Value.{Value}
 use Rattle.beldi_value.specs.declared.outcome.Outcome.{Outcome}
+use Rattle.beldi_value.specs.declared.place.Caller.{Caller}
 use Rattle.beldi_tree.specs.declared.deployment.Deployment.{Deployment}
 use Rattle.beldi_lang.specs.declared.effect.Answer.{Answer}
 use Rattle.beldi_lang.specs.declared.effect.Answer.TheVariants as answer
 use Rattle.beldi_lang.specs.declared.effect.Effect.{Effect}
 use Rattle.beldi_lang.specs.declared.effect.Effect.TheVariants as effect
 use Rattle.beldi_tree.specs.Bindings.{or_null}
+use Rattle.beldi_lang.specs.Callee.{answer_of}
 use Rattle.beldi_lang.specs.Wants.{wants}
 use Rattle.beldi_book.specs.declared.entry.Entry.{Entry}
 use Rattle.beldi_book.specs.declared.entry.Entry.TheVariants.{Start, Read, Step, Tx, Try}
@@ -20,12 +22,18 @@ use Rattle.beldi_plain.specs.Operation.{Operation, OnItem, op_of, item_in, sets,
 use Rattle.beldi_plain.specs.declared.kind.Kind.{Kind}
 use Rattle.beldi_plain.specs.declared.kind.Kind.TheVariants as kinds
 
--- an instance of a function: what it was called with, what its effects were answered, and how it ended
+-- an instance of a function: what it was called with, who called it, what its effects were answered, and how it ended. A root
+-- has no caller.
 pub record Instance : Type 0 where
   pub func : ℕ
   pub args : Value
+  pub from : Option Caller
   pub answers : List Answer
   pub outcome : Option Outcome
+
+-- one that has made no step
+abbrev pub new_instance : ℕ → Value → Option Caller → Instance
+new_instance f a c = record { func = f; args = a; from = c; answers = []; outcome = None }
 
 -- the items that are not null, and the instances that were made
 pub record PlainState : Type 0 where
@@ -48,20 +56,32 @@ with_instance p id q = record p { made = map.insert p.made id q }
 abbrev pub effect_of : Deployment → Instance → Effect
 effect_of d q = wants d q.func q.args false q.answers
 
--- how an effect is entered in a book: a read as one, an operation on an item and a return as a change. The effects that the
--- host does not carry out yet are not entered.
-abbrev pub kind_of : Effect → Kind
-kind_of (effect.Read t k) = kinds.Read
-kind_of (effect.Write t k v) = kinds.Change
-kind_of (effect.CondWrite t k r o v) = kinds.Change
-kind_of (effect.Lock t k) = kinds.Change
-kind_of (effect.Unlock t k) = kinds.Change
-kind_of (effect.Return o) = kinds.Change
-kind_of (effect.Call f a) = kinds.Unbuilt
-kind_of (effect.Async f a) = kinds.Unbuilt
-kind_of effect.Begin = kinds.Unbuilt
-kind_of (effect.End b) = kinds.Unbuilt
-kind_of effect.Abort = kinds.Unbuilt
+-- how an effect of an instance is entered in a book: a read as one, an operation on an item, a call and a return as a change. The
+-- effects that the host does not carry out yet are not entered.
+abbrev pub kind_of : IntentId → Effect → Kind
+kind_of id (effect.Read t k) = kinds.Read
+kind_of id (effect.Write t k v) = kinds.Change
+kind_of id (effect.CondWrite t k r o v) = kinds.Change
+kind_of id (effect.Lock t k) = kinds.Change
+kind_of id (effect.Unlock t k) = kinds.Change
+kind_of id (effect.Return o) = kinds.Change
+kind_of id (effect.Call f a) = if has_callees id then kinds.Change else kinds.Unbuilt
+kind_of id (effect.Async f a) = kinds.Unbuilt
+kind_of id effect.Begin = kinds.Unbuilt
+kind_of id (effect.End b) = kinds.Unbuilt
+kind_of id effect.Abort = kinds.Unbuilt
+
+-- the id of what an instance calls at its next step, and who calls it
+abbrev pub callee_of : IntentId → Instance → IntentId
+callee_of id q = child_of id (length q.answers)
+
+abbrev pub calls_at : IntentId → Instance → Caller
+calls_at id q = record { place = record { intent = id; step = length q.answers }; func = q.func; waits = true }
+
+-- an instance waits at a call whose callee was made
+abbrev pub waits_at : FinMap id_cmp Instance → IntentId → Instance → Effect → Bool
+waits_at made id q (effect.Call f a) = is_some (map.get made (callee_of id q))
+waits_at made id q e = false
 
 abbrev pub answered : Instance → Answer → Instance
 answered q a = record q { answers = q.answers ++ a ∷ [] }
@@ -78,21 +98,47 @@ abbrev pub operated : PlainState → IntentId → Instance → Option OnItem →
 operated p id q None = p
 operated p id q (Some o) = operate p id q (item_in q.func o) o.does
 
--- what a step does, by the effect that the instance stands at: a read is answered by the item's value, and an operation on an
--- item is done. The other effects are not carried out yet.
+-- an instance ends
+abbrev pub ended : Instance → Outcome → Instance
+ended q o = record q { outcome = Some o }
+
+-- .. and is answered, if it is there
+abbrev pub give : PlainState → IntentId → Answer → Option Instance → PlainState
+give p id a None = p
+give p id a (Some q) = with_instance p id (answered q a)
+
+-- who waits for an instance is answered by its outcome
+abbrev pub answer_to : PlainState → Caller → Outcome → PlainState
+answer_to p c o = if c.waits then give p c.place.intent (answer_of o) (map.get p.made c.place.intent) else p
+
+abbrev pub answer_caller : PlainState → Option Caller → Outcome → PlainState
+answer_caller p None o = p
+answer_caller p (Some c) o = answer_to p c o
+
+-- what a step does, by the effect that the instance stands at: a read is answered by the item's value, an operation on an item is
+-- done, and a call makes its callee, which answers it when it returns. The other effects are not carried out yet.
 abbrev pub step_by : PlainState → IntentId → Instance → Effect → PlainState
 step_by p id q (effect.Read t k) = with_instance p id (answered q (answer.Value (value_at p (item_of q t k))))
-step_by p id q (effect.Return o) = with_instance p id (record q { outcome = Some o })
+step_by p id q (effect.Call f a) = with_instance p (callee_of id q) (new_instance f a (Some (calls_at id q)))
+step_by p id q (effect.Return o) = answer_caller (with_instance p id (ended q o)) q.from o
 step_by p id q e = operated p id q (op_of e)
 
--- what an instance comes to that was made and has no outcome; there is no step of any other
+-- what an instance comes to that was made, has no outcome and does not wait for a callee; there is no step of any other
 abbrev pub if_open : {X : Type 0} → Option Outcome → Option X → Option X
 if_open None x = x
 if_open (Some o) x = None
 
-abbrev pub can_step : {X : Type 0} → Option Instance → (Instance → Option X) → Option X
-can_step None f = None
-can_step (Some q) f = if_open q.outcome (f q)
+abbrev pub unless : {X : Type 0} → Bool → Option X → Option X
+unless true x = None
+unless false x = x
+
+abbrev pub can_step : {X : Type 0} → Option Instance → (Instance → Bool) → (Instance → Option X) → Option X
+can_step None w f = None
+can_step (Some q) w f = if_open q.outcome (unless (w q) (f q))
+
+-- the instance waits at the effect that it stands at
+abbrev pub is_waiting : Deployment → PlainState → IntentId → Instance → Bool
+is_waiting d p id q = waits_at p.made id q (effect_of d q)
 
 -- what there is only of an effect that is carried out ..
 abbrev pub if_built : {X : Type 0} → Kind → X → Option X
@@ -114,20 +160,20 @@ if_change kinds.Unbuilt x = None
 
 -- the state after the next step of an instance; none where its effect is not carried out yet
 abbrev pub step : Deployment → PlainState → IntentId → Option PlainState
-step d p id = can_step (map.get p.made id) (λ q. if_built (kind_of (effect_of d q)) (step_by p id q (effect_of d q)))
+step d p id = can_step (map.get p.made id) (is_waiting d p id) (λ q. if_built (kind_of id (effect_of d q)) (step_by p id q (effect_of d q)))
 
 -- a root is started once, and tickets begin at 1
 abbrev pub start : PlainState → ℕ → ℕ → Value → Option Instance → Option PlainState
 start p zero f a q = None
-start p (suc t) f a None = Some (with_instance p (root_of (suc t)) (record { func = f; args = a; answers = []; outcome = None }))
+start p (suc t) f a None = Some (with_instance p (root_of (suc t)) (new_instance f a None))
 start p (suc t) f a (Some q) = None
 
 -- the state after an entry; none where it is not enabled. An entry is enabled only as the next step of its instance, so
 -- a run has each step once. Transactions are not carried out yet.
 abbrev pub after : Deployment → PlainState → Entry → Option PlainState
 after d p (Start t f a) = start p t f a (map.get p.made (root_of t))
-after d p (Read id seen) = can_step (map.get p.made id) (λ q. if_read (kind_of (effect_of d q)) (step_by p id q (effect_of d q)))
-after d p (Step id) = can_step (map.get p.made id) (λ q. if_change (kind_of (effect_of d q)) (step_by p id q (effect_of d q)))
+after d p (Read id seen) = can_step (map.get p.made id) (is_waiting d p id) (λ q. if_read (kind_of id (effect_of d q)) (step_by p id q (effect_of d q)))
+after d p (Step id) = can_step (map.get p.made id) (is_waiting d p id) (λ q. if_change (kind_of id (effect_of d q)) (step_by p id q (effect_of d q)))
 after d p (Tx id) = None
 after d p (Try id place holder) = None
 

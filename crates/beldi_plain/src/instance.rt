@@ -1,25 +1,26 @@
 // An instance of a function.
-ghost use Rattle.std.specs.Prelude.{◌≡◌, ◌++◌, ◌∷◌, [], None, Some, option_copied, OnOk, OnErr, IfOk};
+ghost use Rattle.std.specs.Prelude.{◌≡◌, option_copied, OnOk, OnErr, IfOk};
 ghost use Rattle.beldi_lang.specs.Wants.{wants, wants_answer};
 ghost use Rattle.beldi_lang.specs.Machine.{IsAt};
 ghost use Rattle.beldi_lang.specs.declared.effect.Effect.TheVariants as effect;
 ghost use Rattle.beldi_lang.specs.declared.effect.Answer.TheVariants as answer;
 ghost use Rattle.beldi_value.specs.declared.value.Value.TheVariants as value;
-ghost use Rattle.beldi_plain.specs.Executor.{StandsFor, StandsAfter, Acted};
+ghost use Rattle.beldi_plain.specs.Executor.{StandsFor, StandsAfter, Acted, waiter};
 ghost use Rattle.beldi_plain.specs.Operation.{set_item};
-ghost use Rattle.beldi_plain.specs.Plain.{answered};
+ghost use Rattle.beldi_plain.specs.Plain.{answered, ended, new_instance};
 
 use crate::items::Items;
 use beldi_lang::{Answer, Deployment, Effect, Machine};
-use beldi_value::{Outcome, Str, Value};
+use beldi_value::{Caller, IntentId, Outcome, Str, Value};
 use std::alloc::{AllocError, Global};
 use std::marker::Model;
 
-/// What it was called with, what its effects were answered, and how it ended.
+/// What it was called with, who called it, what its effects were answered, and how it ended.
 #[derive(Drop)]
 pub struct Instance {
     func: u16,
     args: Value,
+    from: Option<Caller>,
     answers: Vec<Answer>,
     outcome: Option<Outcome>,
 }
@@ -32,20 +33,27 @@ impl Model for Instance {
 
     ghost coded = { coded_instance };
 
-    ghost view = { λ a. record { func = a.func; args = a.args; answers = a.answers.items; outcome = a.outcome } };
+    ghost view = { λ a. record { func = a.func; args = a.args; from = a.from; answers = a.answers.items; outcome = a.outcome } };
 }
 
 impl Instance {
     /// An instance that has made no step.
-    pub fn new(alloc: Global, func: u16, args: Value) -> Instance
-        ensures { result ≡ record { func = func; args = args; answers = []; outcome = None } }
+    pub fn new(alloc: Global, func: u16, args: Value, from: Option<Caller>) -> Instance
+        ensures { result ≡ new_instance func args from }
     {
         Instance {
             func,
             args,
+            from,
             answers: Vec::new(alloc),
             outcome: None,
         }
+    }
+
+    pub fn func(&self) -> u16
+        ensures { result ≡ self.now.func }
+    {
+        self.func
     }
 
     pub fn outcome(&self) -> Option<&Outcome>
@@ -57,6 +65,32 @@ impl Instance {
         }
     }
 
+    /// The id of who waits for it.
+    pub fn waiter(&self, alloc: Global) -> Result<Option<IntentId>, AllocError>
+        ensures { IfOk result (λ o. o ≡ waiter self.now.from) }
+    {
+        match &self.from {
+            Some(caller) if caller.waits => Ok(Some(caller.place.intent.copy(alloc)?)),
+            _ => Ok(None),
+        }
+    }
+
+    /// It is answered.
+    pub fn answer(&mut self, answer: Answer) -> Result<(), AllocError>
+        ensures ok { OnOk result (self.new ≡ answered self.old answer) }
+        ensures err { OnErr result (self.new ≡ self.old) }
+    {
+        self.answers.push(answer)?;
+        Ok(())
+    }
+
+    /// It ends.
+    pub fn end(&mut self, outcome: Outcome)
+        ensures { self.new ≡ ended self.old outcome }
+    {
+        self.outcome = Some(outcome);
+    }
+
     /// A machine that stands where its answers led. Its body is run from its start.
     pub fn machine(&self, alloc: Global, code: &Deployment) -> Result<Machine, AllocError>
         ensures { IfOk result (λ m. StandsFor code.now self.now m) }
@@ -64,7 +98,7 @@ impl Instance {
         machine_after(alloc, code, self.func, &self.args, self.answers.as_slice())
     }
 
-    /// Makes an effect, and gives the answer to it. One that is not carried out yet changes nothing.
+    /// Makes a read or an operation on an item, and gives the answer to it. Another effect changes nothing.
     pub fn make(
         &mut self,
         alloc: Global,
@@ -102,15 +136,12 @@ impl Instance {
                 self.answers.push(Answer::Done)?;
                 Ok(Some(Answer::Done))
             }
-            Effect::Return(outcome) => {
-                self.outcome = Some(outcome.copy(alloc)?);
-                Ok(None)
-            }
             Effect::Call { .. }
             | Effect::Async { .. }
             | Effect::Begin
             | Effect::End { .. }
-            | Effect::Abort => Ok(None),
+            | Effect::Abort
+            | Effect::Return(_) => Ok(None),
         }
     }
 
@@ -167,7 +198,8 @@ fn copy_answer(alloc: Global, answer: &Answer) -> Result<Answer, AllocError>
     }
 }
 
-fn is_answered(effect: &Effect) -> bool
+/// Whether the effect is answered.
+pub fn is_answered(effect: &Effect) -> bool
     ensures { result ≡ wants_answer effect.now }
 {
     !matches!(effect, Effect::Return(_))

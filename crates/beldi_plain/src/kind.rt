@@ -1,9 +1,10 @@
 // How an effect is entered in a book.
 ghost use Rattle.std.specs.Prelude.{◌≡◌, is_none};
 ghost use Rattle.beldi_plain.specs.Plain.{kind_of as kind_of_effect};
-ghost use Rattle.beldi_plain.specs.Answers.{bar_as};
+ghost use Rattle.beldi_plain.specs.Answers.{bar_as, bar_made};
 
 use beldi_lang::Effect;
+use beldi_value::IntentId;
 
 /// How an effect is entered in a book.
 #[derive(Clone, Copy, Debug, PartialEq, Eq)]
@@ -14,8 +15,8 @@ pub enum Kind {
     Unbuilt,
 }
 
-pub fn kind_of(effect: &Effect) -> Kind
-    ensures { result ≡ kind_of_effect effect.now }
+pub fn kind_of(id: &IntentId, effect: &Effect) -> Kind
+    ensures { result ≡ kind_of_effect id.now effect.now }
 {
     match effect {
         Effect::Read { .. } => Kind::Read,
@@ -24,6 +25,7 @@ pub fn kind_of(effect: &Effect) -> Kind
         | Effect::Lock { .. }
         | Effect::Unlock { .. }
         | Effect::Return(_) => Kind::Change,
+        Effect::Call { .. } if id.has_callees() => Kind::Change,
         Effect::Call { .. }
         | Effect::Async { .. }
         | Effect::Begin
@@ -33,6 +35,16 @@ pub fn kind_of(effect: &Effect) -> Kind
 }
 
 impl Kind {
+    /// Whether it is carried out.
+    pub fn is_made(self) -> bool
+        ensures { result ≡ is_none (bar_made self) }
+    {
+        match self {
+            Kind::Read | Kind::Change => true,
+            Kind::Unbuilt => false,
+        }
+    }
+
     /// Whether it is entered as a read, or else as a change, as `reads` says.
     pub fn is_entered(self, reads: bool) -> bool
         ensures { result ≡ is_none (bar_as reads self) }

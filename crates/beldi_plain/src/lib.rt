@@ -1,7 +1,7 @@
 //! The plain machine: a run of functions on plain maps, with no rows, runs, crashes or clock. It says what a book means,
 //! and carries one out.
-//! It stands on `beldi_lang` and `beldi_book`. Its definitions: `specs/Plain` (the plain state, its step, the enabled
-//! entry and the state after it), `specs/Item` (an item and its order), `specs/Legal` (the legal book and its run),
+//! It stands on `beldi_check`, `beldi_lang` and `beldi_book`. Its definitions: `specs/Plain` (the plain state, its step, the
+//! enabled entry and the state after it), `specs/Item` (an item and its order), `specs/Legal` (the legal book and its run),
 //! `specs/Listing` (the listing of a plain state), `specs/Answers` (what a call answers, and what bars an entry),
 //! `specs/Executor` (what contracts see of the executor, and which machines it keeps) and `specs/ByTable` (the items table
 //! by table).
@@ -9,6 +9,8 @@
 //! Proved:
 //! - `Plain::start` and `carry_out` succeed just where the entry is enabled, and else say what bars it and change
 //!   nothing (`Did`); `step` makes the next step of an instance, whatever it is (`DidStep`).
+//! - A call makes its callee, whose caller waits until it returns and is then answered by its outcome: a value, a fault or an
+//!   abort (`step_by`, `answer_caller`). An instance that waits has no step (`is_waiting`).
 //! - `Plain::run` runs a book in its linear order, or stops at the first entry that is not enabled (`Ran`).
 //! - `reply`, `value` and `tables` read its state (`reply_of`, `value_at`; `ok`, `err`).
 #![tactic(auto)]
@@ -19,6 +21,7 @@ mod instances;
 mod items;
 mod kind;
 mod machines;
+mod next;
 mod plain;
 mod state;
 mod tables;

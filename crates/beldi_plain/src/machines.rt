@@ -1,8 +1,11 @@
 // The machines of instances that have not returned, as far as they are kept.
 ghost use Rattle.std.specs.Prelude.{◌≡◌};
 ghost use Rattle.std.specs.FinMap as map;
-ghost use Rattle.beldi_plain.specs.Executor.{IsKept, GoesOn};
+ghost use Rattle.beldi_lang.specs.Machine.{resumed};
+ghost use Rattle.beldi_plain.specs.Executor.{IsKept, Passes, Follows};
 
+use crate::instance::is_answered;
+use crate::next::Next;
 use beldi_lang::{Answer, Deployment, Machine};
 use beldi_value::IntentId;
 use std::alloc::Global;
@@ -54,24 +57,70 @@ impl Machines {
         }
     }
 
-    // The machine goes on from this answer, and is kept where there is memory. Without an answer it is not kept.
-    pub fn go_on(
+    // No machine of this id is kept.
+    fn forget(&mut self, id: &IntentId)
+        ensures { self.new ≡ map.remove self.old id.now }
+    {
+        drop(self.take(id));
+    }
+
+    // The machine of an instance that ended is not kept.
+    fn end(&mut self, id: IntentId, machine: Machine)
+        ensures { self.new ≡ map.remove self.old id }
+    {
+        drop(machine);
+        self.forget(&id);
+    }
+
+    // The machine goes on from this answer, and is kept where there is memory.
+    fn go_on(
         &mut self,
         alloc: Global,
         code: &Deployment,
         id: IntentId,
         machine: Machine,
-        answer: Option<Answer>,
+        answer: Answer,
     )
-        ensures { GoesOn code.now self.old self.new id machine answer }
+        ensures { IsKept self.old self.new id (resumed code.now machine answer) }
     {
-        let Some(answer) = answer else {
-            drop(self.take(&id));
-            return;
-        };
         match machine.resume(alloc, code, answer) {
             Ok(next) => self.keep(id, next),
-            Err(_) => drop(self.take(&id)),
+            Err(_) => self.forget(&id),
+        }
+    }
+
+    // The machine that is kept for who is answered goes on.
+    fn answer(&mut self, alloc: Global, code: &Deployment, id: IntentId, answer: Answer)
+        ensures { Passes code.now self.old self.new id answer }
+    {
+        let Some(machine) = self.take(&id) else {
+            drop(answer);
+            return;
+        };
+        if is_answered(machine.wants()) {
+            self.go_on(alloc, code, id, machine, answer);
+        }
+    }
+
+    // Follows a step of the machine that stood for this instance.
+    pub fn follow(
+        &mut self,
+        alloc: Global,
+        code: &Deployment,
+        id: IntentId,
+        machine: Machine,
+        next: Next,
+    )
+        ensures { Follows code.now self.old self.new id machine next }
+    {
+        match next {
+            Next::Answered(answer) => self.go_on(alloc, code, id, machine, answer),
+            Next::Stays => self.keep(id, machine),
+            Next::Ended => self.end(id, machine),
+            Next::Tells(waiter, answer) => {
+                self.end(id, machine);
+                self.answer(alloc, code, waiter, answer);
+            }
         }
     }
 }

@@ -4,17 +4,17 @@ ghost use Rattle.std.specs.FinMap as map;
 ghost use Rattle.beldi_book.specs.declared.entry.Entry.TheVariants.{Start};
 ghost use Rattle.beldi_book.specs.Order.{linear};
 ghost use Rattle.beldi_plain.specs.Plain.{Instance, nothing, value_at, reply_of, step_by};
-ghost use Rattle.beldi_plain.specs.Answers.{Did, DidStep, Entered, Ran, IsReady, StandsAt, bar_step};
-ghost use Rattle.beldi_plain.specs.declared.plain.Bar.TheVariants.{OtherEffect};
+ghost use Rattle.beldi_plain.specs.Answers.{Did, DidStep, Entered, Ran, Barred, IsReady, Makes, StandsAt, StandsFree};
 ghost use Rattle.beldi_plain.specs.declared.plain.PlainErr.TheVariants.{OutOfMemory};
 ghost use Rattle.beldi_plain.specs.Listing.{listing_of};
 
 use crate::instance::Instance;
-use crate::kind::{Kind, kind_of};
+use crate::kind::kind_of;
 use crate::machines::Machines;
 use crate::state::State;
 use beldi_book::{Book, Entry};
-use beldi_lang::{Deployment, Machine};
+use beldi_check::Checked;
+use beldi_lang::Machine;
 use beldi_value::{IntentId, Outcome, Str, Value};
 use std::alloc::{AllocError, Global};
 use std::marker::Model;
@@ -46,6 +46,8 @@ pub enum Bar {
     NotStarted,
     /// The instance has returned.
     Over,
+    /// The instance waits for a callee, which has not returned.
+    Waiting,
     /// The entry is a read, and the instance does not stand at one; or it is a step, and it does; or the instance stands at
     /// an effect that is not carried out yet.
     OtherEffect,
@@ -55,7 +57,7 @@ pub enum Bar {
 #[derive(Drop)]
 pub struct Plain<'a> {
     alloc: Global,
-    code: &'a Deployment,
+    code: &'a Checked,
     state: State,
     machines: Machines,
 }
@@ -75,7 +77,7 @@ impl<'a> Model for Plain<'a> {
 
 impl<'a> Plain<'a> {
     /// Neither items nor instances. It runs the bodies of this deployment.
-    pub fn new(alloc: Global, code: &'a Deployment) -> Plain<'a>
+    pub fn new(alloc: Global, code: &'a Checked) -> Plain<'a>
         ensures { result ≡ record { code = code.now; state = nothing } }
     {
         Plain {
@@ -96,7 +98,7 @@ impl<'a> Plain<'a> {
             return Err(PlainErr::NotEnabled(Bar::AlreadyStarted));
         }
         self.state
-            .set_instance(id, Instance::new(self.alloc, func, args))?;
+            .set_instance(id, Instance::new(self.alloc, func, args, None))?;
         Ok(())
     }
 
@@ -107,7 +109,7 @@ impl<'a> Plain<'a> {
     {
         let id = id.copy(self.alloc)?;
         let machine = self.machine(&id)?;
-        if matches!(kind_of(machine.wants()), Kind::Unbuilt) {
+        if !kind_of(&id, machine.wants()).is_made() {
             self.keep(id, machine);
             return Err(PlainErr::NotEnabled(Bar::OtherEffect));
         }
@@ -122,7 +124,7 @@ impl<'a> Plain<'a> {
     {
         let id = id.copy(self.alloc)?;
         let machine = self.machine(&id)?;
-        if !kind_of(machine.wants()).is_entered(reads) {
+        if !kind_of(&id, machine.wants()).is_entered(reads) {
             self.keep(id, machine);
             return Err(PlainErr::NotEnabled(Bar::OtherEffect));
         }
@@ -130,8 +132,24 @@ impl<'a> Plain<'a> {
         Ok(())
     }
 
-    // The machine of an instance that has not returned: the one that is kept, or else one that its answers lead anew.
+    // The machine of an instance that has not returned, and does not wait.
     fn machine(&mut self, id: &IntentId) -> Result<Machine, PlainErr>
+        ensures same { self.new ≡ self.old }
+        ensures stands { StandsFree self.old.code self.old.state id.now result }
+    {
+        let machine = self.open(id)?;
+        let waits = self
+            .state
+            .waits(self.alloc, id, machine.steps(), machine.wants())?;
+        if waits {
+            self.keep(id.copy(self.alloc)?, machine);
+            return Err(PlainErr::NotEnabled(Bar::Waiting));
+        }
+        Ok(machine)
+    }
+
+    // The machine of an instance that has not returned: the one that is kept, or else one that its answers lead anew.
+    fn open(&mut self, id: &IntentId) -> Result<Machine, PlainErr>
         ensures same { self.new ≡ self.old }
         ensures stands { StandsAt self.old.code self.old.state id.now result }
     {
@@ -160,7 +178,7 @@ impl<'a> Plain<'a> {
         if found.outcome().is_some() {
             return Err(PlainErr::NotEnabled(Bar::Over));
         }
-        Ok(found.machine(self.alloc, self.code)?)
+        Ok(found.machine(self.alloc, self.code.code())?)
     }
 
     // Keeps the machine of an instance, where there is memory.
@@ -171,23 +189,25 @@ impl<'a> Plain<'a> {
         self.machines.keep(id, machine);
     }
 
-    // The effect that the machine wants is made, and the machine goes on.
+    // The effect that the machine wants is made, and the machines go on.
     fn make(&mut self, id: IntentId, machine: Machine) -> Result<(), AllocError>
-        requires { IsReady self.old.code self.old.state id machine }
+        requires { Makes self.old.code self.old.state id machine }
         ensures code { self.new.code ≡ self.old.code }
         ensures ok { (q : Instance) → map.get self.old.state.made id ≡ Some q → OnOk result (self.new.state ≡ step_by self.old.state id q machine.effect) }
         ensures err { OnErr result (self.new.state ≡ self.old.state) }
     {
-        let made = self.state.make(self.alloc, &id, machine.wants());
-        let answer = match made {
-            Ok(answer) => answer,
+        let made = self
+            .state
+            .make(self.alloc, &id, machine.steps(), machine.wants());
+        let next = match made {
+            Ok(next) => next,
             Err(error) => {
                 drop(machine);
                 return Err(error);
             }
         };
         self.machines
-            .go_on(self.alloc, self.code, id, machine, answer);
+            .follow(self.alloc, self.code.code(), id, machine, next);
         Ok(())
     }
 
@@ -202,21 +222,19 @@ impl<'a> Plain<'a> {
             }
             Entry::Read { id, .. } => self.enter(id, true),
             Entry::Step { id } => self.enter(id, false),
-            Entry::Tx { id } | Entry::Try { id, .. } => Err(PlainErr::NotEnabled(self.bar_of_tx(
-                id,
-            ))),
+            Entry::Tx { id } | Entry::Try { id, .. } => self.refuse(id),
         }
     }
 
-    // What bars a transaction of an instance: none is carried out yet.
-    fn bar_of_tx(&self, id: &IntentId) -> Bar
-        ensures { bar_step (map.get self.now.state.made id.now) (λ q. Some OtherEffect) ≡ Some result }
+    // A transaction of an instance is not carried out yet.
+    fn refuse(&mut self, id: &IntentId) -> Result<(), PlainErr>
+        ensures code { self.new.code ≡ self.old.code }
+        ensures barred { Barred self.old.code self.old.state self.new.state id.now result }
     {
-        match self.state.instance(id) {
-            None => Bar::NotStarted,
-            Some(found) if found.outcome().is_some() => Bar::Over,
-            Some(_) => Bar::OtherEffect,
-        }
+        let id = id.copy(self.alloc)?;
+        let machine = self.machine(&id)?;
+        self.keep(id, machine);
+        Err(PlainErr::NotEnabled(Bar::OtherEffect))
     }
 
     /// Carries out the entries of a book in the order in which they took effect, up to the first that is not enabled.
@@ -260,7 +278,7 @@ impl<'a> Plain<'a> {
         ensures ok { OnOk result (out.new ≡ out.old ++ listing_of self.now.code self.now.state) }
         ensures err { OnErr result (out.new ≡ out.old) }
     {
-        self.state.write(self.alloc, self.code, out)
+        self.state.write(self.alloc, self.code.code(), out)
     }
 
     /// The value of an item, null where it was never set.

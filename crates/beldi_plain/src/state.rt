@@ -1,15 +1,18 @@
 // The plain state on ordered maps in memory.
-ghost use Rattle.std.specs.Prelude.{◌≡◌, ◌++◌, Some, OnOk, OnErr, option_copied};
+ghost use Rattle.std.specs.Prelude.{◌≡◌, ◌++◌, ◌<◌, ◌≤◌, length, Some, true, is_none, OnOk, OnErr, IfOk, option_copied};
 ghost use Rattle.std.specs.FinMap as map;
-ghost use Rattle.beldi_plain.specs.Plain.{Instance, nothing, value_at, with_instance};
-ghost use Rattle.beldi_plain.specs.Executor.{Made};
+ghost use Rattle.beldi_lang.specs.declared.effect.Effect.TheVariants as effect;
+ghost use Rattle.beldi_plain.specs.Plain.{Instance, nothing, value_at, with_instance, kind_of, waits_at};
+ghost use Rattle.beldi_plain.specs.Executor.{Made, IsActed, IsNumber};
+ghost use Rattle.beldi_plain.specs.Answers.{bar_made};
 ghost use Rattle.beldi_plain.specs.Listing.{listing_of};
 
 use crate::instance::Instance;
 use crate::instances::Instances;
 use crate::items::Items;
+use crate::next::Next;
 use beldi_lang::{Answer, Deployment, Effect};
-use beldi_value::{IntentId, Str, Value};
+use beldi_value::{Caller, IntentId, Outcome, Place, Str, Value};
 use std::alloc::{AllocError, Global};
 use std::marker::Model;
 
@@ -54,22 +57,107 @@ impl State {
     }
 
     pub fn set_instance(&mut self, id: IntentId, instance: Instance) -> Result<(), AllocError>
+        requires { length id.hops ≤ 63 }
         ensures ok { OnOk result (self.new ≡ with_instance self.old id instance) }
         ensures err { OnErr result (self.new ≡ self.old) }
     {
         self.made.set(id, instance)
     }
 
-    /// An instance that was made makes this effect, and is answered.
+    /// Whether an instance waits at this effect, its step of this number, for a callee that was made.
+    pub fn waits(
+        &self,
+        alloc: Global,
+        id: &IntentId,
+        step: u32,
+        effect: &Effect,
+    ) -> Result<bool, AllocError>
+        ensures { IfOk result (λ b. (q : Instance) → IsNumber step q effect.now → b ≡ waits_at self.now.made id.now q effect.now) }
+    {
+        match effect {
+            Effect::Call { .. } => self.made.has_callee(alloc, id, step),
+            _ => Ok(false),
+        }
+    }
+
+    /// An instance that was made makes this effect, its step of this number.
     pub fn make(
         &mut self,
         alloc: Global,
         id: &IntentId,
+        step: u32,
         effect: &Effect,
-    ) -> Result<Option<Answer>, AllocError>
-        ensures { (q : Instance) → map.get self.old.made id.now ≡ Some q → Made self.old self.new id.now q effect.now result }
+    ) -> Result<Next, AllocError>
+        requires { is_none (bar_made (kind_of id.now effect.now)) ≡ true }
+        ensures { (q : Instance) → map.get self.old.made id.now ≡ Some q → IsNumber step q effect.now → Made self.old self.new id.now q effect.now result }
     {
-        self.made.make(alloc, id, &mut self.items, effect)
+        match effect {
+            Effect::Call { func, args } => self.call(alloc, id, step, *func, args),
+            Effect::Return(outcome) => self.end(alloc, id, outcome),
+            _ => self.act(alloc, id, effect),
+        }
+    }
+
+    // An instance makes a read or an operation on an item.
+    fn act(&mut self, alloc: Global, id: &IntentId, effect: &Effect) -> Result<Next, AllocError>
+        ensures { (q : Instance) → map.get self.old.made id.now ≡ Some q → IsActed self.old self.new id.now q effect.now result }
+    {
+        match self.made.make(alloc, id, &mut self.items, effect)? {
+            Some(answer) => Ok(Next::Answered(answer)),
+            None => Ok(Next::Stays),
+        }
+    }
+
+    // An instance makes its callee.
+    fn call(
+        &mut self,
+        alloc: Global,
+        id: &IntentId,
+        step: u32,
+        func: u16,
+        args: &Value,
+    ) -> Result<Next, AllocError>
+        requires { length id.now.hops < 63 }
+        ensures { (q : Instance) → map.get self.old.made id.now ≡ Some q → step ≡ length q.answers → Made self.old self.new id.now q (effect.Call func args.now) result }
+    {
+        let Some(found) = self.made.get(id) else {
+            return Ok(Next::Stays);
+        };
+        let caller = Caller {
+            place: Place {
+                intent: id.copy(alloc)?,
+                step,
+            },
+            func: found.func(),
+            waits: true,
+        };
+        let callee = Instance::new(alloc, func, args.copy(alloc)?, Some(caller));
+        self.made.set(id.child(alloc, step)?, callee)?;
+        Ok(Next::Stays)
+    }
+
+    // An instance ends, and who waits for it is answered.
+    fn end(&mut self, alloc: Global, id: &IntentId, outcome: &Outcome) -> Result<Next, AllocError>
+        ensures { (q : Instance) → map.get self.old.made id.now ≡ Some q → Made self.old self.new id.now q (effect.Return outcome.now) result }
+    {
+        let Some(found) = self.made.get(id) else {
+            return Ok(Next::Ended);
+        };
+        let waiter = found.waiter(alloc)?;
+        let ended = outcome.copy(alloc)?;
+        match waiter {
+            None => {
+                self.made.end(id, ended);
+                Ok(Next::Ended)
+            }
+            Some(waiter) => {
+                let answer = Answer::of_callee(outcome.copy(alloc)?);
+                self.made
+                    .answer(&waiter, Answer::of_callee(outcome.copy(alloc)?))?;
+                self.made.end(id, ended);
+                Ok(Next::Tells(waiter, answer))
+            }
+        }
     }
 
     /// The value of an item, null where it was never set.

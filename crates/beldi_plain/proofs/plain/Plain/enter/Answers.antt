@@ -2,7 +2,7 @@ use Rattle.std.proofs.Common.{rules, ◌∙◌, sym, ap, subst, Err}
 use Rattle.beldi_value.specs.declared.id.IntentId.{IntentId}
 use Rattle.beldi_plain.specs.Plain.{PlainState}
 use Rattle.beldi_plain.specs.Executor.{Executor}
-use Rattle.beldi_plain.specs.Answers.{IsReady, Entered}
+use Rattle.beldi_plain.specs.Answers.{IsFree, Entered}
 use Rattle.beldi_plain.specs.declared.plain.Bar.TheVariants.{OtherEffect}
 use Rattle.beldi_plain.specs.declared.plain.PlainErr.TheVariants.{NotEnabled}
 use Rattle.beldi_plain.proofs.Bars.{other_effect}
@@ -13,6 +13,6 @@ returns-then-not-is_entered-clause-did c =
     let d = c.args.self.now.code in
     let p = c.args.self.now.state in
     let m = c.in_ok-machine.machine in
-    let ready = subst (λ (i : IntentId). IsReady d p i m) c.in_ok-id.ensures c.in_ok-machine.ensures.stands in
+    let ready = subst (λ (i : IntentId). IsFree d p i m) c.in_ok-id.ensures c.in_ok-machine.ensures.stands in
     let same = ap (λ (x : Executor). x.state) (c.keep.ensures ∙ c.in_ok-machine.ensures.same) in
     subst (λ (q : PlainState). Entered d c.args.id.now c.args.reads p q (Err (NotEnabled OtherEffect))) (sym same) (other_effect d p c.args.id.now c.args.reads m ready (search rules))
