@@ -1,24 +1,26 @@
 -- What every entry does, and what it keeps.
-use Rattle.std.proofs.Common.{◌≡◌, ℕ, zero, suc, true, false, cond, List, [], ◌∷◌, ◌++◌, Option, None, Some, refl, ap, sym, ◌∙◌, subst, append-nil, append_assoc}
-use Rattle.std.specs.Prelude.{option_and_then}
+use Rattle.std.proofs.Common.{◌≡◌, ℕ, zero, suc, Bool, true, false, cond, List, [], ◌∷◌, ◌++◌, Option, None, Some, refl, ap, sym, ◌∙◌, subst, append-nil, append_assoc}
+use Rattle.std.specs.Prelude.{option_and_then, is_some, if◌then◌else◌}
 use Rattle.std.specs.FinMap as map
 use Rattle.std.specs.FinMap.{FinMap, IsAntisymmetric, get-insert}
 use Rattle.std.specs.Cmp.{Equal-is}
 use Rattle.std.specs.Ordering.{is_eq}
 use Rattle.std.specs.declared.cmp.Ordering.{Ordering}
-use Rattle.beldi_value.specs.Id.{root_of, id_cmp, id_total, id_exact}
+use Rattle.beldi_value.specs.Id.{root_of, has_callees, id_cmp, id_total, id_exact}
 use Rattle.beldi_value.specs.declared.id.IntentId.{IntentId}
 use Rattle.beldi_value.specs.declared.outcome.Outcome.{Outcome}
+use Rattle.beldi_value.specs.declared.place.Caller.{Caller}
 use Rattle.beldi_value.specs.declared.value.Value.{Value}
 use Rattle.beldi_tree.specs.declared.deployment.Deployment.{Deployment}
 use Rattle.beldi_lang.specs.declared.effect.Answer.{Answer}
 use Rattle.beldi_lang.specs.declared.effect.Answer.TheVariants as answer
 use Rattle.beldi_lang.specs.declared.effect.Effect.{Effect}
 use Rattle.beldi_lang.specs.declared.effect.Effect.TheVariants as effect
+use Rattle.beldi_lang.specs.Callee.{answer_of}
 use Rattle.beldi_book.specs.declared.entry.Entry.{Entry}
 use Rattle.beldi_book.specs.declared.entry.Entry.TheVariants.{Start, Read, Step, Tx, Try}
 use Rattle.beldi_order.specs.Grown.{Grown, GrownAt, Grows}
-use Rattle.beldi_plain.specs.Plain.{Instance, PlainState, after, start, can_step, if_open, if_read, if_change, step_by, operated, with_instance, answered, effect_of, kind_of, item_of, value_at}
+use Rattle.beldi_plain.specs.Plain.{Instance, PlainState, new_instance, after, start, can_step, if_open, unless, if_read, if_change, step_by, operated, with_instance, answered, ended, give, answer_caller, callee_of, calls_at, effect_of, kind_of, waits_at, is_waiting, item_of, value_at}
 use Rattle.beldi_plain.specs.Legal.{run_from}
 use Rattle.beldi_plain.specs.Operation.{OnItem, op_of, item_in, answer_after}
 use Rattle.beldi_plain.specs.declared.kind.Kind.{Kind}
@@ -72,19 +74,17 @@ one_more d p e = by_option (after d p e)
     by_option (Some q) = refl
 
 -- ---- what an entry that is enabled does
-abbrev pub new_instance : ℕ → Value → Instance
-new_instance f a = record { func = f; args = a; answers = []; outcome = None }
-
 pub record Started (p : PlainState) (t f : ℕ) (a : Value) (q : PlainState) : Type 0 where
   pub absent : map.get p.made (root_of t) ≡ None
-  pub leads : with_instance p (root_of t) (new_instance f a) ≡ q
+  pub leads : with_instance p (root_of t) (new_instance f a None) ≡ q
 
 -- the next step of an instance, which is of this kind
 pub record Stepped (d : Deployment) (p : PlainState) (id : IntentId) (k : Kind) (q : PlainState) : Type 0 where
   pub instance : Instance
   pub made : map.get p.made id ≡ Some instance
   pub open_still : instance.outcome ≡ None
-  pub kind : kind_of (effect_of d instance) ≡ k
+  pub free : is_waiting d p id instance ≡ false
+  pub kind : kind_of id (effect_of d instance) ≡ k
   pub leads : step_by p id instance (effect_of d instance) ≡ q
 
 abbrev pub Did : Deployment → PlainState → Entry → PlainState → Type 0
@@ -109,13 +109,23 @@ if_change_is kinds.Read x q h = cc
 if_change_is kinds.Change x q h = (refl, same_some h)
 if_change_is kinds.Unbuilt x q h = cc
 
+unless_is : (b : Bool) (o : Option PlainState) (q : PlainState) → unless b o ≡ Some q → (b ≡ false) × (o ≡ Some q)
+unless_is true o q h = cc
+unless_is false o q h = (refl, h)
+
 module _ (d : Deployment) (p : PlainState) (id : IntentId) (b : Kind) (q : PlainState) (enter : Kind → PlainState → Option PlainState)
     (enters : (k : Kind) (x y : PlainState) → enter k x ≡ Some y → (k ≡ b) × (x ≡ y)) where
-  by_outcome : (i : Instance) (o : Option Outcome) → map.get p.made id ≡ Some i → i.outcome ≡ o → if_open o (enter (kind_of (effect_of d i)) (step_by p id i (effect_of d i))) ≡ Some q → Stepped d p id b q
-  by_outcome i None is none h = let t = enters (kind_of (effect_of d i)) (step_by p id i (effect_of d i)) q h in record { instance = i; made = is; open_still = none; kind = t.0; leads = t.1 }
+  abbrev entered : Instance → Option PlainState
+  entered i = enter (kind_of id (effect_of d i)) (step_by p id i (effect_of d i))
+
+  by_outcome : (i : Instance) (o : Option Outcome) → map.get p.made id ≡ Some i → i.outcome ≡ o → if_open o (unless (is_waiting d p id i) (entered i)) ≡ Some q → Stepped d p id b q
+  by_outcome i None is none h =
+      let u = unless_is (is_waiting d p id i) (entered i) q h in
+      let t = enters (kind_of id (effect_of d i)) (step_by p id i (effect_of d i)) q u.1 in
+      record { instance = i; made = is; open_still = none; free = u.0; kind = t.0; leads = t.1 }
   by_outcome i (Some o) is some h = cc
 
-  stepped : (o : Option Instance) → map.get p.made id ≡ o → can_step o (λ i. enter (kind_of (effect_of d i)) (step_by p id i (effect_of d i))) ≡ Some q → Stepped d p id b q
+  stepped : (o : Option Instance) → map.get p.made id ≡ o → can_step o (is_waiting d p id) entered ≡ Some q → Stepped d p id b q
   stepped None is h = cc
   stepped (Some i) is h = by_outcome i i.outcome is refl h
 
@@ -127,22 +137,47 @@ did d p (Tx id) q h = cc
 did d p (Try id place holder) q h = cc
 
 -- ---- and what is so is enabled
-pub enabled_read : (d : Deployment) (p : PlainState) (id : IntentId) (s : ℕ) (i : Instance) → map.get p.made id ≡ Some i → i.outcome ≡ None → kind_of (effect_of d i) ≡ kinds.Read → after d p (Read id s) ≡ Some (step_by p id i (effect_of d i))
-enabled_read d p id s i is none kind =
-    ap (λ o. can_step o (λ j. if_read (kind_of (effect_of d j)) (step_by p id j (effect_of d j)))) is
-    ∙ ap (λ o. if_open o (if_read (kind_of (effect_of d i)) (step_by p id i (effect_of d i)))) none
-    ∙ ap (λ k. if_read k (step_by p id i (effect_of d i))) kind
+no_call : (b : Bool) → (if b then kinds.Change else kinds.Unbuilt) ≡ kinds.Read → ⊥
+no_call true h = cc
+no_call false h = cc
 
-pub enabled_step : (d : Deployment) (p : PlainState) (id : IntentId) (i : Instance) → map.get p.made id ≡ Some i → i.outcome ≡ None → kind_of (effect_of d i) ≡ kinds.Change → after d p (Step id) ≡ Some (step_by p id i (effect_of d i))
-enabled_step d p id i is none kind =
-    ap (λ o. can_step o (λ j. if_change (kind_of (effect_of d j)) (step_by p id j (effect_of d j)))) is
-    ∙ ap (λ o. if_open o (if_change (kind_of (effect_of d i)) (step_by p id i (effect_of d i)))) none
-    ∙ ap (λ k. if_change k (step_by p id i (effect_of d i))) kind
+-- what is entered as a read is one
+pub read_is : (id : IntentId) (e : Effect) → kind_of id e ≡ kinds.Read → (t : ℕ) × (k : List ℕ) × (e ≡ effect.Read t k)
+read_is id (effect.Read t k) h = (t, k, refl)
+read_is id (effect.Call f a) h = absurd (no_call (has_callees id) h)
+read_is id e h = cc
+
+-- an instance at a read, an operation or a return waits for nobody
+module _ (made : FinMap id_cmp Instance) (id : IntentId) (q : Instance) where
+  pub free_at_read : (e : Effect) → kind_of id e ≡ kinds.Read → waits_at made id q e ≡ false
+  free_at_read e h = ap (waits_at made id q) (read_is id e h).2
+
+  pub free_at_operation : (e : Effect) (o : OnItem) → op_of e ≡ Some o → waits_at made id q e ≡ false
+  free_at_operation (effect.Call f a) o h = cc
+  free_at_operation e o h = refl
+
+  pub free_at_return : (e : Effect) (o : Outcome) → e ≡ effect.Return o → waits_at made id q e ≡ false
+  free_at_return e o h = ap (waits_at made id q) h
+
+module _ (d : Deployment) (p : PlainState) (id : IntentId) (i : Instance) (is : map.get p.made id ≡ Some i) (none : i.outcome ≡ None) (free : is_waiting d p id i ≡ false) where
+  enabled : (enter : Kind → PlainState → Option PlainState) (k : Kind) → kind_of id (effect_of d i) ≡ k → can_step (map.get p.made id) (is_waiting d p id) (λ j. enter (kind_of id (effect_of d j)) (step_by p id j (effect_of d j))) ≡ enter k (step_by p id i (effect_of d i))
+  enabled enter k kind =
+      let entered = enter (kind_of id (effect_of d i)) (step_by p id i (effect_of d i)) in
+      ap (λ o. can_step o (is_waiting d p id) (λ j. enter (kind_of id (effect_of d j)) (step_by p id j (effect_of d j)))) is
+      ∙ ap (λ o. if_open o (unless (is_waiting d p id i) entered)) none
+      ∙ ap (λ b. unless b entered) free
+      ∙ ap (λ u. enter u (step_by p id i (effect_of d i))) kind
+
+  pub enabled_read : (s : ℕ) → kind_of id (effect_of d i) ≡ kinds.Read → after d p (Read id s) ≡ Some (step_by p id i (effect_of d i))
+  enabled_read s kind = enabled (λ k x. if_read k x) kinds.Read kind
+
+  pub enabled_step : kind_of id (effect_of d i) ≡ kinds.Change → after d p (Step id) ≡ Some (step_by p id i (effect_of d i))
+  enabled_step kind = enabled (λ k x. if_change k x) kinds.Change kind
 
 -- ---- instances only go on
 grown_self : (o : Option Instance) → GrownAt o o
 grown_self None = tt
-grown_self (Some i) = record { func = refl; args = refl; later = []; more = append-nil i.answers; over = λ o h. h }
+grown_self (Some i) = record { func = refl; args = refl; from = refl; later = []; more = append-nil i.answers; over = λ o h. h }
 
 grown_on : (x y z : Option Instance) → GrownAt x y → GrownAt y z → GrownAt x z
 grown_on None y z g h = tt
@@ -151,6 +186,7 @@ grown_on (Some i) (Some j) None g h = absurd h
 grown_on (Some i) (Some j) (Some k) g h = record {
   func = h.func ∙ g.func;
   args = h.args ∙ g.args;
+  from = h.from ∙ g.from;
   later = g.later ++ h.later;
   more = sym (append_assoc i.answers g.later h.later) ∙ ap (λ xs. xs ++ h.later) g.more ∙ h.more;
   over = λ o is. h.over o (g.over o is);
@@ -159,14 +195,17 @@ grown_on (Some i) (Some j) (Some k) g h = record {
 pub grows_self : (f : FinMap id_cmp Instance) → Grows f f
 grows_self f id = grown_self (map.get f id)
 
+grows_through : (f g h : FinMap id_cmp Instance) → Grows f g → Grows g h → Grows f h
+grows_through f g h a b id = grown_on (map.get f id) (map.get g id) (map.get h id) (a id) (b id)
+
 pub grows_set : (f : FinMap id_cmp Instance) (id : IntentId) (s : Instance) → GrownAt (map.get f id) (Some s) → Grows f (map.insert f id s)
 grows_set f id s here = made_set f id s (λ j o. GrownAt (map.get f j) o) here (grows_self f)
 
 grown_answer : (i : Instance) (a : Answer) → Grown i (answered i a)
-grown_answer i a = record { func = refl; args = refl; later = a ∷ []; more = refl; over = λ o h. h }
+grown_answer i a = record { func = refl; args = refl; from = refl; later = a ∷ []; more = refl; over = λ o h. h }
 
-grown_end : (i : Instance) (o : Outcome) → i.outcome ≡ None → Grown i (record i { outcome = Some o })
-grown_end i o none = record { func = refl; args = refl; later = []; more = append-nil i.answers; over = λ u is. let g = sym none ∙ is in cc }
+grown_end : (i : Instance) (o : Outcome) → i.outcome ≡ None → Grown i (ended i o)
+grown_end i o none = record { func = refl; args = refl; from = refl; later = []; more = append-nil i.answers; over = λ u is. let g = sym none ∙ is in cc }
 
 grows_at : (f : FinMap id_cmp Instance) (id : IntentId) (i j : Instance) → map.get f id ≡ Some i → Grown i j → Grows f (map.insert f id j)
 grows_at f id i j is g = grows_set f id j (subst (λ o. GrownAt o (Some j)) (sym is) g)
@@ -175,16 +214,42 @@ operation_grows : (p : PlainState) (id : IntentId) (i : Instance) (o : Option On
 operation_grows p id i None is = grows_self p.made
 operation_grows p id i (Some o) is = let a = answer_after o.does (value_at p (item_in i.func o)) in grows_at p.made id i (answered i a) is (grown_answer i a)
 
-step_grows : (p : PlainState) (id : IntentId) (i : Instance) (e : Effect) → map.get p.made id ≡ Some i → i.outcome ≡ None → Grows p.made (step_by p id i e).made
-step_grows p id i (effect.Read t k) is none = let a = answer.Value (value_at p (item_of i t k)) in grows_at p.made id i (answered i a) is (grown_answer i a)
-step_grows p id i (effect.Return o) is none = grows_at p.made id i (record i { outcome = Some o }) is (grown_end i o none)
-step_grows p id i e is none = operation_grows p id i (op_of e) is
+-- where nothing was made
+pub absent : (o : Option Instance) → is_some o ≡ false → o ≡ None
+absent None h = refl
+absent (Some q) h = cc
+
+grows_new : (f : FinMap id_cmp Instance) (id : IntentId) (s : Instance) → map.get f id ≡ None → Grows f (map.insert f id s)
+grows_new f id s is = grows_set f id s (subst (λ o. GrownAt o (Some s)) (sym is) tt)
+
+-- what holds, and does after an answer to one that is there, holds after an answer to a caller
+pub answer_keeps : (P : PlainState → Type 0) (p : PlainState) → P p → ((id : IntentId) (q : Instance) (a : Answer) → map.get p.made id ≡ Some q → P (with_instance p id (answered q a))) → (c : Option Caller) (o : Outcome) → P (answer_caller p c o)
+answer_keeps P p h more None o = h
+answer_keeps P p h more (Some c) o = by_waits c.waits
+  where
+    by_made : (u : Option Instance) → map.get p.made c.place.intent ≡ u → P (give p c.place.intent (answer_of o) u)
+    by_made None is = h
+    by_made (Some q) is = more c.place.intent q (answer_of o) is
+
+    by_waits : (b : Bool) → P (if b then give p c.place.intent (answer_of o) (map.get p.made c.place.intent) else p)
+    by_waits true = by_made (map.get p.made c.place.intent) refl
+    by_waits false = h
+
+step_grows : (p : PlainState) (id : IntentId) (i : Instance) (e : Effect) → map.get p.made id ≡ Some i → i.outcome ≡ None → waits_at p.made id i e ≡ false → Grows p.made (step_by p id i e).made
+step_grows p id i (effect.Read t k) is none free = let a = answer.Value (value_at p (item_of i t k)) in grows_at p.made id i (answered i a) is (grown_answer i a)
+step_grows p id i (effect.Call f a) is none free = grows_new p.made (callee_of id i) (new_instance f a (Some (calls_at id i))) (absent (map.get p.made (callee_of id i)) free)
+step_grows p id i (effect.Return o) is none free =
+    let over = map.insert p.made id (ended i o) in
+    let first : Grows p.made over = grows_at p.made id i (ended i o) is (grown_end i o none) in
+    answer_keeps (λ (r : PlainState). Grows p.made r.made) (with_instance p id (ended i o)) first
+    (λ j q a made. grows_through p.made over (map.insert over j (answered q a)) first (grows_at over j q (answered q a) made (grown_answer q a))) i.from o
+step_grows p id i e is none free = operation_grows p id i (op_of e) is
 
 stepped_grows : (d : Deployment) (p : PlainState) (id : IntentId) (b : Kind) (q : PlainState) → Stepped d p id b q → Grows p.made q.made
-stepped_grows d p id b q s = subst (λ (r : PlainState). Grows p.made r.made) s.leads (step_grows p id s.instance (effect_of d s.instance) s.made s.open_still)
+stepped_grows d p id b q s = subst (λ (r : PlainState). Grows p.made r.made) s.leads (step_grows p id s.instance (effect_of d s.instance) s.made s.open_still s.free)
 
 started_grows : (p : PlainState) (t f : ℕ) (a : Value) (q : PlainState) → Started p t f a q → Grows p.made q.made
-started_grows p t f a q s = subst (λ (r : PlainState). Grows p.made r.made) s.leads (grows_set p.made (root_of t) (new_instance f a) (subst (λ o. GrownAt o (Some (new_instance f a))) (sym s.absent) tt))
+started_grows p t f a q s = subst (λ (r : PlainState). Grows p.made r.made) s.leads (grows_new p.made (root_of t) (new_instance f a None) s.absent)
 
 did_grows : (d : Deployment) (p : PlainState) (e : Entry) (q : PlainState) → Did d p e q → Grows p.made q.made
 did_grows d p (Start t f a) q s = started_grows p t f a q s
@@ -206,4 +271,4 @@ run_keeps d P keeps p (e ∷ es) q h is = by_option (after d p e) refl is (λ r 
     by_option (Some r) step is rest = rest r (keeps p e r h step) is
 
 pub run_grows : (d : Deployment) (p : PlainState) (es : List Entry) (q : PlainState) → run_from d p es ≡ Some q → Grows p.made q.made
-run_grows d p es q h = run_keeps d (λ r. Grows p.made r.made) (λ r e s g is id. grown_on (map.get p.made id) (map.get r.made id) (map.get s.made id) (g id) (after_grows d r e s is id)) p es q (grows_self p.made) h
+run_grows d p es q h = run_keeps d (λ r. Grows p.made r.made) (λ r e s g is. grows_through p.made r.made s.made g (after_grows d r e s is)) p es q (grows_self p.made) h

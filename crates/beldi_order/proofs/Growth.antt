@@ -10,7 +10,7 @@ use Rattle.beldi_book.specs.Order.{count_changes, front, back, linear}
 use Rattle.beldi_book.proofs.Orders.{linear_changes, front_back}
 use Rattle.beldi_lang.specs.declared.effect.Answer.TheVariants as answer
 use Rattle.beldi_plain.specs.Guard.{IsGuarded}
-use Rattle.beldi_plain.specs.Plain.{Instance, PlainState, nothing, after, kind_of, step_by}
+use Rattle.beldi_plain.specs.Plain.{Instance, PlainState, nothing, after, kind_of, waits_at, step_by}
 use Rattle.beldi_plain.specs.Legal.{run_from}
 use Rattle.beldi_order.specs.Laws.{EndsWith, IsLast, BelongsEarlier, with_answer, IsKeptLate}
 use Rattle.beldi_order.proofs.Places.{front_more, linear_change, linear_read, put_between, put_after, SeenAt, bounded_more}
@@ -56,7 +56,7 @@ module _ (d : Deployment) (book : List Entry) (p : PlainState) (id : IntentId) (
   whole = subst (IsGuarded d nothing) (sym (front_back s (linear book))) h.guarded
 
   stands : StandsAtRead d h.state id a
-  stands = record { made = h.was_made; open_still = h.open_still; kind = ap kind_of h.stands }
+  stands = record { made = h.was_made; open_still = h.open_still; kind = ap (kind_of id) h.stands }
 
   -- from its place on the instance stands there
   to : (t : ℕ) (r : PlainState) (le : s ≤ t) → run_from d nothing (front t (linear book)) ≡ Some r → run_from d h.state (put_between (Read id s) s refl s t (linear book) le).between ≡ Some r
@@ -71,7 +71,7 @@ module _ (d : Deployment) (book : List Entry) (p : PlainState) (id : IntentId) (
 
   -- the read is enabled at its place, and answered by the value
   answers : after d h.state (Read id s) ≡ Some (with_answer h.state id a v)
-  answers = enabled_read d h.state id s a h.was_made h.open_still stands.kind ∙ ap Some (ap (step_by h.state id a) h.stands ∙ ap (λ w. with_answer h.state id a w) h.value)
+  answers = enabled_read d h.state id a h.was_made h.open_still (ap (waits_at h.state.made id a) h.stands) s stands.kind ∙ ap Some (ap (step_by h.state id a) h.stands ∙ ap (λ w. with_answer h.state id a w) h.value)
 
   pub kept_late : IsKeptLate d book p id s a v
   kept_late = record {

@@ -1,26 +1,24 @@
 -- Entries that are guarded, in parts; and a read that is kept late leaves those that it passes guarded.
-use Rattle.std.proofs.Common.{◌≡◌, Bool, false, List, [], ◌∷◌, ◌++◌, Option, None, Some, refl, ap, sym, ◌∙◌, subst, ℕ}
+use Rattle.std.proofs.Common.{◌≡◌, List, [], ◌∷◌, ◌++◌, Option, None, Some, refl, ap, sym, ◌∙◌, subst}
 use Rattle.std.specs.Prelude.{option_and_then}
 use Rattle.std.specs.FinMap as map
 use Rattle.beldi_value.specs.declared.id.IntentId.{IntentId}
 use Rattle.beldi_tree.specs.declared.deployment.Deployment.{Deployment}
 use Rattle.beldi_lang.specs.declared.effect.Answer.{Answer}
-use Rattle.beldi_lang.specs.declared.effect.Effect.{Effect}
-use Rattle.beldi_lang.specs.declared.effect.Effect.TheVariants as effect
 use Rattle.beldi_book.specs.declared.entry.Entry.{Entry}
 use Rattle.beldi_book.specs.declared.entry.Entry.TheVariants.{Start, Read, Step, Tx, Try}
 use Rattle.beldi_plain.specs.Item.{Item}
 use Rattle.beldi_plain.specs.Guard.{touched_by, actor, IsFree, IsGuarded}
-use Rattle.beldi_plain.specs.Holds.{held_if, holds}
+use Rattle.beldi_plain.specs.Holds.{holds}
 use Rattle.beldi_plain.specs.Operation.{op_of}
-use Rattle.beldi_plain.specs.Plain.{Instance, PlainState, after, with_instance, answered, effect_of, kind_of}
+use Rattle.beldi_plain.specs.Plain.{Instance, PlainState, after, with_instance, answered, effect_of}
 use Rattle.beldi_plain.specs.Legal.{run_from}
 use Rattle.beldi_plain.specs.declared.kind.Kind.TheVariants as kinds
 use Rattle.beldi_order.specs.Guard.{LateReadsLeaveGuards}
-use Rattle.beldi_order.proofs.Entries.{same_some, made_set, did, Did, after_grows, run_grows}
+use Rattle.beldi_order.proofs.Entries.{same_some, did, Did, read_is, after_grows, run_grows}
 use Rattle.beldi_order.specs.Grown.{GrownAt}
 use Rattle.beldi_order.proofs.Late.{StandsAtRead, passes, apart, unmoved, elsewhere}
-use Rattle.beldi_order.proofs.Operations.{held_pushed}
+use Rattle.beldi_order.proofs.Operations.{holds_answered}
 
 -- ---- entries in parts
 pub guarded_parts : (d : Deployment) (p q : PlainState) (es fs : List Entry) → run_from d p es ≡ Some q → IsGuarded d p es → IsGuarded d q fs → IsGuarded d p (es ++ fs)
@@ -40,18 +38,13 @@ guarded_second d p q (e ∷ es) fs h g =
     ]) refl h
 
 -- ---- a late read
--- a read moves no lock
-no_op : (e : Effect) → kind_of e ≡ kinds.Read → (x : Item) (f : ℕ) (b : Bool) → held_if x f (op_of e) b ≡ b
-no_op (effect.Read t k) h x f b = refl
-no_op e h x f b = cc
-
 module _ (d : Deployment) (p : PlainState) (i : IntentId) (a : Instance) (v : Answer) (stands : StandsAtRead d p i a) where
   abbrev later : PlainState
   later = with_instance p i (answered a v)
 
+  -- a read moves no lock
   pub same_holds : (x : Item) (j : IntentId) → holds d x (map.get later.made j) ≡ holds d x (map.get p.made j)
-  same_holds x = made_set p.made i (answered a v) (λ j o. holds d x o ≡ holds d x (map.get p.made j))
-      (held_pushed d x a.func a.args [] a.answers v false ∙ no_op (effect_of d a) stands.kind x a.func (holds d x (Some a)) ∙ ap (holds d x) (sym stands.made)) (λ j. refl)
+  same_holds x = holds_answered d x p.made i a v stands.made (ap op_of (read_is i (effect_of d a) stands.kind).2)
 
   module _ (r : PlainState) (stays : map.get r.made i ≡ Some a) where
     other : (e : Entry) → Did d p e r → i ≡ actor e → ⊥

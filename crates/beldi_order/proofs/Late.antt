@@ -1,6 +1,6 @@
 -- A read that is kept late: it passes every entry that leaves its instance as it is.
 use Rattle.std.proofs.Common.{◌≡◌, ℕ, zero, suc, Bool, true, false, cond, List, [], ◌∷◌, ◌++◌, length, Option, None, Some, refl, ap, sym, ◌∙◌, subst, arith, length-append, append-nil}
-use Rattle.std.specs.Prelude.{option_and_then}
+use Rattle.std.specs.Prelude.{option_and_then, is_some, if◌then◌else◌}
 use Rattle.std.specs.FinMap as map
 use Rattle.std.specs.FinMap.{FinMap, get-insert, same_map}
 use Rattle.std.specs.Cmp.{Equal-is}
@@ -9,21 +9,23 @@ use Rattle.std.proofs.lemmas.Cmp.{tied_itself}
 use Rattle.beldi_value.specs.Id.{root_of, id_cmp, id_total, id_exact}
 use Rattle.beldi_value.specs.declared.id.IntentId.{IntentId}
 use Rattle.beldi_value.specs.declared.outcome.Outcome.{Outcome}
+use Rattle.beldi_value.specs.declared.place.Caller.{Caller}
 use Rattle.beldi_value.specs.declared.value.Value.{Value}
 use Rattle.beldi_tree.specs.declared.deployment.Deployment.{Deployment}
 use Rattle.beldi_lang.specs.declared.effect.Answer.{Answer}
 use Rattle.beldi_lang.specs.declared.effect.Answer.TheVariants as answer
 use Rattle.beldi_lang.specs.declared.effect.Effect.{Effect}
 use Rattle.beldi_lang.specs.declared.effect.Effect.TheVariants as effect
+use Rattle.beldi_lang.specs.Callee.{answer_of}
 use Rattle.beldi_book.specs.declared.entry.Entry.{Entry}
 use Rattle.beldi_book.specs.declared.entry.Entry.TheVariants.{Start, Read, Step, Tx, Try}
 use Rattle.beldi_plain.specs.Item.{item_cmp}
-use Rattle.beldi_plain.specs.Plain.{Instance, PlainState, after, start, step_by, with_instance, answered, effect_of, kind_of, item_of, operated, value_at}
+use Rattle.beldi_plain.specs.Plain.{Instance, PlainState, new_instance, after, start, step_by, with_instance, answered, ended, give, answer_caller, callee_of, calls_at, effect_of, kind_of, waits_at, is_waiting, item_of, operated, value_at}
 use Rattle.beldi_plain.specs.Operation.{OnItem, op_of, item_in, sets, set_if, answer_after}
 use Rattle.beldi_plain.specs.Legal.{run_from}
 use Rattle.beldi_plain.specs.declared.kind.Kind.{Kind}
 use Rattle.beldi_plain.specs.declared.kind.Kind.TheVariants as kinds
-use Rattle.beldi_order.proofs.Entries.{same_some, new_instance, Started, Stepped, Did, did, enabled_read, enabled_step, after_grows, run_grows, runs_on}
+use Rattle.beldi_order.proofs.Entries.{same_some, Started, Stepped, Did, did, read_is, absent, enabled_read, enabled_step, after_grows, run_grows, runs_on}
 use Rattle.beldi_order.specs.Grown.{Grown, GrownAt}
 
 -- ---- two instances that were set
@@ -56,7 +58,7 @@ here f i x = get-insert id_total f i x i ∙ ap (λ b. cond b (Some x) (map.get 
 pub record StandsAtRead (d : Deployment) (p : PlainState) (i : IntentId) (a : Instance) : Type 0 where
   pub made : map.get p.made i ≡ Some a
   pub open_still : a.outcome ≡ None
-  pub kind : kind_of (effect_of d a) ≡ kinds.Read
+  pub kind : kind_of i (effect_of d a) ≡ kinds.Read
 
 not_longer : (a : Instance) (x : Answer) → answered a x ≡ a → ⊥
 not_longer a x h = let n = length-append a.answers (x ∷ []) in let m = ap (λ (q : Instance). length q.answers) h in omega (arith, n, m)
@@ -71,23 +73,57 @@ operation_passes p i j x y (Some o) apart =
     let w = value_at p (item_in y.func o) in
     ap (with_items (set_if p.items (item_in y.func o) (sets o.does w))) (commutes p.made i j x (answered y (answer_after o.does w)) apart)
 
-step_passes : (p : PlainState) (i j : IntentId) (x y : Instance) (e : Effect) → (i ≡ j → ⊥) → step_by (with_instance p i x) j y e ≡ with_instance (step_by p j y e) i x
-step_passes p i j x y (effect.Read t k) apart = ap (λ f. record p { made = f }) (commutes p.made i j x (answered y (answer.Value (value_at p (item_of y t k)))) apart)
-step_passes p i j x y (effect.Return o) apart = ap (λ f. record p { made = f }) (commutes p.made i j x (record y { outcome = Some o }) apart)
-step_passes p i j x y e apart = operation_passes p i j x y (op_of e) apart
+-- nor does it reach the instance, which was there before and stands as it stood
+module _ (p : PlainState) (i : IntentId) (a x : Instance) (made : map.get p.made i ≡ Some a) where
+  give_passes : (k : IntentId) (v : Answer) (o : Option Instance) → (i ≡ k → ⊥) → give (with_instance p i x) k v o ≡ with_instance (give p k v o) i x
+  give_passes k v None apart = refl
+  give_passes k v (Some y) apart = ap (with_items p.items) (commutes p.made i k x (answered y v) apart)
+
+  not_given : (k : IntentId) (v : Answer) → map.get (give p k v (map.get p.made k)).made i ≡ Some a → i ≡ k → ⊥
+  not_given k v stays same =
+      let given : map.get (give p i v (map.get p.made i)).made i ≡ Some (answered a v) = ap (λ o. map.get (give p i v o).made i) made ∙ here p.made i (answered a v) in
+      not_longer a v (same_some (sym given ∙ ap (λ j. map.get (give p j v (map.get p.made j)).made i) same ∙ stays))
+
+  caller_passes : (c : Option Caller) (o : Outcome) → map.get (answer_caller p c o).made i ≡ Some a → answer_caller (with_instance p i x) c o ≡ with_instance (answer_caller p c o) i x
+  caller_passes None o stays = refl
+  caller_passes (Some c) o stays = by_waits c.waits c.place.intent (answer_of o) stays
+    where
+      by_waits : (b : Bool) (k : IntentId) (v : Answer) → map.get (if b then give p k v (map.get p.made k) else p).made i ≡ Some a
+          → (if b then give (with_instance p i x) k v (map.get (map.insert p.made i x) k) else with_instance p i x) ≡ with_instance (if b then give p k v (map.get p.made k) else p) i x
+      by_waits false k v stays = refl
+      by_waits true k v stays =
+          let apart = not_given k v stays in
+          ap (give (with_instance p i x) k v) (elsewhere p.made i k x apart) ∙ give_passes k v (map.get p.made k) apart
+
+  callee_apart : (j : IntentId) (y : Instance) → is_some (map.get p.made (callee_of j y)) ≡ false → i ≡ callee_of j y → ⊥
+  callee_apart j y free same = let clash = sym made ∙ ap (map.get p.made) same ∙ absent (map.get p.made (callee_of j y)) free in cc
+
+  free_passes : (j : IntentId) (y : Instance) (e : Effect) → waits_at p.made j y e ≡ false → waits_at (map.insert p.made i x) j y e ≡ false
+  free_passes j y (effect.Call f v) free = ap is_some (elsewhere p.made i (callee_of j y) x (callee_apart j y free)) ∙ free
+  free_passes j y e free = refl
+
+step_passes : (p : PlainState) (i j : IntentId) (a x y : Instance) (e : Effect) → map.get p.made i ≡ Some a → (i ≡ j → ⊥) → waits_at p.made j y e ≡ false → map.get (step_by p j y e).made i ≡ Some a
+    → step_by (with_instance p i x) j y e ≡ with_instance (step_by p j y e) i x
+step_passes p i j a x y (effect.Read t k) made apart free stays = ap (with_items p.items) (commutes p.made i j x (answered y (answer.Value (value_at p (item_of y t k)))) apart)
+step_passes p i j a x y (effect.Call f v) made apart free stays = ap (with_items p.items) (commutes p.made i (callee_of j y) x (new_instance f v (Some (calls_at j y))) (callee_apart p i a x made j y free))
+step_passes p i j a x y (effect.Return o) made apart free stays =
+    ap (λ f. answer_caller (with_items p.items f) y.from o) (commutes p.made i j x (ended y o) apart)
+    ∙ caller_passes (with_instance p j (ended y o)) i a x (elsewhere p.made j i (ended y o) (λ s. apart (sym s)) ∙ made) y.from o stays
+step_passes p i j a x y e made apart free stays = operation_passes p i j x y (op_of e) apart
 
 -- where the instance stands after an entry as it stood, and the entry comes after its answer
 module _ (d : Deployment) (p q : PlainState) (i : IntentId) (a : Instance) (v : Answer) (stands : StandsAtRead d p i a) (stays : map.get q.made i ≡ Some a) where
   -- it is not the instance's own: a read would have answered it, and it makes no other step
-  own_read : (e : Effect) → kind_of e ≡ kinds.Read → map.get (step_by p i a e).made i ≡ Some a → ⊥
-  own_read (effect.Read t k) kind h = let x = answer.Value (value_at p (item_of a t k)) in not_longer a x (same_some (sym (here p.made i (answered a x)) ∙ h))
-  own_read e kind h = cc
+  own_read : map.get (step_by p i a (effect_of d a)).made i ≡ Some a → ⊥
+  own_read h =
+      let r = read_is i (effect_of d a) stands.kind in
+      let x = answer.Value (value_at p (item_of a r.0 r.1)) in
+      not_longer a x (same_some (sym (here p.made i (answered a x)) ∙ ap (λ e. map.get (step_by p i a e).made i) (sym r.2) ∙ h))
 
   own : (b : Kind) (s : Stepped d p i b q) → ⊥
-  own kinds.Read s =
+  own b s =
       let same : s.instance ≡ a = same_some (sym s.made ∙ stands.made) in
-      own_read (effect_of d a) stands.kind (ap (λ (r : PlainState). map.get r.made i) (ap (λ x. step_by p i x (effect_of d x)) (sym same) ∙ s.leads) ∙ stays)
-  own b s = let same : s.instance ≡ a = same_some (sym s.made ∙ stands.made) in let k = sym s.kind ∙ ap (λ x. kind_of (effect_of d x)) same ∙ stands.kind in cc
+      own_read (ap (λ (r : PlainState). map.get r.made i) (ap (λ x. step_by p i x (effect_of d x)) (sym same) ∙ s.leads) ∙ stays)
 
   pub apart : (j : IntentId) (b : Kind) → Stepped d p j b q → i ≡ j → ⊥
   apart j b s same = own b (subst (λ k. Stepped d p k b q) (sym same) s)
@@ -96,21 +132,26 @@ module _ (d : Deployment) (p q : PlainState) (i : IntentId) (a : Instance) (v : 
   made_there : (j : IntentId) (b : Kind) (s : Stepped d p j b q) → map.get (map.insert p.made i (answered a v)) j ≡ Some s.instance
   made_there j b s = elsewhere p.made i j (answered a v) (apart j b s) ∙ s.made
 
+  free_there : (j : IntentId) (b : Kind) (s : Stepped d p j b q) → is_waiting d (with_instance p i (answered a v)) j s.instance ≡ false
+  free_there j b s = free_passes p i a (answered a v) stands.made j s.instance (effect_of d s.instance) s.free
+
   leads_there : (j : IntentId) (b : Kind) (s : Stepped d p j b q) → step_by (with_instance p i (answered a v)) j s.instance (effect_of d s.instance) ≡ with_instance q i (answered a v)
-  leads_there j b s = step_passes p i j (answered a v) s.instance (effect_of d s.instance) (apart j b s) ∙ ap (λ r. with_instance r i (answered a v)) s.leads
+  leads_there j b s =
+      step_passes p i j a (answered a v) s.instance (effect_of d s.instance) stands.made (apart j b s) s.free (ap (λ (r : PlainState). map.get r.made i) s.leads ∙ stays)
+      ∙ ap (λ r. with_instance r i (answered a v)) s.leads
 
   start_there : (t f : ℕ) (w : Value) → Started p (suc t) f w q → start (with_instance p i (answered a v)) (suc t) f w (map.get (map.insert p.made i (answered a v)) (root_of (suc t))) ≡ Some (with_instance q i (answered a v))
   start_there t f w s =
       let other : i ≡ root_of (suc t) → ⊥ = λ same. let c = sym s.absent ∙ ap (map.get p.made) (sym same) ∙ stands.made in cc in
       ap (start (with_instance p i (answered a v)) (suc t) f w) (elsewhere p.made i (root_of (suc t)) (answered a v) other ∙ s.absent)
-      ∙ ap (λ (f' : FinMap id_cmp Instance). Some (record p { made = f' })) (commutes p.made i (root_of (suc t)) (answered a v) (new_instance f w) other)
+      ∙ ap (λ (f' : FinMap id_cmp Instance). Some (record p { made = f' })) (commutes p.made i (root_of (suc t)) (answered a v) (new_instance f w None) other)
       ∙ ap (λ r. Some (with_instance r i (answered a v))) s.leads
 
   passes_did : (e : Entry) → after d p e ≡ Some q → Did d p e q → after d (with_instance p i (answered a v)) e ≡ Some (with_instance q i (answered a v))
   passes_did (Start zero f w) h s = cc
   passes_did (Start (suc t) f w) h s = start_there t f w s
-  passes_did (Read j k) h s = enabled_read d (with_instance p i (answered a v)) j k s.instance (made_there j kinds.Read s) s.open_still s.kind ∙ ap (λ r. Some r) (leads_there j kinds.Read s)
-  passes_did (Step j) h s = enabled_step d (with_instance p i (answered a v)) j s.instance (made_there j kinds.Change s) s.open_still s.kind ∙ ap (λ r. Some r) (leads_there j kinds.Change s)
+  passes_did (Read j k) h s = enabled_read d (with_instance p i (answered a v)) j s.instance (made_there j kinds.Read s) s.open_still (free_there j kinds.Read s) k s.kind ∙ ap (λ r. Some r) (leads_there j kinds.Read s)
+  passes_did (Step j) h s = enabled_step d (with_instance p i (answered a v)) j s.instance (made_there j kinds.Change s) s.open_still (free_there j kinds.Change s) s.kind ∙ ap (λ r. Some r) (leads_there j kinds.Change s)
   passes_did (Tx j) h s = cc
   passes_did (Try j place holder) h s = cc
 
@@ -129,18 +170,18 @@ none_before : (o u : Option Outcome) → ((x : Outcome) → o ≡ Some x → u �
 none_before None u h is = refl
 none_before (Some x) u h is = let g = sym is ∙ h x refl in cc
 
-same_instance : (a b : Instance) → a.func ≡ b.func → a.args ≡ b.args → a.answers ≡ b.answers → a.outcome ≡ b.outcome → a ≡ b
-same_instance a b f g h o = λ i. record { func = f i; args = g i; answers = h i; outcome = o i }
+same_instance : (a b : Instance) → a.func ≡ b.func → a.args ≡ b.args → a.from ≡ b.from → a.answers ≡ b.answers → a.outcome ≡ b.outcome → a ≡ b
+same_instance a b f g c h o = λ i. record { func = f i; args = g i; from = c i; answers = h i; outcome = o i }
 
 pub unmoved : (a : Instance) (o : Option Instance) → a.outcome ≡ None → GrownAt (Some a) o → GrownAt o (Some a) → o ≡ Some a
 unmoved a None none g h = absurd g
-unmoved a (Some b) none g h = ap (λ x. Some x) (same_instance b a g.func g.args (no_later a.answers b.answers [] g.later h.later g.more h.more) (none_before b.outcome a.outcome h.over none ∙ sym none))
+unmoved a (Some b) none g h = ap (λ x. Some x) (same_instance b a g.func g.args g.from (no_later a.answers b.answers [] g.later h.later g.more h.more) (none_before b.outcome a.outcome h.over none ∙ sym none))
 
 -- an instance that has gone on with no answer more, and has no outcome, is as it was
 pub not_moved : (o u : Option Instance) (i j : Instance) → o ≡ Some i → u ≡ Some j → GrownAt o u → i.answers ≡ j.answers → j.outcome ≡ None → i ≡ j
 not_moved o u i j was is g same none =
     let h : Grown i j = subst (λ z. GrownAt (Some i) z) is (subst (λ z. GrownAt z u) was g) in
-    same_instance i j (sym h.func) (sym h.args) same (none_before i.outcome j.outcome h.over none ∙ sym none)
+    same_instance i j (sym h.func) (sym h.args) (sym h.from) same (none_before i.outcome j.outcome h.over none ∙ sym none)
 
 -- ---- a read passes all entries that leave its instance as it is
 pub passes_all : (d : Deployment) (p q : PlainState) (es : List Entry) (i : IntentId) (a : Instance) (v : Answer) → StandsAtRead d p i a → map.get q.made i ≡ Some a
@@ -166,9 +207,9 @@ pub put_late : (d : Deployment) (p q r : PlainState) (es fs : List Entry) (i : I
     → run_from d q fs ≡ Some r → map.get r.made i ≡ Some a
     → run_from d p (es ++ Read i s ∷ fs) ≡ Some (with_instance r i (answered a (answer.Value v)))
 put_late d p q r es fs i s a t k v before made none reads_it is behind stays =
-    let kind : kind_of (effect_of d a) ≡ kinds.Read = ap kind_of reads_it in
+    let kind : kind_of i (effect_of d a) ≡ kinds.Read = ap (kind_of i) reads_it in
     let stands : StandsAtRead d q i a = record { made = made; open_still = none; kind = kind } in
     let leads : step_by q i a (effect_of d a) ≡ with_instance q i (answered a (answer.Value v)) = ap (step_by q i a) reads_it ∙ ap (λ w. with_instance q i (answered a (answer.Value w))) is in
     runs_on d p q es (Read i s ∷ fs) before
-    ∙ ap (option_and_then (λ x. run_from d x fs)) (enabled_read d q i s a made none kind ∙ ap (λ x. Some x) leads)
+    ∙ ap (option_and_then (λ x. run_from d x fs)) (enabled_read d q i a made none (ap (waits_at q.made i a) reads_it) s kind ∙ ap (λ x. Some x) leads)
     ∙ passes_all d q r fs i a (answer.Value v) stands stays behind

@@ -1,14 +1,16 @@
 -- From a lock to its unlock nobody else touches the item.
-use Rattle.std.proofs.Common.{◌≡◌, true, false, cond, List, [], ◌∷◌, ◌++◌, Option, None, Some, refl, ap, sym, ◌∙◌, subst, append_assoc, append-nil}
+use Rattle.std.proofs.Common.{◌≡◌, true, false, cond, List, [], ◌∷◌, ◌++◌, Option, None, Some, refl, ap, sym, ◌∙◌, subst, inl, inr, append_assoc, append-nil}
 use Rattle.std.specs.Prelude.{option_and_then}
 use Rattle.std.specs.FinMap as map
 use Rattle.std.specs.Ordering.{is_eq}
 use Rattle.std.proofs.lemmas.Cmp.{tied_itself}
 use Rattle.beldi_value.specs.Id.{root_of}
 use Rattle.beldi_value.specs.declared.id.IntentId.{IntentId}
+use Rattle.beldi_value.specs.declared.outcome.Outcome.{Outcome}
 use Rattle.beldi_tree.specs.declared.deployment.Deployment.{Deployment}
 use Rattle.beldi_lang.specs.declared.effect.Answer.{Answer}
 use Rattle.beldi_lang.specs.declared.effect.Answer.TheVariants as answer
+use Rattle.beldi_lang.specs.Callee.{answer_of}
 use Rattle.beldi_lang.specs.declared.effect.Effect.{Effect}
 use Rattle.beldi_lang.specs.declared.effect.Effect.TheVariants as effect
 use Rattle.beldi_book.specs.declared.entry.Entry.{Entry}
@@ -19,18 +21,21 @@ use Rattle.beldi_plain.specs.Item.{Item, item_cmp, item_total}
 use Rattle.beldi_plain.specs.Legal.{run_from}
 use Rattle.beldi_plain.specs.Operation as operation
 use Rattle.beldi_plain.specs.Operation.{Operation, OnItem, op_of, item_in, write, lock, free, answer_after}
-use Rattle.beldi_plain.specs.Plain.{Instance, PlainState, nothing, after, step_by, operated, answered, effect_of, item_of, value_at, kind_of}
+use Rattle.beldi_plain.specs.Plain.{Instance, PlainState, nothing, new_instance, after, step_by, operated, with_instance, answered, ended, answer_caller, callee_of, calls_at, waits_at, effect_of, item_of, value_at}
 use Rattle.beldi_plain.specs.declared.kind.Kind.{Kind}
 use Rattle.beldi_plain.specs.declared.kind.Kind.TheVariants as kinds
 use Rattle.beldi_order.specs.Guard.{StandsAtOperation, LegalIsGuarded}
-use Rattle.beldi_order.proofs.Entries.{same_some, made_set, did, Did, Stepped, runs_on, new_instance}
+use Rattle.beldi_order.proofs.Entries.{same_some, made_set, did, Did, Stepped, read_is, absent, runs_on}
 use Rattle.beldi_order.proofs.Guard.{guarded_second}
 use Rattle.beldi_order.proofs.Late.{here}
-use Rattle.beldi_order.proofs.Operations.{held_pushed, item_same}
+use Rattle.beldi_order.proofs.Operations.{held_pushed, holds_answered, holds_set, item_same}
+use Rattle.beldi_order.proofs.Sanes.{waited, still_there, answers_waiter, run_is_sane}
+use Rattle.beldi_order.specs.Sane.{Sane}
 
 -- what an operation on an item leaves
-operation_step : (p : PlainState) (id : IntentId) (q : Instance) (e : Effect) (o : OnItem) → op_of e ≡ Some o → step_by p id q e ≡ operated p id q (Some o)
+pub operation_step : (p : PlainState) (id : IntentId) (q : Instance) (e : Effect) (o : OnItem) → op_of e ≡ Some o → step_by p id q e ≡ operated p id q (Some o)
 operation_step p id q (effect.Read t k) o h = cc
+operation_step p id q (effect.Call f v) o h = cc
 operation_step p id q (effect.Return u) o h = cc
 operation_step p id q e o h = ap (operated p id q) h
 
@@ -57,16 +62,31 @@ module _ (d : Deployment) (x : Item) where
   by_does q on lock is never same = refl
   by_does q on free is never same = absurd (never same is)
 
-  keeps : (q : Instance) (o : Option OnItem) (a : Answer) → op_of (effect_of d q) ≡ o → ((on : OnItem) → o ≡ Some on → item_in q.func on ≡ x → on.does ≡ free → ⊥) → holds d x (Some q) ≡ true → holds d x (Some (answered q a)) ≡ true
-  keeps q o a is never h =
-      held_pushed d x q.func q.args [] q.answers a false ∙ ap (λ u. held_if x q.func u (holds d x (Some q))) is ∙ ap (held_if x q.func o) h ∙ by_op o never
-    where
-      by_op : (o : Option OnItem) → ((on : OnItem) → o ≡ Some on → item_in q.func on ≡ x → on.does ≡ free → ⊥) → held_if x q.func o true ≡ true
-      by_op None never = refl
-      by_op (Some on) never = elim (is_eq (item_cmp (item_in q.func on) x)) as (λ b. is_eq (item_cmp (item_in q.func on) x) ≡ b → cond b (held_by on.does true) true ≡ true) [
-        | true ↦ λ e. by_does q on on.does refl (never on refl) (item_same (item_in q.func on) x e)
+  keeps : (q : Instance) (on : OnItem) (a : Answer) → op_of (effect_of d q) ≡ Some on → (item_in q.func on ≡ x → on.does ≡ free → ⊥) → holds d x (Some q) ≡ true → holds d x (Some (answered q a)) ≡ true
+  keeps q on a is never h =
+      held_pushed d x q.func q.args [] q.answers a false ∙ ap (λ u. held_if x q.func u (holds d x (Some q))) is ∙ ap (held_if x q.func (Some on)) h
+      ∙ (elim (is_eq (item_cmp (item_in q.func on) x)) as (λ b. is_eq (item_cmp (item_in q.func on) x) ≡ b → cond b (held_by on.does true) true ≡ true) [
+        | true ↦ λ e. by_does q on on.does refl never (item_same (item_in q.func on) x e)
         | false ↦ λ e. refl
-      ] refl
+      ]) refl
+
+-- a step that is no operation on an item moves no lock: a return answers a caller that stands at its call
+module _ (d : Deployment) (x : Item) (p : PlainState) (sane : Sane d p) (id : IntentId) (q : Instance) (made : map.get p.made id ≡ Some q) (none : q.outcome ≡ None) where
+  return_holds : (o : Outcome) (j : IntentId) → holds d x (map.get (answer_caller (with_instance p id (ended q o)) q.from o).made j) ≡ holds d x (map.get p.made j)
+  return_holds o j =
+      let over = with_instance p id (ended q o) in
+      let first = holds_set d x p.made id (ended q o) (ap (holds d x) made) j in
+      elim (waited d p id q sane made none) [
+        | inl alone ↦ ap (λ c. holds d x (map.get (answer_caller over c o).made j)) alone ∙ first
+        | inr w ↦ ap (λ (r : PlainState). holds d x (map.get r.made j)) (answers_waiter d p id q w (ended q o) o)
+            ∙ holds_answered d x over.made w.caller w.waiter (answer_of o) (still_there d p id q w (ended q o)) (ap op_of w.stands) j ∙ first
+      ]
+
+  pub step_holds : (e : Effect) → waits_at p.made id q e ≡ false → effect_of d q ≡ e → op_of e ≡ None → (j : IntentId) → holds d x (map.get (step_by p id q e).made j) ≡ holds d x (map.get p.made j)
+  step_holds (effect.Read t k) idle is no_op = holds_answered d x p.made id q (answer.Value (value_at p (item_of q t k))) made (ap op_of is)
+  step_holds (effect.Call f v) idle is no_op = holds_set d x p.made (callee_of id q) (new_instance f v (Some (calls_at id q))) (ap (holds d x) (absent (map.get p.made (callee_of id q)) idle))
+  step_holds (effect.Return o) idle is no_op = return_holds o
+  step_holds e idle is no_op = λ j. ap (λ o. holds d x (map.get (operated p id q o).made j)) no_op
 
 module _ (d : Deployment) (x : Item) (i : IntentId) where
   -- the instance held the lock, and holds it
@@ -74,36 +94,27 @@ module _ (d : Deployment) (x : Item) (i : IntentId) where
   Kept p j o = j ≡ i → holds d x (map.get p.made j) ≡ true → holds d x o ≡ true
 
   -- a step of any instance, but for the unlock of this item by this one
-  step_keeps : (p : PlainState) (j : IntentId) (q : Instance) (e : Effect) → effect_of d q ≡ e → map.get p.made j ≡ Some q → (j ≡ i → (on : OnItem) → At d q x free on → ⊥) → (k : IntentId) → Kept p k (map.get (step_by p j q e).made k)
-  step_keeps p j q (effect.Read t k) is made never =
-      let a = answer.Value (value_at p (item_of q t k)) in
-      made_set p.made j (answered q a) (Kept p) (λ same h. keeps d x q None a (ap op_of is) (λ on n. cc) (ap (holds d x) (sym made) ∙ h)) (λ k same h. h)
-  step_keeps p j q (effect.Return o) is made never = made_set p.made j (record q { outcome = Some o }) (Kept p) (λ same h. ap (holds d x) (sym made) ∙ h) (λ k same h. h)
-  step_keeps p j q e is made never = by_op (op_of e) (ap op_of is)
+  step_keeps : (p : PlainState) (j : IntentId) (q : Instance) (e : Effect) → Sane d p → map.get p.made j ≡ Some q → q.outcome ≡ None → waits_at p.made j q e ≡ false → effect_of d q ≡ e → (j ≡ i → (on : OnItem) → At d q x free on → ⊥)
+      → (k : IntentId) → Kept p k (map.get (step_by p j q e).made k)
+  step_keeps p j q e sane made none idle is never = by_op (op_of e) refl
     where
-      by_op : (o : Option OnItem) → op_of (effect_of d q) ≡ o → (k : IntentId) → Kept p k (map.get (operated p j q o).made k)
-      by_op None is = λ k same h. h
-      by_op (Some on) is =
+      by_op : (o : Option OnItem) → op_of e ≡ o → (k : IntentId) → Kept p k (map.get (step_by p j q e).made k)
+      by_op None so k = λ same h. step_holds d x p sane j q made none e idle is so k ∙ h
+      by_op (Some on) so k =
           let a = answer_after on.does (value_at p (item_in q.func on)) in
-          made_set p.made j (answered q a) (Kept p) (λ same h. keeps d x q (Some on) a is (λ u so item freed. never same u (is ∙ so, item, freed)) (ap (holds d x) (sym made) ∙ h)) (λ k same h. h)
+          subst (λ (r : PlainState). Kept p k (map.get r.made k)) (sym (operation_step p j q e on so))
+          (made_set p.made j (answered q a) (Kept p) (λ same h. keeps d x q on a (ap op_of is ∙ so) (λ item freed. never same on (ap op_of is ∙ so, item, freed)) (ap (holds d x) (sym made) ∙ h)) (λ k same h. h) k)
 
-  stepped_keeps : (p : PlainState) (j : IntentId) (b : Kind) (r : PlainState) (s : Stepped d p j b r) → (j ≡ i → (on : OnItem) → At d s.instance x free on → ⊥) → Kept p i (map.get r.made i)
-  stepped_keeps p j b r s never = subst (λ (z : PlainState). Kept p i (map.get z.made i)) s.leads (step_keeps p j s.instance (effect_of d s.instance) refl s.made never i)
+  stepped_keeps : (p : PlainState) (j : IntentId) (b : Kind) (r : PlainState) (s : Stepped d p j b r) → Sane d p → (j ≡ i → (on : OnItem) → At d s.instance x free on → ⊥) → Kept p i (map.get r.made i)
+  stepped_keeps p j b r s sane never = subst (λ (z : PlainState). Kept p i (map.get z.made i)) s.leads (step_keeps p j s.instance (effect_of d s.instance) sane s.made s.open_still s.free refl never i)
 
   -- an entry that is not that unlock
-  entry_keeps : (p r : PlainState) (e : Entry) → Did d p e r → ((q : Instance) (on : OnItem) → e ≡ Step i → map.get p.made i ≡ Some q → At d q x free on → ⊥) → Kept p i (map.get r.made i)
-  entry_keeps p r (Start t f w) s never = subst (λ (z : PlainState). Kept p i (map.get z.made i)) s.leads (made_set p.made (root_of t) (new_instance f w) (Kept p) (λ same h. let g = sym (ap (holds d x) s.absent) ∙ h in cc) (λ k same h. h) i)
-  entry_keeps p r (Read j k) s never = stepped_keeps p j kinds.Read r s (λ same on h. no_change s.instance on s.kind h.0)
-    where
-      no_op : (e : Effect) (on : OnItem) → kind_of e ≡ kinds.Read → op_of e ≡ Some on → ⊥
-      no_op (effect.Read t k) on kind h = cc
-      no_op e on kind h = cc
-
-      no_change : (q : Instance) (on : OnItem) → kind_of (effect_of d q) ≡ kinds.Read → op_of (effect_of d q) ≡ Some on → ⊥
-      no_change q on kind h = no_op (effect_of d q) on kind h
-  entry_keeps p r (Step j) s never = stepped_keeps p j kinds.Change r s (λ same on h. never s.instance on (ap Step same) (ap (map.get p.made) (sym same) ∙ s.made) h)
-  entry_keeps p r (Tx j) s never = absurd s
-  entry_keeps p r (Try j place holder) s never = absurd s
+  entry_keeps : (p r : PlainState) (e : Entry) → Sane d p → Did d p e r → ((q : Instance) (on : OnItem) → e ≡ Step i → map.get p.made i ≡ Some q → At d q x free on → ⊥) → Kept p i (map.get r.made i)
+  entry_keeps p r (Start t f w) sane s never = subst (λ (z : PlainState). Kept p i (map.get z.made i)) s.leads (λ same h. holds_set d x p.made (root_of t) (new_instance f w None) (ap (holds d x) s.absent) i ∙ h)
+  entry_keeps p r (Read j k) sane s never = stepped_keeps p j kinds.Read r s sane (λ same on h. let c = sym (ap op_of (read_is j (effect_of d s.instance) s.kind).2) ∙ h.0 in cc)
+  entry_keeps p r (Step j) sane s never = stepped_keeps p j kinds.Change r s sane (λ same on h. never s.instance on (ap Step same) (ap (map.get p.made) (sym same) ∙ s.made) h)
+  entry_keeps p r (Tx j) sane s never = absurd s
+  entry_keeps p r (Try j place holder) sane s never = absurd s
 
   -- entries without it
   run_keeps : (done es : List Entry) (p r : PlainState) → run_from d nothing done ≡ Some p → run_from d p es ≡ Some r
@@ -116,7 +127,7 @@ module _ (d : Deployment) (x : Item) (i : IntentId) where
             (runs_on d nothing p done (e ∷ []) run ∙ ap (option_and_then (λ z. Some z)) step)
             is
             (λ some more split st. never (e ∷ some) more (ap (λ l. e ∷ l) split) (subst (λ l. StandsAtOperation d l i x free) (append_assoc done (e ∷ []) some) st))
-            (entry_keeps p q e (did d p e q step) (λ a on same made at. never [] es (ap (λ z. z ∷ es) same)
+            (entry_keeps p q e (run_is_sane d done p run) (did d p e q step) (λ a on same made at. never [] es (ap (λ z. z ∷ es) same)
             (record { state = p; run = ap (run_from d nothing) (append-nil done) ∙ run; instance = a; made = made; on = on; wants_it = at.0; item = at.1; does = at.2 })) refl h)
       ]) refl on
 

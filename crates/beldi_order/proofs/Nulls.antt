@@ -13,9 +13,9 @@ use Rattle.beldi_book.specs.declared.entry.Entry.TheVariants.{Start, Read, Step,
 use Rattle.beldi_book.specs.Order.{linear}
 use Rattle.beldi_plain.specs.Item.{Item, item_cmp, item_total, item_exact}
 use Rattle.beldi_plain.specs.Operation.{OnItem, op_of, item_in, sets, set_if, set_item}
-use Rattle.beldi_plain.specs.Plain.{Instance, PlainState, nothing, after, step_by, operated, value_at, effect_of}
+use Rattle.beldi_plain.specs.Plain.{Instance, PlainState, nothing, with_instance, ended, after, step_by, operated, value_at, effect_of}
 use Rattle.beldi_order.specs.Laws.{KeepsNoNull, NullIsAbsent}
-use Rattle.beldi_order.proofs.Entries.{changed, did, run_keeps}
+use Rattle.beldi_order.proofs.Entries.{changed, did, answer_keeps, run_keeps}
 
 set_kept : (f : FinMap item_cmp Value) (y : Item) (v : Value) → ((x : Item) → map.get f x ≡ Some Null → ⊥) → (x : Item) → map.get (set_item f y v) x ≡ Some Null → ⊥
 set_kept f y Null h = changed item_exact f (map.remove f y) y None (get-remove item_total f y) (λ x o. o ≡ Some Null → ⊥) (λ e. cc) h
@@ -31,7 +31,8 @@ operation_kept p id q (Some o) h = set_if_kept p.items (item_in q.func o) (sets 
 
 by_kept : (p : PlainState) (id : IntentId) (q : Instance) (e : Effect) → KeepsNoNull p → KeepsNoNull (step_by p id q e)
 by_kept p id q (effect.Read t k) h = h
-by_kept p id q (effect.Return o) h = h
+by_kept p id q (effect.Call f a) h = h
+by_kept p id q (effect.Return o) h = answer_keeps KeepsNoNull (with_instance p id (ended q o)) h (λ j r a is. h) q.from o
 by_kept p id q e h = operation_kept p id q (op_of e) h
 
 after_kept : (d : Deployment) (p : PlainState) (e : Entry) (q : PlainState) → KeepsNoNull p → after d p e ≡ Some q → KeepsNoNull q

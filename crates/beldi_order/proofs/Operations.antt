@@ -18,6 +18,7 @@ use Rattle.beldi_plain.specs.Item.{Item, item_cmp, item_total, item_exact}
 use Rattle.beldi_plain.specs.Holds.{held_if, held_along, holds, holds_as}
 use Rattle.beldi_plain.specs.Operation.{op_of, or_old, set_if, set_item}
 use Rattle.beldi_plain.specs.Plain.{Instance, PlainState, answered, effect_of}
+use Rattle.beldi_order.proofs.Entries.{made_set}
 
 pub item_same : (x y : Item) → is_eq (item_cmp x y) ≡ true → x ≡ y
 item_same x y h = item_exact x y ((Equal-is (item_cmp x y)).0 h)
@@ -55,6 +56,15 @@ held_pushed d x f args given [] a b = ap (λ g. held_if x f (op_of (wants d f ar
 held_pushed d x f args given (r ∷ rest) a b =
     let c = held_if x f (op_of (wants d f args false given)) b in
     held_pushed d x f args (given ++ r ∷ []) rest a c ∙ ap (λ g. held_if x f (op_of (wants d f args false g)) (held_along d x f args (given ++ r ∷ []) rest c)) (append_assoc given (r ∷ []) rest)
+
+-- an answer to what is no operation, and one that was not there before, move no lock
+module _ (d : Deployment) (x : Item) (f : FinMap id_cmp Instance) (id : IntentId) where
+  pub holds_answered : (q : Instance) (a : Answer) → map.get f id ≡ Some q → op_of (effect_of d q) ≡ None → (j : IntentId) → holds d x (map.get (map.insert f id (answered q a)) j) ≡ holds d x (map.get f j)
+  holds_answered q a is none = made_set f id (answered q a) (λ j o. holds d x o ≡ holds d x (map.get f j))
+      (held_pushed d x q.func q.args [] q.answers a false ∙ ap (λ o. held_if x q.func o (holds d x (Some q))) none ∙ ap (holds d x) (sym is)) (λ j. refl)
+
+  pub holds_set : (q : Instance) → holds d x (map.get f id) ≡ holds d x (Some q) → (j : IntentId) → holds d x (map.get (map.insert f id q) j) ≡ holds d x (map.get f j)
+  holds_set q is = made_set f id q (λ j o. holds d x o ≡ holds d x (map.get f j)) (sym is) (λ j. refl)
 
 -- an owner that is not this intent
 abbrev pub IsOther : IntentId → Owner → Type 0

@@ -8,10 +8,11 @@ use Rattle.beldi_value.specs.declared.outcome.Outcome.{Outcome}
 use Rattle.beldi_lang.specs.declared.effect.Answer.{Answer}
 use Rattle.beldi_plain.specs.Plain.{Instance}
 
--- it keeps its function and its arguments, its answers are the first of those that it has later, and an outcome stays
+-- it keeps its function, its arguments and its caller, its answers are the first of those that it has later, and an outcome stays
 pub record Grown (i j : Instance) : Type 0 where
   pub func : j.func ≡ i.func
   pub args : j.args ≡ i.args
+  pub from : j.from ≡ i.from
   pub later : List Answer
   pub more : i.answers ++ later ≡ j.answers
   pub over : (o : Outcome) → i.outcome ≡ Some o → j.outcome ≡ Some o

@@ -18,7 +18,7 @@ use Rattle.beldi_plain.specs.declared.kind.Kind.TheVariants as kinds
 pub record StandsStill (d : Deployment) (p q : PlainState) (es : List Entry) (i : IntentId) (a : Instance) : Type 0 where
   pub made : map.get p.made i ≡ Some a
   pub open_still : a.outcome ≡ None
-  pub kind : kind_of (effect_of d a) ≡ kinds.Read
+  pub kind : kind_of i (effect_of d a) ≡ kinds.Read
   pub run : run_from d p es ≡ Some q
   pub stays : map.get q.made i ≡ Some a
 

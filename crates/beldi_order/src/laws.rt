@@ -25,6 +25,7 @@ pub fn late_reads_belong()
 {}
 
 /// In the run of a legal book each instance was answered as its effects are, and has an outcome only where its body returns it.
+/// A callee was called at the step that its id names, and its outcome is what the call was answered; no root has a caller.
 pub fn legal_is_sane()
     ensures { LegalIsSane }
 {}

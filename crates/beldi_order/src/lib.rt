@@ -13,7 +13,8 @@
 //!   legal, its state is that of the book with the read's answer, and so are the states from its place on
 //!   (`late_reads_belong`).
 //! - In the run of a legal book each instance went as its body wants: what was answered was an effect that is answered
-//!   so, and an outcome is there only where the body returns it (`legal_is_sane`).
+//!   so, and an outcome is there only where the body returns it. What has an id of a callee was called there, and its
+//!   outcome is what the call was answered (`legal_is_sane`).
 //! - From the step of a legal book in which an instance locks an item to the one in which it unlocks it, no entry of another
 //!   touches the item (`legal_is_guarded`).
 //! - Entries that are guarded by locks stay so where a read that belongs earlier is answered before them
