@@ -1,2 +1,3 @@
-pub mod Steps
 mod Told
+pub mod Late
+pub mod Steps

@@ -19,7 +19,7 @@ module _ (d : Deployment) (e : Event) (c b : Core) (old new : TableState) (r : R
   on_rows (asks q) h =
       tells_map {P = λ m n. CameOn q c.now old.room h.0 m n} {Q = λ m n. EventBy d old.room old.faults new.faults e c (asks q) m b n r} old.rows new.rows (λ m n came. (h.0, h.1, came, h.2.cause)) h.2.rows
 
-  on_table : (k : Core) (p : Plan) → plan e k ≡ p → StepBy d e c p b old new r → TableAfter e k old new
+  on_table : (k : Core) (p : Plan) → plan d e k ≡ p → StepBy d e c p b old new r → TableAfter d e k old new
   on_table k (at_once z y) is h = record {
     untouched = λ x w same. h.1;
     room = ap (λ (s : TableState). s.room) h.1;
@@ -29,7 +29,7 @@ module _ (d : Deployment) (e : Event) (c b : Core) (old new : TableState) (r : R
   on_table k (asks q) is h = record { untouched = λ x w same. let clash = sym is ∙ same in cc; room = h.2.room; calls = h.2.calls; later = h.2.cause.later }
 
 pub over_rows : StepsOverRows
-over_rows d e c b old new r h = on_rows d e (counted c) b old new r (plan e c) h
+over_rows d e c b old new r h = on_rows d e (counted c) b old new r (plan d e c) h
 
 pub over_any_table : StepsOverAnyTable
-over_any_table d e c b old new r h = on_table d e (counted c) b old new r c (plan e c) refl h
+over_any_table d e c b old new r h = on_table d e (counted c) b old new r c (plan d e c) refl h

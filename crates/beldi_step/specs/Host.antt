@@ -1,11 +1,12 @@
 -- The host without its table, and what one event does.
-use Rattle.std.specs.Prelude.{◌≡◌, ℕ, ◌+◌, ◌-◌, ◌^◌, ◌==◌, ◌||◌, nat_lt, nat_le, Bool, true, false, List, [], ◌∷◌, ◌++◌, option_to_list, Option, Some, None, is_none, Result, Ok, Err, if◌then◌else◌}
+use Rattle.std.specs.Prelude.{◌≡◌, ℕ, ◌+◌, ◌-◌, ◌^◌, ◌==◌, ◌||◌, nat_lt, nat_le, min, Bool, true, false, List, [], ◌∷◌, ◌++◌, option_to_list, Option, Some, None, is_none, Result, Ok, Err, if◌then◌else◌}
+use Rattle.std.specs.List.{list_any}
 use Rattle.std.specs.Option.{option_map}
 use Rattle.std.specs.FinMap as map
 use Rattle.std.specs.FinMap.{FinMap}
-use Rattle.std.specs.Ordering.{nat_cmp}
+use Rattle.std.specs.Ordering.{nat_cmp, is_eq}
 use Rattle.std.specs.declared.alloc.AllocError.{AllocError}
-use Rattle.beldi_value.specs.Id.{root_of}
+use Rattle.beldi_value.specs.Id.{id_cmp, root_of}
 use Rattle.beldi_value.specs.declared.id.IntentId.{IntentId}
 use Rattle.beldi_value.specs.declared.value.Value.{Value}
 use Rattle.beldi_value.specs.declared.outcome.Outcome.{Outcome}
@@ -19,7 +20,7 @@ use Rattle.beldi_book.specs.Order.{count_changes}
 use Rattle.beldi_walk.specs.declared.query.Query.{Query}
 use Rattle.beldi_walk.specs.Query.{Told, lends, Came, CameOn}
 use Rattle.beldi_step.specs.declared.event.Event.{Event}
-use Rattle.beldi_step.specs.declared.event.Event.TheVariants.{Ticket, Request, Turn, Lost, Crash, Restart}
+use Rattle.beldi_step.specs.declared.event.Event.TheVariants.{Ticket, Request, Turn, Lost, Crash, Restart, Tick}
 use Rattle.beldi_step.specs.declared.event.Seen.{Seen}
 use Rattle.beldi_step.specs.declared.event.Seen.TheVariants as seen
 use Rattle.beldi_intent.specs.declared.intent.Binding.{Binding}
@@ -27,10 +28,11 @@ use Rattle.beldi_intent.specs.declared.intent.Binding.TheVariants as binding
 use Rattle.beldi_step.specs.declared.run.Mark.{Mark}
 use Rattle.beldi_step.specs.declared.run.Mark.TheVariants as mark
 use Rattle.beldi_step.specs.declared.run.Run.{Run}
+use Rattle.beldi_step.specs.declared.run.RunAt.TheVariants.{Looks}
 use Rattle.beldi_step.specs.declared.run.Wait.{Wait}
 use Rattle.beldi_step.specs.declared.run.Wait.TheVariants as wait
 use Rattle.beldi_intent.specs.Intent.{issue_asks, bind_asks, is_added, binding_of}
-use Rattle.beldi_step.specs.Run.{Turned, run_asks, run_told}
+use Rattle.beldi_step.specs.Run.{Turned, run_asks, run_told, callee_of}
 
 -- the newest ticket, the live runs by number, how many runs were ever started, the book, the moment, and how many events
 -- were taken
@@ -65,43 +67,64 @@ no_run c i = if (i == 0) || nat_lt c.last_run i then seen.NoRun else seen.RunOve
 abbrev pub ended_run : Core → ℕ → Core
 ended_run c i = record c { runs = map.remove c.runs i }
 
-abbrev pub new_run : IntentId → ℕ → Run
-new_run id f = record { id = id; func = f; at = None }
+-- the last moment of a life that begins now, as a number of 64 bits
+abbrev pub last_of : ℕ → ℕ → ℕ
+last_of now life = min (now + life) (2 ^ 64 - 1)
 
-abbrev pub restarted : Core → IntentId → ℕ → Core
-restarted c id f = record c { runs = map.insert c.runs (c.last_run + 1) (new_run id f); last_run = c.last_run + 1 }
+-- a run that no call started may act for the deployment's life from now on
+abbrev pub new_run : Deployment → Core → IntentId → ℕ → Run
+new_run d c id f = record { id = id; func = f; deadline = last_of c.now d.life; at = Looks }
+
+-- a run more
+abbrev pub with_run : Core → Run → Core
+with_run c r = record c { runs = map.insert c.runs (c.last_run + 1) r; last_run = c.last_run + 1 }
+
+abbrev pub is_crowded : Core → Bool
+is_crowded c = nat_le most_runs (map.len c.runs)
 
 abbrev pub request_plan : Core → ℕ → ℕ → Value → Plan
 request_plan c t f a =
     if (t == 0) || nat_lt c.newest t then at_once c (seen.Unknown t) else
-    if nat_le most_runs (map.len c.runs) then at_once c seen.Crowded else
+    if is_crowded c then at_once c seen.Crowded else
     asks (bind_asks t f a)
+
+-- an event of the run of this number: one that is past its deadline is over, and does nothing more
+abbrev pub in_time : Core → ℕ → Run → Plan → Plan
+in_time c i r p = if nat_lt r.deadline c.now then at_once (ended_run c i) seen.Expired else p
 
 abbrev pub run_plan : Core → ℕ → Option Run → Plan
 run_plan c i None = at_once c (no_run c i)
-run_plan c i (Some r) = asks (run_asks r)
+run_plan c i (Some r) = in_time c i r (asks (run_asks r))
 
 abbrev pub crash_plan : Core → ℕ → Option Run → Plan
 crash_plan c i None = at_once c (no_run c i)
-crash_plan c i (Some r) = at_once (ended_run c i) seen.Crashed
+crash_plan c i (Some r) = in_time c i r (at_once (ended_run c i) seen.Crashed)
 
-abbrev pub restart_plan : Core → IntentId → ℕ → Plan
-restart_plan c id f = if nat_le most_runs (map.len c.runs) then at_once c seen.Crowded else at_once (restarted c id f) (seen.Started (c.last_run + 1))
+abbrev pub restart_plan : Deployment → Core → IntentId → ℕ → Plan
+restart_plan d c id f = if is_crowded c then at_once c seen.Crowded else at_once (with_run c (new_run d c id f)) (seen.Started (c.last_run + 1))
 
-abbrev pub plan_of : Event → Core → Plan
-plan_of Ticket c = if c.newest == 2 ^ 32 - 1 then at_once c seen.NoTicket else asks (issue_asks (c.newest + 1))
-plan_of (Request t f a) c = request_plan c t f a
-plan_of (Turn i) c = run_plan c i (map.get c.runs i)
-plan_of (Lost i) c = run_plan c i (map.get c.runs i)
-plan_of (Crash i) c = crash_plan c i (map.get c.runs i)
-plan_of (Restart id f) c = restart_plan c id f
+-- the moment of a host is at most this one, in ticks
+abbrev pub last_moment : ℕ
+last_moment = 2 ^ 62
+
+abbrev pub tick_plan : Core → ℕ → Plan
+tick_plan c n = if nat_lt last_moment (c.now + n) then at_once c seen.ClockEnd else at_once (record c { now = c.now + n }) (seen.Now (c.now + n))
+
+abbrev pub plan_of : Deployment → Event → Core → Plan
+plan_of d Ticket c = if c.newest == 2 ^ 32 - 1 then at_once c seen.NoTicket else asks (issue_asks (c.newest + 1))
+plan_of d (Request t f a) c = request_plan c t f a
+plan_of d (Turn i) c = run_plan c i (map.get c.runs i)
+plan_of d (Lost i) c = run_plan c i (map.get c.runs i)
+plan_of d (Crash i) c = crash_plan c i (map.get c.runs i)
+plan_of d (Restart id f) c = restart_plan d c id f
+plan_of d (Tick n) c = tick_plan c n
 
 abbrev pub counted : Core → Core
 counted c = record c { taken = c.taken + 1 }
 
 -- a host that is spent counts no event
-abbrev pub plan : Event → Core → Plan
-plan e c = if nat_lt c.taken most_events then plan_of e (counted c) else at_once c seen.Spent
+abbrev pub plan : Deployment → Event → Core → Plan
+plan d e c = if nat_lt c.taken most_events then plan_of d e (counted c) else at_once c seen.Spent
 
 -- ---- what follows where the table told
 -- a ticket, by whether its row was added
@@ -109,8 +132,8 @@ abbrev pub ticket_next : Core → Bool → Core × Seen
 ticket_next c true = (record c { newest = c.newest + 1 }, seen.Issued (c.newest + 1))
 ticket_next c false = (c, seen.Gone (c.newest + 1))
 
-abbrev pub bound_next : Core → ℕ → ℕ → Value → Core × Seen
-bound_next c t f a = (record c { runs = map.insert c.runs (c.last_run + 1) (new_run (root_of t) f); last_run = c.last_run + 1; book = c.book ++ entry.Start t f a ∷ [] }, seen.Bound t (c.last_run + 1))
+abbrev pub bound_next : Deployment → Core → ℕ → ℕ → Value → Core × Seen
+bound_next d c t f a = (record (with_run c (new_run d c (root_of t) f)) { book = c.book ++ entry.Start t f a ∷ [] }, seen.Bound t (c.last_run + 1))
 
 -- the answer where the root was not bound now
 abbrev pub unbound : ℕ → Binding → Seen
@@ -121,9 +144,9 @@ unbound t (binding.Ended o) = seen.Replied t o
 unbound t binding.Gone = seen.Gone t
 
 -- a request, by what its bind came to
-abbrev pub request_next : Core → ℕ → ℕ → Value → Binding → Core × Seen
-request_next c t f a binding.Bound = bound_next c t f a
-request_next c t f a b = (c, unbound t b)
+abbrev pub request_next : Deployment → Core → ℕ → ℕ → Value → Binding → Core × Seen
+request_next d c t f a binding.Bound = bound_next d c t f a
+request_next d c t f a b = (c, unbound t b)
 
 -- the entry of a mark
 abbrev pub entry_of : IntentId → Mark → Entry
@@ -138,19 +161,45 @@ abbrev pub put_run : FinMap nat_cmp Run → ℕ → Option Run → FinMap nat_cm
 put_run m i None = map.remove m i
 put_run m i (Some r) = map.insert m i r
 
--- the answer to a turn: what the run waits for, or what it did
-abbrev pub waiting : Wait → Seen
-waiting (wait.Held o) = seen.Held o
+-- whether an intent has a live run
+abbrev pub has_run : FinMap nat_cmp Run → IntentId → Bool
+has_run m id = list_any (λ e. is_eq (id_cmp e.1.id id)) (map.entries m)
 
-abbrev pub acted : IntentId → Turned → Seen
-acted id s = seen.Acted (option_map (entry_of id) s.mark) (is_none s.next) (option_map (λ (o : Outcome). (id.ticket, o)) s.reply)
+-- a turn that was made: its entry, the run that it started, whether its own run is over, and the root that it ended
+abbrev pub acted : IntentId → Turned → Option ℕ → Seen
+acted id s started = seen.Acted (option_map (entry_of id) s.mark) started (is_none s.next) (option_map (λ (o : Outcome). (id.ticket, o)) s.reply)
 
-abbrev pub turn_seen : IntentId → Turned → Option Wait → Seen
-turn_seen id s (Some w) = waiting w
-turn_seen id s None = acted id s
+abbrev pub started : Core → IntentId → Turned → Run → Core × Seen
+started c id s r = (with_run c r, acted id s (Some (c.last_run + 1)))
+
+-- a call was opened: a run of the callee is started where it has no live run and there is a place for one
+abbrev pub opened : Core → IntentId → Turned → Option Run → Core × Seen
+opened c id s None = (c, acted id s None)
+opened c id s (Some r) = if has_run c.runs r.id || is_crowded c then (c, acted id s None) else started c id s r
+
+-- the result of a call is not there: its run waits for a live run of the callee, or one is started
+abbrev pub started_anew : Core → IntentId → Turned → Option Run → Core × Seen
+started_anew c id s None = (c, acted id s None)
+started_anew c id s (Some r) = started c id s r
+
+abbrev pub awaited : Core → IntentId → Turned → IntentId → Core × Seen
+awaited c id s callee =
+    if has_run c.runs callee then (c, seen.NotYet callee) else
+    if is_crowded c then (c, seen.Crowded) else
+    started_anew c id s (callee_of s.next)
+
+-- what follows of a turn: it was made, or the run waits
+abbrev pub after_turn : Core → IntentId → Turned → Option Wait → Core × Seen
+after_turn c id s None = if s.opens then opened c id s (callee_of s.next) else (c, acted id s None)
+after_turn c id s (Some (wait.Held o)) = (c, seen.Held o)
+after_turn c id s (Some (wait.Result callee)) = awaited c id s callee
+
+-- the core after a turn, but for a run that it started
+abbrev pub turned_core : Core → ℕ → IntentId → Turned → Core
+turned_core c i id s = record c { runs = put_run c.runs i s.next; book = marked c.book id s.mark }
 
 abbrev pub turn_next : Core → ℕ → IntentId → Turned → Core × Seen
-turn_next c i id s = (record c { runs = put_run c.runs i s.next; book = marked c.book id s.mark }, turn_seen id s s.wait)
+turn_next c i id s = after_turn (turned_core c i id s) id s s.wait
 
 -- the run of this number is over, and the book has the entry of its act
 abbrev pub without_run : Core → ℕ → IntentId → Option Mark → Core
@@ -165,14 +214,15 @@ abbrev pub unheard_next : Deployment → Core → ℕ → Told → Option Run �
 unheard_next d c i t None = c
 unheard_next d c i t (Some r) = without_run c i r.id (run_told d (count_changes c.book) r t).mark
 
--- a crash and a restart ask nothing, so they hear nothing
+-- a crash, a restart and a tick ask nothing, so they hear nothing
 abbrev pub heard : Deployment → Event → Core → Told → Core × Seen
 heard d Ticket c t = ticket_next c (is_added t)
-heard d (Request t f a) c u = request_next c t f a (binding_of u)
+heard d (Request t f a) c u = request_next d c t f a (binding_of u)
 heard d (Turn i) c t = run_next d c i t (map.get c.runs i)
 heard d (Lost i) c t = (unheard_next d c i t (map.get c.runs i), seen.Dropped)
 heard d (Crash i) c t = (c, seen.Crashed)
 heard d (Restart id f) c t = (c, seen.Crowded)
+heard d (Tick n) c t = (c, seen.ClockEnd)
 
 -- .. and then out of memory: what is left, none where that cannot be
 abbrev pub if_lent : Bool → Core → Option Core
@@ -186,6 +236,7 @@ no_memory d (Turn i) c t = Some (unheard_next d c i t (map.get c.runs i))
 no_memory d (Lost i) c t = None
 no_memory d (Crash i) c t = None
 no_memory d (Restart id f) c t = None
+no_memory d (Tick n) c t = None
 
 -- ---- what follows where it did not
 abbrev pub refused_by : TableErr → Result Seen AllocError
@@ -203,6 +254,7 @@ refused (Lost i) c err.OutOfMemory = (ended_run c i, Err (record {}))
 refused (Lost i) c e = (ended_run c i, Ok seen.Dropped)
 refused (Crash i) c e = (c, refused_by e)
 refused (Restart id f) c e = (c, refused_by e)
+refused (Tick n) c e = (c, refused_by e)
 
 -- ---- one event
 -- what followed, by what the query came to
@@ -228,7 +280,7 @@ StepBy d e c (asks q) z old new r = (w : Result Told TableErr) × Followed d e c
 
 -- what a call that carries out an event does
 abbrev pub Stepped : Deployment → Event → Core → Core → TableState → TableState → Result Seen AllocError → Type 0
-Stepped d e c z old new r = StepBy d e (counted c) (plan e c) z old new r
+Stepped d e c z old new r = StepBy d e (counted c) (plan d e c) z old new r
 
 -- .. and over rows that are told: from the core c and the rows m an event leaves z and n, and comes to r. The table's count of
 -- failures was `old` before, and is `new` now.
@@ -237,7 +289,7 @@ EventBy d room old new e c (at_once b y) m z n r = AtOnce c b y z r × (n ≡ m)
 EventBy d room old new e c (asks q) m z n r = (w : Result Told TableErr) × Followed d e c w z r × CameOn q c.now room w m n × HasCause old new w
 
 abbrev pub EventOn : Deployment → ℕ → ℕ → ℕ → Event → Core → Rows → Core → Rows → Result Seen AllocError → Type 0
-EventOn d room old new e c m z n r = EventBy d room old new e (counted c) (plan e c) m z n r
+EventOn d room old new e c m z n r = EventBy d room old new e (counted c) (plan d e c) m z n r
 
 -- ---- an answer that is lost
 -- the event of a run whose answer is lost

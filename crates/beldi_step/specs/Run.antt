@@ -1,10 +1,11 @@
 -- A run, as a machine that asks one thing a turn.
-use Rattle.std.specs.Prelude.{◌≡◌, ℕ, Bool, true, false, Option, Some, None, Result, Ok, Err, if◌then◌else◌}
-use Rattle.beldi_value.specs.Id.{has_no_hops}
+use Rattle.std.specs.Prelude.{◌≡◌, ℕ, not, Bool, true, false, Option, Some, None, Result, Ok, Err, if◌then◌else◌}
+use Rattle.beldi_value.specs.Id.{has_callees, has_no_hops, child_of}
 use Rattle.beldi_value.specs.declared.id.IntentId.{IntentId}
 use Rattle.beldi_value.specs.declared.value.Value.{Value}
 use Rattle.beldi_value.specs.declared.value.Value.TheVariants as value
 use Rattle.beldi_value.specs.declared.outcome.Outcome.{Outcome}
+use Rattle.beldi_value.specs.declared.place.Caller.{Caller}
 use Rattle.beldi_value.specs.declared.place.Place.{Place}
 use Rattle.beldi_value.specs.declared.place.Owner.TheVariants as owner
 use Rattle.beldi_tree.specs.declared.deployment.Deployment.{Deployment}
@@ -15,38 +16,50 @@ use Rattle.beldi_lang.specs.declared.effect.Effect.{Effect}
 use Rattle.beldi_lang.specs.declared.effect.Effect.TheVariants as effect
 use Rattle.beldi_lang.specs.declared.effect.Answer.{Answer}
 use Rattle.beldi_lang.specs.declared.effect.Answer.TheVariants as answer
+use Rattle.beldi_lang.specs.Callee.{answer_of}
 use Rattle.beldi_lang.specs.declared.machine.Machine.{Machine}
 use Rattle.beldi_lang.specs.Machine.{begun as machine_begun, resumed}
 use Rattle.beldi_row.specs.declared.act.Act.TheVariants.{Look, PutRead}
+use Rattle.beldi_row.specs.declared.row.Body.{Body}
+use Rattle.beldi_row.specs.Act.{added}
 use Rattle.beldi_row.specs.declared.notes.Note.{Note}
 use Rattle.beldi_row.specs.declared.notes.Note.TheVariants.{Wrote, Cond, Got, Died, Freed}
 use Rattle.beldi_walk.specs.declared.query.Query.{Query}
 use Rattle.beldi_walk.specs.declared.query.Query.TheVariants.{Act}
-use Rattle.beldi_walk.specs.Query.{Told}
+use Rattle.beldi_walk.specs.Query.{Told, said}
 use Rattle.beldi_daal.specs.declared.cell.WriteAt.{WriteAt}
 use Rattle.beldi_daal.specs.declared.cell.WriteAt.TheVariants.{Try}
 use Rattle.beldi_daal.specs.declared.cell.WriteGoes.{WriteGoes}
 use Rattle.beldi_daal.specs.declared.cell.WriteGoes.TheVariants as writes
 use Rattle.beldi_daal.specs.declared.cell.ReadGoes.{ReadGoes}
 use Rattle.beldi_daal.specs.declared.cell.ReadGoes.TheVariants as reads
-use Rattle.beldi_daal.specs.declared.cell.CellOp.{CellOp}
 use Rattle.beldi_daal.specs.declared.cell.CellOp.TheVariants as op
 use Rattle.beldi_daal.specs.Cell.{cell_key, done_note, write_asks, write_goes, read_goes}
 use Rattle.beldi_readlog.specs.declared.read_log.Kept.{Kept}
 use Rattle.beldi_readlog.specs.ReadLog.{log_key, given_of, kept_of}
+use Rattle.beldi_invokelog.specs.declared.invoke_log.Back as told
+use Rattle.beldi_invokelog.specs.declared.invoke_log.Back.TheVariants as back
+use Rattle.beldi_invokelog.specs.InvokeLog.{back_asks, back_of}
+use Rattle.beldi_call.specs.declared.call.CallAt.{CallAt}
+use Rattle.beldi_call.specs.declared.call.CallAt.TheVariants as call
+use Rattle.beldi_call.specs.declared.call.CallSays.{CallSays}
+use Rattle.beldi_call.specs.declared.call.CallSays.TheVariants.{Opened, NotYet, Done}
+use Rattle.beldi_call.specs.Call.{call_asks, call_says}
 use Rattle.beldi_step.specs.declared.run.Mark.{Mark}
 use Rattle.beldi_step.specs.declared.run.Mark.TheVariants as mark
 use Rattle.beldi_step.specs.declared.run.Wait.{Wait}
 use Rattle.beldi_step.specs.declared.run.Wait.TheVariants as wait
 use Rattle.beldi_step.specs.declared.run.OnCell.{OnCell}
 use Rattle.beldi_step.specs.declared.run.Run.{Run}
+use Rattle.beldi_step.specs.declared.run.RunAt.{RunAt}
+use Rattle.beldi_step.specs.declared.run.RunAt.TheVariants.{Looks, Registers, Begins}
 use Rattle.beldi_step.specs.declared.run.Begun.{Begun}
 use Rattle.beldi_step.specs.declared.run.TurnSays.{TurnSays}
 use Rattle.beldi_step.specs.declared.run.Stage.{Stage}
-use Rattle.beldi_step.specs.declared.run.Stage.TheVariants.{Ask, Walk, Keep, Write, Close, Unbuilt}
+use Rattle.beldi_step.specs.declared.run.Stage.TheVariants.{Ask, Walk, Keep, Write, Call, Back, Close}
 use Rattle.beldi_step.specs.declared.run.Says.{Says}
-use Rattle.beldi_step.specs.declared.run.Says.TheVariants.{On, Waits, Answers, Ends}
-use Rattle.beldi_intent.specs.Intent.{look_asks, end_asks, is_did, args_told}
+use Rattle.beldi_step.specs.declared.run.Says.TheVariants.{On, Opens, Waits, Answers, Ends}
+use Rattle.beldi_intent.specs.Intent.{look_asks, register_asks, end_asks, is_did, body_in, body_told}
 
 -- the place of a run's effect at a step
 abbrev pub place_of : IntentId → ℕ → Place
@@ -93,19 +106,22 @@ if_answers e (Some a) = if answers_it e a then Some a else None
 abbrev pub answer_noted : Effect → Note → Option Answer
 answer_noted e n = if_answers e (noted_answer n)
 
--- where an effect begins. The other effects are not carried out yet.
-abbrev pub first_stage : Effect → Stage
-first_stage (effect.Read t k) = Ask
-first_stage (effect.Write t k v) = Write Try
-first_stage (effect.CondWrite t k r o v) = Write Try
-first_stage (effect.Lock t k) = Write Try
-first_stage (effect.Unlock t k) = Write Try
-first_stage (effect.Return o) = Close
-first_stage e = Unbuilt
+-- a caller that waits
+abbrev pub is_waited : Option Caller → Bool
+is_waited None = false
+is_waited (Some c) = c.waits
 
--- a run whose machine has come to its next effect
-abbrev pub standing : Machine → Begun
-standing m = record { machine = m; stage = first_stage m.effect }
+-- where an effect of an intent begins, whose caller this is; none where it is not carried out, as a call is not whose callee has no
+-- id. What its caller waits for gives its outcome back before it ends.
+abbrev pub first_stage : IntentId → Option Caller → Effect → Option Stage
+first_stage id c (effect.Read t k) = Some Ask
+first_stage id c (effect.Write t k v) = Some (Write Try)
+first_stage id c (effect.CondWrite t k r o v) = Some (Write Try)
+first_stage id c (effect.Lock t k) = Some (Write Try)
+first_stage id c (effect.Unlock t k) = Some (Write Try)
+first_stage id c (effect.Call f a) = if has_callees id then Some (Call call.Open) else None
+first_stage id c (effect.Return o) = Some (if is_waited c then Back else Close)
+first_stage id c e = None
 
 -- ---- what is asked in the next turn. A stage of another effect, which does not come, looks at the intent's row.
 abbrev pub walk_asks : IntentId → ℕ → Effect → Query
@@ -116,21 +132,31 @@ abbrev pub put_asks : IntentId → ℕ → ℕ → WriteAt → Option OnCell →
 put_asks id func step at (Some o) = write_asks (cell_key func o.table o.key) (place_of id step) (owner.Intent id) o.op at
 put_asks id func step at None = look_asks id func
 
+abbrev pub call_here_asks : IntentId → ℕ → ℕ → Effect → CallAt → Query
+call_here_asks id func step (effect.Call f a) at = call_asks func (place_of id step) f at
+call_here_asks id func step e at = look_asks id func
+
+abbrev pub back_to_asks : IntentId → ℕ → Option Caller → Effect → Query
+back_to_asks id func (Some c) (effect.Return o) = back_asks c.func c.place o
+back_to_asks id func c e = look_asks id func
+
 abbrev pub close_asks : IntentId → ℕ → Effect → Query
 close_asks id func (effect.Return o) = end_asks id func o true
 close_asks id func e = look_asks id func
 
-abbrev pub stage_asks : IntentId → ℕ → ℕ → Effect → Stage → Query
-stage_asks id func step e Ask = Act (log_key func (place_of id step)) Look
-stage_asks id func step e Walk = walk_asks id func e
-stage_asks id func step e (Keep v seen) = Act (log_key func (place_of id step)) (PutRead v)
-stage_asks id func step e (Write at) = put_asks id func step at (cell_op e)
-stage_asks id func step e Close = close_asks id func e
-stage_asks id func step e Unbuilt = look_asks id func
+abbrev pub stage_asks : IntentId → ℕ → Option Caller → ℕ → Effect → Stage → Query
+stage_asks id func c step e Ask = Act (log_key func (place_of id step)) Look
+stage_asks id func c step e Walk = walk_asks id func e
+stage_asks id func c step e (Keep v seen) = Act (log_key func (place_of id step)) (PutRead v)
+stage_asks id func c step e (Write at) = put_asks id func step at (cell_op e)
+stage_asks id func c step e (Call at) = call_here_asks id func step e at
+stage_asks id func c step e Back = back_to_asks id func c e
+stage_asks id func c step e Close = close_asks id func e
 
-abbrev pub asks_at : Run → Option Begun → Query
-asks_at r None = look_asks r.id r.func
-asks_at r (Some g) = stage_asks r.id r.func g.machine.steps g.machine.effect g.stage
+abbrev pub asks_at : Run → RunAt → Query
+asks_at r Looks = look_asks r.id r.func
+asks_at r (Registers b) = register_asks r.id b
+asks_at r (Begins g) = stage_asks r.id r.func g.caller g.machine.steps g.machine.effect g.stage
 
 abbrev pub run_asks : Run → Query
 run_asks r = asks_at r r.at
@@ -172,62 +198,117 @@ abbrev pub put_says : Effect → Option Note → Told → Says
 put_says e None t = Ends None None
 put_says e (Some n) t = write_says e (write_goes n t)
 
+-- how the callee ended is the answer to the call; where it has not, the run has opened the call, or waits
+abbrev pub call_answer : IntentId → ℕ → CallSays → Says
+call_answer id step (Opened first) = Opens (mark_if first mark.Step)
+call_answer id step NotYet = Waits (wait.Result (child_of id step))
+call_answer id step (Done o) = Answers (answer_of o) None
+
+abbrev pub call_here_says : IntentId → ℕ → Effect → CallAt → Told → Says
+call_here_says id step (effect.Call f a) at t = if has_callees id then call_answer id step (call_says f at t) else Ends None None
+call_here_says id step e at t = Ends None None
+
+-- the outcome was given back, and the step that gave it was made once; then the instance is ended
+abbrev pub back_says : told.Back → Says
+back_says back.Set = On Close (Some mark.Step)
+back_says back.AlreadySet = On Close None
+back_says back.Absent = On Close None
+
 -- the first end of a root gives its reply
 abbrev pub reply_if : Bool → Outcome → Option Outcome
 reply_if true o = Some o
 reply_if false o = None
 
-abbrev pub close_says : IntentId → Effect → Bool → Says
-close_says id (effect.Return o) true = Ends (Some mark.Step) (reply_if (has_no_hops id.hops) o)
-close_says id e b = Ends None None
+-- the end of what its caller waits for makes no step: its outcome was given back
+abbrev pub close_says : IntentId → Option Caller → Effect → Bool → Says
+close_says id c (effect.Return o) true = Ends (mark_if (not (is_waited c)) mark.Step) (reply_if (has_no_hops id.hops) o)
+close_says id c e b = Ends None None
 
 -- `changes` is how many changes had been made
-abbrev pub stage_says : IntentId → ℕ → Effect → Stage → Told → Says
-stage_says id changes e Ask t = ask_says (given_of t)
-stage_says id changes e Walk t = walk_says changes (read_goes (Some (owner.Intent id)) t)
-stage_says id changes e (Keep v seen) t = keep_says seen (kept_of v t)
-stage_says id changes e (Write at) t = put_says e (note_done e) t
-stage_says id changes e Close t = close_says id e (is_did t)
-stage_says id changes e Unbuilt t = Ends None None
+abbrev pub stage_says : IntentId → Option Caller → ℕ → ℕ → Effect → Stage → Told → Says
+stage_says id c changes step e Ask t = ask_says (given_of t)
+stage_says id c changes step e Walk t = walk_says changes (read_goes (Some (owner.Intent id)) t)
+stage_says id c changes step e (Keep v seen) t = keep_says seen (kept_of v t)
+stage_says id c changes step e (Write at) t = put_says e (note_done e) t
+stage_says id c changes step e (Call at) t = call_here_says id step e at t
+stage_says id c changes step e Back t = back_says (back_of t)
+stage_says id c changes step e Close t = close_says id c e (is_did t)
 
 abbrev pub mark_of : Says → Option Mark
 mark_of (On s m) = m
+mark_of (Opens m) = m
 mark_of (Waits w) = None
 mark_of (Answers a m) = m
 mark_of (Ends m o) = m
 
 -- ---- where a run goes
--- the run as it goes on, none where it is over; the mark of its act; why it stands; and the outcome that its act gave the root
+-- the run as it goes on, none where it is over; the mark of its act; whether it opened a call whose callee has not ended; why it
+-- stands; and the outcome that its act gave the root
 pub record Turned : Type 0 where
   pub next : Option Run
   pub mark : Option Mark
+  pub opens : Bool
   pub wait : Option Wait
   pub reply : Option Outcome
 
-abbrev pub over : Turned
-over = record { next = None; mark = None; wait = None; reply = None }
+abbrev pub over : Option Mark → Turned
+over m = record { next = None; mark = m; opens = false; wait = None; reply = None }
 
 abbrev pub goes : Run → Begun → Option Mark → Turned
-goes r g m = record { next = Some (record r { at = Some g }); mark = m; wait = None; reply = None }
+goes r g m = record { next = Some (record r { at = Begins g }); mark = m; opens = false; wait = None; reply = None }
+
+-- a run whose machine has come to its next effect; one whose effect is not carried out is over
+abbrev pub goes_from : Run → Machine → Option Caller → Option Mark → Option Stage → Turned
+goes_from r machine c m None = over m
+goes_from r machine c m (Some s) = goes r (record { machine = machine; caller = c; stage = s }) m
+
+abbrev pub goes_to : Run → Machine → Option Caller → Option Mark → Turned
+goes_to r machine c m = goes_from r machine c m (first_stage r.id c machine.effect)
+
+abbrev pub at_stage : Begun → Stage → Begun
+at_stage g s = record { machine = g.machine; caller = g.caller; stage = s }
 
 abbrev pub turned_by : Deployment → Run → Begun → Says → Turned
-turned_by d r g (On s m) = goes r (record { machine = g.machine; stage = s }) m
-turned_by d r g (Waits w) = record { next = Some r; mark = None; wait = Some w; reply = None }
-turned_by d r g (Answers a m) = goes r (standing (resumed d g.machine a)) m
-turned_by d r g (Ends m o) = record { next = None; mark = m; wait = None; reply = o }
+turned_by d r g (On s m) = goes r (at_stage g s) m
+turned_by d r g (Opens m) = record { next = Some (record r { at = Begins (at_stage g (Call call.Look)) }); mark = m; opens = true; wait = None; reply = None }
+turned_by d r g (Waits w) = record { next = Some r; mark = None; opens = false; wait = Some w; reply = None }
+turned_by d r g (Answers a m) = goes_to r (resumed d g.machine a) g.caller m
+turned_by d r g (Ends m o) = record { next = None; mark = m; opens = false; wait = None; reply = o }
 
--- a run of a function begins with the arguments of its body
-abbrev pub begin_in : Deployment → Run → Option Func → Option Value → Turned
-begin_in d r func None = over
-begin_in d r None (Some args) = over
-begin_in d r (Some func) (Some args) = goes r (standing (machine_begun d r.func args false)) None
+-- a run begins a body of its function
+abbrev pub begin_in : Deployment → Run → Option Func → Option Body → Turned
+begin_in d r func None = over None
+begin_in d r None (Some b) = over None
+begin_in d r (Some func) (Some b) = goes_to r (machine_begun d r.func b.args false) b.from None
 
-abbrev pub told_at : Deployment → ℕ → Run → Option Begun → Told → Turned
-told_at d changes r None t = begin_in d r (func_at d r.func) (args_told r.func t)
-told_at d changes r (Some g) t = turned_by d r g (stage_says r.id changes g.machine.effect g.stage t)
+-- the body of a run, by what it was told: that of its row, or the one that it registered now
+abbrev pub body_registered : ℕ → Body → Told → Option Body
+body_registered func b (said added) = body_in func (Some b)
+body_registered func b t = body_told func t
+
+abbrev pub told_at : Deployment → ℕ → Run → RunAt → Told → Turned
+told_at d changes r Looks t = begin_in d r (func_at d r.func) (body_told r.func t)
+told_at d changes r (Registers b) t = begin_in d r (func_at d r.func) (body_registered r.func b t)
+told_at d changes r (Begins g) t = turned_by d r g (stage_says r.id g.caller changes g.machine.steps g.machine.effect g.stage t)
 
 abbrev pub run_told : Deployment → ℕ → Run → Told → Turned
 run_told d changes r t = told_at d changes r r.at t
+
+-- ---- a run of what is called: it has the caller's deadline, and registers its body, where the callee has no row yet
+abbrev pub callee_body : Run → ℕ → ℕ → Value → Body
+callee_body r step f a = record { func = f; args = a; tx = None; from = Some (record { place = place_of r.id step; func = r.func; waits = true }) }
+
+abbrev pub callee_by : Run → ℕ → Effect → Option Run
+callee_by r step (effect.Call f a) = if has_callees r.id then Some (record { id = child_of r.id step; func = f; deadline = r.deadline; at = Registers (callee_body r step f a) }) else None
+callee_by r step e = None
+
+abbrev pub callee_at : Run → RunAt → Option Run
+callee_at r (Begins g) = callee_by r g.machine.steps g.machine.effect
+callee_at r at = None
+
+abbrev pub callee_of : Option Run → Option Run
+callee_of None = None
+callee_of (Some r) = callee_at r r.at
 
 -- ---- calls that make a turn
 -- the run as it goes on, if it does
@@ -235,12 +316,18 @@ abbrev pub going : Run → Bool → Option Run
 going s true = None
 going s false = Some s
 
+-- the body that a run begins, before it has begun
+abbrev pub body_added : ℕ → RunAt → Option Body
+body_added func (Registers b) = body_in func (Some b)
+body_added func at = None
+
+abbrev pub body_found : ℕ → RunAt → Told → Option Body
+body_found func at (said added) = body_added func at
+body_found func at t = body_told func t
+
 -- an answer, with the run as it is after it
 abbrev pub followed : Run → TurnSays → Turned
-followed s x = record { next = going s x.over; mark = x.mark; wait = x.wait; reply = x.reply }
-
-abbrev pub answered_run : Run → Machine → Run
-answered_run r m = record r { at = Some (standing m) }
+followed s x = record { next = going s x.over; mark = x.mark; opens = x.opens; wait = x.wait; reply = x.reply }
 
 -- the run turned so; out of memory the mark is told
 abbrev pub Turns : Run → Result TurnSays (Option Mark) → Turned → Type 0

@@ -17,6 +17,8 @@ pub enum Event {
     Crash(u64),
     /// Another run of an intent is started, as one of a function of this number.
     Restart { id: IntentId, func: u16 },
+    /// So many ticks pass.
+    Tick(u64),
 }
 
 /// The answers to events.
@@ -48,15 +50,19 @@ pub enum Seen {
     Gone(u32),
     /// The ticket is 0 or above the newest.
     Unknown(u32),
-    /// The turn was made: the entry that it made, whether the run is over, and the ticket and outcome of the root that
-    /// it ended first.
+    /// The turn was made: the entry that it made, the run that it started, whether its own run is over, and the ticket
+    /// and outcome of the root that it ended first.
     Acted {
         entry: Option<Entry>,
+        started: Option<u64>,
         over: bool,
         reply: Option<(u32, Outcome)>,
     },
     /// This owner has the lock of the item that the run is at: the run waits, and all is as before.
     Held(Owner),
+    /// The call that the run is at has no result, and a run of its callee, which has this id, is live: the run waits, and
+    /// all is as before.
+    NotYet(IntentId),
     /// The table has no room for the row that the act would add: it has `live` rows, which are at least `room`.
     Full {
         live: u32,
@@ -65,8 +71,11 @@ pub enum Seen {
     /// The write asks for a row of its item past the greatest. It comes only where the rows of an item are linked: no act
     /// says so yet.
     Worn,
-    /// 1,024 runs are live, and the event is a request or a restart.
+    /// 1,024 runs are live, and the event is a request or a restart, or the turn of a run that waits for a callee without a
+    /// live run: the run waits on.
     Crowded,
+    /// The moment is past the run's deadline: no act was made, and the run is over.
+    Expired,
     /// The number was never given to a run.
     NoRun,
     /// The run of the number is over.
@@ -77,6 +86,10 @@ pub enum Seen {
     Crashed,
     /// A run of this number was started.
     Started(u64),
+    /// It is this moment, in ticks.
+    Now(u64),
+    /// The moment would pass 2^62 ticks, and stays.
+    ClockEnd,
     /// 2^62 events were taken before.
     Spent,
 }

@@ -1,5 +1,5 @@
-// What one step of the host says over rows that are told, and over any table.
-ghost use Rattle.beldi_step.specs.Laws.{StepsOverRows, StepsOverAnyTable};
+// What one step of the host says over rows that are told, over any table, and past a deadline.
+ghost use Rattle.beldi_step.specs.Laws.{StepsOverRows, StepsOverAnyTable, ExpiresPastDeadline};
 
 /// Over rows that are told, a step is a relation between the host and the rows before and after.
 pub fn a_step_over_rows()
@@ -10,4 +10,9 @@ pub fn a_step_over_rows()
 /// that leaves the table as it was.
 pub fn a_step_over_any_table()
     ensures { StepsOverAnyTable }
+{}
+
+/// No run acts past its deadline: an event of a run that is past it makes no call of the table, and the run is over.
+pub fn a_run_expires_past_its_deadline()
+    ensures { ExpiresPastDeadline }
 {}

@@ -1,7 +1,9 @@
-use Rattle.std.proofs.Common.{rules}
 use Rattle.beldi_walk.specs.Query.{told_of}
-use Rattle.beldi_step.proofs.Told.{told_so}
+use Rattle.beldi_step.proofs.Told.{told_so, marked_so}
 use Rattle.beldi_step.proofs.run.Run.told.Goals as goal
 
-pub returns-in-Ok-hear : goal.returns-in-Ok-hear
-returns-in-Ok-hear c = told_so c.args.code.now c.args.changes c.args.self.now c.follow.new.self c.in-Some.begun c.wants.result.now c.in-Ok-hear.says (told_of c.args.heard) c.follow.result (search rules) c.wants.ensures.effect c.in-Ok-hear.ensures.ok (c.follow.ensures c.in-Some.begun (search rules))
+pub returns-in-Ok-clause-turns : goal.returns-in-Ok-clause-turns
+returns-in-Ok-clause-turns c = told_so c.args.code.now c.args.changes c.args.self.now c.follow.new.self c.in-Begins.begun c.in-Ok.says (told_of c.args.heard) c.follow.result c.in-Begins.is c.in-Ok.ensures.ok (c.follow.ensures.turns c.in-Begins.begun c.in-Begins.is)
+
+pub returns-in-Err-clause-turns : goal.returns-in-Err-clause-turns
+returns-in-Err-clause-turns c = marked_so c.args.code.now c.args.changes c.args.self.now c.in-Begins.begun c.in-Err.mark (told_of c.args.heard) c.in-Begins.is c.in-Err.ensures.err

@@ -1,0 +1,44 @@
+-- No run acts past its deadline.
+use Rattle.std.proofs.Common.{◌≡◌, ℕ, ◌<◌, Some, Result, Ok, Err, if◌then◌else◌, ap, ◌∙◌, subst}
+use Rattle.std.specs.FinMap as map
+use Rattle.std.specs.declared.alloc.AllocError.{AllocError}
+use Rattle.std.proofs.lemmas.Bool.{lt-ltb}
+use Rattle.beldi_tree.specs.declared.deployment.Deployment.{Deployment}
+use Rattle.beldi_row.specs.Table.{TableState}
+use Rattle.beldi_step.specs.declared.event.Event.{Event}
+use Rattle.beldi_step.specs.declared.event.Event.TheVariants.{Ticket, Request, Turn, Lost, Crash, Restart, Tick}
+use Rattle.beldi_step.specs.declared.event.Seen.{Seen}
+use Rattle.beldi_step.specs.declared.event.Seen.TheVariants.{Expired, Spent, Crashed}
+use Rattle.beldi_step.specs.declared.run.Run.{Run}
+use Rattle.beldi_step.specs.Run.{run_asks}
+use Rattle.beldi_step.specs.Host.{Core, Plan, at_once, asks, plan, plan_of, run_plan, crash_plan, in_time, ended_run, counted, most_events, StepBy}
+use Rattle.beldi_step.specs.Laws.{ExpiresPastDeadline, run_of_event}
+
+-- an event that is answered so at once leaves the table, and ends the run
+over_by : (d : Deployment) (e : Event) (c z b : Core) (old new : TableState) (r : Result Seen AllocError) → StepBy d e c (at_once z Expired) b old new r → (r ≡ Ok Expired) × (b ≡ z) × (new ≡ old)
+over_by d e c z b old new (Ok x) h = (ap Ok h.0.1, h.0.0, h.1)
+over_by d e c z b old new (Err w) h = absurd h.0.1
+
+late : (c : Core) (i : ℕ) (r : Run) (p : Plan) → r.deadline < c.now → in_time c i r p ≡ at_once (ended_run c i) Expired
+late c i r p h = ap (λ b. if b then at_once (ended_run c i) Expired else p) (lt-ltb r.deadline c.now h)
+
+module _ (d : Deployment) (c : Core) (i : ℕ) (r : Run) (is : map.get c.runs i ≡ Some r) (h : r.deadline < c.now) where
+  turns : run_plan c i (map.get c.runs i) ≡ at_once (ended_run c i) Expired
+  turns = ap (run_plan c i) is ∙ late c i r (asks (run_asks r)) h
+
+  ends : crash_plan c i (map.get c.runs i) ≡ at_once (ended_run c i) Expired
+  ends = ap (crash_plan c i) is ∙ late c i r (at_once (ended_run c i) Crashed) h
+
+  expires_in : (e : Event) → run_of_event e ≡ Some i → plan_of d e c ≡ at_once (ended_run c i) Expired
+  expires_in Ticket of = cc
+  expires_in (Request t f a) of = cc
+  expires_in (Turn j) of = let same : j ≡ i = cc in ap (λ k. run_plan c k (map.get c.runs k)) same ∙ turns
+  expires_in (Lost j) of = let same : j ≡ i = cc in ap (λ k. run_plan c k (map.get c.runs k)) same ∙ turns
+  expires_in (Crash j) of = let same : j ≡ i = cc in ap (λ k. crash_plan c k (map.get c.runs k)) same ∙ ends
+  expires_in (Restart id f) of = cc
+  expires_in (Tick n) of = cc
+
+pub expires : ExpiresPastDeadline
+expires d e c b old new r i run h few of is past =
+    let planned : plan d e c ≡ at_once (ended_run (counted c) i) Expired = ap (λ t. if t then plan_of d e (counted c) else at_once c Spent) (lt-ltb c.taken most_events few) ∙ expires_in d (counted c) i run is past e of in
+    over_by d e (counted c) (ended_run (counted c) i) b old new r (subst (λ p. StepBy d e (counted c) p b old new r) planned h)
