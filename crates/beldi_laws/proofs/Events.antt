@@ -1,5 +1,5 @@
 -- Every event keeps the host and its rows right.
-use Rattle.std.proofs.Common.{◌≡◌, ℕ, zero, suc, ◌+◌, ◌<◌, ◌≤◌, ◌==◌, ◌||◌, ◌&&◌, Bool, true, false, cond, [], ◌∷◌, ◌++◌, Option, None, Some, Result, Ok, Err, refl, ap, sym, ◌∙◌, subst, IsTrue, is_some, arith, if◌then◌else◌}
+use Rattle.std.proofs.Common.{◌≡◌, ℕ, zero, suc, ◌+◌, ◌≤◌, ◌==◌, ◌||◌, ◌&&◌, Bool, true, false, cond, [], ◌∷◌, ◌++◌, Option, None, Some, Result, Ok, Err, refl, ap, sym, ◌∙◌, subst, IsTrue, is_some, arith, if◌then◌else◌}
 use Rattle.std.specs.Prelude.{◌-◌, ◌^◌, nat_lt, nat_le}
 use Rattle.std.specs.FinMap as map
 use Rattle.std.specs.FinMap.{get-empty, len-empty}
@@ -10,7 +10,9 @@ use Rattle.std.proofs.lemmas.Cmp.{tied_itself}
 use Rattle.std.proofs.lemmas.Bool.Decides.{nat_tests}
 use Rattle.std.proofs.Math.Bool.{and-false}
 use Rattle.std.proofs.lemmas.Bool.{or_parts}
-use Rattle.beldi_value.specs.Id.{id_cmp, id_total, root_of, has_no_hops}
+use Rattle.beldi_value.specs.Id.{id_cmp, id_total, root_of, child_of, has_no_hops}
+use Rattle.beldi_value.specs.declared.place.Caller.{Caller}
+use Rattle.beldi_value.specs.declared.place.Place.{Place}
 use Rattle.beldi_value.specs.declared.place.Owner.{Owner}
 use Rattle.beldi_value.specs.declared.place.Owner.TheVariants as owner
 use Rattle.beldi_value.specs.Same.{same_value}
@@ -18,7 +20,7 @@ use Rattle.beldi_value.specs.declared.outcome.Outcome.{Outcome}
 use Rattle.beldi_value.specs.declared.value.Value.{Value}
 use Rattle.beldi_tree.specs.declared.deployment.Deployment.{Deployment}
 use Rattle.beldi_lang.specs.declared.effect.Effect.{Effect}
-use Rattle.beldi_lang.specs.declared.effect.Effect.TheVariants.{Read, Write, CondWrite, Lock, Unlock, Return}
+use Rattle.beldi_lang.specs.declared.effect.Effect.TheVariants.{Read, Write, CondWrite, Lock, Unlock, Call, Return}
 use Rattle.beldi_book.specs.declared.entry.Entry.TheVariants.{Start}
 use Rattle.beldi_row.specs.Key.{key_cmp}
 use Rattle.beldi_row.specs.declared.key.Kind.{Kind}
@@ -26,8 +28,6 @@ use Rattle.beldi_row.specs.declared.key.Kind.TheVariants as kinds
 use Rattle.beldi_tree.specs.Bindings.{or_null}
 use Rattle.beldi_plain.specs.Item.{Item, item_cmp}
 use Rattle.beldi_plain.specs.Holds.{holds, holds_as}
-use Rattle.beldi_plain.specs.Operation as operation
-use Rattle.beldi_plain.specs.Operation.{write, lock, free}
 use Rattle.beldi_row.specs.declared.row.Body.{Body}
 use Rattle.beldi_row.specs.declared.row.IntentRow.{IntentRow}
 use Rattle.beldi_row.specs.declared.row.Row.{Row}
@@ -37,12 +37,14 @@ use Rattle.beldi_row.specs.Act.{Tell, act, other, outcome_tell, bind_to}
 use Rattle.beldi_row.specs.declared.table.TableErr.{TableErr}
 use Rattle.beldi_row.specs.declared.table.TableErr.TheVariants.{OutOfMemory, Failed, Full}
 use Rattle.beldi_row.specs.Table.{Rows, set_row, after_act}
-use Rattle.beldi_plain.specs.Plain.{Instance, PlainState, start, nothing, with_instance, reply_of, outcome_of}
+use Rattle.beldi_plain.specs.Plain.{Instance, PlainState, new_instance, start, nothing, with_instance, reply_of, outcome_of}
 use Rattle.beldi_step.specs.declared.event.Event.{Event}
-use Rattle.beldi_step.specs.declared.event.Event.TheVariants.{Ticket, Request, Turn, Lost, Crash, Restart}
+use Rattle.beldi_step.specs.declared.event.Event.TheVariants.{Ticket, Request, Turn, Lost, Crash, Restart, Tick}
 use Rattle.beldi_step.specs.declared.event.Seen.{Seen}
 use Rattle.beldi_step.specs.declared.event.Seen.TheVariants as seen
 use Rattle.beldi_step.specs.declared.run.Run.{Run}
+use Rattle.beldi_step.specs.declared.run.RunAt as standing
+use Rattle.beldi_step.specs.declared.run.RunAt.TheVariants.{Looks, Registers, Begins}
 use Rattle.beldi_step.specs.declared.run.Begun.{Begun}
 use Rattle.beldi_step.specs.declared.run.Stage.{Stage}
 use Rattle.beldi_step.specs.declared.run.Stage.TheVariants as stage
@@ -50,26 +52,31 @@ use Rattle.beldi_value.specs.declared.id.IntentId.{IntentId}
 use Rattle.beldi_walk.specs.declared.query.Query.{Query}
 use Rattle.beldi_walk.specs.Query.{Told, lends, rows_after, told_by, CameOn}
 use Rattle.beldi_walk.proofs.Lent.{rows_stand, refused_stand}
-use Rattle.beldi_intent.specs.Intent.{intent_key, root_key, bind_asks, is_added, binding_of}
-use Rattle.beldi_step.specs.Run.{over, turned_by, stage_asks, stage_says, asks_at, told_at, run_asks, run_told}
-use Rattle.beldi_step.specs.Host.{Core, Plan, at_once, asks, first_core, most_runs, most_events, run_plan, crash_plan, new_run, restarted, ended_run, marked, ticket_next, bound_next, request_next, turn_next, run_next, unheard_next, plan_of, counted, plan, heard, no_memory, refused, refused_by, Followed, EventBy, EventOn}
-use Rattle.beldi_order.specs.Sane.{effect_before}
+use Rattle.beldi_intent.specs.Intent.{root_key, bind_asks, is_added, binding_of}
+use Rattle.beldi_invokelog.specs.InvokeLog.{back_of}
+use Rattle.beldi_step.specs.Run.{is_waited, back_says, back_to_asks, turned_by, stage_asks, stage_says, asks_at, told_at, run_asks, run_told}
+use Rattle.beldi_step.specs.Host.{Core, Plan, at_once, asks, first_core, most_runs, most_events, last_moment, is_crowded, run_plan, crash_plan, new_run, with_run, ended_run, ticket_next, bound_next, request_next, turn_next, run_next, unheard_next, plan_of, counted, plan, heard, no_memory, refused, refused_by, Followed, EventBy, EventOn}
 use Rattle.beldi_laws.specs.Stands.{head_key}
 use Rattle.beldi_daal.specs.Content.{content_in}
-use Rattle.beldi_daal.specs.declared.cell.CellOp.TheVariants as cell
-use Rattle.beldi_laws.specs.Right.{Right, ItemMatches, RowMatches, IntentMatches, IsRootRow, BodyMatches, Knows, KnowsAt, RunAt, StageOk, PlaceOk, is_owner, owed_by, owed_value, value_if}
+use Rattle.beldi_laws.specs.Right.{Right, ItemMatches, RowMatches, RootMatches, IntentMatches, IsRootRow, BodyMatches, Knows, KnowsAt, RunAt, StageOk, PlaceOk, SeenDone, called_by, is_owner, owed_by, owed_value}
 use Rattle.beldi_laws.specs.Laws.{told_outcome, is_gone, RepliesAreOutcomes, KeepsRight, RightIsLegal}
 use Rattle.beldi_row.proofs.Gets.{got}
-use Rattle.beldi_row.proofs.Unchanged.{unchanged, looked}
+use Rattle.beldi_row.proofs.Unchanged.{unchanged}
 use Rattle.beldi_book.specs.Order.{count_changes}
-use Rattle.beldi_order.proofs.Entries.{same_some, new_instance, grows_self}
-use Rattle.beldi_laws.proofs.Lives.{runs_more, runs_less, remove_put}
+use Rattle.beldi_value.proofs.Callees.{no_root}
+use Rattle.beldi_order.proofs.Entries.{same_some, grows_self}
+use Rattle.beldi_order.proofs.Late.{elsewhere}
+use Rattle.beldi_order.proofs.Sanes.{no_callees, legal_is_sane}
+use Rattle.beldi_laws.proofs.Lives.{runs_more, runs_less}
+use Rattle.beldi_laws.proofs.Notes.{true_false}
 use Rattle.beldi_order.proofs.Operations.{id_same}
-use Rattle.beldi_laws.proofs.Steps.{OwesSame, row_set, root_moved}
-use Rattle.beldi_laws.proofs.Moves.{seen_by, After, AfterTurn, AfterQuery, AfterAct, replaced, change_entered}
+use Rattle.beldi_laws.proofs.Steps.{OwesSame, new_owes, no_callee, row_set, root_moved}
+use Rattle.beldi_laws.proofs.Moves.{seen_by, After, AfterQuery, AfterAct, replaced, change_entered, unheard}
 use Rattle.beldi_laws.proofs.OneEvent.{if_plan, lent_only}
-use Rattle.beldi_laws.proofs.Turns.{begin_turn, close_turn, ends}
-use Rattle.beldi_laws.proofs.Operations.{write_is, cond_is, lock_is, unlock_is, operation_turn}
+use Rattle.beldi_laws.proofs.Beginnings.{look_turn, register_turn}
+use Rattle.beldi_laws.proofs.Callings.{call_turn}
+use Rattle.beldi_laws.proofs.Endings.{back_turn, close_turn}
+use Rattle.beldi_laws.proofs.Operations.{operation_turn}
 use Rattle.beldi_laws.proofs.Readings.{ask_turn, walk_turn, keep_turn}
 use Rattle.beldi_plain.specs.Guard.{touched_by}
 
@@ -87,36 +94,43 @@ without d c m i h = record { plain = h.plain; bounded = h.bounded; legal = h.leg
 
 -- ---- a turn
 module _ (d : Deployment) (c : Core) (m : Rows) (i : ℕ) (h : Right d c m) (r : Run) (live : map.get c.runs i ≡ Some r) where
-  stage_turn : (g : Begun) (k : Knows d c.book h.plain r g) (e : Effect) (s : Stage) → g.machine.effect ≡ e → StageOk e s → PlaceOk d c.book r.id r.func k.answers k.later e s
-      → AfterQuery d h.plain c.now m (λ t. turn_next c i r.id (turned_by d r g (stage_says r.id (count_changes c.book) e s t))) (stage_asks r.id r.func g.machine.steps e s)
-  stage_turn g k (Read t key) stage.Ask is ok at = ask_turn d c m i r g h live k t key is
-  stage_turn g k (Read t key) stage.Walk is ok at = walk_turn d c m i r g h live k t key is
-  stage_turn g k (Read t key) (stage.Keep v seen) is ok at = keep_turn d c m i r g h live k t key is v seen at
-  stage_turn g k (Write t key v) (stage.Write w) is ok at = operation_turn d c m i r g h live k (Write t key v) (record { table = t; key = key; does = write v }) (cell.Write v) (write_is t key v) is w
-  stage_turn g k (CondWrite t key u o v) (stage.Write w) is ok at = operation_turn d c m i r g h live k (CondWrite t key u o v) (record { table = t; key = key; does = operation.cond u o v }) (cell.Cond u o v) (cond_is t key u o v) is w
-  stage_turn g k (Lock t key) (stage.Write w) is ok at = operation_turn d c m i r g h live k (Lock t key) (record { table = t; key = key; does = lock }) cell.Lock (lock_is t key) is w
-  stage_turn g k (Unlock t key) (stage.Write w) is ok at = operation_turn d c m i r g h live k (Unlock t key) (record { table = t; key = key; does = free }) (cell.Free None) (unlock_is t key) is w
-  stage_turn g k (Return o) stage.Close is ok at = close_turn d c m i r g h live k o is
-  stage_turn g k e stage.Unbuilt is ok at = subst (AfterTurn d h.plain c i r.id over) (sym (looked c.now (intent_key r.id r.func) m)) (ends d c m i r g h live k e is m (λ t. refl) h.rows)
-  stage_turn g k e s is ok at = absurd ok
+  module _ (g : Begun) (at_is : r.at ≡ Begins g) (k : Knows d c.book h.plain r g) where
+    abbrev AfterStage : Effect → Stage → Type 0
+    AfterStage e s = AfterQuery d h.plain c.now m (λ t. turn_next c i r.id (turned_by d r g (stage_says r.id g.caller (count_changes c.book) g.machine.steps e s t))) (stage_asks r.id r.func g.caller g.machine.steps e s)
 
-  at_turn : (at : Option Begun) → KnowsAt d c.book h.plain r at → AfterQuery d h.plain c.now m (λ t. turn_next c i r.id (told_at d (count_changes c.book) r at t)) (asks_at r at)
-  at_turn None k = begin_turn d c m i r h live
-  at_turn (Some g) k = stage_turn g k g.machine.effect g.stage refl k.run_stage k.run_place
+    -- what a caller waits for is given back to it
+    back_at : (b : Option Caller) (o : Outcome) → g.caller ≡ b → g.machine.effect ≡ Return o → is_waited b ≡ true → AfterQuery d h.plain c.now m (λ t. turn_next c i r.id (turned_by d r g (back_says (back_of t)))) (back_to_asks r.id r.func b (Return o))
+    back_at None o from is waited = cc
+    back_at (Some b) o from is waited = back_turn d c m i r g h live k o is b from
+
+    stage_turn : (e : Effect) (s : Stage) → g.machine.effect ≡ e → StageOk r.id g.caller e s → PlaceOk d c.book r.id r.func k.answers k.later e s → SeenDone h.plain r.id g.machine.steps k.instance g.caller s → AfterStage e s
+    stage_turn (Read t key) stage.Ask is ok at done = ask_turn d c m i r g h live k t key is
+    stage_turn (Read t key) stage.Walk is ok at done = walk_turn d c m i r g h live k t key is
+    stage_turn (Read t key) (stage.Keep v seen) is ok at done = keep_turn d c m i r g h live k t key is v seen at
+    stage_turn (Write t key v) (stage.Write w) is ok at done = operation_turn d c m i r g h live k (Write t key v) refl is w
+    stage_turn (CondWrite t key u o v) (stage.Write w) is ok at done = operation_turn d c m i r g h live k (CondWrite t key u o v) refl is w
+    stage_turn (Lock t key) (stage.Write w) is ok at done = operation_turn d c m i r g h live k (Lock t key) refl is w
+    stage_turn (Unlock t key) (stage.Write w) is ok at done = operation_turn d c m i r g h live k (Unlock t key) refl is w
+    stage_turn (Call f v) (stage.Call w) is ok at done = call_turn d c m i r g h live at_is k f v is ok w done
+    stage_turn (Return o) stage.Back is ok at done = back_at g.caller o refl is ok
+    stage_turn (Return o) stage.Close is ok at done = close_turn d c m i r g h live k o is done
+    stage_turn e s is ok at done = absurd ok
+
+  at_turn : (at : standing.RunAt) → r.at ≡ at → KnowsAt d c.book h.plain r at → AfterQuery d h.plain c.now m (λ t. turn_next c i r.id (told_at d (count_changes c.book) r at t)) (asks_at r at)
+  at_turn Looks is k = look_turn d c m i r h live
+  at_turn (Registers b) is k = register_turn d c m i r h live b k
+  at_turn (Begins g) is k = stage_turn g is k g.machine.effect g.stage refl k.run_stage k.run_place k.run_done
 
   turn_made : AfterQuery d h.plain c.now m (λ t. run_next d c i t (Some r)) (run_asks r)
-  turn_made = at_turn r.at (subst (RunAt d c.book h.plain) live (h.runs.runs i))
+  turn_made = at_turn r.at refl (subst (RunAt d c.book h.plain) live (h.runs.runs i))
 
-  -- nobody hears what it told: it leaves what the turn leaves, without the run
+  -- nobody hears what it told: it leaves what the turn leaves, without the run and without one that it started
   turn_unheard : AfterQuery d h.plain c.now m (λ t. (unheard_next d c i t (Some r), seen.Dropped)) (run_asks r)
-  turn_unheard =
-      let s = run_told d (count_changes c.book) r (told_by (run_asks r) c.now m) in
-      subst (λ f. After d h.plain (record c { runs = f; book = marked c.book r.id s.mark }) (rows_after (run_asks r) c.now m) seen.Dropped) (remove_put c.runs i s.next)
-      (record { right = without d (turn_next c i r.id s).0 (rows_after (run_asks r) c.now m) i turn_made.right; goes_on = turn_made.goes_on; there = refl; reply = λ t o e. cc })
+  turn_unheard = unheard d c m (rows_after (run_asks r) c.now m) i r h live (run_told d (count_changes c.book) r (told_by (run_asks r) c.now m)) turn_made
 
 -- ---- a run more
-abbrev with_run : (d : Deployment) (c : Core) (m : Rows) (id : IntentId) (f : ℕ) → map.len c.runs < most_runs → Right d c m → Right d (restarted c id f) m
-with_run d c m id f few h = record { plain = h.plain; bounded = h.bounded; legal = h.legal; guarded = h.guarded; rows = h.rows; tickets = h.tickets; runs = runs_more d c.book h.plain c.runs c.last_run (new_run id f) few tt h.runs }
+abbrev with_new : (d : Deployment) (c : Core) (m : Rows) (id : IntentId) (f : ℕ) → is_crowded c ≡ false → Right d c m → Right d (with_run c (new_run d c id f)) m
+with_new d c m id f few h = record { plain = h.plain; bounded = h.bounded; legal = h.legal; guarded = h.guarded; rows = h.rows; tickets = h.tickets; runs = runs_more d c.book h.plain c.runs c.last_run (new_run d c id f) (leb-false most_runs (map.len c.runs) few) tt h.runs }
 
 -- ---- a ticket
 roots_apart : (t u : ℕ) → is_eq (id_cmp (root_of t) (root_of u)) ≡ false → t ≡ u → ⊥
@@ -144,7 +158,7 @@ module _ (d : Deployment) (c : Core) (m : Rows) (h : Right d c m) where
   issued is =
       let t = c.newest + 1 in
       let i : IntentRow = record { issued = c.now; body = None; outcome = None; finish = None } in
-      let not_made : map.get h.plain.made (root_of t) ≡ None = subst (λ r. IntentMatches true r (map.get h.plain.made (root_of t))) is (h.rows.keys (root_key t)) in
+      let not_made : map.get h.plain.made (root_of t) ≡ None = subst (λ r. IntentMatches true 0 r (map.get h.plain.made (root_of t))) is (h.rows.keys (root_key t)) in
       subst (λ (w : Option Row × Tell). After d h.plain (record c { newest = c.newest + 1 }) (set_row m (root_key t) w.0) (seen.Issued t)) (ap (act Issue c.now) (sym is)) (record {
         right = record {
           plain = h.plain;
@@ -169,27 +183,30 @@ module _ (d : Deployment) (c : Core) (m : Rows) (h : Right d c m) where
   ticket_by (Some r) is = let clash : true ≡ false = sym (ap is_some is) ∙ h.tickets (c.newest + 1) ∙ not_issued c.newest in cc
 
 -- ---- a request
-start_is : (p : PlainState) (t f : ℕ) (a : Value) (o : Option Instance) → (t == 0) ≡ false → o ≡ None → start p t f a o ≡ Some (with_instance p (root_of t) (new_instance f a))
+start_is : (p : PlainState) (t f : ℕ) (a : Value) (o : Option Instance) → (t == 0) ≡ false → o ≡ None → start p t f a o ≡ Some (with_instance p (root_of t) (new_instance f a None))
 start_is p zero f a o z e = cc
 start_is p (suc t) f a o z e = ap (start p (suc t) f a) e
 
--- and owes nothing to a log
-new_owes : (d : Deployment) (u n f : ℕ) (a : Value) → owed_value d u n (Some (new_instance f a)) ≡ None
-new_owes d u n f a = by_test (f == u)
-  where
-    by_test : (b : Bool) → (if b then value_if (effect_before d (new_instance f a) n) None else None) ≡ None
-    by_test true = refl
-    by_test false = refl
-
-module _ (d : Deployment) (c : Core) (m : Rows) (h : Right d c m) (t f : ℕ) (a : Value) (known : ((t == 0) || nat_lt c.newest t) ≡ false) (room : map.len c.runs < most_runs) where
+module _ (d : Deployment) (c : Core) (m : Rows) (h : Right d c m) (t f : ℕ) (a : Value) (known : ((t == 0) || nat_lt c.newest t) ≡ false) (room : is_crowded c ≡ false) where
   abbrev bound_row : IntentRow → IntentRow
   bound_row i = record i { body = Some (record { func = f; args = a; tx = None; from = None }) }
 
   abbrev state : PlainState
-  state = with_instance h.plain (root_of t) (new_instance f a)
+  state = with_instance h.plain (root_of t) (new_instance f a None)
+
+  -- what was not made has no callees
+  childless : (n : ℕ) → map.get h.plain.made (root_of t) ≡ None → map.get state.made (child_of (root_of t) n) ≡ None
+  childless n not_made =
+      elsewhere h.plain.made (root_of t) (child_of (root_of t) n) (new_instance f a None) (λ same. true_false (ap (λ (z : IntentId). has_no_hops z.hops) same ∙ no_root (root_of t) n))
+      ∙ no_callees d h.plain (legal_is_sane d c.book h.plain h.legal) (root_of t) not_made n
+
+  calls_none : map.get h.plain.made (root_of t) ≡ None → (u : ℕ) (b : Place) → b.intent ≡ root_of t → called_by u (Some (new_instance f a None)) (map.get state.made (child_of b.intent b.step)) ≡ called_by u (map.get h.plain.made (root_of t)) (map.get state.made (child_of b.intent b.step))
+  calls_none not_made u b same =
+      let none = ap (λ z. map.get state.made (child_of z b.step)) same ∙ childless b.step not_made in
+      ap (called_by u (Some (new_instance f a None))) none ∙ sym (ap (called_by u (map.get h.plain.made (root_of t))) none ∙ no_callee u (map.get h.plain.made (root_of t)))
 
   request_bound : (i : IntentRow) → map.get m (root_key t) ≡ Some (rows.Intent i) → IsRootRow i (map.get h.plain.made (root_of t)) → i.body ≡ None → map.get h.plain.made (root_of t) ≡ None
-      → After d h.plain (bound_next c t f a).0 (set_row m (root_key t) (Some (rows.Intent (bound_row i)))) (bound_next c t f a).1
+      → After d h.plain (bound_next d c t f a).0 (set_row m (root_key t) (Some (rows.Intent (bound_row i)))) (bound_next d c t f a).1
   request_bound i is fits bare not_made =
       let leads = change_entered d c m h (Start t f a) state refl (start_is h.plain t f a (map.get h.plain.made (root_of t)) (or_parts (t == 0) (nat_lt c.newest t) known).0 not_made)
       (λ x touched. let none = sym (ap (touched_by d) not_made) ∙ touched in cc) in
@@ -199,11 +216,11 @@ module _ (d : Deployment) (c : Core) (m : Rows) (h : Right d c m) (t f : ℕ) (a
           bounded = leads.bounded;
           legal = leads.legal;
           guarded = leads.guarded;
-          rows = root_moved d h.plain (root_of t) (new_instance f a) (subst (λ o. OwesSame d o (new_instance f a)) (sym not_made) (record { notes = λ x n. refl; holds = λ x. refl; values = λ u n. new_owes d u n f a })) m (bound_row i) refl
-              (record { bare = λ e. cc; finishes = fits.finishes; body = record { instance = new_instance f a; made = refl; func = refl; args = refl; outcome = sym (fits.bare bare); no_tx = refl; no_caller = refl } })
+          rows = root_moved d h.plain (root_of t) (new_instance f a None) (subst (λ o. OwesSame d o (new_instance f a None)) (sym not_made) (new_owes d f a None)) refl (calls_none not_made) m (bound_row i)
+              (record { bare = λ e. cc; finishes = fits.finishes; body = (record { instance = new_instance f a None; made = refl; body = refl }, sym (fits.bare bare)) })
               h.rows;
           tickets = λ u. replaced m (root_key t) (Some (rows.Intent (bound_row i))) (ap is_some (sym is)) u ∙ h.tickets u;
-          runs = runs_more d (c.book ++ Start t f a ∷ []) state c.runs c.last_run (new_run (root_of t) f) room tt leads.runs;
+          runs = runs_more d (c.book ++ Start t f a ∷ []) state c.runs c.last_run (new_run d c (root_of t) f) (leb-false most_runs (map.len c.runs) room) tt leads.runs;
         };
         goes_on = leads.grows;
         there = refl;
@@ -214,21 +231,21 @@ module _ (d : Deployment) (c : Core) (m : Rows) (h : Right d c m) (t f : ℕ) (a
   answer_kept : (v : Option Row) (x : Seen) → v ≡ map.get m (root_key t) → is_gone x ≡ false → ((u : ℕ) (o : Outcome) → told_outcome x ≡ Some (u, o) → reply_of h.plain u ≡ Some o) → After d h.plain c (set_row m (root_key t) v) x
   answer_kept v x e there told = subst (λ n. After d h.plain c n x) (sym (unchanged m (root_key t) v e)) (record { right = h; goes_on = grows_self h.plain.made; there = there; reply = told })
 
-  told_running : (o : Option Outcome) → reply_of h.plain t ≡ o → (v : Option Row) → v ≡ map.get m (root_key t) → AfterAct d h.plain m (root_key t) (λ u. request_next c t f a (binding_of u)) (v, outcome_tell o)
+  told_running : (o : Option Outcome) → reply_of h.plain t ≡ o → (v : Option Row) → v ≡ map.get m (root_key t) → AfterAct d h.plain m (root_key t) (λ u. request_next d c t f a (binding_of u)) (v, outcome_tell o)
   told_running None is v e = answer_kept v (seen.Running t) e refl (λ u o told. cc)
   told_running (Some u) is v e = answer_kept v (seen.Replied t u) e refl (λ w o told. let both = same_some told in ap (reply_of h.plain) (sym (ap (λ z. z.0) both)) ∙ is ∙ ap (λ z. Some z.1) both)
 
   told_same : (b : Body) (o : Option Outcome) (s : Bool) → reply_of h.plain t ≡ o → (v : Option Row) → v ≡ map.get m (root_key t)
-      → AfterAct d h.plain m (root_key t) (λ u. request_next c t f a (binding_of u)) (v, (if s then outcome_tell o else other b))
+      → AfterAct d h.plain m (root_key t) (λ u. request_next d c t f a (binding_of u)) (v, (if s then outcome_tell o else other b))
   told_same b o true is v e = told_running o is v e
   told_same b o false is v e = answer_kept v (seen.Other t b.func b.args) e refl (λ u o told. cc)
 
   request_by : (i : IntentRow) (b : Option Body) → i.body ≡ b → map.get m (root_key t) ≡ Some (rows.Intent i) → IsRootRow i (map.get h.plain.made (root_of t)) → BodyMatches b i.outcome (map.get h.plain.made (root_of t))
-      → AfterAct d h.plain m (root_key t) (λ u. request_next c t f a (binding_of u)) (Some (rows.Intent (bind_to f a i b).0), (bind_to f a i b).1)
+      → AfterAct d h.plain m (root_key t) (λ u. request_next d c t f a (binding_of u)) (Some (rows.Intent (bind_to f a i b).0), (bind_to f a i b).1)
   request_by i None bare is fits root = request_bound i is fits bare root
-  request_by i (Some b) has is fits root = told_same b i.outcome ((b.func == f) && same_value b.args a) (ap outcome_of root.made ∙ root.outcome) (Some (rows.Intent i)) (sym is)
+  request_by i (Some b) has is fits root = told_same b i.outcome ((b.func == f) && same_value b.args a) (ap outcome_of root.0.made ∙ root.1) (Some (rows.Intent i)) (sym is)
 
-  request_row : (r : Option Row) → map.get m (root_key t) ≡ r → IntentMatches true r (map.get h.plain.made (root_of t)) → AfterAct d h.plain m (root_key t) (λ u. request_next c t f a (binding_of u)) (act (Bind f a) c.now r)
+  request_row : (r : Option Row) → map.get m (root_key t) ≡ r → IntentMatches true 0 r (map.get h.plain.made (root_of t)) → AfterAct d h.plain m (root_key t) (λ u. request_next d c t f a (binding_of u)) (act (Bind f a) c.now r)
   request_row None is root = let clash : false ≡ true = sym (ap is_some is) ∙ h.tickets t ∙ is_issued t c.newest known in cc
   request_row (Some (rows.Intent i)) is root = request_by i i.body refl is root root.body
   request_row (Some r) is root = absurd root
@@ -251,12 +268,16 @@ right_no_run : (d : Deployment) (c : Core) (m : Rows) (h : Right d c m) (b : Boo
 right_no_run d c m h true = as_before d c m seen.NoRun (refl, refl) h
 right_no_run d c m h false = as_before d c m seen.RunOver (refl, refl) h
 
-right_of : (d : Deployment) (e : Event) (c : Core) (m : Rows) (h : Right d c m) → RightPlan d m h.plain e c (plan_of e c)
+-- a run that is past its deadline is over
+right_expired : (d : Deployment) (c : Core) (m : Rows) (i : ℕ) (h : Right d c m) → After d h.plain (ended_run c i) m seen.Expired
+right_expired d c m i h = as_before d (ended_run c i) m seen.Expired (refl, refl) (without d c m i h)
+
+right_of : (d : Deployment) (e : Event) (c : Core) (m : Rows) (h : Right d c m) → RightPlan d m h.plain e c (plan_of d e c)
 right_of d Ticket c m h = if_plan (RightPlan d m h.plain Ticket c) (c.newest == 2 ^ 32 - 1) _ _ (λ t. as_before d c m seen.NoTicket (refl, refl) h) (λ t. (ticket_by d c m h (map.get m (root_key (c.newest + 1))) refl, λ b w. cc))
 right_of d (Request t f a) c m h =
     if_plan (RightPlan d m h.plain (Request t f a) c) ((t == 0) || nat_lt c.newest t) _ _ (λ u. as_before d c m (seen.Unknown t) (refl, refl) h) (λ known.
-    if_plan (RightPlan d m h.plain (Request t f a) c) (nat_le most_runs (map.len c.runs)) _ _ (λ u. as_before d c m seen.Crowded (refl, refl) h) (λ few. (
-      request_row d c m h t f a known (leb-false most_runs (map.len c.runs) few) (map.get m (root_key t)) refl (h.rows.keys (root_key t)),
+    if_plan (RightPlan d m h.plain (Request t f a) c) (is_crowded c) _ _ (λ u. as_before d c m seen.Crowded (refl, refl) h) (λ few. (
+      request_row d c m h t f a known few (map.get m (root_key t)) refl (h.rows.keys (root_key t)),
       λ b w.
           let q = bind_asks t f a in
           let z = lent_only (lends (told_by q c.now m)) c b w in
@@ -266,23 +287,26 @@ right_of d (Turn i) c m h = by_run (map.get c.runs i) refl
   where
     by_run : (o : Option Run) → map.get c.runs i ≡ o → RightPlan d m h.plain (Turn i) c (run_plan c i o)
     by_run None gone = right_no_run d c m h ((i == 0) || nat_lt c.last_run i)
-    by_run (Some r) live =
-        subst (λ o. AfterQuery d h.plain c.now m (λ t. run_next d c i t o) (run_asks r) × ((b : Core) → Some (unheard_next d c i (told_by (run_asks r) c.now m) o) ≡ Some b → After d h.plain b (rows_after (run_asks r) c.now m) seen.Dropped)) (sym live)
-        (turn_made d c m i h r live, λ b w. subst (λ z. After d h.plain z (rows_after (run_asks r) c.now m) seen.Dropped) (same_some w) (turn_unheard d c m i h r live))
+    by_run (Some r) live = if_plan (RightPlan d m h.plain (Turn i) c) (nat_lt r.deadline c.now) _ _ (λ late. right_expired d c m i h)
+        (λ alive. subst (λ o. AfterQuery d h.plain c.now m (λ t. run_next d c i t o) (run_asks r) × ((b : Core) → Some (unheard_next d c i (told_by (run_asks r) c.now m) o) ≡ Some b → After d h.plain b (rows_after (run_asks r) c.now m) seen.Dropped)) (sym live)
+        (turn_made d c m i h r live, λ b w. subst (λ z. After d h.plain z (rows_after (run_asks r) c.now m) seen.Dropped) (same_some w) (turn_unheard d c m i h r live)))
 right_of d (Lost i) c m h = by_run (map.get c.runs i) refl
   where
     by_run : (o : Option Run) → map.get c.runs i ≡ o → RightPlan d m h.plain (Lost i) c (run_plan c i o)
     by_run None gone = right_no_run d c m h ((i == 0) || nat_lt c.last_run i)
-    by_run (Some r) live = (subst (λ o. AfterQuery d h.plain c.now m (λ t. (unheard_next d c i t o, seen.Dropped)) (run_asks r)) (sym live) (turn_unheard d c m i h r live), λ b w. cc)
+    by_run (Some r) live = if_plan (RightPlan d m h.plain (Lost i) c) (nat_lt r.deadline c.now) _ _ (λ late. right_expired d c m i h)
+        (λ alive. (subst (λ o. AfterQuery d h.plain c.now m (λ t. (unheard_next d c i t o, seen.Dropped)) (run_asks r)) (sym live) (turn_unheard d c m i h r live), λ b w. cc))
 right_of d (Crash i) c m h = by_run (map.get c.runs i)
   where
     by_run : (o : Option Run) → RightPlan d m h.plain (Crash i) c (crash_plan c i o)
     by_run None = right_no_run d c m h ((i == 0) || nat_lt c.last_run i)
-    by_run (Some r) = as_before d (ended_run c i) m seen.Crashed (refl, refl) (without d c m i h)
-right_of d (Restart id f) c m h = if_plan (RightPlan d m h.plain (Restart id f) c) (nat_le most_runs (map.len c.runs)) _ _ (λ u. as_before d c m seen.Crowded (refl, refl) h)
-    (λ few. as_before d (restarted c id f) m (seen.Started (c.last_run + 1)) (refl, refl) (with_run d c m id f (leb-false most_runs (map.len c.runs) few) h))
+    by_run (Some r) = if_plan (RightPlan d m h.plain (Crash i) c) (nat_lt r.deadline c.now) _ _ (λ late. right_expired d c m i h) (λ alive. as_before d (ended_run c i) m seen.Crashed (refl, refl) (without d c m i h))
+right_of d (Restart id f) c m h = if_plan (RightPlan d m h.plain (Restart id f) c) (is_crowded c) _ _ (λ u. as_before d c m seen.Crowded (refl, refl) h)
+    (λ few. as_before d (with_run c (new_run d c id f)) m (seen.Started (c.last_run + 1)) (refl, refl) (with_new d c m id f few h))
+right_of d (Tick n) c m h = if_plan (RightPlan d m h.plain (Tick n) c) (nat_lt last_moment (c.now + n)) _ _ (λ u. as_before d c m seen.ClockEnd (refl, refl) h)
+    (λ u. as_before d (record c { now = c.now + n }) m (seen.Now (c.now + n)) (refl, refl) (record { plain = h.plain; bounded = h.bounded; legal = h.legal; guarded = h.guarded; rows = h.rows; tickets = h.tickets; runs = h.runs }))
 
-right_plan : (d : Deployment) (e : Event) (c : Core) (m : Rows) (h : Right d c m) → RightPlan d m h.plain e (counted c) (plan e c)
+right_plan : (d : Deployment) (e : Event) (c : Core) (m : Rows) (h : Right d c m) → RightPlan d m h.plain e (counted c) (plan d e c)
 right_plan d e c m h = if_plan (RightPlan d m h.plain e (counted c)) (nat_lt c.taken most_events) _ _ (λ few. right_of d e (counted c) m (taken d c m h)) (λ spent. as_before d c m seen.Spent (refl, refl) h)
 
 -- the query was not made, so no more than a run is over
@@ -311,7 +335,7 @@ module _ (d : Deployment) (room old new : ℕ) (e : Event) (c b : Core) (m n : R
   after_by (asks q) r g s = after_came q s.0 r g s.1 s.2
 
 pub after_event : (d : Deployment) (room old new : ℕ) (e : Event) (c b : Core) (m n : Rows) (r : Result Seen AllocError) (h : Right d c m) → EventOn d room old new e c m b n r → After d h.plain b n (seen_by r)
-after_event d room old new e c b m n r h s = after_by d room old new e (counted c) b m n (taken d c m h) (plan e c) r (right_plan d e c m h) s
+after_event d room old new e c b m n r h s = after_by d room old new e (counted c) b m n (taken d c m h) (plan d e c) r (right_plan d e c m h) s
 
 -- ---- a host that nothing has happened to
 no_ticket : (t : ℕ) → (nat_lt 0 t && nat_le t 0) ≡ false
@@ -319,12 +343,17 @@ no_ticket zero = refl
 no_ticket (suc t) = ap (λ b. nat_lt 0 (suc t) && b) (lt-leb (suc t) 0 (omega arith)) ∙ and-false (nat_lt 0 (suc t))
 
 no_row : (d : Deployment) (home : ℕ) (k : Kind) → RowMatches d nothing home k None
-no_row d home (kinds.Intent id) = by_home ((home == 0) && has_no_hops id.hops)
+no_row d home (kinds.Intent id) = by_hops (has_no_hops id.hops)
   where
-    by_home : (b : Bool) → IntentMatches b None (map.get nothing.made id)
+    by_home : (b : Bool) → RootMatches b None (map.get nothing.made id)
     by_home true = get-empty id_cmp id
     by_home false = refl
+
+    by_hops : (b : Bool) → IntentMatches b home None (map.get nothing.made id)
+    by_hops true = by_home (home == 0)
+    by_hops false = tt
 no_row d home (kinds.ReadLog a) = ap (owed_value d home a.step) (get-empty id_cmp a.intent)
+no_row d home (kinds.Invoke a) = ap (λ o. called_by home o (map.get nothing.made (child_of a.intent a.step))) (get-empty id_cmp a.intent)
 no_row d home (kinds.Data t k zero) = tt
 no_row d home (kinds.Data t k (suc n)) = refl
 no_row d home k = refl

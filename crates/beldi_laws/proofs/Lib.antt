@@ -2,12 +2,17 @@ pub mod Events
 pub mod Listing
 pub mod Lives
 pub mod Moves
+mod Beginnings
+mod Callings
+mod Endings
 mod Notes
 pub mod OneAnswer
 pub mod OneEvent
+mod Opened
 mod Operations
 mod Owners
 mod Readings
+mod Returned
 mod Rows
 pub mod Standing
 pub mod Starts

@@ -4,7 +4,11 @@ use Rattle.std.specs.FinMap as map
 use Rattle.std.specs.FinMap.{FinMap, nat_cmp-IsAntisymmetric, get-insert, get-remove, len-insert, len-remove, same_map}
 use Rattle.std.specs.Cmp.{nat_cmp_total}
 use Rattle.std.specs.Ordering.{is_eq, nat_cmp}
+use Rattle.std.specs.Cmp.{Equal-is}
+use Rattle.beldi_value.specs.Id.{child_of}
 use Rattle.beldi_value.specs.declared.id.IntentId.{IntentId}
+use Rattle.beldi_value.specs.declared.outcome.Outcome.{Outcome}
+use Rattle.beldi_value.specs.declared.place.Caller.{Caller}
 use Rattle.beldi_value.specs.declared.value.Value.{Value}
 use Rattle.beldi_tree.specs.declared.deployment.Deployment.{Deployment}
 use Rattle.beldi_lang.specs.declared.effect.Answer.{Answer}
@@ -22,15 +26,19 @@ use Rattle.beldi_lang.specs.declared.effect.Answer.TheVariants as answer
 use Rattle.beldi_book.specs.declared.entry.Entry.TheVariants as entry
 use Rattle.beldi_plain.specs.Plain.{answered}
 use Rattle.beldi_order.specs.Laws.{IsLast, with_answer, IsKeptLate}
-use Rattle.beldi_order.proofs.Entries.{changed, grows_set}
+use Rattle.beldi_row.specs.declared.row.Body.{Body}
+use Rattle.beldi_order.proofs.Entries.{same_some, changed, grows_set}
 use Rattle.beldi_order.specs.Grown.{Grown, GrownAt, Grows}
 use Rattle.beldi_order.proofs.Late.{elsewhere, here}
 use Rattle.beldi_step.specs.declared.run.Run.{Run}
+use Rattle.beldi_step.specs.declared.run.RunAt as standing
+use Rattle.beldi_step.specs.declared.run.RunAt.TheVariants.{Looks, Registers, Begins}
 use Rattle.beldi_step.specs.declared.run.Begun.{Begun}
 use Rattle.beldi_step.specs.declared.run.Stage.{Stage}
 use Rattle.beldi_step.specs.declared.run.Stage.TheVariants as stage
 use Rattle.beldi_step.specs.Host.{put_run, most_runs}
-use Rattle.beldi_laws.specs.Right.{WasThere, Keeps, PlaceOk, Knows, KnowsAt, RunAt, RunsMatch}
+use Rattle.beldi_call.specs.declared.call.CallAt.TheVariants as call
+use Rattle.beldi_laws.specs.Right.{WasThere, Keeps, PlaceOk, SeenDone, IsBodyOf, body_of, Knows, KnowsAt, RunAt, RunsMatch}
 
 -- ---- a run knows what it knew, when the book and the plain state have grown
 answers_of : Option Instance → List Answer
@@ -53,24 +61,51 @@ not_answered : (p q : PlainState) (r : Run) (i j : Instance) → map.get p.made 
 unfolding NotAnswered answers_of
 not_answered p q r i j was is w none = ap answers_of was ∙ sym (append-nil i.answers) ∙ ap (λ xs. i.answers ++ xs) (sym none) ∙ w.more ∙ sym (ap answers_of is)
 
-knows_more : (d : Deployment) (book more : List Entry) (p q : PlainState) (r : Run) (g : Begun) (h : Knows d book p r g) (o : Option Instance) → map.get q.made r.id ≡ o → GrownAt (Some h.instance) o → PlacesOn d book more p q r → Knows d more q r g
+-- what was made stays made, and an outcome that is there stays
+made_stays : (o u : Option Instance) → GrownAt o u → is_some o ≡ true → is_some u ≡ true
+made_stays None u w there = cc
+made_stays (Some i) None w there = absurd w
+made_stays (Some i) (Some j) w there = refl
+
+outcome_stays : (i j : Instance) → Grown i j → is_some i.outcome ≡ true → is_some j.outcome ≡ true
+outcome_stays i j w there = by_outcome i.outcome refl there
+  where
+    by_outcome : (o : Option Outcome) → i.outcome ≡ o → is_some o ≡ true → is_some j.outcome ≡ true
+    by_outcome None is there = cc
+    by_outcome (Some o) is there = ap is_some (w.over o is)
+
+done_on : (p q : PlainState) (id : IntentId) (n : ℕ) (i j : Instance) (c : Option Caller) (s : Stage) → Grows p.made q.made → Grown i j → SeenDone p id n i c s → SeenDone q id n j c s
+done_on p q id n i j c (stage.Call call.Look) w g h = made_stays (map.get p.made (child_of id n)) (map.get q.made (child_of id n)) (w (child_of id n)) h
+done_on p q id n i j c stage.Close w g h = λ waited. outcome_stays i j g (h waited)
+done_on p q id n i j c s w g h = tt
+
+knows_more : (d : Deployment) (book more : List Entry) (p q : PlainState) (r : Run) (g : Begun) (h : Knows d book p r g) (o : Option Instance) → map.get q.made r.id ≡ o → GrownAt (Some h.instance) o → Grows p.made q.made → PlacesOn d book more p q r → Knows d more q r g
 unfolding PlacesOn
-knows_more d book more p q r g h None is w on = absurd w
-knows_more d book more p q r g h (Some j) is w on = record {
+knows_more d book more p q r g h None is w grows on = absurd w
+knows_more d book more p q r g h (Some j) is w grows on = record {
   instance = j;
   made = is;
   func = w.func ∙ h.func;
+  caller = h.caller ∙ sym w.from;
   answers = h.answers;
   later = h.later ++ w.later;
   run_answers = sym (append_assoc h.answers h.later w.later) ∙ ap (λ xs. xs ++ w.later) h.run_answers ∙ w.more;
   machine = subst (λ a. IsAt d r.func a false g.machine h.answers) (sym w.args) h.machine;
   run_stage = h.run_stage;
+  run_done = done_on p q r.id g.machine.steps h.instance j g.caller g.stage grows w h.run_done;
   run_place = on h.answers (h.later ++ w.later) h.later g.machine.effect g.stage (λ none. let both = no_more h.later w.later none in (both.0, not_answered p q r h.instance j h.made is w both.1)) h.run_place;
 }
 
-knows_on : (d : Deployment) (book more : List Entry) (p q : PlainState) (r : Run) (at : Option Begun) → Grows p.made q.made → PlacesOn d book more p q r → KnowsAt d book p r at → KnowsAt d more q r at
-knows_on d book more p q r None w on h = tt
-knows_on d book more p q r (Some g) w on h = knows_more d book more p q r g h (map.get q.made r.id) refl (subst (λ o. GrownAt o (map.get q.made r.id)) h.made (w r.id)) on
+-- a body stays that of its instance
+body_on : (b : Body) (o u : Option Instance) → GrownAt o u → IsBodyOf b o → IsBodyOf b u
+body_on b None u w h = let clash = h.made in cc
+body_on b (Some i) None w h = absurd w
+body_on b (Some i) (Some j) w h = record { instance = j; made = refl; body = h.body ∙ ap body_of (same_some (sym h.made)) ∙ λ k. record { func = sym w.func k; args = sym w.args k; tx = None; from = sym w.from k } }
+
+knows_on : (d : Deployment) (book more : List Entry) (p q : PlainState) (r : Run) (at : standing.RunAt) → Grows p.made q.made → PlacesOn d book more p q r → KnowsAt d book p r at → KnowsAt d more q r at
+knows_on d book more p q r Looks w on h = tt
+knows_on d book more p q r (Registers b) w on h = record { body = body_on b (map.get p.made r.id) (map.get q.made r.id) (w r.id) h.body; func = h.func; callee = h.callee }
+knows_on d book more p q r (Begins g) w on h = knows_more d book more p q r g h (map.get q.made r.id) refl (subst (λ o. GrownAt o (map.get q.made r.id)) h.made (w r.id)) w on
 
 run_on : (d : Deployment) (book more : List Entry) (p q : PlainState) (o : Option Run) → Grows p.made q.made → ((r : Run) → PlacesOn d book more p q r) → RunAt d book p o → RunAt d more q o
 run_on d book more p q None w on h = tt
@@ -143,7 +178,7 @@ module _ (d : Deployment) (book : List Entry) (p : PlainState) (id : IntentId) (
   places_late r answers later before e s back h = tt
 
   pub grows_late : Grows p.made then_so.made
-  grows_late = grows_set p.made id (answered a (answer.Value v)) (subst (λ o. GrownAt o (Some (answered a (answer.Value v)))) (sym made) (record { func = refl; args = refl; later = answer.Value v ∷ []; more = refl; over = λ o h. h }))
+  grows_late = grows_set p.made id (answered a (answer.Value v)) (subst (λ o. GrownAt o (Some (answered a (answer.Value v)))) (sym made) (record { func = refl; args = refl; from = refl; later = answer.Value v ∷ []; more = refl; over = λ o h. h }))
 
 -- ---- live runs
 put_got : (m : FinMap nat_cmp Run) (i : ℕ) (o : Option Run) (j : ℕ) → map.get (put_run m i o) j ≡ cond (is_eq (nat_cmp j i)) o (map.get m j)
@@ -212,3 +247,36 @@ runs_more d book p live last r room here h = record {
     by_test : (b : Bool) → cond b (map.len live) (map.len live + 1) ≤ most_runs
     by_test true = omega arith
     by_test false = omega arith
+
+-- .. and was not started
+pub runs_before : (d : Deployment) (book : List Entry) (p : PlainState) (live : FinMap nat_cmp Run) (last : ℕ) (r : Run) → ((n : ℕ) → IsTrue (is_some (map.get live n)) → n ≤ last) → RunsMatch d book p (map.insert live (last + 1) r) (last + 1) → RunsMatch d book p live last
+runs_before d book p live last r given h = record {
+  numbers = λ n t. ((h.numbers n (subst (λ o. IsTrue (is_some o)) (sym (others n (given n t))) t)).0, given n t);
+  few = fewer_before (is_some (map.get live (last + 1))) (subst (λ n. n ≤ most_runs) (len-insert nat_cmp_total live (last + 1) r) h.few);
+  runs = λ n. by_number n (nat_lt last n) refl;
+}
+  where
+    others : (n : ℕ) → n ≤ last → map.get (map.insert live (last + 1) r) n ≡ map.get live n
+    others n le = get-insert nat_cmp_total live (last + 1) r n ∙ ap (λ b. cond b (Some r) (map.get live n)) (apart n le)
+      where
+        apart : (n : ℕ) → n ≤ last → is_eq (nat_cmp n (last + 1)) ≡ false
+        apart n le = elim (is_eq (nat_cmp n (last + 1))) as (λ b. is_eq (nat_cmp n (last + 1)) ≡ b → b ≡ false) [
+          | true ↦ λ e. let same = nat_cmp-IsAntisymmetric n (last + 1) ((Equal-is (nat_cmp n (last + 1))).0 e) in absurd (omega (arith, same, le))
+          | false ↦ λ e. refl
+        ] refl
+
+    fewer_before : (b : Bool) → cond b (map.len live) (map.len live + 1) ≤ most_runs → map.len live ≤ most_runs
+    fewer_before true le = le
+    fewer_before false le = omega (arith, le)
+
+    not_live : (n : ℕ) (o : Option Run) → map.get live n ≡ o → last < n → RunAt d book p o
+    not_live n None is more = tt
+    not_live n (Some k) is more = let le = given n (ap is_some is) in absurd (omega (arith, le, more))
+
+    by_number : (n : ℕ) (b : Bool) → nat_lt last n ≡ b → RunAt d book p (map.get live n)
+    by_number n true e = not_live n (map.get live n) refl (ltb-true last n e)
+    by_number n false e = subst (RunAt d book p) (others n (ltb-false last n e)) (h.runs n)
+
+-- the numbers of the live runs were given, also once a run went on or was over
+pub numbers_put : (live : FinMap nat_cmp Run) (last i : ℕ) (o : Option Run) → IsTrue (is_some (map.get live i)) → ((n : ℕ) → IsTrue (is_some (map.get live n)) → n ≤ last) → (n : ℕ) → IsTrue (is_some (map.get (put_run live i o) n)) → n ≤ last
+numbers_put live last i o there h = changed nat_cmp-IsAntisymmetric live (put_run live i o) i o (put_got live i o) (λ n r. IsTrue (is_some r) → n ≤ last) (λ t. h i there) h

@@ -1,14 +1,17 @@
 -- What one event changes: at most one row, never past the room, and at most one entry of the book, which its answer tells.
 use Rattle.std.proofs.Common.{◌≡◌, inl, inr, ℕ, ◌≤◌, ◌<◌, not, cond, IsTrue, is_some, arith, ◌==◌, ◌+◌, ◌||◌, nat_lt, Bool, true, false, [], Option, Some, None, Result, Ok, Err, if◌then◌else◌, refl, ap, sym, ◌∙◌, subst}
 use Rattle.std.proofs.lemmas.List.{append-nil}
-use Rattle.std.specs.Prelude.{◌&&◌, ◌-◌, ◌^◌, nat_le, option_to_list, IfOk}
+use Rattle.std.specs.Prelude.{◌&&◌, ◌-◌, ◌^◌, option_to_list, IfOk}
 use Rattle.std.specs.declared.alloc.AllocError.{AllocError}
 use Rattle.std.specs.Option.{option_map}
 use Rattle.std.specs.FinMap as map
 use Rattle.std.specs.FinMap.{len-insert, len-remove}
 use Rattle.beldi_value.specs.declared.id.IntentId.{IntentId}
 use Rattle.beldi_value.specs.declared.value.Value.{Value}
+use Rattle.beldi_value.specs.declared.place.Caller.{Caller}
 use Rattle.beldi_tree.specs.declared.deployment.Deployment.{Deployment}
+use Rattle.beldi_lang.specs.declared.machine.Machine.{Machine}
+use Rattle.beldi_lang.specs.Machine.{begun, resumed}
 use Rattle.beldi_book.specs.declared.entry.Entry.TheVariants.{Start}
 use Rattle.beldi_book.specs.Order.{count_changes}
 use Rattle.beldi_row.specs.declared.key.RowKey.{RowKey}
@@ -16,6 +19,7 @@ use Rattle.beldi_row.specs.declared.act.Act.{Act as RowAct}
 use Rattle.beldi_row.specs.Act.{act, off}
 use Rattle.beldi_row.specs.KeyOrder.{key_total}
 use Rattle.beldi_row.specs.declared.row.Row.{Row}
+use Rattle.beldi_row.specs.declared.row.Body.{Body}
 use Rattle.beldi_row.specs.Key.{least_key}
 use Rattle.beldi_row.specs.declared.table.TableErr.{TableErr}
 use Rattle.beldi_row.specs.declared.table.TableErr.TheVariants.{OutOfMemory, Failed, Full}
@@ -26,7 +30,7 @@ use Rattle.beldi_walk.specs.Query.{Told, lends, rows_after, query_adds, CameOn}
 use Rattle.beldi_walk.proofs.Lent.{refused_stand}
 use Rattle.beldi_daal.specs.Content.{content_in}
 use Rattle.beldi_step.specs.declared.event.Event.{Event}
-use Rattle.beldi_step.specs.declared.event.Event.TheVariants.{Ticket, Request, Turn, Lost, Crash, Restart}
+use Rattle.beldi_step.specs.declared.event.Event.TheVariants.{Ticket, Request, Turn, Lost, Crash, Restart, Tick}
 use Rattle.beldi_step.specs.declared.event.Seen.{Seen}
 use Rattle.beldi_step.specs.declared.event.Seen.TheVariants as seen
 use Rattle.beldi_intent.specs.declared.intent.Binding.{Binding}
@@ -34,17 +38,19 @@ use Rattle.beldi_intent.specs.declared.intent.Binding.TheVariants as binding
 use Rattle.beldi_step.specs.declared.run.Mark.{Mark}
 use Rattle.beldi_step.specs.declared.run.Mark.TheVariants as mark
 use Rattle.beldi_step.specs.declared.run.Run.{Run}
+use Rattle.beldi_step.specs.declared.run.RunAt.{RunAt}
+use Rattle.beldi_step.specs.declared.run.RunAt.TheVariants.{Looks, Registers, Begins}
 use Rattle.beldi_step.specs.declared.run.Begun.{Begun}
+use Rattle.beldi_step.specs.declared.run.Stage.{Stage}
 use Rattle.beldi_step.specs.declared.run.Wait.{Wait}
 use Rattle.beldi_step.specs.declared.run.Wait.TheVariants as wait
 use Rattle.beldi_step.specs.declared.run.Says.{Says}
 use Rattle.beldi_step.specs.declared.run.Says.TheVariants as says
 use Rattle.beldi_tree.specs.declared.deployment.Func.{Func}
 use Rattle.beldi_tree.specs.Names.{func_at}
-use Rattle.beldi_intent.specs.Intent.{args_told}
-use Rattle.beldi_intent.specs.Intent.{is_added, binding_of}
-use Rattle.beldi_step.specs.Run.{Turned, turned_by, begin_in, told_at, stage_says, run_told}
-use Rattle.beldi_step.specs.Host.{turn_next, turn_seen, acted, Core, Plan, at_once, asks, counted, plan, plan_of, run_plan, crash_plan, most_runs, most_events, no_run, ended_run, entry_of, marked, ticket_next, request_next, run_next, unheard_next, heard, no_memory, if_lent, refused, refused_by, Followed, StepBy, EventBy, is_lost, is_dropped}
+use Rattle.beldi_intent.specs.Intent.{is_added, binding_of, body_told}
+use Rattle.beldi_step.specs.Run.{Turned, turned_by, goes_from, first_stage, begin_in, body_registered, told_at, stage_says, run_told, callee_of}
+use Rattle.beldi_step.specs.Host.{turn_next, turned_core, after_turn, acted, started, opened, started_anew, awaited, has_run, Core, Plan, at_once, asks, counted, plan, plan_of, run_plan, crash_plan, last_moment, is_crowded, most_events, no_run, ended_run, entry_of, marked, ticket_next, request_next, unbound, run_next, unheard_next, heard, no_memory, if_lent, refused, refused_by, Followed, StepBy, EventBy, is_lost, is_dropped}
 use Rattle.beldi_order.proofs.Entries.{same_some}
 use Rattle.beldi_laws.specs.Stands.{head_key, content_of}
 use Rattle.beldi_laws.proofs.Rows.{set_others}
@@ -74,7 +80,7 @@ by_plan d room old new e c b m n r (at_once k y) s = same_rows c m n s.1
 by_plan d room old new e c b m n r (asks q) s = came_on_one c room q s.0 m n s.2
 
 pub one_row : ChangesOneRow
-one_row d room old new e c b m n r s = let o = by_plan d room old new e (counted c) b m n r (plan e c) s in record { key = o.key; rows = o.rows; others = o.others }
+one_row d room old new e c b m n r s = let o = by_plan d room old new e (counted c) b m n r (plan d e c) s in record { key = o.key; rows = o.rows; others = o.others }
 
 -- ---- no event takes the rows past the room
 set_fits : (m : Rows) (k : RowKey) (room : ℕ) (v : Option Row) → map.len m ≤ room → (IsTrue (not (map.contains_key m k) && is_some v) → map.len m < room) → map.len (set_row m k v) ≤ room
@@ -106,7 +112,7 @@ plan_fits d room old new e c b m n r (at_once k y) s h = subst (λ l. map.len l 
 plan_fits d room old new e c b m n r (asks q) s h = came_fits q c.now room s.0 m n s.2 h
 
 pub keeps_room : KeepsRoom
-keeps_room d room old new e c b m n r s h = plan_fits d room old new e (counted c) b m n r (plan e c) s h
+keeps_room d room old new e c b m n r s h = plan_fits d room old new e (counted c) b m n r (plan d e c) s h
 
 -- ---- the book
 -- the entry of an act starts nothing
@@ -118,12 +124,12 @@ act_starts_none id (Some mark.Step) = refl
 -- an answer that tells no entry
 abbrev is_silent : Seen → Bool
 is_silent (seen.Bound t run) = false
-is_silent (seen.Acted entry over reply) = false
+is_silent (seen.Acted entry started over reply) = false
 is_silent x = true
 
 told_none : (e : Event) (x : Seen) → is_silent x ≡ true → (entries_told e x ≡ []) × (bound_of e x ≡ [])
 told_none e (seen.Bound t run) silent = cc
-told_none e (seen.Acted entry over reply) silent = cc
+told_none e (seen.Acted entry started over reply) silent = cc
 told_none e x silent = (refl, refl)
 
 -- out of memory for what was lent, nothing was done
@@ -138,8 +144,8 @@ none e c b x same silent = let t = told_none e x silent in record { entry = None
 none_told : (e : Event) (c b : Core) (w : AllocError) → b.book ≡ c.book → BookGrew e c b (Err w)
 none_told e c b w same = record { entry = None; book = same ∙ sym (append-nil c.book); starts = refl; told = tt }
 
--- a plan by a test
-pub if_plan : (S : Plan → Type 0) (b : Bool) (p q : Plan) → (b ≡ true → S p) → (b ≡ false → S q) → S (if b then p else q)
+-- what a test decides, as a plan
+pub if_plan : {A : Type 0} (S : A → Type 0) (b : Bool) (p q : A) → (b ≡ true → S p) → (b ≡ false → S q) → S (if b then p else q)
 if_plan S true p q g h = g refl
 if_plan S false p q g h = h refl
 
@@ -154,40 +160,89 @@ no_run_tells c false = (refl, refl, refl)
 
 run_tells : (c : Core) (i : ℕ) (o : Option Run) → PlanTells c (run_plan c i o)
 run_tells c i None = no_run_tells c ((i == 0) || nat_lt c.last_run i)
-run_tells c i (Some r) = tt
+run_tells c i (Some r) = if_plan (PlanTells c) (nat_lt r.deadline c.now) _ _ (λ late. (refl, refl, refl)) (λ t. tt)
 
 crash_tells : (c : Core) (i : ℕ) (o : Option Run) → PlanTells c (crash_plan c i o)
 crash_tells c i None = no_run_tells c ((i == 0) || nat_lt c.last_run i)
-crash_tells c i (Some r) = (refl, refl, refl)
+crash_tells c i (Some r) = if_plan (PlanTells c) (nat_lt r.deadline c.now) _ _ (λ late. (refl, refl, refl)) (λ t. (refl, refl, refl))
 
-plan_of_tells : (e : Event) (c : Core) → PlanTells c (plan_of e c)
-plan_of_tells Ticket c = if_plan (PlanTells c) (c.newest == 2 ^ 32 - 1) _ _ (λ t. (refl, refl, refl)) (λ t. tt)
-plan_of_tells (Request t f a) c =
-    if_plan (PlanTells c) ((t == 0) || nat_lt c.newest t) _ _ (λ u. (refl, refl, refl)) (λ u. if_plan (PlanTells c) (nat_le most_runs (map.len c.runs)) _ _ (λ u. (refl, refl, refl)) (λ u. tt))
-plan_of_tells (Turn i) c = run_tells c i (map.get c.runs i)
-plan_of_tells (Lost i) c = run_tells c i (map.get c.runs i)
-plan_of_tells (Crash i) c = crash_tells c i (map.get c.runs i)
-plan_of_tells (Restart id f) c = if_plan (PlanTells c) (nat_le most_runs (map.len c.runs)) _ _ (λ u. (refl, refl, refl)) (λ u. (refl, refl, refl))
+plan_of_tells : (d : Deployment) (e : Event) (c : Core) → PlanTells c (plan_of d e c)
+plan_of_tells d Ticket c = if_plan (PlanTells c) (c.newest == 2 ^ 32 - 1) _ _ (λ t. (refl, refl, refl)) (λ t. tt)
+plan_of_tells d (Request t f a) c =
+    if_plan (PlanTells c) ((t == 0) || nat_lt c.newest t) _ _ (λ u. (refl, refl, refl)) (λ u. if_plan (PlanTells c) (is_crowded c) _ _ (λ u. (refl, refl, refl)) (λ u. tt))
+plan_of_tells d (Turn i) c = run_tells c i (map.get c.runs i)
+plan_of_tells d (Lost i) c = run_tells c i (map.get c.runs i)
+plan_of_tells d (Crash i) c = crash_tells c i (map.get c.runs i)
+plan_of_tells d (Restart id f) c = if_plan (PlanTells c) (is_crowded c) _ _ (λ u. (refl, refl, refl)) (λ u. (refl, refl, refl))
+plan_of_tells d (Tick n) c = if_plan (PlanTells c) (nat_lt last_moment (c.now + n)) _ _ (λ u. (refl, refl, refl)) (λ u. (refl, refl, refl))
 
-plan_tells : (e : Event) (c : Core) → PlanTells (counted c) (plan e c)
-plan_tells e c = if_plan (PlanTells (counted c)) (nat_lt c.taken most_events) _ _ (λ few. plan_of_tells e (counted c)) (λ spent. (refl, refl, refl))
+plan_tells : (d : Deployment) (e : Event) (c : Core) → PlanTells (counted c) (plan d e c)
+plan_tells d e c = if_plan (PlanTells (counted c)) (nat_lt c.taken most_events) _ _ (λ few. plan_of_tells d e (counted c)) (λ spent. (refl, refl, refl))
 
 -- a run that waits has made no entry
-says_unmarked : (d : Deployment) (r : Run) (g : Begun) (s : Says) (w : Wait) → (turned_by d r g s).wait ≡ Some w → (turned_by d r g s).mark ≡ None
+abbrev Unmarked : Turned → Type 0
+Unmarked s = (w : Wait) → s.wait ≡ Some w → s.mark ≡ None
+
+goes_unmarked : (r : Run) (g : Machine) (c : Option Caller) (m : Option Mark) (s : Option Stage) → Unmarked (goes_from r g c m s)
+goes_unmarked r g c m None w is = cc
+goes_unmarked r g c m (Some s) w is = cc
+
+says_unmarked : (d : Deployment) (r : Run) (g : Begun) (s : Says) → Unmarked (turned_by d r g s)
 says_unmarked d r g (says.Waits u) w is = refl
+says_unmarked d r g (says.Answers a m) w is = let next = resumed d g.machine a in goes_unmarked r next g.caller m (first_stage r.id g.caller next.effect) w is
 says_unmarked d r g s w is = cc
 
-begins_unmarked : (d : Deployment) (r : Run) (f : Option Func) (a : Option Value) (w : Wait) → (begin_in d r f a).wait ≡ Some w → (begin_in d r f a).mark ≡ None
+begins_unmarked : (d : Deployment) (r : Run) (f : Option Func) (b : Option Body) → Unmarked (begin_in d r f b)
 begins_unmarked d r f None w is = cc
-begins_unmarked d r None (Some a) w is = cc
-begins_unmarked d r (Some f) (Some a) w is = cc
+begins_unmarked d r None (Some b) w is = cc
+begins_unmarked d r (Some f) (Some b) w is = let first = begun d r.func b.args false in goes_unmarked r first b.from None (first_stage r.id b.from first.effect) w is
 
-waits_unmarked : (d : Deployment) (n : ℕ) (r : Run) (t : Told) (w : Wait) → (run_told d n r t).wait ≡ Some w → (run_told d n r t).mark ≡ None
-waits_unmarked d n r t w = by_at r.at
-  where
-    by_at : (at : Option Begun) → (told_at d n r at t).wait ≡ Some w → (told_at d n r at t).mark ≡ None
-    by_at None is = begins_unmarked d r (func_at d r.func) (args_told r.func t) w is
-    by_at (Some g) is = says_unmarked d r g (stage_says r.id n g.machine.effect g.stage t) w is
+waits_unmarked : (d : Deployment) (n : ℕ) (r : Run) (at : RunAt) (t : Told) → Unmarked (told_at d n r at t)
+waits_unmarked d n r Looks t = begins_unmarked d r (func_at d r.func) (body_told r.func t)
+waits_unmarked d n r (Registers b) t = begins_unmarked d r (func_at d r.func) (body_registered r.func b t)
+waits_unmarked d n r (Begins g) t = says_unmarked d r g (stage_says r.id g.caller n g.machine.steps g.machine.effect g.stage t)
+
+-- what follows of a turn, whose entry the book has by now: no more is put there, and the answer tells that entry and is not dropped
+record TurnTells (i : ℕ) (id : IntentId) (s : Turned) (c : Core) (y : Core × Seen) : Type 0 where
+  book : y.0.book ≡ c.book
+  told : option_to_list (option_map (entry_of id) s.mark) ≡ entries_told (Turn i) y.1
+  heard : is_dropped y.1 ≡ false
+
+module _ (i : ℕ) (id : IntentId) (s : Turned) (c : Core) where
+  started_none : TurnTells i id s c (c, acted id s None)
+  started_none = record { book = refl; told = refl; heard = refl }
+
+  started_one : (r : Run) → TurnTells i id s c (started c id s r)
+  started_one r = record { book = refl; told = refl; heard = refl }
+
+  opened_tells : (o : Option Run) → TurnTells i id s c (opened c id s o)
+  opened_tells None = started_none
+  opened_tells (Some r) = if_plan (TurnTells i id s c) (has_run c.runs r.id || is_crowded c) _ _ (λ t. started_none) (λ t. started_one r)
+
+  anew_tells : (o : Option Run) → TurnTells i id s c (started_anew c id s o)
+  anew_tells None = started_none
+  anew_tells (Some r) = started_one r
+
+  waits_tells : s.mark ≡ None → (x : Seen) → entries_told (Turn i) x ≡ [] → is_dropped x ≡ false → TurnTells i id s c (c, x)
+  waits_tells unmarked x silent heard = record { book = refl; told = ap (λ m. option_to_list (option_map (entry_of id) m)) unmarked ∙ sym silent; heard = heard }
+
+  awaited_tells : s.mark ≡ None → (callee : IntentId) → TurnTells i id s c (awaited c id s callee)
+  awaited_tells unmarked callee = if_plan (TurnTells i id s c) (has_run c.runs callee) _ _
+      (λ t. waits_tells unmarked (seen.NotYet callee) refl refl)
+      (λ t. if_plan (TurnTells i id s c) (is_crowded c) _ _ (λ u. waits_tells unmarked seen.Crowded refl refl) (λ u. anew_tells (callee_of s.next)))
+
+  turn_tells : (o : Option Wait) → s.wait ≡ o → Unmarked s → TurnTells i id s c (after_turn c id s o)
+  turn_tells None is unmarked = if_plan (TurnTells i id s c) s.opens _ _ (λ t. opened_tells (callee_of s.next)) (λ t. started_none)
+  turn_tells (Some (wait.Held w)) is unmarked = waits_tells (unmarked (wait.Held w) is) (seen.Held w) refl refl
+  turn_tells (Some (wait.Result callee)) is unmarked = awaited_tells (unmarked (wait.Result callee) is) callee
+
+made_tells : (d : Deployment) (c : Core) (i : ℕ) (r : Run) (t : Told) → let s = run_told d (count_changes c.book) r t in TurnTells i r.id s (turned_core c i r.id s) (turn_next c i r.id s)
+made_tells d c i r t = let s = run_told d (count_changes c.book) r t in turn_tells i r.id s (turned_core c i r.id s) s.wait refl (waits_unmarked d (count_changes c.book) r r.at t)
+
+-- a turn binds nothing
+turn_unbound : (i : ℕ) (x : Seen) → bound_of (Turn i) x ≡ []
+turn_unbound i (seen.Bound t run) = refl
+turn_unbound i x = refl
 
 -- what is left by an act of an intent, which makes an entry or none
 act_grew : (e : Event) (c b : Core) (r : Result Seen AllocError) (id : IntentId) (k : Option Mark) → b.book ≡ marked c.book id k → bound_by e r ≡ []
@@ -199,20 +254,17 @@ module _ (d : Deployment) (c : Core) where
   ticket_grew true = none Ticket c (record c { newest = c.newest + 1 }) (seen.Issued (c.newest + 1)) refl refl
   ticket_grew false = none Ticket c c (seen.Gone (c.newest + 1)) refl refl
 
-  request_grew : (t f : ℕ) (a : Value) (u : Binding) → BookGrew (Request t f a) c (request_next c t f a u).0 (Ok (request_next c t f a u).1)
+  request_grew : (t f : ℕ) (a : Value) (u : Binding) → BookGrew (Request t f a) c (request_next d c t f a u).0 (Ok (request_next d c t f a u).1)
   request_grew t f a binding.Bound = record { entry = Some (Start t f a); book = refl; starts = refl; told = λ l. refl }
-  request_grew t f a (binding.Other g v) = none (Request t f a) c c (seen.Other t g v) refl refl
-  request_grew t f a (binding.Ended o) = none (Request t f a) c c (seen.Replied t o) refl refl
-  request_grew t f a binding.Running = none (Request t f a) c c (seen.Running t) refl refl
-  request_grew t f a binding.Gone = none (Request t f a) c c (seen.Gone t) refl refl
+  request_grew t f a u = none (Request t f a) c c (unbound t u) refl refl
 
   run_grew : (i : ℕ) (t : Told) (o : Option Run) → BookGrew (Turn i) c (run_next d c i t o).0 (Ok (run_next d c i t o).1)
   run_grew i t None = none (Turn i) c c (no_run c i) refl (no_run_tells c ((i == 0) || nat_lt c.last_run i)).1
-  run_grew i t (Some r) = by_wait (run_told d (count_changes c.book) r t) (run_told d (count_changes c.book) r t).wait refl (waits_unmarked d (count_changes c.book) r t)
-    where
-      by_wait : (s : Turned) (o : Option Wait) → s.wait ≡ o → ((w : Wait) → s.wait ≡ Some w → s.mark ≡ None) → BookGrew (Turn i) c (turn_next c i r.id s).0 (Ok (turn_seen r.id s o))
-      by_wait s None is none = act_grew (Turn i) c (turn_next c i r.id s).0 (Ok (acted r.id s)) r.id s.mark refl refl (λ l. refl)
-      by_wait s (Some (wait.Held w)) is none = act_grew (Turn i) c (turn_next c i r.id s).0 (Ok (seen.Held w)) r.id s.mark refl refl (λ l. ap (λ m. option_to_list (option_map (entry_of r.id) m)) (none (wait.Held w) is))
+  run_grew i t (Some r) =
+      let s = run_told d (count_changes c.book) r t in
+      let y = turn_next c i r.id s in
+      let g = made_tells d c i r t in
+      act_grew (Turn i) c y.0 (Ok y.1) r.id s.mark g.book (turn_unbound i y.1) (λ l. g.told)
 
   -- nobody hears
   lost_grew : (i : ℕ) (t : Told) (o : Option Run) → BookGrew (Lost i) c (unheard_next d c i t o) (Ok seen.Dropped)
@@ -230,6 +282,7 @@ module _ (d : Deployment) (c : Core) where
   heard_grew (Lost i) t = lost_grew i t (map.get c.runs i)
   heard_grew (Crash i) t = none (Crash i) c c seen.Crashed refl refl
   heard_grew (Restart id f) t = none (Restart id f) c c seen.Crowded refl refl
+  heard_grew (Tick n) t = none (Tick n) c c seen.ClockEnd refl refl
 
   no_memory_grew : (e : Event) (t : Told) (w : AllocError) (b : Core) → no_memory d e c t ≡ Some b → BookGrew e c b (Err w)
   no_memory_grew (Turn i) t w b is = subst (λ z. BookGrew (Turn i) c z (Err w)) (same_some is) (unheard_grew i t w (map.get c.runs i))
@@ -259,7 +312,7 @@ module _ (d : Deployment) (c : Core) where
   plan_grew room old new e b m n r (asks q) g s = came_grew e b s.0 r s.1
 
 pub book_grew : WritesWhatIsTold
-book_grew d room old new e c b m n r s = let g = plan_grew d (counted c) room old new e b m n r (plan e c) (plan_tells e c) s in record { entry = g.entry; book = g.book; starts = g.starts; told = g.told }
+book_grew d room old new e c b m n r s = let g = plan_grew d (counted c) room old new e b m n r (plan d e c) (plan_tells d e c) s in record { entry = g.entry; book = g.book; starts = g.starts; told = g.told }
 
 -- ---- an answer is dropped only where it was lost, or the table failed
 abbrev says_dropped : Result Seen AllocError → Bool
@@ -271,20 +324,13 @@ module _ (d : Deployment) (c : Core) where
   ticket_heard true = refl
   ticket_heard false = refl
 
-  request_heard : (t f : ℕ) (a : Value) (u : Binding) → is_dropped (request_next c t f a u).1 ≡ false
+  request_heard : (t f : ℕ) (a : Value) (u : Binding) → is_dropped (request_next d c t f a u).1 ≡ false
   request_heard t f a binding.Bound = refl
-  request_heard t f a (binding.Other g v) = refl
-  request_heard t f a (binding.Ended o) = refl
-  request_heard t f a binding.Running = refl
-  request_heard t f a binding.Gone = refl
-
-  turn_heard : (id : IntentId) (s : Turned) (o : Option Wait) → is_dropped (turn_seen id s o) ≡ false
-  turn_heard id s None = refl
-  turn_heard id s (Some (wait.Held w)) = refl
+  request_heard t f a u = refl
 
   run_heard : (i : ℕ) (t : Told) (o : Option Run) → is_dropped (run_next d c i t o).1 ≡ false
   run_heard i t None = (no_run_tells c ((i == 0) || nat_lt c.last_run i)).2
-  run_heard i t (Some r) = turn_heard r.id (run_told d (count_changes c.book) r t) (run_told d (count_changes c.book) r t).wait
+  run_heard i t (Some r) = (made_tells d c i r t).heard
 
   heard_lost : (e : Event) (t : Told) → is_dropped (heard d e c t).1 ≡ is_lost e
   heard_lost Ticket t = ticket_heard (is_added t)
@@ -293,6 +339,7 @@ module _ (d : Deployment) (c : Core) where
   heard_lost (Lost i) t = refl
   heard_lost (Crash i) t = refl
   heard_lost (Restart id f) t = refl
+  heard_lost (Tick n) t = refl
 
   error_heard : (v : TableErr) → says_dropped (refused_by v) ≡ true → v ≡ Failed
   error_heard OutOfMemory h = cc
@@ -313,4 +360,4 @@ module _ (d : Deployment) (c : Core) where
   plan_heard e b old new (asks q) lost g s = s.2.cause.failed (came_heard e b s.0 lost s.1)
 
 pub drops_have_cause : DropsHaveCause
-drops_have_cause d e c b old new lost s = plan_heard d (counted c) e b old new (plan e c) lost (plan_tells e c) s
+drops_have_cause d e c b old new lost s = plan_heard d (counted c) e b old new (plan d e c) lost (plan_tells d e c) s

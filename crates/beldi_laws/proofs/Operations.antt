@@ -6,8 +6,8 @@ use Rattle.std.specs.FinMap as map
 use Rattle.std.specs.Ordering.{is_eq}
 use Rattle.std.proofs.lemmas.Cmp.{tied_itself}
 use Rattle.beldi_value.specs.declared.id.IntentId.{IntentId}
+use Rattle.beldi_value.specs.declared.place.Caller.{Caller}
 use Rattle.beldi_value.specs.declared.place.Owner.TheVariants as owner
-use Rattle.beldi_value.specs.declared.rel.Rel.{Rel}
 use Rattle.beldi_value.specs.declared.value.Value.TheVariants as value
 use Rattle.beldi_value.specs.Passes.{passes}
 use Rattle.beldi_value.specs.declared.place.Place.{Place}
@@ -45,28 +45,28 @@ use Rattle.beldi_plain.specs.Guard.{IsFree, touched_by, item_touched}
 use Rattle.beldi_plain.specs.Holds.{holds}
 use Rattle.beldi_plain.specs.Operation as operation
 use Rattle.beldi_plain.specs.Operation.{OnItem, Operation, op_of, item_in, or_old, answer_after, write, lock, free}
-use Rattle.beldi_plain.specs.Plain.{Instance, PlainState, value_at, step_by, operate, effect_of, kind_of}
+use Rattle.beldi_plain.specs.Plain.{Instance, PlainState, value_at, operate, effect_of, kind_of}
 use Rattle.beldi_plain.specs.declared.kind.Kind.TheVariants as kind
-use Rattle.beldi_order.specs.Sane.{Answers as OpAnswered, IsAnswerTo, effect_before}
-use Rattle.beldi_order.proofs.Entries.{same_some, enabled_step}
+use Rattle.beldi_order.specs.Sane.{Answers as OpAnswered, OpAnswers, IsAnswerTo, effect_before}
+use Rattle.beldi_order.proofs.Entries.{same_some, enabled_step, free_at_operation}
+use Rattle.beldi_order.proofs.Locks.{operation_step}
+use Rattle.beldi_order.proofs.Sanes.{operation_answers}
 use Rattle.beldi_step.specs.declared.run.Run.{Run}
 use Rattle.beldi_step.specs.declared.run.Begun.{Begun}
 use Rattle.beldi_step.specs.declared.run.Mark.TheVariants as mark
 use Rattle.beldi_step.specs.declared.run.Says.{Says}
 use Rattle.beldi_step.specs.declared.run.Says.TheVariants.{Answers}
 use Rattle.beldi_step.specs.declared.run.Stage.TheVariants as stage
-use Rattle.beldi_step.specs.declared.run.Wait.TheVariants as wait
 use Rattle.beldi_intent.specs.Intent.{root_key}
-use Rattle.beldi_step.specs.Run.{place_of, turned_by, put_asks, put_says, write_says, done_says, note_done, note_of_op, answer_noted, cell_op}
+use Rattle.beldi_step.specs.Run.{place_of, turned_by, put_asks, put_says, write_says, done_says, note_done, note_of_op, noted_answer, answers_it, if_answers, answer_noted, cell_op}
 use Rattle.beldi_step.specs.Host.{Core, turn_next}
 use Rattle.beldi_laws.specs.Stands.{head_key, content_of, noted}
 use Rattle.beldi_laws.specs.Right.{Right, RowsMatch, Knows, StageOk, PlaceOk, owed_by, note_if, note_of}
 use Rattle.beldi_laws.proofs.Rows.{no_root}
 use Rattle.beldi_laws.proofs.Steps.{Does, DoneRows, operation_done, content_kept}
 use Rattle.beldi_laws.proofs.Moves.{AfterTurn, AfterQuery, SameRoots, change_entered}
-use Rattle.beldi_laws.proofs.Turns.{effect_here, answer_here, step_here, effect_next, wants_it, fits, not_over, goes_on, waits, ends, replays, steps_on}
+use Rattle.beldi_laws.proofs.Turns.{effect_here, answer_here, step_here, effect_next, wants_it, fits, not_over, goes_on, held, ends, replays, steps_on}
 use Rattle.beldi_laws.proofs.Owners.{unbarred, nobody_else, not_hers, her_own}
-use Rattle.beldi_step.specs.Run.{noted_answer}
 
 -- what is answered to an operation is what its note reads as
 pub noted_back : (o : Operation) (a : Answer) → OpAnswered o a → option_and_then noted_answer (noted o a) ≡ Some a
@@ -76,110 +76,83 @@ noted_back lock answer.Done ok = refl
 noted_back free answer.Done ok = refl
 noted_back o a ok = absurd ok
 
-has_note : (n : Option Note) (a : Answer) → option_and_then noted_answer n ≡ Some a → is_some n ≡ true
-has_note None a h = cc
-has_note (Some n) a h = refl
+-- ---- what an operation does to its item's cell
+abbrev cell_of : Operation → CellOp
+cell_of (write v) = cell.Write v
+cell_of (operation.cond r u v) = cell.Cond r u v
+cell_of lock = cell.Lock
+cell_of free = cell.Free None
 
--- ---- what an effect is that is an operation on an item: its plain step, its operation on cells, and what its stage says. This
--- is all that the turns ask of it.
-pub record IsOperation (e : Effect) (o : OnItem) (op : CellOp) : Type 0 where
-  is_op : op_of e ≡ Some o
-  does : Does o.does op
-  -- its plain step
-  change : kind_of e ≡ kind.Change
-  step : (p : PlainState) (id : IntentId) (q : Instance) → step_by p id q e ≡ operate p id q (item_in q.func o) o.does
-  answers : (w : Value) → IsAnswerTo e (answer_after o.does w)
-  answered_so : (a : Answer) → IsAnswerTo e a → OpAnswered o.does a
-  -- what it asks, and its stage: a note is told as the answer that it reads as
-  cell : cell_op e ≡ Some (record { table = o.table; key = o.key; op = op })
-  stage_ok : (at : WriteAt) → StageOk e (stage.Write at)
-  place_ok : (d : Deployment) (book : List Entry) (id : IntentId) (func : ℕ) (given later : List Answer) (at : WriteAt) → PlaceOk d book id func given later e (stage.Write at)
-  done : (n : Note) (a : Answer) → noted o.does a ≡ Some n → answer_noted e n ≡ Some a
-
-pub write_is : (t : ℕ) (k : List ℕ) (v : Value) → IsOperation (effect.Write t k v) (record { table = t; key = k; does = write v }) (cell.Write v)
-write_is t k v = record {
-  is_op = refl;
-  does = record { value = λ w. refl; note = λ w. refl; own = λ id was free. refl; others = λ id was free who other. refl };
-  change = refl;
-  step = λ p id q. refl;
-  answers = λ w. tt;
-  answered_so = λ a h. h;
-  cell = refl;
-  stage_ok = λ at. tt;
-  place_ok = λ d book id func given later at. tt;
-  done = told;
-}
-  where
-    told : (n : Note) (a : Answer) → noted (write v) a ≡ Some n → answer_noted (effect.Write t k v) n ≡ Some a
-    told n answer.Done same = ap (answer_noted (effect.Write t k v)) (same_some (sym same))
-    told n a same = cc
-
-pub cond_is : (t : ℕ) (k : List ℕ) (r : Rel) (u v : Value) → IsOperation (effect.CondWrite t k r u v) (record { table = t; key = k; does = operation.cond r u v }) (cell.Cond r u v)
-cond_is t k r u v = record {
-  is_op = refl;
-  does = record { value = λ w. by_test (passes w r u) w; note = λ w. refl; own = λ id was free. refl; others = λ id was free who other. refl };
-  change = refl;
-  step = λ p id q. refl;
-  answers = λ w. tt;
-  answered_so = λ a h. h;
-  cell = refl;
-  stage_ok = λ at. tt;
-  place_ok = λ d book id func given later at. tt;
-  done = told;
-}
+does_so : (o : Operation) → Does o (cell_of o)
+does_so (write v) = record { value = λ w. refl; note = λ w. refl; own = λ id was free. refl; others = λ id was free who other. refl }
+does_so (operation.cond r u v) = record { value = λ w. by_test (passes w r u) w; note = λ w. refl; own = λ id was free. refl; others = λ id was free who other. refl }
   where
     by_test : (b : Bool) (w : Value) → or_old (if b then Some v else None) w ≡ (if b then v else w)
     by_test true w = refl
     by_test false w = refl
-
-    told : (n : Note) (a : Answer) → noted (operation.cond r u v) a ≡ Some n → answer_noted (effect.CondWrite t k r u v) n ≡ Some a
-    told n (answer.Value (value.Bool b)) same = ap (answer_noted (effect.CondWrite t k r u v)) (same_some (sym same))
-    told n a same = cc
-
-pub lock_is : (t : ℕ) (k : List ℕ) → IsOperation (effect.Lock t k) (record { table = t; key = k; does = lock }) cell.Lock
-lock_is t k = record {
-  is_op = refl;
-  does = record { value = λ w. refl; note = λ w. refl; own = λ id was free. her_own id; others = λ id was free who other. not_hers id (Some (owner.Intent id)) (inr refl) who other ∙ sym (not_hers id was (unbarred cell.Lock id was free) who other) };
-  change = refl;
-  step = λ p id q. refl;
-  answers = λ w. tt;
-  answered_so = λ a h. h;
-  cell = refl;
-  stage_ok = λ at. tt;
-  place_ok = λ d book id func given later at. tt;
-  done = told;
+does_so lock = record {
+  value = λ w. refl;
+  note = λ w. refl;
+  own = λ id was free. her_own id;
+  others = λ id was free who other. not_hers id (Some (owner.Intent id)) (inr refl) who other ∙ sym (not_hers id was (unbarred cell.Lock id was free) who other);
 }
-  where
-    told : (n : Note) (a : Answer) → noted lock a ≡ Some n → answer_noted (effect.Lock t k) n ≡ Some a
-    told n answer.Done same = ap (answer_noted (effect.Lock t k)) (same_some (sym same))
-    told n a same = cc
+does_so free = record { value = λ w. refl; note = λ w. refl; own = λ id was free. refl; others = λ id was free who other. sym (not_hers id was (unbarred (cell.Free None) id was free) who other) }
 
-pub unlock_is : (t : ℕ) (k : List ℕ) → IsOperation (effect.Unlock t k) (record { table = t; key = k; does = free }) (cell.Free None)
-unlock_is t k = record {
-  is_op = refl;
-  does = record { value = λ w. refl; note = λ w. refl; own = λ id was free. refl; others = λ id was free who other. sym (not_hers id was (unbarred (cell.Free None) id was free) who other) };
-  change = refl;
-  step = λ p id q. refl;
-  answers = λ w. tt;
-  answered_so = λ a h. h;
-  cell = refl;
-  stage_ok = λ at. tt;
-  place_ok = λ d book id func given later at. tt;
-  done = told;
-}
-  where
-    told : (n : Note) (a : Answer) → noted free a ≡ Some n → answer_noted (effect.Unlock t k) n ≡ Some a
-    told n answer.Done same = ap (answer_noted (effect.Unlock t k)) (same_some (sym same))
-    told n a same = cc
+abbrev IsCell : Effect → OnItem → Type 0
+IsCell e o = cell_op e ≡ Some (record { table = o.table; key = o.key; op = cell_of o.does })
 
--- the item that it touches
-by_touch : (e : Effect) (o : OnItem) (q : Instance) → op_of e ≡ Some o → item_touched q e ≡ Some (item_in q.func o)
-by_touch (effect.Read t k) o q h = cc
-by_touch e o q h = ap (option_map (item_in q.func)) h
+its_cell : (e : Effect) (o : OnItem) → op_of e ≡ Some o → IsCell e o
+its_cell (effect.Write t k v) o h = subst (IsCell (effect.Write t k v)) (same_some h) refl
+its_cell (effect.CondWrite t k r u v) o h = subst (IsCell (effect.CondWrite t k r u v)) (same_some h) refl
+its_cell (effect.Lock t k) o h = subst (IsCell (effect.Lock t k)) (same_some h) refl
+its_cell (effect.Unlock t k) o h = subst (IsCell (effect.Unlock t k)) (same_some h) refl
+its_cell e o h = cc
+
+-- ---- an effect that is an operation on an item: how it is entered, what it touches, and where it may stand
+is_change : (id : IntentId) (e : Effect) (o : OnItem) → op_of e ≡ Some o → kind_of id e ≡ kind.Change
+is_change id (effect.Read t k) o h = cc
+is_change id e o h = cc
+
+touches_it : (e : Effect) (o : OnItem) (q : Instance) → op_of e ≡ Some o → item_touched q e ≡ Some (item_in q.func o)
+touches_it (effect.Read t k) o q h = cc
+touches_it e o q h = ap (option_map (item_in q.func)) h
+
+may_stand : (id : IntentId) (c : Option Caller) (e : Effect) (o : OnItem) (at : WriteAt) → op_of e ≡ Some o → StageOk id c e (stage.Write at)
+may_stand id c (effect.Write t k v) o at h = tt
+may_stand id c (effect.CondWrite t k r u v) o at h = tt
+may_stand id c (effect.Lock t k) o at h = tt
+may_stand id c (effect.Unlock t k) o at h = tt
+may_stand id c e o at h = cc
+
+no_place : (d : Deployment) (book : List Entry) (id : IntentId) (func : ℕ) (given later : List Answer) (e : Effect) (at : WriteAt) → PlaceOk d book id func given later e (stage.Write at)
+no_place d book id func given later (effect.Read t k) at = tt
+no_place d book id func given later e at = tt
+
+-- .. its answers are those of its operation, and its note is told as the answer that it reads as
+answered_so : (e : Effect) (o : OnItem) (a : Answer) → op_of e ≡ Some o → IsAnswerTo e a → OpAnswered o.does a
+answered_so (effect.Read t k) o a h is = cc
+answered_so (effect.Call f v) o a h is = cc
+answered_so e o a h is = subst (λ z. OpAnswers z a) h is
+
+of_its_kind : (e : Effect) (o : OnItem) (a : Answer) → op_of e ≡ Some o → IsAnswerTo e a → answers_it e a ≡ true
+of_its_kind (effect.Read t k) o a h is = cc
+of_its_kind (effect.Call f v) o a h is = cc
+of_its_kind (effect.Write t k v) o answer.Done h is = refl
+of_its_kind (effect.CondWrite t k r u v) o (answer.Value w) h is = refl
+of_its_kind (effect.Lock t k) o answer.Done h is = refl
+of_its_kind (effect.Unlock t k) o answer.Done h is = refl
+of_its_kind e o a h is = absurd is
+
+told_back : (e : Effect) (o : OnItem) (n : Note) (a : Answer) → op_of e ≡ Some o → IsAnswerTo e a → noted o.does a ≡ Some n → answer_noted e n ≡ Some a
+told_back e o n a h is same =
+    ap (if_answers e) (sym (ap (option_and_then noted_answer) same) ∙ noted_back o.does a (answered_so e o a h is)) ∙ ap (λ b. if b then Some a else None) (of_its_kind e o a h is)
 
 -- ---- the turn
 module _ (d : Deployment) (c : Core) (m : Rows) (i : ℕ) (r : Run) (g : Begun) (h : Right d c m) (live : map.get c.runs i ≡ Some r) (k : Knows d c.book h.plain r g)
-    (e : Effect) (o : OnItem) (op : CellOp) (known : IsOperation e o op) (is : g.machine.effect ≡ e) (at : WriteAt) where
+    (e : Effect) {o : OnItem} (so : op_of e ≡ Some o) (is : g.machine.effect ≡ e) (at : WriteAt) where
+  abbrev op : CellOp
+  op = cell_of o.does
+
   abbrev item : Item
   item = item_in r.func o
 
@@ -206,7 +179,7 @@ module _ (d : Deployment) (c : Core) (m : Rows) (i : ℕ) (r : Run) (g : Begun) 
       ∙ ap (λ f. note_if item f e (slice_get later 0)) k.func
 
   note_read : (a : Answer) (rest : List Answer) → k.later ≡ a ∷ rest → note_at (content_of m item).notes place ≡ noted o.does a
-  note_read a rest left = note_is (a ∷ rest) left ∙ ap (λ z. note_of item r.func z a) known.is_op ∙ ap (λ b. if is_eq b then noted o.does a else None) (tied_itself item_total item)
+  note_read a rest left = note_is (a ∷ rest) left ∙ ap (λ z. note_of item r.func z a) so ∙ ap (λ b. if is_eq b then noted o.does a else None) (tied_itself item_total item)
 
   abbrev After : Says → Type 0
   After s = AfterTurn d h.plain c i r.id (turned_by d r g s) n
@@ -229,18 +202,24 @@ module _ (d : Deployment) (c : Core) (m : Rows) (i : ℕ) (r : Run) (g : Begun) 
       now : effect_of d k.instance ≡ e
       now = effect_next d c.book h.plain r g k left ∙ is
 
+      wants_op : op_of (effect_of d k.instance) ≡ Some o
+      wants_op = ap op_of now ∙ so
+
+      answers_so : IsAnswerTo e a
+      answers_so = operation_answers e o old so
+
       value_here : (content_of m item).value ≡ old
       value_here = (h.rows.items item).value ∙ ap (λ f. value_at h.plain (item_in f o)) (sym k.func)
 
       told : (w : Note) → note_at (content_of n item).notes place ≡ Some w → noted o.does a ≡ Some w
-      told w there = known.does.note old ∙ ap (λ v. Some (note_after op v)) (sym value_here) ∙ sym (note_here (content_of m item).notes place (note_after op (content_of m item).value) did.0)
+      told w there = (does_so o.does).note old ∙ ap (λ v. Some (note_after op v)) (sym value_here) ∙ sym (note_here (content_of m item).notes place (note_after op (content_of m item).value) did.0)
           ∙ ap (λ x. note_at x.notes place) (sym did.2) ∙ there
 
       abbrev state : PlainState
       state = operate h.plain r.id k.instance (item_in k.instance.func o) o.does
 
       rows_done : RowsMatch d n state
-      rows_done = operation_done d h.plain r.id k.instance o op k.made (ap op_of now ∙ known.is_op) known.does m n
+      rows_done = operation_done d h.plain r.id k.instance o op k.made wants_op (does_so o.does) m n
           (subst (λ s. DoneRows m n (item_in k.instance.func o) (place_of r.id s) op) (step_here d c.book h.plain r g k left)
           (subst (λ f. DoneRows m n (item_in f o) place op) (sym k.func) (record { same = same; sound = sound; none = did.0; free = did.1; here = did.2 })))
           h.rows
@@ -249,35 +228,35 @@ module _ (d : Deployment) (c : Core) (m : Rows) (i : ℕ) (r : Run) (g : Begun) 
       free_here : IsFree d h.plain (Step r.id)
       free_here x touched j held =
           let touches : Some item ≡ Some x =
-          ap (λ f. Some (item_in f o)) (sym k.func) ∙ sym (ap (touched_by d) k.made ∙ ap (item_touched k.instance) now ∙ by_touch e o k.instance known.is_op) ∙ touched in
+          ap (λ f. Some (item_in f o)) (sym k.func) ∙ sym (ap (touched_by d) k.made ∙ touches_it (effect_of d k.instance) o k.instance wants_op) ∙ touched in
           nobody_else r.id (content_of m item).owner (unbarred op r.id (content_of m item).owner did.1) j
           ((h.rows.items item).owner (owner.Intent j) ∙ ap (λ z. holds d z (map.get h.plain.made j)) (same_some touches) ∙ held)
 
       steps : After (Answers a (Some mark.Step))
-      steps = steps_on d c m i r g h live k e is a mark.Step state n left (known.answers old) refl
+      steps = steps_on d c m i r g h live k e is a mark.Step state n left answers_so refl
           (change_entered d c m h (Step r.id) state refl
-          (enabled_step d h.plain r.id k.instance k.made (not_over d c m i r g h live k e is left (wants_it e a (known.answers old))) (ap kind_of now ∙ known.change)
-          ∙ ap Some (ap (step_by h.plain r.id k.instance) now ∙ known.step h.plain r.id k.instance)) free_here)
+          (enabled_step d h.plain r.id k.instance k.made (not_over d c m i r g h live k e is left (wants_it e a answers_so)) (free_at_operation h.plain.made r.id k.instance (effect_of d k.instance) o wants_op) (is_change r.id (effect_of d k.instance) o wants_op)
+          ∙ ap Some (operation_step h.plain r.id k.instance (effect_of d k.instance) o wants_op)) free_here)
           roots rows_done
 
     done_now : (later : List Answer) → k.later ≡ later → (w : Note) → note_at (content_of n item).notes place ≡ Some w → DidOnce place (owner.Intent r.id) op true (content_of m item) (content_of n item) → After (write_says e (writes.Done w true))
-    done_now [] left w there did = subst (λ x. After (done_says true x)) (sym (known.done w (a left did) (told left did w there))) (steps left did)
-    done_now (b ∷ rest) left w there did = let clash = sym (has_note (noted o.does b) b (noted_back o.does b (known.answered_so b (fits d c m i r g h live k e is b rest left)))) ∙ ap is_some (sym (note_read b rest left) ∙ did.0) in cc
+    done_now [] left w there did = subst (λ x. After (done_says true x)) (sym (told_back e o w (a left did) so (answers_so left did) (told left did w there))) (steps left did)
+    done_now (b ∷ rest) left w there did = let clash = sym (noted_back o.does b (answered_so e o b so (fits d c m i r g h live k e is b rest left))) ∙ ap (option_and_then noted_answer) (sym (note_read b rest left) ∙ did.0) in cc
 
     done_before : (later : List Answer) → k.later ≡ later → (w : Note) → note_at (content_of m item).notes place ≡ Some w → content_of n item ≡ content_of m item → After (write_says e (writes.Done w false))
     done_before [] left w there held = let clash = sym there ∙ note_is [] left in cc
-    done_before (b ∷ rest) left w there held = subst (λ x. After (done_says false x)) (sym (known.done w b (sym (note_read b rest left) ∙ there))) (replays d c m i r g h live k e is n b rest roots (kept held) left)
+    done_before (b ∷ rest) left w there held = subst (λ x. After (done_says false x)) (sym (told_back e o w b so (fits d c m i r g h live k e is b rest left) (sym (note_read b rest left) ∙ there))) (replays d c m i r g h live k e is n b rest roots (kept held) left)
 
     by_says : (z : WriteGoes) → Logs place (owner.Intent r.id) op (walk_so z) (content_of m item) (content_of n item) → After (write_says e z)
-    by_says (writes.On to) held = goes_on d c m i r g h live k e is n (stage.Write to) roots (kept held) (known.stage_ok to) (known.place_ok d c.book r.id r.func k.answers k.later to)
+    by_says (writes.On to) held = goes_on d c m i r g h live k e is n (stage.Write to) roots (kept held) (may_stand r.id g.caller e o to so) (no_place d c.book r.id r.func k.answers k.later e to) tt
     by_says (writes.Done w true) l = done_now k.later refl w l.0 l.1
     by_says (writes.Done w false) l = done_before k.later refl w (ap (λ x. note_at x.notes place) (sym l.1) ∙ l.0) l.1
     by_says writes.NotOwner l = ends d c m i r g h live k e is n roots (kept l.2)
-    by_says (writes.Held w) l = waits d c m i r g h live k e is (wait.Held w) n roots (kept l.2)
+    by_says (writes.Held w) l = held d c m i r g h live k e is w n roots (kept l.2)
 
   pub operation_turn : AfterQuery d h.plain c.now m (λ u. turn_next c i r.id (turned_by d r g (put_says e (note_done e) u))) (put_asks r.id r.func g.machine.steps at (cell_op e))
   operation_turn =
       let z = write_goes (done_note op) (told_by asks c.now m) in
       let logged : LoggedTurn walk m n (walk_so z) = by_op walk m n (h.rows.keys (head_key item)) at c.now refl in
-      subst (λ x. AfterQuery d h.plain c.now m (λ u. turn_next c i r.id (turned_by d r g (put_says e (note_of_op x) u))) (put_asks r.id r.func g.machine.steps at x)) (sym known.cell)
+      subst (λ x. AfterQuery d h.plain c.now m (λ u. turn_next c i r.id (turned_by d r g (put_says e (note_of_op x) u))) (put_asks r.id r.func g.machine.steps at x)) (sym (its_cell e o so))
       (by_says logged.others logged.sound z logged.logs)

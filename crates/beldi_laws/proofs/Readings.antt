@@ -46,7 +46,6 @@ use Rattle.beldi_step.specs.declared.run.Mark.TheVariants as mark
 use Rattle.beldi_step.specs.declared.run.Says.TheVariants.{Answers}
 use Rattle.beldi_step.specs.declared.run.Stage.{Stage}
 use Rattle.beldi_step.specs.declared.run.Stage.TheVariants as stage
-use Rattle.beldi_step.specs.declared.run.Wait.TheVariants as wait
 use Rattle.beldi_intent.specs.Intent.{root_key}
 use Rattle.beldi_step.specs.Run.{place_of, turned_by, stage_says, walk_says}
 use Rattle.beldi_step.specs.Host.{Core, turn_next}
@@ -57,7 +56,7 @@ use Rattle.beldi_laws.proofs.Rows.{no_root, set_others}
 use Rattle.beldi_laws.proofs.Steps.{read_added}
 use Rattle.beldi_laws.proofs.Lives.{grows_late, runs_late}
 use Rattle.beldi_laws.proofs.Moves.{AfterAct, AfterTurn, Entered, still}
-use Rattle.beldi_laws.proofs.Turns.{effect_here, answer_here, all_here, step_here, effect_next, fits, not_over, goes_on, waits, replays, steps_on}
+use Rattle.beldi_laws.proofs.Turns.{effect_here, answer_here, all_here, step_here, effect_next, fits, not_over, goes_on, held, replays, steps_on}
 use Rattle.beldi_laws.proofs.Owners.{unowned, nobody_else}
 use Rattle.beldi_plain.specs.Guard.{touched_by, item_touched}
 use Rattle.beldi_plain.specs.Holds.{holds}
@@ -77,7 +76,7 @@ module _ (d : Deployment) (c : Core) (m : Rows) (i : ℕ) (r : Run) (g : Begun) 
   place = place_of r.id g.machine.steps
 
   abbrev AfterRead : Stage → RowKey → Option Row × Tell → Type 0
-  AfterRead s at z = AfterAct d h.plain m at (λ u. turn_next c i r.id (turned_by d r g (stage_says r.id (count_changes c.book) (Read t key) s u))) z
+  AfterRead s at z = AfterAct d h.plain m at (λ u. turn_next c i r.id (turned_by d r g (stage_says r.id g.caller (count_changes c.book) g.machine.steps (Read t key) s u))) z
 
   -- the log has the value that the step was answered
   given_here : (later : List Answer) → k.later ≡ later → (w : Option Row) → map.get m (log_key r.func place) ≡ w → option_map given_in w ≡ value_if (Read t key) (slice_get later 0)
@@ -94,7 +93,7 @@ module _ (d : Deployment) (c : Core) (m : Rows) (i : ℕ) (r : Run) (g : Begun) 
 
   -- ---- it asks for what was given
   ask_by : (later : List Answer) → k.later ≡ later → (w : Option Row) → map.get m (log_key r.func place) ≡ w → AfterRead stage.Ask (log_key r.func place) (act Look c.now w)
-  ask_by [] left None at = still d h.plain m (log_key r.func place) None (sym at) (goes_on d c m i r g h live k (Read t key) is m stage.Walk (λ u. refl) h.rows tt tt)
+  ask_by [] left None at = still d h.plain m (log_key r.func place) None (sym at) (goes_on d c m i r g h live k (Read t key) is m stage.Walk (λ u. refl) h.rows tt tt tt)
   ask_by [] left (Some w) at = let clash = given_here [] left (Some w) at in cc
   ask_by (answer.Value u ∷ rest) left None at = let clash = given_here (answer.Value u ∷ rest) left None at in cc
   ask_by (answer.Value u ∷ rest) left (Some w) at = still d h.plain m (log_key r.func place) (Some w) (sym at) (replays_it u (given_in w) rest left (given_here (answer.Value u ∷ rest) left (Some w) at))
@@ -122,7 +121,7 @@ module _ (d : Deployment) (c : Core) (m : Rows) (i : ℕ) (r : Run) (g : Begun) 
       value = same;
       unlocked = λ j held. nobody_else r.id (content_of m item).owner (unowned r.id (content_of m item).owner free) j ((h.rows.items item).owner (owner.Intent j) ∙ held);
     };
-  })
+  }) tt
 
   abbrev walk : ReadWalk
   walk = record { home = r.func; item = Plain t key; who = Some (owner.Intent r.id) }
@@ -131,7 +130,7 @@ module _ (d : Deployment) (c : Core) (m : Rows) (i : ℕ) (r : Run) (g : Begun) 
   walked reads.On never = absurd never
   walked (reads.Got None) empty = found None (sym (h.rows.items item).value ∙ ap (λ x. x.value) empty) (ap (λ x. in_the_way (Some (owner.Intent r.id)) x.owner) empty)
   walked (reads.Got (Some v)) there = found (Some v) (sym (h.rows.items item).value ∙ sym there.1) there.0
-  walked (reads.Held o) held = waits d c m i r g h live k (Read t key) is (wait.Held o) m (λ u. refl) h.rows
+  walked (reads.Held o) way = held d c m i r g h live k (Read t key) is o m (λ u. refl) h.rows
 
   pub walk_turn : AfterRead stage.Walk (head_key item) (act Look c.now (map.get m (head_key item)))
   walk_turn =

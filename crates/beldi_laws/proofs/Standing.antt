@@ -1,16 +1,20 @@
 -- Where the host and its rows are right, the rows stand for the run of the book.
-use Rattle.std.proofs.Common.{◌≡◌, ℕ, ◌==◌, ◌&&◌, true, false, ◌||◌, Option, None, Some, refl, ap, sym, ◌∙◌, subst, is_some, eq-eqb, if◌then◌else◌}
+use Rattle.std.proofs.Common.{◌≡◌, ℕ, true, false, ◌||◌, List, Option, None, Some, refl, ap, sym, ◌∙◌, subst, is_some, eq-eqb, if◌then◌else◌}
 use Rattle.std.specs.Prelude.{slice_get, option_and_then}
 use Rattle.std.specs.FinMap as map
 use Rattle.std.specs.Ordering.{is_eq}
 use Rattle.std.proofs.lemmas.Cmp.{tied_itself}
-use Rattle.beldi_value.specs.Id.{has_no_hops}
+use Rattle.std.proofs.lemmas.Option.{slice_get_within}
+use Rattle.beldi_value.specs.Id.{has_no_hops, child_of}
 use Rattle.beldi_value.specs.declared.id.IntentId.{IntentId}
+use Rattle.beldi_value.specs.declared.outcome.Outcome.{Outcome}
+use Rattle.beldi_value.specs.declared.place.Place.{Place}
+use Rattle.beldi_value.specs.declared.value.Value.{Value}
 use Rattle.beldi_tree.specs.declared.deployment.Deployment.{Deployment}
 use Rattle.beldi_lang.specs.declared.effect.Answer.{Answer}
 use Rattle.beldi_lang.specs.declared.effect.Answer.TheVariants as answer
 use Rattle.beldi_lang.specs.declared.effect.Effect.{Effect}
-use Rattle.beldi_lang.specs.declared.effect.Effect.TheVariants.{Read}
+use Rattle.beldi_lang.specs.declared.effect.Effect.TheVariants.{Read, Call}
 use Rattle.beldi_row.specs.declared.row.Body.{Body}
 use Rattle.beldi_row.specs.declared.row.IntentRow.{IntentRow}
 use Rattle.beldi_row.specs.declared.row.Row.{Row}
@@ -23,60 +27,107 @@ use Rattle.beldi_plain.specs.Legal.{run_of}
 use Rattle.beldi_intent.specs.Intent.{root_key, is_ended}
 use Rattle.beldi_step.specs.Host.{Core}
 use Rattle.beldi_readlog.specs.ReadLog.{log_key}
-use Rattle.beldi_order.specs.Sane.{Sane, OpAnswers, IsAnswerTo, effect_before}
+use Rattle.beldi_invokelog.specs.InvokeLog.{invoke_key, call_in, result_in}
+use Rattle.beldi_lang.specs.Callee.{answer_of}
+use Rattle.beldi_order.specs.Sane.{Sane, IsCalled, CalledBy, OpAnswers, IsAnswerTo, effect_before}
 use Rattle.beldi_laws.specs.Stands.{Stands, IsMade, IsOpen, head_key, key_in, held_answer, held_note, noted}
-use Rattle.beldi_laws.specs.Right.{Right, RowsMatch, IntentMatches, IsRootRow, BodyMatches, IsRoot, note_if, note_of, owed_by, value_if, value_for, owed_read, owed_value}
+use Rattle.beldi_laws.specs.Right.{Right, RowsMatch, IntentMatches, RootMatches, BodyMatches, CallMatches, note_if, note_of, owed_by, value_if, value_for, owed_read, owed_value, owed_call, called_by, result_of}
 use Rattle.std.specs.Option.{option_map}
 use Rattle.beldi_order.proofs.Entries.{same_some}
 use Rattle.beldi_order.proofs.Sanes.{sane_of, legal_is_sane}
-use Rattle.beldi_laws.proofs.Steps.{root_row}
+use Rattle.beldi_laws.proofs.Steps.{row_of}
 use Rattle.beldi_laws.proofs.Readings.{given_owed}
 use Rattle.beldi_laws.proofs.Operations.{noted_back}
-use Rattle.beldi_step.specs.Run.{noted_answer}
+use Rattle.beldi_step.specs.Run.{noted_answer, is_waited}
 
-made_so : (p : PlainState) (id : IntentId) (i : IntentRow) (b : Body) → IsRoot b i.outcome (map.get p.made id) → IsMade p id i b
-made_so p id i b h = record { instance = h.instance; made = h.made; func = h.func; args = h.args; outcome = λ o e. h.outcome ∙ e }
+-- the row of a root without outcome has none
+no_outcome : (b : Option Body) (o : Option Outcome) (q : Instance) → BodyMatches b o (Some q) → q.outcome ≡ None → o ≡ None
+no_outcome None o q h none = cc
+no_outcome (Some b) o q h none = sym h.1 ∙ ap (λ z. z.outcome) (sym (same_some h.0.made)) ∙ none
 
 never_ended : (i : IntentRow) → i.outcome ≡ None → is_some i.finish ≡ is_some i.outcome → is_ended i ≡ false
 never_ended i none finishes = ap (λ o. is_some o || is_some i.finish) none ∙ finishes ∙ ap is_some none
 
-module _ (d : Deployment) (m : Rows) (p : PlainState) (h : RowsMatch d m p) where
+-- an answer to a read is its value
+read_back : (t : ℕ) (k : List ℕ) (a : Answer) → IsAnswerTo (Read t k) a → option_map answer.Value (value_for (Read t k) a) ≡ Some a
+read_back t k (answer.Value v) ok = refl
+read_back t k a ok = absurd ok
+
+-- what a call gave back is what is owed
+abbrev gave : Option (ℕ × Option Outcome) → Option Outcome
+gave None = None
+gave (Some c) = c.1
+
+gave_owed : (w : Option Row) (o : Option (ℕ × Option Outcome)) → CallMatches w o → result_in (call_in w) ≡ gave o
+gave_owed None o h = ap gave (sym h)
+gave_owed (Some (rows.Invoke r)) o h = ap gave (sym h)
+gave_owed (Some w) o h = absurd h
+
+module _ (d : Deployment) (m : Rows) (p : PlainState) (h : RowsMatch d m p) (sane : Sane d p) where
   -- what an intent row says of its instance
-  row_matches : (home : ℕ) (id : IntentId) (i : IntentRow) → map.get m (key_in home id) ≡ Some (rows.Intent i) → IsRootRow i (map.get p.made id)
-  row_matches home id i is = let b = (home == 0) && has_no_hops id.hops in root_row b i (map.get p.made id) (subst (λ r. IntentMatches b r (map.get p.made id)) is (h.keys (key_in home id)))
+  made_so : (home : ℕ) (id : IntentId) (i : IntentRow) (b : Body) → map.get m (key_in home id) ≡ Some (rows.Intent i) → i.body ≡ Some b → IsMade p id i b
+  made_so home id i b is has =
+      let root = has_no_hops id.hops in
+      let w = row_of root home i (map.get p.made id) (subst (λ r. IntentMatches root home r (map.get p.made id)) is (h.keys (key_in home id))) in
+      let of = w.body b has in
+      record {
+        instance = of.instance;
+        made = of.made;
+        func = ap (λ z. z.func) (sym of.body);
+        args = ap (λ z. z.args) (sym of.body);
+        outcome = λ o e. w.outcome b o of.instance has e of.made;
+      }
 
-  held_op : (id : IntentId) (q : Instance) (n : ℕ) (a : Answer) (o : Option OnItem) → map.get p.made id ≡ Some q → slice_get q.answers n ≡ Some a → op_of (effect_before d q n) ≡ o → OpAnswers o a
-      → held_note m (record { intent = id; step = n }) q.func o ≡ Some a
-  held_op id q n a None made at is ok = absurd ok
-  held_op id q n a (Some o) made at is ok =
-      let x : Item = item_in q.func o in
-      ap (option_and_then noted_answer) ((h.items x).notes (record { intent = id; step = n }) ∙ ap (owed_by d x n) made ∙ ap (note_if x q.func (effect_before d q n)) at ∙ ap (λ z. note_of x q.func z a) is
-      ∙ ap (λ t. if is_eq t then noted o.does a else None) (tied_itself item_total x)) ∙ noted_back o.does a ok
+  -- ---- the answers of an instance
+  module _ (id : IntentId) (q : Instance) (made : map.get p.made id ≡ Some q) (n : ℕ) (a : Answer) (at : slice_get q.answers n ≡ Some a) where
+    abbrev place : Place
+    place = record { intent = id; step = n }
 
-  pub held_here : (id : IntentId) (q : Instance) (n : ℕ) (a : Answer) (e : Effect) → map.get p.made id ≡ Some q → slice_get q.answers n ≡ Some a → effect_before d q n ≡ e → IsAnswerTo e a → held_answer m id q.func n e ≡ Some a
-  held_here id q n (answer.Value v) (Read t k) made at is ok =
-      let k = log_key q.func (record { intent = id; step = n }) in
-      ap (option_map answer.Value) (given_owed (map.get m k) (owed_read d p q.func (record { intent = id; step = n })) (h.keys k) ∙ ap (owed_value d q.func n) made
-      ∙ ap (λ b. if b then value_if (effect_before d q n) (slice_get q.answers n) else None) (eq-eqb q.func q.func refl)
-      ∙ ap (value_if (effect_before d q n)) at ∙ ap (λ z. value_for z (answer.Value v)) is)
-  held_here id q n a (Read t k) made at is ok = absurd ok
-  held_here id q n a e made at is ok = held_op id q n a (op_of e) made at (ap op_of is) ok
+    held_op : (o : Option OnItem) → op_of (effect_before d q n) ≡ o → OpAnswers o a → held_note m place q.func o ≡ Some a
+    held_op None is ok = absurd ok
+    held_op (Some o) is ok =
+        let x : Item = item_in q.func o in
+        ap (option_and_then noted_answer) ((h.items x).notes place ∙ ap (owed_by d x n) made ∙ ap (note_if x q.func (effect_before d q n)) at ∙ ap (λ z. note_of x q.func z a) is
+        ∙ ap (λ t. if is_eq t then noted o.does a else None) (tied_itself item_total x)) ∙ noted_back o.does a ok
 
-  open_by : (t : ℕ) (q : Instance) (r : Option Row) → map.get m (root_key t) ≡ r → IntentMatches true r (Some q) → q.outcome ≡ None → IsOpen m (root_key t)
+    -- a call, by its callee
+    was_called : (j : Instance) → map.get p.made (child_of id n) ≡ Some j → IsCalled d id q n j
+    was_called j on = subst (λ o. CalledBy d id o n j) made (sane.called id n j on)
+
+    call_owed : (j : Instance) → map.get p.made (child_of id n) ≡ Some j → owed_call p q.func place ≡ Some (j.func, j.outcome)
+    call_owed j on =
+        (λ i. called_by q.func (made i) (on i)) ∙ ap (λ b. if b then Some (j.func, result_of j) else None) (eq-eqb q.func q.func refl)
+        ∙ ap (λ c. Some (j.func, if is_waited c then j.outcome else None)) (was_called j on).from
+
+    held_call : (f : ℕ) (v : Value) (o : Option Instance) → effect_before d q n ≡ Call f v → map.get p.made (child_of id n) ≡ o → held_answer m id q.func n (Call f v) ≡ Some a
+    held_call f v None call none = let clash = sym (sane.callees id q n f v made (slice_get_within q.answers n a at) call) ∙ ap is_some none in cc
+    held_call f v (Some j) call on =
+        let k = invoke_key q.func place in
+        ap (option_map answer_of) (gave_owed (map.get m k) (owed_call p q.func place) (h.keys k) ∙ ap gave (call_owed j on)) ∙ sym (was_called j on).answered ∙ at
+
+    held_at : (e : Effect) → effect_before d q n ≡ e → IsAnswerTo e a → held_answer m id q.func n e ≡ Some a
+    held_at (Read t k) is ok =
+        let l = log_key q.func place in
+        ap (option_map answer.Value) (given_owed (map.get m l) (owed_read d p q.func place) (h.keys l) ∙ ap (owed_value d q.func n) made
+        ∙ ap (λ b. if b then value_if (effect_before d q n) (slice_get q.answers n) else None) (eq-eqb q.func q.func refl)
+        ∙ ap (value_if (effect_before d q n)) at ∙ ap (λ z. value_for z a) is) ∙ read_back t k a ok
+    held_at (Call f v) is ok = held_call f v (map.get p.made (child_of id n)) is refl
+    held_at e is ok = held_op (op_of e) (ap op_of is) ok
+
+    pub held_here : held_answer m id q.func n (effect_before d q n) ≡ Some a
+    held_here = held_at (effect_before d q n) refl ((sane_of d p id q sane made).past n a at)
+
+  open_by : (t : ℕ) (q : Instance) (r : Option Row) → map.get m (root_key t) ≡ r → RootMatches true r (Some q) → q.outcome ≡ None → IsOpen m (root_key t)
   open_by t q None is root none = cc
-  open_by t q (Some (rows.Intent i)) is root none = record { row = i; there = is; not_ended = never_ended i (no_outcome i.body root.body) root.finishes }
-    where
-      no_outcome : (b : Option Body) → BodyMatches b i.outcome (Some q) → i.outcome ≡ None
-      no_outcome None root = cc
-      no_outcome (Some b) root = sym root.outcome ∙ ap (λ z. z.outcome) (sym (same_some root.made)) ∙ none
+  open_by t q (Some (rows.Intent i)) is root none = record { row = i; there = is; not_ended = never_ended i (no_outcome i.body i.outcome q root.body none) root.finishes }
   open_by t q (Some r) is root none = absurd root
 
-  stands : Sane d p → Stands d m p
-  stands sane = record {
+  stands : Stands d m p
+  stands = record {
     items = λ x. (h.items x).value;
-    made = λ home id i b is has. made_so p id i b (subst (λ z. BodyMatches z i.outcome (map.get p.made id)) has (row_matches home id i is).body);
-    held = λ home id i b is has still q made n a at. held_here id q n a (effect_before d q n) made at refl ((sane_of d p id q sane made).past n a at);
-    open_roots = λ t q made none. open_by t q (map.get m (root_key t)) refl (subst (IntentMatches true (map.get m (root_key t))) made (h.keys (root_key t))) none;
+    made = made_so;
+    held = λ home id i b is has still q made. held_here id q made;
+    open_roots = λ t q made none. open_by t q (map.get m (root_key t)) refl (subst (RootMatches true (map.get m (root_key t))) made (h.keys (root_key t))) none;
     sound = λ x. h.keys (head_key x);
   }
 

@@ -1,14 +1,15 @@
 -- Rows that match a plain state, after one row changed.
-use Rattle.std.proofs.Common.{◌≡◌, ℕ, ◌==◌, ◌&&◌, Bool, true, false, cond, List, length, Option, None, Some, refl, ap, sym, ◌∙◌, subst, eqb-true, eq-eqb, if◌then◌else◌}
+use Rattle.std.proofs.Common.{◌≡◌, ℕ, ◌==◌, Bool, true, false, cond, List, length, Option, None, Some, is_some, refl, ap, sym, ◌∙◌, subst, eqb-true, eq-eqb, if◌then◌else◌}
 use Rattle.std.specs.FinMap as map
 use Rattle.std.specs.FinMap.{FinMap}
 use Rattle.std.specs.Ordering.{is_eq}
 use Rattle.std.proofs.lemmas.Cmp.{eq_by_cmp_equiv, tied_itself}
-use Rattle.beldi_value.specs.Id.{id_total, id_exact, has_no_hops}
+use Rattle.beldi_value.specs.Id.{id_cmp, id_total, id_exact, child_of, has_no_hops}
 use Rattle.beldi_value.specs.declared.id.IntentId.{IntentId}
 use Rattle.beldi_value.specs.declared.outcome.Outcome.{Outcome}
 use Rattle.beldi_value.specs.declared.place.Owner.{Owner}
 use Rattle.beldi_value.specs.declared.place.Owner.TheVariants as owner
+use Rattle.beldi_value.specs.declared.place.Caller.{Caller}
 use Rattle.beldi_value.specs.declared.place.Place.{Place}
 use Rattle.beldi_value.specs.declared.value.Value.{Value}
 use Rattle.beldi_tree.specs.declared.deployment.Deployment.{Deployment}
@@ -36,41 +37,110 @@ use Rattle.beldi_readlog.specs.ReadLog.{log_key}
 use Rattle.beldi_plain.specs.Item.{Item, item_cmp, item_total}
 use Rattle.beldi_plain.specs.Holds.{held_by, held_if, holds, holds_as}
 use Rattle.beldi_plain.specs.Operation.{OnItem, Operation, op_of, item_in, sets, or_old, set_if, answer_after}
-use Rattle.beldi_plain.specs.Plain.{Instance, PlainState, value_at, with_instance, answered, effect_of}
+use Rattle.beldi_plain.specs.Plain.{Instance, PlainState, new_instance, value_at, with_instance, answered, ended, effect_of}
+use Rattle.beldi_value.proofs.Callees.{no_root}
+use Rattle.beldi_order.specs.Sane.{effect_before}
 use Rattle.beldi_order.proofs.Entries.{same_some, made_set}
 use Rattle.beldi_laws.specs.Stands.{head_key, content_of, noted}
-use Rattle.beldi_laws.specs.Right.{RowsMatch, ItemMatches, RowMatches, IntentMatches, LogMatches, IsRootRow, BodyMatches, is_owner, owed_by, owed_read, owed_value, note_of, note_for, value_for}
+use Rattle.beldi_laws.specs.Right.{RowsMatch, ItemMatches, RowMatches, IntentMatches, RootMatches, CalleeMatches, CallMatches, LogMatches, IsRootRow, IsBodyOf, BodyMatches, CalleeBodyMatches, body_of, is_owner, owed_by, owed_call, called_by, result_of, owed_read, owed_value, note_of, note_for, value_for, value_if}
 use Rattle.beldi_laws.proofs.Rows.{head_order, is_cell_key, no_head, keys_at, set_here, set_others}
 use Rattle.beldi_laws.proofs.Notes.{next_place, owed_more, owed_same, value_same, value_more, value_next, true_false}
 use Rattle.beldi_order.proofs.Operations.{item_same, IsOther, plain_set, holds_more}
 
 -- ---- the row of an intent
--- one that is there is that of a root
-pub root_row : (b : Bool) (i : IntentRow) (o : Option Instance) → IntentMatches b (Some (rows.Intent i)) o → IsRootRow i o
-root_row true i o h = h
-root_row false i o h = cc
+-- one that is there has a body only of an instance that was made
+pub record IsRowOf (r : IntentRow) (i : Option Instance) : Type 0 where
+  pub finishes : is_some r.finish ≡ is_some r.outcome
+  pub body : (b : Body) → r.body ≡ Some b → IsBodyOf b i
+  pub outcome : (b : Body) (u : Outcome) (q : Instance) → r.body ≡ Some b → r.outcome ≡ Some u → i ≡ Some q → q.outcome ≡ Some u
 
-pub is_root : (b : Bool) (r : Row) (o : Option Instance) → IntentMatches b (Some r) o → b ≡ true
-is_root true r o h = refl
-is_root false r o h = cc
+root_body : (b : Option Body) (o : Option Outcome) (i : Option Instance) → BodyMatches b o i → (c : Body) → b ≡ Some c → IsBodyOf c i
+root_body None o i h c is = cc
+root_body (Some b) o i h c is = subst (λ z. IsBodyOf z i) (same_some is) h.0
 
-body_answered : (b : Option Body) (o : Option Outcome) (q : Instance) (a : Answer) → BodyMatches b o (Some q) → BodyMatches b o (Some (answered q a))
-body_answered None o q a h = cc
-body_answered (Some b) o q a h = let same : q ≡ h.instance = same_some h.made in record {
-  instance = answered q a;
-  made = refl;
-  func = ap (λ z. z.func) same ∙ h.func;
-  args = ap (λ z. z.args) same ∙ h.args;
-  outcome = ap (λ z. z.outcome) same ∙ h.outcome;
-  no_tx = h.no_tx;
-  no_caller = h.no_caller;
-}
+root_outcome : (b : Option Body) (o : Option Outcome) (i : Option Instance) → BodyMatches b o i → (c : Body) (u : Outcome) (q : Instance) → b ≡ Some c → o ≡ Some u → i ≡ Some q → q.outcome ≡ Some u
+root_outcome None o i h c u q is some made = cc
+root_outcome (Some b) o i h c u q is some made = ap (λ z. z.outcome) (same_some (sym made ∙ h.0.made)) ∙ h.1 ∙ some
 
-root_answered : (b : Bool) (r : Option Row) (q : Instance) (a : Answer) → IntentMatches b r (Some q) → IntentMatches b r (Some (answered q a))
-root_answered true None q a h = cc
-root_answered true (Some (rows.Intent i)) q a h = record { bare = h.bare; finishes = h.finishes; body = body_answered i.body i.outcome q a h.body }
-root_answered true (Some r) q a h = absurd h
-root_answered false r q a h = h
+callee_body : (home : ℕ) (b : Option Body) (o : Option Outcome) (i : Option Instance) → CalleeBodyMatches home b o i → (c : Body) → b ≡ Some c → IsBodyOf c i
+callee_body home None o i h c is = absurd h
+callee_body home (Some b) o i h c is = subst (λ z. IsBodyOf z i) (same_some is) h.0
+
+callee_outcome : (home : ℕ) (b : Option Body) (o : Option Outcome) (i : Option Instance) → CalleeBodyMatches home b o i → (c : Body) (u : Outcome) (q : Instance) → b ≡ Some c → o ≡ Some u → i ≡ Some q → q.outcome ≡ Some u
+callee_outcome home None o i h c u q is some made = absurd h
+callee_outcome home (Some b) o i h c u q is some made = ap (λ z. z.outcome) (same_some (sym made ∙ h.0.made)) ∙ h.2 u some
+
+root_row : (b : Bool) (r : IntentRow) (i : Option Instance) → RootMatches b (Some (rows.Intent r)) i → IsRowOf r i
+root_row true r i h = record { finishes = h.finishes; body = root_body r.body r.outcome i h.body; outcome = root_outcome r.body r.outcome i h.body }
+root_row false r i h = cc
+
+pub row_of : (b : Bool) (home : ℕ) (r : IntentRow) (i : Option Instance) → IntentMatches b home (Some (rows.Intent r)) i → IsRowOf r i
+row_of true home r i h = root_row (home == 0) r i h
+row_of false home r i h = record { finishes = h.finishes; body = callee_body home r.body r.outcome i h.body; outcome = callee_outcome home r.body r.outcome i h.body }
+
+-- a body stays that of its instance, which is answered, or ends
+abbrev pub body_stays : (b : Body) (q s : Instance) → body_of q ≡ body_of s → IsBodyOf b (Some q) → IsBodyOf b (Some s)
+body_stays b q s same h = record { instance = s; made = refl; body = h.body ∙ ap body_of (same_some (sym h.made)) ∙ same }
+
+root_answered : (b : Option Body) (o : Option Outcome) (q : Instance) (a : Answer) → BodyMatches b o (Some q) → BodyMatches b o (Some (answered q a))
+root_answered None o q a h = cc
+root_answered (Some b) o q a h = (body_stays b q (answered q a) refl h.0, ap (λ z. z.outcome) (same_some h.0.made) ∙ h.1)
+
+-- a callee that goes on, and keeps the outcome that its row has
+callee_goes : (home : ℕ) (b : Option Body) (o : Option Outcome) (q s : Instance) → body_of q ≡ body_of s → ((u : Outcome) → o ≡ Some u → q.outcome ≡ Some u → s.outcome ≡ Some u) → CalleeBodyMatches home b o (Some q) → CalleeBodyMatches home b o (Some s)
+callee_goes home None o q s same on h = absurd h
+callee_goes home (Some b) o q s same on h = (body_stays b q s same h.0, h.1, λ u is. on u is (ap (λ z. z.outcome) (same_some h.0.made) ∙ h.2 u is))
+
+pub callee_on : (home : ℕ) (r : Option Row) (q s : Instance) → body_of q ≡ body_of s → ((o : Option Outcome) (u : Outcome) → o ≡ Some u → q.outcome ≡ Some u → s.outcome ≡ Some u) → CalleeMatches home r (Some q) → CalleeMatches home r (Some s)
+callee_on home None q s same on h = tt
+callee_on home (Some (rows.Intent i)) q s same on h = record { finishes = h.finishes; body = callee_goes home i.body i.outcome q s same (on i.outcome) h.body }
+callee_on home (Some r) q s same on h = absurd h
+
+roots_answered : (b : Bool) (r : Option Row) (q : Instance) (a : Answer) → RootMatches b r (Some q) → RootMatches b r (Some (answered q a))
+roots_answered true None q a h = cc
+roots_answered true (Some (rows.Intent i)) q a h = record { bare = h.bare; finishes = h.finishes; body = root_answered i.body i.outcome q a h.body }
+roots_answered true (Some r) q a h = absurd h
+roots_answered false r q a h = h
+
+intent_answered : (b : Bool) (home : ℕ) (r : Option Row) (q : Instance) (a : Answer) → IntentMatches b home r (Some q) → IntentMatches b home r (Some (answered q a))
+intent_answered true home r q a h = roots_answered (home == 0) r q a h
+intent_answered false home r q a h = callee_on home r q (answered q a) refl (λ o u is some. some) h
+
+-- an intent that was not made has no row with hops
+pub callee_new : (home : ℕ) (r : Option Row) (s : Instance) → CalleeMatches home r None → CalleeMatches home r (Some s)
+callee_new home None s h = tt
+callee_new home (Some (rows.Intent i)) s h = no_body i.body h.body
+  where
+    no_body : (b : Option Body) → CalleeBodyMatches home b i.outcome None → CalleeMatches home (Some (rows.Intent i)) (Some s)
+    no_body None g = absurd g
+    no_body (Some b) g = let clash = g.0.made in cc
+callee_new home (Some r) s h = absurd h
+
+-- ---- what the logs of calls owe, when an instance was set
+module _ (made : FinMap id_cmp Instance) (id : IntentId) (s : Instance) where
+  abbrev later : FinMap id_cmp Instance
+  later = map.insert made id s
+
+  -- as before at a place whose intent and whose callee are others, or owe the same
+  pub calls_moved : (f : ℕ) (b : Place) → (b.intent ≡ id → called_by f (Some s) (map.get later (child_of b.intent b.step)) ≡ called_by f (map.get made id) (map.get later (child_of b.intent b.step)))
+      → (child_of b.intent b.step ≡ id → called_by f (map.get made b.intent) (Some s) ≡ called_by f (map.get made b.intent) (map.get made id))
+      → called_by f (map.get later b.intent) (map.get later (child_of b.intent b.step)) ≡ called_by f (map.get made b.intent) (map.get made (child_of b.intent b.step))
+  calls_moved f b caller callee =
+      made_set made id s (λ z o. b.intent ≡ z → called_by f o (map.get later (child_of b.intent b.step)) ≡ called_by f (map.get made z) (map.get later (child_of b.intent b.step))) caller (λ z e. refl) b.intent refl
+      ∙ made_set made id s (λ z o. child_of b.intent b.step ≡ z → called_by f (map.get made b.intent) o ≡ called_by f (map.get made b.intent) (map.get made z)) callee (λ z e. refl) (child_of b.intent b.step) refl
+
+-- a caller by its function, and a callee by its function and its result
+pub same_caller : (f : ℕ) (i s : Instance) (j : Option Instance) → s.func ≡ i.func → called_by f (Some s) j ≡ called_by f (Some i) j
+same_caller f i s None func = refl
+same_caller f i s (Some j) func = ap (λ g. if g == f then Some (j.func, result_of j) else None) func
+
+pub same_callee : (f : ℕ) (i : Option Instance) (j s : Instance) → s.func ≡ j.func → result_of s ≡ result_of j → called_by f i (Some s) ≡ called_by f i (Some j)
+same_callee f None j s func result = refl
+same_callee f (Some i) j s func result = λ k. if i.func == f then Some (func k, result k) else None
+
+pub no_callee : (f : ℕ) (i : Option Instance) → called_by f i None ≡ None
+no_callee f None = refl
+no_callee f (Some i) = refl
 
 -- ---- a row that no item has was set
 pub row_set : (d : Deployment) (m : Rows) (p q : PlainState) (k : RowKey) (v : Option Row) → is_cell_key k.kind ≡ false → RowMatches d q k.home k.kind v
@@ -97,57 +167,96 @@ module _ (d : Deployment) (m n : Rows) (y : Item) (same : (l : RowKey) → is_eq
   pub content_kept : (p : PlainState) → content_of n y ≡ content_of m y → RowsMatch d m p → RowsMatch d n p
   content_kept p held h = item_set p p (λ l g. g) (subst (ItemMatches d p y) (sym held) (h.items y)) (λ x other g. g) h
 
--- ---- an instance went on: a row matches where its own does, and where its log owes what it owed
+-- ---- an instance went on: a row matches where its own does, and where the logs owe what they owed
 row_with : (d : Deployment) (p : PlainState) (items : FinMap item_cmp Value) (id : IntentId) (s : Instance) (r : Option Row) (home : ℕ) (k : Kind) → let q : PlainState = record { items = items; made = map.insert p.made id s } in
-    (k ≡ kinds.Intent id → IntentMatches ((home == 0) && has_no_hops id.hops) r (map.get p.made id) → IntentMatches ((home == 0) && has_no_hops id.hops) r (Some s)) → ((a : Place) → k ≡ kinds.ReadLog a → owed_read d q home a ≡ owed_read d p home a)
-    → RowMatches d p home k r → RowMatches d q home k r
-row_with d p items id s r home (kinds.Intent j) own same h = made_set p.made id s (λ z o. z ≡ j → IntentMatches ((home == 0) && has_no_hops z.hops) r (map.get p.made z) → IntentMatches ((home == 0) && has_no_hops z.hops) r o)
+    (k ≡ kinds.Intent id → IntentMatches (has_no_hops id.hops) home r (map.get p.made id) → IntentMatches (has_no_hops id.hops) home r (Some s)) → ((a : Place) → k ≡ kinds.ReadLog a → owed_read d q home a ≡ owed_read d p home a)
+    → ((a : Place) → k ≡ kinds.Invoke a → owed_call q home a ≡ owed_call p home a) → RowMatches d p home k r → RowMatches d q home k r
+row_with d p items id s r home (kinds.Intent j) own reads calls h = made_set p.made id s (λ z o. z ≡ j → IntentMatches (has_no_hops z.hops) home r (map.get p.made z) → IntentMatches (has_no_hops z.hops) home r o)
     (λ e g. own (ap kinds.Intent (sym e)) g) (λ z e g. g) j refl h
-row_with d p items id s r home (kinds.ReadLog a) own same h = subst (λ o. LogMatches r o) (sym (same a refl)) h
-row_with d p items id s r home (kinds.Data t k n) own same h = h
-row_with d p items id s r home k own same h = h
+row_with d p items id s r home (kinds.ReadLog a) own reads calls h = subst (λ o. LogMatches r o) (sym (reads a refl)) h
+row_with d p items id s r home (kinds.Invoke a) own reads calls h = subst (λ o. CallMatches r o) (sym (calls a refl)) h
+row_with d p items id s r home (kinds.Data t k n) own reads calls h = h
+row_with d p items id s r home k own reads calls h = h
 
--- ---- an instance was made, or ended: what it owes is as before
+-- ---- an instance was made, or ended: what it owes to items and to logs of reads is as before
 pub record OwesSame (d : Deployment) (o : Option Instance) (s : Instance) : Type 0 where
   pub notes : (x : Item) (n : ℕ) → owed_by d x n (Some s) ≡ owed_by d x n o
   pub holds : (x : Item) → holds d x (Some s) ≡ holds d x o
   pub values : (f n : ℕ) → owed_value d f n (Some s) ≡ owed_value d f n o
 
+-- one that has made no step owes nothing
+pub new_owes : (d : Deployment) (f : ℕ) (a : Value) (c : Option Caller) → OwesSame d None (new_instance f a c)
+new_owes d f a c = record { notes = λ x n. refl; holds = λ x. refl; values = λ u n. by_test u n (f == u) }
+  where
+    by_test : (u n : ℕ) (b : Bool) → (if b then value_if (effect_before d (new_instance f a c) n) None else None) ≡ None
+    by_test u n true = refl
+    by_test u n false = refl
+
+pub end_owes : (d : Deployment) (q : Instance) (o : Outcome) → OwesSame d (Some q) (ended q o)
+end_owes d q o = record { notes = λ x n. refl; holds = λ x. refl; values = λ f n. refl }
+
 module _ (d : Deployment) (p : PlainState) (id : IntentId) (s : Instance) (owes : OwesSame d (map.get p.made id) s) where
   as_before : {X : Type 0} (F : Option Instance → X) → F (Some s) ≡ F (map.get p.made id) → (j : IntentId) → F (map.get (map.insert p.made id s) j) ≡ F (map.get p.made j)
   as_before F same j = made_set p.made id s (λ z o. F o ≡ F (map.get p.made z)) same (λ z. refl) j
 
-  item_moved : (x : Item) (c : Content) → ItemMatches d p x c → ItemMatches d (with_instance p id s) x c
+  pub item_moved : (x : Item) (c : Content) → ItemMatches d p x c → ItemMatches d (with_instance p id s) x c
   item_moved x c h = record { value = h.value; owner = λ o. h.owner o ∙ sym (by_owner o); notes = λ a. h.notes a ∙ sym (as_before (owed_by d x a.step) (owes.notes x a.step) a.intent) }
     where
       by_owner : (o : Owner) → holds_as d (with_instance p id s) x o ≡ holds_as d p x o
       by_owner (owner.Intent j) = as_before (holds d x) (owes.holds x) j
       by_owner (owner.Tx t) = refl
 
+  -- a row, where that of the instance itself matches and the log of calls owes as before
+  pub row_moved : (r : Option Row) (home : ℕ) (k : Kind) → (k ≡ kinds.Intent id → IntentMatches (has_no_hops id.hops) home r (map.get p.made id) → IntentMatches (has_no_hops id.hops) home r (Some s))
+      → ((a : Place) → k ≡ kinds.Invoke a → owed_call (with_instance p id s) home a ≡ owed_call p home a) → RowMatches d p home k r → RowMatches d (with_instance p id s) home k r
+  row_moved r home k own calls = row_with d p p.items id s r home k own (λ a e. as_before (owed_value d home a.step) (owes.values home a.step) a.intent) calls
+
+-- a root was made, or ended, and its row was set
+module _ (d : Deployment) (p : PlainState) (id : IntentId) (s : Instance) (owes : OwesSame d (map.get p.made id) s) (root : has_no_hops id.hops ≡ true)
+    (calls : (f : ℕ) (b : Place) → b.intent ≡ id → called_by f (Some s) (map.get (map.insert p.made id s) (child_of b.intent b.step)) ≡ called_by f (map.get p.made id) (map.get (map.insert p.made id s) (child_of b.intent b.step))) where
   abbrev own : RowKey
   own = record { home = 0; kind = kinds.Intent id }
 
-  row_moved : (r : Option Row) (home : ℕ) (k : Kind) → is_eq (key_cmp (record { home = home; kind = k }) own) ≡ false → RowMatches d p home k r → RowMatches d (with_instance p id s) home k r
-  row_moved r home k other = row_with d p p.items id s r home k (λ e. at_home (home == 0) refl (subst (λ z. is_eq (key_cmp (record { home = home; kind = z }) own) ≡ false) e other)) (λ a e. as_before (owed_value d home a.step) (owes.values home a.step) a.intent)
-    where
-      at_home : (b : Bool) → (home == 0) ≡ b → is_eq (key_cmp (record { home = home; kind = kinds.Intent id }) own) ≡ false → IntentMatches (b && has_no_hops id.hops) r (map.get p.made id) → IntentMatches (b && has_no_hops id.hops) r (Some s)
-      at_home true e other g = let same : is_eq (key_cmp own own) ≡ false = subst (λ f. is_eq (key_cmp (record { home = f; kind = kinds.Intent id }) own) ≡ false) (eqb-true home 0 e) other in absurd (true_false (sym (key_self own) ∙ same))
-      at_home false e other g = g
+  calls_kept : (home : ℕ) (b : Place) → owed_call (with_instance p id s) home b ≡ owed_call p home b
+  calls_kept home b = calls_moved p.made id s home b (calls home b) (λ e. absurd (true_false (sym root ∙ ap (λ z. has_no_hops z.hops) (sym e) ∙ no_root b.intent b.step)))
 
-  -- and its row was set
-  pub root_moved : (m : Rows) (i : IntentRow) → has_no_hops id.hops ≡ true → IsRootRow i (Some s) → RowsMatch d m p → RowsMatch d (set_row m own (Some (rows.Intent i))) (with_instance p id s)
-  root_moved m i root fits h = row_set d m p (with_instance p id s) own (Some (rows.Intent i)) refl
-      (subst (λ b. IntentMatches b (Some (rows.Intent i)) (map.get (map.insert p.made id s) id)) (sym root) (subst (IsRootRow i) (sym (get_set id_total id_exact p.made id s)) fits))
-      (λ l other g. row_moved (map.get m l) l.home l.kind other g) item_moved h
+  elsewhere : (r : Option Row) (home : ℕ) → (home == 0) ≡ false → IntentMatches (has_no_hops id.hops) home r (map.get p.made id) → IntentMatches (has_no_hops id.hops) home r (Some s)
+  elsewhere r home away h = subst (λ b. IntentMatches b home r (Some s)) (sym root) (subst (λ b. RootMatches b r (Some s)) (sym away) (subst (λ b. RootMatches b r (map.get p.made id)) away (subst (λ b. IntentMatches b home r (map.get p.made id)) root h)))
+
+  other_row : (r : Option Row) (home : ℕ) (k : Kind) → is_eq (key_cmp (record { home = home; kind = k }) own) ≡ false → RowMatches d p home k r → RowMatches d (with_instance p id s) home k r
+  other_row r home k other = row_moved d p id s owes r home k (λ e. at_home (home == 0) refl (subst (λ z. is_eq (key_cmp (record { home = home; kind = z }) own) ≡ false) e other)) (λ a e. calls_kept home a)
+    where
+      at_home : (b : Bool) → (home == 0) ≡ b → is_eq (key_cmp (record { home = home; kind = kinds.Intent id }) own) ≡ false → IntentMatches (has_no_hops id.hops) home r (map.get p.made id) → IntentMatches (has_no_hops id.hops) home r (Some s)
+      at_home true e other g = let same : is_eq (key_cmp own own) ≡ false = subst (λ f. is_eq (key_cmp (record { home = f; kind = kinds.Intent id }) own) ≡ false) (eqb-true home 0 e) other in absurd (true_false (sym (key_self own) ∙ same))
+      at_home false e other g = elsewhere r home e g
+
+  pub root_moved : (m : Rows) (i : IntentRow) → IsRootRow i (Some s) → RowsMatch d m p → RowsMatch d (set_row m own (Some (rows.Intent i))) (with_instance p id s)
+  root_moved m i fits h = row_set d m p (with_instance p id s) own (Some (rows.Intent i)) refl
+      (subst (λ b. IntentMatches b 0 (Some (rows.Intent i)) (map.get (map.insert p.made id s) id)) (sym root) (subst (IsRootRow i) (sym (get_set id_total id_exact p.made id s)) fits))
+      (λ l other g. other_row (map.get m l) l.home l.kind other g) (item_moved d p id s owes) h
 
 -- ---- an instance was answered
 module _ (d : Deployment) (p : PlainState) (items : FinMap item_cmp Value) (id : IntentId) (q : Instance) (a : Answer) (is : map.get p.made id ≡ Some q) where
   abbrev after : PlainState
   after = record { items = items; made = map.insert p.made id (answered q a) }
 
+  calls_same : (home : ℕ) (b : Place) → owed_call after home b ≡ owed_call p home b
+  calls_same home b = calls_moved p.made id (answered q a) home b
+      (λ e. same_caller home q (answered q a) (map.get after.made (child_of b.intent b.step)) refl ∙ ap (λ o. called_by home o (map.get after.made (child_of b.intent b.step))) (sym is))
+      (λ e. same_callee home (map.get p.made b.intent) q (answered q a) refl refl ∙ ap (called_by home (map.get p.made b.intent)) (sym is))
+
   -- a row matches as before, unless its log is owed something new
-  row_answered : (r : Option Row) (home : ℕ) (k : Kind) → ((b : Place) → k ≡ kinds.ReadLog b → owed_read d after home b ≡ owed_read d p home b) → RowMatches d p home k r → RowMatches d after home k r
-  row_answered r home k same = row_with d p items id (answered q a) r home k (λ e g. root_answered ((home == 0) && has_no_hops id.hops) r q a (subst (IntentMatches ((home == 0) && has_no_hops id.hops) r) is g)) same
+  pub row_answered : (r : Option Row) (home : ℕ) (k : Kind) → ((b : Place) → k ≡ kinds.ReadLog b → owed_read d after home b ≡ owed_read d p home b) → RowMatches d p home k r → RowMatches d after home k r
+  row_answered r home k same = row_with d p items id (answered q a) r home k (λ e g. intent_answered (has_no_hops id.hops) home r q a (subst (IntentMatches (has_no_hops id.hops) home r) is g)) same (λ b e. calls_same home b)
+
+-- an answer to an effect that is no operation on an item leaves every item as it is
+module _ (d : Deployment) (p : PlainState) (id : IntentId) (q : Instance) (a : Answer) (is : map.get p.made id ≡ Some q) (plain : op_of (effect_of d q) ≡ None) where
+  pub item_answered : (x : Item) (c : Content) → ItemMatches d p x c → ItemMatches d (with_instance p id (answered q a)) x c
+  item_answered x c g = record {
+    value = g.value;
+    owner = holds_more d p p.items id q a is x (λ w b. is_owner c.owner w ≡ b) (g.owner (owner.Intent id) ∙ sym (ap (λ o. held_if x q.func o (holds d x (map.get p.made id))) plain)) (λ w other. g.owner w);
+    notes = λ b. g.notes b ∙ sym (owed_same d p.made id q a is x (ap (λ o. note_of x q.func o a) plain) b);
+  }
 
 -- ---- an operation was done
 -- what an operation on cells leaves is what the plain operation leaves
@@ -249,14 +358,7 @@ module _ (d : Deployment) (m : Rows) (p : PlainState) (id : IntentId) (q : Insta
   log_apart : (l : RowKey) (b : Place) → is_eq (key_cmp l log) ≡ false → l.kind ≡ kinds.ReadLog b → is_eq (key_cmp (log_key l.home b) log) ≡ false
   log_apart l b other kind = subst (λ (z : Kind). is_eq (key_cmp (record { home = l.home; kind = z }) log) ≡ false) kind other
 
-  item_read : (x : Item) (c : Content) → ItemMatches d p x c → ItemMatches d read x c
-  item_read x c g = record {
-    value = g.value;
-    owner = holds_more d p p.items id q got_it is x (λ w b. is_owner c.owner w ≡ b) (g.owner (owner.Intent id) ∙ sym (ap (λ e. held_if x q.func (op_of e) (holds d x (map.get p.made id))) wants)) (λ w other. g.owner w);
-    notes = λ b. g.notes b ∙ sym (owed_same d p.made id q got_it is x (ap (λ e. note_for x q.func e got_it) wants) b);
-  }
-
   pub read_added : RowsMatch d (set_row m log (Some (rows.ReadLog v))) read
   read_added = row_set d m p read log (Some (rows.ReadLog v)) refl owed_here
       (λ l other g. row_answered d p p.items id q got_it is (map.get m l) l.home l.kind (λ b kind. value_more d p.made id q got_it is l.home b ∙ apart l.home b (log_apart l b other kind) (place_eq (next_place id q) b) (q.func == l.home) refl refl) g)
-      item_read h
+      (item_answered d p id q got_it is (ap op_of wants)) h

@@ -1,119 +1,89 @@
 -- The turns of a run: where it stands, and what each thing that a stage says leaves.
-use Rattle.std.proofs.Common.{◌≡◌, ℕ, ◌==◌, ◌&&◌, Bool, true, false, List, [], ◌∷◌, ◌++◌, length, take, Option, None, Some, refl, ap, sym, ◌∙◌, subst, IsTrue, is_some, append_assoc, append-nil, eqb-true, if◌then◌else◌}
+use Rattle.std.proofs.Common.{◌≡◌, ℕ, Bool, true, false, List, [], ◌∷◌, ◌++◌, length, take, Option, None, Some, refl, ap, sym, ◌∙◌, subst, IsTrue, append_assoc, append-nil, if◌then◌else◌}
 use Rattle.std.specs.Prelude.{slice_get}
 use Rattle.std.specs.FinMap as map
-use Rattle.std.specs.Cmp.{second_so}
-use Rattle.beldi_value.specs.Id.{id_total, id_exact, root_of, has_no_hops}
+use Rattle.beldi_value.specs.Id.{id_total, id_exact, has_callees}
 use Rattle.beldi_value.specs.declared.id.IntentId.{IntentId}
 use Rattle.beldi_value.specs.declared.outcome.Outcome.{Outcome}
-use Rattle.beldi_value.specs.declared.value.Value.{Value}
+use Rattle.beldi_value.specs.declared.place.Caller.{Caller}
+use Rattle.beldi_value.specs.declared.place.Owner.{Owner}
 use Rattle.beldi_tree.specs.declared.deployment.Deployment.{Deployment}
-use Rattle.beldi_tree.specs.declared.deployment.Func.{Func}
-use Rattle.beldi_tree.specs.Names.{func_at}
 use Rattle.beldi_lang.specs.declared.effect.Answer.{Answer}
 use Rattle.beldi_lang.specs.declared.effect.Effect.{Effect}
-use Rattle.beldi_lang.specs.declared.effect.Effect.TheVariants.{Read, Write, CondWrite, Lock, Unlock, Return}
+use Rattle.beldi_lang.specs.declared.effect.Effect.TheVariants.{Read, Write, CondWrite, Lock, Unlock, Call, Return}
 use Rattle.beldi_lang.specs.declared.machine.Machine.{Machine}
 use Rattle.beldi_lang.specs.Wants.{wants, wants_answer}
-use Rattle.beldi_lang.specs.Machine.{begun as machine_begun, resumed, IsAt}
-use Rattle.beldi_lang.proofs.Resumes.{at_effect, at_begin, at_next}
+use Rattle.beldi_lang.specs.Machine.{resumed, IsAt}
+use Rattle.beldi_lang.proofs.Resumes.{at_effect, at_next}
 use Rattle.beldi_book.specs.declared.entry.Entry.{Entry}
-use Rattle.beldi_book.specs.declared.entry.Entry.TheVariants.{Step}
-use Rattle.beldi_row.specs.declared.key.RowKey.{RowKey}
-use Rattle.beldi_row.specs.declared.key.Kind.TheVariants as kinds
-use Rattle.beldi_row.specs.declared.row.Body.{Body}
-use Rattle.beldi_row.specs.declared.row.IntentRow.{IntentRow}
-use Rattle.beldi_row.specs.declared.row.Row.{Row}
-use Rattle.beldi_row.specs.declared.row.Row.TheVariants as rows
-use Rattle.beldi_row.specs.declared.act.Act.TheVariants.{Look, End}
-use Rattle.beldi_row.specs.Act.{Tell, act, end_with, finish_at}
-use Rattle.beldi_row.specs.Table.{Rows, set_row}
+use Rattle.beldi_row.specs.Table.{Rows}
 use Rattle.beldi_row.proofs.Rows.{get_set}
-use Rattle.beldi_row.proofs.Unchanged.{looked}
-use Rattle.beldi_walk.specs.Query.{said}
-use Rattle.beldi_plain.specs.Plain.{Instance, PlainState, answered, step_by, with_instance, effect_of, kind_of, outcome_of}
+use Rattle.beldi_plain.specs.Plain.{Instance, PlainState, answered, effect_of}
 use Rattle.beldi_step.specs.declared.run.Run.{Run}
+use Rattle.beldi_step.specs.declared.run.RunAt.TheVariants.{Begins}
 use Rattle.beldi_step.specs.declared.run.Begun.{Begun}
 use Rattle.beldi_step.specs.declared.run.Mark.{Mark}
-use Rattle.beldi_step.specs.declared.run.Mark.TheVariants as mark
 use Rattle.beldi_step.specs.declared.run.Says.{Says}
 use Rattle.beldi_step.specs.declared.run.Says.TheVariants.{On, Waits, Answers, Ends}
 use Rattle.beldi_step.specs.declared.run.Stage.{Stage}
-use Rattle.beldi_step.specs.declared.run.Wait.{Wait}
-use Rattle.beldi_intent.specs.Intent.{intent_key, look_asks, is_ended, is_did, args_in, args_told}
-use Rattle.beldi_step.specs.Run.{first_stage, standing, begin_in, turned_by, close_says, reply_if}
-use Rattle.beldi_step.specs.Host.{Core, entry_of, turn_next}
-use Rattle.beldi_laws.specs.Right.{Right, RowsMatch, IntentMatches, IsRootRow, BodyMatches, RunAt, Knows, StageOk, PlaceOk}
-use Rattle.beldi_order.specs.Sane.{SaneInstance, IsAnswerTo, effect_before}
-use Rattle.beldi_order.proofs.Entries.{same_some, enabled_step}
+use Rattle.beldi_step.specs.declared.run.Stage.TheVariants as stage
+use Rattle.beldi_step.specs.declared.run.Wait.TheVariants as wait
+use Rattle.beldi_call.specs.declared.call.CallAt.TheVariants as call
+use Rattle.beldi_step.specs.Run.{is_waited, first_stage, over, goes, goes_from, at_stage, turned_by}
+use Rattle.beldi_step.specs.Host.{Core, entry_of}
+use Rattle.beldi_laws.specs.Right.{Right, RowsMatch, RunAt, Knows, StageOk, PlaceOk, SeenDone}
+use Rattle.beldi_order.specs.Sane.{Sane, SaneInstance, IsAnswerTo, effect_before}
+use Rattle.beldi_order.proofs.Entries.{same_some}
 use Rattle.beldi_order.proofs.Sanes.{sane_of, legal_is_sane}
 use Rattle.beldi_laws.proofs.Notes.{get_after}
 use Rattle.std.proofs.Math.Seq.{take-append_seam}
-use Rattle.beldi_laws.proofs.Steps.{OwesSame, root_row, is_root, root_moved}
-use Rattle.beldi_laws.proofs.Moves.{AfterTurn, AfterAct, AfterQuery, SameRoots, Entered, replaced, still, change_entered, quiet, entered}
-use Rattle.beldi_plain.specs.Guard.{touched_by, item_touched}
+use Rattle.beldi_laws.proofs.Moves.{AfterTurn, SameRoots, Entered, KnowsCallee, quiet, entered}
 
--- where an effect begins is one of its stages
-first_ok : (e : Effect) → StageOk e (first_stage e)
-first_ok (Read t k) = tt
-first_ok (Write t k v) = tt
-first_ok (CondWrite t k r o v) = tt
-first_ok (Lock t k) = tt
-first_ok (Unlock t k) = tt
-first_ok (Return o) = tt
-first_ok e = refl
+-- ---- where an effect begins is one of its stages, of which a run knows what it has to
+module _ (d : Deployment) (book : List Entry) (p : PlainState) (id : IntentId) (func step : ℕ) (q : Instance) (c : Option Caller) (answers later : List Answer) where
+  abbrev pub Fits : Effect → Stage → Type 0
+  Fits e s = StageOk id c e s × PlaceOk d book id func answers later e s × SeenDone p id step q c s
 
-first_place : (d : Deployment) (book : List Entry) (id : IntentId) (func : ℕ) (answers later : List Answer) (e : Effect) → PlaceOk d book id func answers later e (first_stage e)
-first_place d book id func answers later (Read t k) = tt
-first_place d book id func answers later e = tt
+  pub first_fits : (e : Effect) (s : Stage) → first_stage id c e ≡ Some s → Fits e s
+  first_fits (Read t k) s is = subst (Fits (Read t k)) (same_some is) (tt, tt, tt)
+  first_fits (Write t k v) s is = subst (Fits (Write t k v)) (same_some is) (tt, tt, tt)
+  first_fits (CondWrite t k r o v) s is = subst (Fits (CondWrite t k r o v)) (same_some is) (tt, tt, tt)
+  first_fits (Lock t k) s is = subst (Fits (Lock t k)) (same_some is) (tt, tt, tt)
+  first_fits (Unlock t k) s is = subst (Fits (Unlock t k)) (same_some is) (tt, tt, tt)
+  first_fits (Call f a) s is = by_hops (has_callees id) refl is
+    where
+      by_hops : (b : Bool) → has_callees id ≡ b → (if b then Some (stage.Call call.Open) else None) ≡ Some s → Fits (Call f a) s
+      by_hops true e is = subst (Fits (Call f a)) (same_some is) (e, tt, tt)
+      by_hops false e is = cc
+  first_fits (Return o) s is = by_caller (is_waited c) refl is
+    where
+      by_caller : (b : Bool) → is_waited c ≡ b → Some (if b then stage.Back else stage.Close) ≡ Some s → Fits (Return o) s
+      by_caller true e is = subst (Fits (Return o)) (same_some is) (e, tt, tt)
+      by_caller false e is = subst (Fits (Return o)) (same_some is) (tt, tt, λ waited. let clash = sym e ∙ waited in cc)
+  first_fits e s is = cc
 
--- ---- the first turn
-module _ (d : Deployment) (c : Core) (m : Rows) (i : ℕ) (r : Run) (h : Right d c m) (live : map.get c.runs i ≡ Some r) where
-  -- the run's instance was made with these arguments
-  MadeWith : Option Value → Type 0
-  MadeWith None = Unit {0}
-  MadeWith (Some a) = (q : Instance) × (map.get h.plain.made r.id ≡ Some q) × (q.func ≡ r.func) × (q.args ≡ a)
+-- a run whose machine stands after these answers of its instance, at the first stage of its effect
+pub knows_first : (d : Deployment) (book : List Entry) (p : PlainState) (r : Run) (m : Machine) (c : Option Caller) (j : Instance) (answers later : List Answer) (s : Stage) → map.get p.made r.id ≡ Some j → j.func ≡ r.func → c ≡ j.from → answers ++ later ≡ j.answers
+    → IsAt d r.func j.args false m answers → first_stage r.id c m.effect ≡ Some s → let g : Begun = record { machine = m; caller = c; stage = s } in Knows d book p (record r { at = Begins g }) g
+knows_first d book p r m c j answers later s is func caller prefix at first =
+    let fits = first_fits d book p r.id r.func m.steps j c answers later m.effect s first in
+    record { instance = j; made = is; func = func; caller = caller; answers = answers; later = later; run_answers = prefix; machine = at; run_stage = fits.0; run_done = fits.2; run_place = fits.1 }
 
-  made_if : (b : Body) (o : Option Outcome) (t : Bool) → BodyMatches (Some b) o (map.get h.plain.made r.id) → (b.func == r.func) ≡ t → MadeWith (if t then Some b.args else None)
-  unfolding MadeWith
-  made_if b o false root same = tt
-  made_if b o true root same = (root.instance, root.made, root.func ∙ eqb-true b.func r.func same, root.args)
+-- ---- a run comes to the next effect of its machine, or is over
+module _ (d : Deployment) (c : Core) (m n : Rows) (i : ℕ) (r : Run) (h : Right d c m) (live : map.get c.runs i ≡ Some r) (roots : SameRoots m n) where
+  pub is_over : RowsMatch d n h.plain → AfterTurn d h.plain c i r.id (over None) n
+  is_over rows = quiet d c m n i r h live roots (over None) refl refl tt (λ e. cc) rows
 
-  made_open : (b : Option Body) (o : Option Outcome) (t : Bool) → BodyMatches b o (map.get h.plain.made r.id) → MadeWith (args_in r.func (if t then None else b))
-  unfolding MadeWith
-  made_open b o true root = tt
-  made_open None o false root = tt
-  made_open (Some b) o false root = made_if b o (b.func == r.func) root refl
+  pub comes_to : (machine : Machine) (k : Option Caller) (o : Option Stage) → ((s : Stage) → o ≡ Some s → let g : Begun = record { machine = machine; caller = k; stage = s } in Knows d c.book h.plain (record r { at = Begins g }) g) → RowsMatch d n h.plain
+      → AfterTurn d h.plain c i r.id (goes_from r machine k None o) n
+  comes_to machine k None knows rows = is_over rows
+  comes_to machine k (Some s) knows rows = let g : Begun = record { machine = machine; caller = k; stage = s } in quiet d c m n i r h live roots (goes r g None) refl refl (knows s refl) (λ e. cc) rows
 
-  made_told : (b : Bool) (w : Option Row) → IntentMatches b w (map.get h.plain.made r.id) → MadeWith (args_told r.func (said (act Look c.now w).1))
-  unfolding MadeWith
-  made_told b None f = tt
-  made_told b (Some (rows.Intent j)) f = made_open j.body j.outcome (is_ended j) (root_row b j (map.get h.plain.made r.id) f).body
-  made_told b (Some w) f = tt
-
-  begins : (f : Option Func) (a : Option Value) → MadeWith a → AfterTurn d h.plain c i r.id (begin_in d r f a) m
-  unfolding MadeWith
-  begins f None made = quiet d c m m i r h live (λ t. refl) None None tt h.rows
-  begins None (Some a) made = quiet d c m m i r h live (λ t. refl) None None tt h.rows
-  begins (Some f) (Some a) made =
-      let machine = machine_begun d r.func a false in
-      quiet d c m m i r h live (λ t. refl) None (Some (record r { at = Some (standing machine) })) (record {
-        instance = made.0;
-        made = made.1;
-        func = made.2;
-        answers = [];
-        later = made.0.answers;
-        run_answers = refl;
-        machine = subst (λ b. IsAt d r.func b false machine []) (sym made.3) (at_begin d r.func a false);
-        run_stage = first_ok machine.effect;
-        run_place = first_place d c.book r.id r.func [] made.0.answers machine.effect;
-      }) h.rows
-
-  pub begin_turn : AfterQuery d h.plain c.now m (λ t. turn_next c i r.id (begin_in d r (func_at d r.func) (args_told r.func t))) (look_asks r.id r.func)
-  begin_turn =
-      let key = intent_key r.id r.func in
-      let s = begin_in d r (func_at d r.func) (args_told r.func (said (act Look c.now (map.get m key)).1)) in
-      subst (AfterTurn d h.plain c i r.id s) (sym (looked c.now key m)) (begins (func_at d r.func) (args_told r.func (said (act Look c.now (map.get m key)).1)) (made_told ((key.home == 0) && has_no_hops r.id.hops) (map.get m key) (h.rows.keys key)))
+  -- .. after an act that made an entry
+  pub steps_to : (machine : Machine) (k : Option Caller) (by : Mark) (q : PlainState) (o : Option Stage) → Entered d c h.plain (entry_of r.id by) q
+      → ((s : Stage) → o ≡ Some s → let g : Begun = record { machine = machine; caller = k; stage = s } in Knows d (c.book ++ entry_of r.id by ∷ []) q (record r { at = Begins g }) g) → RowsMatch d n q → AfterTurn d h.plain c i r.id (goes_from r machine k (Some by) o) n
+  steps_to machine k by q None leads knows rows = entered d c m n i r h live roots (over (Some by)) by q refl leads (λ o told. cc) tt (λ e. cc) rows
+  steps_to machine k by q (Some s) leads knows rows = let g : Begun = record { machine = machine; caller = k; stage = s } in entered d c m n i r h live roots (goes r g (Some by)) by q refl leads (λ o told. cc) (knows s refl) (λ e. cc) rows
 
 -- ---- where a run stands in its instance's answers
 same_at : (d : Deployment) (q : Instance) (func : ℕ) (xs : List Answer) (n : ℕ) → take n q.answers ≡ xs → q.func ≡ func → effect_before d q n ≡ wants d func q.args false xs
@@ -152,157 +122,82 @@ pub wants_it : (e : Effect) (a : Answer) → IsAnswerTo e a → IsTrue (wants_an
 wants_it (Return o) a is = absurd is
 wants_it e a is = refl
 
--- a run after an effect was answered
-knows_next : (d : Deployment) (book : List Entry) (p : PlainState) (r : Run) (m : Machine) (j : Instance) (a : Answer) (answers later : List Answer) → map.get p.made r.id ≡ Some j → j.func ≡ r.func → answers ++ a ∷ later ≡ j.answers
-    → IsAt d r.func j.args false m answers → IsTrue (wants_answer m.effect) → Knows d book p (record r { at = Some (standing (resumed d m a)) }) (standing (resumed d m a))
-knows_next d book p r m j a answers later is func prefix at wants = record {
-  instance = j;
-  made = is;
-  func = func;
-  answers = answers ++ a ∷ [];
-  later = later;
-  run_answers = append_assoc answers (a ∷ []) later ∙ prefix;
-  machine = at_next d r.func j.args false m answers a wants at;
-  run_stage = first_ok (resumed d m a).effect;
-  run_place = first_place d book r.id r.func (answers ++ a ∷ []) later (resumed d m a).effect;
-}
-
 -- ---- what each thing that a stage says leaves
 module _ (d : Deployment) (c : Core) (m : Rows) (i : ℕ) (r : Run) (g : Begun) (h : Right d c m) (live : map.get c.runs i ≡ Some r) (k : Knows d c.book h.plain r g) (e : Effect) (is : g.machine.effect ≡ e) where
-  abbrev Leaves : Says → Rows → Type 0
+  abbrev pub Leaves : Says → Rows → Type 0
   Leaves s n = AfterTurn d h.plain c i r.id (turned_by d r g s) n
 
-  pub sane_here : SaneInstance d k.instance
-  sane_here = sane_of d h.plain r.id k.instance (legal_is_sane d c.book h.plain h.legal) k.made
+  pub sane_here : Sane d h.plain
+  sane_here = legal_is_sane d c.book h.plain h.legal
+
+  pub sane_instance : SaneInstance d k.instance
+  sane_instance = sane_of d h.plain r.id k.instance sane_here k.made
+
+  -- the run at another stage of its effect, of which it knows what it has to
+  pub at_another : (book : List Entry) (p : PlainState) (j : Instance) (later : List Answer) (s : Stage) → map.get p.made r.id ≡ Some j → j.func ≡ r.func → j.from ≡ k.instance.from → j.args ≡ k.instance.args → k.answers ++ later ≡ j.answers
+      → StageOk r.id g.caller e s → PlaceOk d book r.id r.func k.answers later e s → SeenDone p r.id g.machine.steps j g.caller s → Knows d book p (record r { at = Begins (at_stage g s) }) (at_stage g s)
+  at_another book p j later s made func from args prefix ok at done = record {
+    instance = j;
+    made = made;
+    func = func;
+    caller = k.caller ∙ sym from;
+    answers = k.answers;
+    later = later;
+    run_answers = prefix;
+    machine = subst (λ a. IsAt d r.func a false g.machine k.answers) (sym args) k.machine;
+    run_stage = subst (λ e. StageOk r.id g.caller e s) (sym is) ok;
+    run_done = done;
+    run_place = subst (λ e. PlaceOk d book r.id r.func k.answers later e s) (sym is) at;
+  }
+
+  pub stays_there : (s : Stage) → StageOk r.id g.caller e s → PlaceOk d c.book r.id r.func k.answers k.later e s → SeenDone h.plain r.id g.machine.steps k.instance g.caller s → Knows d c.book h.plain (record r { at = Begins (at_stage g s) }) (at_stage g s)
+  stays_there s ok at done = at_another c.book h.plain k.instance k.later s k.made k.func refl refl k.run_answers ok at done
 
   -- the effect goes on from a stage, of which the run knows what it has to
-  pub goes_on : (n : Rows) (s : Stage) → SameRoots m n → RowsMatch d n h.plain → StageOk e s → PlaceOk d c.book r.id r.func k.answers k.later e s → Leaves (On s None) n
-  goes_on n s roots rows ok at = quiet d c m n i r h live roots None (Some (record r { at = Some (record { machine = g.machine; stage = s }) })) (record {
-    instance = k.instance;
-    made = k.made;
-    func = k.func;
-    answers = k.answers;
-    later = k.later;
-    run_answers = k.run_answers;
-    machine = k.machine;
-    run_stage = subst (λ e. StageOk e s) (sym is) ok;
-    run_place = subst (λ e. PlaceOk d c.book r.id r.func k.answers k.later e s) (sym is) at;
-  }) rows
+  pub goes_on : (n : Rows) (s : Stage) → SameRoots m n → RowsMatch d n h.plain → StageOk r.id g.caller e s → PlaceOk d c.book r.id r.func k.answers k.later e s → SeenDone h.plain r.id g.machine.steps k.instance g.caller s → Leaves (On s None) n
+  goes_on n s roots rows ok at done = quiet d c m n i r h live roots (goes r (at_stage g s) None) refl refl (stays_there s ok at done) (λ e. cc) rows
 
-  -- it waits where it stands
-  pub waits : (w : Wait) (n : Rows) → SameRoots m n → RowsMatch d n h.plain → Leaves (Waits w) n
-  waits w n roots rows = quiet d c m n i r h live roots (Some w) (Some r) (subst (RunAt d c.book h.plain) live (h.runs.runs i)) rows
+  -- it waits where it stands: for an owner, or for a callee of which a run may be started
+  pub held : (o : Owner) (n : Rows) → SameRoots m n → RowsMatch d n h.plain → Leaves (Waits (wait.Held o)) n
+  held o n roots rows = quiet d c m n i r h live roots (turned_by d r g (Waits (wait.Held o))) refl refl (subst (RunAt d c.book h.plain) live (h.runs.runs i)) (λ e. cc) rows
+
+  pub awaits : (j : IntentId) (n : Rows) → SameRoots m n → RowsMatch d n h.plain → KnowsCallee d c.book h.plain (turned_by d r g (Waits (wait.Result j))) (Some (wait.Result j)) → Leaves (Waits (wait.Result j)) n
+  awaits j n roots rows callee = quiet d c m n i r h live roots (turned_by d r g (Waits (wait.Result j))) refl refl (subst (RunAt d c.book h.plain) live (h.runs.runs i)) callee rows
 
   -- the run is over
   pub ends : (n : Rows) → SameRoots m n → RowsMatch d n h.plain → Leaves (Ends None None) n
-  ends n roots rows = quiet d c m n i r h live roots None None tt rows
+  ends n roots rows = quiet d c m n i r h live roots (turned_by d r g (Ends None None)) refl refl tt (λ e. cc) rows
 
   -- what the step was answered, where it was, is an answer to its effect
   pub fits : (a : Answer) (rest : List Answer) → k.later ≡ a ∷ rest → IsAnswerTo e a
-  fits a rest left = subst (λ z. IsAnswerTo z a) (effect_here d c.book h.plain r g k ∙ is) (sane_here.past g.machine.steps a (answer_here d c.book h.plain r g k (a ∷ rest) left))
+  fits a rest left = subst (λ z. IsAnswerTo z a) (effect_here d c.book h.plain r g k ∙ is) (sane_instance.past g.machine.steps a (answer_here d c.book h.plain r g k (a ∷ rest) left))
 
   answers_it : (a : Answer) → IsAnswerTo e a → IsTrue (wants_answer g.machine.effect)
   answers_it a ok = subst (λ e. IsTrue (wants_answer e)) (sym is) (wants_it e a ok)
 
   -- it replays: the answer is the one that its instance has
   pub replays : (n : Rows) (a : Answer) (rest : List Answer) → SameRoots m n → RowsMatch d n h.plain → k.later ≡ a ∷ rest → Leaves (Answers a None) n
-  replays n a rest roots rows left = quiet d c m n i r h live roots None (Some (record r { at = Some (standing (resumed d g.machine a)) }))
-      (knows_next d c.book h.plain r g.machine k.instance a k.answers rest k.made k.func (ap (λ ys. k.answers ++ ys) (sym left) ∙ k.run_answers) k.machine (answers_it a (fits a rest left))) rows
+  replays n a rest roots rows left =
+      let next = resumed d g.machine a in
+      comes_to d c m n i r h live roots next g.caller (first_stage r.id g.caller next.effect)
+      (λ s first. knows_first d c.book h.plain r next g.caller k.instance (k.answers ++ a ∷ []) rest s k.made k.func k.caller
+      (append_assoc k.answers (a ∷ []) rest ∙ ap (λ ys. k.answers ++ ys) (sym left) ∙ k.run_answers)
+      (at_next d r.func k.instance.args false g.machine k.answers a (answers_it a (fits a rest left)) k.machine) first) rows
 
-  -- it steps on: the instance has the answer now
+  -- a step that is the instance's next has not returned
   pub not_over : k.later ≡ [] → IsTrue (wants_answer e) → k.instance.outcome ≡ None
   not_over left wants = by_outcome k.instance.outcome refl
     where
       by_outcome : (o : Option Outcome) → k.instance.outcome ≡ o → k.instance.outcome ≡ None
       by_outcome None none = none
-      by_outcome (Some o) some = let clash = ap wants_answer (sym (sane_here.over o some) ∙ effect_next d c.book h.plain r g k left ∙ is) ∙ wants in cc
+      by_outcome (Some o) some = let clash = ap wants_answer (sym (sane_instance.over o some) ∙ effect_next d c.book h.plain r g k left ∙ is) ∙ wants in cc
 
+  -- it steps on: the instance has the answer now
   pub steps_on : (a : Answer) (by : Mark) (q : PlainState) (n : Rows) → k.later ≡ [] → IsAnswerTo e a → q.made ≡ map.insert h.plain.made r.id (answered k.instance a) → Entered d c h.plain (entry_of r.id by) q → SameRoots m n → RowsMatch d n q → Leaves (Answers a (Some by)) n
-  steps_on a by q n left ok made leads roots rows = entered d c m n i r h live roots by (Some (record r { at = Some (standing (resumed d g.machine a)) })) None q leads
-      (λ o told. cc)
-      (knows_next d (c.book ++ entry_of r.id by ∷ []) q r g.machine (answered k.instance a) a k.answers []
-      (ap (λ f. map.get f r.id) made ∙ get_set id_total id_exact h.plain.made r.id (answered k.instance a)) k.func (ap (λ xs. xs ++ a ∷ []) (all_here d c.book h.plain r g k left)) k.machine (answers_it a ok))
-      rows
-
--- ---- the last turn
-abbrev end_row : Outcome → ℕ → IntentRow → IntentRow
-end_row o now j = record j { outcome = Some o; finish = finish_at true now j.finish }
-
-finished : (now : ℕ) (f : Option ℕ) → is_some (finish_at true now f) ≡ true
-finished now None = refl
-finished now (Some n) = refl
-
-abbrev ended_at : Instance → Outcome → Instance
-ended_at q o = record q { outcome = Some o }
-
-root_ended : (b : Option Body) (o : Option Outcome) (q : Instance) (v : Outcome) → BodyMatches b o (Some q) → BodyMatches b (Some v) (Some (ended_at q v))
-root_ended None o q v h = cc
-root_ended (Some b) o q v h = let same : h.instance ≡ q = same_some (sym h.made) in record {
-  instance = ended_at q v;
-  made = refl;
-  func = ap (λ z. z.func) (sym same) ∙ h.func;
-  args = ap (λ z. z.args) (sym same) ∙ h.args;
-  outcome = refl;
-  no_tx = h.no_tx;
-  no_caller = h.no_caller;
-}
-
-has_body : (b : Option Body) (o : Option Outcome) (q : Instance) → BodyMatches b o (Some q) → b ≡ None → ⊥
-has_body None o q h e = cc
-has_body (Some b) o q h e = cc
-
-root_outcome : (b : Option Body) (o : Option Outcome) (q : Instance) → BodyMatches b o (Some q) → q.outcome ≡ o
-root_outcome None o q h = cc
-root_outcome (Some b) o q h = ap (λ z. z.outcome) (same_some h.made) ∙ h.outcome
-
-root_is : (t : ℕ) (hops : List ℕ) → has_no_hops hops ≡ true → record { ticket = t; hops = hops } ≡ root_of t
-root_is t [] h = refl
-root_is t (x ∷ xs) h = cc
-
-module _ (d : Deployment) (c : Core) (m : Rows) (i : ℕ) (r : Run) (g : Begun) (h : Right d c m) (live : map.get c.runs i ≡ Some r) (k : Knows d c.book h.plain r g) (o : Outcome) (is : g.machine.effect ≡ Return o) where
-  abbrev key : RowKey
-  key = intent_key r.id r.func
-
-  abbrev state : PlainState
-  state = with_instance h.plain r.id (ended_at k.instance o)
-
-  ended_rows : (j : IntentRow) → has_no_hops r.id.hops ≡ true → IsRootRow j (Some k.instance) → RowsMatch d (set_row m key (Some (rows.Intent (end_row o c.now j)))) state
-  ended_rows j root f =
-      let q = ended_at k.instance o in
-      let own : record { home = 0; kind = kinds.Intent r.id } ≡ key = λ i. record { home = if sym root i then 0 else r.func; kind = kinds.Intent r.id } in
-      subst (λ z. RowsMatch d (set_row m z (Some (rows.Intent (end_row o c.now j)))) state) own
-      (root_moved d h.plain r.id q (subst (λ s. OwesSame d s q) (sym k.made) (record { notes = λ x n. refl; holds = λ x. refl; values = λ f n. refl })) m (end_row o c.now j) root
-      (record { bare = λ e. absurd (has_body j.body j.outcome k.instance f.body e); finishes = finished c.now j.finish; body = root_ended j.body j.outcome k.instance o f.body }) h.rows)
-
-  -- a body that returns was answered nothing more
-  no_answer : (later : List Answer) → k.later ≡ later → k.later ≡ []
-  no_answer [] left = left
-  no_answer (a ∷ rest) left = absurd (fits d c m i r g h live k (Return o) is a rest left)
-
-  returns_now : effect_of d k.instance ≡ Return o
-  returns_now = effect_next d c.book h.plain r g k (no_answer k.later refl) ∙ is
-
-  close_did : (j : IntentRow) → map.get m key ≡ Some (rows.Intent j) → has_no_hops r.id.hops ≡ true → IsRootRow j (Some k.instance) → j.outcome ≡ None
-      → AfterTurn d h.plain c i r.id (turned_by d r g (close_says r.id (Return o) true)) (set_row m key (Some (rows.Intent (end_row o c.now j))))
-  close_did j at root f none =
-      entered d c m (set_row m key (Some (rows.Intent (end_row o c.now j)))) i r h live (replaced m key (Some (rows.Intent (end_row o c.now j))) (ap is_some (sym at)))
-      mark.Step None (reply_if (has_no_hops r.id.hops) o) state
-      (change_entered d c m h (Step r.id) state refl (enabled_step d h.plain r.id k.instance k.made (root_outcome j.body j.outcome k.instance f.body ∙ none) (ap kind_of returns_now) ∙ ap (λ z. Some (step_by h.plain r.id k.instance z)) returns_now)
-      (λ x touched. let none = sym (ap (touched_by d) k.made ∙ ap (item_touched k.instance) returns_now) ∙ touched in cc))
-      (λ u told. ap (λ z. outcome_of (map.get state.made z)) (sym (root_is r.id.ticket r.id.hops root)) ∙ ap outcome_of (get_set id_total id_exact h.plain.made r.id (ended_at k.instance o)) ∙ sym (ap (λ b. reply_if b o) root) ∙ told)
-      tt (ended_rows j root f)
-
-  abbrev AfterClose : Option Row × Tell → Type 0
-  AfterClose z = AfterAct d h.plain m key (λ t. turn_next c i r.id (turned_by d r g (close_says r.id (Return o) (is_did t)))) z
-
-  close_by : (j : IntentRow) (u : Option Outcome) → j.outcome ≡ u → map.get m key ≡ Some (rows.Intent j) → has_no_hops r.id.hops ≡ true → IsRootRow j (Some k.instance) → AfterClose (Some (rows.Intent (end_with o true c.now j u).0), (end_with o true c.now j u).1)
-  close_by j None none at root f = close_did j at root f none
-  close_by j (Some u) some at root f = still d h.plain m key (Some (rows.Intent j)) (sym at) (ends d c m i r g h live k (Return o) is m (λ t. refl) h.rows)
-
-  close_at : (b : Bool) → ((key.home == 0) && has_no_hops r.id.hops) ≡ b → (w : Option Row) → map.get m key ≡ w → IntentMatches b w (Some k.instance) → AfterClose (act (End o true) c.now w)
-  close_at b root None at f = still d h.plain m key None (sym at) (ends d c m i r g h live k (Return o) is m (λ t. refl) h.rows)
-  close_at b root (Some (rows.Intent j)) at f = close_by j j.outcome refl at (second_so (key.home == 0) (has_no_hops r.id.hops) (root ∙ is_root b (rows.Intent j) (Some k.instance) f)) (root_row b j (Some k.instance) f)
-  close_at b root (Some w) at f = still d h.plain m key (Some w) (sym at) (ends d c m i r g h live k (Return o) is m (λ t. refl) h.rows)
-
-  pub close_turn : AfterClose (act (End o true) c.now (map.get m key))
-  close_turn = let b = (key.home == 0) && has_no_hops r.id.hops in close_at b refl (map.get m key) refl (subst (IntentMatches b (map.get m key)) k.made (h.rows.keys key))
+  steps_on a by q n left ok made leads roots rows =
+      let next = resumed d g.machine a in
+      steps_to d c m n i r h live roots next g.caller by q (first_stage r.id g.caller next.effect) leads
+      (λ s first. knows_first d (c.book ++ entry_of r.id by ∷ []) q r next g.caller (answered k.instance a) (k.answers ++ a ∷ []) [] s
+      (ap (λ f. map.get f r.id) made ∙ get_set id_total id_exact h.plain.made r.id (answered k.instance a)) k.func k.caller
+      (append-nil (k.answers ++ a ∷ []) ∙ ap (λ xs. xs ++ a ∷ []) (all_here d c.book h.plain r g k left))
+      (at_next d r.func k.instance.args false g.machine k.answers a (answers_it a ok) k.machine) first) rows

@@ -16,7 +16,7 @@ use Rattle.beldi_plain.specs.Legal.{IsLegal, run_of}
 use Rattle.beldi_plain.specs.Listing.{listing_of}
 use Rattle.beldi_order.specs.Grown.{Grows}
 use Rattle.beldi_step.specs.declared.event.Event.{Event}
-use Rattle.beldi_step.specs.declared.event.Event.TheVariants.{Ticket, Request, Turn, Lost, Crash, Restart}
+use Rattle.beldi_step.specs.declared.event.Event.TheVariants.{Ticket, Request, Turn, Lost, Crash, Restart, Tick}
 use Rattle.beldi_step.specs.declared.event.Seen.{Seen}
 use Rattle.beldi_step.specs.declared.event.Seen.TheVariants as seen
 use Rattle.beldi_step.specs.Host.{Core, Stepped, EventOn, first_core, is_lost, is_dropped}
@@ -51,16 +51,20 @@ told_outcome (seen.Replied t o) = Some (t, o)
 told_outcome (seen.Other t f a) = None
 told_outcome (seen.Gone t) = None
 told_outcome (seen.Unknown t) = None
-told_outcome (seen.Acted e over reply) = reply
+told_outcome (seen.Acted e started over reply) = reply
 told_outcome (seen.Held owner) = None
+told_outcome (seen.NotYet id) = None
 told_outcome (seen.Full live room) = None
 told_outcome seen.Worn = None
 told_outcome seen.Crowded = None
+told_outcome seen.Expired = None
 told_outcome seen.NoRun = None
 told_outcome seen.RunOver = None
 told_outcome seen.Dropped = None
 told_outcome seen.Crashed = None
 told_outcome (seen.Started run) = None
+told_outcome (seen.Now n) = None
+told_outcome seen.ClockEnd = None
 told_outcome seen.Spent = None
 
 -- the root of the ticket has this outcome in the run of the book
@@ -100,6 +104,7 @@ requested (Turn i) = []
 requested (Lost i) = []
 requested (Crash i) = []
 requested (Restart id f) = []
+requested (Tick n) = []
 
 -- the request that an event bound: the one that was answered so
 abbrev pub bound_of : Event → Seen → List (ℕ × (ℕ × Value))
@@ -154,7 +159,7 @@ KeepsRoom = (d : Deployment) (room old new : ℕ) (e : Event) (c b : Core) (m n 
 
 -- the entries that an event's answer tells: the start of a root that was bound, or the entry of a turn
 abbrev pub entries_told : Event → Seen → List Entry
-entries_told e (seen.Acted entry over reply) = option_to_list entry
+entries_told e (seen.Acted entry started over reply) = option_to_list entry
 entries_told (Request t f a) (seen.Bound u run) = Start t f a ∷ []
 entries_told e x = []
 

@@ -10,6 +10,7 @@ use Rattle.beldi_lang.specs.Machine.{IsAt}
 use Rattle.beldi_row.specs.Table.{Rows}
 use Rattle.beldi_plain.specs.Plain.{Instance, PlainState}
 use Rattle.beldi_step.specs.declared.run.Run.{Run}
+use Rattle.beldi_step.specs.declared.run.RunAt.TheVariants.{Begins}
 use Rattle.beldi_step.specs.declared.run.Begun.{Begun}
 use Rattle.beldi_step.specs.Host.{Core}
 use Rattle.beldi_laws.specs.Stands.{held_answer}
@@ -27,7 +28,7 @@ pub record IsBegun (c : Core) (id : IntentId) (r : Run) (g : Begun) : Type 0 whe
   pub number : ℕ
   pub live : map.get c.runs number ≡ Some r
   pub same_id : r.id ≡ id
-  pub begun : r.at ≡ Some g
+  pub begun : r.at ≡ Begins g
 
 -- the steps of an intent have the answers of this instance
 pub record HasAnswers (d : Deployment) (c : Core) (m : Rows) (id : IntentId) (q : Instance) : Type 0 where

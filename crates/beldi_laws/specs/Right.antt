@@ -3,9 +3,10 @@ use Rattle.std.specs.Prelude.{◌≡◌, ℕ, zero, suc, ◌≤◌, nat_lt, nat_
 use Rattle.std.specs.FinMap as map
 use Rattle.std.specs.FinMap.{FinMap}
 use Rattle.std.specs.Ordering.{nat_cmp, is_eq}
-use Rattle.beldi_value.specs.Id.{has_no_hops}
+use Rattle.beldi_value.specs.Id.{has_callees, has_no_hops, child_of}
 use Rattle.beldi_value.specs.declared.id.IntentId.{IntentId}
 use Rattle.beldi_value.specs.declared.place.Owner.{Owner}
+use Rattle.beldi_value.specs.declared.place.Caller.{Caller}
 use Rattle.beldi_value.specs.declared.place.Place.{Place}
 use Rattle.beldi_value.specs.declared.outcome.Outcome.{Outcome}
 use Rattle.beldi_value.specs.declared.value.Value.{Value}
@@ -13,7 +14,7 @@ use Rattle.beldi_tree.specs.declared.deployment.Deployment.{Deployment}
 use Rattle.beldi_lang.specs.declared.effect.Answer.{Answer}
 use Rattle.beldi_lang.specs.declared.effect.Answer.TheVariants as answer
 use Rattle.beldi_lang.specs.declared.effect.Effect.{Effect}
-use Rattle.beldi_lang.specs.declared.effect.Effect.TheVariants.{Read, Write, CondWrite, Lock, Unlock, Return}
+use Rattle.beldi_lang.specs.declared.effect.Effect.TheVariants.{Read, Write, CondWrite, Lock, Unlock, Call, Return}
 use Rattle.beldi_lang.specs.Machine.{IsAt}
 use Rattle.beldi_row.specs.declared.key.RowKey.{RowKey}
 use Rattle.beldi_row.specs.declared.key.Kind.{Kind}
@@ -34,10 +35,13 @@ use Rattle.beldi_plain.specs.Item.{Item, item_cmp}
 use Rattle.beldi_plain.specs.Guard.{IsGuarded}
 use Rattle.beldi_plain.specs.Holds.{holds, holds_as}
 use Rattle.beldi_plain.specs.Operation.{OnItem, op_of, item_in}
-use Rattle.beldi_plain.specs.Plain.{Instance, PlainState, nothing, value_at, kind_of}
+use Rattle.beldi_plain.specs.Plain.{Instance, PlainState, nothing, value_at}
 use Rattle.beldi_plain.specs.Legal.{run_of}
-use Rattle.beldi_plain.specs.declared.kind.Kind.TheVariants as kind
+use Rattle.beldi_call.specs.declared.call.CallAt.TheVariants as call
 use Rattle.beldi_step.specs.declared.run.Run.{Run}
+use Rattle.beldi_step.specs.declared.run.RunAt as standing
+use Rattle.beldi_step.specs.declared.run.RunAt.TheVariants.{Looks, Registers, Begins}
+use Rattle.beldi_step.specs.Run.{is_waited}
 use Rattle.beldi_step.specs.declared.run.Begun.{Begun}
 use Rattle.beldi_step.specs.declared.run.Stage.{Stage}
 use Rattle.beldi_step.specs.declared.run.Stage.TheVariants as stage
@@ -88,20 +92,40 @@ owed_value d func n (Some q) = if q.func == func then value_if (effect_before d 
 abbrev pub owed_read : Deployment → PlainState → ℕ → Place → Option Value
 owed_read d p func a = owed_value d func a.step (map.get p.made a.intent)
 
--- the body is a root's, and the instance was made with it and has ended so
-pub record IsRoot (b : Body) (o : Option Outcome) (i : Option Instance) : Type 0 where
+-- ---- calls
+-- what a call of this function, whose callee is this instance, gives back: its outcome, where the caller waits for it
+abbrev pub result_of : Instance → Option Outcome
+result_of j = if is_waited j.from then j.outcome else None
+
+abbrev pub called_by : ℕ → Option Instance → Option Instance → Option (ℕ × Option Outcome)
+called_by f None j = None
+called_by f (Some i) None = None
+called_by f (Some i) (Some j) = if i.func == f then Some (j.func, result_of j) else None
+
+-- the call that the log of a function has at a place: the one that the place's instance made there
+abbrev pub owed_call : PlainState → ℕ → Place → Option (ℕ × Option Outcome)
+owed_call p f a = called_by f (map.get p.made a.intent) (map.get p.made (child_of a.intent a.step))
+
+-- ---- bodies
+-- the body that an instance was made with
+abbrev pub body_of : Instance → Body
+body_of q = record { func = q.func; args = q.args; tx = None; from = q.from }
+
+-- the body is the one that the instance was made with
+pub record IsBodyOf (b : Body) (i : Option Instance) : Type 0 where
   pub instance : Instance
   pub made : i ≡ Some instance
-  pub func : instance.func ≡ b.func
-  pub args : instance.args ≡ b.args
-  pub outcome : instance.outcome ≡ o
-  pub no_tx : b.tx ≡ None
-  pub no_caller : b.from ≡ None
+  pub body : b ≡ body_of instance
 
 -- the body and the outcome of a root's row, and the root's instance
 abbrev pub BodyMatches : Option Body → Option Outcome → Option Instance → Type 0
 BodyMatches None o i = i ≡ None
-BodyMatches (Some b) o i = IsRoot b o i
+BodyMatches (Some b) o i = (w : IsBodyOf b i) × (w.instance.outcome ≡ o)
+
+-- .. of a callee's: an outcome of the row is the instance's, which may have it before
+abbrev pub CalleeBodyMatches : ℕ → Option Body → Option Outcome → Option Instance → Type 0
+CalleeBodyMatches home None o i = ⊥
+CalleeBodyMatches home (Some b) o i = (w : IsBodyOf b i) × (b.func ≡ home) × ((u : Outcome) → o ≡ Some u → w.instance.outcome ≡ Some u)
 
 -- ---- the rows match a plain state: key by key, and item by item
 -- the owner, if any, is this one
@@ -124,12 +148,36 @@ pub record IsRootRow (r : IntentRow) (i : Option Instance) : Type 0 where
   -- the root was made exactly where there is a body
   pub body : BodyMatches r.body r.outcome i
 
--- the row of an intent, by whether its key is that of a root. No other intent has one yet.
-abbrev pub IntentMatches : Bool → Option Row → Option Instance → Type 0
-IntentMatches true None i = i ≡ None
-IntentMatches true (Some (rows.Intent r)) i = IsRootRow r i
-IntentMatches true (Some r) i = ⊥
-IntentMatches false r i = r ≡ None
+-- the row of a callee, in the home of its function
+pub record IsCalleeRow (home : ℕ) (r : IntentRow) (i : Option Instance) : Type 0 where
+  -- there is a finish exactly where there is an outcome
+  pub finishes : is_some r.finish ≡ is_some r.outcome
+  -- the callee was made with its body
+  pub body : CalleeBodyMatches home r.body r.outcome i
+
+-- the rows of a root, by whether it is the host's home: it has its row there alone
+abbrev pub RootMatches : Bool → Option Row → Option Instance → Type 0
+RootMatches true None i = i ≡ None
+RootMatches true (Some (rows.Intent r)) i = IsRootRow r i
+RootMatches true (Some r) i = ⊥
+RootMatches false r i = r ≡ None
+
+-- a callee may have no row yet
+abbrev pub CalleeMatches : ℕ → Option Row → Option Instance → Type 0
+CalleeMatches home None i = Unit {0}
+CalleeMatches home (Some (rows.Intent r)) i = IsCalleeRow home r i
+CalleeMatches home (Some r) i = ⊥
+
+-- the row of an intent in a home, by whether the intent is a root
+abbrev pub IntentMatches : Bool → ℕ → Option Row → Option Instance → Type 0
+IntentMatches true home r i = RootMatches (home == 0) r i
+IntentMatches false home r i = CalleeMatches home r i
+
+-- the row of a call, by the call that is owed there
+abbrev pub CallMatches : Option Row → Option (ℕ × Option Outcome) → Type 0
+CallMatches None o = o ≡ None
+CallMatches (Some (rows.Invoke r)) o = o ≡ Some (r.func, r.result)
+CallMatches (Some r) o = ⊥
 
 -- the row of a read, by the value that is owed there
 abbrev pub LogMatches : Option Row → Option Value → Type 0
@@ -144,8 +192,9 @@ CellMatches (suc n) r = r ≡ None
 
 -- the row of a key, by its kind. There are no rows of other kinds yet.
 abbrev pub RowMatches : Deployment → PlainState → ℕ → Kind → Option Row → Type 0
-RowMatches d p home (kinds.Intent id) r = IntentMatches ((home == 0) && has_no_hops id.hops) r (map.get p.made id)
+RowMatches d p home (kinds.Intent id) r = IntentMatches (has_no_hops id.hops) home r (map.get p.made id)
 RowMatches d p home (kinds.ReadLog a) r = LogMatches r (owed_read d p home a)
+RowMatches d p home (kinds.Invoke a) r = CallMatches r (owed_call p home a)
 RowMatches d p home (kinds.Data t k n) r = CellMatches n r
 RowMatches d p home k r = r ≡ None
 
@@ -156,18 +205,26 @@ pub record RowsMatch (d : Deployment) (m : Rows) (p : PlainState) : Type 0 where
   pub items : (x : Item) → ItemMatches d p x (content_of m x)
 
 -- ---- what a run knows
--- where an effect may stand
-abbrev pub StageOk : Effect → Stage → Type 0
-StageOk (Read t k) stage.Ask = Unit {0}
-StageOk (Read t k) stage.Walk = Unit {0}
-StageOk (Read t k) (stage.Keep v seen) = Unit {0}
-StageOk (Write t k v) (stage.Write at) = Unit {0}
-StageOk (CondWrite t k r o v) (stage.Write at) = Unit {0}
-StageOk (Lock t k) (stage.Write at) = Unit {0}
-StageOk (Unlock t k) (stage.Write at) = Unit {0}
-StageOk (Return o) stage.Close = Unit {0}
-StageOk e stage.Unbuilt = kind_of e ≡ kind.Unbuilt
-StageOk e s = ⊥
+-- where an effect of an intent may stand, whose caller this is
+abbrev pub StageOk : IntentId → Option Caller → Effect → Stage → Type 0
+StageOk id c (Read t k) stage.Ask = Unit {0}
+StageOk id c (Read t k) stage.Walk = Unit {0}
+StageOk id c (Read t k) (stage.Keep v seen) = Unit {0}
+StageOk id c (Write t k v) (stage.Write at) = Unit {0}
+StageOk id c (CondWrite t k r o v) (stage.Write at) = Unit {0}
+StageOk id c (Lock t k) (stage.Write at) = Unit {0}
+StageOk id c (Unlock t k) (stage.Write at) = Unit {0}
+StageOk id c (Call f a) (stage.Call at) = has_callees id ≡ true
+StageOk id c (Return o) stage.Back = is_waited c ≡ true
+StageOk id c (Return o) stage.Close = Unit {0}
+StageOk id c e s = ⊥
+
+-- what a run has seen done for its instance: a call that it waits for was opened, and an outcome that a caller waits for was given
+-- back before the end
+abbrev pub SeenDone : PlainState → IntentId → ℕ → Instance → Option Caller → Stage → Type 0
+SeenDone p id step q c (stage.Call call.Look) = is_some (map.get p.made (child_of id step)) ≡ true
+SeenDone p id step q c stage.Close = is_waited c ≡ true → is_some q.outcome ≡ true
+SeenDone p id step q c s = Unit {0}
 
 -- where a read belongs after the first `seen` changes: there its instance had these answers, and the item had this value and
 -- was not locked by another
@@ -196,20 +253,29 @@ pub record Knows (d : Deployment) (book : List Entry) (p : PlainState) (r : Run)
   pub instance : Instance
   pub made : map.get p.made r.id ≡ Some instance
   pub func : instance.func ≡ r.func
+  pub caller : g.caller ≡ instance.from
   -- what it was answered is how the plain answers begin
   pub answers : List Answer
   pub later : List Answer
   pub run_answers : answers ++ later ≡ instance.answers
   -- its machine stands where these answers lead, and its stage is one of the effect there
   pub machine : IsAt d r.func instance.args false g.machine answers
-  pub run_stage : StageOk g.machine.effect g.stage
+  pub run_stage : StageOk r.id g.caller g.machine.effect g.stage
+  pub run_done : SeenDone p r.id g.machine.steps instance g.caller g.stage
   -- where it is to keep a value, it knows where its read belongs
   pub run_place : PlaceOk d book r.id r.func answers later g.machine.effect g.stage
 
--- nothing is known of a run before its first turn
-abbrev pub KnowsAt : Deployment → List Entry → PlainState → Run → Option Begun → Type 0
-KnowsAt d book p r None = Unit {0}
-KnowsAt d book p r (Some g) = Knows d book p r g
+-- the body that a call gave a run is that of its instance, and of its function
+pub record KnowsBody (p : PlainState) (r : Run) (b : Body) : Type 0 where
+  pub body : IsBodyOf b (map.get p.made r.id)
+  pub func : b.func ≡ r.func
+  pub callee : has_no_hops r.id.hops ≡ false
+
+-- nothing else is known of a run before its first turn
+abbrev pub KnowsAt : Deployment → List Entry → PlainState → Run → standing.RunAt → Type 0
+KnowsAt d book p r Looks = Unit {0}
+KnowsAt d book p r (Registers b) = KnowsBody p r b
+KnowsAt d book p r (Begins g) = Knows d book p r g
 
 -- the run of a number, if it is live, knows so much
 abbrev pub RunAt : Deployment → List Entry → PlainState → Option Run → Type 0
