@@ -1,59 +1,68 @@
 -- A body without a statement that is not carried out yet wants no effect that is not.
-use Rattle.std.proofs.Common.{◌≡◌, ℕ, zero, suc, Bool, true, false, List, [], ◌∷◌, Option, Some, None, refl, ap, sym, ◌∙◌}
+use Rattle.std.proofs.Common.{◌≡◌, ℕ, zero, suc, Bool, true, false, List, [], ◌∷◌, Option, Some, None, if◌then◌else◌, refl, ap}
 use Rattle.std.specs.Prelude.{slice_get}
+use Rattle.beldi_value.specs.Id.{has_callees}
+use Rattle.beldi_value.specs.declared.id.IntentId.{IntentId}
 use Rattle.beldi_tree.specs.declared.deployment.Deployment.{Deployment}
 use Rattle.beldi_tree.specs.declared.deployment.Func.{Func}
 use Rattle.beldi_value.specs.declared.outcome.Outcome.{Outcome}
 use Rattle.beldi_lang.specs.declared.effect.Answer.{Answer}
 use Rattle.beldi_lang.specs.declared.effect.Effect.{Effect}
+use Rattle.beldi_lang.specs.declared.effect.Effect.TheVariants as effect
+use Rattle.beldi_value.specs.declared.value.Value.{Value}
 use Rattle.beldi_lang.specs.declared.state.HeldLock.{HeldLock}
 use Rattle.beldi_tree.specs.Command.{Command, Commands, no_commands, command, set, read, write, condwrite, call, async, lock, unlock, transaction, abort, break, choose, repeat, return}
 use Rattle.beldi_tree.specs.Names.{func_at}
 use Rattle.beldi_lang.specs.Wants.{body_of, releases}
 use Rattle.beldi_lang.proofs.Occurs.{Each, EachOf, wants_only}
 use Rattle.beldi_plain.specs.Plain.{kind_of}
-use Rattle.beldi_plain.specs.declared.kind.Kind.TheVariants.{Unbuilt}
+use Rattle.beldi_plain.specs.declared.kind.Kind.TheVariants.{Change, Unbuilt}
 use Rattle.beldi_core.specs.Built.{or_else, unbuilt, unbuilt_in, unbuilt_of, IsCarriedOut}
 
-abbrev IsCarried : Bool → Effect → Type 0
-IsCarried i e = kind_of e ≡ Unbuilt → ⊥
+abbrev IsCarried : IntentId → Bool → Effect → Type 0
+IsCarried id i e = kind_of id e ≡ Unbuilt → ⊥
 
 -- nothing is asked of the locks that are held
 abbrev AnyHeld : List HeldLock → Type 0
 AnyHeld hs = Unit {0}
 
--- those that are given back before the return are given back by unlocks
-released : (o : Outcome) (hs : List HeldLock) (rest : List Answer) → kind_of (releases o hs rest) ≡ Unbuilt → ⊥
-released o [] rest is = cc
-released o (l ∷ ls) [] is = cc
-released o (l ∷ ls) (a ∷ rest) is = released o ls rest is
-
 none_of : (o p : Option ℕ) → or_else o p ≡ None → (o ≡ None) × (p ≡ None)
 none_of None p h = (refl, h)
 none_of (Some l) p h = cc
 
-mutual
-  each : (i : Bool) (c : Command) → unbuilt c ≡ None → Each AnyHeld IsCarried i c
-  each i (set l n e) none = tt
-  each i (read l n t k) none = λ t' k' is. cc
-  each i (write l t k e) none = λ t' k' v is. cc
-  each i (break l) none = tt
-  each i (return l e) none = tt
-  each i (choose l e b c) none = let n = none_of (unbuilt_in b) (unbuilt_in c) none in (all i b n.0, all i c n.1)
-  each i (repeat l n b) none = all i b none
-  each i (condwrite l n t k r o e) none = λ t' k' w v is. cc
-  each i (call l n f e) none = cc
-  each i (async l f e) none = cc
-  each i (lock l t k) none = λ t' k'. ((λ is. cc), λ hs h. tt)
-  each i (unlock l t k) none = λ t' k'. ((λ is. cc), λ hs h. tt)
-  each true (transaction l b c) none = cc
-  each false (transaction l b c) none = cc
-  each true (abort l) none = cc
-  each false (abort l) none = cc
+module _ (id : IntentId) (callees : has_callees id ≡ true) where
+  -- those that are given back before the return are given back by unlocks
+  released : (o : Outcome) (hs : List HeldLock) (rest : List Answer) → kind_of id (releases o hs rest) ≡ Unbuilt → ⊥
+  released o [] rest is = cc
+  released o (l ∷ ls) [] is = cc
+  released o (l ∷ ls) (a ∷ rest) is = released o ls rest is
 
-  all : (i : Bool) (b : Commands) → unbuilt_in b ≡ None → EachOf AnyHeld IsCarried i b
-  all i no_commands none = tt
-  all i (command c cs) none = let n = none_of (unbuilt c) (unbuilt_in cs) none in (each i c n.0, all i cs n.1)
+  -- a call is carried out where the callee has an id
+  call_carried : (f : ℕ) (v : Value) → kind_of id (effect.Call f v) ≡ Unbuilt → ⊥
+  call_carried f v is = let built : kind_of id (effect.Call f v) ≡ Change = ap (λ (b : Bool). if b then Change else Unbuilt) callees in cc
+
+  mutual
+    each : (i : Bool) (c : Command) → unbuilt c ≡ None → Each AnyHeld (IsCarried id) i c
+    each i (set l n e) none = tt
+    each i (read l n t k) none = λ t' k' is. cc
+    each i (write l t k e) none = λ t' k' v is. cc
+    each i (break l) none = tt
+    each i (return l e) none = tt
+    each i (choose l e b c) none = let n = none_of (unbuilt_in b) (unbuilt_in c) none in (all i b n.0, all i c n.1)
+    each i (repeat l n b) none = all i b none
+    each i (condwrite l n t k r o e) none = λ t' k' w v is. cc
+    each i (call l n f e) none = λ f' v. call_carried f' v
+    each i (async l f e) none = cc
+    each i (lock l t k) none = λ t' k'. ((λ is. cc), λ hs h. tt)
+    each i (unlock l t k) none = λ t' k'. ((λ is. cc), λ hs h. tt)
+    each true (transaction l b c) none = cc
+    each false (transaction l b c) none = cc
+    each true (abort l) none = cc
+    each false (abort l) none = cc
+
+    all : (i : Bool) (b : Commands) → unbuilt_in b ≡ None → EachOf AnyHeld (IsCarried id) i b
+    all i no_commands none = tt
+    all i (command c cs) none = let n = none_of (unbuilt c) (unbuilt_in cs) none in (each i c n.0, all i cs n.1)
 
 fine_at : (fs : List Func) (n : ℕ) → unbuilt_of fs ≡ None → unbuilt_in (body_of (slice_get fs n)) ≡ None
 fine_at [] zero none = refl
@@ -67,7 +76,7 @@ fine_func d (suc n) none = fine_at d.funcs n none
 
 -- in a deployment that is carried out whole
 pub carried : (d : Deployment) → unbuilt_of d.funcs ≡ None → IsCarriedOut d
-carried d none func args inherited answers =
-    wants_only AnyHeld IsCarried d func args inherited answers tt
-    (λ o hs rest held is. released o hs rest is)
-    (all inherited (body_of (func_at d func)) (fine_func d func none))
+carried d none id func args inherited answers callees =
+    wants_only AnyHeld (IsCarried id) d func args inherited answers tt
+    (λ o hs rest held is. released id callees o hs rest is)
+    (all id callees inherited (body_of (func_at d func)) (fine_func d func none))

@@ -42,7 +42,7 @@ below j k h = subst (λ r. MatchOrdering r (j < k) (j ≡ k) (k < j)) (less (nat
 skip : (j : ℕ) (e : ℕ × Run) (es : List (ℕ × Run)) → (j ≡ e.0 → ⊥) → find nat_cmp j (e ∷ es) ≡ find nat_cmp j es
 skip j e es h = ap (λ b. cond b (Some e.1) (find nat_cmp j es)) (apart j e.0 h)
 
-none_under : (j k : ℕ) (es : List (ℕ × Run)) → j < k → T (below_all nat_cmp k es) → find nat_cmp j es ≡ None
+pub none_under : (j k : ℕ) (es : List (ℕ × Run)) → j ≤ k → T (below_all nat_cmp k es) → find nat_cmp j es ≡ None
 none_under j k [] p h = refl
 none_under j k (e ∷ es) p h =
     let above : k < e.0 = below k e.0 (test_true _ (first _ _ h)) in
@@ -67,7 +67,7 @@ head_of (e ∷ es) = Some e.0
 least : (i : ℕ) (es : List (ℕ × Run)) → T (is_sorted nat_cmp es) → LeastIn i es (head_of (past_all i es))
 least i [] s = λ j p. refl
 least i (e ∷ es) s = (elim (is_lt (nat_cmp i e.0)) as (λ b. is_lt (nat_cmp i e.0) ≡ b → LeastIn i (e ∷ es) (head_of (cond (b && true) (e ∷ past_all i es) (past_all i es)))) [
-  | true ↦ λ t. (below i e.0 t, subst (λ (o : Option Run). IsSome o) (ap (λ b. cond b (Some e.1) (find nat_cmp e.0 es)) (sym (ap is_eq (tied_itself nat_cmp_total e.0)))) refl, λ j p q. skip j e es (λ s. omega arith) ∙ none_under j e.0 es q (first _ _ s))
+  | true ↦ λ t. (below i e.0 t, subst (λ (o : Option Run). IsSome o) (ap (λ b. cond b (Some e.1) (find nat_cmp e.0 es)) (sym (ap is_eq (tied_itself nat_cmp_total e.0)))) refl, λ j p q. skip j e es (λ s. omega arith) ∙ none_under j e.0 es (omega arith) (first _ _ s))
   | false ↦ λ t. past i e es (head_of (past_all i es)) (ge_from_not_lt i e.0 t) (least i es (second _ _ s))
 ]) refl
 

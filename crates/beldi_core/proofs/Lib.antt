@@ -1,4 +1,6 @@
 pub mod Carried
+mod CountMaps
+mod Counting
 pub mod Least
 pub mod Plans
 pub mod Replies

@@ -19,6 +19,7 @@ use Rattle.beldi_step.specs.declared.event.Event.{Event}
 use Rattle.beldi_step.specs.declared.event.Seen.{Seen}
 use Rattle.beldi_intent.specs.Intent.{root_key}
 use Rattle.beldi_step.specs.Host.{Core, first_core, Stepped, EventOn}
+use Rattle.beldi_step.proofs.Late.{expires}
 use Rattle.beldi_step.proofs.Steps.{over_rows}
 use Rattle.beldi_step.specs.Tables.{tables_text}
 use Rattle.beldi_laws.specs.Right.{Right, IntentMatches, BodyMatches}
@@ -37,7 +38,7 @@ use Rattle.beldi_laws.proofs.OneAnswer.{one_answer, answers_stay}
 use Rattle.beldi_plain.specs.Legal.{IsLegal, run_of}
 use Rattle.beldi_plain.specs.Listing.{listing_of}
 use Rattle.beldi_row.proofs.Tells.{tells_map}
-use Rattle.beldi_core.specs.Right.{RowsStandFor, HasNoRows, HasNoReply, SaidOf}
+use Rattle.beldi_core.specs.Right.{EndsLate, RowsStandFor, HasNoRows, HasNoReply, SaidOf}
 
 -- ---- what is told
 if_told : {P Q : Rows → Type 0} (told : Option Rows) → ((m : Rows) → P m → Q m) → IfSome told P → IfSome told Q
@@ -82,6 +83,9 @@ module _ (d : Deployment) (e : Event) (c b : Core) (old new : TableState) (x : R
       answered (Ok z) h = h
       answered (Err w) h = tt
 
+  pub ends_late : EndsLate e c b old new x
+  ends_late i run few of is past = expires d e c b old new x i run s few of is past
+
 -- ---- a host that was opened over no rows
 no_entries : map.entries (map.empty {X = Row} {R = key_cmp}) ≡ []
 no_entries = nil_from_length (map.entries (map.empty {X = Row} {R = key_cmp})) (sym (len-entries (map.empty {X = Row} {R = key_cmp})) ∙ len-empty key_cmp Row)
@@ -117,15 +121,15 @@ module _ (d : Deployment) (c : Core) (m : Rows) (h : Right d c m) (t : ℕ) wher
   no_reply none p is = subst (λ (q : PlainState). reply_of q t ≡ None) (same_run d c m p h is) none
 
   absent : map.get m (root_key t) ≡ None → HasNoReply d c.book t
-  absent is = no_reply (ap outcome_of (subst (λ (r : Option Row). IntentMatches true r (map.get h.plain.made (root_of t))) is (h.rows.keys (root_key t))))
+  absent is = no_reply (ap outcome_of (subst (λ (r : Option Row). IntentMatches true 0 r (map.get h.plain.made (root_of t))) is (h.rows.keys (root_key t))))
 
   by_body : (b : Option Body) (o : Option Outcome) → (b ≡ None → o ≡ None) → BodyMatches b o (map.get h.plain.made (root_of t)) → SaidOf d c.book t (outcome_seen o)
   by_body None None bare root = no_reply (ap outcome_of root)
   by_body None (Some o) bare root = let clash = bare refl in cc
-  by_body (Some b) None bare root = no_reply (ap outcome_of root.made ∙ root.outcome)
-  by_body (Some b) (Some o) bare root = record { run = h.plain; legal = h.legal; reply = ap outcome_of root.made ∙ root.outcome }
+  by_body (Some b) None bare root = no_reply (ap outcome_of root.0.made ∙ root.1)
+  by_body (Some b) (Some o) bare root = record { run = h.plain; legal = h.legal; reply = ap outcome_of root.0.made ∙ root.1 }
 
-  by_row : (r : Option Row) → is_some r ≡ true → IntentMatches true r (map.get h.plain.made (root_of t)) → SaidOf d c.book t (row_seen r)
+  by_row : (r : Option Row) → is_some r ≡ true → IntentMatches true 0 r (map.get h.plain.made (root_of t)) → SaidOf d c.book t (row_seen r)
   by_row None there root = cc
   by_row (Some (Intent i)) there root = by_body i.body i.outcome root.bare root.body
   by_row (Some r) there root = absurd root

@@ -1,11 +1,11 @@
 -- The runs as a map, and a turn of one of them.
-use Rattle.std.proofs.Common.{◌≡◌, ℕ, ◌+◌, ◌-◌, ◌<◌, ◌≤◌, Bool, true, false, cond, List, Option, None, Some, is_none, Result, Ok, Err, refl, ap, sym, ◌∙◌, subst, arith}
+use Rattle.std.proofs.Common.{◌≡◌, ℕ, suc, ◌+◌, ◌-◌, ◌<◌, ◌≤◌, Bool, true, false, cond, List, Option, None, Some, is_none, Result, Ok, Err, refl, ap, sym, ◌∙◌, subst, arith}
 use Rattle.std.specs.Prelude.{nat_lt, IsSome}
 use borrow.Author.Tests.{ltb-true, ltb-false}
 use Rattle.std.specs.Map.{lookup}
 use Rattle.std.specs.BTreeMap.{is_at}
 use Rattle.std.specs.FinMap as map
-use Rattle.std.specs.FinMap.{nat_cmp-IsAntisymmetric, get-insert, get-remove, same_map}
+use Rattle.std.specs.FinMap.{nat_cmp-IsAntisymmetric, get-empty, get-insert, get-remove, same_map}
 use Rattle.std.specs.Cmp.{nat_cmp_total, Equal-is}
 use Rattle.std.specs.Ordering.{nat_cmp, eq_by_cmp, is_eq}
 use Rattle.std.proofs.lemmas.Cmp.{eq_by_cmp_equiv, tied_itself}
@@ -19,8 +19,11 @@ use Rattle.beldi_step.specs.declared.run.Mark.{Mark}
 use Rattle.beldi_step.specs.Run.{Turned, Turns, going, followed, run_told}
 use Rattle.beldi_step.specs.Host.{put_run}
 use Rattle.beldi_laws.proofs.Lives.{remove_put}
-use Rattle.beldi_core.specs.Runs.{RunMap, AllGiven, withdrawn, says_of, ends_run, settled, asked_of, asked_by, RunTold}
+use Rattle.beldi_core.specs.Runs.{RunMap, AllGiven, AllKept, withdrawn, says_of, ends_run, settled, uncounted, settled_counts, asked_of, asked_by, RunTold}
 use Rattle.beldi_row.proofs.Rows.{get_rows, none_removed}
+use Rattle.beldi_value.specs.Id.{id_cmp}
+use Rattle.beldi_core.specs.Counts.{CountMap, AllCounted, more, kept_as}
+use Rattle.beldi_core.proofs.Counting.{inside, put_counted, removed_counted, same_counted, counted_lower, gone_here, put_there}
 
 -- entries without one key
 pub one_removed : (es fs : List (ℕ × Run)) (k : ℕ) → ((q : ℕ) → lookup (is_at (nat_cmp q)) fs ≡ cond (is_at (nat_cmp k) q) None (lookup (is_at (nat_cmp q)) es)) → map.from_entries {R = nat_cmp} fs ≡ map.remove (map.from_entries es) k
@@ -33,7 +36,7 @@ both_none : (b : Bool) (o : Option Run) → o ≡ None → cond b None o ≡ Non
 both_none true o h = refl
 both_none false o h = h
 
-pub given_removed : (g : ℕ) (m n : RunMap) (k : ℕ) → AllGiven g m → n ≡ map.remove m k → AllGiven g n
+given_removed : (g : ℕ) (m n : RunMap) (k : ℕ) → AllGiven g m → n ≡ map.remove m k → AllGiven g n
 given_removed g m n k h is i p = ap (λ q. map.get q i) is ∙ get-remove nat_cmp_total m k i ∙ both_none _ _ (h i p)
 
 apart : (m : RunMap) (k i : ℕ) (r : Run) → k < i → map.get (map.insert m k r) i ≡ map.get m i
@@ -42,10 +45,10 @@ apart m k i r p = get-insert nat_cmp_total m k r i ∙ (elim (eq_by_cmp nat_cmp 
   | false ↦ λ e. refl
 ]) refl
 
-pub given_started : (g : ℕ) (m n : RunMap) (r : Run) → AllGiven g m → n ≡ map.insert m (g + 1) r → AllGiven (g + 1) n
+given_started : (g : ℕ) (m n : RunMap) (r : Run) → AllGiven g m → n ≡ map.insert m (g + 1) r → AllGiven (g + 1) n
 given_started g m n r h is i p = ap (λ q. map.get q i) is ∙ apart m (g + 1) i r p ∙ h i (omega arith)
 
-pub given_withdrawn : (g : ℕ) (m n : RunMap) → 1 ≤ g → AllGiven g m → n ≡ map.remove m g → AllGiven (g - 1) n
+given_withdrawn : (g : ℕ) (m n : RunMap) → 1 ≤ g → AllGiven g m → n ≡ map.remove m g → AllGiven (g - 1) n
 given_withdrawn g m n some h is i p = ap (λ q. map.get q i) is ∙ get-remove nat_cmp_total m g i ∙ (elim (nat_lt g i) as (λ b. nat_lt g i ≡ b → cond (eq_by_cmp nat_cmp i g) None (map.get m i) ≡ None) [
   | true ↦ λ e. both_none _ _ (h i (ltb-true g i e))
   | false ↦ λ e. let last : i ≡ g = omega (arith, ltb-false g i e) in ap (λ b. cond b None (map.get m i)) (ap (λ j. eq_by_cmp nat_cmp j g) last ∙ ap is_eq (tied_itself nat_cmp_total g))
@@ -58,16 +61,75 @@ back g m n r h is =
     let given : g + 1 - 1 ≡ g = omega arith in
     λ j. record { runs = runs j; given = given j }
 
+-- ---- what is kept
+both : (g : ℕ) {a b : RunMap} {n k : CountMap} → a ≡ b → n ≡ k → AllKept g a n → AllKept g b k
+both g {a} {b} {n} {k} p q h = subst (AllKept g b) q (subst (λ x. AllKept g x n) p h)
+
+counts_removed : (g : ℕ) (m : RunMap) (n : CountMap) (k : ℕ) (o : Option Run) → map.get m k ≡ o → AllKept g m n → AllCounted g (map.remove m k) (uncounted n o)
+counts_removed g m n k None is h = subst (λ q. AllCounted g q n) (sym (none_removed nat_cmp_total nat_cmp-IsAntisymmetric m k is)) h.counted_all
+counts_removed g m n k (Some r) is h =
+    let p = inside g m n k h (λ none. let clash : None ≡ Some r = sym none ∙ is in cc) in
+    removed_counted g k m n r is p.0 p.1 h.counted_all
+
+kept_removed : (g : ℕ) (m : RunMap) (n : CountMap) (k : ℕ) → AllKept g m n → AllKept g (map.remove m k) (uncounted n (map.get m k))
+kept_removed g m n k h = record {
+  none_first = get-remove nat_cmp_total m k 0 ∙ both_none _ _ h.none_first;
+  given_all = given_removed g m _ k h.given_all refl;
+  counted_all = counts_removed g m n k (map.get m k) refl h;
+}
+
+pub removed : (g : ℕ) (m a : RunMap) (n b : CountMap) (k : ℕ) → AllKept g m n → a ≡ map.remove m k → b ≡ uncounted n (map.get m k) → AllKept g a b
+removed g m a n b k h is left = both g (sym is) (sym left) (kept_removed g m n k h)
+
+kept_withdrawn : (g : ℕ) (m : RunMap) (n : CountMap) → 1 ≤ g → AllKept g m n → AllKept (g - 1) (map.remove m g) (uncounted n (map.get m g))
+kept_withdrawn g m n some h = let all = kept_removed g m n g h in record {
+  none_first = all.none_first;
+  given_all = given_withdrawn g m _ some h.given_all refl;
+  counted_all = λ id. all.counted_all id ∙ ap kept_as (counted_lower g (map.remove m g) id some (gone_here m g));
+}
+
+pub taken_back : (g : ℕ) (m a : RunMap) (n b : CountMap) → 1 ≤ g → AllKept g m n → a ≡ map.remove m g → b ≡ uncounted n (map.get m g) → AllKept (g - 1) a b
+taken_back g m a n b some h is left = both (g - 1) (sym is) (sym left) (kept_withdrawn g m n some h)
+
+kept_started : (g : ℕ) (m : RunMap) (n : CountMap) (r : Run) → AllKept g m n → AllKept (g + 1) (map.insert m (g + 1) r) (more n r.id)
+kept_started g m n r h = let next : suc g ≡ g + 1 = omega arith in record {
+  none_first = put_there m (g + 1) r 0 (λ e. omega (arith, e)) ∙ h.none_first;
+  given_all = given_started g m _ r h.given_all refl;
+  counted_all = subst (λ x. AllCounted x (map.insert m x r) (more n r.id)) next (put_counted g m n r h.counted_all);
+}
+
+pub begun : (g : ℕ) (m a : RunMap) (n b : CountMap) (r : Run) → AllKept g m n → a ≡ map.insert m (g + 1) r → b ≡ more n r.id → AllKept (g + 1) a b
+begun g m a n b r h is left = both (g + 1) (sym is) (sym left) (kept_started g m n r h)
+
+pub none_kept : (a : RunMap) (n : CountMap) → a ≡ map.empty → n ≡ map.empty → AllKept 0 a n
+none_kept a n is none = both 0 (sym is) (sym none) (record {
+  none_first = get-empty nat_cmp 0;
+  given_all = λ i p. get-empty nat_cmp i;
+  counted_all = λ id. get-empty id_cmp id;
+})
+
 -- ---- a turn
-still_none : (a : RunMap) (i j : ℕ) (r s : Run) (over : Bool) → map.get a i ≡ Some r → map.get a j ≡ None → map.get (settled over (map.insert a i s) i) j ≡ None
-still_none a i j r s true here none = ap (λ q. map.get q j) (remove_put a i (Some s)) ∙ get-remove nat_cmp_total a i j ∙ both_none _ _ none
-still_none a i j r s false here none = get-insert nat_cmp_total a i s j ∙ (elim (eq_by_cmp nat_cmp j i) as (λ b. eq_by_cmp nat_cmp j i ≡ b → cond b (Some s) (map.get a j) ≡ None) [
+still_none : (a : RunMap) (i j : ℕ) (r s : Run) → map.get a i ≡ Some r → map.get a j ≡ None → map.get (map.insert a i s) j ≡ None
+still_none a i j r s here none = get-insert nat_cmp_total a i s j ∙ (elim (eq_by_cmp nat_cmp j i) as (λ b. eq_by_cmp nat_cmp j i ≡ b → cond b (Some s) (map.get a j) ≡ None) [
   | true ↦ λ e. let same = ap (map.get a) (nat_cmp-IsAntisymmetric j i ((Equal-is (nat_cmp j i)).0 e)) in let clash : None ≡ Some r = sym none ∙ same ∙ here in cc
   | false ↦ λ e. none
 ]) refl
 
-pub none_new : (a b c : RunMap) (i : ℕ) (r s : Run) (over : Bool) → map.get a i ≡ Some r → b ≡ map.insert a i s → c ≡ settled over b i → (j : ℕ) → map.get a j ≡ None → map.get c j ≡ None
-none_new a b c i r s over here set is j none = ap (λ q. map.get q j) (is ∙ ap (λ q. settled over q i) set) ∙ still_none a i j r s over here none
+kept_put : (g : ℕ) (a : RunMap) (n : CountMap) (i : ℕ) (r s : Run) → map.get a i ≡ Some r → s.id ≡ r.id → AllKept g a n → AllKept g (map.insert a i s) n
+kept_put g a n i r s here same h = record {
+  none_first = still_none a i 0 r s here h.none_first;
+  given_all = λ j p. still_none a i j r s here (h.given_all j p);
+  counted_all = same_counted g i a n r s here same h.counted_all;
+}
+
+kept_settled : (g : ℕ) (b : RunMap) (n : CountMap) (i : ℕ) (over : Bool) → AllKept g b n → AllKept g (settled over b i) (settled_counts over n (map.get b i))
+kept_settled g b n i true h = kept_removed g b n i h
+kept_settled g b n i false h = h
+
+pub kept_told : (g : ℕ) (a b c : RunMap) (n k : CountMap) (i : ℕ) (r s : Run) (over : Bool) → map.get a i ≡ Some r → s.id ≡ r.id → b ≡ map.insert a i s
+    → c ≡ settled over b i → k ≡ settled_counts over n (map.get b i) → AllKept g a n → AllKept g c k
+kept_told g a b c n k i r s over here same set is left h =
+    both g (sym is) (sym left) (kept_settled g b n i over (both g (sym set) refl (kept_put g a n i r s here same h)))
 
 put_back : (a : RunMap) (i : ℕ) (s : Run) (over : Bool) → settled over (map.insert a i s) i ≡ put_run a i (going s over)
 put_back a i s true = remove_put a i (Some s)
@@ -78,7 +140,7 @@ over_back s true = refl
 over_back s false = refl
 
 says_back : (s : Run) (x : TurnSays) → x ≡ says_of (followed s x)
-says_back s x = λ j. record { mark = x.mark; over = sym (over_back s x.over) j; wait = x.wait; reply = x.reply }
+says_back s x = λ j. record { mark = x.mark; over = sym (over_back s x.over) j; opens = x.opens; wait = x.wait; reply = x.reply }
 
 pub run_was_told : (d : Deployment) (changes : ℕ) (a b c : RunMap) (i : ℕ) (r s : Run) (t : Told) (x : Result TurnSays (Option Mark)) → map.get a i ≡ Some r → b ≡ map.insert a i s → c ≡ settled (ends_run x) b i
     → Turns s x (run_told d changes r t) → RunTold d changes a c i (map.get a i) t x

@@ -1,5 +1,7 @@
 -- The first statement of a deployment that the host does not carry out yet.
-use Rattle.std.specs.Prelude.{◌≡◌, ℕ, Bool, List, [], ◌∷◌, Option, Some, None, Result, Ok, Err}
+use Rattle.std.specs.Prelude.{◌≡◌, ℕ, Bool, true, List, [], ◌∷◌, Option, Some, None, Result, Ok, Err}
+use Rattle.beldi_value.specs.Id.{has_callees}
+use Rattle.beldi_value.specs.declared.id.IntentId.{IntentId}
 use Rattle.beldi_value.specs.declared.value.Value.{Value}
 use Rattle.beldi_tree.specs.declared.deployment.Deployment.{Deployment}
 use Rattle.beldi_tree.specs.declared.deployment.Func.{Func}
@@ -21,7 +23,7 @@ abbrev mutual
   unbuilt (read l n t k) = None
   unbuilt (write l t k e) = None
   unbuilt (condwrite l n t k r o e) = None
-  unbuilt (call l n f e) = Some l
+  unbuilt (call l n f e) = None
   unbuilt (async l f e) = Some l
   unbuilt (lock l t k) = None
   unbuilt (unlock l t k) = None
@@ -48,4 +50,4 @@ refused_at (Some l) = Err l
 
 -- no body wants an effect that the host does not carry out yet, whatever it is answered
 abbrev pub IsCarriedOut : Deployment → Type 0
-IsCarriedOut d = (func : ℕ) (args : Value) (inherited : Bool) (answers : List Answer) → kind_of (wants d func args inherited answers) ≡ Unbuilt → ⊥
+IsCarriedOut d = (id : IntentId) (func : ℕ) (args : Value) (inherited : Bool) (answers : List Answer) → has_callees id ≡ true → kind_of id (wants d func args inherited answers) ≡ Unbuilt → ⊥

@@ -1,4 +1,5 @@
 pub mod Built
+pub mod Counts
 pub mod Host
 pub mod Opening
 pub mod Parts

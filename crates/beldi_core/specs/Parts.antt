@@ -1,5 +1,5 @@
 -- An event is planned, and then followed: what holds between the two.
-use Rattle.std.specs.Prelude.{◌≡◌, ℕ, ◌-◌, ◌^◌, ◌≤◌, ◌<◌, true, ◌++◌, ◌∷◌, [], Option, Some, None, Result, Ok, Err, IsSome}
+use Rattle.std.specs.Prelude.{◌≡◌, ℕ, ◌-◌, ◌^◌, ◌≤◌, ◌<◌, true, ◌++◌, ◌∷◌, [], ◌+◌, ◌||◌, Bool, if◌then◌else◌, Option, Some, None, Result, Ok, Err, IsSome}
 use Rattle.std.specs.Option.{option_map}
 use Rattle.std.specs.FinMap as map
 use Rattle.std.specs.declared.alloc.AllocError.{AllocError}
@@ -25,11 +25,14 @@ use Rattle.beldi_step.specs.declared.run.Run.{Run}
 use Rattle.beldi_step.specs.declared.run.TurnSays.{TurnSays}
 use Rattle.beldi_step.specs.declared.run.Wait.{Wait}
 use Rattle.beldi_intent.specs.Intent.{binding_of}
-use Rattle.beldi_step.specs.Run.{run_asks}
-use Rattle.beldi_step.specs.Host.{Core, Plan, at_once, asks, plan, plan_of, counted, new_run, unbound, waiting, refused, ended_run, entry_of, AtOnce, Followed}
+use Rattle.beldi_step.specs.declared.run.Wait.TheVariants as wait
+use Rattle.beldi_step.specs.Run.{callee_of}
+use Rattle.beldi_step.specs.Host.{Core, Plan, at_once, asks, plan, plan_of, counted, run_plan, new_run, with_run, has_run, is_crowded, unbound, refused, ended_run, entry_of, AtOnce, Followed}
 use Rattle.beldi_core.specs.declared.host_core.HostCore.{HostCore}
 use Rattle.beldi_core.specs.declared.events.Planned.TheVariants as planned
 use Rattle.beldi_core.specs.declared.events.Planned.{Planned as Plans}
+use Rattle.beldi_core.specs.declared.events.RunAsks.{RunAsks}
+use Rattle.beldi_core.specs.declared.events.RunAsks.TheVariants as runs
 use Rattle.beldi_core.specs.declared.events.Pending.{Pending}
 use Rattle.beldi_core.specs.declared.events.Pending.TheVariants as pending
 use Rattle.beldi_core.specs.declared.runs.Names.{Names}
@@ -62,21 +65,27 @@ Named n None = ⊥
 Named n (Some r) = n ≡ named r.id
 
 -- ---- what was made ready for the answer; `spare` is how many places the book has
-pub record RequestReady (c : Core) (t f : ℕ) (spare : ℕ) : Type 0 where
-  pub run : runs_of c ≡ started (withdrawn (runs_of c)) (new_run (root_of t) f)
+pub record RequestReady (d : Deployment) (c : Core) (t f : ℕ) (spare : ℕ) : Type 0 where
+  pub run : runs_of c ≡ started (withdrawn (runs_of c)) (new_run d c (root_of t) f)
   pub given : 1 ≤ c.last_run
   pub room : 1 ≤ spare
 
 pub record RunReady (c : Core) (i : ℕ) (n : Names) (spare : ℕ) : Type 0 where
   pub live : IsSome (map.get c.runs i)
   pub names : Named n (map.get c.runs i)
+  pub given : c.last_run < c.taken
   pub room : 1 ≤ spare
 
-abbrev pub Ready : Pending → Core → ℕ → Type 0
-Ready pending.Ticket c spare = c.newest < 2 ^ 32 - 1
-Ready (pending.Request t f a) c spare = RequestReady c t f spare
-Ready (pending.Turn i n) c spare = RunReady c i n spare
-Ready (pending.Lost i n) c spare = RunReady c i n spare
+abbrev pub Ready : Deployment → Pending → Core → ℕ → Type 0
+Ready d pending.Ticket c spare = c.newest < 2 ^ 32 - 1
+Ready d (pending.Request t f a) c spare = RequestReady d c t f spare
+Ready d (pending.Turn i n) c spare = RunReady c i n spare
+Ready d (pending.Lost i n) c spare = RunReady c i n spare
+
+-- a request has the place of its run
+abbrev pub HasPlace : Pending → Core → Type 0
+HasPlace (pending.Request t f a) c = 1 ≤ c.last_run
+HasPlace p c = Unit
 
 -- ---- planning
 -- out of memory before anything was asked; of the events that ask nothing only one that starts a run may be so
@@ -84,29 +93,29 @@ abbrev pub NoMemory : Event → Core → Plan → Core → Result Seen AllocErro
 NoMemory e c (at_once b y) z r = AtOnce c b y z r
 NoMemory e c (asks q) z r = (z, r) ≡ refused e c OutOfMemory
 
-pub record Asking (e : Event) (c z : Core) (spare : ℕ) (q : Query) (p : Pending) (k : Plan) : Type 0 where
+pub record Asking (d : Deployment) (e : Event) (c z : Core) (spare : ℕ) (q : Query) (p : Pending) (k : Plan) : Type 0 where
   pub is : k ≡ asks q
   pub event : event_of p ≡ e
   pub core : base e z ≡ c
-  pub ready : Ready p z spare
+  pub ready : Ready d p z spare
 
-abbrev pub PlannedBy : Event → Core → Core → ℕ → Plan → Result Plans AllocError → Type 0
-PlannedBy e c z spare k (Ok (planned.Now y)) = k ≡ at_once z y
-PlannedBy e c z spare k (Ok (planned.Asks q p)) = Asking e c z spare q p k
-PlannedBy e c z spare k (Err w) = NoMemory e c k z (Err w)
+abbrev pub PlannedBy : Deployment → Event → Core → Core → ℕ → Plan → Result Plans AllocError → Type 0
+PlannedBy d e c z spare k (Ok (planned.Now y)) = k ≡ at_once z y
+PlannedBy d e c z spare k (Ok (planned.Asks q p)) = Asking d e c z spare q p k
+PlannedBy d e c z spare k (Err w) = NoMemory e c k z (Err w)
 
 -- an event that was counted
-abbrev pub PlannedOf : Event → Core → Core → ℕ → Result Plans AllocError → Type 0
-PlannedOf e c z spare r = PlannedBy e c z spare (plan_of e c) r
+abbrev pub PlannedOf : Deployment → Event → Core → Core → ℕ → Result Plans AllocError → Type 0
+PlannedOf d e c z spare r = PlannedBy d e c z spare (plan_of d e c) r
 
-abbrev pub Planned : Event → Core → Core → ℕ → Result Plans AllocError → Type 0
-Planned e c z spare r = PlannedBy e (counted c) z spare (plan e c) r
+abbrev pub Planned : Deployment → Event → Core → Core → ℕ → Result Plans AllocError → Type 0
+Planned d e c z spare r = PlannedBy d e (counted c) z spare (plan d e c) r
 
--- what a run of this number asks
-abbrev pub RunPlanned : Core → Core → ℕ → Option Run → ℕ → Result (Option (Query × Names)) AllocError → Type 0
-RunPlanned c z i None spare r = (z ≡ c) × (r ≡ Ok None)
-RunPlanned c z i (Some run) spare (Ok x) = (z ≡ c) × (x ≡ Some (run_asks run, named run.id)) × (1 ≤ spare)
-RunPlanned c z i (Some run) spare (Err w) = z ≡ ended_run c i
+-- the event of a run of this number
+abbrev pub RunPlanned : Core → Core → ℕ → Option Run → ℕ → Result RunAsks AllocError → Type 0
+RunPlanned c z i o spare (Ok (runs.Now y)) = run_plan c i o ≡ at_once z y
+RunPlanned c z i o spare (Ok (runs.Asks q n)) = (run_plan c i o ≡ asks q) × (z ≡ c) × RunReady c i n spare
+RunPlanned c z i o spare (Err w) = (q : Query) × (run_plan c i o ≡ asks q) × (z ≡ ended_run c i)
 
 -- ---- following
 -- a request whose run was started, by what its bind came to
@@ -118,10 +127,31 @@ abbrev pub BoundBy : Core → ℕ → ℕ → Value → Told → Core → Result
 BoundBy k t f a u z (Ok x) = BoundTo k t f a (binding_of u) z x
 BoundBy k t f a u z (Err w) = (z ≡ without_last k) × (lends u ≡ true)
 
--- the answer to a turn: what the run waits for, or what it did
-abbrev pub acted_by : IntentId → TurnSays → Option Wait → Seen
-acted_by id x (Some w) = waiting w
-acted_by id x None = seen.Acted (option_map (entry_of id) x.mark) x.over (option_map (λ (o : Outcome). (id.ticket, o)) x.reply)
+-- the answer to a turn that was made
+abbrev pub acted_by : IntentId → Option Mark → Bool → Option Outcome → Option ℕ → Seen
+acted_by id m over reply started = seen.Acted (option_map (entry_of id) m) started over (option_map (λ (o : Outcome). (id.ticket, o)) reply)
+
+-- a run of what is called is started, with its number
+abbrev pub started_by : Core → Option Run → Core × Option ℕ
+started_by c None = (c, None)
+started_by c (Some r) = (with_run c r, Some (c.last_run + 1))
+
+-- .. where that has none, and there is a place
+abbrev pub opened_by : Core → Option Run → Core × Option ℕ
+opened_by c None = (c, None)
+opened_by c (Some r) = if has_run c.runs r.id || is_crowded c then (c, None) else started_by c (Some r)
+
+abbrev pub made : IntentId → TurnSays → Core × Option ℕ → Core × Seen
+made id x p = (p.0, acted_by id x.mark x.over x.reply p.1)
+
+-- what follows of a turn, whose run is this one now
+abbrev pub followed_by : Core → Option Run → IntentId → TurnSays → Option Wait → Core × Seen
+followed_by c o id x None = made id x (if x.opens then opened_by c (callee_of o) else (c, None))
+followed_by c o id x (Some (wait.Held w)) = (c, seen.Held w)
+followed_by c o id x (Some (wait.Result callee)) =
+    if has_run c.runs callee then (c, seen.NotYet callee) else
+    if is_crowded c then (c, seen.Crowded) else
+    made id x (started_by c (callee_of o))
 
 abbrev pub mark_told : Result TurnSays (Option Mark) → Option Mark
 mark_told (Ok x) = x.mark

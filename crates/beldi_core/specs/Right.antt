@@ -1,13 +1,20 @@
 -- What the calls of a host keep. Where the table does not tell its rows, nothing is said.
-use Rattle.std.specs.Prelude.{◌≡◌, ℕ, ◌++◌, List, IsSome, IfSome, Option, Some, None}
+use Rattle.std.specs.Prelude.{◌≡◌, ℕ, ◌++◌, List, IsSome, IfSome, Option, Some, None, ◌<◌, Result, Ok}
+use Rattle.std.specs.declared.alloc.AllocError.{AllocError}
 use Rattle.std.specs.FinMap as map
 use Rattle.beldi_tree.specs.declared.deployment.Deployment.{Deployment}
 use Rattle.beldi_row.specs.declared.table.Table.{Ghosts}
-use Rattle.beldi_row.specs.Table.{Rows, Tells}
+use Rattle.beldi_row.specs.Table.{Rows, TableState, Tells}
 use Rattle.beldi_book.specs.declared.entry.Entry.{Entry}
 use Rattle.beldi_plain.specs.Plain.{PlainState, reply_of}
 use Rattle.beldi_plain.specs.Legal.{IsLegal, run_of}
 use Rattle.beldi_plain.specs.Listing.{listing_of}
+use Rattle.beldi_step.specs.declared.event.Event.{Event}
+use Rattle.beldi_step.specs.declared.event.Seen.{Seen}
+use Rattle.beldi_step.specs.declared.event.Seen.TheVariants.{Expired}
+use Rattle.beldi_step.specs.declared.run.Run.{Run}
+use Rattle.beldi_step.specs.Host.{Core, most_events, ended_run, counted}
+use Rattle.beldi_step.specs.Laws.{run_of_event}
 use Rattle.beldi_laws.specs.Right.{Right}
 use Rattle.beldi_laws.specs.OneAnswer.{OneAnswerPerStep, AnswersStay}
 use Rattle.beldi_laws.specs.Stands.{Stands}
@@ -16,6 +23,11 @@ use Rattle.beldi_core.specs.declared.host.Host.{Host}
 use Rattle.beldi_core.specs.declared.survey.ReplySeen.{ReplySeen}
 use Rattle.beldi_core.specs.declared.survey.ReplySeen.TheVariants.{Unknown, Gone, Waiting, Reply}
 use Rattle.beldi_core.specs.Host.{core_of}
+
+-- an event of a live run that is past its deadline leaves the table, and ends the run
+abbrev pub EndsLate : Event → Core → Core → TableState → TableState → Result Seen AllocError → Type 0
+EndsLate e c b old new r = (i : ℕ) (run : Run) → c.taken < most_events → run_of_event e ≡ Some i → map.get c.runs i ≡ Some run → run.deadline < c.now
+    → (r ≡ Ok Expired) × (b ≡ ended_run (counted c) i) × (new ≡ old)
 
 -- in the run of the book, the root of the ticket has no outcome
 abbrev pub HasNoReply : Deployment → List Entry → ℕ → Type 0

@@ -13,6 +13,7 @@ use Rattle.beldi_step.specs.declared.run.Run.{Run}
 use Rattle.beldi_step.specs.declared.run.TurnSays.{TurnSays}
 use Rattle.beldi_step.specs.Run.{Turned, run_asks, run_told}
 use Rattle.beldi_step.specs.Host.{put_run}
+use Rattle.beldi_core.specs.Counts.{CountMap, AllCounted, less}
 use Rattle.beldi_core.specs.declared.runs.Names.{Names}
 
 abbrev pub RunMap : Type 0
@@ -30,6 +31,12 @@ pub record Numbered : Type 0 where
 -- no number past this one has a run
 abbrev pub AllGiven : ℕ → RunMap → Type 0
 AllGiven given m = (i : ℕ) → given < i → map.get m i ≡ None
+
+-- what is kept of the runs is so
+pub record AllKept (given : ℕ) (m : RunMap) (n : CountMap) : Type 0 where
+  pub none_first : map.get m 0 ≡ None
+  pub given_all : AllGiven given m
+  pub counted_all : AllCounted given m n
 
 -- this is the least number of a run past that one; there is none where no run has a greater number
 abbrev pub IsLeastPast : ℕ → RunMap → Option ℕ → Type 0
@@ -58,12 +65,26 @@ asked_by (Some r) = Some (asked_of r)
 
 -- the answer to a turn
 abbrev pub says_of : Turned → TurnSays
-says_of t = record { mark = t.mark; over = is_none t.next; wait = t.wait; reply = t.reply }
+says_of t = record { mark = t.mark; over = is_none t.next; opens = t.opens; wait = t.wait; reply = t.reply }
 
 -- a run is gone after this
 abbrev pub ends_run : Result TurnSays (Option Mark) → Bool
 ends_run (Ok x) = x.over
 ends_run (Err m) = true
+
+-- .. and is counted no more
+abbrev pub uncounted : CountMap → Option Run → CountMap
+uncounted n None = n
+uncounted n (Some r) = less n r.id (map.get n r.id)
+
+abbrev pub settled_counts : Bool → CountMap → Option Run → CountMap
+settled_counts true n o = uncounted n o
+settled_counts false n o = n
+
+-- until when a run may act
+abbrev pub deadline_of : Option Run → Option ℕ
+deadline_of None = None
+deadline_of (Some r) = Some r.deadline
 
 abbrev pub settled : Bool → RunMap → ℕ → RunMap
 settled true m i = map.remove m i

@@ -1,12 +1,15 @@
 // What an event asks of the table, and what follows of what the table told. Nothing here touches a table.
-ghost use Rattle.std.specs.Prelude.{◌≡◌, ◌++◌, ◌+◌, ◌-◌, ◌≤◌, ◌<◌, ◌^◌, Ok, IfOk, IsSome, option_to_list};
+ghost use Rattle.std.specs.Prelude.{◌≡◌, ◌++◌, ◌+◌, ◌-◌, ◌≤◌, ◌<◌, ◌^◌, Ok, Some, IfOk, OnErr, IsSome, option_to_list};
 ghost use Rattle.std.specs.Option.{option_map};
 ghost use Rattle.std.specs.FinMap as map;
 ghost use Rattle.beldi_walk.specs.Query.{told_of};
 ghost use Rattle.beldi_step.specs.declared.event.Event.TheVariants as events;
-ghost use Rattle.beldi_step.specs.Host.{Core, Followed, entry_of as entry_by, marked, no_run as no_run_of, refused, refused_by, ticket_next, unbound};
+ghost use Rattle.beldi_tree.specs.declared.deployment.Deployment.{Deployment};
+ghost use Rattle.beldi_step.specs.Run.{callee_of};
+ghost use Rattle.beldi_step.specs.Host.{Core, Followed, at_once, crash_plan, tick_plan, new_run as new_run_of, entry_of as entry_by, marked, no_run as no_run_of, refused, refused_by, ticket_next, unbound};
+ghost use Rattle.beldi_core.specs.Runs.{asked_by};
 ghost use Rattle.beldi_core.specs.declared.events.Planned.TheVariants as planned;
-ghost use Rattle.beldi_core.specs.Parts.{core_in, Planned as IsPlanned, PlannedOf, RunPlanned, Ready, event_of, base, BoundBy, Named, mark_told, acted_by};
+ghost use Rattle.beldi_core.specs.Parts.{core_in, Planned as IsPlanned, PlannedOf, RunPlanned, Ready, HasPlace, event_of, base, BoundBy, Named, mark_told, acted_by, followed_by, opened_by, started_by};
 
 use crate::host_core::HostCore;
 use crate::runs::Names;
@@ -14,14 +17,16 @@ use beldi_book::{Book, Entry};
 use beldi_intent::{Binding, bind_query, bind_told, issue_query, issue_told};
 use beldi_lang::Deployment;
 use beldi_row::TableErr;
-use beldi_step::{Event, Mark, Run, Seen, TurnSays, Wait};
-use beldi_value::{IntentId, Value};
+use beldi_step::{Event, Mark, Run, RunAt, Seen, TurnSays, Wait};
+use beldi_value::{IntentId, Outcome, Value};
 use beldi_walk::{Heard, Query};
 use std::alloc::AllocError;
 
 const MOST_EVENTS: u64 = 1 << 62;
 
 const MOST_RUNS: usize = 1024;
+
+const LAST_MOMENT: u64 = 1 << 62;
 
 /// An event that asked something of the table, and what it needs for the answer.
 #[derive(Drop)]
@@ -39,6 +44,13 @@ pub enum Planned {
     Now(Seen),
     /// It asks this.
     Asks(Query, Pending),
+}
+
+// What comes of the event of a run before the table is asked.
+#[derive(Drop)]
+enum RunAsks {
+    Now(Seen),
+    Asks(Query, Names),
 }
 
 // An error of the table, as an event is answered.
@@ -102,25 +114,23 @@ fn write(book: &mut Book, id: IntentId, mark: Option<Mark>)
     }
 }
 
-// The answer to a turn: what the run waits for, or what it did.
-fn seen_of(id: IntentId, says: TurnSays) -> Seen
-    ensures { result ≡ acted_by id says says.wait }
+// The answer to a turn that was made, which started this run.
+fn acted(
+    id: IntentId,
+    mark: Option<Mark>,
+    over: bool,
+    reply: Option<Outcome>,
+    started: Option<u64>,
+) -> Seen
+    ensures { result ≡ acted_by id mark over reply started }
 {
-    let TurnSays {
-        mark,
-        over,
-        wait,
-        reply,
-    } = says;
-    if let Some(Wait::Held(owner)) = wait {
-        return Seen::Held(owner);
-    }
     let reply = match reply {
         Some(outcome) => Some((id.ticket, outcome)),
         None => None,
     };
     Seen::Acted {
         entry: entry_if(id, mark),
+        started,
         over,
         reply,
     }
@@ -139,40 +149,40 @@ fn told_mark(turn: Result<TurnSays, Option<Mark>>) -> Option<Mark>
 impl HostCore {
     /// What an event asks of a table, or its answer. It makes the places that the answer will need; what the definition
     /// sees is as it was, but that the event was counted. Out of memory, a run that had the event is over.
-    pub fn plan(&mut self, event: Event) -> Result<Planned, AllocError>
-        ensures { IsPlanned event (core_in self.old) (core_in self.new) self.new.book.spare result }
+    pub fn plan(&mut self, code: &Deployment, event: Event) -> Result<Planned, AllocError>
+        ensures { IsPlanned code.now event (core_in self.old) (core_in self.new) self.new.book.spare result }
     {
         if self.taken >= MOST_EVENTS {
             return Ok(Planned::Now(Seen::Spent));
         }
         self.taken += 1;
-        self.plan_counted(event)
+        self.plan_counted(code, event)
     }
 
     // What an event asks that was counted.
-    fn plan_counted(&mut self, event: Event) -> Result<Planned, AllocError>
+    fn plan_counted(&mut self, code: &Deployment, event: Event) -> Result<Planned, AllocError>
         requires given { self.old.runs.given < self.old.taken }
-        requires few { self.old.taken ≤ 2 ^ 62 }
-        ensures { PlannedOf event (core_in self.old) (core_in self.new) self.new.book.spare result }
+        ensures { PlannedOf code.now event (core_in self.old) (core_in self.new) self.new.book.spare result }
     {
         match event {
             Event::Ticket => Ok(self.plan_ticket()),
-            Event::Request { ticket, func, args } => self.plan_request(ticket, func, args),
+            Event::Request { ticket, func, args } => self.plan_request(code, ticket, func, args),
             Event::Turn(run) => match self.plan_run(run)? {
-                None => Ok(Planned::Now(no_run(run, self.runs.given()))),
-                Some((query, names)) => Ok(Planned::Asks(query, Pending::Turn(run, names))),
+                RunAsks::Now(seen) => Ok(Planned::Now(seen)),
+                RunAsks::Asks(query, names) => Ok(Planned::Asks(query, Pending::Turn(run, names))),
             },
             Event::Lost(run) => match self.plan_run(run)? {
-                None => Ok(Planned::Now(no_run(run, self.runs.given()))),
-                Some((query, names)) => Ok(Planned::Asks(query, Pending::Lost(run, names))),
+                RunAsks::Now(seen) => Ok(Planned::Now(seen)),
+                RunAsks::Asks(query, names) => Ok(Planned::Asks(query, Pending::Lost(run, names))),
             },
             Event::Crash(run) => Ok(Planned::Now(self.crash(run))),
-            Event::Restart { id, func } => self.restart(id, func),
+            Event::Restart { id, func } => self.restart(code, id, func),
+            Event::Tick(ticks) => Ok(Planned::Now(self.tick(ticks))),
         }
     }
 
     fn plan_ticket(&mut self) -> Planned
-        ensures { PlannedOf events.Ticket (core_in self.old) (core_in self.new) self.new.book.spare (Ok result) }
+        ensures { (d : Deployment) → PlannedOf d events.Ticket (core_in self.old) (core_in self.new) self.new.book.spare (Ok result) }
     {
         if self.newest == u32::MAX {
             return Planned::Now(Seen::NoTicket);
@@ -181,10 +191,15 @@ impl HostCore {
     }
 
     // A request has its run's place while it waits for its answer.
-    fn plan_request(&mut self, ticket: u32, func: u16, args: Value) -> Result<Planned, AllocError>
+    fn plan_request(
+        &mut self,
+        code: &Deployment,
+        ticket: u32,
+        func: u16,
+        args: Value,
+    ) -> Result<Planned, AllocError>
         requires given { self.old.runs.given < self.old.taken }
-        requires few { self.old.taken ≤ 2 ^ 62 }
-        ensures { PlannedOf (events.Request ticket func args) (core_in self.old) (core_in self.new) self.new.book.spare result }
+        ensures { PlannedOf code.now (events.Request ticket func args) (core_in self.old) (core_in self.new) self.new.book.spare result }
     {
         if ticket == 0 || ticket > self.newest {
             return Ok(Planned::Now(Seen::Unknown(ticket)));
@@ -194,29 +209,38 @@ impl HostCore {
         }
         self.book.reserve()?;
         let query = bind_query(self.alloc, ticket, func, args.copy(self.alloc)?);
-        self.runs.start(Run {
-            id: IntentId::root(self.alloc, ticket),
-            func,
-            at: None,
-        })?;
+        let run = self.new_run(code, IntentId::root(self.alloc, ticket), func);
+        self.runs.start(self.alloc, run)?;
         Ok(Planned::Asks(query, Pending::Request { ticket, func, args }))
     }
 
-    // What the run of this number asks, none where it is not live. A place in the book is taken for the entry of its act.
-    // Out of memory, the run is over.
-    fn plan_run(&mut self, run: u64) -> Result<Option<(Query, Names)>, AllocError>
+    // A run of an intent, which may act for the deployment's life from now on.
+    fn new_run(&self, code: &Deployment, id: IntentId, func: u16) -> Run
+        ensures { result ≡ new_run_of code.now (core_in self.entry.now) id func }
+    {
+        Run {
+            id,
+            func,
+            deadline: self.now.saturating_add(code.life),
+            at: RunAt::Looks,
+        }
+    }
+
+    // What the run of this number asks. A place in the book is taken for the entry of its act. A run that is past its
+    // deadline is over; and so is one that is out of memory.
+    fn plan_run(&mut self, run: u64) -> Result<RunAsks, AllocError>
+        requires given { self.old.runs.given < self.old.taken }
         ensures { RunPlanned (core_in self.old) (core_in self.new) run (map.get self.old.runs.runs run) self.new.book.spare result }
     {
-        let asked = self.runs.ask(run, self.alloc);
-        match asked {
-            Ok(None) => Ok(None),
-            Ok(Some(asked)) => {
-                if self.book.reserve().is_err() {
-                    self.runs.remove(run);
-                    return Err(AllocError);
-                }
-                Ok(Some(asked))
-            }
+        let Some(deadline) = self.runs.deadline(run) else {
+            return Ok(RunAsks::Now(no_run(run, self.runs.given())));
+        };
+        if self.now > deadline {
+            self.runs.remove(run);
+            return Ok(RunAsks::Now(Seen::Expired));
+        }
+        match self.ask_run(run) {
+            Ok((query, names)) => Ok(RunAsks::Asks(query, names)),
             Err(why) => {
                 self.runs.remove(run);
                 Err(why)
@@ -224,28 +248,51 @@ impl HostCore {
         }
     }
 
+    fn ask_run(&mut self, run: u64) -> Result<(Query, Names), AllocError>
+        requires { IsSome (map.get self.old.runs.runs run) }
+        ensures ok { IfOk result (λ x. (asked_by (map.get self.old.runs.runs run) ≡ Some x) × (1 ≤ self.new.book.spare)) }
+        ensures core { core_in self.new ≡ core_in self.old }
+    {
+        self.book.reserve()?;
+        match self.runs.ask(run, self.alloc)? {
+            Some(asked) => Ok(asked),
+            None => unreachable!(),
+        }
+    }
+
     // Ends a run between two turns.
     fn crash(&mut self, run: u64) -> Seen
-        ensures { PlannedOf (events.Crash run) (core_in self.old) (core_in self.new) self.new.book.spare (Ok (planned.Now result)) }
+        ensures { at_once (core_in self.new) result ≡ crash_plan (core_in self.old) run (map.get self.old.runs.runs run) }
     {
-        if !self.runs.is_live(run) {
+        let Some(deadline) = self.runs.deadline(run) else {
             return no_run(run, self.runs.given());
-        }
+        };
+        let late = self.now > deadline;
         self.runs.remove(run);
-        Seen::Crashed
+        if late { Seen::Expired } else { Seen::Crashed }
+    }
+
+    // So many ticks pass, if the moment stays at most the last one.
+    fn tick(&mut self, ticks: u64) -> Seen
+        ensures { at_once (core_in self.new) result ≡ tick_plan (core_in self.old) ticks }
+    {
+        if ticks > LAST_MOMENT - self.now {
+            return Seen::ClockEnd;
+        }
+        self.now += ticks;
+        Seen::Now(self.now)
     }
 
     // Starts another run of an intent.
-    fn restart(&mut self, id: IntentId, func: u16) -> Result<Planned, AllocError>
+    fn restart(&mut self, code: &Deployment, id: IntentId, func: u16) -> Result<Planned, AllocError>
         requires given { self.old.runs.given < self.old.taken }
-        requires few { self.old.taken ≤ 2 ^ 62 }
-        ensures { PlannedOf (events.Restart id func) (core_in self.old) (core_in self.new) self.new.book.spare result }
+        ensures { PlannedOf code.now (events.Restart id func) (core_in self.old) (core_in self.new) self.new.book.spare result }
     {
         if self.runs.len() >= MOST_RUNS {
             return Ok(Planned::Now(Seen::Crowded));
         }
-        let run = self.runs.start(Run { id, func, at: None })?;
-        Ok(Planned::Now(Seen::Started(run)))
+        let run = self.new_run(code, id, func);
+        Ok(Planned::Now(Seen::Started(self.runs.start(self.alloc, run)?)))
     }
 
     /// What follows of an event where the table told.
@@ -255,7 +302,7 @@ impl HostCore {
         pending: Pending,
         heard: Heard<'_>,
     ) -> Result<Seen, AllocError>
-        requires { Ready pending (core_in self.old) self.old.book.spare }
+        requires { Ready code.now pending (core_in self.old) self.old.book.spare }
         ensures { Followed code.now (event_of pending) (base (event_of pending) (core_in self.old)) (Ok (told_of heard.entry)) (core_in self.new) result }
     {
         match pending {
@@ -268,7 +315,7 @@ impl HostCore {
 
     /// What follows of an event where the table refused.
     pub fn refused(&mut self, pending: Pending, why: TableErr) -> Result<Seen, AllocError>
-        requires { Ready pending (core_in self.old) self.old.book.spare }
+        requires { HasPlace pending (core_in self.old) }
         ensures { (core_in self.new, result) ≡ refused (event_of pending) (base (event_of pending) (core_in self.old)) why }
     {
         match pending {
@@ -348,18 +395,88 @@ impl HostCore {
         requires spare { 1 ≤ self.old.book.spare }
         requires live { IsSome (map.get self.old.runs.runs run) }
         requires names { Named names (map.get self.old.runs.runs run) }
+        requires given { self.old.runs.given < self.old.taken }
         ensures { Followed code.now (events.Turn run) (core_in self.old) (Ok (told_of heard.entry)) (core_in self.new) result }
     {
         let changes = self.book.changes();
         match self.runs.told(run, self.alloc, code, changes, heard) {
             Ok(says) => {
                 write(&mut self.book, names.book, says.mark);
-                Ok(seen_of(names.told, says))
+                match self.after_turn(run, names.told, says) {
+                    Ok(seen) => Ok(seen),
+                    Err(why) => {
+                        self.runs.remove(run);
+                        Err(why)
+                    }
+                }
             }
             Err(mark) => {
                 write(&mut self.book, names.book, mark);
                 Err(AllocError)
             }
+        }
+    }
+
+    // What follows of a turn: it was made, or the run waits. A run of what it calls may be started; where there is no memory
+    // for it, nothing is done.
+    fn after_turn(&mut self, run: u64, id: IntentId, says: TurnSays) -> Result<Seen, AllocError>
+        requires given { self.old.runs.given < self.old.taken }
+        ensures ok { IfOk result (λ x. (core_in self.new, x) ≡ followed_by (core_in self.old) (map.get self.old.runs.runs run) id says says.wait) }
+        ensures err { OnErr result (core_in self.new ≡ core_in self.old) }
+    {
+        let TurnSays {
+            mark,
+            over,
+            opens,
+            wait,
+            reply,
+        } = says;
+        let started = match wait {
+            None => { if opens { self.start_opened(run)? } else { None } }
+            Some(Wait::Held(owner)) => return Ok(Seen::Held(owner)),
+            Some(Wait::Result(callee)) => {
+                if self.runs.has_run(&callee) {
+                    return Ok(Seen::NotYet(callee));
+                }
+                if self.runs.len() >= MOST_RUNS {
+                    return Ok(Seen::Crowded);
+                }
+                self.start_called(run)?
+            }
+        };
+        Ok(acted(id, mark, over, reply, started))
+    }
+
+    // Starts a run of what was called, where that has no live run and there is a place for one.
+    fn start_opened(&mut self, run: u64) -> Result<Option<u64>, AllocError>
+        requires given { self.old.runs.given < self.old.taken }
+        ensures ok { IfOk result (λ n. (core_in self.new, n) ≡ opened_by (core_in self.old) (callee_of (map.get self.old.runs.runs run))) }
+        ensures err { OnErr result (core_in self.new ≡ core_in self.old) }
+    {
+        if self.runs.len() >= MOST_RUNS {
+            return Ok(None);
+        }
+        match self.runs.callee(run, self.alloc)? {
+            Some(callee) => {
+                if self.runs.has_run(&callee.id) {
+                    drop(callee);
+                    return Ok(None);
+                }
+                Ok(Some(self.runs.start(self.alloc, callee)?))
+            }
+            None => Ok(None),
+        }
+    }
+
+    // Starts a run of what is called.
+    fn start_called(&mut self, run: u64) -> Result<Option<u64>, AllocError>
+        requires given { self.old.runs.given < self.old.taken }
+        ensures ok { IfOk result (λ n. (core_in self.new, n) ≡ started_by (core_in self.old) (callee_of (map.get self.old.runs.runs run))) }
+        ensures err { OnErr result (core_in self.new ≡ core_in self.old) }
+    {
+        match self.runs.callee(run, self.alloc)? {
+            Some(callee) => Ok(Some(self.runs.start(self.alloc, callee)?)),
+            None => Ok(None),
         }
     }
 

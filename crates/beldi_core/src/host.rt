@@ -6,7 +6,7 @@ use crate::host_core::HostCore;
 use crate::runs::Runs;
 use crate::survey::{OpenErr, ReplySeen, list_tables, prepare, read_reply};
 use beldi_book::Book;
-use beldi_lang::Deployment;
+use beldi_check::Checked;
 use beldi_row::Table;
 use beldi_step::{Event, Seen};
 use beldi_value::Str;
@@ -16,7 +16,7 @@ use std::alloc::{AllocError, Global};
 /// A host: a deployment over a table, with what it knows beside them.
 #[derive(Drop)]
 pub struct Host<T: Table> {
-    code: Deployment,
+    code: Checked,
     core: HostCore,
     table: T,
     ghost few: { core.runs.given ≤ core.taken },
@@ -32,13 +32,13 @@ impl<T: Table> Host<T> {
     ghost use Rattle.beldi_core.specs.Host.{core_of};
     ghost use Rattle.beldi_core.specs.Parts.{core_in, Ready, Asked};
     ghost use Rattle.beldi_laws.specs.Laws.{is_gone};
-    ghost use Rattle.beldi_core.specs.Right.{IsRight, HasLegalBook, AnswersAreKept, HasRows, ListsRun, TellsRun, HasNoRows, RowsStandFor};
+    ghost use Rattle.beldi_core.specs.Right.{EndsLate, IsRight, HasLegalBook, AnswersAreKept, HasRows, ListsRun, TellsRun, HasNoRows, RowsStandFor};
 
     /// Opens a host over a table whose rows it keeps: sets the table's room, and reads all keys to find the newest
     /// ticket. `now` is the moment, in ticks. Where it refuses, it gives the table back.
     pub fn open(
         alloc: Global,
-        code: Deployment,
+        code: Checked,
         mut table: T,
         now: u64,
     ) -> Result<Host<T>, (T, OpenErr)>
@@ -48,7 +48,7 @@ impl<T: Table> Host<T> {
         ensures newest { IfOk result (λ h. NewestAt (T.state table).rows h.core.newest) }
         ensures right { IfOk result (λ h. HasNoRows (T.state table).rows → IsRight h) }
     {
-        match prepare(alloc, code.room, &mut table) {
+        match prepare(alloc, code.code().room, &mut table) {
             Ok(newest) => Ok(Host {
                 code,
                 core: HostCore {
@@ -79,7 +79,7 @@ impl<T: Table> Host<T> {
     }
 
     /// The deployment.
-    pub fn code(&self) -> &Deployment
+    pub fn code(&self) -> &Checked
         ensures { result.now ≡ self.entry.now.code }
     {
         &self.code
@@ -133,7 +133,7 @@ impl<T: Table> Host<T> {
         ensures core { core_of self.new ≡ core_of self.old }
         ensures code { self.new.code ≡ self.old.code }
     {
-        let text = list_tables(self.core.alloc, &self.code, &mut self.table)?;
+        let text = list_tables(self.core.alloc, self.code.code(), &mut self.table)?;
         out.push_text(text.as_str())?;
         Ok(())
     }
@@ -172,8 +172,8 @@ impl<T: Table> Host<T> {
 
     /// Carries out one event, with at most one call of the table's `act` or `next`; an event that is answered at once makes
     /// none. Out of memory, nothing was done, but that the event counts as taken, and that a run that had it is over; the act
-    /// of a turn may then have been made, and the book has its entry. A crash takes no memory, and of the events that make no
-    /// act only a restart may be out of it. Over rows that are told it is the relation that `a_step_over_rows` of `beldi_step`
+    /// of a turn may then have been made, and the book has its entry. A crash and a tick take no memory, and of the events that
+    /// make no act only a restart may be out of it. A run that is past its deadline makes no act. Over rows that are told it is the relation that `a_step_over_rows` of `beldi_step`
     /// gives.
     pub fn event(&mut self, event: Event) -> Result<Seen, AllocError>
         ensures step { Stepped self.old.code event (core_of self.old) (core_of self.new) (T.state self.old.table) (T.state self.new.table) result }
@@ -181,6 +181,7 @@ impl<T: Table> Host<T> {
         ensures right { IsRight self.old → IsRight self.new }
         ensures answers_stay { AnswersAreKept self.old self.new }
         ensures has_rows { HasRows self.old → IsRight self.old → IfOk result (λ x. is_gone x ≡ false) }
+        ensures in_time { EndsLate event (core_of self.old) (core_of self.new) (T.state self.old.table) (T.state self.new.table) result }
     {
         self.step(event)
     }
@@ -190,7 +191,7 @@ impl<T: Table> Host<T> {
         ensures step { Stepped self.old.code event (core_of self.old) (core_of self.new) (T.state self.old.table) (T.state self.new.table) result }
         ensures code { self.new.code ≡ self.old.code }
     {
-        match self.core.plan(event)? {
+        match self.core.plan(self.code.code(), event)? {
             Planned::Now(seen) => Ok(seen),
             Planned::Asks(query, pending) => self.ask(query, pending),
         }
@@ -198,17 +199,19 @@ impl<T: Table> Host<T> {
 
     // The one query of an event, and what follows.
     fn ask(&mut self, query: Query, pending: Pending) -> Result<Seen, AllocError>
-        requires { Ready pending (core_of self.old) self.old.core.book.spare }
+        requires { Ready self.old.code pending (core_of self.old) self.old.core.book.spare }
         ensures asked { Asked self.old.code pending (core_of self.old) (core_of self.new) query (T.state self.old.table) (T.state self.new.table) result }
         ensures code { self.new.code ≡ self.old.code }
     {
         match query {
             Query::Act(key, act) => match self.table.act(key, act, self.core.now) {
-                Ok(said) => self.core.told(&self.code, pending, Heard::Said(said)),
+                Ok(said) => self.core.told(self.code.code(), pending, Heard::Said(said)),
                 Err(why) => self.core.refused(pending, why),
             },
             Query::After(key) => match self.table.next(&key) {
-                Ok(found) => self.core.told(&self.code, pending, Heard::Found(found)),
+                Ok(found) => self
+                    .core
+                    .told(self.code.code(), pending, Heard::Found(found)),
                 Err(why) => self.core.refused(pending, why),
             },
         }

@@ -1,5 +1,5 @@
 // The host without its deployment and its table.
-ghost use Rattle.std.specs.Prelude.{◌≤◌};
+ghost use Rattle.std.specs.Prelude.{◌≤◌, ◌^◌};
 
 use crate::runs::Runs;
 use beldi_book::Book;
@@ -16,4 +16,6 @@ pub struct HostCore {
     pub now: u64,
     pub taken: u64,
     ghost few: { runs.given ≤ taken },
+    ghost events: { taken ≤ 2 ^ 62 },
+    ghost early: { now ≤ 2 ^ 62 },
 }

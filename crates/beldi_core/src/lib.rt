@@ -2,9 +2,9 @@
 //! table at most one thing, and is followed by what the table told; only `Host` touches the table.
 //! It stands on `beldi_step`, which says what one event does, and on `beldi_laws`, which says what every event keeps. Its
 //! definitions: `specs/Host` (the host as the core that events speak of), `specs/Parts` (what holds between an event's
-//! question and its answer), `specs/Runs` (the live runs by number), `specs/Survey` (calls that read the rows),
-//! `specs/Opening` (their errors), `specs/Built` (what it can carry out of a deployment) and `specs/Right` (what the calls
-//! keep, and what a right host has).
+//! question and its answer), `specs/Runs` (the live runs by number), `specs/Counts` (how many of them each intent has),
+//! `specs/Survey` (calls that read the rows), `specs/Opening` (their errors), `specs/Built` (what it can carry out of a
+//! deployment) and `specs/Right` (what the calls keep, and what a right host has).
 //!
 //! Proved:
 //! - `Host::event` is one step of the definition, for every table that keeps the trait's contract; crashes, lost
@@ -15,11 +15,12 @@
 //!   `a_step_over_any_table`, `a_dropped_answer_has_a_cause`).
 //! - `reply` makes at most one call of the table's `act` and `next` (`calls`), and none for a ticket that was not issued,
 //!   which leaves the table as it was (`untouched`).
+//! - A run that is past its deadline makes no act: its event makes no call of the table, and the run is over (`in_time`).
 //! - What the rows held at a step stays after an event, whether the host is right or not (`answers_stay`).
 //! - Where the host is right and its table tells its rows, no ticket is answered `gone` (`has_rows`).
 //! - `Host::rows` tells how many rows the table has, as `len` does (`IsCount`).
-//! - `built` tells the line of the first statement that the host cannot carry out yet (`exact`); no body of a
-//!   deployment that has none comes to an effect that is not carried out (`carried`).
+//! - `built` tells the line of the first statement that the host cannot carry out yet (`exact`); where there
+//!   is none, no body of an instance whose id may have callees comes to an effect that is not carried out (`carried`).
 //! - `Host::open`, at a moment of at most 2^62, finds the newest ticket, which is the greatest that any key names
 //!   (`newest`), and changes no row (`ok`); where it refuses, it gives the table back (`err`).
 //! - `Host::tables` and `Host::reply` say what the rows say, and change nothing (`reads`, `err`, `unknown`, `core`,
@@ -34,6 +35,7 @@
 //! - `next_run` is the least live run past a number (`IsLeastPast`).
 #![tactic(auto)]
 
+mod counts;
 mod events;
 mod host;
 mod host_core;

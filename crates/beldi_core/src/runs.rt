@@ -1,9 +1,13 @@
 // The live runs of a host, by number.
-ghost use Rattle.std.specs.Prelude.{◌≡◌, ℕ, ◌+◌, ◌-◌, ◌^◌, ◌<◌, ◌≤◌, None, is_some, IsSome, IfOk, OnOk, OnErr};
+ghost use Rattle.std.specs.Prelude.{◌≡◌, ℕ, ◌+◌, ◌-◌, ◌^◌, ◌<◌, ◌≤◌, IsSome, IfOk, IfErr, OnOk, OnErr};
 ghost use Rattle.std.specs.FinMap as map;
 ghost use Rattle.beldi_walk.specs.Query.{told_of};
-ghost use Rattle.beldi_core.specs.Runs.{map_of, IsLeastPast, started, withdrawn, ends_run, settled, asked_of, asked_by, RunTold};
+ghost use Rattle.beldi_core.specs.Runs.{map_of, IsLeastPast, started, withdrawn, ends_run, settled, uncounted, settled_counts, deadline_of, AllKept, asked_of, asked_by, RunTold};
+ghost use Rattle.beldi_core.specs.Counts.{count_at, more, kept_as};
+ghost use Rattle.beldi_step.specs.Host.{has_run};
+ghost use Rattle.beldi_step.specs.Run.{callee_of};
 
+use crate::counts::Counts;
 use beldi_lang::Deployment;
 use beldi_step::{Mark, Run, TurnSays};
 use beldi_value::IntentId;
@@ -17,6 +21,7 @@ use std::ops::Bound;
 #[derive(Drop)]
 pub struct Runs {
     live: BTreeMap<u64, Run>,
+    counts: Counts,
     given: u64,
 }
 
@@ -25,7 +30,7 @@ impl Model for Runs {
     ghost use Rattle.std.specs.FinMap as map;
     ghost use Rattle.std.specs.Ordering.{nat_cmp};
     ghost use Rattle.beldi_step.specs.contracts.run.Run as run;
-    ghost use Rattle.beldi_core.specs.Runs.{Numbered, AllGiven, map_of};
+    ghost use Rattle.beldi_core.specs.Runs.{Numbered, AllKept, map_of};
 
     ghost Value = { Numbered };
 
@@ -33,23 +38,60 @@ impl Model for Runs {
 
     ghost view = { λ a. record { runs = map_of a.live; given = a.given } };
 
-    ghost invariant = { λ a. AllGiven a.given (map_of a.live) };
+    ghost invariant = { λ a. AllKept a.given (map_of a.live) a.counts };
 }
 
-fn put(live: &mut BTreeMap<u64, Run>, number: u64, run: Run) -> Result<(), AllocError>
+// Out of memory, the run is given back.
+fn put(live: &mut BTreeMap<u64, Run>, number: u64, run: Run) -> Result<(), Run>
     ensures ok { OnOk result (map_of live.new ≡ map.insert (map_of live.old) number run) }
-    ensures err { OnErr result (map_of live.new ≡ map_of live.old) }
+    ensures err { IfErr result (λ r. (r ≡ run) × (map_of live.new ≡ map_of live.old)) }
 {
     match live.insert(number, run) {
         Ok(_) => Ok(()),
-        Err(_) => Err(AllocError),
+        Err(failed) => Err(failed.value.1),
     }
 }
 
-fn take(live: &mut BTreeMap<u64, Run>, number: u64)
-    ensures { map_of live.new ≡ map.remove (map_of live.old) number }
+fn take(live: &mut BTreeMap<u64, Run>, number: u64) -> Option<Run>
+    ensures run { result ≡ map.get (map_of live.old) number }
+    ensures rest { map_of live.new ≡ map.remove (map_of live.old) number }
 {
-    let _ = live.remove(&number);
+    live.remove(&number)
+}
+
+// Out of memory, a count that was raised is lowered again.
+fn begin(
+    live: &mut BTreeMap<u64, Run>,
+    counts: &mut Counts,
+    alloc: Global,
+    number: u64,
+    run: Run,
+) -> Result<(), AllocError>
+    requires { count_at counts.old run.id < 2 ^ 64 - 1 }
+    ensures ok { OnOk result (map_of live.new ≡ map.insert (map_of live.old) number run) }
+    ensures counted { OnOk result (counts.new ≡ more counts.old run.id) }
+    ensures err { OnErr result (map_of live.new ≡ map_of live.old) }
+    ensures kept { (k : ℕ) → map.get counts.old run.id ≡ kept_as k → OnErr result (counts.new ≡ counts.old) }
+{
+    counts.add(alloc, &run.id)?;
+    match put(live, number, run) {
+        Ok(()) => Ok(()),
+        Err(run) => {
+            counts.take(&run.id);
+            drop(run);
+            Err(AllocError)
+        }
+    }
+}
+
+// Ends the run of this number, if it is live.
+fn end(live: &mut BTreeMap<u64, Run>, counts: &mut Counts, number: u64)
+    ensures rest { map_of live.new ≡ map.remove (map_of live.old) number }
+    ensures counts { counts.new ≡ uncounted counts.old (map.get (map_of live.old) number) }
+{
+    if let Some(run) = take(live, number) {
+        counts.take(&run.id);
+    }
 }
 
 // Whether a run is gone after this.
@@ -62,17 +104,19 @@ fn ends(turn: &Result<TurnSays, Option<Mark>>) -> bool
     }
 }
 
-fn settle(live: &mut BTreeMap<u64, Run>, number: u64, over: bool)
-    ensures { map_of live.new ≡ settled over (map_of live.old) number }
+fn settle(live: &mut BTreeMap<u64, Run>, counts: &mut Counts, number: u64, over: bool)
+    ensures rest { map_of live.new ≡ settled over (map_of live.old) number }
+    ensures counts { counts.new ≡ settled_counts over counts.old (map.get (map_of live.old) number) }
 {
     if over {
-        take(live, number);
+        end(live, counts, number);
     }
 }
 
 // The run of this number, which is live, is told.
 fn tell(
     live: &mut BTreeMap<u64, Run>,
+    counts: &mut Counts,
     number: u64,
     alloc: Global,
     code: &Deployment,
@@ -81,13 +125,13 @@ fn tell(
 ) -> Result<TurnSays, Option<Mark>>
     requires { IsSome (map.get (map_of live.old) number) }
     ensures told { RunTold code.now changes (map_of live.old) (map_of live.new) number (map.get (map_of live.old) number) (told_of heard.entry) result }
-    ensures none_new { (i : ℕ) → map.get (map_of live.old) i ≡ None → map.get (map_of live.new) i ≡ None }
+    ensures kept { (g : ℕ) → AllKept g (map_of live.old) counts.old → AllKept g (map_of live.new) counts.new }
 {
     let Some(run) = live.get_mut(&number) else {
         unreachable!()
     };
     let result = run.told(alloc, code, changes, heard);
-    settle(live, number, ends(&result));
+    settle(live, counts, number, ends(&result));
     result
 }
 
@@ -114,6 +158,7 @@ impl Runs {
     {
         Runs {
             live: BTreeMap::new(alloc),
+            counts: Counts::new(alloc),
             given: 0,
         }
     }
@@ -132,11 +177,31 @@ impl Runs {
         self.given
     }
 
-    /// Whether the run of this number is live.
-    pub fn is_live(&self, number: u64) -> bool
-        ensures { result ≡ is_some (map.get self.now.runs number) }
+    /// The deadline of the run of this number, if it is live.
+    pub fn deadline(&self, number: u64) -> Option<u64>
+        ensures { result ≡ deadline_of (map.get self.now.runs number) }
     {
-        self.live.contains_key(&number)
+        match self.live.get(&number) {
+            Some(run) => Some(run.deadline),
+            None => None,
+        }
+    }
+
+    /// Whether a run of this intent is live.
+    pub fn has_run(&self, id: &IntentId) -> bool
+        ensures { result ≡ has_run self.now.runs id.now }
+    {
+        self.counts.has(id)
+    }
+
+    /// A run of what the run of this number calls, if it is live and stands at a call.
+    pub fn callee(&self, number: u64, alloc: Global) -> Result<Option<Run>, AllocError>
+        ensures { IfOk result (λ r. r ≡ callee_of (map.get self.now.runs number)) }
+    {
+        match self.live.get(&number) {
+            Some(run) => run.callee(alloc),
+            None => Ok(None),
+        }
     }
 
     /// The least number of a live run past this one.
@@ -151,7 +216,7 @@ impl Runs {
     }
 
     /// Gives a run the next number, which is the answer.
-    pub fn start(&mut self, run: Run) -> Result<u64, AllocError>
+    pub fn start(&mut self, alloc: Global, run: Run) -> Result<u64, AllocError>
         requires { self.old.given < 2 ^ 64 - 1 }
         ensures number { IfOk result (λ n. n ≡ self.old.given + 1) }
         ensures ok { OnOk result (self.new ≡ started self.old run) }
@@ -159,7 +224,7 @@ impl Runs {
         ensures err { OnErr result (self.new ≡ self.old) }
     {
         let number = self.given + 1;
-        put(&mut self.live, number, run)?;
+        begin(&mut self.live, &mut self.counts, alloc, number, run)?;
         self.given = number;
         Ok(number)
     }
@@ -169,7 +234,7 @@ impl Runs {
         requires { 1 ≤ self.old.given }
         ensures { self.new ≡ withdrawn self.old }
     {
-        take(&mut self.live, self.given);
+        end(&mut self.live, &mut self.counts, self.given);
         self.given -= 1;
     }
 
@@ -177,7 +242,7 @@ impl Runs {
     pub fn remove(&mut self, number: u64)
         ensures { self.new ≡ record { runs = map.remove self.old.runs number; given = self.old.given } }
     {
-        take(&mut self.live, number);
+        end(&mut self.live, &mut self.counts, number);
     }
 
     /// What the run of this number asks, and its names; none where it is not live. Out of memory only where it is.
@@ -208,6 +273,14 @@ impl Runs {
         ensures told { RunTold code.now changes self.old.runs self.new.runs number (map.get self.old.runs number) (told_of heard.entry) result }
         ensures given { self.new.given ≡ self.old.given }
     {
-        tell(&mut self.live, number, alloc, code, changes, heard)
+        tell(
+            &mut self.live,
+            &mut self.counts,
+            number,
+            alloc,
+            code,
+            changes,
+            heard,
+        )
     }
 }

@@ -6,7 +6,7 @@ use Rattle.std.specs.Cmp.{nat_cmp_total}
 use Rattle.beldi_row.proofs.Rows.{get_rows, one_set}
 use Rattle.beldi_walk.specs.Query.{told_of}
 use Rattle.beldi_core.specs.Runs.{map_of, ends_run}
-use Rattle.beldi_core.proofs.RunMaps.{run_was_told, none_new, absent_run}
+use Rattle.beldi_core.proofs.RunMaps.{run_was_told, kept_told, absent_run}
 use Rattle.beldi_core.proofs.runs.tell.Goals as goal
 
 pub unreachable-requires : goal.unreachable-requires
@@ -20,14 +20,15 @@ returns-clause-told c =
     run_was_told c.args.code.now c.args.changes (map_of c.args.live.now) (map_of tree) (map_of c.settle.new.live) c.args.number c.in-Some.run'.now s (told_of c.args.heard) c.told-result.result
     (get_rows nat_cmp_total nat_cmp-IsAntisymmetric c.args.live.now.entries c.args.number ∙ sym c.get_mut.ensures.value ∙ ap option_copied_mut c.in-Some.is)
     (one_set nat_cmp_total nat_cmp-IsAntisymmetric c.args.live.now.entries tree.entries c.args.number s (h.3 (search rules)).0)
-    (search rules) c.told-result.ensures
+    (search rules) c.told-result.ensures.turns
 
-pub returns-clause-none_new : goal.returns-clause-none_new
-returns-clause-none_new c =
+pub returns-clause-kept : goal.returns-clause-kept
+returns-clause-kept c = λ g h.
     let s = c.told-result.new.self in
-    let h = c.get_mut.follows.holds s in
+    let f = c.get_mut.follows.holds s in
     let tree = c.get_mut.follows.lender s in
-    none_new (map_of c.args.live.now) (map_of tree) (map_of c.settle.new.live) c.args.number c.in-Some.run'.now s (ends_run c.told-result.result)
+    kept_told g (map_of c.args.live.now) (map_of tree) (map_of c.settle.new.live) c.args.counts.now c.settle.new.counts c.args.number c.in-Some.run'.now s (ends_run c.told-result.result)
     (get_rows nat_cmp_total nat_cmp-IsAntisymmetric c.args.live.now.entries c.args.number ∙ sym c.get_mut.ensures.value ∙ ap option_copied_mut c.in-Some.is)
-    (one_set nat_cmp_total nat_cmp-IsAntisymmetric c.args.live.now.entries tree.entries c.args.number s (h.3 (search rules)).0)
-    (search rules)
+    c.told-result.ensures.id
+    (one_set nat_cmp_total nat_cmp-IsAntisymmetric c.args.live.now.entries tree.entries c.args.number s (f.3 (search rules)).0)
+    (search rules) (search rules) h

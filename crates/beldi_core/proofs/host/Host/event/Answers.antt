@@ -1,5 +1,5 @@
 use Rattle.std.proofs.Common.{rules}
-use Rattle.beldi_core.proofs.Right.{event_keeps, event_stays, never_gone}
+use Rattle.beldi_core.proofs.Right.{event_keeps, event_stays, never_gone, ends_late}
 use Rattle.beldi_core.proofs.host.Host.event.Goals as goal
 
 pub returns-clause-right : goal.returns-clause-right
@@ -10,3 +10,6 @@ returns-clause-answers_stay g c = search (rules, event_stays)
 
 pub returns-clause-has_rows : goal.returns-clause-has_rows
 returns-clause-has_rows g c = search (rules, never_gone)
+
+pub returns-clause-in_time : goal.returns-clause-in_time
+returns-clause-in_time g c = search (rules, ends_late)

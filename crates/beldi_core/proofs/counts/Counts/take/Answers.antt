@@ -1,0 +1,10 @@
+use Rattle.std.proofs.Common.{rules, subst, ◌∙◌}
+use Rattle.std.specs.FinMap as map
+use Rattle.beldi_core.specs.Counts.{LoweredAt}
+use Rattle.beldi_core.proofs.CountMaps.{is_last}
+use Rattle.beldi_core.proofs.counts.Counts.take.Goals as goal
+
+pub returns-then-not-lower : goal.returns-then-not-lower
+returns-then-not-lower c =
+    let o = map.get c.args.self.now c.args.id.now in
+    c.end.ensures ∙ is_last c.args.self.now c.lower.new.self c.args.id.now o (subst (LoweredAt c.args.self.now c.lower.new.self c.args.id.now o) (search rules) c.lower.ensures)

@@ -1,0 +1,8 @@
+use Rattle.std.proofs.Common.{ap, ◌∙◌}
+use Rattle.beldi_step.specs.Host.{has_run}
+use Rattle.beldi_core.specs.Runs.{Numbered, map_of}
+use Rattle.beldi_core.proofs.Counting.{any_counted}
+use Rattle.beldi_core.proofs.runs.Runs.has_run.Goals as goal
+
+pub returns : goal.returns
+returns c = c.has.ensures ∙ any_counted c.self.inside.given (map_of c.self.inside.live) c.self.inside.counts c.args.id.now c.self.invariant ∙ ap (λ (v : Numbered). has_run v.runs c.args.id.now) c.self.view_is
