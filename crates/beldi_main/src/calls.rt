@@ -3,16 +3,17 @@ ghost use Rattle.std.specs.Prelude.{◌≡◌, []};
 
 use beldi_book::{Book, Entry};
 use beldi_call::{AsyncSays, AsyncWalk, CallSays, CallWalk};
+use beldi_check::{Checked, check};
 use beldi_core::Host;
 use beldi_daal::{CellOp, Item, ReadSays, ReadWalk, WriteSays, WriteWalk};
 use beldi_intent::{Binding, Put, bind, end, issue, look, register};
 use beldi_invokelog::{Back, call_back, open_once, registered, result};
-use beldi_lang::{Deployment, Machine};
+use beldi_lang::Machine;
 use beldi_lock::{LockSays, LockWalk};
 use beldi_outside::{Clock, ClosedLink, Failed, Link, MemClock, MemSource, read_up_to};
 use beldi_plain::{Bar, Plain, PlainErr};
 use beldi_readlog::{get, put_once};
-use beldi_row::{Body, Note, Table};
+use beldi_row::{Body, Table};
 use beldi_script::{read_line, write_line};
 use beldi_step::Event;
 use beldi_syntax::read_deployment;
@@ -24,8 +25,8 @@ use std::test::Fail;
 const CODE: &[u8] =
     b"life 9; function f(x) { table t; read v = t[\"k\"]; write t[\"k\"] = x; return v; }";
 
-fn deployment(alloc: Global) -> Result<Deployment, Fail> {
-    Ok(read_deployment(alloc, CODE)?.code)
+fn deployment(alloc: Global) -> Result<Checked, Fail> {
+    Ok(check(alloc, read_deployment(alloc, CODE)?.code)?)
 }
 
 #[test]
@@ -45,13 +46,14 @@ fn ids_and_values(rt: HostRuntime) -> Result<(), Fail> {
 }
 
 #[test]
-fn a_line_is_written(rt: HostRuntime) -> Result<(), Fail> {
+fn a_line_is_written_and_a_body_begins(rt: HostRuntime) -> Result<(), Fail> {
     let alloc = rt.alloc();
     let code = deployment(alloc)?;
     let line = read_line(alloc, &code, b"request 1 f {\"a\": 2}")?;
     let mut text = Str::new(alloc);
     write_line(alloc, &code, &line, &mut text)?;
     assert_eq!(rt; text.as_str(), "request 1 f {\"a\":2}");
+    assert!(rt; Machine::new(alloc, code.code(), 1, Value::Null, true)?.is_inside());
     Ok(())
 }
 
@@ -79,14 +81,6 @@ fn add_request(
     entered(book, Entry::Read { id, seen })
 }
 
-#[test]
-fn a_body_is_inside_what_it_inherits(rt: HostRuntime) -> Result<(), Fail> {
-    let alloc = rt.alloc();
-    let code = deployment(alloc)?;
-    assert!(rt; Machine::new(alloc, &code, 1, Value::Null, true)?.is_inside());
-    Ok(())
-}
-
 // Two requests of the function f, each with its read kept last.
 fn two_requests(alloc: Global) -> Result<Book, Fail> {
     let mut book = Book::new(alloc);
@@ -96,29 +90,18 @@ fn two_requests(alloc: Global) -> Result<Book, Fail> {
 }
 
 #[test]
-fn a_book_is_read_again(rt: HostRuntime) -> Result<(), Fail> {
+fn a_book_is_ordered_in_time_and_read_again(rt: HostRuntime) -> Result<(), Fail> {
     let alloc = rt.alloc();
     let code = deployment(alloc)?;
-    let book = two_requests(alloc)?;
-    assert!(rt; book.len() == 8 && matches!(book.get(7), Some(Entry::Read { seen: 4, .. })));
+    let book = two_requests(alloc)?.linear(alloc)?;
+    assert!(rt; book.len() == 8 && matches!(book.get(5), Some(Entry::Read { seen: 4, .. })));
     let mut text = Str::new(alloc);
-    book.write(alloc, &code, &mut text)?;
-    assert_eq!(rt; Book::read(alloc, text.as_bytes(), &code)?.len(), 8);
-    Ok(())
-}
-
-#[test]
-fn a_book_is_ordered_in_time(rt: HostRuntime) -> Result<(), Fail> {
-    let alloc = rt.alloc();
-    let code = deployment(alloc)?;
-    let mut text = Str::new(alloc);
-    two_requests(alloc)?
-        .linear(alloc)?
-        .write(alloc, &code, &mut text)?;
+    book.write(alloc, code.code(), &mut text)?;
     assert_eq!(rt;
         text.as_str(),
         "start 1 f 5\nread 1 1\nstep 1\nstep 1\nstart 2 f 6\nread 2 4\nstep 2\nstep 2\n"
     );
+    assert_eq!(rt; Book::read(alloc, text.as_bytes(), code.code())?.len(), 8);
     Ok(())
 }
 
@@ -174,23 +157,6 @@ fn place(alloc: Global) -> Place
     }
 }
 
-// One turn of an operation of a root at a step, on the one item.
-fn turn_of(
-    alloc: Global,
-    table: &mut MapTable,
-    ticket: u32,
-    step: u32,
-    op: CellOp,
-) -> Result<WriteSays, Fail> {
-    let who = Owner::Intent(IntentId::root(alloc, ticket));
-    let place = Place {
-        intent: IntentId::root(alloc, ticket),
-        step,
-    };
-    let mut walk = WriteWalk::new(1, item(alloc)?, place, who, op);
-    Ok(walk.turn(alloc, table, 5)?)
-}
-
 #[test]
 fn an_item_is_written_and_read(rt: HostRuntime) -> Result<(), Fail> {
     let alloc = rt.alloc();
@@ -219,82 +185,18 @@ fn an_item_is_written_and_read(rt: HostRuntime) -> Result<(), Fail> {
     Ok(())
 }
 
-// The lock of the one item, as the first root asks for it.
-fn lock_walk(alloc: Global) -> Result<LockWalk, Fail> {
-    let who = Owner::Intent(IntentId::root(alloc, 1));
-    let key = Str::from_text(alloc, "k")?;
-    Ok(LockWalk::new(1, place(alloc), who, 0, key))
-}
-
-// A table whose one item the first root has.
-fn locked(alloc: Global) -> Result<MapTable, Fail> {
-    let mut table = roomy(alloc)?;
-    let mut lock = lock_walk(alloc)?;
-    lock.turn(alloc, &mut table, 5)?;
-    lock.turn(alloc, &mut table, 5)?;
-    lock.turn(alloc, &mut table, 5)?;
-    Ok(table)
-}
-
 #[test]
-fn a_lock_is_taken_once(rt: HostRuntime) -> Result<(), Fail> {
+fn a_lock_is_taken(rt: HostRuntime) -> Result<(), Fail> {
     let alloc = rt.alloc();
-    let mut table = locked(alloc)?;
-    let mut lock = lock_walk(alloc)?;
+    let mut table = roomy(alloc)?;
+    let who = Owner::Intent(IntentId::root(alloc, 1));
+    let mut lock = LockWalk::new(1, place(alloc), who, 0, Str::from_text(alloc, "k")?);
+    lock.turn(alloc, &mut table, 5)?;
+    lock.turn(alloc, &mut table, 5)?;
     assert!(rt;
         matches!(
             lock.turn(alloc, &mut table, 5)?,
-            LockSays::Got { first: false }
-        )
-    );
-    assert!(rt;
-        matches!(
-            turn_of(alloc, &mut table, 2, 0, CellOp::Lock)?,
-            WriteSays::Held(_)
-        )
-    );
-    Ok(())
-}
-
-#[test]
-fn a_value_is_tested(rt: HostRuntime) -> Result<(), Fail> {
-    let alloc = rt.alloc();
-    let mut table = locked(alloc)?;
-    let op = CellOp::Cond {
-        rel: Rel::Eq,
-        operand: Value::Null,
-        value: Value::Int(7),
-    };
-    assert!(rt;
-        matches!(
-            turn_of(alloc, &mut table, 1, 1, op)?,
-            WriteSays::Done {
-                note: Note::Cond(true),
-                first: true
-            }
-        )
-    );
-    Ok(())
-}
-
-#[test]
-fn a_lock_is_given_back(rt: HostRuntime) -> Result<(), Fail> {
-    let alloc = rt.alloc();
-    let mut table = locked(alloc)?;
-    assert!(rt;
-        matches!(
-            turn_of(alloc, &mut table, 2, 0, CellOp::Free(None))?,
-            WriteSays::NotOwner
-        )
-    );
-    let op = CellOp::Free(Some(Value::Int(8)));
-    assert!(rt;
-        matches!(
-            turn_of(alloc, &mut table, 1, 1, op)?,
-            WriteSays::Done {
-                note: Note::Freed,
-                first: true
-            }
+            LockSays::Got { first: true }
         )
     );
     Ok(())
@@ -330,39 +232,7 @@ fn body() -> Body {
 }
 
 #[test]
-fn calls_are_kept(rt: HostRuntime) -> Result<(), Fail> {
-    let alloc = rt.alloc();
-    let mut table = roomy(alloc)?;
-    let at = place(alloc);
-    assert!(rt; open_once(alloc, &mut table, 1, &at, 2, 5)?.added);
-    assert_eq!(rt; registered(alloc, &mut table, 1, &at, 5)?, Back::Set);
-    let outcome = Outcome::Value(Value::Int(7));
-    assert_eq!(rt;
-        call_back(alloc, &mut table, 1, &at, outcome, 5)?,
-        Back::Set
-    );
-    assert!(rt;
-        matches!(
-            result(alloc, &mut table, 1, &at, 5)?,
-            Some(Outcome::Value(Value::Int(7)))
-        )
-    );
-    Ok(())
-}
-
-#[test]
-fn callees_are_registered(rt: HostRuntime) -> Result<(), Fail> {
-    let alloc = rt.alloc();
-    let mut table = roomy(alloc)?;
-    let callee = IntentId::root(alloc, 1).child(alloc, 0)?;
-    assert!(rt; register(alloc, &mut table, callee, body(), 5)?.is_none());
-    let callee = IntentId::root(alloc, 1).child(alloc, 0)?;
-    assert!(rt; look(alloc, &mut table, callee, 2, 5)?.is_some());
-    Ok(())
-}
-
-#[test]
-fn a_call_is_walked(rt: HostRuntime) -> Result<(), Fail> {
+fn a_call_is_kept(rt: HostRuntime) -> Result<(), Fail> {
     let alloc = rt.alloc();
     let mut table = roomy(alloc)?;
     let mut call = CallWalk::new(1, place(alloc), 2);
@@ -372,15 +242,15 @@ fn a_call_is_walked(rt: HostRuntime) -> Result<(), Fail> {
             CallSays::Opened { first: true }
         )
     );
-    assert!(rt; matches!(call.turn(alloc, &mut table, 5)?, CallSays::NotYet));
+    let at = place(alloc);
+    assert!(rt; !open_once(alloc, &mut table, 1, &at, 2, 5)?.added);
     let outcome = Outcome::Value(Value::Int(7));
-    call_back(alloc, &mut table, 1, &place(alloc), outcome, 5)?;
-    assert!(rt;
-        matches!(
-            call.turn(alloc, &mut table, 5)?,
-            CallSays::Done(Outcome::Value(Value::Int(7)))
-        )
+    assert_eq!(rt;
+        call_back(alloc, &mut table, 1, &at, outcome, 5)?,
+        Back::Set
     );
+    assert!(rt; result(alloc, &mut table, 1, &at, 5)?.is_some());
+    assert!(rt; matches!(call.turn(alloc, &mut table, 5)?, CallSays::Done(_)));
     Ok(())
 }
 
@@ -388,13 +258,20 @@ fn a_call_is_walked(rt: HostRuntime) -> Result<(), Fail> {
 fn a_callee_is_left_to_itself(rt: HostRuntime) -> Result<(), Fail> {
     let alloc = rt.alloc();
     let mut table = roomy(alloc)?;
+    let callee = place(alloc).intent.child(alloc, 0)?;
+    assert!(rt; register(alloc, &mut table, callee, body(), 5)?.is_none());
     let mut call = AsyncWalk::new(1, place(alloc), body());
     assert_eq!(rt;
         call.turn(alloc, &mut table, 5)?,
         AsyncSays::Opened { first: true }
     );
     assert_eq!(rt; call.turn(alloc, &mut table, 5)?, AsyncSays::Going);
-    assert_eq!(rt; call.turn(alloc, &mut table, 5)?, AsyncSays::Done);
+    assert_eq!(rt;
+        registered(alloc, &mut table, 1, &place(alloc), 5)?,
+        Back::Set
+    );
+    let callee = place(alloc).intent.child(alloc, 0)?;
+    assert!(rt; look(alloc, &mut table, callee, 2, 5)?.is_some());
     Ok(())
 }
 

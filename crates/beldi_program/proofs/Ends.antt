@@ -11,11 +11,11 @@ use Rattle.beldi_core.specs.Survey.{Opened, Refused, newest_of}
 use Rattle.beldi_core.specs.declared.survey.OpenErr.{OpenErr}
 use Rattle.beldi_laws.specs.Right.{Right}
 use Rattle.beldi_core.proofs.Right.{begins_right}
-use Rattle.beldi_syntax.specs.declared.reading.Parsed.{Parsed}
 use Rattle.beldi_outside.specs.Outside.{IsPrefixOf, ReadAllOn, Told, Rose, TookFront, WroteOn, max_source}
 use Rattle.beldi_outside.specs.declared.traits.Failed.{Failed}
 use Rattle.beldi_outside.proofs.Told.{told_same, told_then, told_map}
 use Rattle.beldi_program.specs.declared.refusal.Refusal.{Refusal}
+use Rattle.beldi_program.specs.declared.source.Accepted.{Accepted}
 use Rattle.beldi_program.specs.declared.session.Stop.{Stop}
 use Rattle.beldi_program.specs.declared.session.Stop.TheVariants.{OutOfMemory, SinkFault}
 use Rattle.beldi_program.specs.declared.program.Ended.{Ended}
@@ -100,7 +100,7 @@ module _ {K T : Type 0} (held : K → Option (List ℕ)) (faults : K → ℕ) (s
   not_opened k t t' why h = (refl, told_tells (state t).rows (state t').rows (λ m n. n ≡ m) h.rows, h.later)
 
   -- out of memory before anything was done
-  pub unread_source : (bytes : List ℕ) (o : Result Parsed Refusal) (k : K) (t : T) → SourceEnds held faults state bytes o k k t t ended.OutOfMemory
+  pub unread_source : (bytes : List ℕ) (o : Result Accepted Refusal) (k : K) (t : T) → SourceEnds held faults state bytes o k k t t ended.OutOfMemory
   unread_source bytes (Ok p) k t = inl (refl, told_same (λ m n. n ≡ m) (state t).rows (λ m. refl), omega arith)
   unread_source bytes (Err x) k t = (refl, refl)
 
@@ -111,7 +111,7 @@ module _ {K T : Type 0} (held : K → Option (List ℕ)) (faults : K → ℕ) (s
   is_read_end ended.TooLong = false
   is_read_end e = true
 
-  ends_read : (bytes : List ℕ) (o : Result Parsed Refusal) (k k' : K) (t t' : T) (e : Ended) → SourceEnds held faults state bytes o k k' t t' e → is_read_end e ≡ true
+  ends_read : (bytes : List ℕ) (o : Result Accepted Refusal) (k k' : K) (t t' : T) (e : Ended) → SourceEnds held faults state bytes o k k' t t' e → is_read_end e ≡ true
   ends_read bytes o k k' t t' ended.Done x = refl
   ends_read bytes o k k' t t' ended.OutOfMemory x = refl
   ends_read bytes o k k' t t' ended.SinkFault x = refl
@@ -120,7 +120,7 @@ module _ {K T : Type 0} (held : K → Option (List ℕ)) (faults : K → ℕ) (s
   ends_read bytes (Ok p) k k' t t' e x = absurd x
   ends_read bytes (Err y) k k' t t' e x = absurd x.1
 
-  as_read : (bytes : List ℕ) (o : Result Parsed Refusal) (k k' : K) (t t' : T) (e : Ended) → SourceEnds held faults state bytes o k k' t t' e → AsRead (is_whole_source bytes o) e
+  as_read : (bytes : List ℕ) (o : Result Accepted Refusal) (k k' : K) (t t' : T) (e : Ended) → SourceEnds held faults state bytes o k k' t t' e → AsRead (is_whole_source bytes o) e
   as_read bytes (Ok p) k k' t t' ended.Done x = x.0
   as_read bytes (Ok p) k k' t t' ended.Refused x = x.0
   as_read bytes (Err y) k k' t t' ended.Done x = absurd x.1
@@ -129,11 +129,11 @@ module _ {K T : Type 0} (held : K → Option (List ℕ)) (faults : K → ℕ) (s
   as_read bytes (Err y) k k' t t' ended.Usage x = x.1
   as_read bytes o k k' t t' e x = tt
 
-  pub sink_rose : (bytes : List ℕ) (o : Result Parsed Refusal) (k k' : K) (t t' : T) → SourceEnds held faults state bytes o k k' t t' ended.SinkFault → Rose (faults k) (faults k')
+  pub sink_rose : (bytes : List ℕ) (o : Result Accepted Refusal) (k k' : K) (t t' : T) → SourceEnds held faults state bytes o k k' t t' ended.SinkFault → Rose (faults k) (faults k')
   sink_rose bytes (Ok p) k k' t t' x = x.0
   sink_rose bytes (Err y) k k' t t' x = x.1.0
 
-  pub table_rose : (bytes : List ℕ) (o : Result Parsed Refusal) (k k' : K) (t t' : T) → SourceEnds held faults state bytes o k k' t t' ended.TableFault
+  pub table_rose : (bytes : List ℕ) (o : Result Accepted Refusal) (k k' : K) (t t' : T) → SourceEnds held faults state bytes o k k' t t' ended.TableFault
       → Rose (state t).faults (state t').faults × (Told (state t).rows (state t').rows (λ m n. n ≡ m) × (k' ≡ k))
   table_rose bytes (Ok p) k k' t t' x = (x.0, (x.1.1, x.1.0))
   table_rose bytes (Err y) k k' t t' x = absurd x.1

@@ -3,7 +3,8 @@ use Rattle.std.specs.Prelude.{ℕ, Bool, true, false, List, [], ◌++◌, Option
 use Rattle.std.specs.Fmt.{decimal}
 use Rattle.beldi_value.specs.Json.{text_of}
 use Rattle.beldi_value.specs.Value.{datum_of}
-use Rattle.beldi_value.specs.Text.{outcome_text, owner_text}
+use Rattle.beldi_value.specs.Text.{id_text, outcome_text, owner_text}
+use Rattle.beldi_value.specs.declared.id.IntentId.{IntentId}
 use Rattle.beldi_value.specs.declared.outcome.Outcome.{Outcome}
 use Rattle.beldi_value.specs.declared.place.Owner.{Owner}
 use Rattle.beldi_tree.specs.declared.deployment.Deployment.{Deployment}
@@ -29,9 +30,18 @@ outcome_line word t o = ticket_line word t (outcome_text o)
 abbrev pub held_line : Owner → List ℕ
 held_line o = codes "held " ++ (owner_text o ++ codes "\n")
 
+-- the line of the callee that a run waits for
+abbrev pub waits_line : IntentId → List ℕ
+waits_line id = codes "waits " ++ (id_text id ++ codes "\n")
+
 abbrev pub entry_part : Deployment → Option Entry → List ℕ
 entry_part d None = []
 entry_part d (Some e) = codes " " ++ entry_text d e
+
+-- the run that was started
+abbrev pub run_part : Option ℕ → List ℕ
+run_part None = []
+run_part (Some n) = codes " run " ++ decimal n
 
 abbrev pub over_part : Bool → List ℕ
 over_part false = []
@@ -51,14 +61,18 @@ answer_text d (seen.Replied t o) = outcome_line (codes "ended ") t o
 answer_text d (seen.Other t f a) = codes "other " ++ (decimal t ++ (codes " " ++ (func_text d f ++ (codes " " ++ (text_of (datum_of a) ++ codes "\n")))))
 answer_text d (seen.Gone t) = numbered (codes "gone ") t
 answer_text d (seen.Unknown t) = numbered (codes "unknown ") t
-answer_text d (seen.Acted e over r) = codes "acted" ++ (entry_part d e ++ (over_part over ++ (codes "\n" ++ reply_part r)))
+answer_text d (seen.Acted e started over r) = codes "acted" ++ (entry_part d e ++ (run_part started ++ (over_part over ++ (codes "\n" ++ reply_part r))))
 answer_text d (seen.Held o) = held_line o
+answer_text d (seen.NotYet id) = waits_line id
 answer_text d (seen.Full live room) = codes "full " ++ (decimal live ++ (codes " " ++ (decimal room ++ codes "\n")))
 answer_text d seen.Worn = codes "worn\n"
 answer_text d seen.Crowded = codes "crowded 1024\n"
+answer_text d seen.Expired = codes "expired\n"
 answer_text d seen.NoRun = codes "no-run\n"
 answer_text d seen.RunOver = codes "run-over\n"
 answer_text d seen.Dropped = codes "dropped\n"
 answer_text d seen.Crashed = codes "crashed\n"
 answer_text d (seen.Started r) = numbered (codes "run ") r
+answer_text d (seen.Now n) = numbered (codes "now ") n
+answer_text d seen.ClockEnd = codes "clock-end\n"
 answer_text d seen.Spent = codes "spent\n"

@@ -6,9 +6,9 @@ use Rattle.beldi_tree.specs.Bindings.{is_name}
 use Rattle.beldi_row.specs.Table.{Rows, TableState}
 use Rattle.beldi_step.specs.Host.{Core, first_core}
 use Rattle.beldi_core.specs.Survey.{newest_of}
-use Rattle.beldi_syntax.specs.declared.reading.Parsed.{Parsed}
 use Rattle.beldi_outside.specs.Outside.{IsPrefixOf, Told, Rose, TookFront, max_source}
 use Rattle.beldi_program.specs.declared.refusal.Refusal.{Refusal}
+use Rattle.beldi_program.specs.declared.source.Accepted.{Accepted}
 use Rattle.beldi_program.specs.declared.session.Stop.{Stop}
 use Rattle.beldi_program.specs.declared.session.Stop.TheVariants as stop
 use Rattle.beldi_program.specs.declared.program.Ended.{Ended}
@@ -96,7 +96,7 @@ module _ {K T : Type 0} (held : K → Option (List ℕ)) (faults : K → ℕ) (s
   SessionEnds d lines k k' t t' e = ⊥
 
   -- by what the source says: its deployment was read, keeps every rule and can be carried out; or it is refused
-  abbrev pub SourceEnds : List ℕ → Result Parsed Refusal → K → K → T → T → Ended → Type 0
+  abbrev pub SourceEnds : List ℕ → Result Accepted Refusal → K → K → T → T → Ended → Type 0
   SourceEnds bytes (Ok p) k k' t t' e = SessionEnds p.code (script_of bytes p) k k' t t' e
   SourceEnds bytes (Err x) k k' t t' e = (t' ≡ t) × RefusalEnds held faults x k k' e
 
@@ -151,7 +151,7 @@ LongOn b c ended.TooLong = (max_source < length b) × (c ≡ drop (max_source + 
 LongOn b c e = length b ≤ max_source ⊎ (e ≡ ended.SourceFault) ⊎ (e ≡ ended.OutOfMemory)
 
 -- nothing of the source is refused: neither its deployment nor a line of its script
-abbrev pub is_whole_source : List ℕ → Result Parsed Refusal → Bool
+abbrev pub is_whole_source : List ℕ → Result Accepted Refusal → Bool
 is_whole_source bytes (Err x) = false
 is_whole_source bytes (Ok p) = is_whole p.code (script_of bytes p)
 

@@ -29,6 +29,7 @@ actions_of (line.Turn r n) = times n (Carry (event.Turn r))
 actions_of (line.Lost r) = Carry (event.Lost r) ∷ []
 actions_of (line.Crash r) = Carry (event.Crash r) ∷ []
 actions_of (line.Restart id f) = Carry (event.Restart id f) ∷ []
+actions_of (line.Tick n) = Carry (event.Tick n) ∷ []
 actions_of (line.Reply t) = TellReply t ∷ []
 actions_of line.Rows = CountRows ∷ []
 actions_of line.Tables = ListTables ∷ []

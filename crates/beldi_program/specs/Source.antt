@@ -1,6 +1,5 @@
 -- What a source says: where and why it is refused, or a deployment and the lines of a script.
 use Rattle.std.specs.Prelude.{◌≡◌, ℕ, ◌+◌, ◌-◌, ◌^◌, min, Bool, true, false, List, [], ◌∷◌, drop, Option, Some, None, Result, Ok, Err, if◌then◌else◌}
-use Rattle.beldi_value.specs.Id.{has_no_hops}
 use Rattle.beldi_tree.specs.declared.deployment.Deployment.{Deployment}
 use Rattle.beldi_core.specs.Built.{unbuilt_of}
 use Rattle.beldi_check.specs.Rules.{Offence, first_offence}
@@ -15,6 +14,7 @@ use Rattle.beldi_syntax.specs.declared.reading.Parsed.{Parsed}
 use Rattle.beldi_syntax.specs.declared.refusal.SyntaxErr.{SyntaxErr}
 use Rattle.beldi_syntax.specs.declared.refusal.SyntaxErr.TheVariants as syntax
 use Rattle.beldi_syntax.specs.declared.refusal.What.TheVariants as what
+use Rattle.beldi_program.specs.declared.source.Accepted.{Accepted}
 use Rattle.beldi_program.specs.declared.refusal.Cause.{Cause}
 use Rattle.beldi_program.specs.declared.refusal.Cause.TheVariants as cause
 use Rattle.beldi_program.specs.declared.refusal.Refusal.{Refusal}
@@ -38,14 +38,17 @@ abbrev pub accepted : {A : Type 0} → A → Option Refusal → Result A Refusal
 accepted a None = Ok a
 accepted a (Some r) = Err r
 
+abbrev pub accepted_of : Parsed → Accepted
+accepted_of p = record { code = p.code; rest = p.rest; line = p.line }
+
 -- a text is never read as out of memory
-abbrev pub source_by : Result Parsed SyntaxErr → Result Parsed Refusal
-source_by (Ok p) = accepted p (refusal_in p.code)
+abbrev pub source_by : Result Parsed SyntaxErr → Result Accepted Refusal
+source_by (Ok p) = accepted (accepted_of p) (refusal_in p.code)
 source_by (Err (syntax.Refused n w)) = Err (refusal_at (cause.Syntax w) n)
 source_by (Err syntax.OutOfMemory) = Err (refusal_at (cause.Syntax what.Syntax) 1)
 
 -- what a source says before its script: a deployment that was read, keeps every rule and can be carried out, or a refusal
-abbrev pub source_at : List ℕ → Result Parsed Refusal
+abbrev pub source_at : List ℕ → Result Accepted Refusal
 source_at bytes = source_by (parsed_at bytes)
 
 -- ---- the script
@@ -63,17 +66,15 @@ numbered n [] = []
 numbered n (l ∷ ls) = (n, l) ∷ numbered (next n) ls
 
 -- the lines of a source after its deployment
-abbrev pub script_of : List ℕ → Parsed → List Numbered
+abbrev pub script_of : List ℕ → Accepted → List Numbered
 script_of bytes p = numbered p.line (lines_of (drop p.rest bytes))
 
 -- the program can do what the line says
 abbrev pub is_built : Line → Bool
-is_built (line.Restart id f) = has_no_hops id.hops
 is_built (line.Ic n) = false
 is_built (line.Gc k n) = false
 is_built (line.Sweep k n) = false
 is_built (line.Settle n) = false
-is_built (line.Tick n) = false
 is_built line.Halt = false
 is_built l = true
 

@@ -4,20 +4,20 @@ ghost use Rattle.std.specs.Fmt.{decimal};
 ghost use Rattle.beldi_value.specs.Json.{text_of};
 ghost use Rattle.beldi_value.specs.Value.{datum_of};
 ghost use Rattle.beldi_tree.specs.Names.{func_text};
-ghost use Rattle.beldi_program.specs.Answer.{answer_text, numbered, held_line, outcome_line, ticket_line, entry_part, reply_part, over_part};
+ghost use Rattle.beldi_program.specs.Answer.{answer_text, numbered, held_line, waits_line, outcome_line, ticket_line, entry_part, run_part, reply_part, over_part};
 ghost use Rattle.beldi_program.specs.Response.{reply_line};
 
 use beldi_book::Entry;
+use beldi_check::Checked;
 use beldi_core::ReplySeen;
-use beldi_lang::Deployment;
 use beldi_step::Seen;
-use beldi_value::{Outcome, Owner, Str, Value};
+use beldi_value::{IntentId, Outcome, Owner, Str, Value};
 use std::alloc::{AllocError, Global};
 
 /// Appends the line of an answer, and a line for the reply that it gives, if any. After an `Err` the text is as before.
 pub fn write_answer(
     alloc: Global,
-    code: &Deployment,
+    code: &Checked,
     seen: &Seen,
     out: &mut Str,
 ) -> Result<(), AllocError>
@@ -36,19 +36,28 @@ pub fn write_answer(
         Seen::Other { ticket, func, args } => write_other(alloc, code, *ticket, *func, args, out),
         Seen::Gone(ticket) => write_numbered(alloc, "gone ", u64::from(*ticket), out),
         Seen::Unknown(ticket) => write_numbered(alloc, "unknown ", u64::from(*ticket), out),
-        Seen::Acted { entry, over, reply } => write_acted(alloc, code, entry, *over, reply, out),
+        Seen::Acted {
+            entry,
+            started,
+            over,
+            reply,
+        } => write_acted(alloc, code, entry, *started, *over, reply, out),
         Seen::Held(owner) => write_held(alloc, owner, out),
+        Seen::NotYet(id) => write_waits(alloc, id, out),
         Seen::Full { live, room } => {
             let text = format!(in alloc; "full {live} {room}\n")?;
             out.push_text(text.as_str())
         }
         Seen::Worn => out.push_text("worn\n"),
         Seen::Crowded => out.push_text("crowded 1024\n"),
+        Seen::Expired => out.push_text("expired\n"),
         Seen::NoRun => out.push_text("no-run\n"),
         Seen::RunOver => out.push_text("run-over\n"),
         Seen::Dropped => out.push_text("dropped\n"),
         Seen::Crashed => out.push_text("crashed\n"),
         Seen::Started(run) => write_numbered(alloc, "run ", *run, out),
+        Seen::Now(moment) => write_numbered(alloc, "now ", *moment, out),
+        Seen::ClockEnd => out.push_text("clock-end\n"),
         Seen::Spent => out.push_text("spent\n"),
     }
 }
@@ -85,7 +94,7 @@ fn write_outcome(
 
 fn write_other(
     alloc: Global,
-    code: &Deployment,
+    code: &Checked,
     ticket: u32,
     func: u16,
     args: &Value,
@@ -95,7 +104,7 @@ fn write_other(
     ensures err { OnErr result (out.new ≡ out.old) }
 {
     let mut line = Str::from_string(format!(in alloc; "other {ticket} ")?);
-    code.write_func(alloc, func, &mut line)?;
+    code.code().write_func(alloc, func, &mut line)?;
     line.push_text(" ")?;
     args.write_json(alloc, &mut line)?;
     line.push_text("\n")?;
@@ -112,19 +121,31 @@ fn write_held(alloc: Global, owner: &Owner, out: &mut Str) -> Result<(), AllocEr
     out.push_text(line.as_str())
 }
 
+fn write_waits(alloc: Global, callee: &IntentId, out: &mut Str) -> Result<(), AllocError>
+    ensures ok { OnOk result (out.new ≡ out.old ++ waits_line callee.now) }
+    ensures err { OnErr result (out.new ≡ out.old) }
+{
+    let mut line = Str::from_text(alloc, "waits ")?;
+    callee.write(alloc, &mut line)?;
+    line.push_text("\n")?;
+    out.push_text(line.as_str())
+}
+
 fn write_acted(
     alloc: Global,
-    code: &Deployment,
+    code: &Checked,
     entry: &Option<Entry>,
+    started: Option<u64>,
     over: bool,
     reply: &Option<(u32, Outcome)>,
     out: &mut Str,
 ) -> Result<(), AllocError>
-    ensures ok { OnOk result (out.new ≡ out.old ++ answer_text code.now (Seen.Acted entry.now over reply.now)) }
+    ensures ok { OnOk result (out.new ≡ out.old ++ answer_text code.now (Seen.Acted entry.now started over reply.now)) }
     ensures err { OnErr result (out.new ≡ out.old) }
 {
     let mut lines = Str::from_text(alloc, "acted")?;
     write_entry(alloc, code, entry, &mut lines)?;
+    write_started(alloc, started, &mut lines)?;
     lines.push_text(if over { " over" } else { "" })?;
     lines.push_text("\n")?;
     write_reply(alloc, reply, &mut lines)?;
@@ -133,7 +154,7 @@ fn write_acted(
 
 fn write_entry(
     alloc: Global,
-    code: &Deployment,
+    code: &Checked,
     entry: &Option<Entry>,
     out: &mut Str,
 ) -> Result<(), AllocError>
@@ -143,7 +164,19 @@ fn write_entry(
         None => Ok(()),
         Some(entry) => {
             out.push_text(" ")?;
-            entry.write(alloc, code, out)
+            entry.write(alloc, code.code(), out)
+        }
+    }
+}
+
+fn write_started(alloc: Global, started: Option<u64>, out: &mut Str) -> Result<(), AllocError>
+    ensures { OnOk result (out.new ≡ out.old ++ run_part started) }
+{
+    match started {
+        None => Ok(()),
+        Some(run) => {
+            let text = format!(in alloc; " run {run}")?;
+            out.push_text(text.as_str())
         }
     }
 }

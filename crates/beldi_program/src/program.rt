@@ -7,12 +7,11 @@ ghost use Rattle.beldi_program.specs.Headline.{ByStatus, Ends, HasEnded, LongOn,
 
 use crate::refusal::{Refusal, SourceErr, write_refusal};
 use crate::session::{Stop, run_script};
-use crate::source::read_source;
+use crate::source::{Accepted, read_source};
+use beldi_check::Checked;
 use beldi_core::{Host, OpenErr};
-use beldi_lang::Deployment;
 use beldi_outside::{Clock, Link, ReadErr, Sink, Source, read_all, write_all};
 use beldi_row::Table;
-use beldi_syntax::Parsed;
 use beldi_value::Str;
 use std::alloc::Global;
 
@@ -155,7 +154,7 @@ fn run_source<K: Sink, T: Table>(alloc: Global, sink: &mut K, table: T, bytes: &
     ensures { SourceEnds K.held K.faults T.state bytes.now (source_at bytes.now) sink.old sink.new table result.1 result.0 }
 {
     match read_source(alloc, bytes) {
-        Ok(Parsed { code, rest, line }) => {
+        Ok(Accepted { code, rest, line }) => {
             host(alloc, sink, table, code, line, script_at(bytes, rest))
         }
         Err(SourceErr::Refused(refusal)) => (refuse_source(alloc, sink, &refusal), table),
@@ -177,7 +176,7 @@ fn host<K: Sink, T: Table>(
     alloc: Global,
     sink: &mut K,
     table: T,
-    code: Deployment,
+    code: Checked,
     first: u32,
     script: &[u8],
 ) -> (Ended, T)

@@ -13,8 +13,8 @@ use crate::output::{flush, flush_if_long};
 use crate::refusal::{SourceErr, write_refusal};
 use crate::source::read_said;
 use beldi_book::Book;
+use beldi_check::Checked;
 use beldi_core::{Host, OpenErr};
-use beldi_lang::Deployment;
 use beldi_outside::Sink;
 use beldi_row::Table;
 use beldi_script::{Line, cut_line};
@@ -129,16 +129,11 @@ fn list_book<T: Table>(alloc: Global, host: &mut Host<T>, out: &mut Str) -> Resu
     appended(write_book(alloc, host.book(), host.code(), out))
 }
 
-fn write_book(
-    alloc: Global,
-    book: &Book,
-    code: &Deployment,
-    out: &mut Str,
-) -> Result<(), AllocError>
+fn write_book(alloc: Global, book: &Book, code: &Checked, out: &mut Str) -> Result<(), AllocError>
     ensures { OnOk result (out.new ≡ out.old ++ report_text (BookIs (book_text code.now book.now.entries))) }
 {
     out.push_text("== book\n")?;
-    book.write(alloc, code, out)
+    book.write(alloc, code.code(), out)
 }
 
 // Does what a line says, and appends the text of what is said of it.
@@ -154,6 +149,7 @@ fn say<T: Table>(alloc: Global, host: &mut Host<T>, out: &mut Str, line: Line) -
         Line::Lost { run } => answer(alloc, host, out, Event::Lost(u64::from(run))),
         Line::Crash { run } => answer(alloc, host, out, Event::Crash(u64::from(run))),
         Line::Restart { id, func } => answer(alloc, host, out, Event::Restart { id, func }),
+        Line::Tick { by } => answer(alloc, host, out, Event::Tick(by)),
         Line::Reply { ticket } => tell_reply(alloc, host, out, ticket),
         Line::Rows => count_rows(alloc, host, out),
         Line::Tables => list_tables(host, out),
@@ -163,7 +159,6 @@ fn say<T: Table>(alloc: Global, host: &mut Host<T>, out: &mut Str, line: Line) -
         Line::Gc { .. } => Ok(()),
         Line::Sweep { .. } => Ok(()),
         Line::Settle { .. } => Ok(()),
-        Line::Tick { .. } => Ok(()),
         Line::Halt => Ok(()),
     }
 }

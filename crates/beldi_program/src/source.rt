@@ -1,15 +1,25 @@
 // What a source says: a deployment and the lines of a script, or why it is refused.
 ghost use Rattle.std.specs.Prelude.{◌≡◌};
-ghost use Rattle.beldi_program.specs.Source.{ReadsAs, accepted, is_built, refusal_at, refusal_in, said_at, source_at};
+ghost use Rattle.beldi_program.specs.Source.{ReadsAs, accepted, accepted_of, is_built, refusal_at, refusal_in, said_at, source_at};
 ghost use Rattle.beldi_program.specs.declared.refusal.SourceErr.TheVariants.{Refused};
 
 use crate::refusal::{Cause, Refusal, SourceErr};
-use beldi_check::{CheckErr, check};
+use beldi_check::{CheckErr, Checked, check};
 use beldi_core::built;
-use beldi_lang::Deployment;
 use beldi_script::{Line, ScriptErr, read_line};
 use beldi_syntax::{Parsed, SyntaxErr, read_deployment};
 use std::alloc::Global;
+
+/// What a source says before its script.
+#[derive(Drop)]
+pub struct Accepted {
+    /// The deployment.
+    pub code: Checked,
+    /// Where the script begins.
+    pub rest: usize,
+    /// The number of its first line.
+    pub line: u32,
+}
 
 fn refused(line: u32, cause: Cause) -> SourceErr
     ensures { result ≡ Refused (refusal_at cause line) }
@@ -18,17 +28,13 @@ fn refused(line: u32, cause: Cause) -> SourceErr
 }
 
 // Tests that the deployment keeps every rule, and that the host can carry out each of its statements.
-fn accept(alloc: Global, parsed: Parsed) -> Result<Parsed, SourceErr>
-    ensures { ReadsAs (accepted parsed (refusal_in parsed.code)) result }
+fn accept(alloc: Global, parsed: Parsed) -> Result<Accepted, SourceErr>
+    ensures { ReadsAs (accepted (accepted_of parsed) (refusal_in parsed.code)) result }
 {
     let Parsed { code, rest, line } = parsed;
     match check(alloc, code) {
-        Ok(checked) => match built(checked.code()) {
-            Ok(()) => Ok(Parsed {
-                code: checked.into_code(),
-                rest,
-                line,
-            }),
+        Ok(code) => match built(code.code()) {
+            Ok(()) => Ok(Accepted { code, rest, line }),
             Err(line) => Err(refused(line, Cause::Unbuilt)),
         },
         Err(CheckErr::Refused { line, why }) => Err(refused(line, Cause::Rule(why))),
@@ -39,7 +45,7 @@ fn accept(alloc: Global, parsed: Parsed) -> Result<Parsed, SourceErr>
 /// Reads the deployment of a source and finds the script, which it does not read. A refusal tells the first fault of the
 /// text; where there is none, the first rule that is broken; where none is, the first statement that the host cannot carry
 /// out yet.
-pub fn read_source(alloc: Global, bytes: &[u8]) -> Result<Parsed, SourceErr>
+pub fn read_source(alloc: Global, bytes: &[u8]) -> Result<Accepted, SourceErr>
     ensures { ReadsAs (source_at bytes.now) result }
 {
     match read_deployment(alloc, bytes) {
@@ -54,24 +60,14 @@ fn is_built(line: &Line) -> bool
     ensures { result ≡ is_built line.now }
 {
     match line {
-        Line::Restart { id, .. } => id.is_root(),
-        Line::Ic { .. }
-        | Line::Gc { .. }
-        | Line::Sweep { .. }
-        | Line::Settle { .. }
-        | Line::Tick { .. }
-        | Line::Halt => false,
+        Line::Ic { .. } | Line::Gc { .. } | Line::Sweep { .. } | Line::Settle { .. } | Line::Halt =>
+            false,
         _ => true,
     }
 }
 
 /// Reads the line of the script that has this number in the source.
-pub fn read_said(
-    alloc: Global,
-    code: &Deployment,
-    number: u32,
-    line: &[u8],
-) -> Result<Line, SourceErr>
+pub fn read_said(alloc: Global, code: &Checked, number: u32, line: &[u8]) -> Result<Line, SourceErr>
     ensures { ReadsAs (said_at code.now (number, line.now)) result }
 {
     match read_line(alloc, code, line) {

@@ -1,6 +1,6 @@
 -- A line that was written is read as it was.
-use Rattle.std.proofs.Common.{◌≡◌, ℕ, zero, suc, ◌+◌, ◌-◌, ◌^◌, ◌<◌, ◌≤◌, ◌==◌, true, false, cond, IsTrue, List, [], ◌∷◌, ◌++◌, length, get_or, slice_get, Some, None, Ok, Err, refl, ap, sym, ◌∙◌, subst, inl, inr, arith, if◌then◌else◌, lt-ltb}
-use Rattle.std.specs.Prelude.{nat_lt, decimal, option_and_then}
+use Rattle.std.proofs.Common.{◌≡◌, ℕ, zero, suc, ◌+◌, ◌-◌, ◌^◌, ◌<◌, ◌≤◌, ◌==◌, true, false, cond, IsTrue, List, [], ◌∷◌, ◌++◌, length, get_or, slice_get, Some, None, Ok, refl, ap, sym, ◌∙◌, subst, inl, inr, arith, if◌then◌else◌, lt-ltb}
+use Rattle.std.specs.Prelude.{nat_lt, decimal, option_and_then, option_map}
 use Rattle.std.specs.List.{position}
 use Rattle.std.specs.Cmp.Lexicographic.{same_text, other_text}
 use Rattle.std.proofs.lemmas.Bool.Decides.{nat_tests}
@@ -22,7 +22,6 @@ use Rattle.beldi_tree.specs.declared.deployment.Func.{Func}
 use Rattle.beldi_tree.specs.Bindings.{is_name}
 use Rattle.beldi_script.specs.declared.line.Line.{Line}
 use Rattle.beldi_script.specs.declared.line.Line.TheVariants.{Blank, Ticket, Request, Turn, Lost, Crash, Restart, Ic, Gc, Sweep, Settle, Tick, Halt, Reply, Rows, Tables, Book}
-use Rattle.beldi_script.specs.declared.line.ScriptErr.TheVariants.{UnknownFunction}
 use Rattle.beldi_script.specs.Line.{formed, number_or, func_named, value_or, value_at, request_at, restart_at, line_at}
 use Rattle.beldi_tree.specs.Names.{name_or, func_text}
 use Rattle.beldi_script.specs.Text.{line_text, AreNamed, IsFunc, IsId, IsValue, IsTimes, IsBudget, IsProper}
@@ -114,7 +113,7 @@ named code (suc i) names h =
     subst (Named code (suc i)) (sym text) (record {
       word = ap (λ t. if t then Some f.name else None) is;
       unspaced = word_unspaced f.name is;
-      found = ap (number_or f.name) (place_of code i f names there) ∙ ap (λ t. if t then Ok (i + 1) else Err (UnknownFunction f.name)) (lt-ltb i (2 ^ 16 - 1) (omega (arith, h.0))) ∙ ap Ok number;
+      found = ap (λ o. number_or f.name (option_map (λ k. k + 1) o)) (place_of code i f names there) ∙ ap Ok number;
     })
 
 -- ---- values, and the two lines that name a function

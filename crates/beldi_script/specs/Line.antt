@@ -1,6 +1,6 @@
 -- What a line of a script says, or why it is refused: it has none of the forms, no function has the name that stands there,
 -- or the JSON is no value. The first cause in this order counts.
-use Rattle.std.specs.Prelude.{◌≡◌, ℕ, ◌+◌, ◌-◌, ◌^◌, nat_lt, List, Option, Some, None, Result, Ok, Err, ok_or, codes, if◌then◌else◌}
+use Rattle.std.specs.Prelude.{◌≡◌, ℕ, List, Option, Some, None, Result, Ok, Err, ok_or, codes, if◌then◌else◌}
 use Rattle.beldi_value.specs.declared.value.Value.{Value}
 use Rattle.beldi_value.specs.declared.read.ValueErr.{ValueErr}
 use Rattle.beldi_value.specs.Cut.{before, after}
@@ -11,7 +11,7 @@ use Rattle.beldi_value.specs.Reading.{read_of}
 use Rattle.beldi_tree.specs.declared.deployment.Deployment.{Deployment}
 use Rattle.beldi_tree.specs.declared.deployment.Func.{Func}
 use Rattle.beldi_tree.specs.Bindings.{is_name}
-use Rattle.beldi_tree.specs.Names.{func_place}
+use Rattle.beldi_check.specs.Rules.{number_of}
 use Rattle.beldi_script.specs.declared.line.Line.{Line}
 use Rattle.beldi_script.specs.declared.line.Line.TheVariants.{Blank, Request, Restart}
 use Rattle.beldi_script.specs.declared.line.ScriptErr.{ScriptErr}
@@ -28,14 +28,14 @@ Err e >>= f = Err e
 abbrev pub formed : {A : Type 0} → Option A → Result A ScriptErr
 formed o = ok_or o BadLine
 
--- the number, from 1, of the function of this name, which is at this place from 0
+-- the number of a function, if there is one of this name
 abbrev pub number_or : List ℕ → Option ℕ → Result ℕ ScriptErr
 number_or name None = Err (UnknownFunction name)
-number_or name (Some place) = if nat_lt place (2 ^ 16 - 1) then Ok (place + 1) else Err (UnknownFunction name)
+number_or name (Some n) = Ok n
 
--- the number of the first function of this name
+-- the number of the function of this name
 abbrev pub func_named : List Func → List ℕ → Result ℕ ScriptErr
-func_named fs name = number_or name (func_place fs name)
+func_named fs name = number_or name (number_of fs name)
 
 abbrev pub value_or : Result Datum ValueErr → Result Value ScriptErr
 value_or (Ok d) = Ok (value_of d)

@@ -1,5 +1,6 @@
 //! The lines of a script: a script's text cut into lines, what a line says, and the text of a line.
-//! It stands on `beldi_value` (numbers, ids and values) and `beldi_tree` (the functions that a line can name).
+//! It stands on `beldi_value` (numbers, ids and values) and `beldi_check` (a deployment that was checked, whose functions a line
+//! can name).
 //! Its definitions: `specs/Cut` (a text cut into lines), `specs/Words` (the words of a line, and the lines of numbers),
 //! `specs/Line` (what a line says, or why it is refused) and `specs/Text` (the text of a line, and that it is read again).
 //!

@@ -6,17 +6,17 @@ ghost use Rattle.beldi_script.specs.Words.{alone};
 
 use crate::line::{Line, ScriptErr};
 use crate::words::{is_blank, is_word, read_alone, read_counted, read_name, read_small};
-use beldi_tree::Deployment;
+use beldi_check::Checked;
 use beldi_value::{IdErr, IntentId, Str, Value, ValueErr, cut_at};
 use std::alloc::Global;
 
-// The number of the first function of this name, from 1.
-fn func_named(alloc: Global, code: &Deployment, name: &str) -> Result<u16, ScriptErr>
+// The number of the function of this name, from 1.
+fn func_named(alloc: Global, code: &Checked, name: &str) -> Result<u16, ScriptErr>
     ensures { Reads (func_named code.now.funcs name.now) result }
 {
-    match code.funcs.place(name.as_bytes()) {
-        Some(place) if place < 0xffff => Ok(place as u16 + 1),
-        _ => Err(ScriptErr::UnknownFunction(Str::from_text(alloc, name)?)),
+    match code.func(name.as_bytes()) {
+        Some(func) => Ok(func),
+        None => Err(ScriptErr::UnknownFunction(Str::from_text(alloc, name)?)),
     }
 }
 
@@ -40,7 +40,7 @@ fn read_args(alloc: Global, json: &[u8]) -> Result<Value, ScriptErr>
     }
 }
 
-fn read_request(alloc: Global, code: &Deployment, words: &[u8]) -> Result<Line, ScriptErr>
+fn read_request(alloc: Global, code: &Checked, words: &[u8]) -> Result<Line, ScriptErr>
     ensures { Reads (request_at code.now words.now) result }
 {
     let (ticket, rest) = cut_at(words, b' ');
@@ -62,7 +62,7 @@ fn read_request(alloc: Global, code: &Deployment, words: &[u8]) -> Result<Line, 
     Ok(Line::Request { ticket, func, args })
 }
 
-fn read_restart(alloc: Global, code: &Deployment, words: &[u8]) -> Result<Line, ScriptErr>
+fn read_restart(alloc: Global, code: &Checked, words: &[u8]) -> Result<Line, ScriptErr>
     ensures { Reads (restart_at code.now words.now) result }
 {
     let (id, name) = cut_at(words, b' ');
@@ -85,12 +85,7 @@ fn or_bad(said: Option<Line>) -> Result<Line, ScriptErr>
 }
 
 // A line of a word and more.
-fn read_called(
-    alloc: Global,
-    code: &Deployment,
-    word: &[u8],
-    words: &[u8],
-) -> Result<Line, ScriptErr>
+fn read_called(alloc: Global, code: &Checked, word: &[u8], words: &[u8]) -> Result<Line, ScriptErr>
     ensures { Reads (called code.now word.now words.now) result }
 {
     if is_word(word, "request") {
@@ -107,7 +102,7 @@ fn read_called(
 /// `UnknownFunction` where no function has the name that stands in its place, and `BadValue` where the rest of a line of
 /// `request` is no value; there spaces, tabs and carriage returns around the value are its own. Beside these it refuses
 /// out of memory alone.
-pub fn read_line(alloc: Global, code: &Deployment, line: &[u8]) -> Result<Line, ScriptErr>
+pub fn read_line(alloc: Global, code: &Checked, line: &[u8]) -> Result<Line, ScriptErr>
     ensures { Reads (line_at code.now line.now) result }
 {
     if is_blank(line) {

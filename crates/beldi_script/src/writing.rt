@@ -7,13 +7,13 @@ ghost use Rattle.beldi_script.specs.Text.{line_text};
 ghost use Rattle.beldi_tree.specs.Names.{func_text};
 
 use crate::line::Line;
-use beldi_tree::Deployment;
+use beldi_check::Checked;
 use beldi_value::{IntentId, OutOfMemory, Str, Value};
 use std::alloc::{AllocError, Global};
 
 fn request_text(
     alloc: Global,
-    code: &Deployment,
+    code: &Checked,
     ticket: u32,
     func: u16,
     args: &Value,
@@ -21,7 +21,7 @@ fn request_text(
     ensures { IfOk result (λ t. string_bytes t ≡ codes "request " ++ (decimal ticket ++ (codes " " ++ (func_text code.now func ++ (codes " " ++ text_of (datum_of args.now)))))) }
 {
     let mut text = Str::from_string(format!(in alloc; "request {ticket} ")?);
-    code.write_func(alloc, func, &mut text)?;
+    code.code().write_func(alloc, func, &mut text)?;
     text.push_text(" ")?;
     args.write_json(alloc, &mut text)?;
     Ok(text.into_string())
@@ -29,7 +29,7 @@ fn request_text(
 
 fn restart_text(
     alloc: Global,
-    code: &Deployment,
+    code: &Checked,
     id: &IntentId,
     func: u16,
 ) -> Result<String, AllocError>
@@ -38,11 +38,11 @@ fn restart_text(
     let mut text = Str::from_text(alloc, "restart ")?;
     id.write(alloc, &mut text)?;
     text.push_text(" ")?;
-    code.write_func(alloc, func, &mut text)?;
+    code.code().write_func(alloc, func, &mut text)?;
     Ok(text.into_string())
 }
 
-fn line_text(alloc: Global, code: &Deployment, line: &Line) -> Result<String, AllocError>
+fn line_text(alloc: Global, code: &Checked, line: &Line) -> Result<String, AllocError>
     ensures { IfOk result (λ t. string_bytes t ≡ line_text code.now line.now) }
 {
     match line {
@@ -71,7 +71,7 @@ fn line_text(alloc: Global, code: &Deployment, line: &Line) -> Result<String, Al
 /// written by its number. Without memory the text stays as it was.
 pub fn write_line(
     alloc: Global,
-    code: &Deployment,
+    code: &Checked,
     line: &Line,
     out: &mut Str,
 ) -> Result<(), OutOfMemory>

@@ -1,6 +1,6 @@
 use Rattle.std.proofs.Common.{◌≡◌, Err, Result, refl, sym, subst}
 use Rattle.beldi_script.specs.Cut.{lines_of}
-use Rattle.beldi_syntax.specs.declared.reading.Parsed.{Parsed}
+use Rattle.beldi_program.specs.declared.source.Accepted.{Accepted}
 use Rattle.beldi_program.specs.declared.refusal.Refusal.{Refusal}
 use Rattle.beldi_program.specs.Source.{numbered, source_at}
 use Rattle.beldi_program.specs.Headline.{SessionEnds, SourceEnds}
@@ -14,14 +14,14 @@ returns-in-Ok g c =
     let r = c.host.result in
     let bytes = c.args.bytes.now in
     let p = c.in-Ok.field-0 in
-    subst (λ (o : Result Parsed Refusal). SourceEnds k.held k.faults t.state bytes o c.args.sink.now c.host.new.sink c.args.table r.1 r.0) (sym c.in-Ok.ensures)
+    subst (λ (o : Result Accepted Refusal). SourceEnds k.held k.faults t.state bytes o c.args.sink.now c.host.new.sink c.args.table r.1 r.0) (sym c.in-Ok.ensures)
     (subst (λ z. SessionEnds k.held k.faults t.state p.code (numbered p.line (lines_of z)) c.args.sink.now c.host.new.sink c.args.table r.1 r.0) c.script_at.ensures c.host.ensures)
 
 pub returns-in-Err-Refused : goal.returns-in-Err-Refused
 returns-in-Err-Refused g c =
     let k = g.K.Sink in
     let refused : source_at c.args.bytes.now ≡ Err c.in-Err-Refused.refusal = rw c.in-Err-Refused.field-0-is at c.in-Err-Refused.ensures in
-    subst (λ (o : Result Parsed Refusal). SourceEnds k.held k.faults g.T.Table.state c.args.bytes.now o c.args.sink.now c.refuse_source.new.sink c.args.table c.args.table c.refuse_source.result) (sym refused)
+    subst (λ (o : Result Accepted Refusal). SourceEnds k.held k.faults g.T.Table.state c.args.bytes.now o c.args.sink.now c.refuse_source.new.sink c.args.table c.args.table c.refuse_source.result) (sym refused)
     (refl, c.refuse_source.ensures)
 
 pub returns-in-Err-OutOfMemory : goal.returns-in-Err-OutOfMemory

@@ -19,8 +19,5 @@ returns-in-Sweep g c = λ held faults. does_no_action (actions_of c.args.line) (
 pub returns-in-Settle : goal.returns-in-Settle
 returns-in-Settle g c = λ held faults. does_no_action (actions_of c.args.line) (ap actions_of c.in-Settle.is) (sight c.args.host.now c.args.out.now held faults)
 
-pub returns-in-Tick : goal.returns-in-Tick
-returns-in-Tick g c = λ held faults. does_no_action (actions_of c.args.line) (ap actions_of c.in-Tick.is) (sight c.args.host.now c.args.out.now held faults)
-
 pub returns-in-Halt : goal.returns-in-Halt
 returns-in-Halt g c = λ held faults. does_no_action (actions_of c.args.line) (ap actions_of c.in-Halt.is) (sight c.args.host.now c.args.out.now held faults)
