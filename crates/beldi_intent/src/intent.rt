@@ -1,8 +1,8 @@
 // The rows of intents: what is asked of one, and what follows from what is told.
-ghost use Rattle.std.specs.Prelude.{◌≡◌, true, Some, IfOk, OnErr};
+ghost use Rattle.std.specs.Prelude.{◌≡◌, true, Some, IfOk, OnErr, option_copied};
 ghost use Rattle.beldi_walk.specs.Query.{told_of, lends};
 ghost use Rattle.beldi_walk.specs.Walk.{Answered};
-ghost use Rattle.beldi_intent.specs.Intent.{intent_key as key_of, root_key as root_key_of, issue_asks, bind_asks, register_asks, look_asks, end_asks, is_added, is_did, put_of, binding_of, intent_of, intent_in, read_as};
+ghost use Rattle.beldi_intent.specs.Intent.{intent_key as key_of, root_key as root_key_of, issue_asks, bind_asks, register_asks, look_asks, end_asks, is_added, is_did, put_of, binding_of, intent_of, intent_in, read_as, open_body as open_body_of};
 
 use beldi_row::{Act, Body, IntentRow, Kind, Row, RowKey, Said, Table, TableErr};
 use beldi_value::{IntentId, Outcome, Value};
@@ -95,6 +95,16 @@ pub fn end_told(heard: &Heard<'_>) -> bool
     ensures { result ≡ is_did (told_of heard.entry.now) }
 {
     matches!(heard, Heard::Said(Said::Did))
+}
+
+/// The body of an intent that has not ended.
+pub fn open_body(intent: &IntentRow) -> Option<&Body>
+    ensures { option_copied result ≡ open_body_of intent.now }
+{
+    if intent.outcome.is_some() || intent.finish.is_some() {
+        return None;
+    }
+    intent.body.as_ref()
 }
 
 // What came of an end.

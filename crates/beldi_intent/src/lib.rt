@@ -3,7 +3,8 @@
 //!
 //! Proved:
 //! - The parts ask what the definitions ask (`issue_asks`, `bind_asks`, `register_asks`), of the row of an intent in its home
-//!   (`intent_key`), and answer by what was told as the definitions say (`is_added`, `binding_of`, `is_did`).
+//!   (`intent_key`), and answer by what was told as the definitions say (`is_added`, `binding_of`, `is_did`); `open_body` is
+//!   the body of an intent that has not ended.
 //! - `issue`, `bind`, `register`, `look` and `end` make one act on the row of an intent, in at most one call of the table, and
 //!   answer by what it told (`Answered`).
 //! - Laws: a row is added where none was (`a_root_is_put_once`, `a_callee_is_put_once`); `look` tells the intent that is there
@@ -17,7 +18,7 @@ mod laws;
 
 pub use intent::{
     Binding, Put, bind, bind_query, bind_told, end, end_told, intent_key, issue, issue_query,
-    issue_told, look, register, register_query, root_key,
+    issue_told, look, open_body, register, register_query, root_key,
 };
 pub use laws::{
     a_body_is_set_once, a_callee_is_put_once, a_root_is_put_once, an_intent_is_told,
