@@ -1,0 +1,77 @@
+-- The intent collector as a walk of its own, and what its turns say.
+use Rattle.std.specs.Prelude.{◌≡◌, ℕ, false, Option, Some, None, Ok}
+use Rattle.std.specs.declared.cmp.Ordering.TheVariants.{Less}
+use Rattle.beldi_value.specs.declared.id.IntentId.{IntentId}
+use Rattle.beldi_row.specs.Key.{key_cmp, least_key}
+use Rattle.beldi_row.specs.declared.key.RowKey.{RowKey}
+use Rattle.beldi_row.specs.declared.key.Kind.TheVariants as kinds
+use Rattle.beldi_row.specs.declared.row.Body.{Body}
+use Rattle.beldi_row.specs.declared.row.IntentRow.{IntentRow}
+use Rattle.beldi_row.specs.declared.row.Row.{Row}
+use Rattle.beldi_row.specs.declared.row.Row.TheVariants as rows
+use Rattle.beldi_row.specs.Table.{Rows, TableState, Tells, next_row}
+use Rattle.beldi_walk.specs.declared.query.Query.{Query}
+use Rattle.beldi_walk.specs.Query.{Told, found}
+use Rattle.beldi_walk.specs.Walk.{Turned}
+use Rattle.beldi_intent.specs.Intent.{is_ended}
+use Rattle.beldi_collect.specs.Collect.{collect_asks, collect_says, open_at, passing}
+use Rattle.beldi_collect.specs.declared.cursor.Found.{Found}
+use Rattle.beldi_collect.specs.declared.cursor.Found.TheVariants as found_data
+use Rattle.beldi_collect.specs.declared.intent_cursor.IcSays.{IcSays}
+use Rattle.beldi_collect.specs.declared.intent_cursor.IcSays.TheVariants.{Passed, Unended, Round}
+use Rattle.beldi_collect.specs.declared.intent_cursor.IntentCursor.{IntentCursor}
+
+abbrev pub first_cursor : IntentCursor
+first_cursor = record { at = least_key; kept = None }
+
+abbrev pub cursor_asks : IntentCursor → Query
+cursor_asks c = collect_asks c.at
+
+-- before an intent that has not ended it stands, and keeps the key of its row
+abbrev pub goes_on : IntentCursor → Found → IntentCursor
+goes_on c (found_data.Passed k) = record { at = k; kept = None }
+goes_on c (found_data.Unended k id f) = record { at = c.at; kept = Some k }
+goes_on c found_data.Round = first_cursor
+
+abbrev pub cursor_next : IntentCursor → Told → IntentCursor
+cursor_next c t = goes_on c (collect_says t)
+
+abbrev pub open_says : Option (IntentId × Body) → IcSays
+open_says None = Passed
+open_says (Some e) = Unended e.0 e.1
+
+abbrev pub row_told : Option (RowKey × Row) → IcSays
+row_told None = Round
+row_told (Some e) = open_says (open_at e.0.kind e.1)
+
+abbrev pub cursor_says : IntentCursor → Told → IcSays
+cursor_says c (found e) = row_told e
+cursor_says c t = Round
+
+-- ---- what a turn promises
+-- the row is that of an intent which has a body and has not ended
+pub record IsUnended (k : RowKey) (r : Row) (id : IntentId) (b : Body) : Type 0 where
+  pub intent : IntentRow
+  pub key : k.kind ≡ kinds.Intent id
+  pub row : r ≡ rows.Intent intent
+  pub lasts : is_ended intent ≡ false
+  pub body : intent.body ≡ Some b
+
+-- by the row after the cursor
+abbrev pub SaidOf : IntentCursor → IntentCursor → Rows → IcSays → Type 0
+SaidOf c x m Passed = (e : RowKey × Row) × (next_row m c.at ≡ Some e) × (x.at ≡ passing e.0 e.0.kind) × ((id : IntentId) (b : Body) → IsUnended e.0 e.1 id b → ⊥)
+SaidOf c x m (Unended id b) = (e : RowKey × Row) × (next_row m c.at ≡ Some e) × IsUnended e.0 e.1 id b × (x.at ≡ c.at) × (x.kept ≡ Some e.0)
+SaidOf c x m Round = (next_row m c.at ≡ None) × (x ≡ first_cursor)
+
+pub record CursorTurn (c x : IntentCursor) (m n : Rows) (s : IcSays) : Type 0 where
+  pub rows : n ≡ m
+  pub said : SaidOf c x m s
+
+-- so it is of each turn that says something, over every table that tells its rows
+abbrev pub NextIntentIsTold : Type 0
+NextIntentIsTold = (c x : IntentCursor) (now : ℕ) (old new : TableState) (s : IcSays) → Turned (cursor_asks c) now (cursor_next c) (cursor_says c) c x old new (Ok s)
+    → Tells old.rows new.rows (λ m n. CursorTurn c x m n s)
+
+-- between a row and where the cursor is set past it no intent has its key
+abbrev pub NoIntentIsJumped : Type 0
+NoIntentIsJumped = (k q : RowKey) (id : IntentId) → key_cmp k q ≡ Less → key_cmp q (passing k k.kind) ≡ Less → q.kind ≡ kinds.Intent id → ⊥

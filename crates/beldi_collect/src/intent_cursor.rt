@@ -1,0 +1,96 @@
+// The intent collector as a walk of its own.
+ghost use Rattle.std.specs.Prelude.{◌≡◌, Some, None, IsSome};
+ghost use Rattle.beldi_row.specs.declared.key.RowKey.{RowKey};
+ghost use Rattle.beldi_walk.specs.Walk.{Turned};
+ghost use Rattle.beldi_collect.specs.Cursor.{first_cursor, cursor_asks, cursor_next, cursor_says};
+
+use crate::cursor::{collect_query, open_intent, passing};
+use beldi_row::{Body, RowKey, Table, TableErr};
+use beldi_value::IntentId;
+use beldi_walk::{Heard, Query, Walk, turn};
+use std::alloc::{AllocError, Global};
+
+/// What a turn of the intent collector says.
+#[derive(Drop)]
+pub enum IcSays {
+    /// A row was passed.
+    Passed,
+    /// The next row is that of an intent which has this body and has not ended. The cursor stands before it.
+    Unended { id: IntentId, body: Body },
+    /// No row follows the cursor. It goes back to the least key.
+    Round,
+}
+
+/// A walk from row to row, in the order of keys, and round again, which stops at each intent that has not ended.
+#[derive(Drop)]
+pub struct IntentCursor {
+    at: RowKey,
+    // the key of the row that the last turn stopped at
+    kept: Option<RowKey>,
+}
+
+impl Walk for IntentCursor {
+    ghost use Rattle.beldi_collect.specs.Cursor.{cursor_asks, cursor_next, cursor_says};
+
+    type Says = IcSays;
+
+    ghost asks = { cursor_asks };
+
+    ghost next = { cursor_next };
+
+    ghost says = { cursor_says };
+
+    fn ask(&self, alloc: Global) -> Result<Query, AllocError> {
+        collect_query(alloc, &self.at)
+    }
+
+    fn told(&mut self, alloc: Global, heard: Heard<'_>) -> Result<IcSays, AllocError> {
+        let Heard::Found(Some((key, row))) = heard else {
+            *self = IntentCursor::new(alloc);
+            return Ok(IcSays::Round);
+        };
+        match open_intent(key, row) {
+            None => {
+                self.at = passing(alloc, key)?;
+                self.kept = None;
+                Ok(IcSays::Passed)
+            }
+            Some((id, body)) => {
+                let id = id.copy(alloc)?;
+                let body = body.copy(alloc)?;
+                self.kept = Some(key.copy(alloc)?);
+                Ok(IcSays::Unended { id, body })
+            }
+        }
+    }
+}
+
+impl IntentCursor {
+    /// A walk that stands before all rows.
+    pub fn new(alloc: Global) -> IntentCursor
+        ensures { result ≡ first_cursor }
+    {
+        IntentCursor {
+            at: RowKey::least(alloc),
+            kept: None,
+        }
+    }
+
+    /// One step to the next row; the rows are as before. After `Unended` the walk still stands before that row, and after an
+    /// `Err` it stands where it stood. `Failed` comes only where the table failed, and `Full` never.
+    pub fn turn<T: Table>(&mut self, alloc: Global, table: &mut T) -> Result<IcSays, TableErr>
+        ensures { Turned (cursor_asks self.old) 0 (cursor_next self.old) (cursor_says self.old) self.old self.new (T.state table.old) (T.state table.new) result }
+    {
+        turn(alloc, self, table, 0)
+    }
+
+    /// Sets the walk after the row that its last turn stopped at: it answered `Unended`.
+    pub fn pass(&mut self)
+        requires { IsSome self.old.kept }
+        ensures { (k : RowKey) → self.old.kept ≡ Some k → self.new ≡ record { at = k; kept = None } }
+    {
+        if let Some(key) = self.kept.take() {
+            self.at = key;
+        }
+    }
+}
