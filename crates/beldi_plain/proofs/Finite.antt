@@ -45,3 +45,10 @@ module _ {K X : Type 0} {R : K → K → Ordering} (o : IsTotalOrder R) where
       | true ↦ λ e. sym (ap (get m) (same_key exact j k e) ∙ h)
       | false ↦ λ e. refl
     ] refl)
+
+    -- what was not there, set and removed
+    pub set_removed : (m : FinMap R X) (k : K) (x : X) → get m k ≡ None → remove (insert m k x) k ≡ m
+    set_removed m k x h = same_map o exact _ _ (λ j. get-remove o (insert m k x) k j ∙ elim (is_eq (R j k)) as (λ b. is_eq (R j k) ≡ b → cond b None (get (insert m k x) j) ≡ get m j) [
+      | true ↦ λ e. sym (ap (get m) (same_key exact j k e) ∙ h)
+      | false ↦ λ e. apart m k j x e
+    ] refl)

@@ -1,5 +1,5 @@
 -- The machines that are kept stand for their instances.
-use Rattle.std.proofs.Common.{◌≡◌, inl, inr, ℕ, true, false, List, [], ◌∷◌, ◌++◌, take, drop, Option, Some, None, Result, Ok, Err, refl, ap, sym, ◌∙◌, subst, IfSome}
+use Rattle.std.proofs.Common.{◌≡◌, inl, inr, ℕ, Bool, is_some, true, false, List, [], ◌∷◌, ◌++◌, take, drop, Option, Some, None, Result, Ok, Err, refl, ap, sym, ◌∙◌, subst, IfSome}
 use Rattle.std.proofs.lemmas.List.{take-append-drop}
 use Rattle.std.proofs.lemmas.Cmp.{eq_by_cmp_equiv}
 use Rattle.std.specs.FinMap as map
@@ -22,7 +22,7 @@ use Rattle.beldi_lang.specs.Machine.{IsAt, resumed}
 use Rattle.beldi_lang.proofs.Resumes.{at_effect, at_next, returns_stay}
 use Rattle.beldi_plain.specs.Item.{item_cmp}
 use Rattle.beldi_plain.specs.Operation.{OnItem, op_of, item_in}
-use Rattle.beldi_plain.specs.Plain.{PlainState, Instance, answered, ended, give, operated, with_instance, step_by, value_at, item_of, new_instance, callee_of, calls_at, waits_at}
+use Rattle.beldi_plain.specs.Plain.{PlainState, Instance, answered, ended, give, operated, with_instance, with_callee, step_by, value_at, item_of, new_instance, callee_of, calls_at, waits_at}
 use Rattle.beldi_plain.specs.Executor.{StandsAfter, StandsFor, StandsForOne, AllStand, IsKept, Passes, Follows, Acted, ActedAt, Made, answer_if, answer_on, next_of, next_told, next_by, waiter}
 use Rattle.beldi_plain.specs.declared.next.Next.{Next}
 use Rattle.beldi_plain.specs.Answers.{IsReady, IsFree}
@@ -141,13 +141,19 @@ ends_so : (d : Deployment) (p : PlainState) (a b : FinMap id_cmp Machine) (id : 
 ends_so d p a b id m None o all is = subst (AllStand d p.made) (sym is) all
 ends_so d p a b id m (Some c) o all passes = gives_so d p (map.remove a id) b c (answer_of o) (map.get p.made c) all refl passes
 
+-- a callee is made
+callee_stands : (d : Deployment) (p : PlainState) (a : FinMap id_cmp Machine) (id : IntentId) (q : Instance) (f : ℕ) (x : Value) (waits : Bool) → AllStand d p.made a → is_some (map.get p.made (callee_of id q)) ≡ false → AllStand d (with_callee p id q f x waits).made a
+callee_stands d p a id q f x waits all free = started d p (with_callee p id q f x waits) a (callee_of id q) (new_instance f x (Some (calls_at id q waits))) all (none_of (map.get p.made (callee_of id q)) free) refl
+
 -- a step keeps the machines with their instances
 step_of : (d : Deployment) (p : PlainState) (a b : FinMap id_cmp Machine) (id : IntentId) (m : Machine) (e : Effect) → AllStand d p.made a → (h : IsReady d p id m) → m.effect ≡ e → waits_at p.made id h.instance e ≡ false → Follows d a b id m (next_by p.items h.instance e) → AllStand d (step_by p id h.instance e).made b
 step_of d p a b id m (effect.Read t k) all h is free goes = goes_so d p.made a b id h.instance m (answer.Value (value_at p (item_of h.instance t k))) all h.yet h.stands (ap wants_answer is) goes
 step_of d p a b id m (effect.Call f x) all h is free goes =
     let q = h.instance in
-    let made : PlainState = with_instance p (callee_of id q) (new_instance f x (Some (calls_at id q))) in
-    started d p made b (callee_of id q) (new_instance f x (Some (calls_at id q))) (back_stand d p a b id m all h goes) (none_of (map.get p.made (callee_of id q)) free) refl
+    callee_stands d p b id q f x true (back_stand d p a b id m all h goes) free
+step_of d p a b id m (effect.Async f x) all h is free goes =
+    let q = h.instance in
+    goes_so d (with_callee p id q f x false).made a b id q m answer.Done (callee_stands d p a id q f x false all free) h.yet h.stands (ap wants_answer is) goes
 step_of d p a b id m (effect.Return o) all h is free goes =
     let q = h.instance in
     let one = with_instance p id (ended q o) in

@@ -3,7 +3,7 @@ use Rattle.std.proofs.Common.{◌≡◌, ℕ, ◌<◌, ◌≤◌, Bool, true, fa
 use Rattle.std.specs.Prelude.{is_none, OnOk, OnErr, option_map, if◌then◌else◌}
 use Rattle.std.proofs.lemmas.Bool.{ltb-true, ltb-false}
 use Rattle.std.specs.FinMap as map
-use Rattle.std.specs.FinMap.{FinMap, same_map, get-empty}
+use Rattle.std.specs.FinMap.{FinMap, same_map, get-empty, get-remove}
 use Rattle.std.specs.Ordering.{is_eq}
 use Rattle.std.specs.declared.alloc.AllocError.{AllocError}
 use Rattle.beldi_value.specs.Id.{id_cmp, id_total, id_exact, child_of, has_callees}
@@ -14,16 +14,17 @@ use Rattle.beldi_value.specs.declared.place.Caller.{Caller}
 use Rattle.beldi_lang.specs.declared.effect.Effect.{Effect}
 use Rattle.beldi_lang.specs.declared.effect.Effect.TheVariants as effect
 use Rattle.beldi_lang.specs.declared.effect.Answer.{Answer}
+use Rattle.beldi_lang.specs.declared.effect.Answer.TheVariants as answer
 use Rattle.beldi_lang.specs.Callee.{answer_of}
 use Rattle.beldi_plain.specs.Operation.{OnItem, op_of}
-use Rattle.beldi_plain.specs.Plain.{PlainState, Instance, answered, ended, give, answer_caller, operated, with_instance, step_by, kind_of}
+use Rattle.beldi_plain.specs.Plain.{PlainState, Instance, answered, ended, give, answer_caller, operated, with_instance, with_callee, new_instance, callee_of, calls_at, step_by}
 use Rattle.beldi_plain.specs.Executor.{AllShort, IsActed, Made, answer_if, answered_if, items_if, items_by, instance_by, answer_by, next_of, next_told, next_by, at_one, waiter}
 use Rattle.beldi_plain.specs.Answers.{bar_made}
 use Rattle.beldi_plain.specs.declared.next.Next.{Next}
 use Rattle.beldi_plain.specs.declared.next.Next.TheVariants as next
 use Rattle.beldi_plain.specs.Item.{item_cmp}
 use Rattle.beldi_plain.specs.declared.kind.Kind.TheVariants as kinds
-use Rattle.beldi_plain.proofs.Finite.{apart, there, same_key, same_set}
+use Rattle.beldi_plain.proofs.Finite.{apart, there, same_key, same_set, set_removed}
 
 pub none_of : {X : Type 0} (o : Option X) → is_some o ≡ false → o ≡ None
 none_of None h = refl
@@ -32,6 +33,7 @@ none_of (Some x) h = cc
 -- an effect that is neither a call nor a return
 abbrev pub acts : Effect → Bool
 acts (effect.Call f a) = false
+acts (effect.Async f a) = false
 acts (effect.Return o) = false
 acts e = true
 
@@ -138,6 +140,13 @@ set_short made now id q all few is = λ j has.
 pub one_short : (made now : FinMap id_cmp Instance) (id : IntentId) (q r : Instance) → AllShort made → map.get made id ≡ Some q → now ≡ map.insert made id r → AllShort now
 one_short made now id q r all here is = set_short made now id r all (all id (ap is_some here)) is
 
+pub rest_short : (made now : FinMap id_cmp Instance) (id : IntentId) → AllShort made → now ≡ map.remove made id → AllShort now
+rest_short made now id all is = λ j has.
+    elim (is_eq (id_cmp j id)) as (λ b. is_some (cond b None (map.get made j)) ≡ true → length j.hops ≤ 63) [
+      | true ↦ λ h. cc
+      | false ↦ λ h. all j h
+    ] (sym (ap is_some (ap (λ (m : FinMap id_cmp Instance). map.get m j) is ∙ get-remove id_total made id j)) ∙ has)
+
 -- what has no id was not made
 pub no_callee : (made : FinMap id_cmp Instance) (id : IntentId) (n : ℕ) → AllShort made → has_callees id ≡ false → false ≡ is_some (map.get made (child_of id n))
 no_callee made id n all none =
@@ -156,10 +165,12 @@ no_callee made id n all none =
 acts_so : (p : PlainState) (id : IntentId) (q : Instance) (e : Effect) → acts e ≡ true → map.get p.made id ≡ Some q → record { items = items_by p.items q e; made = map.insert p.made id (instance_by p.items q e) } ≡ step_by p id q e
 acts_so p id q (effect.Read t k) w here = refl
 acts_so p id q (effect.Call f a) w here = cc
+acts_so p id q (effect.Async f a) w here = cc
 acts_so p id q (effect.Return o) w here = cc
 acts_so p id q e w here = operation_so p id q (op_of e) here
 
 next_so : (items : FinMap item_cmp Value) (q : Instance) (e : Effect) → acts e ≡ true → next_of (answer_by items q e) ≡ next_by items q e
+next_so items q (effect.Async f a) w = cc
 next_so items q (effect.Return o) w = cc
 next_so items q e w = refl
 
@@ -167,20 +178,52 @@ pub acted_so : (p r : PlainState) (id : IntentId) (q : Instance) (e : Effect) (x
 acted_so p r id q e (Ok n) w here h = (h.0 ∙ acts_so p id q e w here, h.1 ∙ next_so p.items q e w)
 acted_so p r id q e (Err z) w here h = h
 
--- an effect that is carried out has room for its callee
-pub room : (id : IntentId) (e : Effect) (f : ℕ) (a : Value) → is_none (bar_made (kind_of id e)) ≡ true → e ≡ effect.Call f a → length id.hops < 63
-room id e f a h is =
-    let built : is_none (bar_made (kind_of id (effect.Call f a))) ≡ true = sym (ap (λ e. is_none (bar_made (kind_of id e))) is) ∙ h in
+-- a call that is carried out has room for its callee
+pub room : (id : IntentId) → is_none (bar_made (if has_callees id then kinds.Change else kinds.Unbuilt)) ≡ true → length id.hops < 63
+room id built =
     elim (has_callees id) as (λ b. has_callees id ≡ b → is_none (bar_made (if b then kinds.Change else kinds.Unbuilt)) ≡ true → length id.hops < 63) [
       | true ↦ λ e h. ltb-true (length id.hops) 63 e
       | false ↦ λ e h. cc
     ] refl built
 
--- an effect that is none of the two acts
-pub acts_other : (e : Effect) → ((f : ℕ) (a : Value) → e ≡ effect.Call f a → ⊥) → ((o : Outcome) → e ≡ effect.Return o → ⊥) → acts e ≡ true
-acts_other (effect.Call f a) c r = absurd (c f a refl)
-acts_other (effect.Return o) c r = absurd (r o refl)
-acts_other e c r = refl
+-- an effect that is none of the three acts
+pub acts_other : (e : Effect) → ((f : ℕ) (a : Value) → e ≡ effect.Call f a → ⊥) → ((f : ℕ) (a : Value) → e ≡ effect.Async f a → ⊥) → ((o : Outcome) → e ≡ effect.Return o → ⊥) → acts e ≡ true
+acts_other (effect.Call f a) c s r = absurd (c f a refl)
+acts_other (effect.Async f a) c s r = absurd (s f a refl)
+acts_other (effect.Return o) c s r = absurd (r o refl)
+acts_other e c s r = refl
+
+-- ---- a call that nobody waits for
+
+-- an instance is not its own callee
+not_own : (id : IntentId) (n : ℕ) → is_eq (id_cmp id (child_of id n)) ≡ false
+not_own id n =
+    elim (is_eq (id_cmp id (child_of id n))) as (λ b. is_eq (id_cmp id (child_of id n)) ≡ b → b ≡ false) [
+      | true ↦ λ e.
+          let same : length id.hops ≡ length (id.hops ++ n ∷ []) = ap (λ (j : IntentId). length j.hops) (same_key id_exact id (child_of id n) e) in
+          let more = length-append id.hops (n ∷ []) in
+          absurd (omega arith)
+      | false ↦ λ e. refl
+    ] refl
+
+-- its callee is made, and it is answered ..
+pub sends_so : (p r : PlainState) (id : IntentId) (q : Instance) (f : ℕ) (a : Value) (now : FinMap id_cmp Instance) → map.get p.made id ≡ Some q → r ≡ with_callee p id q f a false → now ≡ at_one r.made id (λ q. answered q answer.Done) (map.get r.made id) → record { items = r.items; made = now } ≡ step_by p id q (effect.Async f a)
+sends_so p r id q f a now here is does =
+    let k = callee_of id q in
+    let s = new_instance f a (Some (calls_at id q false)) in
+    let after : FinMap id_cmp Instance → Option Instance → FinMap id_cmp Instance = λ m. at_one m id (λ q. answered q answer.Done) in
+    let same : now ≡ (step_by p id q (effect.Async f a)).made =
+    does ∙ ap (λ (r : PlainState). after r.made (map.get r.made id)) is ∙ ap (after (map.insert p.made k s)) (apart id_total p.made k id s (not_own id (length q.answers)) ∙ here) in
+    λ i. record { items = (is i).items; made = same i }
+
+-- .. or the callee is taken away again
+pub unsent : (p r : PlainState) (id : IntentId) (q : Instance) (n f : ℕ) (a : Value) (now : FinMap id_cmp Instance) → is_some (map.get p.made (child_of id n)) ≡ false → n ≡ length q.answers → r ≡ with_callee p id q f a false → now ≡ map.remove r.made (child_of id n) → record { items = r.items; made = now } ≡ p
+unsent p r id q n f a now free step is does =
+    let s = new_instance f a (Some (calls_at id q false)) in
+    let same : now ≡ p.made =
+    does ∙ ap (λ (r : PlainState). map.remove r.made (child_of id n)) is ∙ ap (λ m. map.remove (map.insert p.made (child_of id m) s) (child_of id n)) (sym step)
+    ∙ set_removed id_total id_exact p.made (child_of id n) s (none_of (map.get p.made (child_of id n)) free) in
+    λ i. record { items = (is i).items; made = same i }
 
 -- a return that is told to who waits
 pub tells_so : (p : PlainState) (id c : IntentId) (q found : Instance) (w : Option IntentId) (o ends : Outcome) (x y : Answer) (one two : FinMap id_cmp Instance) → map.get p.made id ≡ Some found → w ≡ waiter found.from → w ≡ Some c → ends ≡ o → x ≡ answer_of o → y ≡ answer_of o → one ≡ at_one p.made c (λ r. answered r x) (map.get p.made c) → two ≡ at_one one id (λ r. ended r ends) (map.get one id) → map.get p.made id ≡ Some q → Made p (record { items = p.items; made = two }) id q (effect.Return o) (Ok (next.Tells c y))

@@ -24,8 +24,8 @@ bar_start zero q = Some AlreadyStarted
 bar_start (suc t) None = None
 bar_start (suc t) (Some q) = Some AlreadyStarted
 
--- what bars a step: that there is no such instance, that it has returned, or that it waits for a callee, or else what bars its
--- effect
+-- what bars a step: that there is no such instance, that it has returned, or that the callee of its call was made, or else what
+-- bars its effect
 abbrev pub bar_open : Option Outcome → Option Bar → Option Bar
 bar_open None b = b
 bar_open (Some o) b = Some Over

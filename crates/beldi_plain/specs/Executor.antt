@@ -116,6 +116,7 @@ next_told None o = next.Ended
 next_told (Some c) o = next.Tells c (answer_of o)
 
 abbrev pub next_by : FinMap item_cmp Value → Instance → Effect → Next
+next_by items q (effect.Async f a) = next.Answered answer.Done
 next_by items q (effect.Return o) = next_told (waiter q.from) o
 next_by items q e = next_of (answer_by items q e)
 

@@ -66,21 +66,23 @@ kind_of id (effect.Lock t k) = kinds.Change
 kind_of id (effect.Unlock t k) = kinds.Change
 kind_of id (effect.Return o) = kinds.Change
 kind_of id (effect.Call f a) = if has_callees id then kinds.Change else kinds.Unbuilt
-kind_of id (effect.Async f a) = kinds.Unbuilt
+kind_of id (effect.Async f a) = if has_callees id then kinds.Change else kinds.Unbuilt
 kind_of id effect.Begin = kinds.Unbuilt
 kind_of id (effect.End b) = kinds.Unbuilt
 kind_of id effect.Abort = kinds.Unbuilt
 
--- the id of what an instance calls at its next step, and who calls it
+-- the id of what an instance calls at its next step, and who calls it, and waits or not
 abbrev pub callee_of : IntentId → Instance → IntentId
 callee_of id q = child_of id (length q.answers)
 
-abbrev pub calls_at : IntentId → Instance → Caller
-calls_at id q = record { place = record { intent = id; step = length q.answers }; func = q.func; waits = true }
+abbrev pub calls_at : IntentId → Instance → Bool → Caller
+calls_at id q waits = record { place = record { intent = id; step = length q.answers }; func = q.func; waits = waits }
 
--- an instance waits at a call whose callee was made
+-- an instance waits at a call whose callee was made. One that nobody waits for is answered as it is made, and no callee is made
+-- twice.
 abbrev pub waits_at : FinMap id_cmp Instance → IntentId → Instance → Effect → Bool
 waits_at made id q (effect.Call f a) = is_some (map.get made (callee_of id q))
+waits_at made id q (effect.Async f a) = is_some (map.get made (callee_of id q))
 waits_at made id q e = false
 
 abbrev pub answered : Instance → Answer → Instance
@@ -115,11 +117,17 @@ abbrev pub answer_caller : PlainState → Option Caller → Outcome → PlainSta
 answer_caller p None o = p
 answer_caller p (Some c) o = answer_to p c o
 
+-- a callee is made
+abbrev pub with_callee : PlainState → IntentId → Instance → ℕ → Value → Bool → PlainState
+with_callee p id q f a waits = with_instance p (callee_of id q) (new_instance f a (Some (calls_at id q waits)))
+
 -- what a step does, by the effect that the instance stands at: a read is answered by the item's value, an operation on an item is
--- done, and a call makes its callee, which answers it when it returns. The other effects are not carried out yet.
+-- done, and a call makes its callee, which answers it when it returns, or at once where nobody waits for it. The other effects are
+-- not carried out yet.
 abbrev pub step_by : PlainState → IntentId → Instance → Effect → PlainState
 step_by p id q (effect.Read t k) = with_instance p id (answered q (answer.Value (value_at p (item_of q t k))))
-step_by p id q (effect.Call f a) = with_instance p (callee_of id q) (new_instance f a (Some (calls_at id q)))
+step_by p id q (effect.Call f a) = with_callee p id q f a true
+step_by p id q (effect.Async f a) = with_instance (with_callee p id q f a false) id (answered q answer.Done)
 step_by p id q (effect.Return o) = answer_caller (with_instance p id (ended q o)) q.from o
 step_by p id q e = operated p id q (op_of e)
 

@@ -78,6 +78,13 @@ impl Instances {
         Ok(())
     }
 
+    /// There is no instance of this id.
+    pub fn forget(&mut self, id: &IntentId)
+        ensures { self.new ≡ map.remove self.old id.now }
+    {
+        drop(self.entries.remove(id));
+    }
+
     /// The instance of this id is answered, if it is there.
     pub fn answer(&mut self, id: &IntentId, answer: Answer) -> Result<(), AllocError>
         ensures ok { OnOk result (self.new ≡ at_one self.old id.now (λ q. answered q answer) (map.get self.old id.now)) }

@@ -25,7 +25,7 @@ pub fn kind_of(id: &IntentId, effect: &Effect) -> Kind
         | Effect::Lock { .. }
         | Effect::Unlock { .. }
         | Effect::Return(_) => Kind::Change,
-        Effect::Call { .. } if id.has_callees() => Kind::Change,
+        Effect::Call { .. } | Effect::Async { .. } if id.has_callees() => Kind::Change,
         Effect::Call { .. }
         | Effect::Async { .. }
         | Effect::Begin

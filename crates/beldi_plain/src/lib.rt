@@ -11,6 +11,7 @@
 //!   nothing (`Did`); `step` makes the next step of an instance, whatever it is (`DidStep`).
 //! - A call makes its callee, whose caller waits until it returns and is then answered by its outcome: a value, a fault or an
 //!   abort (`step_by`, `answer_caller`). An instance that waits has no step (`is_waiting`).
+//! - An asynchronous call makes its callee and is answered at once; the callee's return answers nobody. No callee is made twice.
 //! - `Plain::run` runs a book in its linear order, or stops at the first entry that is not enabled (`Ran`).
 //! - `reply`, `value` and `tables` read its state (`reply_of`, `value_at`; `ok`, `err`).
 #![tactic(auto)]

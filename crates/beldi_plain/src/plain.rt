@@ -46,7 +46,7 @@ pub enum Bar {
     NotStarted,
     /// The instance has returned.
     Over,
-    /// The instance waits for a callee, which has not returned.
+    /// The instance waits for a callee, which has not returned; or it stands at an asynchronous call whose callee is there.
     Waiting,
     /// The entry is a read, and the instance does not stand at one; or it is a step, and it does; or the instance stands at
     /// an effect that is not carried out yet.

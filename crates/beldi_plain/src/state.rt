@@ -1,8 +1,9 @@
 // The plain state on ordered maps in memory.
-ghost use Rattle.std.specs.Prelude.{◌≡◌, ◌++◌, ◌<◌, ◌≤◌, length, Some, true, is_none, OnOk, OnErr, IfOk, option_copied};
+ghost use Rattle.std.specs.Prelude.{◌≡◌, ◌++◌, ◌<◌, ◌≤◌, length, Some, true, false, is_none, is_some, OnOk, OnErr, IfOk, option_copied};
 ghost use Rattle.std.specs.FinMap as map;
 ghost use Rattle.beldi_lang.specs.declared.effect.Effect.TheVariants as effect;
-ghost use Rattle.beldi_plain.specs.Plain.{Instance, nothing, value_at, with_instance, kind_of, waits_at};
+ghost use Rattle.beldi_value.specs.Id.{child_of};
+ghost use Rattle.beldi_plain.specs.Plain.{Instance, nothing, value_at, with_instance, with_callee, kind_of, waits_at};
 ghost use Rattle.beldi_plain.specs.Executor.{Made, IsActed, IsNumber};
 ghost use Rattle.beldi_plain.specs.Answers.{bar_made};
 ghost use Rattle.beldi_plain.specs.Listing.{listing_of};
@@ -75,12 +76,12 @@ impl State {
         ensures { IfOk result (λ b. (q : Instance) → IsNumber step q effect.now → b ≡ waits_at self.now.made id.now q effect.now) }
     {
         match effect {
-            Effect::Call { .. } => self.made.has_callee(alloc, id, step),
+            Effect::Call { .. } | Effect::Async { .. } => self.made.has_callee(alloc, id, step),
             _ => Ok(false),
         }
     }
 
-    /// An instance that was made makes this effect, its step of this number.
+    /// An instance that was made, and does not wait, makes this effect, its step of this number.
     pub fn make(
         &mut self,
         alloc: Global,
@@ -89,10 +90,11 @@ impl State {
         effect: &Effect,
     ) -> Result<Next, AllocError>
         requires { is_none (bar_made (kind_of id.now effect.now)) ≡ true }
-        ensures { (q : Instance) → map.get self.old.made id.now ≡ Some q → IsNumber step q effect.now → Made self.old self.new id.now q effect.now result }
+        ensures { (q : Instance) → map.get self.old.made id.now ≡ Some q → IsNumber step q effect.now → waits_at self.old.made id.now q effect.now ≡ false → Made self.old self.new id.now q effect.now result }
     {
         match effect {
             Effect::Call { func, args } => self.call(alloc, id, step, *func, args),
+            Effect::Async { func, args } => self.send(alloc, id, step, *func, args),
             Effect::Return(outcome) => self.end(alloc, id, outcome),
             _ => self.act(alloc, id, effect),
         }
@@ -108,7 +110,7 @@ impl State {
         }
     }
 
-    // An instance makes its callee.
+    // An instance makes a callee that it waits for.
     fn call(
         &mut self,
         alloc: Global,
@@ -120,8 +122,50 @@ impl State {
         requires { length id.now.hops < 63 }
         ensures { (q : Instance) → map.get self.old.made id.now ≡ Some q → step ≡ length q.answers → Made self.old self.new id.now q (effect.Call func args.now) result }
     {
+        self.make_callee(alloc, id, step, func, args, true)?;
+        Ok(Next::Stays)
+    }
+
+    // An instance makes a callee that it does not wait for, and is answered. Where there is no memory for the answer, the callee
+    // is taken away again.
+    fn send(
+        &mut self,
+        alloc: Global,
+        id: &IntentId,
+        step: u32,
+        func: u16,
+        args: &Value,
+    ) -> Result<Next, AllocError>
+        requires { length id.now.hops < 63 }
+        ensures { (q : Instance) → map.get self.old.made id.now ≡ Some q → step ≡ length q.answers → is_some (map.get self.old.made (child_of id.now step)) ≡ false → Made self.old self.new id.now q (effect.Async func args.now) result }
+    {
+        let callee = id.child(alloc, step)?;
+        self.make_callee(alloc, id, step, func, args, false)?;
+        match self.made.answer(id, Answer::Done) {
+            Ok(()) => Ok(Next::Answered(Answer::Done)),
+            Err(error) => {
+                self.made.forget(&callee);
+                Err(error)
+            }
+        }
+    }
+
+    // The callee of an instance is made.
+    fn make_callee(
+        &mut self,
+        alloc: Global,
+        id: &IntentId,
+        step: u32,
+        func: u16,
+        args: &Value,
+        waits: bool,
+    ) -> Result<(), AllocError>
+        requires { length id.now.hops < 63 }
+        ensures ok { (q : Instance) → map.get self.old.made id.now ≡ Some q → step ≡ length q.answers → OnOk result (self.new ≡ with_callee self.old id.now q func args.now waits) }
+        ensures err { OnErr result (self.new ≡ self.old) }
+    {
         let Some(found) = self.made.get(id) else {
-            return Ok(Next::Stays);
+            return Ok(());
         };
         let caller = Caller {
             place: Place {
@@ -129,11 +173,10 @@ impl State {
                 step,
             },
             func: found.func(),
-            waits: true,
+            waits,
         };
         let callee = Instance::new(alloc, func, args.copy(alloc)?, Some(caller));
-        self.made.set(id.child(alloc, step)?, callee)?;
-        Ok(Next::Stays)
+        self.made.set(id.child(alloc, step)?, callee)
     }
 
     // An instance ends, and who waits for it is answered.
