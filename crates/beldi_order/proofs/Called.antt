@@ -1,25 +1,29 @@
 -- An instance and what it called at a step: what the next entry leaves of the two.
-use Rattle.std.proofs.Common.{◌≡◌, ℕ, zero, suc, ◌<◌, ◌≤◌, false, List, [], ◌∷◌, ◌++◌, length, Option, Some, None, refl, ap, sym, ◌∙◌, subst, ◌⊎◌, inl, inr, arith, length-append}
+use Rattle.std.proofs.Common.{◌≡◌, ℕ, zero, suc, ◌<◌, ◌≤◌, Bool, false, List, [], ◌∷◌, ◌++◌, length, Option, Some, None, refl, ap, sym, ◌∙◌, subst, ◌⊎◌, inl, inr, true, arith, length-append}
 use Rattle.std.specs.Prelude.{slice_get}
 use Rattle.std.specs.FinMap as map
 use Rattle.std.specs.FinMap.{FinMap}
+use Rattle.std.specs.Ordering.{is_eq}
+use Rattle.std.proofs.lemmas.Cmp.{tied_itself}
 use Rattle.std.proofs.Math.Nat.{eq-or-lt_of_le}
 use Rattle.std.proofs.lemmas.List.{take_all, take-append-le}
 use Rattle.std.proofs.lemmas.Option.{slice_get_past}
-use Rattle.beldi_value.specs.Id.{id_cmp, root_of, child_of, has_no_hops}
+use Rattle.beldi_value.specs.Id.{id_cmp, id_total, root_of, child_of, has_no_hops}
 use Rattle.beldi_value.specs.declared.id.IntentId.{IntentId}
 use Rattle.beldi_value.specs.declared.outcome.Outcome.{Outcome}
 use Rattle.beldi_value.specs.declared.place.Caller.{Caller}
 use Rattle.beldi_value.specs.declared.value.Value.{Value}
-use Rattle.beldi_value.proofs.Callees.{no_root}
+use Rattle.beldi_value.proofs.Callees.{child_same, no_root}
 use Rattle.beldi_tree.specs.declared.deployment.Deployment.{Deployment}
 use Rattle.beldi_lang.specs.declared.effect.Answer.{Answer}
-use Rattle.beldi_lang.specs.declared.effect.Effect.TheVariants.{Call}
+use Rattle.beldi_lang.specs.declared.effect.Answer.TheVariants.{Done}
+use Rattle.beldi_lang.specs.declared.effect.Effect.TheVariants.{Call, Async}
 use Rattle.beldi_lang.specs.Callee.{answer_of}
 use Rattle.beldi_lang.specs.Wants.{wants}
 use Rattle.beldi_plain.specs.Plain.{Instance, new_instance, answered, ended, calls_at, effect_of}
-use Rattle.beldi_order.specs.Sane.{IsCalled, effect_before}
-use Rattle.beldi_order.proofs.Entries.{made_set}
+use Rattle.beldi_order.specs.Sane.{IsCalled, effect_before, call_of, answer_given}
+use Rattle.beldi_order.proofs.Entries.{same_some, made_set}
+use Rattle.beldi_order.proofs.Late.{equal, elsewhere, here}
 
 -- ---- ids
 -- an id is that of a root, or of a callee
@@ -66,30 +70,35 @@ module _ (d : Deployment) (q : Instance) where
   effect_past a n h = ap (wants d q.func q.args false) (take-append-le n q.answers (a ∷ []) h)
 
 -- ---- the two
+-- nobody waits for it
+abbrev pub IsAlone : Option Caller → Type 0
+IsAlone o = (c : Caller) → o ≡ Some c → c.waits ≡ false
+
 -- what is at an id, and at the id of its callee of step n: what is there was called there, and a call that was answered has
 -- its callee
 abbrev pub Linked : Deployment → IntentId → Option Instance → ℕ → Option Instance → Type 0
 Linked d i None n o = o ≡ None
-Linked d i (Some q) n None = n < length q.answers → (f : ℕ) (a : Value) → effect_before d q n ≡ Call f a → ⊥
+Linked d i (Some q) n None = n < length q.answers → (w : Bool) (f : ℕ) (a : Value) → effect_before d q n ≡ call_of w f a → ⊥
 Linked d i (Some q) n (Some j) = IsCalled d i q n j
 
 module _ (d : Deployment) (i : IntentId) where
   -- no caller, and then a new one
   pub caller_new : (n f : ℕ) (v : Value) (c : Option Caller) (o : Option Instance) → Linked d i None n o → Linked d i (Some (new_instance f v c)) n o
-  caller_new n f v c o h = subst (Linked d i (Some (new_instance f v c)) n) (sym h) (λ lt g a is. absurd (omega (arith, lt)))
+  caller_new n f v c o h = subst (Linked d i (Some (new_instance f v c)) n) (sym h) (λ lt w g a is. absurd (omega (arith, lt)))
 
   -- the caller was answered, but not at this step unless it stands at no call there
-  pub caller_answered : (q : Instance) (a : Answer) (n : ℕ) (o : Option Instance) → (n ≡ length q.answers → (f : ℕ) (v : Value) → effect_of d q ≡ Call f v → ⊥) → Linked d i (Some q) n o → Linked d i (Some (answered q a)) n o
-  caller_answered q a n None other h = λ lt f v is. elim (longer_cases q.answers a n lt) [
-    | inl e ↦ other e f v (sym (effect_now d q) ∙ ap (effect_before d q) (sym e) ∙ sym (effect_past d q a n (omega (arith, e))) ∙ is)
-    | inr l ↦ h l f v (sym (effect_past d q a n (omega (arith, l))) ∙ is)
+  pub caller_answered : (q : Instance) (a : Answer) (n : ℕ) (o : Option Instance) → (n ≡ length q.answers → (w : Bool) (f : ℕ) (v : Value) → effect_of d q ≡ call_of w f v → ⊥) → Linked d i (Some q) n o → Linked d i (Some (answered q a)) n o
+  caller_answered q a n None other h = λ lt w f v is. elim (longer_cases q.answers a n lt) [
+    | inl e ↦ other e w f v (sym (effect_now d q) ∙ ap (effect_before d q) (sym e) ∙ sym (effect_past d q a n (omega (arith, e))) ∙ is)
+    | inr l ↦ h l w f v (sym (effect_past d q a n (omega (arith, l))) ∙ is)
   ]
   caller_answered q a n (Some j) other h = record {
+    waits = h.waits;
     here = let l = length-append q.answers (a ∷ []) in let k = h.here in omega (arith, l, k);
     call = effect_past d q a n h.here ∙ h.call;
     from = h.from;
     answered = get_front q.answers a n (elim (eq-or-lt_of_le h.here) [
-      | inl e ↦ absurd (other e j.func j.args (sym (effect_now d q) ∙ ap (effect_before d q) (sym e) ∙ h.call))
+      | inl e ↦ absurd (other e h.waits j.func j.args (sym (effect_now d q) ∙ ap (effect_before d q) (sym e) ∙ h.call))
       | inr l ↦ l
     ]) ∙ h.answered;
   }
@@ -97,23 +106,45 @@ module _ (d : Deployment) (i : IntentId) where
   -- the caller ended
   pub caller_ended : (q : Instance) (u : Outcome) (n : ℕ) (o : Option Instance) → Linked d i (Some q) n o → Linked d i (Some (ended q u)) n o
   caller_ended q u n None h = h
-  caller_ended q u n (Some j) h = record { here = h.here; call = h.call; from = h.from; answered = h.answered }
+  caller_ended q u n (Some j) h = record { waits = h.waits; here = h.here; call = h.call; from = h.from; answered = h.answered }
 
   -- the callee was answered
   pub callee_answered : (o : Option Instance) (n : ℕ) (j : Instance) (a : Answer) → Linked d i o n (Some j) → Linked d i o n (Some (answered j a))
   callee_answered None n j a h = cc
-  callee_answered (Some q) n j a h = record { here = h.here; call = h.call; from = h.from; answered = h.answered }
+  callee_answered (Some q) n j a h = record { waits = h.waits; here = h.here; call = h.call; from = h.from; answered = h.answered }
+
+  -- the callee ended, and nobody waited for it
+  pub callee_over : (o : Option Instance) (n : ℕ) (j : Instance) (u : Outcome) → IsAlone j.from → Linked d i o n (Some j) → Linked d i o n (Some (ended j u))
+  callee_over None n j u alone h = cc
+  callee_over (Some q) n j u alone h =
+      let unwaited = alone (record { place = record { intent = i; step = n }; func = q.func; waits = h.waits }) h.from in
+      record { waits = h.waits; here = h.here; call = h.call; from = h.from; answered = h.answered ∙ ap (λ b. answer_given b j.outcome) unwaited ∙ sym (ap (λ b. answer_given b (Some u)) unwaited) }
 
   -- a call, and its return
-  pub callee_new : (q : Instance) (f : ℕ) (v : Value) → effect_of d q ≡ Call f v → IsCalled d i q (length q.answers) (new_instance f v (Some (calls_at i q)))
-  callee_new q f v is = record { here = omega arith; call = effect_now d q ∙ is; from = refl; answered = slice_get_past q.answers (length q.answers) (omega arith) }
+  pub callee_new : (q : Instance) (f : ℕ) (v : Value) → effect_of d q ≡ Call f v → IsCalled d i q (length q.answers) (new_instance f v (Some (calls_at i q true)))
+  callee_new q f v is = record { waits = true; here = omega arith; call = effect_now d q ∙ is; from = refl; answered = slice_get_past q.answers (length q.answers) (omega arith) }
 
-  pub callee_ended : (q j : Instance) (u : Outcome) → IsCalled d i q (length q.answers) j → IsCalled d i (answered q (answer_of u)) (length q.answers) (ended j u)
-  callee_ended q j u h = record {
-    here = let l = length-append q.answers (answer_of u ∷ []) in omega (arith, l);
+  -- the caller was answered at its call
+  at_call : (q : Instance) (a : Answer) → length q.answers ≤ length (answered q a).answers
+  at_call q a = let l = length-append q.answers (a ∷ []) in omega (arith, l)
+
+  pub callee_ended : (q j : Instance) (u : Outcome) → IsCalled d i q (length q.answers) j → j.from ≡ Some (calls_at i q true) → IsCalled d i (answered q (answer_of u)) (length q.answers) (ended j u)
+  callee_ended q j u h waited = record {
+    waits = h.waits;
+    here = at_call q (answer_of u);
     call = effect_past d q (answer_of u) (length q.answers) h.here ∙ h.call;
     from = h.from;
-    answered = get_last q.answers (answer_of u);
+    answered = get_last q.answers (answer_of u) ∙ sym (ap (λ (c : Caller). answer_given c.waits (Some u)) (same_some (sym h.from ∙ waited)));
+  }
+
+  -- a call that nobody waits for
+  pub callee_sent : (q : Instance) (f : ℕ) (v : Value) → effect_of d q ≡ Async f v → IsCalled d i (answered q Done) (length q.answers) (new_instance f v (Some (calls_at i q false)))
+  callee_sent q f v is = record {
+    waits = false;
+    here = at_call q Done;
+    call = effect_past d q Done (length q.answers) (omega arith) ∙ effect_now d q ∙ is;
+    from = refl;
+    answered = get_last q.answers Done;
   }
 
 -- ---- all of a map
@@ -130,3 +161,44 @@ pairs_set L f k s all caller callee i n =
     let first : L i (map.get g i) n (map.get f (child_of i n)) = made_set f k s (λ j o. (m : ℕ) → L j o m (map.get f (child_of j m))) (λ m. caller m (map.get f (child_of k m)) (all k m)) all i n in
     let then_at : (j : IntentId) → child_of i n ≡ j → L i (map.get g i) n (map.get f j) = λ j same. subst (λ z. L i (map.get g i) n (map.get f z)) same first in
     made_set f k s (λ j o. child_of i n ≡ j → L i (map.get g i) n o) (λ same. callee i n same (then_at k same)) then_at (child_of i n) refl
+
+abbrev pub Links : Deployment → FinMap id_cmp Instance → Type 0
+Links d f = (i : IntentId) (n : ℕ) → LinkedIn d f i n
+
+-- a callee was set, and then its caller: what holds of the two, and of each with all others, holds of all
+module _ (d : Deployment) (f : FinMap id_cmp Instance) (all : Links d f) (k i : IntentId) (at : ℕ) (same : k ≡ child_of i at) (s r : Instance) where
+  abbrev over : FinMap id_cmp Instance
+  over = map.insert f k s
+
+  abbrev both : FinMap id_cmp Instance
+  both = map.insert over i r
+
+  apart : k ≡ i → ⊥
+  apart e = not_own i at (sym e ∙ same)
+
+  there : map.get over i ≡ map.get f i
+  there = elsewhere f k i s apart
+
+  -- what holds of all pairs but this one
+  abbrev Others : IntentId → Option Instance → ℕ → Option Instance → Type 0
+  Others j u n v = (child_of j n ≡ k → ⊥) → Linked d j u n v
+
+  pub both_set : ((n : ℕ) (u : Option Instance) → Linked d k (map.get f k) n u → Linked d k (Some s) n u)
+      → ((n : ℕ) (u : Option Instance) → (n ≡ at → ⊥) → Linked d i (map.get f i) n u → Linked d i (Some r) n u)
+      → ((j : IntentId) (n : ℕ) (o : Option Instance) → Linked d j o n (map.get f i) → Linked d j o n (Some r))
+      → IsCalled d i r at s → Links d both
+  both_set callee caller called two j n = (elim (is_eq (id_cmp (child_of j n) k)) as (λ b. is_eq (id_cmp (child_of j n) k) ≡ b → LinkedIn d both j n) [
+    | true ↦ λ e. let t = child_same i j at n (sym same ∙ sym (equal (child_of j n) k e)) in subst (λ z. LinkedIn d both z n) t.0 (subst (LinkedIn d both i) t.1 this)
+    | false ↦ λ e. others j n (λ own. let clash = sym e ∙ ap (λ z. is_eq (id_cmp z k)) own ∙ ap is_eq (tied_itself id_total k) in cc)
+  ]) refl
+    where
+      others : (l : IntentId) (m : ℕ) → Others l (map.get both l) m (map.get both (child_of l m))
+      others = pairs_set Others over i r
+          (pairs_set Others f k s (λ l m other. all l m) (λ m u h other. callee m u (h other)) (λ l m own h other. absurd (other own)))
+          (λ m u h other. caller m u (λ e. other (ap (child_of i) e ∙ sym same)) (subst (λ z. Linked d i z m u) there (h other)))
+          (λ l m own h other. called l m (map.get both l) (subst (λ z. Linked d l (map.get both l) m z) there (h other)))
+
+      this : LinkedIn d both i at
+      this =
+          let mine : map.get both (child_of i at) ≡ Some s = ap (map.get both) (sym same) ∙ elsewhere over i k r (λ e. apart (sym e)) ∙ here f k s in
+          subst (λ u. Linked d i u at (map.get both (child_of i at))) (sym (here over i r)) (subst (Linked d i (Some r) at) (sym mine) two)

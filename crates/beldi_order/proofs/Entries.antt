@@ -40,6 +40,10 @@ changed {R = R} exact m n k v is P here others q = subst (P q) (sym (is q)) (eli
 pub made_set : (f : FinMap id_cmp Instance) (id : IntentId) (s : Instance) (P : IntentId → Option Instance → Type 0) → P id (Some s) → ((j : IntentId) → P j (map.get f j)) → (j : IntentId) → P j (map.get (map.insert f id s) j)
 made_set f id s P here others = changed id_exact f (map.insert f id s) id (Some s) (get-insert id_total f id s) P here others
 
+-- one that was there still is, once another was made
+pub still_made : (f : FinMap id_cmp Instance) (k id : IntentId) (s q : Instance) → map.get f k ≡ None → map.get f id ≡ Some q → map.get (map.insert f k s) id ≡ Some q
+still_made f k id s q gone is = made_set f k s (λ j o. j ≡ id → o ≡ Some q) (λ same. let clash = sym gone ∙ ap (map.get f) same ∙ is in cc) (λ j same. ap (map.get f) same ∙ is) id refl
+
 -- ---- runs in parts
 pub run_append : (d : Deployment) (p : PlainState) (es fs : List Entry) → run_from d p (es ++ fs) ≡ option_and_then (λ q. run_from d q fs) (run_from d p es)
 run_append d p [] fs = refl
@@ -145,6 +149,7 @@ no_call false h = cc
 pub read_is : (id : IntentId) (e : Effect) → kind_of id e ≡ kinds.Read → (t : ℕ) × (k : List ℕ) × (e ≡ effect.Read t k)
 read_is id (effect.Read t k) h = (t, k, refl)
 read_is id (effect.Call f a) h = absurd (no_call (has_callees id) h)
+read_is id (effect.Async f a) h = absurd (no_call (has_callees id) h)
 read_is id e h = cc
 
 -- an instance at a read, an operation or a return waits for nobody
@@ -154,6 +159,7 @@ module _ (made : FinMap id_cmp Instance) (id : IntentId) (q : Instance) where
 
   pub free_at_operation : (e : Effect) (o : OnItem) → op_of e ≡ Some o → waits_at made id q e ≡ false
   free_at_operation (effect.Call f a) o h = cc
+  free_at_operation (effect.Async f a) o h = cc
   free_at_operation e o h = refl
 
   pub free_at_return : (e : Effect) (o : Outcome) → e ≡ effect.Return o → waits_at made id q e ≡ false
@@ -237,7 +243,13 @@ answer_keeps P p h more (Some c) o = by_waits c.waits
 
 step_grows : (p : PlainState) (id : IntentId) (i : Instance) (e : Effect) → map.get p.made id ≡ Some i → i.outcome ≡ None → waits_at p.made id i e ≡ false → Grows p.made (step_by p id i e).made
 step_grows p id i (effect.Read t k) is none free = let a = answer.Value (value_at p (item_of i t k)) in grows_at p.made id i (answered i a) is (grown_answer i a)
-step_grows p id i (effect.Call f a) is none free = grows_new p.made (callee_of id i) (new_instance f a (Some (calls_at id i))) (absent (map.get p.made (callee_of id i)) free)
+step_grows p id i (effect.Call f a) is none free = grows_new p.made (callee_of id i) (new_instance f a (Some (calls_at id i true))) (absent (map.get p.made (callee_of id i)) free)
+step_grows p id i (effect.Async f a) is none free =
+    let s = new_instance f a (Some (calls_at id i false)) in
+    let gone = absent (map.get p.made (callee_of id i)) free in
+    let more = map.insert p.made (callee_of id i) s in
+    grows_through p.made more (map.insert more id (answered i answer.Done)) (grows_new p.made (callee_of id i) s gone)
+    (grows_at more id i (answered i answer.Done) (still_made p.made (callee_of id i) id s i gone is) (grown_answer i answer.Done))
 step_grows p id i (effect.Return o) is none free =
     let over = map.insert p.made id (ended i o) in
     let first : Grows p.made over = grows_at p.made id i (ended i o) is (grown_end i o none) in

@@ -100,12 +100,17 @@ module _ (p : PlainState) (i : IntentId) (a x : Instance) (made : map.get p.made
 
   free_passes : (j : IntentId) (y : Instance) (e : Effect) → waits_at p.made j y e ≡ false → waits_at (map.insert p.made i x) j y e ≡ false
   free_passes j y (effect.Call f v) free = ap is_some (elsewhere p.made i (callee_of j y) x (callee_apart j y free)) ∙ free
+  free_passes j y (effect.Async f v) free = ap is_some (elsewhere p.made i (callee_of j y) x (callee_apart j y free)) ∙ free
   free_passes j y e free = refl
 
 step_passes : (p : PlainState) (i j : IntentId) (a x y : Instance) (e : Effect) → map.get p.made i ≡ Some a → (i ≡ j → ⊥) → waits_at p.made j y e ≡ false → map.get (step_by p j y e).made i ≡ Some a
     → step_by (with_instance p i x) j y e ≡ with_instance (step_by p j y e) i x
 step_passes p i j a x y (effect.Read t k) made apart free stays = ap (with_items p.items) (commutes p.made i j x (answered y (answer.Value (value_at p (item_of y t k)))) apart)
-step_passes p i j a x y (effect.Call f v) made apart free stays = ap (with_items p.items) (commutes p.made i (callee_of j y) x (new_instance f v (Some (calls_at j y))) (callee_apart p i a x made j y free))
+step_passes p i j a x y (effect.Call f v) made apart free stays = ap (with_items p.items) (commutes p.made i (callee_of j y) x (new_instance f v (Some (calls_at j y true))) (callee_apart p i a x made j y free))
+step_passes p i j a x y (effect.Async f v) made apart free stays =
+    let s = new_instance f v (Some (calls_at j y false)) in
+    ap (λ g. with_items p.items (map.insert g j (answered y answer.Done))) (commutes p.made i (callee_of j y) x s (callee_apart p i a x made j y free))
+    ∙ ap (with_items p.items) (commutes (map.insert p.made (callee_of j y) s) i j x (answered y answer.Done) apart)
 step_passes p i j a x y (effect.Return o) made apart free stays =
     ap (λ f. answer_caller (with_items p.items f) y.from o) (commutes p.made i j x (ended y o) apart)
     ∙ caller_passes (with_instance p j (ended y o)) i a x (elsewhere p.made j i (ended y o) (λ s. apart (sym s)) ∙ made) y.from o stays

@@ -1,5 +1,5 @@
 -- From a lock to its unlock nobody else touches the item.
-use Rattle.std.proofs.Common.{◌≡◌, true, false, cond, List, [], ◌∷◌, ◌++◌, Option, None, Some, refl, ap, sym, ◌∙◌, subst, inl, inr, append_assoc, append-nil}
+use Rattle.std.proofs.Common.{◌≡◌, ℕ, Bool, true, false, cond, List, [], ◌∷◌, ◌++◌, Option, None, Some, refl, ap, sym, ◌∙◌, subst, inl, inr, append_assoc, append-nil}
 use Rattle.std.specs.Prelude.{option_and_then}
 use Rattle.std.specs.FinMap as map
 use Rattle.std.specs.Ordering.{is_eq}
@@ -7,6 +7,7 @@ use Rattle.std.proofs.lemmas.Cmp.{tied_itself}
 use Rattle.beldi_value.specs.Id.{root_of}
 use Rattle.beldi_value.specs.declared.id.IntentId.{IntentId}
 use Rattle.beldi_value.specs.declared.outcome.Outcome.{Outcome}
+use Rattle.beldi_value.specs.declared.value.Value.{Value}
 use Rattle.beldi_tree.specs.declared.deployment.Deployment.{Deployment}
 use Rattle.beldi_lang.specs.declared.effect.Answer.{Answer}
 use Rattle.beldi_lang.specs.declared.effect.Answer.TheVariants as answer
@@ -21,21 +22,22 @@ use Rattle.beldi_plain.specs.Item.{Item, item_cmp, item_total}
 use Rattle.beldi_plain.specs.Legal.{run_from}
 use Rattle.beldi_plain.specs.Operation as operation
 use Rattle.beldi_plain.specs.Operation.{Operation, OnItem, op_of, item_in, write, lock, free, answer_after}
-use Rattle.beldi_plain.specs.Plain.{Instance, PlainState, nothing, new_instance, after, step_by, operated, with_instance, answered, ended, answer_caller, callee_of, calls_at, waits_at, effect_of, item_of, value_at}
+use Rattle.beldi_plain.specs.Plain.{Instance, PlainState, nothing, new_instance, after, step_by, operated, with_instance, answered, ended, answer_caller, with_callee, callee_of, calls_at, waits_at, effect_of, item_of, value_at}
 use Rattle.beldi_plain.specs.declared.kind.Kind.{Kind}
 use Rattle.beldi_plain.specs.declared.kind.Kind.TheVariants as kinds
 use Rattle.beldi_order.specs.Guard.{StandsAtOperation, LegalIsGuarded}
-use Rattle.beldi_order.proofs.Entries.{same_some, made_set, did, Did, Stepped, read_is, absent, runs_on}
+use Rattle.beldi_order.proofs.Entries.{same_some, made_set, still_made, did, Did, Stepped, read_is, absent, runs_on}
 use Rattle.beldi_order.proofs.Guard.{guarded_second}
 use Rattle.beldi_order.proofs.Late.{here}
 use Rattle.beldi_order.proofs.Operations.{held_pushed, holds_answered, holds_set, item_same}
-use Rattle.beldi_order.proofs.Sanes.{waited, still_there, answers_waiter, run_is_sane}
+use Rattle.beldi_order.proofs.Sanes.{waited, still_there, answers_nobody, answers_waiter, run_is_sane}
 use Rattle.beldi_order.specs.Sane.{Sane}
 
 -- what an operation on an item leaves
 pub operation_step : (p : PlainState) (id : IntentId) (q : Instance) (e : Effect) (o : OnItem) → op_of e ≡ Some o → step_by p id q e ≡ operated p id q (Some o)
 operation_step p id q (effect.Read t k) o h = cc
 operation_step p id q (effect.Call f v) o h = cc
+operation_step p id q (effect.Async f v) o h = cc
 operation_step p id q (effect.Return u) o h = cc
 operation_step p id q e o h = ap (operated p id q) h
 
@@ -77,14 +79,21 @@ module _ (d : Deployment) (x : Item) (p : PlainState) (sane : Sane d p) (id : In
       let over = with_instance p id (ended q o) in
       let first = holds_set d x p.made id (ended q o) (ap (holds d x) made) j in
       elim (waited d p id q sane made none) [
-        | inl alone ↦ ap (λ c. holds d x (map.get (answer_caller over c o).made j)) alone ∙ first
+        | inl alone ↦ ap (λ (r : PlainState). holds d x (map.get r.made j)) (answers_nobody over q.from o alone) ∙ first
         | inr w ↦ ap (λ (r : PlainState). holds d x (map.get r.made j)) (answers_waiter d p id q w (ended q o) o)
             ∙ holds_answered d x over.made w.caller w.waiter (answer_of o) (still_there d p id q w (ended q o)) (ap op_of w.stands) j ∙ first
       ]
 
+  callee_holds : (f : ℕ) (v : Value) (w : Bool) → map.get p.made (callee_of id q) ≡ None → (j : IntentId) → holds d x (map.get (with_callee p id q f v w).made j) ≡ holds d x (map.get p.made j)
+  callee_holds f v w gone = holds_set d x p.made (callee_of id q) (new_instance f v (Some (calls_at id q w))) (ap (holds d x) gone)
+
   pub step_holds : (e : Effect) → waits_at p.made id q e ≡ false → effect_of d q ≡ e → op_of e ≡ None → (j : IntentId) → holds d x (map.get (step_by p id q e).made j) ≡ holds d x (map.get p.made j)
   step_holds (effect.Read t k) idle is no_op = holds_answered d x p.made id q (answer.Value (value_at p (item_of q t k))) made (ap op_of is)
-  step_holds (effect.Call f v) idle is no_op = holds_set d x p.made (callee_of id q) (new_instance f v (Some (calls_at id q))) (ap (holds d x) (absent (map.get p.made (callee_of id q)) idle))
+  step_holds (effect.Call f v) idle is no_op = callee_holds f v true (absent (map.get p.made (callee_of id q)) idle)
+  step_holds (effect.Async f v) idle is no_op =
+      let s = new_instance f v (Some (calls_at id q false)) in
+      let gone = absent (map.get p.made (callee_of id q)) idle in
+      λ j. holds_answered d x (map.insert p.made (callee_of id q) s) id q answer.Done (still_made p.made (callee_of id q) id s q gone made) (ap op_of is) j ∙ callee_holds f v false gone j
   step_holds (effect.Return o) idle is no_op = return_holds o
   step_holds e idle is no_op = λ j. ap (λ o. holds d x (map.get (operated p id q o).made j)) no_op
 

@@ -32,6 +32,7 @@ operation_kept p id q (Some o) h = set_if_kept p.items (item_in q.func o) (sets 
 by_kept : (p : PlainState) (id : IntentId) (q : Instance) (e : Effect) → KeepsNoNull p → KeepsNoNull (step_by p id q e)
 by_kept p id q (effect.Read t k) h = h
 by_kept p id q (effect.Call f a) h = h
+by_kept p id q (effect.Async f a) h = h
 by_kept p id q (effect.Return o) h = answer_keeps KeepsNoNull (with_instance p id (ended q o)) h (λ j r a is. h) q.from o
 by_kept p id q e h = operation_kept p id q (op_of e) h
 
