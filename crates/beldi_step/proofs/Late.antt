@@ -6,7 +6,7 @@ use Rattle.std.proofs.lemmas.Bool.{lt-ltb}
 use Rattle.beldi_tree.specs.declared.deployment.Deployment.{Deployment}
 use Rattle.beldi_row.specs.Table.{TableState}
 use Rattle.beldi_step.specs.declared.event.Event.{Event}
-use Rattle.beldi_step.specs.declared.event.Event.TheVariants.{Ticket, Request, Turn, Lost, Crash, Restart, Tick}
+use Rattle.beldi_step.specs.declared.event.Event.TheVariants.{Ticket, Request, Turn, Lost, Crash, Restart, Tick, Ic}
 use Rattle.beldi_step.specs.declared.event.Seen.{Seen}
 use Rattle.beldi_step.specs.declared.event.Seen.TheVariants.{Expired, Spent, Crashed}
 use Rattle.beldi_step.specs.declared.run.Run.{Run}
@@ -37,6 +37,7 @@ module _ (d : Deployment) (c : Core) (i : ℕ) (r : Run) (is : map.get c.runs i 
   expires_in (Crash j) of = let same : j ≡ i = cc in ap (λ k. crash_plan c k (map.get c.runs k)) same ∙ ends
   expires_in (Restart id f) of = cc
   expires_in (Tick n) of = cc
+  expires_in Ic of = cc
 
 pub expires : ExpiresPastDeadline
 expires d e c b old new r i run h few of is past =

@@ -15,7 +15,7 @@ use Rattle.beldi_step.specs.declared.run.RunAt.{RunAt}
 use Rattle.beldi_step.specs.declared.run.RunAt.TheVariants.{Begins}
 use Rattle.beldi_step.specs.declared.run.Begun.{Begun}
 use Rattle.beldi_step.specs.declared.run.Says.{Says}
-use Rattle.beldi_step.specs.declared.run.Says.TheVariants.{On, Opens, Waits, Answers, Ends}
+use Rattle.beldi_step.specs.declared.run.Says.TheVariants.{On, Opens, Starts, Waits, Answers, Ends}
 use Rattle.beldi_step.specs.declared.run.Stage.{Stage}
 use Rattle.beldi_step.specs.declared.run.TurnSays.{TurnSays}
 use Rattle.beldi_step.specs.Run.{Turned, Turns, run_told, told_at, turned_by, stage_says, mark_of, followed, goes_from, goes_to, begin_in, body_found}
@@ -32,6 +32,7 @@ marks r m c k (Some s) = refl
 turn_marks : (d : Deployment) (r : Run) (g : Begun) (x : Says) → mark_of x ≡ (turned_by d r g x).mark
 turn_marks d r g (On s m) = refl
 turn_marks d r g (Opens m) = refl
+turn_marks d r g (Starts a) = sym (marks r _ g.caller None _)
 turn_marks d r g (Waits w) = refl
 turn_marks d r g (Answers a m) = sym (marks r _ g.caller m _)
 turn_marks d r g (Ends m o) = refl

@@ -1,5 +1,5 @@
 -- The host without its table, and what one event does.
-use Rattle.std.specs.Prelude.{◌≡◌, ℕ, ◌+◌, ◌-◌, ◌^◌, ◌==◌, ◌||◌, nat_lt, nat_le, min, Bool, true, false, List, [], ◌∷◌, ◌++◌, option_to_list, Option, Some, None, is_none, Result, Ok, Err, if◌then◌else◌}
+use Rattle.std.specs.Prelude.{◌≡◌, ℕ, ◌+◌, ◌-◌, ◌^◌, ◌==◌, ◌||◌, nat_lt, nat_le, min, Bool, true, false, List, [], ◌∷◌, ◌++◌, option_to_list, Option, Some, None, Result, Ok, Err, if◌then◌else◌}
 use Rattle.std.specs.List.{list_any}
 use Rattle.std.specs.Option.{option_map}
 use Rattle.std.specs.FinMap as map
@@ -20,7 +20,7 @@ use Rattle.beldi_book.specs.Order.{count_changes}
 use Rattle.beldi_walk.specs.declared.query.Query.{Query}
 use Rattle.beldi_walk.specs.Query.{Told, lends, Came, CameOn}
 use Rattle.beldi_step.specs.declared.event.Event.{Event}
-use Rattle.beldi_step.specs.declared.event.Event.TheVariants.{Ticket, Request, Turn, Lost, Crash, Restart, Tick}
+use Rattle.beldi_step.specs.declared.event.Event.TheVariants.{Ticket, Request, Turn, Lost, Crash, Restart, Tick, Ic}
 use Rattle.beldi_step.specs.declared.event.Seen.{Seen}
 use Rattle.beldi_step.specs.declared.event.Seen.TheVariants as seen
 use Rattle.beldi_intent.specs.declared.intent.Binding.{Binding}
@@ -32,21 +32,28 @@ use Rattle.beldi_step.specs.declared.run.RunAt.TheVariants.{Looks}
 use Rattle.beldi_step.specs.declared.run.Wait.{Wait}
 use Rattle.beldi_step.specs.declared.run.Wait.TheVariants as wait
 use Rattle.beldi_intent.specs.Intent.{issue_asks, bind_asks, is_added, binding_of}
-use Rattle.beldi_step.specs.Run.{Turned, run_asks, run_told, callee_of}
+use Rattle.beldi_row.specs.Key.{least_key}
+use Rattle.beldi_row.specs.declared.key.RowKey.{RowKey}
+use Rattle.beldi_collect.specs.declared.cursor.Found.{Found}
+use Rattle.beldi_collect.specs.declared.cursor.Found.TheVariants as collect
+use Rattle.beldi_collect.specs.Collect.{collect_asks, collect_says}
+use Rattle.beldi_step.specs.declared.run.TurnSays.{TurnSays}
+use Rattle.beldi_step.specs.Run.{Turned, says_of, run_asks, run_told, callee_of}
 
--- the newest ticket, the live runs by number, how many runs were ever started, the book, the moment, and how many events
--- were taken
+-- the newest ticket, the live runs by number, how many runs were ever started, the book, the moment, where the intent collector
+-- stands, and how many events were taken
 pub record Core : Type 0 where
   pub newest : ℕ
   pub runs : FinMap nat_cmp Run
   pub last_run : ℕ
   pub book : List Entry
   pub now : ℕ
+  pub cursor : RowKey
   pub taken : ℕ
 
 -- a host that nothing has happened to, over rows whose newest ticket is this one
 abbrev pub first_core : ℕ → ℕ → Core
-first_core newest now = record { newest = newest; runs = map.empty; last_run = 0; book = []; now = now; taken = 0 }
+first_core newest now = record { newest = newest; runs = map.empty; last_run = 0; book = []; now = now; cursor = least_key; taken = 0 }
 
 abbrev pub most_runs : ℕ
 most_runs = 1024
@@ -118,6 +125,7 @@ plan_of d (Lost i) c = run_plan c i (map.get c.runs i)
 plan_of d (Crash i) c = crash_plan c i (map.get c.runs i)
 plan_of d (Restart id f) c = restart_plan d c id f
 plan_of d (Tick n) c = tick_plan c n
+plan_of d Ic c = asks (collect_asks c.cursor)
 
 abbrev pub counted : Core → Core
 counted c = record c { taken = c.taken + 1 }
@@ -166,40 +174,39 @@ abbrev pub has_run : FinMap nat_cmp Run → IntentId → Bool
 has_run m id = list_any (λ e. is_eq (id_cmp e.1.id id)) (map.entries m)
 
 -- a turn that was made: its entry, the run that it started, whether its own run is over, and the root that it ended
-abbrev pub acted : IntentId → Turned → Option ℕ → Seen
-acted id s started = seen.Acted (option_map (entry_of id) s.mark) started (is_none s.next) (option_map (λ (o : Outcome). (id.ticket, o)) s.reply)
+abbrev pub acted : IntentId → Option Mark → Bool → Option Outcome → Option ℕ → Seen
+acted id m over reply started = seen.Acted (option_map (entry_of id) m) started over (option_map (λ (o : Outcome). (id.ticket, o)) reply)
 
-abbrev pub started : Core → IntentId → Turned → Run → Core × Seen
-started c id s r = (with_run c r, acted id s (Some (c.last_run + 1)))
+-- .. from the core that it left, and the number of the run that it started
+abbrev pub made : IntentId → TurnSays → Core × Option ℕ → Core × Seen
+made id x p = (p.0, acted id x.mark x.over x.reply p.1)
 
--- a call was opened: a run of the callee is started where it has no live run and there is a place for one
-abbrev pub opened : Core → IntentId → Turned → Option Run → Core × Seen
-opened c id s None = (c, acted id s None)
-opened c id s (Some r) = if has_run c.runs r.id || is_crowded c then (c, acted id s None) else started c id s r
+-- a run of what is called is started, if anything is
+abbrev pub started : Core → Option Run → Core × Option ℕ
+started c None = (c, None)
+started c (Some r) = (with_run c r, Some (c.last_run + 1))
 
--- the result of a call is not there: its run waits for a live run of the callee, or one is started
-abbrev pub started_anew : Core → IntentId → Turned → Option Run → Core × Seen
-started_anew c id s None = (c, acted id s None)
-started_anew c id s (Some r) = started c id s r
+-- .. where it has none, and there is a place for one
+abbrev pub may_start : Core → Option Run → Core × Option ℕ
+may_start c None = (c, None)
+may_start c (Some r) = if has_run c.runs r.id || is_crowded c then (c, None) else started c (Some r)
 
-abbrev pub awaited : Core → IntentId → Turned → IntentId → Core × Seen
-awaited c id s callee =
+-- what follows of a turn, where this is a run of what it calls: it was made, or its run waits. Where the result of a call is not
+-- there, it waits for a live run of the callee, or one is started.
+abbrev pub after_turn : Core → Option Run → IntentId → TurnSays → Option Wait → Core × Seen
+after_turn c o id x None = made id x (if x.starts then may_start c o else (c, None))
+after_turn c o id x (Some (wait.Held w)) = (c, seen.Held w)
+after_turn c o id x (Some (wait.Result callee)) =
     if has_run c.runs callee then (c, seen.NotYet callee) else
     if is_crowded c then (c, seen.Crowded) else
-    started_anew c id s (callee_of s.next)
-
--- what follows of a turn: it was made, or the run waits
-abbrev pub after_turn : Core → IntentId → Turned → Option Wait → Core × Seen
-after_turn c id s None = if s.opens then opened c id s (callee_of s.next) else (c, acted id s None)
-after_turn c id s (Some (wait.Held o)) = (c, seen.Held o)
-after_turn c id s (Some (wait.Result callee)) = awaited c id s callee
+    made id x (started c o)
 
 -- the core after a turn, but for a run that it started
 abbrev pub turned_core : Core → ℕ → IntentId → Turned → Core
 turned_core c i id s = record c { runs = put_run c.runs i s.next; book = marked c.book id s.mark }
 
-abbrev pub turn_next : Core → ℕ → IntentId → Turned → Core × Seen
-turn_next c i id s = after_turn (turned_core c i id s) id s s.wait
+abbrev pub turn_next : Core → ℕ → Run → Turned → Core × Seen
+turn_next c i r s = after_turn (turned_core c i r.id s) (callee_of r) r.id (says_of s) s.wait
 
 -- the run of this number is over, and the book has the entry of its act
 abbrev pub without_run : Core → ℕ → IntentId → Option Mark → Core
@@ -207,7 +214,26 @@ without_run c i id m = record c { runs = map.remove c.runs i; book = marked c.bo
 
 abbrev pub run_next : Deployment → Core → ℕ → Told → Option Run → Core × Seen
 run_next d c i t None = (c, no_run c i)
-run_next d c i t (Some r) = turn_next c i r.id (run_told d (count_changes c.book) r t)
+run_next d c i t (Some r) = turn_next c i r (run_told d (count_changes c.book) r t)
+
+-- ---- the intent collector: it goes from row to row, and launches a run of each intent that has not ended and has none
+abbrev pub passed : Core → RowKey → Core × Seen
+passed c k = (record c { cursor = k }, seen.Passed)
+
+abbrev pub launched : Deployment → Core → IntentId → ℕ → Core × Seen
+launched d c id f = (with_run c (new_run d c id f), seen.Launched (c.last_run + 1) id)
+
+-- at an intent that has not ended it stays where the host is crowded
+abbrev pub collected : Deployment → Core → RowKey → IntentId → ℕ → Core × Seen
+collected d c k id f =
+    if has_run c.runs id then passed c k else
+    if is_crowded c then (c, seen.Crowded) else
+    launched d (record c { cursor = k }) id f
+
+abbrev pub collect_next : Deployment → Core → Found → Core × Seen
+collect_next d c collect.Round = (record c { cursor = least_key }, seen.Round)
+collect_next d c (collect.Passed k) = passed c k
+collect_next d c (collect.Unended k id f) = collected d c k id f
 
 -- .. and nobody heard it
 abbrev pub unheard_next : Deployment → Core → ℕ → Told → Option Run → Core
@@ -223,6 +249,7 @@ heard d (Lost i) c t = (unheard_next d c i t (map.get c.runs i), seen.Dropped)
 heard d (Crash i) c t = (c, seen.Crashed)
 heard d (Restart id f) c t = (c, seen.Crowded)
 heard d (Tick n) c t = (c, seen.ClockEnd)
+heard d Ic c t = collect_next d c (collect_says t)
 
 -- .. and then out of memory: what is left, none where that cannot be
 abbrev pub if_lent : Bool → Core → Option Core
@@ -237,6 +264,7 @@ no_memory d (Lost i) c t = None
 no_memory d (Crash i) c t = None
 no_memory d (Restart id f) c t = None
 no_memory d (Tick n) c t = None
+no_memory d Ic c t = if_lent (lends t) c
 
 -- ---- what follows where it did not
 abbrev pub refused_by : TableErr → Result Seen AllocError
@@ -255,6 +283,7 @@ refused (Lost i) c e = (ended_run c i, Ok seen.Dropped)
 refused (Crash i) c e = (c, refused_by e)
 refused (Restart id f) c e = (c, refused_by e)
 refused (Tick n) c e = (c, refused_by e)
+refused Ic c e = (c, refused_by e)
 
 -- ---- one event
 -- what followed, by what the query came to

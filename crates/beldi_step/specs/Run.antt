@@ -1,5 +1,5 @@
 -- A run, as a machine that asks one thing a turn.
-use Rattle.std.specs.Prelude.{◌≡◌, ℕ, not, Bool, true, false, Option, Some, None, Result, Ok, Err, if◌then◌else◌}
+use Rattle.std.specs.Prelude.{◌≡◌, ℕ, not, Bool, true, false, Option, Some, None, is_none, Result, Ok, Err, if◌then◌else◌}
 use Rattle.beldi_value.specs.Id.{has_callees, has_no_hops, child_of}
 use Rattle.beldi_value.specs.declared.id.IntentId.{IntentId}
 use Rattle.beldi_value.specs.declared.value.Value.{Value}
@@ -39,26 +39,31 @@ use Rattle.beldi_readlog.specs.declared.read_log.Kept.{Kept}
 use Rattle.beldi_readlog.specs.ReadLog.{log_key, given_of, kept_of}
 use Rattle.beldi_invokelog.specs.declared.invoke_log.Back as told
 use Rattle.beldi_invokelog.specs.declared.invoke_log.Back.TheVariants as back
-use Rattle.beldi_invokelog.specs.InvokeLog.{back_asks, back_of}
+use Rattle.beldi_invokelog.specs.InvokeLog.{back_asks, registered_asks, back_of}
 use Rattle.beldi_call.specs.declared.call.CallAt.{CallAt}
 use Rattle.beldi_call.specs.declared.call.CallAt.TheVariants as call
 use Rattle.beldi_call.specs.declared.call.CallSays.{CallSays}
 use Rattle.beldi_call.specs.declared.call.CallSays.TheVariants.{Opened, NotYet, Done}
 use Rattle.beldi_call.specs.Call.{call_asks, call_says}
+use Rattle.beldi_call.specs.declared.async_call.AsyncAt.{AsyncAt}
+use Rattle.beldi_call.specs.declared.async_call.AsyncAt.TheVariants as async
+use Rattle.beldi_call.specs.declared.async_call.AsyncSays.{AsyncSays}
+use Rattle.beldi_call.specs.declared.async_call.AsyncSays.TheVariants as asyncs
+use Rattle.beldi_call.specs.Async.{async_asks, async_says}
 use Rattle.beldi_step.specs.declared.run.Mark.{Mark}
 use Rattle.beldi_step.specs.declared.run.Mark.TheVariants as mark
 use Rattle.beldi_step.specs.declared.run.Wait.{Wait}
 use Rattle.beldi_step.specs.declared.run.Wait.TheVariants as wait
-use Rattle.beldi_step.specs.declared.run.OnCell.{OnCell}
+use Rattle.beldi_step.specs.declared.stage.OnCell.{OnCell}
 use Rattle.beldi_step.specs.declared.run.Run.{Run}
 use Rattle.beldi_step.specs.declared.run.RunAt.{RunAt}
 use Rattle.beldi_step.specs.declared.run.RunAt.TheVariants.{Looks, Registers, Begins}
 use Rattle.beldi_step.specs.declared.run.Begun.{Begun}
 use Rattle.beldi_step.specs.declared.run.TurnSays.{TurnSays}
 use Rattle.beldi_step.specs.declared.run.Stage.{Stage}
-use Rattle.beldi_step.specs.declared.run.Stage.TheVariants.{Ask, Walk, Keep, Write, Call, Back, Close}
+use Rattle.beldi_step.specs.declared.run.Stage.TheVariants.{Ask, Walk, Keep, Write, Call, Async, Back, Tell, Close}
 use Rattle.beldi_step.specs.declared.run.Says.{Says}
-use Rattle.beldi_step.specs.declared.run.Says.TheVariants.{On, Opens, Waits, Answers, Ends}
+use Rattle.beldi_step.specs.declared.run.Says.TheVariants.{On, Opens, Starts, Waits, Answers, Ends}
 use Rattle.beldi_intent.specs.Intent.{look_asks, register_asks, end_asks, is_did, body_in, body_told}
 
 -- the place of a run's effect at a step
@@ -111,8 +116,14 @@ abbrev pub is_waited : Option Caller → Bool
 is_waited None = false
 is_waited (Some c) = c.waits
 
+-- where a return begins: what its caller waits for gives its outcome back before it ends, and any other callee tells its caller that
+-- it is registered
+abbrev pub last_stage : Option Caller → Stage
+last_stage None = Close
+last_stage (Some c) = if c.waits then Back else Tell
+
 -- where an effect of an intent begins, whose caller this is; none where it is not carried out, as a call is not whose callee has no
--- id. What its caller waits for gives its outcome back before it ends.
+-- id
 abbrev pub first_stage : IntentId → Option Caller → Effect → Option Stage
 first_stage id c (effect.Read t k) = Some Ask
 first_stage id c (effect.Write t k v) = Some (Write Try)
@@ -120,7 +131,8 @@ first_stage id c (effect.CondWrite t k r o v) = Some (Write Try)
 first_stage id c (effect.Lock t k) = Some (Write Try)
 first_stage id c (effect.Unlock t k) = Some (Write Try)
 first_stage id c (effect.Call f a) = if has_callees id then Some (Call call.Open) else None
-first_stage id c (effect.Return o) = Some (if is_waited c then Back else Close)
+first_stage id c (effect.Async f a) = if has_callees id then Some (Async async.Open) else None
+first_stage id c (effect.Return o) = Some (last_stage c)
 first_stage id c e = None
 
 -- ---- what is asked in the next turn. A stage of another effect, which does not come, looks at the intent's row.
@@ -136,6 +148,18 @@ abbrev pub call_here_asks : IntentId → ℕ → ℕ → Effect → CallAt → Q
 call_here_asks id func step (effect.Call f a) at = call_asks func (place_of id step) f at
 call_here_asks id func step e at = look_asks id func
 
+-- the body of what is called
+abbrev pub callee_body : IntentId → ℕ → ℕ → ℕ → Value → Bool → Body
+callee_body id func step f a waits = record { func = f; args = a; tx = None; from = Some (record { place = place_of id step; func = func; waits = waits }) }
+
+abbrev pub async_here_asks : IntentId → ℕ → ℕ → Effect → AsyncAt → Query
+async_here_asks id func step (effect.Async f a) at = if has_callees id then async_asks func (place_of id step) (callee_body id func step f a false) at else look_asks id func
+async_here_asks id func step e at = look_asks id func
+
+abbrev pub tell_asks : IntentId → ℕ → Option Caller → Query
+tell_asks id func None = look_asks id func
+tell_asks id func (Some c) = registered_asks c.func c.place
+
 abbrev pub back_to_asks : IntentId → ℕ → Option Caller → Effect → Query
 back_to_asks id func (Some c) (effect.Return o) = back_asks c.func c.place o
 back_to_asks id func c e = look_asks id func
@@ -150,7 +174,9 @@ stage_asks id func c step e Walk = walk_asks id func e
 stage_asks id func c step e (Keep v seen) = Act (log_key func (place_of id step)) (PutRead v)
 stage_asks id func c step e (Write at) = put_asks id func step at (cell_op e)
 stage_asks id func c step e (Call at) = call_here_asks id func step e at
+stage_asks id func c step e (Async at) = async_here_asks id func step e at
 stage_asks id func c step e Back = back_to_asks id func c e
+stage_asks id func c step e Tell = tell_asks id func c
 stage_asks id func c step e Close = close_asks id func e
 
 abbrev pub asks_at : Run → RunAt → Query
@@ -208,6 +234,17 @@ abbrev pub call_here_says : IntentId → ℕ → Effect → CallAt → Told → 
 call_here_says id step (effect.Call f a) at t = if has_callees id then call_answer id step (call_says f at t) else Ends None None
 call_here_says id step e at t = Ends None None
 
+-- a call that nobody waits for makes its step as it is opened; once it is registered, a run of the callee may start
+abbrev pub async_answer : AsyncAt → AsyncSays → Says
+async_answer at (asyncs.Opened first) = On (Async async.Register) (mark_if first mark.Step)
+async_answer at asyncs.Going = On (Async async.Note) None
+async_answer async.Note asyncs.Done = Starts answer.Done
+async_answer at asyncs.Done = Answers answer.Done None
+
+abbrev pub async_here_says : IntentId → Effect → AsyncAt → Told → Says
+async_here_says id (effect.Async f a) at t = if has_callees id then async_answer at (async_says f at t) else Ends None None
+async_here_says id e at t = Ends None None
+
 -- the outcome was given back, and the step that gave it was made once; then the instance is ended
 abbrev pub back_says : told.Back → Says
 back_says back.Set = On Close (Some mark.Step)
@@ -231,31 +268,38 @@ stage_says id c changes step e Walk t = walk_says changes (read_goes (Some (owne
 stage_says id c changes step e (Keep v seen) t = keep_says seen (kept_of v t)
 stage_says id c changes step e (Write at) t = put_says e (note_done e) t
 stage_says id c changes step e (Call at) t = call_here_says id step e at t
+stage_says id c changes step e (Async at) t = async_here_says id e at t
 stage_says id c changes step e Back t = back_says (back_of t)
+stage_says id c changes step e Tell t = On Close None
 stage_says id c changes step e Close t = close_says id c e (is_did t)
 
 abbrev pub mark_of : Says → Option Mark
 mark_of (On s m) = m
 mark_of (Opens m) = m
+mark_of (Starts a) = None
 mark_of (Waits w) = None
 mark_of (Answers a m) = m
 mark_of (Ends m o) = m
 
 -- ---- where a run goes
--- the run as it goes on, none where it is over; the mark of its act; whether it opened a call whose callee has not ended; why it
--- stands; and the outcome that its act gave the root
+-- the run as it goes on, none where it is over; the mark of its act; whether a run of what it calls may start; why it stands; and the
+-- outcome that its act gave the root
 pub record Turned : Type 0 where
   pub next : Option Run
   pub mark : Option Mark
-  pub opens : Bool
+  pub starts : Bool
   pub wait : Option Wait
   pub reply : Option Outcome
 
+-- what is said of it
+abbrev pub says_of : Turned → TurnSays
+says_of t = record { mark = t.mark; over = is_none t.next; starts = t.starts; wait = t.wait; reply = t.reply }
+
 abbrev pub over : Option Mark → Turned
-over m = record { next = None; mark = m; opens = false; wait = None; reply = None }
+over m = record { next = None; mark = m; starts = false; wait = None; reply = None }
 
 abbrev pub goes : Run → Begun → Option Mark → Turned
-goes r g m = record { next = Some (record r { at = Begins g }); mark = m; opens = false; wait = None; reply = None }
+goes r g m = record { next = Some (record r { at = Begins g }); mark = m; starts = false; wait = None; reply = None }
 
 -- a run whose machine has come to its next effect; one whose effect is not carried out is over
 abbrev pub goes_from : Run → Machine → Option Caller → Option Mark → Option Stage → Turned
@@ -270,10 +314,11 @@ at_stage g s = record { machine = g.machine; caller = g.caller; stage = s }
 
 abbrev pub turned_by : Deployment → Run → Begun → Says → Turned
 turned_by d r g (On s m) = goes r (at_stage g s) m
-turned_by d r g (Opens m) = record { next = Some (record r { at = Begins (at_stage g (Call call.Look)) }); mark = m; opens = true; wait = None; reply = None }
-turned_by d r g (Waits w) = record { next = Some r; mark = None; opens = false; wait = Some w; reply = None }
+turned_by d r g (Opens m) = record { next = Some (record r { at = Begins (at_stage g (Call call.Look)) }); mark = m; starts = true; wait = None; reply = None }
+turned_by d r g (Waits w) = record { next = Some r; mark = None; starts = false; wait = Some w; reply = None }
+turned_by d r g (Starts a) = record (goes_to r (resumed d g.machine a) g.caller None) { starts = true }
 turned_by d r g (Answers a m) = goes_to r (resumed d g.machine a) g.caller m
-turned_by d r g (Ends m o) = record { next = None; mark = m; opens = false; wait = None; reply = o }
+turned_by d r g (Ends m o) = record { next = None; mark = m; starts = false; wait = None; reply = o }
 
 -- a run begins a body of its function
 abbrev pub begin_in : Deployment → Run → Option Func → Option Body → Turned
@@ -294,21 +339,22 @@ told_at d changes r (Begins g) t = turned_by d r g (stage_says r.id g.caller cha
 abbrev pub run_told : Deployment → ℕ → Run → Told → Turned
 run_told d changes r t = told_at d changes r r.at t
 
--- ---- a run of what is called: it has the caller's deadline, and registers its body, where the callee has no row yet
-abbrev pub callee_body : Run → ℕ → ℕ → Value → Body
-callee_body r step f a = record { func = f; args = a; tx = None; from = Some (record { place = place_of r.id step; func = r.func; waits = true }) }
+-- ---- a run of what is called: it has the caller's deadline. One that is waited for registers its body, where the callee has no row
+-- yet; any other was registered.
+abbrev pub callee_run : Run → ℕ → ℕ → RunAt → Option Run
+callee_run r step f at = if has_callees r.id then Some (record { id = child_of r.id step; func = f; deadline = r.deadline; at = at }) else None
 
 abbrev pub callee_by : Run → ℕ → Effect → Option Run
-callee_by r step (effect.Call f a) = if has_callees r.id then Some (record { id = child_of r.id step; func = f; deadline = r.deadline; at = Registers (callee_body r step f a) }) else None
+callee_by r step (effect.Call f a) = callee_run r step f (Registers (callee_body r.id r.func step f a true))
+callee_by r step (effect.Async f a) = callee_run r step f Looks
 callee_by r step e = None
 
 abbrev pub callee_at : Run → RunAt → Option Run
 callee_at r (Begins g) = callee_by r g.machine.steps g.machine.effect
 callee_at r at = None
 
-abbrev pub callee_of : Option Run → Option Run
-callee_of None = None
-callee_of (Some r) = callee_at r r.at
+abbrev pub callee_of : Run → Option Run
+callee_of r = callee_at r r.at
 
 -- ---- calls that make a turn
 -- the run as it goes on, if it does
@@ -327,7 +373,7 @@ body_found func at t = body_told func t
 
 -- an answer, with the run as it is after it
 abbrev pub followed : Run → TurnSays → Turned
-followed s x = record { next = going s x.over; mark = x.mark; opens = x.opens; wait = x.wait; reply = x.reply }
+followed s x = record { next = going s x.over; mark = x.mark; starts = x.starts; wait = x.wait; reply = x.reply }
 
 -- the run turned so; out of memory the mark is told
 abbrev pub Turns : Run → Result TurnSays (Option Mark) → Turned → Type 0

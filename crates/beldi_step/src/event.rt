@@ -19,6 +19,8 @@ pub enum Event {
     Restart { id: IntentId, func: u16 },
     /// So many ticks pass.
     Tick(u64),
+    /// The intent collector goes to the next row.
+    Ic,
 }
 
 /// The answers to events.
@@ -71,8 +73,8 @@ pub enum Seen {
     /// The write asks for a row of its item past the greatest. It comes only where the rows of an item are linked: no act
     /// says so yet.
     Worn,
-    /// 1,024 runs are live, and the event is a request or a restart, or the turn of a run that waits for a callee without a
-    /// live run: the run waits on.
+    /// 1,024 runs are live, and the event is a request or a restart, or has nothing to do but start a run: the turn of a run
+    /// that waits for a callee without a live run, or the intent collector's at an intent that has none. All is as before.
     Crowded,
     /// The moment is past the run's deadline: no act was made, and the run is over.
     Expired,
@@ -86,6 +88,15 @@ pub enum Seen {
     Crashed,
     /// A run of this number was started.
     Started(u64),
+    /// The intent collector passed a row.
+    Passed,
+    /// The intent of the row has not ended and had no live run: the intent collector started this one.
+    Launched {
+        run: u64,
+        id: IntentId,
+    },
+    /// No row followed: the intent collector begins anew.
+    Round,
     /// It is this moment, in ticks.
     Now(u64),
     /// The moment would pass 2^62 ticks, and stays.

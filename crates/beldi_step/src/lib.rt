@@ -5,7 +5,7 @@
 //!
 //! Proved:
 //! - `Run::ask` asks what the definition of a run asks, and `Run::told` goes where it goes; out of memory,
-//!   the error tells the mark of the act (`Turns`). `Run::callee` is a run of what a run calls, with its deadline (`callee_at`).
+//!   the error tells the mark of the act (`Turns`). `Run::callee` is a run of what a run calls, with its deadline (`callee_of`).
 //! - What one event does is defined here: it is answered at once, or makes one query, and one witness says what that came
 //!   to. Over rows that are told it is a relation between the host and the rows before and after (`a_step_over_rows`).
 //!   Over any table it makes at most one call, and none where it is answered at once: then the table is as it was
@@ -13,9 +13,11 @@
 //! - No run acts past its deadline: an event of it is answered at once, and ends it (`a_run_expires_past_its_deadline`).
 #![tactic(auto)]
 
+mod call_stage;
 mod event;
 mod laws;
 mod run;
+mod stage;
 
 pub use event::{Event, Seen};
 pub use laws::{a_run_expires_past_its_deadline, a_step_over_any_table, a_step_over_rows};

@@ -1,30 +1,22 @@
 // Runs: executions of instances of functions. Each asks one thing a turn, and goes on by what it is told.
-ghost use Rattle.std.specs.Prelude.{◌≡◌, false, Some, None, IfOk, IfErr, OnOk};
-ghost use Rattle.beldi_value.specs.declared.value.Value.{Value};
-ghost use Rattle.beldi_value.specs.declared.place.Owner.TheVariants as owners;
+ghost use Rattle.std.specs.Prelude.{◌≡◌, false, Some, None, IfOk};
 ghost use Rattle.beldi_tree.specs.Names.{func_at};
 ghost use Rattle.beldi_lang.specs.Machine.{resumed};
-ghost use Rattle.beldi_row.specs.declared.row.Body.{Body};
 ghost use Rattle.beldi_walk.specs.Query.{told_of};
-ghost use Rattle.beldi_daal.specs.Cell.{read_goes};
-ghost use Rattle.beldi_readlog.specs.ReadLog.{given_of, kept_of};
-ghost use Rattle.beldi_invokelog.specs.InvokeLog.{back_of};
-ghost use Rattle.beldi_intent.specs.Intent.{body_in, body_told, is_did as is_did_of, look_asks, open_body};
-ghost use Rattle.beldi_step.specs.Run.{run_asks, run_told, stage_asks, stage_says, mark_of, followed, first_stage as first_stage_of, is_waited as is_waited_of, note_done as note_done_of, answer_noted as answer_noted_of, cell_op, done_says, mark_if as mark_if_of, ask_says, walk_says, keep_says, put_says, call_here_says, back_to_asks, back_says, close_says, begin_in, goes_to, at_stage, body_found, body_added, turned_by, Turns, callee_at, place_of as place_at};
+ghost use Rattle.beldi_intent.specs.Intent.{body_in, body_told, open_body as open_body_of};
+ghost use Rattle.beldi_step.specs.Run.{run_asks, run_told, followed, begin_in, goes_to, at_stage, body_found, body_added, turned_by, Turns, callee_of, callee_run as callee_run_of};
 ghost use Rattle.beldi_step.specs.declared.run.Begun.{Begun};
 ghost use Rattle.beldi_step.specs.declared.run.RunAt.{RunAt};
 ghost use Rattle.beldi_step.specs.declared.run.RunAt.TheVariants as at;
 
-use beldi_call::{CallAt, CallSays, call_query, call_told};
-use beldi_daal::{
-    CellOp, ReadGoes, WriteAt, WriteGoes, cell_key, read_told, write_query, write_told,
-};
-use beldi_intent::{end_told, intent_key, register_query};
-use beldi_invokelog::{Back, back_told, invoke_key};
+use crate::call_stage::callee_body;
+use crate::stage::{first_stage, hear, look, stage_query};
+use beldi_call::{AsyncAt, CallAt};
+use beldi_daal::WriteAt;
+use beldi_intent::{open_body, register_query};
 use beldi_lang::{Answer, Deployment, Effect, Machine};
-use beldi_readlog::{given_told, kept_told, log_key};
-use beldi_row::{Act, Body, IntentRow, Note, Row, Said};
-use beldi_value::{Caller, IntentId, Outcome, Owner, Place, Str, Value};
+use beldi_row::{Body, IntentRow, Row, Said};
+use beldi_value::{Caller, IntentId, Outcome, Owner, Value};
 use beldi_walk::{Heard, Query};
 use std::alloc::{AllocError, Global};
 use std::mem::replace;
@@ -70,8 +62,12 @@ pub enum Stage {
     Write(WriteAt),
     /// A call stands here.
     Call(CallAt),
+    /// A call that nobody waits for stands here.
+    Async(AsyncAt),
     /// The outcome is to be given back to the caller that waits for it.
     Back,
+    /// The caller, which does not wait, is to be told that its callee is registered.
+    Tell,
     /// The instance is to be ended with its outcome.
     Close,
 }
@@ -99,8 +95,10 @@ pub enum Wait {
 pub enum Says {
     /// The effect goes on from here.
     On(Stage, Option<Mark>),
-    /// The call was opened, and its callee has not ended.
+    /// The call was opened, and its callee has not ended: a run of it may start.
     Opens(Option<Mark>),
+    /// The effect has this answer, and a run of its callee may start.
+    Starts(Answer),
     /// The run stands where it stood.
     Waits(Wait),
     /// The effect has this answer.
@@ -109,404 +107,24 @@ pub enum Says {
     Ends(Option<Mark>, Option<Outcome>),
 }
 
-/// What a turn did: the mark of its act, whether the run is over, whether it opened a call whose callee has not ended,
-/// why it stands, and the outcome of the root that it ended first.
+/// What a turn did: the mark of its act, whether the run is over, whether a run of what it calls may start, why it
+/// stands, and the outcome of the root that it ended first.
 #[derive(Drop)]
 pub struct TurnSays {
     pub mark: Option<Mark>,
     pub over: bool,
-    pub opens: bool,
+    pub starts: bool,
     pub wait: Option<Wait>,
     pub reply: Option<Outcome>,
 }
 
-fn place_of(alloc: Global, id: &IntentId, step: u32) -> Result<Place, AllocError>
-    ensures { IfOk result (λ p. p ≡ place_at id.now step) }
-{
-    Ok(Place {
-        intent: id.copy(alloc)?,
-        step,
-    })
-}
-
-fn look(alloc: Global, id: &IntentId, func: u16) -> Result<Query, AllocError>
-    ensures { IfOk result (λ q. q ≡ look_asks id.now func) }
-{
-    Ok(Query::Act(intent_key(id.copy(alloc)?, func), Act::Look))
-}
-
-// An operation on an item, and where the item is.
-#[derive(Drop)]
-struct OnCell {
-    table: u16,
-    key: Str,
-    op: CellOp,
-}
-
-fn on_cell(alloc: Global, table: u16, key: &Str, op: CellOp) -> Result<Option<OnCell>, AllocError>
-    ensures { IfOk result (λ o. o ≡ Some (record { table = table; key = key.now; op = op })) }
-{
-    let key = key.copy(alloc)?;
-    Ok(Some(OnCell { table, key, op }))
-}
-
-// The operation of an effect.
-fn operation(alloc: Global, effect: &Effect) -> Result<Option<OnCell>, AllocError>
-    ensures { IfOk result (λ o. o ≡ cell_op effect.now) }
-{
-    match effect {
-        Effect::Write { table, key, value } => {
-            on_cell(alloc, *table, key, CellOp::Write(value.copy(alloc)?))
-        }
-        Effect::CondWrite {
-            table,
-            key,
-            rel,
-            operand,
-            value,
-        } => {
-            let operand = operand.copy(alloc)?;
-            let value = value.copy(alloc)?;
-            let op = CellOp::Cond {
-                rel: *rel,
-                operand,
-                value,
-            };
-            on_cell(alloc, *table, key, op)
-        }
-        Effect::Lock { table, key } => on_cell(alloc, *table, key, CellOp::Lock),
-        Effect::Unlock { table, key } => on_cell(alloc, *table, key, CellOp::Free(None)),
-        _ => Ok(None),
-    }
-}
-
-// The note that its act leaves where it says that it was done.
-fn note_done(effect: &Effect) -> Option<Note>
-    ensures { result ≡ note_done_of effect.now }
-{
-    match effect {
-        Effect::Write { .. } => Some(Note::Wrote),
-        Effect::CondWrite { .. } => Some(Note::Cond(true)),
-        Effect::Lock { .. } => Some(Note::Got),
-        Effect::Unlock { .. } => Some(Note::Freed),
-        _ => None,
-    }
-}
-
-// A note, read as the answer to an effect; none where it is of another kind than the effect's answers.
-fn answer_noted(effect: &Effect, note: &Note) -> Option<Answer>
-    ensures { result ≡ answer_noted_of effect.now note.now }
-{
-    match (effect, note) {
-        (
-            Effect::Write { .. } | Effect::Lock { .. } | Effect::Unlock { .. },
-            Note::Wrote | Note::Got | Note::Freed,
-        ) => Some(Answer::Done),
-        (Effect::CondWrite { .. }, Note::Cond(passed)) => {
-            Some(Answer::Value(Value::Bool(*passed)))
-        }
-        _ => None,
-    }
-}
-
-fn is_waited(caller: &Option<Caller>) -> bool
-    ensures { result ≡ is_waited_of caller.now }
-{
-    match caller {
-        Some(caller) => caller.waits,
-        None => false,
-    }
-}
-
-// Asks for the outcome to be given back to the caller.
-fn back_query(
-    alloc: Global,
-    id: &IntentId,
-    func: u16,
-    caller: &Option<Caller>,
-    effect: &Effect,
-) -> Result<Query, AllocError>
-    ensures { IfOk result (λ q. q ≡ back_to_asks id.now func caller.now effect.now) }
-{
-    match (caller, effect) {
-        (Some(caller), Effect::Return(outcome)) => {
-            let key = invoke_key(caller.func, caller.place.copy(alloc)?);
-            let outcome = outcome.copy(alloc)?;
-            Ok(Query::Act(key, Act::CallBack { outcome }))
-        }
-        _ => look(alloc, id, func),
-    }
-}
-
-// What a stage asks. The table takes the key and the act, so what they have of the effect is copied; the machine keeps it.
-fn stage_query(alloc: Global, id: &IntentId, func: u16, begun: &Begun) -> Result<Query, AllocError>
-    ensures { IfOk result (λ q. q ≡ stage_asks id.now func begun.now.caller begun.now.machine.steps begun.now.machine.effect begun.now.stage) }
-{
-    let machine = &begun.machine;
-    match (&begun.stage, machine.wants()) {
-        (Stage::Ask, _) => {
-            let place = place_of(alloc, id, machine.steps())?;
-            Ok(Query::Act(log_key(func, place), Act::Look))
-        }
-        (Stage::Keep { value, seen: _ }, _) => {
-            let place = place_of(alloc, id, machine.steps())?;
-            let value = value.copy(alloc)?;
-            Ok(Query::Act(log_key(func, place), Act::PutRead { value }))
-        }
-        (Stage::Walk, Effect::Read { table, key }) => {
-            Ok(Query::Act(cell_key(alloc, func, *table, key)?, Act::Look))
-        }
-        (Stage::Write(at), effect) => {
-            let Some(on) = operation(alloc, effect)? else {
-                return look(alloc, id, func);
-            };
-            let place = place_of(alloc, id, machine.steps())?;
-            let who = Owner::Intent(id.copy(alloc)?);
-            let key = cell_key(alloc, func, on.table, &on.key)?;
-            Ok(write_query(key, place, who, on.op, *at))
-        }
-        (
-            Stage::Call(at),
-            Effect::Call {
-                func: callee,
-                args: _,
-            },
-        ) => {
-            let place = place_of(alloc, id, machine.steps())?;
-            Ok(call_query(func, place, *callee, *at))
-        }
-        (Stage::Back, effect) => back_query(alloc, id, func, &begun.caller, effect),
-        (Stage::Close, Effect::Return(outcome)) => Ok(Query::Act(
-            intent_key(id.copy(alloc)?, func),
-            Act::End {
-                outcome: outcome.copy(alloc)?,
-                stamp: true,
-            },
-        )),
-        _ => look(alloc, id, func),
-    }
-}
-
-fn mark_if(made: bool, mark: Mark) -> Option<Mark>
-    ensures { result ≡ mark_if_of made mark }
-{
-    if made { Some(mark) } else { None }
-}
-
-fn write_done(effect: &Effect, note: &Note, first: bool) -> Says
-    ensures { result ≡ done_says first (answer_noted_of effect.now note.now) }
-{
-    match answer_noted(effect, note) {
-        Some(answer) => Says::Answers(answer, mark_if(first, Mark::Step)),
-        None => Says::Ends(None, None),
-    }
-}
-
-// What a stage says of what it was told. Out of memory, it tells the mark of its act.
-fn hear(
-    alloc: Global,
-    id: &IntentId,
-    begun: &Begun,
-    changes: u64,
-    heard: Heard<'_>,
-) -> Result<Says, Option<Mark>>
-    ensures ok { IfOk result (λ s. s ≡ stage_says id.now begun.now.caller changes begun.now.machine.steps begun.now.machine.effect begun.now.stage (told_of heard.entry)) }
-    ensures err { IfErr result (λ e. e ≡ mark_of (stage_says id.now begun.now.caller changes begun.now.machine.steps begun.now.machine.effect begun.now.stage (told_of heard.entry))) }
-{
-    let effect = begun.machine.wants();
-    match &begun.stage {
-        Stage::Ask => hear_ask(alloc, heard),
-        Stage::Walk => hear_walk(alloc, id, changes, heard),
-        Stage::Keep { value, seen } => hear_keep(alloc, value, *seen, heard),
-        Stage::Write(_) => hear_write(alloc, effect, heard),
-        Stage::Call(at) => hear_call(alloc, id, begun.machine.steps(), effect, *at, heard),
-        Stage::Back => Ok(hear_back(heard)),
-        Stage::Close => hear_close(alloc, id, &begun.caller, effect, heard),
-    }
-}
-
-fn hear_ask(alloc: Global, heard: Heard<'_>) -> Result<Says, Option<Mark>>
-    ensures ok { IfOk result (λ s. s ≡ ask_says (given_of (told_of heard.entry))) }
-    ensures err { IfErr result (λ e. e ≡ None) }
-{
-    match given_told(alloc, heard) {
-        Err(_) => Err(None),
-        Ok(None) => Ok(Says::On(Stage::Walk, None)),
-        Ok(Some(value)) => Ok(Says::Answers(Answer::Value(value), None)),
-    }
-}
-
-fn hear_walk(
-    alloc: Global,
-    id: &IntentId,
-    changes: u64,
-    heard: Heard<'_>,
-) -> Result<Says, Option<Mark>>
-    ensures ok { IfOk result (λ s. s ≡ walk_says changes (read_goes (Some (owners.Intent id.now)) (told_of heard.entry))) }
-    ensures err { IfErr result (λ e. e ≡ None) }
-{
-    let who = match id.copy(alloc) {
-        Ok(id) => Some(Owner::Intent(id)),
-        Err(_) => return Err(None),
-    };
-    match read_told(alloc, &who, heard) {
-        Err(_) => Err(None),
-        Ok(ReadGoes::On) => Ok(Says::On(Stage::Walk, None)),
-        Ok(ReadGoes::Got(value)) => Ok(Says::On(
-            Stage::Keep {
-                value: value.unwrap_or(Value::Null),
-                seen: changes,
-            },
-            None,
-        )),
-        Ok(ReadGoes::Held(owner)) => Ok(Says::Waits(Wait::Held(owner))),
-    }
-}
-
-fn hear_keep(
-    alloc: Global,
-    value: &Value,
-    seen: u64,
-    heard: Heard<'_>,
-) -> Result<Says, Option<Mark>>
-    ensures ok { IfOk result (λ s. s ≡ keep_says seen (kept_of value.now (told_of heard.entry))) }
-    ensures err { IfErr result (λ e. e ≡ mark_of (keep_says seen (kept_of value.now (told_of heard.entry)))) }
-{
-    let mark = mark_if(is_added(&heard), Mark::Read(seen));
-    match kept_told(alloc, value, heard) {
-        Err(_) => Err(mark),
-        Ok(kept) => Ok(Says::Answers(
-            Answer::Value(kept.value),
-            mark_if(kept.added, Mark::Read(seen)),
-        )),
-    }
-}
-
-fn is_added(heard: &Heard<'_>) -> bool
-    ensures { (v : Value) → result ≡ (kept_of v (told_of heard.entry.now)).added }
-{
-    matches!(heard, Heard::Said(Said::Added))
-}
-
-// An act that lends made nothing, so it is out of memory only where there is no mark.
-fn hear_write(alloc: Global, effect: &Effect, heard: Heard<'_>) -> Result<Says, Option<Mark>>
-    ensures ok { IfOk result (λ s. s ≡ put_says effect.now (note_done_of effect.now) (told_of heard.entry)) }
-    ensures err { IfErr result (λ e. e ≡ mark_of (put_says effect.now (note_done_of effect.now) (told_of heard.entry))) }
-{
-    let Some(done) = note_done(effect) else {
-        return Ok(Says::Ends(None, None));
-    };
-    match write_told(alloc, done, heard) {
-        Err(_) => Err(None),
-        Ok(WriteGoes::On(at)) => Ok(Says::On(Stage::Write(at), None)),
-        Ok(WriteGoes::Done { note, first }) => Ok(write_done(effect, &note, first)),
-        Ok(WriteGoes::NotOwner) => Ok(Says::Ends(None, None)),
-        Ok(WriteGoes::Held(owner)) => Ok(Says::Waits(Wait::Held(owner))),
-    }
-}
-
-// A call that is out of memory made nothing either.
-fn hear_call(
-    alloc: Global,
-    id: &IntentId,
-    step: u32,
-    effect: &Effect,
-    at: CallAt,
-    heard: Heard<'_>,
-) -> Result<Says, Option<Mark>>
-    ensures ok { IfOk result (λ s. s ≡ call_here_says id.now step effect.now at (told_of heard.entry)) }
-    ensures err { IfErr result (λ e. e ≡ mark_of (call_here_says id.now step effect.now at (told_of heard.entry))) }
-{
-    let Effect::Call { func, args: _ } = effect else {
-        return Ok(Says::Ends(None, None));
-    };
-    if !id.has_callees() {
-        return Ok(Says::Ends(None, None));
-    }
-    match call_told(alloc, *func, at, heard) {
-        Err(_) => Err(None),
-        Ok(CallSays::Opened { first }) => Ok(Says::Opens(mark_if(first, Mark::Step))),
-        Ok(CallSays::NotYet) => match id.child(alloc, step) {
-            Ok(callee) => Ok(Says::Waits(Wait::Result(callee))),
-            Err(_) => Err(None),
-        },
-        Ok(CallSays::Done(outcome)) => Ok(Says::Answers(Answer::of_callee(outcome), None)),
-    }
-}
-
-fn hear_back(heard: Heard<'_>) -> Says
-    ensures { result ≡ back_says (back_of (told_of heard.entry)) }
-{
-    match back_told(heard) {
-        Back::Set => Says::On(Stage::Close, Some(Mark::Step)),
-        Back::AlreadySet | Back::Absent => Says::On(Stage::Close, None),
-    }
-}
-
-// The end of what its caller waits for makes no step.
-fn hear_close(
-    alloc: Global,
-    id: &IntentId,
-    caller: &Option<Caller>,
-    effect: &Effect,
-    heard: Heard<'_>,
-) -> Result<Says, Option<Mark>>
-    ensures ok { IfOk result (λ s. s ≡ close_says id.now caller.now effect.now (is_did_of (told_of heard.entry))) }
-    ensures err { IfErr result (λ e. e ≡ mark_of (close_says id.now caller.now effect.now (is_did_of (told_of heard.entry)))) }
-{
-    if !end_told(&heard) {
-        return Ok(Says::Ends(None, None));
-    }
-    match effect {
-        Effect::Return(outcome) => {
-            let mark = mark_if(!is_waited(caller), Mark::Step);
-            if !id.is_root() {
-                return Ok(Says::Ends(mark, None));
-            }
-            match outcome.copy(alloc) {
-                Ok(outcome) => Ok(Says::Ends(mark, Some(outcome))),
-                Err(_) => Err(mark),
-            }
-        }
-        _ => Ok(Says::Ends(None, None)),
-    }
-}
-
-// Where an effect begins; none where it is not carried out.
-fn first_stage(id: &IntentId, caller: &Option<Caller>, effect: &Effect) -> Option<Stage>
-    ensures { result ≡ first_stage_of id.now caller.now effect.now }
-{
-    match effect {
-        Effect::Read { .. } => Some(Stage::Ask),
-        Effect::Write { .. }
-        | Effect::CondWrite { .. }
-        | Effect::Lock { .. }
-        | Effect::Unlock { .. } => Some(Stage::Write(WriteAt::Try)),
-        Effect::Call { .. } => {
-            if id.has_callees() {
-                Some(Stage::Call(CallAt::Open))
-            } else {
-                None
-            }
-        }
-        Effect::Return(_) => {
-            if is_waited(caller) {
-                Some(Stage::Back)
-            } else {
-                Some(Stage::Close)
-            }
-        }
-        Effect::Async { .. } | Effect::Begin | Effect::End { .. } | Effect::Abort => None,
-    }
-}
-
 fn plain(mark: Option<Mark>, over: bool) -> TurnSays
-    ensures { result ≡ record { mark = mark; over = over; opens = false; wait = None; reply = None } }
+    ensures { result ≡ record { mark = mark; over = over; starts = false; wait = None; reply = None } }
 {
     TurnSays {
         mark,
         over,
-        opens: false,
+        starts: false,
         wait: None,
         reply: None,
     }
@@ -523,12 +141,9 @@ fn told_body(alloc: Global, func: u16, heard: Heard<'_>) -> Result<Option<Body>,
 }
 
 fn body_of(alloc: Global, func: u16, intent: &IntentRow) -> Result<Option<Body>, AllocError>
-    ensures { IfOk result (λ b. b ≡ body_in func (open_body intent.now)) }
+    ensures { IfOk result (λ b. b ≡ body_in func (open_body_of intent.now)) }
 {
-    if intent.outcome.is_some() || intent.finish.is_some() {
-        return Ok(None);
-    }
-    match &intent.body {
+    match open_body(intent) {
         None => Ok(None),
         Some(body) => {
             if body.func == func {
@@ -575,36 +190,43 @@ impl Run {
         }
     }
 
-    /// A run of what the run calls, if it stands at a call: it may act as long as the run, and registers its body.
+    /// A run of what the run calls, if it stands at a call: it may act as long as the run. One that is waited for registers
+    /// its body; the row of any other is there before a run of it may start.
     pub fn callee(&self, alloc: Global) -> Result<Option<Run>, AllocError>
-        ensures { IfOk result (λ r. r ≡ callee_at self.now self.now.at) }
+        ensures { IfOk result (λ r. r ≡ callee_of self.now) }
     {
         let RunAt::Begins(begun) = &self.at else {
             return Ok(None);
         };
-        let Effect::Call { func, args } = begun.machine.wants() else {
-            return Ok(None);
-        };
+        let step = begun.machine.steps();
+        match begun.machine.wants() {
+            Effect::Call { func, args } => {
+                let body = callee_body(alloc, &self.id, self.func, step, *func, args, true)?;
+                self.callee_run(alloc, step, *func, RunAt::Registers(body))
+            }
+            Effect::Async { func, args: _ } => self.callee_run(alloc, step, *func, RunAt::Looks),
+            _ => Ok(None),
+        }
+    }
+
+    fn callee_run(
+        &self,
+        alloc: Global,
+        step: u32,
+        func: u16,
+        at: RunAt,
+    ) -> Result<Option<Run>, AllocError>
+        ensures { IfOk result (λ r. r ≡ callee_run_of self.now step func at) }
+    {
         if !self.id.has_callees() {
+            drop(at);
             return Ok(None);
         }
-        let step = begun.machine.steps();
-        let from = Caller {
-            place: place_of(alloc, &self.id, step)?,
-            func: self.func,
-            waits: true,
-        };
-        let body = Body {
-            func: *func,
-            args: args.copy(alloc)?,
-            tx: None,
-            from: Some(from),
-        };
         Ok(Some(Run {
             id: self.id.child(alloc, step)?,
-            func: *func,
+            func,
             deadline: self.deadline,
-            at: RunAt::Registers(body),
+            at,
         }))
     }
 
@@ -713,7 +335,7 @@ impl Run {
                 Ok(TurnSays {
                     mark,
                     over: false,
-                    opens: true,
+                    starts: true,
                     wait: None,
                     reply: None,
                 })
@@ -721,10 +343,17 @@ impl Run {
             Says::Waits(wait) => Ok(TurnSays {
                 mark: None,
                 over: false,
-                opens: false,
+                starts: false,
                 wait: Some(wait),
                 reply: None,
             }),
+            Says::Starts(answer) => match self.answer(alloc, code, answer, None) {
+                Ok(says) => Ok(TurnSays {
+                    starts: true,
+                    ..says
+                }),
+                Err(_) => Err(None),
+            },
             Says::Answers(answer, mark) => match self.answer(alloc, code, answer, mark) {
                 Ok(says) => Ok(says),
                 Err(_) => Err(mark),
@@ -732,7 +361,7 @@ impl Run {
             Says::Ends(mark, reply) => Ok(TurnSays {
                 mark,
                 over: true,
-                opens: false,
+                starts: false,
                 wait: None,
                 reply,
             }),

@@ -1,0 +1,207 @@
+// The stages of calls, and of the return of what was called: what they ask, and what they say of what they were told.
+ghost use Rattle.std.specs.Prelude.{◌≡◌, IfOk, IfErr};
+ghost use Rattle.beldi_walk.specs.Query.{told_of};
+ghost use Rattle.beldi_invokelog.specs.InvokeLog.{back_of};
+ghost use Rattle.beldi_intent.specs.Intent.{is_did as is_did_of};
+ghost use Rattle.beldi_step.specs.Run.{mark_of, is_waited as is_waited_of, call_here_says, async_here_asks, async_here_says, tell_asks, back_to_asks, back_says, close_says, callee_body as callee_body_of};
+
+use crate::run::{Mark, Says, Stage, Wait};
+use crate::stage::{look, mark_if, place_of};
+use beldi_call::{
+    AsyncAt, AsyncSays, CallAt, CallPlace, CallSays, async_query, async_told, call_told,
+};
+use beldi_intent::end_told;
+use beldi_invokelog::{Back, back_told, invoke_key, registered_query};
+use beldi_lang::{Answer, Effect};
+use beldi_row::{Act, Body};
+use beldi_value::{Caller, IntentId, Value};
+use beldi_walk::{Heard, Query};
+use std::alloc::{AllocError, Global};
+
+fn is_waited(caller: &Option<Caller>) -> bool
+    ensures { result ≡ is_waited_of caller.now }
+{
+    match caller {
+        Some(caller) => caller.waits,
+        None => false,
+    }
+}
+
+// The body of what is called at a step.
+pub(crate) fn callee_body(
+    alloc: Global,
+    id: &IntentId,
+    home: u16,
+    step: u32,
+    func: u16,
+    args: &Value,
+    waits: bool,
+) -> Result<Body, AllocError>
+    ensures { IfOk result (λ b. b ≡ callee_body_of id.now home step func args.now waits) }
+{
+    let from = Caller {
+        place: place_of(alloc, id, step)?,
+        func: home,
+        waits,
+    };
+    Ok(Body {
+        func,
+        args: args.copy(alloc)?,
+        tx: None,
+        from: Some(from),
+    })
+}
+
+// Asks for what a call comes to next that nobody waits for.
+pub(crate) fn async_here(
+    alloc: Global,
+    id: &IntentId,
+    func: u16,
+    step: u32,
+    effect: &Effect,
+    at: AsyncAt,
+) -> Result<Query, AllocError>
+    ensures { IfOk result (λ q. q ≡ async_here_asks id.now func step effect.now at) }
+{
+    let Effect::Async { func: callee, args } = effect else {
+        return look(alloc, id, func);
+    };
+    if !id.has_callees() {
+        return look(alloc, id, func);
+    }
+    let place = CallPlace::new(place_of(alloc, id, step)?);
+    let body = callee_body(alloc, id, func, step, *callee, args, false)?;
+    async_query(alloc, func, &place, &body, at)
+}
+
+// Asks for the call to be marked as registered.
+pub(crate) fn tell_query(
+    alloc: Global,
+    id: &IntentId,
+    func: u16,
+    caller: &Option<Caller>,
+) -> Result<Query, AllocError>
+    ensures { IfOk result (λ q. q ≡ tell_asks id.now func caller.now) }
+{
+    match caller {
+        Some(caller) => Ok(registered_query(caller.func, caller.place.copy(alloc)?)),
+        None => look(alloc, id, func),
+    }
+}
+
+// Asks for the outcome to be given back to the caller.
+pub(crate) fn back_query(
+    alloc: Global,
+    id: &IntentId,
+    func: u16,
+    caller: &Option<Caller>,
+    effect: &Effect,
+) -> Result<Query, AllocError>
+    ensures { IfOk result (λ q. q ≡ back_to_asks id.now func caller.now effect.now) }
+{
+    match (caller, effect) {
+        (Some(caller), Effect::Return(outcome)) => {
+            let key = invoke_key(caller.func, caller.place.copy(alloc)?);
+            let outcome = outcome.copy(alloc)?;
+            Ok(Query::Act(key, Act::CallBack { outcome }))
+        }
+        _ => look(alloc, id, func),
+    }
+}
+
+// A call that is out of memory made nothing either.
+pub(crate) fn hear_call(
+    alloc: Global,
+    id: &IntentId,
+    step: u32,
+    effect: &Effect,
+    at: CallAt,
+    heard: Heard<'_>,
+) -> Result<Says, Option<Mark>>
+    ensures ok { IfOk result (λ s. s ≡ call_here_says id.now step effect.now at (told_of heard.entry)) }
+    ensures err { IfErr result (λ e. e ≡ mark_of (call_here_says id.now step effect.now at (told_of heard.entry))) }
+{
+    let Effect::Call { func, args: _ } = effect else {
+        return Ok(Says::Ends(None, None));
+    };
+    if !id.has_callees() {
+        return Ok(Says::Ends(None, None));
+    }
+    match call_told(alloc, *func, at, heard) {
+        Err(_) => Err(None),
+        Ok(CallSays::Opened { first }) => Ok(Says::Opens(mark_if(first, Mark::Step))),
+        Ok(CallSays::NotYet) => match id.child(alloc, step) {
+            Ok(callee) => Ok(Says::Waits(Wait::Result(callee))),
+            Err(_) => Err(None),
+        },
+        Ok(CallSays::Done(outcome)) => Ok(Says::Answers(Answer::of_callee(outcome), None)),
+    }
+}
+
+pub(crate) fn hear_async(
+    alloc: Global,
+    id: &IntentId,
+    effect: &Effect,
+    at: AsyncAt,
+    heard: Heard<'_>,
+) -> Result<Says, Option<Mark>>
+    ensures ok { IfOk result (λ s. s ≡ async_here_says id.now effect.now at (told_of heard.entry)) }
+    ensures err { IfErr result (λ e. e ≡ mark_of (async_here_says id.now effect.now at (told_of heard.entry))) }
+{
+    let Effect::Async { func, args: _ } = effect else {
+        return Ok(Says::Ends(None, None));
+    };
+    if !id.has_callees() {
+        return Ok(Says::Ends(None, None));
+    }
+    match async_told(alloc, *func, at, heard) {
+        Err(_) => Err(None),
+        Ok(AsyncSays::Opened { first }) => Ok(Says::On(
+            Stage::Async(AsyncAt::Register),
+            mark_if(first, Mark::Step),
+        )),
+        Ok(AsyncSays::Going) => Ok(Says::On(Stage::Async(AsyncAt::Note), None)),
+        Ok(AsyncSays::Done) => match at {
+            AsyncAt::Note => Ok(Says::Starts(Answer::Done)),
+            AsyncAt::Open | AsyncAt::Register => Ok(Says::Answers(Answer::Done, None)),
+        },
+    }
+}
+
+pub(crate) fn hear_back(heard: Heard<'_>) -> Says
+    ensures { result ≡ back_says (back_of (told_of heard.entry)) }
+{
+    match back_told(heard) {
+        Back::Set => Says::On(Stage::Close, Some(Mark::Step)),
+        Back::AlreadySet | Back::Absent => Says::On(Stage::Close, None),
+    }
+}
+
+// The end of what its caller waits for makes no step.
+pub(crate) fn hear_close(
+    alloc: Global,
+    id: &IntentId,
+    caller: &Option<Caller>,
+    effect: &Effect,
+    heard: Heard<'_>,
+) -> Result<Says, Option<Mark>>
+    ensures ok { IfOk result (λ s. s ≡ close_says id.now caller.now effect.now (is_did_of (told_of heard.entry))) }
+    ensures err { IfErr result (λ e. e ≡ mark_of (close_says id.now caller.now effect.now (is_did_of (told_of heard.entry)))) }
+{
+    if !end_told(&heard) {
+        return Ok(Says::Ends(None, None));
+    }
+    match effect {
+        Effect::Return(outcome) => {
+            let mark = mark_if(!is_waited(caller), Mark::Step);
+            if !id.is_root() {
+                return Ok(Says::Ends(mark, None));
+            }
+            match outcome.copy(alloc) {
+                Ok(outcome) => Ok(Says::Ends(mark, Some(outcome))),
+                Err(_) => Err(mark),
+            }
+        }
+        _ => Ok(Says::Ends(None, None)),
+    }
+}

@@ -1,0 +1,328 @@
+// What a stage of a run asks, and what it says of what it was told.
+ghost use Rattle.std.specs.Prelude.{◌≡◌, Some, None, IfOk, IfErr};
+ghost use Rattle.beldi_value.specs.declared.value.Value.{Value};
+ghost use Rattle.beldi_value.specs.declared.place.Owner.TheVariants as owners;
+ghost use Rattle.beldi_walk.specs.Query.{told_of};
+ghost use Rattle.beldi_daal.specs.Cell.{read_goes};
+ghost use Rattle.beldi_readlog.specs.ReadLog.{given_of, kept_of};
+ghost use Rattle.beldi_intent.specs.Intent.{look_asks};
+ghost use Rattle.beldi_step.specs.Run.{stage_asks, stage_says, mark_of, first_stage as first_stage_of, note_done as note_done_of, answer_noted as answer_noted_of, cell_op, done_says, mark_if as mark_if_of, ask_says, walk_says, keep_says, put_says, place_of as place_at};
+
+use crate::call_stage::{
+    async_here, back_query, hear_async, hear_back, hear_call, hear_close, tell_query,
+};
+use crate::run::{Begun, Mark, Says, Stage, Wait};
+use beldi_call::{AsyncAt, CallAt, call_query};
+use beldi_daal::{
+    CellOp, ReadGoes, WriteAt, WriteGoes, cell_key, read_told, write_query, write_told,
+};
+use beldi_intent::intent_key;
+use beldi_lang::{Answer, Effect};
+use beldi_readlog::{given_told, kept_told, log_key};
+use beldi_row::{Act, Note, Said};
+use beldi_value::{Caller, IntentId, Owner, Place, Str, Value};
+use beldi_walk::{Heard, Query};
+use std::alloc::{AllocError, Global};
+
+pub(crate) fn place_of(alloc: Global, id: &IntentId, step: u32) -> Result<Place, AllocError>
+    ensures { IfOk result (λ p. p ≡ place_at id.now step) }
+{
+    Ok(Place {
+        intent: id.copy(alloc)?,
+        step,
+    })
+}
+
+pub(crate) fn look(alloc: Global, id: &IntentId, func: u16) -> Result<Query, AllocError>
+    ensures { IfOk result (λ q. q ≡ look_asks id.now func) }
+{
+    Ok(Query::Act(intent_key(id.copy(alloc)?, func), Act::Look))
+}
+
+// An operation on an item, and where the item is.
+#[derive(Drop)]
+struct OnCell {
+    table: u16,
+    key: Str,
+    op: CellOp,
+}
+
+fn on_cell(alloc: Global, table: u16, key: &Str, op: CellOp) -> Result<Option<OnCell>, AllocError>
+    ensures { IfOk result (λ o. o ≡ Some (record { table = table; key = key.now; op = op })) }
+{
+    let key = key.copy(alloc)?;
+    Ok(Some(OnCell { table, key, op }))
+}
+
+// The operation of an effect.
+fn operation(alloc: Global, effect: &Effect) -> Result<Option<OnCell>, AllocError>
+    ensures { IfOk result (λ o. o ≡ cell_op effect.now) }
+{
+    match effect {
+        Effect::Write { table, key, value } => {
+            on_cell(alloc, *table, key, CellOp::Write(value.copy(alloc)?))
+        }
+        Effect::CondWrite {
+            table,
+            key,
+            rel,
+            operand,
+            value,
+        } => {
+            let operand = operand.copy(alloc)?;
+            let value = value.copy(alloc)?;
+            let op = CellOp::Cond {
+                rel: *rel,
+                operand,
+                value,
+            };
+            on_cell(alloc, *table, key, op)
+        }
+        Effect::Lock { table, key } => on_cell(alloc, *table, key, CellOp::Lock),
+        Effect::Unlock { table, key } => on_cell(alloc, *table, key, CellOp::Free(None)),
+        _ => Ok(None),
+    }
+}
+
+// The note that its act leaves where it says that it was done.
+fn note_done(effect: &Effect) -> Option<Note>
+    ensures { result ≡ note_done_of effect.now }
+{
+    match effect {
+        Effect::Write { .. } => Some(Note::Wrote),
+        Effect::CondWrite { .. } => Some(Note::Cond(true)),
+        Effect::Lock { .. } => Some(Note::Got),
+        Effect::Unlock { .. } => Some(Note::Freed),
+        _ => None,
+    }
+}
+
+// A note, read as the answer to an effect; none where it is of another kind than the effect's answers.
+fn answer_noted(effect: &Effect, note: &Note) -> Option<Answer>
+    ensures { result ≡ answer_noted_of effect.now note.now }
+{
+    match (effect, note) {
+        (
+            Effect::Write { .. } | Effect::Lock { .. } | Effect::Unlock { .. },
+            Note::Wrote | Note::Got | Note::Freed,
+        ) => Some(Answer::Done),
+        (Effect::CondWrite { .. }, Note::Cond(passed)) => {
+            Some(Answer::Value(Value::Bool(*passed)))
+        }
+        _ => None,
+    }
+}
+
+// What a stage asks. The table takes the key and the act, so what they have of the effect is copied; the machine keeps it.
+pub(crate) fn stage_query(
+    alloc: Global,
+    id: &IntentId,
+    func: u16,
+    begun: &Begun,
+) -> Result<Query, AllocError>
+    ensures { IfOk result (λ q. q ≡ stage_asks id.now func begun.now.caller begun.now.machine.steps begun.now.machine.effect begun.now.stage) }
+{
+    let machine = &begun.machine;
+    match (&begun.stage, machine.wants()) {
+        (Stage::Ask, _) => {
+            let place = place_of(alloc, id, machine.steps())?;
+            Ok(Query::Act(log_key(func, place), Act::Look))
+        }
+        (Stage::Keep { value, seen: _ }, _) => {
+            let place = place_of(alloc, id, machine.steps())?;
+            let value = value.copy(alloc)?;
+            Ok(Query::Act(log_key(func, place), Act::PutRead { value }))
+        }
+        (Stage::Walk, Effect::Read { table, key }) => {
+            Ok(Query::Act(cell_key(alloc, func, *table, key)?, Act::Look))
+        }
+        (Stage::Write(at), effect) => {
+            let Some(on) = operation(alloc, effect)? else {
+                return look(alloc, id, func);
+            };
+            let place = place_of(alloc, id, machine.steps())?;
+            let who = Owner::Intent(id.copy(alloc)?);
+            let key = cell_key(alloc, func, on.table, &on.key)?;
+            Ok(write_query(key, place, who, on.op, *at))
+        }
+        (
+            Stage::Call(at),
+            Effect::Call {
+                func: callee,
+                args: _,
+            },
+        ) => {
+            let place = place_of(alloc, id, machine.steps())?;
+            Ok(call_query(func, place, *callee, *at))
+        }
+        (Stage::Async(at), effect) => async_here(alloc, id, func, machine.steps(), effect, *at),
+        (Stage::Tell, _) => tell_query(alloc, id, func, &begun.caller),
+        (Stage::Back, effect) => back_query(alloc, id, func, &begun.caller, effect),
+        (Stage::Close, Effect::Return(outcome)) => Ok(Query::Act(
+            intent_key(id.copy(alloc)?, func),
+            Act::End {
+                outcome: outcome.copy(alloc)?,
+                stamp: true,
+            },
+        )),
+        _ => look(alloc, id, func),
+    }
+}
+
+pub(crate) fn mark_if(made: bool, mark: Mark) -> Option<Mark>
+    ensures { result ≡ mark_if_of made mark }
+{
+    if made { Some(mark) } else { None }
+}
+
+fn write_done(effect: &Effect, note: &Note, first: bool) -> Says
+    ensures { result ≡ done_says first (answer_noted_of effect.now note.now) }
+{
+    match answer_noted(effect, note) {
+        Some(answer) => Says::Answers(answer, mark_if(first, Mark::Step)),
+        None => Says::Ends(None, None),
+    }
+}
+
+// What a stage says of what it was told. Out of memory, it tells the mark of its act.
+pub(crate) fn hear(
+    alloc: Global,
+    id: &IntentId,
+    begun: &Begun,
+    changes: u64,
+    heard: Heard<'_>,
+) -> Result<Says, Option<Mark>>
+    ensures ok { IfOk result (λ s. s ≡ stage_says id.now begun.now.caller changes begun.now.machine.steps begun.now.machine.effect begun.now.stage (told_of heard.entry)) }
+    ensures err { IfErr result (λ e. e ≡ mark_of (stage_says id.now begun.now.caller changes begun.now.machine.steps begun.now.machine.effect begun.now.stage (told_of heard.entry))) }
+{
+    let effect = begun.machine.wants();
+    match &begun.stage {
+        Stage::Ask => hear_ask(alloc, heard),
+        Stage::Walk => hear_walk(alloc, id, changes, heard),
+        Stage::Keep { value, seen } => hear_keep(alloc, value, *seen, heard),
+        Stage::Write(_) => hear_write(alloc, effect, heard),
+        Stage::Call(at) => hear_call(alloc, id, begun.machine.steps(), effect, *at, heard),
+        Stage::Async(at) => hear_async(alloc, id, effect, *at, heard),
+        Stage::Back => Ok(hear_back(heard)),
+        Stage::Tell => Ok(Says::On(Stage::Close, None)),
+        Stage::Close => hear_close(alloc, id, &begun.caller, effect, heard),
+    }
+}
+
+fn hear_ask(alloc: Global, heard: Heard<'_>) -> Result<Says, Option<Mark>>
+    ensures ok { IfOk result (λ s. s ≡ ask_says (given_of (told_of heard.entry))) }
+    ensures err { IfErr result (λ e. e ≡ None) }
+{
+    match given_told(alloc, heard) {
+        Err(_) => Err(None),
+        Ok(None) => Ok(Says::On(Stage::Walk, None)),
+        Ok(Some(value)) => Ok(Says::Answers(Answer::Value(value), None)),
+    }
+}
+
+fn hear_walk(
+    alloc: Global,
+    id: &IntentId,
+    changes: u64,
+    heard: Heard<'_>,
+) -> Result<Says, Option<Mark>>
+    ensures ok { IfOk result (λ s. s ≡ walk_says changes (read_goes (Some (owners.Intent id.now)) (told_of heard.entry))) }
+    ensures err { IfErr result (λ e. e ≡ None) }
+{
+    let who = match id.copy(alloc) {
+        Ok(id) => Some(Owner::Intent(id)),
+        Err(_) => return Err(None),
+    };
+    match read_told(alloc, &who, heard) {
+        Err(_) => Err(None),
+        Ok(ReadGoes::On) => Ok(Says::On(Stage::Walk, None)),
+        Ok(ReadGoes::Got(value)) => Ok(Says::On(
+            Stage::Keep {
+                value: value.unwrap_or(Value::Null),
+                seen: changes,
+            },
+            None,
+        )),
+        Ok(ReadGoes::Held(owner)) => Ok(Says::Waits(Wait::Held(owner))),
+    }
+}
+
+fn hear_keep(
+    alloc: Global,
+    value: &Value,
+    seen: u64,
+    heard: Heard<'_>,
+) -> Result<Says, Option<Mark>>
+    ensures ok { IfOk result (λ s. s ≡ keep_says seen (kept_of value.now (told_of heard.entry))) }
+    ensures err { IfErr result (λ e. e ≡ mark_of (keep_says seen (kept_of value.now (told_of heard.entry)))) }
+{
+    let mark = mark_if(is_added(&heard), Mark::Read(seen));
+    match kept_told(alloc, value, heard) {
+        Err(_) => Err(mark),
+        Ok(kept) => Ok(Says::Answers(
+            Answer::Value(kept.value),
+            mark_if(kept.added, Mark::Read(seen)),
+        )),
+    }
+}
+
+fn is_added(heard: &Heard<'_>) -> bool
+    ensures { (v : Value) → result ≡ (kept_of v (told_of heard.entry.now)).added }
+{
+    matches!(heard, Heard::Said(Said::Added))
+}
+
+// An act that lends made nothing, so it is out of memory only where there is no mark.
+fn hear_write(alloc: Global, effect: &Effect, heard: Heard<'_>) -> Result<Says, Option<Mark>>
+    ensures ok { IfOk result (λ s. s ≡ put_says effect.now (note_done_of effect.now) (told_of heard.entry)) }
+    ensures err { IfErr result (λ e. e ≡ mark_of (put_says effect.now (note_done_of effect.now) (told_of heard.entry))) }
+{
+    let Some(done) = note_done(effect) else {
+        return Ok(Says::Ends(None, None));
+    };
+    match write_told(alloc, done, heard) {
+        Err(_) => Err(None),
+        Ok(WriteGoes::On(at)) => Ok(Says::On(Stage::Write(at), None)),
+        Ok(WriteGoes::Done { note, first }) => Ok(write_done(effect, &note, first)),
+        Ok(WriteGoes::NotOwner) => Ok(Says::Ends(None, None)),
+        Ok(WriteGoes::Held(owner)) => Ok(Says::Waits(Wait::Held(owner))),
+    }
+}
+
+// Where an effect begins; none where it is not carried out.
+pub(crate) fn first_stage(id: &IntentId, caller: &Option<Caller>, effect: &Effect) -> Option<Stage>
+    ensures { result ≡ first_stage_of id.now caller.now effect.now }
+{
+    match effect {
+        Effect::Read { .. } => Some(Stage::Ask),
+        Effect::Write { .. }
+        | Effect::CondWrite { .. }
+        | Effect::Lock { .. }
+        | Effect::Unlock { .. } => Some(Stage::Write(WriteAt::Try)),
+        Effect::Call { .. } => {
+            if id.has_callees() {
+                Some(Stage::Call(CallAt::Open))
+            } else {
+                None
+            }
+        }
+        Effect::Async { .. } => {
+            if id.has_callees() {
+                Some(Stage::Async(AsyncAt::Open))
+            } else {
+                None
+            }
+        }
+        Effect::Return(_) => match caller {
+            None => Some(Stage::Close),
+            Some(caller) => {
+                if caller.waits {
+                    Some(Stage::Back)
+                } else {
+                    Some(Stage::Tell)
+                }
+            }
+        },
+        Effect::Begin | Effect::End { .. } | Effect::Abort => None,
+    }
+}
