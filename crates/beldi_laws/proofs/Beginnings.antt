@@ -7,11 +7,11 @@ use Rattle.beldi_lang.proofs.Resumes.{at_begin}
 use Rattle.beldi_lang.specs.Machine.{IsAt, begun as machine_begun}
 use Rattle.beldi_laws.proofs.Moves.{AfterTurn, AfterQuery, SameRoots, AfterAct, still}
 use Rattle.beldi_laws.proofs.Notes.{true_false}
-use Rattle.beldi_laws.proofs.Returned.{callee_put}
+use Rattle.beldi_laws.proofs.Returned.{callee_registered}
 use Rattle.beldi_laws.proofs.Rows.{set_others}
 use Rattle.beldi_laws.proofs.Steps.{row_of, IsRowOf}
 use Rattle.beldi_laws.proofs.Turns.{is_over, comes_to, knows_first}
-use Rattle.beldi_laws.specs.Right.{Right, RowsMatch, IntentMatches, IsCalleeRow, IsBodyOf, KnowsBody}
+use Rattle.beldi_laws.specs.Right.{Right, RowsMatch, IntentMatches, IsBodyOf, KnowsBody}
 use Rattle.beldi_order.proofs.Entries.{same_some}
 use Rattle.beldi_row.proofs.Gets.{key_same}
 use Rattle.beldi_row.proofs.Unchanged.{looked}
@@ -80,7 +80,7 @@ module _ (d : Deployment) (c : Core) (m : Rows) (i : ℕ) (r : Run) (h : Right d
   made_told home (Some (rows.Intent j)) f = made_open j (row_of (has_no_hops r.id.hops) home j (map.get h.plain.made r.id) f)
   made_told home (Some w) f = tt
 
-  begins : (n : Rows) → SameRoots m n → RowsMatch d n h.plain → (f : Option Func) (b : Option Body) → MadeWith b → AfterTurn d h.plain c i r.id (begin_in d r f b) n
+  begins : (n : Rows) → SameRoots m n → RowsMatch d n h.plain → (f : Option Func) (b : Option Body) → MadeWith b → AfterTurn d h.plain c i r (begin_in d r f b) n
   unfolding MadeWith
   begins n roots rows f None made = is_over d c m n i r h live roots rows
   begins n roots rows None (Some b) made = is_over d c m n i r h live roots rows
@@ -92,31 +92,28 @@ module _ (d : Deployment) (c : Core) (m : Rows) (i : ℕ) (r : Run) (h : Right d
       (subst (λ a. IsAt d r.func a false machine []) (ap (λ z. z.args) body) (at_begin d r.func b.args false)) first) rows
 
   -- it looks at its row
-  pub look_turn : AfterQuery d h.plain c.now m (λ t. turn_next c i r.id (begin_in d r (func_at d r.func) (body_told r.func t))) (look_asks r.id r.func)
+  pub look_turn : AfterQuery d h.plain c.now m (λ t. turn_next c i r (begin_in d r (func_at d r.func) (body_told r.func t))) (look_asks r.id r.func)
   look_turn =
       let key = intent_key r.id r.func in
       let b = body_told r.func (said (act Look c.now (map.get m key)).1) in
-      subst (AfterTurn d h.plain c i r.id (begin_in d r (func_at d r.func) b)) (sym (looked c.now key m)) (begins m (λ t. refl) h.rows (func_at d r.func) b (made_told key.home (map.get m key) (h.rows.keys key)))
+      subst (AfterTurn d h.plain c i r (begin_in d r (func_at d r.func) b)) (sym (looked c.now key m)) (begins m (λ t. refl) h.rows (func_at d r.func) b (made_told key.home (map.get m key) (h.rows.keys key)))
 
   -- it registers its body, or finds its row
   module _ (b : Body) (k : KnowsBody h.plain r b) where
     abbrev key : RowKey
     key = record { home = b.func; kind = kinds.Intent r.id }
 
-    fits : IsCalleeRow b.func (issued_at c.now (Some b)) (map.get h.plain.made r.id)
-    fits = record { finishes = refl; body = (k.body, refl, λ u e. cc) }
-
-    by_row : (w : Option Row) → map.get m key ≡ w → AfterAct d h.plain m key (λ t. turn_next c i r.id (begin_in d r (func_at d r.func) (body_registered r.func b t))) (act (Register b) c.now w)
+    by_row : (w : Option Row) → map.get m key ≡ w → AfterAct d h.plain m key (λ t. turn_next c i r (begin_in d r (func_at d r.func) (body_registered r.func b t))) (act (Register b) c.now w)
     unfolding MadeWith
     by_row None at =
         let new = Some (rows.Intent (issued_at c.now (Some b))) in
-        begins (set_row m key new) (same_roots m b.func r.id new k.callee) (callee_put d m h.plain r.id b.func k.callee h.rows (issued_at c.now (Some b)) fits) (func_at d r.func) (body_in r.func (Some b)) (made_in (Some b) (λ x e. subst (λ z. IsBodyOf z (map.get h.plain.made r.id)) (same_some e) k.body))
+        begins (set_row m key new) (same_roots m b.func r.id new k.callee) (callee_registered d m h.plain r.id b c.now k.callee k.body h.rows at) (func_at d r.func) (body_in r.func (Some b)) (made_in (Some b) (λ x e. subst (λ z. IsBodyOf z (map.get h.plain.made r.id)) (same_some e) k.body))
     by_row (Some w) at =
         let found = body_told r.func (said (act Look c.now (Some w)).1) in
         still d h.plain m key (Some w) (sym at) (begins m (λ t. refl) h.rows (func_at d r.func) found (made_told b.func (Some w) (subst (λ z. IntentMatches (has_no_hops r.id.hops) b.func z (map.get h.plain.made r.id)) at (h.rows.keys key))))
 
-    pub register_turn : AfterQuery d h.plain c.now m (λ t. turn_next c i r.id (begin_in d r (func_at d r.func) (body_registered r.func b t))) (register_asks r.id b)
-    register_turn = subst (λ z. AfterAct d h.plain m z (λ t. turn_next c i r.id (begin_in d r (func_at d r.func) (body_registered r.func b t))) (act (Register b) c.now (map.get m z))) own (by_row (map.get m key) refl)
+    pub register_turn : AfterQuery d h.plain c.now m (λ t. turn_next c i r (begin_in d r (func_at d r.func) (body_registered r.func b t))) (register_asks r.id b)
+    register_turn = subst (λ z. AfterAct d h.plain m z (λ t. turn_next c i r (begin_in d r (func_at d r.func) (body_registered r.func b t))) (act (Register b) c.now (map.get m z))) own (by_row (map.get m key) refl)
       where
         own : key ≡ intent_key r.id b.func
         own = λ j. record { home = sym (ap (λ t. if t then 0 else b.func) k.callee) j; kind = kinds.Intent r.id }

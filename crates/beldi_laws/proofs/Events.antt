@@ -20,7 +20,7 @@ use Rattle.beldi_value.specs.declared.outcome.Outcome.{Outcome}
 use Rattle.beldi_value.specs.declared.value.Value.{Value}
 use Rattle.beldi_tree.specs.declared.deployment.Deployment.{Deployment}
 use Rattle.beldi_lang.specs.declared.effect.Effect.{Effect}
-use Rattle.beldi_lang.specs.declared.effect.Effect.TheVariants.{Read, Write, CondWrite, Lock, Unlock, Call, Return}
+use Rattle.beldi_lang.specs.declared.effect.Effect.TheVariants.{Read, Write, CondWrite, Lock, Unlock, Call, Async, Return}
 use Rattle.beldi_book.specs.declared.entry.Entry.TheVariants.{Start}
 use Rattle.beldi_row.specs.Key.{key_cmp}
 use Rattle.beldi_row.specs.declared.key.Kind.{Kind}
@@ -39,7 +39,7 @@ use Rattle.beldi_row.specs.declared.table.TableErr.TheVariants.{OutOfMemory, Fai
 use Rattle.beldi_row.specs.Table.{Rows, set_row, after_act}
 use Rattle.beldi_plain.specs.Plain.{Instance, PlainState, new_instance, start, nothing, with_instance, reply_of, outcome_of}
 use Rattle.beldi_step.specs.declared.event.Event.{Event}
-use Rattle.beldi_step.specs.declared.event.Event.TheVariants.{Ticket, Request, Turn, Lost, Crash, Restart, Tick}
+use Rattle.beldi_step.specs.declared.event.Event.TheVariants.{Ticket, Request, Turn, Lost, Crash, Restart, Tick, Ic}
 use Rattle.beldi_step.specs.declared.event.Seen.{Seen}
 use Rattle.beldi_step.specs.declared.event.Seen.TheVariants as seen
 use Rattle.beldi_step.specs.declared.run.Run.{Run}
@@ -55,10 +55,10 @@ use Rattle.beldi_walk.proofs.Lent.{rows_stand, refused_stand}
 use Rattle.beldi_intent.specs.Intent.{root_key, bind_asks, is_added, binding_of}
 use Rattle.beldi_invokelog.specs.InvokeLog.{back_of}
 use Rattle.beldi_step.specs.Run.{is_waited, back_says, back_to_asks, turned_by, stage_asks, stage_says, asks_at, told_at, run_asks, run_told}
-use Rattle.beldi_step.specs.Host.{Core, Plan, at_once, asks, first_core, most_runs, most_events, last_moment, is_crowded, run_plan, crash_plan, new_run, with_run, ended_run, ticket_next, bound_next, request_next, turn_next, run_next, unheard_next, plan_of, counted, plan, heard, no_memory, refused, refused_by, Followed, EventBy, EventOn}
+use Rattle.beldi_step.specs.Host.{Core, Plan, at_once, asks, first_core, most_runs, most_events, last_moment, is_crowded, has_run, passed, launched, collect_next, run_plan, crash_plan, new_run, with_run, ended_run, ticket_next, bound_next, request_next, turn_next, run_next, unheard_next, plan_of, counted, plan, heard, no_memory, refused, refused_by, Followed, EventBy, EventOn}
 use Rattle.beldi_laws.specs.Stands.{head_key}
 use Rattle.beldi_daal.specs.Content.{content_in}
-use Rattle.beldi_laws.specs.Right.{Right, ItemMatches, RowMatches, RootMatches, IntentMatches, IsRootRow, BodyMatches, Knows, KnowsAt, RunAt, StageOk, PlaceOk, SeenDone, called_by, is_owner, owed_by, owed_value}
+use Rattle.beldi_laws.specs.Right.{HasNoRow, Right, ItemMatches, RowMatches, RootMatches, IntentMatches, IsRootRow, BodyMatches, Knows, KnowsAt, RunAt, StageOk, PlaceOk, SeenDone, called_by, is_owner, owed_by, owed_value}
 use Rattle.beldi_laws.specs.Laws.{told_outcome, is_gone, RepliesAreOutcomes, KeepsRight, RightIsLegal}
 use Rattle.beldi_row.proofs.Gets.{got}
 use Rattle.beldi_row.proofs.Unchanged.{unchanged}
@@ -71,11 +71,17 @@ use Rattle.beldi_laws.proofs.Lives.{runs_more, runs_less}
 use Rattle.beldi_laws.proofs.Notes.{true_false}
 use Rattle.beldi_order.proofs.Operations.{id_same}
 use Rattle.beldi_laws.proofs.Steps.{OwesSame, new_owes, no_callee, row_set, root_moved}
-use Rattle.beldi_laws.proofs.Moves.{seen_by, After, AfterQuery, AfterAct, replaced, change_entered, unheard}
-use Rattle.beldi_laws.proofs.OneEvent.{if_plan, lent_only}
+use Rattle.beldi_laws.proofs.Moves.{if_plan, seen_by, After, AfterQuery, AfterAct, replaced, change_entered, unheard}
+use Rattle.beldi_laws.proofs.OneEvent.{lent_only}
 use Rattle.beldi_laws.proofs.Beginnings.{look_turn, register_turn}
 use Rattle.beldi_laws.proofs.Callings.{call_turn}
-use Rattle.beldi_laws.proofs.Endings.{back_turn, close_turn}
+use Rattle.beldi_laws.proofs.Asyncs.{async_turn}
+use Rattle.beldi_laws.proofs.Endings.{back_turn, tell_turn, close_turn}
+use Rattle.beldi_collect.specs.declared.cursor.Found.{Found}
+use Rattle.beldi_collect.specs.declared.cursor.Found.TheVariants as found
+use Rattle.beldi_collect.specs.Collect.{collect_asks, collect_says}
+use Rattle.beldi_row.specs.Key.{least_key}
+use Rattle.beldi_row.specs.declared.key.RowKey.{RowKey}
 use Rattle.beldi_laws.proofs.Operations.{operation_turn}
 use Rattle.beldi_laws.proofs.Readings.{ask_turn, walk_turn, keep_turn}
 use Rattle.beldi_plain.specs.Guard.{touched_by}
@@ -96,12 +102,12 @@ without d c m i h = record { plain = h.plain; bounded = h.bounded; legal = h.leg
 module _ (d : Deployment) (c : Core) (m : Rows) (i : ℕ) (h : Right d c m) (r : Run) (live : map.get c.runs i ≡ Some r) where
   module _ (g : Begun) (at_is : r.at ≡ Begins g) (k : Knows d c.book h.plain r g) where
     abbrev AfterStage : Effect → Stage → Type 0
-    AfterStage e s = AfterQuery d h.plain c.now m (λ t. turn_next c i r.id (turned_by d r g (stage_says r.id g.caller (count_changes c.book) g.machine.steps e s t))) (stage_asks r.id r.func g.caller g.machine.steps e s)
+    AfterStage e s = AfterQuery d h.plain c.now m (λ t. turn_next c i r (turned_by d r g (stage_says r.id g.caller (count_changes c.book) g.machine.steps e s t))) (stage_asks r.id r.func g.caller g.machine.steps e s)
 
     -- what a caller waits for is given back to it
-    back_at : (b : Option Caller) (o : Outcome) → g.caller ≡ b → g.machine.effect ≡ Return o → is_waited b ≡ true → AfterQuery d h.plain c.now m (λ t. turn_next c i r.id (turned_by d r g (back_says (back_of t)))) (back_to_asks r.id r.func b (Return o))
+    back_at : (b : Option Caller) (o : Outcome) → g.caller ≡ b → g.machine.effect ≡ Return o → is_waited b ≡ true → AfterQuery d h.plain c.now m (λ t. turn_next c i r (turned_by d r g (back_says (back_of t)))) (back_to_asks r.id r.func b (Return o))
     back_at None o from is waited = cc
-    back_at (Some b) o from is waited = back_turn d c m i r g h live k o is b from
+    back_at (Some b) o from is waited = back_turn d c m i r g h live k o is b from waited
 
     stage_turn : (e : Effect) (s : Stage) → g.machine.effect ≡ e → StageOk r.id g.caller e s → PlaceOk d c.book r.id r.func k.answers k.later e s → SeenDone h.plain r.id g.machine.steps k.instance g.caller s → AfterStage e s
     stage_turn (Read t key) stage.Ask is ok at done = ask_turn d c m i r g h live k t key is
@@ -112,11 +118,13 @@ module _ (d : Deployment) (c : Core) (m : Rows) (i : ℕ) (h : Right d c m) (r :
     stage_turn (Lock t key) (stage.Write w) is ok at done = operation_turn d c m i r g h live k (Lock t key) refl is w
     stage_turn (Unlock t key) (stage.Write w) is ok at done = operation_turn d c m i r g h live k (Unlock t key) refl is w
     stage_turn (Call f v) (stage.Call w) is ok at done = call_turn d c m i r g h live at_is k f v is ok w done
+    stage_turn (Async f v) (stage.Async w) is ok at done = async_turn d c m i r g h live at_is k f v is ok w done
     stage_turn (Return o) stage.Back is ok at done = back_at g.caller o refl is ok
+    stage_turn (Return o) stage.Tell is ok at done = tell_turn d c m i r g h live k o is g.caller ok
     stage_turn (Return o) stage.Close is ok at done = close_turn d c m i r g h live k o is done
     stage_turn e s is ok at done = absurd ok
 
-  at_turn : (at : standing.RunAt) → r.at ≡ at → KnowsAt d c.book h.plain r at → AfterQuery d h.plain c.now m (λ t. turn_next c i r.id (told_at d (count_changes c.book) r at t)) (asks_at r at)
+  at_turn : (at : standing.RunAt) → r.at ≡ at → KnowsAt d c.book h.plain r at → AfterQuery d h.plain c.now m (λ t. turn_next c i r (told_at d (count_changes c.book) r at t)) (asks_at r at)
   at_turn Looks is k = look_turn d c m i r h live
   at_turn (Registers b) is k = register_turn d c m i r h live b k
   at_turn (Begins g) is k = stage_turn g is k g.machine.effect g.stage refl k.run_stage k.run_place k.run_done
@@ -268,6 +276,29 @@ right_no_run : (d : Deployment) (c : Core) (m : Rows) (h : Right d c m) (b : Boo
 right_no_run d c m h true = as_before d c m seen.NoRun (refl, refl) h
 right_no_run d c m h false = as_before d c m seen.RunOver (refl, refl) h
 
+-- the intent collector changes no row, and starts a run that registers nothing
+abbrev at_cursor : (d : Deployment) (c : Core) (m : Rows) (k : RowKey) → Right d c m → Right d (record c { cursor = k }) m
+at_cursor d c m k h = record { plain = h.plain; bounded = h.bounded; legal = h.legal; guarded = h.guarded; rows = h.rows; tickets = h.tickets; runs = h.runs }
+
+collect : (d : Deployment) (c : Core) (m : Rows) (h : Right d c m) (t : Told) → After d h.plain (collect_next d c (collect_says t)).0 m (collect_next d c (collect_says t)).1
+collect d c m h t = by_found (collect_says t)
+  where
+    passes : (k : RowKey) (x : Seen) → TellsNothing x → After d h.plain (record c { cursor = k }) m x
+    passes k x silent = as_before d (record c { cursor = k }) m x silent (at_cursor d c m k h)
+
+    by_place : (k : RowKey) (id : IntentId) (f : ℕ) (b : Bool) → is_crowded c ≡ b → let z : Core × Seen = if b then (c, seen.Crowded) else launched d (record c { cursor = k }) id f in After d h.plain z.0 m z.1
+    by_place k id f true e = as_before d c m seen.Crowded (refl, refl) h
+    by_place k id f false e = as_before d (launched d (record c { cursor = k }) id f).0 m (seen.Launched (c.last_run + 1) id) (refl, refl) (with_new d (record c { cursor = k }) m id f e (at_cursor d c m k h))
+
+    by_live : (k : RowKey) (id : IntentId) (f : ℕ) (b : Bool) → let z : Core × Seen = if b then passed c k else if is_crowded c then (c, seen.Crowded) else launched d (record c { cursor = k }) id f in After d h.plain z.0 m z.1
+    by_live k id f true = passes k seen.Passed (refl, refl)
+    by_live k id f false = by_place k id f (is_crowded c) refl
+
+    by_found : (x : Found) → After d h.plain (collect_next d c x).0 m (collect_next d c x).1
+    by_found found.Round = passes least_key seen.Round (refl, refl)
+    by_found (found.Passed k) = passes k seen.Passed (refl, refl)
+    by_found (found.Unended k id f) = by_live k id f (has_run c.runs id)
+
 -- a run that is past its deadline is over
 right_expired : (d : Deployment) (c : Core) (m : Rows) (i : ℕ) (h : Right d c m) → After d h.plain (ended_run c i) m seen.Expired
 right_expired d c m i h = as_before d (ended_run c i) m seen.Expired (refl, refl) (without d c m i h)
@@ -303,6 +334,7 @@ right_of d (Crash i) c m h = by_run (map.get c.runs i)
     by_run (Some r) = if_plan (RightPlan d m h.plain (Crash i) c) (nat_lt r.deadline c.now) _ _ (λ late. right_expired d c m i h) (λ alive. as_before d (ended_run c i) m seen.Crashed (refl, refl) (without d c m i h))
 right_of d (Restart id f) c m h = if_plan (RightPlan d m h.plain (Restart id f) c) (is_crowded c) _ _ (λ u. as_before d c m seen.Crowded (refl, refl) h)
     (λ few. as_before d (with_run c (new_run d c id f)) m (seen.Started (c.last_run + 1)) (refl, refl) (with_new d c m id f few h))
+right_of d Ic c m h = (collect d c m h (told_by (collect_asks c.cursor) c.now m), λ b w. let z = lent_only (lends (told_by (collect_asks c.cursor) c.now m)) c b w in subst (λ y. After d h.plain y m seen.Dropped) (sym z.0) (as_before d c m seen.Dropped (refl, refl) h))
 right_of d (Tick n) c m h = if_plan (RightPlan d m h.plain (Tick n) c) (nat_lt last_moment (c.now + n)) _ _ (λ u. as_before d c m seen.ClockEnd (refl, refl) h)
     (λ u. as_before d (record c { now = c.now + n }) m (seen.Now (c.now + n)) (refl, refl) (record { plain = h.plain; bounded = h.bounded; legal = h.legal; guarded = h.guarded; rows = h.rows; tickets = h.tickets; runs = h.runs }))
 
@@ -351,7 +383,7 @@ no_row d home (kinds.Intent id) = by_hops (has_no_hops id.hops)
 
     by_hops : (b : Bool) → IntentMatches b home None (map.get nothing.made id)
     by_hops true = by_home (home == 0)
-    by_hops false = tt
+    by_hops false = subst (HasNoRow home) (sym (get-empty id_cmp id)) (record { open_still = λ q is. cc })
 no_row d home (kinds.ReadLog a) = ap (owed_value d home a.step) (get-empty id_cmp a.intent)
 no_row d home (kinds.Invoke a) = ap (λ o. called_by home o (map.get nothing.made (child_of a.intent a.step))) (get-empty id_cmp a.intent)
 no_row d home (kinds.Data t k zero) = tt

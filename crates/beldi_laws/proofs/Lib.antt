@@ -2,8 +2,10 @@ pub mod Events
 pub mod Listing
 pub mod Lives
 pub mod Moves
+mod Asyncs
 mod Beginnings
 mod Callings
+mod CallsHere
 mod Endings
 mod Notes
 pub mod OneAnswer

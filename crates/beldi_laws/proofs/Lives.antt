@@ -37,6 +37,7 @@ use Rattle.beldi_step.specs.declared.run.Begun.{Begun}
 use Rattle.beldi_step.specs.declared.run.Stage.{Stage}
 use Rattle.beldi_step.specs.declared.run.Stage.TheVariants as stage
 use Rattle.beldi_step.specs.Host.{put_run, most_runs}
+use Rattle.beldi_call.specs.declared.async_call.AsyncAt.TheVariants as async
 use Rattle.beldi_call.specs.declared.call.CallAt.TheVariants as call
 use Rattle.beldi_laws.specs.Right.{WasThere, Keeps, PlaceOk, SeenDone, IsBodyOf, body_of, Knows, KnowsAt, RunAt, RunsMatch}
 
@@ -76,6 +77,8 @@ outcome_stays i j w there = by_outcome i.outcome refl there
 
 done_on : (p q : PlainState) (id : IntentId) (n : ℕ) (i j : Instance) (c : Option Caller) (s : Stage) → Grows p.made q.made → Grown i j → SeenDone p id n i c s → SeenDone q id n j c s
 done_on p q id n i j c (stage.Call call.Look) w g h = made_stays (map.get p.made (child_of id n)) (map.get q.made (child_of id n)) (w (child_of id n)) h
+done_on p q id n i j c (stage.Async async.Register) w g h = made_stays (map.get p.made (child_of id n)) (map.get q.made (child_of id n)) (w (child_of id n)) h
+done_on p q id n i j c (stage.Async async.Note) w g h = made_stays (map.get p.made (child_of id n)) (map.get q.made (child_of id n)) (w (child_of id n)) h
 done_on p q id n i j c stage.Close w g h = λ waited. outcome_stays i j g (h waited)
 done_on p q id n i j c s w g h = tt
 

@@ -1,5 +1,5 @@
 -- The host after an event: what it makes of the table, and how the book and the runs went on.
-use Rattle.std.proofs.Common.{◌≡◌, ◌⊎◌, inl, inr, ℕ, ◌+◌, ◌||◌, Bool, true, false, List, [], ◌∷◌, ◌++◌, if◌then◌else◌, Option, None, Some, Result, Ok, Err, refl, ap, sym, ◌∙◌, subst, is_some, append-nil}
+use Rattle.std.proofs.Common.{◌≡◌, ◌⊎◌, inl, inr, ℕ, ◌||◌, Bool, true, false, List, [], ◌∷◌, ◌++◌, if◌then◌else◌, Option, None, Some, Result, Ok, Err, refl, ap, sym, ◌∙◌, subst, is_some, append-nil}
 use Rattle.std.specs.Option.{option_map}
 use Rattle.std.specs.declared.alloc.AllocError.{AllocError}
 use Rattle.std.specs.FinMap as map
@@ -24,8 +24,9 @@ use Rattle.beldi_step.specs.declared.run.Run.{Run}
 use Rattle.beldi_step.specs.declared.run.Wait.{Wait}
 use Rattle.beldi_step.specs.declared.run.Wait.TheVariants as wait
 use Rattle.beldi_intent.specs.Intent.{root_key}
-use Rattle.beldi_step.specs.Run.{Turned, callee_of}
-use Rattle.beldi_step.specs.Host.{Core, most_runs, is_crowded, has_run, with_run, put_run, entry_of, marked, acted, started, opened, started_anew, awaited, after_turn, turned_core, turn_next, without_run}
+use Rattle.beldi_step.specs.declared.run.TurnSays.{TurnSays}
+use Rattle.beldi_step.specs.Run.{Turned, says_of, callee_of}
+use Rattle.beldi_step.specs.Host.{Core, most_runs, is_crowded, has_run, with_run, put_run, entry_of, marked, made, started, may_start, after_turn, turned_core, turn_next, without_run}
 use borrow.Author.Tests.{leb-false}
 use Rattle.std.proofs.lemmas.Bool.{or_parts}
 use Rattle.beldi_laws.specs.Right.{Right, RowsMatch, KnowsAt, RunAt, RunsMatch}
@@ -66,8 +67,8 @@ pub still : {b : Core} {x : Seen} (d : Deployment) (p : PlainState) (m : Rows) (
 still {b} {x} d p m k v same a = subst (λ n. After d p b n x) (sym (unchanged m k v same)) a
 
 -- after a turn
-abbrev pub AfterTurn : Deployment → PlainState → Core → ℕ → IntentId → Turned → Rows → Type 0
-AfterTurn d p c i id s n = After d p (turn_next c i id s).0 n (turn_next c i id s).1
+abbrev pub AfterTurn : Deployment → PlainState → Core → ℕ → Run → Turned → Rows → Type 0
+AfterTurn d p c i r s n = After d p (turn_next c i r s).0 n (turn_next c i r s).1
 
 -- the same roots have rows
 abbrev pub SameRoots : Rows → Rows → Type 0
@@ -117,68 +118,63 @@ with_one d p c m x r room h knows = record {
   reply = h.reply;
 }
 
+-- what a test decides, as a plan
+pub if_plan : {A : Type 0} (S : A → Type 0) (b : Bool) (p q : A) → (b ≡ true → S p) → (b ≡ false → S q) → S (if b then p else q)
+if_plan S true p q g h = g refl
+if_plan S false p q g h = h refl
+
 -- a turn that may start a run of what its run calls
 abbrev starts_by : Option Wait → Bool → Bool
-starts_by None opens = opens
-starts_by (Some (wait.Held o)) opens = false
-starts_by (Some (wait.Result j)) opens = true
+starts_by None starts = starts
+starts_by (Some (wait.Held o)) starts = false
+starts_by (Some (wait.Result j)) starts = true
 
 -- that run knows what it has to
-abbrev pub KnowsCallee : Deployment → List Entry → PlainState → Turned → Option Wait → Type 0
-KnowsCallee d book p s w = starts_by w s.opens ≡ true → (k : Run) → callee_of s.next ≡ Some k → KnowsAt d book p k k.at
+abbrev pub KnowsCallee : Deployment → List Entry → PlainState → Run → Turned → Option Wait → Type 0
+KnowsCallee d book p r s w = starts_by w s.starts ≡ true → (k : Run) → callee_of r ≡ Some k → KnowsAt d book p k k.at
 
 -- what follows a turn whose core is so tells nothing but the outcome that the turn gave
-module _ (d : Deployment) (p : PlainState) (c : Core) (m : Rows) (id : IntentId) (s : Turned) (h : Right d c m) (goes_on : Grows p.made h.plain.made)
-    (reply : (t : ℕ) (o : Outcome) → reply_told id.ticket s.reply ≡ Some (t, o) → reply_of h.plain t ≡ Some o) where
-  told_so : (x : Seen) → is_gone x ≡ false → told_outcome x ≡ reply_told id.ticket s.reply → After d p c m x
+module _ (d : Deployment) (p : PlainState) (c : Core) (m : Rows) (r : Run) (s : Turned) (h : Right d c m) (goes_on : Grows p.made h.plain.made)
+    (reply : (t : ℕ) (o : Outcome) → reply_told r.id.ticket s.reply ≡ Some (t, o) → reply_of h.plain t ≡ Some o) where
+  told_so : (x : Seen) → is_gone x ≡ false → told_outcome x ≡ reply_told r.id.ticket s.reply → After d p c m x
   told_so x there says = record { right = h; goes_on = goes_on; there = there; reply = λ t o e. reply t o (sym says ∙ e) }
 
   silent : (x : Seen) → is_gone x ≡ false → told_outcome x ≡ None → After d p c m x
   silent x there none = record { right = h; goes_on = goes_on; there = there; reply = λ t o e. let clash = sym none ∙ e in cc }
 
-  may_start : (r : Run) → KnowsAt d c.book h.plain r r.at → is_crowded c ≡ false → After d p (started c id s r).0 m (started c id s r).1
+  abbrev AfterMade : Core × Option ℕ → Type 0
+  AfterMade q = let z = made r.id (says_of s) q in After d p z.0 m z.1
+
+  none_more : AfterMade (c, None)
+  none_more = told_so (made r.id (says_of s) (c, None)).1 refl refl
+
+  after_started : (o : Option Run) → ((k : Run) → o ≡ Some k → KnowsAt d c.book h.plain k k.at) → is_crowded c ≡ false → AfterMade (started c o)
   unfolding told_so
-  may_start r knows room = with_one d p c m (acted id s (Some (c.last_run + 1))) r room (told_so (acted id s (Some (c.last_run + 1))) refl refl) knows
+  after_started None knows room = none_more
+  after_started (Some k) knows room = let x = (made r.id (says_of s) (started c (Some k))).1 in with_one d p c m x k room (told_so x refl refl) (knows k refl)
 
-  after_opened : (o : Option Run) → ((r : Run) → o ≡ Some r → KnowsAt d c.book h.plain r r.at) → After d p (opened c id s o).0 m (opened c id s o).1
-  after_opened None knows = told_so (acted id s None) refl refl
-  after_opened (Some r) knows = by_place (has_run c.runs r.id || is_crowded c) refl
-    where
-      by_place : (b : Bool) → (has_run c.runs r.id || is_crowded c) ≡ b → let z : Core × Seen = if b then (c, acted id s None) else started c id s r in After d p z.0 m z.1
-      by_place true e = told_so (acted id s None) refl refl
-      by_place false e = may_start r (knows r refl) (or_parts (has_run c.runs r.id) (is_crowded c) e).1
+  after_opened : (o : Option Run) → ((k : Run) → o ≡ Some k → KnowsAt d c.book h.plain k k.at) → AfterMade (may_start c o)
+  after_opened None knows = none_more
+  after_opened (Some k) knows = if_plan AfterMade (has_run c.runs k.id || is_crowded c) _ _ (λ t. none_more) (λ e. after_started (Some k) knows (or_parts (has_run c.runs k.id) (is_crowded c) e).1)
 
-  after_anew : (o : Option Run) → ((r : Run) → o ≡ Some r → KnowsAt d c.book h.plain r r.at) → is_crowded c ≡ false → After d p (started_anew c id s o).0 m (started_anew c id s o).1
-  after_anew None knows room = told_so (acted id s None) refl refl
-  after_anew (Some r) knows room = may_start r (knows r refl) room
+  AfterThat : Core × Seen → Type 0
+  AfterThat z = After d p z.0 m z.1
 
-  after_awaited : (j : IntentId) → ((r : Run) → callee_of s.next ≡ Some r → KnowsAt d c.book h.plain r r.at) → After d p (awaited c id s j).0 m (awaited c id s j).1
-  after_awaited j knows = by_live (has_run c.runs j)
-    where
-      by_place : (b : Bool) → is_crowded c ≡ b → let z : Core × Seen = if b then (c, seen.Crowded) else started_anew c id s (callee_of s.next) in After d p z.0 m z.1
-      by_place true e = silent seen.Crowded refl refl
-      by_place false e = after_anew (callee_of s.next) knows e
-
-      by_live : (b : Bool) → let z : Core × Seen = if b then (c, seen.NotYet j) else if is_crowded c then (c, seen.Crowded) else started_anew c id s (callee_of s.next) in After d p z.0 m z.1
-      by_live true = silent (seen.NotYet j) refl refl
-      by_live false = by_place (is_crowded c) refl
-
-  pub followed : (w : Option Wait) → KnowsCallee d c.book h.plain s w → After d p (after_turn c id s w).0 m (after_turn c id s w).1
-  followed None knows = by_opens s.opens knows
-    where
-      by_opens : (b : Bool) → (b ≡ true → (r : Run) → callee_of s.next ≡ Some r → KnowsAt d c.book h.plain r r.at) → let z : Core × Seen = if b then opened c id s (callee_of s.next) else (c, acted id s None) in After d p z.0 m z.1
-      by_opens true knows = after_opened (callee_of s.next) (knows refl)
-      by_opens false knows = told_so (acted id s None) refl refl
+  pub followed : (w : Option Wait) → KnowsCallee d c.book h.plain r s w → let z = after_turn c (callee_of r) r.id (says_of s) w in After d p z.0 m z.1
+  unfolding AfterThat
+  followed None knows = if_plan AfterMade s.starts _ _ (λ t. after_opened (callee_of r) (knows t)) (λ t. none_more)
   followed (Some (wait.Held u)) knows = silent (seen.Held u) refl refl
-  followed (Some (wait.Result j)) knows = after_awaited j (knows refl)
+  followed (Some (wait.Result j)) knows =
+      if_plan AfterThat (has_run c.runs j) _ _ (λ t. silent (seen.NotYet j) refl refl)
+      (λ t. if_plan AfterThat (is_crowded c) _ _ (λ u. silent seen.Crowded refl refl) (λ u. after_started (callee_of r) (knows refl) u))
 
 -- ---- a run turned
 module _ (d : Deployment) (c : Core) (m n : Rows) (i : ℕ) (r : Run) (h : Right d c m) (live : map.get c.runs i ≡ Some r) (roots : SameRoots m n) where
   -- it made no entry
-  pub quiet : (s : Turned) → s.mark ≡ None → s.reply ≡ None → RunAt d c.book h.plain s.next → KnowsCallee d c.book h.plain s s.wait → RowsMatch d n h.plain → AfterTurn d h.plain c i r.id s n
+  pub quiet : (s : Turned) → s.mark ≡ None → s.reply ≡ None → RunAt d c.book h.plain s.next → KnowsCallee d c.book h.plain r s s.wait → RowsMatch d n h.plain → AfterTurn d h.plain c i r s n
   quiet s none silent next callee rows =
       let book : c.book ≡ marked c.book r.id s.mark = sym (append-nil c.book) ∙ ap (marked c.book r.id) (sym none) in
-      followed d h.plain (turned_core c i r.id s) n r.id s (record {
+      followed d h.plain (turned_core c i r.id s) n r s (record {
         plain = h.plain;
         bounded = subst (SeenBounded 0) book h.bounded;
         legal = ap (run_of d) (sym book) ∙ h.legal;
@@ -188,14 +184,14 @@ module _ (d : Deployment) (c : Core) (m n : Rows) (i : ℕ) (r : Run) (h : Right
         runs = subst (λ b. RunsMatch d b h.plain (put_run c.runs i s.next) c.last_run) book (runs_put d c.book h.plain c.runs c.last_run i s.next (ap is_some live) next h.runs);
       }) (grows_self h.plain.made)
       (λ t u e. let clash = sym (ap (reply_told r.id.ticket) silent) ∙ e in cc)
-      s.wait (subst (λ b. KnowsCallee d b h.plain s s.wait) book callee)
+      s.wait (subst (λ b. KnowsCallee d b h.plain r s s.wait) book callee)
 
   -- it made this entry, which led to the plain state q
   pub entered : (s : Turned) (k : Mark) (q : PlainState) → s.mark ≡ Some k → Entered d c h.plain (entry_of r.id k) q → ((v : Outcome) → s.reply ≡ Some v → reply_of q r.id.ticket ≡ Some v) → RunAt d (c.book ++ entry_of r.id k ∷ []) q s.next
-      → KnowsCallee d (c.book ++ entry_of r.id k ∷ []) q s s.wait → RowsMatch d n q → AfterTurn d h.plain c i r.id s n
+      → KnowsCallee d (c.book ++ entry_of r.id k ∷ []) q r s s.wait → RowsMatch d n q → AfterTurn d h.plain c i r s n
   entered s k q is leads reply next callee rows =
       let book : c.book ++ entry_of r.id k ∷ [] ≡ marked c.book r.id s.mark = ap (marked c.book r.id) (sym is) in
-      followed d h.plain (turned_core c i r.id s) n r.id s (record {
+      followed d h.plain (turned_core c i r.id s) n r s (record {
         plain = q;
         bounded = subst (SeenBounded 0) book leads.bounded;
         legal = ap (run_of d) (sym book) ∙ leads.legal;
@@ -205,42 +201,31 @@ module _ (d : Deployment) (c : Core) (m n : Rows) (i : ℕ) (r : Run) (h : Right
         runs = subst (λ b. RunsMatch d b q (put_run c.runs i s.next) c.last_run) book (runs_put d (c.book ++ entry_of r.id k ∷ []) q c.runs c.last_run i s.next (ap is_some live) next leads.runs);
       }) leads.grows
       (told_reply q r.id.ticket s.reply reply)
-      s.wait (subst (λ b. KnowsCallee d b q s s.wait) book callee)
+      s.wait (subst (λ b. KnowsCallee d b q r s s.wait) book callee)
 
 -- ---- nobody hears what a turn told: its run is over, and none is started
 -- what follows a turn leaves its core, or one run more
 MaybeStarted : Core → Core → Type 0
 MaybeStarted c b = (b ≡ c) ⊎ ((r : Run) × (b ≡ with_run c r))
 
-after_so : (c : Core) (id : IntentId) (s : Turned) (w : Option Wait) → MaybeStarted c (after_turn c id s w).0
-unfolding MaybeStarted
-after_so c id s None = by_opens s.opens
-  where
-    by_place : (r : Run) (b : Bool) → let z : Core × Seen = if b then (c, acted id s None) else started c id s r in (z.0 ≡ c) ⊎ ((k : Run) × (z.0 ≡ with_run c k))
-    by_place r true = inl refl
-    by_place r false = inr (r, refl)
+module _ (c : Core) where
+  started_so : (o : Option Run) → MaybeStarted c (started c o).0
+  unfolding MaybeStarted
+  started_so None = inl refl
+  started_so (Some k) = inr (k, refl)
 
-    by_callee : (o : Option Run) → ((opened c id s o).0 ≡ c) ⊎ ((k : Run) × ((opened c id s o).0 ≡ with_run c k))
-    by_callee None = inl refl
-    by_callee (Some r) = by_place r (has_run c.runs r.id || is_crowded c)
+  opened_so : (o : Option Run) → MaybeStarted c (may_start c o).0
+  unfolding MaybeStarted
+  opened_so None = inl refl
+  opened_so (Some k) = if_plan (λ (q : Core × Option ℕ). MaybeStarted c q.0) (has_run c.runs k.id || is_crowded c) _ _ (λ t. inl refl) (λ t. started_so (Some k))
 
-    by_opens : (b : Bool) → let z : Core × Seen = if b then opened c id s (callee_of s.next) else (c, acted id s None) in (z.0 ≡ c) ⊎ ((k : Run) × (z.0 ≡ with_run c k))
-    by_opens true = by_callee (callee_of s.next)
-    by_opens false = inl refl
-after_so c id s (Some (wait.Held u)) = inl refl
-after_so c id s (Some (wait.Result j)) = by_live (has_run c.runs j)
-  where
-    by_callee : (o : Option Run) → ((started_anew c id s o).0 ≡ c) ⊎ ((k : Run) × ((started_anew c id s o).0 ≡ with_run c k))
-    by_callee None = inl refl
-    by_callee (Some r) = inr (r, refl)
-
-    by_place : (b : Bool) → let z : Core × Seen = if b then (c, seen.Crowded) else started_anew c id s (callee_of s.next) in (z.0 ≡ c) ⊎ ((k : Run) × (z.0 ≡ with_run c k))
-    by_place true = inl refl
-    by_place false = by_callee (callee_of s.next)
-
-    by_live : (b : Bool) → let z : Core × Seen = if b then (c, seen.NotYet j) else if is_crowded c then (c, seen.Crowded) else started_anew c id s (callee_of s.next) in (z.0 ≡ c) ⊎ ((k : Run) × (z.0 ≡ with_run c k))
-    by_live true = inl refl
-    by_live false = by_place (is_crowded c)
+  after_so : (o : Option Run) (id : IntentId) (x : TurnSays) (w : Option Wait) → MaybeStarted c (after_turn c o id x w).0
+  unfolding MaybeStarted
+  after_so o id x None = if_plan (λ (q : Core × Option ℕ). MaybeStarted c q.0) x.starts _ _ (λ t. opened_so o) (λ t. inl refl)
+  after_so o id x (Some (wait.Held u)) = inl refl
+  after_so o id x (Some (wait.Result j)) =
+      if_plan (λ (z : Core × Seen). MaybeStarted c z.0) (has_run c.runs j) _ _ (λ t. inl refl)
+      (λ t. if_plan (λ (z : Core × Seen). MaybeStarted c z.0) (is_crowded c) _ _ (λ u. inl refl) (λ u. started_so o))
 
 module _ (d : Deployment) (c : Core) (m n : Rows) (i : ℕ) (r : Run) (h : Right d c m) (live : map.get c.runs i ≡ Some r) (s : Turned) where
   abbrev core : Core
@@ -268,14 +253,14 @@ module _ (d : Deployment) (c : Core) (m n : Rows) (i : ℕ) (r : Run) (h : Right
     runs = runs_before d core.book g.plain core.runs core.last_run k (numbers_put c.runs c.last_run i s.next (ap is_some live) (λ j t. (h.runs.numbers j t).1)) g.runs;
   }
 
-  lost_by : (b : Core) → MaybeStarted core b → After d h.plain b n (turn_next c i r.id s).1 → After d h.plain (without_run c i r.id s.mark) n seen.Dropped
+  lost_by : (b : Core) → MaybeStarted core b → After d h.plain b n (turn_next c i r s).1 → After d h.plain (without_run c i r.id s.mark) n seen.Dropped
   unfolding MaybeStarted run_over not_started
   lost_by b (inl same) a =
-      let g : After d h.plain core n (turn_next c i r.id s).1 = subst (λ z. After d h.plain z n (turn_next c i r.id s).1) same a in
+      let g : After d h.plain core n (turn_next c i r s).1 = subst (λ z. After d h.plain z n (turn_next c i r s).1) same a in
       record { right = run_over g.right; goes_on = g.goes_on; there = refl; reply = λ t o e. cc }
   lost_by b (inr k) a =
-      let g : After d h.plain (with_run core k.0) n (turn_next c i r.id s).1 = subst (λ z. After d h.plain z n (turn_next c i r.id s).1) k.1 a in
+      let g : After d h.plain (with_run core k.0) n (turn_next c i r s).1 = subst (λ z. After d h.plain z n (turn_next c i r s).1) k.1 a in
       record { right = run_over (not_started k.0 g.right); goes_on = g.goes_on; there = refl; reply = λ t o e. cc }
 
-  pub unheard : AfterTurn d h.plain c i r.id s n → After d h.plain (without_run c i r.id s.mark) n seen.Dropped
-  unheard a = lost_by (turn_next c i r.id s).0 (after_so core r.id s s.wait) a
+  pub unheard : AfterTurn d h.plain c i r s n → After d h.plain (without_run c i r.id s.mark) n seen.Dropped
+  unheard a = lost_by (turn_next c i r s).0 (after_so core (callee_of r) r.id (says_of s) s.wait) a

@@ -9,7 +9,7 @@ use Rattle.beldi_value.specs.declared.place.Place.{Place}
 use Rattle.beldi_tree.specs.declared.deployment.Deployment.{Deployment}
 use Rattle.beldi_lang.specs.declared.effect.Answer.{Answer}
 use Rattle.beldi_lang.specs.declared.effect.Answer.TheVariants as answer
-use Rattle.beldi_lang.specs.declared.effect.Effect.TheVariants.{Read, Call}
+use Rattle.beldi_lang.specs.declared.effect.Effect.TheVariants.{Read, Call, Async}
 use Rattle.beldi_lang.specs.Machine.{IsAt}
 use Rattle.beldi_row.specs.declared.key.RowKey.{RowKey}
 use Rattle.beldi_row.specs.declared.notes.Note.{Note}
@@ -44,6 +44,7 @@ use Rattle.beldi_laws.proofs.OneEvent.{one_row}
 use Rattle.beldi_laws.proofs.Standing.{held_here, same_run}
 use Rattle.beldi_order.proofs.Sanes.{legal_is_sane}
 use Rattle.beldi_step.specs.Run.{noted_answer}
+use Rattle.beldi_lang.specs.declared.effect.Answer.TheVariants.{Done}
 
 -- ---- one answer
 module _ (d : Deployment) (c : Core) (m : Rows) (h : Right d c m) (id : IntentId) where
@@ -105,6 +106,14 @@ back_stays x o u goes held = by_call (call_in o) refl held
     by_call None is held = cc
     by_call (Some i) is held = let j = goes i is in ap (λ c. option_map answer_of (result_in c)) j.1 ∙ by_result i j.0 i.result j.2 refl held
 
+-- that a call was opened
+call_stays : (x : Answer) (o u : Option Row) → CallGoesOn o u → option_map (λ i. Done) (call_in o) ≡ Some x → option_map (λ i. Done) (call_in u) ≡ Some x
+call_stays x o u goes held = by_call (call_in o) refl held
+  where
+    by_call : (c : Option InvokeRow) → call_in o ≡ c → option_map (λ (i : InvokeRow). Done) c ≡ Some x → option_map (λ i. Done) (call_in u) ≡ Some x
+    by_call None is held = cc
+    by_call (Some i) is held = ap (option_map (λ i. Done)) (goes i is).1 ∙ held
+
 module _ (a : Act) (now : ℕ) (k : RowKey) (m : Rows) where
   -- what every act keeps of a row
   at_key : (P : Option Row → Type 0) → ((b : Act) (t : ℕ) (o : Option Row) → P o → P (act b t o).0) → (l : RowKey) → P (map.get m l) → P (map.get (after_act a now k m) l)
@@ -118,6 +127,8 @@ module _ (a : Act) (now : ℕ) (k : RowKey) (m : Rows) where
   act_keeps id func step (Read t key) x held = at_key (λ o. option_map answer.Value (option_map given_in o) ≡ Some x) (λ b t. value_stays b t x) (log_key func (record { intent = id; step = step })) held
   act_keeps id func step (Call f v) x held =
       let l = invoke_key func (record { intent = id; step = step }) in back_stays x (map.get m l) (map.get (after_act a now k m) l) (calls_stay (query.Act k a) now m l) held
+  act_keeps id func step (Async f v) x held =
+      let l = invoke_key func (record { intent = id; step = step }) in call_stays x (map.get m l) (map.get (after_act a now k m) l) (calls_stay (query.Act k a) now m l) held
   act_keeps id func step e x held = notes_keep (record { intent = id; step = step }) func (op_of e) x held
 
 one_keeps : (c : Core) (m n : Rows) → OneRowChanged c m n → AnswersStay m n

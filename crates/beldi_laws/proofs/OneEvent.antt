@@ -30,7 +30,7 @@ use Rattle.beldi_walk.specs.Query.{Told, lends, rows_after, query_adds, CameOn}
 use Rattle.beldi_walk.proofs.Lent.{refused_stand}
 use Rattle.beldi_daal.specs.Content.{content_in}
 use Rattle.beldi_step.specs.declared.event.Event.{Event}
-use Rattle.beldi_step.specs.declared.event.Event.TheVariants.{Ticket, Request, Turn, Lost, Crash, Restart, Tick}
+use Rattle.beldi_step.specs.declared.event.Event.TheVariants.{Ticket, Request, Turn, Lost, Crash, Restart, Tick, Ic}
 use Rattle.beldi_step.specs.declared.event.Seen.{Seen}
 use Rattle.beldi_step.specs.declared.event.Seen.TheVariants as seen
 use Rattle.beldi_intent.specs.declared.intent.Binding.{Binding}
@@ -49,12 +49,16 @@ use Rattle.beldi_step.specs.declared.run.Says.TheVariants as says
 use Rattle.beldi_tree.specs.declared.deployment.Func.{Func}
 use Rattle.beldi_tree.specs.Names.{func_at}
 use Rattle.beldi_intent.specs.Intent.{is_added, binding_of, body_told}
-use Rattle.beldi_step.specs.Run.{Turned, turned_by, goes_from, first_stage, begin_in, body_registered, told_at, stage_says, run_told, callee_of}
-use Rattle.beldi_step.specs.Host.{turn_next, turned_core, after_turn, acted, started, opened, started_anew, awaited, has_run, Core, Plan, at_once, asks, counted, plan, plan_of, run_plan, crash_plan, last_moment, is_crowded, most_events, no_run, ended_run, entry_of, marked, ticket_next, request_next, unbound, run_next, unheard_next, heard, no_memory, if_lent, refused, refused_by, Followed, StepBy, EventBy, is_lost, is_dropped}
+use Rattle.beldi_step.specs.Run.{Turned, says_of, turned_by, goes_from, first_stage, begin_in, body_registered, told_at, stage_says, run_told, callee_of}
+use Rattle.beldi_step.specs.Host.{turn_next, turned_core, after_turn, made, started, may_start, collect_next, collected, launched, passed, has_run, Core, Plan, at_once, asks, counted, plan, plan_of, run_plan, crash_plan, last_moment, is_crowded, most_events, no_run, ended_run, entry_of, marked, ticket_next, request_next, unbound, run_next, unheard_next, heard, no_memory, if_lent, refused, refused_by, Followed, StepBy, EventBy, is_lost, is_dropped}
 use Rattle.beldi_order.proofs.Entries.{same_some}
 use Rattle.beldi_laws.specs.Stands.{head_key, content_of}
+use Rattle.beldi_laws.proofs.Moves.{if_plan}
 use Rattle.beldi_laws.proofs.Rows.{set_others}
 use Rattle.beldi_laws.specs.Laws.{OneRowChanged, ChangesOneRow, KeepsRoom, BookGrew, WritesWhatIsTold, DropsHaveCause, entries_told, starts_of, bound_of, bound_by}
+use Rattle.beldi_collect.specs.declared.cursor.Found.{Found}
+use Rattle.beldi_collect.specs.declared.cursor.Found.TheVariants as collect
+use Rattle.beldi_collect.specs.Collect.{collect_says}
 
 -- ---- rows
 same_rows : (c : Core) (m n : Rows) → n ≡ m → OneRowChanged c m n
@@ -144,11 +148,6 @@ none e c b x same silent = let t = told_none e x silent in record { entry = None
 none_told : (e : Event) (c b : Core) (w : AllocError) → b.book ≡ c.book → BookGrew e c b (Err w)
 none_told e c b w same = record { entry = None; book = same ∙ sym (append-nil c.book); starts = refl; told = tt }
 
--- what a test decides, as a plan
-pub if_plan : {A : Type 0} (S : A → Type 0) (b : Bool) (p q : A) → (b ≡ true → S p) → (b ≡ false → S q) → S (if b then p else q)
-if_plan S true p q g h = g refl
-if_plan S false p q g h = h refl
-
 -- an answer at once leaves the book as it was, and tells no entry; and it is not dropped
 abbrev PlanTells : Core → Plan → Type 0
 PlanTells c (at_once b y) = (b.book ≡ c.book) × (is_silent y ≡ true) × (is_dropped y ≡ false)
@@ -174,6 +173,7 @@ plan_of_tells d (Turn i) c = run_tells c i (map.get c.runs i)
 plan_of_tells d (Lost i) c = run_tells c i (map.get c.runs i)
 plan_of_tells d (Crash i) c = crash_tells c i (map.get c.runs i)
 plan_of_tells d (Restart id f) c = if_plan (PlanTells c) (is_crowded c) _ _ (λ u. (refl, refl, refl)) (λ u. (refl, refl, refl))
+plan_of_tells d Ic c = tt
 plan_of_tells d (Tick n) c = if_plan (PlanTells c) (nat_lt last_moment (c.now + n)) _ _ (λ u. (refl, refl, refl)) (λ u. (refl, refl, refl))
 
 plan_tells : (d : Deployment) (e : Event) (c : Core) → PlanTells (counted c) (plan d e c)
@@ -190,6 +190,7 @@ goes_unmarked r g c m (Some s) w is = cc
 says_unmarked : (d : Deployment) (r : Run) (g : Begun) (s : Says) → Unmarked (turned_by d r g s)
 says_unmarked d r g (says.Waits u) w is = refl
 says_unmarked d r g (says.Answers a m) w is = let next = resumed d g.machine a in goes_unmarked r next g.caller m (first_stage r.id g.caller next.effect) w is
+says_unmarked d r g (says.Starts a) w is = let next = resumed d g.machine a in goes_unmarked r next g.caller None (first_stage r.id g.caller next.effect) w is
 says_unmarked d r g s w is = cc
 
 begins_unmarked : (d : Deployment) (r : Run) (f : Option Func) (b : Option Body) → Unmarked (begin_in d r f b)
@@ -209,35 +210,35 @@ record TurnTells (i : ℕ) (id : IntentId) (s : Turned) (c : Core) (y : Core × 
   heard : is_dropped y.1 ≡ false
 
 module _ (i : ℕ) (id : IntentId) (s : Turned) (c : Core) where
-  started_none : TurnTells i id s c (c, acted id s None)
-  started_none = record { book = refl; told = refl; heard = refl }
+  abbrev MadeTells : Core × Option ℕ → Type 0
+  MadeTells q = TurnTells i id s c (made id (says_of s) q)
 
-  started_one : (r : Run) → TurnTells i id s c (started c id s r)
-  started_one r = record { book = refl; told = refl; heard = refl }
+  -- .. from that book, whatever run was started
+  unmoved : (q : Core × Option ℕ) → q.0.book ≡ c.book → MadeTells q
+  unmoved q same = record { book = same; told = refl; heard = refl }
 
-  opened_tells : (o : Option Run) → TurnTells i id s c (opened c id s o)
-  opened_tells None = started_none
-  opened_tells (Some r) = if_plan (TurnTells i id s c) (has_run c.runs r.id || is_crowded c) _ _ (λ t. started_none) (λ t. started_one r)
+  started_tells : (o : Option Run) → MadeTells (started c o)
+  started_tells None = unmoved (c, None) refl
+  started_tells (Some k) = unmoved (started c (Some k)) refl
 
-  anew_tells : (o : Option Run) → TurnTells i id s c (started_anew c id s o)
-  anew_tells None = started_none
-  anew_tells (Some r) = started_one r
+  opened_tells : (o : Option Run) → MadeTells (may_start c o)
+  opened_tells None = unmoved (c, None) refl
+  opened_tells (Some k) = if_plan MadeTells (has_run c.runs k.id || is_crowded c) _ _ (λ t. unmoved (c, None) refl) (λ t. started_tells (Some k))
 
   waits_tells : s.mark ≡ None → (x : Seen) → entries_told (Turn i) x ≡ [] → is_dropped x ≡ false → TurnTells i id s c (c, x)
   waits_tells unmarked x silent heard = record { book = refl; told = ap (λ m. option_to_list (option_map (entry_of id) m)) unmarked ∙ sym silent; heard = heard }
 
-  awaited_tells : s.mark ≡ None → (callee : IntentId) → TurnTells i id s c (awaited c id s callee)
-  awaited_tells unmarked callee = if_plan (TurnTells i id s c) (has_run c.runs callee) _ _
-      (λ t. waits_tells unmarked (seen.NotYet callee) refl refl)
-      (λ t. if_plan (TurnTells i id s c) (is_crowded c) _ _ (λ u. waits_tells unmarked seen.Crowded refl refl) (λ u. anew_tells (callee_of s.next)))
+  turn_tells : (o : Option Run) (w : Option Wait) → s.wait ≡ w → Unmarked s → TurnTells i id s c (after_turn c o id (says_of s) w)
+  turn_tells o None is unmarked = if_plan MadeTells s.starts _ _ (λ t. opened_tells o) (λ t. unmoved (c, None) refl)
+  turn_tells o (Some (wait.Held w)) is unmarked = waits_tells (unmarked (wait.Held w) is) (seen.Held w) refl refl
+  turn_tells o (Some (wait.Result callee)) is unmarked =
+      let none = unmarked (wait.Result callee) is in
+      if_plan (TurnTells i id s c) (has_run c.runs callee) _ _
+      (λ t. waits_tells none (seen.NotYet callee) refl refl)
+      (λ t. if_plan (TurnTells i id s c) (is_crowded c) _ _ (λ u. waits_tells none seen.Crowded refl refl) (λ u. started_tells o))
 
-  turn_tells : (o : Option Wait) → s.wait ≡ o → Unmarked s → TurnTells i id s c (after_turn c id s o)
-  turn_tells None is unmarked = if_plan (TurnTells i id s c) s.opens _ _ (λ t. opened_tells (callee_of s.next)) (λ t. started_none)
-  turn_tells (Some (wait.Held w)) is unmarked = waits_tells (unmarked (wait.Held w) is) (seen.Held w) refl refl
-  turn_tells (Some (wait.Result callee)) is unmarked = awaited_tells (unmarked (wait.Result callee) is) callee
-
-made_tells : (d : Deployment) (c : Core) (i : ℕ) (r : Run) (t : Told) → let s = run_told d (count_changes c.book) r t in TurnTells i r.id s (turned_core c i r.id s) (turn_next c i r.id s)
-made_tells d c i r t = let s = run_told d (count_changes c.book) r t in turn_tells i r.id s (turned_core c i r.id s) s.wait refl (waits_unmarked d (count_changes c.book) r r.at t)
+made_tells : (d : Deployment) (c : Core) (i : ℕ) (r : Run) (t : Told) → let s = run_told d (count_changes c.book) r t in TurnTells i r.id s (turned_core c i r.id s) (turn_next c i r s)
+made_tells d c i r t = let s = run_told d (count_changes c.book) r t in turn_tells i r.id s (turned_core c i r.id s) (callee_of r) s.wait refl (waits_unmarked d (count_changes c.book) r r.at t)
 
 -- a turn binds nothing
 turn_unbound : (i : ℕ) (x : Seen) → bound_of (Turn i) x ≡ []
@@ -262,7 +263,7 @@ module _ (d : Deployment) (c : Core) where
   run_grew i t None = none (Turn i) c c (no_run c i) refl (no_run_tells c ((i == 0) || nat_lt c.last_run i)).1
   run_grew i t (Some r) =
       let s = run_told d (count_changes c.book) r t in
-      let y = turn_next c i r.id s in
+      let y = turn_next c i r s in
       let g = made_tells d c i r t in
       act_grew (Turn i) c y.0 (Ok y.1) r.id s.mark g.book (turn_unbound i y.1) (λ l. g.told)
 
@@ -275,6 +276,19 @@ module _ (d : Deployment) (c : Core) where
   unheard_grew i t w None = none_told (Turn i) c c w refl
   unheard_grew i t w (Some r) = act_grew (Turn i) c (unheard_next d c i t (Some r)) (Err w) r.id (run_told d (count_changes c.book) r t).mark refl refl tt
 
+  -- the collector makes no entry
+  collected_grew : (k : RowKey) (id : IntentId) (f : ℕ) → BookGrew Ic c (collected d c k id f).0 (Ok (collected d c k id f).1)
+  collected_grew k id f = if_plan (λ (y : Core × Seen). BookGrew Ic c y.0 (Ok y.1)) (has_run c.runs id) _ _
+      (λ t. none Ic c (passed c k).0 seen.Passed refl refl)
+      (λ t. if_plan (λ (y : Core × Seen). BookGrew Ic c y.0 (Ok y.1)) (is_crowded c) _ _
+      (λ u. none Ic c c seen.Crowded refl refl)
+      (λ u. none Ic c (launched d (record c { cursor = k }) id f).0 (seen.Launched (c.last_run + 1) id) refl refl))
+
+  collect_grew : (o : Found) → BookGrew Ic c (collect_next d c o).0 (Ok (collect_next d c o).1)
+  collect_grew collect.Round = none Ic c (record c { cursor = least_key }) seen.Round refl refl
+  collect_grew (collect.Passed k) = none Ic c (passed c k).0 seen.Passed refl refl
+  collect_grew (collect.Unended k id f) = collected_grew k id f
+
   heard_grew : (e : Event) (t : Told) → BookGrew e c (heard d e c t).0 (Ok (heard d e c t).1)
   heard_grew Ticket t = ticket_grew (is_added t)
   heard_grew (Request u f a) t = request_grew u f a (binding_of t)
@@ -282,11 +296,13 @@ module _ (d : Deployment) (c : Core) where
   heard_grew (Lost i) t = lost_grew i t (map.get c.runs i)
   heard_grew (Crash i) t = none (Crash i) c c seen.Crashed refl refl
   heard_grew (Restart id f) t = none (Restart id f) c c seen.Crowded refl refl
+  heard_grew Ic t = collect_grew (collect_says t)
   heard_grew (Tick n) t = none (Tick n) c c seen.ClockEnd refl refl
 
   no_memory_grew : (e : Event) (t : Told) (w : AllocError) (b : Core) → no_memory d e c t ≡ Some b → BookGrew e c b (Err w)
   no_memory_grew (Turn i) t w b is = subst (λ z. BookGrew (Turn i) c z (Err w)) (same_some is) (unheard_grew i t w (map.get c.runs i))
   no_memory_grew (Request u f a) t w b is = none_told (Request u f a) c b w (ap (λ (z : Core). z.book) (lent_only (lends t) c b is).0)
+  no_memory_grew Ic t w b is = none_told Ic c b w (ap (λ (z : Core). z.book) (lent_only (lends t) c b is).0)
   no_memory_grew e t w b is = cc
 
   error_grew : (e : Event) (b : Core) (v : TableErr) → b.book ≡ c.book → BookGrew e c b (refused_by v)
@@ -332,6 +348,14 @@ module _ (d : Deployment) (c : Core) where
   run_heard i t None = (no_run_tells c ((i == 0) || nat_lt c.last_run i)).2
   run_heard i t (Some r) = (made_tells d c i r t).heard
 
+  collected_heard : (k : RowKey) (id : IntentId) (f : ℕ) → is_dropped (collected d c k id f).1 ≡ false
+  collected_heard k id f = if_plan (λ (y : Core × Seen). is_dropped y.1 ≡ false) (has_run c.runs id) _ _ (λ t. refl) (λ t. if_plan (λ (y : Core × Seen). is_dropped y.1 ≡ false) (is_crowded c) _ _ (λ u. refl) (λ u. refl))
+
+  collect_heard : (o : Found) → is_dropped (collect_next d c o).1 ≡ false
+  collect_heard collect.Round = refl
+  collect_heard (collect.Passed k) = refl
+  collect_heard (collect.Unended k id f) = collected_heard k id f
+
   heard_lost : (e : Event) (t : Told) → is_dropped (heard d e c t).1 ≡ is_lost e
   heard_lost Ticket t = ticket_heard (is_added t)
   heard_lost (Request u f a) t = request_heard u f a (binding_of t)
@@ -340,6 +364,7 @@ module _ (d : Deployment) (c : Core) where
   heard_lost (Crash i) t = refl
   heard_lost (Restart id f) t = refl
   heard_lost (Tick n) t = refl
+  heard_lost Ic t = collect_heard (collect_says t)
 
   error_heard : (v : TableErr) → says_dropped (refused_by v) ≡ true → v ≡ Failed
   error_heard OutOfMemory h = cc

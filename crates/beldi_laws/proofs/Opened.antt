@@ -1,5 +1,5 @@
 -- Rows that match a plain state, after a call was opened.
-use Rattle.std.proofs.Common.{◌≡◌, ℕ, ◌==◌, true, false, [], ◌∷◌, length, length-append, Option, None, Some, refl, ap, sym, ◌∙◌, subst, eqb-true, eq-eqb, arith, if◌then◌else◌}
+use Rattle.std.proofs.Common.{◌≡◌, ℕ, ◌==◌, Bool, true, false, [], ◌∷◌, length, length-append, Option, None, Some, refl, ap, sym, ◌∙◌, subst, eqb-true, eq-eqb, arith, if◌then◌else◌}
 use Rattle.std.specs.FinMap as map
 use Rattle.std.specs.Ordering.{is_eq}
 use Rattle.beldi_value.specs.Id.{child_of, has_no_hops}
@@ -38,13 +38,13 @@ not_home f i None off = refl
 not_home f i (Some j) off = ap (λ b. if b then Some (j.func, result_of j) else None) off
 
 -- ---- a call was opened: its callee is made, which owes nothing yet
-module _ (d : Deployment) (m : Rows) (p : PlainState) (id : IntentId) (i : Instance) (f : ℕ) (v : Value) (is : map.get p.made id ≡ Some i) (new : map.get p.made (callee_of id i) ≡ None)
+module _ (d : Deployment) (m : Rows) (p : PlainState) (id : IntentId) (i : Instance) (f : ℕ) (v : Value) (waits : Bool) (is : map.get p.made id ≡ Some i) (new : map.get p.made (callee_of id i) ≡ None)
     (childless : (n : ℕ) → map.get p.made (child_of (callee_of id i) n) ≡ None) (h : RowsMatch d m p) where
   abbrev callee : IntentId
   callee = callee_of id i
 
   abbrev made_new : Instance
-  made_new = new_instance f v (Some (calls_at id i))
+  made_new = new_instance f v (Some (calls_at id i waits))
 
   abbrev state : PlainState
   state = with_instance p callee made_new
@@ -55,11 +55,18 @@ module _ (d : Deployment) (m : Rows) (p : PlainState) (id : IntentId) (i : Insta
   caller_there : map.get state.made id ≡ Some i
   caller_there = elsewhere p.made callee id made_new (λ same. let clash = sym new ∙ ap (map.get p.made) same ∙ is in cc) ∙ is
 
+  no_result : result_of made_new ≡ None
+  no_result = by_wait waits
+    where
+      by_wait : (b : Bool) → ◌≡◌ {A = Option Outcome} (if b then None else None) None
+      by_wait true = refl
+      by_wait false = refl
+
   owed_here : owed_call state i.func (next_place id i) ≡ Some (f, None)
-  owed_here = ap (λ o. called_by i.func o (map.get state.made callee)) caller_there ∙ ap (called_by i.func (Some i)) (here p.made callee made_new) ∙ ap (λ b. if b then Some (f, None) else None) (eq-eqb i.func i.func refl)
+  owed_here = ap (λ o. called_by i.func o (map.get state.made callee)) caller_there ∙ ap (called_by i.func (Some i)) (here p.made callee made_new) ∙ ap (λ b. if b then Some (f, result_of made_new) else None) (eq-eqb i.func i.func refl) ∙ ap (λ o. Some (f, o)) no_result
 
   owes_none : OwesSame d (map.get p.made callee) made_new
-  owes_none = subst (λ o. OwesSame d o made_new) (sym new) (new_owes d f v (Some (calls_at id i)))
+  owes_none = subst (λ o. OwesSame d o made_new) (sym new) (new_owes d f v (Some (calls_at id i waits)))
 
   still_childless : (n : ℕ) → map.get state.made (child_of callee n) ≡ None
   still_childless n = elsewhere p.made callee (child_of callee n) made_new (λ same. no_own_callee callee n (sym same)) ∙ childless n
@@ -73,7 +80,7 @@ module _ (d : Deployment) (m : Rows) (p : PlainState) (id : IntentId) (i : Insta
   as_callee home b other same =
       let place = child_same b.intent id b.step (length i.answers) same in
       ap (λ z. called_by home (map.get p.made z) (Some made_new)) place.0 ∙ ap (λ o. called_by home o (Some made_new)) is
-      ∙ elim (i.func == home) as (λ t. (i.func == home) ≡ t → ◌≡◌ {A = Option (ℕ × Option Outcome)} (if t then Some (f, None) else None) None) [
+      ∙ elim (i.func == home) as (λ t. (i.func == home) ≡ t → ◌≡◌ {A = Option (ℕ × Option Outcome)} (if t then Some (f, result_of made_new) else None) None) [
         | true ↦ λ e. absurd (same_key home i.func b (next_place id i) (sym (eqb-true i.func home e)) (λ k. record { intent = place.0 k; step = place.1 k }) other)
         | false ↦ λ e. refl
       ] refl
@@ -82,7 +89,7 @@ module _ (d : Deployment) (m : Rows) (p : PlainState) (id : IntentId) (i : Insta
   own_row : (home : ℕ) (r : Option Row) → IntentMatches (has_no_hops callee.hops) home r (map.get p.made callee) → IntentMatches (has_no_hops callee.hops) home r (Some made_new)
   own_row home r g =
       let hops = no_root id (length i.answers) in
-      subst (λ b. IntentMatches b home r (Some made_new)) (sym hops) (callee_new home r made_new (subst (CalleeMatches home r) new (subst (λ b. IntentMatches b home r (map.get p.made callee)) hops g)))
+      subst (λ b. IntentMatches b home r (Some made_new)) (sym hops) (callee_new home r made_new refl (subst (CalleeMatches home r) new (subst (λ b. IntentMatches b home r (map.get p.made callee)) hops g)))
 
   key_apart : (l : RowKey) (b : Place) → is_eq (key_cmp l key) ≡ false → l.kind ≡ kinds.Invoke b → is_eq (key_cmp (invoke_key l.home b) key) ≡ false
   key_apart l b other kind = subst (λ (z : Kind). is_eq (key_cmp (record { home = l.home; kind = z }) key) ≡ false) kind other

@@ -132,11 +132,13 @@ no_place d book id func given later e at = tt
 answered_so : (e : Effect) (o : OnItem) (a : Answer) → op_of e ≡ Some o → IsAnswerTo e a → OpAnswered o.does a
 answered_so (effect.Read t k) o a h is = cc
 answered_so (effect.Call f v) o a h is = cc
+answered_so (effect.Async f v) o a h is = cc
 answered_so e o a h is = subst (λ z. OpAnswers z a) h is
 
 of_its_kind : (e : Effect) (o : OnItem) (a : Answer) → op_of e ≡ Some o → IsAnswerTo e a → answers_it e a ≡ true
 of_its_kind (effect.Read t k) o a h is = cc
 of_its_kind (effect.Call f v) o a h is = cc
+of_its_kind (effect.Async f v) o a h is = cc
 of_its_kind (effect.Write t k v) o answer.Done h is = refl
 of_its_kind (effect.CondWrite t k r u v) o (answer.Value w) h is = refl
 of_its_kind (effect.Lock t k) o answer.Done h is = refl
@@ -182,7 +184,7 @@ module _ (d : Deployment) (c : Core) (m : Rows) (i : ℕ) (r : Run) (g : Begun) 
   note_read a rest left = note_is (a ∷ rest) left ∙ ap (λ z. note_of item r.func z a) so ∙ ap (λ b. if is_eq b then noted o.does a else None) (tied_itself item_total item)
 
   abbrev After : Says → Type 0
-  After s = AfterTurn d h.plain c i r.id (turned_by d r g s) n
+  After s = AfterTurn d h.plain c i r (turned_by d r g s) n
 
   module _ (same : (l : RowKey) → is_eq (key_cmp l (head_key item)) ≡ false → map.get n l ≡ map.get m l) (sound : SoundAt (map.get n (head_key item))) where
     roots : SameRoots m n
@@ -254,9 +256,9 @@ module _ (d : Deployment) (c : Core) (m : Rows) (i : ℕ) (r : Run) (g : Begun) 
     by_says writes.NotOwner l = ends d c m i r g h live k e is n roots (kept l.2)
     by_says (writes.Held w) l = held d c m i r g h live k e is w n roots (kept l.2)
 
-  pub operation_turn : AfterQuery d h.plain c.now m (λ u. turn_next c i r.id (turned_by d r g (put_says e (note_done e) u))) (put_asks r.id r.func g.machine.steps at (cell_op e))
+  pub operation_turn : AfterQuery d h.plain c.now m (λ u. turn_next c i r (turned_by d r g (put_says e (note_done e) u))) (put_asks r.id r.func g.machine.steps at (cell_op e))
   operation_turn =
       let z = write_goes (done_note op) (told_by asks c.now m) in
       let logged : LoggedTurn walk m n (walk_so z) = by_op walk m n (h.rows.keys (head_key item)) at c.now refl in
-      subst (λ x. AfterQuery d h.plain c.now m (λ u. turn_next c i r.id (turned_by d r g (put_says e (note_of_op x) u))) (put_asks r.id r.func g.machine.steps at x)) (sym (its_cell e o so))
+      subst (λ x. AfterQuery d h.plain c.now m (λ u. turn_next c i r (turned_by d r g (put_says e (note_of_op x) u))) (put_asks r.id r.func g.machine.steps at x)) (sym (its_cell e o so))
       (by_says logged.others logged.sound z logged.logs)

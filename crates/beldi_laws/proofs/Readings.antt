@@ -76,7 +76,7 @@ module _ (d : Deployment) (c : Core) (m : Rows) (i : ℕ) (r : Run) (g : Begun) 
   place = place_of r.id g.machine.steps
 
   abbrev AfterRead : Stage → RowKey → Option Row × Tell → Type 0
-  AfterRead s at z = AfterAct d h.plain m at (λ u. turn_next c i r.id (turned_by d r g (stage_says r.id g.caller (count_changes c.book) g.machine.steps (Read t key) s u))) z
+  AfterRead s at z = AfterAct d h.plain m at (λ u. turn_next c i r (turned_by d r g (stage_says r.id g.caller (count_changes c.book) g.machine.steps (Read t key) s u))) z
 
   -- the log has the value that the step was answered
   given_here : (later : List Answer) → k.later ≡ later → (w : Option Row) → map.get m (log_key r.func place) ≡ w → option_map given_in w ≡ value_if (Read t key) (slice_get later 0)
@@ -88,7 +88,7 @@ module _ (d : Deployment) (c : Core) (m : Rows) (i : ℕ) (r : Run) (g : Begun) 
       ∙ ap (λ e. value_if e (slice_get later 0)) (effect_here d c.book h.plain r g k ∙ is)
 
   -- a value that is there is the answer
-  replays_it : (u v : Value) (rest : List Answer) → k.later ≡ answer.Value u ∷ rest → Some v ≡ Some u → AfterTurn d h.plain c i r.id (turned_by d r g (Answers (answer.Value v) None)) m
+  replays_it : (u v : Value) (rest : List Answer) → k.later ≡ answer.Value u ∷ rest → Some v ≡ Some u → AfterTurn d h.plain c i r (turned_by d r g (Answers (answer.Value v) None)) m
   replays_it u v rest left same = replays d c m i r g h live k (Read t key) is m (answer.Value v) rest (λ u. refl) h.rows (left ∙ ap (λ w. answer.Value w ∷ rest) (sym (same_some same)))
 
   -- ---- it asks for what was given
@@ -109,7 +109,7 @@ module _ (d : Deployment) (c : Core) (m : Rows) (i : ℕ) (r : Run) (g : Begun) 
       few : count_changes (linear c.book) ≤ count_changes c.book
       few = let n = ap length (linear_changes c.book) in omega (arith, n)
 
-  found : (o : Option Value) → value_at h.plain item ≡ or_null o → in_the_way (Some (owner.Intent r.id)) (content_of m item).owner ≡ None → AfterTurn d h.plain c i r.id (turned_by d r g (walk_says (count_changes c.book) (reads.Got o))) m
+  found : (o : Option Value) → value_at h.plain item ≡ or_null o → in_the_way (Some (owner.Intent r.id)) (content_of m item).owner ≡ None → AfterTurn d h.plain c i r (turned_by d r g (walk_says (count_changes c.book) (reads.Got o))) m
   found o same free = goes_on d c m i r g h live k (Read t key) is m (stage.Keep (or_null o) (count_changes c.book)) (λ u. refl) h.rows tt (record {
     few = omega arith;
     was_there = λ none. record {
@@ -126,7 +126,7 @@ module _ (d : Deployment) (c : Core) (m : Rows) (i : ℕ) (r : Run) (g : Begun) 
   abbrev walk : ReadWalk
   walk = record { home = r.func; item = Plain t key; who = Some (owner.Intent r.id) }
 
-  walked : (z : ReadGoes) → ReadsContent walk.who (read_so z) (content_of m item) → AfterTurn d h.plain c i r.id (turned_by d r g (walk_says (count_changes c.book) z)) m
+  walked : (z : ReadGoes) → ReadsContent walk.who (read_so z) (content_of m item) → AfterTurn d h.plain c i r (turned_by d r g (walk_says (count_changes c.book) z)) m
   walked reads.On never = absurd never
   walked (reads.Got None) empty = found None (sym (h.rows.items item).value ∙ ap (λ x. x.value) empty) (ap (λ x. in_the_way (Some (owner.Intent r.id)) x.owner) empty)
   walked (reads.Got (Some v)) there = found (Some v) (sym (h.rows.items item).value ∙ sym there.1) there.0
@@ -135,7 +135,7 @@ module _ (d : Deployment) (c : Core) (m : Rows) (i : ℕ) (r : Run) (g : Begun) 
   pub walk_turn : AfterRead stage.Walk (head_key item) (act Look c.now (map.get m (head_key item)))
   walk_turn =
       let z = read_goes walk.who (said (act Look c.now (map.get m (head_key item))).1) in
-      subst (AfterTurn d h.plain c i r.id (turned_by d r g (walk_says (count_changes c.book) z))) (sym (looked c.now (head_key item) m)) (walked z (by_row walk c.now (map.get m (head_key item)) (h.rows.keys (head_key item))))
+      subst (AfterTurn d h.plain c i r (turned_by d r g (walk_says (count_changes c.book) z))) (sym (looked c.now (head_key item) m)) (walked z (by_row walk c.now (map.get m (head_key item)) (h.rows.keys (head_key item))))
 
   -- ---- it keeps what it found
   module _ (v : Value) (seen : ℕ) (at : Keeps d c.book r.id k.answers k.later item v seen) where

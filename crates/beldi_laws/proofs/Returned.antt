@@ -1,36 +1,42 @@
 -- Rows that match a plain state, after a callee gave its outcome back, so that it ends and its caller is answered; and after its own
 -- row was set.
-use Rattle.std.proofs.Common.{◌≡◌, ℕ, ◌==◌, true, false, Option, None, Some, refl, ap, sym, ◌∙◌, subst, eqb-true, eq-eqb, if◌then◌else◌}
+use Rattle.std.proofs.Common.{◌≡◌, ℕ, Bool, true, false, if◌then◌else◌, Option, None, Some, refl, ap, sym, ◌∙◌, subst, ◌==◌, eqb-true, eq-eqb}
 use Rattle.std.specs.FinMap as map
 use Rattle.std.specs.Ordering.{is_eq}
+use Rattle.beldi_intent.specs.Intent.{issued_at}
+use Rattle.beldi_invokelog.specs.InvokeLog.{invoke_key}
+use Rattle.beldi_lang.specs.Callee.{answer_of}
+use Rattle.beldi_lang.specs.declared.effect.Effect.TheVariants as effect
+use Rattle.beldi_laws.proofs.Notes.{value_same}
+use Rattle.beldi_laws.proofs.Opened.{no_own_callee, same_key, not_home}
+use Rattle.beldi_laws.proofs.Steps.{OwesSame, row_moved, item_moved, row_set, calls_moved, end_owes, row_answered, item_answered, same_caller, callee_on, return_keeps_row}
+use Rattle.beldi_laws.proofs.Turns.{fits}
+use Rattle.beldi_laws.specs.Right.{HasNoRow, RowsMatch, value_for, called_by, owed_call, result_of, IsBodyOf, CalleeMatches, IntentMatches, RowMatches, IsCalleeRow, CallMatches, OutcomeMatches}
+use Rattle.beldi_order.proofs.Entries.{same_some}
+use Rattle.beldi_order.proofs.Late.{here, elsewhere}
+use Rattle.beldi_plain.specs.Operation.{op_of}
+use Rattle.beldi_plain.specs.Plain.{PlainState, Instance, answered, effect_of, with_instance, ended}
+use Rattle.beldi_row.proofs.Unchanged.{unchanged}
+use Rattle.beldi_row.specs.Act.{act, register_to}
+use Rattle.beldi_row.specs.Key.{key_cmp}
+use Rattle.beldi_row.specs.Table.{Rows, set_row, after_act}
+use Rattle.beldi_row.specs.declared.act.Act.TheVariants.{NoteRegistered}
+use Rattle.beldi_row.specs.declared.key.Kind.TheVariants as kinds
+use Rattle.beldi_row.specs.declared.key.Kind.{Kind}
+use Rattle.beldi_row.specs.declared.key.RowKey.{RowKey}
+use Rattle.beldi_row.specs.declared.row.Body.{Body}
+use Rattle.beldi_row.specs.declared.row.IntentRow.{IntentRow}
+use Rattle.beldi_row.specs.declared.row.InvokeRow.{InvokeRow}
+use Rattle.beldi_row.specs.declared.row.Row.TheVariants as rows
+use Rattle.beldi_row.specs.declared.row.Row.{Row}
+use Rattle.beldi_step.specs.Run.{is_waited}
+use Rattle.beldi_tree.specs.declared.deployment.Deployment.{Deployment}
+use Rattle.beldi_value.proofs.Callees.{no_root, child_same}
 use Rattle.beldi_value.specs.Id.{child_of, has_no_hops}
 use Rattle.beldi_value.specs.declared.id.IntentId.{IntentId}
 use Rattle.beldi_value.specs.declared.outcome.Outcome.{Outcome}
 use Rattle.beldi_value.specs.declared.place.Place.{Place}
 use Rattle.beldi_value.specs.declared.value.Value.{Value}
-use Rattle.beldi_value.proofs.Callees.{child_same, no_root}
-use Rattle.beldi_tree.specs.declared.deployment.Deployment.{Deployment}
-use Rattle.beldi_lang.specs.Callee.{answer_of}
-use Rattle.beldi_lang.specs.declared.effect.Effect.TheVariants as effect
-use Rattle.beldi_row.specs.Key.{key_cmp}
-use Rattle.beldi_row.specs.declared.key.RowKey.{RowKey}
-use Rattle.beldi_row.specs.declared.key.Kind.{Kind}
-use Rattle.beldi_row.specs.declared.key.Kind.TheVariants as kinds
-use Rattle.beldi_row.specs.declared.row.IntentRow.{IntentRow}
-use Rattle.beldi_row.specs.declared.row.InvokeRow.{InvokeRow}
-use Rattle.beldi_row.specs.declared.row.Row.{Row}
-use Rattle.beldi_row.specs.declared.row.Row.TheVariants as rows
-use Rattle.beldi_row.specs.Table.{Rows, set_row}
-use Rattle.beldi_invokelog.specs.InvokeLog.{invoke_key}
-use Rattle.beldi_plain.specs.Operation.{op_of}
-use Rattle.beldi_plain.specs.Plain.{Instance, PlainState, with_instance, answered, ended, effect_of}
-use Rattle.beldi_order.proofs.Entries.{same_some}
-use Rattle.beldi_order.proofs.Late.{elsewhere, here}
-use Rattle.beldi_step.specs.Run.{is_waited}
-use Rattle.beldi_laws.specs.Right.{RowsMatch, RowMatches, CalleeMatches, IntentMatches, IsCalleeRow, CallMatches, called_by, owed_call, result_of, value_for}
-use Rattle.beldi_laws.proofs.Notes.{value_same}
-use Rattle.beldi_laws.proofs.Steps.{OwesSame, end_owes, row_moved, item_moved, row_answered, item_answered, row_set, calls_moved, same_caller, callee_on}
-use Rattle.beldi_laws.proofs.Opened.{no_own_callee, same_key, not_home}
 
 module _ (d : Deployment) (m : Rows) (p : PlainState) (id : IntentId) (i j : Instance) (n : ℕ) (o : Outcome) (f : ℕ) (v : Value) (is : map.get p.made id ≡ Some i) (made : map.get p.made (child_of id n) ≡ Some j)
     (open_still : j.outcome ≡ None) (waited : is_waited j.from ≡ true) (calls : effect_of d i ≡ effect.Call f v) (h : RowsMatch d m p) where
@@ -68,7 +74,7 @@ module _ (d : Deployment) (m : Rows) (p : PlainState) (id : IntentId) (i j : Ins
   own_row home r g =
       let hops = no_root id n in
       subst (λ b. IntentMatches b home r (Some (ended j o))) (sym hops)
-      (callee_on home r j (ended j o) refl (λ w u some was. let clash = sym open_still ∙ was in cc) (subst (CalleeMatches home r) made (subst (λ b. IntentMatches b home r (map.get p.made callee)) hops g)))
+      (callee_on home r j (ended j o) (return_keeps_row j o waited open_still) (subst (CalleeMatches home r) made (subst (λ b. IntentMatches b home r (map.get p.made callee)) hops g)))
 
   as_caller : (home : ℕ) (b : Place) → b.intent ≡ callee → called_by home (Some (ended j o)) (map.get given.made (child_of b.intent b.step)) ≡ called_by home (map.get p.made callee) (map.get given.made (child_of b.intent b.step))
   as_caller home b same = same_caller home j (ended j o) (map.get given.made (child_of b.intent b.step)) refl ∙ ap (λ c. called_by home c (map.get given.made (child_of b.intent b.step))) (sym made)
@@ -105,3 +111,38 @@ module _ (d : Deployment) (m : Rows) (p : PlainState) (id : IntentId) (i j : Ins
 module _ (d : Deployment) (m : Rows) (p : PlainState) (id : IntentId) (home : ℕ) (hops : has_no_hops id.hops ≡ false) (h : RowsMatch d m p) where
   pub callee_put : (r : IntentRow) → IsCalleeRow home r (map.get p.made id) → RowsMatch d (set_row m (record { home = home; kind = kinds.Intent id }) (Some (rows.Intent r))) p
   callee_put r fits = row_set d m p p (record { home = home; kind = kinds.Intent id }) (Some (rows.Intent r)) refl (subst (λ b. IntentMatches b home (Some (rows.Intent r)) (map.get p.made id)) (sym hops) fits) (λ l other g. g) (λ x c g. g) h
+
+-- ---- a callee was registered: its row, which was not there, has its body
+pub callee_registered : (d : Deployment) (m : Rows) (p : PlainState) (id : IntentId) (b : Body) (now : ℕ) → has_no_hops id.hops ≡ false → IsBodyOf b (map.get p.made id) → RowsMatch d m p
+    → let key : RowKey = record { home = b.func; kind = kinds.Intent id } in map.get m key ≡ None → RowsMatch d (set_row m key (Some (rows.Intent (issued_at now (Some b))))) p
+callee_registered d m p id b now hops body h none = callee_put d m p id b.func hops h (issued_at now (Some b)) (record { finishes = refl; body = (body, refl, by_wait (is_waited b.from) refl) })
+  where
+    absent : HasNoRow b.func (map.get p.made id)
+    absent = subst (λ r. CalleeMatches b.func r (map.get p.made id)) none (subst (λ t. IntentMatches t b.func (map.get m (record { home = b.func; kind = kinds.Intent id })) (map.get p.made id)) hops (h.keys (record { home = b.func; kind = kinds.Intent id })))
+
+    by_wait : (t : Bool) → is_waited b.from ≡ t → OutcomeMatches t None body.instance.outcome
+    by_wait true e = λ u is. cc
+    by_wait false e = absent.open_still body.instance body.made (sym (ap (λ z. z.func) body.body)) (ap (λ z. is_waited z.from) (sym body.body) ∙ e)
+
+-- ---- a call was marked as registered: no row owes that
+module _ (d : Deployment) (m : Rows) (p : PlainState) (home : ℕ) (a : Place) (now : ℕ) (h : RowsMatch d m p) where
+  abbrev mark_key : RowKey
+  mark_key = invoke_key home a
+
+  put : (r : InvokeRow) → CallMatches (Some (rows.Invoke r)) (owed_call p home a) → RowsMatch d (set_row m mark_key (Some (rows.Invoke r))) p
+  put r there = row_set d m p p mark_key (Some (rows.Invoke r)) refl there (λ l other g. g) (λ x c g. g) h
+
+  stays : (w : Option Row) → map.get m mark_key ≡ w → RowsMatch d (set_row m mark_key w) p
+  stays w at = subst (λ n. RowsMatch d n p) (sym (unchanged m mark_key w (sym at))) h
+
+  by_mark : (x : InvokeRow) (b : Bool) → x.registered ≡ b → map.get m mark_key ≡ Some (rows.Invoke x) → CallMatches (Some (rows.Invoke x)) (owed_call p home a) → RowsMatch d (set_row m mark_key (Some (rows.Invoke (register_to x b).0))) p
+  by_mark x true is at there = stays (Some (rows.Invoke x)) at
+  by_mark x false is at there = put (record x { registered = true }) there
+
+  by_row : (w : Option Row) → map.get m mark_key ≡ w → CallMatches w (owed_call p home a) → RowsMatch d (set_row m mark_key (act NoteRegistered now (map.get m mark_key)).0) p
+  by_row None at there = subst (λ z. RowsMatch d (set_row m mark_key (act NoteRegistered now z).0) p) (sym at) (stays None at)
+  by_row (Some (rows.Invoke x)) at there = subst (λ z. RowsMatch d (set_row m mark_key (act NoteRegistered now z).0) p) (sym at) (by_mark x x.registered refl at there)
+  by_row (Some w) at there = absurd there
+
+  pub marked_registered : RowsMatch d (after_act NoteRegistered now (invoke_key home a) m) p
+  marked_registered = by_row (map.get m (invoke_key home a)) refl (h.keys (invoke_key home a))

@@ -1,5 +1,5 @@
 -- Where the host and its rows are right, the rows stand for the run of the book.
-use Rattle.std.proofs.Common.{◌≡◌, ℕ, true, false, ◌||◌, List, Option, None, Some, refl, ap, sym, ◌∙◌, subst, is_some, eq-eqb, if◌then◌else◌}
+use Rattle.std.proofs.Common.{◌≡◌, ℕ, true, false, ◌||◌, List, Option, None, Some, refl, ap, sym, ◌∙◌, subst, is_some, eq-eqb, if◌then◌else◌, Bool}
 use Rattle.std.specs.Prelude.{slice_get, option_and_then}
 use Rattle.std.specs.FinMap as map
 use Rattle.std.specs.Ordering.{is_eq}
@@ -14,7 +14,7 @@ use Rattle.beldi_tree.specs.declared.deployment.Deployment.{Deployment}
 use Rattle.beldi_lang.specs.declared.effect.Answer.{Answer}
 use Rattle.beldi_lang.specs.declared.effect.Answer.TheVariants as answer
 use Rattle.beldi_lang.specs.declared.effect.Effect.{Effect}
-use Rattle.beldi_lang.specs.declared.effect.Effect.TheVariants.{Read, Call}
+use Rattle.beldi_lang.specs.declared.effect.Effect.TheVariants.{Read, Call, Async}
 use Rattle.beldi_row.specs.declared.row.Body.{Body}
 use Rattle.beldi_row.specs.declared.row.IntentRow.{IntentRow}
 use Rattle.beldi_row.specs.declared.row.Row.{Row}
@@ -29,7 +29,7 @@ use Rattle.beldi_step.specs.Host.{Core}
 use Rattle.beldi_readlog.specs.ReadLog.{log_key}
 use Rattle.beldi_invokelog.specs.InvokeLog.{invoke_key, call_in, result_in}
 use Rattle.beldi_lang.specs.Callee.{answer_of}
-use Rattle.beldi_order.specs.Sane.{Sane, IsCalled, CalledBy, OpAnswers, IsAnswerTo, effect_before}
+use Rattle.beldi_order.specs.Sane.{Sane, IsCalled, CalledBy, OpAnswers, IsAnswerTo, effect_before, call_of, answer_given}
 use Rattle.beldi_laws.specs.Stands.{Stands, IsMade, IsOpen, head_key, key_in, held_answer, held_note, noted}
 use Rattle.beldi_laws.specs.Right.{Right, RowsMatch, IntentMatches, RootMatches, BodyMatches, CallMatches, note_if, note_of, owed_by, value_if, value_for, owed_read, owed_value, owed_call, called_by, result_of}
 use Rattle.std.specs.Option.{option_map}
@@ -39,6 +39,8 @@ use Rattle.beldi_laws.proofs.Steps.{row_of}
 use Rattle.beldi_laws.proofs.Readings.{given_owed}
 use Rattle.beldi_laws.proofs.Operations.{noted_back}
 use Rattle.beldi_step.specs.Run.{noted_answer, is_waited}
+use Rattle.beldi_lang.specs.declared.effect.Answer.TheVariants.{Done}
+use Rattle.beldi_laws.proofs.CallsHere.{same_call}
 
 -- the row of a root without outcome has none
 no_outcome : (b : Option Body) (o : Option Outcome) (q : Instance) → BodyMatches b o (Some q) → q.outcome ≡ None → o ≡ None
@@ -94,16 +96,31 @@ module _ (d : Deployment) (m : Rows) (p : PlainState) (h : RowsMatch d m p) (san
     was_called : (j : Instance) → map.get p.made (child_of id n) ≡ Some j → IsCalled d id q n j
     was_called j on = subst (λ o. CalledBy d id o n j) made (sane.called id n j on)
 
-    call_owed : (j : Instance) → map.get p.made (child_of id n) ≡ Some j → owed_call p q.func place ≡ Some (j.func, j.outcome)
-    call_owed j on =
+    owed_so : (j : Instance) (on : map.get p.made (child_of id n) ≡ Some j) → owed_call p q.func place ≡ Some (j.func, if (was_called j on).waits then j.outcome else None)
+    owed_so j on =
         (λ i. called_by q.func (made i) (on i)) ∙ ap (λ b. if b then Some (j.func, result_of j) else None) (eq-eqb q.func q.func refl)
         ∙ ap (λ c. Some (j.func, if is_waited c then j.outcome else None)) (was_called j on).from
 
-    held_call : (f : ℕ) (v : Value) (o : Option Instance) → effect_before d q n ≡ Call f v → map.get p.made (child_of id n) ≡ o → held_answer m id q.func n (Call f v) ≡ Some a
-    held_call f v None call none = let clash = sym (sane.callees id q n f v made (slice_get_within q.answers n a at) call) ∙ ap is_some none in cc
-    held_call f v (Some j) call on =
-        let k = invoke_key q.func place in
-        ap (option_map answer_of) (gave_owed (map.get m k) (owed_call p q.func place) (h.keys k) ∙ ap gave (call_owed j on)) ∙ sym (was_called j on).answered ∙ at
+    -- what its row holds
+    held_call : (w : Bool) (f : ℕ) (v : Value) → effect_before d q n ≡ call_of w f v → held_answer m id q.func n (call_of w f v) ≡ Some a
+    held_call w f v call = by_callee (map.get p.made (child_of id n)) refl
+      where
+        by_wait : (j : Instance) (b : Bool) → Some a ≡ answer_given b j.outcome → CallMatches (map.get m (invoke_key q.func place)) (Some (j.func, if b then j.outcome else None)) → held_answer m id q.func n (call_of b f v) ≡ Some a
+        by_wait j true answered row = ap (option_map answer_of) (gave_owed (map.get m (invoke_key q.func place)) (Some (j.func, j.outcome)) row) ∙ sym answered
+        by_wait j false answered row = there_so (map.get m (invoke_key q.func place)) row ∙ sym answered
+          where
+            there_so : (r : Option Row) → CallMatches r (Some (j.func, None)) → ◌≡◌ {A = Option Answer} (option_map (λ i. Done) (call_in r)) (Some Done)
+            there_so None row = cc
+            there_so (Some (rows.Invoke i)) row = refl
+            there_so (Some r) row = absurd row
+
+        by_callee : (o : Option Instance) → map.get p.made (child_of id n) ≡ o → held_answer m id q.func n (call_of w f v) ≡ Some a
+        by_callee None none = let clash = sym (sane.callees id q n w f v made (slice_get_within q.answers n a at) call) ∙ ap is_some none in cc
+        by_callee (Some j) on =
+            let c = was_called j on in
+            let same = (same_call w c.waits f j.func v j.args (sym call ∙ c.call)).0 in
+            subst (λ b. held_answer m id q.func n (call_of b f v) ≡ Some a) (sym same)
+            (by_wait j c.waits (sym at ∙ c.answered) (subst (CallMatches (map.get m (invoke_key q.func place))) (owed_so j on) (h.keys (invoke_key q.func place))))
 
     held_at : (e : Effect) → effect_before d q n ≡ e → IsAnswerTo e a → held_answer m id q.func n e ≡ Some a
     held_at (Read t k) is ok =
@@ -111,7 +128,8 @@ module _ (d : Deployment) (m : Rows) (p : PlainState) (h : RowsMatch d m p) (san
         ap (option_map answer.Value) (given_owed (map.get m l) (owed_read d p q.func place) (h.keys l) ∙ ap (owed_value d q.func n) made
         ∙ ap (λ b. if b then value_if (effect_before d q n) (slice_get q.answers n) else None) (eq-eqb q.func q.func refl)
         ∙ ap (value_if (effect_before d q n)) at ∙ ap (λ z. value_for z a) is) ∙ read_back t k a ok
-    held_at (Call f v) is ok = held_call f v (map.get p.made (child_of id n)) is refl
+    held_at (Call f v) is ok = held_call true f v is
+    held_at (Async f v) is ok = held_call false f v is
     held_at e is ok = held_op (op_of e) (ap op_of is) ok
 
     pub held_here : held_answer m id q.func n (effect_before d q n) ≡ Some a

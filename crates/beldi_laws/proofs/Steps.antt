@@ -41,8 +41,9 @@ use Rattle.beldi_plain.specs.Plain.{Instance, PlainState, new_instance, value_at
 use Rattle.beldi_value.proofs.Callees.{no_root}
 use Rattle.beldi_order.specs.Sane.{effect_before}
 use Rattle.beldi_order.proofs.Entries.{same_some, made_set}
+use Rattle.beldi_step.specs.Run.{is_waited}
 use Rattle.beldi_laws.specs.Stands.{head_key, content_of, noted}
-use Rattle.beldi_laws.specs.Right.{RowsMatch, ItemMatches, RowMatches, IntentMatches, RootMatches, CalleeMatches, CallMatches, LogMatches, IsRootRow, IsBodyOf, BodyMatches, CalleeBodyMatches, body_of, is_owner, owed_by, owed_call, called_by, result_of, owed_read, owed_value, note_of, note_for, value_for, value_if}
+use Rattle.beldi_laws.specs.Right.{RowsMatch, ItemMatches, RowMatches, IntentMatches, RootMatches, CalleeMatches, CallMatches, LogMatches, IsRootRow, IsBodyOf, BodyMatches, CalleeBodyMatches, OutcomeMatches, body_of, is_owner, owed_by, owed_call, called_by, result_of, owed_read, owed_value, note_of, note_for, value_for, value_if}
 use Rattle.beldi_laws.proofs.Rows.{head_order, is_cell_key, no_head, keys_at, set_here, set_others}
 use Rattle.beldi_laws.proofs.Notes.{next_place, owed_more, owed_same, value_same, value_more, value_next, true_false}
 use Rattle.beldi_order.proofs.Operations.{item_same, IsOther, plain_set, holds_more}
@@ -66,9 +67,13 @@ callee_body : (home : ℕ) (b : Option Body) (o : Option Outcome) (i : Option In
 callee_body home None o i h c is = absurd h
 callee_body home (Some b) o i h c is = subst (λ z. IsBodyOf z i) (same_some is) h.0
 
+pub outcome_kept : (t : Bool) (o u : Option Outcome) → OutcomeMatches t o u → (v : Outcome) → o ≡ Some v → u ≡ Some v
+outcome_kept true o u h v is = h v is
+outcome_kept false o u h v is = h ∙ is
+
 callee_outcome : (home : ℕ) (b : Option Body) (o : Option Outcome) (i : Option Instance) → CalleeBodyMatches home b o i → (c : Body) (u : Outcome) (q : Instance) → b ≡ Some c → o ≡ Some u → i ≡ Some q → q.outcome ≡ Some u
 callee_outcome home None o i h c u q is some made = absurd h
-callee_outcome home (Some b) o i h c u q is some made = ap (λ z. z.outcome) (same_some (sym made ∙ h.0.made)) ∙ h.2 u some
+callee_outcome home (Some b) o i h c u q is some made = ap (λ z. z.outcome) (same_some (sym made ∙ h.0.made)) ∙ outcome_kept (is_waited b.from) o h.0.instance.outcome h.2 u some
 
 root_row : (b : Bool) (r : IntentRow) (i : Option Instance) → RootMatches b (Some (rows.Intent r)) i → IsRowOf r i
 root_row true r i h = record { finishes = h.finishes; body = root_body r.body r.outcome i h.body; outcome = root_outcome r.body r.outcome i h.body }
@@ -86,15 +91,43 @@ root_answered : (b : Option Body) (o : Option Outcome) (q : Instance) (a : Answe
 root_answered None o q a h = cc
 root_answered (Some b) o q a h = (body_stays b q (answered q a) refl h.0, ap (λ z. z.outcome) (same_some h.0.made) ∙ h.1)
 
--- a callee that goes on, and keeps the outcome that its row has
-callee_goes : (home : ℕ) (b : Option Body) (o : Option Outcome) (q s : Instance) → body_of q ≡ body_of s → ((u : Outcome) → o ≡ Some u → q.outcome ≡ Some u → s.outcome ≡ Some u) → CalleeBodyMatches home b o (Some q) → CalleeBodyMatches home b o (Some s)
-callee_goes home None o q s same on h = absurd h
-callee_goes home (Some b) o q s same on h = (body_stays b q s same h.0, h.1, λ u is. on u is (ap (λ z. z.outcome) (same_some h.0.made) ∙ h.2 u is))
+-- an instance goes on so that its row, or that it has none yet, matches it still
+pub record KeepsRow (q s : Instance) : Type 0 where
+  pub body : body_of q ≡ body_of s
+  pub outcomes : (o : Option Outcome) → OutcomeMatches (is_waited q.from) o q.outcome → OutcomeMatches (is_waited q.from) o s.outcome
+  pub open_still : is_waited q.from ≡ false → q.outcome ≡ None → s.outcome ≡ None
 
-pub callee_on : (home : ℕ) (r : Option Row) (q s : Instance) → body_of q ≡ body_of s → ((o : Option Outcome) (u : Outcome) → o ≡ Some u → q.outcome ≡ Some u → s.outcome ≡ Some u) → CalleeMatches home r (Some q) → CalleeMatches home r (Some s)
-callee_on home None q s same on h = tt
-callee_on home (Some (rows.Intent i)) q s same on h = record { finishes = h.finishes; body = callee_goes home i.body i.outcome q s same (on i.outcome) h.body }
-callee_on home (Some r) q s same on h = absurd h
+-- one that is answered does, and so does one that gives its outcome back to who waits for it
+answer_keeps_row : (q : Instance) (a : Answer) → KeepsRow q (answered q a)
+answer_keeps_row q a = record { body = refl; outcomes = λ o h. h; open_still = λ w none. none }
+
+pub return_keeps_row : (q : Instance) (u : Outcome) → is_waited q.from ≡ true → q.outcome ≡ None → KeepsRow q (ended q u)
+return_keeps_row q u waited none = record {
+  body = refl;
+  outcomes = λ o h. subst (λ t. OutcomeMatches t o (Some u)) (sym waited) (λ v is. let clash = sym none ∙ outcome_kept (is_waited q.from) o q.outcome h v is in cc);
+  open_still = λ idle was. let clash = sym waited ∙ idle in cc;
+}
+
+callee_goes : (home : ℕ) (b : Option Body) (o : Option Outcome) (q s : Instance) → KeepsRow q s → CalleeBodyMatches home b o (Some q) → CalleeBodyMatches home b o (Some s)
+callee_goes home None o q s keeps h = absurd h
+callee_goes home (Some b) o q s keeps h =
+    let from : b.from ≡ q.from = ap (λ z. z.from) (h.0.body ∙ ap body_of (same_some (sym h.0.made))) in (
+      body_stays b q s keeps.body h.0,
+      h.1,
+      subst (λ t. OutcomeMatches t o s.outcome) (ap is_waited (sym from))
+          (keeps.outcomes o (subst (λ t. OutcomeMatches t o q.outcome) (ap is_waited from) (subst (OutcomeMatches (is_waited b.from) o) (ap (λ z. z.outcome) (same_some (sym h.0.made))) h.2))),
+    )
+
+pub callee_on : (home : ℕ) (r : Option Row) (q s : Instance) → KeepsRow q s → CalleeMatches home r (Some q) → CalleeMatches home r (Some s)
+callee_on home None q s keeps h = record {
+  open_still = λ z is func idle.
+      let same : s ≡ z = same_some is in
+      let was_func : q.func ≡ home = ap (λ y. y.func) keeps.body ∙ ap (λ y. y.func) same ∙ func in
+      let was_idle : is_waited q.from ≡ false = ap (λ y. is_waited y.from) keeps.body ∙ ap (λ y. is_waited y.from) same ∙ idle in
+      ap (λ y. y.outcome) (sym same) ∙ keeps.open_still was_idle (h.open_still q refl was_func was_idle);
+}
+callee_on home (Some (rows.Intent i)) q s keeps h = record { finishes = h.finishes; body = callee_goes home i.body i.outcome q s keeps h.body }
+callee_on home (Some r) q s keeps h = absurd h
 
 roots_answered : (b : Bool) (r : Option Row) (q : Instance) (a : Answer) → RootMatches b r (Some q) → RootMatches b r (Some (answered q a))
 roots_answered true None q a h = cc
@@ -104,17 +137,17 @@ roots_answered false r q a h = h
 
 intent_answered : (b : Bool) (home : ℕ) (r : Option Row) (q : Instance) (a : Answer) → IntentMatches b home r (Some q) → IntentMatches b home r (Some (answered q a))
 intent_answered true home r q a h = roots_answered (home == 0) r q a h
-intent_answered false home r q a h = callee_on home r q (answered q a) refl (λ o u is some. some) h
+intent_answered false home r q a h = callee_on home r q (answered q a) (answer_keeps_row q a) h
 
 -- an intent that was not made has no row with hops
-pub callee_new : (home : ℕ) (r : Option Row) (s : Instance) → CalleeMatches home r None → CalleeMatches home r (Some s)
-callee_new home None s h = tt
-callee_new home (Some (rows.Intent i)) s h = no_body i.body h.body
+pub callee_new : (home : ℕ) (r : Option Row) (s : Instance) → s.outcome ≡ None → CalleeMatches home r None → CalleeMatches home r (Some s)
+callee_new home None s none h = record { open_still = λ q is func idle. ap (λ z. z.outcome) (sym (same_some is)) ∙ none }
+callee_new home (Some (rows.Intent i)) s none h = no_body i.body h.body
   where
     no_body : (b : Option Body) → CalleeBodyMatches home b i.outcome None → CalleeMatches home (Some (rows.Intent i)) (Some s)
     no_body None g = absurd g
     no_body (Some b) g = let clash = g.0.made in cc
-callee_new home (Some r) s h = absurd h
+callee_new home (Some r) s none h = absurd h
 
 -- ---- what the logs of calls owe, when an instance was set
 module _ (made : FinMap id_cmp Instance) (id : IntentId) (s : Instance) where
@@ -211,29 +244,35 @@ module _ (d : Deployment) (p : PlainState) (id : IntentId) (s : Instance) (owes 
       → ((a : Place) → k ≡ kinds.Invoke a → owed_call (with_instance p id s) home a ≡ owed_call p home a) → RowMatches d p home k r → RowMatches d (with_instance p id s) home k r
   row_moved r home k own calls = row_with d p p.items id s r home k own (λ a e. as_before (owed_value d home a.step) (owes.values home a.step) a.intent) calls
 
+-- .. and its row was set, in this home
+module _ (d : Deployment) (p : PlainState) (id : IntentId) (s : Instance) (owes : OwesSame d (map.get p.made id) s) (home : ℕ)
+    (elsewhere : (f : ℕ) (r : Option Row) → (f == home) ≡ false → IntentMatches (has_no_hops id.hops) f r (map.get p.made id) → IntentMatches (has_no_hops id.hops) f r (Some s))
+    (calls : (f : ℕ) (b : Place) → owed_call (with_instance p id s) f b ≡ owed_call p f b) where
+  abbrev own : RowKey
+  own = record { home = home; kind = kinds.Intent id }
+
+  other_row : (r : Option Row) (f : ℕ) (k : Kind) → is_eq (key_cmp (record { home = f; kind = k }) own) ≡ false → RowMatches d p f k r → RowMatches d (with_instance p id s) f k r
+  other_row r f k other = row_moved d p id s owes r f k (λ e. at_home (f == home) refl (subst (λ z. is_eq (key_cmp (record { home = f; kind = z }) own) ≡ false) e other)) (λ a e. calls f a)
+    where
+      at_home : (b : Bool) → (f == home) ≡ b → is_eq (key_cmp (record { home = f; kind = kinds.Intent id }) own) ≡ false → IntentMatches (has_no_hops id.hops) f r (map.get p.made id) → IntentMatches (has_no_hops id.hops) f r (Some s)
+      at_home true e other g = let same : is_eq (key_cmp own own) ≡ false = subst (λ z. is_eq (key_cmp (record { home = z; kind = kinds.Intent id }) own) ≡ false) (eqb-true f home e) other in absurd (true_false (sym (key_self own) ∙ same))
+      at_home false e other g = elsewhere f r e g
+
+  pub own_moved : (m : Rows) (i : IntentRow) → IntentMatches (has_no_hops id.hops) home (Some (rows.Intent i)) (Some s) → RowsMatch d m p → RowsMatch d (set_row m own (Some (rows.Intent i))) (with_instance p id s)
+  own_moved m i fits h = row_set d m p (with_instance p id s) own (Some (rows.Intent i)) refl (subst (IntentMatches (has_no_hops id.hops) home (Some (rows.Intent i))) (sym (get_set id_total id_exact p.made id s)) fits)
+      (λ l other g. other_row (map.get m l) l.home l.kind other g) (item_moved d p id s owes) h
+
 -- a root was made, or ended, and its row was set
 module _ (d : Deployment) (p : PlainState) (id : IntentId) (s : Instance) (owes : OwesSame d (map.get p.made id) s) (root : has_no_hops id.hops ≡ true)
     (calls : (f : ℕ) (b : Place) → b.intent ≡ id → called_by f (Some s) (map.get (map.insert p.made id s) (child_of b.intent b.step)) ≡ called_by f (map.get p.made id) (map.get (map.insert p.made id s) (child_of b.intent b.step))) where
-  abbrev own : RowKey
-  own = record { home = 0; kind = kinds.Intent id }
-
   calls_kept : (home : ℕ) (b : Place) → owed_call (with_instance p id s) home b ≡ owed_call p home b
   calls_kept home b = calls_moved p.made id s home b (calls home b) (λ e. absurd (true_false (sym root ∙ ap (λ z. has_no_hops z.hops) (sym e) ∙ no_root b.intent b.step)))
 
-  elsewhere : (r : Option Row) (home : ℕ) → (home == 0) ≡ false → IntentMatches (has_no_hops id.hops) home r (map.get p.made id) → IntentMatches (has_no_hops id.hops) home r (Some s)
-  elsewhere r home away h = subst (λ b. IntentMatches b home r (Some s)) (sym root) (subst (λ b. RootMatches b r (Some s)) (sym away) (subst (λ b. RootMatches b r (map.get p.made id)) away (subst (λ b. IntentMatches b home r (map.get p.made id)) root h)))
+  away : (f : ℕ) (r : Option Row) → (f == 0) ≡ false → IntentMatches (has_no_hops id.hops) f r (map.get p.made id) → IntentMatches (has_no_hops id.hops) f r (Some s)
+  away f r off h = subst (λ b. IntentMatches b f r (Some s)) (sym root) (subst (λ b. RootMatches b r (Some s)) (sym off) (subst (λ b. RootMatches b r (map.get p.made id)) off (subst (λ b. IntentMatches b f r (map.get p.made id)) root h)))
 
-  other_row : (r : Option Row) (home : ℕ) (k : Kind) → is_eq (key_cmp (record { home = home; kind = k }) own) ≡ false → RowMatches d p home k r → RowMatches d (with_instance p id s) home k r
-  other_row r home k other = row_moved d p id s owes r home k (λ e. at_home (home == 0) refl (subst (λ z. is_eq (key_cmp (record { home = home; kind = z }) own) ≡ false) e other)) (λ a e. calls_kept home a)
-    where
-      at_home : (b : Bool) → (home == 0) ≡ b → is_eq (key_cmp (record { home = home; kind = kinds.Intent id }) own) ≡ false → IntentMatches (has_no_hops id.hops) home r (map.get p.made id) → IntentMatches (has_no_hops id.hops) home r (Some s)
-      at_home true e other g = let same : is_eq (key_cmp own own) ≡ false = subst (λ f. is_eq (key_cmp (record { home = f; kind = kinds.Intent id }) own) ≡ false) (eqb-true home 0 e) other in absurd (true_false (sym (key_self own) ∙ same))
-      at_home false e other g = elsewhere r home e g
-
-  pub root_moved : (m : Rows) (i : IntentRow) → IsRootRow i (Some s) → RowsMatch d m p → RowsMatch d (set_row m own (Some (rows.Intent i))) (with_instance p id s)
-  root_moved m i fits h = row_set d m p (with_instance p id s) own (Some (rows.Intent i)) refl
-      (subst (λ b. IntentMatches b 0 (Some (rows.Intent i)) (map.get (map.insert p.made id s) id)) (sym root) (subst (IsRootRow i) (sym (get_set id_total id_exact p.made id s)) fits))
-      (λ l other g. other_row (map.get m l) l.home l.kind other g) (item_moved d p id s owes) h
+  pub root_moved : (m : Rows) (i : IntentRow) → IsRootRow i (Some s) → RowsMatch d m p → RowsMatch d (set_row m (record { home = 0; kind = kinds.Intent id }) (Some (rows.Intent i))) (with_instance p id s)
+  root_moved m i fits h = own_moved d p id s owes 0 away calls_kept m i (subst (λ b. IntentMatches b 0 (Some (rows.Intent i)) (Some s)) (sym root) fits) h
 
 -- ---- an instance was answered
 module _ (d : Deployment) (p : PlainState) (items : FinMap item_cmp Value) (id : IntentId) (q : Instance) (a : Answer) (is : map.get p.made id ≡ Some q) where
@@ -256,6 +295,13 @@ module _ (d : Deployment) (p : PlainState) (id : IntentId) (q : Instance) (a : A
     value = g.value;
     owner = holds_more d p p.items id q a is x (λ w b. is_owner c.owner w ≡ b) (g.owner (owner.Intent id) ∙ sym (ap (λ o. held_if x q.func o (holds d x (map.get p.made id))) plain)) (λ w other. g.owner w);
     notes = λ b. g.notes b ∙ sym (owed_same d p.made id q a is x (ap (λ o. note_of x q.func o a) plain) b);
+  }
+
+  -- and one to a call leaves every row as it is, too
+  pub rows_answered : (m : Rows) → value_for (effect_of d q) a ≡ None → RowsMatch d m p → RowsMatch d m (with_instance p id (answered q a))
+  rows_answered m no_read h = record {
+    keys = λ l. row_answered d p p.items id q a is (map.get m l) l.home l.kind (λ b e. value_same d p.made id q a is l.home no_read b) (h.keys l);
+    items = λ x. item_answered x (content_of m x) (h.items x);
   }
 
 -- ---- an operation was done

@@ -10,7 +10,7 @@ use Rattle.beldi_value.specs.declared.place.Owner.{Owner}
 use Rattle.beldi_tree.specs.declared.deployment.Deployment.{Deployment}
 use Rattle.beldi_lang.specs.declared.effect.Answer.{Answer}
 use Rattle.beldi_lang.specs.declared.effect.Effect.{Effect}
-use Rattle.beldi_lang.specs.declared.effect.Effect.TheVariants.{Read, Write, CondWrite, Lock, Unlock, Call, Return}
+use Rattle.beldi_lang.specs.declared.effect.Effect.TheVariants.{Read, Write, CondWrite, Lock, Unlock, Call, Async, Return}
 use Rattle.beldi_lang.specs.declared.machine.Machine.{Machine}
 use Rattle.beldi_lang.specs.Wants.{wants, wants_answer}
 use Rattle.beldi_lang.specs.Machine.{resumed, IsAt}
@@ -24,14 +24,15 @@ use Rattle.beldi_step.specs.declared.run.RunAt.TheVariants.{Begins}
 use Rattle.beldi_step.specs.declared.run.Begun.{Begun}
 use Rattle.beldi_step.specs.declared.run.Mark.{Mark}
 use Rattle.beldi_step.specs.declared.run.Says.{Says}
-use Rattle.beldi_step.specs.declared.run.Says.TheVariants.{On, Waits, Answers, Ends}
+use Rattle.beldi_step.specs.declared.run.Says.TheVariants.{On, Starts, Waits, Answers, Ends}
 use Rattle.beldi_step.specs.declared.run.Stage.{Stage}
 use Rattle.beldi_step.specs.declared.run.Stage.TheVariants as stage
 use Rattle.beldi_step.specs.declared.run.Wait.TheVariants as wait
+use Rattle.beldi_call.specs.declared.async_call.AsyncAt.TheVariants as async
 use Rattle.beldi_call.specs.declared.call.CallAt.TheVariants as call
-use Rattle.beldi_step.specs.Run.{is_waited, first_stage, over, goes, goes_from, at_stage, turned_by}
+use Rattle.beldi_step.specs.Run.{callee_of, is_waited, last_stage, first_stage, over, goes, goes_from, at_stage, turned_by}
 use Rattle.beldi_step.specs.Host.{Core, entry_of}
-use Rattle.beldi_laws.specs.Right.{Right, RowsMatch, RunAt, Knows, StageOk, PlaceOk, SeenDone}
+use Rattle.beldi_laws.specs.Right.{Right, RowsMatch, RunAt, Knows, KnowsAt, StageOk, PlaceOk, SeenDone}
 use Rattle.beldi_order.specs.Sane.{Sane, SaneInstance, IsAnswerTo, effect_before}
 use Rattle.beldi_order.proofs.Entries.{same_some}
 use Rattle.beldi_order.proofs.Sanes.{sane_of, legal_is_sane}
@@ -55,11 +56,20 @@ module _ (d : Deployment) (book : List Entry) (p : PlainState) (id : IntentId) (
       by_hops : (b : Bool) → has_callees id ≡ b → (if b then Some (stage.Call call.Open) else None) ≡ Some s → Fits (Call f a) s
       by_hops true e is = subst (Fits (Call f a)) (same_some is) (e, tt, tt)
       by_hops false e is = cc
-  first_fits (Return o) s is = by_caller (is_waited c) refl is
+  first_fits (Async f a) s is = by_hops (has_callees id) refl is
     where
-      by_caller : (b : Bool) → is_waited c ≡ b → Some (if b then stage.Back else stage.Close) ≡ Some s → Fits (Return o) s
-      by_caller true e is = subst (Fits (Return o)) (same_some is) (e, tt, tt)
-      by_caller false e is = subst (Fits (Return o)) (same_some is) (tt, tt, λ waited. let clash = sym e ∙ waited in cc)
+      by_hops : (b : Bool) → has_callees id ≡ b → (if b then Some (stage.Async async.Open) else None) ≡ Some s → Fits (Async f a) s
+      by_hops true e is = subst (Fits (Async f a)) (same_some is) (e, tt, tt)
+      by_hops false e is = cc
+  first_fits (Return o) s is = by_caller c refl is
+    where
+      by_wait : (b : Caller) (t : Bool) → c ≡ Some b → b.waits ≡ t → Some (if t then stage.Back else stage.Tell) ≡ Some s → Fits (Return o) s
+      by_wait b true from e is = subst (Fits (Return o)) (same_some is) (ap is_waited from ∙ e, tt, tt)
+      by_wait b false from e is = subst (Fits (Return o)) (same_some is) (ap is_waited from ∙ e, tt, tt)
+
+      by_caller : (b : Option Caller) → c ≡ b → Some (last_stage b) ≡ Some s → Fits (Return o) s
+      by_caller None from is = subst (Fits (Return o)) (same_some is) (tt, tt, λ waited. let clash = sym (ap is_waited from) ∙ waited in cc)
+      by_caller (Some b) from is = by_wait b b.waits from refl is
   first_fits e s is = cc
 
 -- a run whose machine stands after these answers of its instance, at the first stage of its effect
@@ -71,17 +81,17 @@ knows_first d book p r m c j answers later s is func caller prefix at first =
 
 -- ---- a run comes to the next effect of its machine, or is over
 module _ (d : Deployment) (c : Core) (m n : Rows) (i : ℕ) (r : Run) (h : Right d c m) (live : map.get c.runs i ≡ Some r) (roots : SameRoots m n) where
-  pub is_over : RowsMatch d n h.plain → AfterTurn d h.plain c i r.id (over None) n
+  pub is_over : RowsMatch d n h.plain → AfterTurn d h.plain c i r (over None) n
   is_over rows = quiet d c m n i r h live roots (over None) refl refl tt (λ e. cc) rows
 
   pub comes_to : (machine : Machine) (k : Option Caller) (o : Option Stage) → ((s : Stage) → o ≡ Some s → let g : Begun = record { machine = machine; caller = k; stage = s } in Knows d c.book h.plain (record r { at = Begins g }) g) → RowsMatch d n h.plain
-      → AfterTurn d h.plain c i r.id (goes_from r machine k None o) n
+      → AfterTurn d h.plain c i r (goes_from r machine k None o) n
   comes_to machine k None knows rows = is_over rows
   comes_to machine k (Some s) knows rows = let g : Begun = record { machine = machine; caller = k; stage = s } in quiet d c m n i r h live roots (goes r g None) refl refl (knows s refl) (λ e. cc) rows
 
   -- .. after an act that made an entry
   pub steps_to : (machine : Machine) (k : Option Caller) (by : Mark) (q : PlainState) (o : Option Stage) → Entered d c h.plain (entry_of r.id by) q
-      → ((s : Stage) → o ≡ Some s → let g : Begun = record { machine = machine; caller = k; stage = s } in Knows d (c.book ++ entry_of r.id by ∷ []) q (record r { at = Begins g }) g) → RowsMatch d n q → AfterTurn d h.plain c i r.id (goes_from r machine k (Some by) o) n
+      → ((s : Stage) → o ≡ Some s → let g : Begun = record { machine = machine; caller = k; stage = s } in Knows d (c.book ++ entry_of r.id by ∷ []) q (record r { at = Begins g }) g) → RowsMatch d n q → AfterTurn d h.plain c i r (goes_from r machine k (Some by) o) n
   steps_to machine k by q None leads knows rows = entered d c m n i r h live roots (over (Some by)) by q refl leads (λ o told. cc) tt (λ e. cc) rows
   steps_to machine k by q (Some s) leads knows rows = let g : Begun = record { machine = machine; caller = k; stage = s } in entered d c m n i r h live roots (goes r g (Some by)) by q refl leads (λ o told. cc) (knows s refl) (λ e. cc) rows
 
@@ -125,7 +135,7 @@ wants_it e a is = refl
 -- ---- what each thing that a stage says leaves
 module _ (d : Deployment) (c : Core) (m : Rows) (i : ℕ) (r : Run) (g : Begun) (h : Right d c m) (live : map.get c.runs i ≡ Some r) (k : Knows d c.book h.plain r g) (e : Effect) (is : g.machine.effect ≡ e) where
   abbrev pub Leaves : Says → Rows → Type 0
-  Leaves s n = AfterTurn d h.plain c i r.id (turned_by d r g s) n
+  Leaves s n = AfterTurn d h.plain c i r (turned_by d r g s) n
 
   pub sane_here : Sane d h.plain
   sane_here = legal_is_sane d c.book h.plain h.legal
@@ -161,7 +171,7 @@ module _ (d : Deployment) (c : Core) (m : Rows) (i : ℕ) (r : Run) (g : Begun) 
   pub held : (o : Owner) (n : Rows) → SameRoots m n → RowsMatch d n h.plain → Leaves (Waits (wait.Held o)) n
   held o n roots rows = quiet d c m n i r h live roots (turned_by d r g (Waits (wait.Held o))) refl refl (subst (RunAt d c.book h.plain) live (h.runs.runs i)) (λ e. cc) rows
 
-  pub awaits : (j : IntentId) (n : Rows) → SameRoots m n → RowsMatch d n h.plain → KnowsCallee d c.book h.plain (turned_by d r g (Waits (wait.Result j))) (Some (wait.Result j)) → Leaves (Waits (wait.Result j)) n
+  pub awaits : (j : IntentId) (n : Rows) → SameRoots m n → RowsMatch d n h.plain → KnowsCallee d c.book h.plain r (turned_by d r g (Waits (wait.Result j))) (Some (wait.Result j)) → Leaves (Waits (wait.Result j)) n
   awaits j n roots rows callee = quiet d c m n i r h live roots (turned_by d r g (Waits (wait.Result j))) refl refl (subst (RunAt d c.book h.plain) live (h.runs.runs i)) callee rows
 
   -- the run is over
@@ -183,6 +193,20 @@ module _ (d : Deployment) (c : Core) (m : Rows) (i : ℕ) (r : Run) (g : Begun) 
       (λ s first. knows_first d c.book h.plain r next g.caller k.instance (k.answers ++ a ∷ []) rest s k.made k.func k.caller
       (append_assoc k.answers (a ∷ []) rest ∙ ap (λ ys. k.answers ++ ys) (sym left) ∙ k.run_answers)
       (at_next d r.func k.instance.args false g.machine k.answers a (answers_it a (fits a rest left)) k.machine) first) rows
+
+  -- .. and a run of its callee, which has its row, may start
+  pub starts_one : (n : Rows) (a : Answer) (rest : List Answer) → SameRoots m n → RowsMatch d n h.plain → k.later ≡ a ∷ rest → ((book : List Entry) (p : PlainState) (o : Run) → callee_of r ≡ Some o → KnowsAt d book p o o.at) → Leaves (Starts a) n
+  starts_one n a rest roots rows left callee =
+      let next = resumed d g.machine a in
+      by_stage next (first_stage r.id g.caller next.effect)
+      (λ s first. knows_first d c.book h.plain r next g.caller k.instance (k.answers ++ a ∷ []) rest s k.made k.func k.caller
+      (append_assoc k.answers (a ∷ []) rest ∙ ap (λ ys. k.answers ++ ys) (sym left) ∙ k.run_answers)
+      (at_next d r.func k.instance.args false g.machine k.answers a (answers_it a (fits a rest left)) k.machine) first)
+    where
+      by_stage : (next : Machine) (o : Option Stage) → ((s : Stage) → o ≡ Some s → let x : Begun = record { machine = next; caller = g.caller; stage = s } in Knows d c.book h.plain (record r { at = Begins x }) x)
+          → AfterTurn d h.plain c i r (record (goes_from r next g.caller None o) { starts = true }) n
+      by_stage next None knows = quiet d c m n i r h live roots (record (over None) { starts = true }) refl refl tt (λ e o at. callee c.book h.plain o at) rows
+      by_stage next (Some s) knows = let x : Begun = record { machine = next; caller = g.caller; stage = s } in quiet d c m n i r h live roots (record (goes r x None) { starts = true }) refl refl (knows s refl) (λ e o at. callee c.book h.plain o at) rows
 
   -- a step that is the instance's next has not returned
   pub not_over : k.later ≡ [] → IsTrue (wants_answer e) → k.instance.outcome ≡ None

@@ -16,7 +16,7 @@ use Rattle.beldi_plain.specs.Legal.{IsLegal, run_of}
 use Rattle.beldi_plain.specs.Listing.{listing_of}
 use Rattle.beldi_order.specs.Grown.{Grows}
 use Rattle.beldi_step.specs.declared.event.Event.{Event}
-use Rattle.beldi_step.specs.declared.event.Event.TheVariants.{Ticket, Request, Turn, Lost, Crash, Restart, Tick}
+use Rattle.beldi_step.specs.declared.event.Event.TheVariants.{Ticket, Request, Turn, Lost, Crash, Restart, Tick, Ic}
 use Rattle.beldi_step.specs.declared.event.Seen.{Seen}
 use Rattle.beldi_step.specs.declared.event.Seen.TheVariants as seen
 use Rattle.beldi_step.specs.Host.{Core, Stepped, EventOn, first_core, is_lost, is_dropped}
@@ -63,6 +63,9 @@ told_outcome seen.RunOver = None
 told_outcome seen.Dropped = None
 told_outcome seen.Crashed = None
 told_outcome (seen.Started run) = None
+told_outcome seen.Passed = None
+told_outcome (seen.Launched run id) = None
+told_outcome seen.Round = None
 told_outcome (seen.Now n) = None
 told_outcome seen.ClockEnd = None
 told_outcome seen.Spent = None
@@ -105,6 +108,7 @@ requested (Lost i) = []
 requested (Crash i) = []
 requested (Restart id f) = []
 requested (Tick n) = []
+requested Ic = []
 
 -- the request that an event bound: the one that was answered so
 abbrev pub bound_of : Event → Seen → List (ℕ × (ℕ × Value))

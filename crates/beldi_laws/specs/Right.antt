@@ -14,7 +14,7 @@ use Rattle.beldi_tree.specs.declared.deployment.Deployment.{Deployment}
 use Rattle.beldi_lang.specs.declared.effect.Answer.{Answer}
 use Rattle.beldi_lang.specs.declared.effect.Answer.TheVariants as answer
 use Rattle.beldi_lang.specs.declared.effect.Effect.{Effect}
-use Rattle.beldi_lang.specs.declared.effect.Effect.TheVariants.{Read, Write, CondWrite, Lock, Unlock, Call, Return}
+use Rattle.beldi_lang.specs.declared.effect.Effect.TheVariants.{Read, Write, CondWrite, Lock, Unlock, Call, Async, Return}
 use Rattle.beldi_lang.specs.Machine.{IsAt}
 use Rattle.beldi_row.specs.declared.key.RowKey.{RowKey}
 use Rattle.beldi_row.specs.declared.key.Kind.{Kind}
@@ -37,6 +37,7 @@ use Rattle.beldi_plain.specs.Holds.{holds, holds_as}
 use Rattle.beldi_plain.specs.Operation.{OnItem, op_of, item_in}
 use Rattle.beldi_plain.specs.Plain.{Instance, PlainState, nothing, value_at}
 use Rattle.beldi_plain.specs.Legal.{run_of}
+use Rattle.beldi_call.specs.declared.async_call.AsyncAt.TheVariants as async
 use Rattle.beldi_call.specs.declared.call.CallAt.TheVariants as call
 use Rattle.beldi_step.specs.declared.run.Run.{Run}
 use Rattle.beldi_step.specs.declared.run.RunAt as standing
@@ -122,10 +123,15 @@ abbrev pub BodyMatches : Option Body → Option Outcome → Option Instance → 
 BodyMatches None o i = i ≡ None
 BodyMatches (Some b) o i = (w : IsBodyOf b i) × (w.instance.outcome ≡ o)
 
--- .. of a callee's: an outcome of the row is the instance's, which may have it before
+-- the outcome of a callee's row is the instance's; one that its caller waits for may have it before
+abbrev pub OutcomeMatches : Bool → Option Outcome → Option Outcome → Type 0
+OutcomeMatches true o u = (v : Outcome) → o ≡ Some v → u ≡ Some v
+OutcomeMatches false o u = u ≡ o
+
+-- .. of a callee's
 abbrev pub CalleeBodyMatches : ℕ → Option Body → Option Outcome → Option Instance → Type 0
 CalleeBodyMatches home None o i = ⊥
-CalleeBodyMatches home (Some b) o i = (w : IsBodyOf b i) × (b.func ≡ home) × ((u : Outcome) → o ≡ Some u → w.instance.outcome ≡ Some u)
+CalleeBodyMatches home (Some b) o i = (w : IsBodyOf b i) × (b.func ≡ home) × OutcomeMatches (is_waited b.from) o w.instance.outcome
 
 -- ---- the rows match a plain state: key by key, and item by item
 -- the owner, if any, is this one
@@ -162,9 +168,12 @@ RootMatches true (Some (rows.Intent r)) i = IsRootRow r i
 RootMatches true (Some r) i = ⊥
 RootMatches false r i = r ≡ None
 
--- a callee may have no row yet
+-- a callee may have no row yet: then one of this home that nobody waits for has not ended
+pub record HasNoRow (home : ℕ) (i : Option Instance) : Type 0 where
+  pub open_still : (q : Instance) → i ≡ Some q → q.func ≡ home → is_waited q.from ≡ false → q.outcome ≡ None
+
 abbrev pub CalleeMatches : ℕ → Option Row → Option Instance → Type 0
-CalleeMatches home None i = Unit {0}
+CalleeMatches home None i = HasNoRow home i
 CalleeMatches home (Some (rows.Intent r)) i = IsCalleeRow home r i
 CalleeMatches home (Some r) i = ⊥
 
@@ -215,7 +224,9 @@ StageOk id c (CondWrite t k r o v) (stage.Write at) = Unit {0}
 StageOk id c (Lock t k) (stage.Write at) = Unit {0}
 StageOk id c (Unlock t k) (stage.Write at) = Unit {0}
 StageOk id c (Call f a) (stage.Call at) = has_callees id ≡ true
+StageOk id c (Async f a) (stage.Async at) = has_callees id ≡ true
 StageOk id c (Return o) stage.Back = is_waited c ≡ true
+StageOk id c (Return o) stage.Tell = is_waited c ≡ false
 StageOk id c (Return o) stage.Close = Unit {0}
 StageOk id c e s = ⊥
 
@@ -223,6 +234,8 @@ StageOk id c e s = ⊥
 -- back before the end
 abbrev pub SeenDone : PlainState → IntentId → ℕ → Instance → Option Caller → Stage → Type 0
 SeenDone p id step q c (stage.Call call.Look) = is_some (map.get p.made (child_of id step)) ≡ true
+SeenDone p id step q c (stage.Async async.Register) = is_some (map.get p.made (child_of id step)) ≡ true
+SeenDone p id step q c (stage.Async async.Note) = is_some (map.get p.made (child_of id step)) ≡ true
 SeenDone p id step q c stage.Close = is_waited c ≡ true → is_some q.outcome ≡ true
 SeenDone p id step q c s = Unit {0}
 

@@ -12,7 +12,7 @@ use Rattle.beldi_lang.specs.declared.effect.Answer.{Answer}
 use Rattle.beldi_lang.specs.declared.effect.Answer.TheVariants.{Done}
 use Rattle.beldi_lang.specs.declared.effect.Answer.TheVariants as answer
 use Rattle.beldi_lang.specs.declared.effect.Effect.{Effect}
-use Rattle.beldi_lang.specs.declared.effect.Effect.TheVariants.{Read, Call}
+use Rattle.beldi_lang.specs.declared.effect.Effect.TheVariants.{Read, Call, Async}
 use Rattle.beldi_lang.specs.Callee.{answer_of}
 use Rattle.beldi_row.specs.declared.key.RowKey.{RowKey}
 use Rattle.beldi_row.specs.declared.key.Kind.TheVariants as kinds
@@ -67,10 +67,11 @@ held_note m p func None = None
 held_note m p func (Some o) = option_and_then noted_answer (note_at (content_of m (item_in func o)).notes p)
 
 -- the answer that the rows hold at a step of an intent of a function, for the effect that it has there: the value that was
--- given to a read, what a call gave back, and the note that an operation left
+-- given to a read, what a call gave back, that a call is there which nobody waits for, and the note that an operation left
 abbrev pub held_answer : Rows → IntentId → ℕ → ℕ → Effect → Option Answer
 held_answer m id func step (Read t k) = option_map answer.Value (given m (log_key func (record { intent = id; step = step })))
 held_answer m id func step (Call f v) = option_map answer_of (result_in (call_at m (invoke_key func (record { intent = id; step = step }))))
+held_answer m id func step (Async f v) = option_map (λ i. Done) (call_at m (invoke_key func (record { intent = id; step = step })))
 held_answer m id func step e = held_note m (record { intent = id; step = step }) func (op_of e)
 
 -- ---- the rows stand for a plain state
