@@ -1,15 +1,13 @@
 -- A body without a statement that is not carried out yet wants no effect that is not.
-use Rattle.std.proofs.Common.{◌≡◌, ℕ, zero, suc, Bool, true, false, List, [], ◌∷◌, Option, Some, None, if◌then◌else◌, refl, ap}
+use Rattle.std.proofs.Common.{◌≡◌, ℕ, zero, suc, Bool, true, false, List, [], ◌∷◌, Option, Some, None, refl, if◌then◌else◌}
 use Rattle.std.specs.Prelude.{slice_get}
-use Rattle.beldi_value.specs.Id.{has_callees}
-use Rattle.beldi_value.specs.declared.id.IntentId.{IntentId}
 use Rattle.beldi_tree.specs.declared.deployment.Deployment.{Deployment}
 use Rattle.beldi_tree.specs.declared.deployment.Func.{Func}
+use Rattle.beldi_value.specs.Id.{has_callees}
+use Rattle.beldi_value.specs.declared.id.IntentId.{IntentId}
 use Rattle.beldi_value.specs.declared.outcome.Outcome.{Outcome}
 use Rattle.beldi_lang.specs.declared.effect.Answer.{Answer}
 use Rattle.beldi_lang.specs.declared.effect.Effect.{Effect}
-use Rattle.beldi_lang.specs.declared.effect.Effect.TheVariants as effect
-use Rattle.beldi_value.specs.declared.value.Value.{Value}
 use Rattle.beldi_lang.specs.declared.state.HeldLock.{HeldLock}
 use Rattle.beldi_tree.specs.Command.{Command, Commands, no_commands, command, set, read, write, condwrite, call, async, lock, unlock, transaction, abort, break, choose, repeat, return}
 use Rattle.beldi_tree.specs.Names.{func_at}
@@ -22,25 +20,26 @@ use Rattle.beldi_core.specs.Built.{or_else, unbuilt, unbuilt_in, unbuilt_of, IsC
 abbrev IsCarried : IntentId → Bool → Effect → Type 0
 IsCarried id i e = kind_of id e ≡ Unbuilt → ⊥
 
+-- a call is, of an instance that has callees
+is_change : (b : Bool) → b ≡ true → (if b then Change else Unbuilt) ≡ Unbuilt → ⊥
+is_change true has is = cc
+is_change false has is = cc
+
 -- nothing is asked of the locks that are held
 abbrev AnyHeld : List HeldLock → Type 0
 AnyHeld hs = Unit {0}
+
+-- those that are given back before the return are given back by unlocks
+released : (id : IntentId) (o : Outcome) (hs : List HeldLock) (rest : List Answer) → kind_of id (releases o hs rest) ≡ Unbuilt → ⊥
+released id o [] rest is = cc
+released id o (l ∷ ls) [] is = cc
+released id o (l ∷ ls) (a ∷ rest) is = released id o ls rest is
 
 none_of : (o p : Option ℕ) → or_else o p ≡ None → (o ≡ None) × (p ≡ None)
 none_of None p h = (refl, h)
 none_of (Some l) p h = cc
 
-module _ (id : IntentId) (callees : has_callees id ≡ true) where
-  -- those that are given back before the return are given back by unlocks
-  released : (o : Outcome) (hs : List HeldLock) (rest : List Answer) → kind_of id (releases o hs rest) ≡ Unbuilt → ⊥
-  released o [] rest is = cc
-  released o (l ∷ ls) [] is = cc
-  released o (l ∷ ls) (a ∷ rest) is = released o ls rest is
-
-  -- a call is carried out where the callee has an id
-  call_carried : (f : ℕ) (v : Value) → kind_of id (effect.Call f v) ≡ Unbuilt → ⊥
-  call_carried f v is = let built : kind_of id (effect.Call f v) ≡ Change = ap (λ (b : Bool). if b then Change else Unbuilt) callees in cc
-
+module _ (id : IntentId) (has : has_callees id ≡ true) where
   mutual
     each : (i : Bool) (c : Command) → unbuilt c ≡ None → Each AnyHeld (IsCarried id) i c
     each i (set l n e) none = tt
@@ -51,8 +50,8 @@ module _ (id : IntentId) (callees : has_callees id ≡ true) where
     each i (choose l e b c) none = let n = none_of (unbuilt_in b) (unbuilt_in c) none in (all i b n.0, all i c n.1)
     each i (repeat l n b) none = all i b none
     each i (condwrite l n t k r o e) none = λ t' k' w v is. cc
-    each i (call l n f e) none = λ f' v. call_carried f' v
-    each i (async l f e) none = cc
+    each i (call l n f e) none = λ f' v is. is_change (has_callees id) has is
+    each i (async l f e) none = λ f' v is. is_change (has_callees id) has is
     each i (lock l t k) none = λ t' k'. ((λ is. cc), λ hs h. tt)
     each i (unlock l t k) none = λ t' k'. ((λ is. cc), λ hs h. tt)
     each true (transaction l b c) none = cc
@@ -76,7 +75,7 @@ fine_func d (suc n) none = fine_at d.funcs n none
 
 -- in a deployment that is carried out whole
 pub carried : (d : Deployment) → unbuilt_of d.funcs ≡ None → IsCarriedOut d
-carried d none id func args inherited answers callees =
+carried d none id func args inherited answers has =
     wants_only AnyHeld (IsCarried id) d func args inherited answers tt
-    (λ o hs rest held is. released id callees o hs rest is)
-    (all id callees inherited (body_of (func_at d func)) (fine_func d func none))
+    (λ o hs rest held is. released id o hs rest is)
+    (all id has inherited (body_of (func_at d func)) (fine_func d func none))

@@ -12,14 +12,14 @@ use Rattle.std.proofs.lemmas.Cmp.{eq_by_cmp_equiv, tied_itself}
 use Rattle.beldi_tree.specs.declared.deployment.Deployment.{Deployment}
 use Rattle.beldi_walk.specs.declared.query.Query.{Query}
 use Rattle.beldi_walk.specs.Query.{Told}
-use Rattle.beldi_core.specs.declared.runs.Names.{Names}
+use Rattle.beldi_core.specs.declared.runs.Copies.{Copies}
 use Rattle.beldi_step.specs.declared.run.Run.{Run}
 use Rattle.beldi_step.specs.declared.run.TurnSays.{TurnSays}
 use Rattle.beldi_step.specs.declared.run.Mark.{Mark}
-use Rattle.beldi_step.specs.Run.{Turned, Turns, going, followed, run_told}
+use Rattle.beldi_step.specs.Run.{Turned, Turns, says_of, going, followed, run_told}
 use Rattle.beldi_step.specs.Host.{put_run}
 use Rattle.beldi_laws.proofs.Lives.{remove_put}
-use Rattle.beldi_core.specs.Runs.{RunMap, AllGiven, AllKept, withdrawn, says_of, ends_run, settled, uncounted, settled_counts, asked_of, asked_by, RunTold}
+use Rattle.beldi_core.specs.Runs.{RunMap, AllGiven, AllKept, withdrawn, ends_run, settled, uncounted, settled_counts, asked_of, asked_by, RunTold}
 use Rattle.beldi_row.proofs.Rows.{get_rows, none_removed}
 use Rattle.beldi_value.specs.Id.{id_cmp}
 use Rattle.beldi_core.specs.Counts.{CountMap, AllCounted, more, kept_as}
@@ -140,7 +140,7 @@ over_back s true = refl
 over_back s false = refl
 
 says_back : (s : Run) (x : TurnSays) → x ≡ says_of (followed s x)
-says_back s x = λ j. record { mark = x.mark; over = sym (over_back s x.over) j; opens = x.opens; wait = x.wait; reply = x.reply }
+says_back s x = λ j. record { mark = x.mark; over = sym (over_back s x.over) j; starts = x.starts; wait = x.wait; reply = x.reply }
 
 pub run_was_told : (d : Deployment) (changes : ℕ) (a b c : RunMap) (i : ℕ) (r s : Run) (t : Told) (x : Result TurnSays (Option Mark)) → map.get a i ≡ Some r → b ≡ map.insert a i s → c ≡ settled (ends_run x) b i
     → Turns s x (run_told d changes r t) → RunTold d changes a c i (map.get a i) t x
@@ -152,7 +152,7 @@ pub absent_run : (o : Option Run) → IsSome o → o ≡ None → ⊥
 absent_run o h is = cc
 
 -- ---- what is asked
-pub run_asked : (o : Option Run) (r : Run) (x : Query × Names) → o ≡ Some r → x ≡ asked_of r → Some x ≡ asked_by o
+pub run_asked : (o : Option Run) (r : Run) (x : Query × Copies) → o ≡ Some r → x ≡ asked_of r → Some x ≡ asked_by o
 run_asked o r x is at = ap Some at ∙ ap asked_by (sym is)
 
 pub none_asked : (o : Option Run) → o ≡ None → None ≡ asked_by o

@@ -24,7 +24,7 @@ abbrev mutual
   unbuilt (write l t k e) = None
   unbuilt (condwrite l n t k r o e) = None
   unbuilt (call l n f e) = None
-  unbuilt (async l f e) = Some l
+  unbuilt (async l f e) = None
   unbuilt (lock l t k) = None
   unbuilt (unlock l t k) = None
   unbuilt (transaction l b c) = Some l

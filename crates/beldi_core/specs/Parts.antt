@@ -1,6 +1,5 @@
 -- An event is planned, and then followed: what holds between the two.
-use Rattle.std.specs.Prelude.{◌≡◌, ℕ, ◌-◌, ◌^◌, ◌≤◌, ◌<◌, true, ◌++◌, ◌∷◌, [], ◌+◌, ◌||◌, Bool, if◌then◌else◌, Option, Some, None, Result, Ok, Err, IsSome}
-use Rattle.std.specs.Option.{option_map}
+use Rattle.std.specs.Prelude.{◌≡◌, ℕ, ◌-◌, ◌^◌, ◌≤◌, ◌<◌, Bool, true, ◌++◌, ◌∷◌, [], Option, Some, None, Result, Ok, Err, IsSome}
 use Rattle.std.specs.FinMap as map
 use Rattle.std.specs.declared.alloc.AllocError.{AllocError}
 use Rattle.beldi_value.specs.Id.{root_of}
@@ -15,7 +14,7 @@ use Rattle.beldi_book.specs.declared.entry.Entry.TheVariants.{Start}
 use Rattle.beldi_walk.specs.declared.query.Query.{Query}
 use Rattle.beldi_walk.specs.Query.{Told, Came, lends}
 use Rattle.beldi_step.specs.declared.event.Event.{Event}
-use Rattle.beldi_step.specs.declared.event.Event.TheVariants.{Ticket, Request, Turn, Lost}
+use Rattle.beldi_step.specs.declared.event.Event.TheVariants.{Ticket, Request, Turn, Lost, Ic}
 use Rattle.beldi_step.specs.declared.event.Seen.{Seen}
 use Rattle.beldi_step.specs.declared.event.Seen.TheVariants as seen
 use Rattle.beldi_intent.specs.declared.intent.Binding.{Binding}
@@ -23,11 +22,8 @@ use Rattle.beldi_intent.specs.declared.intent.Binding.TheVariants as binding
 use Rattle.beldi_step.specs.declared.run.Mark.{Mark}
 use Rattle.beldi_step.specs.declared.run.Run.{Run}
 use Rattle.beldi_step.specs.declared.run.TurnSays.{TurnSays}
-use Rattle.beldi_step.specs.declared.run.Wait.{Wait}
 use Rattle.beldi_intent.specs.Intent.{binding_of}
-use Rattle.beldi_step.specs.declared.run.Wait.TheVariants as wait
-use Rattle.beldi_step.specs.Run.{callee_of}
-use Rattle.beldi_step.specs.Host.{Core, Plan, at_once, asks, plan, plan_of, counted, run_plan, new_run, with_run, has_run, is_crowded, unbound, refused, ended_run, entry_of, AtOnce, Followed}
+use Rattle.beldi_step.specs.Host.{Core, Plan, at_once, asks, plan, plan_of, counted, run_plan, new_run, unbound, refused, ended_run, acted, AtOnce, Followed}
 use Rattle.beldi_core.specs.declared.host_core.HostCore.{HostCore}
 use Rattle.beldi_core.specs.declared.events.Planned.TheVariants as planned
 use Rattle.beldi_core.specs.declared.events.Planned.{Planned as Plans}
@@ -35,12 +31,12 @@ use Rattle.beldi_core.specs.declared.events.RunAsks.{RunAsks}
 use Rattle.beldi_core.specs.declared.events.RunAsks.TheVariants as runs
 use Rattle.beldi_core.specs.declared.events.Pending.{Pending}
 use Rattle.beldi_core.specs.declared.events.Pending.TheVariants as pending
-use Rattle.beldi_core.specs.declared.runs.Names.{Names}
-use Rattle.beldi_core.specs.Runs.{Numbered, withdrawn, started, named}
+use Rattle.beldi_core.specs.declared.runs.Copies.{Copies}
+use Rattle.beldi_core.specs.Runs.{Numbered, withdrawn, started, copied}
 
 -- the host without its table, as events speak of it
 abbrev pub core_in : HostCore → Core
-core_in h = record { newest = h.newest; runs = h.runs.runs; last_run = h.runs.given; book = h.book.entries; now = h.now; taken = h.taken }
+core_in h = record { newest = h.newest; runs = h.runs.runs; last_run = h.runs.given; book = h.book.entries; now = h.now; cursor = h.cursor; taken = h.taken }
 
 abbrev pub runs_of : Core → Numbered
 runs_of c = record { runs = c.runs; given = c.last_run }
@@ -59,10 +55,11 @@ event_of pending.Ticket = Ticket
 event_of (pending.Request t f a) = Request t f a
 event_of (pending.Turn i n) = Turn i
 event_of (pending.Lost i n) = Lost i
+event_of pending.Ic = Ic
 
-abbrev pub Named : Names → Option Run → Type 0
-Named n None = ⊥
-Named n (Some r) = n ≡ named r.id
+abbrev pub Copied : Copies → Option Run → Type 0
+Copied n None = ⊥
+Copied n (Some r) = n ≡ copied r
 
 -- ---- what was made ready for the answer; `spare` is how many places the book has
 pub record RequestReady (d : Deployment) (c : Core) (t f : ℕ) (spare : ℕ) : Type 0 where
@@ -70,9 +67,9 @@ pub record RequestReady (d : Deployment) (c : Core) (t f : ℕ) (spare : ℕ) : 
   pub given : 1 ≤ c.last_run
   pub room : 1 ≤ spare
 
-pub record RunReady (c : Core) (i : ℕ) (n : Names) (spare : ℕ) : Type 0 where
+pub record RunReady (c : Core) (i : ℕ) (n : Copies) (spare : ℕ) : Type 0 where
   pub live : IsSome (map.get c.runs i)
-  pub names : Named n (map.get c.runs i)
+  pub copies : Copied n (map.get c.runs i)
   pub given : c.last_run < c.taken
   pub room : 1 ≤ spare
 
@@ -81,6 +78,7 @@ Ready d pending.Ticket c spare = c.newest < 2 ^ 32 - 1
 Ready d (pending.Request t f a) c spare = RequestReady d c t f spare
 Ready d (pending.Turn i n) c spare = RunReady c i n spare
 Ready d (pending.Lost i n) c spare = RunReady c i n spare
+Ready d pending.Ic c spare = c.last_run < c.taken
 
 -- a request has the place of its run
 abbrev pub HasPlace : Pending → Core → Type 0
@@ -127,31 +125,10 @@ abbrev pub BoundBy : Core → ℕ → ℕ → Value → Told → Core → Result
 BoundBy k t f a u z (Ok x) = BoundTo k t f a (binding_of u) z x
 BoundBy k t f a u z (Err w) = (z ≡ without_last k) × (lends u ≡ true)
 
--- the answer to a turn that was made
-abbrev pub acted_by : IntentId → Option Mark → Bool → Option Outcome → Option ℕ → Seen
-acted_by id m over reply started = seen.Acted (option_map (entry_of id) m) started over (option_map (λ (o : Outcome). (id.ticket, o)) reply)
-
--- a run of what is called is started, with its number
-abbrev pub started_by : Core → Option Run → Core × Option ℕ
-started_by c None = (c, None)
-started_by c (Some r) = (with_run c r, Some (c.last_run + 1))
-
--- .. where that has none, and there is a place
-abbrev pub opened_by : Core → Option Run → Core × Option ℕ
-opened_by c None = (c, None)
-opened_by c (Some r) = if has_run c.runs r.id || is_crowded c then (c, None) else started_by c (Some r)
-
-abbrev pub made : IntentId → TurnSays → Core × Option ℕ → Core × Seen
-made id x p = (p.0, acted_by id x.mark x.over x.reply p.1)
-
--- what follows of a turn, whose run is this one now
-abbrev pub followed_by : Core → Option Run → IntentId → TurnSays → Option Wait → Core × Seen
-followed_by c o id x None = made id x (if x.opens then opened_by c (callee_of o) else (c, None))
-followed_by c o id x (Some (wait.Held w)) = (c, seen.Held w)
-followed_by c o id x (Some (wait.Result callee)) =
-    if has_run c.runs callee then (c, seen.NotYet callee) else
-    if is_crowded c then (c, seen.Crowded) else
-    made id x (started_by c (callee_of o))
+-- the answer to a turn that was made, unless there was no memory for the run that it starts
+abbrev pub acted_unless : IntentId → Option Mark → Bool → Option Outcome → Result (Option ℕ) AllocError → Result Seen AllocError
+acted_unless id m over reply (Ok n) = Ok (acted id m over reply n)
+acted_unless id m over reply (Err e) = Err e
 
 abbrev pub mark_told : Result TurnSays (Option Mark) → Option Mark
 mark_told (Ok x) = x.mark

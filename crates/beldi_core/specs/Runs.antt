@@ -1,20 +1,19 @@
 -- The live runs by number, what each asks, and what becomes of one that is told.
-use Rattle.std.specs.Prelude.{◌≡◌, ℕ, ◌+◌, ◌-◌, ◌<◌, Bool, true, false, IsSome, Option, Some, None, is_none, Result, Ok, Err}
+use Rattle.std.specs.Prelude.{◌≡◌, ℕ, ◌+◌, ◌-◌, ◌<◌, Bool, true, false, IsSome, Option, Some, None, Result, Ok, Err}
 use Rattle.std.specs.FinMap as map
 use Rattle.std.specs.FinMap.{FinMap}
 use Rattle.std.specs.BTreeMap.{BTreeMap}
 use Rattle.std.specs.Ordering.{nat_cmp}
 use Rattle.beldi_tree.specs.declared.deployment.Deployment.{Deployment}
-use Rattle.beldi_value.specs.declared.id.IntentId.{IntentId}
 use Rattle.beldi_walk.specs.declared.query.Query.{Query}
 use Rattle.beldi_walk.specs.Query.{Told}
 use Rattle.beldi_step.specs.declared.run.Mark.{Mark}
 use Rattle.beldi_step.specs.declared.run.Run.{Run}
 use Rattle.beldi_step.specs.declared.run.TurnSays.{TurnSays}
-use Rattle.beldi_step.specs.Run.{Turned, run_asks, run_told}
+use Rattle.beldi_step.specs.Run.{says_of, callee_of, run_asks, run_told}
 use Rattle.beldi_step.specs.Host.{put_run}
 use Rattle.beldi_core.specs.Counts.{CountMap, AllCounted, less}
-use Rattle.beldi_core.specs.declared.runs.Names.{Names}
+use Rattle.beldi_core.specs.declared.runs.Copies.{Copies}
 
 abbrev pub RunMap : Type 0
 RunMap = FinMap nat_cmp Run
@@ -52,20 +51,16 @@ abbrev pub withdrawn : Numbered → Numbered
 withdrawn a = record { runs = map.remove a.runs a.given; given = a.given - 1 }
 
 -- ---- a turn
-abbrev pub named : IntentId → Names
-named id = record { book = id; told = id }
+abbrev pub copied : Run → Copies
+copied r = record { book = r.id; told = r.id; callee = callee_of r }
 
--- what a run asks, with its names; one that is not live asks nothing
-abbrev pub asked_of : Run → Query × Names
-asked_of r = (run_asks r, named r.id)
+-- what a run asks, with its copies; one that is not live asks nothing
+abbrev pub asked_of : Run → Query × Copies
+asked_of r = (run_asks r, copied r)
 
-abbrev pub asked_by : Option Run → Option (Query × Names)
+abbrev pub asked_by : Option Run → Option (Query × Copies)
 asked_by None = None
 asked_by (Some r) = Some (asked_of r)
-
--- the answer to a turn
-abbrev pub says_of : Turned → TurnSays
-says_of t = record { mark = t.mark; over = is_none t.next; opens = t.opens; wait = t.wait; reply = t.reply }
 
 -- a run is gone after this
 abbrev pub ends_run : Result TurnSays (Option Mark) → Bool

@@ -1,22 +1,22 @@
 // What an event asks of the table, and what follows of what the table told. Nothing here touches a table.
-ghost use Rattle.std.specs.Prelude.{◌≡◌, ◌++◌, ◌+◌, ◌-◌, ◌≤◌, ◌<◌, ◌^◌, Ok, Some, IfOk, OnErr, IsSome, option_to_list};
+ghost use Rattle.std.specs.Prelude.{◌≡◌, ◌++◌, ◌+◌, ◌-◌, ◌≤◌, ◌<◌, ◌^◌, if◌then◌else◌, Ok, Some, None, IfOk, OnErr, IsSome, option_to_list};
 ghost use Rattle.std.specs.Option.{option_map};
 ghost use Rattle.std.specs.FinMap as map;
 ghost use Rattle.beldi_walk.specs.Query.{told_of};
 ghost use Rattle.beldi_step.specs.declared.event.Event.TheVariants as events;
 ghost use Rattle.beldi_tree.specs.declared.deployment.Deployment.{Deployment};
-ghost use Rattle.beldi_step.specs.Run.{callee_of};
-ghost use Rattle.beldi_step.specs.Host.{Core, Followed, at_once, crash_plan, tick_plan, new_run as new_run_of, entry_of as entry_by, marked, no_run as no_run_of, refused, refused_by, ticket_next, unbound};
+ghost use Rattle.beldi_step.specs.Host.{collected as collected_of, passed, Core, Followed, acted as acted_by, after_turn as after_turn_of, may_start as may_start_of, started, at_once, crash_plan, tick_plan, new_run as new_run_of, entry_of as entry_by, marked, no_run as no_run_of, refused, refused_by, ticket_next, unbound};
 ghost use Rattle.beldi_core.specs.Runs.{asked_by};
 ghost use Rattle.beldi_core.specs.declared.events.Planned.TheVariants as planned;
-ghost use Rattle.beldi_core.specs.Parts.{core_in, Planned as IsPlanned, PlannedOf, RunPlanned, Ready, HasPlace, event_of, base, BoundBy, Named, mark_told, acted_by, followed_by, opened_by, started_by};
+ghost use Rattle.beldi_core.specs.Parts.{core_in, Planned as IsPlanned, PlannedOf, RunPlanned, Ready, HasPlace, event_of, base, BoundBy, Copied, acted_unless, mark_told};
 
 use crate::host_core::HostCore;
-use crate::runs::Names;
+use crate::runs::Copies;
 use beldi_book::{Book, Entry};
+use beldi_collect::{Found, collect_query, collect_told};
 use beldi_intent::{Binding, bind_query, bind_told, issue_query, issue_told};
 use beldi_lang::Deployment;
-use beldi_row::TableErr;
+use beldi_row::{RowKey, TableErr};
 use beldi_step::{Event, Mark, Run, RunAt, Seen, TurnSays, Wait};
 use beldi_value::{IntentId, Outcome, Value};
 use beldi_walk::{Heard, Query};
@@ -33,8 +33,9 @@ const LAST_MOMENT: u64 = 1 << 62;
 pub enum Pending {
     Ticket,
     Request { ticket: u32, func: u16, args: Value },
-    Turn(u64, Names),
-    Lost(u64, Names),
+    Turn(u64, Copies),
+    Lost(u64, Copies),
+    Ic,
 }
 
 /// What comes of an event before the table is asked.
@@ -50,7 +51,7 @@ pub enum Planned {
 #[derive(Drop)]
 enum RunAsks {
     Now(Seen),
-    Asks(Query, Names),
+    Asks(Query, Copies),
 }
 
 // An error of the table, as an event is answered.
@@ -136,6 +137,22 @@ fn acted(
     }
 }
 
+// .. unless there was no memory for that run.
+fn acted_if(
+    id: IntentId,
+    mark: Option<Mark>,
+    over: bool,
+    reply: Option<Outcome>,
+    started: Result<Option<u64>, AllocError>,
+) -> Result<Seen, AllocError>
+    ensures { result ≡ acted_unless id mark over reply started }
+{
+    match started {
+        Ok(started) => Ok(acted(id, mark, over, reply, started)),
+        Err(why) => Err(why),
+    }
+}
+
 // The mark of a run's act, whatever followed.
 fn told_mark(turn: Result<TurnSays, Option<Mark>>) -> Option<Mark>
     ensures { result ≡ mark_told turn }
@@ -169,15 +186,22 @@ impl HostCore {
             Event::Request { ticket, func, args } => self.plan_request(code, ticket, func, args),
             Event::Turn(run) => match self.plan_run(run)? {
                 RunAsks::Now(seen) => Ok(Planned::Now(seen)),
-                RunAsks::Asks(query, names) => Ok(Planned::Asks(query, Pending::Turn(run, names))),
+                RunAsks::Asks(query, copies) => Ok(Planned::Asks(
+                    query,
+                    Pending::Turn(run, copies),
+                )),
             },
             Event::Lost(run) => match self.plan_run(run)? {
                 RunAsks::Now(seen) => Ok(Planned::Now(seen)),
-                RunAsks::Asks(query, names) => Ok(Planned::Asks(query, Pending::Lost(run, names))),
+                RunAsks::Asks(query, copies) => Ok(Planned::Asks(
+                    query,
+                    Pending::Lost(run, copies),
+                )),
             },
             Event::Crash(run) => Ok(Planned::Now(self.crash(run))),
             Event::Restart { id, func } => self.restart(code, id, func),
             Event::Tick(ticks) => Ok(Planned::Now(self.tick(ticks))),
+            Event::Ic => Ok(Planned::Asks(collect_query(self.alloc, &self.cursor)?, Pending::Ic)),
         }
     }
 
@@ -240,7 +264,7 @@ impl HostCore {
             return Ok(RunAsks::Now(Seen::Expired));
         }
         match self.ask_run(run) {
-            Ok((query, names)) => Ok(RunAsks::Asks(query, names)),
+            Ok((query, copies)) => Ok(RunAsks::Asks(query, copies)),
             Err(why) => {
                 self.runs.remove(run);
                 Err(why)
@@ -248,7 +272,7 @@ impl HostCore {
         }
     }
 
-    fn ask_run(&mut self, run: u64) -> Result<(Query, Names), AllocError>
+    fn ask_run(&mut self, run: u64) -> Result<(Query, Copies), AllocError>
         requires { IsSome (map.get self.old.runs.runs run) }
         ensures ok { IfOk result (λ x. (asked_by (map.get self.old.runs.runs run) ≡ Some x) × (1 ≤ self.new.book.spare)) }
         ensures core { core_in self.new ≡ core_in self.old }
@@ -308,8 +332,9 @@ impl HostCore {
         match pending {
             Pending::Ticket => Ok(self.issued(issue_told(heard))),
             Pending::Request { ticket, func, args } => self.bound(ticket, func, args, heard),
-            Pending::Turn(run, names) => self.turned(code, run, names, heard),
-            Pending::Lost(run, names) => Ok(self.unheard(code, run, names, heard)),
+            Pending::Turn(run, copies) => self.turned(code, run, copies, heard),
+            Pending::Lost(run, copies) => Ok(self.unheard(code, run, copies, heard)),
+            Pending::Ic => self.collected(code, heard),
         }
     }
 
@@ -319,24 +344,40 @@ impl HostCore {
         ensures { (core_in self.new, result) ≡ refused (event_of pending) (base (event_of pending) (core_in self.old)) why }
     {
         match pending {
-            Pending::Ticket => refuse(why),
-            Pending::Request { .. } => {
+            Pending::Ticket | Pending::Ic => refuse(why),
+            Pending::Request {
+                ticket: _,
+                func: _,
+                args,
+            } => {
+                drop(args);
                 self.runs.withdraw();
                 refuse(why)
             }
-            Pending::Turn(run, _) => match why {
-                TableErr::Full { live, room } => Ok(Seen::Full { live, room }),
-                why => {
-                    self.runs.remove(run);
-                    refuse(why)
-                }
-            },
-            Pending::Lost(run, _) => {
+            Pending::Turn(run, copies) => {
+                drop(copies);
+                self.turn_refused(run, why)
+            }
+            Pending::Lost(run, copies) => {
+                drop(copies);
                 self.runs.remove(run);
                 match why {
                     TableErr::OutOfMemory => Err(AllocError),
                     _ => Ok(Seen::Dropped),
                 }
+            }
+        }
+    }
+
+    // The run is over, unless there was no room for its act.
+    fn turn_refused(&mut self, run: u64, why: TableErr) -> Result<Seen, AllocError>
+        ensures { (core_in self.new, result) ≡ refused (events.Turn run) (core_in self.old) why }
+    {
+        match why {
+            TableErr::Full { live, room } => Ok(Seen::Full { live, room }),
+            why => {
+                self.runs.remove(run);
+                refuse(why)
             }
         }
     }
@@ -389,20 +430,20 @@ impl HostCore {
         &mut self,
         code: &Deployment,
         run: u64,
-        names: Names,
+        copies: Copies,
         heard: Heard<'_>,
     ) -> Result<Seen, AllocError>
         requires spare { 1 ≤ self.old.book.spare }
         requires live { IsSome (map.get self.old.runs.runs run) }
-        requires names { Named names (map.get self.old.runs.runs run) }
+        requires copies { Copied copies (map.get self.old.runs.runs run) }
         requires given { self.old.runs.given < self.old.taken }
         ensures { Followed code.now (events.Turn run) (core_in self.old) (Ok (told_of heard.entry)) (core_in self.new) result }
     {
         let changes = self.book.changes();
         match self.runs.told(run, self.alloc, code, changes, heard) {
             Ok(says) => {
-                write(&mut self.book, names.book, says.mark);
-                match self.after_turn(run, names.told, says) {
+                write(&mut self.book, copies.book, says.mark);
+                match self.after_turn(copies.callee, copies.told, says) {
                     Ok(seen) => Ok(seen),
                     Err(why) => {
                         self.runs.remove(run);
@@ -411,7 +452,7 @@ impl HostCore {
                 }
             }
             Err(mark) => {
-                write(&mut self.book, names.book, mark);
+                write(&mut self.book, copies.book, mark);
                 Err(AllocError)
             }
         }
@@ -419,78 +460,131 @@ impl HostCore {
 
     // What follows of a turn: it was made, or the run waits. A run of what it calls may be started; where there is no memory
     // for it, nothing is done.
-    fn after_turn(&mut self, run: u64, id: IntentId, says: TurnSays) -> Result<Seen, AllocError>
+    fn after_turn(
+        &mut self,
+        callee: Option<Run>,
+        id: IntentId,
+        says: TurnSays,
+    ) -> Result<Seen, AllocError>
         requires given { self.old.runs.given < self.old.taken }
-        ensures ok { IfOk result (λ x. (core_in self.new, x) ≡ followed_by (core_in self.old) (map.get self.old.runs.runs run) id says says.wait) }
+        ensures ok { IfOk result (λ x. (core_in self.new, x) ≡ after_turn_of (core_in self.old) callee id says says.wait) }
         ensures err { OnErr result (core_in self.new ≡ core_in self.old) }
     {
         let TurnSays {
             mark,
             over,
-            opens,
+            starts,
             wait,
             reply,
         } = says;
-        let started = match wait {
-            None => { if opens { self.start_opened(run)? } else { None } }
-            Some(Wait::Held(owner)) => return Ok(Seen::Held(owner)),
-            Some(Wait::Result(callee)) => {
-                if self.runs.has_run(&callee) {
-                    return Ok(Seen::NotYet(callee));
+        match wait {
+            None => {
+                let started = self.may_start(starts, callee);
+                acted_if(id, mark, over, reply, started)
+            }
+            Some(Wait::Held(owner)) => Ok(Seen::Held(owner)),
+            Some(Wait::Result(awaited)) => {
+                if self.runs.has_run(&awaited) {
+                    return Ok(Seen::NotYet(awaited));
                 }
                 if self.runs.len() >= MOST_RUNS {
                     return Ok(Seen::Crowded);
                 }
-                self.start_called(run)?
+                let started = self.start(callee);
+                acted_if(id, mark, over, reply, started)
             }
-        };
-        Ok(acted(id, mark, over, reply, started))
+        }
     }
 
-    // Starts a run of what was called, where that has no live run and there is a place for one.
-    fn start_opened(&mut self, run: u64) -> Result<Option<u64>, AllocError>
+    // Starts a run of what was called, if one may start, where that has no live run and there is a place for one.
+    fn may_start(&mut self, starts: bool, callee: Option<Run>) -> Result<Option<u64>, AllocError>
         requires given { self.old.runs.given < self.old.taken }
-        ensures ok { IfOk result (λ n. (core_in self.new, n) ≡ opened_by (core_in self.old) (callee_of (map.get self.old.runs.runs run))) }
+        ensures ok { IfOk result (λ n. (core_in self.new, n) ≡ (if starts then may_start_of (core_in self.old) callee else (core_in self.old, None))) }
         ensures err { OnErr result (core_in self.new ≡ core_in self.old) }
     {
-        if self.runs.len() >= MOST_RUNS {
+        let Some(callee) = callee else {
+            return Ok(None);
+        };
+        if !starts || self.runs.has_run(&callee.id) || self.runs.len() >= MOST_RUNS {
+            drop(callee);
             return Ok(None);
         }
-        match self.runs.callee(run, self.alloc)? {
-            Some(callee) => {
-                if self.runs.has_run(&callee.id) {
-                    drop(callee);
-                    return Ok(None);
-                }
-                Ok(Some(self.runs.start(self.alloc, callee)?))
-            }
-            None => Ok(None),
-        }
+        Ok(Some(self.runs.start(self.alloc, callee)?))
     }
 
     // Starts a run of what is called.
-    fn start_called(&mut self, run: u64) -> Result<Option<u64>, AllocError>
+    fn start(&mut self, callee: Option<Run>) -> Result<Option<u64>, AllocError>
         requires given { self.old.runs.given < self.old.taken }
-        ensures ok { IfOk result (λ n. (core_in self.new, n) ≡ started_by (core_in self.old) (callee_of (map.get self.old.runs.runs run))) }
+        ensures ok { IfOk result (λ n. (core_in self.new, n) ≡ started (core_in self.old) callee) }
         ensures err { OnErr result (core_in self.new ≡ core_in self.old) }
     {
-        match self.runs.callee(run, self.alloc)? {
+        match callee {
             Some(callee) => Ok(Some(self.runs.start(self.alloc, callee)?)),
             None => Ok(None),
         }
     }
 
+    // What follows of what the intent collector found.
+    fn collected(&mut self, code: &Deployment, heard: Heard<'_>) -> Result<Seen, AllocError>
+        requires given { self.old.runs.given < self.old.taken }
+        ensures { Followed code.now events.Ic (core_in self.old) (Ok (told_of heard.entry)) (core_in self.new) result }
+    {
+        match collect_told(self.alloc, heard)? {
+            Found::Round => {
+                self.cursor = RowKey::least(self.alloc);
+                Ok(Seen::Round)
+            }
+            Found::Passed(key) => Ok(self.pass(key)),
+            Found::Unended { key, id, func } => self.launch(code, key, id, func),
+        }
+    }
+
+    fn pass(&mut self, key: RowKey) -> Seen
+        ensures { (core_in self.new, result) ≡ passed (core_in self.old) key }
+    {
+        self.cursor = key;
+        Seen::Passed
+    }
+
+    // Launches a run of an intent that has not ended, where it has none and there is a place for one.
+    fn launch(
+        &mut self,
+        code: &Deployment,
+        key: RowKey,
+        id: IntentId,
+        func: u16,
+    ) -> Result<Seen, AllocError>
+        requires given { self.old.runs.given < self.old.taken }
+        ensures ok { IfOk result (λ x. (core_in self.new, x) ≡ collected_of code.now (core_in self.old) key id func) }
+        ensures err { OnErr result (core_in self.new ≡ core_in self.old) }
+    {
+        if self.runs.has_run(&id) {
+            return Ok(self.pass(key));
+        }
+        if self.runs.len() >= MOST_RUNS {
+            return Ok(Seen::Crowded);
+        }
+        let name = id.copy(self.alloc)?;
+        let run = self.new_run(code, id, func);
+        let number = self.runs.start(self.alloc, run)?;
+        self.cursor = key;
+        Ok(Seen::Launched {
+            run: number,
+            id: name,
+        })
+    }
+
     // The answer is lost: the run is over, and the book has the entry of its act, if any.
-    fn unheard(&mut self, code: &Deployment, run: u64, names: Names, heard: Heard<'_>) -> Seen
+    fn unheard(&mut self, code: &Deployment, run: u64, copies: Copies, heard: Heard<'_>) -> Seen
         requires spare { 1 ≤ self.old.book.spare }
         requires live { IsSome (map.get self.old.runs.runs run) }
-        requires names { Named names (map.get self.old.runs.runs run) }
+        requires copies { Copied copies (map.get self.old.runs.runs run) }
         ensures { Followed code.now (events.Lost run) (core_in self.old) (Ok (told_of heard.entry)) (core_in self.new) (Ok result) }
     {
         let changes = self.book.changes();
         let mark = told_mark(self.runs.told(run, self.alloc, code, changes, heard));
         self.runs.remove(run);
-        write(&mut self.book, names.book, mark);
+        write(&mut self.book, copies.book, mark);
         Seen::Dropped
     }
 }

@@ -7,7 +7,7 @@ use crate::runs::Runs;
 use crate::survey::{OpenErr, ReplySeen, list_tables, prepare, read_reply};
 use beldi_book::Book;
 use beldi_check::Checked;
-use beldi_row::Table;
+use beldi_row::{RowKey, Table};
 use beldi_step::{Event, Seen};
 use beldi_value::Str;
 use beldi_walk::{Heard, Query};
@@ -57,6 +57,7 @@ impl<T: Table> Host<T> {
                     runs: Runs::new(alloc),
                     book: Book::new(alloc),
                     now,
+                    cursor: RowKey::least(alloc),
                     taken: 0,
                 },
                 table,

@@ -3,10 +3,12 @@ ghost use Rattle.std.specs.Prelude.{◌≤◌, ◌^◌};
 
 use crate::runs::Runs;
 use beldi_book::Book;
+use beldi_row::RowKey;
 use std::alloc::Global;
 
 /// What a host knows beside its deployment and its table: the newest ticket, the live runs, the book of what was done, the
-/// moment in ticks, and how many events it took; each event gives at most one number to a run.
+/// moment in ticks, where the intent collector stands, and how many events it took; each event gives at most one number to a
+/// run.
 #[derive(Drop)]
 pub struct HostCore {
     pub alloc: Global,
@@ -14,6 +16,7 @@ pub struct HostCore {
     pub runs: Runs,
     pub book: Book,
     pub now: u64,
+    pub cursor: RowKey,
     pub taken: u64,
     ghost few: { runs.given ≤ taken },
     ghost events: { taken ≤ 2 ^ 62 },

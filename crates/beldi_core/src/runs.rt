@@ -5,7 +5,6 @@ ghost use Rattle.beldi_walk.specs.Query.{told_of};
 ghost use Rattle.beldi_core.specs.Runs.{map_of, IsLeastPast, started, withdrawn, ends_run, settled, uncounted, settled_counts, deadline_of, AllKept, asked_of, asked_by, RunTold};
 ghost use Rattle.beldi_core.specs.Counts.{count_at, more, kept_as};
 ghost use Rattle.beldi_step.specs.Host.{has_run};
-ghost use Rattle.beldi_step.specs.Run.{callee_of};
 
 use crate::counts::Counts;
 use beldi_lang::Deployment;
@@ -135,20 +134,23 @@ fn tell(
     result
 }
 
-/// The id of an instance, once for the entry in the book and once for the one that is told.
+/// What the answer to a run's turn needs: the id of the instance, once for the entry in the book and once for the one that
+/// is told, and a run of what it calls, if it stands at a call.
 #[derive(Drop)]
-pub struct Names {
+pub struct Copies {
     pub book: IntentId,
     pub told: IntentId,
+    pub callee: Option<Run>,
 }
 
-// What a run asks, and its names.
-fn asked(run: &Run, alloc: Global) -> Result<(Query, Names), AllocError>
+// What a run asks, and its copies.
+fn asked(run: &Run, alloc: Global) -> Result<(Query, Copies), AllocError>
     ensures { IfOk result (λ x. x ≡ asked_of run.now) }
 {
     let book = run.id.copy(alloc)?;
     let told = run.id.copy(alloc)?;
-    Ok((run.ask(alloc)?, Names { book, told }))
+    let callee = run.callee(alloc)?;
+    Ok((run.ask(alloc)?, Copies { book, told, callee }))
 }
 
 impl Runs {
@@ -194,16 +196,6 @@ impl Runs {
         self.counts.has(id)
     }
 
-    /// A run of what the run of this number calls, if it is live and stands at a call.
-    pub fn callee(&self, number: u64, alloc: Global) -> Result<Option<Run>, AllocError>
-        ensures { IfOk result (λ r. r ≡ callee_of (map.get self.now.runs number)) }
-    {
-        match self.live.get(&number) {
-            Some(run) => run.callee(alloc),
-            None => Ok(None),
-        }
-    }
-
     /// The least number of a live run past this one.
     pub fn next_after(&self, number: u64) -> Option<u64>
         ensures { IsLeastPast number self.now.runs result }
@@ -245,8 +237,8 @@ impl Runs {
         end(&mut self.live, &mut self.counts, number);
     }
 
-    /// What the run of this number asks, and its names; none where it is not live. Out of memory only where it is.
-    pub fn ask(&self, number: u64, alloc: Global) -> Result<Option<(Query, Names)>, AllocError>
+    /// What the run of this number asks, and its copies; none where it is not live. Out of memory only where it is.
+    pub fn ask(&self, number: u64, alloc: Global) -> Result<Option<(Query, Copies)>, AllocError>
         ensures ok { IfOk result (λ q. q ≡ asked_by (map.get self.now.runs number)) }
         ensures err { OnErr result (IsSome (map.get self.now.runs number)) }
     {

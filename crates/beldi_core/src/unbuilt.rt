@@ -7,8 +7,8 @@ ghost use Rattle.beldi_core.specs.Built.{unbuilt, unbuilt_in as unbuilt_among, u
 use beldi_lang::{Block, Deployment, Form, Stmt};
 
 /// Tests that the host can carry out each statement of a deployment. If not, the error is the line of the first
-/// statement that it cannot carry out yet, in the order of the text: an `async`, `transaction` or `abort`. If so, no body wants
-/// an effect that the host does not carry out, but a call whose callee would have no id.
+/// statement that it cannot carry out yet, in the order of the text: a `transaction` or an `abort`. If so, no body
+/// of an instance that has callees wants an effect that the host does not carry out.
 pub fn built(code: &Deployment) -> Result<(), u32>
     ensures exact { result ≡ refused_at (unbuilt_of code.now.funcs) }
     ensures carried { OnOk result (IsCarriedOut code.now) }
@@ -43,6 +43,7 @@ fn unbuilt_at(stmt: &Stmt) -> Option<u32>
         | Form::Write { .. }
         | Form::CondWrite { .. }
         | Form::Call { .. }
+        | Form::Async { .. }
         | Form::Lock { .. }
         | Form::Unlock { .. }
         | Form::Break
@@ -56,6 +57,6 @@ fn unbuilt_at(stmt: &Stmt) -> Option<u32>
             None => unbuilt_in(otherwise),
         },
         Form::Repeat { block, .. } => unbuilt_in(block),
-        Form::Async { .. } | Form::Transaction { .. } | Form::Abort => Some(stmt.line),
+        Form::Transaction { .. } | Form::Abort => Some(stmt.line),
     }
 }
