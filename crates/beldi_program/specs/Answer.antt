@@ -34,6 +34,10 @@ held_line o = codes "held " ++ (owner_text o ++ codes "\n")
 abbrev pub waits_line : IntentId → List ℕ
 waits_line id = codes "waits " ++ (id_text id ++ codes "\n")
 
+-- the line of the run that the intent collector started, with its intent
+abbrev pub launched_line : ℕ → IntentId → List ℕ
+launched_line run id = codes "launched run " ++ (decimal run ++ (codes " " ++ (id_text id ++ codes "\n")))
+
 abbrev pub entry_part : Deployment → Option Entry → List ℕ
 entry_part d None = []
 entry_part d (Some e) = codes " " ++ entry_text d e
@@ -73,6 +77,9 @@ answer_text d seen.RunOver = codes "run-over\n"
 answer_text d seen.Dropped = codes "dropped\n"
 answer_text d seen.Crashed = codes "crashed\n"
 answer_text d (seen.Started r) = numbered (codes "run ") r
+answer_text d seen.Passed = codes "passed\n"
+answer_text d (seen.Launched r id) = launched_line r id
+answer_text d seen.Round = codes "round\n"
 answer_text d (seen.Now n) = numbered (codes "now ") n
 answer_text d seen.ClockEnd = codes "clock-end\n"
 answer_text d seen.Spent = codes "spent\n"

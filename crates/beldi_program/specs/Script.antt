@@ -6,6 +6,8 @@ use Rattle.beldi_step.specs.declared.event.Event.TheVariants as event
 use Rattle.beldi_script.specs.declared.line.Line.{Line}
 use Rattle.beldi_script.specs.declared.line.Line.TheVariants as line
 use Rattle.beldi_program.specs.declared.refusal.Refusal.{Refusal}
+use Rattle.beldi_program.specs.declared.session.Taker.{Taker}
+use Rattle.beldi_program.specs.declared.session.Taker.TheVariants as taker
 use Rattle.beldi_program.specs.Source.{Numbered, said_at}
 
 -- carry out an event; tell what a ticket's run gave, how many rows there are, the tables, or the book; refuse a line
@@ -21,6 +23,11 @@ abbrev pub times : ℕ → Action → List Action
 times zero a = []
 times (suc n) a = a ∷ times n a
 
+-- the event of one turn
+abbrev pub turn_of : Taker → Event
+turn_of (taker.Run r) = event.Turn r
+turn_of taker.IntentCollector = event.Ic
+
 -- none where the program cannot do yet what the line says
 abbrev pub actions_of : Line → List Action
 actions_of line.Ticket = Carry event.Ticket ∷ []
@@ -29,6 +36,7 @@ actions_of (line.Turn r n) = times n (Carry (event.Turn r))
 actions_of (line.Lost r) = Carry (event.Lost r) ∷ []
 actions_of (line.Crash r) = Carry (event.Crash r) ∷ []
 actions_of (line.Restart id f) = Carry (event.Restart id f) ∷ []
+actions_of (line.Ic n) = times n (Carry event.Ic)
 actions_of (line.Tick n) = Carry (event.Tick n) ∷ []
 actions_of (line.Reply t) = TellReply t ∷ []
 actions_of line.Rows = CountRows ∷ []

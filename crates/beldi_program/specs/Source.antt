@@ -71,7 +71,6 @@ script_of bytes p = numbered p.line (lines_of (drop p.rest bytes))
 
 -- the program can do what the line says
 abbrev pub is_built : Line → Bool
-is_built (line.Ic n) = false
 is_built (line.Gc k n) = false
 is_built (line.Sweep k n) = false
 is_built (line.Settle n) = false

@@ -4,7 +4,7 @@ ghost use Rattle.std.specs.Fmt.{decimal};
 ghost use Rattle.beldi_value.specs.Json.{text_of};
 ghost use Rattle.beldi_value.specs.Value.{datum_of};
 ghost use Rattle.beldi_tree.specs.Names.{func_text};
-ghost use Rattle.beldi_program.specs.Answer.{answer_text, numbered, held_line, waits_line, outcome_line, ticket_line, entry_part, run_part, reply_part, over_part};
+ghost use Rattle.beldi_program.specs.Answer.{answer_text, numbered, held_line, waits_line, launched_line, outcome_line, ticket_line, entry_part, run_part, reply_part, over_part};
 ghost use Rattle.beldi_program.specs.Response.{reply_line};
 
 use beldi_book::Entry;
@@ -56,6 +56,9 @@ pub fn write_answer(
         Seen::Dropped => out.push_text("dropped\n"),
         Seen::Crashed => out.push_text("crashed\n"),
         Seen::Started(run) => write_numbered(alloc, "run ", *run, out),
+        Seen::Passed => out.push_text("passed\n"),
+        Seen::Launched { run, id } => write_launched(alloc, *run, id, out),
+        Seen::Round => out.push_text("round\n"),
         Seen::Now(moment) => write_numbered(alloc, "now ", *moment, out),
         Seen::ClockEnd => out.push_text("clock-end\n"),
         Seen::Spent => out.push_text("spent\n"),
@@ -127,6 +130,16 @@ fn write_waits(alloc: Global, callee: &IntentId, out: &mut Str) -> Result<(), Al
 {
     let mut line = Str::from_text(alloc, "waits ")?;
     callee.write(alloc, &mut line)?;
+    line.push_text("\n")?;
+    out.push_text(line.as_str())
+}
+
+fn write_launched(alloc: Global, run: u64, id: &IntentId, out: &mut Str) -> Result<(), AllocError>
+    ensures ok { OnOk result (out.new ≡ out.old ++ launched_line run id.now) }
+    ensures err { OnErr result (out.new ≡ out.old) }
+{
+    let mut line = Str::from_string(format!(in alloc; "launched run {run} ")?);
+    id.write(alloc, &mut line)?;
     line.push_text("\n")?;
     out.push_text(line.as_str())
 }

@@ -1,8 +1,7 @@
 // A session: the lines of a script, carried out one after another.
 ghost use Rattle.std.specs.Prelude.{◌≡◌, ◌∷◌, ◌++◌, [], ℕ, List, Option, IfOk, OnOk, true};
 ghost use Rattle.beldi_script.specs.Cut.{lines_of};
-ghost use Rattle.beldi_step.specs.declared.event.Event.TheVariants as events;
-ghost use Rattle.beldi_program.specs.Script.{Carry, TellReply, CountRows, ListTables, ListBook, actions_of, actions_in, and_then, is_ok, is_whole, times};
+ghost use Rattle.beldi_program.specs.Script.{Carry, TellReply, CountRows, ListTables, ListBook, actions_of, actions_in, and_then, is_ok, is_whole, times, turn_of};
 ghost use Rattle.beldi_book.specs.Text.{book_text};
 ghost use Rattle.beldi_program.specs.Response.{BookIs, report_text};
 ghost use Rattle.beldi_program.specs.Session.{Does, by_done, by_text, sight};
@@ -29,6 +28,25 @@ pub enum Stop {
     OutOfMemory,
     /// The sink failed, and its count of faults has risen. The actions up to then are done.
     SinkFault,
+}
+
+/// Who is given turns.
+#[derive(Clone, Copy)]
+pub enum Taker {
+    /// The run of this number.
+    Run(u32),
+    /// The intent collector.
+    IntentCollector,
+}
+
+// The event of one turn.
+fn turn_of(taker: Taker) -> Event
+    ensures { result ≡ turn_of taker }
+{
+    match taker {
+        Taker::Run(run) => Event::Turn(u64::from(run)),
+        Taker::IntentCollector => Event::Ic,
+    }
 }
 
 // The text of a response was appended, or memory ran out.
@@ -66,18 +84,18 @@ fn answer<T: Table>(
     }
 }
 
-// Gives a run so many turns.
+// Gives so many turns.
 fn give_turns<T: Table>(
     alloc: Global,
     host: &mut Host<T>,
     out: &mut Str,
-    run: u32,
+    taker: Taker,
     count: u32,
 ) -> Result<(), Stop>
-    ensures { (held : Option (List ℕ)) (faults : ℕ) → Does (times count (Carry (events.Turn run))) (sight host.old out.old held faults) (sight host.new out.new held faults) result }
+    ensures { (held : Option (List ℕ)) (faults : ℕ) → Does (times count (Carry (turn_of taker))) (sight host.old out.old held faults) (sight host.new out.new held faults) result }
 {
     for turn in 0..count {
-        match answer(alloc, host, out, Event::Turn(u64::from(run))) {
+        match answer(alloc, host, out, turn_of(taker)) {
             Ok(()) => {}
             Err(stop) => return Err(stop),
         }
@@ -145,17 +163,17 @@ fn say<T: Table>(alloc: Global, host: &mut Host<T>, out: &mut Str, line: Line) -
         Line::Request { ticket, func, args } => {
             answer(alloc, host, out, Event::Request { ticket, func, args })
         }
-        Line::Turn { run, times } => give_turns(alloc, host, out, run, times),
+        Line::Turn { run, times } => give_turns(alloc, host, out, Taker::Run(run), times),
         Line::Lost { run } => answer(alloc, host, out, Event::Lost(u64::from(run))),
         Line::Crash { run } => answer(alloc, host, out, Event::Crash(u64::from(run))),
         Line::Restart { id, func } => answer(alloc, host, out, Event::Restart { id, func }),
+        Line::Ic { times } => give_turns(alloc, host, out, Taker::IntentCollector, times),
         Line::Tick { by } => answer(alloc, host, out, Event::Tick(by)),
         Line::Reply { ticket } => tell_reply(alloc, host, out, ticket),
         Line::Rows => count_rows(alloc, host, out),
         Line::Tables => list_tables(host, out),
         Line::Book => list_book(alloc, host, out),
         Line::Blank => Ok(()),
-        Line::Ic { .. } => Ok(()),
         Line::Gc { .. } => Ok(()),
         Line::Sweep { .. } => Ok(()),
         Line::Settle { .. } => Ok(()),

@@ -7,9 +7,6 @@ use Rattle.beldi_program.proofs.session.say.Goals as goal
 pub returns-in-Blank : goal.returns-in-Blank
 returns-in-Blank g c = λ held faults. does_no_action (actions_of c.args.line) (ap actions_of c.in-Blank.is) (sight c.args.host.now c.args.out.now held faults)
 
-pub returns-in-Ic : goal.returns-in-Ic
-returns-in-Ic g c = λ held faults. does_no_action (actions_of c.args.line) (ap actions_of c.in-Ic.is) (sight c.args.host.now c.args.out.now held faults)
-
 pub returns-in-Gc : goal.returns-in-Gc
 returns-in-Gc g c = λ held faults. does_no_action (actions_of c.args.line) (ap actions_of c.in-Gc.is) (sight c.args.host.now c.args.out.now held faults)
 
