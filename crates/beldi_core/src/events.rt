@@ -17,7 +17,7 @@ use beldi_collect::{Found, collect_query, collect_told};
 use beldi_intent::{Binding, bind_query, bind_told, issue_query, issue_told};
 use beldi_lang::Deployment;
 use beldi_row::{RowKey, TableErr};
-use beldi_step::{Event, Mark, Run, RunAt, Seen, TurnSays, Wait};
+use beldi_step::{Callee, Event, Mark, Run, RunAt, Seen, TurnSays, Wait};
 use beldi_value::{IntentId, Outcome, Value};
 use beldi_walk::{Heard, Query};
 use std::alloc::AllocError;
@@ -462,7 +462,7 @@ impl HostCore {
     // for it, nothing is done.
     fn after_turn(
         &mut self,
-        callee: Option<Run>,
+        callee: Option<Callee>,
         id: IntentId,
         says: TurnSays,
     ) -> Result<Seen, AllocError>
@@ -497,7 +497,7 @@ impl HostCore {
     }
 
     // Starts a run of what was called, if one may start, where that has no live run and there is a place for one.
-    fn may_start(&mut self, starts: bool, callee: Option<Run>) -> Result<Option<u64>, AllocError>
+    fn may_start(&mut self, starts: bool, callee: Option<Callee>) -> Result<Option<u64>, AllocError>
         requires given { self.old.runs.given < self.old.taken }
         ensures ok { IfOk result (λ n. (core_in self.new, n) ≡ (if starts then may_start_of (core_in self.old) callee else (core_in self.old, None))) }
         ensures err { OnErr result (core_in self.new ≡ core_in self.old) }
@@ -505,21 +505,21 @@ impl HostCore {
         let Some(callee) = callee else {
             return Ok(None);
         };
-        if !starts || self.runs.has_run(&callee.id) || self.runs.len() >= MOST_RUNS {
+        if !starts || self.runs.has_run(callee.id()) || self.runs.len() >= MOST_RUNS {
             drop(callee);
             return Ok(None);
         }
-        Ok(Some(self.runs.start(self.alloc, callee)?))
+        Ok(Some(self.runs.start(self.alloc, callee.into_run())?))
     }
 
     // Starts a run of what is called.
-    fn start(&mut self, callee: Option<Run>) -> Result<Option<u64>, AllocError>
+    fn start(&mut self, callee: Option<Callee>) -> Result<Option<u64>, AllocError>
         requires given { self.old.runs.given < self.old.taken }
         ensures ok { IfOk result (λ n. (core_in self.new, n) ≡ started (core_in self.old) callee) }
         ensures err { OnErr result (core_in self.new ≡ core_in self.old) }
     {
         match callee {
-            Some(callee) => Ok(Some(self.runs.start(self.alloc, callee)?)),
+            Some(callee) => Ok(Some(self.runs.start(self.alloc, callee.into_run())?)),
             None => Ok(None),
         }
     }

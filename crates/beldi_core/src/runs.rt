@@ -8,7 +8,7 @@ ghost use Rattle.beldi_step.specs.Host.{has_run};
 
 use crate::counts::Counts;
 use beldi_lang::Deployment;
-use beldi_step::{Mark, Run, TurnSays};
+use beldi_step::{Callee, Mark, Run, TurnSays};
 use beldi_value::IntentId;
 use beldi_walk::{Heard, Query};
 use std::alloc::{AllocError, Global};
@@ -140,7 +140,7 @@ fn tell(
 pub struct Copies {
     pub book: IntentId,
     pub told: IntentId,
-    pub callee: Option<Run>,
+    pub callee: Option<Callee>,
 }
 
 // What a run asks, and its copies.

@@ -14,11 +14,13 @@
 #![tactic(auto)]
 
 mod call_stage;
+mod callee;
 mod event;
 mod laws;
 mod run;
 mod stage;
 
+pub use callee::Callee;
 pub use event::{Event, Seen};
 pub use laws::{a_run_expires_past_its_deadline, a_step_over_any_table, a_step_over_rows};
 pub use run::{Begun, Mark, Run, RunAt, Says, Stage, TurnSays, Wait};

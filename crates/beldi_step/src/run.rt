@@ -10,6 +10,7 @@ ghost use Rattle.beldi_step.specs.declared.run.RunAt.{RunAt};
 ghost use Rattle.beldi_step.specs.declared.run.RunAt.TheVariants as at;
 
 use crate::call_stage::callee_body;
+use crate::callee::Callee;
 use crate::stage::{first_stage, hear, look, stage_query};
 use beldi_call::{AsyncAt, CallAt};
 use beldi_daal::WriteAt;
@@ -192,7 +193,7 @@ impl Run {
 
     /// A run of what the run calls, if it stands at a call: it may act as long as the run. One that is waited for registers
     /// its body; the row of any other is there before a run of it may start.
-    pub fn callee(&self, alloc: Global) -> Result<Option<Run>, AllocError>
+    pub fn callee(&self, alloc: Global) -> Result<Option<Callee>, AllocError>
         ensures { IfOk result (λ r. r ≡ callee_of self.now) }
     {
         let RunAt::Begins(begun) = &self.at else {
@@ -215,19 +216,20 @@ impl Run {
         step: u32,
         func: u16,
         at: RunAt,
-    ) -> Result<Option<Run>, AllocError>
+    ) -> Result<Option<Callee>, AllocError>
         ensures { IfOk result (λ r. r ≡ callee_run_of self.now step func at) }
     {
         if !self.id.has_callees() {
             drop(at);
             return Ok(None);
         }
-        Ok(Some(Run {
+        let run = Run {
             id: self.id.child(alloc, step)?,
             func,
             deadline: self.deadline,
             at,
-        }))
+        };
+        Ok(Some(Callee::new(alloc, run)?))
     }
 
     /// Where it goes after it was told, when so many changes had been made. Out of memory, it is to be dropped, and the
