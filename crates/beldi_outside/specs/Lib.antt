@@ -1,2 +1,4 @@
+pub mod Connection
 pub mod Memory
+pub mod MemoryLink
 pub mod Outside

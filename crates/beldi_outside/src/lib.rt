@@ -1,6 +1,7 @@
 //! What the host meets outside: a source and a sink of bytes, a link to clients and a clock. Each counts its faults.
 //! It stands on std alone. Its definitions: `specs/Outside` (what each call does, and what a count says), `specs/Memory`
-//! (the objects in memory, which tell their bytes and fail at given calls).
+//! (the objects in memory, which tell their bytes and fail at given calls), `specs/Connection` (what each call of a link does to
+//! its connections), `specs/MemoryLink` (the link in memory).
 //!
 //! Proved:
 //! - `write_all` writes all bytes, or a front of them and the sink's count has risen (`bytes`, `cause`).
@@ -8,16 +9,21 @@
 //!   `failed`).
 //! - `StdSource` and `StdSink` hand on what the reader and writer below them do, and count each of their errors
 //!   (`given`, `handed`, `counts`).
-//! - The source and the sink in memory do exactly what their definitions say (`exact`); the closed link refuses or
-//!   fails each call but `close`, and the clock in memory tells the next moment.
+//! - The source and the sink in memory do exactly what their definitions say (`exact`); so does the link in memory;
+//!   the closed link refuses or fails each call but `close`, and the clock in memory tells the next moment.
+//! - `TcpLink` and `WallClock` tell nothing of what is real: that an error comes only where its count rose is proved (`cause`).
 #![tactic(auto)]
 
 mod memory;
+mod memory_link;
 mod real;
+mod real_link;
 mod traits;
 mod transfer;
 
 pub use memory::{ClosedLink, MemClock, MemSink, MemSource};
+pub use memory_link::MemLink;
 pub use real::{StdSink, StdSource};
+pub use real_link::{TcpLink, WallClock};
 pub use traits::{Clock, Failed, Link, Sink, Source};
 pub use transfer::{MAX_SOURCE, ReadErr, read_all, read_up_to, write_all};

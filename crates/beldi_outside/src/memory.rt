@@ -1,5 +1,5 @@
 // Objects in memory, for tests: they tell their bytes, and fail at the calls that they were given.
-ghost use Rattle.std.specs.Prelude.{◌≡◌, ◌≤◌, ◌^◌, ◌-◌, max, drop, length, Some, IsErr};
+ghost use Rattle.std.specs.Prelude.{◌≡◌, ◌≤◌, ◌^◌, ◌-◌, max, drop, length, [], None, Some, IsErr};
 ghost use Rattle.beldi_outside.specs.Outside.{HasCause, IsWithin, Reads, Writes, ZeroIsFault};
 ghost use Rattle.beldi_outside.specs.Memory.{ClockState, SinkWrote, SourceRead, failed, fails_now, faulted, new_sink, new_source, passed, refused, told_next};
 
@@ -9,7 +9,7 @@ use std::marker::Model;
 
 // The calls that are to fail, by their numbers, and the count of those that did.
 #[derive(Drop)]
-struct FaultPlan {
+pub(crate) struct FaultPlan {
     fail: Vec<u32>,
     call: u32,
     faults: u64,
@@ -24,7 +24,7 @@ impl Model for FaultPlan {
 }
 
 impl FaultPlan {
-    fn new(fail: Vec<u32>) -> FaultPlan
+    pub(crate) fn new(fail: Vec<u32>) -> FaultPlan
         ensures { result ≡ record { fail = fail.items; call = 0; faults = 0 } }
     {
         FaultPlan {
@@ -34,19 +34,19 @@ impl FaultPlan {
         }
     }
 
-    fn fails_now(&self) -> bool
+    pub(crate) fn fails_now(&self) -> bool
         ensures { result ≡ fails_now self.now }
     {
         self.fail.contains(&self.call)
     }
 
-    fn pass(&mut self)
+    pub(crate) fn pass(&mut self)
         ensures { self.new ≡ passed self.old }
     {
         self.call = self.call.saturating_add(1);
     }
 
-    fn fault(&mut self) -> Failed
+    pub(crate) fn fault(&mut self) -> Failed
         ensures one { self.new ≡ failed self.old }
         ensures later { self.old.faults ≤ self.new.faults }
     {
@@ -233,6 +233,8 @@ impl ClosedLink {
 }
 
 impl Link for ClosedLink {
+    ghost seen = { λ l. Some (record { current = None; past = [] }) };
+
     ghost refusals = { λ l. l.refusals };
 
     ghost faults = { λ l. l.faults };
