@@ -1,0 +1,54 @@
+-- What the two endings of a parse say of the words.
+use Rattle.std.proofs.Common.{◌≡◌, inl, inr, true, false, List, [], Option, Some, None, Box, option_map, option_and_then, refl, ap, sym, subst, subst₂, ◌∙◌}
+use Rattle.clap.specs.Walk.{Text}
+use Rattle.clap.specs.Simple.{App, HasMatchesOf, is_simple, subcommand_rows}
+use Rattle.clap.specs.Kinds.{HasKind, IsAmong}
+use Rattle.clap.specs.Faults.{fault_of, is_simple_and_free}
+use Rattle.clap.specs.Matches.{subcommand_name_of}
+use Rattle.clap.specs.Values.{kind_of}
+use Rattle.clap.specs.declared.error.Error.{Error}
+use Rattle.clap.specs.declared.error.kind.ErrorKind.TheVariants.{OutOfMemory}
+use Rattle.clap.specs.declared.parser.matches.ArgMatches.{ArgMatches}
+use Rattle.clap.specs.declared.parser.matches.ArgMatches.TheViews.{out-ArgMatches, out-SubCommand}
+use Rattle.clap.specs.declared.parser.matches.SubCommand.{SubCommand}
+use Rattle.clap.proofs.OnLiterals.{clap_on_literals}
+use Rattle.std.specs.Box.{box_value}
+use Rattle.beldi_command.specs.Command.{command_named, command_of}
+use Rattle.beldi_command.specs.Parser.{has_divider, run_or_check}
+use Rattle.beldi_command.proofs.Asked.{IsAsked, is_asked, met}
+
+-- `clap` says of such a command which matches it gives, and how it fails
+is_told : is_simple run_or_check ≡ true
+unfolding clap_on_literals
+is_told = refl
+
+is_told_whole : is_simple_and_free run_or_check ≡ true
+unfolding clap_on_literals
+is_told_whole = refl
+
+module _ {Z : Type 0} where
+  name_of_rows : (o : Option (Box SubCommand Z)) → option_map (λ b. (out-SubCommand (box_value b)).name.now) o ≡ option_map (λ p. p.0) (subcommand_rows o)
+  name_of_rows None = refl
+  name_of_rows (Some b) = refl
+
+taken : (words : List Text) → fault_of run_or_check words ≡ [] → IsAsked words → met words ≡ command_of words
+taken words none (inl r) = absurd (r.0 none)
+taken words none (inr r) = r.1
+
+pub read : (app : App) (texts words : List Text) (m : ArgMatches) → app ≡ run_or_check → texts ≡ words → has_divider words ≡ false
+    → HasMatchesOf app texts m → (is_simple_and_free app ≡ true → fault_of app texts ≡ []) → option_and_then command_named (subcommand_name_of m) ≡ command_of words
+read app texts words m is_app is_words clear matches kinds =
+    let rows : HasMatchesOf run_or_check words m = subst₂ (λ a t. HasMatchesOf a t m) is_app is_words matches in
+    let none : is_simple_and_free run_or_check ≡ true → fault_of run_or_check words ≡ [] = subst₂ (λ a t. is_simple_and_free a ≡ true → fault_of a t ≡ []) is_app is_words kinds in
+    ap (option_and_then command_named) (name_of_rows (out-ArgMatches m).subcommand ∙ ap (option_map (λ p. p.0)) (rows is_told).1) ∙ taken words (none is_told_whole) (is_asked words clear)
+
+untaken : (words : List Text) (e : Error) → HasKind (fault_of run_or_check words) e → (kind_of e ≡ OutOfMemory → ⊥) → IsAsked words → None ≡ command_of words
+untaken words e (inl memory) other r = absurd (other memory)
+untaken words e (inr among) other (inl r) = sym r.1
+untaken words e (inr among) other (inr r) = absurd (subst (IsAmong (kind_of e)) r.0 among)
+
+pub refused : (app : App) (texts words : List Text) (e : Error) → app ≡ run_or_check → texts ≡ words → has_divider words ≡ false
+    → (is_simple_and_free app ≡ true → HasKind (fault_of app texts) e) → (kind_of e ≡ OutOfMemory → ⊥) → None ≡ command_of words
+refused app texts words e is_app is_words clear kinds other =
+    let has : is_simple_and_free run_or_check ≡ true → HasKind (fault_of run_or_check words) e = subst₂ (λ a t. is_simple_and_free a ≡ true → HasKind (fault_of a t) e) is_app is_words kinds in
+    untaken words e (has is_told_whole) other (is_asked words clear)
