@@ -1,0 +1,9 @@
+mod Answers
+mod Comes
+mod Cuts
+mod Moves
+mod Paths
+mod Replies
+mod Responses
+mod Scans
+mod Whole

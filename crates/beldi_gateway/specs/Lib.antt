@@ -1,0 +1,7 @@
+pub mod Exchange
+pub mod Framing
+pub mod Response
+pub mod Route
+pub mod Scan
+pub mod Serve
+pub mod Taking
