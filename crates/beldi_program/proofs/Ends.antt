@@ -1,6 +1,6 @@
 -- How the program ends.
-use Rattle.std.proofs.Common.{◌≡◌, ◌⊎◌, inl, inr, ◌≤◌, ◌+◌, ℕ, zero, suc, length, Bool, true, false, List, [], Option, None, Some, Result, Ok, Err, refl, ap, sym, ◌∙◌, subst, arith}
-use Rattle.std.specs.Prelude.{IfOk, OnOk, IsErrOf}
+use Rattle.std.proofs.Common.{◌≡◌, ◌⊎◌, inl, inr, ◌≤◌, ◌+◌, ℕ, zero, suc, length, Bool, true, false, List, [], ◌∷◌, Option, None, Some, Result, Ok, Err, refl, ap, sym, ◌∙◌, subst, arith}
+use Rattle.std.specs.Prelude.{◌&&◌, IfOk, OnOk, IsErrOf, IsSome}
 use Rattle.std.specs.Global.{Vec}
 use Rattle.std.specs.FinMap as map
 use Rattle.std.proofs.lemmas.Bool.{false≢true}
@@ -20,10 +20,15 @@ use Rattle.beldi_program.specs.declared.session.Stop.{Stop}
 use Rattle.beldi_program.specs.declared.session.Stop.TheVariants.{OutOfMemory, SinkFault}
 use Rattle.beldi_program.specs.declared.program.Ended.{Ended}
 use Rattle.beldi_program.specs.declared.program.Ended.TheVariants as ended
-use Rattle.beldi_program.specs.Script.{actions_in, is_whole}
+use Rattle.beldi_program.specs.Script.{actions_in, is_ok, is_whole}
 use Rattle.beldi_program.specs.Session.{Sight, Does, WentBy, Writes, state_at}
-use Rattle.beldi_program.specs.Source.{Numbered, source_at}
-use Rattle.beldi_program.specs.Headline.{Whole, Cut, NothingDone, SessionEnds, SourceEnds, ReadEnds, RunEnds, Ends, UsageEnds, LongOn, AsRead, SourceAsRead, Untouched, end_of, is_whole_source, opened_at, status_of, HasEnded, ByStatus}
+use Rattle.beldi_program.specs.Source.{Numbered, said_at, script_of, source_at}
+use Rattle.beldi_program.specs.Check.{counted, counted_on, tested, with_line, check_at, check_by}
+use Rattle.beldi_program.specs.Refusal.{refusal_text}
+use Rattle.beldi_command.specs.declared.command.Command.{Command}
+use Rattle.beldi_command.specs.declared.command.Command.TheVariants.{Run, Check}
+use Rattle.beldi_script.specs.declared.line.Line.{Line}
+use Rattle.beldi_program.specs.Headline.{Whole, Cut, NothingDone, SessionEnds, SourceEnds, TextEnds, CheckEnds, DoneBy, ReadEnds, CommandEnds, Ends, usage, LongOn, AsRead, SourceAsRead, Untouched, end_of, is_whole_source, opened_at, status_of, HasEnded, ByStatus}
 use Rattle.beldi_program.proofs.Responses.{told_tells}
 use Rattle.beldi_program.proofs.Went.{fine, unchanged}
 use Rattle.beldi_program.proofs.PlainRuns.{at_moments, plain_run}
@@ -88,6 +93,63 @@ hosted d t a b lines r o none end x = (
 pub was_read : (o a : Option (List ℕ)) (v : Vec ℕ) (bytes : List ℕ) → bytes ≡ v.items → Told o a (ReadAllOn max_source (Ok v)) → Told o a (λ b c. (b ≡ bytes) × (c ≡ []))
 was_read o a v bytes same h = told_map {P = ReadAllOn max_source (Ok v)} {Q = λ b c. (b ≡ bytes) × (c ≡ [])} o a (λ b c x. (sym (same ∙ x.0), x.1)) h
 
+-- a source has no fault just where no line of it, and not its deployment, is refused
+counted_whole : (d : Deployment) (n : ℕ) (ls : List Numbered) → is_ok (counted d n ls) ≡ is_whole d ls
+counted_whole d n [] = refl
+counted_whole d n (l ∷ ls) = by_line (said_at d l) (λ m. counted_whole d m ls)
+  where
+    by_line : (o : Result Line Refusal) → ((m : ℕ) → is_ok (counted d m ls) ≡ is_whole d ls) → is_ok (counted_on n o (λ m. counted d m ls)) ≡ (is_ok o && is_whole d ls)
+    by_line (Ok said) later = later (with_line n said)
+    by_line (Err x) later = refl
+
+tested_whole : (d : Deployment) (o : Result ℕ Refusal) → is_ok (tested d o) ≡ is_ok o
+tested_whole d (Ok n) = refl
+tested_whole d (Err x) = refl
+
+is_checked : (bytes : List ℕ) (o : Result Accepted Refusal) → is_ok (check_by bytes o) ≡ is_whole_source bytes o
+is_checked bytes (Ok p) = tested_whole p.code (counted p.code 0 (script_of bytes p)) ∙ counted_whole p.code 0 (script_of bytes p)
+is_checked bytes (Err x) = refl
+
+-- how a source that was read does not end
+abbrev pub is_read_end : Ended → Bool
+is_read_end ended.Usage = false
+is_read_end ended.SourceFault = false
+is_read_end ended.TooLong = false
+is_read_end e = true
+
+module _ {K : Type 0} (held : K → Option (List ℕ)) (faults : K → ℕ) where
+  -- a text that is all that is said
+  text_read : (text : List ℕ) (end : Ended) (k k' : K) (e : Ended) → is_read_end end ≡ true → TextEnds held faults text end k k' e → is_read_end e ≡ true
+  text_read text end k k' ended.SinkFault r x = refl
+  text_read text end k k' ended.OutOfMemory r x = refl
+  text_read text end k k' e r x = ap is_read_end x.0 ∙ r
+
+  text_as : (whole : Bool) (text : List ℕ) (end : Ended) (k k' : K) (e : Ended) → AsRead whole end → TextEnds held faults text end k k' e → AsRead whole e
+  text_as whole text end k k' ended.SinkFault a x = tt
+  text_as whole text end k k' ended.OutOfMemory a x = tt
+  text_as whole text end k k' e a x = subst (AsRead whole) (sym x.0) a
+
+  -- a source that was tested
+  pub untold : (o : Result (List ℕ) Refusal) (k : K) → CheckEnds held faults o k k ended.OutOfMemory
+  untold (Ok text) k = refl
+  untold (Err y) k = refl
+
+  checked_read : (o : Result (List ℕ) Refusal) (k k' : K) (e : Ended) → CheckEnds held faults o k k' e → is_read_end e ≡ true
+  checked_read (Ok text) k k' e x = text_read text ended.Done k k' e refl x
+  checked_read (Err y) k k' e x = text_read (refusal_text y) ended.Refused k k' e refl x
+
+  checked_as : (whole : Bool) (o : Result (List ℕ) Refusal) (k k' : K) (e : Ended) → is_ok o ≡ whole → CheckEnds held faults o k k' e → AsRead whole e
+  checked_as whole (Ok text) k k' e is x = text_as whole text ended.Done k k' e (sym is) x
+  checked_as whole (Err y) k k' e is x = text_as whole (refusal_text y) ended.Refused k k' e (sym is) x
+
+  checked_rose : (o : Result (List ℕ) Refusal) (k k' : K) → CheckEnds held faults o k k' ended.SinkFault → Rose (faults k) (faults k')
+  checked_rose (Ok text) k k' x = x.0
+  checked_rose (Err y) k k' x = x.0
+
+  checked_opens : (o : Result (List ℕ) Refusal) (k k' : K) → CheckEnds held faults o k k' ended.TableFault → ⊥
+  checked_opens (Ok text) k k' x = let clash = x.0 in cc
+  checked_opens (Err y) k k' x = let clash = x.0 in cc
+
 module _ {K T : Type 0} (held : K → Option (List ℕ)) (faults : K → ℕ) (state : T → TableState) where
   pub session_ends : (d : Deployment) (lines : List Numbered) (k k' : K) (t t' : T) (r : Result Bool Stop) → IfOk r (λ whole. is_whole d lines ≡ whole) → (IsErrOf r SinkFault → Rose (faults k) (faults k'))
       → (w : List ℕ) × Writes (held k) (held k') w × Told (state t).rows (state t').rows (λ m n. SessionBy r d lines m n (state t).faults (state t').faults w) → SessionEnds held faults state d lines k k' t t' (end_of r)
@@ -104,103 +166,123 @@ module _ {K T : Type 0} (held : K → Option (List ℕ)) (faults : K → ℕ) (s
   unread_source bytes (Ok p) k t = inl (refl, told_same (λ m n. n ≡ m) (state t).rows (λ m. refl), omega arith)
   unread_source bytes (Err x) k t = (refl, refl)
 
-  -- how a source that was read does not end
-  abbrev pub is_read_end : Ended → Bool
-  is_read_end ended.Usage = false
-  is_read_end ended.SourceFault = false
-  is_read_end ended.TooLong = false
-  is_read_end e = true
-
   ends_read : (bytes : List ℕ) (o : Result Accepted Refusal) (k k' : K) (t t' : T) (e : Ended) → SourceEnds held faults state bytes o k k' t t' e → is_read_end e ≡ true
-  ends_read bytes o k k' t t' ended.Done x = refl
-  ends_read bytes o k k' t t' ended.OutOfMemory x = refl
-  ends_read bytes o k k' t t' ended.SinkFault x = refl
-  ends_read bytes o k k' t t' ended.Refused x = refl
-  ends_read bytes o k k' t t' ended.TableFault x = refl
+  ends_read bytes (Ok p) k k' t t' ended.Done x = refl
+  ends_read bytes (Ok p) k k' t t' ended.OutOfMemory x = refl
+  ends_read bytes (Ok p) k k' t t' ended.SinkFault x = refl
+  ends_read bytes (Ok p) k k' t t' ended.Refused x = refl
+  ends_read bytes (Ok p) k k' t t' ended.TableFault x = refl
   ends_read bytes (Ok p) k k' t t' e x = absurd x
-  ends_read bytes (Err y) k k' t t' e x = absurd x.1
+  ends_read bytes (Err y) k k' t t' e x = text_read held faults (refusal_text y) ended.Refused k k' e refl x.1
 
   as_read : (bytes : List ℕ) (o : Result Accepted Refusal) (k k' : K) (t t' : T) (e : Ended) → SourceEnds held faults state bytes o k k' t t' e → AsRead (is_whole_source bytes o) e
   as_read bytes (Ok p) k k' t t' ended.Done x = x.0
   as_read bytes (Ok p) k k' t t' ended.Refused x = x.0
-  as_read bytes (Err y) k k' t t' ended.Done x = absurd x.1
-  as_read bytes (Err y) k k' t t' ended.Refused x = refl
   as_read bytes (Ok p) k k' t t' ended.Usage x = x
-  as_read bytes (Err y) k k' t t' ended.Usage x = x.1
-  as_read bytes o k k' t t' e x = tt
+  as_read bytes (Ok p) k k' t t' e x = tt
+  as_read bytes (Err y) k k' t t' e x = text_as held faults false (refusal_text y) ended.Refused k k' e refl x.1
 
-  pub sink_rose : (bytes : List ℕ) (o : Result Accepted Refusal) (k k' : K) (t t' : T) → SourceEnds held faults state bytes o k k' t t' ended.SinkFault → Rose (faults k) (faults k')
+  table_rose : (bytes : List ℕ) (o : Result Accepted Refusal) (k k' : K) (t t' : T) → SourceEnds held faults state bytes o k k' t t' ended.TableFault
+      → Rose (state t).faults (state t').faults × (Told (state t).rows (state t').rows (λ m n. n ≡ m) × (k' ≡ k))
+  table_rose bytes (Ok p) k k' t t' x = (x.0, (x.1.1, x.1.0))
+  table_rose bytes (Err y) k k' t t' x = let clash = x.1.0 in cc
+
+  -- by the command
+  done_read : (c : Command) (bytes : List ℕ) (k k' : K) (t t' : T) (e : Ended) → DoneBy held faults state c bytes k k' t t' e → is_read_end e ≡ true
+  done_read Run bytes k k' t t' e x = ends_read bytes (source_at bytes) k k' t t' e x
+  done_read Check bytes k k' t t' e x = checked_read held faults (check_at bytes) k k' e x.1
+
+  done_as : (c : Command) (bytes : List ℕ) (k k' : K) (t t' : T) (e : Ended) → DoneBy held faults state c bytes k k' t t' e → AsRead (is_whole_source bytes (source_at bytes)) e
+  done_as Run bytes k k' t t' e x = as_read bytes (source_at bytes) k k' t t' e x
+  done_as Check bytes k k' t t' e x = checked_as held faults (is_whole_source bytes (source_at bytes)) (check_at bytes) k k' e (is_checked bytes (source_at bytes)) x.1
+
+  sink_rose : (bytes : List ℕ) (o : Result Accepted Refusal) (k k' : K) (t t' : T) → SourceEnds held faults state bytes o k k' t t' ended.SinkFault → Rose (faults k) (faults k')
   sink_rose bytes (Ok p) k k' t t' x = x.0
   sink_rose bytes (Err y) k k' t t' x = x.1.0
 
-  pub table_rose : (bytes : List ℕ) (o : Result Accepted Refusal) (k k' : K) (t t' : T) → SourceEnds held faults state bytes o k k' t t' ended.TableFault
+  pub done_rose : (c : Command) (bytes : List ℕ) (k k' : K) (t t' : T) → DoneBy held faults state c bytes k k' t t' ended.SinkFault → Rose (faults k) (faults k')
+  done_rose Run bytes k k' t t' x = sink_rose bytes (source_at bytes) k k' t t' x
+  done_rose Check bytes k k' t t' x = checked_rose held faults (check_at bytes) k k' x.1
+
+  pub not_hosted : (c : Command) (bytes : List ℕ) (k k' : K) (t t' : T) → DoneBy held faults state c bytes k k' t t' ended.TableFault
       → Rose (state t).faults (state t').faults × (Told (state t).rows (state t').rows (λ m n. n ≡ m) × (k' ≡ k))
-  table_rose bytes (Ok p) k k' t t' x = (x.0, (x.1.1, x.1.0))
-  table_rose bytes (Err y) k k' t t' x = absurd x.1
+  not_hosted Run bytes k k' t t' x = table_rose bytes (source_at bytes) k k' t t' x
+  not_hosted Check bytes k k' t t' x = absurd (checked_opens held faults (check_at bytes) k k' x.1)
 
 -- ---- what is read off the ending
 module _ {S K T : Type 0} (left : S → Option (List ℕ)) (source_faults : S → ℕ) (held : K → Option (List ℕ)) (faults : K → ℕ) (state : T → TableState) (s s' : S) (k k' : K) (t t' : T) where
-  pub run_ends : (e : Ended) → ReadEnds left source_faults held faults state s s' k k' t t' e → RunEnds left source_faults held faults state s s' k k' t t' e
-  run_ends ended.OutOfMemory x = inr x
-  run_ends ended.Usage x = let clash = ends_read held faults state x.0 (source_at x.0) k k' t t' ended.Usage x.3 in cc
-  run_ends ended.SourceFault x = let clash = ends_read held faults state x.0 (source_at x.0) k k' t t' ended.SourceFault x.3 in cc
-  run_ends ended.TooLong x = let clash = ends_read held faults state x.0 (source_at x.0) k k' t t' ended.TooLong x.3 in cc
-  run_ends e x = x
+  pub command_ends : (c : Command) (e : Ended) → ReadEnds left source_faults held faults state c s s' k k' t t' e → CommandEnds left source_faults held faults state c s s' k k' t t' e
+  command_ends c ended.OutOfMemory x = inr x
+  command_ends c ended.Usage x = let clash = done_read held faults state c x.0 k k' t t' ended.Usage x.3 in cc
+  command_ends c ended.SourceFault x = let clash = done_read held faults state c x.0 k k' t t' ended.SourceFault x.3 in cc
+  command_ends c ended.TooLong x = let clash = done_read held faults state c x.0 k k' t t' ended.TooLong x.3 in cc
+  command_ends c e x = x
 
-  pub not_run : (words : Bool) → Ends left source_faults held faults state words s s' k k' t t' ended.Usage → words ≡ false
-  not_run true x = absurd x
-  not_run false x = refl
+  pub not_command : (o : Option Command) → Ends left source_faults held faults state o s s' k k' t t' ended.Usage → o ≡ None
+  not_command (Some c) x = absurd x
+  not_command None x = refl
 
-  other_words : (e : Ended) → UsageEnds held faults k k' e → (status_of e ≡ 2) ⊎ (status_of e ≡ 4)
-  other_words ended.Usage x = inl refl
-  other_words ended.SinkFault x = inr refl
-  other_words e x = absurd x
+  other_words : (e : Ended) → TextEnds held faults usage ended.Usage k k' e → (status_of e ≡ 2) ⊎ (status_of e ≡ 4) ⊎ (status_of e ≡ 1)
+  other_words ended.SinkFault x = inr (inl refl)
+  other_words ended.OutOfMemory x = inr (inr refl)
+  other_words e x = inl (ap status_of x.0)
 
-  pub unread : (words : Bool) (e : Ended) → words ≡ false → Ends left source_faults held faults state words s s' k k' t t' e → (s' ≡ s) × (t' ≡ t) × ((status_of e ≡ 2) ⊎ (status_of e ≡ 4))
-  unread true e h x = cc
-  unread false e h x = (x.0, x.1, other_words e x.2)
+  pub unread : (o : Option Command) (e : Ended) → o ≡ None → Ends left source_faults held faults state o s s' k k' t t' e → (s' ≡ s) × (t' ≡ t) × ((status_of e ≡ 2) ⊎ (status_of e ≡ 4) ⊎ (status_of e ≡ 1))
+  unread (Some c) e h x = cc
+  unread None e h x = (x.0, x.1, other_words e x.2)
 
-  pub source_fault : (words : Bool) → Ends left source_faults held faults state words s s' k k' t t' ended.SourceFault → Rose (source_faults s) (source_faults s')
-  source_fault true x = x.0
-  source_fault false x = absurd x.2
+  pub source_fault : (o : Option Command) → Ends left source_faults held faults state o s s' k k' t t' ended.SourceFault → Rose (source_faults s) (source_faults s')
+  source_fault (Some c) x = x.0
+  source_fault None x = let clash = x.2.0 in cc
 
-  pub sink_fault : (words : Bool) → Ends left source_faults held faults state words s s' k k' t t' ended.SinkFault → Rose (faults k) (faults k')
-  sink_fault true x = sink_rose held faults state x.0 (source_at x.0) k k' t t' x.3
-  sink_fault false x = x.2.0
+  pub sink_fault : (o : Option Command) → Ends left source_faults held faults state o s s' k k' t t' ended.SinkFault → Rose (faults k) (faults k')
+  sink_fault (Some c) x = done_rose held faults state c x.0 k k' t t' x.3
+  sink_fault None x = x.2.0
 
-  pub open_fault : (words : Bool) → Ends left source_faults held faults state words s s' k k' t t' ended.TableFault → Rose (state t).faults (state t').faults
-  open_fault true x = (table_rose held faults state x.0 (source_at x.0) k k' t t' x.3).0
-  open_fault false x = absurd x.2
+  pub open_fault : (o : Option Command) → Ends left source_faults held faults state o s s' k k' t t' ended.TableFault → Rose (state t).faults (state t').faults
+  open_fault (Some c) x = (not_hosted held faults state c x.0 k k' t t' x.3).0
+  open_fault None x = let clash = x.2.0 in cc
 
-  pub untouched : (words : Bool) (e : Ended) → Ends left source_faults held faults state words s s' k k' t t' e → Untouched e (t' ≡ t) (Told (state t).rows (state t').rows (λ m n. n ≡ m)) (k' ≡ k)
-  untouched true ended.SourceFault x = (x.2, x.3)
-  untouched true ended.TooLong x = (x.1, x.2)
-  untouched true ended.TableFault x = (table_rose held faults state x.0 (source_at x.0) k k' t t' x.3).1
-  untouched false ended.SourceFault x = absurd x.2
-  untouched false ended.TooLong x = absurd x.2
-  untouched false ended.TableFault x = absurd x.2
-  untouched words e x = tt
+  pub untouched : (o : Option Command) (e : Ended) → Ends left source_faults held faults state o s s' k k' t t' e → Untouched e (t' ≡ t) (Told (state t).rows (state t').rows (λ m n. n ≡ m)) (k' ≡ k)
+  untouched (Some c) ended.SourceFault x = (x.2, x.3)
+  untouched (Some c) ended.TooLong x = (x.1, x.2)
+  untouched (Some c) ended.TableFault x = (not_hosted held faults state c x.0 k k' t t' x.3).1
+  untouched None ended.SourceFault x = let clash = x.2.0 in cc
+  untouched None ended.TooLong x = let clash = x.2.0 in cc
+  untouched None ended.TableFault x = let clash = x.2.0 in cc
+  untouched o e x = tt
+
+  -- to test a source leaves the table
+  pub tested_leaves : (e : Ended) → Ends left source_faults held faults state (Some Check) s s' k k' t t' e → t' ≡ t
+  tested_leaves ended.Usage x = absurd x
+  tested_leaves ended.SourceFault x = x.2
+  tested_leaves ended.TooLong x = x.1
+  tested_leaves ended.OutOfMemory x = elim x [
+    | inl y ↦ y.1
+    | inr y ↦ y.3.0
+  ]
+  tested_leaves e x = x.3.0
 
   abbrev Long : Ended → Type 0
   Long e = Told (left s) (left s') (λ b c. LongOn b c e)
 
-  short : (e : Ended) → is_read_end held faults state e ≡ true → (b c bytes : List ℕ) → length bytes ≤ max_source → b ≡ bytes → LongOn b c e
+  short : (e : Ended) → is_read_end e ≡ true → (b c bytes : List ℕ) → length bytes ≤ max_source → b ≡ bytes → LongOn b c e
   short ended.TooLong is b c bytes l same = cc
   short e is b c bytes l same = inl (subst (λ (z : List ℕ). length z ≤ max_source) (sym same) l)
 
-  read_short : (e : Ended) → ReadEnds left source_faults held faults state s s' k k' t t' e → Long e
-  read_short e x = told_map {P = λ b c. (b ≡ x.0) × (c ≡ [])} {Q = λ b c. LongOn b c e} (left s) (left s') (λ b c v. short e (ends_read held faults state x.0 (source_at x.0) k k' t t' e x.3) b c x.0 x.1 v.0) x.2
+  read_short : (c : Command) (e : Ended) → ReadEnds left source_faults held faults state c s s' k k' t t' e → Long e
+  read_short c e x = told_map {P = λ b c. (b ≡ x.0) × (c ≡ [])} {Q = λ b c. LongOn b c e} (left s) (left s') (λ b a v. short e (done_read held faults state c x.0 k k' t t' e x.3) b a x.0 x.1 v.0) x.2
 
-  pub too_long : (words : Bool) (e : Ended) → words ≡ true → Ends left source_faults held faults state words s s' k k' t t' e → Long e
-  too_long false e h x = cc
-  too_long true ended.Usage h x = absurd x
-  too_long true ended.SourceFault h x = told_map {P = TookFront max_source} {Q = λ b c. LongOn b c ended.SourceFault} (left s) (left s') (λ b c v. inr (inl refl)) x.1
-  too_long true ended.TooLong h x = x.0
-  too_long true ended.OutOfMemory h x = elim x [
+  pub too_long : (o : Option Command) (e : Ended) → IsSome o → Ends left source_faults held faults state o s s' k k' t t' e → Long e
+  too_long None e h x = cc
+  too_long (Some c) ended.Usage h x = absurd x
+  too_long (Some c) ended.SourceFault h x = told_map {P = TookFront max_source} {Q = λ b c. LongOn b c ended.SourceFault} (left s) (left s') (λ b c v. inr (inl refl)) x.1
+  too_long (Some c) ended.TooLong h x = x.0
+  too_long (Some c) ended.OutOfMemory h x = elim x [
     | inl y ↦ told_map {P = TookFront (max_source + 1)} {Q = λ b c. LongOn b c ended.OutOfMemory} (left s) (left s') (λ b c v. inr (inr refl)) y.0
-    | inr y ↦ read_short ended.OutOfMemory y
+    | inr y ↦ read_short c ended.OutOfMemory y
   ]
-  too_long true e h x = read_short e x
+  too_long (Some c) e h x = read_short c e x
 
   read_as : (o a : Option (List ℕ)) (bytes : List ℕ) (e : Ended) → Told o a (λ b c. (b ≡ bytes) × (c ≡ [])) → AsRead (is_whole_source bytes (source_at bytes)) e → SourceAsRead o e
   read_as None a bytes e t h = tt
@@ -211,16 +293,16 @@ module _ {S K T : Type 0} (left : S → Option (List ℕ)) (source_faults : S �
   any_read None e h = tt
   any_read (Some b) e h = h (is_whole_source b (source_at b))
 
-  read_refused : (e : Ended) → ReadEnds left source_faults held faults state s s' k k' t t' e → SourceAsRead (left s) e
-  read_refused e x = read_as (left s) (left s') x.0 e x.2 (as_read held faults state x.0 (source_at x.0) k k' t t' e x.3)
+  read_refused : (c : Command) (e : Ended) → ReadEnds left source_faults held faults state c s s' k k' t t' e → SourceAsRead (left s) e
+  read_refused c e x = read_as (left s) (left s') x.0 e x.2 (done_as held faults state c x.0 k k' t t' e x.3)
 
-  pub refused : (words : Bool) (e : Ended) → words ≡ true → Ends left source_faults held faults state words s s' k k' t t' e → SourceAsRead (left s) e
-  refused false e h x = cc
-  refused true ended.Usage h x = absurd x
-  refused true ended.SourceFault h x = any_read (left s) ended.SourceFault (λ w. tt)
-  refused true ended.TooLong h x = any_read (left s) ended.TooLong (λ w. tt)
-  refused true ended.OutOfMemory h x = any_read (left s) ended.OutOfMemory (λ w. tt)
-  refused true e h x = read_refused e x
+  pub refused : (o : Option Command) (e : Ended) → IsSome o → Ends left source_faults held faults state o s s' k k' t t' e → SourceAsRead (left s) e
+  refused None e h x = cc
+  refused (Some c) ended.Usage h x = absurd x
+  refused (Some c) ended.SourceFault h x = any_read (left s) ended.SourceFault (λ w. tt)
+  refused (Some c) ended.TooLong h x = any_read (left s) ended.TooLong (λ w. tt)
+  refused (Some c) ended.OutOfMemory h x = any_read (left s) ended.OutOfMemory (λ w. tt)
+  refused (Some c) e h x = read_refused c e x
 
 -- ---- the status
 abbrev decode : ℕ → Ended
@@ -266,7 +348,7 @@ completed (Some b) None e P Q r l s t p q = l
 completed (Some b) (Some c) e P Q r l s t p q = λ short whole. done_or_short b c P Q p q short whole e r l s t
 
 -- ---- what the clauses of `top` say is read off how the program ended, and the status
-module _ {S K T : Type 0} {left : S → Option (List ℕ)} {source_faults : S → ℕ} {held : K → Option (List ℕ)} {faults : K → ℕ} {state : T → TableState} {words : Bool} {s s' : S} {k k' : K} {t t' : T} {e : Ended}
+module _ {S K T : Type 0} {left : S → Option (List ℕ)} {source_faults : S → ℕ} {held : K → Option (List ℕ)} {faults : K → ℕ} {state : T → TableState} {words : Option Command} {s s' : S} {k k' : K} {t t' : T} {e : Ended}
     (x : HasEnded left source_faults held faults state words s s' k k' t t' e) (n : ℕ) (is : n ≡ status_of e) where
   by_ending : (f : Ended) → e ≡ f → Ends left source_faults held faults state words s s' k k' t t' f
   by_ending f h = subst (Ends left source_faults held faults state words s s' k k' t t') h x.ends
@@ -274,10 +356,10 @@ module _ {S K T : Type 0} {left : S → Option (List ℕ)} {source_faults : S �
   by_status : (f : Ended) → n ≡ status_of f → Ends left source_faults held faults state words s s' k k' t t' f
   by_status f h = by_ending f (same_end e f (sym is ∙ h))
 
-  pub usage_at : (n ≡ 2 → words ≡ false) × (words ≡ false → (n ≡ 2) ⊎ (n ≡ 4))
+  pub usage_at : (n ≡ 2 → words ≡ None) × (words ≡ None → (n ≡ 2) ⊎ (n ≡ 4) ⊎ (n ≡ 1))
   usage_at = (
-    λ h. not_run left source_faults held faults state s s' k k' t t' words (by_status ended.Usage h),
-    λ h. subst (λ (z : ℕ). (z ≡ 2) ⊎ (z ≡ 4)) (sym is) (unread left source_faults held faults state s s' k k' t t' words e h x.ends).2,
+    λ h. not_command left source_faults held faults state s s' k k' t t' words (by_status ended.Usage h),
+    λ h. subst (λ (z : ℕ). (z ≡ 2) ⊎ (z ≡ 4) ⊎ (z ≡ 1)) (sym is) (unread left source_faults held faults state s s' k k' t t' words e h x.ends).2,
   )
 
   pub source_fault_at : n ≡ 3 → Rose (source_faults s) (source_faults s')
@@ -292,22 +374,25 @@ module _ {S K T : Type 0} {left : S → Option (List ℕ)} {source_faults : S �
   pub session_at : ByStatus n (Ends left source_faults held faults state words s s' k k' t t')
   session_at = (e, is, x.ends)
 
-  pub too_long_at : words ≡ true → ByStatus n (λ e. Told (left s) (left s') (λ b c. LongOn b c e))
+  pub too_long_at : IsSome words → ByStatus n (λ e. Told (left s) (left s') (λ b c. LongOn b c e))
   too_long_at h = (e, is, too_long left source_faults held faults state s s' k k' t t' words e h x.ends)
 
-  pub refused_at : words ≡ true → ByStatus n (λ e. SourceAsRead (left s) e)
+  pub refused_at : IsSome words → ByStatus n (λ e. SourceAsRead (left s) e)
   refused_at h = (e, is, refused left source_faults held faults state s s' k k' t t' words e h x.ends)
 
   pub untouched_at : ByStatus n (λ e. Untouched e (t' ≡ t) (Told (state t).rows (state t').rows (λ m n. n ≡ m)) (k' ≡ k))
   untouched_at = (e, is, untouched left source_faults held faults state s s' k k' t t' words e x.ends)
 
-  pub unread_at : words ≡ false → (s' ≡ s) × (t' ≡ t)
+  pub unread_at : words ≡ None → (s' ≡ s) × (t' ≡ t)
   unread_at h = let u = unread left source_faults held faults state s s' k k' t t' words e h x.ends in (u.0, u.1)
 
-  pub complete_at : words ≡ true → (Rose (source_faults s) (source_faults s') → ⊥) → (Rose (faults k) (faults k') → ⊥)
+  pub complete_at : IsSome words → (Rose (source_faults s) (source_faults s') → ⊥) → (Rose (faults k) (faults k') → ⊥)
       → Told (left s) (left s') (λ b c. length b ≤ max_source → is_whole_source b (source_at b) ≡ true → (n ≡ 0) ⊎ (n ≡ 1) ⊎ (n ≡ 8))
   complete_at h p q =
       subst (λ (z : ℕ). Told (left s) (left s') (λ b c. length b ≤ max_source → is_whole_source b (source_at b) ≡ true → (z ≡ 0) ⊎ (z ≡ 1) ⊎ (z ≡ 8))) (sym is)
       (completed (left s) (left s') e (Rose (source_faults s) (source_faults s')) (Rose (faults k) (faults k')) (refused left source_faults held faults state s s' k k' t t' words e h x.ends) (too_long left source_faults held faults state s s' k k' t t' words e h x.ends)
       (λ f. source_fault left source_faults held faults state s s' k k' t t' words (by_ending ended.SourceFault f))
       (λ f. sink_fault left source_faults held faults state s s' k k' t t' words (by_ending ended.SinkFault f)) p q)
+
+  pub tested_at : words ≡ Some Check → t' ≡ t
+  tested_at h = tested_leaves left source_faults held faults state s s' k k' t t' e (subst (λ o. Ends left source_faults held faults state o s s' k k' t t' e) h x.ends)

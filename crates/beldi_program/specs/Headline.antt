@@ -2,7 +2,6 @@
 use Rattle.std.specs.Prelude.{◌≡◌, ◌⊎◌, ◌≤◌, ◌<◌, ◌+◌, ℕ, length, Bool, true, false, List, [], ◌∷◌, drop, Option, Some, None, Result, Ok, Err, codes}
 use Rattle.std.specs.FinMap as map
 use Rattle.beldi_tree.specs.declared.deployment.Deployment.{Deployment}
-use Rattle.beldi_tree.specs.Bindings.{is_name}
 use Rattle.beldi_row.specs.Table.{Rows, TableState}
 use Rattle.beldi_step.specs.Host.{Core, first_core}
 use Rattle.beldi_core.specs.Survey.{newest_of}
@@ -18,14 +17,12 @@ use Rattle.beldi_program.specs.Refusal.{refusal_text}
 use Rattle.beldi_program.specs.Script.{Action, actions_in, is_whole}
 use Rattle.beldi_program.specs.Session.{State, Went, Stopped, Writes}
 use Rattle.beldi_program.specs.Source.{Numbered, script_of, source_at}
+use Rattle.beldi_program.specs.Check.{check_at}
+use Rattle.beldi_command.specs.declared.command.Command.{Command}
+use Rattle.beldi_command.specs.declared.command.Command.TheVariants.{Run, Check}
 
 abbrev pub usage : List ℕ
-usage = codes "usage: beldi run\n"
-
-abbrev pub is_run : List (List ℕ) → Bool
-is_run [] = false
-is_run (word ∷ []) = is_name word (codes "run")
-is_run (word ∷ more ∷ words) = false
+usage = codes "usage: beldi run | check\n"
 
 -- ---- a session over a deployment, from the rows m to the rows n, with the text that was written. The numbers f and g are the
 -- table's count of failures before and after, and `opened` is the count once the host was open. Over a table without rows it
@@ -63,18 +60,16 @@ module _ {K : Type 0} (held : K → Option (List ℕ)) (faults : K → ℕ) wher
   abbrev pub WroteFront : List ℕ → K → K → Type 0
   WroteFront text k k' = Rose (faults k) (faults k') × ((written : List ℕ) × IsPrefixOf written text × Wrote written k k')
 
-  -- other words: the usage is written
-  abbrev pub UsageEnds : K → K → Ended → Type 0
-  UsageEnds k k' ended.Usage = Wrote usage k k'
-  UsageEnds k k' ended.SinkFault = WroteFront usage k k'
-  UsageEnds k k' e = ⊥
+  -- this text is all that is said, and then the program ends so, unless the sink failed or memory ran out
+  abbrev pub TextEnds : List ℕ → Ended → K → K → Ended → Type 0
+  TextEnds text end k k' ended.SinkFault = WroteFront text k k'
+  TextEnds text end k k' ended.OutOfMemory = k' ≡ k
+  TextEnds text end k k' e = (e ≡ end) × Wrote text k k'
 
-  -- the source is refused before its script: the refusal is written
-  abbrev pub RefusalEnds : Refusal → K → K → Ended → Type 0
-  RefusalEnds x k k' ended.Refused = Wrote (refusal_text x) k k'
-  RefusalEnds x k k' ended.SinkFault = WroteFront (refusal_text x) k k'
-  RefusalEnds x k k' ended.OutOfMemory = k' ≡ k
-  RefusalEnds x k k' e = ⊥
+  -- a source was tested: by what it comes to, that is told, or its refusal
+  abbrev pub CheckEnds : Result (List ℕ) Refusal → K → K → Ended → Type 0
+  CheckEnds (Ok text) k k' e = TextEnds text ended.Done k k' e
+  CheckEnds (Err x) k k' e = TextEnds (refusal_text x) ended.Refused k k' e
 
 -- .. a table by its state
 module _ {K T : Type 0} (held : K → Option (List ℕ)) (faults : K → ℕ) (state : T → TableState) where
@@ -98,30 +93,35 @@ module _ {K T : Type 0} (held : K → Option (List ℕ)) (faults : K → ℕ) (s
   -- by what the source says: its deployment was read, keeps every rule and can be carried out; or it is refused
   abbrev pub SourceEnds : List ℕ → Result Accepted Refusal → K → K → T → T → Ended → Type 0
   SourceEnds bytes (Ok p) k k' t t' e = SessionEnds p.code (script_of bytes p) k k' t t' e
-  SourceEnds bytes (Err x) k k' t t' e = (t' ≡ t) × RefusalEnds held faults x k k' e
+  SourceEnds bytes (Err x) k k' t t' e = (t' ≡ t) × TextEnds held faults (refusal_text x) ended.Refused k k' e
+
+  -- by the command, once the source was read. To test it leaves the table as it was handed in.
+  abbrev pub DoneBy : Command → List ℕ → K → K → T → T → Ended → Type 0
+  DoneBy Run bytes k k' t t' e = SourceEnds bytes (source_at bytes) k k' t t' e
+  DoneBy Check bytes k k' t t' e = (t' ≡ t) × CheckEnds held faults (check_at bytes) k k' e
 
 -- .. and a source by the bytes that it has left and its faults
 module _ {S K T : Type 0} (left : S → Option (List ℕ)) (source_faults : S → ℕ) (held : K → Option (List ℕ)) (faults : K → ℕ) (state : T → TableState) where
   -- the source was read: these are all of its bytes, and no more than it may have
-  abbrev pub ReadEnds : S → S → K → K → T → T → Ended → Type 0
-  ReadEnds s s' k k' t t' e = (bytes : List ℕ) × (length bytes ≤ max_source) × Told (left s) (left s') (λ b c. (b ≡ bytes) × (c ≡ [])) × SourceEnds held faults state bytes (source_at bytes) k k' t t' e
+  abbrev pub ReadEnds : Command → S → S → K → K → T → T → Ended → Type 0
+  ReadEnds c s s' k k' t t' e = (bytes : List ℕ) × (length bytes ≤ max_source) × Told (left s) (left s') (λ b c. (b ≡ bytes) × (c ≡ [])) × DoneBy held faults state c bytes k k' t t' e
 
-  -- the words are right: the source is read, unless it failed, has more bytes than it may, of which just one more was taken, or
-  -- memory ran out; then nothing is done or written
-  abbrev pub RunEnds : S → S → K → K → T → T → Ended → Type 0
-  RunEnds s s' k k' t t' ended.Usage = ⊥
-  RunEnds s s' k k' t t' ended.SourceFault = Rose (source_faults s) (source_faults s') × Told (left s) (left s') (TookFront max_source) × (t' ≡ t) × (k' ≡ k)
-  RunEnds s s' k k' t t' ended.TooLong = Told (left s) (left s') (λ b c. (max_source < length b) × (c ≡ drop (max_source + 1) b)) × (t' ≡ t) × (k' ≡ k)
-  RunEnds s s' k k' t t' ended.OutOfMemory = (Told (left s) (left s') (TookFront (max_source + 1)) × (t' ≡ t) × (k' ≡ k)) ⊎ ReadEnds s s' k k' t t' ended.OutOfMemory
-  RunEnds s s' k k' t t' e = ReadEnds s s' k k' t t' e
+  -- the words are those of a command: the source is read, unless it failed, has more bytes than it may, of which just one more was
+  -- taken, or memory ran out; then nothing is done or written
+  abbrev pub CommandEnds : Command → S → S → K → K → T → T → Ended → Type 0
+  CommandEnds c s s' k k' t t' ended.Usage = ⊥
+  CommandEnds c s s' k k' t t' ended.SourceFault = Rose (source_faults s) (source_faults s') × Told (left s) (left s') (TookFront max_source) × (t' ≡ t) × (k' ≡ k)
+  CommandEnds c s s' k k' t t' ended.TooLong = Told (left s) (left s') (λ b c. (max_source < length b) × (c ≡ drop (max_source + 1) b)) × (t' ≡ t) × (k' ≡ k)
+  CommandEnds c s s' k k' t t' ended.OutOfMemory = (Told (left s) (left s') (TookFront (max_source + 1)) × (t' ≡ t) × (k' ≡ k)) ⊎ ReadEnds c s s' k k' t t' ended.OutOfMemory
+  CommandEnds c s s' k k' t t' e = ReadEnds c s s' k k' t t' e
 
-  -- by whether the words are right
-  abbrev pub Ends : Bool → S → S → K → K → T → T → Ended → Type 0
-  Ends true s s' k k' t t' e = RunEnds s s' k k' t t' e
-  Ends false s s' k k' t t' e = (s' ≡ s) × (t' ≡ t) × UsageEnds held faults k k' e
+  -- by what the words ask for: none of the commands, and the usage is told; or one of them
+  abbrev pub Ends : Option Command → S → S → K → K → T → T → Ended → Type 0
+  Ends (Some c) s s' k k' t t' e = CommandEnds c s s' k k' t t' e
+  Ends None s s' k k' t t' e = (s' ≡ s) × (t' ≡ t) × TextEnds held faults usage ended.Usage k k' e
 
 -- the program ended so
-pub record HasEnded {S K T : Type 0} (left : S → Option (List ℕ)) (source_faults : S → ℕ) (held : K → Option (List ℕ)) (faults : K → ℕ) (state : T → TableState) (words : Bool) (s s' : S) (k k' : K) (t t' : T) (e : Ended) : Type 0 where
+pub record HasEnded {S K T : Type 0} (left : S → Option (List ℕ)) (source_faults : S → ℕ) (held : K → Option (List ℕ)) (faults : K → ℕ) (state : T → TableState) (words : Option Command) (s s' : S) (k k' : K) (t t' : T) (e : Ended) : Type 0 where
   pub ends : Ends left source_faults held faults state words s s' k k' t t' e
 
 -- ---- the status

@@ -1,4 +1,5 @@
 pub mod Answer
+pub mod Check
 pub mod Headline
 pub mod PlainRun
 pub mod Refusal

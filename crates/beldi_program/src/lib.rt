@@ -1,12 +1,13 @@
 //! The program without its real streams: it reads a deployment and a script, hosts the deployment, and writes what the
-//! script's events came to.
-//! It stands on the host (`beldi_core`), the readers of its source (`beldi_syntax`, `beldi_script`), the checks of a deployment
-//! (`beldi_check`), the table that a host is over (`beldi_row`) and what is outside (`beldi_outside`); its clauses speak of
-//! definitions of the crates below them.
+//! script's events came to; or it tests them, and carries out nothing.
+//! It stands on the host (`beldi_core`), the readers of its words and of its source (`beldi_command`, `beldi_syntax`,
+//! `beldi_script`), the checks of a deployment (`beldi_check`), the table that a host is over (`beldi_row`) and what is outside
+//! (`beldi_outside`); its clauses speak of definitions of the crates below them.
 //! Its own definitions: `specs/Source` (what a source says: its refusal, or a deployment and numbered lines), `specs/Refusal`
-//! (the text of a refusal), `specs/Script` (what a script has the program do), `specs/Answer` and `specs/Response` (what is said of
-//! it, and the text), `specs/Session` (steps one after another, and what was written), `specs/PlainRun` (that they are a run
-//! without crashes), `specs/Headline` (how the program ends: by it the cause, and what is left of source, sink and table).
+//! (the text of a refusal), `specs/Check` (what is said of a source that is tested), `specs/Script` (what a script has the
+//! program do), `specs/Answer` and `specs/Response` (what is said of it, and the text), `specs/Session` (steps one after
+//! another, and what was written), `specs/PlainRun` (that they are a run without crashes), `specs/Headline` (how the program
+//! ends: by it the cause, and what is left of source, sink and table).
 //! It has no error type: `top` answers a status, and `Ended` has one variant for each.
 //!
 //! Proved:
@@ -19,6 +20,8 @@
 //!   sink got a front of their text, with a front of the ending only where all were carried out; where the source was
 //!   refused before its script, or the words were others, 4 leaves a front of that one line; with 3, 7 and 8 nothing
 //!   was done or written; with 2 the words are not those of a command (`usage`).
+//! - A source that is tested leaves the table as it was handed in (`tested`); with 0 it has no fault, and the text tells how many
+//!   functions and lines it has, with 5 it is its first refusal alone.
 //! - Over a table without rows, that session is a run without crashes: after each step the book of that step's host has the
 //!   entries that were told, is legal, and each outcome, reply, listing of the tables and of the book is that of its
 //!   run then (`Moment`); at the end (`IsPlainRun`) it is legal, so each step of an instance acts once and in its order (`legal`),
@@ -30,12 +33,13 @@
 //!   16,777,216 bytes that is not refused is carried out whole, where neither source nor sink fails, nor memory runs
 //!   out, nor the table failed as it was opened (`complete`); 0 comes only where the source is not refused, and 5
 //!   only where it is, whatever sink and table tell (`refused`).
-//! - With other words neither source nor table is touched (`unread`); with 3 and 7 the table is the one handed in and
-//!   the sink is not called, with 8 the rows are as before (`untouched`).
+//! - With words that ask for no command neither source nor table is touched (`unread`); with 3 and 7 the table is the one
+//!   handed in and   the sink is not called, with 8 the rows are as before (`untouched`).
 //! - Neither the link nor the clock is asked for anything (`unasked`).
 #![tactic(auto)]
 
 mod answer;
+mod check;
 mod output;
 mod program;
 mod refusal;

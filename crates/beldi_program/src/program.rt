@@ -1,14 +1,21 @@
 // The program, over a source, a sink, a table, a link and a clock.
-ghost use Rattle.std.specs.Prelude.{◌≡◌, ◌≤◌, ◌<◌, ◌+◌, ◌⊎◌, true, false, length, drop};
+ghost use Rattle.std.specs.Prelude.{◌≡◌, ◌≤◌, ◌⊎◌, true, length, IsSome, None, Some};
 ghost use Rattle.beldi_outside.specs.Outside.{Told, Rose, max_source};
 ghost use Rattle.beldi_script.specs.Cut.{lines_of};
+ghost use Rattle.beldi_command.specs.Command.{command_of};
+ghost use Rattle.beldi_command.specs.declared.command.Command.TheVariants as commands;
+ghost use Rattle.beldi_program.specs.Check.{check_at};
+ghost use Rattle.beldi_program.specs.Refusal.{refusal_text};
 ghost use Rattle.beldi_program.specs.Source.{numbered, source_at};
-ghost use Rattle.beldi_program.specs.Headline.{ByStatus, Ends, HasEnded, LongOn, RefusalEnds, RunEnds, SessionEnds, SourceAsRead, SourceEnds, Untouched, UsageEnds, end_of, is_run, is_whole_source, status_of};
+ghost use Rattle.beldi_program.specs.Headline.{ByStatus, CheckEnds, CommandEnds, DoneBy, Ends, HasEnded, LongOn, SessionEnds, SourceAsRead, SourceEnds, TextEnds, Untouched, end_of, is_whole_source, status_of, usage};
+ghost use Rattle.beldi_program.specs.declared.program.Ended.TheVariants as ended;
 
+use crate::check::check_source;
 use crate::refusal::{Refusal, SourceErr, write_refusal};
 use crate::session::{Stop, run_script};
-use crate::source::{Accepted, read_source};
+use crate::source::{Accepted, read_source, script_at};
 use beldi_check::Checked;
+use beldi_command::{Command, read_command};
 use beldi_core::{Host, OpenErr};
 use beldi_outside::{Clock, Link, ReadErr, Sink, Source, read_all, write_all};
 use beldi_row::Table;
@@ -18,7 +25,7 @@ use std::alloc::Global;
 /// How the program ended.
 #[derive(Clone, Copy, Debug, PartialEq, Eq)]
 pub enum Ended {
-    /// All lines were carried out, and the last listings written.
+    /// All lines were carried out, and the last listings written; or the source was tested, and has no fault.
     Done,
     /// Out of memory.
     OutOfMemory,
@@ -28,7 +35,7 @@ pub enum Ended {
     SourceFault,
     /// The sink failed, and its count of faults has risen.
     SinkFault,
-    /// The deployment was refused, or a line of the script.
+    /// The deployment was refused, or a line of the script. A source that is tested is refused before anything is said.
     Refused,
     /// The source has more than 16,777,216 bytes. Nothing was done or written.
     TooLong,
@@ -49,20 +56,22 @@ pub fn top<S: Source, K: Sink, T: Table, N: Link, C: Clock>(
     // The status tells how the program ended: by it the cause, and what is left of source, sink and table. The text is that of
     // a session of the source. Over a table without rows this session is a run without crashes of exactly the requests that
     // were answered bound, and the replies, the tables and the rows are those of that run.
-    ensures session { ByStatus result.0 (λ e. Ends S.left S.faults K.held K.faults T.state (is_run words.now) source.old source.new sink.old sink.new table result.1 e) }
+    ensures session { ByStatus result.0 (λ e. Ends S.left S.faults K.held K.faults T.state (command_of words.now) source.old source.new sink.old sink.new table result.1 e) }
     // Neither the link nor the clock is asked for anything.
     ensures unasked { (_link.new ≡ _link.old) × (_clock.new ≡ _clock.old) }
-    ensures usage { (result.0 ≡ 2 → is_run words.now ≡ false) × (is_run words.now ≡ false → (result.0 ≡ 2) ⊎ (result.0 ≡ 4)) }
+    ensures usage { (result.0 ≡ 2 → command_of words.now ≡ None) × (command_of words.now ≡ None → (result.0 ≡ 2) ⊎ (result.0 ≡ 4) ⊎ (result.0 ≡ 1)) }
     ensures source_fault { result.0 ≡ 3 → Rose (S.faults source.old) (S.faults source.new) }
     ensures sink_fault { result.0 ≡ 4 → Rose (K.faults sink.old) (K.faults sink.new) }
     ensures open_fault { result.0 ≡ 8 → Rose (T.state table).faults (T.state result.1).faults }
-    ensures too_long { is_run words.now ≡ true → ByStatus result.0 (λ e. Told (S.left source.old) (S.left source.new) (λ b c. LongOn b c e)) }
+    ensures too_long { IsSome (command_of words.now) → ByStatus result.0 (λ e. Told (S.left source.old) (S.left source.new) (λ b c. LongOn b c e)) }
     // Only a source that is not refused is carried out whole, and only one that is refused is answered so.
-    ensures refused { is_run words.now ≡ true → ByStatus result.0 (λ e. SourceAsRead (S.left source.old) e) }
+    ensures refused { IsSome (command_of words.now) → ByStatus result.0 (λ e. SourceAsRead (S.left source.old) e) }
     // Where the words are right and neither the source nor the sink fails, a source that is not refused is carried out whole,
     // or the table failed as the host was opened, or memory ran out.
-    ensures complete { is_run words.now ≡ true → (Rose (S.faults source.old) (S.faults source.new) → ⊥) → (Rose (K.faults sink.old) (K.faults sink.new) → ⊥) → Told (S.left source.old) (S.left source.new) (λ b c. length b ≤ max_source → is_whole_source b (source_at b) ≡ true → (result.0 ≡ 0) ⊎ (result.0 ≡ 1) ⊎ (result.0 ≡ 8)) }
-    ensures unread { is_run words.now ≡ false → (source.new ≡ source.old) × (result.1 ≡ table) }
+    ensures complete { IsSome (command_of words.now) → (Rose (S.faults source.old) (S.faults source.new) → ⊥) → (Rose (K.faults sink.old) (K.faults sink.new) → ⊥) → Told (S.left source.old) (S.left source.new) (λ b c. length b ≤ max_source → is_whole_source b (source_at b) ≡ true → (result.0 ≡ 0) ⊎ (result.0 ≡ 1) ⊎ (result.0 ≡ 8)) }
+    ensures unread { command_of words.now ≡ None → (source.new ≡ source.old) × (result.1 ≡ table) }
+    // To test a source leaves the table as it was handed in.
+    ensures tested { command_of words.now ≡ Some commands.Check → result.1 ≡ table }
     ensures untouched { ByStatus result.0 (λ e. Untouched e (result.1 ≡ table) (Told (T.state table).rows (T.state result.1).rows (λ m n. n ≡ m)) (sink.new ≡ sink.old)) }
 {
     let (ended, table) = carry_out(alloc, words, source, sink, table);
@@ -76,21 +85,12 @@ fn carry_out<S: Source, K: Sink, T: Table>(
     sink: &mut K,
     table: T,
 ) -> (Ended, T)
-    ensures { HasEnded S.left S.faults K.held K.faults T.state (is_run words.now) source.old source.new sink.old sink.new table result.1 result.0 }
+    ensures { HasEnded S.left S.faults K.held K.faults T.state (command_of words.now) source.old source.new sink.old sink.new table result.1 result.0 }
 {
-    if is_run(words) {
-        run(alloc, source, sink, table)
-    } else {
-        (refuse_words(sink), table)
-    }
-}
-
-fn is_run(words: &[Str]) -> bool
-    ensures { result ≡ is_run words.now }
-{
-    match words {
-        [word] => word.as_str() == "run",
-        _ => false,
+    match read_command(alloc, words) {
+        Ok(Some(command)) => obey(alloc, command, source, sink, table),
+        Ok(None) => (refuse_words(sink), table),
+        Err(_) => (Ended::OutOfMemory, table),
     }
 }
 
@@ -111,17 +111,17 @@ fn status(ended: Ended) -> u8
 
 // The words are not those of a command.
 fn refuse_words<K: Sink>(sink: &mut K) -> Ended
-    ensures { UsageEnds K.held K.faults sink.old sink.new result }
+    ensures { TextEnds K.held K.faults usage ended.Usage sink.old sink.new result }
 {
-    match write_all(sink, b"usage: beldi run\n") {
+    match write_all(sink, b"usage: beldi run | check\n") {
         Ok(()) => Ended::Usage,
         Err(_) => Ended::SinkFault,
     }
 }
 
-// The source is refused before its script.
+// The source is refused, and nothing else said.
 fn refuse_source<K: Sink>(alloc: Global, sink: &mut K, refusal: &Refusal) -> Ended
-    ensures { RefusalEnds K.held K.faults refusal.now sink.old sink.new result }
+    ensures { TextEnds K.held K.faults (refusal_text refusal.now) ended.Refused sink.old sink.new result }
 {
     let mut text = Str::new(alloc);
     match write_refusal(alloc, refusal, &mut text) {
@@ -133,19 +133,58 @@ fn refuse_source<K: Sink>(alloc: Global, sink: &mut K, refusal: &Refusal) -> End
     }
 }
 
-fn run<S: Source, K: Sink, T: Table>(
+// Reads the source, and does with it what the command says.
+fn obey<S: Source, K: Sink, T: Table>(
     alloc: Global,
+    command: Command,
     source: &mut S,
     sink: &mut K,
     table: T,
 ) -> (Ended, T)
-    ensures { RunEnds S.left S.faults K.held K.faults T.state source.old source.new sink.old sink.new table result.1 result.0 }
+    ensures { CommandEnds S.left S.faults K.held K.faults T.state command source.old source.new sink.old sink.new table result.1 result.0 }
 {
     match read_all(alloc, source) {
-        Ok(bytes) => run_source(alloc, sink, table, bytes.as_slice()),
+        Ok(bytes) => do_with(alloc, command, sink, table, bytes.as_slice()),
         Err(ReadErr::OutOfMemory) => (Ended::OutOfMemory, table),
         Err(ReadErr::Failed) => (Ended::SourceFault, table),
         Err(ReadErr::TooLong) => (Ended::TooLong, table),
+    }
+}
+
+fn do_with<K: Sink, T: Table>(
+    alloc: Global,
+    command: Command,
+    sink: &mut K,
+    table: T,
+    bytes: &[u8],
+) -> (Ended, T)
+    requires { length bytes.now ≤ max_source }
+    ensures { DoneBy K.held K.faults T.state command bytes.now sink.old sink.new table result.1 result.0 }
+{
+    match command {
+        Command::Run => run_source(alloc, sink, table, bytes),
+        Command::Check => (test_source(alloc, sink, bytes), table),
+    }
+}
+
+// Tests a source that was read.
+fn test_source<K: Sink>(alloc: Global, sink: &mut K, bytes: &[u8]) -> Ended
+    requires { length bytes.now ≤ max_source }
+    ensures { CheckEnds K.held K.faults (check_at bytes.now) sink.old sink.new result }
+{
+    match check_source(alloc, bytes) {
+        Ok(text) => tell_tested(sink, &text),
+        Err(SourceErr::Refused(refusal)) => refuse_source(alloc, sink, &refusal),
+        Err(SourceErr::OutOfMemory) => Ended::OutOfMemory,
+    }
+}
+
+fn tell_tested<K: Sink>(sink: &mut K, text: &Str) -> Ended
+    ensures { TextEnds K.held K.faults text.now ended.Done sink.old sink.new result }
+{
+    match write_all(sink, text.as_bytes()) {
+        Ok(()) => Ended::Done,
+        Err(_) => Ended::SinkFault,
     }
 }
 
@@ -159,15 +198,6 @@ fn run_source<K: Sink, T: Table>(alloc: Global, sink: &mut K, table: T, bytes: &
         }
         Err(SourceErr::Refused(refusal)) => (refuse_source(alloc, sink, &refusal), table),
         Err(SourceErr::OutOfMemory) => (Ended::OutOfMemory, table),
-    }
-}
-
-fn script_at(bytes: &[u8], rest: usize) -> &[u8]
-    ensures { result.now ≡ drop rest bytes.now }
-{
-    match bytes.get(rest..) {
-        Some(script) => script,
-        None => &[],
     }
 }
 

@@ -1,5 +1,5 @@
 // What a source says: a deployment and the lines of a script, or why it is refused.
-ghost use Rattle.std.specs.Prelude.{◌≡◌};
+ghost use Rattle.std.specs.Prelude.{◌≡◌, drop};
 ghost use Rattle.beldi_program.specs.Source.{ReadsAs, accepted, accepted_of, is_built, refusal_at, refusal_in, said_at, source_at};
 ghost use Rattle.beldi_program.specs.declared.refusal.SourceErr.TheVariants.{Refused};
 
@@ -52,6 +52,16 @@ pub fn read_source(alloc: Global, bytes: &[u8]) -> Result<Accepted, SourceErr>
         Ok(parsed) => accept(alloc, parsed),
         Err(SyntaxErr::Refused { line, what }) => Err(refused(line, Cause::Syntax(what))),
         Err(SyntaxErr::OutOfMemory) => Err(SourceErr::OutOfMemory),
+    }
+}
+
+/// The script of a source, which begins there.
+pub fn script_at(bytes: &[u8], rest: usize) -> &[u8]
+    ensures { result.now ≡ drop rest bytes.now }
+{
+    match bytes.get(rest..) {
+        Some(script) => script,
+        None => &[],
     }
 }
 

@@ -30,3 +30,6 @@ returns-clause-unread g c = ends.unread_at c.carry_out-ended.ensures c.status.re
 
 pub returns-clause-untouched : goal.returns-clause-untouched
 returns-clause-untouched g c = ends.untouched_at c.carry_out-ended.ensures c.status.result c.status.ensures
+
+pub returns-clause-tested : goal.returns-clause-tested
+returns-clause-tested g c = ends.tested_at c.carry_out-ended.ensures c.status.result c.status.ensures

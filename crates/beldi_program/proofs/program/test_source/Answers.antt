@@ -1,0 +1,18 @@
+use Rattle.std.proofs.Common.{◌≡◌, ℕ, List, Err, Result, sym, subst}
+use Rattle.beldi_program.specs.declared.refusal.Refusal.{Refusal}
+use Rattle.beldi_program.specs.Check.{check_at}
+use Rattle.beldi_program.specs.Headline.{CheckEnds}
+use Rattle.beldi_program.proofs.Ends.{untold}
+use Rattle.beldi_program.proofs.program.test_source.Goals as goal
+
+pub returns-in-Ok : goal.returns-in-Ok
+returns-in-Ok g c = let k = g.K.Sink in subst (λ (o : Result (List ℕ) Refusal). CheckEnds k.held k.faults o c.args.sink.now c.tell_tested.new.sink c.tell_tested.result) (sym c.in-Ok.ensures) c.tell_tested.ensures
+
+pub returns-in-Err-Refused : goal.returns-in-Err-Refused
+returns-in-Err-Refused g c =
+    let k = g.K.Sink in
+    let refused : check_at c.args.bytes.now ≡ Err c.in-Err-Refused.refusal = rw c.in-Err-Refused.field-0-is at c.in-Err-Refused.ensures in
+    subst (λ (o : Result (List ℕ) Refusal). CheckEnds k.held k.faults o c.args.sink.now c.refuse_source.new.sink c.refuse_source.result) (sym refused) c.refuse_source.ensures
+
+pub returns-in-Err-OutOfMemory : goal.returns-in-Err-OutOfMemory
+returns-in-Err-OutOfMemory g c = let k = g.K.Sink in untold k.held k.faults (check_at c.args.bytes.now) c.args.sink.now
