@@ -6,6 +6,8 @@
 #[cfg(test)]
 mod calls;
 #[cfg(test)]
+mod gateway;
+#[cfg(test)]
 mod tests;
 
 use beldi_outside::{ClosedLink, MemClock, StdSink, StdSource};

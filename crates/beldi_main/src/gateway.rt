@@ -1,0 +1,404 @@
+// Requests as they come in, whole and a byte at a time, and what is written; the real link and the clock once.
+use beldi_gateway::{CallSaid, Desk, Served, TicketSaid, serve_one};
+use beldi_outside::{Link, MemLink, TcpLink, WallClock};
+use beldi_value::{Outcome, Value};
+use std::alloc::Global;
+use std::io::{Read, Write};
+use std::net::{Ipv4Addr, SocketAddr, TcpStream};
+use std::test::Fail;
+
+// A desk that has one function `f`, issues tickets in turn, and gives back what it is called with.
+#[derive(Drop)]
+struct EchoDesk {
+    asked: u32,
+}
+
+impl Desk for EchoDesk {
+    ghost use Rattle.std.specs.Prelude.{ℕ, List, Option, None, Some, codes, bytes_eq, if◌then◌else◌};
+
+    ghost funcs = { λ d name. if bytes_eq name (codes "f") then Some 0 else None };
+
+    ghost keeps = { λ d q x e. Unit {0} };
+
+    fn func(&self, name: &[u8]) -> Option<u16> {
+        if name == b"f".as_slice() {
+            Some(0)
+        } else {
+            None
+        }
+    }
+
+    fn ticket(&mut self) -> TicketSaid {
+        self.asked = self.asked.saturating_add(1);
+        TicketSaid::Issued(self.asked)
+    }
+
+    fn call(&mut self, _ticket: u32, _func: u16, args: Value) -> CallSaid {
+        self.asked = self.asked.saturating_add(1);
+        CallSaid::Reply(Outcome::Value(args))
+    }
+
+    fn reply(&mut self, ticket: u32) -> CallSaid {
+        self.asked = self.asked.saturating_add(1);
+        match ticket {
+            1 => CallSaid::Running,
+            2 => CallSaid::Other,
+            3 => CallSaid::Gone,
+            4 => CallSaid::Fault,
+            5 => CallSaid::NoMemory,
+            _ => CallSaid::Unknown,
+        }
+    }
+}
+
+// A request, the status of its response, the field `Allow`, and the body.
+type Case = (&'static [u8], u16, &'static str, &'static str);
+
+const CASES: [Case; 43] = [
+    (b"POST /tickets HTTP/1.1\r\n\r\n", 200, "", "{\"ticket\":1}"),
+    (
+        b"\r\n\nPOST /tickets?a=/ HTTP/1.0\nA: b\n\nmore",
+        200,
+        "",
+        "{\"ticket\":1}",
+    ),
+    (
+        b"POST /call/f/7 HTTP/1.1\r\n\r\n",
+        200,
+        "",
+        "{\"value\":null}",
+    ),
+    (
+        b"POST /call/f/7 HTTP/1.1\r\ncontent-length: 5\r\n\r\n[1,2]x",
+        200,
+        "",
+        "{\"value\":[1,2]}",
+    ),
+    (
+        b"POST /call/f/7 HTTP/1.1\r\nContent-Length: 0000000000000000001\r\n\r\n3",
+        200,
+        "",
+        "{\"value\":3}",
+    ),
+    (
+        b"POST /call/f/7 HTTP/1.1\r\nExpect: 100-continue\r\nContent-Length: 1\r\n\r\n3",
+        200,
+        "",
+        "{\"value\":3}",
+    ),
+    (
+        b"GET /reply/1 HTTP/1.1\r\n\r\n",
+        202,
+        "",
+        "{\"running\":true}",
+    ),
+    (
+        b"GET /reply/2 HTTP/1.1\r\n\r\n",
+        409,
+        "",
+        "{\"error\":\"other\"}",
+    ),
+    (
+        b"GET /reply/3 HTTP/1.1\r\n\r\n",
+        410,
+        "",
+        "{\"error\":\"gone\"}",
+    ),
+    (
+        b"GET /reply/4 HTTP/1.1\r\n\r\n",
+        503,
+        "",
+        "{\"error\":\"fault\"}",
+    ),
+    (
+        b"GET /reply/5 HTTP/1.1\r\n\r\n",
+        500,
+        "",
+        "{\"error\":\"memory\"}",
+    ),
+    (
+        b"GET /reply/4294967295 HTTP/1.1\r\n\r\n",
+        404,
+        "",
+        "{\"error\":\"ticket\"}",
+    ),
+    (
+        b"GET /reply/9 HTTP/1.1\r\nContent-Length: 3\r\n\r\nabc",
+        404,
+        "",
+        "{\"error\":\"ticket\"}",
+    ),
+    (b"\r", 400, "", "{\"error\":\"cut\"}"),
+    (b"\r\n\r\n\r\n", 400, "", "{\"error\":\"cut\"}"),
+    (
+        b"POST /tickets HTTP/1.1\r\n",
+        400,
+        "",
+        "{\"error\":\"cut\"}",
+    ),
+    (
+        b"POST /tickets HTTP/1.1\r\nA: b\r\n\r",
+        400,
+        "",
+        "{\"error\":\"cut\"}",
+    ),
+    (b"\x00\x01\n\n", 400, "", "{\"error\":\"head\"}"),
+    (b"\r\r\n\n", 400, "", "{\"error\":\"head\"}"),
+    (
+        b"POST /tickets HTTP/2.0\r\n\r\n",
+        400,
+        "",
+        "{\"error\":\"head\"}",
+    ),
+    (b"POST /tickets\r\n\r\n", 400, "", "{\"error\":\"head\"}"),
+    (
+        b"POST /tickets HTTP/1.1\r\nA b\r\n\r\n",
+        400,
+        "",
+        "{\"error\":\"head\"}",
+    ),
+    (
+        b"POST /tickets HTTP/1.1\r\nA: b\r\n c\r\n\r\n",
+        400,
+        "",
+        "{\"error\":\"head\"}",
+    ),
+    (b"GET / HTTP/1.1\r\n\r\n", 404, "", "{\"error\":\"path\"}"),
+    (
+        b"GET /tickets/ HTTP/1.1\r\n\r\n",
+        404,
+        "",
+        "{\"error\":\"path\"}",
+    ),
+    (
+        b"POST /call/f HTTP/1.1\r\n\r\n",
+        404,
+        "",
+        "{\"error\":\"path\"}",
+    ),
+    (
+        b"POST /call//1 HTTP/1.1\r\n\r\n",
+        404,
+        "",
+        "{\"error\":\"path\"}",
+    ),
+    (
+        b"POST /call/f/1/2 HTTP/1.1\r\n\r\n",
+        404,
+        "",
+        "{\"error\":\"path\"}",
+    ),
+    (
+        b"GET /reply/?1 HTTP/1.1\r\n\r\n",
+        404,
+        "",
+        "{\"error\":\"path\"}",
+    ),
+    (
+        b"GET /tickets HTTP/1.1\r\nTransfer-Encoding: a\r\n\r\n",
+        405,
+        "Allow: POST\r\n",
+        "{\"error\":\"method\"}",
+    ),
+    (
+        b"get /reply/1 HTTP/1.1\r\n\r\n",
+        405,
+        "Allow: GET\r\n",
+        "{\"error\":\"method\"}",
+    ),
+    (
+        b"POST /call/f/1 HTTP/1.1\r\nTRANSFER-ENCODING: chunked\r\nContent-Length: x\r\n\r\n0\r\n\r\n",
+        400,
+        "",
+        "{\"error\":\"coding\"}",
+    ),
+    (
+        b"POST /call/f/1 HTTP/1.1\r\nContent-Length: 1\r\nContent-Length: 1\r\n\r\n1",
+        400,
+        "",
+        "{\"error\":\"length\"}",
+    ),
+    (
+        b"POST /call/f/1 HTTP/1.1\r\nContent-Length: +1\r\n\r\n1",
+        400,
+        "",
+        "{\"error\":\"length\"}",
+    ),
+    (
+        b"POST /call/f/1 HTTP/1.1\r\nContent-Length:\r\n\r\n1",
+        400,
+        "",
+        "{\"error\":\"length\"}",
+    ),
+    (
+        b"POST /call/f/1 HTTP/1.1\r\nContent-Length: 00000000000000000001\r\n\r\n1",
+        400,
+        "",
+        "{\"error\":\"length\"}",
+    ),
+    (
+        b"POST /call/f/1 HTTP/1.1\r\nContent-Length: 9999999999999999999\r\n\r\n1",
+        413,
+        "",
+        "{\"error\":\"size\"}",
+    ),
+    (
+        b"POST /call/f/1 HTTP/1.1\r\nContent-Length: 65537\r\n\r\n",
+        413,
+        "",
+        "{\"error\":\"size\"}",
+    ),
+    (
+        b"POST /call/f/x HTTP/1.1\r\nContent-Length: 65536\r\n\r\n1",
+        400,
+        "",
+        "{\"error\":\"cut\"}",
+    ),
+    (
+        b"POST /call/g/01 HTTP/1.1\r\n\r\n",
+        404,
+        "",
+        "{\"error\":\"ticket\"}",
+    ),
+    (
+        b"POST /call/g/4294967296 HTTP/1.1\r\n\r\n",
+        404,
+        "",
+        "{\"error\":\"ticket\"}",
+    ),
+    (
+        b"POST /call/\xc3\xa9/1 HTTP/1.1\r\nContent-Length: 1\r\n\r\nx",
+        404,
+        "",
+        "{\"error\":\"function\"}",
+    ),
+    (
+        b"POST /call/f/1 HTTP/1.1\r\nContent-Length: 3\r\n\r\n1.5",
+        400,
+        "",
+        "{\"error\":\"value\"}",
+    ),
+];
+
+// What is served and written for one request whose bytes come in pieces of this length.
+fn serve(alloc: Global, request: Vec<u8>, piece: usize) -> Result<(Served, Vec<u8>), Fail> {
+    let mut connections = Vec::new(alloc);
+    connections.push(request)?;
+    let mut link = MemLink::with_piece(alloc, connections, Vec::new(alloc), piece);
+    let mut desk = EchoDesk { asked: 0 };
+    if link.accept().is_err() {
+        return Ok((Served::Fault, Vec::new(alloc)));
+    }
+    let served = serve_one(alloc, &mut desk, &mut link)?;
+    link.close();
+    match link.written(0) {
+        Some(bytes) => Ok((served, Vec::from_slice(alloc, bytes)?)),
+        None => Ok((Served::Fault, Vec::new(alloc))),
+    }
+}
+
+fn phrase(status: u16) -> &'static str {
+    match status {
+        200 => "OK",
+        202 => "Accepted",
+        400 => "Bad Request",
+        404 => "Not Found",
+        405 => "Method Not Allowed",
+        409 => "Conflict",
+        410 => "Gone",
+        413 => "Payload Too Large",
+        431 => "Request Header Fields Too Large",
+        500 => "Internal Server Error",
+        _ => "Service Unavailable",
+    }
+}
+
+fn is_answered(
+    alloc: Global,
+    request: Vec<u8>,
+    piece: usize,
+    wanted: (u16, &str, &str),
+) -> Result<bool, Fail> {
+    let (status, allow, body) = wanted;
+    let text = format!(in alloc;
+        "HTTP/1.1 {status} {}\r\nContent-Type: application/json\r\n{allow}Content-Length: {}\r\nConnection: close\r\n\r\n{body}",
+        phrase(status),
+        body.len()
+    )?;
+    let (served, written) = serve(alloc, request, piece)?;
+    Ok(served == Served::Status(status) && written.as_slice() == text.as_bytes())
+}
+
+#[test]
+fn requests_are_answered(rt: HostRuntime) -> Result<(), Fail> {
+    let alloc = rt.alloc();
+    for (request, status, allow, body) in &CASES {
+        for piece in [1, 4096] {
+            let request = Vec::from_slice(alloc, request)?;
+            assert!(rt; is_answered(alloc, request, piece, (*status, allow, body))?);
+        }
+    }
+    let (served, written) = serve(alloc, Vec::new(alloc), 1)?;
+    assert!(rt; served == Served::Silent && written.is_empty());
+    Ok(())
+}
+
+// A request for a path that begins with so many slashes more than one. With one field its head has 28 bytes beside them.
+fn long_head(alloc: Global, fields: usize, slashes: usize) -> Result<Vec<u8>, Fail> {
+    let mut head = Vec::from_slice(alloc, b"POST /")?;
+    for _ in 0..slashes {
+        head.push(b'/')?;
+    }
+    head.extend_from_slice(b"tickets HTTP/1.1\n")?;
+    for _ in 0..fields {
+        head.extend_from_slice(b"A:b\n")?;
+    }
+    head.push(b'\n')?;
+    Ok(head)
+}
+
+#[test]
+fn limits_are_kept(rt: HostRuntime) -> Result<(), Fail> {
+    let alloc = rt.alloc();
+    let ticket = (200, "", "{\"ticket\":1}");
+    let path = (404, "", "{\"error\":\"path\"}");
+    let size = (431, "", "{\"error\":\"head-size\"}");
+    assert!(rt; is_answered(alloc, long_head(alloc, 64, 0)?, 100, ticket)?);
+    assert!(rt; is_answered(alloc, long_head(alloc, 65, 0)?, 100, size)?);
+    assert!(rt; is_answered(alloc, long_head(alloc, 1, 16_356)?, 100, path)?);
+    assert!(rt; is_answered(alloc, long_head(alloc, 1, 16_357)?, 100, size)?);
+    let mut call = Vec::from_slice(alloc, b"POST /call/f/1 HTTP/1.1\nContent-Length: 65536\n\n")?;
+    for _ in 0..65_535 {
+        call.push(b' ')?;
+    }
+    call.push(b'7')?;
+    assert!(rt; is_answered(alloc, call, 4096, (200, "", "{\"value\":7}"))?);
+    Ok(())
+}
+
+#[test]
+fn the_real_link_takes_and_sends(rt: HostRuntime) -> Result<(), Fail> {
+    let mut link = TcpLink::new(&rt);
+    assert!(rt; link.accept().is_err());
+    assert!(rt; link.listen(47_113).is_ok());
+    let mut client = TcpStream::connect(&rt, SocketAddr::from((Ipv4Addr::LOCALHOST, 47_113)))?;
+    assert!(rt; link.accept().is_ok());
+    client.write_all(b"POST /tickets HTTP/1.1\r\n\r\n")?;
+    let mut desk = EchoDesk { asked: 0 };
+    let served = serve_one(rt.alloc(), &mut desk, &mut link)?;
+    assert!(rt; served == Served::Status(200));
+    link.close();
+    let mut piece = [0u8; 15];
+    client.read_exact(&mut piece)?;
+    assert!(rt; piece == *b"HTTP/1.1 200 OK");
+    Ok(())
+}
+
+#[test]
+fn the_wall_clock_goes_on(rt: HostRuntime) -> Result<(), Fail> {
+    use beldi_outside::Clock;
+    let mut clock = WallClock::new(&rt);
+    let first = clock.now();
+    assert!(rt; first <= clock.now());
+    Ok(())
+}
