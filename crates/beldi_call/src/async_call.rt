@@ -1,14 +1,13 @@
 // A call that nobody waits for: what is asked, and what follows; as parts, and as a walk.
 ghost use Rattle.std.specs.Prelude.{◌≡◌, ◌<◌, true, length, IfOk, OnErr};
 ghost use Rattle.beldi_walk.specs.Query.{told_of, lends};
-ghost use Rattle.beldi_walk.specs.Walk.{Turned};
-ghost use Rattle.beldi_call.specs.Async.{async_asks, async_says, async_next as next_of, callee_of, first_async, walk_asks, walk_next, walk_says};
+ghost use Rattle.beldi_call.specs.Async.{async_asks, async_says, async_next as next_of, callee_of, first_async};
 
 use beldi_intent::register_query;
 use beldi_invokelog::{Back, back_told, invoked_told, open_query, registered_query};
-use beldi_row::{Body, Table, TableErr};
+use beldi_row::Body;
 use beldi_value::{IntentId, Place};
-use beldi_walk::{Heard, Query, Walk, turn};
+use beldi_walk::{Heard, Query, Walk};
 use std::alloc::{AllocError, Global};
 use std::marker::Model;
 
@@ -133,7 +132,8 @@ pub fn async_next(at: AsyncAt, says: AsyncSays) -> AsyncAt
     }
 }
 
-/// A walk that puts the row of a callee, once, and then marks the call as registered.
+/// A walk that puts the row of a callee, once, and then marks the call as registered. After `Done` it stands where it stood. Where
+/// the call's row is no longer there to be marked, it says `Going` and stands.
 #[derive(Drop)]
 pub struct AsyncWalk {
     home: u16,
@@ -177,19 +177,5 @@ impl AsyncWalk {
             body,
             at: AsyncAt::Open,
         }
-    }
-
-    /// One act, at the moment `now`, in ticks. After `Done` the walk stands where it stood, and after an `Err` too, which leaves
-    /// the rows as before: `Full` comes exactly where a row would be put and there is no room for it, and `Failed` only where
-    /// the table failed. Where the call's row is no longer there to be marked, the walk says `Going` and stands.
-    pub fn turn<T: Table>(
-        &mut self,
-        alloc: Global,
-        table: &mut T,
-        now: u64,
-    ) -> Result<AsyncSays, TableErr>
-        ensures { Turned (walk_asks self.old) now (walk_next self.old) (walk_says self.old) self.old self.new (T.state table.old) (T.state table.new) result }
-    {
-        turn(alloc, self, table, now)
     }
 }

@@ -1,13 +1,11 @@
 // A call that waits for its result: what is asked of its row, and what follows; as parts, and as a walk.
 ghost use Rattle.std.specs.Prelude.{◌≡◌, true, IfOk, OnErr};
 ghost use Rattle.beldi_walk.specs.Query.{told_of, lends};
-ghost use Rattle.beldi_walk.specs.Walk.{Turned};
-ghost use Rattle.beldi_call.specs.Call.{call_asks, call_says, call_next as next_of, first_call, walk_asks, walk_next, walk_says};
+ghost use Rattle.beldi_call.specs.Call.{call_asks, call_says, call_next as next_of, first_call};
 
 use beldi_invokelog::{invoked_told, open_query, result_query, result_told};
-use beldi_row::{Table, TableErr};
 use beldi_value::{Outcome, Place};
-use beldi_walk::{Heard, Query, Walk, turn};
+use beldi_walk::{Heard, Query, Walk};
 use std::alloc::{AllocError, Global};
 
 /// Where a call stands.
@@ -75,7 +73,8 @@ pub fn call_next(at: CallAt, says: &CallSays) -> CallAt
     }
 }
 
-/// A walk to the result of a call: however many walks there are at a place, the call is put once, and so is its result.
+/// A walk to the result of a call: however many walks there are at a place, the call is put once, and so is its result. After
+/// `NotYet` and `Done` it stands where it stood.
 #[derive(Drop)]
 pub struct CallWalk {
     home: u16,
@@ -117,19 +116,5 @@ impl CallWalk {
             func,
             at: CallAt::Open,
         }
-    }
-
-    /// One act, at the moment `now`, in ticks. After `NotYet` and `Done` the walk stands where it stood, and after an `Err` too,
-    /// which leaves the rows as before: `Full` comes exactly where the call would be put and there is no room for it, and
-    /// `Failed` only where the table failed.
-    pub fn turn<T: Table>(
-        &mut self,
-        alloc: Global,
-        table: &mut T,
-        now: u64,
-    ) -> Result<CallSays, TableErr>
-        ensures { Turned (walk_asks self.old) now (walk_next self.old) (walk_says self.old) self.old self.new (T.state table.old) (T.state table.new) result }
-    {
-        turn(alloc, self, table, now)
     }
 }

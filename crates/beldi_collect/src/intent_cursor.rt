@@ -7,7 +7,7 @@ ghost use Rattle.beldi_collect.specs.Cursor.{first_cursor, cursor_asks, cursor_n
 use crate::cursor::{collect_query, open_intent, passing};
 use beldi_row::{Body, RowKey, Table, TableErr};
 use beldi_value::IntentId;
-use beldi_walk::{Heard, Query, Walk, turn};
+use beldi_walk::{Heard, Query, Walk};
 use std::alloc::{AllocError, Global};
 
 /// What a turn of the intent collector says.
@@ -81,7 +81,7 @@ impl IntentCursor {
     pub fn turn<T: Table>(&mut self, alloc: Global, table: &mut T) -> Result<IcSays, TableErr>
         ensures { Turned (cursor_asks self.old) 0 (cursor_next self.old) (cursor_says self.old) self.old self.new (T.state table.old) (T.state table.new) result }
     {
-        turn(alloc, self, table, 0)
+        Walk::turn(self, alloc, table, 0)
     }
 
     /// Sets the walk after the row that its last turn stopped at: it answered `Unended`.

@@ -1,13 +1,12 @@
 // The walk of a read, as a call of its own: one Look a turn.
 ghost use Rattle.std.specs.Prelude.{◌≡◌};
-ghost use Rattle.beldi_walk.specs.Walk.{Turned};
-ghost use Rattle.beldi_daal.specs.ReadWalk.{first_read, read_asks, read_next, read_says};
+ghost use Rattle.beldi_daal.specs.ReadWalk.{first_read};
 
 use crate::cell::{ReadGoes, read_told};
 use crate::walk::Item;
-use beldi_row::{Act, Table, TableErr};
+use beldi_row::Act;
 use beldi_value::{Owner, Value};
-use beldi_walk::{Heard, Query, Walk, turn};
+use beldi_walk::{Heard, Query, Walk};
 use std::alloc::{AllocError, Global};
 
 /// What a turn of a walk of a read says.
@@ -21,7 +20,7 @@ pub enum ReadSays {
     Held(Owner),
 }
 
-/// A walk to the value of an item.
+/// A walk to the value of an item. It makes one Look a turn, leaves the rows as they are, and stands where it stood.
 #[derive(Drop)]
 pub struct ReadWalk {
     home: u16,
@@ -59,18 +58,5 @@ impl ReadWalk {
         ensures { result ≡ first_read home item who }
     {
         ReadWalk { home, item, who }
-    }
-
-    /// One Look, at the moment `now`, in ticks: the rows are as before, and the walk stands where it stood. `Failed` comes
-    /// only where the table failed, and `Full` never.
-    pub fn turn<T: Table>(
-        &mut self,
-        alloc: Global,
-        table: &mut T,
-        now: u64,
-    ) -> Result<ReadSays, TableErr>
-        ensures { Turned (read_asks self.old) now (read_next self.old) (read_says self.old) self.old self.new (T.state table.old) (T.state table.new) result }
-    {
-        turn(alloc, self, table, now)
     }
 }

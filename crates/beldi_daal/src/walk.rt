@@ -1,12 +1,11 @@
 // The walk of a write, as a call of its own: one act a turn.
 ghost use Rattle.std.specs.Prelude.{◌≡◌, IfOk};
-ghost use Rattle.beldi_walk.specs.Walk.{Turned};
-ghost use Rattle.beldi_daal.specs.Walk.{first_walk, first_key, walk_asks, walk_next, walk_says};
+ghost use Rattle.beldi_daal.specs.Walk.{first_walk, first_key};
 
 use crate::cell::{CellOp, WriteAt, WriteGoes, cell_key, write_query, write_told};
-use beldi_row::{Note, RowKey, Table, TableErr, copy_owner};
+use beldi_row::{Note, RowKey, copy_owner};
 use beldi_value::{Owner, Place, Str};
-use beldi_walk::{Heard, Query, Walk, turn};
+use beldi_walk::{Heard, Query, Walk};
 use std::alloc::{AllocError, Global};
 
 /// What a walk is on.
@@ -43,7 +42,7 @@ pub enum WriteSays {
     Worn,
 }
 
-/// A walk that makes one entry at a place, however many walks there are for it.
+/// A walk that makes one entry at a place, however many walks there are for it. Unless it says `Going` it stands where it stood.
 #[derive(Drop)]
 pub struct WriteWalk {
     home: u16,
@@ -98,19 +97,5 @@ impl WriteWalk {
             op,
             at: WriteAt::Try,
         }
-    }
-
-    /// One act, at the moment `now`, in ticks. Unless it says `Going`, the walk stands where it stood. After an `Err` the
-    /// rows are as before: `Full` comes exactly where the act would add a row and there is no room for it, and `Failed`
-    /// only where the table failed.
-    pub fn turn<T: Table>(
-        &mut self,
-        alloc: Global,
-        table: &mut T,
-        now: u64,
-    ) -> Result<WriteSays, TableErr>
-        ensures { Turned (walk_asks self.old) now (walk_next self.old) (walk_says self.old) self.old self.new (T.state table.old) (T.state table.new) result }
-    {
-        turn(alloc, self, table, now)
     }
 }

@@ -1,12 +1,11 @@
 // The walk of a lock: one act a turn.
 ghost use Rattle.std.specs.Prelude.{◌≡◌};
-ghost use Rattle.beldi_walk.specs.Walk.{Turned};
-ghost use Rattle.beldi_lock.specs.Lock.{first_lock, note_so, lock_asks, lock_next, lock_says};
+ghost use Rattle.beldi_lock.specs.Lock.{first_lock, note_so};
 
 use beldi_daal::{CellOp, WriteAt, WriteGoes, cell_key, write_query, write_told};
-use beldi_row::{Note, Table, TableErr, copy_owner};
+use beldi_row::{Note, copy_owner};
 use beldi_value::{IntentId, Owner, Place, Str};
-use beldi_walk::{Heard, Query, Walk, turn};
+use beldi_walk::{Heard, Query, Walk};
 use std::alloc::{AllocError, Global};
 
 /// What a turn of the walk of a lock says.
@@ -24,7 +23,8 @@ pub enum LockSays {
     Worn,
 }
 
-/// A walk that takes the lock of an item once for a place, however many walks there are for it.
+/// A walk that takes the lock of an item once for a place, however many walks there are for it. Unless it says `Going` it stands
+/// where it stood.
 #[derive(Drop)]
 pub struct LockWalk {
     home: u16,
@@ -90,19 +90,5 @@ impl LockWalk {
             who,
             at: WriteAt::Try,
         }
-    }
-
-    /// One act, at the moment `now`, in ticks. Unless it says `Going`, the walk stands where it stood. After an `Err` the
-    /// rows are as before: `Full` comes exactly where the act would add a row and there is no room for it, and `Failed`
-    /// only where the table failed.
-    pub fn turn<T: Table>(
-        &mut self,
-        alloc: Global,
-        table: &mut T,
-        now: u64,
-    ) -> Result<LockSays, TableErr>
-        ensures { Turned (lock_asks self.old) now (lock_next self.old) (lock_says self.old) self.old self.new (T.state table.old) (T.state table.new) result }
-    {
-        turn(alloc, self, table, now)
     }
 }

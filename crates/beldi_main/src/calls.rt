@@ -19,6 +19,7 @@ use beldi_step::Event;
 use beldi_syntax::read_deployment;
 use beldi_table::MapTable;
 use beldi_value::{IntentId, Outcome, Owner, Place, Rel, Str, Value, older, read_int};
+use beldi_walk::Walk;
 use std::alloc::Global;
 use std::test::Fail;
 

@@ -6,7 +6,7 @@ ghost use Rattle.beldi_readlog.specs.ReadLog.{log_key as key_of, given_asks, giv
 
 use beldi_row::{Act, Kind, Row, RowKey, Said, Table, TableErr};
 use beldi_value::{Place, Value};
-use beldi_walk::{Heard, Query, Walk, turn};
+use beldi_walk::{Heard, Query, Walk};
 use std::alloc::{AllocError, Global};
 
 /// What a place has after a value was put there.
@@ -104,7 +104,7 @@ pub fn get<T: Table>(
         return Err(TableErr::OutOfMemory);
     };
     let mut look = Given { home, at };
-    turn(alloc, &mut look, table, now)
+    look.turn(alloc, table, now)
 }
 
 // Keeps a value at a place, once: it says the value that was there, None where this one was put.
@@ -173,7 +173,7 @@ pub fn put_once<T: Table>(
         return Err(TableErr::OutOfMemory);
     };
     let mut keep = Keep { home, at, value };
-    match turn(alloc, &mut keep, table, now) {
+    match keep.turn(alloc, table, now) {
         Ok(there) => Ok(kept_now(copy, there)),
         Err(why) => Err(why),
     }

@@ -4,7 +4,7 @@
 //! `proofs/Promises`, `proofs/Lent` and `proofs/Looks` have lemmas that the crates above cite.
 //!
 //! Proved:
-//! - `turn` asks a table what the walk asks, in at most one call, and moves the walk by what the table told; at an error the
+//! - `Walk::turn` asks a table what the walk asks, in at most one call, and moves the walk by what the table told; at an error the
 //!   walk stands where it stood. The error is the table's, or out of memory: before the call, or for what was lent (`Turned`).
 //! - Laws: an act that lends what lies in the row has left the row as it was (`what_is_lent_stands`); so after an error of a
 //!   turn the rows are as before, for every walk (`an_error_leaves_the_rows`).
@@ -16,4 +16,4 @@ mod walk;
 
 pub use laws::{an_error_leaves_the_rows, what_is_lent_stands};
 pub use query::{Heard, Query};
-pub use walk::{Walk, turn};
+pub use walk::Walk;

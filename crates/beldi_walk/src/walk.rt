@@ -1,14 +1,14 @@
-// A walk asks one thing a turn, and is told what it came to; one function makes a turn of it over any table.
-ghost use Rattle.std.specs.Prelude.{◌≡◌, true, Ok, IfOk, OnErr};
+// A walk asks one thing a turn, and is told what it came to; a turn of it is made over any table.
+ghost use Rattle.std.specs.Prelude.{◌≡◌, true, IfOk, OnErr};
 ghost use Rattle.beldi_walk.specs.Query.{Told, told_of, lends};
-ghost use Rattle.beldi_walk.specs.Walk.{Heeds, Turned};
+ghost use Rattle.beldi_walk.specs.Walk.{Turned};
 ghost use Rattle.beldi_walk.specs.declared.query.Query as query_data;
 
 use crate::query::{Heard, Query};
 use beldi_row::{Table, TableErr};
 use std::alloc::{AllocError, Global};
 
-/// A machine that asks one thing a turn. It never touches a table.
+/// A machine that asks one thing a turn. It touches no table but in `turn`, which is the same for all.
 pub trait Walk {
     /// What it says of a turn.
     type Says;
@@ -30,42 +30,38 @@ pub trait Walk {
     fn told(&mut self, alloc: Global, heard: Heard<'_>) -> Result<Self::Says, AllocError>
         ensures ok { IfOk result (λ s. (self.new ≡ next self.old (told_of heard.entry)) × (s ≡ says self.old (told_of heard.entry))) }
         ensures err { OnErr result ((self.new ≡ self.old) × (lends (told_of heard.entry) ≡ true)) };
-}
 
-// What a walk is told; it takes memory only for what was lent.
-fn hear<W: Walk>(alloc: Global, walk: &mut W, heard: Heard<'_>) -> Result<W::Says, TableErr>
-    ensures { Heeds (W.next walk.old) (W.says walk.old) walk.old walk.new result (Ok (told_of heard.entry)) }
-{
-    match walk.told(alloc, heard) {
-        Ok(says) => Ok(says),
-        Err(_) => Err(TableErr::OutOfMemory),
-    }
-}
-
-/// One turn of a walk, at the moment `now`, in ticks. It makes one call of the table, or none where it is out of memory before.
-/// After an `Err` the walk stands where it stood, and the rows are as before, since what is lent was left as it was
-/// (`what_is_lent_stands`). `Failed` comes only where the table failed, and `Full` exactly where the query adds a row and the
-/// table has no room for it.
-pub fn turn<W: Walk, T: Table>(
-    alloc: Global,
-    walk: &mut W,
-    table: &mut T,
-    now: u64,
-) -> Result<W::Says, TableErr>
-    ensures { Turned (W.asks walk.old) now (W.next walk.old) (W.says walk.old) walk.old walk.new (T.state table.old) (T.state table.new) result }
-{
-    let query = match walk.ask(alloc) {
-        Ok(query) => query,
-        Err(_) => return Err(TableErr::OutOfMemory),
-    };
-    match query {
-        Query::Act(key, act) => match table.act(key, act, now) {
-            Ok(said) => hear(alloc, walk, Heard::Said(said)),
-            Err(why) => Err(why),
-        },
-        Query::After(key) => match table.next(&key) {
-            Ok(found) => hear(alloc, walk, Heard::Found(found)),
-            Err(why) => Err(why),
-        },
+    /// One turn, at the moment `now`, in ticks. It makes one call of the table, or none where it is out of memory before.
+    /// After an `Err` the walk stands where it stood, and the rows are as before, since what is lent was left as it was
+    /// (`what_is_lent_stands`). `Failed` comes only where the table failed, and `Full` exactly where the query adds a row and the
+    /// table has no room for it.
+    fn turn<T: Table>(
+        &mut self,
+        alloc: Global,
+        table: &mut T,
+        now: u64,
+    ) -> Result<Self::Says, TableErr>
+        ensures { Turned (asks self.old) now (next self.old) (says self.old) self.old self.new (T.state table.old) (T.state table.new) result }
+    {
+        let query = match self.ask(alloc) {
+            Ok(query) => query,
+            Err(_) => return Err(TableErr::OutOfMemory),
+        };
+        match query {
+            Query::Act(key, act) => match table.act(key, act, now) {
+                Ok(said) => match self.told(alloc, Heard::Said(said)) {
+                    Ok(says) => Ok(says),
+                    Err(_) => Err(TableErr::OutOfMemory),
+                },
+                Err(why) => Err(why),
+            },
+            Query::After(key) => match table.next(&key) {
+                Ok(found) => match self.told(alloc, Heard::Found(found)) {
+                    Ok(says) => Ok(says),
+                    Err(_) => Err(TableErr::OutOfMemory),
+                },
+                Err(why) => Err(why),
+            },
+        }
     }
 }
