@@ -14,5 +14,6 @@ pub mod Parts
 pub mod Passes
 pub mod Reading
 pub mod Same
+pub mod Spare
 pub mod Text
 pub mod Value
