@@ -1,11 +1,16 @@
 -- A chain is a logged cell.
 use Rattle.std.proofs.Common.{◌≡◌, ℕ, Bool, true, false, cond, if◌then◌else◌, Option, None, Some, Ok, Err, refl, ap, sym, ◌∙◌, subst}
 use Rattle.std.specs.FinMap as map
+use Rattle.beldi_value.specs.declared.id.IntentId.{IntentId}
 use Rattle.beldi_value.specs.declared.place.Owner.{Owner}
+use Rattle.beldi_value.specs.declared.place.Owner.TheVariants as owner
+use Rattle.beldi_value.specs.Id.{age_of, is_older}
 use Rattle.beldi_value.specs.declared.place.Place.{Place}
+use Rattle.beldi_value.specs.declared.place.TxId.{TxId}
 use Rattle.beldi_value.specs.Passes.{passes}
 use Rattle.beldi_value.specs.declared.value.Value.TheVariants.{Null}
 use Rattle.beldi_row.specs.declared.notes.Note.{Note}
+use Rattle.beldi_row.specs.declared.notes.Note.TheVariants.{Died}
 use Rattle.beldi_row.specs.declared.row.Cell.{Cell}
 use Rattle.beldi_row.specs.declared.row.Row.{Row}
 use Rattle.beldi_row.specs.declared.row.Row.TheVariants as rows
@@ -13,7 +18,7 @@ use Rattle.beldi_row.specs.declared.act.Act.{Act}
 use Rattle.beldi_row.specs.declared.act.Act.TheVariants.{Look, MakeCell}
 use Rattle.beldi_row.specs.declared.table.TableErr.{TableErr}
 use Rattle.beldi_row.specs.declared.table.TableErr.TheVariants.{OutOfMemory, Failed, Full}
-use Rattle.beldi_row.specs.Act.{Tell, act, did, not_owner, tested, other_owner, owns, noted_or, next_or, held_or, at_tail, unless_held, if_owned, entered}
+use Rattle.beldi_row.specs.Act.{Tell, act, did, held, died, not_owner, tested, other_owner, owns, noted_or, next_or, held_or, owned_or, at_tail, unless_held, if_owned, entered}
 use Rattle.beldi_row.specs.Log.{note_at}
 use Rattle.beldi_row.specs.Table.{Rows, after_act}
 use Rattle.beldi_row.proofs.Gets.{got, key_self}
@@ -31,7 +36,7 @@ use Rattle.beldi_daal.specs.declared.read_walk.ReadSays.{ReadSays}
 use Rattle.beldi_daal.specs.declared.read_walk.ReadWalk.{ReadWalk}
 use Rattle.beldi_daal.specs.Cell.{op_act, done_note, write_asks, write_goes, cell_goes, got_or_held, in_the_way}
 use Rattle.beldi_daal.specs.Content.{content_in, SoundAt}
-use Rattle.beldi_daal.specs.Logged.{note_after, value_after, owner_after, held_by, unless_owned, barred, done_to, Logs, LoggedTurn, WritesAreLogged, ReadsContent, ReadTurn, ReadsAreContents}
+use Rattle.beldi_daal.specs.Logged.{note_after, value_after, owner_after, waited, died_of, dies, held_by, unless_owned, barred, done_to, died_at, DidAs, Logs, LoggedTurn, WritesAreLogged, ReadsContent, ReadTurn, ReadsAreContents}
 use Rattle.beldi_daal.specs.ReadWalk.{read_key, read_asks, read_says, read_so}
 use Rattle.beldi_daal.specs.Walk.{walk_key, walk_asks, walk_says, walk_so}
 
@@ -52,6 +57,10 @@ module _ (p : Place) (who : Owner) (op : CellOp) where
     by_note None z none h = by_next c.next z refl (h none)
     by_note (Some n) z some h = ((some, refl), sound)
 
+    -- who asks does not die
+    abbrev Alive : Type 0
+    Alive = dies who op c.owner ≡ None
+
     -- another owner bars it ..
     by_other : (o : Option Owner) (z : Cell × Tell) → other_owner who c.owner ≡ o → barred op who c.owner ≡ held_by o → note_at c.log p ≡ None → (barred op who c.owner ≡ None → OnCell z) → OnCell (held_or c o z)
     by_other None z is bar none h = h bar
@@ -69,30 +78,68 @@ module _ (p : Place) (who : Owner) (op : CellOp) where
     abbrev IsDone : Tell → Type 0
     IsDone t = write_goes (done_note op) (said t) ≡ writes.Done (note_after op c.value) true
 
-    done : (t : Tell) → IsDone t → note_at c.log p ≡ None → barred op who c.owner ≡ None → OnCell (entry t)
-    done t goes none free = (
-      subst (λ g. Logs p who op (walk_so g) (content_in (Some (rows.Cell c))) (done_to p who op (content_in (Some (rows.Cell c))))) (sym goes) (note_here c.log p (note_after op c.value) none, (none, free, refl)),
+    done : (t : Tell) → IsDone t → Alive → note_at c.log p ≡ None → barred op who c.owner ≡ None → OnCell (entry t)
+    done t goes alive none free = (
+      subst (λ g. Logs p who op (walk_so g) (content_in (Some (rows.Cell c))) (done_to p who op (content_in (Some (rows.Cell c))))) (sym goes)
+          (note_here c.log p (note_after op c.value) none, (none, subst (λ a. DidAs p who op a (content_in (Some (rows.Cell c))) (done_to p who op (content_in (Some (rows.Cell c))))) (sym alive) (free, refl))),
       (sound.0, once_pushed c.log p (note_after op c.value) none sound.1, sound.2, sound.3),
     )
 
-    unheld : (t : Tell) → IsDone t → barred op who c.owner ≡ held_by (other_owner who c.owner) → OnCell (at_tail p c (unless_held who c (entry t)))
-    unheld t goes bar = by_note (note_at c.log p) (unless_held who c (entry t)) refl (λ none. by_other (other_owner who c.owner) (entry t) refl bar none (done t goes none))
+    -- it died: the death is noted
+    dead : (a : IntentId) → dies who op c.owner ≡ Some a → note_at c.log p ≡ None → OnCell (entered p (Died a) c.value c.owner c, died a)
+    dead a is none = (
+      (note_here c.log p (Died a) none, (none, subst (λ z. DidAs p who op z (content_in (Some (rows.Cell c))) (died_at p a (content_in (Some (rows.Cell c))))) (sym is) refl)),
+      (sound.0, once_pushed c.log p (Died a) none sound.1, sound.2, sound.3),
+    )
 
-    owned : (t : Tell) → IsDone t → barred op who c.owner ≡ unless_owned (owns who c.owner) → OnCell (at_tail p c (if_owned who c (entry t)))
-    owned t goes bar = by_note (note_at c.log p) (if_owned who c (entry t)) refl (λ none. by_own (owns who c.owner) (entry t) refl bar none (done t goes none))
+    unheld : (t : Tell) → IsDone t → Alive → barred op who c.owner ≡ held_by (other_owner who c.owner) → OnCell (at_tail p c (unless_held who c (entry t)))
+    unheld t goes alive bar = by_note (note_at c.log p) (unless_held who c (entry t)) refl (λ none. by_other (other_owner who c.owner) (entry t) refl bar none (done t goes alive none))
+
+    owned : (t : Tell) → IsDone t → Alive → barred op who c.owner ≡ unless_owned (owns who c.owner) → OnCell (at_tail p c (if_owned who c (entry t)))
+    owned t goes alive bar = by_note (note_at c.log p) (if_owned who c (entry t)) refl (λ none. by_own (owns who c.owner) (entry t) refl bar none (done t goes alive none))
 
   made : (now : ℕ) (r : Option Row) → SoundAt r → Fits p who op r (act (MakeCell Null None) now r)
   made now None h = (refl, (refl, tt, refl, refl))
   made now (Some (rows.Cell c)) h = (refl, h)
   made now (Some r) h = absurd h
 
+-- a lock, by who asks and by the other owner
+module _ (p : Place) (c : Cell) (sound : SoundAt (Some (rows.Cell c))) (none : note_at c.log p ≡ None) where
+  abbrev AtLock : Owner → Cell × Tell → Type 0
+  AtLock who z = OnCell p who Lock c sound z
+
+  by_intent : (a : IntentId) (o : Option Owner) → other_owner (owner.Intent a) c.owner ≡ o → AtLock (owner.Intent a) (owned_or p (owner.Intent a) c o (entry p (owner.Intent a) Lock c sound did))
+  by_intent a None is = done p (owner.Intent a) Lock c sound did refl refl none (ap held_by is)
+  by_intent a (Some o) is = ((none, ap held_by is, refl), sound)
+
+  by_age : (t : TxId) (o : Owner) (b : Bool) → is_older t.intent (age_of o) ≡ b → other_owner (owner.Tx t) c.owner ≡ Some o
+      → AtLock (owner.Tx t) (if b then (c, held o) else (entered p (Died (age_of o)) c.value c.owner c, died (age_of o)))
+  by_age t o true older is = ((none, ap (λ x. held_by (waited (owner.Tx t) x)) is ∙ ap (λ x. held_by (if x then Some o else None)) older, refl), sound)
+  by_age t o false older is = dead p (owner.Tx t) Lock c sound (age_of o) (ap (died_of (owner.Tx t)) is ∙ ap (λ x. if x then None else Some (age_of o)) older) none
+
+  by_tx : (t : TxId) (o : Option Owner) → other_owner (owner.Tx t) c.owner ≡ o → AtLock (owner.Tx t) (owned_or p (owner.Tx t) c o (entry p (owner.Tx t) Lock c sound did))
+  by_tx t None is = done p (owner.Tx t) Lock c sound did refl (ap (died_of (owner.Tx t)) is) none (ap (λ x. held_by (waited (owner.Tx t) x)) is)
+  by_tx t (Some o) is = by_age t o (is_older t.intent (age_of o)) refl is
+
+  by_who : (who : Owner) → AtLock who (owned_or p who c (other_owner who c.owner) (entry p who Lock c sound did))
+  by_who (owner.Intent a) = by_intent a (other_owner (owner.Intent a) c.owner) refl
+  by_who (owner.Tx t) = by_tx t (other_owner (owner.Tx t) c.owner) refl
+
 -- each operation on a cell, and where no row is
 module _ (p : Place) (who : Owner) (now : ℕ) where
+  -- none but a lock dies
+  alive : (who : Owner) (op : CellOp) (o : Option Owner) → (op ≡ Lock → ⊥) → dies who op o ≡ None
+  alive (owner.Intent a) op o h = refl
+  alive (owner.Tx t) Lock o h = absurd (h refl)
+  alive (owner.Tx t) (Write v) o h = refl
+  alive (owner.Tx t) (Cond r u v) o h = refl
+  alive (owner.Tx t) (Free v) o h = refl
+
   on_cell : (op : CellOp) (c : Cell) → SoundAt (Some (rows.Cell c)) → Fits p who op (Some (rows.Cell c)) (act (op_act p who op) now (Some (rows.Cell c)))
-  on_cell (Write v) c h = unheld p who (Write v) c h did refl refl
-  on_cell (Cond r o v) c h = unheld p who (Cond r o v) c h (tested (passes c.value r o)) refl refl
-  on_cell Lock c h = unheld p who Lock c h did refl refl
-  on_cell (Free v) c h = owned p who (Free v) c h did refl refl
+  on_cell (Write v) c h = unheld p who (Write v) c h did refl (alive who (Write v) c.owner (λ e. cc)) refl
+  on_cell (Cond r o v) c h = unheld p who (Cond r o v) c h (tested (passes c.value r o)) refl (alive who (Cond r o v) c.owner (λ e. cc)) refl
+  on_cell Lock c h = by_note p who Lock c h (note_at c.log p) (owned_or p who c (other_owner who c.owner) (entry p who Lock c h did)) refl (λ none. by_who p c h none who)
+  on_cell (Free v) c h = owned p who (Free v) c h did refl (alive who (Free v) c.owner (λ e. cc)) refl
 
   on_none : (op : CellOp) → Fits p who op None (act (op_act p who op) now None)
   on_none (Write v) = (refl, tt)

@@ -1,19 +1,20 @@
 -- No act takes away the note of a place.
 use Rattle.std.proofs.Common.{◌≡◌, ℕ, Bool, true, false, List, [], ◌∷◌, ◌++◌, Option, None, Some, if◌then◌else◌}
+use Rattle.beldi_value.specs.Id.{age_of}
 use Rattle.beldi_value.specs.Passes.{passes}
 use Rattle.beldi_value.specs.declared.place.Owner.{Owner}
 use Rattle.beldi_value.specs.declared.place.Place.{Place}
 use Rattle.beldi_value.specs.declared.value.Value.{Value}
 use Rattle.beldi_row.specs.declared.act.Act.{Act}
-use Rattle.beldi_row.specs.declared.act.Act.TheVariants.{Look, Issue, Bind, Register, End, PutRead, OpenInvoke, CallBack, NoteRegistered, MakeCell, WriteCell, CondCell, LockCell, FreeCell}
+use Rattle.beldi_row.specs.declared.act.Act.TheVariants.{Look, Issue, Bind, Register, End, PutRead, OpenInvoke, CallBack, NoteRegistered, PutLockset, MakeCell, WriteCell, CondCell, LockCell, FreeCell}
 use Rattle.beldi_row.specs.declared.notes.Note.{Note}
-use Rattle.beldi_row.specs.declared.notes.Note.TheVariants.{Wrote, Cond, Got, Freed}
+use Rattle.beldi_row.specs.declared.notes.Note.TheVariants.{Wrote, Cond, Got, Died, Freed}
 use Rattle.beldi_row.specs.declared.row.Cell.{Cell}
 use Rattle.beldi_row.specs.declared.row.IntentRow.{IntentRow}
 use Rattle.beldi_row.specs.declared.row.InvokeRow.{InvokeRow}
 use Rattle.beldi_row.specs.declared.row.Row.{Row}
 use Rattle.beldi_row.specs.declared.row.Row.TheVariants as rows
-use Rattle.beldi_row.specs.Act.{Tell, gone, did, no_row, tested, not_owner, on, on_intent, on_invoke, on_cell, bind_to, end_with, call_back_to, register_to, noted_or, next_or, held_or, at_tail, unless_held, if_owned, owns, given_or, other_owner, entered, write_at, cond_at, lock_at, free_at}
+use Rattle.beldi_row.specs.Act.{Tell, gone, did, held, died, no_row, tested, not_owner, on, on_intent, on_invoke, on_cell, bind_to, end_with, call_back_to, register_to, noted_or, next_or, held_or, waits_for, owned_or, at_tail, unless_held, if_owned, owns, given_or, other_owner, entered, write_at, cond_at, lock_at, free_at}
 use Rattle.beldi_row.specs.Log.{note_at, place_eq}
 use Rattle.beldi_daal.specs.Content.{content_in}
 use Rattle.beldi_daal.specs.Logged.{NotesStay}
@@ -54,6 +55,20 @@ module _ (c : Cell) where
   unheld : (p : Place) (w : Owner) (m : Note) (v : Value) (o : Option Owner) (t : Tell) → Keeps (at_tail p c (unless_held w c (entered p m v o c, t)))
   unheld p w m v o t = last p (unless_held w c (entered p m v o c, t)) (by_other (other_owner w c.owner) (entered p m v o c, t) (front_note c.log ((p, m) ∷ [])))
 
+  -- .. and so is a death
+  by_age : (b : Bool) (o : Owner) (z : Cell × Tell) → Keeps z → Keeps (if b then (c, held o) else z)
+  by_age true o z h = λ p n is. is
+  by_age false o z h = h
+
+  dies : (p : Place) (w : Owner) (o : Option Owner) (z : Cell × Tell) → Keeps z → Keeps (owned_or p w c o z)
+  dies p w None z h = h
+  dies p w (Some o) z h = by_age (waits_for w o) o (entered p (Died (age_of o)) c.value c.owner c, died (age_of o)) (front_note c.log ((p, Died (age_of o)) ∷ []))
+
+  locked : (p : Place) (w : Owner) → Keeps (lock_at p w c)
+  locked p w =
+      let z : Cell × Tell = (entered p Got c.value (Some w) c, did) in
+      last p (owned_or p w c (other_owner w c.owner) z) (dies p w (other_owner w c.owner) z (front_note c.log ((p, Got) ∷ [])))
+
   owned : (p : Place) (w : Owner) (m : Note) (v : Value) (o : Option Owner) (t : Tell) → Keeps (at_tail p c (if_owned w c (entered p m v o c, t)))
   owned p w m v o t = last p (if_owned w c (entered p m v o c, t)) (by_own (owns w c.owner) (entered p m v o c, t) (front_note c.log ((p, m) ∷ [])))
 
@@ -83,10 +98,11 @@ row_stays (PutRead v) now r = λ p n is. is
 row_stays (OpenInvoke f) now r = λ p n is. is
 row_stays (CallBack o) now r = on_calls (λ i. call_back_to o i i.result) gone r
 row_stays NoteRegistered now r = on_calls (λ i. register_to i i.registered) gone r
+row_stays PutLockset now r = λ p n is. is
 row_stays (MakeCell v o) now r = λ p n is. is
 row_stays (WriteCell p w v) now r = on_cells (write_at p w v) no_row (λ c. unheld c p w Wrote v c.owner did) r
 row_stays (CondCell p w k o v) now r = on_cells (cond_at p w k o v) no_row (λ c. let b = passes c.value k o in unheld c p w (Cond b) (if b then v else c.value) c.owner (tested b)) r
-row_stays (LockCell p w) now r = on_cells (lock_at p w) no_row (λ c. unheld c p w Got c.value (Some w) did) r
+row_stays (LockCell p w s) now r = on_cells (lock_at p w) no_row (λ c. locked c p w) r
 row_stays (FreeCell p w v) now r = on_cells (free_at p w v) no_row (λ c. owned c p w Freed (given_or v c.value) None did) r
 
 pub notes_stay : NotesStay

@@ -3,15 +3,18 @@ use Rattle.std.specs.Prelude.{ℕ, List, true, false, Option, Some, None}
 use Rattle.beldi_value.specs.declared.value.Value.TheVariants.{Null}
 use Rattle.beldi_value.specs.declared.place.Place.{Place}
 use Rattle.beldi_value.specs.declared.place.Owner.{Owner}
+use Rattle.beldi_value.specs.declared.place.TxId.{TxId}
+use Rattle.beldi_value.specs.Spare.{spare}
 use Rattle.beldi_row.specs.declared.key.RowKey.{RowKey}
+use Rattle.beldi_row.specs.declared.key.Kind.TheVariants.{Shadow}
 use Rattle.beldi_row.specs.declared.act.Act.{Act}
 use Rattle.beldi_row.specs.declared.notes.Note.{Note}
-use Rattle.beldi_row.specs.declared.notes.Note.TheVariants.{Wrote, Cond, Got, Freed}
+use Rattle.beldi_row.specs.declared.notes.Note.TheVariants.{Wrote, Cond, Got, Died, Freed}
 use Rattle.beldi_row.specs.declared.row.Cell.{Cell}
 use Rattle.beldi_row.specs.declared.row.Row.TheVariants as rows
 use Rattle.beldi_row.specs.declared.act.Act.TheVariants.{MakeCell, WriteCell, CondCell, LockCell, FreeCell}
 use Rattle.beldi_row.specs.Key.{head_key}
-use Rattle.beldi_row.specs.Act.{absent, here, no_row, did, noted, held, not_owner, tested, other_owner}
+use Rattle.beldi_row.specs.Act.{absent, here, no_row, did, died, noted, held, not_owner, tested, other_owner}
 use Rattle.beldi_walk.specs.declared.query.Query.{Query}
 use Rattle.beldi_walk.specs.declared.query.Query.TheVariants as query
 use Rattle.beldi_walk.specs.Query.{Told, said}
@@ -28,14 +31,19 @@ use Rattle.beldi_daal.specs.declared.cell.ReadGoes.TheVariants as reads
 abbrev pub cell_key : ℕ → ℕ → List ℕ → RowKey
 cell_key home t k = head_key home t k
 
+-- .. and of a transaction's own copy of it
+abbrev pub shadow_key : ℕ → TxId → ℕ → List ℕ → RowKey
+shadow_key home x t k = record { home = home; kind = Shadow x t k 0 }
+
 -- the act of an operation, for a place and an owner
 abbrev pub op_act : Place → Owner → CellOp → Act
 op_act p who (op.Write v) = WriteCell p who v
 op_act p who (op.Cond r o v) = CondCell p who r o v
-op_act p who op.Lock = LockCell p who
+op_act p who op.Lock = LockCell p who spare
 op_act p who (op.Free v) = FreeCell p who v
 
--- the note that it leaves where its act says that it was done; the act of a condition says the test
+-- the note that it leaves where its act says that it was done; the act of a condition says the test, and that of a lock may say a
+-- death
 abbrev pub done_note : CellOp → Note
 done_note (op.Write v) = Wrote
 done_note (op.Cond r o v) = Cond true
@@ -52,6 +60,7 @@ abbrev pub write_goes : Note → Told → WriteGoes
 write_goes d (said no_row) = writes.On Make
 write_goes d (said did) = writes.Done d true
 write_goes d (said (tested b)) = writes.Done (Cond b) true
+write_goes d (said (died a)) = writes.Done (Died a) true
 write_goes d (said (noted n)) = writes.Done n false
 write_goes d (said (held o)) = writes.Held o
 write_goes d (said not_owner) = writes.NotOwner

@@ -3,7 +3,10 @@
 use Rattle.std.specs.Prelude.{◌≡◌, ℕ, Bool, true, false, if◌then◌else◌, [], ◌∷◌, ◌++◌, Option, Some, None, Result, Ok, Err}
 use Rattle.std.specs.FinMap as map
 use Rattle.std.specs.Ordering.{is_eq}
+use Rattle.beldi_value.specs.declared.id.IntentId.{IntentId}
 use Rattle.beldi_value.specs.declared.place.Owner.{Owner}
+use Rattle.beldi_value.specs.declared.place.Owner.TheVariants as owner
+use Rattle.beldi_value.specs.Id.{age_of, is_older}
 use Rattle.beldi_value.specs.declared.place.Place.{Place}
 use Rattle.beldi_value.specs.declared.value.Value.{Value}
 use Rattle.beldi_value.specs.Passes.{passes}
@@ -53,6 +56,26 @@ note_after (Cond r o v) w = note.Cond (passes w r o)
 note_after Lock w = note.Got
 note_after (Free v) w = note.Freed
 
+-- who asks for a lock where another owner is: an intent waits for it, and so does a transaction that is older ..
+abbrev pub waited : Owner → Option Owner → Option Owner
+waited (owner.Intent a) o = o
+waited (owner.Tx t) None = None
+waited (owner.Tx t) (Some o) = if is_older t.intent (age_of o) then Some o else None
+
+-- .. any other transaction dies of it: the age of that owner
+abbrev pub died_of : Owner → Option Owner → Option IntentId
+died_of (owner.Intent a) o = None
+died_of (owner.Tx t) None = None
+died_of (owner.Tx t) (Some o) = if is_older t.intent (age_of o) then None else Some (age_of o)
+
+-- only who asks for a lock dies
+abbrev pub dies : Owner → CellOp → Option Owner → Option IntentId
+dies (owner.Intent a) op o = None
+dies (owner.Tx t) (Write v) o = None
+dies (owner.Tx t) (Cond r u v) o = None
+dies (owner.Tx t) Lock o = died_of (owner.Tx t) (other_owner (owner.Tx t) o)
+dies (owner.Tx t) (Free v) o = None
+
 -- what bars it, as the walk says: another owner, or, where it gives the item back, that who asks does not own it
 abbrev pub held_by : Option Owner → Option WriteSays
 held_by None = None
@@ -65,17 +88,26 @@ unless_owned false = Some NotOwner
 abbrev pub barred : CellOp → Owner → Option Owner → Option WriteSays
 barred (Write v) who o = held_by (other_owner who o)
 barred (Cond r u v) who o = held_by (other_owner who o)
-barred Lock who o = held_by (other_owner who o)
+barred Lock who o = held_by (waited who (other_owner who o))
 barred (Free v) who o = unless_owned (owns who o)
 
 -- the content after an operation for a place
 abbrev pub done_to : Place → Owner → CellOp → Content → Content
 done_to p who op c = record { value = value_after op c.value; owner = owner_after op who c.owner; notes = c.notes ++ (p, note_after op c.value) ∷ [] }
 
--- what a turn did that says `Done`. With `first` the place had no note, nothing barred the operation, and it was done; without,
+-- .. and after a death there, of an owner with this age
+abbrev pub died_at : Place → IntentId → Content → Content
+died_at p a c = record { value = c.value; owner = c.owner; notes = c.notes ++ (p, note.Died a) ∷ [] }
+
+-- by whether who asks dies: nothing barred the operation, and it was done, or the death was noted
+abbrev pub DidAs : Place → Owner → CellOp → Option IntentId → Content → Content → Type 0
+DidAs p who op None c d = (barred op who c.owner ≡ None) × (d ≡ done_to p who op c)
+DidAs p who op (Some a) c d = d ≡ died_at p a c
+
+-- what a turn did that says `Done`. With `first` the place had no note, and the operation was done, or who asked died; without,
 -- nothing was done
 abbrev pub DidOnce : Place → Owner → CellOp → Bool → Content → Content → Type 0
-DidOnce p who op true c d = (note_at c.notes p ≡ None) × (barred op who c.owner ≡ None) × (d ≡ done_to p who op c)
+DidOnce p who op true c d = (note_at c.notes p ≡ None) × DidAs p who op (dies who op c.owner) c d
 DidOnce p who op false c d = d ≡ c
 
 -- .. and what one left that says that the operation was barred

@@ -10,11 +10,11 @@ use Rattle.beldi_daal.specs.declared.cell.WriteGoes.{WriteGoes}
 use Rattle.beldi_daal.specs.declared.cell.WriteGoes.TheVariants as writes
 use Rattle.beldi_daal.specs.declared.walk.WriteWalk.{WriteWalk}
 use Rattle.beldi_daal.specs.declared.walk.Item.{Item}
-use Rattle.beldi_daal.specs.declared.walk.Item.TheVariants.{Plain}
+use Rattle.beldi_daal.specs.declared.walk.Item.TheVariants.{Plain, Shadow}
 use Rattle.beldi_daal.specs.declared.cell.CellOp.{CellOp}
 use Rattle.beldi_daal.specs.declared.walk.WriteSays.{WriteSays}
 use Rattle.beldi_daal.specs.declared.walk.WriteSays.TheVariants.{Going, Done, NotOwner, Held}
-use Rattle.beldi_daal.specs.Cell.{cell_key, done_note, write_asks, write_goes}
+use Rattle.beldi_daal.specs.Cell.{cell_key, shadow_key, done_note, write_asks, write_goes}
 
 abbrev pub first_walk : ℕ → Item → Place → Owner → CellOp → WriteWalk
 first_walk home item place who op = record { home = home; item = item; place = place; who = who; op = op; at = Try }
@@ -22,6 +22,7 @@ first_walk home item place who op = record { home = home; item = item; place = p
 -- the key of an item's first row, in the home of the function that has the item
 abbrev pub first_key : ℕ → Item → RowKey
 first_key home (Plain t k) = cell_key home t k
+first_key home (Shadow x t k) = shadow_key home x t k
 
 abbrev pub walk_key : WriteWalk → RowKey
 walk_key w = first_key w.home w.item

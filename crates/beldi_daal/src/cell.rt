@@ -2,10 +2,10 @@
 ghost use Rattle.std.specs.Prelude.{◌≡◌, true, IfOk, OnErr};
 ghost use Rattle.std.specs.Option.{option_copied};
 ghost use Rattle.beldi_walk.specs.Query.{told_of, lends};
-ghost use Rattle.beldi_daal.specs.Cell.{cell_key as key_of, op_act, done_note as done_note_of, write_asks, write_goes, read_goes, cell_goes, in_the_way};
+ghost use Rattle.beldi_daal.specs.Cell.{cell_key as key_of, shadow_key as shadow_key_of, op_act, done_note as done_note_of, write_asks, write_goes, read_goes, cell_goes, in_the_way};
 
-use beldi_row::{Act, Cell, Kind, Note, Row, RowKey, Said, copy_owner};
-use beldi_value::{Owner, Place, Rel, Str, Value};
+use beldi_row::{Act, Cell, Kind, Note, Row, RowKey, Said, copy_owner, copy_tx};
+use beldi_value::{Owner, Place, Rel, Spare, Str, TxId, Value};
 use beldi_walk::{Heard, Query};
 use std::alloc::{AllocError, Global};
 
@@ -20,7 +20,7 @@ pub enum CellOp {
         operand: Value,
         value: Value,
     },
-    /// Takes the lock: who asks is then the owner.
+    /// Takes the lock: who asks is then the owner. A transaction that is not older than another owner dies in place of it.
     Lock,
     /// Gives the lock back, and sets the value where one is given. Who asks must be the owner, so the item has a row.
     Free(Option<Value>),
@@ -48,7 +48,8 @@ impl CellOp {
         }
     }
 
-    /// The note that it leaves where its act says `Did`. The act of a condition says `Tested`, and leaves the answer.
+    /// The note that it leaves where its act says `Did`. The act of a condition says `Tested`, and leaves the answer; that of
+    /// a lock may say `Died`, and leaves the death.
     pub fn done_note(&self) -> Note
         ensures { result ≡ done_note_of self.now }
     {
@@ -61,10 +62,10 @@ impl CellOp {
     }
 
     // Its act, for a place and an owner.
-    fn act(self, place: Place, who: Owner) -> Act
-        ensures { result ≡ op_act place who self }
+    fn act(self, alloc: Global, place: Place, who: Owner) -> Result<Act, AllocError>
+        ensures { IfOk result (λ a. a ≡ op_act place who self) }
     {
-        match self {
+        Ok(match self {
             CellOp::Write(value) => Act::WriteCell { place, who, value },
             CellOp::Cond {
                 rel,
@@ -77,9 +78,13 @@ impl CellOp {
                 operand,
                 value,
             },
-            CellOp::Lock => Act::LockCell { place, who },
+            CellOp::Lock => Act::LockCell {
+                place,
+                who,
+                spare: Spare::new(alloc)?,
+            },
             CellOp::Free(value) => Act::FreeCell { place, who, value },
-        }
+        })
     }
 }
 
@@ -130,19 +135,47 @@ pub fn cell_key(alloc: Global, home: u16, table: u16, key: &Str) -> Result<RowKe
     })
 }
 
+/// The key of the first row of a transaction's own copy of an item of the function `home`.
+pub fn shadow_key(
+    alloc: Global,
+    home: u16,
+    tx: &TxId,
+    table: u16,
+    key: &Str,
+) -> Result<RowKey, AllocError>
+    ensures { IfOk result (λ k. k ≡ shadow_key_of home tx.now table key.now) }
+{
+    Ok(RowKey {
+        home,
+        kind: Kind::Shadow {
+            tx: copy_tx(tx, alloc)?,
+            table,
+            key: key.copy(alloc)?,
+            row: 0,
+        },
+    })
+}
+
 /// What a write asks at the key of its item: the operation, for a place and an owner, or that the first row be made.
-pub fn write_query(key: RowKey, place: Place, who: Owner, op: CellOp, at: WriteAt) -> Query
-    ensures { result ≡ write_asks key place who op at }
+pub fn write_query(
+    alloc: Global,
+    key: RowKey,
+    place: Place,
+    who: Owner,
+    op: CellOp,
+    at: WriteAt,
+) -> Result<Query, AllocError>
+    ensures { IfOk result (λ q. q ≡ write_asks key place who op at) }
 {
     match at {
-        WriteAt::Try => Query::Act(key, op.act(place, who)),
-        WriteAt::Make => Query::Act(
+        WriteAt::Try => Ok(Query::Act(key, op.act(alloc, place, who)?)),
+        WriteAt::Make => Ok(Query::Act(
             key,
             Act::MakeCell {
                 value: Value::Null,
                 owner: None,
             },
-        ),
+        )),
     }
 }
 
@@ -163,6 +196,10 @@ pub fn write_told(alloc: Global, done: Note, heard: Heard<'_>) -> Result<WriteGo
         }),
         Said::Tested(passed) => Ok(WriteGoes::Done {
             note: Note::Cond(passed),
+            first: true,
+        }),
+        Said::Died(age) => Ok(WriteGoes::Done {
+            note: Note::Died(age.copy(alloc)?),
             first: true,
         }),
         Said::Noted(note) => Ok(WriteGoes::Done {

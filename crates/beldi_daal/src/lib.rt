@@ -11,7 +11,8 @@
 //!   at an error (`Turned`), which leaves the rows as before (`an_error_leaves_the_rows` of `beldi_walk`).
 //! - Laws: where an item's chain is sound, a turn of a write's walk leaves it sound, and leaves the content of every
 //!   item as it is, but for its own operation's effect, of which a place has one, however many walks there are for it. The
-//!   operation sets the value, sets it where it passes a test, takes the lock, or gives it back. Where it is done the walk tells
+//!   operation sets the value, sets it where it passes a test, takes the lock, or gives it back; a transaction that asks for the
+//!   lock dies of another owner that is not younger, and its death is kept. Where it is done the walk tells
 //!   the note that is kept at the place, and whether this turn made it; where it is not, since another owns the item, or who
 //!   gives the lock back does not, it tells that (`a_chain_is_a_logged_cell`). No act takes away the note of a place, so every
 //!   later walk for it is told the same (`a_note_stays`). A read's walk changes nothing, is never refused as `Full`, and says
@@ -24,7 +25,7 @@ mod read_walk;
 mod walk;
 
 pub use cell::{
-    CellOp, ReadGoes, WriteAt, WriteGoes, cell_key, read_told, write_query, write_told,
+    CellOp, ReadGoes, WriteAt, WriteGoes, cell_key, read_told, shadow_key, write_query, write_told,
 };
 pub use laws::{a_chain_is_a_logged_cell, a_note_stays, a_read_gives_the_content};
 pub use read_walk::{ReadSays, ReadWalk};

@@ -2,9 +2,9 @@
 ghost use Rattle.std.specs.Prelude.{◌≡◌, IfOk};
 ghost use Rattle.beldi_daal.specs.Walk.{first_walk, first_key};
 
-use crate::cell::{CellOp, WriteAt, WriteGoes, cell_key, write_query, write_told};
+use crate::cell::{CellOp, WriteAt, WriteGoes, cell_key, shadow_key, write_query, write_told};
 use beldi_row::{Note, RowKey, copy_owner};
-use beldi_value::{Owner, Place, Str};
+use beldi_value::{Owner, Place, Str, TxId};
 use beldi_walk::{Heard, Query, Walk};
 use std::alloc::{AllocError, Global};
 
@@ -13,6 +13,8 @@ use std::alloc::{AllocError, Global};
 pub enum Item {
     /// An item of a function's own table.
     Plain { table: u16, key: Str },
+    /// A transaction's own copy of an item.
+    Shadow { tx: TxId, table: u16, key: Str },
 }
 
 impl Item {
@@ -22,6 +24,7 @@ impl Item {
     {
         match self {
             Item::Plain { table, key } => cell_key(alloc, home, *table, key),
+            Item::Shadow { tx, table, key } => shadow_key(alloc, home, tx, *table, key),
         }
     }
 }
@@ -68,7 +71,7 @@ impl Walk for WriteWalk {
         let key = self.item.first_key(alloc, self.home)?;
         let place = self.place.copy(alloc)?;
         let who = copy_owner(&self.who, alloc)?;
-        Ok(write_query(key, place, who, self.op.copy(alloc)?, self.at))
+        write_query(alloc, key, place, who, self.op.copy(alloc)?, self.at)
     }
 
     fn told(&mut self, alloc: Global, heard: Heard<'_>) -> Result<WriteSays, AllocError> {

@@ -1,6 +1,6 @@
 mod Found
 pub mod Gets
-mod Least
+pub mod Least
 pub mod Logs
 pub mod Rows
 pub mod Tells

@@ -4,11 +4,14 @@ use Rattle.beldi_value.specs.declared.value.Value.{Value}
 use Rattle.beldi_value.specs.declared.outcome.Outcome.{Outcome}
 use Rattle.beldi_value.specs.declared.place.Place.{Place}
 use Rattle.beldi_value.specs.declared.place.Owner.{Owner}
+use Rattle.beldi_value.specs.declared.place.Owner.TheVariants as owner
+use Rattle.beldi_value.specs.declared.id.IntentId.{IntentId}
+use Rattle.beldi_value.specs.Id.{age_of, is_older}
 use Rattle.beldi_value.specs.declared.rel.Rel.{Rel}
 use Rattle.beldi_value.specs.Passes.{passes}
 use Rattle.beldi_value.specs.Same.{same_value}
 use Rattle.beldi_row.specs.declared.notes.Note.{Note}
-use Rattle.beldi_row.specs.declared.notes.Note.TheVariants.{Wrote, Cond, Got, Freed}
+use Rattle.beldi_row.specs.declared.notes.Note.TheVariants.{Wrote, Cond, Got, Died, Freed}
 use Rattle.beldi_row.specs.declared.row.Body.{Body}
 use Rattle.beldi_row.specs.declared.row.IntentRow.{IntentRow}
 use Rattle.beldi_row.specs.declared.row.InvokeRow.{InvokeRow}
@@ -16,7 +19,7 @@ use Rattle.beldi_row.specs.declared.row.Cell.{Cell}
 use Rattle.beldi_row.specs.declared.row.Row.{Row}
 use Rattle.beldi_row.specs.declared.row.Row.TheVariants as rows
 use Rattle.beldi_row.specs.declared.act.Act.{Act}
-use Rattle.beldi_row.specs.declared.act.Act.TheVariants.{Look, Issue, Bind, Register, End, PutRead, OpenInvoke, CallBack, NoteRegistered, MakeCell, WriteCell, CondCell, LockCell, FreeCell}
+use Rattle.beldi_row.specs.declared.act.Act.TheVariants.{Look, Issue, Bind, Register, End, PutRead, OpenInvoke, CallBack, NoteRegistered, PutLockset, MakeCell, WriteCell, CondCell, LockCell, FreeCell}
 use Rattle.beldi_row.specs.declared.act.Said.{Said}
 use Rattle.beldi_row.specs.declared.act.Said.TheVariants as said
 use Rattle.beldi_row.specs.declared.act.Change.{Change}
@@ -45,6 +48,7 @@ pub data Tell : Type 0 where
   held : Owner → Tell
   not_owner : Tell
   tested : Bool → Tell
+  died : IntentId → Tell
 
 abbrev pub tell_of : Said → Tell
 tell_of said.Absent = absent
@@ -65,6 +69,7 @@ tell_of (said.Next n) = next n
 tell_of (said.Held o) = held o.now
 tell_of said.NotOwner = not_owner
 tell_of (said.Tested b) = tested b
+tell_of (said.Died a) = died a.now
 
 -- ---- the acts on the row of an intent
 abbrev pub outcome_tell : Option Outcome → Tell
@@ -159,8 +164,21 @@ cond_to b p v c = (entered p (Cond b) (if b then v else c.value) c.owner c, test
 abbrev pub cond_at : Place → Owner → Rel → Value → Value → Cell → Cell × Tell
 cond_at p w r o v c = at_tail p c (unless_held w c (cond_to (passes c.value r o) p v c))
 
+-- a lock: who waits for another owner is an intent, or a transaction that is older than that owner; ..
+abbrev pub waits_for : Owner → Owner → Bool
+waits_for (owner.Intent a) o = true
+waits_for (owner.Tx t) o = is_older t.intent (age_of o)
+
+-- .. any other transaction dies there, and its death is kept, with that owner's age
+abbrev pub wait_or_die : Place → Owner → Cell → Owner → Cell × Tell
+wait_or_die p w c o = if waits_for w o then (c, held o) else (entered p (Died (age_of o)) c.value c.owner c, died (age_of o))
+
+abbrev pub owned_or : Place → Owner → Cell → Option Owner → Cell × Tell → Cell × Tell
+owned_or p w c None r = r
+owned_or p w c (Some o) r = wait_or_die p w c o
+
 abbrev pub lock_at : Place → Owner → Cell → Cell × Tell
-lock_at p w c = at_tail p c (unless_held w c (entered p Got c.value (Some w) c, did))
+lock_at p w c = at_tail p c (owned_or p w c (other_owner w c.owner) (entered p Got c.value (Some w) c, did))
 
 abbrev pub free_at : Place → Owner → Option Value → Cell → Cell × Tell
 free_at p w v c = at_tail p c (if_owned w c (entered p Freed (given_or v c.value) None c, did))
@@ -198,10 +216,11 @@ on (PutRead v) now r = (r, kept_tell (Some r))
 on (OpenInvoke f) now r = (r, here r)
 on (CallBack o) now r = on_invoke (λ i. call_back_to o i i.result) gone r
 on NoteRegistered now r = on_invoke (λ i. register_to i i.registered) gone r
+on PutLockset now r = (r, present)
 on (MakeCell v o) now r = (r, present)
 on (WriteCell p w v) now r = on_cell (write_at p w v) no_row r
 on (CondCell p w k o v) now r = on_cell (cond_at p w k o v) no_row r
-on (LockCell p w) now r = on_cell (lock_at p w) no_row r
+on (LockCell p w s) now r = on_cell (lock_at p w) no_row r
 on (FreeCell p w v) now r = on_cell (free_at p w v) no_row r
 
 -- where no row is
@@ -215,10 +234,11 @@ off (PutRead v) now = (Some (rows.ReadLog v), added)
 off (OpenInvoke f) now = (Some (rows.Invoke (record { func = f; result = None; registered = false })), added)
 off (CallBack o) now = (None, gone)
 off NoteRegistered now = (None, gone)
+off PutLockset now = (Some rows.Lockset, added)
 off (MakeCell v o) now = (Some (rows.Cell (record { value = v; owner = o; log = []; next = None; marked = false; dangled = None })), added)
 off (WriteCell p w v) now = (None, no_row)
 off (CondCell p w k o v) now = (None, no_row)
-off (LockCell p w) now = (None, no_row)
+off (LockCell p w s) now = (None, no_row)
 off (FreeCell p w v) now = (None, no_row)
 
 abbrev pub stays : Row × Tell → Option Row × Tell
@@ -245,6 +265,10 @@ ended_tell (Some o) = ended o
 abbrev pub held_tell : Option Owner → Tell
 held_tell None = no_row
 held_tell (Some o) = held o
+
+abbrev pub died_tell : Option Owner → Tell
+died_tell None = no_row
+died_tell (Some o) = died (age_of o)
 
 abbrev pub noted_tell : Option Note → Tell
 noted_tell None = no_row
@@ -277,6 +301,7 @@ said_by (change.Next n) r = next n
 said_by change.Held r = cell_tell (λ c. held_tell c.owner) r
 said_by change.NotOwner r = not_owner
 said_by (change.Tested b) r = tested b
+said_by change.Died r = cell_tell (λ c. died_tell c.owner) r
 
 -- what stands in the way of an act on a cell is told, or else the act is done
 abbrev pub way_or : Option Change → Cell → Cell × Tell → Cell × Tell

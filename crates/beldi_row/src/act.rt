@@ -7,12 +7,12 @@ use crate::cell::{free, lock, write, write_where};
 use crate::notes::{Log, Note};
 use crate::row::{Body, Cell, IntentRow, InvokeRow, Row};
 use crate::table::TableErr;
-use beldi_value::{Outcome, Owner, Place, Rel, Value};
+use beldi_value::{IntentId, Outcome, Owner, Place, Rel, Spare, Value};
 use std::alloc::Global;
 
 /// An act on one row. `Look` is for rows of any kind, `Issue`, `Bind`, `Register` and `End` are for intents, `PutRead` for what
-/// reads were given, `OpenInvoke`, `CallBack` and `NoteRegistered` for calls, the others for cells. A cell that has the place
-/// already, or that a row follows, is left as it is.
+/// reads were given, `OpenInvoke`, `CallBack` and `NoteRegistered` for calls, `PutLockset` for what a transaction asked the lock
+/// of, the others for cells. A cell that has the place already, or that a row follows, is left as it is.
 #[derive(Drop)]
 pub enum Act {
     /// Reads the row.
@@ -47,6 +47,8 @@ pub enum Act {
     },
     /// Says, once, that the intent of an asynchronous call has its row.
     NoteRegistered,
+    /// Adds the row of an item that a transaction asks the lock of.
+    PutLockset,
     /// Adds a cell with this value and owner.
     MakeCell {
         value: Value,
@@ -67,11 +69,13 @@ pub enum Act {
         operand: Value,
         value: Value,
     },
-    /// Makes `who` the owner, once, where no other owns the item. Whoever asks waits for another owner: that a younger
-    /// transaction dies there comes with transactions.
+    /// Makes `who` the owner, once, where no other owns the item. An intent waits for another owner, and so does a transaction
+    /// that is older than the owner; any other transaction dies there, once. The room of `spare` is for the age of the
+    /// owner that it died of.
     LockCell {
         place: Place,
         who: Owner,
+        spare: Spare,
     },
     /// Leaves the item without an owner, once, where `who` owns it, and sets the value where one is given.
     FreeCell {
@@ -120,6 +124,8 @@ pub enum Said<'a> {
     NotOwner,
     /// The value was tested now, with this answer.
     Tested(bool),
+    /// Who asked died now, of the owner with this age.
+    Died(&'a IntentId),
 }
 
 /// What an act did: each says the same as the answer of `Said` with its name, but for what lies in the row.
@@ -144,6 +150,7 @@ pub enum Change {
     Held,
     NotOwner,
     Tested(bool),
+    Died,
 }
 
 /// What an act makes where no row is, if anything. It takes no memory.
@@ -169,6 +176,7 @@ pub fn made(alloc: Global, act: Act, now: u64) -> Option<Row>
             result: None,
             registered: false,
         })),
+        Act::PutLockset => Some(Row::Lockset),
         Act::MakeCell { value, owner } => Some(Row::Cell(Cell {
             value,
             owner,
@@ -191,7 +199,7 @@ pub fn missing(act: &Act) -> Change
     match act {
         Act::Look => Change::Absent,
         Act::Issue | Act::Register { .. } | Act::PutRead { .. } => Change::Added,
-        Act::OpenInvoke { .. } | Act::MakeCell { .. } => Change::Added,
+        Act::OpenInvoke { .. } | Act::PutLockset | Act::MakeCell { .. } => Change::Added,
         Act::Bind { .. } | Act::End { .. } => Change::Gone,
         Act::CallBack { .. } | Act::NoteRegistered => Change::Gone,
         Act::WriteCell { .. } | Act::CondCell { .. } => Change::NoRow,
@@ -205,7 +213,7 @@ pub fn apply(row: &mut Row, act: Act, now: u64) -> Result<Change, TableErr>
 {
     match act {
         Act::Look | Act::Register { body: _ } | Act::OpenInvoke { func: _ } => Ok(Change::Row),
-        Act::Issue | Act::MakeCell { value: _, owner: _ } => Ok(Change::Present),
+        Act::Issue | Act::PutLockset | Act::MakeCell { value: _, owner: _ } => Ok(Change::Present),
         Act::PutRead { value: _ } => match row {
             Row::ReadLog(_) => Ok(Change::Kept),
             _ => Ok(Change::NoRow),
@@ -240,8 +248,8 @@ pub fn apply(row: &mut Row, act: Act, now: u64) -> Result<Change, TableErr>
             Row::Cell(cell) => write_where(cell, place, who, rel, operand, value),
             _ => Ok(Change::NoRow),
         },
-        Act::LockCell { place, who } => match row {
-            Row::Cell(cell) => lock(cell, place, who),
+        Act::LockCell { place, who, spare } => match row {
+            Row::Cell(cell) => lock(cell, place, who, spare),
             _ => Ok(Change::NoRow),
         },
         Act::FreeCell { place, who, value } => match row {

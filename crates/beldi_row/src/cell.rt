@@ -1,13 +1,13 @@
 // The acts on a cell. Each leaves one that has the place already, or that a row follows, as it is.
 ghost use Rattle.std.specs.Prelude.{◌≡◌, Some, Option, is_some};
-ghost use Rattle.beldi_row.specs.Act.{Tell, at_tail, way_or, other_owner, owns, Changes};
+ghost use Rattle.beldi_row.specs.Act.{Tell, at_tail, way_or, other_owner, owns, waits_for, Changes};
 ghost use Rattle.beldi_row.specs.declared.row.Cell as cell_data;
 
 use crate::act::{Act, Change};
 use crate::notes::Note;
 use crate::row::{Cell, Row};
 use crate::table::TableErr;
-use beldi_value::{Owner, Place, Rel, Value};
+use beldi_value::{Owner, Place, Rel, Spare, Value, older};
 
 // Whether the owner, if any, is another than `who`.
 fn is_held(owner: &Option<Owner>, who: &Owner) -> bool
@@ -85,18 +85,42 @@ pub(crate) fn write_where(
     Ok(Change::Tested(passed))
 }
 
-pub(crate) fn lock(cell: &mut Cell, place: Place, who: Owner) -> Result<Change, TableErr>
-    ensures { Changes (Act.LockCell place who) 0 (Row.Cell cell.old) (Row.Cell cell.new) result }
+// Whether who asks for the lock waits for this owner; where it does not, it dies.
+fn waits(who: &Owner, owner: &Owner) -> bool
+    ensures { result ≡ waits_for who.now owner.now }
+{
+    match who {
+        Owner::Intent(_) => true,
+        Owner::Tx(tx) => older(&tx.intent, owner.age()),
+    }
+}
+
+pub(crate) fn lock(
+    cell: &mut Cell,
+    place: Place,
+    who: Owner,
+    spare: Spare,
+) -> Result<Change, TableErr>
+    ensures { Changes (Act.LockCell place who spare) 0 (Row.Cell cell.old) (Row.Cell cell.new) result }
 {
     if let Some(change) = in_the_way(cell, &place) {
         return Ok(change);
     }
-    if is_held(&cell.owner, &who) {
-        return Ok(Change::Held);
+    match &cell.owner {
+        Some(owner) if *owner != who => {
+            if waits(&who, owner) {
+                return Ok(Change::Held);
+            }
+            let age = spare.hold_id(owner.age());
+            cell.log.push(place, Note::Died(age))?;
+            Ok(Change::Died)
+        }
+        _ => {
+            cell.log.push(place, Note::Got)?;
+            cell.owner = Some(who);
+            Ok(Change::Did)
+        }
     }
-    cell.log.push(place, Note::Got)?;
-    cell.owner = Some(who);
-    Ok(Change::Did)
 }
 
 pub(crate) fn free(

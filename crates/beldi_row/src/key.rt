@@ -108,7 +108,7 @@ impl Kind {
 }
 
 /// An equal transaction.
-pub(crate) fn copy_tx(tx: &TxId, alloc: Global) -> Result<TxId, AllocError>
+pub fn copy_tx(tx: &TxId, alloc: Global) -> Result<TxId, AllocError>
     ensures { IfOk result (λ t. t ≡ tx.now) }
 {
     Ok(TxId {

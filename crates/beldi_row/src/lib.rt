@@ -7,6 +7,8 @@
 //! Proved:
 //! - `apply`, `made` and `missing` are the act table, and `tell` gives the answer that a change stands for (`Changes`,
 //!   `off`, `said_by`).
+//! - So an intent that asks for a lock waits for another owner, and so does a transaction that is older than that owner; any
+//!   other transaction dies there, and its death is kept with the owner's age (`wait_or_die` of `specs/Act`).
 //! - `Log::find` finds the note of a place (`is`, `note`).
 //! - Keys compare by a total order.
 //! - The row after a key is the least of a greater key (`next_row_is_least`).
@@ -28,7 +30,7 @@ mod telling;
 
 pub use act::{Act, Change, Said, apply, made, missing};
 pub use beldi_value::Caller;
-pub use key::{Kind, RowKey, copy_owner};
+pub use key::{Kind, RowKey, copy_owner, copy_tx};
 pub use laws::next_row_is_least;
 pub use notes::{Log, Note};
 pub use row::{Body, Cell, IntentRow, InvokeRow, Row};

@@ -1,7 +1,7 @@
 // What is said of a change.
 ghost use Rattle.std.specs.Prelude.{◌≡◌, slice_get};
 ghost use Rattle.std.specs.Option.{option_copied};
-ghost use Rattle.beldi_row.specs.Act.{tell_of, said_by, ended_tell, other_tell, held_tell, noted_tell};
+ghost use Rattle.beldi_row.specs.Act.{tell_of, said_by, ended_tell, other_tell, held_tell, died_tell, noted_tell};
 ghost use Rattle.beldi_row.specs.Log.{note_of};
 
 use crate::act::{Change, Said};
@@ -26,9 +26,9 @@ pub fn tell(row: Option<&Row>, change: Change) -> Said<'_>
         (Change::Kept, Some(Row::ReadLog(value))) => Said::Kept(value),
         (Change::Noted(index), Some(Row::Cell(cell))) => tell_noted(cell, index),
         (Change::Held, Some(Row::Cell(cell))) => tell_held(cell),
-        (Change::Kept, _) | (Change::Noted(_), _) | (Change::Held, _) | (Change::NoRow, _) => {
-            Said::NoRow
-        }
+        (Change::Died, Some(Row::Cell(cell))) => tell_died(cell),
+        (Change::Kept, _) | (Change::Noted(_), _) | (Change::Held, _) => Said::NoRow,
+        (Change::Died, _) | (Change::NoRow, _) => Said::NoRow,
         (Change::Next(next), _) => Said::Next(next),
         (Change::NotOwner, _) => Said::NotOwner,
         (Change::Tested(passed), _) => Said::Tested(passed),
@@ -67,6 +67,15 @@ fn tell_held(cell: &Cell) -> Said<'_>
 {
     match &cell.owner {
         Some(owner) => Said::Held(owner),
+        None => Said::NoRow,
+    }
+}
+
+fn tell_died(cell: &Cell) -> Said<'_>
+    ensures { tell_of result ≡ died_tell cell.now.owner }
+{
+    match &cell.owner {
+        Some(owner) => Said::Died(owner.age()),
         None => Said::NoRow,
     }
 }

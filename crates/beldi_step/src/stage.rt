@@ -143,7 +143,7 @@ pub(crate) fn stage_query(
             let place = place_of(alloc, id, machine.steps())?;
             let who = Owner::Intent(id.copy(alloc)?);
             let key = cell_key(alloc, func, on.table, &on.key)?;
-            Ok(write_query(key, place, who, on.op, *at))
+            write_query(alloc, key, place, who, on.op, *at)
         }
         (
             Stage::Call(at),

@@ -86,7 +86,8 @@ impl MapTable {
             | Change::Ended
             | Change::Kept
             | Change::Noted(_)
-            | Change::Held => self.rows.get(key),
+            | Change::Held
+            | Change::Died => self.rows.get(key),
             _ => None,
         }
     }

@@ -1,13 +1,17 @@
 -- An act that lends what lies in the row has left it as it was.
-use Rattle.std.proofs.Common.{◌≡◌, ℕ, Bool, true, false, if◌then◌else◌, Option, None, Some, Ok, Err, refl, ap, sym, ◌∙◌}
+use Rattle.std.proofs.Common.{◌≡◌, inl, inr, ℕ, ◌==◌, ◌&&◌, Bool, true, false, if◌then◌else◌, Option, None, Some, Ok, Err, refl, ap, sym, ◌∙◌, subst}
 use Rattle.std.specs.FinMap as map
 use Rattle.beldi_value.specs.declared.value.Value.{Value}
 use Rattle.beldi_value.specs.declared.outcome.Outcome.{Outcome}
 use Rattle.beldi_value.specs.declared.place.Place.{Place}
 use Rattle.beldi_value.specs.declared.place.Owner.{Owner}
+use Rattle.beldi_value.specs.declared.place.Owner.TheVariants as owner
 use Rattle.beldi_value.specs.Passes.{passes}
+use Rattle.beldi_value.specs.Same.{same_value}
+use Rattle.beldi_value.specs.declared.id.IntentId.{IntentId}
+use Rattle.beldi_value.specs.Id.{age_of}
 use Rattle.beldi_row.specs.declared.notes.Note.{Note}
-use Rattle.beldi_row.specs.declared.notes.Note.TheVariants.{Wrote, Got, Freed}
+use Rattle.beldi_row.specs.declared.notes.Note.TheVariants.{Wrote, Got, Died, Freed}
 use Rattle.beldi_row.specs.declared.row.Row.{Row}
 use Rattle.beldi_row.specs.declared.row.Row.TheVariants as rows
 use Rattle.beldi_row.specs.declared.row.Body.{Body}
@@ -15,9 +19,9 @@ use Rattle.beldi_row.specs.declared.row.Cell.{Cell}
 use Rattle.beldi_row.specs.declared.row.IntentRow.{IntentRow}
 use Rattle.beldi_row.specs.declared.row.InvokeRow.{InvokeRow}
 use Rattle.beldi_row.specs.declared.act.Act.{Act}
-use Rattle.beldi_row.specs.declared.act.Act.TheVariants.{Look, Issue, Bind, Register, End, PutRead, OpenInvoke, CallBack, NoteRegistered, MakeCell, WriteCell, CondCell, LockCell, FreeCell}
+use Rattle.beldi_row.specs.declared.act.Act.TheVariants.{Look, Issue, Bind, Register, End, PutRead, OpenInvoke, CallBack, NoteRegistered, PutLockset, MakeCell, WriteCell, CondCell, LockCell, FreeCell}
 use Rattle.beldi_row.specs.Log.{note_at}
-use Rattle.beldi_row.specs.Act.{Tell, gone, no_row, did, not_owner, off, on, on_intent, on_invoke, on_cell, bind_to, end_with, call_back_to, register_to, other_owner, owns, noted_or, next_or, held_or, at_tail, unless_held, if_owned, given_or, entered, write_at, cond_to, cond_at, lock_at, free_at}
+use Rattle.beldi_row.specs.Act.{Tell, gone, no_row, did, not_owner, other, held, died, kept_tell, outcome_tell, off, on, on_intent, on_invoke, on_cell, bind_to, end_with, call_back_to, register_to, other_owner, owns, noted_or, next_or, held_or, waits_for, owned_or, at_tail, unless_held, if_owned, given_or, entered, write_at, cond_to, cond_at, lock_at, free_at}
 use Rattle.beldi_row.specs.declared.table.TableErr.{TableErr}
 use Rattle.beldi_row.specs.declared.table.TableErr.TheVariants.{OutOfMemory, Failed, Full}
 use Rattle.beldi_row.specs.Table.{Rows, TableState, Tells}
@@ -25,28 +29,37 @@ use Rattle.beldi_row.proofs.Tells.{tells_map}
 use Rattle.beldi_row.proofs.Unchanged.{left}
 use Rattle.beldi_walk.specs.declared.query.Query.{Query}
 use Rattle.beldi_walk.specs.declared.query.Query.TheVariants as query
-use Rattle.beldi_walk.specs.Query.{Told, lent, lends, LentStands, rows_after, told_by, CameOn}
-use Rattle.beldi_walk.specs.Walk.{Turned}
+use Rattle.beldi_walk.specs.Query.{Told, lent, lends, is_death, tells_death, may_die, may_tell_death, LentStands, OnlyTransactionsDie, rows_after, told_by, CameOn}
+use Rattle.beldi_walk.specs.Walk.{LeftAt, Left, Turned}
 
-bound : (f : ℕ) (a : Value) (i : IntentRow) (b : Option Body) → lent (bind_to f a i b).1 ≡ true → (bind_to f a i b).0 ≡ i
+-- what lies in the row was lent, and it is no death
+abbrev quiet : Tell → Bool
+quiet (died a) = false
+quiet t = lent t
+
+quiet_of : (t : Tell) → lent t ≡ true → is_death t ≡ false → quiet t ≡ true
+quiet_of (died a) h g = cc
+quiet_of t h g = h
+
+bound : (f : ℕ) (a : Value) (i : IntentRow) (b : Option Body) → quiet (bind_to f a i b).1 ≡ true → (bind_to f a i b).0 ≡ i
 bound f a i None h = cc
 bound f a i (Some b) h = refl
 
-ended : (o : Outcome) (s : _) (now : ℕ) (i : IntentRow) (p : Option Outcome) → lent (end_with o s now i p).1 ≡ true → (end_with o s now i p).0 ≡ i
+ended : (o : Outcome) (s : _) (now : ℕ) (i : IntentRow) (p : Option Outcome) → quiet (end_with o s now i p).1 ≡ true → (end_with o s now i p).0 ≡ i
 ended o s now i None h = cc
 ended o s now i (Some p) h = refl
 
-called_back : (o : Outcome) (i : InvokeRow) (p : Option Outcome) → lent (call_back_to o i p).1 ≡ true → (call_back_to o i p).0 ≡ i
+called_back : (o : Outcome) (i : InvokeRow) (p : Option Outcome) → quiet (call_back_to o i p).1 ≡ true → (call_back_to o i p).0 ≡ i
 called_back o i None h = cc
 called_back o i (Some p) h = refl
 
-registered : (i : InvokeRow) (b : Bool) → lent (register_to i b).1 ≡ true → (register_to i b).0 ≡ i
+registered : (i : InvokeRow) (b : Bool) → quiet (register_to i b).1 ≡ true → (register_to i b).0 ≡ i
 registered i false h = cc
 registered i true h = refl
 
 -- a result leaves what it lends
 abbrev Leaves : {R : Type 0} → R → R × Tell → Type 0
-Leaves r z = lent z.1 ≡ true → z.0 ≡ r
+Leaves r z = quiet z.1 ≡ true → z.0 ≡ r
 
 module _ (c : Cell) where
   at_last : (n : Option Note) (x : Option ℕ) (z : Cell × Tell) → Leaves c z → Leaves c (noted_or c n (next_or c x z))
@@ -58,12 +71,24 @@ module _ (c : Cell) where
   waits None z l h = l h
   waits (Some o) z l h = refl
 
+  -- who waits leaves the cell, and who dies tells a death
+  by_age : (b : Bool) (o : Owner) (z : Cell × Tell) → quiet z.1 ≡ false → Leaves c (if b then (c, held o) else z)
+  by_age true o z d h = refl
+  by_age false o z d h = let clash = sym h ∙ d in cc
+
+  dies : (p : Place) (w : Owner) (o : Option Owner) (z : Cell × Tell) → Leaves c z → Leaves c (owned_or p w c o z)
+  dies p w None z l h = l h
+  dies p w (Some o) z l h = by_age (waits_for w o) o (entered p (Died (age_of o)) c.value c.owner c, died (age_of o)) refl h
+
   gives : (b : Bool) (z : Cell × Tell) → Leaves c z → Leaves c (if b then z else (c, not_owner))
   gives true z l h = l h
   gives false z l h = cc
 
   unheld : (p : Place) (w : Owner) (z : Cell × Tell) → Leaves c z → Leaves c (at_tail p c (unless_held w c z))
   unheld p w z l = at_last (note_at c.log p) c.next (unless_held w c z) (waits (other_owner w c.owner) z l)
+
+  locked : (p : Place) (w : Owner) (z : Cell × Tell) → Leaves c z → Leaves c (at_tail p c (owned_or p w c (other_owner w c.owner) z))
+  locked p w z l = at_last (note_at c.log p) c.next (owned_or p w c (other_owner w c.owner) z) (dies p w (other_owner w c.owner) z l)
 
   owned : (p : Place) (w : Owner) (z : Cell × Tell) → Leaves c z → Leaves c (at_tail p c (if_owned w c z))
   owned p w z l = at_last (note_at c.log p) c.next (if_owned w c z) (gives (owns w c.owner) z l)
@@ -100,10 +125,11 @@ none_there (PutRead v) now h = cc
 none_there (OpenInvoke f) now h = cc
 none_there (CallBack o) now h = refl
 none_there NoteRegistered now h = refl
+none_there PutLockset now h = cc
 none_there (MakeCell v o) now h = cc
 none_there (WriteCell p w v) now h = refl
 none_there (CondCell p w k o v) now h = refl
-none_there (LockCell p w) now h = refl
+none_there (LockCell p w s) now h = refl
 none_there (FreeCell p w v) now h = refl
 
 there : (a : Act) (now : ℕ) (r : Row) → Leaves r (on a now r)
@@ -116,22 +142,153 @@ there (PutRead v) now r = λ h. refl
 there (OpenInvoke f) now r = λ h. refl
 there (CallBack o) now r = invoke_leaves (λ i. call_back_to o i i.result) gone (λ i. called_back o i i.result) r
 there NoteRegistered now r = invoke_leaves (λ i. register_to i i.registered) gone (λ i. registered i i.registered) r
+there PutLockset now r = λ h. refl
 there (MakeCell v o) now r = λ h. refl
 there (WriteCell p w v) now r = cell_leaves (write_at p w v) no_row (λ c. unheld c p w (entered p Wrote v c.owner c, did) (λ h. cc)) r
 there (CondCell p w k o v) now r = cell_leaves (cond_at p w k o v) no_row (λ c. unheld c p w (cond_to (passes c.value k o) p v c) (λ h. cc)) r
-there (LockCell p w) now r = cell_leaves (lock_at p w) no_row (λ c. unheld c p w (entered p Got c.value (Some w) c, did) (λ h. cc)) r
+there (LockCell p w s) now r = cell_leaves (lock_at p w) no_row (λ c. locked c p w (entered p Got c.value (Some w) c, did) (λ h. cc)) r
 there (FreeCell p w v) now r = cell_leaves (free_at p w v) no_row (λ c. owned c p w (entered p Freed (given_or v c.value) None c, did) (λ h. cc)) r
 
 pub stands : LentStands
-stands a now None h = none_there a now h
-stands a now (Some r) h = ap Some (there a now r h)
+stands a now None h g = none_there a now (quiet_of (off a now).1 h g)
+stands a now (Some r) h g = ap Some (there a now r (quiet_of (on a now r).1 h g))
 
--- .. so a query that lends leaves the rows
-pub rows_stand : (q : Query) (now : ℕ) (m : Rows) → lends (told_by q now m) ≡ true → rows_after q now m ≡ m
-rows_stand (query.Act k a) now m h = left a now k m (map.get m k) refl (stands a now (map.get m k) h)
-rows_stand (query.After k) now m h = refl
+-- ---- only a transaction that asks for a lock dies
+abbrev Lives : {R : Type 0} → R × Tell → Type 0
+Lives z = is_death z.1 ≡ false
 
--- .. and what a walk did not heed leaves them: it lent, or it was refused
+bound_lives : (f : ℕ) (a : Value) (i : IntentRow) (b : Option Body) → Lives (bind_to f a i b)
+bound_lives f a i None = refl
+bound_lives f a i (Some b) = by_test ((b.func == f) && same_value b.args a) i.outcome
+  where
+    by_test : (c : Bool) (p : Option Outcome) → is_death (if c then outcome_tell p else other b) ≡ false
+    by_test true None = refl
+    by_test true (Some o) = refl
+    by_test false p = refl
+
+ended_lives : (o : Outcome) (s : _) (now : ℕ) (i : IntentRow) (p : Option Outcome) → Lives (end_with o s now i p)
+ended_lives o s now i None = refl
+ended_lives o s now i (Some p) = refl
+
+called_back_lives : (o : Outcome) (i : InvokeRow) (p : Option Outcome) → Lives (call_back_to o i p)
+called_back_lives o i None = refl
+called_back_lives o i (Some p) = refl
+
+registered_lives : (i : InvokeRow) (b : Bool) → Lives (register_to i b)
+registered_lives i false = refl
+registered_lives i true = refl
+
+module _ (c : Cell) where
+  last_lives : (p : Place) (z : Cell × Tell) → Lives z → Lives (at_tail p c z)
+  last_lives p z l = by_note (note_at c.log p) c.next
+    where
+      by_note : (n : Option Note) (x : Option ℕ) → Lives (noted_or c n (next_or c x z))
+      by_note (Some n) x = refl
+      by_note None (Some x) = refl
+      by_note None None = l
+
+  held_lives : (o : Option Owner) (z : Cell × Tell) → Lives z → Lives (held_or c o z)
+  held_lives None z l = l
+  held_lives (Some o) z l = refl
+
+  unheld_lives : (p : Place) (w : Owner) (z : Cell × Tell) → Lives z → Lives (at_tail p c (unless_held w c z))
+  unheld_lives p w z l = last_lives p (unless_held w c z) (held_lives (other_owner w c.owner) z l)
+
+  -- an intent waits for each other owner
+  intent_lives : (p : Place) (a : IntentId) (o : Option Owner) (z : Cell × Tell) → Lives z → Lives (owned_or p (owner.Intent a) c o z)
+  intent_lives p a None z l = l
+  intent_lives p a (Some o) z l = refl
+
+  owned_lives : (p : Place) (w : Owner) (z : Cell × Tell) → Lives z → Lives (at_tail p c (if_owned w c z))
+  owned_lives p w z l = last_lives p (if_owned w c z) (by_own (owns w c.owner))
+    where
+      by_own : (b : Bool) → Lives (if b then z else (c, not_owner))
+      by_own true = l
+      by_own false = refl
+
+on_intent_lives : (f : IntentRow → IntentRow × Tell) (t : Tell) → ((i : IntentRow) → Lives (f i)) → is_death t ≡ false → (r : Row) → Lives (on_intent f t r)
+on_intent_lives f t l g (rows.Intent i) = l i
+on_intent_lives f t l g r = g
+
+on_invoke_lives : (f : InvokeRow → InvokeRow × Tell) (t : Tell) → ((i : InvokeRow) → Lives (f i)) → is_death t ≡ false → (r : Row) → Lives (on_invoke f t r)
+on_invoke_lives f t l g (rows.Invoke i) = l i
+on_invoke_lives f t l g r = g
+
+on_cell_lives : (f : Cell → Cell × Tell) (t : Tell) → ((c : Cell) → Lives (f c)) → is_death t ≡ false → (r : Row) → Lives (on_cell f t r)
+on_cell_lives f t l g (rows.Cell c) = l c
+on_cell_lives f t l g r = g
+
+kept_lives : (r : Row) → is_death (kept_tell (Some r)) ≡ false
+kept_lives (rows.ReadLog v) = refl
+kept_lives r = refl
+
+there_lives : (a : Act) (now : ℕ) (r : Row) → may_die a ≡ false → Lives (on a now r)
+there_lives Look now r h = refl
+there_lives Issue now r h = refl
+there_lives (Bind f v) now r h = on_intent_lives (λ i. bind_to f v i i.body) gone (λ i. bound_lives f v i i.body) refl r
+there_lives (Register b) now r h = refl
+there_lives (End o s) now r h = on_intent_lives (λ i. end_with o s now i i.outcome) gone (λ i. ended_lives o s now i i.outcome) refl r
+there_lives (PutRead v) now r h = kept_lives r
+there_lives (OpenInvoke f) now r h = refl
+there_lives (CallBack o) now r h = on_invoke_lives (λ i. call_back_to o i i.result) gone (λ i. called_back_lives o i i.result) refl r
+there_lives NoteRegistered now r h = on_invoke_lives (λ i. register_to i i.registered) gone (λ i. registered_lives i i.registered) refl r
+there_lives PutLockset now r h = refl
+there_lives (MakeCell v o) now r h = refl
+there_lives (WriteCell p w v) now r h = on_cell_lives (write_at p w v) no_row (λ c. unheld_lives c p w (entered p Wrote v c.owner c, did) refl) refl r
+there_lives (CondCell p w k o v) now r h = on_cell_lives (cond_at p w k o v) no_row (λ c. unheld_lives c p w (cond_to (passes c.value k o) p v c) refl) refl r
+there_lives (LockCell p (owner.Intent a) s) now r h =
+    on_cell_lives (lock_at p (owner.Intent a)) no_row
+    (λ c. let z : Cell × Tell = (entered p Got c.value (Some (owner.Intent a)) c, did) in last_lives c p (owned_or p (owner.Intent a) c (other_owner (owner.Intent a) c.owner) z) (intent_lives c p a (other_owner (owner.Intent a) c.owner) z refl))
+    refl r
+there_lives (LockCell p (owner.Tx t) s) now r h = cc
+there_lives (FreeCell p w v) now r h = on_cell_lives (free_at p w v) no_row (λ c. owned_lives c p w (entered p Freed (given_or v c.value) None c, did) refl) refl r
+
+none_lives : (a : Act) (now : ℕ) → Lives (off a now)
+none_lives Look now = refl
+none_lives Issue now = refl
+none_lives a now = refl
+
+pub only_transactions_die : OnlyTransactionsDie
+only_transactions_die a now None h = none_lives a now
+only_transactions_die a now (Some r) h = there_lives a now r h
+
+-- ---- a query
+-- one that lends leaves the rows, unless it tells a death ..
+quiet_stand : (q : Query) (now : ℕ) (m : Rows) → tells_death (told_by q now m) ≡ false → lends (told_by q now m) ≡ true → rows_after q now m ≡ m
+quiet_stand (query.Act k a) now m g h = left a now k m (map.get m k) refl (stands a now (map.get m k) h g)
+quiet_stand (query.After k) now m g h = refl
+
+-- .. which only a lock of a transaction does ..
+no_death : (q : Query) (now : ℕ) (m : Rows) → may_tell_death q ≡ false → tells_death (told_by q now m) ≡ false
+no_death (query.Act k a) now m h = only_transactions_die a now (map.get m k) h
+no_death (query.After k) now m h = refl
+
+pub rows_stand : (q : Query) (now : ℕ) (m : Rows) → may_tell_death q ≡ false → lends (told_by q now m) ≡ true → rows_after q now m ≡ m
+rows_stand q now m lives h = quiet_stand q now m (no_death q now m lives) h
+
+-- .. so what lends leaves the rows, or its death
+pub lent_left : (q : Query) (now : ℕ) (m : Rows) → lends (told_by q now m) ≡ true → Left OutOfMemory q now m (rows_after q now m)
+lent_left q now m h = by_query (may_tell_death q) refl
+  where
+    by_death : (d : Bool) → tells_death (told_by q now m) ≡ d → LeftAt true OutOfMemory q now m (rows_after q now m)
+    by_death true e = inr (refl, e)
+    by_death false e = inl (quiet_stand q now m e h)
+
+    by_query : (b : Bool) → may_tell_death q ≡ b → LeftAt b OutOfMemory q now m (rows_after q now m)
+    by_query true e = by_death (tells_death (told_by q now m)) refl
+    by_query false e = rows_stand q now m e h
+
+-- rows that are as before
+pub same_left : (e : TableErr) (q : Query) (now : ℕ) (m n : Rows) → n ≡ m → Left e q now m n
+same_left e q now m n h = by_query (may_tell_death q) e
+  where
+    by_query : (b : Bool) (e : TableErr) → LeftAt b e q now m n
+    by_query false e = h
+    by_query true OutOfMemory = inl h
+    by_query true Failed = h
+    by_query true (Full live most) = h
+
+-- .. and what a walk did not heed leaves them so: it lent, or it was refused
 pub refused_stand : (q : Query) (now room : ℕ) (e : TableErr) (m n : Rows) → CameOn q now room (Err e) m n → n ≡ m
 refused_stand (query.Act k a) now room OutOfMemory m n h = h
 refused_stand (query.Act k a) now room Failed m n h = h
@@ -140,6 +297,10 @@ refused_stand (query.After k) now room OutOfMemory m n h = h
 refused_stand (query.After k) now room Failed m n h = h
 refused_stand (query.After k) now room (Full live most) m n h = absurd h
 
-pub unheeded_stand : {W X : Type 0} (q : Query) (now : ℕ) (f : Told → W) (g : Told → X) (w x : W) (old new : TableState) (e : TableErr) → Turned q now f g w x old new (Err e) → Tells old.rows new.rows (λ m n. n ≡ m)
-unheeded_stand q now f g w x old new e (Ok t, h, c) = tells_map {P = λ m n. CameOn q now old.room (Ok t) m n} {Q = λ m n. n ≡ m} old.rows new.rows (λ m n p. p.0 ∙ rows_stand q now m (ap lends (sym p.1) ∙ h.2)) c.rows
-unheeded_stand q now f g w x old new e (Err v, h, c) = tells_map {P = λ m n. CameOn q now old.room (Err v) m n} {Q = λ m n. n ≡ m} old.rows new.rows (refused_stand q now old.room v) c.rows
+-- out of memory for what was told
+pub unheard_left : (q : Query) (now : ℕ) (e : TableErr) (t : Told) (m n : Rows) → e ≡ OutOfMemory → lends t ≡ true → n ≡ rows_after q now m → t ≡ told_by q now m → Left e q now m n
+unheard_left q now e t m n is lent after by = subst (λ v. Left v q now m n) (sym is) (subst (Left OutOfMemory q now m) (sym after) (lent_left q now m (ap lends (sym by) ∙ lent)))
+
+pub unheeded_stand : {W X : Type 0} (q : Query) (now : ℕ) (f : Told → W) (g : Told → X) (w x : W) (old new : TableState) (e : TableErr) → Turned q now f g w x old new (Err e) → Tells old.rows new.rows (Left e q now)
+unheeded_stand q now f g w x old new e (Ok t, h, c) = tells_map {P = λ m n. CameOn q now old.room (Ok t) m n} {Q = Left e q now} old.rows new.rows (λ m n p. unheard_left q now e t m n h.1 h.2 p.0 p.1) c.rows
+unheeded_stand q now f g w x old new e (Err v, h, c) = tells_map {P = λ m n. CameOn q now old.room (Err v) m n} {Q = Left e q now} old.rows new.rows (λ m n p. same_left e q now m n (refused_stand q now old.room v m n p)) c.rows

@@ -16,20 +16,20 @@ use Rattle.beldi_walk.specs.declared.query.Query.{Query}
 use Rattle.beldi_walk.specs.declared.query.Query.TheVariants as query
 use Rattle.beldi_walk.specs.Query.{Told, lends, rows_after, told_by, CameOn}
 use Rattle.beldi_walk.specs.Walk.{Turned, Leaves, Promises}
-use Rattle.beldi_walk.proofs.Lent.{rows_stand}
+use Rattle.beldi_walk.proofs.Lent.{same_left, unheard_left}
 
 module _ {X : Type 0} (q : Query) (now : ℕ) (g : Told → X) (P : Rows → Rows → X → Type 0) (made : (m : Rows) → P m (rows_after q now m) (g (told_by q now m))) where
   answered : (m n : Rows) (x : X) (t : Told) → x ≡ g t → n ≡ rows_after q now m → t ≡ told_by q now m → P m n x
   answered m n x t is after by = subst (λ l. P m l x) (sym after) (subst (P m (rows_after q now m)) (sym (is ∙ ap g by)) (made m))
 
   unheard : (m n : Rows) (e : TableErr) (t : Told) → e ≡ OutOfMemory → lends t ≡ true → n ≡ rows_after q now m → t ≡ told_by q now m → Leaves q now P m n (Err e)
-  unheard m n e t is lent after by = subst (λ v. Leaves q now P m n (Err v)) (sym is) (after ∙ rows_stand q now m (ap lends (sym by) ∙ lent))
+  unheard m n e t is lent after by = subst (λ v. Leaves q now P m n (Err v)) (sym is) (unheard_left q now OutOfMemory t m n refl lent after by)
 
   refused : (p : Query) → p ≡ q → (room : ℕ) (e : TableErr) (m n : Rows) → CameOn p now room (Err e) m n → Leaves p now P m n (Err e)
-  refused (query.Act k a) is room OutOfMemory m n h = h
+  refused (query.Act k a) is room OutOfMemory m n h = same_left OutOfMemory (query.Act k a) now m n h
   refused (query.Act k a) is room Failed m n h = h
   refused (query.Act k a) is room (Full live most) m n h = (h.0, h.1.more)
-  refused (query.After k) is room OutOfMemory m n h = h
+  refused (query.After k) is room OutOfMemory m n h = same_left OutOfMemory (query.After k) now m n h
   refused (query.After k) is room Failed m n h = h
   refused (query.After k) is room (Full live most) m n h = absurd h
 

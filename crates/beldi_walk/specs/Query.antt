@@ -4,9 +4,11 @@ use Rattle.std.specs.FinMap as map
 use Rattle.beldi_row.specs.declared.key.RowKey.{RowKey}
 use Rattle.beldi_row.specs.declared.row.Row.{Row}
 use Rattle.beldi_row.specs.declared.act.Act.{Act}
+use Rattle.beldi_row.specs.declared.act.Act.TheVariants.{LockCell}
+use Rattle.beldi_value.specs.declared.place.Owner.TheVariants.{Tx}
 use Rattle.beldi_row.specs.declared.table.TableErr.{TableErr}
 use Rattle.beldi_row.specs.declared.table.TableErr.TheVariants.{OutOfMemory, Failed, Full}
-use Rattle.beldi_row.specs.Act.{Tell, here, other, ended, kept, noted, held, tell_of, act}
+use Rattle.beldi_row.specs.Act.{Tell, here, other, ended, kept, noted, held, died, tell_of, act}
 use Rattle.beldi_row.specs.Table.{Rows, TableState, after_act, tell_act, adds, Refused, Tells, HasCause, AtMostOne, next_row, entry_of}
 use Rattle.beldi_walk.specs.declared.query.Query.{Query}
 use Rattle.beldi_walk.specs.declared.query.Query.TheVariants as query
@@ -62,12 +64,35 @@ lent (ended o) = true
 lent (kept v) = true
 lent (noted n) = true
 lent (held o) = true
+lent (died a) = true
 lent t = false
 
 abbrev pub lends : Told → Bool
 lends (said t) = lent t
 lends (found e) = true
 
--- an act that lends what lies in the row has left it as it was
+-- a death was told: it was put into the row, and lies there
+abbrev pub is_death : Tell → Bool
+is_death (died a) = true
+is_death t = false
+
+abbrev pub tells_death : Told → Bool
+tells_death (said t) = is_death t
+tells_death (found e) = false
+
+-- who asks for a lock as a transaction may die
+abbrev pub may_die : Act → Bool
+may_die (LockCell p (Tx t) s) = true
+may_die a = false
+
+abbrev pub may_tell_death : Query → Bool
+may_tell_death (query.Act k a) = may_die a
+may_tell_death (query.After k) = false
+
+-- an act that lends what lies in the row has left it as it was, unless it tells a death
 abbrev pub LentStands : Type 0
-LentStands = (a : Act) (now : ℕ) (r : Option Row) → lent (act a now r).1 ≡ true → (act a now r).0 ≡ r
+LentStands = (a : Act) (now : ℕ) (r : Option Row) → lent (act a now r).1 ≡ true → is_death (act a now r).1 ≡ false → (act a now r).0 ≡ r
+
+-- only a transaction that asks for a lock dies
+abbrev pub OnlyTransactionsDie : Type 0
+OnlyTransactionsDie = (a : Act) (now : ℕ) (r : Option Row) → may_die a ≡ false → is_death (act a now r).1 ≡ false

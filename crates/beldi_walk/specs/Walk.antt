@@ -1,10 +1,10 @@
 -- One turn of a walk.
-use Rattle.std.specs.Prelude.{◌≡◌, ℕ, true, IsTrue, Result, Ok, Err}
+use Rattle.std.specs.Prelude.{◌≡◌, ◌⊎◌, ℕ, Bool, true, false, IsTrue, Result, Ok, Err}
 use Rattle.beldi_row.specs.declared.table.TableErr.{TableErr}
 use Rattle.beldi_row.specs.declared.table.TableErr.TheVariants.{OutOfMemory, Failed, Full}
 use Rattle.beldi_row.specs.Table.{Rows, TableState, Tells}
 use Rattle.beldi_walk.specs.declared.query.Query.{Query}
-use Rattle.beldi_walk.specs.Query.{Told, Came, lends, query_adds}
+use Rattle.beldi_walk.specs.Query.{Told, Came, lends, query_adds, rows_after, told_by, may_tell_death, tells_death}
 
 -- by what its query came to: the walk is moved and says so, or else it stands where it stood
 abbrev pub Heeds : {W X : Type 0} → (Told → W) → (Told → X) → W → W → Result X TableErr → Result Told TableErr → Type 0
@@ -21,15 +21,26 @@ Turned q now f g w x old new result = (t : Result Told TableErr) × Heeds f g w 
 abbrev pub Answered : {X : Type 0} → Query → ℕ → (Told → X) → TableState → TableState → Result X TableErr → Type 0
 Answered q now g old new result = (t : Result Told TableErr) × Heeds (λ t. tt {0}) g (tt {0}) (tt {0}) result t × Came q now t old new
 
--- after an error of a turn the rows are as before
-abbrev pub ErrorsLeaveRows : {W X : Type 0} → (W → Query) → (W → Told → W) → (W → Told → X) → Type 0
-ErrorsLeaveRows {W} asks next says = (w x : W) (now : ℕ) (e : TableErr) (old new : TableState) → Turned (asks w) now (next w) (says w) w x old new (Err e) → Tells old.rows new.rows (λ m n. n ≡ m)
+-- what an error leaves, by whether its query may tell a death: the rows as before; only where it was out of memory for a death that
+-- was told, the death stands
+abbrev pub LeftAt : Bool → TableErr → Query → ℕ → Rows → Rows → Type 0
+LeftAt false e q now m n = n ≡ m
+LeftAt true OutOfMemory q now m n = (n ≡ m) ⊎ ((n ≡ rows_after q now m) × (tells_death (told_by q now m) ≡ true))
+LeftAt true Failed q now m n = n ≡ m
+LeftAt true (Full live most) q now m n = n ≡ m
 
--- an answer says this of the rows before and after; a refusal leaves them as they were, and is `Full` only where the query adds
--- a row
+abbrev pub Left : TableErr → Query → ℕ → Rows → Rows → Type 0
+Left e q now m n = LeftAt (may_tell_death q) e q now m n
+
+-- after an error of a turn the rows are as before, but for such a death
+abbrev pub ErrorsLeaveRows : {W X : Type 0} → (W → Query) → (W → Told → W) → (W → Told → X) → Type 0
+ErrorsLeaveRows {W} asks next says = (w x : W) (now : ℕ) (e : TableErr) (old new : TableState) → Turned (asks w) now (next w) (says w) w x old new (Err e) → Tells old.rows new.rows (Left e (asks w) now)
+
+-- an answer says this of the rows before and after; a refusal leaves them as they were, but for such a death, and is `Full` only
+-- where the query adds a row
 abbrev pub Leaves : {X : Type 0} → Query → ℕ → (Rows → Rows → X → Type 0) → Rows → Rows → Result X TableErr → Type 0
 Leaves q now P m n (Ok x) = P m n x
-Leaves q now P m n (Err OutOfMemory) = n ≡ m
+Leaves q now P m n (Err OutOfMemory) = Left OutOfMemory q now m n
 Leaves q now P m n (Err Failed) = n ≡ m
 Leaves q now P m n (Err (Full live most)) = (n ≡ m) × IsTrue (query_adds q now m)
 

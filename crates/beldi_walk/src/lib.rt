@@ -6,14 +6,16 @@
 //! Proved:
 //! - `Walk::turn` asks a table what the walk asks, in at most one call, and moves the walk by what the table told; at an error the
 //!   walk stands where it stood. The error is the table's, or out of memory: before the call, or for what was lent (`Turned`).
-//! - Laws: an act that lends what lies in the row has left the row as it was (`what_is_lent_stands`); so after an error of a
-//!   turn the rows are as before, for every walk (`an_error_leaves_the_rows`).
+//! - Laws: an act that lends what lies in the row has left the row as it was, unless it tells a death
+//!   (`what_is_lent_stands`), which only an act does that asks for a lock as a transaction (`only_transactions_die`). So
+//!   after an error of a turn the rows are as before, for every walk, but for a death that the turn was out of memory to tell
+//!   (`an_error_leaves_the_rows`).
 #![tactic(auto)]
 
 mod laws;
 mod query;
 mod walk;
 
-pub use laws::{an_error_leaves_the_rows, what_is_lent_stands};
+pub use laws::{an_error_leaves_the_rows, only_transactions_die, what_is_lent_stands};
 pub use query::{Heard, Query};
 pub use walk::Walk;

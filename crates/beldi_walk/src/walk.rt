@@ -31,10 +31,10 @@ pub trait Walk {
         ensures ok { IfOk result (λ s. (self.new ≡ next self.old (told_of heard.entry)) × (s ≡ says self.old (told_of heard.entry))) }
         ensures err { OnErr result ((self.new ≡ self.old) × (lends (told_of heard.entry) ≡ true)) };
 
-    /// One turn, at the moment `now`, in ticks. It makes one call of the table, or none where it is out of memory before.
-    /// After an `Err` the walk stands where it stood, and the rows are as before, since what is lent was left as it was
-    /// (`what_is_lent_stands`). `Failed` comes only where the table failed, and `Full` exactly where the query adds a row and the
-    /// table has no room for it.
+    /// One turn, at the moment `now`, in ticks. It makes one call of the table, or none where it is out of memory before. After an
+    /// `Err` the walk stands where it stood, and the rows are as before, since what is lent was left as it was
+    /// (`what_is_lent_stands`); out of memory, a death that was told in this turn may stand. `Failed` comes only where the table
+    /// failed, and `Full` exactly where the query adds a row and the table has no room for it.
     fn turn<T: Table>(
         &mut self,
         alloc: Global,
