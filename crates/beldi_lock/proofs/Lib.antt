@@ -1,1 +1,3 @@
+mod Firsts
+mod IdBefore
 mod Locked

@@ -1,2 +1,3 @@
 pub mod Lock
 pub mod Locked
+pub mod Lockset

@@ -1,46 +1,88 @@
 -- What a walk says of a lock is so of its item.
-use Rattle.std.specs.Prelude.{◌≡◌, ℕ, true, false, Some, None, Ok}
+use Rattle.std.specs.Prelude.{◌≡◌, ℕ, true, false, Option, Some, None, Ok}
 use Rattle.std.specs.FinMap as map
 use Rattle.std.specs.Ordering.{is_eq}
+use Rattle.beldi_value.specs.declared.id.IntentId.{IntentId}
 use Rattle.beldi_value.specs.declared.place.Owner.{Owner}
 use Rattle.beldi_value.specs.declared.place.Place.{Place}
 use Rattle.beldi_row.specs.declared.key.RowKey.{RowKey}
+use Rattle.beldi_row.specs.declared.notes.Note.{Note}
 use Rattle.beldi_row.specs.declared.notes.Note.TheVariants as note
+use Rattle.beldi_row.specs.declared.row.Row.{Row}
+use Rattle.beldi_row.specs.declared.row.Row.TheVariants as rows
 use Rattle.beldi_row.specs.Act.{other_owner}
 use Rattle.beldi_row.specs.Key.{key_cmp}
 use Rattle.beldi_row.specs.Log.{note_at}
 use Rattle.beldi_row.specs.Table.{Rows, TableState, Tells}
+use Rattle.beldi_walk.specs.Query.{told_by}
 use Rattle.beldi_walk.specs.Walk.{Turned}
 use Rattle.beldi_daal.specs.declared.cell.CellOp.TheVariants.{Lock}
+use Rattle.beldi_daal.specs.declared.cell.WriteAt.TheVariants.{Try}
 use Rattle.beldi_daal.specs.Cell.{cell_key}
 use Rattle.beldi_daal.specs.Content.{Content, content_in, SoundAt}
-use Rattle.beldi_daal.specs.Logged.{done_to}
+use Rattle.beldi_daal.specs.Logged.{waited, dies, done_to, died_at}
+use Rattle.beldi_lock.specs.declared.lock.LockAt.{LockAt}
+use Rattle.beldi_lock.specs.declared.lock.LockAt.TheVariants.{Lockset, Item}
 use Rattle.beldi_lock.specs.declared.lock_walk.LockSays.{LockSays}
 use Rattle.beldi_lock.specs.declared.lock_walk.LockSays.TheVariants.{Going, Got, Died, Held, Worn}
 use Rattle.beldi_lock.specs.declared.lock_walk.LockWalk.{LockWalk}
-use Rattle.beldi_lock.specs.Lock.{lock_asks, lock_next, lock_says}
+use Rattle.beldi_lock.specs.Lock.{lockset_key, note_goes, lock_asks, lock_next, lock_so, lock_says}
 
 abbrev pub lock_key : LockWalk → RowKey
 lock_key w = cell_key w.home w.table w.key
 
+-- the note of what is said of a place
+abbrev pub HasNote : Place → LockSays → Content → Type 0
+HasNote p (Got first) d = note_at d.notes p ≡ Some note.Got
+HasNote p (Died a) d = note_at d.notes p ≡ Some (note.Died a)
+HasNote p s d = Unit {0}
+
+-- by the note that the place had: it died in this turn, of the other owner, and the death was noted; or it had died before
+abbrev pub Dies : Place → Owner → IntentId → Option Note → Content → Content → Type 0
+Dies p who a None c d = (dies who Lock c.owner ≡ Some a) × (d ≡ died_at p a c)
+Dies p who a (Some n) c d = (n ≡ note.Died a) × (d ≡ c)
+
 -- by the content of the item before the turn, and after it. A lock was taken in this turn where the place had no note and no
--- other owned the item; otherwise the content stands, and what is said of the place or of the owner is so.
+-- other owned the item. Otherwise, but for a death, the content stands, and what is said of the place or of the owner is so: who asks
+-- waits for that other owner.
 abbrev pub Locks : Place → Owner → LockSays → Content → Content → Type 0
 Locks p who (Got true) c d = (note_at c.notes p ≡ None) × (other_owner who c.owner ≡ None) × (d ≡ done_to p who Lock c)
 Locks p who (Got false) c d = (note_at c.notes p ≡ Some note.Got) × (d ≡ c)
-Locks p who (Died h) c d = (note_at c.notes p ≡ Some (note.Died h)) × (d ≡ c)
-Locks p who (Held o) c d = (note_at c.notes p ≡ None) × (other_owner who c.owner ≡ Some o) × (d ≡ c)
+Locks p who (Died a) c d = Dies p who a (note_at c.notes p) c d
+Locks p who (Held o) c d = (note_at c.notes p ≡ None) × (waited who (other_owner who c.owner) ≡ Some o) × (d ≡ c)
 Locks p who Going c d = d ≡ c
 Locks p who Worn c d = ⊥
 
--- what a turn leaves, where the item's chain is sound
+-- what a turn at the item leaves, where its chain is sound
 pub record LockTurn (w : LockWalk) (m n : Rows) (s : LockSays) : Type 0 where
   -- all other rows are as before
   pub others : (k : RowKey) → is_eq (key_cmp k (lock_key w)) ≡ false → map.get n k ≡ map.get m k
   pub locks : Locks w.place w.who s (content_in (map.get m (lock_key w))) (content_in (map.get n (lock_key w)))
+  -- the place has what is said of it
+  pub noted : HasNote w.place s (content_in (map.get n (lock_key w)))
   pub sound : SoundAt (map.get n (lock_key w))
+
+-- what a turn leaves that puts the row of a lockset: it is there, and all other rows are as before
+abbrev pub put_row : Option Row → Row
+put_row None = rows.Lockset
+put_row (Some r) = r
+
+pub record PutTurn (k : RowKey) (m n : Rows) (s : LockSays) : Type 0 where
+  pub says : s ≡ Going
+  pub others : (q : RowKey) → is_eq (key_cmp q k) ≡ false → map.get n q ≡ map.get m q
+  pub put : map.get n k ≡ Some (put_row (map.get m k))
+
+-- by where the walk stands
+abbrev pub LeavesAt : LockAt → LockWalk → Rows → Rows → LockSays → Type 0
+LeavesAt (Lockset begin) w m n s = PutTurn (lockset_key w.home w.place.intent begin w.table w.key) m n s
+LeavesAt (Item at) w m n s = SoundAt (map.get m (lock_key w)) → LockTurn w m n s
 
 -- for every turn that says something, over every table that tells its rows
 abbrev pub LocksAreByTheRow : Type 0
 LocksAreByTheRow = (w x : LockWalk) (now : ℕ) (old new : TableState) (s : LockSays) → Turned (lock_asks w) now (lock_next w) (lock_says w) w x old new (Ok s)
-    → Tells old.rows new.rows (λ m n. SoundAt (map.get m (lock_key w)) → LockTurn w m n s)
+    → Tells old.rows new.rows (λ m n. LeavesAt w.at w m n s)
+
+-- what a place came to first stands: a walk for it that tries the item says so, and took nothing
+abbrev pub LocksStand : Type 0
+LocksStand = (w : LockWalk) (now : ℕ) (m : Rows) (n : Note) → w.at ≡ Item Try → SoundAt (map.get m (lock_key w)) → note_at (content_in (map.get m (lock_key w))).notes w.place ≡ Some n
+    → lock_says w (told_by (lock_asks w) now m) ≡ lock_so (note_goes Try n false)

@@ -1,0 +1,263 @@
+-- The first row of a transaction's locks.
+use Rattle.std.proofs.Common.{◌≡◌, ℕ, zero, suc, ◌-◌, ◌^◌, ◌<◌, ◌≤◌, List, [], ◌∷◌, ◌++◌, length, replicate, Option, None, Some, refl, ap, sym, ◌∙◌, subst, arith}
+use Rattle.std.specs.Cmp.{ranks}
+use Rattle.std.specs.Cmp.Lexicographic.{slice_cmp}
+use Rattle.std.specs.Ordering.{nat_cmp, ordering_then, ordering_reverse, MatchOrdering}
+use Rattle.std.specs.declared.cmp.Ordering.{Ordering}
+use Rattle.std.specs.declared.cmp.Ordering.TheVariants.{Less, Equal, Greater}
+use Rattle.std.proofs.lemmas.Cmp.{tied_itself}
+use Rattle.std.specs.Cmp.{nat_cmp_total}
+use Rattle.beldi_value.specs.declared.id.IntentId.{IntentId}
+use Rattle.beldi_value.specs.Id.{id_cmp, id_total}
+use Rattle.beldi_row.specs.Key.{key_cmp}
+use Rattle.beldi_row.specs.KeyOrder.{key_total, key_exact}
+use Rattle.beldi_row.specs.declared.key.RowKey.{RowKey}
+use Rattle.beldi_row.specs.declared.key.Kind.{Kind}
+use Rattle.beldi_row.specs.declared.key.Kind.TheVariants as kinds
+use Rattle.beldi_row.specs.declared.row.Row.{Row}
+use Rattle.beldi_row.specs.Table.{Rows, IsNext, next_row}
+use Rattle.beldi_row.proofs.Least.{next_row_least}
+use Rattle.beldi_walk.proofs.Promises.{promised}
+use Rattle.beldi_lock.specs.Lock.{lockset_key}
+use Rattle.beldi_lock.specs.Lockset.{most, filled, onto_front, split_last, before_last, before_split, id_before, begin_before, lockset_after, lockset_asks, lockset_found, AreHops, IsFit, AreFit, IsFirstFrom, FindsFirst, LocksetsBegin, FindsNext, LocksetsFollow}
+use Rattle.beldi_lock.proofs.IdBefore.{less_each}
+
+-- ---- numbers
+below : (a b : ℕ) → nat_cmp a b ≡ Less → a < b
+below a b h = subst (λ r. MatchOrdering r (a < b) (a ≡ b) (b < a)) h (ranks a b)
+
+level : (a b : ℕ) → nat_cmp a b ≡ Equal → a ≡ b
+level a b h = subst (λ r. MatchOrdering r (a < b) (a ≡ b) (b < a)) h (ranks a b)
+
+is_less : (a b : ℕ) → a < b → nat_cmp a b ≡ Less
+is_less a b h = by (nat_cmp a b) (ranks a b)
+  where
+    by : (r : Ordering) → MatchOrdering r (a < b) (a ≡ b) (b < a) → r ≡ Less
+    by Less g = refl
+    by Equal g = absurd (omega (arith, h, g))
+    by Greater g = absurd (omega (arith, h, g))
+
+-- of two that are compared part by part: the first part is below, or it is level and the rest is below
+parts : (o r : Ordering) → ordering_then o r ≡ Less → (P : Type 0) → (o ≡ Less → P) → (o ≡ Equal → r ≡ Less → P) → P
+parts Less r h P less level = less refl
+parts Equal r h P less level = level refl h
+parts Greater r h P less level = cc
+
+-- what stands between a and b in the first part stands so in the rest
+between : (a x b : ℕ) (r s : Ordering) → (a < b → ⊥) → ordering_then (nat_cmp a x) r ≡ Less → ordering_then (nat_cmp x b) s ≡ Less → (P : Type 0) → (a ≡ x → x ≡ b → r ≡ Less → s ≡ Less → P) → P
+between a x b r s same h g P go =
+    parts (nat_cmp a x) r h P
+    (λ l. parts (nat_cmp x b) s g P
+    (λ k. let p = below a x l in let q = below x b k in absurd (same (omega (arith, p, q))))
+    (λ k y. let p = below a x l in let q = level x b k in absurd (same (omega (arith, p, q)))))
+    (λ l z. parts (nat_cmp x b) s g P
+    (λ k. let p = level a x l in let q = below x b k in absurd (same (omega (arith, p, q))))
+    (λ k y. go (level a x l) (level x b k) z y))
+
+irreflexive : (a : ℕ) → a < a → ⊥
+irreflexive a h = omega (arith, h)
+
+-- ---- hops
+no_less : (xs : List ℕ) → slice_cmp nat_cmp xs [] ≡ Less → ⊥
+no_less [] h = cc
+no_less (x ∷ xs) h = cc
+
+none_past : (room : ℕ) (xs : List ℕ) → AreHops room xs → slice_cmp nat_cmp (replicate room most) xs ≡ Less → ⊥
+none_past zero [] a h = cc
+none_past zero (x ∷ xs) a h = absurd a
+none_past (suc room) [] a h = cc
+none_past (suc room) (x ∷ xs) a h =
+    parts (nat_cmp most x) (slice_cmp nat_cmp (replicate room most) xs) h ⊥
+    (λ l. let p = below most x l in omega (arith, p, a.0))
+    (λ l r. none_past room xs a.1 r)
+
+filled_cons : (room h : ℕ) (xs : List ℕ) → filled (suc room) (h ∷ xs) ≡ h ∷ filled room xs
+filled_cons room h xs = ap (λ n. h ∷ xs ++ replicate n most) (less_each room (length xs))
+
+before_cons : (room h : ℕ) (front : List ℕ) (l : ℕ) → before_last (suc room) (h ∷ front) l ≡ h ∷ before_last room front l
+before_cons room h front zero = refl
+before_cons room h front (suc n) = filled_cons room h (front ++ n ∷ [])
+
+-- hops that end, and those directly before them
+record Before (room : ℕ) (b hs : List ℕ) : Type 0 where
+  less : slice_cmp nat_cmp b hs ≡ Less
+  none : (xs : List ℕ) → AreHops room xs → slice_cmp nat_cmp b xs ≡ Less → slice_cmp nat_cmp xs hs ≡ Less → ⊥
+
+last_before : (room l : ℕ) → Before (suc room) (before_last (suc room) [] l) (l ∷ [])
+last_before room zero = record { less = refl; none = by }
+  where
+    by : (xs : List ℕ) → AreHops (suc room) xs → slice_cmp nat_cmp [] xs ≡ Less → slice_cmp nat_cmp xs (0 ∷ []) ≡ Less → ⊥
+    by [] a h g = cc
+    by (x ∷ xs) a h g = parts (nat_cmp x 0) (slice_cmp nat_cmp xs []) g ⊥ (λ l. let p = below x 0 l in omega (arith, p)) (λ l r. no_less xs r)
+last_before room (suc n) = subst (λ b. Before (suc room) b (suc n ∷ [])) (sym (filled_cons room n [] ∙ ap (λ k. n ∷ replicate k most) (omega arith))) (record {
+  less = ap (λ o. ordering_then o (slice_cmp nat_cmp (replicate room most) [])) (is_less n (suc n) (omega arith));
+  none = by;
+})
+  where
+    by : (xs : List ℕ) → AreHops (suc room) xs → slice_cmp nat_cmp (n ∷ replicate room most) xs ≡ Less → slice_cmp nat_cmp xs (suc n ∷ []) ≡ Less → ⊥
+    by [] a h g = cc
+    by (x ∷ xs) a h g =
+        parts (nat_cmp x (suc n)) (slice_cmp nat_cmp xs []) g ⊥
+        (λ l. parts (nat_cmp n x) (slice_cmp nat_cmp (replicate room most) xs) h ⊥
+        (λ k. let p = below x (suc n) l in let q = below n x k in omega (arith, p, q))
+        (λ k r. none_past room xs a.1 r))
+        (λ l r. no_less xs r)
+
+more_before : (room h : ℕ) (b hs : List ℕ) → Before room b hs → Before (suc room) (h ∷ b) (h ∷ hs)
+more_before room h b hs w = record { less = ap (λ o. ordering_then o (slice_cmp nat_cmp b hs)) (tied_itself nat_cmp_total h) ∙ w.less; none = by }
+  where
+    by : (xs : List ℕ) → AreHops (suc room) xs → slice_cmp nat_cmp (h ∷ b) xs ≡ Less → slice_cmp nat_cmp xs (h ∷ hs) ≡ Less → ⊥
+    by [] a p q = cc
+    by (x ∷ xs) a p q = between h x h (slice_cmp nat_cmp b xs) (slice_cmp nat_cmp xs hs) (irreflexive h) p q ⊥ (λ e f r s. w.none xs a.1 r s)
+
+-- the hops directly before those that a first hop and more make
+abbrev IsBefore : ℕ → Option (List ℕ × ℕ) → List ℕ → Type 0
+IsBefore room None hs = ⊥
+IsBefore room (Some s) hs = Before room (before_last room s.0 s.1) hs
+
+onto : (room h : ℕ) (s : Option (List ℕ × ℕ)) (hs : List ℕ) → IsBefore room s hs → IsBefore (suc room) (Some (onto_front h s)) (h ∷ hs)
+onto room h None hs w = absurd w
+onto room h (Some s) hs w = subst (λ b. Before (suc room) b (h ∷ hs)) (sym (before_cons room h s.0 s.1)) (more_before room h (before_last room s.0 s.1) hs w)
+
+hops_before : (room h : ℕ) (hs : List ℕ) → AreHops (suc room) (h ∷ hs) → IsBefore (suc room) (split_last (h ∷ hs)) (h ∷ hs)
+hops_before room h [] a = last_before room h
+hops_before zero h (g ∷ hs) a = absurd a.1
+hops_before (suc room) h (g ∷ hs) a = onto (suc room) h (split_last (g ∷ hs)) (g ∷ hs) (hops_before room g hs a.1)
+
+-- ---- ids
+record Precedes (a b : IntentId) : Type 0 where
+  less : id_cmp a b ≡ Less
+  none : (x : IntentId) → AreHops 63 x.hops → id_cmp a x ≡ Less → id_cmp x b ≡ Less → ⊥
+
+root_before : (t : ℕ) → 1 ≤ t → Precedes (record { ticket = t - 1; hops = replicate 63 most }) (record { ticket = t; hops = [] })
+root_before t some = record {
+  less = ap (λ o. ordering_then o (slice_cmp nat_cmp (replicate 63 most) [])) (is_less (t - 1) t (omega (arith, some)));
+  none = λ x a h g.
+      parts (nat_cmp x.ticket t) (slice_cmp nat_cmp x.hops []) g ⊥
+      (λ l. parts (nat_cmp (t - 1) x.ticket) (slice_cmp nat_cmp (replicate 63 most) x.hops) h ⊥
+      (λ k. let p = below x.ticket t l in let q = below (t - 1) x.ticket k in omega (arith, p, q))
+      (λ k r. none_past 63 x.hops a r))
+      (λ l r. no_less x.hops r);
+}
+
+callee_before : (t : ℕ) (s : Option (List ℕ × ℕ)) (hs : List ℕ) → IsBefore 63 s hs → Precedes (before_split t s) (record { ticket = t; hops = hs })
+callee_before t None hs w = absurd w
+callee_before t (Some s) hs w = record {
+  less = ap (λ o. ordering_then o (slice_cmp nat_cmp (before_last 63 s.0 s.1) hs)) (tied_itself nat_cmp_total t) ∙ w.less;
+  none = λ x a h g. between t x.ticket t (slice_cmp nat_cmp (before_last 63 s.0 s.1) x.hops) (slice_cmp nat_cmp x.hops hs) (irreflexive t) h g ⊥ (λ e f r q. w.none x.hops a r q);
+}
+
+precedes : (id : IntentId) → 1 ≤ id.ticket → AreHops 63 id.hops → Precedes (id_before id) id
+precedes id some a = by id.hops a
+  where
+    by : (hs : List ℕ) → AreHops 63 hs → Precedes (before_split id.ticket (split_last hs)) (record { ticket = id.ticket; hops = hs })
+    by [] a = root_before id.ticket some
+    by (h ∷ hs) a = callee_before id.ticket (split_last (h ∷ hs)) (h ∷ hs) (hops_before 62 h hs a)
+
+-- ---- keys
+assoc : (o p r : Ordering) → ordering_then o (ordering_then p r) ≡ ordering_then (ordering_then o p) r
+assoc Less p r = refl
+assoc Equal p r = refl
+assoc Greater p r = refl
+
+-- behind the intent: the begin, the table and the key
+abbrev items : ℕ → ℕ → List ℕ → List ℕ → Ordering
+items t u k l = ordering_then (nat_cmp t u) (ordering_then (slice_cmp nat_cmp k l) Equal)
+
+abbrev rest : ℕ → ℕ → ℕ → ℕ → List ℕ → List ℕ → Ordering
+rest b c t u k l = ordering_then (nat_cmp b c) (items t u k l)
+
+by_parts : (home room : ℕ) (a i : IntentId) (b c t u : ℕ) (k l : List ℕ) → key_cmp (lockset_key home a b t k) (lockset_key room i c u l) ≡ ordering_then (nat_cmp home room) (ordering_then (id_cmp a i) (rest b c t u k l))
+by_parts home room a i b c t u k l = ap (ordering_then (nat_cmp home room)) (assoc (nat_cmp a.ticket i.ticket) (slice_cmp nat_cmp a.hops i.hops) (rest b c t u k l))
+
+-- no item is below the first one
+no_item : (t : ℕ) (k : List ℕ) → items t 0 k [] ≡ Less → ⊥
+no_item t k h =
+    parts (nat_cmp t 0) (ordering_then (slice_cmp nat_cmp k []) Equal) h ⊥
+    (λ l. let p = below t 0 l in omega (arith, p))
+    (λ l r. parts (slice_cmp nat_cmp k []) Equal r ⊥ (λ s. no_less k s) (λ s z. let clash : Equal ≡ Less = z in cc))
+
+-- .. and none is in the last table
+no_table : (t : ℕ) (k : List ℕ) → t < 2 ^ 16 - 1 → items (2 ^ 16 - 1) t [] k ≡ Less → ⊥
+no_table t k fit h =
+    parts (nat_cmp (2 ^ 16 - 1) t) (ordering_then (slice_cmp nat_cmp [] k) Equal) h ⊥
+    (λ l. let p = below (2 ^ 16 - 1) t l in omega (arith, p, fit))
+    (λ l r. let p = level (2 ^ 16 - 1) t l in omega (arith, p, fit))
+
+module _ (home : ℕ) (id : IntentId) (some : 1 ≤ id.ticket) (hops : AreHops 63 id.hops) where
+  abbrev start : ℕ → RowKey
+  start begin = lockset_after home id begin None
+
+  abbrev least : ℕ → RowKey
+  least begin = lockset_key home id begin 0 []
+
+  start_below : (begin : ℕ) → key_cmp (start begin) (least begin) ≡ Less
+  start_below zero =
+      by_parts home home (id_before id) id most 0 (2 ^ 16 - 1) 0 [] []
+      ∙ ap (λ o. ordering_then o (ordering_then (id_cmp (id_before id) id) (rest most 0 (2 ^ 16 - 1) 0 [] []))) (tied_itself nat_cmp_total home)
+      ∙ ap (λ o. ordering_then o (rest most 0 (2 ^ 16 - 1) 0 [] [])) (precedes id some hops).less
+  start_below (suc b) =
+      by_parts home home id id b (suc b) (2 ^ 16 - 1) 0 [] []
+      ∙ ap (λ o. ordering_then o (ordering_then (id_cmp id id) (rest b (suc b) (2 ^ 16 - 1) 0 [] []))) (tied_itself nat_cmp_total home)
+      ∙ ap (λ o. ordering_then o (rest b (suc b) (2 ^ 16 - 1) 0 [] [])) (tied_itself id_total id)
+      ∙ ap (λ o. ordering_then o (items (2 ^ 16 - 1) 0 [] [])) (is_less b (suc b) (omega (arith)))
+
+  -- between the two is no row
+  none_between : (begin : ℕ) (i : IntentId) (b t : ℕ) (k : List ℕ) → AreHops 63 i.hops → b ≤ most → t < 2 ^ 16 - 1
+      → ordering_then (id_cmp (begin_before id begin).0 i) (rest (begin_before id begin).1 b (2 ^ 16 - 1) t [] k) ≡ Less
+      → ordering_then (id_cmp i id) (rest b begin t 0 k []) ≡ Less → ⊥
+  none_between zero i b t k short small fit h g =
+      parts (id_cmp (id_before id) i) (rest most b (2 ^ 16 - 1) t [] k) h ⊥
+      (λ l. parts (id_cmp i id) (rest b 0 t 0 k []) g ⊥
+      (λ p. (precedes id some hops).none i short l p)
+      (λ p r. parts (nat_cmp b 0) (items t 0 k []) r ⊥ (λ q. let z = below b 0 q in omega (arith, z)) (λ q s. no_item t k s)))
+      (λ l r. parts (nat_cmp most b) (items (2 ^ 16 - 1) t [] k) r ⊥
+      (λ q. let z = below most b q in omega (arith, z, small))
+      (λ q s. no_table t k fit s))
+  none_between (suc c) i b t k short small fit h g =
+      parts (id_cmp id i) (rest c b (2 ^ 16 - 1) t [] k) h ⊥
+      (λ l. let clash = sym (ap (λ o. ordering_then o (rest b (suc c) t 0 k [])) (id_total.antisymm i id ∙ ap ordering_reverse l)) ∙ g in cc)
+      (λ l r.
+      let s : rest b (suc c) t 0 k [] ≡ Less = sym (ap (λ o. ordering_then o (rest b (suc c) t 0 k [])) (id_total.antisymm i id ∙ ap ordering_reverse l)) ∙ g in
+      parts (nat_cmp c b) (items (2 ^ 16 - 1) t [] k) r ⊥
+      (λ p. parts (nat_cmp b (suc c)) (items t 0 k []) s ⊥
+      (λ q. let y = below c b p in let z = below b (suc c) q in omega (arith, y, z))
+      (λ q z. no_item t k z))
+      (λ p z. no_table t k fit z))
+
+  -- rows of other kinds stand before all of these in their home
+  other_kind : (room : ℕ) (s : Ordering) → ordering_then (nat_cmp home room) Greater ≡ Less → ordering_then (nat_cmp room home) s ≡ Less → ⊥
+  other_kind room s h g = between home room home Greater s (irreflexive home) h g ⊥ (λ e f r z. let clash : Greater ≡ Less = r in cc)
+
+  none_passed : (begin : ℕ) (room : ℕ) (kind : Kind) → IsFit kind → key_cmp (start begin) (record { home = room; kind = kind }) ≡ Less → key_cmp (record { home = room; kind = kind }) (least begin) ≡ Less → ⊥
+  none_passed begin room (kinds.Lockset i b t k) fit h g =
+      let p = begin_before id begin in
+      between home room home (ordering_then (id_cmp p.0 i) (rest p.1 b (2 ^ 16 - 1) t [] k)) (ordering_then (id_cmp i id) (rest b begin t 0 k [])) (irreflexive home)
+      (sym (by_parts home room p.0 i p.1 b (2 ^ 16 - 1) t [] k) ∙ h) (sym (by_parts room home i id b begin t 0 k []) ∙ g) ⊥
+      (λ e f r s. none_between begin i b t k fit.0 fit.1 fit.2 r s)
+  none_passed begin room (kinds.Intent i) fit h g = other_kind room _ h g
+  none_passed begin room (kinds.ReadLog p) fit h g = other_kind room _ h g
+  none_passed begin room (kinds.Invoke p) fit h g = other_kind room _ h g
+  none_passed begin room (kinds.Data t k r) fit h g = other_kind room _ h g
+  none_passed begin room (kinds.Shadow x t k r) fit h g = other_kind room _ h g
+
+  -- what is not below the first key is past the start
+  past : (begin : ℕ) (q : RowKey) → (key_cmp q (least begin) ≡ Less → ⊥) → key_cmp (start begin) q ≡ Less
+  past begin q h = by (key_cmp q (least begin)) refl
+    where
+      by : (o : Ordering) → key_cmp q (least begin) ≡ o → key_cmp (start begin) q ≡ Less
+      by Less e = absurd (h e)
+      by Equal e = ap (key_cmp (start begin)) (key_exact q (least begin) e) ∙ start_below begin
+      by Greater e = key_total.trans (start begin) (least begin) q (start_below begin) (key_total.antisymm (least begin) q ∙ ap ordering_reverse e)
+
+  first_from : (begin : ℕ) (m : Rows) (e : Option (RowKey × Row)) → AreFit m → IsNext m (start begin) e → IsFirstFrom m (least begin) e
+  first_from begin m None fit h = λ q p. h q (past begin q p)
+  first_from begin m (Some e) fit h = (λ p. none_passed begin e.0.home e.0.kind (fit e.0 e.1 h.1) h.0 p, h.1, λ q p less. h.2 q (past begin q p) less)
+
+pub locksets_begin : LocksetsBegin
+locksets_begin home id begin some hops = promised (lockset_asks home id begin None) 0 (lockset_found home id begin) (FindsFirst home id begin)
+    (λ m. (refl, λ fit. (next_row m (lockset_after home id begin None), first_from home id some hops begin m (next_row m (lockset_after home id begin None)) fit (next_row_least m (lockset_after home id begin None)), refl)))
+
+pub locksets_follow : LocksetsFollow
+locksets_follow home id begin at = promised (lockset_asks home id begin (Some at)) 0 (lockset_found home id begin) (FindsNext home id begin at)
+    (λ m. (refl, (next_row m (lockset_key home id begin at.0 at.1), next_row_least m (lockset_key home id begin at.0 at.1), refl)))

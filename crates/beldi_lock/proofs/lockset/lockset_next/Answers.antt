@@ -1,0 +1,8 @@
+use Rattle.std.proofs.Common.{refl, Err}
+use Rattle.beldi_row.specs.declared.table.TableErr.TheVariants.{OutOfMemory}
+use Rattle.beldi_walk.proofs.Queries.{unasked}
+use Rattle.beldi_lock.specs.Lockset.{lockset_asks, item_lent}
+use Rattle.beldi_lock.proofs.lockset.lockset_next.Goals as goal
+
+pub returns-in-Err : goal.returns-in-Err
+returns-in-Err g c = (Err OutOfMemory, (refl, refl), unasked (lockset_asks c.args.home c.args.id.now c.args.begin (item_lent c.args.after)) 0 (g.T.Table.state c.args.table.now))
