@@ -1,0 +1,100 @@
+-- What the walks say of a shadow is what a logged cell says of it.
+use Rattle.std.proofs.Common.{◌≡◌, true, false, Option, None, Some, Ok, Err, refl, ap, sym, ◌∙◌, subst}
+use Rattle.std.specs.FinMap as map
+use Rattle.beldi_value.specs.declared.place.Owner.{Owner}
+use Rattle.beldi_value.specs.declared.place.Owner.TheVariants.{Intent, Tx}
+use Rattle.beldi_value.specs.declared.place.Place.{Place}
+use Rattle.beldi_row.specs.declared.table.TableErr.{TableErr}
+use Rattle.beldi_row.specs.declared.table.TableErr.TheVariants.{OutOfMemory, Failed, Full}
+use Rattle.beldi_row.specs.Log.{note_at}
+use Rattle.beldi_row.specs.Table.{Rows}
+use Rattle.beldi_row.proofs.Tells.{tells_map}
+use Rattle.beldi_daal.specs.declared.cell.CellOp.{CellOp}
+use Rattle.beldi_daal.specs.declared.cell.CellOp.TheVariants.{Write, Cond, Lock, Free}
+use Rattle.beldi_daal.specs.declared.walk.WriteSays.{WriteSays}
+use Rattle.beldi_daal.specs.declared.walk.WriteSays.TheVariants as writes
+use Rattle.beldi_daal.specs.declared.read_walk.ReadSays.{ReadSays}
+use Rattle.beldi_daal.specs.declared.read_walk.ReadSays.TheVariants as reads
+use Rattle.beldi_daal.specs.Content.{Content, content_in, SoundAt}
+use Rattle.beldi_daal.specs.Logged.{owner_after, dies, barred, DidAs, Logs, LoggedTurn, ReadsContent, ReadTurn as PlainRead}
+use Rattle.beldi_daal.specs.ReadWalk as read
+use Rattle.beldi_daal.specs.Walk as write
+use Rattle.beldi_daal.proofs.Logged.{writes_are_logged, reads_are_contents}
+use Rattle.beldi_shadow.specs.declared.shadow.ShadowRead.{ShadowRead}
+use Rattle.beldi_shadow.specs.declared.shadow.ShadowWrite.{ShadowWrite}
+use Rattle.beldi_shadow.specs.Shadow.{first_read, read_so, write_so}
+use Rattle.beldi_shadow.specs.Shadowed.{is_aside, write_key, read_key, DoneOnce, Writes, WriteTurn, Reads, ReadTurn, ShadowsAreLogged, ShadowsReadTheirOwn}
+
+-- ---- a write: nothing bars it, and nobody dies
+free : (who : Owner) (op : CellOp) → is_aside op ≡ true → barred op who None ≡ None
+free who (Write v) h = refl
+free who (Cond r u v) h = refl
+free who Lock h = cc
+free who (Free v) h = cc
+
+lives : (who : Owner) (op : CellOp) (o : Option Owner) → is_aside op ≡ true → dies who op o ≡ None
+lives (Intent a) op o h = refl
+lives (Tx t) (Write v) o h = refl
+lives (Tx t) (Cond r u v) o h = refl
+lives (Tx t) Lock o h = cc
+lives (Tx t) (Free v) o h = cc
+
+module _ (p : Place) (who : Owner) (op : CellOp) (aside : is_aside op ≡ true) (c d : Content) (unowned : c.owner ≡ None) where
+  as_before : d ≡ c → d.owner ≡ None
+  as_before is = ap (λ (z : Content). z.owner) is ∙ unowned
+
+  -- an operation aside leaves the owner
+  done_owner : (op : CellOp) → is_aside op ≡ true → owner_after op who c.owner ≡ c.owner
+  done_owner (Write v) h = refl
+  done_owner (Cond r u v) h = refl
+  done_owner Lock h = cc
+  done_owner (Free v) h = cc
+
+  written : (s : WriteSays) → Logs p who op s c d → Writes p who op (write_so s) c d × (d.owner ≡ None)
+  written writes.Going l = (l, as_before l)
+  written (writes.Done n true) l =
+      let did = (subst (λ z. DidAs p who op z c d) (lives who op c.owner aside) l.1.1).1 in
+      ((l.0, subst (λ z. DoneOnce p who op z c d) (sym l.1.0) did), ap (λ (z : Content). z.owner) did ∙ done_owner op aside ∙ unowned)
+  written (writes.Done n false) l = ((l.0, subst (λ z. DoneOnce p who op z c d) (sym (ap (λ (z : Content). note_at z.notes p) (sym l.1) ∙ l.0)) l.1), as_before l.1)
+  written writes.NotOwner l = (l.2, as_before l.2)
+  written (writes.Held o) l = let clash = sym (ap (barred op who) unowned ∙ free who op aside) ∙ l.1 in cc
+  written writes.Worn l = absurd l
+
+pub shadows_are_logged : ShadowsAreLogged
+shadows_are_logged w x now old new s aside (Ok t, h, c) = tells_map
+    {P = λ m n. SoundAt (map.get m (write_key w)) → LoggedTurn w.walk m n (write.walk_says w.walk t)}
+    {Q = λ m n. SoundAt (map.get m (write_key w)) → (content_in (map.get m (write_key w))).owner ≡ None → WriteTurn w m n s} old.rows new.rows
+    (λ m n turned sound unowned.
+    let l : LoggedTurn w.walk m n (write.walk_says w.walk t) = turned sound in
+    let z = written w.walk.place w.walk.who w.walk.op aside _ _ unowned (write.walk_says w.walk t) l.logs in
+    subst (WriteTurn w m n) (sym h.1) (record { others = l.others; writes = z.0; sound = l.sound; unowned = z.1 }))
+    (writes_are_logged w.walk (write.walk_next w.walk t) now old new (write.walk_says w.walk t) (Ok t, (refl, refl), c))
+shadows_are_logged w x now old new s aside (Err v, h, c) = absurd h
+
+-- ---- a read
+so : (c : Content) (s : ReadSays) → ReadsContent None s c → Reads (read_so s) c
+so c reads.Going h = h
+so c (reads.Got None) h = h
+so c (reads.Got (Some v)) h = h.1
+so c (reads.Held o) h = cc
+
+same : (w : ShadowRead) (m n : Rows) (e : TableErr) → PlainRead w.walk m n (Err e) → ReadTurn w m n (Err e)
+same w m n OutOfMemory h = h
+same w m n Failed h = h
+same w m n (Full live most) h = h
+
+pub shadows_read_their_own : ShadowsReadTheirOwn
+shadows_read_their_own home tx t k y now old new (Ok s) (Ok v, h, c) =
+    let w = first_read home tx t k in tells_map
+    {P = λ m n. PlainRead w.walk m n (Ok (read.read_says w.walk v))} {Q = λ m n. ReadTurn w m n (Ok s)} old.rows new.rows
+    (λ m n turned. (turned.0, λ sound. subst (λ z. Reads z (content_in (map.get m (read_key w)))) (sym h.1) (so (content_in (map.get m (read_key w))) (read.read_says w.walk v) (turned.1 sound))))
+    (reads_are_contents w.walk w.walk now old new (Ok (read.read_says w.walk v)) (Ok v, (refl, refl), c))
+shadows_read_their_own home tx t k y now old new (Ok s) (Err v, h, c) = absurd h
+shadows_read_their_own home tx t k y now old new (Err e) (Ok v, h, c) =
+    let w = first_read home tx t k in tells_map
+    {P = λ m n. PlainRead w.walk m n (Err e)} {Q = λ m n. ReadTurn w m n (Err e)} old.rows new.rows (λ m n turned. same w m n e turned)
+    (reads_are_contents w.walk w.walk now old new (Err e) (Ok v, (refl, h.1, h.2), c))
+shadows_read_their_own home tx t k y now old new (Err e) (Err v, h, c) =
+    let w = first_read home tx t k in tells_map
+    {P = λ m n. PlainRead w.walk m n (Err e)} {Q = λ m n. ReadTurn w m n (Err e)} old.rows new.rows (λ m n turned. same w m n e turned)
+    (reads_are_contents w.walk w.walk now old new (Err e) (Err v, (refl, h.1), c))

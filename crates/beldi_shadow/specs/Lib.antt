@@ -1,0 +1,2 @@
+pub mod Shadow
+pub mod Shadowed

@@ -1,0 +1,85 @@
+-- What the walks say of a shadow is so of it.
+use Rattle.std.specs.Prelude.{◌≡◌, ℕ, Bool, true, false, List, Option, Some, None, Result, Ok, Err}
+use Rattle.std.specs.FinMap as map
+use Rattle.std.specs.Ordering.{is_eq}
+use Rattle.beldi_value.specs.declared.place.Owner.{Owner}
+use Rattle.beldi_value.specs.declared.place.Place.{Place}
+use Rattle.beldi_value.specs.declared.place.TxId.{TxId}
+use Rattle.beldi_row.specs.declared.key.RowKey.{RowKey}
+use Rattle.beldi_row.specs.declared.notes.Note.{Note}
+use Rattle.beldi_row.specs.declared.table.TableErr.{TableErr}
+use Rattle.beldi_row.specs.declared.table.TableErr.TheVariants.{OutOfMemory, Failed, Full}
+use Rattle.beldi_row.specs.Key.{key_cmp}
+use Rattle.beldi_row.specs.Log.{note_at}
+use Rattle.beldi_row.specs.Table.{Rows, TableState, Tells}
+use Rattle.beldi_walk.specs.Walk.{Turned}
+use Rattle.beldi_daal.specs.declared.cell.CellOp.{CellOp}
+use Rattle.beldi_daal.specs.declared.cell.CellOp.TheVariants.{Write, Cond, Lock, Free}
+use Rattle.beldi_daal.specs.Content.{Content, content_in, SoundAt}
+use Rattle.beldi_daal.specs.Logged.{done_to}
+use Rattle.beldi_daal.specs.ReadWalk as read
+use Rattle.beldi_daal.specs.Walk as write
+use Rattle.beldi_shadow.specs.declared.shadow.ShadowRead.{ShadowRead}
+use Rattle.beldi_shadow.specs.declared.shadow.ShadowSays.{ShadowSays}
+use Rattle.beldi_shadow.specs.declared.shadow.ShadowSays.TheVariants.{Going, Got, Noted, Worn}
+use Rattle.beldi_shadow.specs.declared.shadow.ShadowWrite.{ShadowWrite}
+use Rattle.beldi_shadow.specs.Shadow.{first_read, read_asks, read_next, read_says, write_asks, write_next, write_says}
+
+-- ---- a write
+-- a shadow is written and tested
+abbrev pub is_aside : CellOp → Bool
+is_aside (Write v) = true
+is_aside (Cond r o v) = true
+is_aside Lock = false
+is_aside (Free v) = false
+
+abbrev pub write_key : ShadowWrite → RowKey
+write_key w = write.walk_key w.walk
+
+-- by the note that the place had: the operation was done in this turn, or nothing was
+abbrev pub DoneOnce : Place → Owner → CellOp → Option Note → Content → Content → Type 0
+DoneOnce p who op None c d = d ≡ done_to p who op c
+DoneOnce p who op (Some n) c d = d ≡ c
+
+-- by the content of the shadow before the turn, and after it
+abbrev pub Writes : Place → Owner → CellOp → ShadowSays → Content → Content → Type 0
+Writes p who op (Noted n) c d = (note_at d.notes p ≡ Some n) × DoneOnce p who op (note_at c.notes p) c d
+Writes p who op Going c d = d ≡ c
+Writes p who op (Got v) c d = ⊥
+Writes p who op Worn c d = ⊥
+
+-- what a turn leaves, where the shadow's chain is sound and nobody owns the shadow
+pub record WriteTurn (w : ShadowWrite) (m n : Rows) (s : ShadowSays) : Type 0 where
+  -- all other rows are as before
+  pub others : (k : RowKey) → is_eq (key_cmp k (write_key w)) ≡ false → map.get n k ≡ map.get m k
+  pub writes : Writes w.walk.place w.walk.who w.walk.op s (content_in (map.get m (write_key w))) (content_in (map.get n (write_key w)))
+  pub sound : SoundAt (map.get n (write_key w))
+  pub unowned : (content_in (map.get n (write_key w))).owner ≡ None
+
+-- for every turn that says something, over every table that tells its rows
+abbrev pub ShadowsAreLogged : Type 0
+ShadowsAreLogged = (w x : ShadowWrite) (now : ℕ) (old new : TableState) (s : ShadowSays) → is_aside w.walk.op ≡ true → Turned (write_asks w) now (write_next w) (write_says w) w x old new (Ok s)
+    → Tells old.rows new.rows (λ m n. SoundAt (map.get m (write_key w)) → (content_in (map.get m (write_key w))).owner ≡ None → WriteTurn w m n s)
+
+-- ---- a read
+abbrev pub read_key : ShadowRead → RowKey
+read_key w = read.read_key w.walk
+
+-- what it says is so of the content: the value, none where there is no shadow
+abbrev pub Reads : ShadowSays → Content → Type 0
+Reads (Got None) c = c ≡ content_in None
+Reads (Got (Some v)) c = v ≡ c.value
+Reads (Noted n) c = ⊥
+Reads Going c = ⊥
+Reads Worn c = ⊥
+
+-- the rows are as before, and a Look adds none, so it is never refused as Full
+abbrev pub ReadTurn : ShadowRead → Rows → Rows → Result ShadowSays TableErr → Type 0
+ReadTurn w m n (Ok s) = (n ≡ m) × (SoundAt (map.get m (read_key w)) → Reads s (content_in (map.get m (read_key w))))
+ReadTurn w m n (Err OutOfMemory) = n ≡ m
+ReadTurn w m n (Err Failed) = n ≡ m
+ReadTurn w m n (Err (Full live most)) = ⊥
+
+abbrev pub ShadowsReadTheirOwn : Type 0
+ShadowsReadTheirOwn = (home : ℕ) (tx : TxId) (t : ℕ) (k : List ℕ) (y : ShadowRead) (now : ℕ) (old new : TableState) (r : Result ShadowSays TableErr) → let w = first_read home tx t k in
+    Turned (read_asks w) now (read_next w) (read_says w) w y old new r → Tells old.rows new.rows (λ m n. ReadTurn w m n r)

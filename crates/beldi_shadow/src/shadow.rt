@@ -1,0 +1,128 @@
+// The walks over a transaction's own copies of items: those of a read and of a write.
+ghost use Rattle.std.specs.Prelude.{◌≡◌, IfOk};
+ghost use Rattle.beldi_shadow.specs.Shadow.{first_read, first_write, read_so as read_so_of, write_so as write_so_of};
+
+use beldi_daal::{CellOp, Item, ReadSays, ReadWalk, WriteSays, WriteWalk};
+use beldi_row::{Note, copy_tx};
+use beldi_value::{Owner, Place, Str, TxId, Value};
+use beldi_walk::{Heard, Query, Walk};
+use std::alloc::{AllocError, Global};
+
+/// What a turn of a walk over a shadow says.
+#[derive(Drop)]
+pub enum ShadowSays {
+    /// The walk goes on.
+    Going,
+    /// The shadow has this value; none where the transaction has no shadow of the item.
+    Got(Option<Value>),
+    /// The place has this note.
+    Noted(Note),
+    /// No row can follow the shadow's last one, which is full. No turn says so as long as the rows of an item are not linked.
+    Worn,
+}
+
+/// A walk to the value of a transaction's own copy of an item. It makes one Look a turn, leaves the rows as they are, and stands
+/// where it stood.
+#[derive(Drop)]
+pub struct ShadowRead {
+    walk: ReadWalk,
+}
+
+impl ShadowRead {
+    /// A walk on the copy that the transaction has of an item of the function `home`.
+    pub fn new(home: u16, tx: TxId, table: u16, key: Str) -> ShadowRead
+        ensures { result ≡ first_read home tx table key }
+    {
+        ShadowRead {
+            walk: ReadWalk::new(home, Item::Shadow { tx, table, key }, None),
+        }
+    }
+}
+
+impl Walk for ShadowRead {
+    ghost use Rattle.beldi_shadow.specs.Shadow.{read_asks, read_next, read_says};
+
+    type Says = ShadowSays;
+
+    ghost asks = { read_asks };
+
+    ghost next = { read_next };
+
+    ghost says = { read_says };
+
+    fn ask(&self, alloc: Global) -> Result<Query, AllocError> {
+        self.walk.ask(alloc)
+    }
+
+    fn told(&mut self, alloc: Global, heard: Heard<'_>) -> Result<ShadowSays, AllocError> {
+        Ok(read_so(self.walk.told(alloc, heard)?))
+    }
+}
+
+// Nobody owns a shadow.
+fn read_so(says: ReadSays) -> ShadowSays
+    ensures { result ≡ read_so_of says }
+{
+    match says {
+        ReadSays::Got(value) => ShadowSays::Got(value),
+        ReadSays::Going | ReadSays::Held(_) => ShadowSays::Going,
+    }
+}
+
+/// A walk that makes one entry at a place of a transaction's own copy of an item, however many walks there are for it. Unless it
+/// says `Going` it stands where it stood.
+#[derive(Drop)]
+pub struct ShadowWrite {
+    walk: WriteWalk,
+}
+
+impl ShadowWrite {
+    /// A walk for an operation of the transaction at `place`, a write or a condition, on its copy of an item of the function
+    /// `home`.
+    pub fn new(
+        alloc: Global,
+        home: u16,
+        tx: TxId,
+        place: Place,
+        table: u16,
+        key: Str,
+        op: CellOp,
+    ) -> Result<ShadowWrite, AllocError>
+        ensures { IfOk result (λ w. w ≡ first_write home tx place table key op) }
+    {
+        let who = Owner::Tx(copy_tx(&tx, alloc)?);
+        Ok(ShadowWrite {
+            walk: WriteWalk::new(home, Item::Shadow { tx, table, key }, place, who, op),
+        })
+    }
+}
+
+impl Walk for ShadowWrite {
+    ghost use Rattle.beldi_shadow.specs.Shadow.{write_asks, write_next, write_says};
+
+    type Says = ShadowSays;
+
+    ghost asks = { write_asks };
+
+    ghost next = { write_next };
+
+    ghost says = { write_says };
+
+    fn ask(&self, alloc: Global) -> Result<Query, AllocError> {
+        self.walk.ask(alloc)
+    }
+
+    fn told(&mut self, alloc: Global, heard: Heard<'_>) -> Result<ShadowSays, AllocError> {
+        Ok(write_so(self.walk.told(alloc, heard)?))
+    }
+}
+
+fn write_so(says: WriteSays) -> ShadowSays
+    ensures { result ≡ write_so_of says }
+{
+    match says {
+        WriteSays::Done { note, first: _ } => ShadowSays::Noted(note),
+        WriteSays::Going | WriteSays::NotOwner | WriteSays::Held(_) => ShadowSays::Going,
+        WriteSays::Worn => ShadowSays::Worn,
+    }
+}
