@@ -9,16 +9,17 @@ use beldi_daal::{CellOp, Item, ReadSays, ReadWalk, WriteSays, WriteWalk};
 use beldi_intent::{Binding, Put, bind, end, issue, look, register};
 use beldi_invokelog::{Back, call_back, open_once, registered, result};
 use beldi_lang::Machine;
-use beldi_lock::{LockSays, LockWalk};
+use beldi_lock::{LockSays, LockWalk, lockset_next};
 use beldi_outside::{Clock, ClosedLink, Failed, Link, MemClock, MemSource, read_up_to};
 use beldi_plain::{Bar, Plain, PlainErr};
 use beldi_readlog::{get, put_once};
-use beldi_row::{Body, Table};
+use beldi_row::{Body, Note, Table};
 use beldi_script::{read_line, write_line};
+use beldi_shadow::{ShadowRead, ShadowSays, ShadowWrite};
 use beldi_step::Event;
 use beldi_syntax::read_deployment;
 use beldi_table::MapTable;
-use beldi_value::{IntentId, Outcome, Owner, Place, Rel, Str, Value, older, read_int};
+use beldi_value::{IntentId, Outcome, Owner, Place, Rel, Str, TxId, Value, older, read_int};
 use beldi_walk::Walk;
 use std::alloc::Global;
 use std::test::Fail;
@@ -198,6 +199,88 @@ fn a_lock_is_taken(rt: HostRuntime) -> Result<(), Fail> {
         matches!(
             lock.turn(alloc, &mut table, 5)?,
             LockSays::Got { first: true }
+        )
+    );
+    Ok(())
+}
+
+fn transaction(alloc: Global, ticket: u32) -> TxId {
+    TxId {
+        intent: IntentId::root(alloc, ticket),
+        begin: 0,
+        func: 1,
+    }
+}
+
+// The walk of a lock that a transaction asks for, once it has put the row that says so.
+fn asked(alloc: Global, table: &mut MapTable, ticket: u32) -> Result<LockWalk, Fail> {
+    let place = Place {
+        intent: IntentId::root(alloc, ticket),
+        step: 1,
+    };
+    let who = Owner::Tx(transaction(alloc, ticket));
+    let mut lock = LockWalk::new(1, place, who, 0, Str::from_text(alloc, "k")?);
+    lock.turn(alloc, table, 5)?;
+    Ok(lock)
+}
+
+#[test]
+fn a_younger_transaction_dies(rt: HostRuntime) -> Result<(), Fail> {
+    let alloc = rt.alloc();
+    let mut table = roomy(alloc)?;
+    let mut lock = asked(alloc, &mut table, 2)?;
+    lock.turn(alloc, &mut table, 5)?;
+    lock.turn(alloc, &mut table, 5)?;
+    assert!(rt;
+        matches!(
+            lock.turn(alloc, &mut table, 5)?,
+            LockSays::Got { first: true }
+        )
+    );
+    let mut younger = asked(alloc, &mut table, 3)?;
+    assert!(rt; matches!(younger.turn(alloc, &mut table, 5)?, LockSays::Died(_)));
+    assert!(rt; matches!(younger.turn(alloc, &mut table, 5)?, LockSays::Died(_)));
+    let mut older = asked(alloc, &mut table, 1)?;
+    assert!(rt; matches!(older.turn(alloc, &mut table, 5)?, LockSays::Held(_)));
+    Ok(())
+}
+
+#[test]
+fn locks_are_listed(rt: HostRuntime) -> Result<(), Fail> {
+    let alloc = rt.alloc();
+    let mut table = roomy(alloc)?;
+    asked(alloc, &mut table, 1)?;
+    asked(alloc, &mut table, 2)?;
+    let id = IntentId::root(alloc, 1);
+    let first = lockset_next(alloc, &mut table, 1, &id, 0, None)?;
+    assert!(rt; matches!(first, Some((0, _))));
+    let key = Str::from_text(alloc, "k")?;
+    let second = lockset_next(alloc, &mut table, 1, &id, 0, Some((0, &key)))?;
+    assert!(rt; second.is_none());
+    Ok(())
+}
+
+#[test]
+fn a_shadow_is_written_and_read(rt: HostRuntime) -> Result<(), Fail> {
+    let alloc = rt.alloc();
+    let mut table = roomy(alloc)?;
+    let op = CellOp::Write(Value::Int(7));
+    let key = Str::from_text(alloc, "k")?;
+    let mut write = ShadowWrite::new(alloc, 1, transaction(alloc, 1), place(alloc), 0, key, op)?;
+    write.turn(alloc, &mut table, 5)?;
+    write.turn(alloc, &mut table, 5)?;
+    assert!(rt;
+        matches!(
+            write.turn(alloc, &mut table, 5)?,
+            ShadowSays::Noted(Note::Wrote)
+        )
+    );
+    let key = Str::from_text(alloc, "k")?;
+    let mut read = ShadowRead::new(1, transaction(alloc, 1), 0, key);
+    assert!(rt;
+        matches!(
+            read.turn(alloc, &mut table, 5)?,
+            ShadowSays::Got(Some(Value::Int(7)))
         )
     );
     Ok(())
