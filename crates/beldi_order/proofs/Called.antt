@@ -1,5 +1,5 @@
 -- An instance and what it called at a step: what the next entry leaves of the two.
-use Rattle.std.proofs.Common.{◌≡◌, ℕ, zero, suc, ◌<◌, ◌≤◌, Bool, false, List, [], ◌∷◌, ◌++◌, length, Option, Some, None, refl, ap, sym, ◌∙◌, subst, ◌⊎◌, inl, inr, true, arith, length-append}
+use Rattle.std.proofs.Common.{◌≡◌, ℕ, zero, suc, ◌<◌, ◌≤◌, Bool, false, List, [], ◌∷◌, ◌++◌, length, Option, Some, None, refl, ap, sym, ◌∙◌, subst, ◌⊎◌, inl, inr, true, arith, length-append, is_some}
 use Rattle.std.specs.Prelude.{slice_get}
 use Rattle.std.specs.FinMap as map
 use Rattle.std.specs.FinMap.{FinMap}
@@ -63,11 +63,11 @@ longer_cases xs a n h = let l = length-append xs (a ∷ []) in eq-or-lt_of_le (o
 
 module _ (d : Deployment) (q : Instance) where
   pub effect_now : effect_before d q (length q.answers) ≡ effect_of d q
-  effect_now = ap (wants d q.func q.args false) (take_all (length q.answers) q.answers (omega arith))
+  effect_now = ap (wants d q.func q.args (is_some q.within)) (take_all (length q.answers) q.answers (omega arith))
 
   -- the effects so far are as before, after an answer more
   pub effect_past : (a : Answer) (n : ℕ) → n ≤ length q.answers → effect_before d (answered q a) n ≡ effect_before d q n
-  effect_past a n h = ap (wants d q.func q.args false) (take-append-le n q.answers (a ∷ []) h)
+  effect_past a n h = ap (wants d q.func q.args (is_some q.within)) (take-append-le n q.answers (a ∷ []) h)
 
 -- ---- the two
 -- nobody waits for it

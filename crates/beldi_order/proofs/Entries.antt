@@ -183,7 +183,7 @@ module _ (d : Deployment) (p : PlainState) (id : IntentId) (i : Instance) (is : 
 -- ---- instances only go on
 grown_self : (o : Option Instance) → GrownAt o o
 grown_self None = tt
-grown_self (Some i) = record { func = refl; args = refl; from = refl; later = []; more = append-nil i.answers; over = λ o h. h }
+grown_self (Some i) = record { func = refl; args = refl; from = refl; within = refl; later = []; more = append-nil i.answers; over = λ o h. h }
 
 grown_on : (x y z : Option Instance) → GrownAt x y → GrownAt y z → GrownAt x z
 grown_on None y z g h = tt
@@ -193,6 +193,7 @@ grown_on (Some i) (Some j) (Some k) g h = record {
   func = h.func ∙ g.func;
   args = h.args ∙ g.args;
   from = h.from ∙ g.from;
+  within = h.within ∙ g.within;
   later = g.later ++ h.later;
   more = sym (append_assoc i.answers g.later h.later) ∙ ap (λ xs. xs ++ h.later) g.more ∙ h.more;
   over = λ o is. h.over o (g.over o is);
@@ -208,10 +209,10 @@ pub grows_set : (f : FinMap id_cmp Instance) (id : IntentId) (s : Instance) → 
 grows_set f id s here = made_set f id s (λ j o. GrownAt (map.get f j) o) here (grows_self f)
 
 grown_answer : (i : Instance) (a : Answer) → Grown i (answered i a)
-grown_answer i a = record { func = refl; args = refl; from = refl; later = a ∷ []; more = refl; over = λ o h. h }
+grown_answer i a = record { func = refl; args = refl; from = refl; within = refl; later = a ∷ []; more = refl; over = λ o h. h }
 
 grown_end : (i : Instance) (o : Outcome) → i.outcome ≡ None → Grown i (ended i o)
-grown_end i o none = record { func = refl; args = refl; from = refl; later = []; more = append-nil i.answers; over = λ u is. let g = sym none ∙ is in cc }
+grown_end i o none = record { func = refl; args = refl; from = refl; within = refl; later = []; more = append-nil i.answers; over = λ u is. let g = sym none ∙ is in cc }
 
 grows_at : (f : FinMap id_cmp Instance) (id : IntentId) (i j : Instance) → map.get f id ≡ Some i → Grown i j → Grows f (map.insert f id j)
 grows_at f id i j is g = grows_set f id j (subst (λ o. GrownAt o (Some j)) (sym is) g)

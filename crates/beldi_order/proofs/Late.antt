@@ -175,18 +175,18 @@ none_before : (o u : Option Outcome) → ((x : Outcome) → o ≡ Some x → u �
 none_before None u h is = refl
 none_before (Some x) u h is = let g = sym is ∙ h x refl in cc
 
-same_instance : (a b : Instance) → a.func ≡ b.func → a.args ≡ b.args → a.from ≡ b.from → a.answers ≡ b.answers → a.outcome ≡ b.outcome → a ≡ b
-same_instance a b f g c h o = λ i. record { func = f i; args = g i; from = c i; answers = h i; outcome = o i }
+same_instance : (a b : Instance) → a.func ≡ b.func → a.args ≡ b.args → a.from ≡ b.from → a.within ≡ b.within → a.answers ≡ b.answers → a.outcome ≡ b.outcome → a ≡ b
+same_instance a b f g c w h o = λ i. record { func = f i; args = g i; from = c i; within = w i; answers = h i; outcome = o i }
 
 pub unmoved : (a : Instance) (o : Option Instance) → a.outcome ≡ None → GrownAt (Some a) o → GrownAt o (Some a) → o ≡ Some a
 unmoved a None none g h = absurd g
-unmoved a (Some b) none g h = ap (λ x. Some x) (same_instance b a g.func g.args g.from (no_later a.answers b.answers [] g.later h.later g.more h.more) (none_before b.outcome a.outcome h.over none ∙ sym none))
+unmoved a (Some b) none g h = ap (λ x. Some x) (same_instance b a g.func g.args g.from g.within (no_later a.answers b.answers [] g.later h.later g.more h.more) (none_before b.outcome a.outcome h.over none ∙ sym none))
 
 -- an instance that has gone on with no answer more, and has no outcome, is as it was
 pub not_moved : (o u : Option Instance) (i j : Instance) → o ≡ Some i → u ≡ Some j → GrownAt o u → i.answers ≡ j.answers → j.outcome ≡ None → i ≡ j
 not_moved o u i j was is g same none =
     let h : Grown i j = subst (λ z. GrownAt (Some i) z) is (subst (λ z. GrownAt z u) was g) in
-    same_instance i j (sym h.func) (sym h.args) (sym h.from) same (none_before i.outcome j.outcome h.over none ∙ sym none)
+    same_instance i j (sym h.func) (sym h.args) (sym h.from) (sym h.within) same (none_before i.outcome j.outcome h.over none ∙ sym none)
 
 -- ---- a read passes all entries that leave its instance as it is
 pub passes_all : (d : Deployment) (p q : PlainState) (es : List Entry) (i : IntentId) (a : Instance) (v : Answer) → StandsAtRead d p i a → map.get q.made i ≡ Some a

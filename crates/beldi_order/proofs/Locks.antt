@@ -1,5 +1,5 @@
 -- From a lock to its unlock nobody else touches the item.
-use Rattle.std.proofs.Common.{◌≡◌, ℕ, Bool, true, false, cond, List, [], ◌∷◌, ◌++◌, Option, None, Some, refl, ap, sym, ◌∙◌, subst, inl, inr, append_assoc, append-nil}
+use Rattle.std.proofs.Common.{◌≡◌, ℕ, Bool, true, false, cond, List, [], ◌∷◌, ◌++◌, Option, None, Some, refl, ap, sym, ◌∙◌, subst, inl, inr, append_assoc, append-nil, is_some}
 use Rattle.std.specs.Prelude.{option_and_then}
 use Rattle.std.specs.FinMap as map
 use Rattle.std.specs.Ordering.{is_eq}
@@ -52,7 +52,7 @@ module _ (d : Deployment) (x : Item) where
   -- who has locked an item holds its lock
   locks : (q : Instance) (on : OnItem) (a : Answer) → At d q x lock on → holds d x (Some (answered q a)) ≡ true
   locks q on a h =
-      held_pushed d x q.func q.args [] q.answers a false
+      held_pushed d x q.func q.args (is_some q.within) [] q.answers a false
       ∙ ap (λ o. held_if x q.func o (holds d x (Some q))) h.0
       ∙ ap (λ b. cond b (held_by on.does (holds d x (Some q))) (holds d x (Some q))) (same_item (item_in q.func on) x h.1)
       ∙ ap (λ o. held_by o (holds d x (Some q))) h.2
@@ -66,7 +66,7 @@ module _ (d : Deployment) (x : Item) where
 
   keeps : (q : Instance) (on : OnItem) (a : Answer) → op_of (effect_of d q) ≡ Some on → (item_in q.func on ≡ x → on.does ≡ free → ⊥) → holds d x (Some q) ≡ true → holds d x (Some (answered q a)) ≡ true
   keeps q on a is never h =
-      held_pushed d x q.func q.args [] q.answers a false ∙ ap (λ u. held_if x q.func u (holds d x (Some q))) is ∙ ap (held_if x q.func (Some on)) h
+      held_pushed d x q.func q.args (is_some q.within) [] q.answers a false ∙ ap (λ u. held_if x q.func u (holds d x (Some q))) is ∙ ap (held_if x q.func (Some on)) h
       ∙ (elim (is_eq (item_cmp (item_in q.func on) x)) as (λ b. is_eq (item_cmp (item_in q.func on) x) ≡ b → cond b (held_by on.does true) true ≡ true) [
         | true ↦ λ e. by_does q on on.does refl never (item_same (item_in q.func on) x e)
         | false ↦ λ e. refl

@@ -1,5 +1,5 @@
 -- What an operation leaves of the plain items, and of who holds their locks.
-use Rattle.std.proofs.Common.{◌≡◌, Bool, true, false, cond, List, [], ◌∷◌, ◌++◌, Option, None, Some, refl, ap, sym, ◌∙◌, subst, append_assoc, append-nil, ℕ}
+use Rattle.std.proofs.Common.{◌≡◌, Bool, true, false, cond, List, [], ◌∷◌, ◌++◌, Option, None, Some, is_some, refl, ap, sym, ◌∙◌, subst, append_assoc, append-nil, ℕ}
 use Rattle.std.specs.FinMap as map
 use Rattle.std.specs.FinMap.{FinMap, get-insert, get-remove}
 use Rattle.std.specs.Cmp.{Equal-is}
@@ -50,18 +50,18 @@ plain_set f y x (Some v) = item_put f y x v
 
 -- ---- who holds an item's lock
 -- whether a lock is held, after one answer more
-pub held_pushed : (d : Deployment) (x : Item) (f : ℕ) (args : Value) (given rest : List Answer) (a : Answer) (b : Bool)
-    → held_along d x f args given (rest ++ a ∷ []) b ≡ held_if x f (op_of (wants d f args false (given ++ rest))) (held_along d x f args given rest b)
-held_pushed d x f args given [] a b = ap (λ g. held_if x f (op_of (wants d f args false g)) b) (sym (append-nil given))
-held_pushed d x f args given (r ∷ rest) a b =
-    let c = held_if x f (op_of (wants d f args false given)) b in
-    held_pushed d x f args (given ++ r ∷ []) rest a c ∙ ap (λ g. held_if x f (op_of (wants d f args false g)) (held_along d x f args (given ++ r ∷ []) rest c)) (append_assoc given (r ∷ []) rest)
+pub held_pushed : (d : Deployment) (x : Item) (f : ℕ) (args : Value) (inherited : Bool) (given rest : List Answer) (a : Answer) (b : Bool)
+    → held_along d x f args inherited given (rest ++ a ∷ []) b ≡ held_if x f (op_of (wants d f args inherited (given ++ rest))) (held_along d x f args inherited given rest b)
+held_pushed d x f args inherited given [] a b = ap (λ g. held_if x f (op_of (wants d f args inherited g)) b) (sym (append-nil given))
+held_pushed d x f args inherited given (r ∷ rest) a b =
+    let c = held_if x f (op_of (wants d f args inherited given)) b in
+    held_pushed d x f args inherited (given ++ r ∷ []) rest a c ∙ ap (λ g. held_if x f (op_of (wants d f args inherited g)) (held_along d x f args inherited (given ++ r ∷ []) rest c)) (append_assoc given (r ∷ []) rest)
 
 -- an answer to what is no operation, and one that was not there before, move no lock
 module _ (d : Deployment) (x : Item) (f : FinMap id_cmp Instance) (id : IntentId) where
   pub holds_answered : (q : Instance) (a : Answer) → map.get f id ≡ Some q → op_of (effect_of d q) ≡ None → (j : IntentId) → holds d x (map.get (map.insert f id (answered q a)) j) ≡ holds d x (map.get f j)
   holds_answered q a is none = made_set f id (answered q a) (λ j o. holds d x o ≡ holds d x (map.get f j))
-      (held_pushed d x q.func q.args [] q.answers a false ∙ ap (λ o. held_if x q.func o (holds d x (Some q))) none ∙ ap (holds d x) (sym is)) (λ j. refl)
+      (held_pushed d x q.func q.args (is_some q.within) [] q.answers a false ∙ ap (λ o. held_if x q.func o (holds d x (Some q))) none ∙ ap (holds d x) (sym is)) (λ j. refl)
 
   pub holds_set : (q : Instance) → holds d x (map.get f id) ≡ holds d x (Some q) → (j : IntentId) → holds d x (map.get (map.insert f id q) j) ≡ holds d x (map.get f j)
   holds_set q is = made_set f id q (λ j o. holds d x o ≡ holds d x (map.get f j)) (sym is) (λ j. refl)
@@ -77,6 +77,6 @@ pub holds_more : (d : Deployment) (p : PlainState) (items : FinMap item_cmp Valu
 holds_more d p items id q a is x P here others (Tx t) = others (Tx t) tt
 holds_more d p items id q a is x P here others (Intent j) = subst (λ o. P (Intent j) (holds d x o)) (sym (get-insert id_total p.made id (answered q a) j)) (elim (is_eq (id_cmp j id)) as (λ b. is_eq (id_cmp j id) ≡ b → P (Intent j) (holds d x (cond b (Some (answered q a)) (map.get p.made j)))) [
   | true ↦ λ e. subst (λ z. P (Intent z) (holds d x (Some (answered q a)))) (sym (id_same j id e))
-      (subst (P (Intent id)) (ap (λ o. held_if x q.func (op_of (effect_of d q)) (holds d x o)) is ∙ sym (held_pushed d x q.func q.args [] q.answers a false)) here)
+      (subst (P (Intent id)) (ap (λ o. held_if x q.func (op_of (effect_of d q)) (holds d x o)) is ∙ sym (held_pushed d x q.func q.args (is_some q.within) [] q.answers a false)) here)
   | false ↦ λ e. others (Intent j) e
 ] refl)

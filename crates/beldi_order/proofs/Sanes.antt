@@ -34,7 +34,7 @@ use Rattle.beldi_order.proofs.Late.{elsewhere}
 
 -- ---- one instance
 sane_new : (d : Deployment) (f : ℕ) (v : Value) (c : Option Caller) → SaneInstance d (new_instance f v c)
-sane_new d f v c = record { past = λ n a g. cc; over = λ o g. cc }
+sane_new d f v c = record { past = λ n a g. cc; over = λ o g. cc; outside = refl }
 
 sane_pushed : (d : Deployment) (q : Instance) (a : Answer) → q.outcome ≡ None → IsAnswerTo (effect_of d q) a → SaneInstance d q → SaneInstance d (answered q a)
 sane_pushed d q a none is h = record {
@@ -44,10 +44,11 @@ sane_pushed d q a none is h = record {
     | inr l ↦ subst (λ z. IsAnswerTo z b) (sym (effect_past d q a n (omega (arith, l)))) (h.past n b (sym (get_front q.answers a n l) ∙ g))
   ];
   over = λ o g. let c = sym g ∙ none in cc;
+  outside = h.outside;
 }
 
 sane_ended : (d : Deployment) (q : Instance) (o : Outcome) → effect_of d q ≡ effect.Return o → SaneInstance d q → SaneInstance d (ended q o)
-sane_ended d q o is h = record { past = h.past; over = λ u g. is ∙ ap effect.Return (same_some g) }
+sane_ended d q o is h = record { past = h.past; over = λ u g. is ∙ ap effect.Return (same_some g); outside = h.outside }
 
 pub sane_of : (d : Deployment) (p : PlainState) (id : IntentId) (q : Instance) → Sane d p → map.get p.made id ≡ Some q → SaneInstance d q
 sane_of d p id q s is = subst (λ o. SaneAt d o) is (s.each id)

@@ -8,11 +8,12 @@ use Rattle.beldi_value.specs.declared.outcome.Outcome.{Outcome}
 use Rattle.beldi_lang.specs.declared.effect.Answer.{Answer}
 use Rattle.beldi_plain.specs.Plain.{Instance}
 
--- it keeps its function, its arguments and its caller, its answers are the first of those that it has later, and an outcome stays
+-- it keeps its function, its arguments, its caller and its transaction, its answers are the first of those that it has later, and an outcome stays
 pub record Grown (i j : Instance) : Type 0 where
   pub func : j.func ≡ i.func
   pub args : j.args ≡ i.args
   pub from : j.from ≡ i.from
+  pub within : j.within ≡ i.within
   pub later : List Answer
   pub more : i.answers ++ later ≡ j.answers
   pub over : (o : Outcome) → i.outcome ≡ Some o → j.outcome ≡ Some o

@@ -21,7 +21,7 @@ use Rattle.beldi_plain.specs.Legal.{run_of}
 
 -- the effect that an instance had at a step, from 0
 abbrev pub effect_before : Deployment → Instance → ℕ → Effect
-effect_before d q n = wants d q.func q.args false (take n q.answers)
+effect_before d q n = wants d q.func q.args (is_some q.within) (take n q.answers)
 
 -- the answer is one to the operation: the truth of a test, and else that it was done
 abbrev pub Answers : Operation → Answer → Type 0
@@ -54,6 +54,8 @@ pub record SaneInstance (d : Deployment) (q : Instance) : Type 0 where
   pub past : (n : ℕ) (a : Answer) → slice_get q.answers n ≡ Some a → IsAnswerTo (effect_before d q n) a
   -- an outcome is there only where the body returns it
   pub over : (o : Outcome) → q.outcome ≡ Some o → effect_of d q ≡ Return o
+  -- it was called in no transaction yet
+  pub outside : q.within ≡ None
 
 -- what is at an id, if anything, is sane
 abbrev pub SaneAt : Deployment → Option Instance → Type 0

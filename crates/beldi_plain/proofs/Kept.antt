@@ -35,15 +35,15 @@ returns_so (effect.Return o) none = (o, refl)
 returns_so e none = cc
 
 -- a machine that takes no answer takes none of those that are left
-pub stands_early : (d : Deployment) (func : ℕ) (args : Value) (m : Machine) (answers : List Answer) (i : ℕ) → IsAt d func args false m (take i answers) → wants_answer m.effect ≡ false → StandsAfter d func args answers m
-stands_early d func args m answers i h none =
+pub stands_early : (d : Deployment) (func : ℕ) (args : Value) (inherited : Bool) (m : Machine) (answers : List Answer) (i : ℕ) → IsAt d func args inherited m (take i answers) → wants_answer m.effect ≡ false → StandsAfter d func args inherited answers m
+stands_early d func args inherited m answers i h none =
     let r = returns_so m.effect none in
-    let here = (at_effect d func args false m (take i answers) h).0 in
-    let same = ap (wants d func args false) (sym (take-append-drop i answers)) ∙ returns_stay d func args false r.0 (take i answers) (drop i answers) (sym here ∙ r.1) ∙ sym r.1 in
+    let here = (at_effect d func args inherited m (take i answers) h).0 in
+    let same = ap (wants d func args inherited) (sym (take-append-drop i answers)) ∙ returns_stay d func args inherited r.0 (take i answers) (drop i answers) (sym here ∙ r.1) ∙ sym r.1 in
     (sym same, λ w. cc)
 
-pub stands_there : (d : Deployment) (func : ℕ) (args : Value) (m : Machine) (answers : List Answer) → IsAt d func args false m answers → StandsAfter d func args answers m
-stands_there d func args m answers h = ((at_effect d func args false m answers h).0, λ w. h)
+pub stands_there : (d : Deployment) (func : ℕ) (args : Value) (inherited : Bool) (m : Machine) (answers : List Answer) → IsAt d func args inherited m answers → StandsAfter d func args inherited answers m
+stands_there d func args inherited m answers h = ((at_effect d func args inherited m answers h).0, λ w. h)
 
 -- ---- the machines that are kept
 
@@ -114,7 +114,7 @@ acted_at old new a b id q r e x here is h s also =
 
 -- the machine of an instance that was answered
 answered_so : (d : Deployment) (q : Instance) (m : Machine) (a : Answer) → StandsFor d q m → wants_answer m.effect ≡ true → StandsFor d (answered q a) (resumed d m a)
-answered_so d q m a h w = stands_there d q.func q.args (resumed d m a) (q.answers ++ a ∷ []) (at_next d q.func q.args false m q.answers a w (h.1 w))
+answered_so d q m a h w = stands_there d q.func q.args (is_some q.within) (resumed d m a) (q.answers ++ a ∷ []) (at_next d q.func q.args (is_some q.within) m q.answers a w (h.1 w))
 
 -- an instance is answered, and its machine goes on
 goes_so : (d : Deployment) (made : FinMap id_cmp Instance) (a b : FinMap id_cmp Machine) (id : IntentId) (q : Instance) (m : Machine) (x : Answer) → AllStand d made a → q.outcome ≡ None → StandsFor d q m → wants_answer m.effect ≡ true → IsKept a b id (resumed d m x) → AllStand d (map.insert made id (answered q x)) b

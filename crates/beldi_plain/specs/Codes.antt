@@ -7,7 +7,9 @@ use Rattle.beldi_value.specs.Id.{id_cmp, coded_id}
 use Rattle.beldi_value.specs.Injective.{coded_value}
 use Rattle.beldi_value.specs.contracts.outcome.Outcome as outcome
 use Rattle.beldi_value.specs.contracts.place.Caller as caller
+use Rattle.beldi_value.specs.contracts.place.TxId as transaction
 use Rattle.beldi_value.specs.declared.place.Caller.{Caller}
+use Rattle.beldi_value.specs.declared.place.TxId.{TxId}
 use Rattle.beldi_value.specs.declared.value.Value.{Value}
 use Rattle.beldi_value.specs.declared.outcome.Outcome.{Outcome}
 use Rattle.beldi_lang.specs.contracts.effect.Answer as answer
@@ -19,10 +21,10 @@ use Rattle.beldi_plain.specs.Plain.{Instance, PlainState}
 use Rattle.beldi_plain.specs.Executor.{Executor}
 
 abbrev pub coded_instance : Coded Instance
-coded_instance = code_by (ℕ × (Value × (Option Caller × (List Answer × Option Outcome))))
-    (coded× coded_ℕ (coded× coded_value (coded× (coded_option caller.the_row.coded) (coded× (coded_list answer.the_row.coded) (coded_option outcome.the_row.coded)))))
-    (λ q. (q.func, (q.args, (q.from, (q.answers, q.outcome)))))
-    (λ p. record { func = p.0; args = p.1.0; from = p.1.1.0; answers = p.1.1.1.0; outcome = p.1.1.1.1 }) (λ _. refl)
+coded_instance = code_by (ℕ × (Value × (Option Caller × (Option TxId × (List Answer × Option Outcome)))))
+    (coded× coded_ℕ (coded× coded_value (coded× (coded_option caller.the_row.coded) (coded× (coded_option transaction.the_row.coded) (coded× (coded_list answer.the_row.coded) (coded_option outcome.the_row.coded))))))
+    (λ q. (q.func, (q.args, (q.from, (q.within, (q.answers, q.outcome))))))
+    (λ p. record { func = p.0; args = p.1.0; from = p.1.1.0; within = p.1.1.1.0; answers = p.1.1.1.1.0; outcome = p.1.1.1.1.1 }) (λ _. refl)
 
 abbrev pub coded_state : Coded PlainState
 coded_state = code_by (FinMap item_cmp Value × FinMap id_cmp Instance) (coded× (map.code coded_item coded_value) (map.code coded_id coded_instance))

@@ -1,5 +1,5 @@
 -- What contracts see of the executor, and which machines it keeps.
-use Rattle.std.specs.Prelude.{◌≡◌, ◌⊎◌, ℕ, ◌≤◌, length, List, Option, Some, None, Result, Ok, Err, IsTrue, true, false, is_some, if◌then◌else◌}
+use Rattle.std.specs.Prelude.{◌≡◌, ◌⊎◌, ℕ, Bool, ◌≤◌, length, List, Option, Some, None, Result, Ok, Err, IsTrue, true, is_some, if◌then◌else◌}
 use Rattle.std.specs.FinMap as map
 use Rattle.std.specs.FinMap.{FinMap}
 use Rattle.std.specs.declared.alloc.AllocError.{AllocError}
@@ -29,13 +29,14 @@ pub record Executor : Type 0 where
   pub code : Deployment
   pub state : PlainState
 
--- the machine wants the effect that a body wants after these answers, and where that is answered, it stands where they led
-abbrev pub StandsAfter : Deployment → ℕ → Value → List Answer → Machine → Type 0
-StandsAfter d func args answers m = (m.effect ≡ wants d func args false answers) × (IsTrue (wants_answer m.effect) → IsAt d func args false m answers)
+-- the machine wants the effect that a body wants after these answers, called in a transaction or not, and where that is answered,
+-- it stands where they led
+abbrev pub StandsAfter : Deployment → ℕ → Value → Bool → List Answer → Machine → Type 0
+StandsAfter d func args inherited answers m = (m.effect ≡ wants d func args inherited answers) × (IsTrue (wants_answer m.effect) → IsAt d func args inherited m answers)
 
 -- .. after the answers of an instance
 abbrev pub StandsFor : Deployment → Instance → Machine → Type 0
-StandsFor d q m = StandsAfter d q.func q.args q.answers m
+StandsFor d q m = StandsAfter d q.func q.args (is_some q.within) q.answers m
 
 -- .. that has not returned
 abbrev pub StandsForOne : Deployment → Option Instance → Machine → Type 0

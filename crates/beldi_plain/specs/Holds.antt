@@ -1,5 +1,5 @@
 -- Who holds the lock of an item: read off the answers of the instances.
-use Rattle.std.specs.Prelude.{ℕ, Bool, true, false, List, [], ◌∷◌, ◌++◌, Option, Some, None, if◌then◌else◌}
+use Rattle.std.specs.Prelude.{ℕ, Bool, true, false, List, [], ◌∷◌, ◌++◌, Option, Some, None, is_some, if◌then◌else◌}
 use Rattle.std.specs.FinMap as map
 use Rattle.std.specs.Ordering.{is_eq}
 use Rattle.beldi_value.specs.declared.place.Owner.{Owner}
@@ -24,15 +24,15 @@ abbrev pub held_if : Item → ℕ → Option OnItem → Bool → Bool
 held_if x func None b = b
 held_if x func (Some o) b = if is_eq (item_cmp (item_in func o) x) then held_by o.does b else b
 
--- .. after these answers, of which the first were seen already
-abbrev pub held_along : Deployment → Item → ℕ → Value → List Answer → List Answer → Bool → Bool
-held_along d x func args given [] b = b
-held_along d x func args given (a ∷ rest) b = held_along d x func args (given ++ a ∷ []) rest (held_if x func (op_of (wants d func args false given)) b)
+-- .. after these answers, of which the first were seen already; `inherited`: called in a transaction
+abbrev pub held_along : Deployment → Item → ℕ → Value → Bool → List Answer → List Answer → Bool → Bool
+held_along d x func args inherited given [] b = b
+held_along d x func args inherited given (a ∷ rest) b = held_along d x func args inherited (given ++ a ∷ []) rest (held_if x func (op_of (wants d func args inherited given)) b)
 
 -- whether an instance holds the lock of an item
 abbrev pub holds : Deployment → Item → Option Instance → Bool
 holds d x None = false
-holds d x (Some q) = held_along d x q.func q.args [] q.answers false
+holds d x (Some q) = held_along d x q.func q.args (is_some q.within) [] q.answers false
 
 -- whether an owner holds it: an intent as its instance does, and no transaction yet
 abbrev pub holds_as : Deployment → PlainState → Item → Owner → Bool

@@ -7,6 +7,7 @@ use Rattle.beldi_value.specs.declared.id.IntentId.{IntentId}
 use Rattle.beldi_value.specs.declared.value.Value.{Value}
 use Rattle.beldi_value.specs.declared.outcome.Outcome.{Outcome}
 use Rattle.beldi_value.specs.declared.place.Caller.{Caller}
+use Rattle.beldi_value.specs.declared.place.TxId.{TxId}
 use Rattle.beldi_tree.specs.declared.deployment.Deployment.{Deployment}
 use Rattle.beldi_lang.specs.declared.effect.Answer.{Answer}
 use Rattle.beldi_lang.specs.declared.effect.Answer.TheVariants as answer
@@ -22,18 +23,19 @@ use Rattle.beldi_plain.specs.Operation.{Operation, OnItem, op_of, item_in, sets,
 use Rattle.beldi_plain.specs.declared.kind.Kind.{Kind}
 use Rattle.beldi_plain.specs.declared.kind.Kind.TheVariants as kinds
 
--- an instance of a function: what it was called with, who called it, what its effects were answered, and how it ended. A root
--- has no caller.
+-- an instance of a function: what it was called with, who called it, the transaction that it was called in, what its effects were
+-- answered, and how it ended. A root has no caller, and no instance is called in a transaction yet.
 pub record Instance : Type 0 where
   pub func : ℕ
   pub args : Value
   pub from : Option Caller
+  pub within : Option TxId
   pub answers : List Answer
   pub outcome : Option Outcome
 
 -- one that has made no step
 abbrev pub new_instance : ℕ → Value → Option Caller → Instance
-new_instance f a c = record { func = f; args = a; from = c; answers = []; outcome = None }
+new_instance f a c = record { func = f; args = a; from = c; within = None; answers = []; outcome = None }
 
 -- the items that are not null, and the instances that were made
 pub record PlainState : Type 0 where
@@ -54,7 +56,7 @@ with_instance p id q = record p { made = map.insert p.made id q }
 
 -- the effect that an instance stands at
 abbrev pub effect_of : Deployment → Instance → Effect
-effect_of d q = wants d q.func q.args false q.answers
+effect_of d q = wants d q.func q.args (is_some q.within) q.answers
 
 -- how an effect of an instance is entered in a book: a read as one, an operation on an item, a call and a return as a change. The
 -- effects that the host does not carry out yet are not entered.

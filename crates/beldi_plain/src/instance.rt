@@ -11,16 +11,17 @@ ghost use Rattle.beldi_plain.specs.Plain.{answered, ended, new_instance};
 
 use crate::items::Items;
 use beldi_lang::{Answer, Deployment, Effect, Machine};
-use beldi_value::{Caller, IntentId, Outcome, Str, Value};
+use beldi_value::{Caller, IntentId, Outcome, Str, TxId, Value};
 use std::alloc::{AllocError, Global};
 use std::marker::Model;
 
-/// What it was called with, who called it, what its effects were answered, and how it ended.
+/// What it was called with, who called it, the transaction that it was called in, what its effects were answered, and how it ended.
 #[derive(Drop)]
 pub struct Instance {
     func: u16,
     args: Value,
     from: Option<Caller>,
+    within: Option<TxId>,
     answers: Vec<Answer>,
     outcome: Option<Outcome>,
 }
@@ -33,7 +34,7 @@ impl Model for Instance {
 
     ghost coded = { coded_instance };
 
-    ghost view = { λ a. record { func = a.func; args = a.args; from = a.from; answers = a.answers.items; outcome = a.outcome } };
+    ghost view = { λ a. record { func = a.func; args = a.args; from = a.from; within = a.within; answers = a.answers.items; outcome = a.outcome } };
 }
 
 impl Instance {
@@ -45,6 +46,7 @@ impl Instance {
             func,
             args,
             from,
+            within: None,
             answers: Vec::new(alloc),
             outcome: None,
         }
@@ -95,7 +97,14 @@ impl Instance {
     pub fn machine(&self, alloc: Global, code: &Deployment) -> Result<Machine, AllocError>
         ensures { IfOk result (λ m. StandsFor code.now self.now m) }
     {
-        machine_after(alloc, code, self.func, &self.args, self.answers.as_slice())
+        machine_after(
+            alloc,
+            code,
+            self.func,
+            &self.args,
+            self.within.is_some(),
+            self.answers.as_slice(),
+        )
     }
 
     /// Makes a read or an operation on an item, and gives the answer to it. Another effect changes nothing.
@@ -205,17 +214,18 @@ pub fn is_answered(effect: &Effect) -> bool
     !matches!(effect, Effect::Return(_))
 }
 
-// The machine of a function's body after these answers, run from its start.
+// The machine of a function's body after these answers, run from its start; called in a transaction or not.
 fn machine_after(
     alloc: Global,
     code: &Deployment,
     func: u16,
     args: &Value,
+    inherited: bool,
     answers: &[Answer],
 ) -> Result<Machine, AllocError>
-    ensures { IfOk result (λ m. StandsAfter code.now func args.now answers.now m) }
+    ensures { IfOk result (λ m. StandsAfter code.now func args.now inherited answers.now m) }
 {
-    let mut machine = Machine::new(alloc, code, func, args.copy(alloc)?, false)?;
+    let mut machine = Machine::new(alloc, code, func, args.copy(alloc)?, inherited)?;
     for answer in answers {
         if !is_answered(machine.wants()) {
             return Ok(machine);
