@@ -22,7 +22,7 @@ use Rattle.beldi_step.specs.Host.{Core, first_core, Stepped, EventOn}
 use Rattle.beldi_step.proofs.Late.{expires}
 use Rattle.beldi_step.proofs.Steps.{over_rows}
 use Rattle.beldi_step.specs.Tables.{tables_text}
-use Rattle.beldi_laws.specs.Right.{Right, IntentMatches, BodyMatches}
+use Rattle.beldi_laws.specs.Right.{Right}
 use Rattle.beldi_laws.proofs.Events.{begins, after_event, keeps_right, right_legal}
 use Rattle.beldi_laws.proofs.Standing.{same_run, right_stands}
 use Rattle.beldi_laws.proofs.Listing.{listing_plain}
@@ -39,6 +39,7 @@ use Rattle.beldi_plain.specs.Legal.{IsLegal, run_of}
 use Rattle.beldi_plain.specs.Listing.{listing_of}
 use Rattle.beldi_row.proofs.Tells.{tells_map}
 use Rattle.beldi_core.specs.Right.{EndsLate, RowsStandFor, HasNoRows, HasNoReply, SaidOf}
+use Rattle.beldi_known.specs.Rows.{IntentMatches, BodyMatches}
 
 -- ---- what is told
 if_told : {P Q : Rows → Type 0} (told : Option Rows) → ((m : Rows) → P m → Q m) → IfSome told P → IfSome told Q

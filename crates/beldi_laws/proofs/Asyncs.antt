@@ -17,12 +17,12 @@ use Rattle.beldi_lang.specs.declared.effect.Effect.TheVariants.{Async}
 use Rattle.beldi_laws.proofs.Beginnings.{same_roots}
 use Rattle.beldi_laws.proofs.CallsHere.{made_with, not_made, was_made, next_here}
 use Rattle.beldi_laws.proofs.Moves.{AfterTurn, AfterQuery, SameRoots, change_entered, Entered, entered, AfterAct, still}
-use Rattle.beldi_laws.proofs.Opened.{no_own_callee, call_opened}
+use Rattle.beldi_laws.proofs.Opened.{call_opened}
 use Rattle.beldi_laws.proofs.Returned.{callee_registered, marked_registered}
-use Rattle.beldi_laws.proofs.Rows.{set_others, no_root as no_root_key}
+use Rattle.beldi_known.proofs.Rows.{set_others, no_root as no_root_key}
 use Rattle.beldi_laws.proofs.Steps.{rows_answered}
 use Rattle.beldi_laws.proofs.Turns.{effect_here, answer_here, step_here, effect_next, not_over, goes_on, replays, at_another, all_here, starts_one}
-use Rattle.beldi_laws.specs.Right.{Right, RowsMatch, KnowsAt, value_for, owed_call, CallMatches, Knows, SeenDone, IsBodyOf}
+use Rattle.beldi_laws.specs.Right.{Right, RowsMatch, KnowsAt, owed_call, Knows, SeenDone}
 use Rattle.beldi_order.proofs.Entries.{same_some, enabled_step}
 use Rattle.beldi_order.proofs.Late.{elsewhere, here}
 use Rattle.beldi_order.proofs.Sanes.{legal_is_sane, called_at, no_callees}
@@ -56,6 +56,9 @@ use Rattle.beldi_value.specs.declared.id.IntentId.{IntentId}
 use Rattle.beldi_value.specs.declared.place.Place.{Place}
 use Rattle.beldi_value.specs.declared.value.Value.{Value}
 use Rattle.beldi_walk.specs.Query.{said}
+use Rattle.beldi_known.specs.Owed.{value_for}
+use Rattle.beldi_known.specs.Rows.{CallMatches, IsBodyOf}
+use Rattle.beldi_known.proofs.Instances.{no_own_callee}
 
 module _ (d : Deployment) (c : Core) (m : Rows) (i : ℕ) (r : Run) (g : Begun) (h : Right d c m) (live : map.get c.runs i ≡ Some r) (at_is : r.at ≡ Begins g) (k : Knows d c.book h.plain r g)
     (f : ℕ) (v : Value) (is : g.machine.effect ≡ Async f v) (hops : has_callees r.id ≡ true) where
@@ -141,7 +144,7 @@ module _ (d : Deployment) (c : Core) (m : Rows) (i : ℕ) (r : Run) (g : Begun) 
     opens_now = entered d c m (set_row m key (Some (rows.Invoke (opened f)))) i r h live (λ u. ap is_some (set_others m key (Some (rows.Invoke (opened f))) (root_key u) (no_root_key u r.func (kinds.Invoke place) refl)))
         (turned_by d r g (On (stage.Async async.Register) (Some mark.Step))) mark.Step state refl leads (λ o told. cc)
         (at_another d c m i r g h live k (Async f v) is (c.book ++ Step r.id ∷ []) state (answered k.instance Done) (Done ∷ []) (stage.Async async.Register)
-        (here given.made r.id (answered k.instance Done)) k.func refl refl (ap (λ xs. xs ++ Done ∷ []) (all_here d c.book h.plain r g k left)) hops tt callee_there)
+        (here given.made r.id (answered k.instance Done)) k.func refl refl refl (ap (λ xs. xs ++ Done ∷ []) (all_here d c.book h.plain r g k left)) hops tt callee_there)
         (λ e. cc) rows_opened
 
   -- ---- its turns

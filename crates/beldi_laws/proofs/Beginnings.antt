@@ -6,13 +6,14 @@ use Rattle.beldi_intent.specs.Intent.{root_key, intent_key, look_asks, is_ended,
 use Rattle.beldi_lang.proofs.Resumes.{at_begin}
 use Rattle.beldi_lang.specs.Machine.{IsAt, begun as machine_begun}
 use Rattle.beldi_laws.proofs.Moves.{AfterTurn, AfterQuery, SameRoots, AfterAct, still}
-use Rattle.beldi_laws.proofs.Notes.{true_false}
+use Rattle.beldi_known.proofs.Answers.{true_false}
+use Rattle.beldi_known.proofs.Rows.{set_others}
+use Rattle.beldi_known.proofs.Instances.{row_of, IsRowOf}
 use Rattle.beldi_laws.proofs.Returned.{callee_registered}
-use Rattle.beldi_laws.proofs.Rows.{set_others}
-use Rattle.beldi_laws.proofs.Steps.{row_of, IsRowOf}
 use Rattle.beldi_laws.proofs.Turns.{is_over, comes_to, knows_first}
-use Rattle.beldi_laws.specs.Right.{Right, RowsMatch, IntentMatches, IsBodyOf, KnowsBody}
+use Rattle.beldi_laws.specs.Right.{Right, RowsMatch, KnowsBody}
 use Rattle.beldi_order.proofs.Entries.{same_some}
+use Rattle.beldi_order.proofs.Sanes.{sane_of, legal_is_sane}
 use Rattle.beldi_row.proofs.Gets.{key_same}
 use Rattle.beldi_row.proofs.Unchanged.{looked}
 use Rattle.beldi_row.specs.Act.{act}
@@ -35,6 +36,7 @@ use Rattle.beldi_tree.specs.declared.deployment.Func.{Func}
 use Rattle.beldi_value.specs.Id.{has_no_hops}
 use Rattle.beldi_value.specs.declared.id.IntentId.{IntentId}
 use Rattle.beldi_walk.specs.Query.{said}
+use Rattle.beldi_known.specs.Rows.{IntentMatches, IsBodyOf}
 
 -- ---- rows of callees are no rows of roots
 is_root_key : Kind → Bool
@@ -87,9 +89,10 @@ module _ (d : Deployment) (c : Core) (m : Rows) (i : ℕ) (r : Run) (h : Right d
   begins n roots rows (Some f) (Some b) made =
       let machine = machine_begun d r.func b.args false in
       let body = made.0.body in
+      let outside = (sane_of d h.plain r.id made.0.instance (legal_is_sane d c.book h.plain h.legal) made.0.made).outside in
       comes_to d c m n i r h live roots machine b.from (first_stage r.id b.from machine.effect)
       (λ s first. knows_first d c.book h.plain r machine b.from made.0.instance [] made.0.instance.answers s made.0.made (sym (ap (λ z. z.func) body) ∙ made.1) (ap (λ z. z.from) body) refl
-      (subst (λ a. IsAt d r.func a false machine []) (ap (λ z. z.args) body) (at_begin d r.func b.args false)) first) rows
+      (subst (λ t. IsAt d r.func made.0.instance.args (is_some t) machine []) (sym outside) (subst (λ a. IsAt d r.func a false machine []) (ap (λ z. z.args) body) (at_begin d r.func b.args false))) first) rows
 
   -- it looks at its row
   pub look_turn : AfterQuery d h.plain c.now m (λ t. turn_next c i r (begin_in d r (func_at d r.func) (body_told r.func t))) (look_asks r.id r.func)

@@ -15,10 +15,10 @@ use Rattle.beldi_lang.specs.declared.effect.Answer.{Answer}
 use Rattle.beldi_lang.specs.declared.effect.Effect.TheVariants.{Call}
 use Rattle.beldi_laws.proofs.CallsHere.{not_made, was_made, next_here, callee_knows}
 use Rattle.beldi_laws.proofs.Moves.{AfterTurn, AfterQuery, change_entered, Entered, quiet, entered, AfterAct, still}
-use Rattle.beldi_laws.proofs.Opened.{no_own_callee, call_opened}
-use Rattle.beldi_laws.proofs.Rows.{set_others, no_root as no_root_key}
+use Rattle.beldi_laws.proofs.Opened.{call_opened}
+use Rattle.beldi_known.proofs.Rows.{set_others, no_root as no_root_key}
 use Rattle.beldi_laws.proofs.Turns.{effect_here, answer_here, step_here, effect_next, not_over, replays, at_another, awaits, stays_there}
-use Rattle.beldi_laws.specs.Right.{Right, RowsMatch, KnowsAt, owed_call, result_of, CallMatches, Knows, SeenDone}
+use Rattle.beldi_laws.specs.Right.{Right, RowsMatch, KnowsAt, owed_call, Knows, SeenDone}
 use Rattle.beldi_order.proofs.Entries.{same_some, enabled_step}
 use Rattle.beldi_order.proofs.Late.{elsewhere, here}
 use Rattle.beldi_order.proofs.Sanes.{legal_is_sane, called_at, no_callees}
@@ -50,6 +50,9 @@ use Rattle.beldi_value.specs.declared.id.IntentId.{IntentId}
 use Rattle.beldi_value.specs.declared.outcome.Outcome.{Outcome}
 use Rattle.beldi_value.specs.declared.place.Place.{Place}
 use Rattle.beldi_value.specs.declared.value.Value.{Value}
+use Rattle.beldi_known.specs.Owed.{result_of}
+use Rattle.beldi_known.specs.Rows.{CallMatches}
+use Rattle.beldi_known.proofs.Instances.{no_own_callee}
 
 module _ (d : Deployment) (c : Core) (m : Rows) (i : ℕ) (r : Run) (g : Begun) (h : Right d c m) (live : map.get c.runs i ≡ Some r) (at_is : r.at ≡ Begins g) (k : Knows d c.book h.plain r g)
     (f : ℕ) (v : Value) (is : g.machine.effect ≡ Call f v) (hops : has_callees r.id ≡ true) where
@@ -149,7 +152,7 @@ module _ (d : Deployment) (c : Core) (m : Rows) (i : ℕ) (r : Run) (g : Begun) 
         let s = turned_by d r g (Opens (Some mark.Step)) in
         entered d c m (set_row m key (Some (rows.Invoke (opened f)))) i r h live (λ u. ap is_some (set_others m key (Some (rows.Invoke (opened f))) (root_key u) (no_root_key u r.func (kinds.Invoke place) refl)))
         s mark.Step state refl leads (λ o told. cc)
-        (at_another d c m i r g h live k (Call f v) is book state k.instance k.later (stage.Call call.Look) caller_there k.func refl refl k.run_answers hops tt callee_there)
+        (at_another d c m i r g h live k (Call f v) is book state k.instance k.later (stage.Call call.Look) caller_there k.func refl refl refl k.run_answers hops tt callee_there)
         (λ e. starts book state k.instance (legal_is_sane d book state leads.legal) caller_there k.func call_here callee_there)
         rows_opened
 

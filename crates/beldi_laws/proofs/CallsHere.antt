@@ -10,10 +10,10 @@ use Rattle.beldi_lang.specs.declared.effect.Answer.{Answer}
 use Rattle.beldi_lang.specs.declared.effect.Effect.TheVariants.{Call}
 use Rattle.beldi_lang.specs.declared.effect.Effect.{Effect}
 use Rattle.beldi_laws.proofs.Turns.{answer_here}
-use Rattle.beldi_laws.specs.Right.{Right, KnowsAt, called_by, owed_call, result_of, Knows, IsBodyOf}
+use Rattle.beldi_laws.specs.Right.{Right, KnowsAt, owed_call, Knows}
 use Rattle.beldi_order.proofs.Entries.{same_some}
 use Rattle.beldi_order.proofs.Late.{here}
-use Rattle.beldi_order.proofs.Sanes.{legal_is_sane, called_at}
+use Rattle.beldi_order.proofs.Sanes.{legal_is_sane, called_at, sane_of}
 use Rattle.beldi_order.specs.Sane.{effect_before, Sane, call_of}
 use Rattle.beldi_plain.specs.Plain.{PlainState, Instance, step}
 use Rattle.beldi_row.specs.Table.{Rows}
@@ -29,6 +29,8 @@ use Rattle.beldi_value.specs.Id.{child_of, has_callees}
 use Rattle.beldi_value.specs.declared.id.IntentId.{IntentId}
 use Rattle.beldi_value.specs.declared.outcome.Outcome.{Outcome}
 use Rattle.beldi_value.specs.declared.value.Value.{Value}
+use Rattle.beldi_known.specs.Owed.{called_by, result_of}
+use Rattle.beldi_known.specs.Rows.{IsBodyOf}
 
 -- a call tells whether it waits, its function and its argument
 pub same_call : (a b : Bool) (f g : ℕ) (v u : Value) → call_of a f v ≡ call_of b g u → (a ≡ b) × (f ≡ g) × (v ≡ u)
@@ -44,8 +46,9 @@ made_with d p sane id func step w f v q j made func_is here at =
     let same : c.0 ≡ q = same_some (sym c.1 ∙ made) in
     let call : call_of w f v ≡ call_of c.2.waits j.func j.args = sym here ∙ ap (λ z. effect_before d z step) (sym same) ∙ c.2.call in
     let parts = same_call w c.2.waits f j.func v j.args call in
+    let outside = (sane_of d p (child_of id step) j sane at).outside in
     let from : Some (record { place = place_of id step; func = func; waits = w }) ≡ j.from = (λ i. Some (record { place = place_of id step; func = (sym func_is ∙ ap (λ z. z.func) (sym same)) i; waits = parts.0 i })) ∙ sym c.2.from in
-    record { instance = j; made = at; body = λ i. record { func = parts.1 i; args = parts.2 i; tx = None; from = from i } }
+    record { instance = j; made = at; body = λ i. record { func = parts.1 i; args = parts.2 i; tx = sym outside i; from = from i } }
 
 -- a run of one that is waited for registers it
 module _ (d : Deployment) (book : List Entry) (p : PlainState) (sane : Sane d p) (r : Run) (step : ℕ) (e : Effect) (f : ℕ) (v : Value) (q : Instance) (is : e ≡ Call f v) (made : map.get p.made r.id ≡ Some q) (func : q.func ≡ r.func)

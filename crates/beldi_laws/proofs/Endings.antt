@@ -9,12 +9,13 @@ use Rattle.beldi_lang.specs.declared.effect.Answer.{Answer}
 use Rattle.beldi_lang.specs.declared.effect.Effect.TheVariants.{Return}
 use Rattle.beldi_laws.proofs.Beginnings.{same_roots}
 use Rattle.beldi_laws.proofs.Moves.{AfterTurn, AfterQuery, SameRoots, change_entered, Entered, entered, AfterAct, still, replaced}
-use Rattle.beldi_laws.proofs.Notes.{true_false}
+use Rattle.beldi_known.proofs.Answers.{true_false}
+use Rattle.beldi_known.proofs.Rows.{set_others, no_root as no_root_key}
+use Rattle.beldi_known.proofs.Instances.{same_caller, body_stays, same_callee, calls_moved}
 use Rattle.beldi_laws.proofs.Returned.{callee_put, called_back, marked_registered}
-use Rattle.beldi_laws.proofs.Rows.{set_others, no_root as no_root_key}
-use Rattle.beldi_laws.proofs.Steps.{OwesSame, calls_moved, end_owes, same_caller, root_moved, body_stays, own_moved, same_callee}
+use Rattle.beldi_laws.proofs.Steps.{OwesSame, end_owes, root_moved, own_moved}
 use Rattle.beldi_laws.proofs.Turns.{effect_next, fits, goes_on, ends, at_another, sane_instance}
-use Rattle.beldi_laws.specs.Right.{Right, RowsMatch, called_by, owed_call, result_of, Knows, CalleeMatches, IntentMatches, IsCalleeRow, CallMatches, IsRootRow, BodyMatches, RootMatches, CalleeBodyMatches, OutcomeMatches}
+use Rattle.beldi_laws.specs.Right.{Right, RowsMatch, owed_call, Knows}
 use Rattle.beldi_order.proofs.Called.{last_hop}
 use Rattle.beldi_order.proofs.Entries.{same_some, enabled_step}
 use Rattle.beldi_order.proofs.Late.{here, elsewhere}
@@ -47,6 +48,8 @@ use Rattle.beldi_value.specs.declared.id.IntentId.{IntentId}
 use Rattle.beldi_value.specs.declared.outcome.Outcome.{Outcome}
 use Rattle.beldi_value.specs.declared.place.Caller.{Caller}
 use Rattle.beldi_value.specs.declared.place.Place.{Place}
+use Rattle.beldi_known.specs.Owed.{called_by, result_of}
+use Rattle.beldi_known.specs.Rows.{CalleeMatches, IntentMatches, IsCalleeRow, CallMatches, IsRootRow, BodyMatches, RootMatches, CalleeBodyMatches, OutcomeMatches}
 
 -- ---- who called an instance
 -- the caller of an instance, if it has one, made it at this step
@@ -148,7 +151,7 @@ module _ (d : Deployment) (c : Core) (m : Rows) (i : ℕ) (r : Run) (g : Begun) 
           (subst (λ (z : Caller). CallMatches (Some (rows.Invoke x)) (owed_call h.plain z.func z.place)) (sym place) matches)))) in
           entered d c m new i r h live (λ u. ap is_some (set_others m back_key (Some (rows.Invoke (record x { result = Some o }))) (root_key u) (no_root_key u b.func (kinds.Invoke b.place) refl)))
           s mark.Step q refl (leads open_still) (λ u told. cc)
-          (at_another d c m i r g h live k (Return o) is (c.book ++ Step r.id ∷ []) q (ended k.instance o) k.later stage.Close there k.func refl refl k.run_answers tt tt (λ e. refl))
+          (at_another d c m i r g h live k (Return o) is (c.book ++ Step r.id ∷ []) q (ended k.instance o) k.later stage.Close there k.func refl refl refl k.run_answers tt tt (λ e. refl))
           (λ e. cc) rows_given
     ]
 

@@ -56,9 +56,11 @@ use Rattle.beldi_intent.specs.Intent.{root_key, bind_asks, is_added, binding_of}
 use Rattle.beldi_invokelog.specs.InvokeLog.{back_of}
 use Rattle.beldi_step.specs.Run.{is_waited, back_says, back_to_asks, turned_by, stage_asks, stage_says, asks_at, told_at, run_asks, run_told}
 use Rattle.beldi_step.specs.Host.{Core, Plan, at_once, asks, first_core, most_runs, most_events, last_moment, is_crowded, has_run, passed, launched, collect_next, run_plan, crash_plan, new_run, with_run, ended_run, ticket_next, bound_next, request_next, turn_next, run_next, unheard_next, plan_of, counted, plan, heard, no_memory, refused, refused_by, Followed, EventBy, EventOn}
-use Rattle.beldi_laws.specs.Stands.{head_key}
+use Rattle.beldi_known.specs.Contents.{head_key, is_owner}
+use Rattle.beldi_known.specs.Rows.{HasNoRow, RootMatches, IntentMatches, IsRootRow, BodyMatches}
+use Rattle.beldi_known.specs.Owed.{called_by}
 use Rattle.beldi_daal.specs.Content.{content_in}
-use Rattle.beldi_laws.specs.Right.{HasNoRow, Right, ItemMatches, RowMatches, RootMatches, IntentMatches, IsRootRow, BodyMatches, Knows, KnowsAt, RunAt, StageOk, PlaceOk, SeenDone, called_by, is_owner, owed_by, owed_value}
+use Rattle.beldi_laws.specs.Right.{Right, ItemMatches, RowMatches, Knows, KnowsAt, RunAt, StageOk, PlaceOk, SeenDone, owed_by, owed_value}
 use Rattle.beldi_laws.specs.Laws.{told_outcome, is_gone, RepliesAreOutcomes, KeepsRight, RightIsLegal}
 use Rattle.beldi_row.proofs.Gets.{got}
 use Rattle.beldi_row.proofs.Unchanged.{unchanged}
@@ -68,9 +70,10 @@ use Rattle.beldi_order.proofs.Entries.{same_some, grows_self}
 use Rattle.beldi_order.proofs.Late.{elsewhere}
 use Rattle.beldi_order.proofs.Sanes.{no_callees, legal_is_sane}
 use Rattle.beldi_laws.proofs.Lives.{runs_more, runs_less}
-use Rattle.beldi_laws.proofs.Notes.{true_false}
+use Rattle.beldi_known.proofs.Answers.{true_false}
+use Rattle.beldi_known.proofs.Instances.{no_callee}
 use Rattle.beldi_order.proofs.Operations.{id_same}
-use Rattle.beldi_laws.proofs.Steps.{OwesSame, new_owes, no_callee, row_set, root_moved}
+use Rattle.beldi_laws.proofs.Steps.{OwesSame, new_owes, row_set, root_moved}
 use Rattle.beldi_laws.proofs.Moves.{if_plan, seen_by, After, AfterQuery, AfterAct, replaced, change_entered, unheard}
 use Rattle.beldi_laws.proofs.OneEvent.{lent_only}
 use Rattle.beldi_laws.proofs.Beginnings.{look_turn, register_turn}
@@ -312,7 +315,7 @@ right_of d (Request t f a) c m h =
       λ b w.
           let q = bind_asks t f a in
           let z = lent_only (lends (told_by q c.now m)) c b w in
-          so_left d h.plain c b m (rows_after q c.now m) seen.Dropped (rows_stand q c.now m z.1) z.0 (as_before d c m seen.Dropped (refl, refl) h),
+          so_left d h.plain c b m (rows_after q c.now m) seen.Dropped (rows_stand q c.now m refl z.1) z.0 (as_before d c m seen.Dropped (refl, refl) h),
     )))
 right_of d (Turn i) c m h = by_run (map.get c.runs i) refl
   where

@@ -12,10 +12,8 @@ pub mod OneAnswer
 pub mod OneEvent
 mod Opened
 mod Operations
-mod Owners
 mod Readings
 mod Returned
-mod Rows
 pub mod Standing
 pub mod Starts
 mod Steps

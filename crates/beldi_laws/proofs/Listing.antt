@@ -25,11 +25,11 @@ use Rattle.beldi_plain.specs.Legal.{run_of}
 use Rattle.beldi_plain.specs.Listing.{listing_of}
 use Rattle.beldi_step.specs.Host.{Core}
 use Rattle.beldi_step.specs.Tables.{tables_text, row_line, line_at, value_line}
-use Rattle.beldi_laws.specs.Stands.{head_key, content_of}
+use Rattle.beldi_known.specs.Contents.{head_key, content_of}
 use Rattle.beldi_daal.specs.Content.{content_in}
 use Rattle.beldi_laws.specs.Right.{Right}
 use Rattle.beldi_row.proofs.Gets.{key_same}
-use Rattle.beldi_laws.proofs.Rows.{head_order}
+use Rattle.beldi_known.proofs.Rows.{head_order}
 use Rattle.beldi_order.specs.Laws.{KeepsNoNull}
 use Rattle.beldi_order.proofs.Nulls.{no_null}
 use Rattle.beldi_laws.proofs.Standing.{same_run}

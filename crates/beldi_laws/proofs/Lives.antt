@@ -39,7 +39,8 @@ use Rattle.beldi_step.specs.declared.run.Stage.TheVariants as stage
 use Rattle.beldi_step.specs.Host.{put_run, most_runs}
 use Rattle.beldi_call.specs.declared.async_call.AsyncAt.TheVariants as async
 use Rattle.beldi_call.specs.declared.call.CallAt.TheVariants as call
-use Rattle.beldi_laws.specs.Right.{WasThere, Keeps, PlaceOk, SeenDone, IsBodyOf, body_of, Knows, KnowsAt, RunAt, RunsMatch}
+use Rattle.beldi_laws.specs.Right.{WasThere, Keeps, PlaceOk, SeenDone, Knows, KnowsAt, RunAt, RunsMatch}
+use Rattle.beldi_known.specs.Rows.{IsBodyOf, body_of}
 
 -- ---- a run knows what it knew, when the book and the plain state have grown
 answers_of : Option Instance → List Answer
@@ -93,7 +94,7 @@ knows_more d book more p q r g h (Some j) is w grows on = record {
   answers = h.answers;
   later = h.later ++ w.later;
   run_answers = sym (append_assoc h.answers h.later w.later) ∙ ap (λ xs. xs ++ w.later) h.run_answers ∙ w.more;
-  machine = subst (λ a. IsAt d r.func a false g.machine h.answers) (sym w.args) h.machine;
+  machine = subst (λ a. IsAt d r.func a (is_some j.within) g.machine h.answers) (sym w.args) (subst (λ t. IsAt d r.func h.instance.args (is_some t) g.machine h.answers) (sym w.within) h.machine);
   run_stage = h.run_stage;
   run_done = done_on p q r.id g.machine.steps h.instance j g.caller g.stage grows w h.run_done;
   run_place = on h.answers (h.later ++ w.later) h.later g.machine.effect g.stage (λ none. let both = no_more h.later w.later none in (both.0, not_answered p q r h.instance j h.made is w both.1)) h.run_place;
@@ -103,7 +104,7 @@ knows_more d book more p q r g h (Some j) is w grows on = record {
 body_on : (b : Body) (o u : Option Instance) → GrownAt o u → IsBodyOf b o → IsBodyOf b u
 body_on b None u w h = let clash = h.made in cc
 body_on b (Some i) None w h = absurd w
-body_on b (Some i) (Some j) w h = record { instance = j; made = refl; body = h.body ∙ ap body_of (same_some (sym h.made)) ∙ λ k. record { func = sym w.func k; args = sym w.args k; tx = None; from = sym w.from k } }
+body_on b (Some i) (Some j) w h = record { instance = j; made = refl; body = h.body ∙ ap body_of (same_some (sym h.made)) ∙ λ k. record { func = sym w.func k; args = sym w.args k; tx = sym w.within k; from = sym w.from k } }
 
 knows_on : (d : Deployment) (book more : List Entry) (p q : PlainState) (r : Run) (at : standing.RunAt) → Grows p.made q.made → PlacesOn d book more p q r → KnowsAt d book p r at → KnowsAt d more q r at
 knows_on d book more p q r Looks w on h = tt
@@ -181,7 +182,7 @@ module _ (d : Deployment) (book : List Entry) (p : PlainState) (id : IntentId) (
   places_late r answers later before e s back h = tt
 
   pub grows_late : Grows p.made then_so.made
-  grows_late = grows_set p.made id (answered a (answer.Value v)) (subst (λ o. GrownAt o (Some (answered a (answer.Value v)))) (sym made) (record { func = refl; args = refl; from = refl; later = answer.Value v ∷ []; more = refl; over = λ o h. h }))
+  grows_late = grows_set p.made id (answered a (answer.Value v)) (subst (λ o. GrownAt o (Some (answered a (answer.Value v)))) (sym made) (record { func = refl; args = refl; from = refl; within = refl; later = answer.Value v ∷ []; more = refl; over = λ o h. h }))
 
 -- ---- live runs
 put_got : (m : FinMap nat_cmp Run) (i : ℕ) (o : Option Run) (j : ℕ) → map.get (put_run m i o) j ≡ cond (is_eq (nat_cmp j i)) o (map.get m j)

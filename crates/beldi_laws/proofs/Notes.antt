@@ -1,6 +1,6 @@
 -- What is owed, after one answer more.
-use Rattle.std.proofs.Common.{◌≡◌, ℕ, zero, suc, ◌==◌, Bool, true, false, take, arith, List, [], ◌∷◌, ◌++◌, length, Option, None, Some, refl, ap, sym, ◌∙◌, subst, eqb-true, eq-eqb, if◌then◌else◌}
-use Rattle.std.specs.Prelude.{slice_get}
+use Rattle.std.proofs.Common.{◌≡◌, ℕ, ◌==◌, Bool, true, false, arith, length, Option, None, Some, refl, ap, sym, ◌∙◌, subst, eqb-true, eq-eqb, if◌then◌else◌}
+use Rattle.std.specs.Prelude.{is_some}
 use Rattle.std.specs.FinMap as map
 use Rattle.std.specs.FinMap.{FinMap}
 use Rattle.beldi_value.specs.Id.{id_cmp, id_total, id_exact}
@@ -13,35 +13,19 @@ use Rattle.beldi_row.proofs.Logs.{place_same, place_self}
 use Rattle.beldi_plain.specs.Item.{Item}
 use Rattle.beldi_plain.specs.Plain.{Instance, answered, effect_of}
 use Rattle.beldi_order.specs.Sane.{effect_before}
-use Rattle.beldi_laws.specs.Right.{owed_by, note_if, note_for, owed_value, value_if, value_for}
-use lib.Dec.{eqb-suc-suc, eqb-suc-zero, eqb-zero-suc}
+use Rattle.beldi_known.proofs.Answers.{true_false, pushed_at}
+use Rattle.beldi_laws.specs.Right.{owed_by, note_if, note_for, owed_value, value_if}
 use Rattle.std.proofs.lemmas.Option.{slice_get_past}
 use Rattle.beldi_lang.specs.Wants.{wants}
 use Rattle.beldi_order.proofs.Entries.{made_set}
 use Rattle.beldi_row.proofs.Rows.{get_set}
-
-pub true_false : true ≡ false → ⊥
-true_false h = cc
-
--- ---- one answer more
-pub get_after : (xs bs : List Answer) → slice_get (xs ++ bs) (length xs) ≡ slice_get bs 0
-get_after [] bs = refl
-get_after (a ∷ xs) bs = get_after xs bs
-
--- a function of the answers before a step and of the answer there, after one was put at the end
-pushed_at : {X : Type 0} (f : List Answer → Option Answer → X) → ((ts us : List Answer) → f ts None ≡ f us None) → (xs : List Answer) (a : Answer) (n : ℕ)
-    → f (take n (xs ++ a ∷ [])) (slice_get (xs ++ a ∷ []) n) ≡ (if n == length xs then f xs (Some a) else f (take n xs) (slice_get xs n))
-pushed_at f none [] a zero = refl
-pushed_at f none [] a (suc n) = none (take (suc n) (a ∷ [])) [] ∙ ap (λ c. if c then f [] (Some a) else f [] None) (sym (eqb-suc-zero n))
-pushed_at f none (b ∷ bs) a zero = ap (λ c. if c then f (b ∷ bs) (Some a) else f [] (Some b)) (sym (eqb-zero-suc (length bs)))
-pushed_at f none (b ∷ bs) a (suc n) = pushed_at (λ ts o. f (b ∷ ts) o) (λ ts us. none (b ∷ ts) (b ∷ us)) bs a n
-    ∙ ap (λ c. if c then f (b ∷ bs) (Some a) else f (b ∷ take n bs) (slice_get bs n)) (sym (eqb-suc-suc n (length bs)))
+use Rattle.beldi_known.specs.Owed.{value_for}
 
 owed_pushed : (d : Deployment) (x : Item) (n : ℕ) (q : Instance) (a : Answer) → owed_by d x n (Some (answered q a)) ≡ (if n == length q.answers then note_for x q.func (effect_of d q) a else owed_by d x n (Some q))
-owed_pushed d x n q a = pushed_at (λ xs o. note_if x q.func (wants d q.func q.args false xs) o) (λ ts us. refl) q.answers a n
+owed_pushed d x n q a = pushed_at (λ xs o. note_if x q.func (wants d q.func q.args (is_some q.within) xs) o) (λ ts us. refl) q.answers a n
 
 value_pushed : (d : Deployment) (f n : ℕ) (q : Instance) (a : Answer) → owed_value d f n (Some (answered q a)) ≡ (if n == length q.answers then (if q.func == f then value_for (effect_of d q) a else None) else owed_value d f n (Some q))
-value_pushed d f n q a = pushed_at (λ xs o. if q.func == f then value_if (wants d q.func q.args false xs) o else None) (λ ts us. refl) q.answers a n
+value_pushed d f n q a = pushed_at (λ xs o. if q.func == f then value_if (wants d q.func q.args (is_some q.within) xs) o else None) (λ ts us. refl) q.answers a n
 
 -- ---- what is owed
 -- nothing is owed at the next step

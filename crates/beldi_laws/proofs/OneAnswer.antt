@@ -1,5 +1,5 @@
 -- Where the host and its rows are right, each step of an instance has one answer; and it stays, whatever comes.
-use Rattle.std.proofs.Common.{◌≡◌, inl, inr, ℕ, false, Option, None, Some, refl, ap, sym, ◌∙◌, subst}
+use Rattle.std.proofs.Common.{◌≡◌, inl, inr, ℕ, Option, None, Some, refl, ap, sym, ◌∙◌, subst, is_some}
 use Rattle.std.specs.Prelude.{option_and_then}
 use Rattle.std.specs.Option.{option_map}
 use Rattle.std.specs.FinMap as map
@@ -34,7 +34,7 @@ use Rattle.beldi_order.proofs.Entries.{same_some}
 use Rattle.beldi_laws.specs.Laws.{HeldAnswersStay, OneRowChanged, RightHasOneAnswer}
 use Rattle.beldi_laws.specs.OneAnswer.{WasGiven, AnswersOf, OneAnswerPerStep, AnswersStay}
 use Rattle.beldi_laws.specs.Right.{Right, Knows, KnowsAt, RunAt}
-use Rattle.beldi_laws.specs.Stands.{held_answer, held_note, head_key}
+use Rattle.beldi_laws.specs.Stands.{held_answer, held_note}
 use Rattle.beldi_walk.specs.declared.query.Query.TheVariants as query
 use Rattle.beldi_walk.proofs.Promises.{at_each}
 use Rattle.beldi_invokelog.specs.InvokeLog.{invoke_key, call_in, result_in, GoesOn, CallGoesOn}
@@ -45,6 +45,7 @@ use Rattle.beldi_laws.proofs.Standing.{held_here, same_run}
 use Rattle.beldi_order.proofs.Sanes.{legal_is_sane}
 use Rattle.beldi_step.specs.Run.{noted_answer}
 use Rattle.beldi_lang.specs.declared.effect.Answer.TheVariants.{Done}
+use Rattle.beldi_known.specs.Contents.{head_key}
 
 -- ---- one answer
 module _ (d : Deployment) (c : Core) (m : Rows) (h : Right d c m) (id : IntentId) where
@@ -61,7 +62,7 @@ module _ (d : Deployment) (c : Core) (m : Rows) (h : Right d c m) (id : IntentId
         given = k.answers;
         later = k.later;
         first = k.run_answers ∙ ap (λ z. z.answers) is;
-        machine = subst (λ a. IsAt d q.func a false g.machine k.answers) (ap (λ z. z.args) is) (subst (λ f. IsAt d f k.instance.args false g.machine k.answers) func k.machine);
+        machine = subst (λ (z : Instance). IsAt d q.func z.args (is_some z.within) g.machine k.answers) is (subst (λ f. IsAt d f k.instance.args (is_some k.instance.within) g.machine k.answers) func k.machine);
       }
 
   answers_of : (o : Option Instance) → map.get h.plain.made id ≡ o → AnswersOf d c m id o

@@ -1,5 +1,5 @@
 -- Rows that match a plain state, after a call was opened.
-use Rattle.std.proofs.Common.{◌≡◌, ℕ, ◌==◌, Bool, true, false, [], ◌∷◌, length, length-append, Option, None, Some, refl, ap, sym, ◌∙◌, subst, eqb-true, eq-eqb, arith, if◌then◌else◌}
+use Rattle.std.proofs.Common.{◌≡◌, ℕ, ◌==◌, Bool, true, false, length, Option, None, Some, refl, ap, sym, ◌∙◌, subst, eqb-true, eq-eqb, if◌then◌else◌}
 use Rattle.std.specs.FinMap as map
 use Rattle.std.specs.Ordering.{is_eq}
 use Rattle.beldi_value.specs.Id.{child_of, has_no_hops}
@@ -16,26 +16,15 @@ use Rattle.beldi_row.specs.declared.key.Kind.TheVariants as kinds
 use Rattle.beldi_row.specs.declared.row.Row.{Row}
 use Rattle.beldi_row.specs.declared.row.Row.TheVariants as rows
 use Rattle.beldi_row.specs.Table.{Rows, set_row}
-use Rattle.beldi_row.proofs.Gets.{key_self}
 use Rattle.beldi_invokelog.specs.InvokeLog.{invoke_key, opened}
 use Rattle.beldi_plain.specs.Plain.{Instance, PlainState, new_instance, callee_of, calls_at, with_instance}
 use Rattle.beldi_order.proofs.Late.{elsewhere, here}
-use Rattle.beldi_laws.specs.Right.{RowsMatch, CalleeMatches, IntentMatches, called_by, owed_call, result_of}
-use Rattle.beldi_laws.proofs.Notes.{true_false, next_place}
-use Rattle.beldi_laws.proofs.Steps.{OwesSame, new_owes, row_moved, item_moved, row_set, calls_moved, no_callee, callee_new}
-
--- no id is that of its own callee
-pub no_own_callee : (id : IntentId) (n : ℕ) → child_of id n ≡ id → ⊥
-no_own_callee id n h = let l = ap (λ (z : IntentId). length z.hops) h in let k = length-append id.hops (n ∷ []) in omega (arith, l, k)
-
--- the key of a call, by its home and its place
-pub same_key : (home f : ℕ) (a b : Place) → home ≡ f → a ≡ b → is_eq (key_cmp (invoke_key home a) (invoke_key f b)) ≡ false → ⊥
-same_key home f a b same place other = true_false (sym (key_self (invoke_key f b)) ∙ ap (λ z. is_eq (key_cmp z (invoke_key f b))) (λ i. invoke_key (sym same i) (sym place i)) ∙ other)
-
--- another function's log has no call there
-pub not_home : (f : ℕ) (i : Instance) (j : Option Instance) → (i.func == f) ≡ false → called_by f (Some i) j ≡ None
-not_home f i None off = refl
-not_home f i (Some j) off = ap (λ b. if b then Some (j.func, result_of j) else None) off
+use Rattle.beldi_laws.specs.Right.{RowsMatch, owed_call}
+use Rattle.beldi_laws.proofs.Notes.{next_place}
+use Rattle.beldi_laws.proofs.Steps.{OwesSame, new_owes, row_moved, item_moved, row_set}
+use Rattle.beldi_known.specs.Rows.{CalleeMatches, IntentMatches}
+use Rattle.beldi_known.specs.Owed.{called_by, result_of}
+use Rattle.beldi_known.proofs.Instances.{no_callee, callee_new, calls_moved, no_own_callee, same_key}
 
 -- ---- a call was opened: its callee is made, which owes nothing yet
 module _ (d : Deployment) (m : Rows) (p : PlainState) (id : IntentId) (i : Instance) (f : ℕ) (v : Value) (waits : Bool) (is : map.get p.made id ≡ Some i) (new : map.get p.made (callee_of id i) ≡ None)

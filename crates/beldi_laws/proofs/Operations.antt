@@ -1,5 +1,5 @@
 -- The turns of an operation on an item: they rest on the law that a chain is a logged cell, and on what each operation is.
-use Rattle.std.proofs.Common.{◌≡◌, inr, ℕ, Bool, true, false, List, [], ◌∷◌, Option, None, Some, refl, ap, sym, ◌∙◌, subst, is_some, if◌then◌else◌}
+use Rattle.std.proofs.Common.{◌≡◌, ℕ, true, false, List, [], ◌∷◌, Option, None, Some, refl, ap, sym, ◌∙◌, subst, is_some, if◌then◌else◌}
 use Rattle.std.specs.Prelude.{slice_get, option_and_then}
 use Rattle.std.specs.Option.{option_map}
 use Rattle.std.specs.FinMap as map
@@ -9,7 +9,6 @@ use Rattle.beldi_value.specs.declared.id.IntentId.{IntentId}
 use Rattle.beldi_value.specs.declared.place.Caller.{Caller}
 use Rattle.beldi_value.specs.declared.place.Owner.TheVariants as owner
 use Rattle.beldi_value.specs.declared.value.Value.TheVariants as value
-use Rattle.beldi_value.specs.Passes.{passes}
 use Rattle.beldi_value.specs.declared.place.Place.{Place}
 use Rattle.beldi_value.specs.declared.value.Value.{Value}
 use Rattle.beldi_tree.specs.declared.deployment.Deployment.{Deployment}
@@ -32,7 +31,6 @@ use Rattle.beldi_daal.specs.declared.cell.WriteAt.{WriteAt}
 use Rattle.beldi_daal.specs.declared.cell.WriteGoes.{WriteGoes}
 use Rattle.beldi_daal.specs.declared.cell.WriteGoes.TheVariants as writes
 use Rattle.beldi_daal.specs.declared.cell.CellOp.{CellOp}
-use Rattle.beldi_daal.specs.declared.cell.CellOp.TheVariants as cell
 use Rattle.beldi_daal.specs.declared.walk.Item.TheVariants.{Plain}
 use Rattle.beldi_daal.specs.declared.walk.WriteWalk.{WriteWalk}
 use Rattle.beldi_daal.specs.Cell.{cell_key, done_note, write_asks, write_goes}
@@ -60,13 +58,16 @@ use Rattle.beldi_step.specs.declared.run.Stage.TheVariants as stage
 use Rattle.beldi_intent.specs.Intent.{root_key}
 use Rattle.beldi_step.specs.Run.{place_of, turned_by, put_asks, put_says, write_says, done_says, note_done, note_of_op, noted_answer, answers_it, if_answers, answer_noted, cell_op}
 use Rattle.beldi_step.specs.Host.{Core, turn_next}
-use Rattle.beldi_laws.specs.Stands.{head_key, content_of, noted}
-use Rattle.beldi_laws.specs.Right.{Right, RowsMatch, Knows, StageOk, PlaceOk, owed_by, note_if, note_of}
-use Rattle.beldi_laws.proofs.Rows.{no_root}
-use Rattle.beldi_laws.proofs.Steps.{Does, DoneRows, operation_done, content_kept}
+use Rattle.beldi_known.specs.Contents.{head_key, content_of}
+use Rattle.beldi_known.specs.Owed.{noted, note_of}
+use Rattle.beldi_laws.specs.Right.{Right, RowsMatch, Knows, StageOk, PlaceOk, owed_by, note_if}
+use Rattle.beldi_known.proofs.Rows.{no_root}
+use Rattle.beldi_laws.proofs.Steps.{operation_done, content_kept}
 use Rattle.beldi_laws.proofs.Moves.{AfterTurn, AfterQuery, SameRoots, change_entered}
 use Rattle.beldi_laws.proofs.Turns.{effect_here, answer_here, step_here, effect_next, wants_it, fits, not_over, goes_on, held, ends, replays, steps_on}
-use Rattle.beldi_laws.proofs.Owners.{unbarred, nobody_else, not_hers, her_own}
+use Rattle.beldi_known.proofs.Operations.{does_so}
+use Rattle.beldi_known.proofs.Owners.{unbarred, nobody_else}
+use Rattle.beldi_known.specs.Operations.{cell_of, DoneRows}
 
 -- what is answered to an operation is what its note reads as
 pub noted_back : (o : Operation) (a : Answer) → OpAnswered o a → option_and_then noted_answer (noted o a) ≡ Some a
@@ -77,27 +78,6 @@ noted_back free answer.Done ok = refl
 noted_back o a ok = absurd ok
 
 -- ---- what an operation does to its item's cell
-abbrev cell_of : Operation → CellOp
-cell_of (write v) = cell.Write v
-cell_of (operation.cond r u v) = cell.Cond r u v
-cell_of lock = cell.Lock
-cell_of free = cell.Free None
-
-does_so : (o : Operation) → Does o (cell_of o)
-does_so (write v) = record { value = λ w. refl; note = λ w. refl; own = λ id was free. refl; others = λ id was free who other. refl }
-does_so (operation.cond r u v) = record { value = λ w. by_test (passes w r u) w; note = λ w. refl; own = λ id was free. refl; others = λ id was free who other. refl }
-  where
-    by_test : (b : Bool) (w : Value) → or_old (if b then Some v else None) w ≡ (if b then v else w)
-    by_test true w = refl
-    by_test false w = refl
-does_so lock = record {
-  value = λ w. refl;
-  note = λ w. refl;
-  own = λ id was free. her_own id;
-  others = λ id was free who other. not_hers id (Some (owner.Intent id)) (inr refl) who other ∙ sym (not_hers id was (unbarred cell.Lock id was free) who other);
-}
-does_so free = record { value = λ w. refl; note = λ w. refl; own = λ id was free. refl; others = λ id was free who other. sym (not_hers id was (unbarred (cell.Free None) id was free) who other) }
-
 abbrev IsCell : Effect → OnItem → Type 0
 IsCell e o = cell_op e ≡ Some (record { table = o.table; key = o.key; op = cell_of o.does })
 
@@ -215,7 +195,7 @@ module _ (d : Deployment) (c : Core) (m : Rows) (i : ℕ) (r : Run) (g : Begun) 
 
       told : (w : Note) → note_at (content_of n item).notes place ≡ Some w → noted o.does a ≡ Some w
       told w there = (does_so o.does).note old ∙ ap (λ v. Some (note_after op v)) (sym value_here) ∙ sym (note_here (content_of m item).notes place (note_after op (content_of m item).value) did.0)
-          ∙ ap (λ x. note_at x.notes place) (sym did.2) ∙ there
+          ∙ ap (λ x. note_at x.notes place) (sym did.1.1) ∙ there
 
       abbrev state : PlainState
       state = operate h.plain r.id k.instance (item_in k.instance.func o) o.does
@@ -223,7 +203,7 @@ module _ (d : Deployment) (c : Core) (m : Rows) (i : ℕ) (r : Run) (g : Begun) 
       rows_done : RowsMatch d n state
       rows_done = operation_done d h.plain r.id k.instance o op k.made wants_op (does_so o.does) m n
           (subst (λ s. DoneRows m n (item_in k.instance.func o) (place_of r.id s) op) (step_here d c.book h.plain r g k left)
-          (subst (λ f. DoneRows m n (item_in f o) place op) (sym k.func) (record { same = same; sound = sound; none = did.0; free = did.1; here = did.2 })))
+          (subst (λ f. DoneRows m n (item_in f o) place op) (sym k.func) (record { same = same; sound = sound; none = did.0; free = did.1.0; here = did.1.1 })))
           h.rows
 
       -- nobody else has locked the item
@@ -231,7 +211,7 @@ module _ (d : Deployment) (c : Core) (m : Rows) (i : ℕ) (r : Run) (g : Begun) 
       free_here x touched j held =
           let touches : Some item ≡ Some x =
           ap (λ f. Some (item_in f o)) (sym k.func) ∙ sym (ap (touched_by d) k.made ∙ touches_it (effect_of d k.instance) o k.instance wants_op) ∙ touched in
-          nobody_else r.id (content_of m item).owner (unbarred op r.id (content_of m item).owner did.1) j
+          nobody_else r.id (content_of m item).owner (unbarred op r.id (content_of m item).owner did.1.0) j
           ((h.rows.items item).owner (owner.Intent j) ∙ ap (λ z. holds d z (map.get h.plain.made j)) (same_some touches) ∙ held)
 
       steps : After (Answers a (Some mark.Step))

@@ -50,14 +50,15 @@ use Rattle.beldi_intent.specs.Intent.{root_key}
 use Rattle.beldi_step.specs.Run.{place_of, turned_by, stage_says, walk_says}
 use Rattle.beldi_step.specs.Host.{Core, turn_next}
 use Rattle.beldi_order.specs.Sane.{effect_before}
-use Rattle.beldi_laws.specs.Stands.{head_key, content_of}
-use Rattle.beldi_laws.specs.Right.{Right, RowsMatch, LogMatches, WasThere, Keeps, Knows, owed_read, owed_value, value_if}
-use Rattle.beldi_laws.proofs.Rows.{no_root, set_others}
+use Rattle.beldi_known.specs.Contents.{head_key, content_of}
+use Rattle.beldi_known.specs.Rows.{LogMatches}
+use Rattle.beldi_laws.specs.Right.{Right, RowsMatch, WasThere, Keeps, Knows, owed_read, owed_value, value_if}
+use Rattle.beldi_known.proofs.Rows.{no_root, set_others}
 use Rattle.beldi_laws.proofs.Steps.{read_added}
 use Rattle.beldi_laws.proofs.Lives.{grows_late, runs_late}
 use Rattle.beldi_laws.proofs.Moves.{AfterAct, AfterTurn, Entered, still}
 use Rattle.beldi_laws.proofs.Turns.{effect_here, answer_here, all_here, step_here, effect_next, fits, not_over, goes_on, held, replays, steps_on}
-use Rattle.beldi_laws.proofs.Owners.{unowned, nobody_else}
+use Rattle.beldi_known.proofs.Owners.{unowned, nobody_else}
 use Rattle.beldi_plain.specs.Guard.{touched_by, item_touched}
 use Rattle.beldi_plain.specs.Holds.{holds}
 

@@ -8,10 +8,9 @@ use Rattle.beldi_invokelog.specs.InvokeLog.{invoke_key}
 use Rattle.beldi_lang.specs.Callee.{answer_of}
 use Rattle.beldi_lang.specs.declared.effect.Effect.TheVariants as effect
 use Rattle.beldi_laws.proofs.Notes.{value_same}
-use Rattle.beldi_laws.proofs.Opened.{no_own_callee, same_key, not_home}
-use Rattle.beldi_laws.proofs.Steps.{OwesSame, row_moved, item_moved, row_set, calls_moved, end_owes, row_answered, item_answered, same_caller, callee_on, return_keeps_row}
+use Rattle.beldi_laws.proofs.Steps.{OwesSame, row_moved, item_moved, row_set, end_owes, row_answered, item_answered}
 use Rattle.beldi_laws.proofs.Turns.{fits}
-use Rattle.beldi_laws.specs.Right.{HasNoRow, RowsMatch, value_for, called_by, owed_call, result_of, IsBodyOf, CalleeMatches, IntentMatches, RowMatches, IsCalleeRow, CallMatches, OutcomeMatches}
+use Rattle.beldi_laws.specs.Right.{RowsMatch, owed_call, RowMatches}
 use Rattle.beldi_order.proofs.Entries.{same_some}
 use Rattle.beldi_order.proofs.Late.{here, elsewhere}
 use Rattle.beldi_plain.specs.Operation.{op_of}
@@ -37,6 +36,9 @@ use Rattle.beldi_value.specs.declared.id.IntentId.{IntentId}
 use Rattle.beldi_value.specs.declared.outcome.Outcome.{Outcome}
 use Rattle.beldi_value.specs.declared.place.Place.{Place}
 use Rattle.beldi_value.specs.declared.value.Value.{Value}
+use Rattle.beldi_known.specs.Rows.{HasNoRow, IsBodyOf, CalleeMatches, IntentMatches, IsCalleeRow, CallMatches, OutcomeMatches}
+use Rattle.beldi_known.specs.Owed.{value_for, called_by, result_of}
+use Rattle.beldi_known.proofs.Instances.{same_caller, callee_on, return_keeps_row, calls_moved, no_own_callee, same_key, not_home}
 
 module _ (d : Deployment) (m : Rows) (p : PlainState) (id : IntentId) (i j : Instance) (n : ℕ) (o : Outcome) (f : ℕ) (v : Value) (is : map.get p.made id ≡ Some i) (made : map.get p.made (child_of id n) ≡ Some j)
     (open_still : j.outcome ≡ None) (waited : is_waited j.from ≡ true) (calls : effect_of d i ≡ effect.Call f v) (h : RowsMatch d m p) where

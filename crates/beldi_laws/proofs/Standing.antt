@@ -30,17 +30,20 @@ use Rattle.beldi_readlog.specs.ReadLog.{log_key}
 use Rattle.beldi_invokelog.specs.InvokeLog.{invoke_key, call_in, result_in}
 use Rattle.beldi_lang.specs.Callee.{answer_of}
 use Rattle.beldi_order.specs.Sane.{Sane, IsCalled, CalledBy, OpAnswers, IsAnswerTo, effect_before, call_of, answer_given}
-use Rattle.beldi_laws.specs.Stands.{Stands, IsMade, IsOpen, head_key, key_in, held_answer, held_note, noted}
-use Rattle.beldi_laws.specs.Right.{Right, RowsMatch, IntentMatches, RootMatches, BodyMatches, CallMatches, note_if, note_of, owed_by, value_if, value_for, owed_read, owed_value, owed_call, called_by, result_of}
+use Rattle.beldi_laws.specs.Stands.{Stands, IsMade, IsOpen, key_in, held_answer, held_note}
+use Rattle.beldi_laws.specs.Right.{Right, RowsMatch, note_if, owed_by, value_if, owed_read, owed_value, owed_call}
 use Rattle.std.specs.Option.{option_map}
 use Rattle.beldi_order.proofs.Entries.{same_some}
 use Rattle.beldi_order.proofs.Sanes.{sane_of, legal_is_sane}
-use Rattle.beldi_laws.proofs.Steps.{row_of}
+use Rattle.beldi_known.proofs.Instances.{row_of}
 use Rattle.beldi_laws.proofs.Readings.{given_owed}
 use Rattle.beldi_laws.proofs.Operations.{noted_back}
 use Rattle.beldi_step.specs.Run.{noted_answer, is_waited}
 use Rattle.beldi_lang.specs.declared.effect.Answer.TheVariants.{Done}
 use Rattle.beldi_laws.proofs.CallsHere.{same_call}
+use Rattle.beldi_known.specs.Contents.{head_key}
+use Rattle.beldi_known.specs.Owed.{noted, note_of, value_for, called_by, result_of}
+use Rattle.beldi_known.specs.Rows.{IntentMatches, RootMatches, BodyMatches, CallMatches}
 
 -- the row of a root without outcome has none
 no_outcome : (b : Option Body) (o : Option Outcome) (q : Instance) → BodyMatches b o (Some q) → q.outcome ≡ None → o ≡ None

@@ -1,10 +1,10 @@
 -- Rows that match a plain state, after one row changed.
-use Rattle.std.proofs.Common.{◌≡◌, ℕ, ◌==◌, Bool, true, false, cond, List, length, Option, None, Some, is_some, refl, ap, sym, ◌∙◌, subst, eqb-true, eq-eqb, if◌then◌else◌}
+use Rattle.std.proofs.Common.{◌≡◌, ℕ, ◌==◌, Bool, true, false, cond, List, length, Option, None, Some, refl, ap, sym, ◌∙◌, subst, eqb-true, eq-eqb, if◌then◌else◌}
 use Rattle.std.specs.FinMap as map
 use Rattle.std.specs.FinMap.{FinMap}
 use Rattle.std.specs.Ordering.{is_eq}
 use Rattle.std.proofs.lemmas.Cmp.{eq_by_cmp_equiv, tied_itself}
-use Rattle.beldi_value.specs.Id.{id_cmp, id_total, id_exact, child_of, has_no_hops}
+use Rattle.beldi_value.specs.Id.{id_total, id_exact, child_of, has_no_hops}
 use Rattle.beldi_value.specs.declared.id.IntentId.{IntentId}
 use Rattle.beldi_value.specs.declared.outcome.Outcome.{Outcome}
 use Rattle.beldi_value.specs.declared.place.Owner.{Owner}
@@ -21,7 +21,6 @@ use Rattle.beldi_row.specs.Key.{key_cmp}
 use Rattle.beldi_row.specs.declared.key.RowKey.{RowKey}
 use Rattle.beldi_row.specs.declared.key.Kind.{Kind}
 use Rattle.beldi_row.specs.declared.key.Kind.TheVariants as kinds
-use Rattle.beldi_row.specs.declared.row.Body.{Body}
 use Rattle.beldi_row.specs.declared.row.IntentRow.{IntentRow}
 use Rattle.beldi_row.specs.declared.row.Row.{Row}
 use Rattle.beldi_row.specs.declared.row.Row.TheVariants as rows
@@ -32,148 +31,26 @@ use Rattle.beldi_row.proofs.Rows.{get_set}
 use Rattle.beldi_row.proofs.Logs.{note_pushed, place_same, place_self}
 use Rattle.beldi_daal.specs.declared.cell.CellOp.{CellOp}
 use Rattle.beldi_daal.specs.Content.{Content, content_in, SoundAt}
-use Rattle.beldi_daal.specs.Logged.{value_after, owner_after, note_after, barred, done_to}
+use Rattle.beldi_daal.specs.Logged.{owner_after, note_after, barred, done_to}
 use Rattle.beldi_readlog.specs.ReadLog.{log_key}
 use Rattle.beldi_plain.specs.Item.{Item, item_cmp, item_total}
 use Rattle.beldi_plain.specs.Holds.{held_by, held_if, holds, holds_as}
-use Rattle.beldi_plain.specs.Operation.{OnItem, Operation, op_of, item_in, sets, or_old, set_if, answer_after}
+use Rattle.beldi_plain.specs.Operation.{OnItem, op_of, item_in, sets, or_old, set_if, answer_after}
 use Rattle.beldi_plain.specs.Plain.{Instance, PlainState, new_instance, value_at, with_instance, answered, ended, effect_of}
 use Rattle.beldi_value.proofs.Callees.{no_root}
 use Rattle.beldi_order.specs.Sane.{effect_before}
-use Rattle.beldi_order.proofs.Entries.{same_some, made_set}
-use Rattle.beldi_step.specs.Run.{is_waited}
-use Rattle.beldi_laws.specs.Stands.{head_key, content_of, noted}
-use Rattle.beldi_laws.specs.Right.{RowsMatch, ItemMatches, RowMatches, IntentMatches, RootMatches, CalleeMatches, CallMatches, LogMatches, IsRootRow, IsBodyOf, BodyMatches, CalleeBodyMatches, OutcomeMatches, body_of, is_owner, owed_by, owed_call, called_by, result_of, owed_read, owed_value, note_of, note_for, value_for, value_if}
-use Rattle.beldi_laws.proofs.Rows.{head_order, is_cell_key, no_head, keys_at, set_here, set_others}
-use Rattle.beldi_laws.proofs.Notes.{next_place, owed_more, owed_same, value_same, value_more, value_next, true_false}
-use Rattle.beldi_order.proofs.Operations.{item_same, IsOther, plain_set, holds_more}
-
--- ---- the row of an intent
--- one that is there has a body only of an instance that was made
-pub record IsRowOf (r : IntentRow) (i : Option Instance) : Type 0 where
-  pub finishes : is_some r.finish ≡ is_some r.outcome
-  pub body : (b : Body) → r.body ≡ Some b → IsBodyOf b i
-  pub outcome : (b : Body) (u : Outcome) (q : Instance) → r.body ≡ Some b → r.outcome ≡ Some u → i ≡ Some q → q.outcome ≡ Some u
-
-root_body : (b : Option Body) (o : Option Outcome) (i : Option Instance) → BodyMatches b o i → (c : Body) → b ≡ Some c → IsBodyOf c i
-root_body None o i h c is = cc
-root_body (Some b) o i h c is = subst (λ z. IsBodyOf z i) (same_some is) h.0
-
-root_outcome : (b : Option Body) (o : Option Outcome) (i : Option Instance) → BodyMatches b o i → (c : Body) (u : Outcome) (q : Instance) → b ≡ Some c → o ≡ Some u → i ≡ Some q → q.outcome ≡ Some u
-root_outcome None o i h c u q is some made = cc
-root_outcome (Some b) o i h c u q is some made = ap (λ z. z.outcome) (same_some (sym made ∙ h.0.made)) ∙ h.1 ∙ some
-
-callee_body : (home : ℕ) (b : Option Body) (o : Option Outcome) (i : Option Instance) → CalleeBodyMatches home b o i → (c : Body) → b ≡ Some c → IsBodyOf c i
-callee_body home None o i h c is = absurd h
-callee_body home (Some b) o i h c is = subst (λ z. IsBodyOf z i) (same_some is) h.0
-
-pub outcome_kept : (t : Bool) (o u : Option Outcome) → OutcomeMatches t o u → (v : Outcome) → o ≡ Some v → u ≡ Some v
-outcome_kept true o u h v is = h v is
-outcome_kept false o u h v is = h ∙ is
-
-callee_outcome : (home : ℕ) (b : Option Body) (o : Option Outcome) (i : Option Instance) → CalleeBodyMatches home b o i → (c : Body) (u : Outcome) (q : Instance) → b ≡ Some c → o ≡ Some u → i ≡ Some q → q.outcome ≡ Some u
-callee_outcome home None o i h c u q is some made = absurd h
-callee_outcome home (Some b) o i h c u q is some made = ap (λ z. z.outcome) (same_some (sym made ∙ h.0.made)) ∙ outcome_kept (is_waited b.from) o h.0.instance.outcome h.2 u some
-
-root_row : (b : Bool) (r : IntentRow) (i : Option Instance) → RootMatches b (Some (rows.Intent r)) i → IsRowOf r i
-root_row true r i h = record { finishes = h.finishes; body = root_body r.body r.outcome i h.body; outcome = root_outcome r.body r.outcome i h.body }
-root_row false r i h = cc
-
-pub row_of : (b : Bool) (home : ℕ) (r : IntentRow) (i : Option Instance) → IntentMatches b home (Some (rows.Intent r)) i → IsRowOf r i
-row_of true home r i h = root_row (home == 0) r i h
-row_of false home r i h = record { finishes = h.finishes; body = callee_body home r.body r.outcome i h.body; outcome = callee_outcome home r.body r.outcome i h.body }
-
--- a body stays that of its instance, which is answered, or ends
-abbrev pub body_stays : (b : Body) (q s : Instance) → body_of q ≡ body_of s → IsBodyOf b (Some q) → IsBodyOf b (Some s)
-body_stays b q s same h = record { instance = s; made = refl; body = h.body ∙ ap body_of (same_some (sym h.made)) ∙ same }
-
-root_answered : (b : Option Body) (o : Option Outcome) (q : Instance) (a : Answer) → BodyMatches b o (Some q) → BodyMatches b o (Some (answered q a))
-root_answered None o q a h = cc
-root_answered (Some b) o q a h = (body_stays b q (answered q a) refl h.0, ap (λ z. z.outcome) (same_some h.0.made) ∙ h.1)
-
--- an instance goes on so that its row, or that it has none yet, matches it still
-pub record KeepsRow (q s : Instance) : Type 0 where
-  pub body : body_of q ≡ body_of s
-  pub outcomes : (o : Option Outcome) → OutcomeMatches (is_waited q.from) o q.outcome → OutcomeMatches (is_waited q.from) o s.outcome
-  pub open_still : is_waited q.from ≡ false → q.outcome ≡ None → s.outcome ≡ None
-
--- one that is answered does, and so does one that gives its outcome back to who waits for it
-answer_keeps_row : (q : Instance) (a : Answer) → KeepsRow q (answered q a)
-answer_keeps_row q a = record { body = refl; outcomes = λ o h. h; open_still = λ w none. none }
-
-pub return_keeps_row : (q : Instance) (u : Outcome) → is_waited q.from ≡ true → q.outcome ≡ None → KeepsRow q (ended q u)
-return_keeps_row q u waited none = record {
-  body = refl;
-  outcomes = λ o h. subst (λ t. OutcomeMatches t o (Some u)) (sym waited) (λ v is. let clash = sym none ∙ outcome_kept (is_waited q.from) o q.outcome h v is in cc);
-  open_still = λ idle was. let clash = sym waited ∙ idle in cc;
-}
-
-callee_goes : (home : ℕ) (b : Option Body) (o : Option Outcome) (q s : Instance) → KeepsRow q s → CalleeBodyMatches home b o (Some q) → CalleeBodyMatches home b o (Some s)
-callee_goes home None o q s keeps h = absurd h
-callee_goes home (Some b) o q s keeps h =
-    let from : b.from ≡ q.from = ap (λ z. z.from) (h.0.body ∙ ap body_of (same_some (sym h.0.made))) in (
-      body_stays b q s keeps.body h.0,
-      h.1,
-      subst (λ t. OutcomeMatches t o s.outcome) (ap is_waited (sym from))
-          (keeps.outcomes o (subst (λ t. OutcomeMatches t o q.outcome) (ap is_waited from) (subst (OutcomeMatches (is_waited b.from) o) (ap (λ z. z.outcome) (same_some (sym h.0.made))) h.2))),
-    )
-
-pub callee_on : (home : ℕ) (r : Option Row) (q s : Instance) → KeepsRow q s → CalleeMatches home r (Some q) → CalleeMatches home r (Some s)
-callee_on home None q s keeps h = record {
-  open_still = λ z is func idle.
-      let same : s ≡ z = same_some is in
-      let was_func : q.func ≡ home = ap (λ y. y.func) keeps.body ∙ ap (λ y. y.func) same ∙ func in
-      let was_idle : is_waited q.from ≡ false = ap (λ y. is_waited y.from) keeps.body ∙ ap (λ y. is_waited y.from) same ∙ idle in
-      ap (λ y. y.outcome) (sym same) ∙ keeps.open_still was_idle (h.open_still q refl was_func was_idle);
-}
-callee_on home (Some (rows.Intent i)) q s keeps h = record { finishes = h.finishes; body = callee_goes home i.body i.outcome q s keeps h.body }
-callee_on home (Some r) q s keeps h = absurd h
-
-roots_answered : (b : Bool) (r : Option Row) (q : Instance) (a : Answer) → RootMatches b r (Some q) → RootMatches b r (Some (answered q a))
-roots_answered true None q a h = cc
-roots_answered true (Some (rows.Intent i)) q a h = record { bare = h.bare; finishes = h.finishes; body = root_answered i.body i.outcome q a h.body }
-roots_answered true (Some r) q a h = absurd h
-roots_answered false r q a h = h
-
-intent_answered : (b : Bool) (home : ℕ) (r : Option Row) (q : Instance) (a : Answer) → IntentMatches b home r (Some q) → IntentMatches b home r (Some (answered q a))
-intent_answered true home r q a h = roots_answered (home == 0) r q a h
-intent_answered false home r q a h = callee_on home r q (answered q a) (answer_keeps_row q a) h
-
--- an intent that was not made has no row with hops
-pub callee_new : (home : ℕ) (r : Option Row) (s : Instance) → s.outcome ≡ None → CalleeMatches home r None → CalleeMatches home r (Some s)
-callee_new home None s none h = record { open_still = λ q is func idle. ap (λ z. z.outcome) (sym (same_some is)) ∙ none }
-callee_new home (Some (rows.Intent i)) s none h = no_body i.body h.body
-  where
-    no_body : (b : Option Body) → CalleeBodyMatches home b i.outcome None → CalleeMatches home (Some (rows.Intent i)) (Some s)
-    no_body None g = absurd g
-    no_body (Some b) g = let clash = g.0.made in cc
-callee_new home (Some r) s none h = absurd h
-
--- ---- what the logs of calls owe, when an instance was set
-module _ (made : FinMap id_cmp Instance) (id : IntentId) (s : Instance) where
-  abbrev later : FinMap id_cmp Instance
-  later = map.insert made id s
-
-  -- as before at a place whose intent and whose callee are others, or owe the same
-  pub calls_moved : (f : ℕ) (b : Place) → (b.intent ≡ id → called_by f (Some s) (map.get later (child_of b.intent b.step)) ≡ called_by f (map.get made id) (map.get later (child_of b.intent b.step)))
-      → (child_of b.intent b.step ≡ id → called_by f (map.get made b.intent) (Some s) ≡ called_by f (map.get made b.intent) (map.get made id))
-      → called_by f (map.get later b.intent) (map.get later (child_of b.intent b.step)) ≡ called_by f (map.get made b.intent) (map.get made (child_of b.intent b.step))
-  calls_moved f b caller callee =
-      made_set made id s (λ z o. b.intent ≡ z → called_by f o (map.get later (child_of b.intent b.step)) ≡ called_by f (map.get made z) (map.get later (child_of b.intent b.step))) caller (λ z e. refl) b.intent refl
-      ∙ made_set made id s (λ z o. child_of b.intent b.step ≡ z → called_by f (map.get made b.intent) o ≡ called_by f (map.get made b.intent) (map.get made z)) callee (λ z e. refl) (child_of b.intent b.step) refl
-
--- a caller by its function, and a callee by its function and its result
-pub same_caller : (f : ℕ) (i s : Instance) (j : Option Instance) → s.func ≡ i.func → called_by f (Some s) j ≡ called_by f (Some i) j
-same_caller f i s None func = refl
-same_caller f i s (Some j) func = ap (λ g. if g == f then Some (j.func, result_of j) else None) func
-
-pub same_callee : (f : ℕ) (i : Option Instance) (j s : Instance) → s.func ≡ j.func → result_of s ≡ result_of j → called_by f i (Some s) ≡ called_by f i (Some j)
-same_callee f None j s func result = refl
-same_callee f (Some i) j s func result = λ k. if i.func == f then Some (func k, result k) else None
-
-pub no_callee : (f : ℕ) (i : Option Instance) → called_by f i None ≡ None
-no_callee f None = refl
-no_callee f (Some i) = refl
+use Rattle.beldi_order.proofs.Entries.{made_set}
+use Rattle.beldi_known.proofs.Operations.{Does}
+use Rattle.beldi_known.proofs.Instances.{intent_same, same_caller, same_callee, calls_moved}
+use Rattle.beldi_known.specs.Contents.{head_key, content_of, is_owner}
+use Rattle.beldi_known.specs.Owed.{noted, called_by, note_of, value_for}
+use Rattle.beldi_known.specs.Rows.{IntentMatches, RootMatches, CallMatches, LogMatches, IsRootRow}
+use Rattle.beldi_laws.specs.Right.{RowsMatch, ItemMatches, RowMatches, owed_by, owed_call, owed_read, owed_value, note_for, value_if}
+use Rattle.beldi_known.proofs.Rows.{head_order, is_cell_key, no_head, keys_at, set_here, set_others}
+use Rattle.beldi_known.proofs.Answers.{true_false}
+use Rattle.beldi_laws.proofs.Notes.{next_place, owed_more, owed_same, value_same, value_more, value_next}
+use Rattle.beldi_order.proofs.Operations.{item_same, plain_set, holds_more}
+use Rattle.beldi_known.specs.Operations.{DoneRows}
 
 -- ---- a row that no item has was set
 pub row_set : (d : Deployment) (m : Rows) (p q : PlainState) (k : RowKey) (v : Option Row) → is_cell_key k.kind ≡ false → RowMatches d q k.home k.kind v
@@ -286,7 +163,7 @@ module _ (d : Deployment) (p : PlainState) (items : FinMap item_cmp Value) (id :
 
   -- a row matches as before, unless its log is owed something new
   pub row_answered : (r : Option Row) (home : ℕ) (k : Kind) → ((b : Place) → k ≡ kinds.ReadLog b → owed_read d after home b ≡ owed_read d p home b) → RowMatches d p home k r → RowMatches d after home k r
-  row_answered r home k same = row_with d p items id (answered q a) r home k (λ e g. intent_answered (has_no_hops id.hops) home r q a (subst (IntentMatches (has_no_hops id.hops) home r) is g)) same (λ b e. calls_same home b)
+  row_answered r home k same = row_with d p items id (answered q a) r home k (λ e g. intent_same (has_no_hops id.hops) home r q (answered q a) refl refl (subst (IntentMatches (has_no_hops id.hops) home r) is g)) same (λ b e. calls_same home b)
 
 -- an answer to an effect that is no operation on an item leaves every item as it is
 module _ (d : Deployment) (p : PlainState) (id : IntentId) (q : Instance) (a : Answer) (is : map.get p.made id ≡ Some q) (plain : op_of (effect_of d q) ≡ None) where
@@ -305,21 +182,6 @@ module _ (d : Deployment) (p : PlainState) (id : IntentId) (q : Instance) (a : A
   }
 
 -- ---- an operation was done
--- what an operation on cells leaves is what the plain operation leaves
-pub record Does (o : Operation) (op : CellOp) : Type 0 where
-  pub value : (w : Value) → or_old (sets o w) w ≡ value_after op w
-  pub note : (w : Value) → noted o (answer_after o w) ≡ Some (note_after op w)
-  pub own : (id : IntentId) (was : Option Owner) → barred op (owner.Intent id) was ≡ None → is_owner (owner_after op (owner.Intent id) was) (owner.Intent id) ≡ held_by o (is_owner was (owner.Intent id))
-  pub others : (id : IntentId) (was : Option Owner) → barred op (owner.Intent id) was ≡ None → (who : Owner) → IsOther id who → is_owner (owner_after op (owner.Intent id) was) who ≡ is_owner was who
-
--- .. and it was done on an item, for a place
-pub record DoneRows (m n : Rows) (x : Item) (p : Place) (op : CellOp) : Type 0 where
-  pub same : (l : RowKey) → is_eq (key_cmp l (head_key x)) ≡ false → map.get n l ≡ map.get m l
-  pub sound : SoundAt (map.get n (head_key x))
-  pub none : note_at (content_of m x).notes p ≡ None
-  pub free : barred op (owner.Intent p.intent) (content_of m x).owner ≡ None
-  pub here : content_of n x ≡ done_to p (owner.Intent p.intent) op (content_of m x)
-
 no_value : (e : Effect) (o : OnItem) (a : Answer) → op_of e ≡ Some o → value_for e a ≡ None
 no_value (effect.Read t k) o a h = cc
 no_value e o a h = refl

@@ -1,6 +1,6 @@
 -- The turns of a run: where it stands, and what each thing that a stage says leaves.
 use Rattle.std.proofs.Common.{◌≡◌, ℕ, Bool, true, false, List, [], ◌∷◌, ◌++◌, length, take, Option, None, Some, refl, ap, sym, ◌∙◌, subst, IsTrue, append_assoc, append-nil, if◌then◌else◌}
-use Rattle.std.specs.Prelude.{slice_get}
+use Rattle.std.specs.Prelude.{slice_get, is_some}
 use Rattle.std.specs.FinMap as map
 use Rattle.beldi_value.specs.Id.{id_total, id_exact, has_callees}
 use Rattle.beldi_value.specs.declared.id.IntentId.{IntentId}
@@ -36,7 +36,7 @@ use Rattle.beldi_laws.specs.Right.{Right, RowsMatch, RunAt, Knows, KnowsAt, Stag
 use Rattle.beldi_order.specs.Sane.{Sane, SaneInstance, IsAnswerTo, effect_before}
 use Rattle.beldi_order.proofs.Entries.{same_some}
 use Rattle.beldi_order.proofs.Sanes.{sane_of, legal_is_sane}
-use Rattle.beldi_laws.proofs.Notes.{get_after}
+use Rattle.beldi_known.proofs.Answers.{get_after}
 use Rattle.std.proofs.Math.Seq.{take-append_seam}
 use Rattle.beldi_laws.proofs.Moves.{AfterTurn, SameRoots, Entered, KnowsCallee, quiet, entered}
 
@@ -74,7 +74,7 @@ module _ (d : Deployment) (book : List Entry) (p : PlainState) (id : IntentId) (
 
 -- a run whose machine stands after these answers of its instance, at the first stage of its effect
 pub knows_first : (d : Deployment) (book : List Entry) (p : PlainState) (r : Run) (m : Machine) (c : Option Caller) (j : Instance) (answers later : List Answer) (s : Stage) → map.get p.made r.id ≡ Some j → j.func ≡ r.func → c ≡ j.from → answers ++ later ≡ j.answers
-    → IsAt d r.func j.args false m answers → first_stage r.id c m.effect ≡ Some s → let g : Begun = record { machine = m; caller = c; stage = s } in Knows d book p (record r { at = Begins g }) g
+    → IsAt d r.func j.args (is_some j.within) m answers → first_stage r.id c m.effect ≡ Some s → let g : Begun = record { machine = m; caller = c; stage = s } in Knows d book p (record r { at = Begins g }) g
 knows_first d book p r m c j answers later s is func caller prefix at first =
     let fits = first_fits d book p r.id r.func m.steps j c answers later m.effect s first in
     record { instance = j; made = is; func = func; caller = caller; answers = answers; later = later; run_answers = prefix; machine = at; run_stage = fits.0; run_done = fits.2; run_place = fits.1 }
@@ -96,20 +96,20 @@ module _ (d : Deployment) (c : Core) (m n : Rows) (i : ℕ) (r : Run) (h : Right
   steps_to machine k by q (Some s) leads knows rows = let g : Begun = record { machine = machine; caller = k; stage = s } in entered d c m n i r h live roots (goes r g (Some by)) by q refl leads (λ o told. cc) (knows s refl) (λ e. cc) rows
 
 -- ---- where a run stands in its instance's answers
-same_at : (d : Deployment) (q : Instance) (func : ℕ) (xs : List Answer) (n : ℕ) → take n q.answers ≡ xs → q.func ≡ func → effect_before d q n ≡ wants d func q.args false xs
-same_at d q func xs n t f = ap (wants d q.func q.args false) t ∙ ap (λ g. wants d g q.args false xs) f
+same_at : (d : Deployment) (q : Instance) (func : ℕ) (xs : List Answer) (n : ℕ) → take n q.answers ≡ xs → q.func ≡ func → effect_before d q n ≡ wants d func q.args (is_some q.within) xs
+same_at d q func xs n t f = ap (wants d q.func q.args (is_some q.within)) t ∙ ap (λ g. wants d g q.args (is_some q.within) xs) f
 
 module _ (d : Deployment) (book : List Entry) (p : PlainState) (r : Run) (g : Begun) (k : Knows d book p r g) where
   -- its machine stands where its answers lead
   at_steps : g.machine.steps ≡ length k.answers
-  at_steps = (at_effect d r.func k.instance.args false g.machine k.answers k.machine).1
+  at_steps = (at_effect d r.func k.instance.args (is_some k.instance.within) g.machine k.answers k.machine).1
 
   -- its effect is the instance's, at this step
   pub effect_here : effect_before d k.instance g.machine.steps ≡ g.machine.effect
   effect_here =
       same_at d k.instance r.func k.answers g.machine.steps
       (ap (λ n. take n k.instance.answers) at_steps ∙ ap (take (length k.answers)) (sym k.run_answers) ∙ take-append_seam k.answers k.later) k.func
-      ∙ sym (at_effect d r.func k.instance.args false g.machine k.answers k.machine).0
+      ∙ sym (at_effect d r.func k.instance.args (is_some k.instance.within) g.machine k.answers k.machine).0
 
   -- what the step was answered is the first answer that the run has still to be given
   pub answer_here : (later : List Answer) → k.later ≡ later → slice_get k.instance.answers g.machine.steps ≡ slice_get later 0
@@ -124,8 +124,8 @@ module _ (d : Deployment) (book : List Entry) (p : PlainState) (r : Run) (g : Be
 
   pub effect_next : k.later ≡ [] → effect_of d k.instance ≡ g.machine.effect
   effect_next e =
-      ap (wants d k.instance.func k.instance.args false) (sym (all_here e)) ∙ ap (λ f. wants d f k.instance.args false k.answers) k.func
-      ∙ sym (at_effect d r.func k.instance.args false g.machine k.answers k.machine).0
+      ap (wants d k.instance.func k.instance.args (is_some k.instance.within)) (sym (all_here e)) ∙ ap (λ f. wants d f k.instance.args (is_some k.instance.within) k.answers) k.func
+      ∙ sym (at_effect d r.func k.instance.args (is_some k.instance.within) g.machine k.answers k.machine).0
 
 -- an effect with an answer wants one
 pub wants_it : (e : Effect) (a : Answer) → IsAnswerTo e a → IsTrue (wants_answer e)
@@ -144,9 +144,9 @@ module _ (d : Deployment) (c : Core) (m : Rows) (i : ℕ) (r : Run) (g : Begun) 
   sane_instance = sane_of d h.plain r.id k.instance sane_here k.made
 
   -- the run at another stage of its effect, of which it knows what it has to
-  pub at_another : (book : List Entry) (p : PlainState) (j : Instance) (later : List Answer) (s : Stage) → map.get p.made r.id ≡ Some j → j.func ≡ r.func → j.from ≡ k.instance.from → j.args ≡ k.instance.args → k.answers ++ later ≡ j.answers
+  pub at_another : (book : List Entry) (p : PlainState) (j : Instance) (later : List Answer) (s : Stage) → map.get p.made r.id ≡ Some j → j.func ≡ r.func → j.from ≡ k.instance.from → j.args ≡ k.instance.args → j.within ≡ k.instance.within → k.answers ++ later ≡ j.answers
       → StageOk r.id g.caller e s → PlaceOk d book r.id r.func k.answers later e s → SeenDone p r.id g.machine.steps j g.caller s → Knows d book p (record r { at = Begins (at_stage g s) }) (at_stage g s)
-  at_another book p j later s made func from args prefix ok at done = record {
+  at_another book p j later s made func from args within prefix ok at done = record {
     instance = j;
     made = made;
     func = func;
@@ -154,14 +154,14 @@ module _ (d : Deployment) (c : Core) (m : Rows) (i : ℕ) (r : Run) (g : Begun) 
     answers = k.answers;
     later = later;
     run_answers = prefix;
-    machine = subst (λ a. IsAt d r.func a false g.machine k.answers) (sym args) k.machine;
+    machine = subst (λ a. IsAt d r.func a (is_some j.within) g.machine k.answers) (sym args) (subst (λ t. IsAt d r.func k.instance.args (is_some t) g.machine k.answers) (sym within) k.machine);
     run_stage = subst (λ e. StageOk r.id g.caller e s) (sym is) ok;
     run_done = done;
     run_place = subst (λ e. PlaceOk d book r.id r.func k.answers later e s) (sym is) at;
   }
 
   pub stays_there : (s : Stage) → StageOk r.id g.caller e s → PlaceOk d c.book r.id r.func k.answers k.later e s → SeenDone h.plain r.id g.machine.steps k.instance g.caller s → Knows d c.book h.plain (record r { at = Begins (at_stage g s) }) (at_stage g s)
-  stays_there s ok at done = at_another c.book h.plain k.instance k.later s k.made k.func refl refl k.run_answers ok at done
+  stays_there s ok at done = at_another c.book h.plain k.instance k.later s k.made k.func refl refl refl k.run_answers ok at done
 
   -- the effect goes on from a stage, of which the run knows what it has to
   pub goes_on : (n : Rows) (s : Stage) → SameRoots m n → RowsMatch d n h.plain → StageOk r.id g.caller e s → PlaceOk d c.book r.id r.func k.answers k.later e s → SeenDone h.plain r.id g.machine.steps k.instance g.caller s → Leaves (On s None) n
@@ -192,7 +192,7 @@ module _ (d : Deployment) (c : Core) (m : Rows) (i : ℕ) (r : Run) (g : Begun) 
       comes_to d c m n i r h live roots next g.caller (first_stage r.id g.caller next.effect)
       (λ s first. knows_first d c.book h.plain r next g.caller k.instance (k.answers ++ a ∷ []) rest s k.made k.func k.caller
       (append_assoc k.answers (a ∷ []) rest ∙ ap (λ ys. k.answers ++ ys) (sym left) ∙ k.run_answers)
-      (at_next d r.func k.instance.args false g.machine k.answers a (answers_it a (fits a rest left)) k.machine) first) rows
+      (at_next d r.func k.instance.args (is_some k.instance.within) g.machine k.answers a (answers_it a (fits a rest left)) k.machine) first) rows
 
   -- .. and a run of its callee, which has its row, may start
   pub starts_one : (n : Rows) (a : Answer) (rest : List Answer) → SameRoots m n → RowsMatch d n h.plain → k.later ≡ a ∷ rest → ((book : List Entry) (p : PlainState) (o : Run) → callee_of r ≡ Some o → KnowsAt d book p o o.at) → Leaves (Starts a) n
@@ -201,7 +201,7 @@ module _ (d : Deployment) (c : Core) (m : Rows) (i : ℕ) (r : Run) (g : Begun) 
       by_stage next (first_stage r.id g.caller next.effect)
       (λ s first. knows_first d c.book h.plain r next g.caller k.instance (k.answers ++ a ∷ []) rest s k.made k.func k.caller
       (append_assoc k.answers (a ∷ []) rest ∙ ap (λ ys. k.answers ++ ys) (sym left) ∙ k.run_answers)
-      (at_next d r.func k.instance.args false g.machine k.answers a (answers_it a (fits a rest left)) k.machine) first)
+      (at_next d r.func k.instance.args (is_some k.instance.within) g.machine k.answers a (answers_it a (fits a rest left)) k.machine) first)
     where
       by_stage : (next : Machine) (o : Option Stage) → ((s : Stage) → o ≡ Some s → let x : Begun = record { machine = next; caller = g.caller; stage = s } in Knows d c.book h.plain (record r { at = Begins x }) x)
           → AfterTurn d h.plain c i r (record (goes_from r next g.caller None o) { starts = true }) n
@@ -224,4 +224,4 @@ module _ (d : Deployment) (c : Core) (m : Rows) (i : ℕ) (r : Run) (g : Begun) 
       (λ s first. knows_first d (c.book ++ entry_of r.id by ∷ []) q r next g.caller (answered k.instance a) (k.answers ++ a ∷ []) [] s
       (ap (λ f. map.get f r.id) made ∙ get_set id_total id_exact h.plain.made r.id (answered k.instance a)) k.func k.caller
       (append-nil (k.answers ++ a ∷ []) ∙ ap (λ xs. xs ++ a ∷ []) (all_here d c.book h.plain r g k left))
-      (at_next d r.func k.instance.args false g.machine k.answers a (answers_it a ok) k.machine) first) rows
+      (at_next d r.func k.instance.args (is_some k.instance.within) g.machine k.answers a (answers_it a ok) k.machine) first) rows

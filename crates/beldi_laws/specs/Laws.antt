@@ -21,9 +21,10 @@ use Rattle.beldi_step.specs.declared.event.Seen.{Seen}
 use Rattle.beldi_step.specs.declared.event.Seen.TheVariants as seen
 use Rattle.beldi_step.specs.Host.{Core, Stepped, EventOn, first_core, is_lost, is_dropped}
 use Rattle.beldi_step.specs.Tables.{tables_text}
-use Rattle.beldi_laws.specs.Stands.{is_row_of, content_of, Stands}
+use Rattle.beldi_laws.specs.Stands.{Stands}
 use Rattle.beldi_laws.specs.Right.{Right}
 use Rattle.beldi_laws.specs.OneAnswer.{OneAnswerPerStep, AnswersStay}
+use Rattle.beldi_known.specs.Contents.{is_row_of, content_of}
 
 -- a host that nothing has happened to is right, over no rows
 abbrev pub BeginsRight : Type 0

@@ -1,5 +1,5 @@
 -- That each step of an instance has one answer, whichever run asks for it: the one that the rows hold.
-use Rattle.std.specs.Prelude.{◌≡◌, ℕ, false, List, ◌++◌, take, slice_get, Option, Some, None}
+use Rattle.std.specs.Prelude.{◌≡◌, ℕ, List, ◌++◌, take, slice_get, Option, Some, None, is_some}
 use Rattle.std.specs.FinMap as map
 use Rattle.beldi_value.specs.declared.id.IntentId.{IntentId}
 use Rattle.beldi_tree.specs.declared.deployment.Deployment.{Deployment}
@@ -21,7 +21,7 @@ pub record WasGiven (d : Deployment) (q : Instance) (r : Run) (g : Begun) : Type
   pub given : List Answer
   pub later : List Answer
   pub first : given ++ later ≡ q.answers
-  pub machine : IsAt d q.func q.args false g.machine given
+  pub machine : IsAt d q.func q.args (is_some q.within) g.machine given
 
 -- a live run of an intent that has begun
 pub record IsBegun (c : Core) (id : IntentId) (r : Run) (g : Begun) : Type 0 where
@@ -33,7 +33,7 @@ pub record IsBegun (c : Core) (id : IntentId) (r : Run) (g : Begun) : Type 0 whe
 -- the steps of an intent have the answers of this instance
 pub record HasAnswers (d : Deployment) (c : Core) (m : Rows) (id : IntentId) (q : Instance) : Type 0 where
   -- each is the one that the rows hold at its step
-  pub held : (n : ℕ) (a : Answer) → slice_get q.answers n ≡ Some a → held_answer m id q.func n (wants d q.func q.args false (take n q.answers)) ≡ Some a
+  pub held : (n : ℕ) (a : Answer) → slice_get q.answers n ≡ Some a → held_answer m id q.func n (wants d q.func q.args (is_some q.within) (take n q.answers)) ≡ Some a
   -- each run was given the first of them
   pub runs : (r : Run) (g : Begun) → IsBegun c id r g → WasGiven d q r g
 

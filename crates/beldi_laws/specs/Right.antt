@@ -1,8 +1,8 @@
 -- What every event keeps: the host and its rows are right.
-use Rattle.std.specs.Prelude.{◌≡◌, ℕ, zero, suc, ◌≤◌, nat_lt, nat_le, ◌&&◌, Bool, true, false, List, [], ◌++◌, slice_get, ◌==◌, Option, Some, None, is_some, IsTrue, if◌then◌else◌}
+use Rattle.std.specs.Prelude.{◌≡◌, ℕ, ◌≤◌, nat_lt, nat_le, ◌&&◌, true, false, List, [], ◌++◌, slice_get, ◌==◌, Option, Some, None, is_some, IsTrue, if◌then◌else◌}
 use Rattle.std.specs.FinMap as map
 use Rattle.std.specs.FinMap.{FinMap}
-use Rattle.std.specs.Ordering.{nat_cmp, is_eq}
+use Rattle.std.specs.Ordering.{nat_cmp}
 use Rattle.beldi_value.specs.Id.{has_callees, has_no_hops, child_of}
 use Rattle.beldi_value.specs.declared.id.IntentId.{IntentId}
 use Rattle.beldi_value.specs.declared.place.Owner.{Owner}
@@ -12,7 +12,6 @@ use Rattle.beldi_value.specs.declared.outcome.Outcome.{Outcome}
 use Rattle.beldi_value.specs.declared.value.Value.{Value}
 use Rattle.beldi_tree.specs.declared.deployment.Deployment.{Deployment}
 use Rattle.beldi_lang.specs.declared.effect.Answer.{Answer}
-use Rattle.beldi_lang.specs.declared.effect.Answer.TheVariants as answer
 use Rattle.beldi_lang.specs.declared.effect.Effect.{Effect}
 use Rattle.beldi_lang.specs.declared.effect.Effect.TheVariants.{Read, Write, CondWrite, Lock, Unlock, Call, Async, Return}
 use Rattle.beldi_lang.specs.Machine.{IsAt}
@@ -21,20 +20,18 @@ use Rattle.beldi_row.specs.declared.key.Kind.{Kind}
 use Rattle.beldi_row.specs.declared.key.Kind.TheVariants as kinds
 use Rattle.beldi_row.specs.declared.notes.Note.{Note}
 use Rattle.beldi_row.specs.declared.row.Body.{Body}
-use Rattle.beldi_row.specs.declared.row.IntentRow.{IntentRow}
 use Rattle.beldi_row.specs.declared.row.Row.{Row}
-use Rattle.beldi_row.specs.declared.row.Row.TheVariants as rows
-use Rattle.beldi_row.specs.Log.{note_at, owner_eq}
+use Rattle.beldi_row.specs.Log.{note_at}
 use Rattle.beldi_row.specs.Table.{Rows}
 use Rattle.beldi_book.specs.declared.entry.Entry.{Entry}
 use Rattle.beldi_book.specs.Order.{count_changes, linear, SeenBounded}
-use Rattle.beldi_daal.specs.Content.{Content, SoundAt}
+use Rattle.beldi_daal.specs.Content.{Content}
 use Rattle.beldi_order.specs.Laws.{IsStateAt}
 use Rattle.beldi_order.specs.Sane.{effect_before}
-use Rattle.beldi_plain.specs.Item.{Item, item_cmp}
+use Rattle.beldi_plain.specs.Item.{Item}
 use Rattle.beldi_plain.specs.Guard.{IsGuarded}
 use Rattle.beldi_plain.specs.Holds.{holds, holds_as}
-use Rattle.beldi_plain.specs.Operation.{OnItem, op_of, item_in}
+use Rattle.beldi_plain.specs.Operation.{op_of}
 use Rattle.beldi_plain.specs.Plain.{Instance, PlainState, nothing, value_at}
 use Rattle.beldi_plain.specs.Legal.{run_of}
 use Rattle.beldi_call.specs.declared.async_call.AsyncAt.TheVariants as async
@@ -48,15 +45,12 @@ use Rattle.beldi_step.specs.declared.run.Stage.{Stage}
 use Rattle.beldi_step.specs.declared.run.Stage.TheVariants as stage
 use Rattle.beldi_intent.specs.Intent.{root_key}
 use Rattle.beldi_step.specs.Host.{Core, most_runs}
-use Rattle.beldi_laws.specs.Stands.{content_of, noted}
+use Rattle.beldi_known.specs.Rows.{IsBodyOf, IntentMatches, CallMatches, LogMatches, CellMatches}
+use Rattle.beldi_known.specs.Contents.{content_of, is_owner}
+use Rattle.beldi_known.specs.Owed.{note_of, value_for, called_by}
 
 -- ---- what the rows owe to a plain state
--- the note of an answer to an operation of a function, where it is one on this item
-abbrev pub note_of : Item → ℕ → Option OnItem → Answer → Option Note
-note_of x func None a = None
-note_of x func (Some o) a = if is_eq (item_cmp (item_in func o) x) then noted o.does a else None
-
--- that of an answer to an effect
+-- the note of an answer to an effect, where it is an operation on this item
 abbrev pub note_for : Item → ℕ → Effect → Answer → Option Note
 note_for x func e a = note_of x func (op_of e) a
 
@@ -74,11 +68,6 @@ owed_by d x n (Some q) = note_if x q.func (effect_before d q n) (slice_get q.ans
 abbrev pub owed_note : Deployment → PlainState → Item → Place → Option Note
 owed_note d p x a = owed_by d x a.step (map.get p.made a.intent)
 
--- the value of an answer to an effect, where the effect is a read
-abbrev pub value_for : Effect → Answer → Option Value
-value_for (Read t k) (answer.Value v) = Some v
-value_for e a = None
-
 -- none where there was no answer
 abbrev pub value_if : Effect → Option Answer → Option Value
 value_if e None = None
@@ -93,111 +82,16 @@ owed_value d func n (Some q) = if q.func == func then value_if (effect_before d 
 abbrev pub owed_read : Deployment → PlainState → ℕ → Place → Option Value
 owed_read d p func a = owed_value d func a.step (map.get p.made a.intent)
 
--- ---- calls
--- what a call of this function, whose callee is this instance, gives back: its outcome, where the caller waits for it
-abbrev pub result_of : Instance → Option Outcome
-result_of j = if is_waited j.from then j.outcome else None
-
-abbrev pub called_by : ℕ → Option Instance → Option Instance → Option (ℕ × Option Outcome)
-called_by f None j = None
-called_by f (Some i) None = None
-called_by f (Some i) (Some j) = if i.func == f then Some (j.func, result_of j) else None
-
 -- the call that the log of a function has at a place: the one that the place's instance made there
 abbrev pub owed_call : PlainState → ℕ → Place → Option (ℕ × Option Outcome)
 owed_call p f a = called_by f (map.get p.made a.intent) (map.get p.made (child_of a.intent a.step))
 
--- ---- bodies
--- the body that an instance was made with
-abbrev pub body_of : Instance → Body
-body_of q = record { func = q.func; args = q.args; tx = None; from = q.from }
-
--- the body is the one that the instance was made with
-pub record IsBodyOf (b : Body) (i : Option Instance) : Type 0 where
-  pub instance : Instance
-  pub made : i ≡ Some instance
-  pub body : b ≡ body_of instance
-
--- the body and the outcome of a root's row, and the root's instance
-abbrev pub BodyMatches : Option Body → Option Outcome → Option Instance → Type 0
-BodyMatches None o i = i ≡ None
-BodyMatches (Some b) o i = (w : IsBodyOf b i) × (w.instance.outcome ≡ o)
-
--- the outcome of a callee's row is the instance's; one that its caller waits for may have it before
-abbrev pub OutcomeMatches : Bool → Option Outcome → Option Outcome → Type 0
-OutcomeMatches true o u = (v : Outcome) → o ≡ Some v → u ≡ Some v
-OutcomeMatches false o u = u ≡ o
-
--- .. of a callee's
-abbrev pub CalleeBodyMatches : ℕ → Option Body → Option Outcome → Option Instance → Type 0
-CalleeBodyMatches home None o i = ⊥
-CalleeBodyMatches home (Some b) o i = (w : IsBodyOf b i) × (b.func ≡ home) × OutcomeMatches (is_waited b.from) o w.instance.outcome
-
 -- ---- the rows match a plain state: key by key, and item by item
--- the owner, if any, is this one
-abbrev pub is_owner : Option Owner → Owner → Bool
-is_owner None o = false
-is_owner (Some w) o = owner_eq w o
-
 -- an item has its plain value; its owner is who holds its lock; and it has a note at a place exactly where it owes one
 pub record ItemMatches (d : Deployment) (p : PlainState) (x : Item) (c : Content) : Type 0 where
   pub value : c.value ≡ value_at p x
   pub owner : (o : Owner) → is_owner c.owner o ≡ holds_as d p x o
   pub notes : (a : Place) → note_at c.notes a ≡ owed_note d p x a
-
--- the row of a root
-pub record IsRootRow (r : IntentRow) (i : Option Instance) : Type 0 where
-  -- one without body has no outcome
-  pub bare : r.body ≡ None → r.outcome ≡ None
-  -- there is a finish exactly where there is an outcome
-  pub finishes : is_some r.finish ≡ is_some r.outcome
-  -- the root was made exactly where there is a body
-  pub body : BodyMatches r.body r.outcome i
-
--- the row of a callee, in the home of its function
-pub record IsCalleeRow (home : ℕ) (r : IntentRow) (i : Option Instance) : Type 0 where
-  -- there is a finish exactly where there is an outcome
-  pub finishes : is_some r.finish ≡ is_some r.outcome
-  -- the callee was made with its body
-  pub body : CalleeBodyMatches home r.body r.outcome i
-
--- the rows of a root, by whether it is the host's home: it has its row there alone
-abbrev pub RootMatches : Bool → Option Row → Option Instance → Type 0
-RootMatches true None i = i ≡ None
-RootMatches true (Some (rows.Intent r)) i = IsRootRow r i
-RootMatches true (Some r) i = ⊥
-RootMatches false r i = r ≡ None
-
--- a callee may have no row yet: then one of this home that nobody waits for has not ended
-pub record HasNoRow (home : ℕ) (i : Option Instance) : Type 0 where
-  pub open_still : (q : Instance) → i ≡ Some q → q.func ≡ home → is_waited q.from ≡ false → q.outcome ≡ None
-
-abbrev pub CalleeMatches : ℕ → Option Row → Option Instance → Type 0
-CalleeMatches home None i = HasNoRow home i
-CalleeMatches home (Some (rows.Intent r)) i = IsCalleeRow home r i
-CalleeMatches home (Some r) i = ⊥
-
--- the row of an intent in a home, by whether the intent is a root
-abbrev pub IntentMatches : Bool → ℕ → Option Row → Option Instance → Type 0
-IntentMatches true home r i = RootMatches (home == 0) r i
-IntentMatches false home r i = CalleeMatches home r i
-
--- the row of a call, by the call that is owed there
-abbrev pub CallMatches : Option Row → Option (ℕ × Option Outcome) → Type 0
-CallMatches None o = o ≡ None
-CallMatches (Some (rows.Invoke r)) o = o ≡ Some (r.func, r.result)
-CallMatches (Some r) o = ⊥
-
--- the row of a read, by the value that is owed there
-abbrev pub LogMatches : Option Row → Option Value → Type 0
-LogMatches None o = o ≡ None
-LogMatches (Some (rows.ReadLog v)) o = o ≡ Some v
-LogMatches (Some r) o = ⊥
-
--- the shape of an item's rows: there is a first one or none, and no other. What it holds is said of the item.
-abbrev pub CellMatches : ℕ → Option Row → Type 0
-CellMatches zero r = SoundAt r
-CellMatches (suc n) r = r ≡ None
 
 -- the row of a key, by its kind. There are no rows of other kinds yet.
 abbrev pub RowMatches : Deployment → PlainState → ℕ → Kind → Option Row → Type 0
@@ -272,7 +166,7 @@ pub record Knows (d : Deployment) (book : List Entry) (p : PlainState) (r : Run)
   pub later : List Answer
   pub run_answers : answers ++ later ≡ instance.answers
   -- its machine stands where these answers lead, and its stage is one of the effect there
-  pub machine : IsAt d r.func instance.args false g.machine answers
+  pub machine : IsAt d r.func instance.args (is_some instance.within) g.machine answers
   pub run_stage : StageOk r.id g.caller g.machine.effect g.stage
   pub run_done : SeenDone p r.id g.machine.steps instance g.caller g.stage
   -- where it is to keep a value, it knows where its read belongs

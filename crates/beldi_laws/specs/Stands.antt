@@ -1,12 +1,10 @@
 -- That rows stand for a plain state.
-use Rattle.std.specs.Prelude.{◌≡◌, ℕ, Bool, false, slice_get, Option, Some, None, option_and_then}
+use Rattle.std.specs.Prelude.{◌≡◌, ℕ, false, slice_get, Option, Some, None, option_and_then}
 use Rattle.std.specs.FinMap as map
-use Rattle.std.specs.Ordering.{is_eq}
 use Rattle.beldi_value.specs.Id.{root_of}
 use Rattle.beldi_value.specs.declared.id.IntentId.{IntentId}
 use Rattle.beldi_value.specs.declared.outcome.Outcome.{Outcome}
 use Rattle.beldi_value.specs.declared.place.Place.{Place}
-use Rattle.beldi_value.specs.declared.value.Value.TheVariants as value
 use Rattle.beldi_tree.specs.declared.deployment.Deployment.{Deployment}
 use Rattle.beldi_lang.specs.declared.effect.Answer.{Answer}
 use Rattle.beldi_lang.specs.declared.effect.Answer.TheVariants.{Done}
@@ -16,51 +14,23 @@ use Rattle.beldi_lang.specs.declared.effect.Effect.TheVariants.{Read, Call, Asyn
 use Rattle.beldi_lang.specs.Callee.{answer_of}
 use Rattle.beldi_row.specs.declared.key.RowKey.{RowKey}
 use Rattle.beldi_row.specs.declared.key.Kind.TheVariants as kinds
-use Rattle.beldi_row.specs.declared.notes.Note.{Note}
-use Rattle.beldi_row.specs.declared.notes.Note.TheVariants as notes
 use Rattle.beldi_row.specs.declared.row.Body.{Body}
 use Rattle.beldi_row.specs.declared.row.IntentRow.{IntentRow}
 use Rattle.beldi_row.specs.declared.row.Row.TheVariants as rows
-use Rattle.beldi_row.specs.Key.{key_cmp, head_key as first_row}
 use Rattle.beldi_row.specs.Log.{note_at}
 use Rattle.beldi_row.specs.Table.{Rows}
-use Rattle.beldi_daal.specs.Content.{Content, content_in, SoundAt}
 use Rattle.beldi_invokelog.specs.InvokeLog.{invoke_key, call_at, result_in}
 use Rattle.beldi_readlog.specs.ReadLog.{log_key, given}
 use Rattle.std.specs.Option.{option_map}
 use Rattle.beldi_plain.specs.Item.{Item}
-use Rattle.beldi_plain.specs.Operation.{Operation, OnItem, op_of, item_in, write, cond, lock, free}
+use Rattle.beldi_plain.specs.Operation.{OnItem, op_of, item_in}
 use Rattle.beldi_plain.specs.Plain.{Instance, PlainState, value_at}
 use Rattle.beldi_order.specs.Sane.{effect_before}
 use Rattle.beldi_step.specs.Run.{noted_answer}
 use Rattle.beldi_intent.specs.Intent.{root_key, is_ended}
-
--- ---- what the rows hold of an item
--- the key of an item's first row
-abbrev pub head_key : Item → RowKey
-head_key x = first_row x.func x.table x.key
-
--- whether a key is that of a row of an item
-abbrev pub is_row_of : Item → RowKey → Bool
-is_row_of x k = is_eq (key_cmp (head_key x) k)
-
--- an item has one row
-abbrev pub content_of : Rows → Item → Content
-content_of m x = content_in (map.get m (head_key x))
-
--- the chain of an item is sound
-abbrev pub IsSoundChain : Rows → Item → Type 0
-IsSoundChain m x = SoundAt (map.get m (head_key x))
+use Rattle.beldi_known.specs.Contents.{content_of, IsSoundChain}
 
 -- ---- the answer that the rows hold
--- the note that an answer to an operation leaves
-abbrev pub noted : Operation → Answer → Option Note
-noted (write v) Done = Some notes.Wrote
-noted (cond r o v) (answer.Value (value.Bool b)) = Some (notes.Cond b)
-noted lock Done = Some notes.Got
-noted free Done = Some notes.Freed
-noted o a = None
-
 -- the answer that an item's rows hold at a place, for an operation of a function on it
 abbrev pub held_note : Rows → Place → ℕ → Option OnItem → Option Answer
 held_note m p func None = None

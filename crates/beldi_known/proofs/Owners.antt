@@ -13,7 +13,7 @@ use Rattle.beldi_daal.specs.declared.cell.CellOp.{CellOp}
 use Rattle.beldi_daal.specs.declared.cell.CellOp.TheVariants.{Write, Cond, Lock, Free}
 use Rattle.beldi_daal.specs.Logged.{held_by, unless_owned, barred}
 use Rattle.beldi_order.proofs.Operations.{IsOther}
-use Rattle.beldi_laws.specs.Right.{is_owner}
+use Rattle.beldi_known.specs.Contents.{is_owner}
 
 -- nobody owns it, or the intent does
 abbrev pub IsFreeFor : IntentId → Option Owner → Type 0

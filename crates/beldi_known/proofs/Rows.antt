@@ -12,9 +12,9 @@ use Rattle.beldi_row.specs.declared.key.Kind.TheVariants as kinds
 use Rattle.beldi_row.specs.declared.row.Row.{Row}
 use Rattle.beldi_row.specs.Table.{Rows, set_row}
 use Rattle.beldi_row.proofs.Gets.{got, key_self, key_same}
-use Rattle.beldi_plain.specs.Item.{Item, item_cmp}
 use Rattle.beldi_intent.specs.Intent.{root_key}
-use Rattle.beldi_laws.specs.Stands.{head_key}
+use Rattle.beldi_plain.specs.Item.{Item, item_cmp}
+use Rattle.beldi_known.specs.Contents.{head_key}
 
 -- ---- which keys differ
 then_equal : (o : Ordering) → ordering_then o Equal ≡ o
@@ -71,3 +71,7 @@ set_here m k v = got m k k v ∙ ap (λ b. cond b v (map.get m k)) (key_self k)
 
 pub set_others : (m : Rows) (k : RowKey) (v : Option Row) (l : RowKey) → is_eq (key_cmp l k) ≡ false → map.get (set_row m k v) l ≡ map.get m l
 set_others m k v l e = got m k l v ∙ ap (λ b. cond b v (map.get m l)) e
+
+-- .. after one was set
+pub keys_set : (m : Rows) (k : RowKey) (v : Option Row) (P : RowKey → Option Row → Type 0) → P k v → ((l : RowKey) → is_eq (key_cmp l k) ≡ false → P l (map.get m l)) → (l : RowKey) → P l (map.get (set_row m k v) l)
+keys_set m k v P here others = keys_at m (set_row m k v) k P (set_others m k v) (subst (P k) (sym (set_here m k v)) here) others

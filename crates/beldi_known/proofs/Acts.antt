@@ -1,0 +1,215 @@
+-- What the acts at the front leave: rows that match.
+use Rattle.std.proofs.Common.{◌≡◌, ℕ, ◌==◌, ◌&&◌, Bool, true, false, cond, List, [], ◌∷◌, ◌++◌, length, Option, None, Some, refl, ap, sym, ◌∙◌, subst, eqb-true, eq-eqb, if◌then◌else◌}
+use Rattle.std.specs.FinMap as map
+use Rattle.std.specs.Ordering.{is_eq}
+use Rattle.std.proofs.lemmas.Cmp.{tied_itself, eq_by_cmp_equiv}
+use Rattle.beldi_value.specs.Id.{id_cmp}
+use Rattle.beldi_value.specs.declared.id.IntentId.{IntentId}
+use Rattle.beldi_value.specs.declared.place.Owner.TheVariants.{Tx}
+use Rattle.beldi_value.specs.declared.place.Place.{Place}
+use Rattle.beldi_value.specs.declared.place.TxId.{TxId}
+use Rattle.beldi_value.specs.declared.value.Value.{Value}
+use Rattle.beldi_tree.specs.declared.deployment.Deployment.{Deployment}
+use Rattle.beldi_lang.specs.declared.effect.Answer.{Answer}
+use Rattle.beldi_lang.specs.declared.effect.Answer.TheVariants as answer
+use Rattle.beldi_row.specs.Act.{other_owner}
+use Rattle.beldi_row.specs.Key.{key_cmp}
+use Rattle.beldi_row.specs.Log.{note_at}
+use Rattle.beldi_row.specs.Table.{Rows, set_row}
+use Rattle.beldi_row.specs.declared.key.RowKey.{RowKey}
+use Rattle.beldi_row.specs.declared.key.Kind.{Kind}
+use Rattle.beldi_row.specs.declared.key.Kind.TheVariants as kinds
+use Rattle.beldi_row.specs.declared.notes.Note.{Note}
+use Rattle.beldi_row.specs.declared.notes.Note.TheVariants as notes
+use Rattle.beldi_row.specs.declared.row.Row.{Row}
+use Rattle.beldi_row.specs.declared.row.Row.TheVariants as rows
+use Rattle.beldi_row.proofs.Gets.{got as row_got, key_same, key_self}
+use Rattle.beldi_row.proofs.Logs.{place_self}
+use Rattle.beldi_daal.specs.Content.{Content, content_in}
+use Rattle.beldi_readlog.specs.ReadLog.{log_key}
+use Rattle.beldi_plain.specs.Item.{Item, item_cmp, item_total}
+use Rattle.beldi_plain.specs.Plain.{Instance, effect_of}
+use Rattle.beldi_order.proofs.Operations.{id_same, item_same}
+use Rattle.beldi_step.specs.Run.{place_of}
+use Rattle.beldi_known.specs.Rows.{LogMatches, CellMatches, CallMatches}
+use Rattle.beldi_known.specs.Contents.{head_key, content_of, shadow_key, shadow_of, lockset_key}
+use Rattle.beldi_known.specs.Known.{Known, txs_after, tx_now, tx_eq, touched, is_item, owed_read, shadow_by, begins_at, asks_lock, is_aborted}
+use Rattle.beldi_known.specs.Matches.{RowMatches, Matches, ItemMatches, ShadowMatches, TxsMatch}
+use Rattle.beldi_known.specs.Acts.{with_note}
+use Rattle.beldi_known.specs.Frame.{AnswersOne, row_added, LockedOut, lock_in}
+use Rattle.beldi_known.proofs.Answers.{true_false}
+use Rattle.beldi_known.proofs.Rows.{head_order, keys_set}
+use Rattle.beldi_known.proofs.FrameAt.{read_none, read_one, intents_same, calls_same}
+use Rattle.beldi_known.proofs.Fronts.{read_elsewhere}
+use Rattle.beldi_known.proofs.Locks.{lock_taken, lock_kept, txs_taken, txs_kept, tx_same, tx_self}
+use Rattle.beldi_known.proofs.Fronts.{locksets_answered, items_answered, txs_answered, item_died, item_kept, txs_died, shadow_kept, shadow_noted}
+
+-- ---- keys of two kinds are apart: by a test that tells the kinds, and no order
+pub kinds_apart : (f : Kind → Bool) (k l : RowKey) → f k.kind ≡ true → f l.kind ≡ false → is_eq (key_cmp k l) ≡ false
+kinds_apart f k l h g = elim (is_eq (key_cmp k l)) as (λ b. is_eq (key_cmp k l) ≡ b → b ≡ false) [
+  | true ↦ λ e. absurd (true_false (sym h ∙ ap (λ (z : RowKey). f z.kind) (key_same k l e) ∙ g))
+  | false ↦ λ e. refl
+] refl
+
+abbrev pub is_data : Kind → Bool
+is_data (kinds.Data t k n) = true
+is_data k = false
+
+abbrev pub is_shadow : Kind → Bool
+is_shadow (kinds.Shadow s t k n) = true
+is_shadow k = false
+
+module _ (m : Rows) (k : RowKey) (v : Option Row) where
+  pub content_apart : (x : Item) → is_eq (key_cmp (head_key x) k) ≡ false → content_of (set_row m k v) x ≡ content_of m x
+  content_apart x h = ap content_in (row_got m k (head_key x) v ∙ ap (λ b. cond b v (map.get m (head_key x))) h)
+
+  pub shadow_apart : (t : TxId) (x : Item) → is_eq (key_cmp (shadow_key t x) k) ≡ false → shadow_of (set_row m k v) t x ≡ shadow_of m t x
+  shadow_apart t x h = ap content_in (row_got m k (shadow_key t x) v ∙ ap (λ b. cond b v (map.get m (shadow_key t x))) h)
+
+pub content_here : (m : Rows) (v : Option Row) (x : Item) → content_of (set_row m (head_key x) v) x ≡ content_in v
+content_here m v x = ap content_in (row_got m (head_key x) (head_key x) v ∙ ap (λ b. cond b v (map.get m (head_key x))) (key_self (head_key x)))
+
+pub shadow_here : (m : Rows) (v : Option Row) (t : TxId) (x : Item) → shadow_of (set_row m (shadow_key t x) v) t x ≡ content_in v
+shadow_here m v t x = ap content_in (row_got m (shadow_key t x) (shadow_key t x) v ∙ ap (λ b. cond b v (map.get m (shadow_key t x))) (key_self (shadow_key t x)))
+
+-- a fact on every item, after the row of one was set
+pub by_item : (item x : Item) (P : Item → Type 0) → P item → (is_eq (item_cmp item x) ≡ false → P x) → P x
+by_item item x P here other = elim (is_eq (item_cmp item x)) as (λ b. is_eq (item_cmp item x) ≡ b → P x) [
+  | true ↦ λ e. subst P (item_same item x e) here
+  | false ↦ λ e. other e
+] refl
+
+pub turned : (x y : Item) → is_eq (item_cmp x y) ≡ false → is_eq (key_cmp (head_key y) (head_key x)) ≡ false
+turned x y h = ap is_eq (head_order y x) ∙ (eq_by_cmp_equiv item_total).symm y x ∙ h
+
+-- shadows with one key are one
+abbrev tx_of : Kind → TxId
+tx_of (kinds.Shadow t z k n) = t
+tx_of k = record { intent = record { ticket = 0; hops = [] }; begin = 0; func = 0 }
+
+abbrev item_at : ℕ → Kind → Item
+item_at home (kinds.Shadow t z k n) = record { func = home; table = z; key = k }
+item_at home k = record { func = home; table = 0; key = [] }
+
+pub shadow_same : (s t : TxId) (x y : Item) → shadow_key s x ≡ shadow_key t y → (s ≡ t) × (x ≡ y)
+shadow_same s t x y h = (ap (λ (k : RowKey). tx_of k.kind) h, ap (λ (k : RowKey). item_at k.home k.kind) h)
+
+and_true : (a b : Bool) → true ≡ b → a ≡ true → (a && b) ≡ true
+and_true a b h g = ap (λ z. z && b) g ∙ sym h
+
+-- ---- LockCell Did
+module _ (d : Deployment) (known : Known) (locked : IntentId → Bool) (id : IntentId) (q : Instance) (is : map.get known id ≡ Some q) (unlocked : locked id ≡ false)
+    (s : TxId) (inside : tx_now d id q ≡ Some s) (o : ℕ × List ℕ) (touch : touched (effect_of d q) ≡ Some o) where
+  abbrev item : Item
+  item = record { func = q.func; table = o.0; key = o.1 }
+
+  abbrev place : Place
+  place = place_of id (length q.answers)
+
+  pub lock_did : (m : Rows) (v : Option Row) → CellMatches 0 v → note_at (content_of m item).notes place ≡ None → other_owner (Tx s) (content_of m item).owner ≡ None
+      → content_in v ≡ record { value = (content_of m item).value; owner = Some (Tx s); notes = (content_of m item).notes ++ (place, notes.Got) ∷ [] }
+      → Matches d m known locked → Matches d (set_row m (head_key item) v) known (lock_in locked id)
+  lock_did m v fits none free same h = record {
+    keys = keys_set m (head_key item) v (λ l r. RowMatches d known l.home l.kind r) fits (λ l other. h.keys l);
+    items = λ x. by_item item x (λ x. ItemMatches d known (lock_in locked id) x (content_of (set_row m (head_key item) v) x))
+        (subst (ItemMatches d known (lock_in locked id) item) (sym (content_here m v item ∙ same)) (lock_taken d known locked id q is unlocked s inside o touch (content_of m item) none free (h.items item)))
+        (λ other. subst (ItemMatches d known (lock_in locked id) x) (sym (content_apart m (head_key item) v x (turned item x other))) (lock_kept d known locked id q is unlocked s inside o touch x (content_of m x) other (h.items x)));
+    shadows = λ t x. subst (ShadowMatches d known t x) (sym (shadow_apart m (head_key item) v t x (kinds_apart is_shadow (shadow_key t x) (head_key item) refl refl))) (h.shadows t x);
+    txs = λ x. by_item item x (λ x. TxsMatch d known (lock_in locked id) x (content_of (set_row m (head_key item) v) x).owner)
+        (subst (λ (c : Content). TxsMatch d known (lock_in locked id) item c.owner) (sym (content_here m v item ∙ same)) (txs_taken d known locked id q is unlocked s inside o touch (content_of m item) none free (h.txs item)))
+        (λ other. subst (λ (c : Content). TxsMatch d known (lock_in locked id) x c.owner) (sym (content_apart m (head_key item) v x (turned item x other))) (txs_kept d known locked id q is unlocked s inside o touch x (content_of m x).owner other (h.txs x)));
+  }
+
+-- ---- an answer to an operation inside
+module _ (d : Deployment) (known : Known) (locked unlocked : IntentId → Bool) (id : IntentId) (q r : Instance) (a : Answer) (is : map.get known id ≡ Some q) (one : AnswersOne d id q a r) (out : LockedOut locked unlocked id)
+    (s : TxId) (inside : tx_now d id q ≡ Some s) (o : ℕ × List ℕ) (touch : touched (effect_of d q) ≡ Some o) (m : Rows)
+    (has_lockset : map.get m (lockset_key id s.begin (record { func = q.func; table = o.0; key = o.1 })) ≡ Some rows.Lockset) (h : Matches d m known locked) where
+  abbrev own : Item
+  own = record { func = q.func; table = o.0; key = o.1 }
+
+  abbrev here : Place
+  here = place_of id (length q.answers)
+
+  abbrev after : Known
+  after = map.insert known id r
+
+  -- the lockset row that it owes is the one that it has
+  there : (b : ℕ) (x : Item) (j : IntentId) → (is_eq (id_cmp j id) && asks_lock b x q.func (tx_now d id q) (effect_of d q)) ≡ true → map.get m (lockset_key j b x) ≡ Some rows.Lockset
+  there b x j g =
+      let e = both (is_eq (id_cmp j id)) (asks_lock b x q.func (tx_now d id q) (effect_of d q)) g in
+      let f = both (s.begin == b) (is_eq (item_cmp own x)) (sym (ap (λ z. begins_at b z && is_item x q.func (touched (effect_of d q))) inside ∙ ap (λ z. (s.begin == b) && is_item x q.func z) touch) ∙ e.1) in
+      ap (map.get m) (λ i. lockset_key (id_same j id e.0 i) (sym (eqb-true s.begin b f.0) i) (sym (item_same own x f.1) i)) ∙ has_lockset
+    where
+      both : (u w : Bool) → (u && w) ≡ true → (u ≡ true) × (w ≡ true)
+      both true w k = (refl, k)
+      both false w k = cc
+
+  -- all other rows
+  row_answered : (k : RowKey) → ((b : Place) → k.kind ≡ kinds.ReadLog b → owed_read d after k.home b ≡ owed_read d known k.home b) → RowMatches d known k.home k.kind (map.get m k) → RowMatches d after k.home k.kind (map.get m k)
+  row_answered k same g = by_kind k.home k.kind same g
+    where
+      by_kind : (home : ℕ) (kind : Kind) → ((b : Place) → kind ≡ kinds.ReadLog b → owed_read d after home b ≡ owed_read d known home b) → RowMatches d known home kind (map.get m (record { home = home; kind = kind }))
+          → RowMatches d after home kind (map.get m (record { home = home; kind = kind }))
+      by_kind home (kinds.Intent j) same g = intents_same d known id q r a is one home j (map.get m (record { home = home; kind = kinds.Intent j })) g
+      by_kind home (kinds.ReadLog b) same g = subst (LogMatches (map.get m (log_key home b))) (sym (same b refl)) g
+      by_kind home (kinds.Invoke b) same g = subst (CallMatches (map.get m (record { home = home; kind = kinds.Invoke b }))) (sym (calls_same d known id q r a is one home b)) g
+      by_kind home (kinds.Lockset j b t z) same g = let x : Item = record { func = home; table = t; key = z } in
+          locksets_answered d known locked unlocked id q r a is one out s inside o touch b x j (map.get m (lockset_key j b x)) (there b x j) g
+      by_kind home kind same g = g
+
+  -- PutRead Added: a read is answered, its lock being ahead
+  pub read_answered : (v : Value) → row_added (length q.answers) (txs_after d q q.answers).begun (effect_of d q) a ≡ Some (length q.answers, v) → locked id ≡ true → is_aborted a ≡ false
+      → ((t : TxId) (x : Item) → shadow_by t x q.func (tx_now d id q) (effect_of d q) a ≡ None) → Matches d (set_row m (log_key q.func here) (Some (rows.ReadLog v))) after unlocked
+  read_answered v added was lives no_note = let k = log_key q.func here in record {
+    keys = keys_set m k (Some (rows.ReadLog v)) (λ l z. RowMatches d after l.home l.kind z) (subst (λ z. z ≡ Some v) (sym read_here) refl) (λ l other. row_answered l (λ b kind. read_apart l b kind other) (h.keys l));
+    items = λ x. subst (ItemMatches d after unlocked x) (sym (content_apart m k (Some (rows.ReadLog v)) x (kinds_apart is_data (head_key x) k refl refl))) (items_answered d known locked unlocked id q r a is one out s inside o touch was lives x (content_of m x) (h.items x));
+    shadows = λ t x. subst (ShadowMatches d after t x) (sym (shadow_apart m k (Some (rows.ReadLog v)) t x (kinds_apart is_shadow (shadow_key t x) k refl refl))) (shadow_kept d known locked unlocked id q r a is one out t x (shadow_of m t x) (no_note t x) (h.shadows t x));
+    txs = λ x. subst (λ (c : Content). TxsMatch d after unlocked x c.owner) (sym (content_apart m k (Some (rows.ReadLog v)) x (kinds_apart is_data (head_key x) k refl refl))) (txs_answered d known locked unlocked id q r a is one out s inside o touch was lives x (content_of m x).owner (h.txs x));
+  }
+    where
+      read_here : owed_read d after q.func here ≡ Some v
+      read_here = read_one d known id q r a is one (length q.answers) v added q.func here ∙ ap (λ c. if c then (if q.func == q.func then Some v else None) else owed_read d known q.func here) (place_self here) ∙ ap (λ c. if c then Some v else None) (eq-eqb q.func q.func refl)
+
+      read_apart : (l : RowKey) (b : Place) → l.kind ≡ kinds.ReadLog b → is_eq (key_cmp l (log_key q.func here)) ≡ false → owed_read d after l.home b ≡ owed_read d known l.home b
+      read_apart l b kind other = read_elsewhere d known locked unlocked id q r a is one out (length q.answers) v added l.home b (subst (λ (z : Kind). is_eq (key_cmp (record { home = l.home; kind = z }) (log_key q.func here)) ≡ false) kind other)
+
+  -- WriteCell Did, CondCell Tested, of the shadow: a write is answered, its lock being ahead
+  pub write_answered : (v : Option Row) (w : Note) → CellMatches 0 v → row_added (length q.answers) (txs_after d q q.answers).begun (effect_of d q) a ≡ None → locked id ≡ true → is_aborted a ≡ false
+      → shadow_by s own q.func (tx_now d id q) (effect_of d q) a ≡ Some w → ((t : TxId) (x : Item) → (tx_eq t s && is_eq (item_cmp own x)) ≡ false → shadow_by t x q.func (tx_now d id q) (effect_of d q) a ≡ None)
+      → note_at (shadow_of m s own).notes here ≡ None → (u : Value) → content_in v ≡ record { value = u; owner = (shadow_of m s own).owner; notes = (shadow_of m s own).notes ++ (here, w) ∷ [] }
+      → Matches d (set_row m (shadow_key s own) v) after unlocked
+  write_answered v w fits added was lives noted apart none u same = let k = shadow_key s own in record {
+    keys = keys_set m k v (λ l z. RowMatches d after l.home l.kind z) fits (λ l other. row_answered l (λ b kind. read_none d known id q r a is one added l.home b) (h.keys l));
+    items = λ x. subst (ItemMatches d after unlocked x) (sym (content_apart m k v x (kinds_apart is_data (head_key x) k refl refl))) (items_answered d known locked unlocked id q r a is one out s inside o touch was lives x (content_of m x) (h.items x));
+    shadows = λ t x. by_both t x (tx_eq t s) refl (is_eq (item_cmp own x)) refl;
+    txs = λ x. subst (λ (c : Content). TxsMatch d after unlocked x c.owner) (sym (content_apart m k v x (kinds_apart is_data (head_key x) k refl refl))) (txs_answered d known locked unlocked id q r a is one out s inside o touch was lives x (content_of m x).owner (h.txs x));
+  }
+    where
+      elsewhere : (t : TxId) (x : Item) → (tx_eq t s && is_eq (item_cmp own x)) ≡ false → ShadowMatches d after t x (shadow_of (set_row m (shadow_key s own) v) t x)
+      elsewhere t x g = subst (ShadowMatches d after t x) (sym (shadow_apart m (shadow_key s own) v t x (by_key (is_eq (key_cmp (shadow_key t x) (shadow_key s own))) refl)))
+          (shadow_kept d known locked unlocked id q r a is one out t x (shadow_of m t x) (apart t x g) (h.shadows t x))
+        where
+          by_key : (b : Bool) → is_eq (key_cmp (shadow_key t x) (shadow_key s own)) ≡ b → b ≡ false
+          by_key true e = let p = shadow_same t s x own (key_same (shadow_key t x) (shadow_key s own) e) in absurd (true_false (sym (and_true (tx_eq t s) (is_eq (item_cmp own x)) (sym (ap (λ z. is_eq (item_cmp own z)) p.1 ∙ ap is_eq (tied_itself item_total own))) (ap (λ z. tx_eq z s) p.0 ∙ tx_self s)) ∙ g))
+          by_key false e = refl
+
+      by_both : (t : TxId) (x : Item) (b : Bool) → tx_eq t s ≡ b → (c : Bool) → is_eq (item_cmp own x) ≡ c → ShadowMatches d after t x (shadow_of (set_row m (shadow_key s own) v) t x)
+      by_both t x true e true f = subst (λ z. ShadowMatches d after z x (shadow_of (set_row m (shadow_key s own) v) z x)) (sym (tx_same t s e)) (subst (λ y. ShadowMatches d after s y (shadow_of (set_row m (shadow_key s own) v) s y)) (item_same own x f)
+          (subst (ShadowMatches d after s own) (sym (shadow_here m v s own ∙ same)) (shadow_noted d known locked unlocked id q r a is one out s own (shadow_of m s own) w u noted none (h.shadows s own))))
+      by_both t x true e false f = elsewhere t x (ap (λ z. z && is_eq (item_cmp own x)) e ∙ f)
+      by_both t x false e c f = elsewhere t x (ap (λ z. z && is_eq (item_cmp own x)) e)
+
+  -- LockCell Died
+  pub lock_died : (v : Option Row) (holder : IntentId) → CellMatches 0 v → row_added (length q.answers) (txs_after d q q.answers).begun (effect_of d q) a ≡ None → a ≡ answer.Aborted (record { place = here; holder = Some holder }) → locked id ≡ false
+      → ((t : TxId) (x : Item) → shadow_by t x q.func (tx_now d id q) (effect_of d q) a ≡ None) → note_at (content_of m own).notes here ≡ None → content_in v ≡ with_note (content_of m own) here (notes.Died holder)
+      → Matches d (set_row m (head_key own) v) after unlocked
+  lock_died v holder fits added dies was no_note none same = let k = head_key own in record {
+    keys = keys_set m k v (λ l z. RowMatches d after l.home l.kind z) fits (λ l other. row_answered l (λ b kind. read_none d known id q r a is one added l.home b) (h.keys l));
+    items = λ x. by_item own x (λ x. ItemMatches d after unlocked x (content_of (set_row m k v) x))
+        (subst (ItemMatches d after unlocked own) (sym (content_here m v own ∙ same)) (item_died d known locked unlocked id q r a is one out s inside o touch holder dies was (content_of m own) none (h.items own)))
+        (λ other. subst (ItemMatches d after unlocked x) (sym (content_apart m k v x (turned own x other))) (item_kept d known locked unlocked id q r a is one out s inside o touch holder dies was x (content_of m x) other (h.items x)));
+    shadows = λ t x. subst (ShadowMatches d after t x) (sym (shadow_apart m k v t x (kinds_apart is_shadow (shadow_key t x) k refl refl))) (shadow_kept d known locked unlocked id q r a is one out t x (shadow_of m t x) (no_note t x) (h.shadows t x));
+    txs = λ x. by_item own x (λ x. TxsMatch d after unlocked x (content_of (set_row m k v) x).owner)
+        (subst (λ (c : Content). TxsMatch d after unlocked own c.owner) (sym (content_here m v own ∙ same)) (txs_died d known locked unlocked id q r a is one out s inside o touch holder dies was own (content_of m own).owner (h.txs own)))
+        (λ other. subst (λ (c : Content). TxsMatch d after unlocked x c.owner) (sym (content_apart m k v x (turned own x other))) (txs_died d known locked unlocked id q r a is one out s inside o touch holder dies was x (content_of m x).owner (h.txs x)));
+  }

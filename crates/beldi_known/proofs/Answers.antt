@@ -1,0 +1,33 @@
+-- Lists of answers, with one more at the end.
+use Rattle.std.proofs.Common.{◌≡◌, ℕ, zero, suc, ◌==◌, true, false, take, arith, List, [], ◌∷◌, ◌++◌, length, Option, None, Some, refl, ap, sym, ◌∙◌, if◌then◌else◌}
+use Rattle.std.specs.Prelude.{slice_get}
+use Rattle.std.proofs.lemmas.Option.{slice_get_past}
+use Rattle.std.proofs.Math.Seq.{take-append_seam}
+use lib.Dec.{eqb-suc-suc, eqb-suc-zero, eqb-zero-suc}
+use Rattle.beldi_lang.specs.declared.effect.Answer.{Answer}
+
+pub true_false : true ≡ false → ⊥
+true_false h = cc
+
+pub get_after : (xs bs : List Answer) → slice_get (xs ++ bs) (length xs) ≡ slice_get bs 0
+get_after [] bs = refl
+get_after (a ∷ xs) bs = get_after xs bs
+
+-- a function of the answers before a step and of the answer there, after one was put at the end
+pub pushed_at : {X : Type 0} (f : List Answer → Option Answer → X) → ((ts us : List Answer) → f ts None ≡ f us None) → (xs : List Answer) (a : Answer) (n : ℕ)
+    → f (take n (xs ++ a ∷ [])) (slice_get (xs ++ a ∷ []) n) ≡ (if n == length xs then f xs (Some a) else f (take n xs) (slice_get xs n))
+pushed_at f none [] a zero = refl
+pushed_at f none [] a (suc n) = none (take (suc n) (a ∷ [])) [] ∙ ap (λ c. if c then f [] (Some a) else f [] None) (sym (eqb-suc-zero n))
+pushed_at f none (b ∷ bs) a zero = ap (λ c. if c then f (b ∷ bs) (Some a) else f [] (Some b)) (sym (eqb-zero-suc (length bs)))
+pushed_at f none (b ∷ bs) a (suc n) = pushed_at (λ ts o. f (b ∷ ts) o) (λ ts us. none (b ∷ ts) (b ∷ us)) bs a n
+    ∙ ap (λ c. if c then f (b ∷ bs) (Some a) else f (b ∷ take n bs) (slice_get bs n)) (sym (eqb-suc-suc n (length bs)))
+
+-- ---- at the end, and behind a front
+pub none_at_end : (xs : List Answer) → slice_get xs (length xs) ≡ None
+none_at_end xs = slice_get_past xs (length xs) (omega arith)
+
+pub take_front : (xs ys : List Answer) → take (length xs) (xs ++ ys) ≡ xs
+take_front xs ys = take-append_seam xs ys
+
+pub get_next : (xs ys : List Answer) (a : Answer) → slice_get (xs ++ a ∷ ys) (length xs) ≡ Some a
+get_next xs ys a = get_after xs (a ∷ ys)

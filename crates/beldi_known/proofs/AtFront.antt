@@ -1,0 +1,81 @@
+-- At the front nothing of the next step is there, but a lock that is ahead.
+use Rattle.std.proofs.Common.{◌≡◌, ◌<◌, ℕ, ◌==◌, ◌&&◌, ◌||◌, Bool, true, false, length, take, Option, None, Some, is_some, refl, ap, ◌∙◌, subst, eqb-true, eq-eqb, arith, if◌then◌else◌}
+use Rattle.std.specs.Prelude.{slice_get}
+use Rattle.std.specs.FinMap as map
+use Rattle.beldi_value.specs.declared.id.IntentId.{IntentId}
+use Rattle.beldi_value.specs.declared.place.Place.{Place}
+use Rattle.beldi_value.specs.declared.place.TxId.{TxId}
+use Rattle.beldi_tree.specs.declared.deployment.Deployment.{Deployment}
+use Rattle.beldi_row.specs.Log.{note_at}
+use Rattle.beldi_row.specs.Table.{Rows}
+use Rattle.beldi_row.specs.declared.notes.Note.TheVariants as notes
+use Rattle.beldi_readlog.specs.ReadLog.{log_key}
+use Rattle.beldi_plain.specs.Item.{Item}
+use Rattle.beldi_plain.specs.Plain.{Instance, effect_of}
+use Rattle.beldi_step.specs.Run.{place_of}
+use Rattle.beldi_known.specs.Rows.{LogMatches}
+use Rattle.beldi_known.specs.Contents.{content_of, shadow_of}
+use Rattle.beldi_known.specs.Known.{Known, effect_after, at_step, txs_after, tx_after, tx_now, touched, is_item, read_at, decision_by, value_or, row_at, owed_value, note_by, ahead_by, note_or, owed_note, shadow_by, owed_shadow, commit_in, is_decided, is_mark, last_step}
+use Rattle.beldi_known.specs.Owed.{value_for}
+use Rattle.beldi_known.specs.Matches.{Matches}
+use Rattle.beldi_known.proofs.Answers.{true_false}
+use Rattle.beldi_known.proofs.Frame.{step_next, fits, begins}
+use Rattle.beldi_known.proofs.Behind.{no_log}
+
+module _ (d : Deployment) (m : Rows) (known : Known) (locked : IntentId → Bool) (h : Matches d m known locked) (id : IntentId) (q : Instance) (is : map.get known id ≡ Some q) where
+  abbrev n : ℕ
+  n = length q.answers
+
+  abbrev p : Place
+  p = place_of id n
+
+  at_log : (k : ℕ) → row_at d q k ≡ None → map.get m (log_key q.func (place_of id k)) ≡ None
+  at_log k none = no_log (map.get m (log_key q.func (place_of id k))) (subst (LogMatches (map.get m (log_key q.func (place_of id k)))) (ap (owed_value d q.func k) is ∙ ap (λ b. if b then row_at d q k else None) (eq-eqb q.func q.func refl) ∙ none) (h.keys (log_key q.func (place_of id k))))
+
+  -- a read's row is not there
+  pub no_row : map.get m (log_key q.func p) ≡ None
+  no_row = at_log n (ap (λ o. value_or (decision_by o) (read_at d q n)) ((fits d q).fresh n (omega arith)) ∙ step_next (λ ts a. value_for (effect_after d q ts) a) q.answers)
+
+  -- nor that of the decision, while its Begin is open
+  pub no_decision : (b : ℕ) → (txs_after d q q.answers).begun ≡ Some b → map.get m (log_key q.func (place_of id b)) ≡ None
+  no_decision b begun = at_log b (ap (λ o. value_or (decision_by o) (read_at d q b)) ((fits d q).not_ended b begun) ∙ by_answer (slice_get q.answers b))
+    where
+      by_answer : (o : Option _) → at_step (λ ts a. value_for (effect_after d q ts) a) (take b q.answers) o ≡ None
+      by_answer None = refl
+      by_answer (Some a) = ap (λ e. value_for e a) ((begins d q q.answers).begun b begun)
+
+  -- nor a note in a shadow
+  pub no_shadow_note : (t : TxId) (x : Item) → note_at (shadow_of m t x).notes p ≡ None
+  no_shadow_note t x = h.shadows t x p ∙ ap (owed_shadow d t x id n) is ∙ step_next (λ ts a. shadow_by t x q.func (tx_after d id q ts) (effect_after d q ts) a) q.answers
+
+  module _ (short : n < last_step) where
+    no_mark : is_mark d known n (map.get known id) ≡ false
+    no_mark = ap (is_mark d known n) is ∙ ap (λ z. is_some z || (is_decided d known q.within && (n == last_step))) (step_next (λ ts a. commit_in (effect_after d q ts)) q.answers) ∙ ap (λ z. is_decided d known q.within && z) not_last ∙ and_false (is_decided d known q.within)
+      where
+        and_false : (b : Bool) → (b && false) ≡ false
+        and_false true = refl
+        and_false false = refl
+
+        not_last : (n == last_step) ≡ false
+        not_last = elim (n == last_step) as (λ b. (n == last_step) ≡ b → b ≡ false) [
+          | true ↦ λ g. let k = eqb-true n last_step g in absurd (omega (arith, k, short))
+          | false ↦ λ g. refl
+        ] refl
+
+    -- of a plain item it has the note of the lock that is ahead, and no other
+    pub note_is_ahead : (x : Item) → note_at (content_of m x).notes p ≡ ahead_by x q.func (tx_now d id q) (effect_of d q) (locked id)
+    note_is_ahead x = (h.items x).notes p no_mark ∙ ap (owed_note d x id (locked id) n) is
+        ∙ ap (λ z. note_or z (if n == n then ahead_by x q.func (tx_now d id q) (effect_of d q) (locked id) else None)) (step_next (λ ts a. note_by x q.func (tx_after d id q ts) (effect_after d q ts) a) q.answers)
+        ∙ ap (λ b. note_or None (if b then ahead_by x q.func (tx_now d id q) (effect_of d q) (locked id) else None)) (eq-eqb n n refl)
+
+    pub no_note : (x : Item) → locked id ≡ false → note_at (content_of m x).notes p ≡ None
+    no_note x out = note_is_ahead x ∙ by_lock (tx_now d id q) (locked id) out
+      where
+        by_lock : (t : Option TxId) (b : Bool) → b ≡ false → ahead_by x q.func t (effect_of d q) b ≡ None
+        by_lock None b e = refl
+        by_lock (Some t) true e = absurd (true_false e)
+        by_lock (Some t) false e = refl
+
+    -- a further run at the front finds the lock
+    pub lock_is_there : (x : Item) (s : TxId) → tx_now d id q ≡ Some s → is_item x q.func (touched (effect_of d q)) ≡ true → locked id ≡ true → note_at (content_of m x).notes p ≡ Some notes.Got
+    lock_is_there x s inside on was = note_is_ahead x ∙ ap (ahead_by x q.func (tx_now d id q) (effect_of d q)) was ∙ ap (λ t. ahead_by x q.func t (effect_of d q) true) inside ∙ ap (λ b. if b then Some notes.Got else None) on

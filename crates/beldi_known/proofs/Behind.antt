@@ -1,0 +1,317 @@
+-- A run whose answers are not all that are known finds what is owed: nothing changes, and it gets the known answer.
+use Rattle.std.proofs.Common.{◌≡◌, ◌<◌, ℕ, ◌==◌, ◌&&◌, ◌||◌, Bool, true, false, List, [], ◌∷◌, ◌++◌, length, length-append, take, Option, None, Some, refl, ap, sym, ◌∙◌, subst, eqb-true, eq-eqb, is_some, arith, append_assoc, if◌then◌else◌}
+use Rattle.std.specs.Prelude.{slice_get}
+use Rattle.std.specs.FinMap as map
+use Rattle.std.specs.Ordering.{is_eq}
+use Rattle.std.proofs.lemmas.Cmp.{tied_itself}
+use Rattle.beldi_value.specs.declared.id.IntentId.{IntentId}
+use Rattle.beldi_value.specs.declared.outcome.Cause.{Cause}
+use Rattle.beldi_value.specs.declared.place.Place.{Place}
+use Rattle.beldi_value.specs.declared.place.TxId.{TxId}
+use Rattle.beldi_value.specs.declared.rel.Rel.{Rel}
+use Rattle.beldi_value.specs.declared.value.Value.{Value}
+use Rattle.beldi_value.specs.declared.value.Value.TheVariants as value
+use Rattle.beldi_value.specs.declared.place.Owner.TheVariants.{Tx}
+use Rattle.beldi_tree.specs.declared.deployment.Deployment.{Deployment}
+use Rattle.beldi_lang.specs.declared.effect.Answer.{Answer}
+use Rattle.beldi_lang.specs.declared.effect.Answer.TheVariants as answer
+use Rattle.beldi_lang.specs.declared.effect.Effect.{Effect}
+use Rattle.beldi_lang.specs.declared.effect.Effect.TheVariants as effect
+use Rattle.beldi_row.specs.declared.notes.Note.{Note}
+use Rattle.beldi_row.specs.declared.notes.Note.TheVariants as notes
+use Rattle.beldi_row.specs.declared.row.Row.{Row}
+use Rattle.beldi_row.specs.declared.row.Row.TheVariants as rows
+use Rattle.beldi_row.specs.Log.{note_at}
+use Rattle.beldi_row.specs.Act.{other_owner}
+use Rattle.beldi_row.proofs.Logs.{place_self}
+use Rattle.beldi_row.specs.Table.{Rows}
+use Rattle.beldi_daal.specs.Content.{Content, content_in}
+use Rattle.beldi_readlog.specs.ReadLog.{log_key}
+use Rattle.beldi_plain.specs.Item.{Item, item_total}
+use Rattle.beldi_plain.specs.Operation.{OnItem, op_of, item_in}
+use Rattle.beldi_plain.specs.Plain.{Instance, effect_of}
+use Rattle.beldi_order.specs.Sane.{effect_before}
+use Rattle.beldi_step.specs.Run.{place_of}
+use Rattle.beldi_known.specs.Owed.{noted as noted_op, note_of, value_for}
+use Rattle.beldi_known.specs.Rows.{LogMatches}
+use Rattle.beldi_known.specs.Contents.{content_of, shadow_key, shadow_of, lockset_key}
+use Rattle.beldi_known.specs.Known.{Known, effect_after, along, at_step, is_at, txs_by, txs_after, end_of, tx_after, tx_now, tx_eq, is_tx, touched, is_item, write_op, read_at, decision_by, value_or, row_at, owed_value, lock_note, note_by, answered_note, ahead_by, note_or, owed_note, shadow_by, owed_shadow, begins_at, asks_lock, owed_lockset, is_mark, is_decided, commit_in, last_step}
+use Rattle.beldi_known.specs.Matches.{Matches, LocksetMatches, lockset_ahead}
+use Rattle.beldi_known.specs.Sane.{SaneInstance, IsAnswer, IsDeath}
+use Rattle.beldi_known.specs.Acts.{Told, noted, noted_or, lock_or, lock_on, put_lockset, keep_value, lock_answer}
+use Rattle.beldi_known.proofs.Answers.{take_front, get_next, true_false}
+use Rattle.beldi_known.proofs.Frame.{along_append, ended_stays, txs_pushed, begins}
+
+or_none : (o : Option Value) → value_or o None ≡ o
+or_none None = refl
+or_none (Some v) = refl
+
+note_or_none : (o : Option Note) → note_or o None ≡ o
+note_or_none None = refl
+note_or_none (Some v) = refl
+
+-- ---- what is known of the step of a run that is behind
+module _ (d : Deployment) (id : IntentId) (q : Instance) (given : List Answer) (a : Answer) (rest : List Answer) (run_answers : given ++ a ∷ rest ≡ q.answers) where
+  abbrev n : ℕ
+  n = length given
+
+  abbrev e : Effect
+  e = effect_after d q given
+
+  abbrev t : Option TxId
+  t = tx_after d id q given
+
+  pub front : take n q.answers ≡ given
+  front = ap (take n) (sym run_answers) ∙ take_front given (a ∷ rest)
+
+  pub there : slice_get q.answers n ≡ Some a
+  there = ap (λ xs. slice_get xs n) (sym run_answers) ∙ get_next given rest a
+
+  -- a table by steps has there what the answer owes
+  pub stepped : {X : Type 0} (f : List Answer → Answer → Option X) → at_step f (take n q.answers) (slice_get q.answers n) ≡ f given a
+  stepped f = ap (at_step f (take n q.answers)) there ∙ ap (λ ts. f ts a) front
+
+  no_end : (n == length q.answers) ≡ false
+  no_end = elim (n == length q.answers) as (λ b. (n == length q.answers) ≡ b → b ≡ false) [
+    | true ↦ λ g. let l = length-append given (a ∷ rest) in let k = eqb-true n (length q.answers) g in let m = ap length run_answers in absurd (omega (arith, l, k, m))
+    | false ↦ λ g. refl
+  ] refl
+
+  -- a fold that only gathers has it
+  gathered : (g : List Answer → Answer → Bool) (before after : List Answer) (b : Bool) → b ≡ true → along (λ ts c r. r || g ts c) before after b ≡ true
+  gathered g before [] b h = h
+  gathered g before (c ∷ after) b h = gathered g (before ++ c ∷ []) after (b || g before c) (ap (λ z. z || g before c) h)
+
+  pub gathers : (g : List Answer → Answer → Bool) → g given a ≡ true → along (λ ts c r. r || g ts c) [] q.answers false ≡ true
+  gathers g h = ap (λ ts. along (λ us c r. r || g us c) [] ts false) (sym run_answers) ∙ along_append (λ us c r. r || g us c) [] given (a ∷ rest) false
+      ∙ gathered g (given ++ a ∷ []) rest (along (λ us c r. r || g us c) [] given false || g given a) (ap (λ z. along (λ us c r. r || g us c) [] given false || z) h ∙ or_true (along (λ us c r. r || g us c) [] given false))
+    where
+      or_true : (b : Bool) → (b || true) ≡ true
+      or_true true = refl
+      or_true false = refl
+
+  -- the note of an item is that of the answer, and none is ahead
+  pub note_there : (x : Item) (b : Bool) → owed_note d x id b n (Some q) ≡ note_by x q.func t e a
+  note_there x b = ap (λ c. note_or (answered_note d x id n q) (if c then ahead_by x q.func (tx_now d id q) (effect_of d q) b else None)) no_end ∙ note_or_none (answered_note d x id n q)
+      ∙ stepped (λ ts c. note_by x q.func (tx_after d id q ts) (effect_after d q ts) c)
+
+  pub shadow_there : (s : TxId) (x : Item) → owed_shadow d s x id n (Some q) ≡ shadow_by s x q.func t e a
+  shadow_there s x = stepped (λ ts c. shadow_by s x q.func (tx_after d id q ts) (effect_after d q ts) c)
+
+  pub lockset_there : (b : ℕ) (x : Item) → asks_lock b x q.func t e ≡ true → owed_lockset d b x id (Some q) ≡ true
+  lockset_there b x h = gathers (λ ts c. asks_lock b x q.func (tx_after d id q ts) (effect_after d q ts)) h
+
+  -- at a read no Begin ended, so the row is the value's
+  not_begun : (m : ℕ) → (effect_before d q m ≡ effect.Begin → ⊥) → end_of d q m ≡ None
+  not_begun m apart = by_end (end_of d q m) refl
+    where
+      by_end : (o : Option (ℕ × Bool)) → end_of d q m ≡ o → o ≡ None
+      by_end None h = refl
+      by_end (Some z) h = absurd (apart ((begins d q q.answers).ended m z h))
+
+  pub row_there : (b : ℕ) (k : List ℕ) → e ≡ effect.Read b k → row_at d q n ≡ value_for e a
+  row_there b k is = ap (λ o. value_or (decision_by o) (read_at d q n)) (not_begun n (λ g. let h = sym is ∙ ap (effect_after d q) (sym front) ∙ g in cc)) ∙ stepped (λ ts c. value_for (effect_after d q ts) c)
+
+  -- at an End the decision is there, at the step of its Begin
+  pub decision_there : (b : ℕ) (c : Bool) → e ≡ effect.End c → (txs_after d q given).begun ≡ Some b → row_at d q b ≡ Some (value.Bool c)
+  decision_there b c is begun = ap (λ o. value_or (decision_by o) (read_at d q b)) (ended_stays d q (given ++ a ∷ []) rest b (n, c) (append_assoc given (a ∷ []) rest ∙ run_answers) (
+      ap (λ s. s.ends b) (txs_pushed d q given a) ∙ ap (λ z. (txs_by n z (txs_after d q given)).ends b) is ∙ ap (λ o. if is_at b o then Some (n, c) else (txs_after d q given).ends b) begun ∙ ap (λ z. if z then Some (n, c) else (txs_after d q given).ends b) (eq-eqb b b refl)))
+
+-- ---- small facts
+tx_self : (s : TxId) → tx_eq s s ≡ true
+tx_self s = ap (λ b. b && (s.func == s.func)) (place_self (place_of s.intent s.begin)) ∙ eq-eqb s.func s.func refl
+
+item_self : (x : Item) → is_item x x.func (Some (x.table, x.key)) ≡ true
+item_self x = ap is_eq (tied_itself item_total x)
+
+pub log_there : (r : Option Row) (w : Value) → LogMatches r (Some w) → r ≡ Some (rows.ReadLog w)
+log_there None w h = cc
+log_there (Some (rows.ReadLog v)) w h = let k : w ≡ v = cc in ap (λ z. Some (rows.ReadLog z)) (sym k)
+log_there (Some (rows.Intent i)) w h = absurd h
+log_there (Some (rows.Invoke i)) w h = absurd h
+log_there (Some (rows.Cell i)) w h = absurd h
+log_there (Some rows.Lockset) w h = absurd h
+
+pub no_log : (r : Option Row) → LogMatches r None → r ≡ None
+no_log None h = refl
+no_log (Some (rows.ReadLog v)) h = cc
+no_log (Some (rows.Intent i)) h = absurd h
+no_log (Some (rows.Invoke i)) h = absurd h
+no_log (Some (rows.Cell i)) h = absurd h
+no_log (Some rows.Lockset) h = absurd h
+
+-- what is kept is there already, and is told
+pub kept_there : (r : Option Row) (v w : Value) → r ≡ Some (rows.ReadLog w) → keep_value v r ≡ (r, Some w)
+kept_there r v w h = ap (keep_value v) h ∙ ap (λ z. (z, Some w)) (sym h)
+
+pub lockset_present : (r : Option Row) (ahead : Bool) → LocksetMatches r true ahead → put_lockset r ≡ (r, false)
+lockset_present None ahead h = absurd (true_false h)
+lockset_present (Some r) ahead h = refl
+
+pub noted_there : (c : Content) (p : Place) (w : Note) (r : Content × Told) → note_at c.notes p ≡ Some w → noted_or c (note_at c.notes p) r ≡ (c, noted w)
+noted_there c p w r h = ap (λ o. noted_or c o r) h
+
+-- ---- the answer to an operation inside, and the note of its lock
+abbrev pub death_in : Answer → Option Answer
+death_in (answer.Aborted c) = Some (answer.Aborted c)
+death_in a = None
+
+pub record LockTold (p : Place) (a : Answer) : Type 0 where
+  pub note : Note
+  pub is : lock_note a ≡ Some note
+  pub says : lock_answer p (noted note) ≡ death_in a
+
+-- a death is one of this place
+abbrev Fair : Place → TxId → Answer → Type 0
+Fair p s (answer.Aborted c) = IsDeath p s c
+Fair p s a = Unit {0}
+
+lock_told : (p : Place) (s : TxId) (e : Effect) (o : ℕ × List ℕ) (a : Answer) → touched e ≡ Some o → IsAnswer p (Some s) e a → LockTold p a
+lock_told p s e o a touch h = by_answer a (by_effect e a touch h)
+  where
+    by_effect : (e : Effect) (a : Answer) → touched e ≡ Some o → IsAnswer p (Some s) e a → Fair p s a
+    by_effect (effect.Read b k) answer.Done touch h = tt
+    by_effect (effect.Read b k) (answer.Value v) touch h = tt
+    by_effect (effect.Read b k) (answer.Fault f) touch h = tt
+    by_effect (effect.Read b k) (answer.Aborted c) touch h = h
+    by_effect (effect.Write b k v) answer.Done touch h = tt
+    by_effect (effect.Write b k v) (answer.Value w) touch h = tt
+    by_effect (effect.Write b k v) (answer.Fault f) touch h = tt
+    by_effect (effect.Write b k v) (answer.Aborted c) touch h = h
+    by_effect (effect.CondWrite b k r u v) answer.Done touch h = tt
+    by_effect (effect.CondWrite b k r u v) (answer.Value w) touch h = tt
+    by_effect (effect.CondWrite b k r u v) (answer.Fault f) touch h = tt
+    by_effect (effect.CondWrite b k r u v) (answer.Aborted c) touch h = h
+    by_effect e a touch h = cc
+
+    by_answer : (a : Answer) → Fair p s a → LockTold p a
+    by_answer (answer.Aborted c) g = record { note = notes.Died g.holder; is = ap (λ z. lock_note (answer.Aborted z)) g.cause; says = ap (λ z. Some (answer.Aborted z)) (sym g.cause) }
+    by_answer answer.Done g = record { note = notes.Got; is = refl; says = refl }
+    by_answer (answer.Value v) g = record { note = notes.Got; is = refl; says = refl }
+    by_answer (answer.Fault f) g = record { note = notes.Got; is = refl; says = refl }
+
+-- ---- the acts of a run that is behind
+module _ (d : Deployment) (m : Rows) (known : Known) (locked : IntentId → Bool) (h : Matches d m known locked) (id : IntentId) (q : Instance) (is : map.get known id ≡ Some q) (sane : SaneInstance d id q)
+    (given : List Answer) (a : Answer) (rest : List Answer) (run_answers : given ++ a ∷ rest ≡ q.answers) (short : length given < last_step) where
+  abbrev p : Place
+  p = place_of id (length given)
+
+  abbrev wanted : Effect
+  wanted = effect_after d q given
+
+  abbrev stood : Option TxId
+  stood = tx_after d id q given
+
+  answers : IsAnswer p stood wanted a
+  answers = subst (λ ts. IsAnswer p (tx_after d id q ts) (effect_after d q ts) a) (front d id q given a rest run_answers) (sane.past (length given) a (there d id q given a rest run_answers))
+
+  -- an operation's place is no mark
+  no_mark : commit_in wanted ≡ None → is_mark d known (length given) (map.get known id) ≡ false
+  no_mark apart = ap (is_mark d known (length given)) is
+      ∙ ap (λ z. is_some z || (is_decided d known q.within && (length given == last_step))) (stepped d id q given a rest run_answers (λ ts c. commit_in (effect_after d q ts)) ∙ apart)
+      ∙ ap (λ z. is_decided d known q.within && z) not_last ∙ and_false (is_decided d known q.within)
+    where
+      and_false : (b : Bool) → (b && false) ≡ false
+      and_false true = refl
+      and_false false = refl
+
+      not_last : (length given == last_step) ≡ false
+      not_last = elim (length given == last_step) as (λ b. (length given == last_step) ≡ b → b ≡ false) [
+        | true ↦ λ g. let k = eqb-true (length given) last_step g in absurd (omega (arith, k, short))
+        | false ↦ λ g. refl
+      ] refl
+
+  -- a read, outside and inside: its row has the known answer
+  log_match : LogMatches (map.get m (log_key q.func p)) (row_at d q (length given))
+  log_match = subst (LogMatches (map.get m (log_key q.func p))) (ap (λ o. owed_value d q.func (length given) o) is ∙ ap (λ b. if b then row_at d q (length given) else None) (eq-eqb q.func q.func refl)) (h.keys (log_key q.func p))
+
+  pub behind_looks : (b : ℕ) (k : List ℕ) (w : Value) → wanted ≡ effect.Read b k → a ≡ answer.Value w → map.get m (log_key q.func p) ≡ Some (rows.ReadLog w)
+  behind_looks b k w wants same = log_there (map.get m (log_key q.func p)) w (subst (LogMatches (map.get m (log_key q.func p))) (row_there d id q given a rest run_answers b k wants ∙ ap (λ z. value_for z a) wants ∙ ap (value_for (effect.Read b k)) same) log_match)
+
+  -- .. none where it died
+  pub behind_looks_dead : (b : ℕ) (k : List ℕ) (c : Cause) → wanted ≡ effect.Read b k → a ≡ answer.Aborted c → map.get m (log_key q.func p) ≡ None
+  behind_looks_dead b k c wants same = no_log (map.get m (log_key q.func p)) (subst (LogMatches (map.get m (log_key q.func p))) (row_there d id q given a rest run_answers b k wants ∙ ap (λ z. value_for z a) wants ∙ ap (value_for (effect.Read b k)) same) log_match)
+
+  -- .. and its PutRead is told that value, whatever it found
+  pub behind_keeps : (b : ℕ) (k : List ℕ) (v w : Value) → wanted ≡ effect.Read b k → a ≡ answer.Value w → keep_value v (map.get m (log_key q.func p)) ≡ (map.get m (log_key q.func p), Some w)
+  behind_keeps b k v w wants same = kept_there (map.get m (log_key q.func p)) v w (behind_looks b k w wants same)
+
+  -- an End: the decision row is there with its commit
+  pub behind_decided : (b : ℕ) (c : Bool) → wanted ≡ effect.End c → (txs_after d q given).begun ≡ Some b → map.get m (log_key q.func (place_of id b)) ≡ Some (rows.ReadLog (value.Bool c))
+  behind_decided b c wants begun = log_there (map.get m (log_key q.func (place_of id b))) (value.Bool c)
+      (subst (LogMatches (map.get m (log_key q.func (place_of id b)))) (ap (λ o. owed_value d q.func b o) is ∙ ap (λ z. if z then row_at d q b else None) (eq-eqb q.func q.func refl) ∙ decision_there d id q given a rest run_answers b c wants begun) (h.keys (log_key q.func (place_of id b))))
+
+  pub behind_decides : (b : ℕ) (v : Value) (c : Bool) → wanted ≡ effect.End c → (txs_after d q given).begun ≡ Some b
+      → keep_value v (map.get m (log_key q.func (place_of id b))) ≡ (map.get m (log_key q.func (place_of id b)), Some (value.Bool c))
+  behind_decides b v c wants begun = kept_there (map.get m (log_key q.func (place_of id b))) v (value.Bool c) (behind_decided b c wants begun)
+
+  -- an item has the note of the answer
+  note_match : (x : Item) → commit_in wanted ≡ None → note_at (content_of m x).notes p ≡ note_by x q.func stood wanted a
+  note_match x apart = (h.items x).notes p (no_mark apart) ∙ ap (λ o. owed_note d x id (locked id) (length given) o) is ∙ note_there d id q given a rest run_answers x (locked id)
+
+  -- outside: an operation is told the note of the known answer
+  pub behind_does : (o : OnItem) (w : Note) (r : Content × Told) → stood ≡ None → op_of wanted ≡ Some o → commit_in wanted ≡ None → noted_op o.does a ≡ Some w
+      → noted_or (content_of m (item_in q.func o)) (note_at (content_of m (item_in q.func o)).notes p) r ≡ (content_of m (item_in q.func o), noted w)
+  behind_does o w r out wants apart same = noted_there (content_of m (item_in q.func o)) p w r (note_match (item_in q.func o) apart ∙ ap (λ z. note_by (item_in q.func o) q.func z wanted a) out ∙ ap (λ z. note_of (item_in q.func o) q.func z a) wants
+      ∙ ap (λ z. if is_eq z then noted_op o.does a else None) (tied_itself item_total (item_in q.func o)) ∙ same)
+
+  -- inside, an operation on an item
+  module _ (s : TxId) (inside : stood ≡ Some s) (o : ℕ × List ℕ) (touch : touched wanted ≡ Some o) where
+    abbrev x : Item
+    x = record { func = q.func; table = o.0; key = o.1 }
+
+    on_it : is_item x q.func (touched wanted) ≡ true
+    on_it = ap (is_item x q.func) touch ∙ item_self x
+
+    no_end_here : commit_in wanted ≡ None
+    no_end_here = by_effect wanted touch
+      where
+        by_effect : (e : Effect) → touched e ≡ Some o → commit_in e ≡ None
+        by_effect (effect.End c) g = cc
+        by_effect e g = refl
+
+    -- its lockset row is there
+    pub behind_asks : put_lockset (map.get m (lockset_key id s.begin x)) ≡ (map.get m (lockset_key id s.begin x), false)
+    behind_asks = lockset_present (map.get m (lockset_key id s.begin x)) (lockset_ahead d known s.begin x id (map.get known id)) (subst (λ z. LocksetMatches (map.get m (lockset_key id s.begin x)) z (lockset_ahead d known s.begin x id (map.get known id))) (ap (owed_lockset d s.begin x id) is ∙ lockset_there d id q given a rest run_answers s.begin x asks) (h.keys (lockset_key id s.begin x)))
+      where
+        asks : asks_lock s.begin x q.func stood wanted ≡ true
+        asks = ap (λ z. begins_at s.begin z && is_item x q.func (touched wanted)) inside ∙ ap (λ b. b && is_item x q.func (touched wanted)) (eq-eqb s.begin s.begin refl) ∙ on_it
+
+    pub told : LockTold p a
+    told = lock_told p s wanted o a touch (subst (λ z. IsAnswer p z wanted a) inside answers)
+
+    -- the walk of its lock is told the note that is there: a death is the known answer, else it goes on
+    pub behind_locks : (lock_on p s (content_of m x) ≡ (content_of m x, noted told.note)) × (lock_answer p (noted told.note) ≡ death_in a)
+    behind_locks = (
+      noted_there (content_of m x) p told.note (lock_or p s (content_of m x) (other_owner (Tx s) (content_of m x).owner))
+          (note_match x no_end_here ∙ ap (λ z. note_by x q.func z wanted a) inside ∙ ap (λ b. if b then lock_note a else None) on_it ∙ told.is),
+      told.says,
+    )
+
+    shadow_match : note_at (shadow_of m s x).notes p ≡ note_of x q.func (write_op wanted) a
+    shadow_match = h.shadows s x p ∙ ap (owed_shadow d s x id (length given)) is ∙ shadow_there d id q given a rest run_answers s x
+        ∙ ap (λ z. if is_tx s z then note_of x q.func (write_op wanted) a else None) inside ∙ ap (λ b. if b then note_of x q.func (write_op wanted) a else None) (tx_self s)
+
+    -- the walk of its shadow is told the note of the known answer
+    pub behind_writes : (b : ℕ) (k : List ℕ) (v : Value) (r : Content × Told) → wanted ≡ effect.Write b k v → a ≡ answer.Done → noted_or (shadow_of m s x) (note_at (shadow_of m s x).notes p) r ≡ (shadow_of m s x, noted notes.Wrote)
+    behind_writes b k v r wants same = noted_there (shadow_of m s x) p notes.Wrote r (shadow_match ∙ ap (λ z. note_of x q.func (write_op z) a) wants ∙ own (ap touched (sym wants) ∙ touch))
+      where
+        own : Some (b, k) ≡ Some o → note_of x q.func (write_op (effect.Write b k v)) a ≡ Some notes.Wrote
+        own g = let f : (b, k) ≡ o = cc in subst (λ (z : ℕ × List ℕ). note_of (record { func = q.func; table = z.0; key = z.1 }) q.func (write_op (effect.Write b k v)) a ≡ Some notes.Wrote) f
+            (ap (λ z. note_of (record { func = q.func; table = b; key = k }) q.func (write_op (effect.Write b k v)) z) same ∙ ap (λ z. if is_eq z then Some notes.Wrote else None) (tied_itself item_total (record { func = q.func; table = b; key = k })))
+
+    pub behind_tests : (b : ℕ) (k : List ℕ) (u : Rel) (y v : Value) (t : Bool) (r : Content × Told) → wanted ≡ effect.CondWrite b k u y v → a ≡ answer.Value (value.Bool t)
+        → noted_or (shadow_of m s x) (note_at (shadow_of m s x).notes p) r ≡ (shadow_of m s x, noted (notes.Cond t))
+    behind_tests b k u y v t r wants same = noted_there (shadow_of m s x) p (notes.Cond t) r (shadow_match ∙ ap (λ z. note_of x q.func (write_op z) a) wants ∙ own (ap touched (sym wants) ∙ touch))
+      where
+        own : Some (b, k) ≡ Some o → note_of x q.func (write_op (effect.CondWrite b k u y v)) a ≡ Some (notes.Cond t)
+        own g = let f : (b, k) ≡ o = cc in subst (λ (z : ℕ × List ℕ). note_of (record { func = q.func; table = z.0; key = z.1 }) q.func (write_op (effect.CondWrite b k u y v)) a ≡ Some (notes.Cond t)) f
+            (ap (λ z. note_of (record { func = q.func; table = b; key = k }) q.func (write_op (effect.CondWrite b k u y v)) z) same ∙ ap (λ z. if is_eq z then Some (notes.Cond t) else None) (tied_itself item_total (record { func = q.func; table = b; key = k })))
+
+    -- the first row of its shadow is there, whatever would be made: a write was answered, so it has a note
+    pub behind_makes : (w : Note) → note_of x q.func (write_op wanted) a ≡ Some w → (r : Row) × (map.get m (shadow_key s x) ≡ Some r)
+    behind_makes w same = by_row (map.get m (shadow_key s x)) refl (shadow_match ∙ same)
+      where
+        by_row : (r : Option Row) → map.get m (shadow_key s x) ≡ r → note_at (content_in r).notes p ≡ Some w → (z : Row) × (map.get m (shadow_key s x) ≡ Some z)
+        by_row None g k = cc
+        by_row (Some r) g k = (r, g)

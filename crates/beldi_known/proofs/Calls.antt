@@ -1,0 +1,200 @@
+-- Instances that are made and that end, over what is known: a call is opened, and its callee gives its outcome back.
+use Rattle.std.proofs.Common.{◌≡◌, ℕ, ◌==◌, ◌&&◌, ◌||◌, Bool, true, false, length, Option, None, Some, is_some, refl, ap, sym, ◌∙◌, subst, eqb-true, eq-eqb, if◌then◌else◌}
+use Rattle.std.specs.FinMap as map
+use Rattle.std.specs.Option.{is_none}
+use Rattle.std.specs.Ordering.{is_eq}
+use Rattle.beldi_value.specs.Id.{child_of, has_no_hops}
+use Rattle.beldi_value.specs.declared.id.IntentId.{IntentId}
+use Rattle.beldi_value.specs.declared.outcome.Outcome.{Outcome}
+use Rattle.beldi_value.specs.declared.place.Caller.{Caller}
+use Rattle.beldi_value.specs.declared.place.Place.{Place}
+use Rattle.beldi_value.specs.declared.value.Value.{Value}
+use Rattle.beldi_value.proofs.Callees.{child_same, no_root}
+use Rattle.beldi_tree.specs.declared.deployment.Deployment.{Deployment}
+use Rattle.beldi_lang.specs.declared.effect.Effect.TheVariants as effect
+use Rattle.beldi_row.specs.Key.{key_cmp}
+use Rattle.beldi_row.specs.Table.{Rows, set_row}
+use Rattle.beldi_row.specs.declared.key.RowKey.{RowKey}
+use Rattle.beldi_row.specs.declared.key.Kind.{Kind}
+use Rattle.beldi_row.specs.declared.row.InvokeRow.{InvokeRow}
+use Rattle.beldi_row.specs.declared.row.Row.{Row}
+use Rattle.beldi_row.specs.declared.row.Row.TheVariants as rows
+use Rattle.beldi_invokelog.specs.InvokeLog.{invoke_key}
+use Rattle.beldi_plain.specs.Item.{Item}
+use Rattle.beldi_plain.specs.Plain.{Instance, new_instance, ended, effect_of, callee_of, calls_at}
+use Rattle.beldi_order.proofs.Entries.{same_some}
+use Rattle.beldi_order.proofs.Late.{elsewhere, here}
+use Rattle.beldi_step.specs.Run.{is_waited, place_of}
+use Rattle.beldi_known.specs.Known.{Known, at_once, owed_call, answered_note, ahead_note, note_or, is_decided, last_step, tx_now, touched, is_item, begins_at}
+use Rattle.beldi_known.specs.Matches.{Matches, is_open}
+use Rattle.beldi_known.specs.Owed.{called_by, result_of}
+use Rattle.beldi_known.specs.Rows.{IntentMatches, CalleeMatches, CallMatches}
+use Rattle.beldi_known.proofs.Frame.{OwesSame, at_once_same}
+use Rattle.beldi_known.proofs.FrameAt.{not_ahead, or_none}
+use Rattle.beldi_known.proofs.Instances.{callee_on, callee_new, calls_moved, no_callee, no_own_callee, not_home, return_keeps_row, same_caller, same_key}
+use Rattle.beldi_known.proofs.Sets.{OwesStill, instance_set}
+
+-- ---- what is made owes nothing
+pub new_owes : (d : Deployment) (known : Known) (id : IntentId) (f : ℕ) (v : Value) (c : Option Caller) → OwesStill d known id None (new_instance f v c)
+new_owes d known id f v c = record {
+  values = λ u n. by_test (f == u);
+  notes = λ x n. not_ahead d x id n (new_instance f v c);
+  shadows = λ t x n. refl;
+  locksets = λ b x. refl;
+  got = λ t x. refl;
+  held = λ x. refl;
+  ends = λ b. refl;
+  marks = λ n. refl;
+  behind = λ b x. refl;
+}
+  where
+    by_test : (b : Bool) → ◌≡◌ {A = Option Value} (if b then None else None) None
+    by_test true = refl
+    by_test false = refl
+
+-- nor does what takes no turn
+pub still_then : (d : Deployment) (known : Known) (id : IntentId) (o : Option Instance) (q s : Instance) → OwesStill d known id o q → OwesSame d id q s → OwesStill d known id o s
+still_then d known id o q s g h = record {
+  values = λ f n. (λ i. if h.func i == f then h.rows n i else None) ∙ g.values f n;
+  notes = λ x n. without x n s ∙ h.notes x n ∙ sym (without x n q) ∙ g.notes x n;
+  shadows = λ t x n. h.shadows t x n ∙ g.shadows t x n;
+  locksets = λ b x. h.locksets b x ∙ g.locksets b x;
+  got = λ t x. ap (λ z. z || false) (h.got t x) ∙ g.got t x;
+  held = λ x. h.held x ∙ g.held x;
+  ends = λ b. h.ends b ∙ g.ends b;
+  marks = λ n. (λ i. is_some (h.marks n i) || (is_decided d known (h.within i) && (n == last_step))) ∙ g.marks n;
+  behind = g.behind;
+}
+  where
+    without : (x : Item) (n : ℕ) (z : Instance) → note_or (answered_note d x id n z) (ahead_note d x id false n z) ≡ answered_note d x id n z
+    without x n z = ap (note_or (answered_note d x id n z)) (not_ahead d x id n z) ∙ or_none (answered_note d x id n z)
+
+pub made_owes : (d : Deployment) (known : Known) (id : IntentId) (f : ℕ) (v : Value) (c : Option Caller) → OwesStill d known id None (at_once d id (new_instance f v c))
+made_owes d known id f v c = still_then d known id None (new_instance f v c) (at_once d id (new_instance f v c)) (new_owes d known id f v c) (at_once_same d id (new_instance f v c))
+
+-- an instance that returns owes what it owed
+pub ended_owes : (d : Deployment) (known : Known) (id : IntentId) (q : Instance) (o u : Outcome) → effect_of d q ≡ effect.Return u → OwesStill d known id (Some q) (ended q o)
+ended_owes d known id q o u returns = record {
+  values = λ f n. refl;
+  notes = λ x n. refl;
+  shadows = λ t x n. refl;
+  locksets = λ b x. refl;
+  got = λ t x. refl;
+  held = λ x. refl;
+  ends = λ b. refl;
+  marks = λ n. refl;
+  behind = λ b x. ap (λ e. is_none q.outcome && (is_open d known (tx_now d id q) && (begins_at b (tx_now d id q) && is_item x q.func (touched e)))) returns ∙ three (is_none q.outcome) (is_open d known (tx_now d id q)) (begins_at b (tx_now d id q));
+}
+  where
+    three : (a b c : Bool) → (a && (b && (c && false))) ≡ false
+    three true true true = refl
+    three true true false = refl
+    three true false c = refl
+    three false b c = refl
+
+-- ---- a call is opened: its callee is made, and its row is put
+module _ (d : Deployment) (known : Known) (locked : IntentId → Bool) (id : IntentId) (i s : Instance) (waits : Bool) (is : map.get known id ≡ Some i) (new : map.get known (callee_of id i) ≡ None)
+    (childless : (n : ℕ) → map.get known (child_of (callee_of id i) n) ≡ None) (unlocked : locked (callee_of id i) ≡ false) (owes : OwesStill d known (callee_of id i) None s) (from : s.from ≡ Some (calls_at id i waits)) (none : s.outcome ≡ None) where
+  abbrev callee : IntentId
+  callee = callee_of id i
+
+  abbrev after : Known
+  after = map.insert known callee s
+
+  abbrev key : RowKey
+  key = invoke_key i.func (place_of id (length i.answers))
+
+  caller_there : map.get after id ≡ Some i
+  caller_there = elsewhere known callee id s (λ same. let clash = sym new ∙ ap (map.get known) same ∙ is in cc) ∙ is
+
+  no_result : result_of s ≡ None
+  no_result = ap (λ o. if is_waited s.from then o else None) none ∙ by_wait (is_waited s.from)
+    where
+      by_wait : (b : Bool) → ◌≡◌ {A = Option Outcome} (if b then None else None) None
+      by_wait true = refl
+      by_wait false = refl
+
+  owed_here : owed_call after i.func (place_of id (length i.answers)) ≡ Some (s.func, None)
+  owed_here = ap (λ o. called_by i.func o (map.get after callee)) caller_there ∙ ap (called_by i.func (Some i)) (here known callee s) ∙ ap (λ b. if b then Some (s.func, result_of s) else None) (eq-eqb i.func i.func refl) ∙ ap (λ o. Some (s.func, o)) no_result
+
+  still_childless : (n : ℕ) → map.get after (child_of callee n) ≡ None
+  still_childless n = elsewhere known callee (child_of callee n) s (λ same. no_own_callee callee n (sym same)) ∙ childless n
+
+  as_caller : (home : ℕ) (b : Place) → b.intent ≡ callee → called_by home (Some s) (map.get after (child_of b.intent b.step)) ≡ called_by home (map.get known callee) (map.get after (child_of b.intent b.step))
+  as_caller home b same =
+      let gone : map.get after (child_of b.intent b.step) ≡ None = ap (λ z. map.get after (child_of z b.step)) same ∙ still_childless b.step in
+      ap (called_by home (Some s)) gone ∙ sym (ap (called_by home (map.get known callee)) gone ∙ no_callee home (map.get known callee))
+
+  as_callee : (home : ℕ) (b : Place) → is_eq (key_cmp (invoke_key home b) key) ≡ false → child_of b.intent b.step ≡ callee → called_by home (map.get known b.intent) (Some s) ≡ called_by home (map.get known b.intent) (map.get known callee)
+  as_callee home b other same =
+      let place = child_same b.intent id b.step (length i.answers) same in
+      let away : (i.func == home) ≡ false = elim (i.func == home) as (λ t. (i.func == home) ≡ t → t ≡ false) [
+        | true ↦ λ e. absurd (same_key home i.func b (place_of id (length i.answers)) (sym (eqb-true i.func home e)) (λ k. record { intent = place.0 k; step = place.1 k }) other)
+        | false ↦ λ e. refl
+      ] refl in
+      ap (λ z. called_by home (map.get known z) (Some s)) place.0 ∙ ap (λ o. called_by home o (Some s)) is ∙ not_home home i (Some s) away ∙ sym (ap (called_by home (map.get known b.intent)) new ∙ no_callee home (map.get known b.intent))
+
+  own_row : (home : ℕ) (r : Option Row) → IntentMatches (has_no_hops callee.hops) home r (map.get known callee) → IntentMatches (has_no_hops callee.hops) home r (Some s)
+  own_row home r g =
+      let hops = no_root id (length i.answers) in
+      subst (λ b. IntentMatches b home r (Some s)) (sym hops) (callee_new home r s none (subst (CalleeMatches home r) new (subst (λ b. IntentMatches b home r (map.get known callee)) hops g)))
+
+  pub call_opened : (m : Rows) (r : InvokeRow) → r.func ≡ s.func → r.result ≡ None → Matches d m known locked → Matches d (set_row m key (Some (rows.Invoke r))) after locked
+  call_opened m r func empty h = instance_set d known locked callee s unlocked (subst (λ o. OwesStill d known callee o s) (sym new) owes) m key (Some (rows.Invoke r)) refl
+      (owed_here ∙ sym (λ k. Some (func k, empty k)))
+      (λ l other e g. own_row l.home (map.get m l) g)
+      (λ l b other e. calls_moved known callee s l.home b (as_caller l.home b) (as_callee l.home b (subst (λ (z : Kind). is_eq (key_cmp (record { home = l.home; kind = z }) key) ≡ false) e other))) h
+
+-- ---- a callee that its caller waits for gives its outcome back, to the row of the call
+module _ (d : Deployment) (known : Known) (locked : IntentId → Bool) (id : IntentId) (i j : Instance) (n : ℕ) (o u : Outcome) (is : map.get known id ≡ Some i) (made : map.get known (child_of id n) ≡ Some j)
+    (open_still : j.outcome ≡ None) (waited : is_waited j.from ≡ true) (returns : effect_of d j ≡ effect.Return u) (out : locked (child_of id n) ≡ false) where
+  abbrev child : IntentId
+  child = child_of id n
+
+  abbrev given : Known
+  given = map.insert known child (ended j o)
+
+  abbrev row_key : RowKey
+  row_key = invoke_key i.func (place_of id n)
+
+  still_caller : map.get given id ≡ Some i
+  still_caller = elsewhere known child id (ended j o) (no_own_callee id n) ∙ is
+
+  owed_now : owed_call given i.func (place_of id n) ≡ Some (j.func, Some o)
+  owed_now = ap (λ c. called_by i.func c (map.get given child)) still_caller ∙ ap (called_by i.func (Some i)) (here known child (ended j o)) ∙ ap (λ b. if b then Some (j.func, result_of (ended j o)) else None) (eq-eqb i.func i.func refl)
+      ∙ ap (λ b. Some (j.func, if b then Some o else None)) waited
+
+  callers_row : (home : ℕ) (b : Place) → b.intent ≡ child → called_by home (Some (ended j o)) (map.get given (child_of b.intent b.step)) ≡ called_by home (map.get known child) (map.get given (child_of b.intent b.step))
+  callers_row home b same = same_caller home j (ended j o) (map.get given (child_of b.intent b.step)) refl ∙ ap (λ c. called_by home c (map.get given (child_of b.intent b.step))) (sym made)
+
+  other_callers : (home : ℕ) (b : Place) → is_eq (key_cmp (invoke_key home b) row_key) ≡ false → child_of b.intent b.step ≡ child → called_by home (map.get known b.intent) (Some (ended j o)) ≡ called_by home (map.get known b.intent) (map.get known child)
+  other_callers home b other same =
+      let place = child_same b.intent id b.step n same in
+      let caller : map.get known b.intent ≡ Some i = ap (map.get known) place.0 ∙ is in
+      let away : (i.func == home) ≡ false = elim (i.func == home) as (λ t. (i.func == home) ≡ t → t ≡ false) [
+        | true ↦ λ e. absurd (same_key home i.func b (place_of id n) (sym (eqb-true i.func home e)) (λ k. record { intent = place.0 k; step = place.1 k }) other)
+        | false ↦ λ e. refl
+      ] refl in
+      ap (λ c. called_by home c (Some (ended j o))) caller ∙ not_home home i (Some (ended j o)) away ∙ sym (ap (λ c. called_by home c (map.get known child)) caller ∙ not_home home i (map.get known child) away)
+
+  callee_row : (home : ℕ) (r : Option Row) → IntentMatches (has_no_hops child.hops) home r (map.get known child) → IntentMatches (has_no_hops child.hops) home r (Some (ended j o))
+  callee_row home r g =
+      let hops = no_root id n in
+      subst (λ b. IntentMatches b home r (Some (ended j o))) (sym hops)
+      (callee_on home r j (ended j o) (return_keeps_row j o waited open_still) (subst (CalleeMatches home r) made (subst (λ b. IntentMatches b home r (map.get known child)) hops g)))
+
+  -- its caller is answered then, which owes the rows nothing more (`call_answered`)
+  pub given_back : (m : Rows) (r : InvokeRow) → map.get m row_key ≡ Some (rows.Invoke r) → Matches d m known locked → Matches d (set_row m row_key (Some (rows.Invoke (record r { result = Some o })))) given locked
+  given_back m r at h = instance_set d known locked child (ended j o) out (subst (λ z. OwesStill d known child z (ended j o)) (sym made) (ended_owes d known child j o u returns)) m row_key (Some (rows.Invoke (record r { result = Some o }))) refl
+      (owed_now ∙ ap (λ c. Some (c, Some o)) (sym func))
+      (λ l other e g. callee_row l.home (map.get m l) g)
+      (λ l b other e. calls_moved known child (ended j o) l.home b (callers_row l.home b) (other_callers l.home b (subst (λ (z : Kind). is_eq (key_cmp (record { home = l.home; kind = z }) row_key) ≡ false) e other))) h
+    where
+      owed_before : owed_call known i.func (place_of id n) ≡ Some (j.func, result_of j)
+      owed_before = ap (λ c. called_by i.func c (map.get known child)) is ∙ ap (called_by i.func (Some i)) made ∙ ap (λ b. if b then Some (j.func, result_of j) else None) (eq-eqb i.func i.func refl)
+
+      there : owed_call known i.func (place_of id n) ≡ Some (r.func, r.result)
+      there = subst (λ z. CallMatches z (owed_call known i.func (place_of id n))) at (h.keys row_key)
+
+      func : r.func ≡ j.func
+      func = let both = same_some (sym there ∙ owed_before) in ap (λ z. z.0) both

@@ -1,0 +1,236 @@
+-- The decision: its row is added, at the step of Begin. No item owes more, and no owner changes.
+use Rattle.std.specs.Option.{is_none}
+use Rattle.std.proofs.Common.{◌≡◌, ℕ, ◌==◌, ◌&&◌, ◌||◌, not, Bool, true, false, length, Option, None, Some, refl, ap, sym, ◌∙◌, subst, eqb-true, eq-eqb, is_some, if◌then◌else◌}
+use Rattle.std.specs.FinMap as map
+use Rattle.std.specs.Ordering.{is_eq}
+use Rattle.beldi_value.specs.declared.place.Owner.TheVariants.{Intent}
+use Rattle.beldi_value.specs.Id.{id_cmp}
+use Rattle.beldi_value.specs.declared.id.IntentId.{IntentId}
+use Rattle.beldi_value.specs.declared.outcome.Outcome.{Outcome}
+use Rattle.beldi_value.specs.declared.place.Place.{Place}
+use Rattle.beldi_value.specs.declared.place.TxId.{TxId}
+use Rattle.beldi_value.specs.declared.value.Value.TheVariants as value
+use Rattle.beldi_tree.specs.declared.deployment.Deployment.{Deployment}
+use Rattle.beldi_lang.specs.declared.effect.Answer.{Answer}
+use Rattle.beldi_lang.specs.declared.effect.Effect.TheVariants as effect
+use Rattle.beldi_row.specs.Key.{key_cmp}
+use Rattle.beldi_row.specs.Log.{place_eq}
+use Rattle.beldi_row.specs.Table.{Rows, set_row}
+use Rattle.beldi_row.specs.declared.key.Kind.{Kind}
+use Rattle.beldi_row.specs.declared.key.Kind.TheVariants as kinds
+use Rattle.beldi_row.specs.declared.row.Row.{Row}
+use Rattle.beldi_row.specs.declared.row.Row.TheVariants as rows
+use Rattle.beldi_row.proofs.Logs.{place_self, place_same}
+use Rattle.beldi_daal.specs.Content.{Content}
+use Rattle.beldi_readlog.specs.ReadLog.{log_key}
+use Rattle.beldi_plain.specs.Item.{Item}
+use Rattle.beldi_plain.specs.Operation.{op_of}
+use Rattle.beldi_plain.specs.Holds.{held_if, holds}
+use Rattle.beldi_plain.specs.Plain.{Instance, effect_of}
+use Rattle.beldi_step.specs.Run.{place_of}
+use Rattle.beldi_known.specs.Rows.{LogMatches, CallMatches}
+use Rattle.beldi_known.specs.Contents.{is_owner, head_key, content_of, shadow_key, shadow_of}
+use Rattle.beldi_known.specs.Known.{Known, effect_after, is_at, txs_after, txs_by, end_of, tx_now, tx_after, is_tx, touched, is_item, owed_read, note_by, ahead_by, note_or, owed_note, shadow_by, begins_at, asks_lock, owed_lockset, is_aborted, is_on, got_before, got_by, ended_by, tx_end, commit_in, ended_at, is_decided, is_mark, last_step}
+use Rattle.beldi_known.specs.Matches.{RowMatches, Matches, ItemMatches, ShadowMatches, TxsMatch, LocksetMatches, lockset_ahead, is_open}
+use Rattle.beldi_known.specs.Frame.{AnswersOne, row_added, LockedOut}
+use Rattle.beldi_known.proofs.Rows.{keys_set}
+use Rattle.beldi_known.proofs.Frame.{step_next, no_note, no_shadow}
+use Rattle.beldi_known.proofs.FrameAt.{known_set, read_one, holds_one, note_one, got_one, lockset_one, intents_same, calls_same}
+use Rattle.beldi_known.proofs.Fronts.{shadow_kept, read_elsewhere, tx_end_stays}
+use Rattle.beldi_known.proofs.Acts.{kinds_apart, is_data, is_shadow, content_apart, shadow_apart}
+
+or_false : (b c : Bool) → c ≡ false → (b || c) ≡ b
+or_false true c h = refl
+or_false false c h = h
+
+or_none : (b c : Bool) → (b || c) ≡ false → (b ≡ false) × (c ≡ false)
+or_none true c h = cc
+or_none false c h = (refl, h)
+
+module _ (d : Deployment) (known : Known) (locked : IntentId → Bool) (id : IntentId) (q r : Instance) (a : Answer) (is : map.get known id ≡ Some q) (one : AnswersOne d id q a r) (unlocked : locked id ≡ false)
+    (c : Bool) (ends : effect_of d q ≡ effect.End c) (b : ℕ) (begun : (txs_after d q q.answers).begun ≡ Some b)
+    -- nobody else that can step is in it
+    (alone : (j : IntentId) (z : Instance) (t : TxId) → map.get known j ≡ Some z → is_eq (id_cmp j id) ≡ false → z.outcome ≡ None → tx_now d j z ≡ Some t → t.intent ≡ id → t.begin ≡ b → ⊥) where
+  abbrev p : Place
+  p = place_of id (length q.answers)
+
+  abbrev after : Known
+  after = map.insert known id r
+
+  out : LockedOut locked locked id
+  out = record { out = unlocked; others = λ j other. refl }
+
+  added : row_added (length q.answers) (txs_after d q q.answers).begun (effect_of d q) a ≡ Some (b, value.Bool c)
+  added = ap (λ o. row_added (length q.answers) o (effect_of d q) a) begun ∙ ap (λ e. row_added (length q.answers) (Some b) e a) ends
+
+  no_note_here : (x : Item) → note_by x q.func (tx_now d id q) (effect_of d q) a ≡ None
+  no_note_here x = ap (λ e. note_by x q.func (tx_now d id q) e a) ends ∙ no_note x q.func (tx_now d id q) (effect.End c) a refl refl
+
+  asks_none : (f : ℕ) (x : Item) → asks_lock f x q.func (tx_now d id q) (effect_of d q) ≡ false
+  asks_none f x = ap (λ e. begins_at f (tx_now d id q) && is_item x q.func (touched e)) ends ∙ and_false (begins_at f (tx_now d id q))
+    where
+      and_false : (u : Bool) → (u && false) ≡ false
+      and_false true = refl
+      and_false false = refl
+
+  -- no item owes more
+  notes_same : (x : Item) (y : Place) → owed_note d x y.intent (locked y.intent) y.step (map.get after y.intent) ≡ owed_note d x y.intent (locked y.intent) y.step (map.get known y.intent)
+  notes_same x y = note_one d known id q r a is one locked locked out x y ∙ (elim (place_eq p y) as (λ u. place_eq p y ≡ u → (if u then note_by x q.func (tx_now d id q) (effect_of d q) a else owed_note d x y.intent (locked y.intent) y.step (map.get known y.intent))
+      ≡ owed_note d x y.intent (locked y.intent) y.step (map.get known y.intent)) [
+        | true ↦ λ e. subst (λ (z : Place). note_by x q.func (tx_now d id q) (effect_of d q) a ≡ owed_note d x z.intent (locked z.intent) z.step (map.get known z.intent)) (place_same p y e)
+            (no_note_here x ∙ sym (ap (owed_note d x id (locked id) (length q.answers)) is ∙ ap (λ z. note_or z (if length q.answers == length q.answers then ahead_by x q.func (tx_now d id q) (effect_of d q) (locked id) else None))
+            (step_next (λ ts u. note_by x q.func (tx_after d id q ts) (effect_after d q ts) u) q.answers) ∙ by_bool (length q.answers == length q.answers) (tx_now d id q) (locked id) unlocked))
+        | false ↦ λ e. refl
+      ] refl)
+    where
+      by_bool : (u : Bool) (t : Option TxId) (v : Bool) → v ≡ false → note_or None (if u then ahead_by x q.func t (effect_of d q) v else None) ≡ None
+      by_bool true None v h = refl
+      by_bool true (Some t) true h = cc
+      by_bool true (Some t) false h = refl
+      by_bool false t v h = refl
+
+  -- nothing more is got
+  got_same : (t : TxId) (x : Item) (j : IntentId) → got_by d t x j (locked j) (map.get after j) ≡ got_by d t x j (locked j) (map.get known j)
+  got_same t x = got_one d known id q r a is one locked locked out t x (λ j u. u ≡ got_by d t x j (locked j) (map.get known j))
+      (or_false (got_before d t x id q) (is_on t x q.func (tx_now d id q) (effect_of d q) && not (is_aborted a)) (ap (λ u. u && not (is_aborted a)) no_on)
+      ∙ sym (ap (got_by d t x id (locked id)) is ∙ or_false (got_before d t x id q) (locked id && is_on t x q.func (tx_now d id q) (effect_of d q)) (ap (λ u. u && is_on t x q.func (tx_now d id q) (effect_of d q)) unlocked)))
+      (λ j other. refl)
+    where
+      no_on : is_on t x q.func (tx_now d id q) (effect_of d q) ≡ false
+      no_on = ap (λ e. is_tx t (tx_now d id q) && is_item x q.func (touched e)) ends ∙ and_false (is_tx t (tx_now d id q))
+        where
+          and_false : (u : Bool) → (u && false) ≡ false
+          and_false true = refl
+          and_false false = refl
+
+  -- what is open afterwards was open
+  pub still_open : (t : TxId) → tx_end d after t ≡ None → tx_end d known t ≡ None
+  still_open t h = by_end (tx_end d known t) refl
+    where
+      by_end : (o : Option (ℕ × Bool)) → tx_end d known t ≡ o → o ≡ None
+      by_end None e = refl
+      by_end (Some z) e = let k = sym h ∙ tx_end_stays d known locked locked id q r a is one out t z e in cc
+
+  decided_stays : (t : Option TxId) → is_decided d after t ≡ false → is_decided d known t ≡ false
+  decided_stays None h = refl
+  decided_stays (Some t) h = ap is_some (still_open t (none_of (tx_end d after t) h))
+    where
+      none_of : (o : Option (ℕ × Bool)) → is_some o ≡ false → o ≡ None
+      none_of None e = refl
+      none_of (Some z) e = cc
+
+  marks_stay : (y : Place) → is_mark d after y.step (map.get after y.intent) ≡ false → is_mark d known y.step (map.get known y.intent) ≡ false
+  marks_stay y = known_set known id r (λ j o. is_mark d after y.step o ≡ false → is_mark d known y.step (map.get known j) ≡ false)
+      (λ h. let e = or_none (is_some (ended_at d r y.step)) (is_decided d after r.within && (y.step == last_step)) h in
+      ap (is_mark d known y.step) is ∙ both (is_some (ended_at d q y.step)) (is_decided d known q.within && (y.step == last_step)) (at_end y.step e.0) (and_stays r.within q.within one.within (y.step == last_step) e.1))
+      (λ j other. elsewhere (map.get known j)) y.intent
+    where
+      both : (u v : Bool) → u ≡ false → v ≡ false → (u || v) ≡ false
+      both u v h g = ap (λ z. z || v) h ∙ g
+
+      and_stays : (t w : Option TxId) → t ≡ w → (v : Bool) → (is_decided d after t && v) ≡ false → (is_decided d known w && v) ≡ false
+      and_stays t w same false g = and_false (is_decided d known w)
+        where
+          and_false : (u : Bool) → (u && false) ≡ false
+          and_false true = refl
+          and_false false = refl
+      and_stays t w same true g = ap (λ z. z && true) (ap (is_decided d known) (sym same) ∙ decided_stays t (and_only (is_decided d after t) g))
+        where
+          and_only : (u : Bool) → (u && true) ≡ false → u ≡ false
+          and_only true k = k
+          and_only false k = refl
+
+      at_end : (k : ℕ) → is_some (ended_at d r k) ≡ false → is_some (ended_at d q k) ≡ false
+      at_end k h = by_step (k == length q.answers) refl (sym (ap is_some (one.marks k)) ∙ h)
+        where
+          by_step : (u : Bool) → (k == length q.answers) ≡ u → is_some (if u then commit_in (effect_of d q) else ended_at d q k) ≡ false → is_some (ended_at d q k) ≡ false
+          by_step true e g = ap is_some (subst (λ n. ended_at d q n ≡ None) (sym (eqb-true k (length q.answers) e)) (step_next (λ ts u. commit_in (effect_after d q ts)) q.answers))
+          by_step false e g = g
+
+      elsewhere : (o : Option Instance) → is_mark d after y.step o ≡ false → is_mark d known y.step o ≡ false
+      elsewhere None h = refl
+      elsewhere (Some z) h = let e = or_none (is_some (ended_at d z y.step)) (is_decided d after z.within && (y.step == last_step)) h in
+          both (is_some (ended_at d z y.step)) (is_decided d known z.within && (y.step == last_step)) e.0 (and_stays z.within z.within refl (y.step == last_step) e.1)
+
+  -- all other transactions are as before
+  tx_end_apart : (t : TxId) → (t.intent ≡ id → t.begin ≡ b → ⊥) → tx_end d after t ≡ tx_end d known t
+  tx_end_apart t apart = known_set known id r (λ j o. t.intent ≡ j → ended_by d t.begin o ≡ ended_by d t.begin (map.get known j))
+      (λ own. one.ends t.begin ∙ ap (λ e. (txs_by (length q.answers) e (txs_after d q q.answers)).ends t.begin) ends
+      ∙ ap (λ o. if is_at t.begin o then Some (length q.answers, c) else end_of d q t.begin) begun ∙ by_test own (t.begin == b) refl ∙ ap (ended_by d t.begin) (sym is))
+      (λ j other own. refl) t.intent refl
+    where
+      by_test : t.intent ≡ id → (u : Bool) → (t.begin == b) ≡ u → (if u then Some (length q.answers, c) else end_of d q t.begin) ≡ end_of d q t.begin
+      by_test own true e = absurd (apart own (eqb-true t.begin b e))
+      by_test own false e = refl
+
+  -- a lockset row that is ahead is of another transaction
+  owed_same : (f : ℕ) (x : Item) (j : IntentId) → owed_lockset d f x j (map.get after j) ≡ owed_lockset d f x j (map.get known j)
+  owed_same f x j = lockset_one d known id q r a is one f x j ∙ ap (λ u. owed_lockset d f x j (map.get known j) || (is_eq (id_cmp j id) && u)) (asks_none f x) ∙ by_bool (owed_lockset d f x j (map.get known j)) (is_eq (id_cmp j id))
+    where
+      by_bool : (u v : Bool) → (u || (v && false)) ≡ u
+      by_bool true v = refl
+      by_bool false true = refl
+      by_bool false false = refl
+
+  ahead_apart : (f : ℕ) (x : Item) (j : IntentId) → is_eq (id_cmp j id) ≡ false → (o : Option Instance) → map.get known j ≡ o → lockset_ahead d after f x j o ≡ lockset_ahead d known f x j o
+  ahead_apart f x j other None at = refl
+  ahead_apart f x j other (Some z) at = by_outcome z.outcome refl
+    where
+      by_tx : z.outcome ≡ None → (t : Option TxId) → tx_now d j z ≡ t → is_open d after t ≡ is_open d known t
+      by_tx none None e = refl
+      by_tx none (Some t) e = ap (λ u. not (is_some u)) (tx_end_apart t (alone j z t at other none e))
+
+      by_outcome : (o : Option Outcome) → z.outcome ≡ o → (is_none o && (is_open d after (tx_now d j z) && (begins_at f (tx_now d j z) && is_item x z.func (touched (effect_of d z)))))
+          ≡ (is_none o && (is_open d known (tx_now d j z) && (begins_at f (tx_now d j z) && is_item x z.func (touched (effect_of d z)))))
+      by_outcome None e = ap (λ u. u && (begins_at f (tx_now d j z) && is_item x z.func (touched (effect_of d z)))) (by_tx e (tx_now d j z) refl)
+      by_outcome (Some w) e = refl
+
+  locksets_same : (f : ℕ) (x : Item) (j : IntentId) (row : Option Row) → LocksetMatches row (owed_lockset d f x j (map.get known j)) (lockset_ahead d known f x j (map.get known j))
+      → LocksetMatches row (owed_lockset d f x j (map.get after j)) (lockset_ahead d after f x j (map.get after j))
+  locksets_same f x j None g = owed_same f x j ∙ g
+  locksets_same f x j (Some rows.Lockset) g = ap (λ u. u || lockset_ahead d after f x j (map.get after j)) (owed_same f x j) ∙ known_set known id r (λ i o. (owed_lockset d f x i (map.get known i) || lockset_ahead d known f x i (map.get known i)) ≡ true → (owed_lockset d f x i (map.get known i) || lockset_ahead d after f x i o) ≡ true)
+      (λ k. by_first (owed_lockset d f x id (map.get known id)) (lockset_ahead d after f x id (Some r)) (sym (ap (λ o. owed_lockset d f x id (map.get known id) || lockset_ahead d known f x id o) is ∙ or_false (owed_lockset d f x id (map.get known id)) (lockset_ahead d known f x id (Some q)) not_ahead) ∙ k))
+      (λ i other k. ap (λ u. owed_lockset d f x i (map.get known i) || u) (ahead_apart f x i other (map.get known i) refl) ∙ k) j g
+    where
+      three : (u v w : Bool) → (u && (v && (w && false))) ≡ false
+      three true true true = refl
+      three true true false = refl
+      three true false w = refl
+      three false v w = refl
+
+      not_ahead : lockset_ahead d known f x id (Some q) ≡ false
+      not_ahead = ap (λ e. is_none q.outcome && (is_open d known (tx_now d id q) && (begins_at f (tx_now d id q) && is_item x q.func (touched e)))) ends ∙ three (is_none q.outcome) (is_open d known (tx_now d id q)) (begins_at f (tx_now d id q))
+
+      by_first : (u v : Bool) → u ≡ true → (u || v) ≡ true
+      by_first u v k = ap (λ z. z || v) k
+  locksets_same f x j (Some (rows.Intent i)) g = g
+  locksets_same f x j (Some (rows.ReadLog i)) g = g
+  locksets_same f x j (Some (rows.Invoke i)) g = g
+  locksets_same f x j (Some (rows.Cell i)) g = g
+
+  pub decided : (m : Rows) → Matches d m known locked → Matches d (set_row m (log_key q.func (place_of id b)) (Some (rows.ReadLog (value.Bool c)))) after locked
+  decided m h = let k = log_key q.func (place_of id b) in let v : Option Row = Some (rows.ReadLog (value.Bool c)) in record {
+    keys = keys_set m k v (λ l z. RowMatches d after l.home l.kind z) (subst (λ z. z ≡ Some (value.Bool c)) (sym here) refl) (λ l other. by_kind m l.home l.kind other (h.keys l));
+    items = λ x. subst (ItemMatches d after locked x) (sym (content_apart m k v x (kinds_apart is_data (head_key x) k refl refl))) (record {
+      owner = holds_one d known id q r a is one x (λ j u. is_owner (content_of m x).owner (Intent j) ≡ u) ((h.items x).owner id ∙ sym (ap (λ e. held_if x q.func (op_of e) (holds d x (map.get known id))) ends)) (λ j other. (h.items x).owner j);
+      notes = λ y apart. (h.items x).notes y (marks_stay y apart) ∙ sym (notes_same x y);
+    });
+    shadows = λ t x. subst (ShadowMatches d after t x) (sym (shadow_apart m k v t x (kinds_apart is_shadow (shadow_key t x) k refl refl)))
+        (shadow_kept d known locked locked id q r a is one out t x (shadow_of m t x) (ap (λ e. shadow_by t x q.func (tx_now d id q) e a) ends ∙ no_shadow t x q.func (tx_now d id q) (effect.End c) a refl) (h.shadows t x));
+    txs = λ x. subst (λ (z : Content). TxsMatch d after locked x z.owner) (sym (content_apart m k v x (kinds_apart is_data (head_key x) k refl refl))) (record {
+      owned_is_got = λ t e. let g = (h.txs x).owned_is_got t e in record { member = g.member; got = got_same t x g.member ∙ g.got };
+      got_is_owned = λ t g open_still. (h.txs x).got_is_owned t (record { member = g.member; got = sym (got_same t x g.member) ∙ g.got }) (still_open t open_still);
+    });
+  }
+    where
+      here : owed_read d after q.func (place_of id b) ≡ Some (value.Bool c)
+      here = read_one d known id q r a is one b (value.Bool c) added q.func (place_of id b) ∙ ap (λ u. if u then (if q.func == q.func then Some (value.Bool c) else None) else owed_read d known q.func (place_of id b)) (place_self (place_of id b))
+          ∙ ap (λ u. if u then Some (value.Bool c) else None) (eq-eqb q.func q.func refl)
+
+      by_kind : (m : Rows) (home : ℕ) (kind : Kind) → is_eq (key_cmp (record { home = home; kind = kind }) (log_key q.func (place_of id b))) ≡ false → RowMatches d known home kind (map.get m (record { home = home; kind = kind }))
+          → RowMatches d after home kind (map.get m (record { home = home; kind = kind }))
+      by_kind m home (kinds.Intent j) other g = intents_same d known id q r a is one home j (map.get m (record { home = home; kind = kinds.Intent j })) g
+      by_kind m home (kinds.Invoke y) other g = subst (CallMatches (map.get m (record { home = home; kind = kinds.Invoke y }))) (sym (calls_same d known id q r a is one home y)) g
+      by_kind m home (kinds.ReadLog y) other g = subst (LogMatches (map.get m (log_key home y))) (sym (read_elsewhere d known locked locked id q r a is one out b (value.Bool c) added home y other)) g
+      by_kind m home (kinds.Lockset j f t z) other g = locksets_same f (record { func = home; table = t; key = z }) j (map.get m (record { home = home; kind = kinds.Lockset j f t z })) g
+      by_kind m home kind other g = g

@@ -1,0 +1,335 @@
+-- What an instance owes after one answer more, and after what takes no turn.
+use Rattle.std.proofs.Common.{◌≡◌, ◌≤◌, ◌<◌, ℕ, ◌==◌, ◌+◌, ◌&&◌, ◌||◌, not, Bool, true, false, List, [], ◌∷◌, ◌++◌, length, length-append, take, Option, None, Some, refl, ap, sym, ◌∙◌, subst, append_assoc, append-nil, eqb-true, arith, if◌then◌else◌, is_some}
+use Rattle.std.specs.Prelude.{slice_get}
+use Rattle.std.proofs.lemmas.List.{take-append-le}
+use Rattle.std.proofs.Math.Seq.{take-append_seam}
+use Rattle.beldi_value.specs.declared.id.IntentId.{IntentId}
+use Rattle.beldi_value.specs.declared.outcome.Outcome.{Outcome}
+use Rattle.beldi_value.specs.declared.place.TxId.{TxId}
+use Rattle.beldi_value.specs.declared.value.Value.TheVariants as value
+use Rattle.beldi_tree.specs.declared.deployment.Deployment.{Deployment}
+use Rattle.beldi_lang.specs.declared.effect.Answer.{Answer}
+use Rattle.beldi_lang.specs.declared.effect.Answer.TheVariants as answer
+use Rattle.beldi_lang.specs.declared.effect.Effect.{Effect}
+use Rattle.beldi_lang.specs.declared.effect.Effect.TheVariants as effect
+use Rattle.beldi_row.specs.declared.notes.Note.{Note}
+use Rattle.beldi_plain.specs.Item.{Item}
+use Rattle.beldi_plain.specs.Operation.{op_of}
+use Rattle.beldi_plain.specs.Holds.{held_if, holds}
+use Rattle.beldi_plain.specs.Plain.{Instance, effect_of, answered}
+use Rattle.beldi_plain.specs.Executor.{answered_if}
+use Rattle.beldi_order.proofs.Operations.{held_pushed}
+use Rattle.beldi_step.specs.Run.{place_of}
+use Rattle.beldi_known.specs.Frame.{AnswersOne, row_added, put}
+use Rattle.beldi_known.specs.Rows.{body_of}
+use Rattle.beldi_known.specs.Owed.{note_of, value_for}
+use Rattle.beldi_known.specs.Known.{effect_after, answer_at_once, once_if, once, at_once, along, at_step, Txs, none_begun, is_at, txs_by, txs_after, end_of, tx_after, tx_now, is_tx, touched, is_item, write_op, read_at, decision_by, value_or, row_at, lock_note, note_by, answered_note, shadow_by, shadow_at, asks_lock, lockset_of, is_aborted, is_on, got_before, commit_in, ended_at, moved}
+use Rattle.beldi_known.proofs.Answers.{pushed_at, none_at_end}
+
+-- ---- folds and steps, with an answer more
+pub along_pushed : {X : Type 0} (f : List Answer → Answer → X → X) (given rest : List Answer) (a : Answer) (x : X) → along f given (rest ++ a ∷ []) x ≡ f (given ++ rest) a (along f given rest x)
+along_pushed f given [] a x = ap (λ ts. f ts a x) (sym (append-nil given))
+along_pushed f given (b ∷ rest) a x = along_pushed f (given ++ b ∷ []) rest a (f given b x) ∙ ap (λ ts. f ts a (along f (given ++ b ∷ []) rest (f given b x))) (append_assoc given (b ∷ []) rest)
+
+pub step_pushed : {X : Type 0} (f : List Answer → Answer → Option X) (xs : List Answer) (a : Answer) (n : ℕ) → at_step f (take n (xs ++ a ∷ [])) (slice_get (xs ++ a ∷ []) n) ≡ (if n == length xs then f xs a else at_step f (take n xs) (slice_get xs n))
+step_pushed f xs a n = pushed_at (λ ts o. at_step f ts o) (λ ts us. refl) xs a n
+
+-- nothing is owed at the next step
+pub step_next : {X : Type 0} (f : List Answer → Answer → Option X) (xs : List Answer) → at_step f (take (length xs) xs) (slice_get xs (length xs)) ≡ None
+step_next f xs = ap (at_step f (take (length xs) xs)) (none_at_end xs)
+
+-- an answer that owes nothing
+pub step_same : {X : Type 0} (f : List Answer → Answer → Option X) (xs : List Answer) (a : Answer) (n : ℕ) → f xs a ≡ None → at_step f (take n (xs ++ a ∷ [])) (slice_get (xs ++ a ∷ []) n) ≡ at_step f (take n xs) (slice_get xs n)
+step_same f xs a n none = step_pushed f xs a n ∙ (elim (n == length xs) as (λ b. (n == length xs) ≡ b → (if b then f xs a else at_step f (take n xs) (slice_get xs n)) ≡ at_step f (take n xs) (slice_get xs n)) [
+  | true ↦ λ e. none ∙ sym (subst (λ m. at_step f (take m xs) (slice_get xs m) ≡ None) (sym (eqb-true n (length xs) e)) (step_next f xs))
+  | false ↦ λ e. refl
+] refl)
+
+-- ---- no Begin is open or ended that is not before the next step
+pub record Fits (n : ℕ) (s : Txs) : Type 0 where
+  pub fresh : (b : ℕ) → n ≤ b → s.ends b ≡ None
+  pub before : (b : ℕ) → s.begun ≡ Some b → b < n
+  pub not_ended : (b : ℕ) → s.begun ≡ Some b → s.ends b ≡ None
+  pub below : (b : ℕ) (z : ℕ × Bool) → s.ends b ≡ Some z → b < n
+
+at_of : (b : ℕ) (o : Option ℕ) → is_at b o ≡ true → o ≡ Some b
+at_of b None g = cc
+at_of b (Some m) g = sym (ap Some (eqb-true b m g))
+
+later : (n : ℕ) (s : Txs) → Fits n s → Fits (n + 1) s
+later n s h = record { fresh = λ b g. h.fresh b (omega (arith, g)); before = λ b g. let k = h.before b g in omega (arith, k); not_ended = h.not_ended; below = λ b z g. let k = h.below b z g in omega (arith, k) }
+
+fits_by : (e : Effect) (n : ℕ) (s : Txs) → Fits n s → Fits (n + 1) (txs_by n e s)
+fits_by effect.Begin n s h = record {
+  fresh = λ b g. h.fresh b (omega (arith, g));
+  before = λ b g. let k : n ≡ b = cc in omega (arith, k);
+  not_ended = λ b g. let k : n ≡ b = cc in h.fresh b (omega (arith, k));
+  below = λ b z g. let k = h.below b z g in omega (arith, k);
+}
+fits_by (effect.End c) n s h = record {
+  fresh = λ b g. by_test b g (is_at b s.begun) refl;
+  before = λ b g. cc;
+  not_ended = λ b g. cc;
+  below = λ b z g. under b z (is_at b s.begun) refl g;
+}
+  where
+    under : (b : ℕ) (z : ℕ × Bool) (t : Bool) → is_at b s.begun ≡ t → (if t then Some (n, c) else s.ends b) ≡ Some z → b < n + 1
+    under b z true e g = let k = h.before b (at_of b s.begun e) in omega (arith, k)
+    under b z false e g = let k = h.below b z g in omega (arith, k)
+
+    by_test : (b : ℕ) → n + 1 ≤ b → (t : Bool) → is_at b s.begun ≡ t → (if t then Some (n, c) else s.ends b) ≡ None
+    by_test b g true e = let k = h.before b (at_of b s.begun e) in absurd (omega (arith, g, k))
+    by_test b g false e = h.fresh b (omega (arith, g))
+fits_by e n s h = later n s h
+
+pub txs_pushed : (d : Deployment) (q : Instance) (given : List Answer) (a : Answer) → txs_after d q (given ++ a ∷ []) ≡ txs_by (length given) (effect_after d q given) (txs_after d q given)
+txs_pushed d q given a = along_pushed (λ ts b s. txs_by (length ts) (effect_after d q ts) s) [] given a none_begun
+
+fits_along : (d : Deployment) (q : Instance) (given rest : List Answer) (s : Txs) → Fits (length given) s → Fits (length given + length rest) (along (λ ts a s. txs_by (length ts) (effect_after d q ts) s) given rest s)
+fits_along d q given [] s h = subst (λ n. Fits n s) (omega arith) h
+fits_along d q given (a ∷ rest) s h =
+    let l = length-append given (a ∷ []) in
+    let here : Fits (length (given ++ a ∷ [])) (txs_by (length given) (effect_after d q given) s) = subst (λ n. Fits n (txs_by (length given) (effect_after d q given) s)) (sym l) (fits_by (effect_after d q given) (length given) s h) in
+    subst (λ n. Fits n (along (λ ts a s. txs_by (length ts) (effect_after d q ts) s) (given ++ a ∷ []) rest (txs_by (length given) (effect_after d q given) s))) (omega (arith, l)) (fits_along d q (given ++ a ∷ []) rest (txs_by (length given) (effect_after d q given) s) here)
+
+pub fits : (d : Deployment) (q : Instance) → Fits (length q.answers) (txs_after d q q.answers)
+fits d q = subst (λ n. Fits n (txs_after d q q.answers)) (omega arith) (fits_along d q [] q.answers none_begun (record { fresh = λ b g. refl; before = λ b g. cc; not_ended = λ b g. cc; below = λ b z g. cc }))
+
+-- ---- what is open or ended is a Begin
+pub record Begins (d : Deployment) (q : Instance) (given : List Answer) (s : Txs) : Type 0 where
+  pub begun : (b : ℕ) → s.begun ≡ Some b → effect_after d q (take b given) ≡ effect.Begin
+  pub ended : (b : ℕ) (z : ℕ × Bool) → s.ends b ≡ Some z → effect_after d q (take b given) ≡ effect.Begin
+
+module _ (d : Deployment) (q : Instance) (given : List Answer) (a : Answer) (s : Txs) (f : Fits (length given) s) (h : Begins d q given s) where
+  same_front : (b : ℕ) → b < length given → effect_after d q (take b given) ≡ effect.Begin → effect_after d q (take b (given ++ a ∷ [])) ≡ effect.Begin
+  same_front b g is = ap (effect_after d q) (take-append-le b given (a ∷ []) (omega (arith, g))) ∙ is
+
+  kept_begins : Begins d q (given ++ a ∷ []) s
+  kept_begins = record { begun = λ b g. same_front b (f.before b g) (h.begun b g); ended = λ b z g. same_front b (f.below b z g) (h.ended b z g) }
+
+  begins_by : (e : Effect) → effect_after d q given ≡ e → Begins d q (given ++ a ∷ []) (txs_by (length given) e s)
+  begins_by effect.Begin is = record {
+    begun = λ b g. let k : length given ≡ b = cc in subst (λ m. effect_after d q (take m (given ++ a ∷ [])) ≡ effect.Begin) k (ap (effect_after d q) (take-append_seam given (a ∷ [])) ∙ is);
+    ended = kept_begins.ended;
+  }
+  begins_by (effect.End c) is = record {
+    begun = λ b g. cc;
+    ended = λ b z g. by_test b z (is_at b s.begun) refl g;
+  }
+    where
+      by_test : (b : ℕ) (z : ℕ × Bool) (t : Bool) → is_at b s.begun ≡ t → (if t then Some (length given, c) else s.ends b) ≡ Some z → effect_after d q (take b (given ++ a ∷ [])) ≡ effect.Begin
+      by_test b z true e g = kept_begins.begun b (at_of b s.begun e)
+      by_test b z false e g = kept_begins.ended b z g
+  begins_by e is = kept_begins
+
+begins_along : (d : Deployment) (q : Instance) (given rest : List Answer) (s : Txs) → Fits (length given) s → Begins d q given s → Begins d q (given ++ rest) (along (λ ts a s. txs_by (length ts) (effect_after d q ts) s) given rest s)
+begins_along d q given [] s f h = subst (λ ts. Begins d q ts s) (sym (append-nil given)) h
+begins_along d q given (a ∷ rest) s f h = subst (λ ts. Begins d q ts (along (λ ts a s. txs_by (length ts) (effect_after d q ts) s) (given ++ a ∷ []) rest (txs_by (length given) (effect_after d q given) s))) (append_assoc given (a ∷ []) rest)
+    (begins_along d q (given ++ a ∷ []) rest (txs_by (length given) (effect_after d q given) s)
+    (subst (λ n. Fits n (txs_by (length given) (effect_after d q given) s)) (sym (length-append given (a ∷ []))) (fits_by (effect_after d q given) (length given) s f))
+    (begins_by d q given a s f h (effect_after d q given) refl))
+
+pub begins : (d : Deployment) (q : Instance) (given : List Answer) → Begins d q given (txs_after d q given)
+begins d q given = begins_along d q [] given none_begun (record { fresh = λ b g. refl; before = λ b g. cc; not_ended = λ b g. cc; below = λ b z g. cc }) (record { begun = λ b g. cc; ended = λ b z g. cc })
+
+-- ---- an End that is answered stays
+pub ends_kept : (e : Effect) (n : ℕ) (s : Txs) (b : ℕ) (z : ℕ × Bool) → Fits n s → s.ends b ≡ Some z → (txs_by n e s).ends b ≡ Some z
+ends_kept (effect.End c) n s b z f h = by_test (is_at b s.begun) refl
+  where
+    by_test : (t : Bool) → is_at b s.begun ≡ t → (if t then Some (n, c) else s.ends b) ≡ Some z
+    by_test true e = let k = sym (f.not_ended b (at_of b s.begun e)) ∙ h in cc
+    by_test false e = h
+ends_kept effect.Begin n s b z f h = h
+ends_kept e n s b z f h = h
+
+ends_stay : (d : Deployment) (q : Instance) (given rest : List Answer) (s : Txs) (b : ℕ) (z : ℕ × Bool) → Fits (length given) s → s.ends b ≡ Some z → (along (λ ts a s. txs_by (length ts) (effect_after d q ts) s) given rest s).ends b ≡ Some z
+ends_stay d q given [] s b z f h = h
+ends_stay d q given (a ∷ rest) s b z f h = ends_stay d q (given ++ a ∷ []) rest (txs_by (length given) (effect_after d q given) s) b z
+    (subst (λ n. Fits n (txs_by (length given) (effect_after d q given) s)) (sym (length-append given (a ∷ []))) (fits_by (effect_after d q given) (length given) s f)) (ends_kept (effect_after d q given) (length given) s b z f h)
+
+pub along_append : {X : Type 0} (f : List Answer → Answer → X → X) (given xs ys : List Answer) (x : X) → along f given (xs ++ ys) x ≡ along f (given ++ xs) ys (along f given xs x)
+along_append f given [] ys x = ap (λ ts. along f ts ys x) (sym (append-nil given))
+along_append f given (a ∷ xs) ys x = along_append f (given ++ a ∷ []) xs ys (f given a x) ∙ ap (λ ts. along f ts ys (along f (given ++ a ∷ []) xs (f given a x))) (append_assoc given (a ∷ []) xs)
+
+pub fits_at : (d : Deployment) (q : Instance) (given : List Answer) → Fits (length given) (txs_after d q given)
+fits_at d q given = fits d (record q { answers = given })
+
+pub ended_stays : (d : Deployment) (q : Instance) (given rest : List Answer) (b : ℕ) (z : ℕ × Bool) → given ++ rest ≡ q.answers → (txs_after d q given).ends b ≡ Some z → end_of d q b ≡ Some z
+ended_stays d q given rest b z is h = ap (λ ts. (txs_after d q ts).ends b) (sym is) ∙ ap (λ (s : Txs). s.ends b) (along_append (λ ts a s. txs_by (length ts) (effect_after d q ts) s) [] given rest none_begun)
+    ∙ ends_stay d q given rest (txs_after d q given) b z (fits_at d q given) h
+
+-- .. and of an answer that is to come, too
+pub ends_go_on : (d : Deployment) (q : Instance) (a : Answer) (b : ℕ) (z : ℕ × Bool) → end_of d q b ≡ Some z → end_of d (answered q a) b ≡ Some z
+ends_go_on d q a b z h = ended_stays d (answered q a) q.answers (a ∷ []) b z refl h
+
+-- ---- an answer more
+module _ (d : Deployment) (id : IntentId) (q : Instance) (a : Answer) where
+  abbrev n : ℕ
+  n = length q.answers
+
+  abbrev s : Txs
+  s = txs_after d q q.answers
+
+  ends_more : (b : ℕ) → end_of d (answered q a) b ≡ (txs_by n (effect_of d q) s).ends b
+  ends_more b = ap (λ (z : Txs). z.ends b) (txs_pushed d q q.answers a)
+
+  read_more : (m : ℕ) → read_at d (answered q a) m ≡ (if m == n then value_for (effect_of d q) a else read_at d q m)
+  read_more m = step_pushed (λ given b. value_for (effect_after d q given) b) q.answers a m
+
+  read_same : value_for (effect_of d q) a ≡ None → (m : ℕ) → read_at d (answered q a) m ≡ read_at d q m
+  read_same none m = step_same (λ given b. value_for (effect_after d q given) b) q.answers a m none
+
+  -- by the effect
+  rows_by : (e : Effect) → effect_of d q ≡ e → (m : ℕ) → value_or (decision_by ((txs_by n e s).ends m)) (read_at d (answered q a) m) ≡ put (row_added n s.begun e a) m (row_at d q m)
+  rows_by (effect.Read t k) is m = by_answer a refl
+    where
+      quiet : value_for (effect.Read t k) a ≡ None → value_or (decision_by (s.ends m)) (read_at d (answered q a) m) ≡ row_at d q m
+      quiet none = ap (value_or (decision_by (s.ends m))) (read_same (ap (λ e. value_for e a) is ∙ none) m)
+
+      by_answer : (b : Answer) → a ≡ b → value_or (decision_by (s.ends m)) (read_at d (answered q a) m) ≡ put (row_added n s.begun (effect.Read t k) b) m (row_at d q m)
+      by_answer (answer.Value v) same = ap (value_or (decision_by (s.ends m))) (read_more m) ∙ (elim (m == n) as (λ c. (m == n) ≡ c → value_or (decision_by (s.ends m)) (if c then value_for (effect_of d q) a else read_at d q m) ≡ (if c then Some v else row_at d q m)) [
+        | true ↦ λ e. ap (λ o. value_or (decision_by o) (value_for (effect_of d q) a)) ((fits d q).fresh m (let k = eqb-true m n e in omega (arith, k))) ∙ ap (λ e. value_for e a) is ∙ ap (value_for (effect.Read t k)) same
+        | false ↦ λ e. refl
+      ] refl)
+      by_answer answer.Done same = quiet (ap (value_for (effect.Read t k)) same)
+      by_answer (answer.Fault c) same = quiet (ap (value_for (effect.Read t k)) same)
+      by_answer (answer.Aborted c) same = quiet (ap (value_for (effect.Read t k)) same)
+  rows_by (effect.End c) is m = ap (value_or (decision_by (if is_at m s.begun then Some (n, c) else s.ends m))) (read_same (ap (λ e. value_for e a) is) m) ∙ by_begun s.begun
+    where
+      by_begun : (o : Option ℕ) → value_or (decision_by (if is_at m o then Some (n, c) else s.ends m)) (read_at d q m) ≡ put (row_added n o (effect.End c) a) m (row_at d q m)
+      by_begun None = refl
+      by_begun (Some b) = by_test (m == b)
+        where
+          by_test : (t : Bool) → value_or (decision_by (if t then Some (n, c) else s.ends m)) (read_at d q m) ≡ (if t then Some (value.Bool c) else row_at d q m)
+          by_test true = refl
+          by_test false = refl
+  rows_by effect.Begin is m = ap (value_or (decision_by (s.ends m))) (read_same (ap (λ e. value_for e a) is) m)
+  rows_by e is m = ap (value_or (decision_by (s.ends m))) (read_same (ap (λ e. value_for e a) is) m)
+
+  pub answers_one : AnswersOne d id q a (answered q a)
+  answers_one = record {
+    func = refl;
+    within = refl;
+    outcome = refl;
+    body = refl;
+    rows = λ m. ap (λ o. value_or (decision_by o) (read_at d (answered q a) m)) (ends_more m) ∙ rows_by (effect_of d q) refl m;
+    notes = λ x m. step_pushed (λ given b. note_by x q.func (tx_after d id q given) (effect_after d q given) b) q.answers a m;
+    shadows = λ t x m. step_pushed (λ given b. shadow_by t x q.func (tx_after d id q given) (effect_after d q given) b) q.answers a m;
+    locksets = λ b x. along_pushed (λ given c r. r || asks_lock b x q.func (tx_after d id q given) (effect_after d q given)) [] q.answers a false;
+    got = λ t x. along_pushed (λ given c r. r || (is_on t x q.func (tx_after d id q given) (effect_after d q given) && not (is_aborted c))) [] q.answers a false;
+    held = λ x. held_pushed d x q.func q.args (is_some q.within) [] q.answers a false;
+    ends = ends_more;
+    marks = λ m. step_pushed (λ given b. commit_in (effect_after d q given)) q.answers a m;
+  }
+
+-- ---- what takes no turn owes nothing
+pub record OwesSame (d : Deployment) (id : IntentId) (q r : Instance) : Type 0 where
+  pub func : r.func ≡ q.func
+  pub within : r.within ≡ q.within
+  pub outcome : r.outcome ≡ q.outcome
+  pub body : body_of q ≡ body_of r
+  pub rows : (m : ℕ) → row_at d r m ≡ row_at d q m
+  pub notes : (x : Item) (m : ℕ) → answered_note d x id m r ≡ answered_note d x id m q
+  pub shadows : (t : TxId) (x : Item) (m : ℕ) → shadow_at d t x id m r ≡ shadow_at d t x id m q
+  pub locksets : (b : ℕ) (x : Item) → lockset_of d b x id r ≡ lockset_of d b x id q
+  pub got : (t : TxId) (x : Item) → got_before d t x id r ≡ got_before d t x id q
+  pub held : (x : Item) → holds d x (Some r) ≡ holds d x (Some q)
+  pub ends : (b : ℕ) → end_of d r b ≡ end_of d q b
+  pub marks : (m : ℕ) → ended_at d r m ≡ ended_at d q m
+
+same_itself : (d : Deployment) (id : IntentId) (q : Instance) → OwesSame d id q q
+same_itself d id q = record { func = refl; within = refl; outcome = refl; body = refl; rows = λ m. refl; notes = λ x m. refl; shadows = λ t x m. refl; locksets = λ b x. refl; got = λ t x. refl; held = λ x. refl; ends = λ b. refl; marks = λ m. refl }
+
+same_then : (d : Deployment) (id : IntentId) (q r u : Instance) → OwesSame d id q r → OwesSame d id r u → OwesSame d id q u
+same_then d id q r u g h = record {
+  func = h.func ∙ g.func;
+  within = h.within ∙ g.within;
+  outcome = h.outcome ∙ g.outcome;
+  body = g.body ∙ h.body;
+  rows = λ m. h.rows m ∙ g.rows m;
+  notes = λ x m. h.notes x m ∙ g.notes x m;
+  shadows = λ t x m. h.shadows t x m ∙ g.shadows t x m;
+  locksets = λ b x. h.locksets b x ∙ g.locksets b x;
+  got = λ t x. h.got t x ∙ g.got t x;
+  held = λ x. h.held x ∙ g.held x;
+  ends = λ b. h.ends b ∙ g.ends b;
+  marks = λ m. h.marks m ∙ g.marks m;
+}
+
+or_false : (b c : Bool) → c ≡ false → (b || c) ≡ b
+or_false true c h = refl
+or_false false c h = h
+
+and_no : (b c : Bool) → c ≡ false → (b && c) ≡ false
+and_no true c h = h
+and_no false c h = refl
+
+-- an effect that is no operation
+pub no_note : (x : Item) (f : ℕ) (t : Option TxId) (e : Effect) (a : Answer) → op_of e ≡ None → touched e ≡ None → note_by x f t e a ≡ None
+no_note x f None e a h g = ap (λ o. note_of x f o a) h
+no_note x f (Some t) e a h g = ap (λ o. if is_item x f o then lock_note a else None) g
+
+pub no_shadow : (t : TxId) (x : Item) (f : ℕ) (s : Option TxId) (e : Effect) (a : Answer) → write_op e ≡ None → shadow_by t x f s e a ≡ None
+no_shadow t x f s e a h = ap (λ o. if is_tx t s then note_of x f o a else None) h ∙ by_test (is_tx t s)
+  where
+    by_test : (b : Bool) → (λ (o : Option Note). (if b then o else None)) None ≡ None
+    by_test true = refl
+    by_test false = refl
+
+-- .. and ends no transaction
+quiet_same : (d : Deployment) (id : IntentId) (q : Instance) (a : Answer) (e : Effect) → effect_of d q ≡ e → op_of e ≡ None → touched e ≡ None → write_op e ≡ None
+    → row_added (length q.answers) (txs_after d q q.answers).begun e a ≡ None → ((b : ℕ) → (txs_by (length q.answers) e (txs_after d q q.answers)).ends b ≡ end_of d q b) → commit_in e ≡ None → OwesSame d id q (answered q a)
+quiet_same d id q a e is op touch writes row ends none =
+    let h = answers_one d id q a in
+    record {
+      func = refl;
+      within = refl;
+      outcome = refl;
+      body = refl;
+      rows = λ m. h.rows m ∙ ap (λ z. put z m (row_at d q m)) (ap (λ z. row_added (length q.answers) (txs_after d q q.answers).begun z a) is ∙ row);
+      notes = λ x m. step_same (λ given b. note_by x q.func (tx_after d id q given) (effect_after d q given) b) q.answers a m (ap (λ z. note_by x q.func (tx_now d id q) z a) is ∙ no_note x q.func (tx_now d id q) e a op touch);
+      shadows = λ t x m. step_same (λ given b. shadow_by t x q.func (tx_after d id q given) (effect_after d q given) b) q.answers a m (ap (λ z. shadow_by t x q.func (tx_now d id q) z a) is ∙ no_shadow t x q.func (tx_now d id q) e a writes);
+      locksets = λ b x. h.locksets b x ∙ or_false (lockset_of d b x id q) _ (and_no _ _ (ap (is_item x q.func) (ap touched is ∙ touch)));
+      got = λ t x. h.got t x ∙ or_false (got_before d t x id q) _ (no_on t x);
+      held = λ x. h.held x ∙ ap (λ z. held_if x q.func z (holds d x (Some q))) (ap op_of is ∙ op);
+      ends = λ b. h.ends b ∙ ap (λ (z : Effect). (txs_by (length q.answers) z (txs_after d q q.answers)).ends b) is ∙ ends b;
+      marks = λ m. step_same (λ given b. commit_in (effect_after d q given)) q.answers a m (ap commit_in is ∙ none);
+    }
+  where
+    no_on : (t : TxId) (x : Item) → (is_on t x q.func (tx_now d id q) (effect_of d q) && not (is_aborted a)) ≡ false
+    no_on t x = ap (λ b. b && not (is_aborted a)) (and_no (is_tx t (tx_now d id q)) _ (ap (is_item x q.func) (ap touched is ∙ touch)))
+
+once_same : (d : Deployment) (id : IntentId) (q : Instance) → OwesSame d id q (once d id q)
+once_same d id q = by_outcome q.outcome
+  where
+    by_effect : (e : Effect) → effect_of d q ≡ e → OwesSame d id q (answered_if q (answer_at_once id (length q.answers) e))
+    by_effect effect.Begin is = quiet_same d id q answer.Done effect.Begin is refl refl refl refl (λ b. refl) refl
+    by_effect effect.Abort is = quiet_same d id q (answer.Aborted (record { place = place_of id (length q.answers); holder = None })) effect.Abort is refl refl refl refl (λ b. refl) refl
+    by_effect e is = same_itself d id q
+
+    by_outcome : (o : Option Outcome) → OwesSame d id q (once_if d id q o)
+    by_outcome None = by_effect (effect_of d q) refl
+    by_outcome (Some o) = same_itself d id q
+
+pub at_once_same : (d : Deployment) (id : IntentId) (q : Instance) → OwesSame d id q (at_once d id q)
+at_once_same d id q = same_then d id q (once d id q) (at_once d id q) (once_same d id q) (once_same d id (once d id q))
+
+-- ---- an answer, and then what takes no turn
+pub moved_one : (d : Deployment) (id : IntentId) (q : Instance) (a : Answer) → AnswersOne d id q a (moved d id q a)
+moved_one d id q a =
+    let g = answers_one d id q a in
+    let h = at_once_same d id (answered q a) in
+    record {
+      func = h.func;
+      within = h.within;
+      outcome = h.outcome;
+      body = h.body;
+      rows = λ m. h.rows m ∙ g.rows m;
+      notes = λ x m. h.notes x m ∙ g.notes x m;
+      shadows = λ t x m. h.shadows t x m ∙ g.shadows t x m;
+      locksets = λ b x. h.locksets b x ∙ g.locksets b x;
+      got = λ t x. h.got t x ∙ g.got t x;
+      held = λ x. h.held x ∙ g.held x;
+      ends = λ b. h.ends b ∙ g.ends b;
+      marks = λ m. h.marks m ∙ g.marks m;
+    }

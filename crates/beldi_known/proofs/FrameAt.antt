@@ -1,0 +1,171 @@
+-- What is owed at each key, after an instance was answered: it changes at that place alone.
+use Rattle.std.proofs.Common.{◌≡◌, ℕ, ◌==◌, ◌&&◌, ◌||◌, not, Bool, true, false, cond, length, Option, None, Some, refl, ap, sym, ◌∙◌, subst, eqb-true, eq-eqb, if◌then◌else◌}
+use Rattle.std.specs.FinMap as map
+use Rattle.std.specs.FinMap.{get-insert}
+use Rattle.std.specs.Ordering.{is_eq}
+use Rattle.std.proofs.lemmas.Cmp.{tied_itself}
+use Rattle.beldi_value.specs.Id.{id_cmp, id_total, has_no_hops, child_of}
+use Rattle.beldi_value.specs.declared.id.IntentId.{IntentId}
+use Rattle.beldi_value.specs.declared.place.Place.{Place}
+use Rattle.beldi_value.specs.declared.place.TxId.{TxId}
+use Rattle.beldi_value.specs.declared.value.Value.{Value}
+use Rattle.beldi_tree.specs.declared.deployment.Deployment.{Deployment}
+use Rattle.beldi_lang.specs.declared.effect.Answer.{Answer}
+use Rattle.beldi_row.specs.declared.row.Body.{Body}
+use Rattle.beldi_row.specs.declared.row.Row.{Row}
+use Rattle.beldi_row.specs.declared.notes.Note.{Note}
+use Rattle.beldi_row.specs.Log.{place_eq}
+use Rattle.beldi_row.proofs.Logs.{place_same, place_self}
+use Rattle.beldi_plain.specs.Item.{Item}
+use Rattle.beldi_plain.specs.Operation.{op_of}
+use Rattle.beldi_plain.specs.Holds.{held_if, holds}
+use Rattle.beldi_plain.specs.Plain.{Instance, effect_of}
+use Rattle.beldi_order.proofs.Operations.{id_same}
+use Rattle.beldi_step.specs.Run.{place_of, is_waited}
+use Rattle.beldi_known.specs.Rows.{IntentMatches}
+use Rattle.beldi_known.specs.Owed.{called_by}
+use Rattle.beldi_known.specs.Known.{Known, txs_after, tx_now, row_at, owed_value, owed_read, note_by, answered_note, ahead_by, ahead_note, note_or, owed_note, shadow_by, owed_shadow, asks_lock, owed_lockset, is_aborted, is_on, got_before, got_by, owed_call, tx_after, effect_after}
+use Rattle.beldi_known.specs.Frame.{AnswersOne, row_added, put, LockedOut}
+use Rattle.beldi_known.proofs.Instances.{intent_same, calls_moved, same_caller, same_callee}
+use Rattle.beldi_known.proofs.Answers.{true_false}
+use Rattle.beldi_known.proofs.Frame.{step_next}
+
+pub known_set : (known : Known) (id : IntentId) (r : Instance) (P : IntentId → Option Instance → Type 0) → P id (Some r) → ((j : IntentId) → is_eq (id_cmp j id) ≡ false → P j (map.get known j)) → (j : IntentId) → P j (map.get (map.insert known id r) j)
+known_set known id r P here others j = subst (P j) (sym (get-insert id_total known id r j)) (elim (is_eq (id_cmp j id)) as (λ b. is_eq (id_cmp j id) ≡ b → P j (cond b (Some r) (map.get known j))) [
+  | true ↦ λ e. subst (λ z. P z (Some r)) (sym (id_same j id e)) here
+  | false ↦ λ e. others j e
+] refl)
+
+-- ---- a table by places, of which an instance changed one step
+module _ {X : Type 0} (known : Known) (id : IntentId) (q r : Instance) (is : map.get known id ≡ Some q) (F G : IntentId → ℕ → Option Instance → X)
+    (others : (j : IntentId) → is_eq (id_cmp j id) ≡ false → (m : ℕ) (o : Option Instance) → G j m o ≡ F j m o) where
+  pub no_place : ((m : ℕ) → G id m (Some r) ≡ F id m (Some q)) → (b : Place) → G b.intent b.step (map.get (map.insert known id r) b.intent) ≡ F b.intent b.step (map.get known b.intent)
+  no_place here b = known_set known id r (λ j o. G j b.step o ≡ F j b.step (map.get known j)) (here b.step ∙ ap (F id b.step) (sym is)) (λ j other. others j other b.step (map.get known j)) b.intent
+
+  pub one_place : (n : ℕ) (v : X) → ((m : ℕ) → G id m (Some r) ≡ (if m == n then v else F id m (Some q))) → (b : Place) → G b.intent b.step (map.get (map.insert known id r) b.intent) ≡ (if place_eq (place_of id n) b then v else F b.intent b.step (map.get known b.intent))
+  one_place n v here b = known_set known id r (λ j o. G j b.step o ≡ (if place_eq (place_of id n) (place_of j b.step) then v else F j b.step (map.get known j)))
+      (here b.step ∙ (elim (b.step == n) as (λ c. (b.step == n) ≡ c → (if c then v else F id b.step (Some q)) ≡ (if place_eq (place_of id n) (place_of id b.step) then v else F id b.step (map.get known id))) [
+        | true ↦ λ e. ap (λ c. if c then v else F id b.step (map.get known id)) (sym (subst (λ m. place_eq (place_of id n) (place_of id m) ≡ true) (sym (eqb-true b.step n e)) (place_self (place_of id n))))
+        | false ↦ λ e. by_place e (place_eq (place_of id n) (place_of id b.step)) refl
+      ] refl))
+      (λ j other. others j other b.step (map.get known j) ∙ elsewhere j other (place_eq (place_of id n) (place_of j b.step)) refl)
+      b.intent
+    where
+      by_place : (b.step == n) ≡ false → (c : Bool) → place_eq (place_of id n) (place_of id b.step) ≡ c → F id b.step (Some q) ≡ (if c then v else F id b.step (map.get known id))
+      by_place e true g = absurd (true_false (sym (eq-eqb b.step n (sym (ap (λ (z : Place). z.step) (place_same (place_of id n) (place_of id b.step) g)))) ∙ e))
+      by_place e false g = ap (F id b.step) (sym is)
+
+      elsewhere : (j : IntentId) → is_eq (id_cmp j id) ≡ false → (c : Bool) → place_eq (place_of id n) (place_of j b.step) ≡ c → F j b.step (map.get known j) ≡ (if c then v else F j b.step (map.get known j))
+      elsewhere j other true g = let same : id ≡ j = ap (λ (z : Place). z.intent) (place_same (place_of id n) (place_of j b.step) g) in absurd (true_false (sym (ap is_eq (tied_itself id_total id)) ∙ ap (λ z. is_eq (id_cmp z id)) same ∙ other))
+      elsewhere j other false g = refl
+
+-- ---- an instance was answered
+pub not_ahead : (d : Deployment) (x : Item) (id : IntentId) (n : ℕ) (q : Instance) → ahead_note d x id false n q ≡ None
+not_ahead d x id n q = by_tx (tx_now d id q) (n == length q.answers)
+  where
+    by_tx : (t : Option TxId) (b : Bool) → (if b then ahead_by x q.func t (effect_of d q) false else None) ≡ None
+    by_tx None true = refl
+    by_tx (Some t) true = refl
+    by_tx t false = refl
+
+pub or_none : (o : Option Note) → note_or o None ≡ o
+or_none None = refl
+or_none (Some n) = refl
+
+module _ (d : Deployment) (known : Known) (id : IntentId) (q r : Instance) (a : Answer) (is : map.get known id ≡ Some q) (h : AnswersOne d id q a r) where
+  abbrev n : ℕ
+  n = length q.answers
+
+  abbrev after : Known
+  after = map.insert known id r
+
+  -- the rows of reads and decisions
+  pub read_none : row_added n (txs_after d q q.answers).begun (effect_of d q) a ≡ None → (f : ℕ) (b : Place) → owed_read d after f b ≡ owed_read d known f b
+  read_none none f b = no_place known id q r is (λ j m o. owed_value d f m o) (λ j m o. owed_value d f m o) (λ j other m o. refl)
+      (λ m. ap (λ z. if z == f then row_at d r m else None) h.func ∙ ap (λ z. if q.func == f then z else None) (h.rows m ∙ ap (λ z. put z m (row_at d q m)) none)) b
+
+  pub read_one : (m : ℕ) (v : Value) → row_added n (txs_after d q q.answers).begun (effect_of d q) a ≡ Some (m, v) → (f : ℕ) (b : Place)
+      → owed_read d after f b ≡ (if place_eq (place_of id m) b then (if q.func == f then Some v else None) else owed_read d known f b)
+  read_one m v some f b = one_place known id q r is (λ j k o. owed_value d f k o) (λ j k o. owed_value d f k o) (λ j other k o. refl) m (if q.func == f then Some v else None)
+      (λ k. ap (λ z. if z == f then row_at d r k else None) h.func ∙ ap (λ z. if q.func == f then z else None) (h.rows k ∙ ap (λ z. put z k (row_at d q k)) some) ∙ by_test k (q.func == f) (k == m)) b
+    where
+      by_test : (k : ℕ) (b c : Bool) → (if b then (if c then Some v else row_at d q k) else None) ≡ (if c then (if b then Some v else None) else (if b then row_at d q k else None))
+      by_test k true true = refl
+      by_test k true false = refl
+      by_test k false true = refl
+      by_test k false false = refl
+
+  -- the notes of a shadow
+  pub shadow_one : (t : TxId) (x : Item) (b : Place) → owed_shadow d t x b.intent b.step (map.get after b.intent) ≡ (if place_eq (place_of id n) b then shadow_by t x q.func (tx_now d id q) (effect_of d q) a else owed_shadow d t x b.intent b.step (map.get known b.intent))
+  shadow_one t x b = one_place known id q r is (λ j m o. owed_shadow d t x j m o) (λ j m o. owed_shadow d t x j m o) (λ j other m o. refl) n _ (λ m. h.shadows t x m) b
+
+  -- lockset rows
+  pub lockset_one : (b : ℕ) (x : Item) (j : IntentId) → owed_lockset d b x j (map.get after j) ≡ (owed_lockset d b x j (map.get known j) || (is_eq (id_cmp j id) && asks_lock b x q.func (tx_now d id q) (effect_of d q)))
+  lockset_one b x j = known_set known id r (λ j o. owed_lockset d b x j o ≡ (owed_lockset d b x j (map.get known j) || (is_eq (id_cmp j id) && asks_lock b x q.func (tx_now d id q) (effect_of d q))))
+      (h.locksets b x ∙ ap (λ o. owed_lockset d b x id o || asks_lock b x q.func (tx_now d id q) (effect_of d q)) (sym is) ∙ ap (λ c. owed_lockset d b x id (map.get known id) || (is_eq c && asks_lock b x q.func (tx_now d id q) (effect_of d q))) (sym (tied_itself id_total id)))
+      (λ j other. by_bool (owed_lockset d b x j (map.get known j)) ∙ ap (λ c. owed_lockset d b x j (map.get known j) || (c && asks_lock b x q.func (tx_now d id q) (effect_of d q))) (sym other)) j
+    where
+      by_bool : (c : Bool) → c ≡ (c || false)
+      by_bool true = refl
+      by_bool false = refl
+
+  -- who holds an item's own lock
+  pub holds_one : (x : Item) (P : IntentId → Bool → Type 0) → P id (held_if x q.func (op_of (effect_of d q)) (holds d x (map.get known id))) → ((j : IntentId) → is_eq (id_cmp j id) ≡ false → P j (holds d x (map.get known j))) → (j : IntentId) → P j (holds d x (map.get after j))
+  holds_one x P here others j = known_set known id r (λ j o. P j (holds d x o)) (subst (P id) (ap (λ o. held_if x q.func (op_of (effect_of d q)) (holds d x o)) is ∙ sym (h.held x)) here) others j
+
+  -- the rows of intents and of calls are as before
+  pub intents_same : (home : ℕ) (j : IntentId) (row : Option Row) → IntentMatches (has_no_hops j.hops) home row (map.get known j) → IntentMatches (has_no_hops j.hops) home row (map.get after j)
+  intents_same home j = known_set known id r (λ j o. (row : Option Row) → IntentMatches (has_no_hops j.hops) home row (map.get known j) → IntentMatches (has_no_hops j.hops) home row o)
+      (λ row g. intent_same (has_no_hops id.hops) home row q r h.body (sym h.outcome) (subst (IntentMatches (has_no_hops id.hops) home row) is g)) (λ j other row g. g) j
+
+  pub calls_same : (f : ℕ) (b : Place) → owed_call after f b ≡ owed_call known f b
+  calls_same f b = calls_moved known id r f b
+      (λ e. same_caller f q r (map.get after (child_of b.intent b.step)) h.func ∙ ap (λ o. called_by f o (map.get after (child_of b.intent b.step))) (sym is))
+      (λ e. same_callee f (map.get known b.intent) q r h.func (λ i. if is_waited (ap (λ (z : Body). z.from) (sym h.body) i) then h.outcome i else None) ∙ ap (called_by f (map.get known b.intent)) (sym is))
+
+  module _ (locked unlocked : IntentId → Bool) (out : LockedOut locked unlocked id) where
+    -- the notes of a plain item
+    pub note_one : (x : Item) (b : Place) → owed_note d x b.intent (unlocked b.intent) b.step (map.get after b.intent)
+        ≡ (if place_eq (place_of id n) b then note_by x q.func (tx_now d id q) (effect_of d q) a else owed_note d x b.intent (locked b.intent) b.step (map.get known b.intent))
+    note_one x b = one_place known id q r is (λ j m o. owed_note d x j (locked j) m o) (λ j m o. owed_note d x j (unlocked j) m o) (λ j other m o. ap (λ c. owed_note d x j c m o) (out.others j other)) n (note_by x q.func (tx_now d id q) (effect_of d q) a)
+        (λ m. ap (λ c. note_or (answered_note d x id m r) (ahead_note d x id c m r)) out.out ∙ ap (note_or (answered_note d x id m r)) (not_ahead d x id m r) ∙ or_none (answered_note d x id m r) ∙ h.notes x m ∙ by_step m (m == n) refl) b
+      where
+        -- no other step has a note ahead
+        by_step : (m : ℕ) (c : Bool) → (m == n) ≡ c → (if c then note_by x q.func (tx_now d id q) (effect_of d q) a else answered_note d x id m q)
+            ≡ (if c then note_by x q.func (tx_now d id q) (effect_of d q) a else note_or (answered_note d x id m q) (ahead_note d x id (locked id) m q))
+        by_step m true e = refl
+        by_step m false e = sym (ap (λ c. note_or (answered_note d x id m q) (if c then ahead_by x q.func (tx_now d id q) (effect_of d q) (locked id) else None)) e ∙ or_none (answered_note d x id m q))
+
+    -- nothing is owed at the next step, where no lock is ahead; so an answer that owes no note leaves all as they are
+    nothing_yet : (x : Item) → locked id ≡ false → owed_note d x id (locked id) n (map.get known id) ≡ None
+    nothing_yet x was = ap (owed_note d x id (locked id) n) is ∙ ap (λ c. note_or (answered_note d x id n q) (ahead_note d x id c n q)) was ∙ ap (note_or (answered_note d x id n q)) (not_ahead d x id n q)
+        ∙ or_none (answered_note d x id n q) ∙ step_next (λ ts c. note_by x q.func (tx_after d id q ts) (effect_after d q ts) c) q.answers
+
+    pub note_same : (x : Item) → note_by x q.func (tx_now d id q) (effect_of d q) a ≡ None → locked id ≡ false → (b : Place) → owed_note d x b.intent (unlocked b.intent) b.step (map.get after b.intent) ≡ owed_note d x b.intent (locked b.intent) b.step (map.get known b.intent)
+    note_same x none was b = note_one x b ∙ (elim (place_eq (place_of id n) b) as (λ c. place_eq (place_of id n) b ≡ c → (if c then note_by x q.func (tx_now d id q) (effect_of d q) a else owed_note d x b.intent (locked b.intent) b.step (map.get known b.intent))
+        ≡ owed_note d x b.intent (locked b.intent) b.step (map.get known b.intent)) [
+          | true ↦ λ e. subst (λ (z : Place). note_by x q.func (tx_now d id q) (effect_of d q) a ≡ owed_note d x z.intent (locked z.intent) z.step (map.get known z.intent)) (place_same (place_of id n) b e) (none ∙ sym (nothing_yet x was))
+          | false ↦ λ e. refl
+        ] refl)
+
+    -- what a transaction has got
+    pub got_one : (t : TxId) (x : Item) (P : IntentId → Bool → Type 0) → P id (got_before d t x id q || (is_on t x q.func (tx_now d id q) (effect_of d q) && not (is_aborted a)))
+        → ((j : IntentId) → is_eq (id_cmp j id) ≡ false → P j (got_by d t x j (locked j) (map.get known j))) → (j : IntentId) → P j (got_by d t x j (unlocked j) (map.get after j))
+    got_one t x P here others j = known_set known id r (λ j o. P j (got_by d t x j (unlocked j) o))
+        (subst (P id) (sym (ap (λ b. got_before d t x id r || (b && is_on t x r.func (tx_now d id r) (effect_of d r))) out.out ∙ or_no (got_before d t x id r) ∙ h.got t x)) here)
+        (λ j other. subst (λ b. P j (got_by d t x j b (map.get known j))) (sym (out.others j other)) (others j other)) j
+      where
+        or_no : (b : Bool) → (b || false) ≡ b
+        or_no true = refl
+        or_no false = refl
+
+    -- an answer other than a death to whose lock is ahead, or a death to whose is not: what is got stays
+    pub got_same : (locked id ≡ not (is_aborted a)) → (t : TxId) (x : Item) (j : IntentId) → got_by d t x j (unlocked j) (map.get after j) ≡ got_by d t x j (locked j) (map.get known j)
+    got_same same t x = got_one t x (λ j b. b ≡ got_by d t x j (locked j) (map.get known j))
+        (ap (λ b. got_before d t x id q || b) (turn (is_on t x q.func (tx_now d id q) (effect_of d q)) (not (is_aborted a)) ∙ ap (λ b. b && is_on t x q.func (tx_now d id q) (effect_of d q)) (sym same)) ∙ ap (got_by d t x id (locked id)) (sym is)) (λ j other. refl)
+      where
+        turn : (b c : Bool) → (b && c) ≡ (c && b)
+        turn true true = refl
+        turn true false = refl
+        turn false true = refl
+        turn false false = refl

@@ -1,0 +1,288 @@
+-- The acts at the front that answer an operation inside, or die, or decide.
+use Rattle.std.specs.Option.{is_none}
+use Rattle.std.proofs.Common.{◌≡◌, ℕ, ◌==◌, ◌&&◌, ◌||◌, not, Bool, true, false, List, [], ◌∷◌, ◌++◌, length, Option, None, Some, refl, ap, sym, ◌∙◌, subst, eqb-true, eq-eqb, is_some, if◌then◌else◌}
+use Rattle.std.specs.FinMap as map
+use Rattle.std.specs.Ordering.{is_eq}
+use Rattle.std.proofs.lemmas.Cmp.{tied_itself}
+use Rattle.beldi_value.specs.declared.place.Owner.TheVariants.{Intent}
+use Rattle.beldi_value.specs.Id.{id_cmp}
+use Rattle.beldi_value.specs.declared.id.IntentId.{IntentId}
+use Rattle.beldi_value.specs.declared.place.Owner.{Owner}
+use Rattle.beldi_value.specs.declared.place.Place.{Place}
+use Rattle.beldi_value.specs.declared.place.TxId.{TxId}
+use Rattle.beldi_value.specs.declared.value.Value.{Value}
+use Rattle.beldi_tree.specs.declared.deployment.Deployment.{Deployment}
+use Rattle.beldi_lang.specs.declared.effect.Answer.{Answer}
+use Rattle.beldi_lang.specs.declared.effect.Answer.TheVariants as answer
+use Rattle.beldi_lang.specs.declared.effect.Effect.{Effect}
+use Rattle.beldi_lang.specs.declared.effect.Effect.TheVariants as effect
+use Rattle.beldi_row.specs.declared.notes.Note.{Note}
+use Rattle.beldi_row.specs.declared.notes.Note.TheVariants as notes
+use Rattle.beldi_row.specs.declared.row.Row.{Row}
+use Rattle.beldi_row.specs.declared.row.Row.TheVariants as rows
+use Rattle.beldi_row.specs.Log.{note_at, place_eq}
+use Rattle.beldi_row.proofs.Logs.{note_pushed, place_same}
+use Rattle.beldi_row.specs.Table.{Rows}
+use Rattle.beldi_row.specs.Key.{key_cmp}
+use Rattle.beldi_row.proofs.Gets.{key_self}
+use Rattle.beldi_daal.specs.Content.{Content}
+use Rattle.beldi_readlog.specs.ReadLog.{log_key}
+use Rattle.beldi_plain.specs.Item.{Item, item_cmp, item_total}
+use Rattle.beldi_plain.specs.Operation.{op_of}
+use Rattle.beldi_plain.specs.Holds.{held_if, holds}
+use Rattle.beldi_plain.specs.Plain.{Instance, effect_of}
+use Rattle.beldi_step.specs.Run.{place_of}
+use Rattle.beldi_known.specs.Rows.{LogMatches}
+use Rattle.beldi_known.specs.Contents.{is_owner}
+use Rattle.beldi_known.specs.Known.{Known, effect_after, txs_by, txs_after, Txs, tx_after, tx_now, touched, is_item, owed_value, owed_read, row_at, lock_note, note_by, ahead_by, note_or, owed_note, shadow_by, owed_shadow, begins_at, asks_lock, owed_lockset, is_aborted, got_by, ended_by, tx_end, commit_in, ended_at, is_decided, is_mark, last_step}
+use Rattle.beldi_known.specs.Matches.{ItemMatches, TxsMatch, ShadowMatches, LocksetMatches, lockset_ahead, is_open}
+use Rattle.beldi_known.specs.Acts.{with_note}
+use Rattle.beldi_known.specs.Frame.{AnswersOne, row_added, LockedOut}
+use Rattle.beldi_known.proofs.Answers.{true_false}
+use Rattle.beldi_known.proofs.Frame.{step_next, ends_kept, fits}
+use Rattle.beldi_known.proofs.FrameAt.{known_set, no_place, read_none, read_one, shadow_one, lockset_one, holds_one, note_one, got_same}
+
+-- ---- effects that end no transaction
+quiet_ends : (e : Effect) (n : ℕ) (s : Txs) (b : ℕ) → commit_in e ≡ None → (txs_by n e s).ends b ≡ s.ends b
+quiet_ends (effect.End c) n s b h = cc
+quiet_ends effect.Begin n s b h = refl
+quiet_ends e n s b h = refl
+
+op_quiet : (e : Effect) (o : ℕ × List ℕ) → touched e ≡ Some o → commit_in e ≡ None
+op_quiet (effect.End c) o h = cc
+op_quiet e o h = refl
+
+-- an operation inside moves no lock of an intent
+op_holds : (x : Item) (f : ℕ) (e : Effect) (o : ℕ × List ℕ) (b : Bool) → touched e ≡ Some o → held_if x f (op_of e) b ≡ b
+op_holds x f (effect.Read t k) o b h = refl
+op_holds x f (effect.Write t k v) o b h = by_test (is_eq (item_cmp (record { func = f; table = t; key = k }) x))
+  where
+    by_test : (c : Bool) → (if c then b else b) ≡ b
+    by_test true = refl
+    by_test false = refl
+op_holds x f (effect.CondWrite t k r u v) o b h = by_test (is_eq (item_cmp (record { func = f; table = t; key = k }) x))
+  where
+    by_test : (c : Bool) → (if c then b else b) ≡ b
+    by_test true = refl
+    by_test false = refl
+op_holds x f e o b h = cc
+
+or_same : (a b : Bool) → (a || b) ≡ true → (c : Bool) → (a || c) ≡ true → (a || c) ≡ (a || b)
+or_same a b h c g = g ∙ sym h
+
+module _ (d : Deployment) (known : Known) (locked unlocked : IntentId → Bool) (id : IntentId) (q r : Instance) (a : Answer) (is : map.get known id ≡ Some q) (h : AnswersOne d id q a r) (out : LockedOut locked unlocked id) where
+  abbrev n : ℕ
+  n = length q.answers
+
+  abbrev p : Place
+  p = place_of id n
+
+  abbrev after : Known
+  after = map.insert known id r
+
+  -- ---- the rows of reads and decisions: one is added, or none
+  pub logs_kept : (m l : Rows) → row_added n (txs_after d q q.answers).begun (effect_of d q) a ≡ None → ((f : ℕ) (b : Place) → map.get l (log_key f b) ≡ map.get m (log_key f b))
+      → ((f : ℕ) (b : Place) → LogMatches (map.get m (log_key f b)) (owed_read d known f b)) → (f : ℕ) (b : Place) → LogMatches (map.get l (log_key f b)) (owed_read d after f b)
+  logs_kept m l none same g f b = subst (λ z. LogMatches z (owed_read d after f b)) (sym (same f b)) (subst (LogMatches (map.get m (log_key f b))) (sym (read_none d known id q r a is h none f b)) (g f b))
+
+  -- at another key than that of the row that is added
+  pub read_elsewhere : (k : ℕ) (v : Value) → row_added n (txs_after d q q.answers).begun (effect_of d q) a ≡ Some (k, v) → (f : ℕ) (b : Place) → is_eq (key_cmp (log_key f b) (log_key q.func (place_of id k))) ≡ false
+      → owed_read d after f b ≡ owed_read d known f b
+  read_elsewhere k v some f b other = read_one d known id q r a is h k v some f b ∙ by_place (q.func == f) refl (place_eq (place_of id k) b) refl
+    where
+      by_place : (t : Bool) → (q.func == f) ≡ t → (c : Bool) → place_eq (place_of id k) b ≡ c → (if c then (if t then Some v else None) else owed_read d known f b) ≡ owed_read d known f b
+      by_place true func true same = let own : log_key f b ≡ log_key q.func (place_of id k) = sym (λ i. log_key (eqb-true q.func f func i) (place_same (place_of id k) b same i)) in
+          absurd (true_false (sym (ap (λ z. is_eq (key_cmp z (log_key q.func (place_of id k)))) own ∙ key_self (log_key q.func (place_of id k))) ∙ other))
+      by_place false func true same = subst (λ (z : Place). None ≡ owed_read d known f z) (place_same (place_of id k) b same) (sym (ap (owed_value d f k) is ∙ ap (λ z. if z then row_at d q k else None) func))
+      by_place t func false same = refl
+
+  -- ---- the notes of shadows: one is added, or none
+  pub shadow_kept : (t : TxId) (x : Item) (c : Content) → shadow_by t x q.func (tx_now d id q) (effect_of d q) a ≡ None → ShadowMatches d known t x c → ShadowMatches d after t x c
+  shadow_kept t x c none g b = g b ∙ sym (shadow_one d known id q r a is h t x b ∙ (elim (place_eq p b) as (λ z. place_eq p b ≡ z → (if z then shadow_by t x q.func (tx_now d id q) (effect_of d q) a else owed_shadow d t x b.intent b.step (map.get known b.intent)) ≡ owed_shadow d t x b.intent b.step (map.get known b.intent)) [
+    | true ↦ λ e. subst (λ (z : Place). shadow_by t x q.func (tx_now d id q) (effect_of d q) a ≡ owed_shadow d t x z.intent z.step (map.get known z.intent)) (place_same p b e)
+        (none ∙ sym (ap (owed_shadow d t x id n) is ∙ step_next (λ ts c. shadow_by t x q.func (tx_after d id q ts) (effect_after d q ts) c) q.answers))
+    | false ↦ λ e. refl
+  ] refl))
+
+  pub shadow_noted : (t : TxId) (x : Item) (c : Content) (w : Note) (v : Value) → shadow_by t x q.func (tx_now d id q) (effect_of d q) a ≡ Some w → note_at c.notes p ≡ None → ShadowMatches d known t x c
+      → ShadowMatches d after t x (record { value = v; owner = c.owner; notes = c.notes ++ (p, w) ∷ [] })
+  shadow_noted t x c w v some none g b = note_pushed c.notes p b w none ∙ ap (λ z. if place_eq p b then z else note_at c.notes b) (sym some) ∙ ap (λ z. if place_eq p b then shadow_by t x q.func (tx_now d id q) (effect_of d q) a else z) (g b)
+      ∙ sym (shadow_one d known id q r a is h t x b)
+
+  -- ---- what ended stays so
+  pub tx_end_stays : (t : TxId) (z : ℕ × Bool) → tx_end d known t ≡ Some z → tx_end d after t ≡ Some z
+  tx_end_stays t z = known_set known id r (λ j o. ended_by d t.begin (map.get known j) ≡ Some z → ended_by d t.begin o ≡ Some z)
+      (λ e. h.ends t.begin ∙ ends_kept (effect_of d q) n (txs_after d q q.answers) t.begin z (fits d q) (sym (ap (ended_by d t.begin) is) ∙ e)) (λ j other e. e) t.intent
+
+  module _ (quiet : commit_in (effect_of d q) ≡ None) where
+    -- transactions are as before
+    pub tx_end_same : (t : TxId) → tx_end d after t ≡ tx_end d known t
+    tx_end_same t = known_set known id r (λ j o. ended_by d t.begin o ≡ ended_by d t.begin (map.get known j)) (h.ends t.begin ∙ quiet_ends (effect_of d q) n (txs_after d q q.answers) t.begin quiet ∙ ap (ended_by d t.begin) (sym is)) (λ j other. refl) t.intent
+
+    decided_same : (t : Option TxId) → is_decided d after t ≡ is_decided d known t
+    decided_same None = refl
+    decided_same (Some t) = ap is_some (tx_end_same t)
+
+    -- and so are the places of releases
+    pub mark_same : (b : Place) → is_mark d after b.step (map.get after b.intent) ≡ is_mark d known b.step (map.get known b.intent)
+    mark_same b = no_place known id q r is (λ j m o. is_mark d known m o) (λ j m o. is_mark d after m o) (λ j other m o. elsewhere m o)
+        (λ m. ap (λ z. is_some z || (is_decided d after r.within && (m == last_step))) (h.marks m ∙ by_step m) ∙ ap (λ z. is_some (ended_at d q m) || (z && (m == last_step))) (decided_same r.within ∙ ap (is_decided d known) h.within)) b
+      where
+        elsewhere : (m : ℕ) (o : Option Instance) → is_mark d after m o ≡ is_mark d known m o
+        elsewhere m None = refl
+        elsewhere m (Some z) = ap (λ c. is_some (ended_at d z m) || (c && (m == last_step))) (decided_same z.within)
+
+        by_step : (m : ℕ) → (if m == n then commit_in (effect_of d q) else ended_at d q m) ≡ ended_at d q m
+        by_step m = elim (m == n) as (λ b. (m == n) ≡ b → (if b then commit_in (effect_of d q) else ended_at d q m) ≡ ended_at d q m) [
+          | true ↦ λ e. quiet ∙ sym (subst (λ k. ended_at d q k ≡ None) (sym (eqb-true m n e)) (step_next (λ ts c. commit_in (effect_after d q ts)) q.answers))
+          | false ↦ λ e. refl
+        ] refl
+
+    open_same : (t : Option TxId) → is_open d after t ≡ is_open d known t
+    open_same None = refl
+    open_same (Some t) = ap (λ z. not (is_some z)) (tx_end_same t)
+
+    ahead_same : (b : ℕ) (x : Item) (i : IntentId) (o : Option Instance) → lockset_ahead d after b x i o ≡ lockset_ahead d known b x i o
+    ahead_same b x i None = refl
+    ahead_same b x i (Some z) = ap (λ u. is_none z.outcome && (u && (begins_at b (tx_now d i z) && is_item x z.func (touched (effect_of d z))))) (open_same (tx_now d i z))
+
+    -- and lockset rows, where it asked for no lock
+    pub locksets_kept : (b : ℕ) (x : Item) (j : IntentId) (row : Option Row) → asks_lock b x q.func (tx_now d id q) (effect_of d q) ≡ false → lockset_ahead d known b x id (Some q) ≡ false
+        → LocksetMatches row (owed_lockset d b x j (map.get known j)) (lockset_ahead d known b x j (map.get known j)) → LocksetMatches row (owed_lockset d b x j (map.get after j)) (lockset_ahead d after b x j (map.get after j))
+    locksets_kept b x j row none not_ahead g = by_row row g
+      where
+        or_none : (u v : Bool) → (u || (v && false)) ≡ u
+        or_none true v = refl
+        or_none false true = refl
+        or_none false false = refl
+
+        or_no : (u : Bool) → (u || false) ≡ u
+        or_no true = refl
+        or_no false = refl
+
+        owed_same : owed_lockset d b x j (map.get after j) ≡ owed_lockset d b x j (map.get known j)
+        owed_same = lockset_one d known id q r a is h b x j ∙ ap (λ u. owed_lockset d b x j (map.get known j) || (is_eq (id_cmp j id) && u)) none ∙ or_none (owed_lockset d b x j (map.get known j)) (is_eq (id_cmp j id))
+
+        by_row : (row : Option Row) → LocksetMatches row (owed_lockset d b x j (map.get known j)) (lockset_ahead d known b x j (map.get known j)) → LocksetMatches row (owed_lockset d b x j (map.get after j)) (lockset_ahead d after b x j (map.get after j))
+        by_row None g = owed_same ∙ g
+        by_row (Some rows.Lockset) g = ap (λ u. u || lockset_ahead d after b x j (map.get after j)) owed_same
+            ∙ known_set known id r (λ i o. (owed_lockset d b x i (map.get known i) || lockset_ahead d known b x i (map.get known i)) ≡ true → (owed_lockset d b x i (map.get known i) || lockset_ahead d after b x i o) ≡ true)
+            (λ k. ap (λ u. u || lockset_ahead d after b x id (Some r)) (sym (or_no (owed_lockset d b x id (map.get known id))) ∙ ap (λ u. owed_lockset d b x id (map.get known id) || u) (sym (ap (lockset_ahead d known b x id) is ∙ not_ahead)) ∙ k))
+            (λ i other k. ap (λ u. owed_lockset d b x i (map.get known i) || u) (ahead_same b x i (map.get known i)) ∙ k) j g
+        by_row (Some (rows.Intent i)) g = g
+        by_row (Some (rows.ReadLog i)) g = g
+        by_row (Some (rows.Invoke i)) g = g
+        by_row (Some (rows.Cell i)) g = g
+
+  -- ---- an operation inside
+  module _ (s : TxId) (inside : tx_now d id q ≡ Some s) (o : ℕ × List ℕ) (touch : touched (effect_of d q) ≡ Some o) where
+    abbrev item : Item
+    item = record { func = q.func; table = o.0; key = o.1 }
+
+    quiet_op : commit_in (effect_of d q) ≡ None
+    quiet_op = op_quiet (effect_of d q) o touch
+
+    note_is : (x : Item) → note_by x q.func (tx_now d id q) (effect_of d q) a ≡ (if is_eq (item_cmp item x) then lock_note a else None)
+    note_is x = ap (λ t. note_by x q.func t (effect_of d q) a) inside ∙ ap (λ z. if is_item x q.func z then lock_note a else None) touch
+
+    -- what is owed there before, by whether the lock is ahead
+    owed_was : (x : Item) → owed_note d x id (locked id) n (map.get known id) ≡ (if locked id then (if is_eq (item_cmp item x) then Some notes.Got else None) else None)
+    owed_was x = ap (owed_note d x id (locked id) n) is ∙ ap (λ z. note_or z (if n == n then ahead_by x q.func (tx_now d id q) (effect_of d q) (locked id) else None)) (step_next (λ ts c. note_by x q.func (tx_after d id q ts) (effect_after d q ts) c) q.answers)
+        ∙ ap (λ b. note_or None (if b then ahead_by x q.func (tx_now d id q) (effect_of d q) (locked id) else None)) (eq-eqb n n refl)
+        ∙ ap (λ t. ahead_by x q.func t (effect_of d q) (locked id)) inside ∙ by_bool (locked id)
+      where
+        by_bool : (b : Bool) → ahead_by x q.func (Some s) (effect_of d q) b ≡ (if b then (if is_eq (item_cmp item x) then Some notes.Got else None) else None)
+        by_bool true = ap (λ z. if is_item x q.func z then Some notes.Got else None) touch
+        by_bool false = refl
+
+    -- ---- it is answered, its lock being ahead: no plain item owes more
+    module _ (was : locked id ≡ true) (lives : is_aborted a ≡ false) where
+      got_note : lock_note a ≡ Some notes.Got
+      got_note = by_answer a lives
+        where
+          by_answer : (b : Answer) → is_aborted b ≡ false → lock_note b ≡ Some notes.Got
+          by_answer (answer.Aborted c) g = cc
+          by_answer b g = refl
+
+      pub notes_same : (x : Item) (b : Place) → owed_note d x b.intent (unlocked b.intent) b.step (map.get after b.intent) ≡ owed_note d x b.intent (locked b.intent) b.step (map.get known b.intent)
+      notes_same x b = note_one d known id q r a is h locked unlocked out x b ∙ (elim (place_eq p b) as (λ c. place_eq p b ≡ c → (if c then note_by x q.func (tx_now d id q) (effect_of d q) a else owed_note d x b.intent (locked b.intent) b.step (map.get known b.intent))
+          ≡ owed_note d x b.intent (locked b.intent) b.step (map.get known b.intent)) [
+            | true ↦ λ e. subst (λ (z : Place). note_by x q.func (tx_now d id q) (effect_of d q) a ≡ owed_note d x z.intent (locked z.intent) z.step (map.get known z.intent)) (place_same p b e)
+                (note_is x ∙ ap (λ z. if is_eq (item_cmp item x) then z else None) got_note ∙ sym (owed_was x ∙ ap (λ z. if z then (if is_eq (item_cmp item x) then Some notes.Got else None) else None) was))
+            | false ↦ λ e. refl
+          ] refl)
+
+      pub items_answered : (x : Item) (c : Content) → ItemMatches d known locked x c → ItemMatches d after unlocked x c
+      items_answered x c g = record {
+        owner = holds_one d known id q r a is h x (λ j b. is_owner c.owner (Intent j) ≡ b) (g.owner id ∙ sym (op_holds x q.func (effect_of d q) o (holds d x (map.get known id)) touch)) (λ j other. g.owner j);
+        notes = λ b apart. g.notes b (sym (mark_same quiet_op b) ∙ apart) ∙ sym (notes_same x b);
+      }
+
+      pub txs_answered : (x : Item) (c : Option Owner) → TxsMatch d known locked x c → TxsMatch d after unlocked x c
+      txs_answered x c g = record {
+        owned_is_got = λ t e. let k = g.owned_is_got t e in record { member = k.member; got = same t x k.member ∙ k.got };
+        got_is_owned = λ t k open_still. g.got_is_owned t (record { member = k.member; got = sym (same t x k.member) ∙ k.got }) (sym (tx_end_same quiet_op t) ∙ open_still);
+      }
+        where
+          same : (t : TxId) (x : Item) (j : IntentId) → got_by d t x j (unlocked j) (map.get after j) ≡ got_by d t x j (locked j) (map.get known j)
+          same = got_same d known id q r a is h locked unlocked out (was ∙ ap not (sym lives))
+
+    -- ---- it dies: the item owes the death, and no transaction has got more or less
+    module _ (holder : IntentId) (dies : a ≡ answer.Aborted (record { place = p; holder = Some holder })) (was : locked id ≡ false) where
+      death_note : lock_note a ≡ Some (notes.Died holder)
+      death_note = ap lock_note dies
+
+      pub item_died : (c : Content) → note_at c.notes p ≡ None → ItemMatches d known locked item c → ItemMatches d after unlocked item (with_note c p (notes.Died holder))
+      item_died c none g = record {
+        owner = holds_one d known id q r a is h item (λ j b. is_owner c.owner (Intent j) ≡ b) (g.owner id ∙ sym (op_holds item q.func (effect_of d q) o (holds d item (map.get known id)) touch)) (λ j other. g.owner j);
+        notes = λ b apart. note_pushed c.notes p b (notes.Died holder) none
+            ∙ ap (λ z. if place_eq p b then z else note_at c.notes b) (sym (note_is item ∙ ap (λ z. if is_eq z then lock_note a else None) (tied_itself item_total item) ∙ death_note))
+            ∙ ap (λ z. if place_eq p b then note_by item q.func (tx_now d id q) (effect_of d q) a else z) (g.notes b (sym (mark_same quiet_op b) ∙ apart))
+            ∙ sym (note_one d known id q r a is h locked unlocked out item b);
+      }
+
+      pub item_kept : (x : Item) (c : Content) → is_eq (item_cmp item x) ≡ false → ItemMatches d known locked x c → ItemMatches d after unlocked x c
+      item_kept x c other g = record {
+        owner = holds_one d known id q r a is h x (λ j b. is_owner c.owner (Intent j) ≡ b) (g.owner id ∙ sym (op_holds x q.func (effect_of d q) o (holds d x (map.get known id)) touch)) (λ j other. g.owner j);
+        notes = λ b apart. g.notes b (sym (mark_same quiet_op b) ∙ apart) ∙ sym (note_one d known id q r a is h locked unlocked out x b ∙ same b);
+      }
+        where
+          same : (b : Place) → (if place_eq p b then note_by x q.func (tx_now d id q) (effect_of d q) a else owed_note d x b.intent (locked b.intent) b.step (map.get known b.intent)) ≡ owed_note d x b.intent (locked b.intent) b.step (map.get known b.intent)
+          same b = elim (place_eq p b) as (λ c. place_eq p b ≡ c → (if c then note_by x q.func (tx_now d id q) (effect_of d q) a else owed_note d x b.intent (locked b.intent) b.step (map.get known b.intent))
+              ≡ owed_note d x b.intent (locked b.intent) b.step (map.get known b.intent)) [
+                | true ↦ λ e. subst (λ (z : Place). note_by x q.func (tx_now d id q) (effect_of d q) a ≡ owed_note d x z.intent (locked z.intent) z.step (map.get known z.intent)) (place_same p b e)
+                    (note_is x ∙ ap (λ z. if z then lock_note a else None) other ∙ sym (owed_was x ∙ ap (λ z. if z then (if is_eq (item_cmp item x) then Some notes.Got else None) else None) was))
+                | false ↦ λ e. refl
+              ] refl
+
+      pub txs_died : (x : Item) (c : Option Owner) → TxsMatch d known locked x c → TxsMatch d after unlocked x c
+      txs_died x c g = record {
+        owned_is_got = λ t e. let k = g.owned_is_got t e in record { member = k.member; got = same t x k.member ∙ k.got };
+        got_is_owned = λ t k open_still. g.got_is_owned t (record { member = k.member; got = sym (same t x k.member) ∙ k.got }) (sym (tx_end_same quiet_op t) ∙ open_still);
+      }
+        where
+          same : (t : TxId) (x : Item) (j : IntentId) → got_by d t x j (unlocked j) (map.get after j) ≡ got_by d t x j (locked j) (map.get known j)
+          same = got_same d known id q r a is h locked unlocked out (was ∙ ap (λ z. not (is_aborted z)) (sym dies))
+
+    -- ---- lockset rows: its own is there, so it may be owed
+    pub locksets_answered : (b : ℕ) (x : Item) (j : IntentId) (row : Option Row) → ((is_eq (id_cmp j id) && asks_lock b x q.func (tx_now d id q) (effect_of d q)) ≡ true → row ≡ Some rows.Lockset)
+        → LocksetMatches row (owed_lockset d b x j (map.get known j)) (lockset_ahead d known b x j (map.get known j)) → LocksetMatches row (owed_lockset d b x j (map.get after j)) (lockset_ahead d after b x j (map.get after j))
+    locksets_answered b x j None there g = lockset_one d known id q r a is h b x j ∙ ap (λ z. z || (is_eq (id_cmp j id) && asks_lock b x q.func (tx_now d id q) (effect_of d q))) g ∙ by_test (is_eq (id_cmp j id) && asks_lock b x q.func (tx_now d id q) (effect_of d q)) refl
+      where
+        by_test : (t : Bool) → (is_eq (id_cmp j id) && asks_lock b x q.func (tx_now d id q) (effect_of d q)) ≡ t → t ≡ false
+        by_test true e = let k = there e in cc
+        by_test false e = refl
+    locksets_answered b x j (Some rows.Lockset) there g = known_set known id r (λ i o. (owed_lockset d b x i (map.get known i) || lockset_ahead d known b x i (map.get known i)) ≡ true → (owed_lockset d b x i o || lockset_ahead d after b x i o) ≡ true)
+        (λ k. ap (λ z. z || lockset_ahead d after b x id (Some r)) (h.locksets b x
+        ∙ from_ahead (owed_lockset d b x id (Some q)) (is_none q.outcome) (is_open d known (tx_now d id q)) (asks_lock b x q.func (tx_now d id q) (effect_of d q)) (sym (ap (λ z. owed_lockset d b x id z || lockset_ahead d known b x id z) is) ∙ k)))
+        (λ i other k. ap (λ z. owed_lockset d b x i (map.get known i) || z) (ahead_same quiet_op b x i (map.get known i)) ∙ k) j g
+      where
+        from_ahead : (u y o t : Bool) → (u || (y && (o && t))) ≡ true → (u || t) ≡ true
+        from_ahead true y o t k = refl
+        from_ahead false true true t k = k
+        from_ahead false true false t k = cc
+        from_ahead false false o t k = cc
+    locksets_answered b x j (Some (rows.Intent i)) there g = g
+    locksets_answered b x j (Some (rows.ReadLog i)) there g = g
+    locksets_answered b x j (Some (rows.Invoke i)) there g = g
+    locksets_answered b x j (Some (rows.Cell i)) there g = g

@@ -1,0 +1,116 @@
+-- What is known stays sane with an answer, and a run that is behind stays so with what takes no turn.
+use Rattle.std.proofs.Common.{◌≡◌, ◌⊎◌, inl, inr, ℕ, suc, zero, List, [], ◌∷◌, ◌++◌, length, take, Option, None, Some, refl, ap, sym, ◌∙◌, subst, append_assoc, append-nil}
+use Rattle.std.specs.Prelude.{slice_get}
+use Rattle.beldi_value.specs.declared.id.IntentId.{IntentId}
+use Rattle.beldi_value.specs.declared.outcome.Outcome.{Outcome}
+use Rattle.beldi_value.specs.declared.place.TxId.{TxId}
+use Rattle.beldi_tree.specs.declared.deployment.Deployment.{Deployment}
+use Rattle.beldi_lang.specs.declared.effect.Answer.{Answer}
+use Rattle.beldi_lang.specs.declared.effect.Answer.TheVariants as answer
+use Rattle.beldi_lang.specs.declared.effect.Effect.{Effect}
+use Rattle.beldi_lang.specs.declared.effect.Effect.TheVariants as effect
+use Rattle.beldi_plain.specs.Plain.{Instance, effect_of, answered}
+use Rattle.beldi_plain.specs.Executor.{answered_if}
+use Rattle.beldi_order.proofs.Entries.{same_some}
+use Rattle.beldi_step.specs.Run.{place_of}
+use Rattle.beldi_known.specs.Known.{effect_after, answer_at_once, once_if, once, tx_after, tx_now, and_once, run_once, run_on, moved, Prefix}
+use Rattle.beldi_known.specs.Sane.{IsAnswer, SaneInstance, Closed}
+use Rattle.beldi_known.proofs.Answers.{take_front, get_next}
+
+-- ---- an answer more
+pushed_cases : (xs : List Answer) (a b : Answer) (n : ℕ) → slice_get (xs ++ a ∷ []) n ≡ Some b
+    → ((n ≡ length xs) × (take n (xs ++ a ∷ []) ≡ xs) × (b ≡ a)) ⊎ ((take n (xs ++ a ∷ []) ≡ take n xs) × (slice_get xs n ≡ Some b))
+pushed_cases [] a b zero h = inl (refl, refl, cc)
+pushed_cases [] a b (suc n) h = cc
+pushed_cases (c ∷ cs) a b zero h = inr (refl, h)
+pushed_cases (c ∷ cs) a b (suc n) h = elim (pushed_cases cs a b n h) [
+  | inl e ↦ inl (ap suc e.0, ap (λ ys. c ∷ ys) e.1, e.2)
+  | inr e ↦ inr (ap (λ ys. c ∷ ys) e.0, e.1)
+]
+
+pub sane_pushed : (d : Deployment) (id : IntentId) (q : Instance) (a : Answer) → q.outcome ≡ None → IsAnswer (place_of id (length q.answers)) (tx_now d id q) (effect_of d q) a → SaneInstance d id q → SaneInstance d id (answered q a)
+sane_pushed d id q a none is h = record {
+  past = λ n b g. elim (pushed_cases q.answers a b n g) [
+    | inl e ↦ subst (λ (z : ℕ). IsAnswer (place_of id z) (tx_after d id q (take n (q.answers ++ a ∷ []))) (effect_after d q (take n (q.answers ++ a ∷ []))) b) (sym e.0)
+        (subst (λ ts. IsAnswer (place_of id (length q.answers)) (tx_after d id q ts) (effect_after d q ts) b) (sym e.1) (subst (IsAnswer (place_of id (length q.answers)) (tx_now d id q) (effect_of d q)) (sym e.2) is))
+    | inr e ↦ subst (λ ts. IsAnswer (place_of id n) (tx_after d id q ts) (effect_after d q ts) b) (sym e.0) (h.past n b e.1)
+  ];
+  over = λ o g. let k = sym none ∙ g in cc;
+}
+
+sane_once : (d : Deployment) (id : IntentId) (q : Instance) → SaneInstance d id q → SaneInstance d id (once d id q)
+sane_once d id q h = by_outcome q.outcome refl
+  where
+    by_effect : q.outcome ≡ None → (e : Effect) → effect_of d q ≡ e → SaneInstance d id (answered_if q (answer_at_once id (length q.answers) e))
+    by_effect none effect.Begin is = sane_pushed d id q answer.Done none (subst (λ z. IsAnswer (place_of id (length q.answers)) (tx_now d id q) z answer.Done) (sym is) tt) h
+    by_effect none effect.Abort is = let a = answer.Aborted (record { place = place_of id (length q.answers); holder = None }) in
+        sane_pushed d id q a none (subst (λ z. IsAnswer (place_of id (length q.answers)) (tx_now d id q) z a) (sym is) refl) h
+    by_effect none e is = h
+
+    by_outcome : (o : Option Outcome) → q.outcome ≡ o → SaneInstance d id (once_if d id q o)
+    by_outcome None none = by_effect none (effect_of d q) refl
+    by_outcome (Some o) some = h
+
+-- a plain step inside, or a death
+pub sane_moved : (d : Deployment) (id : IntentId) (q : Instance) (a : Answer) → q.outcome ≡ None → IsAnswer (place_of id (length q.answers)) (tx_now d id q) (effect_of d q) a → SaneInstance d id q → SaneInstance d id (moved d id q a)
+sane_moved d id q a none is h = sane_once d id (once d id (answered q a)) (sane_once d id (answered q a) (sane_pushed d id q a none is h))
+
+-- ---- answers only grow
+pub record GoesOn (q r : Instance) : Type 0 where
+  pub more : List Answer
+  pub same : q.answers ++ more ≡ r.answers
+
+once_goes : (d : Deployment) (id : IntentId) (q : Instance) → GoesOn q (once d id q)
+once_goes d id q = by_outcome q.outcome
+  where
+    by_answer : (o : Option Answer) → GoesOn q (answered_if q o)
+    by_answer None = record { more = []; same = append-nil q.answers }
+    by_answer (Some a) = record { more = a ∷ []; same = refl }
+
+    by_outcome : (o : Option Outcome) → GoesOn q (once_if d id q o)
+    by_outcome None = by_answer (answer_at_once id (length q.answers) (effect_of d q))
+    by_outcome (Some o) = record { more = []; same = append-nil q.answers }
+
+goes_then : (q r u : Instance) → GoesOn q r → GoesOn r u → GoesOn q u
+goes_then q r u g h = record { more = g.more ++ h.more; same = sym (append_assoc q.answers g.more h.more) ∙ ap (λ xs. xs ++ h.more) g.same ∙ h.same }
+
+pub moved_goes : (d : Deployment) (id : IntentId) (q : Instance) (a : Answer) → GoesOn q (moved d id q a)
+moved_goes d id q a = goes_then q (answered q a) (moved d id q a) (record { more = a ∷ []; same = refl })
+    (goes_then (answered q a) (once d id (answered q a)) (moved d id q a) (once_goes d id (answered q a)) (once_goes d id (once d id (answered q a))))
+
+-- so a run's answers stay how the known ones begin
+pub prefix_stays : (given : List Answer) (q r : Instance) → Prefix given q → GoesOn q r → Prefix given r
+prefix_stays given q r h g = record { later = h.later ++ g.more; all = sym (append_assoc given h.later g.more) ∙ ap (λ xs. xs ++ g.more) h.all ∙ g.same }
+
+-- ---- a run takes at once what is known there
+module _ (d : Deployment) (id : IntentId) (q : Instance) (closed : Closed d id q) (sane : SaneInstance d id q) where
+  -- an answer that takes no turn is the only one to its effect
+  only_one : (t : Option TxId) (n : ℕ) (e : Effect) (a b : Answer) → answer_at_once id n e ≡ Some a → IsAnswer (place_of id n) t e b → b ≡ a
+  only_one t n effect.Begin a answer.Done h g = same_some h
+  only_one t n effect.Begin a b h g = absurd g
+  only_one t n effect.Abort a (answer.Aborted c) h g = ap answer.Aborted g ∙ same_some h
+  only_one t n effect.Abort a b h g = absurd g
+  only_one t n e a b h g = cc
+
+  none_at_outcome : (o : Option Outcome) → q.outcome ≡ o → answer_at_once id (length q.answers) (effect_of d q) ≡ None
+  none_at_outcome None e = closed e
+  none_at_outcome (Some o) e = ap (answer_at_once id (length q.answers)) (sane.over o e)
+
+  run_once_prefix : (given : List Answer) → Prefix given q → Prefix (run_once d id q given) q
+  run_once_prefix given h = by_later h.later h.all
+    where
+      by_answer : (later : List Answer) (b : Answer) → given ++ b ∷ later ≡ q.answers → (o : Option Answer) → answer_at_once id (length given) (effect_after d q given) ≡ o → Prefix (and_once given o) q
+      by_answer later b all None e = record { later = b ∷ later; all = all }
+      by_answer later b all (Some a) e =
+          let front : take (length given) q.answers ≡ given = ap (take (length given)) (sym all) ∙ take_front given (b ∷ later) in
+          let there : slice_get q.answers (length given) ≡ Some b = ap (λ xs. slice_get xs (length given)) (sym all) ∙ get_next given later b in
+          let is = subst (λ ts. IsAnswer (place_of id (length given)) (tx_after d id q ts) (effect_after d q ts) b) front (sane.past (length given) b there) in
+          record { later = later; all = append_assoc given (a ∷ []) later ∙ ap (λ z. given ++ z ∷ later) (sym (only_one (tx_after d id q given) (length given) (effect_after d q given) a b e is)) ∙ all }
+
+      by_later : (later : List Answer) → given ++ later ≡ q.answers → Prefix (run_once d id q given) q
+      by_later [] all = let same : q.answers ≡ given = sym all ∙ append-nil given in
+          subst (λ o. Prefix (and_once given o) q) (sym (ap (λ ts. answer_at_once id (length ts) (effect_after d q ts)) (sym same) ∙ none_at_outcome q.outcome refl)) (record { later = []; all = all })
+      by_later (b ∷ later) all = by_answer later b all (answer_at_once id (length given) (effect_after d q given)) refl
+
+  pub run_on_prefix : (given : List Answer) → Prefix given q → Prefix (run_on d id q given) q
+  run_on_prefix given h = run_once_prefix (run_once d id q given) (run_once_prefix given h)

@@ -1,0 +1,191 @@
+-- The front acts of operations inside, by their effects; and a release.
+use Rattle.std.specs.Option.{is_none}
+use Rattle.std.proofs.Common.{◌≡◌, ℕ, ◌==◌, ◌&&◌, ◌||◌, not, Bool, true, false, cond, List, [], ◌∷◌, ◌++◌, length, Option, None, Some, is_some, refl, ap, sym, ◌∙◌, subst, eq-eqb, if◌then◌else◌}
+use Rattle.std.specs.FinMap as map
+use Rattle.std.specs.Ordering.{is_eq}
+use Rattle.std.proofs.lemmas.Cmp.{tied_itself}
+use Rattle.beldi_value.specs.declared.id.IntentId.{IntentId}
+use Rattle.beldi_value.specs.declared.place.Owner.TheVariants.{Intent, Tx}
+use Rattle.beldi_value.specs.declared.place.Place.{Place}
+use Rattle.beldi_value.specs.declared.place.TxId.{TxId}
+use Rattle.beldi_value.specs.declared.rel.Rel.{Rel}
+use Rattle.beldi_value.specs.declared.value.Value.{Value}
+use Rattle.beldi_value.specs.declared.value.Value.TheVariants as value
+use Rattle.beldi_tree.specs.declared.deployment.Deployment.{Deployment}
+use Rattle.beldi_lang.specs.declared.effect.Answer.{Answer}
+use Rattle.beldi_lang.specs.declared.effect.Answer.TheVariants as answer
+use Rattle.beldi_lang.specs.declared.effect.Effect.{Effect}
+use Rattle.beldi_lang.specs.declared.effect.Effect.TheVariants as effect
+use Rattle.beldi_row.specs.Log.{note_at, place_eq}
+use Rattle.beldi_row.specs.Table.{Rows, set_row}
+use Rattle.beldi_row.specs.declared.notes.Note.{Note}
+use Rattle.beldi_row.specs.declared.notes.Note.TheVariants as notes
+use Rattle.beldi_row.specs.declared.row.Row.{Row}
+use Rattle.beldi_row.specs.declared.row.Row.TheVariants as rows
+use Rattle.beldi_row.proofs.Logs.{note_pushed, place_same}
+use Rattle.beldi_row.proofs.Gets.{got as row_got, key_same}
+use Rattle.beldi_row.specs.Key.{key_cmp}
+use Rattle.beldi_daal.specs.Content.{Content, content_in}
+use Rattle.beldi_readlog.specs.ReadLog.{log_key}
+use Rattle.beldi_plain.specs.Item.{Item, item_cmp, item_total}
+use Rattle.beldi_plain.specs.Plain.{Instance, effect_of}
+use Rattle.beldi_step.specs.Run.{place_of}
+use Rattle.beldi_known.specs.Rows.{CellMatches}
+use Rattle.beldi_known.specs.Owed.{note_of}
+use Rattle.beldi_known.specs.Contents.{is_owner, head_key, content_of, shadow_key, shadow_of, lockset_key}
+use Rattle.beldi_known.specs.Known.{Known, txs_after, tx_now, tx_eq, is_tx, touched, write_op, shadow_by, owed_note, owed_lockset, begins_at, is_item, tx_end, is_mark, moved}
+use Rattle.beldi_known.specs.Matches.{Matches, RowMatches, ItemMatches, ShadowMatches, TxsMatch, lockset_ahead, is_open}
+use Rattle.beldi_known.specs.Acts.{with_note}
+use Rattle.beldi_known.specs.Frame.{row_added, LockedOut}
+use Rattle.beldi_known.proofs.Answers.{true_false}
+use Rattle.beldi_known.proofs.Rows.{keys_set}
+use Rattle.beldi_known.proofs.Frame.{moved_one, no_shadow}
+use Rattle.beldi_known.proofs.Locks.{tx_self}
+use Rattle.beldi_known.proofs.Acts.{read_answered, write_answered, lock_died, kinds_apart, is_data, is_shadow, content_apart, shadow_apart, by_item, content_here, turned}
+
+none_both : (b c : Bool) → (if b then (if c then None else None) else None) ≡ (λ (o : Option Note). o) None
+none_both true true = refl
+none_both true false = refl
+none_both false c = refl
+
+module _ (d : Deployment) (known : Known) (locked unlocked : IntentId → Bool) (id : IntentId) (q : Instance) (is : map.get known id ≡ Some q) (out : LockedOut locked unlocked id)
+    (s : TxId) (inside : tx_now d id q ≡ Some s) (m : Rows) (h : Matches d m known locked) (t : ℕ) (k : List ℕ) where
+  abbrev item : Item
+  item = record { func = q.func; table = t; key = k }
+
+  abbrev place : Place
+  place = place_of id (length q.answers)
+
+  abbrev HasLockset : Type 0
+  HasLockset = map.get m (lockset_key id s.begin item) ≡ Some rows.Lockset
+
+  -- a read
+  pub read_inside : (v : Value) → effect_of d q ≡ effect.Read t k → HasLockset → locked id ≡ true
+      → Matches d (set_row m (log_key q.func place) (Some (rows.ReadLog v))) (map.insert known id (moved d id q (answer.Value v))) unlocked
+  read_inside v wants lockset was = read_answered d known locked unlocked id q (moved d id q (answer.Value v)) (answer.Value v) is (moved_one d id q (answer.Value v)) out s inside (t, k) (ap touched wants) m lockset h
+      v (ap (λ e. row_added (length q.answers) (txs_after d q q.answers).begun e (answer.Value v)) wants) was refl
+      (λ u x. ap (λ e. shadow_by u x q.func (tx_now d id q) e (answer.Value v)) wants ∙ no_shadow u x q.func (tx_now d id q) (effect.Read t k) (answer.Value v) refl)
+
+  -- a write of the shadow's row, plain or tested
+  noted : (e : Effect) (a : Answer) (w : Note) → effect_of d q ≡ e → note_of item q.func (write_op e) a ≡ Some w → shadow_by s item q.func (tx_now d id q) (effect_of d q) a ≡ Some w
+  noted e a w wants note = ap (λ z. if is_tx s z then note_of item q.func (write_op (effect_of d q)) a else None) inside ∙ ap (λ b. if b then note_of item q.func (write_op (effect_of d q)) a else None) (tx_self s) ∙ ap (λ z. note_of item q.func (write_op z) a) wants ∙ note
+
+  apart : (e : Effect) (a : Answer) (n : Option Note) → effect_of d q ≡ e → ((x : Item) → note_of x q.func (write_op e) a ≡ (if is_eq (item_cmp item x) then n else None)) → (u : TxId) (x : Item) → (tx_eq u s && is_eq (item_cmp item x)) ≡ false
+      → shadow_by u x q.func (tx_now d id q) (effect_of d q) a ≡ None
+  apart e a n wants notes u x h = ap (λ z. if is_tx u z then note_of x q.func (write_op (effect_of d q)) a else None) inside ∙ ap (λ z. if tx_eq u s then note_of x q.func (write_op z) a else None) wants ∙ ap (λ z. if tx_eq u s then z else None) (notes x) ∙ by_tests (tx_eq u s) (is_eq (item_cmp item x)) h
+    where
+      by_tests : (b c : Bool) → (b && c) ≡ false → (if b then (if c then n else None) else None) ≡ None
+      by_tests true true g = absurd (true_false g)
+      by_tests true false g = refl
+      by_tests false c g = refl
+
+  pub write_inside : (v : Value) (r : Option Row) → effect_of d q ≡ effect.Write t k v → HasLockset → locked id ≡ true → CellMatches 0 r → note_at (shadow_of m s item).notes place ≡ None
+      → content_in r ≡ record { value = v; owner = (shadow_of m s item).owner; notes = (shadow_of m s item).notes ++ (place, notes.Wrote) ∷ [] }
+      → Matches d (set_row m (shadow_key s item) r) (map.insert known id (moved d id q answer.Done)) unlocked
+  write_inside v r wants lockset was fits none same = write_answered d known locked unlocked id q (moved d id q answer.Done) answer.Done is (moved_one d id q answer.Done) out s inside (t, k) (ap touched wants) m lockset h
+      r notes.Wrote fits (ap (λ e. row_added (length q.answers) (txs_after d q q.answers).begun e answer.Done) wants) was refl
+      (noted (effect.Write t k v) answer.Done notes.Wrote wants (ap (λ b. if is_eq b then Some notes.Wrote else None) (tied_itself item_total item)))
+      (apart (effect.Write t k v) answer.Done (Some notes.Wrote) wants (λ x. refl)) none v same
+
+  pub test_inside : (u : Rel) (y v : Value) (r : Option Row) (b : Bool) → effect_of d q ≡ effect.CondWrite t k u y v → HasLockset → locked id ≡ true → CellMatches 0 r → note_at (shadow_of m s item).notes place ≡ None
+      → (w : Value) → content_in r ≡ record { value = w; owner = (shadow_of m s item).owner; notes = (shadow_of m s item).notes ++ (place, notes.Cond b) ∷ [] }
+      → Matches d (set_row m (shadow_key s item) r) (map.insert known id (moved d id q (answer.Value (value.Bool b)))) unlocked
+  test_inside u y v r b wants lockset was fits none w same = let a = answer.Value (value.Bool b) in
+      write_answered d known locked unlocked id q (moved d id q a) a is (moved_one d id q a) out s inside (t, k) (ap touched wants) m lockset h
+      r (notes.Cond b) fits (ap (λ e. row_added (length q.answers) (txs_after d q q.answers).begun e a) wants) was refl
+      (noted (effect.CondWrite t k u y v) a (notes.Cond b) wants (ap (λ c. if is_eq c then Some (notes.Cond b) else None) (tied_itself item_total item)))
+      (apart (effect.CondWrite t k u y v) a (Some (notes.Cond b)) wants (λ x. refl)) none w same
+
+  -- a death, of any of them
+  pub dies_inside : (holder : IntentId) (r : Option Row) → touched (effect_of d q) ≡ Some (t, k) → HasLockset → locked id ≡ false → CellMatches 0 r → note_at (content_of m item).notes place ≡ None
+      → content_in r ≡ with_note (content_of m item) place (notes.Died holder)
+      → Matches d (set_row m (head_key item) r) (map.insert known id (moved d id q (answer.Aborted (record { place = place; holder = Some holder })))) unlocked
+  dies_inside holder r touch lockset was fits none same = let a = answer.Aborted (record { place = place; holder = Some holder }) in
+      lock_died d known locked unlocked id q (moved d id q a) a is (moved_one d id q a) out s inside (t, k) touch m lockset h
+      r holder fits (no_row (effect_of d q) touch) refl was (λ u x. by_effect u x (effect_of d q) touch) none same
+    where
+      no_row : (e : Effect) → touched e ≡ Some (t, k) → row_added (length q.answers) (txs_after d q q.answers).begun e (answer.Aborted (record { place = place; holder = Some holder })) ≡ None
+      no_row (effect.Read t k) g = refl
+      no_row (effect.End c) g = cc
+      no_row e g = by_begun (txs_after d q q.answers).begun
+        where
+          by_begun : (o : Option ℕ) → row_added (length q.answers) o e (answer.Aborted (record { place = place; holder = Some holder })) ≡ None
+          by_begun None = refl
+          by_begun (Some b) = refl
+
+      by_effect : (u : TxId) (x : Item) (e : Effect) → touched e ≡ Some (t, k) → shadow_by u x q.func (tx_now d id q) e (answer.Aborted (record { place = place; holder = Some holder })) ≡ None
+      by_effect u x (effect.Read b y) g = no_shadow u x q.func (tx_now d id q) (effect.Read b y) (answer.Aborted (record { place = place; holder = Some holder })) refl
+      by_effect u x (effect.Write b y v) g = none_both (is_tx u (tx_now d id q)) (is_eq (item_cmp (record { func = q.func; table = b; key = y }) x))
+      by_effect u x (effect.CondWrite b y w o v) g = none_both (is_tx u (tx_now d id q)) (is_eq (item_cmp (record { func = q.func; table = b; key = y }) x))
+      by_effect u x e g = cc
+
+-- ---- a release: the item's owner goes, and a note at a mark comes
+module _ (d : Deployment) (known : Known) (locked : IntentId → Bool) (x : Item) (c : Content) (s : TxId) (owned : c.owner ≡ Some (Tx s)) (z : ℕ × Bool) (decided : tx_end d known s ≡ Some z) where
+  pub item_released : (p : Place) (v : Value) → is_mark d known p.step (map.get known p.intent) ≡ true → note_at c.notes p ≡ None → ItemMatches d known locked x c
+      → ItemMatches d known locked x (record { value = v; owner = None; notes = c.notes ++ (p, notes.Freed) ∷ [] })
+  item_released p v mark none h = record {
+    owner = λ j. sym (ap (λ o. is_owner o (Intent j)) owned) ∙ h.owner j;
+    notes = λ a apart. note_pushed c.notes p a notes.Freed none ∙ by_place a apart (place_eq p a) refl;
+  }
+    where
+      by_place : (a : Place) → is_mark d known a.step (map.get known a.intent) ≡ false → (b : Bool) → place_eq p a ≡ b → (if b then Some notes.Freed else note_at c.notes a) ≡ owed_note d x a.intent (locked a.intent) a.step (map.get known a.intent)
+      by_place a apart true e = absurd (true_false (sym mark ∙ ap (λ (y : Place). is_mark d known y.step (map.get known y.intent)) (place_same p a e) ∙ apart))
+      by_place a apart false e = h.notes a apart
+
+  pub txs_released : TxsMatch d known locked x c.owner → TxsMatch d known locked x None
+  txs_released h = record {
+    owned_is_got = λ t e. cc;
+    got_is_owned = λ t g open_still. let k : Some (Tx s) ≡ Some (Tx t) = sym owned ∙ h.got_is_owned t g open_still in let same : s ≡ t = cc in let e = sym open_still ∙ ap (tx_end d known) (sym same) ∙ decided in cc;
+  }
+
+-- .. and the rows
+pub released : (d : Deployment) (m : Rows) (known : Known) (locked : IntentId → Bool) (x : Item) (s : TxId) (z : ℕ × Bool) (p : Place) (w : Value) (v : Option Row) → (content_of m x).owner ≡ Some (Tx s) → tx_end d known s ≡ Some z → is_mark d known p.step (map.get known p.intent) ≡ true
+    → note_at (content_of m x).notes p ≡ None → CellMatches 0 v → content_in v ≡ record { value = w; owner = None; notes = (content_of m x).notes ++ (p, notes.Freed) ∷ [] } → Matches d m known locked → Matches d (set_row m (head_key x) v) known locked
+released d m known locked x s z p w v owned decided mark none fits same h = record {
+  keys = keys_set m (head_key x) v (λ l r. RowMatches d known l.home l.kind r) fits (λ l other. h.keys l);
+  items = λ y. by_item x y (λ y. ItemMatches d known locked y (content_of (set_row m (head_key x) v) y))
+      (subst (ItemMatches d known locked x) (sym (content_here m v x ∙ same)) (item_released d known locked x (content_of m x) s owned z decided p w mark none (h.items x)))
+      (λ other. subst (ItemMatches d known locked y) (sym (content_apart m (head_key x) v y (turned x y other))) (h.items y));
+  shadows = λ t y. subst (ShadowMatches d known t y) (sym (shadow_apart m (head_key x) v t y (kinds_apart is_shadow (shadow_key t y) (head_key x) refl refl))) (h.shadows t y);
+  txs = λ y. by_item x y (λ y. TxsMatch d known locked y (content_of (set_row m (head_key x) v) y).owner)
+      (subst (λ (c : Content). TxsMatch d known locked x c.owner) (sym (content_here m v x ∙ same)) (txs_released d known locked x (content_of m x) s owned z decided (h.txs x)))
+      (λ other. subst (λ (c : Content). TxsMatch d known locked y c.owner) (sym (content_apart m (head_key x) v y (turned x y other))) (h.txs y));
+}
+
+-- ---- the front acts that answer nothing
+module _ (d : Deployment) (known : Known) (locked : IntentId → Bool) (m : Rows) (h : Matches d m known locked) where
+  -- a lockset row, ahead of its answer
+  pub lockset_put : (id : IntentId) (q : Instance) (s : TxId) (o : ℕ × List ℕ) → map.get known id ≡ Some q → q.outcome ≡ None → tx_now d id q ≡ Some s → tx_end d known s ≡ None → touched (effect_of d q) ≡ Some o
+      → Matches d (set_row m (lockset_key id s.begin (record { func = q.func; table = o.0; key = o.1 })) (Some rows.Lockset)) known locked
+  lockset_put id q s o is none inside open_still touch = let x : Item = record { func = q.func; table = o.0; key = o.1 } in let k = lockset_key id s.begin x in record {
+    keys = keys_set m k (Some rows.Lockset) (λ l z. RowMatches d known l.home l.kind z) (or_second (owed_lockset d s.begin x id (map.get known id)) (lockset_ahead d known s.begin x id (map.get known id)) ahead) (λ l other. h.keys l);
+    items = λ y. subst (ItemMatches d known locked y) (sym (content_apart m k (Some rows.Lockset) y (kinds_apart is_data (head_key y) k refl refl))) (h.items y);
+    shadows = λ t y. subst (ShadowMatches d known t y) (sym (shadow_apart m k (Some rows.Lockset) t y (kinds_apart is_shadow (shadow_key t y) k refl refl))) (h.shadows t y);
+    txs = λ y. subst (λ (c : Content). TxsMatch d known locked y c.owner) (sym (content_apart m k (Some rows.Lockset) y (kinds_apart is_data (head_key y) k refl refl))) (h.txs y);
+  }
+    where
+      or_second : (a b : Bool) → b ≡ true → (a || b) ≡ true
+      or_second true b g = refl
+      or_second false b g = g
+
+      ahead : lockset_ahead d known s.begin (record { func = q.func; table = o.0; key = o.1 }) id (map.get known id) ≡ true
+      ahead = ap (lockset_ahead d known s.begin (record { func = q.func; table = o.0; key = o.1 }) id) is
+          ∙ ap (λ z. is_none z && (is_open d known (tx_now d id q) && (begins_at s.begin (tx_now d id q) && is_item (record { func = q.func; table = o.0; key = o.1 }) q.func (touched (effect_of d q))))) none
+          ∙ ap (λ z. is_open d known z && (begins_at s.begin z && is_item (record { func = q.func; table = o.0; key = o.1 }) q.func (touched (effect_of d q)))) inside
+          ∙ ap (λ z. not (is_some z) && ((s.begin == s.begin) && is_item (record { func = q.func; table = o.0; key = o.1 }) q.func (touched (effect_of d q)))) open_still
+          ∙ ap (λ b. b && is_item (record { func = q.func; table = o.0; key = o.1 }) q.func (touched (effect_of d q))) (eq-eqb s.begin s.begin refl)
+          ∙ ap (is_item (record { func = q.func; table = o.0; key = o.1 }) q.func) touch ∙ ap is_eq (tied_itself item_total (record { func = q.func; table = o.0; key = o.1 }))
+
+  -- the first row of a shadow, without notes
+  pub shadow_made : (s : TxId) (x : Item) (v : Option Row) → CellMatches 0 v → map.get m (shadow_key s x) ≡ None → (content_in v).notes ≡ [] → Matches d (set_row m (shadow_key s x) v) known locked
+  shadow_made s x v fits absent empty = let k = shadow_key s x in record {
+    keys = keys_set m k v (λ l z. RowMatches d known l.home l.kind z) fits (λ l other. h.keys l);
+    items = λ y. subst (ItemMatches d known locked y) (sym (content_apart m k v y (kinds_apart is_data (head_key y) k refl refl))) (h.items y);
+    shadows = λ t y a. ap (λ ns. note_at ns a) (same_notes t y (is_eq (key_cmp (shadow_key t y) k)) refl) ∙ h.shadows t y a;
+    txs = λ y. subst (λ (c : Content). TxsMatch d known locked y c.owner) (sym (content_apart m k v y (kinds_apart is_data (head_key y) k refl refl))) (h.txs y);
+  }
+    where
+      same_notes : (t : TxId) (y : Item) (b : Bool) → is_eq (key_cmp (shadow_key t y) (shadow_key s x)) ≡ b → (shadow_of (set_row m (shadow_key s x) v) t y).notes ≡ (shadow_of m t y).notes
+      same_notes t y true e = ap (λ r. (content_in r).notes) (row_got m (shadow_key s x) (shadow_key t y) v ∙ ap (λ b. cond b v (map.get m (shadow_key t y))) e) ∙ empty
+          ∙ sym (ap (λ r. (content_in r).notes) (ap (map.get m) (key_same (shadow_key t y) (shadow_key s x) e) ∙ absent))
+      same_notes t y false e = ap (λ (c : Content). c.notes) (shadow_apart m (shadow_key s x) v t y e)

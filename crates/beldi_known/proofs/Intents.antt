@@ -1,0 +1,127 @@
+-- The row of an intent, over what is known: its instance is made, or ends, or only the row is set.
+use Rattle.std.proofs.Common.{◌≡◌, ℕ, ◌==◌, Bool, true, false, Option, None, Some, is_some, refl, ap, sym, ◌∙◌, subst, eqb-true, eq-eqb, if◌then◌else◌}
+use Rattle.std.specs.FinMap as map
+use Rattle.std.specs.Ordering.{is_eq}
+use Rattle.beldi_value.specs.Id.{id_total, id_exact, child_of, has_no_hops}
+use Rattle.beldi_value.specs.declared.id.IntentId.{IntentId}
+use Rattle.beldi_value.specs.declared.outcome.Outcome.{Outcome}
+use Rattle.beldi_value.specs.declared.place.Place.{Place}
+use Rattle.beldi_value.proofs.Callees.{no_root}
+use Rattle.beldi_tree.specs.declared.deployment.Deployment.{Deployment}
+use Rattle.beldi_row.specs.Key.{key_cmp}
+use Rattle.beldi_row.specs.Table.{Rows, set_row}
+use Rattle.beldi_row.specs.declared.key.RowKey.{RowKey}
+use Rattle.beldi_row.specs.declared.key.Kind.{Kind}
+use Rattle.beldi_row.specs.declared.key.Kind.TheVariants as kinds
+use Rattle.beldi_row.specs.declared.row.Body.{Body}
+use Rattle.beldi_row.specs.declared.row.IntentRow.{IntentRow}
+use Rattle.beldi_row.specs.declared.row.Row.{Row}
+use Rattle.beldi_row.specs.declared.row.Row.TheVariants as rows
+use Rattle.beldi_row.proofs.Gets.{key_self}
+use Rattle.beldi_row.proofs.Rows.{get_set}
+use Rattle.beldi_plain.specs.Plain.{Instance, ended}
+use Rattle.beldi_order.proofs.Entries.{same_some}
+use Rattle.beldi_step.specs.Run.{is_waited}
+use Rattle.beldi_known.specs.Known.{Known, owed_call}
+use Rattle.beldi_known.specs.Matches.{Matches}
+use Rattle.beldi_known.specs.Owed.{called_by}
+use Rattle.beldi_known.specs.Rows.{IntentMatches, RootMatches, CalleeMatches, CalleeBodyMatches, BodyMatches, OutcomeMatches, IsRootRow, IsCalleeRow, EndsRow}
+use Rattle.beldi_known.proofs.Answers.{true_false}
+use Rattle.beldi_known.proofs.Instances.{body_stays, calls_moved, same_caller, same_callee}
+use Rattle.beldi_known.proofs.Sets.{OwesStill, instance_set, row_put}
+
+-- the key of an intent's row in a home
+abbrev pub own_key : ℕ → IntentId → RowKey
+own_key home id = record { home = home; kind = kinds.Intent id }
+
+-- ---- an instance was set with its row in this home, and matches those in others still
+module _ (d : Deployment) (known : Known) (locked : IntentId → Bool) (id : IntentId) (s : Instance) (unlocked : locked id ≡ false) (owes : OwesStill d known id (map.get known id) s) where
+  abbrev after : Known
+  after = map.insert known id s
+
+  module _ (home : ℕ) (others : (f : ℕ) (r : Option Row) → (f == home) ≡ false → IntentMatches (has_no_hops id.hops) f r (map.get known id) → IntentMatches (has_no_hops id.hops) f r (Some s))
+      (calls : (f : ℕ) (b : Place) → owed_call after f b ≡ owed_call known f b) where
+    pub own_set : (m : Rows) (r : IntentRow) → IntentMatches (has_no_hops id.hops) home (Some (rows.Intent r)) (Some s) → Matches d m known locked → Matches d (set_row m (own_key home id) (Some (rows.Intent r))) after locked
+    own_set m r fits h = instance_set d known locked id s unlocked owes m (own_key home id) (Some (rows.Intent r)) refl
+        (subst (IntentMatches (has_no_hops id.hops) home (Some (rows.Intent r))) (sym (get_set id_total id_exact known id s)) fits)
+        (λ l other e g. at_home l.home (map.get m l) (l.home == home) refl (subst (λ (z : Kind). is_eq (key_cmp (record { home = l.home; kind = z }) (own_key home id)) ≡ false) e other) g)
+        (λ l b other e. calls l.home b) h
+      where
+        at_home : (f : ℕ) (w : Option Row) (b : Bool) → (f == home) ≡ b → is_eq (key_cmp (own_key f id) (own_key home id)) ≡ false → IntentMatches (has_no_hops id.hops) f w (map.get known id) → IntentMatches (has_no_hops id.hops) f w (Some s)
+        at_home f w true e other g = let same : is_eq (key_cmp (own_key home id) (own_key home id)) ≡ false = subst (λ z. is_eq (key_cmp (own_key z id) (own_key home id)) ≡ false) (eqb-true f home e) other in absurd (true_false (sym (key_self (own_key home id)) ∙ same))
+        at_home f w false e other g = others f w e g
+
+  -- a root: its row stands in the host's home, and it is nobody's callee
+  pub root_set : has_no_hops id.hops ≡ true → ((f : ℕ) (b : Place) → b.intent ≡ id → called_by f (Some s) (map.get after (child_of b.intent b.step)) ≡ called_by f (map.get known id) (map.get after (child_of b.intent b.step)))
+      → (m : Rows) (r : IntentRow) → IsRootRow r (Some s) → Matches d m known locked → Matches d (set_row m (own_key 0 id) (Some (rows.Intent r))) after locked
+  root_set root calls m r fits h = own_set 0 others kept m r (subst (λ b. IntentMatches b 0 (Some (rows.Intent r)) (Some s)) (sym root) fits) h
+    where
+      kept : (f : ℕ) (b : Place) → owed_call after f b ≡ owed_call known f b
+      kept f b = calls_moved known id s f b (calls f b) (λ e. absurd (true_false (sym root ∙ ap (λ z. has_no_hops z.hops) (sym e) ∙ no_root b.intent b.step)))
+
+      others : (f : ℕ) (w : Option Row) → (f == 0) ≡ false → IntentMatches (has_no_hops id.hops) f w (map.get known id) → IntentMatches (has_no_hops id.hops) f w (Some s)
+      others f w off g = subst (λ b. IntentMatches b f w (Some s)) (sym root) (subst (λ b. RootMatches b w (Some s)) (sym off) (subst (λ b. RootMatches b w (map.get known id)) off (subst (λ b. IntentMatches b f w (map.get known id)) root g)))
+
+-- ---- an instance that nobody waits for ended, and so did its row
+finishes_too : (r s : IntentRow) (o : Outcome) → EndsRow r s o → is_some s.finish ≡ is_some s.outcome
+finishes_too r s o e = e.finish ∙ sym (ap is_some e.outcome)
+
+module _ (d : Deployment) (known : Known) (locked : IntentId → Bool) (id : IntentId) (q : Instance) (o : Outcome) (is : map.get known id ≡ Some q) (unlocked : locked id ≡ false) (owes : OwesStill d known id (map.get known id) (ended q o)) (idle : is_waited q.from ≡ false) where
+  abbrev over : Known
+  over = map.insert known id (ended q o)
+
+  as_caller : (f : ℕ) (b : Place) → called_by f (Some (ended q o)) (map.get over (child_of b.intent b.step)) ≡ called_by f (map.get known id) (map.get over (child_of b.intent b.step))
+  as_caller f b = same_caller f q (ended q o) (map.get over (child_of b.intent b.step)) refl ∙ ap (λ z. called_by f z (map.get over (child_of b.intent b.step))) (sym is)
+
+  kept : (f : ℕ) (b : Place) → owed_call over f b ≡ owed_call known f b
+  kept f b = calls_moved known id (ended q o) f b (λ e. as_caller f b)
+      (λ e. same_callee f (map.get known b.intent) q (ended q o) refl (ap (λ t. if t then Some o else None) idle ∙ sym (ap (λ t. if t then q.outcome else None) idle)) ∙ ap (called_by f (map.get known b.intent)) (sym is))
+
+  root_body : (b : Option Body) (u : Option Outcome) → BodyMatches b u (Some q) → BodyMatches b (Some o) (Some (ended q o))
+  root_body None u g = cc
+  root_body (Some b) u g = (body_stays b q (ended q o) refl g.0, refl)
+
+  pub root_ended : has_no_hops id.hops ≡ true → (m : Rows) (r s : IntentRow) → EndsRow r s o → map.get m (own_key 0 id) ≡ Some (rows.Intent r) → Matches d m known locked → Matches d (set_row m (own_key 0 id) (Some (rows.Intent s))) over locked
+  root_ended root m r s e at h = root_set d known locked id (ended q o) unlocked owes root (λ f b same. as_caller f b) m s (record {
+    bare = λ none. absurd (no_body (r.body) (sym e.body ∙ none) was.body);
+    finishes = finishes_too r s o e;
+    body = subst (λ b. BodyMatches b s.outcome (Some (ended q o))) (sym e.body) (subst (λ u. BodyMatches r.body u (Some (ended q o))) (sym e.outcome) (root_body r.body r.outcome was.body));
+  }) h
+    where
+      was : IsRootRow r (Some q)
+      was = subst (IsRootRow r) is (subst (λ w. RootMatches true w (map.get known id)) at (subst (λ b. IntentMatches b 0 (map.get m (own_key 0 id)) (map.get known id)) root (h.keys (own_key 0 id))))
+
+      no_body : (b : Option Body) → b ≡ None → BodyMatches b r.outcome (Some q) → ⊥
+      no_body None none g = cc
+      no_body (Some b) none g = cc
+
+  -- in another home a callee has no row
+  others : (f : ℕ) (w : Option Row) → (f == q.func) ≡ false → CalleeMatches f w (Some q) → CalleeMatches f w (Some (ended q o))
+  others f None off g = record { open_still = λ z at func away. absurd (true_false (sym (eq-eqb f q.func (sym func ∙ ap (λ y. y.func) (sym (same_some at)))) ∙ off)) }
+  others f (Some (rows.Intent j)) off g = absurd (no_body j.body g.body)
+    where
+      no_body : (b : Option Body) → CalleeBodyMatches f b j.outcome (Some q) → ⊥
+      no_body None y = y
+      no_body (Some b) y = true_false (sym (eq-eqb f q.func (sym y.1 ∙ ap (λ z. z.func) y.0.body ∙ ap (λ z. z.func) (same_some (sym y.0.made)))) ∙ off)
+  others f (Some w) off g = absurd g
+
+  callee_body : (b : Option Body) (u : Option Outcome) → CalleeBodyMatches q.func b u (Some q) → CalleeBodyMatches q.func b (Some o) (Some (ended q o))
+  callee_body None u g = absurd g
+  callee_body (Some b) u g =
+      let from = ap (λ z. is_waited z.from) g.0.body ∙ ap (λ z. is_waited z.from) (same_some (sym g.0.made)) ∙ idle in
+      (body_stays b q (ended q o) refl g.0, g.1, subst (λ t. OutcomeMatches t (Some o) (Some o)) (sym from) refl)
+
+  pub callee_ended : has_no_hops id.hops ≡ false → (m : Rows) (r s : IntentRow) → EndsRow r s o → map.get m (own_key q.func id) ≡ Some (rows.Intent r) → Matches d m known locked → Matches d (set_row m (own_key q.func id) (Some (rows.Intent s))) over locked
+  callee_ended hops m r s e at h = own_set d known locked id (ended q o) unlocked owes q.func
+      (λ f w off g. subst (λ b. IntentMatches b f w (Some (ended q o))) (sym hops) (others f w off (subst (CalleeMatches f w) is (subst (λ b. IntentMatches b f w (map.get known id)) hops g)))) kept m s
+      (subst (λ b. IntentMatches b q.func (Some (rows.Intent s)) (Some (ended q o))) (sym hops) (record {
+        finishes = finishes_too r s o e;
+        body = subst (λ b. CalleeBodyMatches q.func b s.outcome (Some (ended q o))) (sym e.body) (subst (λ u. CalleeBodyMatches q.func r.body u (Some (ended q o))) (sym e.outcome) (callee_body r.body r.outcome was.body));
+      })) h
+    where
+      was : IsCalleeRow q.func r (Some q)
+      was = subst (IsCalleeRow q.func r) is (subst (λ w. CalleeMatches q.func w (map.get known id)) at (subst (λ b. IntentMatches b q.func (map.get m (own_key q.func id)) (map.get known id)) hops (h.keys (own_key q.func id))))
+
+-- ---- a callee's row was set, and nothing more is known
+pub callee_put : (d : Deployment) (known : Known) (locked : IntentId → Bool) (m : Rows) (id : IntentId) (home : ℕ) (r : IntentRow) → has_no_hops id.hops ≡ false → IsCalleeRow home r (map.get known id) → Matches d m known locked → Matches d (set_row m (own_key home id) (Some (rows.Intent r))) known locked
+callee_put d known locked m id home r hops fits h = row_put d known locked m (own_key home id) (Some (rows.Intent r)) refl (subst (λ b. IntentMatches b home (Some (rows.Intent r)) (map.get known id)) (sym hops) fits) h

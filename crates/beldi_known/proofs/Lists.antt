@@ -1,0 +1,86 @@
+-- What is listed stays where a transaction that is open takes a lock, or writes its shadow.
+use Rattle.std.proofs.Common.{◌≡◌, Bool, true, false, cond, Option, None, Some, refl, ap, sym, ◌∙◌, subst, if◌then◌else◌}
+use Rattle.std.specs.FinMap as map
+use Rattle.std.specs.Ordering.{is_eq}
+use Rattle.beldi_value.specs.declared.place.Owner.{Owner}
+use Rattle.beldi_value.specs.declared.place.Owner.TheVariants.{Intent, Tx}
+use Rattle.beldi_value.specs.declared.place.TxId.{TxId}
+use Rattle.beldi_value.specs.declared.value.Value.{Value}
+use Rattle.beldi_row.specs.Act.{other_owner}
+use Rattle.beldi_row.specs.Key.{key_cmp}
+use Rattle.beldi_row.specs.Table.{Rows, set_row}
+use Rattle.beldi_row.specs.declared.key.RowKey.{RowKey}
+use Rattle.beldi_row.specs.declared.key.Kind.{Kind}
+use Rattle.beldi_row.specs.declared.key.Kind.TheVariants as kinds
+use Rattle.beldi_row.specs.declared.row.Row.{Row}
+use Rattle.beldi_row.proofs.Gets.{got as row_got, key_same}
+use Rattle.beldi_daal.specs.Content.{Content, content_in}
+use Rattle.beldi_readlog.specs.ReadLog.{log_key}
+use Rattle.beldi_plain.specs.Item.{Item}
+use Rattle.beldi_step.specs.Run.{place_of}
+use Rattle.beldi_known.specs.Contents.{head_key, content_of, shadow_key}
+use Rattle.beldi_known.proofs.Locks.{owned_is}
+use Rattle.beldi_known.proofs.Acts.{kinds_apart, is_data, is_shadow, content_apart, content_here, by_item, turned, shadow_same}
+use Rattle.beldi_known.proofs.OneFunction.{is_committed, value_in, listed_under, listed}
+
+abbrev pub is_log : Kind → Bool
+is_log (kinds.ReadLog a) = true
+is_log k = false
+
+-- a row that was set at a key of another kind
+pub elsewhere : (m : Rows) (k : RowKey) (v : Option Row) (f : Kind → Bool) (l : RowKey) → f l.kind ≡ true → f k.kind ≡ false → map.get (set_row m k v) l ≡ map.get m l
+elsewhere m k v f l h g = row_got m k l v ∙ ap (λ b. cond b v (map.get m l)) (kinds_apart f l k h g)
+
+-- the decision row of a transaction
+abbrev pub decision_key : TxId → RowKey
+decision_key t = log_key t.func (place_of t.intent t.begin)
+
+module _ (m : Rows) (s : TxId) (undecided : map.get m (decision_key s) ≡ None) where
+  pub open_lists : (n : Rows) (x : Item) (v : Value) → map.get n (decision_key s) ≡ map.get m (decision_key s) → listed_under n x (Some (Tx s)) v ≡ v
+  open_lists n x v same = ap (λ r. if is_committed r then value_in (map.get n (shadow_key s x)) v else v) (same ∙ undecided)
+
+  -- its item's row was set, with its value
+  module _ (item : Item) (v : Option Row) where
+    abbrev after : Rows
+    after = set_row m (head_key item) v
+
+    under_same : (x : Item) (o : Option Owner) (w : Value) → listed_under after x o w ≡ listed_under m x o w
+    under_same x None w = refl
+    under_same x (Some (Intent i)) w = refl
+    under_same x (Some (Tx t)) w =
+        ap (λ r. if is_committed r then value_in (map.get after (shadow_key t x)) w else w) (elsewhere m (head_key item) v is_log (decision_key t) refl refl)
+        ∙ ap (λ r. if is_committed (map.get m (decision_key t)) then value_in r w else w) (elsewhere m (head_key item) v is_shadow (shadow_key t x) refl refl)
+
+    was_listed : (o : Option Owner) (w : Value) → other_owner (Tx s) o ≡ None → listed_under m item o w ≡ w
+    was_listed None w free = refl
+    was_listed (Some (Intent i)) w free = cc
+    was_listed (Some (Tx t)) w free = subst (λ z. listed_under m item (Some (Tx z)) w ≡ w) (sym (owned_is s t (Some (Tx t)) free refl)) (open_lists m item w refl)
+
+    -- LockCell Did
+    pub did_lists : other_owner (Tx s) (content_of m item).owner ≡ None → (content_in v).value ≡ (content_of m item).value → (content_in v).owner ≡ Some (Tx s) → (x : Item) → listed after x ≡ listed m x
+    did_lists free value owner x = by_item item x (λ x. listed after x ≡ listed m x)
+        (ap (λ (c : Content). listed_under after item c.owner c.value) (content_here m v item) ∙ ap (λ o. listed_under after item o (content_in v).value) owner ∙ under_same item (Some (Tx s)) (content_in v).value ∙ open_lists m item (content_in v).value refl
+        ∙ value ∙ sym (was_listed (content_of m item).owner (content_of m item).value free))
+        (λ other. ap (λ (c : Content). listed_under after x c.owner c.value) (content_apart m (head_key item) v x (turned item x other)) ∙ under_same x (content_of m x).owner (content_of m x).value)
+
+    -- LockCell Died: value and owner stay
+    pub died_lists : (content_in v).value ≡ (content_of m item).value → (content_in v).owner ≡ (content_of m item).owner → (x : Item) → listed after x ≡ listed m x
+    died_lists value owner x = by_item item x (λ x. listed after x ≡ listed m x)
+        (ap (λ (c : Content). listed_under after item c.owner c.value) (content_here m v item) ∙ under_same item (content_in v).owner (content_in v).value ∙ (λ i. listed_under m item (owner i) (value i)))
+        (λ other. ap (λ (c : Content). listed_under after x c.owner c.value) (content_apart m (head_key item) v x (turned item x other)) ∙ under_same x (content_of m x).owner (content_of m x).value)
+
+  -- a row of its shadow was set
+  pub shadow_lists : (item : Item) (v : Option Row) (x : Item) → listed (set_row m (shadow_key s item) v) x ≡ listed m x
+  shadow_lists item v x = ap (λ (c : Content). listed_under (set_row m (shadow_key s item) v) x c.owner c.value) (content_apart m (shadow_key s item) v x (kinds_apart is_data (head_key x) (shadow_key s item) refl refl)) ∙ under (content_of m x).owner (content_of m x).value
+    where
+      under : (o : Option Owner) (w : Value) → listed_under (set_row m (shadow_key s item) v) x o w ≡ listed_under m x o w
+      under None w = refl
+      under (Some (Intent i)) w = refl
+      under (Some (Tx t)) w = by_key (is_eq (key_cmp (shadow_key t x) (shadow_key s item))) refl
+        where
+          by_key : (b : Bool) → is_eq (key_cmp (shadow_key t x) (shadow_key s item)) ≡ b → listed_under (set_row m (shadow_key s item) v) x (Some (Tx t)) w ≡ listed_under m x (Some (Tx t)) w
+          by_key true e = subst (λ z. listed_under (set_row m (shadow_key s item) v) x (Some (Tx z)) w ≡ listed_under m x (Some (Tx z)) w) (sym (shadow_same t s x item (key_same (shadow_key t x) (shadow_key s item) e)).0)
+              (open_lists (set_row m (shadow_key s item) v) x w (elsewhere m (shadow_key s item) v is_log (decision_key s) refl refl) ∙ sym (open_lists m x w refl))
+          by_key false e =
+              ap (λ r. if is_committed r then value_in (map.get (set_row m (shadow_key s item) v) (shadow_key t x)) w else w) (elsewhere m (shadow_key s item) v is_log (decision_key t) refl refl)
+              ∙ ap (λ r. if is_committed (map.get m (decision_key t)) then value_in r w else w) (row_got m (shadow_key s item) (shadow_key t x) v ∙ ap (λ b. cond b v (map.get m (shadow_key t x))) e)

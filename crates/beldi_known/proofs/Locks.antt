@@ -1,0 +1,212 @@
+-- The lock of an operation inside, at the front: it is taken, or the operation dies.
+use Rattle.std.proofs.Common.{◌≡◌, ℕ, ◌==◌, ◌&&◌, ◌||◌, Bool, true, false, cond, List, [], ◌∷◌, ◌++◌, length, Option, None, Some, refl, ap, sym, ◌∙◌, subst, eqb-true, eq-eqb, if◌then◌else◌}
+use Rattle.std.specs.FinMap as map
+use Rattle.std.specs.FinMap.{get-insert}
+use Rattle.std.specs.Ordering.{is_eq}
+use Rattle.std.proofs.lemmas.Cmp.{tied_itself}
+use Rattle.beldi_value.specs.Id.{id_cmp, id_total}
+use Rattle.beldi_value.specs.declared.id.IntentId.{IntentId}
+use Rattle.beldi_value.specs.declared.place.Owner.{Owner}
+use Rattle.beldi_value.specs.declared.place.Owner.TheVariants.{Intent, Tx}
+use Rattle.beldi_value.specs.declared.place.Place.{Place}
+use Rattle.beldi_value.specs.declared.place.TxId.{TxId}
+use Rattle.beldi_tree.specs.declared.deployment.Deployment.{Deployment}
+use Rattle.beldi_row.specs.Act.{other_owner}
+use Rattle.beldi_row.specs.declared.notes.Note.TheVariants as notes
+use Rattle.beldi_row.specs.Log.{note_at, place_eq, id_eq}
+use Rattle.beldi_row.proofs.Logs.{note_pushed, place_self, place_same}
+use Rattle.beldi_daal.specs.Content.{Content}
+use Rattle.beldi_plain.specs.Item.{Item, item_cmp, item_total}
+use Rattle.beldi_plain.specs.Plain.{Instance, effect_of}
+use Rattle.beldi_order.proofs.Operations.{id_same}
+use Rattle.beldi_step.specs.Run.{place_of}
+use Rattle.beldi_known.specs.Frame.{lock_in}
+use Rattle.beldi_known.specs.Contents.{is_owner}
+use Rattle.beldi_known.specs.Known.{Known, effect_after, tx_after, tx_now, tx_eq, is_tx, touched, is_item, note_by, answered_note, ahead_by, note_or, owed_note, is_on, got_before, got_by, Got, tx_end, is_mark}
+use Rattle.beldi_known.specs.Matches.{ItemMatches, TxsMatch}
+use Rattle.beldi_known.proofs.Frame.{step_next}
+use Rattle.beldi_known.proofs.FrameAt.{one_place}
+
+-- ---- small facts
+pub tx_self : (s : TxId) → tx_eq s s ≡ true
+tx_self s = ap (λ b. b && (s.func == s.func)) (place_self (place_of s.intent s.begin)) ∙ eq-eqb s.func s.func refl
+
+and_both : (a b : Bool) → (a && b) ≡ true → (a ≡ true) × (b ≡ true)
+and_both true b h = (refl, h)
+and_both false b h = cc
+
+and_true : (a b : Bool) → a ≡ true → b ≡ true → (a && b) ≡ true
+and_true a b h g = ap (λ z. z && b) h ∙ g
+
+pub tx_same : (s t : TxId) → tx_eq s t ≡ true → s ≡ t
+tx_same s t h =
+    let e = and_both (id_eq s.intent t.intent && (s.begin == t.begin)) (s.func == t.func) h in
+    let f = place_same (place_of s.intent s.begin) (place_of t.intent t.begin) e.0 in
+    λ i. record { intent = ap (λ (z : Place). z.intent) f i; begin = ap (λ (z : Place). z.step) f i; func = eqb-true s.func t.func e.1 i }
+
+-- no other owner than the transaction: no intent holds it
+owns_none : (s : TxId) (o : Option Owner) (j : IntentId) → other_owner (Tx s) o ≡ None → is_owner o (Intent j) ≡ false
+owns_none s None j h = refl
+owns_none s (Some (Intent i)) j h = cc
+owns_none s (Some (Tx t)) j h = refl
+
+-- .. and no other transaction
+pub owned_is : (s t : TxId) (o : Option Owner) → other_owner (Tx s) o ≡ None → o ≡ Some (Tx t) → t ≡ s
+owned_is s t o h g = by_test (tx_eq t s) refl (sym (ap (other_owner (Tx s)) g) ∙ h)
+  where
+    by_test : (b : Bool) → tx_eq t s ≡ b → (if b then None else Some (Tx t)) ≡ None → t ≡ s
+    by_test true e k = tx_same t s e
+    by_test false e k = cc
+
+none_at_all : {X : Type 0} (b : Bool) → (λ (o : Option X). (if b then o else o)) None ≡ None
+none_at_all true = refl
+none_at_all false = refl
+
+-- ---- a lock that is ahead
+lock_here : (locked : IntentId → Bool) (id : IntentId) → lock_in locked id id ≡ true
+lock_here locked id = ap (λ c. if is_eq c then true else locked id) (tied_itself id_total id)
+
+lock_there : (locked : IntentId → Bool) (id j : IntentId) → is_eq (id_cmp j id) ≡ false → lock_in locked id j ≡ locked j
+lock_there locked id j h = ap (λ c. if c then true else locked j) h
+
+-- an instance that is put where it is
+put_same : (known : Known) (id : IntentId) (q : Instance) → map.get known id ≡ Some q → (j : IntentId) → map.get (map.insert known id q) j ≡ map.get known j
+put_same known id q is j = get-insert id_total known id q j ∙ (elim (is_eq (id_cmp j id)) as (λ b. is_eq (id_cmp j id) ≡ b → cond b (Some q) (map.get known j) ≡ map.get known j) [
+  | true ↦ λ e. sym (ap (map.get known) (id_same j id e) ∙ is)
+  | false ↦ λ e. refl
+] refl)
+
+module _ (d : Deployment) (known : Known) (locked : IntentId → Bool) (id : IntentId) (q : Instance) (is : map.get known id ≡ Some q) (unlocked : locked id ≡ false)
+    (s : TxId) (inside : tx_now d id q ≡ Some s) (o : ℕ × List ℕ) (touch : touched (effect_of d q) ≡ Some o) where
+  abbrev n : ℕ
+  n = length q.answers
+
+  abbrev p : Place
+  p = place_of id n
+
+  abbrev item : Item
+  item = record { func = q.func; table = o.0; key = o.1 }
+
+  on_item : (x : Item) → is_item x q.func (touched (effect_of d q)) ≡ is_eq (item_cmp item x)
+  on_item x = ap (is_item x q.func) touch
+
+  on_it : is_item item q.func (touched (effect_of d q)) ≡ true
+  on_it = on_item item ∙ ap is_eq (tied_itself item_total item)
+
+  is_on_it : (t : TxId) (x : Item) → is_on t x q.func (tx_now d id q) (effect_of d q) ≡ (tx_eq t s && is_eq (item_cmp item x))
+  is_on_it t x = ap (λ z. is_tx t z && is_item x q.func (touched (effect_of d q))) inside ∙ ap (λ b. tx_eq t s && b) (on_item x)
+
+  -- ---- LockCell Did: the note of the lock is ahead of its answer, and all else that is owed stays
+  abbrev taken : IntentId → Bool
+  taken = lock_in locked id
+
+  ahead_more : (x : Item) (m : ℕ) → owed_note d x id (taken id) m (Some q) ≡ (if m == n then (if is_item x q.func (touched (effect_of d q)) then Some notes.Got else None) else owed_note d x id (locked id) m (Some q))
+  ahead_more x m =
+      ap (λ b. owed_note d x id b m (Some q)) (lock_here locked id)
+      ∙ ap (λ t. note_or (answered_note d x id m q) (if m == n then ahead_by x q.func t (effect_of d q) true else None)) inside
+      ∙ (elim (m == n) as (λ b. (m == n) ≡ b → note_or (answered_note d x id m q) (if b then (if is_item x q.func (touched (effect_of d q)) then Some notes.Got else None) else None) ≡ (if b then (if is_item x q.func (touched (effect_of d q)) then Some notes.Got else None) else owed_note d x id (locked id) m (Some q))) [
+        | true ↦ λ e. ap (λ z. note_or z (if is_item x q.func (touched (effect_of d q)) then Some notes.Got else None)) (subst (λ k. answered_note d x id k q ≡ None) (sym (eqb-true m n e)) (step_next (λ ts a. note_by x q.func (tx_after d id q ts) (effect_after d q ts) a) q.answers))
+        | false ↦ λ e. sym (ap (λ b. note_or (answered_note d x id m q) (if b then ahead_by x q.func (tx_now d id q) (effect_of d q) (locked id) else None)) e)
+      ] refl)
+
+  pub note_ahead : (x : Item) (a : Place) → owed_note d x a.intent (taken a.intent) a.step (map.get known a.intent) ≡ (if place_eq p a then (if is_item x q.func (touched (effect_of d q)) then Some notes.Got else None) else owed_note d x a.intent (locked a.intent) a.step (map.get known a.intent))
+  note_ahead x a = ap (owed_note d x a.intent (taken a.intent) a.step) (sym (put_same known id q is a.intent))
+      ∙ one_place known id q q is (λ j m z. owed_note d x j (locked j) m z) (λ j m z. owed_note d x j (taken j) m z) (λ j other m z. ap (λ b. owed_note d x j b m z) (lock_there locked id j other)) n
+      (if is_item x q.func (touched (effect_of d q)) then Some notes.Got else None) (ahead_more x) a
+
+  -- nothing was owed there before
+  owed_before : (x : Item) → owed_note d x id (locked id) n (map.get known id) ≡ None
+  owed_before x = ap (owed_note d x id (locked id) n) is ∙ ap (λ b. note_or (answered_note d x id n q) (if n == n then ahead_by x q.func (tx_now d id q) (effect_of d q) b else None)) unlocked
+      ∙ ap (λ z. note_or z (if n == n then ahead_by x q.func (tx_now d id q) (effect_of d q) false else None)) (step_next (λ ts a. note_by x q.func (tx_after d id q ts) (effect_after d q ts) a) q.answers) ∙ by_tx (n == n) (tx_now d id q)
+    where
+      by_tx : (b : Bool) (t : Option TxId) → note_or None (if b then ahead_by x q.func t (effect_of d q) false else None) ≡ None
+      by_tx true None = refl
+      by_tx true (Some t) = refl
+      by_tx false t = refl
+
+  -- what is got: this item by this transaction, and what was
+  got_of : (t : TxId) (x : Item) → got_by d t x id (taken id) (map.get known id) ≡ (got_before d t x id q || (tx_eq t s && is_eq (item_cmp item x)))
+  got_of t x = ap (λ b. got_by d t x id b (map.get known id)) (lock_here locked id) ∙ ap (got_by d t x id true) is ∙ ap (λ b. got_before d t x id q || b) (is_on_it t x)
+
+  pub got_more : (t : TxId) (x : Item) → Got d known locked t x → Got d known taken t x
+  got_more t x g = record { member = g.member; got = by_id (is_eq (id_cmp g.member id)) refl }
+    where
+      or_first : (b c : Bool) → (b || false) ≡ true → (b || c) ≡ true
+      or_first true c k = refl
+      or_first false c k = cc
+
+      by_id : (b : Bool) → is_eq (id_cmp g.member id) ≡ b → got_by d t x g.member (taken g.member) (map.get known g.member) ≡ true
+      by_id true e = subst (λ j. got_by d t x j (taken j) (map.get known j) ≡ true) (sym (id_same g.member id e))
+          (got_of t x ∙ or_first (got_before d t x id q) (tx_eq t s && is_eq (item_cmp item x)) (sym (ap (got_by d t x id (locked id)) is ∙ ap (λ b. got_before d t x id q || (b && is_on t x q.func (tx_now d id q) (effect_of d q))) unlocked)
+          ∙ subst (λ j. got_by d t x j (locked j) (map.get known j) ≡ true) (id_same g.member id e) g.got))
+      by_id false e = ap (λ b. got_by d t x g.member b (map.get known g.member)) (lock_there locked id g.member e) ∙ g.got
+
+  -- .. and no more
+  pub got_less : (t : TxId) (x : Item) → Got d known taken t x → (tx_eq t s && is_eq (item_cmp item x)) ≡ false → Got d known locked t x
+  got_less t x g apart = record { member = g.member; got = by_id (is_eq (id_cmp g.member id)) refl }
+    where
+      or_drop : (b : Bool) → (b || false) ≡ true → b ≡ true
+      or_drop true k = refl
+      or_drop false k = cc
+
+      or_any : (b c : Bool) → b ≡ true → (b || c) ≡ true
+      or_any b c k = ap (λ z. z || c) k
+
+      by_id : (b : Bool) → is_eq (id_cmp g.member id) ≡ b → got_by d t x g.member (locked g.member) (map.get known g.member) ≡ true
+      by_id true e = subst (λ j. got_by d t x j (locked j) (map.get known j) ≡ true) (sym (id_same g.member id e))
+          (ap (got_by d t x id (locked id)) is ∙ or_any (got_before d t x id q) (locked id && is_on t x q.func (tx_now d id q) (effect_of d q))
+          (or_drop (got_before d t x id q) (sym (got_of t x ∙ ap (λ b. got_before d t x id q || b) apart) ∙ subst (λ j. got_by d t x j (taken j) (map.get known j) ≡ true) (id_same g.member id e) g.got)))
+      by_id false e = sym (ap (λ b. got_by d t x g.member b (map.get known g.member)) (lock_there locked id g.member e)) ∙ g.got
+
+  -- its item's content
+  module _ (c : Content) (none : note_at c.notes p ≡ None) (free : other_owner (Tx s) c.owner ≡ None) where
+    abbrev locked_content : Content
+    locked_content = record { value = c.value; owner = Some (Tx s); notes = c.notes ++ (p, notes.Got) ∷ [] }
+
+    pub lock_taken : ItemMatches d known locked item c → ItemMatches d known taken item locked_content
+    lock_taken h = record {
+      owner = λ j. sym (owns_none s c.owner j free) ∙ h.owner j;
+      notes = λ a apart. note_pushed c.notes p a notes.Got none ∙ by_place a apart (place_eq p a) refl ∙ sym (note_ahead item a);
+    }
+      where
+        by_place : (a : Place) → is_mark d known a.step (map.get known a.intent) ≡ false → (b : Bool) → place_eq p a ≡ b → (if b then Some notes.Got else note_at c.notes a)
+            ≡ (if b then (if is_item item q.func (touched (effect_of d q)) then Some notes.Got else None) else owed_note d item a.intent (locked a.intent) a.step (map.get known a.intent))
+        by_place a apart true e = sym (ap (λ b. if b then Some notes.Got else None) on_it)
+        by_place a apart false e = h.notes a apart
+
+    pub txs_taken : TxsMatch d known locked item c.owner → TxsMatch d known taken item (Some (Tx s))
+    txs_taken h = record {
+      owned_is_got = λ t e. let same : s ≡ t = cc in record { member = id; got = got_of t item ∙ by_or (got_before d t item id q) (tx_eq t s && is_eq (item_cmp item item)) (and_true (tx_eq t s) (is_eq (item_cmp item item)) (subst (λ z. tx_eq z s ≡ true) same (tx_self s)) (ap is_eq (tied_itself item_total item))) };
+      got_is_owned = λ t g open_still. by_test t g open_still (tx_eq t s) refl;
+    }
+      where
+        by_or : (a b : Bool) → b ≡ true → (a || b) ≡ true
+        by_or true b e = refl
+        by_or false b e = e
+
+        by_test : (t : TxId) → Got d known taken t item → tx_end d known t ≡ None → (b : Bool) → tx_eq t s ≡ b → Some (Tx s) ≡ Some (Tx t)
+        by_test t g open_still true e = ap (λ z. Some (Tx z)) (sym (tx_same t s e))
+        by_test t g open_still false e = ap (λ z. Some (Tx z)) (sym (owned_is s t c.owner free (h.got_is_owned t (got_less t item g (ap (λ b. b && is_eq (item_cmp item item)) e)) open_still)))
+
+  -- all other items
+  pub lock_kept : (x : Item) (c : Content) → is_eq (item_cmp item x) ≡ false → ItemMatches d known locked x c → ItemMatches d known taken x c
+  lock_kept x c other h = record {
+    owner = h.owner;
+    notes = λ a apart. h.notes a apart ∙ by_place a (place_eq p a) refl ∙ sym (note_ahead x a);
+  }
+    where
+      by_place : (a : Place) (b : Bool) → place_eq p a ≡ b → owed_note d x a.intent (locked a.intent) a.step (map.get known a.intent)
+          ≡ (if b then (if is_item x q.func (touched (effect_of d q)) then Some notes.Got else None) else owed_note d x a.intent (locked a.intent) a.step (map.get known a.intent))
+      by_place a true e = subst (λ (z : Place). owed_note d x z.intent (locked z.intent) z.step (map.get known z.intent) ≡ (if is_item x q.func (touched (effect_of d q)) then Some notes.Got else None)) (place_same p a e)
+          (owed_before x ∙ sym (ap (λ b. if b then Some notes.Got else None) (on_item x ∙ other)))
+      by_place a false e = refl
+
+  pub txs_kept : (x : Item) (c : Option Owner) → is_eq (item_cmp item x) ≡ false → TxsMatch d known locked x c → TxsMatch d known taken x c
+  txs_kept x c other h = record {
+    owned_is_got = λ t e. got_more t x (h.owned_is_got t e);
+    got_is_owned = λ t g open_still. h.got_is_owned t (got_less t x g (ap (λ b. tx_eq t s && b) other ∙ by_bool (tx_eq t s))) open_still;
+  }
+    where
+      by_bool : (b : Bool) → (b && false) ≡ false
+      by_bool true = refl
+      by_bool false = refl

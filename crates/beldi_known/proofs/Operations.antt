@@ -1,0 +1,40 @@
+-- What an operation on an item does to its cell: as the walk of an intent does it.
+use Rattle.std.proofs.Common.{◌≡◌, inr, Bool, true, false, Option, None, Some, refl, sym, ◌∙◌, if◌then◌else◌}
+use Rattle.beldi_value.specs.Passes.{passes}
+use Rattle.beldi_value.specs.declared.id.IntentId.{IntentId}
+use Rattle.beldi_value.specs.declared.place.Owner.{Owner}
+use Rattle.beldi_value.specs.declared.place.Owner.TheVariants as owner
+use Rattle.beldi_value.specs.declared.value.Value.{Value}
+use Rattle.beldi_daal.specs.declared.cell.CellOp.{CellOp}
+use Rattle.beldi_daal.specs.declared.cell.CellOp.TheVariants as cell
+use Rattle.beldi_daal.specs.Logged.{value_after, owner_after, note_after, barred}
+use Rattle.beldi_plain.specs.Holds.{held_by}
+use Rattle.beldi_plain.specs.Operation.{Operation, sets, or_old, answer_after, write, lock, free}
+use Rattle.beldi_plain.specs.Operation as operation
+use Rattle.beldi_order.proofs.Operations.{IsOther}
+use Rattle.beldi_known.specs.Operations.{cell_of}
+use Rattle.beldi_known.specs.Contents.{is_owner}
+use Rattle.beldi_known.specs.Owed.{noted}
+use Rattle.beldi_known.proofs.Owners.{unbarred, not_hers, her_own}
+
+-- what an operation on cells leaves is what the plain operation leaves
+pub record Does (o : Operation) (op : CellOp) : Type 0 where
+  pub value : (w : Value) → or_old (sets o w) w ≡ value_after op w
+  pub note : (w : Value) → noted o (answer_after o w) ≡ Some (note_after op w)
+  pub own : (id : IntentId) (was : Option Owner) → barred op (owner.Intent id) was ≡ None → is_owner (owner_after op (owner.Intent id) was) (owner.Intent id) ≡ held_by o (is_owner was (owner.Intent id))
+  pub others : (id : IntentId) (was : Option Owner) → barred op (owner.Intent id) was ≡ None → (who : Owner) → IsOther id who → is_owner (owner_after op (owner.Intent id) was) who ≡ is_owner was who
+
+pub does_so : (o : Operation) → Does o (cell_of o)
+does_so (write v) = record { value = λ w. refl; note = λ w. refl; own = λ id was free. refl; others = λ id was free who other. refl }
+does_so (operation.cond r u v) = record { value = λ w. by_test (passes w r u) w; note = λ w. refl; own = λ id was free. refl; others = λ id was free who other. refl }
+  where
+    by_test : (b : Bool) (w : Value) → or_old (if b then Some v else None) w ≡ (if b then v else w)
+    by_test true w = refl
+    by_test false w = refl
+does_so lock = record {
+  value = λ w. refl;
+  note = λ w. refl;
+  own = λ id was free. her_own id;
+  others = λ id was free who other. not_hers id (Some (owner.Intent id)) (inr refl) who other ∙ sym (not_hers id was (unbarred cell.Lock id was free) who other);
+}
+does_so free = record { value = λ w. refl; note = λ w. refl; own = λ id was free. refl; others = λ id was free who other. sym (not_hers id was (unbarred (cell.Free None) id was free) who other) }

@@ -1,0 +1,221 @@
+-- An operation outside transactions, over what is known: by the same frame.
+use Rattle.std.specs.Option.{is_none}
+use Rattle.std.proofs.Common.{◌≡◌, ◌&&◌, ◌||◌, not, Bool, false, length, Option, None, Some, refl, ap, sym, ◌∙◌, if◌then◌else◌, true, ℕ, ◌==◌, inl, inr, subst, eq-eqb}
+use Rattle.std.specs.FinMap as map
+use Rattle.std.specs.Ordering.{is_eq}
+use Rattle.std.proofs.lemmas.Cmp.{tied_itself}
+use Rattle.beldi_value.specs.declared.id.IntentId.{IntentId}
+use Rattle.beldi_value.specs.declared.place.Owner.{Owner}
+use Rattle.beldi_value.specs.declared.place.Owner.TheVariants as owner
+use Rattle.beldi_value.specs.declared.place.Place.{Place}
+use Rattle.beldi_value.specs.declared.place.TxId.{TxId}
+use Rattle.beldi_value.specs.declared.value.Value.{Value}
+use Rattle.beldi_tree.specs.declared.deployment.Deployment.{Deployment}
+use Rattle.beldi_lang.specs.declared.effect.Answer.{Answer}
+use Rattle.beldi_lang.specs.declared.effect.Effect.{Effect}
+use Rattle.beldi_lang.specs.declared.effect.Effect.TheVariants as effect
+use Rattle.beldi_row.specs.declared.row.Row.{Row}
+use Rattle.beldi_row.specs.declared.key.Kind.{Kind}
+use Rattle.beldi_row.specs.declared.key.RowKey.{RowKey}
+use Rattle.beldi_row.specs.Table.{Rows, set_row}
+use Rattle.beldi_row.specs.declared.key.Kind.TheVariants as kinds
+use Rattle.beldi_row.specs.declared.row.Row.TheVariants as rows
+use Rattle.beldi_row.specs.Key.{key_cmp}
+use Rattle.beldi_row.specs.Log.{note_at, place_eq}
+use Rattle.beldi_row.proofs.Logs.{note_pushed, place_self}
+use Rattle.beldi_daal.specs.declared.cell.CellOp.TheVariants as cell
+use Rattle.beldi_daal.specs.declared.cell.CellOp.{CellOp}
+use Rattle.beldi_daal.specs.Content.{Content, content_in}
+use Rattle.beldi_daal.specs.Logged.{owner_after, note_after, done_to, barred}
+use Rattle.beldi_readlog.specs.ReadLog.{log_key}
+use Rattle.beldi_plain.specs.Item.{Item, item_cmp, item_total}
+use Rattle.beldi_plain.specs.Operation.{OnItem, op_of, answer_after, item_in}
+use Rattle.beldi_plain.specs.Holds.{held_if, held_by, holds}
+use Rattle.beldi_plain.specs.Plain.{Instance, effect_of}
+use Rattle.beldi_step.specs.Run.{place_of}
+use Rattle.beldi_known.specs.Rows.{LogMatches, CallMatches}
+use Rattle.beldi_known.specs.Owed.{noted, note_of}
+use Rattle.beldi_known.specs.Contents.{is_owner, head_key, content_of, shadow_key, shadow_of}
+use Rattle.beldi_known.specs.Known.{Known, tx_now, is_tx, touched, is_item, note_by, is_on, is_aborted, got_before, got_by, commit_in, is_mark, txs_after, shadow_by, asks_lock, begins_at, owed_read}
+use Rattle.beldi_known.specs.Matches.{ItemMatches, TxsMatch, ShadowMatches, RowMatches, Matches, is_open}
+use Rattle.beldi_known.specs.Frame.{AnswersOne, row_added, LockedOut}
+use Rattle.beldi_known.specs.Operations.{DoneRows}
+use Rattle.beldi_known.proofs.Acts.{kinds_apart, is_data, is_shadow, content_apart, shadow_apart, by_item, turned}
+use Rattle.beldi_known.proofs.Rows.{keys_set, keys_at}
+use Rattle.beldi_known.proofs.Owners.{IsFreeFor, unbarred}
+use Rattle.beldi_known.proofs.Operations.{Does}
+use Rattle.beldi_known.proofs.FrameAt.{holds_one, note_one, got_one, note_same, intents_same, calls_same, read_none, read_one}
+use Rattle.beldi_known.proofs.Fronts.{mark_same, tx_end_same, shadow_kept, locksets_kept, read_elsewhere}
+
+-- ---- an answer outside, to any effect but an End: what it leaves of all that it does not answer
+module _ (d : Deployment) (known : Known) (locked : IntentId → Bool) (id : IntentId) (q r : Instance) (a : Answer) (is : map.get known id ≡ Some q) (unlocked : locked id ≡ false)
+    (outside : tx_now d id q ≡ None) (quiet : commit_in (effect_of d q) ≡ None) (one : AnswersOne d id q a r) where
+  abbrev after : Known
+  after = map.insert known id r
+
+  out : LockedOut locked locked id
+  out = record { out = unlocked; others = λ j other. refl }
+
+  unmarked : (b : Place) → is_mark d after b.step (map.get after b.intent) ≡ false → is_mark d known b.step (map.get known b.intent) ≡ false
+  unmarked b apart = sym (mark_same d known locked locked id q r a is one out quiet b) ∙ apart
+
+  -- nothing is got by it
+  got_same : (t : TxId) (x : Item) (j : IntentId) → got_by d t x j (locked j) (map.get after j) ≡ got_by d t x j (locked j) (map.get known j)
+  got_same t x = got_one d known id q r a is one locked locked out t x (λ j u. u ≡ got_by d t x j (locked j) (map.get known j))
+      (ap (λ z. got_before d t x id q || ((is_tx t z && is_item x q.func (touched (effect_of d q))) && not (is_aborted a))) outside
+      ∙ sym (ap (got_by d t x id (locked id)) is ∙ ap (λ z. got_before d t x id q || (z && is_on t x q.func (tx_now d id q) (effect_of d q))) unlocked)) (λ j other. refl)
+
+  pub txs_done : (x : Item) (was now : Option Owner) → ((t : TxId) → was ≡ Some (owner.Tx t) → ⊥) → ((t : TxId) → now ≡ Some (owner.Tx t) → ⊥) → TxsMatch d known locked x was → TxsMatch d after locked x now
+  txs_done x was now no_tx still h = record {
+    owned_is_got = λ t e. absurd (still t e);
+    got_is_owned = λ t g open_still. absurd (no_tx t (h.got_is_owned t (record { member = g.member; got = sym (got_same t x g.member) ∙ g.got }) (sym (tx_end_same d known locked locked id q r a is one out quiet t) ∙ open_still)));
+  }
+
+  pub txs_kept : (x : Item) (c : Option Owner) → TxsMatch d known locked x c → TxsMatch d after locked x c
+  txs_kept x c h = record {
+    owned_is_got = λ t e. let g = h.owned_is_got t e in record { member = g.member; got = got_same t x g.member ∙ g.got };
+    got_is_owned = λ t g open_still. h.got_is_owned t (record { member = g.member; got = sym (got_same t x g.member) ∙ g.got }) (sym (tx_end_same d known locked locked id q r a is one out quiet t) ∙ open_still);
+  }
+
+  shadows_kept : (t : TxId) (x : Item) (c : Content) → ShadowMatches d known t x c → ShadowMatches d after t x c
+  shadows_kept t x c h = shadow_kept d known locked locked id q r a is one out t x c (ap (λ s. shadow_by t x q.func s (effect_of d q) a) outside) h
+
+  -- every row, but that of a read
+  pub row_kept : (home : ℕ) (kind : Kind) (row : Option Row) → ((b : Place) → kind ≡ kinds.ReadLog b → owed_read d after home b ≡ owed_read d known home b) → RowMatches d known home kind row → RowMatches d after home kind row
+  row_kept home (kinds.Intent j) row same g = intents_same d known id q r a is one home j row g
+  row_kept home (kinds.ReadLog b) row same g = subst (LogMatches row) (sym (same b refl)) g
+  row_kept home (kinds.Invoke b) row same g = subst (CallMatches row) (sym (calls_same d known id q r a is one home b)) g
+  row_kept home (kinds.Lockset j b t k) row same g = let x : Item = record { func = home; table = t; key = k } in
+      locksets_kept d known locked locked id q r a is one out quiet b x j row (ap (λ s. asks_lock b x q.func s (effect_of d q)) outside)
+      (ap (λ s. is_none q.outcome && (is_open d known s && (begins_at b s && is_item x q.func (touched (effect_of d q))))) outside ∙ and_false (is_none q.outcome)) g
+    where
+      and_false : (u : Bool) → (u && false) ≡ false
+      and_false true = refl
+      and_false false = refl
+  row_kept home kind row same g = g
+
+  -- an item, where the effect is no operation
+  pub item_same : op_of (effect_of d q) ≡ None → (x : Item) (c : Content) → ItemMatches d known locked x c → ItemMatches d after locked x c
+  item_same none x c h = record {
+    owner = holds_one d known id q r a is one x (λ j b. is_owner c.owner (owner.Intent j) ≡ b) (h.owner id ∙ sym (ap (λ z. held_if x q.func z (holds d x (map.get known id))) none)) (λ j apart. h.owner j);
+    notes = λ b apart. h.notes b (unmarked b apart) ∙ sym (note_same d known id q r a is one locked locked out x (ap (λ t. note_by x q.func t (effect_of d q) a) outside ∙ ap (λ z. note_of x q.func z a) none) unlocked b);
+  }
+
+  -- an answer to a call leaves all rows as they are
+  pub call_answered : op_of (effect_of d q) ≡ None → row_added (length q.answers) (txs_after d q q.answers).begun (effect_of d q) a ≡ None → (m : Rows) → Matches d m known locked → Matches d m after locked
+  call_answered none added m h = record {
+    keys = λ l. row_kept l.home l.kind (map.get m l) (λ b kind. read_none d known id q r a is one added l.home b) (h.keys l);
+    items = λ x. item_same none x (content_of m x) (h.items x);
+    shadows = λ t x. shadows_kept t x (shadow_of m t x) (h.shadows t x);
+    txs = λ x. txs_kept x (content_of m x).owner (h.txs x);
+  }
+
+  -- the row of a read is added with its answer
+  pub read_added : (m : Rows) (v : Value) → op_of (effect_of d q) ≡ None → row_added (length q.answers) (txs_after d q q.answers).begun (effect_of d q) a ≡ Some (length q.answers, v) → Matches d m known locked
+      → Matches d (set_row m (log_key q.func (place_of id (length q.answers))) (Some (rows.ReadLog v))) after locked
+  read_added m v none added h = let k = log_key q.func (place_of id (length q.answers)) in record {
+    keys = keys_set m k (Some (rows.ReadLog v)) (λ l z. RowMatches d after l.home l.kind z) (subst (λ z. z ≡ Some v) (sym read_here) refl) (λ l other. row_kept l.home l.kind (map.get m l) (λ b kind. read_apart l b kind other) (h.keys l));
+    items = λ x. subst (ItemMatches d after locked x) (sym (content_apart m k (Some (rows.ReadLog v)) x (kinds_apart is_data (head_key x) k refl refl))) (item_same none x (content_of m x) (h.items x));
+    shadows = λ t x. subst (ShadowMatches d after t x) (sym (shadow_apart m k (Some (rows.ReadLog v)) t x (kinds_apart is_shadow (shadow_key t x) k refl refl))) (shadows_kept t x (shadow_of m t x) (h.shadows t x));
+    txs = λ x. subst (λ (c : Content). TxsMatch d after locked x c.owner) (sym (content_apart m k (Some (rows.ReadLog v)) x (kinds_apart is_data (head_key x) k refl refl))) (txs_kept x (content_of m x).owner (h.txs x));
+  }
+    where
+      read_here : owed_read d after q.func (place_of id (length q.answers)) ≡ Some v
+      read_here = read_one d known id q r a is one (length q.answers) v added q.func (place_of id (length q.answers))
+          ∙ ap (λ c. if c then (if q.func == q.func then Some v else None) else owed_read d known q.func (place_of id (length q.answers))) (place_self (place_of id (length q.answers))) ∙ ap (λ c. if c then Some v else None) (eq-eqb q.func q.func refl)
+
+      read_apart : (l : RowKey) (b : Place) → l.kind ≡ kinds.ReadLog b → is_eq (key_cmp l (log_key q.func (place_of id (length q.answers)))) ≡ false → owed_read d after l.home b ≡ owed_read d known l.home b
+      read_apart l b kind other = read_elsewhere d known locked locked id q r a is one out (length q.answers) v added l.home b (subst (λ (z : Kind). is_eq (key_cmp (record { home = l.home; kind = z }) (log_key q.func (place_of id (length q.answers)))) ≡ false) kind other)
+
+-- ---- an operation
+op_quiet : (e : Effect) (o : OnItem) → op_of e ≡ Some o → commit_in e ≡ None
+op_quiet (effect.End c) o h = cc
+op_quiet e o h = refl
+
+op_adds_none : (n : ℕ) (b : Option ℕ) (e : Effect) (o : OnItem) (a : Answer) → op_of e ≡ Some o → row_added n b e a ≡ None
+op_adds_none n b (effect.Read t k) o a h = cc
+op_adds_none n b (effect.End c) o a h = cc
+op_adds_none n None e o a h = refl
+op_adds_none n (Some b) e o a h = refl
+
+-- who owns its item then is no transaction, nor was one before
+no_tx : (id : IntentId) (was : Option Owner) → IsFreeFor id was → (t : TxId) → was ≡ Some (owner.Tx t) → ⊥
+no_tx id was (inl is) t e = let k = sym is ∙ e in cc
+no_tx id was (inr is) t e = let k = sym is ∙ e in cc
+
+free_after : (op : CellOp) (id : IntentId) (was : Option Owner) → barred op (owner.Intent id) was ≡ None → IsFreeFor id (owner_after op (owner.Intent id) was)
+free_after (cell.Write v) id was h = unbarred (cell.Write v) id was h
+free_after (cell.Cond u o v) id was h = unbarred (cell.Cond u o v) id was h
+free_after cell.Lock id was h = inr refl
+free_after (cell.Free v) id was h = inl refl
+
+module _ (d : Deployment) (known : Known) (locked : IntentId → Bool) (id : IntentId) (q r : Instance) (w : Value) (o : OnItem) (op : CellOp) (does : Does o.does op) (is : map.get known id ≡ Some q) (unlocked : locked id ≡ false)
+    (outside : tx_now d id q ≡ None) (wants_it : op_of (effect_of d q) ≡ Some o) (one : AnswersOne d id q (answer_after o.does w) r) where
+  abbrev a : Answer
+  a = answer_after o.does w
+
+  abbrev item : Item
+  item = item_in q.func o
+
+  abbrev p : Place
+  p = place_of id (length q.answers)
+
+  abbrev who : Owner
+  who = owner.Intent id
+
+  abbrev now : Known
+  now = map.insert known id r
+
+  still : LockedOut locked locked id
+  still = record { out = unlocked; others = λ j other. refl }
+
+  ends_none : commit_in (effect_of d q) ≡ None
+  ends_none = op_quiet (effect_of d q) o wants_it
+
+  note_here : (x : Item) → note_by x q.func (tx_now d id q) (effect_of d q) a ≡ (if is_eq (item_cmp item x) then noted o.does a else None)
+  note_here x = ap (λ t. note_by x q.func t (effect_of d q) a) outside ∙ ap (λ z. note_of x q.func z a) wants_it
+
+  held_here : (x : Item) (b : Bool) → held_if x q.func (op_of (effect_of d q)) b ≡ (if is_eq (item_cmp item x) then held_by o.does b else b)
+  held_here x b = ap (λ z. held_if x q.func z b) wants_it
+
+  -- its item's content
+  pub item_done : (c : Content) → c.value ≡ w → note_at c.notes p ≡ None → barred op who c.owner ≡ None → ItemMatches d known locked item c → ItemMatches d now locked item (done_to p who op c)
+  item_done c same none free h = record {
+    owner = holds_one d known id q r a is one item (λ j b. is_owner (owner_after op who c.owner) (owner.Intent j) ≡ b)
+        (does.own id c.owner free ∙ ap (held_by o.does) (h.owner id)
+        ∙ sym (held_here item (holds d item (map.get known id)) ∙ ap (λ t. if is_eq t then held_by o.does (holds d item (map.get known id)) else holds d item (map.get known id)) (tied_itself item_total item)))
+        (λ j other. does.others id c.owner free (owner.Intent j) other ∙ h.owner j);
+    notes = λ b apart. note_pushed c.notes p b (note_after op c.value) none
+        ∙ ap (λ n. if place_eq p b then n else note_at c.notes b) (ap (λ v. Some (note_after op v)) same ∙ sym (does.note w) ∙ ap (λ t. if is_eq t then noted o.does a else None) (sym (tied_itself item_total item)) ∙ sym (note_here item))
+        ∙ ap (λ n. if place_eq p b then note_by item q.func (tx_now d id q) (effect_of d q) a else n) (h.notes b (unmarked d known locked id q r a is unlocked outside ends_none one b apart))
+        ∙ sym (note_one d known id q r a is one locked locked still item b);
+  }
+
+  -- all others
+  pub item_kept : (x : Item) (c : Content) → is_eq (item_cmp item x) ≡ false → ItemMatches d known locked x c → ItemMatches d now locked x c
+  item_kept x c other h = record {
+    owner = holds_one d known id q r a is one x (λ j b. is_owner c.owner (owner.Intent j) ≡ b)
+        (h.owner id ∙ sym (held_here x (holds d x (map.get known id)) ∙ ap (λ t. if t then held_by o.does (holds d x (map.get known id)) else holds d x (map.get known id)) other)) (λ j apart. h.owner j);
+    notes = λ b apart. h.notes b (unmarked d known locked id q r a is unlocked outside ends_none one b apart)
+        ∙ sym (note_same d known id q r a is one locked locked still x (note_here x ∙ ap (λ t. if t then noted o.does a else None) other) unlocked b);
+  }
+
+  -- and the rows
+  pub operation_done : (m n : Rows) → DoneRows m n item p op → (content_of m item).value ≡ w → Matches d m known locked → Matches d n now locked
+  operation_done m n did value h = record {
+    keys = keys_at m n (head_key item) (λ l z. RowMatches d now l.home l.kind z) did.same did.sound
+        (λ l other. row_kept d known locked id q r a is unlocked outside ends_none one l.home l.kind (map.get m l) (λ b kind. read_none d known id q r a is one (op_adds_none (length q.answers) (txs_after d q q.answers).begun (effect_of d q) o a wants_it) l.home b) (h.keys l));
+    items = λ x. by_item item x (λ x. ItemMatches d now locked x (content_of n x))
+        (subst (ItemMatches d now locked item) (sym did.here) (item_done (content_of m item) value did.none did.free (h.items item)))
+        (λ other. subst (ItemMatches d now locked x) (sym (same_content x other)) (item_kept x (content_of m x) other (h.items x)));
+    shadows = λ t x. subst (ShadowMatches d now t x) (ap content_in (sym (did.same (shadow_key t x) (kinds_apart is_shadow (shadow_key t x) (head_key item) refl refl))))
+        (shadows_kept d known locked id q r a is unlocked outside ends_none one t x (shadow_of m t x) (h.shadows t x));
+    txs = λ x. by_item item x (λ x. TxsMatch d now locked x (content_of n x).owner)
+        (subst (λ (c : Content). TxsMatch d now locked item c.owner) (sym did.here)
+        (txs_done d known locked id q r a is unlocked outside ends_none one item (content_of m item).owner (owner_after op who (content_of m item).owner) (no_tx id (content_of m item).owner (unbarred op id (content_of m item).owner did.free))
+        (no_tx id (owner_after op who (content_of m item).owner) (free_after op id (content_of m item).owner did.free)) (h.txs item)))
+        (λ other. subst (λ (c : Content). TxsMatch d now locked x c.owner) (sym (same_content x other)) (txs_kept d known locked id q r a is unlocked outside ends_none one x (content_of m x).owner (h.txs x)));
+  }
+    where
+      same_content : (x : Item) → is_eq (item_cmp item x) ≡ false → content_of n x ≡ content_of m x
+      same_content x other = ap content_in (did.same (head_key x) (turned item x other))

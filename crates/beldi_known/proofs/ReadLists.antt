@@ -1,0 +1,129 @@
+-- A row of a read decides no transaction that owns an item, so what is listed stays.
+use Rattle.std.proofs.Common.{◌≡◌, ◌<◌, ◌⊎◌, inl, inr, ◌&&◌, ◌||◌, not, Bool, true, false, cond, List, [], ◌∷◌, ◌++◌, length, length-append, Option, None, Some, refl, ap, sym, ◌∙◌, subst, append_assoc, arith, if◌then◌else◌}
+use Rattle.std.specs.FinMap as map
+use Rattle.std.specs.Ordering.{is_eq}
+use Rattle.beldi_value.specs.declared.id.IntentId.{IntentId}
+use Rattle.beldi_value.specs.declared.place.Owner.{Owner}
+use Rattle.beldi_value.specs.declared.place.Owner.TheVariants.{Intent, Tx}
+use Rattle.beldi_value.specs.declared.place.Place.{Place}
+use Rattle.beldi_value.specs.declared.place.TxId.{TxId}
+use Rattle.beldi_tree.specs.declared.deployment.Deployment.{Deployment}
+use Rattle.beldi_lang.specs.declared.effect.Answer.{Answer}
+use Rattle.beldi_lang.specs.declared.effect.Effect.{Effect}
+use Rattle.beldi_lang.specs.declared.effect.Effect.TheVariants as effect
+use Rattle.beldi_row.specs.Key.{key_cmp}
+use Rattle.beldi_row.specs.Table.{Rows, set_row}
+use Rattle.beldi_row.specs.declared.key.RowKey.{RowKey}
+use Rattle.beldi_row.specs.declared.key.Kind.{Kind}
+use Rattle.beldi_row.specs.declared.key.Kind.TheVariants as kinds
+use Rattle.beldi_row.specs.declared.row.Row.{Row}
+use Rattle.beldi_row.proofs.Gets.{got as row_got, key_same}
+use Rattle.beldi_daal.specs.Content.{Content}
+use Rattle.beldi_readlog.specs.ReadLog.{log_key}
+use Rattle.beldi_plain.specs.Item.{Item}
+use Rattle.beldi_plain.specs.Plain.{Instance, effect_of}
+use Rattle.beldi_order.proofs.Entries.{same_some}
+use Rattle.beldi_step.specs.Run.{place_of}
+use Rattle.beldi_known.specs.Contents.{head_key, content_of, shadow_key}
+use Rattle.beldi_known.specs.Known.{Known, effect_after, along, txs_after, tx_by, tx_after, tx_now, or_own, is_tx, touched, is_item, is_aborted, is_on, got_before, got_by}
+use Rattle.beldi_known.specs.Matches.{TxsMatch}
+use Rattle.beldi_known.proofs.Frame.{fits_at}
+use Rattle.beldi_known.proofs.Locks.{tx_same}
+use Rattle.beldi_known.proofs.Acts.{kinds_apart, is_data, is_shadow, content_apart}
+use Rattle.beldi_known.proofs.OneFunction.{is_begin, own_by, is_committed, value_in, listed_under, listed}
+use Rattle.beldi_known.proofs.Lists.{elsewhere, decision_key}
+
+both : (u v : Bool) → (u && v) ≡ true → (u ≡ true) × (v ≡ true)
+both true v h = (refl, h)
+both false v h = cc
+
+-- ---- a step that a fold has gathered
+record Gathered (g : List Answer → Answer → Bool) (all : List Answer) : Type 0 where
+  pub before : List Answer
+  pub answer : Answer
+  pub later : List Answer
+  pub parts : before ++ answer ∷ later ≡ all
+  pub holds : g before answer ≡ true
+
+gathered : (g : List Answer → Answer → Bool) (given rest : List Answer) (b : Bool) → along (λ ts c r. r || g ts c) given rest b ≡ true → (b ≡ true) ⊎ Gathered g (given ++ rest)
+gathered g given [] b h = inl h
+gathered g given (c ∷ rest) b h = elim (gathered g (given ++ c ∷ []) rest (b || g given c) h) [
+  | inl e ↦ by_first b e
+  | inr e ↦ inr (record { before = e.before; answer = e.answer; later = e.later; parts = e.parts ∙ append_assoc given (c ∷ []) rest; holds = e.holds })
+]
+  where
+    by_first : (b : Bool) → (b || g given c) ≡ true → (b ≡ true) ⊎ Gathered g (given ++ c ∷ rest)
+    by_first true e = inl refl
+    by_first false e = inr (record { before = given; answer = c; later = rest; parts = refl; holds = e })
+
+-- ---- what a transaction got, it got after its Begin
+pub record Since (j : IntentId) (z : Instance) (t : TxId) : Type 0 where
+  pub own : t.intent ≡ j
+  pub before : t.begin < length z.answers
+
+module _ (d : Deployment) (t : TxId) (x : Item) (j : IntentId) (z : Instance) (none : z.within ≡ None) where
+  -- an operation of it, after these answers
+  operation : (ts : List Answer) → is_on t x z.func (tx_after d j z ts) (effect_after d z ts) ≡ true → (t.intent ≡ j) × (t.begin < length ts)
+  operation ts h = by_tx (tx_by j z.func (length ts) (effect_after d z ts) (txs_after d z ts).begun) refl
+      (sym (ap (λ w. is_tx t (or_own w (tx_by j z.func (length ts) (effect_after d z ts) (txs_after d z ts).begun)) && is_item x z.func (touched (effect_after d z ts))) none) ∙ h)
+    where
+      no_begin : (e : Effect) → is_item x z.func (touched e) ≡ true → is_begin e ≡ false
+      no_begin effect.Begin g = cc
+      no_begin e g = refl
+
+      by_tx : (o : Option TxId) → tx_by j z.func (length ts) (effect_after d z ts) (txs_after d z ts).begun ≡ o → (is_tx t o && is_item x z.func (touched (effect_after d z ts))) ≡ true → (t.intent ≡ j) × (t.begin < length ts)
+      by_tx None e g = cc
+      by_tx (Some s) e g =
+          let p = both (is_tx t (Some s)) (is_item x z.func (touched (effect_after d z ts))) g in
+          let k = own_by j z.func (length ts) (effect_after d z ts) (txs_after d z ts).begun s (no_begin (effect_after d z ts) p.1) e in
+          let same = tx_same t s p.0 in
+          (ap (λ (y : TxId). y.intent) same ∙ k.intent, subst (λ (y : TxId). y.begin < length ts) (sym same) ((fits_at d z ts).before s.begin k.begun))
+
+  pub got_since : (b : Bool) → got_by d t x j b (Some z) ≡ true → Since j z t
+  got_since b h = by_before (got_before d t x j z) refl h
+    where
+      by_before : (u : Bool) → got_before d t x j z ≡ u → (u || (b && is_on t x z.func (tx_now d j z) (effect_of d z))) ≡ true → Since j z t
+      by_before false e g = let p = operation z.answers (both b (is_on t x z.func (tx_now d j z) (effect_of d z)) g).1 in record { own = p.0; before = p.1 }
+      by_before true e g = elim (gathered (λ ts c. is_on t x z.func (tx_after d j z ts) (effect_after d z ts) && not (is_aborted c)) [] z.answers false e) [
+        | inl k ↦ cc
+        | inr k ↦ let p = operation k.before (both (is_on t x z.func (tx_after d j z k.before) (effect_after d z k.before)) (not (is_aborted k.answer)) k.holds).0 in
+            let l = length-append k.before (k.answer ∷ k.later) in let n = ap length k.parts in let q = p.1 in record { own = p.0; before = omega (arith, l, n, q) }
+      ]
+
+-- ---- PutRead of a read at the front
+module _ (d : Deployment) (m : Rows) (known : Known) (locked : IntentId → Bool) (h : (x : Item) → TxsMatch d known locked x (content_of m x).owner) (one : (j : IntentId) (z : Instance) → map.get known j ≡ Some z → z.within ≡ None)
+    (id : IntentId) (q : Instance) (is : map.get known id ≡ Some q) (v : Option Row) where
+  abbrev key : RowKey
+  key = log_key q.func (place_of id (length q.answers))
+
+  abbrev place_at : Kind → Place
+  place_at (kinds.ReadLog a) = a
+  place_at k = place_of id 0
+
+  apart : (x : Item) (t : TxId) → (content_of m x).owner ≡ Some (Tx t) → is_eq (key_cmp (decision_key t) key) ≡ false
+  apart x t owned = by_key (is_eq (key_cmp (decision_key t) key)) refl
+    where
+      by_member : (j : IntentId) (o : Option Instance) → map.get known j ≡ o → got_by d t x j (locked j) o ≡ true → t.intent ≡ id → t.begin ≡ length q.answers → ⊥
+      by_member j None e g own begin = cc
+      by_member j (Some z) e g own begin =
+          let k = got_since d t x j z (one j z e) (locked j) g in
+          let same : Some z ≡ Some q = sym e ∙ ap (map.get known) (sym k.own ∙ own) ∙ is in
+          let len : length z.answers ≡ length q.answers = ap (λ (y : Instance). length y.answers) (same_some same) in
+          let b = k.before in omega (arith, b, begin, len)
+
+      by_key : (b : Bool) → is_eq (key_cmp (decision_key t) key) ≡ b → b ≡ false
+      by_key true e =
+          let place = ap (λ (k : RowKey). place_at k.kind) (key_same (decision_key t) key e) in
+          let g = (h x).owned_is_got t owned in
+          absurd (by_member g.member (map.get known g.member) refl g.got (ap (λ (y : Place). y.intent) place) (ap (λ (y : Place). y.step) place))
+      by_key false e = refl
+
+  pub read_lists : (x : Item) → listed (set_row m key v) x ≡ listed m x
+  read_lists x = ap (λ (c : Content). listed_under (set_row m key v) x c.owner c.value) (content_apart m key v x (kinds_apart is_data (head_key x) key refl refl)) ∙ under (content_of m x).owner refl
+    where
+      under : (o : Option Owner) → (content_of m x).owner ≡ o → listed_under (set_row m key v) x o (content_of m x).value ≡ listed_under m x o (content_of m x).value
+      under None e = refl
+      under (Some (Intent i)) e = refl
+      under (Some (Tx t)) e =
+          ap (λ r. if is_committed r then value_in (map.get (set_row m key v) (shadow_key t x)) (content_of m x).value else (content_of m x).value) (row_got m key (decision_key t) v ∙ ap (λ b. cond b v (map.get m (decision_key t))) (apart x t e))
+          ∙ ap (λ r. if is_committed (map.get m (decision_key t)) then value_in r (content_of m x).value else (content_of m x).value) (elsewhere m key v is_shadow (shadow_key t x) refl refl)

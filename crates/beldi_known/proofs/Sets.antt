@@ -1,0 +1,154 @@
+-- An instance is made, or ends: it owes items, shadows, locksets and reads what was owed, and its own rows or those of a call change.
+use Rattle.std.proofs.Common.{◌≡◌, ℕ, ◌==◌, ◌&&◌, ◌||◌, not, Bool, true, false, Option, None, Some, is_some, refl, ap, sym, ◌∙◌, subst}
+use Rattle.std.specs.FinMap as map
+use Rattle.std.specs.Option.{is_none}
+use Rattle.std.specs.Ordering.{is_eq}
+use Rattle.beldi_value.specs.Id.{has_no_hops}
+use Rattle.beldi_value.specs.declared.id.IntentId.{IntentId}
+use Rattle.beldi_value.specs.declared.place.Owner.{Owner}
+use Rattle.beldi_value.specs.declared.place.Place.{Place}
+use Rattle.beldi_value.specs.declared.place.TxId.{TxId}
+use Rattle.beldi_tree.specs.declared.deployment.Deployment.{Deployment}
+use Rattle.beldi_row.specs.Key.{key_cmp}
+use Rattle.beldi_row.specs.Table.{Rows, set_row}
+use Rattle.beldi_row.specs.declared.key.RowKey.{RowKey}
+use Rattle.beldi_row.specs.declared.key.Kind.{Kind}
+use Rattle.beldi_row.specs.declared.key.Kind.TheVariants as kinds
+use Rattle.beldi_row.specs.declared.row.Row.{Row}
+use Rattle.beldi_row.specs.declared.row.Row.TheVariants as rows
+use Rattle.beldi_daal.specs.Content.{Content}
+use Rattle.beldi_plain.specs.Holds.{holds}
+use Rattle.beldi_plain.specs.Item.{Item}
+use Rattle.beldi_plain.specs.Plain.{Instance, effect_of}
+use Rattle.beldi_known.specs.Contents.{head_key, content_of, shadow_key, shadow_of}
+use Rattle.beldi_known.specs.Known.{Known, owed_value, owed_call, owed_note, owed_shadow, owed_lockset, got_by, ended_by, ended_at, tx_end, tx_now, begins_at, is_item, touched, is_decided, is_mark, last_step}
+use Rattle.beldi_known.specs.Matches.{Matches, RowMatches, ItemMatches, ShadowMatches, TxsMatch, LocksetMatches, lockset_ahead, is_open}
+use Rattle.beldi_known.specs.Rows.{IntentMatches, LogMatches, CallMatches}
+use Rattle.beldi_known.proofs.Acts.{kinds_apart, content_apart, shadow_apart}
+use Rattle.beldi_known.proofs.FrameAt.{known_set}
+use Rattle.beldi_known.proofs.Rows.{keys_set}
+
+-- what is at an id owes what was owed there, and has no lock ahead
+pub record OwesStill (d : Deployment) (known : Known) (id : IntentId) (o : Option Instance) (s : Instance) : Type 0 where
+  pub values : (f n : ℕ) → owed_value d f n (Some s) ≡ owed_value d f n o
+  pub notes : (x : Item) (n : ℕ) → owed_note d x id false n (Some s) ≡ owed_note d x id false n o
+  pub shadows : (t : TxId) (x : Item) (n : ℕ) → owed_shadow d t x id n (Some s) ≡ owed_shadow d t x id n o
+  pub locksets : (b : ℕ) (x : Item) → owed_lockset d b x id (Some s) ≡ owed_lockset d b x id o
+  pub got : (t : TxId) (x : Item) → got_by d t x id false (Some s) ≡ got_by d t x id false o
+  pub held : (x : Item) → holds d x (Some s) ≡ holds d x o
+  pub ends : (b : ℕ) → ended_by d b (Some s) ≡ ended_by d b o
+  pub marks : (n : ℕ) → is_mark d known n (Some s) ≡ is_mark d known n o
+  pub behind : (b : ℕ) (x : Item) → lockset_ahead d known b x id o ≡ false
+
+-- rows that are no cells and no lockset row
+abbrev pub is_log : Kind → Bool
+is_log (kinds.Intent id) = true
+is_log (kinds.Invoke a) = true
+is_log k = false
+
+module _ (d : Deployment) (known : Known) (locked : IntentId → Bool) (id : IntentId) (s : Instance) (unlocked : locked id ≡ false) (owes : OwesStill d known id (map.get known id) s) where
+  abbrev after : Known
+  after = map.insert known id s
+
+  as_before : {X : Type 0} (F : IntentId → Option Instance → X) → F id (Some s) ≡ F id (map.get known id) → (j : IntentId) → F j (map.get after j) ≡ F j (map.get known j)
+  as_before F same j = known_set known id s (λ j o. F j o ≡ F j (map.get known j)) same (λ j other. refl) j
+
+  ends_same : (t : TxId) → tx_end d after t ≡ tx_end d known t
+  ends_same t = as_before (λ j o. ended_by d t.begin o) (owes.ends t.begin) t.intent
+
+  decided_same : (t : Option TxId) → is_decided d after t ≡ is_decided d known t
+  decided_same None = refl
+  decided_same (Some t) = ap is_some (ends_same t)
+
+  open_same : (t : Option TxId) → is_open d after t ≡ is_open d known t
+  open_same None = refl
+  open_same (Some t) = ap (λ z. not (is_some z)) (ends_same t)
+
+  marks_same : (b : Place) → is_mark d after b.step (map.get after b.intent) ≡ is_mark d known b.step (map.get known b.intent)
+  marks_same b = elsewhere (map.get after b.intent) ∙ as_before (λ j o. is_mark d known b.step o) (owes.marks b.step) b.intent
+    where
+      elsewhere : (o : Option Instance) → is_mark d after b.step o ≡ is_mark d known b.step o
+      elsewhere None = refl
+      elsewhere (Some z) = ap (λ c. is_some (ended_at d z b.step) || (c && (b.step == last_step))) (decided_same z.within)
+
+  notes_same : (x : Item) (b : Place) → owed_note d x b.intent (locked b.intent) b.step (map.get after b.intent) ≡ owed_note d x b.intent (locked b.intent) b.step (map.get known b.intent)
+  notes_same x b = as_before (λ j o. owed_note d x j (locked j) b.step o) (subst (λ c. owed_note d x id c b.step (Some s) ≡ owed_note d x id c b.step (map.get known id)) (sym unlocked) (owes.notes x b.step)) b.intent
+
+  got_same : (t : TxId) (x : Item) (j : IntentId) → got_by d t x j (locked j) (map.get after j) ≡ got_by d t x j (locked j) (map.get known j)
+  got_same t x = as_before (λ j o. got_by d t x j (locked j) o) (subst (λ c. got_by d t x id c (Some s) ≡ got_by d t x id c (map.get known id)) (sym unlocked) (owes.got t x))
+
+  item_same : (x : Item) (c : Content) → ItemMatches d known locked x c → ItemMatches d after locked x c
+  item_same x c h = record {
+    owner = λ j. h.owner j ∙ sym (as_before (λ j o. holds d x o) (owes.held x) j);
+    notes = λ b apart. h.notes b (sym (marks_same b) ∙ apart) ∙ sym (notes_same x b);
+  }
+
+  shadow_same : (t : TxId) (x : Item) (c : Content) → ShadowMatches d known t x c → ShadowMatches d after t x c
+  shadow_same t x c h b = h b ∙ sym (as_before (λ j o. owed_shadow d t x j b.step o) (owes.shadows t x b.step) b.intent)
+
+  txs_same : (x : Item) (c : Option Owner) → TxsMatch d known locked x c → TxsMatch d after locked x c
+  txs_same x c h = record {
+    owned_is_got = λ t e. let g = h.owned_is_got t e in record { member = g.member; got = got_same t x g.member ∙ g.got };
+    got_is_owned = λ t g open_still. h.got_is_owned t (record { member = g.member; got = sym (got_same t x g.member) ∙ g.got }) (sym (ends_same t) ∙ open_still);
+  }
+
+  lockset_same : (b : ℕ) (x : Item) (j : IntentId) (row : Option Row) → LocksetMatches row (owed_lockset d b x j (map.get known j)) (lockset_ahead d known b x j (map.get known j)) → LocksetMatches row (owed_lockset d b x j (map.get after j)) (lockset_ahead d after b x j (map.get after j))
+  lockset_same b x j row g = by_row row g
+    where
+      owed : (i : IntentId) → owed_lockset d b x i (map.get after i) ≡ owed_lockset d b x i (map.get known i)
+      owed i = as_before (λ i o. owed_lockset d b x i o) (owes.locksets b x) i
+
+      ahead : (i : IntentId) (o : Option Instance) → lockset_ahead d after b x i o ≡ lockset_ahead d known b x i o
+      ahead i None = refl
+      ahead i (Some z) = ap (λ u. is_none z.outcome && (u && (begins_at b (tx_now d i z) && is_item x z.func (touched (effect_of d z))))) (open_same (tx_now d i z))
+
+      or_no : (u : Bool) → (u || false) ≡ u
+      or_no true = refl
+      or_no false = refl
+
+      by_row : (row : Option Row) → LocksetMatches row (owed_lockset d b x j (map.get known j)) (lockset_ahead d known b x j (map.get known j)) → LocksetMatches row (owed_lockset d b x j (map.get after j)) (lockset_ahead d after b x j (map.get after j))
+      by_row None g = owed j ∙ g
+      by_row (Some rows.Lockset) g = ap (λ u. u || lockset_ahead d after b x j (map.get after j)) (owed j)
+          ∙ known_set known id s (λ i o. (owed_lockset d b x i (map.get known i) || lockset_ahead d known b x i (map.get known i)) ≡ true → (owed_lockset d b x i (map.get known i) || lockset_ahead d after b x i o) ≡ true)
+          (λ k. ap (λ u. u || lockset_ahead d after b x id (Some s)) (sym (or_no (owed_lockset d b x id (map.get known id))) ∙ ap (λ u. owed_lockset d b x id (map.get known id) || u) (sym (owes.behind b x)) ∙ k))
+          (λ i other k. ap (λ u. owed_lockset d b x i (map.get known i) || u) (ahead i (map.get known i)) ∙ k) j g
+      by_row (Some (rows.Intent i)) g = g
+      by_row (Some (rows.ReadLog i)) g = g
+      by_row (Some (rows.Invoke i)) g = g
+      by_row (Some (rows.Cell i)) g = g
+
+  -- a row matches still, where its own do and calls are owed as before
+  pub row_same : (home : ℕ) (kind : Kind) (row : Option Row) → (kind ≡ kinds.Intent id → IntentMatches (has_no_hops id.hops) home row (map.get known id) → IntentMatches (has_no_hops id.hops) home row (Some s))
+      → ((b : Place) → kind ≡ kinds.Invoke b → owed_call after home b ≡ owed_call known home b) → RowMatches d known home kind row → RowMatches d after home kind row
+  row_same home (kinds.Intent j) row own calls g = known_set known id s (λ i o. i ≡ j → IntentMatches (has_no_hops i.hops) home row (map.get known i) → IntentMatches (has_no_hops i.hops) home row o)
+      (λ e k. own (ap kinds.Intent (sym e)) k) (λ i other e k. k) j refl g
+  row_same home (kinds.ReadLog b) row own calls g = subst (LogMatches row) (sym (as_before (λ j o. owed_value d home b.step o) (owes.values home b.step) b.intent)) g
+  row_same home (kinds.Invoke b) row own calls g = subst (CallMatches row) (sym (calls b refl)) g
+  row_same home (kinds.Lockset j b t k) row own calls g = lockset_same b (record { func = home; table = t; key = k }) j row g
+  row_same home kind row own calls g = g
+
+  -- it was set, with one row of an intent or of a call
+  pub instance_set : (m : Rows) (k : RowKey) (v : Option Row) → is_log k.kind ≡ true → RowMatches d after k.home k.kind v
+      → ((l : RowKey) → is_eq (key_cmp l k) ≡ false → l.kind ≡ kinds.Intent id → IntentMatches (has_no_hops id.hops) l.home (map.get m l) (map.get known id) → IntentMatches (has_no_hops id.hops) l.home (map.get m l) (Some s))
+      → ((l : RowKey) (b : Place) → is_eq (key_cmp l k) ≡ false → l.kind ≡ kinds.Invoke b → owed_call after l.home b ≡ owed_call known l.home b) → Matches d m known locked → Matches d (set_row m k v) after locked
+  instance_set m k v kind here own calls h = record {
+    keys = keys_set m k v (λ l z. RowMatches d after l.home l.kind z) here (λ l other. row_same l.home l.kind (map.get m l) (own l other) (λ b e. calls l b other e) (h.keys l));
+    items = λ x. subst (ItemMatches d after locked x) (sym (content_apart m k v x (apart (head_key x) refl))) (item_same x (content_of m x) (h.items x));
+    shadows = λ t x. subst (ShadowMatches d after t x) (sym (shadow_apart m k v t x (apart (shadow_key t x) refl))) (shadow_same t x (shadow_of m t x) (h.shadows t x));
+    txs = λ x. subst (λ (c : Content). TxsMatch d after locked x c.owner) (sym (content_apart m k v x (apart (head_key x) refl))) (txs_same x (content_of m x).owner (h.txs x));
+  }
+    where
+      apart : (l : RowKey) → is_log l.kind ≡ false → is_eq (key_cmp l k) ≡ false
+      apart l e = kinds_apart (λ z. not (is_log z)) l k (ap not e) (ap not kind)
+
+-- only a row of an intent or of a call was set, to one that matches as well
+pub row_put : (d : Deployment) (known : Known) (locked : IntentId → Bool) (m : Rows) (k : RowKey) (v : Option Row) → is_log k.kind ≡ true → RowMatches d known k.home k.kind v → Matches d m known locked → Matches d (set_row m k v) known locked
+row_put d known locked m k v kind here h = record {
+  keys = keys_set m k v (λ l z. RowMatches d known l.home l.kind z) here (λ l other. h.keys l);
+  items = λ x. subst (ItemMatches d known locked x) (sym (content_apart m k v x (apart (head_key x) refl))) (h.items x);
+  shadows = λ t x. subst (ShadowMatches d known t x) (sym (shadow_apart m k v t x (apart (shadow_key t x) refl))) (h.shadows t x);
+  txs = λ x. subst (λ (c : Content). TxsMatch d known locked x c.owner) (sym (content_apart m k v x (apart (head_key x) refl))) (h.txs x);
+}
+  where
+    apart : (l : RowKey) → is_log l.kind ≡ false → is_eq (key_cmp l k) ≡ false
+    apart l e = kinds_apart (λ z. not (is_log z)) l k (ap not e) (ap not kind)

@@ -1,0 +1,5 @@
+use Rattle.beldi_known.proofs.Frame.{ends_go_on}
+use Rattle.beldi_known.proofs.laws.ends_stay.Goals as goal
+
+pub returns : goal.returns
+returns c = ends_go_on

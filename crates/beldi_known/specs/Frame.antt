@@ -1,0 +1,53 @@
+-- What an instance owes once an answer more is known: it changes at the place of that answer alone.
+use Rattle.std.specs.Prelude.{◌≡◌, ℕ, ◌==◌, ◌&&◌, ◌||◌, not, Bool, true, false, length, Option, Some, None, if◌then◌else◌}
+use Rattle.std.specs.Ordering.{is_eq}
+use Rattle.beldi_value.specs.Id.{id_cmp}
+use Rattle.beldi_value.specs.declared.id.IntentId.{IntentId}
+use Rattle.beldi_value.specs.declared.place.TxId.{TxId}
+use Rattle.beldi_value.specs.declared.value.Value.{Value}
+use Rattle.beldi_value.specs.declared.value.Value.TheVariants as value
+use Rattle.beldi_tree.specs.declared.deployment.Deployment.{Deployment}
+use Rattle.beldi_lang.specs.declared.effect.Answer.{Answer}
+use Rattle.beldi_lang.specs.declared.effect.Answer.TheVariants as answer
+use Rattle.beldi_lang.specs.declared.effect.Effect.{Effect}
+use Rattle.beldi_lang.specs.declared.effect.Effect.TheVariants as effect
+use Rattle.beldi_plain.specs.Holds.{held_if, holds}
+use Rattle.beldi_plain.specs.Item.{Item}
+use Rattle.beldi_plain.specs.Operation.{op_of}
+use Rattle.beldi_plain.specs.Plain.{Instance, effect_of}
+use Rattle.beldi_known.specs.Known.{txs_by, txs_after, end_of, tx_now, row_at, note_by, answered_note, shadow_by, shadow_at, asks_lock, lockset_of, is_aborted, is_on, got_before, commit_in, ended_at}
+use Rattle.beldi_known.specs.Rows.{body_of}
+
+-- the row that an answer adds, if any: of a read at its own step, of an End at the step of the Begin that is open
+abbrev pub row_added : ℕ → Option ℕ → Effect → Answer → Option (ℕ × Value)
+row_added n o (effect.Read t k) (answer.Value v) = Some (n, v)
+row_added n (Some b) (effect.End c) a = Some (b, value.Bool c)
+row_added n o e a = None
+
+abbrev pub put : Option (ℕ × Value) → ℕ → Option Value → Option Value
+put None m o = o
+put (Some r) m o = if m == r.0 then Some r.1 else o
+
+-- what an instance owes once it has this answer more
+pub record AnswersOne (d : Deployment) (id : IntentId) (q : Instance) (a : Answer) (r : Instance) : Type 0 where
+  pub func : r.func ≡ q.func
+  pub within : r.within ≡ q.within
+  pub outcome : r.outcome ≡ q.outcome
+  pub body : body_of q ≡ body_of r
+  pub rows : (m : ℕ) → row_at d r m ≡ put (row_added (length q.answers) (txs_after d q q.answers).begun (effect_of d q) a) m (row_at d q m)
+  pub notes : (x : Item) (m : ℕ) → answered_note d x id m r ≡ (if m == length q.answers then note_by x q.func (tx_now d id q) (effect_of d q) a else answered_note d x id m q)
+  pub shadows : (t : TxId) (x : Item) (m : ℕ) → shadow_at d t x id m r ≡ (if m == length q.answers then shadow_by t x q.func (tx_now d id q) (effect_of d q) a else shadow_at d t x id m q)
+  pub locksets : (b : ℕ) (x : Item) → lockset_of d b x id r ≡ (lockset_of d b x id q || asks_lock b x q.func (tx_now d id q) (effect_of d q))
+  pub got : (t : TxId) (x : Item) → got_before d t x id r ≡ (got_before d t x id q || (is_on t x q.func (tx_now d id q) (effect_of d q) && not (is_aborted a)))
+  pub held : (x : Item) → holds d x (Some r) ≡ held_if x q.func (op_of (effect_of d q)) (holds d x (Some q))
+  pub ends : (b : ℕ) → end_of d r b ≡ (txs_by (length q.answers) (effect_of d q) (txs_after d q q.answers)).ends b
+  pub marks : (m : ℕ) → ended_at d r m ≡ (if m == length q.answers then commit_in (effect_of d q) else ended_at d q m)
+
+-- a lock that was ahead of its answer is so no more
+pub record LockedOut (locked after : IntentId → Bool) (id : IntentId) : Type 0 where
+  pub out : after id ≡ false
+  pub others : (j : IntentId) → is_eq (id_cmp j id) ≡ false → after j ≡ locked j
+
+-- the lock of an instance is ahead from now on
+abbrev pub lock_in : (IntentId → Bool) → IntentId → IntentId → Bool
+lock_in locked id j = if is_eq (id_cmp j id) then true else locked j

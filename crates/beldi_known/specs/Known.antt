@@ -1,0 +1,296 @@
+-- What is known of each instance, and what it owes the rows: by its answers alone, inside transactions and outside.
+use Rattle.std.specs.Prelude.{◌≡◌, ℕ, ◌==◌, ◌&&◌, ◌||◌, not, Bool, true, false, List, [], ◌∷◌, ◌++◌, length, take, slice_get, Option, Some, None, is_some, if◌then◌else◌}
+use Rattle.std.specs.FinMap as map
+use Rattle.std.specs.FinMap.{FinMap}
+use Rattle.std.specs.Option.{option_map}
+use Rattle.std.specs.Ordering.{is_eq}
+use Rattle.beldi_value.specs.Id.{id_cmp, child_of}
+use Rattle.beldi_value.specs.declared.id.IntentId.{IntentId}
+use Rattle.beldi_value.specs.declared.outcome.Outcome.{Outcome}
+use Rattle.beldi_value.specs.declared.place.Owner.TheVariants.{Tx}
+use Rattle.beldi_value.specs.declared.place.Place.{Place}
+use Rattle.beldi_value.specs.declared.place.TxId.{TxId}
+use Rattle.beldi_value.specs.declared.value.Value.{Value}
+use Rattle.beldi_value.specs.declared.value.Value.TheVariants as value
+use Rattle.beldi_tree.specs.declared.deployment.Deployment.{Deployment}
+use Rattle.beldi_lang.specs.declared.effect.Answer.{Answer}
+use Rattle.beldi_lang.specs.declared.effect.Answer.TheVariants as answer
+use Rattle.beldi_lang.specs.declared.effect.Effect.{Effect}
+use Rattle.beldi_lang.specs.declared.effect.Effect.TheVariants as effect
+use Rattle.beldi_lang.specs.Wants.{wants}
+use Rattle.beldi_row.specs.declared.notes.Note.{Note}
+use Rattle.beldi_row.specs.declared.notes.Note.TheVariants as notes
+use Rattle.beldi_row.specs.Log.{owner_eq}
+use Rattle.beldi_plain.specs.Executor.{answered_if}
+use Rattle.beldi_plain.specs.Item.{Item, item_cmp}
+use Rattle.beldi_plain.specs.Operation.{OnItem, op_of}
+use Rattle.beldi_plain.specs.Plain.{Instance, answered, effect_of}
+use Rattle.beldi_step.specs.Run.{place_of}
+use Rattle.beldi_known.specs.Owed.{note_of, value_for, called_by}
+
+-- what is known of the instances
+abbrev pub Known : Type 0
+Known = FinMap id_cmp Instance
+
+-- the effect that an instance wants after these answers
+abbrev pub effect_after : Deployment → Instance → List Answer → Effect
+effect_after d q given = wants d q.func q.args (is_some q.within) given
+
+-- ---- what takes no turn
+-- the answer that takes no turn: of a Begin, and of an Abort
+abbrev pub answer_at_once : IntentId → ℕ → Effect → Option Answer
+answer_at_once id n effect.Begin = Some answer.Done
+answer_at_once id n effect.Abort = Some (answer.Aborted (record { place = place_of id n; holder = None }))
+answer_at_once id n e = None
+
+-- nothing follows an outcome
+abbrev pub once_if : Deployment → IntentId → Instance → Option Outcome → Instance
+once_if d id q None = answered_if q (answer_at_once id (length q.answers) (effect_of d q))
+once_if d id q (Some o) = q
+
+abbrev pub once : Deployment → IntentId → Instance → Instance
+once d id q = once_if d id q q.outcome
+
+-- after a Begin comes no Begin, and after an Abort neither: so twice is enough
+abbrev pub at_once : Deployment → IntentId → Instance → Instance
+at_once d id q = once d id (once d id q)
+
+-- an answer, and then what takes no turn
+abbrev pub moved : Deployment → IntentId → Instance → Answer → Instance
+moved d id q a = at_once d id (answered q a)
+
+-- ---- what a run goes on to: its answers, and those that take no turn
+abbrev pub and_once : List Answer → Option Answer → List Answer
+and_once given None = given
+and_once given (Some a) = given ++ a ∷ []
+
+abbrev pub run_once : Deployment → IntentId → Instance → List Answer → List Answer
+run_once d id q given = and_once given (answer_at_once id (length given) (effect_after d q given))
+
+abbrev pub run_on : Deployment → IntentId → Instance → List Answer → List Answer
+run_on d id q given = run_once d id q (run_once d id q given)
+
+-- a run's answers are the first that are known
+pub record Prefix (given : List Answer) (q : Instance) : Type 0 where
+  pub later : List Answer
+  pub all : given ++ later ≡ q.answers
+
+-- ---- a fold over answers, each with those before it
+abbrev pub along : {X : Type 0} → (List Answer → Answer → X → X) → List Answer → List Answer → X → X
+along f given [] x = x
+along f given (a ∷ rest) x = along f (given ++ a ∷ []) rest (f given a x)
+
+-- what a step owes, by the answers before it and its answer; nothing before it is answered
+abbrev pub at_step : {X : Type 0} → (List Answer → Answer → Option X) → List Answer → Option Answer → Option X
+at_step f given None = None
+at_step f given (Some a) = f given a
+
+-- ---- the transactions of an instance
+-- the step of the Begin that is open, and how each Begin ended: the step of its End, and whether it is a commit
+pub record Txs : Type 0 where
+  pub begun : Option ℕ
+  pub ends : ℕ → Option (ℕ × Bool)
+
+abbrev pub none_begun : Txs
+none_begun = record { begun = None; ends = λ b. None }
+
+abbrev pub is_at : ℕ → Option ℕ → Bool
+is_at b None = false
+is_at b (Some c) = b == c
+
+-- .. after the effect at a step was answered
+abbrev pub txs_by : ℕ → Effect → Txs → Txs
+txs_by n effect.Begin s = record { begun = Some n; ends = s.ends }
+txs_by n (effect.End c) s = record { begun = None; ends = λ b. if is_at b s.begun then Some (n, c) else s.ends b }
+txs_by n e s = s
+
+abbrev pub txs_after : Deployment → Instance → List Answer → Txs
+txs_after d q given = along (λ ts a s. txs_by (length ts) (effect_after d q ts) s) [] given none_begun
+
+-- the End of the Begin at a step, where it was answered
+abbrev pub end_of : Deployment → Instance → ℕ → Option (ℕ × Bool)
+end_of d q b = (txs_after d q q.answers).ends b
+
+-- the transaction that a step is in, by its effect and the Begin that is open before it: Begin and End belong to it
+abbrev pub tx_by : IntentId → ℕ → ℕ → Effect → Option ℕ → Option TxId
+tx_by id func n effect.Begin o = Some (record { intent = id; begin = n; func = func })
+tx_by id func n e None = None
+tx_by id func n e (Some b) = Some (record { intent = id; begin = b; func = func })
+
+-- .. but for an instance that was called in one
+abbrev pub or_own : Option TxId → Option TxId → Option TxId
+or_own None own = own
+or_own (Some t) own = Some t
+
+abbrev pub tx_after : Deployment → IntentId → Instance → List Answer → Option TxId
+tx_after d id q given = or_own q.within (tx_by id q.func (length given) (effect_after d q given) (txs_after d q given).begun)
+
+abbrev pub tx_at : Deployment → IntentId → Instance → ℕ → Option TxId
+tx_at d id q n = tx_after d id q (take n q.answers)
+
+abbrev pub tx_now : Deployment → IntentId → Instance → Option TxId
+tx_now d id q = tx_after d id q q.answers
+
+abbrev pub tx_eq : TxId → TxId → Bool
+tx_eq s t = owner_eq (Tx s) (Tx t)
+
+abbrev pub is_tx : TxId → Option TxId → Bool
+is_tx t None = false
+is_tx t (Some s) = tx_eq t s
+
+-- ---- what operations touch
+-- the table and key of an operation that a transaction may do
+abbrev pub touched : Effect → Option (ℕ × List ℕ)
+touched (effect.Read t k) = Some (t, k)
+touched (effect.Write t k v) = Some (t, k)
+touched (effect.CondWrite t k r o v) = Some (t, k)
+touched e = None
+
+abbrev pub is_item : Item → ℕ → Option (ℕ × List ℕ) → Bool
+is_item x func None = false
+is_item x func (Some o) = is_eq (item_cmp (record { func = func; table = o.0; key = o.1 }) x)
+
+-- an operation that writes
+abbrev pub write_op : Effect → Option OnItem
+write_op (effect.Write t k v) = op_of (effect.Write t k v)
+write_op (effect.CondWrite t k r o v) = op_of (effect.CondWrite t k r o v)
+write_op e = None
+
+-- ---- the rows of reads and decisions
+-- a read's value, outside and inside
+abbrev pub read_at : Deployment → Instance → ℕ → Option Value
+read_at d q n = at_step (λ given a. value_for (effect_after d q given) a) (take n q.answers) (slice_get q.answers n)
+
+abbrev pub decision_by : Option (ℕ × Bool) → Option Value
+decision_by None = None
+decision_by (Some e) = Some (value.Bool e.1)
+
+abbrev pub value_or : Option Value → Option Value → Option Value
+value_or None b = b
+value_or (Some v) b = Some v
+
+-- .. or, at a Begin whose End was answered, whether it is a commit
+abbrev pub row_at : Deployment → Instance → ℕ → Option Value
+row_at d q n = value_or (decision_by (end_of d q n)) (read_at d q n)
+
+-- what the log of a function has of an instance's step
+abbrev pub owed_value : Deployment → ℕ → ℕ → Option Instance → Option Value
+owed_value d func n None = None
+owed_value d func n (Some q) = if q.func == func then row_at d q n else None
+
+abbrev pub owed_read : Deployment → Known → ℕ → Place → Option Value
+owed_read d known func a = owed_value d func a.step (map.get known a.intent)
+
+-- ---- calls
+-- the call that the log of a function has at a place: the one that the place's instance made there
+abbrev pub owed_call : Known → ℕ → Place → Option (ℕ × Option Outcome)
+owed_call known f a = called_by f (map.get known a.intent) (map.get known (child_of a.intent a.step))
+
+-- ---- the notes of a plain item
+-- of the lock of an operation inside: a death, or the lock
+abbrev pub lock_note : Answer → Option Note
+lock_note (answer.Aborted c) = option_map notes.Died c.holder
+lock_note a = Some notes.Got
+
+-- the note of an answer: outside as the operation's, inside as of its lock
+abbrev pub note_by : Item → ℕ → Option TxId → Effect → Answer → Option Note
+note_by x func None e a = note_of x func (op_of e) a
+note_by x func (Some t) e a = if is_item x func (touched e) then lock_note a else None
+
+abbrev pub answered_note : Deployment → Item → IntentId → ℕ → Instance → Option Note
+answered_note d x id n q = at_step (λ given a. note_by x q.func (tx_after d id q given) (effect_after d q given) a) (take n q.answers) (slice_get q.answers n)
+
+-- a lock that is ahead of its answer: of an operation that is not answered yet
+abbrev pub ahead_by : Item → ℕ → Option TxId → Effect → Bool → Option Note
+ahead_by x func (Some t) e true = if is_item x func (touched e) then Some notes.Got else None
+ahead_by x func t e b = None
+
+abbrev pub ahead_note : Deployment → Item → IntentId → Bool → ℕ → Instance → Option Note
+ahead_note d x id b n q = if n == length q.answers then ahead_by x q.func (tx_now d id q) (effect_of d q) b else None
+
+abbrev pub note_or : Option Note → Option Note → Option Note
+note_or None b = b
+note_or (Some n) b = Some n
+
+abbrev pub owed_note : Deployment → Item → IntentId → Bool → ℕ → Option Instance → Option Note
+owed_note d x id b n None = None
+owed_note d x id b n (Some q) = note_or (answered_note d x id n q) (ahead_note d x id b n q)
+
+-- ---- the notes of a transaction's shadow of an item
+abbrev pub shadow_by : TxId → Item → ℕ → Option TxId → Effect → Answer → Option Note
+shadow_by t x func s e a = if is_tx t s then note_of x func (write_op e) a else None
+
+abbrev pub shadow_at : Deployment → TxId → Item → IntentId → ℕ → Instance → Option Note
+shadow_at d t x id n q = at_step (λ given a. shadow_by t x q.func (tx_after d id q given) (effect_after d q given) a) (take n q.answers) (slice_get q.answers n)
+
+abbrev pub owed_shadow : Deployment → TxId → Item → IntentId → ℕ → Option Instance → Option Note
+owed_shadow d t x id n None = None
+owed_shadow d t x id n (Some q) = shadow_at d t x id n q
+
+-- ---- lockset rows
+abbrev pub begins_at : ℕ → Option TxId → Bool
+begins_at b None = false
+begins_at b (Some t) = t.begin == b
+
+-- an operation on the item, of the Begin at this step
+abbrev pub asks_lock : ℕ → Item → ℕ → Option TxId → Effect → Bool
+asks_lock b x func t e = begins_at b t && is_item x func (touched e)
+
+-- some such operation was answered; a death as well
+abbrev pub lockset_of : Deployment → ℕ → Item → IntentId → Instance → Bool
+lockset_of d b x id q = along (λ given a r. r || asks_lock b x q.func (tx_after d id q given) (effect_after d q given)) [] q.answers false
+
+abbrev pub owed_lockset : Deployment → ℕ → Item → IntentId → Option Instance → Bool
+owed_lockset d b x id None = false
+owed_lockset d b x id (Some q) = lockset_of d b x id q
+
+-- ---- what a transaction has got
+abbrev pub is_aborted : Answer → Bool
+is_aborted (answer.Aborted c) = true
+is_aborted a = false
+
+-- an operation of the transaction on the item
+abbrev pub is_on : TxId → Item → ℕ → Option TxId → Effect → Bool
+is_on t x func s e = is_tx t s && is_item x func (touched e)
+
+-- one was answered, and did not die
+abbrev pub got_before : Deployment → TxId → Item → IntentId → Instance → Bool
+got_before d t x id q = along (λ given a r. r || (is_on t x q.func (tx_after d id q given) (effect_after d q given) && not (is_aborted a))) [] q.answers false
+
+-- .. or has its lock ahead of its answer
+abbrev pub got_by : Deployment → TxId → Item → IntentId → Bool → Option Instance → Bool
+got_by d t x id b None = false
+got_by d t x id b (Some q) = got_before d t x id q || (b && is_on t x q.func (tx_now d id q) (effect_of d q))
+
+-- some instance has; only members of the transaction can
+pub record Got (d : Deployment) (known : Known) (locked : IntentId → Bool) (t : TxId) (x : Item) : Type 0 where
+  pub member : IntentId
+  pub got : got_by d t x member (locked member) (map.get known member) ≡ true
+
+-- how a transaction ended
+abbrev pub ended_by : Deployment → ℕ → Option Instance → Option (ℕ × Bool)
+ended_by d b None = None
+ended_by d b (Some q) = end_of d q b
+
+abbrev pub tx_end : Deployment → Known → TxId → Option (ℕ × Bool)
+tx_end d known t = ended_by d t.begin (map.get known t.intent)
+
+-- ---- the places of releases: the End of a decided transaction, and the last step of who was called in one
+abbrev pub commit_in : Effect → Option Bool
+commit_in (effect.End c) = Some c
+commit_in e = None
+
+-- an End that was answered
+abbrev pub ended_at : Deployment → Instance → ℕ → Option Bool
+ended_at d q n = at_step (λ given a. commit_in (effect_after d q given)) (take n q.answers) (slice_get q.answers n)
+
+abbrev pub last_step : ℕ
+last_step = 4294967295
+
+abbrev pub is_decided : Deployment → Known → Option TxId → Bool
+is_decided d known None = false
+is_decided d known (Some t) = is_some (tx_end d known t)
+
+abbrev pub is_mark : Deployment → Known → ℕ → Option Instance → Bool
+is_mark d known n None = false
+is_mark d known n (Some q) = is_some (ended_at d q n) || (is_decided d known q.within && (n == last_step))

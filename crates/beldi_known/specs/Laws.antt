@@ -1,0 +1,206 @@
+-- The laws of what is known.
+use Rattle.std.specs.Prelude.{◌≡◌, ℕ, ◌<◌, if◌then◌else◌, Bool, true, false, List, [], ◌∷◌, ◌++◌, length, Option, Some, None, is_some}
+use Rattle.std.specs.FinMap as map
+use Rattle.std.specs.Option.{option_map}
+use Rattle.std.specs.Ordering.{is_eq}
+use Rattle.beldi_value.specs.declared.place.Place.{Place}
+use Rattle.beldi_value.specs.Id.{id_cmp, child_of, has_no_hops}
+use Rattle.beldi_value.specs.declared.id.IntentId.{IntentId}
+use Rattle.beldi_value.specs.declared.outcome.Outcome.{Outcome}
+use Rattle.beldi_value.specs.declared.place.Owner.TheVariants.{Tx}
+use Rattle.beldi_value.specs.declared.place.TxId.{TxId}
+use Rattle.beldi_value.specs.declared.rel.Rel.{Rel}
+use Rattle.beldi_value.specs.declared.value.Value.{Value}
+use Rattle.beldi_value.specs.declared.value.Value.TheVariants as value
+use Rattle.beldi_tree.specs.declared.deployment.Deployment.{Deployment}
+use Rattle.beldi_lang.specs.Callee.{answer_of}
+use Rattle.beldi_lang.specs.declared.effect.Answer.{Answer}
+use Rattle.beldi_lang.specs.declared.effect.Answer.TheVariants as answer
+use Rattle.beldi_lang.specs.declared.effect.Effect.TheVariants as effect
+use Rattle.beldi_row.specs.Log.{note_at}
+use Rattle.beldi_row.specs.Table.{Rows, set_row}
+use Rattle.beldi_row.specs.declared.key.RowKey.{RowKey}
+use Rattle.beldi_row.specs.declared.key.Kind.TheVariants as kinds
+use Rattle.beldi_row.specs.declared.notes.Note.TheVariants as notes
+use Rattle.beldi_row.specs.declared.row.IntentRow.{IntentRow}
+use Rattle.beldi_row.specs.declared.row.InvokeRow.{InvokeRow}
+use Rattle.beldi_row.specs.declared.row.Row.{Row}
+use Rattle.beldi_row.specs.declared.row.Row.TheVariants as rows
+use Rattle.beldi_daal.specs.Content.{content_in}
+use Rattle.beldi_invokelog.specs.InvokeLog.{invoke_key, call_at, result_in}
+use Rattle.beldi_readlog.specs.ReadLog.{log_key}
+use Rattle.beldi_plain.specs.Item.{Item}
+use Rattle.beldi_plain.specs.Operation.{OnItem, op_of, item_in, answer_after}
+use Rattle.beldi_plain.specs.Plain.{Instance, answered, ended, effect_of, new_instance, callee_of, calls_at}
+use Rattle.beldi_order.specs.Sane.{effect_before, call_of}
+use Rattle.beldi_step.specs.Run.{is_waited, place_of}
+use Rattle.beldi_known.specs.Acts.{Told, noted, did, died, tested, lock_on, write_on, test_on, put_lockset, keep_value, lock_answer}
+use Rattle.beldi_known.specs.Contents.{head_key, content_of, shadow_key, shadow_of, lockset_key}
+use Rattle.beldi_known.specs.Frame.{AnswersOne, LockedOut, lock_in}
+use Rattle.beldi_known.specs.Known.{Known, effect_after, at_once, moved, run_on, Prefix, txs_after, end_of, tx_after, tx_now, tx_end, touched, last_step, is_mark}
+use Rattle.beldi_known.specs.Matches.{Matches}
+use Rattle.beldi_known.specs.Operations.{cell_of, DoneRows}
+use Rattle.beldi_known.specs.Rows.{CellMatches, body_of, EndsRow}
+use Rattle.beldi_known.specs.Sane.{Sane, SaneInstance, IsAnswer, Closed}
+
+-- ---- an instance
+-- an answer more, and what takes no turn after it, change what the instance owes at the answer's place alone
+abbrev pub OneAnswerMore : Type 0
+OneAnswerMore = (d : Deployment) (id : IntentId) (q : Instance) (a : Answer) → AnswersOne d id q a (moved d id q a)
+
+-- the Begin that is open is one, and it has not ended
+abbrev pub OpenHasNotEnded : Type 0
+OpenHasNotEnded = (d : Deployment) (q : Instance) (b : ℕ) → (txs_after d q q.answers).begun ≡ Some b → (effect_before d q b ≡ effect.Begin) × (end_of d q b ≡ None)
+
+-- how a transaction ended stays
+abbrev pub EndsStay : Type 0
+EndsStay = (d : Deployment) (q : Instance) (a : Answer) (b : ℕ) (z : ℕ × Bool) → end_of d q b ≡ Some z → end_of d (answered q a) b ≡ Some z
+
+-- an instance stays sane with an answer to its effect, and what takes no turn
+abbrev pub StaysSane : Type 0
+StaysSane = (d : Deployment) (id : IntentId) (q : Instance) (a : Answer) → q.outcome ≡ None → IsAnswer (place_of id (length q.answers)) (tx_now d id q) (effect_of d q) a → SaneInstance d id q → SaneInstance d id (moved d id q a)
+
+-- a run whose answers are the first that are known is so after what takes no turn
+abbrev pub RunsStayBehind : Type 0
+RunsStayBehind = (d : Deployment) (id : IntentId) (q : Instance) → Closed d id q → SaneInstance d id q → (given : List Answer) → Prefix given q → Prefix (run_on d id q given) q
+
+-- ---- a run that is behind: it finds what is owed, and is told the answer that is known
+pub record IsBehind (d : Deployment) (m : Rows) (known : Known) (id : IntentId) (q : Instance) (given : List Answer) (a : Answer) : Type 0 where
+  pub locked : IntentId → Bool
+  pub matches : Matches d m known locked
+  pub made : map.get known id ≡ Some q
+  pub sane : SaneInstance d id q
+  pub rest : List Answer
+  pub run_answers : given ++ a ∷ rest ≡ q.answers
+  pub short : length given < last_step
+
+-- a read, whatever it would put; and an End, at the place of its Begin
+abbrev pub ReadsAreKnown : Type 0
+ReadsAreKnown = (d : Deployment) (m : Rows) (known : Known) (id : IntentId) (q : Instance) (given : List Answer) (b : ℕ) (k : List ℕ) (w : Value) → IsBehind d m known id q given (answer.Value w) → effect_after d q given ≡ effect.Read b k
+    → (v : Value) → keep_value v (map.get m (log_key q.func (place_of id (length given)))) ≡ (Some (rows.ReadLog w), Some w)
+
+abbrev pub DecisionsAreKnown : Type 0
+DecisionsAreKnown = (d : Deployment) (m : Rows) (known : Known) (id : IntentId) (q : Instance) (given : List Answer) (a : Answer) (b : ℕ) (c : Bool) → IsBehind d m known id q given a → effect_after d q given ≡ effect.End c → (txs_after d q given).begun ≡ Some b
+    → (v : Value) → keep_value v (map.get m (log_key q.func (place_of id b))) ≡ (Some (rows.ReadLog (value.Bool c)), Some (value.Bool c))
+
+-- an operation inside: its lockset row is there, its lock is told the death that is known, if it is one, and its shadow the answer
+pub record IsToldInside (d : Deployment) (m : Rows) (id : IntentId) (q : Instance) (given : List Answer) (a : Answer) (s : TxId) (x : Item) : Type 0 where
+  pub asks : put_lockset (map.get m (lockset_key id s.begin x)) ≡ (map.get m (lockset_key id s.begin x), false)
+  pub lock : Told
+  pub locks : lock_on (place_of id (length given)) s (content_of m x) ≡ (content_of m x, lock)
+  pub dies : (h : IntentId) → a ≡ answer.Aborted (record { place = place_of id (length given); holder = Some h }) → lock_answer (place_of id (length given)) lock ≡ Some a
+  pub writes : (b : ℕ) (k : List ℕ) (v : Value) → effect_after d q given ≡ effect.Write b k v → a ≡ answer.Done → write_on (place_of id (length given)) (Tx s) v (shadow_of m s x) ≡ (shadow_of m s x, noted notes.Wrote)
+  pub tests : (b : ℕ) (k : List ℕ) (r : Rel) (o v : Value) (t : Bool) → effect_after d q given ≡ effect.CondWrite b k r o v → a ≡ answer.Value (value.Bool t)
+      → test_on (place_of id (length given)) (Tx s) r o v (shadow_of m s x) ≡ (shadow_of m s x, noted (notes.Cond t))
+
+abbrev pub InsideIsKnown : Type 0
+InsideIsKnown = (d : Deployment) (m : Rows) (known : Known) (id : IntentId) (q : Instance) (given : List Answer) (a : Answer) (s : TxId) (t : ℕ) (k : List ℕ) → IsBehind d m known id q given a → tx_after d id q given ≡ Some s
+    → touched (effect_after d q given) ≡ Some (t, k) → IsToldInside d m id q given a s (record { func = q.func; table = t; key = k })
+
+-- a call: what it gave back; and one that nobody waits for is there
+abbrev pub CallsAreKnown : Type 0
+CallsAreKnown = (d : Deployment) (m : Rows) (known : Known) (id : IntentId) (q : Instance) (given : List Answer) (a : Answer) (f : ℕ) (v : Value) → IsBehind d m known id q given a → Sane d known → effect_after d q given ≡ effect.Call f v
+    → option_map answer_of (result_in (call_at m (invoke_key q.func (place_of id (length given))))) ≡ Some a
+
+abbrev pub SentAreKnown : Type 0
+SentAreKnown = (d : Deployment) (m : Rows) (known : Known) (id : IntentId) (q : Instance) (given : List Answer) (a : Answer) (f : ℕ) (v : Value) → IsBehind d m known id q given a → Sane d known → effect_after d q given ≡ effect.Async f v
+    → (is_some (call_at m (invoke_key q.func (place_of id (length given)))) ≡ true) × (a ≡ answer.Done)
+
+-- ---- the acts at the front of an operation inside keep the rows matched
+-- an operation on an item, in a transaction, that has not been answered
+pub record IsFront (d : Deployment) (known : Known) (id : IntentId) (q : Instance) (s : TxId) (t : ℕ) (k : List ℕ) : Type 0 where
+  pub made : map.get known id ≡ Some q
+  pub inside : tx_now d id q ≡ Some s
+  pub touch : touched (effect_of d q) ≡ Some (t, k)
+
+-- its lockset row is put
+abbrev pub LocksetsKeep : Type 0
+LocksetsKeep = (d : Deployment) (m : Rows) (known : Known) (locked : IntentId → Bool) (id : IntentId) (q : Instance) (s : TxId) (t : ℕ) (k : List ℕ) → IsFront d known id q s t k → q.outcome ≡ None → tx_end d known s ≡ None → Matches d m known locked
+    → Matches d (set_row m (lockset_key id s.begin (record { func = q.func; table = t; key = k })) (Some rows.Lockset)) known locked
+
+-- its lock is taken: it is ahead of the answer from now on
+abbrev pub LocksKeep : Type 0
+LocksKeep = (d : Deployment) (m : Rows) (known : Known) (locked : IntentId → Bool) (id : IntentId) (q : Instance) (s : TxId) (t : ℕ) (k : List ℕ) (v : Option Row) → IsFront d known id q s t k → locked id ≡ false → CellMatches 0 v
+    → let x : Item = record { func = q.func; table = t; key = k } in lock_on (place_of id (length q.answers)) s (content_of m x) ≡ (content_in v, did)
+    → Matches d m known locked → Matches d (set_row m (head_key x) v) known (lock_in locked id)
+
+-- it dies
+abbrev pub DeathsKeep : Type 0
+DeathsKeep = (d : Deployment) (m : Rows) (known : Known) (locked : IntentId → Bool) (id : IntentId) (q : Instance) (s : TxId) (t : ℕ) (k : List ℕ) (v : Option Row) (holder : IntentId) → IsFront d known id q s t k → locked id ≡ false → CellMatches 0 v
+    → let x : Item = record { func = q.func; table = t; key = k } in map.get m (lockset_key id s.begin x) ≡ Some rows.Lockset → lock_on (place_of id (length q.answers)) s (content_of m x) ≡ (content_in v, died holder) → Matches d m known locked
+    → Matches d (set_row m (head_key x) v) (map.insert known id (moved d id q (answer.Aborted (record { place = place_of id (length q.answers); holder = Some holder })))) locked
+
+-- it is answered, its lock being ahead: a read by its row, a write by its shadow
+abbrev pub ReadsKeep : Type 0
+ReadsKeep = (d : Deployment) (m : Rows) (known : Known) (locked after : IntentId → Bool) (id : IntentId) (q : Instance) (s : TxId) (t : ℕ) (k : List ℕ) (v : Value) → IsFront d known id q s t k → effect_of d q ≡ effect.Read t k → locked id ≡ true → LockedOut locked after id
+    → map.get m (lockset_key id s.begin (record { func = q.func; table = t; key = k })) ≡ Some rows.Lockset → Matches d m known locked
+    → Matches d (set_row m (log_key q.func (place_of id (length q.answers))) (Some (rows.ReadLog v))) (map.insert known id (moved d id q (answer.Value v))) after
+
+abbrev pub WritesKeep : Type 0
+WritesKeep = (d : Deployment) (m : Rows) (known : Known) (locked after : IntentId → Bool) (id : IntentId) (q : Instance) (s : TxId) (t : ℕ) (k : List ℕ) (v : Value) (r : Option Row) → IsFront d known id q s t k → effect_of d q ≡ effect.Write t k v → locked id ≡ true
+    → LockedOut locked after id → CellMatches 0 r → let x : Item = record { func = q.func; table = t; key = k } in map.get m (lockset_key id s.begin x) ≡ Some rows.Lockset
+    → write_on (place_of id (length q.answers)) (Tx s) v (shadow_of m s x) ≡ (content_in r, did) → Matches d m known locked → Matches d (set_row m (shadow_key s x) r) (map.insert known id (moved d id q answer.Done)) after
+
+abbrev pub TestsKeep : Type 0
+TestsKeep = (d : Deployment) (m : Rows) (known : Known) (locked after : IntentId → Bool) (id : IntentId) (q : Instance) (s : TxId) (t : ℕ) (k : List ℕ) (u : Rel) (y v : Value) (b : Bool) (r : Option Row) → IsFront d known id q s t k → effect_of d q ≡ effect.CondWrite t k u y v
+    → locked id ≡ true → LockedOut locked after id → CellMatches 0 r → let x : Item = record { func = q.func; table = t; key = k } in map.get m (lockset_key id s.begin x) ≡ Some rows.Lockset
+    → test_on (place_of id (length q.answers)) (Tx s) u y v (shadow_of m s x) ≡ (content_in r, tested b) → Matches d m known locked → Matches d (set_row m (shadow_key s x) r) (map.insert known id (moved d id q (answer.Value (value.Bool b)))) after
+
+-- the first row of its shadow is made, without notes
+abbrev pub ShadowsKeep : Type 0
+ShadowsKeep = (d : Deployment) (m : Rows) (known : Known) (locked : IntentId → Bool) (s : TxId) (x : Item) (v : Option Row) → CellMatches 0 v → map.get m (shadow_key s x) ≡ None → (content_in v).notes ≡ [] → Matches d m known locked
+    → Matches d (set_row m (shadow_key s x) v) known locked
+
+-- the decision, where nobody else that can step is in the transaction
+abbrev pub DecisionsKeep : Type 0
+DecisionsKeep = (d : Deployment) (m : Rows) (known : Known) (locked : IntentId → Bool) (id : IntentId) (q : Instance) (c : Bool) (b : ℕ) → map.get known id ≡ Some q → locked id ≡ false → effect_of d q ≡ effect.End c → (txs_after d q q.answers).begun ≡ Some b
+    → ((j : IntentId) (z : Instance) (t : TxId) → map.get known j ≡ Some z → is_eq (id_cmp j id) ≡ false → z.outcome ≡ None → tx_now d j z ≡ Some t → t.intent ≡ id → t.begin ≡ b → ⊥) → Matches d m known locked
+    → Matches d (set_row m (log_key q.func (place_of id b)) (Some (rows.ReadLog (value.Bool c)))) (map.insert known id (moved d id q answer.Done)) locked
+
+-- a release of an item that a decided transaction owns: its note stands at a mark
+abbrev pub ReleasesKeep : Type 0
+ReleasesKeep = (d : Deployment) (m : Rows) (known : Known) (locked : IntentId → Bool) (x : Item) (s : TxId) (z : ℕ × Bool) (p : Place) (w : Value) (v : Option Row) → (content_of m x).owner ≡ Some (Tx s) → tx_end d known s ≡ Some z → is_mark d known p.step (map.get known p.intent) ≡ true
+    → note_at (content_of m x).notes p ≡ None → CellMatches 0 v → content_in v ≡ record { value = w; owner = None; notes = (content_of m x).notes ++ (p, notes.Freed) ∷ [] } → Matches d m known locked → Matches d (set_row m (head_key x) v) known locked
+
+-- ---- outside transactions
+-- an operation on an item, by what the walk of an intent leaves
+abbrev pub OperationsKeep : Type 0
+OperationsKeep = (d : Deployment) (m n : Rows) (known : Known) (locked : IntentId → Bool) (id : IntentId) (q : Instance) (o : OnItem) → map.get known id ≡ Some q → locked id ≡ false → tx_now d id q ≡ None → op_of (effect_of d q) ≡ Some o
+    → DoneRows m n (item_in q.func o) (place_of id (length q.answers)) (cell_of o.does) → Matches d m known locked
+    → Matches d n (map.insert known id (moved d id q (answer_after o.does (content_of m (item_in q.func o)).value))) locked
+
+-- a read, by its row
+abbrev pub ReadsOutsideKeep : Type 0
+ReadsOutsideKeep = (d : Deployment) (m : Rows) (known : Known) (locked : IntentId → Bool) (id : IntentId) (q : Instance) (t : ℕ) (k : List ℕ) (v : Value) → map.get known id ≡ Some q → locked id ≡ false → tx_now d id q ≡ None → effect_of d q ≡ effect.Read t k
+    → Matches d m known locked → Matches d (set_row m (log_key q.func (place_of id (length q.answers))) (Some (rows.ReadLog v))) (map.insert known id (moved d id q (answer.Value v))) locked
+
+-- an answer to a call, which no row owes
+abbrev pub AnsweredKeep : Type 0
+AnsweredKeep = (d : Deployment) (m : Rows) (known : Known) (locked : IntentId → Bool) (id : IntentId) (q : Instance) (a : Answer) (w : Bool) (f : ℕ) (v : Value) → map.get known id ≡ Some q → locked id ≡ false → tx_now d id q ≡ None → effect_of d q ≡ call_of w f v
+    → Matches d m known locked → Matches d m (map.insert known id (moved d id q a)) locked
+
+-- ---- calls
+-- a callee is made as its call is opened; it owes nothing yet
+abbrev pub OpenedKeep : Type 0
+OpenedKeep = (d : Deployment) (m : Rows) (known : Known) (locked : IntentId → Bool) (id : IntentId) (i : Instance) (f : ℕ) (v : Value) (waits : Bool) (r : InvokeRow) → map.get known id ≡ Some i → map.get known (callee_of id i) ≡ None
+    → ((n : ℕ) → map.get known (child_of (callee_of id i) n) ≡ None) → locked (callee_of id i) ≡ false → r.func ≡ f → r.result ≡ None → Matches d m known locked
+    → Matches d (set_row m (invoke_key i.func (place_of id (length i.answers))) (Some (rows.Invoke r))) (map.insert known (callee_of id i) (at_once d (callee_of id i) (new_instance f v (Some (calls_at id i waits))))) locked
+
+-- a callee gives its outcome back, and ends
+abbrev pub ReturnsKeep : Type 0
+ReturnsKeep = (d : Deployment) (m : Rows) (known : Known) (locked : IntentId → Bool) (id : IntentId) (i j : Instance) (n : ℕ) (o : Outcome) (r : InvokeRow) → map.get known id ≡ Some i → map.get known (child_of id n) ≡ Some j → j.outcome ≡ None → is_waited j.from ≡ true
+    → effect_of d j ≡ effect.Return o → locked (child_of id n) ≡ false → map.get m (invoke_key i.func (place_of id n)) ≡ Some (rows.Invoke r) → Matches d m known locked
+    → Matches d (set_row m (invoke_key i.func (place_of id n)) (Some (rows.Invoke (record r { result = Some o })))) (map.insert known (child_of id n) (ended j o)) locked
+
+-- ---- intents
+-- a root is made as its body is bound
+abbrev pub BoundKeep : Type 0
+BoundKeep = (d : Deployment) (m : Rows) (known : Known) (locked : IntentId → Bool) (id : IntentId) (f : ℕ) (v : Value) (r : IntentRow) → map.get known id ≡ None → has_no_hops id.hops ≡ true → ((n : ℕ) → map.get known (child_of id n) ≡ None) → locked id ≡ false
+    → r.body ≡ Some (body_of (new_instance f v None)) → r.outcome ≡ None → r.finish ≡ None → Matches d m known locked
+    → Matches d (set_row m (record { home = 0; kind = kinds.Intent id }) (Some (rows.Intent r))) (map.insert known id (at_once d id (new_instance f v None))) locked
+
+-- who nobody waits for ends with its row: a root's in the host's home, a callee's in that of its function
+abbrev pub EndedKeep : Type 0
+EndedKeep = (d : Deployment) (m : Rows) (known : Known) (locked : IntentId → Bool) (id : IntentId) (q : Instance) (o : Outcome) (r s : IntentRow) → map.get known id ≡ Some q → locked id ≡ false → effect_of d q ≡ effect.Return o → is_waited q.from ≡ false → EndsRow r s o
+    → let key : RowKey = record { home = (if has_no_hops id.hops then 0 else q.func); kind = kinds.Intent id } in map.get m key ≡ Some (rows.Intent r) → Matches d m known locked
+    → Matches d (set_row m key (Some (rows.Intent s))) (map.insert known id (ended q o)) locked

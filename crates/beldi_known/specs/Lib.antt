@@ -1,0 +1,10 @@
+pub mod Acts
+pub mod Contents
+pub mod Frame
+pub mod Known
+pub mod Laws
+pub mod Matches
+pub mod Operations
+pub mod Owed
+pub mod Rows
+pub mod Sane

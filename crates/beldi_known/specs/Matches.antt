@@ -1,0 +1,87 @@
+-- Rows that match what is known: key by key, item by item, and shadow by shadow.
+use Rattle.std.specs.Prelude.{◌≡◌, ℕ, ◌&&◌, ◌||◌, not, Bool, true, false, Option, Some, None, is_some}
+use Rattle.std.specs.Option.{is_none}
+use Rattle.std.specs.FinMap as map
+use Rattle.beldi_value.specs.Id.{has_no_hops}
+use Rattle.beldi_value.specs.declared.id.IntentId.{IntentId}
+use Rattle.beldi_value.specs.declared.place.Owner.{Owner}
+use Rattle.beldi_value.specs.declared.place.Owner.TheVariants.{Intent, Tx}
+use Rattle.beldi_value.specs.declared.place.Place.{Place}
+use Rattle.beldi_value.specs.declared.place.TxId.{TxId}
+use Rattle.beldi_tree.specs.declared.deployment.Deployment.{Deployment}
+use Rattle.beldi_row.specs.declared.key.RowKey.{RowKey}
+use Rattle.beldi_row.specs.declared.key.Kind.{Kind}
+use Rattle.beldi_row.specs.declared.key.Kind.TheVariants as kinds
+use Rattle.beldi_row.specs.declared.row.Row.{Row}
+use Rattle.beldi_row.specs.declared.row.Row.TheVariants as rows
+use Rattle.beldi_row.specs.Log.{note_at}
+use Rattle.beldi_row.specs.Table.{Rows}
+use Rattle.beldi_daal.specs.Content.{Content}
+use Rattle.beldi_plain.specs.Holds.{holds}
+use Rattle.beldi_plain.specs.Item.{Item}
+use Rattle.beldi_plain.specs.Plain.{Instance, effect_of}
+use Rattle.beldi_known.specs.Contents.{content_of, is_owner, shadow_of}
+use Rattle.beldi_known.specs.Known.{Known, tx_now, touched, is_item, begins_at, owed_read, owed_call, owed_note, owed_shadow, owed_lockset, tx_end, is_mark, Got}
+use Rattle.beldi_known.specs.Rows.{IntentMatches, CallMatches, LogMatches, CellMatches}
+
+-- ---- row by row
+-- a lockset row: where one is owed; and it may be ahead
+abbrev pub LocksetMatches : Option Row → Bool → Bool → Type 0
+LocksetMatches None owed ahead = owed ≡ false
+LocksetMatches (Some rows.Lockset) owed ahead = (owed || ahead) ≡ true
+LocksetMatches (Some r) owed ahead = ⊥
+
+-- a transaction has not ended
+abbrev pub is_open : Deployment → Known → Option TxId → Bool
+is_open d known None = false
+is_open d known (Some t) = not (is_some (tx_end d known t))
+
+-- the row is ahead of an instance that stands at such an operation, in a transaction that has not ended
+abbrev pub lockset_ahead : Deployment → Known → ℕ → Item → IntentId → Option Instance → Bool
+lockset_ahead d known b x id None = false
+lockset_ahead d known b x id (Some q) = is_none q.outcome && (is_open d known (tx_now d id q) && (begins_at b (tx_now d id q) && is_item x q.func (touched (effect_of d q))))
+
+-- a plain item: who holds its own lock, and its notes but at the places of releases
+pub record ItemMatches (d : Deployment) (known : Known) (locked : IntentId → Bool) (x : Item) (c : Content) : Type 0 where
+  pub owner : (j : IntentId) → is_owner c.owner (Intent j) ≡ holds d x (map.get known j)
+  pub notes : (a : Place) → is_mark d known a.step (map.get known a.intent) ≡ false → note_at c.notes a ≡ owed_note d x a.intent (locked a.intent) a.step (map.get known a.intent)
+
+-- a shadow: its notes
+abbrev pub ShadowMatches : Deployment → Known → TxId → Item → Content → Type 0
+ShadowMatches d known t x c = (a : Place) → note_at c.notes a ≡ owed_shadow d t x a.intent a.step (map.get known a.intent)
+
+-- who owns an item under a transaction
+pub record TxsMatch (d : Deployment) (known : Known) (locked : IntentId → Bool) (x : Item) (owner : Option Owner) : Type 0 where
+  pub owned_is_got : (t : TxId) → owner ≡ Some (Tx t) → Got d known locked t x
+  pub got_is_owned : (t : TxId) → Got d known locked t x → tx_end d known t ≡ None → owner ≡ Some (Tx t)
+
+-- ---- all rows
+-- the row of a key, by its kind
+abbrev pub RowMatches : Deployment → Known → ℕ → Kind → Option Row → Type 0
+RowMatches d known home (kinds.Intent id) r = IntentMatches (has_no_hops id.hops) home r (map.get known id)
+RowMatches d known home (kinds.ReadLog a) r = LogMatches r (owed_read d known home a)
+RowMatches d known home (kinds.Invoke a) r = CallMatches r (owed_call known home a)
+RowMatches d known home (kinds.Lockset i b t k) r = LocksetMatches r (owed_lockset d b (record { func = home; table = t; key = k }) i (map.get known i)) (lockset_ahead d known b (record { func = home; table = t; key = k }) i (map.get known i))
+RowMatches d known home (kinds.Data t k n) r = CellMatches n r
+RowMatches d known home (kinds.Shadow s t k n) r = CellMatches n r
+
+pub record Matches (d : Deployment) (m : Rows) (known : Known) (locked : IntentId → Bool) : Type 0 where
+  -- every row, there or absent, matches at its key
+  pub keys : (k : RowKey) → RowMatches d known k.home k.kind (map.get m k)
+  -- every item and every shadow matches by its content
+  pub items : (x : Item) → ItemMatches d known locked x (content_of m x)
+  pub shadows : (t : TxId) (x : Item) → ShadowMatches d known t x (shadow_of m t x)
+  pub txs : (x : Item) → TxsMatch d known locked x (content_of m x).owner
+
+-- a place that is locked: of an instance that stands at an operation in a transaction
+pub record LockedAt (d : Deployment) (id : IntentId) (q : Instance) : Type 0 where
+  pub open_still : q.outcome ≡ None
+  pub inside : is_some (tx_now d id q) ≡ true
+  pub operation : is_some (touched (effect_of d q)) ≡ true
+
+abbrev pub LockedIf : Deployment → IntentId → Option Instance → Type 0
+LockedIf d id None = ⊥
+LockedIf d id (Some q) = LockedAt d id q
+
+abbrev pub LockedAtEnds : Deployment → Known → (IntentId → Bool) → Type 0
+LockedAtEnds d known locked = (id : IntentId) → locked id ≡ true → LockedIf d id (map.get known id)

@@ -1,0 +1,99 @@
+-- Rows that match what is owed to them, by their kind.
+use Rattle.std.specs.Prelude.{◌≡◌, ℕ, zero, suc, ◌==◌, Bool, true, false, Option, Some, None, is_some}
+use Rattle.beldi_value.specs.declared.outcome.Outcome.{Outcome}
+use Rattle.beldi_value.specs.declared.value.Value.{Value}
+use Rattle.beldi_row.specs.declared.row.Body.{Body}
+use Rattle.beldi_row.specs.declared.row.IntentRow.{IntentRow}
+use Rattle.beldi_row.specs.declared.row.Row.{Row}
+use Rattle.beldi_row.specs.declared.row.Row.TheVariants as rows
+use Rattle.beldi_daal.specs.Content.{SoundAt}
+use Rattle.beldi_plain.specs.Plain.{Instance}
+use Rattle.beldi_step.specs.Run.{is_waited}
+
+-- ---- bodies
+-- the body that an instance was made with
+abbrev pub body_of : Instance → Body
+body_of q = record { func = q.func; args = q.args; tx = q.within; from = q.from }
+
+-- the body is the one that the instance was made with
+pub record IsBodyOf (b : Body) (i : Option Instance) : Type 0 where
+  pub instance : Instance
+  pub made : i ≡ Some instance
+  pub body : b ≡ body_of instance
+
+-- the body and the outcome of a root's row, and the root's instance
+abbrev pub BodyMatches : Option Body → Option Outcome → Option Instance → Type 0
+BodyMatches None o i = i ≡ None
+BodyMatches (Some b) o i = (w : IsBodyOf b i) × (w.instance.outcome ≡ o)
+
+-- the outcome of a callee's row is the instance's; one that its caller waits for may have it before
+abbrev pub OutcomeMatches : Bool → Option Outcome → Option Outcome → Type 0
+OutcomeMatches true o u = (v : Outcome) → o ≡ Some v → u ≡ Some v
+OutcomeMatches false o u = u ≡ o
+
+-- .. of a callee's
+abbrev pub CalleeBodyMatches : ℕ → Option Body → Option Outcome → Option Instance → Type 0
+CalleeBodyMatches home None o i = ⊥
+CalleeBodyMatches home (Some b) o i = (w : IsBodyOf b i) × (b.func ≡ home) × OutcomeMatches (is_waited b.from) o w.instance.outcome
+
+-- ---- intents
+-- the row of a root
+pub record IsRootRow (r : IntentRow) (i : Option Instance) : Type 0 where
+  -- one without body has no outcome
+  pub bare : r.body ≡ None → r.outcome ≡ None
+  -- there is a finish exactly where there is an outcome
+  pub finishes : is_some r.finish ≡ is_some r.outcome
+  -- the root was made exactly where there is a body
+  pub body : BodyMatches r.body r.outcome i
+
+-- the row of a callee, in the home of its function
+pub record IsCalleeRow (home : ℕ) (r : IntentRow) (i : Option Instance) : Type 0 where
+  -- there is a finish exactly where there is an outcome
+  pub finishes : is_some r.finish ≡ is_some r.outcome
+  -- the callee was made with its body
+  pub body : CalleeBodyMatches home r.body r.outcome i
+
+-- the rows of a root, by whether it is the host's home: it has its row there alone
+abbrev pub RootMatches : Bool → Option Row → Option Instance → Type 0
+RootMatches true None i = i ≡ None
+RootMatches true (Some (rows.Intent r)) i = IsRootRow r i
+RootMatches true (Some r) i = ⊥
+RootMatches false r i = r ≡ None
+
+-- a callee may have no row yet: then one of this home that nobody waits for has not ended
+pub record HasNoRow (home : ℕ) (i : Option Instance) : Type 0 where
+  pub open_still : (q : Instance) → i ≡ Some q → q.func ≡ home → is_waited q.from ≡ false → q.outcome ≡ None
+
+abbrev pub CalleeMatches : ℕ → Option Row → Option Instance → Type 0
+CalleeMatches home None i = HasNoRow home i
+CalleeMatches home (Some (rows.Intent r)) i = IsCalleeRow home r i
+CalleeMatches home (Some r) i = ⊥
+
+-- the row of an intent in a home, by whether the intent is a root
+abbrev pub IntentMatches : Bool → ℕ → Option Row → Option Instance → Type 0
+IntentMatches true home r i = RootMatches (home == 0) r i
+IntentMatches false home r i = CalleeMatches home r i
+
+-- the row of an intent that ends: the one before, and the one now
+pub record EndsRow (r s : IntentRow) (o : Outcome) : Type 0 where
+  pub body : s.body ≡ r.body
+  pub outcome : s.outcome ≡ Some o
+  pub finish : is_some s.finish ≡ true
+
+-- ---- calls, reads and items
+-- the row of a call, by the call that is owed there
+abbrev pub CallMatches : Option Row → Option (ℕ × Option Outcome) → Type 0
+CallMatches None o = o ≡ None
+CallMatches (Some (rows.Invoke r)) o = o ≡ Some (r.func, r.result)
+CallMatches (Some r) o = ⊥
+
+-- the row of a read, by the value that is owed there
+abbrev pub LogMatches : Option Row → Option Value → Type 0
+LogMatches None o = o ≡ None
+LogMatches (Some (rows.ReadLog v)) o = o ≡ Some v
+LogMatches (Some r) o = ⊥
+
+-- the shape of an item's rows: there is a first one or none, and no other. What it holds is said of the item.
+abbrev pub CellMatches : ℕ → Option Row → Type 0
+CellMatches zero r = SoundAt r
+CellMatches (suc n) r = r ≡ None
