@@ -1,12 +1,7 @@
 //! The program over the real streams, a table in memory, no link and no clock. What it does is `top` of `beldi_program`.
-//! Its tests call what no clause can show: that calls succeed where memory is ample, what is written where a read, a write
-//! or a call of the table fails, and what the adapters do over real readers and writers.
+//! Its tests show what no clause can: what is written where a read, a write or a call of the table fails.
 #![tactic(auto)]
 
-#[cfg(test)]
-mod calls;
-#[cfg(test)]
-mod gateway;
 #[cfg(test)]
 mod tests;
 
