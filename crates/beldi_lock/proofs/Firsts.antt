@@ -38,13 +38,13 @@ is_less a b h = by (nat_cmp a b) (ranks a b)
     by Greater g = absurd (omega (arith, h, g))
 
 -- of two that are compared part by part: the first part is below, or it is level and the rest is below
-parts : (o r : Ordering) → ordering_then o r ≡ Less → (P : Type 0) → (o ≡ Less → P) → (o ≡ Equal → r ≡ Less → P) → P
+pub parts : (o r : Ordering) → ordering_then o r ≡ Less → (P : Type 0) → (o ≡ Less → P) → (o ≡ Equal → r ≡ Less → P) → P
 parts Less r h P less level = less refl
 parts Equal r h P less level = level refl h
 parts Greater r h P less level = cc
 
 -- what stands between a and b in the first part stands so in the rest
-between : (a x b : ℕ) (r s : Ordering) → (a < b → ⊥) → ordering_then (nat_cmp a x) r ≡ Less → ordering_then (nat_cmp x b) s ≡ Less → (P : Type 0) → (a ≡ x → x ≡ b → r ≡ Less → s ≡ Less → P) → P
+pub between : (a x b : ℕ) (r s : Ordering) → (a < b → ⊥) → ordering_then (nat_cmp a x) r ≡ Less → ordering_then (nat_cmp x b) s ≡ Less → (P : Type 0) → (a ≡ x → x ≡ b → r ≡ Less → s ≡ Less → P) → P
 between a x b r s same h g P go =
     parts (nat_cmp a x) r h P
     (λ l. parts (nat_cmp x b) s g P
@@ -54,7 +54,7 @@ between a x b r s same h g P go =
     (λ k. let p = level a x l in let q = below x b k in absurd (same (omega (arith, p, q))))
     (λ k y. go (level a x l) (level x b k) z y))
 
-irreflexive : (a : ℕ) → a < a → ⊥
+pub irreflexive : (a : ℕ) → a < a → ⊥
 irreflexive a h = omega (arith, h)
 
 -- ---- hops
@@ -161,17 +161,17 @@ assoc Equal p r = refl
 assoc Greater p r = refl
 
 -- behind the intent: the begin, the table and the key
-abbrev items : ℕ → ℕ → List ℕ → List ℕ → Ordering
+abbrev pub items : ℕ → ℕ → List ℕ → List ℕ → Ordering
 items t u k l = ordering_then (nat_cmp t u) (ordering_then (slice_cmp nat_cmp k l) Equal)
 
-abbrev rest : ℕ → ℕ → ℕ → ℕ → List ℕ → List ℕ → Ordering
+abbrev pub rest : ℕ → ℕ → ℕ → ℕ → List ℕ → List ℕ → Ordering
 rest b c t u k l = ordering_then (nat_cmp b c) (items t u k l)
 
-by_parts : (home room : ℕ) (a i : IntentId) (b c t u : ℕ) (k l : List ℕ) → key_cmp (lockset_key home a b t k) (lockset_key room i c u l) ≡ ordering_then (nat_cmp home room) (ordering_then (id_cmp a i) (rest b c t u k l))
+pub by_parts : (home room : ℕ) (a i : IntentId) (b c t u : ℕ) (k l : List ℕ) → key_cmp (lockset_key home a b t k) (lockset_key room i c u l) ≡ ordering_then (nat_cmp home room) (ordering_then (id_cmp a i) (rest b c t u k l))
 by_parts home room a i b c t u k l = ap (ordering_then (nat_cmp home room)) (assoc (nat_cmp a.ticket i.ticket) (slice_cmp nat_cmp a.hops i.hops) (rest b c t u k l))
 
 -- no item is below the first one
-no_item : (t : ℕ) (k : List ℕ) → items t 0 k [] ≡ Less → ⊥
+pub no_item : (t : ℕ) (k : List ℕ) → items t 0 k [] ≡ Less → ⊥
 no_item t k h =
     parts (nat_cmp t 0) (ordering_then (slice_cmp nat_cmp k []) Equal) h ⊥
     (λ l. let p = below t 0 l in omega (arith, p))
@@ -250,7 +250,7 @@ module _ (home : ℕ) (id : IntentId) (some : 1 ≤ id.ticket) (hops : AreHops 6
       by Equal e = ap (key_cmp (start begin)) (key_exact q (least begin) e) ∙ start_below begin
       by Greater e = key_total.trans (start begin) (least begin) q (start_below begin) (key_total.antisymm (least begin) q ∙ ap ordering_reverse e)
 
-  first_from : (begin : ℕ) (m : Rows) (e : Option (RowKey × Row)) → AreFit m → IsNext m (start begin) e → IsFirstFrom m (least begin) e
+  pub first_from : (begin : ℕ) (m : Rows) (e : Option (RowKey × Row)) → AreFit m → IsNext m (start begin) e → IsFirstFrom m (least begin) e
   first_from begin m None fit h = λ q p. h q (past begin q p)
   first_from begin m (Some e) fit h = (λ p. none_passed begin e.0.home e.0.kind (fit e.0 e.1 h.1) h.0 p, h.1, λ q p less. h.2 q (past begin q p) less)
 

@@ -1,3 +1,3 @@
-mod Firsts
+pub mod Firsts
 mod IdBefore
 mod Locked

@@ -1,0 +1,2 @@
+mod TxTurn
+mod Visited

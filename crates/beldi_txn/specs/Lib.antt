@@ -1,0 +1,5 @@
+pub mod End
+pub mod Tx
+pub mod TxTurn
+pub mod TxWalk
+pub mod Visited

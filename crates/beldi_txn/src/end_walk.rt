@@ -1,0 +1,53 @@
+// The walk of the end of a transaction: one act a turn.
+ghost use Rattle.std.specs.Prelude.{◌≡◌};
+ghost use Rattle.beldi_txn.specs.End.{first_end};
+
+use crate::end::{EndSays, Visit, end_query, end_told};
+use beldi_value::TxId;
+use beldi_walk::{Heard, Query, Walk};
+use std::alloc::{AllocError, Global};
+
+/// A walk that ends a transaction for its owner: it keeps the decision, and then gives back every item that the owner asked the lock
+/// of, with the value of the transaction's own copy where it commits. Once it says `Done` it stands, and looks for a further item.
+#[derive(Drop)]
+pub struct EndWalk {
+    tx: TxId,
+    end: u32,
+    commit: bool,
+    visit: Visit,
+}
+
+impl Walk for EndWalk {
+    ghost use Rattle.beldi_txn.specs.End.{walk_asks, walk_next, walk_says};
+
+    type Says = EndSays;
+
+    ghost asks = { walk_asks };
+
+    ghost next = { walk_next };
+
+    ghost says = { walk_says };
+
+    fn ask(&self, alloc: Global) -> Result<Query, AllocError> {
+        end_query(alloc, &self.tx, self.end, self.commit, &self.visit)
+    }
+
+    fn told(&mut self, alloc: Global, heard: Heard<'_>) -> Result<EndSays, AllocError> {
+        let goes = end_told(alloc, &self.tx, self.commit, self.visit.at, heard)?;
+        Ok(self.visit.go(self.commit, goes))
+    }
+}
+
+impl EndWalk {
+    /// A walk that ends a transaction at the owner's step `end`, with its effects or without.
+    pub fn new(tx: TxId, end: u32, commit: bool) -> EndWalk
+        ensures { result ≡ first_end tx end commit }
+    {
+        EndWalk {
+            tx,
+            end,
+            commit,
+            visit: Visit::first(),
+        }
+    }
+}

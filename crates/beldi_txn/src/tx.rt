@@ -1,0 +1,406 @@
+// What an operation of a transaction asks of the rows, and what follows from what is told.
+ghost use Rattle.std.specs.Prelude.{◌≡◌, true, IfOk, OnErr};
+ghost use Rattle.beldi_walk.specs.Query.{told_of, lends};
+ghost use Rattle.beldi_lock.specs.Lock.{lock_goes};
+ghost use Rattle.beldi_lock.specs.Lockset.{item_lent};
+ghost use Rattle.beldi_txn.specs.Tx.{tx_first, item_of as item_of_effect, op_of, done_of, tx_asks, item_asks, aside_asks, given_goes, locked_goes, lock_leads, shadow_read, head_goes, shadow_goes, item_leads, item_goes, keep_goes, head_made, note_goes, write_leads, died_goes, tx_goes};
+ghost use Rattle.beldi_txn.specs.TxWalk.{gone, put_says, said_of};
+
+use beldi_daal::{
+    CellOp, ReadGoes, WriteAt, WriteGoes, cell_key, read_told, shadow_key, write_query, write_told,
+};
+use beldi_lang::Effect;
+use beldi_lock::{LockAt, LockGoes, lock_query, lock_told};
+use beldi_readlog::{given_told, log_key};
+use beldi_row::{Act, Note, RowKey, Said, copy_tx};
+use beldi_value::{Cause, IntentId, Owner, Place, Str, TxId, Value};
+use beldi_walk::{Heard, Query};
+use std::alloc::{AllocError, Global};
+use std::mem::replace;
+
+/// Where an operation of a transaction stands.
+#[derive(Drop)]
+pub enum TxAt {
+    /// A read asks whether a value was kept for it.
+    Log,
+    /// The lock of the item stands here.
+    Lock(LockAt),
+    /// The transaction's own copy of the item is looked at next.
+    Shadow,
+    /// The item itself is looked at next, as the transaction has no copy of it.
+    Item,
+    /// A read keeps this value next.
+    Keep(Value),
+    /// The copy is made next, with this value.
+    Head(Value),
+    /// The write of the copy stands here.
+    Write(WriteAt),
+}
+
+/// Where an operation of a transaction goes.
+#[derive(Drop)]
+pub enum TxGoes {
+    /// It goes on from here.
+    On(TxAt),
+    /// It stays where it is.
+    Stays,
+    /// The value that was to be kept was kept, and is the answer.
+    Put,
+    /// The operation died at its item: the transaction is to be aborted.
+    Died(Cause),
+    /// This owner has the item, and the transaction waits for it.
+    Held(Owner),
+    /// The operation has this answer.
+    Value(Value),
+    /// The operation was done.
+    Done,
+}
+
+/// What a turn of an operation of a transaction says.
+#[derive(Drop)]
+pub enum TxSays {
+    /// The operation goes on.
+    Going,
+    /// The place died of the owner with the age in the cause, in this turn or before: the transaction is to be aborted.
+    Died(Cause),
+    /// This owner, another than the transaction, has the item, and the transaction waits for it.
+    Held(Owner),
+    /// No row can follow the last one of the item or of the transaction's copy, which is full. No turn says so as long as rows are
+    /// not linked.
+    Worn,
+    /// What a read found, or whether a conditional write wrote.
+    Value(Value),
+    /// The write was done.
+    Done,
+}
+
+impl TxAt {
+    /// Where an operation begins, in the transaction begun at this step: a read, with what was kept for it; another, with the row
+    /// that says that the lock is asked for.
+    pub fn first(begin: u32, effect: &Effect) -> TxAt
+        ensures { result ≡ tx_first begin effect.now }
+    {
+        match effect {
+            Effect::Read { .. } => TxAt::Log,
+            _ => TxAt::Lock(LockAt::Lockset(begin)),
+        }
+    }
+
+    /// Goes on so; it says what the turn did. What kept a value tells it, and looks for it next; unless it says `Going`, any other
+    /// stands where it stood.
+    pub fn go(&mut self, goes: TxGoes) -> TxSays
+        ensures now { self.new ≡ gone self.old goes }
+        ensures says { result ≡ said_of self.old goes }
+    {
+        match goes {
+            TxGoes::On(at) => {
+                *self = at;
+                TxSays::Going
+            }
+            TxGoes::Put => put(replace(self, TxAt::Log)),
+            TxGoes::Stays => TxSays::Going,
+            TxGoes::Died(cause) => TxSays::Died(cause),
+            TxGoes::Held(owner) => TxSays::Held(owner),
+            TxGoes::Value(value) => TxSays::Value(value),
+            TxGoes::Done => TxSays::Done,
+        }
+    }
+}
+
+// The value that was kept, as the answer.
+fn put(at: TxAt) -> TxSays
+    ensures { result ≡ put_says at }
+{
+    match at {
+        TxAt::Keep(value) => TxSays::Value(value),
+        _ => TxSays::Going,
+    }
+}
+
+// The item of an operation.
+fn item_of(effect: &Effect) -> Option<(u16, &Str)>
+    ensures { item_lent result ≡ item_of_effect effect.now }
+{
+    match effect {
+        Effect::Read { table, key }
+        | Effect::Write { table, key, .. }
+        | Effect::CondWrite { table, key, .. } => Some((*table, key)),
+        _ => None,
+    }
+}
+
+// What an effect does to the transaction's own copy of its item.
+fn operation(alloc: Global, effect: &Effect) -> Result<Option<CellOp>, AllocError>
+    ensures { IfOk result (λ o. o ≡ op_of effect.now) }
+{
+    match effect {
+        Effect::Write { value, .. } => Ok(Some(CellOp::Write(value.copy(alloc)?))),
+        Effect::CondWrite {
+            rel,
+            operand,
+            value,
+            ..
+        } => Ok(Some(CellOp::Cond {
+            rel: *rel,
+            operand: operand.copy(alloc)?,
+            value: value.copy(alloc)?,
+        })),
+        _ => Ok(None),
+    }
+}
+
+// The note that it leaves where its act says that it was done.
+fn done_note(effect: &Effect) -> Note
+    ensures { result ≡ done_of effect.now }
+{
+    match effect {
+        Effect::CondWrite { .. } => Note::Cond(true),
+        _ => Note::Wrote,
+    }
+}
+
+/// What an operation of a transaction asks for, in the home of the function that has the item: `effect` is a read, a write or a
+/// conditional write. For any other it looks for what the place was given.
+pub fn tx_query(
+    alloc: Global,
+    home: u16,
+    place: Place,
+    tx: &TxId,
+    effect: &Effect,
+    at: &TxAt,
+) -> Result<Query, AllocError>
+    ensures { IfOk result (λ q. q ≡ tx_asks home place tx.now effect.now at.now) }
+{
+    match item_of(effect) {
+        Some((table, key)) => item_query(alloc, home, place, tx, effect, at, table, key),
+        None => Ok(Query::Act(log_key(home, place), Act::Look)),
+    }
+}
+
+fn item_query(
+    alloc: Global,
+    home: u16,
+    place: Place,
+    tx: &TxId,
+    effect: &Effect,
+    at: &TxAt,
+    table: u16,
+    key: &Str,
+) -> Result<Query, AllocError>
+    ensures { IfOk result (λ q. q ≡ item_asks home place tx.now effect.now table key.now at.now) }
+{
+    match at {
+        TxAt::Log => Ok(Query::Act(log_key(home, place), Act::Look)),
+        TxAt::Lock(at) => {
+            let who = Owner::Tx(copy_tx(tx, alloc)?);
+            lock_query(alloc, home, table, key, place, who, *at)
+        }
+        TxAt::Shadow => Ok(Query::Act(shadow_key(alloc, home, tx, table, key)?, Act::Look)),
+        TxAt::Item => Ok(Query::Act(cell_key(alloc, home, table, key)?, Act::Look)),
+        TxAt::Keep(value) => {
+            let value = value.copy(alloc)?;
+            Ok(Query::Act(log_key(home, place), Act::PutRead { value }))
+        }
+        TxAt::Head(value) => {
+            let row = shadow_key(alloc, home, tx, table, key)?;
+            let value = value.copy(alloc)?;
+            Ok(Query::Act(row, Act::MakeCell { value, owner: None }))
+        }
+        TxAt::Write(at) => {
+            let row = shadow_key(alloc, home, tx, table, key)?;
+            aside_query(alloc, home, place, tx, effect, row, *at)
+        }
+    }
+}
+
+// What a write asks of the transaction's own copy.
+fn aside_query(
+    alloc: Global,
+    home: u16,
+    place: Place,
+    tx: &TxId,
+    effect: &Effect,
+    row: RowKey,
+    at: WriteAt,
+) -> Result<Query, AllocError>
+    ensures { IfOk result (λ q. q ≡ aside_asks home place tx.now row at (op_of effect.now)) }
+{
+    match operation(alloc, effect)? {
+        Some(op) => {
+            let who = Owner::Tx(copy_tx(tx, alloc)?);
+            write_query(alloc, row, place, who, op, at)
+        }
+        None => Ok(Query::Act(log_key(home, place), Act::Look)),
+    }
+}
+
+/// Where an operation of a transaction, begun at the step `begin`, goes after it was told. Out of memory only for what was lent.
+pub fn tx_told(
+    alloc: Global,
+    place: &Place,
+    begin: u32,
+    effect: &Effect,
+    at: &TxAt,
+    heard: Heard<'_>,
+) -> Result<TxGoes, AllocError>
+    ensures ok { IfOk result (λ g. g ≡ tx_goes place.now begin effect.now at.now (told_of heard.entry)) }
+    ensures err { OnErr result (lends (told_of heard.entry) ≡ true) }
+{
+    match at {
+        TxAt::Log => Ok(given(begin, given_told(alloc, heard)?)),
+        TxAt::Lock(at) => hear_lock(alloc, place, effect, *at, heard),
+        TxAt::Shadow => hear_shadow(alloc, effect, heard),
+        TxAt::Item => Ok(item_said(effect, read_told(alloc, &None, heard)?)),
+        TxAt::Keep(_) => hear_keep(alloc, heard),
+        TxAt::Head(_) => Ok(hear_head(heard)),
+        TxAt::Write(_) => Ok(written(effect, write_told(alloc, done_note(effect), heard)?)),
+    }
+}
+
+// The value that was kept is the answer; without one the lock is asked for.
+fn given(begin: u32, value: Option<Value>) -> TxGoes
+    ensures { result ≡ given_goes begin value }
+{
+    match value {
+        Some(value) => TxGoes::Value(value),
+        None => TxGoes::On(TxAt::Lock(LockAt::Lockset(begin))),
+    }
+}
+
+fn hear_lock(
+    alloc: Global,
+    place: &Place,
+    effect: &Effect,
+    at: LockAt,
+    heard: Heard<'_>,
+) -> Result<TxGoes, AllocError>
+    ensures ok { IfOk result (λ g. g ≡ lock_leads place.now effect.now (lock_goes at (told_of heard.entry))) }
+    ensures err { OnErr result (lends (told_of heard.entry) ≡ true) }
+{
+    match lock_told(alloc, at, heard)? {
+        LockGoes::On(at) => Ok(TxGoes::On(TxAt::Lock(at))),
+        LockGoes::Got { first: _ } => Ok(locked(effect)),
+        LockGoes::Died(holder) => died(alloc, place, holder),
+        LockGoes::Held(owner) => Ok(TxGoes::Held(owner)),
+    }
+}
+
+// What comes once the place has the lock.
+fn locked(effect: &Effect) -> TxGoes
+    ensures { result ≡ locked_goes effect.now }
+{
+    match effect {
+        Effect::Read { .. } | Effect::CondWrite { .. } => TxGoes::On(TxAt::Shadow),
+        Effect::Write { .. } => TxGoes::On(TxAt::Write(WriteAt::Try)),
+        _ => TxGoes::Stays,
+    }
+}
+
+fn died(alloc: Global, place: &Place, holder: IntentId) -> Result<TxGoes, AllocError>
+    ensures { IfOk result (λ g. g ≡ died_goes place.now holder) }
+{
+    let place = place.copy(alloc)?;
+    Ok(TxGoes::Died(Cause {
+        place,
+        holder: Some(holder),
+    }))
+}
+
+// A read takes the value of the copy; a condition is tested there, if there is one.
+fn hear_shadow(alloc: Global, effect: &Effect, heard: Heard<'_>) -> Result<TxGoes, AllocError>
+    ensures ok { IfOk result (λ g. g ≡ shadow_goes effect.now (told_of heard.entry)) }
+    ensures err { OnErr result (lends (told_of heard.entry) ≡ true) }
+{
+    match effect {
+        Effect::Read { .. } => Ok(shadow_said(read_told(alloc, &None, heard)?)),
+        Effect::CondWrite { .. } => Ok(head_said(heard)),
+        _ => Ok(TxGoes::Stays),
+    }
+}
+
+fn shadow_said(said: ReadGoes) -> TxGoes
+    ensures { result ≡ shadow_read said }
+{
+    match said {
+        ReadGoes::Got(Some(value)) => TxGoes::On(TxAt::Keep(value)),
+        ReadGoes::Got(None) => TxGoes::On(TxAt::Item),
+        ReadGoes::On | ReadGoes::Held(_) => TxGoes::Stays,
+    }
+}
+
+fn head_said(heard: Heard<'_>) -> TxGoes
+    ensures { result ≡ head_goes (told_of heard.entry) }
+{
+    match heard {
+        Heard::Said(Said::Absent) => TxGoes::On(TxAt::Item),
+        Heard::Said(Said::Row(_)) => TxGoes::On(TxAt::Write(WriteAt::Try)),
+        _ => TxGoes::Stays,
+    }
+}
+
+// The item's value is kept, or the copy made with it: null where the item has no row.
+fn item_said(effect: &Effect, said: ReadGoes) -> TxGoes
+    ensures { result ≡ item_goes effect.now said }
+{
+    match said {
+        ReadGoes::Got(Some(value)) => item_found(effect, value),
+        ReadGoes::Got(None) => item_found(effect, Value::Null),
+        ReadGoes::On | ReadGoes::Held(_) => TxGoes::Stays,
+    }
+}
+
+fn item_found(effect: &Effect, value: Value) -> TxGoes
+    ensures { result ≡ item_leads effect.now value }
+{
+    match effect {
+        Effect::Read { .. } => TxGoes::On(TxAt::Keep(value)),
+        Effect::CondWrite { .. } => TxGoes::On(TxAt::Head(value)),
+        _ => TxGoes::Stays,
+    }
+}
+
+// A value that is there is the answer in place of this one. A row of another kind, which no session writes there, reads as null.
+fn hear_keep(alloc: Global, heard: Heard<'_>) -> Result<TxGoes, AllocError>
+    ensures ok { IfOk result (λ g. g ≡ keep_goes (told_of heard.entry)) }
+    ensures err { OnErr result (lends (told_of heard.entry) ≡ true) }
+{
+    match heard {
+        Heard::Said(Said::Added) => Ok(TxGoes::Put),
+        Heard::Said(Said::Kept(value)) => Ok(TxGoes::Value(value.copy(alloc)?)),
+        _ => Ok(TxGoes::Value(Value::Null)),
+    }
+}
+
+// Once the copy is there, it is written.
+fn hear_head(heard: Heard<'_>) -> TxGoes
+    ensures { result ≡ head_made (told_of heard.entry) }
+{
+    match heard {
+        Heard::Said(Said::Added) | Heard::Said(Said::Present) => {
+            TxGoes::On(TxAt::Write(WriteAt::Try))
+        }
+        _ => TxGoes::Stays,
+    }
+}
+
+// Nobody owns a copy.
+fn written(effect: &Effect, goes: WriteGoes) -> TxGoes
+    ensures { result ≡ write_leads effect.now goes }
+{
+    match goes {
+        WriteGoes::On(at) => TxGoes::On(TxAt::Write(at)),
+        WriteGoes::Done { note, first: _ } => noted(effect, note),
+        WriteGoes::NotOwner | WriteGoes::Held(_) => TxGoes::Stays,
+    }
+}
+
+// The note of the place, read as the answer. The operation stays at a note of another kind, which no session leaves there.
+fn noted(effect: &Effect, note: Note) -> TxGoes
+    ensures { result ≡ note_goes effect.now note }
+{
+    match (effect, note) {
+        (Effect::Write { .. }, Note::Wrote) => TxGoes::Done,
+        (Effect::CondWrite { .. }, Note::Cond(passed)) => TxGoes::Value(Value::Bool(passed)),
+        _ => TxGoes::Stays,
+    }
+}
