@@ -13,27 +13,28 @@ use Rattle.beldi_tree.specs.Command.{Command, Commands, no_commands, command, se
 use Rattle.beldi_tree.specs.Names.{func_at}
 use Rattle.beldi_lang.specs.Wants.{body_of, releases}
 use Rattle.beldi_lang.proofs.Occurs.{Each, EachOf, wants_only}
+use Rattle.beldi_plain.specs.Answers.{bar_made}
 use Rattle.beldi_plain.specs.Plain.{kind_of}
 use Rattle.beldi_plain.specs.declared.kind.Kind.TheVariants.{Change, Unbuilt}
 use Rattle.beldi_core.specs.Built.{or_else, unbuilt, unbuilt_in, unbuilt_of, IsCarriedOut}
 
 abbrev IsCarried : IntentId → Bool → Effect → Type 0
-IsCarried id i e = kind_of id e ≡ Unbuilt → ⊥
+IsCarried id i e = bar_made (kind_of id e) ≡ None
 
 -- a call is, of an instance that has callees
-is_change : (b : Bool) → b ≡ true → (if b then Change else Unbuilt) ≡ Unbuilt → ⊥
-is_change true has is = cc
-is_change false has is = cc
+is_change : (b : Bool) → b ≡ true → bar_made (if b then Change else Unbuilt) ≡ None
+is_change true has = refl
+is_change false has = cc
 
 -- nothing is asked of the locks that are held
 abbrev AnyHeld : List HeldLock → Type 0
 AnyHeld hs = Unit {0}
 
 -- those that are given back before the return are given back by unlocks
-released : (id : IntentId) (o : Outcome) (hs : List HeldLock) (rest : List Answer) → kind_of id (releases o hs rest) ≡ Unbuilt → ⊥
-released id o [] rest is = cc
-released id o (l ∷ ls) [] is = cc
-released id o (l ∷ ls) (a ∷ rest) is = released id o ls rest is
+released : (id : IntentId) (o : Outcome) (hs : List HeldLock) (rest : List Answer) → bar_made (kind_of id (releases o hs rest)) ≡ None
+released id o [] rest = refl
+released id o (l ∷ ls) [] = refl
+released id o (l ∷ ls) (a ∷ rest) = released id o ls rest
 
 none_of : (o p : Option ℕ) → or_else o p ≡ None → (o ≡ None) × (p ≡ None)
 none_of None p h = (refl, h)
@@ -43,17 +44,17 @@ module _ (id : IntentId) (has : has_callees id ≡ true) where
   mutual
     each : (i : Bool) (c : Command) → unbuilt c ≡ None → Each AnyHeld (IsCarried id) i c
     each i (set l n e) none = tt
-    each i (read l n t k) none = λ t' k' is. cc
-    each i (write l t k e) none = λ t' k' v is. cc
+    each i (read l n t k) none = λ t' k'. refl
+    each i (write l t k e) none = λ t' k' v. refl
     each i (break l) none = tt
     each i (return l e) none = tt
     each i (choose l e b c) none = let n = none_of (unbuilt_in b) (unbuilt_in c) none in (all i b n.0, all i c n.1)
     each i (repeat l n b) none = all i b none
-    each i (condwrite l n t k r o e) none = λ t' k' w v is. cc
-    each i (call l n f e) none = λ f' v is. is_change (has_callees id) has is
-    each i (async l f e) none = λ f' v is. is_change (has_callees id) has is
-    each i (lock l t k) none = λ t' k'. ((λ is. cc), λ hs h. tt)
-    each i (unlock l t k) none = λ t' k'. ((λ is. cc), λ hs h. tt)
+    each i (condwrite l n t k r o e) none = λ t' k' w v. refl
+    each i (call l n f e) none = λ f' v. is_change (has_callees id) has
+    each i (async l f e) none = λ f' v. is_change (has_callees id) has
+    each i (lock l t k) none = λ t' k'. (refl, λ hs h. tt)
+    each i (unlock l t k) none = λ t' k'. (refl, λ hs h. tt)
     each true (transaction l b c) none = cc
     each false (transaction l b c) none = cc
     each true (abort l) none = cc
@@ -77,5 +78,5 @@ fine_func d (suc n) none = fine_at d.funcs n none
 pub carried : (d : Deployment) → unbuilt_of d.funcs ≡ None → IsCarriedOut d
 carried d none id func args inherited answers has =
     wants_only AnyHeld (IsCarried id) d func args inherited answers tt
-    (λ o hs rest held is. released id o hs rest is)
+    (λ o hs rest held. released id o hs rest)
     (all id has inherited (body_of (func_at d func)) (fine_func d func none))

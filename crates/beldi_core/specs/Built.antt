@@ -8,8 +8,8 @@ use Rattle.beldi_tree.specs.declared.deployment.Func.{Func}
 use Rattle.beldi_lang.specs.declared.effect.Answer.{Answer}
 use Rattle.beldi_lang.specs.Wants.{wants}
 use Rattle.beldi_tree.specs.Command.{Command, Commands, no_commands, command, set, read, write, condwrite, call, async, lock, unlock, transaction, abort, break, choose, repeat, return, commands_of}
+use Rattle.beldi_plain.specs.Answers.{bar_made}
 use Rattle.beldi_plain.specs.Plain.{kind_of}
-use Rattle.beldi_plain.specs.declared.kind.Kind.TheVariants.{Unbuilt}
 
 -- the first one that is there
 abbrev pub or_else : Option ℕ → Option ℕ → Option ℕ
@@ -50,4 +50,4 @@ refused_at (Some l) = Err l
 
 -- no body wants an effect that the host does not carry out yet, whatever it is answered
 abbrev pub IsCarriedOut : Deployment → Type 0
-IsCarriedOut d = (id : IntentId) (func : ℕ) (args : Value) (inherited : Bool) (answers : List Answer) → has_callees id ≡ true → kind_of id (wants d func args inherited answers) ≡ Unbuilt → ⊥
+IsCarriedOut d = (id : IntentId) (func : ℕ) (args : Value) (inherited : Bool) (answers : List Answer) → has_callees id ≡ true → bar_made (kind_of id (wants d func args inherited answers)) ≡ None

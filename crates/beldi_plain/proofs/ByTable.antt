@@ -1,5 +1,5 @@
 -- The items table by table are the items.
-use Rattle.std.proofs.Common.{◌≡◌, ℕ, Bool, true, false, cond, T, ◌&&◌, List, [], ◌∷◌, ◌++◌, Option, Some, None, is_some, option_and_then, Result, Ok, Err, OnOk, OnErr, refl, ap, sym, ◌∙◌, subst}
+use Rattle.std.proofs.Common.{◌≡◌, ℕ, Bool, true, false, cond, T, ◌&&◌, List, [], ◌∷◌, ◌++◌, Option, Some, None, is_some, Result, Ok, Err, OnErr, IfOk, refl, ap, sym, ◌∙◌, subst}
 use Rattle.std.proofs.lemmas.Cmp.{tied_itself}
 use Rattle.std.specs.FinMap as finite
 use Rattle.std.specs.FinMap.{FinMap, get-entries, entries_sorted, get-empty, get-insert, get-remove, get-from_sorted, entries-from_sorted, same_map}
@@ -13,9 +13,9 @@ use Rattle.beldi_value.specs.declared.value.Value.{Value}
 use Rattle.beldi_value.specs.declared.value.Value.TheVariants as value
 use Rattle.beldi_plain.specs.Item.{Item, item_cmp, item_total, item_exact}
 use Rattle.beldi_plain.specs.Operation.{set_item}
-use Rattle.beldi_plain.specs.ByTable.{key_cmp, key_total, table_cmp, table_total, table_exact, Cells, Tables, item_at, cells_at, items_in, items_of, set_cell, or_none, with_cell}
+use Rattle.beldi_plain.specs.ByTable.{key_cmp, key_total, table_cmp, table_total, table_exact, Cells, Tables, item_at, cells_at, items_in, items_of, or_none, put_cell, unset_cell, at_key}
 use Rattle.beldi_plain.specs.declared.tables.TableId.{TableId}
-use Rattle.beldi_plain.proofs.Finite.{same_key, same_set}
+use Rattle.beldi_plain.proofs.Finite.{same_key, same_set, absent_removed}
 
 both : (a b : Bool) → T a → T b → T (a && b)
 both true b p q = q
@@ -115,10 +115,6 @@ below_none : (u : TableId) (ts : List (TableId × Cells)) → T (below_all table
 below_none u [] h = refl
 below_none u (e ∷ ts) h = ap (λ r. cond (is_eq r) (Some e.1) (find table_cmp u ts)) (less _ (first _ _ h)) ∙ below_none u ts (second _ _ h)
 
--- what the cells of a table, where there are any, have at a key
-abbrev pub at_key : List ℕ → Option Cells → Option Value
-at_key k o = option_and_then (λ m. finite.get m k) o
-
 find_items : (x : Item) (ts : List (TableId × Cells)) → T (is_sorted table_cmp ts) → find item_cmp x (items_in ts) ≡ at_key x.key (find table_cmp (table_of x) ts)
 find_items x [] h = refl
 find_items x (e ∷ ts) h =
@@ -145,25 +141,17 @@ items_empty = same_map item_total item_exact _ _ (λ x. get_items finite.empty x
 
 -- ---- a cell that is set is an item that is set
 
-abbrev some_of : Value → Option Value
+abbrev pub some_of : Value → Option Value
 some_of value.Null = None
 some_of v = Some v
 
-get_set : (m : FinMap item_cmp Value) (x : Item) (v : Value) (q : Item) → finite.get (set_item m x v) q ≡ cond (is_eq (item_cmp q x)) (some_of v) (finite.get m q)
+pub get_set : (m : FinMap item_cmp Value) (x : Item) (v : Value) (q : Item) → finite.get (set_item m x v) q ≡ cond (is_eq (item_cmp q x)) (some_of v) (finite.get m q)
 get_set m x value.Null q = get-remove item_total m x q
 get_set m x (value.Bool b) q = get-insert item_total m x (value.Bool b) q
 get_set m x (value.Int n) q = get-insert item_total m x (value.Int n) q
 get_set m x (value.Text s) q = get-insert item_total m x (value.Text s) q
 get_set m x (value.List vs) q = get-insert item_total m x (value.List vs) q
 get_set m x (value.Rec fs) q = get-insert item_total m x (value.Rec fs) q
-
-get_cell : (m : Cells) (k : List ℕ) (v : Value) (q : List ℕ) → finite.get (set_cell m k v) q ≡ cond (is_eq (key_cmp q k)) (some_of v) (finite.get m q)
-get_cell m k value.Null q = get-remove key_total m k q
-get_cell m k (value.Bool b) q = get-insert key_total m k (value.Bool b) q
-get_cell m k (value.Int n) q = get-insert key_total m k (value.Int n) q
-get_cell m k (value.Text s) q = get-insert key_total m k (value.Text s) q
-get_cell m k (value.List vs) q = get-insert key_total m k (value.List vs) q
-get_cell m k (value.Rec fs) q = get-insert key_total m k (value.Rec fs) q
 
 parted : (a b k : Ordering) (x y : Option Value) → cond (is_eq (ordering_then a (ordering_then b k))) x y ≡ cond (is_eq (ordering_then a b)) (cond (is_eq k) x y) y
 parted Less b k x y = refl
@@ -176,23 +164,29 @@ get_or_none : (o : Option Cells) (k : List ℕ) → finite.get (or_none o) k ≡
 get_or_none None k = get-empty key_cmp k
 get_or_none (Some m) k = refl
 
-set_one : (m : Tables) (t : TableId) (k : List ℕ) (v : Value) (q : Item) → finite.get (items_of (with_cell m t k v)) q ≡ finite.get (set_item (items_of m) (item_at t k) v) q
-set_one m t k v q =
+-- a key of a table has this now, and all others what they had
+changed_one : (m : Tables) (t : TableId) (k : List ℕ) (cells : Cells) (r : Option Value) (q : Item) → ((l : List ℕ) → finite.get cells l ≡ cond (is_eq (key_cmp l k)) r (finite.get (or_none (finite.get m t)) l)) → finite.get (items_of (finite.insert m t cells)) q ≡ cond (is_eq (item_cmp q (item_at t k))) r (finite.get (items_of m) q)
+changed_one m t k cells r q has =
     let u = table_of q in
-    let cells = set_cell (or_none (finite.get m t)) k v in
-    get_items (with_cell m t k v) q
+    get_items (finite.insert m t cells) q
     ∙ ap (at_key q.key) (get-insert table_total m t cells u)
-    ∙ elim (is_eq (table_cmp u t)) as (λ b. is_eq (table_cmp u t) ≡ b → at_key q.key (cond b (Some cells) (finite.get m u)) ≡ cond b (cond (is_eq (key_cmp q.key k)) (some_of v) (at_key q.key (finite.get m u))) (at_key q.key (finite.get m u))) [
+    ∙ elim (is_eq (table_cmp u t)) as (λ b. is_eq (table_cmp u t) ≡ b → at_key q.key (cond b (Some cells) (finite.get m u)) ≡ cond b (cond (is_eq (key_cmp q.key k)) r (at_key q.key (finite.get m u))) (at_key q.key (finite.get m u))) [
       | true ↦ λ on.
-          get_cell (or_none (finite.get m t)) k v q.key
-          ∙ ap (cond (is_eq (key_cmp q.key k)) (some_of v)) (get_or_none (finite.get m t) q.key ∙ ap (λ w. at_key q.key (finite.get m w)) (sym (same_key table_exact u t on)))
+          has q.key
+          ∙ ap (cond (is_eq (key_cmp q.key k)) r) (get_or_none (finite.get m t) q.key ∙ ap (λ w. at_key q.key (finite.get m w)) (sym (same_key table_exact u t on)))
       | false ↦ λ off. refl
     ] refl
-    ∙ sym (parted (nat_cmp q.func t.func) (nat_cmp q.table t.table) (key_cmp q.key k) (some_of v) (at_key q.key (finite.get m u)))
-    ∙ sym (get_set (items_of m) (item_at t k) v q ∙ ap (cond (is_eq (item_cmp q (item_at t k))) (some_of v)) (get_items m q))
+    ∙ sym (parted (nat_cmp q.func t.func) (nat_cmp q.table t.table) (key_cmp q.key k) r (at_key q.key (finite.get m u)))
+    ∙ ap (cond (is_eq (item_cmp q (item_at t k))) r) (sym (get_items m q))
 
-pub set_items : (m : Tables) (t : TableId) (k : List ℕ) (v : Value) → items_of (with_cell m t k v) ≡ set_item (items_of m) (item_at t k) v
-set_items m t k v = same_map item_total item_exact _ _ (set_one m t k v)
+pub put_items : (m : Tables) (t : TableId) (k : List ℕ) (v : Value) → items_of (put_cell m t k v) ≡ finite.insert (items_of m) (item_at t k) v
+put_items m t k v = same_map item_total item_exact _ _ (λ q.
+    changed_one m t k (finite.insert (or_none (finite.get m t)) k v) (Some v) q (get-insert key_total (or_none (finite.get m t)) k v) ∙ sym (get-insert item_total (items_of m) (item_at t k) v q))
+
+unset_items : (m : Tables) (t : TableId) (k : List ℕ) (o : Option Cells) → finite.get m t ≡ o → items_of (unset_cell m t k o) ≡ finite.remove (items_of m) (item_at t k)
+unset_items m t k None none = sym (absent_removed item_total item_exact (items_of m) (item_at t k) (get_items m (item_at t k) ∙ ap (at_key k) none))
+unset_items m t k (Some c) here = same_map item_total item_exact _ _ (λ q.
+    changed_one m t k (finite.remove c k) None q (λ l. get-remove key_total c k l ∙ ap (λ o. cond (is_eq (key_cmp l k)) None (finite.get (or_none o) l)) (sym here)) ∙ sym (get-remove item_total (items_of m) (item_at t k) q))
 
 -- ---- calls
 
@@ -200,19 +194,34 @@ pub none_of : {X : Type 0} (o : Option X) → is_some o ≡ false → o ≡ None
 none_of None h = refl
 none_of (Some x) h = cc
 
--- the first cell of a table
-pub added : (a b : Tables) (t : TableId) (k : List ℕ) (v : Value) (c : Cells) → finite.get a t ≡ None → c ≡ set_cell finite.empty k v → b ≡ finite.insert a t c → b ≡ with_cell a t k v
-added a b t k v c none same is = is ∙ ap (finite.insert a t) (same ∙ ap (λ o. set_cell (or_none o) k v) (sym none))
+-- an item is set, also to null
+pub first_put : (a b : Tables) (t : TableId) (k : List ℕ) (v : Value) (c : Cells) → finite.get a t ≡ None → c ≡ finite.insert finite.empty k v → b ≡ finite.insert a t c → b ≡ put_cell a t k v
+first_put a b t k v c none same is = is ∙ ap (finite.insert a t) (same ∙ ap (λ o. finite.insert (or_none o) k v) (sym none))
 
--- a cell of a table that has some
-pub one_more : (a b : Tables) (t : TableId) (k : List ℕ) (v : Value) (c d : Cells) (r : Result (Unit {0}) AllocError) → finite.get a t ≡ Some c → b ≡ finite.insert a t d → OnOk r (d ≡ set_cell c k v) → OnOk r (b ≡ with_cell a t k v)
-one_more a b t k v c d (Ok u) here is h = is ∙ ap (finite.insert a t) (h ∙ ap (λ o. set_cell (or_none o) k v) (sym here))
-one_more a b t k v c d (Err e) here is h = tt
+pub one_put : (a b : Tables) (t : TableId) (k : List ℕ) (v : Value) (c d : Cells) (r : Result (Option Value) AllocError) → finite.get a t ≡ Some c → b ≡ finite.insert a t d → IfOk r (λ old. (old ≡ finite.get c k) × (d ≡ finite.insert c k v)) → IfOk r (λ old. (old ≡ at_key k (finite.get a t)) × (b ≡ put_cell a t k v))
+one_put a b t k v c d (Ok o) here is h = (h.0 ∙ ap (at_key k) (sym here), is ∙ ap (finite.insert a t) (h.1 ∙ ap (λ o. finite.insert (or_none o) k v) (sym here)))
+one_put a b t k v c d (Err e) here is h = tt
 
-pub none_more : (a b : Tables) (t : TableId) (c d : Cells) (r : Result (Unit {0}) AllocError) → finite.get a t ≡ Some c → b ≡ finite.insert a t d → OnErr r (d ≡ c) → OnErr r (b ≡ a)
-none_more a b t c d (Ok u) here is h = tt
-none_more a b t c d (Err e) here is h = is ∙ ap (finite.insert a t) h ∙ same_set table_total table_exact a t c here
+pub none_put : (a b : Tables) (t : TableId) (k : List ℕ) (c d : Cells) (r : Result (Option Value) AllocError) → finite.get a t ≡ Some c → b ≡ finite.insert a t d → OnErr r ((d ≡ c) × (finite.get c k ≡ None)) → OnErr r ((b ≡ a) × (at_key k (finite.get a t) ≡ None))
+none_put a b t k c d (Ok u) here is h = tt
+none_put a b t k c d (Err e) here is h = (is ∙ ap (finite.insert a t) h.0 ∙ same_set table_total table_exact a t c here, ap (at_key k) here ∙ h.1)
 
-pub items_set : (a b : Tables) (m : FinMap item_cmp Value) (t : TableId) (k : List ℕ) (v : Value) (r : Result (Unit {0}) AllocError) → items_of a ≡ m → OnOk r (b ≡ with_cell a t k v) → OnOk r (items_of b ≡ set_item m (item_at t k) v)
-items_set a b m t k v (Ok u) is h = ap items_of h ∙ set_items a t k v ∙ ap (λ n. set_item n (item_at t k) v) is
-items_set a b m t k v (Err e) is h = tt
+pub items_put : (a b : Tables) (m : FinMap item_cmp Value) (t : TableId) (k : List ℕ) (v : Value) (r : Result (Option Value) AllocError) → items_of a ≡ m → IfOk r (λ old. (old ≡ at_key k (finite.get a t)) × (b ≡ put_cell a t k v)) → IfOk r (λ old. (old ≡ finite.get m (item_at t k)) × (items_of b ≡ finite.insert m (item_at t k) v))
+items_put a b m t k v (Ok o) is h = (h.0 ∙ sym (get_items a (item_at t k)) ∙ ap (λ n. finite.get n (item_at t k)) is, ap items_of h.1 ∙ put_items a t k v ∙ ap (λ n. finite.insert n (item_at t k) v) is)
+items_put a b m t k v (Err e) is h = tt
+
+pub items_same : (a b : Tables) (m : FinMap item_cmp Value) (t : TableId) (k : List ℕ) (r : Result (Option Value) AllocError) → items_of a ≡ m → OnErr r ((b ≡ a) × (at_key k (finite.get a t) ≡ None)) → OnErr r ((items_of b ≡ m) × (finite.get m (item_at t k) ≡ None))
+items_same a b m t k (Ok u) is h = tt
+items_same a b m t k (Err e) is h = (ap items_of h.0 ∙ is, ap (λ n. finite.get n (item_at t k)) (sym is) ∙ get_items a (item_at t k) ∙ h.1)
+
+pub items_unset : (a b : Tables) (m : FinMap item_cmp Value) (t : TableId) (k : List ℕ) → items_of a ≡ m → b ≡ unset_cell a t k (finite.get a t) → items_of b ≡ finite.remove m (item_at t k)
+items_unset a b m t k is h = ap items_of h ∙ unset_items a t k (finite.get a t) refl ∙ ap (λ n. finite.remove n (item_at t k)) is
+
+-- an item that is set to what is not null
+pub not_null : (m : FinMap item_cmp Value) (x : Item) (v : Value) → (v ≡ value.Null → ⊥) → finite.insert m x v ≡ set_item m x v
+not_null m x value.Null h = absurd (h refl)
+not_null m x (value.Bool b) h = refl
+not_null m x (value.Int n) h = refl
+not_null m x (value.Text s) h = refl
+not_null m x (value.List vs) h = refl
+not_null m x (value.Rec fs) h = refl

@@ -113,7 +113,7 @@ acted_at old new a b id q r e x here is h s also =
     subst (λ (s : Instance). ActedAt old new a b id s e x) same (acted_one old new a b id q r e x here is h)
 
 -- the machine of an instance that was answered
-answered_so : (d : Deployment) (q : Instance) (m : Machine) (a : Answer) → StandsFor d q m → wants_answer m.effect ≡ true → StandsFor d (answered q a) (resumed d m a)
+pub answered_so : (d : Deployment) (q : Instance) (m : Machine) (a : Answer) → StandsFor d q m → wants_answer m.effect ≡ true → StandsFor d (answered q a) (resumed d m a)
 answered_so d q m a h w = stands_there d q.func q.args (is_some q.within) (resumed d m a) (q.answers ++ a ∷ []) (at_next d q.func q.args (is_some q.within) m q.answers a w (h.1 w))
 
 -- an instance is answered, and its machine goes on
@@ -171,3 +171,10 @@ step_stands d p r a b id m n all h made goes =
 -- without the machine that was taken
 pub rest_stand : (d : Deployment) (made : FinMap id_cmp Instance) (a b : FinMap id_cmp Machine) (id : IntentId) → AllStand d made a → b ≡ map.remove a id → AllStand d made b
 rest_stand d made a b id all is = others_stand d made made a b id all (λ j off. refl) is
+
+-- a transaction of an instance, which was so before
+pub alone : (made now : FinMap id_cmp Instance) (id j : IntentId) (q : Instance) → map.insert now id q ≡ made → is_eq (id_cmp j id) ≡ false → map.get now j ≡ map.get made j
+alone made now id j q h off = sym (apart id_total now id j q off) ∙ ap (λ (m : FinMap id_cmp Instance). map.get m j) h
+
+pub transacted : (d : Deployment) (p r : PlainState) (a b : FinMap id_cmp Machine) (id : IntentId) (q : Instance) (m : Machine) → AllStand d p.made a → map.insert r.made id q ≡ p.made → IsReady d r id m → IsKept a b id m → AllStand d r.made b
+transacted d p r a b id q m all alone_so ready kept = kept_stand d p.made r.made a b id m all (λ j off. alone p.made r.made id j q alone_so off) (ready_one d r id m ready) kept

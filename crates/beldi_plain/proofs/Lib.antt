@@ -1,6 +1,8 @@
 mod Bars
 mod ByTable
 mod Finite
+mod InPlace
+mod Inside
 mod Kept
 mod Made
 mod Runs

@@ -162,7 +162,7 @@ no_callee made id n all none =
 -- ---- a step
 
 -- a read or an operation on an item
-acts_so : (p : PlainState) (id : IntentId) (q : Instance) (e : Effect) → acts e ≡ true → map.get p.made id ≡ Some q → record { items = items_by p.items q e; made = map.insert p.made id (instance_by p.items q e) } ≡ step_by p id q e
+pub acts_so : (p : PlainState) (id : IntentId) (q : Instance) (e : Effect) → acts e ≡ true → map.get p.made id ≡ Some q → record { items = items_by p.items q e; made = map.insert p.made id (instance_by p.items q e) } ≡ step_by p id q e
 acts_so p id q (effect.Read t k) w here = refl
 acts_so p id q (effect.Call f a) w here = cc
 acts_so p id q (effect.Async f a) w here = cc

@@ -3,7 +3,8 @@ use Rattle.std.proofs.Common.{◌≡◌, ℕ, suc, zero, ◌+◌, ◌<◌, List,
 use Rattle.std.specs.Prelude.{slice_get, option_and_then}
 use Rattle.beldi_tree.specs.declared.deployment.Deployment.{Deployment}
 use Rattle.beldi_book.specs.declared.entry.Entry.{Entry}
-use Rattle.beldi_plain.specs.Plain.{PlainState, after}
+use Rattle.beldi_plain.specs.Plain.{PlainState}
+use Rattle.beldi_plain.specs.Entries.{after}
 use Rattle.beldi_plain.specs.Legal.{run_from}
 use Rattle.beldi_plain.specs.Answers.{Did, Ran, Began, bar_of}
 use Rattle.beldi_plain.specs.declared.plain.PlainErr.{PlainErr}

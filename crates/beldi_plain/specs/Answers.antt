@@ -5,16 +5,22 @@ use Rattle.beldi_value.specs.Id.{root_of}
 use Rattle.beldi_value.specs.declared.id.IntentId.{IntentId}
 use Rattle.beldi_value.specs.declared.outcome.Outcome.{Outcome}
 use Rattle.beldi_tree.specs.declared.deployment.Deployment.{Deployment}
+use Rattle.beldi_value.specs.declared.place.Place.{Place}
+use Rattle.beldi_lang.specs.declared.effect.Answer.TheVariants as answer
+use Rattle.beldi_lang.specs.declared.effect.Effect.{Effect}
+use Rattle.beldi_lang.specs.declared.effect.Effect.TheVariants as effect
 use Rattle.beldi_lang.specs.declared.machine.Machine.{Machine}
 use Rattle.beldi_book.specs.declared.entry.Entry.{Entry}
 use Rattle.beldi_book.specs.declared.entry.Entry.TheVariants.{Start, Read, Step, Tx, Try}
-use Rattle.beldi_plain.specs.Plain.{PlainState, Instance, effect_of, kind_of, is_waiting, step, after}
+use Rattle.beldi_plain.specs.Plain.{PlainState, Instance, effect_of, kind_of, is_waiting, step}
+use Rattle.beldi_plain.specs.Entries.{after}
 use Rattle.beldi_plain.specs.Executor.{StandsFor}
 use Rattle.beldi_plain.specs.Legal.{run_from}
+use Rattle.beldi_plain.specs.Piece.{enough, gives, piece_on, try_on, is_holder}
 use Rattle.beldi_plain.specs.declared.kind.Kind.{Kind}
 use Rattle.beldi_plain.specs.declared.kind.Kind.TheVariants as kinds
 use Rattle.beldi_plain.specs.declared.plain.Bar.{Bar}
-use Rattle.beldi_plain.specs.declared.plain.Bar.TheVariants.{AlreadyStarted, NotStarted, Over, Waiting, OtherEffect}
+use Rattle.beldi_plain.specs.declared.plain.Bar.TheVariants.{AlreadyStarted, NotStarted, Over, Waiting, OtherEffect, NoEnd, NoPlace, NotOlder}
 use Rattle.beldi_plain.specs.declared.plain.PlainErr.{PlainErr}
 use Rattle.beldi_plain.specs.declared.plain.PlainErr.TheVariants.{OutOfMemory, NotEnabled}
 
@@ -44,20 +50,40 @@ bar_as true kinds.Read = None
 bar_as true kinds.Change = Some OtherEffect
 bar_as false kinds.Read = Some OtherEffect
 bar_as false kinds.Change = None
+bar_as b kinds.Inside = Some OtherEffect
 bar_as b kinds.Unbuilt = Some OtherEffect
 
 -- what bars it from being made at all
 abbrev pub bar_made : Kind → Option Bar
 bar_made kinds.Read = None
 bar_made kinds.Change = None
+bar_made kinds.Inside = Some OtherEffect
 bar_made kinds.Unbuilt = Some OtherEffect
+
+-- what bars a transaction that commits, at its begin: that it does not reach such an end
+abbrev pub bar_no : {X : Type 0} → Bar → Option X → Option Bar → Option Bar
+bar_no b None c = Some b
+bar_no b (Some x) c = c
+
+abbrev pub bar_piece : Deployment → PlainState → IntentId → Instance → Effect → Option Bar
+bar_piece d p id q effect.Begin = bar_no NoEnd (piece_on d enough id (gives p id q answer.Done)) None
+bar_piece d p id q e = Some OtherEffect
+
+-- .. and one that aborts: that it does not reach the place, or that its holder is none
+abbrev pub bar_holder : Bool → Option Bar
+bar_holder true = None
+bar_holder false = Some NotOlder
+
+abbrev pub bar_try : Deployment → PlainState → IntentId → Place → Option IntentId → Instance → Effect → Option Bar
+bar_try d p id a h q effect.Begin = bar_no NoPlace (try_on d enough id a h (gives p id q answer.Done)) (bar_holder (is_holder p id h))
+bar_try d p id a h q e = Some OtherEffect
 
 abbrev pub bar_of : Deployment → PlainState → Entry → Option Bar
 bar_of d p (Start t f a) = bar_start t (map.get p.made (root_of t))
 bar_of d p (Read id seen) = bar_step (map.get p.made id) (is_waiting d p id) (λ q. bar_as true (kind_of id (effect_of d q)))
 bar_of d p (Step id) = bar_step (map.get p.made id) (is_waiting d p id) (λ q. bar_as false (kind_of id (effect_of d q)))
-bar_of d p (Tx id) = bar_step (map.get p.made id) (is_waiting d p id) (λ q. Some OtherEffect)
-bar_of d p (Try id place holder) = bar_step (map.get p.made id) (is_waiting d p id) (λ q. Some OtherEffect)
+bar_of d p (Tx id) = bar_step (map.get p.made id) (is_waiting d p id) (λ q. bar_piece d p id q (effect_of d q))
+bar_of d p (Try id place holder) = bar_step (map.get p.made id) (is_waiting d p id) (λ q. bar_try d p id place holder q (effect_of d q))
 
 -- an entry: Ok exactly where it is enabled, and then the state is the one after it; else nothing changed, and the answer
 -- is what bars it, unless out of memory
@@ -104,12 +130,6 @@ abbrev pub StandsFree : Deployment → PlainState → IntentId → Result Machin
 StandsFree d p id (Ok m) = IsFree d p id m
 StandsFree d p id (Err OutOfMemory) = Unit {0}
 StandsFree d p id (Err (NotEnabled b)) = (f : (Instance → Option Bar)) → bar_step (map.get p.made id) (is_waiting d p id) f ≡ Some b
-
--- a transaction of an instance is not carried out yet
-abbrev pub Barred : Deployment → PlainState → PlainState → IntentId → Result Unit PlainErr → Type 0
-Barred d p q id (Ok u) = ⊥
-Barred d p q id (Err OutOfMemory) = q ≡ p
-Barred d p q id (Err (NotEnabled b)) = (q ≡ p) × (bar_step (map.get p.made id) (is_waiting d p id) (λ q. Some OtherEffect) ≡ Some b)
 
 -- the first entries were done, and these are left
 pub record Began (d : Deployment) (es : List Entry) (p q : PlainState) (left : List Entry) : Type 0 where

@@ -1,5 +1,5 @@
 -- The items table by table.
-use Rattle.std.specs.Prelude.{ℕ, List, Option, Some, None, map, flat_map, refl}
+use Rattle.std.specs.Prelude.{ℕ, List, Option, Some, None, map, flat_map, option_and_then, refl}
 use Rattle.std.specs.FinMap as finite
 use Rattle.std.specs.FinMap.{FinMap, IsAntisymmetric, nat_cmp-IsAntisymmetric, slice_cmp-IsAntisymmetric}
 use Rattle.std.specs.Coded.{Coded, code_by, coded×, coded_ℕ}
@@ -9,7 +9,6 @@ use Rattle.std.specs.Cmp.Lexicographic.{slice_cmp, nat_list_cmp_total}
 use Rattle.std.specs.declared.cmp.Ordering.{Ordering}
 use Rattle.beldi_value.specs.Id.{then_both}
 use Rattle.beldi_value.specs.declared.value.Value.{Value}
-use Rattle.beldi_value.specs.declared.value.Value.TheVariants.{Null}
 use Rattle.beldi_plain.specs.Item.{Item, item_cmp}
 use Rattle.beldi_plain.specs.declared.tables.TableId.{TableId}
 
@@ -61,15 +60,19 @@ items_in ts = flat_map (λ e. cells_at e.0 (finite.entries e.1)) ts
 abbrev pub items_of : Tables → FinMap item_cmp Value
 items_of m = finite.from_sorted (items_in (finite.entries m))
 
--- null is absent
-abbrev pub set_cell : Cells → List ℕ → Value → Cells
-set_cell m k Null = finite.remove m k
-set_cell m k v = finite.insert m k v
-
 abbrev pub or_none : Option Cells → Cells
 or_none None = finite.empty
 or_none (Some m) = m
 
--- one cell is set
-abbrev pub with_cell : Tables → TableId → List ℕ → Value → Tables
-with_cell m t k v = finite.insert m t (set_cell (or_none (finite.get m t)) k v)
+-- one cell is set, also to null
+abbrev pub put_cell : Tables → TableId → List ℕ → Value → Tables
+put_cell m t k v = finite.insert m t (finite.insert (or_none (finite.get m t)) k v)
+
+-- .. or is not there, where the table has these cells
+abbrev pub unset_cell : Tables → TableId → List ℕ → Option Cells → Tables
+unset_cell m t k None = m
+unset_cell m t k (Some c) = finite.insert m t (finite.remove c k)
+
+-- what the cells of a table, where there are any, have at a key
+abbrev pub at_key : List ℕ → Option Cells → Option Value
+at_key k o = option_and_then (λ m. finite.get m k) o

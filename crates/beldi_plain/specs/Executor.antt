@@ -1,5 +1,5 @@
 -- What contracts see of the executor, and which machines it keeps.
-use Rattle.std.specs.Prelude.{◌≡◌, ◌⊎◌, ℕ, Bool, ◌≤◌, length, List, Option, Some, None, Result, Ok, Err, IsTrue, true, is_some, if◌then◌else◌}
+use Rattle.std.specs.Prelude.{◌≡◌, ◌⊎◌, ℕ, Bool, ◌≤◌, length, take, List, Option, Some, None, Result, Ok, Err, IsTrue, true, is_some, if◌then◌else◌}
 use Rattle.std.specs.FinMap as map
 use Rattle.std.specs.FinMap.{FinMap}
 use Rattle.std.specs.declared.alloc.AllocError.{AllocError}
@@ -100,6 +100,10 @@ ActedAt old new a b id q e (Err w) = (new ≡ old) × (b ≡ a)
 abbrev pub at_one : FinMap id_cmp Instance → IntentId → (Instance → Instance) → Option Instance → FinMap id_cmp Instance
 at_one made id f None = made
 at_one made id f (Some q) = map.insert made id (f q)
+
+-- its first answers alone
+abbrev pub cut_to : ℕ → Instance → Instance
+cut_to n q = record q { answers = take n q.answers }
 
 -- who waits for an instance
 abbrev pub waiter : Option Caller → Option IntentId

@@ -1,11 +1,15 @@
 pub mod Answers
 pub mod ByTable
 pub mod Codes
+pub mod Entries
 pub mod Executor
 pub mod Guard
 pub mod Holds
+pub mod Inside
 pub mod Item
 pub mod Legal
 pub mod Listing
 pub mod Operation
+pub mod Piece
 pub mod Plain
+pub mod Undo

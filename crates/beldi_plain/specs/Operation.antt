@@ -32,6 +32,13 @@ op_of (effect.Lock t k) = Some (record { table = t; key = k; does = lock })
 op_of (effect.Unlock t k) = Some (record { table = t; key = k; does = free })
 op_of e = None
 
+-- the table and key of an operation that a transaction may do
+abbrev pub touched : Effect → Option (ℕ × List ℕ)
+touched (effect.Read t k) = Some (t, k)
+touched (effect.Write t k v) = Some (t, k)
+touched (effect.CondWrite t k r o v) = Some (t, k)
+touched e = None
+
 -- the item, of a function
 abbrev pub item_in : ℕ → OnItem → Item
 item_in func o = record { func = func; table = o.table; key = o.key }

@@ -1,5 +1,5 @@
 -- The plain state, its step, and the state after an entry.
-use Rattle.std.specs.Prelude.{ℕ, suc, zero, Bool, true, false, List, [], ◌∷◌, ◌++◌, length, Option, Some, None, is_some, if◌then◌else◌}
+use Rattle.std.specs.Prelude.{ℕ, suc, zero, Bool, true, false, List, [], ◌∷◌, ◌++◌, length, take, Option, Some, None, is_some, if◌then◌else◌}
 use Rattle.std.specs.FinMap as map
 use Rattle.std.specs.FinMap.{FinMap}
 use Rattle.beldi_value.specs.Id.{id_cmp, root_of, child_of, has_callees}
@@ -16,8 +16,6 @@ use Rattle.beldi_lang.specs.declared.effect.Effect.TheVariants as effect
 use Rattle.beldi_tree.specs.Bindings.{or_null}
 use Rattle.beldi_lang.specs.Callee.{answer_of}
 use Rattle.beldi_lang.specs.Wants.{wants}
-use Rattle.beldi_book.specs.declared.entry.Entry.{Entry}
-use Rattle.beldi_book.specs.declared.entry.Entry.TheVariants.{Start, Read, Step, Tx, Try}
 use Rattle.beldi_plain.specs.Item.{Item, item_cmp}
 use Rattle.beldi_plain.specs.Operation.{Operation, OnItem, op_of, item_in, sets, set_if, answer_after}
 use Rattle.beldi_plain.specs.declared.kind.Kind.{Kind}
@@ -58,8 +56,8 @@ with_instance p id q = record p { made = map.insert p.made id q }
 abbrev pub effect_of : Deployment → Instance → Effect
 effect_of d q = wants d q.func q.args (is_some q.within) q.answers
 
--- how an effect of an instance is entered in a book: a read as one, an operation on an item, a call and a return as a change. The
--- effects that the host does not carry out yet are not entered.
+-- how an effect of an instance is entered in a book: a read as one, an operation on an item, a call and a return as a change. A
+-- transaction is entered whole; and what an id of 63 hops calls is not carried out.
 abbrev pub kind_of : IntentId → Effect → Kind
 kind_of id (effect.Read t k) = kinds.Read
 kind_of id (effect.Write t k v) = kinds.Change
@@ -69,9 +67,9 @@ kind_of id (effect.Unlock t k) = kinds.Change
 kind_of id (effect.Return o) = kinds.Change
 kind_of id (effect.Call f a) = if has_callees id then kinds.Change else kinds.Unbuilt
 kind_of id (effect.Async f a) = if has_callees id then kinds.Change else kinds.Unbuilt
-kind_of id effect.Begin = kinds.Unbuilt
-kind_of id (effect.End b) = kinds.Unbuilt
-kind_of id effect.Abort = kinds.Unbuilt
+kind_of id effect.Begin = kinds.Inside
+kind_of id (effect.End b) = kinds.Inside
+kind_of id effect.Abort = kinds.Inside
 
 -- the id of what an instance calls at its next step, and who calls it, and waits or not
 abbrev pub callee_of : IntentId → Instance → IntentId
@@ -86,6 +84,10 @@ abbrev pub waits_at : FinMap id_cmp Instance → IntentId → Instance → Effec
 waits_at made id q (effect.Call f a) = is_some (map.get made (callee_of id q))
 waits_at made id q (effect.Async f a) = is_some (map.get made (callee_of id q))
 waits_at made id q e = false
+
+-- the effect that it had at a step, from 0
+abbrev pub effect_before : Deployment → Instance → ℕ → Effect
+effect_before d q n = wants d q.func q.args (is_some q.within) (take n q.answers)
 
 abbrev pub answered : Instance → Answer → Instance
 answered q a = record q { answers = q.answers ++ a ∷ [] }
@@ -124,8 +126,8 @@ abbrev pub with_callee : PlainState → IntentId → Instance → ℕ → Value 
 with_callee p id q f a waits = with_instance p (callee_of id q) (new_instance f a (Some (calls_at id q waits)))
 
 -- what a step does, by the effect that the instance stands at: a read is answered by the item's value, an operation on an item is
--- done, and a call makes its callee, which answers it when it returns, or at once where nobody waits for it. The other effects are
--- not carried out yet.
+-- done, and a call makes its callee, which answers it when it returns, or at once where nobody waits for it. Effects of transactions
+-- are no step.
 abbrev pub step_by : PlainState → IntentId → Instance → Effect → PlainState
 step_by p id q (effect.Read t k) = with_instance p id (answered q (answer.Value (value_at p (item_of q t k))))
 step_by p id q (effect.Call f a) = with_callee p id q f a true
@@ -154,21 +156,24 @@ is_waiting d p id q = waits_at p.made id q (effect_of d q)
 abbrev pub if_built : {X : Type 0} → Kind → X → Option X
 if_built kinds.Read x = Some x
 if_built kinds.Change x = Some x
+if_built kinds.Inside x = None
 if_built kinds.Unbuilt x = None
 
 -- .. only of a read ..
 abbrev pub if_read : {X : Type 0} → Kind → X → Option X
 if_read kinds.Read x = Some x
 if_read kinds.Change x = None
+if_read kinds.Inside x = None
 if_read kinds.Unbuilt x = None
 
 -- .. and only of a change
 abbrev pub if_change : {X : Type 0} → Kind → X → Option X
 if_change kinds.Read x = None
 if_change kinds.Change x = Some x
+if_change kinds.Inside x = None
 if_change kinds.Unbuilt x = None
 
--- the state after the next step of an instance; none where its effect is not carried out yet
+-- the state after the next step of an instance; none where its effect is no step
 abbrev pub step : Deployment → PlainState → IntentId → Option PlainState
 step d p id = can_step (map.get p.made id) (is_waiting d p id) (λ q. if_built (kind_of id (effect_of d q)) (step_by p id q (effect_of d q)))
 
@@ -177,15 +182,6 @@ abbrev pub start : PlainState → ℕ → ℕ → Value → Option Instance → 
 start p zero f a q = None
 start p (suc t) f a None = Some (with_instance p (root_of (suc t)) (new_instance f a None))
 start p (suc t) f a (Some q) = None
-
--- the state after an entry; none where it is not enabled. An entry is enabled only as the next step of its instance, so
--- a run has each step once. Transactions are not carried out yet.
-abbrev pub after : Deployment → PlainState → Entry → Option PlainState
-after d p (Start t f a) = start p t f a (map.get p.made (root_of t))
-after d p (Read id seen) = can_step (map.get p.made id) (is_waiting d p id) (λ q. if_read (kind_of id (effect_of d q)) (step_by p id q (effect_of d q)))
-after d p (Step id) = can_step (map.get p.made id) (is_waiting d p id) (λ q. if_change (kind_of id (effect_of d q)) (step_by p id q (effect_of d q)))
-after d p (Tx id) = None
-after d p (Try id place holder) = None
 
 -- the outcome of a ticket's root
 abbrev pub outcome_of : Option Instance → Option Outcome

@@ -1,7 +1,7 @@
 // The values of one table that are not null, by key.
-ghost use Rattle.std.specs.Prelude.{◌≡◌, ◌++◌, OnOk, OnErr, option_copied};
+ghost use Rattle.std.specs.Prelude.{◌≡◌, ◌++◌, None, OnOk, OnErr, IfOk, option_copied};
 ghost use Rattle.std.specs.FinMap as map;
-ghost use Rattle.beldi_plain.specs.ByTable.{set_cell, cells_at};
+ghost use Rattle.beldi_plain.specs.ByTable.{cells_at};
 ghost use Rattle.beldi_plain.specs.Listing.{items_text};
 
 use crate::tables::TableId;
@@ -47,18 +47,25 @@ impl Cells {
         self.entries.get(key)
     }
 
-    pub fn set(&mut self, key: Str, value: Value) -> Result<(), AllocError>
-        ensures ok { OnOk result (self.new ≡ set_cell self.old key value) }
-        ensures err { OnErr result (self.new ≡ self.old) }
+    /// Sets a value, also to null, and gives the one before. Only a new key can fail.
+    pub fn put(&mut self, key: Str, value: Value) -> Result<Option<Value>, AllocError>
+        ensures ok { IfOk result (λ old. (old ≡ map.get self.old key) × (self.new ≡ map.insert self.old key value)) }
+        ensures err { OnErr result ((self.new ≡ self.old) × (map.get self.old key ≡ None)) }
     {
-        if let Value::Null = value {
-            self.entries.remove(&key);
-            return Ok(());
-        }
-        match self.entries.insert(key, value) {
-            Ok(_) => Ok(()),
-            Err(_) => Err(AllocError),
-        }
+        let old = match self.entries.insert(key, value) {
+            Ok(old) => old,
+            Err(failed) => {
+                drop(failed);
+                return Err(AllocError);
+            }
+        };
+        Ok(old)
+    }
+
+    pub fn unset(&mut self, key: &Str)
+        ensures { self.new ≡ map.remove self.old key.now }
+    {
+        drop(self.entries.remove(key));
     }
 
     // Appends a line for each item of this table, in the order of their keys.

@@ -5,7 +5,7 @@ ghost use Rattle.beldi_lang.specs.Machine.{IsAt};
 ghost use Rattle.beldi_lang.specs.declared.effect.Effect.TheVariants as effect;
 ghost use Rattle.beldi_lang.specs.declared.effect.Answer.TheVariants as answer;
 ghost use Rattle.beldi_value.specs.declared.value.Value.TheVariants as value;
-ghost use Rattle.beldi_plain.specs.Executor.{StandsFor, StandsAfter, Acted, waiter};
+ghost use Rattle.beldi_plain.specs.Executor.{StandsFor, StandsAfter, Acted, waiter, cut_to};
 ghost use Rattle.beldi_plain.specs.Operation.{set_item};
 ghost use Rattle.beldi_plain.specs.Plain.{answered, ended, new_instance};
 
@@ -84,6 +84,13 @@ impl Instance {
     {
         self.answers.push(answer)?;
         Ok(())
+    }
+
+    /// It has these first answers alone.
+    pub fn cut(&mut self, answers: u32)
+        ensures { self.new ≡ cut_to answers self.old }
+    {
+        self.answers.truncate(answers as usize);
     }
 
     /// It ends.
@@ -190,13 +197,13 @@ impl Instance {
 }
 
 // The answer to a test.
-fn tested(passes: bool) -> Answer
+pub(crate) fn tested(passes: bool) -> Answer
     ensures { result ≡ answer.Value (value.Bool passes) }
 {
     Answer::Value(Value::Bool(passes))
 }
 
-fn copy_answer(alloc: Global, answer: &Answer) -> Result<Answer, AllocError>
+pub(crate) fn copy_answer(alloc: Global, answer: &Answer) -> Result<Answer, AllocError>
     ensures { IfOk result (λ a. a ≡ answer.now) }
 {
     match answer {

@@ -3,7 +3,7 @@ ghost use Rattle.std.specs.Prelude.{◌≡◌, ◌≤◌, length, Some, is_some,
 ghost use Rattle.std.specs.FinMap as map;
 ghost use Rattle.beldi_value.specs.Id.{child_of};
 ghost use Rattle.beldi_plain.specs.Plain.{Instance, answered, ended};
-ghost use Rattle.beldi_plain.specs.Executor.{ActedAt, at_one};
+ghost use Rattle.beldi_plain.specs.Executor.{ActedAt, at_one, cut_to};
 
 use crate::instance::Instance;
 use crate::items::Items;
@@ -95,6 +95,16 @@ impl Instances {
             return Ok(());
         };
         instance.answer(answer)
+    }
+
+    /// The instance of this id has these first answers alone, if it is there.
+    pub fn cut(&mut self, id: &IntentId, answers: u32)
+        ensures { self.new ≡ at_one self.old id.now (cut_to answers) (map.get self.old id.now) }
+    {
+        let Some(instance) = self.entries.get_mut(id) else {
+            return;
+        };
+        instance.cut(answers);
     }
 
     /// The instance of this id ends, if it is there.

@@ -1,5 +1,5 @@
 // The items that are not null.
-ghost use Rattle.std.specs.Prelude.{◌≡◌, ◌++◌, OnOk, OnErr, IfOk, option_copied};
+ghost use Rattle.std.specs.Prelude.{◌≡◌, ◌++◌, None, OnOk, OnErr, IfOk, option_copied};
 ghost use Rattle.std.specs.FinMap as map;
 ghost use Rattle.beldi_tree.specs.Bindings.{or_null};
 ghost use Rattle.beldi_value.specs.Passes.{passes};
@@ -81,8 +81,33 @@ impl Items {
         ensures ok { OnOk result (self.new ≡ set_item self.old (record { func = func; table = table; key = key }) value) }
         ensures err { OnErr result (self.new ≡ self.old) }
     {
+        if let Value::Null = value {
+            self.unset(func, table, &key);
+            return Ok(());
+        }
+        self.put(func, table, key, value)?;
+        Ok(())
+    }
+
+    /// Sets an item, also to null, and gives the value before. Only one that has none can fail.
+    pub fn put(
+        &mut self,
+        func: u16,
+        table: u16,
+        key: Str,
+        value: Value,
+    ) -> Result<Option<Value>, AllocError>
+        ensures ok { IfOk result (λ old. (old ≡ map.get self.old (record { func = func; table = table; key = key })) × (self.new ≡ map.insert self.old (record { func = func; table = table; key = key }) value)) }
+        ensures err { OnErr result ((self.new ≡ self.old) × (map.get self.old (record { func = func; table = table; key = key }) ≡ None)) }
+    {
         self.tables
-            .set(self.alloc, TableId { func, table }, key, value)
+            .put(self.alloc, TableId { func, table }, key, value)
+    }
+
+    pub fn unset(&mut self, func: u16, table: u16, key: &Str)
+        ensures { self.new ≡ map.remove self.old (record { func = func; table = table; key = key.now }) }
+    {
+        self.tables.unset(TableId { func, table }, key);
     }
 
     // Appends a line for each item, in their order.

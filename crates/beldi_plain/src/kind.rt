@@ -11,7 +11,9 @@ use beldi_value::IntentId;
 pub enum Kind {
     Read,
     Change,
-    /// The host does not carry it out yet, and it is not entered.
+    /// It is part of a transaction, which is entered whole.
+    Inside,
+    /// It is not carried out: the id has 63 hops, and what it calls has none.
     Unbuilt,
 }
 
@@ -26,11 +28,8 @@ pub fn kind_of(id: &IntentId, effect: &Effect) -> Kind
         | Effect::Unlock { .. }
         | Effect::Return(_) => Kind::Change,
         Effect::Call { .. } | Effect::Async { .. } if id.has_callees() => Kind::Change,
-        Effect::Call { .. }
-        | Effect::Async { .. }
-        | Effect::Begin
-        | Effect::End { .. }
-        | Effect::Abort => Kind::Unbuilt,
+        Effect::Call { .. } | Effect::Async { .. } => Kind::Unbuilt,
+        Effect::Begin | Effect::End { .. } | Effect::Abort => Kind::Inside,
     }
 }
 
@@ -41,7 +40,7 @@ impl Kind {
     {
         match self {
             Kind::Read | Kind::Change => true,
-            Kind::Unbuilt => false,
+            Kind::Inside | Kind::Unbuilt => false,
         }
     }
 
@@ -52,7 +51,7 @@ impl Kind {
         match self {
             Kind::Read => reads,
             Kind::Change => !reads,
-            Kind::Unbuilt => false,
+            Kind::Inside | Kind::Unbuilt => false,
         }
     }
 }

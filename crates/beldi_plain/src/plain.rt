@@ -1,11 +1,12 @@
 // The executor of the plain machine.
 ghost use Rattle.std.specs.Prelude.{◌≡◌, ◌++◌, Some, OnOk, OnErr, IfSome, option_copied};
 ghost use Rattle.std.specs.FinMap as map;
-ghost use Rattle.beldi_book.specs.declared.entry.Entry.TheVariants.{Start};
+ghost use Rattle.beldi_book.specs.declared.entry.Entry.TheVariants.{Start, Tx, Try};
 ghost use Rattle.beldi_book.specs.Order.{linear};
 ghost use Rattle.beldi_plain.specs.Plain.{Instance, nothing, value_at, reply_of, step_by};
-ghost use Rattle.beldi_plain.specs.Answers.{Did, DidStep, Entered, Ran, Barred, IsReady, Makes, StandsAt, StandsFree};
+ghost use Rattle.beldi_plain.specs.Answers.{Did, DidStep, Entered, Ran, IsReady, Makes, StandsAt, StandsFree};
 ghost use Rattle.beldi_plain.specs.declared.plain.PlainErr.TheVariants.{OutOfMemory};
+ghost use Rattle.beldi_plain.specs.Inside.{StandsAtBegin};
 ghost use Rattle.beldi_plain.specs.Listing.{listing_of};
 
 use crate::instance::Instance;
@@ -14,8 +15,8 @@ use crate::machines::Machines;
 use crate::state::State;
 use beldi_book::{Book, Entry};
 use beldi_check::Checked;
-use beldi_lang::Machine;
-use beldi_value::{IntentId, Outcome, Str, Value};
+use beldi_lang::{Effect, Machine};
+use beldi_value::{IntentId, Outcome, Place, Str, Value};
 use std::alloc::{AllocError, Global};
 use std::marker::Model;
 use thiserror::Error;
@@ -48,9 +49,15 @@ pub enum Bar {
     Over,
     /// The instance waits for a callee, which has not returned; or it stands at an asynchronous call whose callee is there.
     Waiting,
-    /// The entry is a read, and the instance does not stand at one; or it is a step, and it does; or the instance stands at
-    /// an effect that is not carried out yet.
+    /// The entry is a read, and the instance does not stand at one; or it is a step, and it stands at a read, at the begin of a
+    /// transaction or in one, or at a call that is not carried out; or it is a transaction, and the instance does not stand at its begin.
     OtherEffect,
+    /// The transaction does not reach an end with commit.
+    NoEnd,
+    /// The transaction does not reach the place where it aborted, or nothing is aborted there.
+    NoPlace,
+    /// The holder that the transaction died of was not made, or is not older than its instance.
+    NotOlder,
 }
 
 /// The plain state, and the machines of its instances as far as there was memory to keep them.
@@ -222,19 +229,71 @@ impl<'a> Plain<'a> {
             }
             Entry::Read { id, .. } => self.enter(id, true),
             Entry::Step { id } => self.enter(id, false),
-            Entry::Tx { id } | Entry::Try { id, .. } => self.refuse(id),
+            Entry::Tx { id } => self.piece(id),
+            Entry::Try { id, place, holder } => self.try_piece(id, place, holder.as_ref()),
         }
     }
 
-    // A transaction of an instance is not carried out yet.
-    fn refuse(&mut self, id: &IntentId) -> Result<(), PlainErr>
+    /// Carries out the transaction of an instance that stands at its begin, as one step up to its end with commit.
+    pub fn piece(&mut self, id: &IntentId) -> Result<(), PlainErr>
         ensures code { self.new.code ≡ self.old.code }
-        ensures barred { Barred self.old.code self.old.state self.new.state id.now result }
+        ensures did { Did self.old.code (Tx id.now) self.old.state self.new.state result }
     {
         let id = id.copy(self.alloc)?;
-        let machine = self.machine(&id)?;
-        self.keep(id, machine);
-        Err(PlainErr::NotEnabled(Bar::OtherEffect))
+        let machine = match self.begin(&id) {
+            Ok(machine) => machine,
+            Err(why) => return Err(why),
+        };
+        let next = match self.state.piece(self.alloc, self.code.code(), &id, machine) {
+            Ok(next) => next,
+            Err(why) => return Err(why),
+        };
+        self.machines.keep(id, next);
+        Ok(())
+    }
+
+    /// Carries out the transaction of an instance that stands at its begin, as one step up to this place, where it aborts: by itself
+    /// or by a fault, or as this holder has the lock. Nothing that it wrote is left.
+    pub fn try_piece(
+        &mut self,
+        id: &IntentId,
+        place: &Place,
+        holder: Option<&IntentId>,
+    ) -> Result<(), PlainErr>
+        ensures code { self.new.code ≡ self.old.code }
+        ensures did { Did self.old.code (Try id.now place.now (option_copied holder.entry)) self.old.state self.new.state result }
+    {
+        let id = id.copy(self.alloc)?;
+        let machine = match self.begin(&id) {
+            Ok(machine) => machine,
+            Err(why) => return Err(why),
+        };
+        let next = match self
+            .state
+            .try_piece(self.alloc, self.code.code(), &id, machine, place, holder)
+        {
+            Ok(next) => next,
+            Err(why) => return Err(why),
+        };
+        self.machines.keep(id, next);
+        Ok(())
+    }
+
+    // The machine of an instance that stands at the begin of a transaction.
+    fn begin(&mut self, id: &IntentId) -> Result<Machine, PlainErr>
+        ensures same { self.new ≡ self.old }
+        ensures stands { StandsAtBegin self.old.code self.old.state id.now result }
+    {
+        let kept = id.copy(self.alloc)?;
+        let machine = match self.machine(id) {
+            Ok(machine) => machine,
+            Err(why) => return Err(why),
+        };
+        if !matches!(machine.wants(), Effect::Begin) {
+            self.keep(kept, machine);
+            return Err(PlainErr::NotEnabled(Bar::OtherEffect));
+        }
+        Ok(machine)
     }
 
     /// Carries out the entries of a book in the order in which they took effect, up to the first that is not enabled.

@@ -19,8 +19,8 @@ use std::marker::Model;
 
 #[derive(Drop)]
 pub struct State {
-    items: Items,
-    made: Instances,
+    pub(crate) items: Items,
+    pub(crate) made: Instances,
     null: Value,
 }
 

@@ -1,7 +1,7 @@
 // The values of all tables, table by table.
-ghost use Rattle.std.specs.Prelude.{◌≡◌, ◌++◌, None, OnOk, OnErr, option_copied};
+ghost use Rattle.std.specs.Prelude.{◌≡◌, ◌++◌, None, OnOk, OnErr, IfOk, option_copied};
 ghost use Rattle.std.specs.FinMap as map;
-ghost use Rattle.beldi_plain.specs.ByTable.{with_cell, items_of};
+ghost use Rattle.beldi_plain.specs.ByTable.{put_cell, unset_cell, at_key, items_of};
 ghost use Rattle.beldi_plain.specs.Listing.{items_text};
 
 use crate::cells::Cells;
@@ -51,43 +51,53 @@ impl Tables {
         self.entries.get(&table)
     }
 
-    pub fn set(
+    /// Sets a value, also to null, and gives the one before. Only a new key can fail.
+    pub fn put(
         &mut self,
         alloc: Global,
         table: TableId,
         key: Str,
         value: Value,
-    ) -> Result<(), AllocError>
-        ensures ok { OnOk result (self.new ≡ with_cell self.old table key value) }
-        ensures err { OnErr result (self.new ≡ self.old) }
+    ) -> Result<Option<Value>, AllocError>
+        ensures ok { IfOk result (λ old. (old ≡ at_key key (map.get self.old table)) × (self.new ≡ put_cell self.old table key value)) }
+        ensures err { OnErr result ((self.new ≡ self.old) × (at_key key (map.get self.old table) ≡ None)) }
     {
         if !self.entries.contains_key(&table) {
-            return self.add(alloc, table, key, value);
+            return self.put_first(alloc, table, key, value);
         }
         let Some(cells) = self.entries.get_mut(&table) else {
             unreachable!()
         };
-        cells.set(key, value)
+        cells.put(key, value)
     }
 
     // Sets a value of a table that has none.
-    fn add(
+    fn put_first(
         &mut self,
         alloc: Global,
         table: TableId,
         key: Str,
         value: Value,
-    ) -> Result<(), AllocError>
+    ) -> Result<Option<Value>, AllocError>
         requires { map.get self.old table ≡ None }
-        ensures ok { OnOk result (self.new ≡ with_cell self.old table key value) }
-        ensures err { OnErr result (self.new ≡ self.old) }
+        ensures ok { IfOk result (λ old. (old ≡ at_key key (map.get self.old table)) × (self.new ≡ put_cell self.old table key value)) }
+        ensures err { OnErr result ((self.new ≡ self.old) × (at_key key (map.get self.old table) ≡ None)) }
     {
         let mut cells = Cells::new(alloc);
-        cells.set(key, value)?;
+        cells.put(key, value)?;
         match self.entries.insert(table, cells) {
-            Ok(_) => Ok(()),
+            Ok(_) => Ok(None),
             Err(_) => Err(AllocError),
         }
+    }
+
+    pub fn unset(&mut self, table: TableId, key: &Str)
+        ensures { self.new ≡ unset_cell self.old table key.now (map.get self.old table) }
+    {
+        let Some(cells) = self.entries.get_mut(&table) else {
+            return;
+        };
+        cells.unset(key);
     }
 
     // Appends a line for each item, in their order.

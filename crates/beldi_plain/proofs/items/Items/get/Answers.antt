@@ -1,7 +1,8 @@
 use Rattle.std.proofs.Common.{◌∙◌, sym, ap, option_copied}
 use Rattle.std.specs.FinMap as map
 use Rattle.beldi_plain.specs.Item.{Item}
-use Rattle.beldi_plain.proofs.ByTable.{get_items, at_key}
+use Rattle.beldi_plain.specs.ByTable.{at_key}
+use Rattle.beldi_plain.proofs.ByTable.{get_items}
 use Rattle.beldi_plain.proofs.items.Items.get.Goals as goal
 
 pub returns-in-Some : goal.returns-in-Some

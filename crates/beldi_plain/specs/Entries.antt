@@ -1,0 +1,18 @@
+-- The state after an entry.
+use Rattle.std.specs.Prelude.{Option}
+use Rattle.std.specs.FinMap as map
+use Rattle.beldi_value.specs.Id.{root_of}
+use Rattle.beldi_tree.specs.declared.deployment.Deployment.{Deployment}
+use Rattle.beldi_book.specs.declared.entry.Entry.{Entry}
+use Rattle.beldi_book.specs.declared.entry.Entry.TheVariants.{Start, Read, Step, Tx, Try}
+use Rattle.beldi_plain.specs.Piece.{piece_from, try_from}
+use Rattle.beldi_plain.specs.Plain.{PlainState, start, can_step, is_waiting, if_read, if_change, kind_of, effect_of, step_by}
+
+-- None where it is not enabled. An entry is enabled only as the next step of its instance, so a run has each step once; and a
+-- transaction only as one piece.
+abbrev pub after : Deployment → PlainState → Entry → Option PlainState
+after d p (Start t f a) = start p t f a (map.get p.made (root_of t))
+after d p (Read id seen) = can_step (map.get p.made id) (is_waiting d p id) (λ q. if_read (kind_of id (effect_of d q)) (step_by p id q (effect_of d q)))
+after d p (Step id) = can_step (map.get p.made id) (is_waiting d p id) (λ q. if_change (kind_of id (effect_of d q)) (step_by p id q (effect_of d q)))
+after d p (Tx id) = can_step (map.get p.made id) (is_waiting d p id) (λ q. piece_from d p id q (effect_of d q))
+after d p (Try id place holder) = can_step (map.get p.made id) (is_waiting d p id) (λ q. try_from d p id place holder q (effect_of d q))
