@@ -20,10 +20,9 @@ use Rattle.beldi_lang.specs.declared.effect.Answer.TheVariants.{Done}
 use Rattle.beldi_lang.specs.declared.effect.Effect.TheVariants.{Call, Async}
 use Rattle.beldi_lang.specs.Callee.{answer_of}
 use Rattle.beldi_lang.specs.Wants.{wants}
-use Rattle.beldi_plain.specs.Plain.{Instance, new_instance, answered, ended, calls_at, effect_of}
-use Rattle.beldi_order.specs.Sane.{IsCalled, effect_before, call_of, answer_given}
-use Rattle.beldi_order.proofs.Entries.{same_some, made_set}
-use Rattle.beldi_order.proofs.Late.{equal, elsewhere, here}
+use Rattle.beldi_plain.specs.Plain.{Instance, new_instance, answered, ended, calls_at, effect_of, effect_before}
+use Rattle.beldi_order.specs.Sane.{IsCalled, call_of, answer_given}
+use Rattle.beldi_order.proofs.Maps.{same_some, made_set, equal, elsewhere, here}
 
 -- ---- ids
 -- an id is that of a root, or of a callee
@@ -47,9 +46,12 @@ get_front [] a n h = absurd (omega (arith, h))
 get_front (x ∷ xs) a zero h = refl
 get_front (x ∷ xs) a (suc n) h = get_front xs a n (omega (arith, h))
 
+pub get_after : (xs bs : List Answer) → slice_get (xs ++ bs) (length xs) ≡ slice_get bs 0
+get_after [] bs = refl
+get_after (x ∷ xs) bs = get_after xs bs
+
 pub get_last : (xs : List Answer) (a : Answer) → slice_get (xs ++ a ∷ []) (length xs) ≡ Some a
-get_last [] a = refl
-get_last (x ∷ xs) a = get_last xs a
+get_last xs a = get_after xs (a ∷ [])
 
 -- a step that has no answer is the next one
 pub next_step : (xs : List Answer) (n : ℕ) → n ≤ length xs → slice_get xs n ≡ None → n ≡ length xs
@@ -166,7 +168,7 @@ abbrev pub Links : Deployment → FinMap id_cmp Instance → Type 0
 Links d f = (i : IntentId) (n : ℕ) → LinkedIn d f i n
 
 -- a callee was set, and then its caller: what holds of the two, and of each with all others, holds of all
-module _ (d : Deployment) (f : FinMap id_cmp Instance) (all : Links d f) (k i : IntentId) (at : ℕ) (same : k ≡ child_of i at) (s r : Instance) where
+module _ (L : IntentId → Option Instance → ℕ → Option Instance → Type 0) (f : FinMap id_cmp Instance) (all : (i : IntentId) (n : ℕ) → L i (map.get f i) n (map.get f (child_of i n))) (k i : IntentId) (at : ℕ) (same : k ≡ child_of i at) (s r : Instance) where
   abbrev over : FinMap id_cmp Instance
   over = map.insert f k s
 
@@ -181,24 +183,24 @@ module _ (d : Deployment) (f : FinMap id_cmp Instance) (all : Links d f) (k i : 
 
   -- what holds of all pairs but this one
   abbrev Others : IntentId → Option Instance → ℕ → Option Instance → Type 0
-  Others j u n v = (child_of j n ≡ k → ⊥) → Linked d j u n v
+  Others j u n v = (child_of j n ≡ k → ⊥) → L j u n v
 
-  pub both_set : ((n : ℕ) (u : Option Instance) → Linked d k (map.get f k) n u → Linked d k (Some s) n u)
-      → ((n : ℕ) (u : Option Instance) → (n ≡ at → ⊥) → Linked d i (map.get f i) n u → Linked d i (Some r) n u)
-      → ((j : IntentId) (n : ℕ) (o : Option Instance) → Linked d j o n (map.get f i) → Linked d j o n (Some r))
-      → IsCalled d i r at s → Links d both
-  both_set callee caller called two j n = (elim (is_eq (id_cmp (child_of j n) k)) as (λ b. is_eq (id_cmp (child_of j n) k) ≡ b → LinkedIn d both j n) [
-    | true ↦ λ e. let t = child_same i j at n (sym same ∙ sym (equal (child_of j n) k e)) in subst (λ z. LinkedIn d both z n) t.0 (subst (LinkedIn d both i) t.1 this)
+  pub both_set : ((n : ℕ) (u : Option Instance) → L k (map.get f k) n u → L k (Some s) n u)
+      → ((n : ℕ) (u : Option Instance) → (n ≡ at → ⊥) → L i (map.get f i) n u → L i (Some r) n u)
+      → ((j : IntentId) (n : ℕ) (o : Option Instance) → L j o n (map.get f i) → L j o n (Some r))
+      → L i (Some r) at (Some s) → (j : IntentId) (n : ℕ) → L j (map.get both j) n (map.get both (child_of j n))
+  both_set callee caller called two j n = (elim (is_eq (id_cmp (child_of j n) k)) as (λ b. is_eq (id_cmp (child_of j n) k) ≡ b → L j (map.get both j) n (map.get both (child_of j n))) [
+    | true ↦ λ e. let t = child_same i j at n (sym same ∙ sym (equal (child_of j n) k e)) in subst (λ z. L z (map.get both z) n (map.get both (child_of z n))) t.0 (subst (λ m. L i (map.get both i) m (map.get both (child_of i m))) t.1 this)
     | false ↦ λ e. others j n (λ own. let clash = sym e ∙ ap (λ z. is_eq (id_cmp z k)) own ∙ ap is_eq (tied_itself id_total k) in cc)
   ]) refl
     where
       others : (l : IntentId) (m : ℕ) → Others l (map.get both l) m (map.get both (child_of l m))
       others = pairs_set Others over i r
           (pairs_set Others f k s (λ l m other. all l m) (λ m u h other. callee m u (h other)) (λ l m own h other. absurd (other own)))
-          (λ m u h other. caller m u (λ e. other (ap (child_of i) e ∙ sym same)) (subst (λ z. Linked d i z m u) there (h other)))
-          (λ l m own h other. called l m (map.get both l) (subst (λ z. Linked d l (map.get both l) m z) there (h other)))
+          (λ m u h other. caller m u (λ e. other (ap (child_of i) e ∙ sym same)) (subst (λ z. L i z m u) there (h other)))
+          (λ l m own h other. called l m (map.get both l) (subst (λ z. L l (map.get both l) m z) there (h other)))
 
-      this : LinkedIn d both i at
+      this : L i (map.get both i) at (map.get both (child_of i at))
       this =
           let mine : map.get both (child_of i at) ≡ Some s = ap (map.get both) (sym same) ∙ elsewhere over i k r (λ e. apart (sym e)) ∙ here f k s in
-          subst (λ u. Linked d i u at (map.get both (child_of i at))) (sym (here over i r)) (subst (Linked d i (Some r) at) (sym mine) two)
+          subst (λ u. L i u at (map.get both (child_of i at))) (sym (here over i r)) (subst (L i (Some r) at) (sym mine) two)

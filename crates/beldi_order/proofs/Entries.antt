@@ -1,12 +1,9 @@
 -- What every entry does, and what it keeps.
-use Rattle.std.proofs.Common.{◌≡◌, ℕ, zero, suc, Bool, true, false, cond, List, [], ◌∷◌, ◌++◌, Option, None, Some, refl, ap, sym, ◌∙◌, subst, append-nil, append_assoc}
+use Rattle.std.proofs.Common.{◌≡◌, ℕ, zero, suc, Bool, true, false, List, [], ◌∷◌, ◌++◌, Option, None, Some, refl, ap, sym, ◌∙◌, subst, append-nil, append_assoc}
 use Rattle.std.specs.Prelude.{option_and_then, is_some, if◌then◌else◌}
 use Rattle.std.specs.FinMap as map
-use Rattle.std.specs.FinMap.{FinMap, IsAntisymmetric, get-insert}
-use Rattle.std.specs.Cmp.{Equal-is}
-use Rattle.std.specs.Ordering.{is_eq}
-use Rattle.std.specs.declared.cmp.Ordering.{Ordering}
-use Rattle.beldi_value.specs.Id.{root_of, has_callees, id_cmp, id_total, id_exact}
+use Rattle.std.specs.FinMap.{FinMap}
+use Rattle.beldi_value.specs.Id.{root_of, has_callees, id_cmp}
 use Rattle.beldi_value.specs.declared.id.IntentId.{IntentId}
 use Rattle.beldi_value.specs.declared.outcome.Outcome.{Outcome}
 use Rattle.beldi_value.specs.declared.place.Caller.{Caller}
@@ -20,29 +17,15 @@ use Rattle.beldi_lang.specs.Callee.{answer_of}
 use Rattle.beldi_book.specs.declared.entry.Entry.{Entry}
 use Rattle.beldi_book.specs.declared.entry.Entry.TheVariants.{Start, Read, Step, Tx, Try}
 use Rattle.beldi_order.specs.Grown.{Grown, GrownAt, Grows}
-use Rattle.beldi_plain.specs.Plain.{Instance, PlainState, new_instance, after, start, can_step, if_open, unless, if_read, if_change, step_by, operated, with_instance, answered, ended, give, answer_caller, callee_of, calls_at, effect_of, kind_of, waits_at, is_waiting, item_of, value_at}
+use Rattle.beldi_order.specs.Inside.{Commits, Aborts, answered_all, inside}
+use Rattle.beldi_order.proofs.Maps.{same_some, made_set, still_made}
+use Rattle.beldi_order.proofs.Pieces.{can_step_is, steps_so, commits, aborts, Whole, whole_piece, whole_try}
+use Rattle.beldi_plain.specs.Plain.{Instance, PlainState, new_instance, start, can_step, if_read, if_change, step_by, operated, with_instance, answered, ended, give, answer_caller, callee_of, calls_at, effect_of, kind_of, waits_at, is_waiting, item_of, value_at}
+use Rattle.beldi_plain.specs.Entries.{after}
 use Rattle.beldi_plain.specs.Legal.{run_from}
 use Rattle.beldi_plain.specs.Operation.{OnItem, op_of, item_in, answer_after}
 use Rattle.beldi_plain.specs.declared.kind.Kind.{Kind}
 use Rattle.beldi_plain.specs.declared.kind.Kind.TheVariants as kinds
-
-pub same_some : {X : Type 0} {x y : X} → Some x ≡ Some y → x ≡ y
-same_some h = cc
-
--- ---- what holds at the key that changed, and at all keys before, holds at all keys
-pub changed : {K X : Type 0} {R : K → K → Ordering} → IsAntisymmetric R → (m n : FinMap R X) (k : K) (v : Option X) → ((q : K) → map.get n q ≡ cond (is_eq (R q k)) v (map.get m q))
-    → (P : K → Option X → Type 0) → P k v → ((q : K) → P q (map.get m q)) → (q : K) → P q (map.get n q)
-changed {R = R} exact m n k v is P here others q = subst (P q) (sym (is q)) (elim (is_eq (R q k)) as (λ b. is_eq (R q k) ≡ b → P q (cond b v (map.get m q))) [
-  | true ↦ λ e. subst (λ z. P z v) (sym (exact q k ((Equal-is (R q k)).0 e))) here
-  | false ↦ λ e. others q
-] refl)
-
-pub made_set : (f : FinMap id_cmp Instance) (id : IntentId) (s : Instance) (P : IntentId → Option Instance → Type 0) → P id (Some s) → ((j : IntentId) → P j (map.get f j)) → (j : IntentId) → P j (map.get (map.insert f id s) j)
-made_set f id s P here others = changed id_exact f (map.insert f id s) id (Some s) (get-insert id_total f id s) P here others
-
--- one that was there still is, once another was made
-pub still_made : (f : FinMap id_cmp Instance) (k id : IntentId) (s q : Instance) → map.get f k ≡ None → map.get f id ≡ Some q → map.get (map.insert f k s) id ≡ Some q
-still_made f k id s q gone is = made_set f k s (λ j o. j ≡ id → o ≡ Some q) (λ same. let clash = sym gone ∙ ap (map.get f) same ∙ is in cc) (λ j same. ap (map.get f) same ∙ is) id refl
 
 -- ---- runs in parts
 pub run_append : (d : Deployment) (p : PlainState) (es fs : List Entry) → run_from d p (es ++ fs) ≡ option_and_then (λ q. run_from d q fs) (run_from d p es)
@@ -95,8 +78,8 @@ abbrev pub Did : Deployment → PlainState → Entry → PlainState → Type 0
 Did d p (Start t f a) q = Started p t f a q
 Did d p (Read id s) q = Stepped d p id kinds.Read q
 Did d p (Step id) q = Stepped d p id kinds.Change q
-Did d p (Tx id) q = ⊥
-Did d p (Try id place holder) q = ⊥
+Did d p (Tx id) q = Commits d p id q
+Did d p (Try id place holder) q = Aborts d p id place holder q
 
 started : (p : PlainState) (t f : ℕ) (a : Value) (q : PlainState) (o : Option Instance) → map.get p.made (root_of t) ≡ o → start p t f a o ≡ Some q → Started p t f a q
 started p zero f a q o is h = cc
@@ -106,39 +89,32 @@ started p (suc t) f a q (Some i) is h = cc
 if_read_is : (k : Kind) (x q : PlainState) → if_read k x ≡ Some q → (k ≡ kinds.Read) × (x ≡ q)
 if_read_is kinds.Read x q h = (refl, same_some h)
 if_read_is kinds.Change x q h = cc
+if_read_is kinds.Inside x q h = cc
 if_read_is kinds.Unbuilt x q h = cc
 
 if_change_is : (k : Kind) (x q : PlainState) → if_change k x ≡ Some q → (k ≡ kinds.Change) × (x ≡ q)
 if_change_is kinds.Read x q h = cc
 if_change_is kinds.Change x q h = (refl, same_some h)
+if_change_is kinds.Inside x q h = cc
 if_change_is kinds.Unbuilt x q h = cc
-
-unless_is : (b : Bool) (o : Option PlainState) (q : PlainState) → unless b o ≡ Some q → (b ≡ false) × (o ≡ Some q)
-unless_is true o q h = cc
-unless_is false o q h = (refl, h)
 
 module _ (d : Deployment) (p : PlainState) (id : IntentId) (b : Kind) (q : PlainState) (enter : Kind → PlainState → Option PlainState)
     (enters : (k : Kind) (x y : PlainState) → enter k x ≡ Some y → (k ≡ b) × (x ≡ y)) where
   abbrev entered : Instance → Option PlainState
   entered i = enter (kind_of id (effect_of d i)) (step_by p id i (effect_of d i))
 
-  by_outcome : (i : Instance) (o : Option Outcome) → map.get p.made id ≡ Some i → i.outcome ≡ o → if_open o (unless (is_waiting d p id i) (entered i)) ≡ Some q → Stepped d p id b q
-  by_outcome i None is none h =
-      let u = unless_is (is_waiting d p id i) (entered i) q h in
-      let t = enters (kind_of id (effect_of d i)) (step_by p id i (effect_of d i)) q u.1 in
-      record { instance = i; made = is; open_still = none; free = u.0; kind = t.0; leads = t.1 }
-  by_outcome i (Some o) is some h = cc
-
-  stepped : (o : Option Instance) → map.get p.made id ≡ o → can_step o (is_waiting d p id) entered ≡ Some q → Stepped d p id b q
-  stepped None is h = cc
-  stepped (Some i) is h = by_outcome i i.outcome is refl h
+  stepped : can_step (map.get p.made id) (is_waiting d p id) entered ≡ Some q → Stepped d p id b q
+  stepped h =
+      let c = can_step_is (map.get p.made id) (is_waiting d p id) entered q h in
+      let t = enters (kind_of id (effect_of d c.instance)) (step_by p id c.instance (effect_of d c.instance)) q c.gives_it in
+      record { instance = c.instance; made = c.made; open_still = c.open_still; free = c.free; kind = t.0; leads = t.1 }
 
 pub did : (d : Deployment) (p : PlainState) (e : Entry) (q : PlainState) → after d p e ≡ Some q → Did d p e q
 did d p (Start t f a) q h = started p t f a q (map.get p.made (root_of t)) refl h
-did d p (Read id s) q h = stepped d p id kinds.Read q (λ k x. if_read k x) if_read_is (map.get p.made id) refl h
-did d p (Step id) q h = stepped d p id kinds.Change q (λ k x. if_change k x) if_change_is (map.get p.made id) refl h
-did d p (Tx id) q h = cc
-did d p (Try id place holder) q h = cc
+did d p (Read id s) q h = stepped d p id kinds.Read q (λ k x. if_read k x) if_read_is h
+did d p (Step id) q h = stepped d p id kinds.Change q (λ k x. if_change k x) if_change_is h
+did d p (Tx id) q h = commits d id p q h
+did d p (Try id place holder) q h = aborts d id place holder p q h
 
 -- ---- and what is so is enabled
 no_call : (b : Bool) → (if b then kinds.Change else kinds.Unbuilt) ≡ kinds.Read → ⊥
@@ -168,10 +144,7 @@ module _ (made : FinMap id_cmp Instance) (id : IntentId) (q : Instance) where
 module _ (d : Deployment) (p : PlainState) (id : IntentId) (i : Instance) (is : map.get p.made id ≡ Some i) (none : i.outcome ≡ None) (free : is_waiting d p id i ≡ false) where
   enabled : (enter : Kind → PlainState → Option PlainState) (k : Kind) → kind_of id (effect_of d i) ≡ k → can_step (map.get p.made id) (is_waiting d p id) (λ j. enter (kind_of id (effect_of d j)) (step_by p id j (effect_of d j))) ≡ enter k (step_by p id i (effect_of d i))
   enabled enter k kind =
-      let entered = enter (kind_of id (effect_of d i)) (step_by p id i (effect_of d i)) in
-      ap (λ o. can_step o (is_waiting d p id) (λ j. enter (kind_of id (effect_of d j)) (step_by p id j (effect_of d j)))) is
-      ∙ ap (λ o. if_open o (unless (is_waiting d p id i) entered)) none
-      ∙ ap (λ b. unless b entered) free
+      steps_so (map.get p.made id) i (is_waiting d p id) (λ j. enter (kind_of id (effect_of d j)) (step_by p id j (effect_of d j))) is none free
       ∙ ap (λ u. enter u (step_by p id i (effect_of d i))) kind
 
   pub enabled_read : (s : ℕ) → kind_of id (effect_of d i) ≡ kinds.Read → after d p (Read id s) ≡ Some (step_by p id i (effect_of d i))
@@ -202,19 +175,19 @@ grown_on (Some i) (Some j) (Some k) g h = record {
 pub grows_self : (f : FinMap id_cmp Instance) → Grows f f
 grows_self f id = grown_self (map.get f id)
 
-grows_through : (f g h : FinMap id_cmp Instance) → Grows f g → Grows g h → Grows f h
+pub grows_through : (f g h : FinMap id_cmp Instance) → Grows f g → Grows g h → Grows f h
 grows_through f g h a b id = grown_on (map.get f id) (map.get g id) (map.get h id) (a id) (b id)
 
 pub grows_set : (f : FinMap id_cmp Instance) (id : IntentId) (s : Instance) → GrownAt (map.get f id) (Some s) → Grows f (map.insert f id s)
 grows_set f id s here = made_set f id s (λ j o. GrownAt (map.get f j) o) here (grows_self f)
 
-grown_answer : (i : Instance) (a : Answer) → Grown i (answered i a)
+pub grown_answer : (i : Instance) (a : Answer) → Grown i (answered i a)
 grown_answer i a = record { func = refl; args = refl; from = refl; within = refl; later = a ∷ []; more = refl; over = λ o h. h }
 
-grown_end : (i : Instance) (o : Outcome) → i.outcome ≡ None → Grown i (ended i o)
+pub grown_end : (i : Instance) (o : Outcome) → i.outcome ≡ None → Grown i (ended i o)
 grown_end i o none = record { func = refl; args = refl; from = refl; within = refl; later = []; more = append-nil i.answers; over = λ u is. let g = sym none ∙ is in cc }
 
-grows_at : (f : FinMap id_cmp Instance) (id : IntentId) (i j : Instance) → map.get f id ≡ Some i → Grown i j → Grows f (map.insert f id j)
+pub grows_at : (f : FinMap id_cmp Instance) (id : IntentId) (i j : Instance) → map.get f id ≡ Some i → Grown i j → Grows f (map.insert f id j)
 grows_at f id i j is g = grows_set f id j (subst (λ o. GrownAt o (Some j)) (sym is) g)
 
 operation_grows : (p : PlainState) (id : IntentId) (i : Instance) (o : Option OnItem) → map.get p.made id ≡ Some i → Grows p.made (operated p id i o).made
@@ -226,7 +199,7 @@ pub absent : (o : Option Instance) → is_some o ≡ false → o ≡ None
 absent None h = refl
 absent (Some q) h = cc
 
-grows_new : (f : FinMap id_cmp Instance) (id : IntentId) (s : Instance) → map.get f id ≡ None → Grows f (map.insert f id s)
+pub grows_new : (f : FinMap id_cmp Instance) (id : IntentId) (s : Instance) → map.get f id ≡ None → Grows f (map.insert f id s)
 grows_new f id s is = grows_set f id s (subst (λ o. GrownAt o (Some s)) (sym is) tt)
 
 -- what holds, and does after an answer to one that is there, holds after an answer to a caller
@@ -264,12 +237,22 @@ stepped_grows d p id b q s = subst (λ (r : PlainState). Grows p.made r.made) s.
 started_grows : (p : PlainState) (t f : ℕ) (a : Value) (q : PlainState) → Started p t f a q → Grows p.made q.made
 started_grows p t f a q s = subst (λ (r : PlainState). Grows p.made r.made) s.leads (grows_new p.made (root_of t) (new_instance f a None) s.absent)
 
+grown_all : (i : Instance) (rest : List Answer) → GrownAt (Some i) (Some (answered_all i rest))
+grown_all i [] = grown_self (Some i)
+grown_all i (a ∷ rest) = grown_on (Some i) (Some (answered i a)) (Some (answered_all (answered i a) rest)) (grown_answer i a) (grown_all (answered i a) rest)
+
+whole_grows : (d : Deployment) (p : PlainState) (id : IntentId) (r : PlainState) → Whole d p id r → Grows p.made r.made
+whole_grows d p id r w =
+    let last = inside w.instance w.rest in
+    subst (λ (s : PlainState). Grows p.made s.made) (sym w.is) (grows_at p.made id w.instance (answered last answer.Done) w.made
+    (grown_on (Some w.instance) (Some last) (Some (answered last answer.Done)) (grown_all w.instance (answer.Done ∷ w.rest)) (grown_answer last answer.Done)))
+
 did_grows : (d : Deployment) (p : PlainState) (e : Entry) (q : PlainState) → Did d p e q → Grows p.made q.made
 did_grows d p (Start t f a) q s = started_grows p t f a q s
 did_grows d p (Read id k) q s = stepped_grows d p id kinds.Read q s
 did_grows d p (Step id) q s = stepped_grows d p id kinds.Change q s
-did_grows d p (Tx id) q s = absurd s
-did_grows d p (Try id place holder) q s = absurd s
+did_grows d p (Tx id) q s = whole_grows d p id q (whole_piece d p id q s)
+did_grows d p (Try id place holder) q s = whole_grows d p id q (whole_try d p id place holder q s)
 
 pub after_grows : (d : Deployment) (p : PlainState) (e : Entry) (q : PlainState) → after d p e ≡ Some q → Grows p.made q.made
 after_grows d p e q h = did_grows d p e q (did d p e q h)

@@ -10,11 +10,13 @@ use Rattle.beldi_book.specs.Order.{count_changes, front, back, linear}
 use Rattle.beldi_book.proofs.Orders.{linear_changes, front_back}
 use Rattle.beldi_lang.specs.declared.effect.Answer.TheVariants as answer
 use Rattle.beldi_plain.specs.Guard.{IsGuarded}
-use Rattle.beldi_plain.specs.Plain.{Instance, PlainState, nothing, after, kind_of, waits_at, step_by}
+use Rattle.beldi_plain.specs.Plain.{Instance, PlainState, nothing, kind_of, waits_at, step_by}
+use Rattle.beldi_plain.specs.Entries.{after}
 use Rattle.beldi_plain.specs.Legal.{run_from}
 use Rattle.beldi_order.specs.Laws.{EndsWith, IsLast, BelongsEarlier, with_answer, IsKeptLate}
 use Rattle.beldi_order.proofs.Places.{front_more, linear_change, linear_read, put_between, put_after, SeenAt, bounded_more}
-use Rattle.beldi_order.proofs.Entries.{same_some, runs_on, one_more, run_grows, enabled_read}
+use Rattle.beldi_order.proofs.Entries.{runs_on, one_more, run_grows, enabled_read}
+use Rattle.beldi_order.proofs.Maps.{same_some}
 use Rattle.beldi_order.proofs.Guard.{guarded_parts, guarded_first, guarded_second, past, same_holds}
 use Rattle.beldi_order.proofs.Late.{StandsAtRead, unmoved, put_late}
 use Rattle.beldi_order.specs.Grown.{GrownAt}

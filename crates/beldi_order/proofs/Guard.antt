@@ -8,16 +8,18 @@ use Rattle.beldi_lang.specs.declared.effect.Answer.{Answer}
 use Rattle.beldi_book.specs.declared.entry.Entry.{Entry}
 use Rattle.beldi_book.specs.declared.entry.Entry.TheVariants.{Start, Read, Step, Tx, Try}
 use Rattle.beldi_plain.specs.Item.{Item}
-use Rattle.beldi_plain.specs.Guard.{touched_by, actor, IsFree, IsGuarded}
+use Rattle.beldi_plain.specs.Guard.{touched_by, TouchedInside, Touches, actor, IsFree, IsGuarded}
 use Rattle.beldi_plain.specs.Holds.{holds}
 use Rattle.beldi_plain.specs.Operation.{op_of}
-use Rattle.beldi_plain.specs.Plain.{Instance, PlainState, after, with_instance, answered, effect_of}
+use Rattle.beldi_plain.specs.Plain.{Instance, PlainState, with_instance, answered, effect_of}
+use Rattle.beldi_plain.specs.Entries.{after}
 use Rattle.beldi_plain.specs.Legal.{run_from}
 use Rattle.beldi_plain.specs.declared.kind.Kind.TheVariants as kinds
 use Rattle.beldi_order.specs.Guard.{LateReadsLeaveGuards}
-use Rattle.beldi_order.proofs.Entries.{same_some, did, Did, read_is, after_grows, run_grows}
+use Rattle.beldi_order.proofs.Entries.{did, Did, read_is, after_grows, run_grows}
+use Rattle.beldi_order.proofs.Maps.{same_some, elsewhere}
 use Rattle.beldi_order.specs.Grown.{GrownAt}
-use Rattle.beldi_order.proofs.Late.{StandsAtRead, passes, apart, unmoved, elsewhere}
+use Rattle.beldi_order.proofs.Late.{StandsAtRead, passes, apart, runs_apart, unmoved}
 use Rattle.beldi_order.proofs.Operations.{holds_answered}
 
 -- ---- entries in parts
@@ -51,12 +53,37 @@ module _ (d : Deployment) (p : PlainState) (i : IntentId) (a : Instance) (v : An
     other (Start t f w) s same = let clash = sym s.absent ∙ ap (map.get p.made) (sym same) ∙ stands.made in cc
     other (Read j k) s same = apart d p r i a v stands stays j kinds.Read s same
     other (Step j) s same = apart d p r i a v stands stays j kinds.Change s same
-    other (Tx j) s same = s
-    other (Try j place holder) s same = s
+    other (Tx j) s same = runs_apart d p r i a v stands stays j s.instance s.rest s.items s.runs same
+    other (Try j place holder) s same = runs_apart d p r i a v stands stays j s.instance s.rest s.items s.runs same
+
+    module _ (e : Entry) (h : after d p e ≡ Some r) where
+      apart_from : i ≡ actor e → ⊥
+      apart_from = other e (did d p e r h)
+
+      next_there : (x : Item) → touched_by d (map.get later.made (actor e)) ≡ Some x → touched_by d (map.get p.made (actor e)) ≡ Some x
+      next_there x touched = ap (touched_by d) (sym (elsewhere p.made i (actor e) (answered a v) apart_from)) ∙ touched
+
+      -- what a transaction touches, it touches before the answer
+      inside_there : (x : Item) → TouchedInside d later e x → TouchedInside d p e x
+      inside_there x t = record {
+        before = t.before;
+        was = sym (elsewhere p.made i (actor e) (answered a v) apart_from) ∙ t.was;
+        state = r;
+        enabled = h;
+        instance = t.instance;
+        now = sym (elsewhere r.made i (actor e) (answered a v) apart_from) ∙ ap (λ (s : PlainState). map.get s.made (actor e)) (same_some (sym (passes d p r i a v stands stays e h) ∙ t.enabled)) ∙ t.now;
+        touched_it = t.touched_it;
+      }
+
+    touches_there : (e : Entry) → after d p e ≡ Some r → (x : Item) → Touches d later e x → Touches d p e x
+    touches_there (Start t f w) h x touched = next_there (Start t f w) h x touched
+    touches_there (Read j k) h x touched = next_there (Read j k) h x touched
+    touches_there (Step j) h x touched = next_there (Step j) h x touched
+    touches_there (Tx j) h x touched = inside_there (Tx j) h x touched
+    touches_there (Try j place holder) h x touched = inside_there (Try j place holder) h x touched
 
     free_there : (e : Entry) → after d p e ≡ Some r → IsFree d p e → IsFree d later e
-    free_there e h free x touched j held =
-        free x (ap (touched_by d) (sym (elsewhere p.made i (actor e) (answered a v) (other e (did d p e r h)))) ∙ touched) j (sym (same_holds x j) ∙ held)
+    free_there e h free x touched j held = free x (touches_there e h x touched) j (sym (same_holds x j) ∙ held)
 
 pub past : (d : Deployment) (p q : PlainState) (es : List Entry) (i : IntentId) (a : Instance) (v : Answer) → StandsAtRead d p i a → map.get q.made i ≡ Some a → run_from d p es ≡ Some q
     → IsGuarded d p es → IsGuarded d (with_instance p i (answered a v)) es

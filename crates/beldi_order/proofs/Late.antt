@@ -1,15 +1,13 @@
 -- A read that is kept late: it passes every entry that leaves its instance as it is.
-use Rattle.std.proofs.Common.{◌≡◌, ℕ, zero, suc, Bool, true, false, cond, List, [], ◌∷◌, ◌++◌, length, Option, None, Some, refl, ap, sym, ◌∙◌, subst, arith, length-append, append-nil}
-use Rattle.std.specs.Prelude.{option_and_then, is_some, if◌then◌else◌}
+use Rattle.std.proofs.Common.{◌≡◌, ℕ, zero, suc, Bool, true, false, List, [], ◌∷◌, ◌++◌, length, Option, None, Some, refl, ap, sym, ◌∙◌, subst, arith, length-append, append-nil}
+use Rattle.std.specs.Prelude.{◌&&◌, option_and_then, is_some, if◌then◌else◌}
 use Rattle.std.specs.FinMap as map
-use Rattle.std.specs.FinMap.{FinMap, get-insert, same_map}
-use Rattle.std.specs.Cmp.{Equal-is}
-use Rattle.std.specs.Ordering.{is_eq}
-use Rattle.std.proofs.lemmas.Cmp.{tied_itself}
-use Rattle.beldi_value.specs.Id.{root_of, id_cmp, id_total, id_exact}
+use Rattle.std.specs.FinMap.{FinMap}
+use Rattle.beldi_value.specs.Id.{root_of, id_cmp, is_older}
 use Rattle.beldi_value.specs.declared.id.IntentId.{IntentId}
 use Rattle.beldi_value.specs.declared.outcome.Outcome.{Outcome}
 use Rattle.beldi_value.specs.declared.place.Caller.{Caller}
+use Rattle.beldi_value.specs.declared.place.Place.{Place}
 use Rattle.beldi_value.specs.declared.value.Value.{Value}
 use Rattle.beldi_tree.specs.declared.deployment.Deployment.{Deployment}
 use Rattle.beldi_lang.specs.declared.effect.Answer.{Answer}
@@ -20,39 +18,18 @@ use Rattle.beldi_lang.specs.Callee.{answer_of}
 use Rattle.beldi_book.specs.declared.entry.Entry.{Entry}
 use Rattle.beldi_book.specs.declared.entry.Entry.TheVariants.{Start, Read, Step, Tx, Try}
 use Rattle.beldi_plain.specs.Item.{item_cmp}
-use Rattle.beldi_plain.specs.Plain.{Instance, PlainState, new_instance, after, start, step_by, with_instance, answered, ended, give, answer_caller, callee_of, calls_at, effect_of, kind_of, waits_at, is_waiting, item_of, operated, value_at}
+use Rattle.beldi_plain.specs.Plain.{Instance, PlainState, new_instance, start, step_by, with_instance, answered, ended, give, answer_caller, callee_of, calls_at, effect_of, kind_of, waits_at, is_waiting, item_of, operated, value_at}
+use Rattle.beldi_plain.specs.Entries.{after}
 use Rattle.beldi_plain.specs.Operation.{OnItem, op_of, item_in, sets, set_if, answer_after}
 use Rattle.beldi_plain.specs.Legal.{run_from}
+use Rattle.beldi_plain.specs.Piece.{is_holder}
 use Rattle.beldi_plain.specs.declared.kind.Kind.{Kind}
 use Rattle.beldi_plain.specs.declared.kind.Kind.TheVariants as kinds
-use Rattle.beldi_order.proofs.Entries.{same_some, Started, Stepped, Did, did, read_is, absent, enabled_read, enabled_step, after_grows, run_grows, runs_on}
+use Rattle.beldi_order.proofs.Entries.{Started, Stepped, Did, did, read_is, absent, enabled_read, enabled_step, after_grows, run_grows, runs_on}
+use Rattle.beldi_order.specs.Inside.{Items, answered_all, inside, Runs, Commits, Aborts}
+use Rattle.beldi_order.proofs.Maps.{same_some, made_set, commutes, elsewhere, here}
+use Rattle.beldi_order.proofs.Pieces.{committed, aborted_so}
 use Rattle.beldi_order.specs.Grown.{Grown, GrownAt}
-
--- ---- two instances that were set
-same_at : (f : FinMap id_cmp Instance) (i j : IntentId) (x y : Instance) (b c : Bool) (o : Option Instance) → (b ≡ true → c ≡ true → ⊥) → cond b (Some y) (cond c (Some x) o) ≡ cond c (Some x) (cond b (Some y) o)
-same_at f i j x y true true o apart = absurd (apart refl refl)
-same_at f i j x y true false o apart = refl
-same_at f i j x y false c o apart = refl
-
-pub equal : (i j : IntentId) → is_eq (id_cmp i j) ≡ true → i ≡ j
-equal i j h = id_exact i j ((Equal-is (id_cmp i j)).0 h)
-
-pub commutes : (f : FinMap id_cmp Instance) (i j : IntentId) (x y : Instance) → (i ≡ j → ⊥) → map.insert (map.insert f i x) j y ≡ map.insert (map.insert f j y) i x
-commutes f i j x y apart = same_map id_total id_exact _ _ (λ q.
-    get-insert id_total (map.insert f i x) j y q
-    ∙ ap (cond (is_eq (id_cmp q j)) (Some y)) (get-insert id_total f i x q)
-    ∙ same_at f i j x y (is_eq (id_cmp q j)) (is_eq (id_cmp q i)) (map.get f q) (λ a b. apart (sym (equal q i b) ∙ equal q j a))
-    ∙ sym (get-insert id_total (map.insert f j y) i x q ∙ ap (cond (is_eq (id_cmp q i)) (Some x)) (get-insert id_total f j y q)))
-
-pub elsewhere : (f : FinMap id_cmp Instance) (i j : IntentId) (x : Instance) → (i ≡ j → ⊥) → map.get (map.insert f i x) j ≡ map.get f j
-elsewhere f i j x apart = get-insert id_total f i x j ∙ by_test (is_eq (id_cmp j i)) refl
-  where
-    by_test : (b : Bool) → is_eq (id_cmp j i) ≡ b → cond b (Some x) (map.get f j) ≡ map.get f j
-    by_test true e = absurd (apart (sym (equal j i e)))
-    by_test false e = refl
-
-pub here : (f : FinMap id_cmp Instance) (i : IntentId) (x : Instance) → map.get (map.insert f i x) i ≡ Some x
-here f i x = get-insert id_total f i x i ∙ ap (λ b. cond b (Some x) (map.get f i)) (ap is_eq (tied_itself id_total i))
 
 -- ---- an instance that stands at a read
 pub record StandsAtRead (d : Deployment) (p : PlainState) (i : IntentId) (a : Instance) : Type 0 where
@@ -152,13 +129,52 @@ module _ (d : Deployment) (p q : PlainState) (i : IntentId) (a : Instance) (v : 
       ∙ ap (λ (f' : FinMap id_cmp Instance). Some (record p { made = f' })) (commutes p.made i (root_of (suc t)) (answered a v) (new_instance f w None) other)
       ∙ ap (λ r. Some (with_instance r i (answered a v))) s.leads
 
+  -- nor is a transaction its own, as it stands at no begin; and another's goes the same way
+  pub runs_apart : (j : IntentId) (z : Instance) (rest : List Answer) (n : Items) → Runs d p j z rest n → i ≡ j → ⊥
+  runs_apart j z rest n h same =
+      let own : z ≡ a = same_some (sym h.made ∙ ap (map.get p.made) (sym same) ∙ stands.made) in
+      let c : kinds.Inside ≡ kinds.Read = ap (kind_of i) (sym h.begins ∙ ap (effect_of d) own) ∙ stands.kind in cc
+
+  runs_there : (j : IntentId) (z : Instance) (rest : List Answer) (n : Items) → Runs d p j z rest n → Runs d (with_instance p i (answered a v)) j z rest n
+  runs_there j z rest n h = record { made = elsewhere p.made i j (answered a v) (runs_apart j z rest n h) ∙ h.made; open_still = h.open_still; begins = h.begins; leads = h.leads; few = h.few }
+
+  set_there : (j : IntentId) (z : Instance) (m : Items) → (i ≡ j → ⊥) → q ≡ with_items m (map.insert p.made j z) → with_instance q i (answered a v) ≡ with_items m (map.insert (map.insert p.made i (answered a v)) j z)
+  set_there j z m other is = ap (λ r. with_instance r i (answered a v)) is ∙ ap (with_items m) (sym (commutes p.made i j (answered a v) z other))
+
+  piece_there : (j : IntentId) → Commits d p j q → Commits d (with_instance p i (answered a v)) j (with_instance q i (answered a v))
+  piece_there j h = record {
+    instance = h.instance;
+    rest = h.rest;
+    items = h.items;
+    runs = runs_there j h.instance h.rest h.items h.runs;
+    ends = h.ends;
+    is = set_there j (answered (inside h.instance h.rest) answer.Done) h.items (runs_apart j h.instance h.rest h.items h.runs) h.is;
+  }
+
+  holder_there : (j : IntentId) (o : Option IntentId) → is_holder p j o ≡ true → is_holder (with_instance p i (answered a v)) j o ≡ true
+  holder_there j None h = h
+  holder_there j (Some k) h = ap (λ b. b && is_older k j) (made_set p.made i (answered a v) (λ l u. is_some u ≡ is_some (map.get p.made l)) (sym (ap is_some stands.made)) (λ l. refl) k) ∙ h
+
+  try_there : (j : IntentId) (place : Place) (holder : Option IntentId) → Aborts d p j place holder q → Aborts d (with_instance p i (answered a v)) j place holder (with_instance q i (answered a v))
+  try_there j place holder h = record {
+    instance = h.instance;
+    rest = h.rest;
+    items = h.items;
+    runs = runs_there j h.instance h.rest h.items h.runs;
+    stands = h.stands;
+    older = holder_there j holder h.older;
+    last = h.last;
+    falls = h.falls;
+    is = set_there j (answered_all (inside h.instance h.rest) h.last) p.items (runs_apart j h.instance h.rest h.items h.runs) h.is;
+  }
+
   passes_did : (e : Entry) → after d p e ≡ Some q → Did d p e q → after d (with_instance p i (answered a v)) e ≡ Some (with_instance q i (answered a v))
   passes_did (Start zero f w) h s = cc
   passes_did (Start (suc t) f w) h s = start_there t f w s
   passes_did (Read j k) h s = enabled_read d (with_instance p i (answered a v)) j s.instance (made_there j kinds.Read s) s.open_still (free_there j kinds.Read s) k s.kind ∙ ap (λ r. Some r) (leads_there j kinds.Read s)
   passes_did (Step j) h s = enabled_step d (with_instance p i (answered a v)) j s.instance (made_there j kinds.Change s) s.open_still (free_there j kinds.Change s) s.kind ∙ ap (λ r. Some r) (leads_there j kinds.Change s)
-  passes_did (Tx j) h s = cc
-  passes_did (Try j place holder) h s = cc
+  passes_did (Tx j) h s = committed d j (with_instance p i (answered a v)) (with_instance q i (answered a v)) (piece_there j s)
+  passes_did (Try j place holder) h s = aborted_so d j place holder (with_instance p i (answered a v)) (with_instance q i (answered a v)) (try_there j place holder s)
 
   pub passes : (e : Entry) → after d p e ≡ Some q → after d (with_instance p i (answered a v)) e ≡ Some (with_instance q i (answered a v))
   passes e h = passes_did e h (did d p e q h)

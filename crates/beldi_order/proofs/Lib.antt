@@ -1,11 +1,16 @@
+pub mod Beside
 pub mod Called
 pub mod Entries
+pub mod Foreign
 pub mod Growth
 pub mod Guard
 pub mod InOrder
 pub mod Late
 pub mod Locks
+pub mod Maps
 pub mod Nulls
 pub mod Operations
+pub mod Pieces
 pub mod Places
 pub mod Sanes
+pub mod Went

@@ -22,13 +22,16 @@ use Rattle.beldi_plain.specs.Item.{Item, item_cmp, item_total}
 use Rattle.beldi_plain.specs.Legal.{run_from}
 use Rattle.beldi_plain.specs.Operation as operation
 use Rattle.beldi_plain.specs.Operation.{Operation, OnItem, op_of, item_in, write, lock, free, answer_after}
-use Rattle.beldi_plain.specs.Plain.{Instance, PlainState, nothing, new_instance, after, step_by, operated, with_instance, answered, ended, answer_caller, with_callee, callee_of, calls_at, waits_at, effect_of, item_of, value_at}
+use Rattle.beldi_plain.specs.Plain.{Instance, PlainState, nothing, new_instance, step_by, operated, with_instance, answered, ended, answer_caller, with_callee, callee_of, calls_at, waits_at, effect_of, item_of, value_at}
+use Rattle.beldi_plain.specs.Entries.{after}
 use Rattle.beldi_plain.specs.declared.kind.Kind.{Kind}
 use Rattle.beldi_plain.specs.declared.kind.Kind.TheVariants as kinds
 use Rattle.beldi_order.specs.Guard.{StandsAtOperation, LegalIsGuarded}
-use Rattle.beldi_order.proofs.Entries.{same_some, made_set, still_made, did, Did, Stepped, read_is, absent, runs_on}
+use Rattle.beldi_order.proofs.Entries.{did, Did, Stepped, read_is, absent, runs_on}
+use Rattle.beldi_order.proofs.Maps.{same_some, made_set, still_made, here}
 use Rattle.beldi_order.proofs.Guard.{guarded_second}
-use Rattle.beldi_order.proofs.Late.{here}
+use Rattle.beldi_order.specs.Inside.{inside}
+use Rattle.beldi_order.proofs.Pieces.{in_tx, Whole, whole_piece, whole_try, whole_keeps}
 use Rattle.beldi_order.proofs.Operations.{held_pushed, holds_answered, holds_set, item_same}
 use Rattle.beldi_order.proofs.Sanes.{waited, still_there, answers_nobody, answers_waiter, run_is_sane}
 use Rattle.beldi_order.specs.Sane.{Sane}
@@ -41,8 +44,27 @@ operation_step p id q (effect.Async f v) o h = cc
 operation_step p id q (effect.Return u) o h = cc
 operation_step p id q e o h = ap (operated p id q) h
 
+either_way : (c b : Bool) → cond c b b ≡ b
+either_way true b = refl
+either_way false b = refl
+
 same_item : (x y : Item) → x ≡ y → is_eq (item_cmp x y) ≡ true
 same_item x y h = subst (λ z. is_eq (item_cmp x z) ≡ true) h (ap is_eq (tied_itself item_total x))
+
+-- no effect of a transaction moves a lock
+tx_holds : (e : Effect) (x : Item) (f : ℕ) (b : Bool) → in_tx e ≡ true → held_if x f (op_of e) b ≡ b
+tx_holds (effect.Write t k v) x f b h = either_way (is_eq (item_cmp (record { func = f; table = t; key = k }) x)) b
+tx_holds (effect.CondWrite t k r o v) x f b h = either_way (is_eq (item_cmp (record { func = f; table = t; key = k }) x)) b
+tx_holds (effect.Lock t k) x f b h = cc
+tx_holds (effect.Unlock t k) x f b h = cc
+tx_holds e x f b h = refl
+
+pub whole_holds : (d : Deployment) (x : Item) (p : PlainState) (id : IntentId) (r : PlainState) → Whole d p id r → (j : IntentId) → holds d x (map.get r.made j) ≡ holds d x (map.get p.made j)
+whole_holds d x p id r w j =
+    let z = answered (inside w.instance w.rest) answer.Done in
+    ap (λ (s : PlainState). holds d x (map.get s.made j)) w.is
+    ∙ holds_set d x p.made id z (ap (holds d x) w.made ∙ sym (whole_keeps d p id r w (λ y. holds d x (Some y) ≡ holds d x (Some w.instance))
+    (λ y a tx same. held_pushed d x y.func y.args (is_some y.within) [] y.answers a false ∙ tx_holds (effect_of d y) x y.func (holds d x (Some y)) tx ∙ same) refl)) j
 
 -- an instance that stands at an operation on an item
 abbrev At : Deployment → Instance → Item → Operation → OnItem → Type 0
@@ -122,8 +144,8 @@ module _ (d : Deployment) (x : Item) (i : IntentId) where
   entry_keeps p r (Start t f w) sane s never = subst (λ (z : PlainState). Kept p i (map.get z.made i)) s.leads (λ same h. holds_set d x p.made (root_of t) (new_instance f w None) (ap (holds d x) s.absent) i ∙ h)
   entry_keeps p r (Read j k) sane s never = stepped_keeps p j kinds.Read r s sane (λ same on h. let c = sym (ap op_of (read_is j (effect_of d s.instance) s.kind).2) ∙ h.0 in cc)
   entry_keeps p r (Step j) sane s never = stepped_keeps p j kinds.Change r s sane (λ same on h. never s.instance on (ap Step same) (ap (map.get p.made) (sym same) ∙ s.made) h)
-  entry_keeps p r (Tx j) sane s never = absurd s
-  entry_keeps p r (Try j place holder) sane s never = absurd s
+  entry_keeps p r (Tx j) sane s never = λ same h. whole_holds d x p j r (whole_piece d p j r s) i ∙ h
+  entry_keeps p r (Try j place holder) sane s never = λ same h. whole_holds d x p j r (whole_try d p j place holder r s) i ∙ h
 
   -- entries without it
   run_keeps : (done es : List Entry) (p r : PlainState) → run_from d nothing done ≡ Some p → run_from d p es ≡ Some r

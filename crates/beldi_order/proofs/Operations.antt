@@ -18,7 +18,7 @@ use Rattle.beldi_plain.specs.Item.{Item, item_cmp, item_total, item_exact}
 use Rattle.beldi_plain.specs.Holds.{held_if, held_along, holds, holds_as}
 use Rattle.beldi_plain.specs.Operation.{op_of, or_old, set_if, set_item}
 use Rattle.beldi_plain.specs.Plain.{Instance, PlainState, answered, effect_of}
-use Rattle.beldi_order.proofs.Entries.{made_set}
+use Rattle.beldi_order.proofs.Maps.{made_set}
 
 pub item_same : (x y : Item) → is_eq (item_cmp x y) ≡ true → x ≡ y
 item_same x y h = item_exact x y ((Equal-is (item_cmp x y)).0 h)

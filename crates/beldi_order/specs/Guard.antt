@@ -7,7 +7,7 @@ use Rattle.beldi_lang.specs.declared.effect.Answer.{Answer}
 use Rattle.beldi_book.specs.Order.{linear}
 use Rattle.beldi_book.specs.declared.entry.Entry.{Entry}
 use Rattle.beldi_book.specs.declared.entry.Entry.TheVariants.{Step}
-use Rattle.beldi_plain.specs.Guard.{IsGuarded, actor, touched_by}
+use Rattle.beldi_plain.specs.Guard.{IsGuarded, actor, Touches}
 use Rattle.beldi_plain.specs.Item.{Item}
 use Rattle.beldi_plain.specs.Legal.{IsLegal, run_from}
 use Rattle.beldi_plain.specs.Operation.{Operation, OnItem, op_of, item_in, lock, free}
@@ -38,12 +38,12 @@ pub record StandsAtOperation (d : Deployment) (es : List Entry) (i : IntentId) (
   pub does : on.does ≡ o
 
 -- after these entries the entry touches the item
-abbrev pub Touches : Deployment → List Entry → Entry → Item → Type 0
-Touches d es e x = (p : PlainState) × (run_from d nothing es ≡ Some p) × (touched_by d (map.get p.made (actor e)) ≡ Some x)
+abbrev pub TouchesAfter : Deployment → List Entry → Entry → Item → Type 0
+TouchesAfter d es e x = (p : PlainState) × (run_from d nothing es ≡ Some p) × Touches d p e x
 
 -- From the step in which an instance locks an item to the one in which it unlocks it, no entry of another instance touches it.
 abbrev pub LegalIsGuarded : Type 0
 LegalIsGuarded = (d : Deployment) (book : List Entry) → IsLegal d book → (i : IntentId) (x : Item) (before between rest : List Entry) (e : Entry)
     → linear book ≡ before ++ Step i ∷ (between ++ e ∷ rest) → StandsAtOperation d before i x lock
     → ((some more : List Entry) → between ≡ some ++ Step i ∷ more → StandsAtOperation d (before ++ Step i ∷ some) i x free → ⊥)
-    → Touches d (before ++ Step i ∷ between) e x → actor e ≡ i
+    → TouchesAfter d (before ++ Step i ∷ between) e x → actor e ≡ i

@@ -13,7 +13,8 @@ use Rattle.beldi_book.specs.Order.{seen_of, changes_of, count_changes, by_change
 use Rattle.beldi_plain.specs.Guard.{IsFree, IsGuarded}
 use Rattle.beldi_plain.specs.Holds.{holds}
 use Rattle.beldi_plain.specs.Item.{Item}
-use Rattle.beldi_plain.specs.Plain.{Instance, PlainState, nothing, after, with_instance, answered, effect_of, item_of, value_at}
+use Rattle.beldi_plain.specs.Plain.{Instance, PlainState, nothing, with_instance, answered, effect_of, item_of, value_at}
+use Rattle.beldi_plain.specs.Entries.{after}
 use Rattle.beldi_plain.specs.Legal.{run_from, run_of}
 
 -- ---- the linear order, in its own words

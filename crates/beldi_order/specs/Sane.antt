@@ -1,66 +1,72 @@
 -- What every state of a legal book is: each instance went as its body wants.
-use Rattle.std.specs.Prelude.{◌≡◌, ℕ, Bool, ◌≤◌, ◌<◌, true, false, List, take, length, slice_get, is_some, Option, Some, None}
+use Rattle.std.specs.Prelude.{◌≡◌, ℕ, Bool, ◌≤◌, ◌<◌, true, false, List, length, slice_get, is_some, Option, Some, None}
 use Rattle.std.specs.Option.{option_map}
 use Rattle.std.specs.FinMap as map
-use Rattle.beldi_value.specs.Id.{root_of, child_of}
+use Rattle.beldi_value.specs.Id.{is_older, root_of, child_of}
 use Rattle.beldi_value.specs.declared.id.IntentId.{IntentId}
+use Rattle.beldi_value.specs.declared.outcome.Cause.{Cause}
 use Rattle.beldi_value.specs.declared.outcome.Outcome.{Outcome}
+use Rattle.beldi_value.specs.declared.place.Place.{Place}
+use Rattle.beldi_value.specs.declared.place.TxId.{TxId}
 use Rattle.beldi_tree.specs.declared.deployment.Deployment.{Deployment}
 use Rattle.beldi_lang.specs.declared.effect.Answer.{Answer}
 use Rattle.beldi_value.specs.declared.value.Value as value
 use Rattle.beldi_value.specs.declared.value.Value.TheVariants as values
-use Rattle.beldi_lang.specs.declared.effect.Answer.TheVariants.{Value, Done}
+use Rattle.beldi_lang.specs.declared.effect.Answer.TheVariants.{Value, Done, Aborted}
 use Rattle.beldi_lang.specs.declared.effect.Effect.{Effect}
-use Rattle.beldi_lang.specs.declared.effect.Effect.TheVariants.{Read, Call, Async, Return}
+use Rattle.beldi_lang.specs.declared.effect.Effect.TheVariants.{Read, Write, CondWrite, Lock, Unlock, Call, Async, Begin, End, Abort, Return}
 use Rattle.beldi_lang.specs.Callee.{answer_of}
-use Rattle.beldi_lang.specs.Wants.{wants}
 use Rattle.beldi_book.specs.declared.entry.Entry.{Entry}
-use Rattle.beldi_plain.specs.Operation.{Operation, OnItem, op_of, write, cond, lock, free}
-use Rattle.beldi_plain.specs.Plain.{Instance, PlainState, effect_of}
+use Rattle.beldi_plain.specs.Plain.{Instance, PlainState, effect_of, effect_before}
 use Rattle.beldi_plain.specs.Legal.{run_of}
+use Rattle.beldi_order.specs.Txs.{tx_at, txs_after}
 
--- the effect that an instance had at a step, from 0
-abbrev pub effect_before : Deployment → Instance → ℕ → Effect
-effect_before d q n = wants d q.func q.args (is_some q.within) (take n q.answers)
-
--- the answer is one to the operation: the truth of a test, and else that it was done
-abbrev pub Answers : Operation → Answer → Type 0
-Answers (write v) Done = Unit {0}
-Answers (cond r o v) (Value (values.Bool b)) = Unit {0}
-Answers lock Done = Unit {0}
-Answers free Done = Unit {0}
-Answers o a = ⊥
-
-abbrev pub OpAnswers : Option OnItem → Answer → Type 0
-OpAnswers None a = ⊥
-OpAnswers (Some o) a = Answers o.does a
-
--- .. to a call: how its callee ended
+-- an answer to a call: how its callee ended
 abbrev pub CallAnswers : Answer → Type 0
 CallAnswers Done = ⊥
 CallAnswers a = Unit {0}
 
--- the answer is one to the effect: the value of a read, how the callee of a call ended, that a call was made that nobody waits for,
--- or else that of an operation on an item. The other effects have none.
-abbrev pub IsAnswerTo : Effect → Answer → Type 0
-IsAnswerTo (Read t k) (Value v) = Unit {0}
-IsAnswerTo (Call f v) a = CallAnswers a
-IsAnswerTo (Async f v) Done = Unit {0}
-IsAnswerTo e a = OpAnswers (op_of e) a
+-- ---- answers to effects, by the transaction that they stand in
+-- inside, an operation may die, of an older holder
+pub record IsDeath (p : Place) (t : TxId) (c : Cause) : Type 0 where
+  pub holder : IntentId
+  pub cause : c ≡ record { place = p; holder = Some holder }
+  pub older : is_older holder t.intent ≡ true
+
+-- the answer is one to the effect
+abbrev pub IsAnswer : Place → Option TxId → Effect → Answer → Type 0
+IsAnswer p t (Read b k) (Value v) = Unit {0}
+IsAnswer p t (Write b k v) Done = Unit {0}
+IsAnswer p t (CondWrite b k r o v) (Value (values.Bool w)) = Unit {0}
+IsAnswer p None (Lock b k) Done = Unit {0}
+IsAnswer p None (Unlock b k) Done = Unit {0}
+IsAnswer p (Some t) (Read b k) (Aborted c) = IsDeath p t c
+IsAnswer p (Some t) (Write b k v) (Aborted c) = IsDeath p t c
+IsAnswer p (Some t) (CondWrite b k r o v) (Aborted c) = IsDeath p t c
+IsAnswer p t (Call f v) a = CallAnswers a
+IsAnswer p None (Async f v) Done = Unit {0}
+IsAnswer p t Begin Done = Unit {0}
+IsAnswer p t (End c) Done = Unit {0}
+IsAnswer p t Abort (Aborted c) = c ≡ record { place = p; holder = None }
+IsAnswer p t e a = ⊥
+
+-- what was answered was an effect that is answered so, where it stands
+abbrev pub WentSo : Deployment → IntentId → Instance → Type 0
+WentSo d id q = (n : ℕ) (a : Answer) → slice_get q.answers n ≡ Some a → IsAnswer (record { intent = id; step = n }) (tx_at d id q n) (effect_before d q n) a
 
 -- an instance that went as its body wants
-pub record SaneInstance (d : Deployment) (q : Instance) : Type 0 where
-  -- what was answered was an effect that is answered so
-  pub past : (n : ℕ) (a : Answer) → slice_get q.answers n ≡ Some a → IsAnswerTo (effect_before d q n) a
+pub record SaneInstance (d : Deployment) (id : IntentId) (q : Instance) : Type 0 where
+  pub past : WentSo d id q
   -- an outcome is there only where the body returns it
   pub over : (o : Outcome) → q.outcome ≡ Some o → effect_of d q ≡ Return o
-  -- it was called in no transaction yet
+  -- it was called in no transaction yet, and each of its own has ended
   pub outside : q.within ≡ None
+  pub ended : (txs_after d q q.answers).begun ≡ None
 
 -- what is at an id, if anything, is sane
-abbrev pub SaneAt : Deployment → Option Instance → Type 0
-SaneAt d None = Unit {0}
-SaneAt d (Some q) = SaneInstance d q
+abbrev pub SaneAt : Deployment → IntentId → Option Instance → Type 0
+SaneAt d id None = Unit {0}
+SaneAt d id (Some q) = SaneInstance d id q
 
 -- the effect of a call, whose caller waits or not; and how it is answered, by the outcome of the callee
 abbrev pub call_of : Bool → ℕ → value.Value → Effect
@@ -86,7 +92,7 @@ CalledBy d i (Some q) n j = IsCalled d i q n j
 
 pub record Sane (d : Deployment) (p : PlainState) : Type 0 where
   -- every instance that was made is
-  pub each : (id : IntentId) → SaneAt d (map.get p.made id)
+  pub each : (id : IntentId) → SaneAt d id (map.get p.made id)
   -- what has an id of a callee was called there
   pub called : (i : IntentId) (n : ℕ) (j : Instance) → map.get p.made (child_of i n) ≡ Some j → CalledBy d i (map.get p.made i) n j
   -- and a call that was answered has its callee

@@ -1,4 +1,5 @@
 // The laws of the linear order, and of legal books.
+ghost use Rattle.beldi_order.specs.Inside.{PiecesAreFolds, FoldsReadTheirItems, PiecesTouchTheirItems, EntriesTouchWhatTheyChange, OthersLeaveTransactions};
 ghost use Rattle.beldi_order.specs.Laws.{LinearIsInOrder, NullIsAbsent, ChangesComeLast, LateReadsBelong};
 ghost use Rattle.beldi_order.specs.Guard.{LateReadsLeaveGuards, LegalIsGuarded};
 ghost use Rattle.beldi_order.specs.Sane.{LegalIsSane};
@@ -40,4 +41,32 @@ pub fn late_reads_leave_guards()
 /// entry of another instance touches the item. A read touches the item that it reads, at its place in that order.
 pub fn legal_is_guarded()
     ensures { LegalIsGuarded }
+{}
+
+/// A transaction that commits, and a try, are what the answers of their instance lead to: the entry is enabled just where they
+/// lead from the instance's begin to such an end, and leaves that.
+pub fn pieces_are_folds()
+    ensures { PiecesAreFolds }
+{}
+
+/// What the answers of a transaction lead to goes by the values alone of the items that they touch, and leaves all items that they
+/// do not write.
+pub fn folds_read_their_items()
+    ensures { FoldsReadTheirItems }
+{}
+
+/// A transaction touches an item only by an answer that was not aborted.
+pub fn pieces_touch_their_items()
+    ensures { PiecesTouchTheirItems }
+{}
+
+/// An entry changes no item that it does not touch.
+pub fn entries_touch_what_they_change()
+    ensures { EntriesTouchWhatTheyChange }
+{}
+
+/// A transaction that runs goes on, with the same answers, from the state after an entry of another instance, where that leaves the
+/// values of the items that it has touched.
+pub fn others_leave_transactions()
+    ensures { OthersLeaveTransactions }
 {}

@@ -1,6 +1,7 @@
 //! What every run of the plain machine keeps, and how a legal book grows: by a change at its end, or by a read that belongs
 //! earlier. It has no code. It stands on the plain machine. Its definitions: `specs/Laws`, `specs/Sane` (instances that
-//! went as their bodies want), `specs/Grown` (instances that go on), and `specs/Guard` (what the guard of a legal book says in
+//! went as their bodies want), `specs/Grown` (instances that go on), `specs/Txs` (the transactions of an
+//! instance), `specs/Inside` (transactions as folds over answers), and `specs/Guard` (what the guard of a legal book says in
 //! words, and that late reads leave it).
 //!
 //! Proved:
@@ -17,6 +18,11 @@
 //!   outcome is what the call was answered (`legal_is_sane`).
 //! - From the step of a legal book in which an instance locks an item to the one in which it unlocks it, no entry of another
 //!   touches the item (`legal_is_guarded`).
+//! - A transaction that commits, and a try, are what the answers of their instance lead to, each the plain one by the items
+//!   that those before it leave (`pieces_are_folds`). They go by the items alone that they touch (`folds_read_their_items`), and those
+//!   are what the entry touches (`pieces_touch_their_items`).
+//! - An entry changes no item that it does not touch (`entries_touch_what_they_change`), and a transaction that runs goes on
+//!   past an entry of another that leaves its items (`others_leave_transactions`).
 //! - Entries that are guarded by locks stay so where a read that belongs earlier is answered before them
 //!   (`late_reads_leave_guards`).
 #![tactic(auto)]
@@ -24,6 +30,7 @@
 mod laws;
 
 pub use laws::{
-    changes_come_last, late_reads_belong, late_reads_leave_guards, legal_is_guarded, legal_is_sane,
-    linear_is_in_order, null_is_absent,
+    changes_come_last, entries_touch_what_they_change, folds_read_their_items, late_reads_belong,
+    late_reads_leave_guards, legal_is_guarded, legal_is_sane, linear_is_in_order, null_is_absent,
+    others_leave_transactions, pieces_are_folds, pieces_touch_their_items,
 };
