@@ -33,7 +33,10 @@ use Rattle.beldi_order.proofs.Operations.{id_same, item_same}
 use Rattle.beldi_step.specs.Run.{place_of}
 use Rattle.beldi_known.specs.Rows.{LogMatches, CellMatches, CallMatches}
 use Rattle.beldi_known.specs.Contents.{head_key, content_of, shadow_key, shadow_of, lockset_key}
-use Rattle.beldi_known.specs.Known.{Known, txs_after, tx_now, tx_eq, touched, is_item, owed_read, shadow_by, begins_at, asks_lock, is_aborted}
+use Rattle.beldi_plain.specs.Piece.{is_aborted}
+use Rattle.beldi_known.specs.Known.{Known, tx_eq, is_item, owed_read, shadow_by, begins_at, asks_lock}
+use Rattle.beldi_order.specs.Txs.{txs_after, tx_now}
+use Rattle.beldi_plain.specs.Operation.{touched}
 use Rattle.beldi_known.specs.Matches.{RowMatches, Matches, ItemMatches, ShadowMatches, TxsMatch}
 use Rattle.beldi_known.specs.Acts.{with_note}
 use Rattle.beldi_known.specs.Frame.{AnswersOne, row_added, LockedOut, lock_in}

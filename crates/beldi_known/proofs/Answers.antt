@@ -5,13 +5,10 @@ use Rattle.std.proofs.lemmas.Option.{slice_get_past}
 use Rattle.std.proofs.Math.Seq.{take-append_seam}
 use lib.Dec.{eqb-suc-suc, eqb-suc-zero, eqb-zero-suc}
 use Rattle.beldi_lang.specs.declared.effect.Answer.{Answer}
+use Rattle.beldi_order.proofs.Called.{get_after}
 
 pub true_false : true ≡ false → ⊥
 true_false h = cc
-
-pub get_after : (xs bs : List Answer) → slice_get (xs ++ bs) (length xs) ≡ slice_get bs 0
-get_after [] bs = refl
-get_after (a ∷ xs) bs = get_after xs bs
 
 -- a function of the answers before a step and of the answer there, after one was put at the end
 pub pushed_at : {X : Type 0} (f : List Answer → Option Answer → X) → ((ts us : List Answer) → f ts None ≡ f us None) → (xs : List Answer) (a : Answer) (n : ℕ)

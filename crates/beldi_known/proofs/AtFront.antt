@@ -15,7 +15,9 @@ use Rattle.beldi_plain.specs.Plain.{Instance, effect_of}
 use Rattle.beldi_step.specs.Run.{place_of}
 use Rattle.beldi_known.specs.Rows.{LogMatches}
 use Rattle.beldi_known.specs.Contents.{content_of, shadow_of}
-use Rattle.beldi_known.specs.Known.{Known, effect_after, at_step, txs_after, tx_after, tx_now, touched, is_item, read_at, decision_by, value_or, row_at, owed_value, note_by, ahead_by, note_or, owed_note, shadow_by, owed_shadow, commit_in, is_decided, is_mark, last_step}
+use Rattle.beldi_known.specs.Known.{Known, at_step, is_item, read_at, decision_by, value_or, row_at, owed_value, note_by, ahead_by, note_or, owed_note, shadow_by, owed_shadow, commit_in, is_decided, is_mark, last_step}
+use Rattle.beldi_order.specs.Txs.{effect_after, txs_after, tx_after, tx_now}
+use Rattle.beldi_plain.specs.Operation.{touched}
 use Rattle.beldi_known.specs.Owed.{value_for}
 use Rattle.beldi_known.specs.Matches.{Matches}
 use Rattle.beldi_known.proofs.Answers.{true_false}

@@ -28,19 +28,21 @@ use Rattle.beldi_row.specs.Table.{Rows}
 use Rattle.beldi_daal.specs.Content.{Content, content_in}
 use Rattle.beldi_readlog.specs.ReadLog.{log_key}
 use Rattle.beldi_plain.specs.Item.{Item, item_total}
-use Rattle.beldi_plain.specs.Operation.{OnItem, op_of, item_in}
-use Rattle.beldi_plain.specs.Plain.{Instance, effect_of}
-use Rattle.beldi_order.specs.Sane.{effect_before}
+use Rattle.beldi_plain.specs.Operation.{OnItem, op_of, item_in, touched}
+use Rattle.beldi_plain.specs.Plain.{Instance, effect_of, effect_before}
 use Rattle.beldi_step.specs.Run.{place_of}
 use Rattle.beldi_known.specs.Owed.{noted as noted_op, note_of, value_for}
 use Rattle.beldi_known.specs.Rows.{LogMatches}
 use Rattle.beldi_known.specs.Contents.{content_of, shadow_key, shadow_of, lockset_key}
-use Rattle.beldi_known.specs.Known.{Known, effect_after, along, at_step, is_at, txs_by, txs_after, end_of, tx_after, tx_now, tx_eq, is_tx, touched, is_item, write_op, read_at, decision_by, value_or, row_at, owed_value, lock_note, note_by, answered_note, ahead_by, note_or, owed_note, shadow_by, owed_shadow, begins_at, asks_lock, owed_lockset, is_mark, is_decided, commit_in, last_step}
+use Rattle.beldi_known.specs.Known.{Known, at_step, tx_eq, is_tx, is_item, write_op, read_at, decision_by, value_or, row_at, owed_value, lock_note, note_by, answered_note, ahead_by, note_or, owed_note, shadow_by, owed_shadow, begins_at, asks_lock, owed_lockset, is_mark, is_decided, commit_in, last_step}
+use Rattle.beldi_order.specs.Txs.{effect_after, along, is_at, txs_by, txs_after, end_of, tx_after, tx_now}
 use Rattle.beldi_known.specs.Matches.{Matches, LocksetMatches, lockset_ahead}
-use Rattle.beldi_known.specs.Sane.{SaneInstance, IsAnswer, IsDeath}
+use Rattle.beldi_known.specs.Sane.{SaneInstance}
+use Rattle.beldi_order.specs.Sane.{IsAnswer, IsDeath}
 use Rattle.beldi_known.specs.Acts.{Told, noted, noted_or, lock_or, lock_on, put_lockset, keep_value, lock_answer}
 use Rattle.beldi_known.proofs.Answers.{take_front, get_next, true_false}
-use Rattle.beldi_known.proofs.Frame.{along_append, ended_stays, txs_pushed, begins}
+use Rattle.beldi_known.proofs.Frame.{along_append, ended_stays, begins}
+use Rattle.beldi_order.proofs.Went.{txs_pushed}
 
 or_none : (o : Option Value) → value_or o None ≡ o
 or_none None = refl

@@ -17,10 +17,11 @@ use Rattle.beldi_row.specs.Table.{Rows}
 use Rattle.beldi_row.specs.declared.row.Row.{Row}
 use Rattle.beldi_row.specs.declared.row.Row.TheVariants as rows
 use Rattle.beldi_invokelog.specs.InvokeLog.{invoke_key, call_at, call_in, result_in}
-use Rattle.beldi_plain.specs.Plain.{Instance}
-use Rattle.beldi_order.specs.Sane.{IsCalled, CalledBy, effect_before, call_of, answer_given}
+use Rattle.beldi_plain.specs.Plain.{Instance, effect_before}
+use Rattle.beldi_order.specs.Sane.{IsCalled, CalledBy, call_of, answer_given}
 use Rattle.beldi_step.specs.Run.{is_waited, place_of}
-use Rattle.beldi_known.specs.Known.{Known, effect_after, owed_call}
+use Rattle.beldi_known.specs.Known.{Known, owed_call}
+use Rattle.beldi_order.specs.Txs.{effect_after}
 use Rattle.beldi_known.specs.Matches.{Matches}
 use Rattle.beldi_known.specs.Owed.{called_by, result_of}
 use Rattle.beldi_known.specs.Rows.{CallMatches}

@@ -22,10 +22,11 @@ use Rattle.beldi_row.specs.declared.row.Row.TheVariants as rows
 use Rattle.beldi_invokelog.specs.InvokeLog.{invoke_key}
 use Rattle.beldi_plain.specs.Item.{Item}
 use Rattle.beldi_plain.specs.Plain.{Instance, new_instance, ended, effect_of, callee_of, calls_at}
-use Rattle.beldi_order.proofs.Entries.{same_some}
-use Rattle.beldi_order.proofs.Late.{elsewhere, here}
+use Rattle.beldi_order.proofs.Maps.{same_some, elsewhere, here}
 use Rattle.beldi_step.specs.Run.{is_waited, place_of}
-use Rattle.beldi_known.specs.Known.{Known, at_once, owed_call, answered_note, ahead_note, note_or, is_decided, last_step, tx_now, touched, is_item, begins_at}
+use Rattle.beldi_known.specs.Known.{Known, at_once, owed_call, answered_note, ahead_note, note_or, is_decided, last_step, is_item, begins_at}
+use Rattle.beldi_order.specs.Txs.{tx_now}
+use Rattle.beldi_plain.specs.Operation.{touched}
 use Rattle.beldi_known.specs.Matches.{Matches, is_open}
 use Rattle.beldi_known.specs.Owed.{called_by, result_of}
 use Rattle.beldi_known.specs.Rows.{IntentMatches, CalleeMatches, CallMatches}

@@ -24,13 +24,15 @@ use Rattle.beldi_row.proofs.Logs.{place_self, place_same}
 use Rattle.beldi_daal.specs.Content.{Content}
 use Rattle.beldi_readlog.specs.ReadLog.{log_key}
 use Rattle.beldi_plain.specs.Item.{Item}
-use Rattle.beldi_plain.specs.Operation.{op_of}
+use Rattle.beldi_plain.specs.Operation.{op_of, touched}
 use Rattle.beldi_plain.specs.Holds.{held_if, holds}
 use Rattle.beldi_plain.specs.Plain.{Instance, effect_of}
 use Rattle.beldi_step.specs.Run.{place_of}
 use Rattle.beldi_known.specs.Rows.{LogMatches, CallMatches}
 use Rattle.beldi_known.specs.Contents.{is_owner, head_key, content_of, shadow_key, shadow_of}
-use Rattle.beldi_known.specs.Known.{Known, effect_after, is_at, txs_after, txs_by, end_of, tx_now, tx_after, is_tx, touched, is_item, owed_read, note_by, ahead_by, note_or, owed_note, shadow_by, begins_at, asks_lock, owed_lockset, is_aborted, is_on, got_before, got_by, ended_by, tx_end, commit_in, ended_at, is_decided, is_mark, last_step}
+use Rattle.beldi_plain.specs.Piece.{is_aborted}
+use Rattle.beldi_known.specs.Known.{Known, is_tx, is_item, owed_read, note_by, ahead_by, note_or, owed_note, shadow_by, begins_at, asks_lock, owed_lockset, is_on, got_before, got_by, ended_by, tx_end, commit_in, ended_at, is_decided, is_mark, last_step}
+use Rattle.beldi_order.specs.Txs.{effect_after, is_at, txs_after, txs_by, end_of, tx_now, tx_after}
 use Rattle.beldi_known.specs.Matches.{RowMatches, Matches, ItemMatches, ShadowMatches, TxsMatch, LocksetMatches, lockset_ahead, is_open}
 use Rattle.beldi_known.specs.Frame.{AnswersOne, row_added, LockedOut}
 use Rattle.beldi_known.proofs.Rows.{keys_set}

@@ -13,7 +13,8 @@ use Rattle.beldi_lang.specs.declared.effect.Effect.TheVariants as effect
 use Rattle.beldi_row.specs.declared.notes.Note.TheVariants as notes
 use Rattle.beldi_plain.specs.Item.{Item}
 use Rattle.beldi_plain.specs.Plain.{Instance, effect_of}
-use Rattle.beldi_known.specs.Known.{at_once, tx_now, end_of, row_at, owed_note, owed_shadow, lockset_of, got_by}
+use Rattle.beldi_known.specs.Known.{at_once, row_at, owed_note, owed_shadow, lockset_of, got_by}
+use Rattle.beldi_order.specs.Txs.{tx_now, end_of}
 
 -- function f(x) { table t; transaction { read v = t[""]; write t[""] = null; } aborted { } return null; }
 abbrev deployment : Deployment

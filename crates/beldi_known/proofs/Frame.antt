@@ -14,23 +14,22 @@ use Rattle.beldi_lang.specs.declared.effect.Effect.{Effect}
 use Rattle.beldi_lang.specs.declared.effect.Effect.TheVariants as effect
 use Rattle.beldi_row.specs.declared.notes.Note.{Note}
 use Rattle.beldi_plain.specs.Item.{Item}
-use Rattle.beldi_plain.specs.Operation.{op_of}
+use Rattle.beldi_plain.specs.Operation.{op_of, touched}
 use Rattle.beldi_plain.specs.Holds.{held_if, holds}
 use Rattle.beldi_plain.specs.Plain.{Instance, effect_of, answered}
 use Rattle.beldi_plain.specs.Executor.{answered_if}
 use Rattle.beldi_order.proofs.Operations.{held_pushed}
+use Rattle.beldi_order.proofs.Went.{along_pushed, txs_pushed}
 use Rattle.beldi_step.specs.Run.{place_of}
 use Rattle.beldi_known.specs.Frame.{AnswersOne, row_added, put}
 use Rattle.beldi_known.specs.Rows.{body_of}
 use Rattle.beldi_known.specs.Owed.{note_of, value_for}
-use Rattle.beldi_known.specs.Known.{effect_after, answer_at_once, once_if, once, at_once, along, at_step, Txs, none_begun, is_at, txs_by, txs_after, end_of, tx_after, tx_now, is_tx, touched, is_item, write_op, read_at, decision_by, value_or, row_at, lock_note, note_by, answered_note, shadow_by, shadow_at, asks_lock, lockset_of, is_aborted, is_on, got_before, commit_in, ended_at, moved}
+use Rattle.beldi_plain.specs.Piece.{is_aborted}
+use Rattle.beldi_known.specs.Known.{answer_at_once, once_if, once, at_once, at_step, is_tx, is_item, write_op, read_at, decision_by, value_or, row_at, lock_note, note_by, answered_note, shadow_by, shadow_at, asks_lock, lockset_of, is_on, got_before, commit_in, ended_at, moved}
+use Rattle.beldi_order.specs.Txs.{effect_after, along, Txs, none_begun, is_at, txs_by, txs_after, end_of, tx_after, tx_now}
 use Rattle.beldi_known.proofs.Answers.{pushed_at, none_at_end}
 
 -- ---- folds and steps, with an answer more
-pub along_pushed : {X : Type 0} (f : List Answer → Answer → X → X) (given rest : List Answer) (a : Answer) (x : X) → along f given (rest ++ a ∷ []) x ≡ f (given ++ rest) a (along f given rest x)
-along_pushed f given [] a x = ap (λ ts. f ts a x) (sym (append-nil given))
-along_pushed f given (b ∷ rest) a x = along_pushed f (given ++ b ∷ []) rest a (f given b x) ∙ ap (λ ts. f ts a (along f (given ++ b ∷ []) rest (f given b x))) (append_assoc given (b ∷ []) rest)
-
 pub step_pushed : {X : Type 0} (f : List Answer → Answer → Option X) (xs : List Answer) (a : Answer) (n : ℕ) → at_step f (take n (xs ++ a ∷ [])) (slice_get (xs ++ a ∷ []) n) ≡ (if n == length xs then f xs a else at_step f (take n xs) (slice_get xs n))
 step_pushed f xs a n = pushed_at (λ ts o. at_step f ts o) (λ ts us. refl) xs a n
 
@@ -81,9 +80,6 @@ fits_by (effect.End c) n s h = record {
     by_test b g true e = let k = h.before b (at_of b s.begun e) in absurd (omega (arith, g, k))
     by_test b g false e = h.fresh b (omega (arith, g))
 fits_by e n s h = later n s h
-
-pub txs_pushed : (d : Deployment) (q : Instance) (given : List Answer) (a : Answer) → txs_after d q (given ++ a ∷ []) ≡ txs_by (length given) (effect_after d q given) (txs_after d q given)
-txs_pushed d q given a = along_pushed (λ ts b s. txs_by (length ts) (effect_after d q ts) s) [] given a none_begun
 
 fits_along : (d : Deployment) (q : Instance) (given rest : List Answer) (s : Txs) → Fits (length given) s → Fits (length given + length rest) (along (λ ts a s. txs_by (length ts) (effect_after d q ts) s) given rest s)
 fits_along d q given [] s h = subst (λ n. Fits n s) (omega arith) h

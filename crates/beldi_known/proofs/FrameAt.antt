@@ -24,7 +24,9 @@ use Rattle.beldi_order.proofs.Operations.{id_same}
 use Rattle.beldi_step.specs.Run.{place_of, is_waited}
 use Rattle.beldi_known.specs.Rows.{IntentMatches}
 use Rattle.beldi_known.specs.Owed.{called_by}
-use Rattle.beldi_known.specs.Known.{Known, txs_after, tx_now, row_at, owed_value, owed_read, note_by, answered_note, ahead_by, ahead_note, note_or, owed_note, shadow_by, owed_shadow, asks_lock, owed_lockset, is_aborted, is_on, got_before, got_by, owed_call, tx_after, effect_after}
+use Rattle.beldi_plain.specs.Piece.{is_aborted}
+use Rattle.beldi_known.specs.Known.{Known, row_at, owed_value, owed_read, note_by, answered_note, ahead_by, ahead_note, note_or, owed_note, shadow_by, owed_shadow, asks_lock, owed_lockset, is_on, got_before, got_by, owed_call}
+use Rattle.beldi_order.specs.Txs.{txs_after, tx_now, tx_after, effect_after}
 use Rattle.beldi_known.specs.Frame.{AnswersOne, row_added, put, LockedOut}
 use Rattle.beldi_known.proofs.Instances.{intent_same, calls_moved, same_caller, same_callee}
 use Rattle.beldi_known.proofs.Answers.{true_false}

@@ -28,13 +28,15 @@ use Rattle.beldi_row.proofs.Gets.{key_self}
 use Rattle.beldi_daal.specs.Content.{Content}
 use Rattle.beldi_readlog.specs.ReadLog.{log_key}
 use Rattle.beldi_plain.specs.Item.{Item, item_cmp, item_total}
-use Rattle.beldi_plain.specs.Operation.{op_of}
+use Rattle.beldi_plain.specs.Operation.{op_of, touched}
 use Rattle.beldi_plain.specs.Holds.{held_if, holds}
 use Rattle.beldi_plain.specs.Plain.{Instance, effect_of}
 use Rattle.beldi_step.specs.Run.{place_of}
 use Rattle.beldi_known.specs.Rows.{LogMatches}
 use Rattle.beldi_known.specs.Contents.{is_owner}
-use Rattle.beldi_known.specs.Known.{Known, effect_after, txs_by, txs_after, Txs, tx_after, tx_now, touched, is_item, owed_value, owed_read, row_at, lock_note, note_by, ahead_by, note_or, owed_note, shadow_by, owed_shadow, begins_at, asks_lock, owed_lockset, is_aborted, got_by, ended_by, tx_end, commit_in, ended_at, is_decided, is_mark, last_step}
+use Rattle.beldi_plain.specs.Piece.{is_aborted}
+use Rattle.beldi_known.specs.Known.{Known, is_item, owed_value, owed_read, row_at, lock_note, note_by, ahead_by, note_or, owed_note, shadow_by, owed_shadow, begins_at, asks_lock, owed_lockset, got_by, ended_by, tx_end, commit_in, ended_at, is_decided, is_mark, last_step}
+use Rattle.beldi_order.specs.Txs.{effect_after, txs_by, txs_after, Txs, tx_after, tx_now}
 use Rattle.beldi_known.specs.Matches.{ItemMatches, TxsMatch, ShadowMatches, LocksetMatches, lockset_ahead, is_open}
 use Rattle.beldi_known.specs.Acts.{with_note}
 use Rattle.beldi_known.specs.Frame.{AnswersOne, row_added, LockedOut}

@@ -1,5 +1,5 @@
 -- What is known stays sane with an answer, and a run that is behind stays so with what takes no turn.
-use Rattle.std.proofs.Common.{◌≡◌, ◌⊎◌, inl, inr, ℕ, suc, zero, List, [], ◌∷◌, ◌++◌, length, take, Option, None, Some, refl, ap, sym, ◌∙◌, subst, append_assoc, append-nil}
+use Rattle.std.proofs.Common.{◌≡◌, ℕ, List, [], ◌∷◌, ◌++◌, length, take, Option, None, Some, refl, ap, sym, ◌∙◌, subst, append_assoc, append-nil}
 use Rattle.std.specs.Prelude.{slice_get}
 use Rattle.beldi_value.specs.declared.id.IntentId.{IntentId}
 use Rattle.beldi_value.specs.declared.outcome.Outcome.{Outcome}
@@ -11,34 +11,20 @@ use Rattle.beldi_lang.specs.declared.effect.Effect.{Effect}
 use Rattle.beldi_lang.specs.declared.effect.Effect.TheVariants as effect
 use Rattle.beldi_plain.specs.Plain.{Instance, effect_of, answered}
 use Rattle.beldi_plain.specs.Executor.{answered_if}
-use Rattle.beldi_order.proofs.Entries.{same_some}
+use Rattle.beldi_order.proofs.Maps.{same_some}
+use Rattle.beldi_order.proofs.Went.{went_pushed}
 use Rattle.beldi_step.specs.Run.{place_of}
-use Rattle.beldi_known.specs.Known.{effect_after, answer_at_once, once_if, once, tx_after, tx_now, and_once, run_once, run_on, moved, Prefix}
-use Rattle.beldi_known.specs.Sane.{IsAnswer, SaneInstance, Closed}
+use Rattle.beldi_known.specs.Known.{answer_at_once, once_if, once, and_once, run_once, run_on, moved, Prefix}
+use Rattle.beldi_order.specs.Txs.{effect_after, tx_after, tx_now}
+use Rattle.beldi_known.specs.Sane.{SaneInstance, Closed}
+use Rattle.beldi_order.specs.Sane.{IsAnswer}
 use Rattle.beldi_known.proofs.Answers.{take_front, get_next}
 
 -- ---- an answer more
-pushed_cases : (xs : List Answer) (a b : Answer) (n : ℕ) → slice_get (xs ++ a ∷ []) n ≡ Some b
-    → ((n ≡ length xs) × (take n (xs ++ a ∷ []) ≡ xs) × (b ≡ a)) ⊎ ((take n (xs ++ a ∷ []) ≡ take n xs) × (slice_get xs n ≡ Some b))
-pushed_cases [] a b zero h = inl (refl, refl, cc)
-pushed_cases [] a b (suc n) h = cc
-pushed_cases (c ∷ cs) a b zero h = inr (refl, h)
-pushed_cases (c ∷ cs) a b (suc n) h = elim (pushed_cases cs a b n h) [
-  | inl e ↦ inl (ap suc e.0, ap (λ ys. c ∷ ys) e.1, e.2)
-  | inr e ↦ inr (ap (λ ys. c ∷ ys) e.0, e.1)
-]
-
 pub sane_pushed : (d : Deployment) (id : IntentId) (q : Instance) (a : Answer) → q.outcome ≡ None → IsAnswer (place_of id (length q.answers)) (tx_now d id q) (effect_of d q) a → SaneInstance d id q → SaneInstance d id (answered q a)
-sane_pushed d id q a none is h = record {
-  past = λ n b g. elim (pushed_cases q.answers a b n g) [
-    | inl e ↦ subst (λ (z : ℕ). IsAnswer (place_of id z) (tx_after d id q (take n (q.answers ++ a ∷ []))) (effect_after d q (take n (q.answers ++ a ∷ []))) b) (sym e.0)
-        (subst (λ ts. IsAnswer (place_of id (length q.answers)) (tx_after d id q ts) (effect_after d q ts) b) (sym e.1) (subst (IsAnswer (place_of id (length q.answers)) (tx_now d id q) (effect_of d q)) (sym e.2) is))
-    | inr e ↦ subst (λ ts. IsAnswer (place_of id n) (tx_after d id q ts) (effect_after d q ts) b) (sym e.0) (h.past n b e.1)
-  ];
-  over = λ o g. let k = sym none ∙ g in cc;
-}
+sane_pushed d id q a none is h = record { past = went_pushed d id q a is h.past; over = λ o g. let k = sym none ∙ g in cc }
 
-sane_once : (d : Deployment) (id : IntentId) (q : Instance) → SaneInstance d id q → SaneInstance d id (once d id q)
+pub sane_once : (d : Deployment) (id : IntentId) (q : Instance) → SaneInstance d id q → SaneInstance d id (once d id q)
 sane_once d id q h = by_outcome q.outcome refl
   where
     by_effect : q.outcome ≡ None → (e : Effect) → effect_of d q ≡ e → SaneInstance d id (answered_if q (answer_at_once id (length q.answers) e))
@@ -60,7 +46,7 @@ pub record GoesOn (q r : Instance) : Type 0 where
   pub more : List Answer
   pub same : q.answers ++ more ≡ r.answers
 
-once_goes : (d : Deployment) (id : IntentId) (q : Instance) → GoesOn q (once d id q)
+pub once_goes : (d : Deployment) (id : IntentId) (q : Instance) → GoesOn q (once d id q)
 once_goes d id q = by_outcome q.outcome
   where
     by_answer : (o : Option Answer) → GoesOn q (answered_if q o)
@@ -71,7 +57,7 @@ once_goes d id q = by_outcome q.outcome
     by_outcome None = by_answer (answer_at_once id (length q.answers) (effect_of d q))
     by_outcome (Some o) = record { more = []; same = append-nil q.answers }
 
-goes_then : (q r u : Instance) → GoesOn q r → GoesOn r u → GoesOn q u
+pub goes_then : (q r u : Instance) → GoesOn q r → GoesOn r u → GoesOn q u
 goes_then q r u g h = record { more = g.more ++ h.more; same = sym (append_assoc q.answers g.more h.more) ∙ ap (λ xs. xs ++ h.more) g.same ∙ h.same }
 
 pub moved_goes : (d : Deployment) (id : IntentId) (q : Instance) (a : Answer) → GoesOn q (moved d id q a)

@@ -33,7 +33,9 @@ use Rattle.beldi_step.specs.Run.{place_of}
 use Rattle.beldi_known.specs.Rows.{CellMatches}
 use Rattle.beldi_known.specs.Owed.{note_of}
 use Rattle.beldi_known.specs.Contents.{is_owner, head_key, content_of, shadow_key, shadow_of, lockset_key}
-use Rattle.beldi_known.specs.Known.{Known, txs_after, tx_now, tx_eq, is_tx, touched, write_op, shadow_by, owed_note, owed_lockset, begins_at, is_item, tx_end, is_mark, moved}
+use Rattle.beldi_known.specs.Known.{Known, tx_eq, is_tx, write_op, shadow_by, owed_note, owed_lockset, begins_at, is_item, tx_end, is_mark, moved}
+use Rattle.beldi_order.specs.Txs.{txs_after, tx_now}
+use Rattle.beldi_plain.specs.Operation.{touched}
 use Rattle.beldi_known.specs.Matches.{Matches, RowMatches, ItemMatches, ShadowMatches, TxsMatch, lockset_ahead, is_open}
 use Rattle.beldi_known.specs.Acts.{with_note}
 use Rattle.beldi_known.specs.Frame.{row_added, LockedOut}

@@ -15,7 +15,7 @@ use Rattle.beldi_row.specs.declared.row.Row.{Row}
 use Rattle.beldi_row.specs.declared.row.Row.TheVariants as rows
 use Rattle.beldi_invokelog.specs.InvokeLog.{invoke_key}
 use Rattle.beldi_plain.specs.Plain.{Instance, ended}
-use Rattle.beldi_order.proofs.Entries.{same_some, made_set}
+use Rattle.beldi_order.proofs.Maps.{same_some, made_set}
 use Rattle.beldi_step.specs.Run.{is_waited}
 use Rattle.beldi_known.specs.Owed.{called_by, result_of}
 use Rattle.beldi_known.specs.Rows.{IntentMatches, RootMatches, CalleeMatches, IsBodyOf, BodyMatches, CalleeBodyMatches, OutcomeMatches, body_of}

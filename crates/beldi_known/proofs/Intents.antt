@@ -19,16 +19,20 @@ use Rattle.beldi_row.specs.declared.row.Row.{Row}
 use Rattle.beldi_row.specs.declared.row.Row.TheVariants as rows
 use Rattle.beldi_row.proofs.Gets.{key_self}
 use Rattle.beldi_row.proofs.Rows.{get_set}
-use Rattle.beldi_plain.specs.Plain.{Instance, ended}
-use Rattle.beldi_order.proofs.Entries.{same_some}
+use Rattle.beldi_plain.specs.Plain.{Instance, ended, effect_of, new_instance}
+use Rattle.beldi_order.proofs.Maps.{same_some, elsewhere}
 use Rattle.beldi_step.specs.Run.{is_waited}
-use Rattle.beldi_known.specs.Known.{Known, owed_call}
+use Rattle.beldi_known.specs.Known.{Known, owed_call, at_once}
 use Rattle.beldi_known.specs.Matches.{Matches}
 use Rattle.beldi_known.specs.Owed.{called_by}
-use Rattle.beldi_known.specs.Rows.{IntentMatches, RootMatches, CalleeMatches, CalleeBodyMatches, BodyMatches, OutcomeMatches, IsRootRow, IsCalleeRow, EndsRow}
+use Rattle.beldi_known.specs.Rows.{IntentMatches, RootMatches, CalleeMatches, CalleeBodyMatches, BodyMatches, OutcomeMatches, IsRootRow, IsCalleeRow, EndsRow, body_of}
 use Rattle.beldi_known.proofs.Answers.{true_false}
-use Rattle.beldi_known.proofs.Instances.{body_stays, calls_moved, same_caller, same_callee}
+use Rattle.beldi_known.proofs.Instances.{body_stays, calls_moved, same_caller, same_callee, no_callee, no_own_callee}
 use Rattle.beldi_known.proofs.Sets.{OwesStill, instance_set, row_put}
+use Rattle.beldi_known.proofs.Calls.{ended_owes, made_owes}
+use Rattle.beldi_lang.specs.declared.effect.Effect.TheVariants as effect
+use Rattle.beldi_known.proofs.Frame.{at_once_same}
+use Rattle.beldi_value.specs.declared.value.Value.{Value}
 
 -- the key of an intent's row in a home
 abbrev pub own_key : ℕ → IntentId → RowKey
@@ -125,3 +129,28 @@ module _ (d : Deployment) (known : Known) (locked : IntentId → Bool) (id : Int
 -- ---- a callee's row was set, and nothing more is known
 pub callee_put : (d : Deployment) (known : Known) (locked : IntentId → Bool) (m : Rows) (id : IntentId) (home : ℕ) (r : IntentRow) → has_no_hops id.hops ≡ false → IsCalleeRow home r (map.get known id) → Matches d m known locked → Matches d (set_row m (own_key home id) (Some (rows.Intent r))) known locked
 callee_put d known locked m id home r hops fits h = row_put d known locked m (own_key home id) (Some (rows.Intent r)) refl (subst (λ b. IntentMatches b home (Some (rows.Intent r)) (map.get known id)) (sym hops) fits) h
+
+-- ---- who nobody waits for ends with its row: a root's in the host's home, a callee's in that of its function
+pub intent_ended : (d : Deployment) (known : Known) (locked : IntentId → Bool) (id : IntentId) (q : Instance) (o : Outcome) → map.get known id ≡ Some q → locked id ≡ false → effect_of d q ≡ effect.Return o → is_waited q.from ≡ false → (m : Rows) (r s : IntentRow) → EndsRow r s o
+    → let key : RowKey = own_key (if has_no_hops id.hops then 0 else q.func) id in map.get m key ≡ Some (rows.Intent r) → Matches d m known locked → Matches d (set_row m key (Some (rows.Intent s))) (map.insert known id (ended q o)) locked
+intent_ended d known locked id q o is unlocked returns idle m r s ends at h =
+    let owes : OwesStill d known id (map.get known id) (ended q o) = subst (λ z. OwesStill d known id z (ended q o)) (sym is) (ended_owes d known id q o o returns) in
+    elim (has_no_hops id.hops) as (λ b. has_no_hops id.hops ≡ b → map.get m (own_key (if b then 0 else q.func) id) ≡ Some (rows.Intent r) → Matches d (set_row m (own_key (if b then 0 else q.func) id) (Some (rows.Intent s))) (map.insert known id (ended q o)) locked) [
+      | true ↦ λ root there. root_ended d known locked id q o is unlocked owes idle root m r s ends there h
+      | false ↦ λ hops there. callee_ended d known locked id q o is unlocked owes idle hops m r s ends there h
+    ] refl at
+
+-- ---- a root is made as its body is bound
+pub root_bound : (d : Deployment) (known : Known) (locked : IntentId → Bool) (id : IntentId) (f : ℕ) (v : Value) → map.get known id ≡ None → has_no_hops id.hops ≡ true → ((n : ℕ) → map.get known (child_of id n) ≡ None) → locked id ≡ false → (m : Rows) (r : IntentRow)
+    → r.body ≡ Some (body_of (new_instance f v None)) → r.outcome ≡ None → r.finish ≡ None → Matches d m known locked → Matches d (set_row m (own_key 0 id) (Some (rows.Intent r))) (map.insert known id (at_once d id (new_instance f v None))) locked
+root_bound d known locked id f v new root childless unlocked m r body none unfinished h =
+    let s = at_once d id (new_instance f v None) in
+    let same = at_once_same d id (new_instance f v None) in
+    let gone : (b : Place) → b.intent ≡ id → map.get (map.insert known id s) (child_of b.intent b.step) ≡ None = λ b is. ap (λ z. map.get (map.insert known id s) (child_of z b.step)) is ∙ elsewhere known id (child_of id b.step) s (λ e. no_own_callee id b.step (sym e)) ∙ childless b.step in
+    root_set d known locked id s unlocked (subst (λ o. OwesStill d known id o s) (sym new) (made_owes d known id f v None)) root
+    (λ u b is. ap (called_by u (Some s)) (gone b is) ∙ no_callee u (Some s) ∙ sym (ap (called_by u (map.get known id)) (gone b is) ∙ no_callee u (map.get known id)))
+    m r (record {
+      bare = λ e. none;
+      finishes = ap is_some unfinished ∙ sym (ap is_some none);
+      body = subst (λ b. BodyMatches b r.outcome (Some s)) (sym body) (record { instance = s; made = refl; body = same.body }, same.outcome ∙ sym none);
+    }) h

@@ -1,5 +1,5 @@
 -- What is listed stays where a transaction that is open takes a lock, or writes its shadow.
-use Rattle.std.proofs.Common.{◌≡◌, Bool, true, false, cond, Option, None, Some, refl, ap, sym, ◌∙◌, subst, if◌then◌else◌}
+use Rattle.std.proofs.Common.{◌≡◌, Bool, true, false, cond, Option, None, Some, refl, ap, sym, ◌∙◌, subst, if◌then◌else◌, not}
 use Rattle.std.specs.FinMap as map
 use Rattle.std.specs.Ordering.{is_eq}
 use Rattle.beldi_value.specs.declared.place.Owner.{Owner}
@@ -21,7 +21,8 @@ use Rattle.beldi_step.specs.Run.{place_of}
 use Rattle.beldi_known.specs.Contents.{head_key, content_of, shadow_key}
 use Rattle.beldi_known.proofs.Locks.{owned_is}
 use Rattle.beldi_known.proofs.Acts.{kinds_apart, is_data, is_shadow, content_apart, content_here, by_item, turned, shadow_same}
-use Rattle.beldi_known.proofs.OneFunction.{is_committed, value_in, listed_under, listed}
+use Rattle.beldi_known.specs.Listed.{is_committed, value_in, listed_under, listed}
+use Rattle.beldi_known.proofs.Sets.{is_log as is_row_log}
 
 abbrev pub is_log : Kind → Bool
 is_log (kinds.ReadLog a) = true
@@ -34,6 +35,31 @@ elsewhere m k v f l h g = row_got m k l v ∙ ap (λ b. cond b v (map.get m l)) 
 -- the decision row of a transaction
 abbrev pub decision_key : TxId → RowKey
 decision_key t = log_key t.func (place_of t.intent t.begin)
+
+-- what is listed of an item, where what it holds, its shadows and the decisions are the same
+pub lists_same : (m n : Rows) (x : Item) → content_of n x ≡ content_of m x → ((t : TxId) → map.get n (decision_key t) ≡ map.get m (decision_key t)) → ((t : TxId) → map.get n (shadow_key t x) ≡ map.get m (shadow_key t x)) → listed n x ≡ listed m x
+lists_same m n x content decisions shadows = ap (λ (c : Content). listed_under n x c.owner c.value) content ∙ under (content_of m x).owner (content_of m x).value
+  where
+    under : (o : Option Owner) (w : Value) → listed_under n x o w ≡ listed_under m x o w
+    under None w = refl
+    under (Some (Intent i)) w = refl
+    under (Some (Tx t)) w = λ i. if is_committed (decisions t i) then value_in (shadows t i) w else w
+
+-- a row of an intent or of a call changes nothing there
+pub log_lists : (m : Rows) (k : RowKey) (v : Option Row) → is_row_log k.kind ≡ true → (x : Item) → listed (set_row m k v) x ≡ listed m x
+log_lists m k v kind x = lists_same m (set_row m k v) x (content_apart m k v x (kinds_apart off (head_key x) k refl (ap not kind))) (λ t. elsewhere m k v off (decision_key t) refl (ap not kind)) (λ t. elsewhere m k v off (shadow_key t x) refl (ap not kind))
+  where
+    off : Kind → Bool
+    off z = not (is_row_log z)
+
+-- an item that no transaction owns has its own value
+pub own_value : (m : Rows) (x : Item) → ((t : TxId) → (content_of m x).owner ≡ Some (Tx t) → ⊥) → listed m x ≡ (content_of m x).value
+own_value m x free = by_owner (content_of m x).owner (content_of m x).value free
+  where
+    by_owner : (o : Option Owner) (v : Value) → ((t : TxId) → o ≡ Some (Tx t) → ⊥) → listed_under m x o v ≡ v
+    by_owner None v none = refl
+    by_owner (Some (Intent j)) v none = refl
+    by_owner (Some (Tx t)) v none = absurd (none t refl)
 
 module _ (m : Rows) (s : TxId) (undecided : map.get m (decision_key s) ≡ None) where
   pub open_lists : (n : Rows) (x : Item) (v : Value) → map.get n (decision_key s) ≡ map.get m (decision_key s) → listed_under n x (Some (Tx s)) v ≡ v

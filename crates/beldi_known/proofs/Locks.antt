@@ -22,7 +22,9 @@ use Rattle.beldi_order.proofs.Operations.{id_same}
 use Rattle.beldi_step.specs.Run.{place_of}
 use Rattle.beldi_known.specs.Frame.{lock_in}
 use Rattle.beldi_known.specs.Contents.{is_owner}
-use Rattle.beldi_known.specs.Known.{Known, effect_after, tx_after, tx_now, tx_eq, is_tx, touched, is_item, note_by, answered_note, ahead_by, note_or, owed_note, is_on, got_before, got_by, Got, tx_end, is_mark}
+use Rattle.beldi_known.specs.Known.{Known, tx_eq, is_tx, is_item, note_by, answered_note, ahead_by, note_or, owed_note, is_on, got_before, got_by, Got, tx_end, is_mark}
+use Rattle.beldi_order.specs.Txs.{effect_after, tx_after, tx_now}
+use Rattle.beldi_plain.specs.Operation.{touched}
 use Rattle.beldi_known.specs.Matches.{ItemMatches, TxsMatch}
 use Rattle.beldi_known.proofs.Frame.{step_next}
 use Rattle.beldi_known.proofs.FrameAt.{one_place}

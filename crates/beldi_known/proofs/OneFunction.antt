@@ -1,28 +1,27 @@
 -- Where nobody was called in a transaction: each is of its own instance.
-use Rattle.std.proofs.Common.{◌≡◌, ℕ, Bool, true, false, length, Option, None, Some, ap, sym, ◌∙◌, if◌then◌else◌}
+use Rattle.std.proofs.Common.{◌≡◌, ℕ, Bool, false, length, Option, None, Some, ap, sym, ◌∙◌, if◌then◌else◌}
 use Rattle.std.specs.FinMap as map
 use Rattle.std.specs.Ordering.{is_eq}
 use Rattle.std.proofs.lemmas.Cmp.{tied_itself}
 use Rattle.beldi_value.specs.Id.{id_cmp, id_total}
 use Rattle.beldi_value.specs.declared.id.IntentId.{IntentId}
-use Rattle.beldi_value.specs.declared.place.Owner.{Owner}
 use Rattle.beldi_value.specs.declared.place.Owner.TheVariants.{Tx}
 use Rattle.beldi_value.specs.declared.place.TxId.{TxId}
 use Rattle.beldi_value.specs.declared.value.Value.{Value}
-use Rattle.beldi_value.specs.declared.value.Value.TheVariants as value
 use Rattle.beldi_tree.specs.declared.deployment.Deployment.{Deployment}
 use Rattle.beldi_lang.specs.declared.effect.Effect.{Effect}
 use Rattle.beldi_lang.specs.declared.effect.Effect.TheVariants as effect
 use Rattle.beldi_row.specs.Table.{Rows}
-use Rattle.beldi_row.specs.declared.row.Row.{Row}
-use Rattle.beldi_row.specs.declared.row.Row.TheVariants as rows
 use Rattle.beldi_readlog.specs.ReadLog.{log_key}
 use Rattle.beldi_plain.specs.Item.{Item}
 use Rattle.beldi_plain.specs.Plain.{Instance, effect_of}
-use Rattle.beldi_order.proofs.Entries.{same_some}
+use Rattle.beldi_order.proofs.Maps.{same_some}
 use Rattle.beldi_step.specs.Run.{place_of}
-use Rattle.beldi_known.specs.Contents.{content_of, shadow_key}
-use Rattle.beldi_known.specs.Known.{Known, txs_after, tx_by, tx_now, or_own, tx_end, ended_by}
+use Rattle.beldi_known.specs.Beside.{is_begin}
+use Rattle.beldi_known.specs.Contents.{shadow_key}
+use Rattle.beldi_known.specs.Known.{Known, tx_end, ended_by}
+use Rattle.beldi_order.specs.Txs.{txs_after, tx_by, tx_now, or_own}
+use Rattle.beldi_known.specs.Listed.{is_committed, value_in, listed_under}
 use Rattle.beldi_known.specs.Matches.{Matches}
 use Rattle.beldi_known.proofs.Answers.{true_false}
 use Rattle.beldi_known.proofs.Frame.{fits}
@@ -39,10 +38,6 @@ own_intent id func n effect.Begin o t h = ap (λ (z : TxId). z.intent) (sym (sam
 own_intent id func n e None t h = cc
 own_intent id func n e (Some b) t h = ap (λ (z : TxId). z.intent) (sym (same_some h))
 
-abbrev pub is_begin : Effect → Bool
-is_begin effect.Begin = true
-is_begin e = false
-
 pub own_by : (id : IntentId) (func n : ℕ) (e : Effect) (o : Option ℕ) (t : TxId) → is_begin e ≡ false → tx_by id func n e o ≡ Some t → Own id func o t
 own_by id func n effect.Begin o t g h = absurd (true_false g)
 own_by id func n e None t g h = cc
@@ -56,22 +51,6 @@ pub alone : (d : Deployment) (id j : IntentId) (z : Instance) (t : TxId) → z.w
 alone d id j z t none other h g =
     let k = own_intent j z.func (length z.answers) (effect_of d z) (txs_after d z z.answers).begun t (sym (ap (λ w. or_own w (tx_by j z.func (length z.answers) (effect_of d z) (txs_after d z z.answers).begun)) none) ∙ h) in
     true_false (sym (ap is_eq (tied_itself id_total id)) ∙ ap (λ y. is_eq (id_cmp y id)) (sym g ∙ k) ∙ other)
-
--- ---- the value that is listed: of an item that a committed transaction owns, its shadow's
-abbrev pub is_committed : Option Row → Bool
-is_committed (Some (rows.ReadLog (value.Bool b))) = b
-is_committed r = false
-
-abbrev pub value_in : Option Row → Value → Value
-value_in (Some (rows.Cell c)) v = c.value
-value_in r v = v
-
-abbrev pub listed_under : Rows → Item → Option Owner → Value → Value
-listed_under m x (Some (Tx t)) v = if is_committed (map.get m (log_key t.func (place_of t.intent t.begin))) then value_in (map.get m (shadow_key t x)) v else v
-listed_under m x o v = v
-
-abbrev pub listed : Rows → Item → Value
-listed m x = listed_under m x (content_of m x).owner (content_of m x).value
 
 module _ (d : Deployment) (m : Rows) (known : Known) (locked : IntentId → Bool) (h : Matches d m known locked) (id : IntentId) (q : Instance) (is : map.get known id ≡ Some q) (none : q.within ≡ None) (s : TxId) (inside : tx_now d id q ≡ Some s)
     (apart : is_begin (effect_of d q) ≡ false) where

@@ -29,14 +29,16 @@ use Rattle.beldi_daal.specs.Content.{Content, content_in}
 use Rattle.beldi_daal.specs.Logged.{owner_after, note_after, done_to, barred}
 use Rattle.beldi_readlog.specs.ReadLog.{log_key}
 use Rattle.beldi_plain.specs.Item.{Item, item_cmp, item_total}
-use Rattle.beldi_plain.specs.Operation.{OnItem, op_of, answer_after, item_in}
+use Rattle.beldi_plain.specs.Operation.{OnItem, op_of, answer_after, item_in, touched}
 use Rattle.beldi_plain.specs.Holds.{held_if, held_by, holds}
 use Rattle.beldi_plain.specs.Plain.{Instance, effect_of}
 use Rattle.beldi_step.specs.Run.{place_of}
 use Rattle.beldi_known.specs.Rows.{LogMatches, CallMatches}
 use Rattle.beldi_known.specs.Owed.{noted, note_of}
 use Rattle.beldi_known.specs.Contents.{is_owner, head_key, content_of, shadow_key, shadow_of}
-use Rattle.beldi_known.specs.Known.{Known, tx_now, is_tx, touched, is_item, note_by, is_on, is_aborted, got_before, got_by, commit_in, is_mark, txs_after, shadow_by, asks_lock, begins_at, owed_read}
+use Rattle.beldi_plain.specs.Piece.{is_aborted}
+use Rattle.beldi_known.specs.Known.{Known, is_tx, is_item, note_by, is_on, got_before, got_by, commit_in, is_mark, shadow_by, asks_lock, begins_at, owed_read}
+use Rattle.beldi_order.specs.Txs.{tx_now, txs_after}
 use Rattle.beldi_known.specs.Matches.{ItemMatches, TxsMatch, ShadowMatches, RowMatches, Matches, is_open}
 use Rattle.beldi_known.specs.Frame.{AnswersOne, row_added, LockedOut}
 use Rattle.beldi_known.specs.Operations.{DoneRows}
@@ -139,11 +141,11 @@ op_adds_none n None e o a h = refl
 op_adds_none n (Some b) e o a h = refl
 
 -- who owns its item then is no transaction, nor was one before
-no_tx : (id : IntentId) (was : Option Owner) → IsFreeFor id was → (t : TxId) → was ≡ Some (owner.Tx t) → ⊥
+pub no_tx : (id : IntentId) (was : Option Owner) → IsFreeFor id was → (t : TxId) → was ≡ Some (owner.Tx t) → ⊥
 no_tx id was (inl is) t e = let k = sym is ∙ e in cc
 no_tx id was (inr is) t e = let k = sym is ∙ e in cc
 
-free_after : (op : CellOp) (id : IntentId) (was : Option Owner) → barred op (owner.Intent id) was ≡ None → IsFreeFor id (owner_after op (owner.Intent id) was)
+pub free_after : (op : CellOp) (id : IntentId) (was : Option Owner) → barred op (owner.Intent id) was ≡ None → IsFreeFor id (owner_after op (owner.Intent id) was)
 free_after (cell.Write v) id was h = unbarred (cell.Write v) id was h
 free_after (cell.Cond u o v) id was h = unbarred (cell.Cond u o v) id was h
 free_after cell.Lock id was h = inr refl

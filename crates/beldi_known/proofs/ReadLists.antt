@@ -22,30 +22,35 @@ use Rattle.beldi_daal.specs.Content.{Content}
 use Rattle.beldi_readlog.specs.ReadLog.{log_key}
 use Rattle.beldi_plain.specs.Item.{Item}
 use Rattle.beldi_plain.specs.Plain.{Instance, effect_of}
-use Rattle.beldi_order.proofs.Entries.{same_some}
+use Rattle.beldi_order.proofs.Maps.{same_some}
 use Rattle.beldi_step.specs.Run.{place_of}
 use Rattle.beldi_known.specs.Contents.{head_key, content_of, shadow_key}
-use Rattle.beldi_known.specs.Known.{Known, effect_after, along, txs_after, tx_by, tx_after, tx_now, or_own, is_tx, touched, is_item, is_aborted, is_on, got_before, got_by}
+use Rattle.beldi_plain.specs.Piece.{is_aborted}
+use Rattle.beldi_known.specs.Known.{Known, is_tx, is_item, is_on, got_before, got_by}
+use Rattle.beldi_order.specs.Txs.{effect_after, along, txs_after, tx_by, tx_after, tx_now, or_own}
+use Rattle.beldi_plain.specs.Operation.{touched}
 use Rattle.beldi_known.specs.Matches.{TxsMatch}
 use Rattle.beldi_known.proofs.Frame.{fits_at}
 use Rattle.beldi_known.proofs.Locks.{tx_same}
 use Rattle.beldi_known.proofs.Acts.{kinds_apart, is_data, is_shadow, content_apart}
-use Rattle.beldi_known.proofs.OneFunction.{is_begin, own_by, is_committed, value_in, listed_under, listed}
+use Rattle.beldi_known.specs.Beside.{is_begin}
+use Rattle.beldi_known.specs.Listed.{is_committed, value_in, listed_under, listed}
+use Rattle.beldi_known.proofs.OneFunction.{own_by}
 use Rattle.beldi_known.proofs.Lists.{elsewhere, decision_key}
 
-both : (u v : Bool) → (u && v) ≡ true → (u ≡ true) × (v ≡ true)
+pub both : (u v : Bool) → (u && v) ≡ true → (u ≡ true) × (v ≡ true)
 both true v h = (refl, h)
 both false v h = cc
 
 -- ---- a step that a fold has gathered
-record Gathered (g : List Answer → Answer → Bool) (all : List Answer) : Type 0 where
+pub record Gathered (g : List Answer → Answer → Bool) (all : List Answer) : Type 0 where
   pub before : List Answer
   pub answer : Answer
   pub later : List Answer
   pub parts : before ++ answer ∷ later ≡ all
   pub holds : g before answer ≡ true
 
-gathered : (g : List Answer → Answer → Bool) (given rest : List Answer) (b : Bool) → along (λ ts c r. r || g ts c) given rest b ≡ true → (b ≡ true) ⊎ Gathered g (given ++ rest)
+pub gathered : (g : List Answer → Answer → Bool) (given rest : List Answer) (b : Bool) → along (λ ts c r. r || g ts c) given rest b ≡ true → (b ≡ true) ⊎ Gathered g (given ++ rest)
 gathered g given [] b h = inl h
 gathered g given (c ∷ rest) b h = elim (gathered g (given ++ c ∷ []) rest (b || g given c) h) [
   | inl e ↦ by_first b e

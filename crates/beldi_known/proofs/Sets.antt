@@ -21,7 +21,9 @@ use Rattle.beldi_plain.specs.Holds.{holds}
 use Rattle.beldi_plain.specs.Item.{Item}
 use Rattle.beldi_plain.specs.Plain.{Instance, effect_of}
 use Rattle.beldi_known.specs.Contents.{head_key, content_of, shadow_key, shadow_of}
-use Rattle.beldi_known.specs.Known.{Known, owed_value, owed_call, owed_note, owed_shadow, owed_lockset, got_by, ended_by, ended_at, tx_end, tx_now, begins_at, is_item, touched, is_decided, is_mark, last_step}
+use Rattle.beldi_known.specs.Known.{Known, owed_value, owed_call, owed_note, owed_shadow, owed_lockset, got_by, ended_by, ended_at, tx_end, begins_at, is_item, is_decided, is_mark, last_step}
+use Rattle.beldi_order.specs.Txs.{tx_now}
+use Rattle.beldi_plain.specs.Operation.{touched}
 use Rattle.beldi_known.specs.Matches.{Matches, RowMatches, ItemMatches, ShadowMatches, TxsMatch, LocksetMatches, lockset_ahead, is_open}
 use Rattle.beldi_known.specs.Rows.{IntentMatches, LogMatches, CallMatches}
 use Rattle.beldi_known.proofs.Acts.{kinds_apart, content_apart, shadow_apart}

@@ -17,7 +17,7 @@ use Rattle.beldi_daal.specs.Content.{Content}
 use Rattle.beldi_known.specs.Acts.{Told, noted, held, died, did, tested, noted_or, held_or, with_note, lock_or, lock_on, write_on, test_on}
 
 -- the place had no note, and what follows was told
-past_note : (c x : Content) (n : Option Note) (r : Content × Told) (t : Told) → noted_or c n r ≡ (x, t) → ((m : Note) → noted m ≡ t → ⊥) → (n ≡ None) × (r ≡ (x, t))
+pub past_note : (c x : Content) (n : Option Note) (r : Content × Told) (t : Told) → noted_or c n r ≡ (x, t) → ((m : Note) → noted m ≡ t → ⊥) → (n ≡ None) × (r ≡ (x, t))
 past_note c x None r t h other = (refl, h)
 past_note c x (Some n) r t h other = absurd (other n (ap (λ z. z.1) h))
 

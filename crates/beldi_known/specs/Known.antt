@@ -17,24 +17,21 @@ use Rattle.beldi_lang.specs.declared.effect.Answer.{Answer}
 use Rattle.beldi_lang.specs.declared.effect.Answer.TheVariants as answer
 use Rattle.beldi_lang.specs.declared.effect.Effect.{Effect}
 use Rattle.beldi_lang.specs.declared.effect.Effect.TheVariants as effect
-use Rattle.beldi_lang.specs.Wants.{wants}
 use Rattle.beldi_row.specs.declared.notes.Note.{Note}
 use Rattle.beldi_row.specs.declared.notes.Note.TheVariants as notes
 use Rattle.beldi_row.specs.Log.{owner_eq}
 use Rattle.beldi_plain.specs.Executor.{answered_if}
 use Rattle.beldi_plain.specs.Item.{Item, item_cmp}
-use Rattle.beldi_plain.specs.Operation.{OnItem, op_of}
+use Rattle.beldi_plain.specs.Operation.{OnItem, op_of, touched}
+use Rattle.beldi_plain.specs.Piece.{is_aborted}
 use Rattle.beldi_plain.specs.Plain.{Instance, answered, effect_of}
+use Rattle.beldi_order.specs.Txs.{effect_after, along, end_of, tx_after, tx_now}
 use Rattle.beldi_step.specs.Run.{place_of}
 use Rattle.beldi_known.specs.Owed.{note_of, value_for, called_by}
 
 -- what is known of the instances
 abbrev pub Known : Type 0
 Known = FinMap id_cmp Instance
-
--- the effect that an instance wants after these answers
-abbrev pub effect_after : Deployment → Instance → List Answer → Effect
-effect_after d q given = wants d q.func q.args (is_some q.within) given
 
 -- ---- what takes no turn
 -- the answer that takes no turn: of a Begin, and of an Abort
@@ -75,61 +72,10 @@ pub record Prefix (given : List Answer) (q : Instance) : Type 0 where
   pub later : List Answer
   pub all : given ++ later ≡ q.answers
 
--- ---- a fold over answers, each with those before it
-abbrev pub along : {X : Type 0} → (List Answer → Answer → X → X) → List Answer → List Answer → X → X
-along f given [] x = x
-along f given (a ∷ rest) x = along f (given ++ a ∷ []) rest (f given a x)
-
 -- what a step owes, by the answers before it and its answer; nothing before it is answered
 abbrev pub at_step : {X : Type 0} → (List Answer → Answer → Option X) → List Answer → Option Answer → Option X
 at_step f given None = None
 at_step f given (Some a) = f given a
-
--- ---- the transactions of an instance
--- the step of the Begin that is open, and how each Begin ended: the step of its End, and whether it is a commit
-pub record Txs : Type 0 where
-  pub begun : Option ℕ
-  pub ends : ℕ → Option (ℕ × Bool)
-
-abbrev pub none_begun : Txs
-none_begun = record { begun = None; ends = λ b. None }
-
-abbrev pub is_at : ℕ → Option ℕ → Bool
-is_at b None = false
-is_at b (Some c) = b == c
-
--- .. after the effect at a step was answered
-abbrev pub txs_by : ℕ → Effect → Txs → Txs
-txs_by n effect.Begin s = record { begun = Some n; ends = s.ends }
-txs_by n (effect.End c) s = record { begun = None; ends = λ b. if is_at b s.begun then Some (n, c) else s.ends b }
-txs_by n e s = s
-
-abbrev pub txs_after : Deployment → Instance → List Answer → Txs
-txs_after d q given = along (λ ts a s. txs_by (length ts) (effect_after d q ts) s) [] given none_begun
-
--- the End of the Begin at a step, where it was answered
-abbrev pub end_of : Deployment → Instance → ℕ → Option (ℕ × Bool)
-end_of d q b = (txs_after d q q.answers).ends b
-
--- the transaction that a step is in, by its effect and the Begin that is open before it: Begin and End belong to it
-abbrev pub tx_by : IntentId → ℕ → ℕ → Effect → Option ℕ → Option TxId
-tx_by id func n effect.Begin o = Some (record { intent = id; begin = n; func = func })
-tx_by id func n e None = None
-tx_by id func n e (Some b) = Some (record { intent = id; begin = b; func = func })
-
--- .. but for an instance that was called in one
-abbrev pub or_own : Option TxId → Option TxId → Option TxId
-or_own None own = own
-or_own (Some t) own = Some t
-
-abbrev pub tx_after : Deployment → IntentId → Instance → List Answer → Option TxId
-tx_after d id q given = or_own q.within (tx_by id q.func (length given) (effect_after d q given) (txs_after d q given).begun)
-
-abbrev pub tx_at : Deployment → IntentId → Instance → ℕ → Option TxId
-tx_at d id q n = tx_after d id q (take n q.answers)
-
-abbrev pub tx_now : Deployment → IntentId → Instance → Option TxId
-tx_now d id q = tx_after d id q q.answers
 
 abbrev pub tx_eq : TxId → TxId → Bool
 tx_eq s t = owner_eq (Tx s) (Tx t)
@@ -139,13 +85,6 @@ is_tx t None = false
 is_tx t (Some s) = tx_eq t s
 
 -- ---- what operations touch
--- the table and key of an operation that a transaction may do
-abbrev pub touched : Effect → Option (ℕ × List ℕ)
-touched (effect.Read t k) = Some (t, k)
-touched (effect.Write t k v) = Some (t, k)
-touched (effect.CondWrite t k r o v) = Some (t, k)
-touched e = None
-
 abbrev pub is_item : Item → ℕ → Option (ℕ × List ℕ) → Bool
 is_item x func None = false
 is_item x func (Some o) = is_eq (item_cmp (record { func = func; table = o.0; key = o.1 }) x)
@@ -245,10 +184,6 @@ owed_lockset d b x id None = false
 owed_lockset d b x id (Some q) = lockset_of d b x id q
 
 -- ---- what a transaction has got
-abbrev pub is_aborted : Answer → Bool
-is_aborted (answer.Aborted c) = true
-is_aborted a = false
-
 -- an operation of the transaction on the item
 abbrev pub is_on : TxId → Item → ℕ → Option TxId → Effect → Bool
 is_on t x func s e = is_tx t s && is_item x func (touched e)

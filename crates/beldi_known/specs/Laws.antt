@@ -1,12 +1,14 @@
 -- The laws of what is known.
-use Rattle.std.specs.Prelude.{◌≡◌, ℕ, ◌<◌, if◌then◌else◌, Bool, true, false, List, [], ◌∷◌, ◌++◌, length, Option, Some, None, is_some}
+use Rattle.std.specs.Prelude.{◌≡◌, ℕ, ◌<◌, ◌||◌, if◌then◌else◌, Bool, true, false, List, [], ◌∷◌, ◌++◌, length, slice_get, Option, Some, None, is_some}
 use Rattle.std.specs.FinMap as map
 use Rattle.std.specs.Option.{option_map}
 use Rattle.std.specs.Ordering.{is_eq}
 use Rattle.beldi_value.specs.declared.place.Place.{Place}
 use Rattle.beldi_value.specs.Id.{id_cmp, child_of, has_no_hops}
 use Rattle.beldi_value.specs.declared.id.IntentId.{IntentId}
+use Rattle.beldi_value.specs.declared.outcome.Cause.{Cause}
 use Rattle.beldi_value.specs.declared.outcome.Outcome.{Outcome}
+use Rattle.beldi_value.specs.declared.outcome.Outcome.TheVariants as outcome
 use Rattle.beldi_value.specs.declared.place.Owner.TheVariants.{Tx}
 use Rattle.beldi_value.specs.declared.place.TxId.{TxId}
 use Rattle.beldi_value.specs.declared.rel.Rel.{Rel}
@@ -17,6 +19,7 @@ use Rattle.beldi_lang.specs.Callee.{answer_of}
 use Rattle.beldi_lang.specs.declared.effect.Answer.{Answer}
 use Rattle.beldi_lang.specs.declared.effect.Answer.TheVariants as answer
 use Rattle.beldi_lang.specs.declared.effect.Effect.TheVariants as effect
+use Rattle.beldi_lang.specs.Wants.{is_inside}
 use Rattle.beldi_row.specs.Log.{note_at}
 use Rattle.beldi_row.specs.Table.{Rows, set_row}
 use Rattle.beldi_row.specs.declared.key.RowKey.{RowKey}
@@ -26,22 +29,26 @@ use Rattle.beldi_row.specs.declared.row.IntentRow.{IntentRow}
 use Rattle.beldi_row.specs.declared.row.InvokeRow.{InvokeRow}
 use Rattle.beldi_row.specs.declared.row.Row.{Row}
 use Rattle.beldi_row.specs.declared.row.Row.TheVariants as rows
-use Rattle.beldi_daal.specs.Content.{content_in}
+use Rattle.beldi_daal.specs.Content.{Content, content_in}
 use Rattle.beldi_invokelog.specs.InvokeLog.{invoke_key, call_at, result_in}
 use Rattle.beldi_readlog.specs.ReadLog.{log_key}
+use Rattle.beldi_plain.specs.Holds.{holds}
 use Rattle.beldi_plain.specs.Item.{Item}
-use Rattle.beldi_plain.specs.Operation.{OnItem, op_of, item_in, answer_after}
-use Rattle.beldi_plain.specs.Plain.{Instance, answered, ended, effect_of, new_instance, callee_of, calls_at}
-use Rattle.beldi_order.specs.Sane.{effect_before, call_of}
+use Rattle.beldi_plain.specs.Operation.{OnItem, op_of, item_in, answer_after, touched}
+use Rattle.beldi_plain.specs.Plain.{Instance, answered, ended, effect_of, new_instance, callee_of, calls_at, effect_before}
+use Rattle.beldi_order.specs.Sane.{call_of, IsAnswer}
 use Rattle.beldi_step.specs.Run.{is_waited, place_of}
 use Rattle.beldi_known.specs.Acts.{Told, noted, did, died, tested, lock_on, write_on, test_on, put_lockset, keep_value, lock_answer}
 use Rattle.beldi_known.specs.Contents.{head_key, content_of, shadow_key, shadow_of, lockset_key}
 use Rattle.beldi_known.specs.Frame.{AnswersOne, LockedOut, lock_in}
-use Rattle.beldi_known.specs.Known.{Known, effect_after, at_once, moved, run_on, Prefix, txs_after, end_of, tx_after, tx_now, tx_end, touched, last_step, is_mark}
-use Rattle.beldi_known.specs.Matches.{Matches}
+use Rattle.beldi_known.specs.Known.{Known, at_once, moved, run_on, Prefix, tx_end, last_step, is_mark}
+use Rattle.beldi_order.specs.Txs.{effect_after, txs_after, end_of, tx_after, tx_now}
+use Rattle.beldi_plain.specs.Piece.{is_aborted}
+use Rattle.beldi_known.specs.Matches.{Matches, LockedAtEnds}
 use Rattle.beldi_known.specs.Operations.{cell_of, DoneRows}
 use Rattle.beldi_known.specs.Rows.{CellMatches, body_of, EndsRow}
-use Rattle.beldi_known.specs.Sane.{Sane, SaneInstance, IsAnswer, Closed}
+use Rattle.beldi_order.specs.Sane.{IsAnswer, IsDeath}
+use Rattle.beldi_known.specs.Sane.{Sane, SaneInstance, Closed}
 
 -- ---- an instance
 -- an answer more, and what takes no turn after it, change what the instance owes at the answer's place alone
@@ -204,3 +211,127 @@ abbrev pub EndedKeep : Type 0
 EndedKeep = (d : Deployment) (m : Rows) (known : Known) (locked : IntentId → Bool) (id : IntentId) (q : Instance) (o : Outcome) (r s : IntentRow) → map.get known id ≡ Some q → locked id ≡ false → effect_of d q ≡ effect.Return o → is_waited q.from ≡ false → EndsRow r s o
     → let key : RowKey = record { home = (if has_no_hops id.hops then 0 else q.func); kind = kinds.Intent id } in map.get m key ≡ Some (rows.Intent r) → Matches d m known locked
     → Matches d (set_row m key (Some (rows.Intent s))) (map.insert known id (ended q o)) locked
+
+-- ---- where a body stands
+-- by its effect after these answers: transactions do not nest, and they end as they went
+pub record IsNested (d : Deployment) (q : Instance) (given : List Answer) : Type 0 where
+  -- it is wanted inside where a Begin is open, or where the instance was called in a transaction
+  pub inside : is_inside d q.func q.args (is_some q.within) given ≡ (is_some (txs_after d q given).begun || is_some q.within)
+  -- .. so its step is in a transaction, but that of a Begin is in its own
+  pub tx : (id : IntentId) → (effect_after d q given ≡ effect.Begin → ⊥) → is_some (tx_after d id q given) ≡ is_inside d q.func q.args (is_some q.within) given
+  -- a Begin is wanted outside, with no lock held
+  pub begin : effect_after d q given ≡ effect.Begin → (q.within ≡ None) × (is_some (txs_after d q given).begun ≡ false)
+  pub free : effect_after d q given ≡ effect.Begin → (x : Item) → holds d x (Some (record q { answers = given })) ≡ false
+  -- an End is wanted inside one's own, and without commit after an abort
+  pub end : (c : Bool) → effect_after d q given ≡ effect.End c → is_some (txs_after d q given).begun ≡ true
+  pub commit : (b n : ℕ) (a : Answer) → effect_after d q given ≡ effect.End true → (txs_after d q given).begun ≡ Some b → b < n → slice_get given n ≡ Some a → is_aborted a ≡ false
+  -- after an abort its End is wanted
+  pub abort : (c : Cause) → is_some (txs_after d q given).begun ≡ true → ((b : Bool) → effect_after d q given ≡ effect.End b → ⊥) → effect_after d q (given ++ answer.Aborted c ∷ []) ≡ effect.End false
+  -- who was called in one begins none
+  pub participant : is_some q.within ≡ true → is_some (txs_after d q given).begun ≡ false
+
+abbrev pub TransactionsNest : Type 0
+TransactionsNest = (d : Deployment) (q : Instance) (given : List Answer) → IsNested d q given
+
+-- who was called in a transaction returns an abort
+abbrev pub AbortsReturn : Type 0
+AbortsReturn = (d : Deployment) (id : IntentId) (q : Instance) (c : Cause) (t : TxId) → SaneInstance d id q → q.within ≡ Some t → IsAnswer (place_of id (length q.answers)) (tx_now d id q) (effect_of d q) (answer.Aborted c) → effect_of d (answered q (answer.Aborted c)) ≡ effect.Return (outcome.Aborted c)
+
+-- after what takes no turn an instance stands at an effect that does
+abbrev pub AtOnceCloses : Type 0
+AtOnceCloses = (d : Deployment) (id : IntentId) (q : Instance) → Closed d id (at_once d id q)
+
+-- ---- all that is known stays sane
+-- with a root that is made
+abbrev pub BoundIsSane : Type 0
+BoundIsSane = (d : Deployment) (known : Known) (id : IntentId) (f : ℕ) (v : Value) → map.get known id ≡ None → has_no_hops id.hops ≡ true → Sane d known → Sane d (map.insert known id (at_once d id (new_instance f v None)))
+
+-- with an answer to its effect, if that is no call
+abbrev pub AnsweredIsSane : Type 0
+AnsweredIsSane = (d : Deployment) (known : Known) (id : IntentId) (q : Instance) (a : Answer) → map.get known id ≡ Some q → IsAnswer (place_of id (length q.answers)) (tx_now d id q) (effect_of d q) a → ((w : Bool) (f : ℕ) (v : Value) → effect_of d q ≡ call_of w f v → ⊥) → Sane d known
+    → Sane d (map.insert known id (moved d id q a))
+
+-- .. a read and a write, inside and outside, and an End
+pub record EffectIsSane (d : Deployment) (known : Known) (id : IntentId) (q : Instance) : Type 0 where
+  pub read : (t : ℕ) (k : List ℕ) (v : Value) → effect_of d q ≡ effect.Read t k → Sane d (map.insert known id (moved d id q (answer.Value v)))
+  pub wrote : (t : ℕ) (k : List ℕ) (v : Value) → effect_of d q ≡ effect.Write t k v → Sane d (map.insert known id (moved d id q answer.Done))
+  pub tested : (t : ℕ) (k : List ℕ) (r : Rel) (o v : Value) (b : Bool) → effect_of d q ≡ effect.CondWrite t k r o v → Sane d (map.insert known id (moved d id q (answer.Value (value.Bool b))))
+  pub decided : (c : Bool) → effect_of d q ≡ effect.End c → Sane d (map.insert known id (moved d id q answer.Done))
+
+abbrev pub EffectsAreSane : Type 0
+EffectsAreSane = (d : Deployment) (known : Known) (id : IntentId) (q : Instance) → map.get known id ≡ Some q → Sane d known → EffectIsSane d known id q
+
+-- .. an operation outside, and a death
+abbrev pub OperatedIsSane : Type 0
+OperatedIsSane = (d : Deployment) (known : Known) (id : IntentId) (q : Instance) (o : OnItem) (w : Value) → map.get known id ≡ Some q → tx_now d id q ≡ None → op_of (effect_of d q) ≡ Some o → Sane d known → Sane d (map.insert known id (moved d id q (answer_after o.does w)))
+
+abbrev pub DiedIsSane : Type 0
+DiedIsSane = (d : Deployment) (known : Known) (id : IntentId) (q : Instance) (s : TxId) (t : ℕ) (k : List ℕ) (c : Cause) → IsFront d known id q s t k → IsDeath (place_of id (length q.answers)) s c → Sane d known → Sane d (map.insert known id (moved d id q (answer.Aborted c)))
+
+-- with a callee that is made, in the transaction that its call is in; the one that nobody waits for answers its call
+abbrev pub CalledIsSane : Type 0
+CalledIsSane = (d : Deployment) (known : Known) (id : IntentId) (q : Instance) (f : ℕ) (v : Value) → map.get known id ≡ Some q → effect_of d q ≡ effect.Call f v → map.get known (callee_of id q) ≡ None → Sane d known
+    → Sane d (map.insert known (callee_of id q) (at_once d (callee_of id q) (record (new_instance f v (Some (calls_at id q true))) { within = tx_now d id q })))
+
+abbrev pub SentIsSane : Type 0
+SentIsSane = (d : Deployment) (known : Known) (id : IntentId) (q : Instance) (f : ℕ) (v : Value) → map.get known id ≡ Some q → tx_now d id q ≡ None → effect_of d q ≡ effect.Async f v → map.get known (callee_of id q) ≡ None → Sane d known
+    → Sane d (map.insert (map.insert known (callee_of id q) (at_once d (callee_of id q) (new_instance f v (Some (calls_at id q false))))) id (moved d id q answer.Done))
+
+-- with a callee that gives back, and its caller's answer
+abbrev pub ReturnedIsSane : Type 0
+ReturnedIsSane = (d : Deployment) (known : Known) (id : IntentId) (i j : Instance) (n : ℕ) (o : Outcome) → map.get known id ≡ Some i → map.get known (child_of id n) ≡ Some j → j.outcome ≡ None → is_waited j.from ≡ true → effect_of d j ≡ effect.Return o → Sane d known
+    → Sane d (map.insert (map.insert known (child_of id n) (ended j o)) id (moved d id i (answer_of o)))
+
+-- with the outcome of who nobody waits for
+abbrev pub EndedIsSane : Type 0
+EndedIsSane = (d : Deployment) (known : Known) (id : IntentId) (q : Instance) (o : Outcome) → map.get known id ≡ Some q → effect_of d q ≡ effect.Return o → is_waited q.from ≡ false → Sane d known → Sane d (map.insert known id (ended q o))
+
+-- ---- what follows
+-- who is not there has called nobody
+abbrev pub AbsentAreChildless : Type 0
+AbsentAreChildless = (d : Deployment) (known : Known) (id : IntentId) (n : ℕ) → map.get known id ≡ None → Sane d known → map.get known (child_of id n) ≡ None
+
+-- the transaction of who can step has not ended; so who was called in one that has has its outcome
+abbrev pub NowIsOpen : Type 0
+NowIsOpen = (d : Deployment) (known : Known) (id : IntentId) (q : Instance) (t : TxId) → map.get known id ≡ Some q → q.outcome ≡ None → tx_now d id q ≡ Some t → Sane d known → tx_end d known t ≡ None
+
+abbrev pub DecidedAreOver : Type 0
+DecidedAreOver = (d : Deployment) (known : Known) (id : IntentId) (q : Instance) (t : TxId) (z : ℕ × Bool) → map.get known id ≡ Some q → q.within ≡ Some t → tx_end d known t ≡ Some z → Sane d known → is_some q.outcome ≡ true
+
+-- at an End nobody else that can step is in a transaction of that instance
+abbrev pub EndsAreAlone : Type 0
+EndsAreAlone = (d : Deployment) (known : Known) (id : IntentId) (q : Instance) (c : Bool) → map.get known id ≡ Some q → effect_of d q ≡ effect.End c → Sane d known
+    → (j : IntentId) (z : Instance) (t : TxId) → map.get known j ≡ Some z → is_eq (id_cmp j id) ≡ false → z.outcome ≡ None → tx_now d j z ≡ Some t → t.intent ≡ id → ⊥
+
+-- the owner of the transaction of who can step holds no lock of its own
+abbrev pub OwnersHoldNone : Type 0
+OwnersHoldNone = (d : Deployment) (known : Known) (id : IntentId) (q : Instance) (t : TxId) (x : Item) → map.get known id ≡ Some q → q.outcome ≡ None → tx_now d id q ≡ Some t → Sane d known → holds d x (map.get known t.intent) ≡ false
+
+-- so who lets an operation inside die is older than its transaction, where no other one of the same intent owns the item
+abbrev pub DeathsAreOlder : Type 0
+DeathsAreOlder = (d : Deployment) (m : Rows) (known : Known) (locked : IntentId → Bool) (id : IntentId) (q : Instance) (s : TxId) (t : ℕ) (k : List ℕ) (c : Content) (holder : IntentId) → IsFront d known id q s t k
+    → let x : Item = record { func = q.func; table = t; key = k } in let p : Place = place_of id (length q.answers) in ((u : TxId) → (content_of m x).owner ≡ Some (Tx u) → u.intent ≡ s.intent → u ≡ s) → lock_on p s (content_of m x) ≡ (c, died holder)
+    → Sane d known → Matches d m known locked → IsDeath p s (record { place = p; holder = Some holder })
+
+-- ---- locks that are ahead
+-- they are of instances at operations inside, once one is taken, and once an instance was set whose lock is ahead no more
+abbrev pub LocksAreAhead : Type 0
+LocksAreAhead = (d : Deployment) (known : Known) (locked : IntentId → Bool) (id : IntentId) (q : Instance) (s : TxId) (t : ℕ) (k : List ℕ) → IsFront d known id q s t k → SaneInstance d id q → LockedAtEnds d known locked → LockedAtEnds d known (lock_in locked id)
+
+abbrev pub LocksStayAhead : Type 0
+LocksStayAhead = (d : Deployment) (known : Known) (locked after : IntentId → Bool) (id : IntentId) (s : Instance) → LockedOut locked after id → LockedAtEnds d known locked → LockedAtEnds d (map.insert known id s) after
+
+-- whose lock is not ahead: who is not there, who ended, who is outside, and who stands at no operation
+pub record IsUnlocked (d : Deployment) (known : Known) (locked : IntentId → Bool) (id : IntentId) : Type 0 where
+  pub absent : map.get known id ≡ None → locked id ≡ false
+  pub over : (q : Instance) → map.get known id ≡ Some q → is_some q.outcome ≡ true → locked id ≡ false
+  pub outside : (q : Instance) → map.get known id ≡ Some q → tx_now d id q ≡ None → locked id ≡ false
+  pub elsewhere : (q : Instance) → map.get known id ≡ Some q → touched (effect_of d q) ≡ None → locked id ≡ false
+
+abbrev pub OthersAreUnlocked : Type 0
+OthersAreUnlocked = (d : Deployment) (known : Known) (locked : IntentId → Bool) → LockedAtEnds d known locked → (id : IntentId) → IsUnlocked d known locked id
+
+-- ---- the start
+-- nothing is known, no lock is ahead, and no row is there
+abbrev pub NothingIsRight : Type 0
+NothingIsRight = (d : Deployment) → Sane d map.empty × LockedAtEnds d map.empty (λ id. false) × Matches d map.empty map.empty (λ id. false)

@@ -1,7 +1,9 @@
 pub mod Acts
+pub mod Beside
 pub mod Contents
 pub mod Frame
 pub mod Known
+pub mod Listed
 pub mod Laws
 pub mod Matches
 pub mod Operations

@@ -21,7 +21,9 @@ use Rattle.beldi_plain.specs.Holds.{holds}
 use Rattle.beldi_plain.specs.Item.{Item}
 use Rattle.beldi_plain.specs.Plain.{Instance, effect_of}
 use Rattle.beldi_known.specs.Contents.{content_of, is_owner, shadow_of}
-use Rattle.beldi_known.specs.Known.{Known, tx_now, touched, is_item, begins_at, owed_read, owed_call, owed_note, owed_shadow, owed_lockset, tx_end, is_mark, Got}
+use Rattle.beldi_known.specs.Known.{Known, is_item, begins_at, owed_read, owed_call, owed_note, owed_shadow, owed_lockset, tx_end, is_mark, Got}
+use Rattle.beldi_order.specs.Txs.{tx_now}
+use Rattle.beldi_plain.specs.Operation.{touched}
 use Rattle.beldi_known.specs.Rows.{IntentMatches, CallMatches, LogMatches, CellMatches}
 
 -- ---- row by row

@@ -1,5 +1,5 @@
 // The laws of what is known.
-ghost use Rattle.beldi_known.specs.Laws.{OneAnswerMore, OpenHasNotEnded, EndsStay, StaysSane, RunsStayBehind, ReadsAreKnown, DecisionsAreKnown, InsideIsKnown, CallsAreKnown, SentAreKnown, LocksetsKeep, LocksKeep, DeathsKeep, ReadsKeep, WritesKeep, TestsKeep, ShadowsKeep, DecisionsKeep, ReleasesKeep, OperationsKeep, ReadsOutsideKeep, AnsweredKeep, OpenedKeep, ReturnsKeep, BoundKeep, EndedKeep};
+ghost use Rattle.beldi_known.specs.Laws.{OneAnswerMore, OpenHasNotEnded, EndsStay, StaysSane, RunsStayBehind, ReadsAreKnown, DecisionsAreKnown, InsideIsKnown, CallsAreKnown, SentAreKnown, LocksetsKeep, LocksKeep, DeathsKeep, ReadsKeep, WritesKeep, TestsKeep, ShadowsKeep, DecisionsKeep, ReleasesKeep, OperationsKeep, ReadsOutsideKeep, AnsweredKeep, OpenedKeep, ReturnsKeep, BoundKeep, EndedKeep, TransactionsNest, AbortsReturn, AtOnceCloses, BoundIsSane, AnsweredIsSane, OperatedIsSane, DiedIsSane, CalledIsSane, SentIsSane, ReturnedIsSane, EndedIsSane, LocksAreAhead, LocksStayAhead, OthersAreUnlocked, AbsentAreChildless, NowIsOpen, DecidedAreOver, EndsAreAlone, OwnersHoldNone, DeathsAreOlder, NothingIsRight, EffectsAreSane};
 
 /// An answer more, and what takes no turn after it, change what an instance owes at the place of that answer alone.
 pub fn one_answer_more()
@@ -129,4 +129,114 @@ pub fn ended_keep()
 /// Rows match what is known after a decided transaction releases an item.
 pub fn releases_keep()
     ensures { ReleasesKeep }
+{}
+
+/// Transactions of a body do not nest, begin with no lock held, and end as they went.
+pub fn transactions_nest()
+    ensures { TransactionsNest }
+{}
+
+/// Who was called in a transaction returns an abort.
+pub fn aborts_return()
+    ensures { AbortsReturn }
+{}
+
+/// After what takes no turn an instance stands at an effect that does.
+pub fn at_once_closes()
+    ensures { AtOnceCloses }
+{}
+
+/// All that is known stays sane with a root that is made.
+pub fn bound_is_sane()
+    ensures { BoundIsSane }
+{}
+
+/// All that is known stays sane with an answer to another effect than a call.
+pub fn answered_is_sane()
+    ensures { AnsweredIsSane }
+{}
+
+/// All that is known stays sane with a read, a write and an End.
+pub fn effects_are_sane()
+    ensures { EffectsAreSane }
+{}
+
+/// All that is known stays sane with an operation outside.
+pub fn operated_is_sane()
+    ensures { OperatedIsSane }
+{}
+
+/// All that is known stays sane with a death.
+pub fn died_is_sane()
+    ensures { DiedIsSane }
+{}
+
+/// All that is known stays sane with a callee that is made.
+pub fn called_is_sane()
+    ensures { CalledIsSane }
+{}
+
+/// All that is known stays sane with a callee that nobody waits for.
+pub fn sent_is_sane()
+    ensures { SentIsSane }
+{}
+
+/// All that is known stays sane with a callee that gives its outcome back.
+pub fn returned_is_sane()
+    ensures { ReturnedIsSane }
+{}
+
+/// All that is known stays sane with the outcome of who nobody waits for.
+pub fn ended_is_sane()
+    ensures { EndedIsSane }
+{}
+
+/// A lock that is taken is that of an instance at an operation inside.
+pub fn locks_are_ahead()
+    ensures { LocksAreAhead }
+{}
+
+/// The locks that are ahead are those of instances at operations inside, once an instance was set.
+pub fn locks_stay_ahead()
+    ensures { LocksStayAhead }
+{}
+
+/// Who stands at no operation inside has no lock ahead.
+pub fn others_are_unlocked()
+    ensures { OthersAreUnlocked }
+{}
+
+/// Who is not there has called nobody.
+pub fn absent_are_childless()
+    ensures { AbsentAreChildless }
+{}
+
+/// The transaction of who can step has not ended.
+pub fn now_is_open()
+    ensures { NowIsOpen }
+{}
+
+/// Who was called in a transaction that has ended has its outcome.
+pub fn decided_are_over()
+    ensures { DecidedAreOver }
+{}
+
+/// At an End nobody else that can step is in a transaction of that instance.
+pub fn ends_are_alone()
+    ensures { EndsAreAlone }
+{}
+
+/// The owner of the transaction of who can step holds no lock of its own.
+pub fn owners_hold_none()
+    ensures { OwnersHoldNone }
+{}
+
+/// Who lets an operation inside die is older than its transaction.
+pub fn deaths_are_older()
+    ensures { DeathsAreOlder }
+{}
+
+/// At the start nothing is known, no lock is ahead and no row is there, and all that matches.
+pub fn nothing_is_right()
+    ensures { NothingIsRight }
 {}

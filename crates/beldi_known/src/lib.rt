@@ -1,7 +1,8 @@
 //! What is known of each instance: the answers that the rows hold, inside transactions and outside. It has no code.
 //! It stands on the plain machine and on the step of the host. Its definitions: `specs/Known` (what an instance owes the
 //! rows, by its answers), `specs/Matches` (rows that match what is known), `specs/Sane` (instances that went as their
-//! bodies want), `specs/Acts` (the acts inside a transaction), `specs/Frame` (an answer more), `specs/Laws` (the laws).
+//! bodies want), `specs/Beside` (what is known beside the plain state), `specs/Listed` (the value that is listed),
+//! `specs/Acts` (the acts inside a transaction), `specs/Frame` (an answer more), `specs/Laws` (the laws).
 //!
 //! Proved:
 //! - An answer more changes what its instance owes at its place alone (`one_answer_more`). A Begin that is open has not
@@ -15,14 +16,28 @@
 //! - So do operations and reads outside, and answers to calls (`operations_keep`, `reads_outside_keep`, `answered_keep`);
 //!   calls that are opened, and that give back (`opened_keep`, `returns_keep`); roots that are made, and who ends that
 //!   nobody waits for (`bound_keep`, `ended_keep`).
+//! - Transactions of a body do not nest, begin with no lock held, and end without commit after an abort
+//!   (`transactions_nest`). Who was called in one returns an abort (`aborts_return`), and what takes no turn leaves an effect
+//!   that does (`at_once_closes`).
+//! - All that is known stays sane, move by move (`bound_is_sane`, `answered_is_sane`, `effects_are_sane`, `operated_is_sane`,
+//!   `died_is_sane`, `called_is_sane`, `sent_is_sane`, `returned_is_sane`, `ended_is_sane`).
+//!   So the transaction of who can step has not ended, at its End nobody else is inside, and its owner holds no lock of
+//!   its own (`absent_are_childless`, `now_is_open`, `decided_are_over`, `ends_are_alone`, `owners_hold_none`).
+//!   So who lets an operation inside die is older than its transaction (`deaths_are_older`).
+//! - A lock that is ahead is that of an instance at an operation inside, and of nobody else (`locks_are_ahead`,
+//!   `locks_stay_ahead`, `others_are_unlocked`). At the start all that holds (`nothing_is_right`).
 #![tactic(auto)]
 
 mod laws;
 
 pub use laws::{
-    answered_keep, bound_keep, calls_are_known, deaths_keep, decisions_are_known, decisions_keep,
-    ended_keep, ends_stay, inside_is_known, locks_keep, locksets_keep, one_answer_more,
-    open_has_not_ended, opened_keep, operations_keep, reads_are_known, reads_keep,
-    reads_outside_keep, releases_keep, returns_keep, runs_stay_behind, sent_are_known,
-    shadows_keep, stays_sane, tests_keep, writes_keep,
+    aborts_return, absent_are_childless, answered_is_sane, answered_keep, at_once_closes,
+    bound_is_sane, bound_keep, called_is_sane, calls_are_known, deaths_are_older, deaths_keep,
+    decided_are_over, decisions_are_known, decisions_keep, died_is_sane, effects_are_sane,
+    ended_is_sane, ended_keep, ends_are_alone, ends_stay, inside_is_known, locks_are_ahead,
+    locks_keep, locks_stay_ahead, locksets_keep, nothing_is_right, now_is_open, one_answer_more,
+    open_has_not_ended, opened_keep, operated_is_sane, operations_keep, others_are_unlocked,
+    owners_hold_none, reads_are_known, reads_keep, reads_outside_keep, releases_keep,
+    returned_is_sane, returns_keep, runs_stay_behind, sent_are_known, sent_is_sane, shadows_keep,
+    stays_sane, tests_keep, transactions_nest, writes_keep,
 };

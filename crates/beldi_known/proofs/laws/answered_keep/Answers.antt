@@ -4,7 +4,8 @@ use Rattle.beldi_lang.specs.declared.effect.Answer.{Answer}
 use Rattle.beldi_plain.specs.Operation.{op_of}
 use Rattle.beldi_order.specs.Sane.{call_of}
 use Rattle.beldi_known.specs.Frame.{row_added}
-use Rattle.beldi_known.specs.Known.{moved, txs_after, commit_in}
+use Rattle.beldi_known.specs.Known.{moved, commit_in}
+use Rattle.beldi_order.specs.Txs.{txs_after}
 use Rattle.beldi_known.proofs.Outside.{call_answered}
 use Rattle.beldi_known.proofs.Frame.{moved_one}
 use Rattle.beldi_known.proofs.laws.answered_keep.Goals as goal

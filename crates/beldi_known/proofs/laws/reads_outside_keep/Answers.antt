@@ -2,7 +2,8 @@ use Rattle.std.proofs.Common.{ap, length}
 use Rattle.beldi_lang.specs.declared.effect.Answer.TheVariants.{Value}
 use Rattle.beldi_plain.specs.Operation.{op_of}
 use Rattle.beldi_known.specs.Frame.{row_added}
-use Rattle.beldi_known.specs.Known.{moved, txs_after, commit_in}
+use Rattle.beldi_known.specs.Known.{moved, commit_in}
+use Rattle.beldi_order.specs.Txs.{txs_after}
 use Rattle.beldi_known.proofs.Outside.{read_added}
 use Rattle.beldi_known.proofs.Frame.{moved_one}
 use Rattle.beldi_known.proofs.laws.reads_outside_keep.Goals as goal

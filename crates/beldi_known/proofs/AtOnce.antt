@@ -1,0 +1,88 @@
+-- What takes no turn: two steps are enough, and what each such answer keeps is kept.
+use Rattle.std.proofs.Common.{◌≡◌, ◌⊎◌, inl, inr, ℕ, [], ◌∷◌, ◌++◌, length, Option, Some, None, is_some, refl, ap, sym, ◌∙◌, subst}
+use Rattle.beldi_value.specs.declared.id.IntentId.{IntentId}
+use Rattle.beldi_value.specs.declared.outcome.Outcome.{Outcome}
+use Rattle.beldi_tree.specs.declared.deployment.Deployment.{Deployment}
+use Rattle.beldi_lang.specs.declared.effect.Answer.{Answer}
+use Rattle.beldi_lang.specs.declared.effect.Answer.TheVariants as answer
+use Rattle.beldi_lang.specs.declared.effect.Effect.{Effect}
+use Rattle.beldi_lang.specs.declared.effect.Effect.TheVariants as effect
+use Rattle.beldi_known.proofs.Begins.{begins_once, aborts_once}
+use Rattle.beldi_plain.specs.Executor.{answered_if}
+use Rattle.beldi_plain.specs.Plain.{Instance, answered, effect_of}
+use Rattle.beldi_step.specs.Run.{place_of}
+use Rattle.beldi_known.specs.Known.{answer_at_once, once_if, once, at_once}
+use Rattle.beldi_known.specs.Sane.{Closed}
+use Rattle.beldi_known.proofs.Frame.{at_once_same}
+
+-- it is that of a Begin, or of an Abort
+pub at_once_is : (id : IntentId) (n : ℕ) (e : Effect) (a : Answer) → answer_at_once id n e ≡ Some a → (e ≡ effect.Begin) ⊎ ((e ≡ effect.Abort) × (a ≡ answer.Aborted (record { place = place_of id n; holder = None })))
+at_once_is id n effect.Begin a h = inl refl
+at_once_is id n effect.Abort a h = let same : answer.Aborted (record { place = place_of id n; holder = None }) ≡ a = cc in inr (refl, sym same)
+at_once_is id n e a h = cc
+
+none_of : (id : IntentId) (n : ℕ) (e : Effect) → (e ≡ effect.Begin ⊎ e ≡ effect.Abort → ⊥) → answer_at_once id n e ≡ None
+none_of id n effect.Begin h = absurd (h (inl refl))
+none_of id n effect.Abort h = absurd (h (inr refl))
+none_of id n e h = refl
+
+module _ (d : Deployment) (id : IntentId) where
+  -- the answer that an instance has without a turn
+  abbrev next : Instance → Option Answer
+  next q = answer_at_once id (length q.answers) (effect_of d q)
+
+  once_none : (q : Instance) → next q ≡ None → once d id q ≡ q
+  once_none q is = by_outcome q.outcome
+    where
+      by_outcome : (o : Option Outcome) → once_if d id q o ≡ q
+      by_outcome None = ap (answered_if q) is
+      by_outcome (Some o) = refl
+
+  once_some : (q : Instance) (a : Answer) → q.outcome ≡ None → next q ≡ Some a → once d id q ≡ answered q a
+  once_some q a none is = ap (once_if d id q) none ∙ ap (answered_if q) is
+
+  -- ---- what is kept
+  once_by : (P : Instance → Type 0) → ((q : Instance) (a : Answer) → q.outcome ≡ None → next q ≡ Some a → P q → P (answered q a)) → (q : Instance) → P q → P (once d id q)
+  once_by P keeps q h = by_outcome q.outcome refl
+    where
+      by_answer : q.outcome ≡ None → (o : Option Answer) → next q ≡ o → P (answered_if q o)
+      by_answer none None is = h
+      by_answer none (Some a) is = keeps q a none is h
+
+      by_outcome : (o : Option Outcome) → q.outcome ≡ o → P (once_if d id q o)
+      by_outcome None none = by_answer none (next q) refl
+      by_outcome (Some o) some = h
+
+  pub at_once_by : (P : Instance → Type 0) → ((q : Instance) (a : Answer) → q.outcome ≡ None → next q ≡ Some a → P q → P (answered q a)) → (q : Instance) → P q → P (at_once d id q)
+  at_once_by P keeps q h = once_by P keeps (once d id q) (once_by P keeps q h)
+
+  -- what an instance was called with stays
+  pub origin_stays : (q : Instance) → ((at_once d id q).from ≡ q.from) × ((at_once d id q).within ≡ q.within)
+  origin_stays q = at_once_by (λ r. (r.from ≡ q.from) × (r.within ≡ q.within)) (λ r a none is h. h) q (refl, refl)
+
+  -- ---- two steps are enough
+  -- a third one would stand after a second Begin, or after an Abort
+  no_third : (q : Instance) (a b : Answer) → next q ≡ Some a → next (answered q a) ≡ Some b → next (answered (answered q a) b) ≡ None
+  no_third q a b is more = by_first (at_once_is id (length q.answers) (effect_of d q) a is) (at_once_is id (length (answered q a).answers) (effect_of d (answered q a)) b more)
+    where
+      by_first : (effect_of d q ≡ effect.Begin) ⊎ ((effect_of d q ≡ effect.Abort) × (a ≡ answer.Aborted (record { place = place_of id (length q.answers); holder = None })))
+          → (effect_of d (answered q a) ≡ effect.Begin) ⊎ ((effect_of d (answered q a) ≡ effect.Abort) × (b ≡ answer.Aborted (record { place = place_of id (length (answered q a).answers); holder = None }))) → next (answered (answered q a) b) ≡ None
+      by_first (inl e) (inl f) = absurd (begins_once d q.func q.args (is_some q.within) q.answers a e f)
+      by_first (inl e) (inr f) = none_of id (length (answered (answered q a) b).answers) (effect_of d (answered (answered q a) b)) (λ g. aborts_once d q.func q.args (is_some q.within) (q.answers ++ a ∷ []) (record { place = place_of id (length (answered q a).answers); holder = None }) f.0
+          (subst (λ c. effect_of d (answered (answered q a) c) ≡ effect.Begin ⊎ effect_of d (answered (answered q a) c) ≡ effect.Abort) f.1 g))
+      by_first (inr e) f = absurd (aborts_once d q.func q.args (is_some q.within) q.answers (record { place = place_of id (length q.answers); holder = None }) e.0
+          (subst (λ c. effect_of d (answered q c) ≡ effect.Begin ⊎ effect_of d (answered q c) ≡ effect.Abort) e.1 (elim f [ inl g ↦ inl g | inr g ↦ inr g.0 ])))
+
+  pub closed_at_once : (q : Instance) → Closed d id (at_once d id q)
+  closed_at_once q none = by_first (next q) refl
+    where
+      open_still : q.outcome ≡ None
+      open_still = sym (at_once_same d id q).outcome ∙ none
+
+      by_next : (a : Answer) → next q ≡ Some a → (o : Option Answer) → next (answered q a) ≡ o → next (once d id (answered q a)) ≡ None
+      by_next a is None more = ap next (once_none (answered q a) more) ∙ more
+      by_next a is (Some b) more = ap next (once_some (answered q a) b open_still more) ∙ no_third q a b is more
+
+      by_first : (o : Option Answer) → next q ≡ o → next (at_once d id q) ≡ None
+      by_first None is = ap (λ r. next (once d id r)) (once_none q is) ∙ ap next (once_none q is) ∙ is
+      by_first (Some a) is = ap (λ r. next (once d id r)) (once_some q a open_still is) ∙ by_next a is (next (answered q a)) refl

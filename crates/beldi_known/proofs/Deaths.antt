@@ -1,0 +1,75 @@
+-- Who lets an operation inside die is older than its transaction.
+use Rattle.std.proofs.Common.{◌≡◌, ℕ, Bool, true, false, List, Option, Some, None, refl, ap, sym, ◌∙◌, if◌then◌else◌}
+use Rattle.beldi_value.specs.Id.{age_of, is_older}
+use Rattle.beldi_value.specs.declared.id.IntentId.{IntentId}
+use Rattle.beldi_value.specs.declared.outcome.Outcome.{Outcome}
+use Rattle.beldi_value.specs.declared.place.Owner.{Owner}
+use Rattle.beldi_value.specs.declared.place.Owner.TheVariants.{Intent, Tx}
+use Rattle.beldi_value.specs.declared.place.Place.{Place}
+use Rattle.beldi_value.specs.declared.place.TxId.{TxId}
+use Rattle.beldi_value.proofs.Ages.{either}
+use Rattle.beldi_tree.specs.declared.deployment.Deployment.{Deployment}
+use Rattle.beldi_row.specs.Act.{other_owner}
+use Rattle.beldi_row.specs.Log.{note_at, id_eq, owner_eq}
+use Rattle.beldi_row.specs.declared.notes.Note.TheVariants as notes
+use Rattle.beldi_row.proofs.Logs.{id_self}
+use Rattle.beldi_daal.specs.Content.{Content}
+use Rattle.beldi_plain.specs.Item.{Item}
+use Rattle.beldi_plain.specs.Plain.{Instance}
+use Rattle.beldi_known.specs.Acts.{Told, held, died, with_note, lock_or, lock_on}
+use Rattle.beldi_known.specs.Contents.{is_owner}
+use Rattle.beldi_known.specs.Known.{Known}
+use Rattle.beldi_plain.specs.Operation.{touched}
+use Rattle.beldi_known.specs.Laws.{IsFront}
+use Rattle.beldi_known.specs.Matches.{ItemMatches}
+use Rattle.beldi_known.specs.Sane.{Sane}
+use Rattle.beldi_order.specs.Sane.{IsDeath}
+use Rattle.beldi_known.proofs.Locks.{tx_self}
+use Rattle.beldi_known.proofs.Participants.{owner_holds_none}
+use Rattle.beldi_known.proofs.Told.{past_note}
+
+-- it owns the item, and is not younger
+record Stops (t : TxId) (was : Option Owner) (holder : IntentId) : Type 0 where
+  owner : Owner
+  owns : was ≡ Some owner
+  other : owner_eq owner (Tx t) ≡ false
+  old : is_older t.intent (age_of owner) ≡ false
+  age : age_of owner ≡ holder
+
+stops : (p : Place) (t : TxId) (c x : Content) (holder : IntentId) → lock_on p t c ≡ (x, died holder) → Stops t c.owner holder
+stops p t c x holder h =
+    let k = past_note c x (note_at c.notes p) (lock_or p t c (other_owner (Tx t) c.owner)) (died holder) h (λ m e. cc) in
+    by_owner c.owner k.1
+  where
+    by_age : (o : Owner) → owner_eq o (Tx t) ≡ false → (b : Bool) → is_older t.intent (age_of o) ≡ b → ◌≡◌ {A = Content × Told} (if b then (c, held o) else (with_note c p (notes.Died (age_of o)), died (age_of o))) (x, died holder) → Stops t (Some o) holder
+    by_age o other true e g = let clash = ap (λ z. z.1) g in cc
+    by_age o other false e g = let told = ap (λ z. z.1) g in let same : age_of o ≡ holder = cc in record { owner = o; owns = refl; other = other; old = e; age = same }
+
+    by_other : (o : Owner) (b : Bool) → owner_eq o (Tx t) ≡ b → lock_or p t c (if b then None else Some o) ≡ (x, died holder) → Stops t (Some o) holder
+    by_other o true e g = let clash = ap (λ z. z.1) g in cc
+    by_other o false e g = by_age o e (is_older t.intent (age_of o)) refl g
+
+    by_owner : (w : Option Owner) → lock_or p t c (other_owner (Tx t) w) ≡ (x, died holder) → Stops t w holder
+    by_owner None g = let clash = ap (λ z. z.1) g in cc
+    by_owner (Some o) g = by_other o (owner_eq o (Tx t)) refl g
+
+module _ (d : Deployment) (known : Known) (h : Sane d known) (locked : IntentId → Bool) (id : IntentId) (q : Instance) (s : TxId) (t : ℕ) (k : List ℕ) (front : IsFront d known id q s t k) (y : Item) (c : Content) (matches : ItemMatches d known locked y c) where
+  -- no other transaction of its intent owns the item, so it is as old as no owner
+  pub death_is_older : ((u : TxId) → c.owner ≡ Some (Tx u) → u.intent ≡ s.intent → u ≡ s) → (p : Place) (x : Content) (holder : IntentId) → lock_on p s c ≡ (x, died holder) → IsDeath p s (record { place = p; holder = Some holder })
+  death_is_older single p x holder acts =
+      let z = stops p s c x holder acts in
+      record { holder = holder; cause = refl; older = by_test (is_older holder s.intent) refl z }
+    where
+      open_still : (o : Option Outcome) → q.outcome ≡ o → o ≡ None
+      open_still None is = refl
+      open_still (Some o) is = let m = h.each id q front.made in let clash = sym front.touch ∙ ap touched (m.over o is) in cc
+
+      apart : (o : Owner) → c.owner ≡ Some o → owner_eq o (Tx s) ≡ false → s.intent ≡ age_of o → ⊥
+      apart (Intent j) owns other same =
+          let none = owner_holds_none d known h id q s front.made (open_still q.outcome refl) front.inside y in
+          let clash = sym (id_self j) ∙ ap (λ i. id_eq j i) (sym same) ∙ sym (ap (λ w. is_owner w (Intent s.intent)) owns) ∙ matches.owner s.intent ∙ none in cc
+      apart (Tx u) owns other same = let one = single u owns (sym same) in let clash = sym (tx_self s) ∙ ap (λ v. owner_eq (Tx v) (Tx s)) (sym one) ∙ other in cc
+
+      by_test : (b : Bool) → is_older holder s.intent ≡ b → Stops s c.owner holder → b ≡ true
+      by_test true e z = refl
+      by_test false e z = absurd (apart z.owner z.owns z.other (either s.intent (age_of z.owner) z.old (ap (λ i. is_older i s.intent) z.age ∙ e)))

@@ -1,0 +1,84 @@
+-- At the start nothing is known, no lock is ahead, and no row is there: all that matches.
+use Rattle.std.proofs.Common.{◌≡◌, ℕ, zero, suc, ◌==◌, Bool, true, false, [], Some, None, refl, ap, sym, ◌∙◌, subst}
+use Rattle.std.specs.FinMap as map
+use Rattle.std.specs.FinMap.{get-empty}
+use Rattle.beldi_value.specs.Id.{id_cmp, root_of, child_of, has_no_hops}
+use Rattle.beldi_value.specs.declared.id.IntentId.{IntentId}
+use Rattle.beldi_value.specs.declared.value.Value.TheVariants.{Null}
+use Rattle.beldi_tree.specs.declared.deployment.Deployment.{Deployment}
+use Rattle.beldi_row.specs.Key.{key_cmp}
+use Rattle.beldi_row.specs.declared.key.Kind.{Kind}
+use Rattle.beldi_row.specs.declared.key.Kind.TheVariants as kinds
+use Rattle.beldi_daal.specs.Content.{Content, content_in}
+use Rattle.beldi_plain.specs.Holds.{holds}
+use Rattle.beldi_plain.specs.Plain.{Instance}
+use Rattle.beldi_known.specs.Contents.{head_key, shadow_key}
+use Rattle.beldi_known.specs.Known.{Known, owed_value, owed_note, owed_shadow, owed_lockset, got_by}
+use Rattle.beldi_known.specs.Matches.{Matches, RowMatches, ItemMatches, ShadowMatches, TxsMatch, LockedAtEnds}
+use Rattle.beldi_known.specs.Owed.{called_by}
+use Rattle.beldi_known.specs.Rows.{RootMatches, IntentMatches, CellMatches}
+use Rattle.beldi_known.specs.Sane.{Sane}
+use Rattle.beldi_known.proofs.Instances.{no_callee}
+
+abbrev none : Known
+none = map.empty
+
+abbrev unlocked : IntentId → Bool
+unlocked id = false
+
+absent : (id : IntentId) → map.get none id ≡ None
+absent id = get-empty id_cmp id
+
+nobody : (id : IntentId) (q : Instance) → map.get none id ≡ Some q → ⊥
+nobody id q is = let clash = sym (absent id) ∙ is in cc
+
+pub sane_nothing : (d : Deployment) → Sane d none
+sane_nothing d = record {
+  each = λ id q is. absurd (nobody id q is);
+  closed = λ id q is. absurd (nobody id q is);
+  called = λ i n j is. absurd (nobody (child_of i n) j is);
+  within = λ i q n j is on. absurd (nobody i q is);
+  callees = λ i q n w f a is. absurd (nobody i q is);
+  roots = λ t q is. absurd (nobody (root_of t) q is);
+}
+
+pub ahead_nothing : (d : Deployment) → LockedAtEnds d none unlocked
+ahead_nothing d id e = cc
+
+-- ---- rows
+no_intent : (home : ℕ) (b : Bool) → IntentMatches b home None None
+no_intent home true = by_home (home == 0)
+  where
+    by_home : (b : Bool) → RootMatches b None None
+    by_home true = refl
+    by_home false = refl
+no_intent home false = record { open_still = λ q is same idle. cc }
+
+no_cell : (n : ℕ) → CellMatches n None
+no_cell zero = tt
+no_cell (suc n) = refl
+
+no_row : (d : Deployment) (home : ℕ) (k : Kind) → RowMatches d none home k None
+no_row d home (kinds.Intent id) = subst (IntentMatches (has_no_hops id.hops) home None) (sym (absent id)) (no_intent home (has_no_hops id.hops))
+no_row d home (kinds.ReadLog a) = ap (owed_value d home a.step) (absent a.intent)
+no_row d home (kinds.Invoke a) = ap (called_by home (map.get none a.intent)) (absent (child_of a.intent a.step)) ∙ no_callee home (map.get none a.intent)
+no_row d home (kinds.Lockset i b t k) = ap (owed_lockset d b (record { func = home; table = t; key = k }) i) (absent i)
+no_row d home (kinds.Data t k n) = no_cell n
+no_row d home (kinds.Shadow s t k n) = no_cell n
+
+abbrev empty_content : Content
+empty_content = record { value = Null; owner = None; notes = [] }
+
+pub nothing_matches : (d : Deployment) → Matches d map.empty none unlocked
+nothing_matches d = record {
+  keys = λ k. subst (RowMatches d none k.home k.kind) (sym (get-empty key_cmp k)) (no_row d k.home k.kind);
+  items = λ x. subst (ItemMatches d none unlocked x) (sym (ap content_in (get-empty key_cmp (head_key x)))) (record {
+    owner = λ j. sym (ap (holds d x) (absent j));
+    notes = λ a other. sym (ap (owed_note d x a.intent false a.step) (absent a.intent));
+  });
+  shadows = λ t x. subst (ShadowMatches d none t x) (sym (ap content_in (get-empty key_cmp (shadow_key t x)))) (λ a. sym (ap (owed_shadow d t x a.intent a.step) (absent a.intent)));
+  txs = λ x. subst (λ (c : Content). TxsMatch d none unlocked x c.owner) (sym (ap content_in (get-empty key_cmp (head_key x)))) (record {
+    owned_is_got = λ t e. cc;
+    got_is_owned = λ t g open_still. let clash = sym (ap (got_by d t x g.member false) (absent g.member)) ∙ g.got in cc;
+  });
+}

@@ -1,0 +1,447 @@
+-- Where a body is, by the answers of its instance: the Begin that is open, what was aborted since, and the locks that it holds.
+use Rattle.std.proofs.Common.{◌≡◌, ◌⊎◌, inl, inr, ℕ, zero, suc, ◌<◌, ◌==◌, ◌||◌, ◌&&◌, not, Bool, true, false, List, [], ◌∷◌, ◌++◌, length, take, Option, Some, None, is_some, refl, ap, sym, ◌∙◌, subst, arith, length-append, append_assoc, append-nil, eqb-true, eq-eqb, if◌then◌else◌}
+use Rattle.std.specs.Prelude.{slice_get}
+use Rattle.std.specs.Cmp.{unsigned_Decides}
+use Rattle.std.specs.Ordering.{is_eq}
+use Rattle.std.proofs.lemmas.List.{take-append-le}
+use Rattle.std.proofs.lemmas.Option.{slice_get_within}
+use Rattle.std.proofs.lemmas.Cmp.{tied_itself}
+use Rattle.std.proofs.lemmas.Slice.Eq.{slice_eq-Decides}
+use Rattle.beldi_value.specs.declared.outcome.Cause.{Cause}
+use Rattle.beldi_value.specs.declared.id.IntentId.{IntentId}
+use Rattle.beldi_value.specs.declared.outcome.Outcome.TheVariants as outcome
+use Rattle.beldi_value.specs.declared.place.Place.{Place}
+use Rattle.beldi_value.specs.declared.place.TxId.{TxId}
+use Rattle.beldi_tree.specs.declared.deployment.Deployment.{Deployment}
+use Rattle.beldi_tree.specs.Bindings.{is_name}
+use Rattle.beldi_lang.specs.declared.effect.Answer.{Answer}
+use Rattle.beldi_lang.specs.declared.effect.Answer.TheVariants as answer
+use Rattle.beldi_lang.specs.declared.effect.Effect.{Effect}
+use Rattle.beldi_lang.specs.declared.effect.Effect.TheVariants as effect
+use Rattle.beldi_lang.specs.declared.state.HeldLock.{HeldLock}
+use Rattle.beldi_lang.specs.Locks.{is_lock, is_held, without}
+use Rattle.beldi_tree.specs.Names.{func_at}
+use Rattle.beldi_lang.specs.Wants.{body, is_inside}
+use Rattle.beldi_known.proofs.Flows.{Phase, block, own, aborted, leaving, stands, held_after, asked}
+use Rattle.beldi_known.proofs.Begins.{is_begun, is_leaving, is_unlock, begun_after, Going, Now, Next, at_first, going_now, going_next, going_on, dies_own, dies_else}
+use Rattle.beldi_plain.specs.Holds.{held_if, held_along, holds}
+use Rattle.beldi_plain.specs.Item.{Item, item_cmp, item_total}
+use Rattle.beldi_plain.specs.Operation.{op_of}
+use Rattle.beldi_plain.specs.Plain.{Instance, answered, effect_of}
+use Rattle.beldi_order.proofs.Called.{get_front, get_last, longer_cases}
+use Rattle.beldi_order.proofs.Maps.{same_some}
+use Rattle.beldi_order.proofs.Operations.{held_pushed, item_same}
+use Rattle.beldi_order.specs.Txs.{tx_now, tx_at, tx_after, or_own, tx_by, txs_after, txs_by, Txs, effect_after}
+use Rattle.beldi_plain.specs.Piece.{is_aborted}
+use Rattle.beldi_step.specs.Run.{place_of}
+use Rattle.beldi_known.specs.Sane.{SaneInstance}
+use Rattle.beldi_order.specs.Sane.{IsAnswer}
+use Rattle.beldi_known.proofs.Answers.{take_front}
+use Rattle.beldi_order.proofs.Went.{txs_pushed}
+
+-- ---- locks
+name_decides : (a b : List ℕ) → (is_name a b ≡ true → a ≡ b) × (a ≡ b → is_name a b ≡ true)
+name_decides a b = slice_eq-Decides unsigned_Decides a b (is_name a b) refl
+
+lock_is : (t : ℕ) (k : List ℕ) (l : HeldLock) → is_lock t k l ≡ true → (l.table ≡ t) × (l.key ≡ k)
+lock_is t k l h = by_table (l.table == t) refl
+  where
+    by_table : (b : Bool) → (l.table == t) ≡ b → (l.table ≡ t) × (l.key ≡ k)
+    by_table true e = (eqb-true l.table t e, (name_decides l.key k).0 (sym (ap (λ b. b && is_name l.key k) e) ∙ h))
+    by_table false e = let clash = sym h ∙ ap (λ b. b && is_name l.key k) e in cc
+
+lock_itself : (l : HeldLock) → is_lock l.table l.key l ≡ true
+lock_itself l = ap (λ b. b && is_name l.key l.key) (eq-eqb l.table l.table refl) ∙ (name_decides l.key l.key).1 refl
+
+or_right : (a b : Bool) → b ≡ true → (a || b) ≡ true
+or_right true b h = refl
+or_right false b h = h
+
+held_front : (t : ℕ) (k : List ℕ) (hs : List HeldLock) (l : HeldLock) → is_held t k hs ≡ true → is_held t k (hs ++ l ∷ []) ≡ true
+held_front t k [] l h = cc
+held_front t k (m ∷ ms) l h = by_test (λ g. held_front t k ms l g) (is_lock t k m) refl
+  where
+    by_test : (is_held t k ms ≡ true → is_held t k (ms ++ l ∷ []) ≡ true) → (b : Bool) → is_lock t k m ≡ b → (is_lock t k m || is_held t k (ms ++ l ∷ [])) ≡ true
+    by_test rest true e = ap (λ b. b || is_held t k (ms ++ l ∷ [])) e
+    by_test rest false e = or_right (is_lock t k m) (is_held t k (ms ++ l ∷ [])) (rest (sym (ap (λ b. b || is_held t k ms) e) ∙ h))
+
+held_last : (hs : List HeldLock) (l : HeldLock) → is_held l.table l.key (hs ++ l ∷ []) ≡ true
+held_last [] l = ap (λ b. b || false) (lock_itself l)
+held_last (m ∷ ms) l = or_right (is_lock l.table l.key m) (is_held l.table l.key (ms ++ l ∷ [])) (held_last ms l)
+
+-- the unlock of another one
+held_without : (t u : ℕ) (k j : List ℕ) (hs : List HeldLock) → (t ≡ u → k ≡ j → ⊥) → is_held u j hs ≡ true → is_held u j (without t k hs) ≡ true
+held_without t u k j [] other h = cc
+held_without t u k j (m ∷ ms) other h = by_test (λ g. held_without t u k j ms other g) (is_lock t k m) refl (is_lock u j m) refl
+  where
+    by_test : (is_held u j ms ≡ true → is_held u j (without t k ms) ≡ true) → (b : Bool) → is_lock t k m ≡ b → (c : Bool) → is_lock u j m ≡ c → is_held u j (if not (is_lock t k m) then m ∷ without t k ms else without t k ms) ≡ true
+    by_test rest true e true f = let a = lock_is t k m e in let b = lock_is u j m f in absurd (other (sym a.0 ∙ b.0) (sym a.1 ∙ b.1))
+    by_test rest true e false f = ap (λ b. is_held u j (if not b then m ∷ without t k ms else without t k ms)) e ∙ rest (sym (ap (λ b. b || is_held u j ms) f) ∙ h)
+    by_test rest false e true f = ap (λ b. is_held u j (if not b then m ∷ without t k ms else without t k ms)) e ∙ ap (λ b. b || is_held u j (without t k ms)) f
+    by_test rest false e false f = ap (λ b. is_held u j (if not b then m ∷ without t k ms else without t k ms)) e ∙ or_right (is_lock u j m) (is_held u j (without t k ms)) (rest (sym (ap (λ b. b || is_held u j ms) f) ∙ h))
+
+-- what its answers say that it holds is among the locks of the body
+abbrev Holds : Item → ℕ → Bool → List HeldLock → Type 0
+Holds x func b hs = b ≡ true → (x.func ≡ func) × (is_held x.table x.key hs ≡ true)
+
+holds_after : (x : Item) (func : ℕ) (hs : List HeldLock) (e : Effect) (b : Bool) → Holds x func b hs → Holds x func (held_if x func (op_of e) b) (held_after e hs)
+holds_after x func hs (effect.Write t k v) b h = by_test (is_eq (item_cmp (record { func = func; table = t; key = k }) x))
+  where
+    by_test : (c : Bool) → Holds x func (if c then b else b) hs
+    by_test true = h
+    by_test false = h
+holds_after x func hs (effect.CondWrite t k r o v) b h = by_test (is_eq (item_cmp (record { func = func; table = t; key = k }) x))
+  where
+    by_test : (c : Bool) → Holds x func (if c then b else b) hs
+    by_test true = h
+    by_test false = h
+holds_after x func hs (effect.Lock t k) b h = by_test (is_eq (item_cmp (record { func = func; table = t; key = k }) x)) refl
+  where
+    by_test : (c : Bool) → is_eq (item_cmp (record { func = func; table = t; key = k }) x) ≡ c → Holds x func (if c then true else b) (hs ++ record { table = t; key = k } ∷ [])
+    by_test true e g = let same = item_same (record { func = func; table = t; key = k }) x e in
+        subst (λ (y : Item). (y.func ≡ func) × (is_held y.table y.key (hs ++ record { table = t; key = k } ∷ []) ≡ true)) same (refl, held_last hs (record { table = t; key = k }))
+    by_test false e g = let k0 = h g in (k0.0, held_front x.table x.key hs (record { table = t; key = k }) k0.1)
+holds_after x func hs (effect.Unlock t k) b h = by_test (is_eq (item_cmp (record { func = func; table = t; key = k }) x)) refl
+  where
+    by_test : (c : Bool) → is_eq (item_cmp (record { func = func; table = t; key = k }) x) ≡ c → Holds x func (if c then false else b) (without t k hs)
+    by_test true e g = cc
+    by_test false e g =
+        let k0 = h g in
+        let apart : t ≡ x.table → k ≡ x.key → ⊥ = λ u v.
+        let same : record { func = func; table = t; key = k } ≡ x = λ i. record { func = sym k0.0 i; table = u i; key = v i } in
+        let clash = sym e ∙ ap (λ z. is_eq (item_cmp z x)) same ∙ ap is_eq (tied_itself item_total x) in cc in
+        (k0.0, held_without t x.table k x.key hs apart k0.1)
+holds_after x func hs e b h = h
+
+-- .. and it has no lock where it locked nothing
+abbrev pub is_locking : Effect → Bool
+is_locking (effect.Lock t k) = true
+is_locking e = false
+
+bare_after : (e : Effect) → is_locking e ≡ false → held_after e [] ≡ []
+bare_after (effect.Lock t k) h = cc
+bare_after (effect.Unlock t k) h = refl
+bare_after e h = refl
+
+-- ---- the Begin that is open
+begun_by : (n : ℕ) (e : Effect) (s : Txs) → is_some (txs_by n e s).begun ≡ begun_after e (is_some s.begun)
+begun_by n effect.Begin s = refl
+begun_by n (effect.End c) s = refl
+begun_by n e s = refl
+
+same_begun : (n : ℕ) (e : Effect) (s : Txs) (b : Bool) → begun_after e b ≡ true → (e ≡ effect.Begin) ⊎ ((txs_by n e s).begun ≡ s.begun)
+same_begun n effect.Begin s b h = inl refl
+same_begun n (effect.End c) s b h = cc
+same_begun n e s b h = inr refl
+
+not_aborted : (a : Answer) → ((c : Cause) → a ≡ answer.Aborted c → ⊥) → is_aborted a ≡ false
+not_aborted (answer.Aborted c) h = absurd (h c refl)
+not_aborted answer.Done h = refl
+not_aborted (answer.Value v) h = refl
+not_aborted (answer.Fault c) h = refl
+
+-- ---- locks inside
+-- no lock was answered inside
+abbrev Quiet : Deployment → Instance → List Answer → Type 0
+Quiet d q given = (n : ℕ) → n < length given → (is_some (txs_after d q (take n given)).begun || is_some q.within) ≡ true → is_locking (effect_after d q (take n given)) ≡ false
+
+quiet_front : (d : Deployment) (q : Instance) (given : List Answer) (a : Answer) → Quiet d q (given ++ a ∷ []) → Quiet d q given
+quiet_front d q given a g n less inner =
+    let l = length-append given (a ∷ []) in
+    let same : take n (given ++ a ∷ []) ≡ take n given = take-append-le n given (a ∷ []) (omega (arith, less)) in
+    ap (λ ts. is_locking (effect_after d q ts)) (sym same) ∙ g n (omega (arith, l, less)) (ap (λ ts. is_some (txs_after d q ts).begun || is_some q.within) same ∙ inner)
+
+quiet_last : (d : Deployment) (q : Instance) (given : List Answer) (a : Answer) → Quiet d q (given ++ a ∷ []) → (is_some (txs_after d q given).begun || is_some q.within) ≡ true → is_locking (effect_after d q given) ≡ false
+quiet_last d q given a g inner =
+    let l = length-append given (a ∷ []) in
+    let same : take (length given) (given ++ a ∷ []) ≡ given = take_front given (a ∷ []) in
+    ap (λ ts. is_locking (effect_after d q ts)) (sym same) ∙ g (length given) (omega (arith, l)) (ap (λ ts. is_some (txs_after d q ts).begun || is_some q.within) same ∙ inner)
+
+or_left : (a b : Bool) → b ≡ false → (a || b) ≡ true → a ≡ true
+or_left true b e h = refl
+or_left false b e h = let clash = sym e ∙ h in cc
+
+begun_cases : (e : Effect) (b : Bool) → begun_after e b ≡ true → (e ≡ effect.Begin) ⊎ (b ≡ true)
+begun_cases effect.Begin b h = inl refl
+begun_cases (effect.End c) b h = cc
+begun_cases e b h = inr h
+
+-- ---- an instance after some of its answers
+pub record At (d : Deployment) (q : Instance) (given : List Answer) : Type 0 where
+  pub going : Going d q.func q.args (is_some q.within) given
+  pub begun : is_begun going.phase ≡ is_some (txs_after d q given).begun
+  pub clean : going.phase ≡ own → (b n : ℕ) (a : Answer) → (txs_after d q given).begun ≡ Some b → b < n → slice_get given n ≡ Some a → is_aborted a ≡ false
+  pub bare : is_leaving going.phase ≡ false → (is_begun going.phase || is_some q.within) ≡ true → Quiet d q given → going.held ≡ []
+  pub locks : is_leaving going.phase ≡ false → (x : Item) → Holds x q.func (held_along d x q.func q.args (is_some q.within) [] given false) going.held
+
+module _ (d : Deployment) (q : Instance) where
+  abbrev i : Bool
+  i = is_some q.within
+
+  first : At d q []
+  first = record { going = at_first d q.func q.args i; begun = refl; clean = λ p b n a g. cc; bare = λ p inner g. refl; locks = λ p x g. cc }
+
+  module _ (given : List Answer) (a : Answer) (h : At d q given) where
+    abbrev e : Effect
+    e = effect_after d q given
+
+    abbrev s : Txs
+    s = txs_after d q given
+
+    abbrev then_on : Next i h.going.phase h.going.held e a (λ ts. asked i (body d (func_at d q.func) q.args i ((given ++ a ∷ []) ++ ts)))
+    then_on = going_next d q.func q.args i given a h.going
+
+    -- no answer since the Begin is an abort
+    clean_on : then_on.phase ≡ own → (b n : ℕ) (c : Answer) → (txs_by (length given) e s).begun ≡ Some b → b < n → slice_get (given ++ a ∷ []) n ≡ Some c → is_aborted c ≡ false
+    clean_on p b n c is lt there = elim (longer_cases given a n (slice_get_within (given ++ a ∷ []) n c there)) [
+      | inl same ↦ by_effect (λ k. let z = at_begin k in omega (arith, z, lt, same)) (λ k more. not_aborted c (λ w f. k.1 w (same_some (sym (get_last given a) ∙ ap (slice_get (given ++ a ∷ [])) (sym same) ∙ there) ∙ f)))
+      | inr before ↦ by_effect (λ k. let z = at_begin k in omega (arith, z, lt, before)) (λ k more. h.clean k.0 b n c (sym more ∙ is) lt (sym (get_front given a n before) ∙ there))
+    ]
+      where
+        at_begin : e ≡ effect.Begin → b ≡ length given
+        at_begin k = let z = ap (λ e. (txs_by (length given) e s).begun) (sym k) ∙ is in cc
+
+        by_effect : (e ≡ effect.Begin → ⊥) → ((h.going.phase ≡ own) × ((c : Cause) → a ≡ answer.Aborted c → ⊥) → (txs_by (length given) e s).begun ≡ s.begun → is_aborted c ≡ false) → is_aborted c ≡ false
+        by_effect new old = elim (same_begun (length given) e s (is_begun h.going.phase) (sym then_on.begun ∙ ap is_begun p)) [
+          | inl k ↦ absurd (new k)
+          | inr k ↦ elim (then_on.clean p) [
+            | inl z ↦ absurd (new z)
+            | inr z ↦ old z k
+          ]
+        ]
+
+    -- inside no lock is held, if none was answered there
+    bare_on : is_leaving then_on.phase ≡ false → (is_begun then_on.phase || i) ≡ true → Quiet d q (given ++ a ∷ []) → then_on.held ≡ []
+    bare_on p inner g = by_inherited i refl
+      where
+        was : is_leaving h.going.phase ≡ false
+        was = let k = then_on.locks p in k.0
+
+        old : (is_begun h.going.phase || i) ≡ true → then_on.held ≡ []
+        old at_it =
+            let k = then_on.locks p in
+            k.1 ∙ ap (held_after e) (h.bare was at_it (quiet_front d q given a g)) ∙ bare_after e (quiet_last d q given a g (ap (λ b. b || i) (sym h.begun) ∙ at_it))
+
+        by_inherited : (b : Bool) → i ≡ b → then_on.held ≡ []
+        by_inherited true is = old (or_right (is_begun h.going.phase) i is)
+        by_inherited false is = elim (begun_cases e (is_begun h.going.phase) (sym then_on.begun ∙ or_left (is_begun then_on.phase) i is inner)) [
+          | inl begin ↦ let k = then_on.locks p in let z = (going_now d q.func q.args i given h.going).at_begin begin in k.1 ∙ ap (held_after e) z.1 ∙ bare_after e (ap is_locking begin)
+          | inr open_now ↦ old (ap (λ b. b || i) open_now)
+        ]
+
+    more : At d q (given ++ a ∷ [])
+    more = record {
+      going = going_on d q.func q.args i given a h.going then_on;
+      begun = then_on.begun ∙ ap (begun_after e) h.begun ∙ sym (begun_by (length given) e s) ∙ ap (λ (z : Txs). is_some z.begun) (sym (txs_pushed d q given a));
+      clean = λ p b n c is lt there. clean_on p b n c (ap (λ (z : Txs). z.begun) (sym (txs_pushed d q given a)) ∙ is) lt there;
+      bare = bare_on;
+      locks = λ p x g.
+          let k = then_on.locks p in
+          subst (λ hs. (x.func ≡ q.func) × (is_held x.table x.key hs ≡ true)) (sym k.1)
+          (holds_after x q.func h.going.held e (held_along d x q.func q.args i [] given false) (h.locks k.0 x) (sym (held_pushed d x q.func q.args i [] given a false) ∙ g));
+    }
+
+  rest_on : (given rest : List Answer) → At d q given → At d q (given ++ rest)
+  rest_on given [] h = subst (At d q) (sym (append-nil given)) h
+  rest_on given (a ∷ rest) h = subst (At d q) (append_assoc given (a ∷ []) rest) (rest_on (given ++ a ∷ []) rest (more given a h))
+
+  pub at : (given : List Answer) → At d q given
+  at given = rest_on [] given first
+
+  abbrev here : (given : List Answer) → Now i (at given).going.phase (at given).going.held (is_inside d q.func q.args i given) (effect_after d q given)
+  here given = going_now d q.func q.args i given (at given).going
+
+  -- an effect is wanted inside exactly where a Begin is open, or the instance was called in a transaction
+  pub inside_is : (given : List Answer) → is_inside d q.func q.args i given ≡ (is_some (txs_after d q given).begun || i)
+  inside_is given = (here given).within ∙ ap (λ b. b || i) (at given).begun
+
+  -- .. so its step is in a transaction exactly where it is wanted inside, but for a Begin
+  pub tx_is : (id : IntentId) (given : List Answer) → (effect_after d q given ≡ effect.Begin → ⊥) → is_some (tx_after d id q given) ≡ is_inside d q.func q.args i given
+  tx_is id given other = by_within q.within (tx_by id q.func (length given) (effect_after d q given) (txs_after d q given).begun) ∙ ap (λ b. b || i) (by_begun (length given) (txs_after d q given).begun (effect_after d q given) other) ∙ sym (inside_is given)
+    where
+      by_within : (w o : Option TxId) → is_some (or_own w o) ≡ (is_some o || is_some w)
+      by_within None None = refl
+      by_within None (Some t) = refl
+      by_within (Some t) None = refl
+      by_within (Some t) (Some u) = refl
+
+      by_begun : (n : ℕ) (o : Option ℕ) (e : Effect) → (e ≡ effect.Begin → ⊥) → is_some (tx_by id q.func n e o) ≡ is_some o
+      by_begun n o effect.Begin no_begin = absurd (no_begin refl)
+      by_begun n None e no_begin = refl
+      by_begun n (Some b) e no_begin = refl
+
+  -- a Begin is wanted where none is open, outside, and with no lock held ..
+  pub begin_is : (given : List Answer) → effect_after d q given ≡ effect.Begin → (q.within ≡ None) × (is_some (txs_after d q given).begun ≡ false)
+  begin_is given is = let k = (here given).at_begin is in (outside q.within k.0, sym (at given).begun ∙ k.2)
+    where
+      outside : (o : Option TxId) → is_some o ≡ false → o ≡ None
+      outside None h = refl
+      outside (Some t) h = cc
+
+  pub begin_free : (given : List Answer) → effect_after d q given ≡ effect.Begin → (x : Item) → holds d x (Some (record q { answers = given })) ≡ false
+  begin_free given is x = by_test (holds d x (Some (record q { answers = given }))) refl
+    where
+      by_test : (b : Bool) → holds d x (Some (record q { answers = given })) ≡ b → b ≡ false
+      by_test true e = let k = (here given).at_begin is in let z = (at given).locks k.3 x e in let none = sym (ap (is_held x.table x.key) k.1) ∙ z.1 in cc
+      by_test false e = refl
+
+  -- .. an End where one is open
+  pub end_is : (given : List Answer) (c : Bool) → effect_after d q given ≡ effect.End c → is_some (txs_after d q given).begun ≡ true
+  end_is given c is = sym (at given).begun ∙ (here given).at_end c is
+
+  -- .. and with commit where none of the answers since is an abort
+  pub commit_is : (given : List Answer) (b n : ℕ) (a : Answer) → effect_after d q given ≡ effect.End true → (txs_after d q given).begun ≡ Some b → b < n → slice_get given n ≡ Some a → is_aborted a ≡ false
+  commit_is given b n a is begun lt there = by_phase (at given).going.phase refl
+    where
+      open_now : is_begun (at given).going.phase ≡ true
+      open_now = (at given).begun ∙ ap is_some begun
+
+      by_phase : (p : Phase) → (at given).going.phase ≡ p → is_aborted a ≡ false
+      by_phase own e = (at given).clean e b n a begun lt there
+      by_phase aborted e = let k = sym is ∙ (here given).dying e in cc
+      by_phase block e = let k = sym open_now ∙ ap is_begun e in cc
+      by_phase (leaving o) e = let k = sym open_now ∙ ap is_begun e in cc
+
+  -- who was called in a transaction begins and ends none
+  pub none_begun_inside : (given : List Answer) → i ≡ true → is_some (txs_after d q given).begun ≡ false
+  none_begun_inside given is = by_test (is_begun (at given).going.phase) refl
+    where
+      by_test : (b : Bool) → is_begun (at given).going.phase ≡ b → is_some (txs_after d q given).begun ≡ false
+      by_test true e = let k = sym is ∙ (at given).going.outside e in cc
+      by_test false e = sym (at given).begun ∙ e
+
+  -- ---- after an abort
+  -- inside a transaction of one's own its End is wanted, without commit
+  pub abort_ends : (given : List Answer) (c : Cause) → is_some (txs_after d q given).begun ≡ true → ((b : Bool) → effect_after d q given ≡ effect.End b → ⊥) → effect_after d q (given ++ answer.Aborted c ∷ []) ≡ effect.End false
+  abort_ends given c begun other = dies_own d q.func q.args i given c (at given).going ((at given).begun ∙ begun) other
+
+-- an effect that is answered by an abort is that of a statement, and moves no lock
+abort_answer : (p : Place) (t : Option TxId) (e : Effect) (c : Cause) → IsAnswer p t e (answer.Aborted c) → (stands true e ≡ true) × (is_unlock e ≡ false) × ((hs : List HeldLock) → held_after e hs ≡ hs)
+abort_answer p t (effect.Read b k) c h = (refl, refl, λ hs. refl)
+abort_answer p t (effect.Write b k v) c h = (refl, refl, λ hs. refl)
+abort_answer p t (effect.CondWrite b k r o v) c h = (refl, refl, λ hs. refl)
+abort_answer p t (effect.Call f v) c h = (refl, refl, λ hs. refl)
+abort_answer p t effect.Abort c h = (refl, refl, λ hs. refl)
+abort_answer p t (effect.Async f v) c h = (refl, refl, λ hs. refl)
+abort_answer p None (effect.Lock b k) c h = absurd h
+abort_answer p (Some t) (effect.Lock b k) c h = absurd h
+abort_answer p None (effect.Unlock b k) c h = absurd h
+abort_answer p (Some t) (effect.Unlock b k) c h = absurd h
+abort_answer p None effect.Begin c h = absurd h
+abort_answer p (Some t) effect.Begin c h = absurd h
+abort_answer p None (effect.End b) c h = absurd h
+abort_answer p (Some t) (effect.End b) c h = absurd h
+abort_answer p None (effect.Return o) c h = absurd h
+abort_answer p (Some t) (effect.Return o) c h = absurd h
+
+get_there : (xs : List Answer) (n : ℕ) → n < length xs → slice_get xs n ≡ None → ⊥
+get_there [] n less h = omega (arith, less)
+get_there (x ∷ xs) zero less h = cc
+get_there (x ∷ xs) (suc n) less h = get_there xs n (omega (arith, less)) h
+
+is_begin : (e : Effect) → (e ≡ effect.Begin) ⊎ (e ≡ effect.Begin → ⊥)
+is_begin effect.Begin = inl refl
+is_begin e = inr (λ h. cc)
+
+begun_stays : (p : Phase) → is_begun p ≡ true → is_leaving p ≡ false
+begun_stays (leaving o) h = cc
+begun_stays p h = refl
+
+-- what locks nothing holds nothing
+if_same : (c : Bool) → (if c then false else false) ≡ false
+if_same true = refl
+if_same false = refl
+
+none_if : (x : Item) (func : ℕ) (e : Effect) → is_locking e ≡ false → held_if x func (op_of e) false ≡ false
+none_if x func (effect.Write t k v) h = if_same (is_eq (item_cmp (record { func = func; table = t; key = k }) x))
+none_if x func (effect.CondWrite t k r o v) h = if_same (is_eq (item_cmp (record { func = func; table = t; key = k }) x))
+none_if x func (effect.Lock t k) h = cc
+none_if x func (effect.Unlock t k) h = if_same (is_eq (item_cmp (record { func = func; table = t; key = k }) x))
+none_if x func e h = refl
+
+none_along : (d : Deployment) (q : Instance) (x : Item) (given rest : List Answer) → ((n : ℕ) → n < length rest → is_locking (effect_after d q (given ++ take n rest)) ≡ false) → held_along d x q.func q.args (is_some q.within) given rest false ≡ false
+none_along d q x given [] g = refl
+none_along d q x given (a ∷ rest) g =
+    ap (held_along d x q.func q.args (is_some q.within) (given ++ a ∷ []) rest) (none_if x q.func (effect_after d q given) (ap (λ ts. is_locking (effect_after d q ts)) (sym (append-nil given)) ∙ g 0 (omega arith)))
+    ∙ none_along d q x (given ++ a ∷ []) rest (λ n less. ap (λ ts. is_locking (effect_after d q ts)) (append_assoc given (a ∷ []) (take n rest)) ∙ g (suc n) (omega (arith, less)))
+
+-- no lock is answered inside
+no_lock : (p : Place) (t : TxId) (e : Effect) (a : Answer) → IsAnswer p (Some t) e a → is_locking e ≡ false
+no_lock p t (effect.Lock b k) answer.Done h = absurd h
+no_lock p t (effect.Lock b k) (answer.Value v) h = absurd h
+no_lock p t (effect.Lock b k) (answer.Fault c) h = absurd h
+no_lock p t (effect.Lock b k) (answer.Aborted c) h = absurd h
+no_lock p t e a h = refl
+
+module _ (d : Deployment) (id : IntentId) (q : Instance) (h : SaneInstance d id q) where
+  quiet : Quiet d q q.answers
+  quiet n less inner = by_lock (is_locking (effect_after d q (take n q.answers))) refl
+    where
+      by_tx : (t : Option TxId) (o : Option Answer) → tx_at d id q n ≡ t → slice_get q.answers n ≡ o → is_some t ≡ true → is_locking (effect_after d q (take n q.answers)) ≡ false
+      by_tx None o same there e = cc
+      by_tx (Some t) None same there e = absurd (get_there q.answers n less there)
+      by_tx (Some t) (Some a) same there e = no_lock (place_of id n) t (effect_after d q (take n q.answers)) a (subst (λ o. IsAnswer (place_of id n) o (effect_after d q (take n q.answers)) a) same (h.past n a there))
+
+      by_lock : (b : Bool) → is_locking (effect_after d q (take n q.answers)) ≡ b → b ≡ false
+      by_lock false e = refl
+      by_lock true e =
+          let there : is_some (tx_at d id q n) ≡ true = tx_is d q id (take n q.answers) (λ begin. let clash = sym (ap is_locking begin) ∙ e in cc) ∙ inside_is d q (take n q.answers) ∙ inner in
+          sym e ∙ by_tx (tx_at d id q n) (slice_get q.answers n) refl refl there
+
+  -- who is inside holds no lock
+  holds_none : (is_some (txs_after d q q.answers).begun || is_some q.within) ≡ true → (x : Item) → holds d x (Some q) ≡ false
+  holds_none inner x = by_inherited (is_some q.within) refl
+    where
+      own_none : (b : Bool) → holds d x (Some q) ≡ b → is_some q.within ≡ false → b ≡ false
+      own_none false e out = refl
+      own_none true e out =
+          let g = at d q q.answers in
+          let open_now : is_begun g.going.phase ≡ true = g.begun ∙ or_left (is_some (txs_after d q q.answers).begun) (is_some q.within) out inner in
+          let stays : is_leaving g.going.phase ≡ false = begun_stays g.going.phase open_now in
+          let k = g.locks stays x e in
+          let clash = sym (ap (is_held x.table x.key) (g.bare stays (ap (λ b. b || is_some q.within) open_now) quiet)) ∙ k.1 in cc
+
+      by_inherited : (b : Bool) → is_some q.within ≡ b → holds d x (Some q) ≡ false
+      by_inherited true e = none_along d q x [] q.answers (λ n less. quiet n less (or_right (is_some (txs_after d q (take n q.answers)).begun) (is_some q.within) e))
+      by_inherited false e = own_none (holds d x (Some q)) refl e
+
+  pub inside_holds_none : is_some (tx_now d id q) ≡ true → (x : Item) → holds d x (Some q) ≡ false
+  inside_holds_none inner x = by_begin (is_begin (effect_of d q))
+    where
+      by_begin : (effect_of d q ≡ effect.Begin) ⊎ (effect_of d q ≡ effect.Begin → ⊥) → holds d x (Some q) ≡ false
+      by_begin (inl is) = begin_free d q q.answers is x
+      by_begin (inr other) = holds_none (sym (tx_is d q id q.answers other ∙ inside_is d q q.answers) ∙ inner) x
+
+module _ (d : Deployment) (id : IntentId) (q : Instance) (h : SaneInstance d id q) (c : Cause) (fits : IsAnswer (place_of id (length q.answers)) (tx_now d id q) (effect_of d q) (answer.Aborted c)) where
+  -- outside one's own it ends the body: it is returned, or first the locks are released
+  pub abort_leaves : is_some (txs_after d q q.answers).begun ≡ false → (effect_of d (answered q (answer.Aborted c)) ≡ effect.Return (outcome.Aborted c)) ⊎ (is_unlock (effect_of d (answered q (answer.Aborted c))) ≡ true)
+  abort_leaves outer =
+      let k = abort_answer (place_of id (length q.answers)) (tx_now d id q) (effect_of d q) c fits in
+      let g = at d q q.answers in
+      elim (dies_else d q.func q.args (is_some q.within) q.answers c g.going (g.begun ∙ outer) k.0 k.1) [
+        | inl e ↦ inl e
+        | inr e ↦ inr e.0
+      ]
+
+  -- who was called in a transaction holds none, and returns it
+  pub abort_returns : (t : TxId) → q.within ≡ Some t → effect_of d (answered q (answer.Aborted c)) ≡ effect.Return (outcome.Aborted c)
+  abort_returns t inner =
+      let k = abort_answer (place_of id (length q.answers)) (tx_now d id q) (effect_of d q) c fits in
+      let g = at d q q.answers in
+      let none = none_begun_inside d q q.answers (ap is_some inner) in
+      elim (dies_else d q.func q.args (is_some q.within) q.answers c g.going (g.begun ∙ none) k.0 k.1) [
+        | inl e ↦ e
+        | inr e ↦ absurd (e.1 (k.2 g.going.held ∙ g.bare (not_leaving g k.0 k.1) (or_right (is_begun g.going.phase) (is_some q.within) (ap is_some inner)) (quiet d id q h)))
+      ]
+    where
+      not_leaving : (g : At d q q.answers) → stands true (effect_of d q) ≡ true → is_unlock (effect_of d q) ≡ false → is_leaving g.going.phase ≡ false
+      not_leaving g fits other = by_phase g.going.phase refl
+        where
+          by_phase : (p : Phase) → g.going.phase ≡ p → is_leaving p ≡ false
+          by_phase (leaving o) e = elim ((going_now d q.func q.args (is_some q.within) q.answers g.going).ending o e) [
+            | inl z ↦ let clash = sym (ap (stands true) z) ∙ fits in cc
+            | inr z ↦ let clash = sym z.0 ∙ other in cc
+          ]
+          by_phase block e = refl
+          by_phase own e = refl
+          by_phase aborted e = refl

@@ -1,0 +1,353 @@
+-- All that is known stays sane: move by move.
+use Rattle.std.proofs.Common.{◌≡◌, inl, inr, ℕ, ◌≤◌, ◌<◌, Bool, true, false, List, [], ◌∷◌, length, Option, Some, None, is_some, refl, ap, sym, ◌∙◌, subst, arith}
+use Rattle.std.specs.Prelude.{slice_get}
+use Rattle.std.specs.Option.{option_map}
+use Rattle.std.specs.FinMap as map
+use Rattle.std.proofs.lemmas.List.{take_all, take-append-le}
+use Rattle.beldi_value.specs.Id.{root_of, child_of, has_no_hops}
+use Rattle.beldi_value.specs.declared.id.IntentId.{IntentId}
+use Rattle.beldi_value.specs.declared.outcome.Cause.{Cause}
+use Rattle.beldi_value.specs.declared.outcome.Outcome.{Outcome}
+use Rattle.beldi_value.specs.declared.place.Caller.{Caller}
+use Rattle.beldi_value.specs.declared.place.Place.{Place}
+use Rattle.beldi_value.specs.declared.place.TxId.{TxId}
+use Rattle.beldi_value.specs.declared.rel.Rel.{Rel}
+use Rattle.beldi_value.specs.declared.value.Value.{Value}
+use Rattle.beldi_value.specs.declared.value.Value.TheVariants as value
+use Rattle.beldi_value.proofs.Callees.{child_same, no_root}
+use Rattle.beldi_tree.specs.declared.deployment.Deployment.{Deployment}
+use Rattle.beldi_lang.specs.Callee.{answer_of}
+use Rattle.beldi_lang.specs.declared.effect.Answer.{Answer}
+use Rattle.beldi_lang.specs.declared.effect.Answer.TheVariants as answer
+use Rattle.beldi_lang.specs.declared.effect.Effect.{Effect}
+use Rattle.beldi_lang.specs.declared.effect.Effect.TheVariants as effect
+use Rattle.beldi_plain.specs.Operation.{OnItem, op_of, answer_after, touched}
+use Rattle.beldi_plain.specs.Plain.{Instance, new_instance, answered, ended, calls_at, callee_of, effect_of, effect_before}
+use Rattle.beldi_order.specs.Sane.{IsCalled, CalledBy, call_of, answer_given, IsDeath, IsAnswer}
+use Rattle.beldi_order.proofs.Called.{Linked, IsAlone, not_root, next_step, effect_now, caller_answered, caller_ended, callee_answered, callee_over, callee_new, callee_ended, callee_sent, pairs_set, both_set}
+use Rattle.beldi_order.proofs.Maps.{still_made, made_set, same_some}
+use Rattle.beldi_order.proofs.Sanes.{call_answers}
+use Rattle.beldi_step.specs.Run.{is_waited, place_of}
+use Rattle.beldi_known.specs.Known.{Known, answer_at_once, once, at_once, moved}
+use Rattle.beldi_order.specs.Txs.{tx_now, tx_at, tx_after}
+use Rattle.beldi_known.specs.Sane.{SaneInstance, Closed, Sane, within_of}
+use Rattle.beldi_known.proofs.AtOnce.{at_once_is, at_once_by, origin_stays, closed_at_once}
+use Rattle.beldi_known.proofs.Goes.{sane_once, sane_moved}
+
+-- ---- one instance
+abbrev Good : Deployment → IntentId → Instance → Type 0
+Good d id q = SaneInstance d id q × Closed d id q
+
+-- one without answers and outcome, and what takes no turn
+good_new : (d : Deployment) (id : IntentId) (q : Instance) → q.answers ≡ [] → q.outcome ≡ None → Good d id (at_once d id q)
+good_new d id q empty none =
+    let fresh : SaneInstance d id q = record { past = λ n a g. let k = ap (λ xs. slice_get xs n) (sym empty) ∙ g in cc; over = λ o g. let k = sym none ∙ g in cc } in
+    (sane_once d id (once d id q) (sane_once d id q fresh), closed_at_once d id q)
+
+good_moved : (d : Deployment) (id : IntentId) (q : Instance) (a : Answer) → q.outcome ≡ None → IsAnswer (place_of id (length q.answers)) (tx_now d id q) (effect_of d q) a → SaneInstance d id q → Good d id (moved d id q a)
+good_moved d id q a none is h = (sane_moved d id q a none is h, closed_at_once d id (answered q a))
+
+good_ended : (d : Deployment) (id : IntentId) (q : Instance) (o : Outcome) → effect_of d q ≡ effect.Return o → SaneInstance d id q → Good d id (ended q o)
+good_ended d id q o is h = (record { past = h.past; over = λ u g. is ∙ ap effect.Return (same_some g) }, λ none. cc)
+
+-- a return has no answer
+no_return : (p : Place) (t : Option TxId) (o : Outcome) (a : Answer) → IsAnswer p t (effect.Return o) a → ⊥
+no_return p None o a h = h
+no_return p (Some t) o a h = h
+
+-- so who has one has no outcome
+pub open_still : (d : Deployment) (id : IntentId) (q : Instance) (a : Answer) → SaneInstance d id q → IsAnswer (place_of id (length q.answers)) (tx_now d id q) (effect_of d q) a → q.outcome ≡ None
+open_still d id q a h fits = by_outcome q.outcome refl
+  where
+    by_outcome : (o : Option Outcome) → q.outcome ≡ o → o ≡ None
+    by_outcome None is = refl
+    by_outcome (Some o) is = absurd (no_return (place_of id (length q.answers)) (tx_now d id q) o a (subst (λ e. IsAnswer (place_of id (length q.answers)) (tx_now d id q) e a) (h.over o is) fits))
+
+pub not_waited : (o : Option Caller) → is_waited o ≡ false → IsAlone o
+not_waited None h = λ c is. cc
+not_waited (Some z) h = λ c is. ap (λ (y : Caller). y.waits) (sym (same_some is)) ∙ h
+
+-- ---- an instance and what it called at a step
+-- the callee belongs to the transaction that the call is in
+abbrev WithinAt : Deployment → IntentId → Option Instance → ℕ → Option Instance → Type 0
+WithinAt d i None n u = Unit {0}
+WithinAt d i (Some q) n None = Unit {0}
+WithinAt d i (Some q) n (Some j) = j.within ≡ within_of j.from (tx_at d i q n)
+
+abbrev Pair : Deployment → IntentId → Option Instance → ℕ → Option Instance → Type 0
+Pair d i o n u = Linked d i o n u × WithinAt d i o n u
+
+abbrev Pairs : Deployment → Known → Type 0
+Pairs d f = (i : IntentId) (n : ℕ) → Pair d i (map.get f i) n (map.get f (child_of i n))
+
+-- the effect takes a turn, so it is no call
+no_call : (id : IntentId) (n : ℕ) (e : Effect) (a : Answer) (w : Bool) (f : ℕ) (v : Value) → answer_at_once id n e ≡ Some a → e ≡ call_of w f v → ⊥
+no_call id n e a true f v h is = elim (at_once_is id n e a h) [ inl g ↦ let k = sym g ∙ is in cc | inr g ↦ let k = sym g.0 ∙ is in cc ]
+no_call id n e a false f v h is = elim (at_once_is id n e a h) [ inl g ↦ let k = sym g ∙ is in cc | inr g ↦ let k = sym g.0 ∙ is in cc ]
+
+module _ (d : Deployment) (i : IntentId) where
+  tx_past : (q : Instance) (a : Answer) (n : ℕ) → n ≤ length q.answers → tx_at d i (answered q a) n ≡ tx_at d i q n
+  tx_past q a n h = ap (tx_after d i q) (take-append-le n q.answers (a ∷ []) h)
+
+  pub tx_here : (q : Instance) → tx_at d i q (length q.answers) ≡ tx_now d i q
+  tx_here q = ap (tx_after d i q) (take_all (length q.answers) q.answers (omega arith))
+
+  within_answered : (q : Instance) (a : Answer) (n : ℕ) (o : Option Instance) → Pair d i (Some q) n o → WithinAt d i (Some (answered q a)) n o
+  within_answered q a n None h = tt
+  within_answered q a n (Some j) h = let l = h.0 in h.1 ∙ ap (within_of j.from) (sym (tx_past q a n l.here))
+
+  -- the caller is answered, but not at this step unless it stands at no call there
+  pair_answered : (q : Instance) (a : Answer) (n : ℕ) (o : Option Instance) → (n ≡ length q.answers → (w : Bool) (f : ℕ) (v : Value) → effect_of d q ≡ call_of w f v → ⊥) → Pair d i (Some q) n o → Pair d i (Some (answered q a)) n o
+  pair_answered q a n o other h = (caller_answered d i q a n o other h.0, within_answered q a n o h)
+
+  pair_at_once : (q : Instance) (n : ℕ) (o : Option Instance) → Pair d i (Some q) n o → Pair d i (Some (at_once d i q)) n o
+  pair_at_once q n o h = at_once_by d i (λ r. Pair d i (Some r) n o) (λ r a none is g. pair_answered r a n o (λ e w f v call. no_call i (length r.answers) (effect_of d r) a w f v is call) g) q h
+
+  pair_moved : (q : Instance) (a : Answer) (n : ℕ) (o : Option Instance) → (n ≡ length q.answers → (w : Bool) (f : ℕ) (v : Value) → effect_of d q ≡ call_of w f v → ⊥) → Pair d i (Some q) n o → Pair d i (Some (moved d i q a)) n o
+  pair_moved q a n o other h = pair_at_once (answered q a) n o (pair_answered q a n o other h)
+
+  -- the caller is made, or ends
+  pair_new : (q : Instance) (n : ℕ) (o : Option Instance) → q.answers ≡ [] → Pair d i None n o → Pair d i (Some (at_once d i q)) n o
+  pair_new q n o empty h = subst (Pair d i (Some (at_once d i q)) n) (sym h.0) (pair_at_once q n None ((λ lt w g a is. let k = ap length empty in absurd (omega (arith, lt, k))), tt))
+
+  pair_ended : (q : Instance) (u : Outcome) (n : ℕ) (o : Option Instance) → Pair d i (Some q) n o → Pair d i (Some (ended q u)) n o
+  pair_ended q u n None h = (caller_ended d i q u n None h.0, tt)
+  pair_ended q u n (Some j) h = (caller_ended d i q u n (Some j) h.0, h.1)
+
+  -- the callee is answered
+  callee_on : (o : Option Instance) (n : ℕ) (j : Instance) (a : Answer) → Pair d i o n (Some j) → Pair d i o n (Some (answered j a))
+  callee_on None n j a h = (callee_answered d i None n j a h.0, tt)
+  callee_on (Some q) n j a h = (callee_answered d i (Some q) n j a h.0, h.1)
+
+  callee_at_once : (k : IntentId) (o : Option Instance) (n : ℕ) (j : Instance) → Pair d i o n (Some j) → Pair d i o n (Some (at_once d k j))
+  callee_at_once k o n j h = at_once_by d k (λ r. Pair d i o n (Some r)) (λ r a none is g. callee_on o n r a g) j h
+
+  callee_moved : (k : IntentId) (o : Option Instance) (n : ℕ) (j : Instance) (a : Answer) → Pair d i o n (Some j) → Pair d i o n (Some (moved d k j a))
+  callee_moved k o n j a h = callee_at_once k o n (answered j a) (callee_on o n j a h)
+
+  -- it ends, and nobody waited for it
+  callee_alone : (o : Option Instance) (n : ℕ) (j : Instance) (u : Outcome) → IsAlone j.from → Pair d i o n (Some j) → Pair d i o n (Some (ended j u))
+  callee_alone None n j u alone h = (callee_over d i None n j u alone h.0, tt)
+  callee_alone (Some q) n j u alone h = (callee_over d i (Some q) n j u alone h.0, h.1)
+
+-- ---- all that is known
+abbrev AllGood : Deployment → Known → Type 0
+AllGood d f = (id : IntentId) (q : Instance) → map.get f id ≡ Some q → Good d id q
+
+abbrev Roots : Known → Type 0
+Roots f = (t : ℕ) (q : Instance) → map.get f (root_of t) ≡ Some q → (q.from ≡ None) × (q.within ≡ None)
+
+good_set : (d : Deployment) (f : Known) (k : IntentId) (s : Instance) → Good d k s → AllGood d f → AllGood d (map.insert f k s)
+good_set d f k s new h j q is = made_set f k s (λ j o. (q : Instance) → o ≡ Some q → Good d j q) (λ q e. subst (Good d k) (same_some e) new) h j q is
+
+roots_set : (f : Known) (k : IntentId) (s : Instance) → ((t : ℕ) → k ≡ root_of t → (s.from ≡ None) × (s.within ≡ None)) → Roots f → Roots (map.insert f k s)
+roots_set f k s new h t q is = made_set f k s (λ j o. j ≡ root_of t → (q : Instance) → o ≡ Some q → (q.from ≡ None) × (q.within ≡ None))
+    (λ same q e. subst (λ (z : Instance). (z.from ≡ None) × (z.within ≡ None)) (same_some e) (new t same)) (λ j same q e. h t q (ap (map.get f) (sym same) ∙ e)) (root_of t) refl q is
+
+-- who was called as before is a root as before
+same_root : (f : Known) (k : IntentId) (q s : Instance) → map.get f k ≡ Some q → (s.from ≡ q.from) × (s.within ≡ q.within) → Roots f → (t : ℕ) → k ≡ root_of t → (s.from ≡ None) × (s.within ≡ None)
+same_root f k q s is same h t e = let g = h t q (ap (map.get f) (sym e) ∙ is) in (same.0 ∙ g.0, same.1 ∙ g.1)
+
+sane_by : (d : Deployment) (f : Known) → AllGood d f → Pairs d f → Roots f → Sane d f
+sane_by d f good pairs roots = record {
+  each = λ id q is. let g = good id q is in g.0;
+  closed = λ id q is. let g = good id q is in g.1;
+  called = λ i n j is. called_of i n j (map.get f i) (let g = pairs i n in subst (Linked d i (map.get f i) n) is g.0);
+  within = λ i q n j is on. let g = pairs i n in subst (WithinAt d i (Some q) n) on (subst (λ o. WithinAt d i o n (map.get f (child_of i n))) is g.1);
+  callees = λ i q n w g a is lt call. let z = pairs i n in has_callee i q n w g a lt call (map.get f (child_of i n)) (subst (λ o. Linked d i o n (map.get f (child_of i n))) is z.0);
+  roots = roots;
+}
+  where
+    called_of : (i : IntentId) (n : ℕ) (j : Instance) (o : Option Instance) → Linked d i o n (Some j) → CalledBy d i o n j
+    called_of i n j None l = cc
+    called_of i n j (Some q) l = l
+
+    has_callee : (i : IntentId) (q : Instance) (n : ℕ) (w : Bool) (f : ℕ) (a : Value) → n < length q.answers → effect_before d q n ≡ call_of w f a → (o : Option Instance) → Linked d i (Some q) n o → is_some o ≡ true
+    has_callee i q n w f a lt call None l = absurd (l lt w f a call)
+    has_callee i q n w f a lt call (Some j) l = refl
+
+module _ (d : Deployment) (known : Known) (h : Sane d known) where
+  all_good : AllGood d known
+  all_good id q is = (h.each id q is, h.closed id q is)
+
+  pairs : Pairs d known
+  pairs i n = by_both (map.get known i) (map.get known (child_of i n)) refl refl
+    where
+      by_both : (o u : Option Instance) → map.get known i ≡ o → map.get known (child_of i n) ≡ u → Pair d i o n u
+      by_both None None is on = (refl, tt)
+      by_both None (Some j) is on = absurd (subst (λ o. CalledBy d i o n j) is (h.called i n j on))
+      by_both (Some q) None is on = ((λ lt w f a call. let c = sym (h.callees i q n w f a is lt call) ∙ ap is_some on in cc), tt)
+      by_both (Some q) (Some j) is on = (subst (λ o. CalledBy d i o n j) is (h.called i n j on), h.within i q n j is on)
+
+  -- who is not there has called nobody
+  pub no_callees : (i : IntentId) (n : ℕ) → map.get known i ≡ None → map.get known (child_of i n) ≡ None
+  no_callees i n is = let g = pairs i n in subst (λ o. Linked d i o n (map.get known (child_of i n))) is g.0
+
+  -- ---- one that was not there before, without answers and outcome
+  module _ (k : IntentId) (s : Instance) (empty : s.answers ≡ []) (none : s.outcome ≡ None) (gone : map.get known k ≡ None) where
+    abbrev made : Known
+    made = map.insert known k (at_once d k s)
+
+    pub sane_made : ((t : ℕ) → k ≡ root_of t → (s.from ≡ None) × (s.within ≡ None)) → ((i : IntentId) (n : ℕ) → child_of i n ≡ k → Pair d i (map.get made i) n (Some s)) → Sane d made
+    sane_made root called = sane_by d made (good_set d known k (at_once d k s) (good_new d k s empty none) all_good)
+        (pairs_set (Pair d) known k (at_once d k s) pairs (λ n o l. pair_new d k s n o empty (subst (λ z. Pair d k z n o) gone l)) (λ i n same l. callee_at_once d i k (map.get made i) n s (called i n same)))
+        (roots_set known k (at_once d k s) (λ t same. let g = root t same in let z = origin_stays d k s in (z.0 ∙ g.0, z.1 ∙ g.1)) h.roots)
+
+  -- ---- one that is there
+  module _ (id : IntentId) (q : Instance) (is : map.get known id ≡ Some q) where
+    moved_root : (a : Answer) (t : ℕ) → id ≡ root_of t → ((moved d id q a).from ≡ None) × ((moved d id q a).within ≡ None)
+    moved_root a = same_root known id q (moved d id q a) is (origin_stays d id (answered q a)) h.roots
+
+    -- it is answered, at another effect than a call
+    pub sane_answered : (a : Answer) → IsAnswer (place_of id (length q.answers)) (tx_now d id q) (effect_of d q) a → ((w : Bool) (f : ℕ) (v : Value) → effect_of d q ≡ call_of w f v → ⊥) → Sane d (map.insert known id (moved d id q a))
+    sane_answered a fits other =
+        let s = moved d id q a in
+        let none = open_still d id q a (h.each id q is) fits in
+        sane_by d (map.insert known id s) (good_set d known id s (good_moved d id q a none fits (h.each id q is)) all_good)
+        (pairs_set (Pair d) known id s pairs (λ n o l. pair_moved d id q a n o (λ e. other) (subst (λ z. Pair d id z n o) is l))
+        (λ i n same l. callee_moved d i id (map.get (map.insert known id s) i) n q a (subst (Pair d i (map.get (map.insert known id s) i) n) is l)))
+        (roots_set known id s (moved_root a) h.roots)
+
+    -- it ends, and nobody waits for it
+    pub sane_ended : (o : Outcome) → effect_of d q ≡ effect.Return o → IsAlone q.from → Sane d (map.insert known id (ended q o))
+    sane_ended o returns alone =
+        let s = ended q o in
+        sane_by d (map.insert known id s) (good_set d known id s (good_ended d id q o returns (h.each id q is)) all_good)
+        (pairs_set (Pair d) known id s pairs (λ n u l. pair_ended d id q o n u (subst (λ z. Pair d id z n u) is l))
+        (λ i n same l. callee_alone d i (map.get (map.insert known id s) i) n q o alone (subst (Pair d i (map.get (map.insert known id s) i) n) is l)))
+        (roots_set known id s (same_root known id q s is (refl, refl) h.roots) h.roots)
+
+    -- it is answered at its call, once what it calls was set
+    sane_both : (s : Instance) (a : Answer) → Good d (callee_of id q) s → IsAnswer (place_of id (length q.answers)) (tx_now d id q) (effect_of d q) a → ((t : ℕ) → callee_of id q ≡ root_of t → (s.from ≡ None) × (s.within ≡ None))
+        → ((n : ℕ) (u : Option Instance) → Pair d (callee_of id q) (map.get known (callee_of id q)) n u → Pair d (callee_of id q) (Some s) n u) → Pair d id (Some (answered q a)) (length q.answers) (Some s)
+        → Sane d (map.insert (map.insert known (callee_of id q) s) id (moved d id q a))
+    sane_both s a good fits root kept two =
+        let k = callee_of id q in
+        let none = open_still d id q a (h.each id q is) fits in
+        let over = map.insert known k s in
+        let r = moved d id q a in
+        sane_by d (map.insert over id r) (good_set d over id r (good_moved d id q a none fits (h.each id q is)) (good_set d known k s good all_good))
+        (both_set (Pair d) known pairs k id (length q.answers) refl s r kept
+        (λ n u apart l. pair_moved d id q a n u (λ e w f v call. apart e) (subst (λ z. Pair d id z n u) is l))
+        (λ j n o l. callee_moved d j id o n q a (subst (Pair d j o n) is l)) (pair_at_once d id (answered q a) (length q.answers) (Some s) two))
+        (roots_set over id r (moved_root a) (roots_set known k s root h.roots))
+
+    -- what it calls is made, in the transaction that the call is in
+    module _ (f : ℕ) (v : Value) (gone : map.get known (callee_of id q) ≡ None) where
+      abbrev callee : Bool → Option TxId → Instance
+      callee waits t = record (new_instance f v (Some (calls_at id q waits))) { within = t }
+
+      pub sane_called : (t : Option TxId) → t ≡ tx_now d id q → effect_of d q ≡ effect.Call f v → Sane d (map.insert known (callee_of id q) (at_once d (callee_of id q) (callee true t)))
+      sane_called t same call =
+          let k = callee_of id q in
+          let at = length q.answers in
+          let s = callee true t in
+          let c = callee_new d id q f v call in
+          let there : map.get (map.insert known k (at_once d k s)) id ≡ Some q = still_made known k id (at_once d k s) q gone is in
+          let two : Pair d id (Some q) at (Some s) = (record { waits = c.waits; here = c.here; call = c.call; from = c.from; answered = c.answered }, same ∙ sym (tx_here d id q)) in
+          sane_made k s refl refl gone (λ u root. absurd (not_root id at u root)) (λ i n own.
+          let r = child_same i id n at own in
+          let over = map.insert known k (at_once d k s) in
+          subst (λ z. Pair d z (map.get over z) n (Some s)) (sym r.0) (subst (λ m. Pair d id (map.get over id) m (Some s)) (sym r.1) (subst (λ o. Pair d id o at (Some s)) (sym there) two)))
+
+      -- .. and nobody waits for it
+      pub sane_sent : tx_now d id q ≡ None → effect_of d q ≡ effect.Async f v → Sane d (map.insert (map.insert known (callee_of id q) (at_once d (callee_of id q) (callee false None))) id (moved d id q answer.Done))
+      sane_sent out call =
+          let k = callee_of id q in
+          let s = callee false None in
+          let p = place_of id (length q.answers) in
+          let fits = subst (λ t. IsAnswer p t (effect_of d q) answer.Done) (sym out) (subst (λ e. IsAnswer p None e answer.Done) (sym call) tt) in
+          sane_both (at_once d k s) answer.Done (good_new d k s refl refl) fits (λ u root. absurd (not_root id (length q.answers) u root))
+          (λ n u l. pair_new d k s n u refl (subst (λ z. Pair d k z n u) gone l)) (callee_at_once d id k (Some (answered q answer.Done)) (length q.answers) s (callee_sent d id q f v call, refl))
+
+  -- ---- a root is made
+  pub sane_bound : (id : IntentId) (f : ℕ) (v : Value) → map.get known id ≡ None → has_no_hops id.hops ≡ true → Sane d (map.insert known id (at_once d id (new_instance f v None)))
+  sane_bound id f v gone root = sane_made id (new_instance f v None) refl refl gone (λ t same. (refl, refl))
+      (λ i n same. let clash = sym (no_root i n) ∙ ap (λ (z : IntentId). has_no_hops z.hops) same ∙ root in cc)
+
+  -- ---- a callee gives back: its caller stands at the call
+  module _ (id : IntentId) (q j : Instance) (n : ℕ) (is : map.get known id ≡ Some q) (on : map.get known (child_of id n) ≡ Some j) (none : j.outcome ≡ None) (waited : is_waited j.from ≡ true) where
+    call : IsCalled d id q n j
+    call = subst (λ z. CalledBy d id z n j) is (h.called id n j on)
+
+    waits : call.waits ≡ true
+    waits = sym (ap is_waited call.from) ∙ waited
+
+    pub last : n ≡ length q.answers
+    last = next_step q.answers n call.here (call.answered ∙ ap (λ b. answer_given b j.outcome) waits ∙ ap (option_map answer_of) none)
+
+    pub stands : effect_of d q ≡ effect.Call j.func j.args
+    stands = sym (effect_now d q) ∙ ap (effect_before d q) (sym last) ∙ call.call ∙ ap (λ b. call_of b j.func j.args) waits
+
+    from : j.from ≡ Some (calls_at id q true)
+    from = call.from ∙ ap (λ m. Some (record { place = place_of id m; func = q.func; waits = call.waits })) last ∙ ap (λ b. Some (calls_at id q b)) waits
+
+    pub sane_returned : (o : Outcome) → effect_of d j ≡ effect.Return o → Sane d (map.insert (map.insert known (child_of id n) (ended j o)) id (moved d id q (answer_of o)))
+    sane_returned o returns =
+        let k = callee_of id q in
+        let at = length q.answers in
+        let a = answer_of o in
+        let p = place_of id at in
+        let there : map.get known k ≡ Some j = ap (λ m. map.get known (child_of id m)) (sym last) ∙ on in
+        let fits : IsAnswer p (tx_now d id q) (effect_of d q) a = subst (λ e. IsAnswer p (tx_now d id q) e a) (sym stands) (call_answers o) in
+        let two : Pair d id (Some (answered q a)) at (Some (ended j o)) =
+        (callee_ended d id q j o (subst (λ m. IsCalled d id q m j) last call) from, h.within id q n j is on ∙ ap (λ m. within_of j.from (tx_at d id q m)) last ∙ ap (within_of j.from) (sym (tx_past d id q a at (omega arith)))) in
+        subst (λ m. Sane d (map.insert (map.insert known (child_of id m) (ended j o)) id (moved d id q a))) (sym last)
+        (sane_both id q is (ended j o) a (good_ended d k j o returns (h.each k j there)) fits (λ t root. absurd (not_root id at t root))
+        (λ m u l. pair_ended d k j o m u (subst (λ z. Pair d k z m u) there l)) two)
+
+-- ---- answers to operations
+-- outside, as the operation is answered
+pub operation_answer : (p : Place) (e : Effect) (o : OnItem) (w : Value) → op_of e ≡ Some o → IsAnswer p None e (answer_after o.does w)
+operation_answer p (effect.Write t k v) o w h = subst (λ (z : OnItem). IsAnswer p None (effect.Write t k v) (answer_after z.does w)) (same_some h) tt
+operation_answer p (effect.CondWrite t k r y v) o w h = subst (λ (z : OnItem). IsAnswer p None (effect.CondWrite t k r y v) (answer_after z.does w)) (same_some h) tt
+operation_answer p (effect.Lock t k) o w h = subst (λ (z : OnItem). IsAnswer p None (effect.Lock t k) (answer_after z.does w)) (same_some h) tt
+operation_answer p (effect.Unlock t k) o w h = subst (λ (z : OnItem). IsAnswer p None (effect.Unlock t k) (answer_after z.does w)) (same_some h) tt
+operation_answer p e o w h = cc
+
+-- inside, by a death
+pub death_answer : (p : Place) (t : TxId) (e : Effect) (x : ℕ × List ℕ) (c : Cause) → touched e ≡ Some x → IsDeath p t c → IsAnswer p (Some t) e (answer.Aborted c)
+death_answer p t (effect.Read b k) x c h dies = dies
+death_answer p t (effect.Write b k v) x c h dies = dies
+death_answer p t (effect.CondWrite b k r o v) x c h dies = dies
+death_answer p t e x c h dies = cc
+
+-- neither is a call
+operation_is_no_call : (o : OnItem) (w : Bool) (f : ℕ) (v : Value) → op_of (call_of w f v) ≡ Some o → ⊥
+operation_is_no_call o true f v h = cc
+operation_is_no_call o false f v h = cc
+
+touched_is_no_call : (x : ℕ × List ℕ) (w : Bool) (f : ℕ) (v : Value) → touched (call_of w f v) ≡ Some x → ⊥
+touched_is_no_call x true f v h = cc
+touched_is_no_call x false f v h = cc
+
+module _ (d : Deployment) (known : Known) (h : Sane d known) (id : IntentId) (q : Instance) (is : map.get known id ≡ Some q) where
+  pub sane_operated : (o : OnItem) (w : Value) → tx_now d id q ≡ None → op_of (effect_of d q) ≡ Some o → Sane d (map.insert known id (moved d id q (answer_after o.does w)))
+  sane_operated o w out op = let p = place_of id (length q.answers) in
+      sane_answered d known h id q is (answer_after o.does w) (subst (λ t. IsAnswer p t (effect_of d q) (answer_after o.does w)) (sym out) (operation_answer p (effect_of d q) o w op))
+      (λ b f v call. operation_is_no_call o b f v (ap op_of (sym call) ∙ op))
+
+  pub sane_died : (t : TxId) (x : ℕ × List ℕ) (c : Cause) → tx_now d id q ≡ Some t → touched (effect_of d q) ≡ Some x → IsDeath (place_of id (length q.answers)) t c → Sane d (map.insert known id (moved d id q (answer.Aborted c)))
+  sane_died t x c inner touch dies = let p = place_of id (length q.answers) in
+      sane_answered d known h id q is (answer.Aborted c) (subst (λ t. IsAnswer p t (effect_of d q) (answer.Aborted c)) (sym inner) (death_answer p t (effect_of d q) x c touch dies))
+      (λ b f v call. touched_is_no_call x b f v (ap touched (sym call) ∙ touch))
+
+  -- by an effect that is answered alike inside and outside
+  sane_at : (e : Effect) (a : Answer) → ((t : Option TxId) → IsAnswer (place_of id (length q.answers)) t e a) → ((f : ℕ) (v : Value) → e ≡ effect.Call f v → ⊥) → ((f : ℕ) (v : Value) → e ≡ effect.Async f v → ⊥) → effect_of d q ≡ e → Sane d (map.insert known id (moved d id q a))
+  sane_at e a fits no_call no_send same = sane_answered d known h id q is a (subst (λ z. IsAnswer (place_of id (length q.answers)) (tx_now d id q) z a) (sym same) (fits (tx_now d id q))) (λ w f v call. by_wait w f v (sym same ∙ call))
+    where
+      by_wait : (w : Bool) (f : ℕ) (v : Value) → e ≡ call_of w f v → ⊥
+      by_wait true f v g = no_call f v g
+      by_wait false f v g = no_send f v g
+
+  pub sane_read : (t : ℕ) (k : List ℕ) (v : Value) → effect_of d q ≡ effect.Read t k → Sane d (map.insert known id (moved d id q (answer.Value v)))
+  sane_read t k v = sane_at (effect.Read t k) (answer.Value v) (λ s. tt) (λ f w g. cc) (λ f w g. cc)
+
+  pub sane_wrote : (t : ℕ) (k : List ℕ) (v : Value) → effect_of d q ≡ effect.Write t k v → Sane d (map.insert known id (moved d id q answer.Done))
+  sane_wrote t k v = sane_at (effect.Write t k v) answer.Done (λ s. tt) (λ f w g. cc) (λ f w g. cc)
+
+  pub sane_tested : (t : ℕ) (k : List ℕ) (r : Rel) (o v : Value) (b : Bool) → effect_of d q ≡ effect.CondWrite t k r o v → Sane d (map.insert known id (moved d id q (answer.Value (value.Bool b))))
+  sane_tested t k r o v b = sane_at (effect.CondWrite t k r o v) (answer.Value (value.Bool b)) (λ s. tt) (λ f w g. cc) (λ f w g. cc)
+
+  pub sane_decided : (c : Bool) → effect_of d q ≡ effect.End c → Sane d (map.insert known id (moved d id q answer.Done))
+  sane_decided c = sane_at (effect.End c) answer.Done (λ s. tt) (λ f w g. cc) (λ f w g. cc)
