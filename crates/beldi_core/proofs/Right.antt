@@ -26,6 +26,7 @@ use Rattle.beldi_laws.specs.Right.{Right}
 use Rattle.beldi_laws.proofs.Events.{begins, after_event, keeps_right, right_legal}
 use Rattle.beldi_laws.proofs.Standing.{same_run, right_stands}
 use Rattle.beldi_laws.proofs.Listing.{listing_plain}
+use Rattle.beldi_laws.proofs.Outside.{outcome_known}
 use Rattle.beldi_core.specs.Survey.{Reads, greatest, newest_of, outcome_seen, row_seen, is_unknown, reply_seen}
 use Rattle.beldi_core.specs.declared.survey.OpenErr.{OpenErr}
 use Rattle.beldi_core.specs.declared.survey.ReplySeen.{ReplySeen}
@@ -121,16 +122,20 @@ module _ (d : Deployment) (c : Core) (m : Rows) (h : Right d c m) (t : ℕ) wher
   no_reply : reply_of h.plain t ≡ None → HasNoReply d c.book t
   no_reply none p is = subst (λ (q : PlainState). reply_of q t ≡ None) (same_run d c m p h is) none
 
+  -- a reply that is known is the plain one
+  reply_known : reply_of h.plain t ≡ outcome_of (map.get h.known (root_of t))
+  reply_known = sym (outcome_known d h.plain h.known h.beside (root_of t))
+
   absent : map.get m (root_key t) ≡ None → HasNoReply d c.book t
-  absent is = no_reply (ap outcome_of (subst (λ (r : Option Row). IntentMatches true 0 r (map.get h.plain.made (root_of t))) is (h.rows.keys (root_key t))))
+  absent is = no_reply (reply_known ∙ ap outcome_of (subst (λ (r : Option Row). IntentMatches true 0 r (map.get h.known (root_of t))) is (h.rows.keys (root_key t))))
 
-  by_body : (b : Option Body) (o : Option Outcome) → (b ≡ None → o ≡ None) → BodyMatches b o (map.get h.plain.made (root_of t)) → SaidOf d c.book t (outcome_seen o)
-  by_body None None bare root = no_reply (ap outcome_of root)
+  by_body : (b : Option Body) (o : Option Outcome) → (b ≡ None → o ≡ None) → BodyMatches b o (map.get h.known (root_of t)) → SaidOf d c.book t (outcome_seen o)
+  by_body None None bare root = no_reply (reply_known ∙ ap outcome_of root)
   by_body None (Some o) bare root = let clash = bare refl in cc
-  by_body (Some b) None bare root = no_reply (ap outcome_of root.0.made ∙ root.1)
-  by_body (Some b) (Some o) bare root = record { run = h.plain; legal = h.legal; reply = ap outcome_of root.0.made ∙ root.1 }
+  by_body (Some b) None bare root = no_reply (reply_known ∙ ap outcome_of root.0.made ∙ root.1)
+  by_body (Some b) (Some o) bare root = record { run = h.plain; legal = h.legal; reply = reply_known ∙ ap outcome_of root.0.made ∙ root.1 }
 
-  by_row : (r : Option Row) → is_some r ≡ true → IntentMatches true 0 r (map.get h.plain.made (root_of t)) → SaidOf d c.book t (row_seen r)
+  by_row : (r : Option Row) → is_some r ≡ true → IntentMatches true 0 r (map.get h.known (root_of t)) → SaidOf d c.book t (row_seen r)
   by_row None there root = cc
   by_row (Some (Intent i)) there root = by_body i.body i.outcome root.bare root.body
   by_row (Some r) there root = absurd root

@@ -9,11 +9,8 @@ use Rattle.beldi_laws.proofs.Moves.{AfterTurn, AfterQuery, SameRoots, AfterAct, 
 use Rattle.beldi_known.proofs.Answers.{true_false}
 use Rattle.beldi_known.proofs.Rows.{set_others}
 use Rattle.beldi_known.proofs.Instances.{row_of, IsRowOf}
-use Rattle.beldi_laws.proofs.Returned.{callee_registered}
 use Rattle.beldi_laws.proofs.Turns.{is_over, comes_to, knows_first}
-use Rattle.beldi_laws.specs.Right.{Right, RowsMatch, KnowsBody}
-use Rattle.beldi_order.proofs.Entries.{same_some}
-use Rattle.beldi_order.proofs.Sanes.{sane_of, legal_is_sane}
+use Rattle.beldi_order.proofs.Maps.{same_some}
 use Rattle.beldi_row.proofs.Gets.{key_same}
 use Rattle.beldi_row.proofs.Unchanged.{looked}
 use Rattle.beldi_row.specs.Act.{act}
@@ -37,6 +34,10 @@ use Rattle.beldi_value.specs.Id.{has_no_hops}
 use Rattle.beldi_value.specs.declared.id.IntentId.{IntentId}
 use Rattle.beldi_walk.specs.Query.{said}
 use Rattle.beldi_known.specs.Rows.{IntentMatches, IsBodyOf}
+use Rattle.beldi_laws.specs.Right.{Right, KnowsBody}
+use Rattle.beldi_laws.proofs.Shown.{Stays, shown, log_stays, legal_sane}
+use Rattle.beldi_laws.proofs.Outside.{called_outside}
+use Rattle.beldi_laws.proofs.Registered.{callee_registered}
 
 -- ---- rows of callees are no rows of roots
 is_root_key : Kind → Bool
@@ -57,9 +58,9 @@ module _ (d : Deployment) (c : Core) (m : Rows) (i : ℕ) (r : Run) (h : Right d
   -- the body, if any, is that of the run's instance, and of its function
   MadeWith : Option Body → Type 0
   MadeWith None = Unit {0}
-  MadeWith (Some b) = IsBodyOf b (map.get h.plain.made r.id) × (b.func ≡ r.func)
+  MadeWith (Some b) = IsBodyOf b (map.get h.known r.id) × (b.func ≡ r.func)
 
-  made_in : (b : Option Body) → ((x : Body) → b ≡ Some x → IsBodyOf x (map.get h.plain.made r.id)) → MadeWith (body_in r.func b)
+  made_in : (b : Option Body) → ((x : Body) → b ≡ Some x → IsBodyOf x (map.get h.known r.id)) → MadeWith (body_in r.func b)
   unfolding MadeWith
   made_in None is = tt
   made_in (Some b) is = by_func (b.func == r.func) refl
@@ -68,7 +69,7 @@ module _ (d : Deployment) (c : Core) (m : Rows) (i : ℕ) (r : Run) (h : Right d
       by_func true e = (is b refl, eqb-true b.func r.func e)
       by_func false e = tt
 
-  made_open : (j : IntentRow) → IsRowOf j (map.get h.plain.made r.id) → MadeWith (body_in r.func (open_body j))
+  made_open : (j : IntentRow) → IsRowOf j (map.get h.known r.id) → MadeWith (body_in r.func (open_body j))
   unfolding MadeWith
   made_open j f = by_end (is_ended j)
     where
@@ -76,33 +77,33 @@ module _ (d : Deployment) (c : Core) (m : Rows) (i : ℕ) (r : Run) (h : Right d
       by_end true = tt
       by_end false = made_in j.body f.body
 
-  made_told : (home : ℕ) (w : Option Row) → IntentMatches (has_no_hops r.id.hops) home w (map.get h.plain.made r.id) → MadeWith (body_told r.func (said (act Look c.now w).1))
+  made_told : (home : ℕ) (w : Option Row) → IntentMatches (has_no_hops r.id.hops) home w (map.get h.known r.id) → MadeWith (body_told r.func (said (act Look c.now w).1))
   unfolding MadeWith
   made_told home None f = tt
-  made_told home (Some (rows.Intent j)) f = made_open j (row_of (has_no_hops r.id.hops) home j (map.get h.plain.made r.id) f)
+  made_told home (Some (rows.Intent j)) f = made_open j (row_of (has_no_hops r.id.hops) home j (map.get h.known r.id) f)
   made_told home (Some w) f = tt
 
-  begins : (n : Rows) → SameRoots m n → RowsMatch d n h.plain → (f : Option Func) (b : Option Body) → MadeWith b → AfterTurn d h.plain c i r (begin_in d r f b) n
+  begins : (n : Rows) → SameRoots m n → Stays h n → (f : Option Func) (b : Option Body) → MadeWith b → AfterTurn d h.plain c i r (begin_in d r f b) n
   unfolding MadeWith
   begins n roots rows f None made = is_over d c m n i r h live roots rows
   begins n roots rows None (Some b) made = is_over d c m n i r h live roots rows
   begins n roots rows (Some f) (Some b) made =
       let machine = machine_begun d r.func b.args false in
       let body = made.0.body in
-      let outside = (sane_of d h.plain r.id made.0.instance (legal_is_sane d c.book h.plain h.legal) made.0.made).outside in
+      let outside = called_outside d h.plain h.known h.beside r.id made.0.instance made.0.made (legal_sane h) in
       comes_to d c m n i r h live roots machine b.from (first_stage r.id b.from machine.effect)
-      (λ s first. knows_first d c.book h.plain r machine b.from made.0.instance [] made.0.instance.answers s made.0.made (sym (ap (λ z. z.func) body) ∙ made.1) (ap (λ z. z.from) body) refl
-      (subst (λ t. IsAt d r.func made.0.instance.args (is_some t) machine []) (sym outside) (subst (λ a. IsAt d r.func a false machine []) (ap (λ z. z.args) body) (at_begin d r.func b.args false))) first) rows
+      (λ s first. knows_first d c.book h.known r machine b.from made.0.instance [] made.0.instance.answers s made.0.made (sym (ap (λ z. z.func) body) ∙ made.1) (ap (λ z. z.from) body) refl
+      (subst (λ t. IsAt d r.func made.0.instance.args (is_some t) machine []) (sym outside) (subst (λ a. IsAt d r.func a false machine []) (ap (λ z. z.args) body) (at_begin d r.func b.args false))) (outside, refl) first) rows
 
   -- it looks at its row
   pub look_turn : AfterQuery d h.plain c.now m (λ t. turn_next c i r (begin_in d r (func_at d r.func) (body_told r.func t))) (look_asks r.id r.func)
   look_turn =
       let key = intent_key r.id r.func in
       let b = body_told r.func (said (act Look c.now (map.get m key)).1) in
-      subst (AfterTurn d h.plain c i r (begin_in d r (func_at d r.func) b)) (sym (looked c.now key m)) (begins m (λ t. refl) h.rows (func_at d r.func) b (made_told key.home (map.get m key) (h.rows.keys key)))
+      subst (AfterTurn d h.plain c i r (begin_in d r (func_at d r.func) b)) (sym (looked c.now key m)) (begins m (λ t. refl) (shown h) (func_at d r.func) b (made_told key.home (map.get m key) (h.rows.keys key)))
 
   -- it registers its body, or finds its row
-  module _ (b : Body) (k : KnowsBody h.plain r b) where
+  module _ (b : Body) (k : KnowsBody h.known r b) where
     abbrev key : RowKey
     key = record { home = b.func; kind = kinds.Intent r.id }
 
@@ -110,10 +111,10 @@ module _ (d : Deployment) (c : Core) (m : Rows) (i : ℕ) (r : Run) (h : Right d
     unfolding MadeWith
     by_row None at =
         let new = Some (rows.Intent (issued_at c.now (Some b))) in
-        begins (set_row m key new) (same_roots m b.func r.id new k.callee) (callee_registered d m h.plain r.id b c.now k.callee k.body h.rows at) (func_at d r.func) (body_in r.func (Some b)) (made_in (Some b) (λ x e. subst (λ z. IsBodyOf z (map.get h.plain.made r.id)) (same_some e) k.body))
+        begins (set_row m key new) (same_roots m b.func r.id new k.callee) (log_stays h key new refl (callee_registered d m h.known h.locked r.id b c.now k.callee k.body h.rows at)) (func_at d r.func) (body_in r.func (Some b)) (made_in (Some b) (λ x e. subst (λ z. IsBodyOf z (map.get h.known r.id)) (same_some e) k.body))
     by_row (Some w) at =
         let found = body_told r.func (said (act Look c.now (Some w)).1) in
-        still d h.plain m key (Some w) (sym at) (begins m (λ t. refl) h.rows (func_at d r.func) found (made_told b.func (Some w) (subst (λ z. IntentMatches (has_no_hops r.id.hops) b.func z (map.get h.plain.made r.id)) at (h.rows.keys key))))
+        still d h.plain m key (Some w) (sym at) (begins m (λ t. refl) (shown h) (func_at d r.func) found (made_told b.func (Some w) (subst (λ z. IntentMatches (has_no_hops r.id.hops) b.func z (map.get h.known r.id)) at (h.rows.keys key))))
 
     pub register_turn : AfterQuery d h.plain c.now m (λ t. turn_next c i r (begin_in d r (func_at d r.func) (body_registered r.func b t))) (register_asks r.id b)
     register_turn = subst (λ z. AfterAct d h.plain m z (λ t. turn_next c i r (begin_in d r (func_at d r.func) (body_registered r.func b t))) (act (Register b) c.now (map.get m z))) own (by_row (map.get m key) refl)

@@ -10,13 +10,10 @@ use Rattle.beldi_lang.specs.declared.effect.Answer.{Answer}
 use Rattle.beldi_lang.specs.declared.effect.Effect.TheVariants.{Call}
 use Rattle.beldi_lang.specs.declared.effect.Effect.{Effect}
 use Rattle.beldi_laws.proofs.Turns.{answer_here}
-use Rattle.beldi_laws.specs.Right.{Right, KnowsAt, owed_call, Knows}
-use Rattle.beldi_order.proofs.Entries.{same_some}
-use Rattle.beldi_order.proofs.Late.{here}
-use Rattle.beldi_order.proofs.Sanes.{legal_is_sane, called_at, sane_of}
-use Rattle.beldi_order.specs.Sane.{effect_before, Sane, call_of}
-use Rattle.beldi_plain.specs.Plain.{PlainState, Instance, step}
-use Rattle.beldi_row.specs.Table.{Rows}
+use Rattle.beldi_order.proofs.Maps.{same_some, here}
+use Rattle.beldi_order.specs.Sane.{call_of, IsCalled, CalledBy}
+use Rattle.beldi_plain.specs.Plain.{effect_before, Instance, step, new_instance, calls_at, callee_of}
+use Rattle.beldi_row.specs.Table.{Rows, set_row}
 use Rattle.beldi_row.specs.declared.row.Body.{Body}
 use Rattle.beldi_step.specs.Host.{Core}
 use Rattle.beldi_step.specs.Run.{place_of, callee_by, callee_body}
@@ -31,6 +28,19 @@ use Rattle.beldi_value.specs.declared.outcome.Outcome.{Outcome}
 use Rattle.beldi_value.specs.declared.value.Value.{Value}
 use Rattle.beldi_known.specs.Owed.{called_by, result_of}
 use Rattle.beldi_known.specs.Rows.{IsBodyOf}
+use Rattle.beldi_laws.specs.Right.{Right, Knows, KnowsAt}
+use Rattle.beldi_known.specs.Known.{owed_call, Known, at_once}
+use Rattle.beldi_order.specs.Txs.{tx_at}
+use Rattle.beldi_known.specs.Sane.{Sane, within_of}
+use Rattle.beldi_known.specs.Matches.{Matches, LockedAtEnds}
+use Rattle.beldi_value.specs.declared.place.TxId.{TxId}
+use Rattle.beldi_value.specs.declared.place.Caller.{Caller}
+use Rattle.beldi_known.proofs.Frame.{at_once_same}
+use Rattle.beldi_known.proofs.Calls.{call_opened, made_owes}
+use Rattle.beldi_laws.proofs.Outside.{unlocked_new}
+use Rattle.beldi_invokelog.specs.InvokeLog.{invoke_key, opened}
+use Rattle.std.specs.FinMap as map
+use Rattle.beldi_row.specs.declared.row.Row.TheVariants as rows
 
 -- a call tells whether it waits, its function and its argument
 pub same_call : (a b : Bool) (f g : ℕ) (v u : Value) → call_of a f v ≡ call_of b g u → (a ≡ b) × (f ≡ g) × (v ≡ u)
@@ -39,69 +49,103 @@ same_call true false f g v u h = cc
 same_call false true f g v u h = cc
 same_call false false f g v u h = (refl, cc, cc)
 
-pub made_with : (d : Deployment) (p : PlainState) → Sane d p → (id : IntentId) (func step : ℕ) (w : Bool) (f : ℕ) (v : Value) (q j : Instance) → map.get p.made id ≡ Some q → q.func ≡ func → effect_before d q step ≡ call_of w f v → map.get p.made (child_of id step) ≡ Some j
-    → IsBodyOf (callee_body id func step f v w) (map.get p.made (child_of id step))
-made_with d p sane id func step w f v q j made func_is here at =
-    let c = called_at d p sane id step j at in
+-- who is known by an id of a callee was called there; and who is not known called nobody
+pub called_in : (d : Deployment) (known : Known) → Sane d known → (id : IntentId) (n : ℕ) (j : Instance) → map.get known (child_of id n) ≡ Some j → (q : Instance) × (map.get known id ≡ Some q) × IsCalled d id q n j
+called_in d known sane id n j at = by_caller (map.get known id) refl (sane.called id n j at)
+  where
+    by_caller : (o : Option Instance) → map.get known id ≡ o → CalledBy d id o n j → (q : Instance) × (map.get known id ≡ Some q) × IsCalled d id q n j
+    by_caller None e c = absurd c
+    by_caller (Some q) e c = (q, e, c)
+
+pub childless : (d : Deployment) (known : Known) → Sane d known → (id : IntentId) → map.get known id ≡ None → (n : ℕ) → map.get known (child_of id n) ≡ None
+childless d known sane id new n = by_callee (map.get known (child_of id n)) refl
+  where
+    by_callee : (o : Option Instance) → map.get known (child_of id n) ≡ o → o ≡ None
+    by_callee None e = refl
+    by_callee (Some j) e = absurd (subst (λ o. CalledBy d id o n j) new (sane.called id n j e))
+
+pub made_with : (d : Deployment) (known : Known) → Sane d known → (id : IntentId) (func step : ℕ) (w : Bool) (f : ℕ) (v : Value) (q j : Instance) → map.get known id ≡ Some q → q.func ≡ func → tx_at d id q step ≡ None → effect_before d q step ≡ call_of w f v → map.get known (child_of id step) ≡ Some j
+    → IsBodyOf (callee_body id func step f v w) (map.get known (child_of id step))
+made_with d known sane id func step w f v q j made func_is out here at =
+    let c = called_in d known sane id step j at in
     let same : c.0 ≡ q = same_some (sym c.1 ∙ made) in
     let call : call_of w f v ≡ call_of c.2.waits j.func j.args = sym here ∙ ap (λ z. effect_before d z step) (sym same) ∙ c.2.call in
     let parts = same_call w c.2.waits f j.func v j.args call in
-    let outside = (sane_of d p (child_of id step) j sane at).outside in
+    let outside : j.within ≡ None = sane.within id q step j made at ∙ ap (within_of j.from) out ∙ none_in j.from in
     let from : Some (record { place = place_of id step; func = func; waits = w }) ≡ j.from = (λ i. Some (record { place = place_of id step; func = (sym func_is ∙ ap (λ z. z.func) (sym same)) i; waits = parts.0 i })) ∙ sym c.2.from in
     record { instance = j; made = at; body = λ i. record { func = parts.1 i; args = parts.2 i; tx = sym outside i; from = from i } }
+  where
+    by_wait : (b : Bool) → ◌≡◌ {A = Option TxId} (if b then None else None) None
+    by_wait true = refl
+    by_wait false = refl
+
+    none_in : (o : Option Caller) → within_of o None ≡ None
+    none_in None = refl
+    none_in (Some c) = by_wait c.waits
 
 -- a run of one that is waited for registers it
-module _ (d : Deployment) (book : List Entry) (p : PlainState) (sane : Sane d p) (r : Run) (step : ℕ) (e : Effect) (f : ℕ) (v : Value) (q : Instance) (is : e ≡ Call f v) (made : map.get p.made r.id ≡ Some q) (func : q.func ≡ r.func)
-    (here : effect_before d q step ≡ Call f v) (there : is_some (map.get p.made (child_of r.id step)) ≡ true) (k : Run) (started : callee_by r step e ≡ Some k) where
+module _ (d : Deployment) (book : List Entry) (known : Known) (sane : Sane d known) (r : Run) (step : ℕ) (e : Effect) (f : ℕ) (v : Value) (q : Instance) (is : e ≡ Call f v) (made : map.get known r.id ≡ Some q) (func : q.func ≡ r.func) (out : tx_at d r.id q step ≡ None)
+    (here : effect_before d q step ≡ Call f v) (there : is_some (map.get known (child_of r.id step)) ≡ true) (k : Run) (started : callee_by r step e ≡ Some k) where
   abbrev body : Body
   body = callee_body r.id r.func step f v true
 
-  by_hops : (b : Bool) → (if b then Some (record { id = child_of r.id step; func = f; deadline = r.deadline; at = Registers body }) else None) ≡ Some k → KnowsAt d book p (record { id = child_of r.id step; func = f; deadline = r.deadline; at = Registers body }) (Registers body) → KnowsAt d book p k k.at
-  by_hops true same known = subst (λ z. KnowsAt d book p z z.at) (same_some same) known
-  by_hops false same known = cc
+  by_hops : (b : Bool) → (if b then Some (record { id = child_of r.id step; func = f; deadline = r.deadline; at = Registers body }) else None) ≡ Some k → KnowsAt d book known (record { id = child_of r.id step; func = f; deadline = r.deadline; at = Registers body }) (Registers body) → KnowsAt d book known k k.at
+  by_hops true same knows = subst (λ z. KnowsAt d book known z z.at) (same_some same) knows
+  by_hops false same knows = cc
 
-  by_callee : (o : Option Instance) → map.get p.made (child_of r.id step) ≡ o → is_some o ≡ true → KnowsAt d book p k k.at
+  by_callee : (o : Option Instance) → map.get known (child_of r.id step) ≡ o → is_some o ≡ true → KnowsAt d book known k k.at
   by_callee None at there = cc
-  by_callee (Some j) at there = by_hops (has_callees r.id) (sym (ap (callee_by r step) is) ∙ started) (record { body = made_with d p sane r.id r.func step true f v q j made func here at; func = refl; callee = no_root r.id step })
+  by_callee (Some j) at there = by_hops (has_callees r.id) (sym (ap (callee_by r step) is) ∙ started) (record { body = made_with d known sane r.id r.func step true f v q j made func out here at; func = refl; callee = no_root r.id step })
 
-  pub callee_knows : KnowsAt d book p k k.at
-  callee_knows = by_callee (map.get p.made (child_of r.id step)) refl there
+  pub callee_knows : KnowsAt d book known k k.at
+  callee_knows = by_callee (map.get known (child_of r.id step)) refl there
 
 -- ---- a call that a run stands at, whether it waits for it or not
-module _ (d : Deployment) (c : Core) (m : Rows) (r : Run) (g : Begun) (h : Right d c m) (k : Knows d c.book h.plain r g) (w : Bool) (f : ℕ) (v : Value) (call_here : effect_before d k.instance g.machine.steps ≡ call_of w f v) where
+module _ (d : Deployment) (c : Core) (m : Rows) (r : Run) (g : Begun) (h : Right d c m) (k : Knows d c.book h.known r g) (w : Bool) (f : ℕ) (v : Value) (call_here : effect_before d k.instance g.machine.steps ≡ call_of w f v) where
   abbrev callee : IntentId
   callee = child_of r.id g.machine.steps
 
   -- the log of calls has the callee that was made
-  owed_is : owed_call h.plain r.func (place_of r.id g.machine.steps) ≡ option_map {U = ℕ × Option Outcome} (λ j. (j.func, result_of j)) (map.get h.plain.made callee)
-  owed_is = ap (λ o. called_by r.func o (map.get h.plain.made callee)) k.made ∙ by_callee (map.get h.plain.made callee)
+  owed_is : owed_call h.known r.func (place_of r.id g.machine.steps) ≡ option_map {U = ℕ × Option Outcome} (λ j. (j.func, result_of j)) (map.get h.known callee)
+  owed_is = ap (λ o. called_by r.func o (map.get h.known callee)) k.made ∙ by_callee (map.get h.known callee)
     where
       by_callee : (o : Option Instance) → called_by r.func (Some k.instance) o ≡ option_map {U = ℕ × Option Outcome} (λ j. (j.func, result_of j)) o
       by_callee None = refl
       by_callee (Some j) = ap (λ b. if b then Some (j.func, result_of j) else None) (eq-eqb k.instance.func r.func k.func)
 
-  pub not_made : owed_call h.plain r.func (place_of r.id g.machine.steps) ≡ None → map.get h.plain.made callee ≡ None
-  not_made none = by_callee (map.get h.plain.made callee) (sym owed_is ∙ none)
+  pub not_made : owed_call h.known r.func (place_of r.id g.machine.steps) ≡ None → map.get h.known callee ≡ None
+  not_made none = by_callee (map.get h.known callee) (sym owed_is ∙ none)
     where
       by_callee : (o : Option Instance) → option_map {U = ℕ × Option Outcome} (λ j. (j.func, result_of j)) o ≡ None → o ≡ None
       by_callee None e = refl
       by_callee (Some j) e = cc
 
-  pub was_made : (z : ℕ × Option Outcome) → owed_call h.plain r.func (place_of r.id g.machine.steps) ≡ Some z → (j : Instance) × (map.get h.plain.made callee ≡ Some j) × (result_of j ≡ z.1)
-  was_made z there = by_callee (map.get h.plain.made callee) refl (sym owed_is ∙ there)
+  pub was_made : (z : ℕ × Option Outcome) → owed_call h.known r.func (place_of r.id g.machine.steps) ≡ Some z → (j : Instance) × (map.get h.known callee ≡ Some j) × (result_of j ≡ z.1)
+  was_made z there = by_callee (map.get h.known callee) refl (sym owed_is ∙ there)
     where
-      by_callee : (o : Option Instance) → map.get h.plain.made callee ≡ o → option_map {U = ℕ × Option Outcome} (λ j. (j.func, result_of j)) o ≡ Some z → (j : Instance) × (map.get h.plain.made callee ≡ Some j) × (result_of j ≡ z.1)
+      by_callee : (o : Option Instance) → map.get h.known callee ≡ o → option_map {U = ℕ × Option Outcome} (λ j. (j.func, result_of j)) o ≡ Some z → (j : Instance) × (map.get h.known callee ≡ Some j) × (result_of j ≡ z.1)
       by_callee None at e = cc
       by_callee (Some j) at e = (j, at, ap (λ z. z.1) (same_some e))
 
   -- where it was not made, the call is the instance's next step
-  pub next_here : map.get h.plain.made callee ≡ None → (later : List Answer) → k.later ≡ later → k.later ≡ []
+  pub next_here : map.get h.known callee ≡ None → (later : List Answer) → k.later ≡ later → k.later ≡ []
   next_here new [] left = left
   next_here new (a ∷ rest) left =
-      let there = (legal_is_sane d c.book h.plain h.legal).callees r.id k.instance g.machine.steps w f v k.made (answered_before k.instance.answers g.machine.steps a (answer_here d c.book h.plain r g k (a ∷ rest) left)) call_here in
+      let there = h.sane.callees r.id k.instance g.machine.steps w f v k.made (answered_before k.instance.answers g.machine.steps a (answer_here d c.book h.known r g k (a ∷ rest) left)) call_here in
       let clash = sym (ap is_some new) ∙ there in cc
     where
       answered_before : (xs : List Answer) (n : ℕ) (a : Answer) → slice_get xs n ≡ Some a → n < length xs
       answered_before [] n a is = cc
       answered_before (x ∷ xs) zero a is = omega arith
       answered_before (x ∷ xs) (suc n) a is = let l = answered_before xs n a is in omega (arith, l)
+
+-- ---- a call is opened: its row is put, and its callee is known
+pub call_row : (d : Deployment) (known : Known) (locked : IntentId → Bool) → LockedAtEnds d known locked → Sane d known → (id : IntentId) (i : Instance) (f : ℕ) (v : Value) (waits : Bool) → map.get known id ≡ Some i → map.get known (callee_of id i) ≡ None → (m : Rows) (step func : ℕ) → step ≡ length i.answers → i.func ≡ func → Matches d m known locked
+    → Matches d (set_row m (invoke_key func (place_of id step)) (Some (rows.Invoke (opened f)))) (map.insert known (callee_of id i) (at_once d (callee_of id i) (new_instance f v (Some (calls_at id i waits))))) locked
+call_row d known locked ends sane id i f v waits is new m step func steps func_is h =
+    let s = new_instance f v (Some (calls_at id i waits)) in
+    let z = at_once d (callee_of id i) s in
+    let same = at_once_same d (callee_of id i) s in
+    subst (λ n. Matches d (set_row m (invoke_key func (place_of id n)) (Some (rows.Invoke (opened f)))) (map.insert known (callee_of id i) z) locked) (sym steps)
+    (subst (λ g. Matches d (set_row m (invoke_key g (place_of id (length i.answers))) (Some (rows.Invoke (opened f)))) (map.insert known (callee_of id i) z) locked) func_is
+    (call_opened d known locked id i z waits is new (childless d known sane (callee_of id i) new) (unlocked_new d known locked ends (callee_of id i) new) (made_owes d known (callee_of id i) f v (Some (calls_at id i waits))) (sym (ap (λ (b : Body). b.from) same.body)) same.outcome m (opened f) (sym same.func) refl h))

@@ -12,9 +12,6 @@ use Rattle.std.proofs.Math.Bool.{and-false}
 use Rattle.std.proofs.lemmas.Bool.{or_parts}
 use Rattle.beldi_value.specs.Id.{id_cmp, id_total, root_of, child_of, has_no_hops}
 use Rattle.beldi_value.specs.declared.place.Caller.{Caller}
-use Rattle.beldi_value.specs.declared.place.Place.{Place}
-use Rattle.beldi_value.specs.declared.place.Owner.{Owner}
-use Rattle.beldi_value.specs.declared.place.Owner.TheVariants as owner
 use Rattle.beldi_value.specs.Same.{same_value}
 use Rattle.beldi_value.specs.declared.outcome.Outcome.{Outcome}
 use Rattle.beldi_value.specs.declared.value.Value.{Value}
@@ -26,8 +23,8 @@ use Rattle.beldi_row.specs.Key.{key_cmp}
 use Rattle.beldi_row.specs.declared.key.Kind.{Kind}
 use Rattle.beldi_row.specs.declared.key.Kind.TheVariants as kinds
 use Rattle.beldi_tree.specs.Bindings.{or_null}
-use Rattle.beldi_plain.specs.Item.{Item, item_cmp}
-use Rattle.beldi_plain.specs.Holds.{holds, holds_as}
+use Rattle.beldi_plain.specs.Item.{item_cmp}
+use Rattle.beldi_plain.specs.Holds.{holds}
 use Rattle.beldi_row.specs.declared.row.Body.{Body}
 use Rattle.beldi_row.specs.declared.row.IntentRow.{IntentRow}
 use Rattle.beldi_row.specs.declared.row.Row.{Row}
@@ -55,26 +52,20 @@ use Rattle.beldi_walk.proofs.Lent.{rows_stand, refused_stand}
 use Rattle.beldi_intent.specs.Intent.{root_key, bind_asks, is_added, binding_of}
 use Rattle.beldi_invokelog.specs.InvokeLog.{back_of}
 use Rattle.beldi_step.specs.Run.{is_waited, back_says, back_to_asks, turned_by, stage_asks, stage_says, asks_at, told_at, run_asks, run_told}
-use Rattle.beldi_step.specs.Host.{Core, Plan, at_once, asks, first_core, most_runs, most_events, last_moment, is_crowded, has_run, passed, launched, collect_next, run_plan, crash_plan, new_run, with_run, ended_run, ticket_next, bound_next, request_next, turn_next, run_next, unheard_next, plan_of, counted, plan, heard, no_memory, refused, refused_by, Followed, EventBy, EventOn}
-use Rattle.beldi_known.specs.Contents.{head_key, is_owner}
+use Rattle.beldi_step.specs.Host.{at_once, Core, Plan, asks, first_core, most_runs, most_events, last_moment, is_crowded, has_run, passed, launched, collect_next, run_plan, crash_plan, new_run, with_run, ended_run, ticket_next, bound_next, request_next, turn_next, run_next, unheard_next, plan_of, counted, plan, heard, no_memory, refused, refused_by, Followed, EventBy, EventOn}
+use Rattle.beldi_known.specs.Contents.{head_key, shadow_key}
 use Rattle.beldi_known.specs.Rows.{HasNoRow, RootMatches, IntentMatches, IsRootRow, BodyMatches}
 use Rattle.beldi_known.specs.Owed.{called_by}
 use Rattle.beldi_daal.specs.Content.{content_in}
-use Rattle.beldi_laws.specs.Right.{Right, ItemMatches, RowMatches, Knows, KnowsAt, RunAt, StageOk, PlaceOk, SeenDone, owed_by, owed_value}
 use Rattle.beldi_laws.specs.Laws.{told_outcome, is_gone, RepliesAreOutcomes, KeepsRight, RightIsLegal}
 use Rattle.beldi_row.proofs.Gets.{got}
 use Rattle.beldi_row.proofs.Unchanged.{unchanged}
 use Rattle.beldi_book.specs.Order.{count_changes}
-use Rattle.beldi_value.proofs.Callees.{no_root}
-use Rattle.beldi_order.proofs.Entries.{same_some, grows_self}
-use Rattle.beldi_order.proofs.Late.{elsewhere}
-use Rattle.beldi_order.proofs.Sanes.{no_callees, legal_is_sane}
+use Rattle.beldi_order.proofs.Entries.{grows_self, grows_new}
+use Rattle.beldi_order.proofs.Maps.{same_some}
 use Rattle.beldi_laws.proofs.Lives.{runs_more, runs_less}
-use Rattle.beldi_known.proofs.Answers.{true_false}
-use Rattle.beldi_known.proofs.Instances.{no_callee}
 use Rattle.beldi_order.proofs.Operations.{id_same}
-use Rattle.beldi_laws.proofs.Steps.{OwesSame, new_owes, row_set, root_moved}
-use Rattle.beldi_laws.proofs.Moves.{if_plan, seen_by, After, AfterQuery, AfterAct, replaced, change_entered, unheard}
+use Rattle.beldi_laws.proofs.Moves.{if_plan, seen_by, After, AfterQuery, AfterAct, replaced, change_entered, unheard, with_runs, right_by}
 use Rattle.beldi_laws.proofs.OneEvent.{lent_only}
 use Rattle.beldi_laws.proofs.Beginnings.{look_turn, register_turn}
 use Rattle.beldi_laws.proofs.Callings.{call_turn}
@@ -88,6 +79,20 @@ use Rattle.beldi_row.specs.declared.key.RowKey.{RowKey}
 use Rattle.beldi_laws.proofs.Operations.{operation_turn}
 use Rattle.beldi_laws.proofs.Readings.{ask_turn, walk_turn, keep_turn}
 use Rattle.beldi_plain.specs.Guard.{touched_by}
+use Rattle.beldi_laws.specs.Right.{Right, Knows, KnowsAt, RunAt, StageOk, PlaceOk, SeenDone}
+use Rattle.beldi_known.specs.Known.{Known, at_once as with_once, owed_value, owed_lockset, owed_note, owed_shadow, got_by}
+use Rattle.beldi_known.specs.Matches.{RowMatches, ItemMatches, ShadowMatches, TxsMatch}
+use Rattle.std.specs.Option.{option_map}
+use Rattle.beldi_laws.proofs.KeptSane.{root_kept}
+use Rattle.beldi_laws.proofs.Shown.{log_values, log_stays, aside, aside_still}
+use Rattle.beldi_laws.proofs.Outside.{plain_none, unlocked_new, outcome_known}
+use Rattle.beldi_laws.proofs.Turns.{tx_here}
+use Rattle.beldi_laws.proofs.CallsHere.{childless}
+use Rattle.beldi_known.proofs.Intents.{root_bound}
+use Rattle.beldi_known.proofs.Sets.{row_put}
+use Rattle.beldi_known.specs.Listed.{listed_under}
+use Rattle.beldi_known.proofs.Answers.{true_false}
+use Rattle.beldi_laws.proofs.Singles.{new_outside, none_outside}
 
 -- it tells no outcome, nor that a row is absent
 abbrev TellsNothing : Seen → Type 0
@@ -99,11 +104,11 @@ as_before d c m x nothing h = record { right = h; goes_on = grows_self h.plain.m
 
 -- ---- a run that ends
 abbrev without : (d : Deployment) (c : Core) (m : Rows) (i : ℕ) → Right d c m → Right d (ended_run c i) m
-without d c m i h = record { plain = h.plain; bounded = h.bounded; legal = h.legal; guarded = h.guarded; rows = h.rows; tickets = h.tickets; runs = runs_less d c.book h.plain c.runs c.last_run i h.runs }
+without d c m i h = with_runs h (ended_run c i) refl refl (runs_less d c.book h.known c.runs c.last_run i h.runs)
 
 -- ---- a turn
 module _ (d : Deployment) (c : Core) (m : Rows) (i : ℕ) (h : Right d c m) (r : Run) (live : map.get c.runs i ≡ Some r) where
-  module _ (g : Begun) (at_is : r.at ≡ Begins g) (k : Knows d c.book h.plain r g) where
+  module _ (g : Begun) (at_is : r.at ≡ Begins g) (k : Knows d c.book h.known r g) where
     abbrev AfterStage : Effect → Stage → Type 0
     AfterStage e s = AfterQuery d h.plain c.now m (λ t. turn_next c i r (turned_by d r g (stage_says r.id g.caller (count_changes c.book) g.machine.steps e s t))) (stage_asks r.id r.func g.caller g.machine.steps e s)
 
@@ -112,7 +117,7 @@ module _ (d : Deployment) (c : Core) (m : Rows) (i : ℕ) (h : Right d c m) (r :
     back_at None o from is waited = cc
     back_at (Some b) o from is waited = back_turn d c m i r g h live k o is b from waited
 
-    stage_turn : (e : Effect) (s : Stage) → g.machine.effect ≡ e → StageOk r.id g.caller e s → PlaceOk d c.book r.id r.func k.answers k.later e s → SeenDone h.plain r.id g.machine.steps k.instance g.caller s → AfterStage e s
+    stage_turn : (e : Effect) (s : Stage) → g.machine.effect ≡ e → StageOk None r.id g.caller e s → PlaceOk d c.book r.id r.func k.answers k.later e s → SeenDone h.known r.id g.machine.steps k.instance g.caller s → AfterStage e s
     stage_turn (Read t key) stage.Ask is ok at done = ask_turn d c m i r g h live k t key is
     stage_turn (Read t key) stage.Walk is ok at done = walk_turn d c m i r g h live k t key is
     stage_turn (Read t key) (stage.Keep v seen) is ok at done = keep_turn d c m i r g h live k t key is v seen at
@@ -127,13 +132,13 @@ module _ (d : Deployment) (c : Core) (m : Rows) (i : ℕ) (h : Right d c m) (r :
     stage_turn (Return o) stage.Close is ok at done = close_turn d c m i r g h live k o is done
     stage_turn e s is ok at done = absurd ok
 
-  at_turn : (at : standing.RunAt) → r.at ≡ at → KnowsAt d c.book h.plain r at → AfterQuery d h.plain c.now m (λ t. turn_next c i r (told_at d (count_changes c.book) r at t)) (asks_at r at)
+  at_turn : (at : standing.RunAt) → r.at ≡ at → KnowsAt d c.book h.known r at → AfterQuery d h.plain c.now m (λ t. turn_next c i r (told_at d (count_changes c.book) r at t)) (asks_at r at)
   at_turn Looks is k = look_turn d c m i r h live
   at_turn (Registers b) is k = register_turn d c m i r h live b k
-  at_turn (Begins g) is k = stage_turn g is k g.machine.effect g.stage refl k.run_stage k.run_place k.run_done
+  at_turn (Begins g) is k = stage_turn g is k g.machine.effect g.stage refl (subst (λ t. StageOk t r.id g.caller g.machine.effect g.stage) (tx_here d c.book h.known r g k) k.run_stage) k.run_place k.run_done
 
   turn_made : AfterQuery d h.plain c.now m (λ t. run_next d c i t (Some r)) (run_asks r)
-  turn_made = at_turn r.at refl (subst (RunAt d c.book h.plain) live (h.runs.runs i))
+  turn_made = at_turn r.at refl (subst (RunAt d c.book h.known) live (h.runs.runs i))
 
   -- nobody hears what it told: it leaves what the turn leaves, without the run and without one that it started
   turn_unheard : AfterQuery d h.plain c.now m (λ t. (unheard_next d c i t (Some r), seen.Dropped)) (run_asks r)
@@ -141,7 +146,7 @@ module _ (d : Deployment) (c : Core) (m : Rows) (i : ℕ) (h : Right d c m) (r :
 
 -- ---- a run more
 abbrev with_new : (d : Deployment) (c : Core) (m : Rows) (id : IntentId) (f : ℕ) → is_crowded c ≡ false → Right d c m → Right d (with_run c (new_run d c id f)) m
-with_new d c m id f few h = record { plain = h.plain; bounded = h.bounded; legal = h.legal; guarded = h.guarded; rows = h.rows; tickets = h.tickets; runs = runs_more d c.book h.plain c.runs c.last_run (new_run d c id f) (leb-false most_runs (map.len c.runs) few) tt h.runs }
+with_new d c m id f few h = with_runs h (with_run c (new_run d c id f)) refl refl (runs_more d c.book h.known c.runs c.last_run (new_run d c id f) (leb-false most_runs (map.len c.runs) few) tt h.runs)
 
 -- ---- a ticket
 roots_apart : (t u : ℕ) → is_eq (id_cmp (root_of t) (root_of u)) ≡ false → t ≡ u → ⊥
@@ -169,17 +174,12 @@ module _ (d : Deployment) (c : Core) (m : Rows) (h : Right d c m) where
   issued is =
       let t = c.newest + 1 in
       let i : IntentRow = record { issued = c.now; body = None; outcome = None; finish = None } in
-      let not_made : map.get h.plain.made (root_of t) ≡ None = subst (λ r. IntentMatches true 0 r (map.get h.plain.made (root_of t))) is (h.rows.keys (root_key t)) in
+      let not_made : map.get h.known (root_of t) ≡ None = subst (λ r. IntentMatches true 0 r (map.get h.known (root_of t))) is (h.rows.keys (root_key t)) in
       subst (λ (w : Option Row × Tell). After d h.plain (record c { newest = c.newest + 1 }) (set_row m (root_key t) w.0) (seen.Issued t)) (ap (act Issue c.now) (sym is)) (record {
-        right = record {
-          plain = h.plain;
-          bounded = h.bounded;
-          legal = h.legal;
-          guarded = h.guarded;
-          rows = row_set d m h.plain h.plain (root_key t) (Some (rows.Intent i)) refl (record { bare = λ e. refl; finishes = refl; body = not_made }) (λ l other g. g) (λ x k g. g) h.rows;
-          tickets = λ u. ap is_some (got m (root_key t) (root_key u) (Some (rows.Intent i))) ∙ some_if (is_eq (id_cmp (root_of u) (root_of t))) (map.get m (root_key u)) ∙ next_ticket (is_eq (id_cmp (root_of u) (root_of t))) u c.newest refl (is_some (map.get m (root_key u))) (h.tickets u);
-          runs = h.runs;
-        };
+        right = right_by {q = h.plain} {next = h.known} {locked = h.locked} h.bounded h.legal h.guarded
+            (log_stays h (root_key t) (Some (rows.Intent i)) refl (row_put d h.known h.locked m (root_key t) (Some (rows.Intent i)) refl (record { bare = λ e. refl; finishes = refl; body = not_made }) h.rows))
+            (λ u. ap is_some (got m (root_key t) (root_key u) (Some (rows.Intent i))) ∙ some_if (is_eq (id_cmp (root_of u) (root_of t))) (map.get m (root_key u)) ∙ next_ticket (is_eq (id_cmp (root_of u) (root_of t))) u c.newest refl (is_some (map.get m (root_key u))) (h.tickets u))
+            h.runs;
         goes_on = grows_self h.plain.made;
         there = refl;
         reply = λ u o e. cc;
@@ -198,45 +198,47 @@ start_is : (p : PlainState) (t f : ℕ) (a : Value) (o : Option Instance) → (t
 start_is p zero f a o z e = cc
 start_is p (suc t) f a o z e = ap (start p (suc t) f a) e
 
-module _ (d : Deployment) (c : Core) (m : Rows) (h : Right d c m) (t f : ℕ) (a : Value) (known : ((t == 0) || nat_lt c.newest t) ≡ false) (room : is_crowded c ≡ false) where
+module _ (d : Deployment) (c : Core) (m : Rows) (h : Right d c m) (t f : ℕ) (a : Value) (issued : ((t == 0) || nat_lt c.newest t) ≡ false) (room : is_crowded c ≡ false) where
   abbrev bound_row : IntentRow → IntentRow
   bound_row i = record i { body = Some (record { func = f; args = a; tx = None; from = None }) }
 
+  abbrev own_id : IntentId
+  own_id = root_of t
+
+  abbrev new : Instance
+  new = new_instance f a None
+
   abbrev state : PlainState
-  state = with_instance h.plain (root_of t) (new_instance f a None)
+  state = with_instance h.plain own_id new
 
-  -- what was not made has no callees
-  childless : (n : ℕ) → map.get h.plain.made (root_of t) ≡ None → map.get state.made (child_of (root_of t) n) ≡ None
-  childless n not_made =
-      elsewhere h.plain.made (root_of t) (child_of (root_of t) n) (new_instance f a None) (λ same. true_false (ap (λ (z : IntentId). has_no_hops z.hops) same ∙ no_root (root_of t) n))
-      ∙ no_callees d h.plain (legal_is_sane d c.book h.plain h.legal) (root_of t) not_made n
+  abbrev next : Known
+  next = map.insert h.known own_id (with_once d own_id new)
 
-  calls_none : map.get h.plain.made (root_of t) ≡ None → (u : ℕ) (b : Place) → b.intent ≡ root_of t → called_by u (Some (new_instance f a None)) (map.get state.made (child_of b.intent b.step)) ≡ called_by u (map.get h.plain.made (root_of t)) (map.get state.made (child_of b.intent b.step))
-  calls_none not_made u b same =
-      let none = ap (λ z. map.get state.made (child_of z b.step)) same ∙ childless b.step not_made in
-      ap (called_by u (Some (new_instance f a None))) none ∙ sym (ap (called_by u (map.get h.plain.made (root_of t))) none ∙ no_callee u (map.get h.plain.made (root_of t)))
-
-  request_bound : (i : IntentRow) → map.get m (root_key t) ≡ Some (rows.Intent i) → IsRootRow i (map.get h.plain.made (root_of t)) → i.body ≡ None → map.get h.plain.made (root_of t) ≡ None
+  request_bound : (i : IntentRow) → map.get m (root_key t) ≡ Some (rows.Intent i) → IsRootRow i (map.get h.known own_id) → i.body ≡ None → map.get h.known own_id ≡ None
       → After d h.plain (bound_next d c t f a).0 (set_row m (root_key t) (Some (rows.Intent (bound_row i)))) (bound_next d c t f a).1
-  request_bound i is fits bare not_made =
-      let leads = change_entered d c m h (Start t f a) state refl (start_is h.plain t f a (map.get h.plain.made (root_of t)) (or_parts (t == 0) (nat_lt c.newest t) known).0 not_made)
-      (λ x touched. let none = sym (ap (touched_by d) not_made) ∙ touched in cc) in
+  request_bound i is fits bare not_known =
+      let not_made = plain_none d h.plain h.known h.beside own_id not_known in
+      let n = set_row m (root_key t) (Some (rows.Intent (bound_row i))) in
+      let leads = change_entered d c m h (Start t f a) state next refl (start_is h.plain t f a (map.get h.plain.made own_id) (or_parts (t == 0) (nat_lt c.newest t) issued).0 not_made)
+      (λ x touched. let none = sym (ap (touched_by d) not_made) ∙ touched in cc) (grows_new h.known own_id (with_once d own_id new) not_known) in
       record {
-        right = record {
-          plain = state;
-          bounded = leads.bounded;
-          legal = leads.legal;
-          guarded = leads.guarded;
-          rows = root_moved d h.plain (root_of t) (new_instance f a None) (subst (λ o. OwesSame d o (new_instance f a None)) (sym not_made) (new_owes d f a None)) refl (calls_none not_made) m (bound_row i)
-              (record { bare = λ e. cc; finishes = fits.finishes; body = (record { instance = new_instance f a None; made = refl; body = refl }, sym (fits.bare bare)) })
-              h.rows;
-          tickets = λ u. replaced m (root_key t) (Some (rows.Intent (bound_row i))) (ap is_some (sym is)) u ∙ h.tickets u;
-          runs = runs_more d (c.book ++ Start t f a ∷ []) state c.runs c.last_run (new_run d c (root_of t) f) (leb-false most_runs (map.len c.runs) room) tt leads.runs;
-        };
+        right = right_by {q = state} {next = next} {locked = h.locked} leads.bounded leads.legal leads.guarded
+            (record {
+              aside = aside_still d h.plain h.known h.locked (aside h) own_id new (refl, refl) (new_outside d new refl) (unlocked_new d h.known h.locked h.locked_at_ends own_id not_known);
+              sane = root_kept d h.known h.sane t f a not_known;
+              rows = root_bound d h.known h.locked own_id f a not_known refl (childless d h.known h.sane own_id not_known) (unlocked_new d h.known h.locked h.locked_at_ends own_id not_known) m (bound_row i) refl (fits.bare bare) (no_finish i.finish (fits.finishes ∙ ap is_some (fits.bare bare))) h.rows;
+              values = log_values h (root_key t) (Some (rows.Intent (bound_row i))) refl;
+            })
+            (λ u. replaced m (root_key t) (Some (rows.Intent (bound_row i))) (ap is_some (sym is)) u ∙ h.tickets u)
+            (runs_more d (c.book ++ Start t f a ∷ []) next c.runs c.last_run (new_run d c own_id f) (leb-false most_runs (map.len c.runs) room) tt leads.runs);
         goes_on = leads.grows;
         there = refl;
         reply = λ u o e. cc;
       }
+    where
+      no_finish : (o : Option ℕ) → is_some o ≡ false → o ≡ None
+      no_finish None e = refl
+      no_finish (Some k) e = cc
 
   -- an answer that changes no row
   answer_kept : (v : Option Row) (x : Seen) → v ≡ map.get m (root_key t) → is_gone x ≡ false → ((u : ℕ) (o : Outcome) → told_outcome x ≡ Some (u, o) → reply_of h.plain u ≡ Some o) → After d h.plain c (set_row m (root_key t) v) x
@@ -251,20 +253,20 @@ module _ (d : Deployment) (c : Core) (m : Rows) (h : Right d c m) (t f : ℕ) (a
   told_same b o true is v e = told_running o is v e
   told_same b o false is v e = answer_kept v (seen.Other t b.func b.args) e refl (λ u o told. cc)
 
-  request_by : (i : IntentRow) (b : Option Body) → i.body ≡ b → map.get m (root_key t) ≡ Some (rows.Intent i) → IsRootRow i (map.get h.plain.made (root_of t)) → BodyMatches b i.outcome (map.get h.plain.made (root_of t))
+  request_by : (i : IntentRow) (b : Option Body) → i.body ≡ b → map.get m (root_key t) ≡ Some (rows.Intent i) → IsRootRow i (map.get h.known (root_of t)) → BodyMatches b i.outcome (map.get h.known (root_of t))
       → AfterAct d h.plain m (root_key t) (λ u. request_next d c t f a (binding_of u)) (Some (rows.Intent (bind_to f a i b).0), (bind_to f a i b).1)
   request_by i None bare is fits root = request_bound i is fits bare root
-  request_by i (Some b) has is fits root = told_same b i.outcome ((b.func == f) && same_value b.args a) (ap outcome_of root.0.made ∙ root.1) (Some (rows.Intent i)) (sym is)
+  request_by i (Some b) has is fits root = told_same b i.outcome ((b.func == f) && same_value b.args a) (sym (outcome_known d h.plain h.known h.beside (root_of t)) ∙ ap outcome_of root.0.made ∙ root.1) (Some (rows.Intent i)) (sym is)
 
-  request_row : (r : Option Row) → map.get m (root_key t) ≡ r → IntentMatches true 0 r (map.get h.plain.made (root_of t)) → AfterAct d h.plain m (root_key t) (λ u. request_next d c t f a (binding_of u)) (act (Bind f a) c.now r)
-  request_row None is root = let clash : false ≡ true = sym (ap is_some is) ∙ h.tickets t ∙ is_issued t c.newest known in cc
+  request_row : (r : Option Row) → map.get m (root_key t) ≡ r → IntentMatches true 0 r (map.get h.known (root_of t)) → AfterAct d h.plain m (root_key t) (λ u. request_next d c t f a (binding_of u)) (act (Bind f a) c.now r)
+  request_row None is root = let clash : false ≡ true = sym (ap is_some is) ∙ h.tickets t ∙ is_issued t c.newest issued in cc
   request_row (Some (rows.Intent i)) is root = request_by i i.body refl is root root.body
   request_row (Some r) is root = absurd root
 
 -- ---- every event
 -- the host that took the event is as right as before
 abbrev taken : (d : Deployment) (c : Core) (m : Rows) → Right d c m → Right d (counted c) m
-taken d c m h = record { plain = h.plain; bounded = h.bounded; legal = h.legal; guarded = h.guarded; rows = h.rows; tickets = h.tickets; runs = h.runs }
+taken d c m h = with_runs h (counted c) refl refl h.runs
 
 -- the host after an event that was counted, if it is answered at once; and if it asks: what was told was heard, or it was out
 -- of memory then
@@ -281,7 +283,7 @@ right_no_run d c m h false = as_before d c m seen.RunOver (refl, refl) h
 
 -- the intent collector changes no row, and starts a run that registers nothing
 abbrev at_cursor : (d : Deployment) (c : Core) (m : Rows) (k : RowKey) → Right d c m → Right d (record c { cursor = k }) m
-at_cursor d c m k h = record { plain = h.plain; bounded = h.bounded; legal = h.legal; guarded = h.guarded; rows = h.rows; tickets = h.tickets; runs = h.runs }
+at_cursor d c m k h = with_runs h (record c { cursor = k }) refl refl h.runs
 
 collect : (d : Deployment) (c : Core) (m : Rows) (h : Right d c m) (t : Told) → After d h.plain (collect_next d c (collect_says t)).0 m (collect_next d c (collect_says t)).1
 collect d c m h t = by_found (collect_says t)
@@ -339,7 +341,7 @@ right_of d (Restart id f) c m h = if_plan (RightPlan d m h.plain (Restart id f) 
     (λ few. as_before d (with_run c (new_run d c id f)) m (seen.Started (c.last_run + 1)) (refl, refl) (with_new d c m id f few h))
 right_of d Ic c m h = (collect d c m h (told_by (collect_asks c.cursor) c.now m), λ b w. let z = lent_only (lends (told_by (collect_asks c.cursor) c.now m)) c b w in subst (λ y. After d h.plain y m seen.Dropped) (sym z.0) (as_before d c m seen.Dropped (refl, refl) h))
 right_of d (Tick n) c m h = if_plan (RightPlan d m h.plain (Tick n) c) (nat_lt last_moment (c.now + n)) _ _ (λ u. as_before d c m seen.ClockEnd (refl, refl) h)
-    (λ u. as_before d (record c { now = c.now + n }) m (seen.Now (c.now + n)) (refl, refl) (record { plain = h.plain; bounded = h.bounded; legal = h.legal; guarded = h.guarded; rows = h.rows; tickets = h.tickets; runs = h.runs }))
+    (λ u. as_before d (record c { now = c.now + n }) m (seen.Now (c.now + n)) (refl, refl) (with_runs h (record c { now = c.now + n }) refl refl h.runs))
 
 right_plan : (d : Deployment) (e : Event) (c : Core) (m : Rows) (h : Right d c m) → RightPlan d m h.plain e (counted c) (plan d e c)
 right_plan d e c m h = if_plan (RightPlan d m h.plain e (counted c)) (nat_lt c.taken most_events) _ _ (λ few. right_of d e (counted c) m (taken d c m h)) (λ spent. as_before d c m seen.Spent (refl, refl) h)
@@ -377,47 +379,64 @@ no_ticket : (t : ℕ) → (nat_lt 0 t && nat_le t 0) ≡ false
 no_ticket zero = refl
 no_ticket (suc t) = ap (λ b. nat_lt 0 (suc t) && b) (lt-leb (suc t) 0 (omega arith)) ∙ and-false (nat_lt 0 (suc t))
 
-no_row : (d : Deployment) (home : ℕ) (k : Kind) → RowMatches d nothing home k None
+no_row : (d : Deployment) (home : ℕ) (k : Kind) → RowMatches d map.empty home k None
 no_row d home (kinds.Intent id) = by_hops (has_no_hops id.hops)
   where
-    by_home : (b : Bool) → RootMatches b None (map.get nothing.made id)
+    by_home : (b : Bool) → RootMatches b None (map.get (map.empty {X = Instance} {R = id_cmp}) id)
     by_home true = get-empty id_cmp id
     by_home false = refl
 
-    by_hops : (b : Bool) → IntentMatches b home None (map.get nothing.made id)
+    by_hops : (b : Bool) → IntentMatches b home None (map.get (map.empty {X = Instance} {R = id_cmp}) id)
     by_hops true = by_home (home == 0)
     by_hops false = subst (HasNoRow home) (sym (get-empty id_cmp id)) (record { open_still = λ q is. cc })
 no_row d home (kinds.ReadLog a) = ap (owed_value d home a.step) (get-empty id_cmp a.intent)
-no_row d home (kinds.Invoke a) = ap (λ o. called_by home o (map.get nothing.made (child_of a.intent a.step))) (get-empty id_cmp a.intent)
+no_row d home (kinds.Invoke a) = ap (λ o. called_by home o (map.get (map.empty {X = Instance} {R = id_cmp}) (child_of a.intent a.step))) (get-empty id_cmp a.intent)
+no_row d home (kinds.Lockset i b t k) = ap (owed_lockset d b (record { func = home; table = t; key = k }) i) (get-empty id_cmp i)
 no_row d home (kinds.Data t k zero) = tt
 no_row d home (kinds.Data t k (suc n)) = refl
-no_row d home k = refl
+no_row d home (kinds.Shadow s t k zero) = tt
+no_row d home (kinds.Shadow s t k (suc n)) = refl
 
-no_holder : (d : Deployment) (x : Item) (o : Owner) → is_owner None o ≡ holds_as d nothing x o
-no_holder d x (owner.Intent id) = sym (ap (holds d x) (get-empty id_cmp id))
-no_holder d x (owner.Tx t) = refl
+-- nothing is known then
+none_known : (id : IntentId) → map.get (map.empty {X = Instance} {R = id_cmp}) id ≡ None
+none_known id = get-empty id_cmp id
 
 pub begins : (d : Deployment) (now : ℕ) → Right d (first_core 0 now) map.empty
-begins d now = record {
-  plain = nothing;
-  bounded = tt;
-  legal = refl;
-  guarded = tt;
-  rows = record {
-    keys = λ k. subst (RowMatches d nothing k.home k.kind) (sym (get-empty key_cmp k)) (no_row d k.home k.kind);
-    items = λ x. subst (λ r. ItemMatches d nothing x (content_in r)) (sym (get-empty key_cmp (head_key x))) (record {
-      value = sym (ap or_null (get-empty item_cmp x));
-      owner = no_holder d x;
-      notes = λ a. sym (ap (owed_by d x a.step) (get-empty id_cmp a.intent));
-    });
-  };
-  tickets = λ t. ap is_some (get-empty key_cmp (root_key t)) ∙ sym (no_ticket t);
-  runs = record {
-    numbers = λ n e. absurd (not_there (subst (λ o. IsTrue (is_some o)) (get-empty nat_cmp n) e));
-    few = subst (λ n. n ≤ most_runs) (sym (len-empty nat_cmp Run)) (omega arith);
-    runs = λ n. subst (λ o. RunAt d [] nothing o) (sym (get-empty nat_cmp n)) tt;
-  };
-}
+begins d now = right_by {q = nothing} {next = map.empty} {locked = λ id. false} tt refl tt
+    (record {
+      aside = record {
+        beside = record { same = λ id q is. let clash = sym (none_known id) ∙ is in cc; begun = λ id q is. let clash = sym (none_known id) ∙ is in cc; none = λ id is. is };
+        locked_at_ends = λ id e. absurd (true_false (sym e));
+        quiet = record { at_once = λ id. none_known id ∙ sym (ap (option_map (with_once d id)) (none_known id)); unlocked = λ id. refl; outside = none_outside d };
+      };
+      sane = record {
+        each = λ id q is. let clash = sym (none_known id) ∙ is in cc;
+        closed = λ id q is. let clash = sym (none_known id) ∙ is in cc;
+        called = λ id n j is. let clash = sym (none_known (child_of id n)) ∙ is in cc;
+        within = λ id q n j is. let clash = sym (none_known id) ∙ is in cc;
+        callees = λ id q n w f a is. let clash = sym (none_known id) ∙ is in cc;
+        roots = λ t q is. let clash = sym (none_known (root_of t)) ∙ is in cc;
+      };
+      rows = record {
+        keys = λ k. subst (RowMatches d map.empty k.home k.kind) (sym (get-empty key_cmp k)) (no_row d k.home k.kind);
+        items = λ x. subst (λ r. ItemMatches d map.empty (λ id. false) x (content_in r)) (sym (get-empty key_cmp (head_key x))) (record {
+          owner = λ j. sym (ap (holds d x) (none_known j));
+          notes = λ a apart. sym (ap (owed_note d x a.intent false a.step) (none_known a.intent));
+        });
+        shadows = λ t x. subst (λ r. ShadowMatches d map.empty t x (content_in r)) (sym (get-empty key_cmp (shadow_key t x))) (λ a. sym (ap (owed_shadow d t x a.intent a.step) (none_known a.intent)));
+        txs = λ x. subst (λ r. TxsMatch d map.empty (λ id. false) x (content_in r).owner) (sym (get-empty key_cmp (head_key x))) (record {
+          owned_is_got = λ t is. cc;
+          got_is_owned = λ t g still. let clash = sym (ap (got_by d t x g.member false) (none_known g.member)) ∙ g.got in cc;
+        });
+      };
+      values = λ x. ap (λ r. listed_under map.empty x (content_in r).owner (content_in r).value) (get-empty key_cmp (head_key x)) ∙ sym (ap or_null (get-empty item_cmp x));
+    })
+    (λ t. ap is_some (get-empty key_cmp (root_key t)) ∙ sym (no_ticket t))
+    (record {
+      numbers = λ n e. absurd (not_there (subst (λ o. IsTrue (is_some o)) (get-empty nat_cmp n) e));
+      few = subst (λ n. n ≤ most_runs) (sym (len-empty nat_cmp Run)) (omega arith);
+      runs = λ n. subst (λ o. RunAt d [] map.empty o) (sym (get-empty nat_cmp n)) tt;
+    })
   where
     not_there : IsTrue false → ⊥
     not_there e = cc

@@ -1,20 +1,24 @@
+mod Asyncs
+mod Beginnings
+mod Besides
+mod Callings
+mod CallsHere
+mod Endings
+mod Grown
+mod KeptSane
+mod Operations
+mod Owed
+mod Readings
+mod Registered
+mod Shown
+mod Turns
 pub mod Events
 pub mod Listing
 pub mod Lives
 pub mod Moves
-mod Asyncs
-mod Beginnings
-mod Callings
-mod CallsHere
-mod Endings
-mod Notes
 pub mod OneAnswer
 pub mod OneEvent
-mod Opened
-mod Operations
-mod Readings
-mod Returned
+pub mod Outside
+pub mod Singles
 pub mod Standing
 pub mod Starts
-mod Steps
-mod Turns

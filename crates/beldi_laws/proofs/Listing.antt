@@ -33,6 +33,7 @@ use Rattle.beldi_known.proofs.Rows.{head_order}
 use Rattle.beldi_order.specs.Laws.{KeepsNoNull}
 use Rattle.beldi_order.proofs.Nulls.{no_null}
 use Rattle.beldi_laws.proofs.Standing.{same_run}
+use Rattle.beldi_laws.proofs.Shown.{listed_own, legal_sane}
 
 -- ---- the entries of rows, as entries of items
 not_null : Value → Option Value
@@ -175,4 +176,4 @@ same_items m p none is = same_entries item_cmp item_total item_exact (map.entrie
 pub listing_plain : (d : Deployment) (c : Core) (m : Rows) (p : PlainState) → Right d c m → run_of d c.book ≡ Some p → tables_text d m ≡ listing_of d p
 listing_plain d c m p h is =
     lines d (map.entries m) ∙ ap (flat_map (item_line d)) (sym (same_items m p (no_null d c.book p is)
-    (λ x. (h.rows.items x).value ∙ ap (λ (q : PlainState). or_null (map.get q.items x)) (same_run d c m p h is))))
+    (λ x. sym (listed_own d h.plain h.known h.locked h.quiet (legal_sane h) m h.rows x) ∙ h.values x ∙ ap (λ (q : PlainState). or_null (map.get q.items x)) (same_run d c m p h is))))

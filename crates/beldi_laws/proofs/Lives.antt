@@ -27,9 +27,8 @@ use Rattle.beldi_book.specs.declared.entry.Entry.TheVariants as entry
 use Rattle.beldi_plain.specs.Plain.{answered}
 use Rattle.beldi_order.specs.Laws.{IsLast, with_answer, IsKeptLate}
 use Rattle.beldi_row.specs.declared.row.Body.{Body}
-use Rattle.beldi_order.proofs.Entries.{same_some, changed, grows_set}
+use Rattle.beldi_order.proofs.Maps.{changed, same_some, elsewhere, here}
 use Rattle.beldi_order.specs.Grown.{Grown, GrownAt, Grows}
-use Rattle.beldi_order.proofs.Late.{elsewhere, here}
 use Rattle.beldi_step.specs.declared.run.Run.{Run}
 use Rattle.beldi_step.specs.declared.run.RunAt as standing
 use Rattle.beldi_step.specs.declared.run.RunAt.TheVariants.{Looks, Registers, Begins}
@@ -39,8 +38,10 @@ use Rattle.beldi_step.specs.declared.run.Stage.TheVariants as stage
 use Rattle.beldi_step.specs.Host.{put_run, most_runs}
 use Rattle.beldi_call.specs.declared.async_call.AsyncAt.TheVariants as async
 use Rattle.beldi_call.specs.declared.call.CallAt.TheVariants as call
-use Rattle.beldi_laws.specs.Right.{WasThere, Keeps, PlaceOk, SeenDone, Knows, KnowsAt, RunAt, RunsMatch}
+use Rattle.beldi_laws.specs.Right.{WasThere, Keeps, PlaceOk, SeenDone, Knows, KnowsAt, RunAt, RunsMatch, StageOk}
 use Rattle.beldi_known.specs.Rows.{IsBodyOf, body_of}
+use Rattle.beldi_known.specs.Known.{Known, moved}
+use Rattle.beldi_laws.proofs.Grown.{grows_moved, moved_longer, tx_stays}
 
 -- ---- a run knows what it knew, when the book and the plain state have grown
 answers_of : Option Instance → List Answer
@@ -48,18 +49,18 @@ answers_of None = []
 answers_of (Some i) = i.answers
 
 -- its instance was not answered in between
-NotAnswered : PlainState → PlainState → Run → Type 0
-NotAnswered p q r = answers_of (map.get p.made r.id) ≡ answers_of (map.get q.made r.id)
+NotAnswered : Known → Known → Run → Type 0
+NotAnswered known next r = answers_of (map.get known r.id) ≡ answers_of (map.get next r.id)
 
 -- the place of its read, where it has still to be answered
-PlacesOn : Deployment → List Entry → List Entry → PlainState → PlainState → Run → Type 0
-PlacesOn d book more p q r = (answers later before : List Answer) (e : Effect) (s : Stage) → (later ≡ [] → (before ≡ []) × NotAnswered p q r) → PlaceOk d book r.id r.func answers before e s → PlaceOk d more r.id r.func answers later e s
+PlacesOn : Deployment → List Entry → List Entry → Known → Known → Run → Type 0
+PlacesOn d book more known next r = (answers later before : List Answer) (e : Effect) (s : Stage) → (later ≡ [] → (before ≡ []) × NotAnswered known next r) → PlaceOk d book r.id r.func answers before e s → PlaceOk d more r.id r.func answers later e s
 
 no_more : (xs ys : List Answer) → xs ++ ys ≡ [] → (xs ≡ []) × (ys ≡ [])
 no_more [] ys h = (refl, h)
 no_more (x ∷ xs) ys h = cc
 
-not_answered : (p q : PlainState) (r : Run) (i j : Instance) → map.get p.made r.id ≡ Some i → map.get q.made r.id ≡ Some j → (w : Grown i j) → w.later ≡ [] → NotAnswered p q r
+not_answered : (p q : Known) (r : Run) (i j : Instance) → map.get p r.id ≡ Some i → map.get q r.id ≡ Some j → (w : Grown i j) → w.later ≡ [] → NotAnswered p q r
 unfolding NotAnswered answers_of
 not_answered p q r i j was is w none = ap answers_of was ∙ sym (append-nil i.answers) ∙ ap (λ xs. i.answers ++ xs) (sym none) ∙ w.more ∙ sym (ap answers_of is)
 
@@ -76,14 +77,14 @@ outcome_stays i j w there = by_outcome i.outcome refl there
     by_outcome None is there = cc
     by_outcome (Some o) is there = ap is_some (w.over o is)
 
-done_on : (p q : PlainState) (id : IntentId) (n : ℕ) (i j : Instance) (c : Option Caller) (s : Stage) → Grows p.made q.made → Grown i j → SeenDone p id n i c s → SeenDone q id n j c s
-done_on p q id n i j c (stage.Call call.Look) w g h = made_stays (map.get p.made (child_of id n)) (map.get q.made (child_of id n)) (w (child_of id n)) h
-done_on p q id n i j c (stage.Async async.Register) w g h = made_stays (map.get p.made (child_of id n)) (map.get q.made (child_of id n)) (w (child_of id n)) h
-done_on p q id n i j c (stage.Async async.Note) w g h = made_stays (map.get p.made (child_of id n)) (map.get q.made (child_of id n)) (w (child_of id n)) h
+done_on : (p q : Known) (id : IntentId) (n : ℕ) (i j : Instance) (c : Option Caller) (s : Stage) → Grows p q → Grown i j → SeenDone p id n i c s → SeenDone q id n j c s
+done_on p q id n i j c (stage.Call call.Look) w g h = made_stays (map.get p (child_of id n)) (map.get q (child_of id n)) (w (child_of id n)) h
+done_on p q id n i j c (stage.Async async.Register) w g h = made_stays (map.get p (child_of id n)) (map.get q (child_of id n)) (w (child_of id n)) h
+done_on p q id n i j c (stage.Async async.Note) w g h = made_stays (map.get p (child_of id n)) (map.get q (child_of id n)) (w (child_of id n)) h
 done_on p q id n i j c stage.Close w g h = λ waited. outcome_stays i j g (h waited)
 done_on p q id n i j c s w g h = tt
 
-knows_more : (d : Deployment) (book more : List Entry) (p q : PlainState) (r : Run) (g : Begun) (h : Knows d book p r g) (o : Option Instance) → map.get q.made r.id ≡ o → GrownAt (Some h.instance) o → Grows p.made q.made → PlacesOn d book more p q r → Knows d more q r g
+knows_more : (d : Deployment) (book more : List Entry) (p q : Known) (r : Run) (g : Begun) (h : Knows d book p r g) (o : Option Instance) → map.get q r.id ≡ o → GrownAt (Some h.instance) o → Grows p q → PlacesOn d book more p q r → Knows d more q r g
 unfolding PlacesOn
 knows_more d book more p q r g h None is w grows on = absurd w
 knows_more d book more p q r g h (Some j) is w grows on = record {
@@ -95,7 +96,7 @@ knows_more d book more p q r g h (Some j) is w grows on = record {
   later = h.later ++ w.later;
   run_answers = sym (append_assoc h.answers h.later w.later) ∙ ap (λ xs. xs ++ w.later) h.run_answers ∙ w.more;
   machine = subst (λ a. IsAt d r.func a (is_some j.within) g.machine h.answers) (sym w.args) (subst (λ t. IsAt d r.func h.instance.args (is_some t) g.machine h.answers) (sym w.within) h.machine);
-  run_stage = h.run_stage;
+  run_stage = subst (λ t. StageOk t r.id g.caller g.machine.effect g.stage) (tx_stays d r.id h.instance j h.answers w) h.run_stage;
   run_done = done_on p q r.id g.machine.steps h.instance j g.caller g.stage grows w h.run_done;
   run_place = on h.answers (h.later ++ w.later) h.later g.machine.effect g.stage (λ none. let both = no_more h.later w.later none in (both.0, not_answered p q r h.instance j h.made is w both.1)) h.run_place;
 }
@@ -106,12 +107,12 @@ body_on b None u w h = let clash = h.made in cc
 body_on b (Some i) None w h = absurd w
 body_on b (Some i) (Some j) w h = record { instance = j; made = refl; body = h.body ∙ ap body_of (same_some (sym h.made)) ∙ λ k. record { func = sym w.func k; args = sym w.args k; tx = sym w.within k; from = sym w.from k } }
 
-knows_on : (d : Deployment) (book more : List Entry) (p q : PlainState) (r : Run) (at : standing.RunAt) → Grows p.made q.made → PlacesOn d book more p q r → KnowsAt d book p r at → KnowsAt d more q r at
+knows_on : (d : Deployment) (book more : List Entry) (p q : Known) (r : Run) (at : standing.RunAt) → Grows p q → PlacesOn d book more p q r → KnowsAt d book p r at → KnowsAt d more q r at
 knows_on d book more p q r Looks w on h = tt
-knows_on d book more p q r (Registers b) w on h = record { body = body_on b (map.get p.made r.id) (map.get q.made r.id) (w r.id) h.body; func = h.func; callee = h.callee }
-knows_on d book more p q r (Begins g) w on h = knows_more d book more p q r g h (map.get q.made r.id) refl (subst (λ o. GrownAt o (map.get q.made r.id)) h.made (w r.id)) w on
+knows_on d book more p q r (Registers b) w on h = record { body = body_on b (map.get p r.id) (map.get q r.id) (w r.id) h.body; func = h.func; callee = h.callee }
+knows_on d book more p q r (Begins g) w on h = knows_more d book more p q r g h (map.get q r.id) refl (subst (λ o. GrownAt o (map.get q r.id)) h.made (w r.id)) w on
 
-run_on : (d : Deployment) (book more : List Entry) (p q : PlainState) (o : Option Run) → Grows p.made q.made → ((r : Run) → PlacesOn d book more p q r) → RunAt d book p o → RunAt d more q o
+run_on : (d : Deployment) (book more : List Entry) (p q : Known) (o : Option Run) → Grows p q → ((r : Run) → PlacesOn d book more p q r) → RunAt d book p o → RunAt d more q o
 run_on d book more p q None w on h = tt
 run_on d book more p q (Some r) w on h = knows_on d book more p q r r.at w (on r) h
 
@@ -131,29 +132,29 @@ more_changes : (book : List Entry) (e : Entry) (s : ℕ) → s ≤ count_changes
 more_changes book e s h =
     let n = ap length (changes_more book (e ∷ [])) ∙ length-append (changes_of book) (changes_of (e ∷ [])) in omega (arith, n, h)
 
-places_last : (d : Deployment) (book : List Entry) (e : Entry) (p q : PlainState) → IsLast d book e q → (r : Run) → PlacesOn d book (book ++ e ∷ []) p q r
+places_last : (d : Deployment) (book : List Entry) (e : Entry) (known next : Known) (q : PlainState) → IsLast d book e q → (r : Run) → PlacesOn d book (book ++ e ∷ []) known next r
 unfolding PlacesOn
-places_last d book e p q last r answers later before (Read t k) (stage.Keep v s) back h = record {
+places_last d book e known next q last r answers later before (Read t k) (stage.Keep v s) back h = record {
   few = more_changes book e s h.few;
   was_there = λ none. there_last d book e q last r.id answers (record { func = r.func; table = t; key = k }) v s h.few (h.was_there (back none).0);
 }
-places_last d book e p q last r answers later before f s back h = tt
+places_last d book e known next q last r answers later before f s back h = tt
 
 -- a read that is kept late leaves the places of all others as they are
-module _ (d : Deployment) (book : List Entry) (p : PlainState) (id : IntentId) (s : ℕ) (a : Instance) (v : Value) (made : map.get p.made id ≡ Some a) (late : IsKeptLate d book p id s a v) where
+module _ (d : Deployment) (book : List Entry) (p : PlainState) (id : IntentId) (s : ℕ) (a : Instance) (v : Value) (known : Known) (made : map.get known id ≡ Some a) (late : IsKeptLate d book p id s a v) where
   abbrev more : List Entry
   more = book ++ entry.Read id s ∷ []
 
-  abbrev then_so : PlainState
-  then_so = with_answer p id a v
+  abbrev then_so : Known
+  then_so = map.insert known id (moved d id a (answer.Value v))
 
-  answered_since : (r : Run) → id ≡ r.id → NotAnswered p then_so r → ⊥
+  answered_since : (r : Run) → id ≡ r.id → NotAnswered known then_so r → ⊥
   unfolding NotAnswered answers_of
   answered_since r same h =
-      let was = ap (λ i. answers_of (map.get p.made i)) (sym same) ∙ ap answers_of made in
-      let is = ap (λ i. answers_of (map.get then_so.made i)) (sym same) ∙ ap answers_of (here p.made id (answered a (answer.Value v))) in
+      let was = ap (λ i. answers_of (map.get known i)) (sym same) ∙ ap answers_of made in
+      let is = ap (λ i. answers_of (map.get then_so i)) (sym same) ∙ ap answers_of (here known id (moved d id a (answer.Value v))) in
       let n = ap length (sym was ∙ h ∙ is) in
-      let k = length-append a.answers (answer.Value v ∷ []) in
+      let k = moved_longer d id a (answer.Value v) in
       omega (arith, n, k)
 
   there_late : (other : IntentId) (answers : List Answer) (x : Item) (u : Value) (t : ℕ) → (id ≡ other → ⊥) → WasThere d book other answers x u t → WasThere d more other answers x u t
@@ -170,19 +171,16 @@ module _ (d : Deployment) (book : List Entry) (p : PlainState) (id : IntentId) (
     }
   ] refl
 
-  keeps_late : (r : Run) (answers later before : List Answer) (x : Item) (u : Value) (t : ℕ) → (later ≡ [] → (before ≡ []) × NotAnswered p then_so r) → Keeps d book r.id answers before x u t → Keeps d more r.id answers later x u t
+  keeps_late : (r : Run) (answers later before : List Answer) (x : Item) (u : Value) (t : ℕ) → (later ≡ [] → (before ≡ []) × NotAnswered known then_so r) → Keeps d book r.id answers before x u t → Keeps d more r.id answers later x u t
   keeps_late r answers later before x u t back h = record {
     few = more_changes book (entry.Read id s) t h.few;
     was_there = λ none. there_late r.id answers x u t (λ same. answered_since r same (back none).1) (h.was_there (back none).0);
   }
 
-  places_late : (r : Run) → PlacesOn d book more p then_so r
+  places_late : (r : Run) → PlacesOn d book more known then_so r
   unfolding PlacesOn
   places_late r answers later before (Read t k) (stage.Keep u n) back h = keeps_late r answers later before (record { func = r.func; table = t; key = k }) u n back h
   places_late r answers later before e s back h = tt
-
-  pub grows_late : Grows p.made then_so.made
-  grows_late = grows_set p.made id (answered a (answer.Value v)) (subst (λ o. GrownAt o (Some (answered a (answer.Value v)))) (sym made) (record { func = refl; args = refl; from = refl; within = refl; later = answer.Value v ∷ []; more = refl; over = λ o h. h }))
 
 -- ---- live runs
 put_got : (m : FinMap nat_cmp Run) (i : ℕ) (o : Option Run) (j : ℕ) → map.get (put_run m i o) j ≡ cond (is_eq (nat_cmp j i)) o (map.get m j)
@@ -211,41 +209,41 @@ put_few m i (Some r) k there h = subst (λ n. n ≤ k) (sym (len-insert nat_cmp_
     by_test false t = cc
 
 -- the book has a change more at its end
-pub runs_on : (d : Deployment) (book : List Entry) (e : Entry) (p q : PlainState) (live : FinMap nat_cmp Run) (last : ℕ) → Grows p.made q.made → IsLast d book e q → RunsMatch d book p live last → RunsMatch d (book ++ e ∷ []) q live last
-runs_on d book e p q live last w is h = record { numbers = h.numbers; few = h.few; runs = λ n. run_on d book (book ++ e ∷ []) p q (map.get live n) w (places_last d book e p q is) (h.runs n) }
+pub runs_on : (d : Deployment) (book : List Entry) (e : Entry) (known next : Known) (q : PlainState) (live : FinMap nat_cmp Run) (last : ℕ) → Grows known next → IsLast d book e q → RunsMatch d book known live last → RunsMatch d (book ++ e ∷ []) next live last
+runs_on d book e known next q live last w is h = record { numbers = h.numbers; few = h.few; runs = λ n. run_on d book (book ++ e ∷ []) known next (map.get live n) w (places_last d book e known next q is) (h.runs n) }
 
 -- the book has a read more that was kept late
-pub runs_late : (d : Deployment) (book : List Entry) (p : PlainState) (id : IntentId) (s : ℕ) (a : Instance) (v : Value) (live : FinMap nat_cmp Run) (last : ℕ) → map.get p.made id ≡ Some a → IsKeptLate d book p id s a v
-    → RunsMatch d book p live last → RunsMatch d (book ++ entry.Read id s ∷ []) (with_answer p id a v) live last
-runs_late d book p id s a v live last made late h = record {
+pub runs_late : (d : Deployment) (book : List Entry) (p : PlainState) (id : IntentId) (s : ℕ) (a : Instance) (v : Value) (known : Known) (live : FinMap nat_cmp Run) (last : ℕ) → map.get known id ≡ Some a → IsKeptLate d book p id s a v
+    → RunsMatch d book known live last → RunsMatch d (book ++ entry.Read id s ∷ []) (map.insert known id (moved d id a (answer.Value v))) live last
+runs_late d book p id s a v known live last made late h = record {
   numbers = h.numbers;
   few = h.few;
-  runs = λ n. run_on d book (book ++ entry.Read id s ∷ []) p (with_answer p id a v) (map.get live n) (grows_late d book p id s a v made late) (places_late d book p id s a v made late) (h.runs n);
+  runs = λ n. run_on d book (book ++ entry.Read id s ∷ []) known (map.insert known id (moved d id a (answer.Value v))) (map.get live n) (grows_moved d known id a (answer.Value v) made) (places_late d book p id s a v known made late) (h.runs n);
 }
 
 -- a live run goes on, or is over
-pub runs_put : (d : Deployment) (book : List Entry) (p : PlainState) (live : FinMap nat_cmp Run) (last i : ℕ) (o : Option Run) → IsTrue (is_some (map.get live i)) → RunAt d book p o → RunsMatch d book p live last → RunsMatch d book p (put_run live i o) last
-runs_put d book p live last i o there here h = record {
+pub runs_put : (d : Deployment) (book : List Entry) (known : Known) (live : FinMap nat_cmp Run) (last i : ℕ) (o : Option Run) → IsTrue (is_some (map.get live i)) → RunAt d book known o → RunsMatch d book known live last → RunsMatch d book known (put_run live i o) last
+runs_put d book known live last i o there here h = record {
   numbers = changed nat_cmp-IsAntisymmetric live (put_run live i o) i o (put_got live i o) (λ n r. IsTrue (is_some r) → (1 ≤ n) × (n ≤ last)) (λ t. h.numbers i there) h.numbers;
   few = put_few live i o most_runs there h.few;
-  runs = changed nat_cmp-IsAntisymmetric live (put_run live i o) i o (put_got live i o) (λ n r. RunAt d book p r) here h.runs;
+  runs = changed nat_cmp-IsAntisymmetric live (put_run live i o) i o (put_got live i o) (λ n r. RunAt d book known r) here h.runs;
 }
 
 -- a run is over, whether it was live or not
-pub runs_less : (d : Deployment) (book : List Entry) (p : PlainState) (live : FinMap nat_cmp Run) (last i : ℕ) → RunsMatch d book p live last → RunsMatch d book p (map.remove live i) last
-runs_less d book p live last i h = record {
+pub runs_less : (d : Deployment) (book : List Entry) (known : Known) (live : FinMap nat_cmp Run) (last i : ℕ) → RunsMatch d book known live last → RunsMatch d book known (map.remove live i) last
+runs_less d book known live last i h = record {
   numbers = changed nat_cmp-IsAntisymmetric live (map.remove live i) i None (get-remove nat_cmp_total live i) (λ n r. IsTrue (is_some r) → (1 ≤ n) × (n ≤ last)) (λ t. cc) h.numbers;
   few = subst (λ n. n ≤ most_runs) (sym (len-remove nat_cmp_total live i)) (fewer (is_some (map.get live i)) (map.len live) most_runs h.few);
-  runs = changed nat_cmp-IsAntisymmetric live (map.remove live i) i None (get-remove nat_cmp_total live i) (λ n r. RunAt d book p r) tt h.runs;
+  runs = changed nat_cmp-IsAntisymmetric live (map.remove live i) i None (get-remove nat_cmp_total live i) (λ n r. RunAt d book known r) tt h.runs;
 }
 
 -- a run is new
-pub runs_more : (d : Deployment) (book : List Entry) (p : PlainState) (live : FinMap nat_cmp Run) (last : ℕ) (r : Run) → map.len live < most_runs → KnowsAt d book p r r.at → RunsMatch d book p live last → RunsMatch d book p (map.insert live (last + 1) r) (last + 1)
-runs_more d book p live last r room here h = record {
+pub runs_more : (d : Deployment) (book : List Entry) (known : Known) (live : FinMap nat_cmp Run) (last : ℕ) (r : Run) → map.len live < most_runs → KnowsAt d book known r r.at → RunsMatch d book known live last → RunsMatch d book known (map.insert live (last + 1) r) (last + 1)
+runs_more d book known live last r room here h = record {
   numbers = changed nat_cmp-IsAntisymmetric live (map.insert live (last + 1) r) (last + 1) (Some r) (get-insert nat_cmp_total live (last + 1) r) (λ n o. IsTrue (is_some o) → (1 ≤ n) × (n ≤ last + 1))
       (λ t. (omega arith, omega arith)) (λ n t. let b = h.numbers n t in (b.0, omega (arith, b.1)));
   few = subst (λ n. n ≤ most_runs) (sym (len-insert nat_cmp_total live (last + 1) r)) (by_test (is_some (map.get live (last + 1))));
-  runs = changed nat_cmp-IsAntisymmetric live (map.insert live (last + 1) r) (last + 1) (Some r) (get-insert nat_cmp_total live (last + 1) r) (λ n o. RunAt d book p o) here h.runs;
+  runs = changed nat_cmp-IsAntisymmetric live (map.insert live (last + 1) r) (last + 1) (Some r) (get-insert nat_cmp_total live (last + 1) r) (λ n o. RunAt d book known o) here h.runs;
 }
   where
     by_test : (b : Bool) → cond b (map.len live) (map.len live + 1) ≤ most_runs
@@ -253,8 +251,8 @@ runs_more d book p live last r room here h = record {
     by_test false = omega arith
 
 -- .. and was not started
-pub runs_before : (d : Deployment) (book : List Entry) (p : PlainState) (live : FinMap nat_cmp Run) (last : ℕ) (r : Run) → ((n : ℕ) → IsTrue (is_some (map.get live n)) → n ≤ last) → RunsMatch d book p (map.insert live (last + 1) r) (last + 1) → RunsMatch d book p live last
-runs_before d book p live last r given h = record {
+pub runs_before : (d : Deployment) (book : List Entry) (known : Known) (live : FinMap nat_cmp Run) (last : ℕ) (r : Run) → ((n : ℕ) → IsTrue (is_some (map.get live n)) → n ≤ last) → RunsMatch d book known (map.insert live (last + 1) r) (last + 1) → RunsMatch d book known live last
+runs_before d book known live last r given h = record {
   numbers = λ n t. ((h.numbers n (subst (λ o. IsTrue (is_some o)) (sym (others n (given n t))) t)).0, given n t);
   few = fewer_before (is_some (map.get live (last + 1))) (subst (λ n. n ≤ most_runs) (len-insert nat_cmp_total live (last + 1) r) h.few);
   runs = λ n. by_number n (nat_lt last n) refl;
@@ -273,13 +271,13 @@ runs_before d book p live last r given h = record {
     fewer_before true le = le
     fewer_before false le = omega (arith, le)
 
-    not_live : (n : ℕ) (o : Option Run) → map.get live n ≡ o → last < n → RunAt d book p o
+    not_live : (n : ℕ) (o : Option Run) → map.get live n ≡ o → last < n → RunAt d book known o
     not_live n None is more = tt
     not_live n (Some k) is more = let le = given n (ap is_some is) in absurd (omega (arith, le, more))
 
-    by_number : (n : ℕ) (b : Bool) → nat_lt last n ≡ b → RunAt d book p (map.get live n)
+    by_number : (n : ℕ) (b : Bool) → nat_lt last n ≡ b → RunAt d book known (map.get live n)
     by_number n true e = not_live n (map.get live n) refl (ltb-true last n e)
-    by_number n false e = subst (RunAt d book p) (others n (ltb-false last n e)) (h.runs n)
+    by_number n false e = subst (RunAt d book known) (others n (ltb-false last n e)) (h.runs n)
 
 -- the numbers of the live runs were given, also once a run went on or was over
 pub numbers_put : (live : FinMap nat_cmp Run) (last i : ℕ) (o : Option Run) → IsTrue (is_some (map.get live i)) → ((n : ℕ) → IsTrue (is_some (map.get live n)) → n ≤ last) → (n : ℕ) → IsTrue (is_some (map.get (put_run live i o) n)) → n ≤ last

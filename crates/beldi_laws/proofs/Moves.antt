@@ -1,5 +1,5 @@
 -- The host after an event: what it makes of the table, and how the book and the runs went on.
-use Rattle.std.proofs.Common.{◌≡◌, ◌⊎◌, inl, inr, ℕ, ◌||◌, Bool, true, false, List, [], ◌∷◌, ◌++◌, if◌then◌else◌, Option, None, Some, Result, Ok, Err, refl, ap, sym, ◌∙◌, subst, is_some, append-nil}
+use Rattle.std.proofs.Common.{◌≡◌, ◌⊎◌, inl, inr, ℕ, ◌||◌, Bool, true, false, List, [], ◌∷◌, ◌++◌, if◌then◌else◌, Option, None, Some, Result, Ok, Err, refl, ap, sym, ◌∙◌, subst, is_some, append-nil, ◌&&◌}
 use Rattle.std.specs.Option.{option_map}
 use Rattle.std.specs.declared.alloc.AllocError.{AllocError}
 use Rattle.std.specs.FinMap as map
@@ -15,7 +15,8 @@ use Rattle.beldi_row.specs.Act.{Tell}
 use Rattle.beldi_row.specs.Table.{Rows, set_row}
 use Rattle.beldi_walk.specs.declared.query.Query.{Query}
 use Rattle.beldi_walk.specs.Query.{Told, said, rows_after, told_by}
-use Rattle.beldi_plain.specs.Plain.{PlainState, after, reply_of}
+use Rattle.beldi_plain.specs.Plain.{PlainState, reply_of}
+use Rattle.beldi_plain.specs.Entries.{after}
 use Rattle.beldi_plain.specs.Legal.{run_of}
 use Rattle.beldi_step.specs.declared.event.Seen.{Seen}
 use Rattle.beldi_step.specs.declared.event.Seen.TheVariants as seen
@@ -29,18 +30,22 @@ use Rattle.beldi_step.specs.Run.{Turned, says_of, callee_of}
 use Rattle.beldi_step.specs.Host.{Core, most_runs, is_crowded, has_run, with_run, put_run, entry_of, marked, made, started, may_start, after_turn, turned_core, turn_next, without_run}
 use borrow.Author.Tests.{leb-false}
 use Rattle.std.proofs.lemmas.Bool.{or_parts}
-use Rattle.beldi_laws.specs.Right.{Right, RowsMatch, KnowsAt, RunAt, RunsMatch}
+use Rattle.beldi_laws.specs.Right.{Right, KnowsAt, RunAt, RunsMatch}
 use Rattle.beldi_laws.specs.Laws.{told_outcome, is_gone}
 use Rattle.beldi_row.proofs.Gets.{got}
 use Rattle.beldi_row.proofs.Unchanged.{unchanged}
 use Rattle.beldi_order.specs.Laws.{IsLast}
-use Rattle.beldi_order.proofs.Entries.{same_some, changed, grows_self, after_grows}
+use Rattle.beldi_order.proofs.Entries.{grows_self, after_grows}
+use Rattle.beldi_order.proofs.Maps.{changed, same_some}
 use Rattle.beldi_order.specs.Grown.{Grows}
 use Rattle.beldi_order.proofs.Growth.{change_last}
 use Rattle.beldi_laws.proofs.Lives.{runs_on, runs_put, runs_more, runs_less, runs_before, numbers_put, remove_put}
 use Rattle.beldi_book.specs.Order.{linear}
 use Rattle.beldi_plain.specs.Guard.{IsFree, IsGuarded}
 use Rattle.beldi_plain.specs.Plain.{nothing}
+use Rattle.beldi_known.specs.Known.{Known}
+use Rattle.beldi_laws.proofs.Shown.{Shows, Stays, shown}
+use Rattle.std.specs.Prelude.{nat_lt, nat_le}
 
 -- what an event came to, as an answer: out of memory it tells no more than one that was lost
 abbrev pub seen_by : Result Seen AllocError → Seen
@@ -77,20 +82,44 @@ SameRoots m n = (t : ℕ) → is_some (map.get n (root_key t)) ≡ is_some (map.
 pub replaced : (m : Rows) (k : RowKey) (v : Option Row) → is_some v ≡ is_some (map.get m k) → SameRoots m (set_row m k v)
 replaced m k v h t = changed key_exact m (set_row m k v) k v (λ q. got m k q v) (λ q r. is_some r ≡ is_some (map.get m q)) h (λ q. refl) (root_key t)
 
--- ---- the book with an entry more leads to the plain state q, and the live runs know what they have to
-pub record Entered (d : Deployment) (c : Core) (p : PlainState) (e : Entry) (q : PlainState) : Type 0 where
+-- ---- the book with an entry more leads to the plain state q, and the live runs know of what is known then what they have to
+pub record Entered (d : Deployment) (c : Core) (p : PlainState) (e : Entry) (q : PlainState) (next : Known) : Type 0 where
   pub grows : Grows p.made q.made
   pub bounded : SeenBounded 0 (c.book ++ e ∷ [])
   pub legal : run_of d (c.book ++ e ∷ []) ≡ Some q
   pub guarded : IsGuarded d nothing (linear (c.book ++ e ∷ []))
-  pub runs : RunsMatch d (c.book ++ e ∷ []) q c.runs c.last_run
+  pub runs : RunsMatch d (c.book ++ e ∷ []) next c.runs c.last_run
 
 -- where the entry is a change, and nobody else has locked its item
-pub change_entered : (d : Deployment) (c : Core) (m : Rows) (h : Right d c m) (e : Entry) (q : PlainState) → seen_of e ≡ None → after d h.plain e ≡ Some q → IsFree d h.plain e → Entered d c h.plain e q
-change_entered d c m h e q change enabled free =
+pub change_entered : (d : Deployment) (c : Core) (m : Rows) (h : Right d c m) (e : Entry) (q : PlainState) (next : Known) → seen_of e ≡ None → after d h.plain e ≡ Some q → IsFree d h.plain e → Grows h.known next → Entered d c h.plain e q next
+change_entered d c m h e q next change enabled free grows =
     let last : IsLast d c.book e q = change_last d c.book h.plain e q (record { bounded = h.bounded; legal = h.legal; guarded = h.guarded; change = change; enabled = enabled; free = free }) in
-    let grows = after_grows d h.plain e q enabled in
-    record { grows = grows; bounded = last.bounded; legal = last.legal; guarded = last.guarded; runs = runs_on d c.book e h.plain q c.runs c.last_run grows last h.runs }
+    record { grows = after_grows d h.plain e q enabled; bounded = last.bounded; legal = last.legal; guarded = last.guarded; runs = runs_on d c.book e h.known next q c.runs c.last_run grows last h.runs }
+
+-- ---- a host is right whose rows show the plain state that its book leads to
+abbrev pub right_by : {d : Deployment} {b : Core} {n : Rows} {q : PlainState} {next : Known} {locked : IntentId → Bool} → SeenBounded 0 b.book → run_of d b.book ≡ Some q → IsGuarded d nothing (linear b.book) → Shows d n q next locked
+    → ((t : ℕ) → is_some (map.get n (root_key t)) ≡ (nat_lt 0 t && nat_le t b.newest)) → RunsMatch d b.book next b.runs b.last_run → Right d b n
+right_by {q} {next} {locked} bounded legal guarded s tickets runs = record {
+  plain = q;
+  bounded = bounded;
+  legal = legal;
+  guarded = guarded;
+  known = next;
+  locked = locked;
+  beside = s.aside.beside;
+  sane = s.sane;
+  locked_at_ends = s.aside.locked_at_ends;
+  rows = s.rows;
+  values = s.values;
+  tickets = tickets;
+  runs = runs;
+  quiet = s.aside.quiet;
+}
+
+-- .. and one of the same book and tickets as a right one, where its runs know what they have to
+abbrev pub with_runs : {d : Deployment} {c : Core} {m : Rows} (h : Right d c m) (b : Core) → c.book ≡ b.book → c.newest ≡ b.newest → RunsMatch d c.book h.known b.runs b.last_run → Right d b m
+with_runs {d} h b book newest runs = right_by {q = h.plain} {next = h.known} {locked = h.locked} (subst (SeenBounded 0) book h.bounded) (ap (run_of d) (sym book) ∙ h.legal) (subst (λ z. IsGuarded d nothing (linear z)) book h.guarded) (shown h)
+    (λ t. h.tickets t ∙ ap (λ n. nat_lt 0 t && nat_le t n) newest) (subst (λ z. RunsMatch d z h.known b.runs b.last_run) book runs)
 
 -- ---- a run turned, and the book has the entry of its act, if any
 abbrev reply_told : ℕ → Option Outcome → Option (ℕ × Outcome)
@@ -102,17 +131,9 @@ told_reply q t (Some u) h s o e = let both = same_some e in ap (reply_of q) (ap 
 
 -- ---- a run more
 -- a run that knows what it has to is started, where there is a place
-pub with_one : (d : Deployment) (p : PlainState) (c : Core) (m : Rows) (x : Seen) (r : Run) → is_crowded c ≡ false → (h : After d p c m x) → KnowsAt d c.book h.right.plain r r.at → After d p (with_run c r) m x
+pub with_one : (d : Deployment) (p : PlainState) (c : Core) (m : Rows) (x : Seen) (r : Run) → is_crowded c ≡ false → (h : After d p c m x) → KnowsAt d c.book h.right.known r r.at → After d p (with_run c r) m x
 with_one d p c m x r room h knows = record {
-  right = record {
-    plain = h.right.plain;
-    bounded = h.right.bounded;
-    legal = h.right.legal;
-    guarded = h.right.guarded;
-    rows = h.right.rows;
-    tickets = h.right.tickets;
-    runs = runs_more d c.book h.right.plain c.runs c.last_run r (leb-false most_runs (map.len c.runs) room) knows h.right.runs;
-  };
+  right = with_runs h.right (with_run c r) refl refl (runs_more d c.book h.right.known c.runs c.last_run r (leb-false most_runs (map.len c.runs) room) knows h.right.runs);
   goes_on = h.goes_on;
   there = h.there;
   reply = h.reply;
@@ -130,8 +151,8 @@ starts_by (Some (wait.Held o)) starts = false
 starts_by (Some (wait.Result j)) starts = true
 
 -- that run knows what it has to
-abbrev pub KnowsCallee : Deployment → List Entry → PlainState → Run → Turned → Option Wait → Type 0
-KnowsCallee d book p r s w = starts_by w s.starts ≡ true → (k : Run) → callee_of r ≡ Some k → KnowsAt d book p k k.at
+abbrev pub KnowsCallee : Deployment → List Entry → Known → Run → Turned → Option Wait → Type 0
+KnowsCallee d book known r s w = starts_by w s.starts ≡ true → (k : Run) → callee_of r ≡ Some k → KnowsAt d book known k k.at
 
 -- what follows a turn whose core is so tells nothing but the outcome that the turn gave
 module _ (d : Deployment) (p : PlainState) (c : Core) (m : Rows) (r : Run) (s : Turned) (h : Right d c m) (goes_on : Grows p.made h.plain.made)
@@ -148,19 +169,19 @@ module _ (d : Deployment) (p : PlainState) (c : Core) (m : Rows) (r : Run) (s : 
   none_more : AfterMade (c, None)
   none_more = told_so (made r.id (says_of s) (c, None)).1 refl refl
 
-  after_started : (o : Option Run) → ((k : Run) → o ≡ Some k → KnowsAt d c.book h.plain k k.at) → is_crowded c ≡ false → AfterMade (started c o)
+  after_started : (o : Option Run) → ((k : Run) → o ≡ Some k → KnowsAt d c.book h.known k k.at) → is_crowded c ≡ false → AfterMade (started c o)
   unfolding told_so
   after_started None knows room = none_more
   after_started (Some k) knows room = let x = (made r.id (says_of s) (started c (Some k))).1 in with_one d p c m x k room (told_so x refl refl) (knows k refl)
 
-  after_opened : (o : Option Run) → ((k : Run) → o ≡ Some k → KnowsAt d c.book h.plain k k.at) → AfterMade (may_start c o)
+  after_opened : (o : Option Run) → ((k : Run) → o ≡ Some k → KnowsAt d c.book h.known k k.at) → AfterMade (may_start c o)
   after_opened None knows = none_more
   after_opened (Some k) knows = if_plan AfterMade (has_run c.runs k.id || is_crowded c) _ _ (λ t. none_more) (λ e. after_started (Some k) knows (or_parts (has_run c.runs k.id) (is_crowded c) e).1)
 
   AfterThat : Core × Seen → Type 0
   AfterThat z = After d p z.0 m z.1
 
-  pub followed : (w : Option Wait) → KnowsCallee d c.book h.plain r s w → let z = after_turn c (callee_of r) r.id (says_of s) w in After d p z.0 m z.1
+  pub followed : (w : Option Wait) → KnowsCallee d c.book h.known r s w → let z = after_turn c (callee_of r) r.id (says_of s) w in After d p z.0 m z.1
   unfolding AfterThat
   followed None knows = if_plan AfterMade s.starts _ _ (λ t. after_opened (callee_of r) (knows t)) (λ t. none_more)
   followed (Some (wait.Held u)) knows = silent (seen.Held u) refl refl
@@ -171,37 +192,27 @@ module _ (d : Deployment) (p : PlainState) (c : Core) (m : Rows) (r : Run) (s : 
 -- ---- a run turned
 module _ (d : Deployment) (c : Core) (m n : Rows) (i : ℕ) (r : Run) (h : Right d c m) (live : map.get c.runs i ≡ Some r) (roots : SameRoots m n) where
   -- it made no entry
-  pub quiet : (s : Turned) → s.mark ≡ None → s.reply ≡ None → RunAt d c.book h.plain s.next → KnowsCallee d c.book h.plain r s s.wait → RowsMatch d n h.plain → AfterTurn d h.plain c i r s n
+  pub quiet : (s : Turned) → s.mark ≡ None → s.reply ≡ None → RunAt d c.book h.known s.next → KnowsCallee d c.book h.known r s s.wait → Stays h n → AfterTurn d h.plain c i r s n
   quiet s none silent next callee rows =
       let book : c.book ≡ marked c.book r.id s.mark = sym (append-nil c.book) ∙ ap (marked c.book r.id) (sym none) in
-      followed d h.plain (turned_core c i r.id s) n r s (record {
-        plain = h.plain;
-        bounded = subst (SeenBounded 0) book h.bounded;
-        legal = ap (run_of d) (sym book) ∙ h.legal;
-        guarded = subst (λ b. IsGuarded d nothing (linear b)) book h.guarded;
-        rows = rows;
-        tickets = λ t. roots t ∙ h.tickets t;
-        runs = subst (λ b. RunsMatch d b h.plain (put_run c.runs i s.next) c.last_run) book (runs_put d c.book h.plain c.runs c.last_run i s.next (ap is_some live) next h.runs);
-      }) (grows_self h.plain.made)
+      followed d h.plain (turned_core c i r.id s) n r s
+      (right_by (subst (SeenBounded 0) book h.bounded) (ap (run_of d) (sym book) ∙ h.legal) (subst (λ b. IsGuarded d nothing (linear b)) book h.guarded) rows (λ t. roots t ∙ h.tickets t)
+      (subst (λ b. RunsMatch d b h.known (put_run c.runs i s.next) c.last_run) book (runs_put d c.book h.known c.runs c.last_run i s.next (ap is_some live) next h.runs)))
+      (grows_self h.plain.made)
       (λ t u e. let clash = sym (ap (reply_told r.id.ticket) silent) ∙ e in cc)
-      s.wait (subst (λ b. KnowsCallee d b h.plain r s s.wait) book callee)
+      s.wait (subst (λ b. KnowsCallee d b h.known r s s.wait) book callee)
 
   -- it made this entry, which led to the plain state q
-  pub entered : (s : Turned) (k : Mark) (q : PlainState) → s.mark ≡ Some k → Entered d c h.plain (entry_of r.id k) q → ((v : Outcome) → s.reply ≡ Some v → reply_of q r.id.ticket ≡ Some v) → RunAt d (c.book ++ entry_of r.id k ∷ []) q s.next
-      → KnowsCallee d (c.book ++ entry_of r.id k ∷ []) q r s s.wait → RowsMatch d n q → AfterTurn d h.plain c i r s n
-  entered s k q is leads reply next callee rows =
+  pub entered : (s : Turned) (k : Mark) (q : PlainState) (next : Known) → s.mark ≡ Some k → Entered d c h.plain (entry_of r.id k) q next → ((v : Outcome) → s.reply ≡ Some v → reply_of q r.id.ticket ≡ Some v) → RunAt d (c.book ++ entry_of r.id k ∷ []) next s.next
+      → KnowsCallee d (c.book ++ entry_of r.id k ∷ []) next r s s.wait → Shows d n q next h.locked → AfterTurn d h.plain c i r s n
+  entered s k q next is leads reply run callee rows =
       let book : c.book ++ entry_of r.id k ∷ [] ≡ marked c.book r.id s.mark = ap (marked c.book r.id) (sym is) in
-      followed d h.plain (turned_core c i r.id s) n r s (record {
-        plain = q;
-        bounded = subst (SeenBounded 0) book leads.bounded;
-        legal = ap (run_of d) (sym book) ∙ leads.legal;
-        guarded = subst (λ b. IsGuarded d nothing (linear b)) book leads.guarded;
-        rows = rows;
-        tickets = λ t. roots t ∙ h.tickets t;
-        runs = subst (λ b. RunsMatch d b q (put_run c.runs i s.next) c.last_run) book (runs_put d (c.book ++ entry_of r.id k ∷ []) q c.runs c.last_run i s.next (ap is_some live) next leads.runs);
-      }) leads.grows
+      followed d h.plain (turned_core c i r.id s) n r s
+      (right_by (subst (SeenBounded 0) book leads.bounded) (ap (run_of d) (sym book) ∙ leads.legal) (subst (λ b. IsGuarded d nothing (linear b)) book leads.guarded) rows (λ t. roots t ∙ h.tickets t)
+      (subst (λ b. RunsMatch d b next (put_run c.runs i s.next) c.last_run) book (runs_put d (c.book ++ entry_of r.id k ∷ []) next c.runs c.last_run i s.next (ap is_some live) run leads.runs)))
+      leads.grows
       (told_reply q r.id.ticket s.reply reply)
-      s.wait (subst (λ b. KnowsCallee d b q r s s.wait) book callee)
+      s.wait (subst (λ b. KnowsCallee d b next r s s.wait) book callee)
 
 -- ---- nobody hears what a turn told: its run is over, and none is started
 -- what follows a turn leaves its core, or one run more
@@ -232,26 +243,10 @@ module _ (d : Deployment) (c : Core) (m n : Rows) (i : ℕ) (r : Run) (h : Right
   core = turned_core c i r.id s
 
   run_over : (g : Right d core n) → Right d (without_run c i r.id s.mark) n
-  run_over g = record {
-    plain = g.plain;
-    bounded = g.bounded;
-    legal = g.legal;
-    guarded = g.guarded;
-    rows = g.rows;
-    tickets = g.tickets;
-    runs = subst (λ f. RunsMatch d core.book g.plain f core.last_run) (remove_put c.runs i s.next) (runs_less d core.book g.plain core.runs core.last_run i g.runs);
-  }
+  run_over g = with_runs g (without_run c i r.id s.mark) refl refl (subst (λ f. RunsMatch d core.book g.known f core.last_run) (remove_put c.runs i s.next) (runs_less d core.book g.known core.runs core.last_run i g.runs))
 
   not_started : (k : Run) (g : Right d (with_run core k) n) → Right d core n
-  not_started k g = record {
-    plain = g.plain;
-    bounded = g.bounded;
-    legal = g.legal;
-    guarded = g.guarded;
-    rows = g.rows;
-    tickets = g.tickets;
-    runs = runs_before d core.book g.plain core.runs core.last_run k (numbers_put c.runs c.last_run i s.next (ap is_some live) (λ j t. (h.runs.numbers j t).1)) g.runs;
-  }
+  not_started k g = with_runs g core refl refl (runs_before d core.book g.known core.runs core.last_run k (numbers_put c.runs c.last_run i s.next (ap is_some live) (λ j t. (h.runs.numbers j t).1)) g.runs)
 
   lost_by : (b : Core) → MaybeStarted core b → After d h.plain b n (turn_next c i r s).1 → After d h.plain (without_run c i r.id s.mark) n seen.Dropped
   unfolding MaybeStarted run_over not_started

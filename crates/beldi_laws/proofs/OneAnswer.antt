@@ -30,7 +30,7 @@ use Rattle.beldi_step.specs.declared.run.Run.{Run}
 use Rattle.beldi_step.specs.declared.run.RunAt.TheVariants.{Begins}
 use Rattle.beldi_step.specs.declared.run.Begun.{Begun}
 use Rattle.beldi_step.specs.Host.{Core}
-use Rattle.beldi_order.proofs.Entries.{same_some}
+use Rattle.beldi_order.proofs.Maps.{same_some}
 use Rattle.beldi_laws.specs.Laws.{HeldAnswersStay, OneRowChanged, RightHasOneAnswer}
 use Rattle.beldi_laws.specs.OneAnswer.{WasGiven, AnswersOf, OneAnswerPerStep, AnswersStay}
 use Rattle.beldi_laws.specs.Right.{Right, Knows, KnowsAt, RunAt}
@@ -42,7 +42,6 @@ use Rattle.beldi_invokelog.proofs.Calls.{calls_stay}
 use Rattle.beldi_lang.specs.Callee.{answer_of}
 use Rattle.beldi_laws.proofs.OneEvent.{one_row}
 use Rattle.beldi_laws.proofs.Standing.{held_here, same_run}
-use Rattle.beldi_order.proofs.Sanes.{legal_is_sane}
 use Rattle.beldi_step.specs.Run.{noted_answer}
 use Rattle.beldi_lang.specs.declared.effect.Answer.TheVariants.{Done}
 use Rattle.beldi_known.specs.Contents.{head_key}
@@ -50,12 +49,12 @@ use Rattle.beldi_known.specs.Contents.{head_key}
 -- ---- one answer
 module _ (d : Deployment) (c : Core) (m : Rows) (h : Right d c m) (id : IntentId) where
   -- what a begun run knows
-  known : (i : ℕ) (r : Run) (g : Begun) → map.get c.runs i ≡ Some r → r.at ≡ Begins g → Knows d c.book h.plain r g
-  known i r g live at = subst (λ o. KnowsAt d c.book h.plain r o) at (subst (λ o. RunAt d c.book h.plain o) live (h.runs.runs i))
+  known : (i : ℕ) (r : Run) (g : Begun) → map.get c.runs i ≡ Some r → r.at ≡ Begins g → Knows d c.book h.known r g
+  known i r g live at = subst (λ o. KnowsAt d c.book h.known r o) at (subst (λ o. RunAt d c.book h.known o) live (h.runs.runs i))
 
-  given_of : (q : Instance) (r : Run) (g : Begun) → map.get h.plain.made id ≡ Some q → r.id ≡ id → Knows d c.book h.plain r g → WasGiven d q r g
+  given_of : (q : Instance) (r : Run) (g : Begun) → map.get h.known id ≡ Some q → r.id ≡ id → Knows d c.book h.known r g → WasGiven d q r g
   given_of q r g made same k =
-      let is : k.instance ≡ q = same_some (sym k.made ∙ ap (map.get h.plain.made) same ∙ made) in
+      let is : k.instance ≡ q = same_some (sym k.made ∙ ap (map.get h.known) same ∙ made) in
       let func : r.func ≡ q.func = sym k.func ∙ ap (λ z. z.func) is in
       record {
         same_func = func;
@@ -65,15 +64,15 @@ module _ (d : Deployment) (c : Core) (m : Rows) (h : Right d c m) (id : IntentId
         machine = subst (λ (z : Instance). IsAt d q.func z.args (is_some z.within) g.machine k.answers) is (subst (λ f. IsAt d f k.instance.args (is_some k.instance.within) g.machine k.answers) func k.machine);
       }
 
-  answers_of : (o : Option Instance) → map.get h.plain.made id ≡ o → AnswersOf d c m id o
-  answers_of None none = λ r g b. let k = known b.number r g b.live b.begun in let clash : Some k.instance ≡ None = sym k.made ∙ ap (map.get h.plain.made) b.same_id ∙ none in cc
+  answers_of : (o : Option Instance) → map.get h.known id ≡ o → AnswersOf d c m id o
+  answers_of None none = λ r g b. let k = known b.number r g b.live b.begun in let clash : Some k.instance ≡ None = sym k.made ∙ ap (map.get h.known) b.same_id ∙ none in cc
   answers_of (Some q) made = record {
-    held = held_here d m h.plain h.rows (legal_is_sane d c.book h.plain h.legal) id q made;
+    held = held_here d m h.known h.locked h.rows h.sane id q made;
     runs = λ r g b. given_of q r g made b.same_id (known b.number r g b.live b.begun);
   }
 
 pub one_answer : RightHasOneAnswer
-one_answer d c m p h is = subst (OneAnswerPerStep d c m) (same_run d c m p h is) (λ id. answers_of d c m h id (map.get h.plain.made id) refl)
+one_answer d c m p h is = subst (OneAnswerPerStep d c m) (same_run d c m p h is) (record { known = h.known; beside = h.beside; each = λ id. answers_of d c m h id (map.get h.known id) refl })
 
 -- ---- it stays: no act takes away what a read was given, what a call gave back, nor a note
 given_stays : (r : Row) (a : Act) (now : ℕ) → given_in (on a now r).0 ≡ given_in r

@@ -51,7 +51,7 @@ use Rattle.beldi_tree.specs.Names.{func_at}
 use Rattle.beldi_intent.specs.Intent.{is_added, binding_of, body_told}
 use Rattle.beldi_step.specs.Run.{Turned, says_of, turned_by, goes_from, first_stage, begin_in, body_registered, told_at, stage_says, run_told, callee_of}
 use Rattle.beldi_step.specs.Host.{turn_next, turned_core, after_turn, made, started, may_start, collect_next, collected, launched, passed, has_run, Core, Plan, at_once, asks, counted, plan, plan_of, run_plan, crash_plan, last_moment, is_crowded, most_events, no_run, ended_run, entry_of, marked, ticket_next, request_next, unbound, run_next, unheard_next, heard, no_memory, if_lent, refused, refused_by, Followed, StepBy, EventBy, is_lost, is_dropped}
-use Rattle.beldi_order.proofs.Entries.{same_some}
+use Rattle.beldi_order.proofs.Maps.{same_some}
 use Rattle.beldi_known.specs.Contents.{head_key, content_of}
 use Rattle.beldi_laws.proofs.Moves.{if_plan}
 use Rattle.beldi_known.proofs.Rows.{set_others}

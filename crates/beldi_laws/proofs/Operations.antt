@@ -1,5 +1,5 @@
 -- The turns of an operation on an item: they rest on the law that a chain is a logged cell, and on what each operation is.
-use Rattle.std.proofs.Common.{◌≡◌, ℕ, true, false, List, [], ◌∷◌, Option, None, Some, refl, ap, sym, ◌∙◌, subst, is_some, if◌then◌else◌}
+use Rattle.std.proofs.Common.{◌≡◌, ℕ, true, false, List, [], ◌∷◌, Option, None, Some, refl, ap, sym, ◌∙◌, subst, is_some, if◌then◌else◌, length}
 use Rattle.std.specs.Prelude.{slice_get, option_and_then}
 use Rattle.std.specs.Option.{option_map}
 use Rattle.std.specs.FinMap as map
@@ -42,13 +42,14 @@ use Rattle.beldi_plain.specs.Item.{Item, item_total}
 use Rattle.beldi_plain.specs.Guard.{IsFree, touched_by, item_touched}
 use Rattle.beldi_plain.specs.Holds.{holds}
 use Rattle.beldi_plain.specs.Operation as operation
-use Rattle.beldi_plain.specs.Operation.{OnItem, Operation, op_of, item_in, or_old, answer_after, write, lock, free}
-use Rattle.beldi_plain.specs.Plain.{Instance, PlainState, value_at, operate, effect_of, kind_of}
+use Rattle.beldi_plain.specs.Operation.{OnItem, Operation, op_of, item_in, answer_after, write, lock, free, sets}
+use Rattle.beldi_plain.specs.Plain.{Instance, PlainState, value_at, operate, effect_of, kind_of, answered, effect_before}
 use Rattle.beldi_plain.specs.declared.kind.Kind.TheVariants as kind
-use Rattle.beldi_order.specs.Sane.{Answers as OpAnswered, OpAnswers, IsAnswerTo, effect_before}
-use Rattle.beldi_order.proofs.Entries.{same_some, enabled_step, free_at_operation}
+use Rattle.beldi_laws.specs.Outside.{Answers as OpAnswered, OpAnswers, IsAnswerTo}
+use Rattle.beldi_order.proofs.Entries.{enabled_step, free_at_operation}
+use Rattle.beldi_order.proofs.Maps.{same_some}
 use Rattle.beldi_order.proofs.Locks.{operation_step}
-use Rattle.beldi_order.proofs.Sanes.{operation_answers}
+use Rattle.beldi_laws.proofs.Singles.{operation_answers, pushed_outside}
 use Rattle.beldi_step.specs.declared.run.Run.{Run}
 use Rattle.beldi_step.specs.declared.run.Begun.{Begun}
 use Rattle.beldi_step.specs.declared.run.Mark.TheVariants as mark
@@ -60,14 +61,23 @@ use Rattle.beldi_step.specs.Run.{place_of, turned_by, put_asks, put_says, write_
 use Rattle.beldi_step.specs.Host.{Core, turn_next}
 use Rattle.beldi_known.specs.Contents.{head_key, content_of}
 use Rattle.beldi_known.specs.Owed.{noted, note_of}
-use Rattle.beldi_laws.specs.Right.{Right, RowsMatch, Knows, StageOk, PlaceOk, owed_by, note_if}
+use Rattle.beldi_laws.specs.Right.{Right, Knows, StageOk, PlaceOk}
 use Rattle.beldi_known.proofs.Rows.{no_root}
-use Rattle.beldi_laws.proofs.Steps.{operation_done, content_kept}
-use Rattle.beldi_laws.proofs.Moves.{AfterTurn, AfterQuery, SameRoots, change_entered}
-use Rattle.beldi_laws.proofs.Turns.{effect_here, answer_here, step_here, effect_next, wants_it, fits, not_over, goes_on, held, ends, replays, steps_on}
+use Rattle.beldi_laws.proofs.Moves.{AfterTurn, AfterQuery, SameRoots, change_entered, Entered}
+use Rattle.beldi_laws.proofs.Turns.{effect_here, answer_here, step_here, effect_next, wants_it, fits, not_over, goes_on, held, ends, replays, steps_on, outside_here, tx_step, tx_next, not_of_tx, plain_there, outside_after, unlocked_there}
 use Rattle.beldi_known.proofs.Operations.{does_so}
 use Rattle.beldi_known.proofs.Owners.{unbarred, nobody_else}
 use Rattle.beldi_known.specs.Operations.{cell_of, DoneRows}
+use Rattle.beldi_known.specs.Known.{Known, moved, commit_in}
+use Rattle.beldi_order.specs.Txs.{tx_now}
+use Rattle.beldi_laws.proofs.Shown.{Shows, Stays, value_here, aside, aside_set, holds_here, legal_sane, went_of}
+use Rattle.beldi_laws.proofs.Owed.{note_if, note_there, no_end, content_kept, contents_kept, others_list, done_lists}
+use Rattle.beldi_laws.proofs.KeptSane.{answered_kept}
+use Rattle.beldi_laws.proofs.Outside.{is_call}
+use Rattle.beldi_known.proofs.Outside.{operation_done, no_tx}
+use Rattle.beldi_known.proofs.Frame.{moved_one}
+use Rattle.beldi_laws.proofs.Grown.{grows_moved}
+use Rattle.beldi_laws.proofs.Besides.{others_lead}
 
 -- what is answered to an operation is what its note reads as
 pub noted_back : (o : Operation) (a : Answer) → OpAnswered o a → option_and_then noted_answer (noted o a) ≡ Some a
@@ -97,7 +107,7 @@ touches_it : (e : Effect) (o : OnItem) (q : Instance) → op_of e ≡ Some o →
 touches_it (effect.Read t k) o q h = cc
 touches_it e o q h = ap (option_map (item_in q.func)) h
 
-may_stand : (id : IntentId) (c : Option Caller) (e : Effect) (o : OnItem) (at : WriteAt) → op_of e ≡ Some o → StageOk id c e (stage.Write at)
+may_stand : (id : IntentId) (c : Option Caller) (e : Effect) (o : OnItem) (at : WriteAt) → op_of e ≡ Some o → StageOk None id c e (stage.Write at)
 may_stand id c (effect.Write t k v) o at h = tt
 may_stand id c (effect.CondWrite t k r u v) o at h = tt
 may_stand id c (effect.Lock t k) o at h = tt
@@ -107,6 +117,11 @@ may_stand id c e o at h = cc
 no_place : (d : Deployment) (book : List Entry) (id : IntentId) (func : ℕ) (given later : List Answer) (e : Effect) (at : WriteAt) → PlaceOk d book id func given later e (stage.Write at)
 no_place d book id func given later (effect.Read t k) at = tt
 no_place d book id func given later e at = tt
+
+is_no_call : (e : Effect) (o : OnItem) → op_of e ≡ Some o → is_call e ≡ false
+is_no_call (effect.Call f v) o h = cc
+is_no_call (effect.Async f v) o h = cc
+is_no_call e o h = refl
 
 -- .. its answers are those of its operation, and its note is told as the answer that it reads as
 answered_so : (e : Effect) (o : OnItem) (a : Answer) → op_of e ≡ Some o → IsAnswerTo e a → OpAnswered o.does a
@@ -130,7 +145,7 @@ told_back e o n a h is same =
     ap (if_answers e) (sym (ap (option_and_then noted_answer) same) ∙ noted_back o.does a (answered_so e o a h is)) ∙ ap (λ b. if b then Some a else None) (of_its_kind e o a h is)
 
 -- ---- the turn
-module _ (d : Deployment) (c : Core) (m : Rows) (i : ℕ) (r : Run) (g : Begun) (h : Right d c m) (live : map.get c.runs i ≡ Some r) (k : Knows d c.book h.plain r g)
+module _ (d : Deployment) (c : Core) (m : Rows) (i : ℕ) (r : Run) (g : Begun) (h : Right d c m) (live : map.get c.runs i ≡ Some r) (k : Knows d c.book h.known r g)
     (e : Effect) {o : OnItem} (so : op_of e ≡ Some o) (is : g.machine.effect ≡ e) (at : WriteAt) where
   abbrev op : CellOp
   op = cell_of o.does
@@ -154,10 +169,10 @@ module _ (d : Deployment) (c : Core) (m : Rows) (i : ℕ) (r : Run) (g : Begun) 
   -- the item has the note of what the step was answered
   note_is : (later : List Answer) → k.later ≡ later → note_at (content_of m item).notes place ≡ note_if item r.func e (slice_get later 0)
   note_is later left =
-      (h.rows.items item).notes place
-      ∙ ap (owed_by d item g.machine.steps) k.made
-      ∙ ap (note_if item k.instance.func (effect_before d k.instance g.machine.steps)) (answer_here d c.book h.plain r g k later left)
-      ∙ ap (λ z. note_if item k.instance.func z (slice_get later 0)) (effect_here d c.book h.plain r g k ∙ is)
+      note_there d m h.known h.locked h.rows r.id k.instance k.made g.machine.steps (outside_here d c.book h.known r g k).0 (tx_step d c.book h.known r g k)
+      (ap commit_in (effect_here d c.book h.known r g k) ∙ no_end g.machine.effect (not_of_tx d c.book h.known r g k)) item
+      ∙ ap (note_if item k.instance.func (effect_before d k.instance g.machine.steps)) (answer_here d c.book h.known r g k later left)
+      ∙ ap (λ z. note_if item k.instance.func z (slice_get later 0)) (effect_here d c.book h.known r g k ∙ is)
       ∙ ap (λ f. note_if item f e (slice_get later 0)) k.func
 
   note_read : (a : Answer) (rest : List Answer) → k.later ≡ a ∷ rest → note_at (content_of m item).notes place ≡ noted o.does a
@@ -170,8 +185,8 @@ module _ (d : Deployment) (c : Core) (m : Rows) (i : ℕ) (r : Run) (g : Begun) 
     roots : SameRoots m n
     roots t = ap is_some (same (root_key t) (no_root t r.func (kinds.Data o.table o.key 0) refl))
 
-    kept : content_of n item ≡ content_of m item → RowsMatch d n h.plain
-    kept held = content_kept d m n item same sound h.plain held h.rows
+    kept : content_of n item ≡ content_of m item → Stays h n
+    kept held = record { aside = aside h; sane = h.sane; rows = content_kept d m n item same h.known h.locked sound held h.rows; values = λ x. others_list m n item same x (contents_kept d m n item same held x) ∙ h.values x }
 
     -- it was done now: it is the instance's next
     module _ (left : k.later ≡ []) (did : DidOnce place (owner.Intent r.id) op true (content_of m item) (content_of n item)) where
@@ -182,7 +197,7 @@ module _ (d : Deployment) (c : Core) (m : Rows) (i : ℕ) (r : Run) (g : Begun) 
       a = answer_after o.does old
 
       now : effect_of d k.instance ≡ e
-      now = effect_next d c.book h.plain r g k left ∙ is
+      now = effect_next d c.book h.known r g k left ∙ is
 
       wants_op : op_of (effect_of d k.instance) ≡ Some o
       wants_op = ap op_of now ∙ so
@@ -190,36 +205,57 @@ module _ (d : Deployment) (c : Core) (m : Rows) (i : ℕ) (r : Run) (g : Begun) 
       answers_so : IsAnswerTo e a
       answers_so = operation_answers e o old so
 
-      value_here : (content_of m item).value ≡ old
-      value_here = (h.rows.items item).value ∙ ap (λ f. value_at h.plain (item_in f o)) (sym k.func)
+      old_here : (content_of m item).value ≡ old
+      old_here = value_here h item (no_tx r.id (content_of m item).owner (unbarred op r.id (content_of m item).owner did.1.0)) ∙ ap (λ f. value_at h.plain (item_in f o)) (sym k.func)
 
       told : (w : Note) → note_at (content_of n item).notes place ≡ Some w → noted o.does a ≡ Some w
-      told w there = (does_so o.does).note old ∙ ap (λ v. Some (note_after op v)) (sym value_here) ∙ sym (note_here (content_of m item).notes place (note_after op (content_of m item).value) did.0)
+      told w there = (does_so o.does).note old ∙ ap (λ v. Some (note_after op v)) (sym old_here) ∙ sym (note_here (content_of m item).notes place (note_after op (content_of m item).value) did.0)
           ∙ ap (λ x. note_at x.notes place) (sym did.1.1) ∙ there
 
       abbrev state : PlainState
       state = operate h.plain r.id k.instance (item_in k.instance.func o) o.does
 
-      rows_done : RowsMatch d n state
-      rows_done = operation_done d h.plain r.id k.instance o op k.made wants_op (does_so o.does) m n
-          (subst (λ s. DoneRows m n (item_in k.instance.func o) (place_of r.id s) op) (step_here d c.book h.plain r g k left)
-          (subst (λ f. DoneRows m n (item_in f o) place op) (sym k.func) (record { same = same; sound = sound; none = did.0; free = did.1.0; here = did.1.1 })))
-          h.rows
+      abbrev next : Known
+      next = map.insert h.known r.id (moved d r.id k.instance a)
+
+      there : map.get h.plain.made r.id ≡ Some k.instance
+      there = plain_there d c m i r g h live k e is left
+
+      outside : tx_now d r.id k.instance ≡ None
+      outside = tx_next d c.book h.known r g k left
+
+      did_here : DoneRows m n (item_in k.instance.func o) (place_of r.id (length k.instance.answers)) op
+      did_here = subst (λ s. DoneRows m n (item_in k.instance.func o) (place_of r.id s) op) (step_here d c.book h.known r g k left)
+          (subst (λ f. DoneRows m n (item_in f o) place op) (sym k.func) (record { same = same; sound = sound; none = did.0; free = did.1.0; here = did.1.1 }))
+
+      open_still : k.instance.outcome ≡ None
+      open_still = not_over d c m i r g h live k e is left (wants_it e a answers_so)
 
       -- nobody else has locked the item
       free_here : IsFree d h.plain (Step r.id)
       free_here x touched j held =
           let touches : Some item ≡ Some x =
-          ap (λ f. Some (item_in f o)) (sym k.func) ∙ sym (ap (touched_by d) k.made ∙ touches_it (effect_of d k.instance) o k.instance wants_op) ∙ touched in
+          ap (λ f. Some (item_in f o)) (sym k.func) ∙ sym (ap (touched_by d) there ∙ touches_it (effect_of d k.instance) o k.instance wants_op) ∙ touched in
           nobody_else r.id (content_of m item).owner (unbarred op r.id (content_of m item).owner did.1.0) j
-          ((h.rows.items item).owner (owner.Intent j) ∙ ap (λ z. holds d z (map.get h.plain.made j)) (same_some touches) ∙ held)
+          ((h.rows.items item).owner j ∙ holds_here h item j ∙ ap (λ z. holds d z (map.get h.plain.made j)) (same_some touches) ∙ held)
+
+      leads : Entered d c h.plain (Step r.id) state next
+      leads = change_entered d c m h (Step r.id) state next refl
+          (enabled_step d h.plain r.id k.instance there open_still (free_at_operation h.plain.made r.id k.instance (effect_of d k.instance) o wants_op) (is_change r.id (effect_of d k.instance) o wants_op)
+          ∙ ap Some (operation_step h.plain r.id k.instance (effect_of d k.instance) o wants_op)) free_here (grows_moved d h.known r.id k.instance a k.made)
+
+      rows_done : Shows d n state next h.locked
+      rows_done = record {
+        aside = aside_set d h.plain h.known h.locked (aside h) state.items r.id (answered k.instance a) (outside_after d c.book h.known r g k left a) (pushed_outside d k.instance a (subst (λ z. IsAnswerTo z a) (sym now) answers_so) (went_of h r.id k.instance there)) (unlocked_there d c m i r g h live k e is left)
+            (others_lead d m h.plain h.known h.locked h.beside h.sane h.rows (legal_sane h) (item_in k.instance.func o) (sets o.does old) (no_tx r.id (content_of m (item_in k.instance.func o)).owner (unbarred op r.id (content_of m (item_in k.instance.func o)).owner did_here.free)));
+        sane = answered_kept d h.known h.sane r.id k.instance a k.made open_still outside (is_no_call (effect_of d k.instance) o wants_op) (subst (λ z. IsAnswerTo z a) (sym now) answers_so);
+        rows = operation_done d h.known h.locked r.id k.instance (moved d r.id k.instance a) old o op (does_so o.does) k.made (unlocked_there d c m i r g h live k e is left) outside wants_op (moved_one d r.id k.instance a) m n did_here
+            (value_here h (item_in k.instance.func o) (no_tx r.id (content_of m (item_in k.instance.func o)).owner (unbarred op r.id (content_of m (item_in k.instance.func o)).owner did_here.free))) h.rows;
+        values = done_lists m n h.plain (item_in k.instance.func o) o.does (place_of r.id (length k.instance.answers)) did_here h.values;
+      }
 
       steps : After (Answers a (Some mark.Step))
-      steps = steps_on d c m i r g h live k e is a mark.Step state n left answers_so refl
-          (change_entered d c m h (Step r.id) state refl
-          (enabled_step d h.plain r.id k.instance k.made (not_over d c m i r g h live k e is left (wants_it e a answers_so)) (free_at_operation h.plain.made r.id k.instance (effect_of d k.instance) o wants_op) (is_change r.id (effect_of d k.instance) o wants_op)
-          ∙ ap Some (operation_step h.plain r.id k.instance (effect_of d k.instance) o wants_op)) free_here)
-          roots rows_done
+      steps = steps_on d c m i r g h live k e is a mark.Step state n left answers_so leads roots rows_done
 
     done_now : (later : List Answer) → k.later ≡ later → (w : Note) → note_at (content_of n item).notes place ≡ Some w → DidOnce place (owner.Intent r.id) op true (content_of m item) (content_of n item) → After (write_says e (writes.Done w true))
     done_now [] left w there did = subst (λ x. After (done_says true x)) (sym (told_back e o w (a left did) so (answers_so left did) (told left did w there))) (steps left did)

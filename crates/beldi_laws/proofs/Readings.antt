@@ -1,5 +1,5 @@
 -- The turns of a read.
-use Rattle.std.proofs.Common.{◌≡◌, ℕ, ◌≤◌, List, [], ◌∷◌, length, Option, None, Some, refl, ap, sym, ◌∙◌, subst, is_some, eq-eqb, if◌then◌else◌, arith}
+use Rattle.std.proofs.Common.{◌≡◌, ℕ, ◌≤◌, List, [], ◌∷◌, length, Option, None, Some, refl, ap, sym, ◌∙◌, subst, is_some, arith, false}
 use Rattle.std.specs.Prelude.{slice_get}
 use Rattle.std.specs.Option.{option_map}
 use Rattle.std.specs.FinMap as map
@@ -33,11 +33,12 @@ use Rattle.beldi_daal.specs.ReadWalk.{read_so}
 use Rattle.beldi_daal.proofs.Logged.{by_row}
 use Rattle.beldi_readlog.specs.ReadLog.{log_key, given_in}
 use Rattle.beldi_plain.specs.Item.{Item}
-use Rattle.beldi_plain.specs.Plain.{PlainState, nothing, effect_of, value_at}
+use Rattle.beldi_plain.specs.Plain.{PlainState, nothing, effect_of, value_at, answered}
 use Rattle.beldi_plain.specs.Legal.{run_from}
 use Rattle.beldi_order.specs.Laws.{IsStateAt, BelongsEarlier, with_answer, IsKeptLate}
 use Rattle.beldi_order.proofs.Places.{front_all}
-use Rattle.beldi_order.proofs.Entries.{same_some, runs_on, run_grows}
+use Rattle.beldi_order.proofs.Entries.{runs_on, run_grows, grows_at, grown_answer}
+use Rattle.beldi_order.proofs.Maps.{same_some}
 use Rattle.beldi_order.proofs.Late.{not_moved}
 use Rattle.beldi_order.proofs.Growth.{kept_late}
 use Rattle.beldi_step.specs.declared.run.Run.{Run}
@@ -49,18 +50,32 @@ use Rattle.beldi_step.specs.declared.run.Stage.TheVariants as stage
 use Rattle.beldi_intent.specs.Intent.{root_key}
 use Rattle.beldi_step.specs.Run.{place_of, turned_by, stage_says, walk_says}
 use Rattle.beldi_step.specs.Host.{Core, turn_next}
-use Rattle.beldi_order.specs.Sane.{effect_before}
 use Rattle.beldi_known.specs.Contents.{head_key, content_of}
 use Rattle.beldi_known.specs.Rows.{LogMatches}
-use Rattle.beldi_laws.specs.Right.{Right, RowsMatch, WasThere, Keeps, Knows, owed_read, owed_value, value_if}
 use Rattle.beldi_known.proofs.Rows.{no_root, set_others}
-use Rattle.beldi_laws.proofs.Steps.{read_added}
-use Rattle.beldi_laws.proofs.Lives.{grows_late, runs_late}
+use Rattle.beldi_laws.proofs.Lives.{runs_late}
 use Rattle.beldi_laws.proofs.Moves.{AfterAct, AfterTurn, Entered, still}
-use Rattle.beldi_laws.proofs.Turns.{effect_here, answer_here, all_here, step_here, effect_next, fits, not_over, goes_on, held, replays, steps_on}
+use Rattle.beldi_laws.proofs.Turns.{effect_here, answer_here, all_here, step_here, effect_next, fits, not_over, goes_on, held, replays, steps_on, tx_next, plain_there, outside_after, unlocked_there}
 use Rattle.beldi_known.proofs.Owners.{unowned, nobody_else}
 use Rattle.beldi_plain.specs.Guard.{touched_by, item_touched}
 use Rattle.beldi_plain.specs.Holds.{holds}
+use Rattle.beldi_laws.specs.Right.{Right, Knows, Keeps, WasThere}
+use Rattle.beldi_known.specs.Known.{Known, moved, commit_in, owed_read}
+use Rattle.beldi_order.specs.Txs.{tx_now, txs_after}
+use Rattle.beldi_known.specs.Matches.{Matches}
+use Rattle.beldi_known.specs.Frame.{row_added}
+use Rattle.beldi_laws.proofs.Shown.{Shows, shown, value_here, aside, aside_still, holds_here, legal_sane, went_of}
+use Rattle.beldi_laws.proofs.Owed.{value_if, read_there}
+use Rattle.beldi_laws.proofs.KeptSane.{answered_kept}
+use Rattle.beldi_laws.proofs.Outside.{is_call, called_outside}
+use Rattle.beldi_known.proofs.Outside.{read_added, no_tx}
+use Rattle.beldi_known.proofs.Frame.{moved_one}
+use Rattle.beldi_laws.specs.Outside.{IsAnswerTo}
+use Rattle.beldi_plain.specs.Operation.{op_of}
+use Rattle.beldi_known.proofs.ReadLists.{read_lists}
+use Rattle.beldi_known.specs.Listed.{listed}
+use Rattle.beldi_value.specs.declared.place.TxId.{TxId}
+use Rattle.beldi_laws.proofs.Singles.{pushed_outside}
 
 -- what a log gives is what it owes
 pub given_owed : (w : Option Row) (o : Option Value) → LogMatches w o → option_map given_in w ≡ o
@@ -68,7 +83,7 @@ given_owed None o h = sym h
 given_owed (Some (rows.ReadLog v)) o h = sym h
 given_owed (Some w) o h = absurd h
 
-module _ (d : Deployment) (c : Core) (m : Rows) (i : ℕ) (r : Run) (g : Begun) (h : Right d c m) (live : map.get c.runs i ≡ Some r) (k : Knows d c.book h.plain r g)
+module _ (d : Deployment) (c : Core) (m : Rows) (i : ℕ) (r : Run) (g : Begun) (h : Right d c m) (live : map.get c.runs i ≡ Some r) (k : Knows d c.book h.known r g)
     (t : ℕ) (key : List ℕ) (is : g.machine.effect ≡ Read t key) where
   abbrev item : Item
   item = record { func = r.func; table = t; key = key }
@@ -82,19 +97,17 @@ module _ (d : Deployment) (c : Core) (m : Rows) (i : ℕ) (r : Run) (g : Begun) 
   -- the log has the value that the step was answered
   given_here : (later : List Answer) → k.later ≡ later → (w : Option Row) → map.get m (log_key r.func place) ≡ w → option_map given_in w ≡ value_if (Read t key) (slice_get later 0)
   given_here later left w at =
-      given_owed w (owed_read d h.plain r.func place) (subst (λ o. LogMatches o (owed_read d h.plain r.func place)) at (h.rows.keys (log_key r.func place)))
-      ∙ ap (owed_value d r.func g.machine.steps) k.made
-      ∙ ap (λ b. if b then value_if (effect_before d k.instance g.machine.steps) (slice_get k.instance.answers g.machine.steps) else None) (eq-eqb k.instance.func r.func k.func)
-      ∙ ap (value_if (effect_before d k.instance g.machine.steps)) (answer_here d c.book h.plain r g k later left)
-      ∙ ap (λ e. value_if e (slice_get later 0)) (effect_here d c.book h.plain r g k ∙ is)
+      given_owed w (value_if (Read t key) (slice_get k.instance.answers g.machine.steps)) (subst (λ o. LogMatches o (value_if (Read t key) (slice_get k.instance.answers g.machine.steps))) (ap (λ f. map.get m (log_key f place)) k.func ∙ at)
+      (read_there d m h.known h.locked h.rows r.id k.instance k.made g.machine.steps t key (effect_here d c.book h.known r g k ∙ is)))
+      ∙ ap (value_if (Read t key)) (answer_here d c.book h.known r g k later left)
 
   -- a value that is there is the answer
   replays_it : (u v : Value) (rest : List Answer) → k.later ≡ answer.Value u ∷ rest → Some v ≡ Some u → AfterTurn d h.plain c i r (turned_by d r g (Answers (answer.Value v) None)) m
-  replays_it u v rest left same = replays d c m i r g h live k (Read t key) is m (answer.Value v) rest (λ u. refl) h.rows (left ∙ ap (λ w. answer.Value w ∷ rest) (sym (same_some same)))
+  replays_it u v rest left same = replays d c m i r g h live k (Read t key) is m (answer.Value v) rest (λ u. refl) (shown h) (left ∙ ap (λ w. answer.Value w ∷ rest) (sym (same_some same)))
 
   -- ---- it asks for what was given
   ask_by : (later : List Answer) → k.later ≡ later → (w : Option Row) → map.get m (log_key r.func place) ≡ w → AfterRead stage.Ask (log_key r.func place) (act Look c.now w)
-  ask_by [] left None at = still d h.plain m (log_key r.func place) None (sym at) (goes_on d c m i r g h live k (Read t key) is m stage.Walk (λ u. refl) h.rows tt tt tt)
+  ask_by [] left None at = still d h.plain m (log_key r.func place) None (sym at) (goes_on d c m i r g h live k (Read t key) is m stage.Walk (λ u. refl) (shown h) tt tt tt)
   ask_by [] left (Some w) at = let clash = given_here [] left (Some w) at in cc
   ask_by (answer.Value u ∷ rest) left None at = let clash = given_here (answer.Value u ∷ rest) left None at in cc
   ask_by (answer.Value u ∷ rest) left (Some w) at = still d h.plain m (log_key r.func place) (Some w) (sym at) (replays_it u (given_in w) rest left (given_here (answer.Value u ∷ rest) left (Some w) at))
@@ -111,27 +124,30 @@ module _ (d : Deployment) (c : Core) (m : Rows) (i : ℕ) (r : Run) (g : Begun) 
       few = let n = ap length (linear_changes c.book) in omega (arith, n)
 
   found : (o : Option Value) → value_at h.plain item ≡ or_null o → in_the_way (Some (owner.Intent r.id)) (content_of m item).owner ≡ None → AfterTurn d h.plain c i r (turned_by d r g (walk_says (count_changes c.book) (reads.Got o))) m
-  found o same free = goes_on d c m i r g h live k (Read t key) is m (stage.Keep (or_null o) (count_changes c.book)) (λ u. refl) h.rows tt (record {
+  found o same free = goes_on d c m i r g h live k (Read t key) is m (stage.Keep (or_null o) (count_changes c.book)) (λ u. refl) (shown h) tt (record {
     few = omega arith;
     was_there = λ none. record {
       state = h.plain;
       is_state = state_now;
       instance = k.instance;
-      made = k.made;
-      same = sym (all_here d c.book h.plain r g k none);
+      made = plain_there d c m i r g h live k (Read t key) is none;
+      same = sym (all_here d c.book h.known r g k none);
       value = same;
-      unlocked = λ j held. nobody_else r.id (content_of m item).owner (unowned r.id (content_of m item).owner free) j ((h.rows.items item).owner (owner.Intent j) ∙ held);
+      unlocked = λ j held. nobody_else r.id (content_of m item).owner (unowned r.id (content_of m item).owner free) j ((h.rows.items item).owner j ∙ holds_here h item j ∙ held);
     };
   }) tt
+
+  none_owns : in_the_way (Some (owner.Intent r.id)) (content_of m item).owner ≡ None → (t : TxId) → (content_of m item).owner ≡ Some (owner.Tx t) → ⊥
+  none_owns free = no_tx r.id (content_of m item).owner (unowned r.id (content_of m item).owner free)
 
   abbrev walk : ReadWalk
   walk = record { home = r.func; item = Plain t key; who = Some (owner.Intent r.id) }
 
   walked : (z : ReadGoes) → ReadsContent walk.who (read_so z) (content_of m item) → AfterTurn d h.plain c i r (turned_by d r g (walk_says (count_changes c.book) z)) m
   walked reads.On never = absurd never
-  walked (reads.Got None) empty = found None (sym (h.rows.items item).value ∙ ap (λ x. x.value) empty) (ap (λ x. in_the_way (Some (owner.Intent r.id)) x.owner) empty)
-  walked (reads.Got (Some v)) there = found (Some v) (sym (h.rows.items item).value ∙ sym there.1) there.0
-  walked (reads.Held o) way = held d c m i r g h live k (Read t key) is o m (λ u. refl) h.rows
+  walked (reads.Got None) empty = found None (sym (value_here h item (none_owns (ap (λ x. in_the_way (Some (owner.Intent r.id)) x.owner) empty))) ∙ ap (λ x. x.value) empty) (ap (λ x. in_the_way (Some (owner.Intent r.id)) x.owner) empty)
+  walked (reads.Got (Some v)) there = found (Some v) (sym (value_here h item (none_owns there.0)) ∙ sym there.1) there.0
+  walked (reads.Held o) way = held d c m i r g h live k (Read t key) is o m (λ u. refl) (shown h)
 
   pub walk_turn : AfterRead stage.Walk (head_key item) (act Look c.now (map.get m (head_key item)))
   walk_turn =
@@ -146,17 +162,20 @@ module _ (d : Deployment) (c : Core) (m : Rows) (i : ℕ) (r : Run) (g : Begun) 
       there = at.was_there left
 
       now : effect_of d k.instance ≡ Read t key
-      now = effect_next d c.book h.plain r g k left ∙ is
+      now = effect_next d c.book h.known r g k left ∙ is
 
       open_still : k.instance.outcome ≡ None
       open_still = not_over d c m i r g h live k (Read t key) is left refl
+
+      made : map.get h.plain.made r.id ≡ Some k.instance
+      made = plain_there d c m i r g h live k (Read t key) is left
 
       behind : run_from d there.state (back seen (linear c.book)) ≡ Some h.plain
       behind = sym (runs_on d nothing there.state (front seen (linear c.book)) (back seen (linear c.book)) there.is_state) ∙ ap (run_from d nothing) (front_back seen (linear c.book)) ∙ h.legal
 
       same : there.instance ≡ k.instance
-      same = not_moved (map.get there.state.made r.id) (map.get h.plain.made r.id) there.instance k.instance there.made k.made (run_grows d there.state (back seen (linear c.book)) h.plain behind r.id)
-          (there.same ∙ all_here d c.book h.plain r g k left) open_still
+      same = not_moved (map.get there.state.made r.id) (map.get h.plain.made r.id) there.instance k.instance there.made made (run_grows d there.state (back seen (linear c.book)) h.plain behind r.id)
+          (there.same ∙ all_here d c.book h.known r g k left) open_still
 
       belongs : BelongsEarlier d c.book h.plain r.id seen k.instance v
       belongs = record {
@@ -173,25 +192,43 @@ module _ (d : Deployment) (c : Core) (m : Rows) (i : ℕ) (r : Run) (g : Begun) 
         stands = now;
         value = ap (λ f. value_at there.state (record { func = f; table = t; key = key })) k.func ∙ there.value;
         free = λ x touched j held. there.unlocked j (ap (λ z. holds d z (map.get there.state.made j)) (same_some (sym (ap (touched_by d) (there.made ∙ ap Some same) ∙ ap (item_touched k.instance) now ∙ ap (λ f. Some (record { func = f; table = t; key = key })) k.func) ∙ touched)) ∙ held);
-        has_not_moved = k.made;
+        has_not_moved = made;
       }
 
       abbrev state : PlainState
       state = with_answer h.plain r.id k.instance v
 
-      read_entered : Entered d c h.plain (entry.Read r.id seen) state
-      read_entered =
-          let late : IsKeptLate d c.book h.plain r.id seen k.instance v = kept_late d c.book h.plain r.id seen k.instance v belongs in
-          record { grows = grows_late d c.book h.plain r.id seen k.instance v k.made late; bounded = late.bounded; legal = late.legal; guarded = late.guarded; runs = runs_late d c.book h.plain r.id seen k.instance v c.runs c.last_run k.made late h.runs }
+      abbrev next : Known
+      next = map.insert h.known r.id (moved d r.id k.instance (answer.Value v))
 
-      kept_rows : RowsMatch d (set_row m (log_key r.func place) (Some (rows.ReadLog v))) state
-      kept_rows =
-          subst (λ f. RowsMatch d (set_row m (log_key f place) (Some (rows.ReadLog v))) state) k.func
-          (subst (λ n. RowsMatch d (set_row m (log_key k.instance.func (place_of r.id n)) (Some (rows.ReadLog v))) state) (sym (step_here d c.book h.plain r g k left))
-          (read_added d m h.plain r.id k.instance t key v k.made now h.rows))
+      late : IsKeptLate d c.book h.plain r.id seen k.instance v
+      late = kept_late d c.book h.plain r.id seen k.instance v belongs
 
-    keep_by : (later : List Answer) → k.later ≡ later → (w : Option Row) → map.get m (log_key r.func place) ≡ w → LogMatches w (owed_read d h.plain r.func place) → AfterRead (stage.Keep v seen) (log_key r.func place) (act (PutRead v) c.now w)
-    keep_by [] left None is_there f = steps_on d c m i r g h live k (Read t key) is (answer.Value v) (mark.Read seen) (state left) (set_row m (log_key r.func place) (Some (rows.ReadLog v))) left tt refl (read_entered left)
+      read_entered : Entered d c h.plain (entry.Read r.id seen) state next
+      read_entered = record { grows = grows_at h.plain.made r.id k.instance (answered k.instance (answer.Value v)) made (grown_answer k.instance (answer.Value v)); bounded = late.bounded; legal = late.legal; guarded = late.guarded; runs = runs_late d c.book h.plain r.id seen k.instance v h.known c.runs c.last_run k.made late h.runs }
+
+      outside : tx_now d r.id k.instance ≡ None
+      outside = tx_next d c.book h.known r g k left
+
+      kept_rows : Shows d (set_row m (log_key r.func place) (Some (rows.ReadLog v))) state next h.locked
+      kept_rows = record {
+        aside = aside_still d h.plain h.known h.locked (aside h) r.id (answered k.instance (answer.Value v)) (outside_after d c.book h.known r g k left (answer.Value v)) (pushed_outside d k.instance (answer.Value v) (subst (λ e. IsAnswerTo e (answer.Value v)) (sym now) tt) (went_of h r.id k.instance made)) unlocked;
+        sane = answered_kept d h.known h.sane r.id k.instance (answer.Value v) k.made open_still outside (ap is_call now) (subst (λ e. IsAnswerTo e (answer.Value v)) (sym now) tt);
+        rows = subst (λ z. Matches d (set_row m z (Some (rows.ReadLog v))) next h.locked) own_key
+            (read_added d h.known h.locked r.id k.instance (moved d r.id k.instance (answer.Value v)) (answer.Value v) k.made unlocked outside (ap commit_in now) (moved_one d r.id k.instance (answer.Value v))
+            m v (ap op_of now) (ap (λ e. row_added (length k.instance.answers) (txs_after d k.instance k.instance.answers).begun e (answer.Value v)) now) h.rows);
+        values = λ x. subst (λ z. listed (set_row m z (Some (rows.ReadLog v))) x ≡ value_at h.plain x) own_key
+            (read_lists d m h.known h.locked h.rows.txs (λ j z at. called_outside d h.plain h.known h.beside j z at (legal_sane h)) r.id k.instance k.made (Some (rows.ReadLog v)) x ∙ h.values x);
+      }
+        where
+          unlocked : h.locked r.id ≡ false
+          unlocked = unlocked_there d c m i r g h live k (Read t key) is left
+
+          own_key : log_key k.instance.func (place_of r.id (length k.instance.answers)) ≡ log_key r.func place
+          own_key = λ i. log_key (k.func i) (place_of r.id (sym (step_here d c.book h.known r g k left) i))
+
+    keep_by : (later : List Answer) → k.later ≡ later → (w : Option Row) → map.get m (log_key r.func place) ≡ w → LogMatches w (owed_read d h.known r.func place) → AfterRead (stage.Keep v seen) (log_key r.func place) (act (PutRead v) c.now w)
+    keep_by [] left None is_there f = steps_on d c m i r g h live k (Read t key) is (answer.Value v) (mark.Read seen) (state left) (set_row m (log_key r.func place) (Some (rows.ReadLog v))) left tt (read_entered left)
         (λ u. ap is_some (set_others m (log_key r.func place) (Some (rows.ReadLog v)) (root_key u) (no_root u r.func (kinds.ReadLog place) refl))) (kept_rows left)
     keep_by [] left (Some (rows.ReadLog u)) is_there f = let clash = given_here [] left (Some (rows.ReadLog u)) is_there in cc
     keep_by (answer.Value u ∷ rest) left None is_there f = let clash = given_here (answer.Value u ∷ rest) left None is_there in cc

@@ -13,7 +13,7 @@ use Rattle.beldi_laws.specs.Right.{Right}
 use Rattle.beldi_laws.specs.Laws.{starts_of, HasReply, InstancesGoOn, OutcomesStay, StartsAreBound}
 use Rattle.beldi_value.specs.Id.{root_of}
 use Rattle.beldi_plain.specs.Plain.{Instance, reply_of, outcome_of}
-use Rattle.beldi_order.proofs.Entries.{same_some}
+use Rattle.beldi_order.proofs.Maps.{same_some}
 use Rattle.beldi_order.specs.Grown.{GrownAt, Grows}
 use Rattle.beldi_laws.proofs.Events.{after_event}
 use Rattle.beldi_laws.proofs.Moves.{seen_by, After}

@@ -1,4 +1,5 @@
 pub mod Laws
 pub mod OneAnswer
+pub mod Outside
 pub mod Right
 pub mod Stands

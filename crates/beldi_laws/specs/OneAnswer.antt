@@ -14,6 +14,9 @@ use Rattle.beldi_step.specs.declared.run.RunAt.TheVariants.{Begins}
 use Rattle.beldi_step.specs.declared.run.Begun.{Begun}
 use Rattle.beldi_step.specs.Host.{Core}
 use Rattle.beldi_laws.specs.Stands.{held_answer}
+use Rattle.beldi_known.specs.Known.{Known}
+use Rattle.beldi_order.specs.Txs.{tx_at}
+use Rattle.beldi_known.specs.Beside.{Beside}
 
 -- a run is one of the instance, and was given the first of its answers
 pub record WasGiven (d : Deployment) (q : Instance) (r : Run) (g : Begun) : Type 0 where
@@ -32,19 +35,21 @@ pub record IsBegun (c : Core) (id : IntentId) (r : Run) (g : Begun) : Type 0 whe
 
 -- the steps of an intent have the answers of this instance
 pub record HasAnswers (d : Deployment) (c : Core) (m : Rows) (id : IntentId) (q : Instance) : Type 0 where
-  -- each is the one that the rows hold at its step
-  pub held : (n : ℕ) (a : Answer) → slice_get q.answers n ≡ Some a → held_answer m id q.func n (wants d q.func q.args (is_some q.within) (take n q.answers)) ≡ Some a
+  -- each outside transactions is the one that the rows hold at its step. What is known inside takes no turn yet.
+  pub held : (n : ℕ) (a : Answer) → slice_get q.answers n ≡ Some a → tx_at d id q n ≡ None → held_answer m id q.func n (wants d q.func q.args (is_some q.within) (take n q.answers)) ≡ Some a
   -- each run was given the first of them
   pub runs : (r : Run) (g : Begun) → IsBegun c id r g → WasGiven d q r g
 
--- by the instance that it has in the run of the book. No run of one that was not made has begun, so nothing is answered.
+-- by the instance that is known. No run of one that was not made has begun, so nothing is answered.
 abbrev pub AnswersOf : Deployment → Core → Rows → IntentId → Option Instance → Type 0
 AnswersOf d c m id None = (r : Run) (g : Begun) → IsBegun c id r g → ⊥
 AnswersOf d c m id (Some q) = HasAnswers d c m id q
 
--- the steps of each intent have the answers of its instance in the plain state p
-abbrev pub OneAnswerPerStep : Deployment → Core → Rows → PlainState → Type 0
-OneAnswerPerStep d c m p = (id : IntentId) → AnswersOf d c m id (map.get p.made id)
+-- the steps of each intent have the answers that are known of its instance, beside the plain state p
+pub record OneAnswerPerStep (d : Deployment) (c : Core) (m : Rows) (p : PlainState) : Type 0 where
+  pub known : Known
+  pub beside : Beside d p known
+  pub each : (id : IntentId) → AnswersOf d c m id (map.get known id)
 
 -- an answer that the rows m hold is held by the rows n
 abbrev pub AnswersStay : Rows → Rows → Type 0

@@ -24,11 +24,11 @@ use Rattle.beldi_readlog.specs.ReadLog.{log_key, given}
 use Rattle.std.specs.Option.{option_map}
 use Rattle.beldi_plain.specs.Item.{Item}
 use Rattle.beldi_plain.specs.Operation.{OnItem, op_of, item_in}
-use Rattle.beldi_plain.specs.Plain.{Instance, PlainState, value_at}
-use Rattle.beldi_order.specs.Sane.{effect_before}
+use Rattle.beldi_plain.specs.Plain.{Instance, PlainState, value_at, effect_before}
 use Rattle.beldi_step.specs.Run.{noted_answer}
 use Rattle.beldi_intent.specs.Intent.{root_key, is_ended}
 use Rattle.beldi_known.specs.Contents.{content_of, IsSoundChain}
+use Rattle.beldi_known.specs.Listed.{listed}
 
 -- ---- the answer that the rows hold
 -- the answer that an item's rows hold at a place, for an operation of a function on it
@@ -64,8 +64,8 @@ abbrev pub key_in : ℕ → IntentId → RowKey
 key_in home id = record { home = home; kind = kinds.Intent id }
 
 pub record Stands (d : Deployment) (m : Rows) (p : PlainState) : Type 0 where
-  -- each item has its plain value
-  pub items : (x : Item) → (content_of m x).value ≡ value_at p x
+  -- each item is listed with its plain value
+  pub items : (x : Item) → listed m x ≡ value_at p x
   -- each intent row with a body was made so, with the plain outcome
   pub made : (home : ℕ) (id : IntentId) (i : IntentRow) (b : Body) → map.get m (key_in home id) ≡ Some (rows.Intent i) → i.body ≡ Some b → IsMade p id i b
   -- where such an intent has not ended, each answer of its instance is held by the rows at its step

@@ -10,8 +10,8 @@
 //!   the listing of the rows is that of the run (`listing_is_plain`).
 //! - Also where it is right, an outcome that an event tells is the root's in that run (`replies_are_outcomes`), and
 //!   stays (`outcomes_stay`); no ticket is answered as one without a row (`tickets_have_rows`); and each step of an
-//!   instance in the run of the book has one answer, which the rows hold, and each of its runs was given the first of
-//!   them (`each_step_has_one_answer`). What was made goes on (`instances_go_on`), so runs that never live together are
+//!   instance that is known beside the run of the book has one answer, which the rows hold, and each of its runs was
+//!   given the first of them (`each_step_has_one_answer`). What was made goes on (`instances_go_on`), so runs that never live together are
 //!   given the same.
 //! - Whether it is right or not, what rows hold at a step stays (`held_answers_stay`).
 //! - The book starts the requests that were bound, in order, and none out of memory (`starts_are_bound`).

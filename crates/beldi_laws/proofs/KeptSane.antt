@@ -1,0 +1,87 @@
+-- What is known stays sane, as the turns outside transactions move it.
+use Rattle.std.proofs.Common.{ℕ, true, false, ◌≡◌, Some, None, List, ◌∙◌, refl, ap, sym, subst, ◌||◌, is_some, length, Bool}
+use Rattle.std.specs.FinMap as map
+use Rattle.beldi_value.specs.Id.{root_of}
+use Rattle.beldi_value.specs.declared.id.IntentId.{IntentId}
+use Rattle.beldi_value.specs.declared.outcome.Outcome.{Outcome}
+use Rattle.beldi_value.specs.declared.value.Value.{Value}
+use Rattle.beldi_tree.specs.declared.deployment.Deployment.{Deployment}
+use Rattle.beldi_lang.specs.declared.effect.Answer.{Answer}
+use Rattle.beldi_lang.specs.declared.effect.Answer.TheVariants as answer
+use Rattle.beldi_lang.specs.declared.effect.Effect.TheVariants as effect
+use Rattle.beldi_lang.specs.Callee.{answer_of}
+use Rattle.beldi_plain.specs.Plain.{Instance, effect_of, new_instance, ended, callee_of, calls_at}
+use Rattle.beldi_order.specs.Sane.{call_of, IsAnswer}
+use Rattle.beldi_laws.specs.Outside.{IsAnswerTo}
+use Rattle.beldi_step.specs.Run.{is_waited, place_of}
+use Rattle.beldi_known.specs.Known.{Known, at_once, moved}
+use Rattle.beldi_order.specs.Txs.{tx_now, txs_after, effect_after}
+use Rattle.beldi_known.specs.Sane.{Sane}
+use Rattle.beldi_laws.proofs.Outside.{is_call, is_of_tx, IsOutside}
+use Rattle.beldi_known.specs.Beside.{is_begin}
+use Rattle.beldi_lang.specs.declared.effect.Effect.{Effect}
+use Rattle.beldi_value.specs.declared.place.Place.{Place}
+use Rattle.beldi_value.specs.declared.value.Value.TheVariants as value
+use Rattle.beldi_known.proofs.Sanes.{sane_bound, sane_answered, sane_called, sane_sent, sane_returned, sane_ended, not_waited}
+use Rattle.beldi_known.proofs.Phases.{end_is, inside_is, begin_is}
+use Rattle.beldi_known.proofs.Begins.{aborts_inside}
+
+-- ---- of bodies
+-- an End and an Abort stand in a transaction, and a Begin outside
+pub outside_effect : (d : Deployment) (q : Instance) (given : List Answer) → IsOutside d q given → is_begin (effect_after d q given) ≡ false → is_of_tx (effect_after d q given) ≡ false
+outside_effect d q given out apart = by_effect (effect_after d q given) refl apart
+  where
+    none : is_some (txs_after d q given).begun ≡ false
+    none = ap is_some out.1
+
+    by_effect : (e : Effect) → effect_after d q given ≡ e → is_begin e ≡ false → is_of_tx e ≡ false
+    by_effect effect.Begin is g = cc
+    by_effect (effect.End c) is g = let clash = sym none ∙ end_is d q given c is in cc
+    by_effect effect.Abort is g = let clash = sym (inside_is d q given ∙ (λ i. none i || is_some (out.0 i))) ∙ aborts_inside d q.func q.args (is_some q.within) given is in cc
+    by_effect e is g = refl
+
+pub no_begin : (d : Deployment) (q : Instance) (b : ℕ) → (txs_after d q q.answers).begun ≡ Some b → effect_of d q ≡ effect.Begin → ⊥
+no_begin d q b begun is = let clash = sym (ap is_some begun) ∙ (begin_is d q q.answers is).1 in cc
+
+-- ---- of what is known
+-- an answer outside is one
+known_answer : (p : Place) (e : Effect) (a : Answer) → IsAnswerTo e a → IsAnswer p None e a
+known_answer p (effect.Read t k) (answer.Value v) h = tt
+known_answer p (effect.Write t k v) answer.Done h = tt
+known_answer p (effect.CondWrite t k r o v) (answer.Value (value.Bool b)) h = tt
+known_answer p (effect.Lock t k) answer.Done h = tt
+known_answer p (effect.Unlock t k) answer.Done h = tt
+known_answer p (effect.Call f v) a h = h
+known_answer p (effect.Async f v) answer.Done h = tt
+known_answer p e a h = absurd h
+
+no_call : (w : Bool) (f : ℕ) (v : Value) → is_call (call_of w f v) ≡ false → ⊥
+no_call true f v h = cc
+no_call false f v h = cc
+
+module _ (d : Deployment) (known : Known) (sane : Sane d known) where
+  -- a root is made
+  pub root_kept : (t f : ℕ) (v : Value) → map.get known (root_of t) ≡ None → Sane d (map.insert known (root_of t) (at_once d (root_of t) (new_instance f v None)))
+  root_kept t f v new = sane_bound d known sane (root_of t) f v new refl
+
+  -- an answer outside transactions, to a read or an operation on an item
+  pub answered_kept : (id : IntentId) (q : Instance) (a : Answer) → map.get known id ≡ Some q → q.outcome ≡ None → tx_now d id q ≡ None → is_call (effect_of d q) ≡ false → IsAnswerTo (effect_of d q) a → Sane d (map.insert known id (moved d id q a))
+  answered_kept id q a is none outside apart ok = sane_answered d known sane id q is a (subst (λ t. IsAnswer (place_of id (length q.answers)) t (effect_of d q) a) (sym outside) (known_answer (place_of id (length q.answers)) (effect_of d q) a ok)) (λ w f v e. no_call w f v (ap is_call (sym e) ∙ apart))
+
+  -- a callee is made, that its caller waits for, or not: then the caller is answered
+  pub called_kept : (id : IntentId) (q : Instance) (f : ℕ) (v : Value) → map.get known id ≡ Some q → tx_now d id q ≡ None → effect_of d q ≡ effect.Call f v → map.get known (callee_of id q) ≡ None
+      → Sane d (map.insert known (callee_of id q) (at_once d (callee_of id q) (new_instance f v (Some (calls_at id q true)))))
+  called_kept id q f v is outside calls new = sane_called d known sane id q is f v new None (sym outside) calls
+
+  pub sent_kept : (id : IntentId) (q : Instance) (f : ℕ) (v : Value) → map.get known id ≡ Some q → tx_now d id q ≡ None → effect_of d q ≡ effect.Async f v → map.get known (callee_of id q) ≡ None
+      → Sane d (map.insert (map.insert known (callee_of id q) (at_once d (callee_of id q) (new_instance f v (Some (calls_at id q false))))) id (moved d id q answer.Done))
+  sent_kept id q f v is outside sends new = sane_sent d known sane id q is f v new outside sends
+
+  -- a callee that its caller waits for ends, and the caller is answered
+  pub returned_kept : (id : IntentId) (i j : Instance) (o : Outcome) → map.get known id ≡ Some i → map.get known (callee_of id i) ≡ Some j → j.outcome ≡ None → is_waited j.from ≡ true → effect_of d j ≡ effect.Return o
+      → Sane d (map.insert (map.insert known (callee_of id i) (ended j o)) id (moved d id i (answer_of o)))
+  returned_kept id i j o is made none waited returns = sane_returned d known sane id i j (length i.answers) is made none waited o returns
+
+  -- who nobody waits for ends
+  pub ended_kept : (id : IntentId) (q : Instance) (o : Outcome) → map.get known id ≡ Some q → effect_of d q ≡ effect.Return o → is_waited q.from ≡ false → Sane d (map.insert known id (ended q o))
+  ended_kept id q o is returns idle = sane_ended d known sane id q is o returns (not_waited q.from idle)

@@ -1,0 +1,116 @@
+-- What the rows have of a step outside transactions: what its answer owes, or nothing where it has none.
+use Rattle.std.proofs.Common.{ℕ, Bool, true, false, ◌≡◌, ◌∙◌, List, [], Option, Some, None, refl, ap, sym, subst, length, ◌&&◌, ◌||◌, ◌==◌, if◌then◌else◌, is_some, eq-eqb, append-nil, cond, eqb-true}
+use Rattle.std.specs.Prelude.{take, slice_get}
+use Rattle.std.specs.FinMap as map
+use Rattle.std.specs.Ordering.{is_eq}
+use Rattle.std.proofs.lemmas.Cmp.{tied_itself, eq_by_cmp_equiv}
+use Rattle.beldi_value.specs.declared.id.IntentId.{IntentId}
+use Rattle.beldi_value.specs.declared.place.Place.{Place}
+use Rattle.beldi_value.specs.declared.value.Value.{Value}
+use Rattle.beldi_tree.specs.declared.deployment.Deployment.{Deployment}
+use Rattle.beldi_lang.specs.declared.effect.Answer.{Answer}
+use Rattle.beldi_lang.specs.declared.effect.Effect.{Effect}
+use Rattle.beldi_lang.specs.declared.effect.Effect.TheVariants as effect
+use Rattle.beldi_plain.specs.Item.{Item, item_total}
+use Rattle.beldi_tree.specs.Bindings.{or_null}
+use Rattle.beldi_plain.specs.Plain.{Instance, PlainState, value_at, effect_of, effect_before}
+use Rattle.beldi_plain.specs.Operation.{Operation, op_of, or_old, set_if, sets}
+use Rattle.beldi_order.proofs.Operations.{plain_set}
+use Rattle.beldi_row.specs.Table.{Rows}
+use Rattle.beldi_row.specs.declared.key.RowKey.{RowKey}
+use Rattle.beldi_row.specs.Key.{key_cmp}
+use Rattle.beldi_row.specs.Log.{note_at}
+use Rattle.beldi_row.specs.declared.notes.Note.{Note}
+use Rattle.beldi_readlog.specs.ReadLog.{log_key}
+use Rattle.beldi_daal.specs.Content.{Content, content_in, SoundAt}
+use Rattle.beldi_step.specs.Run.{place_of}
+use Rattle.beldi_known.specs.Contents.{content_of, head_key, shadow_key}
+use Rattle.beldi_known.specs.Known.{Known, at_step, owed_value, row_at, read_at, value_or, decision_by, owed_note, note_or, answered_note, note_by, ahead_by, is_mark, is_decided, last_step, commit_in}
+use Rattle.beldi_order.specs.Txs.{tx_now, tx_at, tx_after, end_of, effect_after}
+use Rattle.beldi_known.specs.Owed.{note_of, value_for}
+use Rattle.beldi_known.specs.Matches.{Matches, RowMatches, ItemMatches, ShadowMatches, TxsMatch}
+use Rattle.beldi_known.specs.Rows.{LogMatches}
+use Rattle.beldi_known.specs.Operations.{DoneRows, cell_of}
+use Rattle.beldi_known.proofs.Operations.{does_so}
+use Rattle.beldi_known.proofs.Rows.{keys_at}
+use Rattle.beldi_known.proofs.Acts.{by_item, turned, kinds_apart, is_shadow}
+use Rattle.beldi_known.proofs.FrameAt.{or_none}
+use Rattle.beldi_known.proofs.Frame.{begins}
+use Rattle.beldi_known.proofs.Answers.{take_front}
+use Rattle.beldi_laws.proofs.Outside.{is_of_tx}
+use Rattle.beldi_known.specs.Listed.{listed}
+use Rattle.beldi_known.proofs.Lists.{lists_same, own_value, decision_key, is_log}
+use Rattle.beldi_known.proofs.Outside.{no_tx, free_after}
+use Rattle.beldi_known.proofs.Owners.{unbarred, IsFreeFor}
+
+-- the note and the value of an answer, if there is one
+abbrev pub note_if : Item → ℕ → Effect → Option Answer → Option Note
+note_if x func e None = None
+note_if x func e (Some a) = note_of x func (op_of e) a
+
+abbrev pub value_if : Effect → Option Answer → Option Value
+value_if e None = None
+value_if e (Some a) = value_for e a
+
+pub no_end : (e : Effect) → is_of_tx e ≡ false → commit_in e ≡ None
+no_end (effect.End c) h = cc
+no_end e h = refl
+
+module _ (d : Deployment) (m : Rows) (known : Known) (locked : IntentId → Bool) (h : Matches d m known locked) (id : IntentId) (q : Instance) (is : map.get known id ≡ Some q) (n : ℕ) where
+  -- a read's row
+  pub read_there : (t : ℕ) (k : List ℕ) → effect_before d q n ≡ effect.Read t k → LogMatches (map.get m (log_key q.func (place_of id n))) (value_if (effect.Read t k) (slice_get q.answers n))
+  read_there t k wants = subst (LogMatches (map.get m (log_key q.func (place_of id n))))
+      (ap (owed_value d q.func n) is ∙ ap (λ b. if b then row_at d q n else None) (eq-eqb q.func q.func refl) ∙ ap (λ o. value_or (decision_by o) (read_at d q n)) (no_decision (end_of d q n) refl) ∙ by_answer (slice_get q.answers n) ∙ ap (λ e. value_if e (slice_get q.answers n)) wants)
+      (h.keys (log_key q.func (place_of id n)))
+    where
+      no_decision : (o : Option (ℕ × Bool)) → end_of d q n ≡ o → o ≡ None
+      no_decision None e = refl
+      no_decision (Some z) e = let clash = sym wants ∙ (begins d q q.answers).ended n z e in cc
+
+      by_answer : (o : Option Answer) → at_step (λ given a. value_for (effect_after d q given) a) (take n q.answers) o ≡ value_if (effect_before d q n) o
+      by_answer None = refl
+      by_answer (Some a) = refl
+
+  -- an item's note
+  pub note_there : q.within ≡ None → tx_at d id q n ≡ None → commit_in (effect_before d q n) ≡ None → (x : Item) → note_at (content_of m x).notes (place_of id n) ≡ note_if x q.func (effect_before d q n) (slice_get q.answers n)
+  note_there own outside apart x = (h.items x).notes (place_of id n) (ap (is_mark d known n) is ∙ (λ i. is_some (no_mark (slice_get q.answers n) i) || (is_decided d known (own i) && (n == last_step))))
+      ∙ ap (owed_note d x id (locked id) n) is ∙ ap (note_or (answered_note d x id n q)) (by_end (n == length q.answers) refl) ∙ or_none (answered_note d x id n q) ∙ by_answer (slice_get q.answers n)
+    where
+      no_mark : (o : Option Answer) → at_step (λ given a. commit_in (effect_after d q given)) (take n q.answers) o ≡ None
+      no_mark None = refl
+      no_mark (Some a) = apart
+
+      by_end : (b : Bool) → (n == length q.answers) ≡ b → (if b then ahead_by x q.func (tx_now d id q) (effect_of d q) (locked id) else None) ≡ None
+      by_end false e = refl
+      by_end true e = ap (λ t. ahead_by x q.func t (effect_of d q) (locked id)) (ap (tx_after d id q) (sym (ap (λ k. take k q.answers) (eqb-true n (length q.answers) e) ∙ ap (take (length q.answers)) (sym (append-nil q.answers)) ∙ take_front q.answers [])) ∙ outside)
+
+      by_answer : (o : Option Answer) → at_step (λ given a. note_by x q.func (tx_after d id q given) (effect_after d q given) a) (take n q.answers) o ≡ note_if x q.func (effect_before d q n) o
+      by_answer None = refl
+      by_answer (Some a) = ap (λ t. note_by x q.func t (effect_before d q n) a) outside
+
+-- ---- rows of an item that hold what was held
+module _ (d : Deployment) (m n : Rows) (y : Item) (same : (l : RowKey) → is_eq (key_cmp l (head_key y)) ≡ false → map.get n l ≡ map.get m l) where
+  pub contents_kept : content_of n y ≡ content_of m y → (x : Item) → content_of n x ≡ content_of m x
+  contents_kept held x = by_item y x (λ x. content_of n x ≡ content_of m x) held (λ other. ap content_in (same (head_key x) (turned y x other)))
+
+  pub content_kept : (known : Known) (locked : IntentId → Bool) → SoundAt (map.get n (head_key y)) → content_of n y ≡ content_of m y → Matches d m known locked → Matches d n known locked
+  content_kept known locked sound held h = record {
+    keys = keys_at m n (head_key y) (λ l r. RowMatches d known l.home l.kind r) same sound (λ l other. h.keys l);
+    items = λ x. subst (ItemMatches d known locked x) (sym (contents_kept held x)) (h.items x);
+    shadows = λ t x. subst (ShadowMatches d known t x) (ap content_in (sym (same (shadow_key t x) (kinds_apart is_shadow (shadow_key t x) (head_key y) refl refl)))) (h.shadows t x);
+    txs = λ x. subst (λ (c : Content). TxsMatch d known locked x c.owner) (sym (contents_kept held x)) (h.txs x);
+  }
+
+-- ---- what is listed after an operation
+-- the rows of one item changed: others are listed as before
+pub others_list : (m n : Rows) (y : Item) → ((l : RowKey) → is_eq (key_cmp l (head_key y)) ≡ false → map.get n l ≡ map.get m l) → (x : Item) → content_of n x ≡ content_of m x → listed n x ≡ listed m x
+others_list m n y same x content = lists_same m n x content (λ t. same (decision_key t) (kinds_apart is_log (decision_key t) (head_key y) refl refl)) (λ t. same (shadow_key t x) (kinds_apart is_shadow (shadow_key t x) (head_key y) refl refl))
+
+pub done_lists : (m n : Rows) (p : PlainState) (y : Item) (o : Operation) (at : Place) → DoneRows m n y at (cell_of o) → ((x : Item) → listed m x ≡ value_at p x) → (x : Item) → listed n x ≡ or_null (map.get (set_if p.items y (sets o (value_at p y))) x)
+done_lists m n p y o at did was x = by_item y x (λ x. listed n x ≡ or_null (map.get (set_if p.items y (sets o (value_at p y))) x))
+    (own_value n y (no_tx at.intent (content_of n y).owner (subst (λ (c : Content). IsFreeFor at.intent c.owner) (sym did.here) (free_after (cell_of o) at.intent (content_of m y).owner did.free)))
+    ∙ ap (λ (c : Content). c.value) did.here ∙ sym ((does_so o).value (content_of m y).value)
+    ∙ ap (λ w. or_old (sets o w) w) (sym (own_value m y (no_tx at.intent (content_of m y).owner (unbarred (cell_of o) at.intent (content_of m y).owner did.free))) ∙ was y)
+    ∙ sym (plain_set p.items y y (sets o (value_at p y)) ∙ ap (λ b. cond (is_eq b) (or_old (sets o (value_at p y)) (value_at p y)) (value_at p y)) (tied_itself item_total y)))
+    (λ other. others_list m n y did.same x (ap content_in (did.same (head_key x) (turned y x other))) ∙ was x
+    ∙ sym (plain_set p.items y x (sets o (value_at p y)) ∙ ap (λ b. cond b (or_old (sets o (value_at p y)) (value_at p y)) (value_at p x)) ((eq_by_cmp_equiv item_total).symm x y ∙ other)))

@@ -1,0 +1,60 @@
+-- Rows that match what is known, after the row of a callee was put, or of a call marked as registered.
+use Rattle.std.proofs.Common.{◌≡◌, ℕ, Bool, true, false, Option, None, Some, refl, ap, sym, ◌∙◌, subst}
+use Rattle.std.specs.FinMap as map
+use Rattle.beldi_intent.specs.Intent.{issued_at}
+use Rattle.beldi_invokelog.specs.InvokeLog.{invoke_key}
+use Rattle.beldi_row.proofs.Unchanged.{unchanged}
+use Rattle.beldi_row.specs.Act.{act, register_to}
+use Rattle.beldi_row.specs.Table.{Rows, set_row, after_act}
+use Rattle.beldi_row.specs.declared.act.Act.TheVariants.{NoteRegistered}
+use Rattle.beldi_row.specs.declared.key.Kind.TheVariants as kinds
+use Rattle.beldi_row.specs.declared.key.RowKey.{RowKey}
+use Rattle.beldi_row.specs.declared.row.Body.{Body}
+use Rattle.beldi_row.specs.declared.row.InvokeRow.{InvokeRow}
+use Rattle.beldi_row.specs.declared.row.Row.TheVariants as rows
+use Rattle.beldi_row.specs.declared.row.Row.{Row}
+use Rattle.beldi_step.specs.Run.{is_waited}
+use Rattle.beldi_tree.specs.declared.deployment.Deployment.{Deployment}
+use Rattle.beldi_value.specs.Id.{has_no_hops}
+use Rattle.beldi_value.specs.declared.id.IntentId.{IntentId}
+use Rattle.beldi_value.specs.declared.place.Place.{Place}
+use Rattle.beldi_known.specs.Rows.{HasNoRow, IsBodyOf, CalleeMatches, IntentMatches, CallMatches, OutcomeMatches}
+use Rattle.beldi_known.specs.Known.{Known, owed_call}
+use Rattle.beldi_known.specs.Matches.{Matches}
+use Rattle.beldi_known.proofs.Sets.{row_put}
+use Rattle.beldi_known.proofs.Intents.{callee_put}
+
+-- ---- a callee was registered: its row, which was not there, has its body
+pub callee_registered : (d : Deployment) (m : Rows) (known : Known) (locked : IntentId → Bool) (id : IntentId) (b : Body) (now : ℕ) → has_no_hops id.hops ≡ false → IsBodyOf b (map.get known id) → Matches d m known locked
+    → let key : RowKey = record { home = b.func; kind = kinds.Intent id } in map.get m key ≡ None → Matches d (set_row m key (Some (rows.Intent (issued_at now (Some b))))) known locked
+callee_registered d m known locked id b now hops body h none = callee_put d known locked m id b.func (issued_at now (Some b)) hops (record { finishes = refl; body = (body, refl, by_wait (is_waited b.from) refl) }) h
+  where
+    absent : HasNoRow b.func (map.get known id)
+    absent = subst (λ r. CalleeMatches b.func r (map.get known id)) none (subst (λ t. IntentMatches t b.func (map.get m (record { home = b.func; kind = kinds.Intent id })) (map.get known id)) hops (h.keys (record { home = b.func; kind = kinds.Intent id })))
+
+    by_wait : (t : Bool) → is_waited b.from ≡ t → OutcomeMatches t None body.instance.outcome
+    by_wait true e = λ u is. cc
+    by_wait false e = absent.open_still body.instance body.made (sym (ap (λ z. z.func) body.body)) (ap (λ z. is_waited z.from) (sym body.body) ∙ e)
+
+-- ---- a call was marked as registered: no row owes that
+module _ (d : Deployment) (m : Rows) (known : Known) (locked : IntentId → Bool) (home : ℕ) (a : Place) (now : ℕ) (h : Matches d m known locked) where
+  abbrev mark_key : RowKey
+  mark_key = invoke_key home a
+
+  put : (r : InvokeRow) → CallMatches (Some (rows.Invoke r)) (owed_call known home a) → Matches d (set_row m mark_key (Some (rows.Invoke r))) known locked
+  put r there = row_put d known locked m mark_key (Some (rows.Invoke r)) refl there h
+
+  stays : (w : Option Row) → map.get m mark_key ≡ w → Matches d (set_row m mark_key w) known locked
+  stays w at = subst (λ n. Matches d n known locked) (sym (unchanged m mark_key w (sym at))) h
+
+  by_mark : (x : InvokeRow) (b : Bool) → x.registered ≡ b → map.get m mark_key ≡ Some (rows.Invoke x) → CallMatches (Some (rows.Invoke x)) (owed_call known home a) → Matches d (set_row m mark_key (Some (rows.Invoke (register_to x b).0))) known locked
+  by_mark x true is at there = stays (Some (rows.Invoke x)) at
+  by_mark x false is at there = put (record x { registered = true }) there
+
+  by_row : (w : Option Row) → map.get m mark_key ≡ w → CallMatches w (owed_call known home a) → Matches d (set_row m mark_key (act NoteRegistered now (map.get m mark_key)).0) known locked
+  by_row None at there = subst (λ z. Matches d (set_row m mark_key (act NoteRegistered now z).0) known locked) (sym at) (stays None at)
+  by_row (Some (rows.Invoke x)) at there = subst (λ z. Matches d (set_row m mark_key (act NoteRegistered now z).0) known locked) (sym at) (by_mark x x.registered refl at there)
+  by_row (Some w) at there = absurd there
+
+  pub marked_registered : Matches d (after_act NoteRegistered now (invoke_key home a) m) known locked
+  marked_registered = by_row (map.get m (invoke_key home a)) refl (h.keys (invoke_key home a))
