@@ -1,5 +1,6 @@
 -- The first row of a transaction's locks.
 use Rattle.std.proofs.Common.{◌≡◌, ℕ, zero, suc, ◌-◌, ◌^◌, ◌<◌, ◌≤◌, List, [], ◌∷◌, ◌++◌, length, replicate, Option, None, Some, refl, ap, sym, ◌∙◌, subst, arith}
+use Rattle.std.specs.FinMap as map
 use Rattle.std.specs.Cmp.{ranks}
 use Rattle.std.specs.Cmp.Lexicographic.{slice_cmp}
 use Rattle.std.specs.Ordering.{nat_cmp, ordering_then, ordering_reverse, MatchOrdering}
@@ -8,7 +9,7 @@ use Rattle.std.specs.declared.cmp.Ordering.TheVariants.{Less, Equal, Greater}
 use Rattle.std.proofs.lemmas.Cmp.{tied_itself}
 use Rattle.std.specs.Cmp.{nat_cmp_total}
 use Rattle.beldi_value.specs.declared.id.IntentId.{IntentId}
-use Rattle.beldi_value.specs.Id.{id_cmp, id_total}
+use Rattle.beldi_value.specs.Id.{id_cmp, id_total, id_exact}
 use Rattle.beldi_row.specs.Key.{key_cmp}
 use Rattle.beldi_row.specs.KeyOrder.{key_total, key_exact}
 use Rattle.beldi_row.specs.declared.key.RowKey.{RowKey}
@@ -202,19 +203,23 @@ module _ (home : ℕ) (id : IntentId) (some : 1 ≤ id.ticket) (hops : AreHops 6
       ∙ ap (λ o. ordering_then o (rest b (suc b) (2 ^ 16 - 1) 0 [] [])) (tied_itself id_total id)
       ∙ ap (λ o. ordering_then o (items (2 ^ 16 - 1) 0 [] [])) (is_less b (suc b) (omega (arith)))
 
+  -- an item of the begin before that stands past the start: one of the last table
+  abbrev pub IsLast : ℕ → IntentId → ℕ → ℕ → List ℕ → Type 0
+  IsLast begin i b t k = (i ≡ (begin_before id begin).0) × (b ≡ (begin_before id begin).1) × (items (2 ^ 16 - 1) t [] k ≡ Less)
+
   -- between the two is no row
-  none_between : (begin : ℕ) (i : IntentId) (b t : ℕ) (k : List ℕ) → AreHops 63 i.hops → b ≤ most → t < 2 ^ 16 - 1
+  none_between : (begin : ℕ) (i : IntentId) (b t : ℕ) (k : List ℕ) → AreHops 63 i.hops → b ≤ most → (IsLast begin i b t k → ⊥)
       → ordering_then (id_cmp (begin_before id begin).0 i) (rest (begin_before id begin).1 b (2 ^ 16 - 1) t [] k) ≡ Less
       → ordering_then (id_cmp i id) (rest b begin t 0 k []) ≡ Less → ⊥
-  none_between zero i b t k short small fit h g =
+  none_between zero i b t k short small apart h g =
       parts (id_cmp (id_before id) i) (rest most b (2 ^ 16 - 1) t [] k) h ⊥
       (λ l. parts (id_cmp i id) (rest b 0 t 0 k []) g ⊥
       (λ p. (precedes id some hops).none i short l p)
       (λ p r. parts (nat_cmp b 0) (items t 0 k []) r ⊥ (λ q. let z = below b 0 q in omega (arith, z)) (λ q s. no_item t k s)))
       (λ l r. parts (nat_cmp most b) (items (2 ^ 16 - 1) t [] k) r ⊥
       (λ q. let z = below most b q in omega (arith, z, small))
-      (λ q s. no_table t k fit s))
-  none_between (suc c) i b t k short small fit h g =
+      (λ q s. apart (sym (id_exact (id_before id) i l), sym (level most b q), s)))
+  none_between (suc c) i b t k short small apart h g =
       parts (id_cmp id i) (rest c b (2 ^ 16 - 1) t [] k) h ⊥
       (λ l. let clash = sym (ap (λ o. ordering_then o (rest b (suc c) t 0 k [])) (id_total.antisymm i id ∙ ap ordering_reverse l)) ∙ g in cc)
       (λ l r.
@@ -223,13 +228,27 @@ module _ (home : ℕ) (id : IntentId) (some : 1 ≤ id.ticket) (hops : AreHops 6
       (λ p. parts (nat_cmp b (suc c)) (items t 0 k []) s ⊥
       (λ q. let y = below c b p in let z = below b (suc c) q in omega (arith, y, z))
       (λ q z. no_item t k z))
-      (λ p z. no_table t k fit z))
+      (λ p z. apart (sym (id_exact id i l), sym (level c b p), z)))
 
   -- rows of other kinds stand before all of these in their home
   other_kind : (room : ℕ) (s : Ordering) → ordering_then (nat_cmp home room) Greater ≡ Less → ordering_then (nat_cmp room home) s ≡ Less → ⊥
   other_kind room s h g = between home room home Greater s (irreflexive home) h g ⊥ (λ e f r z. let clash : Greater ≡ Less = r in cc)
 
-  none_passed : (begin : ℕ) (room : ℕ) (kind : Kind) → IsFit kind → key_cmp (start begin) (record { home = room; kind = kind }) ≡ Less → key_cmp (record { home = room; kind = kind }) (least begin) ≡ Less → ⊥
+  -- a row that does not stand between the two
+  abbrev pub IsApart : ℕ → Kind → Type 0
+  IsApart begin (kinds.Lockset i b t k) = AreHops 63 i.hops × (b ≤ most) × (IsLast begin i b t k → ⊥)
+  IsApart begin kind = Unit {0}
+
+  -- .. as no table of a row that is fit is the last one
+  fit_apart : (begin : ℕ) (kind : Kind) → IsFit kind → IsApart begin kind
+  fit_apart begin (kinds.Lockset i b t k) fit = (fit.0, fit.1, λ z. no_table t k fit.2 z.2)
+  fit_apart begin (kinds.Intent i) fit = tt
+  fit_apart begin (kinds.ReadLog p) fit = tt
+  fit_apart begin (kinds.Invoke p) fit = tt
+  fit_apart begin (kinds.Data t k r) fit = tt
+  fit_apart begin (kinds.Shadow x t k r) fit = tt
+
+  none_passed : (begin : ℕ) (room : ℕ) (kind : Kind) → IsApart begin kind → key_cmp (start begin) (record { home = room; kind = kind }) ≡ Less → key_cmp (record { home = room; kind = kind }) (least begin) ≡ Less → ⊥
   none_passed begin room (kinds.Lockset i b t k) fit h g =
       let p = begin_before id begin in
       between home room home (ordering_then (id_cmp p.0 i) (rest p.1 b (2 ^ 16 - 1) t [] k)) (ordering_then (id_cmp i id) (rest b begin t 0 k [])) (irreflexive home)
@@ -250,9 +269,13 @@ module _ (home : ℕ) (id : IntentId) (some : 1 ≤ id.ticket) (hops : AreHops 6
       by Equal e = ap (key_cmp (start begin)) (key_exact q (least begin) e) ∙ start_below begin
       by Greater e = key_total.trans (start begin) (least begin) q (start_below begin) (key_total.antisymm (least begin) q ∙ ap ordering_reverse e)
 
+  -- the row after the start is the first one from the least key
+  pub first_apart : (begin : ℕ) (m : Rows) (e : Option (RowKey × Row)) → ((q : RowKey) (r : Row) → map.get m q ≡ Some r → IsApart begin q.kind) → IsNext m (start begin) e → IsFirstFrom m (least begin) e
+  first_apart begin m None apart h = λ q p. h q (past begin q p)
+  first_apart begin m (Some e) apart h = (λ p. none_passed begin e.0.home e.0.kind (apart e.0 e.1 h.1) h.0 p, h.1, λ q p less. h.2 q (past begin q p) less)
+
   pub first_from : (begin : ℕ) (m : Rows) (e : Option (RowKey × Row)) → AreFit m → IsNext m (start begin) e → IsFirstFrom m (least begin) e
-  first_from begin m None fit h = λ q p. h q (past begin q p)
-  first_from begin m (Some e) fit h = (λ p. none_passed begin e.0.home e.0.kind (fit e.0 e.1 h.1) h.0 p, h.1, λ q p less. h.2 q (past begin q p) less)
+  first_from begin m e fit h = first_apart begin m e (λ q r there. fit_apart begin q.kind (fit q r there)) h
 
 pub locksets_begin : LocksetsBegin
 locksets_begin home id begin some hops = promised (lockset_asks home id begin None) 0 (lockset_found home id begin) (FindsFirst home id begin)

@@ -1,2 +1,2 @@
-mod TxTurn
-mod Visited
+pub mod TxTurn
+pub mod Visited

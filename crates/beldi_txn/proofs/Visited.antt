@@ -1,5 +1,5 @@
 -- The end of a transaction passes all rows of its locks, one after another.
-use Rattle.std.proofs.Common.{◌≡◌, ◌≤◌, inl, inr, ℕ, ◌==◌, ◌&&◌, Bool, true, false, List, [], Option, None, Some, is_some, refl, ap, sym, ◌∙◌, subst, if◌then◌else◌, eqb-true, eq-eqb}
+use Rattle.std.proofs.Common.{◌≡◌, inl, inr, ℕ, ◌==◌, ◌&&◌, Bool, true, false, List, [], Option, None, Some, is_some, refl, ap, sym, ◌∙◌, subst, if◌then◌else◌, eqb-true, eq-eqb}
 use Rattle.std.specs.FinMap as map
 use Rattle.std.specs.Cmp.{nat_cmp_total}
 use Rattle.std.specs.Ordering.{is_eq, nat_cmp, ordering_then, ordering_reverse}
@@ -48,10 +48,10 @@ use Rattle.beldi_daal.specs.Logged.{unless_owned, LoggedTurn}
 use Rattle.beldi_daal.specs.Walk.{walk_so as logged_so}
 use Rattle.beldi_daal.proofs.Logged.{by_op}
 use Rattle.beldi_lock.specs.Lock.{lockset_key}
-use Rattle.beldi_lock.specs.Lockset.{AreHops, AreFit, IsFirstFrom, lockset_after, item_of, item_after}
+use Rattle.beldi_lock.specs.Lockset.{AreFit, IsFirstFrom, lockset_after, item_of, item_after}
 use Rattle.beldi_lock.proofs.Firsts.{parts, between, irreflexive, items, rest, by_parts, no_item, first_from}
 use Rattle.beldi_txn.specs.declared.end.EndAt.{EndAt}
-use Rattle.beldi_txn.specs.declared.end.EndAt.TheVariants.{Decide, Next, Shadow, Free}
+use Rattle.beldi_txn.specs.declared.end.EndAt.TheVariants.{Decide, Callees, Next, Shadow, Free}
 use Rattle.beldi_txn.specs.declared.end.EndGoes.{EndGoes}
 use Rattle.beldi_txn.specs.declared.end.EndGoes.TheVariants as goes
 use Rattle.beldi_txn.specs.declared.end.EndSays.TheVariants as says
@@ -123,7 +123,7 @@ module _ (home : ℕ) (id : IntentId) (begin : ℕ) where
       other room s h g = between home room home Greater s (irreflexive home) h g ((j : Item) × (record { home = room; kind = kind } ≡ ls j)) (λ e f r z. let clash : Greater ≡ Less = r in cc)
 
 -- what the next row says of all rows of the transaction's locks
-module _ (home : ℕ) (id : IntentId) (begin : ℕ) (some : 1 ≤ id.ticket) (hops : AreHops 63 id.hops) (m : Rows) (fit : AreFit m) where
+module _ (home : ℕ) (id : IntentId) (begin : ℕ) (m : Rows) where
   abbrev lr : Item → RowKey
   lr i = ls home id begin i
 
@@ -223,9 +223,6 @@ module _ (x : TxId) (end : ℕ) (commit : Bool) where
     abbrev dq : Query
     dq = query.Act dk (PutRead (value.Bool commit))
 
-    nothing_past : (q : Item) → IsPast Next (walk (visit i u Next)) i q → ⊥
-    nothing_past q past = subst (λ (o : Option Item). IsPast Next (walk (visit i u Next)) o q) v.item past
-
     put_first : map.get m dk ≡ None → Leads dz dq m (rows_after dq now m) (goes.Decided true)
     put_first none =
         let s = (act (PutRead (value.Bool commit)) now (map.get m dk)).0 in
@@ -238,9 +235,9 @@ module _ (x : TxId) (end : ℕ) (commit : Bool) where
           left = (none, there);
           visited = record {
             decided = there;
-            item = tt;
+            item = v.item;
             gives = tt;
-            freed = λ q r here past. absurd (nothing_past q past);
+            freed = λ q r here past. absurd past;
             marked = λ q nt h. ap (λ z. is_own (walk dz) (content_in z)) (item q) ∙ v.marked q nt (sym (ap (λ z. note_at (content_in z).notes (end_place x end)) (item q)) ∙ h);
             sound = λ q. (subst SoundAt (sym (item q)) (v.sound q).0, subst SoundAt (sym (aside q)) (v.sound q).1);
           };
@@ -257,7 +254,7 @@ module _ (x : TxId) (end : ℕ) (commit : Bool) where
         record {
           others = λ k off. refl;
           left = (there, refl);
-          visited = record { decided = there; item = tt; gives = tt; freed = λ q r here past. absurd (nothing_past q past); marked = v.marked; sound = v.sound };
+          visited = record { decided = there; item = v.item; gives = tt; freed = λ q r here past. absurd past; marked = v.marked; sound = v.sound };
           done = λ is. cc;
         }
 
@@ -296,8 +293,32 @@ module _ (x : TxId) (end : ℕ) (i : Option Item) (u : Option Value) (now : ℕ)
       by (Some (rows.ReadLog (value.Rec z))) is = stood x end c i u now m v (rows.ReadLog (value.Rec z)) (goes.On Decide) is (other_decision x end c i u now m v (λ was. let clash = sym is ∙ was in cc))
       by (Some r) is = stood x end c i u now m v r (goes.On Decide) is (other_decision x end c i u now m v (λ was. let clash = sym is ∙ was in cc))
 
+-- ---- its calls, of which there are none
+module _ (x : TxId) (end : ℕ) (commit : Bool) (i : Option Item) (u : Option Value) (m : Rows) where
+  abbrev cq : Query
+  cq = visit_asks x end commit i u Callees
+
+  callees_turn : Visited (walk x end commit (visit x end commit i u Callees)) m → Leads x end commit (visit x end commit i u Callees) cq m m (goes.On Next)
+  callees_turn v = record {
+    others = λ k off. refl;
+    left = refl;
+    visited = record {
+      decided = v.decided;
+      item = tt;
+      gives = tt;
+      freed = λ q r here past. absurd (subst (λ (o : Option Item). IsPast Next (walk x end commit (visit x end commit i u Next)) o q) v.item past);
+      marked = v.marked;
+      sound = v.sound;
+    };
+    done = λ h. cc;
+  }
+
 -- ---- the next item
-module _ (x : TxId) (end : ℕ) (commit : Bool) (some : 1 ≤ x.intent.ticket) (hops : AreHops 63 x.intent.hops) (u : Option Value) (m : Rows) (fit : AreFit m) where
+-- the row that is asked for, where there is no item before, is the first of the transaction's locks
+abbrev pub FindsFirstLock : TxId → Rows → Type 0
+FindsFirstLock x m = (e : Option (RowKey × Row)) → IsNext m (lockset_after x.func x.intent x.begin None) e → IsFirstFrom m (lockset_key x.func x.intent x.begin 0 []) e
+
+module _ (x : TxId) (end : ℕ) (commit : Bool) (u : Option Value) (m : Rows) (first : FindsFirstLock x m) where
   abbrev at_next : Option Item → EndWalk
   at_next i = walk x end commit (visit x end commit i u Next)
 
@@ -314,14 +335,14 @@ module _ (x : TxId) (end : ℕ) (commit : Bool) (some : 1 ≤ x.intent.ticket) (
   freed_before : (i : Option Item) (v : Visited (at_next i) m) (j q : Item) (r : Row) (e : Option (RowKey × Row)) → IsNext m (key_after i) e → told_item e ≡ Some j
       → map.get m (lock_row (at_next i) q) ≡ Some r → key_cmp (lock_row (at_next i) q) (lock_row (at_next i) j) ≡ Less → is_own (at_next i) (item_in (at_next i) m q) ≡ false
   freed_before None v j q r e next is here less =
-      absurd (none_before x.func x.intent x.begin some hops m fit j q r e (first_from x.func x.intent some hops x.begin m e fit next) is here less)
-  freed_before (Some c) v j q r e next is here less = v.freed q r here (λ l. none_between x.func x.intent x.begin some hops m fit c j q r e next is here less l)
+      absurd (none_before x.func x.intent x.begin m j q r e (first e next) is here less)
+  freed_before (Some c) v j q r e next is here less = v.freed q r here (λ l. none_between x.func x.intent x.begin m c j q r e next is here less l)
 
   -- .. and all, where none is told
   freed_all : (i : Option Item) (v : Visited (at_next i) m) (q : Item) (r : Row) (e : Option (RowKey × Row)) → IsNext m (key_after i) e → told_item e ≡ None
       → map.get m (lock_row (at_next i) q) ≡ Some r → is_own (at_next i) (item_in (at_next i) m q) ≡ false
-  freed_all None v q r e next none here = absurd (none_first x.func x.intent x.begin some hops m fit q r e (first_from x.func x.intent some hops x.begin m e fit next) none here)
-  freed_all (Some c) v q r e next none here = v.freed q r here (λ l. none_past x.func x.intent x.begin some hops m fit c q r e next none here l)
+  freed_all None v q r e next none here = absurd (none_first x.func x.intent x.begin m q r e (first e next) none here)
+  freed_all (Some c) v q r e next none here = v.freed q r here (λ l. none_past x.func x.intent x.begin m c q r e next none here l)
 
   by_item : (i : Option Item) (v : Visited (at_next i) m) (e : Option (RowKey × Row)) → IsNext m (key_after i) e → (f : Option Item) → told_item e ≡ f
       → Leads x end commit (visit x end commit i u Next) (nq i) m m (next_goes f)
@@ -460,13 +481,14 @@ module _ (x : TxId) (end : ℕ) (commit : Bool) (j : Item) (u : Option Value) (f
   free_by (writes.Held o) l = again (wsays.Held o) l f l.logs.2
 
 -- ---- all stages
-module _ (x : TxId) (end : ℕ) (commit : Bool) (some : 1 ≤ x.intent.ticket) (hops : AreHops 63 x.intent.hops) (now : ℕ) (m : Rows) (fit : AreFit m) where
+module _ (x : TxId) (end : ℕ) (commit : Bool) (now : ℕ) (m : Rows) (first : FindsFirstLock x m) where
   abbrev Turns : Option Item → Option Value → EndAt → Type 0
   Turns i u a = let q = visit_asks x end commit i u a in Leads x end commit (visit x end commit i u a) q m (rows_after q now m) (end_goes x commit a (told_by q now m))
 
-  turns : (i : Option Item) (u : Option Value) (a : EndAt) → Visited (walk x end commit (visit x end commit i u a)) m → Turns i u a
+  pub turns : (i : Option Item) (u : Option Value) (a : EndAt) → Visited (walk x end commit (visit x end commit i u a)) m → Turns i u a
   turns i u Decide v = decide_turn x end i u now m commit v
-  turns i u Next v = next_turn x end commit some hops u m fit i now v
+  turns i u Callees v = callees_turn x end commit i u m v
+  turns i u Next v = next_turn x end commit u m first i now v
   turns (Some j) u Shadow v = look_turn x end commit j u now m v
   turns (Some j) u (Free f) v =
       let q = visit_asks x end commit (Some j) u (Free f) in
@@ -479,12 +501,13 @@ pub ends_are_visits : EndsAreVisits
 ends_are_visits w x now old new s some hops h =
     turned (walk_asks w) now (walk_next w) (walk_says w) (λ m n z. AreFit m → Visited w m → EndTurn w z.0 m n z.1)
     (λ m fit v.
-    let l = turns w.tx w.end w.commit some hops now m fit w.visit.item w.visit.value w.visit.at v in
+    let l = turns w.tx w.end w.commit now m (λ e next. first_from w.tx.func w.tx.intent some hops w.tx.begin m e fit next) w.visit.item w.visit.value w.visit.at v in
     record { others = l.others; left = l.left; same = refl; visited = l.visited; done = l.done }) w x old new s h
 
 -- ---- what others do
 decided_stands : (a : EndAt) (w : EndWalk) (m n : Rows) → Leaves w m n → DecidedAt a w m → DecidedAt a w n
 decided_stands Decide w m n h d = tt
+decided_stands Callees w m n h d = h.decision d
 decided_stands Next w m n h d = h.decision d
 decided_stands Shadow w m n h d = h.decision d
 decided_stands (Free f) w m n h d = h.decision d
@@ -495,6 +518,7 @@ given_same false r s h = refl
 
 gives_stands : (a : EndAt) (i : Option Item) (w : EndWalk) (m n : Rows) → Leaves w m n → Gives a w m i → Gives a w n i
 gives_stands Decide i w m n h d = tt
+gives_stands Callees i w m n h d = tt
 gives_stands Next i w m n h d = tt
 gives_stands Shadow i w m n h d = d
 gives_stands (Free f) None w m n h d = tt

@@ -7,10 +7,11 @@ use Rattle.beldi_value.specs.declared.place.TxId.{TxId}
 use Rattle.beldi_value.specs.declared.value.Value.{Value}
 use Rattle.beldi_value.specs.declared.value.Value.TheVariants as value
 use Rattle.beldi_row.specs.declared.act.Act.TheVariants.{Look}
+use Rattle.beldi_row.specs.declared.key.Kind.TheVariants as kinds
 use Rattle.beldi_row.specs.declared.notes.Note.TheVariants as note
 use Rattle.beldi_row.specs.Act.{added, kept}
 use Rattle.beldi_walk.specs.declared.query.Query.{Query}
-use Rattle.beldi_walk.specs.declared.query.Query.TheVariants.{Act}
+use Rattle.beldi_walk.specs.declared.query.Query.TheVariants.{Act, After}
 use Rattle.beldi_walk.specs.Query.{Told, said}
 use Rattle.beldi_daal.specs.declared.cell.CellOp.TheVariants as op
 use Rattle.beldi_daal.specs.declared.cell.ReadGoes.{ReadGoes}
@@ -23,7 +24,7 @@ use Rattle.beldi_daal.specs.Cell.{cell_key, shadow_key, read_goes, write_asks, w
 use Rattle.beldi_lock.specs.Lockset.{lockset_asks, lockset_found}
 use Rattle.beldi_readlog.specs.ReadLog.{keep_asks}
 use Rattle.beldi_txn.specs.declared.end.EndAt.{EndAt}
-use Rattle.beldi_txn.specs.declared.end.EndAt.TheVariants.{Decide, Next, Shadow, Free}
+use Rattle.beldi_txn.specs.declared.end.EndAt.TheVariants.{Decide, Callees, Next, Shadow, Free}
 use Rattle.beldi_txn.specs.declared.end.EndGoes.{EndGoes}
 use Rattle.beldi_txn.specs.declared.end.EndGoes.TheVariants as goes
 use Rattle.beldi_txn.specs.declared.end.EndSays.{EndSays}
@@ -52,11 +53,12 @@ free_asks x end v w None = lockset_asks x.func x.intent x.begin None
 
 abbrev pub visit_asks : TxId → ℕ → Bool → Option (ℕ × List ℕ) → Option Value → EndAt → Query
 visit_asks x end commit i v Decide = keep_asks x.func (begin_place x) (value.Bool commit)
+visit_asks x end commit i v Callees = After (record { home = x.func; kind = kinds.Invoke (begin_place x) })
 visit_asks x end commit i v Next = lockset_asks x.func x.intent x.begin i
 visit_asks x end commit i v Shadow = shadow_asks x i
 visit_asks x end commit i v (Free w) = free_asks x end v w i
 
--- ---- where it goes after it was told
+-- ---- where it goes after it was told. An owner alone has no callee to visit.
 -- it stays at another decision than its own
 abbrev pub decided_by : Bool → Bool → EndGoes
 decided_by true true = goes.Decided false
@@ -88,6 +90,7 @@ freed_goes w (writes.Held o) = goes.On (Free w)
 
 abbrev pub end_goes : TxId → Bool → EndAt → Told → EndGoes
 end_goes x commit Decide t = decide_goes commit t
+end_goes x commit Callees t = goes.On Next
 end_goes x commit Next t = next_goes (lockset_found x.func x.intent x.begin t)
 end_goes x commit Shadow t = value_goes (read_goes None t)
 end_goes x commit (Free w) t = freed_goes w (write_goes note.Freed t)
@@ -100,7 +103,7 @@ free_first false = Free Try
 
 abbrev pub moved : Bool → Visit → EndGoes → Visit
 moved commit v (goes.On a) = record v { at = a }
-moved commit v (goes.Decided first) = record v { at = Next }
+moved commit v (goes.Decided first) = record v { at = Callees }
 moved commit v (goes.Item t k) = record { item = Some (t, k); value = None; at = free_first commit }
 moved commit v (goes.Value u) = record v { value = u; at = Free Try }
 moved commit v goes.Done = v

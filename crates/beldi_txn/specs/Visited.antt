@@ -26,7 +26,7 @@ use Rattle.beldi_lock.specs.Lock.{lockset_key}
 use Rattle.beldi_lock.specs.Lockset.{AreHops, AreFit}
 use Rattle.beldi_readlog.specs.ReadLog.{log_key}
 use Rattle.beldi_txn.specs.declared.end.EndAt.{EndAt}
-use Rattle.beldi_txn.specs.declared.end.EndAt.TheVariants.{Decide, Next, Shadow, Free}
+use Rattle.beldi_txn.specs.declared.end.EndAt.TheVariants.{Decide, Callees, Next, Shadow, Free}
 use Rattle.beldi_txn.specs.declared.end.EndSays.{EndSays}
 use Rattle.beldi_txn.specs.declared.end.EndSays.TheVariants as says
 use Rattle.beldi_txn.specs.declared.end_walk.EndWalk.{EndWalk}
@@ -69,6 +69,7 @@ DecidedAt a w m = IsDecided w m
 
 abbrev pub HasItem : EndAt → Option (ℕ × List ℕ) → Type 0
 HasItem Decide i = i ≡ None
+HasItem Callees i = i ≡ None
 HasItem Next i = Unit {0}
 HasItem a i = is_some i ≡ true
 
@@ -81,6 +82,7 @@ Gives a w m i = Unit {0}
 -- the rows of the locks are passed in the order of their keys, up to the item, or to those before it while it is given back
 abbrev pub IsPast : EndAt → EndWalk → Option (ℕ × List ℕ) → ℕ × List ℕ → Type 0
 IsPast Decide w i q = ⊥
+IsPast Callees w i q = ⊥
 IsPast Next w None q = ⊥
 IsPast Next w (Some i) q = key_cmp (lock_row w i) (lock_row w q) ≡ Less → ⊥
 IsPast a w None q = ⊥

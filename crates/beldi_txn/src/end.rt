@@ -9,7 +9,7 @@ use beldi_daal::{
 };
 use beldi_lock::{lockset_query, lockset_told};
 use beldi_readlog::log_key;
-use beldi_row::{Act, Note, Said, copy_tx};
+use beldi_row::{Act, Kind, Note, RowKey, Said, copy_tx};
 use beldi_value::{Owner, Place, Str, TxId, Value};
 use beldi_walk::{Heard, Query};
 use std::alloc::{AllocError, Global};
@@ -19,6 +19,8 @@ use std::alloc::{AllocError, Global};
 pub enum EndAt {
     /// The decision is put next.
     Decide,
+    /// The next call that the transaction made is looked for. An owner alone made none.
+    Callees,
     /// The next item is looked for, of those that the transaction asked the locks of.
     Next,
     /// The transaction's own copy of the item is looked at next.
@@ -88,7 +90,7 @@ impl Visit {
                 EndSays::Going
             }
             EndGoes::Decided { first } => {
-                self.at = EndAt::Next;
+                self.at = EndAt::Callees;
                 EndSays::Decided { first }
             }
             EndGoes::Item(table, key) => {
@@ -153,6 +155,10 @@ pub fn end_query(
             let value = Value::Bool(commit);
             Ok(Query::Act(row, Act::PutRead { value }))
         }
+        EndAt::Callees => Ok(Query::After(RowKey {
+            home: tx.func,
+            kind: Kind::Invoke(place_at(alloc, tx, tx.begin)?),
+        })),
         EndAt::Next => lockset_query(alloc, tx.func, &tx.intent, tx.begin, item),
         EndAt::Shadow => look_query(alloc, tx, item),
         EndAt::Free(at) => free_query(alloc, tx, end, item, &visit.value, at),
@@ -215,6 +221,7 @@ pub fn end_told(
 {
     match at {
         EndAt::Decide => Ok(hear_decision(commit, heard)),
+        EndAt::Callees => Ok(EndGoes::On(EndAt::Next)),
         EndAt::Next => {
             let item = lockset_told(alloc, tx.func, &tx.intent, tx.begin, heard)?;
             Ok(hear_next(item))
