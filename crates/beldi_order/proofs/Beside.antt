@@ -95,6 +95,12 @@ more d m q (b ∷ rest) n a leads is = (leads.0, more d (next_items d m q) (answ
 pub folds_read_their_items : FoldsReadTheirItems
 folds_read_their_items = record { kept = kept; beside = beside; more = more }
 
+-- what is written is touched
+pub written_touched : (d : Deployment) (m : Items) (q : Instance) (rest : List Answer) (n : Items) (x : Item) → Leads d m q rest n → WrittenIn d q rest x → TouchedIn d q rest x
+written_touched d m q [] n x h w = w
+written_touched d m q (a ∷ rest) n x h (inl w) = inl (touches m m q (effect_of d q) a x h.0 w)
+written_touched d m q (a ∷ rest) n x h (inr w) = inr (written_touched d (next_items d m q) (answered q a) rest n x h.1 w)
+
 -- ---- what an entry touches
 -- one of these answers is to a read or an operation on the item, and none that was aborted
 abbrev DoneOn : Deployment → Instance → List Answer → Item → Type 0
@@ -102,7 +108,7 @@ DoneOn d q [] x = ⊥
 DoneOn d q (a ∷ rest) x = ((is_aborted a ≡ false) × (touched_item q (effect_of d q) ≡ Some x)) ⊎ DoneOn d (answered q a) rest x
 
 -- an answer inside is none
-plain_answer : (m : Items) (func : ℕ) (e : Effect) (a : Answer) → answer_inside m func e ≡ Some a → is_aborted a ≡ false
+pub plain_answer : (m : Items) (func : ℕ) (e : Effect) (a : Answer) → answer_inside m func e ≡ Some a → is_aborted a ≡ false
 plain_answer m func (effect.Read t k) a h = ap is_aborted (sym (same_some h))
 plain_answer m func (effect.Write t k v) a h = ap is_aborted (sym (same_some h))
 plain_answer m func (effect.CondWrite t k r o v) a h = ap is_aborted (sym (same_some h))

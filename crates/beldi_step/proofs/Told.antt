@@ -1,54 +1,176 @@
 -- A run that was told: by what its stage says, or by the body that it finds.
-use Rattle.std.proofs.Common.{◌≡◌, ℕ, Option, Some, None, Result, Ok, Err, IfOk, refl, ap, sym, ◌∙◌, subst}
+use Rattle.std.proofs.Common.{◌≡◌, ℕ, Bool, true, false, Option, Some, None, Result, Ok, Err, IfOk, refl, ap, ap₂, sym, ◌∙◌, subst}
 use Rattle.std.specs.declared.alloc.AllocError.{AllocError}
 use Rattle.beldi_tree.specs.declared.deployment.Deployment.{Deployment}
 use Rattle.beldi_tree.specs.Names.{func_at}
+use Rattle.beldi_value.specs.declared.value.Value.TheVariants as value
 use Rattle.beldi_lang.specs.declared.effect.Answer.{Answer}
+use Rattle.beldi_lang.specs.declared.effect.Effect.{Effect}
+use Rattle.beldi_lang.specs.declared.effect.Effect.TheVariants as effect
 use Rattle.beldi_lang.specs.declared.machine.Machine.{Machine}
-use Rattle.beldi_lang.specs.Machine.{resumed}
+use Rattle.beldi_value.specs.declared.id.IntentId.{IntentId}
 use Rattle.beldi_value.specs.declared.place.Caller.{Caller}
 use Rattle.beldi_row.specs.declared.row.Body.{Body}
-use Rattle.beldi_walk.specs.Query.{Told}
+use Rattle.beldi_row.specs.Act.{added, kept}
+use Rattle.beldi_walk.specs.Query.{Told, said, found}
+use Rattle.beldi_readlog.specs.ReadLog.{kept_of}
+use Rattle.beldi_txn.specs.End.{decide_goes, decided_by}
+use Rattle.beldi_txn.specs.declared.end.EndGoes.{EndGoes}
+use Rattle.beldi_txn.specs.declared.end.EndGoes.TheVariants as ends
+use Rattle.beldi_txn.specs.declared.end.Visit.{Visit}
 use Rattle.beldi_step.specs.declared.run.Mark.{Mark}
+use Rattle.beldi_step.specs.declared.run.OpenTx.{OpenTx}
 use Rattle.beldi_step.specs.declared.run.Run.{Run}
 use Rattle.beldi_step.specs.declared.run.RunAt.{RunAt}
 use Rattle.beldi_step.specs.declared.run.RunAt.TheVariants.{Begins}
 use Rattle.beldi_step.specs.declared.run.Begun.{Begun}
 use Rattle.beldi_step.specs.declared.run.Says.{Says}
-use Rattle.beldi_step.specs.declared.run.Says.TheVariants.{On, Opens, Starts, Waits, Answers, Ends}
+use Rattle.beldi_step.specs.declared.run.Says.TheVariants.{On, Stays, Opens, Starts, Waits, Answers, Ends}
 use Rattle.beldi_step.specs.declared.run.Stage.{Stage}
+use Rattle.beldi_step.specs.declared.run.Stage.TheVariants.{Decide, End}
 use Rattle.beldi_step.specs.declared.run.TurnSays.{TurnSays}
-use Rattle.beldi_step.specs.Run.{Turned, Turns, run_told, told_at, turned_by, stage_says, mark_of, followed, goes_from, goes_to, begin_in, body_found}
+use Rattle.beldi_step.specs.Run.{Turns, run_told, told_at, turned_by, stage_says, ending_says, decided_says, visit_says, decide_here_says, end_here_says, is_end, is_at_end, at_stage, mark_if, mark_of, followed, plain_says, takes, goes_to, goes_from, begin_in, body_found}
 
-pub told_so : (d : Deployment) (changes : ℕ) (r s : Run) (g : Begun) (x : Says) (t : Told) (y : Result TurnSays (Option Mark)) → r.at ≡ Begins g → x ≡ stage_says r.id g.caller changes g.machine.steps g.machine.effect g.stage t
-    → Turns s y (turned_by d r g x) → Turns s y (run_told d changes r t)
+pub not_end : (r : Run) (g : Begun) → r.at ≡ Begins g → false ≡ is_at_end r.at → is_end g.stage ≡ false
+not_end r g at is = sym (is ∙ ap is_at_end at)
+
+pub told_so : (d : Deployment) (changes : ℕ) (r s : Run) (g : Begun) (x : Says) (t : Told) (y : Result TurnSays (Option Mark)) → r.at ≡ Begins g
+    → x ≡ stage_says r.id r.func g.caller g.tx changes g.machine.steps g.machine.effect g.stage t → Turns s y (turned_by d r g x) → Turns s y (run_told d changes r t)
 told_so d changes r s g x t y at says h = subst (λ o. Turns s y (told_at d changes r o t)) (sym at) (subst (λ z. Turns s y (turned_by d r g z)) says h)
 
 -- out of memory, the mark of its act is told
-marks : (r : Run) (m : Machine) (c : Option Caller) (k : Option Mark) (s : Option Stage) → (goes_from r m c k s).mark ≡ k
-marks r m c k None = refl
-marks r m c k (Some s) = refl
+marks : (r : Run) (p : Machine × Option OpenTx) (c : Option Caller) (k : Option Mark) (s : Option Stage) → (goes_from r p c k s).mark ≡ k
+marks r p c k None = refl
+marks r p c k (Some s) = refl
 
 turn_marks : (d : Deployment) (r : Run) (g : Begun) (x : Says) → mark_of x ≡ (turned_by d r g x).mark
 turn_marks d r g (On s m) = refl
+turn_marks d r g Stays = refl
 turn_marks d r g (Opens m) = refl
 turn_marks d r g (Starts a) = sym (marks r _ g.caller None _)
 turn_marks d r g (Waits w) = refl
 turn_marks d r g (Answers a m) = sym (marks r _ g.caller m _)
 turn_marks d r g (Ends m o) = refl
 
-pub marked_so : (d : Deployment) (changes : ℕ) (r : Run) (g : Begun) (m : Option Mark) (t : Told) → r.at ≡ Begins g → m ≡ mark_of (stage_says r.id g.caller changes g.machine.steps g.machine.effect g.stage t) → m ≡ (run_told d changes r t).mark
-marked_so d changes r g m t at is = subst (λ o. m ≡ (told_at d changes r o t).mark) (sym at) (is ∙ turn_marks d r g (stage_says r.id g.caller changes g.machine.steps g.machine.effect g.stage t))
+pub marked_so : (d : Deployment) (changes : ℕ) (r : Run) (g : Begun) (m : Option Mark) (t : Told) → r.at ≡ Begins g
+    → m ≡ mark_of (stage_says r.id r.func g.caller g.tx changes g.machine.steps g.machine.effect g.stage t) → m ≡ (run_told d changes r t).mark
+marked_so d changes r g m t at is = subst (λ o. m ≡ (told_at d changes r o t).mark) (sym at) (is ∙ turn_marks d r g (stage_says r.id r.func g.caller g.tx changes g.machine.steps g.machine.effect g.stage t))
 
--- ---- an answer
+-- ---- where a run stands is one
 abbrev begun_in : Begun → RunAt → Begun
 begun_in h (Begins g) = g
 begun_in h at = h
 
-pub answered : (d : Deployment) (r : Run) (h : Begun) (m : Machine) (k : Option Mark) (a : Answer) (z : Turned) → r.at ≡ Begins h → m ≡ resumed d h.machine a → z ≡ goes_to r m h.caller k
-    → (g : Begun) → r.at ≡ Begins g → z ≡ goes_to r (resumed d g.machine a) g.caller k
-answered d r h m k a z at is goes g there =
-    goes ∙ ap (λ n. goes_to r n h.caller k) is ∙ ap (λ (q : Begun). goes_to r (resumed d q.machine a) q.caller k) (ap (begun_in h) (sym at ∙ there))
+same_begun : (at : RunAt) (h g : Begun) → at ≡ Begins h → at ≡ Begins g → h ≡ g
+same_begun at h g this that = ap (begun_in h) (sym this ∙ that)
+
+-- ---- the end of a transaction
+-- what the stage of an end says
+ends_so : (id : IntentId) (func : ℕ) (c : Option Caller) (o : Option OpenTx) (changes step : ℕ) (e : Effect) (s : Stage) (t : Told) → is_end s ≡ true → ending_says id func o e s t ≡ stage_says id func c o changes step e s t
+ends_so id func c o changes step e (Decide m) t is = refl
+ends_so id func c o changes step e (End v) t is = refl
+ends_so id func c o changes step e s t is = cc
+
+-- out of memory, its mark is there where the decision was put now
+other_decision : (commit b : Bool) (m : Mark) → None ≡ mark_of (decided_says commit m (decided_by commit b))
+other_decision true true m = refl
+other_decision true false m = refl
+other_decision false true m = refl
+other_decision false false m = refl
+
+decision_at : (commit : Bool) (m : Mark) (t : Told) → mark_if (kept_of value.Null t).added m ≡ mark_of (decided_says commit m (decide_goes commit t))
+decision_at commit m (said added) = refl
+decision_at commit m (said (kept (value.Bool b))) = other_decision commit b m
+decision_at commit m (said (kept v)) = refl
+decision_at commit m (said x) = refl
+decision_at commit m (found e) = refl
+
+pub decision_marks : (id : IntentId) (func : ℕ) (e : Effect) (m : Mark) (o : Option OpenTx) (t : Told) (commit put : Bool) (own : OpenTx) (k : Option Mark) → e ≡ effect.End commit → o ≡ Some own → put ≡ (kept_of value.Null t).added
+    → k ≡ mark_if put m → k ≡ mark_of (decide_here_says id func e m o t)
+decision_marks id func e m o t commit put own k ends some is marked =
+    subst (λ f. k ≡ mark_of (decide_here_says id func f m o t)) (sym ends)
+    (subst (λ p. k ≡ mark_of (decide_here_says id func (effect.End commit) m p t)) (sym some) (marked ∙ ap (λ b. mark_if b m) is ∙ decision_at commit m t))
+
+-- it looks at its stage no more, as it neither waits nor stays
+abbrev leaves_stage : Says → Bool
+leaves_stage Stays = false
+leaves_stage (Waits w) = false
+leaves_stage x = true
+
+decided_leaves : (commit : Bool) (m : Mark) (g : EndGoes) → leaves_stage (decided_says commit m g) ≡ true
+decided_leaves commit m (ends.On a) = refl
+decided_leaves commit m (ends.Decided first) = refl
+decided_leaves commit m (ends.Item t k) = refl
+decided_leaves commit m (ends.Value v) = refl
+decided_leaves commit m ends.Done = refl
+
+visit_leaves : (commit : Bool) (v : Visit) (g : EndGoes) → leaves_stage (visit_says commit v g) ≡ true
+visit_leaves commit v (ends.On a) = refl
+visit_leaves commit v (ends.Decided first) = refl
+visit_leaves commit v (ends.Item t k) = refl
+visit_leaves commit v (ends.Value u) = refl
+visit_leaves commit v ends.Done = refl
+
+decide_leaves : (id : IntentId) (func : ℕ) (e : Effect) (m : Mark) (o : Option OpenTx) (t : Told) → leaves_stage (decide_here_says id func e m o t) ≡ true
+decide_leaves id func (effect.End commit) m (Some o) t = decided_leaves commit m _
+decide_leaves id func (effect.End commit) m None t = refl
+decide_leaves id func e m o t = refl
+
+end_leaves : (id : IntentId) (func : ℕ) (e : Effect) (v : Visit) (o : Option OpenTx) (t : Told) → leaves_stage (end_here_says id func e v o t) ≡ true
+end_leaves id func (effect.End commit) v (Some o) t = visit_leaves commit v _
+end_leaves id func (effect.End commit) v None t = refl
+end_leaves id func e v o t = refl
+
+ending_leaves : (id : IntentId) (func : ℕ) (o : Option OpenTx) (e : Effect) (s : Stage) (t : Told) → is_end s ≡ true → leaves_stage (ending_says id func o e s t) ≡ true
+ending_leaves id func o e (Decide m) t is = decide_leaves id func e m o t
+ending_leaves id func o e (End v) t is = end_leaves id func e v o t
+ending_leaves id func o e s t is = cc
+
+-- so it turns alike from any stage
+left_so : (d : Deployment) (r : Run) (g : Begun) (s : Stage) (x : Says) → leaves_stage x ≡ true → turned_by d (record r { at = Begins (at_stage g s) }) (at_stage g s) x ≡ turned_by d r g x
+left_so d r g s (On w m) is = refl
+left_so d r g s Stays is = cc
+left_so d r g s (Opens m) is = refl
+left_so d r g s (Starts a) is = refl
+left_so d r g s (Waits w) is = cc
+left_so d r g s (Answers a m) is = refl
+left_so d r g s (Ends m o) is = refl
+
+ended_so : (d : Deployment) (r z : Run) (g : Begun) (s : Stage) (t : Told) (y : Result TurnSays (Option Mark)) → is_end g.stage ≡ true
+    → Turns z y (turned_by d (record r { at = Begins (at_stage g s) }) (at_stage g s) (ending_says r.id r.func g.tx g.machine.effect g.stage t))
+    → (changes : ℕ) → Turns z y (turned_by d r g (stage_says r.id r.func g.caller g.tx changes g.machine.steps g.machine.effect g.stage t))
+ended_so d r z g s t y is h changes =
+    let x : Says = ending_says r.id r.func g.tx g.machine.effect g.stage t in
+    let left : Turns z y (turned_by d r g x) = subst (Turns z y) (left_so d r g s x (ending_leaves r.id r.func g.tx g.machine.effect g.stage t is)) h in
+    subst (λ w. Turns z y (turned_by d r g w)) (ends_so r.id r.func g.caller g.tx changes g.machine.steps g.machine.effect g.stage t is) left
+
+pub end_so : (d : Deployment) (r z : Run) (h : Begun) (e : Effect) (w s : Stage) (x : Says) (t : Told) (y : Result TurnSays (Option Mark)) → r.at ≡ Begins h → e ≡ h.machine.effect → w ≡ h.stage
+    → x ≡ ending_says r.id r.func h.tx e w t → Turns z y (turned_by d (record r { at = Begins (at_stage h s) }) (at_stage h s) x)
+    → (g : Begun) (changes : ℕ) → r.at ≡ Begins g → is_end g.stage ≡ true → Turns z y (turned_by d r g (stage_says r.id r.func g.caller g.tx changes g.machine.steps g.machine.effect g.stage t))
+end_so d r z h e w s x t y at effect stage says turns g changes there is =
+    let so : x ≡ ending_says r.id r.func h.tx h.machine.effect h.stage t = says ∙ ap₂ (λ f v. ending_says r.id r.func h.tx f v t) effect stage in
+    let mine : Turns z y (turned_by d (record r { at = Begins (at_stage h s) }) (at_stage h s) (ending_says r.id r.func h.tx h.machine.effect h.stage t)) =
+    subst (λ q. Turns z y (turned_by d (record r { at = Begins (at_stage h s) }) (at_stage h s) q)) so turns in
+    ended_so d r z g s t y is (subst (λ (q : Begun). Turns z y (turned_by d (record r { at = Begins (at_stage q s) }) (at_stage q s) (ending_says r.id r.func q.tx q.machine.effect q.stage t))) (same_begun r.at h g at there) mine) changes
+
+ended_marks : (d : Deployment) (r : Run) (g : Begun) (m : Option Mark) (t : Told) → is_end g.stage ≡ true → m ≡ mark_of (ending_says r.id r.func g.tx g.machine.effect g.stage t)
+    → (changes : ℕ) → m ≡ (turned_by d r g (stage_says r.id r.func g.caller g.tx changes g.machine.steps g.machine.effect g.stage t)).mark
+ended_marks d r g m t is marked changes =
+    marked ∙ ap mark_of (ends_so r.id r.func g.caller g.tx changes g.machine.steps g.machine.effect g.stage t is) ∙ turn_marks d r g (stage_says r.id r.func g.caller g.tx changes g.machine.steps g.machine.effect g.stage t)
+
+pub end_marks : (d : Deployment) (r : Run) (h : Begun) (e : Effect) (w : Stage) (m : Option Mark) (t : Told) → r.at ≡ Begins h → e ≡ h.machine.effect → w ≡ h.stage → m ≡ mark_of (ending_says r.id r.func h.tx e w t)
+    → (g : Begun) (changes : ℕ) → r.at ≡ Begins g → is_end g.stage ≡ true → m ≡ (turned_by d r g (stage_says r.id r.func g.caller g.tx changes g.machine.steps g.machine.effect g.stage t)).mark
+end_marks d r h e w m t at effect stage marked g changes there is =
+    let so : m ≡ mark_of (ending_says r.id r.func h.tx h.machine.effect h.stage t) = marked ∙ ap₂ (λ f v. mark_of (ending_says r.id r.func h.tx f v t)) effect stage in
+    ended_marks d r g m t is (subst (λ (q : Begun). m ≡ mark_of (ending_says r.id r.func q.tx q.machine.effect q.stage t)) (same_begun r.at h g at there) so) changes
+
+-- ---- an answer
+pub answered : (d : Deployment) (r z : Run) (h : Begun) (p : Machine × Option OpenTx) (a : Answer) (x : Result Bool AllocError) → r.at ≡ Begins h → p ≡ takes d h.machine h.tx a
+    → IfOk x (λ b. (at : RunAt) (mark : Option Mark) → followed z (plain_says mark b) ≡ goes_to d (record r { at = at }) p h.caller mark) → (g : Begun) → r.at ≡ Begins g
+    → IfOk x (λ b. (mark : Option Mark) → followed z (plain_says mark b) ≡ goes_to d r (takes d g.machine g.tx a) g.caller mark)
+answered d r z h p a (Ok b) at is goes g there =
+    λ mark. goes r.at mark ∙ ap (λ q. goes_to d r q h.caller mark) is ∙ ap (λ (q : Begun). goes_to d r (takes d q.machine q.tx a) q.caller mark) (same_begun r.at h g at there)
+answered d r z h p a (Err e) at is goes g there = tt
 
 -- ---- a run that finds its body
 -- where it stood counts no more

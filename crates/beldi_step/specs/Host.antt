@@ -160,6 +160,8 @@ request_next d c t f a b = (c, unbound t b)
 abbrev pub entry_of : IntentId → Mark → Entry
 entry_of id (mark.Read seen) = entry.Read id seen
 entry_of id mark.Step = entry.Step id
+entry_of id mark.Tx = entry.Tx id
+entry_of id (mark.Try p holder) = entry.Try id p holder
 
 -- the book with the entry of an act, if it made one
 abbrev pub marked : List Entry → IntentId → Option Mark → List Entry

@@ -4,9 +4,11 @@ use Rattle.beldi_value.specs.Id.{has_callees, has_no_hops, child_of}
 use Rattle.beldi_value.specs.declared.id.IntentId.{IntentId}
 use Rattle.beldi_value.specs.declared.value.Value.{Value}
 use Rattle.beldi_value.specs.declared.value.Value.TheVariants as value
+use Rattle.beldi_value.specs.declared.outcome.Cause.{Cause}
 use Rattle.beldi_value.specs.declared.outcome.Outcome.{Outcome}
 use Rattle.beldi_value.specs.declared.place.Caller.{Caller}
 use Rattle.beldi_value.specs.declared.place.Place.{Place}
+use Rattle.beldi_value.specs.declared.place.TxId.{TxId}
 use Rattle.beldi_value.specs.declared.place.Owner.TheVariants as owner
 use Rattle.beldi_tree.specs.declared.deployment.Deployment.{Deployment}
 use Rattle.beldi_tree.specs.declared.deployment.Func.{Func}
@@ -37,6 +39,15 @@ use Rattle.beldi_daal.specs.declared.cell.CellOp.TheVariants as op
 use Rattle.beldi_daal.specs.Cell.{cell_key, done_note, write_asks, write_goes, read_goes}
 use Rattle.beldi_readlog.specs.declared.read_log.Kept.{Kept}
 use Rattle.beldi_readlog.specs.ReadLog.{log_key, given_of, kept_of}
+use Rattle.beldi_txn.specs.declared.tx.TxAt.{TxAt}
+use Rattle.beldi_txn.specs.declared.tx.TxAt.TheVariants as inside
+use Rattle.beldi_txn.specs.declared.tx.TxGoes.{TxGoes}
+use Rattle.beldi_txn.specs.declared.tx.TxGoes.TheVariants as leads
+use Rattle.beldi_txn.specs.declared.end.EndGoes.{EndGoes}
+use Rattle.beldi_txn.specs.declared.end.EndGoes.TheVariants as ends
+use Rattle.beldi_txn.specs.declared.end.Visit.{Visit}
+use Rattle.beldi_txn.specs.Tx.{tx_first, tx_asks, tx_goes}
+use Rattle.beldi_txn.specs.End.{first_visit, visit_asks, end_goes, moved}
 use Rattle.beldi_invokelog.specs.declared.invoke_log.Back as told
 use Rattle.beldi_invokelog.specs.declared.invoke_log.Back.TheVariants as back
 use Rattle.beldi_invokelog.specs.InvokeLog.{back_asks, registered_asks, back_of}
@@ -59,16 +70,66 @@ use Rattle.beldi_step.specs.declared.run.Run.{Run}
 use Rattle.beldi_step.specs.declared.run.RunAt.{RunAt}
 use Rattle.beldi_step.specs.declared.run.RunAt.TheVariants.{Looks, Registers, Begins}
 use Rattle.beldi_step.specs.declared.run.Begun.{Begun}
+use Rattle.beldi_step.specs.declared.run.OpenTx.{OpenTx}
 use Rattle.beldi_step.specs.declared.run.TurnSays.{TurnSays}
 use Rattle.beldi_step.specs.declared.run.Stage.{Stage}
-use Rattle.beldi_step.specs.declared.run.Stage.TheVariants.{Ask, Walk, Keep, Write, Call, Async, Back, Tell, Close}
+use Rattle.beldi_step.specs.declared.run.Stage.TheVariants.{Ask, Walk, Keep, Write, Tx, Decide, End, Call, Async, Back, Tell, Close}
 use Rattle.beldi_step.specs.declared.run.Says.{Says}
-use Rattle.beldi_step.specs.declared.run.Says.TheVariants.{On, Opens, Starts, Waits, Answers, Ends}
+use Rattle.beldi_step.specs.declared.run.Says.TheVariants.{On, Stays, Opens, Starts, Waits, Answers, Ends}
 use Rattle.beldi_intent.specs.Intent.{look_asks, register_asks, end_asks, is_did, body_in, body_told}
 
 -- the place of a run's effect at a step
 abbrev pub place_of : IntentId → ℕ → Place
 place_of id step = record { intent = id; step = step }
+
+-- ---- transactions
+-- the transaction of a run: the one that is open
+abbrev pub own_tx : IntentId → ℕ → OpenTx → TxId
+own_tx id func o = record { intent = id; begin = o.begin; func = func }
+
+-- the cause of what was aborted in it is kept
+abbrev pub with_cause : Answer → Option OpenTx → Option OpenTx
+with_cause (answer.Aborted c) (Some o) = Some (record { begin = o.begin; cause = Some c })
+with_cause a o = o
+
+-- what is open once the effect at a step has its answer
+abbrev pub open_after : ℕ → Effect → Answer → Option OpenTx → Option OpenTx
+open_after step effect.Begin a o = Some (record { begin = step; cause = None })
+open_after step (effect.End commit) a o = None
+open_after step e a o = with_cause a o
+
+-- the mark of a transaction that leaves nothing, by the cause of what was aborted in it; where a fault ends it nothing was, and its
+-- place is that of the end
+abbrev pub try_mark : IntentId → ℕ → Option Cause → Mark
+try_mark id step (Some c) = mark.Try c.place c.holder
+try_mark id step None = mark.Try (place_of id step) None
+
+-- the mark of the decision
+abbrev pub end_mark : IntentId → ℕ → Option Cause → Bool → Mark
+end_mark id step c true = mark.Tx
+end_mark id step c false = try_mark id step c
+
+-- ---- what takes no turn
+-- the answer that takes no turn: of a Begin, and of an Abort
+abbrev pub answer_at_once : IntentId → ℕ → Effect → Option Answer
+answer_at_once id step effect.Begin = Some answer.Done
+answer_at_once id step effect.Abort = Some (answer.Aborted (record { place = place_of id step; holder = None }))
+answer_at_once id step e = None
+
+-- a machine and what is open, after an answer
+abbrev pub takes : Deployment → Machine → Option OpenTx → Answer → Machine × Option OpenTx
+takes d m o a = (resumed d m a, open_after m.steps m.effect a o)
+
+abbrev pub takes_if : Deployment → Machine → Option OpenTx → Option Answer → Machine × Option OpenTx
+takes_if d m o None = (m, o)
+takes_if d m o (Some a) = takes d m o a
+
+abbrev pub once : Deployment → IntentId → Machine × Option OpenTx → Machine × Option OpenTx
+once d id s = takes_if d s.0 s.1 (answer_at_once id s.0.steps s.0.effect)
+
+-- after a Begin comes no Begin, and after an Abort neither: so twice is enough
+abbrev pub at_once : Deployment → IntentId → Machine × Option OpenTx → Machine × Option OpenTx
+at_once d id s = once d id (once d id s)
 
 -- ---- an operation on an item
 -- the operation of an effect, and its item
@@ -122,18 +183,34 @@ abbrev pub last_stage : Option Caller → Stage
 last_stage None = Close
 last_stage (Some c) = if c.waits then Back else Tell
 
--- where an effect of an intent begins, whose caller this is; none where it is not carried out, as a call is not whose callee has no
--- id
-abbrev pub first_stage : IntentId → Option Caller → Effect → Option Stage
-first_stage id c (effect.Read t k) = Some Ask
-first_stage id c (effect.Write t k v) = Some (Write Try)
-first_stage id c (effect.CondWrite t k r o v) = Some (Write Try)
-first_stage id c (effect.Lock t k) = Some (Write Try)
-first_stage id c (effect.Unlock t k) = Some (Write Try)
-first_stage id c (effect.Call f a) = if has_callees id then Some (Call call.Open) else None
-first_stage id c (effect.Async f a) = if has_callees id then Some (Async async.Open) else None
-first_stage id c (effect.Return o) = Some (last_stage c)
-first_stage id c e = None
+-- an operation on an item begins so outside a transaction; inside, with its lock or with what was kept for it
+abbrev pub first_of : Stage → Effect → Option OpenTx → Stage
+first_of s e None = s
+first_of s e (Some o) = Tx (tx_first o.begin e)
+
+-- what is carried out outside a transaction alone
+abbrev pub first_outside : Option Stage → Option OpenTx → Option Stage
+first_outside s None = s
+first_outside s (Some o) = None
+
+-- an end begins with the decision
+abbrev pub first_end : IntentId → ℕ → Bool → Option OpenTx → Option Stage
+first_end id step commit None = None
+first_end id step commit (Some o) = Some (Decide (end_mark id step o.cause commit))
+
+-- where an effect at a step of an intent begins, by its caller and by what is open; none where it is not carried out, as a call is not
+-- whose callee has no id
+abbrev pub first_stage : IntentId → Option Caller → Option OpenTx → ℕ → Effect → Option Stage
+first_stage id c o step (effect.Read t k) = Some (first_of Ask (effect.Read t k) o)
+first_stage id c o step (effect.Write t k v) = Some (first_of (Write Try) (effect.Write t k v) o)
+first_stage id c o step (effect.CondWrite t k r u v) = Some (first_of (Write Try) (effect.CondWrite t k r u v) o)
+first_stage id c o step (effect.Lock t k) = first_outside (Some (Write Try)) o
+first_stage id c o step (effect.Unlock t k) = first_outside (Some (Write Try)) o
+first_stage id c o step (effect.Call f a) = first_outside (if has_callees id then Some (Call call.Open) else None) o
+first_stage id c o step (effect.Async f a) = first_outside (if has_callees id then Some (Async async.Open) else None) o
+first_stage id c o step (effect.End commit) = first_end id step commit o
+first_stage id c o step (effect.Return x) = Some (last_stage c)
+first_stage id c o step e = None
 
 -- ---- what is asked in the next turn. A stage of another effect, which does not come, looks at the intent's row.
 abbrev pub walk_asks : IntentId → ℕ → Effect → Query
@@ -143,6 +220,20 @@ walk_asks id func e = look_asks id func
 abbrev pub put_asks : IntentId → ℕ → ℕ → WriteAt → Option OnCell → Query
 put_asks id func step at (Some o) = write_asks (cell_key func o.table o.key) (place_of id step) (owner.Intent id) o.op at
 put_asks id func step at None = look_asks id func
+
+-- inside a transaction
+abbrev pub tx_here_asks : IntentId → ℕ → ℕ → Effect → TxAt → Option OpenTx → Query
+tx_here_asks id func step e at (Some o) = tx_asks func (place_of id step) (own_tx id func o) e at
+tx_here_asks id func step e at None = look_asks id func
+
+-- the end of a transaction
+abbrev pub end_by_asks : IntentId → ℕ → ℕ → Bool → Visit → Option OpenTx → Query
+end_by_asks id func step commit v (Some o) = visit_asks (own_tx id func o) step commit v.item v.value v.at
+end_by_asks id func step commit v None = look_asks id func
+
+abbrev pub end_here_asks : IntentId → ℕ → ℕ → Effect → Visit → Option OpenTx → Query
+end_here_asks id func step (effect.End commit) v o = end_by_asks id func step commit v o
+end_here_asks id func step e v o = look_asks id func
 
 abbrev pub call_here_asks : IntentId → ℕ → ℕ → Effect → CallAt → Query
 call_here_asks id func step (effect.Call f a) at = call_asks func (place_of id step) f at
@@ -168,21 +259,24 @@ abbrev pub close_asks : IntentId → ℕ → Effect → Query
 close_asks id func (effect.Return o) = end_asks id func o true
 close_asks id func e = look_asks id func
 
-abbrev pub stage_asks : IntentId → ℕ → Option Caller → ℕ → Effect → Stage → Query
-stage_asks id func c step e Ask = Act (log_key func (place_of id step)) Look
-stage_asks id func c step e Walk = walk_asks id func e
-stage_asks id func c step e (Keep v seen) = Act (log_key func (place_of id step)) (PutRead v)
-stage_asks id func c step e (Write at) = put_asks id func step at (cell_op e)
-stage_asks id func c step e (Call at) = call_here_asks id func step e at
-stage_asks id func c step e (Async at) = async_here_asks id func step e at
-stage_asks id func c step e Back = back_to_asks id func c e
-stage_asks id func c step e Tell = tell_asks id func c
-stage_asks id func c step e Close = close_asks id func e
+abbrev pub stage_asks : IntentId → ℕ → Option Caller → Option OpenTx → ℕ → Effect → Stage → Query
+stage_asks id func c o step e Ask = Act (log_key func (place_of id step)) Look
+stage_asks id func c o step e Walk = walk_asks id func e
+stage_asks id func c o step e (Keep v seen) = Act (log_key func (place_of id step)) (PutRead v)
+stage_asks id func c o step e (Write at) = put_asks id func step at (cell_op e)
+stage_asks id func c o step e (Tx at) = tx_here_asks id func step e at o
+stage_asks id func c o step e (Decide m) = end_here_asks id func step e first_visit o
+stage_asks id func c o step e (End v) = end_here_asks id func step e v o
+stage_asks id func c o step e (Call at) = call_here_asks id func step e at
+stage_asks id func c o step e (Async at) = async_here_asks id func step e at
+stage_asks id func c o step e Back = back_to_asks id func c e
+stage_asks id func c o step e Tell = tell_asks id func c
+stage_asks id func c o step e Close = close_asks id func e
 
 abbrev pub asks_at : Run → RunAt → Query
 asks_at r Looks = look_asks r.id r.func
 asks_at r (Registers b) = register_asks r.id b
-asks_at r (Begins g) = stage_asks r.id r.func g.caller g.machine.steps g.machine.effect g.stage
+asks_at r (Begins g) = stage_asks r.id r.func g.caller g.tx g.machine.steps g.machine.effect g.stage
 
 abbrev pub run_asks : Run → Query
 run_asks r = asks_at r r.at
@@ -224,6 +318,50 @@ abbrev pub put_says : Effect → Option Note → Told → Says
 put_says e None t = Ends None None
 put_says e (Some n) t = write_says e (write_goes n t)
 
+-- what happens inside a transaction makes no entry. A value that was kept now is the answer.
+abbrev pub put_answer : TxAt → Says
+put_answer (inside.Keep v) = Answers (answer.Value v) None
+put_answer a = Stays
+
+abbrev pub tx_says : TxAt → TxGoes → Says
+tx_says a (leads.On b) = On (Tx b) None
+tx_says a leads.Stays = Stays
+tx_says a leads.Put = put_answer a
+tx_says a (leads.Died c) = Answers (answer.Aborted c) None
+tx_says a (leads.Held o) = Waits (wait.Held o)
+tx_says a (leads.Value v) = Answers (answer.Value v) None
+tx_says a leads.Done = Answers answer.Done None
+
+abbrev pub tx_here_says : IntentId → ℕ → Effect → TxAt → Option OpenTx → Told → Says
+tx_here_says id step e a (Some o) t = tx_says a (tx_goes (place_of id step) o.begin e a t)
+tx_here_says id step e a None t = Ends None None
+
+-- the decision has its mark where this act put it
+abbrev pub decided_says : Bool → Mark → EndGoes → Says
+decided_says commit m (ends.Decided first) = On (End (moved commit first_visit (ends.Decided first))) (mark_if first m)
+decided_says commit m g = On (Decide m) None
+
+-- the end is answered when all items were given back
+abbrev pub visit_says : Bool → Visit → EndGoes → Says
+visit_says commit v ends.Done = Answers answer.Done None
+visit_says commit v g = On (End (moved commit v g)) None
+
+abbrev pub decide_by_says : IntentId → ℕ → Bool → Mark → Option OpenTx → Told → Says
+decide_by_says id func commit m (Some o) t = decided_says commit m (end_goes (own_tx id func o) commit first_visit.at t)
+decide_by_says id func commit m None t = Ends None None
+
+abbrev pub end_by_says : IntentId → ℕ → Bool → Visit → Option OpenTx → Told → Says
+end_by_says id func commit v (Some o) t = visit_says commit v (end_goes (own_tx id func o) commit v.at t)
+end_by_says id func commit v None t = Ends None None
+
+abbrev pub decide_here_says : IntentId → ℕ → Effect → Mark → Option OpenTx → Told → Says
+decide_here_says id func (effect.End commit) m o t = decide_by_says id func commit m o t
+decide_here_says id func e m o t = Ends None None
+
+abbrev pub end_here_says : IntentId → ℕ → Effect → Visit → Option OpenTx → Told → Says
+end_here_says id func (effect.End commit) v o t = end_by_says id func commit v o t
+end_here_says id func e v o t = Ends None None
+
 -- how the callee ended is the answer to the call; where it has not, the run has opened the call, or waits
 abbrev pub call_answer : IntentId → ℕ → CallSays → Says
 call_answer id step (Opened first) = Opens (mark_if first mark.Step)
@@ -262,19 +400,23 @@ close_says id c (effect.Return o) true = Ends (mark_if (not (is_waited c)) mark.
 close_says id c e b = Ends None None
 
 -- `changes` is how many changes had been made
-abbrev pub stage_says : IntentId → Option Caller → ℕ → ℕ → Effect → Stage → Told → Says
-stage_says id c changes step e Ask t = ask_says (given_of t)
-stage_says id c changes step e Walk t = walk_says changes (read_goes (Some (owner.Intent id)) t)
-stage_says id c changes step e (Keep v seen) t = keep_says seen (kept_of v t)
-stage_says id c changes step e (Write at) t = put_says e (note_done e) t
-stage_says id c changes step e (Call at) t = call_here_says id step e at t
-stage_says id c changes step e (Async at) t = async_here_says id e at t
-stage_says id c changes step e Back t = back_says (back_of t)
-stage_says id c changes step e Tell t = On Close None
-stage_says id c changes step e Close t = close_says id c e (is_did t)
+abbrev pub stage_says : IntentId → ℕ → Option Caller → Option OpenTx → ℕ → ℕ → Effect → Stage → Told → Says
+stage_says id func c o changes step e Ask t = ask_says (given_of t)
+stage_says id func c o changes step e Walk t = walk_says changes (read_goes (Some (owner.Intent id)) t)
+stage_says id func c o changes step e (Keep v seen) t = keep_says seen (kept_of v t)
+stage_says id func c o changes step e (Write at) t = put_says e (note_done e) t
+stage_says id func c o changes step e (Tx at) t = tx_here_says id step e at o t
+stage_says id func c o changes step e (Decide m) t = decide_here_says id func e m o t
+stage_says id func c o changes step e (End v) t = end_here_says id func e v o t
+stage_says id func c o changes step e (Call at) t = call_here_says id step e at t
+stage_says id func c o changes step e (Async at) t = async_here_says id e at t
+stage_says id func c o changes step e Back t = back_says (back_of t)
+stage_says id func c o changes step e Tell t = On Close None
+stage_says id func c o changes step e Close t = close_says id c e (is_did t)
 
 abbrev pub mark_of : Says → Option Mark
 mark_of (On s m) = m
+mark_of Stays = None
 mark_of (Opens m) = m
 mark_of (Starts a) = None
 mark_of (Waits w) = None
@@ -301,30 +443,35 @@ over m = record { next = None; mark = m; starts = false; wait = None; reply = No
 abbrev pub goes : Run → Begun → Option Mark → Turned
 goes r g m = record { next = Some (record r { at = Begins g }); mark = m; starts = false; wait = None; reply = None }
 
--- a run whose machine has come to its next effect; one whose effect is not carried out is over
-abbrev pub goes_from : Run → Machine → Option Caller → Option Mark → Option Stage → Turned
-goes_from r machine c m None = over m
-goes_from r machine c m (Some s) = goes r (record { machine = machine; caller = c; stage = s }) m
+-- a run whose machine has come to its next effect, with what is open; one whose effect is not carried out is over
+abbrev pub goes_from : Run → Machine × Option OpenTx → Option Caller → Option Mark → Option Stage → Turned
+goes_from r s c m None = over m
+goes_from r s c m (Some w) = goes r (record { machine = s.0; caller = c; tx = s.1; stage = w }) m
 
-abbrev pub goes_to : Run → Machine → Option Caller → Option Mark → Turned
-goes_to r machine c m = goes_from r machine c m (first_stage r.id c machine.effect)
+abbrev pub stands_at : Run → Machine × Option OpenTx → Option Caller → Option Mark → Turned
+stands_at r s c m = goes_from r s c m (first_stage r.id c s.1 s.0.steps s.0.effect)
+
+-- .. past what takes no turn
+abbrev pub goes_to : Deployment → Run → Machine × Option OpenTx → Option Caller → Option Mark → Turned
+goes_to d r s c m = stands_at r (at_once d r.id s) c m
 
 abbrev pub at_stage : Begun → Stage → Begun
-at_stage g s = record { machine = g.machine; caller = g.caller; stage = s }
+at_stage g s = record { machine = g.machine; caller = g.caller; tx = g.tx; stage = s }
 
 abbrev pub turned_by : Deployment → Run → Begun → Says → Turned
 turned_by d r g (On s m) = goes r (at_stage g s) m
+turned_by d r g Stays = goes r g None
 turned_by d r g (Opens m) = record { next = Some (record r { at = Begins (at_stage g (Call call.Look)) }); mark = m; starts = true; wait = None; reply = None }
 turned_by d r g (Waits w) = record { next = Some r; mark = None; starts = false; wait = Some w; reply = None }
-turned_by d r g (Starts a) = record (goes_to r (resumed d g.machine a) g.caller None) { starts = true }
-turned_by d r g (Answers a m) = goes_to r (resumed d g.machine a) g.caller m
+turned_by d r g (Starts a) = record (goes_to d r (takes d g.machine g.tx a) g.caller None) { starts = true }
+turned_by d r g (Answers a m) = goes_to d r (takes d g.machine g.tx a) g.caller m
 turned_by d r g (Ends m o) = record { next = None; mark = m; starts = false; wait = None; reply = o }
 
 -- a run begins a body of its function
 abbrev pub begin_in : Deployment → Run → Option Func → Option Body → Turned
 begin_in d r func None = over None
 begin_in d r None (Some b) = over None
-begin_in d r (Some func) (Some b) = goes_to r (machine_begun d r.func b.args false) b.from None
+begin_in d r (Some func) (Some b) = goes_to d r (machine_begun d r.func b.args false, None) b.from None
 
 -- the body of a run, by what it was told: that of its row, or the one that it registered now
 abbrev pub body_registered : ℕ → Body → Told → Option Body
@@ -334,7 +481,7 @@ body_registered func b t = body_told func t
 abbrev pub told_at : Deployment → ℕ → Run → RunAt → Told → Turned
 told_at d changes r Looks t = begin_in d r (func_at d r.func) (body_told r.func t)
 told_at d changes r (Registers b) t = begin_in d r (func_at d r.func) (body_registered r.func b t)
-told_at d changes r (Begins g) t = turned_by d r g (stage_says r.id g.caller changes g.machine.steps g.machine.effect g.stage t)
+told_at d changes r (Begins g) t = turned_by d r g (stage_says r.id r.func g.caller g.tx changes g.machine.steps g.machine.effect g.stage t)
 
 abbrev pub run_told : Deployment → ℕ → Run → Told → Turned
 run_told d changes r t = told_at d changes r r.at t
@@ -370,6 +517,25 @@ body_added func at = None
 abbrev pub body_found : ℕ → RunAt → Told → Option Body
 body_found func at (said added) = body_added func at
 body_found func at t = body_told func t
+
+-- what is said where no more is to say than the mark, and whether the run is over
+abbrev pub plain_says : Option Mark → Bool → TurnSays
+plain_says m b = record { mark = m; over = b; starts = false; wait = None; reply = None }
+
+-- the stages of the end of a transaction, and what they say: what they have is moved
+abbrev pub is_end : Stage → Bool
+is_end (Decide m) = true
+is_end (End v) = true
+is_end s = false
+
+abbrev pub is_at_end : RunAt → Bool
+is_at_end (Begins g) = is_end g.stage
+is_at_end at = false
+
+abbrev pub ending_says : IntentId → ℕ → Option OpenTx → Effect → Stage → Told → Says
+ending_says id func o e (Decide m) t = decide_here_says id func e m o t
+ending_says id func o e (End v) t = end_here_says id func e v o t
+ending_says id func o e s t = Ends None None
 
 -- an answer, with the run as it is after it
 abbrev pub followed : Run → TurnSays → Turned

@@ -1,30 +1,60 @@
 -- The listing of tables, as the rows have it.
-use Rattle.std.specs.Prelude.{ℕ, zero, List, [], flat_map}
+use Rattle.std.specs.Prelude.{ℕ, zero, Bool, false, List, [], Option, Some, flat_map, if◌then◌else◌}
 use Rattle.std.specs.FinMap as map
+use Rattle.beldi_value.specs.declared.place.Owner.{Owner}
+use Rattle.beldi_value.specs.declared.place.Owner.TheVariants.{Tx}
+use Rattle.beldi_value.specs.declared.place.TxId.{TxId}
 use Rattle.beldi_value.specs.declared.value.Value.{Value}
-use Rattle.beldi_value.specs.declared.value.Value.TheVariants.{Null}
+use Rattle.beldi_value.specs.declared.value.Value.TheVariants as value
 use Rattle.beldi_tree.specs.declared.deployment.Deployment.{Deployment}
 use Rattle.beldi_row.specs.declared.key.RowKey.{RowKey}
 use Rattle.beldi_row.specs.declared.key.Kind.{Kind}
 use Rattle.beldi_row.specs.declared.key.Kind.TheVariants.{Data}
 use Rattle.beldi_row.specs.declared.row.Row.{Row}
-use Rattle.beldi_row.specs.declared.row.Row.TheVariants.{Cell}
+use Rattle.beldi_row.specs.declared.row.Row.TheVariants.{Cell, ReadLog}
 use Rattle.beldi_row.specs.Table.{Rows}
+use Rattle.beldi_daal.specs.Cell.{shadow_key}
+use Rattle.beldi_readlog.specs.ReadLog.{log_key}
 use Rattle.beldi_book.specs.Text.{item_text}
+use Rattle.beldi_step.specs.Run.{place_of}
+
+-- the row of a transaction's decision, at the step that began it
+abbrev pub decision_key : TxId → RowKey
+decision_key t = log_key t.func (place_of t.intent t.begin)
+
+-- it is a commit
+abbrev pub is_committed : Option Row → Bool
+is_committed (Some (ReadLog (value.Bool b))) = b
+is_committed r = false
+
+-- the value of a cell, else this one
+abbrev pub value_in : Option Row → Value → Value
+value_in (Some (Cell c)) v = c.value
+value_in r v = v
+
+-- the value of an item that a transaction owns, by the keys of its decision and of its shadow, and the item's own value: where it is
+-- committed and has a shadow, the shadow's
+abbrev pub owned_value : Rows → RowKey → RowKey → Value → Value
+owned_value m decision shadow v = if is_committed (map.get m decision) then value_in (map.get m shadow) v else v
+
+-- the value that is shown of an item, by its owner and its own value
+abbrev pub shown_under : Rows → ℕ → ℕ → List ℕ → Option Owner → Value → Value
+shown_under m f t k (Some (Tx x)) v = owned_value m (decision_key x) (shadow_key f x t k) v
+shown_under m f t k o v = v
 
 -- an item that is null has no line
 abbrev pub value_line : Deployment → ℕ → ℕ → List ℕ → Value → List ℕ
-value_line d f t k Null = []
+value_line d f t k value.Null = []
 value_line d f t k v = item_text d f t k v
 
 -- an item is its first row
-abbrev pub line_at : Deployment → ℕ → Kind → Row → List ℕ
-line_at d f (Data t k zero) (Cell c) = value_line d f t k c.value
-line_at d f k r = []
+abbrev pub line_at : Deployment → Rows → ℕ → Kind → Row → List ℕ
+line_at d m f (Data t k zero) (Cell c) = value_line d f t k (shown_under m f t k c.owner c.value)
+line_at d m f k r = []
 
-abbrev pub row_line : Deployment → RowKey × Row → List ℕ
-row_line d e = line_at d e.0.home e.0.kind e.1
+abbrev pub row_line : Deployment → Rows → RowKey × Row → List ℕ
+row_line d m e = line_at d m e.0.home e.0.kind e.1
 
 -- a line for each item that is not null, in the order of functions, tables and the bytes of keys
 abbrev pub tables_text : Deployment → Rows → List ℕ
-tables_text d m = flat_map (row_line d) (map.entries m)
+tables_text d m = flat_map (row_line d m) (map.entries m)

@@ -1,23 +1,26 @@
 // Runs: executions of instances of functions. Each asks one thing a turn, and goes on by what it is told.
-ghost use Rattle.std.specs.Prelude.{◌≡◌, false, Some, None, IfOk};
+ghost use Rattle.std.specs.Prelude.{◌≡◌, ℕ, true, false, Option, Some, None, IfOk};
 ghost use Rattle.beldi_tree.specs.Names.{func_at};
-ghost use Rattle.beldi_lang.specs.Machine.{resumed};
 ghost use Rattle.beldi_walk.specs.Query.{told_of};
 ghost use Rattle.beldi_intent.specs.Intent.{body_in, body_told, open_body as open_body_of};
-ghost use Rattle.beldi_step.specs.Run.{run_asks, run_told, followed, begin_in, goes_to, at_stage, body_found, body_added, turned_by, Turns, callee_of, callee_run as callee_run_of};
+ghost use Rattle.beldi_step.specs.Run.{run_asks, run_told, followed, plain_says, begin_in, goes_to, takes, at_once as at_once_of, once as once_of, open_after as open_after_of, with_cause as with_cause_of, answer_at_once as answer_at_once_of, at_stage, is_end as is_end_of, is_at_end as is_at_end_of, stage_says, body_found, body_added, turned_by, Turns, callee_of, callee_run as callee_run_of};
 ghost use Rattle.beldi_step.specs.declared.run.Begun.{Begun};
+ghost use Rattle.beldi_step.specs.declared.run.Mark.{Mark};
+ghost use Rattle.beldi_step.specs.declared.run.OpenTx.{OpenTx};
 ghost use Rattle.beldi_step.specs.declared.run.RunAt.{RunAt};
 ghost use Rattle.beldi_step.specs.declared.run.RunAt.TheVariants as at;
 
 use crate::call_stage::callee_body;
 use crate::callee::Callee;
-use crate::stage::{first_stage, hear, look, stage_query};
+use crate::stage::{first_stage, hear, look, place_of, stage_query};
+use crate::tx_stage::hear_end;
 use beldi_call::{AsyncAt, CallAt};
 use beldi_daal::WriteAt;
 use beldi_intent::{open_body, register_query};
 use beldi_lang::{Answer, Deployment, Effect, Machine};
 use beldi_row::{Body, IntentRow, Row, Said};
-use beldi_value::{Caller, IntentId, Outcome, Owner, Value};
+use beldi_txn::{TxAt, Visit};
+use beldi_value::{Caller, Cause, IntentId, Outcome, Owner, Place, Value};
 use beldi_walk::{Heard, Query};
 use std::alloc::{AllocError, Global};
 use std::mem::replace;
@@ -42,12 +45,21 @@ pub enum RunAt {
     Begins(Begun),
 }
 
-/// A run that has found its body: its machine, who called it, and where it stands in the machine's effect.
+/// A run that has found its body: its machine, who called it, the transaction of its own that is open, and where it stands in
+/// the machine's effect.
 #[derive(Drop)]
 pub struct Begun {
     pub machine: Machine,
     pub caller: Option<Caller>,
+    pub tx: Option<OpenTx>,
     pub stage: Stage,
+}
+
+/// A transaction that is open: the step of its begin, and the cause of what was aborted in it.
+#[derive(Drop)]
+pub struct OpenTx {
+    pub begin: u32,
+    pub cause: Option<Cause>,
 }
 
 /// Where a run stands in an effect. What the effect is, the machine has.
@@ -61,6 +73,12 @@ pub enum Stage {
     Keep { value: Value, seen: u64 },
     /// An operation on an item stands here.
     Write(WriteAt),
+    /// An operation inside a transaction stands here.
+    Tx(TxAt),
+    /// The end of a transaction is to be decided, which leaves this mark.
+    Decide(Mark),
+    /// The end of a transaction that was decided stands here.
+    End(Visit),
     /// A call stands here.
     Call(CallAt),
     /// A call that nobody waits for stands here.
@@ -74,12 +92,45 @@ pub enum Stage {
 }
 
 /// What an act of a run puts into the book.
-#[derive(Clone, Copy)]
+#[derive(Drop)]
 pub enum Mark {
     /// The value of a read was kept that was found when so many changes had been made.
     Read(u64),
     /// A step was made.
     Step,
+    /// A transaction was committed.
+    Tx,
+    /// A transaction was aborted: at this place, by its body, by a fault, or where it met an item of the holder.
+    Try {
+        place: Place,
+        holder: Option<IntentId>,
+    },
+}
+
+impl Mark {
+    /// An equal mark.
+    pub fn copy(&self, alloc: Global) -> Result<Mark, AllocError>
+        ensures { IfOk result (λ m. m ≡ self.now) }
+    {
+        match self {
+            Mark::Read(seen) => Ok(Mark::Read(*seen)),
+            Mark::Step => Ok(Mark::Step),
+            Mark::Tx => Ok(Mark::Tx),
+            Mark::Try { place, holder } => {
+                let place = place.copy(alloc)?;
+                match holder {
+                    None => Ok(Mark::Try {
+                        place,
+                        holder: None,
+                    }),
+                    Some(holder) => Ok(Mark::Try {
+                        place,
+                        holder: Some(holder.copy(alloc)?),
+                    }),
+                }
+            }
+        }
+    }
 }
 
 /// Why a run stands.
@@ -96,6 +147,8 @@ pub enum Wait {
 pub enum Says {
     /// The effect goes on from here.
     On(Stage, Option<Mark>),
+    /// The effect goes on from where it stands.
+    Stays,
     /// The call was opened, and its callee has not ended: a run of it may start.
     Opens(Option<Mark>),
     /// The effect has this answer, and a run of its callee may start.
@@ -120,7 +173,7 @@ pub struct TurnSays {
 }
 
 fn plain(mark: Option<Mark>, over: bool) -> TurnSays
-    ensures { result ≡ record { mark = mark; over = over; starts = false; wait = None; reply = None } }
+    ensures { result ≡ plain_says mark over }
 {
     TurnSays {
         mark,
@@ -177,6 +230,116 @@ fn registered(func: u16, at: RunAt) -> Option<Body>
             None
         }
     }
+}
+
+// The answer that takes no turn: of a begin, and of an abort.
+fn answer_at_once(
+    alloc: Global,
+    id: &IntentId,
+    step: u32,
+    effect: &Effect,
+) -> Result<Option<Answer>, AllocError>
+    ensures { IfOk result (λ a. a ≡ answer_at_once_of id.now step effect.now) }
+{
+    match effect {
+        Effect::Begin => Ok(Some(Answer::Done)),
+        Effect::Abort => Ok(Some(Answer::Aborted(Cause {
+            place: place_of(alloc, id, step)?,
+            holder: None,
+        }))),
+        _ => Ok(None),
+    }
+}
+
+// The transaction that is open once the effect at a step has its answer.
+fn open_after(
+    alloc: Global,
+    step: u32,
+    effect: &Effect,
+    answer: &Answer,
+    tx: Option<OpenTx>,
+) -> Result<Option<OpenTx>, AllocError>
+    ensures { IfOk result (λ o. o ≡ open_after_of step effect.now answer.now tx) }
+{
+    match effect {
+        Effect::Begin => {
+            drop(tx);
+            Ok(Some(OpenTx {
+                begin: step,
+                cause: None,
+            }))
+        }
+        Effect::End { .. } => {
+            drop(tx);
+            Ok(None)
+        }
+        _ => with_cause(alloc, answer, tx),
+    }
+}
+
+fn with_cause(
+    alloc: Global,
+    answer: &Answer,
+    tx: Option<OpenTx>,
+) -> Result<Option<OpenTx>, AllocError>
+    ensures { IfOk result (λ o. o ≡ with_cause_of answer.now tx) }
+{
+    let Answer::Aborted(cause) = answer else {
+        return Ok(tx);
+    };
+    let Some(tx) = tx else {
+        return Ok(None);
+    };
+    let begin = tx.begin;
+    drop(tx);
+    Ok(Some(OpenTx {
+        begin,
+        cause: Some(cause.copy(alloc)?),
+    }))
+}
+
+// A machine and what is open, after an answer.
+fn take(
+    alloc: Global,
+    code: &Deployment,
+    machine: Machine,
+    tx: Option<OpenTx>,
+    answer: Answer,
+) -> Result<(Machine, Option<OpenTx>), AllocError>
+    ensures { IfOk result (λ s. s ≡ takes code.now machine tx answer) }
+{
+    let tx = open_after(alloc, machine.steps(), machine.wants(), &answer, tx)?;
+    let machine = machine.resume(alloc, code, answer)?;
+    Ok((machine, tx))
+}
+
+fn once(
+    alloc: Global,
+    code: &Deployment,
+    id: &IntentId,
+    machine: Machine,
+    tx: Option<OpenTx>,
+) -> Result<(Machine, Option<OpenTx>), AllocError>
+    ensures { IfOk result (λ s. s ≡ once_of code.now id.now (machine, tx)) }
+{
+    match answer_at_once(alloc, id, machine.steps(), machine.wants())? {
+        Some(answer) => take(alloc, code, machine, tx, answer),
+        None => Ok((machine, tx)),
+    }
+}
+
+// What takes no turn: after a begin comes no begin, and after an abort neither.
+fn at_once(
+    alloc: Global,
+    code: &Deployment,
+    id: &IntentId,
+    machine: Machine,
+    tx: Option<OpenTx>,
+) -> Result<(Machine, Option<OpenTx>), AllocError>
+    ensures { IfOk result (λ s. s ≡ at_once_of code.now id.now (machine, tx)) }
+{
+    let (machine, tx) = once(alloc, code, id, machine, tx)?;
+    once(alloc, code, id, machine, tx)
 }
 
 impl Run {
@@ -244,6 +407,9 @@ impl Run {
         ensures turns { Turns self.new result (run_told code.now changes self.old (told_of heard.entry)) }
         ensures id { self.new.id ≡ self.old.id }
     {
+        if self.is_at_end() {
+            return self.end(alloc, code, heard);
+        }
         match &self.at {
             RunAt::Begins(begun) => match hear(alloc, &self.id, begun, changes, heard) {
                 Ok(says) => self.follow(alloc, code, says),
@@ -253,6 +419,37 @@ impl Run {
                 Ok(says) => Ok(says),
                 Err(_) => Err(None),
             },
+        }
+    }
+
+    // Whether it stands at the end of a transaction.
+    fn is_at_end(&self) -> bool
+        ensures { result ≡ is_at_end_of self.now.at }
+    {
+        match &self.at {
+            RunAt::Begins(begun) => matches!(&begun.stage, Stage::Decide(_) | Stage::End(_)),
+            _ => false,
+        }
+    }
+
+    // A turn of the end of a transaction: what its stage has is moved.
+    fn end(
+        &mut self,
+        alloc: Global,
+        code: &Deployment,
+        heard: Heard<'_>,
+    ) -> Result<TurnSays, Option<Mark>>
+        ensures turns { (g : Begun) (changes : ℕ) → self.old.at ≡ at.Begins g → is_end_of g.stage ≡ true → Turns self.new result (turned_by code.now self.old g (stage_says self.old.id self.old.func g.caller g.tx changes g.machine.steps g.machine.effect g.stage (told_of heard.entry))) }
+        ensures id { self.new.id ≡ self.old.id }
+    {
+        let RunAt::Begins(begun) = &mut self.at else {
+            return Ok(plain(None, true));
+        };
+        let stage = replace(&mut begun.stage, Stage::Close);
+        let effect = begun.machine.wants();
+        match hear_end(alloc, &self.id, self.func, &begun.tx, effect, stage, heard) {
+            Ok(says) => self.follow(alloc, code, says),
+            Err(mark) => Err(mark),
         }
     }
 
@@ -297,23 +494,46 @@ impl Run {
             return Ok(plain(None, true));
         }
         let machine = Machine::new(alloc, code, self.func, body.args, false)?;
-        Ok(self.go_to(machine, body.from, None))
+        let over = self.go_to(alloc, code, machine, None, body.from)?;
+        Ok(plain(None, over))
     }
 
-    // Where it stands before counts no more.
-    fn go_to(&mut self, machine: Machine, caller: Option<Caller>, mark: Option<Mark>) -> TurnSays
-        ensures goes { (at : RunAt) → followed self.new result ≡ goes_to (record self.old { at = at }) machine caller mark }
+    // Where it stands before counts no more. It says whether the run is over.
+    fn go_to(
+        &mut self,
+        alloc: Global,
+        code: &Deployment,
+        machine: Machine,
+        tx: Option<OpenTx>,
+        caller: Option<Caller>,
+    ) -> Result<bool, AllocError>
+        ensures goes { IfOk result (λ b. (at : RunAt) (mark : Option Mark) → followed self.new (plain_says mark b) ≡ goes_to code.now (record self.old { at = at }) (machine, tx) caller mark) }
         ensures id { self.new.id ≡ self.old.id }
     {
-        match first_stage(&self.id, &caller, machine.wants()) {
-            None => plain(mark, true),
+        let (machine, tx) = at_once(alloc, code, &self.id, machine, tx)?;
+        let stage = first_stage(
+            alloc,
+            &self.id,
+            &caller,
+            &tx,
+            machine.steps(),
+            machine.wants(),
+        )?;
+        match stage {
+            None => {
+                drop(machine);
+                drop(tx);
+                drop(caller);
+                Ok(true)
+            }
             Some(stage) => {
                 self.at = RunAt::Begins(Begun {
                     machine,
                     caller,
+                    tx,
                     stage,
                 });
-                plain(mark, false)
+                Ok(false)
             }
         }
     }
@@ -332,6 +552,7 @@ impl Run {
                 self.stand(stage);
                 Ok(plain(mark, false))
             }
+            Says::Stays => Ok(plain(None, false)),
             Says::Opens(mark) => {
                 self.stand(Stage::Call(CallAt::Look));
                 Ok(TurnSays {
@@ -349,15 +570,15 @@ impl Run {
                 wait: Some(wait),
                 reply: None,
             }),
-            Says::Starts(answer) => match self.answer(alloc, code, answer, None) {
-                Ok(says) => Ok(TurnSays {
+            Says::Starts(answer) => match self.answer(alloc, code, answer) {
+                Ok(over) => Ok(TurnSays {
                     starts: true,
-                    ..says
+                    ..plain(None, over)
                 }),
                 Err(_) => Err(None),
             },
-            Says::Answers(answer, mark) => match self.answer(alloc, code, answer, mark) {
-                Ok(says) => Ok(says),
+            Says::Answers(answer, mark) => match self.answer(alloc, code, answer) {
+                Ok(over) => Ok(plain(mark, over)),
                 Err(_) => Err(mark),
             },
             Says::Ends(mark, reply) => Ok(TurnSays {
@@ -384,15 +605,14 @@ impl Run {
         alloc: Global,
         code: &Deployment,
         answer: Answer,
-        mark: Option<Mark>,
-    ) -> Result<TurnSays, AllocError>
-        ensures goes { (g : Begun) → self.old.at ≡ at.Begins g → IfOk result (λ x. followed self.new x ≡ goes_to self.old (resumed code.now g.machine answer) g.caller mark) }
+    ) -> Result<bool, AllocError>
+        ensures goes { (g : Begun) → self.old.at ≡ at.Begins g → IfOk result (λ b. (mark : Option Mark) → followed self.new (plain_says mark b) ≡ goes_to code.now self.old (takes code.now g.machine g.tx answer) g.caller mark) }
         ensures id { self.new.id ≡ self.old.id }
     {
         let RunAt::Begins(begun) = replace(&mut self.at, RunAt::Looks) else {
-            return Ok(plain(None, true));
+            return Ok(true);
         };
-        let machine = begun.machine.resume(alloc, code, answer)?;
-        Ok(self.go_to(machine, begun.caller, mark))
+        let (machine, tx) = take(alloc, code, begun.machine, begun.tx, answer)?;
+        self.go_to(alloc, code, machine, tx, begun.caller)
     }
 }

@@ -1,17 +1,19 @@
 // What a stage of a run asks, and what it says of what it was told.
-ghost use Rattle.std.specs.Prelude.{◌≡◌, Some, None, IfOk, IfErr};
+ghost use Rattle.std.specs.Prelude.{◌≡◌, ℕ, false, if◌then◌else◌, Some, None, IfOk, IfErr};
+ghost use Rattle.beldi_value.specs.Id.{has_callees};
 ghost use Rattle.beldi_value.specs.declared.value.Value.{Value};
 ghost use Rattle.beldi_value.specs.declared.place.Owner.TheVariants as owners;
 ghost use Rattle.beldi_walk.specs.Query.{told_of};
 ghost use Rattle.beldi_daal.specs.Cell.{read_goes};
 ghost use Rattle.beldi_readlog.specs.ReadLog.{given_of, kept_of};
 ghost use Rattle.beldi_intent.specs.Intent.{look_asks};
-ghost use Rattle.beldi_step.specs.Run.{stage_asks, stage_says, mark_of, first_stage as first_stage_of, note_done as note_done_of, answer_noted as answer_noted_of, cell_op, done_says, mark_if as mark_if_of, ask_says, walk_says, keep_says, put_says, place_of as place_at};
+ghost use Rattle.beldi_step.specs.Run.{stage_asks, stage_says, mark_of, is_end, first_stage as first_stage_of, first_of as first_stage_in, first_outside, first_end as first_end_of, end_mark as end_mark_of, last_stage as last_stage_of, note_done as note_done_of, answer_noted as answer_noted_of, cell_op, done_says, mark_if as mark_if_of, ask_says, walk_says, keep_says, put_says, place_of as place_at};
 
 use crate::call_stage::{
     async_here, back_query, hear_async, hear_back, hear_call, hear_close, tell_query,
 };
-use crate::run::{Begun, Mark, Says, Stage, Wait};
+use crate::run::{Begun, Mark, OpenTx, Says, Stage, Wait};
+use crate::tx_stage::{end_here, hear_tx, tx_here};
 use beldi_call::{AsyncAt, CallAt, call_query};
 use beldi_daal::{
     CellOp, ReadGoes, WriteAt, WriteGoes, cell_key, read_told, write_query, write_told,
@@ -20,7 +22,8 @@ use beldi_intent::intent_key;
 use beldi_lang::{Answer, Effect};
 use beldi_readlog::{given_told, kept_told, log_key};
 use beldi_row::{Act, Note, Said};
-use beldi_value::{Caller, IntentId, Owner, Place, Str, Value};
+use beldi_txn::{TxAt, Visit};
+use beldi_value::{Caller, Cause, IntentId, Owner, Place, Str, Value};
 use beldi_walk::{Heard, Query};
 use std::alloc::{AllocError, Global};
 
@@ -120,7 +123,7 @@ pub(crate) fn stage_query(
     func: u16,
     begun: &Begun,
 ) -> Result<Query, AllocError>
-    ensures { IfOk result (λ q. q ≡ stage_asks id.now func begun.now.caller begun.now.machine.steps begun.now.machine.effect begun.now.stage) }
+    ensures { IfOk result (λ q. q ≡ stage_asks id.now func begun.now.caller begun.now.tx begun.now.machine.steps begun.now.machine.effect begun.now.stage) }
 {
     let machine = &begun.machine;
     match (&begun.stage, machine.wants()) {
@@ -144,6 +147,16 @@ pub(crate) fn stage_query(
             let who = Owner::Intent(id.copy(alloc)?);
             let key = cell_key(alloc, func, on.table, &on.key)?;
             write_query(alloc, key, place, who, on.op, *at)
+        }
+        (Stage::Tx(at), effect) => {
+            tx_here(alloc, id, func, machine.steps(), effect, at, &begun.tx)
+        }
+        (Stage::Decide(_), effect) => {
+            let visit = Visit::first();
+            end_here(alloc, id, func, machine.steps(), effect, &visit, &begun.tx)
+        }
+        (Stage::End(visit), effect) => {
+            end_here(alloc, id, func, machine.steps(), effect, visit, &begun.tx)
         }
         (
             Stage::Call(at),
@@ -184,7 +197,7 @@ fn write_done(effect: &Effect, note: &Note, first: bool) -> Says
     }
 }
 
-// What a stage says of what it was told. Out of memory, it tells the mark of its act.
+// What a stage says of what it was told, other than that of an end. Out of memory, it tells the mark of its act.
 pub(crate) fn hear(
     alloc: Global,
     id: &IntentId,
@@ -192,8 +205,8 @@ pub(crate) fn hear(
     changes: u64,
     heard: Heard<'_>,
 ) -> Result<Says, Option<Mark>>
-    ensures ok { IfOk result (λ s. s ≡ stage_says id.now begun.now.caller changes begun.now.machine.steps begun.now.machine.effect begun.now.stage (told_of heard.entry)) }
-    ensures err { IfErr result (λ e. e ≡ mark_of (stage_says id.now begun.now.caller changes begun.now.machine.steps begun.now.machine.effect begun.now.stage (told_of heard.entry))) }
+    ensures ok { (func : ℕ) → is_end begun.now.stage ≡ false → IfOk result (λ s. s ≡ stage_says id.now func begun.now.caller begun.now.tx changes begun.now.machine.steps begun.now.machine.effect begun.now.stage (told_of heard.entry)) }
+    ensures err { (func : ℕ) → is_end begun.now.stage ≡ false → IfErr result (λ e. e ≡ mark_of (stage_says id.now func begun.now.caller begun.now.tx changes begun.now.machine.steps begun.now.machine.effect begun.now.stage (told_of heard.entry))) }
 {
     let effect = begun.machine.wants();
     match &begun.stage {
@@ -201,6 +214,18 @@ pub(crate) fn hear(
         Stage::Walk => hear_walk(alloc, id, changes, heard),
         Stage::Keep { value, seen } => hear_keep(alloc, value, *seen, heard),
         Stage::Write(_) => hear_write(alloc, effect, heard),
+        Stage::Tx(at) => {
+            hear_tx(
+                alloc,
+                id,
+                begun.machine.steps(),
+                effect,
+                at,
+                &begun.tx,
+                heard,
+            )
+        }
+        Stage::Decide(_) | Stage::End(_) => Ok(Says::Stays),
         Stage::Call(at) => hear_call(alloc, id, begun.machine.steps(), effect, *at, heard),
         Stage::Async(at) => hear_async(alloc, id, effect, *at, heard),
         Stage::Back => Ok(hear_back(heard)),
@@ -266,7 +291,7 @@ fn hear_keep(
     }
 }
 
-fn is_added(heard: &Heard<'_>) -> bool
+pub(crate) fn is_added(heard: &Heard<'_>) -> bool
     ensures { (v : Value) → result ≡ (kept_of v (told_of heard.entry.now)).added }
 {
     matches!(heard, Heard::Said(Said::Added))
@@ -289,40 +314,106 @@ fn hear_write(alloc: Global, effect: &Effect, heard: Heard<'_>) -> Result<Says, 
     }
 }
 
+// Where an operation on an item begins, outside a transaction or inside.
+fn first_of(stage: Stage, effect: &Effect, tx: &Option<OpenTx>) -> Stage
+    ensures { result ≡ first_stage_in stage effect.now tx.now }
+{
+    match tx {
+        None => stage,
+        Some(tx) => {
+            drop(stage);
+            Stage::Tx(TxAt::first(tx.begin, effect))
+        }
+    }
+}
+
+// Where a call begins, which no transaction has yet.
+fn first_call(id: &IntentId, stage: Stage, tx: &Option<OpenTx>) -> Option<Stage>
+    ensures { result ≡ first_outside (if has_callees id.now then Some stage else None) tx.now }
+{
+    if tx.is_none() && id.has_callees() {
+        return Some(stage);
+    }
+    drop(stage);
+    None
+}
+
+// The mark that the decision of a transaction is to leave.
+fn end_mark(
+    alloc: Global,
+    id: &IntentId,
+    step: u32,
+    cause: &Option<Cause>,
+    commit: bool,
+) -> Result<Mark, AllocError>
+    ensures { IfOk result (λ m. m ≡ end_mark_of id.now step cause.now commit) }
+{
+    if commit {
+        return Ok(Mark::Tx);
+    }
+    match cause {
+        Some(cause) => {
+            let Cause { place, holder } = cause.copy(alloc)?;
+            Ok(Mark::Try { place, holder })
+        }
+        None => Ok(Mark::Try {
+            place: place_of(alloc, id, step)?,
+            holder: None,
+        }),
+    }
+}
+
+fn first_end(
+    alloc: Global,
+    id: &IntentId,
+    step: u32,
+    commit: bool,
+    tx: &Option<OpenTx>,
+) -> Result<Option<Stage>, AllocError>
+    ensures { IfOk result (λ s. s ≡ first_end_of id.now step commit tx.now) }
+{
+    match tx {
+        None => Ok(None),
+        Some(tx) => Ok(Some(Stage::Decide(end_mark(alloc, id, step, &tx.cause, commit)?))),
+    }
+}
+
+fn last_stage(caller: &Option<Caller>) -> Stage
+    ensures { result ≡ last_stage_of caller.now }
+{
+    let Some(caller) = caller else {
+        return Stage::Close;
+    };
+    if caller.waits {
+        return Stage::Back;
+    }
+    Stage::Tell
+}
+
 // Where an effect begins; none where it is not carried out.
-pub(crate) fn first_stage(id: &IntentId, caller: &Option<Caller>, effect: &Effect) -> Option<Stage>
-    ensures { result ≡ first_stage_of id.now caller.now effect.now }
+pub(crate) fn first_stage(
+    alloc: Global,
+    id: &IntentId,
+    caller: &Option<Caller>,
+    tx: &Option<OpenTx>,
+    step: u32,
+    effect: &Effect,
+) -> Result<Option<Stage>, AllocError>
+    ensures { IfOk result (λ s. s ≡ first_stage_of id.now caller.now tx.now step effect.now) }
 {
     match effect {
-        Effect::Read { .. } => Some(Stage::Ask),
-        Effect::Write { .. }
-        | Effect::CondWrite { .. }
-        | Effect::Lock { .. }
-        | Effect::Unlock { .. } => Some(Stage::Write(WriteAt::Try)),
-        Effect::Call { .. } => {
-            if id.has_callees() {
-                Some(Stage::Call(CallAt::Open))
-            } else {
-                None
-            }
+        Effect::Read { .. } => Ok(Some(first_of(Stage::Ask, effect, tx))),
+        Effect::Write { .. } | Effect::CondWrite { .. } => {
+            Ok(Some(first_of(Stage::Write(WriteAt::Try), effect, tx)))
         }
-        Effect::Async { .. } => {
-            if id.has_callees() {
-                Some(Stage::Async(AsyncAt::Open))
-            } else {
-                None
-            }
-        }
-        Effect::Return(_) => match caller {
-            None => Some(Stage::Close),
-            Some(caller) => {
-                if caller.waits {
-                    Some(Stage::Back)
-                } else {
-                    Some(Stage::Tell)
-                }
-            }
+        Effect::Lock { .. } | Effect::Unlock { .. } => match tx {
+            None => Ok(Some(Stage::Write(WriteAt::Try))),
+            Some(_) => Ok(None),
         },
-        Effect::Begin | Effect::End { .. } | Effect::Abort => None,
+        Effect::Call { .. } => Ok(first_call(id, Stage::Call(CallAt::Open), tx)),
+        Effect::Async { .. } => Ok(first_call(id, Stage::Async(AsyncAt::Open), tx)),
+        Effect::End { commit } => first_end(alloc, id, step, *commit, tx),
+        Effect::Return(_) => Ok(Some(last_stage(caller))),
+        Effect::Begin | Effect::Abort => Ok(None),
     }
 }

@@ -1,0 +1,255 @@
+// The stages of an operation inside a transaction, and of its end: what they ask, and what they say of what they were told.
+ghost use Rattle.std.specs.Prelude.{◌≡◌, IfOk, IfErr};
+ghost use Rattle.beldi_walk.specs.Query.{told_of};
+ghost use Rattle.beldi_txn.specs.Tx.{tx_goes};
+ghost use Rattle.beldi_txn.specs.End.{first_visit, end_goes, moved};
+ghost use Rattle.beldi_txn.specs.declared.end.EndGoes.TheVariants as ends;
+ghost use Rattle.beldi_step.specs.Run.{mark_of, place_of as place_at, own_tx as own_tx_of, tx_here_asks, end_here_asks, put_answer as put_answer_of, tx_says as tx_says_of, tx_here_says, visit_says as visit_says_of, decide_here_says, end_here_says, ending_says};
+
+use crate::run::{Mark, OpenTx, Says, Stage, Wait};
+use crate::stage::{is_added, look, mark_if, place_of};
+use beldi_lang::{Answer, Effect};
+use beldi_txn::{EndAt, EndGoes, TxAt, TxGoes, Visit, end_query, end_told, tx_query, tx_told};
+use beldi_value::{IntentId, TxId};
+use beldi_walk::{Heard, Query};
+use std::alloc::{AllocError, Global};
+
+// The transaction of a run.
+fn own_tx(alloc: Global, id: &IntentId, func: u16, tx: &OpenTx) -> Result<TxId, AllocError>
+    ensures { IfOk result (λ x. x ≡ own_tx_of id.now func tx.now) }
+{
+    Ok(TxId {
+        intent: id.copy(alloc)?,
+        begin: tx.begin,
+        func,
+    })
+}
+
+// Asks for what an operation inside a transaction comes to next.
+pub(crate) fn tx_here(
+    alloc: Global,
+    id: &IntentId,
+    func: u16,
+    step: u32,
+    effect: &Effect,
+    at: &TxAt,
+    tx: &Option<OpenTx>,
+) -> Result<Query, AllocError>
+    ensures { IfOk result (λ q. q ≡ tx_here_asks id.now func step effect.now at.now tx.now) }
+{
+    match tx {
+        Some(tx) => {
+            let place = place_of(alloc, id, step)?;
+            let who = own_tx(alloc, id, func, tx)?;
+            tx_query(alloc, func, place, &who, effect, at)
+        }
+        None => look(alloc, id, func),
+    }
+}
+
+// Asks for what the end of a transaction comes to next.
+pub(crate) fn end_here(
+    alloc: Global,
+    id: &IntentId,
+    func: u16,
+    step: u32,
+    effect: &Effect,
+    visit: &Visit,
+    tx: &Option<OpenTx>,
+) -> Result<Query, AllocError>
+    ensures { IfOk result (λ q. q ≡ end_here_asks id.now func step effect.now visit.now tx.now) }
+{
+    match (effect, tx) {
+        (Effect::End { commit }, Some(tx)) => {
+            let who = own_tx(alloc, id, func, tx)?;
+            end_query(alloc, &who, step, *commit, visit)
+        }
+        _ => look(alloc, id, func),
+    }
+}
+
+// What happens inside a transaction makes no entry.
+pub(crate) fn hear_tx(
+    alloc: Global,
+    id: &IntentId,
+    step: u32,
+    effect: &Effect,
+    at: &TxAt,
+    tx: &Option<OpenTx>,
+    heard: Heard<'_>,
+) -> Result<Says, Option<Mark>>
+    ensures ok { IfOk result (λ s. s ≡ tx_here_says id.now step effect.now at.now tx.now (told_of heard.entry)) }
+    ensures err { IfErr result (λ e. e ≡ mark_of (tx_here_says id.now step effect.now at.now tx.now (told_of heard.entry))) }
+{
+    let Some(tx) = tx else {
+        return Ok(Says::Ends(None, None));
+    };
+    match tx_turn(alloc, id, step, tx.begin, effect, at, heard) {
+        Ok(says) => Ok(says),
+        Err(_) => Err(None),
+    }
+}
+
+fn tx_turn(
+    alloc: Global,
+    id: &IntentId,
+    step: u32,
+    begin: u32,
+    effect: &Effect,
+    at: &TxAt,
+    heard: Heard<'_>,
+) -> Result<Says, AllocError>
+    ensures { IfOk result (λ s. s ≡ tx_says_of at.now (tx_goes (place_at id.now step) begin effect.now at.now (told_of heard.entry))) }
+{
+    let place = place_of(alloc, id, step)?;
+    let goes = tx_told(alloc, &place, begin, effect, at, heard)?;
+    tx_says(alloc, at, goes)
+}
+
+fn tx_says(alloc: Global, at: &TxAt, goes: TxGoes) -> Result<Says, AllocError>
+    ensures { IfOk result (λ s. s ≡ tx_says_of at.now goes) }
+{
+    match goes {
+        TxGoes::On(at) => Ok(Says::On(Stage::Tx(at), None)),
+        TxGoes::Stays => Ok(Says::Stays),
+        TxGoes::Put => put_answer(alloc, at),
+        TxGoes::Died(cause) => Ok(Says::Answers(Answer::Aborted(cause), None)),
+        TxGoes::Held(owner) => Ok(Says::Waits(Wait::Held(owner))),
+        TxGoes::Value(value) => Ok(Says::Answers(Answer::Value(value), None)),
+        TxGoes::Done => Ok(Says::Answers(Answer::Done, None)),
+    }
+}
+
+// The value that was kept, as the answer.
+fn put_answer(alloc: Global, at: &TxAt) -> Result<Says, AllocError>
+    ensures { IfOk result (λ s. s ≡ put_answer_of at.now) }
+{
+    match at {
+        TxAt::Keep(value) => Ok(Says::Answers(Answer::Value(value.copy(alloc)?), None)),
+        _ => Ok(Says::Stays),
+    }
+}
+
+// What the stage of an end says of what it was told. Out of memory, it tells the mark of its act.
+pub(crate) fn hear_end(
+    alloc: Global,
+    id: &IntentId,
+    func: u16,
+    tx: &Option<OpenTx>,
+    effect: &Effect,
+    stage: Stage,
+    heard: Heard<'_>,
+) -> Result<Says, Option<Mark>>
+    ensures ok { IfOk result (λ s. s ≡ ending_says id.now func tx.now effect.now stage (told_of heard.entry)) }
+    ensures err { IfErr result (λ e. e ≡ mark_of (ending_says id.now func tx.now effect.now stage (told_of heard.entry))) }
+{
+    match stage {
+        Stage::Decide(mark) => hear_decision(alloc, id, func, tx, effect, mark, heard),
+        Stage::End(visit) => match hear_visit(alloc, id, func, tx, effect, visit, heard) {
+            Ok(says) => Ok(says),
+            Err(_) => Err(None),
+        },
+        stage => {
+            drop(stage);
+            Ok(Says::Ends(None, None))
+        }
+    }
+}
+
+// The mark of the decision is there before its act, so out of memory it can be told.
+fn hear_decision(
+    alloc: Global,
+    id: &IntentId,
+    func: u16,
+    tx: &Option<OpenTx>,
+    effect: &Effect,
+    mark: Mark,
+    heard: Heard<'_>,
+) -> Result<Says, Option<Mark>>
+    ensures ok { IfOk result (λ s. s ≡ decide_here_says id.now func effect.now mark tx.now (told_of heard.entry)) }
+    ensures err { IfErr result (λ e. e ≡ mark_of (decide_here_says id.now func effect.now mark tx.now (told_of heard.entry))) }
+{
+    match (effect, tx) {
+        (Effect::End { commit }, Some(tx)) => {
+            let put = is_added(&heard);
+            match end_goes_to(alloc, id, func, tx, *commit, EndAt::Decide, heard) {
+                Ok(EndGoes::Decided { first }) => Ok(Says::On(
+                    Stage::End(decided(*commit, first)),
+                    mark_if(first, mark),
+                )),
+                Ok(goes) => {
+                    drop(goes);
+                    Ok(Says::On(Stage::Decide(mark), None))
+                }
+                Err(_) => Err(mark_if(put, mark)),
+            }
+        }
+        _ => {
+            drop(mark);
+            Ok(Says::Ends(None, None))
+        }
+    }
+}
+
+fn end_goes_to(
+    alloc: Global,
+    id: &IntentId,
+    func: u16,
+    tx: &OpenTx,
+    commit: bool,
+    at: EndAt,
+    heard: Heard<'_>,
+) -> Result<EndGoes, AllocError>
+    ensures { IfOk result (λ g. g ≡ end_goes (own_tx_of id.now func tx.now) commit at (told_of heard.entry)) }
+{
+    let who = own_tx(alloc, id, func, tx)?;
+    end_told(alloc, &who, commit, at, heard)
+}
+
+// The end of a transaction that was decided.
+fn decided(commit: bool, first: bool) -> Visit
+    ensures { result ≡ moved commit first_visit (ends.Decided first) }
+{
+    let mut visit = Visit::first();
+    drop(visit.go(commit, EndGoes::Decided { first }));
+    visit
+}
+
+fn hear_visit(
+    alloc: Global,
+    id: &IntentId,
+    func: u16,
+    tx: &Option<OpenTx>,
+    effect: &Effect,
+    visit: Visit,
+    heard: Heard<'_>,
+) -> Result<Says, AllocError>
+    ensures { IfOk result (λ s. s ≡ end_here_says id.now func effect.now visit tx.now (told_of heard.entry)) }
+{
+    match (effect, tx) {
+        (Effect::End { commit }, Some(tx)) => {
+            let goes = end_goes_to(alloc, id, func, tx, *commit, visit.at, heard)?;
+            Ok(visit_says(*commit, visit, goes))
+        }
+        _ => {
+            drop(visit);
+            Ok(Says::Ends(None, None))
+        }
+    }
+}
+
+fn visit_says(commit: bool, visit: Visit, goes: EndGoes) -> Says
+    ensures { result ≡ visit_says_of commit visit goes }
+{
+    match goes {
+        EndGoes::Done => {
+            drop(visit);
+            Says::Answers(Answer::Done, None)
+        }
+        goes => {
+            let mut visit = visit;
+            drop(visit.go(commit, goes));
+            Says::On(Stage::End(visit), None)
+        }
+    }
+}
