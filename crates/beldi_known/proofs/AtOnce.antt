@@ -21,7 +21,7 @@ at_once_is id n effect.Begin a h = inl refl
 at_once_is id n effect.Abort a h = let same : answer.Aborted (record { place = place_of id n; holder = None }) ≡ a = cc in inr (refl, sym same)
 at_once_is id n e a h = cc
 
-none_of : (id : IntentId) (n : ℕ) (e : Effect) → (e ≡ effect.Begin ⊎ e ≡ effect.Abort → ⊥) → answer_at_once id n e ≡ None
+pub none_of : (id : IntentId) (n : ℕ) (e : Effect) → (e ≡ effect.Begin ⊎ e ≡ effect.Abort → ⊥) → answer_at_once id n e ≡ None
 none_of id n effect.Begin h = absurd (h (inl refl))
 none_of id n effect.Abort h = absurd (h (inr refl))
 none_of id n e h = refl
@@ -31,14 +31,14 @@ module _ (d : Deployment) (id : IntentId) where
   abbrev next : Instance → Option Answer
   next q = answer_at_once id (length q.answers) (effect_of d q)
 
-  once_none : (q : Instance) → next q ≡ None → once d id q ≡ q
+  pub once_none : (q : Instance) → next q ≡ None → once d id q ≡ q
   once_none q is = by_outcome q.outcome
     where
       by_outcome : (o : Option Outcome) → once_if d id q o ≡ q
       by_outcome None = ap (answered_if q) is
       by_outcome (Some o) = refl
 
-  once_some : (q : Instance) (a : Answer) → q.outcome ≡ None → next q ≡ Some a → once d id q ≡ answered q a
+  pub once_some : (q : Instance) (a : Answer) → q.outcome ≡ None → next q ≡ Some a → once d id q ≡ answered q a
   once_some q a none is = ap (once_if d id q) none ∙ ap (answered_if q) is
 
   -- ---- what is kept

@@ -1,70 +1,68 @@
--- What a transaction sees depends on the items alone that it got: over others that agree there its answers lead on as well.
-use Rattle.std.proofs.Common.{ℕ, Bool, true, false, ◌≡◌, ◌∙◌, List, [], ◌∷◌, Some, refl, ap, sym, ◌&&◌, ◌||◌, not, cond}
+-- What is known of an open transaction, as answers after its Begin: they leave it open, and it got what they touched.
+use Rattle.std.proofs.Common.{◌≡◌, ◌∙◌, ℕ, Bool, true, false, List, [], ◌∷◌, ◌++◌, Option, Some, None, refl, ap, sym, append-nil, append_assoc, inl, inr, ◌&&◌, ◌||◌, not}
+use Rattle.std.specs.Option.{option_map}
 use Rattle.std.specs.Ordering.{is_eq}
 use Rattle.std.proofs.lemmas.Cmp.{tied_itself}
-use Rattle.std.specs.FinMap as map
-use Rattle.std.specs.FinMap.{FinMap}
-use Rattle.beldi_value.specs.declared.value.Value.{Value}
+use Rattle.beldi_value.specs.declared.outcome.Cause.{Cause}
 use Rattle.beldi_tree.specs.declared.deployment.Deployment.{Deployment}
 use Rattle.beldi_lang.specs.declared.effect.Answer.{Answer}
 use Rattle.beldi_lang.specs.declared.effect.Effect.{Effect}
 use Rattle.beldi_lang.specs.declared.effect.Answer.TheVariants as answer
 use Rattle.beldi_lang.specs.declared.effect.Effect.TheVariants as effect
-use Rattle.beldi_plain.specs.Item.{Item, item_cmp, item_total}
-use Rattle.beldi_plain.specs.Operation.{Operation, write, sets, or_old, answer_after, touched}
-use Rattle.beldi_plain.specs.Operation as operation
-use Rattle.beldi_plain.specs.Plain.{Instance, answered, effect_of, item_of}
-use Rattle.beldi_plain.specs.Executor.{answer_by, items_by, items_on, answer_on}
-use Rattle.beldi_order.proofs.Operations.{plain_set}
-use Rattle.beldi_known.specs.Beside.{Leads, IsAnsweredInside, items_inside}
-use Rattle.beldi_known.specs.Known.{is_item}
+use Rattle.beldi_plain.specs.Item.{Item, item_total}
+use Rattle.beldi_plain.specs.Operation.{touched}
 use Rattle.beldi_plain.specs.Piece.{is_aborted}
-use Rattle.beldi_tree.specs.Bindings.{or_null}
+use Rattle.beldi_plain.specs.Plain.{Instance, answered, effect_of, item_of}
+use Rattle.beldi_order.specs.Inside.{Items, Leads, answer_inside, next_items, answered_all, TouchedIn}
+use Rattle.beldi_order.proofs.Beside.{plain_answer}
+use Rattle.beldi_order.proofs.Maps.{same_some}
+use Rattle.beldi_order.proofs.Pieces.{answered_more}
+use Rattle.beldi_known.specs.Beside.{OpenTx, last_of}
+use Rattle.beldi_known.specs.Known.{is_item}
 
-abbrev pub Agree : FinMap item_cmp Value → FinMap item_cmp Value → Item → Type 0
-Agree f g x = or_null (map.get f x) ≡ or_null (map.get g x)
+-- ---- as one list of answers
+pub all_at : (q : Instance) (xs : List Answer) → answered_all q xs ≡ record q { answers = q.answers ++ xs }
+all_at q [] = ap (λ ts. record q { answers = ts }) (sym (append-nil q.answers))
+all_at q (a ∷ xs) = all_at (answered q a) xs ∙ ap (λ ts. record q { answers = ts }) (append_assoc q.answers (a ∷ []) xs)
 
--- an operation on the item is answered among these, and did not die
+abbrev pub later_of : {d : Deployment} {items : Items} {q : Instance} {k : Option Instance} → OpenTx d items q k → List Answer
+later_of at = at.rest ++ last_of at.fell
+
+pub known_all : (d : Deployment) (items : Items) (q : Instance) (k : Option Instance) (at : OpenTx d items q k) → k ≡ Some (record q { answers = (q.answers ++ answer.Done ∷ []) ++ later_of at })
+known_all d items q k at = at.known ∙ ap (λ z. Some z) (sym (answered_more (answered q answer.Done) at.rest (last_of at.fell)) ∙ all_at (answered q answer.Done) (later_of at))
+
+-- ---- they leave the Begin open: each is to another effect, or was aborted
+abbrev pub stays_open : Effect → Answer → Bool
+stays_open e (answer.Aborted c) = true
+stays_open effect.Begin a = false
+stays_open (effect.End c) a = false
+stays_open e a = true
+
+abbrev pub AllOpen : Deployment → Instance → List Answer → Type 0
+AllOpen d q [] = Unit {0}
+AllOpen d q (a ∷ rest) = (stays_open (effect_of d q) a ≡ true) × AllOpen d (answered q a) rest
+
+plain_open : (m : Items) (func : ℕ) (e : Effect) (a : Answer) → answer_inside m func e ≡ Some a → stays_open e a ≡ true
+plain_open m func (effect.Read t k) a h = ap (stays_open (effect.Read t k)) (sym (same_some h))
+plain_open m func (effect.Write t k v) a h = ap (stays_open (effect.Write t k v)) (sym (same_some h))
+plain_open m func (effect.CondWrite t k r o v) a h = ap (stays_open (effect.CondWrite t k r o v)) (sym (same_some h))
+plain_open m func e a h = cc
+
+leads_open : (d : Deployment) (m : Items) (q : Instance) (rest : List Answer) (n : Items) (fell : Option Cause) → Leads d m q rest n → AllOpen d q (rest ++ last_of fell)
+leads_open d m q [] n None h = tt
+leads_open d m q [] n (Some c) h = (refl, tt)
+leads_open d m q (a ∷ rest) n fell h = (plain_open m q.func (effect_of d q) a h.0, leads_open d (next_items d m q) (answered q a) rest n fell h.1)
+
+pub all_open : (d : Deployment) (items : Items) (q : Instance) (k : Option Instance) (at : OpenTx d items q k) → AllOpen d (answered q answer.Done) (later_of at)
+all_open d items q k at = leads_open d items (answered q answer.Done) at.rest at.sees at.fell at.leads
+
+-- ---- what they got: an operation on the item is answered among these, and did not die
 abbrev pub gets : Deployment → Instance → List Answer → Item → Bool
 gets d q [] x = false
 gets d q (a ∷ rest) x = (is_item x q.func (touched (effect_of d q)) && not (is_aborted a)) || gets d (answered q a) rest x
 
--- they lead over the other items to what agrees as well
-pub record LeadsTo (d : Deployment) (q : Instance) (rest : List Answer) (items sees : FinMap item_cmp Value) (G : Item → Type 0) : Type 0 where
-  pub to : FinMap item_cmp Value
-  pub leads : Leads d q rest items to
-  pub agree : (x : Item) → G x → Agree sees to x
-
-item_self : (f t : ℕ) (k : List ℕ) → is_item (record { func = f; table = t; key = k }) f (Some (t, k)) ≡ true
+pub item_self : (f t : ℕ) (k : List ℕ) → is_item (record { func = f; table = t; key = k }) f (Some (t, k)) ≡ true
 item_self f t k = ap is_eq (tied_itself item_total (record { func = f; table = t; key = k }))
-
--- an operation on an item that agrees
-agree_on : (f g : FinMap item_cmp Value) (y x : Item) (o : Operation) → Agree f g y → Agree f g x → Agree (items_on f y o) (items_on g y o) x
-agree_on f g y x o own h =
-    plain_set f y x (sets o (or_null (map.get f y))) ∙ (λ i. cond (is_eq (item_cmp x y)) (or_old (sets o (own i)) (own i)) (h i)) ∙ sym (plain_set g y x (sets o (or_null (map.get g y))))
-
-module _ (G : Item → Type 0) (f g : FinMap item_cmp Value) (agree : (x : Item) → G x → Agree f g x) (q : Instance) where
-  Same : Effect → Answer → Type 0
-  Same e a = (answer_by g q e ≡ Some a) × ((x : Item) → G x → Agree (items_by f q e) (items_by g q e) x)
-
-  on_item : (t : ℕ) (k : List ℕ) (o : Operation) (a : Answer) → G (item_of q t k) → Some (answer_on f (item_of q t k) o) ≡ Some a → (Some (answer_on g (item_of q t k) o) ≡ Some a) × ((x : Item) → G x → Agree (items_on f (item_of q t k) o) (items_on g (item_of q t k) o) x)
-  on_item t k o a got h = let y = item_of q t k in (ap (λ w. Some (answer_after o w)) (sym (agree y got)) ∙ h, λ x in_g. agree_on f g y x o (agree y got) (agree x in_g))
-
-  step_agrees : (e : Effect) (a : Answer) → ((x : Item) → is_item x q.func (touched e) ≡ true → G x) → answer_by f q e ≡ Some a → Same e a
-  unfolding Same
-  step_agrees (effect.Read t k) a got h = (ap (λ w. Some (answer.Value w)) (sym (agree (item_of q t k) (got (item_of q t k) (item_self q.func t k)))) ∙ h, agree)
-  step_agrees (effect.Write t k v) a got h = on_item t k (write v) a (got (item_of q t k) (item_self q.func t k)) h
-  step_agrees (effect.CondWrite t k r o v) a got h = on_item t k (operation.cond r o v) a (got (item_of q t k) (item_self q.func t k)) h
-  step_agrees (effect.Lock t k) a got h = (h, agree)
-  step_agrees (effect.Unlock t k) a got h = (h, agree)
-  step_agrees e a got h = cc
-
-  inside_agrees : (e : Effect) (a : Answer) → ((x : Item) → (is_item x q.func (touched e) && not (is_aborted a)) ≡ true → G x) → IsAnsweredInside f q e a → IsAnsweredInside g q e a × ((x : Item) → G x → Agree (items_inside f q e a) (items_inside g q e a) x)
-  unfolding Same
-  inside_agrees e (answer.Aborted c) got h = (tt, agree)
-  inside_agrees e answer.Done got h = step_agrees e answer.Done (λ x on. got x (ap (λ b. b && true) on)) h
-  inside_agrees e (answer.Value v) got h = step_agrees e (answer.Value v) (λ x on. got x (ap (λ b. b && true) on)) h
-  inside_agrees e (answer.Fault c) got h = step_agrees e (answer.Fault c) (λ x on. got x (ap (λ b. b && true) on)) h
 
 pub or_first : (a b : Bool) → a ≡ true → (a || b) ≡ true
 or_first true b h = refl
@@ -74,10 +72,12 @@ or_second : (a b : Bool) → b ≡ true → (a || b) ≡ true
 or_second true b h = refl
 or_second false b h = h
 
-pub leads_agree : (d : Deployment) (G : Item → Type 0) (q : Instance) (rest : List Answer) (f g sees : FinMap item_cmp Value) → Leads d q rest f sees → ((x : Item) → gets d q rest x ≡ true → G x) → ((x : Item) → G x → Agree f g x) → LeadsTo d q rest g sees G
-leads_agree d G q [] f g sees h got agree = record { to = g; leads = refl; agree = λ x in_g. ap (λ z. or_null (map.get z x)) h ∙ agree x in_g }
-leads_agree d G q (a ∷ rest) f g sees h got agree =
-    let e = effect_of d q in
-    let k = inside_agrees G f g agree q e a (λ x on. got x (or_first (is_item x q.func (touched e) && not (is_aborted a)) (gets d (answered q a) rest x) on)) h.0 in
-    let z = leads_agree d G (answered q a) rest (items_inside f q e a) (items_inside g q e a) sees h.1 (λ x on. got x (or_second (is_item x q.func (touched e) && not (is_aborted a)) (gets d (answered q a) rest x) on)) k.1 in
-    record { to = z.to; leads = (k.0, z.leads); agree = z.agree }
+on_item : (q : Instance) (o : Option (ℕ × List ℕ)) (x : Item) → option_map (λ o. item_of q o.0 o.1) o ≡ Some x → is_item x q.func o ≡ true
+on_item q None x h = cc
+on_item q (Some o) x h = ap (λ y. is_item y q.func (Some o)) (sym (same_some h)) ∙ item_self q.func o.0 o.1
+
+pub touched_gets : (d : Deployment) (m : Items) (q : Instance) (rest last : List Answer) (n : Items) (x : Item) → Leads d m q rest n → TouchedIn d q rest x → gets d q (rest ++ last) x ≡ true
+touched_gets d m q [] last n x h t = absurd t
+touched_gets d m q (a ∷ rest) last n x h (inl t) = or_first (is_item x q.func (touched (effect_of d q)) && not (is_aborted a)) (gets d (answered q a) (rest ++ last) x)
+    ((λ i. on_item q (touched (effect_of d q)) x t i && not (plain_answer m q.func (effect_of d q) a h.0 i)))
+touched_gets d m q (a ∷ rest) last n x h (inr t) = or_second (is_item x q.func (touched (effect_of d q)) && not (is_aborted a)) (gets d (answered q a) (rest ++ last) x) (touched_gets d (next_items d m q) (answered q a) rest last n x h.1 t)

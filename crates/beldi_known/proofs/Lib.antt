@@ -8,6 +8,7 @@ pub mod Behind
 pub mod Callees
 pub mod Calls
 pub mod Deaths
+pub mod Decided
 pub mod Decides
 pub mod Example
 pub mod Flows
@@ -16,6 +17,7 @@ pub mod FrameAt
 pub mod Fronts
 pub mod Goes
 pub mod Inside
+pub mod Insides
 pub mod Instances
 pub mod Intents
 pub mod Leads
@@ -23,6 +25,8 @@ pub mod Lists
 pub mod Locks
 pub mod Nothing
 pub mod OneFunction
+pub mod Opened
+pub mod Opens
 pub mod Operations
 pub mod Outside
 pub mod Owners
@@ -31,5 +35,7 @@ pub mod Phases
 pub mod ReadLists
 pub mod Rows
 pub mod Sanes
+pub mod Sees
 pub mod Sets
+pub mod Shadows
 pub mod Told

@@ -15,13 +15,12 @@ use Rattle.beldi_row.specs.declared.key.Kind.TheVariants as kinds
 use Rattle.beldi_row.specs.declared.row.Row.{Row}
 use Rattle.beldi_row.proofs.Gets.{got as row_got, key_same}
 use Rattle.beldi_daal.specs.Content.{Content, content_in}
-use Rattle.beldi_readlog.specs.ReadLog.{log_key}
 use Rattle.beldi_plain.specs.Item.{Item}
-use Rattle.beldi_step.specs.Run.{place_of}
+use Rattle.beldi_step.specs.Tables.{decision_key, is_committed, value_in}
 use Rattle.beldi_known.specs.Contents.{head_key, content_of, shadow_key}
 use Rattle.beldi_known.proofs.Locks.{owned_is}
 use Rattle.beldi_known.proofs.Acts.{kinds_apart, is_data, is_shadow, content_apart, content_here, by_item, turned, shadow_same}
-use Rattle.beldi_known.specs.Listed.{is_committed, value_in, listed_under, listed}
+use Rattle.beldi_known.specs.Listed.{listed_under, listed}
 use Rattle.beldi_known.proofs.Sets.{is_log as is_row_log}
 
 abbrev pub is_log : Kind → Bool
@@ -31,10 +30,6 @@ is_log k = false
 -- a row that was set at a key of another kind
 pub elsewhere : (m : Rows) (k : RowKey) (v : Option Row) (f : Kind → Bool) (l : RowKey) → f l.kind ≡ true → f k.kind ≡ false → map.get (set_row m k v) l ≡ map.get m l
 elsewhere m k v f l h g = row_got m k l v ∙ ap (λ b. cond b v (map.get m l)) (kinds_apart f l k h g)
-
--- the decision row of a transaction
-abbrev pub decision_key : TxId → RowKey
-decision_key t = log_key t.func (place_of t.intent t.begin)
 
 -- what is listed of an item, where what it holds, its shadows and the decisions are the same
 pub lists_same : (m n : Rows) (x : Item) → content_of n x ≡ content_of m x → ((t : TxId) → map.get n (decision_key t) ≡ map.get m (decision_key t)) → ((t : TxId) → map.get n (shadow_key t x) ≡ map.get m (shadow_key t x)) → listed n x ≡ listed m x

@@ -21,7 +21,8 @@ use Rattle.beldi_known.specs.Beside.{is_begin}
 use Rattle.beldi_known.specs.Contents.{shadow_key}
 use Rattle.beldi_known.specs.Known.{Known, tx_end, ended_by}
 use Rattle.beldi_order.specs.Txs.{txs_after, tx_by, tx_now, or_own}
-use Rattle.beldi_known.specs.Listed.{is_committed, value_in, listed_under}
+use Rattle.beldi_step.specs.Tables.{is_committed, value_in}
+use Rattle.beldi_known.specs.Listed.{listed_under}
 use Rattle.beldi_known.specs.Matches.{Matches}
 use Rattle.beldi_known.proofs.Answers.{true_false}
 use Rattle.beldi_known.proofs.Frame.{fits}

@@ -34,9 +34,10 @@ use Rattle.beldi_known.proofs.Frame.{fits_at}
 use Rattle.beldi_known.proofs.Locks.{tx_same}
 use Rattle.beldi_known.proofs.Acts.{kinds_apart, is_data, is_shadow, content_apart}
 use Rattle.beldi_known.specs.Beside.{is_begin}
-use Rattle.beldi_known.specs.Listed.{is_committed, value_in, listed_under, listed}
+use Rattle.beldi_step.specs.Tables.{decision_key, is_committed, value_in}
+use Rattle.beldi_known.specs.Listed.{listed_under, listed}
 use Rattle.beldi_known.proofs.OneFunction.{own_by}
-use Rattle.beldi_known.proofs.Lists.{elsewhere, decision_key}
+use Rattle.beldi_known.proofs.Lists.{elsewhere}
 
 pub both : (u v : Bool) → (u && v) ≡ true → (u ≡ true) × (v ≡ true)
 both true v h = (refl, h)
@@ -64,11 +65,12 @@ gathered g given (c ∷ rest) b h = elim (gathered g (given ++ c ∷ []) rest (b
 -- ---- what a transaction got, it got after its Begin
 pub record Since (j : IntentId) (z : Instance) (t : TxId) : Type 0 where
   pub own : t.intent ≡ j
+  pub func_is : t.func ≡ z.func
   pub before : t.begin < length z.answers
 
 module _ (d : Deployment) (t : TxId) (x : Item) (j : IntentId) (z : Instance) (none : z.within ≡ None) where
   -- an operation of it, after these answers
-  operation : (ts : List Answer) → is_on t x z.func (tx_after d j z ts) (effect_after d z ts) ≡ true → (t.intent ≡ j) × (t.begin < length ts)
+  operation : (ts : List Answer) → is_on t x z.func (tx_after d j z ts) (effect_after d z ts) ≡ true → (t.intent ≡ j) × (t.func ≡ z.func) × (t.begin < length ts)
   operation ts h = by_tx (tx_by j z.func (length ts) (effect_after d z ts) (txs_after d z ts).begun) refl
       (sym (ap (λ w. is_tx t (or_own w (tx_by j z.func (length ts) (effect_after d z ts) (txs_after d z ts).begun)) && is_item x z.func (touched (effect_after d z ts))) none) ∙ h)
     where
@@ -76,23 +78,23 @@ module _ (d : Deployment) (t : TxId) (x : Item) (j : IntentId) (z : Instance) (n
       no_begin effect.Begin g = cc
       no_begin e g = refl
 
-      by_tx : (o : Option TxId) → tx_by j z.func (length ts) (effect_after d z ts) (txs_after d z ts).begun ≡ o → (is_tx t o && is_item x z.func (touched (effect_after d z ts))) ≡ true → (t.intent ≡ j) × (t.begin < length ts)
+      by_tx : (o : Option TxId) → tx_by j z.func (length ts) (effect_after d z ts) (txs_after d z ts).begun ≡ o → (is_tx t o && is_item x z.func (touched (effect_after d z ts))) ≡ true → (t.intent ≡ j) × (t.func ≡ z.func) × (t.begin < length ts)
       by_tx None e g = cc
       by_tx (Some s) e g =
           let p = both (is_tx t (Some s)) (is_item x z.func (touched (effect_after d z ts))) g in
           let k = own_by j z.func (length ts) (effect_after d z ts) (txs_after d z ts).begun s (no_begin (effect_after d z ts) p.1) e in
           let same = tx_same t s p.0 in
-          (ap (λ (y : TxId). y.intent) same ∙ k.intent, subst (λ (y : TxId). y.begin < length ts) (sym same) ((fits_at d z ts).before s.begin k.begun))
+          (ap (λ (y : TxId). y.intent) same ∙ k.intent, ap (λ (y : TxId). y.func) same ∙ k.func_is, subst (λ (y : TxId). y.begin < length ts) (sym same) ((fits_at d z ts).before s.begin k.begun))
 
   pub got_since : (b : Bool) → got_by d t x j b (Some z) ≡ true → Since j z t
   got_since b h = by_before (got_before d t x j z) refl h
     where
       by_before : (u : Bool) → got_before d t x j z ≡ u → (u || (b && is_on t x z.func (tx_now d j z) (effect_of d z))) ≡ true → Since j z t
-      by_before false e g = let p = operation z.answers (both b (is_on t x z.func (tx_now d j z) (effect_of d z)) g).1 in record { own = p.0; before = p.1 }
+      by_before false e g = let p = operation z.answers (both b (is_on t x z.func (tx_now d j z) (effect_of d z)) g).1 in record { own = p.0; func_is = p.1; before = p.2 }
       by_before true e g = elim (gathered (λ ts c. is_on t x z.func (tx_after d j z ts) (effect_after d z ts) && not (is_aborted c)) [] z.answers false e) [
         | inl k ↦ cc
         | inr k ↦ let p = operation k.before (both (is_on t x z.func (tx_after d j z k.before) (effect_after d z k.before)) (not (is_aborted k.answer)) k.holds).0 in
-            let l = length-append k.before (k.answer ∷ k.later) in let n = ap length k.parts in let q = p.1 in record { own = p.0; before = omega (arith, l, n, q) }
+            let l = length-append k.before (k.answer ∷ k.later) in let n = ap length k.parts in let q = p.2 in record { own = p.0; func_is = p.1; before = omega (arith, l, n, q) }
       ]
 
 -- ---- PutRead of a read at the front

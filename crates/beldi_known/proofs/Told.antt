@@ -63,11 +63,11 @@ write_parts p w v c x h =
     (k.0, sym (ap (λ z. z.0) (past_owner c x (other_owner w c.owner) r did k.1 (λ m e. cc)).1))
 
 pub test_parts : (p : Place) (w : Owner) (u : Rel) (y v : Value) (c x : Content) (b : Bool) → test_on p w u y v c ≡ (x, tested b)
-    → (note_at c.notes p ≡ None) × (x ≡ record { value = (if passes c.value u y then v else c.value); owner = c.owner; notes = c.notes ++ (p, notes.Cond b) ∷ [] })
+    → (note_at c.notes p ≡ None) × (x ≡ record { value = (if passes c.value u y then v else c.value); owner = c.owner; notes = c.notes ++ (p, notes.Cond b) ∷ [] }) × (passes c.value u y ≡ b)
 test_parts p w u y v c x b h =
     let r : Content × Told = (record { value = (if passes c.value u y then v else c.value); owner = c.owner; notes = c.notes ++ (p, notes.Cond (passes c.value u y)) ∷ [] }, tested (passes c.value u y)) in
     let k = past_note c x (note_at c.notes p) (held_or c (other_owner w c.owner) r) (tested b) h (λ m e. cc) in
     let g = (past_owner c x (other_owner w c.owner) r (tested b) k.1 (λ m e. cc)).1 in
     let e = ap (λ z. z.1) g in
     let same : passes c.value u y ≡ b = cc in
-    (k.0, sym (ap (λ z. z.0) g) ∙ ap (λ z. record { value = (if passes c.value u y then v else c.value); owner = c.owner; notes = c.notes ++ (p, notes.Cond z) ∷ [] }) same)
+    (k.0, sym (ap (λ z. z.0) g) ∙ ap (λ z. record { value = (if passes c.value u y then v else c.value); owner = c.owner; notes = c.notes ++ (p, notes.Cond z) ∷ [] }) same, same)

@@ -26,7 +26,7 @@ use Rattle.beldi_plain.specs.Operation.{OnItem, op_of, touched}
 use Rattle.beldi_plain.specs.Piece.{is_aborted}
 use Rattle.beldi_plain.specs.Plain.{Instance, answered, effect_of}
 use Rattle.beldi_order.specs.Txs.{effect_after, along, end_of, tx_after, tx_now}
-use Rattle.beldi_step.specs.Run.{place_of}
+pub use Rattle.beldi_step.specs.Run.{answer_at_once}
 use Rattle.beldi_known.specs.Owed.{note_of, value_for, called_by}
 
 -- what is known of the instances
@@ -34,12 +34,6 @@ abbrev pub Known : Type 0
 Known = FinMap id_cmp Instance
 
 -- ---- what takes no turn
--- the answer that takes no turn: of a Begin, and of an Abort
-abbrev pub answer_at_once : IntentId → ℕ → Effect → Option Answer
-answer_at_once id n effect.Begin = Some answer.Done
-answer_at_once id n effect.Abort = Some (answer.Aborted (record { place = place_of id n; holder = None }))
-answer_at_once id n e = None
-
 -- nothing follows an outcome
 abbrev pub once_if : Deployment → IntentId → Instance → Option Outcome → Instance
 once_if d id q None = answered_if q (answer_at_once id (length q.answers) (effect_of d q))

@@ -2,6 +2,7 @@ pub mod Acts
 pub mod Beside
 pub mod Contents
 pub mod Frame
+pub mod InsideLaws
 pub mod Known
 pub mod Listed
 pub mod Laws
@@ -10,3 +11,4 @@ pub mod Operations
 pub mod Owed
 pub mod Rows
 pub mod Sane
+pub mod Shadows

@@ -1,5 +1,6 @@
 // The laws of what is known.
 ghost use Rattle.beldi_known.specs.Laws.{OneAnswerMore, OpenHasNotEnded, EndsStay, StaysSane, RunsStayBehind, ReadsAreKnown, DecisionsAreKnown, InsideIsKnown, CallsAreKnown, SentAreKnown, LocksetsKeep, LocksKeep, DeathsKeep, ReadsKeep, WritesKeep, TestsKeep, ShadowsKeep, DecisionsKeep, ReleasesKeep, OperationsKeep, ReadsOutsideKeep, AnsweredKeep, OpenedKeep, ReturnsKeep, BoundKeep, EndedKeep, TransactionsNest, AbortsReturn, AtOnceCloses, BoundIsSane, AnsweredIsSane, OperatedIsSane, DiedIsSane, CalledIsSane, SentIsSane, ReturnedIsSane, EndedIsSane, LocksAreAhead, LocksStayAhead, OthersAreUnlocked, AbsentAreChildless, NowIsOpen, DecidedAreOver, EndsAreAlone, OwnersHoldNone, DeathsAreOlder, NothingIsRight, EffectsAreSane};
+ghost use Rattle.beldi_known.specs.InsideLaws.{ReadsGo, DeathsGo, WritesGo, TestsGo, FirstRowsGo, RowsGo, CommitsArePieces, AbortsAreTries, ReleasesList};
 
 /// An answer more, and what takes no turn after it, change what an instance owes at the place of that answer alone.
 pub fn one_answer_more()
@@ -239,4 +240,49 @@ pub fn deaths_are_older()
 /// At the start nothing is known, no lock is ahead and no row is there, and all that matches.
 pub fn nothing_is_right()
     ensures { NothingIsRight }
+{}
+
+/// A read inside is answered by what its transaction sees, and what shadows show is kept.
+pub fn reads_go()
+    ensures { ReadsGo }
+{}
+
+/// So it is by a death.
+pub fn deaths_go()
+    ensures { DeathsGo }
+{}
+
+/// So it is by a write of a shadow.
+pub fn writes_go()
+    ensures { WritesGo }
+{}
+
+/// So it is by a test of a shadow.
+pub fn tests_go()
+    ensures { TestsGo }
+{}
+
+/// So it is by the first row of a shadow.
+pub fn first_rows_go()
+    ensures { FirstRowsGo }
+{}
+
+/// So it is by rows that are no shadows, and by locks that are taken.
+pub fn rows_go()
+    ensures { RowsGo }
+{}
+
+/// A decision to commit is the piece of its transaction, and lists what that leaves.
+pub fn commits_are_pieces()
+    ensures { CommitsArePieces }
+{}
+
+/// A decision not to commit is the try of its transaction, and leaves what is listed.
+pub fn aborts_are_tries()
+    ensures { AbortsAreTries }
+{}
+
+/// A release leaves the values that are listed.
+pub fn releases_list()
+    ensures { ReleasesList }
 {}

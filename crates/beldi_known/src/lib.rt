@@ -1,7 +1,8 @@
 //! What is known of each instance: the answers that the rows hold, inside transactions and outside. It has no code.
 //! It stands on the plain machine and on the step of the host. Its definitions: `specs/Known` (what an instance owes the
 //! rows, by its answers), `specs/Matches` (rows that match what is known), `specs/Sane` (instances that went as their
-//! bodies want), `specs/Beside` (what is known beside the plain state), `specs/Listed` (the value that is listed),
+//! bodies want), `specs/Beside` (what is known beside the plain state),
+//! `specs/Shadows` (what shadows show of it), `specs/Listed` (the value that is listed),
 //! `specs/Acts` (the acts inside a transaction), `specs/Frame` (an answer more), `specs/Laws` (the laws).
 //!
 //! Proved:
@@ -26,18 +27,23 @@
 //!   So who lets an operation inside die is older than its transaction (`deaths_are_older`).
 //! - A lock that is ahead is that of an instance at an operation inside, and of nobody else (`locks_are_ahead`,
 //!   `locks_stay_ahead`, `others_are_unlocked`). At the start all that holds (`nothing_is_right`).
+//! - Each act inside keeps what the shadows of open transactions show, and what is known stays beside the plain state
+//!   (`reads_go`, `deaths_go`, `writes_go`, `tests_go`, `first_rows_go`, `rows_go`). A decision to commit is the piece of its
+//!   transaction, and lists what that leaves (`commits_are_pieces`); one not to commit is its try, and leaves what is
+//!   listed (`aborts_are_tries`), as a release does (`releases_list`).
 #![tactic(auto)]
 
 mod laws;
 
 pub use laws::{
-    aborts_return, absent_are_childless, answered_is_sane, answered_keep, at_once_closes,
-    bound_is_sane, bound_keep, called_is_sane, calls_are_known, deaths_are_older, deaths_keep,
-    decided_are_over, decisions_are_known, decisions_keep, died_is_sane, effects_are_sane,
-    ended_is_sane, ended_keep, ends_are_alone, ends_stay, inside_is_known, locks_are_ahead,
-    locks_keep, locks_stay_ahead, locksets_keep, nothing_is_right, now_is_open, one_answer_more,
-    open_has_not_ended, opened_keep, operated_is_sane, operations_keep, others_are_unlocked,
-    owners_hold_none, reads_are_known, reads_keep, reads_outside_keep, releases_keep,
-    returned_is_sane, returns_keep, runs_stay_behind, sent_are_known, sent_is_sane, shadows_keep,
-    stays_sane, tests_keep, transactions_nest, writes_keep,
+    aborts_are_tries, aborts_return, absent_are_childless, answered_is_sane, answered_keep,
+    at_once_closes, bound_is_sane, bound_keep, called_is_sane, calls_are_known, commits_are_pieces,
+    deaths_are_older, deaths_go, deaths_keep, decided_are_over, decisions_are_known,
+    decisions_keep, died_is_sane, effects_are_sane, ended_is_sane, ended_keep, ends_are_alone,
+    ends_stay, first_rows_go, inside_is_known, locks_are_ahead, locks_keep, locks_stay_ahead,
+    locksets_keep, nothing_is_right, now_is_open, one_answer_more, open_has_not_ended, opened_keep,
+    operated_is_sane, operations_keep, others_are_unlocked, owners_hold_none, reads_are_known,
+    reads_go, reads_keep, reads_outside_keep, releases_keep, releases_list, returned_is_sane,
+    returns_keep, rows_go, runs_stay_behind, sent_are_known, sent_is_sane, shadows_keep,
+    stays_sane, tests_go, tests_keep, transactions_nest, writes_go, writes_keep,
 };
