@@ -1,7 +1,6 @@
 -- The turns of a call that nobody waits for: it is opened once, its callee's row is put, and then it is marked as registered.
 use Rattle.std.proofs.Common.{◌≡◌, ℕ, Bool, true, false, List, [], ◌∷◌, ◌++◌, if◌then◌else◌, Option, None, Some, refl, ap, sym, ◌∙◌, subst, is_some, length, append_assoc}
 use Rattle.std.specs.FinMap as map
-use Rattle.std.specs.Prelude.{slice_get}
 use Rattle.beldi_book.specs.declared.entry.Entry.TheVariants.{Step}
 use Rattle.beldi_book.specs.declared.entry.Entry.{Entry}
 use Rattle.beldi_call.specs.Async.{async_asks, async_says, open_says, note_says}
@@ -15,17 +14,19 @@ use Rattle.beldi_lang.specs.declared.effect.Answer.TheVariants.{Done}
 use Rattle.beldi_lang.specs.declared.effect.Answer.{Answer}
 use Rattle.beldi_lang.specs.declared.effect.Effect.TheVariants.{Async}
 use Rattle.beldi_laws.proofs.Beginnings.{same_roots}
-use Rattle.beldi_laws.proofs.CallsHere.{made_with, not_made, was_made, next_here, called_in, call_row}
-use Rattle.beldi_laws.proofs.Moves.{AfterTurn, AfterQuery, SameRoots, change_entered, Entered, entered, AfterAct, still}
+use Rattle.beldi_laws.proofs.CallsHere.{made_with, not_made, made_by, next_here, given_first, first_given, call_now, absent_here, callee_there, caller_there, call_entered, callee_goes, callee_row, callee_ahead, callee_settled, callee_grows, goes_answered_then}
+use Rattle.beldi_laws.proofs.Others.{kept_by}
+use Rattle.beldi_laws.proofs.Frames.{settled_outside, settled_rows}
+use Rattle.beldi_laws.proofs.Keeping.{act_stays, as_it_was}
+use Rattle.beldi_laws.specs.Inside.{Inside}
+use Rattle.beldi_laws.proofs.Moves.{AfterTurn, AfterQuery, SameRoots, Kept, Stays, entered, AfterAct, still}
 use Rattle.beldi_known.proofs.Rows.{set_others, no_root as no_root_key}
-use Rattle.beldi_laws.proofs.Turns.{effect_here, answer_here, step_here, effect_next, not_over, goes_on, replays, at_another, all_here, starts_one, tx_step, tx_next, plain_there, outside_after, unlocked_there}
-use Rattle.beldi_order.proofs.Entries.{enabled_step, grows_new, grows_through}
+use Rattle.beldi_laws.proofs.Turns.{effect_here, goes_on, replays, at_another, all_here, starts_one, tx_step, tx_next, outside_after, unlocked_there}
+use Rattle.beldi_order.proofs.Entries.{grows_through}
 use Rattle.beldi_order.proofs.Maps.{same_some, elsewhere, here}
-use Rattle.beldi_order.specs.Sane.{call_of, answer_given}
-use Rattle.beldi_plain.specs.Plain.{effect_before, PlainState, callee_of, Instance, answered, effect_of, new_instance, calls_at, kind_of, step_by, waits_at, with_callee}
-use Rattle.beldi_plain.specs.Guard.{touched_by, item_touched}
+use Rattle.beldi_order.specs.Grown.{Grows}
+use Rattle.beldi_plain.specs.Plain.{effect_before, PlainState, callee_of, Instance, effect_of, new_instance, calls_at, step_by, with_callee}
 use Rattle.beldi_plain.specs.Operation.{op_of}
-use Rattle.beldi_plain.specs.declared.kind.Kind.TheVariants as kind
 use Rattle.beldi_row.specs.Act.{Tell, act}
 use Rattle.beldi_row.specs.Table.{Rows, set_row, after_act}
 use Rattle.beldi_row.specs.declared.act.Act.TheVariants.{Register, OpenInvoke, NoteRegistered}
@@ -55,19 +56,18 @@ use Rattle.beldi_known.specs.Rows.{CallMatches, IsBodyOf}
 use Rattle.beldi_known.proofs.Instances.{no_own_callee}
 use Rattle.beldi_laws.specs.Right.{Right, Knows, KnowsAt, SeenDone}
 use Rattle.beldi_known.specs.Known.{owed_call, Known, at_once, moved, commit_in}
-use Rattle.beldi_order.specs.Txs.{tx_now, txs_after}
+use Rattle.beldi_known.specs.Matches.{Matches}
+use Rattle.beldi_known.proofs.Ahead.{ahead_set, none_out}
+use Rattle.beldi_order.specs.Txs.{tx_after, tx_now, txs_after}
 use Rattle.beldi_laws.proofs.KeptSane.{sent_kept}
-use Rattle.beldi_laws.proofs.Shown.{Shows, Stays, shown, log_values, log_stays, aside, aside_still, went_of}
-use Rattle.beldi_laws.proofs.Outside.{plain_none, unlocked_new}
+use Rattle.beldi_laws.proofs.Shown.{Settled, log_values}
 use Rattle.beldi_laws.proofs.Grown.{grows_moved, grown_moved, moved_more}
 use Rattle.beldi_known.proofs.Outside.{call_answered}
 use Rattle.beldi_known.proofs.Frame.{moved_one}
 use Rattle.beldi_known.specs.Frame.{row_added}
-use Rattle.beldi_laws.proofs.Registered.{callee_registered, marked_registered}
-use Rattle.beldi_laws.proofs.Singles.{pushed_outside, new_outside}
-use Rattle.beldi_laws.specs.Outside.{IsAnswerTo}
+use Rattle.beldi_laws.proofs.Registered.{callee_registered, log_frame, log_shadows, log_stays, marked_registered}
 
-module _ (d : Deployment) (c : Core) (m : Rows) (i : ℕ) (r : Run) (g : Begun) (h : Right d c m) (live : map.get c.runs i ≡ Some r) (at_is : r.at ≡ Begins g) (k : Knows d c.book h.known r g)
+module _ (d : Deployment) (c : Core) (m : Rows) (i : ℕ) (r : Run) (g : Begun) (h : Right d c m) (live : map.get c.runs i ≡ Some r) (at_is : r.at ≡ Begins g) (k : Knows d c.book h.known r g) (finds : Inside d m h.plain h.known r g) (out : tx_after d r.id k.instance k.answers ≡ None)
     (f : ℕ) (v : Value) (is : g.machine.effect ≡ Async f v) (hops : has_callees r.id ≡ true) where
   abbrev place : Place
   place = place_of r.id g.machine.steps
@@ -85,48 +85,24 @@ module _ (d : Deployment) (c : Core) (m : Rows) (i : ℕ) (r : Run) (g : Begun) 
   call_here = effect_here d c.book h.known r g k ∙ is
 
   -- a callee that was made is the answer that the step was given
-  answered_so : is_some (map.get h.known callee) ≡ true → (later : List Answer) → k.later ≡ later → (rest : List Answer) × (later ≡ Done ∷ rest)
-  answered_so there later left = by_callee (map.get h.known callee) refl there
+  answered_so : is_some (map.get h.known callee) ≡ true → (rest : List Answer) × (k.later ≡ Done ∷ rest)
+  answered_so there = by_callee (map.get h.known callee) refl there
     where
-      by_later : (later : List Answer) → slice_get later 0 ≡ Some Done → (rest : List Answer) × (later ≡ Done ∷ rest)
-      by_later [] first = cc
-      by_later (a ∷ rest) first = (rest, ap (λ z. z ∷ rest) (same_some first))
-
-      is_async : (t : Bool) (g : ℕ) (u : Value) → Async f v ≡ call_of t g u → t ≡ false
-      is_async true g u e = cc
-      is_async false g u e = refl
-
-      by_callee : (o : Option Instance) → map.get h.known callee ≡ o → is_some o ≡ true → (rest : List Answer) × (later ≡ Done ∷ rest)
+      by_callee : (o : Option Instance) → map.get h.known callee ≡ o → is_some o ≡ true → (rest : List Answer) × (k.later ≡ Done ∷ rest)
       by_callee None at there = cc
-      by_callee (Some j) at there =
-          let called = called_in d h.known h.sane r.id g.machine.steps j at in
-          let same : called.0 ≡ k.instance = same_some (sym called.1 ∙ k.made) in
-          let idle = is_async called.2.waits j.func j.args (sym call_here ∙ ap (λ z. effect_before d z g.machine.steps) (sym same) ∙ called.2.call) in
-          by_later later (sym (answer_here d c.book h.known r g k later left) ∙ ap (λ z. slice_get z.answers g.machine.steps) (sym same) ∙ called.2.answered ∙ ap (λ t. answer_given t j.outcome) idle)
+      by_callee (Some j) at there = given_first Done k.later (first_given d c m r g h k false f v call_here j at k.later refl)
 
   goes_to_stage : (at : AsyncAt) (n : Rows) → SameRoots m n → Stays h n → SeenDone h.known r.id g.machine.steps k.instance g.caller (stage.Async at) → Left (On (stage.Async at) None) n
-  goes_to_stage at n roots rows done = goes_on d c m i r g h live k (Async f v) is n (stage.Async at) roots rows hops tt done
+  goes_to_stage at n roots rows done = goes_on d c m i r g h live k finds out (Async f v) is n (stage.Async at) roots rows hops tt done
 
   -- ---- it is opened now: it is the instance's next step
   module _ (new : map.get h.known callee ≡ None) (left : k.later ≡ []) where
-    now : effect_of d k.instance ≡ Async f v
-    now = effect_next d c.book h.known r g k left ∙ is
-
-    steps : g.machine.steps ≡ length k.instance.answers
-    steps = step_here d c.book h.known r g k left
-
     abbrev made_id : IntentId
     made_id = callee_of r.id k.instance
 
-    absent_here : map.get h.known made_id ≡ None
-    absent_here = ap (λ n. map.get h.known (child_of r.id n)) (sym steps) ∙ new
-
-    abbrev made_new : Instance
-    made_new = new_instance f v (Some (calls_at r.id k.instance false))
-
     -- what is known with the callee, before its caller is answered
     abbrev given : Known
-    given = map.insert h.known made_id (at_once d made_id made_new)
+    given = map.insert h.known made_id (at_once d made_id (new_instance f v (Some (calls_at r.id k.instance false))))
 
     abbrev next : Known
     next = map.insert given r.id (moved d r.id k.instance Done)
@@ -134,77 +110,79 @@ module _ (d : Deployment) (c : Core) (m : Rows) (i : ℕ) (r : Run) (g : Begun) 
     abbrev state : PlainState
     state = step_by h.plain r.id k.instance (Async f v)
 
-    there : map.get h.plain.made r.id ≡ Some k.instance
-    there = plain_there d c m i r g h live k (Async f v) is left
+    abbrev row : Option Row
+    row = Some (rows.Invoke (opened f))
 
-    open_still : k.instance.outcome ≡ None
-    open_still = not_over d c m i r g h live k (Async f v) is left refl
+    now : effect_of d k.instance ≡ Async f v
+    now = call_now d c m i r g h live k finds out false f v is new left
 
     outside : tx_now d r.id k.instance ≡ None
-    outside = tx_next d c.book h.known r g k left
+    outside = tx_next d c.book h.known r g k out left
+
+    unlocked : h.locked r.id ≡ false
+    unlocked = unlocked_there d c m i r g h live k finds out (Async f v) is left
 
     caller_given : map.get given r.id ≡ Some k.instance
-    caller_given = elsewhere h.known made_id r.id (at_once d made_id made_new) (no_own_callee r.id (length k.instance.answers)) ∙ k.made
+    caller_given = caller_there d c m i r g h live k finds out false f v is new left
 
-    leads : Entered d c h.plain (Step r.id) state next
-    leads = change_entered d c m h (Step r.id) state next refl
-        (enabled_step d h.plain r.id k.instance there open_still (ap (waits_at h.plain.made r.id k.instance) now ∙ ap is_some (plain_none d h.plain h.known h.beside made_id absent_here))
-        (ap (kind_of r.id) now ∙ ap (λ b. if b then kind.Change else kind.Unbuilt) hops) ∙ ap (λ z. Some (step_by h.plain r.id k.instance z)) now)
-        (λ x touched. let none = sym (ap (touched_by d) there ∙ ap (item_touched k.instance) now) ∙ touched in cc)
-        (grows_through h.known given next (grows_new h.known made_id (at_once d made_id made_new) absent_here) (grows_moved d given r.id k.instance Done caller_given))
+    settled_so : Settled d m state next
+    settled_so = settled_outside d m state given r.id k.instance caller_given Done outside (callee_settled d c m i r g h live k finds out false f v is new left state (call_entered d c m i r g h live k finds out false f v is new left hops next).grows)
 
-    callee_there : is_some (map.get next callee) ≡ true
-    callee_there =
-        ap (λ n. is_some (map.get next (child_of r.id n))) steps
-        ∙ ap is_some (elsewhere given r.id made_id (moved d r.id k.instance Done) (λ e. no_own_callee r.id (length k.instance.answers) (sym e)) ∙ here h.known made_id (at_once d made_id made_new))
-
-    rows_opened : Shows d (set_row m key (Some (rows.Invoke (opened f)))) state next h.locked
-    rows_opened = record {
-      aside = aside_still d (with_callee h.plain r.id k.instance f v false) given h.locked (aside_still d h.plain h.known h.locked (aside h) made_id made_new (refl, refl) (new_outside d made_new refl) (unlocked_new d h.known h.locked h.locked_at_ends made_id absent_here))
-          r.id (answered k.instance Done) (outside_after d c.book h.known r g k left Done) (pushed_outside d k.instance Done (subst (λ z. IsAnswerTo z Done) (sym now) tt) (went_of h r.id k.instance there)) unlocked;
-      sane = sent_kept d h.known h.sane r.id k.instance f v k.made outside now absent_here;
-      rows = call_answered d given h.locked r.id k.instance (moved d r.id k.instance Done) Done caller_given unlocked outside (ap commit_in now) (moved_one d r.id k.instance Done)
-          (ap op_of now) (ap (λ e. row_added (length k.instance.answers) (txs_after d k.instance k.instance.answers).begun e Done) now ∙ no_row (length k.instance.answers) (txs_after d k.instance k.instance.answers).begun) (set_row m key (Some (rows.Invoke (opened f))))
-          (call_row d h.known h.locked h.locked_at_ends h.sane r.id k.instance f v false k.made absent_here m g.machine.steps r.func steps k.func h.rows);
-      values = log_values h key (Some (rows.Invoke (opened f))) refl;
-    }
+    rows_opened : Matches d (set_row m key row) next h.locked
+    rows_opened = call_answered d given h.locked r.id k.instance (moved d r.id k.instance Done) Done caller_given unlocked outside (ap commit_in now) (moved_one d r.id k.instance Done)
+        (ap op_of now) (ap (λ e. row_added (length k.instance.answers) (txs_after d k.instance k.instance.answers).begun e Done) now ∙ no_row (length k.instance.answers) (txs_after d k.instance k.instance.answers).begun) (set_row m key row)
+        (callee_row d c m i r g h live k finds out false f v is new left)
       where
-        unlocked : h.locked r.id ≡ false
-        unlocked = unlocked_there d c m i r g h live k (Async f v) is left
-
         no_row : (n : ℕ) (b : Option ℕ) → row_added n b (Async f v) Done ≡ None
         no_row n None = refl
         no_row n (Some b) = refl
 
-    pub opens_now : Left (On (stage.Async async.Register) (Some mark.Step)) (set_row m key (Some (rows.Invoke (opened f))))
+    grows : Grows h.known next
+    grows = grows_through h.known given next (callee_grows d c m i r g h live k finds out false f v is new left) (grows_moved d given r.id k.instance Done caller_given)
+
+    kept_opened : Kept h (set_row m key row) state next h.locked
+    kept_opened =
+        let frame = log_frame d m key row refl (λ e. refl) h.plain state h.known next refl in
+        kept_by d c m (set_row m key row) h state next h.locked
+        (record {
+          goes = goes_answered_then h (set_row m key row) (log_shadows d m key row refl (λ e. refl)) (with_callee h.plain r.id k.instance f v false) given (callee_goes d c m i r g h live k finds out false f v is new left) r.id k.instance Done k.made caller_given unlocked (outside_after d c.book h.known r g k out left Done);
+          locked_at_ends = ahead_set d given h.locked (callee_ahead d c m i r g h live k finds out false f v is new left) h.locked r.id (moved d r.id k.instance Done) (none_out h.locked r.id unlocked);
+          sane = sent_kept d h.known h.sane r.id k.instance f v k.made outside now (absent_here d c m i r g h live k finds out false f v is new left);
+          rows = rows_opened;
+          values = log_values h key row refl;
+          settled = settled_rows d m (set_row m key row) h.plain state h.known next frame settled_so;
+        })
+        grows frame
+
+    callee_stays : is_some (map.get next callee) ≡ true
+    callee_stays = ap is_some (elsewhere given r.id callee (moved d r.id k.instance Done) (λ e. no_own_callee r.id g.machine.steps (sym e))) ∙ callee_there d c m i r g h live k finds out false f v is new left
+
+    pub opens_now : Left (On (stage.Async async.Register) (Some mark.Step)) (set_row m key row)
     opens_now =
         let more = moved_more d r.id k.instance Done in
-        entered d c m (set_row m key (Some (rows.Invoke (opened f)))) i r h live (λ u. ap is_some (set_others m key (Some (rows.Invoke (opened f))) (root_key u) (no_root_key u r.func (kinds.Invoke place) refl)))
-        (turned_by d r g (On (stage.Async async.Register) (Some mark.Step))) mark.Step state next refl leads (λ o told. cc)
-        (at_another d c m i r g h live k (Async f v) is (c.book ++ Step r.id ∷ []) next (moved d r.id k.instance Done) (Done ∷ more.more) (stage.Async async.Register)
-        (here given r.id (moved d r.id k.instance Done)) (grown_moved d r.id k.instance Done) (sym (append_assoc k.answers (Done ∷ []) more.more) ∙ ap (λ xs. (xs ++ Done ∷ []) ++ more.more) (all_here d c.book h.known r g k left) ∙ more.same) hops tt callee_there)
-        (λ e. cc) rows_opened
+        entered d c m (set_row m key row) i r h live (λ u. ap is_some (set_others m key row (root_key u) (no_root_key u r.func (kinds.Invoke place) refl)))
+        (turned_by d r g (On (stage.Async async.Register) (Some mark.Step))) mark.Step state next h.locked refl (call_entered d c m i r g h live k finds out false f v is new left hops next) (λ o told. cc)
+        (at_another d c m i r g h live k finds out (Async f v) is (c.book ++ Step r.id ∷ []) (set_row m key row) state next h.locked (moved d r.id k.instance Done) (Done ∷ more.more) (stage.Async async.Register) kept_opened
+        (here given r.id (moved d r.id k.instance Done)) (grown_moved d r.id k.instance Done) (sym (append_assoc k.answers (Done ∷ []) more.more) ∙ ap (λ xs. (xs ++ Done ∷ []) ++ more.more) (all_here d c.book h.known r g k left) ∙ more.same) hops tt callee_stays)
+        (λ e. cc) kept_opened
 
   -- ---- its turns
   abbrev AfterAsync : RowKey → AsyncAt → Option Row × Tell → Type 0
   AfterAsync q at z = AfterAct d h.plain m q (λ t. turn_next c i r (turned_by d r g (async_answer at (async_says f at t)))) z
 
   open_by : (x : InvokeRow) (b : Bool) → x.registered ≡ b → is_some (map.get h.known callee) ≡ true → Left (async_answer async.Open (open_says false b)) m
-  open_by x false e there = goes_to_stage async.Register m (λ t. refl) (shown h) there
-  open_by x true e there = let a = answered_so there k.later refl in replays d c m i r g h live k (Async f v) is m Done a.0 (λ t. refl) (shown h) a.1
-
-  made_by : (x : InvokeRow) → owed_call h.known r.func place ≡ Some (x.func, x.result) → is_some (map.get h.known callee) ≡ true
-  made_by x there = let j = was_made d c m r g h k false f v call_here (x.func, x.result) there in ap is_some j.1
+  open_by x false e there = goes_to_stage async.Register m (λ t. refl) (as_it_was h) there
+  open_by x true e there = let a = answered_so there in replays d c m i r g h live k finds out (Async f v) is m Done a.0 (λ t. refl) (as_it_was h) a.1
 
   open_at : (w : Option Row) → map.get m key ≡ w → CallMatches w (owed_call h.known r.func place) → AfterAsync key async.Open (act (OpenInvoke f) c.now w)
   open_at None at owed = let new = not_made d c m r g h k false f v call_here owed in opens_now new (next_here d c m r g h k false f v call_here new k.later refl)
-  open_at (Some (rows.Invoke x)) at owed = still d h.plain m key (Some (rows.Invoke x)) (sym at) (open_by x x.registered refl (made_by x owed))
+  open_at (Some (rows.Invoke x)) at owed = still d h.plain m key (Some (rows.Invoke x)) (sym at) (open_by x x.registered refl (made_by d c m r g h k false f v call_here x owed))
   open_at (Some w) at owed = absurd owed
 
   module _ (there : is_some (map.get h.known callee) ≡ true) where
     body_is : (o : Option Instance) → map.get h.known callee ≡ o → is_some o ≡ true → IsBodyOf (callee_body r.id r.func g.machine.steps f v false) (map.get h.known callee)
     body_is None at there = cc
-    body_is (Some j) at there = made_with d h.known h.sane r.id r.func g.machine.steps false f v k.instance j k.made k.func (tx_step d c.book h.known r g k) call_here at
+    body_is (Some j) at there = made_with d h.known h.sane r.id r.func g.machine.steps false f v k.instance j k.made k.func (tx_step d c.book h.known r g k out) call_here at
 
     abbrev body : Body
     body = callee_body r.id r.func g.machine.steps f v false
@@ -214,8 +192,8 @@ module _ (d : Deployment) (c : Core) (m : Rows) (i : ℕ) (r : Run) (g : Begun) 
 
     register_at : (w : Option Row) → map.get m row_key ≡ w → AfterAsync row_key async.Register (act (Register body) c.now w)
     register_at None at = goes_to_stage async.Note (set_row m row_key (Some (rows.Intent (issued_at c.now (Some body))))) (same_roots m f callee (Some (rows.Intent (issued_at c.now (Some body)))) (no_root r.id g.machine.steps))
-        (log_stays h row_key (Some (rows.Intent (issued_at c.now (Some body)))) refl (callee_registered d m h.known h.locked callee body c.now (no_root r.id g.machine.steps) (body_is (map.get h.known callee) refl there) h.rows at)) there
-    register_at (Some w) at = still d h.plain m row_key (Some w) (sym at) (goes_to_stage async.Note m (λ t. refl) (shown h) there)
+        (log_stays d m row_key (Some (rows.Intent (issued_at c.now (Some body)))) refl (λ e. refl) c h (callee_registered d m h.known h.locked callee body c.now (no_root r.id g.machine.steps) (body_is (map.get h.known callee) refl there) h.rows at)) there
+    register_at (Some w) at = still d h.plain m row_key (Some w) (sym at) (goes_to_stage async.Note m (λ t. refl) (as_it_was h) there)
 
     register_turn : AfterQuery d h.plain c.now m (λ t. turn_next c i r (turned_by d r g (async_answer async.Register (async_says f async.Register t)))) (async_asks r.func place body async.Register)
     register_turn = subst (λ z. AfterAsync z async.Register (act (Register body) c.now (map.get m z))) own (register_at (map.get m row_key) refl)
@@ -231,13 +209,13 @@ module _ (d : Deployment) (c : Core) (m : Rows) (i : ℕ) (r : Run) (g : Begun) 
         by_hops false same = cc
 
     note_says_so : (n : Rows) → SameRoots m n → Stays h n → (b : back.Back) → Left (async_answer async.Note (note_says b)) n
-    note_says_so n roots rows Set = let a = answered_so there k.later refl in starts_one d c m i r g h live k (Async f v) is n Done a.0 roots rows a.1 looks_later
-    note_says_so n roots rows AlreadySet = let a = answered_so there k.later refl in starts_one d c m i r g h live k (Async f v) is n Done a.0 roots rows a.1 looks_later
+    note_says_so n roots rows Set = let a = answered_so there in starts_one d c m i r g h live k finds out (Async f v) is n Done a.0 roots rows a.1 looks_later
+    note_says_so n roots rows AlreadySet = let a = answered_so there in starts_one d c m i r g h live k finds out (Async f v) is n Done a.0 roots rows a.1 looks_later
     note_says_so n roots rows Absent = goes_to_stage async.Note n roots rows there
 
     note_turn : AfterQuery d h.plain c.now m (λ t. turn_next c i r (turned_by d r g (async_answer async.Note (async_says f async.Note t)))) (registered_asks r.func place)
     note_turn = note_says_so (after_act NoteRegistered c.now key m) (λ u. ap is_some (set_others m key (act NoteRegistered c.now (map.get m key)).0 (root_key u) (no_root_key u r.func (kinds.Invoke place) refl)))
-        (log_stays h key (act NoteRegistered c.now (map.get m key)).0 refl (marked_registered d m h.known h.locked r.func place c.now h.rows)) (back_of (said (act NoteRegistered c.now (map.get m key)).1))
+        (log_stays d m key (act NoteRegistered c.now (map.get m key)).0 refl (act_stays NoteRegistered c.now (map.get m key)) c h (marked_registered d m h.known h.locked r.func place c.now h.rows)) (back_of (said (act NoteRegistered c.now (map.get m key)).1))
 
   by_at : (at : AsyncAt) → SeenDone h.known r.id g.machine.steps k.instance g.caller (stage.Async at)
       → AfterQuery d h.plain c.now m (λ t. turn_next c i r (turned_by d r g (async_answer at (async_says f at t)))) (async_asks r.func place (callee_body r.id r.func g.machine.steps f v false) at)

@@ -1,15 +1,15 @@
 -- The first turn of a run: it finds its body, or registers the one that its call gave it.
-use Rattle.std.proofs.Common.{◌≡◌, ℕ, Bool, true, false, [], if◌then◌else◌, Option, None, Some, refl, ap, sym, ◌∙◌, subst, is_some, ◌==◌, eqb-true}
+use Rattle.std.proofs.Common.{◌≡◌, ℕ, Bool, true, false, [], if◌then◌else◌, Option, None, Some, refl, ap, sym, ◌∙◌, subst, is_some, arith, ◌==◌, eqb-true}
 use Rattle.std.specs.FinMap as map
 use Rattle.std.specs.Ordering.{is_eq}
 use Rattle.beldi_intent.specs.Intent.{root_key, intent_key, look_asks, is_ended, body_told, register_asks, body_in, issued_at, open_body}
 use Rattle.beldi_lang.proofs.Resumes.{at_begin}
 use Rattle.beldi_lang.specs.Machine.{IsAt, begun as machine_begun}
-use Rattle.beldi_laws.proofs.Moves.{AfterTurn, AfterQuery, SameRoots, AfterAct, still}
+use Rattle.beldi_laws.proofs.Moves.{AfterTurn, AfterQuery, SameRoots, AfterAct, Stays, still}
 use Rattle.beldi_known.proofs.Answers.{true_false}
 use Rattle.beldi_known.proofs.Rows.{set_others}
 use Rattle.beldi_known.proofs.Instances.{row_of, IsRowOf}
-use Rattle.beldi_laws.proofs.Turns.{is_over, comes_to, knows_first}
+use Rattle.beldi_laws.proofs.Turns.{is_over, comes_to, knows_next}
 use Rattle.beldi_order.proofs.Maps.{same_some}
 use Rattle.beldi_row.proofs.Gets.{key_same}
 use Rattle.beldi_row.proofs.Unchanged.{looked}
@@ -25,7 +25,9 @@ use Rattle.beldi_row.specs.declared.row.IntentRow.{IntentRow}
 use Rattle.beldi_row.specs.declared.row.Row.TheVariants as rows
 use Rattle.beldi_row.specs.declared.row.Row.{Row}
 use Rattle.beldi_step.specs.Host.{Core, turn_next}
-use Rattle.beldi_step.specs.Run.{first_stage, begin_in, body_registered}
+use Rattle.beldi_step.specs.Run.{begin_in, body_registered}
+use Rattle.beldi_step.specs.declared.run.OpenTx.{OpenTx}
+use Rattle.beldi_lang.specs.declared.machine.Machine.{Machine}
 use Rattle.beldi_step.specs.declared.run.Run.{Run}
 use Rattle.beldi_tree.specs.Names.{func_at}
 use Rattle.beldi_tree.specs.declared.deployment.Deployment.{Deployment}
@@ -35,9 +37,10 @@ use Rattle.beldi_value.specs.declared.id.IntentId.{IntentId}
 use Rattle.beldi_walk.specs.Query.{said}
 use Rattle.beldi_known.specs.Rows.{IntentMatches, IsBodyOf}
 use Rattle.beldi_laws.specs.Right.{Right, KnowsBody}
-use Rattle.beldi_laws.proofs.Shown.{Stays, shown, log_stays, legal_sane}
+use Rattle.beldi_laws.proofs.Shown.{legal_sane}
+use Rattle.beldi_laws.proofs.Keeping.{as_it_was}
 use Rattle.beldi_laws.proofs.Outside.{called_outside}
-use Rattle.beldi_laws.proofs.Registered.{callee_registered}
+use Rattle.beldi_laws.proofs.Registered.{callee_registered, log_stays}
 
 -- ---- rows of callees are no rows of roots
 is_root_key : Kind → Bool
@@ -85,22 +88,24 @@ module _ (d : Deployment) (c : Core) (m : Rows) (i : ℕ) (r : Run) (h : Right d
 
   begins : (n : Rows) → SameRoots m n → Stays h n → (f : Option Func) (b : Option Body) → MadeWith b → AfterTurn d h.plain c i r (begin_in d r f b) n
   unfolding MadeWith
-  begins n roots rows f None made = is_over d c m n i r h live roots rows
-  begins n roots rows None (Some b) made = is_over d c m n i r h live roots rows
-  begins n roots rows (Some f) (Some b) made =
-      let machine = machine_begun d r.func b.args false in
+  begins n roots kept f None made = is_over d c m n i r h live roots kept
+  begins n roots kept None (Some b) made = is_over d c m n i r h live roots kept
+  begins n roots kept (Some f) (Some b) made =
+      let s : Machine × Option OpenTx = (machine_begun d r.func b.args false, None) in
+      let j = made.0.instance in
       let body = made.0.body in
-      let outside = called_outside d h.plain h.known h.beside r.id made.0.instance made.0.made (legal_sane h) in
-      comes_to d c m n i r h live roots machine b.from (first_stage r.id b.from machine.effect)
-      (λ s first. knows_first d c.book h.known r machine b.from made.0.instance [] made.0.instance.answers s made.0.made (sym (ap (λ z. z.func) body) ∙ made.1) (ap (λ z. z.from) body) refl
-      (subst (λ t. IsAt d r.func made.0.instance.args (is_some t) machine []) (sym outside) (subst (λ a. IsAt d r.func a false machine []) (ap (λ z. z.args) body) (at_begin d r.func b.args false))) (outside, refl) first) rows
+      let outside = called_outside d h.plain h.known h.beside r.id j made.0.made (legal_sane h) in
+      comes_to d c m n i r h live roots h.known h.locked s b.from
+      (knows_next d c.book n h.plain h.known h.locked kept.shows (legal_sane h) r b.from j made.0.made (sym (ap (λ z. z.func) body) ∙ made.1) (ap (λ z. z.from) body) [] s (record { later = j.answers; all = refl })
+      (record { machine = subst (λ t. IsAt d r.func j.args (is_some t) s.0 []) (sym outside) (subst (λ a. IsAt d r.func a false s.0 []) (ap (λ z. z.args) body) (at_begin d r.func b.args false)); open_there = refl })
+      (λ t z own over less. absurd (omega (arith, less))) None) kept
 
   -- it looks at its row
   pub look_turn : AfterQuery d h.plain c.now m (λ t. turn_next c i r (begin_in d r (func_at d r.func) (body_told r.func t))) (look_asks r.id r.func)
   look_turn =
       let key = intent_key r.id r.func in
       let b = body_told r.func (said (act Look c.now (map.get m key)).1) in
-      subst (AfterTurn d h.plain c i r (begin_in d r (func_at d r.func) b)) (sym (looked c.now key m)) (begins m (λ t. refl) (shown h) (func_at d r.func) b (made_told key.home (map.get m key) (h.rows.keys key)))
+      subst (AfterTurn d h.plain c i r (begin_in d r (func_at d r.func) b)) (sym (looked c.now key m)) (begins m (λ t. refl) (as_it_was h) (func_at d r.func) b (made_told key.home (map.get m key) (h.rows.keys key)))
 
   -- it registers its body, or finds its row
   module _ (b : Body) (k : KnowsBody h.known r b) where
@@ -111,10 +116,10 @@ module _ (d : Deployment) (c : Core) (m : Rows) (i : ℕ) (r : Run) (h : Right d
     unfolding MadeWith
     by_row None at =
         let new = Some (rows.Intent (issued_at c.now (Some b))) in
-        begins (set_row m key new) (same_roots m b.func r.id new k.callee) (log_stays h key new refl (callee_registered d m h.known h.locked r.id b c.now k.callee k.body h.rows at)) (func_at d r.func) (body_in r.func (Some b)) (made_in (Some b) (λ x e. subst (λ z. IsBodyOf z (map.get h.known r.id)) (same_some e) k.body))
+        begins (set_row m key new) (same_roots m b.func r.id new k.callee) (log_stays d m key new refl (λ e. refl) c h (callee_registered d m h.known h.locked r.id b c.now k.callee k.body h.rows at)) (func_at d r.func) (body_in r.func (Some b)) (made_in (Some b) (λ x e. subst (λ z. IsBodyOf z (map.get h.known r.id)) (same_some e) k.body))
     by_row (Some w) at =
         let found = body_told r.func (said (act Look c.now (Some w)).1) in
-        still d h.plain m key (Some w) (sym at) (begins m (λ t. refl) (shown h) (func_at d r.func) found (made_told b.func (Some w) (subst (λ z. IntentMatches (has_no_hops r.id.hops) b.func z (map.get h.known r.id)) at (h.rows.keys key))))
+        still d h.plain m key (Some w) (sym at) (begins m (λ t. refl) (as_it_was h) (func_at d r.func) found (made_told b.func (Some w) (subst (λ z. IntentMatches (has_no_hops r.id.hops) b.func z (map.get h.known r.id)) at (h.rows.keys key))))
 
     pub register_turn : AfterQuery d h.plain c.now m (λ t. turn_next c i r (begin_in d r (func_at d r.func) (body_registered r.func b t))) (register_asks r.id b)
     register_turn = subst (λ z. AfterAct d h.plain m z (λ t. turn_next c i r (begin_in d r (func_at d r.func) (body_registered r.func b t))) (act (Register b) c.now (map.get m z))) own (by_row (map.get m key) refl)

@@ -1,8 +1,7 @@
 -- The turns of a call: it is opened once, and waits for its result.
-use Rattle.std.proofs.Common.{◌≡◌, ℕ, Bool, true, false, List, [], ◌∷◌, ◌++◌, if◌then◌else◌, Option, None, Some, refl, ap, sym, ◌∙◌, subst, is_some, length}
+use Rattle.std.proofs.Common.{◌≡◌, ℕ, Bool, true, false, List, [], ◌∷◌, ◌++◌, if◌then◌else◌, Option, None, Some, refl, ap, sym, ◌∙◌, subst, is_some}
 use Rattle.std.specs.FinMap as map
 use Rattle.std.specs.Option.{option_map}
-use Rattle.std.specs.Prelude.{slice_get}
 use Rattle.beldi_book.specs.declared.entry.Entry.TheVariants.{Step}
 use Rattle.beldi_book.specs.declared.entry.Entry.{Entry}
 use Rattle.beldi_call.specs.Call.{call_asks, call_says, open_says, look_says}
@@ -13,16 +12,17 @@ use Rattle.beldi_invokelog.specs.InvokeLog.{invoke_key, opened}
 use Rattle.beldi_lang.specs.Callee.{answer_of}
 use Rattle.beldi_lang.specs.declared.effect.Answer.{Answer}
 use Rattle.beldi_lang.specs.declared.effect.Effect.TheVariants.{Call}
-use Rattle.beldi_laws.proofs.CallsHere.{not_made, was_made, next_here, callee_knows, called_in, call_row}
-use Rattle.beldi_laws.proofs.Moves.{AfterTurn, AfterQuery, change_entered, Entered, quiet, entered, AfterAct, still}
+use Rattle.beldi_laws.proofs.CallsHere.{not_made, was_made, made_by, next_here, callee_knows, given_first, first_given, call_now, absent_here, callee_there, caller_there, call_entered, callee_goes, callee_row, callee_ahead, callee_settled, callee_grows}
+use Rattle.beldi_laws.proofs.Others.{kept_by}
+use Rattle.beldi_laws.proofs.Frames.{settled_rows}
+use Rattle.beldi_laws.proofs.Keeping.{as_it_was}
+use Rattle.beldi_laws.specs.Inside.{Inside}
+use Rattle.beldi_laws.proofs.Moves.{AfterTurn, AfterQuery, Kept, quiet, entered, AfterAct, still}
+use Rattle.beldi_laws.proofs.Registered.{log_frame}
 use Rattle.beldi_known.proofs.Rows.{set_others, no_root as no_root_key}
-use Rattle.beldi_laws.proofs.Turns.{effect_here, answer_here, step_here, effect_next, not_over, replays, at_another, awaits, stays_there, tx_step, tx_next, plain_there}
-use Rattle.beldi_order.proofs.Entries.{enabled_step, grows_new}
-use Rattle.beldi_order.proofs.Maps.{same_some, elsewhere, here}
-use Rattle.beldi_order.specs.Sane.{answer_given}
-use Rattle.beldi_plain.specs.Plain.{effect_before, PlainState, callee_of, Instance, effect_of, new_instance, calls_at, kind_of, step_by, waits_at}
-use Rattle.beldi_plain.specs.Guard.{touched_by, item_touched}
-use Rattle.beldi_plain.specs.declared.kind.Kind.TheVariants as kind
+use Rattle.beldi_laws.proofs.Turns.{effect_here, replays, at_another, awaits, stays_there, tx_step, tx_next}
+use Rattle.beldi_order.specs.Txs.{tx_after}
+use Rattle.beldi_plain.specs.Plain.{effect_before, PlainState, callee_of, Instance, new_instance, calls_at, step_by}
 use Rattle.beldi_row.specs.Act.{Tell, act}
 use Rattle.beldi_row.specs.Table.{Rows, set_row}
 use Rattle.beldi_row.specs.declared.act.Act.TheVariants.{Look, OpenInvoke}
@@ -49,17 +49,14 @@ use Rattle.beldi_value.specs.declared.place.Place.{Place}
 use Rattle.beldi_value.specs.declared.value.Value.{Value}
 use Rattle.beldi_known.specs.Owed.{result_of}
 use Rattle.beldi_known.specs.Rows.{CallMatches}
-use Rattle.beldi_known.proofs.Instances.{no_own_callee}
 use Rattle.beldi_laws.specs.Right.{Right, Knows, KnowsAt, SeenDone}
 use Rattle.beldi_known.specs.Known.{owed_call, Known, at_once}
 use Rattle.beldi_known.specs.Sane.{Sane}
 use Rattle.beldi_laws.proofs.KeptSane.{called_kept}
-use Rattle.beldi_laws.proofs.Shown.{Shows, shown, log_values, aside, aside_still}
-use Rattle.beldi_laws.proofs.Outside.{plain_none, unlocked_new}
+use Rattle.beldi_laws.proofs.Shown.{log_values}
 use Rattle.beldi_laws.proofs.Grown.{grown_same}
-use Rattle.beldi_laws.proofs.Singles.{new_outside}
 
-module _ (d : Deployment) (c : Core) (m : Rows) (i : ℕ) (r : Run) (g : Begun) (h : Right d c m) (live : map.get c.runs i ≡ Some r) (at_is : r.at ≡ Begins g) (k : Knows d c.book h.known r g)
+module _ (d : Deployment) (c : Core) (m : Rows) (i : ℕ) (r : Run) (g : Begun) (h : Right d c m) (live : map.get c.runs i ≡ Some r) (at_is : r.at ≡ Begins g) (k : Knows d c.book h.known r g) (finds : Inside d m h.plain h.known r g) (out : tx_after d r.id k.instance k.answers ≡ None)
     (f : ℕ) (v : Value) (is : g.machine.effect ≡ Call f v) (hops : has_callees r.id ≡ true) where
   abbrev place : Place
   place = place_of r.id g.machine.steps
@@ -78,108 +75,80 @@ module _ (d : Deployment) (c : Core) (m : Rows) (i : ℕ) (r : Run) (g : Begun) 
 
   -- ---- the result is there: it is the answer that the step was given
   answered_by : (u : Outcome) (j : Instance) → map.get h.known callee ≡ Some j → result_of j ≡ Some u → (later : List Answer) → k.later ≡ later → (rest : List Answer) × (later ≡ answer_of u ∷ rest)
-  answered_by u j at result later left =
-      let called = called_in d h.known h.sane r.id g.machine.steps j at in
-      let same : called.0 ≡ k.instance = same_some (sym called.1 ∙ k.made) in
-      let waited : result_of j ≡ (if called.2.waits then j.outcome else None) = ap (λ z. if is_waited z then j.outcome else None) called.2.from in
-      by_later later (sym (answer_here d c.book h.known r g k later left) ∙ ap (λ z. slice_get z.answers g.machine.steps) (sym same) ∙ called.2.answered ∙ by_wait called.2.waits (sym waited ∙ result))
+  answered_by u j at result later left = given_first (answer_of u) later (first_given d c m r g h k true f v call_here j at later left ∙ ap (option_map answer_of) (by_wait (is_waited j.from) result))
     where
-      by_later : (later : List Answer) → slice_get later 0 ≡ Some (answer_of u) → (rest : List Answer) × (later ≡ answer_of u ∷ rest)
-      by_later [] first = cc
-      by_later (a ∷ rest) first = (rest, ap (λ z. z ∷ rest) (same_some first))
-
-      by_wait : (t : Bool) → (if t then j.outcome else None) ≡ Some u → answer_given t j.outcome ≡ Some (answer_of u)
-      by_wait true is = ap (option_map answer_of) is
+      by_wait : (t : Bool) → (if t then j.outcome else None) ≡ Some u → j.outcome ≡ Some u
+      by_wait true is = is
       by_wait false is = cc
 
   done : (u : Outcome) (z : ℕ × Option Outcome) → owed_call h.known r.func place ≡ Some z → z.1 ≡ Some u → Left (Answers (answer_of u) None) m
   done u z there result =
       let j = was_made d c m r g h k true f v call_here z there in
       let a = answered_by u j.0 j.1 (j.2 ∙ result) k.later refl in
-      replays d c m i r g h live k (Call f v) is m (answer_of u) a.0 (λ t. refl) (shown h) a.1
+      replays d c m i r g h live k finds out (Call f v) is m (answer_of u) a.0 (λ t. refl) (as_it_was h) a.1
 
   -- ---- it is not: the run looks for it from then on
   starts : (book : List Entry) (known : Known) → Sane d known → map.get known r.id ≡ Some k.instance → is_some (map.get known callee) ≡ true → (o : Run) → run_called r ≡ Some o → KnowsAt d book known o o.at
-  starts book known sane made there o started = callee_knows d book known sane r g.machine.steps g.machine.effect f v k.instance is made k.func (tx_step d c.book h.known r g k) call_here there o (sym (ap (callee_at r) at_is) ∙ started)
+  starts book known sane made there o started = callee_knows d book known sane r g.machine.steps g.machine.effect f v k.instance is made k.func (tx_step d c.book h.known r g k out) call_here there o (sym (ap (callee_at r) at_is) ∙ started)
 
   starts_here : is_some (map.get h.known callee) ≡ true → (o : Run) → run_called r ≡ Some o → KnowsAt d c.book h.known o o.at
   starts_here there = starts c.book h.known h.sane k.made there
 
   waits : is_some (map.get h.known callee) ≡ true → Left (Waits (wait.Result callee)) m
-  waits there = awaits d c m i r g h live k (Call f v) is callee m (λ t. refl) (shown h) (λ e. starts_here there)
+  waits there = awaits d c m i r g h live k callee m (λ t. refl) (as_it_was h) (λ e. starts_here there)
 
   opens_again : is_some (map.get h.known callee) ≡ true → Left (Opens None) m
-  opens_again there = quiet d c m m i r h live (λ t. refl) (turned_by d r g (Opens None)) refl refl
-      (stays_there d c m i r g h live k (Call f v) is (stage.Call call.Look) hops tt there)
-      (λ e. starts_here there) (shown h)
+  opens_again there = quiet d c m m i r h live (λ t. refl) (turned_by d r g (Opens None)) h.known h.locked refl refl
+      (stays_there d c m i r g h live k finds out (Call f v) is m (stage.Call call.Look) (as_it_was h) hops tt there)
+      (λ e. starts_here there) (as_it_was h)
 
   -- ---- it is opened now: it is the instance's next step
   module _ (new : map.get h.known callee ≡ None) (left : k.later ≡ []) where
-    now : effect_of d k.instance ≡ Call f v
-    now = effect_next d c.book h.known r g k left ∙ is
-
-    steps : g.machine.steps ≡ length k.instance.answers
-    steps = step_here d c.book h.known r g k left
-
     abbrev made_id : IntentId
     made_id = callee_of r.id k.instance
 
-    absent_here : map.get h.known made_id ≡ None
-    absent_here = ap (λ n. map.get h.known (child_of r.id n)) (sym steps) ∙ new
-
-    abbrev made_new : Instance
-    made_new = new_instance f v (Some (calls_at r.id k.instance true))
-
     abbrev next : Known
-    next = map.insert h.known made_id (at_once d made_id made_new)
+    next = map.insert h.known made_id (at_once d made_id (new_instance f v (Some (calls_at r.id k.instance true))))
 
     abbrev state : PlainState
     state = step_by h.plain r.id k.instance (Call f v)
 
-    open_still : k.instance.outcome ≡ None
-    open_still = not_over d c m i r g h live k (Call f v) is left refl
-
-    leads : Entered d c h.plain (Step r.id) state next
-    leads = change_entered d c m h (Step r.id) state next refl
-        (enabled_step d h.plain r.id k.instance (plain_there d c m i r g h live k (Call f v) is left) open_still (ap (waits_at h.plain.made r.id k.instance) now ∙ ap is_some (plain_none d h.plain h.known h.beside made_id absent_here))
-        (ap (kind_of r.id) now ∙ ap (λ b. if b then kind.Change else kind.Unbuilt) hops) ∙ ap (λ z. Some (step_by h.plain r.id k.instance z)) now)
-        (λ x touched. let none = sym (ap (touched_by d) (plain_there d c m i r g h live k (Call f v) is left) ∙ ap (item_touched k.instance) now) ∙ touched in cc)
-        (grows_new h.known made_id (at_once d made_id made_new) absent_here)
-
-    caller_there : map.get next r.id ≡ Some k.instance
-    caller_there = elsewhere h.known made_id r.id (at_once d made_id made_new) (no_own_callee r.id (length k.instance.answers)) ∙ k.made
-
-    callee_there : is_some (map.get next callee) ≡ true
-    callee_there = ap (λ n. is_some (map.get next (child_of r.id n))) steps ∙ ap is_some (here h.known made_id (at_once d made_id made_new))
+    abbrev row : Option Row
+    row = Some (rows.Invoke (opened f))
 
     sane : Sane d next
-    sane = called_kept d h.known h.sane r.id k.instance f v k.made (tx_next d c.book h.known r g k left) now absent_here
+    sane = called_kept d h.known h.sane r.id k.instance f v k.made (tx_next d c.book h.known r g k out left) (call_now d c m i r g h live k finds out true f v is new left) (absent_here d c m i r g h live k finds out true f v is new left)
 
-    rows_opened : Shows d (set_row m key (Some (rows.Invoke (opened f)))) state next h.locked
-    rows_opened = record {
-      aside = aside_still d h.plain h.known h.locked (aside h) made_id made_new (refl, refl) (new_outside d made_new refl) (unlocked_new d h.known h.locked h.locked_at_ends made_id absent_here);
-      sane = sane;
-      rows = call_row d h.known h.locked h.locked_at_ends h.sane r.id k.instance f v true k.made absent_here m g.machine.steps r.func steps k.func h.rows;
-      values = log_values h key (Some (rows.Invoke (opened f))) refl;
-    }
+    kept_opened : Kept h (set_row m key row) state next h.locked
+    kept_opened =
+        let frame = log_frame d m key row refl (λ e. refl) h.plain state h.known next refl in
+        kept_by d c m (set_row m key row) h state next h.locked
+        (record {
+          goes = callee_goes d c m i r g h live k finds out true f v is new left;
+          locked_at_ends = callee_ahead d c m i r g h live k finds out true f v is new left;
+          sane = sane;
+          rows = callee_row d c m i r g h live k finds out true f v is new left;
+          values = log_values h key row refl;
+          settled = settled_rows d m (set_row m key row) h.plain state h.known next frame (callee_settled d c m i r g h live k finds out true f v is new left state (call_entered d c m i r g h live k finds out true f v is new left hops next).grows);
+        })
+        (callee_grows d c m i r g h live k finds out true f v is new left) frame
 
-    pub opens_now : Left (Opens (Some mark.Step)) (set_row m key (Some (rows.Invoke (opened f))))
+    pub opens_now : Left (Opens (Some mark.Step)) (set_row m key row)
     opens_now =
-        entered d c m (set_row m key (Some (rows.Invoke (opened f)))) i r h live (λ u. ap is_some (set_others m key (Some (rows.Invoke (opened f))) (root_key u) (no_root_key u r.func (kinds.Invoke place) refl)))
-        (turned_by d r g (Opens (Some mark.Step))) mark.Step state next refl leads (λ o told. cc)
-        (at_another d c m i r g h live k (Call f v) is (c.book ++ Step r.id ∷ []) next k.instance k.later (stage.Call call.Look) caller_there (grown_same k.instance) k.run_answers hops tt callee_there)
-        (λ e. starts (c.book ++ Step r.id ∷ []) next sane caller_there callee_there)
-        rows_opened
+        let made = caller_there d c m i r g h live k finds out true f v is new left in
+        let there = callee_there d c m i r g h live k finds out true f v is new left in
+        entered d c m (set_row m key row) i r h live (λ u. ap is_some (set_others m key row (root_key u) (no_root_key u r.func (kinds.Invoke place) refl)))
+        (turned_by d r g (Opens (Some mark.Step))) mark.Step state next h.locked refl (call_entered d c m i r g h live k finds out true f v is new left hops next) (λ o told. cc)
+        (at_another d c m i r g h live k finds out (Call f v) is (c.book ++ Step r.id ∷ []) (set_row m key row) state next h.locked k.instance k.later (stage.Call call.Look) kept_opened made (grown_same k.instance) k.run_answers hops tt there)
+        (λ e. starts (c.book ++ Step r.id ∷ []) next sane made there)
+        kept_opened
 
   -- ---- its turns
   abbrev AfterCall : CallAt → Option Row × Tell → Type 0
   AfterCall at z = AfterAct d h.plain m key (λ t. turn_next c i r (turned_by d r g (call_answer r.id g.machine.steps (call_says f at t)))) z
 
-  made_by : (x : InvokeRow) → owed_call h.known r.func place ≡ Some (x.func, x.result) → is_some (map.get h.known callee) ≡ true
-  made_by x there = let j = was_made d c m r g h k true f v call_here (x.func, x.result) there in ap is_some j.1
-
   open_by : (x : InvokeRow) (o : Option Outcome) → x.result ≡ o → owed_call h.known r.func place ≡ Some (x.func, x.result) → Left (call_answer r.id g.machine.steps (open_says false o)) m
-  open_by x None none there = opens_again (made_by x there)
+  open_by x None none there = opens_again (made_by d c m r g h k true f v call_here x there)
   open_by x (Some u) some there = done u (x.func, x.result) there some
 
   open_at : (w : Option Row) → map.get m key ≡ w → CallMatches w (owed_call h.known r.func place) → AfterCall call.Open (act (OpenInvoke f) c.now w)
@@ -188,7 +157,7 @@ module _ (d : Deployment) (c : Core) (m : Rows) (i : ℕ) (r : Run) (g : Begun) 
   open_at (Some w) at owed = absurd owed
 
   look_by : (x : InvokeRow) (o : Option Outcome) → x.result ≡ o → owed_call h.known r.func place ≡ Some (x.func, x.result) → Left (call_answer r.id g.machine.steps (look_says o)) m
-  look_by x None none there = waits (made_by x there)
+  look_by x None none there = waits (made_by d c m r g h k true f v call_here x there)
   look_by x (Some u) some there = done u (x.func, x.result) there some
 
   look_at : (w : Option Row) → map.get m key ≡ w → CallMatches w (owed_call h.known r.func place) → is_some (map.get h.known callee) ≡ true → AfterCall call.Look (act Look c.now w)

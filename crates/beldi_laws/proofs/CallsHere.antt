@@ -1,20 +1,31 @@
 -- What is called at a step, and what a run knows of it.
--- ---- what is called
--- a callee that was made has the body of its call
-use Rattle.std.proofs.Common.{◌≡◌, ℕ, Bool, true, false, List, [], ◌∷◌, if◌then◌else◌, Option, None, Some, refl, ap, sym, ◌∙◌, subst, is_some, zero, suc, arith, length, eq-eqb, ◌<◌}
+use Rattle.std.proofs.Common.{◌≡◌, ℕ, Bool, true, false, List, [], ◌∷◌, if◌then◌else◌, Option, None, Some, refl, ap, sym, ◌∙◌, subst, is_some, zero, suc, arith, length, eq-eqb, ◌<◌, IsTrue}
 use Rattle.std.specs.FinMap as map
 use Rattle.std.specs.Option.{option_map}
 use Rattle.std.specs.Prelude.{slice_get}
 use Rattle.beldi_book.specs.declared.entry.Entry.{Entry}
+use Rattle.beldi_book.specs.declared.entry.Entry.TheVariants.{Step}
 use Rattle.beldi_lang.specs.declared.effect.Answer.{Answer}
 use Rattle.beldi_lang.specs.declared.effect.Effect.TheVariants.{Call}
 use Rattle.beldi_lang.specs.declared.effect.Effect.{Effect}
-use Rattle.beldi_laws.proofs.Turns.{answer_here}
-use Rattle.beldi_order.proofs.Maps.{same_some, here}
-use Rattle.beldi_order.specs.Sane.{call_of, IsCalled, CalledBy}
-use Rattle.beldi_plain.specs.Plain.{effect_before, Instance, step, new_instance, calls_at, callee_of}
+use Rattle.beldi_lang.specs.Wants.{wants_answer}
+use Rattle.beldi_laws.proofs.Decisions.{goes_one, fresh_next}
+use Rattle.beldi_laws.proofs.Keeping.{SameShadows, goes_made, set_shadows}
+use Rattle.beldi_laws.proofs.Moves.{Entered, change_entered}
+use Rattle.beldi_laws.proofs.Frames.{settled_grown, settled_new}
+use Rattle.beldi_laws.proofs.Shown.{Settled, legal_sane, settled}
+use Rattle.beldi_laws.specs.Inside.{Inside}
+use Rattle.beldi_laws.proofs.Turns.{answer_here, step_here, effect_next, not_over, plain_there}
+use Rattle.beldi_order.proofs.Entries.{enabled_step, grows_new}
+use Rattle.beldi_order.proofs.Maps.{same_some, here, elsewhere}
+use Rattle.beldi_order.specs.Grown.{Grows}
+use Rattle.beldi_order.specs.Sane.{call_of, answer_given, IsCalled, CalledBy}
+use Rattle.beldi_plain.specs.Guard.{touched_by, item_touched}
+use Rattle.beldi_plain.specs.Plain.{effect_before, effect_of, Instance, kind_of, new_instance, calls_at, callee_of, step_by, waits_at, with_callee, with_instance, answered, PlainState}
+use Rattle.beldi_plain.specs.declared.kind.Kind.TheVariants as kind
 use Rattle.beldi_row.specs.Table.{Rows, set_row}
 use Rattle.beldi_row.specs.declared.row.Body.{Body}
+use Rattle.beldi_row.specs.declared.row.InvokeRow.{InvokeRow}
 use Rattle.beldi_step.specs.Host.{Core}
 use Rattle.beldi_step.specs.Run.{place_of, callee_by, callee_body}
 use Rattle.beldi_step.specs.declared.run.Begun.{Begun}
@@ -29,17 +40,23 @@ use Rattle.beldi_value.specs.declared.value.Value.{Value}
 use Rattle.beldi_known.specs.Owed.{called_by, result_of}
 use Rattle.beldi_known.specs.Rows.{IsBodyOf}
 use Rattle.beldi_laws.specs.Right.{Right, Knows, KnowsAt}
-use Rattle.beldi_known.specs.Known.{owed_call, Known, at_once}
-use Rattle.beldi_order.specs.Txs.{tx_at}
+use Rattle.beldi_known.proofs.Ahead.{ahead_set, none_out}
+use Rattle.beldi_known.specs.Known.{owed_call, Known, at_once, moved}
+use Rattle.beldi_order.specs.Txs.{tx_at, tx_after}
 use Rattle.beldi_known.specs.Sane.{Sane, within_of}
 use Rattle.beldi_known.specs.Matches.{Matches, LockedAtEnds}
 use Rattle.beldi_value.specs.declared.place.TxId.{TxId}
 use Rattle.beldi_value.specs.declared.place.Caller.{Caller}
 use Rattle.beldi_known.proofs.Frame.{at_once_same}
 use Rattle.beldi_known.proofs.Calls.{call_opened, made_owes}
-use Rattle.beldi_laws.proofs.Outside.{unlocked_new}
+use Rattle.beldi_laws.proofs.Outside.{plain_none, unlocked_new}
+use Rattle.beldi_known.proofs.Instances.{no_own_callee}
+use Rattle.beldi_known.specs.InsideLaws.{Goes}
+use Rattle.beldi_known.specs.Shadows.{tx_of}
+use Rattle.beldi_known.proofs.Answers.{true_false}
+use Rattle.beldi_known.proofs.Opened.{IsOutside}
+use Rattle.beldi_known.proofs.Shadows.{got_answered}
 use Rattle.beldi_invokelog.specs.InvokeLog.{invoke_key, opened}
-use Rattle.std.specs.FinMap as map
 use Rattle.beldi_row.specs.declared.row.Row.TheVariants as rows
 
 -- a call tells whether it waits, its function and its argument
@@ -64,6 +81,7 @@ childless d known sane id new n = by_callee (map.get known (child_of id n)) refl
     by_callee None e = refl
     by_callee (Some j) e = absurd (subst (λ o. CalledBy d id o n j) new (sane.called id n j e))
 
+-- a callee that was made has the body of its call
 pub made_with : (d : Deployment) (known : Known) → Sane d known → (id : IntentId) (func step : ℕ) (w : Bool) (f : ℕ) (v : Value) (q j : Instance) → map.get known id ≡ Some q → q.func ≡ func → tx_at d id q step ≡ None → effect_before d q step ≡ call_of w f v → map.get known (child_of id step) ≡ Some j
     → IsBodyOf (callee_body id func step f v w) (map.get known (child_of id step))
 made_with d known sane id func step w f v q j made func_is out here at =
@@ -127,6 +145,17 @@ module _ (d : Deployment) (c : Core) (m : Rows) (r : Run) (g : Begun) (h : Right
       by_callee None at e = cc
       by_callee (Some j) at e = (j, at, ap (λ z. z.1) (same_some e))
 
+  pub made_by : (x : InvokeRow) → owed_call h.known r.func (place_of r.id g.machine.steps) ≡ Some (x.func, x.result) → is_some (map.get h.known callee) ≡ true
+  made_by x there = let j = was_made (x.func, x.result) there in ap is_some j.1
+
+  -- what its step was answered, where the callee was made, is the first answer that the run has still to be given
+  pub first_given : (j : Instance) → map.get h.known callee ≡ Some j → (later : List Answer) → k.later ≡ later → slice_get later 0 ≡ answer_given w j.outcome
+  first_given j at later left =
+      let called = called_in d h.known h.sane r.id g.machine.steps j at in
+      let same : called.0 ≡ k.instance = same_some (sym called.1 ∙ k.made) in
+      let parts = same_call w called.2.waits f j.func v j.args (sym call_here ∙ ap (λ z. effect_before d z g.machine.steps) (sym same) ∙ called.2.call) in
+      sym (answer_here d c.book h.known r g k later left) ∙ ap (λ z. slice_get z.answers g.machine.steps) (sym same) ∙ called.2.answered ∙ ap (λ t. answer_given t j.outcome) (sym parts.0)
+
   -- where it was not made, the call is the instance's next step
   pub next_here : map.get h.known callee ≡ None → (later : List Answer) → k.later ≡ later → k.later ≡ []
   next_here new [] left = left
@@ -139,6 +168,11 @@ module _ (d : Deployment) (c : Core) (m : Rows) (r : Run) (g : Begun) (h : Right
       answered_before (x ∷ xs) zero a is = omega arith
       answered_before (x ∷ xs) (suc n) a is = let l = answered_before xs n a is in omega (arith, l)
 
+-- an answer that is given first
+pub given_first : (a : Answer) (later : List Answer) → slice_get later 0 ≡ Some a → (rest : List Answer) × (later ≡ a ∷ rest)
+given_first a [] first = cc
+given_first a (b ∷ rest) first = (rest, ap (λ z. z ∷ rest) (same_some first))
+
 -- ---- a call is opened: its row is put, and its callee is known
 pub call_row : (d : Deployment) (known : Known) (locked : IntentId → Bool) → LockedAtEnds d known locked → Sane d known → (id : IntentId) (i : Instance) (f : ℕ) (v : Value) (waits : Bool) → map.get known id ≡ Some i → map.get known (callee_of id i) ≡ None → (m : Rows) (step func : ℕ) → step ≡ length i.answers → i.func ≡ func → Matches d m known locked
     → Matches d (set_row m (invoke_key func (place_of id step)) (Some (rows.Invoke (opened f)))) (map.insert known (callee_of id i) (at_once d (callee_of id i) (new_instance f v (Some (calls_at id i waits))))) locked
@@ -149,3 +183,85 @@ call_row d known locked ends sane id i f v waits is new m step func steps func_i
     subst (λ n. Matches d (set_row m (invoke_key func (place_of id n)) (Some (rows.Invoke (opened f)))) (map.insert known (callee_of id i) z) locked) (sym steps)
     (subst (λ g. Matches d (set_row m (invoke_key g (place_of id (length i.answers))) (Some (rows.Invoke (opened f)))) (map.insert known (callee_of id i) z) locked) func_is
     (call_opened d known locked id i z waits is new (childless d known sane (callee_of id i) new) (unlocked_new d known locked ends (callee_of id i) new) (made_owes d known (callee_of id i) f v (Some (calls_at id i waits))) (sym (ap (λ (b : Body). b.from) same.body)) same.outcome m (opened f) (sym same.func) refl h))
+
+-- .. now: it is the instance's next step
+module _ (d : Deployment) (c : Core) (m : Rows) (i : ℕ) (r : Run) (g : Begun) (h : Right d c m) (live : map.get c.runs i ≡ Some r) (k : Knows d c.book h.known r g) (finds : Inside d m h.plain h.known r g) (out : tx_after d r.id k.instance k.answers ≡ None)
+    (w : Bool) (f : ℕ) (v : Value) (is : g.machine.effect ≡ call_of w f v) (new : map.get h.known (child_of r.id g.machine.steps) ≡ None) (left : k.later ≡ []) where
+  abbrev made_id : IntentId
+  made_id = callee_of r.id k.instance
+
+  abbrev made_new : Instance
+  made_new = new_instance f v (Some (calls_at r.id k.instance w))
+
+  -- what is known with the callee
+  abbrev given : Known
+  given = map.insert h.known made_id (at_once d made_id made_new)
+
+  abbrev opened_rows : Rows
+  opened_rows = set_row m (invoke_key r.func (place_of r.id g.machine.steps)) (Some (rows.Invoke (opened f)))
+
+  pub call_now : effect_of d k.instance ≡ call_of w f v
+  call_now = effect_next d c.book h.known r g k left ∙ is
+
+  steps : g.machine.steps ≡ length k.instance.answers
+  steps = step_here d c.book h.known r g k left
+
+  pub absent_here : map.get h.known made_id ≡ None
+  absent_here = ap (λ n. map.get h.known (child_of r.id n)) (sym steps) ∙ new
+
+  pub callee_there : is_some (map.get given (child_of r.id g.machine.steps)) ≡ true
+  callee_there = ap (λ n. is_some (map.get given (child_of r.id n))) steps ∙ ap is_some (here h.known made_id (at_once d made_id made_new))
+
+  pub caller_there : map.get given r.id ≡ Some k.instance
+  caller_there = elsewhere h.known made_id r.id (at_once d made_id made_new) (no_own_callee r.id (length k.instance.answers)) ∙ k.made
+
+  -- its step is entered, where its id has callees
+  pub call_entered : has_callees r.id ≡ true → (next : Known) → Entered d c h.plain h.known (Step r.id) (step_by h.plain r.id k.instance (call_of w f v)) next
+  call_entered hops next = change_entered d c m h (Step r.id) (step_by h.plain r.id k.instance (call_of w f v)) next refl
+      (enabled_step d h.plain r.id k.instance there (not_over d c m i r g h live k left (subst (λ e. IsTrue (wants_answer e)) (sym is) (wants_one w))) (ap (waits_at h.plain.made r.id k.instance) call_now ∙ waits_not w)
+      (ap (kind_of r.id) call_now ∙ is_change w) ∙ ap (λ z. Some (step_by h.plain r.id k.instance z)) call_now)
+      (λ x touched. let none = sym (ap (touched_by d) there ∙ ap (item_touched k.instance) call_now ∙ touches w) ∙ touched in cc)
+    where
+      there : map.get h.plain.made r.id ≡ Some k.instance
+      there = plain_there d c m i r g h live k finds out (call_of w f v) is left
+
+      wants_one : (b : Bool) → IsTrue (wants_answer (call_of b f v))
+      wants_one true = refl
+      wants_one false = refl
+
+      waits_not : (b : Bool) → waits_at h.plain.made r.id k.instance (call_of b f v) ≡ false
+      waits_not true = ap is_some (plain_none d h.plain h.known h.beside made_id absent_here)
+      waits_not false = ap is_some (plain_none d h.plain h.known h.beside made_id absent_here)
+
+      is_change : (b : Bool) → kind_of r.id (call_of b f v) ≡ kind.Change
+      is_change true = ap (λ t. if t then kind.Change else kind.Unbuilt) hops
+      is_change false = ap (λ t. if t then kind.Change else kind.Unbuilt) hops
+
+      touches : (b : Bool) → item_touched k.instance (call_of b f v) ≡ None
+      touches true = refl
+      touches false = refl
+
+  -- the callee is made in both, and its row is put
+  pub callee_goes : Goes d opened_rows (with_callee h.plain r.id k.instance f v w) given h.locked
+  callee_goes = goes_made h opened_rows (set_shadows m (invoke_key r.func (place_of r.id g.machine.steps)) (Some (rows.Invoke (opened f))) refl) made_id made_new absent_here (refl, refl)
+
+  pub callee_row : Matches d opened_rows given h.locked
+  callee_row = call_row d h.known h.locked h.locked_at_ends h.sane r.id k.instance f v w k.made absent_here m g.machine.steps r.func steps k.func h.rows
+
+  -- nobody has a lock ahead that had none
+  pub callee_ahead : LockedAtEnds d given h.locked
+  callee_ahead = ahead_set d h.known h.locked h.locked_at_ends h.locked made_id (at_once d made_id made_new) (none_out h.locked made_id (unlocked_new d h.known h.locked h.locked_at_ends made_id absent_here))
+
+  pub callee_settled : (p : PlainState) → Grows h.plain.made p.made → Settled d m p given
+  callee_settled p grows = settled_new d m p h.known made_id made_new refl (settled_grown d m h.plain p h.known grows (settled h))
+
+  pub callee_grows : Grows h.known given
+  callee_grows = grows_new h.known made_id (at_once d made_id made_new) absent_here
+
+-- ---- one instance was set, and then another is answered, that stays outside or begins: no shadow was made in between
+pub goes_answered_then : {d : Deployment} {c : Core} {m : Rows} (h : Right d c m) (n : Rows) → SameShadows m n → (p : PlainState) (known : Known) → Goes d n p known h.locked → (id : IntentId) (k : Instance) (a : Answer) → map.get h.known id ≡ Some k → map.get known id ≡ Some k → h.locked id ≡ false
+    → IsOutside d (answered k a) (answered k a).answers → Goes d n (with_instance p id (answered k a)) (map.insert known id (moved d id k a)) h.locked
+goes_answered_then {d} {c} {m} h n same p known goes id k a was is unlocked out =
+    goes_one d n p known h.locked goes.shadows goes.beside id (answered k a) out
+    (λ b x. same (tx_of id (answered k a)) x ∙ fresh_next d m h.plain h.known h.locked h.shadows h.beside h.sane h.rows (legal_sane h) n same id k was a out b x) n (λ t x. refl)
+    (got_answered d n known h.locked goes.shadows.got h.locked id k a (none_out h.locked id unlocked) is (λ l. absurd (true_false (sym l ∙ unlocked))))

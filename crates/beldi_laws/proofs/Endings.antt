@@ -8,16 +8,21 @@ use Rattle.beldi_lang.specs.Callee.{answer_of}
 use Rattle.beldi_lang.specs.declared.effect.Answer.{Answer}
 use Rattle.beldi_lang.specs.declared.effect.Effect.TheVariants.{Return, Call}
 use Rattle.beldi_laws.proofs.Beginnings.{same_roots}
-use Rattle.beldi_laws.proofs.Moves.{AfterTurn, AfterQuery, SameRoots, change_entered, Entered, entered, AfterAct, still, replaced}
+use Rattle.beldi_laws.proofs.Decisions.{goes_one, got_ended}
+use Rattle.beldi_laws.proofs.Others.{kept_by}
+use Rattle.beldi_laws.proofs.Frames.{settled_ended, settled_grown, settled_outside, settled_rows}
+use Rattle.beldi_laws.proofs.Keeping.{SameShadows, act_stays, as_it_was}
+use Rattle.beldi_laws.proofs.Moves.{AfterTurn, AfterQuery, SameRoots, Kept, Stays, change_entered, Entered, entered, AfterAct, still, replaced}
 use Rattle.beldi_known.proofs.Rows.{set_others, no_root as no_root_key}
 use Rattle.beldi_laws.proofs.Turns.{effect_next, fits, goes_on, ends, at_another, sane_instance, tx_next, plain_there, outside_there, unlocked_there}
 use Rattle.beldi_order.proofs.Called.{last_hop}
 use Rattle.beldi_order.proofs.Entries.{enabled_step, grows_at, grown_end, grows_through}
 use Rattle.beldi_order.proofs.Maps.{same_some, elsewhere, here}
-use Rattle.beldi_order.proofs.Sanes.{waited, answers_waiter, not_itself, Waited, sane_of, call_answers}
+use Rattle.beldi_order.proofs.Sanes.{waited, answers_waiter, not_itself, Waited, sane_of}
 use Rattle.beldi_order.specs.Sane.{IsCalled}
 use Rattle.beldi_plain.specs.Guard.{touched_by, item_touched}
-use Rattle.beldi_plain.specs.Plain.{PlainState, Instance, answered, effect_of, with_instance, ended, kind_of, step_by, outcome_of, waits_at, answer_caller, give}
+use Rattle.beldi_plain.specs.Item.{Item}
+use Rattle.beldi_plain.specs.Plain.{PlainState, Instance, answered, effect_of, with_instance, ended, kind_of, step_by, outcome_of, value_at, waits_at, answer_caller, give}
 use Rattle.beldi_row.proofs.Unchanged.{looked}
 use Rattle.beldi_row.specs.Act.{Tell, act, end_with, finish_at, call_back_to}
 use Rattle.beldi_row.specs.Table.{Rows, set_row, after_act}
@@ -46,14 +51,19 @@ use Rattle.beldi_known.specs.Owed.{called_by, result_of}
 use Rattle.beldi_known.specs.Rows.{IntentMatches, IsCalleeRow, CallMatches, BodyMatches, RootMatches, CalleeBodyMatches, OutcomeMatches}
 use Rattle.beldi_laws.specs.Right.{Right, Knows}
 use Rattle.beldi_known.specs.Known.{Known, owed_call, moved, commit_in}
-use Rattle.beldi_order.specs.Txs.{tx_now, txs_after}
+use Rattle.beldi_order.specs.Txs.{tx_after, tx_now, txs_after}
 use Rattle.beldi_known.specs.Sane.{Sane}
-use Rattle.beldi_known.specs.Matches.{Matches}
+use Rattle.beldi_known.specs.Matches.{Matches, LockedAtEnds}
 use Rattle.beldi_known.specs.Beside.{is_begin}
-use Rattle.beldi_laws.proofs.CallsHere.{called_in}
+use Rattle.beldi_known.specs.InsideLaws.{Goes}
+use Rattle.beldi_known.specs.Listed.{listed}
+use Rattle.beldi_known.proofs.Ahead.{ahead_set, none_out}
+use Rattle.beldi_laws.specs.Inside.{Frame, Inside}
+use Rattle.beldi_laws.proofs.CallsHere.{called_in, goes_answered_then}
 use Rattle.beldi_laws.proofs.KeptSane.{returned_kept, ended_kept}
-use Rattle.beldi_laws.proofs.Shown.{Shows, Stays, shown, log_values, log_stays, legal_sane, Aside, aside, aside_still, went_of}
-use Rattle.beldi_laws.proofs.Outside.{unlocked_here, outside_so, same_here, outside_more, outside_parts}
+use Rattle.beldi_laws.proofs.Shown.{Settled, settled, log_values, legal_sane}
+use Rattle.beldi_known.proofs.Opened.{outside_so, outside_parts}
+use Rattle.beldi_laws.proofs.Outside.{unlocked_here, same_here, outside_more}
 use Rattle.beldi_laws.proofs.Grown.{grows_moved}
 use Rattle.beldi_order.specs.Grown.{Grows}
 use Rattle.beldi_known.proofs.Outside.{call_answered}
@@ -62,9 +72,7 @@ use Rattle.beldi_known.proofs.Intents.{intent_ended, callee_put}
 use Rattle.beldi_known.proofs.Frame.{moved_one}
 use Rattle.beldi_known.specs.Frame.{row_added}
 use Rattle.beldi_plain.specs.Operation.{op_of}
-use Rattle.beldi_laws.proofs.Registered.{marked_registered}
-use Rattle.beldi_laws.proofs.Singles.{pushed_outside}
-use Rattle.beldi_laws.specs.Outside.{IsAnswerTo}
+use Rattle.beldi_laws.proofs.Registered.{log_frame, log_shadows, log_stays, marked_registered}
 
 -- ---- who called an instance
 -- the caller of an instance, if it has one, made it at this step
@@ -96,14 +104,14 @@ root_unwaited d known id q sane made root = (sane.roots id.ticket q (ap (map.get
     by_hops [] e = refl
     by_hops (x ∷ xs) e = cc
 
-module _ (d : Deployment) (c : Core) (m : Rows) (i : ℕ) (r : Run) (g : Begun) (h : Right d c m) (live : map.get c.runs i ≡ Some r) (k : Knows d c.book h.known r g) (o : Outcome) (is : g.machine.effect ≡ Return o) where
+module _ (d : Deployment) (c : Core) (m : Rows) (i : ℕ) (r : Run) (g : Begun) (h : Right d c m) (live : map.get c.runs i ≡ Some r) (k : Knows d c.book h.known r g) (finds : Inside d m h.plain h.known r g) (out : tx_after d r.id k.instance k.answers ≡ None) (o : Outcome) (is : g.machine.effect ≡ Return o) where
   abbrev Left : Says → Rows → Type 0
   Left s n = AfterTurn d h.plain c i r (turned_by d r g s) n
 
   -- a body that returns was answered nothing more
   no_answer : (later : List Answer) → k.later ≡ later → k.later ≡ []
   no_answer [] left = left
-  no_answer (a ∷ rest) left = absurd (fits d c m i r g h live k (Return o) is a rest left)
+  no_answer (a ∷ rest) left = absurd (fits d c m i r g h live k finds out (Return o) is a rest left)
 
   at_end : k.later ≡ []
   at_end = no_answer k.later refl
@@ -112,17 +120,17 @@ module _ (d : Deployment) (c : Core) (m : Rows) (i : ℕ) (r : Run) (g : Begun) 
   returns_now = effect_next d c.book h.known r g k at_end ∙ is
 
   outside : tx_now d r.id k.instance ≡ None
-  outside = tx_next d c.book h.known r g k at_end
+  outside = tx_next d c.book h.known r g k out at_end
 
   unlocked : h.locked r.id ≡ false
-  unlocked = unlocked_there d c m i r g h live k (Return o) is at_end
+  unlocked = unlocked_there d c m i r g h live k finds out (Return o) is at_end
 
   there : map.get h.plain.made r.id ≡ Some k.instance
-  there = plain_there d c m i r g h live k (Return o) is at_end
+  there = plain_there d c m i r g h live k finds out (Return o) is at_end
 
   -- an outcome that it has is this one
   same_outcome : (u : Outcome) → k.instance.outcome ≡ Some u → u ≡ o
-  same_outcome u has = let both : Return u ≡ Return o = sym ((sane_instance d c m i r g h live k (Return o) is).over u has) ∙ returns_now in cc
+  same_outcome u has = let both : Return u ≡ Return o = sym ((sane_instance d c m i r g h live k).over u has) ∙ returns_now in cc
 
   abbrev done : Instance
   done = ended k.instance o
@@ -135,16 +143,23 @@ module _ (d : Deployment) (c : Core) (m : Rows) (i : ℕ) (r : Run) (g : Begun) 
     abbrev state : PlainState
     state = step_by h.plain r.id k.instance (Return o)
 
-    leads : (next : Known) → Grows h.known next → Entered d c h.plain (Step r.id) state next
-    leads next grows = change_entered d c m h (Step r.id) state next refl
+    leads : (next : Known) → Entered d c h.plain h.known (Step r.id) state next
+    leads next = change_entered d c m h (Step r.id) state next refl
         (enabled_step d h.plain r.id k.instance there open_still (ap (waits_at h.plain.made r.id k.instance) returns_now) (ap (kind_of r.id) returns_now) ∙ ap (λ z. Some (step_by h.plain r.id k.instance z)) returns_now)
-        (λ x touched. let none = sym (ap (touched_by d) there ∙ ap (item_touched k.instance) returns_now) ∙ touched in cc) grows
+        (λ x touched. let none = sym (ap (touched_by d) there ∙ ap (item_touched k.instance) returns_now) ∙ touched in cc)
 
     grows_over : Grows h.known over
     grows_over = grows_at h.known r.id k.instance done k.made (grown_end k.instance o open_still)
 
-    aside_over : Aside d (with_instance h.plain r.id done) over h.locked
-    aside_over = aside_still d h.plain h.known h.locked (aside h) r.id done (outside_there d c.book h.known r g k at_end) (went_of h r.id k.instance there) unlocked
+    settled_over : (p : PlainState) → Grows h.plain.made p.made → Settled d m p over
+    settled_over p grows = settled_ended d m p h.known r.id k.instance o k.made (settled_grown d m h.plain p h.known grows (settled h))
+
+  ahead_over : LockedAtEnds d over h.locked
+  ahead_over = ahead_set d h.known h.locked h.locked_at_ends h.locked r.id done (none_out h.locked r.id unlocked)
+
+  goes_over : (n : Rows) → SameShadows m n → Goes d n (with_instance h.plain r.id done) over h.locked
+  goes_over n same = goes_one d m h.plain h.known h.locked h.shadows h.beside r.id done (outside_there d c.book h.known r g k out at_end) (λ b. cc) n same
+      (got_ended d m h.plain h.known h.locked h.shadows h.beside h.sane h.rows (legal_sane h) n same r.id k.instance k.made o)
 
   -- ---- it gives its outcome back
   module _ (b : Caller) (from : g.caller ≡ Some b) (waits : b.waits ≡ true) where
@@ -166,7 +181,7 @@ module _ (d : Deployment) (c : Core) (m : Rows) (i : ℕ) (r : Run) (g : Begun) 
         ∙ ap (λ z. Some (k.instance.func, (if z then k.instance.outcome else None))) waited_here
 
     closes_on : is_some k.instance.outcome ≡ true → Left (On stage.Close None) m
-    closes_on there = goes_on d c m i r g h live k (Return o) is m stage.Close (λ t. refl) (shown h) tt tt (λ w. there)
+    closes_on there = goes_on d c m i r g h live k finds out (Return o) is m stage.Close (λ t. refl) (as_it_was h) tt tt (λ w. there)
 
     -- it was given back now: its caller stands at the call
     module _ (x : InvokeRow) (at : map.get m back_key ≡ Some (rows.Invoke x)) (open_still : k.instance.outcome ≡ None) (w : Waited d h.plain r.id k.instance) where
@@ -209,8 +224,8 @@ module _ (d : Deployment) (c : Core) (m : Rows) (i : ℕ) (r : Run) (g : Begun) 
       comes_to : with_instance (with_instance h.plain r.id done) w.caller (answered w.waiter answer) ≡ state open_still
       comes_to = sym (answers_waiter d h.plain r.id k.instance w done o)
 
-      steps : Entered d c h.plain (Step r.id) (state open_still) next
-      steps = leads open_still next (grows_through h.known over next (grows_over open_still) (grows_moved d over w.caller w.waiter answer caller_still))
+      steps : Entered d c h.plain h.known (Step r.id) (state open_still) next
+      steps = leads open_still next
 
       rows_given : Matches d (set_row m back_key new) next h.locked
       rows_given = subst (λ z. Matches d (set_row m z new) next h.locked) own_key
@@ -227,19 +242,29 @@ module _ (d : Deployment) (c : Core) (m : Rows) (i : ℕ) (r : Run) (g : Begun) 
       sane_given = subst (λ z. Sane d (map.insert (map.insert h.known z done) w.caller caller_on)) (sym w.is_callee)
           (returned_kept d h.known h.sane w.caller w.waiter k.instance o caller_here (ap (map.get h.known) (sym w.is_callee) ∙ k.made) open_still waited_here returns_now)
 
-      shows_given : Shows d (set_row m back_key new) (state open_still) next h.locked
-      shows_given = subst (λ z. Shows d (set_row m back_key new) z next h.locked) comes_to
+      kept_given : Kept h (set_row m back_key new) (state open_still) next h.locked
+      kept_given =
+          let n = set_row m back_key new in
+          let same = log_shadows d m back_key new refl (λ e. refl) in
+          let two = with_instance (with_instance h.plain r.id done) w.caller (answered w.waiter answer) in
+          let frame = subst (λ z. Frame d m n h.plain z h.known next) comes_to (log_frame d m back_key new refl (λ e. refl) h.plain two h.known next refl) in
+          kept_by d c m n h (state open_still) next h.locked
           (record {
-            aside = aside_still d (with_instance h.plain r.id done) over h.locked (aside_over open_still) w.caller (answered w.waiter answer) (outside_more d w.caller w.waiter w.waiter.answers (outside_parts d w.caller w.waiter w.waiter.answers caller_outside).0 no_begin_there answer) (pushed_outside d w.waiter answer (subst (λ z. IsAnswerTo z answer) (sym w.stands) (call_answers o)) (went_of h w.caller w.waiter w.made)) caller_unlocked;
+            goes = subst (λ z. Goes d n z next h.locked) comes_to (goes_answered_then h n same (with_instance h.plain r.id done) over (goes_over n same) w.caller w.waiter answer caller_here caller_still caller_unlocked
+                (outside_more d w.caller w.waiter w.waiter.answers (outside_parts d w.caller w.waiter w.waiter.answers caller_outside).0 no_begin_there answer));
+            locked_at_ends = ahead_set d over h.locked ahead_over h.locked w.caller caller_on (none_out h.locked w.caller caller_unlocked);
             sane = sane_given;
             rows = rows_given;
-            values = log_values h back_key new refl;
+            values = subst (λ z. (x : Item) → listed n x ≡ value_at z x) comes_to (log_values h back_key new refl);
+            settled = settled_rows d m n h.plain (state open_still) h.known next frame (settled_outside d m (state open_still) over w.caller w.waiter caller_still answer caller_outside (settled_over open_still (state open_still) steps.grows));
           })
+          (grows_through h.known over next (grows_over open_still) (grows_moved d over w.caller w.waiter answer caller_still)) frame
 
       given_now : Left (On stage.Close (Some mark.Step)) (set_row m back_key new)
       given_now = entered d c m (set_row m back_key new) i r h live (λ u. ap is_some (set_others m back_key new (root_key u) (no_root_key u b.func (kinds.Invoke b.place) refl)))
-          (turned_by d r g (On stage.Close (Some mark.Step))) mark.Step (state open_still) next refl steps (λ u told. cc)
-          (at_another d c m i r g h live k (Return o) is (c.book ++ Step r.id ∷ []) next done k.later stage.Close itself (grown_end k.instance o open_still) k.run_answers tt tt (λ e. refl)) (λ e. cc) shows_given
+          (turned_by d r g (On stage.Close (Some mark.Step))) mark.Step (state open_still) next h.locked refl steps (λ u told. cc)
+          (at_another d c m i r g h live k finds out (Return o) is (c.book ++ Step r.id ∷ []) (set_row m back_key new) (state open_still) next h.locked done k.later stage.Close kept_given itself (grown_end k.instance o open_still) k.run_answers tt tt (λ e. refl))
+          (λ e. cc) kept_given
 
     abbrev AfterBack : Option Row × Tell → Type 0
     AfterBack z = AfterAct d h.plain m back_key (λ t. turn_next c i r (turned_by d r g (back_says (back_of t)))) z
@@ -263,15 +288,15 @@ module _ (d : Deployment) (c : Core) (m : Rows) (i : ℕ) (r : Run) (g : Begun) 
 
   -- ---- it tells its caller, which does not wait, that it is registered
   tells_on : (n : Rows) → SameRoots m n → Stays h n → is_waited g.caller ≡ false → Left (On stage.Close None) n
-  tells_on n roots rows idle = goes_on d c m i r g h live k (Return o) is n stage.Close roots rows tt tt (λ w. let clash = sym idle ∙ w in cc)
+  tells_on n roots rows idle = goes_on d c m i r g h live k finds out (Return o) is n stage.Close roots rows tt tt (λ w. let clash = sym idle ∙ w in cc)
 
   pub tell_turn : (b : Option Caller) → is_waited g.caller ≡ false → AfterQuery d h.plain c.now m (λ t. turn_next c i r (turned_by d r g (On stage.Close None))) (tell_asks r.id r.func b)
-  tell_turn None idle = subst (Left (On stage.Close None)) (sym (looked c.now (intent_key r.id r.func) m)) (tells_on m (λ t. refl) (shown h) idle)
+  tell_turn None idle = subst (Left (On stage.Close None)) (sym (looked c.now (intent_key r.id r.func) m)) (tells_on m (λ t. refl) (as_it_was h) idle)
   tell_turn (Some b) idle =
       let at = invoke_key b.func b.place in
       let row = (act NoteRegistered c.now (map.get m at)).0 in
       tells_on (after_act NoteRegistered c.now at m) (λ u. ap is_some (set_others m at row (root_key u) (no_root_key u b.func (kinds.Invoke b.place) refl)))
-      (log_stays h at row refl (marked_registered d m h.known h.locked b.func b.place c.now h.rows)) idle
+      (log_stays d m at row refl (act_stays NoteRegistered c.now (map.get m at)) c h (marked_registered d m h.known h.locked b.func b.place c.now h.rows)) idle
 
   -- ---- it is ended
   abbrev key : RowKey
@@ -285,7 +310,7 @@ module _ (d : Deployment) (c : Core) (m : Rows) (i : ℕ) (r : Run) (g : Begun) 
   finished (Some n) = refl
 
   close_ends : (n : Rows) → SameRoots m n → Stays h n → Left (Ends None None) n
-  close_ends n roots rows = ends d c m i r g h live k (Return o) is n roots rows
+  close_ends n roots rows = ends d c m i r g h live k n roots rows
 
   abbrev AfterClose : Option Row × Tell → Type 0
   AfterClose z = AfterAct d h.plain m key (λ t. turn_next c i r (turned_by d r g (close_says r.id g.caller (Return o) (is_did t)))) z
@@ -324,7 +349,7 @@ module _ (d : Deployment) (c : Core) (m : Rows) (i : ℕ) (r : Run) (g : Begun) 
         let f : IsCalleeRow key.home j (Some k.instance) = subst (λ b. IntentMatches b key.home (Some (rows.Intent j)) (Some k.instance)) hops (row_here j at) in
         let fits : IsCalleeRow key.home (end_row j) (map.get h.known r.id) = subst (IsCalleeRow key.home (end_row j)) (sym k.made) (record { finishes = finished j.finish; body = body_ended key.home j.body j.outcome f.body }) in
         subst (λ z. Left z (set_row m key new)) (sym (ap (λ b. Ends (mark_if (not b) mark.Step) (reply_if (has_no_hops r.id.hops) o)) waits ∙ ap (λ b. Ends None (reply_if b o)) hops))
-        (close_ends (set_row m key new) (same_roots m key.home r.id new hops) (log_stays h key new refl (callee_put d h.known h.locked m r.id key.home (end_row j) hops fits h.rows)))
+        (close_ends (set_row m key new) (same_roots m key.home r.id new hops) (log_stays d m key new refl (λ e. refl) c h (callee_put d h.known h.locked m r.id key.home (end_row j) hops fits h.rows)))
 
   -- one that nobody waits for: its step is its end, which gives a root's reply
   module _ (idle : is_waited g.caller ≡ false) where
@@ -368,30 +393,45 @@ module _ (d : Deployment) (c : Core) (m : Rows) (i : ℕ) (r : Run) (g : Begun) 
     replies true root v told = ap (λ z. outcome_of (map.get left_state.made z)) (sym (root_is root)) ∙ ap outcome_of (here h.plain.made r.id done) ∙ told
     replies false root v told = cc
 
+    kept_ended : k.instance.outcome ≡ None → (j : IntentRow) → Grows h.plain.made left_state.made → let n = set_row m key (Some (rows.Intent j)) in Matches d n over h.locked → Kept h n left_state over h.locked
+    kept_ended open_still j grows matches =
+        let new = Some (rows.Intent j) in
+        let n = set_row m key new in
+        let frame = log_frame d m key new refl (λ e. refl) h.plain left_state h.known over refl in
+        kept_by d c m n h left_state over h.locked
+        (record {
+          goes = goes_over n (log_shadows d m key new refl (λ e. refl));
+          locked_at_ends = ahead_over;
+          sane = ended_kept d h.known h.sane r.id k.instance o k.made returns_now idle_here;
+          rows = matches;
+          values = log_values h key new refl;
+          settled = settled_rows d m n h.plain left_state h.known over frame (settled_over open_still left_state grows);
+        })
+        (grows_over open_still) frame
+
     step_now : AfterEnd
     unfolding AfterEnd
     step_now j at none =
         let new = Some (rows.Intent (end_row j)) in
         let open_still = open_by (has_no_hops r.id.hops) key.home j (row_here j at) ∙ none in
-        let steps = subst (λ z. Entered d c h.plain (Step r.id) z over) (no_answer_given k.instance.from idle_here) (leads open_still over (grows_over open_still)) in
+        let steps = subst (λ z. Entered d c h.plain h.known (Step r.id) z over) (no_answer_given k.instance.from idle_here) (leads open_still over) in
         let own : RowKey = intent_key r.id k.instance.func in
         let own_is : own ≡ key = ap (intent_key r.id) k.func in
         let rows_ended : Matches d (set_row m key new) over h.locked = subst (λ z. Matches d (set_row m z new) over h.locked) own_is
         (intent_ended d h.known h.locked r.id k.instance o k.made unlocked returns_now idle_here m j (end_row j) (record { body = refl; outcome = refl; finish = finished j.finish }) (ap (map.get m) own_is ∙ at) h.rows) in
         subst (λ z. Left z (set_row m key new)) (sym (ap (λ b. Ends (mark_if (not b) mark.Step) (reply_if (has_no_hops r.id.hops) o)) idle))
-        (entered d c m (set_row m key new) i r h live (replaced m key new (ap is_some (sym at))) (turned_by d r g (Ends (Some mark.Step) (reply_if (has_no_hops r.id.hops) o))) mark.Step left_state over refl steps
-        (replies (has_no_hops r.id.hops) refl) tt (λ e. cc)
-        (record { aside = aside_over open_still; sane = ended_kept d h.known h.sane r.id k.instance o k.made returns_now idle_here; rows = rows_ended; values = log_values h key new refl }))
+        (entered d c m (set_row m key new) i r h live (replaced m key new (ap is_some (sym at))) (turned_by d r g (Ends (Some mark.Step) (reply_if (has_no_hops r.id.hops) o))) mark.Step left_state over h.locked refl steps
+        (replies (has_no_hops r.id.hops) refl) tt (λ e. cc) (kept_ended open_still (end_row j) steps.grows rows_ended))
 
   close_by : AfterEnd → (j : IntentRow) (u : Option Outcome) → j.outcome ≡ u → map.get m key ≡ Some (rows.Intent j) → AfterClose (Some (rows.Intent (end_with o true c.now j u).0), (end_with o true c.now j u).1)
   unfolding AfterEnd
   close_by on_end j None none at = on_end j at none
-  close_by on_end j (Some u) some at = still d h.plain m key (Some (rows.Intent j)) (sym at) (close_ends m (λ t. refl) (shown h))
+  close_by on_end j (Some u) some at = still d h.plain m key (Some (rows.Intent j)) (sym at) (close_ends m (λ t. refl) (as_it_was h))
 
   close_at : AfterEnd → (w : Option Row) → map.get m key ≡ w → AfterClose (act (End o true) c.now w)
-  close_at on_end None at = still d h.plain m key None (sym at) (close_ends m (λ t. refl) (shown h))
+  close_at on_end None at = still d h.plain m key None (sym at) (close_ends m (λ t. refl) (as_it_was h))
   close_at on_end (Some (rows.Intent j)) at = close_by on_end j j.outcome refl at
-  close_at on_end (Some w) at = still d h.plain m key (Some w) (sym at) (close_ends m (λ t. refl) (shown h))
+  close_at on_end (Some w) at = still d h.plain m key (Some w) (sym at) (close_ends m (λ t. refl) (as_it_was h))
 
   pub close_turn : (is_waited g.caller ≡ true → is_some k.instance.outcome ≡ true) → AfterQuery d h.plain c.now m (λ t. turn_next c i r (turned_by d r g (close_says r.id g.caller (Return o) (is_did t)))) (end_asks r.id r.func o true)
   close_turn seen = close_at (elim (is_waited g.caller) as (λ t. is_waited g.caller ≡ t → AfterEnd) [

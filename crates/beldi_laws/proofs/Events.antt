@@ -10,21 +10,18 @@ use Rattle.std.proofs.lemmas.Cmp.{tied_itself}
 use Rattle.std.proofs.lemmas.Bool.Decides.{nat_tests}
 use Rattle.std.proofs.Math.Bool.{and-false}
 use Rattle.std.proofs.lemmas.Bool.{or_parts}
-use Rattle.beldi_value.specs.Id.{id_cmp, id_total, root_of, child_of, has_no_hops}
+use Rattle.beldi_value.specs.Id.{id_cmp, id_total, root_of}
 use Rattle.beldi_value.specs.declared.place.Caller.{Caller}
 use Rattle.beldi_value.specs.Same.{same_value}
 use Rattle.beldi_value.specs.declared.outcome.Outcome.{Outcome}
 use Rattle.beldi_value.specs.declared.value.Value.{Value}
 use Rattle.beldi_tree.specs.declared.deployment.Deployment.{Deployment}
 use Rattle.beldi_lang.specs.declared.effect.Effect.{Effect}
-use Rattle.beldi_lang.specs.declared.effect.Effect.TheVariants.{Read, Write, CondWrite, Lock, Unlock, Call, Async, Return}
+use Rattle.beldi_lang.specs.declared.effect.Effect.TheVariants.{Read, Write, CondWrite, Lock, Unlock, Call, Async, End, Return}
 use Rattle.beldi_book.specs.declared.entry.Entry.TheVariants.{Start}
-use Rattle.beldi_row.specs.Key.{key_cmp}
-use Rattle.beldi_row.specs.declared.key.Kind.{Kind}
-use Rattle.beldi_row.specs.declared.key.Kind.TheVariants as kinds
+use Rattle.beldi_row.specs.Key.{key_cmp, least_key}
 use Rattle.beldi_tree.specs.Bindings.{or_null}
 use Rattle.beldi_plain.specs.Item.{item_cmp}
-use Rattle.beldi_plain.specs.Holds.{holds}
 use Rattle.beldi_row.specs.declared.row.Body.{Body}
 use Rattle.beldi_row.specs.declared.row.IntentRow.{IntentRow}
 use Rattle.beldi_row.specs.declared.row.Row.{Row}
@@ -46,6 +43,8 @@ use Rattle.beldi_step.specs.declared.run.Begun.{Begun}
 use Rattle.beldi_step.specs.declared.run.Stage.{Stage}
 use Rattle.beldi_step.specs.declared.run.Stage.TheVariants as stage
 use Rattle.beldi_value.specs.declared.id.IntentId.{IntentId}
+use Rattle.beldi_value.specs.declared.place.TxId.{TxId}
+use Rattle.beldi_order.specs.Txs.{tx_after}
 use Rattle.beldi_walk.specs.declared.query.Query.{Query}
 use Rattle.beldi_walk.specs.Query.{Told, lends, rows_after, told_by, CameOn}
 use Rattle.beldi_walk.proofs.Lent.{rows_stand, refused_stand}
@@ -53,9 +52,8 @@ use Rattle.beldi_intent.specs.Intent.{root_key, bind_asks, is_added, binding_of}
 use Rattle.beldi_invokelog.specs.InvokeLog.{back_of}
 use Rattle.beldi_step.specs.Run.{is_waited, back_says, back_to_asks, turned_by, stage_asks, stage_says, asks_at, told_at, run_asks, run_told}
 use Rattle.beldi_step.specs.Host.{at_once, Core, Plan, asks, first_core, most_runs, most_events, last_moment, is_crowded, has_run, passed, launched, collect_next, run_plan, crash_plan, new_run, with_run, ended_run, ticket_next, bound_next, request_next, turn_next, run_next, unheard_next, plan_of, counted, plan, heard, no_memory, refused, refused_by, Followed, EventBy, EventOn}
-use Rattle.beldi_known.specs.Contents.{head_key, shadow_key}
-use Rattle.beldi_known.specs.Rows.{HasNoRow, RootMatches, IntentMatches, IsRootRow, BodyMatches}
-use Rattle.beldi_known.specs.Owed.{called_by}
+use Rattle.beldi_known.specs.Contents.{head_key}
+use Rattle.beldi_known.specs.Rows.{IntentMatches, IsRootRow, BodyMatches}
 use Rattle.beldi_daal.specs.Content.{content_in}
 use Rattle.beldi_laws.specs.Laws.{told_outcome, is_gone, RepliesAreOutcomes, KeepsRight, RightIsLegal}
 use Rattle.beldi_row.proofs.Gets.{got}
@@ -63,9 +61,9 @@ use Rattle.beldi_row.proofs.Unchanged.{unchanged}
 use Rattle.beldi_book.specs.Order.{count_changes}
 use Rattle.beldi_order.proofs.Entries.{grows_self, grows_new}
 use Rattle.beldi_order.proofs.Maps.{same_some}
-use Rattle.beldi_laws.proofs.Lives.{runs_more, runs_less}
+use Rattle.beldi_laws.proofs.Lives.{places_same, runs_on, runs_more, runs_less}
 use Rattle.beldi_order.proofs.Operations.{id_same}
-use Rattle.beldi_laws.proofs.Moves.{if_plan, seen_by, After, AfterQuery, AfterAct, replaced, change_entered, unheard, with_runs, right_by}
+use Rattle.beldi_laws.proofs.Moves.{if_plan, seen_by, After, AfterQuery, AfterAct, replaced, change_entered, unheard, with_runs, right_by, Kept, Stays}
 use Rattle.beldi_laws.proofs.OneEvent.{lent_only}
 use Rattle.beldi_laws.proofs.Beginnings.{look_turn, register_turn}
 use Rattle.beldi_laws.proofs.Callings.{call_turn}
@@ -74,25 +72,28 @@ use Rattle.beldi_laws.proofs.Endings.{back_turn, tell_turn, close_turn}
 use Rattle.beldi_collect.specs.declared.cursor.Found.{Found}
 use Rattle.beldi_collect.specs.declared.cursor.Found.TheVariants as found
 use Rattle.beldi_collect.specs.Collect.{collect_asks, collect_says}
-use Rattle.beldi_row.specs.Key.{least_key}
 use Rattle.beldi_row.specs.declared.key.RowKey.{RowKey}
 use Rattle.beldi_laws.proofs.Operations.{operation_turn}
 use Rattle.beldi_laws.proofs.Readings.{ask_turn, walk_turn, keep_turn}
 use Rattle.beldi_plain.specs.Guard.{touched_by}
-use Rattle.beldi_laws.specs.Right.{Right, Knows, KnowsAt, RunAt, StageOk, PlaceOk, SeenDone}
-use Rattle.beldi_known.specs.Known.{Known, at_once as with_once, owed_value, owed_lockset, owed_note, owed_shadow, got_by}
-use Rattle.beldi_known.specs.Matches.{RowMatches, ItemMatches, ShadowMatches, TxsMatch}
-use Rattle.std.specs.Option.{option_map}
+use Rattle.beldi_laws.specs.Inside.{Inside, InsideAt, AtStage}
+use Rattle.beldi_laws.specs.Right.{Right, Knows, KnowsAt, RunAt, StageOk, PlaceOk, SeenDone, MarkOk}
+use Rattle.beldi_known.specs.Known.{Known, at_once as with_once, ended_by}
 use Rattle.beldi_laws.proofs.KeptSane.{root_kept}
-use Rattle.beldi_laws.proofs.Shown.{log_values, log_stays, aside, aside_still}
+use Rattle.beldi_laws.proofs.Shown.{log_values, settled}
+use Rattle.beldi_laws.proofs.Frames.{frame_row, items_stay, settled_grown, settled_new, settled_rows}
+use Rattle.beldi_laws.proofs.Others.{kept_by}
+use Rattle.beldi_laws.proofs.Keeping.{goes_made, set_shadows}
+use Rattle.beldi_laws.proofs.InsideTurns.{tx_turn, decide_turn, end_turn}
 use Rattle.beldi_laws.proofs.Outside.{plain_none, unlocked_new, outcome_known}
-use Rattle.beldi_laws.proofs.Turns.{tx_here}
+use Rattle.beldi_laws.proofs.Registered.{log_stays}
 use Rattle.beldi_laws.proofs.CallsHere.{childless}
 use Rattle.beldi_known.proofs.Intents.{root_bound}
 use Rattle.beldi_known.proofs.Sets.{row_put}
 use Rattle.beldi_known.specs.Listed.{listed_under}
-use Rattle.beldi_known.proofs.Answers.{true_false}
-use Rattle.beldi_laws.proofs.Singles.{new_outside, none_outside}
+use Rattle.beldi_known.proofs.Ahead.{ahead_set, none_out}
+use Rattle.beldi_known.proofs.Insides.{none_show}
+use Rattle.beldi_known.proofs.Nothing.{ahead_nothing, nothing_matches, sane_nothing}
 
 -- it tells no outcome, nor that a row is absent
 abbrev TellsNothing : Seen → Type 0
@@ -104,41 +105,46 @@ as_before d c m x nothing h = record { right = h; goes_on = grows_self h.plain.m
 
 -- ---- a run that ends
 abbrev without : (d : Deployment) (c : Core) (m : Rows) (i : ℕ) → Right d c m → Right d (ended_run c i) m
-without d c m i h = with_runs h (ended_run c i) refl refl (runs_less d c.book h.known c.runs c.last_run i h.runs)
+without d c m i h = with_runs h (ended_run c i) refl refl (runs_less d m h.plain c.book h.known c.runs c.last_run i h.runs)
 
 -- ---- a turn
 module _ (d : Deployment) (c : Core) (m : Rows) (i : ℕ) (h : Right d c m) (r : Run) (live : map.get c.runs i ≡ Some r) where
-  module _ (g : Begun) (at_is : r.at ≡ Begins g) (k : Knows d c.book h.known r g) where
+  module _ (g : Begun) (at_is : r.at ≡ Begins g) (k : Knows d c.book h.known r g) (finds : Inside d m h.plain h.known r g) where
     abbrev AfterStage : Effect → Stage → Type 0
-    AfterStage e s = AfterQuery d h.plain c.now m (λ t. turn_next c i r (turned_by d r g (stage_says r.id g.caller (count_changes c.book) g.machine.steps e s t))) (stage_asks r.id r.func g.caller g.machine.steps e s)
+    AfterStage e s = AfterQuery d h.plain c.now m (λ t. turn_next c i r (turned_by d r g (stage_says r.id r.func g.caller g.tx (count_changes c.book) g.machine.steps e s t))) (stage_asks r.id r.func g.caller g.tx g.machine.steps e s)
 
     -- what a caller waits for is given back to it
-    back_at : (b : Option Caller) (o : Outcome) → g.caller ≡ b → g.machine.effect ≡ Return o → is_waited b ≡ true → AfterQuery d h.plain c.now m (λ t. turn_next c i r (turned_by d r g (back_says (back_of t)))) (back_to_asks r.id r.func b (Return o))
-    back_at None o from is waited = cc
-    back_at (Some b) o from is waited = back_turn d c m i r g h live k o is b from waited
+    back_at : tx_after d r.id k.instance k.answers ≡ None → (b : Option Caller) (o : Outcome) → g.caller ≡ b → g.machine.effect ≡ Return o → is_waited b ≡ true → AfterQuery d h.plain c.now m (λ t. turn_next c i r (turned_by d r g (back_says (back_of t)))) (back_to_asks r.id r.func b (Return o))
+    back_at out None o from is waited = cc
+    back_at out (Some b) o from is waited = back_turn d c m i r g h live k finds out o is b from waited
 
-    stage_turn : (e : Effect) (s : Stage) → g.machine.effect ≡ e → StageOk None r.id g.caller e s → PlaceOk d c.book r.id r.func k.answers k.later e s → SeenDone h.known r.id g.machine.steps k.instance g.caller s → AfterStage e s
-    stage_turn (Read t key) stage.Ask is ok at done = ask_turn d c m i r g h live k t key is
-    stage_turn (Read t key) stage.Walk is ok at done = walk_turn d c m i r g h live k t key is
-    stage_turn (Read t key) (stage.Keep v seen) is ok at done = keep_turn d c m i r g h live k t key is v seen at
-    stage_turn (Write t key v) (stage.Write w) is ok at done = operation_turn d c m i r g h live k (Write t key v) refl is w
-    stage_turn (CondWrite t key u o v) (stage.Write w) is ok at done = operation_turn d c m i r g h live k (CondWrite t key u o v) refl is w
-    stage_turn (Lock t key) (stage.Write w) is ok at done = operation_turn d c m i r g h live k (Lock t key) refl is w
-    stage_turn (Unlock t key) (stage.Write w) is ok at done = operation_turn d c m i r g h live k (Unlock t key) refl is w
-    stage_turn (Call f v) (stage.Call w) is ok at done = call_turn d c m i r g h live at_is k f v is ok w done
-    stage_turn (Async f v) (stage.Async w) is ok at done = async_turn d c m i r g h live at_is k f v is ok w done
-    stage_turn (Return o) stage.Back is ok at done = back_at g.caller o refl is ok
-    stage_turn (Return o) stage.Tell is ok at done = tell_turn d c m i r g h live k o is g.caller ok
-    stage_turn (Return o) stage.Close is ok at done = close_turn d c m i r g h live k o is done
-    stage_turn e s is ok at done = absurd ok
+    -- what its stage leaves
+    stage_turn : (t : Option TxId) (e : Effect) (s : Stage) → tx_after d r.id k.instance k.answers ≡ t → g.machine.effect ≡ e → StageOk t r.id g.caller e s → PlaceOk d c.book r.id r.func k.answers k.later e s → SeenDone h.known r.id g.machine.steps k.instance g.caller s → MarkOk r.id g.machine.steps g.tx e s
+        → AtStage d m h.plain h.known r.id r.func g.tx g.machine.steps e s → AfterStage e s
+    stage_turn None (Read t key) stage.Ask out is ok at done mark here = ask_turn d c m i r g h live k finds out t key is
+    stage_turn None (Read t key) stage.Walk out is ok at done mark here = walk_turn d c m i r g h live k finds out t key is
+    stage_turn None (Read t key) (stage.Keep v seen) out is ok at done mark here = keep_turn d c m i r g h live k finds out t key is v seen at
+    stage_turn None (Write t key v) (stage.Write w) out is ok at done mark here = operation_turn d c m i r g h live k finds out (Write t key v) refl is w
+    stage_turn None (CondWrite t key u o v) (stage.Write w) out is ok at done mark here = operation_turn d c m i r g h live k finds out (CondWrite t key u o v) refl is w
+    stage_turn None (Lock t key) (stage.Write w) out is ok at done mark here = operation_turn d c m i r g h live k finds out (Lock t key) refl is w
+    stage_turn None (Unlock t key) (stage.Write w) out is ok at done mark here = operation_turn d c m i r g h live k finds out (Unlock t key) refl is w
+    stage_turn None (Call f v) (stage.Call w) out is ok at done mark here = call_turn d c m i r g h live at_is k finds out f v is ok w done
+    stage_turn None (Async f v) (stage.Async w) out is ok at done mark here = async_turn d c m i r g h live at_is k finds out f v is ok w done
+    stage_turn None (Return o) stage.Back out is ok at done mark here = back_at out g.caller o refl is ok
+    stage_turn None (Return o) stage.Tell out is ok at done mark here = tell_turn d c m i r g h live k finds out o is g.caller ok
+    stage_turn None (Return o) stage.Close out is ok at done mark here = close_turn d c m i r g h live k finds out o is done
+    stage_turn (Some t) e (stage.Tx at) inside is ok place done mark here = tx_turn d c m i r g h live k finds t inside e at is ok here
+    stage_turn (Some t) (End commit) (stage.Decide w) inside is ok at done mark here = decide_turn d c m i r g h live k finds t inside commit w is mark
+    stage_turn (Some t) (End commit) (stage.End v) inside is ok at done mark here = end_turn d c m i r g h live k finds t inside commit v is ok here
+    stage_turn t e s inside is ok at done mark here = absurd ok
 
-  at_turn : (at : standing.RunAt) → r.at ≡ at → KnowsAt d c.book h.known r at → AfterQuery d h.plain c.now m (λ t. turn_next c i r (told_at d (count_changes c.book) r at t)) (asks_at r at)
-  at_turn Looks is k = look_turn d c m i r h live
-  at_turn (Registers b) is k = register_turn d c m i r h live b k
-  at_turn (Begins g) is k = stage_turn g is k g.machine.effect g.stage refl (subst (λ t. StageOk t r.id g.caller g.machine.effect g.stage) (tx_here d c.book h.known r g k) k.run_stage) k.run_place k.run_done
+  at_turn : (at : standing.RunAt) → r.at ≡ at → KnowsAt d c.book h.known r at → InsideAt d m h.plain h.known r at → AfterQuery d h.plain c.now m (λ t. turn_next c i r (told_at d (count_changes c.book) r at t)) (asks_at r at)
+  at_turn Looks is k finds = look_turn d c m i r h live
+  at_turn (Registers b) is k finds = register_turn d c m i r h live b k
+  at_turn (Begins g) is k finds = stage_turn g is k finds (tx_after d r.id k.instance k.answers) g.machine.effect g.stage refl refl k.run_stage k.run_place k.run_done k.run_mark finds.here
 
   turn_made : AfterQuery d h.plain c.now m (λ t. run_next d c i t (Some r)) (run_asks r)
-  turn_made = at_turn r.at refl (subst (RunAt d c.book h.known) live (h.runs.runs i))
+  turn_made = let at = subst (RunAt d m h.plain c.book h.known) live (h.runs.runs i) in at_turn r.at refl at.0 at.1
 
   -- nobody hears what it told: it leaves what the turn leaves, without the run and without one that it started
   turn_unheard : AfterQuery d h.plain c.now m (λ t. (unheard_next d c i t (Some r), seen.Dropped)) (run_asks r)
@@ -146,7 +152,7 @@ module _ (d : Deployment) (c : Core) (m : Rows) (i : ℕ) (h : Right d c m) (r :
 
 -- ---- a run more
 abbrev with_new : (d : Deployment) (c : Core) (m : Rows) (id : IntentId) (f : ℕ) → is_crowded c ≡ false → Right d c m → Right d (with_run c (new_run d c id f)) m
-with_new d c m id f few h = with_runs h (with_run c (new_run d c id f)) refl refl (runs_more d c.book h.known c.runs c.last_run (new_run d c id f) (leb-false most_runs (map.len c.runs) few) tt h.runs)
+with_new d c m id f few h = with_runs h (with_run c (new_run d c id f)) refl refl (runs_more d m h.plain c.book h.known c.runs c.last_run (new_run d c id f) (leb-false most_runs (map.len c.runs) few) (tt, tt) h.runs)
 
 -- ---- a ticket
 roots_apart : (t u : ℕ) → is_eq (id_cmp (root_of t) (root_of u)) ≡ false → t ≡ u → ⊥
@@ -174,12 +180,13 @@ module _ (d : Deployment) (c : Core) (m : Rows) (h : Right d c m) where
   issued is =
       let t = c.newest + 1 in
       let i : IntentRow = record { issued = c.now; body = None; outcome = None; finish = None } in
+      let n = set_row m (root_key t) (Some (rows.Intent i)) in
       let not_made : map.get h.known (root_of t) ≡ None = subst (λ r. IntentMatches true 0 r (map.get h.known (root_of t))) is (h.rows.keys (root_key t)) in
+      let kept : Stays h n = log_stays d m (root_key t) (Some (rows.Intent i)) refl (λ e. refl) c h (row_put d h.known h.locked m (root_key t) (Some (rows.Intent i)) refl (record { bare = λ e. refl; finishes = refl; body = not_made }) h.rows) in
       subst (λ (w : Option Row × Tell). After d h.plain (record c { newest = c.newest + 1 }) (set_row m (root_key t) w.0) (seen.Issued t)) (ap (act Issue c.now) (sym is)) (record {
-        right = right_by {q = h.plain} {next = h.known} {locked = h.locked} h.bounded h.legal h.guarded
-            (log_stays h (root_key t) (Some (rows.Intent i)) refl (row_put d h.known h.locked m (root_key t) (Some (rows.Intent i)) refl (record { bare = λ e. refl; finishes = refl; body = not_made }) h.rows))
+        right = right_by {q = h.plain} {next = h.known} {locked = h.locked} h.bounded h.legal h.guarded kept.shows
             (λ u. ap is_some (got m (root_key t) (root_key u) (Some (rows.Intent i))) ∙ some_if (is_eq (id_cmp (root_of u) (root_of t))) (map.get m (root_key u)) ∙ next_ticket (is_eq (id_cmp (root_of u) (root_of t))) u c.newest refl (is_some (map.get m (root_key u))) (h.tickets u))
-            h.runs;
+            (runs_on d m n h.plain h.plain c.book c.book h.known h.known c.runs c.last_run kept.grows (places_same d c.book h.known h.known) kept.others h.runs);
         goes_on = grows_self h.plain.made;
         there = refl;
         reply = λ u o e. cc;
@@ -220,17 +227,24 @@ module _ (d : Deployment) (c : Core) (m : Rows) (h : Right d c m) (t f : ℕ) (a
       let not_made = plain_none d h.plain h.known h.beside own_id not_known in
       let n = set_row m (root_key t) (Some (rows.Intent (bound_row i))) in
       let leads = change_entered d c m h (Start t f a) state next refl (start_is h.plain t f a (map.get h.plain.made own_id) (or_parts (t == 0) (nat_lt c.newest t) issued).0 not_made)
-      (λ x touched. let none = sym (ap (touched_by d) not_made) ∙ touched in cc) (grows_new h.known own_id (with_once d own_id new) not_known) in
+      (λ x touched. let none = sym (ap (touched_by d) not_made) ∙ touched in cc) in
+      let unlocked = unlocked_new d h.known h.locked h.locked_at_ends own_id not_known in
+      let frame = frame_row d m h.plain state h.known next (items_stay d m h.plain state next refl) (root_key t) (Some (rows.Intent (bound_row i))) refl refl in
+      let kept : Kept h n state next h.locked = kept_by d c m n h state next h.locked
+      (record {
+        goes = goes_made h n (set_shadows m (root_key t) (Some (rows.Intent (bound_row i))) refl) own_id new not_known (refl, refl);
+        locked_at_ends = ahead_set d h.known h.locked h.locked_at_ends h.locked own_id (with_once d own_id new) (none_out h.locked own_id unlocked);
+        sane = root_kept d h.known h.sane t f a not_known;
+        rows = root_bound d h.known h.locked own_id f a not_known refl (childless d h.known h.sane own_id not_known) unlocked m (bound_row i) refl (fits.bare bare) (no_finish i.finish (fits.finishes ∙ ap is_some (fits.bare bare))) h.rows;
+        values = log_values h (root_key t) (Some (rows.Intent (bound_row i))) refl;
+        settled = settled_rows d m n h.plain state h.known next frame (settled_grown d m h.plain state next leads.grows (settled_new d m h.plain h.known own_id new refl (settled h)));
+      })
+      (grows_new h.known own_id (with_once d own_id new) not_known) frame in
       record {
-        right = right_by {q = state} {next = next} {locked = h.locked} leads.bounded leads.legal leads.guarded
-            (record {
-              aside = aside_still d h.plain h.known h.locked (aside h) own_id new (refl, refl) (new_outside d new refl) (unlocked_new d h.known h.locked h.locked_at_ends own_id not_known);
-              sane = root_kept d h.known h.sane t f a not_known;
-              rows = root_bound d h.known h.locked own_id f a not_known refl (childless d h.known h.sane own_id not_known) (unlocked_new d h.known h.locked h.locked_at_ends own_id not_known) m (bound_row i) refl (fits.bare bare) (no_finish i.finish (fits.finishes ∙ ap is_some (fits.bare bare))) h.rows;
-              values = log_values h (root_key t) (Some (rows.Intent (bound_row i))) refl;
-            })
+        right = right_by {q = state} {next = next} {locked = h.locked} leads.bounded leads.legal leads.guarded kept.shows
             (λ u. replaced m (root_key t) (Some (rows.Intent (bound_row i))) (ap is_some (sym is)) u ∙ h.tickets u)
-            (runs_more d (c.book ++ Start t f a ∷ []) next c.runs c.last_run (new_run d c own_id f) (leb-false most_runs (map.len c.runs) room) tt leads.runs);
+            (runs_more d n state (c.book ++ Start t f a ∷ []) next c.runs c.last_run (new_run d c own_id f) (leb-false most_runs (map.len c.runs) room) (tt, tt)
+            (runs_on d m n h.plain state c.book (c.book ++ Start t f a ∷ []) h.known next c.runs c.last_run kept.grows leads.places kept.others h.runs));
         goes_on = leads.grows;
         there = refl;
         reply = λ u o e. cc;
@@ -379,63 +393,32 @@ no_ticket : (t : ℕ) → (nat_lt 0 t && nat_le t 0) ≡ false
 no_ticket zero = refl
 no_ticket (suc t) = ap (λ b. nat_lt 0 (suc t) && b) (lt-leb (suc t) 0 (omega arith)) ∙ and-false (nat_lt 0 (suc t))
 
-no_row : (d : Deployment) (home : ℕ) (k : Kind) → RowMatches d map.empty home k None
-no_row d home (kinds.Intent id) = by_hops (has_no_hops id.hops)
-  where
-    by_home : (b : Bool) → RootMatches b None (map.get (map.empty {X = Instance} {R = id_cmp}) id)
-    by_home true = get-empty id_cmp id
-    by_home false = refl
-
-    by_hops : (b : Bool) → IntentMatches b home None (map.get (map.empty {X = Instance} {R = id_cmp}) id)
-    by_hops true = by_home (home == 0)
-    by_hops false = subst (HasNoRow home) (sym (get-empty id_cmp id)) (record { open_still = λ q is. cc })
-no_row d home (kinds.ReadLog a) = ap (owed_value d home a.step) (get-empty id_cmp a.intent)
-no_row d home (kinds.Invoke a) = ap (λ o. called_by home o (map.get (map.empty {X = Instance} {R = id_cmp}) (child_of a.intent a.step))) (get-empty id_cmp a.intent)
-no_row d home (kinds.Lockset i b t k) = ap (owed_lockset d b (record { func = home; table = t; key = k }) i) (get-empty id_cmp i)
-no_row d home (kinds.Data t k zero) = tt
-no_row d home (kinds.Data t k (suc n)) = refl
-no_row d home (kinds.Shadow s t k zero) = tt
-no_row d home (kinds.Shadow s t k (suc n)) = refl
-
--- nothing is known then
+-- nothing is known then, and no row is there
 none_known : (id : IntentId) → map.get (map.empty {X = Instance} {R = id_cmp}) id ≡ None
 none_known id = get-empty id_cmp id
 
 pub begins : (d : Deployment) (now : ℕ) → Right d (first_core 0 now) map.empty
 begins d now = right_by {q = nothing} {next = map.empty} {locked = λ id. false} tt refl tt
     (record {
-      aside = record {
+      goes = record {
         beside = record { same = λ id q is. let clash = sym (none_known id) ∙ is in cc; begun = λ id q is. let clash = sym (none_known id) ∙ is in cc; none = λ id is. is };
-        locked_at_ends = λ id e. absurd (true_false (sym e));
-        quiet = record { at_once = λ id. none_known id ∙ sym (ap (option_map (with_once d id)) (none_known id)); unlocked = λ id. refl; outside = none_outside d };
+        shadows = none_show d map.empty nothing map.empty (λ id. false) (λ k. get-empty key_cmp k) none_known;
       };
-      sane = record {
-        each = λ id q is. let clash = sym (none_known id) ∙ is in cc;
-        closed = λ id q is. let clash = sym (none_known id) ∙ is in cc;
-        called = λ id n j is. let clash = sym (none_known (child_of id n)) ∙ is in cc;
-        within = λ id q n j is. let clash = sym (none_known id) ∙ is in cc;
-        callees = λ id q n w f a is. let clash = sym (none_known id) ∙ is in cc;
-        roots = λ t q is. let clash = sym (none_known (root_of t)) ∙ is in cc;
-      };
-      rows = record {
-        keys = λ k. subst (RowMatches d map.empty k.home k.kind) (sym (get-empty key_cmp k)) (no_row d k.home k.kind);
-        items = λ x. subst (λ r. ItemMatches d map.empty (λ id. false) x (content_in r)) (sym (get-empty key_cmp (head_key x))) (record {
-          owner = λ j. sym (ap (holds d x) (none_known j));
-          notes = λ a apart. sym (ap (owed_note d x a.intent false a.step) (none_known a.intent));
-        });
-        shadows = λ t x. subst (λ r. ShadowMatches d map.empty t x (content_in r)) (sym (get-empty key_cmp (shadow_key t x))) (λ a. sym (ap (owed_shadow d t x a.intent a.step) (none_known a.intent)));
-        txs = λ x. subst (λ r. TxsMatch d map.empty (λ id. false) x (content_in r).owner) (sym (get-empty key_cmp (head_key x))) (record {
-          owned_is_got = λ t is. cc;
-          got_is_owned = λ t g still. let clash = sym (ap (got_by d t x g.member false) (none_known g.member)) ∙ g.got in cc;
-        });
-      };
+      locked_at_ends = ahead_nothing d;
+      sane = sane_nothing d;
+      rows = nothing_matches d;
       values = λ x. ap (λ r. listed_under map.empty x (content_in r).owner (content_in r).value) (get-empty key_cmp (head_key x)) ∙ sym (ap or_null (get-empty item_cmp x));
+      settled = record {
+        marks = λ t z x w is. let clash = sym (ap (ended_by d t.begin) (none_known t.intent)) ∙ is in cc;
+        holders = λ id q n c u is. let clash = sym (none_known id) ∙ is in cc;
+        uncalled = λ id q n w f v is. let clash = sym (none_known id) ∙ is in cc;
+      };
     })
     (λ t. ap is_some (get-empty key_cmp (root_key t)) ∙ sym (no_ticket t))
     (record {
       numbers = λ n e. absurd (not_there (subst (λ o. IsTrue (is_some o)) (get-empty nat_cmp n) e));
       few = subst (λ n. n ≤ most_runs) (sym (len-empty nat_cmp Run)) (omega arith);
-      runs = λ n. subst (λ o. RunAt d [] map.empty o) (sym (get-empty nat_cmp n)) tt;
+      runs = λ n. subst (λ o. RunAt d map.empty nothing [] map.empty o) (sym (get-empty nat_cmp n)) tt;
     })
   where
     not_there : IsTrue false → ⊥

@@ -17,13 +17,14 @@ use Rattle.beldi_step.specs.Run.{is_waited, place_of}
 use Rattle.beldi_known.specs.Known.{Known, at_once, moved}
 use Rattle.beldi_order.specs.Txs.{tx_now, txs_after, effect_after}
 use Rattle.beldi_known.specs.Sane.{Sane}
-use Rattle.beldi_laws.proofs.Outside.{is_call, is_of_tx, IsOutside}
+use Rattle.beldi_laws.proofs.Outside.{is_call, is_of_tx}
+use Rattle.beldi_known.proofs.Opened.{IsOutside}
 use Rattle.beldi_known.specs.Beside.{is_begin}
 use Rattle.beldi_lang.specs.declared.effect.Effect.{Effect}
 use Rattle.beldi_value.specs.declared.place.Place.{Place}
 use Rattle.beldi_value.specs.declared.value.Value.TheVariants as value
 use Rattle.beldi_known.proofs.Sanes.{sane_bound, sane_answered, sane_called, sane_sent, sane_returned, sane_ended, not_waited}
-use Rattle.beldi_known.proofs.Phases.{end_is, inside_is, begin_is}
+use Rattle.beldi_known.proofs.Phases.{end_is, inside_is}
 use Rattle.beldi_known.proofs.Begins.{aborts_inside}
 
 -- ---- of bodies
@@ -39,9 +40,6 @@ outside_effect d q given out apart = by_effect (effect_after d q given) refl apa
     by_effect (effect.End c) is g = let clash = sym none ∙ end_is d q given c is in cc
     by_effect effect.Abort is g = let clash = sym (inside_is d q given ∙ (λ i. none i || is_some (out.0 i))) ∙ aborts_inside d q.func q.args (is_some q.within) given is in cc
     by_effect e is g = refl
-
-pub no_begin : (d : Deployment) (q : Instance) (b : ℕ) → (txs_after d q q.answers).begun ≡ Some b → effect_of d q ≡ effect.Begin → ⊥
-no_begin d q b begun is = let clash = sym (ap is_some begun) ∙ (begin_is d q q.answers is).1 in cc
 
 -- ---- of what is known
 -- an answer outside is one

@@ -1,17 +1,33 @@
+mod Ages
 mod Asyncs
 mod Beginnings
 mod Besides
 mod Callings
 mod CallsHere
+mod Deciding
 mod Endings
+mod Fallen
+mod Frames
 mod Grown
+mod InTx
+mod InsideTurns
+mod Keeping
 mod KeptSane
+mod Locking
+mod OpenOf
 mod Operations
+mod Others
 mod Owed
 mod Readings
 mod Registered
+mod Released
+mod Short
 mod Shown
 mod Turns
+mod Visiting
+mod Widths
+mod Working
+pub mod Decisions
 pub mod Events
 pub mod Listing
 pub mod Lives
@@ -19,6 +35,5 @@ pub mod Moves
 pub mod OneAnswer
 pub mod OneEvent
 pub mod Outside
-pub mod Singles
 pub mod Standing
 pub mod Starts

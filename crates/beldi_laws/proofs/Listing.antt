@@ -24,8 +24,9 @@ use Rattle.beldi_plain.specs.Plain.{PlainState}
 use Rattle.beldi_plain.specs.Legal.{run_of}
 use Rattle.beldi_plain.specs.Listing.{listing_of}
 use Rattle.beldi_step.specs.Host.{Core}
-use Rattle.beldi_step.specs.Tables.{tables_text, row_line, line_at, value_line}
-use Rattle.beldi_known.specs.Contents.{head_key, content_of}
+use Rattle.beldi_step.specs.Tables.{tables_text, row_line, line_at, value_line, shown_under}
+use Rattle.beldi_known.specs.Contents.{head_key}
+use Rattle.beldi_known.specs.Listed.{listed_under, listed}
 use Rattle.beldi_daal.specs.Content.{content_in}
 use Rattle.beldi_laws.specs.Right.{Right}
 use Rattle.beldi_row.proofs.Gets.{key_same}
@@ -33,7 +34,6 @@ use Rattle.beldi_known.proofs.Rows.{head_order}
 use Rattle.beldi_order.specs.Laws.{KeepsNoNull}
 use Rattle.beldi_order.proofs.Nulls.{no_null}
 use Rattle.beldi_laws.proofs.Standing.{same_run}
-use Rattle.beldi_laws.proofs.Shown.{listed_own, legal_sane}
 
 -- ---- the entries of rows, as entries of items
 not_null : Value → Option Value
@@ -44,18 +44,18 @@ abbrev valued : Item → Value → Option (Item × Value)
 valued x Null = None
 valued x v = Some (x, v)
 
--- the item whose first row it is, where that is not null
-abbrev item_entry : ℕ → Kind → Row → Option (Item × Value)
-item_entry f (kinds.Data t k zero) (rows.Cell c) = valued (record { func = f; table = t; key = k }) c.value
-item_entry f k r = None
+-- the item whose first row it is, with the value that is shown, where that is not null
+abbrev item_entry : Rows → ℕ → Kind → Row → Option (Item × Value)
+item_entry m f (kinds.Data t k zero) (rows.Cell c) = valued (record { func = f; table = t; key = k }) (shown_under m f t k c.owner c.value)
+item_entry m f k r = None
 
 abbrev cons_some : {X : Type 0} → Option X → List X → List X
 cons_some None xs = xs
 cons_some (Some x) xs = x ∷ xs
 
-abbrev items_in : List (RowKey × Row) → List (Item × Value)
-items_in [] = []
-items_in (e ∷ es) = cons_some (item_entry e.0.home e.0.kind e.1) (items_in es)
+abbrev items_in : Rows → List (RowKey × Row) → List (Item × Value)
+items_in m [] = []
+items_in m (e ∷ es) = cons_some (item_entry m e.0.home e.0.kind e.1) (items_in m es)
 
 abbrev item_line : Deployment → Item × Value → List ℕ
 item_line d e = item_text d e.0.func e.0.table e.0.key e.1
@@ -64,13 +64,13 @@ value_lines : (d : Deployment) (x : Item) (v : Value) (zs : List (Item × Value)
 value_lines d x Null zs = refl
 value_lines d x v zs = refl
 
-entry_lines : (d : Deployment) (f : ℕ) (k : Kind) (r : Row) (zs : List (Item × Value)) → line_at d f k r ++ flat_map (item_line d) zs ≡ flat_map (item_line d) (cons_some (item_entry f k r) zs)
-entry_lines d f (kinds.Data t k zero) (rows.Cell c) zs = value_lines d (record { func = f; table = t; key = k }) c.value zs
-entry_lines d f k r zs = refl
+entry_lines : (m : Rows) (d : Deployment) (f : ℕ) (k : Kind) (r : Row) (zs : List (Item × Value)) → line_at d m f k r ++ flat_map (item_line d) zs ≡ flat_map (item_line d) (cons_some (item_entry m f k r) zs)
+entry_lines m d f (kinds.Data t k zero) (rows.Cell c) zs = value_lines d (record { func = f; table = t; key = k }) (shown_under m f t k c.owner c.value) zs
+entry_lines m d f k r zs = refl
 
-lines : (d : Deployment) (es : List (RowKey × Row)) → flat_map (row_line d) es ≡ flat_map (item_line d) (items_in es)
-lines d [] = refl
-lines d (e ∷ es) = ap (λ bs. row_line d e ++ bs) (lines d es) ∙ entry_lines d e.0.home e.0.kind e.1 (items_in es)
+lines : (m : Rows) (d : Deployment) (es : List (RowKey × Row)) → flat_map (row_line d m) es ≡ flat_map (item_line d) (items_in m es)
+lines m d [] = refl
+lines m d (e ∷ es) = ap (λ bs. row_line d m e ++ bs) (lines m d es) ∙ entry_lines m d e.0.home e.0.kind e.1 (items_in m es)
 
 -- ---- they are in the order of items
 both : (a b : Bool) → T a → T b → T (a && b)
@@ -89,31 +89,31 @@ below_valued : (x y : Item) (v : Value) (zs : List (Item × Value)) → T (is_lt
 below_valued x y Null zs h g = g
 below_valued x y v zs h g = both (is_lt (item_cmp x y)) (below_all item_cmp x zs) h g
 
-below_entry : (x : Item) (f : ℕ) (k : Kind) (r : Row) (zs : List (Item × Value)) → T (is_lt (key_cmp (head_key x) (record { home = f; kind = k }))) → T (below_all item_cmp x zs) → T (below_all item_cmp x (cons_some (item_entry f k r) zs))
-below_entry x f (kinds.Data t k zero) (rows.Cell c) zs h g =
+below_entry : (m : Rows) (x : Item) (f : ℕ) (k : Kind) (r : Row) (zs : List (Item × Value)) → T (is_lt (key_cmp (head_key x) (record { home = f; kind = k }))) → T (below_all item_cmp x zs) → T (below_all item_cmp x (cons_some (item_entry m f k r) zs))
+below_entry m x f (kinds.Data t k zero) (rows.Cell c) zs h g =
     let y : Item = record { func = f; table = t; key = k } in
-    below_valued x y c.value zs (subst (λ o. T (is_lt o)) (head_order x y) h) g
-below_entry x f k r zs h g = g
+    below_valued x y (shown_under m f t k c.owner c.value) zs (subst (λ o. T (is_lt o)) (head_order x y) h) g
+below_entry m x f k r zs h g = g
 
-below_items : (x : Item) (es : List (RowKey × Row)) → T (below_all key_cmp (head_key x) es) → T (below_all item_cmp x (items_in es))
-below_items x [] h = tt
-below_items x (e ∷ es) h = below_entry x e.0.home e.0.kind e.1 (items_in es) (first (is_lt (key_cmp (head_key x) e.0)) (below_all key_cmp (head_key x) es) h) (below_items x es (second (is_lt (key_cmp (head_key x) e.0)) (below_all key_cmp (head_key x) es) h))
+below_items : (m : Rows) (x : Item) (es : List (RowKey × Row)) → T (below_all key_cmp (head_key x) es) → T (below_all item_cmp x (items_in m es))
+below_items m x [] h = tt
+below_items m x (e ∷ es) h = below_entry m x e.0.home e.0.kind e.1 (items_in m es) (first (is_lt (key_cmp (head_key x) e.0)) (below_all key_cmp (head_key x) es) h) (below_items m x es (second (is_lt (key_cmp (head_key x) e.0)) (below_all key_cmp (head_key x) es) h))
 
 sorted_valued : (y : Item) (v : Value) (zs : List (Item × Value)) → T (below_all item_cmp y zs) → T (is_sorted item_cmp zs) → T (is_sorted item_cmp (cons_some (valued y v) zs))
 sorted_valued y Null zs h g = g
 sorted_valued y v zs h g = both (below_all item_cmp y zs) (is_sorted item_cmp zs) h g
 
-sorted_entry : (f : ℕ) (k : Kind) (r : Row) (es : List (RowKey × Row)) → T (below_all key_cmp (record { home = f; kind = k }) es) → T (is_sorted item_cmp (items_in es)) → T (is_sorted item_cmp (cons_some (item_entry f k r) (items_in es)))
-sorted_entry f (kinds.Data t k zero) (rows.Cell c) es h g = sorted_valued (record { func = f; table = t; key = k }) c.value (items_in es) (below_items (record { func = f; table = t; key = k }) es h) g
-sorted_entry f k r es h g = g
+sorted_entry : (m : Rows) (f : ℕ) (k : Kind) (r : Row) (es : List (RowKey × Row)) → T (below_all key_cmp (record { home = f; kind = k }) es) → T (is_sorted item_cmp (items_in m es)) → T (is_sorted item_cmp (cons_some (item_entry m f k r) (items_in m es)))
+sorted_entry m f (kinds.Data t k zero) (rows.Cell c) es h g = sorted_valued (record { func = f; table = t; key = k }) (shown_under m f t k c.owner c.value) (items_in m es) (below_items m (record { func = f; table = t; key = k }) es h) g
+sorted_entry m f k r es h g = g
 
-sorted_items : (es : List (RowKey × Row)) → T (is_sorted key_cmp es) → T (is_sorted item_cmp (items_in es))
-sorted_items [] h = tt
-sorted_items (e ∷ es) h = sorted_entry e.0.home e.0.kind e.1 es (first (below_all key_cmp e.0 es) (is_sorted key_cmp es) h) (sorted_items es (second (below_all key_cmp e.0 es) (is_sorted key_cmp es) h))
+sorted_items : (m : Rows) (es : List (RowKey × Row)) → T (is_sorted key_cmp es) → T (is_sorted item_cmp (items_in m es))
+sorted_items m [] h = tt
+sorted_items m (e ∷ es) h = sorted_entry m e.0.home e.0.kind e.1 es (first (below_all key_cmp e.0 es) (is_sorted key_cmp es) h) (sorted_items m es (second (below_all key_cmp e.0 es) (is_sorted key_cmp es) h))
 
 -- ---- and have each item that is not null
-value_in : Option Row → Option Value
-value_in o = not_null (content_in o).value
+shown_in : Rows → Item → Option Row → Option Value
+shown_in m x o = not_null (listed_under m x (content_in o).owner (content_in o).value)
 
 not_tied : (o : Ordering) → T (is_lt o) → is_eq o ≡ false
 not_tied Less h = refl
@@ -131,10 +131,10 @@ skip_valued : (x y : Item) (v : Value) (zs : List (Item × Value)) → is_eq (it
 skip_valued x y Null zs h = refl
 skip_valued x y v zs h = ap (λ b. cond b (Some v) (find item_cmp x zs)) h
 
-skip_entry : (x : Item) (f : ℕ) (k : Kind) (r : Row) (zs : List (Item × Value)) → is_eq (key_cmp (head_key x) (record { home = f; kind = k })) ≡ false → find item_cmp x (cons_some (item_entry f k r) zs) ≡ find item_cmp x zs
-skip_entry x f (kinds.Data t k zero) (rows.Cell c) zs h =
-    let y : Item = record { func = f; table = t; key = k } in skip_valued x y c.value zs (ap is_eq (sym (head_order x y)) ∙ h)
-skip_entry x f k r zs h = refl
+skip_entry : (m : Rows) (x : Item) (f : ℕ) (k : Kind) (r : Row) (zs : List (Item × Value)) → is_eq (key_cmp (head_key x) (record { home = f; kind = k })) ≡ false → find item_cmp x (cons_some (item_entry m f k r) zs) ≡ find item_cmp x zs
+skip_entry m x f (kinds.Data t k zero) (rows.Cell c) zs h =
+    let y : Item = record { func = f; table = t; key = k } in skip_valued x y (shown_under m f t k c.owner c.value) zs (ap is_eq (sym (head_order x y)) ∙ h)
+skip_entry m x f k r zs h = refl
 
 -- the entry of the item's own first row
 own_valued : (x : Item) (v : Value) (zs : List (Item × Value)) → find item_cmp x zs ≡ None → find item_cmp x (cons_some (valued x v) zs) ≡ not_null v
@@ -142,23 +142,23 @@ unfolding not_null
 own_valued x Null zs h = h
 own_valued x v zs h = ap (λ o. cond (is_eq o) (Some v) (find item_cmp x zs)) (tied_itself item_total x)
 
-own_entry : (x : Item) (r : Row) (zs : List (Item × Value)) → find item_cmp x zs ≡ None → find item_cmp x (cons_some (item_entry x.func (kinds.Data x.table x.key 0) r) zs) ≡ value_in (Some r)
-unfolding value_in not_null
-own_entry x (rows.Cell c) zs h = own_valued x c.value zs h
-own_entry x r zs h = h
+own_entry : (m : Rows) (x : Item) (r : Row) (zs : List (Item × Value)) → find item_cmp x zs ≡ None → find item_cmp x (cons_some (item_entry m x.func (kinds.Data x.table x.key 0) r) zs) ≡ shown_in m x (Some r)
+unfolding shown_in not_null
+own_entry m x (rows.Cell c) zs h = own_valued x (listed_under m x c.owner c.value) zs h
+own_entry m x r zs h = h
 
-found : (x : Item) (es : List (RowKey × Row)) → T (is_sorted key_cmp es) → find item_cmp x (items_in es) ≡ value_in (find key_cmp (head_key x) es)
-unfolding value_in not_null
-found x [] h = refl
-found x (e ∷ es) h =
-    let rest = found x es (second (below_all key_cmp e.0 es) (is_sorted key_cmp es) h) in
+found : (m : Rows) (x : Item) (es : List (RowKey × Row)) → T (is_sorted key_cmp es) → find item_cmp x (items_in m es) ≡ shown_in m x (find key_cmp (head_key x) es)
+unfolding shown_in not_null
+found m x [] h = refl
+found m x (e ∷ es) h =
+    let rest = found m x es (second (below_all key_cmp e.0 es) (is_sorted key_cmp es) h) in
     let below = first (below_all key_cmp e.0 es) (is_sorted key_cmp es) h in
-    elim (is_eq (key_cmp (head_key x) e.0)) as (λ b. is_eq (key_cmp (head_key x) e.0) ≡ b → find item_cmp x (items_in (e ∷ es)) ≡ value_in (cond b (Some e.1) (find key_cmp (head_key x) es))) [
+    elim (is_eq (key_cmp (head_key x) e.0)) as (λ b. is_eq (key_cmp (head_key x) e.0) ≡ b → find item_cmp x (items_in m (e ∷ es)) ≡ shown_in m x (cond b (Some e.1) (find key_cmp (head_key x) es))) [
       | true ↦ λ t.
           let own : head_key x ≡ e.0 = key_same (head_key x) e.0 t in
-          ap (λ (k : RowKey). find item_cmp x (cons_some (item_entry k.home k.kind e.1) (items_in es))) (sym own)
-          ∙ own_entry x e.1 (items_in es) (none_below x (items_in es) (below_items x es (subst (λ k. T (below_all key_cmp k es)) (sym own) below)))
-      | false ↦ λ t. skip_entry x e.0.home e.0.kind e.1 (items_in es) t ∙ rest
+          ap (λ (k : RowKey). find item_cmp x (cons_some (item_entry m k.home k.kind e.1) (items_in m es))) (sym own)
+          ∙ own_entry m x e.1 (items_in m es) (none_below x (items_in m es) (below_items m x es (subst (λ k. T (below_all key_cmp k es)) (sym own) below)))
+      | false ↦ λ t. skip_entry m x e.0.home e.0.kind e.1 (items_in m es) t ∙ rest
     ] refl
 
 kept_value : (o : Option Value) → (o ≡ Some Null → ⊥) → o ≡ not_null (or_null o)
@@ -168,12 +168,12 @@ kept_value (Some Null) h = absurd (h refl)
 kept_value (Some v) h = refl
 
 -- the items of the plain state are those of the rows
-same_items : (m : Rows) (p : PlainState) → KeepsNoNull p → ((x : Item) → (content_of m x).value ≡ or_null (map.get p.items x)) → map.entries p.items ≡ items_in (map.entries m)
-unfolding value_in
-same_items m p none is = same_entries item_cmp item_total item_exact (map.entries p.items) (items_in (map.entries m)) (entries_sorted p.items) (sorted_items (map.entries m) (entries_sorted m)) (λ x.
-    sym (get-entries p.items x) ∙ kept_value (map.get p.items x) (none x) ∙ ap not_null (sym (is x)) ∙ ap value_in (get-entries m (head_key x)) ∙ sym (found x (map.entries m) (entries_sorted m)))
+same_items : (m : Rows) (p : PlainState) → KeepsNoNull p → ((x : Item) → listed m x ≡ or_null (map.get p.items x)) → map.entries p.items ≡ items_in m (map.entries m)
+unfolding shown_in
+same_items m p none is = same_entries item_cmp item_total item_exact (map.entries p.items) (items_in m (map.entries m)) (entries_sorted p.items) (sorted_items m (map.entries m) (entries_sorted m)) (λ x.
+    sym (get-entries p.items x) ∙ kept_value (map.get p.items x) (none x) ∙ ap not_null (sym (is x)) ∙ ap (shown_in m x) (get-entries m (head_key x)) ∙ sym (found m x (map.entries m) (entries_sorted m)))
 
 pub listing_plain : (d : Deployment) (c : Core) (m : Rows) (p : PlainState) → Right d c m → run_of d c.book ≡ Some p → tables_text d m ≡ listing_of d p
 listing_plain d c m p h is =
-    lines d (map.entries m) ∙ ap (flat_map (item_line d)) (sym (same_items m p (no_null d c.book p is)
-    (λ x. sym (listed_own d h.plain h.known h.locked h.quiet (legal_sane h) m h.rows x) ∙ h.values x ∙ ap (λ (q : PlainState). or_null (map.get q.items x)) (same_run d c m p h is))))
+    lines m d (map.entries m)
+    ∙ ap (flat_map (item_line d)) (sym (same_items m p (no_null d c.book p is) (λ x. h.values x ∙ ap (λ (q : PlainState). or_null (map.get q.items x)) (same_run d c m p h is))))

@@ -38,7 +38,9 @@ use Rattle.beldi_step.specs.declared.run.Stage.TheVariants as stage
 use Rattle.beldi_step.specs.Host.{put_run, most_runs}
 use Rattle.beldi_call.specs.declared.async_call.AsyncAt.TheVariants as async
 use Rattle.beldi_call.specs.declared.call.CallAt.TheVariants as call
-use Rattle.beldi_laws.specs.Right.{WasThere, Keeps, PlaceOk, SeenDone, Knows, KnowsAt, RunAt, RunsMatch, StageOk}
+use Rattle.beldi_laws.specs.Right.{WasThere, Keeps, PlaceOk, SeenDone, Knows, KnowsAt, RunAt, RunsMatch, StageOk, open_of}
+use Rattle.beldi_laws.specs.Inside.{InsideAt}
+use Rattle.beldi_row.specs.Table.{Rows}
 use Rattle.beldi_known.specs.Rows.{IsBodyOf, body_of}
 use Rattle.beldi_known.specs.Known.{Known, moved}
 use Rattle.beldi_laws.proofs.Grown.{grows_moved, moved_longer, tx_stays}
@@ -53,7 +55,7 @@ NotAnswered : Known → Known → Run → Type 0
 NotAnswered known next r = answers_of (map.get known r.id) ≡ answers_of (map.get next r.id)
 
 -- the place of its read, where it has still to be answered
-PlacesOn : Deployment → List Entry → List Entry → Known → Known → Run → Type 0
+pub PlacesOn : Deployment → List Entry → List Entry → Known → Known → Run → Type 0
 PlacesOn d book more known next r = (answers later before : List Answer) (e : Effect) (s : Stage) → (later ≡ [] → (before ≡ []) × NotAnswered known next r) → PlaceOk d book r.id r.func answers before e s → PlaceOk d more r.id r.func answers later e s
 
 no_more : (xs ys : List Answer) → xs ++ ys ≡ [] → (xs ≡ []) × (ys ≡ [])
@@ -84,6 +86,10 @@ done_on p q id n i j c (stage.Async async.Note) w g h = made_stays (map.get p (c
 done_on p q id n i j c stage.Close w g h = λ waited. outcome_stays i j g (h waited)
 done_on p q id n i j c s w g h = tt
 
+-- what is open after its answers stays
+pub open_stays : (d : Deployment) (i j : Instance) (given : List Answer) → Grown i j → open_of d i given ≡ open_of d j given
+open_stays d i j given w = λ k. open_of d (record i { func = sym w.func k; args = sym w.args k; within = sym w.within k }) given
+
 knows_more : (d : Deployment) (book more : List Entry) (p q : Known) (r : Run) (g : Begun) (h : Knows d book p r g) (o : Option Instance) → map.get q r.id ≡ o → GrownAt (Some h.instance) o → Grows p q → PlacesOn d book more p q r → Knows d more q r g
 unfolding PlacesOn
 knows_more d book more p q r g h None is w grows on = absurd w
@@ -97,6 +103,8 @@ knows_more d book more p q r g h (Some j) is w grows on = record {
   run_answers = sym (append_assoc h.answers h.later w.later) ∙ ap (λ xs. xs ++ w.later) h.run_answers ∙ w.more;
   machine = subst (λ a. IsAt d r.func a (is_some j.within) g.machine h.answers) (sym w.args) (subst (λ t. IsAt d r.func h.instance.args (is_some t) g.machine h.answers) (sym w.within) h.machine);
   run_stage = subst (λ t. StageOk t r.id g.caller g.machine.effect g.stage) (tx_stays d r.id h.instance j h.answers w) h.run_stage;
+  run_open = h.run_open ∙ open_stays d h.instance j h.answers w;
+  run_mark = h.run_mark;
   run_done = done_on p q r.id g.machine.steps h.instance j g.caller g.stage grows w h.run_done;
   run_place = on h.answers (h.later ++ w.later) h.later g.machine.effect g.stage (λ none. let both = no_more h.later w.later none in (both.0, not_answered p q r h.instance j h.made is w both.1)) h.run_place;
 }
@@ -112,9 +120,13 @@ knows_on d book more p q r Looks w on h = tt
 knows_on d book more p q r (Registers b) w on h = record { body = body_on b (map.get p r.id) (map.get q r.id) (w r.id) h.body; func = h.func; callee = h.callee }
 knows_on d book more p q r (Begins g) w on h = knows_more d book more p q r g h (map.get q r.id) refl (subst (λ o. GrownAt o (map.get q r.id)) h.made (w r.id)) w on
 
-run_on : (d : Deployment) (book more : List Entry) (p q : Known) (o : Option Run) → Grows p q → ((r : Run) → PlacesOn d book more p q r) → RunAt d book p o → RunAt d more q o
-run_on d book more p q None w on h = tt
-run_on d book more p q (Some r) w on h = knows_on d book more p q r r.at w (on r) h
+-- a run that is live finds in the rows n what it has to, where it did in the rows m
+abbrev pub InsideOn : Deployment → Rows → Rows → PlainState → PlainState → List Entry → Known → Known → Type 0
+InsideOn d m n p q book known next = (r : Run) → KnowsAt d book known r r.at → InsideAt d m p known r r.at → InsideAt d n q next r r.at
+
+run_on : (d : Deployment) (m n : Rows) (x y : PlainState) (book more : List Entry) (p q : Known) (o : Option Run) → Grows p q → ((r : Run) → PlacesOn d book more p q r) → InsideOn d m n x y book p q → RunAt d m x book p o → RunAt d n y more q o
+run_on d m n x y book more p q None w on finds h = tt
+run_on d m n x y book more p q (Some r) w on finds h = (knows_on d book more p q r r.at w (on r) h.0, finds r h.0 h.1)
 
 -- a change at the end leaves all places as they are
 there_last : (d : Deployment) (book : List Entry) (e : Entry) (q : PlainState) → IsLast d book e q → (id : IntentId) (answers : List Answer) (x : Item) (v : Value) (s : ℕ) → s ≤ count_changes book → WasThere d book id answers x v s → WasThere d (book ++ e ∷ []) id answers x v s
@@ -132,7 +144,7 @@ more_changes : (book : List Entry) (e : Entry) (s : ℕ) → s ≤ count_changes
 more_changes book e s h =
     let n = ap length (changes_more book (e ∷ [])) ∙ length-append (changes_of book) (changes_of (e ∷ [])) in omega (arith, n, h)
 
-places_last : (d : Deployment) (book : List Entry) (e : Entry) (known next : Known) (q : PlainState) → IsLast d book e q → (r : Run) → PlacesOn d book (book ++ e ∷ []) known next r
+pub places_last : (d : Deployment) (book : List Entry) (e : Entry) (known next : Known) (q : PlainState) → IsLast d book e q → (r : Run) → PlacesOn d book (book ++ e ∷ []) known next r
 unfolding PlacesOn
 places_last d book e known next q last r answers later before (Read t k) (stage.Keep v s) back h = record {
   few = more_changes book e s h.few;
@@ -177,7 +189,7 @@ module _ (d : Deployment) (book : List Entry) (p : PlainState) (id : IntentId) (
     was_there = λ none. there_late r.id answers x u t (λ same. answered_since r same (back none).1) (h.was_there (back none).0);
   }
 
-  places_late : (r : Run) → PlacesOn d book more known then_so r
+  pub places_late : (r : Run) → PlacesOn d book more known then_so r
   unfolding PlacesOn
   places_late r answers later before (Read t k) (stage.Keep u n) back h = keeps_late r answers later before (record { func = r.func; table = t; key = k }) u n back h
   places_late r answers later before e s back h = tt
@@ -208,42 +220,39 @@ put_few m i (Some r) k there h = subst (λ n. n ≤ k) (sym (len-insert nat_cmp_
     by_test true t = h
     by_test false t = cc
 
--- the book has a change more at its end
-pub runs_on : (d : Deployment) (book : List Entry) (e : Entry) (known next : Known) (q : PlainState) (live : FinMap nat_cmp Run) (last : ℕ) → Grows known next → IsLast d book e q → RunsMatch d book known live last → RunsMatch d (book ++ e ∷ []) next live last
-runs_on d book e known next q live last w is h = record { numbers = h.numbers; few = h.few; runs = λ n. run_on d book (book ++ e ∷ []) known next (map.get live n) w (places_last d book e known next q is) (h.runs n) }
+-- the book and what is known have grown
+pub runs_on : (d : Deployment) (m n : Rows) (p q : PlainState) (book more : List Entry) (known next : Known) (live : FinMap nat_cmp Run) (last : ℕ) → Grows known next → ((r : Run) → PlacesOn d book more known next r) → InsideOn d m n p q book known next → RunsMatch d m p book known live last → RunsMatch d n q more next live last
+runs_on d m n p q book more known next live last w places finds h = record { numbers = h.numbers; few = h.few; runs = λ i. run_on d m n p q book more known next (map.get live i) w places finds (h.runs i) }
 
--- the book has a read more that was kept late
-pub runs_late : (d : Deployment) (book : List Entry) (p : PlainState) (id : IntentId) (s : ℕ) (a : Instance) (v : Value) (known : Known) (live : FinMap nat_cmp Run) (last : ℕ) → map.get known id ≡ Some a → IsKeptLate d book p id s a v
-    → RunsMatch d book known live last → RunsMatch d (book ++ entry.Read id s ∷ []) (map.insert known id (moved d id a (answer.Value v))) live last
-runs_late d book p id s a v known live last made late h = record {
-  numbers = h.numbers;
-  few = h.few;
-  runs = λ n. run_on d book (book ++ entry.Read id s ∷ []) known (map.insert known id (moved d id a (answer.Value v))) (map.get live n) (grows_moved d known id a (answer.Value v) made) (places_late d book p id s a v known made late) (h.runs n);
-}
+-- what is known has grown beside the same book
+pub places_same : (d : Deployment) (book : List Entry) (known next : Known) (r : Run) → PlacesOn d book book known next r
+unfolding PlacesOn
+places_same d book known next r answers later before (Read t k) (stage.Keep v s) back h = record { few = h.few; was_there = λ none. h.was_there (back none).0 }
+places_same d book known next r answers later before e s back h = tt
 
 -- a live run goes on, or is over
-pub runs_put : (d : Deployment) (book : List Entry) (known : Known) (live : FinMap nat_cmp Run) (last i : ℕ) (o : Option Run) → IsTrue (is_some (map.get live i)) → RunAt d book known o → RunsMatch d book known live last → RunsMatch d book known (put_run live i o) last
-runs_put d book known live last i o there here h = record {
+pub runs_put : (d : Deployment) (m : Rows) (p : PlainState) (book : List Entry) (known : Known) (live : FinMap nat_cmp Run) (last i : ℕ) (o : Option Run) → IsTrue (is_some (map.get live i)) → RunAt d m p book known o → RunsMatch d m p book known live last → RunsMatch d m p book known (put_run live i o) last
+runs_put d m p book known live last i o there here h = record {
   numbers = changed nat_cmp-IsAntisymmetric live (put_run live i o) i o (put_got live i o) (λ n r. IsTrue (is_some r) → (1 ≤ n) × (n ≤ last)) (λ t. h.numbers i there) h.numbers;
   few = put_few live i o most_runs there h.few;
-  runs = changed nat_cmp-IsAntisymmetric live (put_run live i o) i o (put_got live i o) (λ n r. RunAt d book known r) here h.runs;
+  runs = changed nat_cmp-IsAntisymmetric live (put_run live i o) i o (put_got live i o) (λ n r. RunAt d m p book known r) here h.runs;
 }
 
 -- a run is over, whether it was live or not
-pub runs_less : (d : Deployment) (book : List Entry) (known : Known) (live : FinMap nat_cmp Run) (last i : ℕ) → RunsMatch d book known live last → RunsMatch d book known (map.remove live i) last
-runs_less d book known live last i h = record {
+pub runs_less : (d : Deployment) (m : Rows) (p : PlainState) (book : List Entry) (known : Known) (live : FinMap nat_cmp Run) (last i : ℕ) → RunsMatch d m p book known live last → RunsMatch d m p book known (map.remove live i) last
+runs_less d m p book known live last i h = record {
   numbers = changed nat_cmp-IsAntisymmetric live (map.remove live i) i None (get-remove nat_cmp_total live i) (λ n r. IsTrue (is_some r) → (1 ≤ n) × (n ≤ last)) (λ t. cc) h.numbers;
   few = subst (λ n. n ≤ most_runs) (sym (len-remove nat_cmp_total live i)) (fewer (is_some (map.get live i)) (map.len live) most_runs h.few);
-  runs = changed nat_cmp-IsAntisymmetric live (map.remove live i) i None (get-remove nat_cmp_total live i) (λ n r. RunAt d book known r) tt h.runs;
+  runs = changed nat_cmp-IsAntisymmetric live (map.remove live i) i None (get-remove nat_cmp_total live i) (λ n r. RunAt d m p book known r) tt h.runs;
 }
 
 -- a run is new
-pub runs_more : (d : Deployment) (book : List Entry) (known : Known) (live : FinMap nat_cmp Run) (last : ℕ) (r : Run) → map.len live < most_runs → KnowsAt d book known r r.at → RunsMatch d book known live last → RunsMatch d book known (map.insert live (last + 1) r) (last + 1)
-runs_more d book known live last r room here h = record {
+pub runs_more : (d : Deployment) (m : Rows) (p : PlainState) (book : List Entry) (known : Known) (live : FinMap nat_cmp Run) (last : ℕ) (r : Run) → map.len live < most_runs → KnowsAt d book known r r.at × InsideAt d m p known r r.at → RunsMatch d m p book known live last → RunsMatch d m p book known (map.insert live (last + 1) r) (last + 1)
+runs_more d m p book known live last r room here h = record {
   numbers = changed nat_cmp-IsAntisymmetric live (map.insert live (last + 1) r) (last + 1) (Some r) (get-insert nat_cmp_total live (last + 1) r) (λ n o. IsTrue (is_some o) → (1 ≤ n) × (n ≤ last + 1))
       (λ t. (omega arith, omega arith)) (λ n t. let b = h.numbers n t in (b.0, omega (arith, b.1)));
   few = subst (λ n. n ≤ most_runs) (sym (len-insert nat_cmp_total live (last + 1) r)) (by_test (is_some (map.get live (last + 1))));
-  runs = changed nat_cmp-IsAntisymmetric live (map.insert live (last + 1) r) (last + 1) (Some r) (get-insert nat_cmp_total live (last + 1) r) (λ n o. RunAt d book known o) here h.runs;
+  runs = changed nat_cmp-IsAntisymmetric live (map.insert live (last + 1) r) (last + 1) (Some r) (get-insert nat_cmp_total live (last + 1) r) (λ n o. RunAt d m p book known o) here h.runs;
 }
   where
     by_test : (b : Bool) → cond b (map.len live) (map.len live + 1) ≤ most_runs
@@ -251,8 +260,8 @@ runs_more d book known live last r room here h = record {
     by_test false = omega arith
 
 -- .. and was not started
-pub runs_before : (d : Deployment) (book : List Entry) (known : Known) (live : FinMap nat_cmp Run) (last : ℕ) (r : Run) → ((n : ℕ) → IsTrue (is_some (map.get live n)) → n ≤ last) → RunsMatch d book known (map.insert live (last + 1) r) (last + 1) → RunsMatch d book known live last
-runs_before d book known live last r given h = record {
+pub runs_before : (d : Deployment) (m : Rows) (p : PlainState) (book : List Entry) (known : Known) (live : FinMap nat_cmp Run) (last : ℕ) (r : Run) → ((n : ℕ) → IsTrue (is_some (map.get live n)) → n ≤ last) → RunsMatch d m p book known (map.insert live (last + 1) r) (last + 1) → RunsMatch d m p book known live last
+runs_before d m p book known live last r given h = record {
   numbers = λ n t. ((h.numbers n (subst (λ o. IsTrue (is_some o)) (sym (others n (given n t))) t)).0, given n t);
   few = fewer_before (is_some (map.get live (last + 1))) (subst (λ n. n ≤ most_runs) (len-insert nat_cmp_total live (last + 1) r) h.few);
   runs = λ n. by_number n (nat_lt last n) refl;
@@ -271,13 +280,13 @@ runs_before d book known live last r given h = record {
     fewer_before true le = le
     fewer_before false le = omega (arith, le)
 
-    not_live : (n : ℕ) (o : Option Run) → map.get live n ≡ o → last < n → RunAt d book known o
+    not_live : (n : ℕ) (o : Option Run) → map.get live n ≡ o → last < n → RunAt d m p book known o
     not_live n None is more = tt
     not_live n (Some k) is more = let le = given n (ap is_some is) in absurd (omega (arith, le, more))
 
-    by_number : (n : ℕ) (b : Bool) → nat_lt last n ≡ b → RunAt d book known (map.get live n)
+    by_number : (n : ℕ) (b : Bool) → nat_lt last n ≡ b → RunAt d m p book known (map.get live n)
     by_number n true e = not_live n (map.get live n) refl (ltb-true last n e)
-    by_number n false e = subst (RunAt d book known) (others n (ltb-false last n e)) (h.runs n)
+    by_number n false e = subst (RunAt d m p book known) (others n (ltb-false last n e)) (h.runs n)
 
 -- the numbers of the live runs were given, also once a run went on or was over
 pub numbers_put : (live : FinMap nat_cmp Run) (last i : ℕ) (o : Option Run) → IsTrue (is_some (map.get live i)) → ((n : ℕ) → IsTrue (is_some (map.get live n)) → n ≤ last) → (n : ℕ) → IsTrue (is_some (map.get (put_run live i o) n)) → n ≤ last

@@ -26,7 +26,7 @@ use Rattle.beldi_step.specs.declared.run.Wait.{Wait}
 use Rattle.beldi_step.specs.declared.run.Wait.TheVariants as wait
 use Rattle.beldi_intent.specs.Intent.{root_key}
 use Rattle.beldi_step.specs.declared.run.TurnSays.{TurnSays}
-use Rattle.beldi_step.specs.Run.{Turned, says_of, callee_of}
+use Rattle.beldi_step.specs.Run.{Turned, says_of, callee_of, callee_at, callee_by, callee_body}
 use Rattle.beldi_step.specs.Host.{Core, most_runs, is_crowded, has_run, with_run, put_run, entry_of, marked, made, started, may_start, after_turn, turned_core, turn_next, without_run}
 use borrow.Author.Tests.{leb-false}
 use Rattle.std.proofs.lemmas.Bool.{or_parts}
@@ -39,12 +39,18 @@ use Rattle.beldi_order.proofs.Entries.{grows_self, after_grows}
 use Rattle.beldi_order.proofs.Maps.{changed, same_some}
 use Rattle.beldi_order.specs.Grown.{Grows}
 use Rattle.beldi_order.proofs.Growth.{change_last}
-use Rattle.beldi_laws.proofs.Lives.{runs_on, runs_put, runs_more, runs_less, runs_before, numbers_put, remove_put}
+use Rattle.beldi_laws.proofs.Lives.{InsideOn, PlacesOn, places_last, places_same, runs_on, runs_put, runs_more, runs_less, runs_before, numbers_put, remove_put}
 use Rattle.beldi_book.specs.Order.{linear}
 use Rattle.beldi_plain.specs.Guard.{IsFree, IsGuarded}
 use Rattle.beldi_plain.specs.Plain.{nothing}
 use Rattle.beldi_known.specs.Known.{Known}
-use Rattle.beldi_laws.proofs.Shown.{Shows, Stays, shown}
+use Rattle.beldi_laws.proofs.Shown.{Shows, shown}
+use Rattle.beldi_laws.specs.Inside.{InsideAt, Frame}
+use Rattle.beldi_lang.specs.declared.effect.Effect.{Effect}
+use Rattle.beldi_lang.specs.declared.effect.Effect.TheVariants.{Call, Async}
+use Rattle.beldi_value.specs.Id.{has_callees, child_of}
+use Rattle.beldi_step.specs.declared.run.RunAt as standing
+use Rattle.beldi_step.specs.declared.run.RunAt.TheVariants.{Looks, Registers, Begins}
 use Rattle.std.specs.Prelude.{nat_lt, nat_le}
 
 -- what an event came to, as an answer: out of memory it tells no more than one that was lost
@@ -82,23 +88,34 @@ SameRoots m n = (t : ℕ) → is_some (map.get n (root_key t)) ≡ is_some (map.
 pub replaced : (m : Rows) (k : RowKey) (v : Option Row) → is_some v ≡ is_some (map.get m k) → SameRoots m (set_row m k v)
 replaced m k v h t = changed key_exact m (set_row m k v) k v (λ q. got m k q v) (λ q r. is_some r ≡ is_some (map.get m q)) h (λ q. refl) (root_key t)
 
--- ---- the book with an entry more leads to the plain state q, and the live runs know of what is known then what they have to
-pub record Entered (d : Deployment) (c : Core) (p : PlainState) (e : Entry) (q : PlainState) (next : Known) : Type 0 where
+-- ---- what a turn keeps: rows that show the plain state q and what is known then, and what the runs of others have found in them
+pub record Kept {d : Deployment} {c : Core} {m : Rows} (h : Right d c m) (n : Rows) (q : PlainState) (next : Known) (after : IntentId → Bool) : Type 0 where
+  pub shows : Shows d n q next after
+  pub grows : Grows h.known next
+  pub frame : Frame d m n h.plain q h.known next
+  pub others : InsideOn d m n h.plain q c.book h.known next
+
+-- .. where plain state and what is known are as before
+abbrev pub Stays : {d : Deployment} {c : Core} {m : Rows} → Right d c m → Rows → Type 0
+Stays h n = Kept h n h.plain h.known h.locked
+
+-- ---- the book with an entry more leads to the plain state q, and reads that are to be kept have their places in it
+pub record Entered (d : Deployment) (c : Core) (p : PlainState) (known : Known) (e : Entry) (q : PlainState) (next : Known) : Type 0 where
   pub grows : Grows p.made q.made
   pub bounded : SeenBounded 0 (c.book ++ e ∷ [])
   pub legal : run_of d (c.book ++ e ∷ []) ≡ Some q
   pub guarded : IsGuarded d nothing (linear (c.book ++ e ∷ []))
-  pub runs : RunsMatch d (c.book ++ e ∷ []) next c.runs c.last_run
+  pub places : (r : Run) → PlacesOn d c.book (c.book ++ e ∷ []) known next r
 
 -- where the entry is a change, and nobody else has locked its item
-pub change_entered : (d : Deployment) (c : Core) (m : Rows) (h : Right d c m) (e : Entry) (q : PlainState) (next : Known) → seen_of e ≡ None → after d h.plain e ≡ Some q → IsFree d h.plain e → Grows h.known next → Entered d c h.plain e q next
-change_entered d c m h e q next change enabled free grows =
+pub change_entered : (d : Deployment) (c : Core) (m : Rows) (h : Right d c m) (e : Entry) (q : PlainState) (next : Known) → seen_of e ≡ None → after d h.plain e ≡ Some q → IsFree d h.plain e → Entered d c h.plain h.known e q next
+change_entered d c m h e q next change enabled free =
     let last : IsLast d c.book e q = change_last d c.book h.plain e q (record { bounded = h.bounded; legal = h.legal; guarded = h.guarded; change = change; enabled = enabled; free = free }) in
-    record { grows = after_grows d h.plain e q enabled; bounded = last.bounded; legal = last.legal; guarded = last.guarded; runs = runs_on d c.book e h.known next q c.runs c.last_run grows last h.runs }
+    record { grows = after_grows d h.plain e q enabled; bounded = last.bounded; legal = last.legal; guarded = last.guarded; places = places_last d c.book e h.known next q last }
 
 -- ---- a host is right whose rows show the plain state that its book leads to
 abbrev pub right_by : {d : Deployment} {b : Core} {n : Rows} {q : PlainState} {next : Known} {locked : IntentId → Bool} → SeenBounded 0 b.book → run_of d b.book ≡ Some q → IsGuarded d nothing (linear b.book) → Shows d n q next locked
-    → ((t : ℕ) → is_some (map.get n (root_key t)) ≡ (nat_lt 0 t && nat_le t b.newest)) → RunsMatch d b.book next b.runs b.last_run → Right d b n
+    → ((t : ℕ) → is_some (map.get n (root_key t)) ≡ (nat_lt 0 t && nat_le t b.newest)) → RunsMatch d n q b.book next b.runs b.last_run → Right d b n
 right_by {q} {next} {locked} bounded legal guarded s tickets runs = record {
   plain = q;
   bounded = bounded;
@@ -106,20 +123,23 @@ right_by {q} {next} {locked} bounded legal guarded s tickets runs = record {
   guarded = guarded;
   known = next;
   locked = locked;
-  beside = s.aside.beside;
+  beside = s.goes.beside;
   sane = s.sane;
-  locked_at_ends = s.aside.locked_at_ends;
+  locked_at_ends = s.locked_at_ends;
   rows = s.rows;
   values = s.values;
   tickets = tickets;
+  shadows = s.goes.shadows;
+  marks = s.settled.marks;
+  holders = s.settled.holders;
+  uncalled = s.settled.uncalled;
   runs = runs;
-  quiet = s.aside.quiet;
 }
 
 -- .. and one of the same book and tickets as a right one, where its runs know what they have to
-abbrev pub with_runs : {d : Deployment} {c : Core} {m : Rows} (h : Right d c m) (b : Core) → c.book ≡ b.book → c.newest ≡ b.newest → RunsMatch d c.book h.known b.runs b.last_run → Right d b m
-with_runs {d} h b book newest runs = right_by {q = h.plain} {next = h.known} {locked = h.locked} (subst (SeenBounded 0) book h.bounded) (ap (run_of d) (sym book) ∙ h.legal) (subst (λ z. IsGuarded d nothing (linear z)) book h.guarded) (shown h)
-    (λ t. h.tickets t ∙ ap (λ n. nat_lt 0 t && nat_le t n) newest) (subst (λ z. RunsMatch d z h.known b.runs b.last_run) book runs)
+abbrev pub with_runs : {d : Deployment} {c : Core} {m : Rows} (h : Right d c m) (b : Core) → c.book ≡ b.book → c.newest ≡ b.newest → RunsMatch d m h.plain c.book h.known b.runs b.last_run → Right d b m
+with_runs {d} {c} {m} h b book newest runs = right_by {q = h.plain} {next = h.known} {locked = h.locked} (subst (SeenBounded 0) book h.bounded) (ap (run_of d) (sym book) ∙ h.legal) (subst (λ z. IsGuarded d nothing (linear z)) book h.guarded) (shown h)
+    (λ t. h.tickets t ∙ ap (λ n. nat_lt 0 t && nat_le t n) newest) (subst (λ z. RunsMatch d m h.plain z h.known b.runs b.last_run) book runs)
 
 -- ---- a run turned, and the book has the entry of its act, if any
 abbrev reply_told : ℕ → Option Outcome → Option (ℕ × Outcome)
@@ -131,9 +151,9 @@ told_reply q t (Some u) h s o e = let both = same_some e in ap (reply_of q) (ap 
 
 -- ---- a run more
 -- a run that knows what it has to is started, where there is a place
-pub with_one : (d : Deployment) (p : PlainState) (c : Core) (m : Rows) (x : Seen) (r : Run) → is_crowded c ≡ false → (h : After d p c m x) → KnowsAt d c.book h.right.known r r.at → After d p (with_run c r) m x
-with_one d p c m x r room h knows = record {
-  right = with_runs h.right (with_run c r) refl refl (runs_more d c.book h.right.known c.runs c.last_run r (leb-false most_runs (map.len c.runs) room) knows h.right.runs);
+pub with_one : (d : Deployment) (p : PlainState) (c : Core) (m : Rows) (x : Seen) (r : Run) → is_crowded c ≡ false → (h : After d p c m x) → KnowsAt d c.book h.right.known r r.at → InsideAt d m h.right.plain h.right.known r r.at → After d p (with_run c r) m x
+with_one d p c m x r room h knows finds = record {
+  right = with_runs h.right (with_run c r) refl refl (runs_more d m h.right.plain c.book h.right.known c.runs c.last_run r (leb-false most_runs (map.len c.runs) room) (knows, finds) h.right.runs);
   goes_on = h.goes_on;
   there = h.there;
   reply = h.reply;
@@ -154,6 +174,24 @@ starts_by (Some (wait.Result j)) starts = true
 abbrev pub KnowsCallee : Deployment → List Entry → Known → Run → Turned → Option Wait → Type 0
 KnowsCallee d book known r s w = starts_by w s.starts ≡ true → (k : Run) → callee_of r ≡ Some k → KnowsAt d book known k k.at
 
+-- it has not begun, so it has found nothing
+callee_inside : (d : Deployment) (m : Rows) (p : PlainState) (known : Known) (r k : Run) → callee_of r ≡ Some k → InsideAt d m p known k k.at
+callee_inside d m p known r k = at_stand r.at
+  where
+    by_hops : (b : Bool) (id : IntentId) (f deadline : ℕ) (at : standing.RunAt) → ((z : Run) → InsideAt d m p known z at) → (if b then Some (record { id = id; func = f; deadline = deadline; at = at }) else None) ≡ Some k → InsideAt d m p known k k.at
+    by_hops true id f deadline at none is = subst (λ (z : Run). InsideAt d m p known z z.at) (same_some is) (none (record { id = id; func = f; deadline = deadline; at = at }))
+    by_hops false id f deadline at none is = cc
+
+    by_effect : (step : ℕ) (e : Effect) → callee_by r step e ≡ Some k → InsideAt d m p known k k.at
+    by_effect step (Call f a) is = by_hops (has_callees r.id) (child_of r.id step) f r.deadline (Registers (callee_body r.id r.func step f a true)) (λ z. tt) is
+    by_effect step (Async f a) is = by_hops (has_callees r.id) (child_of r.id step) f r.deadline Looks (λ z. tt) is
+    by_effect step e is = cc
+
+    at_stand : (at : standing.RunAt) → callee_at r at ≡ Some k → InsideAt d m p known k k.at
+    at_stand Looks is = cc
+    at_stand (Registers b) is = cc
+    at_stand (Begins g) is = by_effect g.machine.steps g.machine.effect is
+
 -- what follows a turn whose core is so tells nothing but the outcome that the turn gave
 module _ (d : Deployment) (p : PlainState) (c : Core) (m : Rows) (r : Run) (s : Turned) (h : Right d c m) (goes_on : Grows p.made h.plain.made)
     (reply : (t : ℕ) (o : Outcome) → reply_told r.id.ticket s.reply ≡ Some (t, o) → reply_of h.plain t ≡ Some o) where
@@ -169,47 +207,54 @@ module _ (d : Deployment) (p : PlainState) (c : Core) (m : Rows) (r : Run) (s : 
   none_more : AfterMade (c, None)
   none_more = told_so (made r.id (says_of s) (c, None)).1 refl refl
 
-  after_started : (o : Option Run) → ((k : Run) → o ≡ Some k → KnowsAt d c.book h.known k k.at) → is_crowded c ≡ false → AfterMade (started c o)
+  after_started : (o : Option Run) → ((k : Run) → o ≡ Some k → KnowsAt d c.book h.known k k.at × InsideAt d m h.plain h.known k k.at) → is_crowded c ≡ false → AfterMade (started c o)
   unfolding told_so
   after_started None knows room = none_more
-  after_started (Some k) knows room = let x = (made r.id (says_of s) (started c (Some k))).1 in with_one d p c m x k room (told_so x refl refl) (knows k refl)
+  after_started (Some k) knows room = let x = (made r.id (says_of s) (started c (Some k))).1 in with_one d p c m x k room (told_so x refl refl) (knows k refl).0 (knows k refl).1
 
-  after_opened : (o : Option Run) → ((k : Run) → o ≡ Some k → KnowsAt d c.book h.known k k.at) → AfterMade (may_start c o)
+  after_opened : (o : Option Run) → ((k : Run) → o ≡ Some k → KnowsAt d c.book h.known k k.at × InsideAt d m h.plain h.known k k.at) → AfterMade (may_start c o)
   after_opened None knows = none_more
   after_opened (Some k) knows = if_plan AfterMade (has_run c.runs k.id || is_crowded c) _ _ (λ t. none_more) (λ e. after_started (Some k) knows (or_parts (has_run c.runs k.id) (is_crowded c) e).1)
+
+  -- a run of what is called has found nothing yet
+  with_found : (w : Bool) → (w ≡ true → (k : Run) → callee_of r ≡ Some k → KnowsAt d c.book h.known k k.at) → w ≡ true → (k : Run) → callee_of r ≡ Some k → KnowsAt d c.book h.known k k.at × InsideAt d m h.plain h.known k k.at
+  with_found w knows t k is = (knows t k is, callee_inside d m h.plain h.known r k is)
 
   AfterThat : Core × Seen → Type 0
   AfterThat z = After d p z.0 m z.1
 
   pub followed : (w : Option Wait) → KnowsCallee d c.book h.known r s w → let z = after_turn c (callee_of r) r.id (says_of s) w in After d p z.0 m z.1
   unfolding AfterThat
-  followed None knows = if_plan AfterMade s.starts _ _ (λ t. after_opened (callee_of r) (knows t)) (λ t. none_more)
+  followed None knows = if_plan AfterMade s.starts _ _ (λ t. after_opened (callee_of r) (with_found s.starts knows t)) (λ t. none_more)
   followed (Some (wait.Held u)) knows = silent (seen.Held u) refl refl
   followed (Some (wait.Result j)) knows =
       if_plan AfterThat (has_run c.runs j) _ _ (λ t. silent (seen.NotYet j) refl refl)
-      (λ t. if_plan AfterThat (is_crowded c) _ _ (λ u. silent seen.Crowded refl refl) (λ u. after_started (callee_of r) (knows refl) u))
+      (λ t. if_plan AfterThat (is_crowded c) _ _ (λ u. silent seen.Crowded refl refl) (λ u. after_started (callee_of r) (with_found true knows refl) u))
 
 -- ---- a run turned
 module _ (d : Deployment) (c : Core) (m n : Rows) (i : ℕ) (r : Run) (h : Right d c m) (live : map.get c.runs i ≡ Some r) (roots : SameRoots m n) where
   -- it made no entry
-  pub quiet : (s : Turned) → s.mark ≡ None → s.reply ≡ None → RunAt d c.book h.known s.next → KnowsCallee d c.book h.known r s s.wait → Stays h n → AfterTurn d h.plain c i r s n
-  quiet s none silent next callee rows =
+  pub quiet : (s : Turned) (next : Known) (after : IntentId → Bool) → s.mark ≡ None → s.reply ≡ None → RunAt d n h.plain c.book next s.next → KnowsCallee d c.book next r s s.wait → Kept h n h.plain next after → AfterTurn d h.plain c i r s n
+  quiet s next after none silent run callee kept =
       let book : c.book ≡ marked c.book r.id s.mark = sym (append-nil c.book) ∙ ap (marked c.book r.id) (sym none) in
       followed d h.plain (turned_core c i r.id s) n r s
-      (right_by (subst (SeenBounded 0) book h.bounded) (ap (run_of d) (sym book) ∙ h.legal) (subst (λ b. IsGuarded d nothing (linear b)) book h.guarded) rows (λ t. roots t ∙ h.tickets t)
-      (subst (λ b. RunsMatch d b h.known (put_run c.runs i s.next) c.last_run) book (runs_put d c.book h.known c.runs c.last_run i s.next (ap is_some live) next h.runs)))
+      (right_by (subst (SeenBounded 0) book h.bounded) (ap (run_of d) (sym book) ∙ h.legal) (subst (λ b. IsGuarded d nothing (linear b)) book h.guarded) kept.shows (λ t. roots t ∙ h.tickets t)
+      (subst (λ b. RunsMatch d n h.plain b next (put_run c.runs i s.next) c.last_run) book (runs_put d n h.plain c.book next c.runs c.last_run i s.next (ap is_some live) run
+      (runs_on d m n h.plain h.plain c.book c.book h.known next c.runs c.last_run kept.grows (places_same d c.book h.known next) kept.others h.runs))))
       (grows_self h.plain.made)
       (λ t u e. let clash = sym (ap (reply_told r.id.ticket) silent) ∙ e in cc)
-      s.wait (subst (λ b. KnowsCallee d b h.known r s s.wait) book callee)
+      s.wait (subst (λ b. KnowsCallee d b next r s s.wait) book callee)
 
   -- it made this entry, which led to the plain state q
-  pub entered : (s : Turned) (k : Mark) (q : PlainState) (next : Known) → s.mark ≡ Some k → Entered d c h.plain (entry_of r.id k) q next → ((v : Outcome) → s.reply ≡ Some v → reply_of q r.id.ticket ≡ Some v) → RunAt d (c.book ++ entry_of r.id k ∷ []) next s.next
-      → KnowsCallee d (c.book ++ entry_of r.id k ∷ []) next r s s.wait → Shows d n q next h.locked → AfterTurn d h.plain c i r s n
-  entered s k q next is leads reply run callee rows =
-      let book : c.book ++ entry_of r.id k ∷ [] ≡ marked c.book r.id s.mark = ap (marked c.book r.id) (sym is) in
+  pub entered : (s : Turned) (k : Mark) (q : PlainState) (next : Known) (after : IntentId → Bool) → s.mark ≡ Some k → Entered d c h.plain h.known (entry_of r.id k) q next → ((v : Outcome) → s.reply ≡ Some v → reply_of q r.id.ticket ≡ Some v) → RunAt d n q (c.book ++ entry_of r.id k ∷ []) next s.next
+      → KnowsCallee d (c.book ++ entry_of r.id k ∷ []) next r s s.wait → Kept h n q next after → AfterTurn d h.plain c i r s n
+  entered s k q next after is leads reply run callee kept =
+      let more : List Entry = c.book ++ entry_of r.id k ∷ [] in
+      let book : more ≡ marked c.book r.id s.mark = ap (marked c.book r.id) (sym is) in
       followed d h.plain (turned_core c i r.id s) n r s
-      (right_by (subst (SeenBounded 0) book leads.bounded) (ap (run_of d) (sym book) ∙ leads.legal) (subst (λ b. IsGuarded d nothing (linear b)) book leads.guarded) rows (λ t. roots t ∙ h.tickets t)
-      (subst (λ b. RunsMatch d b next (put_run c.runs i s.next) c.last_run) book (runs_put d (c.book ++ entry_of r.id k ∷ []) next c.runs c.last_run i s.next (ap is_some live) run leads.runs)))
+      (right_by (subst (SeenBounded 0) book leads.bounded) (ap (run_of d) (sym book) ∙ leads.legal) (subst (λ b. IsGuarded d nothing (linear b)) book leads.guarded) kept.shows (λ t. roots t ∙ h.tickets t)
+      (subst (λ b. RunsMatch d n q b next (put_run c.runs i s.next) c.last_run) book (runs_put d n q more next c.runs c.last_run i s.next (ap is_some live) run
+      (runs_on d m n h.plain q c.book more h.known next c.runs c.last_run kept.grows leads.places kept.others h.runs))))
       leads.grows
       (told_reply q r.id.ticket s.reply reply)
       s.wait (subst (λ b. KnowsCallee d b next r s s.wait) book callee)
@@ -243,10 +288,10 @@ module _ (d : Deployment) (c : Core) (m n : Rows) (i : ℕ) (r : Run) (h : Right
   core = turned_core c i r.id s
 
   run_over : (g : Right d core n) → Right d (without_run c i r.id s.mark) n
-  run_over g = with_runs g (without_run c i r.id s.mark) refl refl (subst (λ f. RunsMatch d core.book g.known f core.last_run) (remove_put c.runs i s.next) (runs_less d core.book g.known core.runs core.last_run i g.runs))
+  run_over g = with_runs g (without_run c i r.id s.mark) refl refl (subst (λ f. RunsMatch d n g.plain core.book g.known f core.last_run) (remove_put c.runs i s.next) (runs_less d n g.plain core.book g.known core.runs core.last_run i g.runs))
 
   not_started : (k : Run) (g : Right d (with_run core k) n) → Right d core n
-  not_started k g = with_runs g core refl refl (runs_before d core.book g.known core.runs core.last_run k (numbers_put c.runs c.last_run i s.next (ap is_some live) (λ j t. (h.runs.numbers j t).1)) g.runs)
+  not_started k g = with_runs g core refl refl (runs_before d n g.plain core.book g.known core.runs core.last_run k (numbers_put c.runs c.last_run i s.next (ap is_some live) (λ j t. (h.runs.numbers j t).1)) g.runs)
 
   lost_by : (b : Core) → MaybeStarted core b → After d h.plain b n (turn_next c i r s).1 → After d h.plain (without_run c i r.id s.mark) n seen.Dropped
   unfolding MaybeStarted run_over not_started

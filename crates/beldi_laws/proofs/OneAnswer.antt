@@ -6,13 +6,17 @@ use Rattle.std.specs.FinMap as map
 use Rattle.beldi_value.specs.declared.id.IntentId.{IntentId}
 use Rattle.beldi_value.specs.declared.outcome.Outcome.{Outcome}
 use Rattle.beldi_value.specs.declared.place.Place.{Place}
+use Rattle.beldi_value.specs.declared.place.TxId.{TxId}
+use Rattle.beldi_value.specs.declared.value.Value.{Value}
 use Rattle.beldi_tree.specs.declared.deployment.Deployment.{Deployment}
 use Rattle.beldi_lang.specs.declared.effect.Answer.{Answer}
 use Rattle.beldi_lang.specs.declared.effect.Answer.TheVariants as answer
-use Rattle.beldi_lang.specs.declared.effect.Effect.TheVariants.{Read, Call, Async}
+use Rattle.beldi_lang.specs.declared.effect.Effect.{Effect}
+use Rattle.beldi_lang.specs.declared.effect.Effect.TheVariants.{Read, Write, CondWrite, Call, Async, Begin, End, Abort}
 use Rattle.beldi_lang.specs.Machine.{IsAt}
 use Rattle.beldi_row.specs.declared.key.RowKey.{RowKey}
 use Rattle.beldi_row.specs.declared.notes.Note.{Note}
+use Rattle.beldi_row.specs.declared.notes.Note.TheVariants.{Got, Died}
 use Rattle.beldi_row.specs.declared.row.Row.{Row}
 use Rattle.beldi_row.specs.declared.row.Row.TheVariants as rows
 use Rattle.beldi_row.specs.declared.act.Act.{Act}
@@ -23,7 +27,8 @@ use Rattle.beldi_row.specs.Log.{note_at}
 use Rattle.beldi_row.specs.Table.{Rows, after_act}
 use Rattle.beldi_daal.specs.Content.{content_in}
 use Rattle.beldi_daal.proofs.Stays.{notes_stay}
-use Rattle.beldi_readlog.specs.ReadLog.{given_in, log_key}
+use Rattle.beldi_readlog.specs.ReadLog.{given_in, log_key, given}
+use Rattle.beldi_plain.specs.Item.{Item}
 use Rattle.beldi_plain.specs.Operation.{OnItem, op_of, item_in}
 use Rattle.beldi_plain.specs.Plain.{Instance}
 use Rattle.beldi_step.specs.declared.run.Run.{Run}
@@ -34,7 +39,7 @@ use Rattle.beldi_order.proofs.Maps.{same_some}
 use Rattle.beldi_laws.specs.Laws.{HeldAnswersStay, OneRowChanged, RightHasOneAnswer}
 use Rattle.beldi_laws.specs.OneAnswer.{WasGiven, AnswersOf, OneAnswerPerStep, AnswersStay}
 use Rattle.beldi_laws.specs.Right.{Right, Knows, KnowsAt, RunAt}
-use Rattle.beldi_laws.specs.Stands.{held_answer, held_note}
+use Rattle.beldi_laws.specs.Stands.{held_answer, held_outside, held_inside, held_note, told_by, lock_note, shadow_answer}
 use Rattle.beldi_walk.specs.declared.query.Query.TheVariants as query
 use Rattle.beldi_walk.proofs.Promises.{at_each}
 use Rattle.beldi_invokelog.specs.InvokeLog.{invoke_key, call_in, result_in, GoesOn, CallGoesOn}
@@ -42,15 +47,17 @@ use Rattle.beldi_invokelog.proofs.Calls.{calls_stay}
 use Rattle.beldi_lang.specs.Callee.{answer_of}
 use Rattle.beldi_laws.proofs.OneEvent.{one_row}
 use Rattle.beldi_laws.proofs.Standing.{held_here, same_run}
+use Rattle.beldi_laws.proofs.Outside.{called_outside}
+use Rattle.beldi_laws.proofs.Shown.{legal_sane}
 use Rattle.beldi_step.specs.Run.{noted_answer}
 use Rattle.beldi_lang.specs.declared.effect.Answer.TheVariants.{Done}
-use Rattle.beldi_known.specs.Contents.{head_key}
+use Rattle.beldi_known.specs.Contents.{head_key, shadow_key}
 
 -- ---- one answer
 module _ (d : Deployment) (c : Core) (m : Rows) (h : Right d c m) (id : IntentId) where
   -- what a begun run knows
   known : (i : ℕ) (r : Run) (g : Begun) → map.get c.runs i ≡ Some r → r.at ≡ Begins g → Knows d c.book h.known r g
-  known i r g live at = subst (λ o. KnowsAt d c.book h.known r o) at (subst (λ o. RunAt d c.book h.known o) live (h.runs.runs i))
+  known i r g live at = subst (λ o. KnowsAt d c.book h.known r o) at (subst (RunAt d m h.plain c.book h.known) live (h.runs.runs i)).0
 
   given_of : (q : Instance) (r : Run) (g : Begun) → map.get h.known id ≡ Some q → r.id ≡ id → Knows d c.book h.known r g → WasGiven d q r g
   given_of q r g made same k =
@@ -67,7 +74,7 @@ module _ (d : Deployment) (c : Core) (m : Rows) (h : Right d c m) (id : IntentId
   answers_of : (o : Option Instance) → map.get h.known id ≡ o → AnswersOf d c m id o
   answers_of None none = λ r g b. let k = known b.number r g b.live b.begun in let clash : Some k.instance ≡ None = sym k.made ∙ ap (map.get h.known) b.same_id ∙ none in cc
   answers_of (Some q) made = record {
-    held = held_here d m h.known h.locked h.rows h.sane id q made;
+    held = λ n a at. held_here d m h.known h.locked h.rows h.sane id q made n a at (called_outside d h.plain h.known h.beside id q made (legal_sane h));
     runs = λ r g b. given_of q r g made b.same_id (known b.number r g b.live b.begun);
   }
 
@@ -87,9 +94,9 @@ of_note : (o : Option Note) (x : Answer) → option_and_then noted_answer o ≡ 
 of_note None x is = cc
 of_note (Some n) x is = (n, refl)
 
-value_stays : (a : Act) (now : ℕ) (x : Answer) (o : Option Row) → option_map answer.Value (option_map given_in o) ≡ Some x → option_map answer.Value (option_map given_in (act a now o).0) ≡ Some x
-value_stays a now x None is = cc
-value_stays a now x (Some r) is = ap (λ v. Some (answer.Value v)) (given_stays r a now) ∙ is
+value_stays : (f : Value → Answer) (a : Act) (now : ℕ) (x : Answer) (o : Option Row) → option_map f (option_map given_in o) ≡ Some x → option_map f (option_map given_in (act a now o).0) ≡ Some x
+value_stays f a now x None is = cc
+value_stays f a now x (Some r) is = ap (λ v. Some (f v)) (given_stays r a now) ∙ is
 
 note_stays : (a : Act) (now : ℕ) (p : Place) (x : Answer) (o : Option Row) → option_and_then noted_answer (note_at (content_in o).notes p) ≡ Some x → option_and_then noted_answer (note_at (content_in (act a now o).0).notes p) ≡ Some x
 note_stays a now p x o is = let n = of_note (note_at (content_in o).notes p) x is in ap (option_and_then noted_answer) (notes_stay a now o p n.0 n.1 ∙ sym n.1) ∙ is
@@ -123,17 +130,47 @@ module _ (a : Act) (now : ℕ) (k : RowKey) (m : Rows) where
   notes_keep at func None x held = cc
   notes_keep at func (Some o) x held = at_key (λ r. option_and_then noted_answer (note_at (content_in r).notes at) ≡ Some x) (λ b t. note_stays b t at x) (head_key (item_in func o)) held
 
+  -- a note that is there stays, and so does what is told by one
+  note_keeps : (at : Place) (l : RowKey) (w : Note) → note_at (content_in (map.get m l)).notes at ≡ Some w → note_at (content_in (map.get (after_act a now k m) l)).notes at ≡ Some w
+  note_keeps at l w there = at_key (λ r. note_at (content_in r).notes at ≡ Some w) (λ b t o held. notes_stay b t o at w held) l there
+
+  value_keeps : (l : RowKey) (f : Value → Answer) (x : Answer) → option_map f (given m l) ≡ Some x → option_map f (given (after_act a now k m) l) ≡ Some x
+  value_keeps l f x held = at_key (λ o. option_map f (option_map given_in o) ≡ Some x) (λ b t. value_stays f b t x) l held
+
+  outside_keeps : (p : Place) (func : ℕ) (e : Effect) (x : Answer) → held_outside m p func e ≡ Some x → held_outside (after_act a now k m) p func e ≡ Some x
+  outside_keeps p func (Read t key) x held = value_keeps (log_key func p) answer.Value x held
+  outside_keeps p func (Call f v) x held = let l = invoke_key func p in back_stays x (map.get m l) (map.get (after_act a now k m) l) (calls_stay (query.Act k a) now m l) held
+  outside_keeps p func (Async f v) x held = let l = invoke_key func p in call_stays x (map.get m l) (map.get (after_act a now k m) l) (calls_stay (query.Act k a) now m l) held
+  outside_keeps p func e x held = notes_keep p func (op_of e) x held
+
+  told_keeps : (p : Place) (i : Item) (v w : Option Answer) (x : Answer) → (v ≡ Some x → w ≡ Some x) → told_by p (lock_note m p i) v ≡ Some x → told_by p (lock_note (after_act a now k m) p i) w ≡ Some x
+  told_keeps p i v w x rest held = by_note (lock_note m p i) refl held
+    where
+      by_note : (o : Option Note) → lock_note m p i ≡ o → told_by p o v ≡ Some x → told_by p (lock_note (after_act a now k m) p i) w ≡ Some x
+      by_note None is held = cc
+      by_note (Some Got) is held = ap (λ o. told_by p o w) (note_keeps p (head_key i) Got is) ∙ rest held
+      by_note (Some (Died z)) is held = ap (λ o. told_by p o w) (note_keeps p (head_key i) (Died z) is) ∙ held
+      by_note (Some z) is held = cc
+
+  shadow_keeps : (s : TxId) (p : Place) (i : Item) (x : Answer) → shadow_answer m s p i ≡ Some x → shadow_answer (after_act a now k m) s p i ≡ Some x
+  shadow_keeps s p i x held = at_key (λ r. option_and_then noted_answer (note_at (content_in r).notes p) ≡ Some x) (λ b t. note_stays b t p x) (shadow_key s i) held
+
+  inside_keeps : (s : TxId) (p : Place) (func : ℕ) (e : Effect) (x : Answer) → held_inside m s p func e ≡ Some x → held_inside (after_act a now k m) s p func e ≡ Some x
+  inside_keeps s p func Begin x held = held
+  inside_keeps s p func Abort x held = held
+  inside_keeps s p func (End c) x held = value_keeps (log_key s.func (record { intent = s.intent; step = s.begin })) (λ v. Done) x held
+  inside_keeps s p func (Read t key) x held = told_keeps p (record { func = func; table = t; key = key }) (option_map answer.Value (given m (log_key func p))) (option_map answer.Value (given (after_act a now k m) (log_key func p))) x (value_keeps (log_key func p) answer.Value x) held
+  inside_keeps s p func (Write t key v) x held = let i : Item = record { func = func; table = t; key = key } in told_keeps p i (shadow_answer m s p i) (shadow_answer (after_act a now k m) s p i) x (shadow_keeps s p i x) held
+  inside_keeps s p func (CondWrite t key r u v) x held = let i : Item = record { func = func; table = t; key = key } in told_keeps p i (shadow_answer m s p i) (shadow_answer (after_act a now k m) s p i) x (shadow_keeps s p i x) held
+  inside_keeps s p func e x held = outside_keeps p func e x held
+
   act_keeps : AnswersStay m (after_act a now k m)
-  act_keeps id func step (Read t key) x held = at_key (λ o. option_map answer.Value (option_map given_in o) ≡ Some x) (λ b t. value_stays b t x) (log_key func (record { intent = id; step = step })) held
-  act_keeps id func step (Call f v) x held =
-      let l = invoke_key func (record { intent = id; step = step }) in back_stays x (map.get m l) (map.get (after_act a now k m) l) (calls_stay (query.Act k a) now m l) held
-  act_keeps id func step (Async f v) x held =
-      let l = invoke_key func (record { intent = id; step = step }) in call_stays x (map.get m l) (map.get (after_act a now k m) l) (calls_stay (query.Act k a) now m l) held
-  act_keeps id func step e x held = notes_keep (record { intent = id; step = step }) func (op_of e) x held
+  act_keeps id func step None e x held = outside_keeps (record { intent = id; step = step }) func e x held
+  act_keeps id func step (Some s) e x held = inside_keeps s (record { intent = id; step = step }) func e x held
 
 one_keeps : (c : Core) (m n : Rows) → OneRowChanged c m n → AnswersStay m n
 one_keeps c m n o = elim o.rows [
-  | inl same ↦ λ id func step e x held. subst (λ l. held_answer l id func step e ≡ Some x) (sym same) held
+  | inl same ↦ λ id func step s e x held. subst (λ l. held_answer l id func step s e ≡ Some x) (sym same) held
   | inr s ↦ subst (AnswersStay m) (sym s.1) (act_keeps s.0 c.now o.key m)
 ]
 

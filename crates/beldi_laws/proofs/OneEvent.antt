@@ -11,7 +11,7 @@ use Rattle.beldi_value.specs.declared.value.Value.{Value}
 use Rattle.beldi_value.specs.declared.place.Caller.{Caller}
 use Rattle.beldi_tree.specs.declared.deployment.Deployment.{Deployment}
 use Rattle.beldi_lang.specs.declared.machine.Machine.{Machine}
-use Rattle.beldi_lang.specs.Machine.{begun, resumed}
+use Rattle.beldi_lang.specs.Machine.{begun}
 use Rattle.beldi_book.specs.declared.entry.Entry.TheVariants.{Start}
 use Rattle.beldi_book.specs.Order.{count_changes}
 use Rattle.beldi_row.specs.declared.key.RowKey.{RowKey}
@@ -41,6 +41,7 @@ use Rattle.beldi_step.specs.declared.run.Run.{Run}
 use Rattle.beldi_step.specs.declared.run.RunAt.{RunAt}
 use Rattle.beldi_step.specs.declared.run.RunAt.TheVariants.{Looks, Registers, Begins}
 use Rattle.beldi_step.specs.declared.run.Begun.{Begun}
+use Rattle.beldi_step.specs.declared.run.OpenTx.{OpenTx}
 use Rattle.beldi_step.specs.declared.run.Stage.{Stage}
 use Rattle.beldi_step.specs.declared.run.Wait.{Wait}
 use Rattle.beldi_step.specs.declared.run.Wait.TheVariants as wait
@@ -49,7 +50,7 @@ use Rattle.beldi_step.specs.declared.run.Says.TheVariants as says
 use Rattle.beldi_tree.specs.declared.deployment.Func.{Func}
 use Rattle.beldi_tree.specs.Names.{func_at}
 use Rattle.beldi_intent.specs.Intent.{is_added, binding_of, body_told}
-use Rattle.beldi_step.specs.Run.{Turned, says_of, turned_by, goes_from, first_stage, begin_in, body_registered, told_at, stage_says, run_told, callee_of}
+use Rattle.beldi_step.specs.Run.{Turned, says_of, turned_by, takes, at_once as at_once_of, goes_from, goes_to, first_stage, begin_in, body_registered, told_at, stage_says, run_told, callee_of}
 use Rattle.beldi_step.specs.Host.{turn_next, turned_core, after_turn, made, started, may_start, collect_next, collected, launched, passed, has_run, Core, Plan, at_once, asks, counted, plan, plan_of, run_plan, crash_plan, last_moment, is_crowded, most_events, no_run, ended_run, entry_of, marked, ticket_next, request_next, unbound, run_next, unheard_next, heard, no_memory, if_lent, refused, refused_by, Followed, StepBy, EventBy, is_lost, is_dropped}
 use Rattle.beldi_order.proofs.Maps.{same_some}
 use Rattle.beldi_known.specs.Contents.{head_key, content_of}
@@ -124,6 +125,8 @@ act_starts_none : (id : IntentId) (k : Option Mark) → starts_of (option_to_lis
 act_starts_none id None = refl
 act_starts_none id (Some (mark.Read seen)) = refl
 act_starts_none id (Some mark.Step) = refl
+act_starts_none id (Some mark.Tx) = refl
+act_starts_none id (Some (mark.Try p holder)) = refl
 
 -- an answer that tells no entry
 abbrev is_silent : Seen → Bool
@@ -183,25 +186,28 @@ plan_tells d e c = if_plan (PlanTells (counted c)) (nat_lt c.taken most_events) 
 abbrev Unmarked : Turned → Type 0
 Unmarked s = (w : Wait) → s.wait ≡ Some w → s.mark ≡ None
 
-goes_unmarked : (r : Run) (g : Machine) (c : Option Caller) (m : Option Mark) (s : Option Stage) → Unmarked (goes_from r g c m s)
-goes_unmarked r g c m None w is = cc
-goes_unmarked r g c m (Some s) w is = cc
+goes_unmarked : (r : Run) (s : Machine × Option OpenTx) (c : Option Caller) (m : Option Mark) (at : Option Stage) → Unmarked (goes_from r s c m at)
+goes_unmarked r s c m None w is = cc
+goes_unmarked r s c m (Some at) w is = cc
+
+stands_unmarked : (d : Deployment) (r : Run) (s : Machine × Option OpenTx) (c : Option Caller) (m : Option Mark) → Unmarked (goes_to d r s c m)
+stands_unmarked d r s c m w is = let z = at_once_of d r.id s in goes_unmarked r z c m (first_stage r.id c z.1 z.0.steps z.0.effect) w is
 
 says_unmarked : (d : Deployment) (r : Run) (g : Begun) (s : Says) → Unmarked (turned_by d r g s)
 says_unmarked d r g (says.Waits u) w is = refl
-says_unmarked d r g (says.Answers a m) w is = let next = resumed d g.machine a in goes_unmarked r next g.caller m (first_stage r.id g.caller next.effect) w is
-says_unmarked d r g (says.Starts a) w is = let next = resumed d g.machine a in goes_unmarked r next g.caller None (first_stage r.id g.caller next.effect) w is
+says_unmarked d r g (says.Answers a m) w is = stands_unmarked d r (takes d g.machine g.tx a) g.caller m w is
+says_unmarked d r g (says.Starts a) w is = stands_unmarked d r (takes d g.machine g.tx a) g.caller None w is
 says_unmarked d r g s w is = cc
 
 begins_unmarked : (d : Deployment) (r : Run) (f : Option Func) (b : Option Body) → Unmarked (begin_in d r f b)
 begins_unmarked d r f None w is = cc
 begins_unmarked d r None (Some b) w is = cc
-begins_unmarked d r (Some f) (Some b) w is = let first = begun d r.func b.args false in goes_unmarked r first b.from None (first_stage r.id b.from first.effect) w is
+begins_unmarked d r (Some f) (Some b) w is = stands_unmarked d r (begun d r.func b.args false, None) b.from None w is
 
 waits_unmarked : (d : Deployment) (n : ℕ) (r : Run) (at : RunAt) (t : Told) → Unmarked (told_at d n r at t)
 waits_unmarked d n r Looks t = begins_unmarked d r (func_at d r.func) (body_told r.func t)
 waits_unmarked d n r (Registers b) t = begins_unmarked d r (func_at d r.func) (body_registered r.func b t)
-waits_unmarked d n r (Begins g) t = says_unmarked d r g (stage_says r.id g.caller n g.machine.steps g.machine.effect g.stage t)
+waits_unmarked d n r (Begins g) t = says_unmarked d r g (stage_says r.id r.func g.caller g.tx n g.machine.steps g.machine.effect g.stage t)
 
 -- what follows of a turn, whose entry the book has by now: no more is put there, and the answer tells that entry and is not dropped
 record TurnTells (i : ℕ) (id : IntentId) (s : Turned) (c : Core) (y : Core × Seen) : Type 0 where

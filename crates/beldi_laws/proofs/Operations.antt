@@ -1,5 +1,5 @@
 -- The turns of an operation on an item: they rest on the law that a chain is a logged cell, and on what each operation is.
-use Rattle.std.proofs.Common.{◌≡◌, ℕ, true, false, List, [], ◌∷◌, Option, None, Some, refl, ap, sym, ◌∙◌, subst, is_some, if◌then◌else◌, length}
+use Rattle.std.proofs.Common.{◌≡◌, ℕ, IsTrue, true, false, List, [], ◌∷◌, Option, None, Some, refl, ap, sym, ◌∙◌, subst, is_some, if◌then◌else◌, length}
 use Rattle.std.specs.Prelude.{slice_get, option_and_then}
 use Rattle.std.specs.Option.{option_map}
 use Rattle.std.specs.FinMap as map
@@ -10,12 +10,14 @@ use Rattle.beldi_value.specs.declared.place.Caller.{Caller}
 use Rattle.beldi_value.specs.declared.place.Owner.TheVariants as owner
 use Rattle.beldi_value.specs.declared.value.Value.TheVariants as value
 use Rattle.beldi_value.specs.declared.place.Place.{Place}
+use Rattle.beldi_value.specs.declared.place.TxId.{TxId}
 use Rattle.beldi_value.specs.declared.value.Value.{Value}
 use Rattle.beldi_tree.specs.declared.deployment.Deployment.{Deployment}
 use Rattle.beldi_lang.specs.declared.effect.Answer.{Answer}
 use Rattle.beldi_lang.specs.declared.effect.Answer.TheVariants as answer
 use Rattle.beldi_lang.specs.declared.effect.Effect.{Effect}
 use Rattle.beldi_lang.specs.declared.effect.Effect.TheVariants as effect
+use Rattle.beldi_lang.specs.Wants.{wants_answer}
 use Rattle.beldi_book.specs.declared.entry.Entry.{Entry}
 use Rattle.beldi_book.specs.declared.entry.Entry.TheVariants.{Step}
 use Rattle.beldi_row.specs.declared.key.RowKey.{RowKey}
@@ -49,7 +51,6 @@ use Rattle.beldi_laws.specs.Outside.{Answers as OpAnswered, OpAnswers, IsAnswerT
 use Rattle.beldi_order.proofs.Entries.{enabled_step, free_at_operation}
 use Rattle.beldi_order.proofs.Maps.{same_some}
 use Rattle.beldi_order.proofs.Locks.{operation_step}
-use Rattle.beldi_laws.proofs.Singles.{operation_answers, pushed_outside}
 use Rattle.beldi_step.specs.declared.run.Run.{Run}
 use Rattle.beldi_step.specs.declared.run.Begun.{Begun}
 use Rattle.beldi_step.specs.declared.run.Mark.TheVariants as mark
@@ -59,25 +60,44 @@ use Rattle.beldi_step.specs.declared.run.Stage.TheVariants as stage
 use Rattle.beldi_intent.specs.Intent.{root_key}
 use Rattle.beldi_step.specs.Run.{place_of, turned_by, put_asks, put_says, write_says, done_says, note_done, note_of_op, noted_answer, answers_it, if_answers, answer_noted, cell_op}
 use Rattle.beldi_step.specs.Host.{Core, turn_next}
-use Rattle.beldi_known.specs.Contents.{head_key, content_of}
+use Rattle.beldi_known.specs.Contents.{head_key, content_of, shadow_key}
+use Rattle.beldi_known.proofs.Acts.{kinds_apart, is_shadow}
+use Rattle.beldi_known.proofs.Ahead.{ahead_set, none_out}
 use Rattle.beldi_known.specs.Owed.{noted, note_of}
 use Rattle.beldi_laws.specs.Right.{Right, Knows, StageOk, PlaceOk}
 use Rattle.beldi_known.proofs.Rows.{no_root}
-use Rattle.beldi_laws.proofs.Moves.{AfterTurn, AfterQuery, SameRoots, change_entered, Entered}
+use Rattle.beldi_laws.specs.Inside.{Frame, Inside}
+use Rattle.beldi_laws.proofs.Moves.{AfterTurn, AfterQuery, SameRoots, change_entered, Entered, Kept, Stays}
+use Rattle.beldi_laws.proofs.Decisions.{set_agrees}
+use Rattle.beldi_laws.proofs.Frames.{frame_done, frame_held, item_stays, items_stay, query_keeps, settled_grown, settled_outside, settled_rows}
+use Rattle.beldi_laws.proofs.Others.{kept_by}
+use Rattle.beldi_laws.proofs.Keeping.{SameShadows, goes_answered, stays_by}
 use Rattle.beldi_laws.proofs.Turns.{effect_here, answer_here, step_here, effect_next, wants_it, fits, not_over, goes_on, held, ends, replays, steps_on, outside_here, tx_step, tx_next, not_of_tx, plain_there, outside_after, unlocked_there}
 use Rattle.beldi_known.proofs.Operations.{does_so}
 use Rattle.beldi_known.proofs.Owners.{unbarred, nobody_else}
 use Rattle.beldi_known.specs.Operations.{cell_of, DoneRows}
 use Rattle.beldi_known.specs.Known.{Known, moved, commit_in}
-use Rattle.beldi_order.specs.Txs.{tx_now}
-use Rattle.beldi_laws.proofs.Shown.{Shows, Stays, value_here, aside, aside_set, holds_here, legal_sane, went_of}
+use Rattle.beldi_order.specs.Txs.{tx_after, tx_now}
+use Rattle.beldi_laws.proofs.Shown.{Shows, value_here, holds_here, legal_sane, settled}
 use Rattle.beldi_laws.proofs.Owed.{note_if, note_there, no_end, content_kept, contents_kept, others_list, done_lists}
 use Rattle.beldi_laws.proofs.KeptSane.{answered_kept}
 use Rattle.beldi_laws.proofs.Outside.{is_call}
 use Rattle.beldi_known.proofs.Outside.{operation_done, no_tx}
 use Rattle.beldi_known.proofs.Frame.{moved_one}
 use Rattle.beldi_laws.proofs.Grown.{grows_moved}
-use Rattle.beldi_laws.proofs.Besides.{others_lead}
+
+-- an operation is answered so
+op_answers : (o : Operation) (w : Value) → OpAnswered o (answer_after o w)
+op_answers (write v) w = tt
+op_answers (operation.cond r u v) w = tt
+op_answers lock w = tt
+op_answers free w = tt
+
+operation_answers : (e : Effect) (o : OnItem) (w : Value) → op_of e ≡ Some o → IsAnswerTo e (answer_after o.does w)
+operation_answers (effect.Read t k) o w h = cc
+operation_answers (effect.Call f v) o w h = cc
+operation_answers (effect.Async f v) o w h = cc
+operation_answers e o w h = subst (λ z. OpAnswers z (answer_after o.does w)) (sym h) (op_answers o.does w)
 
 -- what is answered to an operation is what its note reads as
 pub noted_back : (o : Operation) (a : Answer) → OpAnswered o a → option_and_then noted_answer (noted o a) ≡ Some a
@@ -145,7 +165,7 @@ told_back e o n a h is same =
     ap (if_answers e) (sym (ap (option_and_then noted_answer) same) ∙ noted_back o.does a (answered_so e o a h is)) ∙ ap (λ b. if b then Some a else None) (of_its_kind e o a h is)
 
 -- ---- the turn
-module _ (d : Deployment) (c : Core) (m : Rows) (i : ℕ) (r : Run) (g : Begun) (h : Right d c m) (live : map.get c.runs i ≡ Some r) (k : Knows d c.book h.known r g)
+module _ (d : Deployment) (c : Core) (m : Rows) (i : ℕ) (r : Run) (g : Begun) (h : Right d c m) (live : map.get c.runs i ≡ Some r) (k : Knows d c.book h.known r g) (finds : Inside d m h.plain h.known r g) (out : tx_after d r.id k.instance k.answers ≡ None)
     (e : Effect) {o : OnItem} (so : op_of e ≡ Some o) (is : g.machine.effect ≡ e) (at : WriteAt) where
   abbrev op : CellOp
   op = cell_of o.does
@@ -169,8 +189,8 @@ module _ (d : Deployment) (c : Core) (m : Rows) (i : ℕ) (r : Run) (g : Begun) 
   -- the item has the note of what the step was answered
   note_is : (later : List Answer) → k.later ≡ later → note_at (content_of m item).notes place ≡ note_if item r.func e (slice_get later 0)
   note_is later left =
-      note_there d m h.known h.locked h.rows r.id k.instance k.made g.machine.steps (outside_here d c.book h.known r g k).0 (tx_step d c.book h.known r g k)
-      (ap commit_in (effect_here d c.book h.known r g k) ∙ no_end g.machine.effect (not_of_tx d c.book h.known r g k)) item
+      note_there d m h.known h.locked h.rows r.id k.instance k.made g.machine.steps (outside_here d c.book h.known r g k out).0 (tx_step d c.book h.known r g k out)
+      (ap commit_in (effect_here d c.book h.known r g k) ∙ no_end g.machine.effect (not_of_tx d c.book h.known r g k out)) item
       ∙ ap (note_if item k.instance.func (effect_before d k.instance g.machine.steps)) (answer_here d c.book h.known r g k later left)
       ∙ ap (λ z. note_if item k.instance.func z (slice_get later 0)) (effect_here d c.book h.known r g k ∙ is)
       ∙ ap (λ f. note_if item f e (slice_get later 0)) k.func
@@ -185,8 +205,12 @@ module _ (d : Deployment) (c : Core) (m : Rows) (i : ℕ) (r : Run) (g : Begun) 
     roots : SameRoots m n
     roots t = ap is_some (same (root_key t) (no_root t r.func (kinds.Data o.table o.key 0) refl))
 
+    same_shadows : SameShadows m n
+    same_shadows t x = same (shadow_key t x) (kinds_apart is_shadow (shadow_key t x) (head_key item) refl refl)
+
     kept : content_of n item ≡ content_of m item → Stays h n
-    kept held = record { aside = aside h; sane = h.sane; rows = content_kept d m n item same h.known h.locked sound held h.rows; values = λ x. others_list m n item same x (contents_kept d m n item same held x) ∙ h.values x }
+    kept held = stays_by h n same_shadows (content_kept d m n item same h.known h.locked sound held h.rows) (λ x. others_list m n item same x (contents_kept d m n item same held x) ∙ h.values x)
+        (frame_held d m h.plain h.plain h.known h.known (items_stay d m h.plain h.plain h.known refl) n item same (query_keeps asks c.now m (head_key item)) held)
 
     -- it was done now: it is the instance's next
     module _ (left : k.later ≡ []) (did : DidOnce place (owner.Intent r.id) op true (content_of m item) (content_of n item)) where
@@ -212,24 +236,27 @@ module _ (d : Deployment) (c : Core) (m : Rows) (i : ℕ) (r : Run) (g : Begun) 
       told w there = (does_so o.does).note old ∙ ap (λ v. Some (note_after op v)) (sym old_here) ∙ sym (note_here (content_of m item).notes place (note_after op (content_of m item).value) did.0)
           ∙ ap (λ x. note_at x.notes place) (sym did.1.1) ∙ there
 
+      abbrev y : Item
+      y = item_in k.instance.func o
+
       abbrev state : PlainState
-      state = operate h.plain r.id k.instance (item_in k.instance.func o) o.does
+      state = operate h.plain r.id k.instance y o.does
 
       abbrev next : Known
       next = map.insert h.known r.id (moved d r.id k.instance a)
 
       there : map.get h.plain.made r.id ≡ Some k.instance
-      there = plain_there d c m i r g h live k e is left
+      there = plain_there d c m i r g h live k finds out e is left
 
       outside : tx_now d r.id k.instance ≡ None
-      outside = tx_next d c.book h.known r g k left
+      outside = tx_next d c.book h.known r g k out left
 
       did_here : DoneRows m n (item_in k.instance.func o) (place_of r.id (length k.instance.answers)) op
       did_here = subst (λ s. DoneRows m n (item_in k.instance.func o) (place_of r.id s) op) (step_here d c.book h.known r g k left)
           (subst (λ f. DoneRows m n (item_in f o) place op) (sym k.func) (record { same = same; sound = sound; none = did.0; free = did.1.0; here = did.1.1 }))
 
       open_still : k.instance.outcome ≡ None
-      open_still = not_over d c m i r g h live k e is left (wants_it e a answers_so)
+      open_still = not_over d c m i r g h live k left (subst (λ z. IsTrue (wants_answer z)) (sym is) (wants_it e a answers_so))
 
       -- nobody else has locked the item
       free_here : IsFree d h.plain (Step r.id)
@@ -239,38 +266,52 @@ module _ (d : Deployment) (c : Core) (m : Rows) (i : ℕ) (r : Run) (g : Begun) 
           nobody_else r.id (content_of m item).owner (unbarred op r.id (content_of m item).owner did.1.0) j
           ((h.rows.items item).owner j ∙ holds_here h item j ∙ ap (λ z. holds d z (map.get h.plain.made j)) (same_some touches) ∙ held)
 
-      leads : Entered d c h.plain (Step r.id) state next
+      leads : Entered d c h.plain h.known (Step r.id) state next
       leads = change_entered d c m h (Step r.id) state next refl
           (enabled_step d h.plain r.id k.instance there open_still (free_at_operation h.plain.made r.id k.instance (effect_of d k.instance) o wants_op) (is_change r.id (effect_of d k.instance) o wants_op)
-          ∙ ap Some (operation_step h.plain r.id k.instance (effect_of d k.instance) o wants_op)) free_here (grows_moved d h.known r.id k.instance a k.made)
+          ∙ ap Some (operation_step h.plain r.id k.instance (effect_of d k.instance) o wants_op)) free_here
+
+      -- no transaction owns its item
+      unowned : (t : TxId) → (content_of m y).owner ≡ Some (owner.Tx t) → ⊥
+      unowned = no_tx r.id (content_of m y).owner (unbarred op r.id (content_of m y).owner did_here.free)
+
+      unlocked : h.locked r.id ≡ false
+      unlocked = unlocked_there d c m i r g h live k finds out e is left
+
+      frame : Frame d m n h.plain state h.known next
+      frame = frame_done d m h.plain state h.known next (item_stays d m h.plain state next y (sets o.does old) refl unowned) n y (place_of r.id (length k.instance.answers)) op did_here
 
       rows_done : Shows d n state next h.locked
       rows_done = record {
-        aside = aside_set d h.plain h.known h.locked (aside h) state.items r.id (answered k.instance a) (outside_after d c.book h.known r g k left a) (pushed_outside d k.instance a (subst (λ z. IsAnswerTo z a) (sym now) answers_so) (went_of h r.id k.instance there)) (unlocked_there d c m i r g h live k e is left)
-            (others_lead d m h.plain h.known h.locked h.beside h.sane h.rows (legal_sane h) (item_in k.instance.func o) (sets o.does old) (no_tx r.id (content_of m (item_in k.instance.func o)).owner (unbarred op r.id (content_of m (item_in k.instance.func o)).owner did_here.free)));
+        goes = goes_answered h n same_shadows r.id k.instance a k.made unlocked (outside_after d c.book h.known r g k out left a) state.items
+            (λ j z other. set_agrees d m h.plain h.known h.locked h.shadows h.beside h.sane h.rows (legal_sane h) y (sets o.does old) unowned j z);
+        locked_at_ends = ahead_set d h.known h.locked h.locked_at_ends h.locked r.id (moved d r.id k.instance a) (none_out h.locked r.id unlocked);
         sane = answered_kept d h.known h.sane r.id k.instance a k.made open_still outside (is_no_call (effect_of d k.instance) o wants_op) (subst (λ z. IsAnswerTo z a) (sym now) answers_so);
-        rows = operation_done d h.known h.locked r.id k.instance (moved d r.id k.instance a) old o op (does_so o.does) k.made (unlocked_there d c m i r g h live k e is left) outside wants_op (moved_one d r.id k.instance a) m n did_here
-            (value_here h (item_in k.instance.func o) (no_tx r.id (content_of m (item_in k.instance.func o)).owner (unbarred op r.id (content_of m (item_in k.instance.func o)).owner did_here.free))) h.rows;
-        values = done_lists m n h.plain (item_in k.instance.func o) o.does (place_of r.id (length k.instance.answers)) did_here h.values;
+        rows = operation_done d h.known h.locked r.id k.instance (moved d r.id k.instance a) old o op (does_so o.does) k.made unlocked outside wants_op (moved_one d r.id k.instance a) m n did_here (value_here h y unowned) h.rows;
+        values = done_lists m n h.plain y o.does (place_of r.id (length k.instance.answers)) did_here h.values;
+        settled = settled_rows d m n h.plain state h.known next frame (settled_grown d m h.plain state next leads.grows (settled_outside d m h.plain h.known r.id k.instance k.made a outside (settled h)));
       }
 
+      kept_done : Kept h n state next h.locked
+      kept_done = kept_by d c m n h state next h.locked rows_done (grows_moved d h.known r.id k.instance a k.made) frame
+
       steps : After (Answers a (Some mark.Step))
-      steps = steps_on d c m i r g h live k e is a mark.Step state n left answers_so leads roots rows_done
+      steps = steps_on d c m i r g h live k finds out e is a mark.Step state n left answers_so leads roots kept_done
 
     done_now : (later : List Answer) → k.later ≡ later → (w : Note) → note_at (content_of n item).notes place ≡ Some w → DidOnce place (owner.Intent r.id) op true (content_of m item) (content_of n item) → After (write_says e (writes.Done w true))
     done_now [] left w there did = subst (λ x. After (done_says true x)) (sym (told_back e o w (a left did) so (answers_so left did) (told left did w there))) (steps left did)
-    done_now (b ∷ rest) left w there did = let clash = sym (noted_back o.does b (answered_so e o b so (fits d c m i r g h live k e is b rest left))) ∙ ap (option_and_then noted_answer) (sym (note_read b rest left) ∙ did.0) in cc
+    done_now (b ∷ rest) left w there did = let clash = sym (noted_back o.does b (answered_so e o b so (fits d c m i r g h live k finds out e is b rest left))) ∙ ap (option_and_then noted_answer) (sym (note_read b rest left) ∙ did.0) in cc
 
     done_before : (later : List Answer) → k.later ≡ later → (w : Note) → note_at (content_of m item).notes place ≡ Some w → content_of n item ≡ content_of m item → After (write_says e (writes.Done w false))
     done_before [] left w there held = let clash = sym there ∙ note_is [] left in cc
-    done_before (b ∷ rest) left w there held = subst (λ x. After (done_says false x)) (sym (told_back e o w b so (fits d c m i r g h live k e is b rest left) (sym (note_read b rest left) ∙ there))) (replays d c m i r g h live k e is n b rest roots (kept held) left)
+    done_before (b ∷ rest) left w there held = subst (λ x. After (done_says false x)) (sym (told_back e o w b so (fits d c m i r g h live k finds out e is b rest left) (sym (note_read b rest left) ∙ there))) (replays d c m i r g h live k finds out e is n b rest roots (kept held) left)
 
     by_says : (z : WriteGoes) → Logs place (owner.Intent r.id) op (walk_so z) (content_of m item) (content_of n item) → After (write_says e z)
-    by_says (writes.On to) held = goes_on d c m i r g h live k e is n (stage.Write to) roots (kept held) (may_stand r.id g.caller e o to so) (no_place d c.book r.id r.func k.answers k.later e to) tt
+    by_says (writes.On to) held = goes_on d c m i r g h live k finds out e is n (stage.Write to) roots (kept held) (may_stand r.id g.caller e o to so) (no_place d c.book r.id r.func k.answers k.later e to) tt
     by_says (writes.Done w true) l = done_now k.later refl w l.0 l.1
     by_says (writes.Done w false) l = done_before k.later refl w (ap (λ x. note_at x.notes place) (sym l.1) ∙ l.0) l.1
-    by_says writes.NotOwner l = ends d c m i r g h live k e is n roots (kept l.2)
-    by_says (writes.Held w) l = held d c m i r g h live k e is w n roots (kept l.2)
+    by_says writes.NotOwner l = ends d c m i r g h live k n roots (kept l.2)
+    by_says (writes.Held w) l = held d c m i r g h live k w n roots (kept l.2)
 
   pub operation_turn : AfterQuery d h.plain c.now m (λ u. turn_next c i r (turned_by d r g (put_says e (note_done e) u))) (put_asks r.id r.func g.machine.steps at (cell_op e))
   operation_turn =

@@ -38,8 +38,9 @@ use Rattle.beldi_known.proofs.FrameAt.{or_none}
 use Rattle.beldi_known.proofs.Frame.{begins}
 use Rattle.beldi_known.proofs.Answers.{take_front}
 use Rattle.beldi_laws.proofs.Outside.{is_of_tx}
+use Rattle.beldi_step.specs.Tables.{decision_key}
 use Rattle.beldi_known.specs.Listed.{listed}
-use Rattle.beldi_known.proofs.Lists.{lists_same, own_value, decision_key, is_log}
+use Rattle.beldi_known.proofs.Lists.{lists_same, own_value, is_log}
 use Rattle.beldi_known.proofs.Outside.{no_tx, free_after}
 use Rattle.beldi_known.proofs.Owners.{unbarred, IsFreeFor}
 

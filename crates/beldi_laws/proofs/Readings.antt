@@ -11,6 +11,7 @@ use Rattle.beldi_tree.specs.Bindings.{or_null}
 use Rattle.beldi_lang.specs.declared.effect.Answer.{Answer}
 use Rattle.beldi_lang.specs.declared.effect.Answer.TheVariants as answer
 use Rattle.beldi_lang.specs.declared.effect.Effect.TheVariants.{Read}
+use Rattle.beldi_lang.specs.Wants.{wants_answer}
 use Rattle.beldi_book.specs.declared.entry.Entry.TheVariants as entry
 use Rattle.beldi_book.specs.Order.{count_changes, front, back, linear}
 use Rattle.beldi_book.proofs.Orders.{linear_changes, front_back}
@@ -21,7 +22,7 @@ use Rattle.beldi_row.specs.declared.row.Row.TheVariants as rows
 use Rattle.beldi_row.specs.declared.act.Act.TheVariants.{Look, PutRead}
 use Rattle.beldi_row.specs.Act.{Tell, act}
 use Rattle.beldi_row.specs.Table.{Rows, set_row}
-use Rattle.beldi_row.proofs.Unchanged.{looked}
+use Rattle.beldi_row.proofs.Unchanged.{looked, unchanged}
 use Rattle.beldi_walk.specs.Query.{said}
 use Rattle.beldi_daal.specs.declared.cell.ReadGoes.TheVariants as reads
 use Rattle.beldi_daal.specs.declared.cell.ReadGoes.{ReadGoes}
@@ -31,7 +32,7 @@ use Rattle.beldi_daal.specs.Cell.{in_the_way, read_goes}
 use Rattle.beldi_daal.specs.Logged.{ReadsContent}
 use Rattle.beldi_daal.specs.ReadWalk.{read_so}
 use Rattle.beldi_daal.proofs.Logged.{by_row}
-use Rattle.beldi_readlog.specs.ReadLog.{log_key, given_in}
+use Rattle.beldi_readlog.specs.ReadLog.{log_key, given_in, given_of, kept_of}
 use Rattle.beldi_plain.specs.Item.{Item}
 use Rattle.beldi_plain.specs.Plain.{PlainState, nothing, effect_of, value_at, answered}
 use Rattle.beldi_plain.specs.Legal.{run_from}
@@ -44,30 +45,37 @@ use Rattle.beldi_order.proofs.Growth.{kept_late}
 use Rattle.beldi_step.specs.declared.run.Run.{Run}
 use Rattle.beldi_step.specs.declared.run.Begun.{Begun}
 use Rattle.beldi_step.specs.declared.run.Mark.TheVariants as mark
-use Rattle.beldi_step.specs.declared.run.Says.TheVariants.{Answers}
+use Rattle.beldi_step.specs.declared.run.Says.{Says}
+use Rattle.beldi_step.specs.declared.run.Says.TheVariants.{On, Answers}
 use Rattle.beldi_step.specs.declared.run.Stage.{Stage}
 use Rattle.beldi_step.specs.declared.run.Stage.TheVariants as stage
 use Rattle.beldi_intent.specs.Intent.{root_key}
-use Rattle.beldi_step.specs.Run.{place_of, turned_by, stage_says, walk_says}
+use Rattle.beldi_step.specs.Run.{place_of, turned_by, ask_says, keep_says, stage_says, walk_says}
 use Rattle.beldi_step.specs.Host.{Core, turn_next}
 use Rattle.beldi_known.specs.Contents.{head_key, content_of}
 use Rattle.beldi_known.specs.Rows.{LogMatches}
 use Rattle.beldi_known.proofs.Rows.{no_root, set_others}
-use Rattle.beldi_laws.proofs.Lives.{runs_late}
-use Rattle.beldi_laws.proofs.Moves.{AfterAct, AfterTurn, Entered, still}
+use Rattle.beldi_laws.proofs.Lives.{places_late}
+use Rattle.beldi_laws.specs.Inside.{Frame, Inside}
+use Rattle.beldi_laws.proofs.Moves.{AfterAct, AfterTurn, Entered, Kept}
+use Rattle.beldi_laws.proofs.Frames.{frame_row, items_stay, settled_grown, settled_outside, settled_rows}
+use Rattle.beldi_laws.proofs.Others.{kept_by}
+use Rattle.beldi_laws.proofs.Grown.{grows_moved}
+use Rattle.beldi_laws.proofs.Keeping.{as_it_was, goes_answered, set_shadows}
 use Rattle.beldi_laws.proofs.Turns.{effect_here, answer_here, all_here, step_here, effect_next, fits, not_over, goes_on, held, replays, steps_on, tx_next, plain_there, outside_after, unlocked_there}
 use Rattle.beldi_known.proofs.Owners.{unowned, nobody_else}
 use Rattle.beldi_plain.specs.Guard.{touched_by, item_touched}
 use Rattle.beldi_plain.specs.Holds.{holds}
 use Rattle.beldi_laws.specs.Right.{Right, Knows, Keeps, WasThere}
 use Rattle.beldi_known.specs.Known.{Known, moved, commit_in, owed_read}
-use Rattle.beldi_order.specs.Txs.{tx_now, txs_after}
+use Rattle.beldi_order.specs.Txs.{tx_after, tx_now, txs_after}
 use Rattle.beldi_known.specs.Matches.{Matches}
 use Rattle.beldi_known.specs.Frame.{row_added}
-use Rattle.beldi_laws.proofs.Shown.{Shows, shown, value_here, aside, aside_still, holds_here, legal_sane, went_of}
+use Rattle.beldi_laws.proofs.Shown.{Shows, value_here, holds_here, legal_sane, settled}
 use Rattle.beldi_laws.proofs.Owed.{value_if, read_there}
 use Rattle.beldi_laws.proofs.KeptSane.{answered_kept}
 use Rattle.beldi_laws.proofs.Outside.{is_call, called_outside}
+use Rattle.beldi_known.proofs.Ahead.{ahead_set, none_out}
 use Rattle.beldi_known.proofs.Outside.{read_added, no_tx}
 use Rattle.beldi_known.proofs.Frame.{moved_one}
 use Rattle.beldi_laws.specs.Outside.{IsAnswerTo}
@@ -75,7 +83,6 @@ use Rattle.beldi_plain.specs.Operation.{op_of}
 use Rattle.beldi_known.proofs.ReadLists.{read_lists}
 use Rattle.beldi_known.specs.Listed.{listed}
 use Rattle.beldi_value.specs.declared.place.TxId.{TxId}
-use Rattle.beldi_laws.proofs.Singles.{pushed_outside}
 
 -- what a log gives is what it owes
 pub given_owed : (w : Option Row) (o : Option Value) → LogMatches w o → option_map given_in w ≡ o
@@ -83,7 +90,7 @@ given_owed None o h = sym h
 given_owed (Some (rows.ReadLog v)) o h = sym h
 given_owed (Some w) o h = absurd h
 
-module _ (d : Deployment) (c : Core) (m : Rows) (i : ℕ) (r : Run) (g : Begun) (h : Right d c m) (live : map.get c.runs i ≡ Some r) (k : Knows d c.book h.known r g)
+module _ (d : Deployment) (c : Core) (m : Rows) (i : ℕ) (r : Run) (g : Begun) (h : Right d c m) (live : map.get c.runs i ≡ Some r) (k : Knows d c.book h.known r g) (finds : Inside d m h.plain h.known r g) (out : tx_after d r.id k.instance k.answers ≡ None)
     (t : ℕ) (key : List ℕ) (is : g.machine.effect ≡ Read t key) where
   abbrev item : Item
   item = record { func = r.func; table = t; key = key }
@@ -92,7 +99,7 @@ module _ (d : Deployment) (c : Core) (m : Rows) (i : ℕ) (r : Run) (g : Begun) 
   place = place_of r.id g.machine.steps
 
   abbrev AfterRead : Stage → RowKey → Option Row × Tell → Type 0
-  AfterRead s at z = AfterAct d h.plain m at (λ u. turn_next c i r (turned_by d r g (stage_says r.id g.caller (count_changes c.book) g.machine.steps (Read t key) s u))) z
+  AfterRead s at z = AfterAct d h.plain m at (λ u. turn_next c i r (turned_by d r g (stage_says r.id r.func g.caller g.tx (count_changes c.book) g.machine.steps (Read t key) s u))) z
 
   -- the log has the value that the step was answered
   given_here : (later : List Answer) → k.later ≡ later → (w : Option Row) → map.get m (log_key r.func place) ≡ w → option_map given_in w ≡ value_if (Read t key) (slice_get later 0)
@@ -101,19 +108,37 @@ module _ (d : Deployment) (c : Core) (m : Rows) (i : ℕ) (r : Run) (g : Begun) 
       (read_there d m h.known h.locked h.rows r.id k.instance k.made g.machine.steps t key (effect_here d c.book h.known r g k ∙ is)))
       ∙ ap (value_if (Read t key)) (answer_here d c.book h.known r g k later left)
 
+  -- what the turn leaves where it says this
+  Left : Says → Rows → Type 0
+  Left s n = AfterTurn d h.plain c i r (turned_by d r g s) n
+
+  -- .. and where a row is put that is there
+  left_still : (s : Says) (l : RowKey) (v : Option Row) → map.get m l ≡ v → Left s m → Left s (set_row m l v)
+  left_still s l v at a = subst (Left s) (sym (unchanged m l v (sym at))) a
+
   -- a value that is there is the answer
-  replays_it : (u v : Value) (rest : List Answer) → k.later ≡ answer.Value u ∷ rest → Some v ≡ Some u → AfterTurn d h.plain c i r (turned_by d r g (Answers (answer.Value v) None)) m
-  replays_it u v rest left same = replays d c m i r g h live k (Read t key) is m (answer.Value v) rest (λ u. refl) (shown h) (left ∙ ap (λ w. answer.Value w ∷ rest) (sym (same_some same)))
+  replays_it : (u v : Value) (rest : List Answer) → k.later ≡ answer.Value u ∷ rest → Some v ≡ Some u → Left (Answers (answer.Value v) None) m
+  unfolding Left
+  replays_it u v rest left same = replays d c m i r g h live k finds out (Read t key) is m (answer.Value v) rest (λ u. refl) (as_it_was h) (left ∙ ap (λ w. answer.Value w ∷ rest) (sym (same_some same)))
 
   -- ---- it asks for what was given
-  ask_by : (later : List Answer) → k.later ≡ later → (w : Option Row) → map.get m (log_key r.func place) ≡ w → AfterRead stage.Ask (log_key r.func place) (act Look c.now w)
-  ask_by [] left None at = still d h.plain m (log_key r.func place) None (sym at) (goes_on d c m i r g h live k (Read t key) is m stage.Walk (λ u. refl) (shown h) tt tt tt)
+  walks : Left (On stage.Walk None) m
+  unfolding Left
+  walks = goes_on d c m i r g h live k finds out (Read t key) is m stage.Walk (λ u. refl) (as_it_was h) tt tt tt
+
+  abbrev asked : Option Row → Type 0
+  asked w = let z = act Look c.now w in Left (ask_says (given_of (said z.1))) (set_row m (log_key r.func place) z.0)
+
+  ask_by : (later : List Answer) → k.later ≡ later → (w : Option Row) → map.get m (log_key r.func place) ≡ w → asked w
+  ask_by [] left None at = left_still (On stage.Walk None) (log_key r.func place) None at walks
   ask_by [] left (Some w) at = let clash = given_here [] left (Some w) at in cc
   ask_by (answer.Value u ∷ rest) left None at = let clash = given_here (answer.Value u ∷ rest) left None at in cc
-  ask_by (answer.Value u ∷ rest) left (Some w) at = still d h.plain m (log_key r.func place) (Some w) (sym at) (replays_it u (given_in w) rest left (given_here (answer.Value u ∷ rest) left (Some w) at))
-  ask_by (a ∷ rest) left w at = absurd (fits d c m i r g h live k (Read t key) is a rest left)
+  ask_by (answer.Value u ∷ rest) left (Some w) at =
+      left_still (Answers (answer.Value (given_in w)) None) (log_key r.func place) (Some w) at (replays_it u (given_in w) rest left (given_here (answer.Value u ∷ rest) left (Some w) at))
+  ask_by (a ∷ rest) left w at = absurd (fits d c m i r g h live k finds out (Read t key) is a rest left)
 
   pub ask_turn : AfterRead stage.Ask (log_key r.func place) (act Look c.now (map.get m (log_key r.func place)))
+  unfolding Left
   ask_turn = ask_by k.later refl (map.get m (log_key r.func place)) refl
 
   -- ---- it reads the item
@@ -124,13 +149,13 @@ module _ (d : Deployment) (c : Core) (m : Rows) (i : ℕ) (r : Run) (g : Begun) 
       few = let n = ap length (linear_changes c.book) in omega (arith, n)
 
   found : (o : Option Value) → value_at h.plain item ≡ or_null o → in_the_way (Some (owner.Intent r.id)) (content_of m item).owner ≡ None → AfterTurn d h.plain c i r (turned_by d r g (walk_says (count_changes c.book) (reads.Got o))) m
-  found o same free = goes_on d c m i r g h live k (Read t key) is m (stage.Keep (or_null o) (count_changes c.book)) (λ u. refl) (shown h) tt (record {
+  found o same free = goes_on d c m i r g h live k finds out (Read t key) is m (stage.Keep (or_null o) (count_changes c.book)) (λ u. refl) (as_it_was h) tt (record {
     few = omega arith;
     was_there = λ none. record {
       state = h.plain;
       is_state = state_now;
       instance = k.instance;
-      made = plain_there d c m i r g h live k (Read t key) is none;
+      made = plain_there d c m i r g h live k finds out (Read t key) is none;
       same = sym (all_here d c.book h.known r g k none);
       value = same;
       unlocked = λ j held. nobody_else r.id (content_of m item).owner (unowned r.id (content_of m item).owner free) j ((h.rows.items item).owner j ∙ holds_here h item j ∙ held);
@@ -147,7 +172,7 @@ module _ (d : Deployment) (c : Core) (m : Rows) (i : ℕ) (r : Run) (g : Begun) 
   walked reads.On never = absurd never
   walked (reads.Got None) empty = found None (sym (value_here h item (none_owns (ap (λ x. in_the_way (Some (owner.Intent r.id)) x.owner) empty))) ∙ ap (λ x. x.value) empty) (ap (λ x. in_the_way (Some (owner.Intent r.id)) x.owner) empty)
   walked (reads.Got (Some v)) there = found (Some v) (sym (value_here h item (none_owns there.0)) ∙ sym there.1) there.0
-  walked (reads.Held o) way = held d c m i r g h live k (Read t key) is o m (λ u. refl) (shown h)
+  walked (reads.Held o) way = held d c m i r g h live k o m (λ u. refl) (as_it_was h)
 
   pub walk_turn : AfterRead stage.Walk (head_key item) (act Look c.now (map.get m (head_key item)))
   walk_turn =
@@ -165,10 +190,10 @@ module _ (d : Deployment) (c : Core) (m : Rows) (i : ℕ) (r : Run) (g : Begun) 
       now = effect_next d c.book h.known r g k left ∙ is
 
       open_still : k.instance.outcome ≡ None
-      open_still = not_over d c m i r g h live k (Read t key) is left refl
+      open_still = not_over d c m i r g h live k left (ap (λ e. wants_answer e) is)
 
       made : map.get h.plain.made r.id ≡ Some k.instance
-      made = plain_there d c m i r g h live k (Read t key) is left
+      made = plain_there d c m i r g h live k finds out (Read t key) is left
 
       behind : run_from d there.state (back seen (linear c.book)) ≡ Some h.plain
       behind = sym (runs_on d nothing there.state (front seen (linear c.book)) (back seen (linear c.book)) there.is_state) ∙ ap (run_from d nothing) (front_back seen (linear c.book)) ∙ h.legal
@@ -204,39 +229,58 @@ module _ (d : Deployment) (c : Core) (m : Rows) (i : ℕ) (r : Run) (g : Begun) 
       late : IsKeptLate d c.book h.plain r.id seen k.instance v
       late = kept_late d c.book h.plain r.id seen k.instance v belongs
 
-      read_entered : Entered d c h.plain (entry.Read r.id seen) state next
-      read_entered = record { grows = grows_at h.plain.made r.id k.instance (answered k.instance (answer.Value v)) made (grown_answer k.instance (answer.Value v)); bounded = late.bounded; legal = late.legal; guarded = late.guarded; runs = runs_late d c.book h.plain r.id seen k.instance v h.known c.runs c.last_run k.made late h.runs }
+      read_entered : Entered d c h.plain h.known (entry.Read r.id seen) state next
+      read_entered = record { grows = grows_at h.plain.made r.id k.instance (answered k.instance (answer.Value v)) made (grown_answer k.instance (answer.Value v)); bounded = late.bounded; legal = late.legal; guarded = late.guarded; places = places_late d c.book h.plain r.id seen k.instance v h.known k.made late }
 
       outside : tx_now d r.id k.instance ≡ None
-      outside = tx_next d c.book h.known r g k left
+      outside = tx_next d c.book h.known r g k out left
 
-      kept_rows : Shows d (set_row m (log_key r.func place) (Some (rows.ReadLog v))) state next h.locked
-      kept_rows = record {
-        aside = aside_still d h.plain h.known h.locked (aside h) r.id (answered k.instance (answer.Value v)) (outside_after d c.book h.known r g k left (answer.Value v)) (pushed_outside d k.instance (answer.Value v) (subst (λ e. IsAnswerTo e (answer.Value v)) (sym now) tt) (went_of h r.id k.instance made)) unlocked;
+      abbrev n : Rows
+      n = set_row m (log_key r.func place) (Some (rows.ReadLog v))
+
+      unlocked : h.locked r.id ≡ false
+      unlocked = unlocked_there d c m i r g h live k finds out (Read t key) is left
+
+      own_key : log_key k.instance.func (place_of r.id (length k.instance.answers)) ≡ log_key r.func place
+      own_key = λ i. log_key (k.func i) (place_of r.id (sym (step_here d c.book h.known r g k left) i))
+
+      frame : Frame d m n h.plain state h.known next
+      frame = frame_row d m h.plain state h.known next (items_stay d m h.plain state next refl) (log_key r.func place) (Some (rows.ReadLog v)) refl refl
+
+      read_rows : Shows d n state next h.locked
+      read_rows = record {
+        goes = goes_answered h n (set_shadows m (log_key r.func place) (Some (rows.ReadLog v)) refl) r.id k.instance (answer.Value v) k.made unlocked (outside_after d c.book h.known r g k out left (answer.Value v)) h.plain.items (λ j z other x owned. refl);
+        locked_at_ends = ahead_set d h.known h.locked h.locked_at_ends h.locked r.id (moved d r.id k.instance (answer.Value v)) (none_out h.locked r.id unlocked);
         sane = answered_kept d h.known h.sane r.id k.instance (answer.Value v) k.made open_still outside (ap is_call now) (subst (λ e. IsAnswerTo e (answer.Value v)) (sym now) tt);
         rows = subst (λ z. Matches d (set_row m z (Some (rows.ReadLog v))) next h.locked) own_key
             (read_added d h.known h.locked r.id k.instance (moved d r.id k.instance (answer.Value v)) (answer.Value v) k.made unlocked outside (ap commit_in now) (moved_one d r.id k.instance (answer.Value v))
             m v (ap op_of now) (ap (λ e. row_added (length k.instance.answers) (txs_after d k.instance k.instance.answers).begun e (answer.Value v)) now) h.rows);
         values = λ x. subst (λ z. listed (set_row m z (Some (rows.ReadLog v))) x ≡ value_at h.plain x) own_key
             (read_lists d m h.known h.locked h.rows.txs (λ j z at. called_outside d h.plain h.known h.beside j z at (legal_sane h)) r.id k.instance k.made (Some (rows.ReadLog v)) x ∙ h.values x);
+        settled = settled_rows d m n h.plain state h.known next frame (settled_grown d m h.plain state next read_entered.grows (settled_outside d m h.plain h.known r.id k.instance k.made (answer.Value v) outside (settled h)));
       }
-        where
-          unlocked : h.locked r.id ≡ false
-          unlocked = unlocked_there d c m i r g h live k (Read t key) is left
 
-          own_key : log_key k.instance.func (place_of r.id (length k.instance.answers)) ≡ log_key r.func place
-          own_key = λ i. log_key (k.func i) (place_of r.id (sym (step_here d c.book h.known r g k left) i))
+      kept_rows : Kept h n state next h.locked
+      kept_rows = kept_by d c m n h state next h.locked read_rows (grows_moved d h.known r.id k.instance (answer.Value v) k.made) frame
 
-    keep_by : (later : List Answer) → k.later ≡ later → (w : Option Row) → map.get m (log_key r.func place) ≡ w → LogMatches w (owed_read d h.known r.func place) → AfterRead (stage.Keep v seen) (log_key r.func place) (act (PutRead v) c.now w)
-    keep_by [] left None is_there f = steps_on d c m i r g h live k (Read t key) is (answer.Value v) (mark.Read seen) (state left) (set_row m (log_key r.func place) (Some (rows.ReadLog v))) left tt (read_entered left)
+    keeps : k.later ≡ [] → Left (Answers (answer.Value v) (Some (mark.Read seen))) (set_row m (log_key r.func place) (Some (rows.ReadLog v)))
+    unfolding Left
+    keeps left = steps_on d c m i r g h live k finds out (Read t key) is (answer.Value v) (mark.Read seen) (state left) (set_row m (log_key r.func place) (Some (rows.ReadLog v))) left tt (read_entered left)
         (λ u. ap is_some (set_others m (log_key r.func place) (Some (rows.ReadLog v)) (root_key u) (no_root u r.func (kinds.ReadLog place) refl))) (kept_rows left)
+
+    abbrev kept_as : Option Row → Type 0
+    kept_as w = let z = act (PutRead v) c.now w in Left (keep_says seen (kept_of v (said z.1))) (set_row m (log_key r.func place) z.0)
+
+    keep_by : (later : List Answer) → k.later ≡ later → (w : Option Row) → map.get m (log_key r.func place) ≡ w → LogMatches w (owed_read d h.known r.func place) → kept_as w
+    keep_by [] left None is_there f = keeps left
     keep_by [] left (Some (rows.ReadLog u)) is_there f = let clash = given_here [] left (Some (rows.ReadLog u)) is_there in cc
     keep_by (answer.Value u ∷ rest) left None is_there f = let clash = given_here (answer.Value u ∷ rest) left None is_there in cc
     keep_by (answer.Value u ∷ rest) left (Some (rows.ReadLog w)) is_there f =
-        still d h.plain m (log_key r.func place) (Some (rows.ReadLog w)) (sym is_there) (replays_it u w rest left (given_here (answer.Value u ∷ rest) left (Some (rows.ReadLog w)) is_there))
+        left_still (Answers (answer.Value w) None) (log_key r.func place) (Some (rows.ReadLog w)) is_there (replays_it u w rest left (given_here (answer.Value u ∷ rest) left (Some (rows.ReadLog w)) is_there))
     keep_by (answer.Value u ∷ rest) left (Some w) is_there f = absurd f
     keep_by [] left (Some w) is_there f = absurd f
-    keep_by (a ∷ rest) left w is_there f = absurd (fits d c m i r g h live k (Read t key) is a rest left)
+    keep_by (a ∷ rest) left w is_there f = absurd (fits d c m i r g h live k finds out (Read t key) is a rest left)
 
     pub keep_turn : AfterRead (stage.Keep v seen) (log_key r.func place) (act (PutRead v) c.now (map.get m (log_key r.func place)))
+    unfolding Left
     keep_turn = keep_by k.later refl (map.get m (log_key r.func place)) refl (h.rows.keys (log_key r.func place))

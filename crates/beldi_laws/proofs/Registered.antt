@@ -1,5 +1,5 @@
--- Rows that match what is known, after the row of a callee was put, or of a call marked as registered.
-use Rattle.std.proofs.Common.{◌≡◌, ℕ, Bool, true, false, Option, None, Some, refl, ap, sym, ◌∙◌, subst}
+-- A row of an intent or of a call was set: rows match what is known, after the row of a callee was put or a call was marked as registered, and a turn that does no more keeps all.
+use Rattle.std.proofs.Common.{◌≡◌, ℕ, Bool, true, false, Option, None, Some, refl, ap, sym, ◌∙◌, subst, is_some}
 use Rattle.std.specs.FinMap as map
 use Rattle.beldi_intent.specs.Intent.{issued_at}
 use Rattle.beldi_invokelog.specs.InvokeLog.{invoke_key}
@@ -21,8 +21,44 @@ use Rattle.beldi_value.specs.declared.place.Place.{Place}
 use Rattle.beldi_known.specs.Rows.{HasNoRow, IsBodyOf, CalleeMatches, IntentMatches, CallMatches, OutcomeMatches}
 use Rattle.beldi_known.specs.Known.{Known, owed_call}
 use Rattle.beldi_known.specs.Matches.{Matches}
-use Rattle.beldi_known.proofs.Sets.{row_put}
+use Rattle.beldi_known.proofs.Acts.{is_shadow}
 use Rattle.beldi_known.proofs.Intents.{callee_put}
+use Rattle.beldi_known.proofs.Sets.{is_log as is_row_log, row_put}
+use Rattle.beldi_laws.proofs.Frames.{is_entry, frame_still, frame_row, items_stay}
+use Rattle.beldi_laws.proofs.Keeping.{SameShadows, set_shadows, stays_by}
+use Rattle.beldi_laws.specs.Inside.{Frame}
+use Rattle.beldi_plain.specs.Plain.{PlainState}
+use Rattle.beldi_laws.proofs.Moves.{Stays}
+use Rattle.beldi_laws.proofs.Shown.{log_values}
+use Rattle.beldi_laws.specs.Right.{Right}
+use Rattle.beldi_row.specs.declared.key.Kind.{Kind}
+use Rattle.beldi_step.specs.Host.{Core}
+
+-- ---- a row of an intent or of a call was set, and nothing else
+log_kind : (k : Kind) → is_row_log k ≡ true → (is_shadow k ≡ false) × (is_entry k ≡ true)
+log_kind (kinds.Intent id) kind = (refl, refl)
+log_kind (kinds.Invoke a) kind = (refl, refl)
+log_kind k kind = cc
+
+module _ (d : Deployment) (m : Rows) (k : RowKey) (v : Option Row) (kind : is_row_log k.kind ≡ true) (there : is_some (map.get m k) ≡ true → is_some v ≡ true) where
+  pub log_shadows : SameShadows m (set_row m k v)
+  log_shadows = set_shadows m k v (log_kind k.kind kind).0
+
+  -- the items are as before
+  pub log_frame : (p q : PlainState) (known next : Known) → q.items ≡ p.items → Frame d m (set_row m k v) p q known next
+  log_frame p q known next items = by_row v there
+    where
+      absent : (o : Option Row) → (is_some o ≡ true → false ≡ true) → None ≡ o
+      absent None e = refl
+      absent (Some w) e = let clash = e refl in cc
+
+      by_row : (v : Option Row) → (is_some (map.get m k) ≡ true → is_some v ≡ true) → Frame d m (set_row m k v) p q known next
+      by_row None e = subst (λ n. Frame d m n p q known next) (sym (unchanged m k None (absent (map.get m k) e))) (frame_still d m p q known next (items_stay d m p q next items))
+      by_row (Some w) e = frame_row d m p q known next (items_stay d m p q next items) k (Some w) (log_kind k.kind kind).1 refl
+
+  -- nothing else moves
+  pub log_stays : (c : Core) (h : Right d c m) → Matches d (set_row m k v) h.known h.locked → Stays h (set_row m k v)
+  log_stays c h rows = stays_by h (set_row m k v) log_shadows rows (log_values h k v kind) (log_frame h.plain h.plain h.known h.known refl)
 
 -- ---- a callee was registered: its row, which was not there, has its body
 pub callee_registered : (d : Deployment) (m : Rows) (known : Known) (locked : IntentId → Bool) (id : IntentId) (b : Body) (now : ℕ) → has_no_hops id.hops ≡ false → IsBodyOf b (map.get known id) → Matches d m known locked

@@ -1,5 +1,5 @@
 -- Where the host and its rows are right, the rows stand for the run of the book.
-use Rattle.std.proofs.Common.{◌≡◌, ℕ, true, false, ◌||◌, List, Option, None, Some, refl, ap, sym, ◌∙◌, subst, is_some, eq-eqb, if◌then◌else◌, Bool, [], ◌∷◌, ◌++◌}
+use Rattle.std.proofs.Common.{◌≡◌, ℕ, true, false, ◌||◌, ◌&&◌, ◌==◌, List, length, Option, None, Some, refl, ap, sym, ◌∙◌, subst, is_some, eq-eqb, if◌then◌else◌, Bool, [], ◌∷◌, ◌++◌}
 use Rattle.std.specs.Prelude.{slice_get, option_and_then, zero, suc, take}
 use Rattle.std.specs.FinMap as map
 use Rattle.std.specs.Ordering.{is_eq}
@@ -8,49 +8,60 @@ use Rattle.std.proofs.lemmas.Option.{slice_get_within}
 use Rattle.beldi_value.specs.Id.{has_no_hops, child_of, root_of}
 use Rattle.beldi_value.specs.declared.id.IntentId.{IntentId}
 use Rattle.beldi_value.specs.declared.outcome.Outcome.{Outcome}
+use Rattle.beldi_value.specs.declared.outcome.Cause.{Cause}
 use Rattle.beldi_value.specs.declared.place.Place.{Place}
+use Rattle.beldi_value.specs.declared.place.TxId.{TxId}
 use Rattle.beldi_value.specs.declared.value.Value.{Value}
+use Rattle.beldi_value.specs.declared.value.Value.TheVariants as value
 use Rattle.beldi_tree.specs.declared.deployment.Deployment.{Deployment}
 use Rattle.beldi_lang.specs.declared.effect.Answer.{Answer}
 use Rattle.beldi_lang.specs.declared.effect.Answer.TheVariants as answer
 use Rattle.beldi_lang.specs.declared.effect.Effect.{Effect}
-use Rattle.beldi_lang.specs.declared.effect.Effect.TheVariants.{Read, Call, Async}
+use Rattle.beldi_lang.specs.declared.effect.Effect.TheVariants.{Read, Write, CondWrite, End, Call, Async}
+use Rattle.beldi_row.specs.Log.{note_at}
+use Rattle.beldi_row.specs.declared.notes.Note.{Note}
+use Rattle.beldi_row.specs.declared.notes.Note.TheVariants.{Wrote, Cond, Got, Died}
 use Rattle.beldi_row.specs.declared.row.Body.{Body}
 use Rattle.beldi_row.specs.declared.row.IntentRow.{IntentRow}
 use Rattle.beldi_row.specs.declared.row.Row.{Row}
 use Rattle.beldi_row.specs.declared.row.Row.TheVariants as rows
 use Rattle.beldi_row.specs.Table.{Rows}
 use Rattle.beldi_plain.specs.Item.{Item, item_total}
-use Rattle.beldi_plain.specs.Operation.{OnItem, op_of, item_in}
+use Rattle.beldi_plain.specs.Operation.{OnItem, op_of, item_in, touched}
 use Rattle.beldi_plain.specs.Plain.{Instance, PlainState, effect_before}
 use Rattle.beldi_plain.specs.Legal.{run_of}
 use Rattle.beldi_intent.specs.Intent.{root_key, is_ended}
 use Rattle.beldi_step.specs.Host.{Core}
-use Rattle.beldi_readlog.specs.ReadLog.{log_key}
+use Rattle.beldi_readlog.specs.ReadLog.{log_key, given}
 use Rattle.beldi_invokelog.specs.InvokeLog.{invoke_key, call_in, result_in}
 use Rattle.beldi_lang.specs.Callee.{answer_of}
-use Rattle.beldi_order.specs.Sane.{IsCalled, CalledBy, call_of, answer_given, IsAnswer}
+use Rattle.beldi_order.specs.Sane.{IsCalled, CalledBy, call_of, answer_given, IsAnswer, IsDeath}
 use Rattle.beldi_laws.specs.Outside.{OpAnswers, IsAnswerTo}
-use Rattle.beldi_laws.specs.Stands.{Stands, IsMade, IsOpen, key_in, held_answer, held_note}
+use Rattle.beldi_laws.specs.Stands.{Stands, IsMade, IsOpen, key_in, held_answer, held_outside, held_inside, held_note, told_by, lock_note, shadow_answer}
 use Rattle.std.specs.Option.{option_map}
 use Rattle.beldi_order.proofs.Maps.{same_some}
 use Rattle.beldi_order.proofs.Sanes.{sane_of}
 use Rattle.beldi_known.proofs.Instances.{row_of}
 use Rattle.beldi_laws.proofs.Readings.{given_owed}
 use Rattle.beldi_laws.proofs.Operations.{noted_back}
-use Rattle.beldi_step.specs.Run.{noted_answer, is_waited}
+use Rattle.beldi_step.specs.Run.{noted_answer, is_waited, place_of}
 use Rattle.beldi_lang.specs.declared.effect.Answer.TheVariants.{Done}
 use Rattle.beldi_laws.proofs.CallsHere.{same_call}
-use Rattle.beldi_known.specs.Contents.{head_key}
+use Rattle.beldi_known.specs.Contents.{head_key, content_of, shadow_of}
 use Rattle.beldi_known.specs.Owed.{noted, note_of, value_for, called_by, result_of}
-use Rattle.beldi_known.specs.Rows.{IntentMatches, RootMatches, BodyMatches, CallMatches}
+use Rattle.beldi_known.specs.Known.{write_op}
+use Rattle.beldi_known.specs.Rows.{IntentMatches, RootMatches, BodyMatches, CallMatches, LogMatches}
 use Rattle.beldi_laws.specs.Right.{Right}
-use Rattle.beldi_known.specs.Known.{Known, owed_call}
-use Rattle.beldi_order.specs.Txs.{tx_at, tx_after}
+use Rattle.beldi_known.specs.Known.{Known, owed_call, owed_note, owed_shadow, owed_value, row_at, note_or, ahead_note, answered_note, at_step, note_by, shadow_by, is_item, lock_note as lock_owed, ended_at, commit_in, is_mark, is_decided, last_step}
+use Rattle.beldi_known.proofs.Behind.{decision_there}
+use Rattle.beldi_known.proofs.Locks.{tx_self}
+use Rattle.beldi_known.specs.Known.{is_tx}
+use Rattle.beldi_order.specs.Txs.{tx_at, tx_after, effect_after, txs_after, tx_by, or_own}
 use Rattle.beldi_known.specs.Matches.{Matches}
 use Rattle.beldi_known.specs.Sane.{Sane}
 use Rattle.beldi_known.specs.Beside.{is_begin}
-use Rattle.beldi_laws.proofs.Outside.{IsOutside, outside_parts, outside_so, outside_answer, is_of_tx, plain_outside, known_of, made_of}
+use Rattle.beldi_known.proofs.Opened.{IsOutside, outside_parts, outside_so}
+use Rattle.beldi_laws.proofs.Outside.{outside_answer, is_of_tx, known_of, made_of}
 use Rattle.beldi_laws.proofs.Owed.{note_if, value_if, note_there, read_there, no_end}
 use Rattle.beldi_laws.proofs.Grown.{tx_stays}
 use Rattle.beldi_laws.proofs.Shown.{Shows, shown, legal_sane}
@@ -58,7 +69,6 @@ use Rattle.beldi_order.specs.Sane as plain
 use Rattle.beldi_lang.specs.Wants.{wants}
 use Rattle.beldi_lang.specs.declared.effect.Effect.TheVariants as effect
 use Rattle.beldi_laws.proofs.KeptSane.{outside_effect}
-use Rattle.beldi_laws.proofs.Singles.{outside_of}
 
 -- the row of a root without outcome has none
 no_outcome : (b : Option Body) (o : Option Outcome) (q : Instance) → BodyMatches b o (Some q) → q.outcome ≡ None → o ≡ None
@@ -89,15 +99,11 @@ front_get [] ys n a h = cc
 front_get (x ∷ xs) ys zero a h = (h, refl)
 front_get (x ∷ xs) ys (suc n) a h = let k = front_get xs ys n a h in (k.0, ap (λ zs. x ∷ zs) k.1)
 
-rest_of : (xs : List Answer) (n : ℕ) → (ys : List Answer) × (take n xs ++ ys ≡ xs)
-rest_of [] zero = ([], refl)
-rest_of [] (suc n) = ([], refl)
-rest_of (x ∷ xs) zero = (x ∷ xs, refl)
-rest_of (x ∷ xs) (suc n) = let k = rest_of xs n in (k.0, ap (λ zs. x ∷ zs) k.1)
-
-not_begun : (e : Effect) (a : Answer) → IsAnswerTo e a → is_begin e ≡ false
-not_begun effect.Begin a h = absurd h
-not_begun e a h = refl
+-- .. and what follows an element of it
+cut_at : (xs : List Answer) (n : ℕ) (a : Answer) → slice_get xs n ≡ Some a → (ys : List Answer) × ((take n xs ++ a ∷ ys ≡ xs) × (length (take n xs) ≡ n))
+cut_at [] n a h = cc
+cut_at (x ∷ xs) zero a h = (xs, (ap (λ z. z ∷ xs) (sym (same_some h)), refl))
+cut_at (x ∷ xs) (suc n) a h = let k = cut_at xs n a h in (k.0, (ap (λ zs. x ∷ zs) k.1.0, ap suc k.1.1))
 
 -- a root without outcome has its row
 open_by : (d : Deployment) (m : Rows) (t : ℕ) (q : Instance) (r : Option Row) → map.get m (root_key t) ≡ r → RootMatches true r (Some q) → q.outcome ≡ None → IsOpen m (root_key t)
@@ -107,24 +113,26 @@ open_by d m t q (Some r) is root none = absurd root
 
 module _ (d : Deployment) (m : Rows) (known : Known) (locked : IntentId → Bool) (h : Matches d m known locked) (sane : Sane d known) where
   -- ---- the answers of an instance
-  module _ (id : IntentId) (q : Instance) (made : map.get known id ≡ Some q) (n : ℕ) (a : Answer) (at : slice_get q.answers n ≡ Some a) (outside : tx_at d id q n ≡ None) where
+  module _ (id : IntentId) (q : Instance) (made : map.get known id ≡ Some q) (n : ℕ) (a : Answer) (at : slice_get q.answers n ≡ Some a) (own : q.within ≡ None) where
     abbrev place : Place
     place = record { intent = id; step = n }
 
-    out : IsOutside d q (take n q.answers) × (is_begin (effect_before d q n) ≡ false)
-    out = outside_parts d id q (take n q.answers) outside
+    abbrev e : Effect
+    e = effect_before d q n
 
-    not_of_tx : is_of_tx (effect_before d q n) ≡ false
-    not_of_tx = outside_effect d q (take n q.answers) out.0 out.1
+    went : IsAnswer place (tx_at d id q n) e a
+    went = (sane.each id q made).past n a at
 
-    answers_it : IsAnswerTo (effect_before d q n) a
-    answers_it = outside_answer place (effect_before d q n) a not_of_tx (subst (λ t. IsAnswer place t (effect_before d q n) a) outside ((sane.each id q made).past n a at))
+    -- a read's row
+    given_here : (t : ℕ) (k : List ℕ) → e ≡ Read t k → given m (log_key q.func place) ≡ value_for (Read t k) a
+    given_here t k is = given_owed (map.get m (log_key q.func place)) (value_if (Read t k) (slice_get q.answers n)) (read_there d m known locked h id q made n t k is) ∙ ap (value_if (Read t k)) at
 
-    held_op : (o : Option OnItem) → op_of (effect_before d q n) ≡ o → OpAnswers o a → held_note m place q.func o ≡ Some a
-    held_op None is ok = absurd ok
-    held_op (Some o) is ok =
+    -- ---- outside transactions
+    held_op : tx_at d id q n ≡ None → is_of_tx e ≡ false → (o : Option OnItem) → op_of e ≡ o → OpAnswers o a → held_note m place q.func o ≡ Some a
+    held_op outside not_of_tx None is ok = absurd ok
+    held_op outside not_of_tx (Some o) is ok =
         let x : Item = item_in q.func o in
-        ap (option_and_then noted_answer) (note_there d m known locked h id q made n out.0.0 outside (no_end (effect_before d q n) not_of_tx) x ∙ ap (note_if x q.func (effect_before d q n)) at ∙ ap (λ z. note_of x q.func z a) is
+        ap (option_and_then noted_answer) (note_there d m known locked h id q made n own outside (no_end e not_of_tx) x ∙ ap (note_if x q.func e) at ∙ ap (λ z. note_of x q.func z a) is
         ∙ ap (λ t. if is_eq t then noted o.does a else None) (tied_itself item_total x)) ∙ noted_back o.does a ok
 
     -- a call, by its callee
@@ -137,10 +145,10 @@ module _ (d : Deployment) (m : Rows) (known : Known) (locked : IntentId → Bool
         ∙ ap (λ c. Some (j.func, if is_waited c then j.outcome else None)) (was_called j on).from
 
     -- what its row holds
-    held_call : (w : Bool) (f : ℕ) (v : Value) → effect_before d q n ≡ call_of w f v → held_answer m id q.func n (call_of w f v) ≡ Some a
+    held_call : (w : Bool) (f : ℕ) (v : Value) → e ≡ call_of w f v → held_outside m place q.func (call_of w f v) ≡ Some a
     held_call w f v call = by_callee (map.get known (child_of id n)) refl
       where
-        by_wait : (j : Instance) (b : Bool) → Some a ≡ answer_given b j.outcome → CallMatches (map.get m (invoke_key q.func place)) (Some (j.func, if b then j.outcome else None)) → held_answer m id q.func n (call_of b f v) ≡ Some a
+        by_wait : (j : Instance) (b : Bool) → Some a ≡ answer_given b j.outcome → CallMatches (map.get m (invoke_key q.func place)) (Some (j.func, if b then j.outcome else None)) → held_outside m place q.func (call_of b f v) ≡ Some a
         by_wait j true answered row = ap (option_map answer_of) (gave_owed (map.get m (invoke_key q.func place)) (Some (j.func, j.outcome)) row) ∙ sym answered
         by_wait j false answered row = there_so (map.get m (invoke_key q.func place)) row ∙ sym answered
           where
@@ -149,22 +157,107 @@ module _ (d : Deployment) (m : Rows) (known : Known) (locked : IntentId → Bool
             there_so (Some (rows.Invoke i)) row = refl
             there_so (Some r) row = absurd row
 
-        by_callee : (o : Option Instance) → map.get known (child_of id n) ≡ o → held_answer m id q.func n (call_of w f v) ≡ Some a
+        by_callee : (o : Option Instance) → map.get known (child_of id n) ≡ o → held_outside m place q.func (call_of w f v) ≡ Some a
         by_callee None none = let clash = sym (sane.callees id q n w f v made (slice_get_within q.answers n a at) call) ∙ ap is_some none in cc
         by_callee (Some j) on =
             let c = was_called j on in
             let same = (same_call w c.waits f j.func v j.args (sym call ∙ c.call)).0 in
-            subst (λ b. held_answer m id q.func n (call_of b f v) ≡ Some a) (sym same)
+            subst (λ b. held_outside m place q.func (call_of b f v) ≡ Some a) (sym same)
             (by_wait j c.waits (sym at ∙ c.answered) (subst (CallMatches (map.get m (invoke_key q.func place))) (owed_so j on) (h.keys (invoke_key q.func place))))
 
-    held_at : (e : Effect) → effect_before d q n ≡ e → IsAnswerTo e a → held_answer m id q.func n e ≡ Some a
-    held_at (Read t k) is ok = ap (option_map answer.Value) (given_owed (map.get m (log_key q.func place)) (value_if (Read t k) (slice_get q.answers n)) (read_there d m known locked h id q made n t k is) ∙ ap (value_if (Read t k)) at) ∙ read_back t k a ok
-    held_at (Call f v) is ok = held_call true f v is
-    held_at (Async f v) is ok = held_call false f v is
-    held_at e is ok = held_op (op_of e) (ap op_of is) ok
+    outside_here : tx_at d id q n ≡ None → held_outside m place q.func e ≡ Some a
+    outside_here outside = by_effect e refl (outside_answer place e a not_of_tx (subst (λ t. IsAnswer place t e a) outside went))
+      where
+        out : IsOutside d q (take n q.answers) × (is_begin e ≡ false)
+        out = outside_parts d id q (take n q.answers) outside
 
-    pub held_here : held_answer m id q.func n (effect_before d q n) ≡ Some a
-    held_here = held_at (effect_before d q n) refl answers_it
+        not_of_tx : is_of_tx e ≡ false
+        not_of_tx = outside_effect d q (take n q.answers) out.0 out.1
+
+        by_effect : (z : Effect) → e ≡ z → IsAnswerTo z a → held_outside m place q.func z ≡ Some a
+        by_effect (Read t k) is ok = ap (option_map answer.Value) (given_here t k is) ∙ read_back t k a ok
+        by_effect (Call f v) is ok = held_call true f v is
+        by_effect (Async f v) is ok = held_call false f v is
+        by_effect z is ok = held_op outside not_of_tx (op_of z) (ap op_of is) ok
+
+    -- ---- inside one
+    module _ (x : TxId) (inside : tx_at d id q n ≡ Some x) where
+      -- the note of an operation's lock
+      lock_here : (z : Effect) (t : ℕ) (k : List ℕ) → e ≡ z → touched z ≡ Some (t, k) → commit_in z ≡ None → (w : Note) → lock_owed a ≡ Some w → lock_note m place (record { func = q.func; table = t; key = k }) ≡ Some w
+      lock_here z t k is touch apart w owes = let i : Item = record { func = q.func; table = t; key = k } in
+          (h.items i).notes place (ap (is_mark d known n) made ∙ (λ j. is_some (no_mark j) || (is_decided d known (own j) && (n == last_step))))
+          ∙ ap (owed_note d i id (locked id) n) made ∙ ap (λ o. note_or o (ahead_note d i id (locked id) n q)) owed
+        where
+          no_mark : ended_at d q n ≡ None
+          no_mark = ap (at_step (λ given b. commit_in (effect_after d q given)) (take n q.answers)) at ∙ ap commit_in is ∙ apart
+
+          owed : answered_note d (record { func = q.func; table = t; key = k }) id n q ≡ Some w
+          owed = let i : Item = record { func = q.func; table = t; key = k } in ap (at_step (λ given b. note_by i q.func (tx_after d id q given) (effect_after d q given) b) (take n q.answers)) at
+              ∙ ap (λ o. note_by i q.func o e a) inside ∙ ap (λ y. if is_item i q.func (touched y) then lock_owed a else None) is ∙ ap (λ o. if is_item i q.func o then lock_owed a else None) touch
+              ∙ ap (λ b. if is_eq b then lock_owed a else None) (tied_itself item_total i) ∙ owes
+
+      -- what a write left on the shadow
+      shadow_here : (z : Effect) (i : Item) (w : Note) → e ≡ z → note_of i q.func (write_op z) a ≡ Some w → note_at (shadow_of m x i).notes place ≡ Some w
+      shadow_here z i w is note = h.shadows x i place ∙ ap (owed_shadow d x i id n) made ∙ ap (at_step (λ given b. shadow_by x i q.func (tx_after d id q given) (effect_after d q given) b) (take n q.answers)) at
+          ∙ ap (λ o. shadow_by x i q.func o e a) inside ∙ ap (λ b. if b then note_of i q.func (write_op e) a else None) (tx_self x) ∙ ap (λ y. note_of i q.func (write_op y) a) is ∙ note
+
+      -- a death
+      died_here : (z : Effect) (t : ℕ) (k : List ℕ) (c : Cause) (rest : Option Answer) → e ≡ z → touched z ≡ Some (t, k) → commit_in z ≡ None → a ≡ answer.Aborted c → IsDeath place x c
+          → told_by place (lock_note m place (record { func = q.func; table = t; key = k })) rest ≡ Some a
+      died_here z t k c rest is touch apart died death =
+          ap (λ o. told_by place o rest) (lock_here z t k is touch apart (Died death.holder) (ap lock_owed died ∙ ap (λ (y : Cause). option_map Died y.holder) death.cause))
+          ∙ ap (λ y. Some (answer.Aborted y)) (sym death.cause) ∙ ap Some (sym died)
+
+      -- or it got the lock
+      got_here : (z : Effect) (t : ℕ) (k : List ℕ) (rest : Option Answer) → e ≡ z → touched z ≡ Some (t, k) → commit_in z ≡ None → lock_owed a ≡ Some Got → rest ≡ Some a
+          → told_by place (lock_note m place (record { func = q.func; table = t; key = k })) rest ≡ Some a
+      got_here z t k rest is touch apart got same = ap (λ o. told_by place o rest) (lock_here z t k is touch apart Got got) ∙ same
+
+      -- an end's row is that of its begin
+      end_here : (commit : Bool) → e ≡ End commit → given m (log_key x.func (place_of x.intent x.begin)) ≡ Some (value.Bool commit)
+      end_here commit is = by_begun (txs_after d q (take n q.answers)).begun refl (ap (λ o. or_own o (tx_by id q.func (length (take n q.answers)) e (txs_after d q (take n q.answers)).begun)) (sym own)
+          ∙ inside)
+        where
+          in_tx : (y : Effect) (o : Option ℕ) → e ≡ y → (txs_after d q (take n q.answers)).begun ≡ o → tx_by id q.func (length (take n q.answers)) y o ≡ Some x
+          in_tx y o same begun = sym (λ j. or_own (own j) (tx_by id q.func (length (take n q.answers)) (same j) (begun j))) ∙ inside
+
+          by_begun : (o : Option ℕ) → (txs_after d q (take n q.answers)).begun ≡ o → or_own None (tx_by id q.func (length (take n q.answers)) e (txs_after d q (take n q.answers)).begun) ≡ Some x → given m (log_key x.func (place_of x.intent x.begin)) ≡ Some (value.Bool commit)
+          by_begun None begun g = let clash = in_tx (End commit) None is begun in cc
+          by_begun (Some b) begun g =
+              let same : record { intent = id; begin = b; func = q.func } ≡ x = same_some (in_tx (End commit) (Some b) is begun) in
+              let cut = cut_at q.answers n a at in
+              let row = decision_there d id q (take n q.answers) a cut.0 cut.1.0 b commit is begun in
+              subst (λ (y : TxId). given m (log_key y.func (place_of y.intent y.begin)) ≡ Some (value.Bool commit)) same
+              (given_owed (map.get m (log_key q.func (place_of id b))) (Some (value.Bool commit))
+              (subst (LogMatches (map.get m (log_key q.func (place_of id b)))) (ap (owed_value d q.func b) made ∙ ap (λ c. if c then row_at d q b else None) (eq-eqb q.func q.func refl) ∙ row) (h.keys (log_key q.func (place_of id b)))))
+
+      inside_here : (z : Effect) (y : Answer) → e ≡ z → a ≡ y → IsAnswer place (Some x) z y → held_inside m x place q.func z ≡ Some y
+      inside_here (Read t k) (answer.Value v) is got ok = subst (λ o. told_by place (lock_note m place (record { func = q.func; table = t; key = k })) (option_map answer.Value (given m (log_key q.func place))) ≡ Some o) got
+          (got_here (Read t k) t k (option_map answer.Value (given m (log_key q.func place))) is refl refl (ap lock_owed got) (ap (option_map answer.Value) (given_here t k is ∙ ap (value_for (Read t k)) got) ∙ ap Some (sym got)))
+      inside_here (Read t k) (answer.Aborted c) is died ok = subst (λ o. told_by place (lock_note m place (record { func = q.func; table = t; key = k })) (option_map answer.Value (given m (log_key q.func place))) ≡ Some o) died
+          (died_here (Read t k) t k c (option_map answer.Value (given m (log_key q.func place))) is refl refl died ok)
+      inside_here (Write t k v) Done is got ok = let i : Item = record { func = q.func; table = t; key = k } in subst (λ o. told_by place (lock_note m place i) (shadow_answer m x place i) ≡ Some o) got
+          (got_here (Write t k v) t k (shadow_answer m x place i) is refl refl (ap lock_owed got)
+          (ap (option_and_then noted_answer) (shadow_here (Write t k v) i Wrote is (ap (note_of i q.func (write_op (Write t k v))) got ∙ ap (λ b. if is_eq b then Some Wrote else None) (tied_itself item_total i))) ∙ ap Some (sym got)))
+      inside_here (Write t k v) (answer.Aborted c) is died ok = let i : Item = record { func = q.func; table = t; key = k } in subst (λ o. told_by place (lock_note m place i) (shadow_answer m x place i) ≡ Some o) died
+          (died_here (Write t k v) t k c (shadow_answer m x place i) is refl refl died ok)
+      inside_here (CondWrite t k r u v) (answer.Value (value.Bool b)) is got ok = let i : Item = record { func = q.func; table = t; key = k } in subst (λ o. told_by place (lock_note m place i) (shadow_answer m x place i) ≡ Some o) got
+          (got_here (CondWrite t k r u v) t k (shadow_answer m x place i) is refl refl (ap lock_owed got)
+          (ap (option_and_then noted_answer) (shadow_here (CondWrite t k r u v) i (Cond b) is (ap (note_of i q.func (write_op (CondWrite t k r u v))) got ∙ ap (λ c. if is_eq c then Some (Cond b) else None) (tied_itself item_total i))) ∙ ap Some (sym got)))
+      inside_here (CondWrite t k r u v) (answer.Aborted c) is died ok = let i : Item = record { func = q.func; table = t; key = k } in subst (λ o. told_by place (lock_note m place i) (shadow_answer m x place i) ≡ Some o) died
+          (died_here (CondWrite t k r u v) t k c (shadow_answer m x place i) is refl refl died ok)
+      inside_here (Call f v) y is got ok = held_call true f v is ∙ ap Some got
+      inside_here effect.Begin Done is got ok = refl
+      inside_here (End commit) Done is got ok = ap (option_map (λ v. Done)) (end_here commit is)
+      inside_here effect.Abort (answer.Aborted c) is got ok = ap (λ z. Some (answer.Aborted z)) (sym ok)
+      inside_here z y is got ok = absurd ok
+
+    by_tx : (o : Option TxId) → tx_at d id q n ≡ o → held_answer m id q.func n o e ≡ Some a
+    by_tx None outside = outside_here outside
+    by_tx (Some x) inside = inside_here x inside e a refl refl (subst (λ o. IsAnswer place o e a) inside went)
+
+    pub held_here : held_answer m id q.func n (tx_at d id q n) e ≡ Some a
+    held_here = by_tx (tx_at d id q n) refl
 
 -- ---- the rows stand for the plain state
 module _ (d : Deployment) (m : Rows) (p : PlainState) (known : Known) (locked : IntentId → Bool) (h : Shows d m p known locked) (legal : plain.Sane d p) where
@@ -174,7 +267,7 @@ module _ (d : Deployment) (m : Rows) (p : PlainState) (known : Known) (locked : 
       let root = has_no_hops id.hops in
       let w = row_of root home i (map.get known id) (subst (λ r. IntentMatches root home r (map.get known id)) is (h.rows.keys (key_in home id))) in
       let of = w.body b has in
-      let q = made_of d p known h.aside.beside id of.instance of.made in
+      let q = made_of d p known h.goes.beside id of.instance of.made in
       record {
         instance = q.0;
         made = q.1;
@@ -183,23 +276,22 @@ module _ (d : Deployment) (m : Rows) (p : PlainState) (known : Known) (locked : 
         outcome = λ o e. sym q.3 ∙ w.outcome b o of.instance has e of.made;
       }
 
-  held_plain : (id : IntentId) (q : Instance) → map.get p.made id ≡ Some q → (n : ℕ) (a : Answer) → slice_get q.answers n ≡ Some a → held_answer m id q.func n (effect_before d q n) ≡ Some a
+  held_plain : (id : IntentId) (q : Instance) → map.get p.made id ≡ Some q → (n : ℕ) (a : Answer) → slice_get q.answers n ≡ Some a → held_answer m id q.func n (tx_at d id q n) (effect_before d q n) ≡ Some a
   held_plain id q made n a at =
-      let z = known_of d p known h.aside.beside id q made in
-      let s = sane_of d p id q legal made in
+      let z = known_of d p known h.goes.beside id q made in
       let more = front_get q.answers z.grown.later n a at in
       let front : take n z.instance.answers ≡ take n q.answers = ap (take n) (sym z.grown.more) ∙ more.1 in
       let here : effect_before d z.instance n ≡ effect_before d q n = (λ i. wants d (z.grown.func i) (z.grown.args i) (is_some (z.grown.within i)) (front i)) in
-      let outside : tx_at d id q n ≡ None = outside_so d id q (take n q.answers) (let k = rest_of q.answers n in plain_outside d q s.outside (outside_of d p id q h.aside.quiet.outside made) (take n q.answers) k.0 k.1) (not_begun (effect_before d q n) a (outside_of d p id q h.aside.quiet.outside made n a at)) in
-      (λ i. held_answer m id (sym z.grown.func i) n (sym here i))
-      ∙ held_here d m known locked h.rows h.sane id z.instance z.is n a (ap (λ xs. slice_get xs n) (sym z.grown.more) ∙ more.0) (ap (tx_after d id z.instance) front ∙ sym (tx_stays d id q z.instance (take n q.answers) z.grown) ∙ outside)
+      let within : tx_at d id z.instance n ≡ tx_at d id q n = ap (tx_after d id z.instance) front ∙ sym (tx_stays d id q z.instance (take n q.answers) z.grown) in
+      (λ i. held_answer m id (sym z.grown.func i) n (sym within i) (sym here i))
+      ∙ held_here d m known locked h.rows h.sane id z.instance z.is n a (ap (λ xs. slice_get xs n) (sym z.grown.more) ∙ more.0) (z.grown.within ∙ (sane_of d p id q legal made).outside)
 
   stands : Stands d m p
   stands = record {
     items = h.values;
     made = made_so;
     held = λ home id i b is has still q made. held_plain id q made;
-    open_roots = λ t q made none. let z = known_of d p known h.aside.beside (root_of t) q made in
+    open_roots = λ t q made none. let z = known_of d p known h.goes.beside (root_of t) q made in
         open_by d m t z.instance (map.get m (root_key t)) refl (subst (RootMatches true (map.get m (root_key t))) z.is (h.rows.keys (root_key t))) (z.outcome ∙ none);
     sound = λ x. h.rows.keys (head_key x);
   }

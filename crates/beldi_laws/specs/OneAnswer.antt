@@ -2,6 +2,7 @@
 use Rattle.std.specs.Prelude.{◌≡◌, ℕ, List, ◌++◌, take, slice_get, Option, Some, None, is_some}
 use Rattle.std.specs.FinMap as map
 use Rattle.beldi_value.specs.declared.id.IntentId.{IntentId}
+use Rattle.beldi_value.specs.declared.place.TxId.{TxId}
 use Rattle.beldi_tree.specs.declared.deployment.Deployment.{Deployment}
 use Rattle.beldi_lang.specs.declared.effect.Answer.{Answer}
 use Rattle.beldi_lang.specs.declared.effect.Effect.{Effect}
@@ -35,8 +36,8 @@ pub record IsBegun (c : Core) (id : IntentId) (r : Run) (g : Begun) : Type 0 whe
 
 -- the steps of an intent have the answers of this instance
 pub record HasAnswers (d : Deployment) (c : Core) (m : Rows) (id : IntentId) (q : Instance) : Type 0 where
-  -- each outside transactions is the one that the rows hold at its step. What is known inside takes no turn yet.
-  pub held : (n : ℕ) (a : Answer) → slice_get q.answers n ≡ Some a → tx_at d id q n ≡ None → held_answer m id q.func n (wants d q.func q.args (is_some q.within) (take n q.answers)) ≡ Some a
+  -- each is the one that the rows hold at its step
+  pub held : (n : ℕ) (a : Answer) → slice_get q.answers n ≡ Some a → held_answer m id q.func n (tx_at d id q n) (wants d q.func q.args (is_some q.within) (take n q.answers)) ≡ Some a
   -- each run was given the first of them
   pub runs : (r : Run) (g : Begun) → IsBegun c id r g → WasGiven d q r g
 
@@ -53,4 +54,4 @@ pub record OneAnswerPerStep (d : Deployment) (c : Core) (m : Rows) (p : PlainSta
 
 -- an answer that the rows m hold is held by the rows n
 abbrev pub AnswersStay : Rows → Rows → Type 0
-AnswersStay m n = (id : IntentId) (func step : ℕ) (e : Effect) (a : Answer) → held_answer m id func step e ≡ Some a → held_answer n id func step e ≡ Some a
+AnswersStay m n = (id : IntentId) (func step : ℕ) (x : Option TxId) (e : Effect) (a : Answer) → held_answer m id func step x e ≡ Some a → held_answer n id func step x e ≡ Some a

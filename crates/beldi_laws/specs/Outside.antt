@@ -1,15 +1,11 @@
--- No instance has made a transaction yet: each answer is one to an effect outside. Goes with transactions.
-use Rattle.std.specs.Prelude.{◌≡◌, ℕ, slice_get, Option, Some, None}
-use Rattle.std.specs.FinMap as map
-use Rattle.beldi_value.specs.declared.id.IntentId.{IntentId}
+-- Answers to effects outside transactions.
+use Rattle.std.specs.Prelude.{Option, Some, None}
 use Rattle.beldi_value.specs.declared.value.Value.TheVariants as values
-use Rattle.beldi_tree.specs.declared.deployment.Deployment.{Deployment}
 use Rattle.beldi_lang.specs.declared.effect.Answer.{Answer}
 use Rattle.beldi_lang.specs.declared.effect.Answer.TheVariants.{Value, Done}
 use Rattle.beldi_lang.specs.declared.effect.Effect.{Effect}
 use Rattle.beldi_lang.specs.declared.effect.Effect.TheVariants.{Read, Call, Async}
 use Rattle.beldi_plain.specs.Operation.{Operation, OnItem, op_of, write, cond, lock, free}
-use Rattle.beldi_plain.specs.Plain.{Instance, PlainState, effect_before}
 use Rattle.beldi_order.specs.Sane.{CallAnswers}
 
 -- the answer is one to the operation: the truth of a test, and else that it was done
@@ -31,10 +27,3 @@ IsAnswerTo (Read t k) (Value v) = Unit {0}
 IsAnswerTo (Call f v) a = CallAnswers a
 IsAnswerTo (Async f v) Done = Unit {0}
 IsAnswerTo e a = OpAnswers (op_of e) a
-
-abbrev pub OutsideAt : Deployment → Option Instance → Type 0
-OutsideAt d None = Unit {0}
-OutsideAt d (Some q) = (n : ℕ) (a : Answer) → slice_get q.answers n ≡ Some a → IsAnswerTo (effect_before d q n) a
-
-abbrev pub Outside : Deployment → PlainState → Type 0
-Outside d p = (id : IntentId) → OutsideAt d (map.get p.made id)

@@ -1,5 +1,5 @@
 -- What every event keeps: the host and its rows are right.
-use Rattle.std.specs.Prelude.{ℕ, nat_lt, nat_le, true, false, List, Option, Some, None, is_some, IsTrue, ◌≡◌, ◌≤◌, ◌&&◌, ◌++◌, [], Bool}
+use Rattle.std.specs.Prelude.{ℕ, nat_lt, nat_le, true, false, List, length, Option, Some, None, is_some, IsTrue, ◌≡◌, ◌≤◌, ◌&&◌, ◌++◌, [], Bool}
 use Rattle.std.specs.FinMap as map
 use Rattle.std.specs.FinMap.{FinMap}
 use Rattle.std.specs.Ordering.{nat_cmp}
@@ -10,7 +10,7 @@ use Rattle.beldi_value.specs.declared.value.Value.{Value}
 use Rattle.beldi_tree.specs.declared.deployment.Deployment.{Deployment}
 use Rattle.beldi_lang.specs.declared.effect.Answer.{Answer}
 use Rattle.beldi_lang.specs.declared.effect.Effect.{Effect}
-use Rattle.beldi_lang.specs.declared.effect.Effect.TheVariants.{Read, Write, CondWrite, Lock, Unlock, Call, Async, Return}
+use Rattle.beldi_lang.specs.declared.effect.Effect.TheVariants.{Read, Write, CondWrite, Lock, Unlock, Call, Async, End, Return}
 use Rattle.beldi_lang.specs.Machine.{IsAt}
 use Rattle.beldi_row.specs.declared.row.Body.{Body}
 use Rattle.beldi_row.specs.Table.{Rows}
@@ -27,25 +27,34 @@ use Rattle.beldi_call.specs.declared.call.CallAt.TheVariants as call
 use Rattle.beldi_step.specs.declared.run.Run.{Run}
 use Rattle.beldi_step.specs.declared.run.RunAt as standing
 use Rattle.beldi_step.specs.declared.run.RunAt.TheVariants.{Looks, Registers, Begins}
-use Rattle.beldi_step.specs.Run.{is_waited}
+use Rattle.beldi_txn.specs.declared.end.EndAt.{EndAt}
+use Rattle.beldi_txn.specs.declared.end.EndAt.TheVariants.{Decide}
+use Rattle.beldi_txn.specs.TxTurn.{Fits}
+use Rattle.beldi_step.specs.declared.run.OpenTx.{OpenTx}
+use Rattle.beldi_step.specs.Run.{is_waited, open_after, end_mark}
 use Rattle.beldi_step.specs.declared.run.Begun.{Begun}
 use Rattle.beldi_step.specs.declared.run.Stage.{Stage}
 use Rattle.beldi_step.specs.declared.run.Stage.TheVariants as stage
 use Rattle.beldi_intent.specs.Intent.{root_key}
 use Rattle.beldi_step.specs.Host.{Core, most_runs}
 use Rattle.beldi_known.specs.Rows.{IsBodyOf}
-use Rattle.beldi_known.specs.Known.{Known, at_once}
-use Rattle.beldi_order.specs.Txs.{tx_after}
+use Rattle.beldi_known.specs.Known.{Known}
+use Rattle.beldi_order.specs.Txs.{along, effect_after, tx_after}
 use Rattle.beldi_known.specs.Matches.{Matches, LockedAtEnds}
 use Rattle.beldi_known.specs.Sane.{Sane}
-use Rattle.beldi_laws.specs.Outside.{Outside}
+use Rattle.beldi_laws.specs.Inside.{InsideAt, AreMarked, HoldersAreMade, NoneIsCalledInside}
 use Rattle.beldi_known.specs.Beside.{Beside}
 use Rattle.beldi_known.specs.Listed.{listed}
-use Rattle.std.specs.Option.{option_map}
+use Rattle.beldi_known.specs.Shadows.{Shadows}
 use Rattle.beldi_value.specs.declared.place.TxId.{TxId}
 
 -- ---- what a run knows
--- where an effect of an intent may stand, whose caller this is. Inside a transaction none is carried out yet.
+-- an end is past its decision
+abbrev pub is_past : EndAt → Bool
+is_past Decide = false
+is_past a = true
+
+-- where an effect of an intent may stand, whose caller this is
 abbrev pub StageOk : Option TxId → IntentId → Option Caller → Effect → Stage → Type 0
 StageOk None id c (Read t k) stage.Ask = Unit {0}
 StageOk None id c (Read t k) stage.Walk = Unit {0}
@@ -59,7 +68,19 @@ StageOk None id c (Async f a) (stage.Async at) = has_callees id ≡ true
 StageOk None id c (Return o) stage.Back = is_waited c ≡ true
 StageOk None id c (Return o) stage.Tell = is_waited c ≡ false
 StageOk None id c (Return o) stage.Close = Unit {0}
+StageOk (Some t) id c e (stage.Tx at) = Fits e at
+StageOk (Some t) id c (End commit) (stage.Decide m) = Unit {0}
+StageOk (Some t) id c (End commit) (stage.End v) = is_past v.at ≡ true
 StageOk t id c e s = ⊥
+
+-- what is open after these answers: the begin of the transaction, and what was aborted in it
+abbrev pub open_of : Deployment → Instance → List Answer → Option OpenTx
+open_of d q given = along (λ ts a o. open_after (length ts) (effect_after d q ts) a o) [] given None
+
+-- a run that is to decide has the mark of its transaction
+abbrev pub MarkOk : IntentId → ℕ → Option OpenTx → Effect → Stage → Type 0
+MarkOk id step (Some o) (End commit) (stage.Decide m) = m ≡ end_mark id step o.cause commit
+MarkOk id step o e s = Unit {0}
 
 -- what a run has seen done for its instance: a call that it waits for was opened, and an outcome that a caller waits for was given
 -- back before the end
@@ -104,7 +125,9 @@ pub record Knows (d : Deployment) (book : List Entry) (known : Known) (r : Run) 
   pub run_answers : answers ++ later ≡ instance.answers
   -- its machine stands where these answers lead, and its stage is one of the effect there
   pub machine : IsAt d r.func instance.args (is_some instance.within) g.machine answers
+  pub run_open : g.tx ≡ open_of d instance answers
   pub run_stage : StageOk (tx_after d r.id instance answers) r.id g.caller g.machine.effect g.stage
+  pub run_mark : MarkOk r.id g.machine.steps g.tx g.machine.effect g.stage
   pub run_done : SeenDone known r.id g.machine.steps instance g.caller g.stage
   -- where it is to keep a value, it knows where its read belongs
   pub run_place : PlaceOk d book r.id r.func answers later g.machine.effect g.stage
@@ -121,28 +144,21 @@ KnowsAt d book known r Looks = Unit {0}
 KnowsAt d book known r (Registers b) = KnowsBody known r b
 KnowsAt d book known r (Begins g) = Knows d book known r g
 
--- the run of a number, if it is live, knows so much
-abbrev pub RunAt : Deployment → List Entry → Known → Option Run → Type 0
-RunAt d book known None = Unit {0}
-RunAt d book known (Some r) = KnowsAt d book known r r.at
+-- the run of a number, if it is live, knows so much, and has found so much
+abbrev pub RunAt : Deployment → Rows → PlainState → List Entry → Known → Option Run → Type 0
+RunAt d m p book known None = Unit {0}
+RunAt d m p book known (Some r) = KnowsAt d book known r r.at × InsideAt d m p known r r.at
 
 -- the live runs
-pub record RunsMatch (d : Deployment) (book : List Entry) (known : Known) (live : FinMap nat_cmp Run) (last : ℕ) : Type 0 where
+pub record RunsMatch (d : Deployment) (m : Rows) (p : PlainState) (book : List Entry) (known : Known) (live : FinMap nat_cmp Run) (last : ℕ) : Type 0 where
   -- their numbers were given
   pub numbers : (n : ℕ) → IsTrue (is_some (map.get live n)) → (1 ≤ n) × (n ≤ last)
   -- there are at most as many as may live
   pub few : map.len live ≤ most_runs
   -- each knows what a run knows
-  pub runs : (n : ℕ) → RunAt d book known (map.get live n)
+  pub runs : (n : ℕ) → RunAt d m p book known (map.get live n)
 
 -- ---- the invariant
--- Until runs carry transactions out, what is known of an instance is what the plain state has of it and what takes no turn, and no
--- lock is ahead of its answer; and what the plain state has answered stands outside transactions. It goes then, and all else stays.
-pub record Quiet (d : Deployment) (p : PlainState) (known : Known) (locked : IntentId → Bool) : Type 0 where
-  pub at_once : (id : IntentId) → map.get known id ≡ option_map (at_once d id) (map.get p.made id)
-  pub unlocked : (id : IntentId) → locked id ≡ false
-  pub outside : Outside d p
-
 pub record Right (d : Deployment) (c : Core) (m : Rows) : Type 0 where
   -- the book is legal, and this is its run
   pub bounded : SeenBounded 0 c.book
@@ -160,6 +176,11 @@ pub record Right (d : Deployment) (c : Core) (m : Rows) : Type 0 where
   pub values : (x : Item) → listed m x ≡ value_at plain x
   -- a root has its row exactly where its ticket was issued
   pub tickets : (t : ℕ) → is_some (map.get m (root_key t)) ≡ (nat_lt 0 t && nat_le t c.newest)
-  -- each live run knows what is known
-  pub runs : RunsMatch d c.book known c.runs c.last_run
-  pub quiet : Quiet d plain known locked
+  -- shadows show what the open transactions see, and what a decided one owned is given back once
+  pub shadows : Shadows d m plain known locked
+  pub marks : AreMarked d m known
+  -- each death has a holder that was made, and nobody is called inside yet
+  pub holders : HoldersAreMade d plain known
+  pub uncalled : NoneIsCalledInside d known
+  -- each live run knows what is known, and has found what is in the rows
+  pub runs : RunsMatch d m plain c.book known c.runs c.last_run

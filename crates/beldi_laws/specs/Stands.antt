@@ -5,15 +5,18 @@ use Rattle.beldi_value.specs.Id.{root_of}
 use Rattle.beldi_value.specs.declared.id.IntentId.{IntentId}
 use Rattle.beldi_value.specs.declared.outcome.Outcome.{Outcome}
 use Rattle.beldi_value.specs.declared.place.Place.{Place}
+use Rattle.beldi_value.specs.declared.place.TxId.{TxId}
 use Rattle.beldi_tree.specs.declared.deployment.Deployment.{Deployment}
 use Rattle.beldi_lang.specs.declared.effect.Answer.{Answer}
 use Rattle.beldi_lang.specs.declared.effect.Answer.TheVariants.{Done}
 use Rattle.beldi_lang.specs.declared.effect.Answer.TheVariants as answer
 use Rattle.beldi_lang.specs.declared.effect.Effect.{Effect}
-use Rattle.beldi_lang.specs.declared.effect.Effect.TheVariants.{Read, Call, Async}
+use Rattle.beldi_lang.specs.declared.effect.Effect.TheVariants.{Read, Write, CondWrite, Call, Async, Begin, End, Abort}
 use Rattle.beldi_lang.specs.Callee.{answer_of}
 use Rattle.beldi_row.specs.declared.key.RowKey.{RowKey}
 use Rattle.beldi_row.specs.declared.key.Kind.TheVariants as kinds
+use Rattle.beldi_row.specs.declared.notes.Note.{Note}
+use Rattle.beldi_row.specs.declared.notes.Note.TheVariants.{Got, Died}
 use Rattle.beldi_row.specs.declared.row.Body.{Body}
 use Rattle.beldi_row.specs.declared.row.IntentRow.{IntentRow}
 use Rattle.beldi_row.specs.declared.row.Row.TheVariants as rows
@@ -27,7 +30,8 @@ use Rattle.beldi_plain.specs.Operation.{OnItem, op_of, item_in}
 use Rattle.beldi_plain.specs.Plain.{Instance, PlainState, value_at, effect_before}
 use Rattle.beldi_step.specs.Run.{noted_answer}
 use Rattle.beldi_intent.specs.Intent.{root_key, is_ended}
-use Rattle.beldi_known.specs.Contents.{content_of, IsSoundChain}
+use Rattle.beldi_known.specs.Contents.{content_of, shadow_of, IsSoundChain}
+use Rattle.beldi_order.specs.Txs.{tx_at}
 use Rattle.beldi_known.specs.Listed.{listed}
 
 -- ---- the answer that the rows hold
@@ -36,13 +40,41 @@ abbrev pub held_note : Rows → Place → ℕ → Option OnItem → Option Answe
 held_note m p func None = None
 held_note m p func (Some o) = option_and_then noted_answer (note_at (content_of m (item_in func o)).notes p)
 
--- the answer that the rows hold at a step of an intent of a function, for the effect that it has there: the value that was
--- given to a read, what a call gave back, that a call is there which nobody waits for, and the note that an operation left
-abbrev pub held_answer : Rows → IntentId → ℕ → ℕ → Effect → Option Answer
-held_answer m id func step (Read t k) = option_map answer.Value (given m (log_key func (record { intent = id; step = step })))
-held_answer m id func step (Call f v) = option_map answer_of (result_in (call_at m (invoke_key func (record { intent = id; step = step }))))
-held_answer m id func step (Async f v) = option_map (λ i. Done) (call_at m (invoke_key func (record { intent = id; step = step })))
-held_answer m id func step e = held_note m (record { intent = id; step = step }) func (op_of e)
+-- .. for the effect of a function at a place outside transactions: the value that was given to a read, what a call gave back, that a
+-- call is there which nobody waits for, and the note that an operation left
+abbrev pub held_outside : Rows → Place → ℕ → Effect → Option Answer
+held_outside m p func (Read t k) = option_map answer.Value (given m (log_key func p))
+held_outside m p func (Call f v) = option_map answer_of (result_in (call_at m (invoke_key func p)))
+held_outside m p func (Async f v) = option_map (λ i. Done) (call_at m (invoke_key func p))
+held_outside m p func e = held_note m p func (op_of e)
+
+-- .. inside, by the item's note at the place: whom it died of; or, where it got the lock, what it was answered then
+abbrev pub told_by : Place → Option Note → Option Answer → Option Answer
+told_by p (Some (Died h)) a = Some (answer.Aborted (record { place = p; holder = Some h }))
+told_by p (Some Got) a = a
+told_by p n a = None
+
+-- an operation on an item writes the transaction's shadow of it
+abbrev pub shadow_answer : Rows → TxId → Place → Item → Option Answer
+shadow_answer m x p i = option_and_then noted_answer (note_at (shadow_of m x i).notes p)
+
+abbrev pub lock_note : Rows → Place → Item → Option Note
+lock_note m p i = note_at (content_of m i).notes p
+
+-- .. a Begin and an Abort are answered at once, and an End once the decision is kept at the place of its Begin
+abbrev pub held_inside : Rows → TxId → Place → ℕ → Effect → Option Answer
+held_inside m x p func Begin = Some Done
+held_inside m x p func Abort = Some (answer.Aborted (record { place = p; holder = None }))
+held_inside m x p func (End c) = option_map (λ v. Done) (given m (log_key x.func (record { intent = x.intent; step = x.begin })))
+held_inside m x p func (Read t k) = told_by p (lock_note m p (record { func = func; table = t; key = k })) (option_map answer.Value (given m (log_key func p)))
+held_inside m x p func (Write t k v) = let i : Item = record { func = func; table = t; key = k } in told_by p (lock_note m p i) (shadow_answer m x p i)
+held_inside m x p func (CondWrite t k r o v) = let i : Item = record { func = func; table = t; key = k } in told_by p (lock_note m p i) (shadow_answer m x p i)
+held_inside m x p func e = held_outside m p func e
+
+-- the answer that the rows hold at a step of an intent of a function, by the transaction that it is in and the effect that it has there
+abbrev pub held_answer : Rows → IntentId → ℕ → ℕ → Option TxId → Effect → Option Answer
+held_answer m id func step None e = held_outside m (record { intent = id; step = step }) func e
+held_answer m id func step (Some x) e = held_inside m x (record { intent = id; step = step }) func e
 
 -- ---- the rows stand for a plain state
 -- the instance was made with the body's function and arguments; and its outcome is the row's, where the row has one
@@ -70,7 +102,7 @@ pub record Stands (d : Deployment) (m : Rows) (p : PlainState) : Type 0 where
   pub made : (home : ℕ) (id : IntentId) (i : IntentRow) (b : Body) → map.get m (key_in home id) ≡ Some (rows.Intent i) → i.body ≡ Some b → IsMade p id i b
   -- where such an intent has not ended, each answer of its instance is held by the rows at its step
   pub held : (home : ℕ) (id : IntentId) (i : IntentRow) (b : Body) → map.get m (key_in home id) ≡ Some (rows.Intent i) → i.body ≡ Some b → is_ended i ≡ false
-      → (q : Instance) → map.get p.made id ≡ Some q → (n : ℕ) (a : Answer) → slice_get q.answers n ≡ Some a → held_answer m id q.func n (effect_before d q n) ≡ Some a
+      → (q : Instance) → map.get p.made id ≡ Some q → (n : ℕ) (a : Answer) → slice_get q.answers n ≡ Some a → held_answer m id q.func n (tx_at d id q n) (effect_before d q n) ≡ Some a
   -- each root without outcome has its row, which has not ended
   pub open_roots : (t : ℕ) (q : Instance) → map.get p.made (root_of t) ≡ Some q → q.outcome ≡ None → IsOpen m (root_key t)
   -- each chain is sound

@@ -1,0 +1,72 @@
+-- The turns of a run that carries a transaction out, by its stages: an operation up to its lock and past it, the decision, and the visits.
+use Rattle.std.proofs.Common.{◌≡◌, ◌∙◌, ℕ, Bool, true, Option, Some, ap, refl, sym, subst}
+use Rattle.std.specs.FinMap as map
+use Rattle.beldi_value.specs.declared.place.TxId.{TxId}
+use Rattle.beldi_tree.specs.declared.deployment.Deployment.{Deployment}
+use Rattle.beldi_lang.specs.declared.effect.Effect.{Effect}
+use Rattle.beldi_lang.specs.declared.effect.Effect.TheVariants.{Read, Write, CondWrite, End}
+use Rattle.beldi_book.specs.Order.{count_changes}
+use Rattle.beldi_row.specs.Table.{Rows}
+use Rattle.beldi_plain.specs.Operation.{touched}
+use Rattle.beldi_order.specs.Txs.{effect_after, tx_after}
+use Rattle.beldi_lock.specs.declared.lock.LockAt.{LockAt}
+use Rattle.beldi_txn.specs.Tx.{item_of}
+use Rattle.beldi_txn.specs.TxTurn.{Fits}
+use Rattle.beldi_txn.specs.declared.tx.TxAt.{TxAt}
+use Rattle.beldi_txn.specs.declared.tx.TxAt.TheVariants as at
+use Rattle.beldi_txn.specs.declared.end.Visit.{Visit}
+use Rattle.beldi_step.specs.declared.run.Run.{Run}
+use Rattle.beldi_step.specs.declared.run.Begun.{Begun}
+use Rattle.beldi_step.specs.declared.run.Mark.{Mark}
+use Rattle.beldi_step.specs.declared.run.OpenTx.{OpenTx}
+use Rattle.beldi_step.specs.declared.run.Stage.{Stage}
+use Rattle.beldi_step.specs.declared.run.Stage.TheVariants as stage
+use Rattle.beldi_step.specs.Run.{own_tx, turned_by, stage_asks, stage_says}
+use Rattle.beldi_step.specs.Host.{Core, turn_next}
+use Rattle.beldi_known.specs.Beside.{is_begin}
+use Rattle.beldi_laws.specs.Right.{Right, Knows, MarkOk, is_past, open_of}
+use Rattle.beldi_laws.specs.Inside.{Inside, AtStage, InItem}
+use Rattle.beldi_laws.proofs.Deciding as deciding
+use Rattle.beldi_laws.proofs.InTx.{opens}
+use Rattle.beldi_laws.proofs.Locking.{log_turn, lock_turn}
+use Rattle.beldi_laws.proofs.Moves.{AfterQuery}
+use Rattle.beldi_laws.proofs.OpenOf.{open_tx}
+use Rattle.beldi_laws.proofs.Short.{known_is_short}
+use Rattle.beldi_laws.proofs.Turns.{effect_here, front_here, own_here}
+use Rattle.beldi_laws.proofs.Visiting as visiting
+use Rattle.beldi_laws.proofs.Working.{operates, working_turn}
+
+module _ (d : Deployment) (c : Core) (m : Rows) (i : ℕ) (r : Run) (g : Begun) (h : Right d c m) (live : map.get c.runs i ≡ Some r) (k : Knows d c.book h.known r g) (finds : Inside d m h.plain h.known r g)
+    (t : TxId) (inside : tx_after d r.id k.instance k.answers ≡ Some t) where
+  abbrev AfterStage : Effect → Stage → Option OpenTx → Type 0
+  AfterStage e s o = AfterQuery d h.plain c.now m (λ u. turn_next c i r (turned_by d r g (stage_says r.id r.func g.caller o (count_changes c.book) g.machine.steps e s u))) (stage_asks r.id r.func g.caller o g.machine.steps e s)
+
+  -- an operation
+  pub tx_turn : (e : Effect) (a : TxAt) → g.machine.effect ≡ e → Fits e a → AtStage d m h.plain h.known r.id r.func g.tx g.machine.steps e (stage.Tx a) → AfterStage e (stage.Tx a) g.tx
+  tx_turn e a is fits found =
+      let x = operates e a fits in
+      let z = opens d c m r g h k t inside x.0 (ap touched is ∙ x.1) in
+      subst (AfterStage e (stage.Tx a)) (sym z.1) (by_stage e is z.0 z.1 z.2 a fits (subst (λ w. AtStage d m h.plain h.known r.id r.func w g.machine.steps e (stage.Tx a)) z.1 found))
+    where
+      by_stage : (e : Effect) → g.machine.effect ≡ e → (o : OpenTx) (tx : g.tx ≡ Some o) (here : tx_after d r.id k.instance k.answers ≡ Some (own_tx r.id r.func o)) (a : TxAt) → Fits e a → InItem d m h.plain h.known r.id r.func o g.machine.steps e a (item_of e)
+          → AfterStage e (stage.Tx a) (Some o)
+      by_stage (Read b y) is o tx here at.Log fits f = log_turn d c m i r g h live k finds o tx here (Read b y) is (b, y) refl fits
+      by_stage (Read b y) is o tx here (at.Lock l) fits f = lock_turn d c m i r g h live k finds o tx here (Read b y) is (b, y) refl l fits f
+      by_stage (Write b y v) is o tx here (at.Lock l) fits f = lock_turn d c m i r g h live k finds o tx here (Write b y v) is (b, y) refl l fits f
+      by_stage (CondWrite b y u w v) is o tx here (at.Lock l) fits f = lock_turn d c m i r g h live k finds o tx here (CondWrite b y u w v) is (b, y) refl l fits f
+      by_stage e is o tx here at.Log fits f = absurd fits
+      by_stage e is o tx here (at.Lock l) fits f = absurd fits
+      by_stage e is o tx here a fits f = working_turn d c m i r g h live k finds o tx here e a is refl fits f
+
+  -- the decision
+  pub decide_turn : (commit : Bool) (by : Mark) → g.machine.effect ≡ End commit → MarkOk r.id g.machine.steps g.tx (End commit) (stage.Decide by) → AfterStage (End commit) (stage.Decide by) g.tx
+  decide_turn commit by is mark =
+      let wants : effect_after d k.instance k.answers ≡ End commit = ap (effect_after d k.instance) (sym (front_here d c.book h.known r g k)) ∙ effect_here d c.book h.known r g k ∙ is in
+      let o = open_tx d r.id k.instance k.answers t (own_here d c m i r g h live k) inside (ap is_begin wants) in
+      let tx : g.tx ≡ Some o.0 = k.run_open ∙ o.1 in
+      subst (AfterStage (End commit) (stage.Decide by)) (sym tx)
+      (deciding.decide_turn d c m i r g h live k finds o.0 tx (inside ∙ ap Some (o.2 ∙ ap (λ f. own_tx r.id f o.0) k.func)) o.1 commit is by (subst (λ u. MarkOk r.id g.machine.steps u (End commit) (stage.Decide by)) tx mark))
+
+  -- the visits
+  pub end_turn : (commit : Bool) (v : Visit) → g.machine.effect ≡ End commit → is_past v.at ≡ true → AtStage d m h.plain h.known r.id r.func g.tx g.machine.steps (End commit) (stage.End v) → AfterStage (End commit) (stage.End v) g.tx
+  end_turn = visiting.end_turn d c m i r g h live k finds t inside (known_is_short h)

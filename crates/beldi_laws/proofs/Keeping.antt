@@ -1,0 +1,78 @@
+-- What a turn outside transactions keeps, over rows whose shadows are as before.
+use Rattle.std.proofs.Common.{◌≡◌, ℕ, true, false, Option, None, Some, is_some, refl}
+use Rattle.std.specs.FinMap as map
+use Rattle.std.specs.Ordering.{is_eq}
+use Rattle.beldi_value.specs.Id.{id_cmp}
+use Rattle.beldi_value.specs.declared.id.IntentId.{IntentId}
+use Rattle.beldi_value.specs.declared.place.Owner.TheVariants.{Tx}
+use Rattle.beldi_value.specs.declared.place.TxId.{TxId}
+use Rattle.beldi_tree.specs.declared.deployment.Deployment.{Deployment}
+use Rattle.beldi_lang.specs.declared.effect.Answer.{Answer}
+use Rattle.beldi_row.specs.Table.{Rows, set_row}
+use Rattle.beldi_row.specs.Act.{act}
+use Rattle.beldi_row.specs.declared.act.Act.{Act}
+use Rattle.beldi_row.specs.declared.key.RowKey.{RowKey}
+use Rattle.beldi_row.specs.declared.row.Row.{Row}
+use Rattle.beldi_plain.specs.Item.{Item}
+use Rattle.beldi_plain.specs.Plain.{Instance, answered, value_at, with_instance}
+use Rattle.beldi_order.specs.Inside.{Items, value_of}
+use Rattle.beldi_order.proofs.Entries.{grows_self}
+use Rattle.beldi_step.specs.Host.{Core}
+use Rattle.beldi_known.specs.Contents.{content_of, shadow_key}
+use Rattle.beldi_known.specs.InsideLaws.{Goes}
+use Rattle.beldi_known.specs.Known.{at_once, moved}
+use Rattle.beldi_known.specs.Listed.{listed}
+use Rattle.beldi_known.specs.Matches.{Matches}
+use Rattle.beldi_known.specs.Shadows.{tx_of}
+use Rattle.beldi_known.proofs.Acts.{is_shadow}
+use Rattle.beldi_known.proofs.Insides.{rows_go}
+use Rattle.beldi_known.proofs.Lists.{elsewhere as log_elsewhere}
+use Rattle.beldi_known.proofs.Opened.{IsOutside}
+use Rattle.beldi_laws.specs.Inside.{Frame}
+use Rattle.beldi_laws.specs.Right.{Right}
+use Rattle.beldi_laws.proofs.Decisions as decisions
+use Rattle.beldi_laws.proofs.Frames.{frame_still, items_stay, settled_rows}
+use Rattle.beldi_laws.proofs.Moves.{Stays}
+use Rattle.beldi_laws.proofs.Others.{kept_by}
+use Rattle.beldi_laws.proofs.Shown.{legal_sane, settled, shown}
+
+-- rows as they were
+pub as_it_was : {d : Deployment} {c : Core} {m : Rows} (h : Right d c m) → Stays h m
+as_it_was {d} {m} h = record { shows = shown h; grows = grows_self h.known; frame = frame_still d m h.plain h.plain h.known h.known (items_stay d m h.plain h.plain h.known refl); others = λ q knows finds. finds }
+
+-- the shadows are as before
+abbrev pub SameShadows : Rows → Rows → Type 0
+SameShadows m n = (t : TxId) (x : Item) → map.get n (shadow_key t x) ≡ map.get m (shadow_key t x)
+
+-- a row of another kind was set
+pub set_shadows : (m : Rows) (k : RowKey) (v : Option Row) → is_shadow k.kind ≡ false → SameShadows m (set_row m k v)
+set_shadows m k v kind t x = log_elsewhere m k v is_shadow (shadow_key t x) refl kind
+
+-- no act takes a row away
+pub act_stays : (a : Act) (now : ℕ) (o : Option Row) → is_some o ≡ true → is_some (act a now o).0 ≡ true
+act_stays a now None there = cc
+act_stays a now (Some r) there = refl
+
+module _ {d : Deployment} {c : Core} {m : Rows} (h : Right d c m) (n : Rows) (same : SameShadows m n) where
+  -- nothing more is known
+  pub goes_still : Goes d n h.plain h.known h.locked
+  goes_still = record { beside = h.beside; shadows = rows_go d m n h.plain h.known h.locked h.locked (λ j l. l) same h.shadows }
+
+  -- an instance outside was answered, and stays outside or begins: over items that are the same where another transaction has got them
+  pub goes_answered : (id : IntentId) (k : Instance) (a : Answer) → map.get h.known id ≡ Some k → h.locked id ≡ false → IsOutside d (answered k a) (answered k a).answers → (items : Items)
+      → ((j : IntentId) (z : Instance) → is_eq (id_cmp j id) ≡ false → (x : Item) → (content_of m x).owner ≡ Some (Tx (tx_of j z)) → value_of items x ≡ value_of h.plain.items x)
+      → Goes d n (record { items = items; made = map.insert h.plain.made id (answered k a) }) (map.insert h.known id (moved d id k a)) h.locked
+  goes_answered id k a is unlocked out items agree =
+      decisions.goes_set d m h.plain h.known h.locked h.shadows h.beside h.sane h.rows (legal_sane h) id (answered k a) out (decisions.fresh_next d m h.plain h.known h.locked h.shadows h.beside h.sane h.rows (legal_sane h) n same id k is a out)
+      n items same agree (decisions.got_next d m h.plain h.known h.locked h.shadows h.beside h.sane h.rows (legal_sane h) n same id k is a out unlocked)
+
+  -- a new one is made
+  pub goes_made : (id : IntentId) (s : Instance) → map.get h.known id ≡ None → IsOutside d s s.answers → Goes d n (with_instance h.plain id s) (map.insert h.known id (at_once d id s)) h.locked
+  goes_made id s new out =
+      decisions.goes_set d m h.plain h.known h.locked h.shadows h.beside h.sane h.rows (legal_sane h) id s out (λ b. decisions.fresh_new d m h.plain h.known h.locked h.shadows h.beside h.sane h.rows (legal_sane h) n same id new s)
+      n h.plain.items same (λ j z other x owned. refl) (decisions.got_new d m h.plain h.known h.locked h.shadows h.beside h.sane h.rows (legal_sane h) n same id new (at_once d id s))
+
+  -- .. so the plain state and what is known may stay
+  pub stays_by : Matches d n h.known h.locked → ((x : Item) → listed n x ≡ value_at h.plain x) → Frame d m n h.plain h.plain h.known h.known → Stays h n
+  stays_by rows values frame = kept_by d c m n h h.plain h.known h.locked
+      (record { goes = goes_still; locked_at_ends = h.locked_at_ends; sane = h.sane; rows = rows; values = values; settled = settled_rows d m n h.plain h.plain h.known h.known frame (settled h) }) (grows_self h.known) frame

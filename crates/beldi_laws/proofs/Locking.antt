@@ -1,0 +1,666 @@
+-- The turns of an operation of a transaction up to its lock: a read looks whether a value was kept for it, the row is put that says that
+-- the lock is asked for, and the lock of the item is tried.
+use Rattle.std.proofs.Common.{◌≡◌, ◌∙◌, ℕ, ◌<◌, Bool, true, false, List, [], ◌∷◌, ◌++◌, length, length-append, Option, None, Some, is_some, refl, ap, sym, subst, arith, append_assoc, if◌then◌else◌}
+use Rattle.std.specs.Prelude.{IsTrue}
+use Rattle.std.specs.FinMap as map
+use Rattle.std.specs.Ordering.{is_eq}
+use Rattle.std.proofs.lemmas.Cmp.{tied_itself}
+use Rattle.beldi_value.specs.Id.{age_of, id_cmp, is_older}
+use Rattle.beldi_value.specs.declared.id.IntentId.{IntentId}
+use Rattle.beldi_value.specs.declared.outcome.Cause.{Cause}
+use Rattle.beldi_value.specs.declared.place.Owner.{Owner}
+use Rattle.beldi_value.specs.declared.place.Owner.TheVariants.{Tx as ByTx}
+use Rattle.beldi_value.specs.declared.place.Place.{Place}
+use Rattle.beldi_value.specs.declared.place.TxId.{TxId}
+use Rattle.beldi_value.specs.declared.value.Value.{Value}
+use Rattle.beldi_value.specs.declared.value.Value.TheVariants as value
+use Rattle.beldi_tree.specs.declared.deployment.Deployment.{Deployment}
+use Rattle.beldi_lang.specs.declared.effect.Answer.{Answer}
+use Rattle.beldi_lang.specs.declared.effect.Answer.TheVariants as answer
+use Rattle.beldi_lang.specs.declared.effect.Effect.{Effect}
+use Rattle.beldi_lang.specs.declared.effect.Effect.TheVariants as effect
+use Rattle.beldi_row.specs.declared.act.Act.{Act}
+use Rattle.beldi_row.specs.declared.act.Act.TheVariants.{Look, PutLockset, MakeCell}
+use Rattle.beldi_row.specs.declared.key.RowKey.{RowKey}
+use Rattle.beldi_row.specs.declared.key.Kind.{Kind}
+use Rattle.beldi_row.specs.declared.key.Kind.TheVariants as kinds
+use Rattle.beldi_row.specs.declared.notes.Note.{Note}
+use Rattle.beldi_row.specs.declared.notes.Note.TheVariants as notes
+use Rattle.beldi_row.specs.declared.row.Row.{Row}
+use Rattle.beldi_row.specs.declared.row.Row.TheVariants as rows
+use Rattle.beldi_row.specs.Act.{act, other_owner}
+use Rattle.beldi_row.specs.Key.{key_cmp}
+use Rattle.beldi_row.specs.Log.{note_at, place_eq}
+use Rattle.beldi_row.specs.Table.{Rows, set_row}
+use Rattle.beldi_row.proofs.Gets.{key_same}
+use Rattle.beldi_row.proofs.Logs.{note_here, note_pushed, place_same}
+use Rattle.beldi_row.proofs.Unchanged.{looked, unchanged}
+use Rattle.beldi_walk.specs.declared.query.Query.{Query}
+use Rattle.beldi_walk.specs.Query.{rows_after, said, told_by}
+use Rattle.beldi_daal.specs.declared.cell.CellOp.TheVariants.{Lock}
+use Rattle.beldi_daal.specs.declared.cell.WriteAt.{WriteAt}
+use Rattle.beldi_daal.specs.declared.cell.WriteAt.TheVariants.{Try, Make}
+use Rattle.beldi_daal.specs.declared.cell.WriteGoes.{WriteGoes}
+use Rattle.beldi_daal.specs.declared.cell.WriteGoes.TheVariants as writes
+use Rattle.beldi_daal.specs.declared.walk.Item.TheVariants.{Plain}
+use Rattle.beldi_daal.specs.declared.walk.WriteWalk.{WriteWalk}
+use Rattle.beldi_daal.specs.Cell.{op_act, write_asks, write_goes}
+use Rattle.beldi_daal.specs.Content.{Content, content_in, SoundAt}
+use Rattle.beldi_daal.specs.Logged.{dies, died_at, done_to, DidAs, DidOnce, Logs, LoggedTurn}
+use Rattle.beldi_daal.specs.Walk.{walk_so}
+use Rattle.beldi_daal.proofs.Logged.{by_op}
+use Rattle.beldi_daal.proofs.Stays.{notes_stay}
+use Rattle.beldi_lock.specs.declared.lock.LockAt.{LockAt}
+use Rattle.beldi_lock.specs.declared.lock.LockAt.TheVariants.{Lockset, Item as AtItem}
+use Rattle.beldi_lock.specs.Lock.{item_goes, note_goes, put_goes}
+use Rattle.beldi_readlog.specs.ReadLog.{given_in, given_of, log_key}
+use Rattle.beldi_txn.specs.declared.tx.TxAt.{TxAt}
+use Rattle.beldi_txn.specs.declared.tx.TxAt.TheVariants as at
+use Rattle.beldi_txn.specs.End.{end_place}
+use Rattle.beldi_txn.specs.Tx.{asks_of, given_goes, item_asks, item_of, lock_leads, locked_goes, tx_goes}
+use Rattle.beldi_txn.specs.TxTurn.{Fits, HasLock}
+use Rattle.beldi_intent.specs.Intent.{root_key}
+use Rattle.beldi_plain.specs.Item.{Item, item_total}
+use Rattle.beldi_plain.specs.Operation.{touched}
+use Rattle.beldi_plain.specs.Plain.{Instance, PlainState, effect_of, value_at}
+use Rattle.beldi_order.specs.Sane.{IsAnswer, IsDeath}
+use Rattle.beldi_order.specs.Txs.{Txs, effect_after, end_of, tx_after, tx_now, txs_after, txs_by}
+use Rattle.beldi_order.proofs.Entries.{grows_self}
+use Rattle.beldi_order.proofs.Maps.{here as inserted, same_some}
+use Rattle.beldi_step.specs.declared.run.Begun.{Begun}
+use Rattle.beldi_step.specs.declared.run.OpenTx.{OpenTx}
+use Rattle.beldi_step.specs.declared.run.Run.{Run}
+use Rattle.beldi_step.specs.declared.run.Says.{Says}
+use Rattle.beldi_step.specs.declared.run.Says.TheVariants as says
+use Rattle.beldi_step.specs.declared.run.Stage.TheVariants as stage
+use Rattle.beldi_step.specs.declared.run.Wait.TheVariants as wait
+use Rattle.beldi_step.specs.Host.{Core, turn_next}
+use Rattle.beldi_step.specs.Run.{own_tx, place_of, turned_by, tx_here_asks, tx_here_says, tx_says}
+use Rattle.beldi_known.specs.Contents.{content_of, head_key, lockset_key, shadow_key}
+use Rattle.beldi_known.specs.Frame.{LockedOut, lock_in}
+use Rattle.beldi_known.specs.Known.{Known, ahead_by, ended_by, is_item, last_step, lock_note, moved, owed_lockset, tx_end}
+use Rattle.beldi_known.specs.InsideLaws.{Goes}
+use Rattle.beldi_known.specs.Laws.{IsFront}
+use Rattle.beldi_known.specs.Listed.{listed}
+use Rattle.beldi_known.specs.Matches.{LocksetMatches, Matches, lockset_ahead}
+use Rattle.beldi_known.specs.Sane.{SaneInstance}
+use Rattle.beldi_step.specs.Tables.{decision_key}
+use Rattle.beldi_known.proofs.Answers.{true_false}
+use Rattle.beldi_known.proofs.Leads.{item_self}
+use Rattle.beldi_known.specs.Acts.{Told, died, held, lock_answer, lock_on, lock_or, noted, noted_or, put_lockset, with_note}
+use Rattle.beldi_known.proofs.Acts.{content_apart, content_here, is_data, is_shadow, kinds_apart, lock_did}
+use Rattle.beldi_known.proofs.Ahead.{ahead_front, ahead_set, none_out}
+use Rattle.beldi_known.proofs.AtFront.{lock_is_there, no_row, note_is_ahead}
+use Rattle.beldi_known.proofs.Behind.{LockTold, behind_asks, behind_locks, behind_looks, behind_looks_dead, death_in, told}
+use Rattle.beldi_known.proofs.Deaths.{death_is_older}
+use Rattle.beldi_known.proofs.FrameAt.{known_set}
+use Rattle.beldi_known.proofs.Frame.{moved_one}
+use Rattle.beldi_known.proofs.Inside.{dies_inside, lockset_put}
+use Rattle.beldi_known.proofs.Insides.{death_goes, rows_go}
+use Rattle.beldi_known.proofs.Lists.{did_lists, died_lists, elsewhere, is_log, lists_same}
+use Rattle.beldi_known.proofs.OneFunction.{undecided}
+use Rattle.beldi_known.proofs.Rows.{is_intent_key, no_root, set_here, set_others}
+use Rattle.beldi_known.proofs.Sanes.{death_answer, sane_died}
+use Rattle.beldi_laws.specs.Right.{Right, Knows, StageOk, MarkOk}
+use Rattle.beldi_laws.specs.Inside.{AtStage, Found, Frame, InItem, InOperation, Inside, OfBegin, Released, has_asked}
+use Rattle.beldi_laws.proofs.Ages.{Holder, dies_so, free_of, holder_made, only_one}
+use Rattle.beldi_laws.proofs.Frames.{frame_held, frame_item, frame_lockset, is_lockset, items_stay, settled_operated, settled_rows}
+use Rattle.beldi_laws.proofs.Grown.{grown_moved, grown_same, grows_moved, moved_more}
+use Rattle.beldi_laws.proofs.InTx as in_tx
+use Rattle.beldi_laws.proofs.Keeping.{act_stays, as_it_was, set_shadows, stays_by}
+use Rattle.beldi_laws.proofs.Moves.{AfterQuery, AfterTurn, Kept, SameRoots, Stays}
+use Rattle.beldi_laws.proofs.Others.{kept_by}
+use Rattle.beldi_laws.proofs.Outside.{called_outside}
+use Rattle.beldi_laws.proofs.Owed.{content_kept, contents_kept, others_list}
+use Rattle.beldi_laws.proofs.Released.{ended_at}
+use Rattle.beldi_laws.proofs.Shown.{legal_sane, settled}
+use Rattle.beldi_laws.proofs.Turns as turns
+use Rattle.beldi_laws.proofs.Turns.{Freed, Leaves}
+
+-- ---- where an operation may stand
+fits_lock : (e : Effect) (l j : LockAt) → Fits e (at.Lock l) → Fits e (at.Lock j)
+fits_lock (effect.Read t k) l j h = h
+fits_lock (effect.Write t k v) l j h = h
+fits_lock (effect.CondWrite t k r o v) l j h = h
+fits_lock e l j h = absurd h
+
+-- a read alone looks for a kept value
+looks_lock : (e : Effect) (l : LockAt) → Fits e at.Log → Fits e (at.Lock l)
+looks_lock (effect.Read t k) l h = h
+looks_lock (effect.Write t k v) l h = absurd h
+looks_lock (effect.CondWrite t k r o v) l h = absurd h
+looks_lock e l h = absurd h
+
+looks_read : (e : Effect) (x : ℕ × List ℕ) → Fits e at.Log → item_of e ≡ Some x → e ≡ effect.Read x.0 x.1
+looks_read (effect.Read t k) x h on = ap (λ (z : ℕ × List ℕ). effect.Read z.0 z.1) (same_some on)
+looks_read (effect.Write t k v) x h on = absurd h
+looks_read (effect.CondWrite t k r o v) x h on = absurd h
+looks_read e x h on = absurd h
+
+-- an operation has no mark
+unmarked : (id : IntentId) (n : ℕ) (o : Option OpenTx) (e : Effect) (a : TxAt) → MarkOk id n o e (stage.Tx a)
+unmarked id n (Some o) (effect.End commit) a = tt
+unmarked id n o e a = tt
+
+-- before its lock it found nothing
+none_found : (e : Effect) (l : LockAt) (r : Option Row) (v : Value) → Found e (at.Lock l) r v
+none_found (effect.Read t k) l r v = tt
+none_found (effect.CondWrite t k u w y) l r v = tt
+none_found e l r v = tt
+
+-- ---- a note that was told was there
+told_note : (p : Place) (t : TxId) (c x : Content) (w : Note) → lock_on p t c ≡ (x, noted w) → note_at c.notes p ≡ Some w
+told_note p t c x w h = by_note (note_at c.notes p) h
+  where
+    by_age : (o : Owner) (b : Bool) → ◌≡◌ {A = Content × Told} (if b then (c, held o) else (with_note c p (notes.Died (age_of o)), died (age_of o))) (x, noted w) → ⊥
+    by_age o true g = let clash = ap (λ z. z.1) g in cc
+    by_age o false g = let clash = ap (λ z. z.1) g in cc
+
+    by_owner : (o : Option Owner) → lock_or p t c o ≡ (x, noted w) → ⊥
+    by_owner None g = let clash = ap (λ z. z.1) g in cc
+    by_owner (Some o) g = by_age o (is_older t.intent (age_of o)) g
+
+    by_note : (n : Option Note) → noted_or c n (lock_or p t c (other_owner (ByTx t) c.owner)) ≡ (x, noted w) → n ≡ Some w
+    by_note None g = absurd (by_owner (other_owner (ByTx t) c.owner) g)
+    by_note (Some n) g = let same = ap (λ z. z.1) g in let k : n ≡ w = cc in ap Some k
+
+-- a lockset row that is there is one
+lockset_is : (r : Option Row) (owed ahead : Bool) → LocksetMatches r owed ahead → is_some r ≡ true → r ≡ Some rows.Lockset
+lockset_is None owed ahead h there = cc
+lockset_is (Some rows.Lockset) owed ahead h there = refl
+lockset_is (Some r) owed ahead h there = absurd h
+
+-- a new note is that of the lock, or of the death
+abbrev IsNew : Option IntentId → Note → Type 0
+IsNew None u = u ≡ notes.Got
+IsNew (Some j) u = u ≡ notes.Died j
+
+new_note : (p : Place) (who : Owner) (c b : Content) (j : Option IntentId) (u : Note) → DidAs p who Lock j c b → note_at c.notes p ≡ None → note_at b.notes p ≡ Some u → IsNew j u
+new_note p who c b None u did none there = same_some (sym there ∙ ap (λ (z : Content). note_at z.notes p) did.1 ∙ note_here c.notes p notes.Got none)
+new_note p who c b (Some j) u did none there = same_some (sym there ∙ ap (λ (z : Content). note_at z.notes p) did ∙ note_here c.notes p (notes.Died j) none)
+
+-- .. and no other
+abbrev is_locks : Note → Bool
+is_locks notes.Got = true
+is_locks (notes.Died j) = true
+is_locks u = false
+
+not_new : (j : Option IntentId) (u : Note) → is_locks u ≡ false → IsNew j u → ⊥
+not_new None u off new = true_false (sym (ap is_locks new) ∙ off)
+not_new (Some j) u off new = true_false (sym (ap is_locks new) ∙ off)
+
+one_death : {i j : IntentId} → notes.Died j ≡ notes.Died i → i ≡ j
+one_death same = cc
+
+one_cause : {b c : Cause} → answer.Aborted b ≡ answer.Aborted c → b ≡ c
+one_cause same = cc
+
+-- a lock that is ahead is no death
+none_dead : (y : Item) (f : ℕ) (t : Option TxId) (e : Effect) (b : Bool) (j : IntentId) → ahead_by y f t e b ≡ Some (notes.Died j) → ⊥
+none_dead y f None e b j same = cc
+none_dead y f (Some t) e false j same = cc
+none_dead y f (Some t) e true j same = by_item (is_item y f (touched e)) same
+  where
+    by_item : (b : Bool) → (if b then Some notes.Got else None) ≡ Some (notes.Died j) → ⊥
+    by_item true same = cc
+    by_item false same = cc
+
+-- an operation ends no transaction
+ends_same : (n : ℕ) (e : Effect) (s : Txs) (b : ℕ) (x : ℕ × List ℕ) → touched e ≡ Some x → (txs_by n e s).ends b ≡ s.ends b
+ends_same n effect.Begin s b x touch = cc
+ends_same n (effect.End c) s b x touch = cc
+ends_same n e s b x touch = refl
+
+-- a death that was noted is the answer
+noted_death : (p : Place) (a : Answer) (j : IntentId) → Some (answer.Aborted (record { place = p; holder = Some j })) ≡ death_in a → answer.Aborted (record { place = p; holder = Some j }) ≡ a
+noted_death p (answer.Aborted c) j h = same_some h
+noted_death p a j h = cc
+
+-- ---- the turns
+module _ (d : Deployment) (c : Core) (m : Rows) (i : ℕ) (r : Run) (g : Begun) (h : Right d c m) (live : map.get c.runs i ≡ Some r) (k : Knows d c.book h.known r g) (finds : Inside d m h.plain h.known r g)
+    (o : OpenTx) (tx : g.tx ≡ Some o) (here : tx_after d r.id k.instance k.answers ≡ Some (own_tx r.id r.func o)) (e : Effect) (is : g.machine.effect ≡ e) (x : ℕ × List ℕ) (on : item_of e ≡ Some x) where
+  abbrev own : TxId
+  own = own_tx r.id r.func o
+
+  abbrev item : Item
+  item = record { func = r.func; table = x.0; key = x.1 }
+
+  abbrev place : Place
+  place = place_of r.id g.machine.steps
+
+  abbrev Comes : Says → Rows → Type 0
+  Comes s n = Leaves d c m i r g h live k s n
+
+  -- its turn at a stage
+  abbrev Turns : TxAt → Type 0
+  Turns a = AfterQuery d h.plain c.now m (λ u. turn_next c i r (turned_by d r g (tx_here_says r.id g.machine.steps e a (Some o) u))) (tx_here_asks r.id r.func g.machine.steps e a (Some o))
+
+  -- .. by what it asks of its item
+  asks_it : (a : TxAt) → AfterQuery d h.plain c.now m (λ u. turn_next c i r (turned_by d r g (tx_here_says r.id g.machine.steps e a (Some o) u))) (item_asks r.func place own e x.0 x.1 a) → Turns a
+  asks_it a z = subst (λ y. AfterQuery d h.plain c.now m (λ u. turn_next c i r (turned_by d r g (tx_here_says r.id g.machine.steps e a (Some o) u))) (asks_of r.func place own e a y)) (sym on) z
+
+  touch : touched e ≡ Some x
+  touch = in_tx.touches e x on
+
+  -- ---- what it says leaves
+  -- it goes on in the operation; a lock may be ahead that was not
+  goes_at : (b : TxAt) (n : Rows) (after : IntentId → Bool) → SameRoots m n → Kept h n h.plain h.known after → Fits e b → InOperation d n h.plain h.known r.id r.func o g.machine.steps e b x → Comes (says.On (stage.Tx b) None) n
+  goes_at b n after roots kept fits at =
+      turns.stands_on d c m i r g h live k finds (stage.Tx b) n after refl roots kept
+      (subst (λ t. StageOk t r.id g.caller g.machine.effect (stage.Tx b)) (sym here) (subst (λ z. Fits z b) (sym is) fits))
+      (unmarked r.id g.machine.steps g.tx g.machine.effect b)
+      (subst (λ t. AtStage d n h.plain h.known r.id r.func t g.machine.steps g.machine.effect (stage.Tx b)) (sym tx)
+      (subst (λ z. InItem d n h.plain h.known r.id r.func o g.machine.steps z b (item_of z)) (sym is) (subst (InItem d n h.plain h.known r.id r.func o g.machine.steps e b) (sym on) at)))
+
+  -- it ends no transaction
+  frees_none : (n : Rows) → Freed d c m i r g h live k n
+  frees_none n u commit y begun ends owned = let clash = sym touch ∙ ap touched (sym is ∙ ends) in cc
+
+  -- it has the answer that is known
+  replays : (n : Rows) (a : Answer) (rest : List Answer) → k.later ≡ a ∷ rest → SameRoots m n → Stays h n → Comes (says.Answers a None) n
+  replays n a rest left roots kept = turns.answers_on d c m i r g h live k finds a rest n h.known h.locked k.instance roots kept k.made (grown_same k.instance)
+      (append_assoc k.answers (a ∷ []) rest ∙ in_tx.known_answers d c m r g h k o here e is x touch a rest left) (in_tx.wants_here d c m r g h k o here e is x touch) (frees_none n)
+
+  -- a row of another kind than an intent's was set
+  roots_set : (home : ℕ) (kind : Kind) (v : Option Row) → is_intent_key kind ≡ false → SameRoots m (set_row m (record { home = home; kind = kind }) v)
+  roots_set home kind v off t = ap is_some (set_others m (record { home = home; kind = kind }) v (root_key t) (no_root t home kind off))
+
+  -- what it finds where it asks for its lock
+  in_lock : (n : Rows) (l : LockAt) → OfBegin o.begin (at.Lock l) → (has_asked (at.Lock l) ≡ true → is_some (map.get n (lockset_key r.id o.begin item)) ≡ true) → InOperation d n h.plain h.known r.id r.func o g.machine.steps e (at.Lock l) x
+  in_lock n l begin asked = record { begin = begin; asked = asked; locked = tt; found = λ q made same. none_found e l (map.get n (shadow_key own item)) (value_at h.plain item) }
+
+  -- ---- its instance
+  steps : g.machine.steps ≡ length k.answers
+  steps = in_tx.steps d c m r g h k o here e is x touch
+
+  sane : SaneInstance d r.id k.instance
+  sane = in_tx.sane_instance d c m r g h k o here e is x touch
+
+  few : length k.answers < last_step
+  few = in_tx.short d c m r g h k o here e is x touch
+
+  touch_here : touched (effect_after d k.instance k.answers) ≡ Some x
+  touch_here = ap touched (in_tx.effect_so d c m r g h k o here e is x touch) ∙ touch
+
+  none_within : (j : IntentId) (z : Instance) → map.get h.known j ≡ Some z → z.within ≡ None
+  none_within j z made = called_outside d h.plain h.known h.beside j z made (legal_sane h)
+
+  abbrev its_item : Item
+  its_item = record { func = k.instance.func; table = x.0; key = x.1 }
+
+  same_item : its_item ≡ item
+  same_item = in_tx.same_item d c m r g h k o here e is x touch
+
+  -- ---- behind: the item's note is that of the known answer
+  module _ (a : Answer) (rest : List Answer) (left : k.later ≡ a ∷ rest) where
+    all : k.answers ++ a ∷ rest ≡ k.instance.answers
+    all = in_tx.known_answers d c m r g h k o here e is x touch a rest left
+
+    told_here : LockTold (place_of r.id (length k.answers)) a
+    told_here = told d m h.known h.locked h.rows r.id k.instance k.made sane k.answers a rest all few own here x touch_here
+
+    note_here_is : note_at (content_of m item).notes place ≡ Some told_here.note
+    unfolding told_here
+    note_here_is =
+        let locks = behind_locks d m h.known h.locked h.rows r.id k.instance k.made sane k.answers a rest all few own here x touch_here in
+        (λ i. note_at (content_of m (sym same_item i)).notes (place_of r.id (steps i))) ∙ told_note (place_of r.id (length k.answers)) own (content_of m its_item) (content_of m its_item) told_here.note locks.0
+
+    lockset_there : map.get m (lockset_key r.id o.begin item) ≡ None → ⊥
+    lockset_there none =
+        let asks = behind_asks d m h.known h.locked h.rows r.id k.instance k.made sane k.answers a rest all few own here x touch_here in
+        let absent : map.get m (lockset_key r.id o.begin its_item) ≡ None = ap (λ y. map.get m (lockset_key r.id o.begin y)) same_item ∙ none in
+        true_false (ap (λ z. z.1) (sym (ap put_lockset absent) ∙ asks))
+
+  -- ---- at the front
+  module _ (left : k.later ≡ []) where
+    abbrev place_now : Place
+    place_now = place_of r.id (length k.instance.answers)
+
+    at_place : place_now ≡ place
+    at_place = ap (place_of r.id) (sym (turns.step_here d c.book h.known r g k left))
+
+    -- what is said of the instance's item and next step is said of the run's
+    as_run : (P : Item → Place → Type 0) → P its_item place_now → P item place
+    as_run P z = subst (P item) at_place (subst (λ y. P y place_now) same_item z)
+
+    tx_is : tx_now d r.id k.instance ≡ Some own
+    tx_is = in_tx.tx_is d c m r g h k o here e is x touch left
+
+    front : IsFront d h.known r.id k.instance own x.0 x.1
+    front = in_tx.front d c m r g h k o here e is x touch left
+
+    not_ended : tx_end d h.known own ≡ None
+    not_ended = in_tx.not_ended d c m r g h k o here e is x touch left
+
+    few_now : length k.instance.answers < last_step
+    few_now = subst (λ (ts : List Answer). length ts < last_step) (turns.all_here d c.book h.known r g k left) few
+
+    no_decision_yet : map.get m (decision_key own) ≡ None
+    no_decision_yet = undecided d m h.known h.locked h.rows r.id k.instance k.made (none_within r.id k.instance k.made) own tx_is (in_tx.apart d c m r g h k o here e is x touch left)
+
+    -- without a note the lock is not ahead
+    not_locked : note_at (content_of m item).notes place ≡ None → h.locked r.id ≡ false
+    not_locked none = by_lock (h.locked r.id) refl
+      where
+        by_lock : (b : Bool) → h.locked r.id ≡ b → b ≡ false
+        by_lock false z = refl
+        by_lock true z =
+            let got = as_run (λ y q. note_at (content_of m y).notes q ≡ Some notes.Got) (lock_is_there d m h.known h.locked h.rows r.id k.instance k.made few_now its_item own tx_is (ap (is_item its_item k.instance.func) front.touch ∙ item_self k.instance.func x.0 x.1) z) in
+            let clash = sym none ∙ got in cc
+
+  -- ---- what was kept for a read
+  module _ (fits : Fits e at.Log) where
+    abbrev log_row : RowKey
+    log_row = log_key r.func place
+
+    is_read : effect_after d k.instance k.answers ≡ effect.Read x.0 x.1
+    is_read = in_tx.effect_so d c m r g h k o here e is x touch ∙ looks_read e x fits on
+
+    -- its row, as its instance has it
+    its_row : (n : ℕ) → g.machine.steps ≡ n → map.get m (log_key k.instance.func (place_of r.id n)) ≡ map.get m log_row
+    its_row n same = ap (map.get m) (λ j. log_key (k.func j) (place_of r.id (sym same j)))
+
+    behind_row : (a : Answer) (rest : List Answer) → k.later ≡ a ∷ rest → (w : Row) → map.get m log_row ≡ Some w → answer.Value (given_in w) ≡ a
+    behind_row a rest left w there = by_answer a left (subst (λ z. IsAnswer place (Some own) z a) (looks_read e x fits on) (in_tx.answers_so d c m r g h k o here e is x touch a rest left))
+      where
+        by_answer : (b : Answer) → k.later ≡ b ∷ rest → IsAnswer place (Some own) (effect.Read x.0 x.1) b → answer.Value (given_in w) ≡ b
+        by_answer (answer.Value v) left ok =
+            let row = behind_looks d m h.known h.locked h.rows r.id k.instance k.made sane k.answers (answer.Value v) rest (all (answer.Value v) rest left)
+            few x.0 x.1 v is_read refl in
+            ap (λ z. answer.Value (given_in z)) (same_some (sym there ∙ sym (its_row (length k.answers) steps) ∙ row))
+        by_answer (answer.Aborted z) left ok =
+            let row = behind_looks_dead d m h.known h.locked h.rows r.id k.instance k.made sane k.answers (answer.Aborted z) rest (all (answer.Aborted z) rest left)
+            few x.0 x.1 z is_read refl in
+            let clash = sym there ∙ sym (its_row (length k.answers) steps) ∙ row in cc
+        by_answer b left ok = absurd ok
+
+    by_row : (v : Option Row) → map.get m log_row ≡ v → Comes (tx_says at.Log (given_goes o.begin (given_of (said (act Look c.now v).1)))) m
+    by_row None there = goes_at (at.Lock (Lockset o.begin)) m h.locked (λ t. refl) (as_it_was h) (looks_lock e (Lockset o.begin) fits) (in_lock m (Lockset o.begin) refl (λ asked. cc))
+    by_row (Some w) there = by_later k.later refl
+      where
+        by_later : (later : List Answer) → k.later ≡ later → Comes (says.Answers (answer.Value (given_in w)) None) m
+        by_later [] left =
+            let none = no_row d m h.known h.locked h.rows r.id k.instance k.made in
+            let clash = sym there ∙ sym (its_row (length k.instance.answers) (turns.step_here d c.book h.known r g k left)) ∙ none in cc
+        by_later (a ∷ rest) left = subst (λ z. Comes (says.Answers z None) m) (sym (behind_row a rest left w there)) (replays m a rest left (λ t. refl) (as_it_was h))
+
+    pub log_turn : Turns at.Log
+    log_turn = asks_it at.Log (subst (λ n. Comes (tx_says at.Log (given_goes o.begin (given_of (said (act Look c.now (map.get m log_row)).1)))) n) (sym (looked c.now log_row m)) (by_row (map.get m log_row) refl))
+
+  -- ---- the row that says that the lock is asked for
+  abbrev lock_row : RowKey
+  lock_row = lockset_key r.id o.begin item
+
+  module _ (left : k.later ≡ []) where
+    abbrev asked_now : Rows
+    asked_now = set_row m lock_row (Some rows.Lockset)
+
+    asked_matches : Matches d asked_now h.known h.locked
+    asked_matches = subst (λ y. Matches d (set_row m (lockset_key r.id o.begin y) (Some rows.Lockset)) h.known h.locked) same_item
+        (lockset_put d h.known h.locked m h.rows r.id k.instance own x k.made (in_tx.open_still d c m r g h k o here e is x touch left) (tx_is left) (not_ended left) (front left).touch)
+
+    asked_lists : (y : Item) → listed asked_now y ≡ listed m y
+    asked_lists y = lists_same m asked_now y (content_apart m lock_row (Some rows.Lockset) y (kinds_apart is_data (head_key y) lock_row refl refl))
+        (λ t. elsewhere m lock_row (Some rows.Lockset) is_log (decision_key t) refl refl) (λ t. elsewhere m lock_row (Some rows.Lockset) is_shadow (shadow_key t y) refl refl)
+
+    asked_kept : Stays h asked_now
+    asked_kept = stays_by h asked_now (set_shadows m lock_row (Some rows.Lockset) refl) asked_matches (λ y. asked_lists y ∙ h.values y) (frame_lockset d m h.plain h.plain h.known h.known (items_stay d m h.plain h.plain h.known refl) own item (not_ended left))
+
+  module _ (fits : Fits e (at.Lock (Lockset o.begin))) where
+    by_lockset : (v : Option Row) → map.get m lock_row ≡ v → Comes (tx_says (at.Lock (Lockset o.begin)) (lock_leads place e (put_goes o.begin (said (act PutLockset c.now v).1)))) (set_row m lock_row (act PutLockset c.now v).0)
+    by_lockset None there = by_later k.later refl
+      where
+        by_later : (later : List Answer) → k.later ≡ later → Comes (says.On (stage.Tx (at.Lock (AtItem Try))) None) (set_row m lock_row (Some rows.Lockset))
+        by_later [] left = goes_at (at.Lock (AtItem Try)) (set_row m lock_row (Some rows.Lockset)) h.locked (roots_set r.func (kinds.Lockset r.id o.begin x.0 x.1) (Some rows.Lockset) refl) (asked_kept left)
+            (fits_lock e (Lockset o.begin) (AtItem Try) fits) (in_lock (set_row m lock_row (Some rows.Lockset)) (AtItem Try) tt (λ asked. ap is_some (set_here m lock_row (Some rows.Lockset))))
+        by_later (a ∷ rest) left = absurd (lockset_there a rest left there)
+    by_lockset (Some w) there = subst (λ n. Comes (says.On (stage.Tx (at.Lock (AtItem Try))) None) n) (sym (unchanged m lock_row (Some w) (sym there)))
+        (goes_at (at.Lock (AtItem Try)) m h.locked (λ t. refl) (as_it_was h) (fits_lock e (Lockset o.begin) (AtItem Try) fits) (in_lock m (AtItem Try) tt (λ asked. ap is_some there)))
+
+  pub lockset_turn : (b : ℕ) → OfBegin o.begin (at.Lock (Lockset b)) → Fits e (at.Lock (Lockset b)) → Turns (at.Lock (Lockset b))
+  lockset_turn b same fits = subst (λ z. Turns (at.Lock (Lockset z))) (sym same) (asks_it (at.Lock (Lockset o.begin)) (by_lockset (fits_lock e (Lockset b) (Lockset o.begin) fits) (map.get m lock_row) refl))
+
+  -- ---- the lock of the item
+  module _ (w : WriteAt) (fits : Fits e (at.Lock (AtItem w))) (asked : is_some (map.get m lock_row) ≡ true) (v : Option Row)
+      (stay : (p : Place) (u : Note) → note_at (content_of m item).notes p ≡ Some u → note_at (content_in v).notes p ≡ Some u) (there : is_some (map.get m (head_key item)) ≡ true → is_some v ≡ true) where
+    abbrev n : Rows
+    n = set_row m (head_key item) v
+
+    abbrev same : (l : RowKey) → is_eq (key_cmp l (head_key item)) ≡ false → map.get n l ≡ map.get m l
+    same = set_others m (head_key item) v
+
+    roots : SameRoots m n
+    roots = roots_set r.func (kinds.Data x.0 x.1 0) v refl
+
+    asked_still : is_some (map.get n lock_row) ≡ true
+    asked_still = ap is_some (elsewhere m (head_key item) v is_lockset lock_row refl refl) ∙ asked
+
+    row_there : is_some (map.get m (head_key item)) ≡ true → is_some (map.get n (head_key item)) ≡ true
+    row_there was = ap is_some (set_here m (head_key item) v) ∙ there was
+
+    notes_on : (p : Place) (u : Note) → note_at (content_of m item).notes p ≡ Some u → note_at (content_of n item).notes p ≡ Some u
+    notes_on p u was = ap (λ (z : Content). note_at z.notes p) (content_here m v item) ∙ stay p u was
+
+    -- what it finds past its lock
+    in_past : (b : TxAt) → OfBegin o.begin b → HasLock b place (content_of n item) → ((y : Option Row) (u : Value) → Found e b y u) → InOperation d n h.plain h.known r.id r.func o g.machine.steps e b x
+    in_past b begin has found = record { begin = begin; asked = λ past. asked_still; locked = has; found = λ q made now. found (map.get n (shadow_key own item)) (value_at h.plain item) }
+
+    module _ (sound : SoundAt (map.get n (head_key item))) where
+      fits_row : SoundAt v
+      fits_row = subst SoundAt (set_here m (head_key item) v) sound
+
+      -- the item holds what it held
+      as_held : content_of n item ≡ content_of m item → Stays h n
+      as_held whole = stays_by h n (set_shadows m (head_key item) v refl) (content_kept d m n item same h.known h.locked sound whole h.rows) (λ y. others_list m n item same y (contents_kept d m n item same whole y) ∙ h.values y)
+          (frame_held d m h.plain h.plain h.known h.known (items_stay d m h.plain h.plain h.known refl) n item same row_there whole)
+
+      tries : (u : WriteAt) → content_of n item ≡ content_of m item → Comes (says.On (stage.Tx (at.Lock (AtItem u))) None) n
+      tries u whole = goes_at (at.Lock (AtItem u)) n h.locked roots (as_held whole) (fits_lock e (AtItem w) (AtItem u) fits) (in_lock n (AtItem u) tt (λ past. asked_still))
+
+      -- a note of another kind is not of the lock: it stays where it is
+      other_note : (u : Note) (first : Bool) → is_locks u ≡ false → note_at (content_of n item).notes place ≡ Some u → DidOnce place (ByTx own) Lock first (content_of m item) (content_of n item) → Comes (says.On (stage.Tx (at.Lock (AtItem w))) None) n
+      other_note u true off there l = absurd (not_new (dies (ByTx own) Lock (content_of m item).owner) u off (new_note place (ByTx own) (content_of m item) (content_of n item) (dies (ByTx own) Lock (content_of m item).owner) u l.1 l.0 there))
+      other_note u false off there whole = tries w whole
+
+      -- with its lock it goes on
+      goes_past : (after : IntentId → Bool) → Kept h n h.plain h.known after → note_at (content_of n item).notes place ≡ Some notes.Got → Comes (tx_says (at.Lock (AtItem w)) (locked_goes e)) n
+      goes_past after kept got = by_effect e refl
+        where
+          by_effect : (f : Effect) → f ≡ e → Comes (tx_says (at.Lock (AtItem w)) (locked_goes f)) n
+          by_effect (effect.Read t y) f = goes_at at.Shadow n after roots kept (subst (λ z. Fits z at.Shadow) f tt) (in_past at.Shadow tt got (λ z u. subst (λ q. Found q at.Shadow z u) f tt))
+          by_effect (effect.Write t y u) f = goes_at (at.Write Try) n after roots kept (subst (λ z. Fits z (at.Write Try)) f tt) (in_past (at.Write Try) tt got (λ z u. subst (λ q. Found q (at.Write Try) z u) f tt))
+          by_effect (effect.CondWrite t y l p u) f = goes_at at.Shadow n after roots kept (subst (λ z. Fits z at.Shadow) f tt) (in_past at.Shadow tt got (λ z u. subst (λ q. Found q at.Shadow z u) f tt))
+          by_effect f same = let clash = ap item_of same ∙ on in cc
+
+      -- ---- at the front, where the place had no note
+      module _ (left : k.later ≡ []) (none : note_at (content_of m item).notes place ≡ None) where
+        unlocked : h.locked r.id ≡ false
+        unlocked = not_locked left none
+
+        -- the lock is taken
+        module _ (free : other_owner (ByTx own) (content_of m item).owner ≡ None) (did : content_of n item ≡ done_to place (ByTx own) Lock (content_of m item)) where
+          row_did : content_in v ≡ done_to place (ByTx own) Lock (content_of m item)
+          row_did = sym (content_here m v item) ∙ did
+
+          abbrev taken : IntentId → Bool
+          taken = lock_in h.locked r.id
+
+          taken_more : (j : IntentId) → h.locked j ≡ true → taken j ≡ true
+          taken_more j was = by_test (is_eq (id_cmp j r.id))
+            where
+              by_test : (b : Bool) → (if b then true else h.locked j) ≡ true
+              by_test true = refl
+              by_test false = was
+
+          taken_matches : Matches d n h.known taken
+          taken_matches = as_run left (λ y p. note_at (content_of m y).notes p ≡ None → other_owner (ByTx own) (content_of m y).owner ≡ None
+              → content_in v ≡ record { value = (content_of m y).value; owner = Some (ByTx own); notes = (content_of m y).notes ++ (p, notes.Got) ∷ [] } → Matches d (set_row m (head_key y) v) h.known taken)
+              (λ none free did. lock_did d h.known h.locked r.id k.instance k.made unlocked own (tx_is left) x (front left).touch m v fits_row none free did h.rows) none free row_did
+
+          taken_frame : Frame d m n h.plain h.plain h.known h.known
+          taken_frame = frame_item d m h.plain h.plain h.known h.known (items_stay d m h.plain h.plain h.known refl) n item same row_there notes_on
+              (λ t z ended owned. let mine : own ≡ t = same_owner (sym (ap (λ (z : Content). z.owner) did) ∙ owned) in let clash = sym (not_ended left) ∙ ap (tx_end d h.known) mine ∙ ended in cc)
+            where
+              same_owner : {s t : TxId} → Some (ByTx s) ≡ Some (ByTx t) → s ≡ t
+              same_owner same = cc
+
+          taken_kept : Kept h n h.plain h.known taken
+          taken_kept = kept_by d c m n h h.plain h.known taken
+              (record {
+                goes = record { beside = h.beside; shadows = rows_go d m n h.plain h.known h.locked taken taken_more (set_shadows m (head_key item) v refl) h.shadows };
+                locked_at_ends = ahead_front d h.known h.locked h.locked_at_ends r.id k.instance own x.0 x.1 (front left) sane;
+                sane = h.sane;
+                rows = taken_matches;
+                values = λ y. did_lists m own (no_decision_yet left) item v free (ap (λ (z : Content). z.value) row_did) (ap (λ (z : Content). z.owner) row_did) y ∙ h.values y;
+                settled = settled_rows d m n h.plain h.plain h.known h.known taken_frame (settled h);
+              }) (grows_self h.known) taken_frame
+
+        -- it dies: it has that answer from now on
+        module _ (j : IntentId) (dead : dies (ByTx own) Lock (content_of m item).owner ≡ Some j) (did : content_of n item ≡ died_at place j (content_of m item)) where
+          row_died : content_in v ≡ died_at place j (content_of m item)
+          row_died = sym (content_here m v item) ∙ did
+
+          holder : Holder (content_of m item).owner j
+          holder = (dies_so place own (content_of m item) j none dead).1
+
+          abbrev cause : Cause
+          cause = record { place = place_now left; holder = Some j }
+
+          abbrev a : Answer
+          a = answer.Aborted cause
+
+          abbrev next : Known
+          next = map.insert h.known r.id (moved d r.id k.instance a)
+
+          released_now : Released d m h.known r.id (length k.instance.answers)
+          released_now = subst (Released d m h.known r.id) (turns.step_here d c.book h.known r g k left) finds.released
+
+          is_death : IsDeath (place_now left) own cause
+          is_death = death_is_older d h.known h.sane h.locked r.id k.instance own x.0 x.1 (front left) item (content_of m item) (h.rows.items item)
+              (only_one d m h.known h.locked h.rows none_within r.id k.instance k.made own (tx_is left) (in_tx.apart d c m r g h k o here e is x touch left) released_now item)
+              (place_now left) (died_at (place_now left) j (content_of m item)) j (dies_so (place_now left) own (content_of m item) j (subst (λ p. note_at (content_of m item).notes p ≡ None) (sym (at_place left)) none) dead).0
+
+          died_goes : Goes d n h.plain next h.locked
+          died_goes = let b = in_tx.begun d c m r g h k o here e is x touch left in
+              death_goes d m h.plain h.known h.locked h.shadows h.beside h.rows r.id b.0 k.instance b.1.made b.1.begun b.1.outside own x.0 x.1 (front left) sane h.locked (none_out h.locked r.id unlocked)
+              (head_key item) v cause refl unlocked (death_answer (place_now left) own (effect_of d k.instance) x cause (front left).touch is_death)
+
+          died_matches : Matches d n next h.locked
+          died_matches = subst (λ y. Matches d (set_row m (head_key y) v) next h.locked) same_item
+              (dies_inside d h.known h.locked h.locked r.id k.instance k.made (none_out h.locked r.id unlocked) own (tx_is left) m h.rows x.0 x.1 j v (front left).touch
+              (subst (λ y. map.get m (lockset_key r.id o.begin y) ≡ Some rows.Lockset) (sym same_item) (lockset_is (map.get m lock_row) (owed_lockset d o.begin item r.id (map.get h.known r.id)) (lockset_ahead d h.known o.begin item r.id (map.get h.known r.id)) (h.rows.keys lock_row) asked))
+              unlocked fits_row (back (λ y p. note_at (content_of m y).notes p ≡ None) none) (back (λ y p. content_in v ≡ with_note (content_of m y) p (notes.Died j)) row_died))
+            where
+              back : (P : Item → Place → Type 0) → P item place → P its_item (place_now left)
+              back P z = subst (λ y. P y (place_now left)) (sym same_item) (subst (P item) (sym (at_place left)) z)
+
+          -- no transaction of the instance ended there
+          not_there : (t : TxId) (z : ℕ × Bool) → tx_end d next t ≡ Some z → place ≡ end_place t z.0 → ⊥
+          not_there t z ended at_end =
+              let mine : r.id ≡ t.intent = ap (λ (p : Place). p.intent) at_end in
+              let its : map.get next t.intent ≡ Some (moved d r.id k.instance a) = ap (map.get next) (sym mine) ∙ inserted h.known r.id (moved d r.id k.instance a) in
+              let was : end_of d k.instance t.begin ≡ Some z = sym ((moved_one d r.id k.instance a).ends t.begin ∙ ends_same (length k.instance.answers) (effect_of d k.instance) (txs_after d k.instance k.instance.answers) t.begin x (front left).touch)
+              ∙ sym (ap (ended_by d t.begin) its) ∙ ended in
+              let less = (ended_at d k.instance t.begin z was).before in
+              let step : g.machine.steps ≡ z.0 = ap (λ (p : Place). p.step) at_end in
+              let last = turns.step_here d c.book h.known r g k left in
+              omega (arith, less, step, last)
+
+          died_frame : Frame d m n h.plain h.plain h.known next
+          died_frame = frame_item d m h.plain h.plain h.known next (items_stay d m h.plain h.plain next refl) n item same row_there notes_on
+              (λ t z ended owned. record {
+                owner = ap (λ (y : Content). y.owner) (sym did) ∙ owned;
+                note = ap (λ (y : Content). note_at y.notes (end_place t z.0)) did ∙ note_pushed (content_of m item).notes place (end_place t z.0) (notes.Died j) none ∙ off t z ended (place_eq place (end_place t z.0)) refl;
+              })
+            where
+              off : (t : TxId) (z : ℕ × Bool) → tx_end d next t ≡ Some z → (b : Bool) → place_eq place (end_place t z.0) ≡ b → (if b then Some (notes.Died j) else note_at (content_of m item).notes (end_place t z.0)) ≡ note_at (content_of m item).notes (end_place t z.0)
+              off t z ended true at_end = absurd (not_there t z ended (place_same place (end_place t z.0) at_end))
+              off t z ended false other = refl
+
+          died_kept : Kept h n h.plain next h.locked
+          died_kept = kept_by d c m n h h.plain next h.locked
+              (record {
+                goes = died_goes;
+                locked_at_ends = ahead_set d h.known h.locked h.locked_at_ends h.locked r.id (moved d r.id k.instance a) (none_out h.locked r.id unlocked);
+                sane = sane_died d h.known h.sane r.id k.instance k.made own x cause (tx_is left) (front left).touch is_death;
+                rows = died_matches;
+                values = λ y. died_lists m own (no_decision_yet left) item v (ap (λ (z : Content). z.value) row_died) (ap (λ (z : Content). z.owner) row_died) y ∙ h.values y;
+                settled = settled_rows d m n h.plain h.plain h.known next died_frame
+                    (settled_operated d m h.plain h.known r.id k.instance k.made a x (front left).touch
+                    (λ z u same by. subst (λ y. is_some (map.get h.plain.made y) ≡ true) (same_some (ap (λ (y : Cause). y.holder) (one_cause same) ∙ by)) (holder_made d m h.known h.locked h.rows none_within h.plain h.beside item j holder)) (settled h));
+              }) (grows_moved d h.known r.id k.instance a k.made) died_frame
+
+          dies_now : Comes (says.Answers (answer.Aborted (record { place = place; holder = Some j })) None) n
+          dies_now = let more = moved_more d r.id k.instance a in
+              subst (λ p. Comes (says.Answers (answer.Aborted (record { place = p; holder = Some j })) None) n) (at_place left)
+              (turns.answers_on d c m i r g h live k finds a more.more n next h.locked (moved d r.id k.instance a) roots died_kept (inserted h.known r.id (moved d r.id k.instance a)) (grown_moved d r.id k.instance a)
+              (ap (λ ts. (ts ++ a ∷ []) ++ more.more) (turns.all_here d c.book h.known r g k left) ∙ more.same) (in_tx.wants_here d c m r g h k o here e is x touch) (frees_none n))
+
+      -- ---- what the lock told
+      -- where the place had no note, it is at the front
+      at_front : note_at (content_of m item).notes place ≡ None → k.later ≡ []
+      at_front none = by_later k.later refl
+        where
+          by_later : (later : List Answer) → k.later ≡ later → later ≡ []
+          by_later [] left = refl
+          by_later (a ∷ rest) left = let clash = sym none ∙ note_here_is a rest left in cc
+
+      taken_now : note_at (content_of m item).notes place ≡ None → (j : Option IntentId) → dies (ByTx own) Lock (content_of m item).owner ≡ j → DidAs place (ByTx own) Lock j (content_of m item) (content_of n item)
+          → note_at (content_of n item).notes place ≡ Some notes.Got → Comes (tx_says (at.Lock (AtItem w)) (locked_goes e)) n
+      taken_now none None alive did got = let left = at_front none in goes_past (lock_in h.locked r.id) (taken_kept left none (free_of own (content_of m item).owner did.0 alive) did.1) got
+      taken_now none (Some j) dead did got = let clash : notes.Got ≡ notes.Died j = new_note place (ByTx own) (content_of m item) (content_of n item) (Some j) notes.Got did none got in cc
+
+      died_now : note_at (content_of m item).notes place ≡ None → (j : IntentId) (b : Option IntentId) → dies (ByTx own) Lock (content_of m item).owner ≡ b → DidAs place (ByTx own) Lock b (content_of m item) (content_of n item)
+          → note_at (content_of n item).notes place ≡ Some (notes.Died j) → Comes (says.Answers (answer.Aborted (record { place = place; holder = Some j })) None) n
+      died_now none j None alive did there = let clash : notes.Died j ≡ notes.Got = new_note place (ByTx own) (content_of m item) (content_of n item) None (notes.Died j) did none there in cc
+      died_now none j (Some i) dead did there = subst (λ z. Comes (says.Answers (answer.Aborted (record { place = place; holder = Some z })) None) n)
+          (one_death (new_note place (ByTx own) (content_of m item) (content_of n item) (Some i) (notes.Died j) did none there)) (dies_now (at_front none) none i dead did)
+
+      -- a death that was there is the known answer
+      died_before : (j : IntentId) → content_of n item ≡ content_of m item → note_at (content_of m item).notes place ≡ Some (notes.Died j) → Comes (says.Answers (answer.Aborted (record { place = place; holder = Some j })) None) n
+      died_before j whole there = by_later k.later refl
+        where
+          by_later : (later : List Answer) → k.later ≡ later → Comes (says.Answers (answer.Aborted (record { place = place; holder = Some j })) None) n
+          by_later [] left = absurd (none_dead its_item k.instance.func (tx_now d r.id k.instance) (effect_of d k.instance) (h.locked r.id) j
+              (sym (note_is_ahead d m h.known h.locked h.rows r.id k.instance k.made (few_now left) its_item) ∙ (λ i. note_at (content_of m (same_item i)).notes (at_place left i)) ∙ there))
+          by_later (a ∷ rest) left =
+              let noted_so : (told_here a rest left).note ≡ notes.Died j = same_some (sym (note_here_is a rest left) ∙ there) in
+              let same : answer.Aborted (record { place = place_of r.id (length k.answers); holder = Some j }) ≡ a = noted_death (place_of r.id (length k.answers)) a j (ap (λ u. lock_answer (place_of r.id (length k.answers)) (noted u)) (sym noted_so) ∙ (told_here a rest left).says) in
+              subst (λ z. Comes (says.Answers z None) n) (sym same ∙ ap (λ q. answer.Aborted (record { place = place_of r.id q; holder = Some j })) (sym steps)) (replays n a rest left roots (as_held whole))
+
+      by_note : (u : Note) (first : Bool) → note_at (content_of n item).notes place ≡ Some u → DidOnce place (ByTx own) Lock first (content_of m item) (content_of n item) → Comes (tx_says (at.Lock (AtItem w)) (lock_leads place e (note_goes w u first))) n
+      by_note notes.Got true got l = taken_now l.0 (dies (ByTx own) Lock (content_of m item).owner) refl l.1 got
+      by_note notes.Got false got whole = goes_past h.locked (as_held whole) got
+      by_note (notes.Died j) true there l = died_now l.0 j (dies (ByTx own) Lock (content_of m item).owner) refl l.1 there
+      by_note (notes.Died j) false there whole = died_before j whole (ap (λ (z : Content). note_at z.notes place) (sym whole) ∙ there)
+      by_note notes.Wrote first there l = other_note notes.Wrote first refl there l
+      by_note (notes.Cond b) first there l = other_note (notes.Cond b) first refl there l
+      by_note notes.Freed first there l = other_note notes.Freed first refl there l
+
+      by_goes : (z : WriteGoes) → Logs place (ByTx own) Lock (walk_so z) (content_of m item) (content_of n item) → Comes (tx_says (at.Lock (AtItem w)) (lock_leads place e (item_goes w z))) n
+      by_goes (writes.On u) whole = tries u whole
+      by_goes (writes.Done u first) l = by_note u first l.0 l.1
+      by_goes writes.NotOwner l = tries w l.2
+      by_goes (writes.Held u) l = turns.held d c m i r g h live k u n roots (as_held l.2)
+
+  -- .. by the act of its walk
+  module _ (w : WriteAt) (fits : Fits e (at.Lock (AtItem w))) (asked : is_some (map.get m lock_row) ≡ true) where
+    abbrev walk : WriteWalk
+    walk = record { home = r.func; item = Plain x.0 x.1; place = place; who = ByTx own; op = Lock; at = w }
+
+    abbrev item_row : Option Row
+    item_row = map.get m (head_key item)
+
+    acts : (b : Act) → (z : WriteGoes) → LoggedTurn walk m (set_row m (head_key item) (act b c.now item_row).0) (walk_so z) → Comes (tx_says (at.Lock (AtItem w)) (lock_leads place e (item_goes w z))) (set_row m (head_key item) (act b c.now item_row).0)
+    acts b z logged = by_goes w fits asked (act b c.now item_row).0 (notes_stay b c.now item_row) (act_stays b c.now item_row) logged.sound z logged.logs
+
+    abbrev asked_of : WriteAt → Query
+    asked_of u = write_asks (head_key item) place (ByTx own) Lock u
+
+    by_try : (u : WriteAt) → Comes (tx_says (at.Lock (AtItem w)) (lock_leads place e (item_goes w (write_goes notes.Got (told_by (asked_of u) c.now m))))) (rows_after (asked_of u) c.now m)
+    by_try Try = acts (op_act place (ByTx own) Lock) (write_goes notes.Got (told_by (asked_of Try) c.now m)) (by_op walk m (rows_after (asked_of Try) c.now m) (h.rows.keys (head_key item)) Try c.now refl)
+    by_try Make = acts (MakeCell value.Null None) (write_goes notes.Got (told_by (asked_of Make) c.now m)) (by_op walk m (rows_after (asked_of Make) c.now m) (h.rows.keys (head_key item)) Make c.now refl)
+
+  pub lock_turn : (l : LockAt) → Fits e (at.Lock l) → InOperation d m h.plain h.known r.id r.func o g.machine.steps e (at.Lock l) x → Turns (at.Lock l)
+  lock_turn (Lockset b) fits found = lockset_turn b found.begin fits
+  lock_turn (AtItem w) fits found = asks_it (at.Lock (AtItem w)) (by_try w fits (found.asked refl) w)

@@ -1,0 +1,704 @@
+-- The turns of an operation inside a transaction, past its lock: it looks at its shadow and at the item, keeps what it read, and makes and writes its shadow.
+use Rattle.std.proofs.Common.{◌≡◌, ◌⊎◌, inl, inr, ℕ, Bool, true, false, List, [], ◌∷◌, ◌++◌, length, Option, None, Some, refl, ap, sym, ◌∙◌, subst, is_some, append_assoc, if◌then◌else◌}
+use Rattle.std.specs.FinMap as map
+use Rattle.std.specs.Ordering.{is_eq}
+use Rattle.std.proofs.lemmas.Cmp.{tied_itself}
+use Rattle.beldi_value.specs.Id.{id_cmp, id_total}
+use Rattle.beldi_value.specs.Passes.{passes}
+use Rattle.beldi_value.specs.declared.id.IntentId.{IntentId}
+use Rattle.beldi_value.specs.declared.outcome.Cause.{Cause}
+use Rattle.beldi_value.specs.declared.place.Owner.{Owner}
+use Rattle.beldi_value.specs.declared.place.Owner.TheVariants.{Tx as ByTx}
+use Rattle.beldi_value.specs.declared.place.Place.{Place}
+use Rattle.beldi_value.specs.declared.place.TxId.{TxId}
+use Rattle.beldi_value.specs.declared.rel.Rel.{Rel}
+use Rattle.beldi_value.specs.declared.value.Value.{Value}
+use Rattle.beldi_value.specs.declared.value.Value.TheVariants as value
+use Rattle.beldi_tree.specs.declared.deployment.Deployment.{Deployment}
+use Rattle.beldi_lang.specs.declared.effect.Answer.{Answer}
+use Rattle.beldi_lang.specs.declared.effect.Answer.TheVariants as answer
+use Rattle.beldi_lang.specs.declared.effect.Effect.{Effect}
+use Rattle.beldi_lang.specs.declared.effect.Effect.TheVariants as effect
+use Rattle.beldi_book.specs.Order.{count_changes}
+use Rattle.beldi_row.specs.Act.{Tell, act, stays, other_owner, no_row, on_cell, at_tail, unless_held, noted_or as cell_noted, next_or, held_or as cell_held, entered, cond_to, did as was_did, noted as said_noted}
+use Rattle.beldi_row.specs.Log.{note_at}
+use Rattle.beldi_row.specs.Table.{Rows, set_row}
+use Rattle.beldi_row.specs.declared.act.Act.TheVariants.{Look, PutRead, MakeCell, WriteCell, CondCell}
+use Rattle.beldi_row.specs.declared.key.RowKey.{RowKey}
+use Rattle.beldi_row.specs.declared.key.Kind.{Kind}
+use Rattle.beldi_row.specs.declared.key.Kind.TheVariants as kinds
+use Rattle.beldi_row.specs.declared.notes.Note.{Note}
+use Rattle.beldi_row.specs.declared.notes.Note.TheVariants as note
+use Rattle.beldi_row.specs.declared.row.Cell.{Cell}
+use Rattle.beldi_row.specs.declared.row.Row.{Row}
+use Rattle.beldi_row.specs.declared.row.Row.TheVariants as rows
+use Rattle.beldi_row.proofs.Logs.{once_pushed}
+use Rattle.beldi_row.proofs.Unchanged.{unchanged, looked}
+use Rattle.beldi_walk.specs.Query.{said}
+use Rattle.beldi_daal.specs.Cell.{read_goes, write_goes}
+use Rattle.beldi_daal.specs.Content.{Content, content_in, SoundAt}
+use Rattle.beldi_daal.specs.declared.cell.ReadGoes.TheVariants as reads
+use Rattle.beldi_daal.specs.declared.cell.WriteAt.{WriteAt}
+use Rattle.beldi_daal.specs.declared.cell.WriteAt.TheVariants.{Try, Make}
+use Rattle.beldi_readlog.specs.ReadLog.{log_key}
+use Rattle.beldi_txn.specs.declared.tx.TxAt.{TxAt}
+use Rattle.beldi_txn.specs.declared.tx.TxAt.TheVariants as at
+use Rattle.beldi_txn.specs.Tx.{item_of, item_goes, item_leads, shadow_read, head_goes, head_made, keep_goes, write_leads, note_goes}
+use Rattle.beldi_txn.specs.Tx as txn
+use Rattle.beldi_txn.specs.TxTurn.{Fits, shadow_value}
+use Rattle.beldi_txn.proofs.TxTurn.{shadow_told}
+use Rattle.beldi_plain.specs.Item.{Item}
+use Rattle.beldi_plain.specs.Operation.{touched}
+use Rattle.beldi_plain.specs.Plain.{Instance, value_at, effect_of}
+use Rattle.beldi_order.specs.Sane.{IsAnswer}
+use Rattle.beldi_order.specs.Txs.{tx_after, tx_now}
+use Rattle.beldi_order.proofs.Entries.{grows_self}
+use Rattle.beldi_order.proofs.Maps as maps
+use Rattle.beldi_intent.specs.Intent.{root_key}
+use Rattle.beldi_step.specs.declared.run.Begun.{Begun}
+use Rattle.beldi_step.specs.declared.run.OpenTx.{OpenTx}
+use Rattle.beldi_step.specs.declared.run.Run.{Run}
+use Rattle.beldi_step.specs.declared.run.Says.{Says}
+use Rattle.beldi_step.specs.declared.run.Says.TheVariants as says
+use Rattle.beldi_step.specs.declared.run.Stage.TheVariants as stage
+use Rattle.beldi_step.specs.Host.{Core, turn_next}
+use Rattle.beldi_step.specs.Run.{own_tx, place_of, stage_asks, stage_says, turned_by, tx_here_asks, tx_here_says, tx_says}
+use Rattle.beldi_step.specs.Tables.{decision_key, value_in}
+use Rattle.beldi_known.specs.Acts.{noted, did, tested, noted_or, held_or, lock_or, lock_answer, write_on, test_on}
+use Rattle.beldi_known.specs.Contents.{content_of, head_key, lockset_key, shadow_key, shadow_of}
+use Rattle.beldi_known.specs.Frame.{LockedOut}
+use Rattle.beldi_known.specs.Beside.{is_begin}
+use Rattle.beldi_known.specs.InsideLaws.{Goes, IsOpen}
+use Rattle.beldi_known.specs.Known.{Known, got_by, moved, owed_lockset}
+use Rattle.beldi_known.specs.Laws.{IsFront}
+use Rattle.beldi_known.specs.Listed.{listed, listed_under}
+use Rattle.beldi_known.specs.Matches.{Matches, LocksetMatches, lockset_ahead}
+use Rattle.beldi_known.specs.Sane.{Sane}
+use Rattle.beldi_known.specs.Shadows.{writes_on}
+use Rattle.beldi_known.proofs.Acts.{content_apart, kinds_apart, is_data}
+use Rattle.beldi_known.proofs.Ahead.{ahead_set}
+use Rattle.beldi_known.proofs.AtFront.{no_row as no_log, no_shadow_note}
+use Rattle.beldi_known.proofs.Behind.{behind_looks, behind_locks, behind_writes, behind_tests, death_in}
+use Rattle.beldi_known.proofs.Inside.{read_inside, write_inside, test_inside, shadow_made}
+use Rattle.beldi_known.proofs.Insides.{front_tx, front_got, first_row, read_goes as read_shows, write_goes as write_shows, test_goes as test_shows}
+use Rattle.beldi_known.proofs.Leads.{item_self}
+use Rattle.beldi_known.proofs.Lists.{shadow_lists}
+use Rattle.beldi_known.proofs.OneFunction.{listed_open, undecided}
+use Rattle.beldi_known.proofs.ReadLists.{read_lists}
+use Rattle.beldi_known.proofs.Rows.{is_intent_key, no_root, set_here, set_others}
+use Rattle.beldi_known.proofs.Sanes.{sane_read, sane_wrote, sane_tested}
+use Rattle.beldi_known.proofs.Told.{write_parts, test_parts}
+use Rattle.beldi_laws.specs.Right.{Right, Knows, StageOk, MarkOk}
+use Rattle.beldi_laws.specs.Inside.{AtStage, Found, Frame, InItem, InOperation, Inside}
+use Rattle.beldi_laws.proofs.Frames.{is_lockset, frame_row, frame_shadow, items_stay, settled_operated, settled_rows}
+use Rattle.beldi_laws.proofs.Grown.{grown_moved, grown_same, grows_moved, moved_more}
+use Rattle.beldi_laws.proofs.InTx.{touches, opens, same_item, steps, effect_so, wants_here, short, sane_instance, outside, known_answers, answers_so, at_front, now, tx_is, front, apart, not_ended, begun, was_locked}
+use Rattle.beldi_laws.proofs.Keeping.{as_it_was}
+use Rattle.beldi_laws.proofs.Moves.{AfterQuery, AfterTurn, SameRoots, Kept}
+use Rattle.beldi_laws.proofs.Others.{kept_by}
+use Rattle.beldi_laws.proofs.Outside.{called_outside}
+use Rattle.beldi_laws.proofs.Shown.{legal_sane, settled}
+use Rattle.beldi_laws.proofs.Turns.{all_here, step_here, stands_on, answers_on, stays_on}
+
+-- ---- small facts
+-- a run at an operation is to decide nothing
+no_mark : (id : IntentId) (step : ℕ) (o : Option OpenTx) (e : Effect) (b : TxAt) → MarkOk id step o e (stage.Tx b)
+no_mark id step (Some o) (effect.End commit) b = tt
+no_mark id step o e b = tt
+
+-- the answer to an operation inside that did not die
+read_is : (p : Place) (s : TxId) (t : ℕ) (key : List ℕ) (a : Answer) → IsAnswer p (Some s) (effect.Read t key) a → death_in a ≡ None → (w : Value) × (a ≡ answer.Value w)
+read_is p s t key (answer.Value w) fits lives = (w, refl)
+read_is p s t key (answer.Aborted z) fits lives = cc
+read_is p s t key a fits lives = absurd fits
+
+write_is : (p : Place) (s : TxId) (t : ℕ) (key : List ℕ) (v : Value) (a : Answer) → IsAnswer p (Some s) (effect.Write t key v) a → death_in a ≡ None → a ≡ answer.Done
+write_is p s t key v answer.Done fits lives = refl
+write_is p s t key v (answer.Aborted z) fits lives = cc
+write_is p s t key v a fits lives = absurd fits
+
+test_is : (p : Place) (s : TxId) (t : ℕ) (key : List ℕ) (u : Rel) (w v : Value) (a : Answer) → IsAnswer p (Some s) (effect.CondWrite t key u w v) a → death_in a ≡ None → (b : Bool) × (a ≡ answer.Value (value.Bool b))
+test_is p s t key u w v (answer.Value (value.Bool b)) fits lives = (b, refl)
+test_is p s t key u w v (answer.Aborted z) fits lives = cc
+test_is p s t key u w v a fits lives = absurd fits
+
+-- a lock that was ahead of its answer is so no more
+abbrev pub lock_out : (IntentId → Bool) → IntentId → IntentId → Bool
+lock_out locked id j = if is_eq (id_cmp j id) then false else locked j
+
+pub locked_out : (locked : IntentId → Bool) (id : IntentId) → LockedOut locked (lock_out locked id) id
+locked_out locked id = record { out = ap (λ b. if is_eq b then false else locked id) (tied_itself id_total id); others = λ j other. ap (λ b. if b then false else locked j) other }
+
+-- a note that is told is there
+note_told : (c : Content) (n : Option Note) (w : Note) → noted_or c n (c, did) ≡ (c, noted w) → n ≡ Some w
+note_told c None w h = let e = ap (λ z. z.1) h in cc
+note_told c (Some v) w h = let e = ap (λ z. z.1) h in cc
+
+-- a lockset row is one
+lockset_is : (v : Option Row) (owed ahead : Bool) → LocksetMatches v owed ahead → is_some v ≡ true → v ≡ Some rows.Lockset
+lockset_is None owed ahead h there = cc
+lockset_is (Some rows.Lockset) owed ahead h there = refl
+lockset_is (Some (rows.Intent i)) owed ahead h there = absurd h
+lockset_is (Some (rows.ReadLog v)) owed ahead h there = absurd h
+lockset_is (Some (rows.Invoke i)) owed ahead h there = absurd h
+lockset_is (Some (rows.Cell z)) owed ahead h there = absurd h
+
+-- what a write does to a row of its shadow
+abbrev on_shadow : Place → Owner → (Cell → Cell × Tell) → Option Row → Option Row × Tell
+on_shadow p w does None = (None, no_row)
+on_shadow p w does (Some v) = stays (on_cell (λ z. at_tail p z (unless_held w z (does z))) no_row v)
+
+abbrev wrote : Place → Value → Cell → Cell × Tell
+wrote p v z = (entered p note.Wrote v z.owner z, was_did)
+
+abbrev tries : Place → Rel → Value → Value → Cell → Cell × Tell
+tries p u w v z = cond_to (passes z.value u w) p v z
+
+write_acts : (p : Place) (w : Owner) (v : Value) (t : ℕ) (y : Option Row) → act (WriteCell p w v) t y ≡ on_shadow p w (wrote p v) y
+write_acts p w v t None = refl
+write_acts p w v t (Some y) = refl
+
+test_acts : (p : Place) (w : Owner) (u : Rel) (y v : Value) (t : ℕ) (z : Option Row) → act (CondCell p w u y v) t z ≡ on_shadow p w (tries p u y v) z
+test_acts p w u y v t None = refl
+test_acts p w u y v t (Some z) = refl
+
+-- the stages past the lock
+abbrev pub is_past : TxAt → Bool
+is_past at.Log = false
+is_past (at.Lock w) = false
+is_past b = true
+
+-- past its lock: the row that asks for it is there, and the place has the lock
+pub record HasLocked (m : Rows) (r : Run) (o : OpenTx) (step : ℕ) (x : ℕ × List ℕ) : Type 0 where
+  pub asked : is_some (map.get m (lockset_key r.id o.begin (record { func = r.func; table = x.0; key = x.1 }))) ≡ true
+  pub got : note_at (content_of m (record { func = r.func; table = x.0; key = x.1 })).notes (place_of r.id step) ≡ Some note.Got
+
+-- the first row of a shadow
+abbrev fresh : Value → Row
+fresh v = rows.Cell (record { value = v; owner = None; log = []; next = None; marked = false; dangled = None })
+
+module _ (d : Deployment) (c : Core) (m : Rows) (i : ℕ) (r : Run) (g : Begun) (h : Right d c m) (live : map.get c.runs i ≡ Some r) (k : Knows d c.book h.known r g) (finds : Inside d m h.plain h.known r g)
+    (o : OpenTx) (tx : g.tx ≡ Some o) (here : tx_after d r.id k.instance k.answers ≡ Some (own_tx r.id r.func o)) where
+  abbrev Leaves : Says → Rows → Type 0
+  Leaves s n = AfterTurn d h.plain c i r (turned_by d r g s) n
+
+  abbrev own : TxId
+  own = own_tx r.id r.func o
+
+  abbrev place : Place
+  place = place_of r.id g.machine.steps
+
+  -- ---- an operation on an item
+  module _ (e : Effect) (is : g.machine.effect ≡ e) (x : ℕ × List ℕ) (on_item : item_of e ≡ Some x) (l : HasLocked m r o g.machine.steps x) where
+    abbrev item : Item
+    item = record { func = r.func; table = x.0; key = x.1 }
+
+    abbrev its_item : Item
+    its_item = record { func = k.instance.func; table = x.0; key = x.1 }
+
+    touch : touched e ≡ Some x
+    touch = touches e x on_item
+
+    same : its_item ≡ item
+    same = same_item d c m r g h k o here e is x touch
+
+    -- no end is near
+    abbrev Freed : Rows → Type 0
+    Freed n = (u : OpenTx) (commit : Bool) (y : Item) → g.tx ≡ Some u → g.machine.effect ≡ effect.End commit → (content_of n y).owner ≡ Some (ByTx (own_tx r.id r.func u)) → ⊥
+
+    no_end : (n : Rows) → Freed n
+    no_end n u commit y opens ends owned = let clash = sym on_item ∙ ap item_of (sym is ∙ ends) in cc
+
+    -- ---- it goes on to another stage
+    found_at : (b : TxAt) (n : Rows) → InOperation d n h.plain h.known r.id r.func o g.machine.steps e b x → AtStage d n h.plain h.known r.id r.func g.tx g.machine.steps g.machine.effect (stage.Tx b)
+    found_at b n f = subst (λ u. AtStage d n h.plain h.known r.id r.func u g.machine.steps g.machine.effect (stage.Tx b)) (sym tx)
+        (subst (λ z. AtStage d n h.plain h.known r.id r.func (Some o) g.machine.steps z (stage.Tx b)) (sym is) (subst (InItem d n h.plain h.known r.id r.func o g.machine.steps e b) (sym on_item) f))
+
+    goes_on : (b : TxAt) (n : Rows) → SameRoots m n → Kept h n h.plain h.known h.locked → Fits e b → InOperation d n h.plain h.known r.id r.func o g.machine.steps e b x → Leaves (says.On (stage.Tx b) None) n
+    goes_on b n roots kept fits f = stands_on d c m i r g h live k finds (stage.Tx b) n h.locked refl roots kept
+        (subst (λ t. StageOk t r.id g.caller g.machine.effect (stage.Tx b)) (sym here) (subst (λ z. StageOk (Some own) r.id g.caller z (stage.Tx b)) (sym is) fits))
+        (no_mark r.id g.machine.steps g.tx g.machine.effect b) (found_at b n f)
+
+    -- .. with the rows as they are
+    moves_on : (b : TxAt) → Fits e b → InOperation d m h.plain h.known r.id r.func o g.machine.steps e b x → Leaves (says.On (stage.Tx b) None) m
+    moves_on b fits f = goes_on b m (λ u. refl) (as_it_was h) fits f
+
+    -- a row was set that is no root's
+    set_roots : (home : ℕ) (kind : Kind) (v : Option Row) → is_intent_key kind ≡ false → SameRoots m (set_row m (record { home = home; kind = kind }) v)
+    set_roots home kind v off u = ap is_some (set_others m (record { home = home; kind = kind }) v (root_key u) (no_root u home kind off))
+
+    stays_here : Leaves says.Stays m
+    stays_here = stays_on d c m i r g h live k finds m (λ u. refl) (as_it_was h)
+
+    -- a row that is as it was
+    still_row : (s : Says) (z : RowKey) (v : Option Row) → map.get m z ≡ v → Leaves s m → Leaves s (set_row m z v)
+    still_row s z v there a = subst (Leaves s) (sym (unchanged m z v (sym there))) a
+
+    looked_at : (s : Says) (z : RowKey) → Leaves s m → Leaves s (set_row m z (act Look c.now (map.get m z)).0)
+    looked_at s z a = subst (Leaves s) (sym (looked c.now z m)) a
+
+    -- what it finds in the item is the item's own value
+    item_found : ((u : Value) → u ≡ (content_of m item).value → Leaves (tx_says at.Item (item_leads e u)) m) → Leaves (tx_says at.Item (item_goes e (read_goes None (said (act Look c.now (map.get m (head_key item))).1)))) (set_row m (head_key item) (act Look c.now (map.get m (head_key item))).0)
+    item_found leads = looked_at (tx_says at.Item (item_goes e (read_goes None (said (act Look c.now (map.get m (head_key item))).1)))) (head_key item)
+        (subst (λ z. Leaves (tx_says at.Item (item_goes e z)) m) (sym (shadow_told c.now (map.get m (head_key item)) (h.rows.keys (head_key item)))) (by_row (map.get m (head_key item)) refl (h.rows.keys (head_key item))))
+      where
+        by_row : (v : Option Row) → map.get m (head_key item) ≡ v → SoundAt v → Leaves (tx_says at.Item (item_goes e (reads.Got (shadow_value v)))) m
+        by_row None there sound = leads value.Null (sym (ap (λ w. (content_in w).value) there))
+        by_row (Some (rows.Cell z)) there sound = leads z.value (sym (ap (λ w. (content_in w).value) there))
+        by_row (Some v) there sound = absurd sound
+
+    -- ---- behind: the answer that is known
+    module _ (a : Answer) (rest : List Answer) (left : k.later ≡ a ∷ rest) where
+      all_known : k.answers ++ a ∷ rest ≡ k.instance.answers
+      all_known = known_answers d c m r g h k o here e is x touch a rest left
+
+      replays : Leaves (says.Answers a None) m
+      replays = answers_on d c m i r g h live k finds a rest m h.known h.locked k.instance (λ u. refl) (as_it_was h) k.made (grown_same k.instance) (append_assoc k.answers (a ∷ []) rest ∙ all_known) (wants_here d c m r g h k o here e is x touch) (no_end m)
+
+      as_behind : (P : Item → Place → Type 0) → P item place → P its_item (place_of r.id (length k.answers))
+      as_behind P z = subst (λ n. P its_item (place_of r.id n)) (steps d c m r g h k o here e is x touch) (subst (λ y. P y place) (sym same) z)
+
+      as_run : (P : Item → Place → Type 0) → P its_item (place_of r.id (length k.answers)) → P item place
+      as_run P z = subst (λ y. P y place) same (subst (λ n. P its_item (place_of r.id n)) (sym (steps d c m r g h k o here e is x touch)) z)
+
+      -- it did not die
+      not_dead : death_in a ≡ None
+      not_dead =
+          let p : Place = place_of r.id (length k.answers) in
+          let b = behind_locks d m h.known h.locked h.rows r.id k.instance k.made (sane_instance d c m r g h k o here e is x touch) k.answers a rest all_known (short d c m r g h k o here e is x touch) own here x (ap touched (effect_so d c m r g h k o here e is x touch) ∙ touch) in
+          sym b.1 ∙ ap (lock_answer p) (ap (λ z. z.1) (sym b.0 ∙ ap (λ n. noted_or (content_of m its_item) n (lock_or p own (content_of m its_item) (other_owner (ByTx own) (content_of m its_item).owner))) (as_behind (λ y q. note_at (content_of m y).notes q ≡ Some note.Got) l.got)))
+
+      answer_fits : IsAnswer place (Some own) e a
+      answer_fits = answers_so d c m r g h k o here e is x touch a rest left
+
+    -- ---- at the front: it is the instance's next
+    abbrev after : IntentId → Bool
+    after = lock_out h.locked r.id
+
+    abbrev next : Answer → Known
+    next a = map.insert h.known r.id (moved d r.id k.instance a)
+
+    abbrev its_place : Place
+    its_place = place_of r.id (length k.instance.answers)
+
+    out : LockedOut h.locked after r.id
+    out = locked_out h.locked r.id
+
+    module _ (left : k.later ≡ []) where
+      as_its : (P : Item → Place → Type 0) → P item place → P its_item its_place
+      as_its P z = subst (λ n. P its_item (place_of r.id n)) (step_here d c.book h.known r g k left) (subst (λ y. P y place) (sym same) z)
+
+      as_ran : (P : Item → Place → Type 0) → P its_item its_place → P item place
+      as_ran P z = subst (λ y. P y place) same (subst (λ n. P its_item (place_of r.id n)) (sym (step_here d c.book h.known r g k left)) z)
+
+      now_is : effect_of d k.instance ≡ e
+      now_is = now d c m r g h k o here e is x touch left
+
+      inside : tx_now d r.id k.instance ≡ Some own
+      inside = tx_is d c m r g h k o here e is x touch left
+
+      stands : IsFront d h.known r.id k.instance own x.0 x.1
+      stands = front d c m r g h k o here e is x touch left
+
+      opened : (q : Instance) × IsOpen d m h.plain h.known h.locked r.id q k.instance
+      opened = begun d c m r g h k o here e is x touch left
+
+      was : h.locked r.id ≡ true
+      was = was_locked d c m r g h k o here e is x touch left (as_its (λ y q. note_at (content_of m y).notes q ≡ Some note.Got) l.got)
+
+      lockset : map.get m (lockset_key r.id o.begin its_item) ≡ Some rows.Lockset
+      lockset = lockset_is (map.get m (lockset_key r.id o.begin its_item)) (owed_lockset d o.begin its_item r.id (map.get h.known r.id)) (lockset_ahead d h.known o.begin its_item r.id (map.get h.known r.id))
+          (h.rows.keys (lockset_key r.id o.begin its_item)) (as_its (λ y q. is_some (map.get m (lockset_key r.id o.begin y)) ≡ true) l.asked)
+
+      -- its transaction owns the item, so the item's own value is the plain one
+      owned : (content_of m its_item).owner ≡ Some (ByTx own)
+      owned = let q = opened in (h.rows.txs its_item).got_is_owned own (record {
+        member = r.id;
+        got = ap (got_by d own its_item r.id (h.locked r.id)) k.made
+            ∙ ap (λ z. got_by d z its_item r.id (h.locked r.id) (Some k.instance)) (front_tx d m h.plain h.known h.locked h.shadows.shows r.id q.0 k.instance q.1.made q.1.begun q.1.outside own x.0 x.1 stands q.1.sane)
+            ∙ front_got d m h.plain h.known h.locked h.shadows.shows r.id q.0 k.instance q.1.made q.1.begun q.1.outside own x.0 x.1 stands q.1.sane was;
+      }) (not_ended d c m r g h k o here e is x touch left)
+
+      alone : k.instance.within ≡ None
+      alone = outside d c m r g h k o here e is x touch
+
+      off_begin : is_begin (effect_of d k.instance) ≡ false
+      off_begin = apart d c m r g h k o here e is x touch left
+
+      plain_there : (content_of m item).value ≡ value_at h.plain item
+      plain_there = as_ran (λ y q. (content_of m y).value ≡ value_at h.plain y)
+          (sym (listed_open d m h.known h.locked h.rows r.id k.instance k.made alone own inside off_begin its_item (content_of m its_item).value) ∙ ap (λ w. listed_under m its_item w (content_of m its_item).value) (sym owned) ∙ h.values its_item)
+
+      -- ---- what an answer keeps, and the first row of the shadow
+      answers_now : (a : Answer) (n : Rows) → SameRoots m n → Kept h n h.plain (next a) after → Leaves (says.Answers a None) n
+      answers_now a n roots kept =
+          let more = moved_more d r.id k.instance a in
+          answers_on d c m i r g h live k finds a more.more n (next a) after (moved d r.id k.instance a) roots kept (maps.here h.known r.id (moved d r.id k.instance a)) (grown_moved d r.id k.instance a)
+          (ap (λ ts. (ts ++ a ∷ []) ++ more.more) (all_here d c.book h.known r g k left) ∙ more.same) (wants_here d c m r g h k o here e is x touch) (no_end n)
+
+      answer_keeps : (a : Answer) (n : Rows) → ((z : Cause) → a ≡ answer.Aborted z → ⊥) → Goes d n h.plain (next a) after → Sane d (next a) → Matches d n (next a) after → ((y : Item) → listed n y ≡ listed m y) → Frame d m n h.plain h.plain h.known (next a) → Kept h n h.plain (next a) after
+      answer_keeps a n lives goes sane matches lists frame = kept_by d c m n h h.plain (next a) after (record {
+        goes = goes;
+        locked_at_ends = ahead_set d h.known h.locked h.locked_at_ends after r.id (moved d r.id k.instance a) out;
+        sane = sane;
+        rows = matches;
+        values = λ y. lists y ∙ h.values y;
+        settled = settled_rows d m n h.plain h.plain h.known (next a) frame (settled_operated d m h.plain h.known r.id k.instance k.made a x stands.touch (λ z j dead. absurd (lives z dead)) (settled h));
+      }) (grows_moved d h.known r.id k.instance a k.made) frame
+
+      undecided_here : map.get m (decision_key own) ≡ None
+      undecided_here = undecided d m h.known h.locked h.rows r.id k.instance k.made alone own inside off_begin
+
+      shadow_frame : (v : Row) (after_it : Known) → is_some (txn.op_of e) ≡ true → Frame d m (set_row m (shadow_key own its_item) (Some v)) h.plain h.plain h.known after_it
+      shadow_frame v after_it writes = frame_shadow d m h.plain h.plain h.known after_it (items_stay d m h.plain h.plain after_it refl) (set_row m (shadow_key own its_item) (Some v)) own its_item (set_others m (shadow_key own its_item) (Some v))
+          (ap is_some (set_here m (shadow_key own its_item) (Some v))) (record { instance = k.instance; made = k.made; now = inside; writes = ap (λ z. is_some (txn.op_of z)) now_is ∙ writes })
+
+      first_keeps : (v : Value) → is_some (txn.op_of e) ≡ true → map.get m (shadow_key own its_item) ≡ None → ((writes_on its_item k.instance.func (effect_of d k.instance) ≡ true) ⊎ (v ≡ value_at h.plain its_item)) → Kept h (set_row m (shadow_key own its_item) (Some (fresh v))) h.plain h.known h.locked
+      first_keeps v writes none by = let q = opened in let frame = shadow_frame (fresh v) h.known writes in kept_by d c m (set_row m (shadow_key own its_item) (Some (fresh v))) h h.plain h.known h.locked (record {
+        goes = record { beside = h.beside; shadows = first_row d m h.plain h.known h.locked h.shadows h.beside h.rows r.id q.0 k.instance q.1.made q.1.begun q.1.outside own x.0 x.1 stands q.1.sane (Some (fresh v)) was none by };
+        locked_at_ends = h.locked_at_ends;
+        sane = h.sane;
+        rows = shadow_made d h.known h.locked m h.rows own its_item (Some (fresh v)) (refl, tt, refl, refl) none refl;
+        values = λ y. shadow_lists m own undecided_here its_item (Some (fresh v)) y ∙ h.values y;
+        settled = settled_rows d m (set_row m (shadow_key own its_item) (Some (fresh v))) h.plain h.plain h.known h.known frame (settled h);
+      }) (grows_self h.known) frame
+
+      first_made : (v : Value) → is_some (txn.op_of e) ≡ true → map.get m (shadow_key own item) ≡ None → ((writes_on item r.func e ≡ true) ⊎ (v ≡ value_at h.plain item)) → Fits e (at.Write Try) → Found e (at.Write Try) (Some (fresh v)) (value_at h.plain item)
+          → Leaves (says.On (stage.Tx (at.Write Try)) None) (set_row m (shadow_key own item) (Some (fresh v)))
+      first_made v writes none by fits finds_it = let n = set_row m (shadow_key own item) (Some (fresh v)) in goes_on (at.Write Try) n (set_roots r.func (kinds.Shadow own x.0 x.1 0) (Some (fresh v)) refl)
+          (as_ran (λ y q. Kept h (set_row m (shadow_key own y) (Some (fresh v))) h.plain h.known h.locked) (first_keeps v writes (as_its (λ y q. map.get m (shadow_key own y) ≡ None) none)
+          (subst (λ z. (writes_on its_item k.instance.func z ≡ true) ⊎ (v ≡ value_at h.plain its_item)) (sym now_is) (as_its (λ y q. (writes_on y y.func e ≡ true) ⊎ (v ≡ value_at h.plain y)) by))))
+          fits (record {
+            begin = tt;
+            asked = λ t. ap is_some (set_others m (shadow_key own item) (Some (fresh v)) (lockset_key r.id o.begin item) (kinds_apart is_lockset (lockset_key r.id o.begin item) (shadow_key own item) refl refl)) ∙ l.asked;
+            locked = ap (λ (z : Content). note_at z.notes place) (content_apart m (shadow_key own item) (Some (fresh v)) item (kinds_apart is_data (head_key item) (shadow_key own item) refl refl)) ∙ l.got;
+            found = λ q made there. subst (λ z. Found e (at.Write Try) z (value_at h.plain item)) (sym (set_here m (shadow_key own item) (Some (fresh v)))) finds_it;
+          })
+
+  -- ---- a turn
+  abbrev Turn : Effect → TxAt → Type 0
+  Turn e a = AfterQuery d h.plain c.now m (λ u. turn_next c i r (turned_by d r g (tx_here_says r.id g.machine.steps e a (Some o) u))) (tx_here_asks r.id r.func g.machine.steps e a (Some o))
+
+  -- ---- a read
+  module _ (t : ℕ) (key : List ℕ) (is : g.machine.effect ≡ effect.Read t key) (l : HasLocked m r o g.machine.steps (t, key)) where
+    abbrev read : Effect
+    read = effect.Read t key
+
+    abbrev read_item : Item
+    read_item = record { func = r.func; table = t; key = key }
+
+    abbrev aside : RowKey
+    aside = shadow_key own read_item
+
+    abbrev log : RowKey
+    log = log_key r.func place
+
+    read_front : (q : Instance) → map.get h.known r.id ≡ Some q → length q.answers ≡ g.machine.steps → k.later ≡ []
+    read_front = at_front d c m r g h k o here read is (t, key) refl
+
+    -- it looks at its shadow
+    shadow_turn : Turn read at.Shadow
+    shadow_turn = looked_at read is (t, key) refl l (tx_says at.Shadow (shadow_read (read_goes None (said (act Look c.now (map.get m aside)).1)))) aside
+        (subst (λ z. Leaves (tx_says at.Shadow (shadow_read z)) m) (sym (shadow_told c.now (map.get m aside) (h.rows.keys aside))) (by_row (map.get m aside) refl (h.rows.keys aside)))
+      where
+        by_row : (v : Option Row) → map.get m aside ≡ v → SoundAt v → Leaves (tx_says at.Shadow (shadow_read (reads.Got (shadow_value v)))) m
+        by_row None there sound = moves_on read is (t, key) refl l at.Item tt (record { begin = tt; asked = λ u. l.asked; locked = l.got; found = λ q made same. there })
+        by_row (Some (rows.Cell z)) there sound = moves_on read is (t, key) refl l (at.Keep z.value) tt (record { begin = tt; asked = λ u. l.asked; locked = l.got; found = λ q made same. ap (λ w. value_in w (value_at h.plain read_item)) there })
+        by_row (Some v) there sound = absurd sound
+
+    -- it looks at the item, where it has no shadow
+    item_turn : (k.later ≡ [] → map.get m aside ≡ None) → Turn read at.Item
+    item_turn none = item_found read is (t, key) refl l (λ u same. moves_on read is (t, key) refl l (at.Keep u) tt (record {
+      begin = tt;
+      asked = λ w. l.asked;
+      locked = l.got;
+      found = λ q made step. let left = read_front q made step in ap (λ w. value_in w (value_at h.plain read_item)) (none left) ∙ sym (plain_there read is (t, key) refl l left) ∙ sym same;
+    }))
+
+    -- it keeps what it found
+    module _ (v : Value) (saw : k.later ≡ [] → value_in (map.get m aside) (value_at h.plain read_item) ≡ v) where
+      abbrev Keeps : Option Row → Type 0
+      Keeps w = Leaves (tx_says (at.Keep v) (keep_goes (said (act (PutRead v) c.now w).1))) (set_row m log (act (PutRead v) c.now w).0)
+
+      module _ (left : k.later ≡ []) where
+        abbrev found_now : Answer
+        found_now = answer.Value v
+
+        abbrev with_log : Rows
+        with_log = set_row m (log_key k.instance.func (place_of r.id (length k.instance.answers))) (Some (rows.ReadLog v))
+
+        front_read : effect_of d k.instance ≡ read
+        front_read = now_is read is (t, key) refl l left
+
+        read_keeps : Kept h with_log h.plain (next read is (t, key) refl l found_now) (after read is (t, key) refl l)
+        read_keeps =
+            let q = opened read is (t, key) refl l left in
+            let out = out read is (t, key) refl l in
+            answer_keeps read is (t, key) refl l left found_now with_log (λ z e. cc)
+            (read_shows d m h.plain h.known h.locked h.shadows h.beside h.rows r.id q.0 k.instance q.1.made q.1.begun q.1.outside own t key (stands read is (t, key) refl l left) q.1.sane (after read is (t, key) refl l) out
+            (log_key k.instance.func (place_of r.id (length k.instance.answers))) (Some (rows.ReadLog v)) v refl front_read (as_its read is (t, key) refl l left (λ y p. value_in (map.get m (shadow_key own y)) (value_at h.plain y) ≡ v) (saw left)))
+            (sane_read d h.known h.sane r.id k.instance k.made t key v front_read)
+            (read_inside d h.known h.locked (after read is (t, key) refl l) r.id k.instance k.made out own (inside read is (t, key) refl l left) m h.rows t key v front_read (lockset read is (t, key) refl l left) (was read is (t, key) refl l left))
+            (read_lists d m h.known h.locked h.rows.txs (λ j z there. called_outside d h.plain h.known h.beside j z there (legal_sane h)) r.id k.instance k.made (Some (rows.ReadLog v)))
+            (frame_row d m h.plain h.plain h.known (next read is (t, key) refl l found_now) (items_stay d m h.plain h.plain (next read is (t, key) refl l found_now) refl) (log_key k.instance.func (place_of r.id (length k.instance.answers))) (Some (rows.ReadLog v)) refl refl)
+
+      keep_by : (later : List Answer) → k.later ≡ later → Keeps (map.get m log)
+      keep_by [] left = subst Keeps (sym (as_ran read is (t, key) refl l left (λ y p. map.get m (log_key y.func p) ≡ None) (no_log d m h.known h.locked h.rows r.id k.instance k.made)))
+          (as_ran read is (t, key) refl l left (λ y p. Leaves (says.Answers (answer.Value v) None) (set_row m (log_key y.func p) (Some (rows.ReadLog v))))
+          (answers_now read is (t, key) refl l left (answer.Value v) (with_log left) (set_roots read is (t, key) refl l k.instance.func (kinds.ReadLog (place_of r.id (length k.instance.answers))) (Some (rows.ReadLog v)) refl) (read_keeps left)))
+      keep_by (b ∷ rest) left =
+          let z = read_is place own t key b (answer_fits read is (t, key) refl l b rest left) (not_dead read is (t, key) refl l b rest left) in
+          let there : map.get m log ≡ Some (rows.ReadLog z.0) = as_run read is (t, key) refl l b rest left (λ y p. map.get m (log_key y.func p) ≡ Some (rows.ReadLog z.0))
+          (behind_looks d m h.known h.locked h.rows r.id k.instance k.made (sane_instance d c m r g h k o here read is (t, key) refl) k.answers b rest (all_known read is (t, key) refl l b rest left) (short d c m r g h k o here read is (t, key) refl) t key z.0
+          (effect_so d c m r g h k o here read is (t, key) refl) z.1) in
+          subst Keeps (sym there) (still_row read is (t, key) refl l (says.Answers (answer.Value z.0) None) log (Some (rows.ReadLog z.0)) there (subst (λ y. Leaves (says.Answers y None) m) z.1 (replays read is (t, key) refl l b rest left)))
+
+      keep_turn : Turn read (at.Keep v)
+      keep_turn = keep_by k.later refl
+
+  -- ---- a write of the shadow, plain or tested: by what it does to a cell, the note that its act says was left, and the answer
+  -- what its shadow has of the known answer, and how that is told
+  abbrev HasNote : Effect → ℕ × List ℕ → Answer → Type 0
+  HasNote e x b = (w : Note) × (note_at (shadow_of m own (record { func = r.func; table = x.0; key = x.1 })).notes place ≡ Some w) × (tx_says (at.Write Try) (note_goes e w) ≡ says.Answers b None)
+
+  module _ (e : Effect) (is : g.machine.effect ≡ e) (x : ℕ × List ℕ) (on_item : item_of e ≡ Some x) (l : HasLocked m r o g.machine.steps x) (fits : (w : WriteAt) → Fits e (at.Write w))
+      (finds_it : (w : WriteAt) → k.later ≡ [] → Found e (at.Write w) (map.get m (shadow_key own (record { func = r.func; table = x.0; key = x.1 }))) (value_at h.plain (record { func = r.func; table = x.0; key = x.1 })))
+      (n : Note) (has_note : (b : Answer) (rest : List Answer) → k.later ≡ b ∷ rest → HasNote e x b) where
+    abbrev its : RowKey
+    its = shadow_key own (record { func = r.func; table = x.0; key = x.1 })
+
+    stood : (w : WriteAt) → InOperation d m h.plain h.known r.id r.func o g.machine.steps e (at.Write w) x
+    stood w = record { begin = tt; asked = λ u. l.asked; locked = l.got; found = λ q made same. finds_it w (at_front d c m r g h k o here e is x (touches e x on_item) q made same) }
+
+    onto : (w : WriteAt) → Leaves (says.On (stage.Tx (at.Write w)) None) m
+    onto w = moves_on e is x on_item l (at.Write w) (fits w) (stood w)
+
+    -- the shadow is there behind
+    not_behind : (b : Answer) (rest : List Answer) → k.later ≡ b ∷ rest → map.get m its ≡ None → ⊥
+    not_behind b rest left none = let clash = sym (has_note b rest left).1 ∙ ap (λ v. note_at (content_in v).notes place) none in cc
+
+    -- it makes the first row
+    abbrev Makes : Option Row → Type 0
+    Makes v = Leaves (tx_says (at.Write Make) (write_leads e (write_goes n (said (act (MakeCell value.Null None) c.now v).1)))) (set_row m its (act (MakeCell value.Null None) c.now v).0)
+
+    module _ (makes : k.later ≡ [] → map.get m its ≡ None → Leaves (says.On (stage.Tx (at.Write Try)) None) (set_row m its (Some (fresh value.Null)))) where
+      makes_by : (later : List Answer) → k.later ≡ later → (v : Option Row) → map.get m its ≡ v → Makes v
+      makes_by later left (Some v) there = still_row e is x on_item l (says.On (stage.Tx (at.Write Try)) None) its (Some v) there (onto Try)
+      makes_by [] left None there = makes left there
+      makes_by (b ∷ rest) left None there = absurd (not_behind b rest left there)
+
+      make_turn : Makes (map.get m its)
+      make_turn = makes_by k.later refl (map.get m its) refl
+
+    -- it writes
+    module _ (does : Cell → Cell × Tell) (a : Cell → Answer) (told_now : (z : Cell) → tx_says (at.Write Try) (write_leads e (write_goes n (said (does z).1))) ≡ says.Answers (a z) None)
+        (keeps : (left : k.later ≡ []) (z : Cell) → map.get m its ≡ Some (rows.Cell z) → SoundAt (Some (rows.Cell z)) → note_at z.log place ≡ None → other_owner (ByTx own) z.owner ≡ None → Kept h (set_row m its (Some (rows.Cell (does z).0))) h.plain (next e is x on_item l (a z)) (after e is x on_item l)) where
+      abbrev Writes : Cell × Tell → Type 0
+      Writes y = Leaves (tx_says (at.Write Try) (write_leads e (write_goes n (said y.1)))) (set_row m its (Some (rows.Cell y.0)))
+
+      module _ (z : Cell) (there : map.get m its ≡ Some (rows.Cell z)) (sound : SoundAt (Some (rows.Cell z))) where
+        -- its place has the note
+        noted_by : (later : List Answer) → k.later ≡ later → (w : Note) → note_at z.log place ≡ Some w → Writes (z, said_noted w)
+        noted_by [] left w is_there =
+            let clash = sym is_there ∙ ap (λ v. note_at (content_in v).notes place) (sym there) ∙ as_ran e is x on_item l left (λ y p. note_at (shadow_of m own y).notes p ≡ None) (no_shadow_note d m h.known h.locked h.rows r.id k.instance k.made own (record { func = k.instance.func; table = x.0; key = x.1 })) in cc
+        noted_by (b ∷ rest) left w is_there =
+            let q = has_note b rest left in
+            let same : q.0 ≡ w = maps.same_some (sym q.1 ∙ ap (λ v. note_at (content_in v).notes place) there ∙ is_there) in
+            subst (λ u. Leaves (tx_says (at.Write Try) (note_goes e u)) (set_row m its (Some (rows.Cell z)))) same
+            (subst (λ s. Leaves s (set_row m its (Some (rows.Cell z)))) (sym q.2) (still_row e is x on_item l (says.Answers b None) its (Some (rows.Cell z)) there (replays e is x on_item l b rest left)))
+
+        -- it has none: it writes now, unless another owns the shadow
+        done_by : (later : List Answer) → k.later ≡ later → note_at z.log place ≡ None → (u : Option Owner) → other_owner (ByTx own) z.owner ≡ u → Writes (cell_held z u (does z))
+        done_by later left none (Some u) owner = still_row e is x on_item l says.Stays its (Some (rows.Cell z)) there (stays_here e is x on_item l)
+        done_by [] left none None owner = subst (λ s. Leaves s (set_row m its (Some (rows.Cell (does z).0)))) (sym (told_now z))
+            (answers_now e is x on_item l left (a z) (set_row m its (Some (rows.Cell (does z).0))) (set_roots e is x on_item l r.func (kinds.Shadow own x.0 x.1 0) (Some (rows.Cell (does z).0)) refl) (keeps left z there sound none owner))
+        done_by (b ∷ rest) left none None owner = let clash = sym (has_note b rest left).1 ∙ ap (λ v. note_at (content_in v).notes place) there ∙ none in cc
+
+        by_note : (w : Option Note) → note_at z.log place ≡ w → Writes (cell_noted z w (next_or z z.next (cell_held z (other_owner (ByTx own) z.owner) (does z))))
+        by_note (Some w) is_there = noted_by k.later refl w is_there
+        by_note None none = subst (λ y. Writes (next_or z y (cell_held z (other_owner (ByTx own) z.owner) (does z)))) (sym sound.0) (done_by k.later refl none (other_owner (ByTx own) z.owner) refl)
+
+      abbrev Tries : Option Row × Tell → Type 0
+      Tries y = Leaves (tx_says (at.Write Try) (write_leads e (write_goes n (said y.1)))) (set_row m its y.0)
+
+      tries_by : (v : Option Row) → map.get m its ≡ v → SoundAt v → Tries (on_shadow place (ByTx own) does v)
+      tries_by None there sound = still_row e is x on_item l (says.On (stage.Tx (at.Write Make)) None) its None there (onto Make)
+      tries_by (Some (rows.Cell z)) there sound = by_note z there sound (note_at z.log place) refl
+      tries_by (Some v) there sound = absurd sound
+
+      try_turn : Tries (on_shadow place (ByTx own) does (map.get m its))
+      try_turn = tries_by (map.get m its) refl (h.rows.keys its)
+
+  -- ---- a write
+  module _ (t : ℕ) (key : List ℕ) (v : Value) (is : g.machine.effect ≡ effect.Write t key v) (l : HasLocked m r o g.machine.steps (t, key)) where
+    abbrev write : Effect
+    write = effect.Write t key v
+
+    abbrev write_row : RowKey
+    write_row = shadow_key own (record { func = r.func; table = t; key = key })
+
+    write_found : (w : WriteAt) → k.later ≡ [] → Found write (at.Write w) (map.get m write_row) (value_at h.plain (record { func = r.func; table = t; key = key }))
+    write_found w left = tt
+
+    write_note : (b : Answer) (rest : List Answer) → k.later ≡ b ∷ rest → HasNote write (t, key) b
+    write_note b rest left =
+        let done = write_is place own t key v b (answer_fits write is (t, key) refl l b rest left) (not_dead write is (t, key) refl l b rest left) in
+        let s = shadow_of m own (record { func = k.instance.func; table = t; key = key }) in (
+          note.Wrote,
+          as_run write is (t, key) refl l b rest left (λ y p. note_at (shadow_of m own y).notes p ≡ Some note.Wrote) (note_told s (note_at s.notes (place_of r.id (length k.answers))) note.Wrote
+              (behind_writes d m h.known h.locked h.rows r.id k.instance k.made (sane_instance d c m r g h k o here write is (t, key) refl) k.answers b rest (all_known write is (t, key) refl l b rest left) (short d c m r g h k o here write is (t, key) refl) own here (t, key)
+              (ap touched (effect_so d c m r g h k o here write is (t, key) refl)) t key v (s, did) (effect_so d c m r g h k o here write is (t, key) refl) done)),
+          ap (λ z. says.Answers z None) (sym done),
+        )
+
+    module _ (left : k.later ≡ []) (z : Cell) (there : map.get m write_row ≡ Some (rows.Cell z)) (sound : SoundAt (Some (rows.Cell z))) (none : note_at z.log place ≡ None) (free : other_owner (ByTx own) z.owner ≡ None) where
+      abbrev written : Option Row
+      written = Some (rows.Cell (wrote place v z).0)
+
+      write_did : write_on place (ByTx own) v (shadow_of m own (record { func = r.func; table = t; key = key })) ≡ (content_in written, did)
+      write_did =
+          let s : Content = content_in (Some (rows.Cell z)) in
+          ap (λ y. write_on place (ByTx own) v (content_in y)) there ∙ ap (λ y. noted_or s y (held_or s (other_owner (ByTx own) z.owner) (content_in written, did))) none ∙ ap (λ y. held_or s y (content_in written, did)) free
+
+      write_keeps : Kept h (set_row m write_row written) h.plain (next write is (t, key) refl l answer.Done) (after write is (t, key) refl l)
+      write_keeps =
+          let q = opened write is (t, key) refl l left in
+          let wants = now_is write is (t, key) refl l left in
+          let was_out = out write is (t, key) refl l in
+          let acts = as_its write is (t, key) refl l left (λ y p. write_on p (ByTx own) v (shadow_of m own y) ≡ (content_in written, did)) write_did in
+          let parts = write_parts (place_of r.id (length k.instance.answers)) (ByTx own) v (shadow_of m own (record { func = k.instance.func; table = t; key = key })) (content_in written) acts in
+          as_ran write is (t, key) refl l left (λ y p. Kept h (set_row m (shadow_key own y) written) h.plain (next write is (t, key) refl l answer.Done) (after write is (t, key) refl l))
+          (answer_keeps write is (t, key) refl l left answer.Done (set_row m (shadow_key own (record { func = k.instance.func; table = t; key = key })) written) (λ y e. cc)
+          (write_shows d m h.plain h.known h.locked h.shadows h.beside h.rows r.id q.0 k.instance q.1.made q.1.begun q.1.outside own t key (stands write is (t, key) refl l left) q.1.sane (after write is (t, key) refl l) was_out v written (was write is (t, key) refl l left) wants acts)
+          (sane_wrote d h.known h.sane r.id k.instance k.made t key v wants)
+          (write_inside d h.known h.locked (after write is (t, key) refl l) r.id k.instance k.made was_out own (inside write is (t, key) refl l left) m h.rows t key v written wants (lockset write is (t, key) refl l left) (was write is (t, key) refl l left)
+          (sound.0, once_pushed z.log place note.Wrote none sound.1, sound.2, sound.3) parts.0 parts.1)
+          (shadow_lists m own (undecided_here write is (t, key) refl l left) (record { func = k.instance.func; table = t; key = key }) written)
+          (shadow_frame write is (t, key) refl l left (rows.Cell (wrote place v z).0) (next write is (t, key) refl l answer.Done) refl))
+
+    write_turn : (w : WriteAt) → Turn write (at.Write w)
+    write_turn Try = subst (λ y. Leaves (tx_says (at.Write Try) (write_leads write (write_goes note.Wrote (said y.1)))) (set_row m write_row y.0)) (sym (write_acts place (ByTx own) v c.now (map.get m write_row)))
+        (try_turn write is (t, key) refl l (λ w. tt) write_found note.Wrote write_note (wrote place v) (λ z. answer.Done) (λ z. refl) write_keeps)
+    write_turn Make = make_turn write is (t, key) refl l (λ w. tt) write_found note.Wrote write_note (λ left none. first_made write is (t, key) refl l left value.Null refl none (inl (item_self r.func t key)) tt tt)
+
+  -- ---- a write of which a condition is tested
+  module _ (t : ℕ) (key : List ℕ) (u : Rel) (y v : Value) (is : g.machine.effect ≡ effect.CondWrite t key u y v) (l : HasLocked m r o g.machine.steps (t, key)) where
+    abbrev test : Effect
+    test = effect.CondWrite t key u y v
+
+    abbrev test_item : Item
+    test_item = record { func = r.func; table = t; key = key }
+
+    abbrev test_row : RowKey
+    test_row = shadow_key own test_item
+
+    -- it looks for its shadow
+    seek_turn : Turn test at.Shadow
+    seek_turn = looked_at test is (t, key) refl l (tx_says at.Shadow (head_goes (said (act Look c.now (map.get m test_row)).1))) test_row (by_row (map.get m test_row) refl)
+      where
+        by_row : (w : Option Row) → map.get m test_row ≡ w → Leaves (tx_says at.Shadow (head_goes (said (act Look c.now w).1))) m
+        by_row None there = moves_on test is (t, key) refl l at.Item tt (record { begin = tt; asked = λ z. l.asked; locked = l.got; found = λ q made same. tt })
+        by_row (Some w) there = moves_on test is (t, key) refl l (at.Write Try) tt (record { begin = tt; asked = λ z. l.asked; locked = l.got; found = λ q made same. ap is_some there })
+
+    -- it looks at the item
+    value_turn : Turn test at.Item
+    value_turn = item_found test is (t, key) refl l (λ w same. moves_on test is (t, key) refl l (at.Head w) tt (record {
+      begin = tt;
+      asked = λ z. l.asked;
+      locked = l.got;
+      found = λ q made step none. sym (plain_there test is (t, key) refl l (at_front d c m r g h k o here test is (t, key) refl q made step)) ∙ sym same;
+    }))
+
+    test_note : (b : Answer) (rest : List Answer) → k.later ≡ b ∷ rest → HasNote test (t, key) b
+    test_note b rest left =
+        let told = test_is place own t key u y v b (answer_fits test is (t, key) refl l b rest left) (not_dead test is (t, key) refl l b rest left) in
+        let s = shadow_of m own (record { func = k.instance.func; table = t; key = key }) in (
+          note.Cond told.0,
+          as_run test is (t, key) refl l b rest left (λ z p. note_at (shadow_of m own z).notes p ≡ Some (note.Cond told.0)) (note_told s (note_at s.notes (place_of r.id (length k.answers))) (note.Cond told.0)
+              (behind_tests d m h.known h.locked h.rows r.id k.instance k.made (sane_instance d c m r g h k o here test is (t, key) refl) k.answers b rest (all_known test is (t, key) refl l b rest left) (short d c m r g h k o here test is (t, key) refl) own here (t, key)
+              (ap touched (effect_so d c m r g h k o here test is (t, key) refl)) t key u y v told.0 (s, did) (effect_so d c m r g h k o here test is (t, key) refl) told.1)),
+          ap (λ z. says.Answers z None) (sym told.1),
+        )
+
+    -- it makes its shadow, with the value that it found
+    head_turn : (w : Value) → (k.later ≡ [] → map.get m test_row ≡ None → value_at h.plain test_item ≡ w) → Turn test (at.Head w)
+    head_turn w saw = by_row (map.get m test_row) refl k.later refl
+      where
+        by_row : (z : Option Row) → map.get m test_row ≡ z → (later : List Answer) → k.later ≡ later → Leaves (tx_says (at.Head w) (head_made (said (act (MakeCell w None) c.now z).1))) (set_row m test_row (act (MakeCell w None) c.now z).0)
+        by_row (Some z) there later left = still_row test is (t, key) refl l (says.On (stage.Tx (at.Write Try)) None) test_row (Some z) there
+            (moves_on test is (t, key) refl l (at.Write Try) tt (record { begin = tt; asked = λ a. l.asked; locked = l.got; found = λ q made same. ap is_some there }))
+        by_row None there [] left = first_made test is (t, key) refl l left w refl there (inr (sym (saw left there))) tt refl
+        by_row None there (b ∷ rest) left = let clash = sym (test_note b rest left).1 ∙ ap (λ z. note_at (content_in z).notes place) there in cc
+
+    module _ (has : k.later ≡ [] → is_some (map.get m test_row) ≡ true) where
+      module _ (left : k.later ≡ []) (z : Cell) (there : map.get m test_row ≡ Some (rows.Cell z)) (sound : SoundAt (Some (rows.Cell z))) (none : note_at z.log place ≡ None) (free : other_owner (ByTx own) z.owner ≡ None) where
+        abbrev passed : Bool
+        passed = passes z.value u y
+
+        abbrev result : Answer
+        result = answer.Value (value.Bool passed)
+
+        abbrev tried : Option Row
+        tried = Some (rows.Cell (tries place u y v z).0)
+
+        test_did : test_on place (ByTx own) u y v (shadow_of m own test_item) ≡ (content_in tried, tested passed)
+        test_did =
+            let s : Content = content_in (Some (rows.Cell z)) in
+            ap (λ a. test_on place (ByTx own) u y v (content_in a)) there ∙ ap (λ a. noted_or s a (held_or s (other_owner (ByTx own) z.owner) (content_in tried, tested passed))) none ∙ ap (λ a. held_or s a (content_in tried, tested passed)) free
+
+        test_keeps : Kept h (set_row m test_row tried) h.plain (next test is (t, key) refl l result) (after test is (t, key) refl l)
+        test_keeps =
+            let q = opened test is (t, key) refl l left in
+            let wants = now_is test is (t, key) refl l left in
+            let was_out = out test is (t, key) refl l in
+            let acts = as_its test is (t, key) refl l left (λ a p. test_on p (ByTx own) u y v (shadow_of m own a) ≡ (content_in tried, tested passed)) test_did in
+            let parts = test_parts (place_of r.id (length k.instance.answers)) (ByTx own) u y v (shadow_of m own (record { func = k.instance.func; table = t; key = key })) (content_in tried) passed acts in
+            as_ran test is (t, key) refl l left (λ a p. Kept h (set_row m (shadow_key own a) tried) h.plain (next test is (t, key) refl l result) (after test is (t, key) refl l))
+            (answer_keeps test is (t, key) refl l left result (set_row m (shadow_key own (record { func = k.instance.func; table = t; key = key })) tried) (λ a e. cc)
+            (test_shows d m h.plain h.known h.locked h.shadows h.beside h.rows r.id q.0 k.instance q.1.made q.1.begun q.1.outside own t key (stands test is (t, key) refl l left) q.1.sane (after test is (t, key) refl l) was_out u y v passed tried (was test is (t, key) refl l left) wants
+            (as_its test is (t, key) refl l left (λ a p. is_some (map.get m (shadow_key own a)) ≡ true) (has left)) acts)
+            (sane_tested d h.known h.sane r.id k.instance k.made t key u y v passed wants)
+            (test_inside d h.known h.locked (after test is (t, key) refl l) r.id k.instance k.made was_out own (inside test is (t, key) refl l left) m h.rows t key u y v tried passed wants (lockset test is (t, key) refl l left) (was test is (t, key) refl l left)
+            (sound.0, once_pushed z.log place (note.Cond passed) none sound.1, sound.2, sound.3) parts.0 _ parts.1)
+            (shadow_lists m own (undecided_here test is (t, key) refl l left) (record { func = k.instance.func; table = t; key = key }) tried)
+            (shadow_frame test is (t, key) refl l left (rows.Cell (tries place u y v z).0) (next test is (t, key) refl l result) refl))
+
+      test_turn : (w : WriteAt) → Turn test (at.Write w)
+      test_turn Try = subst (λ a. Leaves (tx_says (at.Write Try) (write_leads test (write_goes (note.Cond true) (said a.1)))) (set_row m test_row a.0)) (sym (test_acts place (ByTx own) u y v c.now (map.get m test_row)))
+          (try_turn test is (t, key) refl l (λ w. tt) (λ w left. has left) (note.Cond true) test_note (tries place u y v) (λ z. answer.Value (value.Bool (passes z.value u y))) (λ z. refl) test_keeps)
+      test_turn Make = make_turn test is (t, key) refl l (λ w. tt) (λ w left. has left) (note.Cond true) test_note (λ left none. let clash = sym (has left) ∙ ap is_some none in cc)
+
+  -- ---- every stage past the lock
+  pub working_turn : (e : Effect) (a : TxAt) → g.machine.effect ≡ e → is_past a ≡ true → Fits e a → InItem d m h.plain h.known r.id r.func o g.machine.steps e a (item_of e) → Turn e a
+  working_turn e at.Log is past fits f = cc
+  working_turn e (at.Lock w) is past fits f = cc
+  working_turn (effect.Read t key) at.Shadow is past fits f = shadow_turn t key is (record { asked = f.asked refl; got = f.locked })
+  working_turn (effect.Read t key) at.Item is past fits f = item_turn t key is (record { asked = f.asked refl; got = f.locked }) (λ left. f.found k.instance k.made (sym (step_here d c.book h.known r g k left)))
+  working_turn (effect.Read t key) (at.Keep v) is past fits f = keep_turn t key is (record { asked = f.asked refl; got = f.locked }) v (λ left. f.found k.instance k.made (sym (step_here d c.book h.known r g k left)))
+  working_turn (effect.Read t key) (at.Head v) is past fits f = absurd fits
+  working_turn (effect.Read t key) (at.Write w) is past fits f = absurd fits
+  working_turn (effect.Write t key v) (at.Write w) is past fits f = write_turn t key v is (record { asked = f.asked refl; got = f.locked }) w
+  working_turn (effect.Write t key v) b is past fits f = absurd fits
+  working_turn (effect.CondWrite t key u y v) at.Shadow is past fits f = seek_turn t key u y v is (record { asked = f.asked refl; got = f.locked })
+  working_turn (effect.CondWrite t key u y v) at.Item is past fits f = value_turn t key u y v is (record { asked = f.asked refl; got = f.locked })
+  working_turn (effect.CondWrite t key u y v) (at.Keep w) is past fits f = absurd fits
+  working_turn (effect.CondWrite t key u y v) (at.Head w) is past fits f = head_turn t key u y v is (record { asked = f.asked refl; got = f.locked }) w (λ left. f.found k.instance k.made (sym (step_here d c.book h.known r g k left)))
+  working_turn (effect.CondWrite t key u y v) (at.Write w) is past fits f = test_turn t key u y v is (record { asked = f.asked refl; got = f.locked }) (λ left. f.found k.instance k.made (sym (step_here d c.book h.known r g k left))) w
+  working_turn e b is past fits f = absurd fits
+
+-- ---- of a run that stands in a transaction, as its stage asks it
+pub operates : (e : Effect) (a : TxAt) → Fits e a → (x : ℕ × List ℕ) × (touched e ≡ Some x)
+operates (effect.Read t key) a fits = ((t, key), refl)
+operates (effect.Write t key v) a fits = ((t, key), refl)
+operates (effect.CondWrite t key u y v) a fits = ((t, key), refl)
+operates e a fits = absurd fits
+
+module _ (d : Deployment) (c : Core) (m : Rows) (i : ℕ) (r : Run) (g : Begun) (h : Right d c m) (live : map.get c.runs i ≡ Some r) (k : Knows d c.book h.known r g) (finds : Inside d m h.plain h.known r g)
+    (t : TxId) (stands_in : tx_after d r.id k.instance k.answers ≡ Some t) where
+  pub past_turn : (e : Effect) (a : TxAt) → g.machine.effect ≡ e → is_past a ≡ true → Fits e a → AtStage d m h.plain h.known r.id r.func g.tx g.machine.steps e (stage.Tx a)
+      → AfterQuery d h.plain c.now m (λ u. turn_next c i r (turned_by d r g (stage_says r.id r.func g.caller g.tx (count_changes c.book) g.machine.steps e (stage.Tx a) u))) (stage_asks r.id r.func g.caller g.tx g.machine.steps e (stage.Tx a))
+  past_turn e a is past fits found =
+      let x = operates e a fits in
+      let z = opens d c m r g h k t stands_in x.0 (ap touched is ∙ x.1) in
+      subst (λ w. AfterQuery d h.plain c.now m (λ u. turn_next c i r (turned_by d r g (tx_here_says r.id g.machine.steps e a w u))) (tx_here_asks r.id r.func g.machine.steps e a w)) (sym z.1)
+      (working_turn d c m i r g h live k finds z.0 z.1 z.2 e a is past fits (subst (λ w. AtStage d m h.plain h.known r.id r.func w g.machine.steps e (stage.Tx a)) z.1 found))
