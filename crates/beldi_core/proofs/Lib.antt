@@ -2,8 +2,8 @@ pub mod Carried
 mod CountMaps
 mod Counting
 pub mod Least
+pub mod Looks
 pub mod Plans
-pub mod Replies
 pub mod Right
 pub mod RunMaps
 pub mod Steps

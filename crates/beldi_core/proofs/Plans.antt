@@ -11,7 +11,7 @@ use Rattle.beldi_book.specs.Order.{count_changes}
 use Rattle.beldi_walk.specs.Query.{Told}
 use Rattle.beldi_walk.proofs.Queries.{unasked}
 use Rattle.beldi_step.specs.declared.event.Event.{Event}
-use Rattle.beldi_step.specs.declared.event.Event.TheVariants.{Lost}
+use Rattle.beldi_step.specs.declared.event.Event.TheVariants.{Turn, Lost}
 use Rattle.beldi_step.specs.declared.event.Seen.{Seen}
 use Rattle.beldi_step.specs.declared.event.Seen.TheVariants as seen
 use Rattle.beldi_step.specs.declared.run.Mark.{Mark}
@@ -21,7 +21,7 @@ use Rattle.beldi_step.specs.Run.{run_asks, run_told}
 use Rattle.beldi_core.specs.declared.runs.Copies.{Copies}
 use Rattle.beldi_core.specs.Runs.{Numbered, RunMap, RunTold, deadline_of}
 use Rattle.beldi_step.specs.Host.{Core, Plan, at_once, asks, plan, counted, marked, after_turn, run_next, unheard_next, ended_run, run_plan, crash_plan, no_run, Followed, StepBy, Stepped}
-use Rattle.beldi_core.specs.Parts.{NoMemory, Copied, mark_told}
+use Rattle.beldi_core.specs.Parts.{NoMemory, Copied, TellsTurn, entered, mark_told}
 use Rattle.beldi_laws.proofs.Lives.{remove_put}
 
 -- ---- the step
@@ -46,7 +46,7 @@ module _ (d : Deployment) (c z : Core) (a : RunMap) (i : ℕ) (t : Told) (n : Co
   unheard x m h name at is = λ j. (unheard_by (map.get c.runs i) x m h name at is j, seen.Dropped)
 
   -- .. and where there was no memory for what follows
-  pub unheard_made : (x : TurnSays) → RunTold d (count_changes c.book) c.runs a i (map.get c.runs i) t (Ok x) → Copied n (map.get c.runs i) → z ≡ record c { runs = map.remove a i; book = marked c.book n.book x.mark } → Some (unheard_next d c i t (map.get c.runs i)) ≡ Some z
+  unheard_made : (x : TurnSays) → RunTold d (count_changes c.book) c.runs a i (map.get c.runs i) t (Ok x) → Copied n (map.get c.runs i) → z ≡ record c { runs = map.remove a i; book = marked c.book n.book x.mark } → Some (unheard_next d c i t (map.get c.runs i)) ≡ Some z
   unheard_made x h name is = ap Some (sym (unheard_by (map.get c.runs i) (Ok x) x.mark h name refl is))
 
 turned_by : (d : Deployment) (c : Core) (a : RunMap) (i : ℕ) (t : Told) (n : Copies) (o : Option Run) (x : TurnSays) → RunTold d (count_changes c.book) c.runs a i o t (Ok x) → Copied n o
@@ -55,9 +55,15 @@ turned_by d c a i t n None x h name = absurd h
 turned_by d c a i t n (Some r) x h name =
     λ j. after_turn (record c { runs = h.0 j; book = marked c.book (name j).book (h.1 j).mark }) (name j).callee (name j).told (h.1 j) (h.1 j).wait
 
-pub turned : (d : Deployment) (c k : Core) (a : RunMap) (i : ℕ) (t : Told) (n : Copies) (x : TurnSays) (z : Core × Seen) → RunTold d (count_changes c.book) c.runs a i (map.get c.runs i) t (Ok x) → Copied n (map.get c.runs i) → k ≡ record c { runs = a; book = marked c.book n.book x.mark }
+turned : (d : Deployment) (c k : Core) (a : RunMap) (i : ℕ) (t : Told) (n : Copies) (x : TurnSays) (z : Core × Seen) → RunTold d (count_changes c.book) c.runs a i (map.get c.runs i) t (Ok x) → Copied n (map.get c.runs i) → k ≡ record c { runs = a; book = marked c.book n.book x.mark }
     → z ≡ after_turn k n.callee n.told x x.wait → z ≡ run_next d c i t (map.get c.runs i)
 turned d c k a i t n x z h name at is = is ∙ ap (λ q. after_turn q n.callee n.told x x.wait) at ∙ turned_by d c a i t n (map.get c.runs i) x h name
+
+-- .. which is told, or there is no memory for that
+pub told_turn : (d : Deployment) (c k z : Core) (a : RunMap) (i : ℕ) (t : Told) (n : Copies) (x : TurnSays) (r : Result Seen AllocError) → RunTold d (count_changes c.book) c.runs a i (map.get c.runs i) t (Ok x) → Copied n (map.get c.runs i)
+    → k ≡ record c { runs = a } → TellsTurn k i n x z r → Followed d (Turn i) c (Ok t) z r
+told_turn d c k z a i t n x (Ok y) h name at is = turned d c (entered k n x) a i t n x (z, y) h name (ap (λ q. entered q n x) at) is
+told_turn d c k z a i t n x (Err e) h name at is = unheard_made d c z a i t n x h name (is ∙ ap (λ q. ended_run (entered q n x) i) at)
 
 -- a core whose runs go without one
 pub ended_core : (c k : Core) (i : ℕ) (m : Numbered) → k ≡ c → m ≡ record { runs = map.remove k.runs i; given = k.last_run } → record k { runs = m.runs; last_run = m.given } ≡ ended_run c i

@@ -23,7 +23,7 @@ use Rattle.beldi_step.specs.declared.run.Mark.{Mark}
 use Rattle.beldi_step.specs.declared.run.Run.{Run}
 use Rattle.beldi_step.specs.declared.run.TurnSays.{TurnSays}
 use Rattle.beldi_intent.specs.Intent.{binding_of}
-use Rattle.beldi_step.specs.Host.{Core, Plan, at_once, asks, plan, plan_of, counted, run_plan, new_run, unbound, refused, ended_run, acted, AtOnce, Followed}
+use Rattle.beldi_step.specs.Host.{Core, Plan, at_once, asks, plan, plan_of, counted, run_plan, new_run, unbound, refused, ended_run, marked, after_turn, acted, AtOnce, Followed}
 use Rattle.beldi_core.specs.declared.host_core.HostCore.{HostCore}
 use Rattle.beldi_core.specs.declared.events.Planned.TheVariants as planned
 use Rattle.beldi_core.specs.declared.events.Planned.{Planned as Plans}
@@ -133,6 +133,15 @@ acted_unless id m over reply (Err e) = Err e
 abbrev pub mark_told : Result TurnSays (Option Mark) → Option Mark
 mark_told (Ok x) = x.mark
 mark_told (Err m) = m
+
+-- a turn of the run i was made, whose copies are n: from a core whose runs have gone on, it is told; where there is no memory for
+-- that, the run is over
+abbrev pub entered : Core → Copies → TurnSays → Core
+entered c n x = record c { book = marked c.book n.book x.mark }
+
+abbrev pub TellsTurn : Core → ℕ → Copies → TurnSays → Core → Result Seen AllocError → Type 0
+TellsTurn c i n x z (Ok y) = (z, y) ≡ after_turn (entered c n x) n.callee n.told x x.wait
+TellsTurn c i n x z (Err e) = z ≡ ended_run (entered c n x) i
 
 -- the one query of an event that was planned, and what follows
 abbrev pub Asked : Deployment → Pending → Core → Core → Query → TableState → TableState → Result Seen AllocError → Type 0

@@ -1,18 +1,25 @@
 -- Calls that read the rows of a table, one after another, and change none.
-use Rattle.std.specs.Prelude.{◌≡◌, ◌⊎◌, ℕ, ◌≤◌, ◌==◌, ◌||◌, max, IsSome, nat_lt, Bool, ◌++◌, List, [], ◌∷◌, Option, Some, None, Result, IfOk, OnOk, IsErrOf, if◌then◌else◌}
+use Rattle.std.specs.Prelude.{◌≡◌, ◌⊎◌, ℕ, zero, ◌≤◌, ◌==◌, ◌||◌, max, IsSome, nat_lt, Bool, ◌++◌, List, [], ◌∷◌, Option, Some, None, Result, IfOk, OnOk, IsErrOf, if◌then◌else◌}
 use Rattle.std.specs.FinMap as map
 use Rattle.beldi_value.specs.declared.outcome.Outcome.{Outcome}
+use Rattle.beldi_value.specs.declared.place.Owner.{Owner}
+use Rattle.beldi_value.specs.declared.place.Owner.TheVariants.{Tx}
+use Rattle.beldi_value.specs.declared.value.Value.{Value}
 use Rattle.beldi_tree.specs.declared.deployment.Deployment.{Deployment}
 use Rattle.beldi_row.specs.Key.{key_ticket}
 use Rattle.beldi_row.specs.declared.key.RowKey.{RowKey}
+use Rattle.beldi_row.specs.declared.key.Kind.{Kind}
+use Rattle.beldi_row.specs.declared.key.Kind.TheVariants.{Data}
 use Rattle.beldi_row.specs.declared.row.Row.{Row}
-use Rattle.beldi_row.specs.declared.row.Row.TheVariants.{Intent}
-use Rattle.beldi_row.specs.Act.{Tell, absent, here}
+use Rattle.beldi_row.specs.declared.row.Row.TheVariants.{Intent, Cell}
+use Rattle.beldi_row.specs.Act.{Tell, here}
 use Rattle.beldi_row.specs.Table.{Rows, TableState, Tells, Rose}
+use Rattle.beldi_daal.specs.Cell.{shadow_key}
 use Rattle.beldi_intent.specs.Intent.{root_key}
 use Rattle.beldi_step.specs.Host.{Core, first_core}
-use Rattle.beldi_step.specs.Tables.{row_line}
+use Rattle.beldi_step.specs.Tables.{row_line, value_line, decision_key, owned_value}
 use Rattle.beldi_core.specs.declared.survey.OpenErr.{OpenErr}
+use Rattle.beldi_core.specs.declared.survey.Owned.{Owned}
 use Rattle.beldi_core.specs.declared.survey.OpenErr.TheVariants.{Failed}
 use Rattle.beldi_core.specs.declared.survey.ReplySeen.{ReplySeen}
 use Rattle.beldi_core.specs.declared.survey.ReplySeen.TheVariants.{Unknown, Gone, Waiting, Reply}
@@ -41,10 +48,37 @@ abbrev pub next_key_of : Option (RowKey × Row) → Option RowKey
 next_key_of None = None
 next_key_of (Some e) = Some e.0
 
+-- ---- the line of a row, in two steps: where no transaction owns its item, and where one does
+-- by the owner and the row's own value: the text with its line; of an item that a transaction owns, what its line wants instead
+abbrev pub cell_seen : Deployment → List ℕ → ℕ → ℕ → List ℕ → Option Owner → Value → Option Owned × List ℕ
+cell_seen d text f t k (Some (Tx x)) v = (Some (record { decision = decision_key x; shadow = shadow_key f x t k; value = v }), text)
+cell_seen d text f t k o v = (None, text ++ value_line d f t k v)
+
+abbrev pub seen_at : Deployment → List ℕ → ℕ → Kind → Row → Option Owned × List ℕ
+seen_at d text f (Data t k zero) (Cell c) = cell_seen d text f t k c.owner c.value
+seen_at d text f k r = (None, text)
+
+abbrev pub seen_of : Deployment → List ℕ → RowKey × Row → Option Owned × List ℕ
+seen_of d text e = seen_at d text e.0.home e.0.kind e.1
+
+abbrev pub next_seen_of : Deployment → List ℕ → Option (RowKey × Row) → Option (RowKey × Option Owned) × List ℕ
+next_seen_of d text None = (None, text)
+next_seen_of d text (Some e) = (Some (e.0, (seen_of d text e).0), (seen_of d text e).1)
+
+-- the line of an item's first row, by the value that is shown
+abbrev pub key_line : Deployment → ℕ → Kind → Value → List ℕ
+key_line d f (Data t k zero) v = value_line d f t k v
+key_line d f k v = []
+
+-- the text, with the line that was left
+abbrev pub line_after : Deployment → Rows → ℕ → Kind → Option Owned × List ℕ → List ℕ
+line_after d m f k (None, text) = text
+line_after d m f k (Some o, text) = text ++ key_line d f k (owned_value m o.decision o.shadow o.value)
+
 -- the key of the next row, and the text with its line
-abbrev pub next_line_of : Deployment → List ℕ → Option (RowKey × Row) → Option RowKey × List ℕ
-next_line_of d text None = (None, text)
-next_line_of d text (Some e) = (Some e.0, text ++ row_line d e)
+abbrev pub next_line_of : Deployment → Rows → List ℕ → Option (RowKey × Row) → Option RowKey × List ℕ
+next_line_of d m text None = (None, text)
+next_line_of d m text (Some e) = (Some e.0, text ++ row_line d m e)
 
 -- a table is made ready for a host: its room is set
 pub record Prepared (wanted : ℕ) (old new : TableState) (result : Result ℕ OpenErr) : Type 0 where
@@ -81,11 +115,10 @@ row_seen None = Gone
 row_seen (Some (Intent i)) = outcome_seen i.outcome
 row_seen (Some r) = Waiting
 
--- by what a look told
-abbrev pub told_seen : Tell → ReplySeen
-told_seen absent = Gone
-told_seen (here r) = row_seen (Some r)
-told_seen t = Waiting
+-- the row that a look told
+abbrev pub told_row : Tell → Option Row
+told_row (here r) = Some r
+told_row t = None
 
 abbrev pub is_unknown : ℕ → ℕ → Bool
 is_unknown newest t = (t == 0) || nat_lt newest t

@@ -8,7 +8,7 @@ ghost use Rattle.beldi_tree.specs.declared.deployment.Deployment.{Deployment};
 ghost use Rattle.beldi_step.specs.Host.{collected as collected_of, passed, Core, Followed, acted as acted_by, after_turn as after_turn_of, may_start as may_start_of, started, at_once, crash_plan, tick_plan, new_run as new_run_of, entry_of as entry_by, marked, no_run as no_run_of, refused, refused_by, ticket_next, unbound};
 ghost use Rattle.beldi_core.specs.Runs.{asked_by};
 ghost use Rattle.beldi_core.specs.declared.events.Planned.TheVariants as planned;
-ghost use Rattle.beldi_core.specs.Parts.{core_in, Planned as IsPlanned, PlannedOf, RunPlanned, Ready, HasPlace, event_of, base, BoundBy, Copied, acted_unless, mark_told};
+ghost use Rattle.beldi_core.specs.Parts.{core_in, Planned as IsPlanned, PlannedOf, RunPlanned, Ready, HasPlace, event_of, base, BoundBy, Copied, TellsTurn, acted_unless, mark_told};
 
 use crate::host_core::HostCore;
 use crate::runs::Copies;
@@ -20,7 +20,7 @@ use beldi_row::{RowKey, TableErr};
 use beldi_step::{Callee, Event, Mark, Run, RunAt, Seen, TurnSays, Wait};
 use beldi_value::{IntentId, Outcome, Value};
 use beldi_walk::{Heard, Query};
-use std::alloc::AllocError;
+use std::alloc::{AllocError, Global};
 
 const MOST_EVENTS: u64 = 1 << 62;
 
@@ -93,6 +93,8 @@ fn entry_of(id: IntentId, mark: Mark) -> Entry
     match mark {
         Mark::Read(seen) => Entry::Read { id, seen },
         Mark::Step => Entry::Step { id },
+        Mark::Tx => Entry::Tx { id },
+        Mark::Try { place, holder } => Entry::Try { id, place, holder },
     }
 }
 
@@ -150,6 +152,16 @@ fn acted_if(
     match started {
         Ok(started) => Ok(acted(id, mark, over, reply, started)),
         Err(why) => Err(why),
+    }
+}
+
+// The mark of an act once more: it is entered, and told.
+fn copy_mark(alloc: Global, mark: &Option<Mark>) -> Result<Option<Mark>, AllocError>
+    ensures { IfOk result (λ m. m ≡ mark.now) }
+{
+    match mark {
+        Some(mark) => Ok(Some(mark.copy(alloc)?)),
+        None => Ok(None),
     }
 }
 
@@ -441,8 +453,23 @@ impl HostCore {
     {
         let changes = self.book.changes();
         match self.runs.told(run, self.alloc, code, changes, heard) {
-            Ok(says) => {
-                write(&mut self.book, copies.book, says.mark);
+            Ok(says) => self.tell(run, copies, says),
+            Err(mark) => {
+                write(&mut self.book, copies.book, mark);
+                Err(AllocError)
+            }
+        }
+    }
+
+    // A turn was made: its entry is in the book, also where there is no memory to tell of it. Then the run is over.
+    fn tell(&mut self, run: u64, copies: Copies, says: TurnSays) -> Result<Seen, AllocError>
+        requires spare { 1 ≤ self.old.book.spare }
+        requires given { self.old.runs.given < self.old.taken }
+        ensures { TellsTurn (core_in self.old) run copies says (core_in self.new) result }
+    {
+        match copy_mark(self.alloc, &says.mark) {
+            Ok(mark) => {
+                write(&mut self.book, copies.book, mark);
                 match self.after_turn(copies.callee, copies.told, says) {
                     Ok(seen) => Ok(seen),
                     Err(why) => {
@@ -451,9 +478,10 @@ impl HostCore {
                     }
                 }
             }
-            Err(mark) => {
-                write(&mut self.book, copies.book, mark);
-                Err(AllocError)
+            Err(why) => {
+                self.runs.remove(run);
+                write(&mut self.book, copies.book, told_mark(Ok(says)));
+                Err(why)
             }
         }
     }

@@ -134,7 +134,12 @@ impl<T: Table> Host<T> {
         ensures core { core_of self.new ≡ core_of self.old }
         ensures code { self.new.code ≡ self.old.code }
     {
-        let text = list_tables(self.core.alloc, self.code.code(), &mut self.table)?;
+        let text = list_tables(
+            self.core.alloc,
+            self.code.code(),
+            &mut self.table,
+            self.core.now,
+        )?;
         out.push_text(text.as_str())?;
         Ok(())
     }

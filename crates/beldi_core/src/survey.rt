@@ -4,15 +4,18 @@ ghost use Rattle.std.specs.FinMap as map;
 ghost use Rattle.beldi_row.specs.Act.{tell_of};
 ghost use Rattle.beldi_row.specs.Table.{next_row, AtMostOne};
 ghost use Rattle.beldi_intent.specs.Intent.{root_key as root_key_of};
-ghost use Rattle.beldi_step.specs.Tables.{tables_text, row_line};
-ghost use Rattle.beldi_core.specs.Survey.{Reads, Prepared, newest_of, next_key_of, next_line_of, row_seen, told_seen};
+ghost use Rattle.beldi_daal.specs.Cell.{shadow_key as shadow_key_of};
+ghost use Rattle.beldi_step.specs.Tables.{tables_text, decision_key as decision_key_of, is_committed as is_commit, value_in, owned_value as shown_value};
+ghost use Rattle.beldi_core.specs.Survey.{Reads, Prepared, newest_of, next_key_of, next_seen_of, next_line_of, seen_of, key_line, line_after, row_seen, told_row};
 ghost use Rattle.beldi_core.specs.declared.survey.ReplySeen.TheVariants.{Unknown};
 
 use beldi_book::write_item;
+use beldi_daal::shadow_key;
 use beldi_intent::root_key;
 use beldi_lang::Deployment;
+use beldi_readlog::log_key;
 use beldi_row::{Act, Kind, Row, RowKey, Said, Table, TableErr};
-use beldi_value::{Outcome, Str, Value};
+use beldi_value::{Outcome, Owner, Place, Str, TxId, Value};
 use std::alloc::{AllocError, Global};
 
 /// Why the rows could not be read. They are as before.
@@ -104,29 +107,207 @@ pub fn prepare<T: Table>(alloc: Global, room: u32, table: &mut T) -> Result<u32,
     }
 }
 
-// Appends the line of a row, if it has one.
+// What the line of an item that a transaction owns wants: the keys of the transaction's decision and of its shadow of the item, and
+// the item's own value.
+#[derive(Drop)]
+struct Owned {
+    decision: RowKey,
+    shadow: RowKey,
+    value: Value,
+}
+
+// The key of a transaction's decision.
+fn decision_key(alloc: Global, tx: &TxId) -> Result<RowKey, AllocError>
+    ensures { IfOk result (λ k. k ≡ decision_key_of tx.now) }
+{
+    let place = Place {
+        intent: tx.intent.copy(alloc)?,
+        step: tx.begin,
+    };
+    Ok(log_key(tx.func, place))
+}
+
+// What the line of an item wants that this transaction owns.
+fn owned_by(
+    alloc: Global,
+    home: u16,
+    tx: &TxId,
+    table: u16,
+    item: &Str,
+    value: &Value,
+) -> Result<Owned, AllocError>
+    ensures { IfOk result (λ o. o ≡ record { decision = decision_key_of tx.now; shadow = shadow_key_of home tx.now table item.now; value = value.now }) }
+{
+    Ok(Owned {
+        decision: decision_key(alloc, tx)?,
+        shadow: shadow_key(alloc, home, tx, table, item)?,
+        value: value.copy(alloc)?,
+    })
+}
+
+// Appends the line of the item whose first row has this key, if it has one with this value.
+fn write_value(
+    alloc: Global,
+    code: &Deployment,
+    key: &RowKey,
+    value: &Value,
+    text: &mut Str,
+) -> Result<(), AllocError>
+    ensures { OnOk result (text.new ≡ text.old ++ key_line code.now key.now.home key.now.kind value.now) }
+{
+    match &key.kind {
+        Kind::Data {
+            table,
+            key: item,
+            row: 0,
+        } => match value {
+            Value::Null => Ok(()),
+            value => write_item(alloc, code, key.home, *table, item, value, text),
+        },
+        _ => Ok(()),
+    }
+}
+
+// Appends the line of a row, if it has one; for an item that a transaction owns, it gives what its line wants instead.
 fn write_row(
     alloc: Global,
     code: &Deployment,
     key: &RowKey,
     row: &Row,
     text: &mut Str,
-) -> Result<(), AllocError>
-    ensures { OnOk result (text.new ≡ text.old ++ row_line code.now (key.now, row.now)) }
+) -> Result<Option<Owned>, AllocError>
+    ensures { IfOk result (λ o. (o, text.new) ≡ seen_of code.now text.old (key.now, row.now)) }
 {
     let Row::Cell(cell) = row else {
-        return Ok(());
+        return Ok(None);
     };
     match &key.kind {
         Kind::Data {
             table,
             key: item,
             row: 0,
-        } => match &cell.value {
-            Value::Null => Ok(()),
-            value => write_item(alloc, code, key.home, *table, item, value, text),
+        } => match &cell.owner {
+            Some(Owner::Tx(tx)) => Ok(Some(owned_by(
+                alloc,
+                key.home,
+                tx,
+                *table,
+                item,
+                &cell.value,
+            )?)),
+            _ => {
+                write_value(alloc, code, key, &cell.value, text)?;
+                Ok(None)
+            }
         },
-        _ => Ok(()),
+        _ => Ok(None),
+    }
+}
+
+// The key of the row after a key; its line is appended, but for an item that a transaction owns.
+fn next_seen<T: Table>(
+    alloc: Global,
+    code: &Deployment,
+    table: &mut T,
+    after: &RowKey,
+    text: &mut Str,
+) -> Result<Option<(RowKey, Option<Owned>)>, OpenErr>
+    ensures { Reads (λ m s. (s, text.new) ≡ next_seen_of code.now text.old (next_row m after.now)) (T.state table.old) (T.state table.new) result }
+{
+    match table.next(after)? {
+        None => Ok(None),
+        Some((key, row)) => {
+            let owned = write_row(alloc, code, key, row, text)?;
+            Ok(Some((key.copy(alloc)?, owned)))
+        }
+    }
+}
+
+fn says_commit(said: Said<'_>) -> bool
+    ensures { result ≡ is_commit (told_row (tell_of said.entry)) }
+{
+    match said {
+        Said::Row(Row::ReadLog(Value::Bool(commit))) => *commit,
+        _ => false,
+    }
+}
+
+// Whether a decision is a commit, by its row.
+fn is_committed<T: Table>(table: &mut T, decision: RowKey, now: u64) -> Result<bool, OpenErr>
+    ensures { Reads (λ m b. b ≡ is_commit (map.get m decision)) (T.state table.old) (T.state table.new) result }
+{
+    let said = table.act(decision, Act::Look, now)?;
+    Ok(says_commit(said))
+}
+
+fn says_value(alloc: Global, said: Said<'_>, value: Value) -> Result<Value, AllocError>
+    ensures { IfOk result (λ v. v ≡ value_in (told_row (tell_of said.entry)) value) }
+{
+    match said {
+        Said::Row(Row::Cell(cell)) => cell.value.copy(alloc),
+        _ => Ok(value),
+    }
+}
+
+// The value of a cell, or this one where there is none.
+fn cell_value<T: Table>(
+    alloc: Global,
+    table: &mut T,
+    key: RowKey,
+    value: Value,
+    now: u64,
+) -> Result<Value, OpenErr>
+    ensures { Reads (λ m v. v ≡ value_in (map.get m key) value) (T.state table.old) (T.state table.new) result }
+{
+    let said = table.act(key, Act::Look, now)?;
+    match says_value(alloc, said, value) {
+        Ok(value) => Ok(value),
+        Err(_) => Err(OpenErr::OutOfMemory),
+    }
+}
+
+// The value that is shown of an item that a transaction owns: the shadow's where it is committed and has one, else the item's own.
+fn owned_value<T: Table>(
+    alloc: Global,
+    table: &mut T,
+    owned: Owned,
+    now: u64,
+) -> Result<Value, OpenErr>
+    ensures { Reads (λ m v. v ≡ shown_value m owned.decision owned.shadow owned.value) (T.state table.old) (T.state table.new) result }
+{
+    let Owned {
+        decision,
+        shadow,
+        value,
+    } = owned;
+    match is_committed(table, decision, now) {
+        Ok(true) => cell_value(alloc, table, shadow, value, now),
+        Ok(false) => Ok(value),
+        Err(why) => Err(why),
+    }
+}
+
+// Appends the line of an item that a transaction owns, if there is one.
+fn write_owned<T: Table>(
+    alloc: Global,
+    code: &Deployment,
+    table: &mut T,
+    key: &RowKey,
+    owned: Option<Owned>,
+    now: u64,
+    text: &mut Str,
+) -> Result<(), OpenErr>
+    ensures { Reads (λ m u. text.new ≡ line_after code.now m key.now.home key.now.kind (owned, text.old)) (T.state table.old) (T.state table.new) result }
+{
+    let Some(owned) = owned else {
+        return Ok(());
+    };
+    match owned_value(alloc, table, owned, now) {
+        Ok(value) => match write_value(alloc, code, key, &value, text) {
+            Ok(()) => Ok(()),
+            Err(_) => Err(OpenErr::OutOfMemory),
+        },
+        Err(why) => Err(why),
     }
 }
 
@@ -136,31 +317,35 @@ fn next_line<T: Table>(
     code: &Deployment,
     table: &mut T,
     after: &RowKey,
+    now: u64,
     text: &mut Str,
 ) -> Result<Option<RowKey>, OpenErr>
-    ensures { Reads (λ m k. (k, text.new) ≡ next_line_of code.now text.old (next_row m after.now)) (T.state table.old) (T.state table.new) result }
+    ensures { Reads (λ m k. (k, text.new) ≡ next_line_of code.now m text.old (next_row m after.now)) (T.state table.old) (T.state table.new) result }
 {
-    match table.next(after)? {
-        None => Ok(None),
-        Some((key, row)) => {
-            write_row(alloc, code, key, row, text)?;
-            Ok(Some(key.copy(alloc)?))
-        }
+    match next_seen(alloc, code, table, after, text) {
+        Ok(None) => Ok(None),
+        Ok(Some((key, owned))) => match write_owned(alloc, code, table, &key, owned, now, text) {
+            Ok(()) => Ok(Some(key)),
+            Err(why) => Err(why),
+        },
+        Err(why) => Err(why),
     }
 }
 
-/// The listing of tables.
+/// The listing of tables. Where a transaction owns an item, the rows of its decision and of its shadow are looked at, at the moment
+/// `now`; a look changes nothing.
 pub fn list_tables<T: Table>(
     alloc: Global,
     code: &Deployment,
     table: &mut T,
+    now: u64,
 ) -> Result<Str, OpenErr>
     ensures { Reads (λ m s. s ≡ tables_text code.now m) (T.state table.old) (T.state table.new) result }
 {
     let mut text = Str::new(alloc);
     let mut at = RowKey::least(alloc);
     for _ in 0..u64::MAX {
-        match next_line(alloc, code, table, &at, &mut text) {
+        match next_line(alloc, code, table, &at, now, &mut text) {
             Ok(None) => return Ok(text),
             Ok(Some(key)) => at = key,
             Err(why) => return Err(why),
@@ -188,15 +373,15 @@ pub fn read_reply<T: Table>(
 }
 
 fn says_reply(alloc: Global, said: Said<'_>) -> Result<ReplySeen, AllocError>
-    ensures reply { IfOk result (λ x. x ≡ told_seen (tell_of said.entry)) }
+    ensures reply { IfOk result (λ x. x ≡ row_seen (told_row (tell_of said.entry))) }
     ensures known { IfOk result (λ x. x ≢ Unknown) }
 {
     match said {
-        Said::Absent => Ok(ReplySeen::Gone),
         Said::Row(Row::Intent(intent)) => match &intent.outcome {
             None => Ok(ReplySeen::Waiting),
             Some(outcome) => Ok(ReplySeen::Reply(outcome.copy(alloc)?)),
         },
-        _ => Ok(ReplySeen::Waiting),
+        Said::Row(_) => Ok(ReplySeen::Waiting),
+        _ => Ok(ReplySeen::Gone),
     }
 }

@@ -22,7 +22,7 @@ returns-in-Ok-None g c =
     let k = c.next_line.new.table in
     let d = c.args.code.now in
     let new = c.next_line.new.text in
-    ends (Listed d c.loop.text c.loop.at) (λ m (q : Option RowKey). (q, new) ≡ next_line_of d c.loop.text (next_row m c.loop.at)) (t.state a) (t.state b) (t.state k) c.loop.invariant
+    ends (Listed d c.loop.text c.loop.at) (λ m (q : Option RowKey). (q, new) ≡ next_line_of d m c.loop.text (next_row m c.loop.at)) (t.state a) (t.state b) (t.state k) c.loop.invariant
     (λ m (s : List ℕ). s ≡ tables_text d m) None new (λ m p q. listed_last d c.loop.text new c.loop.at m p q) (rw c.in-Ok-None.field-0-is at c.in-Ok-None.ensures)
 
 pub loop-preserved : goal.loop-preserved
@@ -33,5 +33,5 @@ loop-preserved g c =
     let k = c.next_line.new.table in
     let d = c.args.code.now in
     let new = c.next_line.new.text in
-    goes (Listed d c.loop.text c.loop.at) (λ m (q : Option RowKey). (q, new) ≡ next_line_of d c.loop.text (next_row m c.loop.at)) (t.state a) (t.state b) (t.state k) c.loop.invariant
+    goes (Listed d c.loop.text c.loop.at) (λ m (q : Option RowKey). (q, new) ≡ next_line_of d m c.loop.text (next_row m c.loop.at)) (t.state a) (t.state b) (t.state k) c.loop.invariant
     (Listed d new c.in-Ok-Some.key) (Some c.in-Ok-Some.key) (λ m p q. listed_next d c.loop.text new c.loop.at c.in-Ok-Some.key m p q) (rw c.in-Ok-Some.field-0-is at c.in-Ok-Some.ensures)

@@ -12,4 +12,4 @@ decreases-unbuilt_at l = command_size (command_of l.stmt.now)
 
 -- the first one is among the statements that are left
 abbrev pub invariant-unbuilt_in-loop-stmt : goal.invariant-unbuilt_in-loop-stmt
-invariant-unbuilt_in-loop-stmt l = unbuilt_in (commands_of (statements_view (drop l.stmt-index l.stmt-items))) ≡ unbuilt_in (commands_of (statements_view l.stmt-items))
+invariant-unbuilt_in-loop-stmt l = unbuilt_in l.inside (commands_of (statements_view (drop l.stmt-index l.stmt-items))) ≡ unbuilt_in l.inside (commands_of (statements_view l.stmt-items))
