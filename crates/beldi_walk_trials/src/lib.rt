@@ -1,0 +1,7 @@
+//! Tests of walks over a table, most of which the program makes as parts of its runs alone. It has no other code.
+#![tactic(auto)]
+
+#[cfg(test)]
+mod transactions;
+#[cfg(test)]
+mod walks;
