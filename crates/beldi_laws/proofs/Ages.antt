@@ -1,5 +1,5 @@
 -- Who lets an operation inside die: it owns the item, was made, and is older than the transaction.
-use Rattle.std.proofs.Common.{◌≡◌, ◌∙◌, ◌⊎◌, inl, inr, ℕ, ◌<◌, ◌&&◌, ◌||◌, not, Bool, true, false, List, [], ◌∷◌, ◌++◌, length, Option, None, Some, is_some, refl, ap, sym, subst, append_assoc, append-nil, eq-eqb, if◌then◌else◌}
+use Rattle.std.proofs.Common.{◌≡◌, ◌∙◌, inl, inr, ℕ, ◌&&◌, ◌||◌, not, Bool, true, false, List, [], ◌∷◌, ◌++◌, length, Option, None, Some, is_some, refl, ap, sym, subst, append_assoc, append-nil, eq-eqb, if◌then◌else◌}
 use Rattle.std.specs.FinMap as map
 use Rattle.beldi_value.specs.Id.{age_of, is_older}
 use Rattle.beldi_value.specs.declared.id.IntentId.{IntentId}
@@ -29,14 +29,14 @@ use Rattle.beldi_order.proofs.Went.{txs_pushed}
 use Rattle.beldi_known.specs.Acts.{Told, died, held, lock_on, lock_or, noted_or, with_note}
 use Rattle.beldi_known.specs.Beside.{Beside, is_begin}
 use Rattle.beldi_known.specs.Contents.{content_of, is_owner}
-use Rattle.beldi_known.specs.Known.{Known, ended_by, got_before, got_by, is_item, is_on, is_tx, tx_end}
+use Rattle.beldi_known.specs.Known.{Known, ended_by, got_before, got_by, is_item, is_on, is_tx}
 use Rattle.beldi_known.specs.Matches.{Matches}
 use Rattle.beldi_known.proofs.Frame.{ended_stays}
 use Rattle.beldi_known.proofs.Locks.{tx_same}
 use Rattle.beldi_known.proofs.OneFunction.{Own, own, own_by}
 use Rattle.beldi_known.proofs.Owners.{her_own}
 use Rattle.beldi_known.proofs.Phases.{begin_is}
-use Rattle.beldi_known.proofs.ReadLists.{Since, both, gathered, got_since}
+use Rattle.beldi_known.proofs.ReadLists.{both, gathered, got_since}
 use Rattle.beldi_laws.specs.Inside.{Released}
 use Rattle.beldi_laws.proofs.Released.{ended_at}
 

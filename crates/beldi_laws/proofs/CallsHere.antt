@@ -40,7 +40,7 @@ use Rattle.beldi_value.specs.declared.value.Value.{Value}
 use Rattle.beldi_known.specs.Owed.{called_by, result_of}
 use Rattle.beldi_known.specs.Rows.{IsBodyOf}
 use Rattle.beldi_laws.specs.Right.{Right, Knows, KnowsAt}
-use Rattle.beldi_known.proofs.Ahead.{ahead_set, none_out}
+use Rattle.beldi_known.proofs.Ahead.{unlocked_absent, ahead_set, none_out}
 use Rattle.beldi_known.specs.Known.{owed_call, Known, at_once, moved}
 use Rattle.beldi_order.specs.Txs.{tx_at, tx_after}
 use Rattle.beldi_known.specs.Sane.{Sane, within_of}
@@ -49,7 +49,7 @@ use Rattle.beldi_value.specs.declared.place.TxId.{TxId}
 use Rattle.beldi_value.specs.declared.place.Caller.{Caller}
 use Rattle.beldi_known.proofs.Frame.{at_once_same}
 use Rattle.beldi_known.proofs.Calls.{call_opened, made_owes}
-use Rattle.beldi_laws.proofs.Outside.{plain_none, unlocked_new}
+use Rattle.beldi_laws.proofs.Outside.{plain_none}
 use Rattle.beldi_known.proofs.Instances.{no_own_callee}
 use Rattle.beldi_known.specs.InsideLaws.{Goes}
 use Rattle.beldi_known.specs.Shadows.{tx_of}
@@ -182,7 +182,7 @@ call_row d known locked ends sane id i f v waits is new m step func steps func_i
     let same = at_once_same d (callee_of id i) s in
     subst (λ n. Matches d (set_row m (invoke_key func (place_of id n)) (Some (rows.Invoke (opened f)))) (map.insert known (callee_of id i) z) locked) (sym steps)
     (subst (λ g. Matches d (set_row m (invoke_key g (place_of id (length i.answers))) (Some (rows.Invoke (opened f)))) (map.insert known (callee_of id i) z) locked) func_is
-    (call_opened d known locked id i z waits is new (childless d known sane (callee_of id i) new) (unlocked_new d known locked ends (callee_of id i) new) (made_owes d known (callee_of id i) f v (Some (calls_at id i waits))) (sym (ap (λ (b : Body). b.from) same.body)) same.outcome m (opened f) (sym same.func) refl h))
+    (call_opened d known locked id i z waits is new (childless d known sane (callee_of id i) new) (unlocked_absent d known locked ends (callee_of id i) new) (made_owes d known (callee_of id i) f v (Some (calls_at id i waits))) (sym (ap (λ (b : Body). b.from) same.body)) same.outcome m (opened f) (sym same.func) refl h))
 
 -- .. now: it is the instance's next step
 module _ (d : Deployment) (c : Core) (m : Rows) (i : ℕ) (r : Run) (g : Begun) (h : Right d c m) (live : map.get c.runs i ≡ Some r) (k : Knows d c.book h.known r g) (finds : Inside d m h.plain h.known r g) (out : tx_after d r.id k.instance k.answers ≡ None)
@@ -218,7 +218,7 @@ module _ (d : Deployment) (c : Core) (m : Rows) (i : ℕ) (r : Run) (g : Begun) 
   -- its step is entered, where its id has callees
   pub call_entered : has_callees r.id ≡ true → (next : Known) → Entered d c h.plain h.known (Step r.id) (step_by h.plain r.id k.instance (call_of w f v)) next
   call_entered hops next = change_entered d c m h (Step r.id) (step_by h.plain r.id k.instance (call_of w f v)) next refl
-      (enabled_step d h.plain r.id k.instance there (not_over d c m i r g h live k left (subst (λ e. IsTrue (wants_answer e)) (sym is) (wants_one w))) (ap (waits_at h.plain.made r.id k.instance) call_now ∙ waits_not w)
+      (enabled_step d h.plain r.id k.instance there (not_over d c m r g h k left (subst (λ e. IsTrue (wants_answer e)) (sym is) (wants_one w))) (ap (waits_at h.plain.made r.id k.instance) call_now ∙ waits_not w)
       (ap (kind_of r.id) call_now ∙ is_change w) ∙ ap (λ z. Some (step_by h.plain r.id k.instance z)) call_now)
       (λ x touched. let none = sym (ap (touched_by d) there ∙ ap (item_touched k.instance) call_now ∙ touches w) ∙ touched in cc)
     where
@@ -250,7 +250,7 @@ module _ (d : Deployment) (c : Core) (m : Rows) (i : ℕ) (r : Run) (g : Begun) 
 
   -- nobody has a lock ahead that had none
   pub callee_ahead : LockedAtEnds d given h.locked
-  callee_ahead = ahead_set d h.known h.locked h.locked_at_ends h.locked made_id (at_once d made_id made_new) (none_out h.locked made_id (unlocked_new d h.known h.locked h.locked_at_ends made_id absent_here))
+  callee_ahead = ahead_set d h.known h.locked h.locked_at_ends h.locked made_id (at_once d made_id made_new) (none_out h.locked made_id (unlocked_absent d h.known h.locked h.locked_at_ends made_id absent_here))
 
   pub callee_settled : (p : PlainState) → Grows h.plain.made p.made → Settled d m p given
   callee_settled p grows = settled_new d m p h.known made_id made_new refl (settled_grown d m h.plain p h.known grows (settled h))

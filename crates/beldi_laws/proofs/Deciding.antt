@@ -17,7 +17,7 @@ use Rattle.beldi_lang.specs.declared.effect.Answer.{Answer}
 use Rattle.beldi_lang.specs.declared.effect.Answer.TheVariants as answer
 use Rattle.beldi_lang.specs.declared.effect.Effect.TheVariants as effect
 use Rattle.beldi_lang.specs.Wants.{wants_answer}
-use Rattle.beldi_lang.proofs.Resumes.{at_effect, few_answers}
+use Rattle.beldi_lang.proofs.Resumes.{few_answers}
 use Rattle.beldi_book.specs.declared.entry.Entry.TheVariants.{Tx, Try}
 use Rattle.beldi_book.specs.Order.{seen_of}
 use Rattle.beldi_row.specs.Act.{act, owns}
@@ -80,7 +80,7 @@ use Rattle.beldi_known.proofs.Participants.{ends_alone}
 use Rattle.beldi_known.proofs.Rows.{set_others, no_root}
 use Rattle.beldi_known.proofs.Sanes.{sane_decided}
 use Rattle.beldi_known.proofs.Sees.{unowned_kept}
-use Rattle.beldi_laws.specs.Inside.{AreMarked, AtStage, Frame, Inside, end_walk}
+use Rattle.beldi_laws.specs.Inside.{OwnedAreUnmarked, AtStage, Frame, Inside, end_walk}
 use Rattle.beldi_laws.specs.Right.{Right, Knows, MarkOk, StageOk, open_of}
 use Rattle.beldi_laws.proofs.Decisions.{commit_goes, abort_goes}
 use Rattle.beldi_laws.proofs.Fallen.{open_there, fell_at_none, fell_by_made}
@@ -92,7 +92,7 @@ use Rattle.beldi_laws.proofs.OpenOf.{begin_of, open_begun}
 use Rattle.beldi_laws.proofs.Outside.{made_of}
 use Rattle.beldi_laws.proofs.Others.{kept_by, owner_is, end_here}
 use Rattle.beldi_laws.proofs.Shown.{Settled, Shows, holds_here, legal_sane, settled}
-use Rattle.beldi_laws.proofs.Turns.{all_here, decides_on, effect_here, effect_next, front_here, sane_instance, stands_on, step_here}
+use Rattle.beldi_laws.proofs.Turns.{at_steps, wanted_here, all_here, decides_on, effect_next, sane_instance, stands_on, step_here}
 
 -- ---- small facts
 -- its own decision is the one that is there
@@ -178,10 +178,10 @@ module _ (d : Deployment) (c : Core) (m : Rows) (i : ℕ) (r : Run) (g : Begun) 
   next_visit = record { item = None; value = None; at = Callees }
 
   steps : g.machine.steps ≡ length k.answers
-  steps = (at_effect d r.func k.instance.args (is_some k.instance.within) g.machine k.answers k.machine).1
+  steps = at_steps d c.book h.known r g k
 
   effect_so : effect_after d k.instance k.answers ≡ effect.End commit
-  effect_so = ap (effect_after d k.instance) (sym (front_here d c.book h.known r g k)) ∙ effect_here d c.book h.known r g k ∙ is
+  effect_so = wanted_here d c.book h.known r g k ∙ is
 
   begun_here : (txs_after d k.instance k.answers).begun ≡ Some o.begin
   begun_here = open_begun d k.instance k.answers ∙ ap begin_of opened
@@ -190,7 +190,7 @@ module _ (d : Deployment) (c : Core) (m : Rows) (i : ℕ) (r : Run) (g : Begun) 
   few = few_answers d k.instance.func k.instance.args (is_some k.instance.within) k.answers (subst (λ z. IsTrue (wants_answer z)) (sym effect_so) refl)
 
   sane_here : SaneInstance d r.id k.instance
-  sane_here = sane_instance d c m i r g h live k
+  sane_here = sane_instance d c m r g h k
 
   -- the key is that of its instance
   own_key : log_key k.instance.func (place_of r.id o.begin) ≡ key
@@ -204,7 +204,7 @@ module _ (d : Deployment) (c : Core) (m : Rows) (i : ℕ) (r : Run) (g : Begun) 
   mark_end = subst (λ t. MarkOk r.id g.machine.steps t g.machine.effect (stage.End next_visit)) (sym tx) (subst (λ e. MarkOk r.id g.machine.steps (Some o) e (stage.End next_visit)) (sym is) tt)
 
   -- the decision is there, and no item was passed yet
-  next_found : (n : Rows) (p : PlainState) (known : Known) (locked : IntentId → Bool) → Matches d n known locked → AreMarked d n known → tx_end d known own ≡ Some (g.machine.steps, commit) → map.get n key ≡ row
+  next_found : (n : Rows) (p : PlainState) (known : Known) (locked : IntentId → Bool) → Matches d n known locked → OwnedAreUnmarked d n known → tx_end d known own ≡ Some (g.machine.steps, commit) → map.get n key ≡ row
       → AtStage d n p known r.id r.func g.tx g.machine.steps g.machine.effect (stage.End next_visit)
   next_found n p known locked matches marks ended there = subst (λ t. AtStage d n p known r.id r.func t g.machine.steps g.machine.effect (stage.End next_visit)) (sym tx) (subst (λ e. AtStage d n p known r.id r.func (Some o) g.machine.steps e (stage.End next_visit)) (sym is) visited)
     where
@@ -287,7 +287,7 @@ module _ (d : Deployment) (c : Core) (m : Rows) (i : ℕ) (r : Run) (g : Begun) 
     ended_now = ap (ended_by d o.begin) (here h.known r.id over) ∙ end_is o.begin ∙ ap (λ b. if b then Some (length k.instance.answers, commit) else end_of d k.instance o.begin) (eq-eqb o.begin o.begin refl) ∙ ap (λ z. Some (z, commit)) (sym step_now)
 
     -- no note is at its place yet
-    marks_now : AreMarked d m next
+    marks_now : OwnedAreUnmarked d m next
     marks_now t z x w e owned noted = known_set h.known r.id over (λ j u. ended_by d t.begin u ≡ Some z → t.intent ≡ j → ⊥) (λ ends mine. by_begin (t.begin == o.begin) mine (sym (end_is t.begin) ∙ ends))
         (λ j other ends mine. h.marks t z x w (ap (λ y. ended_by d t.begin (map.get h.known y)) mine ∙ ends) owned noted) t.intent e refl
       where

@@ -57,13 +57,13 @@ use Rattle.beldi_known.specs.Matches.{Matches, LockedAtEnds}
 use Rattle.beldi_known.specs.Beside.{is_begin}
 use Rattle.beldi_known.specs.InsideLaws.{Goes}
 use Rattle.beldi_known.specs.Listed.{listed}
-use Rattle.beldi_known.proofs.Ahead.{ahead_set, none_out}
+use Rattle.beldi_known.proofs.Ahead.{unlocked_outside, ahead_set, none_out}
 use Rattle.beldi_laws.specs.Inside.{Frame, Inside}
 use Rattle.beldi_laws.proofs.CallsHere.{called_in, goes_answered_then}
 use Rattle.beldi_laws.proofs.KeptSane.{returned_kept, ended_kept}
 use Rattle.beldi_laws.proofs.Shown.{Settled, settled, log_values, legal_sane}
 use Rattle.beldi_known.proofs.Opened.{outside_so, outside_parts}
-use Rattle.beldi_laws.proofs.Outside.{unlocked_here, same_here, outside_more}
+use Rattle.beldi_laws.proofs.Outside.{same_here, outside_more}
 use Rattle.beldi_laws.proofs.Grown.{grows_moved}
 use Rattle.beldi_order.specs.Grown.{Grows}
 use Rattle.beldi_known.proofs.Outside.{call_answered}
@@ -130,7 +130,7 @@ module _ (d : Deployment) (c : Core) (m : Rows) (i : ℕ) (r : Run) (g : Begun) 
 
   -- an outcome that it has is this one
   same_outcome : (u : Outcome) → k.instance.outcome ≡ Some u → u ≡ o
-  same_outcome u has = let both : Return u ≡ Return o = sym ((sane_instance d c m i r g h live k).over u has) ∙ returns_now in cc
+  same_outcome u has = let both : Return u ≡ Return o = sym ((sane_instance d c m r g h k).over u has) ∙ returns_now in cc
 
   abbrev done : Instance
   done = ended k.instance o
@@ -213,7 +213,7 @@ module _ (d : Deployment) (c : Core) (m : Rows) (i : ℕ) (r : Run) (g : Begun) 
       caller_outside = outside_so d w.caller w.waiter w.waiter.answers (let s = sane_of d h.plain w.caller w.waiter (legal_sane h) w.made in (s.outside, s.ended)) no_begin_there
 
       caller_unlocked : h.locked w.caller ≡ false
-      caller_unlocked = unlocked_here d h.known h.locked h.locked_at_ends w.caller w.waiter caller_here caller_outside
+      caller_unlocked = unlocked_outside d h.known h.locked h.locked_at_ends w.caller w.waiter caller_here caller_outside
 
       caller_still : map.get over w.caller ≡ Some w.waiter
       caller_still = elsewhere h.known r.id w.caller done (not_itself d h.plain r.id k.instance w) ∙ caller_here

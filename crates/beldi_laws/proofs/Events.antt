@@ -85,13 +85,13 @@ use Rattle.beldi_laws.proofs.Frames.{frame_row, items_stay, settled_grown, settl
 use Rattle.beldi_laws.proofs.Others.{kept_by}
 use Rattle.beldi_laws.proofs.Keeping.{goes_made, set_shadows}
 use Rattle.beldi_laws.proofs.InsideTurns.{tx_turn, decide_turn, end_turn}
-use Rattle.beldi_laws.proofs.Outside.{plain_none, unlocked_new, outcome_known}
+use Rattle.beldi_laws.proofs.Outside.{plain_none, outcome_known}
 use Rattle.beldi_laws.proofs.Registered.{log_stays}
 use Rattle.beldi_laws.proofs.CallsHere.{childless}
 use Rattle.beldi_known.proofs.Intents.{root_bound}
 use Rattle.beldi_known.proofs.Sets.{row_put}
 use Rattle.beldi_known.specs.Listed.{listed_under}
-use Rattle.beldi_known.proofs.Ahead.{ahead_set, none_out}
+use Rattle.beldi_known.proofs.Ahead.{unlocked_absent, ahead_set, none_out}
 use Rattle.beldi_known.proofs.Insides.{none_show}
 use Rattle.beldi_known.proofs.Nothing.{ahead_nothing, nothing_matches, sane_nothing}
 
@@ -228,7 +228,7 @@ module _ (d : Deployment) (c : Core) (m : Rows) (h : Right d c m) (t f : ℕ) (a
       let n = set_row m (root_key t) (Some (rows.Intent (bound_row i))) in
       let leads = change_entered d c m h (Start t f a) state next refl (start_is h.plain t f a (map.get h.plain.made own_id) (or_parts (t == 0) (nat_lt c.newest t) issued).0 not_made)
       (λ x touched. let none = sym (ap (touched_by d) not_made) ∙ touched in cc) in
-      let unlocked = unlocked_new d h.known h.locked h.locked_at_ends own_id not_known in
+      let unlocked = unlocked_absent d h.known h.locked h.locked_at_ends own_id not_known in
       let frame = frame_row d m h.plain state h.known next (items_stay d m h.plain state next refl) (root_key t) (Some (rows.Intent (bound_row i))) refl refl in
       let kept : Kept h n state next h.locked = kept_by d c m n h state next h.locked
       (record {

@@ -6,7 +6,6 @@ use Rattle.std.specs.Ordering.{is_eq}
 use Rattle.beldi_value.specs.declared.id.IntentId.{IntentId}
 use Rattle.beldi_value.specs.declared.outcome.Cause.{Cause}
 use Rattle.beldi_value.specs.declared.outcome.Outcome.{Outcome}
-use Rattle.beldi_value.specs.declared.place.Owner.TheVariants as owner
 use Rattle.beldi_value.specs.declared.place.Owner.TheVariants.{Tx as ByTx}
 use Rattle.beldi_value.specs.declared.place.Place.{Place}
 use Rattle.beldi_value.specs.declared.place.TxId.{TxId}
@@ -40,7 +39,7 @@ use Rattle.beldi_plain.specs.Item.{Item, item_cmp}
 use Rattle.beldi_plain.specs.Operation.{set_if, or_old, touched}
 use Rattle.beldi_plain.specs.Plain.{Instance, PlainState, value_at, answered, ended, effect_of, effect_before}
 use Rattle.beldi_plain.specs.Executor.{answered_if}
-use Rattle.beldi_order.specs.Grown.{Grows, GrownAt}
+use Rattle.beldi_order.specs.Grown.{Grows}
 use Rattle.beldi_order.specs.Sane.{call_of}
 use Rattle.beldi_order.specs.Txs.{Txs, tx_at, tx_now, tx_after, txs_after, txs_by, end_of, effect_after}
 use Rattle.beldi_order.proofs.Maps.{here as known_here, same_some}
@@ -56,8 +55,9 @@ use Rattle.beldi_known.proofs.Outside.{no_tx, free_after}
 use Rattle.beldi_known.proofs.Owners.{IsFreeFor}
 use Rattle.beldi_known.proofs.Rows.{set_others}
 use Rattle.beldi_known.proofs.Opened.{outside_parts}
-use Rattle.beldi_laws.specs.Inside.{AreMarked, Frame, IsWriting, StillOwns}
+use Rattle.beldi_laws.specs.Inside.{OwnedAreUnmarked, Frame, IsWriting, StillOwns}
 use Rattle.beldi_laws.proofs.KeptSane.{outside_effect}
+use Rattle.beldi_laws.proofs.Lives.{made_stays}
 use Rattle.beldi_laws.proofs.Outside.{is_of_tx}
 use Rattle.beldi_laws.proofs.Shown.{Settled}
 
@@ -244,12 +244,6 @@ module _ (d : Deployment) (m : Rows) (p q : PlainState) (known next : Known) (va
       by_key t z x e here false g = ap is_some (sym (same (lockset_key t.intent t.begin x) g)) ∙ here
 
 -- ---- what rows keep of transactions
--- what was made stays made
-made_stays : (o u : Option Instance) → GrownAt o u → is_some o ≡ true → is_some u ≡ true
-made_stays None u w there = cc
-made_stays (Some i) None w there = absurd w
-made_stays (Some i) (Some j) w there = refl
-
 -- the plain state grows
 pub settled_grown : (d : Deployment) (m : Rows) (p q : PlainState) (known : Known) → Grows p.made q.made → Settled d m p known → Settled d m q known
 settled_grown d m p q known grows h = record { marks = h.marks; holders = λ id k n c i is inside dead holder. made_stays (map.get p.made i) (map.get q.made i) (grows i) (h.holders id k n c i is inside dead holder); uncalled = h.uncalled }
@@ -265,7 +259,7 @@ pub record IsSettled (d : Deployment) (p : PlainState) (known : Known) (id : Int
   pub uncalled : (n : ℕ) (w : Bool) (f : ℕ) (v : Value) → n < length s.answers → effect_before d s n ≡ call_of w f v → tx_at d id s n ≡ None
 
 -- an instance is set, of whose ends the rows keep what they have to
-pub settled_by : (d : Deployment) (m : Rows) (p : PlainState) (known : Known) (id : IntentId) (s : Instance) → AreMarked d m (map.insert known id s) → IsSettled d p (map.insert known id s) id s → Settled d m p known → Settled d m p (map.insert known id s)
+pub settled_by : (d : Deployment) (m : Rows) (p : PlainState) (known : Known) (id : IntentId) (s : Instance) → OwnedAreUnmarked d m (map.insert known id s) → IsSettled d p (map.insert known id s) id s → Settled d m p known → Settled d m p (map.insert known id s)
 settled_by d m p known id s marks one h = record {
   marks = marks;
   holders = λ j k n c i is inside dead holder. known_set known id s (λ j o. o ≡ Some k → is_some (tx_at d j k n) ≡ true → is_some (map.get p.made i) ≡ true)

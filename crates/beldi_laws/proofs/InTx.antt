@@ -1,16 +1,21 @@
 -- An operation of a run inside a transaction: where it stands among the answers that are known, and in which transaction.
-use Rattle.std.proofs.Common.{◌≡◌, ℕ, ◌<◌, Bool, true, false, List, [], ◌∷◌, ◌++◌, length, length-append, Option, None, Some, refl, ap, sym, ◌∙◌, subst, IsTrue, is_some, arith}
+use Rattle.std.proofs.Common.{◌≡◌, ℕ, ◌<◌, Bool, true, false, List, [], ◌∷◌, ◌++◌, length, length-append, Option, None, Some, refl, ap, sym, ◌∙◌, subst, append_assoc, IsTrue, is_some, arith}
 use Rattle.std.specs.FinMap as map
-use Rattle.beldi_value.specs.declared.outcome.Outcome.{Outcome}
+use Rattle.beldi_value.specs.declared.id.IntentId.{IntentId}
 use Rattle.beldi_value.specs.declared.place.TxId.{TxId}
 use Rattle.beldi_tree.specs.declared.deployment.Deployment.{Deployment}
 use Rattle.beldi_lang.specs.declared.effect.Answer.{Answer}
 use Rattle.beldi_lang.specs.declared.effect.Effect.{Effect}
 use Rattle.beldi_lang.specs.declared.effect.Effect.TheVariants as effect
 use Rattle.beldi_lang.specs.Wants.{wants_answer}
-use Rattle.beldi_lang.proofs.Resumes.{at_effect, few_answers}
+use Rattle.beldi_lang.proofs.Resumes.{few_answers}
 use Rattle.beldi_row.specs.Log.{note_at}
-use Rattle.beldi_row.specs.Table.{Rows}
+use Rattle.beldi_row.specs.Table.{Rows, set_row}
+use Rattle.beldi_row.specs.declared.key.Kind.{Kind}
+use Rattle.beldi_row.specs.declared.row.Row.{Row}
+use Rattle.beldi_row.specs.declared.row.Row.TheVariants as rows
+use Rattle.beldi_intent.specs.Intent.{root_key}
+use Rattle.beldi_txn.specs.declared.tx.TxAt.{TxAt}
 use Rattle.beldi_row.specs.declared.notes.Note.TheVariants as note
 use Rattle.beldi_plain.specs.Item.{Item}
 use Rattle.beldi_plain.specs.Operation.{touched}
@@ -22,23 +27,30 @@ use Rattle.beldi_order.proofs.Sanes.{sane_of}
 use Rattle.beldi_step.specs.declared.run.Begun.{Begun}
 use Rattle.beldi_step.specs.declared.run.OpenTx.{OpenTx}
 use Rattle.beldi_step.specs.declared.run.Run.{Run}
+use Rattle.beldi_step.specs.declared.run.Says.TheVariants as says
+use Rattle.beldi_step.specs.declared.run.Stage.TheVariants as stage
 use Rattle.beldi_step.specs.Host.{Core}
 use Rattle.beldi_step.specs.Run.{own_tx, place_of}
 use Rattle.beldi_txn.specs.Tx as txn
+use Rattle.beldi_txn.specs.TxTurn.{Fits}
 use Rattle.beldi_known.specs.Beside.{begins, is_begin}
 use Rattle.beldi_known.specs.Contents.{content_of}
 use Rattle.beldi_known.specs.InsideLaws.{IsOpen}
 use Rattle.beldi_known.specs.Known.{ahead_by, tx_end, last_step}
 use Rattle.beldi_known.specs.Laws.{IsFront, IsBehind}
-use Rattle.beldi_known.specs.Sane.{SaneInstance}
+use Rattle.beldi_known.specs.Matches.{LocksetMatches}
 use Rattle.beldi_known.proofs.AtFront.{note_is_ahead}
 use Rattle.beldi_known.proofs.Opened.{IsOutside, outside_so}
 use Rattle.beldi_known.proofs.Participants.{now_open}
-use Rattle.beldi_laws.specs.Right.{Right, Knows}
+use Rattle.beldi_known.proofs.Rows.{is_intent_key, no_root, set_others}
+use Rattle.beldi_laws.specs.Right.{Right, Knows, MarkOk, StageOk}
+use Rattle.beldi_laws.specs.Inside.{AtStage, InItem, InOperation, Inside}
+use Rattle.beldi_laws.proofs.Grown.{grown_same}
+use Rattle.beldi_laws.proofs.Moves.{Kept, SameRoots, Stays}
 use Rattle.beldi_laws.proofs.OpenOf.{open_tx}
-use Rattle.beldi_laws.proofs.Outside.{made_of, called_outside}
+use Rattle.beldi_laws.proofs.Outside.{made_of}
 use Rattle.beldi_laws.proofs.Shown.{legal_sane}
-use Rattle.beldi_laws.proofs.Turns.{front_here, effect_here, answer_here, all_here, effect_next}
+use Rattle.beldi_laws.proofs.Turns.{Freed, Leaves, answers_on, not_over, own_here, sane_instance, stands_on, at_steps, wanted_here, front_here, effect_here, answer_here, all_here, effect_next}
 
 -- an operation is on its item, wants an answer, and is no begin
 pub touches : (e : Effect) (x : ℕ × List ℕ) → txn.item_of e ≡ Some x → touched e ≡ Some x
@@ -55,12 +67,26 @@ pub no_begin : (e : Effect) (x : ℕ × List ℕ) → touched e ≡ Some x → i
 no_begin effect.Begin x h = cc
 no_begin e x h = refl
 
+-- a run at an operation has no mark
+pub no_mark : (id : IntentId) (n : ℕ) (o : Option OpenTx) (e : Effect) (a : TxAt) → MarkOk id n o e (stage.Tx a)
+no_mark id n (Some o) (effect.End commit) a = tt
+no_mark id n o e a = tt
+
+-- a lockset row that is there is one
+pub lockset_is : (r : Option Row) (owed ahead : Bool) → LocksetMatches r owed ahead → is_some r ≡ true → r ≡ Some rows.Lockset
+lockset_is None owed ahead h there = cc
+lockset_is (Some rows.Lockset) owed ahead h there = refl
+lockset_is (Some r) owed ahead h there = absurd h
+
+-- where a row was set that is no intent's, the roots are as they were
+pub set_roots : (m : Rows) (home : ℕ) (kind : Kind) (v : Option Row) → is_intent_key kind ≡ false → SameRoots m (set_row m (record { home = home; kind = kind }) v)
+set_roots m home kind v off u = ap is_some (set_others m (record { home = home; kind = kind }) v (root_key u) (no_root u home kind off))
+
 -- a run that stands in a transaction has it open
-pub opens : (d : Deployment) (c : Core) (m : Rows) (r : Run) (g : Begun) (h : Right d c m) (k : Knows d c.book h.known r g) (t : TxId) → tx_after d r.id k.instance k.answers ≡ Some t → (x : ℕ × List ℕ) → touched g.machine.effect ≡ Some x
+pub opens : (d : Deployment) (c : Core) (m : Rows) (r : Run) (g : Begun) (h : Right d c m) (k : Knows d c.book h.known r g) (t : TxId) → tx_after d r.id k.instance k.answers ≡ Some t → is_begin g.machine.effect ≡ false
     → (o : OpenTx) × (g.tx ≡ Some o) × (tx_after d r.id k.instance k.answers ≡ Some (own_tx r.id r.func o))
-opens d c m r g h k t inside x touch =
-    let front = ap (effect_after d k.instance) (sym (front_here d c.book h.known r g k)) ∙ effect_here d c.book h.known r g k in
-    let z = open_tx d r.id k.instance k.answers t (called_outside d h.plain h.known h.beside r.id k.instance k.made (legal_sane h)) inside (ap is_begin front ∙ no_begin g.machine.effect x touch) in
+opens d c m r g h k t inside apart =
+    let z = open_tx d r.id k.instance k.answers t (own_here d c m r g h k) inside (ap is_begin (wanted_here d c.book h.known r g k) ∙ apart) in
     (z.0, k.run_open ∙ z.1, inside ∙ ap Some z.2 ∙ ap (λ f. Some (own_tx r.id f z.0)) k.func)
 
 module _ (d : Deployment) (c : Core) (m : Rows) (r : Run) (g : Begun) (h : Right d c m) (k : Knows d c.book h.known r g) (o : OpenTx) (here : tx_after d r.id k.instance k.answers ≡ Some (own_tx r.id r.func o))
@@ -79,10 +105,10 @@ module _ (d : Deployment) (c : Core) (m : Rows) (r : Run) (g : Begun) (h : Right
   same_item i = record { func = k.func i; table = x.0; key = x.1 }
 
   pub steps : g.machine.steps ≡ length k.answers
-  steps = (at_effect d r.func k.instance.args (is_some k.instance.within) g.machine k.answers k.machine).1
+  steps = at_steps d c.book h.known r g k
 
   pub effect_so : effect_after d k.instance k.answers ≡ e
-  effect_so = ap (effect_after d k.instance) (sym (front_here d c.book h.known r g k)) ∙ effect_here d c.book h.known r g k ∙ is
+  effect_so = wanted_here d c.book h.known r g k ∙ is
 
   pub wants_here : IsTrue (wants_answer g.machine.effect)
   wants_here = subst (λ z. IsTrue (wants_answer z)) (sym is) (wants_one e x touch)
@@ -91,26 +117,19 @@ module _ (d : Deployment) (c : Core) (m : Rows) (r : Run) (g : Begun) (h : Right
   pub short : length k.answers < last_step
   short = let n = few_answers d k.instance.func k.instance.args (is_some k.instance.within) k.answers (subst (λ z. IsTrue (wants_answer z)) (sym effect_so) (wants_one e x touch)) in omega (arith, n)
 
-  pub sane_instance : SaneInstance d r.id k.instance
-  sane_instance = h.sane.each r.id k.instance k.made
-
-  -- nobody was called in a transaction yet
-  pub outside : k.instance.within ≡ None
-  outside = called_outside d h.plain h.known h.beside r.id k.instance k.made (legal_sane h)
-
   -- ---- behind: its step has an answer
   module _ (a : Answer) (rest : List Answer) (left : k.later ≡ a ∷ rest) where
     pub known_answers : k.answers ++ a ∷ rest ≡ k.instance.answers
     known_answers = ap (λ ys. k.answers ++ ys) (sym left) ∙ k.run_answers
 
     pub behind : IsBehind d m h.known r.id k.instance k.answers a
-    behind = record { locked = h.locked; matches = h.rows; made = k.made; sane = sane_instance; rest = rest; run_answers = known_answers; short = short }
+    behind = record { locked = h.locked; matches = h.rows; made = k.made; sane = sane_instance d c m r g h k; rest = rest; run_answers = known_answers; short = short }
 
     -- .. which is one to its effect
     pub answers_so : IsAnswer (place_of r.id g.machine.steps) (Some own) e a
     answers_so = subst (λ z. IsAnswer (place_of r.id g.machine.steps) (Some own) z a) (effect_here d c.book h.known r g k ∙ is)
         (subst (λ t. IsAnswer (place_of r.id g.machine.steps) t (effect_before d k.instance g.machine.steps) a) (ap (tx_after d r.id k.instance) (front_here d c.book h.known r g k) ∙ here)
-        (sane_instance.past g.machine.steps a (answer_here d c.book h.known r g k (a ∷ rest) left)))
+        ((sane_instance d c m r g h k).past g.machine.steps a (answer_here d c.book h.known r g k (a ∷ rest) left)))
 
   -- ---- at the front: it is the instance's next
   -- where the instance was not answered since
@@ -139,11 +158,7 @@ module _ (d : Deployment) (c : Core) (m : Rows) (r : Run) (g : Begun) (h : Right
     apart = ap is_begin now ∙ no_begin e x touch
 
     pub open_still : k.instance.outcome ≡ None
-    open_still = by_outcome k.instance.outcome refl
-      where
-        by_outcome : (u : Option Outcome) → k.instance.outcome ≡ u → u ≡ None
-        by_outcome None none = refl
-        by_outcome (Some u) some = let clash = sym touch ∙ ap touched (sym now ∙ sane_instance.over u some) in cc
+    open_still = not_over d c m r g h k left wants_here
 
     -- its transaction has not ended
     pub not_ended : tx_end d h.known own ≡ None
@@ -154,7 +169,7 @@ module _ (d : Deployment) (c : Core) (m : Rows) (r : Run) (g : Begun) (h : Right
     begun = let q = made_of d h.plain h.known h.beside r.id k.instance k.made in by_begin q.0 q.1 (begins d q.0) refl
       where
         by_begin : (q : Instance) → map.get h.plain.made r.id ≡ Some q → (b : Bool) → begins d q ≡ b → (q : Instance) × IsOpen d m h.plain h.known h.locked r.id q k.instance
-        by_begin q made true starts = (q, record { shadows = h.shadows; beside = h.beside; matches = h.rows; made = made; begun = starts; outside = (sane_of d h.plain r.id q (legal_sane h) made).outside; sane = sane_instance })
+        by_begin q made true starts = (q, record { shadows = h.shadows; beside = h.beside; matches = h.rows; made = made; begun = starts; outside = (sane_of d h.plain r.id q (legal_sane h) made).outside; sane = sane_instance d c m r g h k })
         by_begin q made false starts =
             let same : q ≡ k.instance = same_some (sym (h.beside.same r.id q made starts) ∙ k.made) in
             let sane = sane_of d h.plain r.id q (legal_sane h) made in
@@ -174,3 +189,24 @@ module _ (d : Deployment) (c : Core) (m : Rows) (r : Run) (g : Begun) (h : Right
         by_lock : (b : Bool) → h.locked r.id ≡ b → b ≡ true
         by_lock true e = refl
         by_lock false e = let clash = sym got ∙ note_is_ahead d m h.known h.locked h.rows r.id k.instance k.made short_now its_item ∙ ap (ahead_by its_item k.instance.func (tx_now d r.id k.instance) (effect_of d k.instance)) e ∙ none (tx_now d r.id k.instance) in cc
+
+-- ---- what it says leaves
+module _ (d : Deployment) (c : Core) (m : Rows) (i : ℕ) (r : Run) (g : Begun) (h : Right d c m) (live : map.get c.runs i ≡ Some r) (k : Knows d c.book h.known r g) (finds : Inside d m h.plain h.known r g)
+    (o : OpenTx) (tx : g.tx ≡ Some o) (here : tx_after d r.id k.instance k.answers ≡ Some (own_tx r.id r.func o)) (e : Effect) (is : g.machine.effect ≡ e) (x : ℕ × List ℕ) (on : txn.item_of e ≡ Some x) where
+  -- it goes on in the operation; a lock may be ahead that was not
+  pub goes_at : (b : TxAt) (n : Rows) (after : IntentId → Bool) → SameRoots m n → Kept h n h.plain h.known after → Fits e b → InOperation d n h.plain h.known r.id r.func o g.machine.steps e b x → Leaves d c m i r g h live k (says.On (stage.Tx b) None) n
+  goes_at b n after roots kept fits at =
+      stands_on d c m i r g h live k finds (stage.Tx b) n after refl roots kept
+      (subst (λ t. StageOk t r.id g.caller g.machine.effect (stage.Tx b)) (sym here) (subst (λ z. Fits z b) (sym is) fits))
+      (no_mark r.id g.machine.steps g.tx g.machine.effect b)
+      (subst (λ t. AtStage d n h.plain h.known r.id r.func t g.machine.steps g.machine.effect (stage.Tx b)) (sym tx)
+      (subst (λ z. InItem d n h.plain h.known r.id r.func o g.machine.steps z b (txn.item_of z)) (sym is) (subst (InItem d n h.plain h.known r.id r.func o g.machine.steps e b) (sym on) at)))
+
+  -- it ends no transaction
+  pub frees_none : (n : Rows) → Freed d c m i r g h live k n
+  frees_none n u commit y begun ends owned = let clash = sym on ∙ ap txn.item_of (sym is ∙ ends) in cc
+
+  -- it has the answer that is known
+  pub replays : (n : Rows) (a : Answer) (rest : List Answer) → k.later ≡ a ∷ rest → SameRoots m n → Stays h n → Leaves d c m i r g h live k (says.Answers a None) n
+  replays n a rest left roots kept = let touch = touches e x on in answers_on d c m i r g h live k finds a rest n h.known h.locked k.instance roots kept k.made (grown_same k.instance)
+      (append_assoc k.answers (a ∷ []) rest ∙ known_answers d c m r g h k o here e is x touch a rest left) (wants_here d c m r g h k o here e is x touch) (frees_none n)

@@ -7,9 +7,7 @@ use Rattle.beldi_lang.specs.declared.effect.Effect.{Effect}
 use Rattle.beldi_lang.specs.declared.effect.Effect.TheVariants.{Read, Write, CondWrite, End}
 use Rattle.beldi_book.specs.Order.{count_changes}
 use Rattle.beldi_row.specs.Table.{Rows}
-use Rattle.beldi_plain.specs.Operation.{touched}
-use Rattle.beldi_order.specs.Txs.{effect_after, tx_after}
-use Rattle.beldi_lock.specs.declared.lock.LockAt.{LockAt}
+use Rattle.beldi_order.specs.Txs.{tx_after}
 use Rattle.beldi_txn.specs.Tx.{item_of}
 use Rattle.beldi_txn.specs.TxTurn.{Fits}
 use Rattle.beldi_txn.specs.declared.tx.TxAt.{TxAt}
@@ -24,15 +22,13 @@ use Rattle.beldi_step.specs.declared.run.Stage.TheVariants as stage
 use Rattle.beldi_step.specs.Run.{own_tx, turned_by, stage_asks, stage_says}
 use Rattle.beldi_step.specs.Host.{Core, turn_next}
 use Rattle.beldi_known.specs.Beside.{is_begin}
-use Rattle.beldi_laws.specs.Right.{Right, Knows, MarkOk, is_past, open_of}
+use Rattle.beldi_laws.specs.Right.{Right, Knows, MarkOk, is_past}
 use Rattle.beldi_laws.specs.Inside.{Inside, AtStage, InItem}
 use Rattle.beldi_laws.proofs.Deciding as deciding
-use Rattle.beldi_laws.proofs.InTx.{opens}
+use Rattle.beldi_laws.proofs.InTx.{no_begin, opens}
 use Rattle.beldi_laws.proofs.Locking.{log_turn, lock_turn}
 use Rattle.beldi_laws.proofs.Moves.{AfterQuery}
-use Rattle.beldi_laws.proofs.OpenOf.{open_tx}
 use Rattle.beldi_laws.proofs.Short.{known_is_short}
-use Rattle.beldi_laws.proofs.Turns.{effect_here, front_here, own_here}
 use Rattle.beldi_laws.proofs.Visiting as visiting
 use Rattle.beldi_laws.proofs.Working.{operates, working_turn}
 
@@ -45,7 +41,7 @@ module _ (d : Deployment) (c : Core) (m : Rows) (i : ℕ) (r : Run) (g : Begun) 
   pub tx_turn : (e : Effect) (a : TxAt) → g.machine.effect ≡ e → Fits e a → AtStage d m h.plain h.known r.id r.func g.tx g.machine.steps e (stage.Tx a) → AfterStage e (stage.Tx a) g.tx
   tx_turn e a is fits found =
       let x = operates e a fits in
-      let z = opens d c m r g h k t inside x.0 (ap touched is ∙ x.1) in
+      let z = opens d c m r g h k t inside (ap is_begin is ∙ no_begin e x.0 x.1) in
       subst (AfterStage e (stage.Tx a)) (sym z.1) (by_stage e is z.0 z.1 z.2 a fits (subst (λ w. AtStage d m h.plain h.known r.id r.func w g.machine.steps e (stage.Tx a)) z.1 found))
     where
       by_stage : (e : Effect) → g.machine.effect ≡ e → (o : OpenTx) (tx : g.tx ≡ Some o) (here : tx_after d r.id k.instance k.answers ≡ Some (own_tx r.id r.func o)) (a : TxAt) → Fits e a → InItem d m h.plain h.known r.id r.func o g.machine.steps e a (item_of e)
@@ -61,11 +57,9 @@ module _ (d : Deployment) (c : Core) (m : Rows) (i : ℕ) (r : Run) (g : Begun) 
   -- the decision
   pub decide_turn : (commit : Bool) (by : Mark) → g.machine.effect ≡ End commit → MarkOk r.id g.machine.steps g.tx (End commit) (stage.Decide by) → AfterStage (End commit) (stage.Decide by) g.tx
   decide_turn commit by is mark =
-      let wants : effect_after d k.instance k.answers ≡ End commit = ap (effect_after d k.instance) (sym (front_here d c.book h.known r g k)) ∙ effect_here d c.book h.known r g k ∙ is in
-      let o = open_tx d r.id k.instance k.answers t (own_here d c m i r g h live k) inside (ap is_begin wants) in
-      let tx : g.tx ≡ Some o.0 = k.run_open ∙ o.1 in
-      subst (AfterStage (End commit) (stage.Decide by)) (sym tx)
-      (deciding.decide_turn d c m i r g h live k finds o.0 tx (inside ∙ ap Some (o.2 ∙ ap (λ f. own_tx r.id f o.0) k.func)) o.1 commit is by (subst (λ u. MarkOk r.id g.machine.steps u (End commit) (stage.Decide by)) tx mark))
+      let z = opens d c m r g h k t inside (ap is_begin is) in
+      subst (AfterStage (End commit) (stage.Decide by)) (sym z.1)
+      (deciding.decide_turn d c m i r g h live k finds z.0 z.1 z.2 (sym k.run_open ∙ z.1) commit is by (subst (λ u. MarkOk r.id g.machine.steps u (End commit) (stage.Decide by)) z.1 mark))
 
   -- the visits
   pub end_turn : (commit : Bool) (v : Visit) → g.machine.effect ≡ End commit → is_past v.at ≡ true → AtStage d m h.plain h.known r.id r.func g.tx g.machine.steps (End commit) (stage.End v) → AfterStage (End commit) (stage.End v) g.tx

@@ -43,7 +43,7 @@ use Rattle.beldi_laws.specs.Inside.{InsideAt}
 use Rattle.beldi_row.specs.Table.{Rows}
 use Rattle.beldi_known.specs.Rows.{IsBodyOf, body_of}
 use Rattle.beldi_known.specs.Known.{Known, moved}
-use Rattle.beldi_laws.proofs.Grown.{grows_moved, moved_longer, tx_stays}
+use Rattle.beldi_laws.proofs.Grown.{moved_longer, tx_stays}
 
 -- ---- a run knows what it knew, when the book and the plain state have grown
 answers_of : Option Instance → List Answer
@@ -58,7 +58,7 @@ NotAnswered known next r = answers_of (map.get known r.id) ≡ answers_of (map.g
 pub PlacesOn : Deployment → List Entry → List Entry → Known → Known → Run → Type 0
 PlacesOn d book more known next r = (answers later before : List Answer) (e : Effect) (s : Stage) → (later ≡ [] → (before ≡ []) × NotAnswered known next r) → PlaceOk d book r.id r.func answers before e s → PlaceOk d more r.id r.func answers later e s
 
-no_more : (xs ys : List Answer) → xs ++ ys ≡ [] → (xs ≡ []) × (ys ≡ [])
+pub no_more : (xs ys : List Answer) → xs ++ ys ≡ [] → (xs ≡ []) × (ys ≡ [])
 no_more [] ys h = (refl, h)
 no_more (x ∷ xs) ys h = cc
 
@@ -67,7 +67,7 @@ unfolding NotAnswered answers_of
 not_answered p q r i j was is w none = ap answers_of was ∙ sym (append-nil i.answers) ∙ ap (λ xs. i.answers ++ xs) (sym none) ∙ w.more ∙ sym (ap answers_of is)
 
 -- what was made stays made, and an outcome that is there stays
-made_stays : (o u : Option Instance) → GrownAt o u → is_some o ≡ true → is_some u ≡ true
+pub made_stays : (o u : Option Instance) → GrownAt o u → is_some o ≡ true → is_some u ≡ true
 made_stays None u w there = cc
 made_stays (Some i) None w there = absurd w
 made_stays (Some i) (Some j) w there = refl

@@ -1,10 +1,8 @@
 -- The turns of an operation of a transaction up to its lock: a read looks whether a value was kept for it, the row is put that says that
 -- the lock is asked for, and the lock of the item is tried.
-use Rattle.std.proofs.Common.{◌≡◌, ◌∙◌, ℕ, ◌<◌, Bool, true, false, List, [], ◌∷◌, ◌++◌, length, length-append, Option, None, Some, is_some, refl, ap, sym, subst, arith, append_assoc, if◌then◌else◌}
-use Rattle.std.specs.Prelude.{IsTrue}
+use Rattle.std.proofs.Common.{◌≡◌, ◌∙◌, ℕ, ◌<◌, Bool, true, false, List, [], ◌∷◌, ◌++◌, length, Option, None, Some, is_some, refl, ap, sym, subst, arith, if◌then◌else◌}
 use Rattle.std.specs.FinMap as map
 use Rattle.std.specs.Ordering.{is_eq}
-use Rattle.std.proofs.lemmas.Cmp.{tied_itself}
 use Rattle.beldi_value.specs.Id.{age_of, id_cmp, is_older}
 use Rattle.beldi_value.specs.declared.id.IntentId.{IntentId}
 use Rattle.beldi_value.specs.declared.outcome.Cause.{Cause}
@@ -22,7 +20,6 @@ use Rattle.beldi_lang.specs.declared.effect.Effect.TheVariants as effect
 use Rattle.beldi_row.specs.declared.act.Act.{Act}
 use Rattle.beldi_row.specs.declared.act.Act.TheVariants.{Look, PutLockset, MakeCell}
 use Rattle.beldi_row.specs.declared.key.RowKey.{RowKey}
-use Rattle.beldi_row.specs.declared.key.Kind.{Kind}
 use Rattle.beldi_row.specs.declared.key.Kind.TheVariants as kinds
 use Rattle.beldi_row.specs.declared.notes.Note.{Note}
 use Rattle.beldi_row.specs.declared.notes.Note.TheVariants as notes
@@ -32,7 +29,6 @@ use Rattle.beldi_row.specs.Act.{act, other_owner}
 use Rattle.beldi_row.specs.Key.{key_cmp}
 use Rattle.beldi_row.specs.Log.{note_at, place_eq}
 use Rattle.beldi_row.specs.Table.{Rows, set_row}
-use Rattle.beldi_row.proofs.Gets.{key_same}
 use Rattle.beldi_row.proofs.Logs.{note_here, note_pushed, place_same}
 use Rattle.beldi_row.proofs.Unchanged.{looked, unchanged}
 use Rattle.beldi_walk.specs.declared.query.Query.{Query}
@@ -57,12 +53,11 @@ use Rattle.beldi_readlog.specs.ReadLog.{given_in, given_of, log_key}
 use Rattle.beldi_txn.specs.declared.tx.TxAt.{TxAt}
 use Rattle.beldi_txn.specs.declared.tx.TxAt.TheVariants as at
 use Rattle.beldi_txn.specs.End.{end_place}
-use Rattle.beldi_txn.specs.Tx.{asks_of, given_goes, item_asks, item_of, lock_leads, locked_goes, tx_goes}
+use Rattle.beldi_txn.specs.Tx.{asks_of, given_goes, item_asks, item_of, lock_leads, locked_goes}
 use Rattle.beldi_txn.specs.TxTurn.{Fits, HasLock}
-use Rattle.beldi_intent.specs.Intent.{root_key}
-use Rattle.beldi_plain.specs.Item.{Item, item_total}
+use Rattle.beldi_plain.specs.Item.{Item}
 use Rattle.beldi_plain.specs.Operation.{touched}
-use Rattle.beldi_plain.specs.Plain.{Instance, PlainState, effect_of, value_at}
+use Rattle.beldi_plain.specs.Plain.{Instance, effect_of, value_at}
 use Rattle.beldi_order.specs.Sane.{IsAnswer, IsDeath}
 use Rattle.beldi_order.specs.Txs.{Txs, effect_after, end_of, tx_after, tx_now, txs_after, txs_by}
 use Rattle.beldi_order.proofs.Entries.{grows_self}
@@ -73,16 +68,15 @@ use Rattle.beldi_step.specs.declared.run.Run.{Run}
 use Rattle.beldi_step.specs.declared.run.Says.{Says}
 use Rattle.beldi_step.specs.declared.run.Says.TheVariants as says
 use Rattle.beldi_step.specs.declared.run.Stage.TheVariants as stage
-use Rattle.beldi_step.specs.declared.run.Wait.TheVariants as wait
 use Rattle.beldi_step.specs.Host.{Core, turn_next}
 use Rattle.beldi_step.specs.Run.{own_tx, place_of, turned_by, tx_here_asks, tx_here_says, tx_says}
 use Rattle.beldi_known.specs.Contents.{content_of, head_key, lockset_key, shadow_key}
-use Rattle.beldi_known.specs.Frame.{LockedOut, lock_in}
-use Rattle.beldi_known.specs.Known.{Known, ahead_by, ended_by, is_item, last_step, lock_note, moved, owed_lockset, tx_end}
+use Rattle.beldi_known.specs.Frame.{lock_in}
+use Rattle.beldi_known.specs.Known.{Known, ahead_by, ended_by, is_item, last_step, moved, owed_lockset, tx_end}
 use Rattle.beldi_known.specs.InsideLaws.{Goes}
 use Rattle.beldi_known.specs.Laws.{IsFront}
 use Rattle.beldi_known.specs.Listed.{listed}
-use Rattle.beldi_known.specs.Matches.{LocksetMatches, Matches, lockset_ahead}
+use Rattle.beldi_known.specs.Matches.{Matches, lockset_ahead}
 use Rattle.beldi_known.specs.Sane.{SaneInstance}
 use Rattle.beldi_step.specs.Tables.{decision_key}
 use Rattle.beldi_known.proofs.Answers.{true_false}
@@ -93,22 +87,21 @@ use Rattle.beldi_known.proofs.Ahead.{ahead_front, ahead_set, none_out}
 use Rattle.beldi_known.proofs.AtFront.{lock_is_there, no_row, note_is_ahead}
 use Rattle.beldi_known.proofs.Behind.{LockTold, behind_asks, behind_locks, behind_looks, behind_looks_dead, death_in, told}
 use Rattle.beldi_known.proofs.Deaths.{death_is_older}
-use Rattle.beldi_known.proofs.FrameAt.{known_set}
 use Rattle.beldi_known.proofs.Frame.{moved_one}
 use Rattle.beldi_known.proofs.Inside.{dies_inside, lockset_put}
 use Rattle.beldi_known.proofs.Insides.{death_goes, rows_go}
 use Rattle.beldi_known.proofs.Lists.{did_lists, died_lists, elsewhere, is_log, lists_same}
 use Rattle.beldi_known.proofs.OneFunction.{undecided}
-use Rattle.beldi_known.proofs.Rows.{is_intent_key, no_root, set_here, set_others}
+use Rattle.beldi_known.proofs.Rows.{set_here, set_others}
 use Rattle.beldi_known.proofs.Sanes.{death_answer, sane_died}
-use Rattle.beldi_laws.specs.Right.{Right, Knows, StageOk, MarkOk}
-use Rattle.beldi_laws.specs.Inside.{AtStage, Found, Frame, InItem, InOperation, Inside, OfBegin, Released, has_asked}
+use Rattle.beldi_laws.specs.Right.{Right, Knows}
+use Rattle.beldi_laws.specs.Inside.{Found, Frame, InOperation, Inside, OfBegin, Released, has_asked}
 use Rattle.beldi_laws.proofs.Ages.{Holder, dies_so, free_of, holder_made, only_one}
 use Rattle.beldi_laws.proofs.Frames.{frame_held, frame_item, frame_lockset, is_lockset, items_stay, settled_operated, settled_rows}
-use Rattle.beldi_laws.proofs.Grown.{grown_moved, grown_same, grows_moved, moved_more}
+use Rattle.beldi_laws.proofs.Grown.{grown_moved, grows_moved, moved_more}
 use Rattle.beldi_laws.proofs.InTx as in_tx
 use Rattle.beldi_laws.proofs.Keeping.{act_stays, as_it_was, set_shadows, stays_by}
-use Rattle.beldi_laws.proofs.Moves.{AfterQuery, AfterTurn, Kept, SameRoots, Stays}
+use Rattle.beldi_laws.proofs.Moves.{AfterQuery, Kept, SameRoots, Stays}
 use Rattle.beldi_laws.proofs.Others.{kept_by}
 use Rattle.beldi_laws.proofs.Outside.{called_outside}
 use Rattle.beldi_laws.proofs.Owed.{content_kept, contents_kept, others_list}
@@ -137,11 +130,6 @@ looks_read (effect.Write t k v) x h on = absurd h
 looks_read (effect.CondWrite t k r o v) x h on = absurd h
 looks_read e x h on = absurd h
 
--- an operation has no mark
-unmarked : (id : IntentId) (n : ℕ) (o : Option OpenTx) (e : Effect) (a : TxAt) → MarkOk id n o e (stage.Tx a)
-unmarked id n (Some o) (effect.End commit) a = tt
-unmarked id n o e a = tt
-
 -- before its lock it found nothing
 none_found : (e : Effect) (l : LockAt) (r : Option Row) (v : Value) → Found e (at.Lock l) r v
 none_found (effect.Read t k) l r v = tt
@@ -163,12 +151,6 @@ told_note p t c x w h = by_note (note_at c.notes p) h
     by_note : (n : Option Note) → noted_or c n (lock_or p t c (other_owner (ByTx t) c.owner)) ≡ (x, noted w) → n ≡ Some w
     by_note None g = absurd (by_owner (other_owner (ByTx t) c.owner) g)
     by_note (Some n) g = let same = ap (λ z. z.1) g in let k : n ≡ w = cc in ap Some k
-
--- a lockset row that is there is one
-lockset_is : (r : Option Row) (owed ahead : Bool) → LocksetMatches r owed ahead → is_some r ≡ true → r ≡ Some rows.Lockset
-lockset_is None owed ahead h there = cc
-lockset_is (Some rows.Lockset) owed ahead h there = refl
-lockset_is (Some r) owed ahead h there = absurd h
 
 -- a new note is that of the lock, or of the death
 abbrev IsNew : Option IntentId → Note → Type 0
@@ -242,29 +224,6 @@ module _ (d : Deployment) (c : Core) (m : Rows) (i : ℕ) (r : Run) (g : Begun) 
   touch : touched e ≡ Some x
   touch = in_tx.touches e x on
 
-  -- ---- what it says leaves
-  -- it goes on in the operation; a lock may be ahead that was not
-  goes_at : (b : TxAt) (n : Rows) (after : IntentId → Bool) → SameRoots m n → Kept h n h.plain h.known after → Fits e b → InOperation d n h.plain h.known r.id r.func o g.machine.steps e b x → Comes (says.On (stage.Tx b) None) n
-  goes_at b n after roots kept fits at =
-      turns.stands_on d c m i r g h live k finds (stage.Tx b) n after refl roots kept
-      (subst (λ t. StageOk t r.id g.caller g.machine.effect (stage.Tx b)) (sym here) (subst (λ z. Fits z b) (sym is) fits))
-      (unmarked r.id g.machine.steps g.tx g.machine.effect b)
-      (subst (λ t. AtStage d n h.plain h.known r.id r.func t g.machine.steps g.machine.effect (stage.Tx b)) (sym tx)
-      (subst (λ z. InItem d n h.plain h.known r.id r.func o g.machine.steps z b (item_of z)) (sym is) (subst (InItem d n h.plain h.known r.id r.func o g.machine.steps e b) (sym on) at)))
-
-  -- it ends no transaction
-  frees_none : (n : Rows) → Freed d c m i r g h live k n
-  frees_none n u commit y begun ends owned = let clash = sym touch ∙ ap touched (sym is ∙ ends) in cc
-
-  -- it has the answer that is known
-  replays : (n : Rows) (a : Answer) (rest : List Answer) → k.later ≡ a ∷ rest → SameRoots m n → Stays h n → Comes (says.Answers a None) n
-  replays n a rest left roots kept = turns.answers_on d c m i r g h live k finds a rest n h.known h.locked k.instance roots kept k.made (grown_same k.instance)
-      (append_assoc k.answers (a ∷ []) rest ∙ in_tx.known_answers d c m r g h k o here e is x touch a rest left) (in_tx.wants_here d c m r g h k o here e is x touch) (frees_none n)
-
-  -- a row of another kind than an intent's was set
-  roots_set : (home : ℕ) (kind : Kind) (v : Option Row) → is_intent_key kind ≡ false → SameRoots m (set_row m (record { home = home; kind = kind }) v)
-  roots_set home kind v off t = ap is_some (set_others m (record { home = home; kind = kind }) v (root_key t) (no_root t home kind off))
-
   -- what it finds where it asks for its lock
   in_lock : (n : Rows) (l : LockAt) → OfBegin o.begin (at.Lock l) → (has_asked (at.Lock l) ≡ true → is_some (map.get n (lockset_key r.id o.begin item)) ≡ true) → InOperation d n h.plain h.known r.id r.func o g.machine.steps e (at.Lock l) x
   in_lock n l begin asked = record { begin = begin; asked = asked; locked = tt; found = λ q made same. none_found e l (map.get n (shadow_key own item)) (value_at h.plain item) }
@@ -274,7 +233,7 @@ module _ (d : Deployment) (c : Core) (m : Rows) (i : ℕ) (r : Run) (g : Begun) 
   steps = in_tx.steps d c m r g h k o here e is x touch
 
   sane : SaneInstance d r.id k.instance
-  sane = in_tx.sane_instance d c m r g h k o here e is x touch
+  sane = turns.sane_instance d c m r g h k
 
   few : length k.answers < last_step
   few = in_tx.short d c m r g h k o here e is x touch
@@ -375,14 +334,14 @@ module _ (d : Deployment) (c : Core) (m : Rows) (i : ℕ) (r : Run) (g : Begun) 
         by_answer b left ok = absurd ok
 
     by_row : (v : Option Row) → map.get m log_row ≡ v → Comes (tx_says at.Log (given_goes o.begin (given_of (said (act Look c.now v).1)))) m
-    by_row None there = goes_at (at.Lock (Lockset o.begin)) m h.locked (λ t. refl) (as_it_was h) (looks_lock e (Lockset o.begin) fits) (in_lock m (Lockset o.begin) refl (λ asked. cc))
+    by_row None there = in_tx.goes_at d c m i r g h live k finds o tx here e is x on (at.Lock (Lockset o.begin)) m h.locked (λ t. refl) (as_it_was h) (looks_lock e (Lockset o.begin) fits) (in_lock m (Lockset o.begin) refl (λ asked. cc))
     by_row (Some w) there = by_later k.later refl
       where
         by_later : (later : List Answer) → k.later ≡ later → Comes (says.Answers (answer.Value (given_in w)) None) m
         by_later [] left =
             let none = no_row d m h.known h.locked h.rows r.id k.instance k.made in
             let clash = sym there ∙ sym (its_row (length k.instance.answers) (turns.step_here d c.book h.known r g k left)) ∙ none in cc
-        by_later (a ∷ rest) left = subst (λ z. Comes (says.Answers z None) m) (sym (behind_row a rest left w there)) (replays m a rest left (λ t. refl) (as_it_was h))
+        by_later (a ∷ rest) left = subst (λ z. Comes (says.Answers z None) m) (sym (behind_row a rest left w there)) (in_tx.replays d c m i r g h live k finds o tx here e is x on m a rest left (λ t. refl) (as_it_was h))
 
     pub log_turn : Turns at.Log
     log_turn = asks_it at.Log (subst (λ n. Comes (tx_says at.Log (given_goes o.begin (given_of (said (act Look c.now (map.get m log_row)).1)))) n) (sym (looked c.now log_row m)) (by_row (map.get m log_row) refl))
@@ -411,11 +370,11 @@ module _ (d : Deployment) (c : Core) (m : Rows) (i : ℕ) (r : Run) (g : Begun) 
     by_lockset None there = by_later k.later refl
       where
         by_later : (later : List Answer) → k.later ≡ later → Comes (says.On (stage.Tx (at.Lock (AtItem Try))) None) (set_row m lock_row (Some rows.Lockset))
-        by_later [] left = goes_at (at.Lock (AtItem Try)) (set_row m lock_row (Some rows.Lockset)) h.locked (roots_set r.func (kinds.Lockset r.id o.begin x.0 x.1) (Some rows.Lockset) refl) (asked_kept left)
+        by_later [] left = in_tx.goes_at d c m i r g h live k finds o tx here e is x on (at.Lock (AtItem Try)) (set_row m lock_row (Some rows.Lockset)) h.locked (in_tx.set_roots m r.func (kinds.Lockset r.id o.begin x.0 x.1) (Some rows.Lockset) refl) (asked_kept left)
             (fits_lock e (Lockset o.begin) (AtItem Try) fits) (in_lock (set_row m lock_row (Some rows.Lockset)) (AtItem Try) tt (λ asked. ap is_some (set_here m lock_row (Some rows.Lockset))))
         by_later (a ∷ rest) left = absurd (lockset_there a rest left there)
     by_lockset (Some w) there = subst (λ n. Comes (says.On (stage.Tx (at.Lock (AtItem Try))) None) n) (sym (unchanged m lock_row (Some w) (sym there)))
-        (goes_at (at.Lock (AtItem Try)) m h.locked (λ t. refl) (as_it_was h) (fits_lock e (Lockset o.begin) (AtItem Try) fits) (in_lock m (AtItem Try) tt (λ asked. ap is_some there)))
+        (in_tx.goes_at d c m i r g h live k finds o tx here e is x on (at.Lock (AtItem Try)) m h.locked (λ t. refl) (as_it_was h) (fits_lock e (Lockset o.begin) (AtItem Try) fits) (in_lock m (AtItem Try) tt (λ asked. ap is_some there)))
 
   pub lockset_turn : (b : ℕ) → OfBegin o.begin (at.Lock (Lockset b)) → Fits e (at.Lock (Lockset b)) → Turns (at.Lock (Lockset b))
   lockset_turn b same fits = subst (λ z. Turns (at.Lock (Lockset z))) (sym same) (asks_it (at.Lock (Lockset o.begin)) (by_lockset (fits_lock e (Lockset b) (Lockset o.begin) fits) (map.get m lock_row) refl))
@@ -430,7 +389,7 @@ module _ (d : Deployment) (c : Core) (m : Rows) (i : ℕ) (r : Run) (g : Begun) 
     same = set_others m (head_key item) v
 
     roots : SameRoots m n
-    roots = roots_set r.func (kinds.Data x.0 x.1 0) v refl
+    roots = in_tx.set_roots m r.func (kinds.Data x.0 x.1 0) v refl
 
     asked_still : is_some (map.get n lock_row) ≡ true
     asked_still = ap is_some (elsewhere m (head_key item) v is_lockset lock_row refl refl) ∙ asked
@@ -455,7 +414,7 @@ module _ (d : Deployment) (c : Core) (m : Rows) (i : ℕ) (r : Run) (g : Begun) 
           (frame_held d m h.plain h.plain h.known h.known (items_stay d m h.plain h.plain h.known refl) n item same row_there whole)
 
       tries : (u : WriteAt) → content_of n item ≡ content_of m item → Comes (says.On (stage.Tx (at.Lock (AtItem u))) None) n
-      tries u whole = goes_at (at.Lock (AtItem u)) n h.locked roots (as_held whole) (fits_lock e (AtItem w) (AtItem u) fits) (in_lock n (AtItem u) tt (λ past. asked_still))
+      tries u whole = in_tx.goes_at d c m i r g h live k finds o tx here e is x on (at.Lock (AtItem u)) n h.locked roots (as_held whole) (fits_lock e (AtItem w) (AtItem u) fits) (in_lock n (AtItem u) tt (λ past. asked_still))
 
       -- a note of another kind is not of the lock: it stays where it is
       other_note : (u : Note) (first : Bool) → is_locks u ≡ false → note_at (content_of n item).notes place ≡ Some u → DidOnce place (ByTx own) Lock first (content_of m item) (content_of n item) → Comes (says.On (stage.Tx (at.Lock (AtItem w))) None) n
@@ -467,9 +426,9 @@ module _ (d : Deployment) (c : Core) (m : Rows) (i : ℕ) (r : Run) (g : Begun) 
       goes_past after kept got = by_effect e refl
         where
           by_effect : (f : Effect) → f ≡ e → Comes (tx_says (at.Lock (AtItem w)) (locked_goes f)) n
-          by_effect (effect.Read t y) f = goes_at at.Shadow n after roots kept (subst (λ z. Fits z at.Shadow) f tt) (in_past at.Shadow tt got (λ z u. subst (λ q. Found q at.Shadow z u) f tt))
-          by_effect (effect.Write t y u) f = goes_at (at.Write Try) n after roots kept (subst (λ z. Fits z (at.Write Try)) f tt) (in_past (at.Write Try) tt got (λ z u. subst (λ q. Found q (at.Write Try) z u) f tt))
-          by_effect (effect.CondWrite t y l p u) f = goes_at at.Shadow n after roots kept (subst (λ z. Fits z at.Shadow) f tt) (in_past at.Shadow tt got (λ z u. subst (λ q. Found q at.Shadow z u) f tt))
+          by_effect (effect.Read t y) f = in_tx.goes_at d c m i r g h live k finds o tx here e is x on at.Shadow n after roots kept (subst (λ z. Fits z at.Shadow) f tt) (in_past at.Shadow tt got (λ z u. subst (λ q. Found q at.Shadow z u) f tt))
+          by_effect (effect.Write t y u) f = in_tx.goes_at d c m i r g h live k finds o tx here e is x on (at.Write Try) n after roots kept (subst (λ z. Fits z (at.Write Try)) f tt) (in_past (at.Write Try) tt got (λ z u. subst (λ q. Found q (at.Write Try) z u) f tt))
+          by_effect (effect.CondWrite t y l p u) f = in_tx.goes_at d c m i r g h live k finds o tx here e is x on at.Shadow n after roots kept (subst (λ z. Fits z at.Shadow) f tt) (in_past at.Shadow tt got (λ z u. subst (λ q. Found q at.Shadow z u) f tt))
           by_effect f same = let clash = ap item_of same ∙ on in cc
 
       -- ---- at the front, where the place had no note
@@ -548,7 +507,7 @@ module _ (d : Deployment) (c : Core) (m : Rows) (i : ℕ) (r : Run) (g : Begun) 
           died_matches : Matches d n next h.locked
           died_matches = subst (λ y. Matches d (set_row m (head_key y) v) next h.locked) same_item
               (dies_inside d h.known h.locked h.locked r.id k.instance k.made (none_out h.locked r.id unlocked) own (tx_is left) m h.rows x.0 x.1 j v (front left).touch
-              (subst (λ y. map.get m (lockset_key r.id o.begin y) ≡ Some rows.Lockset) (sym same_item) (lockset_is (map.get m lock_row) (owed_lockset d o.begin item r.id (map.get h.known r.id)) (lockset_ahead d h.known o.begin item r.id (map.get h.known r.id)) (h.rows.keys lock_row) asked))
+              (subst (λ y. map.get m (lockset_key r.id o.begin y) ≡ Some rows.Lockset) (sym same_item) (in_tx.lockset_is (map.get m lock_row) (owed_lockset d o.begin item r.id (map.get h.known r.id)) (lockset_ahead d h.known o.begin item r.id (map.get h.known r.id)) (h.rows.keys lock_row) asked))
               unlocked fits_row (back (λ y p. note_at (content_of m y).notes p ≡ None) none) (back (λ y p. content_in v ≡ with_note (content_of m y) p (notes.Died j)) row_died))
             where
               back : (P : Item → Place → Type 0) → P item place → P its_item (place_now left)
@@ -594,7 +553,7 @@ module _ (d : Deployment) (c : Core) (m : Rows) (i : ℕ) (r : Run) (g : Begun) 
           dies_now = let more = moved_more d r.id k.instance a in
               subst (λ p. Comes (says.Answers (answer.Aborted (record { place = p; holder = Some j })) None) n) (at_place left)
               (turns.answers_on d c m i r g h live k finds a more.more n next h.locked (moved d r.id k.instance a) roots died_kept (inserted h.known r.id (moved d r.id k.instance a)) (grown_moved d r.id k.instance a)
-              (ap (λ ts. (ts ++ a ∷ []) ++ more.more) (turns.all_here d c.book h.known r g k left) ∙ more.same) (in_tx.wants_here d c m r g h k o here e is x touch) (frees_none n))
+              (ap (λ ts. (ts ++ a ∷ []) ++ more.more) (turns.all_here d c.book h.known r g k left) ∙ more.same) (in_tx.wants_here d c m r g h k o here e is x touch) (in_tx.frees_none d c m i r g h live k finds o tx here e is x on n))
 
       -- ---- what the lock told
       -- where the place had no note, it is at the front
@@ -626,7 +585,7 @@ module _ (d : Deployment) (c : Core) (m : Rows) (i : ℕ) (r : Run) (g : Begun) 
           by_later (a ∷ rest) left =
               let noted_so : (told_here a rest left).note ≡ notes.Died j = same_some (sym (note_here_is a rest left) ∙ there) in
               let same : answer.Aborted (record { place = place_of r.id (length k.answers); holder = Some j }) ≡ a = noted_death (place_of r.id (length k.answers)) a j (ap (λ u. lock_answer (place_of r.id (length k.answers)) (noted u)) (sym noted_so) ∙ (told_here a rest left).says) in
-              subst (λ z. Comes (says.Answers z None) n) (sym same ∙ ap (λ q. answer.Aborted (record { place = place_of r.id q; holder = Some j })) (sym steps)) (replays n a rest left roots (as_held whole))
+              subst (λ z. Comes (says.Answers z None) n) (sym same ∙ ap (λ q. answer.Aborted (record { place = place_of r.id q; holder = Some j })) (sym steps)) (in_tx.replays d c m i r g h live k finds o tx here e is x on n a rest left roots (as_held whole))
 
       by_note : (u : Note) (first : Bool) → note_at (content_of n item).notes place ≡ Some u → DidOnce place (ByTx own) Lock first (content_of m item) (content_of n item) → Comes (tx_says (at.Lock (AtItem w)) (lock_leads place e (note_goes w u first))) n
       by_note notes.Got true got l = taken_now l.0 (dies (ByTx own) Lock (content_of m item).owner) refl l.1 got

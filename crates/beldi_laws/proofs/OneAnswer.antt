@@ -39,7 +39,7 @@ use Rattle.beldi_order.proofs.Maps.{same_some}
 use Rattle.beldi_laws.specs.Laws.{HeldAnswersStay, OneRowChanged, RightHasOneAnswer}
 use Rattle.beldi_laws.specs.OneAnswer.{WasGiven, AnswersOf, OneAnswerPerStep, AnswersStay}
 use Rattle.beldi_laws.specs.Right.{Right, Knows, KnowsAt, RunAt}
-use Rattle.beldi_laws.specs.Stands.{held_answer, held_outside, held_inside, held_note, told_by, lock_note, shadow_answer}
+use Rattle.beldi_laws.specs.Stands.{held_answer, held_outside, held_inside, held_note, decides, told_by, note_of_lock, answer_aside}
 use Rattle.beldi_walk.specs.declared.query.Query.TheVariants as query
 use Rattle.beldi_walk.proofs.Promises.{at_each}
 use Rattle.beldi_invokelog.specs.InvokeLog.{invoke_key, call_in, result_in, GoesOn, CallGoesOn}
@@ -94,9 +94,9 @@ of_note : (o : Option Note) (x : Answer) → option_and_then noted_answer o ≡ 
 of_note None x is = cc
 of_note (Some n) x is = (n, refl)
 
-value_stays : (f : Value → Answer) (a : Act) (now : ℕ) (x : Answer) (o : Option Row) → option_map f (option_map given_in o) ≡ Some x → option_map f (option_map given_in (act a now o).0) ≡ Some x
-value_stays f a now x None is = cc
-value_stays f a now x (Some r) is = ap (λ v. Some (f v)) (given_stays r a now) ∙ is
+value_stays : (f : Option Value → Option Answer) → f None ≡ None → (a : Act) (now : ℕ) (x : Answer) (o : Option Row) → f (option_map given_in o) ≡ Some x → f (option_map given_in (act a now o).0) ≡ Some x
+value_stays f none a now x None is = let clash = sym none ∙ is in cc
+value_stays f none a now x (Some r) is = ap (λ v. f (Some v)) (given_stays r a now) ∙ is
 
 note_stays : (a : Act) (now : ℕ) (p : Place) (x : Answer) (o : Option Row) → option_and_then noted_answer (note_at (content_in o).notes p) ≡ Some x → option_and_then noted_answer (note_at (content_in (act a now o).0).notes p) ≡ Some x
 note_stays a now p x o is = let n = of_note (note_at (content_in o).notes p) x is in ap (option_and_then noted_answer) (notes_stay a now o p n.0 n.1 ∙ sym n.1) ∙ is
@@ -134,34 +134,34 @@ module _ (a : Act) (now : ℕ) (k : RowKey) (m : Rows) where
   note_keeps : (at : Place) (l : RowKey) (w : Note) → note_at (content_in (map.get m l)).notes at ≡ Some w → note_at (content_in (map.get (after_act a now k m) l)).notes at ≡ Some w
   note_keeps at l w there = at_key (λ r. note_at (content_in r).notes at ≡ Some w) (λ b t o held. notes_stay b t o at w held) l there
 
-  value_keeps : (l : RowKey) (f : Value → Answer) (x : Answer) → option_map f (given m l) ≡ Some x → option_map f (given (after_act a now k m) l) ≡ Some x
-  value_keeps l f x held = at_key (λ o. option_map f (option_map given_in o) ≡ Some x) (λ b t. value_stays f b t x) l held
+  value_keeps : (l : RowKey) (f : Option Value → Option Answer) → f None ≡ None → (x : Answer) → f (given m l) ≡ Some x → f (given (after_act a now k m) l) ≡ Some x
+  value_keeps l f none x held = at_key (λ o. f (option_map given_in o) ≡ Some x) (λ b t. value_stays f none b t x) l held
 
   outside_keeps : (p : Place) (func : ℕ) (e : Effect) (x : Answer) → held_outside m p func e ≡ Some x → held_outside (after_act a now k m) p func e ≡ Some x
-  outside_keeps p func (Read t key) x held = value_keeps (log_key func p) answer.Value x held
+  outside_keeps p func (Read t key) x held = value_keeps (log_key func p) (option_map answer.Value) refl x held
   outside_keeps p func (Call f v) x held = let l = invoke_key func p in back_stays x (map.get m l) (map.get (after_act a now k m) l) (calls_stay (query.Act k a) now m l) held
   outside_keeps p func (Async f v) x held = let l = invoke_key func p in call_stays x (map.get m l) (map.get (after_act a now k m) l) (calls_stay (query.Act k a) now m l) held
   outside_keeps p func e x held = notes_keep p func (op_of e) x held
 
-  told_keeps : (p : Place) (i : Item) (v w : Option Answer) (x : Answer) → (v ≡ Some x → w ≡ Some x) → told_by p (lock_note m p i) v ≡ Some x → told_by p (lock_note (after_act a now k m) p i) w ≡ Some x
-  told_keeps p i v w x rest held = by_note (lock_note m p i) refl held
+  told_keeps : (p : Place) (i : Item) (v w : Option Answer) (x : Answer) → (v ≡ Some x → w ≡ Some x) → told_by p (note_of_lock m p i) v ≡ Some x → told_by p (note_of_lock (after_act a now k m) p i) w ≡ Some x
+  told_keeps p i v w x rest held = by_note (note_of_lock m p i) refl held
     where
-      by_note : (o : Option Note) → lock_note m p i ≡ o → told_by p o v ≡ Some x → told_by p (lock_note (after_act a now k m) p i) w ≡ Some x
+      by_note : (o : Option Note) → note_of_lock m p i ≡ o → told_by p o v ≡ Some x → told_by p (note_of_lock (after_act a now k m) p i) w ≡ Some x
       by_note None is held = cc
       by_note (Some Got) is held = ap (λ o. told_by p o w) (note_keeps p (head_key i) Got is) ∙ rest held
       by_note (Some (Died z)) is held = ap (λ o. told_by p o w) (note_keeps p (head_key i) (Died z) is) ∙ held
       by_note (Some z) is held = cc
 
-  shadow_keeps : (s : TxId) (p : Place) (i : Item) (x : Answer) → shadow_answer m s p i ≡ Some x → shadow_answer (after_act a now k m) s p i ≡ Some x
+  shadow_keeps : (s : TxId) (p : Place) (i : Item) (x : Answer) → answer_aside m s p i ≡ Some x → answer_aside (after_act a now k m) s p i ≡ Some x
   shadow_keeps s p i x held = at_key (λ r. option_and_then noted_answer (note_at (content_in r).notes p) ≡ Some x) (λ b t. note_stays b t p x) (shadow_key s i) held
 
   inside_keeps : (s : TxId) (p : Place) (func : ℕ) (e : Effect) (x : Answer) → held_inside m s p func e ≡ Some x → held_inside (after_act a now k m) s p func e ≡ Some x
   inside_keeps s p func Begin x held = held
   inside_keeps s p func Abort x held = held
-  inside_keeps s p func (End c) x held = value_keeps (log_key s.func (record { intent = s.intent; step = s.begin })) (λ v. Done) x held
-  inside_keeps s p func (Read t key) x held = told_keeps p (record { func = func; table = t; key = key }) (option_map answer.Value (given m (log_key func p))) (option_map answer.Value (given (after_act a now k m) (log_key func p))) x (value_keeps (log_key func p) answer.Value x) held
-  inside_keeps s p func (Write t key v) x held = let i : Item = record { func = func; table = t; key = key } in told_keeps p i (shadow_answer m s p i) (shadow_answer (after_act a now k m) s p i) x (shadow_keeps s p i x) held
-  inside_keeps s p func (CondWrite t key r u v) x held = let i : Item = record { func = func; table = t; key = key } in told_keeps p i (shadow_answer m s p i) (shadow_answer (after_act a now k m) s p i) x (shadow_keeps s p i x) held
+  inside_keeps s p func (End c) x held = value_keeps (log_key s.func (record { intent = s.intent; step = s.begin })) (option_and_then (decides c)) refl x held
+  inside_keeps s p func (Read t key) x held = told_keeps p (record { func = func; table = t; key = key }) (option_map answer.Value (given m (log_key func p))) (option_map answer.Value (given (after_act a now k m) (log_key func p))) x (value_keeps (log_key func p) (option_map answer.Value) refl x) held
+  inside_keeps s p func (Write t key v) x held = let i : Item = record { func = func; table = t; key = key } in told_keeps p i (answer_aside m s p i) (answer_aside (after_act a now k m) s p i) x (shadow_keeps s p i x) held
+  inside_keeps s p func (CondWrite t key r u v) x held = let i : Item = record { func = func; table = t; key = key } in told_keeps p i (answer_aside m s p i) (answer_aside (after_act a now k m) s p i) x (shadow_keeps s p i x) held
   inside_keeps s p func e x held = outside_keeps p func e x held
 
   act_keeps : AnswersStay m (after_act a now k m)

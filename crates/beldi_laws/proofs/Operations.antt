@@ -45,7 +45,7 @@ use Rattle.beldi_plain.specs.Guard.{IsFree, touched_by, item_touched}
 use Rattle.beldi_plain.specs.Holds.{holds}
 use Rattle.beldi_plain.specs.Operation as operation
 use Rattle.beldi_plain.specs.Operation.{OnItem, Operation, op_of, item_in, answer_after, write, lock, free, sets}
-use Rattle.beldi_plain.specs.Plain.{Instance, PlainState, value_at, operate, effect_of, kind_of, answered, effect_before}
+use Rattle.beldi_plain.specs.Plain.{Instance, PlainState, value_at, operate, effect_of, kind_of, effect_before}
 use Rattle.beldi_plain.specs.declared.kind.Kind.TheVariants as kind
 use Rattle.beldi_laws.specs.Outside.{Answers as OpAnswered, OpAnswers, IsAnswerTo}
 use Rattle.beldi_order.proofs.Entries.{enabled_step, free_at_operation}
@@ -256,7 +256,7 @@ module _ (d : Deployment) (c : Core) (m : Rows) (i : ℕ) (r : Run) (g : Begun) 
           (subst (λ f. DoneRows m n (item_in f o) place op) (sym k.func) (record { same = same; sound = sound; none = did.0; free = did.1.0; here = did.1.1 }))
 
       open_still : k.instance.outcome ≡ None
-      open_still = not_over d c m i r g h live k left (subst (λ z. IsTrue (wants_answer z)) (sym is) (wants_it e a answers_so))
+      open_still = not_over d c m r g h k left (subst (λ z. IsTrue (wants_answer z)) (sym is) (wants_it e a answers_so))
 
       -- nobody else has locked the item
       free_here : IsFree d h.plain (Step r.id)

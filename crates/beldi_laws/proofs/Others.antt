@@ -25,7 +25,6 @@ use Rattle.beldi_row.specs.Table.{Rows}
 use Rattle.beldi_row.specs.declared.notes.Note.{Note}
 use Rattle.beldi_row.specs.declared.notes.Note.TheVariants as notes
 use Rattle.beldi_row.specs.declared.row.Row.{Row}
-use Rattle.beldi_row.specs.declared.row.Row.TheVariants as rows
 use Rattle.beldi_daal.specs.Content.{Content}
 use Rattle.beldi_txn.specs.declared.tx.TxAt.{TxAt}
 use Rattle.beldi_txn.specs.declared.tx.TxAt.TheVariants as at
@@ -56,7 +55,7 @@ use Rattle.beldi_step.specs.Host.{Core}
 use Rattle.beldi_step.specs.Tables.{value_in}
 use Rattle.beldi_known.specs.Beside.{is_begin}
 use Rattle.beldi_known.specs.Contents.{content_of, shadow_key, lockset_key}
-use Rattle.beldi_known.specs.Known.{Known, Got, ahead_by, ahead_note, at_step, commit_in, decision_by, ended_by, got_before, got_by, is_decided, is_item, is_mark, is_on, last_step, note_by, note_or, owed_note, owed_read, owed_value, read_at, row_at, tx_end, value_or}
+use Rattle.beldi_known.specs.Known.{Known, ahead_by, ahead_note, at_step, commit_in, decision_by, ended_by, got_before, got_by, is_decided, is_item, is_mark, is_on, last_step, note_by, note_or, owed_note, owed_read, owed_value, read_at, row_at, tx_end, value_or}
 use Rattle.beldi_known.specs.Owed.{value_for}
 use Rattle.beldi_known.specs.Rows.{LogMatches}
 use Rattle.beldi_known.proofs.Answers.{true_false}
@@ -67,6 +66,7 @@ use Rattle.beldi_known.proofs.Participants.{now_open}
 use Rattle.beldi_laws.specs.Inside.{AtStage, Found, Frame, InItem, InOperation, Inside, InsideAt, IsWriting, Released, end_walk}
 use Rattle.beldi_laws.specs.Right.{Right, Knows, KnowsAt, open_of}
 use Rattle.beldi_laws.proofs.Grown.{tx_stays}
+use Rattle.beldi_laws.proofs.Lives.{no_more}
 use Rattle.beldi_laws.proofs.OpenOf.{begin_of, open_begun, tx_open}
 use Rattle.beldi_laws.proofs.Moves.{Kept}
 use Rattle.beldi_laws.proofs.Outside.{called_outside}
@@ -76,10 +76,6 @@ use Rattle.beldi_laws.proofs.Shown.{Shows, legal_sane}
 none_later : (xs ys : List Answer) → length (xs ++ ys) ≡ length xs → ys ≡ []
 none_later xs [] h = refl
 none_later xs (y ∷ ys) h = let l = length-append xs (y ∷ ys) in absurd (omega (arith, l, h))
-
-both_none : (xs ys : List Answer) → xs ++ ys ≡ [] → (xs ≡ []) × (ys ≡ [])
-both_none [] ys h = (refl, h)
-both_none (x ∷ xs) ys h = cc
 
 or_true : (b : Bool) → (b || true) ≡ true
 or_true true = refl
@@ -232,7 +228,7 @@ module _ (d : Deployment) (c : Core) (m n : Rows) (h : Right d c m) (q : PlainSt
   -- where it was not answered since
   module _ (left : k.answers ≡ j.answers) where
     left_before : k.later ≡ []
-    left_before = (both_none k.later w.later (none_later k.answers (k.later ++ w.later) (ap length (all_then ∙ sym left)))).0
+    left_before = (no_more k.later w.later (none_later k.answers (k.later ++ w.later) (ap length (all_then ∙ sym left)))).0
 
     left_here : k.answers ≡ k.instance.answers
     left_here = sym (append-nil k.answers) ∙ ap (λ ys. k.answers ++ ys) (sym left_before) ∙ k.run_answers

@@ -1,5 +1,5 @@
 -- Steps outside transactions: where no Begin is open. There what is known of an instance is what the plain state has.
-use Rattle.std.proofs.Common.{Bool, true, false, ◌≡◌, ◌∙◌, List, [], ◌∷◌, ◌++◌, Option, Some, None, refl, ap, sym, subst, length, ◌&&◌, append_assoc, is_some}
+use Rattle.std.proofs.Common.{Bool, true, false, ◌≡◌, ◌∙◌, List, [], ◌∷◌, ◌++◌, Option, Some, None, refl, ap, sym, subst, length, ◌&&◌, append_assoc}
 use Rattle.std.specs.FinMap as map
 use Rattle.std.specs.Option.{is_none}
 use Rattle.beldi_value.specs.declared.id.IntentId.{IntentId}
@@ -24,8 +24,7 @@ use Rattle.beldi_order.specs.Inside.{answered_all, inside}
 use Rattle.beldi_known.specs.Beside.{Beside, OpenTx, last_of, is_begin, begins}
 use Rattle.beldi_known.proofs.Leads.{later_of, known_all}
 use Rattle.beldi_known.specs.Known.{Known}
-use Rattle.beldi_order.specs.Txs.{tx_now, txs_after, txs_by, Txs, effect_after}
-use Rattle.beldi_known.specs.Matches.{LockedAtEnds, LockedIf}
+use Rattle.beldi_order.specs.Txs.{txs_after, txs_by, Txs, effect_after}
 use Rattle.beldi_known.specs.Sane.{SaneInstance}
 use Rattle.beldi_order.proofs.Went.{txs_pushed}
 use Rattle.beldi_known.proofs.Opened.{IsOutside, open_inside, open_holds}
@@ -156,18 +155,3 @@ module _ (d : Deployment) (p : PlainState) (known : Known) (beside : Beside d p 
   -- nobody was called in a transaction yet
   pub called_outside : (k : Instance) → map.get known id ≡ Some k → plain.Sane d p → k.within ≡ None
   called_outside k is sane = let q = made_of k is in q.2.within ∙ (sane_of d p id q.0 sane q.1).outside
-
--- ---- no lock is ahead of an answer outside
-pub unlocked_here : (d : Deployment) (known : Known) (locked : IntentId → Bool) → LockedAtEnds d known locked → (id : IntentId) (q : Instance) → map.get known id ≡ Some q → tx_now d id q ≡ None → locked id ≡ false
-unlocked_here d known locked ends id q is outside = by_lock (locked id) refl
-  where
-    by_lock : (b : Bool) → locked id ≡ b → b ≡ false
-    by_lock false e = refl
-    by_lock true e = let at = subst (LockedIf d id) is (ends id e) in let clash = sym (ap is_some outside) ∙ at.inside in cc
-
-pub unlocked_new : (d : Deployment) (known : Known) (locked : IntentId → Bool) → LockedAtEnds d known locked → (id : IntentId) → map.get known id ≡ None → locked id ≡ false
-unlocked_new d known locked ends id new = by_lock (locked id) refl
-  where
-    by_lock : (b : Bool) → locked id ≡ b → b ≡ false
-    by_lock false e = refl
-    by_lock true e = absurd (subst (LockedIf d id) new (ends id e))

@@ -190,7 +190,7 @@ module _ (d : Deployment) (c : Core) (m : Rows) (i : ℕ) (r : Run) (g : Begun) 
       now = effect_next d c.book h.known r g k left ∙ is
 
       open_still : k.instance.outcome ≡ None
-      open_still = not_over d c m i r g h live k left (ap (λ e. wants_answer e) is)
+      open_still = not_over d c m r g h k left (ap (λ e. wants_answer e) is)
 
       made : map.get h.plain.made r.id ≡ Some k.instance
       made = plain_there d c m i r g h live k finds out (Read t key) is left

@@ -1,5 +1,5 @@
 -- Past the end of a transaction it owns nothing: so it is of each number of steps that a run comes to.
-use Rattle.std.proofs.Common.{◌≡◌, ◌∙◌, ℕ, ◌+◌, ◌<◌, Bool, true, false, List, [], ◌∷◌, ◌++◌, length, length-append, take, Option, None, Some, refl, ap, sym, subst, arith, append_assoc, append-nil, eq-eqb, eqb-true, ◌==◌, if◌then◌else◌}
+use Rattle.std.proofs.Common.{◌≡◌, ◌∙◌, ℕ, ◌<◌, Bool, true, false, List, [], ◌∷◌, ◌++◌, length, length-append, take, Option, None, Some, refl, ap, sym, subst, arith, append_assoc, append-nil, eq-eqb, eqb-true, ◌==◌, if◌then◌else◌}
 use Rattle.std.specs.FinMap as map
 use Rattle.std.proofs.lemmas.List.{take-append-le}
 use Rattle.beldi_value.specs.declared.id.IntentId.{IntentId}
@@ -76,10 +76,6 @@ unfolding AllEnded
 ended_at d q b z h = ended_on d q [] q.answers (λ b z e. cc) b z h
 
 -- ---- a run's own transactions
--- none has ended before the first step
-pub released_first : (d : Deployment) (n : Rows) (known : Known) (id : IntentId) → Released d n known id 0
-released_first d n known id t z mine ended less x owned = omega (arith, less)
-
 module _ (d : Deployment) (n : Rows) (known : Known) (locked : IntentId → Bool) (rows : Matches d n known locked) (outside : (j : IntentId) (z : Instance) → map.get known j ≡ Some z → z.within ≡ None) (id : IntentId) (q : Instance) (made : map.get known id ≡ Some q) where
   -- who owns an item has the function of its instance
   owner_func : (t : TxId) (x : Item) → (content_of n x).owner ≡ Some (ByTx t) → t.intent ≡ id → t.func ≡ q.func

@@ -1,29 +1,23 @@
 -- What rows show of a plain state: what is known beside it, and that they match that. An event keeps it as the two move together.
-use Rattle.std.proofs.Common.{Bool, true, false, ◌≡◌, ◌∙◌, Option, Some, sym}
+use Rattle.std.proofs.Common.{Bool, true, ◌≡◌, ◌∙◌, Option, Some, sym}
 use Rattle.std.specs.FinMap as map
-use Rattle.std.specs.FinMap.{FinMap}
 use Rattle.beldi_value.specs.declared.id.IntentId.{IntentId}
 use Rattle.beldi_value.specs.declared.place.TxId.{TxId}
 use Rattle.beldi_value.specs.declared.place.Owner.TheVariants as owner
-use Rattle.beldi_value.specs.declared.value.Value.{Value}
 use Rattle.beldi_tree.specs.declared.deployment.Deployment.{Deployment}
-use Rattle.beldi_plain.specs.Item.{Item, item_cmp}
-use Rattle.beldi_plain.specs.Plain.{Instance, PlainState, value_at, with_instance}
+use Rattle.beldi_plain.specs.Item.{Item}
+use Rattle.beldi_plain.specs.Plain.{PlainState, value_at}
 use Rattle.beldi_order.specs.Sane as plain
 use Rattle.beldi_plain.specs.Holds.{holds}
 use Rattle.beldi_row.specs.Table.{Rows, set_row}
 use Rattle.beldi_order.proofs.Sanes.{legal_is_sane}
-use Rattle.beldi_order.proofs.Maps.{made_set}
 use Rattle.beldi_step.specs.Host.{Core}
-use Rattle.beldi_known.specs.Beside.{Beside, OpenTx, begins}
 use Rattle.beldi_known.specs.Contents.{content_of}
 use Rattle.beldi_known.specs.Listed.{listed}
-use Rattle.beldi_known.specs.Known.{Known, at_once}
-use Rattle.beldi_known.specs.Matches.{Matches, LockedAtEnds, LockedIf}
+use Rattle.beldi_known.specs.Known.{Known}
+use Rattle.beldi_known.specs.Matches.{Matches, LockedAtEnds}
 use Rattle.beldi_known.specs.Sane.{Sane}
-use Rattle.beldi_known.proofs.Answers.{true_false}
-use Rattle.beldi_known.proofs.FrameAt.{known_set}
-use Rattle.beldi_laws.specs.Inside.{AreMarked, HoldersAreMade, NoneIsCalledInside}
+use Rattle.beldi_laws.specs.Inside.{OwnedAreUnmarked, HoldersAreMade, NoneIsCalledInside}
 use Rattle.beldi_known.specs.InsideLaws.{Goes}
 use Rattle.beldi_laws.specs.Right.{Right}
 use Rattle.beldi_laws.proofs.Outside.{holds_known}
@@ -34,7 +28,7 @@ use Rattle.beldi_known.proofs.Sets.{is_log as is_row_log}
 
 -- what the rows keep of transactions
 pub record Settled (d : Deployment) (m : Rows) (p : PlainState) (known : Known) : Type 0 where
-  pub marks : AreMarked d m known
+  pub marks : OwnedAreUnmarked d m known
   pub holders : HoldersAreMade d p known
   pub uncalled : NoneIsCalledInside d known
 

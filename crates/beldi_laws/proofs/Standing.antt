@@ -37,7 +37,7 @@ use Rattle.beldi_invokelog.specs.InvokeLog.{invoke_key, call_in, result_in}
 use Rattle.beldi_lang.specs.Callee.{answer_of}
 use Rattle.beldi_order.specs.Sane.{IsCalled, CalledBy, call_of, answer_given, IsAnswer, IsDeath}
 use Rattle.beldi_laws.specs.Outside.{OpAnswers, IsAnswerTo}
-use Rattle.beldi_laws.specs.Stands.{Stands, IsMade, IsOpen, key_in, held_answer, held_outside, held_inside, held_note, told_by, lock_note, shadow_answer}
+use Rattle.beldi_laws.specs.Stands.{Stands, IsMade, HasNotEnded, key_in, held_answer, held_outside, held_inside, held_note, decides, told_by, note_of_lock, answer_aside}
 use Rattle.std.specs.Option.{option_map}
 use Rattle.beldi_order.proofs.Maps.{same_some}
 use Rattle.beldi_order.proofs.Sanes.{sane_of}
@@ -47,7 +47,7 @@ use Rattle.beldi_laws.proofs.Operations.{noted_back}
 use Rattle.beldi_step.specs.Run.{noted_answer, is_waited, place_of}
 use Rattle.beldi_lang.specs.declared.effect.Answer.TheVariants.{Done}
 use Rattle.beldi_laws.proofs.CallsHere.{same_call}
-use Rattle.beldi_known.specs.Contents.{head_key, content_of, shadow_of}
+use Rattle.beldi_known.specs.Contents.{head_key, shadow_of, shadow_key}
 use Rattle.beldi_known.specs.Owed.{noted, note_of, value_for, called_by, result_of}
 use Rattle.beldi_known.specs.Known.{write_op}
 use Rattle.beldi_known.specs.Rows.{IntentMatches, RootMatches, BodyMatches, CallMatches, LogMatches}
@@ -55,12 +55,11 @@ use Rattle.beldi_laws.specs.Right.{Right}
 use Rattle.beldi_known.specs.Known.{Known, owed_call, owed_note, owed_shadow, owed_value, row_at, note_or, ahead_note, answered_note, at_step, note_by, shadow_by, is_item, lock_note as lock_owed, ended_at, commit_in, is_mark, is_decided, last_step}
 use Rattle.beldi_known.proofs.Behind.{decision_there}
 use Rattle.beldi_known.proofs.Locks.{tx_self}
-use Rattle.beldi_known.specs.Known.{is_tx}
 use Rattle.beldi_order.specs.Txs.{tx_at, tx_after, effect_after, txs_after, tx_by, or_own}
 use Rattle.beldi_known.specs.Matches.{Matches}
 use Rattle.beldi_known.specs.Sane.{Sane}
 use Rattle.beldi_known.specs.Beside.{is_begin}
-use Rattle.beldi_known.proofs.Opened.{IsOutside, outside_parts, outside_so}
+use Rattle.beldi_known.proofs.Opened.{IsOutside, outside_parts}
 use Rattle.beldi_laws.proofs.Outside.{outside_answer, is_of_tx, known_of, made_of}
 use Rattle.beldi_laws.proofs.Owed.{note_if, value_if, note_there, read_there, no_end}
 use Rattle.beldi_laws.proofs.Grown.{tx_stays}
@@ -105,8 +104,13 @@ cut_at [] n a h = cc
 cut_at (x ∷ xs) zero a h = (xs, (ap (λ z. z ∷ xs) (sym (same_some h)), refl))
 cut_at (x ∷ xs) (suc n) a h = let k = cut_at xs n a h in (k.0, (ap (λ zs. x ∷ zs) k.1.0, ap suc k.1.1))
 
+-- a decision is its own
+decided_so : (c : Bool) → decides c (value.Bool c) ≡ Some Done
+decided_so true = refl
+decided_so false = refl
+
 -- a root without outcome has its row
-open_by : (d : Deployment) (m : Rows) (t : ℕ) (q : Instance) (r : Option Row) → map.get m (root_key t) ≡ r → RootMatches true r (Some q) → q.outcome ≡ None → IsOpen m (root_key t)
+open_by : (d : Deployment) (m : Rows) (t : ℕ) (q : Instance) (r : Option Row) → map.get m (root_key t) ≡ r → RootMatches true r (Some q) → q.outcome ≡ None → HasNotEnded m (root_key t)
 open_by d m t q None is root none = cc
 open_by d m t q (Some (rows.Intent i)) is root none = record { row = i; there = is; not_ended = never_ended i (no_outcome i.body i.outcome q root.body none) root.finishes }
 open_by d m t q (Some r) is root none = absurd root
@@ -183,7 +187,7 @@ module _ (d : Deployment) (m : Rows) (known : Known) (locked : IntentId → Bool
     -- ---- inside one
     module _ (x : TxId) (inside : tx_at d id q n ≡ Some x) where
       -- the note of an operation's lock
-      lock_here : (z : Effect) (t : ℕ) (k : List ℕ) → e ≡ z → touched z ≡ Some (t, k) → commit_in z ≡ None → (w : Note) → lock_owed a ≡ Some w → lock_note m place (record { func = q.func; table = t; key = k }) ≡ Some w
+      lock_here : (z : Effect) (t : ℕ) (k : List ℕ) → e ≡ z → touched z ≡ Some (t, k) → commit_in z ≡ None → (w : Note) → lock_owed a ≡ Some w → note_of_lock m place (record { func = q.func; table = t; key = k }) ≡ Some w
       lock_here z t k is touch apart w owes = let i : Item = record { func = q.func; table = t; key = k } in
           (h.items i).notes place (ap (is_mark d known n) made ∙ (λ j. is_some (no_mark j) || (is_decided d known (own j) && (n == last_step))))
           ∙ ap (owed_note d i id (locked id) n) made ∙ ap (λ o. note_or o (ahead_note d i id (locked id) n q)) owed
@@ -203,14 +207,14 @@ module _ (d : Deployment) (m : Rows) (known : Known) (locked : IntentId → Bool
 
       -- a death
       died_here : (z : Effect) (t : ℕ) (k : List ℕ) (c : Cause) (rest : Option Answer) → e ≡ z → touched z ≡ Some (t, k) → commit_in z ≡ None → a ≡ answer.Aborted c → IsDeath place x c
-          → told_by place (lock_note m place (record { func = q.func; table = t; key = k })) rest ≡ Some a
+          → told_by place (note_of_lock m place (record { func = q.func; table = t; key = k })) rest ≡ Some a
       died_here z t k c rest is touch apart died death =
           ap (λ o. told_by place o rest) (lock_here z t k is touch apart (Died death.holder) (ap lock_owed died ∙ ap (λ (y : Cause). option_map Died y.holder) death.cause))
           ∙ ap (λ y. Some (answer.Aborted y)) (sym death.cause) ∙ ap Some (sym died)
 
       -- or it got the lock
       got_here : (z : Effect) (t : ℕ) (k : List ℕ) (rest : Option Answer) → e ≡ z → touched z ≡ Some (t, k) → commit_in z ≡ None → lock_owed a ≡ Some Got → rest ≡ Some a
-          → told_by place (lock_note m place (record { func = q.func; table = t; key = k })) rest ≡ Some a
+          → told_by place (note_of_lock m place (record { func = q.func; table = t; key = k })) rest ≡ Some a
       got_here z t k rest is touch apart got same = ap (λ o. told_by place o rest) (lock_here z t k is touch apart Got got) ∙ same
 
       -- an end's row is that of its begin
@@ -232,23 +236,23 @@ module _ (d : Deployment) (m : Rows) (known : Known) (locked : IntentId → Bool
               (subst (LogMatches (map.get m (log_key q.func (place_of id b)))) (ap (owed_value d q.func b) made ∙ ap (λ c. if c then row_at d q b else None) (eq-eqb q.func q.func refl) ∙ row) (h.keys (log_key q.func (place_of id b)))))
 
       inside_here : (z : Effect) (y : Answer) → e ≡ z → a ≡ y → IsAnswer place (Some x) z y → held_inside m x place q.func z ≡ Some y
-      inside_here (Read t k) (answer.Value v) is got ok = subst (λ o. told_by place (lock_note m place (record { func = q.func; table = t; key = k })) (option_map answer.Value (given m (log_key q.func place))) ≡ Some o) got
+      inside_here (Read t k) (answer.Value v) is got ok = subst (λ o. told_by place (note_of_lock m place (record { func = q.func; table = t; key = k })) (option_map answer.Value (given m (log_key q.func place))) ≡ Some o) got
           (got_here (Read t k) t k (option_map answer.Value (given m (log_key q.func place))) is refl refl (ap lock_owed got) (ap (option_map answer.Value) (given_here t k is ∙ ap (value_for (Read t k)) got) ∙ ap Some (sym got)))
-      inside_here (Read t k) (answer.Aborted c) is died ok = subst (λ o. told_by place (lock_note m place (record { func = q.func; table = t; key = k })) (option_map answer.Value (given m (log_key q.func place))) ≡ Some o) died
+      inside_here (Read t k) (answer.Aborted c) is died ok = subst (λ o. told_by place (note_of_lock m place (record { func = q.func; table = t; key = k })) (option_map answer.Value (given m (log_key q.func place))) ≡ Some o) died
           (died_here (Read t k) t k c (option_map answer.Value (given m (log_key q.func place))) is refl refl died ok)
-      inside_here (Write t k v) Done is got ok = let i : Item = record { func = q.func; table = t; key = k } in subst (λ o. told_by place (lock_note m place i) (shadow_answer m x place i) ≡ Some o) got
-          (got_here (Write t k v) t k (shadow_answer m x place i) is refl refl (ap lock_owed got)
+      inside_here (Write t k v) Done is got ok = let i : Item = record { func = q.func; table = t; key = k } in subst (λ o. told_by place (note_of_lock m place i) (answer_aside m x place i) ≡ Some o) got
+          (got_here (Write t k v) t k (answer_aside m x place i) is refl refl (ap lock_owed got)
           (ap (option_and_then noted_answer) (shadow_here (Write t k v) i Wrote is (ap (note_of i q.func (write_op (Write t k v))) got ∙ ap (λ b. if is_eq b then Some Wrote else None) (tied_itself item_total i))) ∙ ap Some (sym got)))
-      inside_here (Write t k v) (answer.Aborted c) is died ok = let i : Item = record { func = q.func; table = t; key = k } in subst (λ o. told_by place (lock_note m place i) (shadow_answer m x place i) ≡ Some o) died
-          (died_here (Write t k v) t k c (shadow_answer m x place i) is refl refl died ok)
-      inside_here (CondWrite t k r u v) (answer.Value (value.Bool b)) is got ok = let i : Item = record { func = q.func; table = t; key = k } in subst (λ o. told_by place (lock_note m place i) (shadow_answer m x place i) ≡ Some o) got
-          (got_here (CondWrite t k r u v) t k (shadow_answer m x place i) is refl refl (ap lock_owed got)
+      inside_here (Write t k v) (answer.Aborted c) is died ok = let i : Item = record { func = q.func; table = t; key = k } in subst (λ o. told_by place (note_of_lock m place i) (answer_aside m x place i) ≡ Some o) died
+          (died_here (Write t k v) t k c (answer_aside m x place i) is refl refl died ok)
+      inside_here (CondWrite t k r u v) (answer.Value (value.Bool b)) is got ok = let i : Item = record { func = q.func; table = t; key = k } in subst (λ o. told_by place (note_of_lock m place i) (answer_aside m x place i) ≡ Some o) got
+          (got_here (CondWrite t k r u v) t k (answer_aside m x place i) is refl refl (ap lock_owed got)
           (ap (option_and_then noted_answer) (shadow_here (CondWrite t k r u v) i (Cond b) is (ap (note_of i q.func (write_op (CondWrite t k r u v))) got ∙ ap (λ c. if is_eq c then Some (Cond b) else None) (tied_itself item_total i))) ∙ ap Some (sym got)))
-      inside_here (CondWrite t k r u v) (answer.Aborted c) is died ok = let i : Item = record { func = q.func; table = t; key = k } in subst (λ o. told_by place (lock_note m place i) (shadow_answer m x place i) ≡ Some o) died
-          (died_here (CondWrite t k r u v) t k c (shadow_answer m x place i) is refl refl died ok)
+      inside_here (CondWrite t k r u v) (answer.Aborted c) is died ok = let i : Item = record { func = q.func; table = t; key = k } in subst (λ o. told_by place (note_of_lock m place i) (answer_aside m x place i) ≡ Some o) died
+          (died_here (CondWrite t k r u v) t k c (answer_aside m x place i) is refl refl died ok)
       inside_here (Call f v) y is got ok = held_call true f v is ∙ ap Some got
       inside_here effect.Begin Done is got ok = refl
-      inside_here (End commit) Done is got ok = ap (option_map (λ v. Done)) (end_here commit is)
+      inside_here (End commit) Done is got ok = ap (option_and_then (decides commit)) (end_here commit is) ∙ decided_so commit
       inside_here effect.Abort (answer.Aborted c) is got ok = ap (λ z. Some (answer.Aborted z)) (sym ok)
       inside_here z y is got ok = absurd ok
 
@@ -294,6 +298,7 @@ module _ (d : Deployment) (m : Rows) (p : PlainState) (known : Known) (locked : 
     open_roots = λ t q made none. let z = known_of d p known h.goes.beside (root_of t) q made in
         open_by d m t z.instance (map.get m (root_key t)) refl (subst (RootMatches true (map.get m (root_key t))) z.is (h.rows.keys (root_key t))) (z.outcome ∙ none);
     sound = λ x. h.rows.keys (head_key x);
+    shadows = λ t x. h.rows.keys (shadow_key t x);
   }
 
 -- the run of the book is one

@@ -39,7 +39,7 @@ use Rattle.beldi_call.specs.declared.call.CallAt.TheVariants as call
 use Rattle.beldi_step.specs.Run as step
 use Rattle.beldi_step.specs.Run.{callee_of, is_waited, last_stage, first_stage, over, goes, goes_from, goes_to, at_stage, turned_by, place_of, takes, takes_if, open_after, own_tx}
 use Rattle.beldi_step.specs.Host.{Core, entry_of}
-use Rattle.beldi_laws.specs.Inside.{AtStage, Inside, InsideAt, Released}
+use Rattle.beldi_laws.specs.Inside.{AtStage, Inside, Released}
 use Rattle.beldi_laws.specs.Right.{Right, RunAt, Knows, KnowsAt, StageOk, MarkOk, PlaceOk, SeenDone, open_of}
 use Rattle.beldi_order.specs.Sane as plain
 use Rattle.beldi_order.specs.Sane.{IsAnswer}
@@ -54,6 +54,7 @@ use Rattle.beldi_known.specs.Known.{Known, Prefix, and_once, answer_at_once, mov
 use Rattle.beldi_order.specs.Txs.{effect_after, tx_now, tx_at, tx_after, txs_after}
 use Rattle.beldi_laws.proofs.Shown.{Shows, legal_sane}
 use Rattle.beldi_known.specs.Beside.{is_begin}
+use Rattle.beldi_known.proofs.Ahead.{unlocked_outside}
 use Rattle.beldi_known.proofs.Begins.{going_now}
 use Rattle.beldi_known.proofs.Flows.{stands}
 use Rattle.beldi_known.proofs.Goes.{run_on_prefix}
@@ -61,7 +62,7 @@ use Rattle.beldi_known.proofs.Opened.{IsOutside, outside_so, outside_parts}
 use Rattle.beldi_known.proofs.Phases.{at}
 use Rattle.beldi_laws.proofs.Lives.{open_stays}
 use Rattle.beldi_laws.proofs.OpenOf.{begin_of, open_begun, open_none, open_pushed, tx_open}
-use Rattle.beldi_laws.proofs.Outside.{called_outside, outside_more, outside_answer, is_of_tx, stands_outside, plain_here, unlocked_here}
+use Rattle.beldi_laws.proofs.Outside.{called_outside, outside_more, outside_answer, is_of_tx, stands_outside, plain_here}
 use Rattle.beldi_laws.proofs.Released.{released_next, released_on}
 use Rattle.beldi_order.specs.Grown.{Grown}
 use Rattle.beldi_laws.proofs.Grown.{tx_stays, grown_same, grown_moved, moved_more}
@@ -256,17 +257,13 @@ module _ (d : Deployment) (c : Core) (m n : Rows) (i : ℕ) (r : Run) (h : Right
       by_stage t None run = entered d c m n i r h live roots (over (Some by)) by q next after refl leads (λ u e. cc) run (λ e. cc) kept
       by_stage t (Some w) run = entered d c m n i r h live roots (goes r (record { machine = t.0; caller = k; tx = t.1; stage = w }) (Some by)) by q next after refl leads (λ u e. cc) run (λ e. cc) kept
 
--- what a run that has begun has found
-pub finds_here : (d : Deployment) (c : Core) (m : Rows) (i : ℕ) (r : Run) (g : Begun) (h : Right d c m) → map.get c.runs i ≡ Some r → r.at ≡ Begins g → Inside d m h.plain h.known r g
-finds_here d c m i r g h live at = subst (InsideAt d m h.plain h.known r) at (subst (RunAt d m h.plain c.book h.known) live (h.runs.runs i)).1
-
 -- ---- where a run stands in its instance's answers
 same_at : (d : Deployment) (q : Instance) (func : ℕ) (xs : List Answer) (n : ℕ) → take n q.answers ≡ xs → q.func ≡ func → effect_before d q n ≡ wants d func q.args (is_some q.within) xs
 same_at d q func xs n t f = ap (wants d q.func q.args (is_some q.within)) t ∙ ap (λ g. wants d g q.args (is_some q.within) xs) f
 
 module _ (d : Deployment) (book : List Entry) (known : Known) (r : Run) (g : Begun) (k : Knows d book known r g) where
   -- its machine stands where its answers lead
-  at_steps : g.machine.steps ≡ length k.answers
+  pub at_steps : g.machine.steps ≡ length k.answers
   at_steps = (at_effect d r.func k.instance.args (is_some k.instance.within) g.machine k.answers k.machine).1
 
   pub front_here : take g.machine.steps k.instance.answers ≡ k.answers
@@ -284,6 +281,10 @@ module _ (d : Deployment) (book : List Entry) (known : Known) (r : Run) (g : Beg
   effect_here =
       same_at d k.instance r.func k.answers g.machine.steps front_here k.func
       ∙ sym (at_effect d r.func k.instance.args (is_some k.instance.within) g.machine k.answers k.machine).0
+
+  -- .. after the answers that the run was given
+  pub wanted_here : effect_after d k.instance k.answers ≡ g.machine.effect
+  wanted_here = ap (effect_after d k.instance) (sym front_here) ∙ effect_here
 
   -- what the step was answered is the first answer that the run has still to be given
   pub answer_here : (later : List Answer) → k.later ≡ later → slice_get k.instance.answers g.machine.steps ≡ slice_get later 0
@@ -369,6 +370,22 @@ pub wants_it : (e : Effect) (a : Answer) → IsAnswerTo e a → IsTrue (wants_an
 wants_it (Return o) a is = absurd is
 wants_it e a is = refl
 
+-- ---- its instance
+module _ (d : Deployment) (c : Core) (m : Rows) (r : Run) (g : Begun) (h : Right d c m) (k : Knows d c.book h.known r g) where
+  pub sane_instance : SaneInstance d r.id k.instance
+  sane_instance = h.sane.each r.id k.instance k.made
+
+  pub own_here : k.instance.within ≡ None
+  own_here = called_outside d h.plain h.known h.beside r.id k.instance k.made (legal_sane h)
+
+  -- a step that is the instance's next has not returned
+  pub not_over : k.later ≡ [] → IsTrue (wants_answer g.machine.effect) → k.instance.outcome ≡ None
+  not_over left wanted = by_outcome k.instance.outcome refl
+    where
+      by_outcome : (o : Option Outcome) → k.instance.outcome ≡ o → k.instance.outcome ≡ None
+      by_outcome None none = none
+      by_outcome (Some o) some = let clash = ap wants_answer (sym (sane_instance.over o some) ∙ effect_next d c.book h.known r g k left) ∙ wanted in cc
+
 -- ---- what each thing that a stage says leaves
 -- a stage of a transaction
 abbrev pub is_inside : Stage → Bool
@@ -400,12 +417,6 @@ module _ (d : Deployment) (c : Core) (m : Rows) (i : ℕ) (r : Run) (g : Begun) 
   abbrev pub Freed : Rows → Type 0
   Freed n = (o : OpenTx) (commit : Bool) (x : Item) → g.tx ≡ Some o → g.machine.effect ≡ End commit → (content_of n x).owner ≡ Some (ByTx (own_tx r.id r.func o)) → ⊥
 
-  pub sane_instance : SaneInstance d r.id k.instance
-  sane_instance = h.sane.each r.id k.instance k.made
-
-  pub own_here : k.instance.within ≡ None
-  own_here = called_outside d h.plain h.known h.beside r.id k.instance k.made (legal_sane h)
-
   -- where it stands it finds what it found
   stays_as : (n : Rows) → Stays h n → RunAt d n h.plain c.book h.known (Some r)
   stays_as n kept = let was = subst (RunAt d m h.plain c.book h.known) live (h.runs.runs i) in (was.0, kept.others r was.0 was.1)
@@ -420,14 +431,6 @@ module _ (d : Deployment) (c : Core) (m : Rows) (i : ℕ) (r : Run) (g : Begun) 
   -- the run is over
   pub ends : (n : Rows) → SameRoots m n → Stays h n → Leaves (says.Ends None None) n
   ends n roots kept = quiet d c m n i r h live roots (turned_by d r g (says.Ends None None)) h.known h.locked refl refl tt (λ e. cc) kept
-
-  -- a step that is the instance's next has not returned
-  pub not_over : k.later ≡ [] → IsTrue (wants_answer g.machine.effect) → k.instance.outcome ≡ None
-  not_over left wanted = by_outcome k.instance.outcome refl
-    where
-      by_outcome : (o : Option Outcome) → k.instance.outcome ≡ o → k.instance.outcome ≡ None
-      by_outcome None none = none
-      by_outcome (Some o) some = let clash = ap wants_answer (sym (sane_instance.over o some) ∙ effect_next d c.book h.known r g k left) ∙ wanted in cc
 
   -- ---- of a run that has found what it has to
   module _ (finds : Inside d m h.plain h.known r g) where
@@ -486,11 +489,11 @@ module _ (d : Deployment) (c : Core) (m : Rows) (i : ℕ) (r : Run) (g : Begun) 
     module _ (out : tx_after d r.id k.instance k.answers ≡ None) (e : Effect) (is : g.machine.effect ≡ e) where
       -- at the front the plain state has it
       pub plain_there : k.later ≡ [] → map.get h.plain.made r.id ≡ Some k.instance
-      plain_there left = plain_here d h.plain h.known h.beside r.id k.instance k.made sane_instance (outside_there d c.book h.known r g k out left)
+      plain_there left = plain_here d h.plain h.known h.beside r.id k.instance k.made (sane_instance d c m r g h k) (outside_there d c.book h.known r g k out left)
 
       -- and no lock of it is ahead
       pub unlocked_there : k.later ≡ [] → h.locked r.id ≡ false
-      unlocked_there left = unlocked_here d h.known h.locked h.locked_at_ends r.id k.instance k.made (tx_next d c.book h.known r g k out left)
+      unlocked_there left = unlocked_outside d h.known h.locked h.locked_at_ends r.id k.instance k.made (tx_next d c.book h.known r g k out left)
 
       -- the run at another stage of its effect, of which it knows what it has to
       pub at_another : (more : List Entry) (n : Rows) (q : PlainState) (next : Known) (after : IntentId → Bool) (j : Instance) (later : List Answer) (s : Stage) → Kept h n q next after → map.get next r.id ≡ Some j → Grown k.instance j → k.answers ++ later ≡ j.answers
@@ -513,7 +516,7 @@ module _ (d : Deployment) (c : Core) (m : Rows) (i : ℕ) (r : Run) (g : Begun) 
       pub fits : (a : Answer) (rest : List Answer) → k.later ≡ a ∷ rest → IsAnswerTo e a
       fits a rest left = subst (λ z. IsAnswerTo z a) is (outside_answer (place_of r.id g.machine.steps) g.machine.effect a (not_of_tx d c.book h.known r g k out)
           (subst (λ t. IsAnswer (place_of r.id g.machine.steps) t g.machine.effect a) (tx_step d c.book h.known r g k out)
-          (subst (λ z. IsAnswer (place_of r.id g.machine.steps) (tx_at d r.id k.instance g.machine.steps) z a) (effect_here d c.book h.known r g k) (sane_instance.past g.machine.steps a (answer_here d c.book h.known r g k (a ∷ rest) left)))))
+          (subst (λ z. IsAnswer (place_of r.id g.machine.steps) (tx_at d r.id k.instance g.machine.steps) z a) (effect_here d c.book h.known r g k) ((sane_instance d c m r g h k).past g.machine.steps a (answer_here d c.book h.known r g k (a ∷ rest) left)))))
 
       pub answers_it : (a : Answer) → IsAnswerTo e a → IsTrue (wants_answer g.machine.effect)
       answers_it a ok = subst (λ e. IsTrue (wants_answer e)) (sym is) (wants_it e a ok)

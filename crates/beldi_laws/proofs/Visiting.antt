@@ -19,7 +19,6 @@ use Rattle.beldi_lang.specs.declared.effect.Answer.TheVariants as answer
 use Rattle.beldi_lang.specs.declared.effect.Effect.{Effect}
 use Rattle.beldi_lang.specs.declared.effect.Effect.TheVariants as effect
 use Rattle.beldi_lang.specs.Wants.{wants_answer}
-use Rattle.beldi_lang.proofs.Resumes.{at_effect}
 use Rattle.beldi_book.specs.Order.{count_changes}
 use Rattle.beldi_row.specs.declared.key.RowKey.{RowKey}
 use Rattle.beldi_row.specs.declared.key.Kind.TheVariants as kinds
@@ -100,10 +99,11 @@ use Rattle.beldi_laws.proofs.Frames.{frame_held, frame_item, items_stay}
 use Rattle.beldi_laws.proofs.Grown.{grown_same}
 use Rattle.beldi_laws.proofs.Keeping.{SameShadows, act_stays, as_it_was, stays_by}
 use Rattle.beldi_laws.proofs.Moves.{AfterQuery, SameRoots, Stays}
-use Rattle.beldi_laws.proofs.OpenOf.{begin_of, open_begun, open_tx}
+use Rattle.beldi_laws.proofs.InTx.{opens}
+use Rattle.beldi_laws.proofs.OpenOf.{begin_of, open_begun}
 use Rattle.beldi_laws.proofs.Owed.{content_kept, contents_kept, others_list}
 use Rattle.beldi_laws.proofs.Shown.{legal_sane, shown}
-use Rattle.beldi_laws.proofs.Turns.{Leaves, front_here, effect_here, all_here, none_within, own_here, stands_on, answers_on}
+use Rattle.beldi_laws.proofs.Turns.{at_steps, wanted_here, Leaves, all_here, none_within, stands_on, answers_on}
 use Rattle.beldi_laws.proofs.Widths.{finds_first}
 
 -- ---- past the decision
@@ -306,10 +306,10 @@ module _ (d : Deployment) (c : Core) (m : Rows) (r : Run) (g : Begun) (h : Right
   s = own_tx r.id r.func o
 
   steps_here : end ≡ length k.answers
-  steps_here = (at_effect d r.func k.instance.args (is_some k.instance.within) g.machine k.answers k.machine).1
+  steps_here = at_steps d c.book h.known r g k
 
   wanted : effect_after d k.instance k.answers ≡ effect.End commit
-  wanted = ap (effect_after d k.instance) (sym (front_here d c.book h.known r g k)) ∙ effect_here d c.book h.known r g k ∙ is
+  wanted = wanted_here d c.book h.known r g k ∙ is
 
   -- its Begin is the one that is open
   begun : (txs_after d k.instance k.answers).begun ≡ Some o.begin
@@ -453,11 +453,8 @@ module _ (d : Deployment) (c : Core) (m : Rows) (i : ℕ) (r : Run) (g : Begun) 
   pub end_turn : AllShort h.known → (commit : Bool) (v : Visit) → g.machine.effect ≡ effect.End commit → is_past v.at ≡ true → AtStage d m h.plain h.known r.id r.func g.tx g.machine.steps (effect.End commit) (stage.End v)
       → AfterQuery d h.plain c.now m (λ u. turn_next c i r (turned_by d r g (stage_says r.id r.func g.caller g.tx (count_changes c.book) g.machine.steps (effect.End commit) (stage.End v) u))) (stage_asks r.id r.func g.caller g.tx g.machine.steps (effect.End commit) (stage.End v))
   end_turn short commit v is past visited =
-      let e : effect_after d k.instance k.answers ≡ effect.End commit = ap (effect_after d k.instance) (sym (front_here d c.book h.known r g k)) ∙ effect_here d c.book h.known r g k ∙ is in
-      let w = open_tx d r.id k.instance k.answers t (own_here d c m i r g h live k) inside (ap is_begin e) in
-      let o : OpenTx = w.0 in
-      let tx : g.tx ≡ Some o = k.run_open ∙ w.1 in
-      subst (AfterEnd commit v) (sym tx)
-      (visit_turn d c m i r g h live k finds o tx (inside ∙ ap Some w.2 ∙ ap (λ f. Some (own_tx r.id f o)) k.func) commit is
-      (finds_first d c m h short (own_tx r.id r.func o) k.instance k.made (begin_there d c m r g h k o tx commit is))
-      v past (subst (λ x. AtStage d m h.plain h.known r.id r.func x g.machine.steps (effect.End commit) (stage.End v)) tx visited))
+      let z = opens d c m r g h k t inside (ap is_begin is) in
+      subst (AfterEnd commit v) (sym z.1)
+      (visit_turn d c m i r g h live k finds z.0 z.1 z.2 commit is
+      (finds_first d c m h short (own_tx r.id r.func z.0) k.instance k.made (begin_there d c m r g h k z.0 z.1 commit is))
+      v past (subst (λ x. AtStage d m h.plain h.known r.id r.func x g.machine.steps (effect.End commit) (stage.End v)) z.1 visited))

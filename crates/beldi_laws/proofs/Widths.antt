@@ -1,6 +1,6 @@
 -- Ids that are known are as long as ids may be, and rows of locks are of steps that bodies have: so the end of a transaction finds the
 -- first of its rows.
-use Rattle.std.proofs.Common.{◌≡◌, inl, inr, zero, suc, ◌≤◌, ◌<◌, ◌+◌, ◌-◌, ℕ, ◌&&◌, ◌||◌, Bool, true, false, List, [], ◌∷◌, ◌++◌, length, length-append, length-take-le, add-one, append-nil, get_or, Option, None, Some, is_some, refl, ap, sym, ◌∙◌, subst, arith, eqb-true, IsTrue}
+use Rattle.std.proofs.Common.{◌≡◌, inl, inr, zero, suc, ◌≤◌, ◌<◌, ◌+◌, ℕ, ◌&&◌, ◌||◌, Bool, true, false, List, [], ◌∷◌, ◌++◌, length, length-append, length-take-le, add-one, append-nil, get_or, Option, None, Some, is_some, refl, ap, sym, ◌∙◌, subst, arith, eqb-true, IsTrue}
 use Rattle.std.specs.Prelude.{take, nat_lt, nat_le}
 use Rattle.std.specs.FinMap as map
 use Rattle.std.specs.Option.{is_none}

@@ -1,5 +1,5 @@
 -- The turns of an operation inside a transaction, past its lock: it looks at its shadow and at the item, keeps what it read, and makes and writes its shadow.
-use Rattle.std.proofs.Common.{◌≡◌, ◌⊎◌, inl, inr, ℕ, Bool, true, false, List, [], ◌∷◌, ◌++◌, length, Option, None, Some, refl, ap, sym, ◌∙◌, subst, is_some, append_assoc, if◌then◌else◌}
+use Rattle.std.proofs.Common.{◌≡◌, ◌⊎◌, inl, inr, ℕ, Bool, true, false, List, [], ◌∷◌, ◌++◌, length, Option, None, Some, refl, ap, sym, ◌∙◌, subst, is_some, if◌then◌else◌}
 use Rattle.std.specs.FinMap as map
 use Rattle.std.specs.Ordering.{is_eq}
 use Rattle.std.proofs.lemmas.Cmp.{tied_itself}
@@ -19,13 +19,11 @@ use Rattle.beldi_lang.specs.declared.effect.Answer.{Answer}
 use Rattle.beldi_lang.specs.declared.effect.Answer.TheVariants as answer
 use Rattle.beldi_lang.specs.declared.effect.Effect.{Effect}
 use Rattle.beldi_lang.specs.declared.effect.Effect.TheVariants as effect
-use Rattle.beldi_book.specs.Order.{count_changes}
 use Rattle.beldi_row.specs.Act.{Tell, act, stays, other_owner, no_row, on_cell, at_tail, unless_held, noted_or as cell_noted, next_or, held_or as cell_held, entered, cond_to, did as was_did, noted as said_noted}
 use Rattle.beldi_row.specs.Log.{note_at}
 use Rattle.beldi_row.specs.Table.{Rows, set_row}
 use Rattle.beldi_row.specs.declared.act.Act.TheVariants.{Look, PutRead, MakeCell, WriteCell, CondCell}
 use Rattle.beldi_row.specs.declared.key.RowKey.{RowKey}
-use Rattle.beldi_row.specs.declared.key.Kind.{Kind}
 use Rattle.beldi_row.specs.declared.key.Kind.TheVariants as kinds
 use Rattle.beldi_row.specs.declared.notes.Note.{Note}
 use Rattle.beldi_row.specs.declared.notes.Note.TheVariants as note
@@ -54,7 +52,6 @@ use Rattle.beldi_order.specs.Sane.{IsAnswer}
 use Rattle.beldi_order.specs.Txs.{tx_after, tx_now}
 use Rattle.beldi_order.proofs.Entries.{grows_self}
 use Rattle.beldi_order.proofs.Maps as maps
-use Rattle.beldi_intent.specs.Intent.{root_key}
 use Rattle.beldi_step.specs.declared.run.Begun.{Begun}
 use Rattle.beldi_step.specs.declared.run.OpenTx.{OpenTx}
 use Rattle.beldi_step.specs.declared.run.Run.{Run}
@@ -62,7 +59,7 @@ use Rattle.beldi_step.specs.declared.run.Says.{Says}
 use Rattle.beldi_step.specs.declared.run.Says.TheVariants as says
 use Rattle.beldi_step.specs.declared.run.Stage.TheVariants as stage
 use Rattle.beldi_step.specs.Host.{Core, turn_next}
-use Rattle.beldi_step.specs.Run.{own_tx, place_of, stage_asks, stage_says, turned_by, tx_here_asks, tx_here_says, tx_says}
+use Rattle.beldi_step.specs.Run.{own_tx, place_of, turned_by, tx_here_asks, tx_here_says, tx_says}
 use Rattle.beldi_step.specs.Tables.{decision_key, value_in}
 use Rattle.beldi_known.specs.Acts.{noted, did, tested, noted_or, held_or, lock_or, lock_answer, write_on, test_on}
 use Rattle.beldi_known.specs.Contents.{content_of, head_key, lockset_key, shadow_key, shadow_of}
@@ -72,7 +69,7 @@ use Rattle.beldi_known.specs.InsideLaws.{Goes, IsOpen}
 use Rattle.beldi_known.specs.Known.{Known, got_by, moved, owed_lockset}
 use Rattle.beldi_known.specs.Laws.{IsFront}
 use Rattle.beldi_known.specs.Listed.{listed, listed_under}
-use Rattle.beldi_known.specs.Matches.{Matches, LocksetMatches, lockset_ahead}
+use Rattle.beldi_known.specs.Matches.{Matches, lockset_ahead}
 use Rattle.beldi_known.specs.Sane.{Sane}
 use Rattle.beldi_known.specs.Shadows.{writes_on}
 use Rattle.beldi_known.proofs.Acts.{content_apart, kinds_apart, is_data}
@@ -85,27 +82,22 @@ use Rattle.beldi_known.proofs.Leads.{item_self}
 use Rattle.beldi_known.proofs.Lists.{shadow_lists}
 use Rattle.beldi_known.proofs.OneFunction.{listed_open, undecided}
 use Rattle.beldi_known.proofs.ReadLists.{read_lists}
-use Rattle.beldi_known.proofs.Rows.{is_intent_key, no_root, set_here, set_others}
+use Rattle.beldi_known.proofs.Rows.{set_here, set_others}
 use Rattle.beldi_known.proofs.Sanes.{sane_read, sane_wrote, sane_tested}
 use Rattle.beldi_known.proofs.Told.{write_parts, test_parts}
-use Rattle.beldi_laws.specs.Right.{Right, Knows, StageOk, MarkOk}
-use Rattle.beldi_laws.specs.Inside.{AtStage, Found, Frame, InItem, InOperation, Inside}
+use Rattle.beldi_laws.specs.Right.{Right, Knows}
+use Rattle.beldi_laws.specs.Inside.{Found, Frame, InItem, InOperation, Inside}
 use Rattle.beldi_laws.proofs.Frames.{is_lockset, frame_row, frame_shadow, items_stay, settled_operated, settled_rows}
-use Rattle.beldi_laws.proofs.Grown.{grown_moved, grown_same, grows_moved, moved_more}
-use Rattle.beldi_laws.proofs.InTx.{touches, opens, same_item, steps, effect_so, wants_here, short, sane_instance, outside, known_answers, answers_so, at_front, now, tx_is, front, apart, not_ended, begun, was_locked}
+use Rattle.beldi_laws.proofs.Grown.{grown_moved, grows_moved, moved_more}
+use Rattle.beldi_laws.proofs.InTx.{frees_none, goes_at, replays, lockset_is, set_roots, touches, same_item, steps, effect_so, wants_here, short, known_answers, answers_so, at_front, now, tx_is, front, apart, not_ended, begun, was_locked}
 use Rattle.beldi_laws.proofs.Keeping.{as_it_was}
 use Rattle.beldi_laws.proofs.Moves.{AfterQuery, AfterTurn, SameRoots, Kept}
 use Rattle.beldi_laws.proofs.Others.{kept_by}
 use Rattle.beldi_laws.proofs.Outside.{called_outside}
 use Rattle.beldi_laws.proofs.Shown.{legal_sane, settled}
-use Rattle.beldi_laws.proofs.Turns.{all_here, step_here, stands_on, answers_on, stays_on}
+use Rattle.beldi_laws.proofs.Turns.{own_here, sane_instance, all_here, step_here, answers_on, stays_on}
 
 -- ---- small facts
--- a run at an operation is to decide nothing
-no_mark : (id : IntentId) (step : ℕ) (o : Option OpenTx) (e : Effect) (b : TxAt) → MarkOk id step o e (stage.Tx b)
-no_mark id step (Some o) (effect.End commit) b = tt
-no_mark id step o e b = tt
-
 -- the answer to an operation inside that did not die
 read_is : (p : Place) (s : TxId) (t : ℕ) (key : List ℕ) (a : Answer) → IsAnswer p (Some s) (effect.Read t key) a → death_in a ≡ None → (w : Value) × (a ≡ answer.Value w)
 read_is p s t key (answer.Value w) fits lives = (w, refl)
@@ -133,15 +125,6 @@ locked_out locked id = record { out = ap (λ b. if is_eq b then false else locke
 note_told : (c : Content) (n : Option Note) (w : Note) → noted_or c n (c, did) ≡ (c, noted w) → n ≡ Some w
 note_told c None w h = let e = ap (λ z. z.1) h in cc
 note_told c (Some v) w h = let e = ap (λ z. z.1) h in cc
-
--- a lockset row is one
-lockset_is : (v : Option Row) (owed ahead : Bool) → LocksetMatches v owed ahead → is_some v ≡ true → v ≡ Some rows.Lockset
-lockset_is None owed ahead h there = cc
-lockset_is (Some rows.Lockset) owed ahead h there = refl
-lockset_is (Some (rows.Intent i)) owed ahead h there = absurd h
-lockset_is (Some (rows.ReadLog v)) owed ahead h there = absurd h
-lockset_is (Some (rows.Invoke i)) owed ahead h there = absurd h
-lockset_is (Some (rows.Cell z)) owed ahead h there = absurd h
 
 -- what a write does to a row of its shadow
 abbrev on_shadow : Place → Owner → (Cell → Cell × Tell) → Option Row → Option Row × Tell
@@ -202,30 +185,9 @@ module _ (d : Deployment) (c : Core) (m : Rows) (i : ℕ) (r : Run) (g : Begun) 
     same : its_item ≡ item
     same = same_item d c m r g h k o here e is x touch
 
-    -- no end is near
-    abbrev Freed : Rows → Type 0
-    Freed n = (u : OpenTx) (commit : Bool) (y : Item) → g.tx ≡ Some u → g.machine.effect ≡ effect.End commit → (content_of n y).owner ≡ Some (ByTx (own_tx r.id r.func u)) → ⊥
-
-    no_end : (n : Rows) → Freed n
-    no_end n u commit y opens ends owned = let clash = sym on_item ∙ ap item_of (sym is ∙ ends) in cc
-
-    -- ---- it goes on to another stage
-    found_at : (b : TxAt) (n : Rows) → InOperation d n h.plain h.known r.id r.func o g.machine.steps e b x → AtStage d n h.plain h.known r.id r.func g.tx g.machine.steps g.machine.effect (stage.Tx b)
-    found_at b n f = subst (λ u. AtStage d n h.plain h.known r.id r.func u g.machine.steps g.machine.effect (stage.Tx b)) (sym tx)
-        (subst (λ z. AtStage d n h.plain h.known r.id r.func (Some o) g.machine.steps z (stage.Tx b)) (sym is) (subst (InItem d n h.plain h.known r.id r.func o g.machine.steps e b) (sym on_item) f))
-
-    goes_on : (b : TxAt) (n : Rows) → SameRoots m n → Kept h n h.plain h.known h.locked → Fits e b → InOperation d n h.plain h.known r.id r.func o g.machine.steps e b x → Leaves (says.On (stage.Tx b) None) n
-    goes_on b n roots kept fits f = stands_on d c m i r g h live k finds (stage.Tx b) n h.locked refl roots kept
-        (subst (λ t. StageOk t r.id g.caller g.machine.effect (stage.Tx b)) (sym here) (subst (λ z. StageOk (Some own) r.id g.caller z (stage.Tx b)) (sym is) fits))
-        (no_mark r.id g.machine.steps g.tx g.machine.effect b) (found_at b n f)
-
-    -- .. with the rows as they are
+    -- ---- it goes on to another stage, with the rows as they are
     moves_on : (b : TxAt) → Fits e b → InOperation d m h.plain h.known r.id r.func o g.machine.steps e b x → Leaves (says.On (stage.Tx b) None) m
-    moves_on b fits f = goes_on b m (λ u. refl) (as_it_was h) fits f
-
-    -- a row was set that is no root's
-    set_roots : (home : ℕ) (kind : Kind) (v : Option Row) → is_intent_key kind ≡ false → SameRoots m (set_row m (record { home = home; kind = kind }) v)
-    set_roots home kind v off u = ap is_some (set_others m (record { home = home; kind = kind }) v (root_key u) (no_root u home kind off))
+    moves_on b fits f = goes_at d c m i r g h live k finds o tx here e is x on_item b m h.locked (λ u. refl) (as_it_was h) fits f
 
     stays_here : Leaves says.Stays m
     stays_here = stays_on d c m i r g h live k finds m (λ u. refl) (as_it_was h)
@@ -252,9 +214,6 @@ module _ (d : Deployment) (c : Core) (m : Rows) (i : ℕ) (r : Run) (g : Begun) 
       all_known : k.answers ++ a ∷ rest ≡ k.instance.answers
       all_known = known_answers d c m r g h k o here e is x touch a rest left
 
-      replays : Leaves (says.Answers a None) m
-      replays = answers_on d c m i r g h live k finds a rest m h.known h.locked k.instance (λ u. refl) (as_it_was h) k.made (grown_same k.instance) (append_assoc k.answers (a ∷ []) rest ∙ all_known) (wants_here d c m r g h k o here e is x touch) (no_end m)
-
       as_behind : (P : Item → Place → Type 0) → P item place → P its_item (place_of r.id (length k.answers))
       as_behind P z = subst (λ n. P its_item (place_of r.id n)) (steps d c m r g h k o here e is x touch) (subst (λ y. P y place) (sym same) z)
 
@@ -265,7 +224,7 @@ module _ (d : Deployment) (c : Core) (m : Rows) (i : ℕ) (r : Run) (g : Begun) 
       not_dead : death_in a ≡ None
       not_dead =
           let p : Place = place_of r.id (length k.answers) in
-          let b = behind_locks d m h.known h.locked h.rows r.id k.instance k.made (sane_instance d c m r g h k o here e is x touch) k.answers a rest all_known (short d c m r g h k o here e is x touch) own here x (ap touched (effect_so d c m r g h k o here e is x touch) ∙ touch) in
+          let b = behind_locks d m h.known h.locked h.rows r.id k.instance k.made (sane_instance d c m r g h k) k.answers a rest all_known (short d c m r g h k o here e is x touch) own here x (ap touched (effect_so d c m r g h k o here e is x touch) ∙ touch) in
           sym b.1 ∙ ap (lock_answer p) (ap (λ z. z.1) (sym b.0 ∙ ap (λ n. noted_or (content_of m its_item) n (lock_or p own (content_of m its_item) (other_owner (ByTx own) (content_of m its_item).owner))) (as_behind (λ y q. note_at (content_of m y).notes q ≡ Some note.Got) l.got)))
 
       answer_fits : IsAnswer place (Some own) e a
@@ -320,7 +279,7 @@ module _ (d : Deployment) (c : Core) (m : Rows) (i : ℕ) (r : Run) (g : Begun) 
       }) (not_ended d c m r g h k o here e is x touch left)
 
       alone : k.instance.within ≡ None
-      alone = outside d c m r g h k o here e is x touch
+      alone = own_here d c m r g h k
 
       off_begin : is_begin (effect_of d k.instance) ≡ false
       off_begin = apart d c m r g h k o here e is x touch left
@@ -334,7 +293,7 @@ module _ (d : Deployment) (c : Core) (m : Rows) (i : ℕ) (r : Run) (g : Begun) 
       answers_now a n roots kept =
           let more = moved_more d r.id k.instance a in
           answers_on d c m i r g h live k finds a more.more n (next a) after (moved d r.id k.instance a) roots kept (maps.here h.known r.id (moved d r.id k.instance a)) (grown_moved d r.id k.instance a)
-          (ap (λ ts. (ts ++ a ∷ []) ++ more.more) (all_here d c.book h.known r g k left) ∙ more.same) (wants_here d c m r g h k o here e is x touch) (no_end n)
+          (ap (λ ts. (ts ++ a ∷ []) ++ more.more) (all_here d c.book h.known r g k left) ∙ more.same) (wants_here d c m r g h k o here e is x touch) (frees_none d c m i r g h live k finds o tx here e is x on_item n)
 
       answer_keeps : (a : Answer) (n : Rows) → ((z : Cause) → a ≡ answer.Aborted z → ⊥) → Goes d n h.plain (next a) after → Sane d (next a) → Matches d n (next a) after → ((y : Item) → listed n y ≡ listed m y) → Frame d m n h.plain h.plain h.known (next a) → Kept h n h.plain (next a) after
       answer_keeps a n lives goes sane matches lists frame = kept_by d c m n h h.plain (next a) after (record {
@@ -365,7 +324,7 @@ module _ (d : Deployment) (c : Core) (m : Rows) (i : ℕ) (r : Run) (g : Begun) 
 
       first_made : (v : Value) → is_some (txn.op_of e) ≡ true → map.get m (shadow_key own item) ≡ None → ((writes_on item r.func e ≡ true) ⊎ (v ≡ value_at h.plain item)) → Fits e (at.Write Try) → Found e (at.Write Try) (Some (fresh v)) (value_at h.plain item)
           → Leaves (says.On (stage.Tx (at.Write Try)) None) (set_row m (shadow_key own item) (Some (fresh v)))
-      first_made v writes none by fits finds_it = let n = set_row m (shadow_key own item) (Some (fresh v)) in goes_on (at.Write Try) n (set_roots r.func (kinds.Shadow own x.0 x.1 0) (Some (fresh v)) refl)
+      first_made v writes none by fits finds_it = let n = set_row m (shadow_key own item) (Some (fresh v)) in goes_at d c m i r g h live k finds o tx here e is x on_item (at.Write Try) n h.locked (set_roots m r.func (kinds.Shadow own x.0 x.1 0) (Some (fresh v)) refl)
           (as_ran (λ y q. Kept h (set_row m (shadow_key own y) (Some (fresh v))) h.plain h.known h.locked) (first_keeps v writes (as_its (λ y q. map.get m (shadow_key own y) ≡ None) none)
           (subst (λ z. (writes_on its_item k.instance.func z ≡ true) ⊎ (v ≡ value_at h.plain its_item)) (sym now_is) (as_its (λ y q. (writes_on y y.func e ≡ true) ⊎ (v ≡ value_at h.plain y)) by))))
           fits (record {
@@ -445,13 +404,13 @@ module _ (d : Deployment) (c : Core) (m : Rows) (i : ℕ) (r : Run) (g : Begun) 
       keep_by : (later : List Answer) → k.later ≡ later → Keeps (map.get m log)
       keep_by [] left = subst Keeps (sym (as_ran read is (t, key) refl l left (λ y p. map.get m (log_key y.func p) ≡ None) (no_log d m h.known h.locked h.rows r.id k.instance k.made)))
           (as_ran read is (t, key) refl l left (λ y p. Leaves (says.Answers (answer.Value v) None) (set_row m (log_key y.func p) (Some (rows.ReadLog v))))
-          (answers_now read is (t, key) refl l left (answer.Value v) (with_log left) (set_roots read is (t, key) refl l k.instance.func (kinds.ReadLog (place_of r.id (length k.instance.answers))) (Some (rows.ReadLog v)) refl) (read_keeps left)))
+          (answers_now read is (t, key) refl l left (answer.Value v) (with_log left) (set_roots m k.instance.func (kinds.ReadLog (place_of r.id (length k.instance.answers))) (Some (rows.ReadLog v)) refl) (read_keeps left)))
       keep_by (b ∷ rest) left =
           let z = read_is place own t key b (answer_fits read is (t, key) refl l b rest left) (not_dead read is (t, key) refl l b rest left) in
           let there : map.get m log ≡ Some (rows.ReadLog z.0) = as_run read is (t, key) refl l b rest left (λ y p. map.get m (log_key y.func p) ≡ Some (rows.ReadLog z.0))
-          (behind_looks d m h.known h.locked h.rows r.id k.instance k.made (sane_instance d c m r g h k o here read is (t, key) refl) k.answers b rest (all_known read is (t, key) refl l b rest left) (short d c m r g h k o here read is (t, key) refl) t key z.0
+          (behind_looks d m h.known h.locked h.rows r.id k.instance k.made (sane_instance d c m r g h k) k.answers b rest (all_known read is (t, key) refl l b rest left) (short d c m r g h k o here read is (t, key) refl) t key z.0
           (effect_so d c m r g h k o here read is (t, key) refl) z.1) in
-          subst Keeps (sym there) (still_row read is (t, key) refl l (says.Answers (answer.Value z.0) None) log (Some (rows.ReadLog z.0)) there (subst (λ y. Leaves (says.Answers y None) m) z.1 (replays read is (t, key) refl l b rest left)))
+          subst Keeps (sym there) (still_row read is (t, key) refl l (says.Answers (answer.Value z.0) None) log (Some (rows.ReadLog z.0)) there (subst (λ y. Leaves (says.Answers y None) m) z.1 (replays d c m i r g h live k finds o tx here read is (t, key) refl m b rest left (λ u. refl) (as_it_was h))))
 
       keep_turn : Turn read (at.Keep v)
       keep_turn = keep_by k.later refl
@@ -505,13 +464,13 @@ module _ (d : Deployment) (c : Core) (m : Rows) (i : ℕ) (r : Run) (g : Begun) 
             let q = has_note b rest left in
             let same : q.0 ≡ w = maps.same_some (sym q.1 ∙ ap (λ v. note_at (content_in v).notes place) there ∙ is_there) in
             subst (λ u. Leaves (tx_says (at.Write Try) (note_goes e u)) (set_row m its (Some (rows.Cell z)))) same
-            (subst (λ s. Leaves s (set_row m its (Some (rows.Cell z)))) (sym q.2) (still_row e is x on_item l (says.Answers b None) its (Some (rows.Cell z)) there (replays e is x on_item l b rest left)))
+            (subst (λ s. Leaves s (set_row m its (Some (rows.Cell z)))) (sym q.2) (still_row e is x on_item l (says.Answers b None) its (Some (rows.Cell z)) there (replays d c m i r g h live k finds o tx here e is x on_item m b rest left (λ u. refl) (as_it_was h))))
 
         -- it has none: it writes now, unless another owns the shadow
         done_by : (later : List Answer) → k.later ≡ later → note_at z.log place ≡ None → (u : Option Owner) → other_owner (ByTx own) z.owner ≡ u → Writes (cell_held z u (does z))
         done_by later left none (Some u) owner = still_row e is x on_item l says.Stays its (Some (rows.Cell z)) there (stays_here e is x on_item l)
         done_by [] left none None owner = subst (λ s. Leaves s (set_row m its (Some (rows.Cell (does z).0)))) (sym (told_now z))
-            (answers_now e is x on_item l left (a z) (set_row m its (Some (rows.Cell (does z).0))) (set_roots e is x on_item l r.func (kinds.Shadow own x.0 x.1 0) (Some (rows.Cell (does z).0)) refl) (keeps left z there sound none owner))
+            (answers_now e is x on_item l left (a z) (set_row m its (Some (rows.Cell (does z).0))) (set_roots m r.func (kinds.Shadow own x.0 x.1 0) (Some (rows.Cell (does z).0)) refl) (keeps left z there sound none owner))
         done_by (b ∷ rest) left none None owner = let clash = sym (has_note b rest left).1 ∙ ap (λ v. note_at (content_in v).notes place) there ∙ none in cc
 
         by_note : (w : Option Note) → note_at z.log place ≡ w → Writes (cell_noted z w (next_or z z.next (cell_held z (other_owner (ByTx own) z.owner) (does z))))
@@ -546,7 +505,7 @@ module _ (d : Deployment) (c : Core) (m : Rows) (i : ℕ) (r : Run) (g : Begun) 
         let s = shadow_of m own (record { func = k.instance.func; table = t; key = key }) in (
           note.Wrote,
           as_run write is (t, key) refl l b rest left (λ y p. note_at (shadow_of m own y).notes p ≡ Some note.Wrote) (note_told s (note_at s.notes (place_of r.id (length k.answers))) note.Wrote
-              (behind_writes d m h.known h.locked h.rows r.id k.instance k.made (sane_instance d c m r g h k o here write is (t, key) refl) k.answers b rest (all_known write is (t, key) refl l b rest left) (short d c m r g h k o here write is (t, key) refl) own here (t, key)
+              (behind_writes d m h.known h.locked h.rows r.id k.instance k.made (sane_instance d c m r g h k) k.answers b rest (all_known write is (t, key) refl l b rest left) (short d c m r g h k o here write is (t, key) refl) own here (t, key)
               (ap touched (effect_so d c m r g h k o here write is (t, key) refl)) t key v (s, did) (effect_so d c m r g h k o here write is (t, key) refl) done)),
           ap (λ z. says.Answers z None) (sym done),
         )
@@ -615,7 +574,7 @@ module _ (d : Deployment) (c : Core) (m : Rows) (i : ℕ) (r : Run) (g : Begun) 
         let s = shadow_of m own (record { func = k.instance.func; table = t; key = key }) in (
           note.Cond told.0,
           as_run test is (t, key) refl l b rest left (λ z p. note_at (shadow_of m own z).notes p ≡ Some (note.Cond told.0)) (note_told s (note_at s.notes (place_of r.id (length k.answers))) (note.Cond told.0)
-              (behind_tests d m h.known h.locked h.rows r.id k.instance k.made (sane_instance d c m r g h k o here test is (t, key) refl) k.answers b rest (all_known test is (t, key) refl l b rest left) (short d c m r g h k o here test is (t, key) refl) own here (t, key)
+              (behind_tests d m h.known h.locked h.rows r.id k.instance k.made (sane_instance d c m r g h k) k.answers b rest (all_known test is (t, key) refl l b rest left) (short d c m r g h k o here test is (t, key) refl) own here (t, key)
               (ap touched (effect_so d c m r g h k o here test is (t, key) refl)) t key u y v told.0 (s, did) (effect_so d c m r g h k o here test is (t, key) refl) told.1)),
           ap (λ z. says.Answers z None) (sym told.1),
         )
@@ -692,13 +651,3 @@ operates (effect.Read t key) a fits = ((t, key), refl)
 operates (effect.Write t key v) a fits = ((t, key), refl)
 operates (effect.CondWrite t key u y v) a fits = ((t, key), refl)
 operates e a fits = absurd fits
-
-module _ (d : Deployment) (c : Core) (m : Rows) (i : ℕ) (r : Run) (g : Begun) (h : Right d c m) (live : map.get c.runs i ≡ Some r) (k : Knows d c.book h.known r g) (finds : Inside d m h.plain h.known r g)
-    (t : TxId) (stands_in : tx_after d r.id k.instance k.answers ≡ Some t) where
-  pub past_turn : (e : Effect) (a : TxAt) → g.machine.effect ≡ e → is_past a ≡ true → Fits e a → AtStage d m h.plain h.known r.id r.func g.tx g.machine.steps e (stage.Tx a)
-      → AfterQuery d h.plain c.now m (λ u. turn_next c i r (turned_by d r g (stage_says r.id r.func g.caller g.tx (count_changes c.book) g.machine.steps e (stage.Tx a) u))) (stage_asks r.id r.func g.caller g.tx g.machine.steps e (stage.Tx a))
-  past_turn e a is past fits found =
-      let x = operates e a fits in
-      let z = opens d c m r g h k t stands_in x.0 (ap touched is ∙ x.1) in
-      subst (λ w. AfterQuery d h.plain c.now m (λ u. turn_next c i r (turned_by d r g (tx_here_says r.id g.machine.steps e a w u))) (tx_here_asks r.id r.func g.machine.steps e a w)) (sym z.1)
-      (working_turn d c m i r g h live k finds z.0 z.1 z.2 e a is past fits (subst (λ w. AtStage d m h.plain h.known r.id r.func w g.machine.steps e (stage.Tx a)) z.1 found))

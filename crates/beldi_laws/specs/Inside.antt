@@ -10,7 +10,7 @@ use Rattle.beldi_value.specs.declared.value.Value.{Value}
 use Rattle.beldi_tree.specs.declared.deployment.Deployment.{Deployment}
 use Rattle.beldi_lang.specs.declared.effect.Answer.TheVariants.{Aborted}
 use Rattle.beldi_lang.specs.declared.effect.Effect.{Effect}
-use Rattle.beldi_lang.specs.declared.effect.Effect.TheVariants.{Read, Write, CondWrite, End}
+use Rattle.beldi_lang.specs.declared.effect.Effect.TheVariants.{Read, CondWrite, End}
 use Rattle.beldi_row.specs.declared.key.RowKey.{RowKey}
 use Rattle.beldi_row.specs.declared.notes.Note.{Note}
 use Rattle.beldi_row.specs.declared.row.Row.{Row}
@@ -100,8 +100,8 @@ InsideAt d m p known r (Begins g) = Inside d m p known r g
 
 -- ---- what the rows keep
 -- an item that a decided transaction owns has no note of its end: it is given back once
-abbrev pub AreMarked : Deployment → Rows → Known → Type 0
-AreMarked d m known = (t : TxId) (z : ℕ × Bool) (x : Item) (w : Note) → tx_end d known t ≡ Some z → (content_of m x).owner ≡ Some (ByTx t) → note_at (content_of m x).notes (end_place t z.0) ≡ Some w → ⊥
+abbrev pub OwnedAreUnmarked : Deployment → Rows → Known → Type 0
+OwnedAreUnmarked d m known = (t : TxId) (z : ℕ × Bool) (x : Item) (w : Note) → tx_end d known t ≡ Some z → (content_of m x).owner ≡ Some (ByTx t) → note_at (content_of m x).notes (end_place t z.0) ≡ Some w → ⊥
 
 -- who let a step die was made
 abbrev pub HoldersAreMade : Deployment → PlainState → Known → Type 0

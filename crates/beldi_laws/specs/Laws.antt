@@ -182,9 +182,3 @@ WritesWhatIsTold = (d : Deployment) (room old new : ℕ) (e : Event) (c b : Core
 -- an answer is dropped only where it was lost, or the table failed
 abbrev pub DropsHaveCause : Type 0
 DropsHaveCause = (d : Deployment) (e : Event) (c b : Core) (old new : TableState) → is_lost e ≡ false → Stepped d e c b old new (Ok seen.Dropped) → Rose old.faults new.faults
-
--- ---- lists of events
--- the requests that events bound, by how they were answered, in order
-abbrev pub bound_in : List Event → List Seen → List (ℕ × (ℕ × Value))
-bound_in (e ∷ es) (x ∷ xs) = bound_of e x ++ bound_in es xs
-bound_in es xs = []

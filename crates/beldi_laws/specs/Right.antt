@@ -42,7 +42,7 @@ use Rattle.beldi_known.specs.Known.{Known}
 use Rattle.beldi_order.specs.Txs.{along, effect_after, tx_after}
 use Rattle.beldi_known.specs.Matches.{Matches, LockedAtEnds}
 use Rattle.beldi_known.specs.Sane.{Sane}
-use Rattle.beldi_laws.specs.Inside.{InsideAt, AreMarked, HoldersAreMade, NoneIsCalledInside}
+use Rattle.beldi_laws.specs.Inside.{InsideAt, OwnedAreUnmarked, HoldersAreMade, NoneIsCalledInside}
 use Rattle.beldi_known.specs.Beside.{Beside}
 use Rattle.beldi_known.specs.Listed.{listed}
 use Rattle.beldi_known.specs.Shadows.{Shadows}
@@ -178,7 +178,7 @@ pub record Right (d : Deployment) (c : Core) (m : Rows) : Type 0 where
   pub tickets : (t : ℕ) → is_some (map.get m (root_key t)) ≡ (nat_lt 0 t && nat_le t c.newest)
   -- shadows show what the open transactions see, and what a decided one owned is given back once
   pub shadows : Shadows d m plain known locked
-  pub marks : AreMarked d m known
+  pub marks : OwnedAreUnmarked d m known
   -- each death has a holder that was made, and nobody is called inside yet
   pub holders : HoldersAreMade d plain known
   pub uncalled : NoneIsCalledInside d known

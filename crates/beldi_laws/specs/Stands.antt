@@ -1,11 +1,13 @@
 -- That rows stand for a plain state.
-use Rattle.std.specs.Prelude.{◌≡◌, ℕ, false, slice_get, Option, Some, None, option_and_then}
+use Rattle.std.specs.Prelude.{◌≡◌, ℕ, Bool, true, false, slice_get, Option, Some, None, option_and_then}
 use Rattle.std.specs.FinMap as map
 use Rattle.beldi_value.specs.Id.{root_of}
 use Rattle.beldi_value.specs.declared.id.IntentId.{IntentId}
 use Rattle.beldi_value.specs.declared.outcome.Outcome.{Outcome}
 use Rattle.beldi_value.specs.declared.place.Place.{Place}
 use Rattle.beldi_value.specs.declared.place.TxId.{TxId}
+use Rattle.beldi_value.specs.declared.value.Value.{Value}
+use Rattle.beldi_value.specs.declared.value.Value.TheVariants as value
 use Rattle.beldi_tree.specs.declared.deployment.Deployment.{Deployment}
 use Rattle.beldi_lang.specs.declared.effect.Answer.{Answer}
 use Rattle.beldi_lang.specs.declared.effect.Answer.TheVariants.{Done}
@@ -30,7 +32,8 @@ use Rattle.beldi_plain.specs.Operation.{OnItem, op_of, item_in}
 use Rattle.beldi_plain.specs.Plain.{Instance, PlainState, value_at, effect_before}
 use Rattle.beldi_step.specs.Run.{noted_answer}
 use Rattle.beldi_intent.specs.Intent.{root_key, is_ended}
-use Rattle.beldi_known.specs.Contents.{content_of, shadow_of, IsSoundChain}
+use Rattle.beldi_known.specs.Contents.{content_of, shadow_key, shadow_of, IsSoundChain}
+use Rattle.beldi_daal.specs.Content.{SoundAt}
 use Rattle.beldi_order.specs.Txs.{tx_at}
 use Rattle.beldi_known.specs.Listed.{listed}
 
@@ -55,20 +58,25 @@ told_by p (Some Got) a = a
 told_by p n a = None
 
 -- an operation on an item writes the transaction's shadow of it
-abbrev pub shadow_answer : Rows → TxId → Place → Item → Option Answer
-shadow_answer m x p i = option_and_then noted_answer (note_at (shadow_of m x i).notes p)
+abbrev pub answer_aside : Rows → TxId → Place → Item → Option Answer
+answer_aside m x p i = option_and_then noted_answer (note_at (shadow_of m x i).notes p)
 
-abbrev pub lock_note : Rows → Place → Item → Option Note
-lock_note m p i = note_at (content_of m i).notes p
+abbrev pub note_of_lock : Rows → Place → Item → Option Note
+note_of_lock m p i = note_at (content_of m i).notes p
 
--- .. a Begin and an Abort are answered at once, and an End once the decision is kept at the place of its Begin
+-- .. a Begin and an Abort are answered at once, and an End once its decision, and no other, is kept at the place of its Begin
+abbrev pub decides : Bool → Value → Option Answer
+decides true (value.Bool true) = Some Done
+decides false (value.Bool false) = Some Done
+decides c v = None
+
 abbrev pub held_inside : Rows → TxId → Place → ℕ → Effect → Option Answer
 held_inside m x p func Begin = Some Done
 held_inside m x p func Abort = Some (answer.Aborted (record { place = p; holder = None }))
-held_inside m x p func (End c) = option_map (λ v. Done) (given m (log_key x.func (record { intent = x.intent; step = x.begin })))
-held_inside m x p func (Read t k) = told_by p (lock_note m p (record { func = func; table = t; key = k })) (option_map answer.Value (given m (log_key func p)))
-held_inside m x p func (Write t k v) = let i : Item = record { func = func; table = t; key = k } in told_by p (lock_note m p i) (shadow_answer m x p i)
-held_inside m x p func (CondWrite t k r o v) = let i : Item = record { func = func; table = t; key = k } in told_by p (lock_note m p i) (shadow_answer m x p i)
+held_inside m x p func (End c) = option_and_then (decides c) (given m (log_key x.func (record { intent = x.intent; step = x.begin })))
+held_inside m x p func (Read t k) = told_by p (note_of_lock m p (record { func = func; table = t; key = k })) (option_map answer.Value (given m (log_key func p)))
+held_inside m x p func (Write t k v) = let i : Item = record { func = func; table = t; key = k } in told_by p (note_of_lock m p i) (answer_aside m x p i)
+held_inside m x p func (CondWrite t k r o v) = let i : Item = record { func = func; table = t; key = k } in told_by p (note_of_lock m p i) (answer_aside m x p i)
 held_inside m x p func e = held_outside m p func e
 
 -- the answer that the rows hold at a step of an intent of a function, by the transaction that it is in and the effect that it has there
@@ -86,7 +94,7 @@ pub record IsMade (p : PlainState) (id : IntentId) (i : IntentRow) (b : Body) : 
   pub outcome : (o : Outcome) → i.outcome ≡ Some o → instance.outcome ≡ Some o
 
 -- the row of an intent that has not ended
-pub record IsOpen (m : Rows) (k : RowKey) : Type 0 where
+pub record HasNotEnded (m : Rows) (k : RowKey) : Type 0 where
   pub row : IntentRow
   pub there : map.get m k ≡ Some (rows.Intent row)
   pub not_ended : is_ended row ≡ false
@@ -104,6 +112,7 @@ pub record Stands (d : Deployment) (m : Rows) (p : PlainState) : Type 0 where
   pub held : (home : ℕ) (id : IntentId) (i : IntentRow) (b : Body) → map.get m (key_in home id) ≡ Some (rows.Intent i) → i.body ≡ Some b → is_ended i ≡ false
       → (q : Instance) → map.get p.made id ≡ Some q → (n : ℕ) (a : Answer) → slice_get q.answers n ≡ Some a → held_answer m id q.func n (tx_at d id q n) (effect_before d q n) ≡ Some a
   -- each root without outcome has its row, which has not ended
-  pub open_roots : (t : ℕ) (q : Instance) → map.get p.made (root_of t) ≡ Some q → q.outcome ≡ None → IsOpen m (root_key t)
-  -- each chain is sound
+  pub open_roots : (t : ℕ) (q : Instance) → map.get p.made (root_of t) ≡ Some q → q.outcome ≡ None → HasNotEnded m (root_key t)
+  -- each chain is sound, of items and of shadows
   pub sound : (x : Item) → IsSoundChain m x
+  pub shadows : (t : TxId) (x : Item) → SoundAt (map.get m (shadow_key t x))

@@ -37,7 +37,7 @@ pub fn starts_are_bound()
 {}
 
 /// What was made goes on: an instance keeps its function and its arguments, and its answers are the first of those that it has
-/// later, whatever comes.
+/// later, whatever comes. Of answers inside a transaction that is not decided `held_answers_stay` speaks.
 pub fn instances_go_on()
     ensures { InstancesGoOn }
 {}
@@ -52,8 +52,8 @@ pub fn listing_is_plain()
     ensures { ListingIsPlain }
 {}
 
-/// Where the host and its rows are right, each step of an instance in the run of the book has one answer, whichever run asks
-/// for it: the one that the rows hold. So runs that never live together are given the same.
+/// Where the host and its rows are right, each step of an instance, also inside a transaction that is not decided yet, has one
+/// answer, whichever run asks for it: the one that the rows hold. So runs that never live together are given the same.
 pub fn each_step_has_one_answer()
     ensures { RightHasOneAnswer }
 {}
