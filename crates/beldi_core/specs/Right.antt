@@ -69,7 +69,7 @@ module _ {T : Type 0} {G : Ghosts T} where
   abbrev pub RowsStand : Host T G → Type 0
   RowsStand h = RowsStandFor h.code (core_of h).book (rows_of h)
 
-  -- each step of an instance of that run has one answer, whichever run asks for it: the one that the rows hold
+  -- each step of an instance, also inside a transaction, has one answer, whichever run asks for it: the one that the rows hold
   abbrev pub HasOneAnswerPerStep : Host T G → Type 0
   HasOneAnswerPerStep h = IfSome (rows_of h) (λ m. (p : PlainState) → run_of h.code (core_of h).book ≡ Some p → OneAnswerPerStep h.code (core_of h) m p)
 

@@ -86,7 +86,7 @@ impl<T: Table> Host<T> {
         &self.code
     }
 
-    /// The book.
+    /// The book. A right host's is legal: each of its transactions is one entry, `Tx` whole, `Try` without a trace in the items.
     pub fn book(&self) -> &Book
         ensures book { result.now ≡ self.entry.now.core.book }
         ensures legal { IsRight self.entry.now → HasLegalBook self.entry.now }
@@ -179,7 +179,8 @@ impl<T: Table> Host<T> {
     /// Carries out one event, with at most one call of the table's `act` or `next`; an event that is answered at once makes
     /// none. Out of memory, nothing was done, but that the event counts as taken, and that a run that had it is over; the act
     /// of a turn may then have been made, and the book has its entry. A crash and a tick take no memory, and of the events that
-    /// make no act only a restart may be out of it. A run that is past its deadline makes no act. Over rows that are told it is the relation that `a_step_over_rows` of `beldi_step`
+    /// make no act only a restart may be out of it. A run that is past its deadline makes no act. The entry of a transaction comes with the
+    /// act that keeps its decision; what is read and written inside makes none. Over rows that are told it is the relation that `a_step_over_rows` of `beldi_step`
     /// gives.
     pub fn event(&mut self, event: Event) -> Result<Seen, AllocError>
         ensures step { Stepped self.old.code event (core_of self.old) (core_of self.new) (T.state self.old.table) (T.state self.new.table) result }

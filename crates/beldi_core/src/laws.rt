@@ -14,8 +14,8 @@ pub fn right_stands<T: Table>(host: &Host<T>)
     ensures { IsRight host.now → RowsStand host.now }
 {}
 
-/// Where a host and its rows are right, each step of an instance in the run of its book has one answer, whichever run asks for
-/// it: the one that the rows hold.
+/// Where a host and its rows are right, each step of an instance, also inside a transaction that is not decided yet, has one
+/// answer, whichever run asks for it: the one that the rows hold.
 pub fn right_has_one_answer<T: Table>(host: &Host<T>)
     ensures { IsRight host.now → HasOneAnswerPerStep host.now }
 {}

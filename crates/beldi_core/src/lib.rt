@@ -19,8 +19,8 @@
 //! - What the rows held at a step stays after an event, whether the host is right or not (`answers_stay`).
 //! - Where the host is right and its table tells its rows, no ticket is answered `gone` (`has_rows`).
 //! - `Host::rows` tells how many rows the table has, as `len` does (`IsCount`).
-//! - `built` tells the line of the first statement that the host cannot carry out yet (`exact`); where there
-//!   is none, no body of an instance whose id may have callees comes to an effect that is not carried out (`carried`).
+//! - `built` tells the line of the first statement that the host cannot carry out yet (`exact`); where there is none, no body that
+//!   runs outside a transaction calls inside one that it began (`carried`).
 //! - `Host::open`, at a moment of at most 2^62, finds the newest ticket, which is the greatest that any key names
 //!   (`newest`), and changes no row (`ok`); where it refuses, it gives the table back (`err`).
 //! - `Host::tables` and `Host::reply` say what the rows say, and change nothing (`reads`, `err`, `unknown`, `core`,
@@ -28,7 +28,7 @@
 //! - A host opened over no rows is right, and so are the host and its rows after `event`, `tables` and `reply` where
 //!   they were before, also out of memory (`right`). A right host has a legal book (`right_is_legal`, and `legal` of
 //!   `book`), its rows stand for the book's run (`right_stands`), also in the table that `close` gives back (`stands`), and
-//!   each step of an instance of that run has one answer, whichever of its runs asks, and it is the one that the rows hold
+//!   each step of an instance, also inside a transaction, has one answer, whichever of its runs asks: the one that the rows hold
 //!   (`right_has_one_answer`).
 //! - Where the host is right, the listing of `tables` is that of the run (`listing`), and what `reply` tells is the
 //!   outcome that the root has in the run, or none (`plain`).

@@ -1,9 +1,10 @@
 //! What is known of each instance: the answers that the rows hold, inside transactions and outside. It has no code.
 //! It stands on the plain machine and on the step of the host. Its definitions: `specs/Known` (what an instance owes the
-//! rows, by its answers), `specs/Matches` (rows that match what is known), `specs/Sane` (instances that went as their
+//! rows, by its answers; `specs/Owed` its parts), `specs/Contents`, `specs/Rows`, `specs/Matches` (rows that match what is known), `specs/Sane` (instances that went as their
 //! bodies want), `specs/Beside` (what is known beside the plain state),
 //! `specs/Shadows` (what shadows show of it), `specs/Listed` (the value that is listed),
-//! `specs/Acts` (the acts inside a transaction), `specs/Frame` (an answer more), `specs/Laws` (the laws).
+//! `specs/Acts` (the acts inside a transaction), `specs/Operations` (those outside), `specs/Frame` (an answer more), `specs/Laws` and
+//! `specs/InsideLaws` (the laws).
 //!
 //! Proved:
 //! - An answer more changes what its instance owes at its place alone (`one_answer_more`). A Begin that is open has not

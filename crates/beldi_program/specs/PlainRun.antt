@@ -81,7 +81,8 @@ abbrev pub GoesOn : List Entry → List Entry → Type 0
 GoesOn before after = (more : List Entry) × (before ++ more ≡ after)
 
 -- the book at the end goes on from the last moment's, where an event broke off out of memory. It is legal, so that each step
--- of an instance acts once and in its order; it starts exactly the requests that were answered bound, in order; every outcome
+-- of an instance acts once and in its order, each transaction that committed is one entry, whole, and each that was aborted one that
+-- leaves no item changed (`after` of `beldi_plain/specs/Entries`); it starts exactly the requests that were answered bound, in order; every outcome
 -- that was told is its root's; and the rows stand for its run.
 pub record IsPlainRun (d : Deployment) (rows : Rows) (ys : List Response) (last book : List Entry) : Type 0 where
   pub goes_on : GoesOn last book

@@ -24,7 +24,8 @@
 //!   functions and lines it has, with 5 it is its first refusal alone.
 //! - Over a table without rows, that session is a run without crashes: after each step the book of that step's host has the
 //!   entries that were told, is legal, and each outcome, reply, listing of the tables and of the book is that of its
-//!   run then (`Moment`); at the end (`IsPlainRun`) it is legal, so each step of an instance acts once and in its order (`legal`),
+//!   run then (`Moment`); at the end (`IsPlainRun`) it is legal, so each step of an instance acts once and in its order, each
+//!   committed transaction in one piece, and each aborted one reads one state and leaves no item changed (`legal`),
 //!   it starts exactly the requests that were answered `bound`, in order (`bound`), each outcome that was told is the
 //!   root's in its run (`replies`), and the rows stand for that run, and are listed as it is (`tables`).
 //! - 3, 4 and 8 come only where the count of the source, the sink or the table rose (`source_fault`, `sink_fault`,
