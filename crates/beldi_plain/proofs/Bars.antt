@@ -15,6 +15,7 @@ use Rattle.beldi_plain.specs.Answers.{Did, IsFree, StandsFree, Entered, DidStep,
 use Rattle.beldi_plain.specs.Entries.{after}
 use Rattle.beldi_plain.specs.Inside.{Begins, StandsAtBegin, Pieced, Tried}
 use Rattle.beldi_plain.specs.Piece.{piece_from, try_from}
+use Rattle.beldi_plain.specs.declared.draft.Actor.{Actor}
 use Rattle.beldi_plain.specs.declared.kind.Kind.{Kind}
 use Rattle.beldi_plain.specs.declared.kind.Kind.TheVariants.{Read, Change, Inside, Unbuilt}
 use Rattle.beldi_plain.specs.declared.plain.Bar.{Bar}
@@ -132,8 +133,8 @@ module _ (d : Deployment) (p : PlainState) (id : IntentId) (m : Machine) (h : Be
   piece_bar : bar_of d p (Tx id) ≡ bar_piece d p id q effect.Begin
   piece_bar = barred d p id m h.free (λ q. bar_piece d p id q (effect_of d q)) ∙ ap (bar_piece d p id q) at_begin
 
-  pub piece_done : (r : PlainState) (k : Machine) → Pieced d p id q r (Ok k) → Did d (Tx id) p r (Ok tt)
-  piece_done r k did = (piece_is ∙ did.1, piece_bar ∙ ap (λ o. bar_no NoEnd o None) did.1)
+  pub piece_done : (r : PlainState) (k : Actor) → Pieced d p id q r (Ok k) → Did d (Tx id) p r (Ok tt)
+  piece_done r k did = (piece_is ∙ did.2, piece_bar ∙ ap (λ o. bar_no NoEnd o None) did.2)
 
   pub piece_not : (r : PlainState) (why : PlainErr) → Pieced d p id q r (Err why) → Did d (Tx id) p r (Err why)
   piece_not r OutOfMemory did = did
@@ -146,8 +147,8 @@ module _ (d : Deployment) (p : PlainState) (id : IntentId) (m : Machine) (h : Be
     try_bar : bar_of d p (Try id at hold) ≡ bar_try d p id at hold q effect.Begin
     try_bar = barred d p id m h.free (λ q. bar_try d p id at hold q (effect_of d q)) ∙ ap (bar_try d p id at hold q) at_begin
 
-    pub try_done : (r : PlainState) (k : Machine) → Tried d p id q at hold r (Ok k) → Did d (Try id at hold) p r (Ok tt)
-    try_done r k did = (try_is ∙ did.1, try_bar ∙ did.2)
+    pub try_done : (r : PlainState) (k : Actor) → Tried d p id q at hold r (Ok k) → Did d (Try id at hold) p r (Ok tt)
+    try_done r k did = (try_is ∙ did.2, try_bar ∙ did.3)
 
     pub try_not : (r : PlainState) (why : PlainErr) → Tried d p id q at hold r (Err why) → Did d (Try id at hold) p r (Err why)
     try_not r OutOfMemory did = did

@@ -26,6 +26,7 @@ use Rattle.beldi_plain.specs.Plain.{PlainState, Instance, answered, ended, give,
 use Rattle.beldi_plain.specs.Executor.{StandsAfter, StandsFor, StandsForOne, AllStand, IsKept, Passes, Follows, Acted, ActedAt, Made, answer_if, answer_on, next_of, next_told, next_by, waiter}
 use Rattle.beldi_plain.specs.declared.next.Next.{Next}
 use Rattle.beldi_plain.specs.Answers.{IsReady, IsFree}
+use Rattle.beldi_plain.specs.Inside.{AreKept}
 use Rattle.beldi_plain.proofs.Finite.{apart, there, gone, same_key, same_set}
 use Rattle.beldi_plain.proofs.Made.{tell, caller_told, none_of}
 
@@ -50,25 +51,31 @@ stands_there d func args inherited m answers h = ((at_effect d func args inherit
 pub none_stand : (d : Deployment) (made : FinMap id_cmp Instance) (machines : FinMap id_cmp Machine) → machines ≡ map.empty → AllStand d made machines
 none_stand d made machines is = λ id m h. let none = sym (ap (λ (ms : FinMap id_cmp Machine). map.get ms id) is ∙ get-empty id_cmp id) ∙ h in cc
 
+is_there : (d : Deployment) (o : Option Instance) (m : Machine) → StandsForOne d o m → is_some o ≡ true
+is_there d None m h = absurd h
+is_there d (Some q) m h = refl
+
 -- without one of them, whatever becomes of its instance
-pub others_stand : (d : Deployment) (made now : FinMap id_cmp Instance) (a b : FinMap id_cmp Machine) (id : IntentId) → AllStand d made a → ((j : IntentId) → is_eq (id_cmp j id) ≡ false → map.get now j ≡ map.get made j) → b ≡ map.remove a id → AllStand d now b
+pub others_stand : (d : Deployment) (made now : FinMap id_cmp Instance) (a b : FinMap id_cmp Machine) (id : IntentId) → AllStand d made a → ((j : IntentId) → is_eq (id_cmp j id) ≡ false → is_some (map.get made j) ≡ true → map.get now j ≡ map.get made j) → b ≡ map.remove a id → AllStand d now b
 others_stand d made now a b id all same is = λ j m h.
     let was = gone id_total a id j m (sym (ap (λ (ms : FinMap id_cmp Machine). map.get ms j) is) ∙ h) in
-    subst (λ o. StandsForOne d o m) (sym (same j was.0)) (all j m was.1)
+    subst (λ o. StandsForOne d o m) (sym (same j was.0 (is_there d (map.get made j) m (all j m was.1)))) (all j m was.1)
 
 -- with one that stands for the instance of its id
-pub one_stands : (d : Deployment) (made now : FinMap id_cmp Instance) (a b : FinMap id_cmp Machine) (id : IntentId) (m : Machine) → AllStand d made a → ((j : IntentId) → is_eq (id_cmp j id) ≡ false → map.get now j ≡ map.get made j) → StandsForOne d (map.get now id) m → b ≡ map.insert a id m → AllStand d now b
+pub one_stands : (d : Deployment) (made now : FinMap id_cmp Instance) (a b : FinMap id_cmp Machine) (id : IntentId) (m : Machine) → AllStand d made a → ((j : IntentId) → is_eq (id_cmp j id) ≡ false → is_some (map.get made j) ≡ true → map.get now j ≡ map.get made j) → StandsForOne d (map.get now id) m → b ≡ map.insert a id m → AllStand d now b
 one_stands d made now a b id m all same here is = λ j n h.
     let has : map.get (map.insert a id m) j ≡ Some n = sym (ap (λ (ms : FinMap id_cmp Machine). map.get ms j) is) ∙ h in
     elim (is_eq (id_cmp j id)) as (λ b. is_eq (id_cmp j id) ≡ b → StandsForOne d (map.get now j) n) [
       | true ↦ λ e.
           let one : m ≡ n = let both = sym (there id_total a id j m e) ∙ has in cc in
           subst (λ (k : IntentId). StandsForOne d (map.get now k) n) (sym (same_key id_exact j id e)) (subst (λ (n : Machine). StandsForOne d (map.get now id) n) one here)
-      | false ↦ λ e. subst (λ o. StandsForOne d o n) (sym (same j e)) (all j n (sym (apart id_total a id j m e) ∙ has))
+      | false ↦ λ e.
+          let stands = all j n (sym (apart id_total a id j m e) ∙ has) in
+          subst (λ o. StandsForOne d o n) (sym (same j e (is_there d (map.get made j) n stands))) stands
     ] refl
 
 -- with one or without it
-pub kept_stand : (d : Deployment) (made now : FinMap id_cmp Instance) (a b : FinMap id_cmp Machine) (id : IntentId) (m : Machine) → AllStand d made a → ((j : IntentId) → is_eq (id_cmp j id) ≡ false → map.get now j ≡ map.get made j) → StandsForOne d (map.get now id) m → IsKept a b id m → AllStand d now b
+pub kept_stand : (d : Deployment) (made now : FinMap id_cmp Instance) (a b : FinMap id_cmp Machine) (id : IntentId) (m : Machine) → AllStand d made a → ((j : IntentId) → is_eq (id_cmp j id) ≡ false → is_some (map.get made j) ≡ true → map.get now j ≡ map.get made j) → StandsForOne d (map.get now id) m → IsKept a b id m → AllStand d now b
 kept_stand d made now a b id m all same here (inl is) = others_stand d made now a b id all same is
 kept_stand d made now a b id m all same here (inr is) = one_stands d made now a b id m all same here is
 
@@ -98,7 +105,7 @@ ready_one d p id m h = subst (λ o. StandsForOne d o m) (sym h.made) (h.yet, h.s
 
 -- with the machine that was put back
 pub back_stand : (d : Deployment) (p : PlainState) (a b : FinMap id_cmp Machine) (id : IntentId) (m : Machine) → AllStand d p.made a → IsReady d p id m → IsKept a b id m → AllStand d p.made b
-back_stand d p a b id m all h kept = kept_stand d p.made p.made a b id m all (λ j off. refl) (ready_one d p id m h) kept
+back_stand d p a b id m all h kept = kept_stand d p.made p.made a b id m all (λ j off has. refl) (ready_one d p id m h) kept
 
 -- ---- a step
 
@@ -119,7 +126,7 @@ answered_so d q m a h w = stands_there d q.func q.args (is_some q.within) (resum
 -- an instance is answered, and its machine goes on
 goes_so : (d : Deployment) (made : FinMap id_cmp Instance) (a b : FinMap id_cmp Machine) (id : IntentId) (q : Instance) (m : Machine) (x : Answer) → AllStand d made a → q.outcome ≡ None → StandsFor d q m → wants_answer m.effect ≡ true → IsKept a b id (resumed d m x) → AllStand d (map.insert made id (answered q x)) b
 goes_so d made a b id q m x all yet h w kept =
-    kept_stand d made (map.insert made id (answered q x)) a b id (resumed d m x) all (λ j off. apart id_total made id j (answered q x) off)
+    kept_stand d made (map.insert made id (answered q x)) a b id (resumed d m x) all (λ j off has. apart id_total made id j (answered q x) off)
     (subst (λ o. StandsForOne d o (resumed d m x)) (sym (there id_total made id id (answered q x) ((eq_by_cmp_equiv id_total).refl id))) (yet, answered_so d q m x h w)) kept
 
 -- an operation on an item, or a read
@@ -129,12 +136,12 @@ acts_so d p a b id m (Some o) all h w kept = goes_so d p.made a b id h.instance 
 
 -- who waits is answered, where the machine that is kept for it goes on
 gives_so : (d : Deployment) (p : PlainState) (a b : FinMap id_cmp Machine) (c : IntentId) (x : Answer) (o : Option Instance) → AllStand d p.made a → map.get p.made c ≡ o → Passes d a b c x → AllStand d (give p c x o).made b
-gives_so d p a b c x None all is (inl left) = others_stand d p.made p.made a b c all (λ j off. refl) left
-gives_so d p a b c x (Some q) all is (inl left) = others_stand d p.made (map.insert p.made c (answered q x)) a b c all (λ j off. apart id_total p.made c j (answered q x) off) left
+gives_so d p a b c x None all is (inl left) = others_stand d p.made p.made a b c all (λ j off has. refl) left
+gives_so d p a b c x (Some q) all is (inl left) = others_stand d p.made (map.insert p.made c (answered q x)) a b c all (λ j off has. apart id_total p.made c j (answered q x) off) left
 gives_so d p a b c x None all is (inr (m, at, w, kept)) = absurd (subst (λ o. StandsForOne d o m) is (all c m at))
 gives_so d p a b c x (Some q) all is (inr (m, at, w, kept)) =
     let stands : StandsForOne d (Some q) m = subst (λ o. StandsForOne d o m) is (all c m at) in
-    let rest = others_stand d p.made p.made a (map.remove a c) c all (λ j off. refl) refl in
+    let rest = others_stand d p.made p.made a (map.remove a c) c all (λ j off has. refl) refl in
     goes_so d p.made (map.remove a c) b c q m x rest stands.0 stands.1 w kept
 
 ends_so : (d : Deployment) (p : PlainState) (a b : FinMap id_cmp Machine) (id : IntentId) (m : Machine) (c : Option IntentId) (o : Outcome) → AllStand d p.made (map.remove a id) → Follows d a b id m (next_told c o) → AllStand d (tell p c o).made b
@@ -158,7 +165,7 @@ step_of d p a b id m (effect.Return o) all h is free goes =
     let q = h.instance in
     let one = with_instance p id (ended q o) in
     subst (λ (r : PlainState). AllStand d r.made b) (sym (caller_told one q.from o))
-    (ends_so d one a b id m (waiter q.from) o (others_stand d p.made one.made a (map.remove a id) id all (λ j off. apart id_total p.made id j (ended q o) off) refl) goes)
+    (ends_so d one a b id m (waiter q.from) o (others_stand d p.made one.made a (map.remove a id) id all (λ j off has. apart id_total p.made id j (ended q o) off) refl) goes)
 step_of d p a b id m e all h is free goes = acts_so d p a b id m (op_of e) all h (ap wants_answer is) goes
 
 pub step_stands : (d : Deployment) (p r : PlainState) (a b : FinMap id_cmp Machine) (id : IntentId) (m : Machine) (n : Next) → AllStand d p.made a → (h : IsFree d p id m) → Made p r id h.ready.instance m.effect (Ok n) → Follows d a b id m n → AllStand d r.made b
@@ -170,11 +177,8 @@ step_stands d p r a b id m n all h made goes =
 
 -- without the machine that was taken
 pub rest_stand : (d : Deployment) (made : FinMap id_cmp Instance) (a b : FinMap id_cmp Machine) (id : IntentId) → AllStand d made a → b ≡ map.remove a id → AllStand d made b
-rest_stand d made a b id all is = others_stand d made made a b id all (λ j off. refl) is
+rest_stand d made a b id all is = others_stand d made made a b id all (λ j off has. refl) is
 
--- a transaction of an instance, which was so before
-pub alone : (made now : FinMap id_cmp Instance) (id j : IntentId) (q : Instance) → map.insert now id q ≡ made → is_eq (id_cmp j id) ≡ false → map.get now j ≡ map.get made j
-alone made now id j q h off = sym (apart id_total now id j q off) ∙ ap (λ (m : FinMap id_cmp Instance). map.get m j) h
-
-pub transacted : (d : Deployment) (p r : PlainState) (a b : FinMap id_cmp Machine) (id : IntentId) (q : Instance) (m : Machine) → AllStand d p.made a → map.insert r.made id q ≡ p.made → IsReady d r id m → IsKept a b id m → AllStand d r.made b
-transacted d p r a b id q m all alone_so ready kept = kept_stand d p.made r.made a b id m all (λ j off. alone p.made r.made id j q alone_so off) (ready_one d r id m ready) kept
+-- a transaction of an instance
+pub transacted : (d : Deployment) (p r : PlainState) (a b : FinMap id_cmp Machine) (id : IntentId) (m : Machine) → AllStand d p.made a → AreKept p r id → IsReady d r id m → IsKept a b id m → AllStand d r.made b
+transacted d p r a b id m all others ready kept = kept_stand d p.made r.made a b id m all others (ready_one d r id m ready) kept

@@ -1,8 +1,15 @@
 mod Bars
 mod ByTable
+mod Drafts
+mod Entered
+mod Falls
 mod Finite
 mod InPlace
-mod Inside
 mod Kept
+mod Leads
+mod Lines
 mod Made
+mod Returned
 mod Runs
+mod Touched
+mod Whole

@@ -6,7 +6,6 @@ use Rattle.beldi_value.specs.declared.id.IntentId.{IntentId}
 use Rattle.beldi_value.specs.declared.outcome.Outcome.{Outcome}
 use Rattle.beldi_tree.specs.declared.deployment.Deployment.{Deployment}
 use Rattle.beldi_value.specs.declared.place.Place.{Place}
-use Rattle.beldi_lang.specs.declared.effect.Answer.TheVariants as answer
 use Rattle.beldi_lang.specs.declared.effect.Effect.{Effect}
 use Rattle.beldi_lang.specs.declared.effect.Effect.TheVariants as effect
 use Rattle.beldi_lang.specs.declared.machine.Machine.{Machine}
@@ -16,7 +15,7 @@ use Rattle.beldi_plain.specs.Plain.{PlainState, Instance, effect_of, kind_of, is
 use Rattle.beldi_plain.specs.Entries.{after}
 use Rattle.beldi_plain.specs.Executor.{StandsFor}
 use Rattle.beldi_plain.specs.Legal.{run_from}
-use Rattle.beldi_plain.specs.Piece.{enough, gives, piece_on, try_on, is_holder}
+use Rattle.beldi_plain.specs.Piece.{enough, opened, tx_begun, ends_on, try_on, is_holder}
 use Rattle.beldi_plain.specs.declared.kind.Kind.{Kind}
 use Rattle.beldi_plain.specs.declared.kind.Kind.TheVariants as kinds
 use Rattle.beldi_plain.specs.declared.plain.Bar.{Bar}
@@ -66,7 +65,7 @@ bar_no b None c = Some b
 bar_no b (Some x) c = c
 
 abbrev pub bar_piece : Deployment → PlainState → IntentId → Instance → Effect → Option Bar
-bar_piece d p id q effect.Begin = bar_no NoEnd (piece_on d enough id (gives p id q answer.Done)) None
+bar_piece d p id q effect.Begin = bar_no NoEnd (ends_on d enough (tx_begun id q) true (opened p id q)) None
 bar_piece d p id q e = Some OtherEffect
 
 -- .. and one that aborts: that it does not reach the place, or that its holder is none
@@ -75,7 +74,7 @@ bar_holder true = None
 bar_holder false = Some NotOlder
 
 abbrev pub bar_try : Deployment → PlainState → IntentId → Place → Option IntentId → Instance → Effect → Option Bar
-bar_try d p id a h q effect.Begin = bar_no NoPlace (try_on d enough id a h (gives p id q answer.Done)) (bar_holder (is_holder p id h))
+bar_try d p id a h q effect.Begin = bar_no NoPlace (try_on d enough (tx_begun id q) a h (opened p id q)) (bar_holder (is_holder p id h))
 bar_try d p id a h q e = Some OtherEffect
 
 abbrev pub bar_of : Deployment → PlainState → Entry → Option Bar

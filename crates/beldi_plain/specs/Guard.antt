@@ -1,21 +1,22 @@
 -- That entries are guarded by locks: nobody else holds the lock of an item that an entry touches. Who holds a lock is read off
 -- the answers of the instances, so the run of a book is as it is.
-use Rattle.std.specs.Prelude.{◌≡◌, ◌≤◌, ℕ, true, false, List, [], ◌∷◌, length, slice_get, Option, Some, None}
+use Rattle.std.specs.Prelude.{◌≡◌, true, List, [], ◌∷◌, Option, Some, None}
 use Rattle.std.specs.FinMap as map
 use Rattle.std.specs.Option.{option_map}
 use Rattle.beldi_value.specs.Id.{root_of}
 use Rattle.beldi_value.specs.declared.id.IntentId.{IntentId}
+use Rattle.beldi_value.specs.declared.place.Place.{Place}
 use Rattle.beldi_tree.specs.declared.deployment.Deployment.{Deployment}
-use Rattle.beldi_lang.specs.declared.effect.Answer.{Answer}
 use Rattle.beldi_lang.specs.declared.effect.Effect.{Effect}
 use Rattle.beldi_lang.specs.declared.effect.Effect.TheVariants as effect
 use Rattle.beldi_book.specs.declared.entry.Entry.{Entry}
 use Rattle.beldi_book.specs.declared.entry.Entry.TheVariants.{Start, Read, Step, Tx, Try}
 use Rattle.beldi_plain.specs.Item.{Item}
-use Rattle.beldi_plain.specs.Operation.{op_of, item_in, touched}
+use Rattle.beldi_plain.specs.Operation.{op_of, item_in}
 use Rattle.beldi_plain.specs.Holds.{holds}
-use Rattle.beldi_plain.specs.Piece.{is_aborted}
-use Rattle.beldi_plain.specs.Plain.{Instance, PlainState, effect_of, effect_before, item_of}
+use Rattle.beldi_plain.specs.Moves.{Commits, Aborts, TouchedIn}
+use Rattle.beldi_plain.specs.Piece.{opened, tx_begun}
+use Rattle.beldi_plain.specs.Plain.{Instance, PlainState, effect_of, item_of}
 use Rattle.beldi_plain.specs.Entries.{after}
 
 -- the item that an instance's next effect touches, if any
@@ -35,32 +36,25 @@ actor (Step id) = id
 actor (Tx id) = id
 actor (Try id place holder) = id
 
--- an instance made a read or an operation on an item, at this step or later, which was not aborted
-pub record TouchedSince (d : Deployment) (q : Instance) (from : ℕ) (x : Item) : Type 0 where
-  pub step : ℕ
-  pub later : from ≤ step
-  pub answer : Answer
-  pub answered : slice_get q.answers step ≡ Some answer
-  pub made_it : is_aborted answer ≡ false
-  pub on : option_map (λ o. item_of q o.0 o.1) (touched (effect_before d q step)) ≡ Some x
-
--- .. in its transaction, which is this entry
-pub record TouchedInside (d : Deployment) (p : PlainState) (e : Entry) (x : Item) : Type 0 where
-  pub before : Instance
-  pub was : map.get p.made (actor e) ≡ Some before
+-- a transaction that commits made a read or an operation on an item ..
+pub record TouchedInPiece (d : Deployment) (p : PlainState) (id : IntentId) (x : Item) : Type 0 where
   pub state : PlainState
-  pub enabled : after d p e ≡ Some state
-  pub instance : Instance
-  pub now : map.get state.made (actor e) ≡ Some instance
-  pub touched_it : TouchedSince d instance (length before.answers) x
+  pub piece : Commits d p id state
+  pub touched_it : TouchedIn d (tx_begun id piece.instance) (opened p id piece.instance) piece.moves x
+
+-- .. and one that aborts did so before its place
+pub record TouchedInTry (d : Deployment) (p : PlainState) (id : IntentId) (place : Place) (holder : Option IntentId) (x : Item) : Type 0 where
+  pub state : PlainState
+  pub try : Aborts d p id place holder state
+  pub touched_it : TouchedIn d (tx_begun id try.instance) (opened p id try.instance) try.before x
 
 -- an entry touches an item: that of its instance's next effect, or those of its transaction
 abbrev pub Touches : Deployment → PlainState → Entry → Item → Type 0
 Touches d p (Start t f a) x = touched_by d (map.get p.made (root_of t)) ≡ Some x
 Touches d p (Read id seen) x = touched_by d (map.get p.made id) ≡ Some x
 Touches d p (Step id) x = touched_by d (map.get p.made id) ≡ Some x
-Touches d p (Tx id) x = TouchedInside d p (Tx id) x
-Touches d p (Try id place holder) x = TouchedInside d p (Try id place holder) x
+Touches d p (Tx id) x = TouchedInPiece d p id x
+Touches d p (Try id place holder) x = TouchedInTry d p id place holder x
 
 -- nobody else holds the lock of an item that an entry touches ..
 abbrev pub IsFree : Deployment → PlainState → Entry → Type 0

@@ -9,6 +9,7 @@ pub mod Inside
 pub mod Item
 pub mod Legal
 pub mod Listing
+pub mod Moves
 pub mod Operation
 pub mod Piece
 pub mod Plain

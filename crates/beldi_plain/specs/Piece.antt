@@ -1,22 +1,26 @@
--- A transaction of an instance as one step. It is made on a copy of the state, effect after effect, up to its end; one that aborts
--- leaves nothing but the answers of its instance. No function is called inside one yet.
-use Rattle.std.specs.Prelude.{ℕ, zero, suc, ◌^◌, ◌==◌, ◌&&◌, Bool, true, false, length, Option, Some, None, is_some, option_and_then, if◌then◌else◌}
+-- A transaction of an instance as one step, with all that it calls. It is made on a copy of the state, move after move, up to its
+-- end; one that aborts leaves nothing but the answers of its instance. Calls inside wait, so there is always one that can step.
+use Rattle.std.specs.Prelude.{ℕ, zero, suc, ◌^◌, ◌==◌, ◌&&◌, not, Bool, true, false, length, Option, Some, None, is_some, option_and_then, if◌then◌else◌}
 use Rattle.std.specs.FinMap as map
 use Rattle.std.specs.Ordering.{is_eq}
-use Rattle.beldi_value.specs.Id.{id_cmp, is_older}
+use Rattle.beldi_value.specs.Id.{id_cmp, is_older, has_callees}
 use Rattle.beldi_value.specs.declared.id.IntentId.{IntentId}
+use Rattle.beldi_value.specs.declared.outcome.Outcome.{Outcome}
+use Rattle.beldi_value.specs.declared.place.Caller.{Caller}
 use Rattle.beldi_value.specs.declared.place.Place.{Place}
+use Rattle.beldi_value.specs.declared.place.TxId.{TxId}
+use Rattle.beldi_value.specs.declared.value.Value.{Value}
 use Rattle.beldi_tree.specs.declared.deployment.Deployment.{Deployment}
 use Rattle.beldi_lang.specs.declared.effect.Answer.{Answer}
 use Rattle.beldi_lang.specs.declared.effect.Answer.TheVariants as answer
 use Rattle.beldi_lang.specs.declared.effect.Effect.{Effect}
 use Rattle.beldi_lang.specs.declared.effect.Effect.TheVariants as effect
 use Rattle.beldi_plain.specs.Operation.{touched}
-use Rattle.beldi_plain.specs.Plain.{Instance, PlainState, with_instance, answered, effect_of, step_by}
+use Rattle.beldi_plain.specs.Plain.{Instance, PlainState, new_instance, with_instance, answered, ended, answer_to, callee_of, calls_at, effect_of, step_by, unless}
 
--- no transaction takes so many steps. No proof opens the number but that of the program that counts them.
+-- no transaction takes so many moves: an instance is answered less than 30000 times, and an id has at most 63 hops
 unfoldable pub enough : ℕ
-enough = 10002 ^ 64
+enough = 30002 ^ 64
 
 -- the instance is answered
 abbrev pub gives : PlainState → IntentId → Instance → Answer → PlainState
@@ -30,33 +34,82 @@ abbrev pub is_aborted : Answer → Bool
 is_aborted (answer.Aborted c) = true
 is_aborted a = false
 
--- ---- the piece of a transaction that commits
--- inside, a read and an operation on an item are made as outside; there is no other effect that it goes on from
-abbrev pub inside_by : PlainState → IntentId → Instance → Effect → Option PlainState
-inside_by p id q (effect.Read t k) = Some (step_by p id q (effect.Read t k))
-inside_by p id q (effect.Write t k v) = Some (step_by p id q (effect.Write t k v))
-inside_by p id q (effect.CondWrite t k r o v) = Some (step_by p id q (effect.CondWrite t k r o v))
-inside_by p id q e = None
+-- ---- a transaction under way
+-- the transaction that an instance begins at its next step
+abbrev pub tx_begun : IntentId → Instance → TxId
+tx_begun id q = record { intent = id; begin = length q.answers; func = q.func }
 
--- by the next effect: at its end with commit it is over
-abbrev pub piece_by : (PlainState → Option PlainState) → PlainState → IntentId → Instance → Effect → Option PlainState
-piece_by go p id q (effect.End true) = Some (gives p id q answer.Done)
-piece_by go p id q (effect.End false) = None
-piece_by go p id q e = option_and_then go (inside_by p id q e)
+-- the copy, and who can step in it: of the instance and all that were called since, the one that was called innermost
+pub record Going : Type 0 where
+  pub state : PlainState
+  pub front : IntentId
 
-abbrev pub at_instance : Option Instance → (Instance → Option PlainState) → Option PlainState
+-- from its Begin on
+abbrev pub opened : PlainState → IntentId → Instance → Going
+opened p id q = record { state = gives p id q answer.Done; front = id }
+
+abbrev pub is_owner : TxId → IntentId → Bool
+is_owner t id = is_eq (id_cmp t.intent id)
+
+abbrev pub at_instance : {X : Type 0} → Option Instance → (Instance → Option X) → Option X
 at_instance None f = None
 at_instance (Some q) f = f q
 
+abbrev pub at_front : {X : Type 0} → Going → (Instance → Option X) → Option X
+at_front s f = at_instance (map.get s.state.made s.front) f
+
+-- ---- its moves
+-- the one at the front goes on
+abbrev pub stays : IntentId → PlainState → Option Going
+stays id p = Some (record { state = p; front = id })
+
+-- a callee is made, within the transaction, and goes on
+abbrev pub new_member : TxId → ℕ → Value → Caller → Instance
+new_member t f v c = record (new_instance f v (Some c)) { within = Some t }
+
+abbrev pub with_member : TxId → PlainState → IntentId → Instance → ℕ → Value → Going
+with_member t p id q f v = record { state = with_instance p (callee_of id q) (new_member t f v (calls_at id q true)); front = callee_of id q }
+
+abbrev pub calls_by : TxId → PlainState → IntentId → Instance → ℕ → Value → Option Going
+calls_by t p id q f v = if has_callees id then unless (is_some (map.get p.made (callee_of id q))) (Some (with_member t p id q f v)) else None
+
+-- a callee ends, and its caller is answered and goes on
+abbrev pub returns_to : PlainState → IntentId → Instance → Outcome → Option Caller → Option Going
+returns_to p id q o None = None
+returns_to p id q o (Some c) = Some (record { state = answer_to (with_instance p id (ended q o)) c o; front = c.place.intent })
+
+-- reads and operations on items are made as outside. Begin and End are no effects of a callee inside, and nothing else is wanted there
+abbrev pub moves_by : TxId → PlainState → IntentId → Instance → Effect → Option Going
+moves_by t p id q (effect.Read b k) = stays id (step_by p id q (effect.Read b k))
+moves_by t p id q (effect.Write b k v) = stays id (step_by p id q (effect.Write b k v))
+moves_by t p id q (effect.CondWrite b k r o v) = stays id (step_by p id q (effect.CondWrite b k r o v))
+moves_by t p id q (effect.Call f v) = calls_by t p id q f v
+moves_by t p id q (effect.Return o) = if is_owner t id then None else returns_to p id q o q.from
+moves_by t p id q e = None
+
+-- ---- up to its end
+-- with commit or without
+abbrev pub is_same : Bool → Bool → Bool
+is_same true b = b
+is_same false b = not b
+
+-- at the owner's end it is over
+abbrev pub over_by : TxId → Bool → Bool → PlainState → IntentId → Instance → Option PlainState
+over_by t commit b p id q = if is_owner t id && is_same commit b then Some (gives p id q answer.Done) else None
+
+abbrev pub ends_by : (Going → Option PlainState) → TxId → Bool → PlainState → IntentId → Instance → Effect → Option PlainState
+ends_by go t commit p id q (effect.End b) = over_by t commit b p id q
+ends_by go t commit p id q e = option_and_then go (moves_by t p id q e)
+
 -- .. in at most so many steps
-abbrev pub piece_on : Deployment → ℕ → IntentId → PlainState → Option PlainState
-piece_on d zero id p = None
-piece_on d (suc n) id p = at_instance (map.get p.made id) (λ q. piece_by (piece_on d n id) p id q (effect_of d q))
+abbrev pub ends_on : Deployment → ℕ → TxId → Bool → Going → Option PlainState
+ends_on d zero t commit s = None
+ends_on d (suc n) t commit s = at_front s (λ q. ends_by (ends_on d n t commit) t commit s.state s.front q (effect_of d q))
 
 -- the state after a transaction that commits, by the effect that its instance stands at: none where it is no begin, or no such end is
 -- reached
 abbrev pub piece_from : Deployment → PlainState → IntentId → Instance → Effect → Option PlainState
-piece_from d p id q effect.Begin = piece_on d enough id (gives p id q answer.Done)
+piece_from d p id q effect.Begin = ends_on d enough (tx_begun id q) true (opened p id q)
 piece_from d p id q e = None
 
 -- ---- the try of one that aborts
@@ -64,26 +117,29 @@ piece_from d p id q e = None
 abbrev pub stands_at : Place → IntentId → Instance → Bool
 stands_at a id q = is_eq (id_cmp a.intent id) && (a.step == length q.answers)
 
--- what is aborted is followed by the end without commit
-abbrev pub closes_by : PlainState → IntentId → Instance → Effect → Option PlainState
-closes_by p id q (effect.End false) = Some (gives p id q answer.Done)
-closes_by p id q e = None
+-- an effect that may be aborted: with a holder a read or an operation on an item dies, without one there is an abort
+abbrev pub dies_at : Option IntentId → Effect → Bool
+dies_at None effect.Abort = true
+dies_at None e = false
+dies_at (Some h) e = is_some (touched e)
 
-abbrev pub closes : Deployment → IntentId → PlainState → Option PlainState
-closes d id p = at_instance (map.get p.made id) (λ q. closes_by p id q (effect_of d q))
+-- it is answered so
+abbrev pub fallen : PlainState → IntentId → Instance → Option IntentId → Going
+fallen p id q h = record { state = gives p id q (aborted id q h); front = id }
 
--- at its place: with a holder, a read or an operation on an item dies; without one, there is an abort, or the end without commit that
--- a fault led to
-abbrev pub falls_by : Deployment → PlainState → IntentId → Instance → Option IntentId → Effect → Option PlainState
-falls_by d p id q None effect.Abort = closes d id (gives p id q (aborted id q None))
-falls_by d p id q None (effect.End false) = Some (gives p id q answer.Done)
-falls_by d p id q None e = None
-falls_by d p id q (Some h) e = if is_some (touched e) then closes d id (gives p id q (aborted id q (Some h))) else None
+-- .. or there is the end without commit of the owner, which a fault led to
+abbrev pub fault_by : TxId → PlainState → IntentId → Instance → Option IntentId → Effect → Option PlainState
+fault_by t p id q None (effect.End b) = over_by t false b p id q
+fault_by t p id q h e = None
 
--- in at most so many steps
-abbrev pub try_on : Deployment → ℕ → IntentId → Place → Option IntentId → PlainState → Option PlainState
-try_on d zero id a h p = None
-try_on d (suc n) id a h p = at_instance (map.get p.made id) (λ q. if stands_at a id q then falls_by d p id q h (effect_of d q) else option_and_then (try_on d n id a h) (inside_by p id q (effect_of d q)))
+-- at its place
+abbrev pub falls_by : (Going → Option PlainState) → TxId → PlainState → IntentId → Instance → Option IntentId → Effect → Option PlainState
+falls_by go t p id q h e = if dies_at h e then go (fallen p id q h) else fault_by t p id q h e
+
+-- up to its place, and from there to the end without commit, in at most so many steps
+abbrev pub try_on : Deployment → ℕ → TxId → Place → Option IntentId → Going → Option PlainState
+try_on d zero t a h s = None
+try_on d (suc n) t a h s = at_front s (λ q. if stands_at a s.front q then falls_by (ends_on d n t false) t s.state s.front q h (effect_of d q) else option_and_then (try_on d n t a h) (moves_by t s.state s.front q (effect_of d q)))
 
 -- the state with the answers of the copy, and nothing else of it
 abbrev pub with_answers : PlainState → IntentId → PlainState → Option PlainState
@@ -97,5 +153,5 @@ is_holder p id (Some h) = is_some (map.get p.made h) && is_older h id
 -- the state after a transaction that aborts at a place, by the effect that its instance stands at: none where it is no begin, the place
 -- is not reached, or the holder is none
 abbrev pub try_from : Deployment → PlainState → IntentId → Place → Option IntentId → Instance → Effect → Option PlainState
-try_from d p id a h q effect.Begin = if is_holder p id h then option_and_then (with_answers p id) (try_on d enough id a h (gives p id q answer.Done)) else None
+try_from d p id a h q effect.Begin = if is_holder p id h then option_and_then (with_answers p id) (try_on d enough (tx_begun id q) a h (opened p id q)) else None
 try_from d p id a h q e = None

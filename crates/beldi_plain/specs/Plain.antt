@@ -22,7 +22,7 @@ use Rattle.beldi_plain.specs.declared.kind.Kind.{Kind}
 use Rattle.beldi_plain.specs.declared.kind.Kind.TheVariants as kinds
 
 -- an instance of a function: what it was called with, who called it, the transaction that it was called in, what its effects were
--- answered, and how it ended. A root has no caller, and no instance is called in a transaction yet.
+-- answered, and how it ended. A root has no caller, and was called in none.
 pub record Instance : Type 0 where
   pub func : ℕ
   pub args : Value

@@ -8,6 +8,7 @@ ghost use Rattle.beldi_value.specs.declared.value.Value.TheVariants as value;
 ghost use Rattle.beldi_plain.specs.Executor.{StandsFor, StandsAfter, Acted, waiter, cut_to};
 ghost use Rattle.beldi_plain.specs.Operation.{set_item};
 ghost use Rattle.beldi_plain.specs.Plain.{answered, ended, new_instance};
+ghost use Rattle.beldi_plain.specs.Piece.{new_member};
 
 use crate::items::Items;
 use beldi_lang::{Answer, Deployment, Effect, Machine};
@@ -47,6 +48,20 @@ impl Instance {
             args,
             from,
             within: None,
+            answers: Vec::new(alloc),
+            outcome: None,
+        }
+    }
+
+    /// One that is called within a transaction.
+    pub fn member(alloc: Global, func: u16, args: Value, from: Caller, within: TxId) -> Instance
+        ensures { result ≡ new_member within func args from }
+    {
+        Instance {
+            func,
+            args,
+            from: Some(from),
+            within: Some(within),
             answers: Vec::new(alloc),
             outcome: None,
         }

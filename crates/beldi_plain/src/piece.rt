@@ -1,45 +1,36 @@
-// A transaction of an instance as one step. What it sets is set in place, and put back where it is not to stay.
-ghost use Rattle.std.specs.Prelude.{◌≡◌, [], ℕ, List, length, None, Some, true, is_none, IfOk, option_copied};
+// A transaction of an instance as one step, with all that it calls. What it sets is set in place, and whom it calls is made there; both are
+// taken back where they are not to stay.
+ghost use Rattle.std.specs.Prelude.{◌≡◌, ◌≤◌, ◌<◌, ◌&&◌, ◌+◌, ℕ, length, None, Some, true, not, is_some, IfOk, OnErr, option_copied, ◌++◌, ◌∷◌, [], false};
 ghost use Rattle.std.specs.FinMap as map;
+ghost use Rattle.beldi_value.specs.Id.{child_of, has_callees};
+ghost use Rattle.beldi_value.specs.declared.place.TxId.{TxId};
 ghost use Rattle.beldi_lang.specs.Wants.{wants_answer};
+ghost use Rattle.beldi_lang.specs.Machine.{begun};
+ghost use Rattle.beldi_lang.specs.Callee.{answer_of};
+ghost use Rattle.beldi_plain.specs.declared.draft.Draft.{Draft};
 ghost use Rattle.beldi_lang.specs.declared.effect.Effect.TheVariants as effect;
 ghost use Rattle.beldi_lang.specs.declared.effect.Answer.TheVariants as answer;
 ghost use Rattle.beldi_plain.specs.Answers.{IsReady};
-ghost use Rattle.beldi_plain.specs.declared.plain.Bar as bar;
-ghost use Rattle.beldi_plain.specs.declared.plain.Bar.TheVariants.{NoEnd, NoPlace};
-ghost use Rattle.beldi_plain.specs.declared.undo.Was.{Was};
-ghost use Rattle.beldi_plain.specs.Plain.{Instance, PlainState};
-ghost use Rattle.beldi_plain.specs.Piece.{enough, gives, aborted, piece_on, try_on, falls_by, closes, is_holder as is_holder_of};
-ghost use Rattle.beldi_plain.specs.Undo.{AllHaveRoom};
-ghost use Rattle.beldi_plain.specs.Inside.{IsDraft, GoesOn, Gave, WentOn, Comes, Pieced, Tried, seen, stop_at as stop_at_place, is_stop as is_stop_at, is_closed, is_fault as is_fault_by, commits as commits_by, fails as fails_by};
+ghost use Rattle.beldi_plain.specs.Plain.{Instance, PlainState, with_instance};
+ghost use Rattle.beldi_plain.specs.Piece.{enough, aborted, new_member, is_owner as is_owner_of, dies_at, fault_by, falls_by, ends_on, try_on, is_holder as is_holder_of};
+ghost use Rattle.beldi_plain.specs.Undo.{AllHaveRoom, all_back};
+ghost use Rattle.beldi_plain.specs.Inside.{IsDraft, GoesOn, Gave, Moved, WentOn, IsCallee, Left, Comes, Pieced, Tried, most, seen, going, after, all_gone, can_move as can_move_by, is_stop as is_stop_at, ends as ends_by, over_at, no_end as no_end_of};
 
-use crate::instance::copy_answer;
+use crate::draft::{Actor, Draft, Members};
+use crate::instance::{Instance, copy_answer};
 use crate::plain::{Bar, PlainErr};
 use crate::state::State;
 use crate::undo::Undo;
 use beldi_lang::{Answer, Deployment, Effect, Machine};
-use beldi_value::{Cause, IntentId, Place, older};
+use beldi_value::{Caller, Cause, IntentId, Outcome, Place, TxId, Value, older};
 use std::alloc::{AllocError, Global};
 
-// No body wants an answer after so many.
-const MOST_ANSWERS: u32 = 30000;
-
-// Where a try stops: at the step of its place, if that is one of its instance.
-fn stop_at(id: &IntentId, place: &Place) -> Option<u32>
-    ensures { result ≡ stop_at_place id.now place.now }
-{
-    if place.intent.cmp(id).is_eq() {
-        Some(place.step)
-    } else {
-        None
-    }
-}
-
-fn is_stop(stop: Option<u32>, step: u32) -> bool
-    ensures { result ≡ is_stop_at stop step }
+// Whether the one at the front stands where a try stops.
+fn is_stop(stop: Option<&Place>, front: &Actor) -> bool
+    ensures { result ≡ is_stop_at (option_copied stop.entry) front.now }
 {
     match stop {
-        Some(at) => at == step,
+        Some(place) => place.intent.cmp(&front.id).is_eq() && place.step == front.machine.steps(),
         None => false,
     }
 }
@@ -50,23 +41,29 @@ impl State {
         &mut self,
         alloc: Global,
         code: &Deployment,
-        id: &IntentId,
+        id: IntentId,
         machine: Machine,
-    ) -> Result<Machine, PlainErr>
-        requires { IsReady code.now self.old id.now machine × (machine.effect ≡ effect.Begin) }
-        ensures { (q : Instance) → map.get self.old.made id.now ≡ Some q → Pieced code.now self.old id.now q self.new result }
+    ) -> Result<Actor, PlainErr>
+        requires { IsReady code.now self.old id machine × (machine.effect ≡ effect.Begin) }
+        ensures { (q : Instance) → map.get self.old.made id ≡ Some q → Pieced code.now self.old id q self.new result }
     {
-        let answers = machine.steps();
-        let mut undo = Undo::new(alloc);
-        let machine = match self.commit(alloc, code, id, machine, &mut undo) {
-            Ok(machine) => machine,
+        let front = self.actor(id, machine);
+        let mut draft = match Draft::new(alloc, &front) {
+            Ok(draft) => draft,
+            Err(_) => {
+                drop(front);
+                return Err(PlainErr::OutOfMemory);
+            }
+        };
+        let front = match self.commit(alloc, code, front, &mut draft) {
+            Ok(front) => front,
             Err(why) => {
-                self.reset(id, answers, undo);
+                self.reset(draft);
                 return Err(why);
             }
         };
-        undo.keep(&mut self.items);
-        Ok(machine)
+        self.keep(draft);
+        Ok(front)
     }
 
     /// The transaction of an instance that stands at its begin, up to the place where it aborts.
@@ -74,31 +71,38 @@ impl State {
         &mut self,
         alloc: Global,
         code: &Deployment,
-        id: &IntentId,
+        id: IntentId,
         machine: Machine,
         place: &Place,
         holder: Option<&IntentId>,
-    ) -> Result<Machine, PlainErr>
-        requires { IsReady code.now self.old id.now machine × (machine.effect ≡ effect.Begin) }
-        ensures { (q : Instance) → map.get self.old.made id.now ≡ Some q → Tried code.now self.old id.now q place.now (option_copied holder.entry) self.new result }
+    ) -> Result<Actor, PlainErr>
+        requires { IsReady code.now self.old id machine × (machine.effect ≡ effect.Begin) }
+        ensures { (q : Instance) → map.get self.old.made id ≡ Some q → Tried code.now self.old id q place.now (option_copied holder.entry) self.new result }
     {
-        let answers = machine.steps();
-        let older = self.is_holder(id, holder);
-        let mut undo = Undo::new(alloc);
-        let machine = match self.abort(alloc, code, id, machine, place, holder, &mut undo) {
-            Ok(machine) => machine,
+        let older = self.is_holder(&id, holder);
+        let front = self.actor(id, machine);
+        let mut draft = match Draft::new(alloc, &front) {
+            Ok(draft) => draft,
+            Err(_) => {
+                drop(front);
+                return Err(PlainErr::OutOfMemory);
+            }
+        };
+        let front = match self.abort(alloc, code, front, place, holder, &mut draft) {
+            Ok(front) => front,
             Err(why) => {
-                self.reset(id, answers, undo);
+                self.reset(draft);
                 return Err(why);
             }
         };
         if !older {
-            drop(machine);
-            self.reset(id, answers, undo);
+            drop(front);
+            self.reset(draft);
             return Err(PlainErr::NotEnabled(Bar::NotOlder));
         }
-        undo.restore(&mut self.items);
-        Ok(machine)
+        let Draft { undo, members, .. } = draft;
+        self.undo(undo, members);
+        Ok(front)
     }
 
     // Whether the holder, if any, was made and is older.
@@ -111,173 +115,12 @@ impl State {
         }
     }
 
-    // Everything is as it was before the transaction.
-    fn reset(&mut self, id: &IntentId, answers: u32, undo: Undo)
-        requires { AllHaveRoom self.old.items undo }
-        ensures { (p : PlainState) (q : Instance) → IsDraft p id.now q self.old undo → answers ≡ length q.answers → self.new ≡ p }
+    // Who goes on with this machine.
+    fn actor(&self, id: IntentId, machine: Machine) -> Actor
+        ensures { (q : Instance) → map.get self.now.made id ≡ Some q → result ≡ record { id = id; func = q.func; machine = machine } }
     {
-        undo.restore(&mut self.items);
-        self.made.cut(id, answers);
-    }
-
-    // From the begin to the end with commit.
-    fn commit(
-        &mut self,
-        alloc: Global,
-        code: &Deployment,
-        id: &IntentId,
-        machine: Machine,
-        undo: &mut Undo,
-    ) -> Result<Machine, PlainErr>
-        requires { IsReady code.now self.old id.now machine × (machine.effect ≡ effect.Begin) × (undo.old ≡ []) }
-        ensures { (q : Instance) → map.get self.old.made id.now ≡ Some q → Comes code.now self.old id.now q undo.new (piece_on code.now enough id.now (gives self.old id.now q answer.Done)) NoEnd self.new result }
-    {
-        let machine = match self.give(alloc, code, id, machine, Answer::Done) {
-            Ok(machine) => machine,
-            Err(_) => return Err(PlainErr::OutOfMemory),
-        };
-        let machine = match self.go(alloc, code, id, machine, None, undo) {
-            Ok(machine) => machine,
-            Err(_) => return Err(PlainErr::OutOfMemory),
-        };
-        if !commits(machine.wants()) {
-            drop(machine);
-            return Err(PlainErr::NotEnabled(Bar::NoEnd));
-        }
-        self.finish(alloc, code, id, machine)
-    }
-
-    // From the begin to the end without commit, by way of this place.
-    fn abort(
-        &mut self,
-        alloc: Global,
-        code: &Deployment,
-        id: &IntentId,
-        machine: Machine,
-        place: &Place,
-        holder: Option<&IntentId>,
-        undo: &mut Undo,
-    ) -> Result<Machine, PlainErr>
-        requires { IsReady code.now self.old id.now machine × (machine.effect ≡ effect.Begin) × (undo.old ≡ []) }
-        ensures { (q : Instance) → map.get self.old.made id.now ≡ Some q → Comes code.now self.old id.now q undo.new (try_on code.now enough id.now place.now (option_copied holder.entry) (gives self.old id.now q answer.Done)) NoPlace self.new result }
-    {
-        let stop = stop_at(id, place);
-        let machine = match self.give(alloc, code, id, machine, Answer::Done) {
-            Ok(machine) => machine,
-            Err(_) => return Err(PlainErr::OutOfMemory),
-        };
-        let machine = match self.go(alloc, code, id, machine, stop, undo) {
-            Ok(machine) => machine,
-            Err(_) => return Err(PlainErr::OutOfMemory),
-        };
-        if !is_stop(stop, machine.steps()) {
-            drop(machine);
-            return Err(PlainErr::NotEnabled(Bar::NoPlace));
-        }
-        self.fall(alloc, code, id, machine, holder)
-    }
-    // The abort at which a transaction stands, or the end without commit that a fault led to.
-    fn fall(
-        &mut self,
-        alloc: Global,
-        code: &Deployment,
-        id: &IntentId,
-        machine: Machine,
-        holder: Option<&IntentId>,
-    ) -> Result<Machine, PlainErr>
-        ensures { (p : PlainState) (q x : Instance) (ws : List Was) → GoesOn code.now p id.now q self.old ws machine → map.get self.old.made id.now ≡ Some x → Comes code.now p id.now q ws (falls_by code.now (seen self.old ws) id.now x (option_copied holder.entry) machine.effect) NoPlace self.new result }
-    {
-        if closes(machine.wants(), holder) {
-            return self.close(alloc, code, id, machine, holder);
-        }
-        if !is_fault(machine.wants(), holder) {
-            drop(machine);
-            return Err(PlainErr::NotEnabled(Bar::NoPlace));
-        }
-        self.finish(alloc, code, id, machine)
-    }
-
-    // The effect is aborted, and the transaction ends.
-    fn close(
-        &mut self,
-        alloc: Global,
-        code: &Deployment,
-        id: &IntentId,
-        machine: Machine,
-        holder: Option<&IntentId>,
-    ) -> Result<Machine, PlainErr>
-        requires { wants_answer machine.effect ≡ true }
-        ensures { (p : PlainState) (q x : Instance) (ws : List Was) → GoesOn code.now p id.now q self.old ws machine → map.get self.old.made id.now ≡ Some x → Comes code.now p id.now q ws (closes code.now id.now (gives (seen self.old ws) id.now x (aborted id.now x (option_copied holder.entry)))) NoPlace self.new result }
-    {
-        let cause = match cause_of(alloc, id, machine.steps(), holder) {
-            Ok(cause) => cause,
-            Err(_) => {
-                drop(machine);
-                return Err(PlainErr::OutOfMemory);
-            }
-        };
-        let machine = match self.give(alloc, code, id, machine, Answer::Aborted(cause)) {
-            Ok(machine) => machine,
-            Err(_) => return Err(PlainErr::OutOfMemory),
-        };
-        if !fails(machine.wants()) {
-            drop(machine);
-            return Err(PlainErr::NotEnabled(Bar::NoPlace));
-        }
-        self.finish(alloc, code, id, machine)
-    }
-
-    // The end is done.
-    fn finish(
-        &mut self,
-        alloc: Global,
-        code: &Deployment,
-        id: &IntentId,
-        machine: Machine,
-    ) -> Result<Machine, PlainErr>
-        ensures { (p : PlainState) (q x : Instance) (ws : List Was) (why : bar.Bar) → GoesOn code.now p id.now q self.old ws machine → wants_answer machine.effect ≡ true → map.get self.old.made id.now ≡ Some x → Comes code.now p id.now q ws (Some (gives (seen self.old ws) id.now x answer.Done)) why self.new result }
-    {
-        let machine = match self.give(alloc, code, id, machine, Answer::Done) {
-            Ok(machine) => machine,
-            Err(_) => return Err(PlainErr::OutOfMemory),
-        };
-        Ok(machine)
-    }
-
-    // The reads and operations of a transaction, up to another effect or to where it stops.
-    fn go(
-        &mut self,
-        alloc: Global,
-        code: &Deployment,
-        id: &IntentId,
-        machine: Machine,
-        stop: Option<u32>,
-        undo: &mut Undo,
-    ) -> Result<Machine, AllocError>
-        ensures { (p : PlainState) (q : Instance) → GoesOn code.now p id.now q self.old undo.old machine → WentOn code.now p id.now q stop (seen self.old undo.old) self.new undo.new result }
-    {
-        let func = self.func_of(id);
-        let mut machine = machine;
-        for turn in 0..MOST_ANSWERS {
-            if is_stop(stop, machine.steps()) {
-                return Ok(machine);
-            }
-            let made = match undo.make(alloc, &mut self.items, func, machine.wants()) {
-                Ok(made) => made,
-                Err(error) => {
-                    drop(machine);
-                    return Err(error);
-                }
-            };
-            let Some(answer) = made else {
-                return Ok(machine);
-            };
-            machine = match self.give(alloc, code, id, machine, answer) {
-                Ok(next) => next,
-                Err(error) => return Err(error),
-            };
-        }
-        Ok(machine)
+        let func = self.func_of(&id);
+        Actor { id, func, machine }
     }
 
     // The function of an instance.
@@ -290,26 +133,416 @@ impl State {
         }
     }
 
-    // The instance is answered, and its machine goes on.
-    fn give(
+    // What was set stays.
+    fn keep(&mut self, draft: Draft)
+        ensures { self.new ≡ seen self.old draft.undo }
+    {
+        let Draft { undo, .. } = draft;
+        undo.keep(&mut self.items);
+    }
+
+    // What was set is put back, and those that were made are there no more.
+    fn undo(&mut self, undo: Undo, members: Members)
+        requires { AllHaveRoom self.old.items undo }
+        ensures { self.new ≡ record { items = all_back self.old.items undo; made = all_gone self.old.made members } }
+    {
+        undo.restore(&mut self.items);
+        members.forget(&mut self.made);
+    }
+
+    // Everything is as it was before the transaction.
+    fn reset(&mut self, draft: Draft)
+        requires { AllHaveRoom self.old.items draft.undo }
+        ensures { (t : TxId) (p : PlainState) (q : Instance) → IsDraft t p q self.old draft → t.begin ≡ length q.answers → self.new ≡ p }
+    {
+        let Draft {
+            tx,
+            undo,
+            members,
+            ..
+        } = draft;
+        self.undo(undo, members);
+        self.made.cut(&tx.intent, tx.begin);
+    }
+
+    // From the begin to the end with commit.
+    fn commit(
+        &mut self,
+        alloc: Global,
+        code: &Deployment,
+        front: Actor,
+        draft: &mut Draft,
+    ) -> Result<Actor, PlainErr>
+        ensures { (t : TxId) (p : PlainState) (q x : Instance) → GoesOn code.now t p q self.old draft.old front → front.machine.effect ≡ effect.Begin → map.get self.old.made front.id ≡ Some x → Comes code.now t p q draft.new (ends_on code.now enough t true (after self.old draft.old front x answer.Done)) (no_end_of true) self.new result }
+    {
+        let front = match self.go_on(alloc, code, front, Answer::Done, None, draft) {
+            Ok(front) => front,
+            Err(_) => return Err(PlainErr::OutOfMemory),
+        };
+        self.finish(alloc, code, front, true, draft)
+    }
+
+    // From the begin to the end without commit, by way of this place.
+    fn abort(
+        &mut self,
+        alloc: Global,
+        code: &Deployment,
+        front: Actor,
+        place: &Place,
+        holder: Option<&IntentId>,
+        draft: &mut Draft,
+    ) -> Result<Actor, PlainErr>
+        ensures { (t : TxId) (p : PlainState) (q x : Instance) → GoesOn code.now t p q self.old draft.old front → front.machine.effect ≡ effect.Begin → map.get self.old.made front.id ≡ Some x → Comes code.now t p q draft.new (try_on code.now enough t place.now (option_copied holder.entry) (after self.old draft.old front x answer.Done)) (no_end_of false) self.new result }
+    {
+        let front = match self.go_on(alloc, code, front, Answer::Done, Some(place), draft) {
+            Ok(front) => front,
+            Err(_) => return Err(PlainErr::OutOfMemory),
+        };
+        if !is_stop(Some(place), &front) {
+            drop(front);
+            return Err(PlainErr::NotEnabled(Bar::NoPlace));
+        }
+        self.fall(alloc, code, front, holder, draft)
+    }
+
+    // At its place: the effect is aborted, and the transaction goes on to its end; or a fault led there.
+    fn fall(
+        &mut self,
+        alloc: Global,
+        code: &Deployment,
+        front: Actor,
+        holder: Option<&IntentId>,
+        draft: &mut Draft,
+    ) -> Result<Actor, PlainErr>
+        ensures { (t : TxId) (p : PlainState) (q x : Instance) (left : ℕ) → most ≤ left → GoesOn code.now t p q self.old draft.old front → map.get self.old.made front.id ≡ Some x → Comes code.now t p q draft.new (falls_by (ends_on code.now left t false) t (seen self.old draft.old.undo) front.id x (option_copied holder.entry) front.machine.effect) (no_end_of false) self.new result }
+    {
+        if !dies(front.machine.wants(), holder) {
+            return self.fault(alloc, code, front, holder, draft);
+        }
+        let cause = match cause_of(alloc, &front, holder) {
+            Ok(cause) => cause,
+            Err(_) => {
+                drop(front);
+                return Err(PlainErr::OutOfMemory);
+            }
+        };
+        let front = match self.go_on(alloc, code, front, Answer::Aborted(cause), None, draft) {
+            Ok(front) => front,
+            Err(_) => return Err(PlainErr::OutOfMemory),
+        };
+        self.finish(alloc, code, front, false, draft)
+    }
+
+    // The end without commit that a fault led to.
+    fn fault(
+        &mut self,
+        alloc: Global,
+        code: &Deployment,
+        front: Actor,
+        holder: Option<&IntentId>,
+        draft: &Draft,
+    ) -> Result<Actor, PlainErr>
+        ensures { (t : TxId) (p : PlainState) (q x : Instance) → GoesOn code.now t p q self.old draft.now front → map.get self.old.made front.id ≡ Some x → dies_at (option_copied holder.entry) front.machine.effect ≡ false → Comes code.now t p q draft.now (fault_by t (seen self.old draft.now.undo) front.id x (option_copied holder.entry) front.machine.effect) (no_end_of false) self.new result }
+    {
+        match holder {
+            Some(_) => {
+                drop(front);
+                Err(PlainErr::NotEnabled(Bar::NoPlace))
+            }
+            None => self.finish(alloc, code, front, false, draft),
+        }
+    }
+
+    // The owner's end, with commit or without, is done.
+    fn finish(
+        &mut self,
+        alloc: Global,
+        code: &Deployment,
+        front: Actor,
+        commit: bool,
+        draft: &Draft,
+    ) -> Result<Actor, PlainErr>
+        ensures { (t : TxId) (p : PlainState) (q x : Instance) → GoesOn code.now t p q self.old draft.now front → map.get self.old.made front.id ≡ Some x → Comes code.now t p q draft.now (over_at t commit (seen self.old draft.now.undo) front.id x front.machine.effect) (no_end_of commit) self.new result }
+    {
+        if !is_over(draft, &front, commit) {
+            drop(front);
+            return Err(PlainErr::NotEnabled(no_end(commit)));
+        }
+        let front = match self.give(alloc, code, front, Answer::Done) {
+            Ok(front) => front,
+            Err(_) => return Err(PlainErr::OutOfMemory),
+        };
+        Ok(front)
+    }
+
+    // The one at the front is answered, and the transaction goes on as far as it does.
+    fn go_on(
+        &mut self,
+        alloc: Global,
+        code: &Deployment,
+        front: Actor,
+        answer: Answer,
+        stop: Option<&Place>,
+        draft: &mut Draft,
+    ) -> Result<Actor, AllocError>
+        ensures { (t : TxId) (p : PlainState) (q x : Instance) (start : ℕ) → most ≤ start → GoesOn code.now t p q self.old draft.old front → wants_answer front.machine.effect ≡ true → map.get self.old.made front.id ≡ Some x → WentOn code.now t p q (option_copied stop.entry) (after self.old draft.old front x answer) start self.new draft.new result }
+    {
+        let front = match self.give(alloc, code, front, answer) {
+            Ok(front) => front,
+            Err(error) => return Err(error),
+        };
+        self.go(alloc, code, front, stop, draft)
+    }
+
+    // Move after move, up to where it stops or no move is left. So many moves leave answers that no memory holds.
+    fn go(
+        &mut self,
+        alloc: Global,
+        code: &Deployment,
+        front: Actor,
+        stop: Option<&Place>,
+        draft: &mut Draft,
+    ) -> Result<Actor, AllocError>
+        ensures { (t : TxId) (p : PlainState) (q : Instance) (start : ℕ) → most ≤ start → GoesOn code.now t p q self.old draft.old front → WentOn code.now t p q (option_copied stop.entry) (going self.old draft.old front) start self.new draft.new result }
+    {
+        let mut front = front;
+        for turn in 0..u64::MAX {
+            if is_stop(stop, &front) {
+                return Ok(front);
+            }
+            let moves = match self.can_move(alloc, &front, draft) {
+                Ok(moves) => moves,
+                Err(error) => {
+                    drop(front);
+                    return Err(error);
+                }
+            };
+            if !moves {
+                return Ok(front);
+            }
+            front = match self.make_move(alloc, code, front, draft) {
+                Ok(next) => next,
+                Err(error) => return Err(error),
+            };
+        }
+        drop(front);
+        Err(AllocError)
+    }
+
+    // Whether the one at the front has a move.
+    fn can_move(&self, alloc: Global, front: &Actor, draft: &Draft) -> Result<bool, AllocError>
+        ensures { IfOk result (λ b. b ≡ can_move_by draft.now.tx self.now.made front.now.id front.now.machine.steps front.now.machine.effect) }
+    {
+        match front.machine.wants() {
+            Effect::Read { .. } | Effect::Write { .. } | Effect::CondWrite { .. } => Ok(true),
+            Effect::Call { .. } => self.can_call(alloc, front),
+            Effect::Return(_) => Ok(!is_owner(draft, front)),
+            _ => Ok(false),
+        }
+    }
+
+    // Whether what it calls is to be made.
+    fn can_call(&self, alloc: Global, front: &Actor) -> Result<bool, AllocError>
+        ensures { IfOk result (λ b. b ≡ (has_callees front.now.id && not (is_some (map.get self.now.made (child_of front.now.id front.now.machine.steps))))) }
+    {
+        if !front.id.has_callees() {
+            return Ok(false);
+        }
+        Ok(
+            !self
+                .made
+                .has_callee(alloc, &front.id, front.machine.steps())?,
+        )
+    }
+
+    // A move of the one at the front, and who is at the front after it.
+    fn make_move(
+        &mut self,
+        alloc: Global,
+        code: &Deployment,
+        front: Actor,
+        draft: &mut Draft,
+    ) -> Result<Actor, AllocError>
+        requires { can_move_by draft.old.tx self.old.made front.id front.machine.steps front.machine.effect ≡ true }
+        ensures { (t : TxId) (p : PlainState) (q : Instance) → GoesOn code.now t p q self.old draft.old front → Moved code.now t p q self.old draft.old front self.new draft.new result }
+    {
+        match front.machine.wants() {
+            Effect::Call { func, args } => {
+                match self.enter(alloc, code, &front, *func, args, draft) {
+                    Ok(callee) => wait(front, callee, draft),
+                    Err(error) => {
+                        drop(front);
+                        Err(error)
+                    }
+                }
+            }
+            Effect::Return(outcome) => match draft.waiting.pop() {
+                Some(caller) => self.leave(alloc, code, &front.id, outcome, caller),
+                None => Ok(front),
+            },
+            effect => match draft.undo.make(alloc, &mut self.items, front.func, effect) {
+                Ok(Some(answer)) => self.give(alloc, code, front, answer),
+                Ok(None) => Ok(front),
+                Err(error) => {
+                    drop(front);
+                    Err(error)
+                }
+            },
+        }
+    }
+
+    // The callee of the one at the front is made, within the transaction.
+    fn enter(
+        &mut self,
+        alloc: Global,
+        code: &Deployment,
+        front: &Actor,
+        func: u16,
+        args: &Value,
+        draft: &mut Draft,
+    ) -> Result<Actor, AllocError>
+        requires { length front.now.id.hops < 63 }
+        ensures ok { IfOk result (λ b. (self.new ≡ with_instance self.old (child_of front.now.id front.now.machine.steps) (new_member draft.old.tx func args.now (record { place = record { intent = front.now.id; step = front.now.machine.steps }; func = front.now.func; waits = true }))) × (draft.new ≡ record draft.old { members = draft.old.members ++ (child_of front.now.id front.now.machine.steps) ∷ [] }) × (b ≡ record { id = (child_of front.now.id front.now.machine.steps); func = func; machine = begun code.now func args.now true })) }
+        ensures err { OnErr result ((self.new ≡ self.old) × (draft.new ≡ draft.old)) }
+    {
+        let member = member_of(alloc, front, func, args, &draft.tx)?;
+        let id = front.id.child(alloc, front.machine.steps())?;
+        let machine = Machine::new(alloc, code, func, args.copy(alloc)?, true)?;
+        draft.members.make(alloc, &mut self.made, &id, member)?;
+        Ok(Actor { id, func, machine })
+    }
+
+    // The callee of this id ends, and its caller is answered and goes on.
+    fn leave(
         &mut self,
         alloc: Global,
         code: &Deployment,
         id: &IntentId,
-        machine: Machine,
+        outcome: &Outcome,
+        caller: Actor,
+    ) -> Result<Actor, AllocError>
+        ensures { (t : TxId) (p : PlainState) (q x : Instance) (h : Draft) → GoesOn code.now t p q self.old h caller → IsCallee self.old h.members id.now x caller → Left code.now t p q self.old h id.now x outcome.now caller self.new result }
+    {
+        let (ended, answer) = match told(alloc, outcome) {
+            Ok(both) => both,
+            Err(error) => {
+                drop(caller);
+                return Err(error);
+            }
+        };
+        let caller = match self.give(alloc, code, caller, answer) {
+            Ok(caller) => caller,
+            Err(error) => {
+                drop(ended);
+                return Err(error);
+            }
+        };
+        self.made.end(id, ended);
+        Ok(caller)
+    }
+
+    // The one at the front is answered, and its machine goes on.
+    fn give(
+        &mut self,
+        alloc: Global,
+        code: &Deployment,
+        front: Actor,
         answer: Answer,
-    ) -> Result<Machine, AllocError>
-        ensures { (p : PlainState) (q : Instance) (ws : List Was) → GoesOn code.now p id.now q self.old ws machine → wants_answer machine.effect ≡ true → Gave code.now p id.now q self.old self.new ws answer result }
+    ) -> Result<Actor, AllocError>
+        ensures { (t : TxId) (p : PlainState) (q : Instance) (h : Draft) → GoesOn code.now t p q self.old h front → wants_answer front.machine.effect ≡ true → Gave code.now t p q self.old h front answer self.new result }
     {
         let kept = copy_answer(alloc, &answer)?;
-        self.made.answer(id, kept)?;
-        machine.resume(alloc, code, answer)
+        self.made.answer(&front.id, kept)?;
+        front.resume(alloc, code, answer)
     }
 }
 
+// The instance that the one at the front calls, within this transaction.
+fn member_of(
+    alloc: Global,
+    front: &Actor,
+    func: u16,
+    args: &Value,
+    tx: &TxId,
+) -> Result<Instance, AllocError>
+    ensures { IfOk result (λ i. i ≡ new_member tx.now func args.now (record { place = record { intent = front.now.id; step = front.now.machine.steps }; func = front.now.func; waits = true })) }
+{
+    let caller = Caller {
+        place: place_of(alloc, front)?,
+        func: front.func,
+        waits: true,
+    };
+    let within = TxId {
+        intent: tx.intent.copy(alloc)?,
+        begin: tx.begin,
+        func: tx.func,
+    };
+    Ok(Instance::member(alloc, func, args.copy(alloc)?, caller, within))
+}
+
+// Where the one at the front stands.
+fn place_of(alloc: Global, front: &Actor) -> Result<Place, AllocError>
+    ensures { IfOk result (λ p. p ≡ record { intent = front.now.id; step = front.now.machine.steps }) }
+{
+    Ok(Place {
+        intent: front.id.copy(alloc)?,
+        step: front.machine.steps(),
+    })
+}
+
+// The caller waits, and its callee is at the front.
+fn wait(caller: Actor, callee: Actor, draft: &mut Draft) -> Result<Actor, AllocError>
+    ensures ok { IfOk result (λ b. (b ≡ callee) × (draft.new ≡ record draft.old { waiting = caller ∷ draft.old.waiting })) }
+    ensures err { OnErr result (draft.new ≡ draft.old) }
+{
+    match draft.waiting.push(caller) {
+        Ok(()) => Ok(callee),
+        Err(error) => {
+            drop(callee);
+            Err(error)
+        }
+    }
+}
+
+// An outcome, and the answer to its call.
+fn told(alloc: Global, outcome: &Outcome) -> Result<(Outcome, Answer), AllocError>
+    ensures { IfOk result (λ b. (b.0 ≡ outcome.now) × (b.1 ≡ answer_of outcome.now)) }
+{
+    let ended = outcome.copy(alloc)?;
+    Ok((ended, Answer::of_callee(outcome.copy(alloc)?)))
+}
+
+fn is_owner(draft: &Draft, front: &Actor) -> bool
+    ensures { result ≡ is_owner_of draft.now.tx front.now.id }
+{
+    draft.tx.intent.cmp(&front.id).is_eq()
+}
+
+// Whether it is the owner, and stands at its end with commit or without.
+fn is_over(draft: &Draft, front: &Actor, commit: bool) -> bool
+    ensures { result ≡ (is_owner_of draft.now.tx front.now.id && ends_by commit front.now.machine.effect) }
+{
+    is_owner(draft, front) && ends(front.machine.wants(), commit)
+}
+
+fn ends(effect: &Effect, commit: bool) -> bool
+    ensures { result ≡ ends_by commit effect.now }
+{
+    match effect {
+        Effect::End { commit: commits } => *commits == commit,
+        _ => false,
+    }
+}
+
+fn no_end(commit: bool) -> Bar
+    ensures { result ≡ no_end_of commit }
+{
+    if commit { Bar::NoEnd } else { Bar::NoPlace }
+}
+
 // Whether an effect is aborted, by itself or by who holds its item.
-fn closes(effect: &Effect, holder: Option<&IntentId>) -> bool
-    ensures { result ≡ is_closed (option_copied holder.entry) effect.now }
+fn dies(effect: &Effect, holder: Option<&IntentId>) -> bool
+    ensures { result ≡ dies_at (option_copied holder.entry) effect.now }
 {
     match holder {
         Some(_) => matches!(
@@ -320,49 +553,13 @@ fn closes(effect: &Effect, holder: Option<&IntentId>) -> bool
     }
 }
 
-// Whether it is the end without commit, which a fault led to.
-fn is_fault(effect: &Effect, holder: Option<&IntentId>) -> bool
-    ensures { result ≡ is_fault_by (option_copied holder.entry) effect.now }
-{
-    match holder {
-        Some(_) => false,
-        None => fails(effect),
-    }
-}
-
-fn commits(effect: &Effect) -> bool
-    ensures { result ≡ commits_by effect.now }
-{
-    match effect {
-        Effect::End { commit } => *commit,
-        _ => false,
-    }
-}
-
-fn fails(effect: &Effect) -> bool
-    ensures { result ≡ fails_by effect.now }
-{
-    match effect {
-        Effect::End { commit } => !*commit,
-        _ => false,
-    }
-}
-
-// Why an effect at this step is aborted.
-fn cause_of(
-    alloc: Global,
-    id: &IntentId,
-    step: u32,
-    holder: Option<&IntentId>,
-) -> Result<Cause, AllocError>
-    ensures { IfOk result (λ c. c ≡ record { place = record { intent = id.now; step = step }; holder = option_copied holder.entry }) }
+// Why the one at the front is aborted.
+fn cause_of(alloc: Global, front: &Actor, holder: Option<&IntentId>) -> Result<Cause, AllocError>
+    ensures { IfOk result (λ c. c ≡ record { place = record { intent = front.now.id; step = front.now.machine.steps }; holder = option_copied holder.entry }) }
 {
     let holder = copy_holder(alloc, holder)?;
     Ok(Cause {
-        place: Place {
-            intent: id.copy(alloc)?,
-            step,
-        },
+        place: place_of(alloc, front)?,
         holder,
     })
 }

@@ -50,7 +50,7 @@ pub enum Bar {
     /// The instance waits for a callee, which has not returned; or it stands at an asynchronous call whose callee is there.
     Waiting,
     /// The entry is a read, and the instance does not stand at one; or it is a step, and it stands at a read, at the begin of a
-    /// transaction or in one, or at a call that is not carried out; or it is a transaction, and the instance does not stand at its begin.
+    /// transaction or in one, or at a call whose callee would have no id; or it is a transaction, and the instance does not stand at its begin.
     OtherEffect,
     /// The transaction does not reach an end with commit.
     NoEnd,
@@ -109,7 +109,8 @@ impl<'a> Plain<'a> {
         Ok(())
     }
 
-    /// Makes the next step of an instance, whatever it is, but for the effects that are not carried out yet.
+    /// Makes the next step of an instance, whatever it is, but for effects of transactions, which are carried out whole, and for a call
+    /// whose callee would have no id.
     pub fn step(&mut self, id: &IntentId) -> Result<(), PlainErr>
         ensures code { self.new.code ≡ self.old.code }
         ensures did { DidStep self.old.code id.now self.old.state self.new.state result }
@@ -244,11 +245,11 @@ impl<'a> Plain<'a> {
             Ok(machine) => machine,
             Err(why) => return Err(why),
         };
-        let next = match self.state.piece(self.alloc, self.code.code(), &id, machine) {
-            Ok(next) => next,
+        let owner = match self.state.piece(self.alloc, self.code.code(), id, machine) {
+            Ok(owner) => owner,
             Err(why) => return Err(why),
         };
-        self.machines.keep(id, next);
+        self.machines.keep(owner.id, owner.machine);
         Ok(())
     }
 
@@ -268,14 +269,14 @@ impl<'a> Plain<'a> {
             Ok(machine) => machine,
             Err(why) => return Err(why),
         };
-        let next = match self
+        let owner = match self
             .state
-            .try_piece(self.alloc, self.code.code(), &id, machine, place, holder)
+            .try_piece(self.alloc, self.code.code(), id, machine, place, holder)
         {
-            Ok(next) => next,
+            Ok(owner) => owner,
             Err(why) => return Err(why),
         };
-        self.machines.keep(id, next);
+        self.machines.keep(owner.id, owner.machine);
         Ok(())
     }
 

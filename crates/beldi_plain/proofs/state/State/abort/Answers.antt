@@ -1,46 +1,29 @@
-use Rattle.std.proofs.Common.{rules, ◌≡◌, ◌∙◌, ap, sym, subst, refl, true, false}
+use Rattle.std.proofs.Common.{rules, ◌≡◌, ap, sym, subst, refl, Some, true, false}
 use Rattle.std.specs.Prelude.{option_copied}
 use Rattle.beldi_lang.specs.Wants.{wants_answer}
-use Rattle.beldi_plain.specs.Piece.{enough, try_on}
-use Rattle.beldi_plain.specs.Inside.{Comes, is_stop}
-use Rattle.beldi_plain.specs.declared.plain.Bar.TheVariants.{NoPlace}
-use Rattle.beldi_plain.proofs.Inside.{first_goes, seen_first, no_place, falls_so}
+use Rattle.beldi_plain.specs.Piece.{enough}
+use Rattle.beldi_plain.specs.Inside.{Comes, is_stop, no_end}
+use Rattle.beldi_plain.proofs.Leads.{enough_first, left_enough, falls_so, no_place}
 use Rattle.beldi_plain.proofs.state.State.abort.Goals as goal
 
 pub returns-in-Err : goal.returns-in-Err
-returns-in-Err c = λ q here.
-    c.in-Err.ensures c.args.self.now q c.args.undo.now (first_goes c.args.code.now c.args.self.now c.args.id.now q c.args.undo.now c.args.machine c.requires.0 here c.requires.2) (ap wants_answer c.requires.1)
-
-pub returns-in-Err-go : goal.returns-in-Err-go
-returns-in-Err-go c = λ q here.
-    let g = c.in-Ok.ensures c.args.self.now q c.args.undo.now (first_goes c.args.code.now c.args.self.now c.args.id.now q c.args.undo.now c.args.machine c.requires.0 here c.requires.2) (ap wants_answer c.requires.1) in
-    c.in-Err-go.ensures c.args.self.now q g.0
+returns-in-Err c = λ t p q x g begins here. c.in-Err.ensures t p q x enough enough_first g (ap wants_answer begins) here
 
 pub returns-then-not-is_stop : goal.returns-then-not-is_stop
-returns-then-not-is_stop c = λ q here.
-    let d = c.args.code.now in
-    let p = c.args.self.now in
-    let id = c.args.id.now in
-    let g = c.in-Ok.ensures p q c.args.undo.now (first_goes d p id q c.args.undo.now c.args.machine c.requires.0 here c.requires.2) (ap wants_answer c.requires.1) in
-    let w = c.in-Ok-go.ensures p q g.0 in
-    let start = seen_first c.give.new.self _ c.args.undo.now c.requires.2 (g.1 q here) in
-    let not : is_stop c.stop_at-stop.result c.in-Ok-go.machine.steps ≡ false = search rules in (
+returns-then-not-is_stop c = λ t p q x g begins here.
+    let w = c.in-Ok.ensures t p q x enough enough_first g (ap wants_answer begins) here in
+    let goes : is_stop (Some c.args.place.now) c.in-Ok.front ≡ false = search rules in (
       w.goes.draft,
-      ap (try_on d enough id c.args.place.now (option_copied c.args.holder)) (sym start)
-          ∙ no_place d p id q c.stop_at-stop.result _ c.go.new.self c.go.new.undo c.in-Ok-go.machine w w.goes.ready.instance w.goes.ready.made c.args.place.now (option_copied c.args.holder) c.stop_at-stop.ensures not,
+      no_place c.args.code.now t p q _ enough c.go_on.new.self c.go_on.new.draft c.in-Ok.front w.goes.acts.instance w.goes.acts.made c.args.place.now (option_copied c.args.holder) w goes,
       refl,
     )
 
 pub returns : goal.returns
-returns c = λ q here.
+returns c = λ t p q x g begins here.
     let d = c.args.code.now in
-    let p = c.args.self.now in
-    let id = c.args.id.now in
-    let g = c.in-Ok.ensures p q c.args.undo.now (first_goes d p id q c.args.undo.now c.args.machine c.requires.0 here c.requires.2) (ap wants_answer c.requires.1) in
-    let w = c.in-Ok-go.ensures p q g.0 in
-    let start = seen_first c.give.new.self _ c.args.undo.now c.requires.2 (g.1 q here) in
-    let stops : is_stop c.stop_at-stop.result c.in-Ok-go.machine.steps ≡ true = search rules in
-    let is =
-    falls_so d p id q c.stop_at-stop.result _ c.go.new.self c.go.new.undo c.in-Ok-go.machine w w.goes.ready.instance w.goes.ready.made c.args.place.now (option_copied c.args.holder) c.stop_at-stop.ensures stops
-    ∙ ap (try_on d enough id c.args.place.now (option_copied c.args.holder)) start in
-    subst (λ o. Comes d p id q c.go.new.undo o NoPlace c.fall.new.self c.fall.result) is (c.fall.ensures p q w.goes.ready.instance c.go.new.undo w.goes w.goes.ready.made)
+    let w = c.in-Ok.ensures t p q x enough enough_first g (ap wants_answer begins) here in
+    let y = w.goes.acts.instance in
+    let stops : is_stop (Some c.args.place.now) c.in-Ok.front ≡ true = search rules in
+    let is = falls_so d t p q _ enough c.go_on.new.self c.go_on.new.draft c.in-Ok.front y w.goes.acts.made c.args.place.now (option_copied c.args.holder) w stops in
+    subst (λ o. Comes d t p q c.fall.new.draft o (no_end false) c.fall.new.self c.fall.result) (sym is)
+    (c.fall.ensures t p q y w.left (left_enough w.left w.fuel) w.goes w.goes.acts.made)

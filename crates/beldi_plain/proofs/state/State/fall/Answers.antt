@@ -1,27 +1,37 @@
-use Rattle.std.proofs.Common.{rules, ◌≡◌, subst, refl, true, false}
+use Rattle.std.proofs.Common.{rules, ◌≡◌, ◌∙◌, sym, subst, true, false}
 use Rattle.std.specs.Prelude.{option_copied}
-use Rattle.beldi_plain.specs.Inside.{Comes, seen, is_closed, is_fault}
-use Rattle.beldi_plain.specs.declared.plain.Bar.TheVariants.{NoPlace}
-use Rattle.beldi_plain.proofs.Inside.{closed_so, fault_so, no_fault}
+use Rattle.beldi_plain.specs.Piece.{dies_at, ends_on}
+use Rattle.beldi_plain.specs.Inside.{Comes, seen, no_end}
+use Rattle.beldi_plain.proofs.Leads.{ends_so}
+use Rattle.beldi_plain.proofs.Falls.{dies_wants, not_dead, is_dead}
 use Rattle.beldi_plain.proofs.state.State.fall.Goals as goal
 
-pub returns-then-closes : goal.returns-then-closes
-returns-then-closes c = λ p q x ws h here.
+pub returns-then-not-dies : goal.returns-then-not-dies
+returns-then-not-dies c = λ t p q x left most g here.
     let d = c.args.code.now in
-    let id = c.args.id.now in
-    let closed : is_closed (option_copied c.args.holder) c.args.machine.effect ≡ true = search rules in
-    subst (λ o. Comes d p id q ws o NoPlace c.close.new.self c.close.result) (closed_so d (seen c.args.self.now ws) id x (option_copied c.args.holder) c.args.machine.effect closed) (c.close.ensures p q x ws h here)
+    let hold = option_copied c.args.holder in
+    let e = c.args.front.machine.effect in
+    let lives : dies_at hold e ≡ false = search rules in
+    subst (λ o. Comes d t p q c.args.draft.now o (no_end false) c.fault.new.self c.fault.result)
+    (sym (not_dead (ends_on d left t false) t (seen c.args.self.now c.args.draft.now.undo) c.args.front.id x hold e lives))
+    (c.fault.ensures t p q x g here lives)
 
-pub returns-then-not-is_fault : goal.returns-then-not-is_fault
-returns-then-not-is_fault c = λ p q x ws h here.
-    let closed : is_closed (option_copied c.args.holder) c.args.machine.effect ≡ false = search rules in
-    let fault : is_fault (option_copied c.args.holder) c.args.machine.effect ≡ false = search rules in
-    (h.draft, no_fault c.args.code.now (seen c.args.self.now ws) c.args.id.now x (option_copied c.args.holder) c.args.machine.effect closed fault, refl)
+pub returns-in-Err : goal.returns-in-Err
+returns-in-Err c = λ t p q x left most g here. g.draft
+
+pub returns-in-Err-go_on : goal.returns-in-Err-go_on
+returns-in-Err-go_on c = λ t p q x left most g here.
+    let hold = option_copied c.args.holder in
+    let dies : dies_at hold c.args.front.machine.effect ≡ true = search rules in
+    c.in-Err-go_on.ensures t p q x left most g (dies_wants hold c.args.front.machine.effect dies) here
 
 pub returns : goal.returns
-returns c = λ p q x ws h here.
+returns c = λ t p q x left most g here.
     let d = c.args.code.now in
-    let id = c.args.id.now in
-    let fault : is_fault (option_copied c.args.holder) c.args.machine.effect ≡ true = search rules in
-    let f = fault_so d (seen c.args.self.now ws) id x (option_copied c.args.holder) c.args.machine.effect fault in
-    subst (λ o. Comes d p id q ws o NoPlace c.finish.new.self c.finish.result) f.0 (c.finish.ensures p q x ws NoPlace h f.1 here)
+    let hold = option_copied c.args.holder in
+    let dies : dies_at hold c.args.front.machine.effect ≡ true = search rules in
+    let w = c.in-Ok-go_on.ensures t p q x left most g (dies_wants hold c.args.front.machine.effect dies) here in
+    let y = w.goes.acts.instance in
+    let is = is_dead d t p q c.args.self.now c.args.draft.now c.args.front x hold c.in-Ok.cause left g here dies c.in-Ok.ensures
+    ∙ ends_so d t p q _ left c.go_on.new.self c.go_on.new.draft c.in-Ok-go_on.front y w.goes.acts.made false w in
+    subst (λ o. Comes d t p q c.go_on.new.draft o (no_end false) c.finish.new.self c.finish.result) (sym is) (c.finish.ensures t p q y w.goes w.goes.acts.made)

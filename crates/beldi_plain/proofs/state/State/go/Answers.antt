@@ -1,78 +1,50 @@
-use Rattle.std.proofs.Common.{rules, arith, inl, inr, ◌≡◌, ◌∙◌, ap, subst, false, Ok, Some}
-use Rattle.std.specs.FinMap as map
-use Rattle.beldi_plain.specs.Plain.{PlainState}
-use Rattle.beldi_plain.specs.Piece.{gives}
-use Rattle.beldi_plain.specs.Undo.{MadeIn}
-use Rattle.beldi_plain.specs.Inside.{Turned, seen, is_stop}
-use Rattle.beldi_plain.proofs.Inside.{first_turn, halted, at_most, made_in, not_made, made_so, func_so, stood, turned}
+use Rattle.std.proofs.Common.{rules, arith, inl, inr, ◌≡◌, ◌∙◌, ◌<◌, ap, sym, true, false}
+use Rattle.std.specs.Prelude.{option_copied}
+use Rattle.beldi_plain.specs.Inside.{can_move, is_stop, going, most}
+use Rattle.beldi_plain.proofs.Leads.{first_turn, turned, halted}
 use Rattle.beldi_plain.proofs.state.State.go.Goals as goal
 
 pub loop-turn-init : goal.loop-turn-init
-loop-turn-init c = λ p q h. first_turn c.args.code.now p c.args.id.now q c.args.stop c.args.self.now c.args.undo.now c.args.machine h
+loop-turn-init c = λ t p q start enough g.
+    first_turn c.args.code.now t p q (option_copied c.args.stop) (going c.args.self.now c.args.draft.now c.args.front) start c.args.self.now c.args.draft.now c.args.front g
 
 pub returns-then-is_stop : goal.returns-then-is_stop
-returns-then-is_stop c = λ p q h.
-    halted c.args.code.now p c.args.id.now q c.args.stop (seen c.args.self.now c.args.undo.now) c.loop-turn.self c.loop-turn.undo c.loop-turn.machine c.loop-turn.turn
-    (omega arith) (c.loop-turn.invariant p q h) (inr (search rules))
-
-pub returns : goal.returns
-returns c = λ p q h.
-    let d = c.args.code.now in
-    let a = seen c.args.self.now c.args.undo.now in
-    let t = c.loop-turn.invariant p q h in
-    let all : c.loop-turn.turn ≡ 30000 = omega arith in
-    halted d p c.args.id.now q c.args.stop a c.loop-turn.self c.loop-turn.undo c.loop-turn.machine c.loop-turn.turn (omega arith) t
-    (inl (at_most d p c.args.id.now q c.args.stop a c.loop-turn.self c.loop-turn.undo c.loop-turn.machine (subst (Turned d p c.args.id.now q c.args.stop a c.loop-turn.self c.loop-turn.undo c.loop-turn.machine) all t)))
+returns-then-is_stop c = λ t p q start enough g.
+    let few : c.loop-turn.turn < most = omega arith in
+    halted c.args.code.now t p q (option_copied c.args.stop) (going c.args.self.now c.args.draft.now c.args.front) start c.loop-turn.self c.loop-turn.draft c.loop-turn.front c.loop-turn.turn
+    enough few (c.loop-turn.invariant t p q start enough g) (inl (search rules))
 
 pub returns-in-Err : goal.returns-in-Err
-returns-in-Err c = λ p q h.
-    let r = c.loop-turn.self in
-    let s : PlainState = record { items = c.make.new.items; made = c.self-in-loop-turn.inside.made } in
-    let t = c.loop-turn.invariant p q h in
-    let x = t.goes.ready.instance in
-    let func = func_so c.args.code.now p c.args.id.now q x c.args.self.now r c.args.undo.now c.loop-turn.undo c.args.machine c.loop-turn.machine c.func_of-func.result h c.func_of-func.ensures t.goes t.goes.ready.made in
-    let made = c.in-Err.ensures x func in
-    not_made p c.args.id.now q r s c.loop-turn.undo c.make.new.self t.goes.draft (ap (λ (p : PlainState). p.made) c.self-in-loop-turn.view_is) (made.0 ∙ ap (λ (p : PlainState). p.items) c.self-in-loop-turn.view_is) made.1
+returns-in-Err c = λ t p q start enough g. (c.loop-turn.invariant t p q start enough g).goes.draft
 
-pub returns-in_default : goal.returns-in_default
-returns-in_default c = λ p q h.
-    let d = c.args.code.now in
-    let r = c.loop-turn.self in
-    let s : PlainState = record { items = c.make.new.items; made = c.self-in-loop-turn.inside.made } in
-    let t = c.loop-turn.invariant p q h in
-    let x = t.goes.ready.instance in
-    let func = func_so d p c.args.id.now q x c.args.self.now r c.args.undo.now c.loop-turn.undo c.args.machine c.loop-turn.machine c.func_of-func.result h c.func_of-func.ensures t.goes t.goes.ready.made in
-    stood d p c.args.id.now q c.args.stop (seen c.args.self.now c.args.undo.now) r s c.loop-turn.undo c.make.new.self c.loop-turn.machine c.loop-turn.turn c.in-Ok.made (omega arith) t (ap (λ (p : PlainState). p.made) c.self-in-loop-turn.view_is)
-    (made_so r.items c.self-in-loop-turn.inside.items s.items c.loop-turn.undo c.make.new.self x c.loop-turn.machine.effect c.wants.result.now (Ok c.in-Ok.made) (ap (λ (p : PlainState). p.items) c.self-in-loop-turn.view_is) c.wants.ensures.effect (c.in-Ok.ensures x func))
-    c.in_default.not-Some
+pub returns-then-not-moves : goal.returns-then-not-moves
+returns-then-not-moves c = λ t p q start enough g.
+    let a = c.loop-turn.front in
+    let u = c.loop-turn.invariant t p q start enough g in
+    let few : c.loop-turn.turn < most = omega arith in
+    let none : c.in-Ok.moves ≡ false = search rules in
+    halted c.args.code.now t p q (option_copied c.args.stop) (going c.args.self.now c.args.draft.now c.args.front) start c.loop-turn.self c.loop-turn.draft a c.loop-turn.turn
+    enough few u (inr (ap (λ t. can_move t c.loop-turn.self.made a.id a.machine.steps a.machine.effect) (sym u.goes.draft.tx) ∙ sym c.in-Ok.ensures ∙ none))
 
-pub returns-in-Err-give : goal.returns-in-Err-give
-returns-in-Err-give c = λ p q h.
-    let d = c.args.code.now in
-    let r = c.loop-turn.self in
-    let s : PlainState = record { items = c.make.new.items; made = c.self-in-loop-turn.inside.made } in
-    let t = c.loop-turn.invariant p q h in
-    let x = t.goes.ready.instance in
-    let func = func_so d p c.args.id.now q x c.args.self.now r c.args.undo.now c.loop-turn.undo c.args.machine c.loop-turn.machine c.func_of-func.result h c.func_of-func.ensures t.goes t.goes.ready.made in
-    let in_place = made_so r.items c.self-in-loop-turn.inside.items s.items c.loop-turn.undo c.make.new.self x c.loop-turn.machine.effect c.wants.result.now (Ok (Some c.in-Some.answer)) (ap (λ (p : PlainState). p.items) c.self-in-loop-turn.view_is) c.wants.ensures.effect
-    (subst (λ o. MadeIn c.self-in-loop-turn.inside.items s.items c.loop-turn.undo c.make.new.self x c.wants.result.now (Ok o)) c.in-Some.is (c.in-Ok.ensures x func)) in
-    let mid = made_in d p c.args.id.now q r s c.loop-turn.undo c.make.new.self c.loop-turn.machine c.in-Some.answer t.goes (ap (λ (p : PlainState). p.made) c.self-in-loop-turn.view_is) in_place in
-    c.in-Err-give.ensures p q c.make.new.self mid.0 mid.1
+pub make_move-requires : goal.make_move-requires
+make_move-requires c =
+    let some : c.in-Ok.moves ≡ true = search rules in
+    sym c.in-Ok.ensures ∙ some
+
+pub returns-in-Err-make_move : goal.returns-in-Err-make_move
+returns-in-Err-make_move c = λ t p q start enough g.
+    let u = c.loop-turn.invariant t p q start enough g in
+    c.in-Err-make_move.ensures t p q u.goes
 
 pub loop-turn-preserved : goal.loop-turn-preserved
-loop-turn-preserved c = λ p q h.
-    let d = c.args.code.now in
-    let id = c.args.id.now in
-    let r = c.loop-turn.self in
-    let s : PlainState = record { items = c.make.new.items; made = c.self-in-loop-turn.inside.made } in
-    let t = c.loop-turn.invariant p q h in
-    let x = t.goes.ready.instance in
-    let func = func_so d p id q x c.args.self.now r c.args.undo.now c.loop-turn.undo c.args.machine c.loop-turn.machine c.func_of-func.result h c.func_of-func.ensures t.goes t.goes.ready.made in
-    let in_place = made_so r.items c.self-in-loop-turn.inside.items s.items c.loop-turn.undo c.make.new.self x c.loop-turn.machine.effect c.wants.result.now (Ok (Some c.in-Some.answer)) (ap (λ (p : PlainState). p.items) c.self-in-loop-turn.view_is) c.wants.ensures.effect
-    (subst (λ o. MadeIn c.self-in-loop-turn.inside.items s.items c.loop-turn.undo c.make.new.self x c.wants.result.now (Ok o)) c.in-Some.is (c.in-Ok.ensures x func)) in
-    let made : s.made ≡ r.made = ap (λ (p : PlainState). p.made) c.self-in-loop-turn.view_is in
-    let mid = made_in d p id q r s c.loop-turn.undo c.make.new.self c.loop-turn.machine c.in-Some.answer t.goes made in_place in
-    let gave = c.in-Ok-give.ensures p q c.make.new.self mid.0 mid.1 in
-    let goes_on : is_stop c.args.stop c.loop-turn.machine.steps ≡ false = search rules in
-    turned d p id q c.args.stop (seen c.args.self.now c.args.undo.now) r c.give.new.self c.loop-turn.undo c.make.new.self c.loop-turn.machine c.in-Ok-give.next c.loop-turn.turn c.make.new.items c.in-Some.answer t goes_on in_place gave.0
-    (gave.1 x (ap (λ m. map.get m id) made ∙ t.goes.ready.made) ∙ ap (λ m. gives (record { items = c.make.new.items; made = m }) id x c.in-Some.answer) made)
+loop-turn-preserved c = λ t p q start enough g.
+    let a = c.loop-turn.front in
+    let u = c.loop-turn.invariant t p q start enough g in
+    let few : c.loop-turn.turn < most = omega arith in
+    let goes : is_stop (option_copied c.args.stop) a ≡ false = search rules in
+    turned c.args.code.now t p q (option_copied c.args.stop) (going c.args.self.now c.args.draft.now c.args.front) start c.loop-turn.self c.loop-turn.draft a
+    c.make_move.new.self c.make_move.new.draft c.in-Ok-make_move.next c.loop-turn.turn enough few u goes
+    (c.in-Ok-make_move.ensures t p q u.goes)
+
+pub returns : goal.returns
+returns c = λ t p q start enough g. (c.loop-turn.invariant t p q start enough g).goes.draft
