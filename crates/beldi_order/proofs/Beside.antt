@@ -1,35 +1,34 @@
--- A fold over the answers of a transaction goes by the items alone that it touches.
-use Rattle.std.proofs.Common.{◌≡◌, ◌⊎◌, inl, inr, ℕ, Bool, true, false, cond, List, [], ◌∷◌, ◌++◌, length, length-append, take, Option, None, Some, is_some, refl, ap, sym, ◌∙◌, subst, append_assoc, append-nil, arith}
-use Rattle.std.specs.Prelude.{slice_get, if◌then◌else◌}
+-- The moves of a transaction go by the items alone that they touch, and by the instances that are in it; and change no others.
+use Rattle.std.proofs.Common.{◌≡◌, inl, inr, ℕ, Bool, true, false, cond, List, [], ◌∷◌, Option, None, Some, refl, ap, sym, ◌∙◌, subst}
 use Rattle.std.specs.Option.{option_map}
 use Rattle.std.specs.FinMap as map
-use Rattle.std.specs.FinMap.{get-insert, get-remove}
+use Rattle.std.specs.FinMap.{FinMap, get-insert, get-remove}
 use Rattle.std.specs.Ordering.{is_eq}
-use Rattle.std.proofs.Math.Nat.{eq-or-lt_of_le}
-use Rattle.std.proofs.Math.Seq.{take-append_seam}
-use Rattle.std.proofs.lemmas.Option.{slice_get_past}
+use Rattle.beldi_value.specs.Id.{id_cmp, id_total}
 use Rattle.beldi_value.specs.declared.id.IntentId.{IntentId}
+use Rattle.beldi_value.specs.declared.place.TxId.{TxId}
 use Rattle.beldi_value.specs.declared.value.Value.{Value}
 use Rattle.beldi_value.specs.declared.value.Value.TheVariants.{Null}
+use Rattle.beldi_tree.specs.Bindings.{or_null}
 use Rattle.beldi_tree.specs.declared.deployment.Deployment.{Deployment}
+use Rattle.beldi_lang.specs.Callee.{answer_of}
 use Rattle.beldi_lang.specs.declared.effect.Answer.{Answer}
 use Rattle.beldi_lang.specs.declared.effect.Answer.TheVariants as answer
 use Rattle.beldi_lang.specs.declared.effect.Effect.{Effect}
 use Rattle.beldi_lang.specs.declared.effect.Effect.TheVariants as effect
-use Rattle.beldi_lang.specs.Wants.{wants}
-use Rattle.beldi_book.specs.declared.entry.Entry.{Entry}
-use Rattle.beldi_book.specs.declared.entry.Entry.TheVariants.{Tx, Try}
-use Rattle.beldi_plain.specs.Entries.{after}
-use Rattle.beldi_plain.specs.Guard.{TouchedSince, TouchedInside, actor}
-use Rattle.beldi_plain.specs.Piece.{aborted, is_aborted}
 use Rattle.beldi_plain.specs.Item.{Item, item_cmp, item_total}
-use Rattle.beldi_plain.specs.Operation.{OnItem, op_of, or_old, item_in, sets, set_if, set_item, answer_after, touched, write, cond as test}
-use Rattle.beldi_plain.specs.Plain.{Instance, PlainState, answered, effect_of, item_of}
-use Rattle.beldi_order.specs.Inside.{Commits, Items, answered_all, answer_inside, items_after, Leads, value_of, touched_item, TouchedIn, WrittenIn, Beside, FoldsReadTheirItems, inside, closing, falling, PiecesTouchTheirItems, next_answer, next_items}
-use Rattle.beldi_order.proofs.Called.{get_after}
-use Rattle.beldi_order.proofs.Maps.{same_some, here}
-use Rattle.beldi_order.proofs.Pieces.{closed, committed, aborted_so, answered_more}
+use Rattle.beldi_plain.specs.Moves.{Move, plain, fell, moved, Leads, touched_item, touched_at, TouchedBy, TouchedIn}
+use Rattle.beldi_plain.specs.Operation.{OnItem, op_of, or_old, item_in, sets, set_if, set_item, answer_after, write, cond as test}
+use Rattle.beldi_plain.specs.Piece.{Going, new_member}
+use Rattle.beldi_plain.specs.Plain.{Instance, PlainState, with_instance, answered, ended, callee_of, calls_at, effect_of, value_at}
+use Rattle.beldi_order.specs.Inside.{IsIn, InLine, written_at, WrittenBy, WrittenIn, Alike, Beside, MovesReadTheirItems}
+use Rattle.beldi_order.proofs.Line.{all_in, callee_in, line_moved, in_line, returned, answers_who_waits, shorter, not_longer}
+use Rattle.beldi_order.proofs.Maps.{elsewhere as stays}
+use Rattle.beldi_order.proofs.Moved.{Items, answer_inside, answer_by, items_after, items_by, MoveIs, answers, calls, returns, move_is, mover, answers_so, calls_so, returns_so}
 use Rattle.beldi_order.proofs.Operations.{item_same, plain_set}
+
+abbrev value_of : Items → Item → Value
+value_of m x = or_null (map.get m x)
 
 -- ---- an item that is not set stays
 elsewhere : (m : Items) (y x : Item) (v : Value) → (y ≡ x → ⊥) → map.get (set_item m y v) x ≡ map.get m x
@@ -52,9 +51,45 @@ kept_by m func (Some o) x apart = by_set (sets o.does (value_of m (item_in func 
     by_set None = refl
     by_set (Some v) = elsewhere m (item_in func o) x v (λ e. apart (ap (λ z. Some z) e))
 
-pub kept : (d : Deployment) (m : Items) (q : Instance) (rest : List Answer) (n : Items) → Leads d m q rest n → (x : Item) → (WrittenIn d q rest x → ⊥) → map.get n x ≡ map.get m x
-kept d m q [] n leads x never = ap (λ z. map.get z x) (sym leads)
-kept d m q (a ∷ rest) n leads x never = kept d (next_items d m q) (answered q a) rest n leads.1 x (λ w. never (inr w)) ∙ kept_by m q.func (op_of (effect_of d q)) x (λ e. never (inl e))
+module _ (d : Deployment) (t : TxId) where
+  -- ---- what one move leaves
+  module _ (m : Move) (s r : Going) (line : InLine d t s) (h : moved d t m s ≡ Some r) where
+    one_kept : (x : Item) → (WrittenBy d s m x → ⊥) → map.get r.state.items x ≡ map.get s.state.items x
+    one_kept x never = let q = mover d t m s r h in by_kind q.0 q.1 (move_is d t m s q.0 r q.1 h)
+      where
+        by_move : (q : Instance) → map.get s.state.made s.front ≡ Some q → (n : Move) → (WrittenBy d s n x → ⊥) → map.get (items_by s.state.items q (effect_of d q) n) x ≡ map.get s.state.items x
+        by_move q made plain other = kept_by s.state.items q.func (op_of (effect_of d q)) x (λ e. other (ap (written_at d) made ∙ e))
+        by_move q made (fell o) other = refl
+
+        by_kind : (q : Instance) → map.get s.state.made s.front ≡ Some q → MoveIs d t m s r q → map.get r.state.items x ≡ map.get s.state.items x
+        by_kind q made (answers a) = ap (λ (z : Going). map.get z.state.items x) a.is ∙ by_move q made m never
+        by_kind q made (calls c) = ap (λ (z : Going). map.get z.state.items x) c.is
+        by_kind q made (returns e) = ap (λ (z : Going). map.get z.state.items x) (returned d t m s r q made line e).is
+
+    one_other : (i : IntentId) → (IsIn t i → ⊥) → map.get r.state.made i ≡ map.get s.state.made i
+    one_other i out = let q = mover d t m s r h in by_kind q.0 q.1 (move_is d t m s q.0 r q.1 h)
+      where
+        apart : (k : IntentId) → IsIn t k → k ≡ i → ⊥
+        apart k is same = out (subst (IsIn t) same is)
+
+        by_kind : (q : Instance) → map.get s.state.made s.front ≡ Some q → MoveIs d t m s r q → map.get r.state.made i ≡ map.get s.state.made i
+        by_kind q made (answers a) = ap (λ (z : Going). map.get z.state.made i) a.is ∙ stays s.state.made s.front i (answered q a.answer) (apart s.front (all_in d t s.state.made s.front line))
+        by_kind q made (calls c) =
+            let k = callee_of s.front q in
+            ap (λ (z : Going). map.get z.state.made i) c.is ∙ stays s.state.made k i (new_member t c.func c.args (calls_at s.front q true)) (apart k (callee_in d t s.state.made s.front q line made))
+        by_kind q made (returns e) =
+            let w = returned d t m s r q made line e in
+            ap (λ (z : Going). map.get z.state.made i) w.is
+            ∙ stays (map.insert s.state.made s.front (ended q e.outcome)) w.caller i (answered w.member.waiter (answer_of e.outcome)) (apart w.caller (all_in d t s.state.made w.caller w.line))
+            ∙ stays s.state.made s.front i (ended q e.outcome) (apart s.front (all_in d t s.state.made s.front line))
+
+  pub kept : (s : Going) (moves : List Move) (l : Going) → InLine d t s → Leads d t s moves l → (x : Item) → (WrittenIn d t s moves x → ⊥) → map.get l.state.items x ≡ map.get s.state.items x
+  kept s [] l line leads x never = ap (λ (z : Going). map.get z.state.items x) (sym leads)
+  kept s (m ∷ ms) l line leads x never = kept leads.0 ms l (line_moved d t m s leads.0 line leads.1) leads.2 x (λ w. never (inr (leads.0, leads.1, w))) ∙ one_kept m s leads.0 line leads.1 x (λ w. never (inl w))
+
+  pub others : (s : Going) (moves : List Move) (l : Going) → InLine d t s → Leads d t s moves l → (i : IntentId) → (IsIn t i → ⊥) → map.get l.state.made i ≡ map.get s.state.made i
+  others s [] l line leads i out = ap (λ (z : Going). map.get z.state.made i) (sym leads)
+  others s (m ∷ ms) l line leads i out = others leads.0 ms l (line_moved d t m s leads.0 line leads.1) leads.2 i out ∙ one_other m s leads.0 line leads.1 i out
 
 -- ---- only what is touched is read
 module _ (m other : Items) (q : Instance) where
@@ -65,7 +100,7 @@ module _ (m other : Items) (q : Instance) where
   same_answer e agree = refl
 
   -- an operation inside touches what it writes
-  touches : (e : Effect) (a : Answer) (y : Item) → answer_inside m q.func e ≡ Some a → option_map (item_in q.func) (op_of e) ≡ Some y → touched_item q e ≡ Some y
+  pub touches : (e : Effect) (a : Answer) (y : Item) → answer_inside m q.func e ≡ Some a → option_map (item_in q.func) (op_of e) ≡ Some y → touched_item q e ≡ Some y
   touches (effect.Read t k) a y h is = cc
   touches (effect.Write t k v) a y h is = is
   touches (effect.CondWrite t k r o v) a y h is = is
@@ -80,171 +115,90 @@ module _ (m other : Items) (q : Instance) where
       ∙ ap (cond (is_eq (item_cmp x y)) (or_old (sets o.does (value_of m y)) (value_of m y))) same
       ∙ sym (plain_set m y x (sets o.does (value_of m y)))
 
-pub beside : (d : Deployment) (m other : Items) (q : Instance) (rest : List Answer) (n : Items) → Leads d m q rest n → ((x : Item) → TouchedIn d q rest x → value_of other x ≡ value_of m x) → Beside d m other q rest n
-beside d m other q [] n leads agree = record { items = other; leads = refl; same = λ x is. is ∙ ap (λ z. value_of z x) leads }
-beside d m other q (a ∷ rest) n leads agree =
-    let o = op_of (effect_of d q) in
-    let after = same_after m other q o (λ y is. agree y (inl (touches m other q (effect_of d q) a y leads.0 is))) in
-    let b = beside d (items_after m q.func o) (items_after other q.func o) (answered q a) rest n leads.1 (λ x t. after x (agree x (inr t))) in
-    record { items = b.items; leads = (same_answer m other q (effect_of d q) (λ y t. agree y (inl t)) ∙ leads.0, b.leads); same = λ x is. b.same x (after x is) }
+-- ---- beside
+abbrev pub in_state : PlainState → Going → Going
+in_state p s = record { state = p; front = s.front }
 
-pub more : (d : Deployment) (m : Items) (q : Instance) (rest : List Answer) (n : Items) (a : Answer) → Leads d m q rest n → next_answer d n (answered_all q rest) ≡ Some a → Leads d m q (rest ++ a ∷ []) (next_items d n (answered_all q rest))
-more d m q [] n a leads is = (ap (λ z. next_answer d z q) leads ∙ is, ap (λ z. next_items d z q) leads)
-more d m q (b ∷ rest) n a leads is = (leads.0, more d (next_items d m q) (answered q b) rest n a leads.1 is)
+abbrev pub SameMembers : TxId → PlainState → PlainState → Type 0
+SameMembers t p s = (i : IntentId) → IsIn t i → map.get p.made i ≡ map.get s.made i
 
-pub folds_read_their_items : FoldsReadTheirItems
-folds_read_their_items = record { kept = kept; beside = beside; more = more }
+set_alike : (f g : FinMap id_cmp Instance) (k i : IntentId) (z : Instance) → map.get f i ≡ map.get g i → map.get (map.insert f k z) i ≡ map.get (map.insert g k z) i
+set_alike f g k i z h = get-insert id_total f k z i ∙ ap (cond (is_eq (id_cmp i k)) (Some z)) h ∙ sym (get-insert id_total g k z i)
 
--- what is written is touched
-pub written_touched : (d : Deployment) (m : Items) (q : Instance) (rest : List Answer) (n : Items) (x : Item) → Leads d m q rest n → WrittenIn d q rest x → TouchedIn d q rest x
-written_touched d m q [] n x h w = w
-written_touched d m q (a ∷ rest) n x h (inl w) = inl (touches m m q (effect_of d q) a x h.0 w)
-written_touched d m q (a ∷ rest) n x h (inr w) = inr (written_touched d (next_items d m q) (answered q a) rest n x h.1 w)
+-- one move, in another state
+pub record OneBeside (d : Deployment) (t : TxId) (m : Move) (s r : Going) (p : PlainState) : Type 0 where
+  pub state : PlainState
+  pub leads : moved d t m (in_state p s) ≡ Some (in_state state r)
+  pub members : SameMembers t state r.state
+  pub same : (x : Item) → value_at p x ≡ value_at s.state x → value_at state x ≡ value_at r.state x
 
--- ---- what an entry touches
--- one of these answers is to a read or an operation on the item, and none that was aborted
-abbrev DoneOn : Deployment → Instance → List Answer → Item → Type 0
-DoneOn d q [] x = ⊥
-DoneOn d q (a ∷ rest) x = ((is_aborted a ≡ false) × (touched_item q (effect_of d q) ≡ Some x)) ⊎ DoneOn d (answered q a) rest x
+module _ (d : Deployment) (t : TxId) (m : Move) (s r : Going) (p : PlainState) (line : InLine d t s) (members : SameMembers t p s.state) (agree : (x : Item) → TouchedBy d s m x → value_at p x ≡ value_at s.state x) where
+  module _ (q : Instance) (made : map.get s.state.made s.front ≡ Some q) where
+    made_there : map.get p.made s.front ≡ Some q
+    made_there = members s.front (all_in d t s.state.made s.front line) ∙ made
 
--- an answer inside is none
-pub plain_answer : (m : Items) (func : ℕ) (e : Effect) (a : Answer) → answer_inside m func e ≡ Some a → is_aborted a ≡ false
-plain_answer m func (effect.Read t k) a h = ap is_aborted (sym (same_some h))
-plain_answer m func (effect.Write t k v) a h = ap is_aborted (sym (same_some h))
-plain_answer m func (effect.CondWrite t k r o v) a h = ap is_aborted (sym (same_some h))
-plain_answer m func e a h = cc
+    agree_on : m ≡ plain → (y : Item) → touched_item q (effect_of d q) ≡ Some y → value_at p y ≡ value_at s.state y
+    agree_on is y on = agree y (subst (λ n. TouchedBy d s n y) (sym is) (ap (touched_at d) made ∙ on))
 
-module _ (d : Deployment) (x : Item) where
-  done_touched : (q : Instance) (rest : List Answer) → DoneOn d q rest x → TouchedIn d q rest x
-  done_touched q [] h = h
-  done_touched q (a ∷ rest) (inl h) = inl h.1
-  done_touched q (a ∷ rest) (inr h) = inr (done_touched (answered q a) rest h)
+    answers_same : (n : Move) → m ≡ n → answer_by s.front p.items q (effect_of d q) n ≡ answer_by s.front s.state.items q (effect_of d q) n
+    answers_same plain is = same_answer s.state.items p.items q (effect_of d q) (agree_on is)
+    answers_same (fell o) is = refl
 
-  done_parts : (q : Instance) (xs ys : List Answer) → DoneOn d q (xs ++ ys) x → DoneOn d q xs x ⊎ DoneOn d (answered_all q xs) ys x
-  done_parts q [] ys h = inr h
-  done_parts q (a ∷ xs) ys (inl h) = inl (inl h)
-  done_parts q (a ∷ xs) ys (inr h) = elim (done_parts (answered q a) xs ys h) [ inl g ↦ inl (inr g) | inr g ↦ inr g ]
+    after_same : (n : Move) → m ≡ n → (a : Answer) → answer_by s.front s.state.items q (effect_of d q) n ≡ Some a → (x : Item) → value_at p x ≡ value_at s.state x
+        → value_of (items_by p.items q (effect_of d q) n) x ≡ value_of (items_by s.state.items q (effect_of d q) n) x
+    after_same plain is a gives x same = same_after s.state.items p.items q (op_of (effect_of d q)) (λ y on. agree_on is y (touches s.state.items p.items q (effect_of d q) a y gives on)) x same
+    after_same (fell o) is a gives x same = same
 
-  -- an effect that touches nothing
-  none_on : (q : Instance) (a : Answer) (rest : List Answer) (e : Effect) → effect_of d q ≡ e → touched e ≡ None → DoneOn d q (a ∷ rest) x → DoneOn d (answered q a) rest x
-  none_on q a rest e so none (inl h) = let c = sym (ap (touched_item q) so ∙ ap (option_map (λ o. item_of q o.0 o.1)) none) ∙ h.1 in cc
-  none_on q a rest e so none (inr h) = h
+    by_kind : MoveIs d t m s r q → OneBeside d t m s r p
+    by_kind (answers a) = subst (λ z. OneBeside d t m s z p) (sym a.is) (record {
+      state = record { items = items_by p.items q (effect_of d q) m; made = map.insert p.made s.front (answered q a.answer) };
+      leads = answers_so d t m (in_state p s) q made_there a.answer (answers_same m refl ∙ a.gives_it);
+      members = λ i is. set_alike p.made s.state.made s.front i (answered q a.answer) (members i is);
+      same = λ x is. after_same m refl a.answer a.gives_it x is;
+    })
+    by_kind (calls c) =
+        let k = callee_of s.front q in
+        let z = new_member t c.func c.args (calls_at s.front q true) in
+        subst (λ u. OneBeside d t m s u p) (sym c.is) (record {
+          state = with_instance p k z;
+          leads = calls_so d t m (in_state p s) q made_there c.func c.args c.plainly c.call c.short (members k (callee_in d t s.state.made s.front q line made) ∙ c.gone);
+          members = λ i is. set_alike p.made s.state.made k i z (members i is);
+          same = λ x is. is;
+        })
+    by_kind (returns e) =
+        let w = returned d t m s r q made line e in
+        let over = ended q e.outcome in
+        let last = answered w.member.waiter (answer_of e.outcome) in
+        let there : map.get (map.insert p.made s.front over) w.caller ≡ Some w.member.waiter =
+        stays p.made s.front w.caller over (λ same. not_longer w.caller s.front (shorter d t s.state.made w.caller s.front w.member) same) ∙ members w.caller (all_in d t s.state.made w.caller w.line) ∙ w.member.waits in
+        subst (λ u. OneBeside d t m s u p) (sym w.is) (record {
+          state = record { items = p.items; made = map.insert (map.insert p.made s.front over) w.caller last };
+          leads = returns_so d t m (in_state p s) q made_there e.outcome e.caller e.plainly e.returns e.not_owner e.from
+              ∙ (λ j. Some (record { state = answers_who_waits d t (in_state p s) q e.outcome e.caller w.caller w.member.waiter w.call_is there j; front = (w.call_is j).place.intent }));
+          members = λ i is. set_alike (map.insert p.made s.front over) (map.insert s.state.made s.front over) w.caller i last (set_alike p.made s.state.made s.front i over (members i is));
+          same = λ x is. is;
+        })
 
-  -- an answer that was aborted
-  not_aborted : (q : Instance) (a : Answer) (rest : List Answer) → is_aborted a ≡ true → DoneOn d q (a ∷ rest) x → DoneOn d (answered q a) rest x
-  not_aborted q a rest is (inl h) = let c = sym is ∙ h.0 in cc
-  not_aborted q a rest is (inr h) = h
+  pub one_beside : moved d t m s ≡ Some r → OneBeside d t m s r p
+  one_beside h = let q = mover d t m s r h in by_kind q.0 q.1 (move_is d t m s q.0 r q.1 h)
 
-  -- what was touched since the answers of an instance
-  since : (q : Instance) (rest : List Answer) → TouchedSince d (record q { answers = q.answers ++ rest }) (length q.answers) x → DoneOn d q rest x
-  since q [] t = let few = t.later in let l = length-append q.answers [] in let c = sym (slice_get_past (q.answers ++ []) t.step (omega (arith, few, l))) ∙ t.answered in cc
-  since q (a ∷ rest) t = elim (eq-or-lt_of_le t.later) [
-    | inl e ↦
-        let same : t.answer ≡ a = same_some (sym t.answered ∙ ap (slice_get (q.answers ++ a ∷ rest)) (sym e) ∙ get_after q.answers (a ∷ rest)) in
-        let front : take t.step (q.answers ++ a ∷ rest) ≡ q.answers = ap (λ n. take n (q.answers ++ a ∷ rest)) (sym e) ∙ take-append_seam q.answers (a ∷ rest) in
-        inl (ap is_aborted (sym same) ∙ t.made_it, ap (λ ts. touched_item q (wants d q.func q.args (is_some q.within) ts)) (sym front) ∙ t.on)
-    | inr less ↦
-        let l = length-append q.answers (a ∷ []) in
-        inr (since (answered q a) rest (subst (λ ts. TouchedSince d (record q { answers = ts }) (length (q.answers ++ a ∷ [])) x) (sym (append_assoc q.answers (a ∷ []) rest))
-        (record { step = t.step; later = omega (arith, l, less); answer = t.answer; answered = t.answered; made_it = t.made_it; on = t.on })))
-  ]
-
-  -- and what is done on an item, it touched since
-  done_more : (q : Instance) (xs ys : List Answer) → DoneOn d q xs x → DoneOn d q (xs ++ ys) x
-  done_more q [] ys h = absurd h
-  done_more q (a ∷ xs) ys (inl h) = inl h
-  done_more q (a ∷ xs) ys (inr h) = inr (done_more (answered q a) xs ys h)
-
-  done_since : (q : Instance) (rest : List Answer) → DoneOn d q rest x → TouchedSince d (record q { answers = q.answers ++ rest }) (length q.answers) x
-  done_since q [] h = absurd h
-  done_since q (a ∷ rest) (inl h) = record {
-    step = length q.answers;
-    later = omega arith;
-    answer = a;
-    answered = get_after q.answers (a ∷ rest);
-    made_it = h.0;
-    on = ap (λ ts. touched_item q (wants d q.func q.args (is_some q.within) ts)) (take-append_seam q.answers (a ∷ rest)) ∙ h.1;
+module _ (d : Deployment) (t : TxId) where
+  beside_at : (s : Going) (p : PlainState) (moves : List Move) (l : Going) → InLine d t s → Leads d t s moves l → SameMembers t p s.state → ((x : Item) → TouchedIn d t s moves x → value_at p x ≡ value_at s.state x) → Beside d t s (in_state p s) moves l
+  beside_at s p [] l line leads members agree = record {
+    going = in_state p s;
+    leads = refl;
+    alike = record { front = ap (λ (z : Going). z.front) leads; members = λ i is. members i is ∙ ap (λ (z : Going). map.get z.state.made i) leads };
+    same = λ x is. is ∙ ap (λ (z : Going). value_at z.state x) leads;
   }
-  done_since q (a ∷ rest) (inr h) =
-      let t = subst (λ ts. TouchedSince d (record q { answers = ts }) (length (q.answers ++ a ∷ [])) x) (append_assoc q.answers (a ∷ []) rest) (done_since (answered q a) rest h) in
-      record { step = t.step; later = let l = length-append q.answers (a ∷ []) in let k = t.later in omega (arith, l, k); answer = t.answer; answered = t.answered; made_it = t.made_it; on = t.on }
+  beside_at s p (m ∷ ms) l line leads members agree =
+      let one = one_beside d t m s leads.0 p line members (λ x on. agree x (inl on)) leads.1 in
+      let rest = beside_at leads.0 one.state ms l (line_moved d t m s leads.0 line leads.1) leads.2 one.members (λ x on. one.same x (agree x (inr (leads.0, leads.1, on)))) in
+      record { going = rest.going; leads = (in_state one.state leads.0, one.leads, rest.leads); alike = rest.alike; same = λ x is. rest.same x (one.same x is) }
 
-  written_done : (m : Items) (q : Instance) (rest : List Answer) (n : Items) → Leads d m q rest n → WrittenIn d q rest x → DoneOn d q rest x
-  written_done m q [] n leads h = h
-  written_done m q (a ∷ rest) n leads (inl h) = inl (plain_answer m q.func (effect_of d q) a leads.0, touches m m q (effect_of d q) a x leads.0 h)
-  written_done m q (a ∷ rest) n leads (inr h) = inr (written_done (next_items d m q) (answered q a) rest n leads.1 h)
+  pub beside : (s other : Going) (moves : List Move) (l : Going) → InLine d t s → Leads d t s moves l → Alike t s other → ((x : Item) → TouchedIn d t s moves x → value_at other.state x ≡ value_at s.state x) → Beside d t s other moves l
+  beside s other moves l line leads alike agree =
+      let same : in_state other.state s ≡ other = λ j. record { state = other.state; front = sym alike.front j } in
+      subst (λ z. Beside d t s z moves l) same (beside_at s other.state moves l line leads alike.members agree)
 
-  pub answered_is : (q : Instance) (rest : List Answer) → answered_all q rest ≡ record q { answers = q.answers ++ rest }
-  answered_is q [] = ap (λ ts. record q { answers = ts }) (sym (append-nil q.answers))
-  answered_is q (a ∷ rest) = answered_is (answered q a) rest ∙ ap (λ ts. record q { answers = ts }) (append_assoc q.answers (a ∷ []) rest)
-
-  piece_leaves : (p r : PlainState) (id : IntentId) (h : Commits d p id r) → map.get r.made id ≡ Some (answered_all h.instance (answer.Done ∷ (h.rest ++ answer.Done ∷ [])))
-  piece_leaves p r id h =
-      let last = answered (inside h.instance h.rest) answer.Done in
-      ap (λ (s : PlainState). map.get s.made id) h.is ∙ here p.made id last ∙ ap (λ z. Some z) (sym (answered_more (answered h.instance answer.Done) h.rest (answer.Done ∷ [])))
-
-  -- so a piece touches what it writes
-  pub piece_touches : (p r : PlainState) (id : IntentId) (h : Commits d p id r) → WrittenIn d (answered h.instance answer.Done) h.rest x → TouchedInside d p (Tx id) x
-  piece_touches p r id h written =
-      let q = h.instance in
-      let all = answer.Done ∷ (h.rest ++ answer.Done ∷ []) in
-      record {
-        before = q;
-        was = h.runs.made;
-        state = r;
-        enabled = committed d id p r h;
-        instance = answered_all q all;
-        now = piece_leaves p r id h;
-        touched_it = subst (λ z. TouchedSince d z (length q.answers) x) (sym (answered_is q all))
-            (done_since q all (inr (done_more (answered q answer.Done) h.rest (answer.Done ∷ []) (written_done p.items (answered q answer.Done) h.rest h.items h.runs.leads written))));
-      }
-
-  -- where an entry led from an instance to one with these answers more
-  done_by : (p r : PlainState) (e : Entry) (q : Instance) (rest : List Answer) → map.get p.made (actor e) ≡ Some q → after d p e ≡ Some r → map.get r.made (actor e) ≡ Some (answered_all q rest) → TouchedInside d p e x → DoneOn d q rest x
-  done_by p r e q rest made leads now t =
-      let before : t.before ≡ q = same_some (sym t.was ∙ made) in
-      let last : t.instance ≡ record q { answers = q.answers ++ rest } = same_some (sym t.now ∙ ap (λ (s : PlainState). map.get s.made (actor e)) (same_some (sym t.enabled ∙ leads)) ∙ now) ∙ answered_is q rest in
-      since q rest (subst (λ z. TouchedSince d (record q { answers = q.answers ++ rest }) (length z.answers) x) before (subst (λ z. TouchedSince d z (length t.before.answers) x) last t.touched_it))
-
-  -- a transaction, from its Begin
-  from_begin : (q : Instance) (rest last : List Answer) → effect_of d q ≡ effect.Begin → (DoneOn d (inside q rest) last x → ⊥) → DoneOn d q (answer.Done ∷ (rest ++ last)) x → TouchedIn d (answered q answer.Done) rest x
-  from_begin q rest last begins ends h = elim (done_parts (answered q answer.Done) rest last (none_on q answer.Done (rest ++ last) effect.Begin begins refl h)) [
-    | inl g ↦ done_touched (answered q answer.Done) rest g
-    | inr g ↦ absurd (ends g)
-  ]
-
-  ends_alone : (q : Instance) (c : Bool) → effect_of d q ≡ effect.End c → DoneOn d q (answer.Done ∷ []) x → ⊥
-  ends_alone q c ends h = none_on q answer.Done [] (effect.End c) ends refl h
-
-  falls_alone : (id : IntentId) (q : Instance) (holder : Option IntentId) (e : Effect) (last : List Answer) → effect_of d q ≡ e → falling d id q holder e ≡ Some last → DoneOn d q last x → ⊥
-  falls_alone id q holder e last is h done = by_holder holder e is h
-    where
-      by_death : (o : Option IntentId) → closing d q (aborted id q o) ≡ Some last → ⊥
-      by_death o g =
-          let c = closed (aborted id q o) (effect_of d (answered q (aborted id q o))) last g in
-          ends_alone (answered q (aborted id q o)) false c.0 (not_aborted q (aborted id q o) (answer.Done ∷ []) refl (subst (λ l. DoneOn d q l x) (sym c.1) done))
-
-      by_touched : (u : IntentId) (b : Bool) → (if b then closing d q (aborted id q (Some u)) else None) ≡ Some last → ⊥
-      by_touched u true g = by_death (Some u) g
-      by_touched u false g = cc
-
-      by_holder : (o : Option IntentId) (z : Effect) → effect_of d q ≡ z → falling d id q o z ≡ Some last → ⊥
-      by_holder None effect.Abort so g = by_death None g
-      by_holder None (effect.End false) so g = ends_alone q false so (subst (λ l. DoneOn d q l x) (sym (same_some g)) done)
-      by_holder None (effect.End true) so g = cc
-      by_holder None z so g = cc
-      by_holder (Some u) z so g = by_touched u (is_some (touched z)) g
-
-pub pieces_touch_their_items : PiecesTouchTheirItems
-pieces_touch_their_items = record {
-  commits = λ d p id r h x t.
-      let q = h.instance in
-      from_begin d x q h.rest (answer.Done ∷ []) h.runs.begins (ends_alone d x (inside q h.rest) true h.ends)
-      (done_by d x p r (Tx id) q (answer.Done ∷ (h.rest ++ answer.Done ∷ [])) h.runs.made (committed d id p r h) (piece_leaves d x p r id h) t);
-  aborts = λ d p id place holder r h x t.
-      let q = h.instance in
-      let last = inside q h.rest in
-      from_begin d x q h.rest h.last h.runs.begins (falls_alone d x id last holder (effect_of d last) h.last refl h.falls)
-      (done_by d x p r (Try id place holder) q (answer.Done ∷ (h.rest ++ h.last)) h.runs.made (aborted_so d id place holder p r h)
-      (ap (λ (s : PlainState). map.get s.made id) h.is ∙ here p.made id (answered_all last h.last) ∙ ap (λ z. Some z) (sym (answered_more (answered q answer.Done) h.rest h.last))) t);
-}
+pub moves_read_their_items : MovesReadTheirItems
+moves_read_their_items = record { in_line = λ d t. in_line d t; kept = λ d t. kept d t; others = λ d t. others d t; beside = λ d t. beside d t }

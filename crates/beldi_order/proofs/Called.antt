@@ -1,5 +1,5 @@
 -- An instance and what it called at a step: what the next entry leaves of the two.
-use Rattle.std.proofs.Common.{◌≡◌, ℕ, zero, suc, ◌<◌, ◌≤◌, Bool, false, List, [], ◌∷◌, ◌++◌, length, Option, Some, None, refl, ap, sym, ◌∙◌, subst, ◌⊎◌, inl, inr, true, arith, length-append, is_some}
+use Rattle.std.proofs.Common.{◌≡◌, ℕ, zero, suc, ◌<◌, ◌≤◌, Bool, false, List, [], ◌∷◌, ◌++◌, length, Option, Some, None, refl, ap, sym, ◌∙◌, subst, ◌⊎◌, inl, inr, true, arith, length-append, is_some, take}
 use Rattle.std.specs.Prelude.{slice_get}
 use Rattle.std.specs.FinMap as map
 use Rattle.std.specs.FinMap.{FinMap}
@@ -12,6 +12,7 @@ use Rattle.beldi_value.specs.Id.{id_cmp, id_total, root_of, child_of, has_no_hop
 use Rattle.beldi_value.specs.declared.id.IntentId.{IntentId}
 use Rattle.beldi_value.specs.declared.outcome.Outcome.{Outcome}
 use Rattle.beldi_value.specs.declared.place.Caller.{Caller}
+use Rattle.beldi_value.specs.declared.place.TxId.{TxId}
 use Rattle.beldi_value.specs.declared.value.Value.{Value}
 use Rattle.beldi_value.proofs.Callees.{child_same, no_root}
 use Rattle.beldi_tree.specs.declared.deployment.Deployment.{Deployment}
@@ -21,7 +22,9 @@ use Rattle.beldi_lang.specs.declared.effect.Effect.TheVariants.{Call, Async}
 use Rattle.beldi_lang.specs.Callee.{answer_of}
 use Rattle.beldi_lang.specs.Wants.{wants}
 use Rattle.beldi_plain.specs.Plain.{Instance, new_instance, answered, ended, calls_at, effect_of, effect_before}
-use Rattle.beldi_order.specs.Sane.{IsCalled, call_of, answer_given}
+use Rattle.beldi_order.specs.Sane.{IsCalled, CalledBy, call_of, answer_given, within_by, forgets, forgets_begun, is_forgotten}
+use Rattle.beldi_order.specs.Txs.{tx_at, tx_after, tx_now, txs_after, end_of}
+use Rattle.beldi_order.proofs.Ends.{ends_go_on}
 use Rattle.beldi_order.proofs.Maps.{same_some, made_set, equal, elsewhere, here}
 
 -- ---- ids
@@ -71,34 +74,80 @@ module _ (d : Deployment) (q : Instance) where
   pub effect_past : (a : Answer) (n : ℕ) → n ≤ length q.answers → effect_before d (answered q a) n ≡ effect_before d q n
   effect_past a n h = ap (wants d q.func q.args (is_some q.within)) (take-append-le n q.answers (a ∷ []) h)
 
+  -- .. and so is the transaction that they stand in
+  pub tx_past : (i : IntentId) (a : Answer) (n : ℕ) → n ≤ length q.answers → tx_at d i (answered q a) n ≡ tx_at d i q n
+  tx_past i a n h = ap (tx_after d i q) (take-append-le n q.answers (a ∷ []) h)
+
+  pub tx_here_now : (i : IntentId) → tx_at d i q (length q.answers) ≡ tx_now d i q
+  tx_here_now i = ap (tx_after d i q) (take_all (length q.answers) q.answers (omega arith))
+
+  -- what is forgotten stays so
+  pub forgets_on : (ends more : ℕ → Option (ℕ × Bool)) (o : Option ℕ) → ((b : ℕ) (z : ℕ × Bool) → ends b ≡ Some z → more b ≡ Some z) → forgets_begun ends o ≡ true → forgets_begun more o ≡ true
+  forgets_on ends more None on h = cc
+  forgets_on ends more (Some b) on h = by_end (ends b) refl h
+    where
+      by_end : (o : Option (ℕ × Bool)) → ends b ≡ o → forgets o ≡ true → forgets (more b) ≡ true
+      by_end None is g = cc
+      by_end (Some z) is g = ap forgets (on b z is) ∙ g
+
+  pub forgotten_past : (a : Answer) (n : ℕ) → n ≤ length q.answers → is_forgotten d q n ≡ true → is_forgotten d (answered q a) n ≡ true
+  forgotten_past a n le h = ap (λ ts. forgets_begun (end_of d (answered q a)) (txs_after d q ts).begun) (take-append-le n q.answers (a ∷ []) le)
+      ∙ forgets_on (end_of d q) (end_of d (answered q a)) (txs_after d q (take n q.answers)).begun (λ b z is. ends_go_on d q a b z is) h
+
+-- one that was made in a transaction, or in none
+abbrev pub made_in : Option TxId → ℕ → Value → Option Caller → Instance
+made_in w f v c = record (new_instance f v c) { within = w }
+
 -- ---- the two
 -- nobody waits for it
 abbrev pub IsAlone : Option Caller → Type 0
 IsAlone o = (c : Caller) → o ≡ Some c → c.waits ≡ false
 
 -- what is at an id, and at the id of its callee of step n: what is there was called there, and a call that was answered has
--- its callee
+-- its callee, unless its transaction aborted
 abbrev pub Linked : Deployment → IntentId → Option Instance → ℕ → Option Instance → Type 0
 Linked d i None n o = o ≡ None
-Linked d i (Some q) n None = n < length q.answers → (w : Bool) (f : ℕ) (a : Value) → effect_before d q n ≡ call_of w f a → ⊥
+Linked d i (Some q) n None = n < length q.answers → (w : Bool) (f : ℕ) (a : Value) → effect_before d q n ≡ call_of w f a → is_forgotten d q n ≡ true
 Linked d i (Some q) n (Some j) = IsCalled d i q n j
+
+-- in the words of `Sane`, both ways
+module _ (d : Deployment) (i : IntentId) (n : ℕ) where
+  pub called_of : (j : Instance) (o : Option Instance) → Linked d i o n (Some j) → CalledBy d i o n j
+  called_of j None l = cc
+  called_of j (Some q) l = l
+
+  pub has_callee : (q : Instance) (w : Bool) (f : ℕ) (a : Value) → n < length q.answers → effect_before d q n ≡ call_of w f a → is_forgotten d q n ≡ false → (u : Option Instance) → Linked d i (Some q) n u → is_some u ≡ true
+  has_callee q w f a lt call kept None l = let c = sym kept ∙ l lt w f a call in cc
+  has_callee q w f a lt call kept (Some j) l = refl
+
+  pub linked : (o u : Option Instance) → ((j : Instance) → u ≡ Some j → CalledBy d i o n j)
+      → ((q : Instance) (w : Bool) (f : ℕ) (a : Value) → o ≡ Some q → n < length q.answers → effect_before d q n ≡ call_of w f a → is_forgotten d q n ≡ false → is_some u ≡ true) → Linked d i o n u
+  linked None None called callees = refl
+  linked None (Some j) called callees = absurd (called j refl)
+  linked (Some q) None called callees = λ lt w f a call. by_test lt w f a call (is_forgotten d q n) refl
+    where
+      by_test : n < length q.answers → (w : Bool) (f : ℕ) (a : Value) → effect_before d q n ≡ call_of w f a → (b : Bool) → is_forgotten d q n ≡ b → b ≡ true
+      by_test lt w f a call true so = refl
+      by_test lt w f a call false so = let c = callees q w f a refl lt call so in cc
+  linked (Some q) (Some j) called callees = called j refl
 
 module _ (d : Deployment) (i : IntentId) where
   -- no caller, and then a new one
-  pub caller_new : (n f : ℕ) (v : Value) (c : Option Caller) (o : Option Instance) → Linked d i None n o → Linked d i (Some (new_instance f v c)) n o
-  caller_new n f v c o h = subst (Linked d i (Some (new_instance f v c)) n) (sym h) (λ lt w g a is. absurd (omega (arith, lt)))
+  pub caller_new : (n : ℕ) (w : Option TxId) (f : ℕ) (v : Value) (c : Option Caller) (o : Option Instance) → Linked d i None n o → Linked d i (Some (made_in w f v c)) n o
+  caller_new n u f v c o h = subst (Linked d i (Some (made_in u f v c)) n) (sym h) (λ lt w g a is. absurd (omega (arith, lt)))
 
   -- the caller was answered, but not at this step unless it stands at no call there
   pub caller_answered : (q : Instance) (a : Answer) (n : ℕ) (o : Option Instance) → (n ≡ length q.answers → (w : Bool) (f : ℕ) (v : Value) → effect_of d q ≡ call_of w f v → ⊥) → Linked d i (Some q) n o → Linked d i (Some (answered q a)) n o
   caller_answered q a n None other h = λ lt w f v is. elim (longer_cases q.answers a n lt) [
-    | inl e ↦ other e w f v (sym (effect_now d q) ∙ ap (effect_before d q) (sym e) ∙ sym (effect_past d q a n (omega (arith, e))) ∙ is)
-    | inr l ↦ h l w f v (sym (effect_past d q a n (omega (arith, l))) ∙ is)
+    | inl e ↦ absurd (other e w f v (sym (effect_now d q) ∙ ap (effect_before d q) (sym e) ∙ sym (effect_past d q a n (omega (arith, e))) ∙ is))
+    | inr l ↦ forgotten_past d q a n (omega (arith, l)) (h l w f v (sym (effect_past d q a n (omega (arith, l))) ∙ is))
   ]
   caller_answered q a n (Some j) other h = record {
     waits = h.waits;
     here = let l = length-append q.answers (a ∷ []) in let k = h.here in omega (arith, l, k);
     call = effect_past d q a n h.here ∙ h.call;
     from = h.from;
+    within = h.within ∙ ap (within_by h.waits) (sym (tx_past d q i a n h.here));
     answered = get_front q.answers a n (elim (eq-or-lt_of_le h.here) [
       | inl e ↦ absurd (other e h.waits j.func j.args (sym (effect_now d q) ∙ ap (effect_before d q) (sym e) ∙ h.call))
       | inr l ↦ l
@@ -108,23 +157,23 @@ module _ (d : Deployment) (i : IntentId) where
   -- the caller ended
   pub caller_ended : (q : Instance) (u : Outcome) (n : ℕ) (o : Option Instance) → Linked d i (Some q) n o → Linked d i (Some (ended q u)) n o
   caller_ended q u n None h = h
-  caller_ended q u n (Some j) h = record { waits = h.waits; here = h.here; call = h.call; from = h.from; answered = h.answered }
+  caller_ended q u n (Some j) h = record { waits = h.waits; here = h.here; call = h.call; from = h.from; within = h.within; answered = h.answered }
 
   -- the callee was answered
   pub callee_answered : (o : Option Instance) (n : ℕ) (j : Instance) (a : Answer) → Linked d i o n (Some j) → Linked d i o n (Some (answered j a))
   callee_answered None n j a h = cc
-  callee_answered (Some q) n j a h = record { waits = h.waits; here = h.here; call = h.call; from = h.from; answered = h.answered }
+  callee_answered (Some q) n j a h = record { waits = h.waits; here = h.here; call = h.call; from = h.from; within = h.within; answered = h.answered }
 
   -- the callee ended, and nobody waited for it
   pub callee_over : (o : Option Instance) (n : ℕ) (j : Instance) (u : Outcome) → IsAlone j.from → Linked d i o n (Some j) → Linked d i o n (Some (ended j u))
   callee_over None n j u alone h = cc
   callee_over (Some q) n j u alone h =
       let unwaited = alone (record { place = record { intent = i; step = n }; func = q.func; waits = h.waits }) h.from in
-      record { waits = h.waits; here = h.here; call = h.call; from = h.from; answered = h.answered ∙ ap (λ b. answer_given b j.outcome) unwaited ∙ sym (ap (λ b. answer_given b (Some u)) unwaited) }
+      record { waits = h.waits; here = h.here; call = h.call; from = h.from; within = h.within; answered = h.answered ∙ ap (λ b. answer_given b j.outcome) unwaited ∙ sym (ap (λ b. answer_given b (Some u)) unwaited) }
 
   -- a call, and its return
-  pub callee_new : (q : Instance) (f : ℕ) (v : Value) → effect_of d q ≡ Call f v → IsCalled d i q (length q.answers) (new_instance f v (Some (calls_at i q true)))
-  callee_new q f v is = record { waits = true; here = omega arith; call = effect_now d q ∙ is; from = refl; answered = slice_get_past q.answers (length q.answers) (omega arith) }
+  pub callee_new : (q : Instance) (w : Option TxId) (f : ℕ) (v : Value) → effect_of d q ≡ Call f v → w ≡ tx_now d i q → IsCalled d i q (length q.answers) (made_in w f v (Some (calls_at i q true)))
+  callee_new q w f v is in_it = record { waits = true; here = omega arith; call = effect_now d q ∙ is; from = refl; within = in_it ∙ sym (tx_here_now d q i); answered = slice_get_past q.answers (length q.answers) (omega arith) }
 
   -- the caller was answered at its call
   at_call : (q : Instance) (a : Answer) → length q.answers ≤ length (answered q a).answers
@@ -136,6 +185,7 @@ module _ (d : Deployment) (i : IntentId) where
     here = at_call q (answer_of u);
     call = effect_past d q (answer_of u) (length q.answers) h.here ∙ h.call;
     from = h.from;
+    within = h.within ∙ ap (within_by h.waits) (sym (tx_past d q i (answer_of u) (length q.answers) h.here));
     answered = get_last q.answers (answer_of u) ∙ sym (ap (λ (c : Caller). answer_given c.waits (Some u)) (same_some (sym h.from ∙ waited)));
   }
 
@@ -146,6 +196,7 @@ module _ (d : Deployment) (i : IntentId) where
     here = at_call q Done;
     call = effect_past d q Done (length q.answers) (omega arith) ∙ effect_now d q ∙ is;
     from = refl;
+    within = refl;
     answered = get_last q.answers Done;
   }
 

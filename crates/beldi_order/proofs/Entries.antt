@@ -7,6 +7,8 @@ use Rattle.beldi_value.specs.Id.{root_of, has_callees, id_cmp}
 use Rattle.beldi_value.specs.declared.id.IntentId.{IntentId}
 use Rattle.beldi_value.specs.declared.outcome.Outcome.{Outcome}
 use Rattle.beldi_value.specs.declared.place.Caller.{Caller}
+use Rattle.beldi_value.specs.declared.place.Place.{Place}
+use Rattle.beldi_value.specs.declared.place.TxId.{TxId}
 use Rattle.beldi_value.specs.declared.value.Value.{Value}
 use Rattle.beldi_tree.specs.declared.deployment.Deployment.{Deployment}
 use Rattle.beldi_lang.specs.declared.effect.Answer.{Answer}
@@ -17,9 +19,13 @@ use Rattle.beldi_lang.specs.Callee.{answer_of}
 use Rattle.beldi_book.specs.declared.entry.Entry.{Entry}
 use Rattle.beldi_book.specs.declared.entry.Entry.TheVariants.{Start, Read, Step, Tx, Try}
 use Rattle.beldi_order.specs.Grown.{Grown, GrownAt, Grows}
-use Rattle.beldi_order.specs.Inside.{Commits, Aborts, answered_all, inside}
-use Rattle.beldi_order.proofs.Maps.{same_some, made_set, still_made}
-use Rattle.beldi_order.proofs.Pieces.{can_step_is, steps_so, commits, aborts, Whole, whole_piece, whole_try}
+use Rattle.beldi_order.specs.Inside.{InLine}
+use Rattle.beldi_plain.specs.Moves.{Move, moved, Leads, Commits, Aborts}
+use Rattle.beldi_plain.specs.Piece.{Going, tx_begun, opened, new_member}
+use Rattle.beldi_order.proofs.Line.{all_moves, line_opened, last_of, line_moved, returned, shorter, not_longer}
+use Rattle.beldi_order.proofs.Maps.{same_some, made_set, still_made, elsewhere}
+use Rattle.beldi_order.proofs.Moved.{MoveIs, answers, calls, returns, move_is, mover}
+use Rattle.beldi_order.proofs.Pieces.{can_step_is, steps_so, commits, aborts}
 use Rattle.beldi_plain.specs.Plain.{Instance, PlainState, new_instance, start, can_step, if_read, if_change, step_by, operated, with_instance, answered, ended, give, answer_caller, callee_of, calls_at, effect_of, kind_of, waits_at, is_waiting, item_of, value_at}
 use Rattle.beldi_plain.specs.Entries.{after}
 use Rattle.beldi_plain.specs.Legal.{run_from}
@@ -36,19 +42,6 @@ run_append d p (e ∷ es) fs = by_option (after d p e) (λ q. run_append d q es 
         → option_and_then (λ q. run_from d q (es ++ fs)) o ≡ option_and_then (λ r. run_from d r fs) (option_and_then (λ q. run_from d q es) o)
     by_option None h = refl
     by_option (Some q) h = h q
-
--- a run of two parts has a state between them
-pub record Halves (d : Deployment) (p q : PlainState) (es fs : List Entry) : Type 0 where
-  pub state : PlainState
-  pub first : run_from d p es ≡ Some state
-  pub second : run_from d state fs ≡ Some q
-
-pub halves : (d : Deployment) (p q : PlainState) (es fs : List Entry) → run_from d p (es ++ fs) ≡ Some q → Halves d p q es fs
-halves d p q es fs h = by_option (run_from d p es) refl (sym (run_append d p es fs) ∙ h)
-  where
-    by_option : (o : Option PlainState) → run_from d p es ≡ o → option_and_then (λ r. run_from d r fs) o ≡ Some q → Halves d p q es fs
-    by_option None is h = cc
-    by_option (Some r) is h = record { state = r; first = is; second = h }
 
 pub runs_on : (d : Deployment) (p q : PlainState) (es fs : List Entry) → run_from d p es ≡ Some q → run_from d p (es ++ fs) ≡ run_from d q fs
 runs_on d p q es fs h = run_append d p es fs ∙ ap (option_and_then (λ r. run_from d r fs)) h
@@ -128,18 +121,11 @@ read_is id (effect.Call f a) h = absurd (no_call (has_callees id) h)
 read_is id (effect.Async f a) h = absurd (no_call (has_callees id) h)
 read_is id e h = cc
 
--- an instance at a read, an operation or a return waits for nobody
-module _ (made : FinMap id_cmp Instance) (id : IntentId) (q : Instance) where
-  pub free_at_read : (e : Effect) → kind_of id e ≡ kinds.Read → waits_at made id q e ≡ false
-  free_at_read e h = ap (waits_at made id q) (read_is id e h).2
-
-  pub free_at_operation : (e : Effect) (o : OnItem) → op_of e ≡ Some o → waits_at made id q e ≡ false
-  free_at_operation (effect.Call f a) o h = cc
-  free_at_operation (effect.Async f a) o h = cc
-  free_at_operation e o h = refl
-
-  pub free_at_return : (e : Effect) (o : Outcome) → e ≡ effect.Return o → waits_at made id q e ≡ false
-  free_at_return e o h = ap (waits_at made id q) h
+-- an instance at an operation waits for nobody
+pub free_at_operation : (made : FinMap id_cmp Instance) (id : IntentId) (q : Instance) (e : Effect) (o : OnItem) → op_of e ≡ Some o → waits_at made id q e ≡ false
+free_at_operation made id q (effect.Call f a) o h = cc
+free_at_operation made id q (effect.Async f a) o h = cc
+free_at_operation made id q e o h = refl
 
 module _ (d : Deployment) (p : PlainState) (id : IntentId) (i : Instance) (is : map.get p.made id ≡ Some i) (none : i.outcome ≡ None) (free : is_waiting d p id i ≡ false) where
   enabled : (enter : Kind → PlainState → Option PlainState) (k : Kind) → kind_of id (effect_of d i) ≡ k → can_step (map.get p.made id) (is_waiting d p id) (λ j. enter (kind_of id (effect_of d j)) (step_by p id j (effect_of d j))) ≡ enter k (step_by p id i (effect_of d i))
@@ -237,22 +223,59 @@ stepped_grows d p id b q s = subst (λ (r : PlainState). Grows p.made r.made) s.
 started_grows : (p : PlainState) (t f : ℕ) (a : Value) (q : PlainState) → Started p t f a q → Grows p.made q.made
 started_grows p t f a q s = subst (λ (r : PlainState). Grows p.made r.made) s.leads (grows_new p.made (root_of t) (new_instance f a None) s.absent)
 
-grown_all : (i : Instance) (rest : List Answer) → GrownAt (Some i) (Some (answered_all i rest))
-grown_all i [] = grown_self (Some i)
-grown_all i (a ∷ rest) = grown_on (Some i) (Some (answered i a)) (Some (answered_all (answered i a) rest)) (grown_answer i a) (grown_all (answered i a) rest)
+-- ---- in a transaction too
+move_grows : (d : Deployment) (t : TxId) (m : Move) (s r : Going) → InLine d t s → moved d t m s ≡ Some r → Grows s.state.made r.state.made
+move_grows d t m s r line h = let q = mover d t m s r h in by_kind q.0 q.1 (move_is d t m s q.0 r q.1 h)
+  where
+    by_kind : (q : Instance) → map.get s.state.made s.front ≡ Some q → MoveIs d t m s r q → Grows s.state.made r.state.made
+    by_kind q made (answers a) = subst (λ (z : Going). Grows s.state.made z.state.made) (sym a.is) (grows_at s.state.made s.front q (answered q a.answer) made (grown_answer q a.answer))
+    by_kind q made (calls c) = subst (λ (z : Going). Grows s.state.made z.state.made) (sym c.is) (grows_new s.state.made (callee_of s.front q) (new_member t c.func c.args (calls_at s.front q true)) c.gone)
+    by_kind q made (returns e) =
+        let w = returned d t m s r q made line e in
+        let over = map.insert s.state.made s.front (ended q e.outcome) in
+        let y = w.member.waiter in
+        let l = last_of d t s.state.made s.front line in
+        let none : q.outcome ≡ None = ap (λ (z : Instance). z.outcome) (same_some (sym made ∙ l.1)) ∙ l.2 in
+        let there : map.get over w.caller ≡ Some y = elsewhere s.state.made s.front w.caller (ended q e.outcome) (λ g. not_longer w.caller s.front (shorter d t s.state.made w.caller s.front w.member) g) ∙ w.member.waits in
+        subst (λ (z : Going). Grows s.state.made z.state.made) (sym w.is)
+        (grows_through s.state.made over (map.insert over w.caller (answered y (answer_of e.outcome))) (grows_at s.state.made s.front q (ended q e.outcome) made (grown_end q e.outcome none))
+        (grows_at over w.caller y (answered y (answer_of e.outcome)) there (grown_answer y (answer_of e.outcome))))
 
-whole_grows : (d : Deployment) (p : PlainState) (id : IntentId) (r : PlainState) → Whole d p id r → Grows p.made r.made
-whole_grows d p id r w =
-    let last = inside w.instance w.rest in
-    subst (λ (s : PlainState). Grows p.made s.made) (sym w.is) (grows_at p.made id w.instance (answered last answer.Done) w.made
-    (grown_on (Some w.instance) (Some last) (Some (answered last answer.Done)) (grown_all w.instance (answer.Done ∷ w.rest)) (grown_answer last answer.Done)))
+pub moves_grow : (d : Deployment) (t : TxId) (s : Going) (moves : List Move) (l : Going) → InLine d t s → Leads d t s moves l → Grows s.state.made l.state.made
+moves_grow d t s [] l line leads = subst (λ (z : Going). Grows s.state.made z.state.made) leads (grows_self s.state.made)
+moves_grow d t s (m ∷ ms) l line leads = grows_through s.state.made leads.0.state.made l.state.made (move_grows d t m s leads.0 line leads.1) (moves_grow d t leads.0 ms l (line_moved d t m s leads.0 line leads.1) leads.2)
+
+-- from a Begin
+pub opened_grows : (d : Deployment) (p : PlainState) (id : IntentId) (q : Instance) (moves : List Move) (l : Going) → map.get p.made id ≡ Some q → q.outcome ≡ None → Leads d (tx_begun id q) (opened p id q) moves l → Grows p.made l.state.made
+opened_grows d p id q moves l made none leads =
+    grows_through p.made (map.insert p.made id (answered q answer.Done)) l.state.made (grows_at p.made id q (answered q answer.Done) made (grown_answer q answer.Done))
+    (moves_grow d (tx_begun id q) (opened p id q) moves l (line_opened d p id q none) leads)
+
+piece_grows : (d : Deployment) (p : PlainState) (id : IntentId) (r : PlainState) → Commits d p id r → Grows p.made r.made
+piece_grows d p id r h =
+    let z = h.ends.stands.instance in
+    let there : map.get h.last.state.made id ≡ Some z = ap (map.get h.last.state.made) (sym h.ends.owner) ∙ h.ends.stands.made in
+    subst (λ (s : PlainState). Grows p.made s.made) (sym h.is) (grows_through p.made h.last.state.made (map.insert h.last.state.made id (answered z answer.Done))
+    (opened_grows d p id h.instance h.moves h.last h.runs.made h.runs.open_still h.runs.leads) (grows_at h.last.state.made id z (answered z answer.Done) there (grown_answer z answer.Done)))
+
+-- all moves of a try
+pub try_leads : (d : Deployment) (p : PlainState) (id : IntentId) (place : Place) (holder : Option IntentId) (r : PlainState) (h : Aborts d p id place holder r) → Leads d (tx_begun id h.instance) (opened p id h.instance) (h.before ++ h.since) h.last
+try_leads d p id place holder r h = all_moves d (tx_begun id h.instance) (opened p id h.instance) h.there h.last h.before h.since h.runs.leads h.leads
+
+try_grows : (d : Deployment) (p : PlainState) (id : IntentId) (place : Place) (holder : Option IntentId) (r : PlainState) → Aborts d p id place holder r → Grows p.made r.made
+try_grows d p id place holder r h =
+    let z = h.ends.stands.instance in
+    let there : map.get h.last.state.made id ≡ Some z = ap (map.get h.last.state.made) (sym h.ends.owner) ∙ h.ends.stands.made in
+    let grows = opened_grows d p id h.instance (h.before ++ h.since) h.last h.runs.made h.runs.open_still (try_leads d p id place holder r h) in
+    subst (λ (s : PlainState). Grows p.made s.made) (sym h.is) (grows_set p.made id (answered z answer.Done)
+    (grown_on (map.get p.made id) (Some z) (Some (answered z answer.Done)) (subst (λ o. GrownAt (map.get p.made id) o) there (grows id)) (grown_answer z answer.Done)))
 
 did_grows : (d : Deployment) (p : PlainState) (e : Entry) (q : PlainState) → Did d p e q → Grows p.made q.made
 did_grows d p (Start t f a) q s = started_grows p t f a q s
 did_grows d p (Read id k) q s = stepped_grows d p id kinds.Read q s
 did_grows d p (Step id) q s = stepped_grows d p id kinds.Change q s
-did_grows d p (Tx id) q s = whole_grows d p id q (whole_piece d p id q s)
-did_grows d p (Try id place holder) q s = whole_grows d p id q (whole_try d p id place holder q s)
+did_grows d p (Tx id) q s = piece_grows d p id q s
+did_grows d p (Try id place holder) q s = try_grows d p id place holder q s
 
 pub after_grows : (d : Deployment) (p : PlainState) (e : Entry) (q : PlainState) → after d p e ≡ Some q → Grows p.made q.made
 after_grows d p e q h = did_grows d p e q (did d p e q h)

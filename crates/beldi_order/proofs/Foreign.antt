@@ -1,9 +1,12 @@
 -- An entry of another leaves an instance that stands at its Begin, and the items that the entry does not touch.
-use Rattle.std.proofs.Common.{◌≡◌, inl, inr, true, false, Option, None, Some, refl, ap, sym, ◌∙◌}
+use Rattle.std.proofs.Common.{◌≡◌, inl, inr, ◌<◌, ℕ, true, false, cond, List, [], ◌∷◌, ◌++◌, length, Option, None, Some, refl, ap, sym, ◌∙◌, subst, append-nil, append_assoc, arith}
 use Rattle.std.specs.Option.{option_map}
 use Rattle.std.specs.FinMap as map
-use Rattle.beldi_value.specs.Id.{root_of}
+use Rattle.std.specs.FinMap.{FinMap, get-insert}
+use Rattle.std.specs.Ordering.{is_eq}
+use Rattle.beldi_value.specs.Id.{root_of, child_of, id_cmp, id_total}
 use Rattle.beldi_value.specs.declared.id.IntentId.{IntentId}
+use Rattle.beldi_value.specs.declared.place.Place.{Place}
 use Rattle.beldi_tree.specs.declared.deployment.Deployment.{Deployment}
 use Rattle.beldi_lang.specs.declared.effect.Answer.TheVariants as answer
 use Rattle.beldi_lang.specs.declared.effect.Effect.{Effect}
@@ -14,20 +17,45 @@ use Rattle.beldi_book.specs.declared.entry.Entry.TheVariants.{Start, Read, Step,
 use Rattle.beldi_plain.specs.Entries.{after}
 use Rattle.beldi_plain.specs.Guard.{actor, touched_by, item_touched}
 use Rattle.beldi_plain.specs.Item.{Item}
+use Rattle.beldi_plain.specs.Moves.{Commits, Aborts}
 use Rattle.beldi_plain.specs.Operation.{OnItem, op_of, item_in, answer_after}
+use Rattle.beldi_plain.specs.Piece.{opened, tx_begun}
 use Rattle.beldi_plain.specs.Plain.{Instance, PlainState, new_instance, answered, ended, with_instance, calls_at, callee_of, waits_at, effect_of, item_of, operated, step_by, value_at}
 use Rattle.beldi_plain.specs.declared.kind.Kind.{Kind}
 use Rattle.beldi_plain.specs.declared.kind.Kind.TheVariants as kinds
-use Rattle.beldi_order.specs.Inside.{inside, EntriesTouchWhatTheyChange, OthersLeaveTransactions}
-use Rattle.beldi_order.specs.Sane.{Sane}
-use Rattle.beldi_order.proofs.Beside.{kept_by, kept, beside, piece_touches}
+use Rattle.beldi_order.specs.Inside.{IsBelow, IsIn, EntriesTouchWhatTheyChange, OthersLeaveTransactions}
+use Rattle.beldi_order.proofs.Beside.{kept_by, kept, others, beside}
+use Rattle.beldi_order.proofs.Called.{Linked}
 use Rattle.beldi_order.proofs.Entries.{did, Stepped, absent, answer_keeps}
+use Rattle.beldi_order.proofs.Line.{line_opened}
 use Rattle.beldi_order.proofs.Maps.{same_some, still_made, elsewhere}
-use Rattle.beldi_order.proofs.Pieces.{Whole, whole_piece, whole_try}
-use Rattle.beldi_order.proofs.Sanes.{waited, answers_nobody, answers_waiter}
+use Rattle.beldi_order.proofs.Sanes.{SaneWith, waited_in}
+use Rattle.beldi_order.proofs.Sound.{sane_with, after_sane, answers_nobody, answers_waiter}
+use Rattle.beldi_order.proofs.Touched.{written_touched}
+
+-- ---- who is below an instance at a step that it has not come to was not made
+module _ (d : Deployment) (f : FinMap id_cmp Instance) (h : SaneWith d None f) where
+  pub no_callees : (i : IntentId) → map.get f i ≡ None → (n : ℕ) → map.get f (child_of i n) ≡ None
+  no_callees i is n = subst (λ o. Linked d i o n (map.get f (child_of i n))) is (h.links i n)
+
+  pub no_later : (i : IntentId) (q : Instance) (n : ℕ) → map.get f i ≡ Some q → length q.answers < n → map.get f (child_of i n) ≡ None
+  no_later i q n is lt = by_callee (map.get f (child_of i n)) (subst (λ o. Linked d i o n (map.get f (child_of i n))) is (h.links i n))
+    where
+      by_callee : (o : Option Instance) → Linked d i (Some q) n o → o ≡ None
+      by_callee None l = refl
+      by_callee (Some j) l = let k = l.here in absurd (omega (arith, lt, k))
+
+  none_from : (i : IntentId) (hops : List ℕ) → map.get f i ≡ None → map.get f (record { ticket = i.ticket; hops = i.hops ++ hops }) ≡ None
+  none_from i [] is = ap (λ hs. map.get f (record { ticket = i.ticket; hops = hs })) (append-nil i.hops) ∙ is
+  none_from i (n ∷ hops) is = ap (λ hs. map.get f (record { ticket = i.ticket; hops = hs })) (sym (append_assoc i.hops (n ∷ []) hops)) ∙ none_from (child_of i n) hops (no_callees i is n)
+
+  pub none_below : (id : IntentId) (q : Instance) (i : IntentId) → map.get f id ≡ Some q → IsBelow (tx_begun id q) i → map.get f i ≡ None
+  none_below id q i is b =
+      ap (map.get f) (b.is ∙ ap (λ hs. record { ticket = id.ticket; hops = hs }) (sym (append_assoc id.hops (b.step ∷ []) b.hops)))
+      ∙ none_from (child_of id b.step) b.hops (no_later id q b.step is b.later)
 
 -- ---- the instance
-module _ (d : Deployment) (p : PlainState) (sane : Sane d p) (id : IntentId) (q : Instance) (is : map.get p.made id ≡ Some q) (begins : effect_of d q ≡ effect.Begin) where
+module _ (d : Deployment) (p : PlainState) (sane : SaneWith d None p.made) (id : IntentId) (q : Instance) (is : map.get p.made id ≡ Some q) (begins : effect_of d q ≡ effect.Begin) where
   module _ (j : IntentId) (y : Instance) (made : map.get p.made j ≡ Some y) (apart : j ≡ id → ⊥) where
     set_stays : (s : Instance) → map.get (map.insert p.made j s) id ≡ Some q
     set_stays s = elsewhere p.made j id s apart ∙ is
@@ -41,8 +69,8 @@ module _ (d : Deployment) (p : PlainState) (sane : Sane d p) (id : IntentId) (q 
     step_stays (effect.Async f v) none free =
         let s = new_instance f v (Some (calls_at j y false)) in
         elsewhere (map.insert p.made (callee_of j y) s) j id (answered y answer.Done) apart ∙ called_stays s (absent (map.get p.made (callee_of j y)) free)
-    step_stays (effect.Return o) none free = elim (waited d p j y sane made none) [
-      | inl alone ↦ ap (λ (r : PlainState). map.get r.made id) (answers_nobody (with_instance p j (ended y o)) y.from o alone) ∙ set_stays (ended y o)
+    step_stays (effect.Return o) none free = elim (waited_in d None p.made sane j y made none) [
+      | inl alone ↦ ap (λ (r : PlainState). map.get r.made id) (answers_nobody (with_instance p j (ended y o)) y.from o alone.alone) ∙ set_stays (ended y o)
       | inr w ↦
           let other : w.caller ≡ id → ⊥ = λ same.
           let here : w.waiter ≡ q = same_some (sym w.made ∙ ap (map.get p.made) same ∙ is) in
@@ -55,8 +83,21 @@ module _ (d : Deployment) (p : PlainState) (sane : Sane d p) (id : IntentId) (q 
         by_op None = is
         by_op (Some o) = set_stays (answered y (answer_after o.does (value_at p (item_in y.func o))))
 
-  whole_stays : (j : IntentId) (r : PlainState) → Whole d p j r → (j ≡ id → ⊥) → map.get r.made id ≡ Some q
-  whole_stays j r w apart = ap (λ (s : PlainState). map.get s.made id) w.is ∙ elsewhere p.made j id (answered (inside w.instance w.rest) answer.Done) apart ∙ is
+    -- it is in no transaction of another
+    out_of : IsIn (tx_begun j y) id → ⊥
+    out_of (inl own) = apart (sym own)
+    out_of (inr b) = let c = sym is ∙ none_below d p.made sane j y id made b in cc
+
+  piece_stays : (j : IntentId) (r : PlainState) → Commits d p j r → (j ≡ id → ⊥) → map.get r.made id ≡ Some q
+  piece_stays j r c apart =
+      let y = c.instance in
+      let t = tx_begun j y in
+      ap (λ (s : PlainState). map.get s.made id) c.is ∙ elsewhere c.last.state.made j id (answered c.ends.stands.instance answer.Done) apart
+      ∙ others d t (opened p j y) c.moves c.last (line_opened d p j y c.runs.open_still) c.runs.leads id (out_of j y c.runs.made apart)
+      ∙ elsewhere p.made j id (answered y answer.Done) apart ∙ is
+
+  try_stays : (j : IntentId) (place : Place) (holder : Option IntentId) (r : PlainState) → Aborts d p j place holder r → (j ≡ id → ⊥) → map.get r.made id ≡ Some q
+  try_stays j place holder r c apart = ap (λ (s : PlainState). map.get s.made id) c.is ∙ elsewhere p.made j id (answered c.ends.stands.instance answer.Done) apart ∙ is
 
   stepped_stays : (j : IntentId) (k : Kind) (r : PlainState) → Stepped d p j k r → (j ≡ id → ⊥) → map.get r.made id ≡ Some q
   stepped_stays j k r s apart = ap (λ (z : PlainState). map.get z.made id) (sym s.leads) ∙ step_stays j s.instance s.made apart (effect_of d s.instance) s.open_still s.free
@@ -65,8 +106,8 @@ module _ (d : Deployment) (p : PlainState) (sane : Sane d p) (id : IntentId) (q 
   stays (Start t f v) r h apart = let s = did d p (Start t f v) r h in ap (λ (z : PlainState). map.get z.made id) (sym s.leads) ∙ still_made p.made (root_of t) id (new_instance f v None) q s.absent is
   stays (Read j seen) r h apart = stepped_stays j kinds.Read r (did d p (Read j seen) r h) apart
   stays (Step j) r h apart = stepped_stays j kinds.Change r (did d p (Step j) r h) apart
-  stays (Tx j) r h apart = whole_stays j r (whole_piece d p j r (did d p (Tx j) r h)) apart
-  stays (Try j place holder) r h apart = whole_stays j r (whole_try d p j place holder r (did d p (Try j place holder) r h)) apart
+  stays (Tx j) r h apart = piece_stays j r (did d p (Tx j) r h) apart
+  stays (Try j place holder) r h apart = try_stays j place holder r (did d p (Try j place holder) r h) apart
 
 -- ---- the items
 module _ (d : Deployment) (p : PlainState) (x : Item) where
@@ -89,16 +130,30 @@ entries_touch d p r (Start t f v) h x never = ap (λ (z : PlainState). map.get z
 entries_touch d p r (Read j seen) h x never = stepped_keeps d p x j kinds.Read r (did d p (Read j seen) r h) never
 entries_touch d p r (Step j) h x never = stepped_keeps d p x j kinds.Change r (did d p (Step j) r h) never
 entries_touch d p r (Tx j) h x never =
-    let s = did d p (Tx j) r h in
-    ap (λ (z : PlainState). map.get z.items x) s.is ∙ kept d p.items (answered s.instance answer.Done) s.rest s.items s.runs.leads x (λ w. never (piece_touches d x p r j s w))
+    let c = did d p (Tx j) r h in
+    let t = tx_begun j c.instance in
+    let s = opened p j c.instance in
+    ap (λ (z : PlainState). map.get z.items x) c.is
+    ∙ kept d t s c.moves c.last (line_opened d p j c.instance c.runs.open_still) c.runs.leads x (λ w. never (record { state = r; piece = c; touched_it = written_touched d t s c.moves c.last x c.runs.leads w }))
 entries_touch d p r (Try j place holder) h x never = ap (λ (z : PlainState). map.get z.items x) (did d p (Try j place holder) r h).is
 
 -- ---- a transaction that runs
 pub others_leave : OthersLeaveTransactions
-others_leave d p r e id q rest n sane runs h apart agree =
-    let b = beside d p.items r.items (answered q answer.Done) rest n runs.leads agree in
+others_leave d p r e id q moves s sane runs h apart agree =
+    let t = tx_begun id q in
+    let now = stays d p (sane_with d p sane) id q runs.made runs.begins e r h apart in
+    let after_it = sane_with d r (after_sane d p e r h sane) in
+    let b = beside d t (opened p id q) (opened r id q) moves s (line_opened d p id q runs.open_still) runs.leads (record { front = refl; members = λ i in_it. members i in_it now after_it }) agree in
     record {
-      items = b.items;
-      runs = record { made = stays d p sane id q runs.made runs.begins e r h apart; open_still = runs.open_still; begins = runs.begins; leads = b.leads; few = runs.few };
-      same = λ x t. b.same x (agree x t);
+      going = b.going;
+      runs = record { made = now; open_still = runs.open_still; begins = runs.begins; leads = b.leads };
+      alike = b.alike;
+      same = b.same;
     }
+  where
+    set_alike : (i : IntentId) → map.get r.made i ≡ map.get p.made i → map.get (opened r id q).state.made i ≡ map.get (opened p id q).state.made i
+    set_alike i same = get-insert id_total r.made id (answered q answer.Done) i ∙ ap (cond (is_eq (id_cmp i id)) (Some (answered q answer.Done))) same ∙ sym (get-insert id_total p.made id (answered q answer.Done) i)
+
+    members : (i : IntentId) → IsIn (tx_begun id q) i → map.get r.made id ≡ Some q → SaneWith d None r.made → map.get (opened r id q).state.made i ≡ map.get (opened p id q).state.made i
+    members i (inl own) now good = set_alike i (ap (map.get r.made) own ∙ now ∙ sym runs.made ∙ ap (map.get p.made) (sym own))
+    members i (inr b) now good = set_alike i (none_below d r.made good id q i now b ∙ sym (none_below d p.made (sane_with d p sane) id q i runs.made b))

@@ -1,5 +1,5 @@
 -- A legal book grows by a change at its end, or by a read that belongs earlier.
-use Rattle.std.proofs.Common.{◌≡◌, ℕ, ◌+◌, ◌≤◌, List, [], ◌∷◌, ◌++◌, length, Some, refl, ap, sym, ◌∙◌, subst, arith}
+use Rattle.std.proofs.Common.{◌≡◌, ℕ, ◌+◌, ◌≤◌, List, [], ◌∷◌, ◌++◌, length, None, Some, refl, ap, sym, ◌∙◌, subst, arith}
 use Rattle.std.specs.FinMap as map
 use Rattle.beldi_value.specs.declared.id.IntentId.{IntentId}
 use Rattle.beldi_value.specs.declared.value.Value.{Value}
@@ -19,6 +19,8 @@ use Rattle.beldi_order.proofs.Entries.{runs_on, one_more, run_grows, enabled_rea
 use Rattle.beldi_order.proofs.Maps.{same_some}
 use Rattle.beldi_order.proofs.Guard.{guarded_parts, guarded_first, guarded_second, past, same_holds}
 use Rattle.beldi_order.proofs.Late.{StandsAtRead, unmoved, put_late}
+use Rattle.beldi_order.proofs.Sanes.{SaneWith}
+use Rattle.beldi_order.proofs.Sound.{sane_with, run_is_sane}
 use Rattle.beldi_order.specs.Grown.{GrownAt}
 
 from_zero : (n : ℕ) → n ≡ 0 + n
@@ -38,6 +40,9 @@ change_last d book p e q h =
     }
 
 module _ (d : Deployment) (book : List Entry) (p : PlainState) (id : IntentId) (s : ℕ) (a : Instance) (v : Value) (h : BelongsEarlier d book p id s a v) where
+  good : SaneWith d None h.state.made
+  good = sane_with d h.state (run_is_sane d (front s (linear book)) h.state h.is_state)
+
   -- the instance has not moved in any state between
   there : (fs gs : List Entry) (r : PlainState) → run_from d h.state fs ≡ Some r → run_from d r gs ≡ Some p → map.get r.made id ≡ Some a
   there fs gs r to from =
@@ -46,7 +51,7 @@ module _ (d : Deployment) (book : List Entry) (p : PlainState) (id : IntentId) (
       (subst (λ o. GrownAt (map.get r.made id) o) h.has_not_moved (run_grows d r gs p from id))
 
   put : (fs : List Entry) (r : PlainState) → run_from d h.state fs ≡ Some r → map.get r.made id ≡ Some a → run_from d nothing (front s (linear book) ++ Read id s ∷ fs) ≡ Some (with_answer r id a v)
-  put fs r to stays = put_late d nothing h.state r (front s (linear book)) fs id s a h.table h.key v h.is_state h.was_made h.open_still h.stands h.value to stays
+  put fs r to stays = put_late d nothing h.state r (front s (linear book)) fs id s a h.table h.key v good h.is_state h.was_made h.open_still h.stands h.value to stays
 
   order : linear (book ++ Read id s ∷ []) ≡ front s (linear book) ++ Read id s ∷ back s (linear book)
   order = linear_read book (Read id s) s refl
@@ -82,7 +87,7 @@ module _ (d : Deployment) (book : List Entry) (p : PlainState) (id : IntentId) (
     guarded = subst (IsGuarded d nothing) (sym order) (guarded_parts d nothing h.state (front s (linear book)) (Read id s ∷ back s (linear book)) h.is_state
         (guarded_first d nothing (front s (linear book)) (back s (linear book)) whole) (
           h.free,
-          λ r led. subst (λ z. IsGuarded d z (back s (linear book))) (same_some (sym answers ∙ led)) (past d h.state p (back s (linear book)) id a (answer.Value v) stands h.has_not_moved behind
+          λ r led. subst (λ z. IsGuarded d z (back s (linear book))) (same_some (sym answers ∙ led)) (past d h.state p (back s (linear book)) id a (answer.Value v) good stands h.has_not_moved behind
               (guarded_second d nothing h.state (front s (linear book)) (back s (linear book)) h.is_state whole)),
         ));
     before = λ t r lt is. ap (λ xs. run_from d nothing (front t xs)) order
@@ -90,5 +95,5 @@ module _ (d : Deployment) (book : List Entry) (p : PlainState) (id : IntentId) (
     since = λ t r le is.
         let b = put_between (Read id s) s refl s t (linear book) le in
         ap (λ xs. run_from d nothing (front t xs)) order ∙ ap (run_from d nothing) b.with_read ∙ put b.between r (to t r le is) (still t r le is);
-    locks = λ t r le is. same_holds d r id a (answer.Value v) (record { made = still t r le is; open_still = h.open_still; kind = stands.kind });
+    locks = λ t r le is. same_holds d r id a (answer.Value v) (sane_with d r (run_is_sane d (front t (linear book)) r is)) (record { made = still t r le is; open_still = h.open_still; kind = stands.kind });
   }

@@ -8,7 +8,11 @@ use Rattle.beldi_lang.specs.declared.effect.Answer.{Answer}
 use Rattle.beldi_book.specs.declared.entry.Entry.{Entry}
 use Rattle.beldi_book.specs.declared.entry.Entry.TheVariants.{Start, Read, Step, Tx, Try}
 use Rattle.beldi_plain.specs.Item.{Item}
-use Rattle.beldi_plain.specs.Guard.{touched_by, TouchedInside, Touches, actor, IsFree, IsGuarded}
+use Rattle.beldi_plain.specs.Guard.{touched_by, TouchedInPiece, TouchedInTry, Touches, actor, IsFree, IsGuarded}
+use Rattle.beldi_plain.specs.Moves.{Move, Leads, Commits, Aborts, TouchedIn}
+use Rattle.beldi_plain.specs.Piece.{Going, opened, tx_begun}
+use Rattle.beldi_lang.specs.declared.effect.Effect.TheVariants as effect
+use Rattle.beldi_value.specs.declared.place.Place.{Place}
 use Rattle.beldi_plain.specs.Holds.{holds}
 use Rattle.beldi_plain.specs.Operation.{op_of}
 use Rattle.beldi_plain.specs.Plain.{Instance, PlainState, with_instance, answered, effect_of}
@@ -16,10 +20,14 @@ use Rattle.beldi_plain.specs.Entries.{after}
 use Rattle.beldi_plain.specs.Legal.{run_from}
 use Rattle.beldi_plain.specs.declared.kind.Kind.TheVariants as kinds
 use Rattle.beldi_order.specs.Guard.{LateReadsLeaveGuards}
-use Rattle.beldi_order.proofs.Entries.{did, Did, read_is, after_grows, run_grows}
+use Rattle.beldi_order.proofs.Entries.{did, Did, read_is}
+use Rattle.beldi_order.proofs.Line.{line_opened}
 use Rattle.beldi_order.proofs.Maps.{same_some, elsewhere}
-use Rattle.beldi_order.specs.Grown.{GrownAt}
-use Rattle.beldi_order.proofs.Late.{StandsAtRead, passes, apart, runs_apart, unmoved}
+use Rattle.beldi_order.proofs.Late.{stands_next, StandsAtRead, passes, apart, begin_apart, out_of, piece_there, try_there}
+use Rattle.beldi_order.proofs.Passes.{touched_back, opened_passes}
+use Rattle.beldi_order.proofs.Sanes.{SaneWith}
+use Rattle.beldi_order.proofs.Sound.{sane_with, by_entry}
+use Rattle.beldi_order.proofs.Touched.{pieces_touch_their_items}
 use Rattle.beldi_order.proofs.Operations.{holds_answered}
 
 -- ---- entries in parts
@@ -40,7 +48,7 @@ guarded_second d p q (e ∷ es) fs h g =
     ]) refl h
 
 -- ---- a late read
-module _ (d : Deployment) (p : PlainState) (i : IntentId) (a : Instance) (v : Answer) (stands : StandsAtRead d p i a) where
+module _ (d : Deployment) (p : PlainState) (i : IntentId) (a : Instance) (v : Answer) (sane : SaneWith d None p.made) (stands : StandsAtRead d p i a) where
   abbrev later : PlainState
   later = with_instance p i (answered a v)
 
@@ -51,10 +59,10 @@ module _ (d : Deployment) (p : PlainState) (i : IntentId) (a : Instance) (v : An
   module _ (r : PlainState) (stays : map.get r.made i ≡ Some a) where
     other : (e : Entry) → Did d p e r → i ≡ actor e → ⊥
     other (Start t f w) s same = let clash = sym s.absent ∙ ap (map.get p.made) (sym same) ∙ stands.made in cc
-    other (Read j k) s same = apart d p r i a v stands stays j kinds.Read s same
-    other (Step j) s same = apart d p r i a v stands stays j kinds.Change s same
-    other (Tx j) s same = runs_apart d p r i a v stands stays j s.instance s.rest s.items s.runs same
-    other (Try j place holder) s same = runs_apart d p r i a v stands stays j s.instance s.rest s.items s.runs same
+    other (Read j k) s same = apart d p r i a v sane stands stays j kinds.Read s same
+    other (Step j) s same = apart d p r i a v sane stands stays j kinds.Change s same
+    other (Tx j) s same = begin_apart d p r i a v sane stands stays j s.instance s.runs.made s.runs.begins same
+    other (Try j place holder) s same = begin_apart d p r i a v sane stands stays j s.instance s.runs.made s.runs.begins same
 
     module _ (e : Entry) (h : after d p e ≡ Some r) where
       apart_from : i ≡ actor e → ⊥
@@ -63,45 +71,48 @@ module _ (d : Deployment) (p : PlainState) (i : IntentId) (a : Instance) (v : An
       next_there : (x : Item) → touched_by d (map.get later.made (actor e)) ≡ Some x → touched_by d (map.get p.made (actor e)) ≡ Some x
       next_there x touched = ap (touched_by d) (sym (elsewhere p.made i (actor e) (answered a v) apart_from)) ∙ touched
 
-      -- what a transaction touches, it touches before the answer
-      inside_there : (x : Item) → TouchedInside d later e x → TouchedInside d p e x
-      inside_there x t = record {
-        before = t.before;
-        was = sym (elsewhere p.made i (actor e) (answered a v) apart_from) ∙ t.was;
-        state = r;
-        enabled = h;
-        instance = t.instance;
-        now = sym (elsewhere r.made i (actor e) (answered a v) apart_from) ∙ ap (λ (s : PlainState). map.get s.made (actor e)) (same_some (sym (passes d p r i a v stands stays e h) ∙ t.enabled)) ∙ t.now;
-        touched_it = t.touched_it;
-      }
+    -- what a transaction touches, it touches before the answer
+    module _ (j : IntentId) where
+      back : (z : Instance) (ms : List Move) (l : Going) (x : Item) → map.get p.made j ≡ Some z → z.outcome ≡ None → effect_of d z ≡ effect.Begin → Leads d (tx_begun j z) (opened p j z) ms l → TouchedIn d (tx_begun j z) (opened later j z) ms x → TouchedIn d (tx_begun j z) (opened p j z) ms x
+      back z ms l x made none begins leads on =
+          let other = begin_apart d p r i a v sane stands stays j z made begins in
+          touched_back d (tx_begun j z) i (answered a v) (out_of d p r i a v sane stands stays j z made begins) (opened p j z) ms l x (line_opened d p j z none) leads
+          (subst (λ s. TouchedIn d (tx_begun j z) s ms x) (sym (opened_passes p j i z (answered a v) other)) on)
+
+      piece_back : Commits d p j r → (x : Item) → TouchedInPiece d later j x → TouchedInPiece d p j x
+      piece_back c x t =
+          let on = pieces_touch_their_items.commits d later j (with_instance r i (answered a v)) (piece_there d p r i a v sane stands stays j c) x t in
+          record { state = r; piece = c; touched_it = back c.instance c.moves c.last x c.runs.made c.runs.open_still c.runs.begins c.runs.leads on }
+
+      try_back : (place : Place) (holder : Option IntentId) → Aborts d p j place holder r → (x : Item) → TouchedInTry d later j place holder x → TouchedInTry d p j place holder x
+      try_back place holder c x t =
+          let on = pieces_touch_their_items.aborts d later j place holder (with_instance r i (answered a v)) (try_there d p r i a v sane stands stays j place holder c) x t in
+          record { state = r; try = c; touched_it = back c.instance c.before c.there x c.runs.made c.runs.open_still c.runs.begins c.runs.leads on }
 
     touches_there : (e : Entry) → after d p e ≡ Some r → (x : Item) → Touches d later e x → Touches d p e x
     touches_there (Start t f w) h x touched = next_there (Start t f w) h x touched
     touches_there (Read j k) h x touched = next_there (Read j k) h x touched
     touches_there (Step j) h x touched = next_there (Step j) h x touched
-    touches_there (Tx j) h x touched = inside_there (Tx j) h x touched
-    touches_there (Try j place holder) h x touched = inside_there (Try j place holder) h x touched
+    touches_there (Tx j) h x touched = piece_back j (did d p (Tx j) r h) x touched
+    touches_there (Try j place holder) h x touched = try_back j place holder (did d p (Try j place holder) r h) x touched
 
     free_there : (e : Entry) → after d p e ≡ Some r → IsFree d p e → IsFree d later e
     free_there e h free x touched j held = free x (touches_there e h x touched) j (sym (same_holds x j) ∙ held)
 
-pub past : (d : Deployment) (p q : PlainState) (es : List Entry) (i : IntentId) (a : Instance) (v : Answer) → StandsAtRead d p i a → map.get q.made i ≡ Some a → run_from d p es ≡ Some q
+pub past : (d : Deployment) (p q : PlainState) (es : List Entry) (i : IntentId) (a : Instance) (v : Answer) → SaneWith d None p.made → StandsAtRead d p i a → map.get q.made i ≡ Some a → run_from d p es ≡ Some q
     → IsGuarded d p es → IsGuarded d (with_instance p i (answered a v)) es
-past d p q [] i a v stands stays h g = tt
-past d p q (e ∷ es) i a v stands stays h g = by_option (after d p e) refl h (λ r. past d r q es i a v)
+past d p q [] i a v sane stands stays h g = tt
+past d p q (e ∷ es) i a v sane stands stays h g = by_option (after d p e) refl h (λ r. past d r q es i a v)
   where
     by_option : (o : Option PlainState) → after d p e ≡ o → option_and_then (λ r. run_from d r es) o ≡ Some q
-        → ((r : PlainState) → StandsAtRead d r i a → map.get q.made i ≡ Some a → run_from d r es ≡ Some q → IsGuarded d r es → IsGuarded d (with_instance r i (answered a v)) es)
+        → ((r : PlainState) → SaneWith d None r.made → StandsAtRead d r i a → map.get q.made i ≡ Some a → run_from d r es ≡ Some q → IsGuarded d r es → IsGuarded d (with_instance r i (answered a v)) es)
         → IsGuarded d (with_instance p i (answered a v)) (e ∷ es)
     by_option None step is rest = cc
     by_option (Some r) step is rest =
-        let before = subst (λ o. GrownAt o (map.get r.made i)) stands.made (after_grows d p e r step i) in
-        let since = subst (λ o. GrownAt (map.get r.made i) o) stays (run_grows d r es q is i) in
-        let there = unmoved a (map.get r.made i) stands.open_still before since in (
-          free_there d p i a v stands r there e step g.0,
-          λ s led. subst (λ z. IsGuarded d z es) (same_some (sym (passes d p r i a v stands there e step) ∙ led))
-              (rest r (record { made = there; open_still = stands.open_still; kind = stands.kind }) stays is (g.1 r step)),
+        let there = stands_next d p q r e es i a stands stays step is in (
+          free_there d p i a v sane stands r there.made e step g.0,
+          λ s led. subst (λ z. IsGuarded d z es) (same_some (sym (passes d p r i a v sane stands there.made e step) ∙ led)) (rest r (by_entry d p e r (did d p e r step) sane) there stays is (g.1 r step)),
         )
 
 pub guards_left : LateReadsLeaveGuards
-guards_left d p q es i a v h = past d p q es i a v (record { made = h.made; open_still = h.open_still; kind = h.kind }) h.stays h.run
+guards_left d p q es i a v h = past d p q es i a v (sane_with d p h.sane) (record { made = h.made; open_still = h.open_still; kind = h.kind }) h.stays h.run

@@ -1,5 +1,5 @@
 -- A read that is kept late: it passes every entry that leaves its instance as it is.
-use Rattle.std.proofs.Common.{◌≡◌, ℕ, zero, suc, Bool, true, false, List, [], ◌∷◌, ◌++◌, length, Option, None, Some, refl, ap, sym, ◌∙◌, subst, arith, length-append, append-nil}
+use Rattle.std.proofs.Common.{◌≡◌, ℕ, zero, suc, Bool, true, false, List, [], ◌∷◌, ◌++◌, length, Option, None, Some, refl, ap, sym, ◌∙◌, subst, arith, length-append, append-nil, inl, inr}
 use Rattle.std.specs.Prelude.{◌&&◌, option_and_then, is_some, if◌then◌else◌}
 use Rattle.std.specs.FinMap as map
 use Rattle.std.specs.FinMap.{FinMap}
@@ -22,11 +22,17 @@ use Rattle.beldi_plain.specs.Plain.{Instance, PlainState, new_instance, start, s
 use Rattle.beldi_plain.specs.Entries.{after}
 use Rattle.beldi_plain.specs.Operation.{OnItem, op_of, item_in, sets, set_if, answer_after}
 use Rattle.beldi_plain.specs.Legal.{run_from}
-use Rattle.beldi_plain.specs.Piece.{is_holder}
+use Rattle.beldi_plain.specs.Piece.{Going, opened, tx_begun, is_holder}
 use Rattle.beldi_plain.specs.declared.kind.Kind.{Kind}
 use Rattle.beldi_plain.specs.declared.kind.Kind.TheVariants as kinds
 use Rattle.beldi_order.proofs.Entries.{Started, Stepped, Did, did, read_is, absent, enabled_read, enabled_step, after_grows, run_grows, runs_on}
-use Rattle.beldi_order.specs.Inside.{Items, answered_all, inside, Runs, Commits, Aborts}
+use Rattle.beldi_order.specs.Inside.{IsIn}
+use Rattle.beldi_plain.specs.Moves.{Move, Leads, Runs, Commits, Aborts, NotBefore}
+use Rattle.beldi_order.proofs.Foreign.{none_below}
+use Rattle.beldi_order.proofs.Line.{line_opened, in_line}
+use Rattle.beldi_order.proofs.Passes.{front_there, moves_pass, first_passes, there_passes, opened_passes}
+use Rattle.beldi_order.proofs.Sanes.{SaneWith}
+use Rattle.beldi_order.proofs.Sound.{by_entry}
 use Rattle.beldi_order.proofs.Maps.{same_some, made_set, commutes, elsewhere, here}
 use Rattle.beldi_order.proofs.Pieces.{committed, aborted_so}
 use Rattle.beldi_order.specs.Grown.{Grown, GrownAt}
@@ -94,7 +100,7 @@ step_passes p i j a x y (effect.Return o) made apart free stays =
 step_passes p i j a x y e made apart free stays = operation_passes p i j x y (op_of e) apart
 
 -- where the instance stands after an entry as it stood, and the entry comes after its answer
-module _ (d : Deployment) (p q : PlainState) (i : IntentId) (a : Instance) (v : Answer) (stands : StandsAtRead d p i a) (stays : map.get q.made i ≡ Some a) where
+module _ (d : Deployment) (p q : PlainState) (i : IntentId) (a : Instance) (v : Answer) (sane : SaneWith d None p.made) (stands : StandsAtRead d p i a) (stays : map.get q.made i ≡ Some a) where
   -- it is not the instance's own: a read would have answered it, and it makes no other step
   own_read : map.get (step_by p i a (effect_of d a)).made i ≡ Some a → ⊥
   own_read h =
@@ -129,44 +135,76 @@ module _ (d : Deployment) (p q : PlainState) (i : IntentId) (a : Instance) (v : 
       ∙ ap (λ (f' : FinMap id_cmp Instance). Some (record p { made = f' })) (commutes p.made i (root_of (suc t)) (answered a v) (new_instance f w None) other)
       ∙ ap (λ r. Some (with_instance r i (answered a v))) s.leads
 
-  -- nor is a transaction its own, as it stands at no begin; and another's goes the same way
-  pub runs_apart : (j : IntentId) (z : Instance) (rest : List Answer) (n : Items) → Runs d p j z rest n → i ≡ j → ⊥
-  runs_apart j z rest n h same =
-      let own : z ≡ a = same_some (sym h.made ∙ ap (map.get p.made) (sym same) ∙ stands.made) in
-      let c : kinds.Inside ≡ kinds.Read = ap (kind_of i) (sym h.begins ∙ ap (effect_of d) own) ∙ stands.kind in cc
+  -- nor is a transaction its own, as it stands at no begin; nor is it in one of another, and that goes the same way
+  pub begin_apart : (j : IntentId) (z : Instance) → map.get p.made j ≡ Some z → effect_of d z ≡ effect.Begin → i ≡ j → ⊥
+  begin_apart j z made begins same =
+      let own : z ≡ a = same_some (sym made ∙ ap (map.get p.made) (sym same) ∙ stands.made) in
+      let c : kinds.Inside ≡ kinds.Read = ap (kind_of i) (sym begins ∙ ap (effect_of d) own) ∙ stands.kind in cc
 
-  runs_there : (j : IntentId) (z : Instance) (rest : List Answer) (n : Items) → Runs d p j z rest n → Runs d (with_instance p i (answered a v)) j z rest n
-  runs_there j z rest n h = record { made = elsewhere p.made i j (answered a v) (runs_apart j z rest n h) ∙ h.made; open_still = h.open_still; begins = h.begins; leads = h.leads; few = h.few }
+  pub out_of : (j : IntentId) (z : Instance) → map.get p.made j ≡ Some z → effect_of d z ≡ effect.Begin → IsIn (tx_begun j z) i → ⊥
+  out_of j z made begins (inl own) = begin_apart j z made begins own
+  out_of j z made begins (inr b) = let c = sym stands.made ∙ none_below d p.made sane j z i made b in cc
 
-  set_there : (j : IntentId) (z : Instance) (m : Items) → (i ≡ j → ⊥) → q ≡ with_items m (map.insert p.made j z) → with_instance q i (answered a v) ≡ with_items m (map.insert (map.insert p.made i (answered a v)) j z)
-  set_there j z m other is = ap (λ r. with_instance r i (answered a v)) is ∙ ap (with_items m) (sym (commutes p.made i j (answered a v) z other))
+  pub set_there : (j : IntentId) (z : Instance) (s : PlainState) → (i ≡ j → ⊥) → q ≡ with_instance s j z → with_instance q i (answered a v) ≡ with_instance (with_instance s i (answered a v)) j z
+  set_there j z s other is = ap (λ r. with_instance r i (answered a v)) is ∙ ap (with_items s.items) (sym (commutes s.made i j (answered a v) z other))
 
-  piece_there : (j : IntentId) → Commits d p j q → Commits d (with_instance p i (answered a v)) j (with_instance q i (answered a v))
-  piece_there j h = record {
-    instance = h.instance;
-    rest = h.rest;
-    items = h.items;
-    runs = runs_there j h.instance h.rest h.items h.runs;
-    ends = h.ends;
-    is = set_there j (answered (inside h.instance h.rest) answer.Done) h.items (runs_apart j h.instance h.rest h.items h.runs) h.is;
+  -- what led from its Begin leads on there
+  leads_there_on : (j : IntentId) (z : Instance) (ms : List Move) (l : Going) → map.get p.made j ≡ Some z → z.outcome ≡ None → effect_of d z ≡ effect.Begin → Leads d (tx_begun j z) (opened p j z) ms l
+      → Leads d (tx_begun j z) (opened (with_instance p i (answered a v)) j z) ms (record { state = with_instance l.state i (answered a v); front = l.front })
+  leads_there_on j z ms l made none begins leads =
+      subst (λ s. Leads d (tx_begun j z) s ms (record { state = with_instance l.state i (answered a v); front = l.front })) (opened_passes p j i z (answered a v) (begin_apart j z made begins))
+      (moves_pass d (tx_begun j z) i (answered a v) (out_of j z made begins) (opened p j z) ms l (line_opened d p j z none) leads)
+
+  pub runs_there : (j : IntentId) (z : Instance) (ms : List Move) (l : Going) → Runs d p j z ms l → Runs d (with_instance p i (answered a v)) j z ms (record { state = with_instance l.state i (answered a v); front = l.front })
+  runs_there j z ms l h = record {
+    made = elsewhere p.made i j (answered a v) (begin_apart j z h.made h.begins) ∙ h.made;
+    open_still = h.open_still;
+    begins = h.begins;
+    leads = leads_there_on j z ms l h.made h.open_still h.begins h.leads;
   }
 
-  holder_there : (j : IntentId) (o : Option IntentId) → is_holder p j o ≡ true → is_holder (with_instance p i (answered a v)) j o ≡ true
+  abbrev pub piece_there : (j : IntentId) → Commits d p j q → Commits d (with_instance p i (answered a v)) j (with_instance q i (answered a v))
+  piece_there j h =
+      let z = h.instance in
+      let t = tx_begun j z in
+      record {
+        instance = z;
+        moves = h.moves;
+        last = record { state = with_instance h.last.state i (answered a v); front = h.last.front };
+        runs = runs_there j z h.moves h.last h.runs;
+        plainly = h.plainly;
+        ends = record { owner = h.ends.owner; stands = record { instance = h.ends.stands.instance; made = front_there d t i (answered a v) (out_of j z h.runs.made h.runs.begins) h.last (in_line d t (opened p j z) h.moves h.last (line_opened d p j z h.runs.open_still) h.runs.leads) ∙ h.ends.stands.made; effect = h.ends.stands.effect } };
+        is = set_there j (answered h.ends.stands.instance answer.Done) h.last.state (begin_apart j z h.runs.made h.runs.begins) h.is;
+      }
+
+  pub holder_there : (j : IntentId) (o : Option IntentId) → is_holder p j o ≡ true → is_holder (with_instance p i (answered a v)) j o ≡ true
   holder_there j None h = h
   holder_there j (Some k) h = ap (λ b. b && is_older k j) (made_set p.made i (answered a v) (λ l u. is_some u ≡ is_some (map.get p.made l)) (sym (ap is_some stands.made)) (λ l. refl) k) ∙ h
 
-  try_there : (j : IntentId) (place : Place) (holder : Option IntentId) → Aborts d p j place holder q → Aborts d (with_instance p i (answered a v)) j place holder (with_instance q i (answered a v))
-  try_there j place holder h = record {
-    instance = h.instance;
-    rest = h.rest;
-    items = h.items;
-    runs = runs_there j h.instance h.rest h.items h.runs;
-    stands = h.stands;
-    older = holder_there j holder h.older;
-    last = h.last;
-    falls = h.falls;
-    is = set_there j (answered_all (inside h.instance h.rest) h.last) p.items (runs_apart j h.instance h.rest h.items h.runs) h.is;
-  }
+  abbrev pub try_there : (j : IntentId) (place : Place) (holder : Option IntentId) → Aborts d p j place holder q → Aborts d (with_instance p i (answered a v)) j place holder (with_instance q i (answered a v))
+  try_there j place holder h =
+      let z = h.instance in
+      let t = tx_begun j z in
+      let x = answered a v in
+      let out = out_of j z h.runs.made h.runs.begins in
+      let start = line_opened d p j z h.runs.open_still in
+      let middle = in_line d t (opened p j z) h.before h.there start h.runs.leads in
+      record {
+        instance = z;
+        before = h.before;
+        there = record { state = with_instance h.there.state i x; front = h.there.front };
+        runs = runs_there j z h.before h.there h.runs;
+        plainly = h.plainly;
+        first = subst (λ s. NotBefore d t place s h.before) (opened_passes p j i z x (begin_apart j z h.runs.made h.runs.begins)) (first_passes d t i x out place (opened p j z) h.before h.there start h.runs.leads h.first);
+        stands = there_passes d t i x out place h.there middle h.stands;
+        older = holder_there j holder h.older;
+        since = h.since;
+        last = record { state = with_instance h.last.state i x; front = h.last.front };
+        leads = moves_pass d t i x out h.there h.since h.last middle h.leads;
+        falls = h.falls;
+        ends = record { owner = h.ends.owner; stands = record { instance = h.ends.stands.instance; made = front_there d t i x out h.last (in_line d t h.there h.since h.last middle h.leads) ∙ h.ends.stands.made; effect = h.ends.stands.effect } };
+        is = set_there j (answered h.ends.stands.instance answer.Done) p (begin_apart j z h.runs.made h.runs.begins) h.is;
+      }
 
   passes_did : (e : Entry) → after d p e ≡ Some q → Did d p e q → after d (with_instance p i (answered a v)) e ≡ Some (with_instance q i (answered a v))
   passes_did (Start zero f w) h s = cc
@@ -205,32 +243,36 @@ not_moved o u i j was is g same none =
     same_instance i j (sym h.func) (sym h.args) (sym h.from) (sym h.within) same (none_before i.outcome j.outcome h.over none ∙ sym none)
 
 -- ---- a read passes all entries that leave its instance as it is
-pub passes_all : (d : Deployment) (p q : PlainState) (es : List Entry) (i : IntentId) (a : Instance) (v : Answer) → StandsAtRead d p i a → map.get q.made i ≡ Some a
+-- who still stands at a read in the end does so after the first of them
+pub stands_next : (d : Deployment) (p q r : PlainState) (e : Entry) (es : List Entry) (i : IntentId) (a : Instance) → StandsAtRead d p i a → map.get q.made i ≡ Some a → after d p e ≡ Some r → run_from d r es ≡ Some q → StandsAtRead d r i a
+stands_next d p q r e es i a stands stays step is =
+    let before = subst (λ o. GrownAt o (map.get r.made i)) stands.made (after_grows d p e r step i) in
+    let later = subst (λ o. GrownAt (map.get r.made i) o) stays (run_grows d r es q is i) in
+    record { made = unmoved a (map.get r.made i) stands.open_still before later; open_still = stands.open_still; kind = stands.kind }
+
+pub passes_all : (d : Deployment) (p q : PlainState) (es : List Entry) (i : IntentId) (a : Instance) (v : Answer) → SaneWith d None p.made → StandsAtRead d p i a → map.get q.made i ≡ Some a
     → run_from d p es ≡ Some q → run_from d (with_instance p i (answered a v)) es ≡ Some (with_instance q i (answered a v))
-passes_all d p q [] i a v stands stays h = ap (λ r. Some (with_instance r i (answered a v))) (same_some h)
-passes_all d p q (e ∷ es) i a v stands stays h = by_option (after d p e) refl h (λ r. passes_all d r q es i a v)
+passes_all d p q [] i a v sane stands stays h = ap (λ r. Some (with_instance r i (answered a v))) (same_some h)
+passes_all d p q (e ∷ es) i a v sane stands stays h = by_option (after d p e) refl h (λ r. passes_all d r q es i a v)
   where
     by_option : (o : Option PlainState) → after d p e ≡ o → option_and_then (λ r. run_from d r es) o ≡ Some q
-        → ((r : PlainState) → StandsAtRead d r i a → map.get q.made i ≡ Some a → run_from d r es ≡ Some q → run_from d (with_instance r i (answered a v)) es ≡ Some (with_instance q i (answered a v)))
+        → ((r : PlainState) → SaneWith d None r.made → StandsAtRead d r i a → map.get q.made i ≡ Some a → run_from d r es ≡ Some q → run_from d (with_instance r i (answered a v)) es ≡ Some (with_instance q i (answered a v)))
         → option_and_then (λ r. run_from d r es) (after d (with_instance p i (answered a v)) e) ≡ Some (with_instance q i (answered a v))
     by_option None step is rest = cc
     by_option (Some r) step is rest =
-        let before = subst (λ o. GrownAt o (map.get r.made i)) stands.made (after_grows d p e r step i) in
-        let later = subst (λ o. GrownAt (map.get r.made i) o) stays (run_grows d r es q is i) in
-        let there = unmoved a (map.get r.made i) stands.open_still before later in
-        ap (option_and_then (λ s. run_from d s es)) (passes d p r i a v stands there e step)
-        ∙ rest r (record { made = there; open_still = stands.open_still; kind = stands.kind }) stays is
+        let there = stands_next d p q r e es i a stands stays step is in
+        ap (option_and_then (λ s. run_from d s es)) (passes d p r i a v sane stands there.made e step) ∙ rest r (by_entry d p e r (did d p e r step) sane) there stays is
 
 -- ---- the read itself
 -- put where the instance stands at it, with what comes between and leaves the instance as it is
 pub put_late : (d : Deployment) (p q r : PlainState) (es fs : List Entry) (i : IntentId) (s : ℕ) (a : Instance) (t : ℕ) (k : List ℕ) (v : Value)
-    → run_from d p es ≡ Some q → map.get q.made i ≡ Some a → a.outcome ≡ None → effect_of d a ≡ effect.Read t k → value_at q (item_of a t k) ≡ v
+    → SaneWith d None q.made → run_from d p es ≡ Some q → map.get q.made i ≡ Some a → a.outcome ≡ None → effect_of d a ≡ effect.Read t k → value_at q (item_of a t k) ≡ v
     → run_from d q fs ≡ Some r → map.get r.made i ≡ Some a
     → run_from d p (es ++ Read i s ∷ fs) ≡ Some (with_instance r i (answered a (answer.Value v)))
-put_late d p q r es fs i s a t k v before made none reads_it is behind stays =
+put_late d p q r es fs i s a t k v sane before made none reads_it is behind stays =
     let kind : kind_of i (effect_of d a) ≡ kinds.Read = ap (kind_of i) reads_it in
     let stands : StandsAtRead d q i a = record { made = made; open_still = none; kind = kind } in
     let leads : step_by q i a (effect_of d a) ≡ with_instance q i (answered a (answer.Value v)) = ap (step_by q i a) reads_it ∙ ap (λ w. with_instance q i (answered a (answer.Value w))) is in
     runs_on d p q es (Read i s ∷ fs) before
     ∙ ap (option_and_then (λ x. run_from d x fs)) (enabled_read d q i a made none (ap (waits_at q.made i a) reads_it) s kind ∙ ap (λ x. Some x) leads)
-    ∙ passes_all d q r fs i a (answer.Value v) stands stays behind
+    ∙ passes_all d q r fs i a (answer.Value v) sane stands stays behind

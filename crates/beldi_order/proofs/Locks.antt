@@ -27,13 +27,20 @@ use Rattle.beldi_plain.specs.Entries.{after}
 use Rattle.beldi_plain.specs.declared.kind.Kind.{Kind}
 use Rattle.beldi_plain.specs.declared.kind.Kind.TheVariants as kinds
 use Rattle.beldi_order.specs.Guard.{StandsAtOperation, LegalIsGuarded}
-use Rattle.beldi_order.proofs.Entries.{did, Did, Stepped, read_is, absent, runs_on}
-use Rattle.beldi_order.proofs.Maps.{same_some, made_set, still_made, here}
+use Rattle.beldi_order.proofs.Entries.{did, Did, Stepped, read_is, absent, runs_on, try_leads}
+use Rattle.beldi_order.proofs.Maps.{same_some, made_set, still_made, elsewhere, here}
 use Rattle.beldi_order.proofs.Guard.{guarded_second}
-use Rattle.beldi_order.specs.Inside.{inside}
-use Rattle.beldi_order.proofs.Pieces.{in_tx, Whole, whole_piece, whole_try, whole_keeps}
+use Rattle.beldi_order.specs.Inside.{InLine}
+use Rattle.beldi_plain.specs.Moves.{Move, moved, Leads, Commits, Aborts}
+use Rattle.beldi_plain.specs.Piece.{Going, opened, tx_begun, new_member}
+use Rattle.beldi_value.specs.declared.place.Place.{Place}
+use Rattle.beldi_value.specs.declared.place.TxId.{TxId}
+use Rattle.beldi_order.proofs.Goes.{is_plainly, answered_plainly}
+use Rattle.beldi_order.proofs.Line.{line_opened, line_moved, returned, shorter, not_longer}
+use Rattle.beldi_order.proofs.Moved.{MoveIs, answers, calls, returns, move_is, mover}
 use Rattle.beldi_order.proofs.Operations.{held_pushed, holds_answered, holds_set, item_same}
-use Rattle.beldi_order.proofs.Sanes.{waited, still_there, answers_nobody, answers_waiter, run_is_sane}
+use Rattle.beldi_order.proofs.Sanes.{waited_in}
+use Rattle.beldi_order.proofs.Sound.{sane_with, still_there, answers_nobody, answers_waiter, run_is_sane}
 use Rattle.beldi_order.specs.Sane.{Sane}
 
 -- what an operation on an item leaves
@@ -52,19 +59,56 @@ same_item : (x y : Item) → x ≡ y → is_eq (item_cmp x y) ≡ true
 same_item x y h = subst (λ z. is_eq (item_cmp x z) ≡ true) h (ap is_eq (tied_itself item_total x))
 
 -- no effect of a transaction moves a lock
-tx_holds : (e : Effect) (x : Item) (f : ℕ) (b : Bool) → in_tx e ≡ true → held_if x f (op_of e) b ≡ b
+tx_holds : (e : Effect) (x : Item) (f : ℕ) (b : Bool) → is_plainly e ≡ true → held_if x f (op_of e) b ≡ b
 tx_holds (effect.Write t k v) x f b h = either_way (is_eq (item_cmp (record { func = f; table = t; key = k }) x)) b
 tx_holds (effect.CondWrite t k r o v) x f b h = either_way (is_eq (item_cmp (record { func = f; table = t; key = k }) x)) b
 tx_holds (effect.Lock t k) x f b h = cc
 tx_holds (effect.Unlock t k) x f b h = cc
 tx_holds e x f b h = refl
 
-pub whole_holds : (d : Deployment) (x : Item) (p : PlainState) (id : IntentId) (r : PlainState) → Whole d p id r → (j : IntentId) → holds d x (map.get r.made j) ≡ holds d x (map.get p.made j)
-whole_holds d x p id r w j =
-    let z = answered (inside w.instance w.rest) answer.Done in
-    ap (λ (s : PlainState). holds d x (map.get s.made j)) w.is
-    ∙ holds_set d x p.made id z (ap (holds d x) w.made ∙ sym (whole_keeps d p id r w (λ y. holds d x (Some y) ≡ holds d x (Some w.instance))
-    (λ y a tx same. held_pushed d x y.func y.args (is_some y.within) [] y.answers a false ∙ tx_holds (effect_of d y) x y.func (holds d x (Some y)) tx ∙ same) refl)) j
+module _ (d : Deployment) (x : Item) where
+  -- an instance with another's locks was set
+  move_holds : (t : TxId) (m : Move) (s r : Going) → InLine d t s → moved d t m s ≡ Some r → (j : IntentId) → holds d x (map.get r.state.made j) ≡ holds d x (map.get s.state.made j)
+  move_holds t m s r line h j = let q = mover d t m s r h in by_kind q.0 q.1 (move_is d t m s q.0 r q.1 h)
+    where
+      by_kind : (q : Instance) → map.get s.state.made s.front ≡ Some q → MoveIs d t m s r q → holds d x (map.get r.state.made j) ≡ holds d x (map.get s.state.made j)
+      by_kind q made (answers a) =
+          ap (λ (z : Going). holds d x (map.get z.state.made j)) a.is
+          ∙ holds_set d x s.state.made s.front (answered q a.answer) (ap (holds d x) made ∙ sym (held_pushed d x q.func q.args (is_some q.within) [] q.answers a.answer false
+          ∙ tx_holds (effect_of d q) x q.func (holds d x (Some q)) (answered_plainly s.front s.state.items q (effect_of d q) m a.answer a.gives_it))) j
+      by_kind q made (calls c) =
+          ap (λ (z : Going). holds d x (map.get z.state.made j)) c.is
+          ∙ holds_set d x s.state.made (callee_of s.front q) (new_member t c.func c.args (calls_at s.front q true)) (ap (holds d x) c.gone) j
+      by_kind q made (returns e) =
+          let w = returned d t m s r q made line e in
+          let over = map.insert s.state.made s.front (ended q e.outcome) in
+          let there : map.get over w.caller ≡ Some w.member.waiter = elsewhere s.state.made s.front w.caller (ended q e.outcome) (λ g. not_longer w.caller s.front (shorter d t s.state.made w.caller s.front w.member) g) ∙ w.member.waits in
+          ap (λ (z : Going). holds d x (map.get z.state.made j)) w.is
+          ∙ holds_answered d x over w.caller w.member.waiter (answer_of e.outcome) there (ap op_of w.member.called) j
+          ∙ holds_set d x s.state.made s.front (ended q e.outcome) (ap (holds d x) made) j
+
+  led_holds : (t : TxId) (s : Going) (moves : List Move) (l : Going) → InLine d t s → Leads d t s moves l → (j : IntentId) → holds d x (map.get l.state.made j) ≡ holds d x (map.get s.state.made j)
+  led_holds t s [] l line leads j = ap (λ (z : Going). holds d x (map.get z.state.made j)) (sym leads)
+  led_holds t s (m ∷ ms) l line leads j = led_holds t leads.0 ms l (line_moved d t m s leads.0 line leads.1) leads.2 j ∙ move_holds t m s leads.0 line leads.1 j
+
+  pub from_begin : (p : PlainState) (id : IntentId) (q : Instance) (moves : List Move) (l : Going) → map.get p.made id ≡ Some q → q.outcome ≡ None → effect_of d q ≡ effect.Begin → Leads d (tx_begun id q) (opened p id q) moves l → (j : IntentId) → holds d x (map.get l.state.made j) ≡ holds d x (map.get p.made j)
+  from_begin p id q moves l made none begins leads j = led_holds (tx_begun id q) (opened p id q) moves l (line_opened d p id q none) leads j ∙ holds_answered d x p.made id q answer.Done made (ap op_of begins) j
+
+  pub piece_holds : (p : PlainState) (id : IntentId) (r : PlainState) → Commits d p id r → (j : IntentId) → holds d x (map.get r.made j) ≡ holds d x (map.get p.made j)
+  piece_holds p id r c j =
+      let z = c.ends.stands.instance in
+      let there : map.get c.last.state.made id ≡ Some z = ap (map.get c.last.state.made) (sym c.ends.owner) ∙ c.ends.stands.made in
+      ap (λ (s : PlainState). holds d x (map.get s.made j)) c.is ∙ holds_answered d x c.last.state.made id z answer.Done there (ap op_of c.ends.stands.effect) j
+      ∙ from_begin p id c.instance c.moves c.last c.runs.made c.runs.open_still c.runs.begins c.runs.leads j
+
+  pub try_holds : (p : PlainState) (id : IntentId) (place : Place) (holder : Option IntentId) (r : PlainState) → Aborts d p id place holder r → (j : IntentId) → holds d x (map.get r.made j) ≡ holds d x (map.get p.made j)
+  try_holds p id place holder r c j =
+      let z = c.ends.stands.instance in
+      let there : map.get c.last.state.made id ≡ Some z = ap (map.get c.last.state.made) (sym c.ends.owner) ∙ c.ends.stands.made in
+      let own : holds d x (Some (answered z answer.Done)) ≡ holds d x (map.get p.made id) =
+      sym (ap (holds d x) (here c.last.state.made id (answered z answer.Done))) ∙ holds_answered d x c.last.state.made id z answer.Done there (ap op_of c.ends.stands.effect) id
+      ∙ from_begin p id c.instance (c.before ++ c.since) c.last c.runs.made c.runs.open_still c.runs.begins (try_leads d p id place holder r c) id in
+      ap (λ (s : PlainState). holds d x (map.get s.made j)) c.is ∙ holds_set d x p.made id (answered z answer.Done) (sym own) j
 
 -- an instance that stands at an operation on an item
 abbrev At : Deployment → Instance → Item → Operation → OnItem → Type 0
@@ -100,8 +144,8 @@ module _ (d : Deployment) (x : Item) (p : PlainState) (sane : Sane d p) (id : In
   return_holds o j =
       let over = with_instance p id (ended q o) in
       let first = holds_set d x p.made id (ended q o) (ap (holds d x) made) j in
-      elim (waited d p id q sane made none) [
-        | inl alone ↦ ap (λ (r : PlainState). holds d x (map.get r.made j)) (answers_nobody over q.from o alone) ∙ first
+      elim (waited_in d None p.made (sane_with d p sane) id q made none) [
+        | inl alone ↦ ap (λ (r : PlainState). holds d x (map.get r.made j)) (answers_nobody over q.from o alone.alone) ∙ first
         | inr w ↦ ap (λ (r : PlainState). holds d x (map.get r.made j)) (answers_waiter d p id q w (ended q o) o)
             ∙ holds_answered d x over.made w.caller w.waiter (answer_of o) (still_there d p id q w (ended q o)) (ap op_of w.stands) j ∙ first
       ]
@@ -144,8 +188,8 @@ module _ (d : Deployment) (x : Item) (i : IntentId) where
   entry_keeps p r (Start t f w) sane s never = subst (λ (z : PlainState). Kept p i (map.get z.made i)) s.leads (λ same h. holds_set d x p.made (root_of t) (new_instance f w None) (ap (holds d x) s.absent) i ∙ h)
   entry_keeps p r (Read j k) sane s never = stepped_keeps p j kinds.Read r s sane (λ same on h. let c = sym (ap op_of (read_is j (effect_of d s.instance) s.kind).2) ∙ h.0 in cc)
   entry_keeps p r (Step j) sane s never = stepped_keeps p j kinds.Change r s sane (λ same on h. never s.instance on (ap Step same) (ap (map.get p.made) (sym same) ∙ s.made) h)
-  entry_keeps p r (Tx j) sane s never = λ same h. whole_holds d x p j r (whole_piece d p j r s) i ∙ h
-  entry_keeps p r (Try j place holder) sane s never = λ same h. whole_holds d x p j r (whole_try d p j place holder r s) i ∙ h
+  entry_keeps p r (Tx j) sane s never = λ same h. piece_holds d x p j r s i ∙ h
+  entry_keeps p r (Try j place holder) sane s never = λ same h. try_holds d x p j place holder r s i ∙ h
 
   -- entries without it
   run_keeps : (done es : List Entry) (p r : PlainState) → run_from d nothing done ≡ Some p → run_from d p es ≡ Some r

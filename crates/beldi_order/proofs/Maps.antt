@@ -53,15 +53,3 @@ elsewhere f i j x apart = get-insert id_total f i x j ∙ by_test (is_eq (id_cmp
 
 pub here : (f : FinMap id_cmp Instance) (i : IntentId) (x : Instance) → map.get (map.insert f i x) i ≡ Some x
 here f i x = get-insert id_total f i x i ∙ ap (λ b. cond b (Some x) (map.get f i)) (ap is_eq (tied_itself id_total i))
-
--- one that was set twice
-pub again : (f : FinMap id_cmp Instance) (i : IntentId) (x y : Instance) → map.insert (map.insert f i x) i y ≡ map.insert f i y
-again f i x y = same_map id_total id_exact _ _ (λ q.
-    get-insert id_total (map.insert f i x) i y q
-    ∙ ap (cond (is_eq (id_cmp q i)) (Some y)) (get-insert id_total f i x q)
-    ∙ by_test (is_eq (id_cmp q i)) (map.get f q)
-    ∙ sym (get-insert id_total f i y q))
-  where
-    by_test : (b : Bool) (o : Option Instance) → cond b (Some y) (cond b (Some x) o) ≡ cond b (Some y) o
-    by_test true o = refl
-    by_test false o = refl

@@ -1,5 +1,5 @@
 -- No item of a run is kept as null.
-use Rattle.std.proofs.Common.{◌≡◌, List, [], ◌∷◌, inl, inr, Option, None, Some, sym, ◌∙◌, subst}
+use Rattle.std.proofs.Common.{◌≡◌, List, [], ◌∷◌, Option, None, Some, sym, ◌∙◌, subst}
 use Rattle.std.specs.FinMap as map
 use Rattle.std.specs.FinMap.{FinMap, get-empty, get-insert, get-remove}
 use Rattle.beldi_value.specs.declared.id.IntentId.{IntentId}
@@ -7,8 +7,6 @@ use Rattle.beldi_value.specs.declared.value.Value.{Value}
 use Rattle.beldi_value.specs.declared.value.Value.TheVariants.{Null}
 use Rattle.beldi_tree.specs.Bindings.{or_null}
 use Rattle.beldi_tree.specs.declared.deployment.Deployment.{Deployment}
-use Rattle.beldi_lang.specs.declared.effect.Answer.{Answer}
-use Rattle.beldi_lang.specs.declared.effect.Answer.TheVariants.{Done}
 use Rattle.beldi_lang.specs.declared.effect.Effect.{Effect}
 use Rattle.beldi_lang.specs.declared.effect.Effect.TheVariants as effect
 use Rattle.beldi_book.specs.declared.entry.Entry.{Entry}
@@ -16,13 +14,18 @@ use Rattle.beldi_book.specs.declared.entry.Entry.TheVariants.{Start, Read, Step,
 use Rattle.beldi_book.specs.Order.{linear}
 use Rattle.beldi_plain.specs.Item.{Item, item_cmp, item_total, item_exact}
 use Rattle.beldi_plain.specs.Operation.{OnItem, op_of, item_in, sets, set_if, set_item}
-use Rattle.beldi_plain.specs.Plain.{Instance, PlainState, nothing, with_instance, answered, ended, step_by, operated, value_at, effect_of}
+use Rattle.beldi_plain.specs.Plain.{Instance, PlainState, nothing, with_instance, ended, step_by, operated, value_at, effect_of}
 use Rattle.beldi_plain.specs.Entries.{after}
-use Rattle.beldi_order.specs.Inside.{Items, items_after, Leads, next_items}
+use Rattle.beldi_order.specs.Inside.{InLine}
+use Rattle.beldi_plain.specs.Moves.{Move, plain, fell, moved, Leads, Commits, Aborts}
+use Rattle.beldi_plain.specs.Piece.{Going, opened, tx_begun}
+use Rattle.beldi_value.specs.declared.place.Place.{Place}
+use Rattle.beldi_value.specs.declared.place.TxId.{TxId}
+use Rattle.beldi_order.proofs.Line.{line_opened, line_moved, returned}
+use Rattle.beldi_order.proofs.Moved.{items_after, items_by, MoveIs, answers, calls, returns, move_is, mover}
 use Rattle.beldi_order.specs.Laws.{KeepsNoNull, NullIsAbsent}
 use Rattle.beldi_order.proofs.Entries.{did, answer_keeps, run_keeps}
 use Rattle.beldi_order.proofs.Maps.{changed}
-use Rattle.beldi_order.proofs.Pieces.{Whole, whole_piece, whole_try}
 
 set_kept : (f : FinMap item_cmp Value) (y : Item) (v : Value) → ((x : Item) → map.get f x ≡ Some Null → ⊥) → (x : Item) → map.get (set_item f y v) x ≡ Some Null → ⊥
 set_kept f y Null h = changed item_exact f (map.remove f y) y None (get-remove item_total f y) (λ x o. o ≡ Some Null → ⊥) (λ e. cc) h
@@ -43,26 +46,38 @@ by_kept p id q (effect.Async f a) h = h
 by_kept p id q (effect.Return o) h = answer_keeps KeepsNoNull (with_instance p id (ended q o)) h (λ j r a is. h) q.from o
 by_kept p id q e h = operation_kept p id q (op_of e) h
 
-led_kept : (d : Deployment) (m n : Items) (q : Instance) (rest : List Answer) → Leads d m q rest n → ((x : Item) → map.get m x ≡ Some Null → ⊥) → (x : Item) → map.get n x ≡ Some Null → ⊥
-led_kept d m n q [] leads h = subst (λ (z : Items). (x : Item) → map.get z x ≡ Some Null → ⊥) leads h
-led_kept d m n q (a ∷ rest) leads h = led_kept d (next_items d m q) n (answered q a) rest leads.1 (by_op (op_of (effect_of d q)))
+move_kept : (d : Deployment) (t : TxId) (m : Move) (s r : Going) → InLine d t s → moved d t m s ≡ Some r → KeepsNoNull s.state → KeepsNoNull r.state
+move_kept d t m s r line step h = let q = mover d t m s r step in by_kind q.0 q.1 (move_is d t m s q.0 r q.1 step)
   where
-    by_op : (o : Option OnItem) → (x : Item) → map.get (items_after m q.func o) x ≡ Some Null → ⊥
-    by_op None = h
-    by_op (Some o) = set_if_kept m (item_in q.func o) (sets o.does (or_null (map.get m (item_in q.func o)))) h
+    by_op : (q : Instance) (o : Option OnItem) (x : Item) → map.get (items_after s.state.items q.func o) x ≡ Some Null → ⊥
+    by_op q None = h
+    by_op q (Some o) = set_if_kept s.state.items (item_in q.func o) (sets o.does (or_null (map.get s.state.items (item_in q.func o)))) h
 
-whole_kept : (d : Deployment) (p : PlainState) (id : IntentId) (r : PlainState) → Whole d p id r → KeepsNoNull p → KeepsNoNull r
-whole_kept d p id r w h = subst KeepsNoNull (sym w.is) (elim w.items_are [
-  | inl leads ↦ led_kept d p.items w.items (answered w.instance Done) w.rest leads h
-  | inr same ↦ subst (λ (z : Items). (x : Item) → map.get z x ≡ Some Null → ⊥) (sym same) h
-])
+    by_move : (q : Instance) (n : Move) (x : Item) → map.get (items_by s.state.items q (effect_of d q) n) x ≡ Some Null → ⊥
+    by_move q plain = by_op q (op_of (effect_of d q))
+    by_move q (fell o) = h
+
+    by_kind : (q : Instance) → map.get s.state.made s.front ≡ Some q → MoveIs d t m s r q → KeepsNoNull r.state
+    by_kind q made (answers a) = subst (λ (z : Going). KeepsNoNull z.state) (sym a.is) (by_move q m)
+    by_kind q made (calls c) = subst (λ (z : Going). KeepsNoNull z.state) (sym c.is) h
+    by_kind q made (returns e) = subst (λ (z : Going). KeepsNoNull z.state) (sym (returned d t m s r q made line e).is) h
+
+led_kept : (d : Deployment) (t : TxId) (s : Going) (moves : List Move) (l : Going) → InLine d t s → Leads d t s moves l → KeepsNoNull s.state → KeepsNoNull l.state
+led_kept d t s [] l line leads h = subst (λ (z : Going). KeepsNoNull z.state) leads h
+led_kept d t s (m ∷ ms) l line leads h = led_kept d t leads.0 ms l (line_moved d t m s leads.0 line leads.1) leads.2 (move_kept d t m s leads.0 line leads.1 h)
+
+piece_kept : (d : Deployment) (p : PlainState) (id : IntentId) (r : PlainState) → Commits d p id r → KeepsNoNull p → KeepsNoNull r
+piece_kept d p id r c h = subst KeepsNoNull (sym c.is) (led_kept d (tx_begun id c.instance) (opened p id c.instance) c.moves c.last (line_opened d p id c.instance c.runs.open_still) c.runs.leads h)
+
+try_kept : (d : Deployment) (p : PlainState) (id : IntentId) (place : Place) (holder : Option IntentId) (r : PlainState) → Aborts d p id place holder r → KeepsNoNull p → KeepsNoNull r
+try_kept d p id place holder r c h = subst KeepsNoNull (sym c.is) h
 
 after_kept : (d : Deployment) (p : PlainState) (e : Entry) (q : PlainState) → KeepsNoNull p → after d p e ≡ Some q → KeepsNoNull q
 after_kept d p (Start t f a) q h is = subst KeepsNoNull (did d p (Start t f a) q is).leads h
 after_kept d p (Read id seen) q h is = let s = did d p (Read id seen) q is in subst KeepsNoNull s.leads (by_kept p id s.instance (effect_of d s.instance) h)
 after_kept d p (Step id) q h is = let s = did d p (Step id) q is in subst KeepsNoNull s.leads (by_kept p id s.instance (effect_of d s.instance) h)
-after_kept d p (Tx id) q h is = whole_kept d p id q (whole_piece d p id q (did d p (Tx id) q is)) h
-after_kept d p (Try id place holder) q h is = whole_kept d p id q (whole_try d p id place holder q (did d p (Try id place holder) q is)) h
+after_kept d p (Tx id) q h is = piece_kept d p id q (did d p (Tx id) q is) h
+after_kept d p (Try id place holder) q h is = try_kept d p id place holder q (did d p (Try id place holder) q is) h
 
 none_null : KeepsNoNull nothing
 none_null x e = let g = sym (get-empty item_cmp x) ∙ e in cc

@@ -16,7 +16,7 @@ pub txs_pushed : (d : Deployment) (q : Instance) (given : List Answer) (a : Answ
 txs_pushed d q given a = along_pushed (λ ts b s. txs_by (length ts) (effect_after d q ts) s) [] given a none_begun
 
 -- ---- how it went
-pushed_cases : (xs : List Answer) (a b : Answer) (n : ℕ) → slice_get (xs ++ a ∷ []) n ≡ Some b
+pub pushed_cases : (xs : List Answer) (a b : Answer) (n : ℕ) → slice_get (xs ++ a ∷ []) n ≡ Some b
     → ((n ≡ length xs) × (take n (xs ++ a ∷ []) ≡ xs) × (b ≡ a)) ⊎ ((take n (xs ++ a ∷ []) ≡ take n xs) × (slice_get xs n ≡ Some b))
 pushed_cases [] a b zero h = inl (refl, refl, cc)
 pushed_cases [] a b (suc n) h = cc

@@ -13,9 +13,11 @@ use Rattle.beldi_plain.specs.Legal.{IsLegal, run_from}
 use Rattle.beldi_plain.specs.Operation.{Operation, OnItem, op_of, item_in, lock, free}
 use Rattle.beldi_plain.specs.Plain.{Instance, PlainState, nothing, with_instance, answered, effect_of, kind_of}
 use Rattle.beldi_plain.specs.declared.kind.Kind.TheVariants as kinds
+use Rattle.beldi_order.specs.Sane.{Sane}
 
--- an instance that stands at a read, and still does after these entries
+-- in a sane state an instance that stands at a read, and still does after these entries
 pub record StandsStill (d : Deployment) (p q : PlainState) (es : List Entry) (i : IntentId) (a : Instance) : Type 0 where
+  pub sane : Sane d p
   pub made : map.get p.made i ≡ Some a
   pub open_still : a.outcome ≡ None
   pub kind : kind_of i (effect_of d a) ≡ kinds.Read

@@ -1,8 +1,9 @@
 -- What every state of a legal book is: each instance went as its body wants.
-use Rattle.std.specs.Prelude.{◌≡◌, ℕ, Bool, ◌≤◌, ◌<◌, true, false, List, length, slice_get, is_some, Option, Some, None}
+use Rattle.std.specs.Prelude.{◌≡◌, ℕ, Bool, ◌≤◌, ◌<◌, true, false, not, List, length, take, slice_get, is_some, Option, Some, None}
 use Rattle.std.specs.Option.{option_map}
 use Rattle.std.specs.FinMap as map
-use Rattle.beldi_value.specs.Id.{is_older, root_of, child_of}
+use Rattle.std.specs.FinMap.{FinMap}
+use Rattle.beldi_value.specs.Id.{id_cmp, is_older, root_of, child_of}
 use Rattle.beldi_value.specs.declared.id.IntentId.{IntentId}
 use Rattle.beldi_value.specs.declared.outcome.Cause.{Cause}
 use Rattle.beldi_value.specs.declared.outcome.Outcome.{Outcome}
@@ -19,7 +20,7 @@ use Rattle.beldi_lang.specs.Callee.{answer_of}
 use Rattle.beldi_book.specs.declared.entry.Entry.{Entry}
 use Rattle.beldi_plain.specs.Plain.{Instance, PlainState, effect_of, effect_before}
 use Rattle.beldi_plain.specs.Legal.{run_of}
-use Rattle.beldi_order.specs.Txs.{tx_at, txs_after}
+use Rattle.beldi_order.specs.Txs.{tx_at, txs_after, end_of}
 
 -- an answer to a call: how its callee ended
 abbrev pub CallAnswers : Answer → Type 0
@@ -59,8 +60,7 @@ pub record SaneInstance (d : Deployment) (id : IntentId) (q : Instance) : Type 0
   pub past : WentSo d id q
   -- an outcome is there only where the body returns it
   pub over : (o : Outcome) → q.outcome ≡ Some o → effect_of d q ≡ Return o
-  -- it was called in no transaction yet, and each of its own has ended
-  pub outside : q.within ≡ None
+  -- each of its own transactions has ended
   pub ended : (txs_after d q q.answers).begun ≡ None
 
 -- what is at an id, if anything, is sane
@@ -77,12 +77,18 @@ abbrev pub answer_given : Bool → Option Outcome → Option Answer
 answer_given true o = option_map answer_of o
 answer_given false o = Some Done
 
+-- the transaction that a callee is called in: where its caller waits, the one that the call stands in
+abbrev pub within_by : Bool → Option TxId → Option TxId
+within_by true o = o
+within_by false o = None
+
 -- it was called at step n of the instance i, whose effect there is this call
 pub record IsCalled (d : Deployment) (i : IntentId) (q : Instance) (n : ℕ) (j : Instance) : Type 0 where
   pub waits : Bool
   pub here : n ≤ length q.answers
   pub call : effect_before d q n ≡ call_of waits j.func j.args
   pub from : j.from ≡ Some (record { place = record { intent = i; step = n }; func = q.func; waits = waits })
+  pub within : j.within ≡ within_by waits (tx_at d i q n)
   -- where its caller waits, it has an outcome exactly where the call was answered, by that
   pub answered : slice_get q.answers n ≡ answer_given waits j.outcome
 
@@ -90,16 +96,43 @@ abbrev pub CalledBy : Deployment → IntentId → Option Instance → ℕ → In
 CalledBy d i None n j = ⊥
 CalledBy d i (Some q) n j = IsCalled d i q n j
 
+-- a step of a transaction that aborted: what it called is forgotten
+abbrev pub forgets : Option (ℕ × Bool) → Bool
+forgets None = false
+forgets (Some e) = not e.1
+
+abbrev pub forgets_begun : (ℕ → Option (ℕ × Bool)) → Option ℕ → Bool
+forgets_begun ends None = false
+forgets_begun ends (Some b) = forgets (ends b)
+
+abbrev pub is_forgotten : Deployment → Instance → ℕ → Bool
+is_forgotten d q n = forgets_begun (end_of d q) (txs_after d q (take n q.answers)).begun
+
+-- a transaction that committed
+pub record IsCommitted (d : Deployment) (f : FinMap id_cmp Instance) (t : TxId) : Type 0 where
+  pub owner : Instance
+  pub made : map.get f t.intent ≡ Some owner
+  pub func : owner.func ≡ t.func
+  pub outside : owner.within ≡ None
+  pub step : ℕ
+  pub ends : end_of d owner t.begin ≡ Some (step, true)
+
 pub record Sane (d : Deployment) (p : PlainState) : Type 0 where
   -- every instance that was made is
   pub each : (id : IntentId) → SaneAt d id (map.get p.made id)
   -- what has an id of a callee was called there
   pub called : (i : IntentId) (n : ℕ) (j : Instance) → map.get p.made (child_of i n) ≡ Some j → CalledBy d i (map.get p.made i) n j
-  -- and a call that was answered has its callee
-  pub callees : (i : IntentId) (q : Instance) (n : ℕ) (w : Bool) (f : ℕ) (a : value.Value) → map.get p.made i ≡ Some q → n < length q.answers → effect_before d q n ≡ call_of w f a → is_some (map.get p.made (child_of i n)) ≡ true
+  -- and a call that was answered has its callee, unless its transaction aborted
+  pub callees : (i : IntentId) (q : Instance) (n : ℕ) (w : Bool) (f : ℕ) (a : value.Value) → map.get p.made i ≡ Some q → n < length q.answers → effect_before d q n ≡ call_of w f a → is_forgotten d q n ≡ false → is_some (map.get p.made (child_of i n)) ≡ true
   -- nobody called a root
-  pub roots : (t : ℕ) (q : Instance) → map.get p.made (root_of t) ≡ Some q → q.from ≡ None
+  pub roots : (t : ℕ) (q : Instance) → map.get p.made (root_of t) ≡ Some q → (q.from ≡ None) × (q.within ≡ None)
+  -- what was called in a transaction was called in one that committed
+  pub committed : (i : IntentId) (q : Instance) (t : TxId) → map.get p.made i ≡ Some q → q.within ≡ Some t → IsCommitted d p.made t
 
 -- so it is at the end of a legal book
 abbrev pub LegalIsSane : Type 0
 LegalIsSane = (d : Deployment) (book : List Entry) (p : PlainState) → run_of d book ≡ Some p → Sane d p
+
+-- and all that was called in a transaction has its outcome
+abbrev pub InsideIsOver : Type 0
+InsideIsOver = (d : Deployment) (p : PlainState) → Sane d p → (i : IntentId) (q : Instance) (t : TxId) → map.get p.made i ≡ Some q → q.within ≡ Some t → is_some q.outcome ≡ true

@@ -1,8 +1,47 @@
 // The laws of the linear order, and of legal books.
-ghost use Rattle.beldi_order.specs.Inside.{PiecesAreFolds, FoldsReadTheirItems, PiecesTouchTheirItems, EntriesTouchWhatTheyChange, OthersLeaveTransactions};
+ghost use Rattle.beldi_order.specs.Sane.{LegalIsSane, InsideIsOver};
 ghost use Rattle.beldi_order.specs.Laws.{LinearIsInOrder, NullIsAbsent, ChangesComeLast, LateReadsBelong};
 ghost use Rattle.beldi_order.specs.Guard.{LateReadsLeaveGuards, LegalIsGuarded};
-ghost use Rattle.beldi_order.specs.Sane.{LegalIsSane};
+ghost use Rattle.beldi_order.specs.Inside.{PiecesAreMoves, MovesReadTheirItems, PiecesTouchTheirItems, EntriesTouchWhatTheyChange, OthersLeaveTransactions, PlacesComeOnce};
+
+/// A transaction that commits, and a try, are lists of moves: of any length, so the bound of the plain machine bars none.
+pub fn pieces_are_moves()
+    ensures { PiecesAreMoves }
+{}
+
+/// The moves of a transaction go by the values alone of the items that they touch, and by the instances that are in it; and leave all items
+/// that they do not write, and all others.
+pub fn moves_read_their_items()
+    ensures { MovesReadTheirItems }
+{}
+
+/// A transaction touches an item only by a move that was not aborted.
+pub fn pieces_touch_their_items()
+    ensures { PiecesTouchTheirItems }
+{}
+
+/// In the run of a legal book each instance was answered as its effects are, and has an outcome only where its body returns it.
+/// A callee was called at the step that its id names, and its outcome is what the call was answered; no root has a caller. What was
+/// called in a transaction was called in one that committed; one that aborted has none.
+pub fn legal_is_sane()
+    ensures { LegalIsSane }
+{}
+
+/// In a sane state what was called in a transaction has its outcome.
+pub fn inside_is_over()
+    ensures { InsideIsOver }
+{}
+
+/// An entry changes no item that it does not touch.
+pub fn entries_touch_what_they_change()
+    ensures { EntriesTouchWhatTheyChange }
+{}
+
+/// A transaction that runs goes on, with the same moves, from the state after an entry of another instance, where that leaves the
+/// values of the items that it has touched.
+pub fn others_leave_transactions()
+    ensures { OthersLeaveTransactions }
+{}
 
 /// In the linear order of a book the changes stand in book order, and behind each number of changes the reads that belong
 /// there, in book order too.
@@ -25,12 +64,6 @@ pub fn late_reads_belong()
     ensures { LateReadsBelong }
 {}
 
-/// In the run of a legal book each instance was answered as its effects are, and has an outcome only where its body returns it.
-/// A callee was called at the step that its id names, and its outcome is what the call was answered; no root has a caller.
-pub fn legal_is_sane()
-    ensures { LegalIsSane }
-{}
-
 /// Entries that are guarded by locks stay so where an instance that stands at a read, and still does after them, is answered
 /// before them.
 pub fn late_reads_leave_guards()
@@ -43,30 +76,7 @@ pub fn legal_is_guarded()
     ensures { LegalIsGuarded }
 {}
 
-/// A transaction that commits, and a try, are what the answers of their instance lead to: the entry is enabled just where they
-/// lead from the instance's begin to such an end, and leaves that.
-pub fn pieces_are_folds()
-    ensures { PiecesAreFolds }
-{}
-
-/// What the answers of a transaction lead to goes by the values alone of the items that they touch, and leaves all items that they
-/// do not write.
-pub fn folds_read_their_items()
-    ensures { FoldsReadTheirItems }
-{}
-
-/// A transaction touches an item only by an answer that was not aborted.
-pub fn pieces_touch_their_items()
-    ensures { PiecesTouchTheirItems }
-{}
-
-/// An entry changes no item that it does not touch.
-pub fn entries_touch_what_they_change()
-    ensures { EntriesTouchWhatTheyChange }
-{}
-
-/// A transaction that runs goes on, with the same answers, from the state after an entry of another instance, where that leaves the
-/// values of the items that it has touched.
-pub fn others_leave_transactions()
-    ensures { OthersLeaveTransactions }
+/// In a transaction nobody stands at one place twice.
+pub fn places_come_once()
+    ensures { PlacesComeOnce }
 {}

@@ -1,7 +1,7 @@
 //! What every run of the plain machine keeps, and how a legal book grows: by a change at its end, or by a read that belongs
 //! earlier. It has no code. It stands on the plain machine. Its definitions: `specs/Laws`, `specs/Sane` (instances that
 //! went as their bodies want), `specs/Grown` (instances that go on), `specs/Txs` (the transactions of an
-//! instance), `specs/Inside` (transactions as folds over answers), and `specs/Guard` (what the guard of a legal book says in
+//! instance), `specs/Inside` (a transaction over its callees, as moves), and `specs/Guard` (what the guard of a legal book says in
 //! words, and that late reads leave it).
 //!
 //! Proved:
@@ -15,12 +15,14 @@
 //!   (`late_reads_belong`).
 //! - In the run of a legal book each instance went as its body wants: what was answered was an effect that is answered
 //!   so, and an outcome is there only where the body returns it. What has an id of a callee was called there, and its
-//!   outcome is what the call was answered (`legal_is_sane`).
+//!   outcome is what the call was answered; what was called in a transaction was called in one that committed
+//!   (`legal_is_sane`), and has its outcome (`inside_is_over`).
 //! - From the step of a legal book in which an instance locks an item to the one in which it unlocks it, no entry of another
 //!   touches the item (`legal_is_guarded`).
-//! - A transaction that commits, and a try, are what the answers of their instance lead to, each the plain one by the items
-//!   that those before it leave (`pieces_are_folds`). They go by the items alone that they touch (`folds_read_their_items`), and those
-//!   are what the entry touches (`pieces_touch_their_items`).
+//! - A transaction that commits, and a try, are lists of moves: in each the one that waits for nobody is answered, calls or
+//!   returns (`pieces_are_moves`). No bound bars one. Nobody stands at one place twice (`places_come_once`). They go by the
+//!   items alone that they touch, and leave who is in no such call (`moves_read_their_items`); those items are what the entry touches
+//!   (`pieces_touch_their_items`).
 //! - An entry changes no item that it does not touch (`entries_touch_what_they_change`), and a transaction that runs goes on
 //!   past an entry of another that leaves its items (`others_leave_transactions`).
 //! - Entries that are guarded by locks stay so where a read that belongs earlier is answered before them
@@ -30,7 +32,8 @@
 mod laws;
 
 pub use laws::{
-    changes_come_last, entries_touch_what_they_change, folds_read_their_items, late_reads_belong,
-    late_reads_leave_guards, legal_is_guarded, legal_is_sane, linear_is_in_order, null_is_absent,
-    others_leave_transactions, pieces_are_folds, pieces_touch_their_items,
+    changes_come_last, entries_touch_what_they_change, inside_is_over, late_reads_belong,
+    late_reads_leave_guards, legal_is_guarded, legal_is_sane, linear_is_in_order,
+    moves_read_their_items, null_is_absent, others_leave_transactions, pieces_are_moves,
+    pieces_touch_their_items, places_come_once,
 };

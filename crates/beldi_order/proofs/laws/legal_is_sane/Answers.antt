@@ -1,4 +1,4 @@
-use Rattle.beldi_order.proofs.Sanes.{legal_is_sane}
+use Rattle.beldi_order.proofs.Sound.{legal_is_sane}
 use Rattle.beldi_order.proofs.laws.legal_is_sane.Goals as goal
 
 pub returns : goal.returns

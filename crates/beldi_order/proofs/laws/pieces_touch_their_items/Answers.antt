@@ -1,4 +1,4 @@
-use Rattle.beldi_order.proofs.Beside.{pieces_touch_their_items}
+use Rattle.beldi_order.proofs.Touched.{pieces_touch_their_items}
 use Rattle.beldi_order.proofs.laws.pieces_touch_their_items.Goals as goal
 
 pub returns : goal.returns

@@ -1,0 +1,89 @@
+-- A transaction does not see an instance that is not in it: its moves lead on where that was set.
+use Rattle.std.proofs.Common.{◌≡◌, inl, inr, true, List, [], ◌∷◌, Some, ap, sym, ◌∙◌, subst}
+use Rattle.std.specs.FinMap as map
+use Rattle.beldi_value.specs.declared.id.IntentId.{IntentId}
+use Rattle.beldi_value.specs.declared.place.Place.{Place}
+use Rattle.beldi_value.specs.declared.place.TxId.{TxId}
+use Rattle.beldi_tree.specs.declared.deployment.Deployment.{Deployment}
+use Rattle.beldi_lang.specs.Callee.{answer_of}
+use Rattle.beldi_lang.specs.declared.effect.Answer.TheVariants as answer
+use Rattle.beldi_plain.specs.Item.{Item}
+use Rattle.beldi_plain.specs.Moves.{Move, plain, fell, moved, Leads, NotBefore, is_there, stands_there, touched_at, TouchedBy, TouchedIn}
+use Rattle.beldi_plain.specs.Piece.{Going, opened, new_member}
+use Rattle.beldi_plain.specs.Plain.{Instance, PlainState, with_instance, answered, ended, callee_of, calls_at, effect_of}
+use Rattle.beldi_order.specs.Inside.{IsIn, InLine}
+use Rattle.beldi_order.proofs.Line.{all_in, callee_in, line_moved, returned, answers_who_waits, shorter, not_longer}
+use Rattle.beldi_order.proofs.Maps.{same_some, elsewhere, commutes}
+use Rattle.beldi_order.proofs.Moved.{items_by, MoveIs, answers, calls, returns, move_is, mover, answers_so, calls_so, returns_so}
+
+module _ (d : Deployment) (t : TxId) (i : IntentId) (x : Instance) (out : IsIn t i → ⊥) where
+  abbrev pub set_in : Going → Going
+  set_in s = record { state = with_instance s.state i x; front = s.front }
+
+  apart : (k : IntentId) → IsIn t k → i ≡ k → ⊥
+  apart k in_it same = out (subst (IsIn t) (sym same) in_it)
+
+  pub front_there : (s : Going) → InLine d t s → map.get (set_in s).state.made s.front ≡ map.get s.state.made s.front
+  front_there s line = elsewhere s.state.made i s.front x (apart s.front (all_in d t s.state.made s.front line))
+
+  module _ (m : Move) (s r : Going) (line : InLine d t s) (h : moved d t m s ≡ Some r) where
+    by_kind : (q : Instance) → map.get s.state.made s.front ≡ Some q → MoveIs d t m s r q → moved d t m (set_in s) ≡ Some (set_in r)
+    by_kind q made (answers a) =
+        answers_so d t m (set_in s) q (front_there s line ∙ made) a.answer a.gives_it
+        ∙ ap (λ g. Some (record { state = record { items = items_by s.state.items q (effect_of d q) m; made = g }; front = s.front })) (commutes s.state.made i s.front x (answered q a.answer) (apart s.front (all_in d t s.state.made s.front line)))
+        ∙ ap (λ z. Some (set_in z)) (sym a.is)
+    by_kind q made (calls c) =
+        let k = callee_of s.front q in
+        let other = apart k (callee_in d t s.state.made s.front q line made) in
+        calls_so d t m (set_in s) q (front_there s line ∙ made) c.func c.args c.plainly c.call c.short (elsewhere s.state.made i k x other ∙ c.gone)
+        ∙ ap (λ g. Some (record { state = record { items = s.state.items; made = g }; front = k })) (commutes s.state.made i k x (new_member t c.func c.args (calls_at s.front q true)) other)
+        ∙ ap (λ z. Some (set_in z)) (sym c.is)
+    by_kind q made (returns e) =
+        let w = returned d t m s r q made line e in
+        let over = ended q e.outcome in
+        let last = answered w.member.waiter (answer_of e.outcome) in
+        let here_apart = apart s.front (all_in d t s.state.made s.front line) in
+        let there_apart = apart w.caller (all_in d t s.state.made w.caller w.line) in
+        let f = map.insert s.state.made i x in
+        let there : map.get (map.insert f s.front over) w.caller ≡ Some w.member.waiter =
+        elsewhere f s.front w.caller over (λ same. not_longer w.caller s.front (shorter d t s.state.made w.caller s.front w.member) same) ∙ elsewhere s.state.made i w.caller x there_apart ∙ w.member.waits in
+        returns_so d t m (set_in s) q (front_there s line ∙ made) e.outcome e.caller e.plainly e.returns e.not_owner e.from
+        ∙ (λ j. Some (record { state = answers_who_waits d t (set_in s) q e.outcome e.caller w.caller w.member.waiter w.call_is there j; front = (w.call_is j).place.intent }))
+        ∙ ap (λ g. Some (record { state = record { items = s.state.items; made = map.insert g w.caller last }; front = w.caller })) (commutes s.state.made i s.front x over here_apart)
+        ∙ ap (λ g. Some (record { state = record { items = s.state.items; made = g }; front = w.caller })) (commutes (map.insert s.state.made s.front over) i w.caller x last there_apart)
+        ∙ ap (λ z. Some (set_in z)) (sym w.is)
+
+    pub move_passes : moved d t m (set_in s) ≡ Some (set_in r)
+    move_passes = let q = mover d t m s r h in by_kind q.0 q.1 (move_is d t m s q.0 r q.1 h)
+
+  pub moves_pass : (s : Going) (ms : List Move) (l : Going) → InLine d t s → Leads d t s ms l → Leads d t (set_in s) ms (set_in l)
+  moves_pass s [] l line leads = ap set_in leads
+  moves_pass s (m ∷ ms) l line leads = (set_in leads.0, move_passes m s leads.0 line leads.1, moves_pass leads.0 ms l (line_moved d t m s leads.0 line leads.1) leads.2)
+
+  place_passes : (place : Place) (s : Going) → InLine d t s → is_there place (set_in s) ≡ is_there place s
+  place_passes place s line = ap (stands_there place s) (front_there s line)
+
+  pub first_passes : (place : Place) (s : Going) (ms : List Move) (l : Going) → InLine d t s → Leads d t s ms l → NotBefore d t place s ms → NotBefore d t place (set_in s) ms
+  first_passes place s [] l line leads first = tt
+  first_passes place s (m ∷ ms) l line leads first = (
+    place_passes place s line ∙ first.0,
+    λ r so. subst (λ z. NotBefore d t place z ms) (same_some (sym (move_passes m s leads.0 line leads.1) ∙ so)) (first_passes place leads.0 ms l (line_moved d t m s leads.0 line leads.1) leads.2 (first.1 leads.0 leads.1)),
+  )
+
+  touched_one : (m : Move) (s : Going) (y : Item) → InLine d t s → TouchedBy d (set_in s) m y → TouchedBy d s m y
+  touched_one plain s y line on = ap (touched_at d) (sym (front_there s line)) ∙ on
+  touched_one (fell o) s y line on = on
+
+  -- what they touch there, they touch here
+  pub touched_back : (s : Going) (ms : List Move) (l : Going) (y : Item) → InLine d t s → Leads d t s ms l → TouchedIn d t (set_in s) ms y → TouchedIn d t s ms y
+  touched_back s [] l y line leads on = on
+  touched_back s (m ∷ ms) l y line leads (inl on) = inl (touched_one m s y line on)
+  touched_back s (m ∷ ms) l y line leads (inr on) =
+      inr (leads.0, leads.1, touched_back leads.0 ms l y (line_moved d t m s leads.0 line leads.1) leads.2 (subst (λ z. TouchedIn d t z ms y) (same_some (sym on.1 ∙ move_passes m s leads.0 line leads.1)) on.2))
+
+  pub there_passes : (place : Place) (s : Going) → InLine d t s → is_there place s ≡ true → is_there place (set_in s) ≡ true
+  there_passes place s line is = place_passes place s line ∙ is
+
+-- from its Begin
+pub opened_passes : (p : PlainState) (j i : IntentId) (q x : Instance) → (i ≡ j → ⊥) → record { state = with_instance (opened p j q).state i x; front = j } ≡ opened (with_instance p i x) j q
+opened_passes p j i q x other = ap (λ g. record { state = record { items = p.items; made = g }; front = j }) (sym (commutes p.made i j x (answered q answer.Done) other))
