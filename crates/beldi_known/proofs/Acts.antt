@@ -42,10 +42,10 @@ use Rattle.beldi_known.specs.Acts.{with_note}
 use Rattle.beldi_known.specs.Frame.{AnswersOne, row_added, LockedOut, lock_in}
 use Rattle.beldi_known.proofs.Answers.{true_false}
 use Rattle.beldi_known.proofs.Rows.{head_order, keys_set}
-use Rattle.beldi_known.proofs.FrameAt.{read_none, read_one, intents_same, calls_same}
+use Rattle.beldi_known.proofs.FrameAt.{read_none, read_one, calls_same}
 use Rattle.beldi_known.proofs.Fronts.{read_elsewhere}
 use Rattle.beldi_known.proofs.Locks.{lock_taken, lock_kept, txs_taken, txs_kept, tx_same, tx_self}
-use Rattle.beldi_known.proofs.Fronts.{locksets_answered, items_answered, txs_answered, item_died, item_kept, txs_died, shadow_kept, shadow_noted}
+use Rattle.beldi_known.proofs.Fronts.{intents_same, locksets_answered, items_answered, txs_answered, item_died, item_kept, txs_died, shadow_kept, shadow_noted}
 
 -- ---- keys of two kinds are apart: by a test that tells the kinds, and no order
 pub kinds_apart : (f : Kind → Bool) (k l : RowKey) → f k.kind ≡ true → f l.kind ≡ false → is_eq (key_cmp k l) ≡ false
@@ -153,7 +153,7 @@ module _ (d : Deployment) (known : Known) (locked unlocked : IntentId → Bool) 
     where
       by_kind : (home : ℕ) (kind : Kind) → ((b : Place) → kind ≡ kinds.ReadLog b → owed_read d after home b ≡ owed_read d known home b) → RowMatches d known home kind (map.get m (record { home = home; kind = kind }))
           → RowMatches d after home kind (map.get m (record { home = home; kind = kind }))
-      by_kind home (kinds.Intent j) same g = intents_same d known id q r a is one home j (map.get m (record { home = home; kind = kinds.Intent j })) g
+      by_kind home (kinds.Intent j) same g = intents_same d known locked unlocked id q r a is one out home j (map.get m (record { home = home; kind = kinds.Intent j })) g
       by_kind home (kinds.ReadLog b) same g = subst (LogMatches (map.get m (log_key home b))) (sym (same b refl)) g
       by_kind home (kinds.Invoke b) same g = subst (CallMatches (map.get m (record { home = home; kind = kinds.Invoke b }))) (sym (calls_same d known id q r a is one home b)) g
       by_kind home (kinds.Lockset j b t z) same g = let x : Item = record { func = home; table = t; key = z } in

@@ -21,7 +21,8 @@ use Rattle.beldi_plain.specs.Operation.{touched}
 use Rattle.beldi_known.specs.Owed.{value_for}
 use Rattle.beldi_known.specs.Matches.{Matches}
 use Rattle.beldi_known.proofs.Answers.{true_false}
-use Rattle.beldi_known.proofs.Frame.{step_next, fits, begins}
+use Rattle.beldi_order.proofs.Ends.{fits}
+use Rattle.beldi_known.proofs.Frame.{step_next, begins}
 use Rattle.beldi_known.proofs.Behind.{no_log}
 
 module _ (d : Deployment) (m : Rows) (known : Known) (locked : IntentId → Bool) (h : Matches d m known locked) (id : IntentId) (q : Instance) (is : map.get known id ≡ Some q) where

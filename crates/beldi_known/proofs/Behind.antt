@@ -41,7 +41,8 @@ use Rattle.beldi_known.specs.Sane.{SaneInstance}
 use Rattle.beldi_order.specs.Sane.{IsAnswer, IsDeath}
 use Rattle.beldi_known.specs.Acts.{Told, noted, noted_or, lock_or, lock_on, put_lockset, keep_value, lock_answer}
 use Rattle.beldi_known.proofs.Answers.{take_front, get_next, true_false}
-use Rattle.beldi_known.proofs.Frame.{along_append, ended_stays, begins}
+use Rattle.beldi_order.proofs.Ends.{along_append, ended_stays}
+use Rattle.beldi_known.proofs.Frame.{begins}
 use Rattle.beldi_order.proofs.Went.{txs_pushed}
 
 or_none : (o : Option Value) → value_or o None ≡ o

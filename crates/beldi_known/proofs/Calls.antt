@@ -8,6 +8,7 @@ use Rattle.beldi_value.specs.declared.id.IntentId.{IntentId}
 use Rattle.beldi_value.specs.declared.outcome.Outcome.{Outcome}
 use Rattle.beldi_value.specs.declared.place.Caller.{Caller}
 use Rattle.beldi_value.specs.declared.place.Place.{Place}
+use Rattle.beldi_value.specs.declared.place.TxId.{TxId}
 use Rattle.beldi_value.specs.declared.value.Value.{Value}
 use Rattle.beldi_value.proofs.Callees.{child_same, no_root}
 use Rattle.beldi_tree.specs.declared.deployment.Deployment.{Deployment}
@@ -27,7 +28,7 @@ use Rattle.beldi_step.specs.Run.{is_waited, place_of}
 use Rattle.beldi_known.specs.Known.{Known, at_once, owed_call, answered_note, ahead_note, note_or, is_decided, last_step, is_item, begins_at}
 use Rattle.beldi_order.specs.Txs.{tx_now}
 use Rattle.beldi_plain.specs.Operation.{touched}
-use Rattle.beldi_known.specs.Matches.{Matches, is_open}
+use Rattle.beldi_known.specs.Matches.{Matches, has_ended, is_open}
 use Rattle.beldi_known.specs.Owed.{called_by, result_of}
 use Rattle.beldi_known.specs.Rows.{IntentMatches, CalleeMatches, CallMatches}
 use Rattle.beldi_known.proofs.Frame.{OwesSame, at_once_same}
@@ -36,16 +37,16 @@ use Rattle.beldi_known.proofs.Instances.{callee_on, callee_new, calls_moved, no_
 use Rattle.beldi_known.proofs.Sets.{OwesStill, instance_set}
 
 -- ---- what is made owes nothing
-pub new_owes : (d : Deployment) (known : Known) (id : IntentId) (f : ℕ) (v : Value) (c : Option Caller) → OwesStill d known id None (new_instance f v c)
-new_owes d known id f v c = record {
+pub new_owes : (d : Deployment) (known : Known) (id : IntentId) (f : ℕ) (v : Value) (c : Option Caller) (t : Option TxId) → OwesStill d known id None (record (new_instance f v c) { within = t })
+new_owes d known id f v c t = record {
   values = λ u n. by_test (f == u);
-  notes = λ x n. not_ahead d x id n (new_instance f v c);
+  notes = λ x n. not_ahead d x id n (record (new_instance f v c) { within = t });
   shadows = λ t x n. refl;
   locksets = λ b x. refl;
   got = λ t x. refl;
   held = λ x. refl;
   ends = λ b. refl;
-  marks = λ n. refl;
+  marks = λ n h. refl;
   behind = λ b x. refl;
 }
   where
@@ -63,15 +64,17 @@ still_then d known id o q s g h = record {
   got = λ t x. ap (λ z. z || false) (h.got t x) ∙ g.got t x;
   held = λ x. h.held x ∙ g.held x;
   ends = λ b. h.ends b ∙ g.ends b;
-  marks = λ n. (λ i. is_some (h.marks n i) || (is_decided d known (h.within i) && (n == last_step))) ∙ g.marks n;
+  marks = λ n none. g.marks n (sym (λ i. is_some (h.marks n i) || (is_decided d known (h.within i) && (n == last_step))) ∙ none);
   behind = g.behind;
 }
   where
     without : (x : Item) (n : ℕ) (z : Instance) → note_or (answered_note d x id n z) (ahead_note d x id false n z) ≡ answered_note d x id n z
     without x n z = ap (note_or (answered_note d x id n z)) (not_ahead d x id n z) ∙ or_none (answered_note d x id n z)
 
-pub made_owes : (d : Deployment) (known : Known) (id : IntentId) (f : ℕ) (v : Value) (c : Option Caller) → OwesStill d known id None (at_once d id (new_instance f v c))
-made_owes d known id f v c = still_then d known id None (new_instance f v c) (at_once d id (new_instance f v c)) (new_owes d known id f v c) (at_once_same d id (new_instance f v c))
+pub made_owes : (d : Deployment) (known : Known) (id : IntentId) (f : ℕ) (v : Value) (c : Option Caller) (t : Option TxId) → OwesStill d known id None (at_once d id (record (new_instance f v c) { within = t }))
+made_owes d known id f v c t =
+    let q : Instance = record (new_instance f v c) { within = t } in
+    still_then d known id None q (at_once d id q) (new_owes d known id f v c t) (at_once_same d id q)
 
 -- an instance that returns owes what it owed
 pub ended_owes : (d : Deployment) (known : Known) (id : IntentId) (q : Instance) (o u : Outcome) → effect_of d q ≡ effect.Return u → OwesStill d known id (Some q) (ended q o)
@@ -83,7 +86,7 @@ ended_owes d known id q o u returns = record {
   got = λ t x. refl;
   held = λ x. refl;
   ends = λ b. refl;
-  marks = λ n. refl;
+  marks = λ n h. h;
   behind = λ b x. ap (λ e. is_none q.outcome && (is_open d known (tx_now d id q) && (begins_at b (tx_now d id q) && is_item x q.func (touched e)))) returns ∙ three (is_none q.outcome) (is_open d known (tx_now d id q)) (begins_at b (tx_now d id q));
 }
   where
@@ -135,10 +138,10 @@ module _ (d : Deployment) (known : Known) (locked : IntentId → Bool) (id : Int
       ] refl in
       ap (λ z. called_by home (map.get known z) (Some s)) place.0 ∙ ap (λ o. called_by home o (Some s)) is ∙ not_home home i (Some s) away ∙ sym (ap (called_by home (map.get known b.intent)) new ∙ no_callee home (map.get known b.intent))
 
-  own_row : (home : ℕ) (r : Option Row) → IntentMatches (has_no_hops callee.hops) home r (map.get known callee) → IntentMatches (has_no_hops callee.hops) home r (Some s)
+  own_row : (home : ℕ) (r : Option Row) → IntentMatches (has_ended d known) (has_no_hops callee.hops) home r (map.get known callee) → IntentMatches (has_ended d known) (has_no_hops callee.hops) home r (Some s)
   own_row home r g =
       let hops = no_root id (length i.answers) in
-      subst (λ b. IntentMatches b home r (Some s)) (sym hops) (callee_new home r s none (subst (CalleeMatches home r) new (subst (λ b. IntentMatches b home r (map.get known callee)) hops g)))
+      subst (λ b. IntentMatches (has_ended d known) b home r (Some s)) (sym hops) (callee_new (has_ended d known) home r s none (subst (CalleeMatches (has_ended d known) home r) new (subst (λ b. IntentMatches (has_ended d known) b home r (map.get known callee)) hops g)))
 
   pub call_opened : (m : Rows) (r : InvokeRow) → r.func ≡ s.func → r.result ≡ None → Matches d m known locked → Matches d (set_row m key (Some (rows.Invoke r))) after locked
   call_opened m r func empty h = instance_set d known locked callee s unlocked (subst (λ o. OwesStill d known callee o s) (sym new) owes) m key (Some (rows.Invoke r)) refl
@@ -178,11 +181,11 @@ module _ (d : Deployment) (known : Known) (locked : IntentId → Bool) (id : Int
       ] refl in
       ap (λ c. called_by home c (Some (ended j o))) caller ∙ not_home home i (Some (ended j o)) away ∙ sym (ap (λ c. called_by home c (map.get known child)) caller ∙ not_home home i (map.get known child) away)
 
-  callee_row : (home : ℕ) (r : Option Row) → IntentMatches (has_no_hops child.hops) home r (map.get known child) → IntentMatches (has_no_hops child.hops) home r (Some (ended j o))
+  callee_row : (home : ℕ) (r : Option Row) → IntentMatches (has_ended d known) (has_no_hops child.hops) home r (map.get known child) → IntentMatches (has_ended d known) (has_no_hops child.hops) home r (Some (ended j o))
   callee_row home r g =
       let hops = no_root id n in
-      subst (λ b. IntentMatches b home r (Some (ended j o))) (sym hops)
-      (callee_on home r j (ended j o) (return_keeps_row j o waited open_still) (subst (CalleeMatches home r) made (subst (λ b. IntentMatches b home r (map.get known child)) hops g)))
+      subst (λ b. IntentMatches (has_ended d known) b home r (Some (ended j o))) (sym hops)
+      (callee_on (has_ended d known) home r j (ended j o) (return_keeps_row j o waited open_still) (subst (CalleeMatches (has_ended d known) home r) made (subst (λ b. IntentMatches (has_ended d known) b home r (map.get known child)) hops g)))
 
   -- its caller is answered then, which owes the rows nothing more (`call_answered`)
   pub given_back : (m : Rows) (r : InvokeRow) → map.get m row_key ≡ Some (rows.Invoke r) → Matches d m known locked → Matches d (set_row m row_key (Some (rows.Invoke (record r { result = Some o })))) given locked

@@ -1,9 +1,10 @@
 -- The decision of an open transaction is its entry in the plain state, and all items are listed as that leaves them.
-use Rattle.std.proofs.Common.{◌≡◌, ◌∙◌, ◌⊎◌, inl, inr, ℕ, ◌<◌, ◌==◌, ◌&&◌, Bool, true, false, cond, [], ◌∷◌, ◌++◌, length, Option, Some, None, is_some, refl, ap, sym, subst, eq-eqb, arith, length-append, if◌then◌else◌}
+use Rattle.std.proofs.Common.{◌≡◌, ◌∙◌, ◌⊎◌, inl, inr, ℕ, ◌≤◌, ◌&&◌, Bool, true, false, cond, List, [], ◌∷◌, ◌++◌, length, length-append, Option, Some, None, is_some, refl, ap, sym, subst, eq-eqb, eqb-true, arith, if◌then◌else◌}
+use Rattle.std.specs.Prelude.{slice_get}
 use Rattle.std.specs.FinMap as map
 use Rattle.std.specs.Ordering.{is_eq}
 use Rattle.std.proofs.lemmas.Cmp.{tied_itself}
-use Rattle.beldi_value.specs.Id.{id_total, is_older}
+use Rattle.beldi_value.specs.Id.{id_cmp, id_total, is_older}
 use Rattle.beldi_value.specs.declared.id.IntentId.{IntentId}
 use Rattle.beldi_value.specs.declared.outcome.Cause.{Cause}
 use Rattle.beldi_value.specs.declared.place.Owner.{Owner}
@@ -13,48 +14,56 @@ use Rattle.beldi_value.specs.declared.place.TxId.{TxId}
 use Rattle.beldi_value.specs.declared.value.Value.{Value}
 use Rattle.beldi_value.specs.declared.value.Value.TheVariants as value
 use Rattle.beldi_tree.specs.declared.deployment.Deployment.{Deployment}
+use Rattle.beldi_lang.specs.declared.effect.Answer.{Answer}
 use Rattle.beldi_lang.specs.declared.effect.Answer.TheVariants as answer
-use Rattle.beldi_lang.specs.declared.effect.Effect.{Effect}
 use Rattle.beldi_lang.specs.declared.effect.Effect.TheVariants as effect
+use Rattle.beldi_book.specs.declared.entry.Entry.TheVariants as entry
 use Rattle.beldi_row.specs.Key.{key_cmp}
 use Rattle.beldi_row.specs.Table.{Rows, set_row}
-use Rattle.beldi_row.specs.declared.key.RowKey.{RowKey}
 use Rattle.beldi_row.specs.declared.key.Kind.{Kind}
 use Rattle.beldi_row.specs.declared.key.Kind.TheVariants as kinds
 use Rattle.beldi_row.specs.declared.row.Row.{Row}
 use Rattle.beldi_row.specs.declared.row.Row.TheVariants as rows
 use Rattle.beldi_row.proofs.Gets.{got as row_got, key_same, key_self}
+use Rattle.beldi_readlog.specs.ReadLog.{log_key}
 use Rattle.beldi_daal.specs.Content.{Content, content_in}
 use Rattle.beldi_plain.specs.Item.{Item}
-use Rattle.beldi_plain.specs.Operation.{touched}
-use Rattle.beldi_plain.specs.Piece.{enough, aborted, stands_at, is_holder}
-use Rattle.beldi_plain.specs.Plain.{Instance, PlainState, answered, effect_of, with_instance, effect_before}
-use Rattle.beldi_order.specs.Inside.{answered_all, inside, value_of, TouchedIn, Runs, Commits, Aborts, closing, closing_by, falling}
-use Rattle.beldi_order.specs.Sane.{IsAnswer, IsDeath}
-use Rattle.beldi_order.specs.Txs.{effect_after, tx_after, tx_now, txs_after, tx_by, or_own, end_of}
-use Rattle.beldi_order.proofs.Maps.{same_some}
-use Rattle.beldi_order.proofs.Pieces.{more_answers}
-use Rattle.std.specs.Prelude.{slice_get}
+use Rattle.beldi_plain.specs.Moves.{Move, fell, AllPlain, AtEnd, Commits, Runs, TouchedIn, is_there, stands_there}
+use Rattle.beldi_plain.specs.Piece.{Going, gives, is_holder, opened, tx_begun}
+use Rattle.beldi_plain.specs.Plain.{Instance, PlainState, answered, effect_of, value_at, with_instance}
+use Rattle.beldi_order.specs.Inside.{IsBelow, IsIn, InLine}
+use Rattle.beldi_order.specs.Sane as plain
+use Rattle.beldi_order.specs.Txs.{Txs, end_of, is_at, tx_after, tx_at, txs_after, txs_by}
+use Rattle.beldi_order.proofs.Beside.{others}
+use Rattle.beldi_order.proofs.Goes.{AllSound, IsSound as Older}
+use Rattle.beldi_order.proofs.Line.{line_opened}
+use Rattle.beldi_order.proofs.Maps.{elsewhere as stays, here, same_some}
+use Rattle.beldi_order.proofs.Pieces.{pieces_are_moves}
+use Rattle.beldi_order.proofs.Rises.{places_come_once}
+use Rattle.beldi_order.proofs.Sound.{after_sane}
+use Rattle.beldi_order.proofs.Went.{txs_pushed}
 use Rattle.beldi_step.specs.Run.{place_of}
-use Rattle.beldi_known.specs.Beside.{begins, last_of}
-use Rattle.beldi_known.specs.Contents.{head_key, content_of, shadow_key}
-use Rattle.beldi_known.specs.InsideLaws.{CommitsArePieces, AbortsAreTries}
-use Rattle.beldi_known.specs.Known.{Known, got_before, is_on, owed_read, owed_value, row_at, value_or, decision_by, read_at}
-use Rattle.beldi_known.specs.Rows.{LogMatches}
-use Rattle.beldi_known.specs.Listed.{listed_under, listed}
 use Rattle.beldi_step.specs.Tables.{value_in, is_committed, decision_key}
-use Rattle.beldi_known.specs.Matches.{Matches}
-use Rattle.beldi_known.specs.Sane.{SaneInstance}
-use Rattle.beldi_known.specs.Shadows.{Shows, ShowsIf, tx_of, writes_on}
+use Rattle.beldi_known.specs.Beside.{IsKept, OpenTx, begins}
+use Rattle.beldi_known.specs.Contents.{head_key, content_of, shadow_key}
+use Rattle.beldi_known.specs.InsideLaws.{AbortsAreTries, CommitsArePieces, FellAt, Goes, HoldersAreMade, IsAbort, IsCommit, IsSound, last_answer}
+use Rattle.beldi_known.specs.InsideLaws as laws
+use Rattle.beldi_known.specs.Known.{Known, at_once, ended_by, moved as goes_on}
+use Rattle.beldi_known.specs.Listed.{listed_under, listed}
+use Rattle.beldi_known.specs.Shadows.{AllShow, ShadowShows, Shows, is_writing, writes_on, writing_at}
 use Rattle.beldi_known.proofs.Acts.{by_item, content_apart, content_here, kinds_apart, is_data, is_shadow, turned}
 use Rattle.beldi_known.proofs.Answers.{true_false, take_front, get_next}
 use Rattle.beldi_known.proofs.AtFront.{no_decision}
-use Rattle.beldi_known.proofs.Leads.{or_first, touched_gets}
+use Rattle.beldi_known.proofs.Falls.{Fell, cause_of, later_is}
+use Rattle.beldi_known.proofs.Frame.{moved_one}
+use Rattle.beldi_known.proofs.FrameAt.{known_set}
+use Rattle.beldi_known.proofs.Lines.{OwnerNow, front_is, member, outside}
 use Rattle.beldi_known.proofs.Lists.{elsewhere, lists_same, is_log as is_row_log}
-use Rattle.beldi_known.proofs.OneFunction.{own_intent}
-use Rattle.beldi_known.proofs.Opened.{begins_parts, known_is, open_inside, open_got}
-use Rattle.beldi_known.proofs.Opens.{known_led}
-use Rattle.beldi_known.proofs.Sees.{seen, got_owned, unowned_kept}
+use Rattle.beldi_known.proofs.Members.{in_or_out}
+use Rattle.beldi_known.proofs.NoTx.{IsOutside, begins_parts}
+use Rattle.beldi_known.proofs.Outsides.{at_once_opens, at_once_stays, below_apart, called_below, fresh_next, goes_one, got_next, known_none_after, plain_none_after, set_next, shows_beside}
+use Rattle.beldi_known.proofs.Owns.{fall, got_owned, older, own, seen, touched_owned, unowned_kept}
+use Rattle.beldi_known.proofs.Unaborted.{owner_lives}
 
 -- ---- the key of a decision is that of its transaction
 place_in : Kind → Place
@@ -125,167 +134,347 @@ module _ (m : Rows) (s : TxId) (undecided : map.get m (decision_key s) ≡ None)
               same_tx : Some (Tx t) ≡ Some (Tx s) → t ≡ s
               same_tx g = ap tx_in g
 
-module _ (d : Deployment) (m : Rows) (p : PlainState) (known : Known) (locked : IntentId → Bool) (id : IntentId) (q k : Instance) (made : map.get p.made id ≡ Some q) (b : begins d q ≡ true) (own : q.within ≡ None) (is : map.get known id ≡ Some k) (sane : SaneInstance d id k)
-    (g : Shows d m p.items id q k (locked id)) (matches : Matches d m known locked) where
-  pub undecided : map.get m (decision_key (tx_of id q)) ≡ None
-  undecided = ap (λ f. map.get m (log_at f)) (ap (λ (z : Instance). z.func) (known_is d p.items id q k b g.tx sane)) ∙ no_decision d m known locked matches id k is (length q.answers) (open_inside d p.items id q k b g.tx sane)
-    where
-      log_at : ℕ → RowKey
-      log_at f = record { home = f; kind = kinds.ReadLog (place_of id (length q.answers)) }
+abbrev intent_in : IntentId → Option Owner → IntentId
+intent_in j (Some (Tx t)) = t.intent
+intent_in j o = j
 
-  runs : length g.tx.rest < enough → Runs d p id q g.tx.rest g.tx.sees
-  runs few = record { made = made; open_still = (begins_parts d q b).0; begins = (begins_parts d q b).1; leads = g.tx.leads; few = few }
+-- ---- an open transaction whose owner is at its End
+module _ (d : Deployment) (m : Rows) (p : PlainState) (known : Known) (locked : IntentId → Bool) (h : IsSound d m p known locked) (id : IntentId) (q k : Instance) (made : map.get p.made id ≡ Some q) (b : begins d q ≡ true) (is : map.get known id ≡ Some k) (unlocked : locked id ≡ false) (c : Bool) (ends : effect_of d k ≡ effect.End c) where
+  abbrev t : TxId
+  t = tx_begun id q
+
+  abbrev tx : OpenTx d p known id q
+  tx = (h.shadows.shows id q made b).tx
+
+  abbrev done : Instance
+  done = answered k answer.Done
+
+  abbrev n : Rows
+  n = laws.decided m t c
+
+  abbrev more : Known
+  more = map.insert known id (at_once d id done)
+
+  now : OwnerNow d (tx_begun id q) q k
+  now = (member d p known h.plain_sane id q made b tx id k (inl refl) is).owner refl
+
+  at_start : InLine d (tx_begun id q) (opened p id q)
+  at_start = line_opened d p id q (begins_parts d q b).0
+
+  undecided : map.get m (decision_key (tx_begun id q)) ≡ None
+  undecided = ap (λ f. map.get m (log_key f (place_of id (length q.answers)))) (sym now.func) ∙ no_decision d m known locked h.matches id k is (length q.answers) now.begun
+
+  same_shadows : (u : TxId) (x : Item) → map.get n (shadow_key u x) ≡ map.get m (shadow_key u x)
+  same_shadows u x = elsewhere m (decision_key t) (Some (rows.ReadLog (value.Bool c))) is_shadow (shadow_key u x) refl refl
+
+  -- nobody else can step
+  front : tx.going.front ≡ id
+  front = front_is d p known h.plain_sane id q made b tx id k (inl refl) is (now.open_still ∙ (begins_parts d q b).0) (λ f v call. let clash = sym ends ∙ call in cc)
+
+  at_front : map.get tx.going.state.made tx.going.front ≡ Some k
+  at_front = ap (map.get tx.going.state.made) front ∙ sym (tx.whole id (inl refl)) ∙ is
+
+  at_end : AtEnd d id tx.going c
+  at_end = record { owner = front; stands = record { instance = k; made = at_front; effect = ends } }
+
+  off : (x : Item) → is_writing d locked x tx.going ≡ false
+  off x = (λ i. writing_at d locked x (front i) (at_front i)) ∙ ap (λ l. l && writes_on x k.func (effect_of d k)) unlocked
+
+  out : IsOutside d done done.answers
+  out = (now.within ∙ outside d p known h.plain_sane id q made b tx, ap (λ (s : Txs). s.begun) (txs_pushed d k k.answers answer.Done) ∙ ap (λ e. (txs_by (length k.answers) e (txs_after d k k.answers)).begun) ends)
+
+  runs : Runs d p id q tx.moves tx.going
+  runs = record { made = made; open_still = (begins_parts d q b).0; begins = (begins_parts d q b).1; leads = tx.leads }
 
   -- what it touched it owns
-  touched_owned : (x : Item) → TouchedIn d (answered q answer.Done) g.tx.rest x → (content_of m x).owner ≡ Some (Tx (tx_of id q))
-  touched_owned x t = got_owned d p.items id q k b g.tx sane own m known locked matches is x
-      (or_first (got_before d (tx_of id q) x id k) (locked id && is_on (tx_of id q) x k.func (tx_now d id k) (effect_of d k)) (open_got d p.items id q k b g.tx sane own x
-      (touched_gets d p.items (answered q answer.Done) g.tx.rest (last_of g.tx.fell) g.tx.sees x g.tx.leads t)))
+  owns : (x : Item) → TouchedIn d (tx_begun id q) (opened p id q) tx.moves x → (content_of m x).owner ≡ Some (Tx (tx_begun id q))
+  owns x on = touched_owned d p known h.sane h.plain_sane id q made b tx locked x m h.matches on
+
+  differ : (j : IntentId) → is_eq (id_cmp j id) ≡ false → id ≡ j → ⊥
+  differ j other same = true_false (sym (ap is_eq (tied_itself id_total id)) ∙ ap (λ y. is_eq (id_cmp y id)) same ∙ other)
+
+  -- who is not in it is as in the plain state
+  outs : (j : IntentId) → (IsIn (tx_begun id q) j → ⊥) → map.get tx.going.state.made j ≡ map.get p.made j
+  outs j away = others d t (opened p id q) tx.moves tx.going at_start tx.leads j away ∙ stays p.made id j (answered q answer.Done) (λ same. away (inl (sym same)))
 
   -- ---- with commit
-  module _ (ends : effect_of d k ≡ effect.End true) where
-    led : k ≡ inside q g.tx.rest
-    led = known_led d p.items id q k b g.tx sane (λ e. let clash = sym ends ∙ e in cc)
+  module _ (yes : c ≡ true) where
+    committed : effect_of d k ≡ effect.End true
+    committed = ends ∙ ap effect.End yes
 
-    abbrev pub committed_state : PlainState
-    committed_state = record { items = g.tx.sees; made = map.insert p.made id (answered k answer.Done) }
+    plainly : AllPlain tx.moves
+    plainly = elim (fall d p known h.sane h.plain_sane id q made b tx) [
+      | inl e ↦ e
+      | inr f ↦
+          let same : f.up.instance ≡ k = same_some (sym f.up.made ∙ at_front) in
+          elim f.up.rises [
+            | inl r ↦ let clash = sym r.1 ∙ ap (effect_of d) same ∙ committed in cc
+            | inr r ↦ let clash = sym r ∙ ap (effect_of d) same ∙ committed in cc
+          ]
+    ]
 
-    -- .. and what its answers touched it owns
-    pub commits : length g.tx.rest < enough → (w : Commits d p id committed_state) × ((x : Item) → TouchedIn d (answered w.instance answer.Done) w.rest x → (content_of m x).owner ≡ Some (Tx (tx_of id q)))
-    commits few = (record { instance = q; rest = g.tx.rest; items = g.tx.sees; runs = runs few; ends = ap (effect_of d) (sym led) ∙ ends; is = ap (λ (z : Instance). record { items = g.tx.sees; made = map.insert p.made id (answered z answer.Done) }) led }, touched_owned)
+    abbrev state : PlainState
+    state = gives tx.going.state id k answer.Done
 
-    pub commit_lists : ((x : Item) → listed m x ≡ value_of p.items x) → (x : Item) → listed (set_row m (decision_key (tx_of id q)) (Some (rows.ReadLog (value.Bool true)))) x ≡ value_of g.tx.sees x
-    commit_lists values x = elim (decision_lists m (tx_of id q) undecided true x) [
-      | inl h ↦ h.1 ∙ ap (value_in (map.get m (shadow_key (tx_of id q) x))) (values x) ∙ seen d m p.items id q k known locked b sane own g matches is x (ap (λ e. locked id && writes_on x k.func e) ends ∙ and_false (locked id))
-      | inr h ↦ h.1 ∙ values x ∙ sym (unowned_kept d p.items id q k b g.tx sane own m known locked matches is x h.0)
+    abbrev commits : Commits d p id state
+    commits = record { instance = q; moves = tx.moves; last = tx.going; runs = runs; plainly = plainly; ends = record { owner = front; stands = record { instance = k; made = at_front; effect = committed } }; is = refl }
+
+    legal : plain.Sane d state
+    legal = after_sane d p (entry.Tx id) state (pieces_are_moves.committed d p id state commits) h.plain_sane
+
+    few : (f : map.FinMap id_cmp Instance) (j : IntentId) (z : Instance) → map.get f j ≡ Some z → (y : Instance) → map.get f j ≡ Some y → length y.answers ≤ length z.answers
+    few f j z there y same = let l = ap (λ (w : Instance). length w.answers) (same_some (sym same ∙ there)) in omega (arith, l)
+
+    -- the next one that it begins
+    next_shows : begins d done ≡ true → Shows d n state more locked id done
+    next_shows e =
+        let u = tx_begun id done in
+        let below = λ (i : IntentId) (w : IsBelow u i). stays known id i (at_once d id done) (below_apart u i w) ∙ known_none_after d known h.sane u less i w
+        ∙ sym (plain_none_after d state legal u (few state.made id done (here tx.going.state.made id done)) i w) in
+        let o = at_once_opens d state more id done e (here known id (at_once d id done)) below in
+        record { tx = o; shadows = λ x. subst (λ r. ShadowShows (is_writing d locked x o.going) r (value_at o.going.state x)) (sym (same_shadows u x ∙ fresh_next d m p known locked h.shadows h.beside h.sane h.matches h.plain_sane id k is answer.Done out x)) tt }
+      where
+        less : (y : Instance) → map.get known id ≡ Some y → length y.answers ≤ length done.answers
+        less y same = let l = ap (λ (w : Instance). length w.answers) (same_some (sym same ∙ is)) in let r = length-append k.answers (answer.Done ∷ []) in omega (arith, l, r)
+
+    -- those of others
+    other_shows : (j : IntentId) (z : Instance) → is_eq (id_cmp j id) ≡ false → map.get tx.going.state.made j ≡ Some z → begins d z ≡ true → Shows d n state more locked j z
+    other_shows j z other there e = elim (in_or_out t j) [
+      | inl inner ↦ absurd (differ j other (sym front ∙ front_is d p known h.plain_sane id q made b tx j z inner (tx.whole j inner ∙ there) (begins_parts d z e).0 (λ f v call. let clash = sym (begins_parts d z e).1 ∙ call in cc)))
+      | inr away ↦ beside_it (sym (outs j away) ∙ there)
     ]
       where
-        and_false : (b : Bool) → (b && false) ≡ false
-        and_false true = refl
-        and_false false = refl
+        u : TxId
+        u = tx_begun j z
 
-  -- ---- without commit: all items stay
-  pub abort_lists : (x : Item) → listed (set_row m (decision_key (tx_of id q)) (Some (rows.ReadLog (value.Bool false)))) x ≡ listed m x
-  abort_lists x = elim (decision_lists m (tx_of id q) undecided false x) [
-    | inl h ↦ h.1
-    | inr h ↦ h.1
-  ]
-
-  -- it fell at what was aborted, or else at its End
-  module _ (ends : effect_of d k ≡ effect.End false) (few : length g.tx.rest < enough) where
-    abbrev pub fall_of : Option Cause → Cause
-    fall_of None = record { place = place_of id (length k.answers); holder = None }
-    fall_of (Some c) = c
-
-    -- .. and what its answers touched it owns
-    abbrev Fallen : Option Cause → Type 0
-    Fallen o = (w : Aborts d p id (fall_of o).place (fall_of o).holder (with_instance p id (answered k answer.Done))) × ((x : Item) → TouchedIn d (answered w.instance answer.Done) w.rest x → (content_of m x).owner ≡ Some (Tx (tx_of id q)))
-
-    abbrev z : Instance
-    z = inside q g.tx.rest
-
-    abbrev Falls : Effect → Cause → Type 0
-    Falls e c = (c.place ≡ place_of id (length z.answers)) × (is_holder p id c.holder ≡ true) × (falling d id z c.holder e ≡ closing d z (answer.Aborted c))
-
-    stands_here : (n : ℕ) → n ≡ length z.answers → stands_at (place_of id n) id z ≡ true
-    stands_here n e = (λ i. is_eq (tied_itself id_total id i) && (e i == length z.answers)) ∙ eq-eqb (length z.answers) (length z.answers) refl
-
-    -- no call is wanted there, and a holder was made
-    pub aborts : ((c : Cause) → g.tx.fell ≡ Some c → (f : ℕ) (v : Value) → effect_of d z ≡ effect.Call f v → ⊥) → ((c : Cause) (h : IntentId) → g.tx.fell ≡ Some c → c.holder ≡ Some h → is_some (map.get p.made h) ≡ true) → Fallen g.tx.fell
-    aborts calls holders = by_fell g.tx.fell refl (same_some g.tx.known)
-      where
-        by_fell : (o : Option Cause) → g.tx.fell ≡ o → k ≡ answered_all z (last_of o) → Fallen o
-        by_fell None fell led = (
-          record {
-            instance = q;
-            rest = g.tx.rest;
-            items = g.tx.sees;
-            runs = runs few;
-            stands = stands_here (length k.answers) (ap (λ (y : Instance). length y.answers) led);
-            older = refl;
-            last = answer.Done ∷ [];
-            falls = ap (falling d id z None) (ap (effect_of d) (sym led) ∙ ends);
-            is = ap (λ y. with_instance p id (answered y answer.Done)) led;
-          },
-          touched_owned,
-        )
-        by_fell (Some c) fell led =
-            let a = answer.Aborted c in
-            let was = subst (SaneInstance d id) led sane in
-            let fits = subst (λ ts. IsAnswer (place_of id (length z.answers)) (tx_after d id z ts) (effect_after d z ts) a) (take_front z.answers (a ∷ [])) (was.past (length z.answers) a (get_next z.answers [] a)) in
-            let f = fall_by (tx_after d id z z.answers) (effect_of d z) fits (calls c fell) (own_by (outside_of led)) in (
-              record {
-                instance = q;
-                rest = g.tx.rest;
-                items = g.tx.sees;
-                runs = runs few;
-                stands = ap (λ y. stands_at y id z) f.0 ∙ stands_here (length z.answers) refl;
-                older = f.1;
-                last = a ∷ answer.Done ∷ [];
-                falls = f.2 ∙ ap (closing_by a) (ap (effect_of d) (sym led) ∙ ends);
-                is = ap (λ y. with_instance p id (answered y answer.Done)) led;
-              },
-              touched_owned,
-            )
+        beside_it : map.get p.made j ≡ Some z → Shows d n state more locked j z
+        beside_it was = shows_beside d m n p state known more locked j z e (h.shadows.shows j z was e) members knowns (same_shadows (tx_begun j z)) touches shadowed
           where
-            outside_of : k ≡ answered z (answer.Aborted c) → z.within ≡ None
-            outside_of led = ap (λ (y : Instance). y.within) (sym led) ∙ ap (λ (y : Instance). y.within) (sym (known_is d p.items id q k b g.tx sane)) ∙ own
+            now_there : map.get state.made j ≡ Some z
+            now_there = stays tx.going.state.made id j done (differ j other) ∙ there
 
-            own_by : z.within ≡ None → (t : TxId) → tx_after d id z z.answers ≡ Some t → t.intent ≡ id
-            own_by none t e = own_intent id z.func (length z.answers) (effect_of d z) (txs_after d z z.answers).begun t (sym (ap (λ w. or_own w (tx_by id z.func (length z.answers) (effect_of d z) (txs_after d z z.answers).begun)) none) ∙ e)
+            members : (i : IntentId) → IsIn (tx_begun j z) i → map.get state.made i ≡ map.get p.made i
+            members i (inl own) = ap (map.get state.made) own ∙ now_there ∙ sym was ∙ ap (map.get p.made) (sym own)
+            members i (inr w) = plain_none_after d state legal (tx_begun j z) (few state.made j z now_there) i w ∙ sym (plain_none_after d p h.plain_sane (tx_begun j z) (few p.made j z was) i w)
 
-            by_abort : c ≡ record { place = place_of id (length z.answers); holder = None } → Falls effect.Abort c
-            by_abort e = subst (Falls effect.Abort) (sym e) (refl, refl, refl)
+            knowns : (i : IntentId) → IsIn (tx_begun j z) i → map.get more i ≡ map.get known i
+            knowns i (inl own) = stays known id i (at_once d id done) (λ same. differ j other (same ∙ own))
+            knowns i (inr w) = stays known id i (at_once d id done) (λ same. let clash = sym made ∙ ap (map.get p.made) same ∙ plain_none_after d p h.plain_sane (tx_begun j z) (few p.made j z was) i w in cc)
 
-            by_death : (t : TxId) (e : Effect) → is_some (touched e) ≡ true → t.intent ≡ id → IsDeath (place_of id (length z.answers)) t c → Falls e c
-            by_death t e on same h =
-                let there = holders c h.holder fell (ap (λ (y : Cause). y.holder) h.cause) in
-                subst (Falls e) (sym h.cause)
-                (refl, (λ i. there i && is_older h.holder id) ∙ ap (is_older h.holder) (sym same) ∙ h.older, ap (λ u. if u then closing d z (aborted id z (Some h.holder)) else None) on)
+            -- what another owns this one did not change
+            agree : (x : Item) → (content_of m x).owner ≡ Some (Tx (tx_begun j z)) → value_at state x ≡ value_at p x
+            agree x owned = unowned_kept d p known h.sane h.plain_sane id q made b tx locked x m h.matches (λ mine. let same : Some (Tx (tx_begun id q)) ≡ Some (Tx (tx_begun j z)) = sym mine ∙ owned in differ j other (ap (intent_in id) same))
 
-            fall_by : (t : Option TxId) (e : Effect) → IsAnswer (place_of id (length z.answers)) t e (answer.Aborted c) → ((f : ℕ) (v : Value) → e ≡ effect.Call f v → ⊥) → ((s : TxId) → t ≡ Some s → s.intent ≡ id) → Falls e c
-            fall_by None effect.Abort h calls mine = by_abort h
-            fall_by None (effect.Call f v) h calls mine = absurd (calls f v refl)
-            fall_by None e h calls mine = absurd h
-            fall_by (Some t) effect.Abort h calls mine = by_abort h
-            fall_by (Some t) (effect.Call f v) h calls mine = absurd (calls f v refl)
-            fall_by (Some t) (effect.Read b y) h calls mine = by_death t (effect.Read b y) refl (mine t refl) h
-            fall_by (Some t) (effect.Write b y v) h calls mine = by_death t (effect.Write b y v) refl (mine t refl) h
-            fall_by (Some t) (effect.CondWrite b y r u v) h calls mine = by_death t (effect.CondWrite b y r u v) refl (mine t refl) h
-            fall_by (Some t) e h calls mine = absurd h
+            touches : (x : Item) → TouchedIn d (tx_begun j z) (opened p j z) (h.shadows.shows j z was e).tx.moves x → value_at state x ≡ value_at p x
+            touches x on = agree x (touched_owned d p known h.sane h.plain_sane j z was e (h.shadows.shows j z was e).tx locked x m h.matches on)
+
+            shadowed : (x : Item) → is_some (map.get m (shadow_key (tx_begun j z) x)) ≡ true → value_at state x ≡ value_at p x
+            shadowed x row = agree x (got_owned d p known h.sane h.plain_sane j z was e (h.shadows.shows j z was e).tx locked x m h.matches (h.shadows.got (tx_begun j z) x row))
+
+    shows : AllShow d n state more locked
+    shows j z there e = known_set tx.going.state.made id done (λ j o. o ≡ Some z → Shows d n state more locked j z)
+        (λ g. subst (Shows d n state more locked id) (same_some g) (next_shows (ap (begins d) (same_some g) ∙ e)))
+        (λ j other g. other_shows j z other g e) j there
+
+    same : (j : IntentId) (z : Instance) → map.get state.made j ≡ Some z → begins d z ≡ false → map.get more j ≡ Some z
+    same j z there apart = known_set tx.going.state.made id done (λ j o. o ≡ Some z → map.get more j ≡ Some z)
+        (λ g. here known id (at_once d id done) ∙ ap (λ y. Some y) (at_once_stays d id done out (ap (begins d) (same_some g) ∙ apart) ∙ same_some g))
+        (λ j other g. stays known id j (at_once d id done) (differ j other) ∙ elim (in_or_out t j) [
+          | inl inner ↦ tx.whole j inner ∙ g
+          | inr away ↦ h.beside.same j z (sym (outs j away) ∙ g) apart
+        ]) j there
+
+    -- who was called in it is in the plain state now
+    kept : (j : IntentId) (z : Instance) → map.get state.made j ≡ None → map.get more j ≡ Some z → IsKept d more z
+    kept j z = known_set tx.going.state.made id done (λ j o. o ≡ None → map.get more j ≡ Some z → IsKept d more z) (λ none. cc)
+        (λ j other none now. still j none (sym (stays known id j (at_once d id done) (differ j other)) ∙ now)) j
+      where
+        ends_now : (e : ℕ) (z : ℕ) → end_of d (at_once d id done) e ≡ Some (z, true) → (e ≡ (tx_begun id q).begin) ⊎ (end_of d k e ≡ Some (z, true))
+        ends_now e z g = by_test (is_at e (txs_after d k k.answers).begun) refl (sym ((moved_one d id k answer.Done).ends e ∙ ap (λ x. (txs_by (length k.answers) x (txs_after d k k.answers)).ends e) ends) ∙ g)
+          where
+            by_test : (u : Bool) → is_at e (txs_after d k k.answers).begun ≡ u → (if u then Some (length k.answers, c) else end_of d k e) ≡ Some (z, true) → (e ≡ (tx_begun id q).begin) ⊎ (end_of d k e ≡ Some (z, true))
+            by_test true at g = inl (eqb-true e (length q.answers) (sym (ap (is_at e) now.begun) ∙ at))
+            by_test false at g = inr g
+
+        still : (j : IntentId) → map.get tx.going.state.made j ≡ None → map.get known j ≡ Some z → IsKept d more z
+        still j none there = elim (in_or_out t j) [
+          | inl inner ↦ let clash = sym none ∙ sym (tx.whole j inner) ∙ there in cc
+          | inr away ↦
+              let w = h.beside.kept j z (sym (outs j away) ∙ none) there in
+              record {
+                tx = w.tx;
+                within = w.within;
+                uncommitted = λ l g. known_set known id (at_once d id done) (λ i o. w.tx.intent ≡ i → ended_by d w.tx.begin o ≡ Some (l, true) → ⊥)
+                    (λ own e. elim (ends_now w.tx.begin l e) [
+                      | inl start ↦ away (inr (its_own (called_below d known h.sane w.tx j z there w.within) own start))
+                      | inr was ↦ w.uncommitted l (ap (λ i. ended_by d w.tx.begin (map.get known i)) own ∙ ap (ended_by d w.tx.begin) is ∙ was)
+                    ])
+                    (λ i other own e. w.uncommitted l (ap (λ i. ended_by d w.tx.begin (map.get known i)) own ∙ e)) w.tx.intent refl g;
+              }
+        ]
+          where
+            its_own : {u : TxId} → IsBelow u j → u.intent ≡ id → u.begin ≡ (tx_begun id q).begin → IsBelow (tx_begun id q) j
+            its_own {u} w own start = record { step = w.step; later = let l = w.later in omega (arith, l, start); hops = w.hops; is = w.is ∙ ap (λ (i : IntentId). record { ticket = i.ticket; hops = i.hops ++ w.step ∷ w.hops }) own }
+
+    commit_lists : ((x : Item) → listed m x ≡ value_at p x) → (x : Item) → listed n x ≡ value_at state x
+    commit_lists values x = elim (decision_lists m t undecided c x) [
+      | inl l ↦ l.1 ∙ ap (λ u. if u then value_in (map.get m (shadow_key t x)) (listed m x) else listed m x) yes ∙ ap (value_in (map.get m (shadow_key t x))) (values x)
+          ∙ seen d p known h.sane h.plain_sane id q made b tx locked x m h.matches ((h.shadows.shows id q made b).shadows x) (off x)
+      | inr l ↦ l.1 ∙ values x ∙ sym (unowned_kept d p known h.sane h.plain_sane id q made b tx locked x m h.matches l.0)
+    ]
+
+    piece : ((x : Item) → listed m x ≡ value_at p x) → IsCommit d m n p more locked (tx_begun id q)
+    piece values = record {
+      state = state;
+      commits = commits;
+      touched = owns;
+      lists = commit_lists values;
+      goes = record {
+        beside = record { same = same; begun = λ j z there e. (shows j z there e).tx; kept = kept };
+        shadows = record { shows = shows; got = got_next d m known locked h.shadows.got n same_shadows id k is unlocked answer.Done };
+      };
+    }
+
+  -- ---- without commit
+  module _ (no : c ≡ false) (holders : HoldersAreMade d p known) where
+    ended_so : effect_of d k ≡ effect.End false
+    ended_so = ends ∙ ap effect.End no
+
+    abbrev kept_so : PlainState
+    kept_so = with_instance p id done
+
+    goes : Goes d n kept_so more locked
+    goes = goes_one d m p known locked h.shadows h.beside id done
+        (set_next d m p known locked h.shadows h.beside h.sane h.matches h.plain_sane id k is answer.Done out (λ e. let clash = sym ended_so ∙ e in cc)) n same_shadows (got_next d m known locked h.shadows.got n same_shadows id k is unlocked answer.Done)
+
+    abort_lists : (x : Item) → listed n x ≡ listed m x
+    abort_lists x = elim (decision_lists m t undecided c x) [
+      | inl l ↦ l.1 ∙ ap (λ u. if u then value_in (map.get m (shadow_key t x)) (listed m x) else listed m x) no
+      | inr l ↦ l.1
+    ]
+
+    abbrev Tries : Type 0
+    Tries = IsAbort d m n p more locked (tx_begun id q) k
+
+    abbrev end_there : AtEnd d id tx.going false
+    end_there = record { owner = front; stands = record { instance = k; made = at_front; effect = ended_so } }
+
+    -- who stands at its place does
+    stands_so : (s : Going) (z : Instance) → map.get s.state.made s.front ≡ Some z → is_there (place_of s.front (length z.answers)) s ≡ true
+    stands_so s z there = ap (stands_there (place_of s.front (length z.answers)) s) there ∙ (λ i. is_eq (tied_itself id_total s.front i) && eq-eqb (length z.answers) (length z.answers) refl i)
+
+    -- a fault led to the End
+    by_fault : AllPlain tx.moves → Tries
+    by_fault plainly =
+        let place = place_of tx.going.front (length k.answers) in
+        let stands = stands_so tx.going k at_front in
+        record {
+          place = place;
+          holder = None;
+          aborts = record {
+            instance = q;
+            before = tx.moves;
+            there = tx.going;
+            runs = runs;
+            plainly = plainly;
+            first = places_come_once d t place (opened p id q) tx.moves tx.going at_start tx.leads stands;
+            stands = stands;
+            older = refl;
+            since = [];
+            last = tx.going;
+            leads = refl;
+            falls = refl;
+            ends = end_there;
+            is = refl;
+          };
+          touched = owns;
+          fell = by_last (last_answer k.answers) (λ e. owner_lives d p h.plain_sane id q made tx.moves tx.going at_start plainly tx.leads k (sym (tx.whole id (inl refl)) ∙ is) e);
+          lists = abort_lists;
+          goes = goes;
+        }
+      where
+        by_last : (o : Option Answer) → ((e : Cause) → o ≡ Some (answer.Aborted e) → ⊥) → FellAt id (length k.answers) o (place_of tx.going.front (length k.answers)) None
+        by_last None none = (ap (λ i. place_of i (length k.answers)) front, refl)
+        by_last (Some (answer.Aborted e)) none = absurd (none e refl)
+        by_last (Some a) none = (ap (λ i. place_of i (length k.answers)) front, refl)
+
+    -- or something was aborted
+    by_fall : Fell d t q (own d p known h.sane h.plain_sane id q made b tx) refl (opened p id q) tx.moves tx.going → Tries
+    by_fall f =
+        let place = place_of f.there.front (length f.faller.answers) in
+        let stands = stands_so f.there f.faller f.made in
+        record {
+          place = place;
+          holder = f.holder;
+          aborts = record {
+            instance = q;
+            before = f.before;
+            there = f.there;
+            runs = record { made = made; open_still = (begins_parts d q b).0; begins = (begins_parts d q b).1; leads = f.to };
+            plainly = f.plainly;
+            first = places_come_once d t place (opened p id q) f.before f.there at_start f.to stands;
+            stands = stands;
+            older = by_holder f.holder refl;
+            since = fell f.holder ∷ f.since;
+            last = tx.going;
+            leads = f.from;
+            falls = (refl, f.upwards);
+            ends = end_there;
+            is = refl;
+          };
+          touched = λ x on. owns x (subst (λ ms. TouchedIn d t (opened p id q) ms x) (sym f.whole) (touched_more (opened p id q) f.before x on));
+          fell = subst (λ o. FellAt id (length k.answers) o place f.holder) (sym told) (refl, refl);
+          lists = abort_lists;
+          goes = goes;
+        }
+      where
+        touched_more : (s : Going) (ms : List Move) (x : Item) → TouchedIn d (tx_begun id q) s ms x → TouchedIn d (tx_begun id q) s (ms ++ fell f.holder ∷ f.since) x
+        touched_more s [] x on = absurd on
+        touched_more s (w ∷ ms) x (inl on) = inl on
+        touched_more s (w ∷ ms) x (inr on) = inr (on.0, on.1, touched_more on.0 ms x on.2)
+
+        -- the owner was told so last
+        told : last_answer k.answers ≡ Some (answer.Aborted (cause_of d t q (own d p known h.sane h.plain_sane id q made b tx) refl f.there.front f.faller f.holder))
+        told =
+            let same : f.up.instance ≡ k = same_some (sym f.up.made ∙ at_front) in
+            elim f.up.rises [
+              | inl r ↦ ap (λ (z : Instance). last_answer z.answers) (sym same) ∙ r.2
+              | inr r ↦ let clash = sym r ∙ ap (effect_of d) same ∙ ended_so in cc
+            ]
+
+        older_at : (xs ys : List Move) (w : Move) → AllSound (tx_begun id q) (xs ++ w ∷ ys) → Older (tx_begun id q) w
+        older_at [] ys w all = all.0
+        older_at (x ∷ xs) ys w all = older_at xs ys w all.1
+
+        -- who let it die was made, and is older
+        by_holder : (o : Option IntentId) → f.holder ≡ o → is_holder p id o ≡ true
+        by_holder None e = refl
+        by_holder (Some u) e =
+            let z = f.faller in
+            let y = f.told.instance in
+            let a = answer.Aborted (record { place = place_of f.there.front (length z.answers); holder = f.holder }) in
+            let later = later_is z y a f.told.grown in
+            let step : slice_get y.answers (length z.answers) ≡ Some a = ap (λ (w : Instance). slice_get w.answers (length z.answers)) later ∙ get_next z.answers f.told.grown.later a in
+            let inside : is_some (tx_at d f.there.front y (length z.answers)) ≡ true =
+            ap (λ (w : Instance). is_some (tx_at d f.there.front w (length z.answers))) later ∙ ap (λ ts. is_some (tx_after d f.there.front z ts)) (take_front z.answers (a ∷ f.told.grown.later)) ∙ ap is_some f.told.inside in
+            let old = subst (Older t) (ap fell e) (older_at f.before f.since (fell f.holder) (subst (AllSound t) f.whole (older d p known h.sane h.plain_sane id q made b tx))) in
+            (λ i. holders f.there.front y (length z.answers) (record { place = place_of f.there.front (length z.answers); holder = f.holder }) u (tx.whole f.there.front f.told.member ∙ f.told.made) inside step e i && is_older u id) ∙ old
+
+    try_made : Tries
+    try_made = elim (fall d p known h.sane h.plain_sane id q made b tx) [
+      | inl e ↦ by_fault e
+      | inr f ↦ by_fall f
+    ]
 
 -- what is known to be open is the piece, where it commits
-pub piece_made : CommitsArePieces
-piece_made d m p known locked id q k h is ends few values =
-    let g = subst (λ o. ShowsIf d m p.items id q o (locked id)) is (h.shadows.shows id q h.made h.begun) in
-    let all = ap (λ (z : Instance). length z.answers) (known_is d p.items id q k h.begun g.tx h.sane) in
-    let l = length-append (q.answers ++ answer.Done ∷ []) (g.tx.rest ++ last_of g.tx.fell) in
-    let r = length-append g.tx.rest (last_of g.tx.fell) in
-    record {
-      items = g.tx.sees;
-      commits = (commits d m p known locked id q k h.made h.begun h.outside is h.sane g h.matches ends (omega (arith, few, all, l, r))).0;
-      lists = commit_lists d m p known locked id q k h.made h.begun h.outside is h.sane g h.matches ends values;
-    }
+pub commits_are_pieces : CommitsArePieces
+commits_are_pieces d m p known locked s k o is ends unlocked values =
+    subst (λ z. IsCommit d m (laws.decided m z true) p (map.insert known z.intent (goes_on d z.intent k answer.Done)) locked z) (sym o.is) (piece d m p known locked o.sound s.intent o.owner k o.made o.begun is unlocked true ends refl values)
 
 -- .. and the try, where it does not
-pub try_made : AbortsAreTries
-try_made d m p known locked id q k h is ends few calls holders =
-    let g = subst (λ o. ShowsIf d m p.items id q o (locked id)) is (h.shadows.shows id q h.made h.begun) in
-    let z = inside q g.tx.rest in
-    let led = λ (c : Cause) (e : g.tx.fell ≡ Some c). same_some g.tx.known ∙ ap (λ o. answered_all z (last_of o)) e in
-    let all = ap (λ (z : Instance). length z.answers) (known_is d p.items id q k h.begun g.tx h.sane) in
-    let l = length-append (q.answers ++ answer.Done ∷ []) (g.tx.rest ++ last_of g.tx.fell) in
-    let r = length-append g.tx.rest (last_of g.tx.fell) in
-    let f = fall_of d m p known locked id q k h.made h.begun h.outside is h.sane g h.matches ends (omega (arith, few, all, l, r)) g.tx.fell in
-    record {
-      place = f.place;
-      holder = f.holder;
-      aborts = (aborts d m p known locked id q k h.made h.begun h.outside is h.sane g h.matches ends (omega (arith, few, all, l, r))
-          (λ c e f v wants. calls (length z.answers) f v (let n = more_answers (answered q answer.Done) g.tx.rest in let b = length-append q.answers (answer.Done ∷ []) in omega (arith, n, b))
-          (ap (λ y. effect_before d y (length z.answers)) (led c e) ∙ ap (effect_after d z) (take_front z.answers (answer.Aborted c ∷ [])) ∙ wants))
-          (λ c u e same. holders (length z.answers) c u (ap (λ (y : Instance). slice_get y.answers (length z.answers)) (led c e) ∙ get_next z.answers [] (answer.Aborted c)) same)).0;
-      lists = abort_lists d m p known locked id q k h.made h.begun h.outside is h.sane g h.matches;
-    }
+pub aborts_are_tries : AbortsAreTries
+aborts_are_tries d m p known locked s k o is ends unlocked holders =
+    subst (λ z. IsAbort d m (laws.decided m z false) p (map.insert known z.intent (goes_on d z.intent k answer.Done)) locked z k) (sym o.is) (try_made d m p known locked o.sound s.intent o.owner k o.made o.begun is unlocked false ends refl holders)
 
 -- ---- a release: the value that it leaves is the one that was listed
 pub release_lists : (m : Rows) (x : Item) (s : TxId) (v : Option Row) → (content_of m x).owner ≡ Some (Tx s) → (content_in v).owner ≡ None
@@ -296,15 +485,3 @@ release_lists m x s v owned free value y = by_item x y (λ y. listed n y ≡ lis
   where
     n : Rows
     n = set_row m (head_key x) v
-
--- .. by how its transaction is known to have ended
-pub decision_row : (d : Deployment) (m : Rows) (known : Known) (locked : IntentId → Bool) → Matches d m known locked → (s : TxId) (k : Instance) (n : ℕ) (c : Bool) → map.get known s.intent ≡ Some k → k.func ≡ s.func → end_of d k s.begin ≡ Some (n, c) → is_committed (map.get m (decision_key s)) ≡ c
-decision_row d m known locked matches s k n c is func ends = by_row (map.get m (decision_key s)) (subst (LogMatches (map.get m (decision_key s))) owed (matches.keys (decision_key s)))
-  where
-    owed : owed_read d known s.func (place_of s.intent s.begin) ≡ Some (value.Bool c)
-    owed = ap (owed_value d s.func s.begin) is ∙ ap (λ b. if b then row_at d k s.begin else None) (ap (λ f. f == s.func) func ∙ eq-eqb s.func s.func refl) ∙ ap (λ o. value_or (decision_by o) (read_at d k s.begin)) ends
-
-    by_row : (r : Option Row) → LogMatches r (Some (value.Bool c)) → is_committed r ≡ c
-    by_row None h = cc
-    by_row (Some (rows.ReadLog v)) h = ap (λ w. is_committed (Some (rows.ReadLog w))) (sym (same_some h))
-    by_row (Some r) h = absurd h

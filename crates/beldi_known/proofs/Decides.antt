@@ -37,8 +37,8 @@ use Rattle.beldi_known.specs.Matches.{RowMatches, Matches, ItemMatches, ShadowMa
 use Rattle.beldi_known.specs.Frame.{AnswersOne, row_added, LockedOut}
 use Rattle.beldi_known.proofs.Rows.{keys_set}
 use Rattle.beldi_known.proofs.Frame.{step_next, no_note, no_shadow}
-use Rattle.beldi_known.proofs.FrameAt.{known_set, read_one, holds_one, note_one, got_one, lockset_one, intents_same, calls_same}
-use Rattle.beldi_known.proofs.Fronts.{shadow_kept, read_elsewhere, tx_end_stays}
+use Rattle.beldi_known.proofs.FrameAt.{known_set, read_one, holds_one, note_one, got_one, lockset_one, calls_same}
+use Rattle.beldi_known.proofs.Fronts.{intents_same, shadow_kept, read_elsewhere, tx_end_stays}
 use Rattle.beldi_known.proofs.Acts.{kinds_apart, is_data, is_shadow, content_apart, shadow_apart}
 
 or_false : (b c : Bool) → c ≡ false → (b || c) ≡ b
@@ -231,7 +231,7 @@ module _ (d : Deployment) (known : Known) (locked : IntentId → Bool) (id : Int
 
       by_kind : (m : Rows) (home : ℕ) (kind : Kind) → is_eq (key_cmp (record { home = home; kind = kind }) (log_key q.func (place_of id b))) ≡ false → RowMatches d known home kind (map.get m (record { home = home; kind = kind }))
           → RowMatches d after home kind (map.get m (record { home = home; kind = kind }))
-      by_kind m home (kinds.Intent j) other g = intents_same d known id q r a is one home j (map.get m (record { home = home; kind = kinds.Intent j })) g
+      by_kind m home (kinds.Intent j) other g = intents_same d known locked locked id q r a is one out home j (map.get m (record { home = home; kind = kinds.Intent j })) g
       by_kind m home (kinds.Invoke y) other g = subst (CallMatches (map.get m (record { home = home; kind = kinds.Invoke y }))) (sym (calls_same d known id q r a is one home y)) g
       by_kind m home (kinds.ReadLog y) other g = subst (LogMatches (map.get m (log_key home y))) (sym (read_elsewhere d known locked locked id q r a is one out b (value.Bool c) added home y other)) g
       by_kind m home (kinds.Lockset j f t z) other g = locksets_same f (record { func = home; table = t; key = z }) j (map.get m (record { home = home; kind = kinds.Lockset j f t z })) g

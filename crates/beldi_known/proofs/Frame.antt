@@ -1,5 +1,5 @@
 -- What an instance owes after one answer more, and after what takes no turn.
-use Rattle.std.proofs.Common.{◌≡◌, ◌≤◌, ◌<◌, ℕ, ◌==◌, ◌+◌, ◌&&◌, ◌||◌, not, Bool, true, false, List, [], ◌∷◌, ◌++◌, length, length-append, take, Option, None, Some, refl, ap, sym, ◌∙◌, subst, append_assoc, append-nil, eqb-true, arith, if◌then◌else◌, is_some}
+use Rattle.std.proofs.Common.{◌≡◌, ◌<◌, ℕ, ◌==◌, ◌&&◌, ◌||◌, not, Bool, true, false, List, [], ◌∷◌, ◌++◌, length, take, Option, None, Some, refl, ap, sym, ◌∙◌, subst, append_assoc, append-nil, eqb-true, arith, if◌then◌else◌, is_some}
 use Rattle.std.specs.Prelude.{slice_get}
 use Rattle.std.proofs.lemmas.List.{take-append-le}
 use Rattle.std.proofs.Math.Seq.{take-append_seam}
@@ -18,6 +18,7 @@ use Rattle.beldi_plain.specs.Operation.{op_of, touched}
 use Rattle.beldi_plain.specs.Holds.{held_if, holds}
 use Rattle.beldi_plain.specs.Plain.{Instance, effect_of, answered}
 use Rattle.beldi_plain.specs.Executor.{answered_if}
+use Rattle.beldi_order.proofs.Ends.{fits, fits_at}
 use Rattle.beldi_order.proofs.Operations.{held_pushed}
 use Rattle.beldi_order.proofs.Went.{along_pushed, txs_pushed}
 use Rattle.beldi_step.specs.Run.{place_of}
@@ -26,7 +27,7 @@ use Rattle.beldi_known.specs.Rows.{body_of}
 use Rattle.beldi_known.specs.Owed.{note_of, value_for}
 use Rattle.beldi_plain.specs.Piece.{is_aborted}
 use Rattle.beldi_known.specs.Known.{answer_at_once, once_if, once, at_once, at_step, is_tx, is_item, write_op, read_at, decision_by, value_or, row_at, lock_note, note_by, answered_note, shadow_by, shadow_at, asks_lock, lockset_of, is_on, got_before, commit_in, ended_at, moved}
-use Rattle.beldi_order.specs.Txs.{effect_after, along, Txs, none_begun, is_at, txs_by, txs_after, end_of, tx_after, tx_now}
+use Rattle.beldi_order.specs.Txs.{effect_after, Txs, is_at, txs_by, txs_after, end_of, tx_after, tx_now}
 use Rattle.beldi_known.proofs.Answers.{pushed_at, none_at_end}
 
 -- ---- folds and steps, with an answer more
@@ -44,119 +45,50 @@ step_same f xs a n none = step_pushed f xs a n ∙ (elim (n == length xs) as (λ
   | false ↦ λ e. refl
 ] refl)
 
--- ---- no Begin is open or ended that is not before the next step
-pub record Fits (n : ℕ) (s : Txs) : Type 0 where
-  pub fresh : (b : ℕ) → n ≤ b → s.ends b ≡ None
-  pub before : (b : ℕ) → s.begun ≡ Some b → b < n
-  pub not_ended : (b : ℕ) → s.begun ≡ Some b → s.ends b ≡ None
-  pub below : (b : ℕ) (z : ℕ × Bool) → s.ends b ≡ Some z → b < n
-
-at_of : (b : ℕ) (o : Option ℕ) → is_at b o ≡ true → o ≡ Some b
-at_of b None g = cc
-at_of b (Some m) g = sym (ap Some (eqb-true b m g))
-
-later : (n : ℕ) (s : Txs) → Fits n s → Fits (n + 1) s
-later n s h = record { fresh = λ b g. h.fresh b (omega (arith, g)); before = λ b g. let k = h.before b g in omega (arith, k); not_ended = h.not_ended; below = λ b z g. let k = h.below b z g in omega (arith, k) }
-
-fits_by : (e : Effect) (n : ℕ) (s : Txs) → Fits n s → Fits (n + 1) (txs_by n e s)
-fits_by effect.Begin n s h = record {
-  fresh = λ b g. h.fresh b (omega (arith, g));
-  before = λ b g. let k : n ≡ b = cc in omega (arith, k);
-  not_ended = λ b g. let k : n ≡ b = cc in h.fresh b (omega (arith, k));
-  below = λ b z g. let k = h.below b z g in omega (arith, k);
-}
-fits_by (effect.End c) n s h = record {
-  fresh = λ b g. by_test b g (is_at b s.begun) refl;
-  before = λ b g. cc;
-  not_ended = λ b g. cc;
-  below = λ b z g. under b z (is_at b s.begun) refl g;
-}
-  where
-    under : (b : ℕ) (z : ℕ × Bool) (t : Bool) → is_at b s.begun ≡ t → (if t then Some (n, c) else s.ends b) ≡ Some z → b < n + 1
-    under b z true e g = let k = h.before b (at_of b s.begun e) in omega (arith, k)
-    under b z false e g = let k = h.below b z g in omega (arith, k)
-
-    by_test : (b : ℕ) → n + 1 ≤ b → (t : Bool) → is_at b s.begun ≡ t → (if t then Some (n, c) else s.ends b) ≡ None
-    by_test b g true e = let k = h.before b (at_of b s.begun e) in absurd (omega (arith, g, k))
-    by_test b g false e = h.fresh b (omega (arith, g))
-fits_by e n s h = later n s h
-
-fits_along : (d : Deployment) (q : Instance) (given rest : List Answer) (s : Txs) → Fits (length given) s → Fits (length given + length rest) (along (λ ts a s. txs_by (length ts) (effect_after d q ts) s) given rest s)
-fits_along d q given [] s h = subst (λ n. Fits n s) (omega arith) h
-fits_along d q given (a ∷ rest) s h =
-    let l = length-append given (a ∷ []) in
-    let here : Fits (length (given ++ a ∷ [])) (txs_by (length given) (effect_after d q given) s) = subst (λ n. Fits n (txs_by (length given) (effect_after d q given) s)) (sym l) (fits_by (effect_after d q given) (length given) s h) in
-    subst (λ n. Fits n (along (λ ts a s. txs_by (length ts) (effect_after d q ts) s) (given ++ a ∷ []) rest (txs_by (length given) (effect_after d q given) s))) (omega (arith, l)) (fits_along d q (given ++ a ∷ []) rest (txs_by (length given) (effect_after d q given) s) here)
-
-pub fits : (d : Deployment) (q : Instance) → Fits (length q.answers) (txs_after d q q.answers)
-fits d q = subst (λ n. Fits n (txs_after d q q.answers)) (omega arith) (fits_along d q [] q.answers none_begun (record { fresh = λ b g. refl; before = λ b g. cc; not_ended = λ b g. cc; below = λ b z g. cc }))
-
 -- ---- what is open or ended is a Begin
 pub record Begins (d : Deployment) (q : Instance) (given : List Answer) (s : Txs) : Type 0 where
   pub begun : (b : ℕ) → s.begun ≡ Some b → effect_after d q (take b given) ≡ effect.Begin
   pub ended : (b : ℕ) (z : ℕ × Bool) → s.ends b ≡ Some z → effect_after d q (take b given) ≡ effect.Begin
 
-module _ (d : Deployment) (q : Instance) (given : List Answer) (a : Answer) (s : Txs) (f : Fits (length given) s) (h : Begins d q given s) where
-  same_front : (b : ℕ) → b < length given → effect_after d q (take b given) ≡ effect.Begin → effect_after d q (take b (given ++ a ∷ [])) ≡ effect.Begin
-  same_front b g is = ap (effect_after d q) (take-append-le b given (a ∷ []) (omega (arith, g))) ∙ is
+module _ (d : Deployment) (q : Instance) where
+  module _ (given : List Answer) (a : Answer) (h : Begins d q given (txs_after d q given)) where
+    abbrev before : Txs
+    before = txs_after d q given
 
-  kept_begins : Begins d q (given ++ a ∷ []) s
-  kept_begins = record { begun = λ b g. same_front b (f.before b g) (h.begun b g); ended = λ b z g. same_front b (f.below b z g) (h.ended b z g) }
+    same_front : (b : ℕ) → b < length given → effect_after d q (take b given) ≡ effect.Begin → effect_after d q (take b (given ++ a ∷ [])) ≡ effect.Begin
+    same_front b g is = ap (effect_after d q) (take-append-le b given (a ∷ []) (omega (arith, g))) ∙ is
 
-  begins_by : (e : Effect) → effect_after d q given ≡ e → Begins d q (given ++ a ∷ []) (txs_by (length given) e s)
-  begins_by effect.Begin is = record {
-    begun = λ b g. let k : length given ≡ b = cc in subst (λ m. effect_after d q (take m (given ++ a ∷ [])) ≡ effect.Begin) k (ap (effect_after d q) (take-append_seam given (a ∷ [])) ∙ is);
-    ended = kept_begins.ended;
-  }
-  begins_by (effect.End c) is = record {
-    begun = λ b g. cc;
-    ended = λ b z g. by_test b z (is_at b s.begun) refl g;
-  }
-    where
-      by_test : (b : ℕ) (z : ℕ × Bool) (t : Bool) → is_at b s.begun ≡ t → (if t then Some (length given, c) else s.ends b) ≡ Some z → effect_after d q (take b (given ++ a ∷ [])) ≡ effect.Begin
-      by_test b z true e g = kept_begins.begun b (at_of b s.begun e)
-      by_test b z false e g = kept_begins.ended b z g
-  begins_by e is = kept_begins
+    kept_begins : Begins d q (given ++ a ∷ []) before
+    kept_begins = let f = fits_at d q given in record { begun = λ b g. same_front b (f.before b g) (h.begun b g); ended = λ b z g. same_front b (f.below b z g) (h.ended b z g) }
 
-begins_along : (d : Deployment) (q : Instance) (given rest : List Answer) (s : Txs) → Fits (length given) s → Begins d q given s → Begins d q (given ++ rest) (along (λ ts a s. txs_by (length ts) (effect_after d q ts) s) given rest s)
-begins_along d q given [] s f h = subst (λ ts. Begins d q ts s) (sym (append-nil given)) h
-begins_along d q given (a ∷ rest) s f h = subst (λ ts. Begins d q ts (along (λ ts a s. txs_by (length ts) (effect_after d q ts) s) (given ++ a ∷ []) rest (txs_by (length given) (effect_after d q given) s))) (append_assoc given (a ∷ []) rest)
-    (begins_along d q (given ++ a ∷ []) rest (txs_by (length given) (effect_after d q given) s)
-    (subst (λ n. Fits n (txs_by (length given) (effect_after d q given) s)) (sym (length-append given (a ∷ []))) (fits_by (effect_after d q given) (length given) s f))
-    (begins_by d q given a s f h (effect_after d q given) refl))
+    begins_by : (e : Effect) → effect_after d q given ≡ e → Begins d q (given ++ a ∷ []) (txs_by (length given) e before)
+    begins_by effect.Begin is = record {
+      begun = λ b g. let k : length given ≡ b = cc in subst (λ m. effect_after d q (take m (given ++ a ∷ [])) ≡ effect.Begin) k (ap (effect_after d q) (take-append_seam given (a ∷ [])) ∙ is);
+      ended = kept_begins.ended;
+    }
+    begins_by (effect.End c) is = record {
+      begun = λ b g. cc;
+      ended = λ b z g. by_open b z before.begun refl g;
+    }
+      where
+        by_open : (b : ℕ) (z : ℕ × Bool) (o : Option ℕ) → before.begun ≡ o → (if is_at b o then Some (length given, c) else before.ends b) ≡ Some z → effect_after d q (take b (given ++ a ∷ [])) ≡ effect.Begin
+        by_open b z None so g = kept_begins.ended b z g
+        by_open b z (Some m) so g = by_test (b == m) refl g
+          where
+            by_test : (t : Bool) → (b == m) ≡ t → (if t then Some (length given, c) else before.ends b) ≡ Some z → effect_after d q (take b (given ++ a ∷ [])) ≡ effect.Begin
+            by_test true e g = kept_begins.begun b (so ∙ sym (ap Some (eqb-true b m e)))
+            by_test false e g = kept_begins.ended b z g
+    begins_by e is = kept_begins
 
-pub begins : (d : Deployment) (q : Instance) (given : List Answer) → Begins d q given (txs_after d q given)
-begins d q given = begins_along d q [] given none_begun (record { fresh = λ b g. refl; before = λ b g. cc; not_ended = λ b g. cc; below = λ b z g. cc }) (record { begun = λ b g. cc; ended = λ b z g. cc })
+    begins_more : Begins d q (given ++ a ∷ []) (txs_after d q (given ++ a ∷ []))
+    begins_more = subst (Begins d q (given ++ a ∷ [])) (sym (txs_pushed d q given a)) (begins_by (effect_after d q given) refl)
 
--- ---- an End that is answered stays
-pub ends_kept : (e : Effect) (n : ℕ) (s : Txs) (b : ℕ) (z : ℕ × Bool) → Fits n s → s.ends b ≡ Some z → (txs_by n e s).ends b ≡ Some z
-ends_kept (effect.End c) n s b z f h = by_test (is_at b s.begun) refl
-  where
-    by_test : (t : Bool) → is_at b s.begun ≡ t → (if t then Some (n, c) else s.ends b) ≡ Some z
-    by_test true e = let k = sym (f.not_ended b (at_of b s.begun e)) ∙ h in cc
-    by_test false e = h
-ends_kept effect.Begin n s b z f h = h
-ends_kept e n s b z f h = h
+  begins_along : (given rest : List Answer) → Begins d q given (txs_after d q given) → Begins d q (given ++ rest) (txs_after d q (given ++ rest))
+  begins_along given [] h = subst (λ ts. Begins d q ts (txs_after d q ts)) (sym (append-nil given)) h
+  begins_along given (a ∷ rest) h = subst (λ ts. Begins d q ts (txs_after d q ts)) (append_assoc given (a ∷ []) rest) (begins_along (given ++ a ∷ []) rest (begins_more given a h))
 
-ends_stay : (d : Deployment) (q : Instance) (given rest : List Answer) (s : Txs) (b : ℕ) (z : ℕ × Bool) → Fits (length given) s → s.ends b ≡ Some z → (along (λ ts a s. txs_by (length ts) (effect_after d q ts) s) given rest s).ends b ≡ Some z
-ends_stay d q given [] s b z f h = h
-ends_stay d q given (a ∷ rest) s b z f h = ends_stay d q (given ++ a ∷ []) rest (txs_by (length given) (effect_after d q given) s) b z
-    (subst (λ n. Fits n (txs_by (length given) (effect_after d q given) s)) (sym (length-append given (a ∷ []))) (fits_by (effect_after d q given) (length given) s f)) (ends_kept (effect_after d q given) (length given) s b z f h)
-
-pub along_append : {X : Type 0} (f : List Answer → Answer → X → X) (given xs ys : List Answer) (x : X) → along f given (xs ++ ys) x ≡ along f (given ++ xs) ys (along f given xs x)
-along_append f given [] ys x = ap (λ ts. along f ts ys x) (sym (append-nil given))
-along_append f given (a ∷ xs) ys x = along_append f (given ++ a ∷ []) xs ys (f given a x) ∙ ap (λ ts. along f ts ys (along f (given ++ a ∷ []) xs (f given a x))) (append_assoc given (a ∷ []) xs)
-
-pub fits_at : (d : Deployment) (q : Instance) (given : List Answer) → Fits (length given) (txs_after d q given)
-fits_at d q given = fits d (record q { answers = given })
-
-pub ended_stays : (d : Deployment) (q : Instance) (given rest : List Answer) (b : ℕ) (z : ℕ × Bool) → given ++ rest ≡ q.answers → (txs_after d q given).ends b ≡ Some z → end_of d q b ≡ Some z
-ended_stays d q given rest b z is h = ap (λ ts. (txs_after d q ts).ends b) (sym is) ∙ ap (λ (s : Txs). s.ends b) (along_append (λ ts a s. txs_by (length ts) (effect_after d q ts) s) [] given rest none_begun)
-    ∙ ends_stay d q given rest (txs_after d q given) b z (fits_at d q given) h
-
--- .. and of an answer that is to come, too
-pub ends_go_on : (d : Deployment) (q : Instance) (a : Answer) (b : ℕ) (z : ℕ × Bool) → end_of d q b ≡ Some z → end_of d (answered q a) b ≡ Some z
-ends_go_on d q a b z h = ended_stays d (answered q a) q.answers (a ∷ []) b z refl h
+  pub begins : (given : List Answer) → Begins d q given (txs_after d q given)
+  begins given = begins_along [] given (record { begun = λ b g. cc; ended = λ b z g. cc })
 
 -- ---- an answer more
 module _ (d : Deployment) (id : IntentId) (q : Instance) (a : Answer) where

@@ -4,7 +4,7 @@ use Rattle.std.specs.FinMap as map
 use Rattle.std.specs.FinMap.{get-insert}
 use Rattle.std.specs.Ordering.{is_eq}
 use Rattle.std.proofs.lemmas.Cmp.{tied_itself}
-use Rattle.beldi_value.specs.Id.{id_cmp, id_total, has_no_hops, child_of}
+use Rattle.beldi_value.specs.Id.{id_cmp, id_total, child_of}
 use Rattle.beldi_value.specs.declared.id.IntentId.{IntentId}
 use Rattle.beldi_value.specs.declared.place.Place.{Place}
 use Rattle.beldi_value.specs.declared.place.TxId.{TxId}
@@ -12,7 +12,6 @@ use Rattle.beldi_value.specs.declared.value.Value.{Value}
 use Rattle.beldi_tree.specs.declared.deployment.Deployment.{Deployment}
 use Rattle.beldi_lang.specs.declared.effect.Answer.{Answer}
 use Rattle.beldi_row.specs.declared.row.Body.{Body}
-use Rattle.beldi_row.specs.declared.row.Row.{Row}
 use Rattle.beldi_row.specs.declared.notes.Note.{Note}
 use Rattle.beldi_row.specs.Log.{place_eq}
 use Rattle.beldi_row.proofs.Logs.{place_same, place_self}
@@ -22,13 +21,12 @@ use Rattle.beldi_plain.specs.Holds.{held_if, holds}
 use Rattle.beldi_plain.specs.Plain.{Instance, effect_of}
 use Rattle.beldi_order.proofs.Operations.{id_same}
 use Rattle.beldi_step.specs.Run.{place_of, is_waited}
-use Rattle.beldi_known.specs.Rows.{IntentMatches}
 use Rattle.beldi_known.specs.Owed.{called_by}
 use Rattle.beldi_plain.specs.Piece.{is_aborted}
 use Rattle.beldi_known.specs.Known.{Known, row_at, owed_value, owed_read, note_by, answered_note, ahead_by, ahead_note, note_or, owed_note, shadow_by, owed_shadow, asks_lock, owed_lockset, is_on, got_before, got_by, owed_call}
 use Rattle.beldi_order.specs.Txs.{txs_after, tx_now, tx_after, effect_after}
 use Rattle.beldi_known.specs.Frame.{AnswersOne, row_added, put, LockedOut}
-use Rattle.beldi_known.proofs.Instances.{intent_same, calls_moved, same_caller, same_callee}
+use Rattle.beldi_known.proofs.Instances.{calls_moved, same_caller, same_callee}
 use Rattle.beldi_known.proofs.Answers.{true_false}
 use Rattle.beldi_known.proofs.Frame.{step_next}
 
@@ -115,11 +113,7 @@ module _ (d : Deployment) (known : Known) (id : IntentId) (q r : Instance) (a : 
   pub holds_one : (x : Item) (P : IntentId → Bool → Type 0) → P id (held_if x q.func (op_of (effect_of d q)) (holds d x (map.get known id))) → ((j : IntentId) → is_eq (id_cmp j id) ≡ false → P j (holds d x (map.get known j))) → (j : IntentId) → P j (holds d x (map.get after j))
   holds_one x P here others j = known_set known id r (λ j o. P j (holds d x o)) (subst (P id) (ap (λ o. held_if x q.func (op_of (effect_of d q)) (holds d x o)) is ∙ sym (h.held x)) here) others j
 
-  -- the rows of intents and of calls are as before
-  pub intents_same : (home : ℕ) (j : IntentId) (row : Option Row) → IntentMatches (has_no_hops j.hops) home row (map.get known j) → IntentMatches (has_no_hops j.hops) home row (map.get after j)
-  intents_same home j = known_set known id r (λ j o. (row : Option Row) → IntentMatches (has_no_hops j.hops) home row (map.get known j) → IntentMatches (has_no_hops j.hops) home row o)
-      (λ row g. intent_same (has_no_hops id.hops) home row q r h.body (sym h.outcome) (subst (IntentMatches (has_no_hops id.hops) home row) is g)) (λ j other row g. g) j
-
+  -- the rows of calls are as before
   pub calls_same : (f : ℕ) (b : Place) → owed_call after f b ≡ owed_call known f b
   calls_same f b = calls_moved known id r f b
       (λ e. same_caller f q r (map.get after (child_of b.intent b.step)) h.func ∙ ap (λ o. called_by f o (map.get after (child_of b.intent b.step))) (sym is))

@@ -5,7 +5,7 @@ use Rattle.std.specs.FinMap as map
 use Rattle.std.specs.Ordering.{is_eq}
 use Rattle.std.proofs.lemmas.Cmp.{tied_itself}
 use Rattle.beldi_value.specs.declared.place.Owner.TheVariants.{Intent}
-use Rattle.beldi_value.specs.Id.{id_cmp}
+use Rattle.beldi_value.specs.Id.{id_cmp, has_no_hops}
 use Rattle.beldi_value.specs.declared.id.IntentId.{IntentId}
 use Rattle.beldi_value.specs.declared.place.Owner.{Owner}
 use Rattle.beldi_value.specs.declared.place.Place.{Place}
@@ -32,16 +32,18 @@ use Rattle.beldi_plain.specs.Operation.{op_of, touched}
 use Rattle.beldi_plain.specs.Holds.{held_if, holds}
 use Rattle.beldi_plain.specs.Plain.{Instance, effect_of}
 use Rattle.beldi_step.specs.Run.{place_of}
-use Rattle.beldi_known.specs.Rows.{LogMatches}
+use Rattle.beldi_known.specs.Rows.{LogMatches, IntentMatches}
 use Rattle.beldi_known.specs.Contents.{is_owner}
 use Rattle.beldi_plain.specs.Piece.{is_aborted}
 use Rattle.beldi_known.specs.Known.{Known, is_item, owed_value, owed_read, row_at, lock_note, note_by, ahead_by, note_or, owed_note, shadow_by, owed_shadow, begins_at, asks_lock, owed_lockset, got_by, ended_by, tx_end, commit_in, ended_at, is_decided, is_mark, last_step}
 use Rattle.beldi_order.specs.Txs.{effect_after, txs_by, txs_after, Txs, tx_after, tx_now}
-use Rattle.beldi_known.specs.Matches.{ItemMatches, TxsMatch, ShadowMatches, LocksetMatches, lockset_ahead, is_open}
+use Rattle.beldi_known.specs.Matches.{ItemMatches, TxsMatch, ShadowMatches, LocksetMatches, lockset_ahead, has_ended, is_open}
 use Rattle.beldi_known.specs.Acts.{with_note}
 use Rattle.beldi_known.specs.Frame.{AnswersOne, row_added, LockedOut}
 use Rattle.beldi_known.proofs.Answers.{true_false}
-use Rattle.beldi_known.proofs.Frame.{step_next, ends_kept, fits}
+use Rattle.beldi_known.proofs.Instances.{EndMore, intent_stays, intent_same}
+use Rattle.beldi_order.proofs.Ends.{ends_kept, fits}
+use Rattle.beldi_known.proofs.Frame.{step_next}
 use Rattle.beldi_known.proofs.FrameAt.{known_set, no_place, read_none, read_one, shadow_one, lockset_one, holds_one, note_one, got_same}
 
 -- ---- effects that end no transaction
@@ -115,6 +117,19 @@ module _ (d : Deployment) (known : Known) (locked unlocked : IntentId → Bool) 
   pub tx_end_stays : (t : TxId) (z : ℕ × Bool) → tx_end d known t ≡ Some z → tx_end d after t ≡ Some z
   tx_end_stays t z = known_set known id r (λ j o. ended_by d t.begin (map.get known j) ≡ Some z → ended_by d t.begin o ≡ Some z)
       (λ e. h.ends t.begin ∙ ends_kept (effect_of d q) n (txs_after d q q.answers) t.begin z (fits d q) (sym (ap (ended_by d t.begin) is) ∙ e)) (λ j other e. e) t.intent
+
+  -- so the rows of intents match them
+  pub ends_more : EndMore (has_ended d known) (has_ended d after)
+  ends_more t e = by_end (tx_end d known t) refl e
+    where
+      by_end : (o : Option (ℕ × Bool)) → tx_end d known t ≡ o → is_some o ≡ true → has_ended d after t ≡ true
+      by_end None g k = cc
+      by_end (Some z) g k = ap is_some (tx_end_stays t z g)
+
+  pub intents_same : (home : ℕ) (j : IntentId) (row : Option Row) → IntentMatches (has_ended d known) (has_no_hops j.hops) home row (map.get known j) → IntentMatches (has_ended d after) (has_no_hops j.hops) home row (map.get after j)
+  intents_same home j row g = intent_stays (has_ended d known) (has_ended d after) ends_more (has_no_hops j.hops) home row (map.get after j)
+      (known_set known id r (λ j o. IntentMatches (has_ended d known) (has_no_hops j.hops) home row (map.get known j) → IntentMatches (has_ended d known) (has_no_hops j.hops) home row o)
+      (λ g. intent_same (has_ended d known) (has_no_hops id.hops) home row q r h.body (sym h.outcome) (subst (IntentMatches (has_ended d known) (has_no_hops id.hops) home row) is g)) (λ j other g. g) j g)
 
   module _ (quiet : commit_in (effect_of d q) ≡ None) where
     -- transactions are as before

@@ -1,5 +1,5 @@
 -- The rows of an intent, and of the calls to it and from it, as its instance goes on.
-use Rattle.std.proofs.Common.{◌≡◌, ℕ, ◌==◌, Bool, true, false, Option, None, Some, is_some, refl, ap, sym, ◌∙◌, subst, if◌then◌else◌, [], ◌∷◌, length, length-append, arith}
+use Rattle.std.proofs.Common.{◌≡◌, ℕ, ◌==◌, Bool, true, false, Option, None, Some, refl, ap, sym, ◌∙◌, subst, if◌then◌else◌, [], ◌∷◌, length, length-append, arith}
 use Rattle.std.specs.FinMap as map
 use Rattle.std.specs.Ordering.{is_eq}
 use Rattle.std.specs.FinMap.{FinMap}
@@ -7,6 +7,7 @@ use Rattle.beldi_value.specs.Id.{id_cmp, child_of}
 use Rattle.beldi_value.specs.declared.id.IntentId.{IntentId}
 use Rattle.beldi_value.specs.declared.outcome.Outcome.{Outcome}
 use Rattle.beldi_value.specs.declared.place.Place.{Place}
+use Rattle.beldi_value.specs.declared.place.TxId.{TxId}
 use Rattle.beldi_row.proofs.Gets.{key_self}
 use Rattle.beldi_row.specs.Key.{key_cmp}
 use Rattle.beldi_row.specs.declared.row.Body.{Body}
@@ -18,12 +19,11 @@ use Rattle.beldi_plain.specs.Plain.{Instance, ended}
 use Rattle.beldi_order.proofs.Maps.{same_some, made_set}
 use Rattle.beldi_step.specs.Run.{is_waited}
 use Rattle.beldi_known.specs.Owed.{called_by, result_of}
-use Rattle.beldi_known.specs.Rows.{IntentMatches, RootMatches, CalleeMatches, IsBodyOf, BodyMatches, CalleeBodyMatches, OutcomeMatches, body_of}
+use Rattle.beldi_known.specs.Rows.{IntentMatches, RootMatches, CalleeMatches, FinishMatches, tx_in, IsBodyOf, BodyMatches, CalleeBodyMatches, OutcomeMatches, body_of}
 use Rattle.beldi_known.proofs.Answers.{true_false}
 
 -- one that is there has a body only of an instance that was made
 pub record IsRowOf (r : IntentRow) (i : Option Instance) : Type 0 where
-  pub finishes : is_some r.finish ≡ is_some r.outcome
   pub body : (b : Body) → r.body ≡ Some b → IsBodyOf b i
   pub outcome : (b : Body) (u : Outcome) (q : Instance) → r.body ≡ Some b → r.outcome ≡ Some u → i ≡ Some q → q.outcome ≡ Some u
 
@@ -48,12 +48,30 @@ callee_outcome home None o i h c u q is some made = absurd h
 callee_outcome home (Some b) o i h c u q is some made = ap (λ z. z.outcome) (same_some (sym made ∙ h.0.made)) ∙ outcome_kept (is_waited b.from) o h.0.instance.outcome h.2 u some
 
 root_row : (b : Bool) (r : IntentRow) (i : Option Instance) → RootMatches b (Some (rows.Intent r)) i → IsRowOf r i
-root_row true r i h = record { finishes = h.finishes; body = root_body r.body r.outcome i h.body; outcome = root_outcome r.body r.outcome i h.body }
+root_row true r i h = record { body = root_body r.body r.outcome i h.body; outcome = root_outcome r.body r.outcome i h.body }
 root_row false r i h = cc
 
-pub row_of : (b : Bool) (home : ℕ) (r : IntentRow) (i : Option Instance) → IntentMatches b home (Some (rows.Intent r)) i → IsRowOf r i
-row_of true home r i h = root_row (home == 0) r i h
-row_of false home r i h = record { finishes = h.finishes; body = callee_body home r.body r.outcome i h.body; outcome = callee_outcome home r.body r.outcome i h.body }
+pub row_of : (ended : TxId → Bool) (b : Bool) (home : ℕ) (r : IntentRow) (i : Option Instance) → IntentMatches ended b home (Some (rows.Intent r)) i → IsRowOf r i
+row_of ended true home r i h = root_row (home == 0) r i h
+row_of ended false home r i h = record { body = callee_body home r.body r.outcome i h.body; outcome = callee_outcome home r.body r.outcome i h.body }
+
+-- a row matches still as transactions end
+abbrev pub EndMore : (TxId → Bool) → (TxId → Bool) → Type 0
+EndMore before after = (t : TxId) → before t ≡ true → after t ≡ true
+
+module _ (before after : TxId → Bool) (more : EndMore before after) where
+  finish_stays : (w : Option TxId) (f : Option ℕ) (o : Option Outcome) → FinishMatches before w f o → FinishMatches after w f o
+  finish_stays None f o h = h
+  finish_stays (Some t) f o h = λ there. more t (h there)
+
+  callee_stays : (home : ℕ) (r : Option Row) (i : Option Instance) → CalleeMatches before home r i → CalleeMatches after home r i
+  callee_stays home None i h = h
+  callee_stays home (Some (rows.Intent r)) i h = record { finishes = finish_stays (tx_in r.body) r.finish r.outcome h.finishes; body = h.body }
+  callee_stays home (Some r) i h = absurd h
+
+  pub intent_stays : (b : Bool) (home : ℕ) (r : Option Row) (i : Option Instance) → IntentMatches before b home r i → IntentMatches after b home r i
+  intent_stays true home r i h = h
+  intent_stays false home r i h = callee_stays home r i h
 
 -- a body stays that of its instance, which is answered, or ends
 abbrev pub body_stays : (b : Body) (q s : Instance) → body_of q ≡ body_of s → IsBodyOf b (Some q) → IsBodyOf b (Some s)
@@ -90,16 +108,16 @@ callee_goes home (Some b) o q s keeps h =
           (keeps.outcomes o (subst (λ t. OutcomeMatches t o q.outcome) (ap is_waited from) (subst (OutcomeMatches (is_waited b.from) o) (ap (λ z. z.outcome) (same_some (sym h.0.made))) h.2))),
     )
 
-pub callee_on : (home : ℕ) (r : Option Row) (q s : Instance) → KeepsRow q s → CalleeMatches home r (Some q) → CalleeMatches home r (Some s)
-callee_on home None q s keeps h = record {
+pub callee_on : (ended : TxId → Bool) (home : ℕ) (r : Option Row) (q s : Instance) → KeepsRow q s → CalleeMatches ended home r (Some q) → CalleeMatches ended home r (Some s)
+callee_on ended home None q s keeps h = record {
   open_still = λ z is func idle.
       let same : s ≡ z = same_some is in
       let was_func : q.func ≡ home = ap (λ y. y.func) keeps.body ∙ ap (λ y. y.func) same ∙ func in
       let was_idle : is_waited q.from ≡ false = ap (λ y. is_waited y.from) keeps.body ∙ ap (λ y. is_waited y.from) same ∙ idle in
       ap (λ y. y.outcome) (sym same) ∙ keeps.open_still was_idle (h.open_still q refl was_func was_idle);
 }
-callee_on home (Some (rows.Intent i)) q s keeps h = record { finishes = h.finishes; body = callee_goes home i.body i.outcome q s keeps h.body }
-callee_on home (Some r) q s keeps h = absurd h
+callee_on ended home (Some (rows.Intent i)) q s keeps h = record { finishes = h.finishes; body = callee_goes home i.body i.outcome q s keeps h.body }
+callee_on ended home (Some r) q s keeps h = absurd h
 
 roots_same : (b : Bool) (r : Option Row) (q s : Instance) → body_of q ≡ body_of s → q.outcome ≡ s.outcome → RootMatches b r (Some q) → RootMatches b r (Some s)
 roots_same true None q s body same h = cc
@@ -108,19 +126,19 @@ roots_same true (Some r) q s body same h = absurd h
 roots_same false r q s body same h = h
 
 -- so the rows of its intent match it
-pub intent_same : (b : Bool) (home : ℕ) (r : Option Row) (q s : Instance) → body_of q ≡ body_of s → q.outcome ≡ s.outcome → IntentMatches b home r (Some q) → IntentMatches b home r (Some s)
-intent_same true home r q s body same h = roots_same (home == 0) r q s body same h
-intent_same false home r q s body same h = callee_on home r q s (same_keeps_row q s body same) h
+pub intent_same : (ended : TxId → Bool) (b : Bool) (home : ℕ) (r : Option Row) (q s : Instance) → body_of q ≡ body_of s → q.outcome ≡ s.outcome → IntentMatches ended b home r (Some q) → IntentMatches ended b home r (Some s)
+intent_same ended true home r q s body same h = roots_same (home == 0) r q s body same h
+intent_same ended false home r q s body same h = callee_on ended home r q s (same_keeps_row q s body same) h
 
 -- an intent that was not made has no row with hops
-pub callee_new : (home : ℕ) (r : Option Row) (s : Instance) → s.outcome ≡ None → CalleeMatches home r None → CalleeMatches home r (Some s)
-callee_new home None s none h = record { open_still = λ q is func idle. ap (λ z. z.outcome) (sym (same_some is)) ∙ none }
-callee_new home (Some (rows.Intent i)) s none h = no_body i.body h.body
+pub callee_new : (ended : TxId → Bool) (home : ℕ) (r : Option Row) (s : Instance) → s.outcome ≡ None → CalleeMatches ended home r None → CalleeMatches ended home r (Some s)
+callee_new ended home None s none h = record { open_still = λ q is func idle. ap (λ z. z.outcome) (sym (same_some is)) ∙ none }
+callee_new ended home (Some (rows.Intent i)) s none h = no_body i.body h.body
   where
-    no_body : (b : Option Body) → CalleeBodyMatches home b i.outcome None → CalleeMatches home (Some (rows.Intent i)) (Some s)
+    no_body : (b : Option Body) → CalleeBodyMatches home b i.outcome None → CalleeMatches ended home (Some (rows.Intent i)) (Some s)
     no_body None g = absurd g
     no_body (Some b) g = let clash = g.0.made in cc
-callee_new home (Some r) s none h = absurd h
+callee_new ended home (Some r) s none h = absurd h
 
 -- ---- calls
 -- a caller by its function, and a callee by its function and its result

@@ -23,12 +23,12 @@ use Rattle.beldi_plain.specs.Plain.{Instance, ended, effect_of, new_instance}
 use Rattle.beldi_order.proofs.Maps.{same_some, elsewhere}
 use Rattle.beldi_step.specs.Run.{is_waited}
 use Rattle.beldi_known.specs.Known.{Known, owed_call, at_once}
-use Rattle.beldi_known.specs.Matches.{Matches}
+use Rattle.beldi_known.specs.Matches.{Matches, has_ended}
 use Rattle.beldi_known.specs.Owed.{called_by}
-use Rattle.beldi_known.specs.Rows.{IntentMatches, RootMatches, CalleeMatches, CalleeBodyMatches, BodyMatches, OutcomeMatches, IsRootRow, IsCalleeRow, EndsRow, body_of}
+use Rattle.beldi_known.specs.Rows.{IntentMatches, RootMatches, CalleeMatches, FinishMatches, tx_in, CalleeBodyMatches, BodyMatches, OutcomeMatches, IsRootRow, IsCalleeRow, EndsRow, body_of}
 use Rattle.beldi_known.proofs.Answers.{true_false}
-use Rattle.beldi_known.proofs.Instances.{body_stays, calls_moved, same_caller, same_callee, no_callee, no_own_callee}
-use Rattle.beldi_known.proofs.Sets.{OwesStill, instance_set, row_put}
+use Rattle.beldi_known.proofs.Instances.{body_stays, intent_stays, calls_moved, same_caller, same_callee, no_callee, no_own_callee}
+use Rattle.beldi_known.proofs.Sets.{OwesStill, ended_more, instance_set, row_put}
 use Rattle.beldi_known.proofs.Calls.{ended_owes, made_owes}
 use Rattle.beldi_lang.specs.declared.effect.Effect.TheVariants as effect
 use Rattle.beldi_known.proofs.Frame.{at_once_same}
@@ -43,34 +43,35 @@ module _ (d : Deployment) (known : Known) (locked : IntentId → Bool) (id : Int
   abbrev after : Known
   after = map.insert known id s
 
-  module _ (home : ℕ) (others : (f : ℕ) (r : Option Row) → (f == home) ≡ false → IntentMatches (has_no_hops id.hops) f r (map.get known id) → IntentMatches (has_no_hops id.hops) f r (Some s))
+  module _ (home : ℕ) (others : (f : ℕ) (r : Option Row) → (f == home) ≡ false → IntentMatches (has_ended d known) (has_no_hops id.hops) f r (map.get known id) → IntentMatches (has_ended d known) (has_no_hops id.hops) f r (Some s))
       (calls : (f : ℕ) (b : Place) → owed_call after f b ≡ owed_call known f b) where
-    pub own_set : (m : Rows) (r : IntentRow) → IntentMatches (has_no_hops id.hops) home (Some (rows.Intent r)) (Some s) → Matches d m known locked → Matches d (set_row m (own_key home id) (Some (rows.Intent r))) after locked
+    pub own_set : (m : Rows) (r : IntentRow) → IntentMatches (has_ended d known) (has_no_hops id.hops) home (Some (rows.Intent r)) (Some s) → Matches d m known locked → Matches d (set_row m (own_key home id) (Some (rows.Intent r))) after locked
     own_set m r fits h = instance_set d known locked id s unlocked owes m (own_key home id) (Some (rows.Intent r)) refl
-        (subst (IntentMatches (has_no_hops id.hops) home (Some (rows.Intent r))) (sym (get_set id_total id_exact known id s)) fits)
+        (intent_stays (has_ended d known) (has_ended d after) (ended_more d known locked id s unlocked owes) (has_no_hops id.hops) home (Some (rows.Intent r)) (map.get after id)
+        (subst (IntentMatches (has_ended d known) (has_no_hops id.hops) home (Some (rows.Intent r))) (sym (get_set id_total id_exact known id s)) fits))
         (λ l other e g. at_home l.home (map.get m l) (l.home == home) refl (subst (λ (z : Kind). is_eq (key_cmp (record { home = l.home; kind = z }) (own_key home id)) ≡ false) e other) g)
         (λ l b other e. calls l.home b) h
       where
-        at_home : (f : ℕ) (w : Option Row) (b : Bool) → (f == home) ≡ b → is_eq (key_cmp (own_key f id) (own_key home id)) ≡ false → IntentMatches (has_no_hops id.hops) f w (map.get known id) → IntentMatches (has_no_hops id.hops) f w (Some s)
+        at_home : (f : ℕ) (w : Option Row) (b : Bool) → (f == home) ≡ b → is_eq (key_cmp (own_key f id) (own_key home id)) ≡ false → IntentMatches (has_ended d known) (has_no_hops id.hops) f w (map.get known id) → IntentMatches (has_ended d known) (has_no_hops id.hops) f w (Some s)
         at_home f w true e other g = let same : is_eq (key_cmp (own_key home id) (own_key home id)) ≡ false = subst (λ z. is_eq (key_cmp (own_key z id) (own_key home id)) ≡ false) (eqb-true f home e) other in absurd (true_false (sym (key_self (own_key home id)) ∙ same))
         at_home f w false e other g = others f w e g
 
   -- a root: its row stands in the host's home, and it is nobody's callee
   pub root_set : has_no_hops id.hops ≡ true → ((f : ℕ) (b : Place) → b.intent ≡ id → called_by f (Some s) (map.get after (child_of b.intent b.step)) ≡ called_by f (map.get known id) (map.get after (child_of b.intent b.step)))
       → (m : Rows) (r : IntentRow) → IsRootRow r (Some s) → Matches d m known locked → Matches d (set_row m (own_key 0 id) (Some (rows.Intent r))) after locked
-  root_set root calls m r fits h = own_set 0 others kept m r (subst (λ b. IntentMatches b 0 (Some (rows.Intent r)) (Some s)) (sym root) fits) h
+  root_set root calls m r fits h = own_set 0 others kept m r (subst (λ b. IntentMatches (has_ended d known) b 0 (Some (rows.Intent r)) (Some s)) (sym root) fits) h
     where
       kept : (f : ℕ) (b : Place) → owed_call after f b ≡ owed_call known f b
       kept f b = calls_moved known id s f b (calls f b) (λ e. absurd (true_false (sym root ∙ ap (λ z. has_no_hops z.hops) (sym e) ∙ no_root b.intent b.step)))
 
-      others : (f : ℕ) (w : Option Row) → (f == 0) ≡ false → IntentMatches (has_no_hops id.hops) f w (map.get known id) → IntentMatches (has_no_hops id.hops) f w (Some s)
-      others f w off g = subst (λ b. IntentMatches b f w (Some s)) (sym root) (subst (λ b. RootMatches b w (Some s)) (sym off) (subst (λ b. RootMatches b w (map.get known id)) off (subst (λ b. IntentMatches b f w (map.get known id)) root g)))
+      others : (f : ℕ) (w : Option Row) → (f == 0) ≡ false → IntentMatches (has_ended d known) (has_no_hops id.hops) f w (map.get known id) → IntentMatches (has_ended d known) (has_no_hops id.hops) f w (Some s)
+      others f w off g = subst (λ b. IntentMatches (has_ended d known) b f w (Some s)) (sym root) (subst (λ b. RootMatches b w (Some s)) (sym off) (subst (λ b. RootMatches b w (map.get known id)) off (subst (λ b. IntentMatches (has_ended d known) b f w (map.get known id)) root g)))
 
 -- ---- an instance that nobody waits for ended, and so did its row
 finishes_too : (r s : IntentRow) (o : Outcome) → EndsRow r s o → is_some s.finish ≡ is_some s.outcome
 finishes_too r s o e = e.finish ∙ sym (ap is_some e.outcome)
 
-module _ (d : Deployment) (known : Known) (locked : IntentId → Bool) (id : IntentId) (q : Instance) (o : Outcome) (is : map.get known id ≡ Some q) (unlocked : locked id ≡ false) (owes : OwesStill d known id (map.get known id) (ended q o)) (idle : is_waited q.from ≡ false) where
+module _ (d : Deployment) (known : Known) (locked : IntentId → Bool) (id : IntentId) (q : Instance) (o : Outcome) (is : map.get known id ≡ Some q) (unlocked : locked id ≡ false) (owes : OwesStill d known id (map.get known id) (ended q o)) (idle : is_waited q.from ≡ false) (own : q.within ≡ None) where
   abbrev over : Known
   over = map.insert known id (ended q o)
 
@@ -93,14 +94,14 @@ module _ (d : Deployment) (known : Known) (locked : IntentId → Bool) (id : Int
   }) h
     where
       was : IsRootRow r (Some q)
-      was = subst (IsRootRow r) is (subst (λ w. RootMatches true w (map.get known id)) at (subst (λ b. IntentMatches b 0 (map.get m (own_key 0 id)) (map.get known id)) root (h.keys (own_key 0 id))))
+      was = subst (IsRootRow r) is (subst (λ w. RootMatches true w (map.get known id)) at (subst (λ b. IntentMatches (has_ended d known) b 0 (map.get m (own_key 0 id)) (map.get known id)) root (h.keys (own_key 0 id))))
 
       no_body : (b : Option Body) → b ≡ None → BodyMatches b r.outcome (Some q) → ⊥
       no_body None none g = cc
       no_body (Some b) none g = cc
 
   -- in another home a callee has no row
-  others : (f : ℕ) (w : Option Row) → (f == q.func) ≡ false → CalleeMatches f w (Some q) → CalleeMatches f w (Some (ended q o))
+  others : (f : ℕ) (w : Option Row) → (f == q.func) ≡ false → CalleeMatches (has_ended d known) f w (Some q) → CalleeMatches (has_ended d known) f w (Some (ended q o))
   others f None off g = record { open_still = λ z at func away. absurd (true_false (sym (eq-eqb f q.func (sym func ∙ ap (λ y. y.func) (sym (same_some at)))) ∙ off)) }
   others f (Some (rows.Intent j)) off g = absurd (no_body j.body g.body)
     where
@@ -115,29 +116,33 @@ module _ (d : Deployment) (known : Known) (locked : IntentId → Bool) (id : Int
       let from = ap (λ z. is_waited z.from) g.0.body ∙ ap (λ z. is_waited z.from) (same_some (sym g.0.made)) ∙ idle in
       (body_stays b q (ended q o) refl g.0, g.1, subst (λ t. OutcomeMatches t (Some o) (Some o)) (sym from) refl)
 
+  outside : (b : Option Body) (u : Option Outcome) → CalleeBodyMatches q.func b u (Some q) → tx_in b ≡ None
+  outside None u g = absurd g
+  outside (Some b) u g = ap (λ z. z.tx) (g.0.body ∙ ap body_of (same_some (sym g.0.made))) ∙ own
+
   pub callee_ended : has_no_hops id.hops ≡ false → (m : Rows) (r s : IntentRow) → EndsRow r s o → map.get m (own_key q.func id) ≡ Some (rows.Intent r) → Matches d m known locked → Matches d (set_row m (own_key q.func id) (Some (rows.Intent s))) over locked
   callee_ended hops m r s e at h = own_set d known locked id (ended q o) unlocked owes q.func
-      (λ f w off g. subst (λ b. IntentMatches b f w (Some (ended q o))) (sym hops) (others f w off (subst (CalleeMatches f w) is (subst (λ b. IntentMatches b f w (map.get known id)) hops g)))) kept m s
-      (subst (λ b. IntentMatches b q.func (Some (rows.Intent s)) (Some (ended q o))) (sym hops) (record {
-        finishes = finishes_too r s o e;
+      (λ f w off g. subst (λ b. IntentMatches (has_ended d known) b f w (Some (ended q o))) (sym hops) (others f w off (subst (CalleeMatches (has_ended d known) f w) is (subst (λ b. IntentMatches (has_ended d known) b f w (map.get known id)) hops g)))) kept m s
+      (subst (λ b. IntentMatches (has_ended d known) b q.func (Some (rows.Intent s)) (Some (ended q o))) (sym hops) (record {
+        finishes = subst (λ w. FinishMatches (has_ended d known) w s.finish s.outcome) (sym (ap tx_in e.body ∙ outside r.body r.outcome was.body)) (finishes_too r s o e);
         body = subst (λ b. CalleeBodyMatches q.func b s.outcome (Some (ended q o))) (sym e.body) (subst (λ u. CalleeBodyMatches q.func r.body u (Some (ended q o))) (sym e.outcome) (callee_body r.body r.outcome was.body));
       })) h
     where
-      was : IsCalleeRow q.func r (Some q)
-      was = subst (IsCalleeRow q.func r) is (subst (λ w. CalleeMatches q.func w (map.get known id)) at (subst (λ b. IntentMatches b q.func (map.get m (own_key q.func id)) (map.get known id)) hops (h.keys (own_key q.func id))))
+      was : IsCalleeRow (has_ended d known) q.func r (Some q)
+      was = subst (IsCalleeRow (has_ended d known) q.func r) is (subst (λ w. CalleeMatches (has_ended d known) q.func w (map.get known id)) at (subst (λ b. IntentMatches (has_ended d known) b q.func (map.get m (own_key q.func id)) (map.get known id)) hops (h.keys (own_key q.func id))))
 
 -- ---- a callee's row was set, and nothing more is known
-pub callee_put : (d : Deployment) (known : Known) (locked : IntentId → Bool) (m : Rows) (id : IntentId) (home : ℕ) (r : IntentRow) → has_no_hops id.hops ≡ false → IsCalleeRow home r (map.get known id) → Matches d m known locked → Matches d (set_row m (own_key home id) (Some (rows.Intent r))) known locked
-callee_put d known locked m id home r hops fits h = row_put d known locked m (own_key home id) (Some (rows.Intent r)) refl (subst (λ b. IntentMatches b home (Some (rows.Intent r)) (map.get known id)) (sym hops) fits) h
+pub callee_put : (d : Deployment) (known : Known) (locked : IntentId → Bool) (m : Rows) (id : IntentId) (home : ℕ) (r : IntentRow) → has_no_hops id.hops ≡ false → IsCalleeRow (has_ended d known) home r (map.get known id) → Matches d m known locked → Matches d (set_row m (own_key home id) (Some (rows.Intent r))) known locked
+callee_put d known locked m id home r hops fits h = row_put d known locked m (own_key home id) (Some (rows.Intent r)) refl (subst (λ b. IntentMatches (has_ended d known) b home (Some (rows.Intent r)) (map.get known id)) (sym hops) fits) h
 
 -- ---- who nobody waits for ends with its row: a root's in the host's home, a callee's in that of its function
-pub intent_ended : (d : Deployment) (known : Known) (locked : IntentId → Bool) (id : IntentId) (q : Instance) (o : Outcome) → map.get known id ≡ Some q → locked id ≡ false → effect_of d q ≡ effect.Return o → is_waited q.from ≡ false → (m : Rows) (r s : IntentRow) → EndsRow r s o
+pub intent_ended : (d : Deployment) (known : Known) (locked : IntentId → Bool) (id : IntentId) (q : Instance) (o : Outcome) → map.get known id ≡ Some q → locked id ≡ false → effect_of d q ≡ effect.Return o → is_waited q.from ≡ false → q.within ≡ None → (m : Rows) (r s : IntentRow) → EndsRow r s o
     → let key : RowKey = own_key (if has_no_hops id.hops then 0 else q.func) id in map.get m key ≡ Some (rows.Intent r) → Matches d m known locked → Matches d (set_row m key (Some (rows.Intent s))) (map.insert known id (ended q o)) locked
-intent_ended d known locked id q o is unlocked returns idle m r s ends at h =
+intent_ended d known locked id q o is unlocked returns idle own m r s ends at h =
     let owes : OwesStill d known id (map.get known id) (ended q o) = subst (λ z. OwesStill d known id z (ended q o)) (sym is) (ended_owes d known id q o o returns) in
     elim (has_no_hops id.hops) as (λ b. has_no_hops id.hops ≡ b → map.get m (own_key (if b then 0 else q.func) id) ≡ Some (rows.Intent r) → Matches d (set_row m (own_key (if b then 0 else q.func) id) (Some (rows.Intent s))) (map.insert known id (ended q o)) locked) [
-      | true ↦ λ root there. root_ended d known locked id q o is unlocked owes idle root m r s ends there h
-      | false ↦ λ hops there. callee_ended d known locked id q o is unlocked owes idle hops m r s ends there h
+      | true ↦ λ root there. root_ended d known locked id q o is unlocked owes idle own root m r s ends there h
+      | false ↦ λ hops there. callee_ended d known locked id q o is unlocked owes idle own hops m r s ends there h
     ] refl at
 
 -- ---- a root is made as its body is bound
@@ -147,7 +152,7 @@ root_bound d known locked id f v new root childless unlocked m r body none unfin
     let s = at_once d id (new_instance f v None) in
     let same = at_once_same d id (new_instance f v None) in
     let gone : (b : Place) → b.intent ≡ id → map.get (map.insert known id s) (child_of b.intent b.step) ≡ None = λ b is. ap (λ z. map.get (map.insert known id s) (child_of z b.step)) is ∙ elsewhere known id (child_of id b.step) s (λ e. no_own_callee id b.step (sym e)) ∙ childless b.step in
-    root_set d known locked id s unlocked (subst (λ o. OwesStill d known id o s) (sym new) (made_owes d known id f v None)) root
+    root_set d known locked id s unlocked (subst (λ o. OwesStill d known id o s) (sym new) (made_owes d known id f v None None)) root
     (λ u b is. ap (called_by u (Some s)) (gone b is) ∙ no_callee u (Some s) ∙ sym (ap (called_by u (map.get known id)) (gone b is) ∙ no_callee u (map.get known id)))
     m r (record {
       bare = λ e. none;

@@ -4,6 +4,7 @@ use Rattle.std.specs.FinMap as map
 use Rattle.std.specs.FinMap.{get-empty}
 use Rattle.beldi_value.specs.Id.{id_cmp, root_of, child_of, has_no_hops}
 use Rattle.beldi_value.specs.declared.id.IntentId.{IntentId}
+use Rattle.beldi_value.specs.declared.place.TxId.{TxId}
 use Rattle.beldi_value.specs.declared.value.Value.TheVariants.{Null}
 use Rattle.beldi_tree.specs.declared.deployment.Deployment.{Deployment}
 use Rattle.beldi_row.specs.Key.{key_cmp}
@@ -14,7 +15,7 @@ use Rattle.beldi_plain.specs.Holds.{holds}
 use Rattle.beldi_plain.specs.Plain.{Instance}
 use Rattle.beldi_known.specs.Contents.{head_key, shadow_key}
 use Rattle.beldi_known.specs.Known.{Known, owed_value, owed_note, owed_shadow, owed_lockset, got_by}
-use Rattle.beldi_known.specs.Matches.{Matches, RowMatches, ItemMatches, ShadowMatches, TxsMatch, LockedAtEnds}
+use Rattle.beldi_known.specs.Matches.{Matches, has_ended, RowMatches, ItemMatches, ShadowMatches, TxsMatch, LockedAtEnds}
 use Rattle.beldi_known.specs.Owed.{called_by}
 use Rattle.beldi_known.specs.Rows.{RootMatches, IntentMatches, CellMatches}
 use Rattle.beldi_known.specs.Sane.{Sane}
@@ -46,20 +47,20 @@ pub ahead_nothing : (d : Deployment) → LockedAtEnds d none unlocked
 ahead_nothing d id e = cc
 
 -- ---- rows
-no_intent : (home : ℕ) (b : Bool) → IntentMatches b home None None
-no_intent home true = by_home (home == 0)
+no_intent : (ended : TxId → Bool) (home : ℕ) (b : Bool) → IntentMatches ended b home None None
+no_intent ended home true = by_home (home == 0)
   where
     by_home : (b : Bool) → RootMatches b None None
     by_home true = refl
     by_home false = refl
-no_intent home false = record { open_still = λ q is same idle. cc }
+no_intent ended home false = record { open_still = λ q is same idle. cc }
 
 no_cell : (n : ℕ) → CellMatches n None
 no_cell zero = tt
 no_cell (suc n) = refl
 
 no_row : (d : Deployment) (home : ℕ) (k : Kind) → RowMatches d none home k None
-no_row d home (kinds.Intent id) = subst (IntentMatches (has_no_hops id.hops) home None) (sym (absent id)) (no_intent home (has_no_hops id.hops))
+no_row d home (kinds.Intent id) = subst (IntentMatches (has_ended d none) (has_no_hops id.hops) home None) (sym (absent id)) (no_intent (has_ended d none) home (has_no_hops id.hops))
 no_row d home (kinds.ReadLog a) = ap (owed_value d home a.step) (absent a.intent)
 no_row d home (kinds.Invoke a) = ap (called_by home (map.get none a.intent)) (absent (child_of a.intent a.step)) ∙ no_callee home (map.get none a.intent)
 no_row d home (kinds.Lockset i b t k) = ap (owed_lockset d b (record { func = home; table = t; key = k }) i) (absent i)

@@ -25,7 +25,7 @@ use Rattle.beldi_step.specs.Tables.{is_committed, value_in}
 use Rattle.beldi_known.specs.Listed.{listed_under}
 use Rattle.beldi_known.specs.Matches.{Matches}
 use Rattle.beldi_known.proofs.Answers.{true_false}
-use Rattle.beldi_known.proofs.Frame.{fits}
+use Rattle.beldi_order.proofs.Ends.{fits}
 use Rattle.beldi_known.proofs.AtFront.{no_decision}
 
 -- the transaction of a step is of its instance, and its Begin is the one that is open

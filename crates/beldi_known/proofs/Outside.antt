@@ -1,6 +1,6 @@
 -- An operation outside transactions, over what is known: by the same frame.
 use Rattle.std.specs.Option.{is_none}
-use Rattle.std.proofs.Common.{◌≡◌, ◌&&◌, ◌||◌, not, Bool, false, length, Option, None, Some, refl, ap, sym, ◌∙◌, if◌then◌else◌, true, ℕ, ◌==◌, inl, inr, subst, eq-eqb}
+use Rattle.std.proofs.Common.{◌≡◌, ◌&&◌, ◌||◌, not, Bool, false, length, Option, None, Some, refl, ap, sym, ◌∙◌, if◌then◌else◌, true, ℕ, ◌==◌, inl, inr, ◌⊎◌, subst, eq-eqb}
 use Rattle.std.specs.FinMap as map
 use Rattle.std.specs.Ordering.{is_eq}
 use Rattle.std.proofs.lemmas.Cmp.{tied_itself}
@@ -22,6 +22,7 @@ use Rattle.beldi_row.specs.declared.key.Kind.TheVariants as kinds
 use Rattle.beldi_row.specs.declared.row.Row.TheVariants as rows
 use Rattle.beldi_row.specs.Key.{key_cmp}
 use Rattle.beldi_row.specs.Log.{note_at, place_eq}
+use Rattle.beldi_row.specs.declared.notes.Note.{Note}
 use Rattle.beldi_row.proofs.Logs.{note_pushed, place_self}
 use Rattle.beldi_daal.specs.declared.cell.CellOp.TheVariants as cell
 use Rattle.beldi_daal.specs.declared.cell.CellOp.{CellOp}
@@ -37,7 +38,7 @@ use Rattle.beldi_known.specs.Rows.{LogMatches, CallMatches}
 use Rattle.beldi_known.specs.Owed.{noted, note_of}
 use Rattle.beldi_known.specs.Contents.{is_owner, head_key, content_of, shadow_key, shadow_of}
 use Rattle.beldi_plain.specs.Piece.{is_aborted}
-use Rattle.beldi_known.specs.Known.{Known, is_tx, is_item, note_by, is_on, got_before, got_by, commit_in, is_mark, shadow_by, asks_lock, begins_at, owed_read}
+use Rattle.beldi_known.specs.Known.{Known, is_tx, is_item, write_op, lock_note, note_by, is_on, got_before, got_by, commit_in, is_mark, shadow_by, asks_lock, begins_at, owed_read}
 use Rattle.beldi_order.specs.Txs.{tx_now, txs_after}
 use Rattle.beldi_known.specs.Matches.{ItemMatches, TxsMatch, ShadowMatches, RowMatches, Matches, is_open}
 use Rattle.beldi_known.specs.Frame.{AnswersOne, row_added, LockedOut}
@@ -46,25 +47,39 @@ use Rattle.beldi_known.proofs.Acts.{kinds_apart, is_data, is_shadow, content_apa
 use Rattle.beldi_known.proofs.Rows.{keys_set, keys_at}
 use Rattle.beldi_known.proofs.Owners.{IsFreeFor, unbarred}
 use Rattle.beldi_known.proofs.Operations.{Does}
-use Rattle.beldi_known.proofs.FrameAt.{holds_one, note_one, got_one, note_same, intents_same, calls_same, read_none, read_one}
-use Rattle.beldi_known.proofs.Fronts.{mark_same, tx_end_same, shadow_kept, locksets_kept, read_elsewhere}
+use Rattle.beldi_known.proofs.FrameAt.{holds_one, note_one, got_one, note_same, calls_same, read_none, read_one}
+use Rattle.beldi_known.proofs.Fronts.{intents_same, mark_same, tx_end_same, shadow_kept, locksets_kept, read_elsewhere}
 
--- ---- an answer outside, to any effect but an End: what it leaves of all that it does not answer
+-- ---- an answer outside, or to an effect that touches no item, but to an End: what it leaves of all that it does not answer
+-- no item is touched inside
+abbrev pub IsAway : Deployment → IntentId → Instance → Type 0
+IsAway d id q = (tx_now d id q ≡ None) ⊎ (touched (effect_of d q) ≡ None)
+
 module _ (d : Deployment) (known : Known) (locked : IntentId → Bool) (id : IntentId) (q r : Instance) (a : Answer) (is : map.get known id ≡ Some q) (unlocked : locked id ≡ false)
-    (outside : tx_now d id q ≡ None) (quiet : commit_in (effect_of d q) ≡ None) (one : AnswersOne d id q a r) where
+    (away : IsAway d id q) (quiet : commit_in (effect_of d q) ≡ None) (one : AnswersOne d id q a r) where
   abbrev after : Known
   after = map.insert known id r
 
   out : LockedOut locked locked id
   out = record { out = unlocked; others = λ j other. refl }
 
+  and_false : (u : Bool) → (u && false) ≡ false
+  and_false true = refl
+  and_false false = refl
+
   unmarked : (b : Place) → is_mark d after b.step (map.get after b.intent) ≡ false → is_mark d known b.step (map.get known b.intent) ≡ false
   unmarked b apart = sym (mark_same d known locked locked id q r a is one out quiet b) ∙ apart
 
   -- nothing is got by it
+  on_none : (t : TxId) (x : Item) → is_on t x q.func (tx_now d id q) (effect_of d q) ≡ false
+  on_none t x = elim away [
+    | inl outside ↦ ap (λ s. is_on t x q.func s (effect_of d q)) outside
+    | inr none ↦ ap (λ o. is_tx t (tx_now d id q) && is_item x q.func o) none ∙ and_false (is_tx t (tx_now d id q))
+  ]
+
   got_same : (t : TxId) (x : Item) (j : IntentId) → got_by d t x j (locked j) (map.get after j) ≡ got_by d t x j (locked j) (map.get known j)
   got_same t x = got_one d known id q r a is one locked locked out t x (λ j u. u ≡ got_by d t x j (locked j) (map.get known j))
-      (ap (λ z. got_before d t x id q || ((is_tx t z && is_item x q.func (touched (effect_of d q))) && not (is_aborted a))) outside
+      (ap (λ z. got_before d t x id q || (z && not (is_aborted a))) (on_none t x)
       ∙ sym (ap (got_by d t x id (locked id)) is ∙ ap (λ z. got_before d t x id q || (z && is_on t x q.func (tx_now d id q) (effect_of d q))) unlocked)) (λ j other. refl)
 
   pub txs_done : (x : Item) (was now : Option Owner) → ((t : TxId) → was ≡ Some (owner.Tx t) → ⊥) → ((t : TxId) → now ≡ Some (owner.Tx t) → ⊥) → TxsMatch d known locked x was → TxsMatch d after locked x now
@@ -80,28 +95,59 @@ module _ (d : Deployment) (known : Known) (locked : IntentId → Bool) (id : Int
   }
 
   shadows_kept : (t : TxId) (x : Item) (c : Content) → ShadowMatches d known t x c → ShadowMatches d after t x c
-  shadows_kept t x c h = shadow_kept d known locked locked id q r a is one out t x c (ap (λ s. shadow_by t x q.func s (effect_of d q) a) outside) h
+  shadows_kept t x c h = shadow_kept d known locked locked id q r a is one out t x c none h
+    where
+      no_write : (e : Effect) → touched e ≡ None → write_op e ≡ None
+      no_write (effect.Write u k v) g = cc
+      no_write (effect.CondWrite u k z o v) g = cc
+      no_write e g = refl
+
+      none : shadow_by t x q.func (tx_now d id q) (effect_of d q) a ≡ None
+      none = elim away [
+        | inl outside ↦ ap (λ s. shadow_by t x q.func s (effect_of d q) a) outside
+        | inr apart ↦ ap (λ o. if is_tx t (tx_now d id q) then note_of x q.func o a else None) (no_write (effect_of d q) apart) ∙ by_test (is_tx t (tx_now d id q))
+      ]
+        where
+          by_test : (b : Bool) → ◌≡◌ {A = Option Note} (if b then None else None) None
+          by_test true = refl
+          by_test false = refl
 
   -- every row, but that of a read
   pub row_kept : (home : ℕ) (kind : Kind) (row : Option Row) → ((b : Place) → kind ≡ kinds.ReadLog b → owed_read d after home b ≡ owed_read d known home b) → RowMatches d known home kind row → RowMatches d after home kind row
-  row_kept home (kinds.Intent j) row same g = intents_same d known id q r a is one home j row g
+  row_kept home (kinds.Intent j) row same g = intents_same d known locked locked id q r a is one out home j row g
   row_kept home (kinds.ReadLog b) row same g = subst (LogMatches row) (sym (same b refl)) g
   row_kept home (kinds.Invoke b) row same g = subst (CallMatches row) (sym (calls_same d known id q r a is one home b)) g
   row_kept home (kinds.Lockset j b t k) row same g = let x : Item = record { func = home; table = t; key = k } in
-      locksets_kept d known locked locked id q r a is one out quiet b x j row (ap (λ s. asks_lock b x q.func s (effect_of d q)) outside)
-      (ap (λ s. is_none q.outcome && (is_open d known s && (begins_at b s && is_item x q.func (touched (effect_of d q))))) outside ∙ and_false (is_none q.outcome)) g
+      locksets_kept d known locked locked id q r a is one out quiet b x j row (asks_none b x)
+      (ap (λ u. is_none q.outcome && (is_open d known (tx_now d id q) && u)) (asks_none b x) ∙ three (is_none q.outcome) (is_open d known (tx_now d id q))) g
     where
-      and_false : (u : Bool) → (u && false) ≡ false
-      and_false true = refl
-      and_false false = refl
+      asks_none : (b : ℕ) (x : Item) → asks_lock b x q.func (tx_now d id q) (effect_of d q) ≡ false
+      asks_none b x = elim away [
+        | inl outside ↦ ap (λ s. asks_lock b x q.func s (effect_of d q)) outside
+        | inr none ↦ ap (λ o. begins_at b (tx_now d id q) && is_item x q.func o) none ∙ and_false (begins_at b (tx_now d id q))
+      ]
+
+      three : (u v : Bool) → (u && (v && false)) ≡ false
+      three true v = and_false v
+      three false v = refl
   row_kept home kind row same g = g
 
   -- an item, where the effect is no operation
   pub item_same : op_of (effect_of d q) ≡ None → (x : Item) (c : Content) → ItemMatches d known locked x c → ItemMatches d after locked x c
   item_same none x c h = record {
     owner = holds_one d known id q r a is one x (λ j b. is_owner c.owner (owner.Intent j) ≡ b) (h.owner id ∙ sym (ap (λ z. held_if x q.func z (holds d x (map.get known id))) none)) (λ j apart. h.owner j);
-    notes = λ b apart. h.notes b (unmarked b apart) ∙ sym (note_same d known id q r a is one locked locked out x (ap (λ t. note_by x q.func t (effect_of d q) a) outside ∙ ap (λ z. note_of x q.func z a) none) unlocked b);
+    notes = λ b apart. h.notes b (unmarked b apart) ∙ sym (note_same d known id q r a is one locked locked out x no_note unlocked b);
   }
+    where
+      by_tx : touched (effect_of d q) ≡ None → (t : Option TxId) → note_by x q.func t (effect_of d q) a ≡ None
+      by_tx apart None = ap (λ z. note_of x q.func z a) none
+      by_tx apart (Some t) = ap (λ o. if is_item x q.func o then lock_note a else None) apart
+
+      no_note : note_by x q.func (tx_now d id q) (effect_of d q) a ≡ None
+      no_note = elim away [
+        | inl outside ↦ ap (λ t. note_by x q.func t (effect_of d q) a) outside ∙ ap (λ z. note_of x q.func z a) none
+        | inr apart ↦ by_tx apart (tx_now d id q)
+      ]
 
   -- an answer to a call leaves all rows as they are
   pub call_answered : op_of (effect_of d q) ≡ None → row_added (length q.answers) (txs_after d q q.answers).begun (effect_of d q) a ≡ None → (m : Rows) → Matches d m known locked → Matches d m after locked
@@ -189,7 +235,7 @@ module _ (d : Deployment) (known : Known) (locked : IntentId → Bool) (id : Int
         (λ j other. does.others id c.owner free (owner.Intent j) other ∙ h.owner j);
     notes = λ b apart. note_pushed c.notes p b (note_after op c.value) none
         ∙ ap (λ n. if place_eq p b then n else note_at c.notes b) (ap (λ v. Some (note_after op v)) same ∙ sym (does.note w) ∙ ap (λ t. if is_eq t then noted o.does a else None) (sym (tied_itself item_total item)) ∙ sym (note_here item))
-        ∙ ap (λ n. if place_eq p b then note_by item q.func (tx_now d id q) (effect_of d q) a else n) (h.notes b (unmarked d known locked id q r a is unlocked outside ends_none one b apart))
+        ∙ ap (λ n. if place_eq p b then note_by item q.func (tx_now d id q) (effect_of d q) a else n) (h.notes b (unmarked d known locked id q r a is unlocked (inl outside) ends_none one b apart))
         ∙ sym (note_one d known id q r a is one locked locked still item b);
   }
 
@@ -198,7 +244,7 @@ module _ (d : Deployment) (known : Known) (locked : IntentId → Bool) (id : Int
   item_kept x c other h = record {
     owner = holds_one d known id q r a is one x (λ j b. is_owner c.owner (owner.Intent j) ≡ b)
         (h.owner id ∙ sym (held_here x (holds d x (map.get known id)) ∙ ap (λ t. if t then held_by o.does (holds d x (map.get known id)) else holds d x (map.get known id)) other)) (λ j apart. h.owner j);
-    notes = λ b apart. h.notes b (unmarked d known locked id q r a is unlocked outside ends_none one b apart)
+    notes = λ b apart. h.notes b (unmarked d known locked id q r a is unlocked (inl outside) ends_none one b apart)
         ∙ sym (note_same d known id q r a is one locked locked still x (note_here x ∙ ap (λ t. if t then noted o.does a else None) other) unlocked b);
   }
 
@@ -206,17 +252,17 @@ module _ (d : Deployment) (known : Known) (locked : IntentId → Bool) (id : Int
   pub operation_done : (m n : Rows) → DoneRows m n item p op → (content_of m item).value ≡ w → Matches d m known locked → Matches d n now locked
   operation_done m n did value h = record {
     keys = keys_at m n (head_key item) (λ l z. RowMatches d now l.home l.kind z) did.same did.sound
-        (λ l other. row_kept d known locked id q r a is unlocked outside ends_none one l.home l.kind (map.get m l) (λ b kind. read_none d known id q r a is one (op_adds_none (length q.answers) (txs_after d q q.answers).begun (effect_of d q) o a wants_it) l.home b) (h.keys l));
+        (λ l other. row_kept d known locked id q r a is unlocked (inl outside) ends_none one l.home l.kind (map.get m l) (λ b kind. read_none d known id q r a is one (op_adds_none (length q.answers) (txs_after d q q.answers).begun (effect_of d q) o a wants_it) l.home b) (h.keys l));
     items = λ x. by_item item x (λ x. ItemMatches d now locked x (content_of n x))
         (subst (ItemMatches d now locked item) (sym did.here) (item_done (content_of m item) value did.none did.free (h.items item)))
         (λ other. subst (ItemMatches d now locked x) (sym (same_content x other)) (item_kept x (content_of m x) other (h.items x)));
     shadows = λ t x. subst (ShadowMatches d now t x) (ap content_in (sym (did.same (shadow_key t x) (kinds_apart is_shadow (shadow_key t x) (head_key item) refl refl))))
-        (shadows_kept d known locked id q r a is unlocked outside ends_none one t x (shadow_of m t x) (h.shadows t x));
+        (shadows_kept d known locked id q r a is unlocked (inl outside) ends_none one t x (shadow_of m t x) (h.shadows t x));
     txs = λ x. by_item item x (λ x. TxsMatch d now locked x (content_of n x).owner)
         (subst (λ (c : Content). TxsMatch d now locked item c.owner) (sym did.here)
-        (txs_done d known locked id q r a is unlocked outside ends_none one item (content_of m item).owner (owner_after op who (content_of m item).owner) (no_tx id (content_of m item).owner (unbarred op id (content_of m item).owner did.free))
+        (txs_done d known locked id q r a is unlocked (inl outside) ends_none one item (content_of m item).owner (owner_after op who (content_of m item).owner) (no_tx id (content_of m item).owner (unbarred op id (content_of m item).owner did.free))
         (no_tx id (owner_after op who (content_of m item).owner) (free_after op id (content_of m item).owner did.free)) (h.txs item)))
-        (λ other. subst (λ (c : Content). TxsMatch d now locked x c.owner) (sym (same_content x other)) (txs_kept d known locked id q r a is unlocked outside ends_none one x (content_of m x).owner (h.txs x)));
+        (λ other. subst (λ (c : Content). TxsMatch d now locked x c.owner) (sym (same_content x other)) (txs_kept d known locked id q r a is unlocked (inl outside) ends_none one x (content_of m x).owner (h.txs x)));
   }
     where
       same_content : (x : Item) → is_eq (item_cmp item x) ≡ false → content_of n x ≡ content_of m x

@@ -21,17 +21,13 @@ use Rattle.beldi_step.specs.Run.{is_waited}
 use Rattle.beldi_known.specs.Known.{Known, ended_by, tx_end}
 use Rattle.beldi_order.specs.Txs.{tx_now, tx_at, or_own, tx_by, end_of, txs_after}
 use Rattle.beldi_known.specs.Sane.{Sane, within_of}
-use Rattle.beldi_known.proofs.Frame.{fits}
+use Rattle.beldi_order.proofs.Ends.{fits}
+use Rattle.beldi_known.specs.Beside.{is_begin}
+use Rattle.beldi_known.proofs.OneFunction.{own, own_by, own_intent}
 use Rattle.beldi_known.proofs.Phases.{inside_holds_none}
 use Rattle.beldi_known.proofs.Sanes.{last, stands, tx_here}
 
--- one's own transaction has one's id
-own_intent : (id : IntentId) (func n : ℕ) (e : Effect) (o : Option ℕ) (t : TxId) → tx_by id func n e o ≡ Some t → t.intent ≡ id
-own_intent id func n effect.Begin o t h = ap (λ (z : TxId). z.intent) (sym (same_some h))
-own_intent id func n e None t h = cc
-own_intent id func n e (Some b) t h = ap (λ (z : TxId). z.intent) (sym (same_some h))
-
--- .. and has not ended, where it is that of the next step
+-- one's own transaction has not ended, where it is that of the next step
 own_begin : (id : IntentId) (func n : ℕ) (e : Effect) (o : Option ℕ) (t : TxId) → tx_by id func n e o ≡ Some t → (t.begin ≡ n) ⊎ (o ≡ Some t.begin)
 own_begin id func n effect.Begin o t h = inl (ap (λ (z : TxId). z.begin) (sym (same_some h)))
 own_begin id func n e None t h = cc
@@ -43,11 +39,20 @@ own_open d id q t h = elim (own_begin id q.func (length q.answers) (effect_of d 
   | inr e ↦ (fits d q).not_ended t.begin e
 ]
 
+-- the owner of a transaction, which is open
+pub record IsOpenOwner (d : Deployment) (known : Known) (t : TxId) : Type 0 where
+  pub owner : Instance
+  pub made : map.get known t.intent ≡ Some owner
+  pub func_is : t.func ≡ owner.func
+  pub begun : (txs_after d owner owner.answers).begun ≡ Some t.begin
+
 module _ (d : Deployment) (known : Known) (h : Sane d known) where
   -- the owner of a transaction stands at a call
   record Waits (t : TxId) : Type 0 where
     owner : Instance
     made : map.get known t.intent ≡ Some owner
+    func_is : t.func ≡ owner.func
+    begun : (txs_after d owner owner.answers).begun ≡ Some t.begin
     func : ℕ
     args : Value
     at_call : effect_of d owner ≡ effect.Call func args
@@ -65,8 +70,9 @@ module _ (d : Deployment) (known : Known) (h : Sane d known) where
       by_within : (w : Option TxId) → q.within ≡ w → Waits t
       by_within None e =
           let own = sym (ap (λ w. or_own w (tx_by i q.func (length q.answers) (effect_of d q) (txs_after d q q.answers).begun)) e) ∙ now in
-          let mine = own_intent i q.func (length q.answers) (effect_of d q) (txs_after d q q.answers).begun t own in
-          record { owner = q; made = ap (map.get known) mine ∙ is; func = f; args = v; at_call = call; open_still = own_open d i q t own; inside = ap (λ j. is_some (tx_now d j q)) mine ∙ ap is_some now }
+          let k = own_by i q.func (length q.answers) (effect_of d q) (txs_after d q q.answers).begun t (ap is_begin call) own in
+          let mine = k.intent in
+          record { owner = q; made = ap (map.get known) mine ∙ is; func_is = k.func_is; begun = k.begun; func = f; args = v; at_call = call; open_still = own_open d i q t own; inside = ap (λ j. is_some (tx_now d j q)) mine ∙ ap is_some now }
       by_within (Some u) e = rest (open_still q.outcome refl) (e ∙ sym (ap (λ w. or_own w (tx_by i q.func (length q.answers) (effect_of d q) (txs_after d q q.answers).begun)) e) ∙ now)
 
   -- its caller waits for one that was called in it
@@ -132,6 +138,17 @@ module _ (d : Deployment) (known : Known) (h : Sane d known) where
           let inner : z.within ≡ Some t = e ∙ sym (ap (λ w. or_own w (tx_by j z.func (length z.answers) (effect_of d z) (txs_after d z z.answers).begun)) e) ∙ now in
           let w = waits (length j.hops) j z t (omega arith) on none inner in
           ap (ended_by d t.begin) w.made ∙ w.open_still
+
+  -- its owner has its Begin open
+  pub open_owner : (j : IntentId) (z : Instance) (t : TxId) → map.get known j ≡ Some z → z.outcome ≡ None → is_begin (effect_of d z) ≡ false → tx_now d j z ≡ Some t → IsOpenOwner d known t
+  open_owner j z t on none apart now = by_within z.within refl
+    where
+      by_within : (w : Option TxId) → z.within ≡ w → IsOpenOwner d known t
+      by_within None e = let k = own d j z t e apart now in record { owner = z; made = ap (map.get known) k.intent ∙ on; func_is = k.func_is; begun = k.begun }
+      by_within (Some u) e =
+          let inner : z.within ≡ Some t = e ∙ sym (ap (λ w. or_own w (tx_by j z.func (length z.answers) (effect_of d z) (txs_after d z z.answers).begun)) e) ∙ now in
+          let w = waits (length j.hops) j z t (omega arith) on none inner in
+          record { owner = w.owner; made = w.made; func_is = w.func_is; begun = w.begun }
 
   -- so who was called in one that has ended has its outcome
   pub decided_over : (j : IntentId) (z : Instance) (t : TxId) (e : ℕ × Bool) → map.get known j ≡ Some z → z.within ≡ Some t → tx_end d known t ≡ Some e → is_some z.outcome ≡ true

@@ -26,11 +26,11 @@ use Rattle.beldi_order.proofs.Maps.{same_some}
 use Rattle.beldi_step.specs.Run.{place_of}
 use Rattle.beldi_known.specs.Contents.{head_key, content_of, shadow_key}
 use Rattle.beldi_plain.specs.Piece.{is_aborted}
-use Rattle.beldi_known.specs.Known.{Known, is_tx, is_item, is_on, got_before, got_by}
+use Rattle.beldi_known.specs.Known.{Known, Got, is_tx, is_item, is_on, got_before, got_by}
 use Rattle.beldi_order.specs.Txs.{effect_after, along, txs_after, tx_by, tx_after, tx_now, or_own}
 use Rattle.beldi_plain.specs.Operation.{touched}
 use Rattle.beldi_known.specs.Matches.{TxsMatch}
-use Rattle.beldi_known.proofs.Frame.{fits_at}
+use Rattle.beldi_order.proofs.Ends.{fits_at}
 use Rattle.beldi_known.proofs.Locks.{tx_same}
 use Rattle.beldi_known.proofs.Acts.{kinds_apart, is_data, is_shadow, content_apart}
 use Rattle.beldi_known.specs.Beside.{is_begin}
@@ -98,7 +98,14 @@ module _ (d : Deployment) (t : TxId) (x : Item) (j : IntentId) (z : Instance) (n
       ]
 
 -- ---- PutRead of a read at the front
-module _ (d : Deployment) (m : Rows) (known : Known) (locked : IntentId → Bool) (h : (x : Item) → TxsMatch d known locked x (content_of m x).owner) (one : (j : IntentId) (z : Instance) → map.get known j ≡ Some z → z.within ≡ None)
+-- the owner is known, and went past the Begin
+pub record IsBegun (known : Known) (t : TxId) : Type 0 where
+  pub owner : Instance
+  pub made : map.get known t.intent ≡ Some owner
+  pub func_is : t.func ≡ owner.func
+  pub before : t.begin < length owner.answers
+
+module _ (d : Deployment) (m : Rows) (known : Known) (locked : IntentId → Bool) (h : (x : Item) → TxsMatch d known locked x (content_of m x).owner) (begun : (t : TxId) (x : Item) → Got d known locked t x → IsBegun known t)
     (id : IntentId) (q : Instance) (is : map.get known id ≡ Some q) (v : Option Row) where
   abbrev key : RowKey
   key = log_key q.func (place_of id (length q.answers))
@@ -110,23 +117,18 @@ module _ (d : Deployment) (m : Rows) (known : Known) (locked : IntentId → Bool
   apart : (x : Item) (t : TxId) → (content_of m x).owner ≡ Some (Tx t) → is_eq (key_cmp (decision_key t) key) ≡ false
   apart x t owned = by_key (is_eq (key_cmp (decision_key t) key)) refl
     where
-      by_member : (j : IntentId) (o : Option Instance) → map.get known j ≡ o → got_by d t x j (locked j) o ≡ true → t.intent ≡ id → t.begin ≡ length q.answers → ⊥
-      by_member j None e g own begin = cc
-      by_member j (Some z) e g own begin =
-          let k = got_since d t x j z (one j z e) (locked j) g in
-          let same : Some z ≡ Some q = sym e ∙ ap (map.get known) (sym k.own ∙ own) ∙ is in
-          let len : length z.answers ≡ length q.answers = ap (λ (y : Instance). length y.answers) (same_some same) in
-          let b = k.before in omega (arith, b, begin, len)
-
       by_key : (b : Bool) → is_eq (key_cmp (decision_key t) key) ≡ b → b ≡ false
       by_key true e =
           let place = ap (λ (k : RowKey). place_at k.kind) (key_same (decision_key t) key e) in
-          let g = (h x).owned_is_got t owned in
-          absurd (by_member g.member (map.get known g.member) refl g.got (ap (λ (y : Place). y.intent) place) (ap (λ (y : Place). y.step) place))
+          let k = begun t x ((h x).owned_is_got t owned) in
+          let same : k.owner ≡ q = same_some (sym k.made ∙ ap (λ (y : Place). map.get known y.intent) place ∙ is) in
+          let len : length k.owner.answers ≡ length q.answers = ap (λ (y : Instance). length y.answers) same in
+          let step : t.begin ≡ length q.answers = ap (λ (y : Place). y.step) place in
+          let b = k.before in absurd (omega (arith, b, step, len))
       by_key false e = refl
 
-  pub read_lists : (x : Item) → listed (set_row m key v) x ≡ listed m x
-  read_lists x = ap (λ (c : Content). listed_under (set_row m key v) x c.owner c.value) (content_apart m key v x (kinds_apart is_data (head_key x) key refl refl)) ∙ under (content_of m x).owner refl
+  pub begun_lists : (x : Item) → listed (set_row m key v) x ≡ listed m x
+  begun_lists x = ap (λ (c : Content). listed_under (set_row m key v) x c.owner c.value) (content_apart m key v x (kinds_apart is_data (head_key x) key refl refl)) ∙ under (content_of m x).owner refl
     where
       under : (o : Option Owner) → (content_of m x).owner ≡ o → listed_under (set_row m key v) x o (content_of m x).value ≡ listed_under m x o (content_of m x).value
       under None e = refl
@@ -134,3 +136,15 @@ module _ (d : Deployment) (m : Rows) (known : Known) (locked : IntentId → Bool
       under (Some (Tx t)) e =
           ap (λ r. if is_committed r then value_in (map.get (set_row m key v) (shadow_key t x)) (content_of m x).value else (content_of m x).value) (row_got m key (decision_key t) v ∙ ap (λ b. cond b v (map.get m (decision_key t))) (apart x t e))
           ∙ ap (λ r. if is_committed (map.get m (decision_key t)) then value_in r (content_of m x).value else (content_of m x).value) (elsewhere m key v is_shadow (shadow_key t x) refl refl)
+
+-- where nobody was called in a transaction
+module _ (d : Deployment) (m : Rows) (known : Known) (locked : IntentId → Bool) (h : (x : Item) → TxsMatch d known locked x (content_of m x).owner) (one : (j : IntentId) (z : Instance) → map.get known j ≡ Some z → z.within ≡ None) where
+  own_begun : (t : TxId) (x : Item) → Got d known locked t x → IsBegun known t
+  own_begun t x g = by_member (map.get known g.member) refl g.got
+    where
+      by_member : (o : Option Instance) → map.get known g.member ≡ o → got_by d t x g.member (locked g.member) o ≡ true → IsBegun known t
+      by_member None e k = cc
+      by_member (Some z) e k = let s = got_since d t x g.member z (one g.member z e) (locked g.member) k in record { owner = z; made = ap (map.get known) s.own ∙ e; func_is = s.func_is; before = s.before }
+
+  pub read_lists : (id : IntentId) (q : Instance) → map.get known id ≡ Some q → (v : Option Row) (x : Item) → listed (set_row m (log_key q.func (place_of id (length q.answers))) v) x ≡ listed m x
+  read_lists = begun_lists d m known locked h own_begun

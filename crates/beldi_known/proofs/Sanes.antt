@@ -1,13 +1,13 @@
 -- All that is known stays sane: move by move.
-use Rattle.std.proofs.Common.{◌≡◌, inl, inr, ℕ, ◌≤◌, ◌<◌, Bool, true, false, List, [], ◌∷◌, length, Option, Some, None, is_some, refl, ap, sym, ◌∙◌, subst, arith}
+use Rattle.std.proofs.Common.{◌≡◌, inl, inr, ℕ, ◌<◌, Bool, true, false, List, [], length, Option, Some, None, is_some, refl, ap, sym, ◌∙◌, subst, arith, if◌then◌else◌}
 use Rattle.std.specs.Prelude.{slice_get}
 use Rattle.std.specs.Option.{option_map}
 use Rattle.std.specs.FinMap as map
-use Rattle.std.proofs.lemmas.List.{take_all, take-append-le}
 use Rattle.beldi_value.specs.Id.{root_of, child_of, has_no_hops}
 use Rattle.beldi_value.specs.declared.id.IntentId.{IntentId}
 use Rattle.beldi_value.specs.declared.outcome.Cause.{Cause}
 use Rattle.beldi_value.specs.declared.outcome.Outcome.{Outcome}
+use Rattle.beldi_value.specs.declared.outcome.Outcome.TheVariants as outcome
 use Rattle.beldi_value.specs.declared.place.Caller.{Caller}
 use Rattle.beldi_value.specs.declared.place.Place.{Place}
 use Rattle.beldi_value.specs.declared.place.TxId.{TxId}
@@ -23,13 +23,12 @@ use Rattle.beldi_lang.specs.declared.effect.Effect.{Effect}
 use Rattle.beldi_lang.specs.declared.effect.Effect.TheVariants as effect
 use Rattle.beldi_plain.specs.Operation.{OnItem, op_of, answer_after, touched}
 use Rattle.beldi_plain.specs.Plain.{Instance, new_instance, answered, ended, calls_at, callee_of, effect_of, effect_before}
-use Rattle.beldi_order.specs.Sane.{IsCalled, CalledBy, call_of, answer_given, IsDeath, IsAnswer}
-use Rattle.beldi_order.proofs.Called.{Linked, IsAlone, not_root, next_step, effect_now, caller_answered, caller_ended, callee_answered, callee_over, callee_new, callee_ended, callee_sent, pairs_set, both_set}
+use Rattle.beldi_order.specs.Sane.{IsCalled, CalledBy, call_of, answer_given, within_by, IsDeath, IsAnswer}
+use Rattle.beldi_order.proofs.Called.{IsAlone, not_root, next_step, longer_cases, effect_now, effect_past, tx_here_now, caller_answered, caller_ended, callee_answered, callee_over, callee_new, callee_ended, callee_sent, pairs_set, both_set}
 use Rattle.beldi_order.proofs.Maps.{still_made, made_set, same_some}
-use Rattle.beldi_order.proofs.Sanes.{call_answers}
 use Rattle.beldi_step.specs.Run.{is_waited, place_of}
 use Rattle.beldi_known.specs.Known.{Known, answer_at_once, once, at_once, moved}
-use Rattle.beldi_order.specs.Txs.{tx_now, tx_at, tx_after}
+use Rattle.beldi_order.specs.Txs.{tx_now, tx_at}
 use Rattle.beldi_known.specs.Sane.{SaneInstance, Closed, Sane, within_of}
 use Rattle.beldi_known.proofs.AtOnce.{at_once_is, at_once_by, origin_stays, closed_at_once}
 use Rattle.beldi_known.proofs.Goes.{sane_once, sane_moved}
@@ -55,6 +54,12 @@ no_return : (p : Place) (t : Option TxId) (o : Outcome) (a : Answer) → IsAnswe
 no_return p None o a h = h
 no_return p (Some t) o a h = h
 
+-- a call is answered by an outcome
+call_answers : (p : Place) (t : Option TxId) (f : ℕ) (v : Value) (o : Outcome) → IsAnswer p t (effect.Call f v) (answer_of o)
+call_answers p t f v (outcome.Value w) = tt
+call_answers p t f v (outcome.Fault c) = tt
+call_answers p t f v (outcome.Aborted c) = tt
+
 -- so who has one has no outcome
 pub open_still : (d : Deployment) (id : IntentId) (q : Instance) (a : Answer) → SaneInstance d id q → IsAnswer (place_of id (length q.answers)) (tx_now d id q) (effect_of d q) a → q.outcome ≡ None
 open_still d id q a h fits = by_outcome q.outcome refl
@@ -68,14 +73,11 @@ not_waited None h = λ c is. cc
 not_waited (Some z) h = λ c is. ap (λ (y : Caller). y.waits) (sym (same_some is)) ∙ h
 
 -- ---- an instance and what it called at a step
--- the callee belongs to the transaction that the call is in
-abbrev WithinAt : Deployment → IntentId → Option Instance → ℕ → Option Instance → Type 0
-WithinAt d i None n u = Unit {0}
-WithinAt d i (Some q) n None = Unit {0}
-WithinAt d i (Some q) n (Some j) = j.within ≡ within_of j.from (tx_at d i q n)
-
+-- what is there was called there, and a call that was answered has its callee
 abbrev Pair : Deployment → IntentId → Option Instance → ℕ → Option Instance → Type 0
-Pair d i o n u = Linked d i o n u × WithinAt d i o n u
+Pair d i o n (Some j) = CalledBy d i o n j
+Pair d i None n None = Unit {0}
+Pair d i (Some q) n None = n < length q.answers → (w : Bool) (f : ℕ) (v : Value) → effect_before d q n ≡ call_of w f v → ⊥
 
 abbrev Pairs : Deployment → Known → Type 0
 Pairs d f = (i : IntentId) (n : ℕ) → Pair d i (map.get f i) n (map.get f (child_of i n))
@@ -86,19 +88,16 @@ no_call id n e a true f v h is = elim (at_once_is id n e a h) [ inl g ↦ let k 
 no_call id n e a false f v h is = elim (at_once_is id n e a h) [ inl g ↦ let k = sym g ∙ is in cc | inr g ↦ let k = sym g.0 ∙ is in cc ]
 
 module _ (d : Deployment) (i : IntentId) where
-  tx_past : (q : Instance) (a : Answer) (n : ℕ) → n ≤ length q.answers → tx_at d i (answered q a) n ≡ tx_at d i q n
-  tx_past q a n h = ap (tx_after d i q) (take-append-le n q.answers (a ∷ []) h)
-
   pub tx_here : (q : Instance) → tx_at d i q (length q.answers) ≡ tx_now d i q
-  tx_here q = ap (tx_after d i q) (take_all (length q.answers) q.answers (omega arith))
-
-  within_answered : (q : Instance) (a : Answer) (n : ℕ) (o : Option Instance) → Pair d i (Some q) n o → WithinAt d i (Some (answered q a)) n o
-  within_answered q a n None h = tt
-  within_answered q a n (Some j) h = let l = h.0 in h.1 ∙ ap (within_of j.from) (sym (tx_past q a n l.here))
+  tx_here q = tx_here_now d q i
 
   -- the caller is answered, but not at this step unless it stands at no call there
   pair_answered : (q : Instance) (a : Answer) (n : ℕ) (o : Option Instance) → (n ≡ length q.answers → (w : Bool) (f : ℕ) (v : Value) → effect_of d q ≡ call_of w f v → ⊥) → Pair d i (Some q) n o → Pair d i (Some (answered q a)) n o
-  pair_answered q a n o other h = (caller_answered d i q a n o other h.0, within_answered q a n o h)
+  pair_answered q a n None other h = λ lt w f v is. elim (longer_cases q.answers a n lt) [
+    | inl e ↦ other e w f v (sym (effect_now d q) ∙ ap (effect_before d q) (sym e) ∙ sym (effect_past d q a n (omega (arith, e))) ∙ is)
+    | inr l ↦ h l w f v (sym (effect_past d q a n (omega (arith, l))) ∙ is)
+  ]
+  pair_answered q a n (Some j) other h = caller_answered d i q a n (Some j) other h
 
   pair_at_once : (q : Instance) (n : ℕ) (o : Option Instance) → Pair d i (Some q) n o → Pair d i (Some (at_once d i q)) n o
   pair_at_once q n o h = at_once_by d i (λ r. Pair d i (Some r) n o) (λ r a none is g. pair_answered r a n o (λ e w f v call. no_call i (length r.answers) (effect_of d r) a w f v is call) g) q h
@@ -108,16 +107,17 @@ module _ (d : Deployment) (i : IntentId) where
 
   -- the caller is made, or ends
   pair_new : (q : Instance) (n : ℕ) (o : Option Instance) → q.answers ≡ [] → Pair d i None n o → Pair d i (Some (at_once d i q)) n o
-  pair_new q n o empty h = subst (Pair d i (Some (at_once d i q)) n) (sym h.0) (pair_at_once q n None ((λ lt w g a is. let k = ap length empty in absurd (omega (arith, lt, k))), tt))
+  pair_new q n None empty h = pair_at_once q n None (λ lt w g a is. let k = ap length empty in omega (arith, lt, k))
+  pair_new q n (Some j) empty h = absurd h
 
   pair_ended : (q : Instance) (u : Outcome) (n : ℕ) (o : Option Instance) → Pair d i (Some q) n o → Pair d i (Some (ended q u)) n o
-  pair_ended q u n None h = (caller_ended d i q u n None h.0, tt)
-  pair_ended q u n (Some j) h = (caller_ended d i q u n (Some j) h.0, h.1)
+  pair_ended q u n None h = h
+  pair_ended q u n (Some j) h = caller_ended d i q u n (Some j) h
 
   -- the callee is answered
   callee_on : (o : Option Instance) (n : ℕ) (j : Instance) (a : Answer) → Pair d i o n (Some j) → Pair d i o n (Some (answered j a))
-  callee_on None n j a h = (callee_answered d i None n j a h.0, tt)
-  callee_on (Some q) n j a h = (callee_answered d i (Some q) n j a h.0, h.1)
+  callee_on None n j a h = h
+  callee_on (Some q) n j a h = callee_answered d i (Some q) n j a h
 
   callee_at_once : (k : IntentId) (o : Option Instance) (n : ℕ) (j : Instance) → Pair d i o n (Some j) → Pair d i o n (Some (at_once d k j))
   callee_at_once k o n j h = at_once_by d k (λ r. Pair d i o n (Some r)) (λ r a none is g. callee_on o n r a g) j h
@@ -127,8 +127,8 @@ module _ (d : Deployment) (i : IntentId) where
 
   -- it ends, and nobody waited for it
   callee_alone : (o : Option Instance) (n : ℕ) (j : Instance) (u : Outcome) → IsAlone j.from → Pair d i o n (Some j) → Pair d i o n (Some (ended j u))
-  callee_alone None n j u alone h = (callee_over d i None n j u alone h.0, tt)
-  callee_alone (Some q) n j u alone h = (callee_over d i (Some q) n j u alone h.0, h.1)
+  callee_alone None n j u alone h = h
+  callee_alone (Some q) n j u alone h = callee_over d i (Some q) n j u alone h
 
 -- ---- all that is known
 abbrev AllGood : Deployment → Known → Type 0
@@ -152,17 +152,18 @@ sane_by : (d : Deployment) (f : Known) → AllGood d f → Pairs d f → Roots f
 sane_by d f good pairs roots = record {
   each = λ id q is. let g = good id q is in g.0;
   closed = λ id q is. let g = good id q is in g.1;
-  called = λ i n j is. called_of i n j (map.get f i) (let g = pairs i n in subst (Linked d i (map.get f i) n) is g.0);
-  within = λ i q n j is on. let g = pairs i n in subst (WithinAt d i (Some q) n) on (subst (λ o. WithinAt d i o n (map.get f (child_of i n))) is g.1);
-  callees = λ i q n w g a is lt call. let z = pairs i n in has_callee i q n w g a lt call (map.get f (child_of i n)) (subst (λ o. Linked d i o n (map.get f (child_of i n))) is z.0);
+  called = λ i n j is. subst (Pair d i (map.get f i) n) is (pairs i n);
+  within = λ i q n j is on. let c : IsCalled d i q n j = subst (λ o. Pair d i o n (Some j)) is (subst (Pair d i (map.get f i) n) on (pairs i n)) in
+      c.within ∙ within_so c.waits (tx_at d i q n) ∙ ap (λ o. within_of o (tx_at d i q n)) (sym c.from);
+  callees = λ i q n w g a is lt call. has_callee i q n w g a lt call (map.get f (child_of i n)) (subst (λ o. Pair d i o n (map.get f (child_of i n))) is (pairs i n));
   roots = roots;
 }
   where
-    called_of : (i : IntentId) (n : ℕ) (j : Instance) (o : Option Instance) → Linked d i o n (Some j) → CalledBy d i o n j
-    called_of i n j None l = cc
-    called_of i n j (Some q) l = l
+    within_so : (w : Bool) (t : Option TxId) → within_by w t ≡ (if w then t else None)
+    within_so true t = refl
+    within_so false t = refl
 
-    has_callee : (i : IntentId) (q : Instance) (n : ℕ) (w : Bool) (f : ℕ) (a : Value) → n < length q.answers → effect_before d q n ≡ call_of w f a → (o : Option Instance) → Linked d i (Some q) n o → is_some o ≡ true
+    has_callee : (i : IntentId) (q : Instance) (n : ℕ) (w : Bool) (f : ℕ) (a : Value) → n < length q.answers → effect_before d q n ≡ call_of w f a → (o : Option Instance) → Pair d i (Some q) n o → is_some o ≡ true
     has_callee i q n w f a lt call None l = absurd (l lt w f a call)
     has_callee i q n w f a lt call (Some j) l = refl
 
@@ -174,14 +175,17 @@ module _ (d : Deployment) (known : Known) (h : Sane d known) where
   pairs i n = by_both (map.get known i) (map.get known (child_of i n)) refl refl
     where
       by_both : (o u : Option Instance) → map.get known i ≡ o → map.get known (child_of i n) ≡ u → Pair d i o n u
-      by_both None None is on = (refl, tt)
-      by_both None (Some j) is on = absurd (subst (λ o. CalledBy d i o n j) is (h.called i n j on))
-      by_both (Some q) None is on = ((λ lt w f a call. let c = sym (h.callees i q n w f a is lt call) ∙ ap is_some on in cc), tt)
-      by_both (Some q) (Some j) is on = (subst (λ o. CalledBy d i o n j) is (h.called i n j on), h.within i q n j is on)
+      by_both o (Some j) is on = subst (λ o. CalledBy d i o n j) is (h.called i n j on)
+      by_both None None is on = tt
+      by_both (Some q) None is on = λ lt w f a call. let c = sym (h.callees i q n w f a is lt call) ∙ ap is_some on in cc
 
   -- who is not there has called nobody
   pub no_callees : (i : IntentId) (n : ℕ) → map.get known i ≡ None → map.get known (child_of i n) ≡ None
-  no_callees i n is = let g = pairs i n in subst (λ o. Linked d i o n (map.get known (child_of i n))) is g.0
+  no_callees i n is = by_callee (map.get known (child_of i n)) refl
+    where
+      by_callee : (o : Option Instance) → map.get known (child_of i n) ≡ o → o ≡ None
+      by_callee None on = refl
+      by_callee (Some j) on = absurd (subst (λ o. CalledBy d i o n j) is (h.called i n j on))
 
   -- ---- one that was not there before, without answers and outcome
   module _ (k : IntentId) (s : Instance) (empty : s.answers ≡ []) (none : s.outcome ≡ None) (gone : map.get known k ≡ None) where
@@ -242,9 +246,8 @@ module _ (d : Deployment) (known : Known) (h : Sane d known) where
           let k = callee_of id q in
           let at = length q.answers in
           let s = callee true t in
-          let c = callee_new d id q f v call in
           let there : map.get (map.insert known k (at_once d k s)) id ≡ Some q = still_made known k id (at_once d k s) q gone is in
-          let two : Pair d id (Some q) at (Some s) = (record { waits = c.waits; here = c.here; call = c.call; from = c.from; answered = c.answered }, same ∙ sym (tx_here d id q)) in
+          let two : Pair d id (Some q) at (Some s) = callee_new d id q t f v call same in
           sane_made k s refl refl gone (λ u root. absurd (not_root id at u root)) (λ i n own.
           let r = child_same i id n at own in
           let over = map.insert known k (at_once d k s) in
@@ -258,7 +261,7 @@ module _ (d : Deployment) (known : Known) (h : Sane d known) where
           let p = place_of id (length q.answers) in
           let fits = subst (λ t. IsAnswer p t (effect_of d q) answer.Done) (sym out) (subst (λ e. IsAnswer p None e answer.Done) (sym call) tt) in
           sane_both (at_once d k s) answer.Done (good_new d k s refl refl) fits (λ u root. absurd (not_root id (length q.answers) u root))
-          (λ n u l. pair_new d k s n u refl (subst (λ z. Pair d k z n u) gone l)) (callee_at_once d id k (Some (answered q answer.Done)) (length q.answers) s (callee_sent d id q f v call, refl))
+          (λ n u l. pair_new d k s n u refl (subst (λ z. Pair d k z n u) gone l)) (callee_at_once d id k (Some (answered q answer.Done)) (length q.answers) s (callee_sent d id q f v call))
 
   -- ---- a root is made
   pub sane_bound : (id : IntentId) (f : ℕ) (v : Value) → map.get known id ≡ None → has_no_hops id.hops ≡ true → Sane d (map.insert known id (at_once d id (new_instance f v None)))
@@ -289,9 +292,8 @@ module _ (d : Deployment) (known : Known) (h : Sane d known) where
         let a = answer_of o in
         let p = place_of id at in
         let there : map.get known k ≡ Some j = ap (λ m. map.get known (child_of id m)) (sym last) ∙ on in
-        let fits : IsAnswer p (tx_now d id q) (effect_of d q) a = subst (λ e. IsAnswer p (tx_now d id q) e a) (sym stands) (call_answers o) in
-        let two : Pair d id (Some (answered q a)) at (Some (ended j o)) =
-        (callee_ended d id q j o (subst (λ m. IsCalled d id q m j) last call) from, h.within id q n j is on ∙ ap (λ m. within_of j.from (tx_at d id q m)) last ∙ ap (within_of j.from) (sym (tx_past d id q a at (omega arith)))) in
+        let fits : IsAnswer p (tx_now d id q) (effect_of d q) a = subst (λ e. IsAnswer p (tx_now d id q) e a) (sym stands) (call_answers p (tx_now d id q) j.func j.args o) in
+        let two : Pair d id (Some (answered q a)) at (Some (ended j o)) = callee_ended d id q j o (subst (λ m. IsCalled d id q m j) last call) from in
         subst (λ m. Sane d (map.insert (map.insert known (child_of id m) (ended j o)) id (moved d id q a))) (sym last)
         (sane_both id q is (ended j o) a (good_ended d k j o returns (h.each k j there)) fits (λ t root. absurd (not_root id at t root))
         (λ m u l. pair_ended d k j o m u (subst (λ z. Pair d k z m u) there l)) two)

@@ -24,10 +24,11 @@ use Rattle.beldi_known.specs.Contents.{head_key, content_of, shadow_key, shadow_
 use Rattle.beldi_known.specs.Known.{Known, owed_value, owed_call, owed_note, owed_shadow, owed_lockset, got_by, ended_by, ended_at, tx_end, begins_at, is_item, is_decided, is_mark, last_step}
 use Rattle.beldi_order.specs.Txs.{tx_now}
 use Rattle.beldi_plain.specs.Operation.{touched}
-use Rattle.beldi_known.specs.Matches.{Matches, RowMatches, ItemMatches, ShadowMatches, TxsMatch, LocksetMatches, lockset_ahead, is_open}
+use Rattle.beldi_known.specs.Matches.{Matches, RowMatches, ItemMatches, ShadowMatches, TxsMatch, LocksetMatches, lockset_ahead, has_ended, is_open}
 use Rattle.beldi_known.specs.Rows.{IntentMatches, LogMatches, CallMatches}
 use Rattle.beldi_known.proofs.Acts.{kinds_apart, content_apart, shadow_apart}
 use Rattle.beldi_known.proofs.FrameAt.{known_set}
+use Rattle.beldi_known.proofs.Instances.{EndMore, intent_stays}
 use Rattle.beldi_known.proofs.Rows.{keys_set}
 
 -- what is at an id owes what was owed there, and has no lock ahead
@@ -39,7 +40,7 @@ pub record OwesStill (d : Deployment) (known : Known) (id : IntentId) (o : Optio
   pub got : (t : TxId) (x : Item) → got_by d t x id false (Some s) ≡ got_by d t x id false o
   pub held : (x : Item) → holds d x (Some s) ≡ holds d x o
   pub ends : (b : ℕ) → ended_by d b (Some s) ≡ ended_by d b o
-  pub marks : (n : ℕ) → is_mark d known n (Some s) ≡ is_mark d known n o
+  pub marks : (n : ℕ) → is_mark d known n (Some s) ≡ false → is_mark d known n o ≡ false
   pub behind : (b : ℕ) (x : Item) → lockset_ahead d known b x id o ≡ false
 
 -- rows that are no cells and no lockset row
@@ -66,8 +67,11 @@ module _ (d : Deployment) (known : Known) (locked : IntentId → Bool) (id : Int
   open_same None = refl
   open_same (Some t) = ap (λ z. not (is_some z)) (ends_same t)
 
-  marks_same : (b : Place) → is_mark d after b.step (map.get after b.intent) ≡ is_mark d known b.step (map.get known b.intent)
-  marks_same b = elsewhere (map.get after b.intent) ∙ as_before (λ j o. is_mark d known b.step o) (owes.marks b.step) b.intent
+  pub ended_more : EndMore (has_ended d known) (has_ended d after)
+  ended_more t e = ap is_some (ends_same t) ∙ e
+
+  unmarked : (b : Place) → is_mark d after b.step (map.get after b.intent) ≡ false → is_mark d known b.step (map.get known b.intent) ≡ false
+  unmarked b h = known_set known id s (λ j o. is_mark d known b.step o ≡ false → is_mark d known b.step (map.get known j) ≡ false) (owes.marks b.step) (λ j other g. g) b.intent (sym (elsewhere (map.get after b.intent)) ∙ h)
     where
       elsewhere : (o : Option Instance) → is_mark d after b.step o ≡ is_mark d known b.step o
       elsewhere None = refl
@@ -82,7 +86,7 @@ module _ (d : Deployment) (known : Known) (locked : IntentId → Bool) (id : Int
   item_same : (x : Item) (c : Content) → ItemMatches d known locked x c → ItemMatches d after locked x c
   item_same x c h = record {
     owner = λ j. h.owner j ∙ sym (as_before (λ j o. holds d x o) (owes.held x) j);
-    notes = λ b apart. h.notes b (sym (marks_same b) ∙ apart) ∙ sym (notes_same x b);
+    notes = λ b apart. h.notes b (unmarked b apart) ∙ sym (notes_same x b);
   }
 
   shadow_same : (t : TxId) (x : Item) (c : Content) → ShadowMatches d known t x c → ShadowMatches d after t x c
@@ -120,10 +124,11 @@ module _ (d : Deployment) (known : Known) (locked : IntentId → Bool) (id : Int
       by_row (Some (rows.Cell i)) g = g
 
   -- a row matches still, where its own do and calls are owed as before
-  pub row_same : (home : ℕ) (kind : Kind) (row : Option Row) → (kind ≡ kinds.Intent id → IntentMatches (has_no_hops id.hops) home row (map.get known id) → IntentMatches (has_no_hops id.hops) home row (Some s))
+  pub row_same : (home : ℕ) (kind : Kind) (row : Option Row) → (kind ≡ kinds.Intent id → IntentMatches (has_ended d known) (has_no_hops id.hops) home row (map.get known id) → IntentMatches (has_ended d known) (has_no_hops id.hops) home row (Some s))
       → ((b : Place) → kind ≡ kinds.Invoke b → owed_call after home b ≡ owed_call known home b) → RowMatches d known home kind row → RowMatches d after home kind row
-  row_same home (kinds.Intent j) row own calls g = known_set known id s (λ i o. i ≡ j → IntentMatches (has_no_hops i.hops) home row (map.get known i) → IntentMatches (has_no_hops i.hops) home row o)
-      (λ e k. own (ap kinds.Intent (sym e)) k) (λ i other e k. k) j refl g
+  row_same home (kinds.Intent j) row own calls g = intent_stays (has_ended d known) (has_ended d after) ended_more (has_no_hops j.hops) home row (map.get after j)
+      (known_set known id s (λ i o. i ≡ j → IntentMatches (has_ended d known) (has_no_hops i.hops) home row (map.get known i) → IntentMatches (has_ended d known) (has_no_hops i.hops) home row o)
+      (λ e k. own (ap kinds.Intent (sym e)) k) (λ i other e k. k) j refl g)
   row_same home (kinds.ReadLog b) row own calls g = subst (LogMatches row) (sym (as_before (λ j o. owed_value d home b.step o) (owes.values home b.step) b.intent)) g
   row_same home (kinds.Invoke b) row own calls g = subst (CallMatches row) (sym (calls b refl)) g
   row_same home (kinds.Lockset j b t k) row own calls g = lockset_same b (record { func = home; table = t; key = k }) j row g
@@ -131,7 +136,7 @@ module _ (d : Deployment) (known : Known) (locked : IntentId → Bool) (id : Int
 
   -- it was set, with one row of an intent or of a call
   pub instance_set : (m : Rows) (k : RowKey) (v : Option Row) → is_log k.kind ≡ true → RowMatches d after k.home k.kind v
-      → ((l : RowKey) → is_eq (key_cmp l k) ≡ false → l.kind ≡ kinds.Intent id → IntentMatches (has_no_hops id.hops) l.home (map.get m l) (map.get known id) → IntentMatches (has_no_hops id.hops) l.home (map.get m l) (Some s))
+      → ((l : RowKey) → is_eq (key_cmp l k) ≡ false → l.kind ≡ kinds.Intent id → IntentMatches (has_ended d known) (has_no_hops id.hops) l.home (map.get m l) (map.get known id) → IntentMatches (has_ended d known) (has_no_hops id.hops) l.home (map.get m l) (Some s))
       → ((l : RowKey) (b : Place) → is_eq (key_cmp l k) ≡ false → l.kind ≡ kinds.Invoke b → owed_call after l.home b ≡ owed_call known l.home b) → Matches d m known locked → Matches d (set_row m k v) after locked
   instance_set m k v kind here own calls h = record {
     keys = keys_set m k v (λ l z. RowMatches d after l.home l.kind z) here (λ l other. row_same l.home l.kind (map.get m l) (own l other) (λ b e. calls l b other e) (h.keys l));

@@ -1,18 +1,19 @@
 -- What is known beside the plain state: the same of each instance, but for one that the plain state has at the begin of a transaction.
--- Of that the answers inside are known as well. They are the plain ones, over the plain items, and may end with one that was aborted.
-use Rattle.std.specs.Prelude.{◌≡◌, ◌&&◌, Bool, true, false, List, [], ◌∷◌, Option, Some, None}
+-- Of that, and of all that were called in it, it is known what they did since: moves lead there from the plain state. Who was called in a
+-- transaction that aborted is known for good, and is in no plain state.
+use Rattle.std.specs.Prelude.{◌≡◌, ℕ, ◌&&◌, Bool, true, false, List, Some, None}
 use Rattle.std.specs.FinMap as map
 use Rattle.std.specs.Option.{is_none}
 use Rattle.beldi_value.specs.declared.id.IntentId.{IntentId}
-use Rattle.beldi_value.specs.declared.outcome.Cause.{Cause}
+use Rattle.beldi_value.specs.declared.place.TxId.{TxId}
 use Rattle.beldi_tree.specs.declared.deployment.Deployment.{Deployment}
-use Rattle.beldi_lang.specs.declared.effect.Answer.{Answer}
-use Rattle.beldi_lang.specs.declared.effect.Answer.TheVariants as answer
 use Rattle.beldi_lang.specs.declared.effect.Effect.{Effect}
 use Rattle.beldi_lang.specs.declared.effect.Effect.TheVariants as effect
-use Rattle.beldi_plain.specs.Plain.{Instance, PlainState, answered, effect_of}
-use Rattle.beldi_order.specs.Inside.{Items, Leads, answered_all, inside}
-use Rattle.beldi_known.specs.Known.{Known}
+use Rattle.beldi_plain.specs.Moves.{Move, Leads}
+use Rattle.beldi_plain.specs.Piece.{Going, opened, tx_begun}
+use Rattle.beldi_plain.specs.Plain.{Instance, PlainState, effect_of}
+use Rattle.beldi_order.specs.Inside.{IsIn}
+use Rattle.beldi_known.specs.Known.{Known, tx_end}
 
 abbrev pub is_begin : Effect → Bool
 is_begin effect.Begin = true
@@ -22,22 +23,20 @@ is_begin e = false
 abbrev pub begins : Deployment → Instance → Bool
 begins d q = is_none q.outcome && is_begin (effect_of d q)
 
--- what was aborted, if anything
-abbrev pub last_of : Option Cause → List Answer
-last_of None = []
-last_of (Some c) = answer.Aborted c ∷ []
+-- the transaction is open: its begin was answered, and these moves lead to what is known of all that are in it
+pub record OpenTx (d : Deployment) (p : PlainState) (known : Known) (id : IntentId) (q : Instance) : Type 0 where
+  pub moves : List Move
+  pub going : Going
+  pub leads : Leads d (tx_begun id q) (opened p id q) moves going
+  pub whole : (i : IntentId) → IsIn (tx_begun id q) i → map.get known i ≡ map.get going.state.made i
 
--- the transaction is open: its begin was answered, and what follows leads from the plain items to those that it sees
-pub record OpenTx (d : Deployment) (items : Items) (q : Instance) (k : Option Instance) : Type 0 where
-  pub rest : List Answer
-  pub sees : Items
-  pub leads : Leads d items (answered q answer.Done) rest sees
-  -- what was aborted after them, if anything
-  pub fell : Option Cause
-  pub known : k ≡ Some (answered_all (inside q rest) (last_of fell))
+-- it was called in a transaction that has not committed
+pub record IsKept (d : Deployment) (known : Known) (k : Instance) : Type 0 where
+  pub tx : TxId
+  pub within : k.within ≡ Some tx
+  pub uncommitted : (n : ℕ) → tx_end d known tx ≡ Some (n, true) → ⊥
 
 pub record Beside (d : Deployment) (p : PlainState) (known : Known) : Type 0 where
   pub same : (id : IntentId) (q : Instance) → map.get p.made id ≡ Some q → begins d q ≡ false → map.get known id ≡ Some q
-  pub begun : (id : IntentId) (q : Instance) → map.get p.made id ≡ Some q → begins d q ≡ true → OpenTx d p.items q (map.get known id)
-  -- nobody is called inside yet
-  pub none : (id : IntentId) → map.get p.made id ≡ None → map.get known id ≡ None
+  pub begun : (id : IntentId) (q : Instance) → map.get p.made id ≡ Some q → begins d q ≡ true → OpenTx d p known id q
+  pub kept : (id : IntentId) (k : Instance) → map.get p.made id ≡ None → map.get known id ≡ Some k → IsKept d known k

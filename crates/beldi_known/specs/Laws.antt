@@ -181,17 +181,17 @@ abbrev pub ReadsOutsideKeep : Type 0
 ReadsOutsideKeep = (d : Deployment) (m : Rows) (known : Known) (locked : IntentId → Bool) (id : IntentId) (q : Instance) (t : ℕ) (k : List ℕ) (v : Value) → map.get known id ≡ Some q → locked id ≡ false → tx_now d id q ≡ None → effect_of d q ≡ effect.Read t k
     → Matches d m known locked → Matches d (set_row m (log_key q.func (place_of id (length q.answers))) (Some (rows.ReadLog v))) (map.insert known id (moved d id q (answer.Value v))) locked
 
--- an answer to a call, which no row owes
+-- an answer to a call, inside as well, which no row owes
 abbrev pub AnsweredKeep : Type 0
-AnsweredKeep = (d : Deployment) (m : Rows) (known : Known) (locked : IntentId → Bool) (id : IntentId) (q : Instance) (a : Answer) (w : Bool) (f : ℕ) (v : Value) → map.get known id ≡ Some q → locked id ≡ false → tx_now d id q ≡ None → effect_of d q ≡ call_of w f v
+AnsweredKeep = (d : Deployment) (m : Rows) (known : Known) (locked : IntentId → Bool) (id : IntentId) (q : Instance) (a : Answer) (w : Bool) (f : ℕ) (v : Value) → map.get known id ≡ Some q → locked id ≡ false → effect_of d q ≡ call_of w f v
     → Matches d m known locked → Matches d m (map.insert known id (moved d id q a)) locked
 
 -- ---- calls
 -- a callee is made as its call is opened; it owes nothing yet
 abbrev pub OpenedKeep : Type 0
-OpenedKeep = (d : Deployment) (m : Rows) (known : Known) (locked : IntentId → Bool) (id : IntentId) (i : Instance) (f : ℕ) (v : Value) (waits : Bool) (r : InvokeRow) → map.get known id ≡ Some i → map.get known (callee_of id i) ≡ None
+OpenedKeep = (d : Deployment) (m : Rows) (known : Known) (locked : IntentId → Bool) (id : IntentId) (i : Instance) (f : ℕ) (v : Value) (waits : Bool) (t : Option TxId) (r : InvokeRow) → map.get known id ≡ Some i → map.get known (callee_of id i) ≡ None
     → ((n : ℕ) → map.get known (child_of (callee_of id i) n) ≡ None) → locked (callee_of id i) ≡ false → r.func ≡ f → r.result ≡ None → Matches d m known locked
-    → Matches d (set_row m (invoke_key i.func (place_of id (length i.answers))) (Some (rows.Invoke r))) (map.insert known (callee_of id i) (at_once d (callee_of id i) (new_instance f v (Some (calls_at id i waits))))) locked
+    → Matches d (set_row m (invoke_key i.func (place_of id (length i.answers))) (Some (rows.Invoke r))) (map.insert known (callee_of id i) (at_once d (callee_of id i) (record (new_instance f v (Some (calls_at id i waits))) { within = t }))) locked
 
 -- a callee gives its outcome back, and ends
 abbrev pub ReturnsKeep : Type 0
@@ -208,7 +208,7 @@ BoundKeep = (d : Deployment) (m : Rows) (known : Known) (locked : IntentId → B
 
 -- who nobody waits for ends with its row: a root's in the host's home, a callee's in that of its function
 abbrev pub EndedKeep : Type 0
-EndedKeep = (d : Deployment) (m : Rows) (known : Known) (locked : IntentId → Bool) (id : IntentId) (q : Instance) (o : Outcome) (r s : IntentRow) → map.get known id ≡ Some q → locked id ≡ false → effect_of d q ≡ effect.Return o → is_waited q.from ≡ false → EndsRow r s o
+EndedKeep = (d : Deployment) (m : Rows) (known : Known) (locked : IntentId → Bool) (id : IntentId) (q : Instance) (o : Outcome) (r s : IntentRow) → map.get known id ≡ Some q → locked id ≡ false → effect_of d q ≡ effect.Return o → is_waited q.from ≡ false → q.within ≡ None → EndsRow r s o
     → let key : RowKey = record { home = (if has_no_hops id.hops then 0 else q.func); kind = kinds.Intent id } in map.get m key ≡ Some (rows.Intent r) → Matches d m known locked
     → Matches d (set_row m key (Some (rows.Intent s))) (map.insert known id (ended q o)) locked
 

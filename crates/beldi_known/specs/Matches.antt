@@ -33,10 +33,14 @@ LocksetMatches None owed ahead = owed ≡ false
 LocksetMatches (Some rows.Lockset) owed ahead = (owed || ahead) ≡ true
 LocksetMatches (Some r) owed ahead = ⊥
 
--- a transaction has not ended
+-- a transaction has ended
+abbrev pub has_ended : Deployment → Known → TxId → Bool
+has_ended d known t = is_some (tx_end d known t)
+
+-- .. or not yet
 abbrev pub is_open : Deployment → Known → Option TxId → Bool
 is_open d known None = false
-is_open d known (Some t) = not (is_some (tx_end d known t))
+is_open d known (Some t) = not (has_ended d known t)
 
 -- the row is ahead of an instance that stands at such an operation, in a transaction that has not ended
 abbrev pub lockset_ahead : Deployment → Known → ℕ → Item → IntentId → Option Instance → Bool
@@ -60,7 +64,7 @@ pub record TxsMatch (d : Deployment) (known : Known) (locked : IntentId → Bool
 -- ---- all rows
 -- the row of a key, by its kind
 abbrev pub RowMatches : Deployment → Known → ℕ → Kind → Option Row → Type 0
-RowMatches d known home (kinds.Intent id) r = IntentMatches (has_no_hops id.hops) home r (map.get known id)
+RowMatches d known home (kinds.Intent id) r = IntentMatches (has_ended d known) (has_no_hops id.hops) home r (map.get known id)
 RowMatches d known home (kinds.ReadLog a) r = LogMatches r (owed_read d known home a)
 RowMatches d known home (kinds.Invoke a) r = CallMatches r (owed_call known home a)
 RowMatches d known home (kinds.Lockset i b t k) r = LocksetMatches r (owed_lockset d b (record { func = home; table = t; key = k }) i (map.get known i)) (lockset_ahead d known b (record { func = home; table = t; key = k }) i (map.get known i))

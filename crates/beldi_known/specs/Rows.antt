@@ -1,6 +1,7 @@
 -- Rows that match what is owed to them, by their kind.
 use Rattle.std.specs.Prelude.{◌≡◌, ℕ, zero, suc, ◌==◌, Bool, true, false, Option, Some, None, is_some}
 use Rattle.beldi_value.specs.declared.outcome.Outcome.{Outcome}
+use Rattle.beldi_value.specs.declared.place.TxId.{TxId}
 use Rattle.beldi_value.specs.declared.value.Value.{Value}
 use Rattle.beldi_row.specs.declared.row.Body.{Body}
 use Rattle.beldi_row.specs.declared.row.IntentRow.{IntentRow}
@@ -46,10 +47,18 @@ pub record IsRootRow (r : IntentRow) (i : Option Instance) : Type 0 where
   -- the root was made exactly where there is a body
   pub body : BodyMatches r.body r.outcome i
 
+-- a finish is there exactly where an outcome is; that of who was called in a transaction only where the transaction has ended
+abbrev pub FinishMatches : (TxId → Bool) → Option TxId → Option ℕ → Option Outcome → Type 0
+FinishMatches ended None f o = is_some f ≡ is_some o
+FinishMatches ended (Some t) f o = is_some f ≡ true → ended t ≡ true
+
+abbrev pub tx_in : Option Body → Option TxId
+tx_in None = None
+tx_in (Some b) = b.tx
+
 -- the row of a callee, in the home of its function
-pub record IsCalleeRow (home : ℕ) (r : IntentRow) (i : Option Instance) : Type 0 where
-  -- there is a finish exactly where there is an outcome
-  pub finishes : is_some r.finish ≡ is_some r.outcome
+pub record IsCalleeRow (ended : TxId → Bool) (home : ℕ) (r : IntentRow) (i : Option Instance) : Type 0 where
+  pub finishes : FinishMatches ended (tx_in r.body) r.finish r.outcome
   -- the callee was made with its body
   pub body : CalleeBodyMatches home r.body r.outcome i
 
@@ -64,15 +73,15 @@ RootMatches false r i = r ≡ None
 pub record HasNoRow (home : ℕ) (i : Option Instance) : Type 0 where
   pub open_still : (q : Instance) → i ≡ Some q → q.func ≡ home → is_waited q.from ≡ false → q.outcome ≡ None
 
-abbrev pub CalleeMatches : ℕ → Option Row → Option Instance → Type 0
-CalleeMatches home None i = HasNoRow home i
-CalleeMatches home (Some (rows.Intent r)) i = IsCalleeRow home r i
-CalleeMatches home (Some r) i = ⊥
+abbrev pub CalleeMatches : (TxId → Bool) → ℕ → Option Row → Option Instance → Type 0
+CalleeMatches ended home None i = HasNoRow home i
+CalleeMatches ended home (Some (rows.Intent r)) i = IsCalleeRow ended home r i
+CalleeMatches ended home (Some r) i = ⊥
 
--- the row of an intent in a home, by whether the intent is a root
-abbrev pub IntentMatches : Bool → ℕ → Option Row → Option Instance → Type 0
-IntentMatches true home r i = RootMatches (home == 0) r i
-IntentMatches false home r i = CalleeMatches home r i
+-- the row of an intent in a home, by which transactions have ended, and whether the intent is a root
+abbrev pub IntentMatches : (TxId → Bool) → Bool → ℕ → Option Row → Option Instance → Type 0
+IntentMatches ended true home r i = RootMatches (home == 0) r i
+IntentMatches ended false home r i = CalleeMatches ended home r i
 
 -- the row of an intent that ends: the one before, and the one now
 pub record EndsRow (r s : IntentRow) (o : Outcome) : Type 0 where

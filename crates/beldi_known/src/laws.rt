@@ -1,6 +1,6 @@
 // The laws of what is known.
 ghost use Rattle.beldi_known.specs.Laws.{OneAnswerMore, OpenHasNotEnded, EndsStay, StaysSane, RunsStayBehind, ReadsAreKnown, DecisionsAreKnown, InsideIsKnown, CallsAreKnown, SentAreKnown, LocksetsKeep, LocksKeep, DeathsKeep, ReadsKeep, WritesKeep, TestsKeep, ShadowsKeep, DecisionsKeep, ReleasesKeep, OperationsKeep, ReadsOutsideKeep, AnsweredKeep, OpenedKeep, ReturnsKeep, BoundKeep, EndedKeep, TransactionsNest, AbortsReturn, AtOnceCloses, BoundIsSane, AnsweredIsSane, OperatedIsSane, DiedIsSane, CalledIsSane, SentIsSane, ReturnedIsSane, EndedIsSane, LocksAreAhead, LocksStayAhead, OthersAreUnlocked, AbsentAreChildless, NowIsOpen, DecidedAreOver, EndsAreAlone, OwnersHoldNone, DeathsAreOlder, NothingIsRight, EffectsAreSane};
-ghost use Rattle.beldi_known.specs.InsideLaws.{ReadsGo, DeathsGo, WritesGo, TestsGo, FirstRowsGo, RowsGo, CommitsArePieces, AbortsAreTries, ReleasesList};
+ghost use Rattle.beldi_known.specs.InsideLaws.{OpensAreOpen, ReadsGo, DeathsGo, WritesGo, TestsGo, FirstRowsGo, RowsGo, CallsGo, ReturnsGo, CommitsArePieces, AbortsAreTries, ReleasesList};
 
 /// An answer more, and what takes no turn after it, change what an instance owes at the place of that answer alone.
 pub fn one_answer_more()
@@ -112,7 +112,7 @@ pub fn reads_outside_keep()
     ensures { ReadsOutsideKeep }
 {}
 
-/// Rows match what is known after a call outside is answered.
+/// Rows match what is known after a call is answered.
 pub fn answered_keep()
     ensures { AnsweredKeep }
 {}
@@ -242,6 +242,11 @@ pub fn nothing_is_right()
     ensures { NothingIsRight }
 {}
 
+/// The transaction of who can step inside is open: the plain state has its owner at the begin.
+pub fn opens_are_open()
+    ensures { OpensAreOpen }
+{}
+
 /// A read inside is answered by what its transaction sees, and what shadows show is kept.
 pub fn reads_go()
     ensures { ReadsGo }
@@ -270,6 +275,16 @@ pub fn first_rows_go()
 /// So it is by rows that are no shadows, and by locks that are taken.
 pub fn rows_go()
     ensures { RowsGo }
+{}
+
+/// So it is by a callee that is made inside.
+pub fn calls_go()
+    ensures { CallsGo }
+{}
+
+/// So it is by a callee that gives its outcome back inside.
+pub fn returns_go()
+    ensures { ReturnsGo }
 {}
 
 /// A decision to commit is the piece of its transaction, and lists what that leaves.

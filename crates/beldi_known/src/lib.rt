@@ -28,23 +28,25 @@
 //!   So who lets an operation inside die is older than its transaction (`deaths_are_older`).
 //! - A lock that is ahead is that of an instance at an operation inside, and of nobody else (`locks_are_ahead`,
 //!   `locks_stay_ahead`, `others_are_unlocked`). At the start all that holds (`nothing_is_right`).
-//! - Each act inside keeps what the shadows of open transactions show, and what is known stays beside the plain state
-//!   (`reads_go`, `deaths_go`, `writes_go`, `tests_go`, `first_rows_go`, `rows_go`). A decision to commit is the piece of its
-//!   transaction, and lists what that leaves (`commits_are_pieces`); one not to commit is its try, and leaves what is
-//!   listed (`aborts_are_tries`), as a release does (`releases_list`).
+//! - The transaction of who can step inside is open (`opens_are_open`). Each act inside keeps what the shadows of open
+//!   transactions show, and what is known stays beside the plain state (`reads_go`, `deaths_go`, `writes_go`, `tests_go`,
+//!   `first_rows_go`, `rows_go`), and so do callees that are made inside and give back (`calls_go`, `returns_go`). A
+//!   decision to commit is the piece of its transaction, and lists what that leaves (`commits_are_pieces`); one not to
+//!   commit is its try, and leaves what is listed (`aborts_are_tries`), as a release does (`releases_list`).
 #![tactic(auto)]
 
 mod laws;
 
 pub use laws::{
     aborts_are_tries, aborts_return, absent_are_childless, answered_is_sane, answered_keep,
-    at_once_closes, bound_is_sane, bound_keep, called_is_sane, calls_are_known, commits_are_pieces,
-    deaths_are_older, deaths_go, deaths_keep, decided_are_over, decisions_are_known,
-    decisions_keep, died_is_sane, effects_are_sane, ended_is_sane, ended_keep, ends_are_alone,
-    ends_stay, first_rows_go, inside_is_known, locks_are_ahead, locks_keep, locks_stay_ahead,
-    locksets_keep, nothing_is_right, now_is_open, one_answer_more, open_has_not_ended, opened_keep,
-    operated_is_sane, operations_keep, others_are_unlocked, owners_hold_none, reads_are_known,
-    reads_go, reads_keep, reads_outside_keep, releases_keep, releases_list, returned_is_sane,
-    returns_keep, rows_go, runs_stay_behind, sent_are_known, sent_is_sane, shadows_keep,
-    stays_sane, tests_go, tests_keep, transactions_nest, writes_go, writes_keep,
+    at_once_closes, bound_is_sane, bound_keep, called_is_sane, calls_are_known, calls_go,
+    commits_are_pieces, deaths_are_older, deaths_go, deaths_keep, decided_are_over,
+    decisions_are_known, decisions_keep, died_is_sane, effects_are_sane, ended_is_sane, ended_keep,
+    ends_are_alone, ends_stay, first_rows_go, inside_is_known, locks_are_ahead, locks_keep,
+    locks_stay_ahead, locksets_keep, nothing_is_right, now_is_open, one_answer_more,
+    open_has_not_ended, opened_keep, opens_are_open, operated_is_sane, operations_keep,
+    others_are_unlocked, owners_hold_none, reads_are_known, reads_go, reads_keep,
+    reads_outside_keep, releases_keep, releases_list, returned_is_sane, returns_go, returns_keep,
+    rows_go, runs_stay_behind, sent_are_known, sent_is_sane, shadows_keep, stays_sane, tests_go,
+    tests_keep, transactions_nest, writes_go, writes_keep,
 };

@@ -1,4 +1,4 @@
-use Rattle.beldi_known.proofs.Frame.{ends_go_on}
+use Rattle.beldi_order.proofs.Ends.{ends_go_on}
 use Rattle.beldi_known.proofs.laws.ends_stay.Goals as goal
 
 pub returns : goal.returns

@@ -1,4 +1,5 @@
-use Rattle.beldi_known.proofs.Frame.{fits, begins}
+use Rattle.beldi_order.proofs.Ends.{fits}
+use Rattle.beldi_known.proofs.Frame.{begins}
 use Rattle.beldi_known.proofs.laws.open_has_not_ended.Goals as goal
 
 pub returns : goal.returns

@@ -1,0 +1,311 @@
+-- An open transaction falls at most once: until then its moves are plain steps, and from then on it goes up, to the End without commit
+-- of its owner. What its moves touched it got, and what they wrote has a shadow.
+use Rattle.std.proofs.Common.{◌≡◌, ◌∙◌, ◌⊎◌, inl, inr, ℕ, Bool, true, false, List, [], ◌∷◌, ◌++◌, length, Option, Some, None, is_some, refl, ap, sym, subst, append_assoc, append-nil, if◌then◌else◌}
+use Rattle.std.specs.FinMap as map
+use Rattle.std.specs.FinMap.{FinMap}
+use Rattle.std.specs.Ordering.{is_eq}
+use Rattle.std.proofs.lemmas.Cmp.{tied_itself}
+use Rattle.beldi_value.specs.Id.{id_cmp, id_total, is_older}
+use Rattle.beldi_value.specs.declared.id.IntentId.{IntentId}
+use Rattle.beldi_value.specs.declared.outcome.Cause.{Cause}
+use Rattle.beldi_value.specs.declared.outcome.Outcome.{Outcome}
+use Rattle.beldi_value.specs.declared.outcome.Outcome.TheVariants as outcome
+use Rattle.beldi_value.specs.declared.place.TxId.{TxId}
+use Rattle.beldi_value.specs.declared.value.Value.{Value}
+use Rattle.beldi_tree.specs.declared.deployment.Deployment.{Deployment}
+use Rattle.beldi_lang.specs.Callee.{answer_of}
+use Rattle.beldi_lang.specs.declared.effect.Answer.{Answer}
+use Rattle.beldi_lang.specs.declared.effect.Answer.TheVariants as answer
+use Rattle.beldi_lang.specs.declared.effect.Effect.{Effect}
+use Rattle.beldi_lang.specs.declared.effect.Effect.TheVariants as effect
+use Rattle.beldi_plain.specs.Item.{Item}
+use Rattle.beldi_plain.specs.Moves.{Move, plain, fell, moved, Leads, AllPlain, TouchedIn, touched_at, touched_item}
+use Rattle.beldi_plain.specs.Operation.{touched}
+use Rattle.beldi_plain.specs.Piece.{Going, is_owner, aborted, dies_at}
+use Rattle.beldi_plain.specs.Plain.{Instance, answered, ended, effect_of}
+use Rattle.beldi_order.specs.Grown.{Grown, GrownAt}
+use Rattle.beldi_order.specs.Inside.{IsIn, Line, top, next, WrittenIn, written_at, written_on}
+use Rattle.beldi_order.specs.Sane.{IsAnswer}
+use Rattle.beldi_order.specs.Txs.{tx_after, tx_now, effect_after}
+use Rattle.beldi_order.proofs.Entries.{moves_grow}
+use Rattle.beldi_order.proofs.Goes.{IsSound, AllSound, GoingSane, going_moved, line_tx, answered_plainly, is_plainly}
+use Rattle.beldi_order.proofs.Line.{all_in, line_moved, returned}
+use Rattle.beldi_order.proofs.Maps.{same_some, here}
+use Rattle.beldi_order.proofs.Moved.{Items, answer_inside, Answers, MoveIs, answers, calls, returns, move_is, mover}
+use Rattle.beldi_order.proofs.Sanes.{SaneWith, sane_in, is_edge}
+use Rattle.beldi_step.specs.Run.{place_of}
+use Rattle.beldi_known.specs.InsideLaws.{last_answer}
+use Rattle.beldi_known.specs.Sane.{SaneInstance}
+use Rattle.beldi_known.proofs.Answers.{take_front, get_next}
+use Rattle.beldi_known.proofs.Lines.{no_edge}
+use Rattle.beldi_known.proofs.Phases.{abort_ends, abort_returns}
+
+-- ---- what an instance is later, by what it was before an answer
+abbrev pub later_by : Instance → Answer → List Answer → Option Outcome → Instance
+later_by z a later o = record z { answers = z.answers ++ a ∷ later; outcome = o }
+
+pub later_is : (z y : Instance) (a : Answer) (g : Grown (answered z a) y) → y ≡ later_by z a g.later y.outcome
+later_is z y a g i = record { func = g.func i; args = g.args i; from = g.from i; within = g.within i; answers = (sym g.more ∙ append_assoc z.answers (a ∷ []) g.later) i; outcome = y.outcome }
+
+-- its answer fits where it stood
+pub answered_fits : (d : Deployment) (id : IntentId) (z y : Instance) (a : Answer) → Grown (answered z a) y → SaneInstance d id y → IsAnswer (place_of id (length z.answers)) (tx_now d id z) (effect_of d z) a
+answered_fits d id z y a g sane =
+    let s = subst (SaneInstance d id) (later_is z y a g) sane in
+    subst (λ ts. IsAnswer (place_of id (length z.answers)) (tx_after d id z ts) (effect_after d z ts) a) (take_front z.answers (a ∷ g.later)) (s.past (length z.answers) a (get_next z.answers g.later a))
+
+grown_itself : (z : Instance) → Grown z z
+grown_itself z = record { func = refl; args = refl; from = refl; within = refl; later = []; more = append-nil z.answers; over = λ u e. e }
+
+grown_at : (z : Instance) (o : Option Instance) → GrownAt (Some z) o → (y : Instance) × (o ≡ Some y) × Grown z y
+grown_at z None g = absurd g
+grown_at z (Some y) g = (y, refl, g)
+
+pub last_is : (xs : List Answer) (a : Answer) → last_answer (xs ++ a ∷ []) ≡ Some a
+last_is [] a = refl
+last_is (x ∷ []) a = refl
+last_is (x ∷ y ∷ ys) a = last_is (y ∷ ys) a
+
+module _ (d : Deployment) (t : TxId) where
+  -- ---- upwards: the owner was told so, and is at its End without commit, or who can step returns it
+  abbrev pub Rises : Cause → IntentId → Instance → Type 0
+  Rises c i z = ((i ≡ t.intent) × (effect_of d z ≡ effect.End false) × (last_answer z.answers ≡ Some (answer.Aborted c))) ⊎ (effect_of d z ≡ effect.Return (outcome.Aborted c))
+
+  pub record Up (c : Cause) (s : Going) : Type 0 where
+    pub instance : Instance
+    pub made : map.get s.state.made s.front ≡ Some instance
+    pub rises : Rises c s.front instance
+
+  inner_sane : (f : FinMap id_cmp Instance) → SaneWith d (Some t) f → (i : IntentId) (z : Instance) → map.get f i ≡ Some z → SaneInstance d i z
+  inner_sane f sane i z made = let s = sane_in d (Some t) f sane i z made in record { past = s.past; over = s.over }
+
+  -- who is answered by an abort goes up
+  up_at : (f : FinMap id_cmp Instance) → SaneWith d (Some t) f → (i : IntentId) (z : Instance) → Line d t f i → map.get f i ≡ Some z → (c : Cause) → is_edge (effect_of d z) ≡ false
+      → IsAnswer (place_of i (length z.answers)) (tx_now d i z) (effect_of d z) (answer.Aborted c) → Rises c i (answered z (answer.Aborted c))
+  up_at f sane i z (top _ h) made c edge fits =
+      let begun = (sane_in d (Some t) f sane i z made).begun ∙ ap (λ b. if b then Some t.begin else None) (ap (is_owner t) h.own ∙ ap is_eq (tied_itself id_total t.intent)) in
+      inl (h.own, abort_ends d z z.answers c (ap is_some begun) (λ b e. let clash = sym edge ∙ ap is_edge e in cc), last_is z.answers (answer.Aborted c))
+  up_at f sane i z (next k _ l h) made c edge fits =
+      let within : z.within ≡ Some t = ap (λ (x : Instance). x.within) (same_some (sym made ∙ h.made)) ∙ h.within in
+      inr (abort_returns d i z (inner_sane f sane i z made) c fits t within)
+
+module _ (d : Deployment) (t : TxId) (q : Instance) (outside : q.within ≡ None) (func : q.func ≡ t.func) where
+  -- .. and goes on so
+  up_moved : (c : Cause) (m : Move) (s r : Going) → GoingSane d t q s → moved d t m s ≡ Some r → Up d t c s → (m ≡ plain) × Up d t c r
+  up_moved c m s r h step up = by_kind (move_is d t m s z r up.made step) up.rises
+    where
+      z : Instance
+      z = up.instance
+
+      by_kind : MoveIs d t m s r z → Rises d t c s.front z → (m ≡ plain) × Up d t c r
+      by_kind (answers a) (inl e) = let clash = sym (answered_plainly s.front s.state.items z (effect_of d z) m a.answer a.gives_it) ∙ ap is_plainly e.1 in cc
+      by_kind (answers a) (inr e) = let clash = sym (answered_plainly s.front s.state.items z (effect_of d z) m a.answer a.gives_it) ∙ ap is_plainly e in cc
+      by_kind (calls k) (inl e) = let clash = sym k.call ∙ e.1 in cc
+      by_kind (calls k) (inr e) = let clash = sym k.call ∙ e in cc
+      by_kind (returns e) (inl o) = let clash = sym e.returns ∙ o.1 in cc
+      by_kind (returns e) (inr o) =
+          let w = returned d t m s r z up.made h.line e in
+          let same : e.outcome ≡ outcome.Aborted c = let both = sym e.returns ∙ o in cc in
+          let y = w.member.waiter in
+          let a = answer.Aborted c in
+          let is : r ≡ record { state = record { items = s.state.items; made = map.insert (map.insert s.state.made s.front (ended z e.outcome)) w.caller (answered y a) }; front = w.caller } =
+          w.is ∙ ap (λ b. record { state = record { items = s.state.items; made = map.insert (map.insert s.state.made s.front (ended z e.outcome)) w.caller (answered y b) }; front = w.caller }) (ap answer_of same) in (
+            e.plainly,
+            subst (Up d t c) (sym is) (record {
+              instance = answered y a;
+              made = here (map.insert s.state.made s.front (ended z e.outcome)) w.caller (answered y a);
+              rises = up_at d t s.state.made h.sane w.caller y w.line w.member.waits c (ap is_edge w.member.called) (subst (λ x. IsAnswer (place_of w.caller (length y.answers)) (tx_now d w.caller y) x a) (sym w.member.called) tt);
+            }),
+          )
+
+  ups : (c : Cause) (s : Going) (moves : List Move) (l : Going) → GoingSane d t q s → AllSound t moves → Leads d t s moves l → Up d t c s → AllPlain moves × Up d t c l
+  ups c s [] l h older leads up = (tt, subst (Up d t c) leads up)
+  ups c s (m ∷ ms) l h older leads up =
+      let one = up_moved c m s leads.0 h leads.1 up in
+      let rest = ups c leads.0 ms l (going_moved d t q m s leads.0 outside func h older.0 leads.1) older.1 leads.2 one.1 in
+      ((one.0, rest.0), rest.1)
+
+  -- ---- what was answered, as it is at the end
+  pub record Made (l : Going) (id : IntentId) (before : Instance) (a : Answer) : Type 0 where
+    pub member : IsIn t id
+    pub inside : tx_now d id before ≡ Some t
+    pub instance : Instance
+    pub made : map.get l.state.made id ≡ Some instance
+    pub grown : Grown (answered before a) instance
+
+  made_later : (s r l : Going) (moves : List Move) → GoingSane d t q s → (m : Move) → moved d t m s ≡ Some r → Leads d t r moves l → (z : Instance) → map.get s.state.made s.front ≡ Some z → (a : Answers d t m s r z) → is_edge (effect_of d z) ≡ false → Made l s.front z a.answer
+  made_later s r l moves h m step leads z made a edge =
+      let next = answered z a.answer in
+      let there : map.get r.state.made s.front ≡ Some next = ap (λ (x : Going). map.get x.state.made s.front) a.is ∙ here s.state.made s.front next in
+      let y = grown_at next (map.get l.state.made s.front) (subst (λ o. GrownAt o (map.get l.state.made s.front)) there (moves_grow d t r moves l (line_moved d t m s r h.line step) leads s.front)) in
+      record {
+        member = all_in d t s.state.made s.front h.line;
+        inside = line_tx d t q s.state.made h.sane h.owner outside func s.front z h.line made edge;
+        instance = y.0;
+        made = y.1;
+        grown = y.2;
+      }
+
+  -- ---- who lets one die is older: so it is known
+  sound_at : (m : Move) (s r l : Going) (ms : List Move) → GoingSane d t q s → moved d t m s ≡ Some r → Leads d t r ms l → ((i : IntentId) (y : Instance) → IsIn t i → map.get l.state.made i ≡ Some y → SaneInstance d i y) → IsSound t m
+  sound_at plain s r l ms h step leads sane = tt
+  sound_at (fell None) s r l ms h step leads sane = tt
+  sound_at (fell (Some u)) s r l ms h step leads sane = let z = mover d t (fell (Some u)) s r step in by_kind z.0 z.1 (move_is d t (fell (Some u)) s z.0 r z.1 step)
+    where
+      is_death : (i : IntentId) (z : Instance) (e : Effect) → is_some (touched e) ≡ true → IsAnswer (place_of i (length z.answers)) (Some t) e (aborted i z (Some u)) → is_older u t.intent ≡ true
+      is_death i z (effect.Read b k) on w = let same : u ≡ w.holder = same_some (ap (λ (c : Cause). c.holder) w.cause) in ap (λ x. is_older x t.intent) same ∙ w.older
+      is_death i z (effect.Write b k v) on w = let same : u ≡ w.holder = same_some (ap (λ (c : Cause). c.holder) w.cause) in ap (λ x. is_older x t.intent) same ∙ w.older
+      is_death i z (effect.CondWrite b k o x v) on w = let same : u ≡ w.holder = same_some (ap (λ (c : Cause). c.holder) w.cause) in ap (λ x. is_older x t.intent) same ∙ w.older
+      is_death i z e on w = cc
+
+      by_dies : (z : Instance) (b : Bool) → dies_at (Some u) (effect_of d z) ≡ b → (a : Answer) → (if b then Some (aborted s.front z (Some u)) else None) ≡ Some a → IsAnswer (place_of s.front (length z.answers)) (Some t) (effect_of d z) a → is_older u t.intent ≡ true
+      by_dies z true dies a gives fits = is_death s.front z (effect_of d z) dies (subst (IsAnswer (place_of s.front (length z.answers)) (Some t) (effect_of d z)) (sym (same_some gives)) fits)
+      by_dies z false dies a gives fits = cc
+
+      by_kind : (z : Instance) → map.get s.state.made s.front ≡ Some z → MoveIs d t (fell (Some u)) s r z → is_older u t.intent ≡ true
+      by_kind z made (answers a) =
+          let edge = no_edge (effect_of d z) (answered_plainly s.front s.state.items z (effect_of d z) (fell (Some u)) a.answer a.gives_it) in
+          let w = made_later s r l ms h (fell (Some u)) step leads z made a edge in
+          let fits = answered_fits d s.front z w.instance a.answer w.grown (sane s.front w.instance w.member w.made) in
+          by_dies z (dies_at (Some u) (effect_of d z)) refl a.answer a.gives_it (subst (λ x. IsAnswer (place_of s.front (length z.answers)) x (effect_of d z) a.answer) w.inside fits)
+      by_kind z made (calls c) = let clash = c.plainly in cc
+      by_kind z made (returns e) = let clash = e.plainly in cc
+
+  pub sound : (s : Going) (moves : List Move) (l : Going) → GoingSane d t q s → Leads d t s moves l → ((i : IntentId) (y : Instance) → IsIn t i → map.get l.state.made i ≡ Some y → SaneInstance d i y) → AllSound t moves
+  sound s [] l h leads sane = tt
+  sound s (m ∷ ms) l h leads sane =
+      let one = sound_at m s leads.0 l ms h leads.1 leads.2 sane in
+      (one, sound leads.0 ms l (going_moved d t q m s leads.0 outside func h one leads.1) leads.2 sane)
+
+  -- ---- the fall
+  abbrev pub cause_of : IntentId → Instance → Option IntentId → Cause
+  cause_of id z o = record { place = place_of id (length z.answers); holder = o }
+
+  pub record Fell (s : Going) (moves : List Move) (l : Going) : Type 0 where
+    pub before : List Move
+    pub there : Going
+    pub holder : Option IntentId
+    pub since : List Move
+    pub whole : moves ≡ before ++ fell holder ∷ since
+    pub plainly : AllPlain before
+    pub upwards : AllPlain since
+    pub to : Leads d t s before there
+    pub from : Leads d t there (fell holder ∷ since) l
+    -- who could step there was aborted, and the owner is told so
+    pub faller : Instance
+    pub made : map.get there.state.made there.front ≡ Some faller
+    pub told : Made l there.front faller (aborted there.front faller holder)
+    pub up : Up d t (cause_of there.front faller holder) l
+
+  record Fallen (s r : Going) (o : Option IntentId) : Type 0 where
+    faller : Instance
+    made : map.get s.state.made s.front ≡ Some faller
+    edge : is_edge (effect_of d faller) ≡ false
+    answered : Answers d t (fell o) s r faller
+    same : answered.answer ≡ aborted s.front faller o
+    up : Up d t (cause_of s.front faller o) r
+
+  fallen : (o : Option IntentId) (s r : Going) → GoingSane d t q s → GoingSane d t q r → moved d t (fell o) s ≡ Some r → Fallen s r o
+  fallen o s r h after step = let z = mover d t (fell o) s r step in by_kind z.0 z.1 (move_is d t (fell o) s z.0 r z.1 step)
+    where
+      by_dies : (z : Instance) (b : Bool) (a : Answer) → (if b then Some (aborted s.front z o) else None) ≡ Some a → a ≡ aborted s.front z o
+      by_dies z true a g = sym (same_some g)
+      by_dies z false a g = cc
+
+      by_kind : (z : Instance) → map.get s.state.made s.front ≡ Some z → MoveIs d t (fell o) s r z → Fallen s r o
+      by_kind z made (answers a) =
+          let edge = no_edge (effect_of d z) (answered_plainly s.front s.state.items z (effect_of d z) (fell o) a.answer a.gives_it) in
+          let c = cause_of s.front z o in
+          let y = answered z (answer.Aborted c) in
+          let same : a.answer ≡ answer.Aborted c = by_dies z (dies_at o (effect_of d z)) a.answer a.gives_it in
+          let front : r.front ≡ s.front = ap (λ (x : Going). x.front) a.is in
+          let there : map.get r.state.made s.front ≡ Some y = ap (λ (x : Going). map.get x.state.made s.front) a.is ∙ here s.state.made s.front (answered z a.answer) ∙ ap (λ b. Some (answered z b)) same in
+          let fits = answered_fits d s.front z y (answer.Aborted c) (grown_itself y) (inner_sane d t r.state.made after.sane s.front y there) in
+          record {
+            faller = z;
+            made = made;
+            edge = edge;
+            answered = a;
+            same = same;
+            up = record {
+              instance = y;
+              made = ap (map.get r.state.made) front ∙ there;
+              rises = subst (λ i. Rises d t c i y) (sym front) (up_at d t s.state.made h.sane s.front z h.line made c edge fits);
+            };
+          }
+      by_kind z made (calls c) = let clash = c.plainly in cc
+      by_kind z made (returns e) = let clash = e.plainly in cc
+
+  pub falls : (s : Going) (moves : List Move) (l : Going) → GoingSane d t q s → AllSound t moves → Leads d t s moves l → AllPlain moves ⊎ Fell s moves l
+  falls s [] l h older leads = inl tt
+  falls s (plain ∷ ms) l h older leads = elim (falls leads.0 ms l (going_moved d t q plain s leads.0 outside func h older.0 leads.1) older.1 leads.2) [
+    | inl p ↦ inl (refl, p)
+    | inr f ↦ inr (record {
+      before = plain ∷ f.before;
+      there = f.there;
+      holder = f.holder;
+      since = f.since;
+      whole = ap (λ xs. plain ∷ xs) f.whole;
+      plainly = (refl, f.plainly);
+      upwards = f.upwards;
+      to = (leads.0, leads.1, f.to);
+      from = f.from;
+      faller = f.faller;
+      made = f.made;
+      told = f.told;
+      up = f.up;
+    })
+  ]
+  falls s (fell o ∷ ms) l h older leads =
+      let r = leads.0 in
+      let after = going_moved d t q (fell o) s r outside func h older.0 leads.1 in
+      let f = fallen o s r h after leads.1 in
+      let rest = ups (cause_of s.front f.faller o) r ms l after older.1 leads.2 f.up in
+      inr (record {
+        before = [];
+        there = s;
+        holder = o;
+        since = ms;
+        whole = refl;
+        plainly = tt;
+        upwards = rest.0;
+        to = refl;
+        from = leads;
+        faller = f.faller;
+        made = f.made;
+        told = subst (Made l s.front f.faller) f.same (made_later s r l ms h (fell o) leads.1 leads.2 f.faller f.made f.answered f.edge);
+        up = rest.1;
+      })
+
+  -- ---- what was touched, and what was written
+  -- a plain answer to an effect on the item
+  pub record MadeOn (on : Instance → Effect → Option Item) (x : Item) (l : Going) : Type 0 where
+    pub id : IntentId
+    pub before : Instance
+    pub given : Answer
+    pub step : Made l id before given
+    pub items : Items
+    pub plainly : answer_inside items before.func (effect_of d before) ≡ Some given
+    pub item : on before (effect_of d before) ≡ Some x
+
+  module _ (on : Instance → Effect → Option Item) (no_call : (z : Instance) (f : ℕ) (v : Value) → on z (effect.Call f v) ≡ None) (no_return : (z : Instance) (o : Outcome) → on z (effect.Return o) ≡ None) where
+    made_on : (s r l : Going) (ms : List Move) (x : Item) → GoingSane d t q s → moved d t plain s ≡ Some r → Leads d t r ms l → ((z : Instance) → map.get s.state.made s.front ≡ Some z → on z (effect_of d z) ≡ Some x) → MadeOn on x l
+    made_on s r l ms x h step leads is = let z = mover d t plain s r step in by_kind z.0 z.1 (move_is d t plain s z.0 r z.1 step)
+      where
+        by_kind : (z : Instance) → map.get s.state.made s.front ≡ Some z → MoveIs d t plain s r z → MadeOn on x l
+        by_kind z made (answers a) =
+            let edge = no_edge (effect_of d z) (answered_plainly s.front s.state.items z (effect_of d z) plain a.answer a.gives_it) in
+            record { id = s.front; before = z; given = a.answer; step = made_later s r l ms h plain step leads z made a edge; items = s.state.items; plainly = a.gives_it; item = is z made }
+        by_kind z made (calls c) = let clash = sym (is z made) ∙ ap (on z) c.call ∙ no_call z c.func c.args in cc
+        by_kind z made (returns e) = let clash = sym (is z made) ∙ ap (on z) e.returns ∙ no_return z e.outcome in cc
+
+  pub touched_made : (s : Going) (moves : List Move) (l : Going) (x : Item) → GoingSane d t q s → AllSound t moves → Leads d t s moves l → TouchedIn d t s moves x → MadeOn touched_item x l
+  touched_made s [] l x h older leads w = absurd w
+  touched_made s (plain ∷ ms) l x h older leads (inl w) = made_on touched_item (λ z f v. refl) (λ z o. refl) s leads.0 l ms x h leads.1 leads.2 (λ z made. sym (ap (touched_at d) made) ∙ w)
+  touched_made s (fell o ∷ ms) l x h older leads (inl w) = absurd w
+  touched_made s (m ∷ ms) l x h older leads (inr w) = touched_made leads.0 ms l x (going_moved d t q m s leads.0 outside func h older.0 leads.1) older.1 leads.2 (subst (λ z. TouchedIn d t z ms x) (same_some (sym w.1 ∙ leads.1)) w.2)
+
+  pub written_made : (s : Going) (moves : List Move) (l : Going) (x : Item) → GoingSane d t q s → AllSound t moves → Leads d t s moves l → WrittenIn d t s moves x → MadeOn written_on x l
+  written_made s [] l x h older leads w = absurd w
+  written_made s (plain ∷ ms) l x h older leads (inl w) = made_on written_on (λ z f v. refl) (λ z o. refl) s leads.0 l ms x h leads.1 leads.2 (λ z made. sym (ap (written_at d) made) ∙ w)
+  written_made s (fell o ∷ ms) l x h older leads (inl w) = absurd w
+  written_made s (m ∷ ms) l x h older leads (inr w) = written_made leads.0 ms l x (going_moved d t q m s leads.0 outside func h older.0 leads.1) older.1 leads.2 (subst (λ z. WrittenIn d t z ms x) (same_some (sym w.1 ∙ leads.1)) w.2)

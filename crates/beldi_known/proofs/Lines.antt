@@ -1,0 +1,496 @@
+-- Who is in an open transaction: its owner, and all that were called in it. Of those that have no outcome one can step, and each other
+-- waits for the next.
+use Rattle.std.proofs.Common.{◌≡◌, ◌⊎◌, inl, inr, ◌<◌, ◌≤◌, ℕ, zero, suc, Bool, true, false, cond, List, [], ◌∷◌, ◌++◌, length, length-append, length-take-le, take, Option, None, Some, refl, ap, sym, ◌∙◌, subst, append_assoc, append-nil, arith}
+use Rattle.std.specs.Prelude.{is_some, slice_get}
+use Rattle.std.specs.Option.{option_map}
+use Rattle.std.specs.FinMap as map
+use Rattle.std.specs.FinMap.{FinMap, get-insert}
+use Rattle.std.specs.Ordering.{is_eq}
+use Rattle.std.proofs.lemmas.Cmp.{tied_itself}
+use Rattle.beldi_value.specs.Id.{id_cmp, id_total, root_of, child_of}
+use Rattle.beldi_value.specs.declared.id.IntentId.{IntentId}
+use Rattle.beldi_value.specs.declared.outcome.Outcome.{Outcome}
+use Rattle.beldi_value.specs.declared.place.TxId.{TxId}
+use Rattle.beldi_value.specs.declared.value.Value.{Value}
+use Rattle.beldi_value.proofs.Callees.{child_same}
+use Rattle.beldi_tree.specs.declared.deployment.Deployment.{Deployment}
+use Rattle.beldi_lang.specs.Callee.{answer_of}
+use Rattle.beldi_lang.specs.declared.effect.Answer.{Answer}
+use Rattle.beldi_lang.specs.declared.effect.Answer.TheVariants as answer
+use Rattle.beldi_lang.specs.declared.effect.Effect.{Effect}
+use Rattle.beldi_lang.specs.declared.effect.Effect.TheVariants as effect
+use Rattle.beldi_plain.specs.Moves.{Move, moved, Leads}
+use Rattle.beldi_plain.specs.Piece.{Going, is_owner, new_member, opened, tx_begun}
+use Rattle.beldi_plain.specs.Plain.{Instance, PlainState, answered, ended, callee_of, calls_at, effect_of, effect_before}
+use Rattle.beldi_order.specs.Inside.{IsIn, IsBelow, Line, top, next, InLine}
+use Rattle.beldi_order.specs.Sane as plain
+use Rattle.beldi_order.specs.Sane.{IsCalled, CalledBy, call_of, within_by, answer_given}
+use Rattle.beldi_order.specs.Txs.{Txs, txs_after, txs_by, tx_by, tx_at, tx_now, or_own}
+use Rattle.beldi_order.proofs.Called.{last_hop, next_step, effect_now, tx_here_now}
+use Rattle.beldi_order.proofs.Ends.{fits_at}
+use Rattle.beldi_order.proofs.Foreign.{none_below}
+use Rattle.beldi_order.proofs.Goes.{answered_plainly, is_plainly}
+use Rattle.beldi_order.proofs.Line.{all_in, in_line, line_alike, line_moved, line_opened, long, longer, not_longer, returned}
+use Rattle.beldi_order.proofs.Maps.{same_some, equal, elsewhere}
+use Rattle.beldi_order.proofs.Moved.{Answers, Calls, Returns, MoveIs, answers, calls, returns, move_is, mover}
+use Rattle.beldi_order.proofs.Sanes.{is_edge, tx_is, begun_pushed, SaneWith, outside_of}
+use Rattle.beldi_order.proofs.Sound.{sane_with}
+use Rattle.beldi_order.proofs.Went.{txs_pushed}
+use Rattle.beldi_known.specs.Beside.{Beside, OpenTx, begins}
+use Rattle.beldi_known.specs.InsideLaws.{OpensAreOpen}
+use Rattle.beldi_known.specs.Known.{Known, answer_at_once}
+use Rattle.beldi_known.specs.Sane.{Sane}
+use Rattle.beldi_known.proofs.NoTx.{begins_parts}
+
+-- ---- ids
+-- an id, or one that was called below it
+pub record Above (i j : IntentId) : Type 0 where
+  pub hops : List ℕ
+  pub is : j ≡ record { ticket = i.ticket; hops = i.hops ++ hops }
+
+above_self : (i : IntentId) → Above i i
+above_self i = record { hops = []; is = ap (λ hs. record { ticket = i.ticket; hops = hs }) (sym (append-nil i.hops)) }
+
+above_child : (i j : IntentId) (n : ℕ) → Above i j → Above i (child_of j n)
+above_child i j n h = record { hops = h.hops ++ n ∷ []; is = ap (λ z. child_of z n) h.is ∙ ap (λ hs. record { ticket = i.ticket; hops = hs }) (append_assoc i.hops h.hops (n ∷ [])) }
+
+above_parent : (i j : IntentId) (n : ℕ) → Above i (child_of j n) → (i ≡ child_of j n) ⊎ Above i j
+above_parent i j n h = elim (last_hop h.hops) [
+  | inl e ↦ inl (sym (h.is ∙ ap (λ hs. record { ticket = i.ticket; hops = i.hops ++ hs }) e ∙ ap (λ hs. record { ticket = i.ticket; hops = hs }) (append-nil i.hops)))
+  | inr r ↦
+      let up : IntentId = record { ticket = i.ticket; hops = i.hops ++ r.0 } in
+      let same : child_of j n ≡ child_of up r.1 = h.is ∙ ap (λ hs. record { ticket = i.ticket; hops = hs }) (ap (λ hs. i.hops ++ hs) r.2 ∙ sym (append_assoc i.hops r.0 (r.1 ∷ []))) in
+      inr (record { hops = r.0; is = (child_same j up n r.1 same).0 })
+]
+
+-- who is in a transaction was called by one that is, or is its owner
+pub parent_in : (t : TxId) (i : IntentId) (n : ℕ) → IsIn t (child_of i n) → (child_of i n ≡ t.intent) ⊎ IsIn t i
+parent_in t i n (inl own) = inl own
+parent_in t i n (inr b) = elim (last_hop b.hops) [
+  | inl e ↦
+      let same : child_of i n ≡ child_of t.intent b.step = b.is ∙ ap (λ hs. record { ticket = t.intent.ticket; hops = t.intent.hops ++ b.step ∷ hs }) e in
+      inr (inl (child_same i t.intent n b.step same).0)
+  | inr r ↦
+      let up : IntentId = record { ticket = t.intent.ticket; hops = t.intent.hops ++ b.step ∷ r.0 } in
+      let same : child_of i n ≡ child_of up r.1 = b.is ∙ ap (λ hs. record { ticket = t.intent.ticket; hops = hs }) (ap (λ hs. t.intent.hops ++ b.step ∷ hs) r.2 ∙ sym (append_assoc t.intent.hops (b.step ∷ r.0) (r.1 ∷ []))) in
+      inr (inr (record { step = b.step; later = b.later; hops = r.0; is = (child_same i up n r.1 same).0 }))
+]
+
+-- what is called by who is below the owner is below it
+pub below_child : (t : TxId) (i : IntentId) (n : ℕ) → IsBelow t i → IsBelow t (child_of i n)
+below_child t i n b = record {
+  step = b.step;
+  later = b.later;
+  hops = b.hops ++ n ∷ [];
+  is = ap (λ z. child_of z n) b.is ∙ ap (λ hs. record { ticket = t.intent.ticket; hops = hs }) (append_assoc t.intent.hops (b.step ∷ b.hops) (n ∷ []));
+}
+
+-- what is found where one was set
+pub set_cases : (f : FinMap id_cmp Instance) (k i : IntentId) (s w : Instance) → map.get (map.insert f k s) i ≡ Some w → ((i ≡ k) × (s ≡ w)) ⊎ ((i ≡ k → ⊥) × (map.get f i ≡ Some w))
+set_cases f k i s w has = by_test (is_eq (id_cmp i k)) refl (sym (get-insert id_total f k s i) ∙ has)
+  where
+    by_test : (b : Bool) → is_eq (id_cmp i k) ≡ b → cond b (Some s) (map.get f i) ≡ Some w → ((i ≡ k) × (s ≡ w)) ⊎ ((i ≡ k → ⊥) × (map.get f i ≡ Some w))
+    by_test true e h = inl (equal i k e, same_some h)
+    by_test false e h = inr (λ same. let c = sym e ∙ ap (λ z. is_eq (id_cmp z k)) same ∙ ap is_eq (tied_itself id_total k) in cc, h)
+
+-- ---- members
+-- the owner, as it stood at its Begin but for its answers: it is begun
+pub record OwnerNow (d : Deployment) (t : TxId) (q z : Instance) : Type 0 where
+  pub func : z.func ≡ q.func
+  pub args : z.args ≡ q.args
+  pub from : z.from ≡ q.from
+  pub within : z.within ≡ q.within
+  pub open_still : z.outcome ≡ q.outcome
+  pub begun : (txs_after d z z.answers).begun ≡ Some t.begin
+
+-- one that is made, where this one can step
+pub record Member (d : Deployment) (t : TxId) (q : Instance) (front i : IntentId) (z : Instance) : Type 0 where
+  pub owner : i ≡ t.intent → OwnerNow d t q z
+  pub below : IsBelow t i → z.within ≡ Some t
+  pub above : z.outcome ≡ None → Above i front
+
+abbrev pub Members : Deployment → TxId → Instance → Going → Type 0
+Members d t q s = (i : IntentId) (z : Instance) → IsIn t i → map.get s.state.made i ≡ Some z → Member d t q s.front i z
+
+pub no_edge : (e : Effect) → is_plainly e ≡ true → is_edge e ≡ false
+no_edge effect.Begin h = cc
+no_edge (effect.End c) h = cc
+no_edge e h = refl
+
+module _ (d : Deployment) (t : TxId) (q : Instance) where
+  owner_answered : (z : Instance) (a : Answer) → is_edge (effect_of d z) ≡ false → OwnerNow d t q z → OwnerNow d t q (answered z a)
+  owner_answered z a edge h = record { func = h.func; args = h.args; from = h.from; within = h.within; open_still = h.open_still; begun = begun_pushed d z a edge ∙ h.begun }
+
+  member_answered : (front : IntentId) (i k : IntentId) (z w : Instance) (a : Answer) → is_edge (effect_of d z) ≡ false → Member d t q front k z → (i ≡ k) × (answered z a ≡ w) → Member d t q k i w
+  member_answered front i k z w a edge h same = subst (Member d t q k i) same.1 (record {
+    owner = λ own. owner_answered z a edge (h.owner (sym same.0 ∙ own));
+    below = λ b. h.below (subst (IsBelow t) same.0 b);
+    above = λ none. subst (Above i) same.0 (above_self i);
+  })
+
+  module _ (m : Move) (s r : Going) (line : InLine d t s) (h : Members d t q s) where
+    front_in : IsIn t s.front
+    front_in = all_in d t s.state.made s.front line
+
+    by_answer : (z : Instance) → map.get s.state.made s.front ≡ Some z → (a : Answers d t m s r z) → Members d t q r
+    by_answer z made a = subst (Members d t q) (sym a.is) (λ i w is_in has. elim (set_cases s.state.made s.front i (answered z a.answer) w has) [
+      | inl same ↦ member_answered s.front i s.front z w a.answer (no_edge (effect_of d z) (answered_plainly s.front s.state.items z (effect_of d z) m a.answer a.gives_it)) (h s.front z front_in made) same
+      | inr other ↦ h i w is_in other.1
+    ])
+
+    by_call : (z : Instance) → map.get s.state.made s.front ≡ Some z → (c : Calls d t m s r z) → Members d t q r
+    by_call z made c =
+        let k = callee_of s.front z in
+        let lt : length t.intent.hops < length k.hops = let n = long d t s.state.made s.front line in let l = longer s.front (length z.answers) in omega (arith, n, l) in
+        subst (Members d t q) (sym c.is) (λ i w is_in has. elim (set_cases s.state.made k i (new_member t c.func c.args (calls_at s.front z true)) w has) [
+          | inl same ↦ record {
+            owner = λ own. absurd (not_longer t.intent k lt (sym same.0 ∙ own));
+            below = λ b. ap (λ (x : Instance). x.within) (sym same.1);
+            above = λ none. subst (Above i) same.0 (above_self i);
+          }
+          | inr other ↦ let o = h i w is_in other.1 in record { owner = o.owner; below = o.below; above = λ none. above_child i s.front (length z.answers) (o.above none) }
+        ])
+
+    by_return : (z : Instance) → map.get s.state.made s.front ≡ Some z → (e : Returns d t m s r z) → Members d t q r
+    by_return z made e =
+        let u = returned d t m s r z made line e in
+        let over = map.insert s.state.made s.front (ended z e.outcome) in
+        subst (Members d t q) (sym u.is) (λ i w is_in has. elim (set_cases over u.caller i (answered u.member.waiter (answer_of e.outcome)) w has) [
+          | inl same ↦ member_answered s.front i u.caller u.member.waiter w (answer_of e.outcome) (ap is_edge u.member.called) (h u.caller u.member.waiter (all_in d t s.state.made u.caller u.line) u.member.waits) same
+          | inr other ↦ elim (set_cases s.state.made s.front i (ended z e.outcome) w other.1) [
+            | inl same ↦ subst (Member d t q u.caller i) same.1 (record {
+              owner = λ own. let c = sym e.not_owner ∙ ap (is_owner t) (sym same.0 ∙ own) ∙ ap is_eq (tied_itself id_total t.intent) in cc;
+              below = λ b. (h s.front z front_in made).below (subst (IsBelow t) same.0 b);
+              above = λ none. cc;
+            })
+            | inr apart ↦ let o = h i w is_in apart.1 in record {
+              owner = o.owner;
+              below = o.below;
+              above = λ none. elim (above_parent i u.caller (length u.member.waiter.answers) (subst (Above i) u.member.is_callee (o.above none))) [
+                | inl same ↦ absurd (apart.0 (same ∙ sym u.member.is_callee))
+                | inr a ↦ a
+              ];
+            }
+          ]
+        ])
+
+    members_moved : moved d t m s ≡ Some r → Members d t q r
+    members_moved step = let z = mover d t m s r step in by_kind z.0 z.1 (move_is d t m s z.0 r z.1 step)
+      where
+        by_kind : (z : Instance) → map.get s.state.made s.front ≡ Some z → MoveIs d t m s r z → Members d t q r
+        by_kind z made (answers a) = by_answer z made a
+        by_kind z made (calls c) = by_call z made c
+        by_kind z made (returns e) = by_return z made e
+
+  pub members_led : (s : Going) (moves : List Move) (l : Going) → InLine d t s → Members d t q s → Leads d t s moves l → Members d t q l
+  members_led s [] l line h leads = subst (Members d t q) leads h
+  members_led s (m ∷ ms) l line h leads = members_led leads.0 ms l (line_moved d t m s leads.0 line leads.1) (members_moved m s leads.0 line h leads.1) leads.2
+
+-- ---- who called an instance, in a transaction
+pub record CallerOf (d : Deployment) (known : Known) (s : TxId) (i : IntentId) (z : Instance) : Type 0 where
+  pub caller : IntentId
+  pub step : ℕ
+  pub is : i ≡ child_of caller step
+  pub waiter : Instance
+  pub made : map.get known caller ≡ Some waiter
+  pub here : step ≤ length waiter.answers
+  pub call : effect_before d waiter step ≡ effect.Call z.func z.args
+  pub within : tx_at d caller waiter step ≡ Some s
+  pub answered : slice_get waiter.answers step ≡ option_map answer_of z.outcome
+  pub from : z.from ≡ Some (record { place = record { intent = caller; step = step }; func = waiter.func; waits = true })
+
+-- .. and waits for it
+pub record WaitsFor (d : Deployment) (known : Known) (s : TxId) (i : IntentId) (z : Instance) : Type 0 where
+  pub caller : IntentId
+  pub waiter : Instance
+  pub is : i ≡ callee_of caller waiter
+  pub made : map.get known caller ≡ Some waiter
+  pub open_still : waiter.outcome ≡ None
+  pub call : effect_of d waiter ≡ effect.Call z.func z.args
+  pub within : tx_now d caller waiter ≡ Some s
+  pub from : z.from ≡ Some (calls_at caller waiter true)
+
+module _ (d : Deployment) (known : Known) (sane : Sane d known) (s : TxId) (i : IntentId) (z : Instance) (is : map.get known i ≡ Some z) (within : z.within ≡ Some s) where
+  by_waits : (c : IntentId) (n : ℕ) → i ≡ child_of c n → (w : Instance) → map.get known c ≡ Some w → (h : IsCalled d c w n z) (b : Bool) → h.waits ≡ b → CallerOf d known s i z
+  by_waits c n same w made h false so = let clash = sym within ∙ h.within ∙ ap (λ b. within_by b (tx_at d c w n)) so in cc
+  by_waits c n same w made h true so = record {
+    caller = c;
+    step = n;
+    is = same;
+    waiter = w;
+    made = made;
+    here = h.here;
+    call = h.call ∙ ap (λ b. call_of b z.func z.args) so;
+    within = sym (h.within ∙ ap (λ b. within_by b (tx_at d c w n)) so) ∙ within;
+    answered = h.answered ∙ ap (λ b. answer_given b z.outcome) so;
+    from = h.from ∙ ap (λ b. Some (record { place = record { intent = c; step = n }; func = w.func; waits = b })) so;
+  }
+
+  by_caller : (c : IntentId) (n : ℕ) → i ≡ child_of c n → (o : Option Instance) → map.get known c ≡ o → CalledBy d c o n z → CallerOf d known s i z
+  by_caller c n same None made h = absurd h
+  by_caller c n same (Some w) made h = by_waits c n same w made h h.waits refl
+
+  pub caller_in : CallerOf d known s i z
+  caller_in = elim (last_hop i.hops) [
+    | inl e ↦
+        let root : i ≡ root_of i.ticket = λ k. record { ticket = i.ticket; hops = e k } in
+        let clash = sym (sane.roots i.ticket z (ap (map.get known) (sym root) ∙ is)).1 ∙ within in cc
+    | inr r ↦
+        let c : IntentId = record { ticket = i.ticket; hops = r.0 } in
+        let same : i ≡ child_of c r.1 = λ k. record { ticket = i.ticket; hops = r.2 k } in
+        by_caller c r.1 same (map.get known c) refl (sane.called c r.1 z (ap (map.get known) (sym same) ∙ is))
+  ]
+
+  pub waits_for : z.outcome ≡ None → WaitsFor d known s i z
+  waits_for none =
+      let c = caller_in in
+      let last = next_step c.waiter.answers c.step c.here (c.answered ∙ ap (option_map answer_of) none) in
+      let call = sym (effect_now d c.waiter) ∙ ap (effect_before d c.waiter) (sym last) ∙ c.call in
+      record {
+        caller = c.caller;
+        waiter = c.waiter;
+        is = c.is ∙ ap (child_of c.caller) last;
+        made = c.made;
+        open_still = by_outcome c.caller c.waiter c.made call c.waiter.outcome refl;
+        call = call;
+        within = sym (ap (tx_at d c.caller c.waiter) last ∙ tx_here_now d c.waiter c.caller) ∙ c.within;
+        from = c.from ∙ ap (λ n. Some (record { place = record { intent = c.caller; step = n }; func = c.waiter.func; waits = true })) last;
+      }
+    where
+      by_outcome : (k : IntentId) (w : Instance) → map.get known k ≡ Some w → effect_of d w ≡ effect.Call z.func z.args → (o : Option Outcome) → w.outcome ≡ o → o ≡ None
+      by_outcome k w made call None e = refl
+      by_outcome k w made call (Some o) e = let clash = sym call ∙ (sane.each k w made).over o e in cc
+
+-- the transaction of a step of one that was called in none is its own, and its Begin is the one that is open
+pub record OwnTx (id : IntentId) (func : ℕ) (o : Option ℕ) (t : TxId) : Type 0 where
+  pub intent : t.intent ≡ id
+  pub func_is : t.func ≡ func
+  pub begun : o ≡ Some t.begin
+
+pub own_tx : (id : IntentId) (func n : ℕ) (e : Effect) (o : Option ℕ) (t : TxId) → (e ≡ effect.Begin → ⊥) → tx_by id func n e o ≡ Some t → OwnTx id func o t
+own_tx id func n effect.Begin o t g h = absurd (g refl)
+own_tx id func n e None t g h = cc
+own_tx id func n e (Some b) t g h = let k = same_some h in record { intent = ap (λ (z : TxId). z.intent) (sym k); func_is = ap (λ (z : TxId). z.func) (sym k); begun = ap (λ (z : TxId). Some z.begin) k }
+
+-- ---- the line: all but its last wait for a callee that is there
+record Waits (d : Deployment) (f : FinMap id_cmp Instance) (i : IntentId) : Type 0 where
+  instance : Instance
+  made : map.get f i ≡ Some instance
+  func : ℕ
+  args : Value
+  call : effect_of d instance ≡ effect.Call func args
+  callee : is_some (map.get f (callee_of i instance)) ≡ true
+
+module _ (d : Deployment) (t : TxId) (f : FinMap id_cmp Instance) where
+  last_or_waits : (j : IntentId) → Line d t f j → (i : IntentId) → Above i j → IsIn t i → (i ≡ j) ⊎ Waits d f i
+  last_or_waits j (top _ h) i a (inl own) = inl (own ∙ sym h.own)
+  last_or_waits j (top _ h) i a (inr b) =
+      let l = length-append i.hops a.hops in
+      let m = length-append t.intent.hops (b.step ∷ b.hops) in
+      let x = ap (λ (z : IntentId). length z.hops) (sym h.own ∙ a.is) in
+      let y = ap (λ (z : IntentId). length z.hops) b.is in
+      absurd (omega (arith, l, m, x, y))
+  last_or_waits j (next k _ l h) i a is_in = elim (above_parent i k (length h.waiter.answers) (subst (Above i) h.is_callee a)) [
+    | inl e ↦ inl (e ∙ sym h.is_callee)
+    | inr up ↦ elim (last_or_waits k l i up is_in) [
+      | inl same ↦ inr (record {
+        instance = h.waiter;
+        made = ap (map.get f) same ∙ h.waits;
+        func = h.instance.func;
+        args = h.instance.args;
+        call = h.called;
+        callee = ap (λ z. is_some (map.get f z)) (ap (λ z. callee_of z h.waiter) same ∙ sym h.is_callee) ∙ ap is_some h.made;
+      })
+      | inr w ↦ inr w
+    ]
+  ]
+
+  first_of : (j : IntentId) → Line d t f j → (z : Instance) × (map.get f t.intent ≡ Some z)
+  first_of j (top _ h) = (h.instance, ap (map.get f) (sym h.own) ∙ h.made)
+  first_of j (next k _ l h) = first_of k l
+
+-- ---- an open transaction
+module _ (d : Deployment) (p : PlainState) (known : Known) (sane : plain.Sane d p) (id : IntentId) (q : Instance) (made : map.get p.made id ≡ Some q) (b : begins d q ≡ true) (tx : OpenTx d p known id q) where
+  abbrev this : TxId
+  this = tx_begun id q
+
+  good : SaneWith d None p.made
+  good = sane_with d p sane
+
+  pub line : InLine d (tx_begun id q) tx.going
+  line = in_line d this (opened p id q) tx.moves tx.going (line_opened d p id q (begins_parts d q b).0) tx.leads
+
+  -- .. in what is known
+  pub known_line : Line d (tx_begun id q) known tx.going.front
+  known_line = line_alike d this tx.going.state.made known tx.going.front tx.whole line
+
+  pub front_in_tx : IsIn (tx_begun id q) tx.going.front
+  front_in_tx = all_in d this tx.going.state.made tx.going.front line
+
+  -- at first there is its owner alone
+  at_first : Members d (tx_begun id q) q (opened p id q)
+  at_first i z is_in has = elim (set_cases p.made id i (answered q answer.Done) z has) [
+    | inl same ↦ subst (Member d this q id i) same.1 (record {
+      owner = λ own. record {
+        func = refl;
+        args = refl;
+        from = refl;
+        within = refl;
+        open_still = refl;
+        begun = ap (λ (s : Txs). s.begun) (txs_pushed d q q.answers answer.Done) ∙ ap (λ e. (txs_by (length q.answers) e (txs_after d q q.answers)).begun) (begins_parts d q b).1;
+      };
+      below = λ h. let clash = sym made ∙ ap (map.get p.made) (sym same.0) ∙ none_below d p.made good id q i made h in cc;
+      above = λ none. subst (Above i) same.0 (above_self i);
+    })
+    | inr other ↦ absurd (none_there is_in other.0 other.1)
+  ]
+    where
+      none_there : IsIn (tx_begun id q) i → (i ≡ id → ⊥) → map.get p.made i ≡ Some z → ⊥
+      none_there (inl own) apart is = apart own
+      none_there (inr h) apart is = let clash = sym is ∙ none_below d p.made good id q i made h in cc
+
+  pub member : (i : IntentId) (z : Instance) → IsIn (tx_begun id q) i → map.get known i ≡ Some z → Member d (tx_begun id q) q tx.going.front i z
+  member i z is_in is = members_led d this q (opened p id q) tx.moves tx.going (line_opened d p id q (begins_parts d q b).0) at_first tx.leads i z is_in (sym (tx.whole i is_in) ∙ is)
+
+  pub member_is : (i : IntentId) (z : Instance) → IsIn (tx_begun id q) i → map.get known i ≡ Some z → (i ≡ id) ⊎ (z.within ≡ Some (tx_begun id q))
+  member_is i z (inl own) is = inl own
+  member_is i z (inr h) is = inr ((member i z (inr h) is).below h)
+
+  -- its owner was called in none
+  pub outside : q.within ≡ None
+  outside = outside_of d None p.made good refl id q made (begins_parts d q b).0
+
+  pub owner_is : (z : Instance) × (map.get known id ≡ Some z) × OwnerNow d (tx_begun id q) q z
+  owner_is = let w = first_of d this known tx.going.front known_line in (w.0, w.1, (member id w.0 (inl refl) w.1).owner refl)
+
+  pub owner_outside : (z : Instance) → map.get known id ≡ Some z → z.within ≡ None
+  owner_outside z is = ((member id z (inl refl) is).owner refl).within ∙ outside
+
+  -- a step of who is in it is
+  pub tx_inside : (i : IntentId) (z : Instance) → IsIn (tx_begun id q) i → map.get known i ≡ Some z → is_edge (effect_of d z) ≡ false → tx_now d i z ≡ Some (tx_begun id q)
+  tx_inside i z (inl own) is edge =
+      let o = (member i z (inl own) is).owner own in
+      ap (λ x. or_own x (tx_by i z.func (length z.answers) (effect_of d z) (txs_after d z z.answers).begun)) (o.within ∙ outside)
+      ∙ ap (tx_by i z.func (length z.answers) (effect_of d z)) o.begun ∙ tx_is i z.func (length z.answers) (effect_of d z) (Some (length q.answers)) edge
+      ∙ (λ j. Some (record { intent = own j; begin = length q.answers; func = o.func j }))
+  tx_inside i z (inr h) is edge = ap (λ x. or_own x (tx_by i z.func (length z.answers) (effect_of d z) (txs_after d z z.answers).begun)) ((member i z (inr h) is).below h)
+
+  -- who can step: it has no outcome, and waits for nobody
+  pub front_is : (i : IntentId) (z : Instance) → IsIn (tx_begun id q) i → map.get known i ≡ Some z → z.outcome ≡ None → ((f : ℕ) (v : Value) → effect_of d z ≡ effect.Call f v → map.get known (callee_of i z) ≡ None) → tx.going.front ≡ i
+  front_is i z is_in is none free = elim (last_or_waits d this known tx.going.front known_line i ((member i z is_in is).above none) is_in) [
+    | inl same ↦ sym same
+    | inr w ↦
+        let same : w.instance ≡ z = same_some (sym w.made ∙ is) in
+        let clash = sym w.callee ∙ ap (λ y. is_some (map.get known (callee_of i y))) same ∙ ap is_some (free w.func w.args (ap (effect_of d) (sym same) ∙ w.call)) in cc
+  ]
+
+  -- ---- who was called in it is in it
+  module _ (known_sane : Sane d known) where
+    from_caller : (i : IntentId) (z : Instance) → (c : CallerOf d known (tx_begun id q) i z) → (c.waiter.within ≡ Some (tx_begun id q) → IsIn (tx_begun id q) c.caller) → IsIn (tx_begun id q) i
+    from_caller i z c up = subst (IsIn this) (sym c.is) (by_within c.waiter.within refl)
+      where
+        of_caller : c.waiter.within ≡ Some (tx_begun id q) → IsIn (tx_begun id q) c.caller → IsIn (tx_begun id q) (child_of c.caller c.step)
+        of_caller within (inl own) = let clash = sym within ∙ owner_outside c.waiter (ap (map.get known) (sym own) ∙ c.made) in cc
+        of_caller within (inr h) = inr (below_child this c.caller c.step h)
+
+        by_within : (x : Option TxId) → c.waiter.within ≡ x → IsIn (tx_begun id q) (child_of c.caller c.step)
+        by_within None e =
+            let ts = take c.step c.waiter.answers in
+            let o = own_tx c.caller c.waiter.func (length ts) (effect_before d c.waiter c.step) (txs_after d c.waiter ts).begun this (λ g. let clash = sym g ∙ c.call in cc)
+            (sym (ap (λ x. or_own x (tx_by c.caller c.waiter.func (length ts) (effect_before d c.waiter c.step) (txs_after d c.waiter ts).begun)) e) ∙ c.within) in
+            inr (record {
+              step = c.step;
+              later = let k = (fits_at d c.waiter ts).before (length q.answers) o.begun in let l = length-take-le c.step c.waiter.answers c.here in omega (arith, k, l);
+              hops = [];
+              is = ap (λ y. child_of y c.step) (sym o.intent);
+            })
+        by_within (Some x) e =
+            let same : x ≡ this = same_some (sym (ap (λ x. or_own x (tx_by c.caller c.waiter.func (length (take c.step c.waiter.answers)) (effect_before d c.waiter c.step) (txs_after d c.waiter (take c.step c.waiter.answers)).begun)) e) ∙ c.within) in
+            let within : c.waiter.within ≡ Some this = e ∙ ap (λ y. Some y) same in
+            of_caller within (up within)
+
+    in_up : (n : ℕ) (i : IntentId) (z : Instance) → length i.hops < n → map.get known i ≡ Some z → z.within ≡ Some (tx_begun id q) → IsIn (tx_begun id q) i
+    in_up zero i z few is within = absurd (omega (arith, few))
+    in_up (suc n) i z few is within =
+        let c = caller_in d known known_sane this i z is within in
+        from_caller i z c (λ up. in_up n c.caller c.waiter (let m = longer c.caller c.step in let k = ap (λ (y : IntentId). length y.hops) c.is in omega (arith, few, m, k)) c.made up)
+
+    pub called_in : (i : IntentId) (z : Instance) → map.get known i ≡ Some z → z.within ≡ Some (tx_begun id q) → IsIn (tx_begun id q) i
+    called_in i z = in_up (suc (length i.hops)) i z (omega arith)
+
+    pub in_tx : (i : IntentId) (z : Instance) → map.get known i ≡ Some z → tx_now d i z ≡ Some (tx_begun id q) → IsIn (tx_begun id q) i
+    in_tx i z is now = by_within z.within refl
+      where
+        own_intent : (n : ℕ) (e : Effect) (o : Option ℕ) → tx_by i z.func n e o ≡ Some (tx_begun id q) → i ≡ id
+        own_intent n effect.Begin o h = ap (λ (y : TxId). y.intent) (same_some h)
+        own_intent n e None h = cc
+        own_intent n e (Some b) h = ap (λ (y : TxId). y.intent) (same_some h)
+
+        by_within : (x : Option TxId) → z.within ≡ x → IsIn (tx_begun id q) i
+        by_within None e = inl (own_intent (length z.answers) (effect_of d z) (txs_after d z z.answers).begun (sym (ap (λ x. or_own x (tx_by i z.func (length z.answers) (effect_of d z) (txs_after d z z.answers).begun)) e) ∙ now))
+        by_within (Some x) e = called_in i z is (e ∙ sym (ap (λ x. or_own x (tx_by i z.func (length z.answers) (effect_of d z) (txs_after d z z.answers).begun)) e) ∙ now)
+
+  -- one that is not in it is set
+  abbrev pub still_open : (k : IntentId) (z : Instance) → (IsIn (tx_begun id q) k → ⊥) → OpenTx d p (map.insert known k z) id q
+  still_open k z out = record { moves = tx.moves; going = tx.going; leads = tx.leads; whole = λ i is_in. elsewhere known k i z (λ same. out (subst (IsIn (tx_begun id q)) (sym same) is_in)) ∙ tx.whole i is_in }
+
+-- ---- two of them share nobody that is known
+module _ (d : Deployment) (p : PlainState) (known : Known) (sane : plain.Sane d p) (id : IntentId) (q : Instance) (made : map.get p.made id ≡ Some q) (b : begins d q ≡ true) (tx : OpenTx d p known id q)
+    (j : IntentId) (y : Instance) (there : map.get p.made j ≡ Some y) (c : begins d y ≡ true) (other : OpenTx d p known j y) (apart : id ≡ j → ⊥) where
+  pub alone : (i : IntentId) (z : Instance) → IsIn (tx_begun id q) i → map.get known i ≡ Some z → IsIn (tx_begun j y) i → ⊥
+  alone i z (inl own) is (inl also) = apart (sym own ∙ also)
+  alone i z (inl own) is (inr h) = let clash = sym ((member d p known sane j y there c other i z (inr h) is).below h) ∙ owner_outside d p known sane id q made b tx z (ap (map.get known) (sym own) ∙ is) in cc
+  alone i z (inr g) is (inl also) = let clash = sym ((member d p known sane id q made b tx i z (inr g) is).below g) ∙ owner_outside d p known sane j y there c other z (ap (map.get known) (sym also) ∙ is) in cc
+  alone i z (inr g) is (inr h) = apart (ap (λ (x : TxId). x.intent) (same_some (sym ((member d p known sane id q made b tx i z (inr g) is).below g) ∙ (member d p known sane j y there c other i z (inr h) is).below h)))
+
+  -- nor one that is called by a member
+  pub alone_callee : (i : IntentId) (z : Instance) (n : ℕ) → IsIn (tx_begun id q) i → map.get known i ≡ Some z → map.get known (child_of i n) ≡ None → IsIn (tx_begun j y) (child_of i n) → ⊥
+  alone_callee i z n is_in is gone h = elim (parent_in (tx_begun j y) i n h) [
+    | inl own ↦ let w = owner_is d p known sane j y there c other in let clash = sym gone ∙ ap (map.get known) own ∙ w.1 in cc
+    | inr up ↦ alone i z is_in is up
+  ]
+
+-- ---- the transaction of who can step inside is open
+pub record OpenOwner (d : Deployment) (p : PlainState) (s : TxId) : Type 0 where
+  pub owner : Instance
+  pub made : map.get p.made s.intent ≡ Some owner
+  pub begun : begins d owner ≡ true
+  pub is : s ≡ tx_begun s.intent owner
+
+module _ (d : Deployment) (p : PlainState) (known : Known) (plain_sane : plain.Sane d p) (sane : Sane d known) (beside : Beside d p known) (s : TxId) where
+  own_open : (i : IntentId) (z : Instance) → map.get known i ≡ Some z → z.within ≡ None → (o : OwnTx i z.func (txs_after d z z.answers).begun s) → OpenOwner d p s
+  own_open i z is outside o = by_made (map.get p.made i) refl
+    where
+      by_begins : (q : Instance) (b : Bool) → map.get p.made i ≡ Some q → begins d q ≡ b → OpenOwner d p s
+      by_begins q false made b =
+          let same : q ≡ z = same_some (sym (beside.same i q made b) ∙ is) in
+          let clash = sym (subst (plain.SaneAt d i) made (plain_sane.each i)).ended ∙ ap (λ (x : Instance). (txs_after d x x.answers).begun) same ∙ o.begun in cc
+      by_begins q true made b =
+          let now = (member d p known plain_sane i q made b (beside.begun i q made b) i z (inl refl) is).owner refl in
+          record {
+            owner = q;
+            made = ap (map.get p.made) o.intent ∙ made;
+            begun = b;
+            is = λ k. record { intent = s.intent; begin = same_some (sym o.begun ∙ now.begun) k; func = (o.func_is ∙ now.func) k };
+          }
+
+      by_made : (r : Option Instance) → map.get p.made i ≡ r → OpenOwner d p s
+      by_made None gone = let k = beside.kept i z gone is in let clash = sym k.within ∙ outside in cc
+      by_made (Some q) made = by_begins q (begins d q) made refl
+
+  open_up : (n : ℕ) (i : IntentId) (z : Instance) → length i.hops < n → map.get known i ≡ Some z → z.outcome ≡ None → tx_now d i z ≡ Some s → OpenOwner d p s
+  open_up zero i z few is none now = absurd (omega (arith, few))
+  open_up (suc n) i z few is none now = by_within z.within refl (λ within.
+      let w = waits_for d known sane s i z is within none in
+      open_up n w.caller w.waiter (let m = longer w.caller (length w.waiter.answers) in let k = ap (λ (y : IntentId). length y.hops) w.is in omega (arith, few, m, k)) w.made w.open_still w.within)
+    where
+      by_within : (x : Option TxId) → z.within ≡ x → (z.within ≡ Some s → OpenOwner d p s) → OpenOwner d p s
+      by_within None e up = own_open i z is e (own_tx i z.func (length z.answers) (effect_of d z) (txs_after d z z.answers).begun s (λ g. let clash = sym (sane.closed i z is none) ∙ ap (answer_at_once i (length z.answers)) g in cc)
+          (sym (ap (λ x. or_own x (tx_by i z.func (length z.answers) (effect_of d z) (txs_after d z z.answers).begun)) e) ∙ now))
+      by_within (Some x) e up = up (e ∙ sym (ap (λ x. or_own x (tx_by i z.func (length z.answers) (effect_of d z) (txs_after d z z.answers).begun)) e) ∙ now)
+
+  pub open_owner : (i : IntentId) (z : Instance) → map.get known i ≡ Some z → z.outcome ≡ None → tx_now d i z ≡ Some s → OpenOwner d p s
+  open_owner i z = open_up (suc (length i.hops)) i z (omega arith)
+
+pub opens_are_open : OpensAreOpen
+opens_are_open d m p known locked id k s h made none now = let o = open_owner d p known h.plain_sane h.sane h.beside s id k made none now in record { sound = h; owner = o.owner; made = o.made; begun = o.begun; is = o.is }

@@ -1,0 +1,534 @@
+-- An instance goes on outside in both: what is known stays beside the plain state, and shadows show what they did. It is in no open
+-- transaction of another, so those go on as they did.
+use Rattle.std.proofs.Common.{◌≡◌, ◌∙◌, inl, inr, ℕ, zero, suc, ◌<◌, ◌≤◌, ◌&&◌, ◌||◌, not, Bool, true, false, cond, List, [], ◌∷◌, ◌++◌, length, length-append, length-take-le, take, Option, Some, None, is_some, refl, ap, sym, subst, append_assoc, append-nil, arith, if◌then◌else◌}
+use Rattle.std.specs.FinMap as map
+use Rattle.std.specs.FinMap.{FinMap, get-insert}
+use Rattle.std.specs.Option.{is_none}
+use Rattle.std.specs.Ordering.{is_eq}
+use Rattle.std.proofs.lemmas.Cmp.{tied_itself}
+use Rattle.beldi_value.specs.Id.{id_cmp, id_total, root_of, child_of}
+use Rattle.beldi_value.specs.declared.id.IntentId.{IntentId}
+use Rattle.beldi_value.specs.declared.outcome.Outcome.{Outcome}
+use Rattle.beldi_value.specs.declared.place.Owner.TheVariants.{Tx}
+use Rattle.beldi_value.specs.declared.place.TxId.{TxId}
+use Rattle.beldi_value.specs.declared.value.Value.{Value}
+use Rattle.beldi_value.proofs.Callees.{child_same}
+use Rattle.beldi_tree.specs.Bindings.{or_null}
+use Rattle.beldi_tree.specs.declared.deployment.Deployment.{Deployment}
+use Rattle.beldi_lang.specs.declared.effect.Answer.{Answer}
+use Rattle.beldi_lang.specs.declared.effect.Answer.TheVariants as answer
+use Rattle.beldi_lang.specs.declared.effect.Effect.{Effect}
+use Rattle.beldi_lang.specs.declared.effect.Effect.TheVariants as effect
+use Rattle.beldi_row.specs.Table.{Rows}
+use Rattle.beldi_row.specs.declared.row.Row.{Row}
+use Rattle.beldi_plain.specs.Executor.{answered_if}
+use Rattle.beldi_plain.specs.Item.{Item, item_cmp}
+use Rattle.beldi_plain.specs.Moves.{fell, TouchedIn}
+use Rattle.beldi_plain.specs.Operation.{set_if, or_old, touched}
+use Rattle.beldi_plain.specs.Piece.{aborted, dies_at, is_aborted, opened, tx_begun}
+use Rattle.beldi_plain.specs.Plain.{Instance, PlainState, answered, ended, effect_of, value_at, with_instance}
+use Rattle.beldi_order.specs.Inside.{IsIn, IsBelow, Alike}
+use Rattle.beldi_order.specs.Inside as inside
+use Rattle.beldi_order.specs.Sane as plain
+use Rattle.beldi_order.specs.Sane.{CalledBy}
+use Rattle.beldi_order.specs.Txs.{Txs, txs_after, txs_by, tx_after, tx_by, or_own, end_of, effect_after, is_at}
+use Rattle.beldi_order.proofs.Beside.{beside as moves_beside}
+use Rattle.beldi_order.proofs.Called.{last_hop}
+use Rattle.beldi_order.proofs.Ends.{fits_at}
+use Rattle.beldi_order.proofs.Foreign.{no_callees, no_later}
+use Rattle.beldi_order.proofs.Line.{all_in, in_line, line_opened, not_longer}
+use Rattle.beldi_order.proofs.Maps.{equal, here, elsewhere, same_some}
+use Rattle.beldi_order.proofs.Moved.{Items, answers_so, gone_on}
+use Rattle.beldi_order.proofs.Operations.{plain_set, item_same}
+use Rattle.beldi_order.proofs.Sound.{sane_with}
+use Rattle.beldi_order.proofs.Went.{txs_pushed}
+use Rattle.beldi_known.specs.Beside.{Beside, IsKept, OpenTx, begins, is_begin}
+use Rattle.beldi_known.specs.Contents.{content_of, shadow_key}
+use Rattle.beldi_known.specs.InsideLaws.{Goes}
+use Rattle.beldi_known.specs.Known.{Known, Got, at_once, ended_by, got_before, got_by, is_item, is_on, is_tx, moved, once, once_if, answer_at_once, tx_end}
+use Rattle.beldi_known.specs.Matches.{Matches}
+use Rattle.beldi_known.specs.Sane.{Sane}
+use Rattle.beldi_known.specs.Shadows.{AllGot, AllShow, ShadowShows, Shadows, Shows, is_writing, writing_at}
+use Rattle.beldi_known.proofs.Ahead.{none_out}
+use Rattle.beldi_known.proofs.Answers.{true_false}
+use Rattle.beldi_known.proofs.Begins.{aborts_inside}
+use Rattle.beldi_known.proofs.Frame.{at_once_same}
+use Rattle.beldi_known.proofs.FrameAt.{known_set}
+use Rattle.beldi_known.proofs.Lines.{CallerOf, below_child, caller_in, own_tx, parent_in}
+use Rattle.beldi_known.proofs.Locks.{tx_same}
+use Rattle.beldi_known.proofs.NoTx.{IsOutside, begins_parts, no_begin}
+use Rattle.beldi_known.proofs.Owns.{going, got_owned, owner_known, touched_owned}
+use Rattle.beldi_known.proofs.Phases.{end_is, inside_is}
+use Rattle.beldi_known.proofs.Shadows.{got_answered, got_still}
+use Rattle.beldi_known.proofs.ReadLists.{both, gathered, got_since}
+
+abbrev pub value_of : Items → Item → Value
+value_of m x = or_null (map.get m x)
+
+-- ---- outside of transactions
+-- an End and an Abort stand in a transaction
+pub outside_no_end : (d : Deployment) (q : Instance) (c : Bool) → IsOutside d q q.answers → effect_of d q ≡ effect.End c → ⊥
+outside_no_end d q c out is = let clash = sym (ap is_some out.1) ∙ end_is d q q.answers c is in cc
+
+outside_no_abort : (d : Deployment) (q : Instance) → IsOutside d q q.answers → effect_of d q ≡ effect.Abort → ⊥
+outside_no_abort d q out is = let clash = sym (inside_is d q q.answers ∙ (λ i. is_some (out.1 i) || is_some (out.0 i))) ∙ aborts_inside d q.func q.args (is_some q.within) q.answers is in cc
+
+-- what takes no turn
+pub at_once_stays : (d : Deployment) (id : IntentId) (q : Instance) → IsOutside d q q.answers → begins d q ≡ false → at_once d id q ≡ q
+at_once_stays d id q out apart = ap (once d id) same ∙ same
+  where
+    by_effect : q.outcome ≡ None → (e : Effect) → effect_of d q ≡ e → answered_if q (answer_at_once id (length q.answers) e) ≡ q
+    by_effect none effect.Begin is = let clash = sym (λ i. is_none (none i) && is_begin (is i)) ∙ apart in cc
+    by_effect none effect.Abort is = absurd (outside_no_abort d q out is)
+    by_effect none e is = refl
+
+    by_outcome : (o : Option Outcome) → q.outcome ≡ o → once_if d id q o ≡ q
+    by_outcome None none = by_effect none (effect_of d q) refl
+    by_outcome (Some o) some = refl
+
+    same : once d id q ≡ q
+    same = by_outcome q.outcome refl
+
+-- who was called in a transaction gets for that one
+member_tx : (d : Deployment) (s : TxId) (x : Item) (j : IntentId) (z : Instance) (u : TxId) → z.within ≡ Some u → (b : Bool) → got_by d s x j b (Some z) ≡ true → s ≡ u
+member_tx d s x j z u within b got = by_before (got_before d s x j z) refl got
+  where
+    on_so : (ts : List Answer) → is_on s x z.func (tx_after d j z ts) (effect_after d z ts) ≡ true → s ≡ u
+    on_so ts h = tx_same s u (both (is_tx s (Some u)) (is_item x z.func (touched (effect_after d z ts)))
+        (sym (ap (λ w. is_tx s (or_own w (tx_by j z.func (length ts) (effect_after d z ts) (txs_after d z ts).begun)) && is_item x z.func (touched (effect_after d z ts))) within) ∙ h)).0
+
+    by_before : (c : Bool) → got_before d s x j z ≡ c → (c || (b && is_on s x z.func (tx_after d j z z.answers) (effect_of d z))) ≡ true → s ≡ u
+    by_before false e g = on_so z.answers (both b (is_on s x z.func (tx_after d j z z.answers) (effect_of d z)) g).1
+    by_before true e g = elim (gathered (λ ts c. is_on s x z.func (tx_after d j z ts) (effect_after d z ts) && not (is_aborted c)) [] z.answers false e) [
+      | inl k ↦ cc
+      | inr k ↦ on_so k.before (both (is_on s x z.func (tx_after d j z k.before) (effect_after d z k.before)) (not (is_aborted k.answer)) k.holds).0
+    ]
+
+-- ---- who is below an instance at a step that it has not come to is not there
+pub below_apart : (t : TxId) (i : IntentId) → IsBelow t i → t.intent ≡ i → ⊥
+below_apart t i b same = not_longer t.intent i (let n = length-append t.intent.hops (b.step ∷ b.hops) in let k = ap (λ (z : IntentId). length z.hops) b.is in omega (arith, n, k)) (sym same)
+
+module _ (f : FinMap id_cmp Instance) (childless : (i : IntentId) → map.get f i ≡ None → (n : ℕ) → map.get f (child_of i n) ≡ None)
+    (later : (i : IntentId) (q : Instance) (n : ℕ) → map.get f i ≡ Some q → length q.answers < n → map.get f (child_of i n) ≡ None) where
+  none_from : (i : IntentId) (hops : List ℕ) → map.get f i ≡ None → map.get f (record { ticket = i.ticket; hops = i.hops ++ hops }) ≡ None
+  none_from i [] is = ap (λ hs. map.get f (record { ticket = i.ticket; hops = hs })) (append-nil i.hops) ∙ is
+  none_from i (n ∷ hops) is = ap (λ hs. map.get f (record { ticket = i.ticket; hops = hs })) (sym (append_assoc i.hops (n ∷ []) hops)) ∙ none_from (child_of i n) hops (childless i is n)
+
+  none_after : (t : TxId) → ((q : Instance) → map.get f t.intent ≡ Some q → length q.answers ≤ t.begin) → (i : IntentId) → IsBelow t i → map.get f i ≡ None
+  none_after t few i b = ap (map.get f) (b.is ∙ ap (λ hs. record { ticket = t.intent.ticket; hops = hs }) (sym (append_assoc t.intent.hops (b.step ∷ []) b.hops))) ∙ none_from (child_of t.intent b.step) b.hops (by_owner (map.get f t.intent) refl)
+    where
+      by_owner : (o : Option Instance) → map.get f t.intent ≡ o → map.get f (child_of t.intent b.step) ≡ None
+      by_owner None is = childless t.intent is b.step
+      by_owner (Some q) is = later t.intent q b.step is (let n = few q is in let l = b.later in omega (arith, n, l))
+
+pub plain_none_after : (d : Deployment) (p : PlainState) → plain.Sane d p → (t : TxId) → ((q : Instance) → map.get p.made t.intent ≡ Some q → length q.answers ≤ t.begin) → (i : IntentId) → IsBelow t i → map.get p.made i ≡ None
+plain_none_after d p legal = let good = sane_with d p legal in none_after p.made (λ i is n. no_callees d p.made good i is n) (λ i q n is lt. no_later d p.made good i q n is lt)
+
+module _ (d : Deployment) (known : Known) (sane : Sane d known) where
+  known_childless : (i : IntentId) → map.get known i ≡ None → (n : ℕ) → map.get known (child_of i n) ≡ None
+  known_childless i is n = by_callee (map.get known (child_of i n)) refl
+    where
+      by_callee : (o : Option Instance) → map.get known (child_of i n) ≡ o → o ≡ None
+      by_callee None e = refl
+      by_callee (Some j) e = absurd (subst (λ o. CalledBy d i o n j) is (sane.called i n j e))
+
+  known_later : (i : IntentId) (q : Instance) (n : ℕ) → map.get known i ≡ Some q → length q.answers < n → map.get known (child_of i n) ≡ None
+  known_later i q n is lt = by_callee (map.get known (child_of i n)) refl
+    where
+      by_callee : (o : Option Instance) → map.get known (child_of i n) ≡ o → o ≡ None
+      by_callee None e = refl
+      by_callee (Some j) e = let c = subst (λ o. CalledBy d i o n j) is (sane.called i n j e) in let l = c.here in absurd (omega (arith, lt, l))
+
+  pub known_none_after : (t : TxId) → ((q : Instance) → map.get known t.intent ≡ Some q → length q.answers ≤ t.begin) → (i : IntentId) → IsBelow t i → map.get known i ≡ None
+  known_none_after = none_after known known_childless known_later
+
+  -- ---- who was called in a transaction is below its owner
+  below_up : (n : ℕ) (s : TxId) (i : IntentId) (z : Instance) → length i.hops < n → map.get known i ≡ Some z → z.within ≡ Some s → IsBelow s i
+  below_up zero s i z few is within = absurd (omega (arith, few))
+  below_up (suc n) s i z few is within =
+      let c = caller_in d known sane s i z is within in
+      by_within c (λ up. below_up n s c.caller c.waiter (let m = length-append c.caller.hops (c.step ∷ []) in let k = ap (λ (y : IntentId). length y.hops) c.is in omega (arith, few, m, k)) c.made up) c.waiter.within refl
+    where
+      by_within : (c : CallerOf d known s i z) → (c.waiter.within ≡ Some s → IsBelow s c.caller) → (x : Option TxId) → c.waiter.within ≡ x → IsBelow s i
+      by_within c up None e =
+          let ts = take c.step c.waiter.answers in
+          let o = own_tx c.caller c.waiter.func (length ts) (effect_after d c.waiter ts) (txs_after d c.waiter ts).begun s (λ g. let clash = sym g ∙ c.call in cc)
+          (sym (ap (λ x. or_own x (tx_by c.caller c.waiter.func (length ts) (effect_after d c.waiter ts) (txs_after d c.waiter ts).begun)) e) ∙ c.within) in
+          record {
+            step = c.step;
+            later = let k = (fits_at d c.waiter ts).before s.begin o.begun in let l = length-take-le c.step c.waiter.answers c.here in omega (arith, k, l);
+            hops = [];
+            is = c.is ∙ ap (λ y. child_of y c.step) (sym o.intent);
+          }
+      by_within c up (Some x) e =
+          let ts = take c.step c.waiter.answers in
+          let same : x ≡ s = same_some (sym (ap (λ x. or_own x (tx_by c.caller c.waiter.func (length ts) (effect_after d c.waiter ts) (txs_after d c.waiter ts).begun)) e) ∙ c.within) in
+          subst (IsBelow s) (sym c.is) (below_child s c.caller c.step (up (e ∙ ap (λ y. Some y) same)))
+
+  pub called_below : (s : TxId) (i : IntentId) (z : Instance) → map.get known i ≡ Some z → z.within ≡ Some s → IsBelow s i
+  called_below s i z = below_up (suc (length i.hops)) s i z (omega arith)
+
+  -- ---- a transaction that is yet to begin got nothing
+  pub nothing_got : (locked : IntentId → Bool) (s : TxId) (x : Item) → ((q : Instance) → map.get known s.intent ≡ Some q → length q.answers ≤ s.begin) → Got d known locked s x → ⊥
+  nothing_got locked s x few g = by_known (map.get known g.member) refl g.got
+    where
+      by_within : (z : Instance) → map.get known g.member ≡ Some z → got_by d s x g.member (locked g.member) (Some z) ≡ true → (w : Option TxId) → z.within ≡ w → ⊥
+      by_within z is got None e =
+          let k = got_since d s x g.member z e (locked g.member) got in
+          let n = few z (ap (map.get known) k.own ∙ is) in
+          let b = k.before in omega (arith, n, b)
+      by_within z is got (Some u) e =
+          let same : s ≡ u = member_tx d s x g.member z u e (locked g.member) got in
+          let clash = sym is ∙ known_none_after s few g.member (called_below s g.member z is (e ∙ ap (λ y. Some y) (sym same))) in cc
+
+      by_known : (o : Option Instance) → map.get known g.member ≡ o → got_by d s x g.member (locked g.member) o ≡ true → ⊥
+      by_known None is got = cc
+      by_known (Some z) is got = by_within z is got z.within refl
+
+-- ---- an instance that is set is in no open transaction of another
+abbrev pub Apart : Deployment → PlainState → IntentId → Type 0
+Apart d p id = (j : IntentId) (z : Instance) → map.get p.made j ≡ Some z → begins d z ≡ true → IsBelow (tx_begun j z) id → ⊥
+
+-- as one that was made is in none, nor a root
+pub made_apart : (d : Deployment) (p : PlainState) → plain.Sane d p → (id : IntentId) (q : Instance) → map.get p.made id ≡ Some q → Apart d p id
+made_apart d p legal id q made j z there b below = let clash = sym made ∙ plain_none_after d p legal (tx_begun j z) (λ y is. let n = ap (λ (w : Instance). length w.answers) (same_some (sym is ∙ there)) in omega (arith, n)) id below in cc
+
+pub root_apart : (d : Deployment) (p : PlainState) (t : ℕ) → Apart d p (root_of t)
+root_apart d p t j z there b below = let n = length-append j.hops (below.step ∷ below.hops) in let k = ap (λ (i : IntentId). length i.hops) below.is in omega (arith, n, k)
+
+-- .. nor what is called by one that is made, and stands at no Begin
+pub callee_apart : (d : Deployment) (p : PlainState) → plain.Sane d p → (id : IntentId) (q : Instance) (n : ℕ) → map.get p.made id ≡ Some q → begins d q ≡ false → Apart d p (child_of id n)
+callee_apart d p legal id q n made apart j z there b below = elim (parent_in (tx_begun j z) id n (inr below)) [
+  | inl own ↦ below_apart (tx_begun j z) (child_of id n) below (sym own)
+  | inr (inl same) ↦ let clash = sym apart ∙ ap (begins d) (same_some (sym made ∙ ap (map.get p.made) same ∙ there)) ∙ b in cc
+  | inr (inr up) ↦ made_apart d p legal id q made j z there b up
+]
+
+-- it may be set in both
+pub record MaySet (d : Deployment) (m : Rows) (p : PlainState) (known : Known) (id : IntentId) (s : Instance) : Type 0 where
+  pub out : IsOutside d s s.answers
+  -- a transaction that it begins has no shadow yet, and nobody below
+  pub fresh : begins d s ≡ true → (x : Item) → map.get m (shadow_key (tx_begun id s) x) ≡ None
+  pub below : begins d s ≡ true → (i : IntentId) → IsBelow (tx_begun id s) i → map.get known i ≡ map.get p.made i
+  pub apart : Apart d p id
+  -- and it does not commit
+  pub ends : (b n : ℕ) → end_of d s b ≡ Some (n, true) → ended_by d b (map.get known id) ≡ Some (n, true)
+
+-- ---- a transaction that it begins
+module _ (d : Deployment) (p : PlainState) (known : Known) (id : IntentId) (s : Instance) (b : begins d s ≡ true) (there : map.get known id ≡ Some (at_once d id s)) (below : (i : IntentId) → IsBelow (tx_begun id s) i → map.get known i ≡ map.get p.made i) where
+  abbrev next : Instance
+  next = answered s answer.Done
+
+  first : at_once d id s ≡ once d id next
+  first = let e = begins_parts d s b in ap (once d id) (ap (once_if d id s) e.0 ∙ ap (λ e. answered_if s (answer_at_once id (length s.answers) e)) e.1)
+
+  then_is : once d id next ≡ answered_if next (answer_at_once id (length next.answers) (effect_of d next))
+  then_is = ap (once_if d id next) (begins_parts d s b).0
+
+  -- where its instance is so, and all others as the plain state has them
+  whole_by : (s : TxId) → s.intent ≡ id → (g : FinMap id_cmp Instance) (z : Instance) → map.get known id ≡ Some z → map.get g id ≡ Some z → ((i : IntentId) → IsBelow s i → map.get known i ≡ map.get g i) → (i : IntentId) → IsIn s i → map.get known i ≡ map.get g i
+  whole_by s own g z is at others i (inl same) = ap (map.get known) (same ∙ own) ∙ is ∙ sym at ∙ ap (map.get g) (sym (same ∙ own))
+  whole_by s own g z is at others i (inr h) = others i h
+
+  past : (f : FinMap id_cmp Instance) (z : Instance) (i : IntentId) → IsBelow (tx_begun id s) i → map.get (map.insert f id z) i ≡ map.get f i
+  past f z i h = elsewhere f id i z (below_apart (tx_begun id s) i h)
+
+  pub at_once_opens : OpenTx d p known id s
+  at_once_opens = by_effect (effect_of d next) refl
+    where
+      still : answer_at_once id (length next.answers) (effect_of d next) ≡ None → OpenTx d p known id s
+      still e = record {
+        moves = [];
+        going = opened p id s;
+        leads = refl;
+        whole = whole_by (tx_begun id s) refl (map.insert p.made id next) next (there ∙ ap (λ z. Some z) (first ∙ then_is ∙ ap (answered_if next) e)) (here p.made id next) (λ i h. below i h ∙ sym (past p.made next i h));
+      }
+
+      by_effect : (e : Effect) → effect_of d next ≡ e → OpenTx d p known id s
+      by_effect effect.Begin is = absurd (no_begin d next (length s.answers) (ap (λ (z : Txs). z.begun) (txs_pushed d s s.answers answer.Done) ∙ ap (λ e. (txs_by (length s.answers) e (txs_after d s s.answers)).begun) (begins_parts d s b).1) is)
+      by_effect effect.Abort is =
+          let a = aborted id next None in
+          let last = answered next a in
+          record {
+            moves = fell None ∷ [];
+            going = gone_on (opened p id s) p.items next a;
+            leads = (
+              gone_on (opened p id s) p.items next a,
+              answers_so d (tx_begun id s) (fell None) (opened p id s) next (here p.made id next) a (ap (λ e. if dies_at None e then Some a else None) is),
+              refl,
+            );
+            whole = whole_by (tx_begun id s) refl (map.insert (map.insert p.made id next) id last) last
+                (there ∙ ap (λ z. Some z) (first ∙ then_is ∙ ap (λ e. answered_if next (answer_at_once id (length next.answers) e)) is))
+                (here (map.insert p.made id next) id last) (λ i h. below i h ∙ sym (past p.made next i h) ∙ sym (past (map.insert p.made id next) last i h));
+          }
+      by_effect e is = still (ap (answer_at_once id (length next.answers)) is)
+
+-- ---- the transaction of another goes on
+shows_same : (w : Bool) (o : Option Row) (v u : Value) → (is_some o ≡ true → u ≡ v) → ShadowShows w o v → ShadowShows w o u
+shows_same w None v u same h = tt
+shows_same w (Some r) v u same (inl e) = inl e
+shows_same w (Some r) v u same (inr e) = inr (e ∙ sym (same refl))
+
+module _ (d : Deployment) (m n : Rows) (p r : PlainState) (known next : Known) (locked : IntentId → Bool) (j : IntentId) (z : Instance) (b : begins d z ≡ true) (g : Shows d m p known locked j z)
+    (members : (i : IntentId) → IsIn (tx_begun j z) i → map.get r.made i ≡ map.get p.made i) (knowns : (i : IntentId) → IsIn (tx_begun j z) i → map.get next i ≡ map.get known i)
+    (rows : (x : Item) → map.get n (shadow_key (tx_begun j z) x) ≡ map.get m (shadow_key (tx_begun j z) x))
+    (touches : (x : Item) → TouchedIn d (tx_begun j z) (opened p j z) g.tx.moves x → value_at r x ≡ value_at p x) (shadowed : (x : Item) → is_some (map.get m (shadow_key (tx_begun j z) x)) ≡ true → value_at r x ≡ value_at p x) where
+  abbrev u : TxId
+  u = tx_begun j z
+
+  set_alike : (i : IntentId) → map.get r.made i ≡ map.get p.made i → map.get (opened r j z).state.made i ≡ map.get (opened p j z).state.made i
+  set_alike i same = get-insert id_total r.made j (answered z answer.Done) i ∙ ap (cond (is_eq (id_cmp i j)) (Some (answered z answer.Done))) same ∙ sym (get-insert id_total p.made j (answered z answer.Done) i)
+
+  there_too : inside.Beside d (tx_begun j z) (opened p j z) (opened r j z) g.tx.moves g.tx.going
+  there_too = moves_beside d u (opened p j z) (opened r j z) g.tx.moves g.tx.going (line_opened d p j z (begins_parts d z b).0) g.tx.leads (record { front = refl; members = λ i is. set_alike i (members i is) }) touches
+
+  writes_same : (x : Item) → is_writing d locked x there_too.going ≡ is_writing d locked x g.tx.going
+  writes_same x =
+      let front = all_in d u g.tx.going.state.made g.tx.going.front (in_line d u (opened p j z) g.tx.moves g.tx.going (line_opened d p j z (begins_parts d z b).0) g.tx.leads) in
+      (λ i. writing_at d locked x (there_too.alike.front i) (map.get there_too.going.state.made (there_too.alike.front i))) ∙ ap (writing_at d locked x g.tx.going.front) (there_too.alike.members g.tx.going.front front)
+
+  pub shows_beside : Shows d n r next locked j z
+  shows_beside = record {
+    tx = record { moves = g.tx.moves; going = there_too.going; leads = there_too.leads; whole = λ i is. knowns i is ∙ g.tx.whole i is ∙ sym (there_too.alike.members i is) };
+    shadows = λ x. subst (λ w. ShadowShows w (map.get n (shadow_key u x)) (value_at there_too.going.state x)) (sym (writes_same x))
+        (subst (λ o. ShadowShows (is_writing d locked x g.tx.going) o (value_at there_too.going.state x)) (sym (rows x))
+        (shows_same (is_writing d locked x g.tx.going) (map.get m (shadow_key u x)) (value_at g.tx.going.state x) (value_at there_too.going.state x) (λ is. there_too.same x (shadowed x is)) (g.shadows x)));
+  }
+
+-- ---- one instance is set in both, and the items
+module _ (d : Deployment) (m : Rows) (p : PlainState) (known : Known) (locked : IntentId → Bool) (h : Shadows d m p known locked) (beside : Beside d p known) (id : IntentId) (s : Instance) (set : MaySet d m p known id s)
+    (n : Rows) (rows : (t : TxId) (x : Item) → map.get n (shadow_key t x) ≡ map.get m (shadow_key t x)) where
+  abbrev more : Known
+  more = map.insert known id (at_once d id s)
+
+  differ : (i : IntentId) → is_eq (id_cmp i id) ≡ false → id ≡ i → ⊥
+  differ i other same = true_false (sym (ap is_eq (tied_itself id_total id)) ∙ ap (λ y. is_eq (id_cmp y id)) same ∙ other)
+
+  module _ (items : Items) (touches : (j : IntentId) (z : Instance) (made : map.get p.made j ≡ Some z) (b : begins d z ≡ true) → is_eq (id_cmp j id) ≡ false → (x : Item) → TouchedIn d (tx_begun j z) (opened p j z) (h.shows j z made b).tx.moves x → value_of items x ≡ value_at p x)
+      (shadowed : (j : IntentId) (z : Instance) → map.get p.made j ≡ Some z → begins d z ≡ true → is_eq (id_cmp j id) ≡ false → (x : Item) → is_some (map.get m (shadow_key (tx_begun j z) x)) ≡ true → value_of items x ≡ value_at p x) where
+    abbrev after : PlainState
+    after = record { items = items; made = map.insert p.made id s }
+
+    next_shows : begins d s ≡ true → Shows d n after more locked id s
+    next_shows e =
+        let below = λ (i : IntentId) (b : IsBelow (tx_begun id s) i). elsewhere known id i (at_once d id s) (below_apart (tx_begun id s) i b) ∙ set.below e i b ∙ sym (elsewhere p.made id i s (below_apart (tx_begun id s) i b)) in
+        let tx = at_once_opens d after more id s e (here known id (at_once d id s)) below in
+        record {
+          tx = tx;
+          shadows = λ x. subst (λ o. ShadowShows (is_writing d locked x tx.going) o (value_at tx.going.state x)) (sym (rows (tx_begun id s) x ∙ set.fresh e x)) tt;
+        }
+
+    other_shows : (j : IntentId) (z : Instance) → is_eq (id_cmp j id) ≡ false → map.get p.made j ≡ Some z → begins d z ≡ true → Shows d n after more locked j z
+    other_shows j z other made b = shows_beside d m n p after known more locked j z b (h.shows j z made b) (λ i is. elsewhere p.made id i s (out i is)) (λ i is. elsewhere known id i (at_once d id s) (out i is))
+        (rows (tx_begun j z)) (touches j z made b other) (shadowed j z made b other)
+      where
+        out : (i : IntentId) → IsIn (tx_begun j z) i → id ≡ i → ⊥
+        out i (inl own) same = differ j other (same ∙ own)
+        out i (inr below) same = set.apart j z made b (subst (IsBelow (tx_begun j z)) (sym same) below)
+
+    shows : AllShow d n after more locked
+    shows j z there e = known_set p.made id s (λ i o. o ≡ Some z → Shows d n after more locked i z)
+        (λ g. subst (Shows d n after more locked id) (same_some g) (next_shows (ap (begins d) (same_some g) ∙ e)))
+        (λ i other g. other_shows i z other g e) j there
+
+    -- who was called in a transaction that has not committed
+    kept : (j : IntentId) (k : Instance) → map.get after.made j ≡ None → map.get more j ≡ Some k → IsKept d more k
+    kept j k = known_set p.made id s (λ i o. o ≡ None → map.get more i ≡ Some k → IsKept d more k) (λ none. cc) (λ i other none is.
+        let w = beside.kept i k none (sym (elsewhere known id i (at_once d id s) (differ i other)) ∙ is) in
+        record { tx = w.tx; within = w.within; uncommitted = λ z ends. w.uncommitted z (was w.tx z ends) }) j
+      where
+        once_ends : (b : ℕ) → end_of d (at_once d id s) b ≡ end_of d s b
+        once_ends b = (at_once_same d id s).ends b
+
+        was : (t : TxId) (z : ℕ) → tx_end d more t ≡ Some (z, true) → tx_end d known t ≡ Some (z, true)
+        was t z = known_set known id (at_once d id s) (λ i o. ended_by d t.begin o ≡ Some (z, true) → ended_by d t.begin (map.get known i) ≡ Some (z, true))
+            (λ ends. set.ends t.begin z (sym (once_ends t.begin) ∙ ends)) (λ i other ends. ends) t.intent
+
+    goes_by : AllGot d n more locked → Goes d n after more locked
+    goes_by got = record {
+      beside = record {
+        same = λ j z made apart. known_set p.made id s (λ i o. o ≡ Some z → map.get more i ≡ Some z)
+            (λ e. here known id (at_once d id s) ∙ ap Some (at_once_stays d id s set.out (ap (begins d) (same_some e) ∙ apart) ∙ same_some e))
+            (λ i other e. elsewhere known id i (at_once d id s) (differ i other) ∙ beside.same i z e apart) j made;
+        begun = λ j z made b. (shows j z made b).tx;
+        kept = kept;
+      };
+      shadows = record { shows = shows; got = got };
+    }
+
+  -- the items stay: nothing has to be sane, so a turn may set two instances, one after the other
+  pub goes_one : AllGot d n more locked → Goes d n (with_instance p id s) (map.insert known id (at_once d id s)) locked
+  goes_one = goes_by p.items (λ j z made b other x on. refl) (λ j z made b other x on. refl)
+
+  -- no other transaction owns an item that is another after it
+  pub goes_set : Sane d known → Matches d m known locked → plain.Sane d p → (items : Items)
+      → ((j : IntentId) (z : Instance) → is_eq (id_cmp j id) ≡ false → (x : Item) → (content_of m x).owner ≡ Some (Tx (tx_begun j z)) → value_of items x ≡ value_at p x)
+      → AllGot d n more locked → Goes d n (record { items = items; made = map.insert p.made id s }) (map.insert known id (at_once d id s)) locked
+  goes_set sane matches legal items agree = goes_by items
+      (λ j z made b other x on. agree j z other x (touched_owned d p known sane legal j z made b (h.shows j z made b).tx locked x m matches on))
+      (λ j z made b other x there. agree j z other x (got_owned d p known sane legal j z made b (h.shows j z made b).tx locked x m matches (h.got (tx_begun j z) x there)))
+
+-- ---- what makes that so
+pub no_ends : (d : Deployment) (q : Instance) (b : ℕ) → q.answers ≡ [] → end_of d q b ≡ None
+no_ends d q b bare = ap (λ ts. (txs_after d q ts).ends b) bare
+
+-- an answer to anything but an End that commits
+pub ends_next : (d : Deployment) (k : Instance) (a : Answer) → (effect_of d k ≡ effect.End true → ⊥) → (b n : ℕ) → end_of d (answered k a) b ≡ Some (n, true) → end_of d k b ≡ Some (n, true)
+ends_next d k a other b n ends = by_effect (effect_of d k) refl (sym (ap (λ (s : Txs). s.ends b) (txs_pushed d k k.answers a)) ∙ ends)
+  where
+    s : Txs
+    s = txs_after d k k.answers
+
+    by_test : (t : Bool) → (if t then Some (length k.answers, false) else s.ends b) ≡ Some (n, true) → s.ends b ≡ Some (n, true)
+    by_test true e = absurd (true_false (sym (ap (λ (z : ℕ × Bool). z.1) (same_some e))))
+    by_test false e = e
+
+    by_effect : (e : Effect) → effect_of d k ≡ e → (txs_by (length k.answers) e s).ends b ≡ Some (n, true) → s.ends b ≡ Some (n, true)
+    by_effect (effect.End true) is e = absurd (other is)
+    by_effect (effect.End false) is e = by_test (is_at b s.begun) e
+    by_effect effect.Begin is e = e
+    by_effect e is g = g
+
+module _ (d : Deployment) (m : Rows) (p : PlainState) (known : Known) (locked : IntentId → Bool) (h : Shadows d m p known locked) (beside : Beside d p known) (sane : Sane d known) (matches : Matches d m known locked) (legal : plain.Sane d p) where
+  -- who was called in no transaction is in the plain state, with no more answers
+  pub plain_owner : (id : IntentId) (k : Instance) → map.get known id ≡ Some k → k.within ≡ None → (q : Instance) × (map.get p.made id ≡ Some q) × (length q.answers ≤ length k.answers)
+  plain_owner id k is own = by_made (map.get p.made id) refl
+    where
+      by_begins : (q : Instance) → map.get p.made id ≡ Some q → (b : Bool) → begins d q ≡ b → length q.answers ≤ length k.answers
+      by_begins q made false e = let n = ap (λ (z : Instance). length z.answers) (same_some (sym (beside.same id q made e) ∙ is)) in omega (arith, n)
+      by_begins q made true e =
+          let o = (going d p known sane legal id q made e (beside.begun id q made e)).owner in
+          let same = same_some (sym (owner_known d p known sane legal id q made e (beside.begun id q made e)) ∙ is) in
+          let n = ap (λ (z : Instance). length z.answers) same in
+          let l = length-append q.answers o.grown.later in
+          let k = ap length o.grown.more in
+          omega (arith, n, l, k)
+
+      by_made : (o : Option Instance) → map.get p.made id ≡ o → (q : Instance) × (map.get p.made id ≡ Some q) × (length q.answers ≤ length k.answers)
+      by_made None none = let w = beside.kept id k none is in let clash = sym own ∙ w.within in cc
+      by_made (Some q) made = (q, made, by_begins q made (begins d q) refl)
+
+  pub plain_none : (id : IntentId) → map.get known id ≡ None → map.get p.made id ≡ None
+  plain_none id new = by_made (map.get p.made id) refl
+    where
+      by_begins : (q : Instance) → map.get p.made id ≡ Some q → (b : Bool) → begins d q ≡ b → Some q ≡ None
+      by_begins q made false e = let clash = sym (beside.same id q made e) ∙ new in cc
+      by_begins q made true e = let clash = sym (owner_known d p known sane legal id q made e (beside.begun id q made e)) ∙ new in cc
+
+      by_made : (o : Option Instance) → map.get p.made id ≡ o → o ≡ None
+      by_made None made = refl
+      by_made (Some q) made = by_begins q made (begins d q) refl
+
+  no_shadow : (t : TxId) (x : Item) → ((q : Instance) → map.get known t.intent ≡ Some q → length q.answers ≤ t.begin) → map.get m (shadow_key t x) ≡ None
+  no_shadow t x few = by_row (map.get m (shadow_key t x)) refl
+    where
+      by_row : (o : Option Row) → map.get m (shadow_key t x) ≡ o → o ≡ None
+      by_row None e = refl
+      by_row (Some r) e = absurd (nothing_got d known sane locked t x few (h.got t x (ap is_some e)))
+
+  none_below : (t : TxId) → ((q : Instance) → map.get known t.intent ≡ Some q → length q.answers ≤ t.begin) → ((q : Instance) → map.get p.made t.intent ≡ Some q → length q.answers ≤ t.begin) → (i : IntentId) → IsBelow t i → map.get known i ≡ map.get p.made i
+  none_below t few less i b = known_none_after d known sane t few i b ∙ sym (plain_none_after d p legal t less i b)
+
+  module _ (id : IntentId) (k : Instance) (is : map.get known id ≡ Some k) where
+    -- it was answered ..
+    module _ (a : Answer) (out : IsOutside d (answered k a) (answered k a).answers) where
+      few_next : (q : Instance) → map.get known id ≡ Some q → length q.answers ≤ length (answered k a).answers
+      few_next q same = let n = ap (λ (z : Instance). length z.answers) (same_some (sym same ∙ is)) in let l = length-append k.answers (a ∷ []) in omega (arith, n, l)
+
+      pub fresh_next : (x : Item) → map.get m (shadow_key (tx_begun id (answered k a)) x) ≡ None
+      fresh_next x = no_shadow (tx_begun id (answered k a)) x few_next
+
+      pub set_next : (effect_of d k ≡ effect.End true → ⊥) → MaySet d m p known id (answered k a)
+      set_next other =
+          let q = plain_owner id k is out.0 in
+          record {
+            out = out;
+            fresh = λ b. fresh_next;
+            below = λ b. none_below (tx_begun id (answered k a)) few_next
+                (λ y same. let n = ap (λ (z : Instance). length z.answers) (same_some (sym same ∙ q.1)) in let l = length-append k.answers (a ∷ []) in let less = q.2 in omega (arith, n, l, less));
+            apart = made_apart d p legal id q.0 q.1;
+            ends = λ b n e. ap (ended_by d b) is ∙ ends_next d k a other b n e;
+          }
+
+    -- .. it ended ..
+    pub set_over : (o : Outcome) → IsOutside d (ended k o) (ended k o).answers → MaySet d m p known id (ended k o)
+    set_over o out = let q = plain_owner id k is out.0 in record { out = out; fresh = λ b. cc; below = λ b. cc; apart = made_apart d p legal id q.0 q.1; ends = λ b n e. ap (ended_by d b) is ∙ e }
+
+  -- .. or is new
+  module _ (id : IntentId) (new : map.get known id ≡ None) where
+    none_yet : (f : FinMap id_cmp Instance) (n : ℕ) → map.get f id ≡ None → (q : Instance) → map.get f id ≡ Some q → length q.answers ≤ n
+    none_yet f n gone q is = let clash = sym gone ∙ is in cc
+
+    pub fresh_new : (s : Instance) (x : Item) → map.get m (shadow_key (tx_begun id s) x) ≡ None
+    fresh_new s x = no_shadow (tx_begun id s) x (none_yet known (length s.answers) new)
+
+    pub set_new : (s : Instance) → s.answers ≡ [] → IsOutside d s s.answers → Apart d p id → MaySet d m p known id s
+    set_new s bare out apart = record {
+      out = out;
+      fresh = λ b. fresh_new s;
+      below = λ b. none_below (tx_begun id s) (none_yet known (length s.answers) new) (none_yet p.made (length s.answers) (plain_none id new));
+      apart = apart;
+      ends = λ b n e. let clash = sym (no_ends d s b bare) ∙ e in cc;
+    }
+
+  -- by an operation outside: nobody owns its item
+  pub set_agrees : (y : Item) (o : Option Value) → ((t : TxId) → (content_of m y).owner ≡ Some (Tx t) → ⊥) → (j : IntentId) (z : Instance) (x : Item) → (content_of m x).owner ≡ Some (Tx (tx_begun j z)) → value_of (set_if p.items y o) x ≡ value_at p x
+  set_agrees y o free j z x owned = plain_set p.items y x o ∙ ap (λ c. cond c (or_old o (value_of p.items y)) (value_of p.items x)) (off (is_eq (item_cmp x y)) refl)
+    where
+      off : (c : Bool) → is_eq (item_cmp x y) ≡ c → c ≡ false
+      off false e = refl
+      off true e = absurd (free (tx_begun j z) (ap (λ w. (content_of m w).owner) (sym (item_same x y e)) ∙ owned))
+
+-- another one was set before: its caller, or one that was called by it
+pub set_after : (d : Deployment) (m n : Rows) (p : PlainState) (known : Known) (id : IntentId) (s : Instance) → MaySet d m p known id s → ((x : Item) → map.get n (shadow_key (tx_begun id s) x) ≡ map.get m (shadow_key (tx_begun id s) x)) → (i : IntentId) (z y : Instance) → is_eq (id_cmp id i) ≡ false
+    → (IsBelow (tx_begun id s) i → ⊥) → (begins d z ≡ true → IsBelow (tx_begun i z) id → ⊥) → MaySet d n (with_instance p i z) (map.insert known i y) id s
+set_after d m n p known id s set rows i z y other above apart = record {
+  out = set.out;
+  fresh = λ b x. rows x ∙ set.fresh b x;
+  below = λ b j h. let out = λ (same : i ≡ j). above (subst (IsBelow (tx_begun id s)) (sym same) h) in elsewhere known i j y out ∙ set.below b j h ∙ sym (elsewhere p.made i j z out);
+  apart = λ j w made b h. known_set p.made i z (λ j o. o ≡ Some w → IsBelow (tx_begun j w) id → ⊥) (λ e g. apart (ap (begins d) (same_some e) ∙ b) (subst (λ (x : Instance). IsBelow (tx_begun i x) id) (sym (same_some e)) g)) (λ j off e g. set.apart j w e b g) j made h;
+  ends = λ b l e. known_set known i y (λ j o. j ≡ id → ended_by d b o ≡ Some (l, true)) (λ same. let clash = sym other ∙ ap (λ j. is_eq (id_cmp id j)) same ∙ ap is_eq (tied_itself id_total id) in cc) (λ j off same. ap (λ j. ended_by d b (map.get known j)) same ∙ set.ends b l e) id refl;
+}
+
+-- .. a callee of it: that is not below, and not above
+pub set_after_callee : (d : Deployment) (m n : Rows) (p : PlainState) (known : Known) (id : IntentId) (s : Instance) → MaySet d m p known id s → ((x : Item) → map.get n (shadow_key (tx_begun id s) x) ≡ map.get m (shadow_key (tx_begun id s) x)) → (c : ℕ) (z y : Instance) → c < length s.answers
+    → MaySet d n (with_instance p (child_of id c) z) (map.insert known (child_of id c) y) id s
+set_after_callee d m n p known id s set rows c z y lt = set_after d m n p known id s set rows (child_of id c) z y (off (is_eq (id_cmp id (child_of id c))) refl)
+    (λ b. let e = child_below b in omega (arith, lt, e))
+    (λ b h. let n = length-append (child_of id c).hops (h.step ∷ h.hops) in let k = ap (λ (i : IntentId). length i.hops) h.is in let l = length-append id.hops (c ∷ []) in omega (arith, n, k, l))
+  where
+    off : (b : Bool) → is_eq (id_cmp id (child_of id c)) ≡ b → b ≡ false
+    off false e = refl
+    off true e = let same = equal id (child_of id c) e in let l = length-append id.hops (c ∷ []) in let k = ap (λ (i : IntentId). length i.hops) same in absurd (omega (arith, l, k))
+
+    child_below : IsBelow (tx_begun id s) (child_of id c) → length s.answers < c
+    child_below b = elim (last_hop b.hops) [
+      | inl e ↦
+          let same : child_of id c ≡ child_of id b.step = b.is ∙ ap (λ hs. record { ticket = id.ticket; hops = id.hops ++ b.step ∷ hs }) e in
+          subst (λ k. length s.answers < k) (sym (child_same id id c b.step same).1) b.later
+      | inr r ↦
+          let l = length-append id.hops (c ∷ []) in
+          let k = ap (λ (i : IntentId). length i.hops) b.is in
+          let n = length-append id.hops (b.step ∷ b.hops) in
+          let u = length-append r.0 (r.1 ∷ []) in
+          let v = ap length r.2 in
+          absurd (omega (arith, l, k, n, u, v))
+    ]
+
+-- ---- what transactions got stays
+module _ (d : Deployment) (m : Rows) (known : Known) (locked : IntentId → Bool) (h : AllGot d m known locked) (n : Rows) (rows : (t : TxId) (x : Item) → map.get n (shadow_key t x) ≡ map.get m (shadow_key t x)) (id : IntentId) where
+  there_before : (t : TxId) (x : Item) → is_some (map.get n (shadow_key t x)) ≡ true → is_some (map.get m (shadow_key t x)) ≡ true
+  there_before t x there = sym (ap is_some (rows t x)) ∙ there
+
+  got_set : (s : Instance) → ((t : TxId) (x : Item) → got_by d t x id (locked id) (map.get known id) ≡ true → got_by d t x id (locked id) (Some s) ≡ true) → AllGot d n (map.insert known id s) locked
+  got_set s stays = got_still d m n known (map.insert known id s) locked locked h there_before (λ t x. known_set known id s (λ j o. got_by d t x j (locked j) (map.get known j) ≡ true → got_by d t x j (locked j) o ≡ true) (stays t x) (λ j other e. e))
+
+  pub got_new : map.get known id ≡ None → (s : Instance) → AllGot d n (map.insert known id s) locked
+  got_new new s = got_set s (λ t x e. let clash = sym (ap (got_by d t x id (locked id)) new) ∙ e in cc)
+
+  module _ (k : Instance) (is : map.get known id ≡ Some k) where
+    pub got_ended : (o : Outcome) → AllGot d n (map.insert known id (ended k o)) locked
+    got_ended o = got_set (ended k o) (λ t x e. sym (ap (got_by d t x id (locked id)) is) ∙ e)
+
+    pub got_next : locked id ≡ false → (a : Answer) → AllGot d n (map.insert known id (moved d id k a)) locked
+    got_next unlocked a = got_answered d n known locked (got_still d m n known known locked locked h there_before (λ t x j e. e)) locked id k a (none_out locked id unlocked) is (λ l. absurd (true_false (sym l ∙ unlocked)))

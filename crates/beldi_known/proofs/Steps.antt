@@ -1,0 +1,162 @@
+-- An open transaction goes on: by an answer to the one that can step, by a call of it, or by its return; and by what takes no turn.
+use Rattle.std.proofs.Common.{◌≡◌, inl, inr, ℕ, Bool, true, false, cond, List, [], ◌∷◌, ◌++◌, length, Option, None, Some, refl, ap, sym, ◌∙◌, subst, if◌then◌else◌, is_some}
+use Rattle.std.specs.FinMap as map
+use Rattle.std.specs.FinMap.{FinMap, get-insert}
+use Rattle.std.specs.Ordering.{is_eq}
+use Rattle.beldi_value.specs.Id.{id_cmp, id_total, child_of, has_callees}
+use Rattle.beldi_value.specs.declared.id.IntentId.{IntentId}
+use Rattle.beldi_value.specs.declared.outcome.Cause.{Cause}
+use Rattle.beldi_value.specs.declared.outcome.Outcome.{Outcome}
+use Rattle.beldi_value.specs.declared.place.Caller.{Caller}
+use Rattle.beldi_value.specs.declared.place.TxId.{TxId}
+use Rattle.beldi_value.specs.declared.value.Value.{Value}
+use Rattle.beldi_value.proofs.Callees.{child_same}
+use Rattle.beldi_tree.specs.declared.deployment.Deployment.{Deployment}
+use Rattle.beldi_lang.specs.Callee.{answer_of}
+use Rattle.beldi_lang.specs.declared.effect.Answer.{Answer}
+use Rattle.beldi_lang.specs.declared.effect.Answer.TheVariants as answer
+use Rattle.beldi_lang.specs.declared.effect.Effect.{Effect}
+use Rattle.beldi_lang.specs.declared.effect.Effect.TheVariants as effect
+use Rattle.beldi_plain.specs.Moves.{Move, plain, fell, moved, Leads}
+use Rattle.beldi_plain.specs.Piece.{Going, aborted, dies_at, is_owner, new_member, opened, tx_begun, with_member}
+use Rattle.beldi_plain.specs.Plain.{Instance, PlainState, answered, ended, callee_of, calls_at, effect_of}
+use Rattle.beldi_order.specs.Inside.{IsIn}
+use Rattle.beldi_order.specs.Sane as plain
+use Rattle.beldi_order.proofs.Line.{all_in, callee_in, last_of, returned}
+use Rattle.beldi_order.proofs.Maps.{here, made_set, same_some}
+use Rattle.beldi_order.proofs.Moved.{Items, answer_by, answers_so, calls_so, gone_on, items_by, returns_so}
+use Rattle.beldi_step.specs.Run.{place_of}
+use Rattle.beldi_known.specs.Beside.{OpenTx, begins}
+use Rattle.beldi_known.specs.Known.{Known, answer_at_once, at_once, once, moved as answered_on}
+use Rattle.beldi_known.proofs.AtOnce.{none_of, once_none, once_some}
+use Rattle.beldi_known.proofs.Begins.{aborts_once}
+use Rattle.beldi_known.proofs.Lines.{front_in_tx, line, member}
+use Rattle.beldi_known.proofs.Phases.{begin_is}
+
+-- it is open, this one can step in it, and these are its items
+pub record GoesOn (d : Deployment) (p : PlainState) (known : Known) (o : IntentId) (q : Instance) (front : IntentId) (items : Items) : Type 0 where
+  pub tx : OpenTx d p known o q
+  pub front_is : tx.going.front ≡ front
+  pub items_are : tx.going.state.items ≡ items
+
+leads_more : (d : Deployment) (t : TxId) (s : Going) (ms : List Move) (l r : Going) (m : Move) → Leads d t s ms l → moved d t m l ≡ Some r → Leads d t s (ms ++ m ∷ []) r
+leads_more d t s [] l r m h step = (r, subst (λ z. moved d t m z ≡ Some r) (sym h) step, refl)
+leads_more d t s (n ∷ ms) l r m h step = (h.0, h.1, leads_more d t h.0 ms l r m h.2 step)
+
+-- ---- maps that agree on some
+set_both : (f g : FinMap id_cmp Instance) (k i : IntentId) (z : Instance) → map.get f i ≡ map.get g i → map.get (map.insert f k z) i ≡ map.get (map.insert g k z) i
+set_both f g k i z h = get-insert id_total f k z i ∙ ap (cond (is_eq (id_cmp i k)) (Some z)) h ∙ sym (get-insert id_total g k z i)
+
+set_same : (f : FinMap id_cmp Instance) (k i : IntentId) (z : Instance) → map.get f k ≡ Some z → map.get (map.insert f k z) i ≡ map.get f i
+set_same f k i z is = made_set f k z (λ j u. u ≡ map.get f j) (sym is) (λ j. refl) i
+
+set_again : (f : FinMap id_cmp Instance) (k i : IntentId) (y z : Instance) → map.get (map.insert f k z) i ≡ map.get (map.insert (map.insert f k y) k z) i
+set_again f k i y z = get-insert id_total f k z i ∙ by_test (is_eq (id_cmp i k)) (map.get f i) ∙ sym (get-insert id_total (map.insert f k y) k z i ∙ ap (cond (is_eq (id_cmp i k)) (Some z)) (get-insert id_total f k y i))
+  where
+    by_test : (b : Bool) (o : Option Instance) → cond b (Some z) o ≡ cond b (Some z) (cond b (Some y) o)
+    by_test true o = refl
+    by_test false o = refl
+
+module _ (d : Deployment) (p : PlainState) (o : IntentId) (q : Instance) where
+  next_on : (known after : Known) (tx : OpenTx d p known o q) (m : Move) (r : Going) → moved d (tx_begun o q) m tx.going ≡ Some r → ((i : IntentId) → IsIn (tx_begun o q) i → map.get after i ≡ map.get r.state.made i) → GoesOn d p after o q r.front r.state.items
+  next_on known after tx m r step whole = record {
+    tx = record { moves = tx.moves ++ m ∷ []; going = r; leads = leads_more d (tx_begun o q) (opened p o q) tx.moves tx.going r m tx.leads step; whole = whole };
+    front_is = refl;
+    items_are = refl;
+  }
+
+module _ (d : Deployment) (p : PlainState) (sane : plain.Sane d p) (o : IntentId) (q : Instance) (made : map.get p.made o ≡ Some q) (b : begins d q ≡ true) where
+  module _ (known : Known) (tx : OpenTx d p known o q) where
+    in_it : IsIn (tx_begun o q) tx.going.front
+    in_it = front_in_tx d p known sane o q made b tx
+
+    made_front : (y : Instance) → map.get known tx.going.front ≡ Some y → map.get tx.going.state.made tx.going.front ≡ Some y
+    made_front y is = sym (tx.whole tx.going.front in_it) ∙ is
+
+    -- nobody in it stands at a Begin
+    pub no_begin : (i : IntentId) (z : Instance) → IsIn (tx_begun o q) i → map.get known i ≡ Some z → effect_of d z ≡ effect.Begin → ⊥
+    no_begin i z (inl own) is at = let clash = sym (ap is_some ((member d p known sane o q made b tx i z (inl own) is).owner own).begun) ∙ (begin_is d z z.answers at).1 in cc
+    no_begin i z (inr h) is at = let clash = sym ((member d p known sane o q made b tx i z (inr h) is).below h) ∙ (begin_is d z z.answers at).0 in cc
+
+    answer_on : (y : Instance) → map.get known tx.going.front ≡ Some y → (m : Move) (a : Answer) → answer_by tx.going.front tx.going.state.items y (effect_of d y) m ≡ Some a
+        → GoesOn d p (map.insert known tx.going.front (answered y a)) o q tx.going.front (items_by tx.going.state.items y (effect_of d y) m)
+    answer_on y is m a gives = next_on d p o q known (map.insert known tx.going.front (answered y a)) tx m (gone_on tx.going (items_by tx.going.state.items y (effect_of d y) m) y a)
+        (answers_so d (tx_begun o q) m tx.going y (made_front y is) a gives) (λ i is_in. set_both known tx.going.state.made tx.going.front i (answered y a) (tx.whole i is_in))
+
+    settled : (y : Instance) → map.get known tx.going.front ≡ Some y → y.outcome ≡ None → GoesOn d p (map.insert known tx.going.front (at_once d tx.going.front y)) o q tx.going.front tx.going.state.items
+    settled y is none = by_effect (effect_of d y) refl
+      where
+        i : IntentId
+        i = tx.going.front
+
+        still : answer_at_once tx.going.front (length y.answers) (effect_of d y) ≡ None → GoesOn d p (map.insert known tx.going.front (at_once d tx.going.front y)) o q tx.going.front tx.going.state.items
+        still e = subst (λ z. GoesOn d p (map.insert known tx.going.front z) o q tx.going.front tx.going.state.items) (sym (ap (once d tx.going.front) (once_none d tx.going.front y e) ∙ once_none d tx.going.front y e))
+            (record {
+              tx = record { moves = tx.moves; going = tx.going; leads = tx.leads; whole = λ j is_in. set_same known tx.going.front j y is ∙ tx.whole j is_in };
+              front_is = refl;
+              items_are = refl;
+            })
+
+        by_effect : (e : Effect) → effect_of d y ≡ e → GoesOn d p (map.insert known tx.going.front (at_once d tx.going.front y)) o q tx.going.front tx.going.state.items
+        by_effect effect.Begin at = absurd (no_begin tx.going.front y in_it is at)
+        by_effect effect.Abort at =
+            let c : Cause = record { place = place_of tx.going.front (length y.answers); holder = None } in
+            let a = answer.Aborted c in
+            let first = once_some d tx.going.front y a none (ap (answer_at_once tx.going.front (length y.answers)) at) in
+            let then_none = none_of tx.going.front (length (answered y a).answers) (effect_of d (answered y a)) (aborts_once d y.func y.args (is_some y.within) y.answers c at) in
+            subst (λ z. GoesOn d p (map.insert known tx.going.front z) o q tx.going.front tx.going.state.items) (sym (ap (once d tx.going.front) first ∙ once_none d tx.going.front (answered y a) then_none))
+            (answer_on y is (fell None) a (ap (λ e. if dies_at None e then Some (aborted tx.going.front y None) else None) at))
+        by_effect e at = still (ap (answer_at_once tx.going.front (length y.answers)) at)
+
+  -- .. with what takes no turn
+  then_once : (f : Known) (i : IntentId) (y : Instance) (items : Items) → GoesOn d p (map.insert f i y) o q i items → y.outcome ≡ None → GoesOn d p (map.insert f i (at_once d i y)) o q i items
+  then_once f i y items g none = by_front g.tx.going.front g.front_is (settled (map.insert f i y) g.tx y (ap (map.get (map.insert f i y)) g.front_is ∙ here f i y) none)
+    where
+      by_front : (j : IntentId) → j ≡ i → GoesOn d p (map.insert (map.insert f i y) j (at_once d j y)) o q j g.tx.going.state.items → GoesOn d p (map.insert f i (at_once d i y)) o q i items
+      by_front j same h = let w = subst (λ j. GoesOn d p (map.insert (map.insert f i y) j (at_once d j y)) o q j g.tx.going.state.items) same h in record {
+        tx = record { moves = w.tx.moves; going = w.tx.going; leads = w.tx.leads; whole = λ x is_in. set_again f i x y (at_once d i y) ∙ w.tx.whole x is_in };
+        front_is = w.front_is;
+        items_are = w.items_are ∙ g.items_are;
+      }
+
+  module _ (known : Known) (tx : OpenTx d p known o q) where
+    -- ---- an answer
+    pub goes_answered : (y : Instance) → map.get known tx.going.front ≡ Some y → y.outcome ≡ None → (m : Move) (a : Answer) → answer_by tx.going.front tx.going.state.items y (effect_of d y) m ≡ Some a
+        → GoesOn d p (map.insert known tx.going.front (answered_on d tx.going.front y a)) o q tx.going.front (items_by tx.going.state.items y (effect_of d y) m)
+    goes_answered y is none m a gives = then_once known tx.going.front (answered y a) (items_by tx.going.state.items y (effect_of d y) m) (answer_on known tx y is m a gives) none
+
+    -- ---- a call
+    pub goes_called : (y : Instance) → map.get known tx.going.front ≡ Some y → (f : ℕ) (v : Value) → effect_of d y ≡ effect.Call f v → has_callees tx.going.front ≡ true → map.get known (callee_of tx.going.front y) ≡ None → let c = callee_of tx.going.front y in
+        GoesOn d p (map.insert known c (at_once d c (new_member (tx_begun o q) f v (calls_at tx.going.front y true)))) o q c tx.going.state.items
+    goes_called y is f v call short gone =
+        let t = tx_begun o q in
+        let i = tx.going.front in
+        let c = callee_of i y in
+        let z = new_member t f v (calls_at i y true) in
+        let there = made_front known tx y is in
+        let c_in = callee_in d t tx.going.state.made i y (line d p known sane o q made b tx) there in
+        then_once known c z tx.going.state.items
+        (next_on d p o q known (map.insert known c z) tx plain (with_member t tx.going.state i y f v) (calls_so d t plain tx.going y there f v refl call short (sym (tx.whole c c_in) ∙ gone))
+        (λ j is_in. set_both known tx.going.state.made c j z (tx.whole j is_in))) refl
+
+    -- ---- a return, to who waits
+    pub goes_returned : (z : Instance) → map.get known tx.going.front ≡ Some z → (u : Outcome) (c : Caller) → effect_of d z ≡ effect.Return u → is_owner (tx_begun o q) tx.going.front ≡ false → z.from ≡ Some c
+        → (i : IntentId) (n : ℕ) (y : Instance) → tx.going.front ≡ child_of i n → map.get known i ≡ Some y → GoesOn d p (map.insert (map.insert known tx.going.front (ended z u)) i (answered_on d i y (answer_of u))) o q i tx.going.state.items
+    goes_returned z is u c returns own from i n y called there =
+        let t = tx_begun o q in
+        let f = tx.going.state.made in
+        let j = tx.going.front in
+        let now = made_front known tx z is in
+        let step = returns_so d t plain tx.going z now u c refl returns own from in
+        let w = returned d t plain tx.going _ z now (line d p known sane o q made b tx) (record { plainly = refl; outcome = u; returns = returns; not_owner = own; caller = c; from = from; is = refl }) in
+        let same : w.caller ≡ i = (child_same w.caller i (length w.member.waiter.answers) n (sym w.member.is_callee ∙ called)).0 in
+        let i_in : IsIn t i = subst (IsIn t) same (all_in d t f w.caller w.line) in
+        let waiter : w.member.waiter ≡ y = same_some (sym w.member.waits ∙ ap (map.get f) same ∙ sym (tx.whole i i_in) ∙ there) in
+        let last = last_of d t f w.caller w.line in
+        let none : y.outcome ≡ None = ap (λ (x : Instance). x.outcome) (sym waiter ∙ same_some (sym w.member.waits ∙ last.1)) ∙ last.2 in
+        let over = ended z u in
+        let r : Going = record { state = record { items = tx.going.state.items; made = map.insert (map.insert f j over) i (answered y (answer_of u)) }; front = i } in
+        let led : moved d t plain tx.going ≡ Some r = step ∙ ap (λ x. Some x) (w.is ∙ (λ k. record { state = record { items = tx.going.state.items; made = map.insert (map.insert f j over) (same k) (answered (waiter k) (answer_of u)) }; front = same k })) in
+        then_once (map.insert known j over) i (answered y (answer_of u)) tx.going.state.items
+        (next_on d p o q known (map.insert (map.insert known j over) i (answered y (answer_of u))) tx plain r led
+        (λ x is_in. set_both (map.insert known j over) (map.insert f j over) i x (answered y (answer_of u)) (set_both known f j x over (tx.whole x is_in)))) none

@@ -1,0 +1,252 @@
+-- Who was called in a transaction returns an abort only where it was told one; so where all moves were plain steps, nobody was.
+use Rattle.std.proofs.Common.{◌≡◌, ◌⊎◌, inl, inr, ℕ, zero, suc, ◌+◌, Bool, true, false, List, [], ◌∷◌, ◌++◌, length, Option, Some, None, is_some, Result, Ok, Err, refl, ap, sym, ◌∙◌, subst, arith, if◌then◌else◌}
+use Rattle.std.specs.Prelude.{nat_lt}
+use Rattle.std.specs.FinMap as map
+use Rattle.std.specs.Ordering.{is_eq}
+use Rattle.std.proofs.lemmas.Cmp.{tied_itself}
+use Rattle.beldi_value.specs.Id.{id_total}
+use Rattle.beldi_value.specs.declared.value.Value.TheVariants.{Null}
+use Rattle.beldi_value.specs.declared.outcome.Outcome.{Outcome}
+use Rattle.beldi_value.specs.declared.outcome.Outcome.TheVariants as outcome
+use Rattle.beldi_value.specs.declared.outcome.Code.{Code}
+use Rattle.beldi_value.specs.declared.outcome.Code.TheVariants as code
+use Rattle.beldi_tree.specs.declared.deployment.Deployment.{Deployment}
+use Rattle.beldi_tree.specs.declared.deployment.TableHead.{TableHead}
+use Rattle.beldi_lang.specs.declared.effect.Effect.{Effect}
+use Rattle.beldi_lang.specs.declared.effect.Effect.TheVariants as effect
+use Rattle.beldi_lang.specs.declared.effect.Answer.{Answer}
+use Rattle.beldi_lang.specs.declared.effect.Answer.TheVariants as answer
+use Rattle.beldi_lang.specs.declared.state.HeldLock.{HeldLock}
+use Rattle.beldi_tree.specs.Bindings.{Bindings}
+use Rattle.beldi_tree.specs.Names.{func_at}
+use Rattle.beldi_tree.specs.Evaluate.{and_then, truth, term_value}
+use Rattle.beldi_tree.specs.Command.{Command, Commands, no_commands, command, set, read, write, condwrite, call, async, lock, unlock, transaction, abort, break, choose, repeat, return}
+use Rattle.beldi_lang.specs.Locks.{is_held, without}
+use Rattle.beldi_lang.specs.Wants.{key_value, table_number, func_number, most_effects, Local, Leads, asks, goes, breaks, ends, Does, fault, or_fault, takes, counted, set_to, answered as answer_to, effect_to, locks, unlocks, followed, looped, turns, does, run_block, tables_of, body_of, first_local, releases, effect_of, body}
+use Rattle.beldi_value.specs.declared.outcome.Cause.{Cause}
+use Rattle.beldi_value.specs.declared.place.TxId.{TxId}
+use Rattle.beldi_value.specs.declared.id.IntentId.{IntentId}
+use Rattle.beldi_lang.specs.Callee.{answer_of}
+use Rattle.beldi_plain.specs.Moves.{Move, plain, moved, Leads as LeadsTo, AllPlain}
+use Rattle.beldi_plain.specs.Piece.{Going, is_aborted, is_owner, new_member, opened, tx_begun}
+use Rattle.beldi_plain.specs.Plain as plainly
+use Rattle.beldi_plain.specs.Plain.{Instance, PlainState, answered, callee_of, calls_at, ended}
+use Rattle.beldi_order.specs.Inside.{IsIn, InLine}
+use Rattle.beldi_order.specs.Sane as plain_sane
+use Rattle.beldi_order.proofs.Line.{all_in, line_moved, returned}
+use Rattle.beldi_order.proofs.Maps.{same_some}
+use Rattle.beldi_order.proofs.Moved.{MoveIs, answers, calls, returns, move_is, mover}
+use Rattle.beldi_known.specs.InsideLaws.{last_answer}
+use Rattle.beldi_known.proofs.Falls.{last_is}
+use Rattle.beldi_known.proofs.Lines.{set_cases}
+use Rattle.beldi_known.proofs.Outsides.{plain_none_after}
+use Rattle.beldi_known.proofs.Owns.{plain_lives}
+
+-- ---- of bodies
+abbrev pub Unaborted : List Answer → Type 0
+Unaborted [] = Unit {0}
+Unaborted (a ∷ rest) = (is_aborted a ≡ false) × Unaborted rest
+
+abbrev is_return : Effect → Bool
+is_return (effect.Return o) = true
+is_return e = false
+
+abbrev is_abort : Outcome → Bool
+is_abort (outcome.Aborted c) = true
+is_abort o = false
+
+-- what is left is no abort, and so is what remains of the answers
+abbrev Left : Leads → Type 0
+Left (asks i e) = is_return e ≡ false
+Left (goes s rest) = Unaborted rest
+Left (breaks s rest) = Unaborted rest
+Left (ends o s rest) = (is_abort o ≡ false) × Unaborted rest
+
+abbrev LeftBy : Does → Type 0
+LeftBy f = (s : Local) (rest : List Answer) → Unaborted rest → Left (f s rest)
+
+abbrev LeftResult : Result Does Code → Type 0
+LeftResult (Ok f) = LeftBy f
+LeftResult (Err c) = Unit {0}
+
+if_left : (b : Bool) (l k : Leads) → Left l → Left k → Left (if b then l else k)
+if_left true l k f g = f
+if_left false l k f g = g
+
+counted_left : (f : Does) → LeftBy f → LeftBy (counted f)
+counted_left f h s rest un = if_left (nat_lt s.used most_effects) (f (record s { used = s.used + 1 }) rest) (fault code.Steps s rest) (h (record s { used = s.used + 1 }) rest un) (refl, un)
+
+answered_left : (n : Option (List ℕ)) (a : Answer) → is_aborted a ≡ false → LeftBy (answer_to n a)
+answered_left n answer.Done lives s rest un = un
+answered_left n (answer.Value v) lives s rest un = un
+answered_left n (answer.Fault c) lives s rest un = (refl, un)
+answered_left n (answer.Aborted c) lives s rest un = cc
+
+takes_left : (e : Effect) (n : Option (List ℕ)) (h : Local → Local) → is_return e ≡ false → LeftBy (counted (takes true e (λ a s. answer_to n a (h s))))
+takes_left e n h other = counted_left (takes true e (λ a s. answer_to n a (h s))) by_answers
+  where
+    by_answers : LeftBy (takes true e (λ a s. answer_to n a (h s)))
+    by_answers s [] un = other
+    by_answers s (a ∷ rest) un = answered_left n a un.0 (h s) rest un.1
+
+then_left : {A : Type 0} (r : Result A Code) (f : A → Result Does Code) → ((x : A) → LeftResult (f x)) → LeftResult (and_then r f)
+then_left (Ok x) f h = h x
+then_left (Err c) f h = tt
+
+or_fault_left : (r : Result Does Code) → LeftResult r → LeftBy (or_fault r)
+or_fault_left (Ok f) h s rest un = h s rest un
+or_fault_left (Err c) h s rest un = (refl, un)
+
+followed_left : (f : Does) → LeftBy f → (l : Leads) → Left l → Left (followed f l)
+followed_left f h (asks i e) g = g
+followed_left f h (goes s rest) g = h s rest g
+followed_left f h (breaks s rest) g = g
+followed_left f h (ends o s rest) g = g
+
+looped_left : (f : Does) → LeftBy f → (l : Leads) → Left l → Left (looped f l)
+looped_left f h (asks i e) g = g
+looped_left f h (goes s rest) g = h s rest g
+looped_left f h (breaks s rest) g = g
+looped_left f h (ends o s rest) g = g
+
+turns_left : (f : Does) → LeftBy f → (n : ℕ) → LeftBy (turns f n)
+turns_left f h zero s rest un = un
+turns_left f h (suc n) s rest un = counted_left (λ s rest. looped (turns f n) (f s rest)) (λ s rest un. looped_left (turns f n) (turns_left f h n) (f s rest) (h s rest un)) s rest un
+
+module _ (d : Deployment) (ts : List TableHead) where
+  mutual
+    lefts : (c : Command) (vs : Bindings) → LeftResult (does d ts true c vs)
+    lefts (set l n e) vs = then_left (term_value vs e) (λ v. Ok (λ s. goes (set_to n v s))) (λ v s rest un. un)
+    lefts (read l n t k) vs = then_left (key_value vs k) (λ key. Ok (effect_to true (Some n) (effect.Read (table_number ts t) key))) (λ key. takes_left (effect.Read (table_number ts t) key) (Some n) (λ s. s) refl)
+    lefts (write l t k e) vs =
+        then_left (key_value vs k) (λ key. and_then (term_value vs e) (λ v. Ok (effect_to true None (effect.Write (table_number ts t) key v)))) (λ key.
+        then_left (term_value vs e) (λ v. Ok (effect_to true None (effect.Write (table_number ts t) key v))) (λ v. takes_left (effect.Write (table_number ts t) key v) None (λ s. s) refl))
+    lefts (condwrite l n t k r o e) vs =
+        then_left (key_value vs k) (λ key. and_then (term_value vs o) (λ w. and_then (term_value vs e) (λ v. Ok (effect_to true (Some n) (effect.CondWrite (table_number ts t) key r w v))))) (λ key.
+        then_left (term_value vs o) (λ w. and_then (term_value vs e) (λ v. Ok (effect_to true (Some n) (effect.CondWrite (table_number ts t) key r w v)))) (λ w.
+        then_left (term_value vs e) (λ v. Ok (effect_to true (Some n) (effect.CondWrite (table_number ts t) key r w v))) (λ v. takes_left (effect.CondWrite (table_number ts t) key r w v) (Some n) (λ s. s) refl)))
+    lefts (call l n f e) vs = then_left (term_value vs e) (λ v. Ok (effect_to true (Some n) (effect.Call (func_number d.funcs f) v))) (λ v. takes_left (effect.Call (func_number d.funcs f) v) (Some n) (λ s. s) refl)
+    lefts (async l f e) vs = then_left (term_value vs e) (λ v. Ok (effect_to true None (effect.Async (func_number d.funcs f) v))) (λ v. takes_left (effect.Async (func_number d.funcs f) v) None (λ s. s) refl)
+    lefts (lock l t k) vs = then_left (key_value vs k) (λ key. Ok (locks true (table_number ts t) key)) (λ key s rest un.
+        let h : Local → Local = λ s. record s { held = s.held ++ record { table = table_number ts t; key = key } ∷ [] } in
+        if_left (is_held (table_number ts t) key s.held) (goes s rest) (counted (takes true (effect.Lock (table_number ts t) key) (λ a s. answer_to None a (h s))) s rest) un (takes_left (effect.Lock (table_number ts t) key) None h refl s rest un))
+    lefts (unlock l t k) vs = then_left (key_value vs k) (λ key. Ok (unlocks true (table_number ts t) key)) (λ key s rest un.
+        let h : Local → Local = λ s. record s { held = without (table_number ts t) key s.held } in
+        if_left (is_held (table_number ts t) key s.held) (counted (takes true (effect.Unlock (table_number ts t) key) (λ a s. answer_to None a (h s))) s rest) (goes s rest) (takes_left (effect.Unlock (table_number ts t) key) None h refl s rest un) un)
+    lefts (transaction l b c) vs = lefts_in b
+    lefts (abort l) vs = takes_left effect.Abort None (λ s. s) refl
+    lefts (break l) vs = λ s rest un. un
+    lefts (choose l e b c) vs = then_left (term_value vs e) (λ v. and_then (truth v) (λ test. Ok (if test then run_block d ts true b else run_block d ts true c))) (λ v.
+        then_left (truth v) (λ test. Ok (if test then run_block d ts true b else run_block d ts true c)) (λ test. elim test as (λ t. LeftBy (if t then run_block d ts true b else run_block d ts true c)) [ true ↦ lefts_in b | false ↦ lefts_in c ]))
+    lefts (repeat l n b) vs = turns_left (run_block d ts true b) (lefts_in b) n
+    lefts (return l e) vs = then_left (term_value vs e) (λ v. Ok (ends (outcome.Value v))) (λ v s rest un. (refl, un))
+
+    lefts_in : (b : Commands) → LeftBy (run_block d ts true b)
+    lefts_in no_commands s rest un = un
+    lefts_in (command c cs) s rest un = followed_left (run_block d ts true cs) (lefts_in cs) (or_fault (does d ts true c s.variables) s rest) (or_fault_left (does d ts true c s.variables) (lefts c s.variables) s rest un)
+
+-- its releases return what it was left by
+released_by : (o : Outcome) (hs : List HeldLock) (rest : List Answer) (u : Outcome) → releases o hs rest ≡ effect.Return u → o ≡ u
+released_by o [] rest u h = cc
+released_by o (l ∷ ls) [] u h = cc
+released_by o (l ∷ ls) (a ∷ rest) u h = released_by o ls rest u h
+
+no_abort : (o : Outcome) (c : Cause) → is_abort o ≡ false → o ≡ outcome.Aborted c → ⊥
+no_abort o c h is = let clash = sym h ∙ ap is_abort is in cc
+
+returns_none : (l : Leads) → Left l → (c : Cause) → effect_of l ≡ effect.Return (outcome.Aborted c) → ⊥
+returns_none (asks i e) h c is = let clash = sym h ∙ ap is_return is in cc
+returns_none (goes s rest) h c is = no_abort (outcome.Value Null) c refl (released_by (outcome.Value Null) s.held rest (outcome.Aborted c) is)
+returns_none (breaks s rest) h c is = no_abort (outcome.Value Null) c refl (released_by (outcome.Value Null) s.held rest (outcome.Aborted c) is)
+returns_none (ends o s rest) h c is = no_abort o c h.0 (released_by o s.held rest (outcome.Aborted c) is)
+
+pub no_abort_returned : (d : Deployment) (z : Instance) (t : TxId) (c : Cause) → z.within ≡ Some t → Unaborted z.answers → plainly.effect_of d z ≡ effect.Return (outcome.Aborted c) → ⊥
+no_abort_returned d z t c within un is =
+    let o = func_at d z.func in
+    returns_none (body d o z.args true z.answers) (lefts_in d (tables_of o) (body_of o) (first_local o z.args) z.answers un) c (ap (λ b. effect_of (body d o z.args b z.answers)) (ap is_some (sym within)) ∙ is)
+
+-- ---- of moves
+unaborted_more : (xs : List Answer) (a : Answer) → Unaborted xs → is_aborted a ≡ false → Unaborted (xs ++ a ∷ [])
+unaborted_more [] a h lives = (lives, tt)
+unaborted_more (x ∷ xs) a h lives = (h.0, unaborted_more xs a h.1 lives)
+
+last_lives : (xs : List Answer) (c : Cause) → Unaborted xs → last_answer xs ≡ Some (answer.Aborted c) → ⊥
+last_lives [] c h is = cc
+last_lives (a ∷ []) c h is = let clash = sym h.0 ∙ ap is_aborted (same_some is) in cc
+last_lives (a ∷ b ∷ rest) c h is = last_lives (b ∷ rest) c h.1 is
+
+module _ (d : Deployment) (t : TxId) where
+  -- the owner was told of no abort last, and nobody else of any
+  abbrev pub Lives : IntentId → Instance → Type 0
+  Lives i z = ((i ≡ t.intent) × ((c : Cause) → last_answer z.answers ≡ Some (answer.Aborted c) → ⊥)) ⊎ Unaborted z.answers
+
+  abbrev pub AllLive : Going → Type 0
+  AllLive s = (i : IntentId) (z : Instance) → IsIn t i → map.get s.state.made i ≡ Some z → Lives i z
+
+  lives_on : (i : IntentId) (z : Instance) (a : Answer) → is_aborted a ≡ false → Lives i z → Lives i (answered z a)
+  lives_on i z a lives (inl own) = inl (own.0, λ c is. let clash = sym lives ∙ ap is_aborted (same_some (sym (last_is z.answers a) ∙ is)) in cc)
+  lives_on i z a lives (inr un) = inr (unaborted_more z.answers a un lives)
+
+  outcome_lives : (o : Outcome) → ((c : Cause) → o ≡ outcome.Aborted c → ⊥) → is_aborted (answer_of o) ≡ false
+  outcome_lives (outcome.Value v) none = refl
+  outcome_lives (outcome.Fault c) none = refl
+  outcome_lives (outcome.Aborted c) none = absurd (none c refl)
+
+  lives_moved : (s r : Going) → InLine d t s → moved d t plain s ≡ Some r → AllLive s → AllLive r
+  lives_moved s r line step h = let z = mover d t plain s r step in by_kind z.0 z.1 (move_is d t plain s z.0 r z.1 step)
+    where
+      front_in : IsIn t s.front
+      front_in = all_in d t s.state.made s.front line
+
+      by_kind : (z : Instance) → map.get s.state.made s.front ≡ Some z → MoveIs d t plain s r z → AllLive r
+      by_kind z made (answers a) = subst AllLive (sym a.is) (λ i w is_in has. elim (set_cases s.state.made s.front i (answered z a.answer) w has) [
+        | inl same ↦ subst (Lives i) same.1 (subst (λ i. Lives i (answered z a.answer)) (sym same.0) (lives_on s.front z a.answer (plain_lives s.state.items z.func (plainly.effect_of d z) a.answer a.gives_it) (h s.front z front_in made)))
+        | inr other ↦ h i w is_in other.1
+      ])
+      by_kind z made (calls c) = subst AllLive (sym c.is) (λ i w is_in has. elim (set_cases s.state.made (callee_of s.front z) i (new_member t c.func c.args (calls_at s.front z true)) w has) [
+        | inl same ↦ subst (Lives i) same.1 (inr tt)
+        | inr other ↦ h i w is_in other.1
+      ])
+      by_kind z made (returns e) =
+          let u = returned d t plain s r z made line e in
+          let over = map.insert s.state.made s.front (ended z e.outcome) in
+          let within : z.within ≡ Some t = ap (λ (x : Instance). x.within) (same_some (sym made ∙ u.member.made)) ∙ u.member.within in
+          let mine = elim (h s.front z front_in made) as (λ o. Unaborted z.answers) [
+            | inl own ↦ let clash = sym e.not_owner ∙ ap (is_owner t) own.0 ∙ ap is_eq (tied_itself id_total t.intent) in cc
+            | inr un ↦ un
+          ] in
+          let lives = outcome_lives e.outcome (λ c is. no_abort_returned d z t c within mine (e.returns ∙ ap effect.Return is)) in
+          subst AllLive (sym u.is) (λ i w is_in has. elim (set_cases over u.caller i (answered u.member.waiter (answer_of e.outcome)) w has) [
+            | inl same ↦ subst (Lives i) same.1 (subst (λ i. Lives i (answered u.member.waiter (answer_of e.outcome))) (sym same.0) (lives_on u.caller u.member.waiter (answer_of e.outcome) lives (h u.caller u.member.waiter (all_in d t s.state.made u.caller u.line) u.member.waits)))
+            | inr other ↦ elim (set_cases s.state.made s.front i (ended z e.outcome) w other.1) [
+              | inl same ↦ subst (Lives i) same.1 (inr mine)
+              | inr apart ↦ h i w is_in apart.1
+            ]
+          ])
+
+  lives_led : (s : Going) (moves : List Move) (l : Going) → InLine d t s → AllPlain moves → LeadsTo d t s moves l → AllLive s → AllLive l
+  lives_led s [] l line plains leads h = subst AllLive leads h
+  lives_led s (m ∷ ms) l line plains leads h =
+      let step : moved d t plain s ≡ Some leads.0 = ap (λ w. moved d t w s) (sym plains.0) ∙ leads.1 in
+      lives_led leads.0 ms l (line_moved d t plain s leads.0 line step) plains.1 leads.2 (lives_moved s leads.0 line step h)
+
+-- so where nothing was aborted its owner was told of no abort last
+pub owner_lives : (d : Deployment) (p : PlainState) → plain_sane.Sane d p → (id : IntentId) (q : Instance) → map.get p.made id ≡ Some q → (moves : List Move) (l : Going) → InLine d (tx_begun id q) (opened p id q) → AllPlain moves → LeadsTo d (tx_begun id q) (opened p id q) moves l
+    → (k : Instance) → map.get l.state.made id ≡ Some k → (c : Cause) → last_answer k.answers ≡ Some (answer.Aborted c) → ⊥
+owner_lives d p legal id q made moves l line plains leads k is c told = elim (lives_led d t (opened p id q) moves l line plains leads at_first id k (inl refl) is) [
+  | inl own ↦ own.1 c told
+  | inr un ↦ last_lives k.answers c un told
+]
+  where
+    t : TxId
+    t = tx_begun id q
+
+    at_first : AllLive d (tx_begun id q) (opened p id q)
+    at_first i z is_in has = elim (set_cases p.made id i (answered q answer.Done) z has) [
+      | inl same ↦ inl (same.0, λ c is. let clash = ap is_aborted (same_some (sym (last_is q.answers answer.Done) ∙ ap (λ (y : Instance). last_answer y.answers) same.1 ∙ is)) in cc)
+      | inr other ↦ absurd (elsewhere_none is_in other.0 other.1)
+    ]
+      where
+        elsewhere_none : IsIn (tx_begun id q) i → (i ≡ id → ⊥) → map.get p.made i ≡ Some z → ⊥
+        elsewhere_none (inl own) apart there = apart own
+        elsewhere_none (inr b) apart there = let clash = sym there ∙ plain_none_after d p legal (tx_begun id q) (λ y same. let l = ap (λ (w : Instance). length w.answers) (same_some (sym same ∙ made)) in omega (arith, l)) i b in cc
