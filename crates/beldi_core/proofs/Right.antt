@@ -40,6 +40,7 @@ use Rattle.beldi_plain.specs.Legal.{IsLegal, run_of}
 use Rattle.beldi_plain.specs.Listing.{listing_of}
 use Rattle.beldi_row.proofs.Tells.{tells_map}
 use Rattle.beldi_core.specs.Right.{EndsLate, RowsStandFor, HasNoRows, HasNoReply, SaidOf}
+use Rattle.beldi_known.specs.Matches.{has_ended}
 use Rattle.beldi_known.specs.Rows.{IntentMatches, BodyMatches}
 
 -- ---- what is told
@@ -124,10 +125,10 @@ module _ (d : Deployment) (c : Core) (m : Rows) (h : Right d c m) (t : ℕ) wher
 
   -- a reply that is known is the plain one
   reply_known : reply_of h.plain t ≡ outcome_of (map.get h.known (root_of t))
-  reply_known = sym (outcome_known d h.plain h.known h.beside (root_of t))
+  reply_known = sym (outcome_known d h.plain h.known h.beside h.uncalled (root_of t))
 
   absent : map.get m (root_key t) ≡ None → HasNoReply d c.book t
-  absent is = no_reply (reply_known ∙ ap outcome_of (subst (λ (r : Option Row). IntentMatches true 0 r (map.get h.known (root_of t))) is (h.rows.keys (root_key t))))
+  absent is = no_reply (reply_known ∙ ap outcome_of (subst (λ (r : Option Row). IntentMatches (has_ended d h.known) true 0 r (map.get h.known (root_of t))) is (h.rows.keys (root_key t))))
 
   by_body : (b : Option Body) (o : Option Outcome) → (b ≡ None → o ≡ None) → BodyMatches b o (map.get h.known (root_of t)) → SaidOf d c.book t (outcome_seen o)
   by_body None None bare root = no_reply (reply_known ∙ ap outcome_of root)
@@ -135,7 +136,7 @@ module _ (d : Deployment) (c : Core) (m : Rows) (h : Right d c m) (t : ℕ) wher
   by_body (Some b) None bare root = no_reply (reply_known ∙ ap outcome_of root.0.made ∙ root.1)
   by_body (Some b) (Some o) bare root = record { run = h.plain; legal = h.legal; reply = reply_known ∙ ap outcome_of root.0.made ∙ root.1 }
 
-  by_row : (r : Option Row) → is_some r ≡ true → IntentMatches true 0 r (map.get h.known (root_of t)) → SaidOf d c.book t (row_seen r)
+  by_row : (r : Option Row) → is_some r ≡ true → IntentMatches (has_ended d h.known) true 0 r (map.get h.known (root_of t)) → SaidOf d c.book t (row_seen r)
   by_row None there root = cc
   by_row (Some (Intent i)) there root = by_body i.body i.outcome root.bare root.body
   by_row (Some r) there root = absurd root

@@ -27,11 +27,11 @@ use Rattle.beldi_order.specs.Txs.{Txs, effect_after, end_of, is_at, or_own, tx_a
 use Rattle.beldi_order.proofs.Maps.{same_some}
 use Rattle.beldi_order.proofs.Went.{txs_pushed}
 use Rattle.beldi_known.specs.Acts.{Told, died, held, lock_on, lock_or, noted_or, with_note}
-use Rattle.beldi_known.specs.Beside.{Beside, is_begin}
+use Rattle.beldi_known.specs.Beside.{is_begin}
 use Rattle.beldi_known.specs.Contents.{content_of, is_owner}
 use Rattle.beldi_known.specs.Known.{Known, ended_by, got_before, got_by, is_item, is_on, is_tx}
 use Rattle.beldi_known.specs.Matches.{Matches}
-use Rattle.beldi_known.proofs.Frame.{ended_stays}
+use Rattle.beldi_order.proofs.Ends.{ended_stays}
 use Rattle.beldi_known.proofs.Locks.{tx_same}
 use Rattle.beldi_known.proofs.OneFunction.{Own, own, own_by}
 use Rattle.beldi_known.proofs.Owners.{her_own}
@@ -113,8 +113,8 @@ module _ (d : Deployment) (m : Rows) (known : Known) (locked : IntentId → Bool
           record { instance = z; made = ap (map.get known) mine ∙ e; got = subst (λ y. got_by d t x y (locked y) (Some z) ≡ true) (sym mine) g }
 
   -- so who owns an item was made
-  pub holder_made : (p : PlainState) → Beside d p known → (x : Item) (holder : IntentId) → Holder (content_of m x).owner holder → is_some (map.get p.made holder) ≡ true
-  holder_made p beside x holder h = by_plain (map.get p.made holder) refl
+  pub holder_made : (p : PlainState) → ((j : IntentId) → is_some (map.get known j) ≡ true → is_some (map.get p.made j) ≡ true) → (x : Item) (holder : IntentId) → Holder (content_of m x).owner holder → is_some (map.get p.made holder) ≡ true
+  holder_made p made x holder h = made holder (subst (λ j. is_some (map.get known j) ≡ true) h.age (known_there h.owner h.owns))
     where
       held_there : (o : Option Instance) → holds d x o ≡ true → is_some o ≡ true
       held_there None e = cc
@@ -123,10 +123,6 @@ module _ (d : Deployment) (m : Rows) (known : Known) (locked : IntentId → Bool
       known_there : (w : Owner) → (content_of m x).owner ≡ Some w → is_some (map.get known (age_of w)) ≡ true
       known_there (Intent j) owned = held_there (map.get known j) (sym ((rows.items x).owner j) ∙ ap (λ o. is_owner o (Intent j)) owned ∙ her_own j)
       known_there (Tx t) owned = ap is_some (owns_so t x owned).made
-
-      by_plain : (o : Option Instance) → map.get p.made holder ≡ o → is_some o ≡ true
-      by_plain None e = let there = subst (λ j. is_some (map.get known j) ≡ true) h.age (known_there h.owner h.owns) in let clash = sym (ap is_some (beside.none holder e)) ∙ there in cc
-      by_plain (Some q) e = refl
 
   -- ---- an instance at an operation inside, that owns nothing past its ends
   module _ (id : IntentId) (q : Instance) (made : map.get known id ≡ Some q) (s : TxId) (now : tx_now d id q ≡ Some s) (apart : is_begin (effect_of d q) ≡ false) (released : Released d m known id (length q.answers)) where

@@ -1,5 +1,5 @@
 -- The turns of a call that nobody waits for: it is opened once, its callee's row is put, and then it is marked as registered.
-use Rattle.std.proofs.Common.{◌≡◌, ℕ, Bool, true, false, List, [], ◌∷◌, ◌++◌, if◌then◌else◌, Option, None, Some, refl, ap, sym, ◌∙◌, subst, is_some, length, append_assoc}
+use Rattle.std.proofs.Common.{◌≡◌, inl, ℕ, Bool, true, false, List, [], ◌∷◌, ◌++◌, if◌then◌else◌, Option, None, Some, refl, ap, sym, ◌∙◌, subst, is_some, length, append_assoc}
 use Rattle.std.specs.FinMap as map
 use Rattle.beldi_book.specs.declared.entry.Entry.TheVariants.{Step}
 use Rattle.beldi_book.specs.declared.entry.Entry.{Entry}
@@ -25,7 +25,7 @@ use Rattle.beldi_laws.proofs.Turns.{effect_here, goes_on, replays, at_another, a
 use Rattle.beldi_order.proofs.Entries.{grows_through}
 use Rattle.beldi_order.proofs.Maps.{same_some, elsewhere, here}
 use Rattle.beldi_order.specs.Grown.{Grows}
-use Rattle.beldi_plain.specs.Plain.{effect_before, PlainState, callee_of, Instance, effect_of, new_instance, calls_at, step_by, with_callee}
+use Rattle.beldi_plain.specs.Plain.{effect_before, PlainState, callee_of, Instance, effect_of, new_instance, calls_at, step_by}
 use Rattle.beldi_plain.specs.Operation.{op_of}
 use Rattle.beldi_row.specs.Act.{Tell, act}
 use Rattle.beldi_row.specs.Table.{Rows, set_row, after_act}
@@ -129,7 +129,7 @@ module _ (d : Deployment) (c : Core) (m : Rows) (i : ℕ) (r : Run) (g : Begun) 
     settled_so = settled_outside d m state given r.id k.instance caller_given Done outside (callee_settled d c m i r g h live k finds out false f v is new left state (call_entered d c m i r g h live k finds out false f v is new left hops next).grows)
 
     rows_opened : Matches d (set_row m key row) next h.locked
-    rows_opened = call_answered d given h.locked r.id k.instance (moved d r.id k.instance Done) Done caller_given unlocked outside (ap commit_in now) (moved_one d r.id k.instance Done)
+    rows_opened = call_answered d given h.locked r.id k.instance (moved d r.id k.instance Done) Done caller_given unlocked (inl outside) (ap commit_in now) (moved_one d r.id k.instance Done)
         (ap op_of now) (ap (λ e. row_added (length k.instance.answers) (txs_after d k.instance k.instance.answers).begun e Done) now ∙ no_row (length k.instance.answers) (txs_after d k.instance k.instance.answers).begun) (set_row m key row)
         (callee_row d c m i r g h live k finds out false f v is new left)
       where
@@ -145,7 +145,8 @@ module _ (d : Deployment) (c : Core) (m : Rows) (i : ℕ) (r : Run) (g : Begun) 
         let frame = log_frame d m key row refl (λ e. refl) h.plain state h.known next refl in
         kept_by d c m (set_row m key row) h state next h.locked
         (record {
-          goes = goes_answered_then h (set_row m key row) (log_shadows d m key row refl (λ e. refl)) (with_callee h.plain r.id k.instance f v false) given (callee_goes d c m i r g h live k finds out false f v is new left) r.id k.instance Done k.made caller_given unlocked (outside_after d c.book h.known r g k out left Done);
+          goes = goes_answered_then h (set_row m key row) (log_shadows d m key row refl (λ e. refl)) r.id k.instance Done k.made unlocked (λ e. let clash = sym now ∙ e in cc) (outside_after d c.book h.known r g k out left Done) made_id refl
+              (new_instance f v (Some (calls_at r.id k.instance false))) (at_once d made_id (new_instance f v (Some (calls_at r.id k.instance false)))) caller_given (callee_goes d c m i r g h live k finds out false f v is new left);
           locked_at_ends = ahead_set d given h.locked (callee_ahead d c m i r g h live k finds out false f v is new left) h.locked r.id (moved d r.id k.instance Done) (none_out h.locked r.id unlocked);
           sane = sent_kept d h.known h.sane r.id k.instance f v k.made outside now (absent_here d c m i r g h live k finds out false f v is new left);
           rows = rows_opened;

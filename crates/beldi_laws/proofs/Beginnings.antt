@@ -35,11 +35,11 @@ use Rattle.beldi_tree.specs.declared.deployment.Func.{Func}
 use Rattle.beldi_value.specs.Id.{has_no_hops}
 use Rattle.beldi_value.specs.declared.id.IntentId.{IntentId}
 use Rattle.beldi_walk.specs.Query.{said}
+use Rattle.beldi_known.specs.Matches.{has_ended}
 use Rattle.beldi_known.specs.Rows.{IntentMatches, IsBodyOf}
 use Rattle.beldi_laws.specs.Right.{Right, KnowsBody}
 use Rattle.beldi_laws.proofs.Shown.{legal_sane}
 use Rattle.beldi_laws.proofs.Keeping.{as_it_was}
-use Rattle.beldi_laws.proofs.Outside.{called_outside}
 use Rattle.beldi_laws.proofs.Registered.{callee_registered, log_stays}
 
 -- ---- rows of callees are no rows of roots
@@ -80,10 +80,10 @@ module _ (d : Deployment) (c : Core) (m : Rows) (i : ℕ) (r : Run) (h : Right d
       by_end true = tt
       by_end false = made_in j.body f.body
 
-  made_told : (home : ℕ) (w : Option Row) → IntentMatches (has_no_hops r.id.hops) home w (map.get h.known r.id) → MadeWith (body_told r.func (said (act Look c.now w).1))
+  made_told : (home : ℕ) (w : Option Row) → IntentMatches (has_ended d h.known) (has_no_hops r.id.hops) home w (map.get h.known r.id) → MadeWith (body_told r.func (said (act Look c.now w).1))
   unfolding MadeWith
   made_told home None f = tt
-  made_told home (Some (rows.Intent j)) f = made_open j (row_of (has_no_hops r.id.hops) home j (map.get h.known r.id) f)
+  made_told home (Some (rows.Intent j)) f = made_open j (row_of (has_ended d h.known) (has_no_hops r.id.hops) home j (map.get h.known r.id) f)
   made_told home (Some w) f = tt
 
   begins : (n : Rows) → SameRoots m n → Stays h n → (f : Option Func) (b : Option Body) → MadeWith b → AfterTurn d h.plain c i r (begin_in d r f b) n
@@ -94,7 +94,7 @@ module _ (d : Deployment) (c : Core) (m : Rows) (i : ℕ) (r : Run) (h : Right d
       let s : Machine × Option OpenTx = (machine_begun d r.func b.args false, None) in
       let j = made.0.instance in
       let body = made.0.body in
-      let outside = called_outside d h.plain h.known h.beside r.id j made.0.made (legal_sane h) in
+      let outside = h.uncalled r.id j made.0.made in
       comes_to d c m n i r h live roots h.known h.locked s b.from
       (knows_next d c.book n h.plain h.known h.locked kept.shows (legal_sane h) r b.from j made.0.made (sym (ap (λ z. z.func) body) ∙ made.1) (ap (λ z. z.from) body) [] s (record { later = j.answers; all = refl })
       (record { machine = subst (λ t. IsAt d r.func j.args (is_some t) s.0 []) (sym outside) (subst (λ a. IsAt d r.func a false s.0 []) (ap (λ z. z.args) body) (at_begin d r.func b.args false)); open_there = refl })
@@ -119,7 +119,7 @@ module _ (d : Deployment) (c : Core) (m : Rows) (i : ℕ) (r : Run) (h : Right d
         begins (set_row m key new) (same_roots m b.func r.id new k.callee) (log_stays d m key new refl (λ e. refl) c h (callee_registered d m h.known h.locked r.id b c.now k.callee k.body h.rows at)) (func_at d r.func) (body_in r.func (Some b)) (made_in (Some b) (λ x e. subst (λ z. IsBodyOf z (map.get h.known r.id)) (same_some e) k.body))
     by_row (Some w) at =
         let found = body_told r.func (said (act Look c.now (Some w)).1) in
-        still d h.plain m key (Some w) (sym at) (begins m (λ t. refl) (as_it_was h) (func_at d r.func) found (made_told b.func (Some w) (subst (λ z. IntentMatches (has_no_hops r.id.hops) b.func z (map.get h.known r.id)) at (h.rows.keys key))))
+        still d h.plain m key (Some w) (sym at) (begins m (λ t. refl) (as_it_was h) (func_at d r.func) found (made_told b.func (Some w) (subst (λ z. IntentMatches (has_ended d h.known) (has_no_hops r.id.hops) b.func z (map.get h.known r.id)) at (h.rows.keys key))))
 
     pub register_turn : AfterQuery d h.plain c.now m (λ t. turn_next c i r (begin_in d r (func_at d r.func) (body_registered r.func b t))) (register_asks r.id b)
     register_turn = subst (λ z. AfterAct d h.plain m z (λ t. turn_next c i r (begin_in d r (func_at d r.func) (body_registered r.func b t))) (act (Register b) c.now (map.get m z))) own (by_row (map.get m key) refl)

@@ -1,15 +1,14 @@
 -- What is called at a step, and what a run knows of it.
-use Rattle.std.proofs.Common.{◌≡◌, ℕ, Bool, true, false, List, [], ◌∷◌, if◌then◌else◌, Option, None, Some, refl, ap, sym, ◌∙◌, subst, is_some, zero, suc, arith, length, eq-eqb, ◌<◌, IsTrue}
+use Rattle.std.proofs.Common.{◌≡◌, ℕ, Bool, true, false, List, [], ◌∷◌, if◌then◌else◌, Option, None, Some, refl, ap, sym, ◌∙◌, subst, is_some, zero, suc, arith, length, eq-eqb, ◌<◌, ◌&&◌, length-append, IsTrue}
 use Rattle.std.specs.FinMap as map
-use Rattle.std.specs.Option.{option_map}
+use Rattle.std.specs.Option.{is_none, option_map}
 use Rattle.std.specs.Prelude.{slice_get}
 use Rattle.beldi_book.specs.declared.entry.Entry.{Entry}
 use Rattle.beldi_book.specs.declared.entry.Entry.TheVariants.{Step}
 use Rattle.beldi_lang.specs.declared.effect.Answer.{Answer}
-use Rattle.beldi_lang.specs.declared.effect.Effect.TheVariants.{Call}
+use Rattle.beldi_lang.specs.declared.effect.Effect.TheVariants.{Call, End}
 use Rattle.beldi_lang.specs.declared.effect.Effect.{Effect}
 use Rattle.beldi_lang.specs.Wants.{wants_answer}
-use Rattle.beldi_laws.proofs.Decisions.{goes_one, fresh_next}
 use Rattle.beldi_laws.proofs.Keeping.{SameShadows, goes_made, set_shadows}
 use Rattle.beldi_laws.proofs.Moves.{Entered, change_entered}
 use Rattle.beldi_laws.proofs.Frames.{settled_grown, settled_new}
@@ -21,6 +20,7 @@ use Rattle.beldi_order.proofs.Maps.{same_some, here, elsewhere}
 use Rattle.beldi_order.specs.Grown.{Grows}
 use Rattle.beldi_order.specs.Sane.{call_of, answer_given, IsCalled, CalledBy}
 use Rattle.beldi_plain.specs.Guard.{touched_by, item_touched}
+use Rattle.beldi_plain.specs.Piece.{tx_begun}
 use Rattle.beldi_plain.specs.Plain.{effect_before, effect_of, Instance, kind_of, new_instance, calls_at, callee_of, step_by, waits_at, with_callee, with_instance, answered, PlainState}
 use Rattle.beldi_plain.specs.declared.kind.Kind.TheVariants as kind
 use Rattle.beldi_row.specs.Table.{Rows, set_row}
@@ -52,10 +52,9 @@ use Rattle.beldi_known.proofs.Calls.{call_opened, made_owes}
 use Rattle.beldi_laws.proofs.Outside.{plain_none}
 use Rattle.beldi_known.proofs.Instances.{no_own_callee}
 use Rattle.beldi_known.specs.InsideLaws.{Goes}
-use Rattle.beldi_known.specs.Shadows.{tx_of}
-use Rattle.beldi_known.proofs.Answers.{true_false}
-use Rattle.beldi_known.proofs.Opened.{IsOutside}
-use Rattle.beldi_known.proofs.Shadows.{got_answered}
+use Rattle.beldi_known.proofs.NoTx.{IsOutside}
+use Rattle.beldi_known.proofs.Outsides.{MaySet, callee_apart, goes_one, got_next, set_after_callee, set_next}
+use Rattle.beldi_known.specs.Beside.{begins, is_begin}
 use Rattle.beldi_invokelog.specs.InvokeLog.{invoke_key, opened}
 use Rattle.beldi_row.specs.declared.row.Row.TheVariants as rows
 
@@ -182,7 +181,7 @@ call_row d known locked ends sane id i f v waits is new m step func steps func_i
     let same = at_once_same d (callee_of id i) s in
     subst (λ n. Matches d (set_row m (invoke_key func (place_of id n)) (Some (rows.Invoke (opened f)))) (map.insert known (callee_of id i) z) locked) (sym steps)
     (subst (λ g. Matches d (set_row m (invoke_key g (place_of id (length i.answers))) (Some (rows.Invoke (opened f)))) (map.insert known (callee_of id i) z) locked) func_is
-    (call_opened d known locked id i z waits is new (childless d known sane (callee_of id i) new) (unlocked_absent d known locked ends (callee_of id i) new) (made_owes d known (callee_of id i) f v (Some (calls_at id i waits))) (sym (ap (λ (b : Body). b.from) same.body)) same.outcome m (opened f) (sym same.func) refl h))
+    (call_opened d known locked id i z waits is new (childless d known sane (callee_of id i) new) (unlocked_absent d known locked ends (callee_of id i) new) (made_owes d known (callee_of id i) f v (Some (calls_at id i waits)) None) (sym (ap (λ (b : Body). b.from) same.body)) same.outcome m (opened f) (sym same.func) refl h))
 
 -- .. now: it is the instance's next step
 module _ (d : Deployment) (c : Core) (m : Rows) (i : ℕ) (r : Run) (g : Begun) (h : Right d c m) (live : map.get c.runs i ≡ Some r) (k : Knows d c.book h.known r g) (finds : Inside d m h.plain h.known r g) (out : tx_after d r.id k.instance k.answers ≡ None)
@@ -215,6 +214,17 @@ module _ (d : Deployment) (c : Core) (m : Rows) (i : ℕ) (r : Run) (g : Begun) 
   pub caller_there : map.get given r.id ≡ Some k.instance
   caller_there = elsewhere h.known made_id r.id (at_once d made_id made_new) (no_own_callee r.id (length k.instance.answers)) ∙ k.made
 
+  there : map.get h.plain.made r.id ≡ Some k.instance
+  there = plain_there d c m i r g h live k finds out (call_of w f v) is left
+
+  no_begin : begins d k.instance ≡ false
+  no_begin = ap (λ e. is_none k.instance.outcome && is_begin e) call_now ∙ by_outcome k.instance.outcome w
+    where
+      by_outcome : (o : Option Outcome) (b : Bool) → (is_none o && is_begin (call_of b f v)) ≡ false
+      by_outcome None true = refl
+      by_outcome None false = refl
+      by_outcome (Some u) b = refl
+
   -- its step is entered, where its id has callees
   pub call_entered : has_callees r.id ≡ true → (next : Known) → Entered d c h.plain h.known (Step r.id) (step_by h.plain r.id k.instance (call_of w f v)) next
   call_entered hops next = change_entered d c m h (Step r.id) (step_by h.plain r.id k.instance (call_of w f v)) next refl
@@ -222,9 +232,6 @@ module _ (d : Deployment) (c : Core) (m : Rows) (i : ℕ) (r : Run) (g : Begun) 
       (ap (kind_of r.id) call_now ∙ is_change w) ∙ ap (λ z. Some (step_by h.plain r.id k.instance z)) call_now)
       (λ x touched. let none = sym (ap (touched_by d) there ∙ ap (item_touched k.instance) call_now ∙ touches w) ∙ touched in cc)
     where
-      there : map.get h.plain.made r.id ≡ Some k.instance
-      there = plain_there d c m i r g h live k finds out (call_of w f v) is left
-
       wants_one : (b : Bool) → IsTrue (wants_answer (call_of b f v))
       wants_one true = refl
       wants_one false = refl
@@ -243,7 +250,8 @@ module _ (d : Deployment) (c : Core) (m : Rows) (i : ℕ) (r : Run) (g : Begun) 
 
   -- the callee is made in both, and its row is put
   pub callee_goes : Goes d opened_rows (with_callee h.plain r.id k.instance f v w) given h.locked
-  callee_goes = goes_made h opened_rows (set_shadows m (invoke_key r.func (place_of r.id g.machine.steps)) (Some (rows.Invoke (opened f))) refl) made_id made_new absent_here (refl, refl)
+  callee_goes = goes_made h opened_rows (set_shadows m (invoke_key r.func (place_of r.id g.machine.steps)) (Some (rows.Invoke (opened f))) refl) made_id made_new absent_here refl (refl, refl)
+      (callee_apart d h.plain (legal_sane h) r.id k.instance (length k.instance.answers) there no_begin)
 
   pub callee_row : Matches d opened_rows given h.locked
   callee_row = call_row d h.known h.locked h.locked_at_ends h.sane r.id k.instance f v w k.made absent_here m g.machine.steps r.func steps k.func h.rows
@@ -253,15 +261,19 @@ module _ (d : Deployment) (c : Core) (m : Rows) (i : ℕ) (r : Run) (g : Begun) 
   callee_ahead = ahead_set d h.known h.locked h.locked_at_ends h.locked made_id (at_once d made_id made_new) (none_out h.locked made_id (unlocked_absent d h.known h.locked h.locked_at_ends made_id absent_here))
 
   pub callee_settled : (p : PlainState) → Grows h.plain.made p.made → Settled d m p given
-  callee_settled p grows = settled_new d m p h.known made_id made_new refl (settled_grown d m h.plain p h.known grows (settled h))
+  callee_settled p grows = settled_new d m p h.known made_id made_new refl refl (settled_grown d m h.plain p h.known grows (settled h))
 
   pub callee_grows : Grows h.known given
   callee_grows = grows_new h.known made_id (at_once d made_id made_new) absent_here
 
--- ---- one instance was set, and then another is answered, that stays outside or begins: no shadow was made in between
-pub goes_answered_then : {d : Deployment} {c : Core} {m : Rows} (h : Right d c m) (n : Rows) → SameShadows m n → (p : PlainState) (known : Known) → Goes d n p known h.locked → (id : IntentId) (k : Instance) (a : Answer) → map.get h.known id ≡ Some k → map.get known id ≡ Some k → h.locked id ≡ false
-    → IsOutside d (answered k a) (answered k a).answers → Goes d n (with_instance p id (answered k a)) (map.insert known id (moved d id k a)) h.locked
-goes_answered_then {d} {c} {m} h n same p known goes id k a was is unlocked out =
-    goes_one d n p known h.locked goes.shadows goes.beside id (answered k a) out
-    (λ b x. same (tx_of id (answered k a)) x ∙ fresh_next d m h.plain h.known h.locked h.shadows h.beside h.sane h.rows (legal_sane h) n same id k was a out b x) n (λ t x. refl)
-    (got_answered d n known h.locked goes.shadows.got h.locked id k a (none_out h.locked id unlocked) is (λ l. absurd (true_false (sym l ∙ unlocked))))
+-- ---- a callee was set, and then its caller is answered, that stays outside or begins: no shadow was made in between
+pub goes_answered_then : {d : Deployment} {c : Core} {m : Rows} (h : Right d c m) (n : Rows) → SameShadows m n → (id : IntentId) (k : Instance) (a : Answer) → map.get h.known id ≡ Some k → h.locked id ≡ false → (effect_of d k ≡ End true → ⊥) → IsOutside d (answered k a) (answered k a).answers
+    → (callee : IntentId) → callee ≡ callee_of id k → (z y : Instance) → let p : PlainState = with_instance h.plain callee z in let known : Known = map.insert h.known callee y in map.get known id ≡ Some k → Goes d n p known h.locked
+    → Goes d n (with_instance p id (answered k a)) (map.insert known id (moved d id k a)) h.locked
+goes_answered_then {d} {c} {m} h n same id k a was unlocked no_end out callee is_callee z y is goes =
+    let more = length-append k.answers (a ∷ []) in
+    let both = set_after_callee d m n h.plain h.known id (answered k a) (set_next d m h.plain h.known h.locked h.shadows h.beside h.sane h.rows (legal_sane h) id k was a out no_end) (same (tx_begun id (answered k a))) (length k.answers) z y (omega (arith, more)) in
+    let p = with_instance h.plain callee z in
+    let known = map.insert h.known callee y in
+    goes_one d n p known h.locked goes.shadows goes.beside id (answered k a) (subst (λ i. MaySet d n (with_instance h.plain i z) (map.insert h.known i y) id (answered k a)) (sym is_callee) both) n (λ t x. refl)
+    (got_next d n known h.locked goes.shadows.got n (λ t x. refl) id k is unlocked a)

@@ -8,7 +8,6 @@ use Rattle.beldi_lang.specs.Callee.{answer_of}
 use Rattle.beldi_lang.specs.declared.effect.Answer.{Answer}
 use Rattle.beldi_lang.specs.declared.effect.Effect.TheVariants.{Return, Call}
 use Rattle.beldi_laws.proofs.Beginnings.{same_roots}
-use Rattle.beldi_laws.proofs.Decisions.{goes_one, got_ended}
 use Rattle.beldi_laws.proofs.Others.{kept_by}
 use Rattle.beldi_laws.proofs.Frames.{settled_ended, settled_grown, settled_outside, settled_rows}
 use Rattle.beldi_laws.proofs.Keeping.{SameShadows, act_stays, as_it_was}
@@ -18,8 +17,9 @@ use Rattle.beldi_laws.proofs.Turns.{effect_next, fits, goes_on, ends, at_another
 use Rattle.beldi_order.proofs.Called.{last_hop}
 use Rattle.beldi_order.proofs.Entries.{enabled_step, grows_at, grown_end, grows_through}
 use Rattle.beldi_order.proofs.Maps.{same_some, elsewhere, here}
-use Rattle.beldi_order.proofs.Sanes.{waited, answers_waiter, not_itself, Waited, sane_of}
-use Rattle.beldi_order.specs.Sane.{IsCalled}
+use Rattle.beldi_order.proofs.Sanes.{Waited, waited_in}
+use Rattle.beldi_order.proofs.Sound.{answers_waiter, not_itself, sane_with}
+use Rattle.beldi_order.specs.Sane.{IsCalled, SaneAt}
 use Rattle.beldi_plain.specs.Guard.{touched_by, item_touched}
 use Rattle.beldi_plain.specs.Item.{Item}
 use Rattle.beldi_plain.specs.Plain.{PlainState, Instance, answered, effect_of, with_instance, ended, kind_of, step_by, outcome_of, value_at, waits_at, answer_caller, give}
@@ -48,12 +48,12 @@ use Rattle.beldi_value.specs.declared.id.IntentId.{IntentId}
 use Rattle.beldi_value.specs.declared.outcome.Outcome.{Outcome}
 use Rattle.beldi_value.specs.declared.place.Caller.{Caller}
 use Rattle.beldi_known.specs.Owed.{called_by, result_of}
-use Rattle.beldi_known.specs.Rows.{IntentMatches, IsCalleeRow, CallMatches, BodyMatches, RootMatches, CalleeBodyMatches, OutcomeMatches}
+use Rattle.beldi_known.specs.Rows.{IntentMatches, IsCalleeRow, CallMatches, BodyMatches, RootMatches, CalleeBodyMatches, FinishMatches, OutcomeMatches, tx_in}
 use Rattle.beldi_laws.specs.Right.{Right, Knows}
 use Rattle.beldi_known.specs.Known.{Known, owed_call, moved, commit_in}
 use Rattle.beldi_order.specs.Txs.{tx_after, tx_now, txs_after}
 use Rattle.beldi_known.specs.Sane.{Sane}
-use Rattle.beldi_known.specs.Matches.{Matches, LockedAtEnds}
+use Rattle.beldi_known.specs.Matches.{Matches, LockedAtEnds, has_ended}
 use Rattle.beldi_known.specs.Beside.{is_begin}
 use Rattle.beldi_known.specs.InsideLaws.{Goes}
 use Rattle.beldi_known.specs.Listed.{listed}
@@ -62,11 +62,12 @@ use Rattle.beldi_laws.specs.Inside.{Frame, Inside}
 use Rattle.beldi_laws.proofs.CallsHere.{called_in, goes_answered_then}
 use Rattle.beldi_laws.proofs.KeptSane.{returned_kept, ended_kept}
 use Rattle.beldi_laws.proofs.Shown.{Settled, settled, log_values, legal_sane}
-use Rattle.beldi_known.proofs.Opened.{outside_so, outside_parts}
+use Rattle.beldi_known.proofs.NoTx.{outside_so, outside_parts}
 use Rattle.beldi_laws.proofs.Outside.{same_here, outside_more}
 use Rattle.beldi_laws.proofs.Grown.{grows_moved}
 use Rattle.beldi_order.specs.Grown.{Grows}
 use Rattle.beldi_known.proofs.Outside.{call_answered}
+use Rattle.beldi_known.proofs.Outsides.{goes_one, got_ended, set_over}
 use Rattle.beldi_known.proofs.Calls.{given_back}
 use Rattle.beldi_known.proofs.Intents.{intent_ended, callee_put}
 use Rattle.beldi_known.proofs.Frame.{moved_one}
@@ -158,8 +159,8 @@ module _ (d : Deployment) (c : Core) (m : Rows) (i : ℕ) (r : Run) (g : Begun) 
   ahead_over = ahead_set d h.known h.locked h.locked_at_ends h.locked r.id done (none_out h.locked r.id unlocked)
 
   goes_over : (n : Rows) → SameShadows m n → Goes d n (with_instance h.plain r.id done) over h.locked
-  goes_over n same = goes_one d m h.plain h.known h.locked h.shadows h.beside r.id done (outside_there d c.book h.known r g k out at_end) (λ b. cc) n same
-      (got_ended d m h.plain h.known h.locked h.shadows h.beside h.sane h.rows (legal_sane h) n same r.id k.instance k.made o)
+  goes_over n same = goes_one d m h.plain h.known h.locked h.shadows h.beside r.id done
+      (set_over d m h.plain h.known h.locked h.shadows h.beside h.sane h.rows (legal_sane h) r.id k.instance k.made o (outside_there d c.book h.known r g k out at_end)) n same (got_ended d m h.known h.locked h.shadows.got n same r.id k.instance k.made o)
 
   -- ---- it gives its outcome back
   module _ (b : Caller) (from : g.caller ≡ Some b) (waits : b.waits ≡ true) where
@@ -184,7 +185,7 @@ module _ (d : Deployment) (c : Core) (m : Rows) (i : ℕ) (r : Run) (g : Begun) 
     closes_on there = goes_on d c m i r g h live k finds out (Return o) is m stage.Close (λ t. refl) (as_it_was h) tt tt (λ w. there)
 
     -- it was given back now: its caller stands at the call
-    module _ (x : InvokeRow) (at : map.get m back_key ≡ Some (rows.Invoke x)) (open_still : k.instance.outcome ≡ None) (w : Waited d h.plain r.id k.instance) where
+    module _ (x : InvokeRow) (at : map.get m back_key ≡ Some (rows.Invoke x)) (open_still : k.instance.outcome ≡ None) (w : Waited d h.plain.made r.id k.instance) where
       abbrev answer : Answer
       answer = answer_of o
 
@@ -210,7 +211,7 @@ module _ (d : Deployment) (c : Core) (m : Rows) (i : ℕ) (r : Run) (g : Begun) 
       caller_here = same_here d h.plain h.known h.beside w.caller w.waiter w.made no_begin_there
 
       caller_outside : tx_now d w.caller w.waiter ≡ None
-      caller_outside = outside_so d w.caller w.waiter w.waiter.answers (let s = sane_of d h.plain w.caller w.waiter (legal_sane h) w.made in (s.outside, s.ended)) no_begin_there
+      caller_outside = outside_so d w.caller w.waiter w.waiter.answers (h.uncalled w.caller w.waiter caller_here, (subst (SaneAt d w.caller) w.made ((legal_sane h).each w.caller)).ended) no_begin_there
 
       caller_unlocked : h.locked w.caller ≡ false
       caller_unlocked = unlocked_outside d h.known h.locked h.locked_at_ends w.caller w.waiter caller_here caller_outside
@@ -229,7 +230,7 @@ module _ (d : Deployment) (c : Core) (m : Rows) (i : ℕ) (r : Run) (g : Begun) 
 
       rows_given : Matches d (set_row m back_key new) next h.locked
       rows_given = subst (λ z. Matches d (set_row m z new) next h.locked) own_key
-          (call_answered d over h.locked w.caller w.waiter caller_on answer caller_still caller_unlocked caller_outside (ap commit_in w.stands) (moved_one d w.caller w.waiter answer)
+          (call_answered d over h.locked w.caller w.waiter caller_on answer caller_still caller_unlocked (inl caller_outside) (ap commit_in w.stands) (moved_one d w.caller w.waiter answer)
           (ap op_of w.stands) (ap (λ e. row_added (length w.waiter.answers) (txs_after d w.waiter w.waiter.answers).begun e answer) w.stands ∙ no_row (length w.waiter.answers) (txs_after d w.waiter w.waiter.answers).begun) (set_row m call_key new)
           (subst (λ z. Matches d (set_row m call_key new) (map.insert h.known z done) h.locked) (sym w.is_callee)
           (given_back d h.known h.locked w.caller w.waiter k.instance (length w.waiter.answers) o o caller_here (ap (map.get h.known) (sym w.is_callee) ∙ k.made) open_still waited_here returns_now (ap h.locked (sym w.is_callee) ∙ unlocked) m x (ap (map.get m) own_key ∙ at) h.rows)))
@@ -250,8 +251,8 @@ module _ (d : Deployment) (c : Core) (m : Rows) (i : ℕ) (r : Run) (g : Begun) 
           let frame = subst (λ z. Frame d m n h.plain z h.known next) comes_to (log_frame d m back_key new refl (λ e. refl) h.plain two h.known next refl) in
           kept_by d c m n h (state open_still) next h.locked
           (record {
-            goes = subst (λ z. Goes d n z next h.locked) comes_to (goes_answered_then h n same (with_instance h.plain r.id done) over (goes_over n same) w.caller w.waiter answer caller_here caller_still caller_unlocked
-                (outside_more d w.caller w.waiter w.waiter.answers (outside_parts d w.caller w.waiter w.waiter.answers caller_outside).0 no_begin_there answer));
+            goes = subst (λ z. Goes d n z next h.locked) comes_to (goes_answered_then h n same w.caller w.waiter answer caller_here caller_unlocked (λ e. let clash = sym w.stands ∙ e in cc)
+                (outside_more d w.caller w.waiter w.waiter.answers (outside_parts d w.caller w.waiter w.waiter.answers caller_outside).0 no_begin_there answer) r.id w.is_callee done done caller_still (goes_over n same));
             locked_at_ends = ahead_set d over h.locked ahead_over h.locked w.caller caller_on (none_out h.locked w.caller caller_unlocked);
             sane = sane_given;
             rows = rows_given;
@@ -269,17 +270,23 @@ module _ (d : Deployment) (c : Core) (m : Rows) (i : ℕ) (r : Run) (g : Begun) 
     abbrev AfterBack : Option Row × Tell → Type 0
     AfterBack z = AfterAct d h.plain m back_key (λ t. turn_next c i r (turned_by d r g (back_says (back_of t)))) z
 
-    back_by : (x : InvokeRow) (u : Option Outcome) → x.result ≡ u → map.get m back_key ≡ Some (rows.Invoke x) → CallMatches (Some (rows.Invoke x)) (owed_call h.known b.func b.place) → AfterBack (Some (rows.Invoke (call_back_to o x u).0), (call_back_to o x u).1)
-    back_by x None none at matches =
+    back_open : (x : InvokeRow) → x.result ≡ None → map.get m back_key ≡ Some (rows.Invoke x) → CallMatches (Some (rows.Invoke x)) (owed_call h.known b.func b.place) → AfterBack (Some (rows.Invoke (call_back_to o x None).0), (call_back_to o x None).1)
+    back_open x none at matches =
         let open_still = let both = same_some (sym owed_there ∙ matches) in ap (λ z. z.1) both ∙ none in
-        elim (waited d h.plain r.id k.instance (legal_sane h) there open_still) [
-          | inl idle ↦ let clash = sym (idle b (sym k.caller ∙ from)) ∙ waits in cc
+        elim (waited_in d None h.plain.made (sane_with d h.plain (legal_sane h)) r.id k.instance there open_still) [
+          | inl idle ↦ let clash = sym (idle.alone b (sym k.caller ∙ from)) ∙ waits in cc
           | inr w ↦ given_now x at open_still w
         ]
-    back_by x (Some u) some at matches = still d h.plain m back_key (Some (rows.Invoke x)) (sym at) (closes_on (let both = same_some (sym owed_there ∙ matches) in ap (λ z. is_some z.1) both ∙ ap is_some some))
+
+    back_closed : (x : InvokeRow) (u : Outcome) → x.result ≡ Some u → map.get m back_key ≡ Some (rows.Invoke x) → CallMatches (Some (rows.Invoke x)) (owed_call h.known b.func b.place) → AfterBack (Some (rows.Invoke (call_back_to o x (Some u)).0), (call_back_to o x (Some u)).1)
+    back_closed x u some at matches = still d h.plain m back_key (Some (rows.Invoke x)) (sym at) (closes_on (let both = same_some (sym owed_there ∙ matches) in ap (λ z. is_some z.1) both ∙ ap is_some some))
+
+    back_by : (x : InvokeRow) (u : Option Outcome) → x.result ≡ u → map.get m back_key ≡ Some (rows.Invoke x) → CallMatches (Some (rows.Invoke x)) (owed_call h.known b.func b.place) → AfterBack (Some (rows.Invoke (call_back_to o x u).0), (call_back_to o x u).1)
+    back_by x None result at matches = back_open x result at matches
+    back_by x (Some u) result at matches = back_closed x u result at matches
 
     back_at : (w : Option Row) → map.get m back_key ≡ w → CallMatches w (owed_call h.known b.func b.place) → AfterBack (act (CallBack o) c.now w)
-    back_at None at matches = let clash = sym owed_there ∙ matches in cc
+    back_at None at matches = absurd (let clash = sym owed_there ∙ matches in cc)
     back_at (Some (rows.Invoke x)) at matches = back_by x x.result refl at matches
     back_at (Some w) at matches = absurd matches
 
@@ -318,8 +325,8 @@ module _ (d : Deployment) (c : Core) (m : Rows) (i : ℕ) (r : Run) (g : Begun) 
   AfterEnd : Type 0
   AfterEnd = (j : IntentRow) → map.get m key ≡ Some (rows.Intent j) → j.outcome ≡ None → Left (close_says r.id g.caller (Return o) true) (set_row m key (Some (rows.Intent (end_row j))))
 
-  row_here : (j : IntentRow) → map.get m key ≡ Some (rows.Intent j) → IntentMatches (has_no_hops r.id.hops) key.home (Some (rows.Intent j)) (Some k.instance)
-  row_here j at = subst (λ w. IntentMatches (has_no_hops r.id.hops) key.home w (Some k.instance)) at (subst (IntentMatches (has_no_hops r.id.hops) key.home (map.get m key)) k.made (h.rows.keys key))
+  row_here : (j : IntentRow) → map.get m key ≡ Some (rows.Intent j) → IntentMatches (has_ended d h.known) (has_no_hops r.id.hops) key.home (Some (rows.Intent j)) (Some k.instance)
+  row_here j at = subst (λ w. IntentMatches (has_ended d h.known) (has_no_hops r.id.hops) key.home w (Some k.instance)) at (subst (IntentMatches (has_ended d h.known) (has_no_hops r.id.hops) key.home (map.get m key)) k.made (h.rows.keys key))
 
   -- one that its caller waits for: its step was made
   module _ (waits : is_waited g.caller ≡ true) (seen : is_some k.instance.outcome ≡ true) where
@@ -342,12 +349,18 @@ module _ (d : Deployment) (c : Core) (m : Rows) (i : ℕ) (r : Run) (g : Begun) 
     body_ended home None u f = absurd f
     body_ended home (Some b) u f = (f.0, f.1, matches_now (is_waited b.from) f.0.instance.outcome (sym (ap (λ z. z.outcome) (same_some f.0.made)) ∙ outcome_there k.instance.outcome refl seen))
 
+    -- it was called in no transaction, so its finish is there with its outcome
+    finishes_now : (home : ℕ) (b : Option Body) (u : Option Outcome) → CalleeBodyMatches home b u (Some k.instance) → (f : Option ℕ) → FinishMatches (has_ended d h.known) (tx_in b) (finish_at true c.now f) (Some o)
+    finishes_now home None u b f = absurd b
+    finishes_now home (Some b) u w f =
+        subst (λ t. FinishMatches (has_ended d h.known) t (finish_at true c.now f) (Some o)) (sym (ap (λ z. z.tx) w.0.body ∙ ap (λ (z : Instance). z.within) (same_some (sym w.0.made)) ∙ h.uncalled r.id k.instance k.made)) (finished f)
+
     put_now : AfterEnd
     unfolding AfterEnd
     put_now j at none =
         let new = Some (rows.Intent (end_row j)) in
-        let f : IsCalleeRow key.home j (Some k.instance) = subst (λ b. IntentMatches b key.home (Some (rows.Intent j)) (Some k.instance)) hops (row_here j at) in
-        let fits : IsCalleeRow key.home (end_row j) (map.get h.known r.id) = subst (IsCalleeRow key.home (end_row j)) (sym k.made) (record { finishes = finished j.finish; body = body_ended key.home j.body j.outcome f.body }) in
+        let f : IsCalleeRow (has_ended d h.known) key.home j (Some k.instance) = subst (λ b. IntentMatches (has_ended d h.known) b key.home (Some (rows.Intent j)) (Some k.instance)) hops (row_here j at) in
+        let fits : IsCalleeRow (has_ended d h.known) key.home (end_row j) (map.get h.known r.id) = subst (IsCalleeRow (has_ended d h.known) key.home (end_row j)) (sym k.made) (record { finishes = finishes_now key.home j.body j.outcome f.body j.finish; body = body_ended key.home j.body j.outcome f.body }) in
         subst (λ z. Left z (set_row m key new)) (sym (ap (λ b. Ends (mark_if (not b) mark.Step) (reply_if (has_no_hops r.id.hops) o)) waits ∙ ap (λ b. Ends None (reply_if b o)) hops))
         (close_ends (set_row m key new) (same_roots m key.home r.id new hops) (log_stays d m key new refl (λ e. refl) c h (callee_put d h.known h.locked m r.id key.home (end_row j) hops fits h.rows)))
 
@@ -374,7 +387,7 @@ module _ (d : Deployment) (c : Core) (m : Rows) (i : ℕ) (r : Run) (g : Begun) 
         let from = ap (λ z. is_waited z.from) f.0.body ∙ ap (λ z. is_waited z.from) (same_some (sym f.0.made)) ∙ idle_here in
         ap (λ z. z.outcome) (same_some f.0.made) ∙ subst (λ t. OutcomeMatches t u f.0.instance.outcome) from f.2
 
-    open_by : (t : Bool) (home : ℕ) (j : IntentRow) → IntentMatches t home (Some (rows.Intent j)) (Some k.instance) → k.instance.outcome ≡ j.outcome
+    open_by : (t : Bool) (home : ℕ) (j : IntentRow) → IntentMatches (has_ended d h.known) t home (Some (rows.Intent j)) (Some k.instance) → k.instance.outcome ≡ j.outcome
     open_by false home j f = open_callee home j.body j.outcome f.body
     open_by true home j f = by_home (home == 0) f
       where
@@ -418,7 +431,7 @@ module _ (d : Deployment) (c : Core) (m : Rows) (i : ℕ) (r : Run) (g : Begun) 
         let own : RowKey = intent_key r.id k.instance.func in
         let own_is : own ≡ key = ap (intent_key r.id) k.func in
         let rows_ended : Matches d (set_row m key new) over h.locked = subst (λ z. Matches d (set_row m z new) over h.locked) own_is
-        (intent_ended d h.known h.locked r.id k.instance o k.made unlocked returns_now idle_here m j (end_row j) (record { body = refl; outcome = refl; finish = finished j.finish }) (ap (map.get m) own_is ∙ at) h.rows) in
+        (intent_ended d h.known h.locked r.id k.instance o k.made unlocked returns_now idle_here (h.uncalled r.id k.instance k.made) m j (end_row j) (record { body = refl; outcome = refl; finish = finished j.finish }) (ap (map.get m) own_is ∙ at) h.rows) in
         subst (λ z. Left z (set_row m key new)) (sym (ap (λ b. Ends (mark_if (not b) mark.Step) (reply_if (has_no_hops r.id.hops) o)) idle))
         (entered d c m (set_row m key new) i r h live (replaced m key new (ap is_some (sym at))) (turned_by d r g (Ends (Some mark.Step) (reply_if (has_no_hops r.id.hops) o))) mark.Step left_state over h.locked refl steps
         (replies (has_no_hops r.id.hops) refl) tt (λ e. cc) (kept_ended open_still (end_row j) steps.grows rows_ended))

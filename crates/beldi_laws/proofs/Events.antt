@@ -79,6 +79,7 @@ use Rattle.beldi_plain.specs.Guard.{touched_by}
 use Rattle.beldi_laws.specs.Inside.{Inside, InsideAt, AtStage}
 use Rattle.beldi_laws.specs.Right.{Right, Knows, KnowsAt, RunAt, StageOk, PlaceOk, SeenDone, MarkOk}
 use Rattle.beldi_known.specs.Known.{Known, at_once as with_once, ended_by}
+use Rattle.beldi_known.specs.Matches.{has_ended}
 use Rattle.beldi_laws.proofs.KeptSane.{root_kept}
 use Rattle.beldi_laws.proofs.Shown.{log_values, settled}
 use Rattle.beldi_laws.proofs.Frames.{frame_row, items_stay, settled_grown, settled_new, settled_rows}
@@ -92,7 +93,9 @@ use Rattle.beldi_known.proofs.Intents.{root_bound}
 use Rattle.beldi_known.proofs.Sets.{row_put}
 use Rattle.beldi_known.specs.Listed.{listed_under}
 use Rattle.beldi_known.proofs.Ahead.{unlocked_absent, ahead_set, none_out}
-use Rattle.beldi_known.proofs.Insides.{none_show}
+use Rattle.beldi_known.proofs.Answers.{true_false}
+use Rattle.beldi_known.proofs.Outsides.{root_apart}
+use Rattle.beldi_known.proofs.Shadows.{none_show}
 use Rattle.beldi_known.proofs.Nothing.{ahead_nothing, nothing_matches, sane_nothing}
 
 -- it tells no outcome, nor that a row is absent
@@ -181,7 +184,7 @@ module _ (d : Deployment) (c : Core) (m : Rows) (h : Right d c m) where
       let t = c.newest + 1 in
       let i : IntentRow = record { issued = c.now; body = None; outcome = None; finish = None } in
       let n = set_row m (root_key t) (Some (rows.Intent i)) in
-      let not_made : map.get h.known (root_of t) ≡ None = subst (λ r. IntentMatches true 0 r (map.get h.known (root_of t))) is (h.rows.keys (root_key t)) in
+      let not_made : map.get h.known (root_of t) ≡ None = subst (λ r. IntentMatches (has_ended d h.known) true 0 r (map.get h.known (root_of t))) is (h.rows.keys (root_key t)) in
       let kept : Stays h n = log_stays d m (root_key t) (Some (rows.Intent i)) refl (λ e. refl) c h (row_put d h.known h.locked m (root_key t) (Some (rows.Intent i)) refl (record { bare = λ e. refl; finishes = refl; body = not_made }) h.rows) in
       subst (λ (w : Option Row × Tell). After d h.plain (record c { newest = c.newest + 1 }) (set_row m (root_key t) w.0) (seen.Issued t)) (ap (act Issue c.now) (sym is)) (record {
         right = right_by {q = h.plain} {next = h.known} {locked = h.locked} h.bounded h.legal h.guarded kept.shows
@@ -198,7 +201,7 @@ module _ (d : Deployment) (c : Core) (m : Rows) (h : Right d c m) where
 
   ticket_by : (r : Option Row) → map.get m (root_key (c.newest + 1)) ≡ r → AfterAct d h.plain m (root_key (c.newest + 1)) (λ t. ticket_next c (is_added t)) (act Issue c.now r)
   ticket_by None is = subst (λ (r : Option Row). After d h.plain (record c { newest = c.newest + 1 }) (set_row m (root_key (c.newest + 1)) (act Issue c.now r).0) (seen.Issued (c.newest + 1))) is (issued is)
-  ticket_by (Some r) is = let clash : true ≡ false = sym (ap is_some is) ∙ h.tickets (c.newest + 1) ∙ not_issued c.newest in cc
+  ticket_by (Some r) is = absurd (true_false (sym (ap is_some is) ∙ h.tickets (c.newest + 1) ∙ not_issued c.newest))
 
 -- ---- a request
 start_is : (p : PlainState) (t f : ℕ) (a : Value) (o : Option Instance) → (t == 0) ≡ false → o ≡ None → start p t f a o ≡ Some (with_instance p (root_of t) (new_instance f a None))
@@ -232,12 +235,12 @@ module _ (d : Deployment) (c : Core) (m : Rows) (h : Right d c m) (t f : ℕ) (a
       let frame = frame_row d m h.plain state h.known next (items_stay d m h.plain state next refl) (root_key t) (Some (rows.Intent (bound_row i))) refl refl in
       let kept : Kept h n state next h.locked = kept_by d c m n h state next h.locked
       (record {
-        goes = goes_made h n (set_shadows m (root_key t) (Some (rows.Intent (bound_row i))) refl) own_id new not_known (refl, refl);
+        goes = goes_made h n (set_shadows m (root_key t) (Some (rows.Intent (bound_row i))) refl) own_id new not_known refl (refl, refl) (root_apart d h.plain t);
         locked_at_ends = ahead_set d h.known h.locked h.locked_at_ends h.locked own_id (with_once d own_id new) (none_out h.locked own_id unlocked);
         sane = root_kept d h.known h.sane t f a not_known;
         rows = root_bound d h.known h.locked own_id f a not_known refl (childless d h.known h.sane own_id not_known) unlocked m (bound_row i) refl (fits.bare bare) (no_finish i.finish (fits.finishes ∙ ap is_some (fits.bare bare))) h.rows;
         values = log_values h (root_key t) (Some (rows.Intent (bound_row i))) refl;
-        settled = settled_rows d m n h.plain state h.known next frame (settled_grown d m h.plain state next leads.grows (settled_new d m h.plain h.known own_id new refl (settled h)));
+        settled = settled_rows d m n h.plain state h.known next frame (settled_grown d m h.plain state next leads.grows (settled_new d m h.plain h.known own_id new refl refl (settled h)));
       })
       (grows_new h.known own_id (with_once d own_id new) not_known) frame in
       record {
@@ -270,10 +273,10 @@ module _ (d : Deployment) (c : Core) (m : Rows) (h : Right d c m) (t f : ℕ) (a
   request_by : (i : IntentRow) (b : Option Body) → i.body ≡ b → map.get m (root_key t) ≡ Some (rows.Intent i) → IsRootRow i (map.get h.known (root_of t)) → BodyMatches b i.outcome (map.get h.known (root_of t))
       → AfterAct d h.plain m (root_key t) (λ u. request_next d c t f a (binding_of u)) (Some (rows.Intent (bind_to f a i b).0), (bind_to f a i b).1)
   request_by i None bare is fits root = request_bound i is fits bare root
-  request_by i (Some b) has is fits root = told_same b i.outcome ((b.func == f) && same_value b.args a) (sym (outcome_known d h.plain h.known h.beside (root_of t)) ∙ ap outcome_of root.0.made ∙ root.1) (Some (rows.Intent i)) (sym is)
+  request_by i (Some b) has is fits root = told_same b i.outcome ((b.func == f) && same_value b.args a) (sym (outcome_known d h.plain h.known h.beside h.uncalled (root_of t)) ∙ ap outcome_of root.0.made ∙ root.1) (Some (rows.Intent i)) (sym is)
 
-  request_row : (r : Option Row) → map.get m (root_key t) ≡ r → IntentMatches true 0 r (map.get h.known (root_of t)) → AfterAct d h.plain m (root_key t) (λ u. request_next d c t f a (binding_of u)) (act (Bind f a) c.now r)
-  request_row None is root = let clash : false ≡ true = sym (ap is_some is) ∙ h.tickets t ∙ is_issued t c.newest issued in cc
+  request_row : (r : Option Row) → map.get m (root_key t) ≡ r → IntentMatches (has_ended d h.known) true 0 r (map.get h.known (root_of t)) → AfterAct d h.plain m (root_key t) (λ u. request_next d c t f a (binding_of u)) (act (Bind f a) c.now r)
+  request_row None is root = absurd (true_false (sym (sym (ap is_some is) ∙ h.tickets t ∙ is_issued t c.newest issued)))
   request_row (Some (rows.Intent i)) is root = request_by i i.body refl is root root.body
   request_row (Some r) is root = absurd root
 
@@ -401,7 +404,7 @@ pub begins : (d : Deployment) (now : ℕ) → Right d (first_core 0 now) map.emp
 begins d now = right_by {q = nothing} {next = map.empty} {locked = λ id. false} tt refl tt
     (record {
       goes = record {
-        beside = record { same = λ id q is. let clash = sym (none_known id) ∙ is in cc; begun = λ id q is. let clash = sym (none_known id) ∙ is in cc; none = λ id is. is };
+        beside = record { same = λ id q is. let clash = sym (none_known id) ∙ is in cc; begun = λ id q is. let clash = sym (none_known id) ∙ is in cc; kept = λ id k none is. let clash = sym (none_known id) ∙ is in cc };
         shadows = none_show d map.empty nothing map.empty (λ id. false) (λ k. get-empty key_cmp k) none_known;
       };
       locked_at_ends = ahead_nothing d;
@@ -411,7 +414,7 @@ begins d now = right_by {q = nothing} {next = map.empty} {locked = λ id. false}
       settled = record {
         marks = λ t z x w is. let clash = sym (ap (ended_by d t.begin) (none_known t.intent)) ∙ is in cc;
         holders = λ id q n c u is. let clash = sym (none_known id) ∙ is in cc;
-        uncalled = λ id q n w f v is. let clash = sym (none_known id) ∙ is in cc;
+        uncalled = λ id q is. let clash = sym (none_known id) ∙ is in cc;
       };
     })
     (λ t. ap is_some (get-empty key_cmp (root_key t)) ∙ sym (no_ticket t))

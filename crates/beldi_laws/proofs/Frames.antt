@@ -1,6 +1,6 @@
 -- What an event keeps for the runs of others, and what rows keep of transactions.
-use Rattle.std.proofs.Common.{◌≡◌, ◌∙◌, ◌⊎◌, inl, inr, zero, suc, ◌<◌, ℕ, Bool, true, false, List, [], ◌∷◌, ◌++◌, length, cond, Option, Some, None, is_some, refl, ap, sym, subst, arith, if◌then◌else◌}
-use Rattle.std.specs.Prelude.{take, slice_get}
+use Rattle.std.proofs.Common.{◌≡◌, ◌∙◌, inl, inr, ℕ, Bool, true, false, List, [], ◌∷◌, ◌++◌, length, cond, Option, Some, None, is_some, refl, ap, sym, subst, if◌then◌else◌}
+use Rattle.std.specs.Prelude.{slice_get}
 use Rattle.std.specs.FinMap as map
 use Rattle.std.specs.Ordering.{is_eq}
 use Rattle.beldi_value.specs.declared.id.IntentId.{IntentId}
@@ -37,14 +37,13 @@ use Rattle.beldi_daal.specs.Logged.{note_after}
 use Rattle.beldi_txn.specs.End.{end_place}
 use Rattle.beldi_plain.specs.Item.{Item, item_cmp}
 use Rattle.beldi_plain.specs.Operation.{set_if, or_old, touched}
-use Rattle.beldi_plain.specs.Plain.{Instance, PlainState, value_at, answered, ended, effect_of, effect_before}
+use Rattle.beldi_plain.specs.Plain.{Instance, PlainState, value_at, answered, ended, effect_of}
 use Rattle.beldi_plain.specs.Executor.{answered_if}
 use Rattle.beldi_order.specs.Grown.{Grows}
-use Rattle.beldi_order.specs.Sane.{call_of}
-use Rattle.beldi_order.specs.Txs.{Txs, tx_at, tx_now, tx_after, txs_after, txs_by, end_of, effect_after}
+use Rattle.beldi_order.specs.Txs.{Txs, tx_at, tx_now, tx_after, txs_after, txs_by, end_of}
 use Rattle.beldi_order.proofs.Maps.{here as known_here, same_some}
 use Rattle.beldi_order.proofs.Operations.{plain_set, item_same}
-use Rattle.beldi_order.proofs.Went.{txs_pushed}
+use Rattle.beldi_order.proofs.Went.{txs_pushed, pushed_cases}
 use Rattle.beldi_step.specs.Run.{place_of}
 use Rattle.beldi_known.specs.Contents.{content_of, head_key, shadow_key, lockset_key}
 use Rattle.beldi_known.specs.Known.{Known, tx_end, ended_by, at_once, once, once_if, moved, answer_at_once}
@@ -54,7 +53,7 @@ use Rattle.beldi_known.proofs.FrameAt.{known_set}
 use Rattle.beldi_known.proofs.Outside.{no_tx, free_after}
 use Rattle.beldi_known.proofs.Owners.{IsFreeFor}
 use Rattle.beldi_known.proofs.Rows.{set_others}
-use Rattle.beldi_known.proofs.Opened.{outside_parts}
+use Rattle.beldi_known.proofs.NoTx.{outside_parts}
 use Rattle.beldi_laws.specs.Inside.{OwnedAreUnmarked, Frame, IsWriting, StillOwns}
 use Rattle.beldi_laws.proofs.KeptSane.{outside_effect}
 use Rattle.beldi_laws.proofs.Lives.{made_stays}
@@ -252,11 +251,11 @@ settled_grown d m p q known grows h = record { marks = h.marks; holders = λ id 
 pub settled_rows : (d : Deployment) (m n : Rows) (p q : PlainState) (known next : Known) → Frame d m n p q known next → Settled d m q next → Settled d n q next
 settled_rows d m n p q known next frame h = record { marks = λ t z x w e own noted. let s = frame.owners t z x e own in h.marks t z x w e s.owner (sym s.note ∙ noted); holders = h.holders; uncalled = h.uncalled }
 
--- what it wants of an instance: none of its transactions ended that had not, who let a step die was made, and no call inside was answered
+-- what it wants of an instance: none of its transactions ended that had not, who let a step die was made, and it was called in none
 pub record IsSettled (d : Deployment) (p : PlainState) (known : Known) (id : IntentId) (s : Instance) : Type 0 where
   pub ends : (b : ℕ) (z : ℕ × Bool) → end_of d s b ≡ Some z → ended_by d b (map.get known id) ≡ Some z
   pub holders : (n : ℕ) (c : Cause) (i : IntentId) → is_some (tx_at d id s n) ≡ true → slice_get s.answers n ≡ Some (answer.Aborted c) → c.holder ≡ Some i → is_some (map.get p.made i) ≡ true
-  pub uncalled : (n : ℕ) (w : Bool) (f : ℕ) (v : Value) → n < length s.answers → effect_before d s n ≡ call_of w f v → tx_at d id s n ≡ None
+  pub uncalled : s.within ≡ None
 
 -- an instance is set, of whose ends the rows keep what they have to
 pub settled_by : (d : Deployment) (m : Rows) (p : PlainState) (known : Known) (id : IntentId) (s : Instance) → OwnedAreUnmarked d m (map.insert known id s) → IsSettled d p (map.insert known id s) id s → Settled d m p known → Settled d m p (map.insert known id s)
@@ -265,10 +264,7 @@ settled_by d m p known id s marks one h = record {
   holders = λ j k n c i is inside dead holder. known_set known id s (λ j o. o ≡ Some k → is_some (tx_at d j k n) ≡ true → is_some (map.get p.made i) ≡ true)
       (λ e g. one.holders n c i (subst (λ (y : Instance). is_some (tx_at d id y n) ≡ true) (sym (same_some e)) g) (subst (λ (y : Instance). slice_get y.answers n ≡ Some (answer.Aborted c)) (sym (same_some e)) dead) holder)
       (λ j other e g. h.holders j k n c i e g dead holder) j is inside;
-  uncalled = λ j k n w f v is less calls. known_set known id s (λ j o. o ≡ Some k → tx_at d j k n ≡ None)
-      (λ e. subst (λ (y : Instance). tx_at d id y n ≡ None) (same_some e)
-      (one.uncalled n w f v (subst (λ (y : Instance). n < length y.answers) (sym (same_some e)) less) (ap (λ (y : Instance). effect_before d y n) (same_some e) ∙ calls)))
-      (λ j other e. h.uncalled j k n w f v e less calls) j is;
+  uncalled = λ j k is. known_set known id s (λ j o. o ≡ Some k → k.within ≡ None) (λ e. ap (λ (y : Instance). y.within) (sym (same_some e)) ∙ one.uncalled) (λ j other e. h.uncalled j k e) j is;
 }
 
 -- .. none of whose transactions ended that had not
@@ -285,26 +281,25 @@ pub one_known : (d : Deployment) (m : Rows) (p : PlainState) (known : Known) (id
 one_known d m p known id k is h = record {
   ends = λ b z e. ap (ended_by d b) is ∙ e;
   holders = λ n c i inside dead holder. h.holders id k n c i is inside dead holder;
-  uncalled = λ n w f v less calls. h.uncalled id k n w f v is less calls;
+  uncalled = h.uncalled id k is;
 }
 
 -- a new one
-pub one_new : (d : Deployment) (p : PlainState) (known : Known) (id : IntentId) (s : Instance) → s.answers ≡ [] → IsSettled d p known id s
-one_new d p known id s none = record {
+pub one_new : (d : Deployment) (p : PlainState) (known : Known) (id : IntentId) (s : Instance) → s.answers ≡ [] → s.within ≡ None → IsSettled d p known id s
+one_new d p known id s none outside = record {
   ends = λ b z e. let clash = sym (ap (λ ts. (txs_after d s ts).ends b) none) ∙ e in cc;
   holders = λ n c i inside dead holder. let clash = sym (ap (λ ts. slice_get ts n) none) ∙ dead in cc;
-  uncalled = λ n w f v less calls. let l = ap length none in absurd (omega (arith, l, less));
+  uncalled = outside;
 }
 
 -- one that ended
 pub one_ended : (d : Deployment) (p : PlainState) (known : Known) (id : IntentId) (s : Instance) (o : Outcome) → IsSettled d p known id s → IsSettled d p known id (ended s o)
 one_ended d p known id s o h = record { ends = h.ends; holders = h.holders; uncalled = h.uncalled }
 
--- what it wants of an answer to an effect: the effect is no End, a death has a holder that was made, and a call is outside
+-- what it wants of an answer to an effect: the effect is no End, and a death has a holder that was made
 pub record IsFit (d : Deployment) (p : PlainState) (t : Option TxId) (e : Effect) (a : Answer) : Type 0 where
   pub no_end : (c : Bool) → e ≡ effect.End c → ⊥
   pub holder : (c : Cause) (i : IntentId) → is_some t ≡ true → a ≡ answer.Aborted c → c.holder ≡ Some i → is_some (map.get p.made i) ≡ true
-  pub no_call : (w : Bool) (f : ℕ) (v : Value) → e ≡ call_of w f v → t ≡ None
 
 -- who let a step die, by its answer
 abbrev holder_in : Answer → Option IntentId
@@ -316,13 +311,10 @@ pub one_answered : (d : Deployment) (p : PlainState) (known : Known) (id : Inten
 one_answered d p known id s a fit h = record {
   ends = λ b z e. h.ends b z (sym (same_ends b) ∙ e);
   holders = λ n c i inside dead holder. elim (pushed_cases s.answers a (answer.Aborted c) n dead) [
-    | inl e ↦ fit.holder c i (sym (ap (λ ts. is_some (tx_after d id s ts)) e.0) ∙ inside) (sym e.1) holder
+    | inl e ↦ fit.holder c i (sym (ap (λ ts. is_some (tx_after d id s ts)) e.1) ∙ inside) (sym e.2) holder
     | inr e ↦ h.holders n c i (sym (ap (λ ts. is_some (tx_after d id s ts)) e.0) ∙ inside) e.1 holder
   ];
-  uncalled = λ n w f v less calls. elim (front_cases s.answers a n less) [
-    | inl e ↦ ap (tx_after d id s) e ∙ fit.no_call w f v (sym (ap (effect_after d s) e) ∙ calls)
-    | inr e ↦ ap (tx_after d id s) e.0 ∙ h.uncalled n w f v e.1 (sym (ap (effect_after d s) e.0) ∙ calls)
-  ];
+  uncalled = h.uncalled;
 }
   where
     same_ends : (b : ℕ) → end_of d (answered s a) b ≡ end_of d s b
@@ -333,42 +325,18 @@ one_answered d p known id s a fit h = record {
         by_effect (effect.End c) none = absurd (none c refl)
         by_effect e none = refl
 
-    front_cases : (xs : List Answer) (b : Answer) (n : ℕ) → n < length (xs ++ b ∷ []) → (take n (xs ++ b ∷ []) ≡ xs) ⊎ ((take n (xs ++ b ∷ []) ≡ take n xs) × (n < length xs))
-    front_cases [] b zero less = inl refl
-    front_cases [] b (suc n) less = absurd (omega (arith, less))
-    front_cases (x ∷ xs) b zero less = inr (refl, omega arith)
-    front_cases (x ∷ xs) b (suc n) less = elim (front_cases xs b n (omega (arith, less))) [
-      | inl e ↦ inl (ap (λ ys. x ∷ ys) e)
-      | inr e ↦ let l = e.1 in inr (ap (λ ys. x ∷ ys) e.0, omega (arith, l))
-    ]
-
-    pushed_cases : (xs : List Answer) (b y : Answer) (n : ℕ) → slice_get (xs ++ b ∷ []) n ≡ Some y → ((take n (xs ++ b ∷ []) ≡ xs) × (y ≡ b)) ⊎ ((take n (xs ++ b ∷ []) ≡ take n xs) × (slice_get xs n ≡ Some y))
-    pushed_cases [] b y zero g = inl (refl, same_some (sym g))
-    pushed_cases [] b y (suc n) g = cc
-    pushed_cases (x ∷ xs) b y zero g = inr (refl, g)
-    pushed_cases (x ∷ xs) b y (suc n) g = elim (pushed_cases xs b y n g) [
-      | inl e ↦ inl (ap (λ ys. x ∷ ys) e.0, e.1)
-      | inr e ↦ inr (ap (λ ys. x ∷ ys) e.0, e.1)
-    ]
-
 -- .. and what takes no turn
 pub one_at_once : (d : Deployment) (p : PlainState) (known : Known) (id : IntentId) (s : Instance) → IsSettled d p known id s → IsSettled d p known id (at_once d id s)
 one_at_once d p known id s h = once_more (once d id s) (once_more s h)
   where
-    no_call_at : (e : Effect) (w : Bool) (f : ℕ) (v : Value) → is_of_tx e ≡ true → e ≡ call_of w f v → ⊥
-    no_call_at e true f v h is = let clash = sym h ∙ ap is_of_tx is in cc
-    no_call_at e false f v h is = let clash = sym h ∙ ap is_of_tx is in cc
-
     by_effect : (s : Instance) (e : Effect) → effect_of d s ≡ e → IsSettled d p known id s → IsSettled d p known id (answered_if s (answer_at_once id (length s.answers) e))
     by_effect s effect.Begin is h = one_answered d p known id s answer.Done (record {
       no_end = λ c g. let clash = sym is ∙ g in cc;
       holder = λ c i inside dead holder. cc;
-      no_call = λ w f v g. absurd (no_call_at (effect_of d s) w f v (ap is_of_tx is) g);
     }) h
     by_effect s effect.Abort is h = one_answered d p known id s (answer.Aborted (record { place = place_of id (length s.answers); holder = None })) (record {
       no_end = λ c g. let clash = sym is ∙ g in cc;
       holder = λ c i inside dead holder. let clash : None ≡ Some i = ap holder_in dead ∙ holder in cc;
-      no_call = λ w f v g. absurd (no_call_at (effect_of d s) w f v (ap is_of_tx is) g);
     }) h
     by_effect s e is h = h
 
@@ -380,8 +348,8 @@ one_at_once d p known id s h = once_more (once d id s) (once_more s h)
     once_more s h = by_outcome s s.outcome h
 
 -- ---- an instance is made
-pub settled_new : (d : Deployment) (m : Rows) (p : PlainState) (known : Known) (id : IntentId) (s : Instance) → s.answers ≡ [] → Settled d m p known → Settled d m p (map.insert known id (at_once d id s))
-settled_new d m p known id s none h = settled_set d m p known id (at_once d id s) (one_at_once d p known id s (one_new d p known id s none)) h
+pub settled_new : (d : Deployment) (m : Rows) (p : PlainState) (known : Known) (id : IntentId) (s : Instance) → s.answers ≡ [] → s.within ≡ None → Settled d m p known → Settled d m p (map.insert known id (at_once d id s))
+settled_new d m p known id s none outside h = settled_set d m p known id (at_once d id s) (one_at_once d p known id s (one_new d p known id s none outside)) h
 
 -- .. ends
 pub settled_ended : (d : Deployment) (m : Rows) (p : PlainState) (known : Known) (id : IntentId) (k : Instance) (o : Outcome) → map.get known id ≡ Some k → Settled d m p known → Settled d m p (map.insert known id (ended k o))
@@ -397,7 +365,6 @@ module _ (d : Deployment) (m : Rows) (p : PlainState) (known : Known) (id : Inte
   settled_outside outside h = settled_moved (record {
     no_end = λ c g. let out = outside_parts d id k k.answers outside in let clash = sym (outside_effect d k k.answers out.0 out.1) ∙ ap is_of_tx g in cc;
     holder = λ c i inside dead holder. let clash = sym (ap is_some outside) ∙ inside in cc;
-    no_call = λ w f v g. outside;
   }) h
 
   -- .. or at an operation inside, of whose death the holder was made
@@ -405,9 +372,4 @@ module _ (d : Deployment) (m : Rows) (p : PlainState) (known : Known) (id : Inte
   settled_operated o touch dead h = settled_moved (record {
     no_end = λ c g. let clash = sym (ap touched g) ∙ touch in cc;
     holder = λ c i inside. dead c i;
-    no_call = λ w f v g. absurd (no_operation w f v (sym (ap touched g) ∙ touch));
   }) h
-    where
-      no_operation : (w : Bool) (f : ℕ) (v : Value) → touched (call_of w f v) ≡ Some o → ⊥
-      no_operation true f v e = cc
-      no_operation false f v e = cc

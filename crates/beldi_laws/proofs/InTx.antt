@@ -1,7 +1,10 @@
 -- An operation of a run inside a transaction: where it stands among the answers that are known, and in which transaction.
-use Rattle.std.proofs.Common.{◌≡◌, ℕ, ◌<◌, Bool, true, false, List, [], ◌∷◌, ◌++◌, length, length-append, Option, None, Some, refl, ap, sym, ◌∙◌, subst, append_assoc, IsTrue, is_some, arith}
+use Rattle.std.proofs.Common.{◌≡◌, ℕ, ◌<◌, Bool, true, false, List, [], ◌∷◌, ◌++◌, length, length-append, Option, None, Some, refl, ap, sym, ◌∙◌, ◌&&◌, ◌||◌, subst, append_assoc, IsTrue, is_some, arith}
 use Rattle.std.specs.FinMap as map
+use Rattle.std.specs.Ordering.{is_eq}
+use Rattle.std.proofs.lemmas.Cmp.{tied_itself}
 use Rattle.beldi_value.specs.declared.id.IntentId.{IntentId}
+use Rattle.beldi_value.specs.declared.place.Owner.TheVariants.{Tx as ByTx}
 use Rattle.beldi_value.specs.declared.place.TxId.{TxId}
 use Rattle.beldi_tree.specs.declared.deployment.Deployment.{Deployment}
 use Rattle.beldi_lang.specs.declared.effect.Answer.{Answer}
@@ -17,13 +20,12 @@ use Rattle.beldi_row.specs.declared.row.Row.TheVariants as rows
 use Rattle.beldi_intent.specs.Intent.{root_key}
 use Rattle.beldi_txn.specs.declared.tx.TxAt.{TxAt}
 use Rattle.beldi_row.specs.declared.notes.Note.TheVariants as note
-use Rattle.beldi_plain.specs.Item.{Item}
+use Rattle.beldi_plain.specs.Item.{Item, item_total}
 use Rattle.beldi_plain.specs.Operation.{touched}
 use Rattle.beldi_plain.specs.Plain.{Instance, effect_of, effect_before}
 use Rattle.beldi_order.specs.Sane.{IsAnswer}
 use Rattle.beldi_order.specs.Txs.{effect_after, tx_after, tx_now}
 use Rattle.beldi_order.proofs.Maps.{same_some}
-use Rattle.beldi_order.proofs.Sanes.{sane_of}
 use Rattle.beldi_step.specs.declared.run.Begun.{Begun}
 use Rattle.beldi_step.specs.declared.run.OpenTx.{OpenTx}
 use Rattle.beldi_step.specs.declared.run.Run.{Run}
@@ -33,14 +35,15 @@ use Rattle.beldi_step.specs.Host.{Core}
 use Rattle.beldi_step.specs.Run.{own_tx, place_of}
 use Rattle.beldi_txn.specs.Tx as txn
 use Rattle.beldi_txn.specs.TxTurn.{Fits}
-use Rattle.beldi_known.specs.Beside.{begins, is_begin}
+use Rattle.beldi_known.specs.Beside.{is_begin}
 use Rattle.beldi_known.specs.Contents.{content_of}
 use Rattle.beldi_known.specs.InsideLaws.{IsOpen}
-use Rattle.beldi_known.specs.Known.{ahead_by, tx_end, last_step}
+use Rattle.beldi_known.specs.Known.{ahead_by, got_before, got_by, is_item, is_on, is_tx, last_step, tx_end}
 use Rattle.beldi_known.specs.Laws.{IsFront, IsBehind}
 use Rattle.beldi_known.specs.Matches.{LocksetMatches}
 use Rattle.beldi_known.proofs.AtFront.{note_is_ahead}
-use Rattle.beldi_known.proofs.Opened.{IsOutside, outside_so}
+use Rattle.beldi_known.proofs.Lines.{open_owner}
+use Rattle.beldi_known.proofs.Locks.{tx_self}
 use Rattle.beldi_known.proofs.Participants.{now_open}
 use Rattle.beldi_known.proofs.Rows.{is_intent_key, no_root, set_others}
 use Rattle.beldi_laws.specs.Right.{Right, Knows, MarkOk, StageOk}
@@ -48,8 +51,7 @@ use Rattle.beldi_laws.specs.Inside.{AtStage, InItem, InOperation, Inside}
 use Rattle.beldi_laws.proofs.Grown.{grown_same}
 use Rattle.beldi_laws.proofs.Moves.{Kept, SameRoots, Stays}
 use Rattle.beldi_laws.proofs.OpenOf.{open_tx}
-use Rattle.beldi_laws.proofs.Outside.{made_of}
-use Rattle.beldi_laws.proofs.Shown.{legal_sane}
+use Rattle.beldi_laws.proofs.Shown.{legal_sane, sound}
 use Rattle.beldi_laws.proofs.Turns.{Freed, Leaves, answers_on, not_over, own_here, sane_instance, stands_on, at_steps, wanted_here, front_here, effect_here, answer_here, all_here, effect_next}
 
 -- an operation is on its item, wants an answer, and is no begin
@@ -66,6 +68,10 @@ wants_one e x h = refl
 pub no_begin : (e : Effect) (x : ℕ × List ℕ) → touched e ≡ Some x → is_begin e ≡ false
 no_begin effect.Begin x h = cc
 no_begin e x h = refl
+
+-- an operation on it
+pub item_self : (func t : ℕ) (k : List ℕ) → is_item (record { func = func; table = t; key = k }) func (Some (t, k)) ≡ true
+item_self func t k = ap is_eq (tied_itself item_total (record { func = func; table = t; key = k }))
 
 -- a run at an operation has no mark
 pub no_mark : (id : IntentId) (n : ℕ) (o : Option OpenTx) (e : Effect) (a : TxAt) → MarkOk id n o e (stage.Tx a)
@@ -164,16 +170,20 @@ module _ (d : Deployment) (c : Core) (m : Rows) (r : Run) (g : Begun) (h : Right
     pub not_ended : tx_end d h.known own ≡ None
     not_ended = now_open d h.known h.sane r.id k.instance own k.made open_still tx_is
 
-    -- the plain state has it at the begin
-    pub begun : (q : Instance) × IsOpen d m h.plain h.known h.locked r.id q k.instance
-    begun = let q = made_of d h.plain h.known h.beside r.id k.instance k.made in by_begin q.0 q.1 (begins d q.0) refl
+    -- it is open
+    pub opened : IsOpen d m h.plain h.known h.locked own
+    opened = let o = open_owner d h.plain h.known (legal_sane h) h.sane h.beside own r.id k.instance k.made open_still tx_is in record { sound = sound h; owner = o.owner; made = o.made; begun = o.begun; is = o.is }
+
+    -- where its place has the lock ahead, it has got its item
+    pub owned : h.locked r.id ≡ true → (content_of m its_item).owner ≡ Some (ByTx own)
+    owned was = (h.rows.txs its_item).got_is_owned own (record { member = r.id; got = ap (got_by d own its_item r.id (h.locked r.id)) k.made ∙ by_before (got_before d own its_item r.id k.instance) (h.locked r.id) was on_it }) not_ended
       where
-        by_begin : (q : Instance) → map.get h.plain.made r.id ≡ Some q → (b : Bool) → begins d q ≡ b → (q : Instance) × IsOpen d m h.plain h.known h.locked r.id q k.instance
-        by_begin q made true starts = (q, record { shadows = h.shadows; beside = h.beside; matches = h.rows; made = made; begun = starts; outside = (sane_of d h.plain r.id q (legal_sane h) made).outside; sane = sane_instance d c m r g h k })
-        by_begin q made false starts =
-            let same : q ≡ k.instance = same_some (sym (h.beside.same r.id q made starts) ∙ k.made) in
-            let sane = sane_of d h.plain r.id q (legal_sane h) made in
-            let clash = sym tx_is ∙ outside_so d r.id k.instance k.instance.answers (subst (λ (z : Instance). IsOutside d z z.answers) same (sane.outside, sane.ended)) apart in cc
+        on_it : is_on own its_item k.instance.func (tx_now d r.id k.instance) (effect_of d k.instance) ≡ true
+        on_it = (λ i. is_tx own (tx_is i) && is_item its_item k.instance.func (front.touch i)) ∙ ap (λ b. b && is_item its_item k.instance.func (Some x)) (tx_self own) ∙ item_self k.instance.func x.0 x.1
+
+        by_before : (u b : Bool) → b ≡ true → is_on own its_item k.instance.func (tx_now d r.id k.instance) (effect_of d k.instance) ≡ true → (u || (b && is_on own its_item k.instance.func (tx_now d r.id k.instance) (effect_of d k.instance))) ≡ true
+        by_before true b e on = refl
+        by_before false b e on = ap (λ z. z && is_on own its_item k.instance.func (tx_now d r.id k.instance) (effect_of d k.instance)) e ∙ on
 
     short_now : length k.instance.answers < last_step
     short_now = subst (λ (ts : List Answer). length ts < last_step) (all_here d c.book h.known r g k left) short

@@ -1,5 +1,5 @@
 -- What a turn outside transactions keeps, over rows whose shadows are as before.
-use Rattle.std.proofs.Common.{◌≡◌, ℕ, true, false, Option, None, Some, is_some, refl}
+use Rattle.std.proofs.Common.{◌≡◌, ℕ, true, false, [], Option, None, Some, is_some, refl}
 use Rattle.std.specs.FinMap as map
 use Rattle.std.specs.Ordering.{is_eq}
 use Rattle.beldi_value.specs.Id.{id_cmp}
@@ -15,24 +15,26 @@ use Rattle.beldi_row.specs.declared.key.RowKey.{RowKey}
 use Rattle.beldi_row.specs.declared.row.Row.{Row}
 use Rattle.beldi_plain.specs.Item.{Item}
 use Rattle.beldi_plain.specs.Plain.{Instance, answered, value_at, with_instance}
-use Rattle.beldi_order.specs.Inside.{Items, value_of}
+use Rattle.beldi_plain.specs.Piece.{tx_begun}
+use Rattle.beldi_order.specs.Txs.{tx_now}
 use Rattle.beldi_order.proofs.Entries.{grows_self}
+use Rattle.beldi_order.proofs.Moved.{Items}
 use Rattle.beldi_step.specs.Host.{Core}
 use Rattle.beldi_known.specs.Contents.{content_of, shadow_key}
 use Rattle.beldi_known.specs.InsideLaws.{Goes}
 use Rattle.beldi_known.specs.Known.{at_once, moved}
 use Rattle.beldi_known.specs.Listed.{listed}
 use Rattle.beldi_known.specs.Matches.{Matches}
-use Rattle.beldi_known.specs.Shadows.{tx_of}
 use Rattle.beldi_known.proofs.Acts.{is_shadow}
-use Rattle.beldi_known.proofs.Insides.{rows_go}
+use Rattle.beldi_known.proofs.Acting.{rows_go}
 use Rattle.beldi_known.proofs.Lists.{elsewhere as log_elsewhere}
-use Rattle.beldi_known.proofs.Opened.{IsOutside}
+use Rattle.beldi_known.proofs.NoTx.{IsOutside, outside_parts}
+use Rattle.beldi_known.proofs.Outsides.{Apart, goes_one, goes_set, got_new, got_next, outside_no_end, set_new, set_next, value_of}
 use Rattle.beldi_laws.specs.Inside.{Frame}
 use Rattle.beldi_laws.specs.Right.{Right}
-use Rattle.beldi_laws.proofs.Decisions as decisions
 use Rattle.beldi_laws.proofs.Frames.{frame_still, items_stay, settled_rows}
 use Rattle.beldi_laws.proofs.Moves.{Stays}
+use Rattle.beldi_laws.proofs.Outside.{outside_more}
 use Rattle.beldi_laws.proofs.Others.{kept_by}
 use Rattle.beldi_laws.proofs.Shown.{legal_sane, settled, shown}
 
@@ -59,18 +61,19 @@ module _ {d : Deployment} {c : Core} {m : Rows} (h : Right d c m) (n : Rows) (sa
   goes_still = record { beside = h.beside; shadows = rows_go d m n h.plain h.known h.locked h.locked (λ j l. l) same h.shadows }
 
   -- an instance outside was answered, and stays outside or begins: over items that are the same where another transaction has got them
-  pub goes_answered : (id : IntentId) (k : Instance) (a : Answer) → map.get h.known id ≡ Some k → h.locked id ≡ false → IsOutside d (answered k a) (answered k a).answers → (items : Items)
-      → ((j : IntentId) (z : Instance) → is_eq (id_cmp j id) ≡ false → (x : Item) → (content_of m x).owner ≡ Some (Tx (tx_of j z)) → value_of items x ≡ value_of h.plain.items x)
+  pub goes_answered : (id : IntentId) (k : Instance) (a : Answer) → map.get h.known id ≡ Some k → h.locked id ≡ false → tx_now d id k ≡ None → (items : Items)
+      → ((j : IntentId) (z : Instance) → is_eq (id_cmp j id) ≡ false → (x : Item) → (content_of m x).owner ≡ Some (Tx (tx_begun j z)) → value_of items x ≡ value_at h.plain x)
       → Goes d n (record { items = items; made = map.insert h.plain.made id (answered k a) }) (map.insert h.known id (moved d id k a)) h.locked
-  goes_answered id k a is unlocked out items agree =
-      decisions.goes_set d m h.plain h.known h.locked h.shadows h.beside h.sane h.rows (legal_sane h) id (answered k a) out (decisions.fresh_next d m h.plain h.known h.locked h.shadows h.beside h.sane h.rows (legal_sane h) n same id k is a out)
-      n items same agree (decisions.got_next d m h.plain h.known h.locked h.shadows h.beside h.sane h.rows (legal_sane h) n same id k is a out unlocked)
+  goes_answered id k a is unlocked outside items agree =
+      let parts = outside_parts d id k k.answers outside in
+      let set = set_next d m h.plain h.known h.locked h.shadows h.beside h.sane h.rows (legal_sane h) id k is a (outside_more d id k k.answers parts.0 parts.1 a) (outside_no_end d k true parts.0) in
+      goes_set d m h.plain h.known h.locked h.shadows h.beside id (answered k a) set n same h.sane h.rows (legal_sane h) items agree (got_next d m h.known h.locked h.shadows.got n same id k is unlocked a)
 
   -- a new one is made
-  pub goes_made : (id : IntentId) (s : Instance) → map.get h.known id ≡ None → IsOutside d s s.answers → Goes d n (with_instance h.plain id s) (map.insert h.known id (at_once d id s)) h.locked
-  goes_made id s new out =
-      decisions.goes_set d m h.plain h.known h.locked h.shadows h.beside h.sane h.rows (legal_sane h) id s out (λ b. decisions.fresh_new d m h.plain h.known h.locked h.shadows h.beside h.sane h.rows (legal_sane h) n same id new s)
-      n h.plain.items same (λ j z other x owned. refl) (decisions.got_new d m h.plain h.known h.locked h.shadows h.beside h.sane h.rows (legal_sane h) n same id new (at_once d id s))
+  pub goes_made : (id : IntentId) (s : Instance) → map.get h.known id ≡ None → s.answers ≡ [] → IsOutside d s s.answers → Apart d h.plain id → Goes d n (with_instance h.plain id s) (map.insert h.known id (at_once d id s)) h.locked
+  goes_made id s new bare out apart =
+      let set = set_new d m h.plain h.known h.locked h.shadows h.beside h.sane h.rows (legal_sane h) id new s bare out apart in
+      goes_one d m h.plain h.known h.locked h.shadows h.beside id s set n same (got_new d m h.known h.locked h.shadows.got n same id new (at_once d id s))
 
   -- .. so the plain state and what is known may stay
   pub stays_by : Matches d n h.known h.locked → ((x : Item) → listed n x ≡ value_at h.plain x) → Frame d m n h.plain h.plain h.known h.known → Stays h n

@@ -18,7 +18,7 @@ use Rattle.beldi_known.specs.Known.{Known, at_once, moved}
 use Rattle.beldi_order.specs.Txs.{tx_now, txs_after, effect_after}
 use Rattle.beldi_known.specs.Sane.{Sane}
 use Rattle.beldi_laws.proofs.Outside.{is_call, is_of_tx}
-use Rattle.beldi_known.proofs.Opened.{IsOutside}
+use Rattle.beldi_known.proofs.NoTx.{IsOutside}
 use Rattle.beldi_known.specs.Beside.{is_begin}
 use Rattle.beldi_lang.specs.declared.effect.Effect.{Effect}
 use Rattle.beldi_value.specs.declared.place.Place.{Place}

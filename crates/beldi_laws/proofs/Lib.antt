@@ -1,7 +1,6 @@
 mod Ages
 mod Asyncs
 mod Beginnings
-mod Besides
 mod Callings
 mod CallsHere
 mod Deciding
@@ -27,7 +26,6 @@ mod Turns
 mod Visiting
 mod Widths
 mod Working
-pub mod Decisions
 pub mod Events
 pub mod Listing
 pub mod Lives

@@ -80,7 +80,6 @@ use Rattle.beldi_known.specs.Matches.{Matches, lockset_ahead}
 use Rattle.beldi_known.specs.Sane.{SaneInstance}
 use Rattle.beldi_step.specs.Tables.{decision_key}
 use Rattle.beldi_known.proofs.Answers.{true_false}
-use Rattle.beldi_known.proofs.Leads.{item_self}
 use Rattle.beldi_known.specs.Acts.{Told, died, held, lock_answer, lock_on, lock_or, noted, noted_or, put_lockset, with_note}
 use Rattle.beldi_known.proofs.Acts.{content_apart, content_here, is_data, is_shadow, kinds_apart, lock_did}
 use Rattle.beldi_known.proofs.Ahead.{ahead_front, ahead_set, none_out}
@@ -89,7 +88,7 @@ use Rattle.beldi_known.proofs.Behind.{LockTold, behind_asks, behind_locks, behin
 use Rattle.beldi_known.proofs.Deaths.{death_is_older}
 use Rattle.beldi_known.proofs.Frame.{moved_one}
 use Rattle.beldi_known.proofs.Inside.{dies_inside, lockset_put}
-use Rattle.beldi_known.proofs.Insides.{death_goes, rows_go}
+use Rattle.beldi_known.proofs.Acting.{deaths_go, rows_go}
 use Rattle.beldi_known.proofs.Lists.{did_lists, died_lists, elsewhere, is_log, lists_same}
 use Rattle.beldi_known.proofs.OneFunction.{undecided}
 use Rattle.beldi_known.proofs.Rows.{set_here, set_others}
@@ -103,10 +102,9 @@ use Rattle.beldi_laws.proofs.InTx as in_tx
 use Rattle.beldi_laws.proofs.Keeping.{act_stays, as_it_was, set_shadows, stays_by}
 use Rattle.beldi_laws.proofs.Moves.{AfterQuery, Kept, SameRoots, Stays}
 use Rattle.beldi_laws.proofs.Others.{kept_by}
-use Rattle.beldi_laws.proofs.Outside.{called_outside}
 use Rattle.beldi_laws.proofs.Owed.{content_kept, contents_kept, others_list}
 use Rattle.beldi_laws.proofs.Released.{ended_at}
-use Rattle.beldi_laws.proofs.Shown.{legal_sane, settled}
+use Rattle.beldi_laws.proofs.Shown.{settled}
 use Rattle.beldi_laws.proofs.Turns as turns
 use Rattle.beldi_laws.proofs.Turns.{Freed, Leaves}
 
@@ -242,7 +240,15 @@ module _ (d : Deployment) (c : Core) (m : Rows) (i : ℕ) (r : Run) (g : Begun) 
   touch_here = ap touched (in_tx.effect_so d c m r g h k o here e is x touch) ∙ touch
 
   none_within : (j : IntentId) (z : Instance) → map.get h.known j ≡ Some z → z.within ≡ None
-  none_within j z made = called_outside d h.plain h.known h.beside j z made (legal_sane h)
+  none_within j z made = h.uncalled j z made
+
+  made_there : (j : IntentId) → is_some (map.get h.known j) ≡ true → is_some (map.get h.plain.made j) ≡ true
+  made_there j there = by_both (map.get h.known j) refl (map.get h.plain.made j) refl there
+    where
+      by_both : (u : Option Instance) → map.get h.known j ≡ u → (v : Option Instance) → map.get h.plain.made j ≡ v → is_some u ≡ true → is_some v ≡ true
+      by_both None is v made g = cc
+      by_both (Some z) is None made g = let clash = sym (h.beside.kept j z made is).within ∙ h.uncalled j z is in cc
+      by_both (Some z) is (Some q) made g = refl
 
   abbrev its_item : Item
   its_item = record { func = k.instance.func; table = x.0; key = x.1 }
@@ -304,7 +310,7 @@ module _ (d : Deployment) (c : Core) (m : Rows) (i : ℕ) (r : Run) (g : Begun) 
         by_lock : (b : Bool) → h.locked r.id ≡ b → b ≡ false
         by_lock false z = refl
         by_lock true z =
-            let got = as_run (λ y q. note_at (content_of m y).notes q ≡ Some notes.Got) (lock_is_there d m h.known h.locked h.rows r.id k.instance k.made few_now its_item own tx_is (ap (is_item its_item k.instance.func) front.touch ∙ item_self k.instance.func x.0 x.1) z) in
+            let got = as_run (λ y q. note_at (content_of m y).notes q ≡ Some notes.Got) (lock_is_there d m h.known h.locked h.rows r.id k.instance k.made few_now its_item own tx_is (ap (is_item its_item k.instance.func) front.touch ∙ in_tx.item_self k.instance.func x.0 x.1) z) in
             let clash = sym none ∙ got in cc
 
   -- ---- what was kept for a read
@@ -330,7 +336,7 @@ module _ (d : Deployment) (c : Core) (m : Rows) (i : ℕ) (r : Run) (g : Begun) 
         by_answer (answer.Aborted z) left ok =
             let row = behind_looks_dead d m h.known h.locked h.rows r.id k.instance k.made sane k.answers (answer.Aborted z) rest (all (answer.Aborted z) rest left)
             few x.0 x.1 z is_read refl in
-            let clash = sym there ∙ sym (its_row (length k.answers) steps) ∙ row in cc
+            absurd (let clash = sym there ∙ sym (its_row (length k.answers) steps) ∙ row in cc)
         by_answer b left ok = absurd ok
 
     by_row : (v : Option Row) → map.get m log_row ≡ v → Comes (tx_says at.Log (given_goes o.begin (given_of (said (act Look c.now v).1)))) m
@@ -340,7 +346,7 @@ module _ (d : Deployment) (c : Core) (m : Rows) (i : ℕ) (r : Run) (g : Begun) 
         by_later : (later : List Answer) → k.later ≡ later → Comes (says.Answers (answer.Value (given_in w)) None) m
         by_later [] left =
             let none = no_row d m h.known h.locked h.rows r.id k.instance k.made in
-            let clash = sym there ∙ sym (its_row (length k.instance.answers) (turns.step_here d c.book h.known r g k left)) ∙ none in cc
+            absurd (let clash = sym there ∙ sym (its_row (length k.instance.answers) (turns.step_here d c.book h.known r g k left)) ∙ none in cc)
         by_later (a ∷ rest) left = subst (λ z. Comes (says.Answers z None) m) (sym (behind_row a rest left w there)) (in_tx.replays d c m i r g h live k finds o tx here e is x on m a rest left (λ t. refl) (as_it_was h))
 
     pub log_turn : Turns at.Log
@@ -429,7 +435,7 @@ module _ (d : Deployment) (c : Core) (m : Rows) (i : ℕ) (r : Run) (g : Begun) 
           by_effect (effect.Read t y) f = in_tx.goes_at d c m i r g h live k finds o tx here e is x on at.Shadow n after roots kept (subst (λ z. Fits z at.Shadow) f tt) (in_past at.Shadow tt got (λ z u. subst (λ q. Found q at.Shadow z u) f tt))
           by_effect (effect.Write t y u) f = in_tx.goes_at d c m i r g h live k finds o tx here e is x on (at.Write Try) n after roots kept (subst (λ z. Fits z (at.Write Try)) f tt) (in_past (at.Write Try) tt got (λ z u. subst (λ q. Found q (at.Write Try) z u) f tt))
           by_effect (effect.CondWrite t y l p u) f = in_tx.goes_at d c m i r g h live k finds o tx here e is x on at.Shadow n after roots kept (subst (λ z. Fits z at.Shadow) f tt) (in_past at.Shadow tt got (λ z u. subst (λ q. Found q at.Shadow z u) f tt))
-          by_effect f same = let clash = ap item_of same ∙ on in cc
+          by_effect f same = absurd (let clash = ap item_of same ∙ on in cc)
 
       -- ---- at the front, where the place had no note
       module _ (left : k.later ≡ []) (none : note_at (content_of m item).notes place ≡ None) where
@@ -500,9 +506,8 @@ module _ (d : Deployment) (c : Core) (m : Rows) (i : ℕ) (r : Run) (g : Begun) 
               (place_now left) (died_at (place_now left) j (content_of m item)) j (dies_so (place_now left) own (content_of m item) j (subst (λ p. note_at (content_of m item).notes p ≡ None) (sym (at_place left)) none) dead).0
 
           died_goes : Goes d n h.plain next h.locked
-          died_goes = let b = in_tx.begun d c m r g h k o here e is x touch left in
-              death_goes d m h.plain h.known h.locked h.shadows h.beside h.rows r.id b.0 k.instance b.1.made b.1.begun b.1.outside own x.0 x.1 (front left) sane h.locked (none_out h.locked r.id unlocked)
-              (head_key item) v cause refl unlocked (death_answer (place_now left) own (effect_of d k.instance) x cause (front left).touch is_death)
+          died_goes = subst (λ y. Goes d (set_row m (head_key y) v) h.plain next h.locked) same_item
+              (deaths_go d m h.plain h.known h.locked h.locked r.id k.instance own x.0 x.1 v cause (in_tx.opened d c m r g h k o here e is x touch left) (front left) (none_out h.locked r.id unlocked) unlocked (death_answer (place_now left) own (effect_of d k.instance) x cause (front left).touch is_death))
 
           died_matches : Matches d n next h.locked
           died_matches = subst (λ y. Matches d (set_row m (head_key y) v) next h.locked) same_item
@@ -546,7 +551,7 @@ module _ (d : Deployment) (c : Core) (m : Rows) (i : ℕ) (r : Run) (g : Begun) 
                 values = λ y. died_lists m own (no_decision_yet left) item v (ap (λ (z : Content). z.value) row_died) (ap (λ (z : Content). z.owner) row_died) y ∙ h.values y;
                 settled = settled_rows d m n h.plain h.plain h.known next died_frame
                     (settled_operated d m h.plain h.known r.id k.instance k.made a x (front left).touch
-                    (λ z u same by. subst (λ y. is_some (map.get h.plain.made y) ≡ true) (same_some (ap (λ (y : Cause). y.holder) (one_cause same) ∙ by)) (holder_made d m h.known h.locked h.rows none_within h.plain h.beside item j holder)) (settled h));
+                    (λ z u same by. subst (λ y. is_some (map.get h.plain.made y) ≡ true) (same_some (ap (λ (y : Cause). y.holder) (one_cause same) ∙ by)) (holder_made d m h.known h.locked h.rows none_within h.plain made_there item j holder)) (settled h));
               }) (grows_moved d h.known r.id k.instance a k.made) died_frame
 
           dies_now : Comes (says.Answers (answer.Aborted (record { place = place; holder = Some j })) None) n
@@ -567,11 +572,11 @@ module _ (d : Deployment) (c : Core) (m : Rows) (i : ℕ) (r : Run) (g : Begun) 
       taken_now : note_at (content_of m item).notes place ≡ None → (j : Option IntentId) → dies (ByTx own) Lock (content_of m item).owner ≡ j → DidAs place (ByTx own) Lock j (content_of m item) (content_of n item)
           → note_at (content_of n item).notes place ≡ Some notes.Got → Comes (tx_says (at.Lock (AtItem w)) (locked_goes e)) n
       taken_now none None alive did got = let left = at_front none in goes_past (lock_in h.locked r.id) (taken_kept left none (free_of own (content_of m item).owner did.0 alive) did.1) got
-      taken_now none (Some j) dead did got = let clash : notes.Got ≡ notes.Died j = new_note place (ByTx own) (content_of m item) (content_of n item) (Some j) notes.Got did none got in cc
+      taken_now none (Some j) dead did got = absurd (let clash : notes.Got ≡ notes.Died j = new_note place (ByTx own) (content_of m item) (content_of n item) (Some j) notes.Got did none got in cc)
 
       died_now : note_at (content_of m item).notes place ≡ None → (j : IntentId) (b : Option IntentId) → dies (ByTx own) Lock (content_of m item).owner ≡ b → DidAs place (ByTx own) Lock b (content_of m item) (content_of n item)
           → note_at (content_of n item).notes place ≡ Some (notes.Died j) → Comes (says.Answers (answer.Aborted (record { place = place; holder = Some j })) None) n
-      died_now none j None alive did there = let clash : notes.Died j ≡ notes.Got = new_note place (ByTx own) (content_of m item) (content_of n item) None (notes.Died j) did none there in cc
+      died_now none j None alive did there = absurd (let clash : notes.Died j ≡ notes.Got = new_note place (ByTx own) (content_of m item) (content_of n item) None (notes.Died j) did none there in cc)
       died_now none j (Some i) dead did there = subst (λ z. Comes (says.Answers (answer.Aborted (record { place = place; holder = Some z })) None) n)
           (one_death (new_note place (ByTx own) (content_of m item) (content_of n item) (Some i) (notes.Died j) did none there)) (dies_now (at_front none) none i dead did)
 

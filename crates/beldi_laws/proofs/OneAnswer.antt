@@ -47,8 +47,6 @@ use Rattle.beldi_invokelog.proofs.Calls.{calls_stay}
 use Rattle.beldi_lang.specs.Callee.{answer_of}
 use Rattle.beldi_laws.proofs.OneEvent.{one_row}
 use Rattle.beldi_laws.proofs.Standing.{held_here, same_run}
-use Rattle.beldi_laws.proofs.Outside.{called_outside}
-use Rattle.beldi_laws.proofs.Shown.{legal_sane}
 use Rattle.beldi_step.specs.Run.{noted_answer}
 use Rattle.beldi_lang.specs.declared.effect.Answer.TheVariants.{Done}
 use Rattle.beldi_known.specs.Contents.{head_key, shadow_key}
@@ -74,7 +72,7 @@ module _ (d : Deployment) (c : Core) (m : Rows) (h : Right d c m) (id : IntentId
   answers_of : (o : Option Instance) → map.get h.known id ≡ o → AnswersOf d c m id o
   answers_of None none = λ r g b. let k = known b.number r g b.live b.begun in let clash : Some k.instance ≡ None = sym k.made ∙ ap (map.get h.known) b.same_id ∙ none in cc
   answers_of (Some q) made = record {
-    held = λ n a at. held_here d m h.known h.locked h.rows h.sane id q made n a at (called_outside d h.plain h.known h.beside id q made (legal_sane h));
+    held = λ n a at. held_here d m h.known h.locked h.rows h.sane id q made n a at (h.uncalled id q made);
     runs = λ r g b. given_of q r g made b.same_id (known b.number r g b.live b.begun);
   }
 

@@ -68,11 +68,11 @@ use Rattle.beldi_laws.specs.Right.{Right, Knows, StageOk, PlaceOk}
 use Rattle.beldi_known.proofs.Rows.{no_root}
 use Rattle.beldi_laws.specs.Inside.{Frame, Inside}
 use Rattle.beldi_laws.proofs.Moves.{AfterTurn, AfterQuery, SameRoots, change_entered, Entered, Kept, Stays}
-use Rattle.beldi_laws.proofs.Decisions.{set_agrees}
+use Rattle.beldi_known.proofs.Outsides.{set_agrees}
 use Rattle.beldi_laws.proofs.Frames.{frame_done, frame_held, item_stays, items_stay, query_keeps, settled_grown, settled_outside, settled_rows}
 use Rattle.beldi_laws.proofs.Others.{kept_by}
 use Rattle.beldi_laws.proofs.Keeping.{SameShadows, goes_answered, stays_by}
-use Rattle.beldi_laws.proofs.Turns.{effect_here, answer_here, step_here, effect_next, wants_it, fits, not_over, goes_on, held, ends, replays, steps_on, outside_here, tx_step, tx_next, not_of_tx, plain_there, outside_after, unlocked_there}
+use Rattle.beldi_laws.proofs.Turns.{effect_here, answer_here, step_here, effect_next, wants_it, fits, not_over, goes_on, held, ends, replays, steps_on, outside_here, tx_step, tx_next, not_of_tx, plain_there, unlocked_there}
 use Rattle.beldi_known.proofs.Operations.{does_so}
 use Rattle.beldi_known.proofs.Owners.{unbarred, nobody_else}
 use Rattle.beldi_known.specs.Operations.{cell_of, DoneRows}
@@ -283,7 +283,7 @@ module _ (d : Deployment) (c : Core) (m : Rows) (i : ℕ) (r : Run) (g : Begun) 
 
       rows_done : Shows d n state next h.locked
       rows_done = record {
-        goes = goes_answered h n same_shadows r.id k.instance a k.made unlocked (outside_after d c.book h.known r g k out left a) state.items
+        goes = goes_answered h n same_shadows r.id k.instance a k.made unlocked outside state.items
             (λ j z other. set_agrees d m h.plain h.known h.locked h.shadows h.beside h.sane h.rows (legal_sane h) y (sets o.does old) unowned j z);
         locked_at_ends = ahead_set d h.known h.locked h.locked_at_ends h.locked r.id (moved d r.id k.instance a) (none_out h.locked r.id unlocked);
         sane = answered_kept d h.known h.sane r.id k.instance a k.made open_still outside (is_no_call (effect_of d k.instance) o wants_op) (subst (λ z. IsAnswerTo z a) (sym now) answers_so);
@@ -298,13 +298,29 @@ module _ (d : Deployment) (c : Core) (m : Rows) (i : ℕ) (r : Run) (g : Begun) 
       steps : After (Answers a (Some mark.Step))
       steps = steps_on d c m i r g h live k finds out e is a mark.Step state n left answers_so leads roots kept_done
 
-    done_now : (later : List Answer) → k.later ≡ later → (w : Note) → note_at (content_of n item).notes place ≡ Some w → DidOnce place (owner.Intent r.id) op true (content_of m item) (content_of n item) → After (write_says e (writes.Done w true))
-    done_now [] left w there did = subst (λ x. After (done_says true x)) (sym (told_back e o w (a left did) so (answers_so left did) (told left did w there))) (steps left did)
-    done_now (b ∷ rest) left w there did = let clash = sym (noted_back o.does b (answered_so e o b so (fits d c m i r g h live k finds out e is b rest left))) ∙ ap (option_and_then noted_answer) (sym (note_read b rest left) ∙ did.0) in cc
+    -- the step is done now, or was done before, by what it has been answered; the other two cannot be
+    abbrev DidNow : Type 0
+    DidNow = DidOnce place (owner.Intent r.id) op true (content_of m item) (content_of n item)
+
+    now_first : k.later ≡ [] → (w : Note) → note_at (content_of n item).notes place ≡ Some w → DidNow → After (write_says e (writes.Done w true))
+    now_first left w there did = subst (λ x. After (done_says true x)) (sym (told_back e o w (a left did) so (answers_so left did) (told left did w there))) (steps left did)
+
+    not_again : (b : Answer) (rest : List Answer) → k.later ≡ b ∷ rest → DidNow → ⊥
+    not_again b rest left did = let clash = sym (noted_back o.does b (answered_so e o b so (fits d c m i r g h live k finds out e is b rest left))) ∙ ap (option_and_then noted_answer) (sym (note_read b rest left) ∙ did.0) in cc
+
+    done_now : (later : List Answer) → k.later ≡ later → (w : Note) → note_at (content_of n item).notes place ≡ Some w → DidNow → After (write_says e (writes.Done w true))
+    done_now [] left w noted did = now_first left w noted did
+    done_now (b ∷ rest) left w noted did = absurd (not_again b rest left did)
+
+    not_yet : k.later ≡ [] → (w : Note) → note_at (content_of m item).notes place ≡ Some w → ⊥
+    not_yet left w there = let clash = sym there ∙ note_is [] left in cc
+
+    again : (b : Answer) (rest : List Answer) → k.later ≡ b ∷ rest → (w : Note) → note_at (content_of m item).notes place ≡ Some w → content_of n item ≡ content_of m item → After (write_says e (writes.Done w false))
+    again b rest left w there same = subst (λ x. After (done_says false x)) (sym (told_back e o w b so (fits d c m i r g h live k finds out e is b rest left) (sym (note_read b rest left) ∙ there))) (replays d c m i r g h live k finds out e is n b rest roots (kept same) left)
 
     done_before : (later : List Answer) → k.later ≡ later → (w : Note) → note_at (content_of m item).notes place ≡ Some w → content_of n item ≡ content_of m item → After (write_says e (writes.Done w false))
-    done_before [] left w there held = let clash = sym there ∙ note_is [] left in cc
-    done_before (b ∷ rest) left w there held = subst (λ x. After (done_says false x)) (sym (told_back e o w b so (fits d c m i r g h live k finds out e is b rest left) (sym (note_read b rest left) ∙ there))) (replays d c m i r g h live k finds out e is n b rest roots (kept held) left)
+    done_before [] left w noted same = absurd (not_yet left w noted)
+    done_before (b ∷ rest) left w noted same = again b rest left w noted same
 
     by_says : (z : WriteGoes) → Logs place (owner.Intent r.id) op (walk_so z) (content_of m item) (content_of n item) → After (write_says e z)
     by_says (writes.On to) held = goes_on d c m i r g h live k finds out e is n (stage.Write to) roots (kept held) (may_stand r.id g.caller e o to so) (no_place d c.book r.id r.func k.answers k.later e to) tt

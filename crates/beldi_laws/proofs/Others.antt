@@ -60,7 +60,8 @@ use Rattle.beldi_known.specs.Owed.{value_for}
 use Rattle.beldi_known.specs.Rows.{LogMatches}
 use Rattle.beldi_known.proofs.Answers.{true_false}
 use Rattle.beldi_known.proofs.Behind.{log_there}
-use Rattle.beldi_known.proofs.Frame.{along_append, begins, ended_stays, fits, step_next}
+use Rattle.beldi_known.proofs.Frame.{begins, step_next}
+use Rattle.beldi_order.proofs.Ends.{along_append, ended_stays, fits}
 use Rattle.beldi_known.proofs.Locks.{tx_self, tx_same}
 use Rattle.beldi_known.proofs.Participants.{now_open}
 use Rattle.beldi_laws.specs.Inside.{AtStage, Found, Frame, InItem, InOperation, Inside, InsideAt, IsWriting, Released, end_walk}
@@ -69,8 +70,7 @@ use Rattle.beldi_laws.proofs.Grown.{tx_stays}
 use Rattle.beldi_laws.proofs.Lives.{no_more}
 use Rattle.beldi_laws.proofs.OpenOf.{begin_of, open_begun, tx_open}
 use Rattle.beldi_laws.proofs.Moves.{Kept}
-use Rattle.beldi_laws.proofs.Outside.{called_outside}
-use Rattle.beldi_laws.proofs.Shown.{Shows, legal_sane}
+use Rattle.beldi_laws.proofs.Shown.{Shows}
 
 -- ---- small facts
 none_later : (xs ys : List Answer) → length (xs ++ ys) ≡ length xs → ys ≡ []
@@ -204,7 +204,7 @@ module _ (d : Deployment) (c : Core) (m n : Rows) (h : Right d c m) (q : PlainSt
   all_then = sym (append_assoc k.answers k.later w.later) ∙ ap (λ xs. xs ++ w.later) k.run_answers ∙ w.more
 
   within : k.instance.within ≡ None
-  within = called_outside d h.plain h.known h.beside r.id k.instance k.made (legal_sane h)
+  within = h.uncalled r.id k.instance k.made
 
   within_then : j.within ≡ None
   within_then = w.within ∙ within

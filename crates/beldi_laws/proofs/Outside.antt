@@ -1,10 +1,13 @@
 -- Steps outside transactions: where no Begin is open. There what is known of an instance is what the plain state has.
-use Rattle.std.proofs.Common.{Bool, true, false, ◌≡◌, ◌∙◌, List, [], ◌∷◌, ◌++◌, Option, Some, None, refl, ap, sym, subst, length, ◌&&◌, append_assoc}
+use Rattle.std.proofs.Common.{Bool, true, false, ◌≡◌, ◌∙◌, inl, List, [], ◌∷◌, ◌++◌, Option, Some, None, refl, ap, sym, subst, length, ◌&&◌}
 use Rattle.std.specs.FinMap as map
+use Rattle.std.specs.FinMap.{FinMap}
 use Rattle.std.specs.Option.{is_none}
+use Rattle.beldi_value.specs.Id.{id_cmp}
 use Rattle.beldi_value.specs.declared.id.IntentId.{IntentId}
 use Rattle.beldi_value.specs.declared.place.Place.{Place}
 use Rattle.beldi_value.specs.declared.place.Caller.{Caller}
+use Rattle.beldi_value.specs.declared.place.TxId.{TxId}
 use Rattle.beldi_value.specs.declared.value.Value.TheVariants as value
 use Rattle.beldi_tree.specs.declared.deployment.Deployment.{Deployment}
 use Rattle.beldi_lang.specs.declared.effect.Answer.{Answer}
@@ -12,22 +15,25 @@ use Rattle.beldi_lang.specs.declared.effect.Effect.{Effect}
 use Rattle.beldi_lang.specs.declared.effect.Answer.TheVariants as answer
 use Rattle.beldi_lang.specs.declared.effect.Effect.TheVariants as effect
 use Rattle.beldi_plain.specs.Item.{Item}
+use Rattle.beldi_plain.specs.Piece.{opened, tx_begun}
 use Rattle.beldi_plain.specs.Plain.{Instance, PlainState, effect_of, outcome_of}
+use Rattle.beldi_order.specs.Inside.{Line, top, next}
 use Rattle.beldi_order.specs.Sane as plain
 use Rattle.beldi_order.specs.Sane.{IsAnswer}
 use Rattle.beldi_laws.specs.Outside.{IsAnswerTo}
-use Rattle.beldi_order.specs.Grown.{Grown}
+use Rattle.beldi_order.specs.Grown.{Grown, GrownAt}
 use Rattle.beldi_order.proofs.Maps.{same_some}
-use Rattle.beldi_order.proofs.Sanes.{sane_of}
+use Rattle.beldi_order.proofs.Entries.{opened_grows}
+use Rattle.beldi_order.proofs.Line.{in_line, line_opened}
+use Rattle.beldi_order.proofs.Locks.{from_begin}
 use Rattle.beldi_step.specs.declared.run.Stage.{Stage}
-use Rattle.beldi_order.specs.Inside.{answered_all, inside}
-use Rattle.beldi_known.specs.Beside.{Beside, OpenTx, last_of, is_begin, begins}
-use Rattle.beldi_known.proofs.Leads.{later_of, known_all}
+use Rattle.beldi_known.specs.Beside.{Beside, is_begin, begins}
 use Rattle.beldi_known.specs.Known.{Known}
 use Rattle.beldi_order.specs.Txs.{txs_after, txs_by, Txs, effect_after}
-use Rattle.beldi_known.specs.Sane.{SaneInstance}
 use Rattle.beldi_order.proofs.Went.{txs_pushed}
-use Rattle.beldi_known.proofs.Opened.{IsOutside, open_inside, open_holds}
+use Rattle.beldi_known.proofs.Lines.{owner_is}
+use Rattle.beldi_known.proofs.NoTx.{IsOutside, begins_parts}
+use Rattle.beldi_laws.specs.Inside.{NoneIsInside}
 use Rattle.beldi_laws.specs.Right.{StageOk}
 use Rattle.beldi_laws.proofs.Grown.{grown_same}
 use Rattle.beldi_plain.specs.Holds.{holds}
@@ -87,27 +93,30 @@ pub record KnownOf (known : Known) (id : IntentId) (q : Instance) : Type 0 where
   pub grown : Grown q instance
   pub outcome : instance.outcome ≡ q.outcome
 
+-- the owner of a transaction that goes on has not ended
+owner_open : (d : Deployment) (t : TxId) (f : FinMap id_cmp Instance) (i : IntentId) → Line d t f i → (z : Instance) × (map.get f t.intent ≡ Some z) × (z.outcome ≡ None)
+owner_open d t f i (top _ h) = (h.instance, ap (map.get f) (sym h.own) ∙ h.made, h.open_still)
+owner_open d t f i (next k _ l h) = owner_open d t f k l
+
+grown_there : (q : Instance) (o u : Option Instance) → o ≡ Some q → GrownAt o u → (y : Instance) × (u ≡ Some y) × Grown q y
+grown_there q None u is g = cc
+grown_there q (Some z) None is g = absurd g
+grown_there q (Some z) (Some y) is g = (y, refl, subst (λ (x : Instance). Grown x y) (same_some is) g)
+
 module _ (d : Deployment) (p : PlainState) (known : Known) (beside : Beside d p known) (id : IntentId) where
   pub known_of : (q : Instance) → map.get p.made id ≡ Some q → KnownOf known id q
   known_of q made = by_begin (begins d q) refl
     where
       by_begin : (b : Bool) → begins d q ≡ b → KnownOf known id q
       by_begin false e = record { instance = q; is = beside.same id q made e; grown = grown_same q; outcome = refl }
-      by_begin true e = let at = beside.begun id q made e in
-          record {
-            instance = record q { answers = (q.answers ++ answer.Done ∷ []) ++ later_of at };
-            is = known_all d p.items q (map.get known id) at;
-            grown = record { func = refl; args = refl; from = refl; within = refl; later = answer.Done ∷ later_of at; more = sym (append_assoc q.answers (answer.Done ∷ []) (later_of at)); over = λ o h. h };
-            outcome = refl;
-          }
-
-  -- who is known was made
-  pub made_of : (k : Instance) → map.get known id ≡ Some k → (q : Instance) × (map.get p.made id ≡ Some q) × Grown q k × (k.outcome ≡ q.outcome)
-  made_of k is = by_plain (map.get p.made id) refl
-    where
-      by_plain : (o : Option Instance) → map.get p.made id ≡ o → (q : Instance) × (map.get p.made id ≡ Some q) × Grown q k × (k.outcome ≡ q.outcome)
-      by_plain None made = let clash = sym (beside.none id made) ∙ is in cc
-      by_plain (Some q) made = let z = known_of q made in let same : z.instance ≡ k = same_some (sym z.is ∙ is) in (q, made, subst (Grown q) same z.grown, ap (λ (y : Instance). y.outcome) (sym same) ∙ z.outcome)
+      by_begin true e =
+          let t = tx_begun id q in
+          let at = beside.begun id q made e in
+          let b = begins_parts d q e in
+          let f = at.going.state.made in
+          let y = grown_there q (map.get p.made id) (map.get f id) made (opened_grows d p id q at.moves at.going made b.0 at.leads id) in
+          let z = owner_open d t f at.going.front (in_line d t (opened p id q) at.moves at.going (line_opened d p id q b.0) at.leads) in
+          record { instance = y.0; is = at.whole id (inl refl) ∙ y.1; grown = y.2; outcome = ap (λ (x : Instance). x.outcome) (same_some (sym y.1 ∙ z.1)) ∙ z.2 ∙ sym b.0 }
 
   pub plain_none : map.get known id ≡ None → map.get p.made id ≡ None
   plain_none new = by_plain (map.get p.made id) refl
@@ -115,14 +124,6 @@ module _ (d : Deployment) (p : PlainState) (known : Known) (beside : Beside d p 
       by_plain : (o : Option Instance) → map.get p.made id ≡ o → o ≡ None
       by_plain None made = refl
       by_plain (Some q) made = let clash = sym (known_of q made).is ∙ new in cc
-
-  -- an outcome that is known is the plain one
-  pub outcome_known : outcome_of (map.get known id) ≡ outcome_of (map.get p.made id)
-  outcome_known = by_plain (map.get p.made id) refl
-    where
-      by_plain : (o : Option Instance) → map.get p.made id ≡ o → outcome_of (map.get known id) ≡ outcome_of o
-      by_plain None made = ap outcome_of (beside.none id made)
-      by_plain (Some q) made = let z = known_of q made in ap outcome_of z.is ∙ z.outcome
 
   -- who begins no transaction is known as the plain state has it
   pub same_here : (q : Instance) → map.get p.made id ≡ Some q → is_begin (effect_of d q) ≡ false → map.get known id ≡ Some q
@@ -132,26 +133,52 @@ module _ (d : Deployment) (p : PlainState) (known : Known) (beside : Beside d p 
       and_false true = refl
       and_false false = refl
 
-  -- .. and so is who is outside
-  pub plain_here : (k : Instance) → map.get known id ≡ Some k → SaneInstance d id k → IsOutside d k k.answers → map.get p.made id ≡ Some k
+-- ---- where nobody was called in a transaction
+module _ (d : Deployment) (p : PlainState) (known : Known) (beside : Beside d p known) (uncalled : NoneIsInside d known) (id : IntentId) where
+  -- who is known was made
+  pub made_of : (k : Instance) → map.get known id ≡ Some k → (q : Instance) × (map.get p.made id ≡ Some q) × Grown q k × (k.outcome ≡ q.outcome)
+  made_of k is = by_plain (map.get p.made id) refl
+    where
+      by_plain : (o : Option Instance) → map.get p.made id ≡ o → (q : Instance) × (map.get p.made id ≡ Some q) × Grown q k × (k.outcome ≡ q.outcome)
+      by_plain None made = let clash = sym (uncalled id k is) ∙ (beside.kept id k made is).within in cc
+      by_plain (Some q) made = let z = known_of d p known beside id q made in let same : z.instance ≡ k = same_some (sym z.is ∙ is) in (q, made, subst (Grown q) same z.grown, ap (λ (y : Instance). y.outcome) (sym same) ∙ z.outcome)
+
+  pub known_none : map.get p.made id ≡ None → map.get known id ≡ None
+  known_none made = by_known (map.get known id) refl
+    where
+      by_known : (o : Option Instance) → map.get known id ≡ o → o ≡ None
+      by_known None is = refl
+      by_known (Some k) is = let clash = sym (made_of k is).1 ∙ made in cc
+
+  -- an outcome that is known is the plain one
+  pub outcome_known : outcome_of (map.get known id) ≡ outcome_of (map.get p.made id)
+  outcome_known = by_plain (map.get p.made id) refl
+    where
+      by_plain : (o : Option Instance) → map.get p.made id ≡ o → outcome_of (map.get known id) ≡ outcome_of o
+      by_plain None made = ap outcome_of (known_none made)
+      by_plain (Some q) made = let z = known_of d p known beside id q made in ap outcome_of z.is ∙ z.outcome
+
+  -- who is outside is known as the plain state has it
+  pub plain_here : (k : Instance) → map.get known id ≡ Some k → plain.Sane d p → IsOutside d k k.answers → map.get p.made id ≡ Some k
   plain_here k is sane out = let q = made_of k is in q.1 ∙ by_begin q.0 q.1 (begins d q.0) refl
     where
       by_begin : (q : Instance) → map.get p.made id ≡ Some q → (b : Bool) → begins d q ≡ b → Some q ≡ Some k
       by_begin q made false e = sym (beside.same id q made e) ∙ is
-      by_begin q made true e = let clash = sym out.1 ∙ open_inside d p.items id q k e (subst (OpenTx d p.items q) is (beside.begun id q made e)) sane in cc
+      by_begin q made true e =
+          let z = owner_is d p known sane id q made e (beside.begun id q made e) in
+          let clash = sym out.1 ∙ ap (λ (y : Instance). (txs_after d y y.answers).begun) (same_some (sym is ∙ z.1)) ∙ z.2.begun in cc
 
   -- who holds a lock is known to hold it, and nobody else is
-  pub holds_known : ((k : Instance) → map.get known id ≡ Some k → SaneInstance d id k) → (x : Item) → holds d x (map.get known id) ≡ holds d x (map.get p.made id)
-  holds_known sane x = by_plain (map.get p.made id) refl
+  pub holds_known : (x : Item) → holds d x (map.get known id) ≡ holds d x (map.get p.made id)
+  holds_known x = by_plain (map.get p.made id) refl
     where
       by_begin : (q : Instance) → map.get p.made id ≡ Some q → (b : Bool) → begins d q ≡ b → holds d x (map.get known id) ≡ holds d x (Some q)
       by_begin q made false e = ap (holds d x) (beside.same id q made e)
-      by_begin q made true e = let at = beside.begun id q made e in let k = answered_all (inside q at.rest) (last_of at.fell) in ap (holds d x) at.known ∙ open_holds d p.items id q k e (subst (OpenTx d p.items q) at.known at) (sane k at.known) x
+      by_begin q made true e =
+          let at = beside.begun id q made e in
+          let b = begins_parts d q e in
+          ap (holds d x) (at.whole id (inl refl)) ∙ from_begin d x p id q at.moves at.going made b.0 b.1 at.leads id ∙ ap (holds d x) made
 
       by_plain : (o : Option Instance) → map.get p.made id ≡ o → holds d x (map.get known id) ≡ holds d x o
-      by_plain None made = ap (holds d x) (beside.none id made)
+      by_plain None made = ap (holds d x) (known_none made)
       by_plain (Some q) made = by_begin q made (begins d q) refl
-
-  -- nobody was called in a transaction yet
-  pub called_outside : (k : Instance) → map.get known id ≡ Some k → plain.Sane d p → k.within ≡ None
-  called_outside k is sane = let q = made_of k is in q.2.within ∙ (sane_of d p id q.0 sane q.1).outside

@@ -1,5 +1,5 @@
 -- The turns of a read.
-use Rattle.std.proofs.Common.{◌≡◌, ℕ, ◌≤◌, List, [], ◌∷◌, length, Option, None, Some, refl, ap, sym, ◌∙◌, subst, is_some, arith, false}
+use Rattle.std.proofs.Common.{◌≡◌, inl, ℕ, ◌≤◌, List, [], ◌∷◌, length, Option, None, Some, refl, ap, sym, ◌∙◌, subst, is_some, arith, false}
 use Rattle.std.specs.Prelude.{slice_get}
 use Rattle.std.specs.Option.{option_map}
 use Rattle.std.specs.FinMap as map
@@ -62,7 +62,7 @@ use Rattle.beldi_laws.proofs.Frames.{frame_row, items_stay, settled_grown, settl
 use Rattle.beldi_laws.proofs.Others.{kept_by}
 use Rattle.beldi_laws.proofs.Grown.{grows_moved}
 use Rattle.beldi_laws.proofs.Keeping.{as_it_was, goes_answered, set_shadows}
-use Rattle.beldi_laws.proofs.Turns.{effect_here, answer_here, all_here, step_here, effect_next, fits, not_over, goes_on, held, replays, steps_on, tx_next, plain_there, outside_after, unlocked_there}
+use Rattle.beldi_laws.proofs.Turns.{effect_here, answer_here, all_here, step_here, effect_next, fits, not_over, goes_on, held, replays, steps_on, tx_next, plain_there, unlocked_there}
 use Rattle.beldi_known.proofs.Owners.{unowned, nobody_else}
 use Rattle.beldi_plain.specs.Guard.{touched_by, item_touched}
 use Rattle.beldi_plain.specs.Holds.{holds}
@@ -71,10 +71,10 @@ use Rattle.beldi_known.specs.Known.{Known, moved, commit_in, owed_read}
 use Rattle.beldi_order.specs.Txs.{tx_after, tx_now, txs_after}
 use Rattle.beldi_known.specs.Matches.{Matches}
 use Rattle.beldi_known.specs.Frame.{row_added}
-use Rattle.beldi_laws.proofs.Shown.{Shows, value_here, holds_here, legal_sane, settled}
+use Rattle.beldi_laws.proofs.Shown.{Shows, value_here, holds_here, settled}
 use Rattle.beldi_laws.proofs.Owed.{value_if, read_there}
 use Rattle.beldi_laws.proofs.KeptSane.{answered_kept}
-use Rattle.beldi_laws.proofs.Outside.{is_call, called_outside}
+use Rattle.beldi_laws.proofs.Outside.{is_call}
 use Rattle.beldi_known.proofs.Ahead.{ahead_set, none_out}
 use Rattle.beldi_known.proofs.Outside.{read_added, no_tx}
 use Rattle.beldi_known.proofs.Frame.{moved_one}
@@ -249,14 +249,14 @@ module _ (d : Deployment) (c : Core) (m : Rows) (i : ℕ) (r : Run) (g : Begun) 
 
       read_rows : Shows d n state next h.locked
       read_rows = record {
-        goes = goes_answered h n (set_shadows m (log_key r.func place) (Some (rows.ReadLog v)) refl) r.id k.instance (answer.Value v) k.made unlocked (outside_after d c.book h.known r g k out left (answer.Value v)) h.plain.items (λ j z other x owned. refl);
+        goes = goes_answered h n (set_shadows m (log_key r.func place) (Some (rows.ReadLog v)) refl) r.id k.instance (answer.Value v) k.made unlocked outside h.plain.items (λ j z other x owned. refl);
         locked_at_ends = ahead_set d h.known h.locked h.locked_at_ends h.locked r.id (moved d r.id k.instance (answer.Value v)) (none_out h.locked r.id unlocked);
         sane = answered_kept d h.known h.sane r.id k.instance (answer.Value v) k.made open_still outside (ap is_call now) (subst (λ e. IsAnswerTo e (answer.Value v)) (sym now) tt);
         rows = subst (λ z. Matches d (set_row m z (Some (rows.ReadLog v))) next h.locked) own_key
-            (read_added d h.known h.locked r.id k.instance (moved d r.id k.instance (answer.Value v)) (answer.Value v) k.made unlocked outside (ap commit_in now) (moved_one d r.id k.instance (answer.Value v))
+            (read_added d h.known h.locked r.id k.instance (moved d r.id k.instance (answer.Value v)) (answer.Value v) k.made unlocked (inl outside) (ap commit_in now) (moved_one d r.id k.instance (answer.Value v))
             m v (ap op_of now) (ap (λ e. row_added (length k.instance.answers) (txs_after d k.instance k.instance.answers).begun e (answer.Value v)) now) h.rows);
         values = λ x. subst (λ z. listed (set_row m z (Some (rows.ReadLog v))) x ≡ value_at h.plain x) own_key
-            (read_lists d m h.known h.locked h.rows.txs (λ j z at. called_outside d h.plain h.known h.beside j z at (legal_sane h)) r.id k.instance k.made (Some (rows.ReadLog v)) x ∙ h.values x);
+            (read_lists d m h.known h.locked h.rows.txs (λ j z at. h.uncalled j z at) r.id k.instance k.made (Some (rows.ReadLog v)) x ∙ h.values x);
         settled = settled_rows d m n h.plain state h.known next frame (settled_grown d m h.plain state next read_entered.grows (settled_outside d m h.plain h.known r.id k.instance k.made (answer.Value v) outside (settled h)));
       }
 

@@ -18,9 +18,10 @@ use Rattle.beldi_tree.specs.declared.deployment.Deployment.{Deployment}
 use Rattle.beldi_value.specs.Id.{has_no_hops}
 use Rattle.beldi_value.specs.declared.id.IntentId.{IntentId}
 use Rattle.beldi_value.specs.declared.place.Place.{Place}
-use Rattle.beldi_known.specs.Rows.{HasNoRow, IsBodyOf, CalleeMatches, IntentMatches, CallMatches, OutcomeMatches}
+use Rattle.beldi_value.specs.declared.place.TxId.{TxId}
+use Rattle.beldi_known.specs.Rows.{HasNoRow, IsBodyOf, CalleeMatches, FinishMatches, IntentMatches, CallMatches, OutcomeMatches}
 use Rattle.beldi_known.specs.Known.{Known, owed_call}
-use Rattle.beldi_known.specs.Matches.{Matches}
+use Rattle.beldi_known.specs.Matches.{Matches, has_ended}
 use Rattle.beldi_known.proofs.Acts.{is_shadow}
 use Rattle.beldi_known.proofs.Intents.{callee_put}
 use Rattle.beldi_known.proofs.Sets.{is_log as is_row_log, row_put}
@@ -60,13 +61,17 @@ module _ (d : Deployment) (m : Rows) (k : RowKey) (v : Option Row) (kind : is_ro
   pub log_stays : (c : Core) (h : Right d c m) → Matches d (set_row m k v) h.known h.locked → Stays h (set_row m k v)
   log_stays c h rows = stays_by h (set_row m k v) log_shadows rows (log_values h k v kind) (log_frame h.plain h.plain h.known h.known refl)
 
+no_finish : (ended : TxId → Bool) (t : Option TxId) → FinishMatches ended t None None
+no_finish ended None = refl
+no_finish ended (Some t) = λ e. cc
+
 -- ---- a callee was registered: its row, which was not there, has its body
 pub callee_registered : (d : Deployment) (m : Rows) (known : Known) (locked : IntentId → Bool) (id : IntentId) (b : Body) (now : ℕ) → has_no_hops id.hops ≡ false → IsBodyOf b (map.get known id) → Matches d m known locked
     → let key : RowKey = record { home = b.func; kind = kinds.Intent id } in map.get m key ≡ None → Matches d (set_row m key (Some (rows.Intent (issued_at now (Some b))))) known locked
-callee_registered d m known locked id b now hops body h none = callee_put d known locked m id b.func (issued_at now (Some b)) hops (record { finishes = refl; body = (body, refl, by_wait (is_waited b.from) refl) }) h
+callee_registered d m known locked id b now hops body h none = callee_put d known locked m id b.func (issued_at now (Some b)) hops (record { finishes = no_finish (has_ended d known) b.tx; body = (body, refl, by_wait (is_waited b.from) refl) }) h
   where
     absent : HasNoRow b.func (map.get known id)
-    absent = subst (λ r. CalleeMatches b.func r (map.get known id)) none (subst (λ t. IntentMatches t b.func (map.get m (record { home = b.func; kind = kinds.Intent id })) (map.get known id)) hops (h.keys (record { home = b.func; kind = kinds.Intent id })))
+    absent = subst (λ r. CalleeMatches (has_ended d known) b.func r (map.get known id)) none (subst (λ t. IntentMatches (has_ended d known) t b.func (map.get m (record { home = b.func; kind = kinds.Intent id })) (map.get known id)) hops (h.keys (record { home = b.func; kind = kinds.Intent id })))
 
     by_wait : (t : Bool) → is_waited b.from ≡ t → OutcomeMatches t None body.instance.outcome
     by_wait true e = λ u is. cc

@@ -10,15 +10,15 @@ use Rattle.beldi_plain.specs.Plain.{PlainState, value_at}
 use Rattle.beldi_order.specs.Sane as plain
 use Rattle.beldi_plain.specs.Holds.{holds}
 use Rattle.beldi_row.specs.Table.{Rows, set_row}
-use Rattle.beldi_order.proofs.Sanes.{legal_is_sane}
+use Rattle.beldi_order.proofs.Sound.{legal_is_sane}
 use Rattle.beldi_step.specs.Host.{Core}
 use Rattle.beldi_known.specs.Contents.{content_of}
 use Rattle.beldi_known.specs.Listed.{listed}
 use Rattle.beldi_known.specs.Known.{Known}
 use Rattle.beldi_known.specs.Matches.{Matches, LockedAtEnds}
 use Rattle.beldi_known.specs.Sane.{Sane}
-use Rattle.beldi_laws.specs.Inside.{OwnedAreUnmarked, HoldersAreMade, NoneIsCalledInside}
-use Rattle.beldi_known.specs.InsideLaws.{Goes}
+use Rattle.beldi_laws.specs.Inside.{OwnedAreUnmarked, NoneIsInside}
+use Rattle.beldi_known.specs.InsideLaws.{Goes, HoldersAreMade, IsSound}
 use Rattle.beldi_laws.specs.Right.{Right}
 use Rattle.beldi_laws.proofs.Outside.{holds_known}
 use Rattle.beldi_row.specs.declared.key.RowKey.{RowKey}
@@ -30,7 +30,7 @@ use Rattle.beldi_known.proofs.Sets.{is_log as is_row_log}
 pub record Settled (d : Deployment) (m : Rows) (p : PlainState) (known : Known) : Type 0 where
   pub marks : OwnedAreUnmarked d m known
   pub holders : HoldersAreMade d p known
-  pub uncalled : NoneIsCalledInside d known
+  pub uncalled : NoneIsInside d known
 
 pub record Shows (d : Deployment) (m : Rows) (p : PlainState) (known : Known) (locked : IntentId → Bool) : Type 0 where
   pub goes : Goes d m p known locked
@@ -51,6 +51,9 @@ module _ {d : Deployment} {c : Core} {m : Rows} (h : Right d c m) where
   pub shown : Shows d m h.plain h.known h.locked
   shown = record { goes = record { beside = h.beside; shadows = h.shadows }; locked_at_ends = h.locked_at_ends; sane = h.sane; rows = h.rows; values = h.values; settled = settled }
 
+  pub sound : IsSound d m h.plain h.known h.locked
+  sound = record { shadows = h.shadows; beside = h.beside; matches = h.rows; sane = h.sane; plain_sane = legal_sane }
+
   -- an item that no transaction owns has its plain value
   pub value_here : (x : Item) → ((t : TxId) → (content_of m x).owner ≡ Some (owner.Tx t) → ⊥) → (content_of m x).value ≡ value_at h.plain x
   value_here x free = sym (own_value m x free) ∙ h.values x
@@ -61,4 +64,4 @@ module _ {d : Deployment} {c : Core} {m : Rows} (h : Right d c m) where
 
   -- who holds a lock is known to hold it
   pub holds_here : (x : Item) (j : IntentId) → holds d x (map.get h.known j) ≡ holds d x (map.get h.plain.made j)
-  holds_here x j = holds_known d h.plain h.known h.beside j (λ k is. h.sane.each j k is) x
+  holds_here x j = holds_known d h.plain h.known h.beside h.uncalled j x

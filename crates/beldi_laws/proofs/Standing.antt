@@ -40,7 +40,6 @@ use Rattle.beldi_laws.specs.Outside.{OpAnswers, IsAnswerTo}
 use Rattle.beldi_laws.specs.Stands.{Stands, IsMade, HasNotEnded, key_in, held_answer, held_outside, held_inside, held_note, decides, told_by, note_of_lock, answer_aside}
 use Rattle.std.specs.Option.{option_map}
 use Rattle.beldi_order.proofs.Maps.{same_some}
-use Rattle.beldi_order.proofs.Sanes.{sane_of}
 use Rattle.beldi_known.proofs.Instances.{row_of}
 use Rattle.beldi_laws.proofs.Readings.{given_owed}
 use Rattle.beldi_laws.proofs.Operations.{noted_back}
@@ -56,15 +55,14 @@ use Rattle.beldi_known.specs.Known.{Known, owed_call, owed_note, owed_shadow, ow
 use Rattle.beldi_known.proofs.Behind.{decision_there}
 use Rattle.beldi_known.proofs.Locks.{tx_self}
 use Rattle.beldi_order.specs.Txs.{tx_at, tx_after, effect_after, txs_after, tx_by, or_own}
-use Rattle.beldi_known.specs.Matches.{Matches}
+use Rattle.beldi_known.specs.Matches.{Matches, has_ended}
 use Rattle.beldi_known.specs.Sane.{Sane}
 use Rattle.beldi_known.specs.Beside.{is_begin}
-use Rattle.beldi_known.proofs.Opened.{IsOutside, outside_parts}
+use Rattle.beldi_known.proofs.NoTx.{IsOutside, outside_parts}
 use Rattle.beldi_laws.proofs.Outside.{outside_answer, is_of_tx, known_of, made_of}
 use Rattle.beldi_laws.proofs.Owed.{note_if, value_if, note_there, read_there, no_end}
 use Rattle.beldi_laws.proofs.Grown.{tx_stays}
-use Rattle.beldi_laws.proofs.Shown.{Shows, shown, legal_sane}
-use Rattle.beldi_order.specs.Sane as plain
+use Rattle.beldi_laws.proofs.Shown.{Shows, shown}
 use Rattle.beldi_lang.specs.Wants.{wants}
 use Rattle.beldi_lang.specs.declared.effect.Effect.TheVariants as effect
 use Rattle.beldi_laws.proofs.KeptSane.{outside_effect}
@@ -264,14 +262,14 @@ module _ (d : Deployment) (m : Rows) (known : Known) (locked : IntentId → Bool
     held_here = by_tx (tx_at d id q n) refl
 
 -- ---- the rows stand for the plain state
-module _ (d : Deployment) (m : Rows) (p : PlainState) (known : Known) (locked : IntentId → Bool) (h : Shows d m p known locked) (legal : plain.Sane d p) where
+module _ (d : Deployment) (m : Rows) (p : PlainState) (known : Known) (locked : IntentId → Bool) (h : Shows d m p known locked) where
   -- what an intent row says of its instance
   made_so : (home : ℕ) (id : IntentId) (i : IntentRow) (b : Body) → map.get m (key_in home id) ≡ Some (rows.Intent i) → i.body ≡ Some b → IsMade p id i b
   made_so home id i b is has =
       let root = has_no_hops id.hops in
-      let w = row_of root home i (map.get known id) (subst (λ r. IntentMatches root home r (map.get known id)) is (h.rows.keys (key_in home id))) in
+      let w = row_of (has_ended d known) root home i (map.get known id) (subst (λ r. IntentMatches (has_ended d known) root home r (map.get known id)) is (h.rows.keys (key_in home id))) in
       let of = w.body b has in
-      let q = made_of d p known h.goes.beside id of.instance of.made in
+      let q = made_of d p known h.goes.beside h.settled.uncalled id of.instance of.made in
       record {
         instance = q.0;
         made = q.1;
@@ -288,7 +286,7 @@ module _ (d : Deployment) (m : Rows) (p : PlainState) (known : Known) (locked : 
       let here : effect_before d z.instance n ≡ effect_before d q n = (λ i. wants d (z.grown.func i) (z.grown.args i) (is_some (z.grown.within i)) (front i)) in
       let within : tx_at d id z.instance n ≡ tx_at d id q n = ap (tx_after d id z.instance) front ∙ sym (tx_stays d id q z.instance (take n q.answers) z.grown) in
       (λ i. held_answer m id (sym z.grown.func i) n (sym within i) (sym here i))
-      ∙ held_here d m known locked h.rows h.sane id z.instance z.is n a (ap (λ xs. slice_get xs n) (sym z.grown.more) ∙ more.0) (z.grown.within ∙ (sane_of d p id q legal made).outside)
+      ∙ held_here d m known locked h.rows h.sane id z.instance z.is n a (ap (λ xs. slice_get xs n) (sym z.grown.more) ∙ more.0) (h.settled.uncalled id z.instance z.is)
 
   stands : Stands d m p
   stands = record {
@@ -306,4 +304,4 @@ pub same_run : (d : Deployment) (c : Core) (m : Rows) (p : PlainState) (h : Righ
 same_run d c m p h is = same_some (sym h.legal ∙ is)
 
 pub right_stands : (d : Deployment) (c : Core) (m : Rows) (p : PlainState) → Right d c m → run_of d c.book ≡ Some p → Stands d m p
-right_stands d c m p h is = subst (λ z. Stands d m z) (same_run d c m p h is) (stands d m h.plain h.known h.locked (shown h) (legal_sane h))
+right_stands d c m p h is = subst (λ z. Stands d m z) (same_run d c m p h is) (stands d m h.plain h.known h.locked (shown h))

@@ -46,7 +46,7 @@ use Rattle.beldi_order.specs.Sane.{IsAnswer}
 use Rattle.beldi_laws.specs.Outside.{IsAnswerTo}
 use Rattle.beldi_order.proofs.Maps.{same_some}
 use Rattle.beldi_order.proofs.Called.{get_after}
-use Rattle.beldi_order.proofs.Sanes.{legal_is_sane}
+use Rattle.beldi_order.proofs.Sound.{legal_is_sane}
 use Rattle.std.proofs.Math.Seq.{take-append_seam}
 use Rattle.beldi_laws.proofs.Moves.{AfterTurn, SameRoots, Kept, Stays, Entered, KnowsCallee, quiet, entered}
 use Rattle.beldi_known.specs.Contents.{content_of}
@@ -58,11 +58,11 @@ use Rattle.beldi_known.proofs.Ahead.{unlocked_outside}
 use Rattle.beldi_known.proofs.Begins.{going_now}
 use Rattle.beldi_known.proofs.Flows.{stands}
 use Rattle.beldi_known.proofs.Goes.{run_on_prefix}
-use Rattle.beldi_known.proofs.Opened.{IsOutside, outside_so, outside_parts}
+use Rattle.beldi_known.proofs.NoTx.{IsOutside, outside_so, outside_parts}
 use Rattle.beldi_known.proofs.Phases.{at}
 use Rattle.beldi_laws.proofs.Lives.{open_stays}
 use Rattle.beldi_laws.proofs.OpenOf.{begin_of, open_begun, open_none, open_pushed, tx_open}
-use Rattle.beldi_laws.proofs.Outside.{called_outside, outside_more, outside_answer, is_of_tx, stands_outside, plain_here}
+use Rattle.beldi_laws.proofs.Outside.{outside_more, outside_answer, is_of_tx, stands_outside, plain_here}
 use Rattle.beldi_laws.proofs.Released.{released_next, released_on}
 use Rattle.beldi_order.specs.Grown.{Grown}
 use Rattle.beldi_laws.proofs.Grown.{tx_stays, grown_same, grown_moved, moved_more}
@@ -165,7 +165,7 @@ module _ (d : Deployment) (func : ℕ) (j : Instance) (same : j.func ≡ func) w
 -- ---- a run of an instance goes on from where its machine stands
 -- nobody is called in a transaction yet
 pub none_within : (d : Deployment) (n : Rows) (p : PlainState) (known : Known) (after : IntentId → Bool) → Shows d n p known after → plain.Sane d p → (i : IntentId) (z : Instance) → map.get known i ≡ Some z → z.within ≡ None
-none_within d n p known after shows legal i z is = called_outside d p known shows.goes.beside i z is legal
+none_within d n p known after shows legal i z is = shows.settled.uncalled i z is
 
 module _ (d : Deployment) (book : List Entry) (n : Rows) (p : PlainState) (known : Known) (after : IntentId → Bool) (shows : Shows d n p known after) (legal : plain.Sane d p)
     (r : Run) (c : Option Caller) (j : Instance) (made : map.get known r.id ≡ Some j) (func : j.func ≡ r.func) (caller : c ≡ j.from) where
@@ -376,7 +376,7 @@ module _ (d : Deployment) (c : Core) (m : Rows) (r : Run) (g : Begun) (h : Right
   sane_instance = h.sane.each r.id k.instance k.made
 
   pub own_here : k.instance.within ≡ None
-  own_here = called_outside d h.plain h.known h.beside r.id k.instance k.made (legal_sane h)
+  own_here = h.uncalled r.id k.instance k.made
 
   -- a step that is the instance's next has not returned
   pub not_over : k.later ≡ [] → IsTrue (wants_answer g.machine.effect) → k.instance.outcome ≡ None
@@ -489,7 +489,7 @@ module _ (d : Deployment) (c : Core) (m : Rows) (i : ℕ) (r : Run) (g : Begun) 
     module _ (out : tx_after d r.id k.instance k.answers ≡ None) (e : Effect) (is : g.machine.effect ≡ e) where
       -- at the front the plain state has it
       pub plain_there : k.later ≡ [] → map.get h.plain.made r.id ≡ Some k.instance
-      plain_there left = plain_here d h.plain h.known h.beside r.id k.instance k.made (sane_instance d c m r g h k) (outside_there d c.book h.known r g k out left)
+      plain_there left = plain_here d h.plain h.known h.beside h.uncalled r.id k.instance k.made (legal_sane h) (outside_there d c.book h.known r g k out left)
 
       -- and no lock of it is ahead
       pub unlocked_there : k.later ≡ [] → h.locked r.id ≡ false

@@ -86,7 +86,8 @@ use Rattle.beldi_known.proofs.Acts.{kinds_apart, is_shadow}
 use Rattle.beldi_known.proofs.AtFront.{no_decision}
 use Rattle.beldi_known.proofs.Behind.{front, there as was_answered, stepped, lockset_there}
 use Rattle.beldi_known.proofs.Decided.{release_lists}
-use Rattle.beldi_known.proofs.Frame.{begins, ended_stays, fits_at}
+use Rattle.beldi_known.proofs.Frame.{begins}
+use Rattle.beldi_order.proofs.Ends.{ended_stays, fits_at}
 use Rattle.beldi_known.proofs.Inside.{released}
 use Rattle.beldi_known.proofs.Locks.{tx_self, tx_same}
 use Rattle.beldi_known.proofs.OneFunction.{Own, own_by}

@@ -32,15 +32,16 @@ use Rattle.beldi_plain.specs.Plain.{Instance, effect_of, effect_before}
 use Rattle.beldi_order.specs.Sane.{CalledBy, IsCalled, call_of}
 use Rattle.beldi_order.specs.Txs.{Txs, effect_after, or_own, tx_after, tx_by, tx_now, txs_after, txs_by}
 use Rattle.beldi_order.proofs.Called.{last_hop}
+use Rattle.beldi_order.proofs.Ends.{fits_at}
 use Rattle.beldi_order.proofs.Maps.{same_some}
 use Rattle.beldi_order.proofs.Went.{txs_pushed}
 use Rattle.beldi_step.specs.Host.{Core}
 use Rattle.beldi_known.specs.Contents.{lockset_key}
 use Rattle.beldi_known.specs.Known.{Known, is_item, begins_at, asks_lock, lockset_of, owed_lockset}
-use Rattle.beldi_known.specs.Matches.{Matches, LocksetMatches, is_open, lockset_ahead}
+use Rattle.beldi_known.specs.Matches.{Matches, LocksetMatches, has_ended, is_open, lockset_ahead}
 use Rattle.beldi_known.specs.Rows.{IntentMatches}
 use Rattle.beldi_known.specs.Sane.{Sane}
-use Rattle.beldi_known.proofs.Frame.{begins, fits_at}
+use Rattle.beldi_known.proofs.Frame.{begins}
 use Rattle.beldi_known.proofs.OneFunction.{own_by}
 use Rattle.beldi_known.proofs.Phases.{begin_is}
 use Rattle.beldi_known.proofs.ReadLists.{both, gathered}
@@ -210,7 +211,7 @@ finds_first d c m h short s q is at e next =
     (λ k r there. apart d m h.known h.locked h.rows (none_within d m h.plain h.known h.locked (shown h) (legal_sane h)) fit s.intent q is s.func s.begin at k.home k.kind r there) next
   where
     -- a root that was made has its row
-    by_row : (t : ℕ) (z : Instance) (o : Option Row) → map.get h.known (root_of t) ≡ Some z → IntentMatches true 0 o (map.get h.known (root_of t)) → is_some o ≡ true
+    by_row : (t : ℕ) (z : Instance) (o : Option Row) → map.get h.known (root_of t) ≡ Some z → IntentMatches (has_ended d h.known) true 0 o (map.get h.known (root_of t)) → is_some o ≡ true
     by_row t z None made g = let clash = sym made ∙ g in cc
     by_row t z (Some r) made g = refl
 

@@ -66,7 +66,7 @@ use Rattle.beldi_known.specs.Contents.{content_of, head_key, lockset_key, shadow
 use Rattle.beldi_known.specs.Frame.{LockedOut}
 use Rattle.beldi_known.specs.Beside.{is_begin}
 use Rattle.beldi_known.specs.InsideLaws.{Goes, IsOpen}
-use Rattle.beldi_known.specs.Known.{Known, got_by, moved, owed_lockset}
+use Rattle.beldi_known.specs.Known.{Known, moved, owed_lockset}
 use Rattle.beldi_known.specs.Laws.{IsFront}
 use Rattle.beldi_known.specs.Listed.{listed, listed_under}
 use Rattle.beldi_known.specs.Matches.{Matches, lockset_ahead}
@@ -77,8 +77,7 @@ use Rattle.beldi_known.proofs.Ahead.{ahead_set}
 use Rattle.beldi_known.proofs.AtFront.{no_row as no_log, no_shadow_note}
 use Rattle.beldi_known.proofs.Behind.{behind_looks, behind_locks, behind_writes, behind_tests, death_in}
 use Rattle.beldi_known.proofs.Inside.{read_inside, write_inside, test_inside, shadow_made}
-use Rattle.beldi_known.proofs.Insides.{front_tx, front_got, first_row, read_goes as read_shows, write_goes as write_shows, test_goes as test_shows}
-use Rattle.beldi_known.proofs.Leads.{item_self}
+use Rattle.beldi_known.proofs.Acting.{first_rows_go, reads_go, tests_go, writes_go}
 use Rattle.beldi_known.proofs.Lists.{shadow_lists}
 use Rattle.beldi_known.proofs.OneFunction.{listed_open, undecided}
 use Rattle.beldi_known.proofs.ReadLists.{read_lists}
@@ -89,12 +88,11 @@ use Rattle.beldi_laws.specs.Right.{Right, Knows}
 use Rattle.beldi_laws.specs.Inside.{Found, Frame, InItem, InOperation, Inside}
 use Rattle.beldi_laws.proofs.Frames.{is_lockset, frame_row, frame_shadow, items_stay, settled_operated, settled_rows}
 use Rattle.beldi_laws.proofs.Grown.{grown_moved, grows_moved, moved_more}
-use Rattle.beldi_laws.proofs.InTx.{frees_none, goes_at, replays, lockset_is, set_roots, touches, same_item, steps, effect_so, wants_here, short, known_answers, answers_so, at_front, now, tx_is, front, apart, not_ended, begun, was_locked}
+use Rattle.beldi_laws.proofs.InTx.{frees_none, item_self, goes_at, replays, lockset_is, set_roots, touches, same_item, steps, effect_so, wants_here, short, known_answers, answers_so, at_front, now, tx_is, front, apart, opened as opened_here, owned as owned_here, was_locked}
 use Rattle.beldi_laws.proofs.Keeping.{as_it_was}
 use Rattle.beldi_laws.proofs.Moves.{AfterQuery, AfterTurn, SameRoots, Kept}
 use Rattle.beldi_laws.proofs.Others.{kept_by}
-use Rattle.beldi_laws.proofs.Outside.{called_outside}
-use Rattle.beldi_laws.proofs.Shown.{legal_sane, settled}
+use Rattle.beldi_laws.proofs.Shown.{settled}
 use Rattle.beldi_laws.proofs.Turns.{own_here, sane_instance, all_here, step_here, answers_on, stays_on}
 
 -- ---- small facts
@@ -259,8 +257,8 @@ module _ (d : Deployment) (c : Core) (m : Rows) (i : ℕ) (r : Run) (g : Begun) 
       stands : IsFront d h.known r.id k.instance own x.0 x.1
       stands = front d c m r g h k o here e is x touch left
 
-      opened : (q : Instance) × IsOpen d m h.plain h.known h.locked r.id q k.instance
-      opened = begun d c m r g h k o here e is x touch left
+      opened : IsOpen d m h.plain h.known h.locked own
+      opened = opened_here d c m r g h k o here e is x touch left
 
       was : h.locked r.id ≡ true
       was = was_locked d c m r g h k o here e is x touch left (as_its (λ y q. note_at (content_of m y).notes q ≡ Some note.Got) l.got)
@@ -271,12 +269,7 @@ module _ (d : Deployment) (c : Core) (m : Rows) (i : ℕ) (r : Run) (g : Begun) 
 
       -- its transaction owns the item, so the item's own value is the plain one
       owned : (content_of m its_item).owner ≡ Some (ByTx own)
-      owned = let q = opened in (h.rows.txs its_item).got_is_owned own (record {
-        member = r.id;
-        got = ap (got_by d own its_item r.id (h.locked r.id)) k.made
-            ∙ ap (λ z. got_by d z its_item r.id (h.locked r.id) (Some k.instance)) (front_tx d m h.plain h.known h.locked h.shadows.shows r.id q.0 k.instance q.1.made q.1.begun q.1.outside own x.0 x.1 stands q.1.sane)
-            ∙ front_got d m h.plain h.known h.locked h.shadows.shows r.id q.0 k.instance q.1.made q.1.begun q.1.outside own x.0 x.1 stands q.1.sane was;
-      }) (not_ended d c m r g h k o here e is x touch left)
+      owned = owned_here d c m r g h k o here e is x touch left was
 
       alone : k.instance.within ≡ None
       alone = own_here d c m r g h k
@@ -313,8 +306,8 @@ module _ (d : Deployment) (c : Core) (m : Rows) (i : ℕ) (r : Run) (g : Begun) 
           (ap is_some (set_here m (shadow_key own its_item) (Some v))) (record { instance = k.instance; made = k.made; now = inside; writes = ap (λ z. is_some (txn.op_of z)) now_is ∙ writes })
 
       first_keeps : (v : Value) → is_some (txn.op_of e) ≡ true → map.get m (shadow_key own its_item) ≡ None → ((writes_on its_item k.instance.func (effect_of d k.instance) ≡ true) ⊎ (v ≡ value_at h.plain its_item)) → Kept h (set_row m (shadow_key own its_item) (Some (fresh v))) h.plain h.known h.locked
-      first_keeps v writes none by = let q = opened in let frame = shadow_frame (fresh v) h.known writes in kept_by d c m (set_row m (shadow_key own its_item) (Some (fresh v))) h h.plain h.known h.locked (record {
-        goes = record { beside = h.beside; shadows = first_row d m h.plain h.known h.locked h.shadows h.beside h.rows r.id q.0 k.instance q.1.made q.1.begun q.1.outside own x.0 x.1 stands q.1.sane (Some (fresh v)) was none by };
+      first_keeps v writes none by = let frame = shadow_frame (fresh v) h.known writes in kept_by d c m (set_row m (shadow_key own its_item) (Some (fresh v))) h h.plain h.known h.locked (record {
+        goes = record { beside = h.beside; shadows = first_rows_go d m h.plain h.known h.locked r.id k.instance own x.0 x.1 (Some (fresh v)) opened stands was none by };
         locked_at_ends = h.locked_at_ends;
         sane = h.sane;
         rows = shadow_made d h.known h.locked m h.rows own its_item (Some (fresh v)) (refl, tt, refl, refl) none refl;
@@ -391,14 +384,13 @@ module _ (d : Deployment) (c : Core) (m : Rows) (i : ℕ) (r : Run) (g : Begun) 
 
         read_keeps : Kept h with_log h.plain (next read is (t, key) refl l found_now) (after read is (t, key) refl l)
         read_keeps =
-            let q = opened read is (t, key) refl l left in
             let out = out read is (t, key) refl l in
             answer_keeps read is (t, key) refl l left found_now with_log (λ z e. cc)
-            (read_shows d m h.plain h.known h.locked h.shadows h.beside h.rows r.id q.0 k.instance q.1.made q.1.begun q.1.outside own t key (stands read is (t, key) refl l left) q.1.sane (after read is (t, key) refl l) out
-            (log_key k.instance.func (place_of r.id (length k.instance.answers))) (Some (rows.ReadLog v)) v refl front_read (as_its read is (t, key) refl l left (λ y p. value_in (map.get m (shadow_key own y)) (value_at h.plain y) ≡ v) (saw left)))
+            (reads_go d m h.plain h.known h.locked (after read is (t, key) refl l) r.id k.instance own t key v (opened read is (t, key) refl l left) (stands read is (t, key) refl l left) out front_read
+            (as_its read is (t, key) refl l left (λ y p. value_in (map.get m (shadow_key own y)) (value_at h.plain y) ≡ v) (saw left)))
             (sane_read d h.known h.sane r.id k.instance k.made t key v front_read)
             (read_inside d h.known h.locked (after read is (t, key) refl l) r.id k.instance k.made out own (inside read is (t, key) refl l left) m h.rows t key v front_read (lockset read is (t, key) refl l left) (was read is (t, key) refl l left))
-            (read_lists d m h.known h.locked h.rows.txs (λ j z there. called_outside d h.plain h.known h.beside j z there (legal_sane h)) r.id k.instance k.made (Some (rows.ReadLog v)))
+            (read_lists d m h.known h.locked h.rows.txs (λ j z there. h.uncalled j z there) r.id k.instance k.made (Some (rows.ReadLog v)))
             (frame_row d m h.plain h.plain h.known (next read is (t, key) refl l found_now) (items_stay d m h.plain h.plain (next read is (t, key) refl l found_now) refl) (log_key k.instance.func (place_of r.id (length k.instance.answers))) (Some (rows.ReadLog v)) refl refl)
 
       keep_by : (later : List Answer) → k.later ≡ later → Keeps (map.get m log)
@@ -459,7 +451,7 @@ module _ (d : Deployment) (c : Core) (m : Rows) (i : ℕ) (r : Run) (g : Begun) 
         -- its place has the note
         noted_by : (later : List Answer) → k.later ≡ later → (w : Note) → note_at z.log place ≡ Some w → Writes (z, said_noted w)
         noted_by [] left w is_there =
-            let clash = sym is_there ∙ ap (λ v. note_at (content_in v).notes place) (sym there) ∙ as_ran e is x on_item l left (λ y p. note_at (shadow_of m own y).notes p ≡ None) (no_shadow_note d m h.known h.locked h.rows r.id k.instance k.made own (record { func = k.instance.func; table = x.0; key = x.1 })) in cc
+            absurd (let clash = sym is_there ∙ ap (λ v. note_at (content_in v).notes place) (sym there) ∙ as_ran e is x on_item l left (λ y p. note_at (shadow_of m own y).notes p ≡ None) (no_shadow_note d m h.known h.locked h.rows r.id k.instance k.made own (record { func = k.instance.func; table = x.0; key = x.1 })) in cc)
         noted_by (b ∷ rest) left w is_there =
             let q = has_note b rest left in
             let same : q.0 ≡ w = maps.same_some (sym q.1 ∙ ap (λ v. note_at (content_in v).notes place) there ∙ is_there) in
@@ -471,7 +463,7 @@ module _ (d : Deployment) (c : Core) (m : Rows) (i : ℕ) (r : Run) (g : Begun) 
         done_by later left none (Some u) owner = still_row e is x on_item l says.Stays its (Some (rows.Cell z)) there (stays_here e is x on_item l)
         done_by [] left none None owner = subst (λ s. Leaves s (set_row m its (Some (rows.Cell (does z).0)))) (sym (told_now z))
             (answers_now e is x on_item l left (a z) (set_row m its (Some (rows.Cell (does z).0))) (set_roots m r.func (kinds.Shadow own x.0 x.1 0) (Some (rows.Cell (does z).0)) refl) (keeps left z there sound none owner))
-        done_by (b ∷ rest) left none None owner = let clash = sym (has_note b rest left).1 ∙ ap (λ v. note_at (content_in v).notes place) there ∙ none in cc
+        done_by (b ∷ rest) left none None owner = absurd (let clash = sym (has_note b rest left).1 ∙ ap (λ v. note_at (content_in v).notes place) there ∙ none in cc)
 
         by_note : (w : Option Note) → note_at z.log place ≡ w → Writes (cell_noted z w (next_or z z.next (cell_held z (other_owner (ByTx own) z.owner) (does z))))
         by_note (Some w) is_there = noted_by k.later refl w is_there
@@ -521,14 +513,13 @@ module _ (d : Deployment) (c : Core) (m : Rows) (i : ℕ) (r : Run) (g : Begun) 
 
       write_keeps : Kept h (set_row m write_row written) h.plain (next write is (t, key) refl l answer.Done) (after write is (t, key) refl l)
       write_keeps =
-          let q = opened write is (t, key) refl l left in
           let wants = now_is write is (t, key) refl l left in
           let was_out = out write is (t, key) refl l in
           let acts = as_its write is (t, key) refl l left (λ y p. write_on p (ByTx own) v (shadow_of m own y) ≡ (content_in written, did)) write_did in
           let parts = write_parts (place_of r.id (length k.instance.answers)) (ByTx own) v (shadow_of m own (record { func = k.instance.func; table = t; key = key })) (content_in written) acts in
           as_ran write is (t, key) refl l left (λ y p. Kept h (set_row m (shadow_key own y) written) h.plain (next write is (t, key) refl l answer.Done) (after write is (t, key) refl l))
           (answer_keeps write is (t, key) refl l left answer.Done (set_row m (shadow_key own (record { func = k.instance.func; table = t; key = key })) written) (λ y e. cc)
-          (write_shows d m h.plain h.known h.locked h.shadows h.beside h.rows r.id q.0 k.instance q.1.made q.1.begun q.1.outside own t key (stands write is (t, key) refl l left) q.1.sane (after write is (t, key) refl l) was_out v written (was write is (t, key) refl l left) wants acts)
+          (writes_go d m h.plain h.known h.locked (after write is (t, key) refl l) r.id k.instance own t key v written (opened write is (t, key) refl l left) (stands write is (t, key) refl l left) was_out (was write is (t, key) refl l left) wants acts)
           (sane_wrote d h.known h.sane r.id k.instance k.made t key v wants)
           (write_inside d h.known h.locked (after write is (t, key) refl l) r.id k.instance k.made was_out own (inside write is (t, key) refl l left) m h.rows t key v written wants (lockset write is (t, key) refl l left) (was write is (t, key) refl l left)
           (sound.0, once_pushed z.log place note.Wrote none sound.1, sound.2, sound.3) parts.0 parts.1)
@@ -587,7 +578,7 @@ module _ (d : Deployment) (c : Core) (m : Rows) (i : ℕ) (r : Run) (g : Begun) 
         by_row (Some z) there later left = still_row test is (t, key) refl l (says.On (stage.Tx (at.Write Try)) None) test_row (Some z) there
             (moves_on test is (t, key) refl l (at.Write Try) tt (record { begin = tt; asked = λ a. l.asked; locked = l.got; found = λ q made same. ap is_some there }))
         by_row None there [] left = first_made test is (t, key) refl l left w refl there (inr (sym (saw left there))) tt refl
-        by_row None there (b ∷ rest) left = let clash = sym (test_note b rest left).1 ∙ ap (λ z. note_at (content_in z).notes place) there in cc
+        by_row None there (b ∷ rest) left = absurd (let clash = sym (test_note b rest left).1 ∙ ap (λ z. note_at (content_in z).notes place) there in cc)
 
     module _ (has : k.later ≡ [] → is_some (map.get m test_row) ≡ true) where
       module _ (left : k.later ≡ []) (z : Cell) (there : map.get m test_row ≡ Some (rows.Cell z)) (sound : SoundAt (Some (rows.Cell z))) (none : note_at z.log place ≡ None) (free : other_owner (ByTx own) z.owner ≡ None) where
@@ -607,14 +598,13 @@ module _ (d : Deployment) (c : Core) (m : Rows) (i : ℕ) (r : Run) (g : Begun) 
 
         test_keeps : Kept h (set_row m test_row tried) h.plain (next test is (t, key) refl l result) (after test is (t, key) refl l)
         test_keeps =
-            let q = opened test is (t, key) refl l left in
             let wants = now_is test is (t, key) refl l left in
             let was_out = out test is (t, key) refl l in
             let acts = as_its test is (t, key) refl l left (λ a p. test_on p (ByTx own) u y v (shadow_of m own a) ≡ (content_in tried, tested passed)) test_did in
             let parts = test_parts (place_of r.id (length k.instance.answers)) (ByTx own) u y v (shadow_of m own (record { func = k.instance.func; table = t; key = key })) (content_in tried) passed acts in
             as_ran test is (t, key) refl l left (λ a p. Kept h (set_row m (shadow_key own a) tried) h.plain (next test is (t, key) refl l result) (after test is (t, key) refl l))
             (answer_keeps test is (t, key) refl l left result (set_row m (shadow_key own (record { func = k.instance.func; table = t; key = key })) tried) (λ a e. cc)
-            (test_shows d m h.plain h.known h.locked h.shadows h.beside h.rows r.id q.0 k.instance q.1.made q.1.begun q.1.outside own t key (stands test is (t, key) refl l left) q.1.sane (after test is (t, key) refl l) was_out u y v passed tried (was test is (t, key) refl l left) wants
+            (tests_go d m h.plain h.known h.locked (after test is (t, key) refl l) r.id k.instance own t key u y v passed tried (opened test is (t, key) refl l left) (stands test is (t, key) refl l left) was_out (was test is (t, key) refl l left) wants
             (as_its test is (t, key) refl l left (λ a p. is_some (map.get m (shadow_key own a)) ≡ true) (has left)) acts)
             (sane_tested d h.known h.sane r.id k.instance k.made t key u y v passed wants)
             (test_inside d h.known h.locked (after test is (t, key) refl l) r.id k.instance k.made was_out own (inside test is (t, key) refl l left) m h.rows t key u y v tried passed wants (lockset test is (t, key) refl l left) (was test is (t, key) refl l left)
@@ -625,7 +615,7 @@ module _ (d : Deployment) (c : Core) (m : Rows) (i : ℕ) (r : Run) (g : Begun) 
       test_turn : (w : WriteAt) → Turn test (at.Write w)
       test_turn Try = subst (λ a. Leaves (tx_says (at.Write Try) (write_leads test (write_goes (note.Cond true) (said a.1)))) (set_row m test_row a.0)) (sym (test_acts place (ByTx own) u y v c.now (map.get m test_row)))
           (try_turn test is (t, key) refl l (λ w. tt) (λ w left. has left) (note.Cond true) test_note (tries place u y v) (λ z. answer.Value (value.Bool (passes z.value u y))) (λ z. refl) test_keeps)
-      test_turn Make = make_turn test is (t, key) refl l (λ w. tt) (λ w left. has left) (note.Cond true) test_note (λ left none. let clash = sym (has left) ∙ ap is_some none in cc)
+      test_turn Make = make_turn test is (t, key) refl l (λ w. tt) (λ w left. has left) (note.Cond true) test_note (λ left none. absurd (let clash = sym (has left) ∙ ap is_some none in cc))
 
   -- ---- every stage past the lock
   pub working_turn : (e : Effect) (a : TxAt) → g.machine.effect ≡ e → is_past a ≡ true → Fits e a → InItem d m h.plain h.known r.id r.func o g.machine.steps e a (item_of e) → Turn e a

@@ -1,14 +1,12 @@
 -- What runs that carry a transaction out have found in the rows, and what the rows keep of transactions.
-use Rattle.std.specs.Prelude.{◌≡◌, ℕ, ◌<◌, Bool, true, false, List, length, slice_get, is_some, Option, Some, None}
+use Rattle.std.specs.Prelude.{◌≡◌, ℕ, ◌<◌, Bool, true, false, List, length, is_some, Option, Some, None}
 use Rattle.std.specs.FinMap as map
 use Rattle.beldi_value.specs.declared.id.IntentId.{IntentId}
-use Rattle.beldi_value.specs.declared.outcome.Cause.{Cause}
 use Rattle.beldi_value.specs.declared.place.Owner.TheVariants.{Tx as ByTx}
 use Rattle.beldi_value.specs.declared.place.Place.{Place}
 use Rattle.beldi_value.specs.declared.place.TxId.{TxId}
 use Rattle.beldi_value.specs.declared.value.Value.{Value}
 use Rattle.beldi_tree.specs.declared.deployment.Deployment.{Deployment}
-use Rattle.beldi_lang.specs.declared.effect.Answer.TheVariants.{Aborted}
 use Rattle.beldi_lang.specs.declared.effect.Effect.{Effect}
 use Rattle.beldi_lang.specs.declared.effect.Effect.TheVariants.{Read, CondWrite, End}
 use Rattle.beldi_row.specs.declared.key.RowKey.{RowKey}
@@ -27,9 +25,8 @@ use Rattle.beldi_txn.specs.End.{end_place}
 use Rattle.beldi_txn.specs.TxTurn.{HasLock}
 use Rattle.beldi_txn.specs.Visited.{Visited}
 use Rattle.beldi_plain.specs.Item.{Item}
-use Rattle.beldi_plain.specs.Plain.{Instance, PlainState, value_at, effect_of, effect_before}
-use Rattle.beldi_order.specs.Sane.{call_of}
-use Rattle.beldi_order.specs.Txs.{tx_at, tx_now}
+use Rattle.beldi_plain.specs.Plain.{Instance, PlainState, value_at, effect_of}
+use Rattle.beldi_order.specs.Txs.{tx_now}
 use Rattle.beldi_step.specs.declared.run.Begun.{Begun}
 use Rattle.beldi_step.specs.declared.run.OpenTx.{OpenTx}
 use Rattle.beldi_step.specs.declared.run.Run.{Run}
@@ -103,13 +100,9 @@ InsideAt d m p known r (Begins g) = Inside d m p known r g
 abbrev pub OwnedAreUnmarked : Deployment → Rows → Known → Type 0
 OwnedAreUnmarked d m known = (t : TxId) (z : ℕ × Bool) (x : Item) (w : Note) → tx_end d known t ≡ Some z → (content_of m x).owner ≡ Some (ByTx t) → note_at (content_of m x).notes (end_place t z.0) ≡ Some w → ⊥
 
--- who let a step die was made
-abbrev pub HoldersAreMade : Deployment → PlainState → Known → Type 0
-HoldersAreMade d p known = (id : IntentId) (q : Instance) (n : ℕ) (c : Cause) (h : IntentId) → map.get known id ≡ Some q → is_some (tx_at d id q n) ≡ true → slice_get q.answers n ≡ Some (Aborted c) → c.holder ≡ Some h → is_some (map.get p.made h) ≡ true
-
--- no call inside was answered yet
-abbrev pub NoneIsCalledInside : Deployment → Known → Type 0
-NoneIsCalledInside d known = (id : IntentId) (q : Instance) (n : ℕ) (w : Bool) (f : ℕ) (v : Value) → map.get known id ≡ Some q → n < length q.answers → effect_before d q n ≡ call_of w f v → tx_at d id q n ≡ None
+-- nobody was called in a transaction yet
+abbrev pub NoneIsInside : Deployment → Known → Type 0
+NoneIsInside d known = (id : IntentId) (q : Instance) → map.get known id ≡ Some q → q.within ≡ None
 
 -- ---- what an event keeps for the runs of others
 -- an instance stands at a write in this transaction

@@ -42,8 +42,9 @@ use Rattle.beldi_known.specs.Known.{Known}
 use Rattle.beldi_order.specs.Txs.{along, effect_after, tx_after}
 use Rattle.beldi_known.specs.Matches.{Matches, LockedAtEnds}
 use Rattle.beldi_known.specs.Sane.{Sane}
-use Rattle.beldi_laws.specs.Inside.{InsideAt, OwnedAreUnmarked, HoldersAreMade, NoneIsCalledInside}
+use Rattle.beldi_laws.specs.Inside.{InsideAt, OwnedAreUnmarked, NoneIsInside}
 use Rattle.beldi_known.specs.Beside.{Beside}
+use Rattle.beldi_known.specs.InsideLaws.{HoldersAreMade}
 use Rattle.beldi_known.specs.Listed.{listed}
 use Rattle.beldi_known.specs.Shadows.{Shadows}
 use Rattle.beldi_value.specs.declared.place.TxId.{TxId}
@@ -179,8 +180,8 @@ pub record Right (d : Deployment) (c : Core) (m : Rows) : Type 0 where
   -- shadows show what the open transactions see, and what a decided one owned is given back once
   pub shadows : Shadows d m plain known locked
   pub marks : OwnedAreUnmarked d m known
-  -- each death has a holder that was made, and nobody is called inside yet
+  -- each death has a holder that was made, and nobody was called in a transaction yet
   pub holders : HoldersAreMade d plain known
-  pub uncalled : NoneIsCalledInside d known
+  pub uncalled : NoneIsInside d known
   -- each live run knows what is known, and has found what is in the rows
   pub runs : RunsMatch d m plain c.book known c.runs c.last_run
