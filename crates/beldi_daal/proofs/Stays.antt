@@ -6,7 +6,7 @@ use Rattle.beldi_value.specs.declared.place.Owner.{Owner}
 use Rattle.beldi_value.specs.declared.place.Place.{Place}
 use Rattle.beldi_value.specs.declared.value.Value.{Value}
 use Rattle.beldi_row.specs.declared.act.Act.{Act}
-use Rattle.beldi_row.specs.declared.act.Act.TheVariants.{Look, Issue, Bind, Register, End, PutRead, OpenInvoke, CallBack, NoteRegistered, PutLockset, MakeCell, WriteCell, CondCell, LockCell, FreeCell}
+use Rattle.beldi_row.specs.declared.act.Act.TheVariants.{Look, Issue, Bind, Register, End, Stamp, PutRead, OpenInvoke, CallBack, NoteRegistered, PutLockset, MakeCell, WriteCell, CondCell, LockCell, FreeCell}
 use Rattle.beldi_row.specs.declared.notes.Note.{Note}
 use Rattle.beldi_row.specs.declared.notes.Note.TheVariants.{Wrote, Cond, Got, Died, Freed}
 use Rattle.beldi_row.specs.declared.row.Cell.{Cell}
@@ -14,7 +14,7 @@ use Rattle.beldi_row.specs.declared.row.IntentRow.{IntentRow}
 use Rattle.beldi_row.specs.declared.row.InvokeRow.{InvokeRow}
 use Rattle.beldi_row.specs.declared.row.Row.{Row}
 use Rattle.beldi_row.specs.declared.row.Row.TheVariants as rows
-use Rattle.beldi_row.specs.Act.{Tell, gone, did, held, died, no_row, tested, not_owner, on, on_intent, on_invoke, on_cell, bind_to, end_with, call_back_to, register_to, noted_or, next_or, held_or, waits_for, owned_or, at_tail, unless_held, if_owned, owns, given_or, other_owner, entered, write_at, cond_at, lock_at, free_at}
+use Rattle.beldi_row.specs.Act.{Tell, gone, did, held, died, no_row, tested, not_owner, on, on_intent, on_invoke, on_cell, bind_to, end_with, stamp_with, call_back_to, register_to, noted_or, next_or, held_or, waits_for, owned_or, at_tail, unless_held, if_owned, owns, given_or, other_owner, entered, write_at, cond_at, lock_at, free_at}
 use Rattle.beldi_row.specs.Log.{note_at, place_eq}
 use Rattle.beldi_daal.specs.Content.{content_in}
 use Rattle.beldi_daal.specs.Logged.{NotesStay}
@@ -94,6 +94,7 @@ row_stays Issue now r = λ p n is. is
 row_stays (Bind f v) now r = on_intents (λ i. bind_to f v i i.body) gone r
 row_stays (Register b) now r = λ p n is. is
 row_stays (End o s) now r = on_intents (λ i. end_with o s now i i.outcome) gone r
+row_stays Stamp now r = on_intents (λ i. stamp_with now i i.finish) gone r
 row_stays (PutRead v) now r = λ p n is. is
 row_stays (OpenInvoke f) now r = λ p n is. is
 row_stays (CallBack o) now r = on_calls (λ i. call_back_to o i i.result) gone r

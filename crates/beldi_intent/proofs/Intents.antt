@@ -11,8 +11,8 @@ use Rattle.beldi_row.specs.declared.row.IntentRow.{IntentRow}
 use Rattle.beldi_row.specs.declared.row.Row.{Row}
 use Rattle.beldi_row.specs.declared.row.Row.TheVariants as rows
 use Rattle.beldi_row.specs.declared.act.Act.{Act}
-use Rattle.beldi_row.specs.declared.act.Act.TheVariants.{Look, Issue, Bind, Register, End}
-use Rattle.beldi_row.specs.Act.{act, bind_to, end_with, finish_at, outcome_tell, other}
+use Rattle.beldi_row.specs.declared.act.Act.TheVariants.{Look, Issue, Bind, Register, End, Stamp}
+use Rattle.beldi_row.specs.Act.{act, bind_to, end_with, stamp_with, finish_at, outcome_tell, other}
 use Rattle.beldi_row.specs.Table.{Rows, set_row}
 use Rattle.beldi_row.proofs.Unchanged.{unchanged, looked}
 use Rattle.beldi_walk.specs.Query.{said}
@@ -99,9 +99,14 @@ end_goes : (o : Outcome) (stamp : Bool) (now : ℕ) (i : IntentRow) (p : Option 
 end_goes o stamp now i None none = record { issued = refl; body = λ b is. is; outcome = λ q is. let clash = sym none ∙ is in cc; finish = finish_stays stamp now i.finish }
 end_goes o stamp now i (Some p) is = as_was i
 
+stamp_goes : (now : ℕ) (i : IntentRow) (f : Option ℕ) → i.finish ≡ f → GoesOn i (stamp_with now i f).0
+stamp_goes now i None none = record { issued = refl; body = λ b is. is; outcome = λ o is. is; finish = λ t is. let clash = sym none ∙ is in cc }
+stamp_goes now i (Some f) is = as_was i
+
 act_goes : (a : Act) (now : ℕ) (i : IntentRow) → (j : IntentRow) × (intent_in (act a now (Some (rows.Intent i))).0 ≡ Some j) × GoesOn i j
 act_goes (Bind f v) now i = ((bind_to f v i i.body).0, refl, bind_goes f v i i.body refl)
 act_goes (End o s) now i = ((end_with o s now i i.outcome).0, refl, end_goes o s now i i.outcome refl)
+act_goes Stamp now i = ((stamp_with now i i.finish).0, refl, stamp_goes now i i.finish refl)
 act_goes a now i = (i, refl, as_was i)
 
 inside : (i j : IntentRow) → intent_in (Some (rows.Intent i)) ≡ Some j → i ≡ j

@@ -13,7 +13,7 @@ use Rattle.beldi_row.specs.declared.row.Body.{Body}
 use Rattle.beldi_row.specs.declared.row.IntentRow.{IntentRow}
 use Rattle.beldi_row.specs.declared.row.Row.{Row}
 use Rattle.beldi_row.specs.declared.row.Row.TheVariants as rows
-use Rattle.beldi_row.specs.declared.act.Act.TheVariants.{Look, Issue, Bind, Register, End}
+use Rattle.beldi_row.specs.declared.act.Act.TheVariants.{Look, Issue, Bind, Register, End, Stamp}
 use Rattle.beldi_row.specs.Act.{here, added, bound, running, other, ended, already, did, finish_at}
 use Rattle.beldi_row.specs.Table.{Rows, set_row}
 use Rattle.beldi_walk.specs.declared.query.Query.{Query}
@@ -39,6 +39,9 @@ look_asks id func = Act (intent_key id func) Look
 
 abbrev pub end_asks : IntentId → ℕ → Outcome → Bool → Query
 end_asks id func o stamp = Act (intent_key id func) (End o stamp)
+
+abbrev pub stamp_asks : IntentId → ℕ → Query
+stamp_asks id func = Act (intent_key id func) Stamp
 
 abbrev pub register_asks : IntentId → Body → Query
 register_asks id b = Act (intent_key id b.func) (Register b)

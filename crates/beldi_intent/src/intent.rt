@@ -2,7 +2,7 @@
 ghost use Rattle.std.specs.Prelude.{◌≡◌, true, Some, IfOk, OnErr, option_copied};
 ghost use Rattle.beldi_walk.specs.Query.{told_of, lends};
 ghost use Rattle.beldi_walk.specs.Walk.{Answered};
-ghost use Rattle.beldi_intent.specs.Intent.{intent_key as key_of, root_key as root_key_of, issue_asks, bind_asks, register_asks, look_asks, end_asks, is_added, is_did, put_of, binding_of, intent_of, intent_in, read_as, open_body as open_body_of};
+ghost use Rattle.beldi_intent.specs.Intent.{intent_key as key_of, root_key as root_key_of, issue_asks, bind_asks, register_asks, look_asks, end_asks, stamp_asks, is_added, is_did, put_of, binding_of, intent_of, intent_in, read_as, open_body as open_body_of};
 
 use beldi_row::{Act, Body, IntentRow, Kind, Row, RowKey, Said, Table, TableErr};
 use beldi_value::{IntentId, Outcome, Value};
@@ -123,6 +123,13 @@ pub fn register_query(id: IntentId, body: Body) -> Query
     ensures { result ≡ register_asks id body }
 {
     Query::Act(intent_key(id, body.func), Act::Register { body })
+}
+
+/// Asks for the finish of an intent to be set, once.
+pub fn stamp_query(id: IntentId, func: u16) -> Query
+    ensures { result ≡ stamp_asks id func }
+{
+    Query::Act(intent_key(id, func), Act::Stamp)
 }
 
 fn read(alloc: Global, row: &Row) -> Result<IntentRow, AllocError>

@@ -18,7 +18,7 @@ mod laws;
 
 pub use intent::{
     Binding, Put, bind, bind_query, bind_told, end, end_told, intent_key, issue, issue_query,
-    issue_told, look, open_body, register, register_query, root_key,
+    issue_told, look, open_body, register, register_query, root_key, stamp_query,
 };
 pub use laws::{
     a_body_is_set_once, a_callee_is_put_once, a_root_is_put_once, an_intent_is_told,

@@ -1,4 +1,5 @@
 pub mod Blocks
+pub mod Bounds
 pub mod Goes
 pub mod Resumes
 pub mod Spends

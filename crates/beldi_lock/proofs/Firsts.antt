@@ -24,13 +24,13 @@ use Rattle.beldi_lock.specs.Lockset.{most, filled, onto_front, split_last, befor
 use Rattle.beldi_lock.proofs.IdBefore.{less_each}
 
 -- ---- numbers
-below : (a b : ℕ) → nat_cmp a b ≡ Less → a < b
+pub below : (a b : ℕ) → nat_cmp a b ≡ Less → a < b
 below a b h = subst (λ r. MatchOrdering r (a < b) (a ≡ b) (b < a)) h (ranks a b)
 
-level : (a b : ℕ) → nat_cmp a b ≡ Equal → a ≡ b
+pub level : (a b : ℕ) → nat_cmp a b ≡ Equal → a ≡ b
 level a b h = subst (λ r. MatchOrdering r (a < b) (a ≡ b) (b < a)) h (ranks a b)
 
-is_less : (a b : ℕ) → a < b → nat_cmp a b ≡ Less
+pub is_less : (a b : ℕ) → a < b → nat_cmp a b ≡ Less
 is_less a b h = by (nat_cmp a b) (ranks a b)
   where
     by : (r : Ordering) → MatchOrdering r (a < b) (a ≡ b) (b < a) → r ≡ Less
@@ -126,9 +126,9 @@ hops_before zero h (g ∷ hs) a = absurd a.1
 hops_before (suc room) h (g ∷ hs) a = onto (suc room) h (split_last (g ∷ hs)) (g ∷ hs) (hops_before room g hs a.1)
 
 -- ---- ids
-record Precedes (a b : IntentId) : Type 0 where
-  less : id_cmp a b ≡ Less
-  none : (x : IntentId) → AreHops 63 x.hops → id_cmp a x ≡ Less → id_cmp x b ≡ Less → ⊥
+pub record Precedes (a b : IntentId) : Type 0 where
+  pub less : id_cmp a b ≡ Less
+  pub none : (x : IntentId) → AreHops 63 x.hops → id_cmp a x ≡ Less → id_cmp x b ≡ Less → ⊥
 
 root_before : (t : ℕ) → 1 ≤ t → Precedes (record { ticket = t - 1; hops = replicate 63 most }) (record { ticket = t; hops = [] })
 root_before t some = record {
@@ -148,7 +148,7 @@ callee_before t (Some s) hs w = record {
   none = λ x a h g. between t x.ticket t (slice_cmp nat_cmp (before_last 63 s.0 s.1) x.hops) (slice_cmp nat_cmp x.hops hs) (irreflexive t) h g ⊥ (λ e f r q. w.none x.hops a r q);
 }
 
-precedes : (id : IntentId) → 1 ≤ id.ticket → AreHops 63 id.hops → Precedes (id_before id) id
+pub precedes : (id : IntentId) → 1 ≤ id.ticket → AreHops 63 id.hops → Precedes (id_before id) id
 precedes id some a = by id.hops a
   where
     by : (hs : List ℕ) → AreHops 63 hs → Precedes (before_split id.ticket (split_last hs)) (record { ticket = id.ticket; hops = hs })

@@ -86,9 +86,10 @@ AreHops room [] = Unit {0}
 AreHops zero (h ∷ hs) = ⊥
 AreHops (suc room) (h ∷ hs) = (h ≤ most) × AreHops room hs
 
--- the key of a row that a transaction put: its numbers are of their widths, and no table has the greatest number
+-- the key of a row that a transaction put, or of a call: its numbers are of their widths, and no table has the greatest number
 abbrev pub IsFit : Kind → Type 0
 IsFit (kinds.Lockset i b t n) = AreHops 63 i.hops × (b ≤ most) × (t < 2 ^ 16 - 1)
+IsFit (kinds.Invoke p) = AreHops 63 p.intent.hops × (p.step ≤ most)
 IsFit kind = Unit {0}
 
 abbrev pub AreFit : Rows → Type 0

@@ -18,8 +18,8 @@ fn fill(steps: &mut Vec<u32>) -> Result<(), AllocError>
     Ok(())
 }
 
-// The id directly before this one, of ids with at most 63 hops. Before the root of ticket 0 there is none.
-pub(crate) fn id_before(alloc: Global, id: &IntentId) -> Result<IntentId, AllocError>
+/// The id directly before this one, of ids with at most 63 hops. Before the root of ticket 0 there is none.
+pub fn id_before(alloc: Global, id: &IntentId) -> Result<IntentId, AllocError>
     ensures { IfOk result (λ a. a ≡ before id.now) }
 {
     let mut steps = Vec::from_slice(alloc, id.hops.as_slice())?;

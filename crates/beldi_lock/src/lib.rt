@@ -27,6 +27,7 @@ mod lock;
 mod lock_walk;
 mod lockset;
 
+pub use before::id_before;
 pub use laws::{
     a_lock_is_by_the_row, the_first_lockset_is_found, the_next_lockset_is_found, what_came_stands,
 };

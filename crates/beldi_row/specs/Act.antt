@@ -19,7 +19,7 @@ use Rattle.beldi_row.specs.declared.row.Cell.{Cell}
 use Rattle.beldi_row.specs.declared.row.Row.{Row}
 use Rattle.beldi_row.specs.declared.row.Row.TheVariants as rows
 use Rattle.beldi_row.specs.declared.act.Act.{Act}
-use Rattle.beldi_row.specs.declared.act.Act.TheVariants.{Look, Issue, Bind, Register, End, PutRead, OpenInvoke, CallBack, NoteRegistered, PutLockset, MakeCell, WriteCell, CondCell, LockCell, FreeCell}
+use Rattle.beldi_row.specs.declared.act.Act.TheVariants.{Look, Issue, Bind, Register, End, Stamp, PutRead, OpenInvoke, CallBack, NoteRegistered, PutLockset, MakeCell, WriteCell, CondCell, LockCell, FreeCell}
 use Rattle.beldi_row.specs.declared.act.Said.{Said}
 use Rattle.beldi_row.specs.declared.act.Said.TheVariants as said
 use Rattle.beldi_row.specs.declared.act.Change.{Change}
@@ -91,6 +91,11 @@ finish_at true now (Some f) = Some f
 abbrev pub end_with : Outcome → Bool → ℕ → IntentRow → Option Outcome → IntentRow × Tell
 end_with o stamp now i None = (record i { outcome = Some o; finish = finish_at stamp now i.finish }, did)
 end_with o stamp now i (Some p) = (i, already)
+
+-- sets its finish, by the finish that is there
+abbrev pub stamp_with : ℕ → IntentRow → Option ℕ → IntentRow × Tell
+stamp_with now i None = (record i { finish = Some now }, did)
+stamp_with now i (Some f) = (i, already)
 
 -- ---- the act on what a read was given: it stays as it is, and is told
 abbrev pub kept_tell : Option Row → Tell
@@ -212,6 +217,7 @@ on Issue now r = (r, present)
 on (Bind f a) now r = on_intent (λ i. bind_to f a i i.body) gone r
 on (Register b) now r = (r, here r)
 on (End o s) now r = on_intent (λ i. end_with o s now i i.outcome) gone r
+on Stamp now r = on_intent (λ i. stamp_with now i i.finish) gone r
 on (PutRead v) now r = (r, kept_tell (Some r))
 on (OpenInvoke f) now r = (r, here r)
 on (CallBack o) now r = on_invoke (λ i. call_back_to o i i.result) gone r
@@ -230,6 +236,7 @@ off Issue now = (Some (rows.Intent (record { issued = now; body = None; outcome 
 off (Bind f a) now = (None, gone)
 off (Register b) now = (Some (rows.Intent (record { issued = now; body = Some b; outcome = None; finish = None })), added)
 off (End o s) now = (None, gone)
+off Stamp now = (None, gone)
 off (PutRead v) now = (Some (rows.ReadLog v), added)
 off (OpenInvoke f) now = (Some (rows.Invoke (record { func = f; result = None; registered = false })), added)
 off (CallBack o) now = (None, gone)

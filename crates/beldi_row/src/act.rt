@@ -1,7 +1,7 @@
 // The acts on one row.
 ghost use Rattle.std.specs.Prelude.{◌≡◌, ℕ, Some, Option};
 ghost use Rattle.beldi_row.specs.declared.row.Row as row_data;
-ghost use Rattle.beldi_row.specs.Act.{bind_to, end_with, call_back_to, register_to, off, said_by, Changes};
+ghost use Rattle.beldi_row.specs.Act.{bind_to, end_with, stamp_with, call_back_to, register_to, off, said_by, Changes};
 
 use crate::cell::{free, lock, write, write_where};
 use crate::notes::{Log, Note};
@@ -10,7 +10,7 @@ use crate::table::TableErr;
 use beldi_value::{IntentId, Outcome, Owner, Place, Rel, Spare, Value};
 use std::alloc::Global;
 
-/// An act on one row. `Look` is for rows of any kind, `Issue`, `Bind`, `Register` and `End` are for intents, `PutRead` for what
+/// An act on one row. `Look` is for rows of any kind, `Issue`, `Bind`, `Register`, `End` and `Stamp` are for intents, `PutRead` for what
 /// reads were given, `OpenInvoke`, `CallBack` and `NoteRegistered` for calls, `PutLockset` for what a transaction asked the lock
 /// of, the others for cells. A cell that has the place already, or that a row follows, is left as it is.
 #[derive(Drop)]
@@ -33,6 +33,8 @@ pub enum Act {
         outcome: Outcome,
         stamp: bool,
     },
+    /// Sets the moment of the finish, once.
+    Stamp,
     /// Keeps what a read was given, once.
     PutRead {
         value: Value,
@@ -185,7 +187,7 @@ pub fn made(alloc: Global, act: Act, now: u64) -> Option<Row>
             marked: false,
             dangled: None,
         })),
-        Act::Look | Act::Bind { .. } | Act::End { .. } => None,
+        Act::Look | Act::Bind { .. } | Act::End { .. } | Act::Stamp => None,
         Act::CallBack { .. } | Act::NoteRegistered => None,
         Act::WriteCell { .. } | Act::CondCell { .. } => None,
         Act::LockCell { .. } | Act::FreeCell { .. } => None,
@@ -200,7 +202,7 @@ pub fn missing(act: &Act) -> Change
         Act::Look => Change::Absent,
         Act::Issue | Act::Register { .. } | Act::PutRead { .. } => Change::Added,
         Act::OpenInvoke { .. } | Act::PutLockset | Act::MakeCell { .. } => Change::Added,
-        Act::Bind { .. } | Act::End { .. } => Change::Gone,
+        Act::Bind { .. } | Act::End { .. } | Act::Stamp => Change::Gone,
         Act::CallBack { .. } | Act::NoteRegistered => Change::Gone,
         Act::WriteCell { .. } | Act::CondCell { .. } => Change::NoRow,
         Act::LockCell { .. } | Act::FreeCell { .. } => Change::NoRow,
@@ -224,6 +226,10 @@ pub fn apply(row: &mut Row, act: Act, now: u64) -> Result<Change, TableErr>
         },
         Act::End { outcome, stamp } => match row {
             Row::Intent(intent) => Ok(end(intent, outcome, stamp, now)),
+            _ => Ok(Change::Gone),
+        },
+        Act::Stamp => match row {
+            Row::Intent(intent) => Ok(stamped(intent, now)),
             _ => Ok(Change::Gone),
         },
         Act::CallBack { outcome } => match row {
@@ -296,6 +302,16 @@ fn end(intent: &mut IntentRow, outcome: Outcome, stamp: bool, now: u64) -> Chang
     if stamp && intent.finish.is_none() {
         intent.finish = Some(now);
     }
+    Change::Did
+}
+
+fn stamped(intent: &mut IntentRow, now: u64) -> Change
+    ensures { (intent.new, said_by result (Some (Row.Intent intent.new))) ≡ stamp_with now intent.old intent.old.finish }
+{
+    if intent.finish.is_some() {
+        return Change::Already;
+    }
+    intent.finish = Some(now);
     Change::Did
 }
 

@@ -19,9 +19,9 @@ use Rattle.beldi_row.specs.declared.row.Cell.{Cell}
 use Rattle.beldi_row.specs.declared.row.IntentRow.{IntentRow}
 use Rattle.beldi_row.specs.declared.row.InvokeRow.{InvokeRow}
 use Rattle.beldi_row.specs.declared.act.Act.{Act}
-use Rattle.beldi_row.specs.declared.act.Act.TheVariants.{Look, Issue, Bind, Register, End, PutRead, OpenInvoke, CallBack, NoteRegistered, PutLockset, MakeCell, WriteCell, CondCell, LockCell, FreeCell}
+use Rattle.beldi_row.specs.declared.act.Act.TheVariants.{Look, Issue, Bind, Register, End, Stamp, PutRead, OpenInvoke, CallBack, NoteRegistered, PutLockset, MakeCell, WriteCell, CondCell, LockCell, FreeCell}
 use Rattle.beldi_row.specs.Log.{note_at}
-use Rattle.beldi_row.specs.Act.{Tell, gone, no_row, did, not_owner, other, held, died, kept_tell, outcome_tell, off, on, on_intent, on_invoke, on_cell, bind_to, end_with, call_back_to, register_to, other_owner, owns, noted_or, next_or, held_or, waits_for, owned_or, at_tail, unless_held, if_owned, given_or, entered, write_at, cond_to, cond_at, lock_at, free_at}
+use Rattle.beldi_row.specs.Act.{Tell, gone, no_row, did, not_owner, other, held, died, kept_tell, outcome_tell, off, on, on_intent, on_invoke, on_cell, bind_to, end_with, stamp_with, call_back_to, register_to, other_owner, owns, noted_or, next_or, held_or, waits_for, owned_or, at_tail, unless_held, if_owned, given_or, entered, write_at, cond_to, cond_at, lock_at, free_at}
 use Rattle.beldi_row.specs.declared.table.TableErr.{TableErr}
 use Rattle.beldi_row.specs.declared.table.TableErr.TheVariants.{OutOfMemory, Failed, Full}
 use Rattle.beldi_row.specs.Table.{Rows, TableState, Tells}
@@ -48,6 +48,10 @@ bound f a i (Some b) h = refl
 ended : (o : Outcome) (s : _) (now : ℕ) (i : IntentRow) (p : Option Outcome) → quiet (end_with o s now i p).1 ≡ true → (end_with o s now i p).0 ≡ i
 ended o s now i None h = cc
 ended o s now i (Some p) h = refl
+
+stamped : (now : ℕ) (i : IntentRow) (f : Option ℕ) → quiet (stamp_with now i f).1 ≡ true → (stamp_with now i f).0 ≡ i
+stamped now i None h = cc
+stamped now i (Some f) h = refl
 
 called_back : (o : Outcome) (i : InvokeRow) (p : Option Outcome) → quiet (call_back_to o i p).1 ≡ true → (call_back_to o i p).0 ≡ i
 called_back o i None h = cc
@@ -121,6 +125,7 @@ none_there Issue now h = cc
 none_there (Bind f v) now h = refl
 none_there (Register b) now h = cc
 none_there (End o s) now h = refl
+none_there Stamp now h = refl
 none_there (PutRead v) now h = cc
 none_there (OpenInvoke f) now h = cc
 none_there (CallBack o) now h = refl
@@ -138,6 +143,7 @@ there Issue now r = λ h. refl
 there (Bind f v) now r = intent_leaves (λ i. bind_to f v i i.body) gone (λ i. bound f v i i.body) r
 there (Register b) now r = λ h. refl
 there (End o s) now r = intent_leaves (λ i. end_with o s now i i.outcome) gone (λ i. ended o s now i i.outcome) r
+there Stamp now r = intent_leaves (λ i. stamp_with now i i.finish) gone (λ i. stamped now i i.finish) r
 there (PutRead v) now r = λ h. refl
 there (OpenInvoke f) now r = λ h. refl
 there (CallBack o) now r = invoke_leaves (λ i. call_back_to o i i.result) gone (λ i. called_back o i i.result) r
@@ -169,6 +175,10 @@ bound_lives f a i (Some b) = by_test ((b.func == f) && same_value b.args a) i.ou
 ended_lives : (o : Outcome) (s : _) (now : ℕ) (i : IntentRow) (p : Option Outcome) → Lives (end_with o s now i p)
 ended_lives o s now i None = refl
 ended_lives o s now i (Some p) = refl
+
+stamped_lives : (now : ℕ) (i : IntentRow) (f : Option ℕ) → Lives (stamp_with now i f)
+stamped_lives now i None = refl
+stamped_lives now i (Some f) = refl
 
 called_back_lives : (o : Outcome) (i : InvokeRow) (p : Option Outcome) → Lives (call_back_to o i p)
 called_back_lives o i None = refl
@@ -228,6 +238,7 @@ there_lives Issue now r h = refl
 there_lives (Bind f v) now r h = on_intent_lives (λ i. bind_to f v i i.body) gone (λ i. bound_lives f v i i.body) refl r
 there_lives (Register b) now r h = refl
 there_lives (End o s) now r h = on_intent_lives (λ i. end_with o s now i i.outcome) gone (λ i. ended_lives o s now i i.outcome) refl r
+there_lives Stamp now r h = on_intent_lives (λ i. stamp_with now i i.finish) gone (λ i. stamped_lives now i i.finish) refl r
 there_lives (PutRead v) now r h = kept_lives r
 there_lives (OpenInvoke f) now r h = refl
 there_lives (CallBack o) now r h = on_invoke_lives (λ i. call_back_to o i i.result) gone (λ i. called_back_lives o i i.result) refl r
