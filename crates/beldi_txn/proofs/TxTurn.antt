@@ -1,5 +1,5 @@
 -- What a turn of an operation of a transaction leaves.
-use Rattle.std.proofs.Common.{◌≡◌, inl, inr, ℕ, Bool, true, false, cond, List, Option, None, Some, refl, ap, sym, ◌∙◌, subst}
+use Rattle.std.proofs.Common.{◌≡◌, inl, inr, ℕ, true, false, cond, List, Option, None, Some, refl, ap, sym, ◌∙◌, subst}
 use Rattle.std.specs.Option.{option_map}
 use Rattle.std.specs.FinMap as map
 use Rattle.std.specs.Ordering.{is_eq}
@@ -35,7 +35,6 @@ use Rattle.beldi_daal.specs.declared.cell.WriteAt.{WriteAt}
 use Rattle.beldi_daal.specs.declared.cell.WriteAt.TheVariants.{Try, Make}
 use Rattle.beldi_daal.specs.declared.cell.WriteGoes.{WriteGoes}
 use Rattle.beldi_daal.specs.declared.cell.WriteGoes.TheVariants as writes
-use Rattle.beldi_daal.specs.declared.walk.Item.{Item}
 use Rattle.beldi_daal.specs.declared.walk.Item.TheVariants.{Plain, Shadow}
 use Rattle.beldi_daal.specs.declared.walk.WriteSays.{WriteSays}
 use Rattle.beldi_daal.specs.declared.walk.WriteSays.TheVariants as wsays
@@ -54,7 +53,6 @@ use Rattle.beldi_txn.specs.declared.tx.TxAt.{TxAt}
 use Rattle.beldi_txn.specs.declared.tx.TxAt.TheVariants as at
 use Rattle.beldi_txn.specs.declared.tx.TxGoes.{TxGoes}
 use Rattle.beldi_txn.specs.declared.tx.TxGoes.TheVariants as goes
-use Rattle.beldi_txn.specs.declared.tx.TxSays.TheVariants as says
 use Rattle.beldi_txn.specs.declared.tx_walk.TxWalk.{TxWalk}
 use Rattle.beldi_txn.specs.Tx.{item_of, op_of, item_asks, asks_of, lock_leads, locked_goes, shadow_read, item_goes, item_leads, write_leads, tx_goes}
 use Rattle.beldi_txn.specs.TxWalk.{walk_asks, walk_next, walk_says, gone, said_of}

@@ -1,17 +1,17 @@
--- The end of a transaction for its owner, as a machine that asks one thing a turn: it keeps the decision, and then gives back, one
--- after another, the items that the owner asked the locks of.
-use Rattle.std.specs.Prelude.{ℕ, Bool, true, false, List, Option, Some, None}
+-- The end of a transaction, as a machine that asks one thing a turn: it keeps the decision, and then visits the owner. To visit an
+-- intent is to visit each of its callees, by the row of its next call; then to give back each item that it asked the lock of, once, by
+-- the row of its next lock; and then to give a participant's row its finish.
+use Rattle.std.specs.Prelude.{ℕ, nat_lt, Bool, true, false, List, [], ◌∷◌, ◌++◌, Option, Some, None, if◌then◌else◌}
 use Rattle.beldi_value.specs.declared.place.Owner.TheVariants as owner
 use Rattle.beldi_value.specs.declared.place.Place.{Place}
 use Rattle.beldi_value.specs.declared.place.TxId.{TxId}
 use Rattle.beldi_value.specs.declared.value.Value.{Value}
 use Rattle.beldi_value.specs.declared.value.Value.TheVariants as value
 use Rattle.beldi_row.specs.declared.act.Act.TheVariants.{Look}
-use Rattle.beldi_row.specs.declared.key.Kind.TheVariants as kinds
 use Rattle.beldi_row.specs.declared.notes.Note.TheVariants as note
 use Rattle.beldi_row.specs.Act.{added, kept}
 use Rattle.beldi_walk.specs.declared.query.Query.{Query}
-use Rattle.beldi_walk.specs.declared.query.Query.TheVariants.{Act, After}
+use Rattle.beldi_walk.specs.declared.query.Query.TheVariants.{Act}
 use Rattle.beldi_walk.specs.Query.{Told, said}
 use Rattle.beldi_daal.specs.declared.cell.CellOp.TheVariants as op
 use Rattle.beldi_daal.specs.declared.cell.ReadGoes.{ReadGoes}
@@ -21,10 +21,15 @@ use Rattle.beldi_daal.specs.declared.cell.WriteAt.TheVariants.{Try}
 use Rattle.beldi_daal.specs.declared.cell.WriteGoes.{WriteGoes}
 use Rattle.beldi_daal.specs.declared.cell.WriteGoes.TheVariants as writes
 use Rattle.beldi_daal.specs.Cell.{cell_key, shadow_key, read_goes, write_asks, write_goes}
-use Rattle.beldi_lock.specs.Lockset.{lockset_asks, lockset_found}
+use Rattle.beldi_lock.specs.Lockset.{most, lockset_asks, lockset_found}
 use Rattle.beldi_readlog.specs.ReadLog.{keep_asks}
+use Rattle.beldi_intent.specs.Intent.{stamp_asks}
+use Rattle.beldi_value.specs.Id.{has_callees}
+use Rattle.beldi_txn.specs.Invokes.{invokes_asks, invokes_found}
+use Rattle.beldi_txn.specs.Way.{Member, member_at, split_last, is_owner}
+use Rattle.beldi_txn.specs.declared.way.Called.{Called}
 use Rattle.beldi_txn.specs.declared.end.EndAt.{EndAt}
-use Rattle.beldi_txn.specs.declared.end.EndAt.TheVariants.{Decide, Callees, Next, Shadow, Free}
+use Rattle.beldi_txn.specs.declared.end.EndAt.TheVariants.{Decide, Callees, Next, Shadow, Free, Stamp}
 use Rattle.beldi_txn.specs.declared.end.EndGoes.{EndGoes}
 use Rattle.beldi_txn.specs.declared.end.EndGoes.TheVariants as goes
 use Rattle.beldi_txn.specs.declared.end.EndSays.{EndSays}
@@ -40,25 +45,45 @@ abbrev pub end_place : TxId → ℕ → Place
 end_place x end = record { intent = x.intent; step = end }
 
 abbrev pub first_visit : Visit
-first_visit = record { item = None; value = None; at = Decide }
+first_visit = record { way = []; after = None; item = None; value = None; at = Decide }
 
--- ---- what it asks, in the home of the transaction's function; without an item, where one should be, for the first one
-abbrev pub shadow_asks : TxId → Option (ℕ × List ℕ) → Query
-shadow_asks x (Some i) = Act (shadow_key x.func x i.0 i.1) Look
-shadow_asks x None = lockset_asks x.func x.intent x.begin None
+-- ---- who is visited
+abbrev pub visited_by : TxId → List Called → Member
+visited_by x cs = member_at (x.intent, x.func) cs
 
-abbrev pub free_asks : TxId → ℕ → Option Value → WriteAt → Option (ℕ × List ℕ) → Query
-free_asks x end v w (Some i) = write_asks (cell_key x.func i.0 i.1) (end_place x end) (owner.Tx x) (op.Free v) w
-free_asks x end v w None = lockset_asks x.func x.intent x.begin None
+-- after which of the calls of an intent the next one is looked for: of the owner's, only those after its begin count ..
+abbrev pub calls_after : TxId → List Called → Option ℕ → Option ℕ
+calls_after x [] None = Some x.begin
+calls_after x cs after = after
 
-abbrev pub visit_asks : TxId → ℕ → Bool → Option (ℕ × List ℕ) → Option Value → EndAt → Query
-visit_asks x end commit i v Decide = keep_asks x.func (begin_place x) (value.Bool commit)
-visit_asks x end commit i v Callees = After (record { home = x.func; kind = kinds.Invoke (begin_place x) })
-visit_asks x end commit i v Next = lockset_asks x.func x.intent x.begin i
-visit_asks x end commit i v Shadow = shadow_asks x i
-visit_asks x end commit i v (Free w) = free_asks x end v w i
+-- .. and before its end
+abbrev pub counts : ℕ → List Called → Called → Bool
+counts end [] c = nat_lt c.step end
+counts end (d ∷ ds) c = true
 
--- ---- where it goes after it was told. An owner alone has no callee to visit.
+-- the place at which items are given back: the owner's end, or the last of all steps of a participant
+abbrev pub free_place : TxId → ℕ → List Called → Place
+free_place x end [] = end_place x end
+free_place x end (c ∷ cs) = record { intent = (visited_by x (c ∷ cs)).0; step = most }
+
+-- ---- what it asks; without an item, where one should be, for the first one
+abbrev pub shadow_asks : TxId → Member → Option (ℕ × List ℕ) → Query
+shadow_asks x p (Some i) = Act (shadow_key p.1 x i.0 i.1) Look
+shadow_asks x p None = lockset_asks p.1 p.0 x.begin None
+
+abbrev pub free_asks : TxId → Member → Place → Option Value → WriteAt → Option (ℕ × List ℕ) → Query
+free_asks x p at v w (Some i) = write_asks (cell_key p.1 i.0 i.1) at (owner.Tx x) (op.Free v) w
+free_asks x p at v w None = lockset_asks p.1 p.0 x.begin None
+
+abbrev pub visit_asks : TxId → ℕ → Bool → List Called → Option ℕ → Option (ℕ × List ℕ) → Option Value → EndAt → Query
+visit_asks x end commit cs after i v Decide = keep_asks x.func (begin_place x) (value.Bool commit)
+visit_asks x end commit cs after i v Callees = let p = visited_by x cs in invokes_asks p.1 p.0 (calls_after x cs after)
+visit_asks x end commit cs after i v Next = let p = visited_by x cs in lockset_asks p.1 p.0 x.begin i
+visit_asks x end commit cs after i v Shadow = shadow_asks x (visited_by x cs) i
+visit_asks x end commit cs after i v (Free w) = free_asks x (visited_by x cs) (free_place x end cs) v w i
+visit_asks x end commit cs after i v Stamp = let p = visited_by x cs in stamp_asks p.0 p.1
+
+-- ---- where it goes after it was told
 -- it stays at another decision than its own
 abbrev pub decided_by : Bool → Bool → EndGoes
 decided_by true true = goes.Decided false
@@ -71,9 +96,24 @@ decide_goes commit (said added) = goes.Decided true
 decide_goes commit (said (kept (value.Bool b))) = decided_by commit b
 decide_goes commit t = goes.On Decide
 
-abbrev pub next_goes : Option (ℕ × List ℕ) → EndGoes
-next_goes None = goes.Done
-next_goes (Some i) = goes.Item i.0 i.1
+-- the callee of a call is visited next; a call of an intent whose callees have no id is passed over
+abbrev pub call_goes : Bool → List Called → Called → EndGoes
+call_goes true cs c = goes.Callee (cs ++ c ∷ [])
+call_goes false cs c = goes.Passed c.step
+
+-- after the last call come the locks
+abbrev pub calls_goes : ℕ → Member → List Called → Option Called → EndGoes
+calls_goes end p cs None = goes.On Next
+calls_goes end p cs (Some c) = if counts end cs c then call_goes (has_callees p.0) cs c else goes.On Next
+
+-- after the last lock the owner is done, and a participant is stamped
+abbrev pub last_goes : Bool → EndGoes
+last_goes true = goes.Done
+last_goes false = goes.On Stamp
+
+abbrev pub next_goes : List Called → Option (ℕ × List ℕ) → EndGoes
+next_goes cs None = last_goes (is_owner cs)
+next_goes cs (Some i) = goes.Item i.0 i.1
 
 -- the item is given back with the shadow's value, if there is a shadow
 abbrev pub value_goes : ReadGoes → EndGoes
@@ -88,12 +128,13 @@ freed_goes w (writes.Done n first) = goes.On Next
 freed_goes w writes.NotOwner = goes.On Next
 freed_goes w (writes.Held o) = goes.On (Free w)
 
-abbrev pub end_goes : TxId → Bool → EndAt → Told → EndGoes
-end_goes x commit Decide t = decide_goes commit t
-end_goes x commit Callees t = goes.On Next
-end_goes x commit Next t = next_goes (lockset_found x.func x.intent x.begin t)
-end_goes x commit Shadow t = value_goes (read_goes None t)
-end_goes x commit (Free w) t = freed_goes w (write_goes note.Freed t)
+abbrev pub end_goes : TxId → ℕ → Bool → List Called → EndAt → Told → EndGoes
+end_goes x end commit cs Decide t = decide_goes commit t
+end_goes x end commit cs Callees t = let p = visited_by x cs in calls_goes end p cs (invokes_found p.1 p.0 t)
+end_goes x end commit cs Next t = let p = visited_by x cs in next_goes cs (lockset_found p.1 p.0 x.begin t)
+end_goes x end commit cs Shadow t = value_goes (read_goes None t)
+end_goes x end commit cs (Free w) t = freed_goes w (write_goes note.Freed t)
+end_goes x end commit cs Stamp t = goes.Back
 
 -- ---- the way on
 -- a commit gives an item back with the shadow's value, so it looks at the shadow
@@ -101,18 +142,33 @@ abbrev pub free_first : Bool → EndAt
 free_first true = Shadow
 free_first false = Free Try
 
+-- at the calls of who is visited, after a step
+abbrev pub at_calls : List Called → Option ℕ → Visit
+at_calls cs after = record { way = cs; after = after; item = None; value = None; at = Callees }
+
+-- a participant was visited: its caller goes on after this call
+abbrev pub back_from : Visit → Option (List Called × Called) → Visit
+back_from v None = v
+back_from v (Some s) = at_calls s.0 (Some s.1.step)
+
 abbrev pub moved : Bool → Visit → EndGoes → Visit
 moved commit v (goes.On a) = record v { at = a }
 moved commit v (goes.Decided first) = record v { at = Callees }
-moved commit v (goes.Item t k) = record { item = Some (t, k); value = None; at = free_first commit }
+moved commit v (goes.Passed s) = record v { after = Some s }
+moved commit v (goes.Callee cs) = at_calls cs None
+moved commit v (goes.Item t k) = record v { item = Some (t, k); value = None; at = free_first commit }
 moved commit v (goes.Value u) = record v { value = u; at = Free Try }
+moved commit v goes.Back = back_from v (split_last v.way)
 moved commit v goes.Done = v
 
 abbrev pub said_of : EndGoes → EndSays
 said_of (goes.On a) = says.Going
 said_of (goes.Decided first) = says.Decided first
+said_of (goes.Passed s) = says.Going
+said_of (goes.Callee cs) = says.Going
 said_of (goes.Item t k) = says.Going
 said_of (goes.Value u) = says.Going
+said_of goes.Back = says.Going
 said_of goes.Done = says.Done
 
 -- ---- the walk
@@ -120,10 +176,13 @@ abbrev pub first_end : TxId → ℕ → Bool → EndWalk
 first_end x end commit = record { tx = x; end = end; commit = commit; visit = first_visit }
 
 abbrev pub walk_asks : EndWalk → Query
-walk_asks w = visit_asks w.tx w.end w.commit w.visit.item w.visit.value w.visit.at
+walk_asks w = visit_asks w.tx w.end w.commit w.visit.way w.visit.after w.visit.item w.visit.value w.visit.at
+
+abbrev pub walk_goes : EndWalk → Told → EndGoes
+walk_goes w t = end_goes w.tx w.end w.commit w.visit.way w.visit.at t
 
 abbrev pub walk_next : EndWalk → Told → EndWalk
-walk_next w t = record w { visit = moved w.commit w.visit (end_goes w.tx w.commit w.visit.at t) }
+walk_next w t = record w { visit = moved w.commit w.visit (walk_goes w t) }
 
 abbrev pub walk_says : EndWalk → Told → EndSays
-walk_says w t = said_of (end_goes w.tx w.commit w.visit.at t)
+walk_says w t = said_of (walk_goes w t)

@@ -1,5 +1,7 @@
 pub mod End
+pub mod Invokes
 pub mod Tx
 pub mod TxTurn
 pub mod TxWalk
 pub mod Visited
+pub mod Way

@@ -1,6 +1,8 @@
--- What the end of a transaction leaves, and that at its end no item that the transaction asked the lock of is its own any more.
-use Rattle.std.specs.Prelude.{◌≡◌, ◌⊎◌, ◌≤◌, ℕ, Bool, true, false, List, Option, Some, None, is_some, Ok}
+-- What the end of a transaction leaves, and that at its end no item that the transaction asked the lock of is its own any more, and each
+-- of its participants has its finish.
+use Rattle.std.specs.Prelude.{◌≡◌, ◌⊎◌, ◌≤◌, ◌<◌, ℕ, Bool, true, false, List, [], ◌∷◌, Option, Some, None, is_some, Ok}
 use Rattle.std.specs.FinMap as map
+use Rattle.std.specs.Option.{option_map}
 use Rattle.std.specs.Ordering.{is_eq}
 use Rattle.std.specs.declared.cmp.Ordering.TheVariants.{Less}
 use Rattle.beldi_value.specs.declared.place.Owner.{Owner}
@@ -11,6 +13,7 @@ use Rattle.beldi_value.specs.declared.value.Value.{Value}
 use Rattle.beldi_value.specs.declared.value.Value.TheVariants as value
 use Rattle.beldi_row.specs.declared.key.RowKey.{RowKey}
 use Rattle.beldi_row.specs.declared.notes.Note.{Note}
+use Rattle.beldi_row.specs.declared.row.IntentRow.{IntentRow}
 use Rattle.beldi_row.specs.declared.row.Row.{Row}
 use Rattle.beldi_row.specs.declared.row.Row.TheVariants as rows
 use Rattle.beldi_row.specs.Act.{owns}
@@ -25,29 +28,35 @@ use Rattle.beldi_daal.specs.Logged.{done_to}
 use Rattle.beldi_lock.specs.Lock.{lockset_key}
 use Rattle.beldi_lock.specs.Lockset.{AreHops, AreFit}
 use Rattle.beldi_readlog.specs.ReadLog.{log_key}
+use Rattle.beldi_intent.specs.Intent.{intent_key}
+use Rattle.beldi_value.specs.Id.{has_callees}
+use Rattle.beldi_txn.specs.declared.way.Called.{Called}
+use Rattle.beldi_txn.specs.Invokes.{call_key, func_called}
+use Rattle.beldi_txn.specs.Way.{Member, callee_of, is_owner}
 use Rattle.beldi_txn.specs.declared.end.EndAt.{EndAt}
-use Rattle.beldi_txn.specs.declared.end.EndAt.TheVariants.{Decide, Callees, Next, Shadow, Free}
+use Rattle.beldi_txn.specs.declared.end.EndAt.TheVariants.{Decide, Callees, Next, Shadow, Free, Stamp}
 use Rattle.beldi_txn.specs.declared.end.EndSays.{EndSays}
 use Rattle.beldi_txn.specs.declared.end.EndSays.TheVariants as says
 use Rattle.beldi_txn.specs.declared.end_walk.EndWalk.{EndWalk}
-use Rattle.beldi_txn.specs.End.{begin_place, end_place, first_end, walk_asks, walk_next, walk_says}
+use Rattle.beldi_txn.specs.End.{begin_place, visited_by, free_place, first_end, walk_asks, walk_next, walk_says}
 use Rattle.beldi_txn.specs.TxTurn.{key_asked, shadow_value}
 
--- ---- the rows: the decision, and by its table and key an item, the transaction's shadow of it, and that its lock was asked for
+-- ---- the rows: the decision, and by its table and key an item of a function, the transaction's shadow of it, and that a member asked
+-- for its lock
 abbrev pub decision_row : EndWalk → RowKey
 decision_row w = log_key w.tx.func (begin_place w.tx)
 
-abbrev pub item_row : EndWalk → ℕ × List ℕ → RowKey
-item_row w i = cell_key w.tx.func i.0 i.1
+abbrev pub item_row : ℕ → ℕ × List ℕ → RowKey
+item_row f i = cell_key f i.0 i.1
 
-abbrev pub aside_row : EndWalk → ℕ × List ℕ → RowKey
-aside_row w i = shadow_key w.tx.func w.tx i.0 i.1
+abbrev pub aside_row : EndWalk → ℕ → ℕ × List ℕ → RowKey
+aside_row w f i = shadow_key f w.tx i.0 i.1
 
-abbrev pub lock_row : EndWalk → ℕ × List ℕ → RowKey
-lock_row w i = lockset_key w.tx.func w.tx.intent w.tx.begin i.0 i.1
+abbrev pub lock_row : EndWalk → Member → ℕ × List ℕ → RowKey
+lock_row w p i = lockset_key p.1 p.0 w.tx.begin i.0 i.1
 
-abbrev pub item_in : EndWalk → Rows → ℕ × List ℕ → Content
-item_in w m i = content_in (map.get m (item_row w i))
+abbrev pub item_in : ℕ → Rows → ℕ × List ℕ → Content
+item_in f m i = content_in (map.get m (item_row f i))
 
 -- the transaction owns an item with this content
 abbrev pub is_own : EndWalk → Content → Bool
@@ -62,6 +71,57 @@ abbrev pub given_value : Bool → Option Row → Option Value
 given_value true r = shadow_value r
 given_value false r = None
 
+-- ---- who takes part
+-- the function that a member called at a step, by the row of the call
+abbrev pub called_at : Rows → Member → ℕ → Option ℕ
+called_at m p step = option_map func_called (map.get m (call_key p.1 p.0 step))
+
+-- the row of the call is there, and its callee has an id
+abbrev pub IsCall : Rows → Member → Called → Type 0
+IsCall m p c = (has_callees p.0 ≡ true) × (called_at m p c.step ≡ Some c.func)
+
+abbrev pub IsWay : Rows → Member → List Called → Type 0
+IsWay m p [] = Unit {0}
+IsWay m p (c ∷ cs) = IsCall m p c × IsWay m (callee_of p c) cs
+
+-- of the owner's calls those after the transaction's begin and before its end are the transaction's
+abbrev pub IsWithin : EndWalk → ℕ → Type 0
+IsWithin w n = (w.tx.begin < n) × (n < w.end)
+
+abbrev pub StartsWithin : EndWalk → List Called → Type 0
+StartsWithin w [] = Unit {0}
+StartsWithin w (c ∷ cs) = IsWithin w c.step
+
+abbrev pub owner_of : EndWalk → Member
+owner_of w = (w.tx.intent, w.tx.func)
+
+-- calls that lead to a participant, or none
+abbrev pub IsMember : EndWalk → Rows → List Called → Type 0
+IsMember w m cs = StartsWithin w cs × IsWay m (owner_of w) cs
+
+-- the row of a participant has its finish, or is absent
+abbrev pub row_closed : Option Row → Bool
+row_closed (Some (rows.Intent i)) = is_some i.finish
+row_closed r = true
+
+abbrev pub is_closed : Rows → Member → Bool
+is_closed m p = row_closed (map.get m (intent_key p.0 p.1))
+
+-- so it is of the callees of a member at these steps
+abbrev pub AreClosed : Rows → Member → (ℕ → Type 0) → Type 0
+AreClosed m p At = (c : Called) → IsCall m p c → At c.step → is_closed m (callee_of p c) ≡ true
+
+-- no item is the transaction's whose lock the member asked for
+abbrev pub AllFreed : EndWalk → Rows → Member → Type 0
+AllFreed w m p = (q : ℕ × List ℕ) (r : Row) → map.get m (lock_row w p q) ≡ Some r → is_own w (item_in p.1 m q) ≡ false
+
+-- a participant that is closed has given back all, and so have its callees
+abbrev pub IsReleased : EndWalk → Rows → Member → Type 0
+IsReleased w m p = AllFreed w m p × AreClosed m p (λ n. Unit {0})
+
+abbrev pub AreReleased : EndWalk → Rows → Type 0
+AreReleased w m = (c : Called) (cs : List Called) → IsMember w m (c ∷ cs) → is_closed m (visited_by w.tx (c ∷ cs)) ≡ true → IsReleased w m (visited_by w.tx (c ∷ cs))
+
 -- ---- what is so of the walk and the rows
 abbrev pub DecidedAt : EndAt → EndWalk → Rows → Type 0
 DecidedAt Decide w m = Unit {0}
@@ -71,43 +131,82 @@ abbrev pub HasItem : EndAt → Option (ℕ × List ℕ) → Type 0
 HasItem Decide i = i ≡ None
 HasItem Callees i = i ≡ None
 HasItem Next i = Unit {0}
+HasItem Stamp i = Unit {0}
 HasItem a i = is_some i ≡ true
 
+-- it begins at the owner, who gets no finish here
+abbrev pub HasWay : EndAt → List Called → Option ℕ → Type 0
+HasWay Decide cs after = (cs ≡ []) × (after ≡ None)
+HasWay Stamp cs after = is_owner cs ≡ false
+HasWay a cs after = Unit {0}
+
+-- the owner's calls are passed from the begin on
+abbrev pub IsFrom : EndWalk → List Called → Option ℕ → Type 0
+IsFrom w [] (Some s) = w.tx.begin < s
+IsFrom w cs after = Unit {0}
+
 -- only a commit looks at the shadow; an item is given back with its value exactly where the transaction commits and has a shadow of it
-abbrev pub Gives : EndAt → EndWalk → Rows → Option (ℕ × List ℕ) → Type 0
-Gives Shadow w m i = w.commit ≡ true
-Gives (Free f) w m (Some i) = w.visit.value ≡ given_value w.commit (map.get m (aside_row w i))
-Gives a w m i = Unit {0}
+abbrev pub Gives : EndAt → EndWalk → ℕ → Rows → Option (ℕ × List ℕ) → Type 0
+Gives Shadow w home m i = w.commit ≡ true
+Gives (Free f) w home m (Some i) = w.visit.value ≡ given_value w.commit (map.get m (aside_row w home i))
+Gives a w home m i = Unit {0}
+
+-- the calls of who is visited are passed in the order of their steps
+abbrev pub IsPassed : EndAt → Option ℕ → ℕ → Type 0
+IsPassed Decide after n = ⊥
+IsPassed Callees None n = ⊥
+IsPassed Callees (Some s) n = n ≤ s
+IsPassed a after n = Unit {0}
+
+-- each callee is closed whose call was passed: of those on the way, before the call of the next one
+abbrev pub Levels : Rows → Member → (ℕ → Type 0) → List Called → (ℕ → Type 0) → Type 0
+Levels m p At [] Past = AreClosed m p (λ n. At n × Past n)
+Levels m p At (c ∷ cs) Past = AreClosed m p (λ n. At n × (n < c.step)) × Levels m (callee_of p c) (λ n. Unit {0}) cs Past
+
+-- at the end of the way: those of the owner's calls that count, and all of a participant's
+abbrev pub AtEnd : (ℕ → Type 0) → List Called → ℕ → Type 0
+AtEnd At [] n = At n
+AtEnd At (c ∷ cs) n = Unit {0}
 
 -- the rows of the locks are passed in the order of their keys, up to the item, or to those before it while it is given back
-abbrev pub IsPast : EndAt → EndWalk → Option (ℕ × List ℕ) → ℕ × List ℕ → Type 0
-IsPast Decide w i q = ⊥
-IsPast Callees w i q = ⊥
-IsPast Next w None q = ⊥
-IsPast Next w (Some i) q = key_cmp (lock_row w i) (lock_row w q) ≡ Less → ⊥
-IsPast a w None q = ⊥
-IsPast a w (Some i) q = key_cmp (lock_row w q) (lock_row w i) ≡ Less
+abbrev pub IsPast : EndAt → EndWalk → Member → Option (ℕ × List ℕ) → ℕ × List ℕ → Type 0
+IsPast Decide w p i q = ⊥
+IsPast Callees w p i q = ⊥
+IsPast Stamp w p i q = Unit {0}
+IsPast Next w p None q = ⊥
+IsPast Next w p (Some i) q = key_cmp (lock_row w p i) (lock_row w p q) ≡ Less → ⊥
+IsPast a w p None q = ⊥
+IsPast a w p (Some i) q = key_cmp (lock_row w p q) (lock_row w p i) ≡ Less
 
 -- all chains of items and shadows are sound
 abbrev pub AreSound : EndWalk → Rows → Type 0
-AreSound w m = (q : ℕ × List ℕ) → SoundAt (map.get m (item_row w q)) × SoundAt (map.get m (aside_row w q))
+AreSound w m = (f : ℕ) (q : ℕ × List ℕ) → SoundAt (map.get m (item_row f q)) × SoundAt (map.get m (aside_row w f q))
 
--- an item with a note at the end's place is not the transaction's
+-- an item with a note at a place where a member gives items back is not the transaction's
 abbrev pub AreMarked : EndWalk → Rows → Type 0
-AreMarked w m = (q : ℕ × List ℕ) (n : Note) → note_at (item_in w m q).notes (end_place w.tx w.end) ≡ Some n → is_own w (item_in w m q) ≡ false
+AreMarked w m = (cs : List Called) → IsMember w m cs → let f = (visited_by w.tx cs).1 in
+    (q : ℕ × List ℕ) (n : Note) → note_at (item_in f m q).notes (free_place w.tx w.end cs) ≡ Some n → is_own w (item_in f m q) ≡ false
 
 pub record Visited (w : EndWalk) (m : Rows) : Type 0 where
   pub decided : DecidedAt w.visit.at w m
   pub item : HasItem w.visit.at w.visit.item
-  pub gives : Gives w.visit.at w m w.visit.item
-  -- no item is the transaction's whose lock it asked for, and that was passed
-  pub freed : (q : ℕ × List ℕ) (r : Row) → map.get m (lock_row w q) ≡ Some r → IsPast w.visit.at w w.visit.item q → is_own w (item_in w m q) ≡ false
+  pub begins : HasWay w.visit.at w.visit.way w.visit.after
+  pub from : IsFrom w w.visit.way w.visit.after
+  -- the calls that lead to who is visited are there
+  pub member : IsMember w m w.visit.way
+  pub gives : Gives w.visit.at w (visited_by w.tx w.visit.way).1 m w.visit.item
+  pub callees : Levels m (owner_of w) (IsWithin w) w.visit.way (IsPassed w.visit.at w.visit.after)
+  -- no item is the transaction's whose lock who is visited asked for, and that was passed
+  pub freed : (q : ℕ × List ℕ) (r : Row) → let p = visited_by w.tx w.visit.way in map.get m (lock_row w p q) ≡ Some r → IsPast w.visit.at w p w.visit.item q → is_own w (item_in p.1 m q) ≡ false
+  pub released : AreReleased w m
   pub marked : AreMarked w m
   pub sound : AreSound w m
 
--- all items were given back: none is the transaction's whose lock it asked for
-abbrev pub AllFreed : EndWalk → Rows → Type 0
-AllFreed w m = (q : ℕ × List ℕ) (r : Row) → map.get m (lock_row w q) ≡ Some r → is_own w (item_in w m q) ≡ false
+-- the owner and all who took part have given back all, and all but the owner are closed
+pub record AllReleased (w : EndWalk) (m : Rows) : Type 0 where
+  pub owner : AllFreed w m (owner_of w)
+  pub closed : (c : Called) (cs : List Called) → IsMember w m (c ∷ cs) → is_closed m (visited_by w.tx (c ∷ cs)) ≡ true
+  pub freed : (c : Called) (cs : List Called) → IsMember w m (c ∷ cs) → AllFreed w m (visited_by w.tx (c ∷ cs))
 
 -- ---- a turn of its own
 -- the decision is put once; the end stays at another decision than its own
@@ -122,9 +221,21 @@ Decides says.Done v r s = ⊥
 abbrev pub Frees : Place → Owner → Option Value → Content → Content → Type 0
 Frees p who v c d = (d ≡ c) ⊎ ((note_at c.notes p ≡ None) × (owns who c.owner ≡ true) × (d ≡ done_to p who (FreeOp v) c))
 
+-- a participant gets its finish, where it is there and has none
+pub record GetsFinish (r s : Option Row) : Type 0 where
+  pub intent : IntentRow
+  pub before : r ≡ Some (rows.Intent intent)
+  pub none : intent.finish ≡ None
+  pub finish : ℕ
+  pub now : s ≡ Some (rows.Intent (record intent { finish = Some finish }))
+
+abbrev pub Stamps : Option Row → Option Row → Type 0
+Stamps r s = ((s ≡ r) × (row_closed r ≡ true)) ⊎ GetsFinish r s
+
 abbrev pub LeftAt : EndAt → EndWalk → Option (ℕ × List ℕ) → EndSays → Rows → Rows → Type 0
 LeftAt Decide w i s m n = Decides s (value.Bool w.commit) (map.get m (decision_row w)) (map.get n (decision_row w))
-LeftAt (Free f) w (Some i) s m n = Frees (end_place w.tx w.end) (owner.Tx w.tx) w.visit.value (item_in w m i) (item_in w n i)
+LeftAt (Free f) w (Some i) s m n = let h = (visited_by w.tx w.visit.way).1 in Frees (free_place w.tx w.end w.visit.way) (owner.Tx w.tx) w.visit.value (item_in h m i) (item_in h n i)
+LeftAt Stamp w i s m n = let p = visited_by w.tx w.visit.way in Stamps (map.get m (intent_key p.0 p.1)) (map.get n (intent_key p.0 p.1))
 LeftAt a w i s m n = n ≡ m
 
 pub record EndTurn (w x : EndWalk) (m n : Rows) (s : EndSays) : Type 0 where
@@ -133,7 +244,7 @@ pub record EndTurn (w x : EndWalk) (m n : Rows) (s : EndSays) : Type 0 where
   pub left : LeftAt w.visit.at w w.visit.item s m n
   pub same : x ≡ record w { visit = x.visit }
   pub visited : Visited x n
-  pub done : s ≡ says.Done → IsDecided w n × AllFreed w n
+  pub done : s ≡ says.Done → IsDecided w n × AllReleased w n
 
 -- for every turn that says something, over every table that tells its rows
 abbrev pub EndsAreVisits : Type 0
@@ -141,19 +252,25 @@ EndsAreVisits = (w x : EndWalk) (now : ℕ) (old new : TableState) (s : EndSays)
     → Turned (walk_asks w) now (walk_next w) (walk_says w) w x old new (Ok s) → Tells old.rows new.rows (λ m n. AreFit m → Visited w m → EndTurn w x m n s)
 
 -- ---- what others do
--- rows that keep the decision and the values of the transaction's shadows, and have no further row of its locks; it owns no item that
--- it did not, and none that has a note at the end's place
+-- rows that keep the decision and the values of the transaction's shadows, and have no further row of its calls and its locks; the
+-- calls on the way stand; who is closed stays so, and who becomes so has given back all; the transaction owns no item that it did not,
+-- and none that has a note at a place where items are given back
 pub record Leaves (w : EndWalk) (m n : Rows) : Type 0 where
   pub decision : IsDecided w m → IsDecided w n
-  pub asides : (q : ℕ × List ℕ) → shadow_value (map.get n (aside_row w q)) ≡ shadow_value (map.get m (aside_row w q))
-  pub locks : (q : ℕ × List ℕ) (r : Row) → map.get n (lock_row w q) ≡ Some r → is_some (map.get m (lock_row w q)) ≡ true
-  pub items : (q : ℕ × List ℕ) → is_own w (item_in w m q) ≡ false → is_own w (item_in w n q) ≡ false
+  pub asides : (f : ℕ) (q : ℕ × List ℕ) → shadow_value (map.get n (aside_row w f q)) ≡ shadow_value (map.get m (aside_row w f q))
+  pub way : IsMember w m w.visit.way → IsMember w n w.visit.way
+  pub calls : (cs : List Called) → IsMember w m cs → (c : Called) → AtEnd (IsWithin w) cs c.step → IsCall n (visited_by w.tx cs) c → IsCall m (visited_by w.tx cs) c
+  pub locks : (cs : List Called) → IsMember w m cs → (q : ℕ × List ℕ) (r : Row) → map.get n (lock_row w (visited_by w.tx cs) q) ≡ Some r → is_some (map.get m (lock_row w (visited_by w.tx cs) q)) ≡ true
+  pub closed : (c : Called) (cs : List Called) → IsMember w m (c ∷ cs) → is_closed m (visited_by w.tx (c ∷ cs)) ≡ true → is_closed n (visited_by w.tx (c ∷ cs)) ≡ true
+  pub items : (f : ℕ) (q : ℕ × List ℕ) → is_own w (item_in f m q) ≡ false → is_own w (item_in f n q) ≡ false
+  pub released : AreReleased w n
   pub marks : AreMarked w n
   pub sound : AreSound w n
 
 abbrev pub VisitsStand : Type 0
 VisitsStand = (w : EndWalk) (m n : Rows) → Visited w m → Leaves w m n → Visited w n
 
--- it is so from the start, where no item has a note at the end's place that is the transaction's
+-- it is so from the start, where no item has a note at a place where items are given back that is the transaction's, and who is
+-- closed has given back all
 abbrev pub VisitsBegin : Type 0
-VisitsBegin = (tx : TxId) (end : ℕ) (commit : Bool) (m : Rows) → let w = first_end tx end commit in AreMarked w m → AreSound w m → Visited w m
+VisitsBegin = (tx : TxId) (end : ℕ) (commit : Bool) (m : Rows) → let w = first_end tx end commit in AreReleased w m → AreMarked w m → AreSound w m → Visited w m

@@ -1,16 +1,23 @@
 // What the end of a transaction asks of the rows, and what follows from what is told.
-ghost use Rattle.std.specs.Prelude.{◌≡◌, None, true, IfOk, OnErr};
+ghost use Rattle.std.specs.Prelude.{◌≡◌, ℕ, Some, None, true, IfOk, OnErr};
+ghost use Rattle.beldi_value.specs.declared.value.Value.TheVariants as value;
 ghost use Rattle.beldi_walk.specs.Query.{told_of, lends};
 ghost use Rattle.beldi_lock.specs.Lockset.{item_lent};
-ghost use Rattle.beldi_txn.specs.End.{begin_place, end_place, first_visit, visit_asks, shadow_asks, free_asks, decided_by, decide_goes, next_goes, value_goes, freed_goes, end_goes, free_first, moved, said_of};
+ghost use Rattle.beldi_readlog.specs.ReadLog.{keep_asks};
+ghost use Rattle.beldi_txn.specs.Way.{split_last, is_owner};
+ghost use Rattle.beldi_txn.specs.declared.end.EndAt.TheVariants as EndAt;
+ghost use Rattle.beldi_txn.specs.End.{begin_place, first_visit, visited_by, calls_after, counts as counts_by, free_place as freed_at, visit_asks, shadow_asks, free_asks, decided_by, decide_goes, calls_goes, last_goes, value_goes, freed_goes, end_goes, free_first, at_calls, back_from, moved, said_of};
 
+use crate::invokes::{invokes_query, invokes_told};
+use crate::way::{Called, Way};
 use beldi_daal::{
     CellOp, ReadGoes, WriteAt, WriteGoes, cell_key, read_told, shadow_key, write_query, write_told,
 };
+use beldi_intent::stamp_query;
 use beldi_lock::{lockset_query, lockset_told};
 use beldi_readlog::log_key;
-use beldi_row::{Act, Kind, Note, RowKey, Said, copy_tx};
-use beldi_value::{Owner, Place, Str, TxId, Value};
+use beldi_row::{Act, Note, Said, copy_tx};
+use beldi_value::{IntentId, Owner, Place, Str, TxId, Value};
 use beldi_walk::{Heard, Query};
 use std::alloc::{AllocError, Global};
 
@@ -19,19 +26,25 @@ use std::alloc::{AllocError, Global};
 pub enum EndAt {
     /// The decision is put next.
     Decide,
-    /// The next call that the transaction made is looked for. An owner alone made none.
+    /// The next call of who is visited is looked for.
     Callees,
-    /// The next item is looked for, of those that the transaction asked the locks of.
+    /// The next item is looked for, of those that who is visited asked the locks of.
     Next,
     /// The transaction's own copy of the item is looked at next.
     Shadow,
     /// The item is given back; its walk stands here.
     Free(WriteAt),
+    /// The participant gets its finish next.
+    Stamp,
 }
 
-/// The end of a transaction, on its way from item to item.
+/// The end of a transaction, on its way from callee to callee, and from item to item.
 #[derive(Drop)]
 pub struct Visit {
+    /// The calls that lead to who is visited.
+    pub way: Way,
+    /// The step of the last of its calls whose callee was visited; None before the first.
+    pub after: Option<u32>,
     /// The item that is to be given back, or the last one that was: its table and key. None before the first.
     pub item: Option<(u16, Str)>,
     /// The value that it is given back with; None where it keeps the one that it has.
@@ -46,11 +59,17 @@ pub enum EndGoes {
     On(EndAt),
     /// The decision is there; `first` says that this act put it.
     Decided { first: bool },
+    /// The callee of the call at this step has no id, so it is passed over.
+    Passed(u32),
+    /// The callee that these calls lead to comes next.
+    Callee(Way),
     /// The item with this table and key comes next.
     Item(u16, Str),
     /// The item is given back next, with this value.
     Value(Option<Value>),
-    /// All items were given back.
+    /// The participant was visited, and its caller goes on.
+    Back,
+    /// The owner was visited.
     Done,
 }
 
@@ -63,16 +82,18 @@ pub enum EndSays {
     Decided { first: bool },
     /// No row can follow the last one of an item, which is full. No turn says so as long as the rows of an item are not linked.
     Worn,
-    /// All items were given back.
+    /// The owner was visited, and all who took part.
     Done,
 }
 
 impl Visit {
     /// An end that has not yet decided.
-    pub fn first() -> Visit
+    pub fn first(alloc: Global) -> Visit
         ensures { result ≡ first_visit }
     {
         Visit {
+            way: Way::new(alloc),
+            after: None,
             item: None,
             value: None,
             at: EndAt::Decide,
@@ -93,6 +114,15 @@ impl Visit {
                 self.at = EndAt::Callees;
                 EndSays::Decided { first }
             }
+            EndGoes::Passed(step) => {
+                self.after = Some(step);
+                EndSays::Going
+            }
+            EndGoes::Callee(way) => {
+                self.way = way;
+                self.to_calls(None);
+                EndSays::Going
+            }
             EndGoes::Item(table, key) => {
                 self.item = Some((table, key));
                 self.value = None;
@@ -104,7 +134,31 @@ impl Visit {
                 self.at = EndAt::Free(WriteAt::Try);
                 EndSays::Going
             }
+            EndGoes::Back => {
+                self.back();
+                EndSays::Going
+            }
             EndGoes::Done => EndSays::Done,
+        }
+    }
+
+    // To the calls of who is visited, after a step.
+    fn to_calls(&mut self, after: Option<u32>)
+        ensures { self.new ≡ at_calls self.old.way after }
+    {
+        self.after = after;
+        self.item = None;
+        self.value = None;
+        self.at = EndAt::Callees;
+    }
+
+    // From a participant to its caller.
+    fn back(&mut self)
+        ensures { self.new ≡ back_from self.old (split_last self.old.way) }
+    {
+        match self.way.pop() {
+            Some(call) => self.to_calls(Some(call.step)),
+            None => (),
         }
     }
 }
@@ -129,16 +183,18 @@ fn lent(item: &Option<(u16, Str)>) -> Option<(u16, &Str)>
     }
 }
 
-fn place_at(alloc: Global, tx: &TxId, step: u32) -> Result<Place, AllocError>
-    ensures { IfOk result (λ p. p ≡ record { intent = tx.now.intent; step = step }) }
+// After which of its calls the next one of who is visited is looked for: of the owner's, those after its begin.
+fn after_call(tx: &TxId, way: &Way, after: Option<u32>) -> Option<u32>
+    ensures { result ≡ calls_after tx.now way.now after }
 {
-    Ok(Place {
-        intent: tx.intent.copy(alloc)?,
-        step,
-    })
+    if way.is_owner() && after.is_none() {
+        Some(tx.begin)
+    } else {
+        after
+    }
 }
 
-/// What the end of a transaction at the step `end` asks for, in the home of its function: `commit` is its decision.
+/// What the end of a transaction at the step `end` asks for: `commit` is its decision.
 pub fn end_query(
     alloc: Global,
     tx: &TxId,
@@ -146,34 +202,64 @@ pub fn end_query(
     commit: bool,
     visit: &Visit,
 ) -> Result<Query, AllocError>
-    ensures { IfOk result (λ q. q ≡ visit_asks tx.now end commit visit.now.item visit.now.value visit.now.at) }
+    ensures { IfOk result (λ q. q ≡ visit_asks tx.now end commit visit.now.way visit.now.after visit.now.item visit.now.value visit.now.at) }
 {
-    let item = lent(&visit.item);
+    let way = &visit.way;
     match visit.at {
-        EndAt::Decide => {
-            let row = log_key(tx.func, place_at(alloc, tx, tx.begin)?);
-            let value = Value::Bool(commit);
-            Ok(Query::Act(row, Act::PutRead { value }))
-        }
-        EndAt::Callees => Ok(Query::After(RowKey {
-            home: tx.func,
-            kind: Kind::Invoke(place_at(alloc, tx, tx.begin)?),
-        })),
-        EndAt::Next => lockset_query(alloc, tx.func, &tx.intent, tx.begin, item),
-        EndAt::Shadow => look_query(alloc, tx, item),
-        EndAt::Free(at) => free_query(alloc, tx, end, item, &visit.value, at),
+        EndAt::Decide => decide_query(alloc, tx, commit),
+        EndAt::Callees => calls_query(alloc, tx, way, visit.after),
+        EndAt::Next => locks_query(alloc, tx, way, lent(&visit.item)),
+        EndAt::Shadow => look_query(alloc, tx, way, lent(&visit.item)),
+        EndAt::Free(at) => free_query(alloc, tx, end, way, lent(&visit.item), &visit.value, at),
+        EndAt::Stamp => finish_query(alloc, tx, way),
     }
 }
 
-fn look_query(alloc: Global, tx: &TxId, item: Option<(u16, &Str)>) -> Result<Query, AllocError>
-    ensures { IfOk result (λ q. q ≡ shadow_asks tx.now (item_lent item.entry)) }
+/// What the end of a transaction asks for first: that its decision is kept.
+pub fn decide_query(alloc: Global, tx: &TxId, commit: bool) -> Result<Query, AllocError>
+    ensures { IfOk result (λ q. q ≡ keep_asks tx.now.func (begin_place tx.now) (value.Bool commit)) }
+{
+    let place = Place {
+        intent: tx.intent.copy(alloc)?,
+        step: tx.begin,
+    };
+    let value = Value::Bool(commit);
+    Ok(Query::Act(log_key(tx.func, place), Act::PutRead { value }))
+}
+
+fn calls_query(alloc: Global, tx: &TxId, way: &Way, after: Option<u32>) -> Result<Query, AllocError>
+    ensures { IfOk result (λ q. q ≡ visit_asks tx.now 0 true way.now after None None EndAt.Callees) }
+{
+    let (id, func) = way.member(alloc, tx)?;
+    invokes_query(alloc, func, id, after_call(tx, way, after))
+}
+
+fn locks_query(
+    alloc: Global,
+    tx: &TxId,
+    way: &Way,
+    item: Option<(u16, &Str)>,
+) -> Result<Query, AllocError>
+    ensures { IfOk result (λ q. q ≡ visit_asks tx.now 0 true way.now None (item_lent item.entry) None EndAt.Next) }
+{
+    let (id, func) = way.member(alloc, tx)?;
+    lockset_query(alloc, func, &id, tx.begin, item)
+}
+
+fn look_query(
+    alloc: Global,
+    tx: &TxId,
+    way: &Way,
+    item: Option<(u16, &Str)>,
+) -> Result<Query, AllocError>
+    ensures { IfOk result (λ q. q ≡ shadow_asks tx.now (visited_by tx.now way.now) (item_lent item.entry)) }
 {
     match item {
         Some((table, key)) => Ok(Query::Act(
-            shadow_key(alloc, tx.func, tx, table, key)?,
+            shadow_key(alloc, way.func(tx), tx, table, key)?,
             Act::Look,
         )),
-        None => lockset_query(alloc, tx.func, &tx.intent, tx.begin, None),
+        None => locks_query(alloc, tx, way, None),
     }
 }
 
@@ -181,22 +267,39 @@ fn free_query(
     alloc: Global,
     tx: &TxId,
     end: u32,
+    way: &Way,
     item: Option<(u16, &Str)>,
     value: &Option<Value>,
     at: WriteAt,
 ) -> Result<Query, AllocError>
-    ensures { IfOk result (λ q. q ≡ free_asks tx.now end value.now at (item_lent item.entry)) }
+    ensures { IfOk result (λ q. q ≡ free_asks tx.now (visited_by tx.now way.now) (freed_at tx.now end way.now) value.now at (item_lent item.entry)) }
 {
     match item {
         Some((table, key)) => {
-            let row = cell_key(alloc, tx.func, table, key)?;
-            let place = place_at(alloc, tx, end)?;
+            let row = cell_key(alloc, way.func(tx), table, key)?;
+            let place = free_place(alloc, tx, end, way)?;
             let who = Owner::Tx(copy_tx(tx, alloc)?);
             let op = CellOp::Free(copy_of(alloc, value)?);
             write_query(alloc, row, place, who, op, at)
         }
-        None => lockset_query(alloc, tx.func, &tx.intent, tx.begin, None),
+        None => locks_query(alloc, tx, way, None),
     }
+}
+
+// The place at which who is visited gives items back.
+fn free_place(alloc: Global, tx: &TxId, end: u32, way: &Way) -> Result<Place, AllocError>
+    ensures { IfOk result (λ p. p ≡ freed_at tx.now end way.now) }
+{
+    let (intent, _) = way.member(alloc, tx)?;
+    let step = if way.is_owner() { end } else { u32::MAX };
+    Ok(Place { intent, step })
+}
+
+fn finish_query(alloc: Global, tx: &TxId, way: &Way) -> Result<Query, AllocError>
+    ensures { IfOk result (λ q. q ≡ visit_asks tx.now 0 true way.now None None None EndAt.Stamp) }
+{
+    let (id, func) = way.member(alloc, tx)?;
+    Ok(stamp_query(id, func))
 }
 
 fn copy_of(alloc: Global, value: &Option<Value>) -> Result<Option<Value>, AllocError>
@@ -212,27 +315,102 @@ fn copy_of(alloc: Global, value: &Option<Value>) -> Result<Option<Value>, AllocE
 pub fn end_told(
     alloc: Global,
     tx: &TxId,
+    end: u32,
     commit: bool,
-    at: EndAt,
+    visit: &Visit,
     heard: Heard<'_>,
 ) -> Result<EndGoes, AllocError>
-    ensures ok { IfOk result (λ g. g ≡ end_goes tx.now commit at (told_of heard.entry)) }
+    ensures ok { IfOk result (λ g. g ≡ end_goes tx.now end commit visit.now.way visit.now.at (told_of heard.entry)) }
     ensures err { OnErr result (lends (told_of heard.entry) ≡ true) }
 {
-    match at {
-        EndAt::Decide => Ok(hear_decision(commit, heard)),
-        EndAt::Callees => Ok(EndGoes::On(EndAt::Next)),
-        EndAt::Next => {
-            let item = lockset_told(alloc, tx.func, &tx.intent, tx.begin, heard)?;
-            Ok(hear_next(item))
-        }
+    match visit.at {
+        EndAt::Decide => Ok(decide_told(commit, heard)),
+        EndAt::Callees => hear_call(alloc, tx, end, &visit.way, heard),
+        EndAt::Next => hear_next(alloc, tx, &visit.way, heard),
         EndAt::Shadow => Ok(hear_value(read_told(alloc, &None, heard)?)),
         EndAt::Free(at) => Ok(hear_free(at, write_told(alloc, Note::Freed, heard)?)),
+        EndAt::Stamp => Ok(EndGoes::Back),
     }
 }
 
-// The end stays at another decision than its own, which no session leaves there.
-fn hear_decision(commit: bool, heard: Heard<'_>) -> EndGoes
+// A row is lent, whatever it is, so there may be no memory for who is visited.
+fn hear_call(
+    alloc: Global,
+    tx: &TxId,
+    end: u32,
+    way: &Way,
+    heard: Heard<'_>,
+) -> Result<EndGoes, AllocError>
+    ensures ok { IfOk result (λ g. g ≡ end_goes tx.now end true way.now EndAt.Callees (told_of heard.entry)) }
+    ensures err { OnErr result (lends (told_of heard.entry) ≡ true) }
+{
+    match heard {
+        Heard::Found(found) => {
+            let (id, func) = way.member(alloc, tx)?;
+            match invokes_told(func, &id, Heard::Found(found)) {
+                Some(call) => next_call(alloc, end, way, &id, call),
+                None => Ok(EndGoes::On(EndAt::Next)),
+            }
+        }
+        _ => Ok(EndGoes::On(EndAt::Next)),
+    }
+}
+
+// The callee is visited, where it counts and has an id.
+fn next_call(
+    alloc: Global,
+    end: u32,
+    way: &Way,
+    id: &IntentId,
+    call: Called,
+) -> Result<EndGoes, AllocError>
+    ensures { (func : ℕ) → IfOk result (λ g. g ≡ calls_goes end (id.now, func) way.now (Some call)) }
+{
+    if !counts(end, way, call) {
+        return Ok(EndGoes::On(EndAt::Next));
+    }
+    if id.has_callees() {
+        Ok(EndGoes::Callee(way.with(alloc, call)?))
+    } else {
+        Ok(EndGoes::Passed(call.step))
+    }
+}
+
+fn counts(end: u32, way: &Way, call: Called) -> bool
+    ensures { result ≡ counts_by end way.now call }
+{
+    !way.is_owner() || call.step < end
+}
+
+fn hear_next(alloc: Global, tx: &TxId, way: &Way, heard: Heard<'_>) -> Result<EndGoes, AllocError>
+    ensures ok { IfOk result (λ g. g ≡ end_goes tx.now 0 true way.now EndAt.Next (told_of heard.entry)) }
+    ensures err { OnErr result (lends (told_of heard.entry) ≡ true) }
+{
+    match heard {
+        Heard::Found(found) => {
+            let (id, func) = way.member(alloc, tx)?;
+            match lockset_told(alloc, func, &id, tx.begin, Heard::Found(found))? {
+                Some((table, key)) => Ok(EndGoes::Item(table, key)),
+                None => Ok(past_locks(way)),
+            }
+        }
+        _ => Ok(past_locks(way)),
+    }
+}
+
+// After the last lock the owner is done, and a participant gets its finish.
+fn past_locks(way: &Way) -> EndGoes
+    ensures { result ≡ last_goes (is_owner way.now) }
+{
+    if way.is_owner() {
+        EndGoes::Done
+    } else {
+        EndGoes::On(EndAt::Stamp)
+    }
+}
+
+/// Where the end goes from its decision. It stays at another decision than its own, which no session leaves there.
+pub fn decide_told(commit: bool, heard: Heard<'_>) -> EndGoes
     ensures { result ≡ decide_goes commit (told_of heard.entry) }
 {
     match heard {
@@ -248,15 +426,6 @@ fn kept_decision(commit: bool, kept: bool) -> EndGoes
     match (commit, kept) {
         (true, true) | (false, false) => EndGoes::Decided { first: false },
         _ => EndGoes::On(EndAt::Decide),
-    }
-}
-
-fn hear_next(item: Option<(u16, Str)>) -> EndGoes
-    ensures { result ≡ next_goes item }
-{
-    match item {
-        Some((table, key)) => EndGoes::Item(table, key),
-        None => EndGoes::Done,
     }
 }
 

@@ -7,8 +7,9 @@ use beldi_value::TxId;
 use beldi_walk::{Heard, Query, Walk};
 use std::alloc::{AllocError, Global};
 
-/// A walk that ends a transaction for its owner: it keeps the decision, and then gives back every item that the owner asked the lock
-/// of, with the value of the transaction's own copy where it commits. Once it says `Done` it stands, and looks for a further item.
+/// A walk that ends a transaction for its owner: it keeps the decision, and then visits the owner and all whom it led to call, each
+/// after those that it called. It gives back every item that they asked the locks of, with the value of the transaction's own copy
+/// where it commits, and each participant gets its finish. Once it says `Done` it stands, and looks for a further item.
 #[derive(Drop)]
 pub struct EndWalk {
     tx: TxId,
@@ -33,21 +34,21 @@ impl Walk for EndWalk {
     }
 
     fn told(&mut self, alloc: Global, heard: Heard<'_>) -> Result<EndSays, AllocError> {
-        let goes = end_told(alloc, &self.tx, self.commit, self.visit.at, heard)?;
+        let goes = end_told(alloc, &self.tx, self.end, self.commit, &self.visit, heard)?;
         Ok(self.visit.go(self.commit, goes))
     }
 }
 
 impl EndWalk {
     /// A walk that ends a transaction at the owner's step `end`, with its effects or without.
-    pub fn new(tx: TxId, end: u32, commit: bool) -> EndWalk
+    pub fn new(alloc: Global, tx: TxId, end: u32, commit: bool) -> EndWalk
         ensures { result ≡ first_end tx end commit }
     {
         EndWalk {
             tx,
             end,
             commit,
-            visit: Visit::first(),
+            visit: Visit::first(alloc),
         }
     }
 }

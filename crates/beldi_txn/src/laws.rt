@@ -1,4 +1,5 @@
-// The laws of the walks.
+// The laws of the walks, and of their queries.
+ghost use Rattle.beldi_txn.specs.Invokes.{CallsFollow};
 ghost use Rattle.beldi_txn.specs.TxTurn.{OperationsAreSo, OperationsBegin};
 ghost use Rattle.beldi_txn.specs.Visited.{EndsAreVisits, VisitsBegin, VisitsStand};
 
@@ -14,15 +15,22 @@ pub fn an_operation_begins()
     ensures { OperationsBegin }
 {}
 
+/// After the call at a step, or without one from the first step on, the row that `invokes_query` asks for is that of the intent's call
+/// at the next step: `invokes_told` gives its step and function, and none exactly where the intent made no further call.
+pub fn the_next_call_is_found()
+    ensures { CallsFollow }
+{}
+
 /// A turn of the end of a transaction leaves every row but the one that it asks for. It gives an item back with the value of the
-/// transaction's own copy exactly where it commits and there is one. When it is done the decision is kept, and the transaction owns
-/// none of the items that it asked the locks of.
+/// transaction's own copy exactly where it commits and there is one, and gives a participant its finish where that has none. When it
+/// is done the decision is kept, the transaction owns none of the items that the owner and the participants asked the locks of, and
+/// each participant's row has its finish or is absent.
 pub fn an_end_is_a_visit()
     ensures { EndsAreVisits }
 {}
 
-/// What the end of a transaction has done stands, whatever else changes in the rows, where that adds no lock that the transaction
-/// asked for, changes none of its copies, and makes it the owner of nothing.
+/// What the end of a transaction has done stands, whatever else changes in the rows, where that adds no call and no lock of those who
+/// take part, takes no finish away, changes none of the transaction's copies, and makes it the owner of nothing.
 pub fn a_visit_stands()
     ensures { VisitsStand }
 {}

@@ -1,0 +1,164 @@
+-- The calls that lead to who is visited, and what is closed of their callees.
+use Rattle.std.proofs.Common.{◌≡◌, ℕ, zero, suc, ◌-◌, ◌<◌, ◌≤◌, true, false, List, [], ◌∷◌, ◌++◌, length, Option, None, Some, refl, ap, sym, ◌∙◌, subst, if◌then◌else◌, ltb-true, is_some, arith}
+use Rattle.std.specs.FinMap as map
+use Rattle.beldi_value.specs.declared.id.IntentId.{IntentId}
+use Rattle.beldi_value.specs.Id.{child_of, has_callees}
+use Rattle.beldi_row.specs.declared.row.Row.{Row}
+use Rattle.beldi_row.specs.Table.{Rows}
+use Rattle.beldi_lock.specs.Lockset.{most, AreHops, AreFit}
+use Rattle.beldi_txn.specs.declared.way.Called.{Called}
+use Rattle.beldi_txn.specs.declared.end.Visit.{Visit}
+use Rattle.beldi_txn.specs.End.{back_from}
+use Rattle.beldi_txn.specs.Invokes.{call_key, func_called}
+use Rattle.std.specs.Option.{option_map}
+use Rattle.std.specs.Prelude.{option_to_list, slice_get}
+use Rattle.beldi_txn.specs.Way.{Member, callee_id, callee_of, member_at, onto_front, split_last, front_of, last_of, is_owner}
+use Rattle.beldi_txn.specs.Visited.{AtEnd, IsCall, IsWay, is_closed, AreClosed, Levels}
+
+-- ---- lists of calls
+pub split_front : (front : List Called) (c : Called) → split_last (front ++ c ∷ []) ≡ Some (front, c)
+split_front [] c = refl
+split_front (d ∷ ds) c = ap (λ s. Some (onto_front d s)) (split_front ds c)
+
+pub record EndsIn (cs : List Called) : Type 0 where
+  pub front : List Called
+  pub last : Called
+  pub parts : cs ≡ front ++ last ∷ []
+
+pub ends_in : (cs : List Called) → is_owner cs ≡ false → EndsIn cs
+ends_in [] h = cc
+ends_in (c ∷ []) h = record { front = []; last = c; parts = refl }
+ends_in (c ∷ d ∷ ds) h = let e = ends_in (d ∷ ds) refl in record { front = c ∷ e.front; last = e.last; parts = ap (λ xs. c ∷ xs) e.parts }
+
+pub member_more : (p : Member) (cs : List Called) (c : Called) → member_at p (cs ++ c ∷ []) ≡ callee_of (member_at p cs) c
+member_more p [] c = refl
+member_more p (d ∷ ds) c = member_more (callee_of p d) ds c
+
+-- what a pop leaves and gives, where it gives one unless there is none
+pub popped : (old new : List Called) (r : Option Called) → old ≡ new ++ option_to_list r → (0 < length old → is_some r ≡ true) → (new ≡ front_of (split_last old)) × (r ≡ last_of (split_last old))
+popped [] [] None parts some = (refl, refl)
+popped (c ∷ cs) new None parts some = let clash = some (omega arith) in cc
+popped [] (d ∷ ds) None parts some = cc
+popped old new (Some c) parts some = let s = ap split_last parts ∙ split_front new c in (sym (ap front_of s), sym (ap last_of s))
+
+-- the last one in a slice
+at_seam : (front : List Called) (c : Called) (i : ℕ) → suc i ≡ length (front ++ c ∷ []) → slice_get (front ++ c ∷ []) i ≡ Some c
+at_seam [] c i e = ap (slice_get (c ∷ [])) (e_is i e)
+  where
+    e_is : (i : ℕ) → suc i ≡ 1 → i ≡ 0
+    e_is i e = omega (arith, e)
+at_seam (d ∷ ds) c zero e = absurd (some ds (omega (arith, e)))
+  where
+    some : (ds : List Called) → length (ds ++ c ∷ []) ≡ 0 → ⊥
+    some [] h = omega (arith, h)
+    some (b ∷ bs) h = omega (arith, h)
+at_seam (d ∷ ds) c (suc i) e = at_seam ds c i (omega (arith, e))
+
+pub last_is : (cs : List Called) → slice_get cs (length cs - 1) ≡ last_of (split_last cs)
+last_is [] = refl
+last_is (c ∷ cs) =
+    let e = ends_in (c ∷ cs) refl in
+    subst (λ (ds : List Called). slice_get ds (length ds - 1) ≡ last_of (split_last ds)) (sym e.parts)
+    (at_seam e.front e.last (length (e.front ++ e.last ∷ []) - 1) (less_one e.front e.last) ∙ sym (ap last_of (split_front e.front e.last)))
+  where
+    less_one : (front : List Called) (c : Called) → suc (length (front ++ c ∷ []) - 1) ≡ length (front ++ c ∷ [])
+    less_one [] c = refl
+    less_one (d ∷ ds) c = omega arith
+
+-- the function of who calls lead to is that of the last one
+abbrev pub func_of : ℕ → Option Called → ℕ
+func_of f None = f
+func_of f (Some c) = c.func
+
+pub func_is : (p : Member) (cs : List Called) → (member_at p cs).1 ≡ func_of p.1 (last_of (split_last cs))
+func_is p [] = refl
+func_is p (c ∷ []) = refl
+func_is p (c ∷ d ∷ ds) = func_is (callee_of p c) (d ∷ ds)
+
+-- where there is no last one, there is none
+pub back_none : (v : Visit) (cs : List Called) → cs ≡ front_of (split_last v.way) → last_of (split_last v.way) ≡ None → record v { way = cs } ≡ back_from v (split_last v.way)
+back_none v cs left last = by v.way left last
+  where
+    by : (ds : List Called) → cs ≡ front_of (split_last ds) → last_of (split_last ds) ≡ None → record v { way = cs } ≡ back_from (record v { way = ds }) (split_last ds)
+    by [] left last = ap (λ (es : List Called). record v { way = es }) left
+    by (c ∷ ds) left last = cc
+
+-- ---- calls that are there
+pub way_more : (m : Rows) (p : Member) (cs : List Called) (c : Called) → IsWay m p cs → IsCall m (member_at p cs) c → IsWay m p (cs ++ c ∷ [])
+way_more m p [] c w k = (k, tt)
+way_more m p (d ∷ ds) c w k = (w.0, way_more m (callee_of p d) ds c w.1 k)
+
+pub way_front : (m : Rows) (p : Member) (cs : List Called) (c : Called) → IsWay m p (cs ++ c ∷ []) → IsWay m p cs
+way_front m p [] c w = tt
+way_front m p (d ∷ ds) c w = (w.0, way_front m (callee_of p d) ds c w.1)
+
+pub way_last : (m : Rows) (p : Member) (cs : List Called) (c : Called) → IsWay m p (cs ++ c ∷ []) → IsCall m (member_at p cs) c
+way_last m p [] c w = w.0
+way_last m p (d ∷ ds) c w = way_last m (callee_of p d) ds c w.1
+
+-- ---- levels
+pub levels_top : (m : Rows) (p : Member) (At : ℕ → Type 0) (cs : List Called) (Past : ℕ → Type 0) → Levels m p At cs Past → AreClosed m (member_at p cs) (λ n. AtEnd At cs n × Past n)
+levels_top m p At [] Past l = l
+levels_top m p At (c ∷ []) Past l = l.1
+levels_top m p At (c ∷ d ∷ ds) Past l = levels_top m (callee_of p c) (λ n. Unit {0}) (d ∷ ds) Past l.1
+
+pub levels_with : (m : Rows) (p : Member) (At : ℕ → Type 0) (cs : List Called) (Past Now : ℕ → Type 0) → Levels m p At cs Past → AreClosed m (member_at p cs) (λ n. AtEnd At cs n × Now n) → Levels m p At cs Now
+levels_with m p At [] Past Now l h = h
+levels_with m p At (c ∷ []) Past Now l h = (l.0, h)
+levels_with m p At (c ∷ d ∷ ds) Past Now l h = (l.0, levels_with m (callee_of p c) (λ n. Unit {0}) (d ∷ ds) Past Now l.1 h)
+
+pub levels_pushed : (m : Rows) (p : Member) (At : ℕ → Type 0) (cs : List Called) (c : Called) (Past Now : ℕ → Type 0) → Levels m p At cs Past → AreClosed m (member_at p cs) (λ n. AtEnd At cs n × (n < c.step))
+    → AreClosed m (callee_of (member_at p cs) c) (λ n. Unit {0} × Now n) → Levels m p At (cs ++ c ∷ []) Now
+levels_pushed m p At [] c Past Now l h g = (h, g)
+levels_pushed m p At (d ∷ []) c Past Now l h g = (l.0, (h, g))
+levels_pushed m p At (d ∷ e ∷ es) c Past Now l h g = (l.0, levels_pushed m (callee_of p d) (λ n. Unit {0}) (e ∷ es) c Past Now l.1 h g)
+
+pub levels_last : (m : Rows) (p : Member) (At : ℕ → Type 0) (cs : List Called) (c : Called) (Past : ℕ → Type 0) → Levels m p At (cs ++ c ∷ []) Past → AreClosed m (member_at p cs) (λ n. AtEnd At cs n × (n < c.step))
+levels_last m p At [] c Past l = l.0
+levels_last m p At (d ∷ []) c Past l = l.1.0
+levels_last m p At (d ∷ e ∷ es) c Past l = levels_last m (callee_of p d) (λ n. Unit {0}) (e ∷ es) c Past l.1
+
+pub levels_popped : (m : Rows) (p : Member) (At : ℕ → Type 0) (cs : List Called) (c : Called) (Past Now : ℕ → Type 0) → Levels m p At (cs ++ c ∷ []) Past → AreClosed m (member_at p cs) (λ n. AtEnd At cs n × Now n) → Levels m p At cs Now
+levels_popped m p At [] c Past Now l h = h
+levels_popped m p At (d ∷ []) c Past Now l h = (l.0, h)
+levels_popped m p At (d ∷ e ∷ es) c Past Now l h = (l.0, levels_popped m (callee_of p d) (λ n. Unit {0}) (e ∷ es) c Past Now l.1 h)
+
+-- ---- other rows
+-- rows with no further call, where who is closed stays so
+pub closed_on : (m n : Rows) (p : Member) (At : ℕ → Type 0) → ((c : Called) → IsCall n p c → IsCall m p c) → ((c : Called) → IsCall m p c → is_closed m (callee_of p c) ≡ true → is_closed n (callee_of p c) ≡ true)
+    → AreClosed m p At → AreClosed n p At
+closed_on m n p At calls closed h c k at = closed c (calls c k) (h c (calls c k) at)
+
+-- .. for all on the way
+pub levels_on : (m n : Rows) (p : Member) (At : ℕ → Type 0) (cs : List Called) (Past : ℕ → Type 0) → (Reached : Member → Type 0) → Reached p → ((q : Member) → Reached q → (c : Called) → IsCall m q c → Reached (callee_of q c))
+    → ((q : Member) → Reached q → (c : Called) → IsCall n q c → IsCall m q c) → ((q : Member) → Reached q → (c : Called) → IsCall m q c → is_closed m (callee_of q c) ≡ true → is_closed n (callee_of q c) ≡ true)
+    → IsWay m p cs → Levels m p At cs Past → Levels n p At cs Past
+levels_on m n p At [] Past R r next calls closed w l = closed_on m n p (λ k. At k × Past k) (calls p r) (closed p r) l
+levels_on m n p At (c ∷ cs) Past R r next calls closed w l = (
+  closed_on m n p (λ k. At k × (k < c.step)) (calls p r) (closed p r) l.0,
+  levels_on m n (callee_of p c) (λ k. Unit {0}) cs Past R (next p r c w.0) next calls closed w.1 l.1,
+)
+
+-- ---- ids of participants
+hops_more : (room : ℕ) (hs : List ℕ) (s : ℕ) → AreHops room hs → length hs < room → s ≤ most → AreHops room (hs ++ s ∷ [])
+hops_more zero hs s a less small = absurd (omega (arith, less))
+hops_more (suc room) [] s a less small = (small, tt)
+hops_more (suc room) (h ∷ hs) s a less small = (a.0, hops_more room hs s a.1 (omega (arith, less)) small)
+
+-- the id of a callee, where the caller has callees
+callee_is : (id : IntentId) (s : ℕ) → has_callees id ≡ true → callee_id id s ≡ child_of id s
+callee_is id s h = ap (λ b. if b then child_of id s else id) h
+
+-- a participant's id has its width, where the rows have
+pub member_fit : (m : Rows) (p : Member) (cs : List Called) → AreFit m → 1 ≤ p.0.ticket → AreHops 63 p.0.hops → IsWay m p cs → (1 ≤ (member_at p cs).0.ticket) × AreHops 63 (member_at p cs).0.hops
+member_fit m p [] fit some hops w = (some, hops)
+member_fit m p (c ∷ cs) fit some hops w =
+    let same = callee_is p.0 c.step w.0.0 in
+    member_fit m (callee_of p c) cs fit (subst (λ (i : IntentId). 1 ≤ i.ticket) (sym same) some) (subst (λ (i : IntentId). AreHops 63 i.hops) (sym same) more) w.1
+  where
+    small : (o : Option Row) → map.get m (call_key p.1 p.0 c.step) ≡ o → option_map func_called o ≡ Some c.func → c.step ≤ most
+    small None is there = cc
+    small (Some r) is there = (fit (call_key p.1 p.0 c.step) r is).1
+
+    more : AreHops 63 (p.0.hops ++ c.step ∷ [])
+    more = hops_more 63 p.0.hops c.step hops (ltb-true (length p.0.hops) 63 w.0.0) (small (map.get m (call_key p.1 p.0 c.step)) refl w.0.1)

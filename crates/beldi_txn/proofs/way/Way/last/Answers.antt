@@ -1,0 +1,7 @@
+use Rattle.std.proofs.Common.{length, ◌-◌, ap, ◌∙◌}
+use Rattle.std.specs.Prelude.{slice_get}
+use Rattle.beldi_txn.proofs.Levels.{last_is}
+use Rattle.beldi_txn.proofs.way.Way.last.Goals as goal
+
+pub returns : goal.returns
+returns c = c.last.ensures.value ∙ ap (λ cs. slice_get cs (length cs - 1)) (c.as_slice.ensures.value ∙ c.self.view_is) ∙ last_is c.args.self.now

@@ -1,0 +1,10 @@
+use Rattle.std.proofs.Common.{rules, arith, ap, ◌∙◌}
+use Rattle.beldi_txn.specs.Way.{split_last, front_of, last_of}
+use Rattle.beldi_txn.proofs.Levels.{popped}
+use Rattle.beldi_txn.proofs.way.Way.pop.Goals as goal
+
+pub returns-clause-left : goal.returns-clause-left
+returns-clause-left c = (popped _ _ c.pop.result c.pop.ensures.items (λ h. c.pop.ensures.variant.1 (search (rules, arith)))).0 ∙ ap (λ cs. front_of (split_last cs)) c.self.view_is
+
+pub returns-clause-last : goal.returns-clause-last
+returns-clause-last c = (popped _ _ c.pop.result c.pop.ensures.items (λ h. c.pop.ensures.variant.1 (search (rules, arith)))).1 ∙ ap (λ cs. last_of (split_last cs)) c.self.view_is
