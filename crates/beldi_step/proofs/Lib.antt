@@ -1,3 +1,4 @@
 mod Told
+pub mod Inside
 pub mod Late
 pub mod Steps

@@ -1,13 +1,16 @@
 -- A run that was told: by what its stage says, or by the body that it finds.
-use Rattle.std.proofs.Common.{◌≡◌, ℕ, Bool, true, false, Option, Some, None, Result, Ok, Err, IfOk, refl, ap, ap₂, sym, ◌∙◌, subst}
+use Rattle.std.proofs.Common.{◌≡◌, ℕ, Bool, true, false, Option, Some, None, is_some, Result, Ok, Err, IfOk, refl, ap, ap₂, sym, ◌∙◌, subst, Bor}
+use Rattle.std.specs.Prelude.{option_copied}
 use Rattle.std.specs.declared.alloc.AllocError.{AllocError}
 use Rattle.beldi_tree.specs.declared.deployment.Deployment.{Deployment}
+use Rattle.beldi_tree.specs.declared.deployment.Func.{Func}
 use Rattle.beldi_tree.specs.Names.{func_at}
 use Rattle.beldi_value.specs.declared.value.Value.TheVariants as value
 use Rattle.beldi_lang.specs.declared.effect.Answer.{Answer}
 use Rattle.beldi_lang.specs.declared.effect.Effect.{Effect}
 use Rattle.beldi_lang.specs.declared.effect.Effect.TheVariants as effect
 use Rattle.beldi_lang.specs.declared.machine.Machine.{Machine}
+use Rattle.beldi_lang.specs.Machine.{begun}
 use Rattle.beldi_value.specs.declared.id.IntentId.{IntentId}
 use Rattle.beldi_value.specs.declared.place.Caller.{Caller}
 use Rattle.beldi_row.specs.declared.row.Body.{Body}
@@ -19,7 +22,8 @@ use Rattle.beldi_txn.specs.declared.end.EndGoes.{EndGoes}
 use Rattle.beldi_txn.specs.declared.end.EndGoes.TheVariants as ends
 use Rattle.beldi_txn.specs.declared.end.Visit.{Visit}
 use Rattle.beldi_step.specs.declared.run.Mark.{Mark}
-use Rattle.beldi_step.specs.declared.run.OpenTx.{OpenTx}
+use Rattle.beldi_step.specs.declared.run.RunTx.{RunTx}
+use Rattle.beldi_step.specs.declared.run.RunTx.TheVariants.{Own}
 use Rattle.beldi_step.specs.declared.run.Run.{Run}
 use Rattle.beldi_step.specs.declared.run.RunAt.{RunAt}
 use Rattle.beldi_step.specs.declared.run.RunAt.TheVariants.{Begins}
@@ -29,7 +33,7 @@ use Rattle.beldi_step.specs.declared.run.Says.TheVariants.{On, Stays, Opens, Sta
 use Rattle.beldi_step.specs.declared.run.Stage.{Stage}
 use Rattle.beldi_step.specs.declared.run.Stage.TheVariants.{Decide, End}
 use Rattle.beldi_step.specs.declared.run.TurnSays.{TurnSays}
-use Rattle.beldi_step.specs.Run.{Turns, run_told, told_at, turned_by, stage_says, ending_says, decided_says, visit_says, decide_here_says, end_here_says, is_end, is_at_end, at_stage, mark_if, mark_of, followed, plain_says, takes, goes_to, goes_from, begin_in, body_found}
+use Rattle.beldi_step.specs.Run.{Turns, within, run_told, told_at, turned_by, stage_says, ending_says, decided_says, visit_says, decide_here_says, end_here_says, is_end, is_at_end, at_stage, mark_if, mark_of, followed, plain_says, takes, goes_to, goes_from, begin_in, body_found}
 
 pub not_end : (r : Run) (g : Begun) → r.at ≡ Begins g → false ≡ is_at_end r.at → is_end g.stage ≡ false
 not_end r g at is = sym (is ∙ ap is_at_end at)
@@ -39,7 +43,7 @@ pub told_so : (d : Deployment) (changes : ℕ) (r s : Run) (g : Begun) (x : Says
 told_so d changes r s g x t y at says h = subst (λ o. Turns s y (told_at d changes r o t)) (sym at) (subst (λ z. Turns s y (turned_by d r g z)) says h)
 
 -- out of memory, the mark of its act is told
-marks : (r : Run) (p : Machine × Option OpenTx) (c : Option Caller) (k : Option Mark) (s : Option Stage) → (goes_from r p c k s).mark ≡ k
+marks : (r : Run) (p : Machine × Option RunTx) (c : Option Caller) (k : Option Mark) (s : Option Stage) → (goes_from r p c k s).mark ≡ k
 marks r p c k None = refl
 marks r p c k (Some s) = refl
 
@@ -66,7 +70,7 @@ same_begun at h g this that = ap (begun_in h) (sym this ∙ that)
 
 -- ---- the end of a transaction
 -- what the stage of an end says
-ends_so : (id : IntentId) (func : ℕ) (c : Option Caller) (o : Option OpenTx) (changes step : ℕ) (e : Effect) (s : Stage) (t : Told) → is_end s ≡ true → ending_says id func o e s t ≡ stage_says id func c o changes step e s t
+ends_so : (id : IntentId) (func : ℕ) (c : Option Caller) (o : Option RunTx) (changes step : ℕ) (e : Effect) (s : Stage) (t : Told) → is_end s ≡ true → ending_says id func step o e s t ≡ stage_says id func c o changes step e s t
 ends_so id func c o changes step e (Decide m) t is = refl
 ends_so id func c o changes step e (End v) t is = refl
 ends_so id func c o changes step e s t is = cc
@@ -85,11 +89,8 @@ decision_at commit m (said (kept v)) = refl
 decision_at commit m (said x) = refl
 decision_at commit m (found e) = refl
 
-pub decision_marks : (id : IntentId) (func : ℕ) (e : Effect) (m : Mark) (o : Option OpenTx) (t : Told) (commit put : Bool) (own : OpenTx) (k : Option Mark) → e ≡ effect.End commit → o ≡ Some own → put ≡ (kept_of value.Null t).added
-    → k ≡ mark_if put m → k ≡ mark_of (decide_here_says id func e m o t)
-decision_marks id func e m o t commit put own k ends some is marked =
-    subst (λ f. k ≡ mark_of (decide_here_says id func f m o t)) (sym ends)
-    (subst (λ p. k ≡ mark_of (decide_here_says id func (effect.End commit) m p t)) (sym some) (marked ∙ ap (λ b. mark_if b m) is ∙ decision_at commit m t))
+pub decision_marks : (commit put : Bool) (m : Mark) (k : Option Mark) (t : Told) → put ≡ (kept_of value.Null t).added → k ≡ mark_if put m → k ≡ mark_of (decided_says commit m (decide_goes commit t))
+decision_marks commit put m k t is marked = marked ∙ ap (λ b. mark_if b m) is ∙ decision_at commit m t
 
 -- it looks at its stage no more, as it neither waits nor stays
 abbrev leaves_stage : Says → Bool
@@ -98,33 +99,37 @@ leaves_stage (Waits w) = false
 leaves_stage x = true
 
 decided_leaves : (commit : Bool) (m : Mark) (g : EndGoes) → leaves_stage (decided_says commit m g) ≡ true
-decided_leaves commit m (ends.On a) = refl
 decided_leaves commit m (ends.Decided first) = refl
-decided_leaves commit m (ends.Item t k) = refl
-decided_leaves commit m (ends.Value v) = refl
-decided_leaves commit m ends.Done = refl
+decided_leaves commit m g = refl
 
 visit_leaves : (commit : Bool) (v : Visit) (g : EndGoes) → leaves_stage (visit_says commit v g) ≡ true
-visit_leaves commit v (ends.On a) = refl
-visit_leaves commit v (ends.Decided first) = refl
-visit_leaves commit v (ends.Item t k) = refl
-visit_leaves commit v (ends.Value u) = refl
 visit_leaves commit v ends.Done = refl
+visit_leaves commit v g = refl
 
-decide_leaves : (id : IntentId) (func : ℕ) (e : Effect) (m : Mark) (o : Option OpenTx) (t : Told) → leaves_stage (decide_here_says id func e m o t) ≡ true
-decide_leaves id func (effect.End commit) m (Some o) t = decided_leaves commit m _
-decide_leaves id func (effect.End commit) m None t = refl
-decide_leaves id func e m o t = refl
+decide_leaves : (id : IntentId) (func step : ℕ) (e : Effect) (m : Mark) (o : Option RunTx) (t : Told) → leaves_stage (decide_here_says id func step e m o t) ≡ true
+decide_leaves id func step (effect.End commit) m (Some (Own o)) t = decided_leaves commit m _
+decide_leaves id func step e m o t = refl
 
-end_leaves : (id : IntentId) (func : ℕ) (e : Effect) (v : Visit) (o : Option OpenTx) (t : Told) → leaves_stage (end_here_says id func e v o t) ≡ true
-end_leaves id func (effect.End commit) v (Some o) t = visit_leaves commit v _
-end_leaves id func (effect.End commit) v None t = refl
-end_leaves id func e v o t = refl
+end_leaves : (id : IntentId) (func step : ℕ) (e : Effect) (v : Visit) (o : Option RunTx) (t : Told) → leaves_stage (end_here_says id func step e v o t) ≡ true
+end_leaves id func step (effect.End commit) v (Some (Own o)) t = visit_leaves commit v _
+end_leaves id func step e v o t = refl
 
-ending_leaves : (id : IntentId) (func : ℕ) (o : Option OpenTx) (e : Effect) (s : Stage) (t : Told) → is_end s ≡ true → leaves_stage (ending_says id func o e s t) ≡ true
-ending_leaves id func o e (Decide m) t is = decide_leaves id func e m o t
-ending_leaves id func o e (End v) t is = end_leaves id func e v o t
-ending_leaves id func o e s t is = cc
+ending_leaves : (id : IntentId) (func step : ℕ) (o : Option RunTx) (e : Effect) (s : Stage) (t : Told) → is_end s ≡ true → leaves_stage (ending_says id func step o e s t) ≡ true
+ending_leaves id func step o e (Decide m) t is = decide_leaves id func step e m o t
+ending_leaves id func step o e (End v) t is = end_leaves id func step e v o t
+ending_leaves id func step o e s t is = cc
+
+-- a visit leaves no mark
+visit_marks : (commit : Bool) (v : Visit) (g : EndGoes) → None ≡ mark_of (visit_says commit v g)
+visit_marks commit v ends.Done = refl
+visit_marks commit v g = refl
+
+visits_mark : (id : IntentId) (func step : ℕ) (e : Effect) (v : Visit) (o : Option RunTx) (t : Told) → None ≡ mark_of (end_here_says id func step e v o t)
+visits_mark id func step (effect.End commit) v (Some (Own o)) t = visit_marks commit v _
+visits_mark id func step e v o t = refl
+
+pub end_unmarked : (id : IntentId) (func step : ℕ) (o : Option RunTx) (e : Effect) (s : Stage) (v : Visit) (t : Told) → s ≡ End v → None ≡ mark_of (ending_says id func step o e s t)
+end_unmarked id func step o e s v t is = visits_mark id func step e v o t ∙ ap (λ w. mark_of (ending_says id func step o e w t)) (sym is)
 
 -- so it turns alike from any stage
 left_so : (d : Deployment) (r : Run) (g : Begun) (s : Stage) (x : Says) → leaves_stage x ≡ true → turned_by d (record r { at = Begins (at_stage g s) }) (at_stage g s) x ≡ turned_by d r g x
@@ -137,35 +142,37 @@ left_so d r g s (Answers a m) is = refl
 left_so d r g s (Ends m o) is = refl
 
 ended_so : (d : Deployment) (r z : Run) (g : Begun) (s : Stage) (t : Told) (y : Result TurnSays (Option Mark)) → is_end g.stage ≡ true
-    → Turns z y (turned_by d (record r { at = Begins (at_stage g s) }) (at_stage g s) (ending_says r.id r.func g.tx g.machine.effect g.stage t))
+    → Turns z y (turned_by d (record r { at = Begins (at_stage g s) }) (at_stage g s) (ending_says r.id r.func g.machine.steps g.tx g.machine.effect g.stage t))
     → (changes : ℕ) → Turns z y (turned_by d r g (stage_says r.id r.func g.caller g.tx changes g.machine.steps g.machine.effect g.stage t))
 ended_so d r z g s t y is h changes =
-    let x : Says = ending_says r.id r.func g.tx g.machine.effect g.stage t in
-    let left : Turns z y (turned_by d r g x) = subst (Turns z y) (left_so d r g s x (ending_leaves r.id r.func g.tx g.machine.effect g.stage t is)) h in
+    let x : Says = ending_says r.id r.func g.machine.steps g.tx g.machine.effect g.stage t in
+    let left : Turns z y (turned_by d r g x) = subst (Turns z y) (left_so d r g s x (ending_leaves r.id r.func g.machine.steps g.tx g.machine.effect g.stage t is)) h in
     subst (λ w. Turns z y (turned_by d r g w)) (ends_so r.id r.func g.caller g.tx changes g.machine.steps g.machine.effect g.stage t is) left
 
-pub end_so : (d : Deployment) (r z : Run) (h : Begun) (e : Effect) (w s : Stage) (x : Says) (t : Told) (y : Result TurnSays (Option Mark)) → r.at ≡ Begins h → e ≡ h.machine.effect → w ≡ h.stage
-    → x ≡ ending_says r.id r.func h.tx e w t → Turns z y (turned_by d (record r { at = Begins (at_stage h s) }) (at_stage h s) x)
+pub end_so : (d : Deployment) (r z : Run) (h : Begun) (n : ℕ) (e : Effect) (w s : Stage) (x : Says) (t : Told) (y : Result TurnSays (Option Mark)) → r.at ≡ Begins h → n ≡ h.machine.steps → e ≡ h.machine.effect → w ≡ h.stage
+    → x ≡ ending_says r.id r.func n h.tx e w t → Turns z y (turned_by d (record r { at = Begins (at_stage h s) }) (at_stage h s) x)
     → (g : Begun) (changes : ℕ) → r.at ≡ Begins g → is_end g.stage ≡ true → Turns z y (turned_by d r g (stage_says r.id r.func g.caller g.tx changes g.machine.steps g.machine.effect g.stage t))
-end_so d r z h e w s x t y at effect stage says turns g changes there is =
-    let so : x ≡ ending_says r.id r.func h.tx h.machine.effect h.stage t = says ∙ ap₂ (λ f v. ending_says r.id r.func h.tx f v t) effect stage in
-    let mine : Turns z y (turned_by d (record r { at = Begins (at_stage h s) }) (at_stage h s) (ending_says r.id r.func h.tx h.machine.effect h.stage t)) =
+end_so d r z h n e w s x t y at steps effect stage says turns g changes there is =
+    let so : x ≡ ending_says r.id r.func h.machine.steps h.tx h.machine.effect h.stage t =
+    says ∙ ap (λ k. ending_says r.id r.func k h.tx e w t) steps ∙ ap₂ (λ f v. ending_says r.id r.func h.machine.steps h.tx f v t) effect stage in
+    let mine : Turns z y (turned_by d (record r { at = Begins (at_stage h s) }) (at_stage h s) (ending_says r.id r.func h.machine.steps h.tx h.machine.effect h.stage t)) =
     subst (λ q. Turns z y (turned_by d (record r { at = Begins (at_stage h s) }) (at_stage h s) q)) so turns in
-    ended_so d r z g s t y is (subst (λ (q : Begun). Turns z y (turned_by d (record r { at = Begins (at_stage q s) }) (at_stage q s) (ending_says r.id r.func q.tx q.machine.effect q.stage t))) (same_begun r.at h g at there) mine) changes
+    ended_so d r z g s t y is (subst (λ (q : Begun). Turns z y (turned_by d (record r { at = Begins (at_stage q s) }) (at_stage q s) (ending_says r.id r.func q.machine.steps q.tx q.machine.effect q.stage t))) (same_begun r.at h g at there) mine) changes
 
-ended_marks : (d : Deployment) (r : Run) (g : Begun) (m : Option Mark) (t : Told) → is_end g.stage ≡ true → m ≡ mark_of (ending_says r.id r.func g.tx g.machine.effect g.stage t)
+ended_marks : (d : Deployment) (r : Run) (g : Begun) (m : Option Mark) (t : Told) → is_end g.stage ≡ true → m ≡ mark_of (ending_says r.id r.func g.machine.steps g.tx g.machine.effect g.stage t)
     → (changes : ℕ) → m ≡ (turned_by d r g (stage_says r.id r.func g.caller g.tx changes g.machine.steps g.machine.effect g.stage t)).mark
 ended_marks d r g m t is marked changes =
     marked ∙ ap mark_of (ends_so r.id r.func g.caller g.tx changes g.machine.steps g.machine.effect g.stage t is) ∙ turn_marks d r g (stage_says r.id r.func g.caller g.tx changes g.machine.steps g.machine.effect g.stage t)
 
-pub end_marks : (d : Deployment) (r : Run) (h : Begun) (e : Effect) (w : Stage) (m : Option Mark) (t : Told) → r.at ≡ Begins h → e ≡ h.machine.effect → w ≡ h.stage → m ≡ mark_of (ending_says r.id r.func h.tx e w t)
+pub end_marks : (d : Deployment) (r : Run) (h : Begun) (n : ℕ) (e : Effect) (w : Stage) (m : Option Mark) (t : Told) → r.at ≡ Begins h → n ≡ h.machine.steps → e ≡ h.machine.effect → w ≡ h.stage → m ≡ mark_of (ending_says r.id r.func n h.tx e w t)
     → (g : Begun) (changes : ℕ) → r.at ≡ Begins g → is_end g.stage ≡ true → m ≡ (turned_by d r g (stage_says r.id r.func g.caller g.tx changes g.machine.steps g.machine.effect g.stage t)).mark
-end_marks d r h e w m t at effect stage marked g changes there is =
-    let so : m ≡ mark_of (ending_says r.id r.func h.tx h.machine.effect h.stage t) = marked ∙ ap₂ (λ f v. mark_of (ending_says r.id r.func h.tx f v t)) effect stage in
-    ended_marks d r g m t is (subst (λ (q : Begun). m ≡ mark_of (ending_says r.id r.func q.tx q.machine.effect q.stage t)) (same_begun r.at h g at there) so) changes
+end_marks d r h n e w m t at steps effect stage marked g changes there is =
+    let so : m ≡ mark_of (ending_says r.id r.func h.machine.steps h.tx h.machine.effect h.stage t) =
+    marked ∙ ap (λ k. mark_of (ending_says r.id r.func k h.tx e w t)) steps ∙ ap₂ (λ f v. mark_of (ending_says r.id r.func h.machine.steps h.tx f v t)) effect stage in
+    ended_marks d r g m t is (subst (λ (q : Begun). m ≡ mark_of (ending_says r.id r.func q.machine.steps q.tx q.machine.effect q.stage t)) (same_begun r.at h g at there) so) changes
 
 -- ---- an answer
-pub answered : (d : Deployment) (r z : Run) (h : Begun) (p : Machine × Option OpenTx) (a : Answer) (x : Result Bool AllocError) → r.at ≡ Begins h → p ≡ takes d h.machine h.tx a
+pub answered : (d : Deployment) (r z : Run) (h : Begun) (p : Machine × Option RunTx) (a : Answer) (x : Result Bool AllocError) → r.at ≡ Begins h → p ≡ takes d h.machine h.tx a
     → IfOk x (λ b. (at : RunAt) (mark : Option Mark) → followed z (plain_says mark b) ≡ goes_to d (record r { at = at }) p h.caller mark) → (g : Begun) → r.at ≡ Begins g
     → IfOk x (λ b. (mark : Option Mark) → followed z (plain_says mark b) ≡ goes_to d r (takes d g.machine g.tx a) g.caller mark)
 answered d r z h p a (Ok b) at is goes g there =
@@ -179,3 +186,11 @@ pub begin_so : (d : Deployment) (r s z : Run) (t : Told) (o : Option Body) (b : 
 begin_so d r s z t o b (Ok y) rest own is h =
     h r.at ∙ ap (λ (q : Run). begin_in d (record q { at = r.at }) (func_at d q.func) (Some b)) rest ∙ ap (begin_in d r (func_at d r.func)) (sym is ∙ own)
 begin_so d r s z t o b (Err e) rest own is h = tt
+
+-- .. and it is in the transaction of its body
+pub begun_in_tx : (d : Deployment) (r z : Run) (b : Body) (f : Option (Bor Func)) (g : Option Func) (inherited : Bool) (m : Machine) (o : Option RunTx) (x : Bool) (p : TurnSays) → option_copied f ≡ g → is_some f ≡ true → inherited ≡ is_some b.tx
+    → m ≡ begun d r.func b.args inherited → o ≡ within b.tx → p ≡ plain_says None x → ((at : RunAt) (mark : Option Mark) → followed z (plain_says mark x) ≡ goes_to d (record r { at = at }) (m, o) b.from mark)
+    → (at : RunAt) → followed z p ≡ begin_in d (record r { at = at }) g (Some b)
+begun_in_tx d r z b None g inherited m o x p copied there is made held says h at = cc
+begun_in_tx d r z b (Some f) g inherited m o x p copied there is made held says h at =
+    ap (followed z) says ∙ h at None ∙ ap₂ (λ n q. goes_to d (record r { at = at }) (n, q) b.from None) (made ∙ ap (begun d r.func b.args) is) held ∙ ap (λ u. begin_in d (record r { at = at }) u (Some b)) copied

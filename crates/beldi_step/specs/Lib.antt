@@ -1,4 +1,5 @@
 pub mod Host
+pub mod Inside
 pub mod Laws
 pub mod Run
 pub mod Tables

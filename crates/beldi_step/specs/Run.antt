@@ -1,5 +1,5 @@
 -- A run, as a machine that asks one thing a turn.
-use Rattle.std.specs.Prelude.{◌≡◌, ℕ, not, Bool, true, false, Option, Some, None, is_none, Result, Ok, Err, if◌then◌else◌}
+use Rattle.std.specs.Prelude.{◌≡◌, ℕ, not, Bool, true, false, Option, Some, None, is_none, is_some, Result, Ok, Err, if◌then◌else◌}
 use Rattle.beldi_value.specs.Id.{has_callees, has_no_hops, child_of}
 use Rattle.beldi_value.specs.declared.id.IntentId.{IntentId}
 use Rattle.beldi_value.specs.declared.value.Value.{Value}
@@ -71,6 +71,8 @@ use Rattle.beldi_step.specs.declared.run.RunAt.{RunAt}
 use Rattle.beldi_step.specs.declared.run.RunAt.TheVariants.{Looks, Registers, Begins}
 use Rattle.beldi_step.specs.declared.run.Begun.{Begun}
 use Rattle.beldi_step.specs.declared.run.OpenTx.{OpenTx}
+use Rattle.beldi_step.specs.declared.run.RunTx.{RunTx}
+use Rattle.beldi_step.specs.declared.run.RunTx.TheVariants.{Own, Inherited}
 use Rattle.beldi_step.specs.declared.run.TurnSays.{TurnSays}
 use Rattle.beldi_step.specs.declared.run.Stage.{Stage}
 use Rattle.beldi_step.specs.declared.run.Stage.TheVariants.{Ask, Walk, Keep, Write, Tx, Decide, End, Call, Async, Back, Tell, Close}
@@ -83,18 +85,42 @@ abbrev pub place_of : IntentId → ℕ → Place
 place_of id step = record { intent = id; step = step }
 
 -- ---- transactions
--- the transaction of a run: the one that is open
+-- a run's own transaction, which is open
 abbrev pub own_tx : IntentId → ℕ → OpenTx → TxId
 own_tx id func o = record { intent = id; begin = o.begin; func = func }
 
--- the cause of what was aborted in it is kept
-abbrev pub with_cause : Answer → Option OpenTx → Option OpenTx
-with_cause (answer.Aborted c) (Some o) = Some (record { begin = o.begin; cause = Some c })
+-- the transaction that a run is in: its own one, or the one that it was called in
+abbrev pub tx_of : IntentId → ℕ → RunTx → TxId
+tx_of id func (Own o) = own_tx id func o
+tx_of id func (Inherited x) = x
+
+abbrev pub tx_at : IntentId → ℕ → Option RunTx → Option TxId
+tx_at id func None = None
+tx_at id func (Some o) = Some (tx_of id func o)
+
+-- the step of its begin
+abbrev pub begin_of : RunTx → ℕ
+begin_of (Own o) = o.begin
+begin_of (Inherited x) = x.begin
+
+-- the transaction of a body: what is called in one is in it throughout
+abbrev pub within : Option TxId → Option RunTx
+within None = None
+within (Some x) = Some (Inherited x)
+
+abbrev pub is_inherited : Option RunTx → Bool
+is_inherited None = false
+is_inherited (Some (Own o)) = false
+is_inherited (Some (Inherited x)) = true
+
+-- the cause of what was aborted in its own one is kept
+abbrev pub with_cause : Answer → Option RunTx → Option RunTx
+with_cause (answer.Aborted c) (Some (Own o)) = Some (Own (record { begin = o.begin; cause = Some c }))
 with_cause a o = o
 
--- what is open once the effect at a step has its answer
-abbrev pub open_after : ℕ → Effect → Answer → Option OpenTx → Option OpenTx
-open_after step effect.Begin a o = Some (record { begin = step; cause = None })
+-- what a run is in once the effect at a step has its answer
+abbrev pub open_after : ℕ → Effect → Answer → Option RunTx → Option RunTx
+open_after step effect.Begin a o = Some (Own (record { begin = step; cause = None }))
 open_after step (effect.End commit) a o = None
 open_after step e a o = with_cause a o
 
@@ -116,19 +142,19 @@ answer_at_once id step effect.Begin = Some answer.Done
 answer_at_once id step effect.Abort = Some (answer.Aborted (record { place = place_of id step; holder = None }))
 answer_at_once id step e = None
 
--- a machine and what is open, after an answer
-abbrev pub takes : Deployment → Machine → Option OpenTx → Answer → Machine × Option OpenTx
+-- a machine and the transaction that it is in, after an answer
+abbrev pub takes : Deployment → Machine → Option RunTx → Answer → Machine × Option RunTx
 takes d m o a = (resumed d m a, open_after m.steps m.effect a o)
 
-abbrev pub takes_if : Deployment → Machine → Option OpenTx → Option Answer → Machine × Option OpenTx
+abbrev pub takes_if : Deployment → Machine → Option RunTx → Option Answer → Machine × Option RunTx
 takes_if d m o None = (m, o)
 takes_if d m o (Some a) = takes d m o a
 
-abbrev pub once : Deployment → IntentId → Machine × Option OpenTx → Machine × Option OpenTx
+abbrev pub once : Deployment → IntentId → Machine × Option RunTx → Machine × Option RunTx
 once d id s = takes_if d s.0 s.1 (answer_at_once id s.0.steps s.0.effect)
 
 -- after a Begin comes no Begin, and after an Abort neither: so twice is enough
-abbrev pub at_once : Deployment → IntentId → Machine × Option OpenTx → Machine × Option OpenTx
+abbrev pub at_once : Deployment → IntentId → Machine × Option RunTx → Machine × Option RunTx
 at_once d id s = once d id (once d id s)
 
 -- ---- an operation on an item
@@ -184,29 +210,30 @@ last_stage None = Close
 last_stage (Some c) = if c.waits then Back else Tell
 
 -- an operation on an item begins so outside a transaction; inside, with its lock or with what was kept for it
-abbrev pub first_of : Stage → Effect → Option OpenTx → Stage
+abbrev pub first_of : Stage → Effect → Option RunTx → Stage
 first_of s e None = s
-first_of s e (Some o) = Tx (tx_first o.begin e)
+first_of s e (Some o) = Tx (tx_first (begin_of o) e)
 
 -- what is carried out outside a transaction alone
-abbrev pub first_outside : Option Stage → Option OpenTx → Option Stage
+abbrev pub first_outside : Option Stage → Option RunTx → Option Stage
 first_outside s None = s
 first_outside s (Some o) = None
 
--- an end begins with the decision
-abbrev pub first_end : IntentId → ℕ → Bool → Option OpenTx → Option Stage
+-- an end begins with the decision. What was called in a transaction does not end it.
+abbrev pub first_end : IntentId → ℕ → Bool → Option RunTx → Option Stage
 first_end id step commit None = None
-first_end id step commit (Some o) = Some (Decide (end_mark id step o.cause commit))
+first_end id step commit (Some (Own o)) = Some (Decide (end_mark id step o.cause commit))
+first_end id step commit (Some (Inherited x)) = None
 
--- where an effect at a step of an intent begins, by its caller and by what is open; none where it is not carried out, as a call is not
--- whose callee has no id
-abbrev pub first_stage : IntentId → Option Caller → Option OpenTx → ℕ → Effect → Option Stage
+-- where an effect at a step of an intent begins, by its caller and by the transaction that it is in; none where it is not carried
+-- out, as a call is not whose callee has no id
+abbrev pub first_stage : IntentId → Option Caller → Option RunTx → ℕ → Effect → Option Stage
 first_stage id c o step (effect.Read t k) = Some (first_of Ask (effect.Read t k) o)
 first_stage id c o step (effect.Write t k v) = Some (first_of (Write Try) (effect.Write t k v) o)
 first_stage id c o step (effect.CondWrite t k r u v) = Some (first_of (Write Try) (effect.CondWrite t k r u v) o)
 first_stage id c o step (effect.Lock t k) = first_outside (Some (Write Try)) o
 first_stage id c o step (effect.Unlock t k) = first_outside (Some (Write Try)) o
-first_stage id c o step (effect.Call f a) = first_outside (if has_callees id then Some (Call call.Open) else None) o
+first_stage id c o step (effect.Call f a) = if has_callees id then Some (Call call.Open) else None
 first_stage id c o step (effect.Async f a) = first_outside (if has_callees id then Some (Async async.Open) else None) o
 first_stage id c o step (effect.End commit) = first_end id step commit o
 first_stage id c o step (effect.Return x) = Some (last_stage c)
@@ -222,16 +249,17 @@ put_asks id func step at (Some o) = write_asks (cell_key func o.table o.key) (pl
 put_asks id func step at None = look_asks id func
 
 -- inside a transaction
-abbrev pub tx_here_asks : IntentId → ℕ → ℕ → Effect → TxAt → Option OpenTx → Query
-tx_here_asks id func step e at (Some o) = tx_asks func (place_of id step) (own_tx id func o) e at
+abbrev pub tx_here_asks : IntentId → ℕ → ℕ → Effect → TxAt → Option RunTx → Query
+tx_here_asks id func step e at (Some o) = tx_asks func (place_of id step) (tx_of id func o) e at
 tx_here_asks id func step e at None = look_asks id func
 
 -- the end of a transaction
-abbrev pub end_by_asks : IntentId → ℕ → ℕ → Bool → Visit → Option OpenTx → Query
-end_by_asks id func step commit v (Some o) = visit_asks (own_tx id func o) step commit v.item v.value v.at
+abbrev pub end_by_asks : IntentId → ℕ → ℕ → Bool → Visit → Option RunTx → Query
+end_by_asks id func step commit v (Some (Own o)) = visit_asks (own_tx id func o) step commit v.way v.after v.item v.value v.at
+end_by_asks id func step commit v (Some (Inherited x)) = look_asks id func
 end_by_asks id func step commit v None = look_asks id func
 
-abbrev pub end_here_asks : IntentId → ℕ → ℕ → Effect → Visit → Option OpenTx → Query
+abbrev pub end_here_asks : IntentId → ℕ → ℕ → Effect → Visit → Option RunTx → Query
 end_here_asks id func step (effect.End commit) v o = end_by_asks id func step commit v o
 end_here_asks id func step e v o = look_asks id func
 
@@ -239,12 +267,12 @@ abbrev pub call_here_asks : IntentId → ℕ → ℕ → Effect → CallAt → Q
 call_here_asks id func step (effect.Call f a) at = call_asks func (place_of id step) f at
 call_here_asks id func step e at = look_asks id func
 
--- the body of what is called
-abbrev pub callee_body : IntentId → ℕ → ℕ → ℕ → Value → Bool → Body
-callee_body id func step f a waits = record { func = f; args = a; tx = None; from = Some (record { place = place_of id step; func = func; waits = waits }) }
+-- the body of what is called, in this transaction, if any
+abbrev pub callee_body : IntentId → ℕ → ℕ → ℕ → Value → Option TxId → Bool → Body
+callee_body id func step f a x waits = record { func = f; args = a; tx = x; from = Some (record { place = place_of id step; func = func; waits = waits }) }
 
 abbrev pub async_here_asks : IntentId → ℕ → ℕ → Effect → AsyncAt → Query
-async_here_asks id func step (effect.Async f a) at = if has_callees id then async_asks func (place_of id step) (callee_body id func step f a false) at else look_asks id func
+async_here_asks id func step (effect.Async f a) at = if has_callees id then async_asks func (place_of id step) (callee_body id func step f a None false) at else look_asks id func
 async_here_asks id func step e at = look_asks id func
 
 abbrev pub tell_asks : IntentId → ℕ → Option Caller → Query
@@ -255,11 +283,12 @@ abbrev pub back_to_asks : IntentId → ℕ → Option Caller → Effect → Quer
 back_to_asks id func (Some c) (effect.Return o) = back_asks c.func c.place o
 back_to_asks id func c e = look_asks id func
 
-abbrev pub close_asks : IntentId → ℕ → Effect → Query
-close_asks id func (effect.Return o) = end_asks id func o true
-close_asks id func e = look_asks id func
+-- what was called in a transaction has its stamp from the owner's end
+abbrev pub close_asks : IntentId → ℕ → Option RunTx → Effect → Query
+close_asks id func o (effect.Return x) = end_asks id func x (not (is_inherited o))
+close_asks id func o e = look_asks id func
 
-abbrev pub stage_asks : IntentId → ℕ → Option Caller → Option OpenTx → ℕ → Effect → Stage → Query
+abbrev pub stage_asks : IntentId → ℕ → Option Caller → Option RunTx → ℕ → Effect → Stage → Query
 stage_asks id func c o step e Ask = Act (log_key func (place_of id step)) Look
 stage_asks id func c o step e Walk = walk_asks id func e
 stage_asks id func c o step e (Keep v seen) = Act (log_key func (place_of id step)) (PutRead v)
@@ -271,7 +300,7 @@ stage_asks id func c o step e (Call at) = call_here_asks id func step e at
 stage_asks id func c o step e (Async at) = async_here_asks id func step e at
 stage_asks id func c o step e Back = back_to_asks id func c e
 stage_asks id func c o step e Tell = tell_asks id func c
-stage_asks id func c o step e Close = close_asks id func e
+stage_asks id func c o step e Close = close_asks id func o e
 
 abbrev pub asks_at : Run → RunAt → Query
 asks_at r Looks = look_asks r.id r.func
@@ -286,6 +315,11 @@ run_asks r = asks_at r r.at
 abbrev pub mark_if : Bool → Mark → Option Mark
 mark_if true m = Some m
 mark_if false m = None
+
+-- the mark of a step that this act made, if it made one: inside a transaction a step makes no entry
+abbrev pub step_mark : Option RunTx → Bool → Option Mark
+step_mark None first = mark_if first mark.Step
+step_mark (Some o) first = None
 
 -- what was given to a read before is its answer
 abbrev pub ask_says : Option Value → Says
@@ -332,8 +366,8 @@ tx_says a (leads.Held o) = Waits (wait.Held o)
 tx_says a (leads.Value v) = Answers (answer.Value v) None
 tx_says a leads.Done = Answers answer.Done None
 
-abbrev pub tx_here_says : IntentId → ℕ → Effect → TxAt → Option OpenTx → Told → Says
-tx_here_says id step e a (Some o) t = tx_says a (tx_goes (place_of id step) o.begin e a t)
+abbrev pub tx_here_says : IntentId → ℕ → Effect → TxAt → Option RunTx → Told → Says
+tx_here_says id step e a (Some o) t = tx_says a (tx_goes (place_of id step) (begin_of o) e a t)
 tx_here_says id step e a None t = Ends None None
 
 -- the decision has its mark where this act put it
@@ -346,31 +380,33 @@ abbrev pub visit_says : Bool → Visit → EndGoes → Says
 visit_says commit v ends.Done = Answers answer.Done None
 visit_says commit v g = On (End (moved commit v g)) None
 
-abbrev pub decide_by_says : IntentId → ℕ → Bool → Mark → Option OpenTx → Told → Says
-decide_by_says id func commit m (Some o) t = decided_says commit m (end_goes (own_tx id func o) commit first_visit.at t)
-decide_by_says id func commit m None t = Ends None None
+abbrev pub decide_by_says : IntentId → ℕ → ℕ → Bool → Mark → Option RunTx → Told → Says
+decide_by_says id func step commit m (Some (Own o)) t = decided_says commit m (end_goes (own_tx id func o) step commit first_visit.way first_visit.at t)
+decide_by_says id func step commit m (Some (Inherited x)) t = Ends None None
+decide_by_says id func step commit m None t = Ends None None
 
-abbrev pub end_by_says : IntentId → ℕ → Bool → Visit → Option OpenTx → Told → Says
-end_by_says id func commit v (Some o) t = visit_says commit v (end_goes (own_tx id func o) commit v.at t)
-end_by_says id func commit v None t = Ends None None
+abbrev pub end_by_says : IntentId → ℕ → ℕ → Bool → Visit → Option RunTx → Told → Says
+end_by_says id func step commit v (Some (Own o)) t = visit_says commit v (end_goes (own_tx id func o) step commit v.way v.at t)
+end_by_says id func step commit v (Some (Inherited x)) t = Ends None None
+end_by_says id func step commit v None t = Ends None None
 
-abbrev pub decide_here_says : IntentId → ℕ → Effect → Mark → Option OpenTx → Told → Says
-decide_here_says id func (effect.End commit) m o t = decide_by_says id func commit m o t
-decide_here_says id func e m o t = Ends None None
+abbrev pub decide_here_says : IntentId → ℕ → ℕ → Effect → Mark → Option RunTx → Told → Says
+decide_here_says id func step (effect.End commit) m o t = decide_by_says id func step commit m o t
+decide_here_says id func step e m o t = Ends None None
 
-abbrev pub end_here_says : IntentId → ℕ → Effect → Visit → Option OpenTx → Told → Says
-end_here_says id func (effect.End commit) v o t = end_by_says id func commit v o t
-end_here_says id func e v o t = Ends None None
+abbrev pub end_here_says : IntentId → ℕ → ℕ → Effect → Visit → Option RunTx → Told → Says
+end_here_says id func step (effect.End commit) v o t = end_by_says id func step commit v o t
+end_here_says id func step e v o t = Ends None None
 
 -- how the callee ended is the answer to the call; where it has not, the run has opened the call, or waits
-abbrev pub call_answer : IntentId → ℕ → CallSays → Says
-call_answer id step (Opened first) = Opens (mark_if first mark.Step)
-call_answer id step NotYet = Waits (wait.Result (child_of id step))
-call_answer id step (Done o) = Answers (answer_of o) None
+abbrev pub call_answer : IntentId → Option RunTx → ℕ → CallSays → Says
+call_answer id o step (Opened first) = Opens (step_mark o first)
+call_answer id o step NotYet = Waits (wait.Result (child_of id step))
+call_answer id o step (Done x) = Answers (answer_of x) None
 
-abbrev pub call_here_says : IntentId → ℕ → Effect → CallAt → Told → Says
-call_here_says id step (effect.Call f a) at t = if has_callees id then call_answer id step (call_says f at t) else Ends None None
-call_here_says id step e at t = Ends None None
+abbrev pub call_here_says : IntentId → Option RunTx → ℕ → Effect → CallAt → Told → Says
+call_here_says id o step (effect.Call f a) at t = if has_callees id then call_answer id o step (call_says f at t) else Ends None None
+call_here_says id o step e at t = Ends None None
 
 -- a call that nobody waits for makes its step as it is opened; once it is registered, a run of the callee may start
 abbrev pub async_answer : AsyncAt → AsyncSays → Says
@@ -383,11 +419,12 @@ abbrev pub async_here_says : IntentId → Effect → AsyncAt → Told → Says
 async_here_says id (effect.Async f a) at t = if has_callees id then async_answer at (async_says f at t) else Ends None None
 async_here_says id e at t = Ends None None
 
--- the outcome was given back, and the step that gave it was made once; then the instance is ended
-abbrev pub back_says : told.Back → Says
-back_says back.Set = On Close (Some mark.Step)
-back_says back.AlreadySet = On Close None
-back_says back.Absent = On Close None
+-- the outcome was given back, and the step that gave it was made once, which has no entry where the instance was called in a
+-- transaction; then the instance is ended
+abbrev pub back_says : Option RunTx → told.Back → Says
+back_says o back.Set = On Close (mark_if (not (is_inherited o)) mark.Step)
+back_says o back.AlreadySet = On Close None
+back_says o back.Absent = On Close None
 
 -- the first end of a root gives its reply
 abbrev pub reply_if : Bool → Outcome → Option Outcome
@@ -400,17 +437,17 @@ close_says id c (effect.Return o) true = Ends (mark_if (not (is_waited c)) mark.
 close_says id c e b = Ends None None
 
 -- `changes` is how many changes had been made
-abbrev pub stage_says : IntentId → ℕ → Option Caller → Option OpenTx → ℕ → ℕ → Effect → Stage → Told → Says
+abbrev pub stage_says : IntentId → ℕ → Option Caller → Option RunTx → ℕ → ℕ → Effect → Stage → Told → Says
 stage_says id func c o changes step e Ask t = ask_says (given_of t)
 stage_says id func c o changes step e Walk t = walk_says changes (read_goes (Some (owner.Intent id)) t)
 stage_says id func c o changes step e (Keep v seen) t = keep_says seen (kept_of v t)
 stage_says id func c o changes step e (Write at) t = put_says e (note_done e) t
 stage_says id func c o changes step e (Tx at) t = tx_here_says id step e at o t
-stage_says id func c o changes step e (Decide m) t = decide_here_says id func e m o t
-stage_says id func c o changes step e (End v) t = end_here_says id func e v o t
-stage_says id func c o changes step e (Call at) t = call_here_says id step e at t
+stage_says id func c o changes step e (Decide m) t = decide_here_says id func step e m o t
+stage_says id func c o changes step e (End v) t = end_here_says id func step e v o t
+stage_says id func c o changes step e (Call at) t = call_here_says id o step e at t
 stage_says id func c o changes step e (Async at) t = async_here_says id e at t
-stage_says id func c o changes step e Back t = back_says (back_of t)
+stage_says id func c o changes step e Back t = back_says o (back_of t)
 stage_says id func c o changes step e Tell t = On Close None
 stage_says id func c o changes step e Close t = close_says id c e (is_did t)
 
@@ -443,16 +480,16 @@ over m = record { next = None; mark = m; starts = false; wait = None; reply = No
 abbrev pub goes : Run → Begun → Option Mark → Turned
 goes r g m = record { next = Some (record r { at = Begins g }); mark = m; starts = false; wait = None; reply = None }
 
--- a run whose machine has come to its next effect, with what is open; one whose effect is not carried out is over
-abbrev pub goes_from : Run → Machine × Option OpenTx → Option Caller → Option Mark → Option Stage → Turned
+-- a run whose machine has come to its next effect, with the transaction that it is in; one whose effect is not carried out is over
+abbrev pub goes_from : Run → Machine × Option RunTx → Option Caller → Option Mark → Option Stage → Turned
 goes_from r s c m None = over m
 goes_from r s c m (Some w) = goes r (record { machine = s.0; caller = c; tx = s.1; stage = w }) m
 
-abbrev pub stands_at : Run → Machine × Option OpenTx → Option Caller → Option Mark → Turned
+abbrev pub stands_at : Run → Machine × Option RunTx → Option Caller → Option Mark → Turned
 stands_at r s c m = goes_from r s c m (first_stage r.id c s.1 s.0.steps s.0.effect)
 
 -- .. past what takes no turn
-abbrev pub goes_to : Deployment → Run → Machine × Option OpenTx → Option Caller → Option Mark → Turned
+abbrev pub goes_to : Deployment → Run → Machine × Option RunTx → Option Caller → Option Mark → Turned
 goes_to d r s c m = stands_at r (at_once d r.id s) c m
 
 abbrev pub at_stage : Begun → Stage → Begun
@@ -467,11 +504,11 @@ turned_by d r g (Starts a) = record (goes_to d r (takes d g.machine g.tx a) g.ca
 turned_by d r g (Answers a m) = goes_to d r (takes d g.machine g.tx a) g.caller m
 turned_by d r g (Ends m o) = record { next = None; mark = m; starts = false; wait = None; reply = o }
 
--- a run begins a body of its function
+-- a run begins a body of its function, in the body's transaction, if any
 abbrev pub begin_in : Deployment → Run → Option Func → Option Body → Turned
 begin_in d r func None = over None
 begin_in d r None (Some b) = over None
-begin_in d r (Some func) (Some b) = goes_to d r (machine_begun d r.func b.args false, None) b.from None
+begin_in d r (Some func) (Some b) = goes_to d r (machine_begun d r.func b.args (is_some b.tx), within b.tx) b.from None
 
 -- the body of a run, by what it was told: that of its row, or the one that it registered now
 abbrev pub body_registered : ℕ → Body → Told → Option Body
@@ -487,17 +524,17 @@ abbrev pub run_told : Deployment → ℕ → Run → Told → Turned
 run_told d changes r t = told_at d changes r r.at t
 
 -- ---- a run of what is called: it has the caller's deadline. One that is waited for registers its body, where the callee has no row
--- yet; any other was registered.
+-- yet, and is in the caller's transaction; any other was registered.
 abbrev pub callee_run : Run → ℕ → ℕ → RunAt → Option Run
 callee_run r step f at = if has_callees r.id then Some (record { id = child_of r.id step; func = f; deadline = r.deadline; at = at }) else None
 
-abbrev pub callee_by : Run → ℕ → Effect → Option Run
-callee_by r step (effect.Call f a) = callee_run r step f (Registers (callee_body r.id r.func step f a true))
-callee_by r step (effect.Async f a) = callee_run r step f Looks
-callee_by r step e = None
+abbrev pub callee_by : Run → Option RunTx → ℕ → Effect → Option Run
+callee_by r o step (effect.Call f a) = callee_run r step f (Registers (callee_body r.id r.func step f a (tx_at r.id r.func o) true))
+callee_by r o step (effect.Async f a) = callee_run r step f Looks
+callee_by r o step e = None
 
 abbrev pub callee_at : Run → RunAt → Option Run
-callee_at r (Begins g) = callee_by r g.machine.steps g.machine.effect
+callee_at r (Begins g) = callee_by r g.tx g.machine.steps g.machine.effect
 callee_at r at = None
 
 abbrev pub callee_of : Run → Option Run
@@ -532,10 +569,10 @@ abbrev pub is_at_end : RunAt → Bool
 is_at_end (Begins g) = is_end g.stage
 is_at_end at = false
 
-abbrev pub ending_says : IntentId → ℕ → Option OpenTx → Effect → Stage → Told → Says
-ending_says id func o e (Decide m) t = decide_here_says id func e m o t
-ending_says id func o e (End v) t = end_here_says id func e v o t
-ending_says id func o e s t = Ends None None
+abbrev pub ending_says : IntentId → ℕ → ℕ → Option RunTx → Effect → Stage → Told → Says
+ending_says id func step o e (Decide m) t = decide_here_says id func step e m o t
+ending_says id func step o e (End v) t = end_here_says id func step e v o t
+ending_says id func step o e s t = Ends None None
 
 -- an answer, with the run as it is after it
 abbrev pub followed : Run → TurnSays → Turned

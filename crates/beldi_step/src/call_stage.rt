@@ -3,18 +3,18 @@ ghost use Rattle.std.specs.Prelude.{◌≡◌, IfOk, IfErr};
 ghost use Rattle.beldi_walk.specs.Query.{told_of};
 ghost use Rattle.beldi_invokelog.specs.InvokeLog.{back_of};
 ghost use Rattle.beldi_intent.specs.Intent.{is_did as is_did_of};
-ghost use Rattle.beldi_step.specs.Run.{mark_of, is_waited as is_waited_of, call_here_says, async_here_asks, async_here_says, tell_asks, back_to_asks, back_says, close_says, callee_body as callee_body_of};
+ghost use Rattle.beldi_step.specs.Run.{mark_of, is_waited as is_waited_of, is_inherited as is_inherited_of, step_mark as step_mark_of, close_asks, call_here_says, async_here_asks, async_here_says, tell_asks, back_to_asks, back_says, close_says, callee_body as callee_body_of};
 
-use crate::run::{Mark, Says, Stage, Wait};
+use crate::run::{Mark, RunTx, Says, Stage, Wait};
 use crate::stage::{look, mark_if, place_of};
 use beldi_call::{
     AsyncAt, AsyncSays, CallAt, CallPlace, CallSays, async_query, async_told, call_told,
 };
-use beldi_intent::end_told;
+use beldi_intent::{end_told, intent_key};
 use beldi_invokelog::{Back, back_told, invoke_key, registered_query};
 use beldi_lang::{Answer, Effect};
 use beldi_row::{Act, Body};
-use beldi_value::{Caller, IntentId, Value};
+use beldi_value::{Caller, IntentId, TxId, Value};
 use beldi_walk::{Heard, Query};
 use std::alloc::{AllocError, Global};
 
@@ -27,7 +27,24 @@ fn is_waited(caller: &Option<Caller>) -> bool
     }
 }
 
-// The body of what is called at a step.
+// Whether an instance was called in the transaction that it is in.
+fn is_inherited(tx: &Option<RunTx>) -> bool
+    ensures { result ≡ is_inherited_of tx.now }
+{
+    matches!(tx, Some(RunTx::Inherited(_)))
+}
+
+// The mark of a step that was made now; inside a transaction it has none.
+fn step_mark(tx: &Option<RunTx>, first: bool) -> Option<Mark>
+    ensures { result ≡ step_mark_of tx.now first }
+{
+    match tx {
+        None => mark_if(first, Mark::Step),
+        Some(_) => None,
+    }
+}
+
+// The body of what is called at a step, in this transaction, if any.
 pub(crate) fn callee_body(
     alloc: Global,
     id: &IntentId,
@@ -35,9 +52,10 @@ pub(crate) fn callee_body(
     step: u32,
     func: u16,
     args: &Value,
+    tx: Option<TxId>,
     waits: bool,
 ) -> Result<Body, AllocError>
-    ensures { IfOk result (λ b. b ≡ callee_body_of id.now home step func args.now waits) }
+    ensures { IfOk result (λ b. b ≡ callee_body_of id.now home step func args.now tx waits) }
 {
     let from = Caller {
         place: place_of(alloc, id, step)?,
@@ -47,7 +65,7 @@ pub(crate) fn callee_body(
     Ok(Body {
         func,
         args: args.copy(alloc)?,
-        tx: None,
+        tx,
         from: Some(from),
     })
 }
@@ -70,7 +88,7 @@ pub(crate) fn async_here(
         return look(alloc, id, func);
     }
     let place = CallPlace::new(place_of(alloc, id, step)?);
-    let body = callee_body(alloc, id, func, step, *callee, args, false)?;
+    let body = callee_body(alloc, id, func, step, *callee, args, None, false)?;
     async_query(alloc, func, &place, &body, at)
 }
 
@@ -109,17 +127,37 @@ pub(crate) fn back_query(
     }
 }
 
+// Asks for the instance to be ended; the end of a transaction stamps what was called in it.
+pub(crate) fn close_query(
+    alloc: Global,
+    id: &IntentId,
+    func: u16,
+    tx: &Option<RunTx>,
+    effect: &Effect,
+) -> Result<Query, AllocError>
+    ensures { IfOk result (λ q. q ≡ close_asks id.now func tx.now effect.now) }
+{
+    let Effect::Return(outcome) = effect else {
+        return look(alloc, id, func);
+    };
+    let key = intent_key(id.copy(alloc)?, func);
+    let outcome = outcome.copy(alloc)?;
+    let stamp = !is_inherited(tx);
+    Ok(Query::Act(key, Act::End { outcome, stamp }))
+}
+
 // A call that is out of memory made nothing either.
 pub(crate) fn hear_call(
     alloc: Global,
     id: &IntentId,
+    tx: &Option<RunTx>,
     step: u32,
     effect: &Effect,
     at: CallAt,
     heard: Heard<'_>,
 ) -> Result<Says, Option<Mark>>
-    ensures ok { IfOk result (λ s. s ≡ call_here_says id.now step effect.now at (told_of heard.entry)) }
-    ensures err { IfErr result (λ e. e ≡ mark_of (call_here_says id.now step effect.now at (told_of heard.entry))) }
+    ensures ok { IfOk result (λ s. s ≡ call_here_says id.now tx.now step effect.now at (told_of heard.entry)) }
+    ensures err { IfErr result (λ e. e ≡ mark_of (call_here_says id.now tx.now step effect.now at (told_of heard.entry))) }
 {
     let Effect::Call { func, args: _ } = effect else {
         return Ok(Says::Ends(None, None));
@@ -129,7 +167,7 @@ pub(crate) fn hear_call(
     }
     match call_told(alloc, *func, at, heard) {
         Err(_) => Err(None),
-        Ok(CallSays::Opened { first }) => Ok(Says::Opens(mark_if(first, Mark::Step))),
+        Ok(CallSays::Opened { first }) => Ok(Says::Opens(step_mark(tx, first))),
         Ok(CallSays::NotYet) => match id.child(alloc, step) {
             Ok(callee) => Ok(Says::Waits(Wait::Result(callee))),
             Err(_) => Err(None),
@@ -168,11 +206,12 @@ pub(crate) fn hear_async(
     }
 }
 
-pub(crate) fn hear_back(heard: Heard<'_>) -> Says
-    ensures { result ≡ back_says (back_of (told_of heard.entry)) }
+// The return of what was called in a transaction makes no entry.
+pub(crate) fn hear_back(tx: &Option<RunTx>, heard: Heard<'_>) -> Says
+    ensures { result ≡ back_says tx.now (back_of (told_of heard.entry)) }
 {
     match back_told(heard) {
-        Back::Set => Says::On(Stage::Close, Some(Mark::Step)),
+        Back::Set => Says::On(Stage::Close, mark_if(!is_inherited(tx), Mark::Step)),
         Back::AlreadySet | Back::Absent => Says::On(Stage::Close, None),
     }
 }

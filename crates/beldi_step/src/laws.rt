@@ -1,4 +1,6 @@
-// What one step of the host says over rows that are told, over any table, and past a deadline.
+// What one step of the host says over rows that are told, over any table, and past a deadline; and what runs say that were called in a
+// transaction.
+ghost use Rattle.beldi_step.specs.Inside.{StaysInherited, BeginsInside, MakesNoEntry};
 ghost use Rattle.beldi_step.specs.Laws.{StepsOverRows, StepsOverAnyTable, ExpiresPastDeadline};
 
 /// Over rows that are told, a step is a relation between the host and the rows before and after.
@@ -15,4 +17,20 @@ pub fn a_step_over_any_table()
 /// No run acts past its deadline: an event of a run that is past it makes no call of the table, and the run is over.
 pub fn a_run_expires_past_its_deadline()
     ensures { ExpiresPastDeadline }
+{}
+
+/// What was called in a transaction is in it after each answer, but for that to a begin or an end, which no body wants that is called
+/// in a transaction.
+pub fn a_run_stays_in_its_transaction()
+    ensures { StaysInherited }
+{}
+
+/// What was called in a transaction begins each effect as an operation of the transaction, as a call, or as a return.
+pub fn a_run_begins_inside()
+    ensures { BeginsInside }
+{}
+
+/// What was called in a transaction makes no entry of the book, and goes on as an operation of it, a call or a return.
+pub fn a_run_inside_makes_no_entry()
+    ensures { MakesNoEntry }
 {}

@@ -3,24 +3,24 @@ ghost use Rattle.std.specs.Prelude.{◌≡◌, ℕ, true, false, Option, Some, N
 ghost use Rattle.beldi_tree.specs.Names.{func_at};
 ghost use Rattle.beldi_walk.specs.Query.{told_of};
 ghost use Rattle.beldi_intent.specs.Intent.{body_in, body_told, open_body as open_body_of};
-ghost use Rattle.beldi_step.specs.Run.{run_asks, run_told, followed, plain_says, begin_in, goes_to, takes, at_once as at_once_of, once as once_of, open_after as open_after_of, with_cause as with_cause_of, answer_at_once as answer_at_once_of, at_stage, is_end as is_end_of, is_at_end as is_at_end_of, stage_says, body_found, body_added, turned_by, Turns, callee_of, callee_run as callee_run_of};
+ghost use Rattle.beldi_step.specs.Run.{run_asks, run_told, followed, plain_says, begin_in, goes_to, takes, at_once as at_once_of, once as once_of, open_after as open_after_of, with_cause as with_cause_of, begin_of, tx_at, within as within_of, answer_at_once as answer_at_once_of, at_stage, is_end as is_end_of, is_at_end as is_at_end_of, stage_says, body_found, body_added, turned_by, Turns, callee_of, callee_run as callee_run_of};
 ghost use Rattle.beldi_step.specs.declared.run.Begun.{Begun};
 ghost use Rattle.beldi_step.specs.declared.run.Mark.{Mark};
-ghost use Rattle.beldi_step.specs.declared.run.OpenTx.{OpenTx};
+ghost use Rattle.beldi_step.specs.declared.run.RunTx.{RunTx};
 ghost use Rattle.beldi_step.specs.declared.run.RunAt.{RunAt};
 ghost use Rattle.beldi_step.specs.declared.run.RunAt.TheVariants as at;
 
 use crate::call_stage::callee_body;
 use crate::callee::Callee;
 use crate::stage::{first_stage, hear, look, place_of, stage_query};
-use crate::tx_stage::hear_end;
+use crate::tx_stage::{hear_end, tx_at};
 use beldi_call::{AsyncAt, CallAt};
 use beldi_daal::WriteAt;
 use beldi_intent::{open_body, register_query};
 use beldi_lang::{Answer, Deployment, Effect, Machine};
 use beldi_row::{Body, IntentRow, Row, Said};
 use beldi_txn::{TxAt, Visit};
-use beldi_value::{Caller, Cause, IntentId, Outcome, Owner, Place, Value};
+use beldi_value::{Caller, Cause, IntentId, Outcome, Owner, Place, TxId, Value};
 use beldi_walk::{Heard, Query};
 use std::alloc::{AllocError, Global};
 use std::mem::replace;
@@ -45,14 +45,35 @@ pub enum RunAt {
     Begins(Begun),
 }
 
-/// A run that has found its body: its machine, who called it, the transaction of its own that is open, and where it stands in
+/// A run that has found its body: its machine, who called it, the transaction that it is in, if any, and where it stands in
 /// the machine's effect.
 #[derive(Drop)]
 pub struct Begun {
     pub machine: Machine,
     pub caller: Option<Caller>,
-    pub tx: Option<OpenTx>,
+    pub tx: Option<RunTx>,
     pub stage: Stage,
+}
+
+/// The transaction that a run is in.
+#[derive(Drop)]
+pub enum RunTx {
+    /// Its instance began it, and has not ended it.
+    Own(OpenTx),
+    /// Its instance was called in it.
+    Inherited(TxId),
+}
+
+impl RunTx {
+    /// The step of its begin.
+    pub fn begin(&self) -> u32
+        ensures { result ≡ begin_of self.now }
+    {
+        match self {
+            RunTx::Own(tx) => tx.begin,
+            RunTx::Inherited(tx) => tx.begin,
+        }
+    }
 }
 
 /// A transaction that is open: the step of its begin, and the cause of what was aborted in it.
@@ -251,23 +272,33 @@ fn answer_at_once(
     }
 }
 
-// The transaction that is open once the effect at a step has its answer.
+// The transaction of a body.
+fn within(tx: Option<TxId>) -> Option<RunTx>
+    ensures { result ≡ within_of tx }
+{
+    match tx {
+        None => None,
+        Some(tx) => Some(RunTx::Inherited(tx)),
+    }
+}
+
+// The transaction that a run is in once the effect at a step has its answer.
 fn open_after(
     alloc: Global,
     step: u32,
     effect: &Effect,
     answer: &Answer,
-    tx: Option<OpenTx>,
-) -> Result<Option<OpenTx>, AllocError>
+    tx: Option<RunTx>,
+) -> Result<Option<RunTx>, AllocError>
     ensures { IfOk result (λ o. o ≡ open_after_of step effect.now answer.now tx) }
 {
     match effect {
         Effect::Begin => {
             drop(tx);
-            Ok(Some(OpenTx {
+            Ok(Some(RunTx::Own(OpenTx {
                 begin: step,
                 cause: None,
-            }))
+            })))
         }
         Effect::End { .. } => {
             drop(tx);
@@ -280,32 +311,34 @@ fn open_after(
 fn with_cause(
     alloc: Global,
     answer: &Answer,
-    tx: Option<OpenTx>,
-) -> Result<Option<OpenTx>, AllocError>
+    tx: Option<RunTx>,
+) -> Result<Option<RunTx>, AllocError>
     ensures { IfOk result (λ o. o ≡ with_cause_of answer.now tx) }
 {
     let Answer::Aborted(cause) = answer else {
         return Ok(tx);
     };
-    let Some(tx) = tx else {
-        return Ok(None);
-    };
-    let begin = tx.begin;
-    drop(tx);
-    Ok(Some(OpenTx {
-        begin,
-        cause: Some(cause.copy(alloc)?),
-    }))
+    match tx {
+        Some(RunTx::Own(tx)) => {
+            let begin = tx.begin;
+            drop(tx);
+            Ok(Some(RunTx::Own(OpenTx {
+                begin,
+                cause: Some(cause.copy(alloc)?),
+            })))
+        }
+        tx => Ok(tx),
+    }
 }
 
-// A machine and what is open, after an answer.
+// A machine and the transaction that it is in, after an answer.
 fn take(
     alloc: Global,
     code: &Deployment,
     machine: Machine,
-    tx: Option<OpenTx>,
+    tx: Option<RunTx>,
     answer: Answer,
-) -> Result<(Machine, Option<OpenTx>), AllocError>
+) -> Result<(Machine, Option<RunTx>), AllocError>
     ensures { IfOk result (λ s. s ≡ takes code.now machine tx answer) }
 {
     let tx = open_after(alloc, machine.steps(), machine.wants(), &answer, tx)?;
@@ -318,8 +351,8 @@ fn once(
     code: &Deployment,
     id: &IntentId,
     machine: Machine,
-    tx: Option<OpenTx>,
-) -> Result<(Machine, Option<OpenTx>), AllocError>
+    tx: Option<RunTx>,
+) -> Result<(Machine, Option<RunTx>), AllocError>
     ensures { IfOk result (λ s. s ≡ once_of code.now id.now (machine, tx)) }
 {
     match answer_at_once(alloc, id, machine.steps(), machine.wants())? {
@@ -334,8 +367,8 @@ fn at_once(
     code: &Deployment,
     id: &IntentId,
     machine: Machine,
-    tx: Option<OpenTx>,
-) -> Result<(Machine, Option<OpenTx>), AllocError>
+    tx: Option<RunTx>,
+) -> Result<(Machine, Option<RunTx>), AllocError>
     ensures { IfOk result (λ s. s ≡ at_once_of code.now id.now (machine, tx)) }
 {
     let (machine, tx) = once(alloc, code, id, machine, tx)?;
@@ -355,7 +388,7 @@ impl Run {
     }
 
     /// A run of what the run calls, if it stands at a call: it may act as long as the run. One that is waited for registers
-    /// its body; the row of any other is there before a run of it may start.
+    /// its body, and is in the transaction that the run is in; the row of any other is there before a run of it may start.
     pub fn callee(&self, alloc: Global) -> Result<Option<Callee>, AllocError>
         ensures { IfOk result (λ r. r ≡ callee_of self.now) }
     {
@@ -365,7 +398,8 @@ impl Run {
         let step = begun.machine.steps();
         match begun.machine.wants() {
             Effect::Call { func, args } => {
-                let body = callee_body(alloc, &self.id, self.func, step, *func, args, true)?;
+                let tx = tx_at(alloc, &self.id, self.func, &begun.tx)?;
+                let body = callee_body(alloc, &self.id, self.func, step, *func, args, tx, true)?;
                 self.callee_run(alloc, step, *func, RunAt::Registers(body))
             }
             Effect::Async { func, args: _ } => self.callee_run(alloc, step, *func, RunAt::Looks),
@@ -447,7 +481,10 @@ impl Run {
         };
         let stage = replace(&mut begun.stage, Stage::Close);
         let effect = begun.machine.wants();
-        match hear_end(alloc, &self.id, self.func, &begun.tx, effect, stage, heard) {
+        let step = begun.machine.steps();
+        match hear_end(
+            alloc, &self.id, self.func, step, &begun.tx, effect, stage, heard,
+        ) {
             Ok(says) => self.follow(alloc, code, says),
             Err(mark) => Err(mark),
         }
@@ -493,8 +530,9 @@ impl Run {
         if code.func_at(self.func).is_none() {
             return Ok(plain(None, true));
         }
-        let machine = Machine::new(alloc, code, self.func, body.args, false)?;
-        let over = self.go_to(alloc, code, machine, None, body.from)?;
+        let inherited = body.tx.is_some();
+        let machine = Machine::new(alloc, code, self.func, body.args, inherited)?;
+        let over = self.go_to(alloc, code, machine, within(body.tx), body.from)?;
         Ok(plain(None, over))
     }
 
@@ -504,7 +542,7 @@ impl Run {
         alloc: Global,
         code: &Deployment,
         machine: Machine,
-        tx: Option<OpenTx>,
+        tx: Option<RunTx>,
         caller: Option<Caller>,
     ) -> Result<bool, AllocError>
         ensures goes { IfOk result (λ b. (at : RunAt) (mark : Option Mark) → followed self.new (plain_says mark b) ≡ goes_to code.now (record self.old { at = at }) (machine, tx) caller mark) }

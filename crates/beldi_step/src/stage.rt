@@ -7,12 +7,15 @@ ghost use Rattle.beldi_walk.specs.Query.{told_of};
 ghost use Rattle.beldi_daal.specs.Cell.{read_goes};
 ghost use Rattle.beldi_readlog.specs.ReadLog.{given_of, kept_of};
 ghost use Rattle.beldi_intent.specs.Intent.{look_asks};
-ghost use Rattle.beldi_step.specs.Run.{stage_asks, stage_says, mark_of, is_end, first_stage as first_stage_of, first_of as first_stage_in, first_outside, first_end as first_end_of, end_mark as end_mark_of, last_stage as last_stage_of, note_done as note_done_of, answer_noted as answer_noted_of, cell_op, done_says, mark_if as mark_if_of, ask_says, walk_says, keep_says, put_says, place_of as place_at};
+ghost use Rattle.beldi_step.specs.declared.run.Stage.TheVariants as stages;
+ghost use Rattle.beldi_call.specs.declared.call.CallAt.TheVariants as calls;
+ghost use Rattle.beldi_call.specs.declared.async_call.AsyncAt.TheVariants as asyncs;
+ghost use Rattle.beldi_step.specs.Run.{stage_asks, put_asks, stage_says, mark_of, is_end, first_stage as first_stage_of, first_of as first_stage_in, first_outside, first_end as first_end_of, end_mark as end_mark_of, last_stage as last_stage_of, note_done as note_done_of, answer_noted as answer_noted_of, cell_op, done_says, mark_if as mark_if_of, ask_says, walk_says, keep_says, put_says, place_of as place_at};
 
 use crate::call_stage::{
-    async_here, back_query, hear_async, hear_back, hear_call, hear_close, tell_query,
+    async_here, back_query, close_query, hear_async, hear_back, hear_call, hear_close, tell_query,
 };
-use crate::run::{Begun, Mark, OpenTx, Says, Stage, Wait};
+use crate::run::{Begun, Mark, RunTx, Says, Stage, Wait};
 use crate::tx_stage::{end_here, hear_tx, tx_here};
 use beldi_call::{AsyncAt, CallAt, call_query};
 use beldi_daal::{
@@ -116,6 +119,26 @@ fn answer_noted(effect: &Effect, note: &Note) -> Option<Answer>
     }
 }
 
+// Asks for what an operation on an item comes to next, outside a transaction.
+fn put_here(
+    alloc: Global,
+    id: &IntentId,
+    func: u16,
+    step: u32,
+    effect: &Effect,
+    at: WriteAt,
+) -> Result<Query, AllocError>
+    ensures { IfOk result (λ q. q ≡ put_asks id.now func step at (cell_op effect.now)) }
+{
+    let Some(on) = operation(alloc, effect)? else {
+        return look(alloc, id, func);
+    };
+    let place = place_of(alloc, id, step)?;
+    let who = Owner::Intent(id.copy(alloc)?);
+    let key = cell_key(alloc, func, on.table, &on.key)?;
+    write_query(alloc, key, place, who, on.op, at)
+}
+
 // What a stage asks. The table takes the key and the act, so what they have of the effect is copied; the machine keeps it.
 pub(crate) fn stage_query(
     alloc: Global,
@@ -125,59 +148,31 @@ pub(crate) fn stage_query(
 ) -> Result<Query, AllocError>
     ensures { IfOk result (λ q. q ≡ stage_asks id.now func begun.now.caller begun.now.tx begun.now.machine.steps begun.now.machine.effect begun.now.stage) }
 {
-    let machine = &begun.machine;
-    match (&begun.stage, machine.wants()) {
-        (Stage::Ask, _) => {
-            let place = place_of(alloc, id, machine.steps())?;
-            Ok(Query::Act(log_key(func, place), Act::Look))
-        }
+    let step = begun.machine.steps();
+    match (&begun.stage, begun.machine.wants()) {
+        (Stage::Ask, _) => Ok(Query::Act(log_key(func, place_of(alloc, id, step)?), Act::Look)),
         (Stage::Keep { value, seen: _ }, _) => {
-            let place = place_of(alloc, id, machine.steps())?;
+            let place = place_of(alloc, id, step)?;
             let value = value.copy(alloc)?;
             Ok(Query::Act(log_key(func, place), Act::PutRead { value }))
         }
         (Stage::Walk, Effect::Read { table, key }) => {
             Ok(Query::Act(cell_key(alloc, func, *table, key)?, Act::Look))
         }
-        (Stage::Write(at), effect) => {
-            let Some(on) = operation(alloc, effect)? else {
-                return look(alloc, id, func);
-            };
-            let place = place_of(alloc, id, machine.steps())?;
-            let who = Owner::Intent(id.copy(alloc)?);
-            let key = cell_key(alloc, func, on.table, &on.key)?;
-            write_query(alloc, key, place, who, on.op, *at)
-        }
-        (Stage::Tx(at), effect) => {
-            tx_here(alloc, id, func, machine.steps(), effect, at, &begun.tx)
-        }
+        (Stage::Write(at), effect) => put_here(alloc, id, func, step, effect, *at),
+        (Stage::Tx(at), effect) => tx_here(alloc, id, func, step, effect, at, &begun.tx),
         (Stage::Decide(_), effect) => {
-            let visit = Visit::first();
-            end_here(alloc, id, func, machine.steps(), effect, &visit, &begun.tx)
+            let visit = Visit::first(alloc);
+            end_here(alloc, id, func, step, effect, &visit, &begun.tx)
         }
-        (Stage::End(visit), effect) => {
-            end_here(alloc, id, func, machine.steps(), effect, visit, &begun.tx)
+        (Stage::End(visit), effect) => end_here(alloc, id, func, step, effect, visit, &begun.tx),
+        (Stage::Call(at), Effect::Call { func: callee, .. }) => {
+            Ok(call_query(func, place_of(alloc, id, step)?, *callee, *at))
         }
-        (
-            Stage::Call(at),
-            Effect::Call {
-                func: callee,
-                args: _,
-            },
-        ) => {
-            let place = place_of(alloc, id, machine.steps())?;
-            Ok(call_query(func, place, *callee, *at))
-        }
-        (Stage::Async(at), effect) => async_here(alloc, id, func, machine.steps(), effect, *at),
+        (Stage::Async(at), effect) => async_here(alloc, id, func, step, effect, *at),
         (Stage::Tell, _) => tell_query(alloc, id, func, &begun.caller),
         (Stage::Back, effect) => back_query(alloc, id, func, &begun.caller, effect),
-        (Stage::Close, Effect::Return(outcome)) => Ok(Query::Act(
-            intent_key(id.copy(alloc)?, func),
-            Act::End {
-                outcome: outcome.copy(alloc)?,
-                stamp: true,
-            },
-        )),
+        (Stage::Close, effect) => close_query(alloc, id, func, &begun.tx, effect),
         _ => look(alloc, id, func),
     }
 }
@@ -209,26 +204,17 @@ pub(crate) fn hear(
     ensures err { (func : ℕ) → is_end begun.now.stage ≡ false → IfErr result (λ e. e ≡ mark_of (stage_says id.now func begun.now.caller begun.now.tx changes begun.now.machine.steps begun.now.machine.effect begun.now.stage (told_of heard.entry))) }
 {
     let effect = begun.machine.wants();
+    let step = begun.machine.steps();
     match &begun.stage {
         Stage::Ask => hear_ask(alloc, heard),
         Stage::Walk => hear_walk(alloc, id, changes, heard),
         Stage::Keep { value, seen } => hear_keep(alloc, value, *seen, heard),
         Stage::Write(_) => hear_write(alloc, effect, heard),
-        Stage::Tx(at) => {
-            hear_tx(
-                alloc,
-                id,
-                begun.machine.steps(),
-                effect,
-                at,
-                &begun.tx,
-                heard,
-            )
-        }
+        Stage::Tx(at) => hear_tx(alloc, id, step, effect, at, &begun.tx, heard),
         Stage::Decide(_) | Stage::End(_) => Ok(Says::Stays),
-        Stage::Call(at) => hear_call(alloc, id, begun.machine.steps(), effect, *at, heard),
+        Stage::Call(at) => hear_call(alloc, id, &begun.tx, step, effect, *at, heard),
         Stage::Async(at) => hear_async(alloc, id, effect, *at, heard),
-        Stage::Back => Ok(hear_back(heard)),
+        Stage::Back => Ok(hear_back(&begun.tx, heard)),
         Stage::Tell => Ok(Says::On(Stage::Close, None)),
         Stage::Close => hear_close(alloc, id, &begun.caller, effect, heard),
     }
@@ -315,27 +301,38 @@ fn hear_write(alloc: Global, effect: &Effect, heard: Heard<'_>) -> Result<Says, 
 }
 
 // Where an operation on an item begins, outside a transaction or inside.
-fn first_of(stage: Stage, effect: &Effect, tx: &Option<OpenTx>) -> Stage
+fn first_of(stage: Stage, effect: &Effect, tx: &Option<RunTx>) -> Stage
     ensures { result ≡ first_stage_in stage effect.now tx.now }
 {
     match tx {
         None => stage,
         Some(tx) => {
             drop(stage);
-            Stage::Tx(TxAt::first(tx.begin, effect))
+            Stage::Tx(TxAt::first(tx.begin(), effect))
         }
     }
 }
 
-// Where a call begins, which no transaction has yet.
-fn first_call(id: &IntentId, stage: Stage, tx: &Option<OpenTx>) -> Option<Stage>
-    ensures { result ≡ first_outside (if has_callees id.now then Some stage else None) tx.now }
+// Where a call begins: none where its callee has no id.
+fn first_call(id: &IntentId) -> Option<Stage>
+    ensures { result ≡ (if has_callees id.now then Some (stages.Call calls.Open) else None) }
+{
+    if id.has_callees() {
+        Some(Stage::Call(CallAt::Open))
+    } else {
+        None
+    }
+}
+
+// Where a call begins that nobody waits for, which no transaction has.
+fn first_async(id: &IntentId, tx: &Option<RunTx>) -> Option<Stage>
+    ensures { result ≡ first_outside (if has_callees id.now then Some (stages.Async asyncs.Open) else None) tx.now }
 {
     if tx.is_none() && id.has_callees() {
-        return Some(stage);
+        Some(Stage::Async(AsyncAt::Open))
+    } else {
+        None
     }
-    drop(stage);
-    None
 }
 
 // The mark that the decision of a transaction is to leave.
@@ -368,13 +365,15 @@ fn first_end(
     id: &IntentId,
     step: u32,
     commit: bool,
-    tx: &Option<OpenTx>,
+    tx: &Option<RunTx>,
 ) -> Result<Option<Stage>, AllocError>
     ensures { IfOk result (λ s. s ≡ first_end_of id.now step commit tx.now) }
 {
     match tx {
-        None => Ok(None),
-        Some(tx) => Ok(Some(Stage::Decide(end_mark(alloc, id, step, &tx.cause, commit)?))),
+        Some(RunTx::Own(tx)) => {
+            Ok(Some(Stage::Decide(end_mark(alloc, id, step, &tx.cause, commit)?)))
+        }
+        Some(RunTx::Inherited(_)) | None => Ok(None),
     }
 }
 
@@ -395,7 +394,7 @@ pub(crate) fn first_stage(
     alloc: Global,
     id: &IntentId,
     caller: &Option<Caller>,
-    tx: &Option<OpenTx>,
+    tx: &Option<RunTx>,
     step: u32,
     effect: &Effect,
 ) -> Result<Option<Stage>, AllocError>
@@ -410,8 +409,8 @@ pub(crate) fn first_stage(
             None => Ok(Some(Stage::Write(WriteAt::Try))),
             Some(_) => Ok(None),
         },
-        Effect::Call { .. } => Ok(first_call(id, Stage::Call(CallAt::Open), tx)),
-        Effect::Async { .. } => Ok(first_call(id, Stage::Async(AsyncAt::Open), tx)),
+        Effect::Call { .. } => Ok(first_call(id)),
+        Effect::Async { .. } => Ok(first_async(id, tx)),
         Effect::End { commit } => first_end(alloc, id, step, *commit, tx),
         Effect::Return(_) => Ok(Some(last_stage(caller))),
         Effect::Begin | Effect::Abort => Ok(None),

@@ -2,19 +2,19 @@
 ghost use Rattle.std.specs.Prelude.{◌≡◌, IfOk, IfErr};
 ghost use Rattle.beldi_walk.specs.Query.{told_of};
 ghost use Rattle.beldi_txn.specs.Tx.{tx_goes};
-ghost use Rattle.beldi_txn.specs.End.{first_visit, end_goes, moved};
-ghost use Rattle.beldi_txn.specs.declared.end.EndGoes.TheVariants as ends;
-ghost use Rattle.beldi_step.specs.Run.{mark_of, place_of as place_at, own_tx as own_tx_of, tx_here_asks, end_here_asks, put_answer as put_answer_of, tx_says as tx_says_of, tx_here_says, visit_says as visit_says_of, decide_here_says, end_here_says, ending_says};
+ghost use Rattle.beldi_txn.specs.End.{end_goes, decide_goes, moved};
+ghost use Rattle.beldi_step.specs.Run.{mark_of, place_of as place_at, own_tx as own_tx_of, tx_at as tx_at_of, tx_here_asks, end_here_asks, put_answer as put_answer_of, tx_says as tx_says_of, tx_here_says, visit_says as visit_says_of, decided_says, decide_here_says, end_here_says, ending_says};
 
-use crate::run::{Mark, OpenTx, Says, Stage, Wait};
+use crate::run::{Mark, OpenTx, RunTx, Says, Stage, Wait};
 use crate::stage::{is_added, look, mark_if, place_of};
 use beldi_lang::{Answer, Effect};
-use beldi_txn::{EndAt, EndGoes, TxAt, TxGoes, Visit, end_query, end_told, tx_query, tx_told};
+use beldi_row::copy_tx;
+use beldi_txn::{EndGoes, TxAt, TxGoes, Visit, end_query, end_told, tx_query, tx_told};
 use beldi_value::{IntentId, TxId};
 use beldi_walk::{Heard, Query};
 use std::alloc::{AllocError, Global};
 
-// The transaction of a run.
+// A run's own transaction, which is open.
 fn own_tx(alloc: Global, id: &IntentId, func: u16, tx: &OpenTx) -> Result<TxId, AllocError>
     ensures { IfOk result (λ x. x ≡ own_tx_of id.now func tx.now) }
 {
@@ -25,6 +25,22 @@ fn own_tx(alloc: Global, id: &IntentId, func: u16, tx: &OpenTx) -> Result<TxId, 
     })
 }
 
+// The transaction that a run is in.
+pub(crate) fn tx_at(
+    alloc: Global,
+    id: &IntentId,
+    func: u16,
+    tx: &Option<RunTx>,
+) -> Result<Option<TxId>, AllocError>
+    ensures { IfOk result (λ x. x ≡ tx_at_of id.now func tx.now) }
+{
+    match tx {
+        None => Ok(None),
+        Some(RunTx::Own(tx)) => Ok(Some(own_tx(alloc, id, func, tx)?)),
+        Some(RunTx::Inherited(tx)) => Ok(Some(copy_tx(tx, alloc)?)),
+    }
+}
+
 // Asks for what an operation inside a transaction comes to next.
 pub(crate) fn tx_here(
     alloc: Global,
@@ -33,15 +49,17 @@ pub(crate) fn tx_here(
     step: u32,
     effect: &Effect,
     at: &TxAt,
-    tx: &Option<OpenTx>,
+    tx: &Option<RunTx>,
 ) -> Result<Query, AllocError>
     ensures { IfOk result (λ q. q ≡ tx_here_asks id.now func step effect.now at.now tx.now) }
 {
     match tx {
-        Some(tx) => {
-            let place = place_of(alloc, id, step)?;
+        Some(RunTx::Own(tx)) => {
             let who = own_tx(alloc, id, func, tx)?;
-            tx_query(alloc, func, place, &who, effect, at)
+            tx_query(alloc, func, place_of(alloc, id, step)?, &who, effect, at)
+        }
+        Some(RunTx::Inherited(tx)) => {
+            tx_query(alloc, func, place_of(alloc, id, step)?, tx, effect, at)
         }
         None => look(alloc, id, func),
     }
@@ -55,12 +73,12 @@ pub(crate) fn end_here(
     step: u32,
     effect: &Effect,
     visit: &Visit,
-    tx: &Option<OpenTx>,
+    tx: &Option<RunTx>,
 ) -> Result<Query, AllocError>
     ensures { IfOk result (λ q. q ≡ end_here_asks id.now func step effect.now visit.now tx.now) }
 {
     match (effect, tx) {
-        (Effect::End { commit }, Some(tx)) => {
+        (Effect::End { commit }, Some(RunTx::Own(tx))) => {
             let who = own_tx(alloc, id, func, tx)?;
             end_query(alloc, &who, step, *commit, visit)
         }
@@ -75,7 +93,7 @@ pub(crate) fn hear_tx(
     step: u32,
     effect: &Effect,
     at: &TxAt,
-    tx: &Option<OpenTx>,
+    tx: &Option<RunTx>,
     heard: Heard<'_>,
 ) -> Result<Says, Option<Mark>>
     ensures ok { IfOk result (λ s. s ≡ tx_here_says id.now step effect.now at.now tx.now (told_of heard.entry)) }
@@ -84,7 +102,7 @@ pub(crate) fn hear_tx(
     let Some(tx) = tx else {
         return Ok(Says::Ends(None, None));
     };
-    match tx_turn(alloc, id, step, tx.begin, effect, at, heard) {
+    match tx_turn(alloc, id, step, tx.begin(), effect, at, heard) {
         Ok(says) => Ok(says),
         Err(_) => Err(None),
     }
@@ -135,17 +153,18 @@ pub(crate) fn hear_end(
     alloc: Global,
     id: &IntentId,
     func: u16,
-    tx: &Option<OpenTx>,
+    step: u32,
+    tx: &Option<RunTx>,
     effect: &Effect,
     stage: Stage,
     heard: Heard<'_>,
 ) -> Result<Says, Option<Mark>>
-    ensures ok { IfOk result (λ s. s ≡ ending_says id.now func tx.now effect.now stage (told_of heard.entry)) }
-    ensures err { IfErr result (λ e. e ≡ mark_of (ending_says id.now func tx.now effect.now stage (told_of heard.entry))) }
+    ensures ok { IfOk result (λ s. s ≡ ending_says id.now func step tx.now effect.now stage (told_of heard.entry)) }
+    ensures err { IfErr result (λ e. e ≡ mark_of (ending_says id.now func step tx.now effect.now stage (told_of heard.entry))) }
 {
     match stage {
-        Stage::Decide(mark) => hear_decision(alloc, id, func, tx, effect, mark, heard),
-        Stage::End(visit) => match hear_visit(alloc, id, func, tx, effect, visit, heard) {
+        Stage::Decide(mark) => hear_decision(alloc, id, func, step, tx, effect, mark, heard),
+        Stage::End(visit) => match hear_visit(alloc, id, func, step, tx, effect, visit, heard) {
             Ok(says) => Ok(says),
             Err(_) => Err(None),
         },
@@ -156,33 +175,22 @@ pub(crate) fn hear_end(
     }
 }
 
-// The mark of the decision is there before its act, so out of memory it can be told.
 fn hear_decision(
     alloc: Global,
     id: &IntentId,
     func: u16,
-    tx: &Option<OpenTx>,
+    step: u32,
+    tx: &Option<RunTx>,
     effect: &Effect,
     mark: Mark,
     heard: Heard<'_>,
 ) -> Result<Says, Option<Mark>>
-    ensures ok { IfOk result (λ s. s ≡ decide_here_says id.now func effect.now mark tx.now (told_of heard.entry)) }
-    ensures err { IfErr result (λ e. e ≡ mark_of (decide_here_says id.now func effect.now mark tx.now (told_of heard.entry))) }
+    ensures ok { IfOk result (λ s. s ≡ decide_here_says id.now func step effect.now mark tx.now (told_of heard.entry)) }
+    ensures err { IfErr result (λ e. e ≡ mark_of (decide_here_says id.now func step effect.now mark tx.now (told_of heard.entry))) }
 {
     match (effect, tx) {
-        (Effect::End { commit }, Some(tx)) => {
-            let put = is_added(&heard);
-            match end_goes_to(alloc, id, func, tx, *commit, EndAt::Decide, heard) {
-                Ok(EndGoes::Decided { first }) => Ok(Says::On(
-                    Stage::End(decided(*commit, first)),
-                    mark_if(first, mark),
-                )),
-                Ok(goes) => {
-                    drop(goes);
-                    Ok(Says::On(Stage::Decide(mark), None))
-                }
-                Err(_) => Err(mark_if(put, mark)),
-            }
+        (Effect::End { commit }, Some(RunTx::Own(tx))) => {
+            decide(alloc, id, func, tx, step, *commit, mark, heard)
         }
         _ => {
             drop(mark);
@@ -191,27 +199,56 @@ fn hear_decision(
     }
 }
 
+// The mark of the decision is there before its act, so out of memory it can be told.
+fn decide(
+    alloc: Global,
+    id: &IntentId,
+    func: u16,
+    tx: &OpenTx,
+    step: u32,
+    commit: bool,
+    mark: Mark,
+    heard: Heard<'_>,
+) -> Result<Says, Option<Mark>>
+    ensures ok { IfOk result (λ s. s ≡ decided_says commit mark (decide_goes commit (told_of heard.entry))) }
+    ensures err { IfErr result (λ e. e ≡ mark_of (decided_says commit mark (decide_goes commit (told_of heard.entry)))) }
+{
+    let put = is_added(&heard);
+    let visit = Visit::first(alloc);
+    match end_goes_to(alloc, id, func, tx, step, commit, &visit, heard) {
+        Ok(EndGoes::Decided { first }) => Ok(Says::On(
+            Stage::End(went(visit, commit, EndGoes::Decided { first })),
+            mark_if(first, mark),
+        )),
+        Ok(goes) => {
+            drop(goes);
+            Ok(Says::On(Stage::Decide(mark), None))
+        }
+        Err(_) => Err(mark_if(put, mark)),
+    }
+}
+
 fn end_goes_to(
     alloc: Global,
     id: &IntentId,
     func: u16,
     tx: &OpenTx,
+    step: u32,
     commit: bool,
-    at: EndAt,
+    visit: &Visit,
     heard: Heard<'_>,
 ) -> Result<EndGoes, AllocError>
-    ensures { IfOk result (λ g. g ≡ end_goes (own_tx_of id.now func tx.now) commit at (told_of heard.entry)) }
+    ensures { IfOk result (λ g. g ≡ end_goes (own_tx_of id.now func tx.now) step commit visit.now.way visit.now.at (told_of heard.entry)) }
 {
     let who = own_tx(alloc, id, func, tx)?;
-    end_told(alloc, &who, commit, at, heard)
+    end_told(alloc, &who, step, commit, visit, heard)
 }
 
-// The end of a transaction that was decided.
-fn decided(commit: bool, first: bool) -> Visit
-    ensures { result ≡ moved commit first_visit (ends.Decided first) }
+fn went(visit: Visit, commit: bool, goes: EndGoes) -> Visit
+    ensures { result ≡ moved commit visit goes }
 {
-    let mut visit = Visit::first();
-    drop(visit.go(commit, EndGoes::Decided { first }));
+    let mut visit = visit;
+    drop(visit.go(commit, goes));
     visit
 }
 
@@ -219,16 +256,17 @@ fn hear_visit(
     alloc: Global,
     id: &IntentId,
     func: u16,
-    tx: &Option<OpenTx>,
+    step: u32,
+    tx: &Option<RunTx>,
     effect: &Effect,
     visit: Visit,
     heard: Heard<'_>,
 ) -> Result<Says, AllocError>
-    ensures { IfOk result (λ s. s ≡ end_here_says id.now func effect.now visit tx.now (told_of heard.entry)) }
+    ensures { IfOk result (λ s. s ≡ end_here_says id.now func step effect.now visit tx.now (told_of heard.entry)) }
 {
     match (effect, tx) {
-        (Effect::End { commit }, Some(tx)) => {
-            let goes = end_goes_to(alloc, id, func, tx, *commit, visit.at, heard)?;
+        (Effect::End { commit }, Some(RunTx::Own(tx))) => {
+            let goes = end_goes_to(alloc, id, func, tx, step, *commit, &visit, heard)?;
             Ok(visit_says(*commit, visit, goes))
         }
         _ => {
@@ -246,10 +284,6 @@ fn visit_says(commit: bool, visit: Visit, goes: EndGoes) -> Says
             drop(visit);
             Says::Answers(Answer::Done, None)
         }
-        goes => {
-            let mut visit = visit;
-            drop(visit.go(commit, goes));
-            Says::On(Stage::End(visit), None)
-        }
+        goes => Says::On(Stage::End(went(visit, commit, goes)), None),
     }
 }

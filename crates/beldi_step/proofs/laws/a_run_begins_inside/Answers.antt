@@ -1,0 +1,5 @@
+use Rattle.beldi_step.proofs.Inside.{begins_inside}
+use Rattle.beldi_step.proofs.laws.a_run_begins_inside.Goals as goal
+
+pub returns : goal.returns
+returns c = begins_inside
