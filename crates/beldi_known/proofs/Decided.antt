@@ -1,5 +1,5 @@
 -- The decision of an open transaction is its entry in the plain state, and all items are listed as that leaves them.
-use Rattle.std.proofs.Common.{◌≡◌, ◌∙◌, ◌⊎◌, inl, inr, ℕ, ◌≤◌, ◌&&◌, Bool, true, false, cond, List, [], ◌∷◌, ◌++◌, length, length-append, Option, Some, None, is_some, refl, ap, sym, subst, eq-eqb, eqb-true, arith, if◌then◌else◌}
+use Rattle.std.proofs.Common.{◌≡◌, ◌∙◌, ◌⊎◌, inl, inr, ℕ, ◌≤◌, ◌==◌, ◌&&◌, Bool, true, false, cond, List, [], ◌∷◌, ◌++◌, length, length-append, Option, Some, None, is_some, refl, ap, sym, subst, eq-eqb, eqb-true, arith, if◌then◌else◌}
 use Rattle.std.specs.Prelude.{slice_get}
 use Rattle.std.specs.FinMap as map
 use Rattle.std.specs.Ordering.{is_eq}
@@ -48,8 +48,10 @@ use Rattle.beldi_known.specs.Beside.{IsKept, OpenTx, begins}
 use Rattle.beldi_known.specs.Contents.{head_key, content_of, shadow_key}
 use Rattle.beldi_known.specs.InsideLaws.{AbortsAreTries, CommitsArePieces, FellAt, Goes, HoldersAreMade, IsAbort, IsCommit, IsSound, last_answer}
 use Rattle.beldi_known.specs.InsideLaws as laws
-use Rattle.beldi_known.specs.Known.{Known, at_once, ended_by, moved as goes_on}
+use Rattle.beldi_known.specs.Known.{Known, at_once, decision_by, ended_by, moved as goes_on, owed_read, owed_value, read_at, row_at, value_or}
 use Rattle.beldi_known.specs.Listed.{listed_under, listed}
+use Rattle.beldi_known.specs.Matches.{Matches}
+use Rattle.beldi_known.specs.Rows.{LogMatches}
 use Rattle.beldi_known.specs.Shadows.{AllShow, ShadowShows, Shows, is_writing, writes_on, writing_at}
 use Rattle.beldi_known.proofs.Acts.{by_item, content_apart, content_here, kinds_apart, is_data, is_shadow, turned}
 use Rattle.beldi_known.proofs.Answers.{true_false, take_front, get_next}
@@ -485,3 +487,15 @@ release_lists m x s v owned free value y = by_item x y (λ y. listed n y ≡ lis
   where
     n : Rows
     n = set_row m (head_key x) v
+
+-- .. by how its transaction is known to have ended
+pub decision_row : (d : Deployment) (m : Rows) (known : Known) (locked : IntentId → Bool) → Matches d m known locked → (s : TxId) (k : Instance) (n : ℕ) (c : Bool) → map.get known s.intent ≡ Some k → k.func ≡ s.func → end_of d k s.begin ≡ Some (n, c) → is_committed (map.get m (decision_key s)) ≡ c
+decision_row d m known locked matches s k n c is func ends = by_row (map.get m (decision_key s)) (subst (LogMatches (map.get m (decision_key s))) owed (matches.keys (decision_key s)))
+  where
+    owed : owed_read d known s.func (place_of s.intent s.begin) ≡ Some (value.Bool c)
+    owed = ap (owed_value d s.func s.begin) is ∙ ap (λ b. if b then row_at d k s.begin else None) (ap (λ f. f == s.func) func ∙ eq-eqb s.func s.func refl) ∙ ap (λ o. value_or (decision_by o) (read_at d k s.begin)) ends
+
+    by_row : (r : Option Row) → LogMatches r (Some (value.Bool c)) → is_committed r ≡ c
+    by_row None h = cc
+    by_row (Some (rows.ReadLog v)) h = ap (λ w. is_committed (Some (rows.ReadLog w))) (sym (same_some h))
+    by_row (Some r) h = absurd h

@@ -37,7 +37,6 @@ use Rattle.beldi_step.specs.Run.{place_of}
 use Rattle.beldi_known.specs.InsideLaws.{last_answer}
 use Rattle.beldi_known.specs.Sane.{SaneInstance}
 use Rattle.beldi_known.proofs.Answers.{take_front, get_next}
-use Rattle.beldi_known.proofs.Lines.{no_edge}
 use Rattle.beldi_known.proofs.Phases.{abort_ends, abort_returns}
 
 -- ---- what an instance is later, by what it was before an answer
@@ -145,6 +144,11 @@ module _ (d : Deployment) (t : TxId) (q : Instance) (outside : q.within ≡ None
         grown = y.2;
       }
 
+  pub plainly_edge : (e : Effect) → is_plainly e ≡ true → is_edge e ≡ false
+  plainly_edge effect.Begin g = cc
+  plainly_edge (effect.End c) g = cc
+  plainly_edge e g = refl
+
   -- ---- who lets one die is older: so it is known
   sound_at : (m : Move) (s r l : Going) (ms : List Move) → GoingSane d t q s → moved d t m s ≡ Some r → Leads d t r ms l → ((i : IntentId) (y : Instance) → IsIn t i → map.get l.state.made i ≡ Some y → SaneInstance d i y) → IsSound t m
   sound_at plain s r l ms h step leads sane = tt
@@ -163,7 +167,7 @@ module _ (d : Deployment) (t : TxId) (q : Instance) (outside : q.within ≡ None
 
       by_kind : (z : Instance) → map.get s.state.made s.front ≡ Some z → MoveIs d t (fell (Some u)) s r z → is_older u t.intent ≡ true
       by_kind z made (answers a) =
-          let edge = no_edge (effect_of d z) (answered_plainly s.front s.state.items z (effect_of d z) (fell (Some u)) a.answer a.gives_it) in
+          let edge = plainly_edge (effect_of d z) (answered_plainly s.front s.state.items z (effect_of d z) (fell (Some u)) a.answer a.gives_it) in
           let w = made_later s r l ms h (fell (Some u)) step leads z made a edge in
           let fits = answered_fits d s.front z w.instance a.answer w.grown (sane s.front w.instance w.member w.made) in
           by_dies z (dies_at (Some u) (effect_of d z)) refl a.answer a.gives_it (subst (λ x. IsAnswer (place_of s.front (length z.answers)) x (effect_of d z) a.answer) w.inside fits)
@@ -213,7 +217,7 @@ module _ (d : Deployment) (t : TxId) (q : Instance) (outside : q.within ≡ None
 
       by_kind : (z : Instance) → map.get s.state.made s.front ≡ Some z → MoveIs d t (fell o) s r z → Fallen s r o
       by_kind z made (answers a) =
-          let edge = no_edge (effect_of d z) (answered_plainly s.front s.state.items z (effect_of d z) (fell o) a.answer a.gives_it) in
+          let edge = plainly_edge (effect_of d z) (answered_plainly s.front s.state.items z (effect_of d z) (fell o) a.answer a.gives_it) in
           let c = cause_of s.front z o in
           let y = answered z (answer.Aborted c) in
           let same : a.answer ≡ answer.Aborted c = by_dies z (dies_at o (effect_of d z)) a.answer a.gives_it in
@@ -293,7 +297,7 @@ module _ (d : Deployment) (t : TxId) (q : Instance) (outside : q.within ≡ None
       where
         by_kind : (z : Instance) → map.get s.state.made s.front ≡ Some z → MoveIs d t plain s r z → MadeOn on x l
         by_kind z made (answers a) =
-            let edge = no_edge (effect_of d z) (answered_plainly s.front s.state.items z (effect_of d z) plain a.answer a.gives_it) in
+            let edge = plainly_edge (effect_of d z) (answered_plainly s.front s.state.items z (effect_of d z) plain a.answer a.gives_it) in
             record { id = s.front; before = z; given = a.answer; step = made_later s r l ms h plain step leads z made a edge; items = s.state.items; plainly = a.gives_it; item = is z made }
         by_kind z made (calls c) = let clash = sym (is z made) ∙ ap (on z) c.call ∙ no_call z c.func c.args in cc
         by_kind z made (returns e) = let clash = sym (is z made) ∙ ap (on z) e.returns ∙ no_return z e.outcome in cc

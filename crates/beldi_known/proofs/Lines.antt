@@ -112,7 +112,7 @@ pub record Member (d : Deployment) (t : TxId) (q : Instance) (front i : IntentId
 abbrev pub Members : Deployment → TxId → Instance → Going → Type 0
 Members d t q s = (i : IntentId) (z : Instance) → IsIn t i → map.get s.state.made i ≡ Some z → Member d t q s.front i z
 
-pub no_edge : (e : Effect) → is_plainly e ≡ true → is_edge e ≡ false
+no_edge : (e : Effect) → is_plainly e ≡ true → is_edge e ≡ false
 no_edge effect.Begin h = cc
 no_edge (effect.End c) h = cc
 no_edge e h = refl

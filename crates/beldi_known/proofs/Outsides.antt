@@ -49,17 +49,15 @@ use Rattle.beldi_known.specs.Known.{Known, Got, at_once, ended_by, got_before, g
 use Rattle.beldi_known.specs.Matches.{Matches}
 use Rattle.beldi_known.specs.Sane.{Sane}
 use Rattle.beldi_known.specs.Shadows.{AllGot, AllShow, ShadowShows, Shadows, Shows, is_writing, writing_at}
-use Rattle.beldi_known.proofs.Ahead.{none_out}
 use Rattle.beldi_known.proofs.Answers.{true_false}
 use Rattle.beldi_known.proofs.Begins.{aborts_inside}
-use Rattle.beldi_known.proofs.Frame.{at_once_same}
+use Rattle.beldi_known.proofs.Frame.{at_once_same, moved_one}
 use Rattle.beldi_known.proofs.FrameAt.{known_set}
 use Rattle.beldi_known.proofs.Lines.{CallerOf, below_child, caller_in, own_tx, parent_in}
 use Rattle.beldi_known.proofs.Locks.{tx_same}
 use Rattle.beldi_known.proofs.NoTx.{IsOutside, begins_parts, no_begin}
 use Rattle.beldi_known.proofs.Owns.{going, got_owned, owner_known, touched_owned}
 use Rattle.beldi_known.proofs.Phases.{end_is, inside_is}
-use Rattle.beldi_known.proofs.Shadows.{got_answered, got_still}
 use Rattle.beldi_known.proofs.ReadLists.{both, gathered, got_since}
 
 abbrev pub value_of : Items → Item → Value
@@ -90,7 +88,7 @@ at_once_stays d id q out apart = ap (once d id) same ∙ same
     same = by_outcome q.outcome refl
 
 -- who was called in a transaction gets for that one
-member_tx : (d : Deployment) (s : TxId) (x : Item) (j : IntentId) (z : Instance) (u : TxId) → z.within ≡ Some u → (b : Bool) → got_by d s x j b (Some z) ≡ true → s ≡ u
+pub member_tx : (d : Deployment) (s : TxId) (x : Item) (j : IntentId) (z : Instance) (u : TxId) → z.within ≡ Some u → (b : Bool) → got_by d s x j b (Some z) ≡ true → s ≡ u
 member_tx d s x j z u within b got = by_before (got_before d s x j z) refl got
   where
     on_so : (ts : List Answer) → is_on s x z.func (tx_after d j z ts) (effect_after d z ts) ≡ true → s ≡ u
@@ -517,11 +515,10 @@ set_after_callee d m n p known id s set rows c z y lt = set_after d m n p known 
 
 -- ---- what transactions got stays
 module _ (d : Deployment) (m : Rows) (known : Known) (locked : IntentId → Bool) (h : AllGot d m known locked) (n : Rows) (rows : (t : TxId) (x : Item) → map.get n (shadow_key t x) ≡ map.get m (shadow_key t x)) (id : IntentId) where
-  there_before : (t : TxId) (x : Item) → is_some (map.get n (shadow_key t x)) ≡ true → is_some (map.get m (shadow_key t x)) ≡ true
-  there_before t x there = sym (ap is_some (rows t x)) ∙ there
-
   got_set : (s : Instance) → ((t : TxId) (x : Item) → got_by d t x id (locked id) (map.get known id) ≡ true → got_by d t x id (locked id) (Some s) ≡ true) → AllGot d n (map.insert known id s) locked
-  got_set s stays = got_still d m n known (map.insert known id s) locked locked h there_before (λ t x. known_set known id s (λ j o. got_by d t x j (locked j) (map.get known j) ≡ true → got_by d t x j (locked j) o ≡ true) (stays t x) (λ j other e. e))
+  got_set s stays t x there =
+      let g = h t x (sym (ap is_some (rows t x)) ∙ there) in
+      record { member = g.member; got = known_set known id s (λ j o. got_by d t x j (locked j) (map.get known j) ≡ true → got_by d t x j (locked j) o ≡ true) (stays t x) (λ j other e. e) g.member g.got }
 
   pub got_new : map.get known id ≡ None → (s : Instance) → AllGot d n (map.insert known id s) locked
   got_new new s = got_set s (λ t x e. let clash = sym (ap (got_by d t x id (locked id)) new) ∙ e in cc)
@@ -531,4 +528,11 @@ module _ (d : Deployment) (m : Rows) (known : Known) (locked : IntentId → Bool
     got_ended o = got_set (ended k o) (λ t x e. sym (ap (got_by d t x id (locked id)) is) ∙ e)
 
     pub got_next : locked id ≡ false → (a : Answer) → AllGot d n (map.insert known id (moved d id k a)) locked
-    got_next unlocked a = got_answered d n known locked (got_still d m n known known locked locked h there_before (λ t x j e. e)) locked id k a (none_out locked id unlocked) is (λ l. absurd (true_false (sym l ∙ unlocked)))
+    got_next unlocked a = got_set (moved d id k a) (λ t x e.
+        ap (λ b. b || (locked id && is_on t x (moved d id k a).func (tx_after d id (moved d id k a) (moved d id k a).answers) (effect_of d (moved d id k a)))) ((moved_one d id k a).got t x)
+        ∙ still (got_before d t x id k) (is_on t x k.func (tx_after d id k k.answers) (effect_of d k) && not (is_aborted a)) (locked id) (is_on t x k.func (tx_after d id k k.answers) (effect_of d k)) _ unlocked (sym (ap (got_by d t x id (locked id)) is) ∙ e))
+      where
+        still : (had now l on next : Bool) → l ≡ false → (had || (l && on)) ≡ true → ((had || now) || (l && next)) ≡ true
+        still true now l on next off e = refl
+        still false now true on next off e = cc
+        still false now false on next off e = cc

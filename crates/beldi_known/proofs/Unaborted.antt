@@ -1,6 +1,6 @@
 -- Who was called in a transaction returns an abort only where it was told one; so where all moves were plain steps, nobody was.
 use Rattle.std.proofs.Common.{◌≡◌, ◌⊎◌, inl, inr, ℕ, zero, suc, ◌+◌, Bool, true, false, List, [], ◌∷◌, ◌++◌, length, Option, Some, None, is_some, Result, Ok, Err, refl, ap, sym, ◌∙◌, subst, arith, if◌then◌else◌}
-use Rattle.std.specs.Prelude.{nat_lt}
+use Rattle.std.specs.Prelude.{nat_lt, slice_get}
 use Rattle.std.specs.FinMap as map
 use Rattle.std.specs.Ordering.{is_eq}
 use Rattle.std.proofs.lemmas.Cmp.{tied_itself}
@@ -42,6 +42,12 @@ use Rattle.beldi_known.proofs.Lines.{set_cases}
 use Rattle.beldi_known.proofs.Outsides.{plain_none_after}
 use Rattle.beldi_known.proofs.Owns.{plain_lives}
 
+-- its releases return what it was left by
+released_by : (o : Outcome) (hs : List HeldLock) (rest : List Answer) (u : Outcome) → releases o hs rest ≡ effect.Return u → o ≡ u
+released_by o [] rest u h = cc
+released_by o (l ∷ ls) [] u h = cc
+released_by o (l ∷ ls) (a ∷ rest) u h = released_by o ls rest u h
+
 -- ---- of bodies
 abbrev pub Unaborted : List Answer → Type 0
 Unaborted [] = Unit {0}
@@ -51,119 +57,135 @@ abbrev is_return : Effect → Bool
 is_return (effect.Return o) = true
 is_return e = false
 
-abbrev is_abort : Outcome → Bool
-is_abort (outcome.Aborted c) = true
-is_abort o = false
+-- what is said of each cause that was told
+abbrev pub Caused : (Cause → Type 0) → List Answer → Type 0
+Caused P [] = Unit {0}
+Caused P (a ∷ rest) = ((c : Cause) → a ≡ answer.Aborted c → P c) × Caused P rest
 
--- what is left is no abort, and so is what remains of the answers
-abbrev Left : Leads → Type 0
-Left (asks i e) = is_return e ≡ false
-Left (goes s rest) = Unaborted rest
-Left (breaks s rest) = Unaborted rest
-Left (ends o s rest) = (is_abort o ≡ false) × Unaborted rest
+abbrev CausedBy : (Cause → Type 0) → Outcome → Type 0
+CausedBy P o = (c : Cause) → o ≡ outcome.Aborted c → P c
 
-abbrev LeftBy : Does → Type 0
-LeftBy f = (s : Local) (rest : List Answer) → Unaborted rest → Left (f s rest)
+-- two outcomes that were aborted alike
+same_cause : (c k : Cause) → outcome.Aborted c ≡ outcome.Aborted k → c ≡ k
+same_cause c k e = cc
 
-abbrev LeftResult : Result Does Code → Type 0
-LeftResult (Ok f) = LeftBy f
-LeftResult (Err c) = Unit {0}
+module _ (P : Cause → Type 0) where
+  -- is so of what is left, and of what remains of the answers
+  abbrev Left : Leads → Type 0
+  Left (asks i e) = is_return e ≡ false
+  Left (goes s rest) = Caused P rest
+  Left (breaks s rest) = Caused P rest
+  Left (ends o s rest) = CausedBy P o × Caused P rest
 
-if_left : (b : Bool) (l k : Leads) → Left l → Left k → Left (if b then l else k)
-if_left true l k f g = f
-if_left false l k f g = g
+  abbrev LeftBy : Does → Type 0
+  LeftBy f = (s : Local) (rest : List Answer) → Caused P rest → Left (f s rest)
 
-counted_left : (f : Does) → LeftBy f → LeftBy (counted f)
-counted_left f h s rest un = if_left (nat_lt s.used most_effects) (f (record s { used = s.used + 1 }) rest) (fault code.Steps s rest) (h (record s { used = s.used + 1 }) rest un) (refl, un)
+  abbrev LeftResult : Result Does Code → Type 0
+  LeftResult (Ok f) = LeftBy f
+  LeftResult (Err c) = Unit {0}
 
-answered_left : (n : Option (List ℕ)) (a : Answer) → is_aborted a ≡ false → LeftBy (answer_to n a)
-answered_left n answer.Done lives s rest un = un
-answered_left n (answer.Value v) lives s rest un = un
-answered_left n (answer.Fault c) lives s rest un = (refl, un)
-answered_left n (answer.Aborted c) lives s rest un = cc
+  if_left : (b : Bool) (l k : Leads) → Left l → Left k → Left (if b then l else k)
+  if_left true l k f g = f
+  if_left false l k f g = g
 
-takes_left : (e : Effect) (n : Option (List ℕ)) (h : Local → Local) → is_return e ≡ false → LeftBy (counted (takes true e (λ a s. answer_to n a (h s))))
-takes_left e n h other = counted_left (takes true e (λ a s. answer_to n a (h s))) by_answers
-  where
-    by_answers : LeftBy (takes true e (λ a s. answer_to n a (h s)))
-    by_answers s [] un = other
-    by_answers s (a ∷ rest) un = answered_left n a un.0 (h s) rest un.1
+  counted_left : (f : Does) → LeftBy f → LeftBy (counted f)
+  counted_left f h s rest un = if_left (nat_lt s.used most_effects) (f (record s { used = s.used + 1 }) rest) (fault code.Steps s rest) (h (record s { used = s.used + 1 }) rest un) ((λ k e. cc), un)
 
-then_left : {A : Type 0} (r : Result A Code) (f : A → Result Does Code) → ((x : A) → LeftResult (f x)) → LeftResult (and_then r f)
-then_left (Ok x) f h = h x
-then_left (Err c) f h = tt
+  answered_left : (n : Option (List ℕ)) (a : Answer) → ((c : Cause) → a ≡ answer.Aborted c → P c) → LeftBy (answer_to n a)
+  answered_left n answer.Done lives s rest un = un
+  answered_left n (answer.Value v) lives s rest un = un
+  answered_left n (answer.Fault c) lives s rest un = ((λ k e. cc), un)
+  answered_left n (answer.Aborted c) lives s rest un = ((λ k e. lives k (ap (λ z. answer.Aborted z) (same_cause c k e))), un)
 
-or_fault_left : (r : Result Does Code) → LeftResult r → LeftBy (or_fault r)
-or_fault_left (Ok f) h s rest un = h s rest un
-or_fault_left (Err c) h s rest un = (refl, un)
+  takes_left : (e : Effect) (n : Option (List ℕ)) (h : Local → Local) → is_return e ≡ false → LeftBy (counted (takes true e (λ a s. answer_to n a (h s))))
+  takes_left e n h other = counted_left (takes true e (λ a s. answer_to n a (h s))) by_answers
+    where
+      by_answers : LeftBy (takes true e (λ a s. answer_to n a (h s)))
+      by_answers s [] un = other
+      by_answers s (a ∷ rest) un = answered_left n a un.0 (h s) rest un.1
 
-followed_left : (f : Does) → LeftBy f → (l : Leads) → Left l → Left (followed f l)
-followed_left f h (asks i e) g = g
-followed_left f h (goes s rest) g = h s rest g
-followed_left f h (breaks s rest) g = g
-followed_left f h (ends o s rest) g = g
+  then_left : {A : Type 0} (r : Result A Code) (f : A → Result Does Code) → ((x : A) → LeftResult (f x)) → LeftResult (and_then r f)
+  then_left (Ok x) f h = h x
+  then_left (Err c) f h = tt
 
-looped_left : (f : Does) → LeftBy f → (l : Leads) → Left l → Left (looped f l)
-looped_left f h (asks i e) g = g
-looped_left f h (goes s rest) g = h s rest g
-looped_left f h (breaks s rest) g = g
-looped_left f h (ends o s rest) g = g
+  or_fault_left : (r : Result Does Code) → LeftResult r → LeftBy (or_fault r)
+  or_fault_left (Ok f) h s rest un = h s rest un
+  or_fault_left (Err c) h s rest un = ((λ k e. cc), un)
 
-turns_left : (f : Does) → LeftBy f → (n : ℕ) → LeftBy (turns f n)
-turns_left f h zero s rest un = un
-turns_left f h (suc n) s rest un = counted_left (λ s rest. looped (turns f n) (f s rest)) (λ s rest un. looped_left (turns f n) (turns_left f h n) (f s rest) (h s rest un)) s rest un
+  followed_left : (f : Does) → LeftBy f → (l : Leads) → Left l → Left (followed f l)
+  followed_left f h (asks i e) g = g
+  followed_left f h (goes s rest) g = h s rest g
+  followed_left f h (breaks s rest) g = g
+  followed_left f h (ends o s rest) g = g
 
-module _ (d : Deployment) (ts : List TableHead) where
-  mutual
-    lefts : (c : Command) (vs : Bindings) → LeftResult (does d ts true c vs)
-    lefts (set l n e) vs = then_left (term_value vs e) (λ v. Ok (λ s. goes (set_to n v s))) (λ v s rest un. un)
-    lefts (read l n t k) vs = then_left (key_value vs k) (λ key. Ok (effect_to true (Some n) (effect.Read (table_number ts t) key))) (λ key. takes_left (effect.Read (table_number ts t) key) (Some n) (λ s. s) refl)
-    lefts (write l t k e) vs =
-        then_left (key_value vs k) (λ key. and_then (term_value vs e) (λ v. Ok (effect_to true None (effect.Write (table_number ts t) key v)))) (λ key.
-        then_left (term_value vs e) (λ v. Ok (effect_to true None (effect.Write (table_number ts t) key v))) (λ v. takes_left (effect.Write (table_number ts t) key v) None (λ s. s) refl))
-    lefts (condwrite l n t k r o e) vs =
-        then_left (key_value vs k) (λ key. and_then (term_value vs o) (λ w. and_then (term_value vs e) (λ v. Ok (effect_to true (Some n) (effect.CondWrite (table_number ts t) key r w v))))) (λ key.
-        then_left (term_value vs o) (λ w. and_then (term_value vs e) (λ v. Ok (effect_to true (Some n) (effect.CondWrite (table_number ts t) key r w v)))) (λ w.
-        then_left (term_value vs e) (λ v. Ok (effect_to true (Some n) (effect.CondWrite (table_number ts t) key r w v))) (λ v. takes_left (effect.CondWrite (table_number ts t) key r w v) (Some n) (λ s. s) refl)))
-    lefts (call l n f e) vs = then_left (term_value vs e) (λ v. Ok (effect_to true (Some n) (effect.Call (func_number d.funcs f) v))) (λ v. takes_left (effect.Call (func_number d.funcs f) v) (Some n) (λ s. s) refl)
-    lefts (async l f e) vs = then_left (term_value vs e) (λ v. Ok (effect_to true None (effect.Async (func_number d.funcs f) v))) (λ v. takes_left (effect.Async (func_number d.funcs f) v) None (λ s. s) refl)
-    lefts (lock l t k) vs = then_left (key_value vs k) (λ key. Ok (locks true (table_number ts t) key)) (λ key s rest un.
-        let h : Local → Local = λ s. record s { held = s.held ++ record { table = table_number ts t; key = key } ∷ [] } in
-        if_left (is_held (table_number ts t) key s.held) (goes s rest) (counted (takes true (effect.Lock (table_number ts t) key) (λ a s. answer_to None a (h s))) s rest) un (takes_left (effect.Lock (table_number ts t) key) None h refl s rest un))
-    lefts (unlock l t k) vs = then_left (key_value vs k) (λ key. Ok (unlocks true (table_number ts t) key)) (λ key s rest un.
-        let h : Local → Local = λ s. record s { held = without (table_number ts t) key s.held } in
-        if_left (is_held (table_number ts t) key s.held) (counted (takes true (effect.Unlock (table_number ts t) key) (λ a s. answer_to None a (h s))) s rest) (goes s rest) (takes_left (effect.Unlock (table_number ts t) key) None h refl s rest un) un)
-    lefts (transaction l b c) vs = lefts_in b
-    lefts (abort l) vs = takes_left effect.Abort None (λ s. s) refl
-    lefts (break l) vs = λ s rest un. un
-    lefts (choose l e b c) vs = then_left (term_value vs e) (λ v. and_then (truth v) (λ test. Ok (if test then run_block d ts true b else run_block d ts true c))) (λ v.
-        then_left (truth v) (λ test. Ok (if test then run_block d ts true b else run_block d ts true c)) (λ test. elim test as (λ t. LeftBy (if t then run_block d ts true b else run_block d ts true c)) [ true ↦ lefts_in b | false ↦ lefts_in c ]))
-    lefts (repeat l n b) vs = turns_left (run_block d ts true b) (lefts_in b) n
-    lefts (return l e) vs = then_left (term_value vs e) (λ v. Ok (ends (outcome.Value v))) (λ v s rest un. (refl, un))
+  looped_left : (f : Does) → LeftBy f → (l : Leads) → Left l → Left (looped f l)
+  looped_left f h (asks i e) g = g
+  looped_left f h (goes s rest) g = h s rest g
+  looped_left f h (breaks s rest) g = g
+  looped_left f h (ends o s rest) g = g
 
-    lefts_in : (b : Commands) → LeftBy (run_block d ts true b)
-    lefts_in no_commands s rest un = un
-    lefts_in (command c cs) s rest un = followed_left (run_block d ts true cs) (lefts_in cs) (or_fault (does d ts true c s.variables) s rest) (or_fault_left (does d ts true c s.variables) (lefts c s.variables) s rest un)
+  turns_left : (f : Does) → LeftBy f → (n : ℕ) → LeftBy (turns f n)
+  turns_left f h zero s rest un = un
+  turns_left f h (suc n) s rest un = counted_left (λ s rest. looped (turns f n) (f s rest)) (λ s rest un. looped_left (turns f n) (turns_left f h n) (f s rest) (h s rest un)) s rest un
 
--- its releases return what it was left by
-released_by : (o : Outcome) (hs : List HeldLock) (rest : List Answer) (u : Outcome) → releases o hs rest ≡ effect.Return u → o ≡ u
-released_by o [] rest u h = cc
-released_by o (l ∷ ls) [] u h = cc
-released_by o (l ∷ ls) (a ∷ rest) u h = released_by o ls rest u h
+  module _ (d : Deployment) (ts : List TableHead) where
+    mutual
+      lefts : (c : Command) (vs : Bindings) → LeftResult (does d ts true c vs)
+      lefts (set l n e) vs = then_left (term_value vs e) (λ v. Ok (λ s. goes (set_to n v s))) (λ v s rest un. un)
+      lefts (read l n t k) vs = then_left (key_value vs k) (λ key. Ok (effect_to true (Some n) (effect.Read (table_number ts t) key))) (λ key. takes_left (effect.Read (table_number ts t) key) (Some n) (λ s. s) refl)
+      lefts (write l t k e) vs =
+          then_left (key_value vs k) (λ key. and_then (term_value vs e) (λ v. Ok (effect_to true None (effect.Write (table_number ts t) key v)))) (λ key.
+          then_left (term_value vs e) (λ v. Ok (effect_to true None (effect.Write (table_number ts t) key v))) (λ v. takes_left (effect.Write (table_number ts t) key v) None (λ s. s) refl))
+      lefts (condwrite l n t k r o e) vs =
+          then_left (key_value vs k) (λ key. and_then (term_value vs o) (λ w. and_then (term_value vs e) (λ v. Ok (effect_to true (Some n) (effect.CondWrite (table_number ts t) key r w v))))) (λ key.
+          then_left (term_value vs o) (λ w. and_then (term_value vs e) (λ v. Ok (effect_to true (Some n) (effect.CondWrite (table_number ts t) key r w v)))) (λ w.
+          then_left (term_value vs e) (λ v. Ok (effect_to true (Some n) (effect.CondWrite (table_number ts t) key r w v))) (λ v. takes_left (effect.CondWrite (table_number ts t) key r w v) (Some n) (λ s. s) refl)))
+      lefts (call l n f e) vs = then_left (term_value vs e) (λ v. Ok (effect_to true (Some n) (effect.Call (func_number d.funcs f) v))) (λ v. takes_left (effect.Call (func_number d.funcs f) v) (Some n) (λ s. s) refl)
+      lefts (async l f e) vs = then_left (term_value vs e) (λ v. Ok (effect_to true None (effect.Async (func_number d.funcs f) v))) (λ v. takes_left (effect.Async (func_number d.funcs f) v) None (λ s. s) refl)
+      lefts (lock l t k) vs = then_left (key_value vs k) (λ key. Ok (locks true (table_number ts t) key)) (λ key s rest un.
+          let h : Local → Local = λ s. record s { held = s.held ++ record { table = table_number ts t; key = key } ∷ [] } in
+          if_left (is_held (table_number ts t) key s.held) (goes s rest) (counted (takes true (effect.Lock (table_number ts t) key) (λ a s. answer_to None a (h s))) s rest) un (takes_left (effect.Lock (table_number ts t) key) None h refl s rest un))
+      lefts (unlock l t k) vs = then_left (key_value vs k) (λ key. Ok (unlocks true (table_number ts t) key)) (λ key s rest un.
+          let h : Local → Local = λ s. record s { held = without (table_number ts t) key s.held } in
+          if_left (is_held (table_number ts t) key s.held) (counted (takes true (effect.Unlock (table_number ts t) key) (λ a s. answer_to None a (h s))) s rest) (goes s rest) (takes_left (effect.Unlock (table_number ts t) key) None h refl s rest un) un)
+      lefts (transaction l b c) vs = lefts_in b
+      lefts (abort l) vs = takes_left effect.Abort None (λ s. s) refl
+      lefts (break l) vs = λ s rest un. un
+      lefts (choose l e b c) vs = then_left (term_value vs e) (λ v. and_then (truth v) (λ test. Ok (if test then run_block d ts true b else run_block d ts true c))) (λ v.
+          then_left (truth v) (λ test. Ok (if test then run_block d ts true b else run_block d ts true c)) (λ test. elim test as (λ t. LeftBy (if t then run_block d ts true b else run_block d ts true c)) [ true ↦ lefts_in b | false ↦ lefts_in c ]))
+      lefts (repeat l n b) vs = turns_left (run_block d ts true b) (lefts_in b) n
+      lefts (return l e) vs = then_left (term_value vs e) (λ v. Ok (ends (outcome.Value v))) (λ v s rest un. ((λ k e. cc), un))
 
-no_abort : (o : Outcome) (c : Cause) → is_abort o ≡ false → o ≡ outcome.Aborted c → ⊥
-no_abort o c h is = let clash = sym h ∙ ap is_abort is in cc
+      lefts_in : (b : Commands) → LeftBy (run_block d ts true b)
+      lefts_in no_commands s rest un = un
+      lefts_in (command c cs) s rest un = followed_left (run_block d ts true cs) (lefts_in cs) (or_fault (does d ts true c s.variables) s rest) (or_fault_left (does d ts true c s.variables) (lefts c s.variables) s rest un)
 
-returns_none : (l : Leads) → Left l → (c : Cause) → effect_of l ≡ effect.Return (outcome.Aborted c) → ⊥
-returns_none (asks i e) h c is = let clash = sym h ∙ ap is_return is in cc
-returns_none (goes s rest) h c is = no_abort (outcome.Value Null) c refl (released_by (outcome.Value Null) s.held rest (outcome.Aborted c) is)
-returns_none (breaks s rest) h c is = no_abort (outcome.Value Null) c refl (released_by (outcome.Value Null) s.held rest (outcome.Aborted c) is)
-returns_none (ends o s rest) h c is = no_abort o c h.0 (released_by o s.held rest (outcome.Aborted c) is)
+  returns_caused : (l : Leads) → Left l → (c : Cause) → effect_of l ≡ effect.Return (outcome.Aborted c) → P c
+  returns_caused (asks i e) h c is = let clash = sym h ∙ ap is_return is in cc
+  returns_caused (goes s rest) h c is = let clash = released_by (outcome.Value Null) s.held rest (outcome.Aborted c) is in cc
+  returns_caused (breaks s rest) h c is = let clash = released_by (outcome.Value Null) s.held rest (outcome.Aborted c) is in cc
+  returns_caused (ends o s rest) h c is = h.0 c (released_by o s.held rest (outcome.Aborted c) is)
+
+  caused_by : (xs : List Answer) → ((n : ℕ) (c : Cause) → slice_get xs n ≡ Some (answer.Aborted c) → P c) → Caused P xs
+  caused_by [] h = tt
+  caused_by (a ∷ xs) h = ((λ c e. h zero c (ap Some e)), caused_by xs (λ n c e. h (suc n) c e))
+
+  caused_returned : (d : Deployment) (z : Instance) (t : TxId) (c : Cause) → z.within ≡ Some t → Caused P z.answers → plainly.effect_of d z ≡ effect.Return (outcome.Aborted c) → P c
+  caused_returned d z t c within un is =
+      let o = func_at d z.func in
+      returns_caused (body d o z.args true z.answers) (lefts_in d (tables_of o) (body_of o) (first_local o z.args) z.answers un) c (ap (λ b. effect_of (body d o z.args b z.answers)) (ap is_some (sym within)) ∙ is)
+
+  -- who was called in a transaction returns an abort by a cause that it was told
+  pub returned_cause : (d : Deployment) (z : Instance) (t : TxId) → z.within ≡ Some t → ((n : ℕ) (c : Cause) → slice_get z.answers n ≡ Some (answer.Aborted c) → P c) → (c : Cause) → plainly.effect_of d z ≡ effect.Return (outcome.Aborted c) → P c
+  returned_cause d z t within told c is = caused_returned d z t c within (caused_by z.answers told) is
+
+-- so none where none was told
+uncaused : (xs : List Answer) → Unaborted xs → Caused (λ c. ⊥) xs
+uncaused [] h = tt
+uncaused (a ∷ xs) h = ((λ c e. let clash = sym h.0 ∙ ap is_aborted e in cc), uncaused xs h.1)
 
 pub no_abort_returned : (d : Deployment) (z : Instance) (t : TxId) (c : Cause) → z.within ≡ Some t → Unaborted z.answers → plainly.effect_of d z ≡ effect.Return (outcome.Aborted c) → ⊥
-no_abort_returned d z t c within un is =
-    let o = func_at d z.func in
-    returns_none (body d o z.args true z.answers) (lefts_in d (tables_of o) (body_of o) (first_local o z.args) z.answers un) c (ap (λ b. effect_of (body d o z.args b z.answers)) (ap is_some (sym within)) ∙ is)
+no_abort_returned d z t c within un is = caused_returned (λ c. ⊥) d z t c within (uncaused z.answers un) is
 
 -- ---- of moves
 unaborted_more : (xs : List Answer) (a : Answer) → Unaborted xs → is_aborted a ≡ false → Unaborted (xs ++ a ∷ [])
