@@ -1,5 +1,8 @@
 -- Who lets an operation inside die: it owns the item, was made, and is older than the transaction.
-use Rattle.std.proofs.Common.{◌≡◌, ◌∙◌, inl, inr, ℕ, ◌&&◌, ◌||◌, not, Bool, true, false, List, [], ◌∷◌, ◌++◌, length, Option, None, Some, is_some, refl, ap, sym, subst, append_assoc, append-nil, eq-eqb, if◌then◌else◌}
+use Rattle.std.proofs.Common.{◌≡◌, ◌∙◌, inl, inr, ℕ, ◌&&◌, ◌||◌, not, Bool, true, false, List, [], ◌∷◌, ◌++◌, length, length-append, Option, None, Some, is_some, refl, ap, sym, subst, append_assoc, append-nil, eq-eqb, arith, take, drop, take-append-drop, zero, suc, ◌+◌, ◌<◌, ◌≤◌, if◌then◌else◌}
+use Rattle.std.specs.Prelude.{nat_lt}
+use Rattle.std.proofs.lemmas.List.{length-take-le}
+use borrow.Author.Tests.{ltb-true, ltb-false}
 use Rattle.std.specs.FinMap as map
 use Rattle.beldi_value.specs.Id.{age_of, is_older}
 use Rattle.beldi_value.specs.declared.id.IntentId.{IntentId}
@@ -23,22 +26,27 @@ use Rattle.beldi_plain.specs.Item.{Item}
 use Rattle.beldi_plain.specs.Operation.{touched}
 use Rattle.beldi_plain.specs.Piece.{is_aborted}
 use Rattle.beldi_plain.specs.Plain.{Instance, PlainState, effect_of}
+use Rattle.beldi_order.specs.Inside.{IsBelow}
 use Rattle.beldi_order.specs.Txs.{Txs, effect_after, end_of, is_at, or_own, tx_after, tx_by, tx_now, txs_after, txs_by}
 use Rattle.beldi_order.proofs.Maps.{same_some}
 use Rattle.beldi_order.proofs.Went.{txs_pushed}
 use Rattle.beldi_known.specs.Acts.{Told, died, held, lock_on, lock_or, noted_or, with_note}
-use Rattle.beldi_known.specs.Beside.{is_begin}
+use Rattle.beldi_known.specs.Beside.{Beside, is_begin}
 use Rattle.beldi_known.specs.Contents.{content_of, is_owner}
-use Rattle.beldi_known.specs.Known.{Known, ended_by, got_before, got_by, is_item, is_on, is_tx}
+use Rattle.beldi_known.specs.Known.{Known, ended_by, got_before, got_by, is_item, is_on, is_tx, tx_end}
 use Rattle.beldi_known.specs.Matches.{Matches}
-use Rattle.beldi_order.proofs.Ends.{ended_stays}
+use Rattle.beldi_known.specs.Sane.{Sane}
+use Rattle.beldi_order.proofs.Ends.{ended_stays, fits}
 use Rattle.beldi_known.proofs.Locks.{tx_same}
-use Rattle.beldi_known.proofs.OneFunction.{Own, own, own_by}
+use Rattle.beldi_known.proofs.Lines.{CallerOf, caller_in}
+use Rattle.beldi_known.proofs.OneFunction.{own, own_by}
+use Rattle.beldi_known.proofs.Outsides.{called_below, member_tx}
 use Rattle.beldi_known.proofs.Owners.{her_own}
+use Rattle.beldi_known.proofs.Participants.{IsOpenOwner, open_owner}
 use Rattle.beldi_known.proofs.Phases.{begin_is}
-use Rattle.beldi_known.proofs.ReadLists.{both, gathered, got_since}
-use Rattle.beldi_laws.specs.Inside.{Released}
-use Rattle.beldi_laws.proofs.Released.{ended_at}
+use Rattle.beldi_known.proofs.ReadLists.{both, gathered}
+use Rattle.beldi_laws.specs.Inside.{OwnersCallNobody, Released}
+use Rattle.beldi_laws.proofs.Ended.{EndedAt, ended_at}
 
 -- ---- what a death tells
 -- it owns the item, and has this age
@@ -96,82 +104,158 @@ open_on d q given (a ∷ rest) b all open_still begun =
         let clash = sym open_still ∙ ended in cc
     by_effect e is = begun
 
--- ---- the owners of items
-module _ (d : Deployment) (m : Rows) (known : Known) (locked : IntentId → Bool) (rows : Matches d m known locked) (outside : (j : IntentId) (z : Instance) → map.get known j ≡ Some z → z.within ≡ None) where
-  -- an owner that is a transaction got the item, in its own instance
-  pub record Owns (t : TxId) (x : Item) : Type 0 where
-    pub instance : Instance
-    pub made : map.get known t.intent ≡ Some instance
-    pub got : got_by d t x t.intent (locked t.intent) (Some instance) ≡ true
+-- .. and was before, from its step on
+was_open : (d : Deployment) (q : Instance) (given rest : List Answer) (b : ℕ) → given ++ rest ≡ q.answers → b < length given → (txs_after d q q.answers).begun ≡ Some b → (txs_after d q given).begun ≡ Some b
+was_open d q given [] b all less begun = subst (λ ts. (txs_after d q ts).begun ≡ Some b) (sym all ∙ append-nil given) begun
+was_open d q given (a ∷ rest) b all less begun =
+    by_effect (effect_after d q given) (sym (ap (λ (s : Txs). s.begun) (txs_pushed d q given a)) ∙ was_open d q (given ++ a ∷ []) rest b (append_assoc given (a ∷ []) rest ∙ all) (let l = length-append given (a ∷ []) in omega (arith, l, less)) begun)
+  where
+    by_effect : (e : Effect) → (txs_by (length given) e (txs_after d q given)).begun ≡ Some b → (txs_after d q given).begun ≡ Some b
+    by_effect effect.Begin h = let k : length given ≡ b = same_some h in absurd (omega (arith, k, less))
+    by_effect (effect.End c) h = cc
+    by_effect e h = h
 
-  pub owns_so : (t : TxId) (x : Item) → (content_of m x).owner ≡ Some (Tx t) → Owns t x
+-- ---- the owners of items
+module _ (d : Deployment) (m : Rows) (known : Known) (locked : IntentId → Bool) (rows : Matches d m known locked) (sane : Sane d known) where
+  -- a transaction was open, in its owner: after these answers
+  pub record WasOpen (t : TxId) : Type 0 where
+    pub owner : Instance
+    pub made : map.get known t.intent ≡ Some owner
+    pub outside : owner.within ≡ None
+    pub func_is : t.func ≡ owner.func
+    pub given : List Answer
+    pub later : List Answer
+    pub all : given ++ later ≡ owner.answers
+    pub begun : (txs_after d owner given).begun ≡ Some t.begin
+
+  -- at a step of its owner, which is no Begin
+  module _ (j : IntentId) (z : Instance) (is : map.get known j ≡ Some z) (out : z.within ≡ None) (t : TxId) where
+    open_there : (given later : List Answer) → given ++ later ≡ z.answers → is_begin (effect_after d z given) ≡ false → tx_after d j z given ≡ Some t → WasOpen t
+    open_there given later all apart inside =
+        let k = own_by j z.func (length given) (effect_after d z given) (txs_after d z given).begun t apart (sym (ap (λ w. or_own w (tx_by j z.func (length given) (effect_after d z given) (txs_after d z given).begun)) out) ∙ inside) in
+        record { owner = z; made = ap (map.get known) k.intent ∙ is; outside = out; func_is = k.func_is; given = given; later = later; all = all; begun = k.begun }
+
+    -- .. as where it got an item
+    operated : (x : Item) (given later : List Answer) → given ++ later ≡ z.answers → is_on t x z.func (tx_after d j z given) (effect_after d z given) ≡ true → WasOpen t
+    operated x given later all on = by_tx (tx_after d j z given) refl (both (is_tx t (tx_after d j z given)) (is_item x z.func (touched (effect_after d z given))) on)
+      where
+        no_begin : (e : Effect) → is_item x z.func (touched e) ≡ true → is_begin e ≡ false
+        no_begin effect.Begin g = cc
+        no_begin e g = refl
+
+        by_tx : (o : Option TxId) → tx_after d j z given ≡ o → (is_tx t o ≡ true) × (is_item x z.func (touched (effect_after d z given)) ≡ true) → WasOpen t
+        by_tx None e g = let clash = g.0 in cc
+        by_tx (Some u) e g = open_there given later all (no_begin (effect_after d z given) g.1) (e ∙ ap Some (sym (tx_same t u g.0)))
+
+    own_open : (x : Item) (b : Bool) → got_by d t x j b (Some z) ≡ true → WasOpen t
+    own_open x b got = by_before (got_before d t x j z) refl got
+      where
+        by_before : (u : Bool) → got_before d t x j z ≡ u → (u || (b && is_on t x z.func (tx_now d j z) (effect_of d z))) ≡ true → WasOpen t
+        by_before false e g = operated x z.answers [] (append-nil z.answers) (both b (is_on t x z.func (tx_now d j z) (effect_of d z)) g).1
+        by_before true e g = elim (gathered (λ ts c. is_on t x z.func (tx_after d j z ts) (effect_after d z ts) && not (is_aborted c)) [] z.answers false e) [
+          | inl k ↦ cc
+          | inr k ↦ operated x k.before (k.answer ∷ k.later) k.parts (both (is_on t x z.func (tx_after d j z k.before) (effect_after d z k.before)) (not (is_aborted k.answer)) k.holds).0
+        ]
+
+  -- where somebody was called in it
+  called_by_step : (t : TxId) (j : IntentId) (z : Instance) → map.get known j ≡ Some z → (inner : z.within ≡ Some t) → ((i : IntentId) (y : Instance) → length i.hops < length j.hops → map.get known i ≡ Some y → y.within ≡ Some t → WasOpen t) → WasOpen t
+  called_by_step t j z is inner up = by_within c.waiter.within refl
+    where
+      c : CallerOf d known t j z
+      c = caller_in d known sane t j z is inner
+
+      given : List Answer
+      given = take c.step c.waiter.answers
+
+      by_within : (o : Option TxId) → c.waiter.within ≡ o → WasOpen t
+      by_within None e = open_there c.caller c.waiter c.made e t given (drop c.step c.waiter.answers) (take-append-drop c.step c.waiter.answers) (ap is_begin c.call) c.within
+      by_within (Some u) e =
+          let same : u ≡ t = same_some (sym (ap (λ w. or_own w (tx_by c.caller c.waiter.func (length given) (effect_after d c.waiter given) (txs_after d c.waiter given).begun)) e) ∙ c.within) in
+          up c.caller c.waiter (let l = length-append c.caller.hops (c.step ∷ []) in let k = ap (λ (y : IntentId). length y.hops) c.is in omega (arith, l, k)) c.made (e ∙ ap Some same)
+
+  called_upto : (n : ℕ) (t : TxId) (j : IntentId) (z : Instance) → length j.hops < n → map.get known j ≡ Some z → z.within ≡ Some t → WasOpen t
+  called_upto zero t j z few is inner = absurd (omega (arith, few))
+  called_upto (suc n) t j z few is inner = called_by_step t j z is inner (λ i y less. called_upto n t i y (omega (arith, few, less)))
+
+  pub owns_so : (t : TxId) (x : Item) → (content_of m x).owner ≡ Some (Tx t) → WasOpen t
   owns_so t x owned = let g = (rows.txs x).owned_is_got t owned in by_member g.member (map.get known g.member) refl g.got
     where
-      by_member : (j : IntentId) (o : Option Instance) → map.get known j ≡ o → got_by d t x j (locked j) o ≡ true → Owns t x
+      by_member : (j : IntentId) (o : Option Instance) → map.get known j ≡ o → got_by d t x j (locked j) o ≡ true → WasOpen t
       by_member j None e g = cc
-      by_member j (Some z) e g = let mine : t.intent ≡ j = (got_since d t x j z (outside j z e) (locked j) g).own in
-          record { instance = z; made = ap (map.get known) mine ∙ e; got = subst (λ y. got_by d t x y (locked y) (Some z) ≡ true) (sym mine) g }
+      by_member j (Some z) e g = by_within z.within refl
+        where
+          by_within : (w : Option TxId) → z.within ≡ w → WasOpen t
+          by_within None out = own_open j z e out t x (locked j) g
+          by_within (Some u) inner = called_upto (length j.hops + 1) t j z (omega arith) e (inner ∙ ap Some (sym (member_tx d t x j z u inner (locked j) g)))
 
   -- so who owns an item was made
-  pub holder_made : (p : PlainState) → ((j : IntentId) → is_some (map.get known j) ≡ true → is_some (map.get p.made j) ≡ true) → (x : Item) (holder : IntentId) → Holder (content_of m x).owner holder → is_some (map.get p.made holder) ≡ true
-  holder_made p made x holder h = made holder (subst (λ j. is_some (map.get known j) ≡ true) h.age (known_there h.owner h.owns))
+  pub holder_made : (p : PlainState) → Beside d p known → (x : Item) (holder : IntentId) → holds d x (map.get known holder) ≡ holds d x (map.get p.made holder) → Holder (content_of m x).owner holder → is_some (map.get p.made holder) ≡ true
+  holder_made p beside x holder same h = by_owner h.owner h.owns h.age
     where
       held_there : (o : Option Instance) → holds d x o ≡ true → is_some o ≡ true
       held_there None e = cc
       held_there (Some z) e = refl
 
-      known_there : (w : Owner) → (content_of m x).owner ≡ Some w → is_some (map.get known (age_of w)) ≡ true
-      known_there (Intent j) owned = held_there (map.get known j) (sym ((rows.items x).owner j) ∙ ap (λ o. is_owner o (Intent j)) owned ∙ her_own j)
-      known_there (Tx t) owned = ap is_some (owns_so t x owned).made
+      by_plain : (t : TxId) → WasOpen t → (o : Option Instance) → map.get p.made t.intent ≡ o → is_some o ≡ true
+      by_plain t w None made = let clash = sym w.outside ∙ (beside.kept t.intent w.owner made w.made).within in cc
+      by_plain t w (Some z) made = refl
 
-  -- ---- an instance at an operation inside, that owns nothing past its ends
-  module _ (id : IntentId) (q : Instance) (made : map.get known id ≡ Some q) (s : TxId) (now : tx_now d id q ≡ Some s) (apart : is_begin (effect_of d q) ≡ false) (released : Released d m known id (length q.answers)) where
-    own_now : Own id q.func (txs_after d q q.answers).begun s
-    own_now = own d id q s (outside id q made) apart now
+      by_owner : (w : Owner) → (content_of m x).owner ≡ Some w → age_of w ≡ holder → is_some (map.get p.made holder) ≡ true
+      by_owner (Intent j) owned age = held_there (map.get p.made holder) (sym same ∙ ap (λ y. holds d x (map.get known y)) (sym age) ∙ sym ((rows.items x).owner j) ∙ ap (λ o. is_owner o (Intent j)) owned ∙ her_own j)
+      by_owner (Tx t) owned age = subst (λ y. is_some (map.get p.made y) ≡ true) age (by_plain t (owns_so t x owned) (map.get p.made t.intent) refl)
 
-    -- an operation of one of its transactions
-    operated : (t : TxId) (x : Item) (ts : List Answer) → is_on t x q.func (tx_after d id q ts) (effect_after d q ts) ≡ true → Own id q.func (txs_after d q ts).begun t
-    operated t x ts h = by_tx (tx_by id q.func (length ts) (effect_after d q ts) (txs_after d q ts).begun) refl
-        (sym (ap (λ w. is_tx t (or_own w (tx_by id q.func (length ts) (effect_after d q ts) (txs_after d q ts).begun)) && is_item x q.func (touched (effect_after d q ts))) (outside id q made)) ∙ h)
+  -- ---- an instance at an operation inside, that owns nothing past its ends, while owners call nobody
+  module _ (id : IntentId) (q : Instance) (made : map.get known id ≡ Some q) (none : q.outcome ≡ None) (s : TxId) (now : tx_now d id q ≡ Some s) (apart : is_begin (effect_of d q) ≡ false)
+      (released : Released d m known id (length q.answers)) (latest : OwnersCallNobody d m known) where
+    its : IsOpenOwner d known s
+    its = open_owner d known sane id q s made none apart now
+
+    -- a transaction of its owner that has not ended is this one
+    open_is : (t : TxId) → t.intent ≡ s.intent → WasOpen t → tx_end d known t ≡ None → t ≡ s
+    open_is t same w open_still = λ i. record { intent = same i; begin = begins i; func = (w.func_is ∙ ap (λ (y : Instance). y.func) one ∙ sym its.func_is) i }
       where
-        no_begin : (e : Effect) → is_item x q.func (touched e) ≡ true → is_begin e ≡ false
-        no_begin effect.Begin g = cc
-        no_begin e g = refl
+        one : w.owner ≡ its.owner
+        one = same_some (sym w.made ∙ ap (map.get known) same ∙ its.made)
 
-        by_tx : (o : Option TxId) → tx_by id q.func (length ts) (effect_after d q ts) (txs_after d q ts).begun ≡ o → (is_tx t o && is_item x q.func (touched (effect_after d q ts))) ≡ true → Own id q.func (txs_after d q ts).begun t
-        by_tx None e g = cc
-        by_tx (Some u) e g =
-            let parts = both (is_tx t (Some u)) (is_item x q.func (touched (effect_after d q ts))) g in
-            own_by id q.func (length ts) (effect_after d q ts) (txs_after d q ts).begun t (no_begin (effect_after d q ts) parts.1) (e ∙ ap Some (sym (tx_same t u parts.0)))
+        begins : t.begin ≡ s.begin
+        begins = same_some (sym (open_on d w.owner w.given w.later t.begin w.all (sym (ap (ended_by d t.begin) w.made) ∙ open_still) w.begun) ∙ ap (λ (y : Instance). (txs_after d y y.answers).begun) one ∙ its.begun)
 
-    -- one that has not ended is the one that is open
-    open_is : (t : TxId) (x : Item) → end_of d q t.begin ≡ None → got_by d t x id (locked id) (Some q) ≡ true → t ≡ s
-    open_is t x open_still h = by_own (by_before (got_before d t x id q) refl h)
+    -- one that has ended ended before this one began
+    ended_first : (t : TxId) (z : ℕ × Bool) → t.intent ≡ s.intent → tx_end d known t ≡ Some z → z.0 ≤ s.begin
+    ended_first t z same ended = by_test (nat_lt s.begin z.0) refl
       where
-        by_own : (txs_after d q q.answers).begun ≡ Some t.begin × (t.intent ≡ id) × (t.func ≡ q.func) → t ≡ s
-        by_own k = λ i. record { intent = (k.1 ∙ sym own_now.intent) i; begin = same_some (sym k.0 ∙ own_now.begun) i; func = (k.2 ∙ sym own_now.func_is) i }
+        at : EndedAt d its.owner its.owner.answers t.begin z
+        at = ended_at d its.owner t.begin z (sym (ap (ended_by d t.begin) (ap (map.get known) same ∙ its.made)) ∙ ended)
 
-        by_before : (b : Bool) → got_before d t x id q ≡ b → (b || (locked id && is_on t x q.func (tx_now d id q) (effect_of d q))) ≡ true → ((txs_after d q q.answers).begun ≡ Some t.begin) × (t.intent ≡ id) × (t.func ≡ q.func)
-        by_before false e g = let k = operated t x q.answers (both (locked id) (is_on t x q.func (tx_now d id q) (effect_of d q)) g).1 in (k.begun, k.intent, k.func_is)
-        by_before true e g = elim (gathered (λ ts c. is_on t x q.func (tx_after d id q ts) (effect_after d q ts) && not (is_aborted c)) [] q.answers false e) [
-          | inl z ↦ cc
-          | inr z ↦ let k = operated t x z.before (both (is_on t x q.func (tx_after d id q z.before) (effect_after d q z.before)) (not (is_aborted z.answer)) z.holds).0 in
-              (open_on d q z.before (z.answer ∷ z.later) t.begin z.parts open_still k.begun, k.intent, k.func_is)
-        ]
+        by_test : (b : Bool) → nat_lt s.begin z.0 ≡ b → z.0 ≤ s.begin
+        by_test false e = ltb-false s.begin z.0 e
+        by_test true e =
+            let less = at.before in
+            let n = ltb-true s.begin z.0 e in
+            let len = length-take-le z.0 its.owner.answers (omega (arith, less)) in
+            let open_then = was_open d its.owner (take z.0 its.owner.answers) (drop z.0 its.owner.answers) s.begin (take-append-drop z.0 its.owner.answers) (omega (arith, n, len)) its.begun in
+            let same_begin : s.begin ≡ t.begin = same_some (sym open_then ∙ at.begun) in
+            let clash = sym ((fits d its.owner).not_ended s.begin its.begun) ∙ ap (end_of d its.owner) same_begin ∙ sym (ap (ended_by d t.begin) (ap (map.get known) same ∙ its.made)) ∙ ended in cc
 
-    -- so no other transaction of the instance owns an item
+    -- so no other one of its owner owns an item
     pub only_one : (x : Item) (t : TxId) → (content_of m x).owner ≡ Some (Tx t) → t.intent ≡ s.intent → t ≡ s
-    only_one x t owned same = by_end (end_of d q t.begin) refl
+    only_one x t owned same = by_end (tx_end d known t) refl
       where
-        mine : t.intent ≡ id
-        mine = same ∙ own_now.intent
-
-        its : Owns t x
-        its = owns_so t x owned
-
-        is_it : its.instance ≡ q
-        is_it = same_some (sym its.made ∙ ap (map.get known) mine ∙ made)
-
-        by_end : (o : Option (ℕ × Bool)) → end_of d q t.begin ≡ o → t ≡ s
-        by_end None e = open_is t x e (subst (λ j. got_by d t x j (locked j) (Some q) ≡ true) mine (subst (λ z. got_by d t x t.intent (locked t.intent) (Some z) ≡ true) is_it its.got))
-        by_end (Some z) e = absurd (released t z mine (ap (λ j. ended_by d t.begin (map.get known j)) mine ∙ ap (ended_by d t.begin) made ∙ e) (ended_at d q t.begin z e).before x owned)
+        by_end : (o : Option (ℕ × Bool)) → tx_end d known t ≡ o → t ≡ s
+        by_end None e = open_is t same (owns_so t x owned) e
+        by_end (Some z) e = absurd (by_within q.within refl)
+          where
+            by_within : (w : Option TxId) → q.within ≡ w → ⊥
+            by_within None out =
+                let mine : t.intent ≡ id = same ∙ (own d id q s out apart now).intent in
+                released t z mine e (ended_at d q t.begin z (sym (ap (ended_by d t.begin) (ap (map.get known) mine ∙ made)) ∙ e)).before x owned
+            by_within (Some u) inner =
+                let is_s : u ≡ s = same_some (sym (ap (λ w. or_own w (tx_by id q.func (length q.answers) (effect_of d q) (txs_after d q q.answers).begun)) inner) ∙ now) in
+                let b = called_below d known sane s id q made (inner ∙ ap Some is_s) in
+                let below : IsBelow (record { intent = t.intent; begin = z.0; func = t.func }) id = record {
+                  step = b.step;
+                  later = let l = b.later in let f = ended_first t z same e in omega (arith, l, f);
+                  hops = b.hops;
+                  is = b.is ∙ ap (λ (i : IntentId). record { ticket = i.ticket; hops = i.hops ++ b.step ∷ b.hops }) (sym same);
+                } in
+                let clash = sym made ∙ latest t z x id e owned below in cc

@@ -15,11 +15,10 @@ use Rattle.beldi_lang.specs.declared.effect.Answer.{Answer}
 use Rattle.beldi_lang.specs.declared.effect.Effect.TheVariants.{Async}
 use Rattle.beldi_laws.proofs.Beginnings.{same_roots}
 use Rattle.beldi_laws.proofs.CallsHere.{made_with, not_made, made_by, next_here, given_first, first_given, call_now, absent_here, callee_there, caller_there, call_entered, callee_goes, callee_row, callee_ahead, callee_settled, callee_grows, goes_answered_then}
-use Rattle.beldi_laws.proofs.Others.{kept_by}
-use Rattle.beldi_laws.proofs.Frames.{settled_outside, settled_rows}
-use Rattle.beldi_laws.proofs.Keeping.{act_stays, as_it_was}
+use Rattle.beldi_laws.proofs.Frames.{NobodyJoins, settled_outside}
+use Rattle.beldi_laws.proofs.Keeping.{as_it_was}
 use Rattle.beldi_laws.specs.Inside.{Inside}
-use Rattle.beldi_laws.proofs.Moves.{AfterTurn, AfterQuery, SameRoots, Kept, Stays, entered, AfterAct, still}
+use Rattle.beldi_laws.proofs.Moves.{AfterTurn, AfterQuery, Entered, SameRoots, Kept, Stays, entered, AfterAct, still}
 use Rattle.beldi_known.proofs.Rows.{set_others, no_root as no_root_key}
 use Rattle.beldi_laws.proofs.Turns.{effect_here, goes_on, replays, at_another, all_here, starts_one, tx_step, tx_next, outside_after, unlocked_there}
 use Rattle.beldi_order.proofs.Entries.{grows_through}
@@ -53,6 +52,8 @@ use Rattle.beldi_value.specs.declared.place.Place.{Place}
 use Rattle.beldi_value.specs.declared.value.Value.{Value}
 use Rattle.beldi_walk.specs.Query.{said}
 use Rattle.beldi_known.specs.Rows.{CallMatches, IsBodyOf}
+use Rattle.beldi_known.proofs.AtOnce.{origin_stays}
+use Rattle.beldi_known.proofs.FrameAt.{known_set}
 use Rattle.beldi_known.proofs.Instances.{no_own_callee}
 use Rattle.beldi_laws.specs.Right.{Right, Knows, KnowsAt, SeenDone}
 use Rattle.beldi_known.specs.Known.{owed_call, Known, at_once, moved, commit_in}
@@ -60,12 +61,12 @@ use Rattle.beldi_known.specs.Matches.{Matches}
 use Rattle.beldi_known.proofs.Ahead.{ahead_set, none_out}
 use Rattle.beldi_order.specs.Txs.{tx_after, tx_now, txs_after}
 use Rattle.beldi_laws.proofs.KeptSane.{sent_kept}
-use Rattle.beldi_laws.proofs.Shown.{Settled, log_values}
+use Rattle.beldi_laws.proofs.Shown.{log_values}
 use Rattle.beldi_laws.proofs.Grown.{grows_moved, grown_moved, moved_more}
 use Rattle.beldi_known.proofs.Outside.{call_answered}
 use Rattle.beldi_known.proofs.Frame.{moved_one}
 use Rattle.beldi_known.specs.Frame.{row_added}
-use Rattle.beldi_laws.proofs.Registered.{callee_registered, log_frame, log_shadows, log_stays, marked_registered}
+use Rattle.beldi_laws.proofs.Registered.{callee_registered, kept_moving, log_frame, log_shadows, log_stays, marked_registered, no_intent, no_more, stays_marked, stays_new}
 
 module _ (d : Deployment) (c : Core) (m : Rows) (i : ℕ) (r : Run) (g : Begun) (h : Right d c m) (live : map.get c.runs i ≡ Some r) (at_is : r.at ≡ Begins g) (k : Knows d c.book h.known r g) (finds : Inside d m h.plain h.known r g) (out : tx_after d r.id k.instance k.answers ≡ None)
     (f : ℕ) (v : Value) (is : g.machine.effect ≡ Async f v) (hops : has_callees r.id ≡ true) where
@@ -93,16 +94,19 @@ module _ (d : Deployment) (c : Core) (m : Rows) (i : ℕ) (r : Run) (g : Begun) 
       by_callee (Some j) at there = given_first Done k.later (first_given d c m r g h k false f v call_here j at k.later refl)
 
   goes_to_stage : (at : AsyncAt) (n : Rows) → SameRoots m n → Stays h n → SeenDone h.known r.id g.machine.steps k.instance g.caller (stage.Async at) → Left (On (stage.Async at) None) n
-  goes_to_stage at n roots rows done = goes_on d c m i r g h live k finds out (Async f v) is n (stage.Async at) roots rows hops tt done
+  goes_to_stage at n roots rows done = goes_on d c m i r g h live k finds out (Async f v) is n (stage.Async at) refl roots rows hops tt done
 
   -- ---- it is opened now: it is the instance's next step
-  module _ (new : map.get h.known callee ≡ None) (left : k.later ≡ []) where
+  module _ (none : map.get m key ≡ None) (new : map.get h.known callee ≡ None) (left : k.later ≡ []) where
     abbrev made_id : IntentId
     made_id = callee_of r.id k.instance
 
+    abbrev callee_made : Instance
+    callee_made = new_instance f v (Some (calls_at r.id k.instance false))
+
     -- what is known with the callee, before its caller is answered
     abbrev given : Known
-    given = map.insert h.known made_id (at_once d made_id (new_instance f v (Some (calls_at r.id k.instance false))))
+    given = map.insert h.known made_id (at_once d made_id callee_made)
 
     abbrev next : Known
     next = map.insert given r.id (moved d r.id k.instance Done)
@@ -113,8 +117,11 @@ module _ (d : Deployment) (c : Core) (m : Rows) (i : ℕ) (r : Run) (g : Begun) 
     abbrev row : Option Row
     row = Some (rows.Invoke (opened f))
 
+    abbrev rows_now : Rows
+    rows_now = set_row m key row
+
     now : effect_of d k.instance ≡ Async f v
-    now = call_now d c m i r g h live k finds out false f v is new left
+    now = call_now d c m r g h k false f v is new left
 
     outside : tx_now d r.id k.instance ≡ None
     outside = tx_next d c.book h.known r g k out left
@@ -123,47 +130,50 @@ module _ (d : Deployment) (c : Core) (m : Rows) (i : ℕ) (r : Run) (g : Begun) 
     unlocked = unlocked_there d c m i r g h live k finds out (Async f v) is left
 
     caller_given : map.get given r.id ≡ Some k.instance
-    caller_given = caller_there d c m i r g h live k finds out false f v is new left
+    caller_given = caller_there d c m r g h k finds false f v is hops new left None refl
 
-    settled_so : Settled d m state next
-    settled_so = settled_outside d m state given r.id k.instance caller_given Done outside (callee_settled d c m i r g h live k finds out false f v is new left state (call_entered d c m i r g h live k finds out false f v is new left hops next).grows)
+    leads : Entered d c h.plain h.known (Step r.id) state next
+    leads = call_entered d c m i r g h live k finds false f v is hops new left out next
 
-    rows_opened : Matches d (set_row m key row) next h.locked
+    rows_opened : Matches d rows_now next h.locked
     rows_opened = call_answered d given h.locked r.id k.instance (moved d r.id k.instance Done) Done caller_given unlocked (inl outside) (ap commit_in now) (moved_one d r.id k.instance Done)
-        (ap op_of now) (ap (λ e. row_added (length k.instance.answers) (txs_after d k.instance k.instance.answers).begun e Done) now ∙ no_row (length k.instance.answers) (txs_after d k.instance k.instance.answers).begun) (set_row m key row)
-        (callee_row d c m i r g h live k finds out false f v is new left)
+        (ap op_of now) (ap (λ e. row_added (length k.instance.answers) (txs_after d k.instance k.instance.answers).begun e Done) now ∙ no_row (length k.instance.answers) (txs_after d k.instance k.instance.answers).begun) rows_now
+        (callee_row d c m r g h k finds false f v is hops new left None refl)
       where
         no_row : (n : ℕ) (b : Option ℕ) → row_added n b (Async f v) Done ≡ None
         no_row n None = refl
         no_row n (Some b) = refl
 
     grows : Grows h.known next
-    grows = grows_through h.known given next (callee_grows d c m i r g h live k finds out false f v is new left) (grows_moved d given r.id k.instance Done caller_given)
+    grows = grows_through h.known given next (callee_grows d c m r g h k finds false f v is hops new left None refl) (grows_moved d given r.id k.instance Done caller_given)
 
-    kept_opened : Kept h (set_row m key row) state next h.locked
-    kept_opened =
-        let frame = log_frame d m key row refl (λ e. refl) h.plain state h.known next refl in
-        kept_by d c m (set_row m key row) h state next h.locked
-        (record {
-          goes = goes_answered_then h (set_row m key row) (log_shadows d m key row refl (λ e. refl)) r.id k.instance Done k.made unlocked (λ e. let clash = sym now ∙ e in cc) (outside_after d c.book h.known r g k out left Done) made_id refl
-              (new_instance f v (Some (calls_at r.id k.instance false))) (at_once d made_id (new_instance f v (Some (calls_at r.id k.instance false)))) caller_given (callee_goes d c m i r g h live k finds out false f v is new left);
-          locked_at_ends = ahead_set d given h.locked (callee_ahead d c m i r g h live k finds out false f v is new left) h.locked r.id (moved d r.id k.instance Done) (none_out h.locked r.id unlocked);
-          sane = sent_kept d h.known h.sane r.id k.instance f v k.made outside now (absent_here d c m i r g h live k finds out false f v is new left);
-          rows = rows_opened;
-          values = log_values h key row refl;
-          settled = settled_rows d m (set_row m key row) h.plain state h.known next frame settled_so;
-        })
-        grows frame
+    -- its callee is in no transaction
+    joins : NobodyJoins d h.known next
+    joins t z j ended part = known_set given r.id (moved d r.id k.instance Done) (λ j o. o ≡ Some part.instance → is_some (map.get h.known j) ≡ true) (λ e. ap is_some k.made)
+        (λ j other. known_set h.known made_id (at_once d made_id callee_made) (λ j o. o ≡ Some part.instance → is_some (map.get h.known j) ≡ true)
+        (λ e. let clash = sym (origin_stays d made_id callee_made).1 ∙ ap (λ (y : Instance). y.within) (same_some e) ∙ part.within in cc) (λ j apart e. ap is_some e) j) j part.made
+
+    kept_opened : Kept h rows_now state next h.locked
+    kept_opened = kept_moving h rows_now state next h.locked
+        (goes_answered_then h rows_now (log_shadows d m key row refl) r.id k.instance Done k.made unlocked (λ e. let clash = sym now ∙ e in cc) (outside_after d c.book h.known r g k out left Done) made_id refl
+        callee_made (at_once d made_id callee_made) caller_given (callee_goes d c m i r g h live k finds false f v is hops new left out))
+        (ahead_set d given h.locked (callee_ahead d c m r g h k finds false f v is hops new left None refl) h.locked r.id (moved d r.id k.instance Done) (none_out h.locked r.id unlocked))
+        (sent_kept d h.known h.sane r.id k.instance f v k.made outside now (absent_here d c m r g h k false f v is new left))
+        rows_opened (log_values h key row refl)
+        (settled_outside d m state given r.id k.instance caller_given Done outside (callee_settled d c m r g h k finds false f v is hops new left None refl state leads.grows))
+        grows
+        (log_frame d m key row refl (stays_new (map.get m key) row none) h.plain state h.known next refl joins)
+        (no_intent d m key row next refl)
 
     callee_stays : is_some (map.get next callee) ≡ true
-    callee_stays = ap is_some (elsewhere given r.id callee (moved d r.id k.instance Done) (λ e. no_own_callee r.id g.machine.steps (sym e))) ∙ callee_there d c m i r g h live k finds out false f v is new left
+    callee_stays = ap is_some (elsewhere given r.id callee (moved d r.id k.instance Done) (λ e. no_own_callee r.id g.machine.steps (sym e))) ∙ callee_there d c m r g h k finds false f v is hops new left None refl
 
-    pub opens_now : Left (On (stage.Async async.Register) (Some mark.Step)) (set_row m key row)
+    pub opens_now : Left (On (stage.Async async.Register) (Some mark.Step)) rows_now
     opens_now =
         let more = moved_more d r.id k.instance Done in
-        entered d c m (set_row m key row) i r h live (λ u. ap is_some (set_others m key row (root_key u) (no_root_key u r.func (kinds.Invoke place) refl)))
-        (turned_by d r g (On (stage.Async async.Register) (Some mark.Step))) mark.Step state next h.locked refl (call_entered d c m i r g h live k finds out false f v is new left hops next) (λ o told. cc)
-        (at_another d c m i r g h live k finds out (Async f v) is (c.book ++ Step r.id ∷ []) (set_row m key row) state next h.locked (moved d r.id k.instance Done) (Done ∷ more.more) (stage.Async async.Register) kept_opened
+        entered d c m rows_now i r h live (λ u. ap is_some (set_others m key row (root_key u) (no_root_key u r.func (kinds.Invoke place) refl)))
+        (turned_by d r g (On (stage.Async async.Register) (Some mark.Step))) mark.Step state next h.locked refl leads (λ o told. cc)
+        (at_another d c m i r g h live k finds out (Async f v) is (c.book ++ Step r.id ∷ []) rows_now state next h.locked (moved d r.id k.instance Done) (Done ∷ more.more) (stage.Async async.Register) refl kept_opened
         (here given r.id (moved d r.id k.instance Done)) (grown_moved d r.id k.instance Done) (sym (append_assoc k.answers (Done ∷ []) more.more) ∙ ap (λ xs. (xs ++ Done ∷ []) ++ more.more) (all_here d c.book h.known r g k left) ∙ more.same) hops tt callee_stays)
         (λ e. cc) kept_opened
 
@@ -176,24 +186,26 @@ module _ (d : Deployment) (c : Core) (m : Rows) (i : ℕ) (r : Run) (g : Begun) 
   open_by x true e there = let a = answered_so there in replays d c m i r g h live k finds out (Async f v) is m Done a.0 (λ t. refl) (as_it_was h) a.1
 
   open_at : (w : Option Row) → map.get m key ≡ w → CallMatches w (owed_call h.known r.func place) → AfterAsync key async.Open (act (OpenInvoke f) c.now w)
-  open_at None at owed = let new = not_made d c m r g h k false f v call_here owed in opens_now new (next_here d c m r g h k false f v call_here new k.later refl)
+  open_at None at owed = let new = not_made d c m r g h k false f v call_here owed in opens_now at new (next_here d c m r g h k false f v call_here new k.later refl)
   open_at (Some (rows.Invoke x)) at owed = still d h.plain m key (Some (rows.Invoke x)) (sym at) (open_by x x.registered refl (made_by d c m r g h k false f v call_here x owed))
   open_at (Some w) at owed = absurd owed
 
   module _ (there : is_some (map.get h.known callee) ≡ true) where
-    body_is : (o : Option Instance) → map.get h.known callee ≡ o → is_some o ≡ true → IsBodyOf (callee_body r.id r.func g.machine.steps f v false) (map.get h.known callee)
+    body_is : (o : Option Instance) → map.get h.known callee ≡ o → is_some o ≡ true → IsBodyOf (callee_body r.id r.func g.machine.steps f v None false) (map.get h.known callee)
     body_is None at there = cc
-    body_is (Some j) at there = made_with d h.known h.sane r.id r.func g.machine.steps false f v k.instance j k.made k.func (tx_step d c.book h.known r g k out) call_here at
+    body_is (Some j) at there = made_with d h.known h.sane r.id r.func g.machine.steps false f v k.instance j None k.made k.func (tx_step d c.book h.known r g k out) call_here at
 
     abbrev body : Body
-    body = callee_body r.id r.func g.machine.steps f v false
+    body = callee_body r.id r.func g.machine.steps f v None false
 
     abbrev row_key : RowKey
     row_key = record { home = f; kind = kinds.Intent callee }
 
     register_at : (w : Option Row) → map.get m row_key ≡ w → AfterAsync row_key async.Register (act (Register body) c.now w)
-    register_at None at = goes_to_stage async.Note (set_row m row_key (Some (rows.Intent (issued_at c.now (Some body))))) (same_roots m f callee (Some (rows.Intent (issued_at c.now (Some body)))) (no_root r.id g.machine.steps))
-        (log_stays d m row_key (Some (rows.Intent (issued_at c.now (Some body)))) refl (λ e. refl) c h (callee_registered d m h.known h.locked callee body c.now (no_root r.id g.machine.steps) (body_is (map.get h.known callee) refl there) h.rows at)) there
+    register_at None at =
+        let new = Some (rows.Intent (issued_at c.now (Some body))) in
+        goes_to_stage async.Note (set_row m row_key new) (same_roots m f callee new (no_root r.id g.machine.steps))
+        (log_stays d m row_key new refl c h (stays_new (map.get m row_key) new at) (no_more d m row_key new h.known (λ e. cc)) (callee_registered d m h.known h.locked callee body c.now (no_root r.id g.machine.steps) (body_is (map.get h.known callee) refl there) h.rows at)) there
     register_at (Some w) at = still d h.plain m row_key (Some w) (sym at) (goes_to_stage async.Note m (λ t. refl) (as_it_was h) there)
 
     register_turn : AfterQuery d h.plain c.now m (λ t. turn_next c i r (turned_by d r g (async_answer async.Register (async_says f async.Register t)))) (async_asks r.func place body async.Register)
@@ -203,7 +215,7 @@ module _ (d : Deployment) (c : Core) (m : Rows) (i : ℕ) (r : Run) (g : Begun) 
         own = λ j. record { home = sym (ap (λ t. if t then 0 else f) (no_root r.id g.machine.steps)) j; kind = kinds.Intent callee }
 
     looks_later : (book : List Entry) (known : Known) (o : Run) → run_called r ≡ Some o → KnowsAt d book known o o.at
-    looks_later book known o started = by_hops (has_callees r.id) (sym (ap (callee_at r) at_is ∙ ap (callee_by r g.machine.steps) is) ∙ started)
+    looks_later book known o started = by_hops (has_callees r.id) (sym (ap (callee_at r) at_is ∙ ap (callee_by r g.tx g.machine.steps) is) ∙ started)
       where
         by_hops : (b : Bool) → (if b then Some (record { id = callee; func = f; deadline = r.deadline; at = Looks }) else None) ≡ Some o → KnowsAt d book known o o.at
         by_hops true same = subst (λ (z : Run). KnowsAt d book known z z.at) (same_some same) tt
@@ -216,10 +228,10 @@ module _ (d : Deployment) (c : Core) (m : Rows) (i : ℕ) (r : Run) (g : Begun) 
 
     note_turn : AfterQuery d h.plain c.now m (λ t. turn_next c i r (turned_by d r g (async_answer async.Note (async_says f async.Note t)))) (registered_asks r.func place)
     note_turn = note_says_so (after_act NoteRegistered c.now key m) (λ u. ap is_some (set_others m key (act NoteRegistered c.now (map.get m key)).0 (root_key u) (no_root_key u r.func (kinds.Invoke place) refl)))
-        (log_stays d m key (act NoteRegistered c.now (map.get m key)).0 refl (act_stays NoteRegistered c.now (map.get m key)) c h (marked_registered d m h.known h.locked r.func place c.now h.rows)) (back_of (said (act NoteRegistered c.now (map.get m key)).1))
+        (log_stays d m key (act NoteRegistered c.now (map.get m key)).0 refl c h (stays_marked c.now (map.get m key)) (no_intent d m key (act NoteRegistered c.now (map.get m key)).0 h.known refl) (marked_registered d m h.known h.locked r.func place c.now h.rows)) (back_of (said (act NoteRegistered c.now (map.get m key)).1))
 
   by_at : (at : AsyncAt) → SeenDone h.known r.id g.machine.steps k.instance g.caller (stage.Async at)
-      → AfterQuery d h.plain c.now m (λ t. turn_next c i r (turned_by d r g (async_answer at (async_says f at t)))) (async_asks r.func place (callee_body r.id r.func g.machine.steps f v false) at)
+      → AfterQuery d h.plain c.now m (λ t. turn_next c i r (turned_by d r g (async_answer at (async_says f at t)))) (async_asks r.func place (callee_body r.id r.func g.machine.steps f v None false) at)
   by_at async.Open seen = open_at (map.get m key) refl (h.rows.keys key)
   by_at async.Register seen = register_turn seen
   by_at async.Note seen = note_turn seen
@@ -227,4 +239,4 @@ module _ (d : Deployment) (c : Core) (m : Rows) (i : ℕ) (r : Run) (g : Begun) 
   pub async_turn : (at : AsyncAt) → SeenDone h.known r.id g.machine.steps k.instance g.caller (stage.Async at)
       → AfterQuery d h.plain c.now m (λ t. turn_next c i r (turned_by d r g (async_here_says r.id (Async f v) at t))) (async_here_asks r.id r.func g.machine.steps (Async f v) at)
   async_turn at seen = subst (λ b. AfterQuery d h.plain c.now m (λ t. turn_next c i r (turned_by d r g (if b then async_answer at (async_says f at t) else Ends None None)))
-      (if b then async_asks r.func place (callee_body r.id r.func g.machine.steps f v false) at else look_asks r.id r.func)) (sym hops) (by_at at seen)
+      (if b then async_asks r.func place (callee_body r.id r.func g.machine.steps f v None false) at else look_asks r.id r.func)) (sym hops) (by_at at seen)

@@ -1,5 +1,5 @@
 -- The first turn of a run: it finds its body, or registers the one that its call gave it.
-use Rattle.std.proofs.Common.{◌≡◌, ℕ, Bool, true, false, [], if◌then◌else◌, Option, None, Some, refl, ap, sym, ◌∙◌, subst, is_some, arith, ◌==◌, eqb-true}
+use Rattle.std.proofs.Common.{◌≡◌, ℕ, Bool, true, false, cond, [], if◌then◌else◌, Option, None, Some, refl, ap, sym, ◌∙◌, subst, is_some, arith, ◌==◌, eqb-true}
 use Rattle.std.specs.FinMap as map
 use Rattle.std.specs.Ordering.{is_eq}
 use Rattle.beldi_intent.specs.Intent.{root_key, intent_key, look_asks, is_ended, body_told, register_asks, body_in, issued_at, open_body}
@@ -11,7 +11,7 @@ use Rattle.beldi_known.proofs.Rows.{set_others}
 use Rattle.beldi_known.proofs.Instances.{row_of, IsRowOf}
 use Rattle.beldi_laws.proofs.Turns.{is_over, comes_to, knows_next}
 use Rattle.beldi_order.proofs.Maps.{same_some}
-use Rattle.beldi_row.proofs.Gets.{key_same}
+use Rattle.beldi_row.proofs.Gets.{got, key_same, key_self}
 use Rattle.beldi_row.proofs.Unchanged.{looked}
 use Rattle.beldi_row.specs.Act.{act}
 use Rattle.beldi_row.specs.Key.{key_cmp}
@@ -25,8 +25,8 @@ use Rattle.beldi_row.specs.declared.row.IntentRow.{IntentRow}
 use Rattle.beldi_row.specs.declared.row.Row.TheVariants as rows
 use Rattle.beldi_row.specs.declared.row.Row.{Row}
 use Rattle.beldi_step.specs.Host.{Core, turn_next}
-use Rattle.beldi_step.specs.Run.{begin_in, body_registered}
-use Rattle.beldi_step.specs.declared.run.OpenTx.{OpenTx}
+use Rattle.beldi_step.specs.Run.{begin_in, body_registered, within}
+use Rattle.beldi_step.specs.declared.run.RunTx.{RunTx}
 use Rattle.beldi_lang.specs.declared.machine.Machine.{Machine}
 use Rattle.beldi_step.specs.declared.run.Run.{Run}
 use Rattle.beldi_tree.specs.Names.{func_at}
@@ -38,9 +38,9 @@ use Rattle.beldi_walk.specs.Query.{said}
 use Rattle.beldi_known.specs.Matches.{has_ended}
 use Rattle.beldi_known.specs.Rows.{IntentMatches, IsBodyOf}
 use Rattle.beldi_laws.specs.Right.{Right, KnowsBody}
-use Rattle.beldi_laws.proofs.Shown.{legal_sane}
 use Rattle.beldi_laws.proofs.Keeping.{as_it_was}
-use Rattle.beldi_laws.proofs.Registered.{callee_registered, log_stays}
+use Rattle.beldi_laws.proofs.Registered.{callee_registered, log_stays, no_more, stays_new}
+use Rattle.beldi_laws.specs.Stands.{key_in}
 
 -- ---- rows of callees are no rows of roots
 is_root_key : Kind → Bool
@@ -58,71 +58,84 @@ pub same_roots : (m : Rows) (home : ℕ) (id : IntentId) (v : Option Row) → ha
 same_roots m home id v hops t = ap is_some (set_others m (record { home = home; kind = kinds.Intent id }) v (root_key t) (no_root_row t home id hops))
 
 module _ (d : Deployment) (c : Core) (m : Rows) (i : ℕ) (r : Run) (h : Right d c m) (live : map.get c.runs i ≡ Some r) where
-  -- the body, if any, is that of the run's instance, and of its function
-  MadeWith : Option Body → Type 0
-  MadeWith None = Unit {0}
-  MadeWith (Some b) = IsBodyOf b (map.get h.known r.id) × (b.func ≡ r.func)
+  -- the body, if any, is that of the run's instance, and of its function, and a callee has its row in these rows
+  record IsBegun (n : Rows) (b : Body) : Type 0 where
+    body : IsBodyOf b (map.get h.known r.id)
+    func : b.func ≡ r.func
+    row : has_no_hops r.id.hops ≡ false → is_some (map.get n (key_in r.func r.id)) ≡ true
 
-  made_in : (b : Option Body) → ((x : Body) → b ≡ Some x → IsBodyOf x (map.get h.known r.id)) → MadeWith (body_in r.func b)
+  MadeWith : Rows → Option Body → Type 0
+  MadeWith n None = Unit {0}
+  MadeWith n (Some b) = IsBegun n b
+
+  made_in : (n : Rows) (b : Option Body) → ((x : Body) → b ≡ Some x → IsBodyOf x (map.get h.known r.id)) → (has_no_hops r.id.hops ≡ false → is_some (map.get n (key_in r.func r.id)) ≡ true) → MadeWith n (body_in r.func b)
   unfolding MadeWith
-  made_in None is = tt
-  made_in (Some b) is = by_func (b.func == r.func) refl
+  made_in n None is row = tt
+  made_in n (Some b) is row = by_func (b.func == r.func) refl
     where
-      by_func : (t : Bool) → (b.func == r.func) ≡ t → MadeWith (if t then Some b else None)
-      by_func true e = (is b refl, eqb-true b.func r.func e)
+      by_func : (t : Bool) → (b.func == r.func) ≡ t → MadeWith n (if t then Some b else None)
+      by_func true e = record { body = is b refl; func = eqb-true b.func r.func e; row = row }
       by_func false e = tt
 
-  made_open : (j : IntentRow) → IsRowOf j (map.get h.known r.id) → MadeWith (body_in r.func (open_body j))
+  made_open : (n : Rows) (j : IntentRow) → IsRowOf j (map.get h.known r.id) → (has_no_hops r.id.hops ≡ false → is_some (map.get n (key_in r.func r.id)) ≡ true) → MadeWith n (body_in r.func (open_body j))
   unfolding MadeWith
-  made_open j f = by_end (is_ended j)
+  made_open n j f row = by_end (is_ended j)
     where
-      by_end : (t : Bool) → MadeWith (body_in r.func (if t then None else j.body))
+      by_end : (t : Bool) → MadeWith n (body_in r.func (if t then None else j.body))
       by_end true = tt
-      by_end false = made_in j.body f.body
+      by_end false = made_in n j.body f.body row
 
-  made_told : (home : ℕ) (w : Option Row) → IntentMatches (has_ended d h.known) (has_no_hops r.id.hops) home w (map.get h.known r.id) → MadeWith (body_told r.func (said (act Look c.now w).1))
+  -- one that is told is in its row
+  made_told : (home : ℕ) (w : Option Row) → (is_some w ≡ true → has_no_hops r.id.hops ≡ false → is_some (map.get m (key_in r.func r.id)) ≡ true) → IntentMatches (has_ended d h.known) (has_no_hops r.id.hops) home w (map.get h.known r.id) → MadeWith m (body_told r.func (said (act Look c.now w).1))
   unfolding MadeWith
-  made_told home None f = tt
-  made_told home (Some (rows.Intent j)) f = made_open j (row_of (has_ended d h.known) (has_no_hops r.id.hops) home j (map.get h.known r.id) f)
-  made_told home (Some w) f = tt
+  made_told home None row f = tt
+  made_told home (Some (rows.Intent j)) row f = made_open m j (row_of (has_ended d h.known) (has_no_hops r.id.hops) home j (map.get h.known r.id) f) (row refl)
+  made_told home (Some w) row f = tt
 
-  begins : (n : Rows) → SameRoots m n → Stays h n → (f : Option Func) (b : Option Body) → MadeWith b → AfterTurn d h.plain c i r (begin_in d r f b) n
+  begins : (n : Rows) → SameRoots m n → Stays h n → (f : Option Func) (b : Option Body) → MadeWith n b → AfterTurn d h.plain c i r (begin_in d r f b) n
   unfolding MadeWith
   begins n roots kept f None made = is_over d c m n i r h live roots kept
   begins n roots kept None (Some b) made = is_over d c m n i r h live roots kept
   begins n roots kept (Some f) (Some b) made =
-      let s : Machine × Option OpenTx = (machine_begun d r.func b.args false, None) in
-      let j = made.0.instance in
-      let body = made.0.body in
-      let outside = h.uncalled r.id j made.0.made in
+      let s : Machine × Option RunTx = (machine_begun d r.func b.args (is_some b.tx), within b.tx) in
+      let j = made.body.instance in
+      let body = made.body.body in
       comes_to d c m n i r h live roots h.known h.locked s b.from
-      (knows_next d c.book n h.plain h.known h.locked kept.shows (legal_sane h) r b.from j made.0.made (sym (ap (λ z. z.func) body) ∙ made.1) (ap (λ z. z.from) body) [] s (record { later = j.answers; all = refl })
-      (record { machine = subst (λ t. IsAt d r.func j.args (is_some t) s.0 []) (sym outside) (subst (λ a. IsAt d r.func a false s.0 []) (ap (λ z. z.args) body) (at_begin d r.func b.args false)); open_there = refl })
+      (knows_next d c.book n h.plain h.known h.locked kept.shows r b.from j made.body.made (sym (ap (λ z. z.func) body) ∙ made.func) (ap (λ z. z.from) body) made.row [] s (record { later = j.answers; all = refl })
+      (record { machine = subst (λ (z : Body). IsAt d r.func z.args (is_some z.tx) s.0 []) body (at_begin d r.func b.args (is_some b.tx)); open_there = ap (λ z. within z.tx) body })
       (λ t z own over less. absurd (omega (arith, less))) None) kept
+
+  -- a callee's row is in the home of its function
+  key_is : (func : ℕ) → has_no_hops r.id.hops ≡ false → intent_key r.id func ≡ key_in func r.id
+  key_is func hops = λ k. record { home = if hops k then 0 else func; kind = kinds.Intent r.id }
 
   -- it looks at its row
   pub look_turn : AfterQuery d h.plain c.now m (λ t. turn_next c i r (begin_in d r (func_at d r.func) (body_told r.func t))) (look_asks r.id r.func)
   look_turn =
       let key = intent_key r.id r.func in
       let b = body_told r.func (said (act Look c.now (map.get m key)).1) in
-      subst (AfterTurn d h.plain c i r (begin_in d r (func_at d r.func) b)) (sym (looked c.now key m)) (begins m (λ t. refl) (as_it_was h) (func_at d r.func) b (made_told key.home (map.get m key) (h.rows.keys key)))
+      subst (AfterTurn d h.plain c i r (begin_in d r (func_at d r.func) b)) (sym (looked c.now key m)) (begins m (λ t. refl) (as_it_was h) (func_at d r.func) b
+      (made_told key.home (map.get m key) (λ there hops. ap (λ l. is_some (map.get m l)) (sym (key_is r.func hops)) ∙ there) (h.rows.keys key)))
 
   -- it registers its body, or finds its row
   module _ (b : Body) (k : KnowsBody h.known r b) where
     abbrev key : RowKey
     key = record { home = b.func; kind = kinds.Intent r.id }
 
+    at_home : (n : Rows) → is_some (map.get n key) ≡ true → is_some (map.get n (key_in r.func r.id)) ≡ true
+    at_home n there = ap (λ f. is_some (map.get n (key_in f r.id))) (sym k.func) ∙ there
+
     by_row : (w : Option Row) → map.get m key ≡ w → AfterAct d h.plain m key (λ t. turn_next c i r (begin_in d r (func_at d r.func) (body_registered r.func b t))) (act (Register b) c.now w)
     unfolding MadeWith
     by_row None at =
         let new = Some (rows.Intent (issued_at c.now (Some b))) in
-        begins (set_row m key new) (same_roots m b.func r.id new k.callee) (log_stays d m key new refl (λ e. refl) c h (callee_registered d m h.known h.locked r.id b c.now k.callee k.body h.rows at)) (func_at d r.func) (body_in r.func (Some b)) (made_in (Some b) (λ x e. subst (λ z. IsBodyOf z (map.get h.known r.id)) (same_some e) k.body))
+        let n = set_row m key new in
+        begins n (same_roots m b.func r.id new k.callee) (log_stays d m key new refl c h (stays_new (map.get m key) new at) (no_more d m key new h.known (λ e. cc)) (callee_registered d m h.known h.locked r.id b c.now k.callee k.body h.rows at)) (func_at d r.func) (body_in r.func (Some b))
+        (made_in n (Some b) (λ x e. subst (λ z. IsBodyOf z (map.get h.known r.id)) (same_some e) k.body) (λ hops. at_home n (ap is_some (got m key key new ∙ ap (λ t. cond t new (map.get m key)) (key_self key)))))
     by_row (Some w) at =
         let found = body_told r.func (said (act Look c.now (Some w)).1) in
-        still d h.plain m key (Some w) (sym at) (begins m (λ t. refl) (as_it_was h) (func_at d r.func) found (made_told b.func (Some w) (subst (λ z. IntentMatches (has_ended d h.known) (has_no_hops r.id.hops) b.func z (map.get h.known r.id)) at (h.rows.keys key))))
+        still d h.plain m key (Some w) (sym at) (begins m (λ t. refl) (as_it_was h) (func_at d r.func) found
+        (made_told b.func (Some w) (λ there hops. at_home m (ap is_some at)) (subst (λ z. IntentMatches (has_ended d h.known) (has_no_hops r.id.hops) b.func z (map.get h.known r.id)) at (h.rows.keys key))))
 
     pub register_turn : AfterQuery d h.plain c.now m (λ t. turn_next c i r (begin_in d r (func_at d r.func) (body_registered r.func b t))) (register_asks r.id b)
-    register_turn = subst (λ z. AfterAct d h.plain m z (λ t. turn_next c i r (begin_in d r (func_at d r.func) (body_registered r.func b t))) (act (Register b) c.now (map.get m z))) own (by_row (map.get m key) refl)
-      where
-        own : key ≡ intent_key r.id b.func
-        own = λ j. record { home = sym (ap (λ t. if t then 0 else b.func) k.callee) j; kind = kinds.Intent r.id }
+    register_turn = subst (λ z. AfterAct d h.plain m z (λ t. turn_next c i r (begin_in d r (func_at d r.func) (body_registered r.func b t))) (act (Register b) c.now (map.get m z))) (sym (key_is b.func k.callee)) (by_row (map.get m key) refl)

@@ -12,17 +12,19 @@ use Rattle.beldi_invokelog.specs.InvokeLog.{invoke_key, opened}
 use Rattle.beldi_lang.specs.Callee.{answer_of}
 use Rattle.beldi_lang.specs.declared.effect.Answer.{Answer}
 use Rattle.beldi_lang.specs.declared.effect.Effect.TheVariants.{Call}
-use Rattle.beldi_laws.proofs.CallsHere.{not_made, was_made, made_by, next_here, callee_knows, given_first, first_given, call_now, absent_here, callee_there, caller_there, call_entered, callee_goes, callee_row, callee_ahead, callee_settled, callee_grows}
-use Rattle.beldi_laws.proofs.Others.{kept_by}
-use Rattle.beldi_laws.proofs.Frames.{settled_rows}
-use Rattle.beldi_laws.proofs.Keeping.{as_it_was}
+use Rattle.beldi_laws.proofs.CallsHere.{not_made, was_made, made_by, next_here, callee_knows, given_first, first_given, call_now, absent_here, callee_frame, callee_there, caller_there, call_entered, callee_goes, callee_row, callee_ahead, callee_settled, callee_grows, no_outcome}
+use Rattle.beldi_laws.proofs.Keeping.{as_it_was, set_shadows}
+use Rattle.beldi_laws.proofs.Passing.{call_ok, replays_call, tx_is, tx_now_is, tx_step_is}
 use Rattle.beldi_laws.specs.Inside.{Inside}
-use Rattle.beldi_laws.proofs.Moves.{AfterTurn, AfterQuery, Kept, quiet, entered, AfterAct, still}
-use Rattle.beldi_laws.proofs.Registered.{log_frame}
+use Rattle.beldi_laws.proofs.Moves.{AfterTurn, AfterQuery, Kept, SameRoots, quiet, entered, AfterAct, still}
+use Rattle.beldi_laws.proofs.Registered.{kept_moving, no_intent}
 use Rattle.beldi_known.proofs.Rows.{set_others, no_root as no_root_key}
-use Rattle.beldi_laws.proofs.Turns.{effect_here, replays, at_another, awaits, stays_there, tx_step, tx_next}
-use Rattle.beldi_order.specs.Txs.{tx_after}
-use Rattle.beldi_plain.specs.Plain.{effect_before, PlainState, callee_of, Instance, new_instance, calls_at, step_by}
+use Rattle.beldi_laws.proofs.Turns.{at_other, effect_here, awaits, stays_other, tx_next}
+use Rattle.beldi_order.proofs.Entries.{grows_self}
+use Rattle.beldi_order.specs.Grown.{Grows}
+use Rattle.beldi_order.specs.Txs.{tx_after, tx_now}
+use Rattle.beldi_plain.specs.Item.{Item}
+use Rattle.beldi_plain.specs.Plain.{effect_before, PlainState, callee_of, Instance, calls_at, step_by, value_at}
 use Rattle.beldi_row.specs.Act.{Tell, act}
 use Rattle.beldi_row.specs.Table.{Rows, set_row}
 use Rattle.beldi_row.specs.declared.act.Act.TheVariants.{Look, OpenInvoke}
@@ -32,10 +34,11 @@ use Rattle.beldi_row.specs.declared.row.InvokeRow.{InvokeRow}
 use Rattle.beldi_row.specs.declared.row.Row.TheVariants as rows
 use Rattle.beldi_row.specs.declared.row.Row.{Row}
 use Rattle.beldi_step.specs.Host.{Core, turn_next}
-use Rattle.beldi_step.specs.Run.{is_waited, place_of, turned_by, callee_at, call_answer, call_here_says, callee_of as run_called}
+use Rattle.beldi_step.specs.Run.{at_stage, is_waited, place_of, step_mark, turned_by, tx_at as run_tx, tx_of, callee_at, call_answer, call_here_says, callee_of as run_called}
 use Rattle.beldi_step.specs.declared.run.Begun.{Begun}
 use Rattle.beldi_step.specs.declared.run.Mark.TheVariants as mark
 use Rattle.beldi_step.specs.declared.run.Run.{Run}
+use Rattle.beldi_step.specs.declared.run.RunTx.{RunTx}
 use Rattle.beldi_step.specs.declared.run.RunAt.TheVariants.{Begins}
 use Rattle.beldi_step.specs.declared.run.Says.TheVariants.{Answers, Waits, Ends, Opens}
 use Rattle.beldi_step.specs.declared.run.Says.{Says}
@@ -46,18 +49,28 @@ use Rattle.beldi_value.specs.Id.{child_of, has_callees}
 use Rattle.beldi_value.specs.declared.id.IntentId.{IntentId}
 use Rattle.beldi_value.specs.declared.outcome.Outcome.{Outcome}
 use Rattle.beldi_value.specs.declared.place.Place.{Place}
+use Rattle.beldi_value.specs.declared.place.TxId.{TxId}
 use Rattle.beldi_value.specs.declared.value.Value.{Value}
 use Rattle.beldi_known.specs.Owed.{result_of}
 use Rattle.beldi_known.specs.Rows.{CallMatches}
-use Rattle.beldi_laws.specs.Right.{Right, Knows, KnowsAt, SeenDone}
+use Rattle.beldi_laws.specs.Right.{Right, RunAt, Knows, KnowsAt, SeenDone, StageOk}
+use Rattle.beldi_known.specs.Beside.{is_begin}
+use Rattle.beldi_known.specs.InsideLaws.{Goes}
 use Rattle.beldi_known.specs.Known.{owed_call, Known, at_once}
+use Rattle.beldi_known.specs.Listed.{listed}
+use Rattle.beldi_known.proofs.Acting.{calls_go}
+use Rattle.beldi_known.proofs.Lines.{opens_are_open}
 use Rattle.beldi_known.specs.Sane.{Sane}
-use Rattle.beldi_laws.proofs.KeptSane.{called_kept}
-use Rattle.beldi_laws.proofs.Shown.{log_values}
+use Rattle.beldi_laws.proofs.KeptSane.{called_kept, called_with}
+use Rattle.beldi_laws.proofs.Shown.{log_values, sound}
 use Rattle.beldi_laws.proofs.Grown.{grown_same}
 
-module _ (d : Deployment) (c : Core) (m : Rows) (i : ℕ) (r : Run) (g : Begun) (h : Right d c m) (live : map.get c.runs i ≡ Some r) (at_is : r.at ≡ Begins g) (k : Knows d c.book h.known r g) (finds : Inside d m h.plain h.known r g) (out : tx_after d r.id k.instance k.answers ≡ None)
-    (f : ℕ) (v : Value) (is : g.machine.effect ≡ Call f v) (hops : has_callees r.id ≡ true) where
+-- a call that is there already made no entry
+again_unmarked : (o : Option RunTx) → step_mark o false ≡ None
+again_unmarked None = refl
+again_unmarked (Some x) = refl
+
+module _ (d : Deployment) (c : Core) (m : Rows) (i : ℕ) (r : Run) (g : Begun) (h : Right d c m) (live : map.get c.runs i ≡ Some r) (at_is : r.at ≡ Begins g) (k : Knows d c.book h.known r g) (finds : Inside d m h.plain h.known r g) (f : ℕ) (v : Value) (is : g.machine.effect ≡ Call f v) (hops : has_callees r.id ≡ true) where
   abbrev place : Place
   place = place_of r.id g.machine.steps
 
@@ -85,11 +98,17 @@ module _ (d : Deployment) (c : Core) (m : Rows) (i : ℕ) (r : Run) (g : Begun) 
   done u z there result =
       let j = was_made d c m r g h k true f v call_here z there in
       let a = answered_by u j.0 j.1 (j.2 ∙ result) k.later refl in
-      replays d c m i r g h live k finds out (Call f v) is m (answer_of u) a.0 (λ t. refl) (as_it_was h) a.1
+      replays_call d c m i r g h live k finds (Call f v) is f v refl m (answer_of u) a.0 (λ t. refl) (as_it_was h) a.1
 
   -- ---- it is not: the run looks for it from then on
+  apart : is_begin g.machine.effect ≡ false
+  apart = ap is_begin is
+
+  looks_ok : StageOk (tx_after d r.id k.instance k.answers) r.id g.caller (Call f v) (stage.Call call.Look)
+  looks_ok = call_ok (tx_after d r.id k.instance k.answers) r.id g.caller f v call.Look hops
+
   starts : (book : List Entry) (known : Known) → Sane d known → map.get known r.id ≡ Some k.instance → is_some (map.get known callee) ≡ true → (o : Run) → run_called r ≡ Some o → KnowsAt d book known o o.at
-  starts book known sane made there o started = callee_knows d book known sane r g.machine.steps g.machine.effect f v k.instance is made k.func (tx_step d c.book h.known r g k out) call_here there o (sym (ap (callee_at r) at_is) ∙ started)
+  starts book known sane made there o started = callee_knows d book known sane r g.tx g.machine.steps g.machine.effect f v k.instance is made k.func (tx_step_is d c.book h.known r g k apart) call_here there o (sym (ap (callee_at r) at_is) ∙ started)
 
   starts_here : is_some (map.get h.known callee) ≡ true → (o : Run) → run_called r ≡ Some o → KnowsAt d c.book h.known o o.at
   starts_here there = starts c.book h.known h.sane k.made there
@@ -97,66 +116,89 @@ module _ (d : Deployment) (c : Core) (m : Rows) (i : ℕ) (r : Run) (g : Begun) 
   waits : is_some (map.get h.known callee) ≡ true → Left (Waits (wait.Result callee)) m
   waits there = awaits d c m i r g h live k callee m (λ t. refl) (as_it_was h) (λ e. starts_here there)
 
-  opens_again : is_some (map.get h.known callee) ≡ true → Left (Opens None) m
-  opens_again there = quiet d c m m i r h live (λ t. refl) (turned_by d r g (Opens None)) h.known h.locked refl refl
-      (stays_there d c m i r g h live k finds out (Call f v) is m (stage.Call call.Look) (as_it_was h) hops tt there)
-      (λ e. starts_here there) (as_it_was h)
+  opens_again : is_some (map.get h.known callee) ≡ true → Left (Opens (step_mark g.tx false)) m
+  opens_again there = subst (λ z. Left (Opens z) m) (sym (again_unmarked g.tx)) (quiet d c m m i r h live (λ t. refl) (turned_by d r g (Opens None)) h.known h.locked refl refl
+      (stays_other d c m i r g h live k finds (Call f v) is m (stage.Call call.Look) refl (as_it_was h) looks_ok tt there)
+      (λ e. starts_here there) (as_it_was h))
 
   -- ---- it is opened now: it is the instance's next step
-  module _ (new : map.get h.known callee ≡ None) (left : k.later ≡ []) where
-    abbrev made_id : IntentId
-    made_id = callee_of r.id k.instance
-
-    abbrev next : Known
-    next = map.insert h.known made_id (at_once d made_id (new_instance f v (Some (calls_at r.id k.instance true))))
-
-    abbrev state : PlainState
-    state = step_by h.plain r.id k.instance (Call f v)
-
+  module _ (none : map.get m key ≡ None) (new : map.get h.known callee ≡ None) (left : k.later ≡ []) where
     abbrev row : Option Row
     row = Some (rows.Invoke (opened f))
 
-    sane : Sane d next
-    sane = called_kept d h.known h.sane r.id k.instance f v k.made (tx_next d c.book h.known r g k out left) (call_now d c m i r g h live k finds out true f v is new left) (absent_here d c m i r g h live k finds out true f v is new left)
+    abbrev rows_now : Rows
+    rows_now = set_row m key row
 
-    kept_opened : Kept h (set_row m key row) state next h.locked
-    kept_opened =
-        let frame = log_frame d m key row refl (λ e. refl) h.plain state h.known next refl in
-        kept_by d c m (set_row m key row) h state next h.locked
-        (record {
-          goes = callee_goes d c m i r g h live k finds out true f v is new left;
-          locked_at_ends = callee_ahead d c m i r g h live k finds out true f v is new left;
-          sane = sane;
-          rows = callee_row d c m i r g h live k finds out true f v is new left;
-          values = log_values h key row refl;
-          settled = settled_rows d m (set_row m key row) h.plain state h.known next frame (callee_settled d c m i r g h live k finds out true f v is new left state (call_entered d c m i r g h live k finds out true f v is new left hops next).grows);
-        })
-        (callee_grows d c m i r g h live k finds out true f v is new left) frame
+    roots : SameRoots m rows_now
+    roots u = ap is_some (set_others m key row (root_key u) (no_root_key u r.func (kinds.Invoke place) refl))
 
-    pub opens_now : Left (Opens (Some mark.Step)) (set_row m key row)
-    opens_now =
-        let made = caller_there d c m i r g h live k finds out true f v is new left in
-        let there = callee_there d c m i r g h live k finds out true f v is new left in
-        entered d c m (set_row m key row) i r h live (λ u. ap is_some (set_others m key row (root_key u) (no_root_key u r.func (kinds.Invoke place) refl)))
-        (turned_by d r g (Opens (Some mark.Step))) mark.Step state next h.locked refl (call_entered d c m i r g h live k finds out true f v is new left hops next) (λ o told. cc)
-        (at_another d c m i r g h live k finds out (Call f v) is (c.book ++ Step r.id ∷ []) (set_row m key row) state next h.locked k.instance k.later (stage.Call call.Look) kept_opened made (grown_same k.instance) k.run_answers hops tt there)
-        (λ e. starts (c.book ++ Step r.id ∷ []) next sane made there)
-        kept_opened
+    -- its callee is known from then on, in the transaction of the call, if any
+    module _ (t : Option TxId) (inner : t ≡ tx_now d r.id k.instance) where
+      abbrev next : Known
+      next = map.insert h.known (callee_of r.id k.instance) (at_once d (callee_of r.id k.instance) (called_with t f v (calls_at r.id k.instance true)))
+
+      sane : Sane d next
+      sane = called_kept d h.known h.sane t r.id k.instance f v k.made inner (call_now d c m r g h k true f v is new left) (absent_here d c m r g h k true f v is new left)
+
+      kept_opened : (q : PlainState) → Grows h.plain.made q.made → q.items ≡ h.plain.items → ((x : Item) → listed rows_now x ≡ value_at q x) → Goes d rows_now q next h.locked → Kept h rows_now q next h.locked
+      kept_opened q grows items values goes = kept_moving h rows_now q next h.locked goes (callee_ahead d c m r g h k finds true f v is hops new left t inner) sane (callee_row d c m r g h k finds true f v is hops new left t inner) values
+          (callee_settled d c m r g h k finds true f v is hops new left t inner q grows) (callee_grows d c m r g h k finds true f v is hops new left t inner) (callee_frame d c m r g h k finds true f v is hops new left t inner none q items)
+          (no_intent d m key row next refl)
+
+      made : map.get next r.id ≡ Some k.instance
+      made = caller_there d c m r g h k finds true f v is hops new left t inner
+
+      stays_made : is_some (map.get next callee) ≡ true
+      stays_made = callee_there d c m r g h k finds true f v is hops new left t inner
+
+      looks : (more : List Entry) (q : PlainState) → Kept h rows_now q next h.locked → RunAt d rows_now q more next (Some (record r { at = Begins (at_stage g (stage.Call call.Look)) }))
+      looks more q kept = at_other d c m i r g h live k finds (Call f v) is more rows_now q next h.locked k.instance k.later (stage.Call call.Look) refl kept made (grown_same k.instance) k.run_answers looks_ok tt stays_made
+
+    -- outside, by an entry
+    opens_outside : g.tx ≡ None → Left (Opens (Some mark.Step)) rows_now
+    opens_outside tx =
+        let out : tx_after d r.id k.instance k.answers ≡ None = tx_is d c.book h.known r g k apart ∙ ap (run_tx r.id r.func) tx in
+        let inner : None ≡ tx_now d r.id k.instance = sym (tx_next d c.book h.known r g k out left) in
+        let state = step_by h.plain r.id k.instance (Call f v) in
+        let leads = call_entered d c m i r g h live k finds true f v is hops new left out (next None inner) in
+        let kept = kept_opened None inner state leads.grows refl (log_values h key row refl) (callee_goes d c m i r g h live k finds true f v is hops new left out) in
+        entered d c m rows_now i r h live roots (turned_by d r g (Opens (Some mark.Step))) mark.Step state (next None inner) h.locked refl leads (λ o told. cc)
+        (looks None inner (c.book ++ Step r.id ∷ []) state kept) (λ e. starts (c.book ++ Step r.id ∷ []) (next None inner) (sane None inner) (made None inner) (stays_made None inner)) kept
+
+    -- inside, by none
+    opens_inside : (o : RunTx) → g.tx ≡ Some o → Left (Opens None) rows_now
+    opens_inside o tx =
+        let t : TxId = tx_of r.id r.func o in
+        let now : tx_now d r.id k.instance ≡ Some t = tx_now_is d c.book h.known r g k apart left ∙ ap (run_tx r.id r.func) tx in
+        let calls = call_now d c m r g h k true f v is new left in
+        let none = no_outcome d c m r g h k true f v is new left in
+        let goes = calls_go d m rows_now h.plain h.known h.locked r.id k.instance t f v (opens_are_open d m h.plain h.known h.locked r.id k.instance t (sound h) k.made none now) k.made now calls hops
+        (absent_here d c m r g h k true f v is new left) (set_shadows m key row refl) in
+        let kept = kept_opened (Some t) (sym now) h.plain (grows_self h.plain.made) refl (log_values h key row refl) goes in
+        quiet d c m rows_now i r h live roots (turned_by d r g (Opens None)) (next (Some t) (sym now)) h.locked refl refl
+        (looks (Some t) (sym now) c.book h.plain kept) (λ e. starts c.book (next (Some t) (sym now)) (sane (Some t) (sym now)) (made (Some t) (sym now)) (stays_made (Some t) (sym now))) kept
+
+    pub opens_now : Left (Opens (step_mark g.tx true)) rows_now
+    opens_now = by_tx g.tx refl
+      where
+        by_tx : (o : Option RunTx) → g.tx ≡ o → Left (Opens (step_mark o true)) rows_now
+        by_tx None tx = opens_outside tx
+        by_tx (Some o) tx = opens_inside o tx
 
   -- ---- its turns
   abbrev AfterCall : CallAt → Option Row × Tell → Type 0
-  AfterCall at z = AfterAct d h.plain m key (λ t. turn_next c i r (turned_by d r g (call_answer r.id g.machine.steps (call_says f at t)))) z
+  AfterCall at z = AfterAct d h.plain m key (λ t. turn_next c i r (turned_by d r g (call_answer r.id g.tx g.machine.steps (call_says f at t)))) z
 
-  open_by : (x : InvokeRow) (o : Option Outcome) → x.result ≡ o → owed_call h.known r.func place ≡ Some (x.func, x.result) → Left (call_answer r.id g.machine.steps (open_says false o)) m
+  open_by : (x : InvokeRow) (o : Option Outcome) → x.result ≡ o → owed_call h.known r.func place ≡ Some (x.func, x.result) → Left (call_answer r.id g.tx g.machine.steps (open_says false o)) m
   open_by x None none there = opens_again (made_by d c m r g h k true f v call_here x there)
   open_by x (Some u) some there = done u (x.func, x.result) there some
 
   open_at : (w : Option Row) → map.get m key ≡ w → CallMatches w (owed_call h.known r.func place) → AfterCall call.Open (act (OpenInvoke f) c.now w)
-  open_at None at owed = let new = not_made d c m r g h k true f v call_here owed in opens_now new (next_here d c m r g h k true f v call_here new k.later refl)
+  open_at None at owed = let new = not_made d c m r g h k true f v call_here owed in opens_now at new (next_here d c m r g h k true f v call_here new k.later refl)
   open_at (Some (rows.Invoke x)) at owed = still d h.plain m key (Some (rows.Invoke x)) (sym at) (open_by x x.result refl owed)
   open_at (Some w) at owed = absurd owed
 
-  look_by : (x : InvokeRow) (o : Option Outcome) → x.result ≡ o → owed_call h.known r.func place ≡ Some (x.func, x.result) → Left (call_answer r.id g.machine.steps (look_says o)) m
+  look_by : (x : InvokeRow) (o : Option Outcome) → x.result ≡ o → owed_call h.known r.func place ≡ Some (x.func, x.result) → Left (call_answer r.id g.tx g.machine.steps (look_says o)) m
   look_by x None none there = waits (made_by d c m r g h k true f v call_here x there)
   look_by x (Some u) some there = done u (x.func, x.result) there some
 
@@ -165,10 +207,10 @@ module _ (d : Deployment) (c : Core) (m : Rows) (i : ℕ) (r : Run) (g : Begun) 
   look_at (Some (rows.Invoke x)) at owed there = still d h.plain m key (Some (rows.Invoke x)) (sym at) (look_by x x.result refl owed)
   look_at (Some w) at owed there = absurd owed
 
-  by_at : (at : CallAt) → SeenDone h.known r.id g.machine.steps k.instance g.caller (stage.Call at) → AfterQuery d h.plain c.now m (λ t. turn_next c i r (turned_by d r g (call_answer r.id g.machine.steps (call_says f at t)))) (call_asks r.func place f at)
+  by_at : (at : CallAt) → SeenDone h.known r.id g.machine.steps k.instance g.caller (stage.Call at) → AfterQuery d h.plain c.now m (λ t. turn_next c i r (turned_by d r g (call_answer r.id g.tx g.machine.steps (call_says f at t)))) (call_asks r.func place f at)
   by_at call.Open seen = open_at (map.get m key) refl (h.rows.keys key)
   by_at call.Look seen = look_at (map.get m key) refl (h.rows.keys key) seen
 
   pub call_turn : (at : CallAt) → SeenDone h.known r.id g.machine.steps k.instance g.caller (stage.Call at)
-      → AfterQuery d h.plain c.now m (λ t. turn_next c i r (turned_by d r g (call_here_says r.id g.machine.steps (Call f v) at t))) (call_asks r.func place f at)
-  call_turn at seen = subst (λ b. AfterQuery d h.plain c.now m (λ t. turn_next c i r (turned_by d r g (if b then call_answer r.id g.machine.steps (call_says f at t) else Ends None None))) (call_asks r.func place f at)) (sym hops) (by_at at seen)
+      → AfterQuery d h.plain c.now m (λ t. turn_next c i r (turned_by d r g (call_here_says r.id g.tx g.machine.steps (Call f v) at t))) (call_asks r.func place f at)
+  call_turn at seen = subst (λ b. AfterQuery d h.plain c.now m (λ t. turn_next c i r (turned_by d r g (if b then call_answer r.id g.tx g.machine.steps (call_says f at t) else Ends None None))) (call_asks r.func place f at)) (sym hops) (by_at at seen)

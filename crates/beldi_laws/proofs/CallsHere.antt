@@ -1,5 +1,5 @@
 -- What is called at a step, and what a run knows of it.
-use Rattle.std.proofs.Common.{◌≡◌, ℕ, Bool, true, false, List, [], ◌∷◌, if◌then◌else◌, Option, None, Some, refl, ap, sym, ◌∙◌, subst, is_some, zero, suc, arith, length, eq-eqb, ◌<◌, ◌&&◌, length-append, IsTrue}
+use Rattle.std.proofs.Common.{◌≡◌, ◌⊎◌, inl, inr, append_assoc, ℕ, Bool, true, false, List, [], ◌∷◌, if◌then◌else◌, Option, None, Some, refl, ap, sym, ◌∙◌, subst, is_some, zero, suc, arith, length, eq-eqb, ◌<◌, ◌&&◌, ◌++◌, length-append, IsTrue}
 use Rattle.std.specs.FinMap as map
 use Rattle.std.specs.Option.{is_none, option_map}
 use Rattle.std.specs.Prelude.{slice_get}
@@ -11,28 +11,37 @@ use Rattle.beldi_lang.specs.declared.effect.Effect.{Effect}
 use Rattle.beldi_lang.specs.Wants.{wants_answer}
 use Rattle.beldi_laws.proofs.Keeping.{SameShadows, goes_made, set_shadows}
 use Rattle.beldi_laws.proofs.Moves.{Entered, change_entered}
-use Rattle.beldi_laws.proofs.Frames.{settled_grown, settled_new}
+use Rattle.beldi_laws.proofs.Frames.{NobodyJoins, nobody_made, settled_grown, settled_new}
+use Rattle.beldi_laws.proofs.KeptSane.{called_with}
+use Rattle.beldi_laws.proofs.Registered.{log_frame, stays_new}
+use Rattle.beldi_laws.proofs.Short.{child_short}
 use Rattle.beldi_laws.proofs.Shown.{Settled, legal_sane, settled}
-use Rattle.beldi_laws.specs.Inside.{Inside}
+use Rattle.beldi_laws.specs.Inside.{Frame, Inside}
 use Rattle.beldi_laws.proofs.Turns.{answer_here, step_here, effect_next, not_over, plain_there}
 use Rattle.beldi_order.proofs.Entries.{enabled_step, grows_new}
-use Rattle.beldi_order.proofs.Maps.{same_some, here, elsewhere}
+use Rattle.beldi_order.proofs.Called.{last_hop}
+use Rattle.beldi_order.proofs.Maps.{same_some, here, elsewhere, made_set}
 use Rattle.beldi_order.specs.Grown.{Grows}
-use Rattle.beldi_order.specs.Sane.{call_of, answer_given, IsCalled, CalledBy}
+use Rattle.beldi_order.specs.Inside.{IsBelow}
+use Rattle.beldi_order.specs.Sane.{call_of, answer_given, within_by, IsCalled, CalledBy}
 use Rattle.beldi_plain.specs.Guard.{touched_by, item_touched}
 use Rattle.beldi_plain.specs.Piece.{tx_begun}
+use Rattle.beldi_plain.specs.Item.{Item}
 use Rattle.beldi_plain.specs.Plain.{effect_before, effect_of, Instance, kind_of, new_instance, calls_at, callee_of, step_by, waits_at, with_callee, with_instance, answered, PlainState}
 use Rattle.beldi_plain.specs.declared.kind.Kind.TheVariants as kind
 use Rattle.beldi_row.specs.Table.{Rows, set_row}
 use Rattle.beldi_row.specs.declared.row.Body.{Body}
+use Rattle.beldi_row.specs.declared.key.RowKey.{RowKey}
 use Rattle.beldi_row.specs.declared.row.InvokeRow.{InvokeRow}
+use Rattle.beldi_row.specs.declared.row.Row.{Row}
 use Rattle.beldi_step.specs.Host.{Core}
-use Rattle.beldi_step.specs.Run.{place_of, callee_by, callee_body}
+use Rattle.beldi_step.specs.Run.{place_of, callee_by, callee_body, tx_at as run_tx}
 use Rattle.beldi_step.specs.declared.run.Begun.{Begun}
 use Rattle.beldi_step.specs.declared.run.Run.{Run}
+use Rattle.beldi_step.specs.declared.run.RunTx.{RunTx}
 use Rattle.beldi_step.specs.declared.run.RunAt.TheVariants.{Registers}
 use Rattle.beldi_tree.specs.declared.deployment.Deployment.{Deployment}
-use Rattle.beldi_value.proofs.Callees.{no_root}
+use Rattle.beldi_value.proofs.Callees.{child_same, no_root}
 use Rattle.beldi_value.specs.Id.{child_of, has_callees}
 use Rattle.beldi_value.specs.declared.id.IntentId.{IntentId}
 use Rattle.beldi_value.specs.declared.outcome.Outcome.{Outcome}
@@ -41,16 +50,19 @@ use Rattle.beldi_known.specs.Owed.{called_by, result_of}
 use Rattle.beldi_known.specs.Rows.{IsBodyOf}
 use Rattle.beldi_laws.specs.Right.{Right, Knows, KnowsAt}
 use Rattle.beldi_known.proofs.Ahead.{unlocked_absent, ahead_set, none_out}
-use Rattle.beldi_known.specs.Known.{owed_call, Known, at_once, moved}
-use Rattle.beldi_order.specs.Txs.{tx_at, tx_after}
-use Rattle.beldi_known.specs.Sane.{Sane, within_of}
+use Rattle.beldi_known.specs.Contents.{content_of}
+use Rattle.beldi_known.specs.Known.{owed_call, Known, at_once, ended_by, moved, tx_end}
+use Rattle.beldi_order.specs.Txs.{tx_at, tx_after, tx_now}
+use Rattle.beldi_known.specs.Sane.{Sane}
 use Rattle.beldi_known.specs.Matches.{Matches, LockedAtEnds}
 use Rattle.beldi_value.specs.declared.place.TxId.{TxId}
-use Rattle.beldi_value.specs.declared.place.Caller.{Caller}
+use Rattle.beldi_value.specs.declared.place.Owner.TheVariants.{Tx as ByTx}
 use Rattle.beldi_known.proofs.Frame.{at_once_same}
 use Rattle.beldi_known.proofs.Calls.{call_opened, made_owes}
 use Rattle.beldi_laws.proofs.Outside.{plain_none}
+use Rattle.beldi_known.proofs.AtOnce.{origin_stays}
 use Rattle.beldi_known.proofs.Instances.{no_own_callee}
+use Rattle.beldi_known.proofs.Participants.{now_open}
 use Rattle.beldi_known.specs.InsideLaws.{Goes}
 use Rattle.beldi_known.proofs.NoTx.{IsOutside}
 use Rattle.beldi_known.proofs.Outsides.{MaySet, callee_apart, goes_one, got_next, set_after_callee, set_next}
@@ -80,39 +92,31 @@ childless d known sane id new n = by_callee (map.get known (child_of id n)) refl
     by_callee None e = refl
     by_callee (Some j) e = absurd (subst (λ o. CalledBy d id o n j) new (sane.called id n j e))
 
--- a callee that was made has the body of its call
-pub made_with : (d : Deployment) (known : Known) → Sane d known → (id : IntentId) (func step : ℕ) (w : Bool) (f : ℕ) (v : Value) (q j : Instance) → map.get known id ≡ Some q → q.func ≡ func → tx_at d id q step ≡ None → effect_before d q step ≡ call_of w f v → map.get known (child_of id step) ≡ Some j
-    → IsBodyOf (callee_body id func step f v w) (map.get known (child_of id step))
-made_with d known sane id func step w f v q j made func_is out here at =
+-- a callee that was made has the body of its call, in the transaction of the call where its caller waits
+pub made_with : (d : Deployment) (known : Known) → Sane d known → (id : IntentId) (func step : ℕ) (w : Bool) (f : ℕ) (v : Value) (q j : Instance) (t : Option TxId) → map.get known id ≡ Some q → q.func ≡ func → tx_at d id q step ≡ t → effect_before d q step ≡ call_of w f v → map.get known (child_of id step) ≡ Some j
+    → IsBodyOf (callee_body id func step f v (within_by w t) w) (map.get known (child_of id step))
+made_with d known sane id func step w f v q j t made func_is inner here at =
     let c = called_in d known sane id step j at in
     let same : c.0 ≡ q = same_some (sym c.1 ∙ made) in
     let call : call_of w f v ≡ call_of c.2.waits j.func j.args = sym here ∙ ap (λ z. effect_before d z step) (sym same) ∙ c.2.call in
     let parts = same_call w c.2.waits f j.func v j.args call in
-    let outside : j.within ≡ None = sane.within id q step j made at ∙ ap (within_of j.from) out ∙ none_in j.from in
+    let within : j.within ≡ within_by w t = c.2.within ∙ (λ i. within_by (sym parts.0 i) (tx_at d id (same i) step)) ∙ ap (within_by w) inner in
     let from : Some (record { place = place_of id step; func = func; waits = w }) ≡ j.from = (λ i. Some (record { place = place_of id step; func = (sym func_is ∙ ap (λ z. z.func) (sym same)) i; waits = parts.0 i })) ∙ sym c.2.from in
-    record { instance = j; made = at; body = λ i. record { func = parts.1 i; args = parts.2 i; tx = sym outside i; from = from i } }
-  where
-    by_wait : (b : Bool) → ◌≡◌ {A = Option TxId} (if b then None else None) None
-    by_wait true = refl
-    by_wait false = refl
-
-    none_in : (o : Option Caller) → within_of o None ≡ None
-    none_in None = refl
-    none_in (Some c) = by_wait c.waits
+    record { instance = j; made = at; body = λ i. record { func = parts.1 i; args = parts.2 i; tx = sym within i; from = from i } }
 
 -- a run of one that is waited for registers it
-module _ (d : Deployment) (book : List Entry) (known : Known) (sane : Sane d known) (r : Run) (step : ℕ) (e : Effect) (f : ℕ) (v : Value) (q : Instance) (is : e ≡ Call f v) (made : map.get known r.id ≡ Some q) (func : q.func ≡ r.func) (out : tx_at d r.id q step ≡ None)
-    (here : effect_before d q step ≡ Call f v) (there : is_some (map.get known (child_of r.id step)) ≡ true) (k : Run) (started : callee_by r step e ≡ Some k) where
+module _ (d : Deployment) (book : List Entry) (known : Known) (sane : Sane d known) (r : Run) (o : Option RunTx) (step : ℕ) (e : Effect) (f : ℕ) (v : Value) (q : Instance) (is : e ≡ Call f v) (made : map.get known r.id ≡ Some q) (func : q.func ≡ r.func) (inner : tx_at d r.id q step ≡ run_tx r.id r.func o)
+    (here : effect_before d q step ≡ Call f v) (there : is_some (map.get known (child_of r.id step)) ≡ true) (k : Run) (started : callee_by r o step e ≡ Some k) where
   abbrev body : Body
-  body = callee_body r.id r.func step f v true
+  body = callee_body r.id r.func step f v (run_tx r.id r.func o) true
 
   by_hops : (b : Bool) → (if b then Some (record { id = child_of r.id step; func = f; deadline = r.deadline; at = Registers body }) else None) ≡ Some k → KnowsAt d book known (record { id = child_of r.id step; func = f; deadline = r.deadline; at = Registers body }) (Registers body) → KnowsAt d book known k k.at
   by_hops true same knows = subst (λ z. KnowsAt d book known z z.at) (same_some same) knows
   by_hops false same knows = cc
 
-  by_callee : (o : Option Instance) → map.get known (child_of r.id step) ≡ o → is_some o ≡ true → KnowsAt d book known k k.at
+  by_callee : (u : Option Instance) → map.get known (child_of r.id step) ≡ u → is_some u ≡ true → KnowsAt d book known k k.at
   by_callee None at there = cc
-  by_callee (Some j) at there = by_hops (has_callees r.id) (sym (ap (callee_by r step) is) ∙ started) (record { body = made_with d known sane r.id r.func step true f v q j made func out here at; func = refl; callee = no_root r.id step })
+  by_callee (Some j) at there = by_hops (has_callees r.id) (sym (ap (callee_by r o step) is) ∙ started) (record { body = made_with d known sane r.id r.func step true f v q j (run_tx r.id r.func o) made func inner here at; func = refl; callee = no_root r.id step })
 
   pub callee_knows : KnowsAt d book known k k.at
   callee_knows = by_callee (map.get known (child_of r.id step)) refl there
@@ -172,73 +176,148 @@ pub given_first : (a : Answer) (later : List Answer) → slice_get later 0 ≡ S
 given_first a [] first = cc
 given_first a (b ∷ rest) first = (rest, ap (λ z. z ∷ rest) (same_some first))
 
+-- ---- who is below a transaction was called by who is, or by its owner at a later step
+below_parent : (t : TxId) (i : IntentId) (n : ℕ) → IsBelow t (child_of i n) → ((i ≡ t.intent) × (t.begin < n)) ⊎ IsBelow t i
+below_parent t i n b = elim (last_hop b.hops) [
+  | inl e ↦
+      let same : child_of i n ≡ child_of t.intent b.step = b.is ∙ ap (λ hs. record { ticket = t.intent.ticket; hops = t.intent.hops ++ b.step ∷ hs }) e in
+      let parts = child_same i t.intent n b.step same in
+      inl (parts.0, subst (λ k. t.begin < k) (sym parts.1) b.later)
+  | inr r ↦
+      let up : IntentId = record { ticket = t.intent.ticket; hops = t.intent.hops ++ b.step ∷ r.0 } in
+      let same : child_of i n ≡ child_of up r.1 = b.is ∙ ap (λ hs. record { ticket = t.intent.ticket; hops = hs }) (ap (λ hs. t.intent.hops ++ b.step ∷ hs) r.2 ∙ sym (append_assoc t.intent.hops (b.step ∷ r.0) (r.1 ∷ []))) in
+      inr (record { step = b.step; later = b.later; hops = r.0; is = (child_same i up n r.1 same).0 })
+]
+
 -- ---- a call is opened: its row is put, and its callee is known
-pub call_row : (d : Deployment) (known : Known) (locked : IntentId → Bool) → LockedAtEnds d known locked → Sane d known → (id : IntentId) (i : Instance) (f : ℕ) (v : Value) (waits : Bool) → map.get known id ≡ Some i → map.get known (callee_of id i) ≡ None → (m : Rows) (step func : ℕ) → step ≡ length i.answers → i.func ≡ func → Matches d m known locked
-    → Matches d (set_row m (invoke_key func (place_of id step)) (Some (rows.Invoke (opened f)))) (map.insert known (callee_of id i) (at_once d (callee_of id i) (new_instance f v (Some (calls_at id i waits))))) locked
-call_row d known locked ends sane id i f v waits is new m step func steps func_is h =
-    let s = new_instance f v (Some (calls_at id i waits)) in
+pub call_row : (d : Deployment) (known : Known) (locked : IntentId → Bool) → LockedAtEnds d known locked → Sane d known → (id : IntentId) (i : Instance) (t : Option TxId) (f : ℕ) (v : Value) (waits : Bool) → map.get known id ≡ Some i → map.get known (callee_of id i) ≡ None → (m : Rows) (step func : ℕ) → step ≡ length i.answers → i.func ≡ func → Matches d m known locked
+    → Matches d (set_row m (invoke_key func (place_of id step)) (Some (rows.Invoke (opened f)))) (map.insert known (callee_of id i) (at_once d (callee_of id i) (called_with t f v (calls_at id i waits)))) locked
+call_row d known locked ends sane id i t f v waits is new m step func steps func_is h =
+    let s = called_with t f v (calls_at id i waits) in
     let z = at_once d (callee_of id i) s in
     let same = at_once_same d (callee_of id i) s in
     subst (λ n. Matches d (set_row m (invoke_key func (place_of id n)) (Some (rows.Invoke (opened f)))) (map.insert known (callee_of id i) z) locked) (sym steps)
     (subst (λ g. Matches d (set_row m (invoke_key g (place_of id (length i.answers))) (Some (rows.Invoke (opened f)))) (map.insert known (callee_of id i) z) locked) func_is
-    (call_opened d known locked id i z waits is new (childless d known sane (callee_of id i) new) (unlocked_absent d known locked ends (callee_of id i) new) (made_owes d known (callee_of id i) f v (Some (calls_at id i waits)) None) (sym (ap (λ (b : Body). b.from) same.body)) same.outcome m (opened f) (sym same.func) refl h))
+    (call_opened d known locked id i z waits is new (childless d known sane (callee_of id i) new) (unlocked_absent d known locked ends (callee_of id i) new) (made_owes d known (callee_of id i) f v (Some (calls_at id i waits)) t) (sym (ap (λ (b : Body). b.from) same.body)) same.outcome m (opened f) (sym same.func) refl h))
 
 -- .. now: it is the instance's next step
-module _ (d : Deployment) (c : Core) (m : Rows) (i : ℕ) (r : Run) (g : Begun) (h : Right d c m) (live : map.get c.runs i ≡ Some r) (k : Knows d c.book h.known r g) (finds : Inside d m h.plain h.known r g) (out : tx_after d r.id k.instance k.answers ≡ None)
-    (w : Bool) (f : ℕ) (v : Value) (is : g.machine.effect ≡ call_of w f v) (new : map.get h.known (child_of r.id g.machine.steps) ≡ None) (left : k.later ≡ []) where
+module _ (d : Deployment) (c : Core) (m : Rows) (r : Run) (g : Begun) (h : Right d c m) (k : Knows d c.book h.known r g) (w : Bool) (f : ℕ) (v : Value) (is : g.machine.effect ≡ call_of w f v) (new : map.get h.known (child_of r.id g.machine.steps) ≡ None) (left : k.later ≡ []) where
+  pub call_now : effect_of d k.instance ≡ call_of w f v
+  call_now = effect_next d c.book h.known r g k left ∙ is
+
+  pub absent_here : map.get h.known (callee_of r.id k.instance) ≡ None
+  absent_here = ap (λ n. map.get h.known (child_of r.id n)) (sym (step_here d c.book h.known r g k left)) ∙ new
+
+  pub no_outcome : k.instance.outcome ≡ None
+  no_outcome = not_over d c m r g h k left (subst (λ e. IsTrue (wants_answer e)) (sym is) (by_wait w))
+    where
+      by_wait : (b : Bool) → IsTrue (wants_answer (call_of b f v))
+      by_wait true = refl
+      by_wait false = refl
+
+-- .. its callee is in this transaction, if any
+module _ (d : Deployment) (c : Core) (m : Rows) (r : Run) (g : Begun) (h : Right d c m) (k : Knows d c.book h.known r g) (finds : Inside d m h.plain h.known r g)
+    (w : Bool) (f : ℕ) (v : Value) (is : g.machine.effect ≡ call_of w f v) (hops : has_callees r.id ≡ true) (new : map.get h.known (child_of r.id g.machine.steps) ≡ None) (left : k.later ≡ []) (t : Option TxId) (inner : t ≡ within_by w (tx_now d r.id k.instance)) where
   abbrev made_id : IntentId
   made_id = callee_of r.id k.instance
 
   abbrev made_new : Instance
-  made_new = new_instance f v (Some (calls_at r.id k.instance w))
+  made_new = called_with t f v (calls_at r.id k.instance w)
+
+  abbrev made_on : Instance
+  made_on = at_once d made_id made_new
 
   -- what is known with the callee
   abbrev given : Known
-  given = map.insert h.known made_id (at_once d made_id made_new)
+  given = map.insert h.known made_id made_on
+
+  abbrev key : RowKey
+  key = invoke_key r.func (place_of r.id g.machine.steps)
+
+  abbrev row : Option Row
+  row = Some (rows.Invoke (opened f))
 
   abbrev opened_rows : Rows
-  opened_rows = set_row m (invoke_key r.func (place_of r.id g.machine.steps)) (Some (rows.Invoke (opened f)))
-
-  pub call_now : effect_of d k.instance ≡ call_of w f v
-  call_now = effect_next d c.book h.known r g k left ∙ is
+  opened_rows = set_row m key row
 
   steps : g.machine.steps ≡ length k.instance.answers
   steps = step_here d c.book h.known r g k left
 
-  pub absent_here : map.get h.known made_id ≡ None
-  absent_here = ap (λ n. map.get h.known (child_of r.id n)) (sym steps) ∙ new
+  absent : map.get h.known made_id ≡ None
+  absent = absent_here d c m r g h k w f v is new left
 
   pub callee_there : is_some (map.get given (child_of r.id g.machine.steps)) ≡ true
-  callee_there = ap (λ n. is_some (map.get given (child_of r.id n))) steps ∙ ap is_some (here h.known made_id (at_once d made_id made_new))
+  callee_there = ap (λ n. is_some (map.get given (child_of r.id n))) steps ∙ ap is_some (here h.known made_id made_on)
 
   pub caller_there : map.get given r.id ≡ Some k.instance
-  caller_there = elsewhere h.known made_id r.id (at_once d made_id made_new) (no_own_callee r.id (length k.instance.answers)) ∙ k.made
+  caller_there = elsewhere h.known made_id r.id made_on (no_own_callee r.id (length k.instance.answers)) ∙ k.made
+
+  pub callee_grows : Grows h.known given
+  callee_grows = grows_new h.known made_id made_on absent
+
+  -- its row is put
+  pub callee_row : Matches d opened_rows given h.locked
+  callee_row = call_row d h.known h.locked h.locked_at_ends h.sane r.id k.instance t f v w k.made absent m g.machine.steps r.func steps k.func h.rows
+
+  -- nobody has a lock ahead that had none
+  pub callee_ahead : LockedAtEnds d given h.locked
+  callee_ahead = ahead_set d h.known h.locked h.locked_at_ends h.locked made_id made_on (none_out h.locked made_id (unlocked_absent d h.known h.locked h.locked_at_ends made_id absent))
+
+  -- its transaction has not ended, so nobody joins one that has
+  open_still : (u : TxId) → t ≡ Some u → tx_end d h.known u ≡ None
+  open_still u is_tx = now_open d h.known h.sane r.id k.instance u k.made (no_outcome d c m r g h k w f v is new left) (by_wait w (sym inner ∙ is_tx))
+    where
+      by_wait : (b : Bool) → within_by b (tx_now d r.id k.instance) ≡ Some u → tx_now d r.id k.instance ≡ Some u
+      by_wait true e = e
+      by_wait false e = cc
+
+  ends_same : (u : TxId) → tx_end d given u ≡ tx_end d h.known u
+  ends_same u = made_set h.known made_id made_on (λ j o. ended_by d u.begin o ≡ ended_by d u.begin (map.get h.known j)) ((at_once_same d made_id made_new).ends u.begin ∙ ap (ended_by d u.begin) (sym absent)) (λ j. refl) u.intent
+
+  callee_joins : NobodyJoins d h.known given
+  callee_joins = nobody_made d h.known made_id made_on (λ u within. ends_same u ∙ open_still u (sym (origin_stays d made_id made_new).1 ∙ within))
+
+  -- nor is it below one that owns an item still
+  above_owners : (u : TxId) (z : ℕ × Bool) (x : Item) → tx_end d h.known u ≡ Some z → (content_of m x).owner ≡ Some (ByTx u) → IsBelow (record { intent = u.intent; begin = z.0; func = u.func }) made_id → ⊥
+  above_owners u z x ended own below = elim (below_parent (record { intent = u.intent; begin = z.0; func = u.func }) r.id (length k.instance.answers) below) [
+    | inl e ↦ finds.released u z (sym e.0) ended (subst (λ n. z.0 < n) (sym steps) e.1) x own
+    | inr b ↦ let clash = sym (h.latest u z x r.id ended own b) ∙ k.made in cc
+  ]
+
+  pub callee_settled : (p : PlainState) → Grows h.plain.made p.made → Settled d m p given
+  callee_settled p grows = settled_new d m p h.known made_id made_new refl refl (child_short r.id (length k.instance.answers) hops) absent open_still above_owners (settled_grown d m h.plain p h.known grows (settled h))
+
+  pub callee_frame : map.get m key ≡ None → (p : PlainState) → p.items ≡ h.plain.items → Frame d m opened_rows h.plain p h.known given
+  callee_frame none p same = log_frame d m key row refl (stays_new (map.get m key) row none) h.plain p h.known given same callee_joins
+
+-- ---- outside a transaction its step is entered
+module _ (d : Deployment) (c : Core) (m : Rows) (i : ℕ) (r : Run) (g : Begun) (h : Right d c m) (live : map.get c.runs i ≡ Some r) (k : Knows d c.book h.known r g) (finds : Inside d m h.plain h.known r g)
+    (w : Bool) (f : ℕ) (v : Value) (is : g.machine.effect ≡ call_of w f v) (hops : has_callees r.id ≡ true) (new : map.get h.known (child_of r.id g.machine.steps) ≡ None) (left : k.later ≡ []) (out : tx_after d r.id k.instance k.answers ≡ None) where
+  now : effect_of d k.instance ≡ call_of w f v
+  now = call_now d c m r g h k w f v is new left
+
+  none_there : map.get h.known (callee_of r.id k.instance) ≡ None
+  none_there = absent_here d c m r g h k w f v is new left
 
   there : map.get h.plain.made r.id ≡ Some k.instance
   there = plain_there d c m i r g h live k finds out (call_of w f v) is left
 
   no_begin : begins d k.instance ≡ false
-  no_begin = ap (λ e. is_none k.instance.outcome && is_begin e) call_now ∙ by_outcome k.instance.outcome w
+  no_begin = ap (λ e. is_none k.instance.outcome && is_begin e) now ∙ by_outcome k.instance.outcome w
     where
       by_outcome : (o : Option Outcome) (b : Bool) → (is_none o && is_begin (call_of b f v)) ≡ false
       by_outcome None true = refl
       by_outcome None false = refl
       by_outcome (Some u) b = refl
 
-  -- its step is entered, where its id has callees
-  pub call_entered : has_callees r.id ≡ true → (next : Known) → Entered d c h.plain h.known (Step r.id) (step_by h.plain r.id k.instance (call_of w f v)) next
-  call_entered hops next = change_entered d c m h (Step r.id) (step_by h.plain r.id k.instance (call_of w f v)) next refl
-      (enabled_step d h.plain r.id k.instance there (not_over d c m r g h k left (subst (λ e. IsTrue (wants_answer e)) (sym is) (wants_one w))) (ap (waits_at h.plain.made r.id k.instance) call_now ∙ waits_not w)
-      (ap (kind_of r.id) call_now ∙ is_change w) ∙ ap (λ z. Some (step_by h.plain r.id k.instance z)) call_now)
-      (λ x touched. let none = sym (ap (touched_by d) there ∙ ap (item_touched k.instance) call_now ∙ touches w) ∙ touched in cc)
+  pub call_entered : (next : Known) → Entered d c h.plain h.known (Step r.id) (step_by h.plain r.id k.instance (call_of w f v)) next
+  call_entered next = change_entered d c m h (Step r.id) (step_by h.plain r.id k.instance (call_of w f v)) next refl
+      (enabled_step d h.plain r.id k.instance there (no_outcome d c m r g h k w f v is new left) (ap (waits_at h.plain.made r.id k.instance) now ∙ waits_not w) (ap (kind_of r.id) now ∙ is_change w) ∙ ap (λ z. Some (step_by h.plain r.id k.instance z)) now)
+      (λ x touched. let none = sym (ap (touched_by d) there ∙ ap (item_touched k.instance) now ∙ touches w) ∙ touched in cc)
     where
-      wants_one : (b : Bool) → IsTrue (wants_answer (call_of b f v))
-      wants_one true = refl
-      wants_one false = refl
-
       waits_not : (b : Bool) → waits_at h.plain.made r.id k.instance (call_of b f v) ≡ false
-      waits_not true = ap is_some (plain_none d h.plain h.known h.beside made_id absent_here)
-      waits_not false = ap is_some (plain_none d h.plain h.known h.beside made_id absent_here)
+      waits_not true = ap is_some (plain_none d h.plain h.known h.beside (callee_of r.id k.instance) none_there)
+      waits_not false = ap is_some (plain_none d h.plain h.known h.beside (callee_of r.id k.instance) none_there)
 
       is_change : (b : Bool) → kind_of r.id (call_of b f v) ≡ kind.Change
       is_change true = ap (λ t. if t then kind.Change else kind.Unbuilt) hops
@@ -248,23 +327,13 @@ module _ (d : Deployment) (c : Core) (m : Rows) (i : ℕ) (r : Run) (g : Begun) 
       touches true = refl
       touches false = refl
 
-  -- the callee is made in both, and its row is put
-  pub callee_goes : Goes d opened_rows (with_callee h.plain r.id k.instance f v w) given h.locked
-  callee_goes = goes_made h opened_rows (set_shadows m (invoke_key r.func (place_of r.id g.machine.steps)) (Some (rows.Invoke (opened f))) refl) made_id made_new absent_here refl (refl, refl)
+  -- the callee is made in both
+  abbrev rows_now : Rows
+  rows_now = set_row m (invoke_key r.func (place_of r.id g.machine.steps)) (Some (rows.Invoke (opened f)))
+
+  pub callee_goes : Goes d rows_now (with_callee h.plain r.id k.instance f v w) (map.insert h.known (callee_of r.id k.instance) (at_once d (callee_of r.id k.instance) (new_instance f v (Some (calls_at r.id k.instance w))))) h.locked
+  callee_goes = goes_made h rows_now (set_shadows m (invoke_key r.func (place_of r.id g.machine.steps)) (Some (rows.Invoke (opened f))) refl) (callee_of r.id k.instance) (new_instance f v (Some (calls_at r.id k.instance w))) none_there refl (refl, refl)
       (callee_apart d h.plain (legal_sane h) r.id k.instance (length k.instance.answers) there no_begin)
-
-  pub callee_row : Matches d opened_rows given h.locked
-  callee_row = call_row d h.known h.locked h.locked_at_ends h.sane r.id k.instance f v w k.made absent_here m g.machine.steps r.func steps k.func h.rows
-
-  -- nobody has a lock ahead that had none
-  pub callee_ahead : LockedAtEnds d given h.locked
-  callee_ahead = ahead_set d h.known h.locked h.locked_at_ends h.locked made_id (at_once d made_id made_new) (none_out h.locked made_id (unlocked_absent d h.known h.locked h.locked_at_ends made_id absent_here))
-
-  pub callee_settled : (p : PlainState) → Grows h.plain.made p.made → Settled d m p given
-  callee_settled p grows = settled_new d m p h.known made_id made_new refl refl (settled_grown d m h.plain p h.known grows (settled h))
-
-  pub callee_grows : Grows h.known given
-  callee_grows = grows_new h.known made_id (at_once d made_id made_new) absent_here
 
 -- ---- a callee was set, and then its caller is answered, that stays outside or begins: no shadow was made in between
 pub goes_answered_then : {d : Deployment} {c : Core} {m : Rows} (h : Right d c m) (n : Rows) → SameShadows m n → (id : IntentId) (k : Instance) (a : Answer) → map.get h.known id ≡ Some k → h.locked id ≡ false → (effect_of d k ≡ End true → ⊥) → IsOutside d (answered k a) (answered k a).answers

@@ -1,6 +1,6 @@
 -- The turn of a run that is to decide its transaction: it puts the decision, whose entry is the transaction's piece or its try; or the
 -- decision is there.
-use Rattle.std.proofs.Common.{◌≡◌, ◌∙◌, inl, inr, ℕ, ◌==◌, ◌<◌, Bool, true, false, List, [], ◌∷◌, ◌++◌, length, Option, None, Some, is_some, IsTrue, refl, ap, sym, subst, arith, cond, eq-eqb, if◌then◌else◌}
+use Rattle.std.proofs.Common.{◌≡◌, ◌∙◌, inl, inr, ℕ, ◌==◌, ◌<◌, ◌⊎◌, Bool, true, false, List, [], ◌∷◌, ◌++◌, length, Option, None, Some, is_some, IsTrue, refl, ap, sym, subst, arith, cond, eq-eqb, eqb-true, if◌then◌else◌}
 use Rattle.std.specs.FinMap as map
 use Rattle.beldi_value.specs.declared.id.IntentId.{IntentId}
 use Rattle.beldi_value.specs.declared.place.Place.{Place}
@@ -17,22 +17,19 @@ use Rattle.beldi_lang.specs.Wants.{wants_answer}
 use Rattle.beldi_lang.proofs.Resumes.{few_answers}
 use Rattle.beldi_book.specs.declared.entry.Entry.TheVariants.{Tx, Try}
 use Rattle.beldi_book.specs.Order.{seen_of}
-use Rattle.beldi_row.specs.Act.{act, owns}
+use Rattle.beldi_row.specs.Act.{act}
 use Rattle.beldi_row.specs.Log.{note_at}
 use Rattle.beldi_row.specs.Table.{Rows, set_row}
 use Rattle.beldi_row.specs.declared.act.Act.TheVariants.{PutRead}
 use Rattle.beldi_row.specs.declared.key.RowKey.{RowKey}
 use Rattle.beldi_row.specs.declared.key.Kind.TheVariants as kinds
-use Rattle.beldi_row.specs.declared.notes.Note.{Note}
 use Rattle.beldi_row.specs.declared.row.Row.{Row}
 use Rattle.beldi_row.specs.declared.row.Row.TheVariants as rows
 use Rattle.beldi_row.proofs.Gets.{got as row_got, key_self}
 use Rattle.beldi_readlog.specs.ReadLog.{log_key}
-use Rattle.beldi_txn.specs.declared.end.EndAt.TheVariants.{Callees}
 use Rattle.beldi_txn.specs.declared.end.EndGoes.TheVariants as goes
 use Rattle.beldi_txn.specs.declared.end.Visit.{Visit}
-use Rattle.beldi_txn.specs.End.{first_visit, decided_by}
-use Rattle.beldi_txn.specs.Visited.{Visited}
+use Rattle.beldi_txn.specs.End.{at_calls, first_visit, decided_by}
 use Rattle.beldi_plain.specs.Guard.{IsFree, Touches}
 use Rattle.beldi_plain.specs.Item.{Item}
 use Rattle.beldi_plain.specs.Moves.{TouchedIn}
@@ -42,11 +39,11 @@ use Rattle.beldi_plain.specs.Plain.{Instance, PlainState, answered, effect_of, v
 use Rattle.beldi_plain.specs.Entries.{after}
 use Rattle.beldi_order.specs.Grown.{Grows}
 use Rattle.beldi_order.specs.Txs.{effect_after, end_of, is_at, tx_after, txs_after, txs_by}
+use Rattle.beldi_order.proofs.Ends.{fits}
 use Rattle.beldi_order.proofs.Foreign.{entries_touch}
 use Rattle.beldi_order.proofs.Maps.{here, same_some}
 use Rattle.beldi_order.proofs.Pieces.{pieces_are_moves}
 use Rattle.beldi_order.proofs.Touched.{pieces_touch_their_items}
-use Rattle.beldi_order.proofs.Went.{pushed_cases}
 use Rattle.beldi_step.specs.declared.run.Begun.{Begun}
 use Rattle.beldi_step.specs.declared.run.Mark.{Mark}
 use Rattle.beldi_step.specs.declared.run.OpenTx.{OpenTx}
@@ -73,15 +70,20 @@ use Rattle.beldi_known.proofs.Lines.{opens_are_open}
 use Rattle.beldi_known.proofs.Participants.{ends_alone}
 use Rattle.beldi_known.proofs.Rows.{set_others, no_root}
 use Rattle.beldi_known.proofs.Sanes.{sane_decided}
-use Rattle.beldi_laws.specs.Inside.{OwnedAreUnmarked, AtStage, Frame, Inside, end_walk}
+use Rattle.beldi_laws.specs.Inside.{OwnedAreUnmarked, OwnersCallNobody, ParticipantsHaveRows, AtStage, Frame, Inside, IsFreePlace, TookPart}
 use Rattle.beldi_laws.specs.Right.{Right, Knows, MarkOk, StageOk, open_of}
 use Rattle.beldi_laws.proofs.Fallen.{cause_in, cause_is}
-use Rattle.beldi_laws.proofs.Frames.{ValuesStay, IsSettled, frame_row, one_at_once, one_known, settled_by, settled_grown, settled_rows}
+use Rattle.beldi_laws.proofs.Closing.{closed_rows}
+use Rattle.beldi_laws.proofs.Frames.{ValuesStay, IsSettled, frame_log, holders_set, latest_stays, marks_stay, no_finish, nobody_set, one_answered, one_at_once, one_known, seated_set, seated_stays, settled_grown, short_set}
+use Rattle.beldi_laws.proofs.Visits.{at_part, visits_found}
+use Rattle.beldi_known.proofs.Outsides.{known_none_after}
+use Rattle.beldi_known.specs.Sane.{Sane}
+use Rattle.beldi_step.specs.declared.run.RunTx.TheVariants.{Own}
 use Rattle.beldi_laws.proofs.Grown.{grown_moved, grows_moved}
 use Rattle.beldi_laws.proofs.Keeping.{as_it_was}
 use Rattle.beldi_laws.proofs.Moves.{AfterAct, AfterQuery, AfterTurn, Entered, SameRoots, change_entered, still}
-use Rattle.beldi_laws.proofs.OpenOf.{begin_of, open_begun}
-use Rattle.beldi_laws.proofs.Others.{kept_by, owner_is, end_here}
+use Rattle.beldi_laws.proofs.OpenOf.{open_begun, own_begin}
+use Rattle.beldi_laws.proofs.Others.{kept_by, end_here}
 use Rattle.beldi_laws.proofs.Shown.{Settled, Shows, holds_here, settled, sound}
 use Rattle.beldi_laws.proofs.Turns.{at_steps, wanted_here, all_here, decides_on, effect_next, not_over, sane_instance, stands_on, step_here}
 
@@ -103,25 +105,12 @@ end_under d known (Some (ByTx t)) = tx_end d known t
 end_under d known o = None
 
 -- ---- an End is answered: that is no death
-module _ (d : Deployment) (p : PlainState) (known : Known) (id : IntentId) (k : Instance) (h : IsSettled d p known id k) where
-  one_decided : IsSettled d p (map.insert known id (answered k answer.Done)) id (answered k answer.Done)
-  one_decided = record {
-    ends = λ b z e. ap (ended_by d b) (here known id (answered k answer.Done)) ∙ e;
-    holders = λ n c i inside dead holder. elim (pushed_cases k.answers answer.Done (answer.Aborted c) n dead) [
-      | inl e ↦ let clash = e.2 in cc
-      | inr e ↦ h.holders n c i (sym (ap (λ ts. is_some (tx_after d id k ts)) e.0) ∙ inside) e.1 holder
-    ];
-    uncalled = h.uncalled;
-  }
-
-  -- .. and what takes no turn after it
-  pub one_over : IsSettled d p (map.insert known id (moved d id k answer.Done)) id (moved d id k answer.Done)
-  one_over = let o = one_at_once d p (map.insert known id (answered k answer.Done)) id (answered k answer.Done) one_decided in
-      record { ends = λ b z e. ap (ended_by d b) (here known id (moved d id k answer.Done)) ∙ e; holders = o.holders; uncalled = o.uncalled }
+one_over : (d : Deployment) (m : Rows) (p : PlainState) (id : IntentId) (k : Instance) → IsSettled d m p id k → IsSettled d m p id (moved d id k answer.Done)
+one_over d m p id k h = (one_at_once d m p id (answered k answer.Done) (one_answered d m p id k answer.Done (λ c i inside dead. cc) h)).settled
 
 -- ---- the turn
-module _ (d : Deployment) (c : Core) (m : Rows) (i : ℕ) (r : Run) (g : Begun) (h : Right d c m) (live : map.get c.runs i ≡ Some r) (k : Knows d c.book h.known r g) (finds : Inside d m h.plain h.known r g) (o : OpenTx) (tx : g.tx ≡ Some o)
-    (inside_here : tx_after d r.id k.instance k.answers ≡ Some (own_tx r.id r.func o)) (open_here : open_of d k.instance k.answers ≡ Some o) (commit : Bool) (is : g.machine.effect ≡ effect.End commit) (mk : Mark) (mark : mk ≡ end_mark r.id g.machine.steps o.cause commit) where
+module _ (d : Deployment) (c : Core) (m : Rows) (i : ℕ) (r : Run) (g : Begun) (h : Right d c m) (live : map.get c.runs i ≡ Some r) (k : Knows d c.book h.known r g) (finds : Inside d m h.plain h.known r g) (o : OpenTx) (tx : g.tx ≡ Some (Own o))
+    (inside_here : tx_after d r.id k.instance k.answers ≡ Some (own_tx r.id r.func o)) (open_here : open_of d k.instance k.answers ≡ Some (Own o)) (commit : Bool) (is : g.machine.effect ≡ effect.End commit) (mk : Mark) (mark : mk ≡ end_mark r.id g.machine.steps o.cause commit) where
   abbrev own : TxId
   own = own_tx r.id r.func o
 
@@ -134,7 +123,7 @@ module _ (d : Deployment) (c : Core) (m : Rows) (i : ℕ) (r : Run) (g : Begun) 
 
   -- its calls come next
   abbrev next_visit : Visit
-  next_visit = record { item = None; value = None; at = Callees }
+  next_visit = at_calls [] None
 
   steps : g.machine.steps ≡ length k.answers
   steps = at_steps d c.book h.known r g k
@@ -143,7 +132,7 @@ module _ (d : Deployment) (c : Core) (m : Rows) (i : ℕ) (r : Run) (g : Begun) 
   effect_so = wanted_here d c.book h.known r g k ∙ is
 
   begun_here : (txs_after d k.instance k.answers).begun ≡ Some o.begin
-  begun_here = open_begun d k.instance k.answers ∙ ap begin_of open_here
+  begun_here = open_begun d k.instance k.answers ∙ ap own_begin open_here
 
   few : length k.answers < 30000
   few = few_answers d k.instance.func k.instance.args (is_some k.instance.within) k.answers (subst (λ z. IsTrue (wants_answer z)) (sym effect_so) refl)
@@ -160,30 +149,17 @@ module _ (d : Deployment) (c : Core) (m : Rows) (i : ℕ) (r : Run) (g : Begun) 
   fits_end = subst (λ t. StageOk t r.id g.caller g.machine.effect (stage.End next_visit)) (sym inside_here) (subst (λ e. StageOk (Some own) r.id g.caller e (stage.End next_visit)) (sym is) refl)
 
   mark_end : MarkOk r.id g.machine.steps g.tx g.machine.effect (stage.End next_visit)
-  mark_end = subst (λ t. MarkOk r.id g.machine.steps t g.machine.effect (stage.End next_visit)) (sym tx) (subst (λ e. MarkOk r.id g.machine.steps (Some o) e (stage.End next_visit)) (sym is) tt)
+  mark_end = subst (λ t. MarkOk r.id g.machine.steps t g.machine.effect (stage.End next_visit)) (sym tx) (subst (λ e. MarkOk r.id g.machine.steps (Some (Own o)) e (stage.End next_visit)) (sym is) tt)
 
-  -- the decision is there, and no item was passed yet
-  next_found : (n : Rows) (p : PlainState) (known : Known) (locked : IntentId → Bool) → Matches d n known locked → OwnedAreUnmarked d n known → tx_end d known own ≡ Some (g.machine.steps, commit) → map.get n key ≡ row
+  -- the decision is there, and nobody was visited yet
+  next_found : (n : Rows) (p : PlainState) (known : Known) (locked : IntentId → Bool) → Matches d n known locked → Sane d known → Settled d n p known → tx_end d known own ≡ Some (g.machine.steps, commit) → map.get n key ≡ row
       → AtStage d n p known r.id r.func g.tx g.machine.steps g.machine.effect (stage.End next_visit)
-  next_found n p known locked matches marks ended there = subst (λ t. AtStage d n p known r.id r.func t g.machine.steps g.machine.effect (stage.End next_visit)) (sym tx) (subst (λ e. AtStage d n p known r.id r.func (Some o) g.machine.steps e (stage.End next_visit)) (sym is) visited)
-    where
-      not_own : (x : Item) (w : Note) → note_at (content_of n x).notes (place_of r.id g.machine.steps) ≡ Some w → (b : Bool) → owns (ByTx own) (content_of n x).owner ≡ b → b ≡ false
-      not_own x w noted false e = refl
-      not_own x w noted true e = absurd (marks own (g.machine.steps, commit) x w ended (owner_is own (content_of n x).owner e) noted)
-
-      visited : Visited (end_walk r.id r.func o g.machine.steps commit next_visit) n
-      visited = record {
-        decided = there;
-        item = refl;
-        gives = tt;
-        freed = λ q w here past. absurd past;
-        marked = λ q w noted. not_own (record { func = r.func; table = q.0; key = q.1 }) w noted (owns (ByTx own) (content_of n (record { func = r.func; table = q.0; key = q.1 })).owner) refl;
-        sound = λ q. (matches.keys (record { home = r.func; kind = kinds.Data q.0 q.1 0 }), matches.keys (record { home = r.func; kind = kinds.Shadow own q.0 q.1 0 }));
-      }
+  next_found n p known locked matches sane settled ended there = subst (λ t. AtStage d n p known r.id r.func t g.machine.steps g.machine.effect (stage.End next_visit)) (sym tx) (subst (λ e. AtStage d n p known r.id r.func (Some (Own o)) g.machine.steps e (stage.End next_visit)) (sym is)
+      (visits_found d n known locked matches sane own (g.machine.steps, commit) ended settled.marks settled.released there))
 
   -- what follows the act on its row
   abbrev AfterPut : Option Row → Type 0
-  AfterPut w = AfterAct d h.plain m key (λ u. turn_next c i r (turned_by d r g (decide_by_says r.id r.func commit mk (Some o) u))) (act (PutRead (value.Bool commit)) c.now w)
+  AfterPut w = AfterAct d h.plain m key (λ u. turn_next c i r (turned_by d r g (decide_by_says r.id r.func g.machine.steps commit mk (Some (Own o)) u))) (act (PutRead (value.Bool commit)) c.now w)
 
   -- ---- behind: the decision is there
   module _ (a : Answer) (rest : List Answer) (left : k.later ≡ a ∷ rest) where
@@ -199,7 +175,7 @@ module _ (d : Deployment) (c : Core) (m : Rows) (i : ℕ) (r : Run) (g : Begun) 
     finds_it : AfterPut (map.get m key)
     finds_it = subst AfterPut (sym there) (still d h.plain m key row (sym there)
         (subst (λ z. AfterTurn d h.plain c i r (turned_by d r g (decided_says commit mk z)) m) (sym (own_there commit))
-        (stands_on d c m i r g h live k finds (stage.End next_visit) m h.locked refl (λ t. refl) (as_it_was h) fits_end mark_end (next_found m h.plain h.known h.locked h.rows h.marks ended there))))
+        (stands_on d c m i r g h live k finds (stage.End next_visit) m h.locked refl (λ t. refl) (as_it_was h) fits_end mark_end (next_found m h.plain h.known h.locked h.rows h.sane (settled h) ended there))))
 
   -- ---- at the front: it is put
   module _ (left : k.later ≡ []) where
@@ -215,8 +191,8 @@ module _ (d : Deployment) (c : Core) (m : Rows) (i : ℕ) (r : Run) (g : Begun) 
     begun_now : (txs_after d k.instance k.instance.answers).begun ≡ Some o.begin
     begun_now = subst (λ ts. (txs_after d k.instance ts).begun ≡ Some o.begin) all begun_here
 
-    open_now : open_of d k.instance k.instance.answers ≡ Some o
-    open_now = subst (λ ts. open_of d k.instance ts ≡ Some o) all open_here
+    open_now : open_of d k.instance k.instance.answers ≡ Some (Own o)
+    open_now = subst (λ ts. open_of d k.instance ts ≡ Some (Own o)) all open_here
 
     few_now : length k.instance.answers < 30000
     few_now = subst (λ (ts : List Answer). length ts < 30000) all few
@@ -245,14 +221,49 @@ module _ (d : Deployment) (c : Core) (m : Rows) (i : ℕ) (r : Run) (g : Begun) 
     ended_now : tx_end d next own ≡ Some (g.machine.steps, commit)
     ended_now = ap (ended_by d o.begin) (here h.known r.id over) ∙ end_is o.begin ∙ ap (λ b. if b then Some (length k.instance.answers, commit) else end_of d k.instance o.begin) (eq-eqb o.begin o.begin refl) ∙ ap (λ z. Some (z, commit)) (sym step_now)
 
-    -- no note is at its place yet
-    marks_now : OwnedAreUnmarked d m next
-    marks_now t z x w e owned noted = known_set h.known r.id over (λ j u. ended_by d t.begin u ≡ Some z → t.intent ≡ j → ⊥) (λ ends mine. by_begin (t.begin == o.begin) mine (sym (end_is t.begin) ∙ ends))
-        (λ j other ends mine. h.marks t z x w (ap (λ y. ended_by d t.begin (map.get h.known y)) mine ∙ ends) owned noted) t.intent e refl
+    -- a transaction that has ended is this one, or had before
+    end_cases : (t : TxId) (z : ℕ × Bool) → tx_end d next t ≡ Some z → ((t.intent ≡ r.id) × (t.begin ≡ o.begin) × (z.0 ≡ length k.instance.answers)) ⊎ (tx_end d h.known t ≡ Some z)
+    end_cases t z e = known_set h.known r.id over (λ j u. ended_by d t.begin u ≡ Some z → t.intent ≡ j → ((j ≡ r.id) × (t.begin ≡ o.begin) × (z.0 ≡ length k.instance.answers)) ⊎ (ended_by d t.begin (map.get h.known j) ≡ Some z))
+        (λ ends mine. by_begin (t.begin == o.begin) refl (sym (end_is t.begin) ∙ ends)) (λ j other ends mine. inr ends) t.intent e refl
       where
-        by_begin : (b : Bool) → t.intent ≡ r.id → (if b then Some (length k.instance.answers, commit) else end_of d k.instance t.begin) ≡ Some z → ⊥
-        by_begin true mine ends = let clash = sym (no_note d m h.known h.locked h.rows r.id k.instance k.made (let l = few_now in omega (arith, l)) x unlocked) ∙ ap (note_at (content_of m x).notes) (λ i. place_of (sym mine i) (same_some ends i).0) ∙ noted in cc
-        by_begin false mine ends = h.marks t z x w (ap (λ y. ended_by d t.begin (map.get h.known y)) mine ∙ ap (ended_by d t.begin) k.made ∙ ends) owned noted
+        by_begin : (b : Bool) → (t.begin == o.begin) ≡ b → (if b then Some (length k.instance.answers, commit) else end_of d k.instance t.begin) ≡ Some z → ((r.id ≡ r.id) × (t.begin ≡ o.begin) × (z.0 ≡ length k.instance.answers)) ⊎ (ended_by d t.begin (map.get h.known r.id) ≡ Some z)
+        by_begin true g ends = inl (refl, eqb-true t.begin o.begin g, ap (λ (y : ℕ × Bool). y.0) (sym (same_some ends)))
+        by_begin false g ends = inr (ap (ended_by d t.begin) k.made ∙ ends)
+
+    -- who took part did so before
+    took_before : (t : TxId) (i : IntentId) → TookPart next t i → TookPart h.known t i
+    took_before t i part = known_set h.known r.id over (λ j u. u ≡ Some part.instance → TookPart h.known t j) (λ g. record { instance = k.instance; made = k.made; within = sym (moved_one d r.id k.instance answer.Done).within ∙ ap (λ (y : Instance). y.within) (same_some g) ∙ part.within })
+        (λ j other g. record { instance = part.instance; made = g; within = part.within }) i part.made
+
+    -- no note is at its places yet
+    marks_now : OwnedAreUnmarked d m next
+    marks_now t z x a w e owned free noted = elim (end_cases t z e) [
+      | inl mine ↦ unmarked mine free
+      | inr was ↦ h.marks t z x a w was owned (free_before free) noted
+    ]
+      where
+        free_before : IsFreePlace next t z.0 a → IsFreePlace h.known t z.0 a
+        free_before (inl at) = inl at
+        free_before (inr g) = inr (g.0, took_before t a.intent g.1)
+
+        unmarked : (t.intent ≡ r.id) × (t.begin ≡ o.begin) × (z.0 ≡ length k.instance.answers) → IsFreePlace next t z.0 a → ⊥
+        unmarked mine (inl at) =
+            let clash = sym (no_note d m h.known h.locked h.rows r.id k.instance k.made (let l = few_now in omega (arith, l)) x unlocked)
+            ∙ ap (note_at (content_of m x).notes) ((λ i. place_of (sym mine.0 i) (sym mine.2 i)) ∙ sym at) ∙ noted in cc
+        unmarked mine (inr g) =
+            let open_still : tx_end d h.known t ≡ None = (λ i. ended_by d (mine.1 i) (map.get h.known (mine.0 i))) ∙ ap (ended_by d o.begin) k.made ∙ (fits d k.instance).not_ended o.begin begun_now in
+            let clash = sym (at_part d m h.known h.locked h.rows h.sane t open_still a.intent (took_before t a.intent g.1) x)
+            ∙ ap (λ n. note_at (content_of m x).notes (place_of a.intent n)) (sym g.0) ∙ noted in cc
+
+    -- .. nobody is below its owner past its end
+    latest_now : OwnersCallNobody d m next
+    latest_now t z x i e owned below = elim (end_cases t z e) [
+      | inl mine ↦ still_none (known_none_after d h.known h.sane (record { intent = t.intent; begin = z.0; func = t.func }) (λ q made. let same = same_some (sym made ∙ ap (map.get h.known) mine.0 ∙ k.made) in let l = ap (λ (y : Instance). length y.answers) same in let n = mine.2 in omega (arith, l, n)) i below)
+      | inr was ↦ still_none (h.latest t z x i was owned below)
+    ]
+      where
+        still_none : map.get h.known i ≡ None → map.get next i ≡ None
+        still_none none = known_set h.known r.id over (λ j u. map.get h.known j ≡ None → u ≡ None) (λ gone. let clash = sym k.made ∙ gone in cc) (λ j other gone. gone) i none
 
     rows_now : Matches d n next h.locked
     rows_now = subst (λ z. Matches d (set_row m z row) next h.locked) own_key
@@ -328,7 +339,7 @@ module _ (d : Deployment) (c : Core) (m : Rows) (i : ℕ) (r : Run) (g : Begun) 
     -- ---- what it keeps
     puts : (state : PlainState) → Decision state → AfterPut None
     puts state by = decides_on d c m i r g h live k finds next_visit mk n state next over roots leads (kept_by d c m n h state next h.locked shows_now grows frame) (here h.known r.id over) (grown_moved d r.id k.instance answer.Done) fits_end
-        (next_found n state next h.locked rows_now settled_now.marks ended_now put_there)
+        (next_found n state next h.locked rows_now sane_now settled_now ended_now put_there)
       where
         -- nobody holds the lock of an item that it owns
         free : IsFree d h.plain (entry_of r.id mk)
@@ -339,27 +350,42 @@ module _ (d : Deployment) (c : Core) (m : Rows) (i : ℕ) (r : Run) (g : Begun) 
 
         -- what another owns has the value that it had
         stays : ValuesStay d m h.plain state next
-        stays t x still owned = ap or_null (entries_touch d h.plain state (entry_of r.id mk) by.enabled x (λ touches.
-            let clash = sym still ∙ ap (end_under d next) (sym owned ∙ by.its_own x touches) ∙ ended_now in cc))
+        stays t x open_still owned = ap or_null (entries_touch d h.plain state (entry_of r.id mk) by.enabled x (λ touches.
+            let clash = sym open_still ∙ ap (end_under d next) (sym owned ∙ by.its_own x touches) ∙ ended_now in cc))
 
         frame : Frame d m n h.plain state h.known next
-        frame = frame_row d m h.plain state h.known next stays key row refl refl
+        frame = frame_log d m h.plain state h.known next stays (nobody_set d h.known r.id over (ap is_some k.made)) r.func (place_of r.id o.begin) row refl
 
         grows : Grows h.known next
         grows = grows_moved d h.known r.id k.instance answer.Done k.made
 
+        sane_now : Sane d next
+        sane_now = sane_decided d h.known h.sane r.id k.instance k.made commit now
+
         settled_before : Settled d m state h.known
         settled_before = settled_grown d m h.plain state h.known leads.grows (settled h)
 
+        over_so : IsSettled d m state r.id over
+        over_so = one_over d m state r.id k.instance (one_known d m state h.known r.id k.instance k.made settled_before)
+
+        seated_now : ParticipantsHaveRows n next
+        seated_now = seated_stays d m n h.plain state h.known next frame (seated_set d m state h.known r.id over over_so settled_before)
+
         settled_now : Settled d n state next
-        settled_now = settled_rows d m n h.plain state h.known next frame (settled_by d m state h.known r.id over marks_now
-            (one_over d state h.known r.id k.instance (one_known d m state h.known r.id k.instance k.made settled_before)) settled_before)
+        settled_now = record {
+          marks = marks_stay d m n h.plain state h.known next frame marks_now;
+          latest = latest_stays d m n h.plain state h.known next frame latest_now;
+          holders = holders_set d m state h.known r.id over over_so settled_before;
+          seated = seated_now;
+          released = closed_rows d c m h n state next h.locked rows_now sane_now grows frame seated_now (no_finish m n key (set_others m key row) d next refl);
+          short = short_set d m state h.known r.id over over_so settled_before;
+        }
 
         shows_now : Shows d n state next h.locked
         shows_now = record {
           goes = by.goes_on;
           locked_at_ends = ahead_set d h.known h.locked h.locked_at_ends h.locked r.id over (none_out h.locked r.id unlocked);
-          sane = sane_decided d h.known h.sane r.id k.instance k.made commit now;
+          sane = sane_now;
           rows = rows_now;
           values = by.lists;
           settled = settled_now;
@@ -373,7 +399,7 @@ module _ (d : Deployment) (c : Core) (m : Rows) (i : ℕ) (r : Run) (g : Begun) 
         by_commit false no_commit = puts (tried no_commit) (aborted no_commit)
 
   -- ---- the turn, by the answers that the run lacks
-  pub decide_turn : AfterQuery d h.plain c.now m (λ u. turn_next c i r (turned_by d r g (decide_by_says r.id r.func commit mk (Some o) u))) (end_by_asks r.id r.func g.machine.steps commit first_visit (Some o))
+  pub decide_turn : AfterQuery d h.plain c.now m (λ u. turn_next c i r (turned_by d r g (decide_by_says r.id r.func g.machine.steps commit mk (Some (Own o)) u))) (end_by_asks r.id r.func g.machine.steps commit first_visit (Some (Own o)))
   decide_turn = by_later k.later refl
     where
       by_later : (later : List Answer) → k.later ≡ later → AfterPut (map.get m key)

@@ -1,5 +1,5 @@
 -- Every event keeps the host and its rows right.
-use Rattle.std.proofs.Common.{◌≡◌, ℕ, zero, suc, ◌+◌, ◌≤◌, ◌==◌, ◌||◌, ◌&&◌, Bool, true, false, cond, [], ◌∷◌, ◌++◌, Option, None, Some, Result, Ok, Err, refl, ap, sym, ◌∙◌, subst, IsTrue, is_some, arith, if◌then◌else◌}
+use Rattle.std.proofs.Common.{◌≡◌, ℕ, zero, suc, ◌+◌, ◌≤◌, ◌==◌, ◌||◌, ◌&&◌, Bool, true, false, cond, [], ◌∷◌, ◌++◌, length, length-append, Option, None, Some, Result, Ok, Err, refl, ap, sym, ◌∙◌, subst, IsTrue, is_some, arith, if◌then◌else◌}
 use Rattle.std.specs.Prelude.{◌-◌, ◌^◌, nat_lt, nat_le}
 use Rattle.std.specs.FinMap as map
 use Rattle.std.specs.FinMap.{get-empty, len-empty}
@@ -76,18 +76,21 @@ use Rattle.beldi_row.specs.declared.key.RowKey.{RowKey}
 use Rattle.beldi_laws.proofs.Operations.{operation_turn}
 use Rattle.beldi_laws.proofs.Readings.{ask_turn, walk_turn, keep_turn}
 use Rattle.beldi_plain.specs.Guard.{touched_by}
-use Rattle.beldi_laws.specs.Inside.{Inside, InsideAt, AtStage}
+use Rattle.beldi_laws.specs.Inside.{Inside, InsideAt, AtStage, has_finish}
 use Rattle.beldi_laws.specs.Right.{Right, Knows, KnowsAt, RunAt, StageOk, PlaceOk, SeenDone, MarkOk}
 use Rattle.beldi_known.specs.Known.{Known, at_once as with_once, ended_by}
 use Rattle.beldi_known.specs.Matches.{has_ended}
 use Rattle.beldi_laws.proofs.KeptSane.{root_kept}
 use Rattle.beldi_laws.proofs.Shown.{log_values, settled}
-use Rattle.beldi_laws.proofs.Frames.{frame_row, items_stay, settled_grown, settled_new, settled_rows}
-use Rattle.beldi_laws.proofs.Others.{kept_by}
+use Rattle.beldi_laws.proofs.Frames.{frame_row, items_stay, nobody_made, settled_grown, settled_new}
+use Rattle.beldi_known.proofs.Frame.{at_once_same}
+use Rattle.beldi_order.specs.Inside.{IsBelow}
+use Rattle.beldi_txn.specs.Invokes.{func_called}
+use Rattle.std.specs.Option.{option_map}
 use Rattle.beldi_laws.proofs.Keeping.{goes_made, set_shadows}
 use Rattle.beldi_laws.proofs.InsideTurns.{tx_turn, decide_turn, end_turn}
 use Rattle.beldi_laws.proofs.Outside.{plain_none, outcome_known}
-use Rattle.beldi_laws.proofs.Registered.{log_stays}
+use Rattle.beldi_laws.proofs.Registered.{kept_moving, log_stays, no_more, stays_new}
 use Rattle.beldi_laws.proofs.CallsHere.{childless}
 use Rattle.beldi_known.proofs.Intents.{root_bound}
 use Rattle.beldi_known.proofs.Sets.{row_put}
@@ -117,9 +120,9 @@ module _ (d : Deployment) (c : Core) (m : Rows) (i : ℕ) (h : Right d c m) (r :
     AfterStage e s = AfterQuery d h.plain c.now m (λ t. turn_next c i r (turned_by d r g (stage_says r.id r.func g.caller g.tx (count_changes c.book) g.machine.steps e s t))) (stage_asks r.id r.func g.caller g.tx g.machine.steps e s)
 
     -- what a caller waits for is given back to it
-    back_at : tx_after d r.id k.instance k.answers ≡ None → (b : Option Caller) (o : Outcome) → g.caller ≡ b → g.machine.effect ≡ Return o → is_waited b ≡ true → AfterQuery d h.plain c.now m (λ t. turn_next c i r (turned_by d r g (back_says (back_of t)))) (back_to_asks r.id r.func b (Return o))
-    back_at out None o from is waited = cc
-    back_at out (Some b) o from is waited = back_turn d c m i r g h live k finds out o is b from waited
+    back_at : (b : Option Caller) (o : Outcome) → g.caller ≡ b → g.machine.effect ≡ Return o → is_waited b ≡ true → AfterQuery d h.plain c.now m (λ t. turn_next c i r (turned_by d r g (back_says g.tx (back_of t)))) (back_to_asks r.id r.func b (Return o))
+    back_at None o from is waited = cc
+    back_at (Some b) o from is waited = back_turn d c m i r g h live k finds o is b from waited
 
     -- what its stage leaves
     stage_turn : (t : Option TxId) (e : Effect) (s : Stage) → tx_after d r.id k.instance k.answers ≡ t → g.machine.effect ≡ e → StageOk t r.id g.caller e s → PlaceOk d c.book r.id r.func k.answers k.later e s → SeenDone h.known r.id g.machine.steps k.instance g.caller s → MarkOk r.id g.machine.steps g.tx e s
@@ -131,11 +134,14 @@ module _ (d : Deployment) (c : Core) (m : Rows) (i : ℕ) (h : Right d c m) (r :
     stage_turn None (CondWrite t key u o v) (stage.Write w) out is ok at done mark here = operation_turn d c m i r g h live k finds out (CondWrite t key u o v) refl is w
     stage_turn None (Lock t key) (stage.Write w) out is ok at done mark here = operation_turn d c m i r g h live k finds out (Lock t key) refl is w
     stage_turn None (Unlock t key) (stage.Write w) out is ok at done mark here = operation_turn d c m i r g h live k finds out (Unlock t key) refl is w
-    stage_turn None (Call f v) (stage.Call w) out is ok at done mark here = call_turn d c m i r g h live at_is k finds out f v is ok w done
+    stage_turn None (Call f v) (stage.Call w) out is ok at done mark here = call_turn d c m i r g h live at_is k finds f v is ok w done
     stage_turn None (Async f v) (stage.Async w) out is ok at done mark here = async_turn d c m i r g h live at_is k finds out f v is ok w done
-    stage_turn None (Return o) stage.Back out is ok at done mark here = back_at out g.caller o refl is ok
-    stage_turn None (Return o) stage.Tell out is ok at done mark here = tell_turn d c m i r g h live k finds out o is g.caller ok
-    stage_turn None (Return o) stage.Close out is ok at done mark here = close_turn d c m i r g h live k finds out o is done
+    stage_turn None (Return o) stage.Back out is ok at done mark here = back_at g.caller o refl is ok
+    stage_turn None (Return o) stage.Tell out is ok at done mark here = tell_turn d c m i r g h live k finds o is out g.caller ok
+    stage_turn None (Return o) stage.Close out is ok at done mark here = close_turn d c m i r g h live k finds o is done
+    stage_turn (Some t) (Call f v) (stage.Call w) inside is ok at done mark here = call_turn d c m i r g h live at_is k finds f v is ok w done
+    stage_turn (Some t) (Return o) stage.Back inside is ok at done mark here = back_at g.caller o refl is ok
+    stage_turn (Some t) (Return o) stage.Close inside is ok at done mark here = close_turn d c m i r g h live k finds o is done
     stage_turn (Some t) e (stage.Tx at) inside is ok place done mark here = tx_turn d c m i r g h live k finds t inside e at is ok here
     stage_turn (Some t) (End commit) (stage.Decide w) inside is ok at done mark here = decide_turn d c m i r g h live k finds t inside commit w is mark
     stage_turn (Some t) (End commit) (stage.End v) inside is ok at done mark here = end_turn d c m i r g h live k finds t inside commit v is ok here
@@ -185,7 +191,8 @@ module _ (d : Deployment) (c : Core) (m : Rows) (h : Right d c m) where
       let i : IntentRow = record { issued = c.now; body = None; outcome = None; finish = None } in
       let n = set_row m (root_key t) (Some (rows.Intent i)) in
       let not_made : map.get h.known (root_of t) ≡ None = subst (λ r. IntentMatches (has_ended d h.known) true 0 r (map.get h.known (root_of t))) is (h.rows.keys (root_key t)) in
-      let kept : Stays h n = log_stays d m (root_key t) (Some (rows.Intent i)) refl (λ e. refl) c h (row_put d h.known h.locked m (root_key t) (Some (rows.Intent i)) refl (record { bare = λ e. refl; finishes = refl; body = not_made }) h.rows) in
+      let kept : Stays h n = log_stays d m (root_key t) (Some (rows.Intent i)) refl c h (stays_new (map.get m (root_key t)) (Some (rows.Intent i)) is) (no_more d m (root_key t) (Some (rows.Intent i)) h.known (λ e. cc))
+      (row_put d h.known h.locked m (root_key t) (Some (rows.Intent i)) refl (record { bare = λ e. refl; finishes = refl; body = not_made }) h.rows) in
       subst (λ (w : Option Row × Tell). After d h.plain (record c { newest = c.newest + 1 }) (set_row m (root_key t) w.0) (seen.Issued t)) (ap (act Issue c.now) (sym is)) (record {
         right = right_by {q = h.plain} {next = h.known} {locked = h.locked} h.bounded h.legal h.guarded kept.shows
             (λ u. ap is_some (got m (root_key t) (root_key u) (Some (rows.Intent i))) ∙ some_if (is_eq (id_cmp (root_of u) (root_of t))) (map.get m (root_key u)) ∙ next_ticket (is_eq (id_cmp (root_of u) (root_of t))) u c.newest refl (is_some (map.get m (root_key u))) (h.tickets u))
@@ -232,17 +239,17 @@ module _ (d : Deployment) (c : Core) (m : Rows) (h : Right d c m) (t f : ℕ) (a
       let leads = change_entered d c m h (Start t f a) state next refl (start_is h.plain t f a (map.get h.plain.made own_id) (or_parts (t == 0) (nat_lt c.newest t) issued).0 not_made)
       (λ x touched. let none = sym (ap (touched_by d) not_made) ∙ touched in cc) in
       let unlocked = unlocked_absent d h.known h.locked h.locked_at_ends own_id not_known in
-      let frame = frame_row d m h.plain state h.known next (items_stay d m h.plain state next refl) (root_key t) (Some (rows.Intent (bound_row i))) refl refl in
-      let kept : Kept h n state next h.locked = kept_by d c m n h state next h.locked
-      (record {
-        goes = goes_made h n (set_shadows m (root_key t) (Some (rows.Intent (bound_row i))) refl) own_id new not_known refl (refl, refl) (root_apart d h.plain t);
-        locked_at_ends = ahead_set d h.known h.locked h.locked_at_ends h.locked own_id (with_once d own_id new) (none_out h.locked own_id unlocked);
-        sane = root_kept d h.known h.sane t f a not_known;
-        rows = root_bound d h.known h.locked own_id f a not_known refl (childless d h.known h.sane own_id not_known) unlocked m (bound_row i) refl (fits.bare bare) (no_finish i.finish (fits.finishes ∙ ap is_some (fits.bare bare))) h.rows;
-        values = log_values h (root_key t) (Some (rows.Intent (bound_row i))) refl;
-        settled = settled_rows d m n h.plain state h.known next frame (settled_grown d m h.plain state next leads.grows (settled_new d m h.plain h.known own_id new refl refl (settled h)));
-      })
-      (grows_new h.known own_id (with_once d own_id new) not_known) frame in
+      let k = root_key t in
+      let v : Option Row = Some (rows.Intent (bound_row i)) in
+      let members = nobody_made d h.known own_id (with_once d own_id new) (λ u within. let clash = sym (at_once_same d own_id new).within ∙ within in cc) in
+      let frame = frame_row d m h.plain state h.known next (items_stay d m h.plain state next refl) members k v refl refl (λ e. sym (ap has_finish is) ∙ e) (λ g e. sym (ap (option_map func_called) is) ∙ e) in
+      let kept : Kept h n state next h.locked = kept_moving h n state next h.locked (goes_made h n (set_shadows m k v refl) own_id new not_known refl (refl, refl) (root_apart d h.plain t))
+      (ahead_set d h.known h.locked h.locked_at_ends h.locked own_id (with_once d own_id new) (none_out h.locked own_id unlocked))
+      (root_kept d h.known h.sane t f a not_known)
+      (root_bound d h.known h.locked own_id f a not_known refl (childless d h.known h.sane own_id not_known) unlocked m (bound_row i) refl (fits.bare bare) (no_finish i.finish (fits.finishes ∙ ap is_some (fits.bare bare))) h.rows)
+      (log_values h k v refl)
+      (settled_grown d m h.plain state next leads.grows (settled_new d m h.plain h.known own_id new refl refl (omega arith) not_known (λ u within. cc) (λ u z x e own below. below_none (record { intent = u.intent; begin = z.0; func = u.func }) below) (settled h)))
+      (grows_new h.known own_id (with_once d own_id new) not_known) frame (no_more d m k v next (λ e. ap has_finish is ∙ e)) in
       record {
         right = right_by {q = state} {next = next} {locked = h.locked} leads.bounded leads.legal leads.guarded kept.shows
             (λ u. replaced m (root_key t) (Some (rows.Intent (bound_row i))) (ap is_some (sym is)) u ∙ h.tickets u)
@@ -253,6 +260,10 @@ module _ (d : Deployment) (c : Core) (m : Rows) (h : Right d c m) (t f : ℕ) (a
         reply = λ u o e. cc;
       }
     where
+      -- a root is below nobody
+      below_none : (u : TxId) → IsBelow u (root_of t) → ⊥
+      below_none u below = let n = length-append u.intent.hops (below.step ∷ below.hops) in let k = ap (λ (i : IntentId). length i.hops) below.is in omega (arith, n, k)
+
       no_finish : (o : Option ℕ) → is_some o ≡ false → o ≡ None
       no_finish None e = refl
       no_finish (Some k) e = cc
@@ -273,7 +284,7 @@ module _ (d : Deployment) (c : Core) (m : Rows) (h : Right d c m) (t f : ℕ) (a
   request_by : (i : IntentRow) (b : Option Body) → i.body ≡ b → map.get m (root_key t) ≡ Some (rows.Intent i) → IsRootRow i (map.get h.known (root_of t)) → BodyMatches b i.outcome (map.get h.known (root_of t))
       → AfterAct d h.plain m (root_key t) (λ u. request_next d c t f a (binding_of u)) (Some (rows.Intent (bind_to f a i b).0), (bind_to f a i b).1)
   request_by i None bare is fits root = request_bound i is fits bare root
-  request_by i (Some b) has is fits root = told_same b i.outcome ((b.func == f) && same_value b.args a) (sym (outcome_known d h.plain h.known h.beside h.uncalled (root_of t)) ∙ ap outcome_of root.0.made ∙ root.1) (Some (rows.Intent i)) (sym is)
+  request_by i (Some b) has is fits root = told_same b i.outcome ((b.func == f) && same_value b.args a) (sym (outcome_known d h.plain h.known h.beside (root_of t) (λ k is. (h.sane.roots t k is).1)) ∙ ap outcome_of root.0.made ∙ root.1) (Some (rows.Intent i)) (sym is)
 
   request_row : (r : Option Row) → map.get m (root_key t) ≡ r → IntentMatches (has_ended d h.known) true 0 r (map.get h.known (root_of t)) → AfterAct d h.plain m (root_key t) (λ u. request_next d c t f a (binding_of u)) (act (Bind f a) c.now r)
   request_row None is root = absurd (true_false (sym (sym (ap is_some is) ∙ h.tickets t ∙ is_issued t c.newest issued)))
@@ -412,9 +423,12 @@ begins d now = right_by {q = nothing} {next = map.empty} {locked = λ id. false}
       rows = nothing_matches d;
       values = λ x. ap (λ r. listed_under map.empty x (content_in r).owner (content_in r).value) (get-empty key_cmp (head_key x)) ∙ sym (ap or_null (get-empty item_cmp x));
       settled = record {
-        marks = λ t z x w is. let clash = sym (ap (ended_by d t.begin) (none_known t.intent)) ∙ is in cc;
+        marks = λ t z x a w is. let clash = sym (ap (ended_by d t.begin) (none_known t.intent)) ∙ is in cc;
+        latest = λ t z x i is owned below. none_known i;
         holders = λ id q n c u is. let clash = sym (none_known id) ∙ is in cc;
-        uncalled = λ id q is. let clash = sym (none_known id) ∙ is in cc;
+        seated = λ id q t is. let clash = sym (none_known id) ∙ is in cc;
+        released = λ t z is. let clash = sym (ap (ended_by d t.begin) (none_known t.intent)) ∙ is in cc;
+        short = λ id there. let clash = sym (ap is_some (none_known id)) ∙ there in cc;
       };
     })
     (λ t. ap is_some (get-empty key_cmp (root_key t)) ∙ sym (no_ticket t))

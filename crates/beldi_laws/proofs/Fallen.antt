@@ -1,9 +1,9 @@
 -- What was aborted in an open transaction, if anything: it is the cause that a run keeps, and its instance's last answer.
 use Rattle.std.proofs.Common.{◌≡◌, ◌∙◌, Bool, true, false, List, [], ◌∷◌, ◌++◌, length, Option, Some, None, is_some, refl, ap, sym, subst, take, append_assoc, append-nil}
-use Rattle.std.specs.Option.{option_map}
 use Rattle.std.specs.Prelude.{slice_get}
 use Rattle.beldi_value.specs.declared.id.IntentId.{IntentId}
 use Rattle.beldi_value.specs.declared.outcome.Cause.{Cause}
+use Rattle.beldi_value.specs.declared.place.TxId.{TxId}
 use Rattle.beldi_tree.specs.declared.deployment.Deployment.{Deployment}
 use Rattle.beldi_lang.specs.declared.effect.Answer.{Answer}
 use Rattle.beldi_lang.specs.declared.effect.Answer.TheVariants as answer
@@ -12,15 +12,25 @@ use Rattle.beldi_lang.specs.declared.effect.Effect.TheVariants as effect
 use Rattle.beldi_plain.specs.Plain.{Instance}
 use Rattle.beldi_order.specs.Sane.{IsAnswer}
 use Rattle.beldi_order.specs.Txs.{effect_after, tx_after}
-use Rattle.beldi_order.proofs.Maps.{same_some}
 use Rattle.beldi_step.specs.declared.run.OpenTx.{OpenTx}
-use Rattle.beldi_step.specs.Run.{open_after, place_of}
+use Rattle.beldi_step.specs.declared.run.RunTx.{RunTx}
+use Rattle.beldi_step.specs.declared.run.RunTx.TheVariants.{Own, Inherited}
+use Rattle.beldi_step.specs.Run.{open_after, place_of, within}
 use Rattle.beldi_known.specs.InsideLaws.{last_answer}
 use Rattle.beldi_known.specs.Sane.{SaneInstance}
 use Rattle.beldi_known.proofs.Answers.{take_front, get_next}
 use Rattle.beldi_known.proofs.Phases.{abort_ends}
 use Rattle.beldi_laws.specs.Right.{open_of}
-use Rattle.beldi_laws.proofs.OpenOf.{open_begun, open_pushed}
+use Rattle.beldi_laws.proofs.OpenOf.{own_begin, open_begun, open_pushed}
+
+-- one's own is one
+same_own : {v w : OpenTx} → Some (Own v) ≡ Some (Own w) → v ≡ w
+same_own h = cc
+
+-- where nothing was answered none is one's own
+none_own : (t : Option TxId) (w : OpenTx) → within t ≡ Some (Own w) → ⊥
+none_own None w h = cc
+none_own (Some x) w h = cc
 
 -- the cause of an answer
 abbrev pub cause_in : Option Answer → Option Cause
@@ -39,7 +49,7 @@ module _ (d : Deployment) (id : IntentId) (q : Instance) where
     ends : is_some o.cause ≡ true → effect_after d q ts ≡ effect.End false
 
   abbrev Causes : List Answer → Type 0
-  Causes ts = (o : OpenTx) → open_of d q ts ≡ Some o → IsCause ts o
+  Causes ts = (o : OpenTx) → open_of d q ts ≡ Some (Own o) → IsCause ts o
 
   -- one more answer is the last
   abbrev IsNext : List Answer → Answer → OpenTx → Type 0
@@ -57,22 +67,24 @@ module _ (d : Deployment) (id : IntentId) (q : Instance) where
       no_end e is other w z None there = refl
       no_end e is other w z (Some c) there = absurd (other false (sym is ∙ z.ends (ap is_some there)))
 
-      plainly : (e : Effect) → effect_after d q ts ≡ e → ((c : Bool) → e ≡ effect.End c → ⊥) → (w : OpenTx) → open_of d q ts ≡ Some w → w ≡ o → o.cause ≡ None
+      plainly : (e : Effect) → effect_after d q ts ≡ e → ((c : Bool) → e ≡ effect.End c → ⊥) → (w : OpenTx) → open_of d q ts ≡ Some (Own w) → w ≡ o → o.cause ≡ None
       plainly e is other w opened same = ap (λ (y : OpenTx). y.cause) (sym same) ∙ no_end e is other w (h w opened) w.cause refl
 
-      by_open : (u : Option OpenTx) → open_of d q ts ≡ u → (e : Effect) → effect_after d q ts ≡ e → (b : Answer) → IsAnswer (place_of id (length ts)) (tx_after d id q ts) e b → open_after (length ts) e b u ≡ Some o → IsNext ts b o
-      by_open u opened effect.Begin is answer.Done fits g = let none = ap (λ (y : OpenTx). y.cause) (sym (same_some g)) in (none, λ s. absurd (no_cause o.cause none s))
+      by_open : (u : Option RunTx) → open_of d q ts ≡ u → (e : Effect) → effect_after d q ts ≡ e → (b : Answer) → IsAnswer (place_of id (length ts)) (tx_after d id q ts) e b → open_after (length ts) e b u ≡ Some (Own o) → IsNext ts b o
+      by_open u opened effect.Begin is answer.Done fits g = let none = ap (λ (y : OpenTx). y.cause) (sym (same_own g)) in (none, λ s. absurd (no_cause o.cause none s))
       by_open u opened effect.Begin is b fits g = absurd fits
       by_open u opened (effect.End c) is b fits g = cc
       by_open None opened e is (answer.Aborted c) fits g = cc
-      by_open (Some w) opened e is (answer.Aborted c) fits g = (ap (λ (y : OpenTx). y.cause) (sym (same_some g)), λ s. abort_ends d q ts c (ap is_some (open_begun d q ts ∙ ap (λ (y : Option OpenTx). option_map (λ (x : OpenTx). x.begin) y) opened)) (λ b ends. absurd (no_abort b (subst (λ y. IsAnswer (place_of id (length ts)) (tx_after d id q ts) y (answer.Aborted c)) (sym is ∙ ends) fits))))
+      by_open (Some (Inherited x)) opened e is (answer.Aborted c) fits g = cc
+      by_open (Some (Own w)) opened e is (answer.Aborted c) fits g = (ap (λ (y : OpenTx). y.cause) (sym (same_own g)), λ s. abort_ends d q ts c (ap is_some (open_begun d q ts ∙ ap own_begin opened)) (λ b ends. absurd (no_abort b (subst (λ y. IsAnswer (place_of id (length ts)) (tx_after d id q ts) y (answer.Aborted c)) (sym is ∙ ends) fits))))
         where
           no_abort : (b : Bool) → IsAnswer (place_of id (length ts)) (tx_after d id q ts) (effect.End b) (answer.Aborted c) → ⊥
           no_abort b f = f
       by_open None opened e is b fits g = cc
-      by_open (Some w) opened e is b fits g = let none = plainly e is (other e b fits g) w opened (same_some g) in (none, λ s. absurd (no_cause o.cause none s))
+      by_open (Some (Inherited x)) opened e is b fits g = cc
+      by_open (Some (Own w)) opened e is b fits g = let none = plainly e is (other e b fits g) w opened (same_own g) in (none, λ s. absurd (no_cause o.cause none s))
         where
-          other : (e : Effect) (b : Answer) → IsAnswer (place_of id (length ts)) (tx_after d id q ts) e b → open_after (length ts) e b (Some w) ≡ Some o → (c : Bool) → e ≡ effect.End c → ⊥
+          other : (e : Effect) (b : Answer) → IsAnswer (place_of id (length ts)) (tx_after d id q ts) e b → open_after (length ts) e b (Some (Own w)) ≡ Some (Own o) → (c : Bool) → e ≡ effect.End c → ⊥
           other (effect.End c) b f g c' same = cc
           other e b f g c same = cc
 
@@ -83,5 +95,5 @@ module _ (d : Deployment) (id : IntentId) (q : Instance) where
       (sane.past (length given) a (ap (λ ts. slice_get ts (length given)) (sym all) ∙ get_next given rest a))) h)
 
   -- so a run keeps the cause of the last answer
-  pub cause_is : SaneInstance d id q → (o : OpenTx) → open_of d q q.answers ≡ Some o → o.cause ≡ cause_in (last_answer q.answers)
-  cause_is sane o is = (along_answers [] q.answers refl sane (λ w e. cc) o is).last
+  pub cause_is : SaneInstance d id q → (o : OpenTx) → open_of d q q.answers ≡ Some (Own o) → o.cause ≡ cause_in (last_answer q.answers)
+  cause_is sane o is = (along_answers [] q.answers refl sane (λ w e. absurd (none_own q.within w e)) o is).last

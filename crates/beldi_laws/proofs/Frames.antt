@@ -1,5 +1,5 @@
 -- What an event keeps for the runs of others, and what rows keep of transactions.
-use Rattle.std.proofs.Common.{◌≡◌, ◌∙◌, inl, inr, ℕ, Bool, true, false, List, [], ◌∷◌, ◌++◌, length, cond, Option, Some, None, is_some, refl, ap, sym, subst, if◌then◌else◌}
+use Rattle.std.proofs.Common.{◌≡◌, ◌∙◌, inl, inr, ℕ, ◌≤◌, Bool, true, false, List, [], ◌∷◌, ◌++◌, length, cond, Option, Some, None, is_some, refl, ap, sym, subst, if◌then◌else◌}
 use Rattle.std.specs.Prelude.{slice_get}
 use Rattle.std.specs.FinMap as map
 use Rattle.std.specs.Ordering.{is_eq}
@@ -34,14 +34,13 @@ use Rattle.beldi_walk.specs.Query.{rows_after}
 use Rattle.beldi_daal.specs.declared.cell.CellOp.{CellOp}
 use Rattle.beldi_daal.specs.Content.{Content, content_in}
 use Rattle.beldi_daal.specs.Logged.{note_after}
-use Rattle.beldi_txn.specs.End.{end_place}
 use Rattle.beldi_plain.specs.Item.{Item, item_cmp}
 use Rattle.beldi_plain.specs.Operation.{set_if, or_old, touched}
 use Rattle.beldi_plain.specs.Plain.{Instance, PlainState, value_at, answered, ended, effect_of}
 use Rattle.beldi_plain.specs.Executor.{answered_if}
 use Rattle.beldi_order.specs.Grown.{Grows}
 use Rattle.beldi_order.specs.Txs.{Txs, tx_at, tx_now, tx_after, txs_after, txs_by, end_of}
-use Rattle.beldi_order.proofs.Maps.{here as known_here, same_some}
+use Rattle.beldi_order.proofs.Maps.{same_some}
 use Rattle.beldi_order.proofs.Operations.{plain_set, item_same}
 use Rattle.beldi_order.proofs.Went.{txs_pushed, pushed_cases}
 use Rattle.beldi_step.specs.Run.{place_of}
@@ -54,7 +53,15 @@ use Rattle.beldi_known.proofs.Outside.{no_tx, free_after}
 use Rattle.beldi_known.proofs.Owners.{IsFreeFor}
 use Rattle.beldi_known.proofs.Rows.{set_others}
 use Rattle.beldi_known.proofs.NoTx.{outside_parts}
-use Rattle.beldi_laws.specs.Inside.{OwnedAreUnmarked, Frame, IsWriting, StillOwns}
+use Rattle.beldi_laws.specs.Inside.{OwnedAreUnmarked, OwnersCallNobody, ParticipantsAreReleased, ParticipantsHaveRows, Frame, IsFreePlace, IsOf, IsWriting, StillOwns, TookPart, has_finish}
+use Rattle.beldi_laws.specs.Stands.{key_in}
+use Rattle.beldi_known.specs.InsideLaws.{HoldersAreMade}
+use Rattle.beldi_invokelog.specs.InvokeLog.{invoke_key}
+use Rattle.beldi_readlog.specs.ReadLog.{log_key}
+use Rattle.beldi_txn.specs.Invokes.{func_called}
+use Rattle.beldi_order.specs.Inside.{IsBelow}
+use Rattle.beldi_plain.specs.Executor.{AllShort}
+use Rattle.std.specs.Option.{option_map}
 use Rattle.beldi_laws.proofs.KeptSane.{outside_effect}
 use Rattle.beldi_laws.proofs.Lives.{made_stays}
 use Rattle.beldi_laws.proofs.Outside.{is_of_tx}
@@ -97,6 +104,11 @@ abbrev begin_in : Kind → ℕ
 begin_in (kinds.Lockset i b t k) = b
 begin_in k = 0
 
+-- the intent of an intent's row
+abbrev intent_of : IntentId → Kind → IntentId
+intent_of j (kinds.Intent i) = i
+intent_of j k = j
+
 no_item : (k : Kind) → is_entry k ≡ true → (is_data k ≡ false) × (is_shadow k ≡ false) × (is_lockset k ≡ false)
 no_item (kinds.Intent i) h = (refl, refl, refl)
 no_item (kinds.ReadLog a) h = (refl, refl, refl)
@@ -133,30 +145,131 @@ query_keeps (query.Act k a) now m l there = ap is_some (row_got m k l (act a now
     by_key true e = acted (map.get m k) (subst (λ z. is_some (map.get m z) ≡ true) (key_same l k e) there)
     by_key false e = there
 
+-- ---- finishes and calls, where one row changed
+abbrev pub is_intent : Kind → Bool
+is_intent (kinds.Intent i) = true
+is_intent k = false
+
+abbrev pub is_invoke : Kind → Bool
+is_invoke (kinds.Invoke a) = true
+is_invoke k = false
+
+-- a finish stays, and what was called
+abbrev pub FinishesStay : Rows → Rows → Type 0
+FinishesStay m n = (home : ℕ) (i : IntentId) → has_finish (map.get m (key_in home i)) ≡ true → has_finish (map.get n (key_in home i)) ≡ true
+
+abbrev pub CallsStay : Rows → Rows → Type 0
+CallsStay m n = (f : ℕ) (a : Place) (g : ℕ) → option_map func_called (map.get m (invoke_key f a)) ≡ Some g → option_map func_called (map.get n (invoke_key f a)) ≡ Some g
+
+-- no finish is new of who took part in a transaction that has ended
+abbrev pub NoFinish : Deployment → Rows → Rows → Known → Type 0
+NoFinish d m n next = (t : TxId) (z : ℕ × Bool) (i : IntentId) (home : ℕ) → tx_end d next t ≡ Some z → TookPart next t i → has_finish (map.get n (key_in home i)) ≡ true → has_finish (map.get m (key_in home i)) ≡ true
+
+module _ (m n : Rows) (k : RowKey) (same : (l : RowKey) → is_eq (key_cmp l k) ≡ false → map.get n l ≡ map.get m l) where
+  intent_off : is_intent k.kind ≡ false → (home : ℕ) (i : IntentId) → map.get n (key_in home i) ≡ map.get m (key_in home i)
+  intent_off off home i = same (key_in home i) (kinds_apart is_intent (key_in home i) k refl off)
+
+  finishes_off : is_intent k.kind ≡ false → FinishesStay m n
+  finishes_off off home i e = ap has_finish (intent_off off home i) ∙ e
+
+  calls_off : is_invoke k.kind ≡ false → CallsStay m n
+  calls_off off f a g e = ap (option_map func_called) (same (invoke_key f a) (kinds_apart is_invoke (invoke_key f a) k refl off)) ∙ e
+
+  -- what is so at its key is so at all
+  at_all : (P : RowKey → Option Row → Option Row → Type 0) → P k (map.get m k) (map.get n k) → ((l : RowKey) (r : Option Row) → P l r r) → (l : RowKey) → P l (map.get m l) (map.get n l)
+  at_all P here others l = by_test (is_eq (key_cmp l k)) refl
+    where
+      by_test : (b : Bool) → is_eq (key_cmp l k) ≡ b → P l (map.get m l) (map.get n l)
+      by_test true e = subst (λ z. P z (map.get m z) (map.get n z)) (sym (key_same l k e)) here
+      by_test false e = subst (P l (map.get m l)) (sym (same l e)) (others l (map.get m l))
+
+  finishes_on : (has_finish (map.get m k) ≡ true → has_finish (map.get n k) ≡ true) → FinishesStay m n
+  finishes_on here home i = at_all (λ l r s. has_finish r ≡ true → has_finish s ≡ true) here (λ l r e. e) (key_in home i)
+
+  calls_on : ((g : ℕ) → option_map func_called (map.get m k) ≡ Some g → option_map func_called (map.get n k) ≡ Some g) → CallsStay m n
+  calls_on here f a = at_all (λ l r s. (g : ℕ) → option_map func_called r ≡ Some g → option_map func_called s ≡ Some g) here (λ l r g e. e) (invoke_key f a)
+
+  -- another row than an intent's gives no finish ..
+  pub no_finish : (d : Deployment) (next : Known) → is_intent k.kind ≡ false → NoFinish d m n next
+  no_finish d next off t z i home ended part e = ap has_finish (sym (intent_off off home i)) ∙ e
+
+  -- .. nor does one that had it before
+  pub no_new_finish : (d : Deployment) (next : Known) → (has_finish (map.get n k) ≡ true → has_finish (map.get m k) ≡ true) → NoFinish d m n next
+  no_new_finish d next here t z i home ended part = at_all (λ l r s. has_finish s ≡ true → has_finish r ≡ true) here (λ l r e. e) (key_in home i)
+
+-- .. and one of who took part in none may get it
+pub no_member_finish : (d : Deployment) (m n : Rows) (home : ℕ) (id : IntentId) (next : Known) → ((l : RowKey) → is_eq (key_cmp l (key_in home id)) ≡ false → map.get n l ≡ map.get m l)
+    → ((t : TxId) (z : ℕ × Bool) → tx_end d next t ≡ Some z → TookPart next t id → ⊥) → NoFinish d m n next
+no_member_finish d m n home id next same none t z i f ended part e = by_test (is_eq (key_cmp (key_in f i) (key_in home id))) refl
+  where
+    by_test : (b : Bool) → is_eq (key_cmp (key_in f i) (key_in home id)) ≡ b → has_finish (map.get m (key_in f i)) ≡ true
+    by_test true g = absurd (none t z ended (subst (TookPart next t) (λ k. intent_of id ((key_same (key_in f i) (key_in home id) g) k).kind) part))
+    by_test false g = ap has_finish (sym (same (key_in f i) g)) ∙ e
+
+-- ---- nobody joins a transaction that has ended
+abbrev pub NobodyJoins : Deployment → Known → Known → Type 0
+NobodyJoins d known next = (t : TxId) (z : ℕ × Bool) (i : IntentId) → tx_end d next t ≡ Some z → TookPart next t i → is_some (map.get known i) ≡ true
+
+-- .. where the same are known
+pub nobody_new : (d : Deployment) (known : Known) → NobodyJoins d known known
+nobody_new d known t z i ended part = ap is_some part.made
+
+-- .. where one that is known is set
+pub nobody_set : (d : Deployment) (known : Known) (id : IntentId) (s : Instance) → is_some (map.get known id) ≡ true → NobodyJoins d known (map.insert known id s)
+nobody_set d known id s there t z i ended part = known_set known id s (λ j o. is_some o ≡ true → is_some (map.get known j) ≡ true) (λ e. there) (λ j other e. e) i (ap is_some part.made)
+
+-- .. or a new one, that was called in one that has not ended, or in none
+pub nobody_made : (d : Deployment) (known : Known) (id : IntentId) (s : Instance) → ((t : TxId) → s.within ≡ Some t → tx_end d (map.insert known id s) t ≡ None) → NobodyJoins d known (map.insert known id s)
+nobody_made d known id s open_still t z i ended part = known_set known id s (λ j o. o ≡ Some part.instance → is_some (map.get known j) ≡ true)
+    (λ e. let clash = sym (open_still t (ap (λ (y : Instance). y.within) (same_some e) ∙ part.within)) ∙ ended in cc) (λ j other e. ap is_some e) i part.made
+
+-- .. one after the other
+pub nobody_then : (d : Deployment) (known over next : Known) → ((j : IntentId) → is_some (map.get over j) ≡ true → is_some (map.get known j) ≡ true) → NobodyJoins d over next → NobodyJoins d known next
+nobody_then d known over next there none t z i ended part = there i (none t z i ended part)
+
 -- ---- how a frame is made
-module _ (d : Deployment) (m : Rows) (p q : PlainState) (known next : Known) (values : ValuesStay d m p q next) where
+module _ (d : Deployment) (m : Rows) (p q : PlainState) (known next : Known) (values : ValuesStay d m p q next) (members : NobodyJoins d known next) where
   -- no row changes
   pub frame_still : Frame d m m p q known next
-  frame_still = record { rows = λ k e. e; notes = λ x a w e. e; shadows = λ t x apart. refl; locksets = λ t z x e there. there; owners = λ t z x e own. record { owner = own; note = refl }; values = values }
+  frame_still = record {
+    rows = λ k e. e;
+    notes = λ x a w e. e;
+    shadows = λ t x apart. refl;
+    locksets = λ t z i x e is there. there;
+    owners = λ t z x e own. record { owner = own; notes = λ a free. refl };
+    members = members;
+    finishes = λ home i e. e;
+    calls = λ f a g e. e;
+    values = values;
+  }
 
   module _ (n : Rows) where
     notes_same : ((x : Item) → content_of n x ≡ content_of m x) → (x : Item) (a : Place) (w : Note) → note_at (content_of m x).notes a ≡ Some w → note_at (content_of n x).notes a ≡ Some w
     notes_same contents x a w e = ap (λ (c : Content). note_at c.notes a) (contents x) ∙ e
 
-    owners_same : ((x : Item) → content_of n x ≡ content_of m x) → (t : TxId) (z : ℕ × Bool) (x : Item) → tx_end d next t ≡ Some z → (content_of n x).owner ≡ Some (ByTx t) → StillOwns (content_of m x) (content_of n x) t z.0
-    owners_same contents t z x e own = record { owner = ap (λ (c : Content). c.owner) (sym (contents x)) ∙ own; note = ap (λ (c : Content). note_at c.notes (end_place t z.0)) (contents x) }
+    owns_same : (t : TxId) (end : ℕ) (x : Item) → content_of n x ≡ content_of m x → (content_of n x).owner ≡ Some (ByTx t) → StillOwns next (content_of m x) (content_of n x) t end
+    owns_same t end x same own = record { owner = ap (λ (c : Content). c.owner) (sym same) ∙ own; notes = λ a free. ap (λ (c : Content). note_at c.notes a) same }
+
+    owners_same : ((x : Item) → content_of n x ≡ content_of m x) → (t : TxId) (z : ℕ × Bool) (x : Item) → tx_end d next t ≡ Some z → (content_of n x).owner ≡ Some (ByTx t) → StillOwns next (content_of m x) (content_of n x) t z.0
+    owners_same contents t z x e own = owns_same t z.0 x (contents x) own
 
     -- the row of an intent, of a read or a decision, or of a call
     module _ (k : RowKey) (same : (l : RowKey) → is_eq (key_cmp l k) ≡ false → map.get n l ≡ map.get m l) (there : is_some (map.get n k) ≡ true) where
-      pub frame_entry : is_entry k.kind ≡ true → Frame d m n p q known next
-      frame_entry kind = let off = no_item k.kind kind in record {
+      frame_of : is_entry k.kind ≡ true → FinishesStay m n → CallsStay m n → Frame d m n p q known next
+      frame_of kind finishes calls = let off = no_item k.kind kind in record {
         rows = rows_stay m n k same (λ e. there);
         notes = notes_same (content_off m n k same off.0);
         shadows = λ t x apart. shadow_off m n k same off.1 t x;
-        locksets = λ t z x e here. ap is_some (sym (lockset_off m n k same off.2 t.intent t.begin x)) ∙ here;
+        locksets = λ t z i x e is here. ap is_some (sym (lockset_off m n k same off.2 i t.begin x)) ∙ here;
         owners = owners_same (content_off m n k same off.0);
+        members = members;
+        finishes = finishes;
+        calls = calls;
         values = values;
       }
+
+      pub frame_entry : is_entry k.kind ≡ true → (has_finish (map.get m k) ≡ true → has_finish (map.get n k) ≡ true) → ((g : ℕ) → option_map func_called (map.get m k) ≡ Some g → option_map func_called (map.get n k) ≡ Some g) → Frame d m n p q known next
+      frame_entry kind ends calls = frame_of kind (finishes_on m n k same ends) (calls_on m n k same calls)
 
     -- the first row of a shadow, of a transaction that an instance is to write in
     module _ (s : TxId) (y : Item) (same : (l : RowKey) → is_eq (key_cmp l (shadow_key s y)) ≡ false → map.get n l ≡ map.get m l) (there : is_some (map.get n (shadow_key s y)) ≡ true) (writing : IsWriting d known s) where
@@ -165,8 +278,11 @@ module _ (d : Deployment) (m : Rows) (p q : PlainState) (known next : Known) (va
         rows = rows_stay m n (shadow_key s y) same (λ e. there);
         notes = notes_same (content_off m n (shadow_key s y) same refl);
         shadows = λ t x apart. by_key t x apart (is_eq (key_cmp (shadow_key t x) (shadow_key s y))) refl;
-        locksets = λ t z x e here. ap is_some (sym (lockset_off m n (shadow_key s y) same refl t.intent t.begin x)) ∙ here;
+        locksets = λ t z i x e is here. ap is_some (sym (lockset_off m n (shadow_key s y) same refl i t.begin x)) ∙ here;
         owners = owners_same (content_off m n (shadow_key s y) same refl);
+        members = members;
+        finishes = finishes_off m n (shadow_key s y) same refl;
+        calls = calls_off m n (shadow_key s y) same refl;
         values = values;
       }
         where
@@ -180,21 +296,23 @@ module _ (d : Deployment) (m : Rows) (p q : PlainState) (known next : Known) (va
       others_hold x other = ap content_in (same (head_key x) (turned y x other))
 
       pub frame_item : ((a : Place) (w : Note) → note_at (content_of m y).notes a ≡ Some w → note_at (content_of n y).notes a ≡ Some w)
-          → ((t : TxId) (z : ℕ × Bool) → tx_end d next t ≡ Some z → (content_of n y).owner ≡ Some (ByTx t) → StillOwns (content_of m y) (content_of n y) t z.0) → Frame d m n p q known next
+          → ((t : TxId) (z : ℕ × Bool) → tx_end d next t ≡ Some z → (content_of n y).owner ≡ Some (ByTx t) → StillOwns next (content_of m y) (content_of n y) t z.0) → Frame d m n p q known next
       frame_item notes owners = record {
         rows = rows_stay m n (head_key y) same there;
         notes = λ x. by_item y x (λ x. (a : Place) (w : Note) → note_at (content_of m x).notes a ≡ Some w → note_at (content_of n x).notes a ≡ Some w) notes (λ other a w e. ap (λ (c : Content). note_at c.notes a) (others_hold x other) ∙ e);
         shadows = λ t x apart. shadow_off m n (head_key y) same refl t x;
-        locksets = λ t z x e here. ap is_some (sym (lockset_off m n (head_key y) same refl t.intent t.begin x)) ∙ here;
-        owners = λ t z x. by_item y x (λ x. tx_end d next t ≡ Some z → (content_of n x).owner ≡ Some (ByTx t) → StillOwns (content_of m x) (content_of n x) t z.0) (owners t z)
-            (λ other e own. record { owner = ap (λ (c : Content). c.owner) (sym (others_hold x other)) ∙ own; note = ap (λ (c : Content). note_at c.notes (end_place t z.0)) (others_hold x other) });
+        locksets = λ t z i x e is here. ap is_some (sym (lockset_off m n (head_key y) same refl i t.begin x)) ∙ here;
+        owners = λ t z x. by_item y x (λ x. tx_end d next t ≡ Some z → (content_of n x).owner ≡ Some (ByTx t) → StillOwns next (content_of m x) (content_of n x) t z.0) (owners t z)
+            (λ other e own. owns_same t z.0 x (others_hold x other) own);
+        members = members;
+        finishes = finishes_off m n (head_key y) same refl;
+        calls = calls_off m n (head_key y) same refl;
         values = values;
       }
 
       -- .. that holds what it held
       pub frame_held : content_of n y ≡ content_of m y → Frame d m n p q known next
-      frame_held held = frame_item (λ a w e. ap (λ (c : Content). note_at c.notes a) held ∙ e)
-          (λ t z e own. record { owner = ap (λ (c : Content). c.owner) (sym held) ∙ own; note = ap (λ (c : Content). note_at c.notes (end_place t z.0)) held })
+      frame_held held = frame_item (λ a w e. ap (λ (c : Content). note_at c.notes a) held ∙ e) (λ t z e own. owns_same t z.0 y held own)
 
     -- .. after an operation outside
     pub frame_done : (y : Item) (at : Place) (op : CellOp) → DoneRows m n y at op → Frame d m n p q known next
@@ -219,82 +337,155 @@ module _ (d : Deployment) (m : Rows) (p q : PlainState) (known next : Known) (va
             by_place false e = is
 
   -- ---- a row is set
-  pub frame_row : (k : RowKey) (v : Option Row) → is_entry k.kind ≡ true → is_some v ≡ true → Frame d m (set_row m k v) p q known next
-  frame_row k v kind there = frame_entry (set_row m k v) k (set_others m k v) (ap is_some (row_got m k k v ∙ ap (λ b. cond b v (map.get m k)) (key_self k)) ∙ there) kind
+  row_there : (k : RowKey) (v : Option Row) → map.get (set_row m k v) k ≡ v
+  row_there k v = row_got m k k v ∙ ap (λ b. cond b v (map.get m k)) (key_self k)
 
-  -- that a transaction asks for a lock, which has not ended
-  pub frame_lockset : (s : TxId) (y : Item) → tx_end d next s ≡ None → Frame d m (set_row m (lockset_key s.intent s.begin y) (Some rows.Lockset)) p q known next
-  frame_lockset s y open_still = record {
-    rows = rows_stay m (set_row m (lockset_key s.intent s.begin y) (Some rows.Lockset)) (lockset_key s.intent s.begin y) same (λ e. ap is_some (row_got m (lockset_key s.intent s.begin y) (lockset_key s.intent s.begin y) (Some rows.Lockset)) ∙ ap (λ b. is_some (cond b (Some rows.Lockset) (map.get m (lockset_key s.intent s.begin y)))) (key_self (lockset_key s.intent s.begin y)));
-    notes = notes_same (set_row m (lockset_key s.intent s.begin y) (Some rows.Lockset)) (content_off m (set_row m (lockset_key s.intent s.begin y) (Some rows.Lockset)) (lockset_key s.intent s.begin y) same refl);
-    shadows = λ t x apart. shadow_off m (set_row m (lockset_key s.intent s.begin y) (Some rows.Lockset)) (lockset_key s.intent s.begin y) same refl t x;
-    locksets = λ t z x e here. by_key t z x e here (is_eq (key_cmp (lockset_key t.intent t.begin x) (lockset_key s.intent s.begin y))) refl;
-    owners = owners_same (set_row m (lockset_key s.intent s.begin y) (Some rows.Lockset)) (content_off m (set_row m (lockset_key s.intent s.begin y) (Some rows.Lockset)) (lockset_key s.intent s.begin y) same refl);
+  pub frame_row : (k : RowKey) (v : Option Row) → is_entry k.kind ≡ true → is_some v ≡ true → (has_finish (map.get m k) ≡ true → has_finish v ≡ true) → ((g : ℕ) → option_map func_called (map.get m k) ≡ Some g → option_map func_called v ≡ Some g) → Frame d m (set_row m k v) p q known next
+  frame_row k v kind there ends calls = frame_entry (set_row m k v) k (set_others m k v) (ap is_some (row_there k v) ∙ there) kind (λ e. ap has_finish (row_there k v) ∙ ends e) (λ g e. ap (option_map func_called) (row_there k v) ∙ calls g e)
+
+  -- that of a read, or of a decision
+  pub frame_log : (home : ℕ) (a : Place) (v : Option Row) → is_some v ≡ true → Frame d m (set_row m (log_key home a) v) p q known next
+  frame_log home a v there = let k = log_key home a in frame_of (set_row m k v) k (set_others m k v) (ap is_some (row_there k v) ∙ there) refl (finishes_off m (set_row m k v) k (set_others m k v) refl) (calls_off m (set_row m k v) k (set_others m k v) refl)
+
+  -- that a member asks for a lock, of no transaction that has ended
+  pub frame_lockset : (j : IntentId) (b : ℕ) (y : Item) → ((t : TxId) (z : ℕ × Bool) → tx_end d next t ≡ Some z → IsOf next t j → t.begin ≡ b → ⊥) → Frame d m (set_row m (lockset_key j b y) (Some rows.Lockset)) p q known next
+  frame_lockset j b y none = record {
+    rows = rows_stay m asked key same (λ e. ap is_some (row_there key (Some rows.Lockset)));
+    notes = notes_same asked (content_off m asked key same refl);
+    shadows = λ t x apart. shadow_off m asked key same refl t x;
+    locksets = λ t z i x e is here. by_key t z i x e is here (is_eq (key_cmp (lockset_key i t.begin x) key)) refl;
+    owners = owners_same asked (content_off m asked key same refl);
+    members = members;
+    finishes = finishes_off m asked key same refl;
+    calls = calls_off m asked key same refl;
     values = values;
   }
     where
-      same : (l : RowKey) → is_eq (key_cmp l (lockset_key s.intent s.begin y)) ≡ false → map.get (set_row m (lockset_key s.intent s.begin y) (Some rows.Lockset)) l ≡ map.get m l
-      same l other = set_others m (lockset_key s.intent s.begin y) (Some rows.Lockset) l other
+      key : RowKey
+      key = lockset_key j b y
 
-      by_key : (t : TxId) (z : ℕ × Bool) (x : Item) → tx_end d next t ≡ Some z → is_some (map.get (set_row m (lockset_key s.intent s.begin y) (Some rows.Lockset)) (lockset_key t.intent t.begin x)) ≡ true → (b : Bool)
-          → is_eq (key_cmp (lockset_key t.intent t.begin x) (lockset_key s.intent s.begin y)) ≡ b → is_some (map.get m (lockset_key t.intent t.begin x)) ≡ true
-      by_key t z x e here true g = let one = key_same (lockset_key t.intent t.begin x) (lockset_key s.intent s.begin y) g in
-          let clash = sym open_still ∙ (λ i. ended_by d (begin_in (sym one i).kind) (map.get next (intent_in s.intent (sym one i).kind))) ∙ e in cc
-      by_key t z x e here false g = ap is_some (sym (same (lockset_key t.intent t.begin x) g)) ∙ here
+      asked : Rows
+      asked = set_row m (lockset_key j b y) (Some rows.Lockset)
+
+      same : (l : RowKey) → is_eq (key_cmp l (lockset_key j b y)) ≡ false → map.get (set_row m (lockset_key j b y) (Some rows.Lockset)) l ≡ map.get m l
+      same l other = set_others m (lockset_key j b y) (Some rows.Lockset) l other
+
+      by_key : (t : TxId) (z : ℕ × Bool) (i : IntentId) (x : Item) → tx_end d next t ≡ Some z → IsOf next t i → is_some (map.get (set_row m (lockset_key j b y) (Some rows.Lockset)) (lockset_key i t.begin x)) ≡ true → (c : Bool)
+          → is_eq (key_cmp (lockset_key i t.begin x) (lockset_key j b y)) ≡ c → is_some (map.get m (lockset_key i t.begin x)) ≡ true
+      by_key t z i x e is here true g = let one = key_same (lockset_key i t.begin x) (lockset_key j b y) g in
+          absurd (none t z e (subst (IsOf next t) (λ k. intent_in j (one k).kind) is) (λ k. begin_in (one k).kind))
+      by_key t z i x e is here false g = ap is_some (sym (same (lockset_key i t.begin x) g)) ∙ here
 
 -- ---- what rows keep of transactions
 -- the plain state grows
 pub settled_grown : (d : Deployment) (m : Rows) (p q : PlainState) (known : Known) → Grows p.made q.made → Settled d m p known → Settled d m q known
-settled_grown d m p q known grows h = record { marks = h.marks; holders = λ id k n c i is inside dead holder. made_stays (map.get p.made i) (map.get q.made i) (grows i) (h.holders id k n c i is inside dead holder); uncalled = h.uncalled }
-
--- the rows move, by a frame
-pub settled_rows : (d : Deployment) (m n : Rows) (p q : PlainState) (known next : Known) → Frame d m n p q known next → Settled d m q next → Settled d n q next
-settled_rows d m n p q known next frame h = record { marks = λ t z x w e own noted. let s = frame.owners t z x e own in h.marks t z x w e s.owner (sym s.note ∙ noted); holders = h.holders; uncalled = h.uncalled }
-
--- what it wants of an instance: none of its transactions ended that had not, who let a step die was made, and it was called in none
-pub record IsSettled (d : Deployment) (p : PlainState) (known : Known) (id : IntentId) (s : Instance) : Type 0 where
-  pub ends : (b : ℕ) (z : ℕ × Bool) → end_of d s b ≡ Some z → ended_by d b (map.get known id) ≡ Some z
-  pub holders : (n : ℕ) (c : Cause) (i : IntentId) → is_some (tx_at d id s n) ≡ true → slice_get s.answers n ≡ Some (answer.Aborted c) → c.holder ≡ Some i → is_some (map.get p.made i) ≡ true
-  pub uncalled : s.within ≡ None
-
--- an instance is set, of whose ends the rows keep what they have to
-pub settled_by : (d : Deployment) (m : Rows) (p : PlainState) (known : Known) (id : IntentId) (s : Instance) → OwnedAreUnmarked d m (map.insert known id s) → IsSettled d p (map.insert known id s) id s → Settled d m p known → Settled d m p (map.insert known id s)
-settled_by d m p known id s marks one h = record {
-  marks = marks;
-  holders = λ j k n c i is inside dead holder. known_set known id s (λ j o. o ≡ Some k → is_some (tx_at d j k n) ≡ true → is_some (map.get p.made i) ≡ true)
-      (λ e g. one.holders n c i (subst (λ (y : Instance). is_some (tx_at d id y n) ≡ true) (sym (same_some e)) g) (subst (λ (y : Instance). slice_get y.answers n ≡ Some (answer.Aborted c)) (sym (same_some e)) dead) holder)
-      (λ j other e g. h.holders j k n c i e g dead holder) j is inside;
-  uncalled = λ j k is. known_set known id s (λ j o. o ≡ Some k → k.within ≡ None) (λ e. ap (λ (y : Instance). y.within) (sym (same_some e)) ∙ one.uncalled) (λ j other e. h.uncalled j k e) j is;
+settled_grown d m p q known grows h = record {
+  marks = h.marks;
+  latest = h.latest;
+  holders = λ id k n c i is inside dead holder. made_stays (map.get p.made i) (map.get q.made i) (grows i) (h.holders id k n c i is inside dead holder);
+  seated = h.seated;
+  released = h.released;
+  short = h.short;
 }
 
--- .. none of whose transactions ended that had not
-pub settled_set : (d : Deployment) (m : Rows) (p : PlainState) (known : Known) (id : IntentId) (s : Instance) → IsSettled d p known id s → Settled d m p known → Settled d m p (map.insert known id s)
-settled_set d m p known id s one h = settled_by d m p known id s (λ t z x w e own noted. h.marks t z x w (ended t z e) own noted)
-    (record { ends = λ b z e. ap (ended_by d b) (known_here known id s) ∙ e; holders = one.holders; uncalled = one.uncalled }) h
-  where
-    ended : (t : TxId) (z : ℕ × Bool) → tx_end d (map.insert known id s) t ≡ Some z → tx_end d known t ≡ Some z
-    ended t z e = known_set known id s (λ j o. ended_by d t.begin o ≡ Some z → ended_by d t.begin (map.get known j) ≡ Some z) (one.ends t.begin z) (λ j other e. e) t.intent e
+-- the rows move, by a frame
+module _ (d : Deployment) (m n : Rows) (p q : PlainState) (known next : Known) (frame : Frame d m n p q known next) where
+  pub marks_stay : OwnedAreUnmarked d m next → OwnedAreUnmarked d n next
+  marks_stay marks t z x a w e own free noted = let s = frame.owners t z x e own in marks t z x a w e s.owner free (sym (s.notes a free) ∙ noted)
+
+  pub latest_stays : OwnersCallNobody d m next → OwnersCallNobody d n next
+  latest_stays latest t z x i e own = let s = frame.owners t z x e own in latest t z x i e s.owner
+
+  pub seated_stays : ParticipantsHaveRows m next → ParticipantsHaveRows n next
+  seated_stays seated id k t is within over = frame.rows (key_in k.func id) (seated id k t is within over)
+
+  -- .. by which who took part and has its finish has given back all
+  pub settled_rows : ParticipantsAreReleased d n next → Settled d m q next → Settled d n q next
+  settled_rows released h = record { marks = marks_stay h.marks; latest = latest_stays h.latest; holders = h.holders; seated = seated_stays h.seated; released = released; short = h.short }
+
+-- what it wants of an instance: who let a step die was made, who took part and has its outcome has its row, and its id is short
+pub record IsSettled (d : Deployment) (m : Rows) (p : PlainState) (id : IntentId) (s : Instance) : Type 0 where
+  pub holders : (n : ℕ) (c : Cause) (i : IntentId) → is_some (tx_at d id s n) ≡ true → slice_get s.answers n ≡ Some (answer.Aborted c) → c.holder ≡ Some i → is_some (map.get p.made i) ≡ true
+  pub seated : (t : TxId) → s.within ≡ Some t → is_some s.outcome ≡ true → is_some (map.get m (key_in s.func id)) ≡ true
+  pub short : length id.hops ≤ 63
+
+-- .. beside what is known: none of its transactions ended that had not, it joins none that has ended, and is called by no owner past
+-- its end that owns an item still
+pub record GoesAlong (d : Deployment) (m : Rows) (known : Known) (id : IntentId) (s : Instance) : Type 0 where
+  pub ends : (b : ℕ) (z : ℕ × Bool) → end_of d s b ≡ Some z → ended_by d b (map.get known id) ≡ Some z
+  pub joined : (t : TxId) (z : ℕ × Bool) → tx_end d known t ≡ Some z → s.within ≡ Some t → TookPart known t id
+  pub late : (t : TxId) (z : ℕ × Bool) (x : Item) → tx_end d known t ≡ Some z → (content_of m x).owner ≡ Some (ByTx t) → IsBelow (record { intent = t.intent; begin = z.0; func = t.func }) id → ⊥
+
+module _ (d : Deployment) (m : Rows) (p : PlainState) (known : Known) (id : IntentId) (s : Instance) where
+  -- an instance is set, of whose transactions the rows keep what they have to
+  module _ (one : IsSettled d m p id s) (h : Settled d m p known) where
+    pub holders_set : HoldersAreMade d p (map.insert known id s)
+    holders_set j k n c i is inside dead holder = known_set known id s (λ j o. o ≡ Some k → is_some (tx_at d j k n) ≡ true → is_some (map.get p.made i) ≡ true)
+        (λ e g. one.holders n c i (subst (λ (y : Instance). is_some (tx_at d id y n) ≡ true) (sym (same_some e)) g) (subst (λ (y : Instance). slice_get y.answers n ≡ Some (answer.Aborted c)) (sym (same_some e)) dead) holder)
+        (λ j other e g. h.holders j k n c i e g dead holder) j is inside
+
+    pub seated_set : ParticipantsHaveRows m (map.insert known id s)
+    seated_set j k t is within over = known_set known id s (λ j o. o ≡ Some k → is_some (map.get m (key_in k.func j)) ≡ true)
+        (λ e. subst (λ (y : Instance). y.within ≡ Some t → is_some y.outcome ≡ true → is_some (map.get m (key_in y.func id)) ≡ true) (same_some e) (one.seated t) within over)
+        (λ j other e. h.seated j k t e within over) j is
+
+    pub short_set : AllShort (map.insert known id s)
+    short_set j there = known_set known id s (λ j o. is_some o ≡ true → length j.hops ≤ 63) (λ e. one.short) (λ j other e. h.short j e) j there
+
+    -- .. none of which ended that had not
+    pub settled_set : GoesAlong d m known id s → Settled d m p (map.insert known id s)
+    settled_set along = record {
+      marks = λ t z x a w e own free noted. h.marks t z x a w (ended t z e) own (place t z a (ended t z e) free) noted;
+      latest = λ t z x i e own below. known_set known id s (λ j o. IsBelow (record { intent = t.intent; begin = z.0; func = t.func }) j → o ≡ None)
+          (λ b. absurd (along.late t z x (ended t z e) own b)) (λ j other b. h.latest t z x j (ended t z e) own b) i below;
+      holders = holders_set;
+      seated = seated_set;
+      released = λ t z e. h.released t z (ended t z e);
+      short = short_set;
+    }
+      where
+        ended : (t : TxId) (z : ℕ × Bool) → tx_end d (map.insert known id s) t ≡ Some z → tx_end d known t ≡ Some z
+        ended t z e = known_set known id s (λ j o. ended_by d t.begin o ≡ Some z → ended_by d t.begin (map.get known j) ≡ Some z) (along.ends t.begin z) (λ j other e. e) t.intent e
+
+        took : (t : TxId) (z : ℕ × Bool) (i : IntentId) → tx_end d known t ≡ Some z → TookPart (map.insert known id s) t i → TookPart known t i
+        took t z i e part = known_set known id s (λ j o. o ≡ Some part.instance → TookPart known t j) (λ g. along.joined t z e (ap (λ (y : Instance). y.within) (same_some g) ∙ part.within))
+            (λ j other g. record { instance = part.instance; made = g; within = part.within }) i part.made
+
+        place : (t : TxId) (z : ℕ × Bool) (a : Place) → tx_end d known t ≡ Some z → IsFreePlace (map.insert known id s) t z.0 a → IsFreePlace known t z.0 a
+        place t z a e free = elim free [
+          | inl at ↦ inl at
+          | inr g ↦ inr (g.0, took t z a.intent e g.1)
+        ]
 
 -- ---- such instances
 -- one that is known
-pub one_known : (d : Deployment) (m : Rows) (p : PlainState) (known : Known) (id : IntentId) (k : Instance) → map.get known id ≡ Some k → Settled d m p known → IsSettled d p known id k
-one_known d m p known id k is h = record {
-  ends = λ b z e. ap (ended_by d b) is ∙ e;
-  holders = λ n c i inside dead holder. h.holders id k n c i is inside dead holder;
-  uncalled = h.uncalled id k is;
-}
+module _ (d : Deployment) (m : Rows) (p : PlainState) (known : Known) (id : IntentId) (k : Instance) (is : map.get known id ≡ Some k) (h : Settled d m p known) where
+  pub one_known : IsSettled d m p id k
+  one_known = record {
+    holders = λ n c i inside dead holder. h.holders id k n c i is inside dead holder;
+    seated = λ t within over. h.seated id k t is within over;
+    short = h.short id (ap is_some is);
+  }
+
+  -- .. goes along, and so does one that is as it was but for its answers, of which none ended a transaction
+  pub goes_known : (s : Instance) → s.within ≡ k.within → ((b : ℕ) (z : ℕ × Bool) → end_of d s b ≡ Some z → end_of d k b ≡ Some z) → GoesAlong d m known id s
+  goes_known s within ends = record {
+    ends = λ b z e. ap (ended_by d b) is ∙ ends b z e;
+    joined = λ t z e g. record { instance = k; made = is; within = sym within ∙ g };
+    late = λ t z x e own below. let clash = sym is ∙ h.latest t z x id e own below in cc;
+  }
 
 -- a new one
-pub one_new : (d : Deployment) (p : PlainState) (known : Known) (id : IntentId) (s : Instance) → s.answers ≡ [] → s.within ≡ None → IsSettled d p known id s
-one_new d p known id s none outside = record {
-  ends = λ b z e. let clash = sym (ap (λ ts. (txs_after d s ts).ends b) none) ∙ e in cc;
+pub one_new : (d : Deployment) (m : Rows) (p : PlainState) (id : IntentId) (s : Instance) → s.answers ≡ [] → s.outcome ≡ None → length id.hops ≤ 63 → IsSettled d m p id s
+one_new d m p id s none open_still short = record {
   holders = λ n c i inside dead holder. let clash = sym (ap (λ ts. slice_get ts n) none) ∙ dead in cc;
-  uncalled = outside;
+  seated = λ t within over. let clash = sym (ap is_some open_still) ∙ over in cc;
+  short = short;
 }
 
--- one that ended
-pub one_ended : (d : Deployment) (p : PlainState) (known : Known) (id : IntentId) (s : Instance) (o : Outcome) → IsSettled d p known id s → IsSettled d p known id (ended s o)
-one_ended d p known id s o h = record { ends = h.ends; holders = h.holders; uncalled = h.uncalled }
+-- one that ended: if it took part, it has its row
+pub one_ended : (d : Deployment) (m : Rows) (p : PlainState) (id : IntentId) (s : Instance) (o : Outcome) → ((t : TxId) → s.within ≡ Some t → is_some (map.get m (key_in s.func id)) ≡ true) → IsSettled d m p id s → IsSettled d m p id (ended s o)
+one_ended d m p id s o there h = record { holders = h.holders; seated = λ t within over. there t within; short = h.short }
 
 -- what it wants of an answer to an effect: the effect is no End, and a death has a holder that was made
 pub record IsFit (d : Deployment) (p : PlainState) (t : Option TxId) (e : Effect) (a : Answer) : Type 0 where
@@ -307,58 +498,75 @@ holder_in (answer.Aborted c) = c.holder
 holder_in a = None
 
 -- one that was answered so
-pub one_answered : (d : Deployment) (p : PlainState) (known : Known) (id : IntentId) (s : Instance) (a : Answer) → IsFit d p (tx_now d id s) (effect_of d s) a → IsSettled d p known id s → IsSettled d p known id (answered s a)
-one_answered d p known id s a fit h = record {
-  ends = λ b z e. h.ends b z (sym (same_ends b) ∙ e);
+pub one_answered : (d : Deployment) (m : Rows) (p : PlainState) (id : IntentId) (s : Instance) (a : Answer) → ((c : Cause) (i : IntentId) → is_some (tx_now d id s) ≡ true → a ≡ answer.Aborted c → c.holder ≡ Some i → is_some (map.get p.made i) ≡ true) → IsSettled d m p id s → IsSettled d m p id (answered s a)
+one_answered d m p id s a made h = record {
   holders = λ n c i inside dead holder. elim (pushed_cases s.answers a (answer.Aborted c) n dead) [
-    | inl e ↦ fit.holder c i (sym (ap (λ ts. is_some (tx_after d id s ts)) e.1) ∙ inside) (sym e.2) holder
+    | inl e ↦ made c i (sym (ap (λ ts. is_some (tx_after d id s ts)) e.1) ∙ inside) (sym e.2) holder
     | inr e ↦ h.holders n c i (sym (ap (λ ts. is_some (tx_after d id s ts)) e.0) ∙ inside) e.1 holder
   ];
-  uncalled = h.uncalled;
+  seated = h.seated;
+  short = h.short;
 }
-  where
-    same_ends : (b : ℕ) → end_of d (answered s a) b ≡ end_of d s b
-    same_ends b = ap (λ (t : Txs). t.ends b) (txs_pushed d s s.answers a) ∙ by_effect (effect_of d s) fit.no_end
-      where
-        by_effect : (e : Effect) → ((c : Bool) → e ≡ effect.End c → ⊥) → (txs_by (length s.answers) e (txs_after d s s.answers)).ends b ≡ (txs_after d s s.answers).ends b
-        by_effect effect.Begin none = refl
-        by_effect (effect.End c) none = absurd (none c refl)
-        by_effect e none = refl
 
--- .. and what takes no turn
-pub one_at_once : (d : Deployment) (p : PlainState) (known : Known) (id : IntentId) (s : Instance) → IsSettled d p known id s → IsSettled d p known id (at_once d id s)
-one_at_once d p known id s h = once_more (once d id s) (once_more s h)
+-- an answer to no End ends no transaction
+same_ends : (d : Deployment) (s : Instance) (a : Answer) → ((c : Bool) → effect_of d s ≡ effect.End c → ⊥) → (b : ℕ) → end_of d (answered s a) b ≡ end_of d s b
+same_ends d s a none b = ap (λ (t : Txs). t.ends b) (txs_pushed d s s.answers a) ∙ by_effect (effect_of d s) none
   where
-    by_effect : (s : Instance) (e : Effect) → effect_of d s ≡ e → IsSettled d p known id s → IsSettled d p known id (answered_if s (answer_at_once id (length s.answers) e))
-    by_effect s effect.Begin is h = one_answered d p known id s answer.Done (record {
-      no_end = λ c g. let clash = sym is ∙ g in cc;
-      holder = λ c i inside dead holder. cc;
-    }) h
-    by_effect s effect.Abort is h = one_answered d p known id s (answer.Aborted (record { place = place_of id (length s.answers); holder = None })) (record {
-      no_end = λ c g. let clash = sym is ∙ g in cc;
-      holder = λ c i inside dead holder. let clash : None ≡ Some i = ap holder_in dead ∙ holder in cc;
-    }) h
-    by_effect s e is h = h
+    by_effect : (e : Effect) → ((c : Bool) → e ≡ effect.End c → ⊥) → (txs_by (length s.answers) e (txs_after d s s.answers)).ends b ≡ (txs_after d s s.answers).ends b
+    by_effect effect.Begin none = refl
+    by_effect (effect.End c) none = absurd (none c refl)
+    by_effect e none = refl
 
-    by_outcome : (s : Instance) (o : Option Outcome) → IsSettled d p known id s → IsSettled d p known id (once_if d id s o)
+-- .. and what takes no turn, which ends none
+pub record SameBut (d : Deployment) (m : Rows) (p : PlainState) (id : IntentId) (s r : Instance) : Type 0 where
+  pub settled : IsSettled d m p id r
+  pub within : r.within ≡ s.within
+  pub outcome : r.outcome ≡ s.outcome
+  pub ends : (b : ℕ) → end_of d r b ≡ end_of d s b
+
+pub one_at_once : (d : Deployment) (m : Rows) (p : PlainState) (id : IntentId) (s : Instance) → IsSettled d m p id s → SameBut d m p id s (at_once d id s)
+one_at_once d m p id s h = let k = once_more s h in let l = once_more (once d id s) k.settled in record { settled = l.settled; within = l.within ∙ k.within; outcome = l.outcome ∙ k.outcome; ends = λ b. l.ends b ∙ k.ends b }
+  where
+    by_answer : (s : Instance) (a : Answer) → ((c : Bool) → effect_of d s ≡ effect.End c → ⊥) → ((c : Cause) (i : IntentId) → a ≡ answer.Aborted c → c.holder ≡ Some i → ⊥) → IsSettled d m p id s → SameBut d m p id s (answered s a)
+    by_answer s a none dead h = record { settled = one_answered d m p id s a (λ c i inside e holder. absurd (dead c i e holder)) h; within = refl; outcome = refl; ends = same_ends d s a none }
+
+    as_was : (s : Instance) → IsSettled d m p id s → SameBut d m p id s s
+    as_was s h = record { settled = h; within = refl; outcome = refl; ends = λ b. refl }
+
+    by_effect : (s : Instance) (e : Effect) → effect_of d s ≡ e → IsSettled d m p id s → SameBut d m p id s (answered_if s (answer_at_once id (length s.answers) e))
+    by_effect s effect.Begin is h = by_answer s answer.Done (λ c g. let clash = sym is ∙ g in cc) (λ c i dead. cc) h
+    by_effect s effect.Abort is h = by_answer s (answer.Aborted (record { place = place_of id (length s.answers); holder = None })) (λ c g. let clash = sym is ∙ g in cc)
+        (λ c i dead holder. let clash : None ≡ Some i = ap holder_in dead ∙ holder in cc) h
+    by_effect s e is h = as_was s h
+
+    by_outcome : (s : Instance) (o : Option Outcome) → IsSettled d m p id s → SameBut d m p id s (once_if d id s o)
     by_outcome s None h = by_effect s (effect_of d s) refl h
-    by_outcome s (Some o) h = h
+    by_outcome s (Some o) h = as_was s h
 
-    once_more : (s : Instance) → IsSettled d p known id s → IsSettled d p known id (once d id s)
+    once_more : (s : Instance) → IsSettled d m p id s → SameBut d m p id s (once d id s)
     once_more s h = by_outcome s s.outcome h
 
--- ---- an instance is made
-pub settled_new : (d : Deployment) (m : Rows) (p : PlainState) (known : Known) (id : IntentId) (s : Instance) → s.answers ≡ [] → s.within ≡ None → Settled d m p known → Settled d m p (map.insert known id (at_once d id s))
-settled_new d m p known id s none outside h = settled_set d m p known id (at_once d id s) (one_at_once d p known id s (one_new d p known id s none outside)) h
+-- ---- an instance is made: in no transaction that has ended, and by no owner past its end that owns an item still
+pub settled_new : (d : Deployment) (m : Rows) (p : PlainState) (known : Known) (id : IntentId) (s : Instance) → s.answers ≡ [] → s.outcome ≡ None → length id.hops ≤ 63 → map.get known id ≡ None → ((t : TxId) → s.within ≡ Some t → tx_end d known t ≡ None)
+    → ((t : TxId) (z : ℕ × Bool) (x : Item) → tx_end d known t ≡ Some z → (content_of m x).owner ≡ Some (ByTx t) → IsBelow (record { intent = t.intent; begin = z.0; func = t.func }) id → ⊥) → Settled d m p known → Settled d m p (map.insert known id (at_once d id s))
+settled_new d m p known id s none open_still short new still late h =
+    let k = one_at_once d m p id s (one_new d m p id s none open_still short) in
+    settled_set d m p known id (at_once d id s) k.settled h (record {
+      ends = λ b z e. let clash = sym (k.ends b ∙ ap (λ ts. (txs_after d s ts).ends b) none) ∙ e in cc;
+      joined = λ t z e within. let clash = sym (still t (sym k.within ∙ within)) ∙ e in cc;
+      late = late;
+    })
 
 -- .. ends
-pub settled_ended : (d : Deployment) (m : Rows) (p : PlainState) (known : Known) (id : IntentId) (k : Instance) (o : Outcome) → map.get known id ≡ Some k → Settled d m p known → Settled d m p (map.insert known id (ended k o))
-settled_ended d m p known id k o is h = settled_set d m p known id (ended k o) (one_ended d p known id k o (one_known d m p known id k is h)) h
+pub settled_ended : (d : Deployment) (m : Rows) (p : PlainState) (known : Known) (id : IntentId) (k : Instance) (o : Outcome) → map.get known id ≡ Some k → ((t : TxId) → k.within ≡ Some t → is_some (map.get m (key_in k.func id)) ≡ true) → Settled d m p known → Settled d m p (map.insert known id (ended k o))
+settled_ended d m p known id k o is there h = settled_set d m p known id (ended k o) (one_ended d m p id k o there (one_known d m p known id k is h)) h (goes_known d m p known id k is h (ended k o) refl (λ b z e. e))
 
 -- .. or is answered
 module _ (d : Deployment) (m : Rows) (p : PlainState) (known : Known) (id : IntentId) (k : Instance) (is : map.get known id ≡ Some k) (a : Answer) where
-  settled_moved : IsFit d p (tx_now d id k) (effect_of d k) a → Settled d m p known → Settled d m p (map.insert known id (moved d id k a))
-  settled_moved fit h = settled_set d m p known id (moved d id k a) (one_at_once d p known id (answered k a) (one_answered d p known id k a fit (one_known d m p known id k is h))) h
+  pub settled_moved : IsFit d p (tx_now d id k) (effect_of d k) a → Settled d m p known → Settled d m p (map.insert known id (moved d id k a))
+  settled_moved fit h =
+      let s = one_at_once d m p id (answered k a) (one_answered d m p id k a fit.holder (one_known d m p known id k is h)) in
+      settled_set d m p known id (moved d id k a) s.settled h (goes_known d m p known id k is h (moved d id k a) s.within (λ b z e. sym (s.ends b ∙ same_ends d k a fit.no_end b) ∙ e))
 
   -- outside transactions
   pub settled_outside : tx_now d id k ≡ None → Settled d m p known → Settled d m p (map.insert known id (moved d id k a))

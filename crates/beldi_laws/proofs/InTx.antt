@@ -1,10 +1,11 @@
 -- An operation of a run inside a transaction: where it stands among the answers that are known, and in which transaction.
-use Rattle.std.proofs.Common.{◌≡◌, ℕ, ◌<◌, Bool, true, false, List, [], ◌∷◌, ◌++◌, length, length-append, Option, None, Some, refl, ap, sym, ◌∙◌, ◌&&◌, ◌||◌, subst, append_assoc, IsTrue, is_some, arith}
+use Rattle.std.proofs.Common.{◌≡◌, inl, inr, take, ℕ, ◌<◌, Bool, true, false, List, [], ◌∷◌, ◌++◌, length, length-append, Option, None, Some, refl, ap, sym, ◌∙◌, ◌&&◌, ◌||◌, subst, append_assoc, IsTrue, is_some, arith}
 use Rattle.std.specs.FinMap as map
 use Rattle.std.specs.Ordering.{is_eq}
 use Rattle.std.proofs.lemmas.Cmp.{tied_itself}
 use Rattle.beldi_value.specs.declared.id.IntentId.{IntentId}
 use Rattle.beldi_value.specs.declared.place.Owner.TheVariants.{Tx as ByTx}
+use Rattle.beldi_value.specs.declared.place.Caller.{Caller}
 use Rattle.beldi_value.specs.declared.place.TxId.{TxId}
 use Rattle.beldi_tree.specs.declared.deployment.Deployment.{Deployment}
 use Rattle.beldi_lang.specs.declared.effect.Answer.{Answer}
@@ -24,35 +25,40 @@ use Rattle.beldi_plain.specs.Item.{Item, item_total}
 use Rattle.beldi_plain.specs.Operation.{touched}
 use Rattle.beldi_plain.specs.Plain.{Instance, effect_of, effect_before}
 use Rattle.beldi_order.specs.Sane.{IsAnswer}
-use Rattle.beldi_order.specs.Txs.{effect_after, tx_after, tx_now}
+use Rattle.beldi_order.specs.Txs.{Txs, effect_after, or_own, tx_after, tx_by, tx_now, txs_after, txs_by}
 use Rattle.beldi_order.proofs.Maps.{same_some}
 use Rattle.beldi_step.specs.declared.run.Begun.{Begun}
-use Rattle.beldi_step.specs.declared.run.OpenTx.{OpenTx}
+use Rattle.beldi_step.specs.declared.run.RunTx.{RunTx}
+use Rattle.beldi_step.specs.declared.run.RunTx.TheVariants.{Own, Inherited}
 use Rattle.beldi_step.specs.declared.run.Run.{Run}
 use Rattle.beldi_step.specs.declared.run.Says.TheVariants as says
 use Rattle.beldi_step.specs.declared.run.Stage.TheVariants as stage
 use Rattle.beldi_step.specs.Host.{Core}
-use Rattle.beldi_step.specs.Run.{own_tx, place_of}
+use Rattle.beldi_step.specs.Run.{begin_of, place_of, tx_of}
 use Rattle.beldi_txn.specs.Tx as txn
 use Rattle.beldi_txn.specs.TxTurn.{Fits}
 use Rattle.beldi_known.specs.Beside.{is_begin}
 use Rattle.beldi_known.specs.Contents.{content_of}
 use Rattle.beldi_known.specs.InsideLaws.{IsOpen}
-use Rattle.beldi_known.specs.Known.{ahead_by, got_before, got_by, is_item, is_on, is_tx, last_step, tx_end}
+use Rattle.beldi_known.specs.Known.{ahead_by, ended_by, moved, got_before, got_by, is_item, is_on, is_tx, last_step, tx_end}
 use Rattle.beldi_known.specs.Laws.{IsFront, IsBehind}
 use Rattle.beldi_known.specs.Matches.{LocksetMatches}
 use Rattle.beldi_known.proofs.AtFront.{note_is_ahead}
-use Rattle.beldi_known.proofs.Lines.{open_owner}
+use Rattle.beldi_known.proofs.Lines.{opens_are_open}
+use Rattle.beldi_known.proofs.Frame.{moved_one}
+use Rattle.beldi_known.proofs.FrameAt.{known_set}
 use Rattle.beldi_known.proofs.Locks.{tx_self}
+use Rattle.beldi_known.proofs.OneFunction.{own as own_is}
 use Rattle.beldi_known.proofs.Participants.{now_open}
 use Rattle.beldi_known.proofs.Rows.{is_intent_key, no_root, set_others}
-use Rattle.beldi_laws.specs.Right.{Right, Knows, MarkOk, StageOk}
-use Rattle.beldi_laws.specs.Inside.{AtStage, InItem, InOperation, Inside}
+use Rattle.beldi_laws.specs.Right.{Right, Knows, StageOk}
+use Rattle.beldi_laws.specs.Inside.{AtStage, InItem, InOperation, Inside, IsOf, TookPart}
 use Rattle.beldi_laws.proofs.Grown.{grown_same}
 use Rattle.beldi_laws.proofs.Moves.{Kept, SameRoots, Stays}
-use Rattle.beldi_laws.proofs.OpenOf.{open_tx}
-use Rattle.beldi_laws.proofs.Shown.{legal_sane, sound}
-use Rattle.beldi_laws.proofs.Turns.{Freed, Leaves, answers_on, not_over, own_here, sane_instance, stands_on, at_steps, wanted_here, front_here, effect_here, answer_here, all_here, effect_next}
+use Rattle.beldi_laws.proofs.OpenOf.{open_begun, open_in, open_tx, own_begin}
+use Rattle.beldi_laws.proofs.Ended.{ended_at}
+use Rattle.beldi_laws.proofs.Shown.{sound}
+use Rattle.beldi_laws.proofs.Turns.{Freed, Leaves, answers_on, not_over, sane_instance, stands_on, at_steps, wanted_here, front_here, effect_here, answer_here, all_here, effect_next, unmarked_tx}
 
 -- an operation is on its item, wants an answer, and is no begin
 pub touches : (e : Effect) (x : ℕ × List ℕ) → txn.item_of e ≡ Some x → touched e ≡ Some x
@@ -73,10 +79,23 @@ no_begin e x h = refl
 pub item_self : (func t : ℕ) (k : List ℕ) → is_item (record { func = func; table = t; key = k }) func (Some (t, k)) ≡ true
 item_self func t k = ap is_eq (tied_itself item_total (record { func = func; table = t; key = k }))
 
--- a run at an operation has no mark
-pub no_mark : (id : IntentId) (n : ℕ) (o : Option OpenTx) (e : Effect) (a : TxAt) → MarkOk id n o e (stage.Tx a)
-no_mark id n (Some o) (effect.End commit) a = tt
-no_mark id n o e a = tt
+-- the begin of what a run is in
+pub begin_is : (id : IntentId) (func : ℕ) (o : RunTx) → (tx_of id func o).begin ≡ begin_of o
+begin_is id func (Own o) = refl
+begin_is id func (Inherited t) = refl
+
+-- an operation ends no transaction
+ends_same : (n : ℕ) (e : Effect) (s : Txs) (b : ℕ) (x : ℕ × List ℕ) → touched e ≡ Some x → (txs_by n e s).ends b ≡ s.ends b
+ends_same n effect.Begin s b x touch = cc
+ends_same n (effect.End c) s b x touch = cc
+ends_same n e s b x touch = refl
+
+-- a stage of an operation is one in each transaction
+pub fits_stage : (t : TxId) (id : IntentId) (c : Option Caller) (e : Effect) (a : TxAt) → Fits e a → StageOk (Some t) id c e (stage.Tx a)
+fits_stage t id c (effect.Call f v) a h = h
+fits_stage t id c (effect.Return u) a h = h
+fits_stage t id c (effect.End b) a h = h
+fits_stage t id c e a h = h
 
 -- a lockset row that is there is one
 pub lockset_is : (r : Option Row) (owed ahead : Bool) → LocksetMatches r owed ahead → is_some r ≡ true → r ≡ Some rows.Lockset
@@ -90,15 +109,15 @@ set_roots m home kind v off u = ap is_some (set_others m (record { home = home; 
 
 -- a run that stands in a transaction has it open
 pub opens : (d : Deployment) (c : Core) (m : Rows) (r : Run) (g : Begun) (h : Right d c m) (k : Knows d c.book h.known r g) (t : TxId) → tx_after d r.id k.instance k.answers ≡ Some t → is_begin g.machine.effect ≡ false
-    → (o : OpenTx) × (g.tx ≡ Some o) × (tx_after d r.id k.instance k.answers ≡ Some (own_tx r.id r.func o))
+    → (o : RunTx) × (g.tx ≡ Some o) × (tx_after d r.id k.instance k.answers ≡ Some (tx_of r.id r.func o))
 opens d c m r g h k t inside apart =
-    let z = open_tx d r.id k.instance k.answers t (own_here d c m r g h k) inside (ap is_begin (wanted_here d c.book h.known r g k) ∙ apart) in
-    (z.0, k.run_open ∙ z.1, inside ∙ ap Some z.2 ∙ ap (λ f. Some (own_tx r.id f z.0)) k.func)
+    let z = open_tx d r.id k.instance k.answers t inside (ap is_begin (wanted_here d c.book h.known r g k) ∙ apart) in
+    (z.0, k.run_open ∙ z.1, inside ∙ ap Some z.2 ∙ ap (λ f. Some (tx_of r.id f z.0)) k.func)
 
-module _ (d : Deployment) (c : Core) (m : Rows) (r : Run) (g : Begun) (h : Right d c m) (k : Knows d c.book h.known r g) (o : OpenTx) (here : tx_after d r.id k.instance k.answers ≡ Some (own_tx r.id r.func o))
+module _ (d : Deployment) (c : Core) (m : Rows) (r : Run) (g : Begun) (h : Right d c m) (k : Knows d c.book h.known r g) (o : RunTx) (here : tx_after d r.id k.instance k.answers ≡ Some (tx_of r.id r.func o))
     (e : Effect) (is : g.machine.effect ≡ e) (x : ℕ × List ℕ) (touch : touched e ≡ Some x) where
   abbrev pub own : TxId
-  own = own_tx r.id r.func o
+  own = tx_of r.id r.func o
 
   -- its item, as the run has it and as the instance
   abbrev pub item : Item
@@ -172,7 +191,7 @@ module _ (d : Deployment) (c : Core) (m : Rows) (r : Run) (g : Begun) (h : Right
 
     -- it is open
     pub opened : IsOpen d m h.plain h.known h.locked own
-    opened = let o = open_owner d h.plain h.known (legal_sane h) h.sane h.beside own r.id k.instance k.made open_still tx_is in record { sound = sound h; owner = o.owner; made = o.made; begun = o.begun; is = o.is }
+    opened = opens_are_open d m h.plain h.known h.locked r.id k.instance own (sound h) k.made open_still tx_is
 
     -- where its place has the lock ahead, it has got its item
     pub owned : h.locked r.id ≡ true → (content_of m its_item).owner ≡ Some (ByTx own)
@@ -184,6 +203,35 @@ module _ (d : Deployment) (c : Core) (m : Rows) (r : Run) (g : Begun) (h : Right
         by_before : (u b : Bool) → b ≡ true → is_on own its_item k.instance.func (tx_now d r.id k.instance) (effect_of d k.instance) ≡ true → (u || (b && is_on own its_item k.instance.func (tx_now d r.id k.instance) (effect_of d k.instance))) ≡ true
         by_before true b e on = refl
         by_before false b e on = ap (λ z. z && is_on own its_item k.instance.func (tx_now d r.id k.instance) (effect_of d k.instance)) e ∙ on
+
+    -- an answer there ends no transaction
+    pub ends_before : (a : Answer) (t : TxId) (z : ℕ × Bool) → tx_end d (map.insert h.known r.id (moved d r.id k.instance a)) t ≡ Some z → tx_end d h.known t ≡ Some z
+    ends_before a t z = known_set h.known r.id (moved d r.id k.instance a) (λ j o. ended_by d t.begin o ≡ Some z → ended_by d t.begin (map.get h.known j) ≡ Some z)
+        (λ ended. ap (ended_by d t.begin) k.made ∙ sym ((moved_one d r.id k.instance a).ends t.begin ∙ ends_same (length k.instance.answers) (effect_of d k.instance) (txs_after d k.instance k.instance.answers) t.begin x front.touch) ∙ ended) (λ j other ended. ended) t.intent
+
+    -- it is of no transaction of its begin that has ended
+    pub asks_alone : (t : TxId) (z : ℕ × Bool) → tx_end d h.known t ≡ Some z → IsOf h.known t r.id → t.begin ≡ begin_of o → ⊥
+    asks_alone t z ended of same = by_within k.instance.within refl of
+      where
+        begins : t.begin ≡ own.begin
+        begins = same ∙ sym (begin_is r.id r.func o)
+
+        joined : (w : Option TxId) → k.instance.within ≡ w → TookPart h.known t r.id → w ≡ Some t
+        joined w e part = sym e ∙ ap (λ (y : Instance). y.within) (same_some (sym k.made ∙ part.made)) ∙ part.within
+
+        none_ended : (u : TxId) → k.instance.within ≡ Some u → r.id ≡ t.intent → ⊥
+        none_ended u inner mine =
+            let at = ended_at d k.instance t.begin z (sym (ap (ended_by d t.begin) (ap (map.get h.known) (sym mine) ∙ k.made)) ∙ ended) in
+            let clash = sym at.begun ∙ open_begun d k.instance (take z.0 k.instance.answers) ∙ ap own_begin (open_in d k.instance u (take z.0 k.instance.answers) inner) in cc
+
+        by_within : (w : Option TxId) → k.instance.within ≡ w → IsOf h.known t r.id → ⊥
+        by_within None e (inl mine) = let clash = sym not_ended ∙ (λ i. ended_by d (sym begins i) (map.get h.known ((own_is d r.id k.instance own e apart tx_is).intent i))) ∙ ap (λ j. ended_by d t.begin (map.get h.known j)) mine ∙ ended in cc
+        by_within None e (inr part) = let clash = joined None e part in cc
+        by_within (Some u) e (inl mine) = none_ended u e mine
+        by_within (Some u) e (inr part) =
+            let is_own : u ≡ own = same_some (sym (ap (λ w. or_own w (tx_by r.id k.instance.func (length k.instance.answers) (effect_of d k.instance) (txs_after d k.instance k.instance.answers).begun)) e) ∙ tx_is) in
+            let is_t : u ≡ t = same_some (joined (Some u) e part) in
+            let clash = sym not_ended ∙ ap (tx_end d h.known) (sym is_own ∙ is_t) ∙ ended in cc
 
     short_now : length k.instance.answers < last_step
     short_now = subst (λ (ts : List Answer). length ts < last_step) (all_here d c.book h.known r g k left) short
@@ -202,13 +250,13 @@ module _ (d : Deployment) (c : Core) (m : Rows) (r : Run) (g : Begun) (h : Right
 
 -- ---- what it says leaves
 module _ (d : Deployment) (c : Core) (m : Rows) (i : ℕ) (r : Run) (g : Begun) (h : Right d c m) (live : map.get c.runs i ≡ Some r) (k : Knows d c.book h.known r g) (finds : Inside d m h.plain h.known r g)
-    (o : OpenTx) (tx : g.tx ≡ Some o) (here : tx_after d r.id k.instance k.answers ≡ Some (own_tx r.id r.func o)) (e : Effect) (is : g.machine.effect ≡ e) (x : ℕ × List ℕ) (on : txn.item_of e ≡ Some x) where
+    (o : RunTx) (tx : g.tx ≡ Some o) (here : tx_after d r.id k.instance k.answers ≡ Some (tx_of r.id r.func o)) (e : Effect) (is : g.machine.effect ≡ e) (x : ℕ × List ℕ) (on : txn.item_of e ≡ Some x) where
   -- it goes on in the operation; a lock may be ahead that was not
   pub goes_at : (b : TxAt) (n : Rows) (after : IntentId → Bool) → SameRoots m n → Kept h n h.plain h.known after → Fits e b → InOperation d n h.plain h.known r.id r.func o g.machine.steps e b x → Leaves d c m i r g h live k (says.On (stage.Tx b) None) n
   goes_at b n after roots kept fits at =
       stands_on d c m i r g h live k finds (stage.Tx b) n after refl roots kept
-      (subst (λ t. StageOk t r.id g.caller g.machine.effect (stage.Tx b)) (sym here) (subst (λ z. Fits z b) (sym is) fits))
-      (no_mark r.id g.machine.steps g.tx g.machine.effect b)
+      (subst (λ t. StageOk t r.id g.caller g.machine.effect (stage.Tx b)) (sym here) (fits_stage (tx_of r.id r.func o) r.id g.caller g.machine.effect b (subst (λ z. Fits z b) (sym is) fits)))
+      (unmarked_tx r.id g.machine.steps g.tx g.machine.effect b)
       (subst (λ t. AtStage d n h.plain h.known r.id r.func t g.machine.steps g.machine.effect (stage.Tx b)) (sym tx)
       (subst (λ z. InItem d n h.plain h.known r.id r.func o g.machine.steps z b (txn.item_of z)) (sym is) (subst (InItem d n h.plain h.known r.id r.func o g.machine.steps e b) (sym on) at)))
 

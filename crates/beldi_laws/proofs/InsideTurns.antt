@@ -17,24 +17,28 @@ use Rattle.beldi_step.specs.declared.run.Run.{Run}
 use Rattle.beldi_step.specs.declared.run.Begun.{Begun}
 use Rattle.beldi_step.specs.declared.run.Mark.{Mark}
 use Rattle.beldi_step.specs.declared.run.OpenTx.{OpenTx}
+use Rattle.beldi_step.specs.declared.run.RunTx.{RunTx}
+use Rattle.beldi_step.specs.declared.run.RunTx.TheVariants.{Own, Inherited}
 use Rattle.beldi_step.specs.declared.run.Stage.{Stage}
 use Rattle.beldi_step.specs.declared.run.Stage.TheVariants as stage
-use Rattle.beldi_step.specs.Run.{own_tx, turned_by, stage_asks, stage_says}
+use Rattle.beldi_step.specs.Run.{own_tx, tx_of, turned_by, stage_asks, stage_says}
 use Rattle.beldi_step.specs.Host.{Core, turn_next}
 use Rattle.beldi_known.specs.Beside.{is_begin}
 use Rattle.beldi_laws.specs.Right.{Right, Knows, MarkOk, is_past}
 use Rattle.beldi_laws.specs.Inside.{Inside, AtStage, InItem}
 use Rattle.beldi_laws.proofs.Deciding as deciding
+use Rattle.beldi_laws.proofs.Ended.{ends_outside}
 use Rattle.beldi_laws.proofs.InTx.{no_begin, opens}
 use Rattle.beldi_laws.proofs.Locking.{log_turn, lock_turn}
 use Rattle.beldi_laws.proofs.Moves.{AfterQuery}
-use Rattle.beldi_laws.proofs.Short.{known_is_short}
+use Rattle.beldi_laws.proofs.OpenOf.{called_in}
+use Rattle.beldi_laws.proofs.Turns.{wanted_here}
 use Rattle.beldi_laws.proofs.Visiting as visiting
 use Rattle.beldi_laws.proofs.Working.{operates, working_turn}
 
 module _ (d : Deployment) (c : Core) (m : Rows) (i : ℕ) (r : Run) (g : Begun) (h : Right d c m) (live : map.get c.runs i ≡ Some r) (k : Knows d c.book h.known r g) (finds : Inside d m h.plain h.known r g)
     (t : TxId) (inside : tx_after d r.id k.instance k.answers ≡ Some t) where
-  abbrev AfterStage : Effect → Stage → Option OpenTx → Type 0
+  abbrev AfterStage : Effect → Stage → Option RunTx → Type 0
   AfterStage e s o = AfterQuery d h.plain c.now m (λ u. turn_next c i r (turned_by d r g (stage_says r.id r.func g.caller o (count_changes c.book) g.machine.steps e s u))) (stage_asks r.id r.func g.caller o g.machine.steps e s)
 
   -- an operation
@@ -44,7 +48,7 @@ module _ (d : Deployment) (c : Core) (m : Rows) (i : ℕ) (r : Run) (g : Begun) 
       let z = opens d c m r g h k t inside (ap is_begin is ∙ no_begin e x.0 x.1) in
       subst (AfterStage e (stage.Tx a)) (sym z.1) (by_stage e is z.0 z.1 z.2 a fits (subst (λ w. AtStage d m h.plain h.known r.id r.func w g.machine.steps e (stage.Tx a)) z.1 found))
     where
-      by_stage : (e : Effect) → g.machine.effect ≡ e → (o : OpenTx) (tx : g.tx ≡ Some o) (here : tx_after d r.id k.instance k.answers ≡ Some (own_tx r.id r.func o)) (a : TxAt) → Fits e a → InItem d m h.plain h.known r.id r.func o g.machine.steps e a (item_of e)
+      by_stage : (e : Effect) → g.machine.effect ≡ e → (o : RunTx) (tx : g.tx ≡ Some o) (here : tx_after d r.id k.instance k.answers ≡ Some (tx_of r.id r.func o)) (a : TxAt) → Fits e a → InItem d m h.plain h.known r.id r.func o g.machine.steps e a (item_of e)
           → AfterStage e (stage.Tx a) (Some o)
       by_stage (Read b y) is o tx here at.Log fits f = log_turn d c m i r g h live k finds o tx here (Read b y) is (b, y) refl fits
       by_stage (Read b y) is o tx here (at.Lock l) fits f = lock_turn d c m i r g h live k finds o tx here (Read b y) is (b, y) refl l fits f
@@ -54,13 +58,21 @@ module _ (d : Deployment) (c : Core) (m : Rows) (i : ℕ) (r : Run) (g : Begun) 
       by_stage e is o tx here (at.Lock l) fits f = absurd fits
       by_stage e is o tx here a fits f = working_turn d c m i r g h live k finds o tx here e a is refl fits f
 
+  -- an end is of one's own
+  own_end : (commit : Bool) → g.machine.effect ≡ End commit → (o : OpenTx) × (g.tx ≡ Some (Own o)) × (tx_after d r.id k.instance k.answers ≡ Some (own_tx r.id r.func o))
+  own_end commit is = let z = opens d c m r g h k t inside (ap is_begin is) in by_tx z.0 z.1 z.2
+    where
+      by_tx : (o : RunTx) → g.tx ≡ Some o → tx_after d r.id k.instance k.answers ≡ Some (tx_of r.id r.func o) → (o : OpenTx) × (g.tx ≡ Some (Own o)) × (tx_after d r.id k.instance k.answers ≡ Some (own_tx r.id r.func o))
+      by_tx (Own o) tx here = (o, tx, here)
+      by_tx (Inherited x) tx here = let clash = sym (called_in d k.instance x k.answers (sym k.run_open ∙ tx)) ∙ ends_outside d k.instance k.answers commit (wanted_here d c.book h.known r g k ∙ is) in cc
+
   -- the decision
   pub decide_turn : (commit : Bool) (by : Mark) → g.machine.effect ≡ End commit → MarkOk r.id g.machine.steps g.tx (End commit) (stage.Decide by) → AfterStage (End commit) (stage.Decide by) g.tx
   decide_turn commit by is mark =
-      let z = opens d c m r g h k t inside (ap is_begin is) in
+      let z = own_end commit is in
       subst (AfterStage (End commit) (stage.Decide by)) (sym z.1)
       (deciding.decide_turn d c m i r g h live k finds z.0 z.1 z.2 (sym k.run_open ∙ z.1) commit is by (subst (λ u. MarkOk r.id g.machine.steps u (End commit) (stage.Decide by)) z.1 mark))
 
   -- the visits
   pub end_turn : (commit : Bool) (v : Visit) → g.machine.effect ≡ End commit → is_past v.at ≡ true → AtStage d m h.plain h.known r.id r.func g.tx g.machine.steps (End commit) (stage.End v) → AfterStage (End commit) (stage.End v) g.tx
-  end_turn = visiting.end_turn d c m i r g h live k finds t inside (known_is_short h)
+  end_turn = visiting.end_turn d c m i r g h live k finds t inside

@@ -32,7 +32,8 @@ use Rattle.beldi_known.proofs.NoTx.{IsOutside, outside_parts}
 use Rattle.beldi_known.proofs.Outsides.{Apart, goes_one, goes_set, got_new, got_next, outside_no_end, set_new, set_next, value_of}
 use Rattle.beldi_laws.specs.Inside.{Frame}
 use Rattle.beldi_laws.specs.Right.{Right}
-use Rattle.beldi_laws.proofs.Frames.{frame_still, items_stay, settled_rows}
+use Rattle.beldi_laws.proofs.Closing.{settled_after}
+use Rattle.beldi_laws.proofs.Frames.{NoFinish, frame_still, items_stay, nobody_new}
 use Rattle.beldi_laws.proofs.Moves.{Stays}
 use Rattle.beldi_laws.proofs.Outside.{outside_more}
 use Rattle.beldi_laws.proofs.Others.{kept_by}
@@ -40,7 +41,7 @@ use Rattle.beldi_laws.proofs.Shown.{legal_sane, settled, shown}
 
 -- rows as they were
 pub as_it_was : {d : Deployment} {c : Core} {m : Rows} (h : Right d c m) → Stays h m
-as_it_was {d} {m} h = record { shows = shown h; grows = grows_self h.known; frame = frame_still d m h.plain h.plain h.known h.known (items_stay d m h.plain h.plain h.known refl); others = λ q knows finds. finds }
+as_it_was {d} {m} h = record { shows = shown h; grows = grows_self h.known; frame = frame_still d m h.plain h.plain h.known h.known (items_stay d m h.plain h.plain h.known refl) (nobody_new d h.known); others = λ q knows finds. finds }
 
 -- the shadows are as before
 abbrev pub SameShadows : Rows → Rows → Type 0
@@ -76,6 +77,6 @@ module _ {d : Deployment} {c : Core} {m : Rows} (h : Right d c m) (n : Rows) (sa
       goes_one d m h.plain h.known h.locked h.shadows h.beside id s set n same (got_new d m h.known h.locked h.shadows.got n same id new (at_once d id s))
 
   -- .. so the plain state and what is known may stay
-  pub stays_by : Matches d n h.known h.locked → ((x : Item) → listed n x ≡ value_at h.plain x) → Frame d m n h.plain h.plain h.known h.known → Stays h n
-  stays_by rows values frame = kept_by d c m n h h.plain h.known h.locked
-      (record { goes = goes_still; locked_at_ends = h.locked_at_ends; sane = h.sane; rows = rows; values = values; settled = settled_rows d m n h.plain h.plain h.known h.known frame (settled h) }) (grows_self h.known) frame
+  pub stays_by : Matches d n h.known h.locked → ((x : Item) → listed n x ≡ value_at h.plain x) → Frame d m n h.plain h.plain h.known h.known → NoFinish d m n h.known → Stays h n
+  stays_by rows values frame none = kept_by d c m n h h.plain h.known h.locked
+      (record { goes = goes_still; locked_at_ends = h.locked_at_ends; sane = h.sane; rows = rows; values = values; settled = settled_after d c m h n h.plain h.known h.locked rows h.sane (grows_self h.known) frame none (settled h) }) (grows_self h.known) frame

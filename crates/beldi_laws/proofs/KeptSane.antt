@@ -1,9 +1,11 @@
--- What is known stays sane, as the turns outside transactions move it.
-use Rattle.std.proofs.Common.{ℕ, true, false, ◌≡◌, Some, None, List, ◌∙◌, refl, ap, sym, subst, ◌||◌, is_some, length, Bool}
+-- What is known stays sane, as turns outside transactions move it, and calls and returns.
+use Rattle.std.proofs.Common.{ℕ, true, false, ◌≡◌, Option, Some, None, List, ◌∙◌, refl, ap, sym, subst, ◌||◌, is_some, length, Bool}
 use Rattle.std.specs.FinMap as map
-use Rattle.beldi_value.specs.Id.{root_of}
+use Rattle.beldi_value.specs.Id.{child_of, root_of}
 use Rattle.beldi_value.specs.declared.id.IntentId.{IntentId}
 use Rattle.beldi_value.specs.declared.outcome.Outcome.{Outcome}
+use Rattle.beldi_value.specs.declared.place.Caller.{Caller}
+use Rattle.beldi_value.specs.declared.place.TxId.{TxId}
 use Rattle.beldi_value.specs.declared.value.Value.{Value}
 use Rattle.beldi_tree.specs.declared.deployment.Deployment.{Deployment}
 use Rattle.beldi_lang.specs.declared.effect.Answer.{Answer}
@@ -57,6 +59,10 @@ no_call : (w : Bool) (f : ℕ) (v : Value) → is_call (call_of w f v) ≡ false
 no_call true f v h = cc
 no_call false f v h = cc
 
+-- one that was called so
+abbrev pub called_with : Option TxId → ℕ → Value → Caller → Instance
+called_with t f v c = record (new_instance f v (Some c)) { within = t }
+
 module _ (d : Deployment) (known : Known) (sane : Sane d known) where
   -- a root is made
   pub root_kept : (t f : ℕ) (v : Value) → map.get known (root_of t) ≡ None → Sane d (map.insert known (root_of t) (at_once d (root_of t) (new_instance f v None)))
@@ -66,19 +72,19 @@ module _ (d : Deployment) (known : Known) (sane : Sane d known) where
   pub answered_kept : (id : IntentId) (q : Instance) (a : Answer) → map.get known id ≡ Some q → q.outcome ≡ None → tx_now d id q ≡ None → is_call (effect_of d q) ≡ false → IsAnswerTo (effect_of d q) a → Sane d (map.insert known id (moved d id q a))
   answered_kept id q a is none outside apart ok = sane_answered d known sane id q is a (subst (λ t. IsAnswer (place_of id (length q.answers)) t (effect_of d q) a) (sym outside) (known_answer (place_of id (length q.answers)) (effect_of d q) a ok)) (λ w f v e. no_call w f v (ap is_call (sym e) ∙ apart))
 
-  -- a callee is made, that its caller waits for, or not: then the caller is answered
-  pub called_kept : (id : IntentId) (q : Instance) (f : ℕ) (v : Value) → map.get known id ≡ Some q → tx_now d id q ≡ None → effect_of d q ≡ effect.Call f v → map.get known (callee_of id q) ≡ None
-      → Sane d (map.insert known (callee_of id q) (at_once d (callee_of id q) (new_instance f v (Some (calls_at id q true)))))
-  called_kept id q f v is outside calls new = sane_called d known sane id q is f v new None (sym outside) calls
+  -- a callee is made that its caller waits for, in the transaction of the call, or one that nobody waits for: then the caller is answered
+  pub called_kept : (t : Option TxId) (id : IntentId) (q : Instance) (f : ℕ) (v : Value) → map.get known id ≡ Some q → t ≡ tx_now d id q → effect_of d q ≡ effect.Call f v → map.get known (callee_of id q) ≡ None
+      → Sane d (map.insert known (callee_of id q) (at_once d (callee_of id q) (called_with t f v (calls_at id q true))))
+  called_kept t id q f v is within calls new = sane_called d known sane id q is f v new t within calls
 
   pub sent_kept : (id : IntentId) (q : Instance) (f : ℕ) (v : Value) → map.get known id ≡ Some q → tx_now d id q ≡ None → effect_of d q ≡ effect.Async f v → map.get known (callee_of id q) ≡ None
       → Sane d (map.insert (map.insert known (callee_of id q) (at_once d (callee_of id q) (new_instance f v (Some (calls_at id q false))))) id (moved d id q answer.Done))
   sent_kept id q f v is outside sends new = sane_sent d known sane id q is f v new outside sends
 
   -- a callee that its caller waits for ends, and the caller is answered
-  pub returned_kept : (id : IntentId) (i j : Instance) (o : Outcome) → map.get known id ≡ Some i → map.get known (callee_of id i) ≡ Some j → j.outcome ≡ None → is_waited j.from ≡ true → effect_of d j ≡ effect.Return o
-      → Sane d (map.insert (map.insert known (callee_of id i) (ended j o)) id (moved d id i (answer_of o)))
-  returned_kept id i j o is made none waited returns = sane_returned d known sane id i j (length i.answers) is made none waited o returns
+  pub returned_kept : (id : IntentId) (i j : Instance) (n : ℕ) (o : Outcome) → map.get known id ≡ Some i → map.get known (child_of id n) ≡ Some j → j.outcome ≡ None → is_waited j.from ≡ true → effect_of d j ≡ effect.Return o
+      → Sane d (map.insert (map.insert known (child_of id n) (ended j o)) id (moved d id i (answer_of o)))
+  returned_kept id i j n o is made none waited returns = sane_returned d known sane id i j n is made none waited o returns
 
   -- who nobody waits for ends
   pub ended_kept : (id : IntentId) (q : Instance) (o : Outcome) → map.get known id ≡ Some q → effect_of d q ≡ effect.Return o → is_waited q.from ≡ false → Sane d (map.insert known id (ended q o))

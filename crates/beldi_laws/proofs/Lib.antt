@@ -3,7 +3,10 @@ mod Asyncs
 mod Beginnings
 mod Callings
 mod CallsHere
+mod Closing
+mod Committed
 mod Deciding
+mod Ended
 mod Endings
 mod Fallen
 mod Frames
@@ -13,10 +16,12 @@ mod InsideTurns
 mod Keeping
 mod KeptSane
 mod Locking
+mod Members
 mod OpenOf
 mod Operations
 mod Others
 mod Owed
+mod Passing
 mod Readings
 mod Registered
 mod Released
@@ -24,6 +29,7 @@ mod Short
 mod Shown
 mod Turns
 mod Visiting
+mod Visits
 mod Widths
 mod Working
 pub mod Events

@@ -1,6 +1,6 @@
 -- The turns of an operation of a transaction up to its lock: a read looks whether a value was kept for it, the row is put that says that
 -- the lock is asked for, and the lock of the item is tried.
-use Rattle.std.proofs.Common.{◌≡◌, ◌∙◌, ℕ, ◌<◌, Bool, true, false, List, [], ◌∷◌, ◌++◌, length, Option, None, Some, is_some, refl, ap, sym, subst, arith, if◌then◌else◌}
+use Rattle.std.proofs.Common.{◌≡◌, ◌∙◌, ℕ, ◌<◌, Bool, true, false, List, [], ◌∷◌, ◌++◌, inl, inr, length, Option, None, Some, is_some, refl, ap, sym, subst, arith, if◌then◌else◌}
 use Rattle.std.specs.FinMap as map
 use Rattle.std.specs.Ordering.{is_eq}
 use Rattle.beldi_value.specs.Id.{age_of, id_cmp, is_older}
@@ -57,19 +57,20 @@ use Rattle.beldi_txn.specs.Tx.{asks_of, given_goes, item_asks, item_of, lock_lea
 use Rattle.beldi_txn.specs.TxTurn.{Fits, HasLock}
 use Rattle.beldi_plain.specs.Item.{Item}
 use Rattle.beldi_plain.specs.Operation.{touched}
-use Rattle.beldi_plain.specs.Plain.{Instance, effect_of, value_at}
+use Rattle.beldi_plain.specs.Plain.{effect_of, value_at}
 use Rattle.beldi_order.specs.Sane.{IsAnswer, IsDeath}
-use Rattle.beldi_order.specs.Txs.{Txs, effect_after, end_of, tx_after, tx_now, txs_after, txs_by}
+use Rattle.beldi_order.specs.Txs.{effect_after, tx_after, tx_now}
 use Rattle.beldi_order.proofs.Entries.{grows_self}
 use Rattle.beldi_order.proofs.Maps.{here as inserted, same_some}
 use Rattle.beldi_step.specs.declared.run.Begun.{Begun}
-use Rattle.beldi_step.specs.declared.run.OpenTx.{OpenTx}
+use Rattle.beldi_step.specs.declared.run.RunTx.{RunTx}
 use Rattle.beldi_step.specs.declared.run.Run.{Run}
 use Rattle.beldi_step.specs.declared.run.Says.{Says}
 use Rattle.beldi_step.specs.declared.run.Says.TheVariants as says
 use Rattle.beldi_step.specs.declared.run.Stage.TheVariants as stage
+use Rattle.beldi_step.specs.declared.run.Wait.TheVariants as wait
 use Rattle.beldi_step.specs.Host.{Core, turn_next}
-use Rattle.beldi_step.specs.Run.{own_tx, place_of, turned_by, tx_here_asks, tx_here_says, tx_says}
+use Rattle.beldi_step.specs.Run.{begin_of, place_of, tx_of, turned_by, tx_here_asks, tx_here_says, tx_says}
 use Rattle.beldi_known.specs.Contents.{content_of, head_key, lockset_key, shadow_key}
 use Rattle.beldi_known.specs.Frame.{lock_in}
 use Rattle.beldi_known.specs.Known.{Known, ahead_by, ended_by, is_item, last_step, moved, owed_lockset, tx_end}
@@ -77,7 +78,7 @@ use Rattle.beldi_known.specs.InsideLaws.{Goes}
 use Rattle.beldi_known.specs.Laws.{IsFront}
 use Rattle.beldi_known.specs.Listed.{listed}
 use Rattle.beldi_known.specs.Matches.{Matches, lockset_ahead}
-use Rattle.beldi_known.specs.Sane.{SaneInstance}
+use Rattle.beldi_known.specs.Sane.{Sane, SaneInstance}
 use Rattle.beldi_step.specs.Tables.{decision_key}
 use Rattle.beldi_known.proofs.Answers.{true_false}
 use Rattle.beldi_known.specs.Acts.{Told, died, held, lock_answer, lock_on, lock_or, noted, noted_or, put_lockset, with_note}
@@ -86,25 +87,25 @@ use Rattle.beldi_known.proofs.Ahead.{ahead_front, ahead_set, none_out}
 use Rattle.beldi_known.proofs.AtFront.{lock_is_there, no_row, note_is_ahead}
 use Rattle.beldi_known.proofs.Behind.{LockTold, behind_asks, behind_locks, behind_looks, behind_looks_dead, death_in, told}
 use Rattle.beldi_known.proofs.Deaths.{death_is_older}
-use Rattle.beldi_known.proofs.Frame.{moved_one}
 use Rattle.beldi_known.proofs.Inside.{dies_inside, lockset_put}
 use Rattle.beldi_known.proofs.Acting.{deaths_go, rows_go}
 use Rattle.beldi_known.proofs.Lists.{did_lists, died_lists, elsewhere, is_log, lists_same}
-use Rattle.beldi_known.proofs.OneFunction.{undecided}
+use Rattle.beldi_known.proofs.Begun.{undecided}
 use Rattle.beldi_known.proofs.Rows.{set_here, set_others}
 use Rattle.beldi_known.proofs.Sanes.{death_answer, sane_died}
 use Rattle.beldi_laws.specs.Right.{Right, Knows}
-use Rattle.beldi_laws.specs.Inside.{Found, Frame, InOperation, Inside, OfBegin, Released, has_asked}
+use Rattle.beldi_laws.specs.Inside.{Found, Frame, InOperation, Inside, IsFreePlace, OfBegin, Released, has_asked}
 use Rattle.beldi_laws.proofs.Ages.{Holder, dies_so, free_of, holder_made, only_one}
-use Rattle.beldi_laws.proofs.Frames.{frame_held, frame_item, frame_lockset, is_lockset, items_stay, settled_operated, settled_rows}
+use Rattle.beldi_laws.proofs.Closing.{settled_after}
+use Rattle.beldi_laws.proofs.Frames.{NoFinish, frame_held, frame_item, frame_lockset, is_lockset, items_stay, no_finish, nobody_new, nobody_set, settled_operated}
 use Rattle.beldi_laws.proofs.Grown.{grown_moved, grows_moved, moved_more}
 use Rattle.beldi_laws.proofs.InTx as in_tx
 use Rattle.beldi_laws.proofs.Keeping.{act_stays, as_it_was, set_shadows, stays_by}
 use Rattle.beldi_laws.proofs.Moves.{AfterQuery, Kept, SameRoots, Stays}
 use Rattle.beldi_laws.proofs.Others.{kept_by}
 use Rattle.beldi_laws.proofs.Owed.{content_kept, contents_kept, others_list}
-use Rattle.beldi_laws.proofs.Released.{ended_at}
-use Rattle.beldi_laws.proofs.Shown.{settled}
+use Rattle.beldi_laws.proofs.Ended.{ended_at}
+use Rattle.beldi_laws.proofs.Shown.{holds_here, settled}
 use Rattle.beldi_laws.proofs.Turns as turns
 use Rattle.beldi_laws.proofs.Turns.{Freed, Leaves}
 
@@ -185,12 +186,6 @@ none_dead y f (Some t) e true j same = by_item (is_item y f (touched e)) same
     by_item true same = cc
     by_item false same = cc
 
--- an operation ends no transaction
-ends_same : (n : ℕ) (e : Effect) (s : Txs) (b : ℕ) (x : ℕ × List ℕ) → touched e ≡ Some x → (txs_by n e s).ends b ≡ s.ends b
-ends_same n effect.Begin s b x touch = cc
-ends_same n (effect.End c) s b x touch = cc
-ends_same n e s b x touch = refl
-
 -- a death that was noted is the answer
 noted_death : (p : Place) (a : Answer) (j : IntentId) → Some (answer.Aborted (record { place = p; holder = Some j })) ≡ death_in a → answer.Aborted (record { place = p; holder = Some j }) ≡ a
 noted_death p (answer.Aborted c) j h = same_some h
@@ -198,9 +193,9 @@ noted_death p a j h = cc
 
 -- ---- the turns
 module _ (d : Deployment) (c : Core) (m : Rows) (i : ℕ) (r : Run) (g : Begun) (h : Right d c m) (live : map.get c.runs i ≡ Some r) (k : Knows d c.book h.known r g) (finds : Inside d m h.plain h.known r g)
-    (o : OpenTx) (tx : g.tx ≡ Some o) (here : tx_after d r.id k.instance k.answers ≡ Some (own_tx r.id r.func o)) (e : Effect) (is : g.machine.effect ≡ e) (x : ℕ × List ℕ) (on : item_of e ≡ Some x) where
+    (o : RunTx) (tx : g.tx ≡ Some o) (here : tx_after d r.id k.instance k.answers ≡ Some (tx_of r.id r.func o)) (e : Effect) (is : g.machine.effect ≡ e) (x : ℕ × List ℕ) (on : item_of e ≡ Some x) where
   abbrev own : TxId
-  own = own_tx r.id r.func o
+  own = tx_of r.id r.func o
 
   abbrev item : Item
   item = record { func = r.func; table = x.0; key = x.1 }
@@ -208,7 +203,8 @@ module _ (d : Deployment) (c : Core) (m : Rows) (i : ℕ) (r : Run) (g : Begun) 
   abbrev place : Place
   place = place_of r.id g.machine.steps
 
-  abbrev Comes : Says → Rows → Type 0
+  -- what it says leaves what it has to: not unfolded, as a run after an answer is large
+  Comes : Says → Rows → Type 0
   Comes s n = Leaves d c m i r g h live k s n
 
   -- its turn at a stage
@@ -223,8 +219,17 @@ module _ (d : Deployment) (c : Core) (m : Rows) (i : ℕ) (r : Run) (g : Begun) 
   touch = in_tx.touches e x on
 
   -- what it finds where it asks for its lock
-  in_lock : (n : Rows) (l : LockAt) → OfBegin o.begin (at.Lock l) → (has_asked (at.Lock l) ≡ true → is_some (map.get n (lockset_key r.id o.begin item)) ≡ true) → InOperation d n h.plain h.known r.id r.func o g.machine.steps e (at.Lock l) x
+  in_lock : (n : Rows) (l : LockAt) → OfBegin (begin_of o) (at.Lock l) → (has_asked (at.Lock l) ≡ true → is_some (map.get n (lockset_key r.id (begin_of o) item)) ≡ true) → InOperation d n h.plain h.known r.id r.func o g.machine.steps e (at.Lock l) x
   in_lock n l begin asked = record { begin = begin; asked = asked; locked = tt; found = λ q made same. none_found e l (map.get n (shadow_key own item)) (value_at h.plain item) }
+
+  -- it goes on in its operation, or has the answer that is known
+  goes_at : (b : TxAt) (n : Rows) (after : IntentId → Bool) → SameRoots m n → Kept h n h.plain h.known after → Fits e b → InOperation d n h.plain h.known r.id r.func o g.machine.steps e b x → Comes (says.On (stage.Tx b) None) n
+  unfolding Comes
+  goes_at = in_tx.goes_at d c m i r g h live k finds o tx here e is x on
+
+  replays : (n : Rows) (a : Answer) (rest : List Answer) → k.later ≡ a ∷ rest → SameRoots m n → Stays h n → Comes (says.Answers a None) n
+  unfolding Comes
+  replays = in_tx.replays d c m i r g h live k finds o tx here e is x on
 
   -- ---- its instance
   steps : g.machine.steps ≡ length k.answers
@@ -239,16 +244,9 @@ module _ (d : Deployment) (c : Core) (m : Rows) (i : ℕ) (r : Run) (g : Begun) 
   touch_here : touched (effect_after d k.instance k.answers) ≡ Some x
   touch_here = ap touched (in_tx.effect_so d c m r g h k o here e is x touch) ∙ touch
 
-  none_within : (j : IntentId) (z : Instance) → map.get h.known j ≡ Some z → z.within ≡ None
-  none_within j z made = h.uncalled j z made
-
-  made_there : (j : IntentId) → is_some (map.get h.known j) ≡ true → is_some (map.get h.plain.made j) ≡ true
-  made_there j there = by_both (map.get h.known j) refl (map.get h.plain.made j) refl there
-    where
-      by_both : (u : Option Instance) → map.get h.known j ≡ u → (v : Option Instance) → map.get h.plain.made j ≡ v → is_some u ≡ true → is_some v ≡ true
-      by_both None is v made g = cc
-      by_both (Some z) is None made g = let clash = sym (h.beside.kept j z made is).within ∙ h.uncalled j z is in cc
-      by_both (Some z) is (Some q) made g = refl
+  -- the begin of its transaction is the one that it asks with
+  begins : own.begin ≡ begin_of o
+  begins = in_tx.begin_is r.id r.func o
 
   abbrev its_item : Item
   its_item = record { func = k.instance.func; table = x.0; key = x.1 }
@@ -270,10 +268,10 @@ module _ (d : Deployment) (c : Core) (m : Rows) (i : ℕ) (r : Run) (g : Begun) 
         let locks = behind_locks d m h.known h.locked h.rows r.id k.instance k.made sane k.answers a rest all few own here x touch_here in
         (λ i. note_at (content_of m (sym same_item i)).notes (place_of r.id (steps i))) ∙ told_note (place_of r.id (length k.answers)) own (content_of m its_item) (content_of m its_item) told_here.note locks.0
 
-    lockset_there : map.get m (lockset_key r.id o.begin item) ≡ None → ⊥
+    lockset_there : map.get m (lockset_key r.id (begin_of o) item) ≡ None → ⊥
     lockset_there none =
         let asks = behind_asks d m h.known h.locked h.rows r.id k.instance k.made sane k.answers a rest all few own here x touch_here in
-        let absent : map.get m (lockset_key r.id o.begin its_item) ≡ None = ap (λ y. map.get m (lockset_key r.id o.begin y)) same_item ∙ none in
+        let absent : map.get m (lockset_key r.id own.begin its_item) ≡ None = (λ j. map.get m (lockset_key r.id (begins j) (same_item j))) ∙ none in
         true_false (ap (λ z. z.1) (sym (ap put_lockset absent) ∙ asks))
 
   -- ---- at the front
@@ -301,7 +299,7 @@ module _ (d : Deployment) (c : Core) (m : Rows) (i : ℕ) (r : Run) (g : Begun) 
     few_now = subst (λ (ts : List Answer). length ts < last_step) (turns.all_here d c.book h.known r g k left) few
 
     no_decision_yet : map.get m (decision_key own) ≡ None
-    no_decision_yet = undecided d m h.known h.locked h.rows r.id k.instance k.made (none_within r.id k.instance k.made) own tx_is (in_tx.apart d c m r g h k o here e is x touch left)
+    no_decision_yet = undecided d h.known h.sane m h.locked h.rows r.id k.instance own k.made (in_tx.open_still d c m r g h k o here e is x touch left) (in_tx.apart d c m r g h k o here e is x touch left) tx_is
 
     -- without a note the lock is not ahead
     not_locked : note_at (content_of m item).notes place ≡ None → h.locked r.id ≡ false
@@ -336,32 +334,33 @@ module _ (d : Deployment) (c : Core) (m : Rows) (i : ℕ) (r : Run) (g : Begun) 
         by_answer (answer.Aborted z) left ok =
             let row = behind_looks_dead d m h.known h.locked h.rows r.id k.instance k.made sane k.answers (answer.Aborted z) rest (all (answer.Aborted z) rest left)
             few x.0 x.1 z is_read refl in
-            absurd (let clash = sym there ∙ sym (its_row (length k.answers) steps) ∙ row in cc)
+            let clash = sym there ∙ sym (its_row (length k.answers) steps) ∙ row in cc
         by_answer b left ok = absurd ok
 
-    by_row : (v : Option Row) → map.get m log_row ≡ v → Comes (tx_says at.Log (given_goes o.begin (given_of (said (act Look c.now v).1)))) m
-    by_row None there = in_tx.goes_at d c m i r g h live k finds o tx here e is x on (at.Lock (Lockset o.begin)) m h.locked (λ t. refl) (as_it_was h) (looks_lock e (Lockset o.begin) fits) (in_lock m (Lockset o.begin) refl (λ asked. cc))
+    by_row : (v : Option Row) → map.get m log_row ≡ v → Comes (tx_says at.Log (given_goes (begin_of o) (given_of (said (act Look c.now v).1)))) m
+    by_row None there = goes_at (at.Lock (Lockset (begin_of o))) m h.locked (λ t. refl) (as_it_was h) (looks_lock e (Lockset (begin_of o)) fits) (in_lock m (Lockset (begin_of o)) refl (λ asked. cc))
     by_row (Some w) there = by_later k.later refl
       where
         by_later : (later : List Answer) → k.later ≡ later → Comes (says.Answers (answer.Value (given_in w)) None) m
         by_later [] left =
             let none = no_row d m h.known h.locked h.rows r.id k.instance k.made in
-            absurd (let clash = sym there ∙ sym (its_row (length k.instance.answers) (turns.step_here d c.book h.known r g k left)) ∙ none in cc)
-        by_later (a ∷ rest) left = subst (λ z. Comes (says.Answers z None) m) (sym (behind_row a rest left w there)) (in_tx.replays d c m i r g h live k finds o tx here e is x on m a rest left (λ t. refl) (as_it_was h))
+            let clash = sym there ∙ sym (its_row (length k.instance.answers) (turns.step_here d c.book h.known r g k left)) ∙ none in cc
+        by_later (a ∷ rest) left = subst (λ z. Comes (says.Answers z None) m) (sym (behind_row a rest left w there)) (replays m a rest left (λ t. refl) (as_it_was h))
 
     pub log_turn : Turns at.Log
-    log_turn = asks_it at.Log (subst (λ n. Comes (tx_says at.Log (given_goes o.begin (given_of (said (act Look c.now (map.get m log_row)).1)))) n) (sym (looked c.now log_row m)) (by_row (map.get m log_row) refl))
+    unfolding Comes
+    log_turn = asks_it at.Log (subst (λ n. Comes (tx_says at.Log (given_goes (begin_of o) (given_of (said (act Look c.now (map.get m log_row)).1)))) n) (sym (looked c.now log_row m)) (by_row (map.get m log_row) refl))
 
   -- ---- the row that says that the lock is asked for
   abbrev lock_row : RowKey
-  lock_row = lockset_key r.id o.begin item
+  lock_row = lockset_key r.id (begin_of o) item
 
   module _ (left : k.later ≡ []) where
     abbrev asked_now : Rows
     asked_now = set_row m lock_row (Some rows.Lockset)
 
     asked_matches : Matches d asked_now h.known h.locked
-    asked_matches = subst (λ y. Matches d (set_row m (lockset_key r.id o.begin y) (Some rows.Lockset)) h.known h.locked) same_item
+    asked_matches = subst (λ l. Matches d (set_row m l (Some rows.Lockset)) h.known h.locked) (λ j. lockset_key r.id (begins j) (same_item j))
         (lockset_put d h.known h.locked m h.rows r.id k.instance own x k.made (in_tx.open_still d c m r g h k o here e is x touch left) (tx_is left) (not_ended left) (front left).touch)
 
     asked_lists : (y : Item) → listed asked_now y ≡ listed m y
@@ -369,21 +368,23 @@ module _ (d : Deployment) (c : Core) (m : Rows) (i : ℕ) (r : Run) (g : Begun) 
         (λ t. elsewhere m lock_row (Some rows.Lockset) is_log (decision_key t) refl refl) (λ t. elsewhere m lock_row (Some rows.Lockset) is_shadow (shadow_key t y) refl refl)
 
     asked_kept : Stays h asked_now
-    asked_kept = stays_by h asked_now (set_shadows m lock_row (Some rows.Lockset) refl) asked_matches (λ y. asked_lists y ∙ h.values y) (frame_lockset d m h.plain h.plain h.known h.known (items_stay d m h.plain h.plain h.known refl) own item (not_ended left))
+    asked_kept = stays_by h asked_now (set_shadows m lock_row (Some rows.Lockset) refl) asked_matches (λ y. asked_lists y ∙ h.values y) (frame_lockset d m h.plain h.plain h.known h.known (items_stay d m h.plain h.plain h.known refl) (nobody_new d h.known) r.id (begin_of o) item (in_tx.asks_alone d c m r g h k o here e is x touch left))
+        (no_finish m asked_now lock_row (set_others m lock_row (Some rows.Lockset)) d h.known refl)
 
-  module _ (fits : Fits e (at.Lock (Lockset o.begin))) where
-    by_lockset : (v : Option Row) → map.get m lock_row ≡ v → Comes (tx_says (at.Lock (Lockset o.begin)) (lock_leads place e (put_goes o.begin (said (act PutLockset c.now v).1)))) (set_row m lock_row (act PutLockset c.now v).0)
+  module _ (fits : Fits e (at.Lock (Lockset (begin_of o)))) where
+    by_lockset : (v : Option Row) → map.get m lock_row ≡ v → Comes (tx_says (at.Lock (Lockset (begin_of o))) (lock_leads place e (put_goes (begin_of o) (said (act PutLockset c.now v).1)))) (set_row m lock_row (act PutLockset c.now v).0)
     by_lockset None there = by_later k.later refl
       where
         by_later : (later : List Answer) → k.later ≡ later → Comes (says.On (stage.Tx (at.Lock (AtItem Try))) None) (set_row m lock_row (Some rows.Lockset))
-        by_later [] left = in_tx.goes_at d c m i r g h live k finds o tx here e is x on (at.Lock (AtItem Try)) (set_row m lock_row (Some rows.Lockset)) h.locked (in_tx.set_roots m r.func (kinds.Lockset r.id o.begin x.0 x.1) (Some rows.Lockset) refl) (asked_kept left)
-            (fits_lock e (Lockset o.begin) (AtItem Try) fits) (in_lock (set_row m lock_row (Some rows.Lockset)) (AtItem Try) tt (λ asked. ap is_some (set_here m lock_row (Some rows.Lockset))))
+        by_later [] left = goes_at (at.Lock (AtItem Try)) (set_row m lock_row (Some rows.Lockset)) h.locked (in_tx.set_roots m r.func (kinds.Lockset r.id (begin_of o) x.0 x.1) (Some rows.Lockset) refl) (asked_kept left)
+            (fits_lock e (Lockset (begin_of o)) (AtItem Try) fits) (in_lock (set_row m lock_row (Some rows.Lockset)) (AtItem Try) tt (λ asked. ap is_some (set_here m lock_row (Some rows.Lockset))))
         by_later (a ∷ rest) left = absurd (lockset_there a rest left there)
     by_lockset (Some w) there = subst (λ n. Comes (says.On (stage.Tx (at.Lock (AtItem Try))) None) n) (sym (unchanged m lock_row (Some w) (sym there)))
-        (in_tx.goes_at d c m i r g h live k finds o tx here e is x on (at.Lock (AtItem Try)) m h.locked (λ t. refl) (as_it_was h) (fits_lock e (Lockset o.begin) (AtItem Try) fits) (in_lock m (AtItem Try) tt (λ asked. ap is_some there)))
+        (goes_at (at.Lock (AtItem Try)) m h.locked (λ t. refl) (as_it_was h) (fits_lock e (Lockset (begin_of o)) (AtItem Try) fits) (in_lock m (AtItem Try) tt (λ asked. ap is_some there)))
 
-  pub lockset_turn : (b : ℕ) → OfBegin o.begin (at.Lock (Lockset b)) → Fits e (at.Lock (Lockset b)) → Turns (at.Lock (Lockset b))
-  lockset_turn b same fits = subst (λ z. Turns (at.Lock (Lockset z))) (sym same) (asks_it (at.Lock (Lockset o.begin)) (by_lockset (fits_lock e (Lockset b) (Lockset o.begin) fits) (map.get m lock_row) refl))
+  pub lockset_turn : (b : ℕ) → OfBegin (begin_of o) (at.Lock (Lockset b)) → Fits e (at.Lock (Lockset b)) → Turns (at.Lock (Lockset b))
+  unfolding Comes
+  lockset_turn b same fits = subst (λ z. Turns (at.Lock (Lockset z))) (sym same) (asks_it (at.Lock (Lockset (begin_of o))) (by_lockset (fits_lock e (Lockset b) (Lockset (begin_of o)) fits) (map.get m lock_row) refl))
 
   -- ---- the lock of the item
   module _ (w : WriteAt) (fits : Fits e (at.Lock (AtItem w))) (asked : is_some (map.get m lock_row) ≡ true) (v : Option Row)
@@ -406,8 +407,12 @@ module _ (d : Deployment) (c : Core) (m : Rows) (i : ℕ) (r : Run) (g : Begun) 
     notes_on : (p : Place) (u : Note) → note_at (content_of m item).notes p ≡ Some u → note_at (content_of n item).notes p ≡ Some u
     notes_on p u was = ap (λ (z : Content). note_at z.notes p) (content_here m v item) ∙ stay p u was
 
+    -- no finish is put
+    unfinished : (next : Known) → NoFinish d m n next
+    unfinished next = no_finish m n (head_key item) same d next refl
+
     -- what it finds past its lock
-    in_past : (b : TxAt) → OfBegin o.begin b → HasLock b place (content_of n item) → ((y : Option Row) (u : Value) → Found e b y u) → InOperation d n h.plain h.known r.id r.func o g.machine.steps e b x
+    in_past : (b : TxAt) → OfBegin (begin_of o) b → HasLock b place (content_of n item) → ((y : Option Row) (u : Value) → Found e b y u) → InOperation d n h.plain h.known r.id r.func o g.machine.steps e b x
     in_past b begin has found = record { begin = begin; asked = λ past. asked_still; locked = has; found = λ q made now. found (map.get n (shadow_key own item)) (value_at h.plain item) }
 
     module _ (sound : SoundAt (map.get n (head_key item))) where
@@ -417,10 +422,10 @@ module _ (d : Deployment) (c : Core) (m : Rows) (i : ℕ) (r : Run) (g : Begun) 
       -- the item holds what it held
       as_held : content_of n item ≡ content_of m item → Stays h n
       as_held whole = stays_by h n (set_shadows m (head_key item) v refl) (content_kept d m n item same h.known h.locked sound whole h.rows) (λ y. others_list m n item same y (contents_kept d m n item same whole y) ∙ h.values y)
-          (frame_held d m h.plain h.plain h.known h.known (items_stay d m h.plain h.plain h.known refl) n item same row_there whole)
+          (frame_held d m h.plain h.plain h.known h.known (items_stay d m h.plain h.plain h.known refl) (nobody_new d h.known) n item same row_there whole) (unfinished h.known)
 
       tries : (u : WriteAt) → content_of n item ≡ content_of m item → Comes (says.On (stage.Tx (at.Lock (AtItem u))) None) n
-      tries u whole = in_tx.goes_at d c m i r g h live k finds o tx here e is x on (at.Lock (AtItem u)) n h.locked roots (as_held whole) (fits_lock e (AtItem w) (AtItem u) fits) (in_lock n (AtItem u) tt (λ past. asked_still))
+      tries u whole = goes_at (at.Lock (AtItem u)) n h.locked roots (as_held whole) (fits_lock e (AtItem w) (AtItem u) fits) (in_lock n (AtItem u) tt (λ past. asked_still))
 
       -- a note of another kind is not of the lock: it stays where it is
       other_note : (u : Note) (first : Bool) → is_locks u ≡ false → note_at (content_of n item).notes place ≡ Some u → DidOnce place (ByTx own) Lock first (content_of m item) (content_of n item) → Comes (says.On (stage.Tx (at.Lock (AtItem w))) None) n
@@ -432,10 +437,10 @@ module _ (d : Deployment) (c : Core) (m : Rows) (i : ℕ) (r : Run) (g : Begun) 
       goes_past after kept got = by_effect e refl
         where
           by_effect : (f : Effect) → f ≡ e → Comes (tx_says (at.Lock (AtItem w)) (locked_goes f)) n
-          by_effect (effect.Read t y) f = in_tx.goes_at d c m i r g h live k finds o tx here e is x on at.Shadow n after roots kept (subst (λ z. Fits z at.Shadow) f tt) (in_past at.Shadow tt got (λ z u. subst (λ q. Found q at.Shadow z u) f tt))
-          by_effect (effect.Write t y u) f = in_tx.goes_at d c m i r g h live k finds o tx here e is x on (at.Write Try) n after roots kept (subst (λ z. Fits z (at.Write Try)) f tt) (in_past (at.Write Try) tt got (λ z u. subst (λ q. Found q (at.Write Try) z u) f tt))
-          by_effect (effect.CondWrite t y l p u) f = in_tx.goes_at d c m i r g h live k finds o tx here e is x on at.Shadow n after roots kept (subst (λ z. Fits z at.Shadow) f tt) (in_past at.Shadow tt got (λ z u. subst (λ q. Found q at.Shadow z u) f tt))
-          by_effect f same = absurd (let clash = ap item_of same ∙ on in cc)
+          by_effect (effect.Read t y) f = goes_at at.Shadow n after roots kept (subst (λ z. Fits z at.Shadow) f tt) (in_past at.Shadow tt got (λ z u. subst (λ q. Found q at.Shadow z u) f tt))
+          by_effect (effect.Write t y u) f = goes_at (at.Write Try) n after roots kept (subst (λ z. Fits z (at.Write Try)) f tt) (in_past (at.Write Try) tt got (λ z u. subst (λ q. Found q (at.Write Try) z u) f tt))
+          by_effect (effect.CondWrite t y l p u) f = goes_at at.Shadow n after roots kept (subst (λ z. Fits z at.Shadow) f tt) (in_past at.Shadow tt got (λ z u. subst (λ q. Found q at.Shadow z u) f tt))
+          by_effect f same = let clash = ap item_of same ∙ on in cc
 
       -- ---- at the front, where the place had no note
       module _ (left : k.later ≡ []) (none : note_at (content_of m item).notes place ≡ None) where
@@ -463,7 +468,7 @@ module _ (d : Deployment) (c : Core) (m : Rows) (i : ℕ) (r : Run) (g : Begun) 
               (λ none free did. lock_did d h.known h.locked r.id k.instance k.made unlocked own (tx_is left) x (front left).touch m v fits_row none free did h.rows) none free row_did
 
           taken_frame : Frame d m n h.plain h.plain h.known h.known
-          taken_frame = frame_item d m h.plain h.plain h.known h.known (items_stay d m h.plain h.plain h.known refl) n item same row_there notes_on
+          taken_frame = frame_item d m h.plain h.plain h.known h.known (items_stay d m h.plain h.plain h.known refl) (nobody_new d h.known) n item same row_there notes_on
               (λ t z ended owned. let mine : own ≡ t = same_owner (sym (ap (λ (z : Content). z.owner) did) ∙ owned) in let clash = sym (not_ended left) ∙ ap (tx_end d h.known) mine ∙ ended in cc)
             where
               same_owner : {s t : TxId} → Some (ByTx s) ≡ Some (ByTx t) → s ≡ t
@@ -477,7 +482,7 @@ module _ (d : Deployment) (c : Core) (m : Rows) (i : ℕ) (r : Run) (g : Begun) 
                 sane = h.sane;
                 rows = taken_matches;
                 values = λ y. did_lists m own (no_decision_yet left) item v free (ap (λ (z : Content). z.value) row_did) (ap (λ (z : Content). z.owner) row_did) y ∙ h.values y;
-                settled = settled_rows d m n h.plain h.plain h.known h.known taken_frame (settled h);
+                settled = settled_after d c m h n h.plain h.known taken taken_matches h.sane (grows_self h.known) taken_frame (unfinished h.known) (settled h);
               }) (grows_self h.known) taken_frame
 
         -- it dies: it has that answer from now on
@@ -502,7 +507,7 @@ module _ (d : Deployment) (c : Core) (m : Rows) (i : ℕ) (r : Run) (g : Begun) 
 
           is_death : IsDeath (place_now left) own cause
           is_death = death_is_older d h.known h.sane h.locked r.id k.instance own x.0 x.1 (front left) item (content_of m item) (h.rows.items item)
-              (only_one d m h.known h.locked h.rows none_within r.id k.instance k.made own (tx_is left) (in_tx.apart d c m r g h k o here e is x touch left) released_now item)
+              (only_one d m h.known h.locked h.rows h.sane r.id k.instance k.made (in_tx.open_still d c m r g h k o here e is x touch left) own (tx_is left) (in_tx.apart d c m r g h k o here e is x touch left) released_now h.latest item)
               (place_now left) (died_at (place_now left) j (content_of m item)) j (dies_so (place_now left) own (content_of m item) j (subst (λ p. note_at (content_of m item).notes p ≡ None) (sym (at_place left)) none) dead).0
 
           died_goes : Goes d n h.plain next h.locked
@@ -512,7 +517,7 @@ module _ (d : Deployment) (c : Core) (m : Rows) (i : ℕ) (r : Run) (g : Begun) 
           died_matches : Matches d n next h.locked
           died_matches = subst (λ y. Matches d (set_row m (head_key y) v) next h.locked) same_item
               (dies_inside d h.known h.locked h.locked r.id k.instance k.made (none_out h.locked r.id unlocked) own (tx_is left) m h.rows x.0 x.1 j v (front left).touch
-              (subst (λ y. map.get m (lockset_key r.id o.begin y) ≡ Some rows.Lockset) (sym same_item) (in_tx.lockset_is (map.get m lock_row) (owed_lockset d o.begin item r.id (map.get h.known r.id)) (lockset_ahead d h.known o.begin item r.id (map.get h.known r.id)) (h.rows.keys lock_row) asked))
+              (subst (λ l. map.get m l ≡ Some rows.Lockset) (λ j. lockset_key r.id (sym begins j) (sym same_item j)) (in_tx.lockset_is (map.get m lock_row) (owed_lockset d (begin_of o) item r.id (map.get h.known r.id)) (lockset_ahead d h.known (begin_of o) item r.id (map.get h.known r.id)) (h.rows.keys lock_row) asked))
               unlocked fits_row (back (λ y p. note_at (content_of m y).notes p ≡ None) none) (back (λ y p. content_in v ≡ with_note (content_of m y) p (notes.Died j)) row_died))
             where
               back : (P : Item → Place → Type 0) → P item place → P its_item (place_now left)
@@ -522,39 +527,46 @@ module _ (d : Deployment) (c : Core) (m : Rows) (i : ℕ) (r : Run) (g : Begun) 
           not_there : (t : TxId) (z : ℕ × Bool) → tx_end d next t ≡ Some z → place ≡ end_place t z.0 → ⊥
           not_there t z ended at_end =
               let mine : r.id ≡ t.intent = ap (λ (p : Place). p.intent) at_end in
-              let its : map.get next t.intent ≡ Some (moved d r.id k.instance a) = ap (map.get next) (sym mine) ∙ inserted h.known r.id (moved d r.id k.instance a) in
-              let was : end_of d k.instance t.begin ≡ Some z = sym ((moved_one d r.id k.instance a).ends t.begin ∙ ends_same (length k.instance.answers) (effect_of d k.instance) (txs_after d k.instance k.instance.answers) t.begin x (front left).touch)
-              ∙ sym (ap (ended_by d t.begin) its) ∙ ended in
+              let was = sym (ap (ended_by d t.begin) (ap (map.get h.known) (sym mine) ∙ k.made)) ∙ in_tx.ends_before d c m r g h k o here e is x touch left a t z ended in
               let less = (ended_at d k.instance t.begin z was).before in
               let step : g.machine.steps ≡ z.0 = ap (λ (p : Place). p.step) at_end in
               let last = turns.step_here d c.book h.known r g k left in
               omega (arith, less, step, last)
 
+          -- so its place is none where items are given back
+          not_free : (t : TxId) (z : ℕ × Bool) (p : Place) → tx_end d next t ≡ Some z → IsFreePlace next t z.0 p → place ≡ p → ⊥
+          not_free t z p ended (inl at_end) same = not_there t z ended (same ∙ at_end)
+          not_free t z p ended (inr last) same = let l = few_now left in let w = turns.step_here d c.book h.known r g k left in let step : g.machine.steps ≡ p.step = ap (λ (y : Place). y.step) same in let is_last = last.0 in omega (arith, l, w, step, is_last)
+
           died_frame : Frame d m n h.plain h.plain h.known next
-          died_frame = frame_item d m h.plain h.plain h.known next (items_stay d m h.plain h.plain next refl) n item same row_there notes_on
+          died_frame = frame_item d m h.plain h.plain h.known next (items_stay d m h.plain h.plain next refl) (nobody_set d h.known r.id (moved d r.id k.instance a) (ap is_some k.made)) n item same row_there notes_on
               (λ t z ended owned. record {
                 owner = ap (λ (y : Content). y.owner) (sym did) ∙ owned;
-                note = ap (λ (y : Content). note_at y.notes (end_place t z.0)) did ∙ note_pushed (content_of m item).notes place (end_place t z.0) (notes.Died j) none ∙ off t z ended (place_eq place (end_place t z.0)) refl;
+                notes = λ p free. ap (λ (y : Content). note_at y.notes p) did ∙ note_pushed (content_of m item).notes place p (notes.Died j) none ∙ off t z p ended free (place_eq place p) refl;
               })
             where
-              off : (t : TxId) (z : ℕ × Bool) → tx_end d next t ≡ Some z → (b : Bool) → place_eq place (end_place t z.0) ≡ b → (if b then Some (notes.Died j) else note_at (content_of m item).notes (end_place t z.0)) ≡ note_at (content_of m item).notes (end_place t z.0)
-              off t z ended true at_end = absurd (not_there t z ended (place_same place (end_place t z.0) at_end))
-              off t z ended false other = refl
+              off : (t : TxId) (z : ℕ × Bool) (p : Place) → tx_end d next t ≡ Some z → IsFreePlace next t z.0 p → (b : Bool) → place_eq place p ≡ b → (if b then Some (notes.Died j) else note_at (content_of m item).notes p) ≡ note_at (content_of m item).notes p
+              off t z p ended free true here = absurd (not_free t z p ended free (place_same place p here))
+              off t z p ended free false other = refl
+
+          died_sane : Sane d next
+          died_sane = sane_died d h.known h.sane r.id k.instance k.made own x cause (tx_is left) (front left).touch is_death
 
           died_kept : Kept h n h.plain next h.locked
           died_kept = kept_by d c m n h h.plain next h.locked
               (record {
                 goes = died_goes;
                 locked_at_ends = ahead_set d h.known h.locked h.locked_at_ends h.locked r.id (moved d r.id k.instance a) (none_out h.locked r.id unlocked);
-                sane = sane_died d h.known h.sane r.id k.instance k.made own x cause (tx_is left) (front left).touch is_death;
+                sane = died_sane;
                 rows = died_matches;
                 values = λ y. died_lists m own (no_decision_yet left) item v (ap (λ (z : Content). z.value) row_died) (ap (λ (z : Content). z.owner) row_died) y ∙ h.values y;
-                settled = settled_rows d m n h.plain h.plain h.known next died_frame
+                settled = settled_after d c m h n h.plain next h.locked died_matches died_sane (grows_moved d h.known r.id k.instance a k.made) died_frame (unfinished next)
                     (settled_operated d m h.plain h.known r.id k.instance k.made a x (front left).touch
-                    (λ z u same by. subst (λ y. is_some (map.get h.plain.made y) ≡ true) (same_some (ap (λ (y : Cause). y.holder) (one_cause same) ∙ by)) (holder_made d m h.known h.locked h.rows none_within h.plain made_there item j holder)) (settled h));
+                    (λ z u same by. subst (λ y. is_some (map.get h.plain.made y) ≡ true) (same_some (ap (λ (y : Cause). y.holder) (one_cause same) ∙ by)) (holder_made d m h.known h.locked h.rows h.sane h.plain h.beside item j (holds_here h item j) holder)) (settled h));
               }) (grows_moved d h.known r.id k.instance a k.made) died_frame
 
           dies_now : Comes (says.Answers (answer.Aborted (record { place = place; holder = Some j })) None) n
+          unfolding Comes
           dies_now = let more = moved_more d r.id k.instance a in
               subst (λ p. Comes (says.Answers (answer.Aborted (record { place = p; holder = Some j })) None) n) (at_place left)
               (turns.answers_on d c m i r g h live k finds a more.more n next h.locked (moved d r.id k.instance a) roots died_kept (inserted h.known r.id (moved d r.id k.instance a)) (grown_moved d r.id k.instance a)
@@ -572,11 +584,11 @@ module _ (d : Deployment) (c : Core) (m : Rows) (i : ℕ) (r : Run) (g : Begun) 
       taken_now : note_at (content_of m item).notes place ≡ None → (j : Option IntentId) → dies (ByTx own) Lock (content_of m item).owner ≡ j → DidAs place (ByTx own) Lock j (content_of m item) (content_of n item)
           → note_at (content_of n item).notes place ≡ Some notes.Got → Comes (tx_says (at.Lock (AtItem w)) (locked_goes e)) n
       taken_now none None alive did got = let left = at_front none in goes_past (lock_in h.locked r.id) (taken_kept left none (free_of own (content_of m item).owner did.0 alive) did.1) got
-      taken_now none (Some j) dead did got = absurd (let clash : notes.Got ≡ notes.Died j = new_note place (ByTx own) (content_of m item) (content_of n item) (Some j) notes.Got did none got in cc)
+      taken_now none (Some j) dead did got = let clash : notes.Got ≡ notes.Died j = new_note place (ByTx own) (content_of m item) (content_of n item) (Some j) notes.Got did none got in cc
 
       died_now : note_at (content_of m item).notes place ≡ None → (j : IntentId) (b : Option IntentId) → dies (ByTx own) Lock (content_of m item).owner ≡ b → DidAs place (ByTx own) Lock b (content_of m item) (content_of n item)
           → note_at (content_of n item).notes place ≡ Some (notes.Died j) → Comes (says.Answers (answer.Aborted (record { place = place; holder = Some j })) None) n
-      died_now none j None alive did there = absurd (let clash : notes.Died j ≡ notes.Got = new_note place (ByTx own) (content_of m item) (content_of n item) None (notes.Died j) did none there in cc)
+      died_now none j None alive did there = let clash : notes.Died j ≡ notes.Got = new_note place (ByTx own) (content_of m item) (content_of n item) None (notes.Died j) did none there in cc
       died_now none j (Some i) dead did there = subst (λ z. Comes (says.Answers (answer.Aborted (record { place = place; holder = Some z })) None) n)
           (one_death (new_note place (ByTx own) (content_of m item) (content_of n item) (Some i) (notes.Died j) did none there)) (dies_now (at_front none) none i dead did)
 
@@ -590,7 +602,7 @@ module _ (d : Deployment) (c : Core) (m : Rows) (i : ℕ) (r : Run) (g : Begun) 
           by_later (a ∷ rest) left =
               let noted_so : (told_here a rest left).note ≡ notes.Died j = same_some (sym (note_here_is a rest left) ∙ there) in
               let same : answer.Aborted (record { place = place_of r.id (length k.answers); holder = Some j }) ≡ a = noted_death (place_of r.id (length k.answers)) a j (ap (λ u. lock_answer (place_of r.id (length k.answers)) (noted u)) (sym noted_so) ∙ (told_here a rest left).says) in
-              subst (λ z. Comes (says.Answers z None) n) (sym same ∙ ap (λ q. answer.Aborted (record { place = place_of r.id q; holder = Some j })) (sym steps)) (in_tx.replays d c m i r g h live k finds o tx here e is x on n a rest left roots (as_held whole))
+              subst (λ z. Comes (says.Answers z None) n) (sym same ∙ ap (λ q. answer.Aborted (record { place = place_of r.id q; holder = Some j })) (sym steps)) (replays n a rest left roots (as_held whole))
 
       by_note : (u : Note) (first : Bool) → note_at (content_of n item).notes place ≡ Some u → DidOnce place (ByTx own) Lock first (content_of m item) (content_of n item) → Comes (tx_says (at.Lock (AtItem w)) (lock_leads place e (note_goes w u first))) n
       by_note notes.Got true got l = taken_now l.0 (dies (ByTx own) Lock (content_of m item).owner) refl l.1 got
@@ -601,11 +613,15 @@ module _ (d : Deployment) (c : Core) (m : Rows) (i : ℕ) (r : Run) (g : Begun) 
       by_note (notes.Cond b) first there l = other_note (notes.Cond b) first refl there l
       by_note notes.Freed first there l = other_note notes.Freed first refl there l
 
+      waits : (u : Owner) → Stays h n → Comes (says.Waits (wait.Held u)) n
+      unfolding Comes
+      waits u kept = turns.held d c m i r g h live k u n roots kept
+
       by_goes : (z : WriteGoes) → Logs place (ByTx own) Lock (walk_so z) (content_of m item) (content_of n item) → Comes (tx_says (at.Lock (AtItem w)) (lock_leads place e (item_goes w z))) n
       by_goes (writes.On u) whole = tries u whole
       by_goes (writes.Done u first) l = by_note u first l.0 l.1
       by_goes writes.NotOwner l = tries w l.2
-      by_goes (writes.Held u) l = turns.held d c m i r g h live k u n roots (as_held l.2)
+      by_goes (writes.Held u) l = waits u (as_held l.2)
 
   -- .. by the act of its walk
   module _ (w : WriteAt) (fits : Fits e (at.Lock (AtItem w))) (asked : is_some (map.get m lock_row) ≡ true) where
@@ -626,5 +642,6 @@ module _ (d : Deployment) (c : Core) (m : Rows) (i : ℕ) (r : Run) (g : Begun) 
     by_try Make = acts (MakeCell value.Null None) (write_goes notes.Got (told_by (asked_of Make) c.now m)) (by_op walk m (rows_after (asked_of Make) c.now m) (h.rows.keys (head_key item)) Make c.now refl)
 
   pub lock_turn : (l : LockAt) → Fits e (at.Lock l) → InOperation d m h.plain h.known r.id r.func o g.machine.steps e (at.Lock l) x → Turns (at.Lock l)
+  unfolding Comes
   lock_turn (Lockset b) fits found = lockset_turn b found.begin fits
   lock_turn (AtItem w) fits found = asks_it (at.Lock (AtItem w)) (by_try w fits (found.asked refl) w)

@@ -21,12 +21,13 @@ use Rattle.beldi_plain.specs.Legal.{run_of}
 use Rattle.beldi_step.specs.declared.event.Seen.{Seen}
 use Rattle.beldi_step.specs.declared.event.Seen.TheVariants as seen
 use Rattle.beldi_step.specs.declared.run.Mark.{Mark}
+use Rattle.beldi_step.specs.declared.run.RunTx.{RunTx}
 use Rattle.beldi_step.specs.declared.run.Run.{Run}
 use Rattle.beldi_step.specs.declared.run.Wait.{Wait}
 use Rattle.beldi_step.specs.declared.run.Wait.TheVariants as wait
 use Rattle.beldi_intent.specs.Intent.{root_key}
 use Rattle.beldi_step.specs.declared.run.TurnSays.{TurnSays}
-use Rattle.beldi_step.specs.Run.{Turned, says_of, callee_of, callee_at, callee_by, callee_body}
+use Rattle.beldi_step.specs.Run.{Turned, says_of, callee_of, callee_at, callee_by, callee_body, tx_at}
 use Rattle.beldi_step.specs.Host.{Core, most_runs, is_crowded, has_run, with_run, put_run, entry_of, marked, made, started, may_start, after_turn, turned_core, turn_next, without_run}
 use borrow.Author.Tests.{leb-false}
 use Rattle.std.proofs.lemmas.Bool.{or_parts}
@@ -132,7 +133,10 @@ right_by {q} {next} {locked} bounded legal guarded s tickets runs = record {
   shadows = s.goes.shadows;
   marks = s.settled.marks;
   holders = s.settled.holders;
-  uncalled = s.settled.uncalled;
+  latest = s.settled.latest;
+  seated = s.settled.seated;
+  released = s.settled.released;
+  short = s.settled.short;
   runs = runs;
 }
 
@@ -182,15 +186,15 @@ callee_inside d m p known r k = at_stand r.at
     by_hops true id f deadline at none is = subst (λ (z : Run). InsideAt d m p known z z.at) (same_some is) (none (record { id = id; func = f; deadline = deadline; at = at }))
     by_hops false id f deadline at none is = cc
 
-    by_effect : (step : ℕ) (e : Effect) → callee_by r step e ≡ Some k → InsideAt d m p known k k.at
-    by_effect step (Call f a) is = by_hops (has_callees r.id) (child_of r.id step) f r.deadline (Registers (callee_body r.id r.func step f a true)) (λ z. tt) is
-    by_effect step (Async f a) is = by_hops (has_callees r.id) (child_of r.id step) f r.deadline Looks (λ z. tt) is
-    by_effect step e is = cc
+    by_effect : (o : Option RunTx) (step : ℕ) (e : Effect) → callee_by r o step e ≡ Some k → InsideAt d m p known k k.at
+    by_effect o step (Call f a) is = by_hops (has_callees r.id) (child_of r.id step) f r.deadline (Registers (callee_body r.id r.func step f a (tx_at r.id r.func o) true)) (λ z. tt) is
+    by_effect o step (Async f a) is = by_hops (has_callees r.id) (child_of r.id step) f r.deadline Looks (λ z. tt) is
+    by_effect o step e is = cc
 
     at_stand : (at : standing.RunAt) → callee_at r at ≡ Some k → InsideAt d m p known k k.at
     at_stand Looks is = cc
     at_stand (Registers b) is = cc
-    at_stand (Begins g) is = by_effect g.machine.steps g.machine.effect is
+    at_stand (Begins g) is = by_effect g.tx g.machine.steps g.machine.effect is
 
 -- what follows a turn whose core is so tells nothing but the outcome that the turn gave
 module _ (d : Deployment) (p : PlainState) (c : Core) (m : Rows) (r : Run) (s : Turned) (h : Right d c m) (goes_on : Grows p.made h.plain.made)

@@ -41,7 +41,7 @@ use Rattle.beldi_step.specs.declared.run.Run.{Run}
 use Rattle.beldi_step.specs.declared.run.RunAt.{RunAt}
 use Rattle.beldi_step.specs.declared.run.RunAt.TheVariants.{Looks, Registers, Begins}
 use Rattle.beldi_step.specs.declared.run.Begun.{Begun}
-use Rattle.beldi_step.specs.declared.run.OpenTx.{OpenTx}
+use Rattle.beldi_step.specs.declared.run.RunTx.{RunTx}
 use Rattle.beldi_step.specs.declared.run.Stage.{Stage}
 use Rattle.beldi_step.specs.declared.run.Wait.{Wait}
 use Rattle.beldi_step.specs.declared.run.Wait.TheVariants as wait
@@ -50,7 +50,7 @@ use Rattle.beldi_step.specs.declared.run.Says.TheVariants as says
 use Rattle.beldi_tree.specs.declared.deployment.Func.{Func}
 use Rattle.beldi_tree.specs.Names.{func_at}
 use Rattle.beldi_intent.specs.Intent.{is_added, binding_of, body_told}
-use Rattle.beldi_step.specs.Run.{Turned, says_of, turned_by, takes, at_once as at_once_of, goes_from, goes_to, first_stage, begin_in, body_registered, told_at, stage_says, run_told, callee_of}
+use Rattle.beldi_step.specs.Run.{Turned, within, says_of, turned_by, takes, at_once as at_once_of, goes_from, goes_to, first_stage, begin_in, body_registered, told_at, stage_says, run_told, callee_of}
 use Rattle.beldi_step.specs.Host.{turn_next, turned_core, after_turn, made, started, may_start, collect_next, collected, launched, passed, has_run, Core, Plan, at_once, asks, counted, plan, plan_of, run_plan, crash_plan, last_moment, is_crowded, most_events, no_run, ended_run, entry_of, marked, ticket_next, request_next, unbound, run_next, unheard_next, heard, no_memory, if_lent, refused, refused_by, Followed, StepBy, EventBy, is_lost, is_dropped}
 use Rattle.beldi_order.proofs.Maps.{same_some}
 use Rattle.beldi_known.specs.Contents.{head_key, content_of}
@@ -186,11 +186,11 @@ plan_tells d e c = if_plan (PlanTells (counted c)) (nat_lt c.taken most_events) 
 abbrev Unmarked : Turned → Type 0
 Unmarked s = (w : Wait) → s.wait ≡ Some w → s.mark ≡ None
 
-goes_unmarked : (r : Run) (s : Machine × Option OpenTx) (c : Option Caller) (m : Option Mark) (at : Option Stage) → Unmarked (goes_from r s c m at)
+goes_unmarked : (r : Run) (s : Machine × Option RunTx) (c : Option Caller) (m : Option Mark) (at : Option Stage) → Unmarked (goes_from r s c m at)
 goes_unmarked r s c m None w is = cc
 goes_unmarked r s c m (Some at) w is = cc
 
-stands_unmarked : (d : Deployment) (r : Run) (s : Machine × Option OpenTx) (c : Option Caller) (m : Option Mark) → Unmarked (goes_to d r s c m)
+stands_unmarked : (d : Deployment) (r : Run) (s : Machine × Option RunTx) (c : Option Caller) (m : Option Mark) → Unmarked (goes_to d r s c m)
 stands_unmarked d r s c m w is = let z = at_once_of d r.id s in goes_unmarked r z c m (first_stage r.id c z.1 z.0.steps z.0.effect) w is
 
 says_unmarked : (d : Deployment) (r : Run) (g : Begun) (s : Says) → Unmarked (turned_by d r g s)
@@ -202,7 +202,7 @@ says_unmarked d r g s w is = cc
 begins_unmarked : (d : Deployment) (r : Run) (f : Option Func) (b : Option Body) → Unmarked (begin_in d r f b)
 begins_unmarked d r f None w is = cc
 begins_unmarked d r None (Some b) w is = cc
-begins_unmarked d r (Some f) (Some b) w is = stands_unmarked d r (begun d r.func b.args false, None) b.from None w is
+begins_unmarked d r (Some f) (Some b) w is = stands_unmarked d r (begun d r.func b.args (is_some b.tx), within b.tx) b.from None w is
 
 waits_unmarked : (d : Deployment) (n : ℕ) (r : Run) (at : RunAt) (t : Told) → Unmarked (told_at d n r at t)
 waits_unmarked d n r Looks t = begins_unmarked d r (func_at d r.func) (body_told r.func t)

@@ -1,88 +1,161 @@
--- What is open after answers: the Begin that is open, and so the transaction of the step there.
-use Rattle.std.proofs.Common.{◌≡◌, ◌∙◌, ℕ, false, List, [], ◌∷◌, ◌++◌, length, Option, None, Some, refl, ap, sym}
-use Rattle.std.specs.Option.{option_map}
+-- What a run is in after answers: the transaction that it was called in throughout, or else its own one that is open; and so the
+-- transaction of the step there.
+use Rattle.std.proofs.Common.{◌≡◌, ◌∙◌, ℕ, false, List, [], ◌∷◌, ◌++◌, length, Option, None, Some, is_some, refl, ap, sym}
 use Rattle.beldi_value.specs.declared.id.IntentId.{IntentId}
 use Rattle.beldi_value.specs.declared.place.TxId.{TxId}
 use Rattle.beldi_tree.specs.declared.deployment.Deployment.{Deployment}
+use Rattle.beldi_lang.specs.Bounds.{is_bound}
 use Rattle.beldi_lang.specs.declared.effect.Answer.{Answer}
 use Rattle.beldi_lang.specs.declared.effect.Answer.TheVariants as answer
 use Rattle.beldi_lang.specs.declared.effect.Effect.{Effect}
 use Rattle.beldi_lang.specs.declared.effect.Effect.TheVariants as effect
+use Rattle.beldi_lang.specs.Wants.{wants}
+use Rattle.beldi_lang.proofs.Bounds.{no_bound}
 use Rattle.beldi_plain.specs.Plain.{Instance}
 use Rattle.beldi_order.specs.Txs.{Txs, along, effect_after, none_begun, or_own, tx_after, tx_by, txs_after, txs_by}
 use Rattle.beldi_order.proofs.Went.{along_pushed}
-use Rattle.beldi_step.specs.declared.run.OpenTx.{OpenTx}
-use Rattle.beldi_step.specs.Run.{open_after, own_tx, with_cause}
+use Rattle.beldi_step.specs.declared.run.RunTx.{RunTx}
+use Rattle.beldi_step.specs.declared.run.RunTx.TheVariants.{Own, Inherited}
+use Rattle.beldi_step.specs.Run.{is_inherited, open_after, own_tx, tx_of, with_cause, within}
 use Rattle.beldi_known.specs.Beside.{is_begin}
 use Rattle.beldi_laws.specs.Right.{open_of}
 
-abbrev pub begin_of : Option OpenTx → Option ℕ
-begin_of o = option_map (λ (x : OpenTx). x.begin) o
+-- the Begin of one's own that is open
+abbrev pub own_begin : Option RunTx → Option ℕ
+own_begin None = None
+own_begin (Some (Own o)) = Some o.begin
+own_begin (Some (Inherited x)) = None
 
--- what was aborted leaves the begin
-cause_begins : (a : Answer) (o : Option OpenTx) → begin_of (with_cause a o) ≡ begin_of o
+begun_in : (w : Option TxId) → own_begin (within w) ≡ None
+begun_in None = refl
+begun_in (Some x) = refl
+
+-- what was aborted leaves it
+cause_begins : (a : Answer) (o : Option RunTx) → own_begin (with_cause a o) ≡ own_begin o
 cause_begins (answer.Aborted c) None = refl
-cause_begins (answer.Aborted c) (Some o) = refl
+cause_begins (answer.Aborted c) (Some (Own o)) = refl
+cause_begins (answer.Aborted c) (Some (Inherited x)) = refl
 cause_begins a o = refl
 
--- an answer begins and ends alike
-begins_after : (n : ℕ) (e : Effect) (a : Answer) (s : Txs) (o : Option OpenTx) → s.begun ≡ begin_of o → (txs_by n e s).begun ≡ begin_of (open_after n e a o)
+cause_inherits : (a : Answer) (o : Option RunTx) → is_inherited (with_cause a o) ≡ is_inherited o
+cause_inherits (answer.Aborted c) None = refl
+cause_inherits (answer.Aborted c) (Some (Own o)) = refl
+cause_inherits (answer.Aborted c) (Some (Inherited x)) = refl
+cause_inherits a o = refl
+
+-- ---- an answer
+-- it begins and ends alike
+begins_after : (n : ℕ) (e : Effect) (a : Answer) (s : Txs) (o : Option RunTx) → s.begun ≡ own_begin o → (txs_by n e s).begun ≡ own_begin (open_after n e a o)
 begins_after n effect.Begin a s o h = refl
 begins_after n (effect.End c) a s o h = refl
 begins_after n e a s o h = h ∙ sym (cause_begins a o)
 
-begins_along : (d : Deployment) (q : Instance) (given rest : List Answer) (s : Txs) (o : Option OpenTx) → s.begun ≡ begin_of o
-    → (along (λ ts a s. txs_by (length ts) (effect_after d q ts) s) given rest s).begun ≡ begin_of (along (λ ts a o. open_after (length ts) (effect_after d q ts) a o) given rest o)
-begins_along d q given [] s o h = h
-begins_along d q given (a ∷ rest) s o h = begins_along d q (given ++ a ∷ []) rest (txs_by (length given) (effect_after d q given) s) (open_after (length given) (effect_after d q given) a o) (begins_after (length given) (effect_after d q given) a s o h)
+-- what is one's own stays so
+owns_after : (n : ℕ) (e : Effect) (a : Answer) (o : Option RunTx) → is_inherited o ≡ false → is_inherited (open_after n e a o) ≡ false
+owns_after n effect.Begin a o h = refl
+owns_after n (effect.End c) a o h = refl
+owns_after n e a o h = cause_inherits a o ∙ h
 
--- the Begin that is open
-pub open_begun : (d : Deployment) (q : Instance) (given : List Answer) → (txs_after d q given).begun ≡ begin_of (open_of d q given)
-open_begun d q given = begins_along d q [] given none_begun None refl
+-- and so does what was inherited
+cause_keeps : (a : Answer) (x : TxId) → with_cause a (Some (Inherited x)) ≡ Some (Inherited x)
+cause_keeps (answer.Aborted c) x = refl
+cause_keeps a x = refl
 
--- an answer more
-pub open_pushed : (d : Deployment) (q : Instance) (given : List Answer) (a : Answer) → open_of d q (given ++ a ∷ []) ≡ open_after (length given) (effect_after d q given) a (open_of d q given)
-open_pushed d q given a = along_pushed (λ ts b o. open_after (length ts) (effect_after d q ts) b o) [] given a None
+keeps_after : (n : ℕ) (e : Effect) (a : Answer) (x : TxId) → is_bound e ≡ false → open_after n e a (Some (Inherited x)) ≡ Some (Inherited x)
+keeps_after n effect.Begin a x h = cc
+keeps_after n (effect.End c) a x h = cc
+keeps_after n e a x h = cause_keeps a x
 
--- ---- of an instance that was not called in a transaction, the transaction of a step is the one that is open, but at a Begin
-module _ (d : Deployment) (id : IntentId) (q : Instance) (given : List Answer) where
-  tx_so : (o : Option OpenTx) → q.within ≡ None → open_of d q given ≡ o → tx_after d id q given ≡ tx_by id q.func (length given) (effect_after d q given) (begin_of o)
-  tx_so o out is = own q.within out ∙ ap (tx_by id q.func (length given) (effect_after d q given)) (open_begun d q given ∙ ap begin_of is)
+module _ (d : Deployment) (q : Instance) where
+  abbrev after_one : List Answer → Answer → Option RunTx → Option RunTx
+  after_one ts a o = open_after (length ts) (effect_after d q ts) a o
+
+  begins_along : (given rest : List Answer) (s : Txs) (o : Option RunTx) → s.begun ≡ own_begin o → (along (λ ts a s. txs_by (length ts) (effect_after d q ts) s) given rest s).begun ≡ own_begin (along after_one given rest o)
+  begins_along given [] s o h = h
+  begins_along given (a ∷ rest) s o h = begins_along (given ++ a ∷ []) rest (txs_by (length given) (effect_after d q given) s) (after_one given a o) (begins_after (length given) (effect_after d q given) a s o h)
+
+  -- the Begin that is open
+  pub open_begun : (given : List Answer) → (txs_after d q given).begun ≡ own_begin (open_of d q given)
+  open_begun given = begins_along [] given none_begun (within q.within) (sym (begun_in q.within))
+
+  -- an answer more
+  pub open_pushed : (given : List Answer) (a : Answer) → open_of d q (given ++ a ∷ []) ≡ open_after (length given) (effect_after d q given) a (open_of d q given)
+  open_pushed given a = along_pushed (λ ts b o. open_after (length ts) (effect_after d q ts) b o) [] given a (within q.within)
+
+  -- ---- who was called in a transaction stays in it
+  unbound : (x : TxId) → q.within ≡ Some x → (given : List Answer) → is_bound (effect_after d q given) ≡ false
+  unbound x in_it given = ap (λ w. is_bound (wants d q.func q.args (is_some w) given)) in_it ∙ no_bound d q.func q.args given
+
+  keeps_along : (x : TxId) → q.within ≡ Some x → (given rest : List Answer) (o : Option RunTx) → o ≡ Some (Inherited x) → along after_one given rest o ≡ Some (Inherited x)
+  keeps_along x in_it given [] o is = is
+  keeps_along x in_it given (a ∷ rest) o is = keeps_along x in_it (given ++ a ∷ []) rest (after_one given a o) (ap (after_one given a) is ∙ keeps_after (length given) (effect_after d q given) a x (unbound x in_it given))
+
+  pub open_in : (x : TxId) (given : List Answer) → q.within ≡ Some x → open_of d q given ≡ Some (Inherited x)
+  open_in x given in_it = keeps_along x in_it [] given (within q.within) (ap within in_it)
+
+  -- who was called in none is in none but its own
+  owns_along : (given rest : List Answer) (o : Option RunTx) → is_inherited o ≡ false → is_inherited (along after_one given rest o) ≡ false
+  owns_along given [] o h = h
+  owns_along given (a ∷ rest) o h = owns_along (given ++ a ∷ []) rest (after_one given a o) (owns_after (length given) (effect_after d q given) a o h)
+
+  pub open_out : (given : List Answer) → q.within ≡ None → is_inherited (open_of d q given) ≡ false
+  open_out given out = owns_along [] given (within q.within) (ap (λ w. is_inherited (within w)) out)
+
+  -- so what it is in tells how it was called
+  pub called_out : (given : List Answer) → is_inherited (open_of d q given) ≡ false → q.within ≡ None
+  called_out given own = by_within q.within refl
     where
-      own : (w : Option TxId) → w ≡ None → or_own w (tx_by id q.func (length given) (effect_after d q given) (txs_after d q given).begun) ≡ tx_by id q.func (length given) (effect_after d q given) (txs_after d q given).begun
-      own None h = refl
-      own (Some t) h = cc
+      by_within : (w : Option TxId) → q.within ≡ w → w ≡ None
+      by_within None e = refl
+      by_within (Some x) e = let clash = sym own ∙ ap is_inherited (open_in x given e) in cc
 
-  pub tx_open : (o : OpenTx) → q.within ≡ None → open_of d q given ≡ Some o → is_begin (effect_after d q given) ≡ false → tx_after d id q given ≡ Some (own_tx id q.func o)
-  tx_open o out is apart = tx_so (Some o) out is ∙ by_effect (effect_after d q given) apart
+  pub called_in : (x : TxId) (given : List Answer) → open_of d q given ≡ Some (Inherited x) → q.within ≡ Some x
+  called_in x given is = by_within q.within refl
+    where
+      by_within : (w : Option TxId) → q.within ≡ w → w ≡ Some x
+      by_within None e = let clash = sym (open_out given e) ∙ ap is_inherited is in cc
+      by_within (Some y) e = let same : Some (Inherited y) ≡ Some (Inherited x) = sym (open_in y given e) ∙ is in cc
+
+-- ---- the transaction of a step is the one that the run is in, but at a Begin
+module _ (d : Deployment) (id : IntentId) (q : Instance) (given : List Answer) where
+  tx_so : q.within ≡ None → (o : Option RunTx) → open_of d q given ≡ o → tx_after d id q given ≡ tx_by id q.func (length given) (effect_after d q given) (own_begin o)
+  tx_so out o is = ap (λ w. or_own w (tx_by id q.func (length given) (effect_after d q given) (txs_after d q given).begun)) out ∙ ap (tx_by id q.func (length given) (effect_after d q given)) (open_begun d q given ∙ ap own_begin is)
+
+  tx_in : (x : TxId) → q.within ≡ Some x → tx_after d id q given ≡ Some x
+  tx_in x in_it = ap (λ w. or_own w (tx_by id q.func (length given) (effect_after d q given) (txs_after d q given).begun)) in_it
+
+  pub tx_open : (o : RunTx) → open_of d q given ≡ Some o → is_begin (effect_after d q given) ≡ false → tx_after d id q given ≡ Some (tx_of id q.func o)
+  tx_open (Own o) is apart = tx_so (called_out d q given (ap is_inherited is)) (Some (Own o)) is ∙ by_effect (effect_after d q given) apart
     where
       by_effect : (e : Effect) → is_begin e ≡ false → tx_by id q.func (length given) e (Some o.begin) ≡ Some (own_tx id q.func o)
       by_effect effect.Begin h = cc
       by_effect e h = refl
+  tx_open (Inherited x) is apart = tx_in x (called_in d q x given is)
 
-  pub open_tx : (t : TxId) → q.within ≡ None → tx_after d id q given ≡ Some t → is_begin (effect_after d q given) ≡ false → (o : OpenTx) × (open_of d q given ≡ Some o) × (t ≡ own_tx id q.func o)
-  open_tx t out is apart = by_open (open_of d q given) refl
+  pub open_tx : (t : TxId) → tx_after d id q given ≡ Some t → is_begin (effect_after d q given) ≡ false → (o : RunTx) × (open_of d q given ≡ Some o) × (t ≡ tx_of id q.func o)
+  open_tx t is apart = by_open (open_of d q given) refl
     where
       by_none : (e : Effect) → is_begin e ≡ false → tx_by id q.func (length given) e None ≡ Some t → ⊥
       by_none effect.Begin h k = cc
       by_none e h k = cc
 
-      by_some : (o : OpenTx) (e : Effect) → is_begin e ≡ false → tx_by id q.func (length given) e (Some o.begin) ≡ Some t → t ≡ own_tx id q.func o
-      by_some o effect.Begin h k = cc
-      by_some o e h k = cc
+      by_open : (o : Option RunTx) → open_of d q given ≡ o → (o : RunTx) × (open_of d q given ≡ Some o) × (t ≡ tx_of id q.func o)
+      by_open None e = absurd (by_none (effect_after d q given) apart (sym (tx_so (called_out d q given (ap is_inherited e)) None e) ∙ is))
+      by_open (Some o) e = let same : Some t ≡ Some (tx_of id q.func o) = sym is ∙ tx_open o e apart in (o, e, cc)
 
-      by_open : (o : Option OpenTx) → open_of d q given ≡ o → (o : OpenTx) × (open_of d q given ≡ Some o) × (t ≡ own_tx id q.func o)
-      by_open None e = absurd (by_none (effect_after d q given) apart (sym (tx_so None out e) ∙ is))
-      by_open (Some o) e = (o, e, by_some o (effect_after d q given) apart (sym (tx_so (Some o) out e) ∙ is))
-
-  -- in none, nothing is open
-  pub open_none : q.within ≡ None → tx_after d id q given ≡ None → open_of d q given ≡ None
-  open_none out is = by_open (open_of d q given) refl
+  -- in none, it is in none
+  pub open_none : tx_after d id q given ≡ None → open_of d q given ≡ None
+  open_none is = by_within q.within refl
     where
-      by_some : (o : OpenTx) (e : Effect) → tx_by id q.func (length given) e (Some o.begin) ≡ None → ⊥
-      by_some o effect.Begin k = cc
-      by_some o e k = cc
+      by_some : (o : RunTx) (e : Effect) → is_inherited (Some o) ≡ false → tx_by id q.func (length given) e (own_begin (Some o)) ≡ None → ⊥
+      by_some (Own o) effect.Begin own k = cc
+      by_some (Own o) e own k = cc
+      by_some (Inherited x) e own k = cc
 
-      by_open : (o : Option OpenTx) → open_of d q given ≡ o → o ≡ None
-      by_open None e = refl
-      by_open (Some o) e = absurd (by_some o (effect_after d q given) (sym (tx_so (Some o) out e) ∙ is))
+      by_open : q.within ≡ None → (o : Option RunTx) → open_of d q given ≡ o → o ≡ None
+      by_open out None e = refl
+      by_open out (Some o) e = absurd (by_some o (effect_after d q given) (ap is_inherited (sym e) ∙ open_out d q given out) (sym (tx_so out (Some o) e) ∙ is))
+
+      by_within : (w : Option TxId) → q.within ≡ w → open_of d q given ≡ None
+      by_within None out = by_open out (open_of d q given) refl
+      by_within (Some x) in_it = let clash = sym is ∙ tx_in x in_it in cc

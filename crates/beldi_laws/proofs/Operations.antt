@@ -69,7 +69,11 @@ use Rattle.beldi_known.proofs.Rows.{no_root}
 use Rattle.beldi_laws.specs.Inside.{Frame, Inside}
 use Rattle.beldi_laws.proofs.Moves.{AfterTurn, AfterQuery, SameRoots, change_entered, Entered, Kept, Stays}
 use Rattle.beldi_known.proofs.Outsides.{set_agrees}
-use Rattle.beldi_laws.proofs.Frames.{frame_done, frame_held, item_stays, items_stay, query_keeps, settled_grown, settled_outside, settled_rows}
+use Rattle.beldi_laws.proofs.Closing.{settled_after}
+use Rattle.beldi_laws.proofs.Frames.{frame_done, frame_held, item_stays, items_stay, no_finish, nobody_new, nobody_set, query_keeps, settled_grown, settled_outside}
+use Rattle.beldi_known.specs.Matches.{Matches}
+use Rattle.beldi_known.specs.Sane.{Sane}
+use Rattle.beldi_order.specs.Grown.{Grows}
 use Rattle.beldi_laws.proofs.Others.{kept_by}
 use Rattle.beldi_laws.proofs.Keeping.{SameShadows, goes_answered, stays_by}
 use Rattle.beldi_laws.proofs.Turns.{effect_here, answer_here, step_here, effect_next, wants_it, fits, not_over, goes_on, held, ends, replays, steps_on, outside_here, tx_step, tx_next, not_of_tx, plain_there, unlocked_there}
@@ -210,7 +214,8 @@ module _ (d : Deployment) (c : Core) (m : Rows) (i : ℕ) (r : Run) (g : Begun) 
 
     kept : content_of n item ≡ content_of m item → Stays h n
     kept held = stays_by h n same_shadows (content_kept d m n item same h.known h.locked sound held h.rows) (λ x. others_list m n item same x (contents_kept d m n item same held x) ∙ h.values x)
-        (frame_held d m h.plain h.plain h.known h.known (items_stay d m h.plain h.plain h.known refl) n item same (query_keeps asks c.now m (head_key item)) held)
+        (frame_held d m h.plain h.plain h.known h.known (items_stay d m h.plain h.plain h.known refl) (nobody_new d h.known) n item same (query_keeps asks c.now m (head_key item)) held)
+        (no_finish m n (head_key item) same d h.known refl)
 
     -- it was done now: it is the instance's next
     module _ (left : k.later ≡ []) (did : DidOnce place (owner.Intent r.id) op true (content_of m item) (content_of n item)) where
@@ -279,21 +284,30 @@ module _ (d : Deployment) (c : Core) (m : Rows) (i : ℕ) (r : Run) (g : Begun) 
       unlocked = unlocked_there d c m i r g h live k finds out e is left
 
       frame : Frame d m n h.plain state h.known next
-      frame = frame_done d m h.plain state h.known next (item_stays d m h.plain state next y (sets o.does old) refl unowned) n y (place_of r.id (length k.instance.answers)) op did_here
+      frame = frame_done d m h.plain state h.known next (item_stays d m h.plain state next y (sets o.does old) refl unowned) (nobody_set d h.known r.id (moved d r.id k.instance a) (ap is_some k.made)) n y (place_of r.id (length k.instance.answers)) op did_here
+
+      grows : Grows h.known next
+      grows = grows_moved d h.known r.id k.instance a k.made
+
+      sane_now : Sane d next
+      sane_now = answered_kept d h.known h.sane r.id k.instance a k.made open_still outside (is_no_call (effect_of d k.instance) o wants_op) (subst (λ z. IsAnswerTo z a) (sym now) answers_so)
+
+      rows_now : Matches d n next h.locked
+      rows_now = operation_done d h.known h.locked r.id k.instance (moved d r.id k.instance a) old o op (does_so o.does) k.made unlocked outside wants_op (moved_one d r.id k.instance a) m n did_here (value_here h y unowned) h.rows
 
       rows_done : Shows d n state next h.locked
       rows_done = record {
         goes = goes_answered h n same_shadows r.id k.instance a k.made unlocked outside state.items
             (λ j z other. set_agrees d m h.plain h.known h.locked h.shadows h.beside h.sane h.rows (legal_sane h) y (sets o.does old) unowned j z);
         locked_at_ends = ahead_set d h.known h.locked h.locked_at_ends h.locked r.id (moved d r.id k.instance a) (none_out h.locked r.id unlocked);
-        sane = answered_kept d h.known h.sane r.id k.instance a k.made open_still outside (is_no_call (effect_of d k.instance) o wants_op) (subst (λ z. IsAnswerTo z a) (sym now) answers_so);
-        rows = operation_done d h.known h.locked r.id k.instance (moved d r.id k.instance a) old o op (does_so o.does) k.made unlocked outside wants_op (moved_one d r.id k.instance a) m n did_here (value_here h y unowned) h.rows;
+        sane = sane_now;
+        rows = rows_now;
         values = done_lists m n h.plain y o.does (place_of r.id (length k.instance.answers)) did_here h.values;
-        settled = settled_rows d m n h.plain state h.known next frame (settled_grown d m h.plain state next leads.grows (settled_outside d m h.plain h.known r.id k.instance k.made a outside (settled h)));
+        settled = settled_after d c m h n state next h.locked rows_now sane_now grows frame (no_finish m n (head_key item) same d next refl) (settled_grown d m h.plain state next leads.grows (settled_outside d m h.plain h.known r.id k.instance k.made a outside (settled h)));
       }
 
       kept_done : Kept h n state next h.locked
-      kept_done = kept_by d c m n h state next h.locked rows_done (grows_moved d h.known r.id k.instance a k.made) frame
+      kept_done = kept_by d c m n h state next h.locked rows_done grows frame
 
       steps : After (Answers a (Some mark.Step))
       steps = steps_on d c m i r g h live k finds out e is a mark.Step state n left answers_so leads roots kept_done
@@ -323,7 +337,7 @@ module _ (d : Deployment) (c : Core) (m : Rows) (i : ℕ) (r : Run) (g : Begun) 
     done_before (b ∷ rest) left w noted same = again b rest left w noted same
 
     by_says : (z : WriteGoes) → Logs place (owner.Intent r.id) op (walk_so z) (content_of m item) (content_of n item) → After (write_says e z)
-    by_says (writes.On to) held = goes_on d c m i r g h live k finds out e is n (stage.Write to) roots (kept held) (may_stand r.id g.caller e o to so) (no_place d c.book r.id r.func k.answers k.later e to) tt
+    by_says (writes.On to) held = goes_on d c m i r g h live k finds out e is n (stage.Write to) refl roots (kept held) (may_stand r.id g.caller e o to so) (no_place d c.book r.id r.func k.answers k.later e to) tt
     by_says (writes.Done w true) l = done_now k.later refl w l.0 l.1
     by_says (writes.Done w false) l = done_before k.later refl w (ap (λ x. note_at x.notes place) (sym l.1) ∙ l.0) l.1
     by_says writes.NotOwner l = ends d c m i r g h live k n roots (kept l.2)

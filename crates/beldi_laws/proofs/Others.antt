@@ -1,25 +1,22 @@
 -- What the runs of others have found in the rows stays, through an event that keeps its frame.
-use Rattle.std.proofs.Common.{◌≡◌, ◌∙◌, ◌<◌, ◌==◌, ◌&&◌, ◌||◌, ℕ, Bool, true, false, List, [], ◌∷◌, ◌++◌, length, length-append, append_assoc, append-nil, Option, Some, None, is_some, refl, ap, sym, subst, arith, eq-eqb, if◌then◌else◌}
-use Rattle.std.specs.Prelude.{take, slice_get}
+use Rattle.std.proofs.Common.{◌≡◌, ◌∙◌, ◌<◌, ◌&&◌, ◌||◌, ℕ, Bool, true, false, List, [], ◌∷◌, ◌++◌, length, length-append, append_assoc, append-nil, Option, Some, None, is_some, refl, ap, sym, subst, arith, eq-eqb, if◌then◌else◌}
 use Rattle.std.specs.FinMap as map
 use Rattle.std.specs.Ordering.{is_eq}
 use Rattle.std.proofs.lemmas.Cmp.{tied_itself}
 use Rattle.beldi_value.specs.declared.id.IntentId.{IntentId}
 use Rattle.beldi_value.specs.declared.outcome.Outcome.{Outcome}
-use Rattle.beldi_value.specs.declared.place.Owner.{Owner}
-use Rattle.beldi_value.specs.declared.place.Owner.TheVariants.{Intent, Tx as ByTx}
+use Rattle.beldi_value.specs.declared.place.Owner.TheVariants.{Tx as ByTx}
 use Rattle.beldi_value.specs.declared.place.Place.{Place}
 use Rattle.beldi_value.specs.declared.place.TxId.{TxId}
 use Rattle.beldi_value.specs.declared.value.Value.{Value}
-use Rattle.beldi_value.specs.declared.value.Value.TheVariants as value
 use Rattle.beldi_tree.specs.declared.deployment.Deployment.{Deployment}
 use Rattle.beldi_lang.specs.declared.effect.Answer.{Answer}
 use Rattle.beldi_lang.specs.declared.effect.Effect.{Effect}
 use Rattle.beldi_lang.specs.declared.effect.Effect.TheVariants as effect
 use Rattle.beldi_lang.specs.declared.effect.Effect.TheVariants.{Read, CondWrite, End}
 use Rattle.beldi_lang.specs.Wants.{wants}
-use Rattle.beldi_lang.proofs.Resumes.{at_effect}
-use Rattle.beldi_row.specs.Act.{owns}
+use Rattle.beldi_lang.proofs.Resumes.{at_effect, few_answers}
+use Rattle.beldi_readlog.specs.ReadLog.{log_key}
 use Rattle.beldi_row.specs.Log.{note_at}
 use Rattle.beldi_row.specs.Table.{Rows}
 use Rattle.beldi_row.specs.declared.notes.Note.{Note}
@@ -29,48 +26,52 @@ use Rattle.beldi_daal.specs.Content.{Content}
 use Rattle.beldi_txn.specs.declared.tx.TxAt.{TxAt}
 use Rattle.beldi_txn.specs.declared.tx.TxAt.TheVariants as at
 use Rattle.beldi_txn.specs.declared.end.EndAt.{EndAt}
-use Rattle.beldi_txn.specs.declared.end.EndAt.TheVariants.{Decide, Callees, Next, Shadow, Free}
+use Rattle.beldi_txn.specs.declared.end.EndAt.TheVariants.{Decide, Callees, Next, Shadow, Free, Stamp}
 use Rattle.beldi_txn.specs.declared.end.Visit.{Visit}
 use Rattle.beldi_txn.specs.declared.end_walk.EndWalk.{EndWalk}
 use Rattle.beldi_txn.specs.Tx.{item_of, op_of}
-use Rattle.beldi_txn.specs.TxTurn.{HasLock, shadow_value}
-use Rattle.beldi_txn.specs.Visited.{Visited, IsDecided, DecidedAt, Gives, IsPast, AreMarked, decision_row, item_row, aside_row, item_in, is_own}
-use Rattle.beldi_txn.proofs.Visited.{visits_stand}
+use Rattle.beldi_txn.specs.TxTurn.{HasLock}
+use Rattle.beldi_txn.specs.Visited.{Visited, IsDecided, DecidedAt}
 use Rattle.beldi_plain.specs.Item.{Item, item_total}
 use Rattle.beldi_plain.specs.Operation.{touched}
 use Rattle.beldi_plain.specs.Plain.{Instance, PlainState, value_at, effect_of}
 use Rattle.beldi_order.specs.Grown.{Grown, Grows, GrownAt}
+use Rattle.beldi_order.specs.Sane as plain
 use Rattle.beldi_order.specs.Txs.{Txs, is_at, none_begun, tx_now, tx_after, txs_after, txs_by, along, end_of, effect_after}
 use Rattle.beldi_order.proofs.Maps.{same_some}
 use Rattle.beldi_order.proofs.Went.{txs_pushed}
 use Rattle.beldi_step.specs.declared.run.Begun.{Begun}
 use Rattle.beldi_step.specs.declared.run.OpenTx.{OpenTx}
+use Rattle.beldi_step.specs.declared.run.RunTx.{RunTx}
+use Rattle.beldi_step.specs.declared.run.RunTx.TheVariants.{Own}
 use Rattle.beldi_step.specs.declared.run.Run.{Run}
 use Rattle.beldi_step.specs.declared.run.RunAt as standing
 use Rattle.beldi_step.specs.declared.run.RunAt.TheVariants.{Looks, Registers, Begins}
 use Rattle.beldi_step.specs.declared.run.Stage.{Stage}
 use Rattle.beldi_step.specs.declared.run.Stage.TheVariants as stage
-use Rattle.beldi_step.specs.Run.{own_tx, place_of}
+use Rattle.beldi_step.specs.Run.{begin_of, place_of, tx_of}
 use Rattle.beldi_step.specs.Host.{Core}
 use Rattle.beldi_step.specs.Tables.{value_in}
-use Rattle.beldi_known.specs.Beside.{is_begin}
+use Rattle.beldi_known.specs.Beside.{Beside, is_begin}
 use Rattle.beldi_known.specs.Contents.{content_of, shadow_key, lockset_key}
-use Rattle.beldi_known.specs.Known.{Known, ahead_by, ahead_note, at_step, commit_in, decision_by, ended_by, got_before, got_by, is_decided, is_item, is_mark, is_on, last_step, note_by, note_or, owed_note, owed_read, owed_value, read_at, row_at, tx_end, value_or}
-use Rattle.beldi_known.specs.Owed.{value_for}
-use Rattle.beldi_known.specs.Rows.{LogMatches}
+use Rattle.beldi_known.specs.Known.{Known, ahead_by, ended_by, got_before, got_by, is_item, is_on, last_step, tx_end}
+use Rattle.beldi_known.specs.Sane.{Sane}
 use Rattle.beldi_known.proofs.Answers.{true_false}
-use Rattle.beldi_known.proofs.Behind.{log_there}
-use Rattle.beldi_known.proofs.Frame.{begins, step_next}
-use Rattle.beldi_order.proofs.Ends.{along_append, ended_stays, fits}
-use Rattle.beldi_known.proofs.Locks.{tx_self, tx_same}
+use Rattle.beldi_known.proofs.AtFront.{no_decision, note_is_ahead}
+use Rattle.beldi_known.proofs.Lines.{front_is, in_tx, open_owner}
+use Rattle.beldi_order.proofs.Ends.{along_append, ended_stays}
+use Rattle.beldi_known.proofs.Locks.{tx_self}
 use Rattle.beldi_known.proofs.Participants.{now_open}
 use Rattle.beldi_laws.specs.Inside.{AtStage, Found, Frame, InItem, InOperation, Inside, InsideAt, IsWriting, Released, end_walk}
-use Rattle.beldi_laws.specs.Right.{Right, Knows, KnowsAt, open_of}
+use Rattle.beldi_laws.specs.Right.{Right, Knows, KnowsAt, StageOk, is_past, open_of}
+use Rattle.beldi_laws.specs.Stands.{key_in}
 use Rattle.beldi_laws.proofs.Grown.{tx_stays}
+use Rattle.beldi_laws.proofs.InTx.{no_begin, wants_one}
 use Rattle.beldi_laws.proofs.Lives.{no_more}
-use Rattle.beldi_laws.proofs.OpenOf.{begin_of, open_begun, tx_open}
+use Rattle.beldi_laws.proofs.OpenOf.{open_begun, own_begin, tx_open}
 use Rattle.beldi_laws.proofs.Moves.{Kept}
-use Rattle.beldi_laws.proofs.Shown.{Shows}
+use Rattle.beldi_laws.proofs.Shown.{Shows, legal_sane}
+use Rattle.beldi_laws.proofs.Visits.{visit_stays}
 
 -- ---- small facts
 none_later : (xs ys : List Answer) → length (xs ++ ys) ≡ length xs → ys ≡ []
@@ -80,15 +81,6 @@ none_later xs (y ∷ ys) h = let l = length-append xs (y ∷ ys) in absurd (omeg
 or_true : (b : Bool) → (b || true) ≡ true
 or_true true = refl
 or_true false = refl
-
--- the owner, by the test of it
-pub owner_is : (t : TxId) (o : Option Owner) → owns (ByTx t) o ≡ true → o ≡ Some (ByTx t)
-owner_is t None h = cc
-owner_is t (Some (Intent i)) h = cc
-owner_is t (Some (ByTx s)) h = ap (λ z. Some (ByTx z)) (tx_same s t h)
-
-pub owns_it : (t : TxId) (o : Option Owner) → o ≡ Some (ByTx t) → owns (ByTx t) o ≡ true
-owns_it t o h = ap (owns (ByTx t)) h ∙ tx_self t
 
 -- ---- how a transaction ended
 -- by its End, where that was answered
@@ -158,38 +150,39 @@ item_touched (effect.Write t k v) = refl
 item_touched (effect.CondWrite t k r o v) = refl
 item_touched e = refl
 
+-- who writes touches one
+writes_touch : (e : Effect) → is_some (op_of e) ≡ true → is_some (touched e) ≡ true
+writes_touch (effect.Write t k v) h = refl
+writes_touch (effect.CondWrite t k r o v) h = refl
+writes_touch e h = cc
+
 -- an effect that gives back the outcome touches no item, and ends none
 no_outcome : (e : Effect) (o : Option Outcome) → (is_some (touched e) ≡ true) → ((u : Outcome) → o ≡ Some u → e ≡ effect.Return u) → o ≡ None
 no_outcome e None h over = refl
 no_outcome e (Some u) h over = let clash = sym (ap (λ z. is_some (touched z)) (over u refl)) ∙ h in cc
 
 -- ---- the step of an instance that is to be answered
-module _ (d : Deployment) (known : Known) (id : IntentId) (q : Instance) (is : map.get known id ≡ Some q) (within : q.within ≡ None) where
-  -- it is no place of a release
-  pub unmarked : is_mark d known (length q.answers) (map.get known id) ≡ false
-  unmarked = ap (is_mark d known (length q.answers)) is
-      ∙ (λ i. is_some (step_next (λ given a. commit_in (effect_after d q given)) q.answers i) || (is_decided d known (within i) && (length q.answers == last_step)))
-
-  -- it owes no note but of a lock that is ahead
-  pub owes_ahead : (x : Item) (b : Bool) → owed_note d x id b (length q.answers) (map.get known id) ≡ ahead_by x q.func (tx_now d id q) (effect_of d q) b
-  owes_ahead x b = ap (owed_note d x id b (length q.answers)) is
-      ∙ ap (λ o. note_or o (ahead_note d x id b (length q.answers) q)) (step_next (λ ts a. note_by x q.func (tx_after d id q ts) (effect_after d q ts) a) q.answers)
-      ∙ ap (λ t. if t then ahead_by x q.func (tx_now d id q) (effect_of d q) b else None) (eq-eqb (length q.answers) (length q.answers) refl)
-
 -- a lock that is ahead by this is one
 pub is_ahead : (x : Item) (f : ℕ) (t : Option TxId) (e : Effect) (b : Bool) (w : Note) → ahead_by x f t e b ≡ Some w → b ≡ true
 is_ahead x f None e b w h = cc
 is_ahead x f (Some t) e true w h = refl
 is_ahead x f (Some t) e false w h = cc
 
--- none is at an effect that touches no item
-pub none_ahead : (x : Item) (f : ℕ) (t : Option TxId) (e : Effect) (b : Bool) → touched e ≡ None → ahead_by x f t e b ≡ None
-none_ahead x f None e b h = refl
-none_ahead x f (Some t) e true h = ap (λ o. if is_item x f o then Some notes.Got else None) h
-none_ahead x f (Some t) e false h = refl
+-- ---- of who can step in an open transaction there is one
+one_steps : (d : Deployment) (p : PlainState) (known : Known) → plain.Sane d p → Sane d known → Beside d p known → (s : TxId) (i j : IntentId) (y z : Instance) → map.get known i ≡ Some y → map.get known j ≡ Some z → y.outcome ≡ None → z.outcome ≡ None → is_some (touched (effect_of d y)) ≡ true
+    → is_some (touched (effect_of d z)) ≡ true → tx_now d i y ≡ Some s → tx_now d j z ≡ Some s → i ≡ j
+one_steps d p known legal sane beside s i j y z is there on over touch touches now after =
+    let o = open_owner d p known legal sane beside s i y is on now in
+    let tx = beside.begun s.intent o.owner o.made o.begun in
+    let front = λ (k : IntentId) (w : Instance) (known_so : map.get known k ≡ Some w) (none : w.outcome ≡ None) (touched_so : is_some (touched (effect_of d w)) ≡ true) (inside : tx_now d k w ≡ Some s).
+    front_is d p known legal s.intent o.owner o.made o.begun tx k w (in_tx d p known legal s.intent o.owner o.made o.begun tx sane k w known_so (inside ∙ ap Some o.is)) known_so none (λ f v call. absurd (no_call f v call touched_so)) in
+    sym (front i y is on touch now) ∙ front j z there over touches after
+  where
+    no_call : {e : Effect} (f : ℕ) (v : Value) → e ≡ effect.Call f v → is_some (touched e) ≡ true → ⊥
+    no_call f v call touched_so = let clash = sym (ap (λ e. is_some (touched e)) call) ∙ touched_so in cc
 
 -- ---- a run, before and after the event
-module _ (d : Deployment) (c : Core) (m n : Rows) (h : Right d c m) (q : PlainState) (next : Known) (after : IntentId → Bool) (shows : Shows d n q next after) (frame : Frame d m n h.plain q h.known next)
+module _ (d : Deployment) (c : Core) (m n : Rows) (h : Right d c m) (q : PlainState) (next : Known) (after : IntentId → Bool) (shows : Shows d n q next after) (grows : Grows h.known next) (frame : Frame d m n h.plain q h.known next)
     (r : Run) (g : Begun) (k : Knows d c.book h.known r g) (j : Instance) (made : map.get next r.id ≡ Some j) (w : Grown k.instance j) where
   steps : g.machine.steps ≡ length k.answers
   steps = (at_effect d r.func k.instance.args (is_some k.instance.within) g.machine k.answers k.machine).1
@@ -202,12 +195,6 @@ module _ (d : Deployment) (c : Core) (m n : Rows) (h : Right d c m) (q : PlainSt
 
   all_then : k.answers ++ (k.later ++ w.later) ≡ j.answers
   all_then = sym (append_assoc k.answers k.later w.later) ∙ ap (λ xs. xs ++ w.later) k.run_answers ∙ w.more
-
-  within : k.instance.within ≡ None
-  within = h.uncalled r.id k.instance k.made
-
-  within_then : j.within ≡ None
-  within_then = w.within ∙ within
 
   func_then : j.func ≡ r.func
   func_then = w.func ∙ k.func
@@ -246,18 +233,15 @@ module _ (d : Deployment) (c : Core) (m n : Rows) (h : Right d c m) (q : PlainSt
     now_then = ap (effect_after d j) (sym left) ∙ wanted_then
 
   -- ---- in an open transaction
-  module _ (o : OpenTx) (is_open : g.tx ≡ Some o) where
+  module _ (o : RunTx) (is_open : g.tx ≡ Some o) where
     abbrev tx : TxId
-    tx = own_tx r.id r.func o
+    tx = tx_of r.id r.func o
 
     opened : open_of d k.instance k.answers ≡ Some o
     opened = sym k.run_open ∙ is_open
 
-    begun : (txs_after d k.instance k.answers).begun ≡ Some o.begin
-    begun = open_begun d k.instance k.answers ∙ ap begin_of opened
-
     inside : is_begin g.machine.effect ≡ false → tx_after d r.id k.instance k.answers ≡ Some tx
-    inside apart = tx_open d r.id k.instance k.answers o within opened (ap is_begin wanted ∙ apart) ∙ ap (λ f. Some (own_tx r.id f o)) k.func
+    inside apart = tx_open d r.id k.instance k.answers o opened (ap is_begin wanted ∙ apart) ∙ ap (λ f. Some (tx_of r.id f o)) k.func
 
     inside_then : is_begin g.machine.effect ≡ false → tx_after d r.id j k.answers ≡ Some tx
     inside_then apart = sym (tx_stays d r.id k.instance j k.answers w) ∙ inside apart
@@ -267,23 +251,22 @@ module _ (d : Deployment) (c : Core) (m n : Rows) (h : Right d c m) (q : PlainSt
       abbrev item : Item
       item = record { func = r.func; table = i.0; key = i.1 }
 
-      no_begin : is_begin g.machine.effect ≡ false
-      no_begin = ap is_begin is ∙ by_effect e touch
-        where
-          by_effect : (e : Effect) → touched e ≡ Some i → is_begin e ≡ false
-          by_effect effect.Begin h = cc
-          by_effect e h = refl
+      apart : is_begin g.machine.effect ≡ false
+      apart = ap is_begin is ∙ no_begin e i touch
 
       module _ (left : k.answers ≡ j.answers) where
         now_in : tx_now d r.id k.instance ≡ Some tx
-        now_in = ap (tx_after d r.id k.instance) (sym (left_here left)) ∙ inside no_begin
+        now_in = ap (tx_after d r.id k.instance) (sym (left_here left)) ∙ inside apart
 
         then_in : tx_now d r.id j ≡ Some tx
-        then_in = ap (tx_after d r.id j) (sym left) ∙ inside_then no_begin
+        then_in = ap (tx_after d r.id j) (sym left) ∙ inside_then apart
+
+        going : k.instance.outcome ≡ None
+        going = no_outcome (effect_of d k.instance) k.instance.outcome (ap is_some (ap touched (now left ∙ is) ∙ touch)) (h.sane.each r.id k.instance k.made).over
 
         -- it has not ended, before and after
         open_before : tx_end d h.known tx ≡ None
-        open_before = now_open d h.known h.sane r.id k.instance tx k.made (no_outcome (effect_of d k.instance) k.instance.outcome (ap is_some (ap touched (now left ∙ is) ∙ touch)) (h.sane.each r.id k.instance k.made).over) now_in
+        open_before = now_open d h.known h.sane r.id k.instance tx k.made going now_in
 
         open_after : tx_end d next tx ≡ None
         open_after = now_open d next shows.sane r.id j tx made (no_outcome (effect_of d j) j.outcome (ap is_some (ap touched (now_then left ∙ is) ∙ touch)) (shows.sane.each r.id j made).over) then_in
@@ -299,19 +282,24 @@ module _ (d : Deployment) (c : Core) (m n : Rows) (h : Right d c m) (q : PlainSt
             here : note_at (content_of m item).notes (place_of r.id (length k.instance.answers)) ≡ Some notes.Got
             here = ap (λ z. note_at (content_of m item).notes (place_of r.id z)) (step_here left) ∙ noted
 
+            few : length k.instance.answers < last_step
+            few = let n = few_answers d k.instance.func k.instance.args (is_some k.instance.within) k.instance.answers (wants_one (effect_of d k.instance) i (ap touched (now left ∙ is) ∙ touch)) in omega (arith, n)
+
             ahead : h.locked r.id ≡ true
-            ahead = is_ahead item k.instance.func (tx_now d r.id k.instance) (effect_of d k.instance) (h.locked r.id) notes.Got
-                (sym (owes_ahead d h.known r.id k.instance k.made within item (h.locked r.id)) ∙ sym ((h.rows.items item).notes (place_of r.id (length k.instance.answers)) (unmarked d h.known r.id k.instance k.made within)) ∙ here)
+            ahead = is_ahead item k.instance.func (tx_now d r.id k.instance) (effect_of d k.instance) (h.locked r.id) notes.Got (sym (note_is_ahead d m h.known h.locked h.rows r.id k.instance k.made few item) ∙ here)
 
         -- it stands at no write
         unwritten : is_some (op_of e) ≡ false → IsWriting d h.known tx → ⊥
-        unwritten none wr = let same : wr.instance ≡ k.instance = same_some (sym wr.made ∙ k.made) in
+        unwritten none wr =
+            let over = no_outcome (effect_of d wr.instance) wr.instance.outcome (writes_touch (effect_of d wr.instance) wr.writes) (h.sane.each wr.writer wr.instance wr.made).over in
+            let one = one_steps d h.plain h.known (legal_sane h) h.sane h.beside tx wr.writer r.id wr.instance k.instance wr.made k.made over going (writes_touch (effect_of d wr.instance) wr.writes) (ap is_some (ap touched (now left ∙ is) ∙ touch)) wr.now now_in in
+            let same : wr.instance ≡ k.instance = same_some (sym wr.made ∙ ap (map.get h.known) one ∙ k.made) in
             true_false (sym wr.writes ∙ ap (λ y. is_some (op_of (effect_of d y))) same ∙ ap (λ y. is_some (op_of y)) (now left ∙ is) ∙ none)
 
       operation : (a : TxAt) → InOperation d m h.plain h.known r.id r.func o g.machine.steps e a i → InOperation d n q next r.id r.func o g.machine.steps e a i
       operation a s = record {
         begin = s.begin;
-        asked = λ b. frame.rows (lockset_key r.id o.begin item) (s.asked b);
+        asked = λ b. frame.rows (lockset_key r.id (begin_of o) item) (s.asked b);
         locked = lock_stays a (place_of r.id g.machine.steps) (content_of m item) (content_of n item) (λ b. frame.notes item (place_of r.id g.machine.steps) b) s.locked;
         found = λ y there short.
             let left = front y there short in
@@ -327,135 +315,51 @@ module _ (d : Deployment) (c : Core) (m n : Rows) (h : Right d c m) (q : PlainSt
               let none = none_later k.answers (k.later ++ w.later) (ap length all_then ∙ ap (λ (z : Instance). length z.answers) one ∙ short ∙ steps) in
               sym (append-nil k.answers) ∙ ap (λ ys. k.answers ++ ys) (sym none) ∙ all_then
 
-    -- ---- the end
-    module _ (commit : Bool) (is : g.machine.effect ≡ End commit) (v : Visit) where
-      abbrev walk : EndWalk
-      walk = end_walk r.id r.func o g.machine.steps commit v
+  -- ---- the end of its own
+  module _ (o : OpenTx) (is_open : g.tx ≡ Some (Own o)) (commit : Bool) (is : g.machine.effect ≡ End commit) (v : Visit) (past : is_past v.at ≡ true) where
+    abbrev walk : EndWalk
+    walk = end_walk r.id r.func o g.machine.steps commit v
 
-      -- its End was answered after the event
-      module _ (ended : end_of d j o.begin ≡ Some (g.machine.steps, commit)) where
-        tx_then : tx_end d next tx ≡ Some (g.machine.steps, commit)
-        tx_then = ap (ended_by d o.begin) made ∙ ended
+    begun : (txs_after d k.instance k.answers).begun ≡ Some o.begin
+    begun = open_begun d k.instance k.answers ∙ ap own_begin (sym k.run_open ∙ is_open)
 
-        marks_then : AreMarked walk n
-        marks_then i w noted = by_own (is_own walk (item_in walk n i)) refl
-          where
-            by_own : (b : Bool) → is_own walk (item_in walk n i) ≡ b → b ≡ false
-            by_own false e = refl
-            by_own true e = absurd (shows.settled.marks tx (g.machine.steps, commit) (record { func = r.func; table = i.0; key = i.1 }) w tx_then (owner_is tx (item_in walk n i).owner e) noted)
+    -- where its step has no answer it is to decide
+    undecided : k.later ≡ [] → IsDecided walk m → ⊥
+    undecided left decided =
+        let here : k.answers ≡ k.instance.answers = sym (append-nil k.answers) ∙ ap (λ ys. k.answers ++ ys) (sym left) ∙ k.run_answers in
+        let none = no_decision d m h.known h.locked h.rows r.id k.instance k.made o.begin (ap (λ ts. (txs_after d k.instance ts).begun) (sym here) ∙ begun) in
+        let clash = sym (ap (λ f. map.get m (log_key f (place_of r.id o.begin))) (sym k.func) ∙ none) ∙ decided in cc
 
-        -- .. and before it
-        visited_by : tx_end d h.known tx ≡ Some (g.machine.steps, commit) → Visited walk m → Visited walk n
-        visited_by known_end was = visits_stand walk m n was (record {
-          decision = λ before. log_there (map.get n (decision_row walk)) (value.Bool commit) (subst (LogMatches (map.get n (decision_row walk))) decided (shows.rows.keys (decision_row walk)));
-          asides = λ i. ap shadow_value (frame.shadows tx (record { func = r.func; table = i.0; key = i.1 }) not_writing);
-          locks = λ i w there. frame.locksets tx (g.machine.steps, commit) (record { func = r.func; table = i.0; key = i.1 }) tx_then (ap is_some there);
-          items = λ i free. by_own i free (is_own walk (item_in walk n i)) refl;
-          marks = marks_then;
-          sound = λ i. (shows.rows.keys (item_row walk i), shows.rows.keys (aside_row walk i));
-        })
-          where
-            decided : owed_read d next r.func (place_of r.id o.begin) ≡ Some (value.Bool commit)
-            decided = ap (owed_value d r.func o.begin) made ∙ ap (λ f. if f == r.func then row_at d j o.begin else None) func_then ∙ ap (λ b. if b then row_at d j o.begin else None) (eq-eqb r.func r.func refl)
-                ∙ ap (λ z. value_or (decision_by z) (read_at d j o.begin)) ended
+    has_decided : (a : EndAt) → is_past a ≡ true → DecidedAt a walk m → IsDecided walk m
+    has_decided Decide at e = cc
+    has_decided Callees at e = e
+    has_decided Next at e = e
+    has_decided Shadow at e = e
+    has_decided (Free f) at e = e
+    has_decided Stamp at e = e
 
-            writes_touch : (e : Effect) → is_some (op_of e) ≡ true → is_some (touched e) ≡ true
-            writes_touch (effect.Write t k v) h = refl
-            writes_touch (effect.CondWrite t k r o v) h = refl
-            writes_touch e h = cc
-
-            not_writing : IsWriting d h.known tx → ⊥
-            not_writing wr = let clash = sym known_end ∙ now_open d h.known h.sane r.id wr.instance tx wr.made
-                (no_outcome (effect_of d wr.instance) wr.instance.outcome (writes_touch (effect_of d wr.instance) wr.writes) (h.sane.each r.id wr.instance wr.made).over) wr.now in cc
-
-            by_own : (i : ℕ × List ℕ) → is_own walk (item_in walk m i) ≡ false → (b : Bool) → is_own walk (item_in walk n i) ≡ b → b ≡ false
-            by_own i free false e = refl
-            by_own i free true e = absurd (true_false (sym (owns_it tx (item_in walk m i).owner
-                (frame.owners tx (g.machine.steps, commit) (record { func = r.func; table = i.0; key = i.1 }) tx_then (owner_is tx (item_in walk n i).owner e)).owner) ∙ free))
-
-      -- it was answered before: it was decided
-      visited_after : (a : Answer) (rest : List Answer) → k.later ≡ a ∷ rest → Visited walk m → Visited walk n
-      visited_after a rest left was =
-          let e : end_of d k.instance o.begin ≡ Some (g.machine.steps, commit) = end_here d k.instance k.answers a rest o.begin commit (ap (λ xs. k.answers ++ xs) (sym left) ∙ k.run_answers) (wanted ∙ is) begun ∙ ap (λ z. Some (z, commit)) (sym steps) in
-          visited_by (ends_then o.begin (g.machine.steps, commit) e) (ap (ended_by d o.begin) k.made ∙ e) was
-
-      -- it was not: then it is to decide
-      module _ (left : k.later ≡ []) where
-        here : k.answers ≡ k.instance.answers
-        here = sym (append-nil k.answers) ∙ ap (λ ys. k.answers ++ ys) (sym left) ∙ k.run_answers
-
-        undecided : IsDecided walk m → ⊥
-        undecided decided = let clash = sym owed_none ∙ subst (λ z. LogMatches z (owed_read d h.known r.func (place_of r.id o.begin))) decided (h.rows.keys (decision_row walk)) in cc
-          where
-            not_ended : end_of d k.instance o.begin ≡ None
-            not_ended = (fits d k.instance).not_ended o.begin (ap (λ ts. (txs_after d k.instance ts).begun) (sym here) ∙ begun)
-
-            begin_there : effect_after d k.instance (take o.begin k.instance.answers) ≡ effect.Begin
-            begin_there = (begins d k.instance k.instance.answers).begun o.begin (ap (λ ts. (txs_after d k.instance ts).begun) (sym here) ∙ begun)
-
-            unread : (z : Option Answer) → at_step (λ given a. value_for (effect_after d k.instance given) a) (take o.begin k.instance.answers) z ≡ None
-            unread None = refl
-            unread (Some a) = ap (λ e. value_for e a) begin_there
-
-            owed_none : owed_read d h.known r.func (place_of r.id o.begin) ≡ None
-            owed_none = ap (owed_value d r.func o.begin) k.made ∙ ap (λ f. if f == r.func then row_at d k.instance o.begin else None) k.func ∙ ap (λ b. if b then row_at d k.instance o.begin else None) (eq-eqb r.func r.func refl)
-                ∙ ap (λ z. value_or (decision_by z) (read_at d k.instance o.begin)) not_ended ∙ unread (slice_get k.instance.answers o.begin)
-
-        to_decide : (a : EndAt) → DecidedAt a walk m → a ≡ Decide
-        to_decide Decide e = refl
-        to_decide Callees e = absurd (undecided e)
-        to_decide Next e = absurd (undecided e)
-        to_decide Shadow e = absurd (undecided e)
-        to_decide (Free f) e = absurd (undecided e)
-
-        -- no item has a note of its end that is its own
-        marks_before : (rest : List Answer) → w.later ≡ rest → AreMarked walk n
-        marks_before [] none i noted_by noted = let clash = sym noted ∙ no_note in cc
-          where
-            all : k.answers ≡ j.answers
-            all = here ∙ sym (append-nil k.instance.answers) ∙ ap (λ ys. k.instance.answers ++ ys) (sym none) ∙ w.more
-
-            short : length j.answers ≡ g.machine.steps
-            short = ap length (sym all) ∙ sym steps
-
-            no_note : note_at (content_of n (record { func = r.func; table = i.0; key = i.1 })).notes (place_of r.id g.machine.steps) ≡ None
-            no_note = let x : Item = record { func = r.func; table = i.0; key = i.1 } in
-                ap (λ z. note_at (content_of n x).notes (place_of r.id z)) (sym short)
-                ∙ (shows.rows.items x).notes (place_of r.id (length j.answers)) (unmarked d next r.id j made within_then)
-                ∙ owes_ahead d next r.id j made within_then x (after r.id)
-                ∙ none_ahead x j.func (tx_now d r.id j) (effect_of d j) (after r.id) (ap touched (ap (effect_after d j) (sym all) ∙ wanted_then ∙ is))
-        marks_before (a ∷ rest) more i noted_by noted = marks_then (end_here d j k.answers a rest o.begin commit (ap (λ xs. k.answers ++ xs) (sym more) ∙ ap (λ xs. k.answers ++ (xs ++ w.later)) (sym left) ∙ all_then) (wanted_then ∙ is)
-            (ap (λ (s : Txs). s.begun) (sym (txs_stay d k.instance j k.answers w)) ∙ begun) ∙ ap (λ z. Some (z, commit)) (sym steps)) i noted_by noted
-
-        visited_before : Visited walk m → Visited walk n
-        visited_before was = let at : v.at ≡ Decide = to_decide v.at was.decided in record {
-          decided = subst (λ a. DecidedAt a walk n) (sym at) tt;
-          item = was.item;
-          gives = subst (λ a. Gives a walk n v.item) (sym at) tt;
-          freed = λ i w there past. absurd (subst (λ a. IsPast a walk v.item i) at past);
-          marked = marks_before w.later refl;
-          sound = λ i. (shows.rows.keys (item_row walk i), shows.rows.keys (aside_row walk i));
-        }
-
-      visited : Visited walk m → Visited walk n
-      visited was = by_later k.later refl
-        where
-          by_later : (ys : List Answer) → k.later ≡ ys → Visited walk n
-          by_later [] left = visited_before left was
-          by_later (a ∷ rest) left = visited_after a rest left was
+    -- so it has ended
+    visited : Visited walk m → Visited walk n
+    visited was = by_later k.later refl
+      where
+        by_later : (ys : List Answer) → k.later ≡ ys → Visited walk n
+        by_later [] left = absurd (undecided left (has_decided v.at past was.decided))
+        by_later (a ∷ rest) left =
+            let ends : end_of d k.instance o.begin ≡ Some (g.machine.steps, commit) = end_here d k.instance k.answers a rest o.begin commit (ap (λ xs. k.answers ++ xs) (sym left) ∙ k.run_answers) (wanted ∙ is) begun ∙ ap (λ z. Some (z, commit)) (sym steps) in
+            visit_stays d c m n h q next after shows grows frame walk (ap (ended_by d o.begin) k.made ∙ ends) (ap (ended_by d o.begin) made ∙ ends_then o.begin (g.machine.steps, commit) ends) j made func_then was
 
   -- ---- where it stands
-  in_item : (o : OpenTx) → g.tx ≡ Some o → (e : Effect) → g.machine.effect ≡ e → (a : TxAt) (i : Option (ℕ × List ℕ)) → touched e ≡ i → InItem d m h.plain h.known r.id r.func o g.machine.steps e a i → InItem d n q next r.id r.func o g.machine.steps e a i
+  in_item : (o : RunTx) → g.tx ≡ Some o → (e : Effect) → g.machine.effect ≡ e → (a : TxAt) (i : Option (ℕ × List ℕ)) → touched e ≡ i → InItem d m h.plain h.known r.id r.func o g.machine.steps e a i → InItem d n q next r.id r.func o g.machine.steps e a i
   in_item o is_open e is a None touch s = tt
   in_item o is_open e is a (Some i) touch s = operation o is_open e is i touch a s
 
-  at_stage : (o : Option OpenTx) → g.tx ≡ o → (e : Effect) → g.machine.effect ≡ e → (s : Stage) → AtStage d m h.plain h.known r.id r.func o g.machine.steps e s → AtStage d n q next r.id r.func o g.machine.steps e s
-  at_stage (Some o) is_open e is (stage.Tx a) s = in_item o is_open e is a (item_of e) (sym (item_touched e)) s
-  at_stage (Some o) is_open (End commit) is (stage.End v) s = visited o is_open commit is v s
-  at_stage o is_open e is s k = tt
+  at_stage : (o : Option RunTx) → g.tx ≡ o → (e : Effect) → g.machine.effect ≡ e → (s : Stage) → StageOk (tx_after d r.id k.instance k.answers) r.id g.caller e s → AtStage d m h.plain h.known r.id r.func o g.machine.steps e s → AtStage d n q next r.id r.func o g.machine.steps e s
+  at_stage (Some o) is_open e is (stage.Tx a) ok s = in_item o is_open e is a (item_of e) (sym (item_touched e)) s
+  at_stage (Some (Own o)) is_open (End commit) is (stage.End v) ok s = visited o is_open commit is v (subst (λ t. StageOk t r.id g.caller (End commit) (stage.End v)) (inside (Own o) is_open (ap is_begin is)) ok) s
+  at_stage o is_open e is s ok k = tt
 
   found : Inside d m h.plain h.known r g → Inside d n q next r g
-  found s = record { here = at_stage g.tx refl g.machine.effect refl g.stage s.here; released = released s.released }
+  found s = record { here = at_stage g.tx refl g.machine.effect refl g.stage k.run_stage s.here; released = released s.released; row = λ callee. frame.rows (key_in r.func r.id) (s.row callee) }
 
 -- what others have found stays
 pub kept_by : (d : Deployment) (c : Core) (m n : Rows) (h : Right d c m) (q : PlainState) (next : Known) (after : IntentId → Bool) → Shows d n q next after → Grows h.known next → Frame d m n h.plain q h.known next → Kept h n q next after
@@ -463,7 +367,7 @@ kept_by d c m n h q next after shows grows frame = record { shows = shows; grows
   where
     grown : (r : Run) (g : Begun) (k : Knows d c.book h.known r g) (o : Option Instance) → map.get next r.id ≡ o → GrownAt (Some k.instance) o → Inside d m h.plain h.known r g → Inside d n q next r g
     grown r g k None there w s = absurd w
-    grown r g k (Some j) there w s = found d c m n h q next after shows frame r g k j there w s
+    grown r g k (Some j) there w s = found d c m n h q next after shows grows frame r g k j there w s
 
     others : (r : Run) (at : standing.RunAt) → KnowsAt d c.book h.known r at → InsideAt d m h.plain h.known r at → InsideAt d n q next r at
     others r Looks k s = tt

@@ -1,5 +1,5 @@
 -- Steps outside transactions: where no Begin is open. There what is known of an instance is what the plain state has.
-use Rattle.std.proofs.Common.{Bool, true, false, ◌≡◌, ◌∙◌, inl, List, [], ◌∷◌, ◌++◌, Option, Some, None, refl, ap, sym, subst, length, ◌&&◌}
+use Rattle.std.proofs.Common.{Bool, true, false, ◌≡◌, ◌∙◌, inl, List, [], ◌∷◌, ◌++◌, Option, Some, None, refl, ap, sym, subst, length, ◌&&◌, is_some}
 use Rattle.std.specs.FinMap as map
 use Rattle.std.specs.FinMap.{FinMap}
 use Rattle.std.specs.Option.{is_none}
@@ -29,11 +29,12 @@ use Rattle.beldi_order.proofs.Locks.{from_begin}
 use Rattle.beldi_step.specs.declared.run.Stage.{Stage}
 use Rattle.beldi_known.specs.Beside.{Beside, is_begin, begins}
 use Rattle.beldi_known.specs.Known.{Known}
-use Rattle.beldi_order.specs.Txs.{txs_after, txs_by, Txs, effect_after}
+use Rattle.beldi_order.specs.Txs.{txs_after, txs_by, tx_by, or_own, Txs, effect_after}
 use Rattle.beldi_order.proofs.Went.{txs_pushed}
 use Rattle.beldi_known.proofs.Lines.{owner_is}
 use Rattle.beldi_known.proofs.NoTx.{IsOutside, begins_parts}
-use Rattle.beldi_laws.specs.Inside.{NoneIsInside}
+use Rattle.beldi_known.specs.Sane.{Sane}
+use Rattle.beldi_known.proofs.Phases.{inside_holds_none}
 use Rattle.beldi_laws.specs.Right.{StageOk}
 use Rattle.beldi_laws.proofs.Grown.{grown_same}
 use Rattle.beldi_plain.specs.Holds.{holds}
@@ -133,45 +134,44 @@ module _ (d : Deployment) (p : PlainState) (known : Known) (beside : Beside d p 
       and_false true = refl
       and_false false = refl
 
--- ---- where nobody was called in a transaction
-module _ (d : Deployment) (p : PlainState) (known : Known) (beside : Beside d p known) (uncalled : NoneIsInside d known) (id : IntentId) where
-  -- who is known was made
-  pub made_of : (k : Instance) → map.get known id ≡ Some k → (q : Instance) × (map.get p.made id ≡ Some q) × Grown q k × (k.outcome ≡ q.outcome)
-  made_of k is = by_plain (map.get p.made id) refl
-    where
-      by_plain : (o : Option Instance) → map.get p.made id ≡ o → (q : Instance) × (map.get p.made id ≡ Some q) × Grown q k × (k.outcome ≡ q.outcome)
-      by_plain None made = let clash = sym (uncalled id k is) ∙ (beside.kept id k made is).within in cc
-      by_plain (Some q) made = let z = known_of d p known beside id q made in let same : z.instance ≡ k = same_some (sym z.is ∙ is) in (q, made, subst (Grown q) same z.grown, ap (λ (y : Instance). y.outcome) (sym same) ∙ z.outcome)
+-- ---- who was called in no transaction
+module _ (d : Deployment) (p : PlainState) (known : Known) (beside : Beside d p known) (id : IntentId) where
+  -- it was made
+  module _ (k : Instance) (is : map.get known id ≡ Some k) (own : k.within ≡ None) where
+    pub made_of : (q : Instance) × (map.get p.made id ≡ Some q) × Grown q k × (k.outcome ≡ q.outcome)
+    made_of = by_plain (map.get p.made id) refl
+      where
+        by_plain : (o : Option Instance) → map.get p.made id ≡ o → (q : Instance) × (map.get p.made id ≡ Some q) × Grown q k × (k.outcome ≡ q.outcome)
+        by_plain None made = let clash = sym own ∙ (beside.kept id k made is).within in cc
+        by_plain (Some q) made = let z = known_of d p known beside id q made in let same : z.instance ≡ k = same_some (sym z.is ∙ is) in (q, made, subst (Grown q) same z.grown, ap (λ (y : Instance). y.outcome) (sym same) ∙ z.outcome)
 
-  pub known_none : map.get p.made id ≡ None → map.get known id ≡ None
-  known_none made = by_known (map.get known id) refl
-    where
-      by_known : (o : Option Instance) → map.get known id ≡ o → o ≡ None
-      by_known None is = refl
-      by_known (Some k) is = let clash = sym (made_of k is).1 ∙ made in cc
+    -- outside it is known as the plain state has it
+    pub plain_here : plain.Sane d p → (txs_after d k k.answers).begun ≡ None → map.get p.made id ≡ Some k
+    plain_here sane out = let q = made_of in q.1 ∙ by_begin q.0 q.1 (begins d q.0) refl
+      where
+        by_begin : (q : Instance) → map.get p.made id ≡ Some q → (b : Bool) → begins d q ≡ b → Some q ≡ Some k
+        by_begin q made false e = sym (beside.same id q made e) ∙ is
+        by_begin q made true e =
+            let z = owner_is d p known sane id q made e (beside.begun id q made e) in
+            let clash = sym out ∙ ap (λ (y : Instance). (txs_after d y y.answers).begun) (same_some (sym is ∙ z.1)) ∙ z.2.begun in cc
 
   -- an outcome that is known is the plain one
-  pub outcome_known : outcome_of (map.get known id) ≡ outcome_of (map.get p.made id)
-  outcome_known = by_plain (map.get p.made id) refl
+  pub outcome_known : ((k : Instance) → map.get known id ≡ Some k → k.within ≡ None) → outcome_of (map.get known id) ≡ outcome_of (map.get p.made id)
+  outcome_known own = by_known (map.get known id) refl
     where
-      by_plain : (o : Option Instance) → map.get p.made id ≡ o → outcome_of (map.get known id) ≡ outcome_of o
-      by_plain None made = ap outcome_of (known_none made)
-      by_plain (Some q) made = let z = known_of d p known beside id q made in ap outcome_of z.is ∙ z.outcome
+      by_known : (o : Option Instance) → map.get known id ≡ o → outcome_of o ≡ outcome_of (map.get p.made id)
+      by_known None none = ap outcome_of (sym (plain_none d p known beside id none))
+      by_known (Some k) is = let q = made_of k is (own k is) in q.3 ∙ ap outcome_of (sym q.1)
 
-  -- who is outside is known as the plain state has it
-  pub plain_here : (k : Instance) → map.get known id ≡ Some k → plain.Sane d p → IsOutside d k k.answers → map.get p.made id ≡ Some k
-  plain_here k is sane out = let q = made_of k is in q.1 ∙ by_begin q.0 q.1 (begins d q.0) refl
+  -- ---- who holds a lock is known to hold it, and nobody else is: who was called in a transaction holds none
+  pub holds_known : Sane d known → (x : Item) → holds d x (map.get known id) ≡ holds d x (map.get p.made id)
+  holds_known sane x = by_plain (map.get p.made id) refl
     where
-      by_begin : (q : Instance) → map.get p.made id ≡ Some q → (b : Bool) → begins d q ≡ b → Some q ≡ Some k
-      by_begin q made false e = sym (beside.same id q made e) ∙ is
-      by_begin q made true e =
-          let z = owner_is d p known sane id q made e (beside.begun id q made e) in
-          let clash = sym out.1 ∙ ap (λ (y : Instance). (txs_after d y y.answers).begun) (same_some (sym is ∙ z.1)) ∙ z.2.begun in cc
+      kept_holds : (o : Option Instance) → map.get known id ≡ o → map.get p.made id ≡ None → holds d x o ≡ false
+      kept_holds None is none = refl
+      kept_holds (Some k) is none = inside_holds_none d id k (sane.each id k is)
+          (ap (λ w. is_some (or_own w (tx_by id k.func (length k.answers) (effect_of d k) (txs_after d k k.answers).begun))) (beside.kept id k none is).within) x
 
-  -- who holds a lock is known to hold it, and nobody else is
-  pub holds_known : (x : Item) → holds d x (map.get known id) ≡ holds d x (map.get p.made id)
-  holds_known x = by_plain (map.get p.made id) refl
-    where
       by_begin : (q : Instance) → map.get p.made id ≡ Some q → (b : Bool) → begins d q ≡ b → holds d x (map.get known id) ≡ holds d x (Some q)
       by_begin q made false e = ap (holds d x) (beside.same id q made e)
       by_begin q made true e =
@@ -180,5 +180,5 @@ module _ (d : Deployment) (p : PlainState) (known : Known) (beside : Beside d p 
           ap (holds d x) (at.whole id (inl refl)) ∙ from_begin d x p id q at.moves at.going made b.0 b.1 at.leads id ∙ ap (holds d x) made
 
       by_plain : (o : Option Instance) → map.get p.made id ≡ o → holds d x (map.get known id) ≡ holds d x o
-      by_plain None made = ap (holds d x) (known_none made)
+      by_plain None none = kept_holds (map.get known id) refl none
       by_plain (Some q) made = by_begin q made (begins d q) refl

@@ -58,7 +58,8 @@ use Rattle.beldi_known.proofs.Rows.{no_root, set_others}
 use Rattle.beldi_laws.proofs.Lives.{places_late}
 use Rattle.beldi_laws.specs.Inside.{Frame, Inside}
 use Rattle.beldi_laws.proofs.Moves.{AfterAct, AfterTurn, Entered, Kept}
-use Rattle.beldi_laws.proofs.Frames.{frame_row, items_stay, settled_grown, settled_outside, settled_rows}
+use Rattle.beldi_laws.proofs.Closing.{settled_after}
+use Rattle.beldi_laws.proofs.Frames.{frame_log, items_stay, no_finish, nobody_set, settled_grown, settled_outside}
 use Rattle.beldi_laws.proofs.Others.{kept_by}
 use Rattle.beldi_laws.proofs.Grown.{grows_moved}
 use Rattle.beldi_laws.proofs.Keeping.{as_it_was, goes_answered, set_shadows}
@@ -80,7 +81,10 @@ use Rattle.beldi_known.proofs.Outside.{read_added, no_tx}
 use Rattle.beldi_known.proofs.Frame.{moved_one}
 use Rattle.beldi_laws.specs.Outside.{IsAnswerTo}
 use Rattle.beldi_plain.specs.Operation.{op_of}
-use Rattle.beldi_known.proofs.ReadLists.{read_lists}
+use Rattle.beldi_known.proofs.Begun.{got_begun}
+use Rattle.beldi_known.proofs.ReadLists.{begun_lists}
+use Rattle.beldi_known.specs.Sane.{Sane}
+use Rattle.beldi_order.specs.Grown.{Grows}
 use Rattle.beldi_known.specs.Listed.{listed}
 use Rattle.beldi_value.specs.declared.place.TxId.{TxId}
 
@@ -124,7 +128,7 @@ module _ (d : Deployment) (c : Core) (m : Rows) (i : ℕ) (r : Run) (g : Begun) 
   -- ---- it asks for what was given
   walks : Left (On stage.Walk None) m
   unfolding Left
-  walks = goes_on d c m i r g h live k finds out (Read t key) is m stage.Walk (λ u. refl) (as_it_was h) tt tt tt
+  walks = goes_on d c m i r g h live k finds out (Read t key) is m stage.Walk refl (λ u. refl) (as_it_was h) tt tt tt
 
   abbrev asked : Option Row → Type 0
   asked w = let z = act Look c.now w in Left (ask_says (given_of (said z.1))) (set_row m (log_key r.func place) z.0)
@@ -149,7 +153,7 @@ module _ (d : Deployment) (c : Core) (m : Rows) (i : ℕ) (r : Run) (g : Begun) 
       few = let n = ap length (linear_changes c.book) in omega (arith, n)
 
   found : (o : Option Value) → value_at h.plain item ≡ or_null o → in_the_way (Some (owner.Intent r.id)) (content_of m item).owner ≡ None → AfterTurn d h.plain c i r (turned_by d r g (walk_says (count_changes c.book) (reads.Got o))) m
-  found o same free = goes_on d c m i r g h live k finds out (Read t key) is m (stage.Keep (or_null o) (count_changes c.book)) (λ u. refl) (as_it_was h) tt (record {
+  found o same free = goes_on d c m i r g h live k finds out (Read t key) is m (stage.Keep (or_null o) (count_changes c.book)) refl (λ u. refl) (as_it_was h) tt (record {
     few = omega arith;
     was_there = λ none. record {
       state = h.plain;
@@ -245,23 +249,33 @@ module _ (d : Deployment) (c : Core) (m : Rows) (i : ℕ) (r : Run) (g : Begun) 
       own_key = λ i. log_key (k.func i) (place_of r.id (sym (step_here d c.book h.known r g k left) i))
 
       frame : Frame d m n h.plain state h.known next
-      frame = frame_row d m h.plain state h.known next (items_stay d m h.plain state next refl) (log_key r.func place) (Some (rows.ReadLog v)) refl refl
+      frame = frame_log d m h.plain state h.known next (items_stay d m h.plain state next refl) (nobody_set d h.known r.id (moved d r.id k.instance (answer.Value v)) (ap is_some k.made)) r.func place (Some (rows.ReadLog v)) refl
+
+      sane_now : Sane d next
+      sane_now = answered_kept d h.known h.sane r.id k.instance (answer.Value v) k.made open_still outside (ap is_call now) (subst (λ e. IsAnswerTo e (answer.Value v)) (sym now) tt)
+
+      rows_now : Matches d n next h.locked
+      rows_now = subst (λ z. Matches d (set_row m z (Some (rows.ReadLog v))) next h.locked) own_key
+          (read_added d h.known h.locked r.id k.instance (moved d r.id k.instance (answer.Value v)) (answer.Value v) k.made unlocked (inl outside) (ap commit_in now) (moved_one d r.id k.instance (answer.Value v))
+          m v (ap op_of now) (ap (λ e. row_added (length k.instance.answers) (txs_after d k.instance k.instance.answers).begun e (answer.Value v)) now) h.rows)
+
+      grows : Grows h.known next
+      grows = grows_moved d h.known r.id k.instance (answer.Value v) k.made
 
       read_rows : Shows d n state next h.locked
       read_rows = record {
         goes = goes_answered h n (set_shadows m (log_key r.func place) (Some (rows.ReadLog v)) refl) r.id k.instance (answer.Value v) k.made unlocked outside h.plain.items (λ j z other x owned. refl);
         locked_at_ends = ahead_set d h.known h.locked h.locked_at_ends h.locked r.id (moved d r.id k.instance (answer.Value v)) (none_out h.locked r.id unlocked);
-        sane = answered_kept d h.known h.sane r.id k.instance (answer.Value v) k.made open_still outside (ap is_call now) (subst (λ e. IsAnswerTo e (answer.Value v)) (sym now) tt);
-        rows = subst (λ z. Matches d (set_row m z (Some (rows.ReadLog v))) next h.locked) own_key
-            (read_added d h.known h.locked r.id k.instance (moved d r.id k.instance (answer.Value v)) (answer.Value v) k.made unlocked (inl outside) (ap commit_in now) (moved_one d r.id k.instance (answer.Value v))
-            m v (ap op_of now) (ap (λ e. row_added (length k.instance.answers) (txs_after d k.instance k.instance.answers).begun e (answer.Value v)) now) h.rows);
+        sane = sane_now;
+        rows = rows_now;
         values = λ x. subst (λ z. listed (set_row m z (Some (rows.ReadLog v))) x ≡ value_at h.plain x) own_key
-            (read_lists d m h.known h.locked h.rows.txs (λ j z at. h.uncalled j z at) r.id k.instance k.made (Some (rows.ReadLog v)) x ∙ h.values x);
-        settled = settled_rows d m n h.plain state h.known next frame (settled_grown d m h.plain state next read_entered.grows (settled_outside d m h.plain h.known r.id k.instance k.made (answer.Value v) outside (settled h)));
+            (begun_lists d m h.known h.locked h.rows.txs (λ u y got. got_begun d h.known h.sane h.locked u y got) r.id k.instance k.made (Some (rows.ReadLog v)) x ∙ h.values x);
+        settled = settled_after d c m h n state next h.locked rows_now sane_now grows frame (no_finish m n (log_key r.func place) (set_others m (log_key r.func place) (Some (rows.ReadLog v))) d next refl)
+            (settled_grown d m h.plain state next read_entered.grows (settled_outside d m h.plain h.known r.id k.instance k.made (answer.Value v) outside (settled h)));
       }
 
       kept_rows : Kept h n state next h.locked
-      kept_rows = kept_by d c m n h state next h.locked read_rows (grows_moved d h.known r.id k.instance (answer.Value v) k.made) frame
+      kept_rows = kept_by d c m n h state next h.locked read_rows grows frame
 
     keeps : k.later ≡ [] → Left (Answers (answer.Value v) (Some (mark.Read seen))) (set_row m (log_key r.func place) (Some (rows.ReadLog v)))
     unfolding Left

@@ -1,8 +1,9 @@
 -- A row of an intent or of a call was set: rows match what is known, after the row of a callee was put or a call was marked as registered, and a turn that does no more keeps all.
-use Rattle.std.proofs.Common.{◌≡◌, ℕ, Bool, true, false, Option, None, Some, refl, ap, sym, ◌∙◌, subst, is_some}
+use Rattle.std.proofs.Common.{◌≡◌, ℕ, Bool, true, false, cond, Option, None, Some, refl, ap, sym, ◌∙◌, subst, is_some}
 use Rattle.std.specs.FinMap as map
 use Rattle.beldi_intent.specs.Intent.{issued_at}
 use Rattle.beldi_invokelog.specs.InvokeLog.{invoke_key}
+use Rattle.beldi_row.proofs.Gets.{got, key_self}
 use Rattle.beldi_row.proofs.Unchanged.{unchanged}
 use Rattle.beldi_row.specs.Act.{act, register_to}
 use Rattle.beldi_row.specs.Table.{Rows, set_row, after_act}
@@ -21,16 +22,26 @@ use Rattle.beldi_value.specs.declared.place.Place.{Place}
 use Rattle.beldi_value.specs.declared.place.TxId.{TxId}
 use Rattle.beldi_known.specs.Rows.{HasNoRow, IsBodyOf, CalleeMatches, FinishMatches, IntentMatches, CallMatches, OutcomeMatches}
 use Rattle.beldi_known.specs.Known.{Known, owed_call}
-use Rattle.beldi_known.specs.Matches.{Matches, has_ended}
+use Rattle.beldi_known.specs.Matches.{LockedAtEnds, Matches, has_ended}
 use Rattle.beldi_known.proofs.Acts.{is_shadow}
 use Rattle.beldi_known.proofs.Intents.{callee_put}
 use Rattle.beldi_known.proofs.Sets.{is_log as is_row_log, row_put}
-use Rattle.beldi_laws.proofs.Frames.{is_entry, frame_still, frame_row, items_stay}
+use Rattle.beldi_laws.proofs.Closing.{settled_after}
+use Rattle.beldi_laws.proofs.Frames.{NobodyJoins, NoFinish, is_entry, is_intent, frame_still, frame_row, items_stay, no_finish, no_new_finish, nobody_new}
+use Rattle.beldi_laws.proofs.Others.{kept_by}
 use Rattle.beldi_laws.proofs.Keeping.{SameShadows, set_shadows, stays_by}
-use Rattle.beldi_laws.specs.Inside.{Frame}
-use Rattle.beldi_plain.specs.Plain.{PlainState}
-use Rattle.beldi_laws.proofs.Moves.{Stays}
-use Rattle.beldi_laws.proofs.Shown.{log_values}
+use Rattle.beldi_laws.specs.Inside.{Frame, has_finish}
+use Rattle.beldi_txn.specs.Invokes.{func_called}
+use Rattle.std.specs.Option.{option_map}
+use Rattle.beldi_plain.specs.Item.{Item}
+use Rattle.beldi_plain.specs.Plain.{PlainState, value_at}
+use Rattle.beldi_order.specs.Grown.{Grows}
+use Rattle.beldi_known.specs.InsideLaws.{Goes}
+use Rattle.beldi_known.specs.Listed.{listed}
+use Rattle.beldi_known.specs.Sane.{Sane}
+use Rattle.beldi_known.proofs.Rows.{set_others}
+use Rattle.beldi_laws.proofs.Moves.{Kept, Stays}
+use Rattle.beldi_laws.proofs.Shown.{Settled, log_values}
 use Rattle.beldi_laws.specs.Right.{Right}
 use Rattle.beldi_row.specs.declared.key.Kind.{Kind}
 use Rattle.beldi_step.specs.Host.{Core}
@@ -41,34 +52,81 @@ log_kind (kinds.Intent id) kind = (refl, refl)
 log_kind (kinds.Invoke a) kind = (refl, refl)
 log_kind k kind = cc
 
-module _ (d : Deployment) (m : Rows) (k : RowKey) (v : Option Row) (kind : is_row_log k.kind ≡ true) (there : is_some (map.get m k) ≡ true → is_some v ≡ true) where
+-- a row that is set keeps what others found there: that it is there, its finish, and the function that was called
+pub record StaysRow (r v : Option Row) : Type 0 where
+  pub there : is_some r ≡ true → is_some v ≡ true
+  pub finish : has_finish r ≡ true → has_finish v ≡ true
+  pub calls : (g : ℕ) → option_map func_called r ≡ Some g → option_map func_called v ≡ Some g
+
+pub stays_same : (r : Option Row) → StaysRow r r
+stays_same r = record { there = λ e. e; finish = λ e. e; calls = λ g e. e }
+
+-- .. as a new one does
+pub stays_new : (r v : Option Row) → r ≡ None → StaysRow r v
+stays_new r v none = record {
+  there = λ e. let clash = sym (ap is_some none) ∙ e in cc;
+  finish = λ e. let clash = sym (ap has_finish none) ∙ e in cc;
+  calls = λ g e. let clash = sym (ap (option_map func_called) none) ∙ e in cc;
+}
+
+-- .. a call that is marked, or has its result
+pub stays_call : (r : Option Row) (x y : InvokeRow) → r ≡ Some (rows.Invoke x) → y.func ≡ x.func → StaysRow r (Some (rows.Invoke y))
+stays_call r x y is func = record {
+  there = λ e. refl;
+  finish = λ e. let clash = sym (ap has_finish is) ∙ e in cc;
+  calls = λ g e. ap Some func ∙ sym (ap (option_map func_called) is) ∙ e;
+}
+
+pub stays_marked : (now : ℕ) (r : Option Row) → StaysRow r (act NoteRegistered now r).0
+stays_marked now None = stays_same None
+stays_marked now (Some (rows.Invoke x)) = by_mark x x.registered
+  where
+    by_mark : (x : InvokeRow) (b : Bool) → StaysRow (Some (rows.Invoke x)) (Some (rows.Invoke (register_to x b).0))
+    by_mark x true = stays_same (Some (rows.Invoke x))
+    by_mark x false = stays_call (Some (rows.Invoke x)) x (record x { registered = true }) refl refl
+stays_marked now (Some w) = stays_same (Some w)
+
+module _ (d : Deployment) (m : Rows) (k : RowKey) (v : Option Row) (kind : is_row_log k.kind ≡ true) where
   pub log_shadows : SameShadows m (set_row m k v)
   log_shadows = set_shadows m k v (log_kind k.kind kind).0
 
-  -- the items are as before
-  pub log_frame : (p q : PlainState) (known next : Known) → q.items ≡ p.items → Frame d m (set_row m k v) p q known next
-  log_frame p q known next items = by_row v there
+  -- the items are as before, and nobody joins a transaction that has ended
+  pub log_frame : StaysRow (map.get m k) v → (p q : PlainState) (known next : Known) → q.items ≡ p.items → NobodyJoins d known next → Frame d m (set_row m k v) p q known next
+  log_frame stays p q known next items joins = by_row v stays
     where
       absent : (o : Option Row) → (is_some o ≡ true → false ≡ true) → None ≡ o
       absent None e = refl
       absent (Some w) e = let clash = e refl in cc
 
-      by_row : (v : Option Row) → (is_some (map.get m k) ≡ true → is_some v ≡ true) → Frame d m (set_row m k v) p q known next
-      by_row None e = subst (λ n. Frame d m n p q known next) (sym (unchanged m k None (absent (map.get m k) e))) (frame_still d m p q known next (items_stay d m p q next items))
-      by_row (Some w) e = frame_row d m p q known next (items_stay d m p q next items) k (Some w) (log_kind k.kind kind).1 refl
+      by_row : (v : Option Row) → StaysRow (map.get m k) v → Frame d m (set_row m k v) p q known next
+      by_row None s = subst (λ n. Frame d m n p q known next) (sym (unchanged m k None (absent (map.get m k) s.there))) (frame_still d m p q known next (items_stay d m p q next items) joins)
+      by_row (Some w) s = frame_row d m p q known next (items_stay d m p q next items) joins k (Some w) (log_kind k.kind kind).1 refl s.finish s.calls
 
   -- nothing else moves
-  pub log_stays : (c : Core) (h : Right d c m) → Matches d (set_row m k v) h.known h.locked → Stays h (set_row m k v)
-  log_stays c h rows = stays_by h (set_row m k v) log_shadows rows (log_values h k v kind) (log_frame h.plain h.plain h.known h.known refl)
+  pub log_stays : (c : Core) (h : Right d c m) → StaysRow (map.get m k) v → NoFinish d m (set_row m k v) h.known → Matches d (set_row m k v) h.known h.locked → Stays h (set_row m k v)
+  log_stays c h stays none rows = stays_by h (set_row m k v) log_shadows rows (log_values h k v kind) (log_frame stays h.plain h.plain h.known h.known refl (nobody_new d h.known)) none
 
-no_finish : (ended : TxId → Bool) (t : Option TxId) → FinishMatches ended t None None
-no_finish ended None = refl
-no_finish ended (Some t) = λ e. cc
+-- nobody gets a finish: the row is none of an intent, or had one before
+pub no_intent : (d : Deployment) (m : Rows) (k : RowKey) (v : Option Row) (next : Known) → is_intent k.kind ≡ false → NoFinish d m (set_row m k v) next
+no_intent d m k v next off = no_finish m (set_row m k v) k (set_others m k v) d next off
+
+pub no_more : (d : Deployment) (m : Rows) (k : RowKey) (v : Option Row) (next : Known) → (has_finish v ≡ true → has_finish (map.get m k) ≡ true) → NoFinish d m (set_row m k v) next
+no_more d m k v next before = no_new_finish m (set_row m k v) k (set_others m k v) d next (λ e. before (ap has_finish (sym (got m k k v ∙ ap (λ b. cond b v (map.get m k)) (key_self k))) ∙ e))
+
+-- ---- what a turn leaves that moves what is known, over rows that are set
+pub kept_moving : {d : Deployment} {c : Core} {m : Rows} (h : Right d c m) (n : Rows) (q : PlainState) (next : Known) (after : IntentId → Bool) → Goes d n q next after → LockedAtEnds d next after → Sane d next → Matches d n next after → ((x : Item) → listed n x ≡ value_at q x) → Settled d m q next
+    → Grows h.known next → Frame d m n h.plain q h.known next → NoFinish d m n next → Kept h n q next after
+kept_moving {d} {c} {m} h n q next after goes ends sane rows values settled grows frame none = kept_by d c m n h q next after
+    (record { goes = goes; locked_at_ends = ends; sane = sane; rows = rows; values = values; settled = settled_after d c m h n q next after rows sane grows frame none settled }) grows frame
+
+unfinished : (ended : TxId → Bool) (t : Option TxId) → FinishMatches ended t None None
+unfinished ended None = refl
+unfinished ended (Some t) = λ e. cc
 
 -- ---- a callee was registered: its row, which was not there, has its body
 pub callee_registered : (d : Deployment) (m : Rows) (known : Known) (locked : IntentId → Bool) (id : IntentId) (b : Body) (now : ℕ) → has_no_hops id.hops ≡ false → IsBodyOf b (map.get known id) → Matches d m known locked
     → let key : RowKey = record { home = b.func; kind = kinds.Intent id } in map.get m key ≡ None → Matches d (set_row m key (Some (rows.Intent (issued_at now (Some b))))) known locked
-callee_registered d m known locked id b now hops body h none = callee_put d known locked m id b.func (issued_at now (Some b)) hops (record { finishes = no_finish (has_ended d known) b.tx; body = (body, refl, by_wait (is_waited b.from) refl) }) h
+callee_registered d m known locked id b now hops body h none = callee_put d known locked m id b.func (issued_at now (Some b)) hops (record { finishes = unfinished (has_ended d known) b.tx; body = (body, refl, by_wait (is_waited b.from) refl) }) h
   where
     absent : HasNoRow b.func (map.get known id)
     absent = subst (λ r. CalleeMatches (has_ended d known) b.func r (map.get known id)) none (subst (λ t. IntentMatches (has_ended d known) t b.func (map.get m (record { home = b.func; kind = kinds.Intent id })) (map.get known id)) hops (h.keys (record { home = b.func; kind = kinds.Intent id })))

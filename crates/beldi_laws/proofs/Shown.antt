@@ -17,7 +17,8 @@ use Rattle.beldi_known.specs.Listed.{listed}
 use Rattle.beldi_known.specs.Known.{Known}
 use Rattle.beldi_known.specs.Matches.{Matches, LockedAtEnds}
 use Rattle.beldi_known.specs.Sane.{Sane}
-use Rattle.beldi_laws.specs.Inside.{OwnedAreUnmarked, NoneIsInside}
+use Rattle.beldi_laws.specs.Inside.{OwnedAreUnmarked, OwnersCallNobody, ParticipantsAreReleased, ParticipantsHaveRows}
+use Rattle.beldi_plain.specs.Executor.{AllShort}
 use Rattle.beldi_known.specs.InsideLaws.{Goes, HoldersAreMade, IsSound}
 use Rattle.beldi_laws.specs.Right.{Right}
 use Rattle.beldi_laws.proofs.Outside.{holds_known}
@@ -29,8 +30,11 @@ use Rattle.beldi_known.proofs.Sets.{is_log as is_row_log}
 -- what the rows keep of transactions
 pub record Settled (d : Deployment) (m : Rows) (p : PlainState) (known : Known) : Type 0 where
   pub marks : OwnedAreUnmarked d m known
+  pub latest : OwnersCallNobody d m known
   pub holders : HoldersAreMade d p known
-  pub uncalled : NoneIsInside d known
+  pub seated : ParticipantsHaveRows m known
+  pub released : ParticipantsAreReleased d m known
+  pub short : AllShort known
 
 pub record Shows (d : Deployment) (m : Rows) (p : PlainState) (known : Known) (locked : IntentId → Bool) : Type 0 where
   pub goes : Goes d m p known locked
@@ -46,7 +50,7 @@ module _ {d : Deployment} {c : Core} {m : Rows} (h : Right d c m) where
   legal_sane = legal_is_sane d c.book h.plain h.legal
 
   pub settled : Settled d m h.plain h.known
-  settled = record { marks = h.marks; holders = h.holders; uncalled = h.uncalled }
+  settled = record { marks = h.marks; latest = h.latest; holders = h.holders; seated = h.seated; released = h.released; short = h.short }
 
   pub shown : Shows d m h.plain h.known h.locked
   shown = record { goes = record { beside = h.beside; shadows = h.shadows }; locked_at_ends = h.locked_at_ends; sane = h.sane; rows = h.rows; values = h.values; settled = settled }
@@ -64,4 +68,4 @@ module _ {d : Deployment} {c : Core} {m : Rows} (h : Right d c m) where
 
   -- who holds a lock is known to hold it
   pub holds_here : (x : Item) (j : IntentId) → holds d x (map.get h.known j) ≡ holds d x (map.get h.plain.made j)
-  holds_here x j = holds_known d h.plain h.known h.beside h.uncalled j x
+  holds_here x j = holds_known d h.plain h.known h.beside j h.sane x

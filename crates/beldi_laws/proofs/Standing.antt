@@ -1,5 +1,5 @@
 -- Where the host and its rows are right, the rows stand for the run of the book.
-use Rattle.std.proofs.Common.{◌≡◌, ℕ, true, false, ◌||◌, ◌&&◌, ◌==◌, List, length, Option, None, Some, refl, ap, sym, ◌∙◌, subst, is_some, eq-eqb, if◌then◌else◌, Bool, [], ◌∷◌, ◌++◌}
+use Rattle.std.proofs.Common.{◌≡◌, ℕ, true, false, ◌||◌, ◌&&◌, ◌==◌, List, length, Option, None, Some, refl, ap, sym, ◌∙◌, subst, is_some, eq-eqb, eqb-true, arith, if◌then◌else◌, Bool, [], ◌∷◌, ◌++◌}
 use Rattle.std.specs.Prelude.{slice_get, option_and_then, zero, suc, take}
 use Rattle.std.specs.FinMap as map
 use Rattle.std.specs.Ordering.{is_eq}
@@ -37,10 +37,10 @@ use Rattle.beldi_invokelog.specs.InvokeLog.{invoke_key, call_in, result_in}
 use Rattle.beldi_lang.specs.Callee.{answer_of}
 use Rattle.beldi_order.specs.Sane.{IsCalled, CalledBy, call_of, answer_given, IsAnswer, IsDeath}
 use Rattle.beldi_laws.specs.Outside.{OpAnswers, IsAnswerTo}
-use Rattle.beldi_laws.specs.Stands.{Stands, IsMade, HasNotEnded, key_in, held_answer, held_outside, held_inside, held_note, decides, told_by, note_of_lock, answer_aside}
+use Rattle.beldi_laws.specs.Stands.{Stands, IsMade, HasNotEnded, key_in, has_place, held_answer, held_outside, held_inside, held_note, decides, told_by, note_of_lock, answer_aside}
 use Rattle.std.specs.Option.{option_map}
 use Rattle.beldi_order.proofs.Maps.{same_some}
-use Rattle.beldi_known.proofs.Instances.{row_of}
+use Rattle.beldi_known.proofs.Instances.{IsRowOf, row_of}
 use Rattle.beldi_laws.proofs.Readings.{given_owed}
 use Rattle.beldi_laws.proofs.Operations.{noted_back}
 use Rattle.beldi_step.specs.Run.{noted_answer, is_waited, place_of}
@@ -49,7 +49,7 @@ use Rattle.beldi_laws.proofs.CallsHere.{same_call}
 use Rattle.beldi_known.specs.Contents.{head_key, shadow_of, shadow_key}
 use Rattle.beldi_known.specs.Owed.{noted, note_of, value_for, called_by, result_of}
 use Rattle.beldi_known.specs.Known.{write_op}
-use Rattle.beldi_known.specs.Rows.{IntentMatches, RootMatches, BodyMatches, CallMatches, LogMatches}
+use Rattle.beldi_known.specs.Rows.{IntentMatches, IsBodyOf, RootMatches, BodyMatches, CallMatches, LogMatches}
 use Rattle.beldi_laws.specs.Right.{Right}
 use Rattle.beldi_known.specs.Known.{Known, owed_call, owed_note, owed_shadow, owed_value, row_at, note_or, ahead_note, answered_note, at_step, note_by, shadow_by, is_item, lock_note as lock_owed, ended_at, commit_in, is_mark, is_decided, last_step}
 use Rattle.beldi_known.proofs.Behind.{decision_there}
@@ -59,10 +59,14 @@ use Rattle.beldi_known.specs.Matches.{Matches, has_ended}
 use Rattle.beldi_known.specs.Sane.{Sane}
 use Rattle.beldi_known.specs.Beside.{is_begin}
 use Rattle.beldi_known.proofs.NoTx.{IsOutside, outside_parts}
-use Rattle.beldi_laws.proofs.Outside.{outside_answer, is_of_tx, known_of, made_of}
+use Rattle.beldi_laws.proofs.Outside.{outside_answer, is_of_tx, known_of}
 use Rattle.beldi_laws.proofs.Owed.{note_if, value_if, note_there, read_there, no_end}
 use Rattle.beldi_laws.proofs.Grown.{tx_stays}
-use Rattle.beldi_laws.proofs.Shown.{Shows, shown}
+use Rattle.beldi_laws.proofs.Shown.{Shows, legal_sane, shown}
+use Rattle.beldi_laws.proofs.Committed.{placed, unplaced}
+use Rattle.beldi_laws.proofs.Ended.{ends_outside}
+use Rattle.beldi_laws.proofs.Widths.{answered_small}
+use Rattle.beldi_order.specs.Sane as plain
 use Rattle.beldi_lang.specs.Wants.{wants}
 use Rattle.beldi_lang.specs.declared.effect.Effect.TheVariants as effect
 use Rattle.beldi_laws.proofs.KeptSane.{outside_effect}
@@ -115,7 +119,7 @@ open_by d m t q (Some r) is root none = absurd root
 
 module _ (d : Deployment) (m : Rows) (known : Known) (locked : IntentId → Bool) (h : Matches d m known locked) (sane : Sane d known) where
   -- ---- the answers of an instance
-  module _ (id : IntentId) (q : Instance) (made : map.get known id ≡ Some q) (n : ℕ) (a : Answer) (at : slice_get q.answers n ≡ Some a) (own : q.within ≡ None) where
+  module _ (id : IntentId) (q : Instance) (made : map.get known id ≡ Some q) (n : ℕ) (a : Answer) (at : slice_get q.answers n ≡ Some a) where
     abbrev place : Place
     place = record { intent = id; step = n }
 
@@ -134,7 +138,7 @@ module _ (d : Deployment) (m : Rows) (known : Known) (locked : IntentId → Bool
     held_op outside not_of_tx None is ok = absurd ok
     held_op outside not_of_tx (Some o) is ok =
         let x : Item = item_in q.func o in
-        ap (option_and_then noted_answer) (note_there d m known locked h id q made n own outside (no_end e not_of_tx) x ∙ ap (note_if x q.func e) at ∙ ap (λ z. note_of x q.func z a) is
+        ap (option_and_then noted_answer) (note_there d m known locked h id q made n (outside_parts d id q (take n q.answers) outside).0.0 outside (no_end e not_of_tx) x ∙ ap (note_if x q.func e) at ∙ ap (λ z. note_of x q.func z a) is
         ∙ ap (λ t. if is_eq t then noted o.does a else None) (tied_itself item_total x)) ∙ noted_back o.does a ok
 
     -- a call, by its callee
@@ -187,9 +191,24 @@ module _ (d : Deployment) (m : Rows) (known : Known) (locked : IntentId → Bool
       -- the note of an operation's lock
       lock_here : (z : Effect) (t : ℕ) (k : List ℕ) → e ≡ z → touched z ≡ Some (t, k) → commit_in z ≡ None → (w : Note) → lock_owed a ≡ Some w → note_of_lock m place (record { func = q.func; table = t; key = k }) ≡ Some w
       lock_here z t k is touch apart w owes = let i : Item = record { func = q.func; table = t; key = k } in
-          (h.items i).notes place (ap (is_mark d known n) made ∙ (λ j. is_some (no_mark j) || (is_decided d known (own j) && (n == last_step))))
+          (h.items i).notes place (ap (is_mark d known n) made ∙ (λ j. is_some (no_mark j) || (is_decided d known q.within && early j)) ∙ never (is_decided d known q.within))
           ∙ ap (owed_note d i id (locked id) n) made ∙ ap (λ o. note_or o (ahead_note d i id (locked id) n q)) owed
         where
+          -- it is not so late a step
+          early : (n == last_step) ≡ false
+          early = by_test (n == last_step) refl
+            where
+              by_test : (b : Bool) → (n == last_step) ≡ b → b ≡ false
+              by_test false e = refl
+              by_test true e =
+                  let last = eqb-true n last_step e in
+                  let small = answered_small d id q n (sane.each id q made) (slice_get_within q.answers n a at) in
+                  absurd (omega (arith, last, small))
+
+          never : (b : Bool) → (b && false) ≡ false
+          never true = refl
+          never false = refl
+
           no_mark : ended_at d q n ≡ None
           no_mark = ap (at_step (λ given b. commit_in (effect_after d q given)) (take n q.answers)) at ∙ ap commit_in is ∙ apart
 
@@ -220,6 +239,10 @@ module _ (d : Deployment) (m : Rows) (known : Known) (locked : IntentId → Bool
       end_here commit is = by_begun (txs_after d q (take n q.answers)).begun refl (ap (λ o. or_own o (tx_by id q.func (length (take n q.answers)) e (txs_after d q (take n q.answers)).begun)) (sym own)
           ∙ inside)
         where
+          -- who was called in a transaction has no End
+          own : q.within ≡ None
+          own = ends_outside d q (take n q.answers) commit is
+
           in_tx : (y : Effect) (o : Option ℕ) → e ≡ y → (txs_after d q (take n q.answers)).begun ≡ o → tx_by id q.func (length (take n q.answers)) y o ≡ Some x
           in_tx y o same begun = sym (λ j. or_own (own j) (tx_by id q.func (length (take n q.answers)) (same j) (begun j))) ∙ inside
 
@@ -262,21 +285,33 @@ module _ (d : Deployment) (m : Rows) (known : Known) (locked : IntentId → Bool
     held_here = by_tx (tx_at d id q n) refl
 
 -- ---- the rows stand for the plain state
-module _ (d : Deployment) (m : Rows) (p : PlainState) (known : Known) (locked : IntentId → Bool) (h : Shows d m p known locked) where
+module _ (d : Deployment) (m : Rows) (p : PlainState) (known : Known) (locked : IntentId → Bool) (h : Shows d m p known locked) (legal : plain.Sane d p) where
   -- what an intent row says of its instance
-  made_so : (home : ℕ) (id : IntentId) (i : IntentRow) (b : Body) → map.get m (key_in home id) ≡ Some (rows.Intent i) → i.body ≡ Some b → IsMade p id i b
-  made_so home id i b is has =
-      let root = has_no_hops id.hops in
-      let w = row_of (has_ended d known) root home i (map.get known id) (subst (λ r. IntentMatches (has_ended d known) root home r (map.get known id)) is (h.rows.keys (key_in home id))) in
-      let of = w.body b has in
-      let q = made_of d p known h.goes.beside h.settled.uncalled id of.instance of.made in
-      record {
-        instance = q.0;
-        made = q.1;
-        func = sym q.2.func ∙ ap (λ z. z.func) (sym of.body);
-        args = sym q.2.args ∙ ap (λ z. z.args) (sym of.body);
-        outcome = λ o e. sym q.3 ∙ w.outcome b o of.instance has e of.made;
-      }
+  module _ (home : ℕ) (id : IntentId) (i : IntentRow) (b : Body) (is : map.get m (key_in home id) ≡ Some (rows.Intent i)) (has : i.body ≡ Some b) where
+    abbrev root : Bool
+    root = has_no_hops id.hops
+
+    its_row : IsRowOf i (map.get known id)
+    its_row = row_of (has_ended d known) root home i (map.get known id) (subst (λ r. IntentMatches (has_ended d known) root home r (map.get known id)) is (h.rows.keys (key_in home id)))
+
+    of : IsBodyOf b (map.get known id)
+    of = its_row.body b has
+
+    tx : b.tx ≡ of.instance.within
+    tx = ap (λ (z : Body). z.tx) of.body
+
+    made_so : has_place m b.tx ≡ true → IsMade p id i b
+    made_so has_it =
+        let q = placed d m p known locked h.rows h.goes.beside h.sane legal id of.instance of.made (ap (has_place m) (sym tx) ∙ has_it) in
+        record {
+          instance = q.0;
+          made = q.1;
+          body = of.body ∙ (λ j. record { func = q.2.func j; args = q.2.args j; tx = q.2.within j; from = q.2.from j });
+          outcome = λ o e. sym q.3 ∙ its_row.outcome b o of.instance has e of.made;
+        }
+
+    unmade_so : has_place m b.tx ≡ false → map.get p.made id ≡ None
+    unmade_so none = unplaced d m p known locked h.rows h.goes.beside h.sane legal id of.instance of.made (ap (has_place m) (sym tx) ∙ none)
 
   held_plain : (id : IntentId) (q : Instance) → map.get p.made id ≡ Some q → (n : ℕ) (a : Answer) → slice_get q.answers n ≡ Some a → held_answer m id q.func n (tx_at d id q n) (effect_before d q n) ≡ Some a
   held_plain id q made n a at =
@@ -286,13 +321,14 @@ module _ (d : Deployment) (m : Rows) (p : PlainState) (known : Known) (locked : 
       let here : effect_before d z.instance n ≡ effect_before d q n = (λ i. wants d (z.grown.func i) (z.grown.args i) (is_some (z.grown.within i)) (front i)) in
       let within : tx_at d id z.instance n ≡ tx_at d id q n = ap (tx_after d id z.instance) front ∙ sym (tx_stays d id q z.instance (take n q.answers) z.grown) in
       (λ i. held_answer m id (sym z.grown.func i) n (sym within i) (sym here i))
-      ∙ held_here d m known locked h.rows h.sane id z.instance z.is n a (ap (λ xs. slice_get xs n) (sym z.grown.more) ∙ more.0) (h.settled.uncalled id z.instance z.is)
+      ∙ held_here d m known locked h.rows h.sane id z.instance z.is n a (ap (λ xs. slice_get xs n) (sym z.grown.more) ∙ more.0)
 
   stands : Stands d m p
   stands = record {
     items = h.values;
     made = made_so;
-    held = λ home id i b is has still q made. held_plain id q made;
+    unmade = unmade_so;
+    held = λ home id i b is has placed still q made. held_plain id q made;
     open_roots = λ t q made none. let z = known_of d p known h.goes.beside (root_of t) q made in
         open_by d m t z.instance (map.get m (root_key t)) refl (subst (RootMatches true (map.get m (root_key t))) z.is (h.rows.keys (root_key t))) (z.outcome ∙ none);
     sound = λ x. h.rows.keys (head_key x);
@@ -304,4 +340,4 @@ pub same_run : (d : Deployment) (c : Core) (m : Rows) (p : PlainState) (h : Righ
 same_run d c m p h is = same_some (sym h.legal ∙ is)
 
 pub right_stands : (d : Deployment) (c : Core) (m : Rows) (p : PlainState) → Right d c m → run_of d c.book ≡ Some p → Stands d m p
-right_stands d c m p h is = subst (λ z. Stands d m z) (same_run d c m p h is) (stands d m h.plain h.known h.locked (shown h))
+right_stands d c m p h is = subst (λ z. Stands d m z) (same_run d c m p h is) (stands d m h.plain h.known h.locked (shown h) (legal_sane h))

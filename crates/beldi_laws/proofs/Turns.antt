@@ -2,7 +2,7 @@
 use Rattle.std.proofs.Common.{◌≡◌, ℕ, Bool, true, false, List, [], ◌∷◌, ◌++◌, length, take, Option, None, Some, refl, ap, sym, ◌∙◌, subst, IsTrue, append_assoc, append-nil, if◌then◌else◌}
 use Rattle.std.specs.Prelude.{slice_get, is_some}
 use Rattle.std.specs.FinMap as map
-use Rattle.beldi_value.specs.Id.{id_total, id_exact, has_callees}
+use Rattle.beldi_value.specs.Id.{id_total, id_exact, has_callees, has_no_hops}
 use Rattle.beldi_value.specs.declared.id.IntentId.{IntentId}
 use Rattle.beldi_value.specs.declared.outcome.Outcome.{Outcome}
 use Rattle.beldi_value.specs.declared.place.Caller.{Caller}
@@ -24,11 +24,14 @@ use Rattle.beldi_row.proofs.Rows.{get_set}
 use Rattle.beldi_plain.specs.Item.{Item}
 use Rattle.beldi_plain.specs.Plain.{Instance, PlainState, effect_of, effect_before}
 use Rattle.beldi_txn.specs.declared.end.Visit.{Visit}
+use Rattle.beldi_txn.specs.declared.tx.TxAt.{TxAt}
 use Rattle.beldi_step.specs.declared.run.Run.{Run}
 use Rattle.beldi_step.specs.declared.run.RunAt.TheVariants.{Begins}
 use Rattle.beldi_step.specs.declared.run.Begun.{Begun}
 use Rattle.beldi_step.specs.declared.run.Mark.{Mark}
 use Rattle.beldi_step.specs.declared.run.OpenTx.{OpenTx}
+use Rattle.beldi_step.specs.declared.run.RunTx.{RunTx}
+use Rattle.beldi_step.specs.declared.run.RunTx.TheVariants.{Own, Inherited}
 use Rattle.beldi_step.specs.declared.run.Says.{Says}
 use Rattle.beldi_step.specs.declared.run.Says.TheVariants as says
 use Rattle.beldi_step.specs.declared.run.Stage.{Stage}
@@ -37,16 +40,15 @@ use Rattle.beldi_step.specs.declared.run.Wait.TheVariants as wait
 use Rattle.beldi_call.specs.declared.async_call.AsyncAt.TheVariants as async
 use Rattle.beldi_call.specs.declared.call.CallAt.TheVariants as call
 use Rattle.beldi_step.specs.Run as step
-use Rattle.beldi_step.specs.Run.{callee_of, is_waited, last_stage, first_stage, over, goes, goes_from, goes_to, at_stage, turned_by, place_of, takes, takes_if, open_after, own_tx}
+use Rattle.beldi_step.specs.Run.{callee_of, is_waited, last_stage, first_stage, over, goes, goes_from, goes_to, at_stage, turned_by, place_of, takes, takes_if, open_after, own_tx, tx_of, first_end, is_inherited}
 use Rattle.beldi_step.specs.Host.{Core, entry_of}
 use Rattle.beldi_laws.specs.Inside.{AtStage, Inside, Released}
+use Rattle.beldi_laws.specs.Stands.{key_in}
 use Rattle.beldi_laws.specs.Right.{Right, RunAt, Knows, KnowsAt, StageOk, MarkOk, PlaceOk, SeenDone, open_of}
-use Rattle.beldi_order.specs.Sane as plain
 use Rattle.beldi_order.specs.Sane.{IsAnswer}
 use Rattle.beldi_laws.specs.Outside.{IsAnswerTo}
 use Rattle.beldi_order.proofs.Maps.{same_some}
 use Rattle.beldi_order.proofs.Called.{get_after}
-use Rattle.beldi_order.proofs.Sound.{legal_is_sane}
 use Rattle.std.proofs.Math.Seq.{take-append_seam}
 use Rattle.beldi_laws.proofs.Moves.{AfterTurn, SameRoots, Kept, Stays, Entered, KnowsCallee, quiet, entered}
 use Rattle.beldi_known.specs.Contents.{content_of}
@@ -58,19 +60,42 @@ use Rattle.beldi_known.proofs.Ahead.{unlocked_outside}
 use Rattle.beldi_known.proofs.Begins.{going_now}
 use Rattle.beldi_known.proofs.Flows.{stands}
 use Rattle.beldi_known.proofs.Goes.{run_on_prefix}
+use Rattle.beldi_known.proofs.Lines.{caller_in}
 use Rattle.beldi_known.proofs.NoTx.{IsOutside, outside_so, outside_parts}
 use Rattle.beldi_known.proofs.Phases.{at}
 use Rattle.beldi_laws.proofs.Lives.{open_stays}
-use Rattle.beldi_laws.proofs.OpenOf.{begin_of, open_begun, open_none, open_pushed, tx_open}
+use Rattle.beldi_laws.proofs.OpenOf.{called_in, called_out, open_begun, open_none, open_pushed, own_begin, tx_open}
 use Rattle.beldi_laws.proofs.Outside.{outside_more, outside_answer, is_of_tx, stands_outside, plain_here}
 use Rattle.beldi_laws.proofs.Released.{released_next, released_on}
 use Rattle.beldi_order.specs.Grown.{Grown}
 use Rattle.beldi_laws.proofs.Grown.{tx_stays, grown_same, grown_moved, moved_more}
 use Rattle.beldi_known.specs.Sane.{SaneInstance}
 
+-- ---- the stages of a transaction, but for calls and returns
+abbrev pub is_inside : Stage → Bool
+is_inside (stage.Tx a) = true
+is_inside (stage.Decide m) = true
+is_inside (stage.End v) = true
+is_inside s = false
+
+-- at any other stage a run has no mark, and has found nothing
+pub unmarked_off : (id : IntentId) (n : ℕ) (o : Option RunTx) (e : Effect) (s : Stage) → is_inside s ≡ false → MarkOk id n o e s
+unmarked_off id n (Some (Own o)) (End commit) (stage.Decide m) h = cc
+unmarked_off id n o e s h = tt
+
+pub nothing_found : (d : Deployment) (m : Rows) (p : PlainState) (known : Known) (id : IntentId) (func : ℕ) (o : Option RunTx) (n : ℕ) (e : Effect) (s : Stage) → is_inside s ≡ false → AtStage d m p known id func o n e s
+nothing_found d m p known id func (Some o) n e (stage.Tx a) h = cc
+nothing_found d m p known id func (Some (Own o)) n (End commit) (stage.End v) h = cc
+nothing_found d m p known id func o n e s h = tt
+
+-- a run at an operation has no mark
+pub unmarked_tx : (id : IntentId) (n : ℕ) (o : Option RunTx) (e : Effect) (a : TxAt) → MarkOk id n o e (stage.Tx a)
+unmarked_tx id n (Some (Own o)) (End commit) a = tt
+unmarked_tx id n o e a = tt
+
 -- ---- where an effect begins is one of its stages, of which a run knows what it has to, and has found nothing yet
 module _ (d : Deployment) (book : List Entry) (n : Rows) (p : PlainState) (known : Known) (id : IntentId) (func step : ℕ) (q : Instance) (c : Option Caller) (answers later : List Answer) where
-  pub record First (t : Option TxId) (o : Option OpenTx) (e : Effect) (s : Stage) : Type 0 where
+  pub record First (t : Option TxId) (o : Option RunTx) (e : Effect) (s : Stage) : Type 0 where
     pub fits : StageOk t id c e s
     pub mark : MarkOk id step o e s
     pub place : PlaceOk d book id func answers later e s
@@ -105,29 +130,53 @@ module _ (d : Deployment) (book : List Entry) (n : Rows) (p : PlainState) (known
       by_caller (Some b) from is = by_wait b b.waits from refl is
   first_outside e s is = cc
 
-  -- inside, where no body returns
-  pub first_inside : (t : TxId) (o : OpenTx) (e : Effect) (s : Stage) → ((u : Outcome) → e ≡ Return u → ⊥) → first_stage id c (Some o) step e ≡ Some s → First (Some t) (Some o) e s
-  first_inside t o (Read u k) s never is = subst (First (Some t) (Some o) (Read u k)) (same_some is) (record { fits = tt; mark = tt; place = tt; done = tt; found = record { begin = tt; asked = λ h. cc; locked = tt; found = λ z made len. tt } })
-  first_inside t o (Write u k v) s never is = subst (First (Some t) (Some o) (Write u k v)) (same_some is) (record { fits = tt; mark = tt; place = tt; done = tt; found = record { begin = refl; asked = λ h. cc; locked = tt; found = λ z made len. tt } })
-  first_inside t o (CondWrite u k r x v) s never is = subst (First (Some t) (Some o) (CondWrite u k r x v)) (same_some is) (record { fits = tt; mark = tt; place = tt; done = tt; found = record { begin = refl; asked = λ h. cc; locked = tt; found = λ z made len. tt } })
-  first_inside t o (End commit) s never is = subst (First (Some t) (Some o) (End commit)) (same_some is) (record { fits = tt; mark = refl; place = tt; done = tt; found = tt })
-  first_inside t o (Return u) s never is = absurd (never u refl)
-  first_inside t o e s never is = cc
+  -- inside, where a body returns only if it was called there, by who waits
+  module _ (t : TxId) (o : RunTx) where
+    at_operation : (e : Effect) (a : TxAt) → StageOk (Some t) id c e (stage.Tx a) → PlaceOk d book id func answers later e (stage.Tx a) → AtStage d n p known id func (Some o) step e (stage.Tx a) → First (Some t) (Some o) e (stage.Tx a)
+    at_operation e a fits place found = record { fits = fits; mark = unmarked_tx id step (Some o) e a; place = place; done = tt; found = found }
+
+    elsewhere : (e : Effect) (s : Stage) → is_inside s ≡ false → StageOk (Some t) id c e s → PlaceOk d book id func answers later e s → SeenDone known id step q c s → First (Some t) (Some o) e s
+    elsewhere e s off fits place done = record { fits = fits; mark = unmarked_off id step (Some o) e s off; place = place; done = done; found = nothing_found d n p known id func (Some o) step e s off }
+
+    pub first_inside : (e : Effect) (s : Stage) → (is_inherited (Some o) ≡ false → (u : Outcome) → e ≡ Return u → ⊥) → (is_inherited (Some o) ≡ true → is_waited c ≡ true) → first_stage id c (Some o) step e ≡ Some s → First (Some t) (Some o) e s
+    first_inside (Read u k) s never waits is = subst (First (Some t) (Some o) (Read u k)) (same_some is) (at_operation (Read u k) _ tt tt (record { begin = tt; asked = λ h. cc; locked = tt; found = λ z made len. tt }))
+    first_inside (Write u k v) s never waits is = subst (First (Some t) (Some o) (Write u k v)) (same_some is) (at_operation (Write u k v) _ tt tt (record { begin = refl; asked = λ h. cc; locked = tt; found = λ z made len. tt }))
+    first_inside (CondWrite u k r x v) s never waits is = subst (First (Some t) (Some o) (CondWrite u k r x v)) (same_some is) (at_operation (CondWrite u k r x v) _ tt tt (record { begin = refl; asked = λ h. cc; locked = tt; found = λ z made len. tt }))
+    first_inside (Call f a) s never waits is = by_hops (has_callees id) refl is
+      where
+        by_hops : (b : Bool) → has_callees id ≡ b → (if b then Some (stage.Call call.Open) else None) ≡ Some s → First (Some t) (Some o) (Call f a) s
+        by_hops true e is = subst (First (Some t) (Some o) (Call f a)) (same_some is) (elsewhere (Call f a) (stage.Call call.Open) refl e tt tt)
+        by_hops false e is = cc
+    first_inside (End commit) s never waits is = by_tx o is
+      where
+        by_tx : (o : RunTx) → first_end id step commit (Some o) ≡ Some s → First (Some t) (Some o) (End commit) s
+        by_tx (Own y) is = subst (First (Some t) (Some (Own y)) (End commit)) (same_some is) (record { fits = tt; mark = refl; place = tt; done = tt; found = tt })
+        by_tx (Inherited y) is = cc
+    first_inside (Return u) s never waits is = by_tx (is_inherited (Some o)) refl
+      where
+        by_caller : (b : Option Caller) → c ≡ b → is_waited b ≡ true → Some (last_stage b) ≡ Some s → First (Some t) (Some o) (Return u) s
+        by_caller None from w is = cc
+        by_caller (Some b) from w is = subst (First (Some t) (Some o) (Return u)) (ap (λ z. if z then stage.Back else stage.Tell) (sym w) ∙ same_some is) (elsewhere (Return u) stage.Back refl (ap is_waited from ∙ w) tt tt)
+
+        by_tx : (b : Bool) → is_inherited (Some o) ≡ b → First (Some t) (Some o) (Return u) s
+        by_tx false e = absurd (never e u refl)
+        by_tx true e = by_caller c refl (waits e) is
+    first_inside e s never waits is = cc
 
 -- a Begin has no stage
-no_stage : (id : IntentId) (c : Option Caller) (o : Option OpenTx) (step : ℕ) (e : Effect) (s : Stage) → first_stage id c o step e ≡ Some s → is_begin e ≡ false
+no_stage : (id : IntentId) (c : Option Caller) (o : Option RunTx) (step : ℕ) (e : Effect) (s : Stage) → first_stage id c o step e ≡ Some s → is_begin e ≡ false
 no_stage id c o step effect.Begin s h = cc
 no_stage id c o step e s h = refl
 
 -- where a Begin is open no body returns
-no_return : (d : Deployment) (q : Instance) (given : List Answer) (u : Outcome) → is_some (txs_after d q given).begun ≡ true → effect_after d q given ≡ Return u → ⊥
+pub no_return : (d : Deployment) (q : Instance) (given : List Answer) (u : Outcome) → is_some (txs_after d q given).begun ≡ true → effect_after d q given ≡ Return u → ⊥
 no_return d q given u begun is =
     let g = at d q given in
     let k = (going_now d q.func q.args (is_some q.within) given g.going).standing (g.begun ∙ begun) (λ c e. let clash = sym is ∙ e in cc) in
     let clash = sym (ap (stands true) is) ∙ k in cc
 
 -- ---- a machine stands after these answers of an instance, with what is open there
-pub record MachineAt (d : Deployment) (func : ℕ) (j : Instance) (given : List Answer) (s : Machine × Option OpenTx) : Type 0 where
+pub record MachineAt (d : Deployment) (func : ℕ) (j : Instance) (given : List Answer) (s : Machine × Option RunTx) : Type 0 where
   pub machine : IsAt d func j.args (is_some j.within) s.0 given
   pub open_there : s.1 ≡ open_of d j given
 
@@ -137,7 +186,7 @@ wanted_at_once id n (Return o) a h = cc
 wanted_at_once id n e a h = refl
 
 module _ (d : Deployment) (func : ℕ) (j : Instance) (same : j.func ≡ func) where
-  module _ (given : List Answer) (s : Machine × Option OpenTx) (h : MachineAt d func j given s) where
+  module _ (given : List Answer) (s : Machine × Option RunTx) (h : MachineAt d func j given s) where
     pub steps_there : s.0.steps ≡ length given
     steps_there = (at_effect d func j.args (is_some j.within) s.0 given h.machine).1
 
@@ -159,18 +208,14 @@ module _ (d : Deployment) (func : ℕ) (j : Instance) (same : j.func ≡ func) w
         by_answer (Some a) e = takes_there a (wanted_at_once id s.0.steps s.0.effect a e)
 
   -- past what takes no turn
-  pub at_once_there : (given : List Answer) (s : Machine × Option OpenTx) (id : IntentId) → MachineAt d func j given s → MachineAt d func j (run_on d id j given) (step.at_once d id s)
+  pub at_once_there : (given : List Answer) (s : Machine × Option RunTx) (id : IntentId) → MachineAt d func j given s → MachineAt d func j (run_on d id j given) (step.at_once d id s)
   at_once_there given s id h = once_there (run_once d id j given) (step.once d id s) (once_there given s h id) id
 
 -- ---- a run of an instance goes on from where its machine stands
--- nobody is called in a transaction yet
-pub none_within : (d : Deployment) (n : Rows) (p : PlainState) (known : Known) (after : IntentId → Bool) → Shows d n p known after → plain.Sane d p → (i : IntentId) (z : Instance) → map.get known i ≡ Some z → z.within ≡ None
-none_within d n p known after shows legal i z is = shows.settled.uncalled i z is
-
-module _ (d : Deployment) (book : List Entry) (n : Rows) (p : PlainState) (known : Known) (after : IntentId → Bool) (shows : Shows d n p known after) (legal : plain.Sane d p)
-    (r : Run) (c : Option Caller) (j : Instance) (made : map.get known r.id ≡ Some j) (func : j.func ≡ r.func) (caller : c ≡ j.from) where
+module _ (d : Deployment) (book : List Entry) (n : Rows) (p : PlainState) (known : Known) (after : IntentId → Bool) (shows : Shows d n p known after)
+    (r : Run) (c : Option Caller) (j : Instance) (made : map.get known r.id ≡ Some j) (func : j.func ≡ r.func) (caller : c ≡ j.from) (row : has_no_hops r.id.hops ≡ false → is_some (map.get n (key_in r.func r.id)) ≡ true) where
   -- at the first stage of its effect it knows what it has to
-  pub knows_first : (given later : List Answer) (s : Machine × Option OpenTx) (w : Stage) → given ++ later ≡ j.answers → MachineAt d r.func j given s → Released d n known r.id (length given) → first_stage r.id c s.1 s.0.steps s.0.effect ≡ Some w
+  pub knows_first : (given later : List Answer) (s : Machine × Option RunTx) (w : Stage) → given ++ later ≡ j.answers → MachineAt d r.func j given s → Released d n known r.id (length given) → first_stage r.id c s.1 s.0.steps s.0.effect ≡ Some w
       → let g : Begun = record { machine = s.0; caller = c; tx = s.1; stage = w } in RunAt d n p book known (Some (record r { at = Begins g }))
   knows_first given later s w prefix h released is =
       let first = by_open s.1 refl in (
@@ -189,42 +234,48 @@ module _ (d : Deployment) (book : List Entry) (n : Rows) (p : PlainState) (known
           run_done = first.done;
           run_place = first.place;
         },
-        record { here = first.found; released = subst (Released d n known r.id) (sym (steps_there d r.func j func given s h)) released },
+        record { here = first.found; released = subst (Released d n known r.id) (sym (steps_there d r.func j func given s h)) released; row = row },
       )
     where
-      own : j.within ≡ None
-      own = none_within d n p known after shows legal r.id j made
-
       effect_is : s.0.effect ≡ effect_after d j given
       effect_is = effect_there d r.func j func given s h
 
       apart : is_begin (effect_after d j given) ≡ false
       apart = ap is_begin (sym effect_is) ∙ no_stage r.id c s.1 s.0.steps s.0.effect w is
 
-      by_open : (o : Option OpenTx) → s.1 ≡ o → First d book n p known r.id r.func s.0.steps j c given later (tx_after d r.id j given) s.1 s.0.effect w
+      -- one's own begun body does not return, and who was called in one is waited for
+      never : (o : RunTx) → open_of d j given ≡ Some o → is_inherited (Some o) ≡ false → (u : Outcome) → s.0.effect ≡ Return u → ⊥
+      never (Own o) e own u f = no_return d j given u (ap is_some (open_begun d j given ∙ ap own_begin e)) (sym effect_is ∙ f)
+      never (Inherited t) e own u f = cc
+
+      waits : (o : RunTx) → open_of d j given ≡ Some o → is_inherited (Some o) ≡ true → is_waited c ≡ true
+      waits (Own o) e inner = cc
+      waits (Inherited t) e inner = ap is_waited (caller ∙ (caller_in d known shows.sane t r.id j made (called_in d j t given e)).from)
+
+      by_open : (o : Option RunTx) → s.1 ≡ o → First d book n p known r.id r.func s.0.steps j c given later (tx_after d r.id j given) s.1 s.0.effect w
       by_open None e =
-          let out : tx_after d r.id j given ≡ None = outside_so d r.id j given (own, open_begun d j given ∙ ap begin_of (sym h.open_there ∙ e)) apart in
+          let none = sym h.open_there ∙ e in
+          let out : tx_after d r.id j given ≡ None = outside_so d r.id j given (called_out d j given (ap is_inherited none), open_begun d j given ∙ ap own_begin none) apart in
           subst (λ t. First d book n p known r.id r.func s.0.steps j c given later t s.1 s.0.effect w) (sym out)
           (subst (λ o. First d book n p known r.id r.func s.0.steps j c given later None o s.0.effect w) (sym e)
           (first_outside d book n p known r.id r.func s.0.steps j c given later s.0.effect w (ap (λ o. first_stage r.id c o s.0.steps s.0.effect) (sym e) ∙ is)))
       by_open (Some o) e =
           let open_now = sym h.open_there ∙ e in
-          let inner = tx_open d r.id j given o own open_now apart in
+          let inner = tx_open d r.id j given o open_now apart in
           subst (λ t. First d book n p known r.id r.func s.0.steps j c given later t s.1 s.0.effect w) (sym inner)
-          (subst (λ z. First d book n p known r.id r.func s.0.steps j c given later (Some (own_tx r.id j.func o)) z s.0.effect w) (sym e)
-          (first_inside d book n p known r.id r.func s.0.steps j c given later (own_tx r.id j.func o) o s.0.effect w
-          (λ u f. no_return d j given u (ap is_some (open_begun d j given ∙ ap begin_of open_now)) (sym effect_is ∙ f)) (ap (λ o. first_stage r.id c o s.0.steps s.0.effect) (sym e) ∙ is)))
+          (subst (λ z. First d book n p known r.id r.func s.0.steps j c given later (Some (tx_of r.id j.func o)) z s.0.effect w) (sym e)
+          (first_inside d book n p known r.id r.func s.0.steps j c given later (tx_of r.id j.func o) o s.0.effect w (never o open_now) (waits o open_now) (ap (λ o. first_stage r.id c o s.0.steps s.0.effect) (sym e) ∙ is)))
 
   -- .. past what takes no turn
-  pub knows_next : (given : List Answer) (s : Machine × Option OpenTx) → Prefix given j → MachineAt d r.func j given s → Released d n known r.id (length given) → (b : Option Mark) → RunAt d n p book known (goes_to d r s c b).next
+  pub knows_next : (given : List Answer) (s : Machine × Option RunTx) → Prefix given j → MachineAt d r.func j given s → Released d n known r.id (length given) → (b : Option Mark) → RunAt d n p book known (goes_to d r s c b).next
   knows_next given s prefix h released b =
       let more = run_on_prefix d r.id j (shows.sane.closed r.id j made) (shows.sane.each r.id j made) given prefix in
       let t = step.at_once d r.id s in
       by_stage t (first_stage r.id c t.1 t.0.steps t.0.effect)
       (λ w is. knows_first (run_on d r.id j given) more.later t w more.all (at_once_there d r.func j func given s r.id h)
-      (released_on d n known after shows.rows (none_within d n p known after shows legal) r.id j made given more released) is)
+      (released_on d n known after shows.rows shows.sane r.id j made given more released) is)
     where
-      by_stage : (t : Machine × Option OpenTx) (o : Option Stage) → ((w : Stage) → o ≡ Some w → let g : Begun = record { machine = t.0; caller = c; tx = t.1; stage = w } in RunAt d n p book known (Some (record r { at = Begins g }))) → RunAt d n p book known (goes_from r t c b o).next
+      by_stage : (t : Machine × Option RunTx) (o : Option Stage) → ((w : Stage) → o ≡ Some w → let g : Begun = record { machine = t.0; caller = c; tx = t.1; stage = w } in RunAt d n p book known (Some (record r { at = Begins g }))) → RunAt d n p book known (goes_from r t c b o).next
       by_stage t None knows = tt
       by_stage t (Some w) knows = knows w refl
 
@@ -233,27 +284,27 @@ module _ (d : Deployment) (c : Core) (m n : Rows) (i : ℕ) (r : Run) (h : Right
   pub is_over : Stays h n → AfterTurn d h.plain c i r (over None) n
   is_over kept = quiet d c m n i r h live roots (over None) h.known h.locked refl refl tt (λ e. cc) kept
 
-  pub comes_to : (next : Known) (after : IntentId → Bool) (s : Machine × Option OpenTx) (k : Option Caller) → RunAt d n h.plain c.book next (goes_to d r s k None).next → Kept h n h.plain next after → AfterTurn d h.plain c i r (goes_to d r s k None) n
+  pub comes_to : (next : Known) (after : IntentId → Bool) (s : Machine × Option RunTx) (k : Option Caller) → RunAt d n h.plain c.book next (goes_to d r s k None).next → Kept h n h.plain next after → AfterTurn d h.plain c i r (goes_to d r s k None) n
   comes_to next after s k run kept = let t = step.at_once d r.id s in by_stage t (first_stage r.id k t.1 t.0.steps t.0.effect) run
     where
-      by_stage : (t : Machine × Option OpenTx) (o : Option Stage) → RunAt d n h.plain c.book next (goes_from r t k None o).next → AfterTurn d h.plain c i r (goes_from r t k None o) n
+      by_stage : (t : Machine × Option RunTx) (o : Option Stage) → RunAt d n h.plain c.book next (goes_from r t k None o).next → AfterTurn d h.plain c i r (goes_from r t k None o) n
       by_stage t None run = quiet d c m n i r h live roots (over None) next after refl refl run (λ e. cc) kept
       by_stage t (Some w) run = quiet d c m n i r h live roots (goes r (record { machine = t.0; caller = k; tx = t.1; stage = w }) None) next after refl refl run (λ e. cc) kept
 
   -- .. and a run of its callee may start
-  pub comes_with : (s : Machine × Option OpenTx) (k : Option Caller) → RunAt d n h.plain c.book h.known (goes_to d r s k None).next → ((o : Run) → callee_of r ≡ Some o → KnowsAt d c.book h.known o o.at) → Stays h n → AfterTurn d h.plain c i r (record (goes_to d r s k None) { starts = true }) n
+  pub comes_with : (s : Machine × Option RunTx) (k : Option Caller) → RunAt d n h.plain c.book h.known (goes_to d r s k None).next → ((o : Run) → callee_of r ≡ Some o → KnowsAt d c.book h.known o o.at) → Stays h n → AfterTurn d h.plain c i r (record (goes_to d r s k None) { starts = true }) n
   comes_with s k run callee kept = let t = step.at_once d r.id s in by_stage t (first_stage r.id k t.1 t.0.steps t.0.effect) run
     where
-      by_stage : (t : Machine × Option OpenTx) (o : Option Stage) → RunAt d n h.plain c.book h.known (goes_from r t k None o).next → AfterTurn d h.plain c i r (record (goes_from r t k None o) { starts = true }) n
+      by_stage : (t : Machine × Option RunTx) (o : Option Stage) → RunAt d n h.plain c.book h.known (goes_from r t k None o).next → AfterTurn d h.plain c i r (record (goes_from r t k None o) { starts = true }) n
       by_stage t None run = quiet d c m n i r h live roots (record (over None) { starts = true }) h.known h.locked refl refl run (λ e. callee) kept
       by_stage t (Some w) run = quiet d c m n i r h live roots (record (goes r (record { machine = t.0; caller = k; tx = t.1; stage = w }) None) { starts = true }) h.known h.locked refl refl run (λ e. callee) kept
 
   -- .. after an act that made an entry
-  pub steps_to : (next : Known) (after : IntentId → Bool) (s : Machine × Option OpenTx) (k : Option Caller) (by : Mark) (q : PlainState) → Entered d c h.plain h.known (entry_of r.id by) q next → RunAt d n q (c.book ++ entry_of r.id by ∷ []) next (goes_to d r s k (Some by)).next
+  pub steps_to : (next : Known) (after : IntentId → Bool) (s : Machine × Option RunTx) (k : Option Caller) (by : Mark) (q : PlainState) → Entered d c h.plain h.known (entry_of r.id by) q next → RunAt d n q (c.book ++ entry_of r.id by ∷ []) next (goes_to d r s k (Some by)).next
       → Kept h n q next after → AfterTurn d h.plain c i r (goes_to d r s k (Some by)) n
   steps_to next after s k by q leads run kept = let t = step.at_once d r.id s in by_stage t (first_stage r.id k t.1 t.0.steps t.0.effect) run
     where
-      by_stage : (t : Machine × Option OpenTx) (o : Option Stage) → RunAt d n q (c.book ++ entry_of r.id by ∷ []) next (goes_from r t k (Some by) o).next → AfterTurn d h.plain c i r (goes_from r t k (Some by) o) n
+      by_stage : (t : Machine × Option RunTx) (o : Option Stage) → RunAt d n q (c.book ++ entry_of r.id by ∷ []) next (goes_from r t k (Some by) o).next → AfterTurn d h.plain c i r (goes_from r t k (Some by) o) n
       by_stage t None run = entered d c m n i r h live roots (over (Some by)) by q next after refl leads (λ u e. cc) run (λ e. cc) kept
       by_stage t (Some w) run = entered d c m n i r h live roots (goes r (record { machine = t.0; caller = k; tx = t.1; stage = w }) (Some by)) by q next after refl leads (λ u e. cc) run (λ e. cc) kept
 
@@ -348,7 +399,7 @@ module _ (d : Deployment) (book : List Entry) (known : Known) (r : Run) (g : Beg
     outside_here = (outside_parts d r.id k.instance k.answers out).0
 
     pub none_open : g.tx ≡ None
-    none_open = k.run_open ∙ open_none d r.id k.instance k.answers outside_here.0 out
+    none_open = k.run_open ∙ open_none d r.id k.instance k.answers out
 
     pub not_of_tx : is_of_tx g.machine.effect ≡ false
     not_of_tx = stands_outside r.id g.caller g.machine.effect g.stage (subst (λ t. StageOk t r.id g.caller g.machine.effect g.stage) out k.run_stage)
@@ -375,9 +426,6 @@ module _ (d : Deployment) (c : Core) (m : Rows) (r : Run) (g : Begun) (h : Right
   pub sane_instance : SaneInstance d r.id k.instance
   sane_instance = h.sane.each r.id k.instance k.made
 
-  pub own_here : k.instance.within ≡ None
-  own_here = h.uncalled r.id k.instance k.made
-
   -- a step that is the instance's next has not returned
   pub not_over : k.later ≡ [] → IsTrue (wants_answer g.machine.effect) → k.instance.outcome ≡ None
   not_over left wanted = by_outcome k.instance.outcome refl
@@ -387,14 +435,7 @@ module _ (d : Deployment) (c : Core) (m : Rows) (r : Run) (g : Begun) (h : Right
       by_outcome (Some o) some = let clash = ap wants_answer (sym (sane_instance.over o some) ∙ effect_next d c.book h.known r g k left) ∙ wanted in cc
 
 -- ---- what each thing that a stage says leaves
--- a stage of a transaction
-abbrev pub is_inside : Stage → Bool
-is_inside (stage.Tx a) = true
-is_inside (stage.Decide m) = true
-is_inside (stage.End v) = true
-is_inside s = false
-
--- .. asks no place of a read and nothing that was done, and its end no mark
+-- a stage of a transaction asks no place of a read and nothing that was done, and its end no mark
 inside_place : (d : Deployment) (book : List Entry) (id : IntentId) (func : ℕ) (given later : List Answer) (e : Effect) (s : Stage) → is_inside s ≡ true → PlaceOk d book id func given later e s
 inside_place d book id func given later (Read t k) (stage.Keep v seen) h = cc
 inside_place d book id func given later e s h = tt
@@ -405,8 +446,8 @@ inside_done known id n q c (stage.Decide m) h = tt
 inside_done known id n q c (stage.End v) h = tt
 inside_done known id n q c s h = cc
 
-end_unmarked : (id : IntentId) (n : ℕ) (o : Option OpenTx) (e : Effect) (v : Visit) → MarkOk id n o e (stage.End v)
-end_unmarked id n (Some o) (End commit) v = tt
+end_unmarked : (id : IntentId) (n : ℕ) (o : Option RunTx) (e : Effect) (v : Visit) → MarkOk id n o e (stage.End v)
+end_unmarked id n (Some (Own o)) (End commit) v = tt
 end_unmarked id n o e v = tt
 
 module _ (d : Deployment) (c : Core) (m : Rows) (i : ℕ) (r : Run) (g : Begun) (h : Right d c m) (live : map.get c.runs i ≡ Some r) (k : Knows d c.book h.known r g) where
@@ -415,7 +456,7 @@ module _ (d : Deployment) (c : Core) (m : Rows) (i : ℕ) (r : Run) (g : Begun) 
 
   -- past an end it owns nothing
   abbrev pub Freed : Rows → Type 0
-  Freed n = (o : OpenTx) (commit : Bool) (x : Item) → g.tx ≡ Some o → g.machine.effect ≡ End commit → (content_of n x).owner ≡ Some (ByTx (own_tx r.id r.func o)) → ⊥
+  Freed n = (o : OpenTx) (commit : Bool) (x : Item) → g.tx ≡ Some (Own o) → g.machine.effect ≡ End commit → (content_of n x).owner ≡ Some (ByTx (own_tx r.id r.func o)) → ⊥
 
   -- where it stands it finds what it found
   stays_as : (n : Rows) → Stays h n → RunAt d n h.plain c.book h.known (Some r)
@@ -435,8 +476,8 @@ module _ (d : Deployment) (c : Core) (m : Rows) (i : ℕ) (r : Run) (g : Begun) 
   -- ---- of a run that has found what it has to
   module _ (finds : Inside d m h.plain h.known r g) where
     -- it finds that still
-    finds_still : (n : Rows) (q : PlainState) (next : Known) (after : IntentId → Bool) → Kept h n q next after → Inside d n q next (record r { at = Begins g }) g
-    finds_still n q next after kept = kept.others (record r { at = Begins g }) (knows_here d c.book h.known r g k) (record { here = finds.here; released = finds.released })
+    pub finds_still : (n : Rows) (q : PlainState) (next : Known) (after : IntentId → Bool) → Kept h n q next after → Inside d n q next (record r { at = Begins g }) g
+    finds_still n q next after kept = kept.others (record r { at = Begins g }) (knows_here d c.book h.known r g k) (record { here = finds.here; released = finds.released; row = finds.row })
 
     -- .. and past its ends its transactions own nothing
     pub released_here : (n : Rows) (q : PlainState) (next : Known) (after : IntentId → Bool) → Kept h n q next after → Released d n next r.id g.machine.steps
@@ -447,14 +488,14 @@ module _ (d : Deployment) (c : Core) (m : Rows) (i : ℕ) (r : Run) (g : Begun) 
     stays_on n roots kept = quiet d c m n i r h live roots (goes r g None) h.known h.locked refl refl (knows_here d c.book h.known r g k, finds_still n h.plain h.known h.locked kept) (λ e. cc) kept
 
     -- it goes on from this answer, the next that is known of its instance
-    takes_next : (more : List Entry) (n : Rows) (q : PlainState) (next : Known) (after : IntentId → Bool) (j : Instance) (a : Answer) (rest : List Answer) (b : Option Mark) → Kept h n q next after → plain.Sane d q → map.get next r.id ≡ Some j → Grown k.instance j → (k.answers ++ a ∷ []) ++ rest ≡ j.answers
+    takes_next : (more : List Entry) (n : Rows) (q : PlainState) (next : Known) (after : IntentId → Bool) (j : Instance) (a : Answer) (rest : List Answer) (b : Option Mark) → Kept h n q next after → map.get next r.id ≡ Some j → Grown k.instance j → (k.answers ++ a ∷ []) ++ rest ≡ j.answers
         → IsTrue (wants_answer g.machine.effect) → Freed n → RunAt d n q more next (goes_to d r (takes d g.machine g.tx a) g.caller b).next
-    takes_next more n q next after j a rest b kept legal made w prefix wanted freed =
+    takes_next more n q next after j a rest b kept made w prefix wanted freed =
         let func = w.func ∙ k.func in
         let here = machine_here d c.book h.known r g k j w in
-        knows_next d more n q next after kept.shows legal r g.caller j made func (k.caller ∙ sym w.from) (k.answers ++ a ∷ []) (takes d g.machine g.tx a) (record { later = rest; all = prefix })
+        knows_next d more n q next after kept.shows r g.caller j made func (k.caller ∙ sym w.from) (finds_still n q next after kept).row (k.answers ++ a ∷ []) (takes d g.machine g.tx a) (record { later = rest; all = prefix })
         (takes_there d r.func j func k.answers (g.machine, g.tx) here a wanted)
-        (released_next d n next after kept.shows.rows (none_within d n q next after kept.shows legal) r.id j made k.answers a (record { later = rest; all = prefix })
+        (released_next d n next after kept.shows.rows kept.shows.sane r.id j made k.answers a (record { later = rest; all = prefix })
         (subst (Released d n next r.id) (at_steps d c.book h.known r g k) (released_here n q next after kept))
         (λ o commit x e f owned. freed o commit x (here.open_there ∙ e) (effect_there d r.func j func k.answers (g.machine, g.tx) here ∙ f) (owned ∙ ap (λ f. Some (ByTx (own_tx r.id f o))) func))) b
 
@@ -462,14 +503,14 @@ module _ (d : Deployment) (c : Core) (m : Rows) (i : ℕ) (r : Run) (g : Begun) 
     pub answers_on : (a : Answer) (rest : List Answer) (n : Rows) (next : Known) (after : IntentId → Bool) (j : Instance) → SameRoots m n → Kept h n h.plain next after → map.get next r.id ≡ Some j → Grown k.instance j → (k.answers ++ a ∷ []) ++ rest ≡ j.answers
         → IsTrue (wants_answer g.machine.effect) → Freed n → Leaves (says.Answers a None) n
     answers_on a rest n next after j roots kept made w prefix wanted freed =
-        comes_to d c m n i r h live roots next after (takes d g.machine g.tx a) g.caller (takes_next c.book n h.plain next after j a rest None kept (legal_sane h) made w prefix wanted freed) kept
+        comes_to d c m n i r h live roots next after (takes d g.machine g.tx a) g.caller (takes_next c.book n h.plain next after j a rest None kept made w prefix wanted freed) kept
 
     -- the run stands at another stage of a transaction; a lock may be ahead that was not
     pub stands_on : (s : Stage) (n : Rows) (after : IntentId → Bool) → is_inside s ≡ true → SameRoots m n → Kept h n h.plain h.known after → StageOk (tx_after d r.id k.instance k.answers) r.id g.caller g.machine.effect s
         → MarkOk r.id g.machine.steps g.tx g.machine.effect s → AtStage d n h.plain h.known r.id r.func g.tx g.machine.steps g.machine.effect s → Leaves (says.On s None) n
     stands_on s n after inner roots kept ok mark found = quiet d c m n i r h live roots (goes r (at_stage g s) None) h.known after refl refl (
       knows_stage d c.book h.known r g k c.book h.known k.instance k.later s k.made (grown_same k.instance) k.run_answers ok mark (inside_place d c.book r.id r.func k.answers k.later g.machine.effect s inner) (inside_done h.known r.id g.machine.steps k.instance g.caller s inner),
-      record { here = found; released = released_here n h.plain h.known after kept },
+      record { here = found; released = released_here n h.plain h.known after kept; row = (finds_still n h.plain h.known after kept).row },
     )
         (λ e. cc) kept
 
@@ -481,36 +522,45 @@ module _ (d : Deployment) (c : Core) (m : Rows) (i : ℕ) (r : Run) (g : Begun) 
         entered d c m n i r h live roots (goes r (at_stage g (stage.End v)) (Some by)) by q next h.locked refl leads (λ u e. cc) (
           knows_stage d c.book h.known r g k more next j (k.later ++ w.later) (stage.End v) made w (sym (append_assoc k.answers k.later w.later) ∙ ap (λ xs. xs ++ w.later) k.run_answers ∙ w.more) ok (end_unmarked r.id g.machine.steps g.tx g.machine.effect v)
               (inside_place d more r.id r.func k.answers (k.later ++ w.later) g.machine.effect (stage.End v) refl) (inside_done next r.id g.machine.steps j g.caller (stage.End v) refl),
-          record { here = found; released = released_here n q next h.locked kept },
+          record { here = found; released = released_here n q next h.locked kept; row = (finds_still n q next h.locked kept).row },
         )
         (λ e. cc) kept
+
+    -- ---- at another stage of its effect, that is no operation inside and no end: it knows there what it has to
+    module _ (e : Effect) (is : g.machine.effect ≡ e) where
+      pub at_other : (more : List Entry) (n : Rows) (q : PlainState) (next : Known) (after : IntentId → Bool) (j : Instance) (later : List Answer) (s : Stage) → is_inside s ≡ false → Kept h n q next after → map.get next r.id ≡ Some j → Grown k.instance j → k.answers ++ later ≡ j.answers
+          → StageOk (tx_after d r.id k.instance k.answers) r.id g.caller e s → PlaceOk d more r.id r.func k.answers later e s → SeenDone next r.id g.machine.steps j g.caller s → RunAt d n q more next (Some (record r { at = Begins (at_stage g s) }))
+      at_other more n q next after j later s off kept made w prefix ok place done = let still = finds_still n q next after kept in (
+        knows_stage d c.book h.known r g k more next j later s made w prefix (subst (λ z. StageOk (tx_after d r.id k.instance k.answers) r.id g.caller z s) (sym is) ok) (unmarked_off r.id g.machine.steps g.tx g.machine.effect s off)
+            (subst (λ z. PlaceOk d more r.id r.func k.answers later z s) (sym is) place) done,
+        record { here = nothing_found d n q next r.id r.func g.tx g.machine.steps g.machine.effect s off; released = still.released; row = still.row },
+      )
+
+      pub stays_other : (n : Rows) (s : Stage) → is_inside s ≡ false → Stays h n → StageOk (tx_after d r.id k.instance k.answers) r.id g.caller e s → PlaceOk d c.book r.id r.func k.answers k.later e s → SeenDone h.known r.id g.machine.steps k.instance g.caller s
+          → RunAt d n h.plain c.book h.known (Some (record r { at = Begins (at_stage g s) }))
+      stays_other n s off kept ok place done = at_other c.book n h.plain h.known h.locked k.instance k.later s off kept k.made (grown_same k.instance) k.run_answers ok place done
+
+      pub on_other : (n : Rows) (s : Stage) → is_inside s ≡ false → SameRoots m n → Stays h n → StageOk (tx_after d r.id k.instance k.answers) r.id g.caller e s → PlaceOk d c.book r.id r.func k.answers k.later e s → SeenDone h.known r.id g.machine.steps k.instance g.caller s
+          → Leaves (says.On s None) n
+      on_other n s off roots kept ok place done = quiet d c m n i r h live roots (goes r (at_stage g s) None) h.known h.locked refl refl (stays_other n s off kept ok place done) (λ e. cc) kept
 
     -- ---- outside transactions, at this effect
     module _ (out : tx_after d r.id k.instance k.answers ≡ None) (e : Effect) (is : g.machine.effect ≡ e) where
       -- at the front the plain state has it
       pub plain_there : k.later ≡ [] → map.get h.plain.made r.id ≡ Some k.instance
-      plain_there left = plain_here d h.plain h.known h.beside h.uncalled r.id k.instance k.made (legal_sane h) (outside_there d c.book h.known r g k out left)
+      plain_there left = plain_here d h.plain h.known h.beside r.id k.instance k.made (outside_here d c.book h.known r g k out).0 (legal_sane h) (outside_there d c.book h.known r g k out left).1
 
       -- and no lock of it is ahead
       pub unlocked_there : k.later ≡ [] → h.locked r.id ≡ false
       unlocked_there left = unlocked_outside d h.known h.locked h.locked_at_ends r.id k.instance k.made (tx_next d c.book h.known r g k out left)
 
-      -- the run at another stage of its effect, of which it knows what it has to
-      pub at_another : (more : List Entry) (n : Rows) (q : PlainState) (next : Known) (after : IntentId → Bool) (j : Instance) (later : List Answer) (s : Stage) → Kept h n q next after → map.get next r.id ≡ Some j → Grown k.instance j → k.answers ++ later ≡ j.answers
+      -- another stage of its effect
+      pub at_another : (more : List Entry) (n : Rows) (q : PlainState) (next : Known) (after : IntentId → Bool) (j : Instance) (later : List Answer) (s : Stage) → is_inside s ≡ false → Kept h n q next after → map.get next r.id ≡ Some j → Grown k.instance j → k.answers ++ later ≡ j.answers
           → StageOk None r.id g.caller e s → PlaceOk d more r.id r.func k.answers later e s → SeenDone next r.id g.machine.steps j g.caller s → RunAt d n q more next (Some (record r { at = Begins (at_stage g s) }))
-      at_another more n q next after j later s kept made w prefix ok place done =
-          let none = none_open d c.book h.known r g k out in (
-            knows_stage d c.book h.known r g k more next j later s made w prefix (subst (λ t. StageOk t r.id g.caller g.machine.effect s) (sym out) (subst (λ e. StageOk None r.id g.caller e s) (sym is) ok))
-                (subst (λ o. MarkOk r.id g.machine.steps o g.machine.effect s) (sym none) tt) (subst (λ e. PlaceOk d more r.id r.func k.answers later e s) (sym is) place) done,
-            record { here = subst (λ o. AtStage d n q next r.id r.func o g.machine.steps g.machine.effect s) (sym none) tt; released = released_here n q next after kept },
-          )
+      at_another more n q next after j later s off kept made w prefix ok place done = at_other e is more n q next after j later s off kept made w prefix (subst (λ t. StageOk t r.id g.caller e s) (sym out) ok) place done
 
-      pub stays_there : (n : Rows) (s : Stage) → Stays h n → StageOk None r.id g.caller e s → PlaceOk d c.book r.id r.func k.answers k.later e s → SeenDone h.known r.id g.machine.steps k.instance g.caller s → RunAt d n h.plain c.book h.known (Some (record r { at = Begins (at_stage g s) }))
-      stays_there n s kept ok place done = at_another c.book n h.plain h.known h.locked k.instance k.later s kept k.made (grown_same k.instance) k.run_answers ok place done
-
-      -- the effect goes on from a stage, of which the run knows what it has to
-      pub goes_on : (n : Rows) (s : Stage) → SameRoots m n → Stays h n → StageOk None r.id g.caller e s → PlaceOk d c.book r.id r.func k.answers k.later e s → SeenDone h.known r.id g.machine.steps k.instance g.caller s → Leaves (says.On s None) n
-      goes_on n s roots kept ok place done = quiet d c m n i r h live roots (goes r (at_stage g s) None) h.known h.locked refl refl (stays_there n s kept ok place done) (λ e. cc) kept
+      pub goes_on : (n : Rows) (s : Stage) → is_inside s ≡ false → SameRoots m n → Stays h n → StageOk None r.id g.caller e s → PlaceOk d c.book r.id r.func k.answers k.later e s → SeenDone h.known r.id g.machine.steps k.instance g.caller s → Leaves (says.On s None) n
+      goes_on n s off roots kept ok place done = on_other e is n s off roots kept (subst (λ t. StageOk t r.id g.caller e s) (sym out) ok) place done
 
       -- what the step was answered, where it was, is an answer to its effect
       pub fits : (a : Answer) (rest : List Answer) → k.later ≡ a ∷ rest → IsAnswerTo e a
@@ -535,7 +585,7 @@ module _ (d : Deployment) (c : Core) (m : Rows) (i : ℕ) (r : Run) (g : Begun) 
       -- .. and a run of its callee, which has its row, may start
       pub starts_one : (n : Rows) (a : Answer) (rest : List Answer) → SameRoots m n → Stays h n → k.later ≡ a ∷ rest → ((book : List Entry) (known : Known) (o : Run) → callee_of r ≡ Some o → KnowsAt d book known o o.at) → Leaves (says.Starts a) n
       starts_one n a rest roots kept left callee = comes_with d c m n i r h live roots (takes d g.machine g.tx a) g.caller
-          (takes_next c.book n h.plain h.known h.locked k.instance a rest None kept (legal_sane h) k.made (grown_same k.instance) (known_prefix a rest left) (answers_it a (fits a rest left)) (none_owned n)) (callee c.book h.known) kept
+          (takes_next c.book n h.plain h.known h.locked k.instance a rest None kept k.made (grown_same k.instance) (known_prefix a rest left) (answers_it a (fits a rest left)) (none_owned n)) (callee c.book h.known) kept
 
       -- it steps on: the instance has the answer now
       pub steps_on : (a : Answer) (by : Mark) (q : PlainState) (n : Rows) → k.later ≡ [] → IsAnswerTo e a → let known : Known = map.insert h.known r.id (moved d r.id k.instance a) in Entered d c h.plain h.known (entry_of r.id by) q known → SameRoots m n → Kept h n q known h.locked → Leaves (says.Answers a (Some by)) n
@@ -545,5 +595,5 @@ module _ (d : Deployment) (c : Core) (m : Rows) (i : ℕ) (r : Run) (g : Begun) 
           let next : Known = map.insert h.known r.id j in
           let book : List Entry = c.book ++ entry_of r.id by ∷ [] in
           steps_to d c m n i r h live roots next h.locked (takes d g.machine g.tx a) g.caller by q leads
-          (takes_next book n q next h.locked j a more.more (Some by) kept (legal_is_sane d book q leads.legal) (get_set id_total id_exact h.known r.id j) (grown_moved d r.id k.instance a)
+          (takes_next book n q next h.locked j a more.more (Some by) kept (get_set id_total id_exact h.known r.id j) (grown_moved d r.id k.instance a)
           (ap (λ xs. (xs ++ a ∷ []) ++ more.more) (all_here d c.book h.known r g k left) ∙ more.same) (answers_it a ok) (none_owned n)) kept

@@ -1,14 +1,13 @@
--- The turns of a run at the end of its transaction, past the decision: it visits the items that the transaction asked the locks of, one
--- after another, and gives each back once.
-use Rattle.std.proofs.Common.{◌≡◌, inl, inr, ℕ, ◌==◌, ◌&&◌, ◌||◌, not, Bool, true, false, List, [], ◌∷◌, ◌++◌, length, Option, None, Some, is_some, refl, ap, sym, ◌∙◌, subst, IsTrue, append_assoc, arith, eq-eqb, if◌then◌else◌}
-use Rattle.std.specs.Prelude.{take}
+-- The turns of a run at the end of its transaction, past the decision: it visits who took part, one after another; of each the items that
+-- it asked the locks of, and gives each back once; and gives each of them but its own instance a finish.
+use Rattle.std.proofs.Common.{◌≡◌, ◌⊎◌, inl, inr, ℕ, ◌==◌, ◌&&◌, ◌||◌, not, Bool, true, false, List, [], ◌∷◌, ◌++◌, length, Option, None, Some, is_some, refl, ap, sym, ◌∙◌, subst, IsTrue, append_assoc, eq-eqb, if◌then◌else◌}
 use Rattle.std.specs.FinMap as map
 use Rattle.std.specs.FinMap.{same_map}
+use Rattle.std.specs.Option.{option_map}
 use Rattle.std.specs.Ordering.{is_eq}
-use Rattle.std.proofs.lemmas.List.{take-append-le}
+use Rattle.beldi_value.specs.Id.{has_callees, has_no_hops}
 use Rattle.beldi_value.specs.declared.id.IntentId.{IntentId}
-use Rattle.beldi_value.specs.declared.place.Owner.{Owner}
-use Rattle.beldi_value.specs.declared.place.Owner.TheVariants.{Intent, Tx}
+use Rattle.beldi_value.specs.declared.place.Owner.TheVariants.{Tx}
 use Rattle.beldi_value.specs.declared.place.Place.{Place}
 use Rattle.beldi_value.specs.declared.place.TxId.{TxId}
 use Rattle.beldi_value.specs.declared.value.Value.{Value}
@@ -16,14 +15,16 @@ use Rattle.beldi_value.specs.declared.value.Value.TheVariants as value
 use Rattle.beldi_tree.specs.declared.deployment.Deployment.{Deployment}
 use Rattle.beldi_lang.specs.declared.effect.Answer.{Answer}
 use Rattle.beldi_lang.specs.declared.effect.Answer.TheVariants as answer
-use Rattle.beldi_lang.specs.declared.effect.Effect.{Effect}
 use Rattle.beldi_lang.specs.declared.effect.Effect.TheVariants as effect
 use Rattle.beldi_lang.specs.Wants.{wants_answer}
 use Rattle.beldi_book.specs.Order.{count_changes}
 use Rattle.beldi_row.specs.declared.key.RowKey.{RowKey}
+use Rattle.beldi_row.specs.declared.key.Kind.{Kind}
 use Rattle.beldi_row.specs.declared.key.Kind.TheVariants as kinds
 use Rattle.beldi_row.specs.declared.notes.Note.{Note}
 use Rattle.beldi_row.specs.declared.notes.Note.TheVariants as note
+use Rattle.beldi_row.specs.declared.row.Body.{Body}
+use Rattle.beldi_row.specs.declared.row.IntentRow.{IntentRow}
 use Rattle.beldi_row.specs.declared.row.Row.{Row}
 use Rattle.beldi_row.specs.declared.row.Row.TheVariants as rows
 use Rattle.beldi_row.specs.Act.{owns, given_or}
@@ -31,6 +32,8 @@ use Rattle.beldi_row.specs.Key.{key_cmp}
 use Rattle.beldi_row.specs.KeyOrder.{key_total, key_exact}
 use Rattle.beldi_row.specs.Log.{note_at}
 use Rattle.beldi_row.specs.Table.{Rows, set_row}
+use Rattle.beldi_row.proofs.Gets.{key_same}
+use Rattle.beldi_row.proofs.Unchanged.{unchanged}
 use Rattle.beldi_walk.specs.declared.query.Query.{Query}
 use Rattle.beldi_walk.specs.Query.{Told, rows_after, told_by}
 use Rattle.beldi_walk.proofs.Promises.{at_each}
@@ -44,68 +47,77 @@ use Rattle.beldi_daal.specs.Cell.{read_goes, write_goes}
 use Rattle.beldi_daal.specs.Content.{Content, content_in, SoundAt}
 use Rattle.beldi_daal.specs.Logged.{done_to}
 use Rattle.beldi_daal.proofs.Stays.{notes_stay}
+use Rattle.beldi_intent.specs.Intent.{intent_key, root_key}
 use Rattle.beldi_lock.specs.Lockset.{lockset_found}
 use Rattle.beldi_plain.specs.Executor.{AllShort}
 use Rattle.beldi_plain.specs.Item.{Item}
 use Rattle.beldi_plain.specs.Operation.{touched}
 use Rattle.beldi_plain.specs.Piece.{is_aborted}
-use Rattle.beldi_plain.specs.Plain.{Instance, effect_of, effect_before}
+use Rattle.beldi_plain.specs.Plain.{Instance, effect_of}
 use Rattle.beldi_order.specs.Sane.{IsAnswer}
-use Rattle.beldi_order.specs.Txs.{Txs, tx_after, tx_by, tx_now, txs_after, txs_by, or_own, is_at, end_of, effect_after}
+use Rattle.beldi_order.specs.Txs.{tx_after, tx_by, tx_now, txs_after, or_own, effect_after}
+use Rattle.beldi_order.proofs.Entries.{grows_self}
 use Rattle.beldi_order.proofs.Maps.{same_some}
 use Rattle.beldi_order.proofs.Operations.{item_same}
-use Rattle.beldi_order.proofs.Went.{txs_pushed}
 use Rattle.beldi_txn.specs.declared.end.EndAt.{EndAt}
-use Rattle.beldi_txn.specs.declared.end.EndAt.TheVariants.{Decide, Callees, Next, Shadow, Free}
+use Rattle.beldi_txn.specs.declared.end.EndAt.TheVariants.{Decide, Callees, Next, Shadow, Free, Stamp}
 use Rattle.beldi_txn.specs.declared.end.EndGoes.{EndGoes}
 use Rattle.beldi_txn.specs.declared.end.EndGoes.TheVariants as goes
 use Rattle.beldi_txn.specs.declared.end.Visit.{Visit}
 use Rattle.beldi_txn.specs.declared.end_walk.EndWalk.{EndWalk}
-use Rattle.beldi_txn.specs.End.{end_place, visit_asks, end_goes, value_goes, freed_goes, next_goes, moved}
+use Rattle.beldi_txn.specs.declared.way.Called.{Called}
+use Rattle.beldi_txn.specs.End.{back_from, call_goes, calls_goes, counts, end_goes, first_end, free_place, freed_goes, last_goes, moved, next_goes, value_goes, visit_asks, visited_by}
+use Rattle.beldi_txn.specs.Invokes.{func_called, invokes_found}
 use Rattle.beldi_txn.specs.TxTurn.{shadow_value}
-use Rattle.beldi_txn.specs.Visited.{DecidedAt, IsDecided, given_value, Visited, AllFreed}
+use Rattle.beldi_txn.specs.Visited.{AllFreed, AllReleased, AreReleased, DecidedAt, GetsFinish, IsDecided, IsMember, Visited, given_value}
+use Rattle.beldi_txn.specs.Way.{Member, is_owner, split_last}
 use Rattle.beldi_txn.proofs.TxTurn.{asked}
-use Rattle.beldi_txn.proofs.Visited.{FindsFirstLock, Leads, turns}
+use Rattle.beldi_txn.proofs.Visited.{Leads, turns}
 use Rattle.beldi_readlog.specs.ReadLog.{log_key}
 use Rattle.beldi_step.specs.declared.run.Run.{Run}
 use Rattle.beldi_step.specs.declared.run.Begun.{Begun}
 use Rattle.beldi_step.specs.declared.run.OpenTx.{OpenTx}
+use Rattle.beldi_step.specs.declared.run.RunTx.{RunTx}
+use Rattle.beldi_step.specs.declared.run.RunTx.TheVariants.{Own, Inherited}
 use Rattle.beldi_step.specs.declared.run.Says.TheVariants as says
 use Rattle.beldi_step.specs.declared.run.Stage.TheVariants as stage
-use Rattle.beldi_step.specs.Run.{place_of, own_tx, turned_by, end_by_asks, end_by_says, stage_asks, stage_says, visit_says}
+use Rattle.beldi_step.specs.Run.{place_of, own_tx, tx_of, turned_by, end_by_asks, end_by_says, stage_asks, stage_says, visit_says}
 use Rattle.beldi_step.specs.Host.{Core, turn_next}
 use Rattle.beldi_step.specs.Tables.{decision_key, is_committed, value_in}
-use Rattle.beldi_intent.specs.Intent.{root_key}
 use Rattle.beldi_known.specs.Beside.{is_begin}
 use Rattle.beldi_known.specs.Contents.{content_of, head_key, lockset_key, shadow_key}
-use Rattle.beldi_known.specs.Known.{Known, is_item, is_tx, is_on, begins_at, got_before, got_by, owed_lockset, tx_end, ended_by, commit_in, is_mark, is_decided, last_step}
+use Rattle.beldi_known.specs.Known.{Known, is_item, is_tx, is_on, begins_at, got_before, got_by, owed_lockset, tx_end, tx_eq, ended_at, ended_by, commit_in, is_mark, is_decided, last_step}
 use Rattle.beldi_known.specs.Listed.{listed}
-use Rattle.beldi_known.specs.Matches.{Matches, LocksetMatches, LockedAtEnds, LockedIf, lockset_ahead}
+use Rattle.beldi_known.specs.Matches.{Matches, LocksetMatches, LockedAtEnds, LockedIf, has_ended, lockset_ahead}
+use Rattle.beldi_known.specs.Rows.{CalleeBodyMatches, CalleeMatches, FinishMatches, IntentMatches, IsCalleeRow, tx_in}
 use Rattle.beldi_known.specs.Sane.{Sane}
 use Rattle.beldi_known.proofs.Acts.{kinds_apart, is_shadow}
 use Rattle.beldi_known.proofs.AtFront.{no_decision}
 use Rattle.beldi_known.proofs.Behind.{front, there as was_answered, stepped, lockset_there}
 use Rattle.beldi_known.proofs.Decided.{release_lists}
-use Rattle.beldi_known.proofs.Frame.{begins}
-use Rattle.beldi_order.proofs.Ends.{ended_stays, fits_at}
 use Rattle.beldi_known.proofs.Inside.{released}
 use Rattle.beldi_known.proofs.Locks.{tx_self, tx_same}
-use Rattle.beldi_known.proofs.OneFunction.{Own, own_by}
+use Rattle.beldi_known.proofs.OneFunction.{own_by}
 use Rattle.beldi_known.proofs.Participants.{now_open}
 use Rattle.beldi_known.proofs.ReadLists.{both, Gathered, gathered}
 use Rattle.beldi_known.proofs.Rows.{keys_set, no_root}
-use Rattle.beldi_laws.specs.Right.{Right, Knows, StageOk, MarkOk, is_past}
-use Rattle.beldi_laws.specs.Inside.{AtStage, Inside, end_walk}
-use Rattle.beldi_laws.proofs.Frames.{frame_held, frame_item, items_stay}
+use Rattle.beldi_known.proofs.Sets.{row_put}
+use Rattle.beldi_laws.specs.Inside.{AtStage, Frame, Inside, ParticipantsAreReleased, ParticipantsHaveRows, TookPart, end_walk, has_finish}
+use Rattle.beldi_laws.specs.Right.{Right, Knows, StageOk, MarkOk, is_past, open_of}
+use Rattle.beldi_laws.specs.Stands.{key_in}
+use Rattle.beldi_laws.proofs.Closing.{at_key, closed_rows_of, owner_is}
+use Rattle.beldi_laws.proofs.Ended.{ends_outside}
+use Rattle.beldi_laws.proofs.Frames.{NoFinish, frame_held, frame_item, frame_row, items_stay, no_finish, nobody_new, settled_rows}
 use Rattle.beldi_laws.proofs.Grown.{grown_same}
-use Rattle.beldi_laws.proofs.Keeping.{SameShadows, act_stays, as_it_was, stays_by}
+use Rattle.beldi_laws.proofs.Keeping.{SameShadows, act_stays, as_it_was, goes_still, stays_by}
+use Rattle.beldi_laws.proofs.Members.{TakesPart, members_joined, part_below, part_key, reached, took_part}
 use Rattle.beldi_laws.proofs.Moves.{AfterQuery, SameRoots, Stays}
-use Rattle.beldi_laws.proofs.InTx.{opens}
-use Rattle.beldi_laws.proofs.OpenOf.{begin_of, open_begun}
+use Rattle.beldi_laws.proofs.OpenOf.{called_in, open_begun, open_tx, own_begin}
+use Rattle.beldi_laws.proofs.Others.{end_here, kept_by}
 use Rattle.beldi_laws.proofs.Owed.{content_kept, contents_kept, others_list}
-use Rattle.beldi_laws.proofs.Shown.{legal_sane, shown}
-use Rattle.beldi_laws.proofs.Turns.{at_steps, wanted_here, Leaves, all_here, none_within, stands_on, answers_on}
-use Rattle.beldi_laws.proofs.Widths.{finds_first}
+use Rattle.beldi_laws.proofs.Shown.{log_values, settled}
+use Rattle.beldi_laws.proofs.Turns.{at_steps, wanted_here, Leaves, all_here, stands_on, answers_on}
+use Rattle.beldi_laws.proofs.Widths.{finds_first, no_begin}
 
 -- ---- past the decision
 decided_past : (a : EndAt) (w : EndWalk) (m : Rows) → is_past a ≡ true → DecidedAt a w m → IsDecided w m
@@ -114,44 +126,64 @@ decided_past Callees w m past h = h
 decided_past Next w m past h = h
 decided_past Shadow w m past h = h
 decided_past (Free f) w m past h = h
+decided_past Stamp w m past h = h
 
 -- a turn past it stays past it
-next_past : (commit : Bool) (i : Option (ℕ × List ℕ)) (u : Option Value) (f : Option (ℕ × List ℕ)) → is_past (moved commit (record { item = i; value = u; at = Next }) (next_goes f)).at ≡ true
-next_past commit i u None = refl
-next_past true i u (Some j) = refl
-next_past false i u (Some j) = refl
+abbrev visit : List Called → Option ℕ → Option (ℕ × List ℕ) → Option Value → EndAt → Visit
+visit cs af y u a = record { way = cs; after = af; item = y; value = u; at = a }
 
-shadow_past : (commit : Bool) (i : Option (ℕ × List ℕ)) (u : Option Value) (g : ReadGoes) → is_past (moved commit (record { item = i; value = u; at = Shadow }) (value_goes g)).at ≡ true
-shadow_past commit i u reads.On = refl
-shadow_past commit i u (reads.Got v) = refl
-shadow_past commit i u (reads.Held w) = refl
+module _ (cs : List Called) (af : Option ℕ) (y : Option (ℕ × List ℕ)) (u : Option Value) where
+  abbrev IsPast : Bool → EndAt → EndGoes → Type 0
+  IsPast commit a z = is_past (moved commit (visit cs af y u a) z).at ≡ true
 
-free_past : (commit : Bool) (i : Option (ℕ × List ℕ)) (u : Option Value) (f : WriteAt) (g : WriteGoes) → is_past (moved commit (record { item = i; value = u; at = Free f }) (freed_goes f g)).at ≡ true
-free_past commit i u f (writes.On a) = refl
-free_past commit i u f (writes.Done w first) = refl
-free_past commit i u f writes.NotOwner = refl
-free_past commit i u f (writes.Held w) = refl
+  called_past : (commit b : Bool) (c : Called) → IsPast commit Callees (call_goes b cs c)
+  called_past commit true c = refl
+  called_past commit false c = refl
 
-goes_past : (x : TxId) (commit : Bool) (i : Option (ℕ × List ℕ)) (u : Option Value) (a : EndAt) (t : Told) → is_past a ≡ true → is_past (moved commit (record { item = i; value = u; at = a }) (end_goes x commit a t)).at ≡ true
-goes_past x commit i u Decide t past = cc
-goes_past x commit i u Callees t past = refl
-goes_past x commit i u Next t past = next_past commit i u (lockset_found x.func x.intent x.begin t)
-goes_past x commit i u Shadow t past = shadow_past commit i u (read_goes None t)
-goes_past x commit i u (Free f) t past = free_past commit i u f (write_goes note.Freed t)
+  calls_past : (commit : Bool) (end : ℕ) (p : Member) (f : Option Called) → IsPast commit Callees (calls_goes end p cs f)
+  calls_past commit end p None = refl
+  calls_past commit end p (Some c) = by_test (counts end cs c)
+    where
+      by_test : (b : Bool) → IsPast commit Callees (if b then call_goes (has_callees p.0) cs c else goes.On Next)
+      by_test true = called_past commit (has_callees p.0) c
+      by_test false = refl
 
--- ---- what a transaction that has ended owns it asked the lock of
-owned_by : (s : TxId) (o : Option Owner) → owns (Tx s) o ≡ true → o ≡ Some (Tx s)
-owned_by s None h = cc
-owned_by s (Some (Intent j)) h = cc
-owned_by s (Some (Tx t)) h = ap (λ z. Some (Tx z)) (tx_same t s h)
+  last_past : (commit b : Bool) → IsPast commit Next (last_goes b)
+  last_past commit true = refl
+  last_past commit false = refl
 
+  next_past : (commit : Bool) (f : Option (ℕ × List ℕ)) → IsPast commit Next (next_goes cs f)
+  next_past commit None = last_past commit (is_owner cs)
+  next_past true (Some j) = refl
+  next_past false (Some j) = refl
+
+  shadow_past : (commit : Bool) (g : ReadGoes) → IsPast commit Shadow (value_goes g)
+  shadow_past commit reads.On = refl
+  shadow_past commit (reads.Got v) = refl
+  shadow_past commit (reads.Held w) = refl
+
+  free_past : (commit : Bool) (f : WriteAt) (g : WriteGoes) → IsPast commit (Free f) (freed_goes f g)
+  free_past commit f (writes.On a) = refl
+  free_past commit f (writes.Done w first) = refl
+  free_past commit f writes.NotOwner = refl
+  free_past commit f (writes.Held w) = refl
+
+  back_past : (s : Option (List Called × Called)) → is_past (back_from (visit cs af y u Stamp) s).at ≡ true
+  back_past None = refl
+  back_past (Some s) = refl
+
+  goes_past : (x : TxId) (end : ℕ) (commit : Bool) (a : EndAt) (t : Told) → is_past a ≡ true → IsPast commit a (end_goes x end commit cs a t)
+  goes_past x end commit Decide t past = cc
+  goes_past x end commit Callees t past = let p = visited_by x cs in calls_past commit end p (invokes_found p.1 p.0 t)
+  goes_past x end commit Next t past = let p = visited_by x cs in next_past commit (lockset_found p.1 p.0 x.begin t)
+  goes_past x end commit Shadow t past = shadow_past commit (read_goes None t)
+  goes_past x end commit (Free f) t past = free_past commit f (write_goes note.Freed t)
+  goes_past x end commit Stamp t past = back_past (split_last cs)
+
+-- ---- what a transaction that has ended owns, one that took part asked the lock of
 is_its : (t : TxId) (o : Option TxId) → is_tx t o ≡ true → o ≡ Some t
 is_its t None h = cc
 is_its t (Some s) h = ap Some (sym (tx_same t s h))
-
-no_begin : (x : Item) (func : ℕ) (e : Effect) → is_item x func (touched e) ≡ true → is_begin e ≡ false
-no_begin x func effect.Begin h = cc
-no_begin x func e h = refl
 
 of_function : (x : Item) (func : ℕ) (o : Option (ℕ × List ℕ)) → is_item x func o ≡ true → x.func ≡ func
 of_function x func None h = cc
@@ -162,13 +194,14 @@ row_owed None ahead h = cc
 row_owed (Some rows.Lockset) ahead h = refl
 row_owed (Some r) ahead h = absurd h
 
--- the item is one of its function, and the row is there
-pub record HasAsked (m : Rows) (t : TxId) (x : Item) : Type 0 where
-  pub func : x.func ≡ t.func
-  pub row : map.get m (lockset_key t.intent t.begin x) ≡ Some rows.Lockset
+-- a member's function has the item, and the row is there
+pub record HasAsked (m : Rows) (known : Known) (t : TxId) (x : Item) : Type 0 where
+  pub member : Member
+  pub role : (◌≡◌ {A = Member} member (t.intent, t.func)) ⊎ TakesPart known t member
+  pub func : x.func ≡ member.1
+  pub row : map.get m (lockset_key member.0 t.begin x) ≡ Some rows.Lockset
 
-module _ (d : Deployment) (m : Rows) (known : Known) (locked : IntentId → Bool) (h : Matches d m known locked) (sane : Sane d known) (ends : LockedAtEnds d known locked) (none : (j : IntentId) (z : Instance) → map.get known j ≡ Some z → z.within ≡ None)
-    (t : TxId) (e : ℕ × Bool) (ended : tx_end d known t ≡ Some e) (x : Item) where
+module _ (d : Deployment) (m : Rows) (known : Known) (locked : IntentId → Bool) (h : Matches d m known locked) (sane : Sane d known) (ends : LockedAtEnds d known locked) (t : TxId) (e : ℕ × Bool) (ended : tx_end d known t ≡ Some e) (x : Item) where
   module _ (j : IntentId) (q : Instance) (is : map.get known j ≡ Some q) where
     abbrev On : List Answer → Type 0
     On ts = is_on t x q.func (tx_after d j q ts) (effect_after d q ts) ≡ true
@@ -176,28 +209,38 @@ module _ (d : Deployment) (m : Rows) (known : Known) (locked : IntentId → Bool
     tx_there : (ts : List Answer) → On ts → tx_after d j q ts ≡ Some t
     tx_there ts on = is_its t (tx_after d j q ts) (both (is_tx t (tx_after d j q ts)) (is_item x q.func (touched (effect_after d q ts))) on).0
 
-    own_there : (ts : List Answer) → On ts → Own j q.func (txs_after d q ts).begun t
-    own_there ts on =
-        let w = (txs_after d q ts).begun in
-        let b = effect_after d q ts in
-        own_by j q.func (length ts) b w t (no_begin x q.func b (both (is_tx t (tx_after d j q ts)) (is_item x q.func (touched b)) on).1)
-        (sym (ap (λ z. or_own z (tx_by j q.func (length ts) b w)) (none j q is)) ∙ tx_there ts on)
+    -- it is its owner, or was called in it
+    role_there : (ts : List Answer) → On ts → (◌≡◌ {A = Member} (j, q.func) (t.intent, t.func)) ⊎ TakesPart known t (j, q.func)
+    role_there ts on = by_within q.within refl
+      where
+        by_within : (o : Option TxId) → q.within ≡ o → (◌≡◌ {A = Member} (j, q.func) (t.intent, t.func)) ⊎ TakesPart known t (j, q.func)
+        by_within None out =
+            let k = own_by j q.func (length ts) (effect_after d q ts) (txs_after d q ts).begun t
+            (no_begin x q.func (effect_after d q ts) (both (is_tx t (tx_after d j q ts)) (is_item x q.func (touched (effect_after d q ts))) on).1)
+            (sym (ap (λ o. or_own o (tx_by j q.func (length ts) (effect_after d q ts) (txs_after d q ts).begun)) out) ∙ tx_there ts on) in
+            inl (λ i. (sym k.intent i, sym k.func_is i))
+        by_within (Some s) in_it = inr (record {
+          instance = q;
+          made = is;
+          within = in_it ∙ sym (ap (λ o. or_own o (tx_by j q.func (length ts) (effect_after d q ts) (txs_after d q ts).begun)) in_it) ∙ tx_there ts on;
+          func = refl;
+        })
 
     -- an operation of it that was answered
-    by_answer : (g : List Answer → Answer → Bool) → ((ts : List Answer) (a : Answer) → g ts a ≡ true → On ts) → Gathered g q.answers → HasAsked m t x
+    by_answer : (g : List Answer → Answer → Bool) → ((ts : List Answer) (a : Answer) → g ts a ≡ true → On ts) → Gathered g q.answers → HasAsked m known t x
     by_answer g on k =
         let ts = k.before in
         let here = on ts k.answer k.holds in
-        let own = own_there ts here in
         let touches = (both (is_tx t (tx_after d j q ts)) (is_item x q.func (touched (effect_after d q ts))) here).1 in
         let asks : (begins_at t.begin (tx_after d j q ts) && is_item x q.func (touched (effect_after d q ts))) ≡ true =
         ap (λ z. begins_at t.begin z && is_item x q.func (touched (effect_after d q ts))) (tx_there ts here) ∙ ap (λ b. b && is_item x q.func (touched (effect_after d q ts))) (eq-eqb t.begin t.begin refl) ∙ touches in
-        let owed : owed_lockset d t.begin x t.intent (map.get known t.intent) ≡ true =
-        ap (owed_lockset d t.begin x t.intent) (ap (map.get known) own.intent ∙ is) ∙ ap (λ y. owed_lockset d t.begin x y (Some q)) own.intent ∙ lockset_there d j q ts k.answer k.later k.parts t.begin x asks in
-        let key = lockset_key t.intent t.begin x in
+        let owed : owed_lockset d t.begin x j (map.get known j) ≡ true = ap (owed_lockset d t.begin x j) is ∙ lockset_there d j q ts k.answer k.later k.parts t.begin x asks in
+        let key = lockset_key j t.begin x in
         record {
-          func = of_function x q.func (touched (effect_after d q ts)) touches ∙ sym own.func_is;
-          row = row_owed (map.get m key) (lockset_ahead d known t.begin x t.intent (map.get known t.intent)) (subst (λ b. LocksetMatches (map.get m key) b (lockset_ahead d known t.begin x t.intent (map.get known t.intent))) owed (h.keys key));
+          member = (j, q.func);
+          role = role_there ts here;
+          func = of_function x q.func (touched (effect_after d q ts)) touches;
+          row = row_owed (map.get m key) (lockset_ahead d known t.begin x j (map.get known j)) (subst (λ b. LocksetMatches (map.get m key) b (lockset_ahead d known t.begin x j (map.get known j))) owed (h.keys key));
         }
 
     -- none is ahead, as it has ended
@@ -207,19 +250,37 @@ module _ (d : Deployment) (m : Rows) (known : Known) (locked : IntentId → Bool
         let at = subst (LockedIf d j) is (ends j k.0) in
         let clash = sym (now_open d known sane j q t is at.open_still (tx_there q.answers k.1)) ∙ ended in cc
 
-    by_got : (b : Bool) → got_before d t x j q ≡ b → (b || (locked j && is_on t x q.func (tx_now d j q) (effect_of d q))) ≡ true → HasAsked m t x
+    by_got : (b : Bool) → got_before d t x j q ≡ b → (b || (locked j && is_on t x q.func (tx_now d j q) (effect_of d q))) ≡ true → HasAsked m known t x
     by_got false was g = absurd (not_ahead g)
     by_got true was g = elim (gathered (λ ts c. is_on t x q.func (tx_after d j q ts) (effect_after d q ts) && not (is_aborted c)) [] q.answers false was) [
       | inl k ↦ cc
       | inr k ↦ by_answer (λ ts c. is_on t x q.func (tx_after d j q ts) (effect_after d q ts) && not (is_aborted c)) (λ ts c on. (both (is_on t x q.func (tx_after d j q ts) (effect_after d q ts)) (not (is_aborted c)) on).0) k
     ]
 
-  by_member : (j : IntentId) (u : Option Instance) → map.get known j ≡ u → got_by d t x j (locked j) u ≡ true → HasAsked m t x
+  by_member : (j : IntentId) (u : Option Instance) → map.get known j ≡ u → got_by d t x j (locked j) u ≡ true → HasAsked m known t x
   by_member j None is g = cc
   by_member j (Some q) is g = by_got j q is (got_before d t x j q) refl g
 
-  pub has_asked : (content_of m x).owner ≡ Some (Tx t) → HasAsked m t x
+  pub has_asked : (content_of m x).owner ≡ Some (Tx t) → HasAsked m known t x
   has_asked owned = let g = (h.txs x).owned_is_got t owned in by_member g.member (map.get known g.member) refl g.got
+
+  -- so it owns nothing, where all who took part have given back all
+  pub owns_none : AllShort known → AllReleased (first_end t e.0 e.1) m → (content_of m x).owner ≡ Some (Tx t) → ⊥
+  owns_none short all owned = let a = has_asked owned in by_role a a.role
+    where
+      freed_by : (a : HasAsked m known t x) (p : Member) → a.member ≡ p → AllFreed (first_end t e.0 e.1) m p → ⊥
+      freed_by a p same freed =
+          let func : x.func ≡ p.1 = a.func ∙ ap (λ (y : Member). y.1) same in
+          let row : map.get m (lockset_key p.0 t.begin (record { func = p.1; table = x.table; key = x.key })) ≡ Some rows.Lockset = subst (λ f. map.get m (record { home = f; kind = kinds.Lockset p.0 t.begin x.table x.key }) ≡ Some rows.Lockset) func (subst (λ (i : IntentId). map.get m (lockset_key i t.begin x) ≡ Some rows.Lockset) (ap (λ (y : Member). y.0) same) a.row) in
+          let own : (content_of m (record { func = p.1; table = x.table; key = x.key })).owner ≡ Some (Tx t) = subst (λ f. (content_of m (record { func = f; table = x.table; key = x.key })).owner ≡ Some (Tx t)) func owned in
+          let clash = sym (ap (owns (Tx t)) own ∙ tx_self t) ∙ freed (x.table, x.key) rows.Lockset row in cc
+
+      by_role : (a : HasAsked m known t x) → (◌≡◌ {A = Member} a.member (t.intent, t.func)) ⊎ TakesPart known t a.member → ⊥
+      by_role a (inl own) = freed_by a (t.intent, t.func) own all.owner
+      by_role a (inr part) =
+          let r = reached d m known locked h sane t e ended short a.member.0 part.instance part.made part.within in
+          let to : a.member ≡ visited_by t (r.first ∷ r.rest) = sym (r.leads ∙ ap (λ f. (a.member.0, f)) part.func) in
+          freed_by a (visited_by t (r.first ∷ r.rest)) to (all.freed r.first r.rest r.member)
 
 -- ---- the rows of a turn
 -- rows that differ at one key are the others with that row set
@@ -242,7 +303,20 @@ done_only p None b answer.Done h = refl
 done_only p (Some t) b answer.Done h = refl
 done_only p t b a h = absurd h
 
--- ---- a turn that leaves the rows, or gives an item back
+or_true : (b : Bool) → (b || true) ≡ true
+or_true true = refl
+or_true false = refl
+
+-- the row of a root, and whose an intent's row is
+abbrev is_root : Kind → Bool
+is_root (kinds.Intent id) = has_no_hops id.hops
+is_root k = false
+
+abbrev id_in : IntentId → Kind → IntentId
+id_in j (kinds.Intent id) = id
+id_in j k = j
+
+-- ---- a turn that leaves the rows, gives an item back, or gives a finish
 module _ (d : Deployment) (c : Core) (m : Rows) (h : Right d c m) where
   abbrev Keeps : Rows → Type 0
   Keeps n = Stays h n × SameRoots m n
@@ -267,13 +341,17 @@ module _ (d : Deployment) (c : Core) (m : Rows) (h : Right d c m) where
     notes : (a : Place) (w : Note) → note_at (content_of m y).notes a ≡ Some w → note_at (content_of n y).notes a ≡ Some w
     notes a w = at_each (λ r s. note_at (content_in r).notes a ≡ Some w → note_at (content_in s).notes a ≡ Some w) (λ r e. e) (λ b t r. notes_stay b t r a w) q c.now m (head_key y)
 
+    -- nobody gets a finish
+    unfinished : NoFinish d m n h.known
+    unfinished = no_finish m n (head_key y) others d h.known refl
+
     -- it stands
     stands : content_of n y ≡ content_of m y → Keeps n
     stands held = (
       stays_by h n shadows
           (content_kept d m n y others h.known h.locked sound held h.rows)
           (λ x. others_list m n y others x (contents_kept d m n y others held x) ∙ h.values x)
-          (frame_held d m h.plain h.plain h.known h.known (items_stay d m h.plain h.plain h.known refl) n y others there held),
+          (frame_held d m h.plain h.plain h.known h.known (items_stay d m h.plain h.plain h.known refl) (nobody_new d h.known) n y others there held) unfinished,
       roots,
     )
 
@@ -284,7 +362,7 @@ module _ (d : Deployment) (c : Core) (m : Rows) (h : Right d c m) where
         stays_by h n shadows
             (subst (λ l. Matches d l h.known h.locked) all (released d m h.known h.locked y s z p (given_or u (content_of m y).value) (map.get n (head_key y)) owned ended mark none sound is h.rows))
             (λ x. ap (λ l. listed l x) (sym all) ∙ release_lists m y s (map.get n (head_key y)) owned free value x ∙ h.values x)
-            (frame_item d m h.plain h.plain h.known h.known (items_stay d m h.plain h.plain h.known refl) n y others there notes (λ t e end own. let clash = sym free ∙ own in cc)),
+            (frame_item d m h.plain h.plain h.known h.known (items_stay d m h.plain h.plain h.known refl) (nobody_new d h.known) n y others there notes (λ t e end own. let clash = sym free ∙ own in cc)) unfinished,
         roots,
       )
         where
@@ -298,8 +376,77 @@ module _ (d : Deployment) (c : Core) (m : Rows) (h : Right d c m) where
           value = ap (λ (a : Content). a.value) is ∙ ap (λ a. given_or a (content_of m y).value) gives ∙ given_so z.1 (map.get m (shadow_key s y)) (content_of m y).value
               ∙ ap (λ r. if is_committed r then value_in (map.get m (shadow_key s y)) (content_of m y).value else (content_of m y).value) (sym decided)
 
+  -- the row of who took part gets its finish
+  module _ (s : TxId) (z : ℕ × Bool) (ended : tx_end d h.known s ≡ Some z) (p : Member) (part : TakesPart h.known s p) (n : Rows) (others : (l : RowKey) → is_eq (key_cmp l (key_in p.1 p.0)) ≡ false → map.get n l ≡ map.get m l)
+      (g : GetsFinish (map.get m (key_in p.1 p.0)) (map.get n (key_in p.1 p.0))) (given : AreReleased (first_end s z.0 z.1) n) where
+    abbrev key : RowKey
+    key = key_in p.1 p.0
+
+    abbrev finished : IntentRow
+    finished = record g.intent { finish = Some g.finish }
+
+    all : set_row m key (Some (rows.Intent finished)) ≡ n
+    all = ap (set_row m key) (sym g.now) ∙ as_set m n key others
+
+    fits : CalleeMatches (has_ended d h.known) p.1 (Some (rows.Intent finished)) (map.get h.known p.0)
+    fits =
+        let was : IsCalleeRow (has_ended d h.known) p.1 g.intent (map.get h.known p.0) = subst (λ r. CalleeMatches (has_ended d h.known) p.1 r (map.get h.known p.0)) g.before (at_key d m h.known h.locked h.rows h.sane s p part) in
+        record { finishes = by_body g.intent.body was.body; body = was.body }
+      where
+        by_body : (b : Option Body) → CalleeBodyMatches p.1 b g.intent.outcome (map.get h.known p.0) → FinishMatches (has_ended d h.known) (tx_in b) (Some g.finish) g.intent.outcome
+        by_body None body = absurd body
+        by_body (Some b) body =
+            let w = body.0 in
+            let inner : b.tx ≡ Some s = ap (λ (y : Body). y.tx) w.body ∙ ap (λ (y : Instance). y.within) (same_some (sym w.made ∙ part.made)) ∙ part.within in
+            subst (λ o. FinishMatches (has_ended d h.known) o (Some g.finish) g.intent.outcome) (sym inner) (λ some. ap is_some ended)
+
+    put : Matches d n h.known h.locked
+    put = subst (λ l. Matches d l h.known h.locked) all (row_put d h.known h.locked m key (Some (rows.Intent finished)) refl
+        (subst (λ b. IntentMatches (has_ended d h.known) b p.1 (Some (rows.Intent finished)) (map.get h.known p.0)) (sym (part_below d h.known h.sane s p.0 (took_part part))) fits) h.rows)
+
+    same_frame : Frame d m n h.plain h.plain h.known h.known
+    same_frame = subst (λ l. Frame d m l h.plain h.plain h.known h.known) all (frame_row d m h.plain h.plain h.known h.known (items_stay d m h.plain h.plain h.known refl) (nobody_new d h.known) key (Some (rows.Intent finished)) refl refl (λ e. refl)
+        (λ f e. ap (option_map func_called) (sym g.before) ∙ e))
+
+    -- of other transactions nobody gets a finish
+    only_its : (t : TxId) (i : IntentId) (home : ℕ) → tx_eq t s ≡ false → TookPart h.known t i → has_finish (map.get n (key_in home i)) ≡ true → has_finish (map.get m (key_in home i)) ≡ true
+    only_its t i home apart other e = by_test (is_eq (key_cmp (key_in home i) key)) refl
+      where
+        by_test : (b : Bool) → is_eq (key_cmp (key_in home i) key) ≡ b → has_finish (map.get m (key_in home i)) ≡ true
+        by_test false off = ap has_finish (sym (others (key_in home i) off)) ∙ e
+        by_test true one =
+            let id : i ≡ p.0 = ap (λ (k : RowKey). id_in p.0 k.kind) (key_same (key_in home i) key one) in
+            let same : t ≡ s = same_some (sym other.within ∙ ap (λ (y : Instance). y.within) (same_some (sym other.made ∙ ap (map.get h.known) id ∙ part.made)) ∙ part.within) in
+            let clash = sym apart ∙ ap (λ y. tx_eq y s) same ∙ tx_self s in cc
+
+    given_all : ParticipantsAreReleased d n h.known
+    given_all t e is = by_test (tx_eq t s) refl
+      where
+        seated : ParticipantsHaveRows n h.known
+        seated id q u made within over = same_frame.rows (key_in q.func id) (h.seated id q u made within over)
+
+        by_test : (b : Bool) → tx_eq t s ≡ b → AreReleased (first_end t e.0 e.1) n
+        by_test true same =
+            let one = tx_same t s same in
+            let two : z ≡ e = same_some (sym (ap (tx_end d h.known) one ∙ ended) ∙ is) in
+            subst (λ y. AreReleased (first_end t y.0 y.1) n) two (subst (λ y. AreReleased (first_end y z.0 z.1) n) (sym one) given)
+        by_test false apart = closed_rows_of d c m h n h.plain h.known h.locked put h.sane (grows_self h.known) same_frame t e is seated (λ i home. only_its t i home apart)
+
+    stamped : Keeps n
+    stamped = (
+      kept_by d c m n h h.plain h.known h.locked (record {
+        goes = goes_still h n (λ t x. others (shadow_key t x) (kinds_apart is_shadow (shadow_key t x) key refl refl));
+        locked_at_ends = h.locked_at_ends;
+        sane = h.sane;
+        rows = put;
+        values = λ x. ap (λ l. listed l x) (sym all) ∙ log_values h key (Some (rows.Intent finished)) refl x;
+        settled = settled_rows d m n h.plain h.plain h.known h.known same_frame given_all (settled h);
+      }) (grows_self h.known) same_frame,
+      λ t. ap is_some (others (root_key t) (kinds_apart is_root (root_key t) key refl (part_below d h.known h.sane s p.0 (took_part part)))),
+    )
+
 -- ---- a run at the end of its transaction
-module _ (d : Deployment) (c : Core) (m : Rows) (r : Run) (g : Begun) (h : Right d c m) (k : Knows d c.book h.known r g) (o : OpenTx) (tx : g.tx ≡ Some o) (commit : Bool) (is : g.machine.effect ≡ effect.End commit) where
+module _ (d : Deployment) (c : Core) (m : Rows) (r : Run) (g : Begun) (h : Right d c m) (k : Knows d c.book h.known r g) (o : OpenTx) (tx : g.tx ≡ Some (Own o)) (commit : Bool) (is : g.machine.effect ≡ effect.End commit) where
   abbrev end : ℕ
   end = g.machine.steps
 
@@ -314,12 +461,7 @@ module _ (d : Deployment) (c : Core) (m : Rows) (r : Run) (g : Begun) (h : Right
 
   -- its Begin is the one that is open
   begun : (txs_after d k.instance k.answers).begun ≡ Some o.begin
-  begun = open_begun d k.instance k.answers ∙ ap begin_of (sym k.run_open ∙ tx)
-
-  begin_there : effect_before d k.instance o.begin ≡ effect.Begin
-  begin_there =
-      let less = (fits_at d k.instance k.answers).before o.begin begun in
-      ap (λ ts. effect_after d k.instance (take o.begin ts)) (sym k.run_answers) ∙ ap (effect_after d k.instance) (take-append-le o.begin k.answers k.later (omega (arith, less))) ∙ (begins d k.instance k.answers).begun o.begin begun
+  begun = open_begun d k.instance k.answers ∙ ap own_begin (sym k.run_open ∙ tx)
 
   -- past the decision its transaction has ended with this step
   record HasEnded : Type 0 where
@@ -328,8 +470,8 @@ module _ (d : Deployment) (c : Core) (m : Rows) (r : Run) (g : Begun) (h : Right
     pub ended : tx_end d h.known s ≡ Some (end, commit)
     pub mark : is_mark d h.known end (map.get h.known r.id) ≡ true
 
-  has_ended : map.get m (decision_key s) ≡ Some (rows.ReadLog (value.Bool commit)) → HasEnded
-  has_ended decided = by_later k.later refl
+  has_ended_here : map.get m (decision_key s) ≡ Some (rows.ReadLog (value.Bool commit)) → HasEnded
+  has_ended_here decided = by_later k.later refl
     where
       by_later : (later : List Answer) → k.later ≡ later → HasEnded
       by_later [] none =
@@ -342,9 +484,7 @@ module _ (d : Deployment) (c : Core) (m : Rows) (r : Run) (g : Begun) (h : Right
           let is_done : a ≡ answer.Done = done_only (place_of r.id n) (tx_after d r.id q given) commit a
           (subst (λ e. IsAnswer (place_of r.id n) (tx_after d r.id q given) e a) wanted
           (subst (λ ts. IsAnswer (place_of r.id n) (tx_after d r.id q ts) (effect_after d q ts) a) (front d r.id q given a rest run) ((h.sane.each r.id q k.made).past n a (was_answered d r.id q given a rest run)))) in
-          let ends : end_of d q o.begin ≡ Some (n, commit) = ended_stays d q (given ++ a ∷ []) rest o.begin (n, commit) (append_assoc given (a ∷ []) rest ∙ run)
-          (ap (λ (z : Txs). z.ends o.begin) (txs_pushed d q given a) ∙ ap (λ e. (txs_by n e (txs_after d q given)).ends o.begin) wanted
-          ∙ ap (λ b. if is_at o.begin b then Some (n, commit) else (txs_after d q given).ends o.begin) begun ∙ ap (λ b. if b then Some (n, commit) else (txs_after d q given).ends o.begin) (eq-eqb o.begin o.begin refl)) in
+          let ends = end_here d q given a rest o.begin commit run wanted begun in
           record {
             rest = rest;
             left = some ∙ ap (λ z. z ∷ rest) is_done;
@@ -357,66 +497,93 @@ module _ (d : Deployment) (c : Core) (m : Rows) (r : Run) (g : Begun) (h : Right
   abbrev walk : Visit → EndWalk
   walk v = end_walk r.id r.func o end commit v
 
-  abbrev visit : Option (ℕ × List ℕ) → Option Value → EndAt → Visit
-  visit y u a = record { item = y; value = u; at = a }
-
   abbrev asks : Visit → Query
-  asks v = visit_asks s end commit v.item v.value v.at
+  asks v = visit_asks s end commit v.way v.after v.item v.value v.at
 
   abbrev after : Visit → Rows
   after v = rows_after (asks v) c.now m
 
-  -- an item stands, or is given back
-  frees : (y : ℕ × List ℕ) (u : Option Value) (f : WriteAt) (z : EndGoes) → Visited (walk (visit (Some y) u (Free f))) m → HasEnded → Leads s end commit (visit (Some y) u (Free f)) (asks (visit (Some y) u (Free f))) m (after (visit (Some y) u (Free f))) z → Keeps d c m h (after (visit (Some y) u (Free f)))
-  frees y u f z visited e l = elim l.left [
-    | inl held ↦ stands d c m h q item others sound held
-    | inr was ↦ given_back d c m h q item others sound s (end, commit) e.ended visited.decided (end_place s end) e.mark u visited.gives was.0 (owned_by s (content_of m item).owner was.1) was.2
+  module _ (e : HasEnded) (cs : List Called) (member : IsMember (first_end s end commit) m cs) where
+    abbrev who : Member
+    who = visited_by s cs
+
+    -- where it gives back is a mark
+    marked : (cs : List Called) → IsMember (first_end s end commit) m cs → let p = free_place s end cs in is_mark d h.known p.step (map.get h.known p.intent) ≡ true
+    marked [] member = e.mark
+    marked (b ∷ bs) member =
+        let part = members_joined d m h.known h.locked h.rows h.sane s (end, commit) e.ended b bs member in
+        ap (is_mark d h.known last_step) part.made ∙ ap (λ w. is_some (ended_at d part.instance last_step) || (is_decided d h.known w && (last_step == last_step))) part.within
+        ∙ ap (λ z. is_some (ended_at d part.instance last_step) || (is_some z && (last_step == last_step))) e.ended ∙ or_true (is_some (ended_at d part.instance last_step))
+
+    -- an item stands, or is given back
+    frees : (af : Option ℕ) (y : ℕ × List ℕ) (u : Option Value) (f : WriteAt) (z : EndGoes) → let v = visit cs af (Some y) u (Free f) in Visited (walk v) m → Leads s end commit v (asks v) m (after v) z → Keeps d c m h (after v)
+    frees af y u f z visited l = elim l.left [
+      | inl held ↦ stands d c m h q item others sound held
+      | inr was ↦ given_back d c m h q item others sound s (end, commit) e.ended visited.decided (free_place s end cs) (marked cs member) u visited.gives was.0 (owner_is s (content_of m item).owner was.1) was.2
+    ]
+      where
+        item : Item
+        item = record { func = who.1; table = y.0; key = y.1 }
+
+        q : Query
+        q = asks (visit cs af (Some y) u (Free f))
+
+        others : (l : RowKey) → is_eq (key_cmp l (head_key item)) ≡ false → map.get (rows_after q c.now m) l ≡ map.get m l
+        others k off = l.others k (ap (λ x. is_eq (key_cmp k x)) (asked (head_key item) (free_place s end cs) (Tx s) (FreeOp u) f) ∙ off)
+
+        sound : SoundAt (map.get (rows_after q c.now m) (head_key item))
+        sound = (l.visited.sound who.1 y).0
+
+  -- who took part gets its finish, or has it
+  stamps : HasEnded → (b : Called) (bs : List Called) (member : IsMember (first_end s end commit) m (b ∷ bs)) (af : Option ℕ) (y : Option (ℕ × List ℕ)) (u : Option Value) (z : EndGoes) → let v = visit (b ∷ bs) af y u Stamp in Leads s end commit v (asks v) m (after v) z → Keeps d c m h (after v)
+  stamps e b bs member af y u z l = elim l.left [
+    | inl held ↦ as_before d c m h n (sym (as_set m n own l.others) ∙ unchanged m own (map.get n own) held.0)
+    | inr gets ↦ stamped d c m h s (end, commit) e.ended p part n others (subst (λ (k : RowKey). GetsFinish (map.get m k) (map.get n k)) same gets) l.visited.released
   ]
     where
-      item : Item
-      item = record { func = r.func; table = y.0; key = y.1 }
+      p : Member
+      p = visited_by s (b ∷ bs)
 
-      q : Query
-      q = asks (visit (Some y) u (Free f))
+      n : Rows
+      n = after (visit (b ∷ bs) af y u Stamp)
 
-      others : (l : RowKey) → is_eq (key_cmp l (head_key item)) ≡ false → map.get (rows_after q c.now m) l ≡ map.get m l
-      others k off = l.others k (ap (λ x. is_eq (key_cmp k x)) (asked (head_key item) (end_place s end) (Tx s) (FreeOp u) f) ∙ off)
+      own : RowKey
+      own = intent_key p.0 p.1
 
-      sound : SoundAt (map.get (rows_after q c.now m) (head_key item))
-      sound = (l.visited.sound y).0
+      part : TakesPart h.known s p
+      part = members_joined d m h.known h.locked h.rows h.sane s (end, commit) e.ended b bs member
 
-  keeps : (y : Option (ℕ × List ℕ)) (u : Option Value) (a : EndAt) (z : EndGoes) → is_past a ≡ true → Visited (walk (visit y u a)) m → HasEnded → Leads s end commit (visit y u a) (asks (visit y u a)) m (after (visit y u a)) z → Keeps d c m h (after (visit y u a))
-  keeps y u Decide z past visited e l = cc
-  keeps y u Callees z past visited e l = as_before d c m h (after (visit y u Callees)) l.left
-  keeps y u Next z past visited e l = as_before d c m h (after (visit y u Next)) l.left
-  keeps y u Shadow z past visited e l = as_before d c m h (after (visit y u Shadow)) l.left
-  keeps (Some y) u (Free f) z past visited e l = frees y u f z visited e l
-  keeps None u (Free f) z past visited e l = as_before d c m h (after (visit None u (Free f))) l.left
+      same : own ≡ key_in p.1 p.0
+      same = part_key d h.known h.sane s p.0 p.1 (took_part part)
 
-  -- at its end it owns nothing more
-  owns_none : (n : Rows) (v : Visit) → Stays h n → HasEnded → AllFreed (walk v) n → (x : Item) → (content_of n x).owner ≡ Some (Tx s) → ⊥
-  owns_none n v stays e freed x owned =
-      let a : HasAsked n s x = has_asked d n h.known h.locked stays.shows.rows h.sane h.locked_at_ends (none_within d m h.plain h.known h.locked (shown h) (legal_sane h)) s (end, commit) e.ended x owned in
-      let row = subst (λ f. map.get n (record { home = f; kind = kinds.Lockset s.intent s.begin x.table x.key }) ≡ Some rows.Lockset) a.func a.row in
-      let own = subst (λ f. (content_of n (record { func = f; table = x.table; key = x.key })).owner ≡ Some (Tx s)) a.func owned in
-      let clash = sym (ap (owns (Tx s)) own ∙ tx_self s) ∙ freed (x.table, x.key) rows.Lockset row in cc
+      others : (k : RowKey) → is_eq (key_cmp k (key_in p.1 p.0)) ≡ false → map.get n k ≡ map.get m k
+      others k off = l.others k (ap (λ x. is_eq (key_cmp k x)) same ∙ off)
+
+  keeps : (cs : List Called) (af : Option ℕ) (y : Option (ℕ × List ℕ)) (u : Option Value) (a : EndAt) (z : EndGoes) → is_past a ≡ true → let v = visit cs af y u a in Visited (walk v) m → HasEnded → Leads s end commit v (asks v) m (after v) z → Keeps d c m h (after v)
+  keeps cs af y u Decide z past visited e l = cc
+  keeps cs af y u Callees z past visited e l = as_before d c m h (after (visit cs af y u Callees)) l.left
+  keeps cs af y u Next z past visited e l = as_before d c m h (after (visit cs af y u Next)) l.left
+  keeps cs af y u Shadow z past visited e l = as_before d c m h (after (visit cs af y u Shadow)) l.left
+  keeps cs af (Some y) u (Free f) z past visited e l = frees e cs visited.member af y u f z visited l
+  keeps cs af None u (Free f) z past visited e l = as_before d c m h (after (visit cs af None u (Free f))) l.left
+  keeps [] af y u Stamp z past visited e l = let clash = visited.begins in cc
+  keeps (b ∷ bs) af y u Stamp z past visited e l = stamps e b bs visited.member af y u z l
 
 -- ---- the turn
 module _ (d : Deployment) (c : Core) (m : Rows) (i : ℕ) (r : Run) (g : Begun) (h : Right d c m) (live : map.get c.runs i ≡ Some r) (k : Knows d c.book h.known r g) (finds : Inside d m h.plain h.known r g)
-    (o : OpenTx) (tx : g.tx ≡ Some o) (inside : tx_after d r.id k.instance k.answers ≡ Some (own_tx r.id r.func o)) (commit : Bool) (is : g.machine.effect ≡ effect.End commit)
-    (first : FindsFirstLock (own_tx r.id r.func o) m) where
+    (o : OpenTx) (tx : g.tx ≡ Some (Own o)) (inside : tx_after d r.id k.instance k.answers ≡ Some (own_tx r.id r.func o)) (commit : Bool) (is : g.machine.effect ≡ effect.End commit) where
   abbrev t : TxId
   t = own_tx r.id r.func o
 
   module _ (v : Visit) (past : is_past v.at ≡ true) (visited : Visited (end_walk r.id r.func o g.machine.steps commit v) m) where
     abbrev q : Query
-    q = visit_asks t g.machine.steps commit v.item v.value v.at
+    q = visit_asks t g.machine.steps commit v.way v.after v.item v.value v.at
 
     abbrev rows_left : Rows
     rows_left = rows_after q c.now m
 
     has : HasEnded d c m r g h k o tx commit is
-    has = has_ended d c m r g h k o tx commit is (decided_past v.at (end_walk r.id r.func o g.machine.steps commit v) m past visited.decided)
+    has = has_ended_here d c m r g h k o tx commit is (decided_past v.at (end_walk r.id r.func o g.machine.steps commit v) m past visited.decided)
 
     -- it goes on past the decision
     goes_on : (z : EndGoes) → is_past (moved commit v z).at ≡ true → Keeps d c m h rows_left → Leads t g.machine.steps commit v q m rows_left z → Leaves d c m i r g h live k (says.On (stage.End (moved commit v z)) None) rows_left
@@ -425,37 +592,67 @@ module _ (d : Deployment) (c : Core) (m : Rows) (i : ℕ) (r : Run) (g : Begun) 
         (subst (λ e. MarkOk r.id g.machine.steps g.tx e (stage.End (moved commit v z))) (sym is) (subst (λ x. MarkOk r.id g.machine.steps x (effect.End commit) (stage.End (moved commit v z))) (sym tx) tt))
         (subst (λ e. AtStage d rows_left h.plain h.known r.id r.func g.tx g.machine.steps e (stage.End (moved commit v z))) (sym is) (subst (λ x. AtStage d rows_left h.plain h.known r.id r.func x g.machine.steps (effect.End commit) (stage.End (moved commit v z))) (sym tx) l.visited))
 
-    -- it is over, and answered
-    is_over : Keeps d c m h rows_left → AllFreed (end_walk r.id r.func o g.machine.steps commit v) rows_left → Leaves d c m i r g h live k (says.Answers answer.Done None) rows_left
-    is_over kept freed = answers_on d c m i r g h live k finds answer.Done has.rest rows_left h.known h.locked k.instance kept.1 kept.0 k.made (grown_same k.instance)
+    -- it is over, and answered: all have given back all
+    is_over : Keeps d c m h rows_left → AllReleased (end_walk r.id r.func o g.machine.steps commit v) rows_left → Leaves d c m i r g h live k (says.Answers answer.Done None) rows_left
+    is_over kept all = answers_on d c m i r g h live k finds answer.Done has.rest rows_left h.known h.locked k.instance kept.1 kept.0 k.made (grown_same k.instance)
         (append_assoc k.answers (answer.Done ∷ []) has.rest ∙ ap (λ ys. k.answers ++ ys) (sym has.left) ∙ k.run_answers)
         (subst (λ e. IsTrue (wants_answer e)) (sym is) refl)
-        (λ u b x opened ends owned. owns_none d c m r g h k o tx commit is rows_left v kept.0 has freed x (owned ∙ ap (λ z. Some (Tx (own_tx r.id r.func z))) (same_some (sym opened ∙ tx))))
+        (λ u b x opened ends owned. owns_none d rows_left h.known h.locked kept.0.shows.rows h.sane h.locked_at_ends t (g.machine.steps, commit) has.ended x h.short (record { owner = all.owner; closed = all.closed; freed = all.freed }) (owned ∙ ap (λ z. Some (Tx (own_tx r.id r.func z))) (own_same (sym opened ∙ tx))))
+      where
+        own_in : OpenTx → Option RunTx → OpenTx
+        own_in y None = y
+        own_in y (Some (Own z)) = z
+        own_in y (Some (Inherited z)) = y
+
+        own_same : {u : OpenTx} → Some (Own u) ≡ Some (Own o) → u ≡ o
+        own_same e = ap (own_in o) e
 
     by_goes : (z : EndGoes) → is_past (moved commit v z).at ≡ true → Keeps d c m h rows_left → Leads t g.machine.steps commit v q m rows_left z → Leaves d c m i r g h live k (visit_says commit v z) rows_left
     by_goes goes.Done on kept l = is_over kept (l.done refl).1
     by_goes (goes.On a) on kept l = goes_on (goes.On a) on kept l
     by_goes (goes.Decided first) on kept l = goes_on (goes.Decided first) on kept l
+    by_goes (goes.Passed n) on kept l = goes_on (goes.Passed n) on kept l
+    by_goes (goes.Callee cs) on kept l = goes_on (goes.Callee cs) on kept l
     by_goes (goes.Item y x) on kept l = goes_on (goes.Item y x) on kept l
     by_goes (goes.Value u) on kept l = goes_on (goes.Value u) on kept l
+    by_goes goes.Back on kept l = goes_on goes.Back on kept l
 
-    pub visit_turn : AfterQuery d h.plain c.now m (λ u. turn_next c i r (turned_by d r g (end_by_says r.id r.func commit v (Some o) u))) (end_by_asks r.id r.func g.machine.steps commit v (Some o))
+    pub visit_turn : AfterQuery d h.plain c.now m (λ u. turn_next c i r (turned_by d r g (end_by_says r.id r.func g.machine.steps commit v (Some (Own o)) u))) (end_by_asks r.id r.func g.machine.steps commit v (Some (Own o)))
     visit_turn =
-        let z = end_goes t commit v.at (told_by q c.now m) in
-        let l : Leads t g.machine.steps commit v q m rows_left z = turns t g.machine.steps commit c.now m first v.item v.value v.at visited in
-        by_goes z (goes_past t commit v.item v.value v.at (told_by q c.now m) past) (keeps d c m r g h k o tx commit is v.item v.value v.at z past visited has l) l
+        let z = end_goes t g.machine.steps commit v.way v.at (told_by q c.now m) in
+        let first = finds_first d c m h t (g.machine.steps, commit) has.ended v.way visited.member in
+        let l : Leads t g.machine.steps commit v q m rows_left z = turns t g.machine.steps commit c.now m v.way v.after v.item v.value v.at first.0 first.1 visited in
+        by_goes z (goes_past v.way v.after v.item v.value t g.machine.steps commit v.at (told_by q c.now m) past) (keeps d c m r g h k o tx commit is v.way v.after v.item v.value v.at z past visited has l) l
 
 -- .. of a run that stands at its end
 module _ (d : Deployment) (c : Core) (m : Rows) (i : ℕ) (r : Run) (g : Begun) (h : Right d c m) (live : map.get c.runs i ≡ Some r) (k : Knows d c.book h.known r g) (finds : Inside d m h.plain h.known r g)
     (t : TxId) (inside : tx_after d r.id k.instance k.answers ≡ Some t) where
-  abbrev AfterEnd : Bool → Visit → Option OpenTx → Type 0
-  AfterEnd commit v o = AfterQuery d h.plain c.now m (λ u. turn_next c i r (turned_by d r g (end_by_says r.id r.func commit v o u))) (end_by_asks r.id r.func g.machine.steps commit v o)
+  abbrev AfterEnd : Bool → Visit → Option RunTx → Type 0
+  AfterEnd commit v o = AfterQuery d h.plain c.now m (λ u. turn_next c i r (turned_by d r g (end_by_says r.id r.func g.machine.steps commit v o u))) (end_by_asks r.id r.func g.machine.steps commit v o)
 
-  pub end_turn : AllShort h.known → (commit : Bool) (v : Visit) → g.machine.effect ≡ effect.End commit → is_past v.at ≡ true → AtStage d m h.plain h.known r.id r.func g.tx g.machine.steps (effect.End commit) (stage.End v)
+  pub end_turn : (commit : Bool) (v : Visit) → g.machine.effect ≡ effect.End commit → is_past v.at ≡ true → AtStage d m h.plain h.known r.id r.func g.tx g.machine.steps (effect.End commit) (stage.End v)
       → AfterQuery d h.plain c.now m (λ u. turn_next c i r (turned_by d r g (stage_says r.id r.func g.caller g.tx (count_changes c.book) g.machine.steps (effect.End commit) (stage.End v) u))) (stage_asks r.id r.func g.caller g.tx g.machine.steps (effect.End commit) (stage.End v))
-  end_turn short commit v is past visited =
-      let z = opens d c m r g h k t inside (ap is_begin is) in
+  end_turn commit v is past visited =
+      let z = own_here in
       subst (AfterEnd commit v) (sym z.1)
-      (visit_turn d c m i r g h live k finds z.0 z.1 z.2 commit is
-      (finds_first d c m h short (own_tx r.id r.func z.0) k.instance k.made (begin_there d c m r g h k z.0 z.1 commit is))
-      v past (subst (λ x. AtStage d m h.plain h.known r.id r.func x g.machine.steps (effect.End commit) (stage.End v)) z.1 visited))
+      (visit_turn d c m i r g h live k finds z.0 z.1 (inside ∙ ap Some (own_is z.0 z.1)) commit is v past (subst (λ x. AtStage d m h.plain h.known r.id r.func x g.machine.steps (effect.End commit) (stage.End v)) z.1 visited))
+    where
+      wanted_end : effect_after d k.instance k.answers ≡ effect.End commit
+      wanted_end = wanted_here d c.book h.known r g k ∙ is
+
+      in_it : (o : RunTx) × (open_of d k.instance k.answers ≡ Some o) × (t ≡ tx_of r.id k.instance.func o)
+      in_it = open_tx d r.id k.instance k.answers t inside (ap is_begin wanted_end)
+
+      tx_is : g.tx ≡ Some in_it.0
+      tx_is = k.run_open ∙ in_it.1
+
+      -- who was called in a transaction does not end it
+      own_here : (o : OpenTx) × (g.tx ≡ Some (Own o))
+      own_here = by_tx in_it.0 tx_is
+        where
+          by_tx : (o : RunTx) → g.tx ≡ Some o → (o : OpenTx) × (g.tx ≡ Some (Own o))
+          by_tx (Own o) tx = (o, tx)
+          by_tx (Inherited x) tx = let clash = sym (ends_outside d k.instance k.answers commit wanted_end) ∙ called_in d k.instance x k.answers (sym k.run_open ∙ tx) in cc
+
+      own_is : (o : OpenTx) → g.tx ≡ Some (Own o) → t ≡ own_tx r.id r.func o
+      own_is o tx = in_it.2 ∙ ap (tx_of r.id k.instance.func) (same_some (sym tx_is ∙ tx)) ∙ ap (λ f. own_tx r.id f o) k.func

@@ -1,18 +1,20 @@
--- Ids that are known are as long as ids may be, and rows of locks are of steps that bodies have: so the end of a transaction finds the
--- first of its rows.
-use Rattle.std.proofs.Common.{◌≡◌, inl, inr, zero, suc, ◌≤◌, ◌<◌, ◌+◌, ℕ, ◌&&◌, ◌||◌, Bool, true, false, List, [], ◌∷◌, ◌++◌, length, length-append, length-take-le, add-one, append-nil, get_or, Option, None, Some, is_some, refl, ap, sym, ◌∙◌, subst, arith, eqb-true, IsTrue}
-use Rattle.std.specs.Prelude.{take, nat_lt, nat_le}
+-- Ids that are known are as long as ids may be, and rows of locks and of calls are of steps that bodies have: so the end of a
+-- transaction finds the first of the rows of whom it visits.
+use Rattle.std.proofs.Common.{◌≡◌, ◌⊎◌, inl, inr, zero, suc, ◌≤◌, ◌<◌, ◌+◌, ℕ, ◌&&◌, ◌||◌, Bool, true, false, List, [], ◌∷◌, ◌++◌, length, length-append, add-one, append-nil, get_or, Option, None, Some, is_some, refl, ap, sym, ◌∙◌, subst, arith, eqb-true, IsTrue}
+use Rattle.std.specs.Prelude.{take, nat_lt, nat_le, slice_get}
 use Rattle.std.specs.FinMap as map
-use Rattle.std.specs.Option.{is_none}
-use borrow.Author.Tests.{ltb-true}
-use Rattle.std.proofs.lemmas.List.{take_more, take-append-le}
+use Rattle.std.specs.Option.{is_none, option_map}
+use Rattle.std.proofs.lemmas.Bool.{ltb-true}
+use Rattle.std.proofs.lemmas.List.{length-take-le, take_more, take-append-le}
 use Rattle.beldi_value.specs.Id.{root_of}
 use Rattle.beldi_value.specs.declared.id.IntentId.{IntentId}
+use Rattle.beldi_value.specs.declared.place.Place.{Place}
 use Rattle.beldi_value.specs.declared.place.TxId.{TxId}
 use Rattle.beldi_value.specs.declared.value.Value.{Value}
 use Rattle.beldi_tree.specs.declared.deployment.Deployment.{Deployment}
 use Rattle.beldi_lang.specs.declared.effect.Answer.{Answer}
 use Rattle.beldi_lang.specs.declared.effect.Answer.TheVariants as answer
+use Rattle.beldi_lang.specs.declared.effect.Effect.{Effect}
 use Rattle.beldi_lang.specs.declared.effect.Effect.TheVariants as effect
 use Rattle.beldi_lang.specs.Wants.{wants_answer}
 use Rattle.beldi_lang.proofs.Resumes.{few_answers}
@@ -23,32 +25,68 @@ use Rattle.beldi_row.specs.declared.row.Row.TheVariants as rows
 use Rattle.beldi_row.specs.Table.{Rows}
 use Rattle.beldi_lock.specs.Lockset.{most, AreHops}
 use Rattle.beldi_lock.proofs.Firsts.{IsLast, IsApart, first_apart}
-use Rattle.beldi_txn.proofs.Visited.{FindsFirstLock}
+use Rattle.beldi_txn.specs.declared.way.Called.{Called}
+use Rattle.beldi_txn.specs.End.{first_end, visited_by}
+use Rattle.beldi_txn.specs.Invokes.{func_called}
+use Rattle.beldi_txn.specs.Visited.{IsMember}
+use Rattle.beldi_txn.specs.Way.{Member}
+use Rattle.beldi_txn.proofs.Calls.{IsNarrow, first_narrow}
+use Rattle.beldi_txn.proofs.Visited.{FindsFirstCall, FindsFirstLock}
 use Rattle.beldi_intent.specs.Intent.{root_key}
 use Rattle.beldi_plain.specs.Executor.{AllShort}
 use Rattle.beldi_plain.specs.Item.{Item}
 use Rattle.beldi_plain.specs.Operation.{touched}
 use Rattle.beldi_plain.specs.Plain.{Instance, effect_of, effect_before}
-use Rattle.beldi_order.specs.Sane.{CalledBy, IsCalled, call_of}
+use Rattle.beldi_order.specs.Sane.{CalledBy, IsAnswer, IsCalled, call_of}
 use Rattle.beldi_order.specs.Txs.{Txs, effect_after, or_own, tx_after, tx_by, tx_now, txs_after, txs_by}
-use Rattle.beldi_order.proofs.Called.{last_hop}
+use Rattle.beldi_order.proofs.Called.{last_hop, next_step}
 use Rattle.beldi_order.proofs.Ends.{fits_at}
 use Rattle.beldi_order.proofs.Maps.{same_some}
 use Rattle.beldi_order.proofs.Went.{txs_pushed}
 use Rattle.beldi_step.specs.Host.{Core}
+use Rattle.beldi_known.specs.Beside.{is_begin}
 use Rattle.beldi_known.specs.Contents.{lockset_key}
-use Rattle.beldi_known.specs.Known.{Known, is_item, begins_at, asks_lock, lockset_of, owed_lockset}
-use Rattle.beldi_known.specs.Matches.{Matches, LocksetMatches, has_ended, is_open, lockset_ahead}
+use Rattle.beldi_known.specs.Known.{Known, is_item, begins_at, asks_lock, ended_by, lockset_of, owed_lockset, tx_end}
+use Rattle.beldi_known.specs.Matches.{Matches, LocksetMatches, is_open, lockset_ahead, has_ended}
 use Rattle.beldi_known.specs.Rows.{IntentMatches}
-use Rattle.beldi_known.specs.Sane.{Sane}
+use Rattle.beldi_known.specs.Sane.{Sane, SaneInstance}
+use Rattle.beldi_known.proofs.Begun.{called_begun}
 use Rattle.beldi_known.proofs.Frame.{begins}
 use Rattle.beldi_known.proofs.OneFunction.{own_by}
 use Rattle.beldi_known.proofs.Phases.{begin_is}
 use Rattle.beldi_known.proofs.ReadLists.{both, gathered}
 use Rattle.beldi_laws.specs.Right.{Right}
-use Rattle.beldi_laws.proofs.InTx.{no_begin, wants_one}
-use Rattle.beldi_laws.proofs.Shown.{legal_sane, shown}
-use Rattle.beldi_laws.proofs.Turns.{none_within}
+use Rattle.beldi_laws.proofs.Ended.{owner_outside}
+use Rattle.beldi_laws.proofs.Members.{call_known, members_joined}
+
+-- ---- steps
+wanted_by : (p : Place) (t : Option TxId) (e : Effect) (a : Answer) → IsAnswer p t e a → IsTrue (wants_answer e)
+wanted_by p None (effect.Return o) a h = absurd h
+wanted_by p (Some t) (effect.Return o) a h = absurd h
+wanted_by p t e a h = refl
+
+wants_call : (w : Bool) (f : ℕ) (v : Value) → IsTrue (wants_answer (call_of w f v))
+wants_call true f v = refl
+wants_call false f v = refl
+
+wants_item : (x : Item) (func : ℕ) (e : Effect) → is_item x func (touched e) ≡ true → IsTrue (wants_answer e)
+wants_item x func (effect.Return o) h = cc
+wants_item x func e h = refl
+
+pub no_begin : (x : Item) (func : ℕ) (e : Effect) → is_item x func (touched e) ≡ true → is_begin e ≡ false
+no_begin x func effect.Begin h = cc
+no_begin x func e h = refl
+
+-- a step that was answered is one that bodies have
+pub answered_small : (d : Deployment) (id : IntentId) (q : Instance) (n : ℕ) → SaneInstance d id q → n < length q.answers → n < 30000
+answered_small d id q n sane less = by_answer (slice_get q.answers n) refl
+  where
+    by_answer : (o : Option Answer) → slice_get q.answers n ≡ o → n < 30000
+    by_answer None e = let same = next_step q.answers n (omega (arith, less)) e in absurd (omega (arith, less, same))
+    by_answer (Some a) e =
+        let few = few_answers d q.func q.args (is_some q.within) (take n q.answers) (wanted_by _ _ (effect_before d q n) a (sane.past n a e)) in
+        let long = length-take-le n q.answers (omega (arith, less)) in
+        omega (arith, few, long)
 
 -- ---- ids
 -- each hop is a step that a body has
@@ -67,22 +105,18 @@ are_hops room [] all few = tt
 are_hops zero (h ∷ hs) all few = omega (arith, few)
 are_hops (suc room) (h ∷ hs) all few = (all.0, are_hops room hs all.1 (omega (arith, few)))
 
-wants_call : (w : Bool) (f : ℕ) (v : Value) → IsTrue (wants_answer (call_of w f v))
-wants_call true f v = refl
-wants_call false f v = refl
+-- a caller stands at a step that bodies have
+called_small : (d : Deployment) (i : IntentId) (n : ℕ) (j q : Instance) → IsCalled d i q n j → n ≤ most
+called_small d i n j q c =
+    let ts = take n q.answers in
+    let few = few_answers d q.func q.args (is_some q.within) ts (subst (λ e. IsTrue (wants_answer e)) (sym c.call) (wants_call c.waits j.func j.args)) in
+    let long : length ts ≡ n = length-take-le n q.answers c.here in
+    omega (arith, few, long)
 
 module _ (d : Deployment) (known : Known) (sane : Sane d known) (tickets : (t : ℕ) (q : Instance) → map.get known (root_of t) ≡ Some q → 1 ≤ t) where
   record Fit (i : IntentId) : Type 0 where
     pub ticket : 1 ≤ i.ticket
     pub hops : Each i.hops
-
-  -- a caller stands at a step that bodies have
-  called_small : (i : IntentId) (n : ℕ) (j q : Instance) → IsCalled d i q n j → n ≤ most
-  called_small i n j q c =
-      let ts = take n q.answers in
-      let few = few_answers d q.func q.args (is_some q.within) ts (subst (λ e. IsTrue (wants_answer e)) (sym c.call) (wants_call c.waits j.func j.args)) in
-      let long : length ts ≡ n = length-take-le n q.answers c.here in
-      omega (arith, few, long)
 
   fit_step : (j : IntentId) (z : Instance) → map.get known j ≡ Some z → ((i : IntentId) (q : Instance) → length i.hops < length j.hops → map.get known i ≡ Some q → Fit i) → Fit j
   unfolding Each
@@ -97,7 +131,7 @@ module _ (d : Deployment) (known : Known) (sane : Sane d known) (tickets : (t : 
           let l = length-append ys (n ∷ []) in
           let k = ap length same in
           let f = rest (record { ticket = j.ticket; hops = ys }) q (omega (arith, l, k)) at in
-          record { ticket = f.ticket; hops = subst Each (sym same) (each_pushed ys n f.hops (called_small (record { ticket = j.ticket; hops = ys }) n z q c)) }
+          record { ticket = f.ticket; hops = subst Each (sym same) (each_pushed ys n f.hops (called_small d (record { ticket = j.ticket; hops = ys }) n z q c)) }
 
   fits_all : (n : ℕ) (j : IntentId) (z : Instance) → length j.hops ≤ n → map.get known j ≡ Some z → Fit j
   fits_all zero j z small is = fit_step j z is (λ i q less. absurd (omega (arith, small, less)))
@@ -115,52 +149,35 @@ record Asks (d : Deployment) (known : Known) (i : IntentId) (b : ℕ) : Type 0 w
   pub given : List Answer
   pub more : List Answer
   pub all : given ++ more ≡ instance.answers
-  pub begun : (txs_after d instance given).begun ≡ Some b
+  pub begins : begins_at b (tx_after d i instance given) ≡ true
+  pub on : is_begin (effect_after d instance given) ≡ false
   pub few : length given < 30000
-
-on_item : (x : Item) (func : ℕ) (o : Option (ℕ × List ℕ)) → is_item x func o ≡ true → (k : ℕ × List ℕ) × (o ≡ Some k)
-on_item x func None h = cc
-on_item x func (Some k) h = (k, refl)
 
 row_there : (r : Option Row) (row : Row) (owed ahead : Bool) → r ≡ Some row → LocksetMatches r owed ahead → (owed || ahead) ≡ true
 row_there None row owed ahead is h = cc
 row_there (Some rows.Lockset) row owed ahead is h = h
 row_there (Some r) row owed ahead is h = absurd h
 
-module _ (d : Deployment) (m : Rows) (known : Known) (locked : IntentId → Bool) (h : Matches d m known locked) (none : (j : IntentId) (z : Instance) → map.get known j ≡ Some z → z.within ≡ None) where
+module _ (d : Deployment) (m : Rows) (known : Known) (locked : IntentId → Bool) (h : Matches d m known locked) (sane : Sane d known) where
   module _ (i : IntentId) (b : ℕ) (x : Item) where
-    asked_in : (q : Instance) (given more : List Answer) → map.get known i ≡ Some q → given ++ more ≡ q.answers → begins_at b (tx_after d i q given) ≡ true → is_item x q.func (touched (effect_after d q given)) ≡ true → Asks d known i b
-    asked_in q given more is all begins on =
+    asked_in : (q : Instance) (given more : List Answer) → map.get known i ≡ Some q → given ++ more ≡ q.answers → asks_lock b x q.func (tx_after d i q given) (effect_after d q given) ≡ true → Asks d known i b
+    asked_in q given more is all asks =
         let e = effect_after d q given in
-        let k = on_item x q.func (touched e) on in
-        record { instance = q; made = is; given = given; more = more; all = all; begun = by_tx (tx_after d i q given) refl begins; few = few_answers d q.func q.args (is_some q.within) given (wants_one e k.0 k.1) }
-      where
-        by_tx : (o : Option TxId) → tx_after d i q given ≡ o → begins_at b o ≡ true → (txs_after d q given).begun ≡ Some b
-        by_tx None e g = cc
-        by_tx (Some t) e g =
-            let w = (txs_after d q given).begun in
-            let k = on_item x q.func (touched (effect_after d q given)) on in
-            (own_by i q.func (length given) (effect_after d q given) w t (no_begin (effect_after d q given) k.0 k.1)
-            (sym (ap (λ z. or_own z (tx_by i q.func (length given) (effect_after d q given) w)) (none i q is)) ∙ e)).begun ∙ ap Some (eqb-true t.begin b g)
+        let k = both (begins_at b (tx_after d i q given)) (is_item x q.func (touched e)) asks in
+        record { instance = q; made = is; given = given; more = more; all = all; begins = k.0; on = no_begin x q.func e k.1; few = few_answers d q.func q.args (is_some q.within) given (wants_item x q.func e k.1) }
 
     by_owed : (o : Option Instance) → map.get known i ≡ o → (owed_lockset d b x i o || lockset_ahead d known b x i o) ≡ true → Asks d known i b
     by_owed None is g = cc
     by_owed (Some q) is g = by_row (lockset_of d b x i q) refl g
       where
-        asks : List Answer → Bool
-        asks ts = asks_lock b x q.func (tx_after d i q ts) (effect_after d q ts)
-
-        by_parts : (given more : List Answer) → given ++ more ≡ q.answers → asks_lock b x q.func (tx_after d i q given) (effect_after d q given) ≡ true → Asks d known i b
-        by_parts given more all e = let k = both (begins_at b (tx_after d i q given)) (is_item x q.func (touched (effect_after d q given))) e in asked_in q given more is all k.0 k.1
-
         by_row : (u : Bool) → lockset_of d b x i q ≡ u → (u || lockset_ahead d known b x i (Some q)) ≡ true → Asks d known i b
         by_row true e g = elim (gathered (λ ts a. asks_lock b x q.func (tx_after d i q ts) (effect_after d q ts)) [] q.answers false e) [
           | inl k ↦ cc
-          | inr k ↦ by_parts k.before (k.answer ∷ k.later) k.parts k.holds
+          | inr k ↦ asked_in q k.before (k.answer ∷ k.later) is k.parts k.holds
         ]
         by_row false e g =
             let a = both (is_none q.outcome) (is_open d known (tx_now d i q) && (begins_at b (tx_now d i q) && is_item x q.func (touched (effect_of d q)))) g in
-            by_parts q.answers [] (append-nil q.answers) (both (is_open d known (tx_now d i q)) (begins_at b (tx_now d i q) && is_item x q.func (touched (effect_of d q))) a.1).1
+            asked_in q q.answers [] is (append-nil q.answers) (both (is_open d known (tx_now d i q)) (begins_at b (tx_now d i q) && is_item x q.func (touched (effect_of d q))) a.1).1
 
   asked_lock : (home : ℕ) (i : IntentId) (b t : ℕ) (k : List ℕ) (r : Row) → map.get m (lockset_key i b (record { func = home; table = t; key = k })) ≡ Some r → Asks d known i b
   asked_lock home i b t k r there =
@@ -168,56 +185,119 @@ module _ (d : Deployment) (m : Rows) (known : Known) (locked : IntentId → Bool
       let key = lockset_key i b x in
       by_owed i b x (map.get known i) refl (row_there (map.get m key) r (owed_lockset d b x i (map.get known i)) (lockset_ahead d known b x i (map.get known i)) there (h.keys key))
 
-  -- ---- the first row of a transaction's locks
-  module _ (fit : (j : IntentId) (z : Instance) → map.get known j ≡ Some z → (1 ≤ j.ticket) × AreHops 63 j.hops) (id : IntentId) (q : Instance) (is : map.get known id ≡ Some q) where
+  -- the transaction is its own, or the one that it was called in
+  module _ (i : IntentId) (b : ℕ) (a : Asks d known i b) where
+    abbrev q : Instance
+    q = a.instance
+
+    begins_in : (o : Option TxId) → begins_at b o ≡ true → (t : TxId) × (o ≡ Some t) × (t.begin ≡ b)
+    begins_in None g = cc
+    begins_in (Some t) g = (t, refl, eqb-true t.begin b g)
+
+    own_open : q.within ≡ None → (txs_after d q a.given).begun ≡ Some b
+    own_open outside =
+        let w = (txs_after d q a.given).begun in
+        let t = begins_in (tx_after d i q a.given) a.begins in
+        (own_by i q.func (length a.given) (effect_after d q a.given) w t.0 a.on
+        (sym (ap (λ z. or_own z (tx_by i q.func (length a.given) (effect_after d q a.given) w)) outside) ∙ t.1)).begun ∙ ap Some t.2
+
+    inherited : (s : TxId) → q.within ≡ Some s → s.begin ≡ b
+    inherited s inner =
+        let t = begins_in (tx_after d i q a.given) a.begins in
+        ap (λ (y : TxId). y.begin) (same_some (sym (ap (λ z. or_own z (tx_by i q.func (length a.given) (effect_after d q a.given) (txs_after d q a.given).begun)) inner) ∙ t.1)) ∙ t.2
+
+    begin_small : b < 30000
+    begin_small = by_within q.within refl
+      where
+        by_within : (w : Option TxId) → q.within ≡ w → b < 30000
+        by_within None e = let less = (fits_at d q a.given).before b (own_open e) in let few = a.few in omega (arith, less, few)
+        by_within (Some s) e =
+            let k = called_begun d known sane i q s a.made e in
+            subst (λ n. n < 30000) (inherited s e) (answered_small d s.intent k.owner s.begin (sane.each s.intent k.owner k.made) k.before)
+
+  -- ---- who is visited at the end of a transaction: its owner, or who was called in it
+  pub record IsVisitor (t : TxId) (p : Member) : Type 0 where
+    pub instance : Instance
+    pub made : map.get known p.0 ≡ Some instance
+    pub role : ((instance.within ≡ None) × (effect_before d instance t.begin ≡ effect.Begin)) ⊎ (instance.within ≡ Some t)
+
+  module _ (fit : (j : IntentId) (z : Instance) → map.get known j ≡ Some z → (1 ≤ j.ticket) × AreHops 63 j.hops) (t : TxId) (p : Member) (v : IsVisitor t p) where
+    abbrev own_fit : (1 ≤ p.0.ticket) × AreHops 63 p.0.hops
+    own_fit = fit p.0 v.instance v.made
+
     -- a Begin comes directly after no Begin
-    not_next : (c : ℕ) → c < length q.answers → effect_before d q c ≡ effect.Begin → effect_before d q (suc c) ≡ effect.Begin → ⊥
-    not_next c less at next =
+    not_next : (q : Instance) (c : ℕ) → c < length q.answers → effect_before d q c ≡ effect.Begin → effect_before d q (suc c) ≡ effect.Begin → ⊥
+    not_next q c less at next =
         let ts = take c q.answers in
         let a = get_or q.answers c answer.Done in
         let more : take (suc c) q.answers ≡ ts ++ a ∷ [] = ap (λ n. take n q.answers) (sym (add-one c)) ∙ take_more q.answers c answer.Done less in
         let open_there : is_some (txs_after d q (ts ++ a ∷ [])).begun ≡ true = ap (λ (s : Txs). is_some s.begun) (txs_pushed d q ts a) ∙ ap (λ e. is_some (txs_by (length ts) e (txs_after d q ts)).begun) at in
         let clash = sym open_there ∙ (begin_is d q (ts ++ a ∷ []) (ap (effect_after d q) (sym more) ∙ next)).1 in cc
 
-    -- so no row is of the step before the transaction's
-    not_last : (home begin : ℕ) (i : IntentId) (b t : ℕ) (k : List ℕ) → effect_before d q begin ≡ effect.Begin → Asks d known i b → IsLast home id (fit id q is).0 (fit id q is).1 begin i b t k → ⊥
-    not_last home zero i b t k at a l =
-        let less = (fits_at d a.instance a.given).before b a.begun in
-        let few = a.few in
-        let same = l.1 in
-        omega (arith, less, few, same)
-    not_last home (suc c) i b t k at a l =
-        let z = a.instance in
-        let less = (fits_at d z a.given).before b a.begun in
-        let one : z ≡ q = same_some (sym a.made ∙ ap (map.get known) l.0 ∙ is) in
-        let long : length a.given + length a.more ≡ length z.answers = sym (length-append a.given a.more) ∙ ap length a.all in
-        let there : effect_before d z b ≡ effect.Begin = ap (λ ts. effect_after d z (take b ts)) (sym a.all) ∙ ap (effect_after d z) (take-append-le b a.given a.more (omega (arith, less))) ∙ (begins d z a.given).begun b a.begun in
-        let small : b < length z.answers = omega (arith, less, long) in
-        not_next c (subst (λ n. n < length q.answers) l.1 (subst (λ (y : Instance). b < length y.answers) one small)) (ap (effect_before d q) (sym l.1) ∙ ap (λ y. effect_before d y b) (sym one) ∙ there) at
-
-    apart : (home begin : ℕ) → effect_before d q begin ≡ effect.Begin → (room : ℕ) (kind : Kind) (r : Row) → map.get m (record { home = room; kind = kind }) ≡ Some r → IsApart home id (fit id q is).0 (fit id q is).1 begin kind
-    apart home begin at room (kinds.Lockset i b t k) r there =
-        let a = asked_lock room i b t k r there in
-        let less = (fits_at d a.instance a.given).before b a.begun in
-        let few = a.few in
-        ((fit i a.instance a.made).1, omega (arith, less, few), not_last home begin i b t k at a)
-    apart home begin at room kind r there = tt
-
--- the end of a transaction finds the first of its rows
-pub finds_first : (d : Deployment) (c : Core) (m : Rows) (h : Right d c m) → AllShort h.known → (s : TxId) (q : Instance) → map.get h.known s.intent ≡ Some q → effect_before d q s.begin ≡ effect.Begin → FindsFirstLock s m
-finds_first d c m h short s q is at e next =
-    let fit = ids_fit d h.known h.sane tickets short in
-    first_apart s.func s.intent (fit s.intent q is).0 (fit s.intent q is).1 s.begin m e
-    (λ k r there. apart d m h.known h.locked h.rows (none_within d m h.plain h.known h.locked (shown h) (legal_sane h)) fit s.intent q is s.func s.begin at k.home k.kind r there) next
-  where
-    -- a root that was made has its row
-    by_row : (t : ℕ) (z : Instance) (o : Option Row) → map.get h.known (root_of t) ≡ Some z → IntentMatches (has_ended d h.known) true 0 o (map.get h.known (root_of t)) → is_some o ≡ true
-    by_row t z None made g = let clash = sym made ∙ g in cc
-    by_row t z (Some r) made g = refl
-
-    tickets : (t : ℕ) (z : Instance) → map.get h.known (root_of t) ≡ Some z → 1 ≤ t
-    tickets t z made = positive (nat_lt 0 t) refl (sym (h.tickets t) ∙ by_row t z (map.get m (root_key t)) made (h.rows.keys (root_key t)))
+    -- so no row of its own is of the step before the transaction's
+    not_before : (c : ℕ) → t.begin ≡ suc c → (a : Asks d known p.0 c) → ⊥
+    not_before c next a = by_role (subst (λ (y : Instance). ((y.within ≡ None) × (effect_before d y t.begin ≡ effect.Begin)) ⊎ (y.within ≡ Some t)) (same_some (sym v.made ∙ a.made)) v.role)
       where
-        positive : (b : Bool) → nat_lt 0 t ≡ b → (b && nat_le t c.newest) ≡ true → 1 ≤ t
-        positive true e g = ltb-true 0 t e
-        positive false e g = cc
+        by_role : ((a.instance.within ≡ None) × (effect_before d a.instance t.begin ≡ effect.Begin)) ⊎ (a.instance.within ≡ Some t) → ⊥
+        by_role (inr inner) = let same = inherited p.0 c a t inner in omega (arith, same, next)
+        by_role (inl own) =
+            let q = a.instance in
+            let begun = own_open p.0 c a own.0 in
+            let less = (fits_at d q a.given).before c begun in
+            let long : length a.given + length a.more ≡ length q.answers = sym (length-append a.given a.more) ∙ ap length a.all in
+            let there : effect_before d q c ≡ effect.Begin = ap (λ ts. effect_after d q (take c ts)) (sym a.all) ∙ ap (effect_after d q) (take-append-le c a.given a.more (omega (arith, less))) ∙ (begins d q a.given).begun c begun in
+            not_next q c (omega (arith, less, long)) there (ap (effect_before d q) (sym next) ∙ own.1)
+
+    not_last : (home begin : ℕ) → t.begin ≡ begin → (i : IntentId) (b n : ℕ) (k : List ℕ) → Asks d known i b → IsLast home p.0 own_fit.0 own_fit.1 begin i b n k → ⊥
+    not_last home zero same i b n k a l = let small = begin_small i b a in let is = l.1 in omega (arith, small, is)
+    not_last home (suc c) same i b n k a l = not_before c same (subst (λ y. Asks d known y c) l.0 (subst (Asks d known i) l.1 a))
+
+    apart : (home room : ℕ) (kind : Kind) (r : Row) → map.get m (record { home = room; kind = kind }) ≡ Some r → IsApart home p.0 own_fit.0 own_fit.1 t.begin kind
+    apart home room (kinds.Lockset i b n k) r there =
+        let a = asked_lock room i b n k r there in
+        let small = begin_small i b a in
+        ((fit i a.instance a.made).1, omega (arith, small), not_last home t.begin refl i b n k a)
+    apart home room kind r there = tt
+
+    pub finds_lock : FindsFirstLock t p m
+    finds_lock e next = first_apart p.1 p.0 own_fit.0 own_fit.1 t.begin m e (λ k r there. apart p.1 k.home k.kind r there) next
+
+    -- ---- rows of calls
+    narrow : (room : ℕ) (kind : Kind) (r : Row) → map.get m (record { home = room; kind = kind }) ≡ Some r → IsNarrow kind
+    narrow room (kinds.Invoke a) r there =
+        let k = call_known d m known locked h (a.intent, room) (record { step = a.step; func = func_called r }) (ap (option_map func_called) there) in
+        ((fit a.intent k.caller k.made).1, called_small d a.intent a.step k.callee k.caller (subst (λ o. CalledBy d a.intent o a.step k.callee) k.made (sane.called a.intent a.step k.callee k.there)))
+    narrow room kind r there = tt
+
+    pub finds_call : FindsFirstCall p m
+    finds_call e next = first_narrow p.1 p.0 own_fit.0 own_fit.1 m e (λ k r there. narrow k.home k.kind r there) next
+
+-- ---- of a host that is right
+module _ (d : Deployment) (c : Core) (m : Rows) (h : Right d c m) where
+  -- a root that was made has its row
+  tickets : (t : ℕ) (z : Instance) → map.get h.known (root_of t) ≡ Some z → 1 ≤ t
+  tickets t z made = positive (nat_lt 0 t) refl (sym (h.tickets t) ∙ by_row (map.get m (root_key t)) made (h.rows.keys (root_key t)))
+    where
+      by_row : (o : Option Row) → map.get h.known (root_of t) ≡ Some z → IntentMatches (has_ended d h.known) true 0 o (map.get h.known (root_of t)) → is_some o ≡ true
+      by_row None made g = let clash = sym made ∙ g in cc
+      by_row (Some r) made g = refl
+
+      positive : (b : Bool) → nat_lt 0 t ≡ b → (b && nat_le t c.newest) ≡ true → 1 ≤ t
+      positive true e g = ltb-true 0 t e
+      positive false e g = cc
+
+  module _ (t : TxId) (z : ℕ × Bool) (ended : tx_end d h.known t ≡ Some z) where
+    owner_visits : (o : Option Instance) → map.get h.known t.intent ≡ o → ended_by d t.begin o ≡ Some z → IsVisitor d m h.known h.locked h.rows h.sane t (t.intent, t.func)
+    owner_visits None is e = cc
+    owner_visits (Some q) is e = record { instance = q; made = is; role = inl (owner_outside d q t.begin z e, (begins d q q.answers).ended t.begin z e) }
+
+    visitor : (cs : List Called) → IsMember (first_end t z.0 z.1) m cs → IsVisitor d m h.known h.locked h.rows h.sane t (visited_by t cs)
+    visitor [] member = owner_visits (map.get h.known t.intent) refl ended
+    visitor (c ∷ cs) member = let k = members_joined d m h.known h.locked h.rows h.sane t z ended c cs member in record { instance = k.instance; made = k.made; role = inr k.within }
+
+    -- the end of a transaction finds the first rows of whom it visits
+    pub finds_first : (cs : List Called) → IsMember (first_end t z.0 z.1) m cs → FindsFirstCall (visited_by t cs) m × FindsFirstLock t (visited_by t cs) m
+    finds_first cs member =
+        let fit = ids_fit d h.known h.sane tickets h.short in
+        let v = visitor cs member in
+        (finds_call d m h.known h.locked h.rows h.sane fit t (visited_by t cs) v, finds_lock d m h.known h.locked h.rows h.sane fit t (visited_by t cs) v)

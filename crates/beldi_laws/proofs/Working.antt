@@ -53,13 +53,13 @@ use Rattle.beldi_order.specs.Txs.{tx_after, tx_now}
 use Rattle.beldi_order.proofs.Entries.{grows_self}
 use Rattle.beldi_order.proofs.Maps as maps
 use Rattle.beldi_step.specs.declared.run.Begun.{Begun}
-use Rattle.beldi_step.specs.declared.run.OpenTx.{OpenTx}
+use Rattle.beldi_step.specs.declared.run.RunTx.{RunTx}
 use Rattle.beldi_step.specs.declared.run.Run.{Run}
 use Rattle.beldi_step.specs.declared.run.Says.{Says}
 use Rattle.beldi_step.specs.declared.run.Says.TheVariants as says
 use Rattle.beldi_step.specs.declared.run.Stage.TheVariants as stage
 use Rattle.beldi_step.specs.Host.{Core, turn_next}
-use Rattle.beldi_step.specs.Run.{own_tx, place_of, turned_by, tx_here_asks, tx_here_says, tx_says}
+use Rattle.beldi_step.specs.Run.{begin_of, place_of, tx_of, turned_by, tx_here_asks, tx_here_says, tx_says}
 use Rattle.beldi_step.specs.Tables.{decision_key, value_in}
 use Rattle.beldi_known.specs.Acts.{noted, did, tested, noted_or, held_or, lock_or, lock_answer, write_on, test_on}
 use Rattle.beldi_known.specs.Contents.{content_of, head_key, lockset_key, shadow_key, shadow_of}
@@ -79,21 +79,22 @@ use Rattle.beldi_known.proofs.Behind.{behind_looks, behind_locks, behind_writes,
 use Rattle.beldi_known.proofs.Inside.{read_inside, write_inside, test_inside, shadow_made}
 use Rattle.beldi_known.proofs.Acting.{first_rows_go, reads_go, tests_go, writes_go}
 use Rattle.beldi_known.proofs.Lists.{shadow_lists}
-use Rattle.beldi_known.proofs.OneFunction.{listed_open, undecided}
-use Rattle.beldi_known.proofs.ReadLists.{read_lists}
+use Rattle.beldi_known.proofs.Begun.{got_begun, listed_open, undecided}
+use Rattle.beldi_known.proofs.ReadLists.{begun_lists}
 use Rattle.beldi_known.proofs.Rows.{set_here, set_others}
 use Rattle.beldi_known.proofs.Sanes.{sane_read, sane_wrote, sane_tested}
 use Rattle.beldi_known.proofs.Told.{write_parts, test_parts}
 use Rattle.beldi_laws.specs.Right.{Right, Knows}
 use Rattle.beldi_laws.specs.Inside.{Found, Frame, InItem, InOperation, Inside}
-use Rattle.beldi_laws.proofs.Frames.{is_lockset, frame_row, frame_shadow, items_stay, settled_operated, settled_rows}
+use Rattle.beldi_laws.proofs.Closing.{settled_after}
+use Rattle.beldi_laws.proofs.Frames.{NoFinish, NobodyJoins, frame_log, frame_shadow, is_lockset, items_stay, no_finish, nobody_new, nobody_set, settled_operated}
 use Rattle.beldi_laws.proofs.Grown.{grown_moved, grows_moved, moved_more}
-use Rattle.beldi_laws.proofs.InTx.{frees_none, item_self, goes_at, replays, lockset_is, set_roots, touches, same_item, steps, effect_so, wants_here, short, known_answers, answers_so, at_front, now, tx_is, front, apart, opened as opened_here, owned as owned_here, was_locked}
+use Rattle.beldi_laws.proofs.InTx.{begin_is, frees_none, open_still, item_self, goes_at, replays, lockset_is, set_roots, touches, same_item, steps, effect_so, wants_here, short, known_answers, answers_so, at_front, now, tx_is, front, apart, opened as opened_here, owned as owned_here, was_locked}
 use Rattle.beldi_laws.proofs.Keeping.{as_it_was}
 use Rattle.beldi_laws.proofs.Moves.{AfterQuery, AfterTurn, SameRoots, Kept}
 use Rattle.beldi_laws.proofs.Others.{kept_by}
 use Rattle.beldi_laws.proofs.Shown.{settled}
-use Rattle.beldi_laws.proofs.Turns.{own_here, sane_instance, all_here, step_here, answers_on, stays_on}
+use Rattle.beldi_laws.proofs.Turns.{sane_instance, all_here, step_here, answers_on, stays_on}
 
 -- ---- small facts
 -- the answer to an operation inside that did not die
@@ -150,8 +151,8 @@ is_past (at.Lock w) = false
 is_past b = true
 
 -- past its lock: the row that asks for it is there, and the place has the lock
-pub record HasLocked (m : Rows) (r : Run) (o : OpenTx) (step : ℕ) (x : ℕ × List ℕ) : Type 0 where
-  pub asked : is_some (map.get m (lockset_key r.id o.begin (record { func = r.func; table = x.0; key = x.1 }))) ≡ true
+pub record HasLocked (m : Rows) (r : Run) (o : RunTx) (step : ℕ) (x : ℕ × List ℕ) : Type 0 where
+  pub asked : is_some (map.get m (lockset_key r.id (begin_of o) (record { func = r.func; table = x.0; key = x.1 }))) ≡ true
   pub got : note_at (content_of m (record { func = r.func; table = x.0; key = x.1 })).notes (place_of r.id step) ≡ Some note.Got
 
 -- the first row of a shadow
@@ -159,12 +160,13 @@ abbrev fresh : Value → Row
 fresh v = rows.Cell (record { value = v; owner = None; log = []; next = None; marked = false; dangled = None })
 
 module _ (d : Deployment) (c : Core) (m : Rows) (i : ℕ) (r : Run) (g : Begun) (h : Right d c m) (live : map.get c.runs i ≡ Some r) (k : Knows d c.book h.known r g) (finds : Inside d m h.plain h.known r g)
-    (o : OpenTx) (tx : g.tx ≡ Some o) (here : tx_after d r.id k.instance k.answers ≡ Some (own_tx r.id r.func o)) where
-  abbrev Leaves : Says → Rows → Type 0
+    (o : RunTx) (tx : g.tx ≡ Some o) (here : tx_after d r.id k.instance k.answers ≡ Some (tx_of r.id r.func o)) where
+  -- what it says leaves what it has to: not unfolded, as a run after an answer is large
+  Leaves : Says → Rows → Type 0
   Leaves s n = AfterTurn d h.plain c i r (turned_by d r g s) n
 
   abbrev own : TxId
-  own = own_tx r.id r.func o
+  own = tx_of r.id r.func o
 
   abbrev place : Place
   place = place_of r.id g.machine.steps
@@ -185,10 +187,16 @@ module _ (d : Deployment) (c : Core) (m : Rows) (i : ℕ) (r : Run) (g : Begun) 
 
     -- ---- it goes on to another stage, with the rows as they are
     moves_on : (b : TxAt) → Fits e b → InOperation d m h.plain h.known r.id r.func o g.machine.steps e b x → Leaves (says.On (stage.Tx b) None) m
+    unfolding Leaves
     moves_on b fits f = goes_at d c m i r g h live k finds o tx here e is x on_item b m h.locked (λ u. refl) (as_it_was h) fits f
 
     stays_here : Leaves says.Stays m
+    unfolding Leaves
     stays_here = stays_on d c m i r g h live k finds m (λ u. refl) (as_it_was h)
+
+    known_again : (a : Answer) (rest : List Answer) → k.later ≡ a ∷ rest → Leaves (says.Answers a None) m
+    unfolding Leaves
+    known_again a rest left = replays d c m i r g h live k finds o tx here e is x on_item m a rest left (λ u. refl) (as_it_was h)
 
     -- a row that is as it was
     still_row : (s : Says) (z : RowKey) (v : Option Row) → map.get m z ≡ v → Leaves s m → Leaves s (set_row m z v)
@@ -263,66 +271,79 @@ module _ (d : Deployment) (c : Core) (m : Rows) (i : ℕ) (r : Run) (g : Begun) 
       was : h.locked r.id ≡ true
       was = was_locked d c m r g h k o here e is x touch left (as_its (λ y q. note_at (content_of m y).notes q ≡ Some note.Got) l.got)
 
-      lockset : map.get m (lockset_key r.id o.begin its_item) ≡ Some rows.Lockset
-      lockset = lockset_is (map.get m (lockset_key r.id o.begin its_item)) (owed_lockset d o.begin its_item r.id (map.get h.known r.id)) (lockset_ahead d h.known o.begin its_item r.id (map.get h.known r.id))
-          (h.rows.keys (lockset_key r.id o.begin its_item)) (as_its (λ y q. is_some (map.get m (lockset_key r.id o.begin y)) ≡ true) l.asked)
+      lockset : map.get m (lockset_key r.id own.begin its_item) ≡ Some rows.Lockset
+      lockset = lockset_is (map.get m (lockset_key r.id own.begin its_item)) (owed_lockset d own.begin its_item r.id (map.get h.known r.id)) (lockset_ahead d h.known own.begin its_item r.id (map.get h.known r.id))
+          (h.rows.keys (lockset_key r.id own.begin its_item)) (as_its (λ y q. is_some (map.get m (lockset_key r.id own.begin y)) ≡ true) (subst (λ b. is_some (map.get m (lockset_key r.id b item)) ≡ true) (sym (begin_is r.id r.func o)) l.asked))
 
       -- its transaction owns the item, so the item's own value is the plain one
       owned : (content_of m its_item).owner ≡ Some (ByTx own)
       owned = owned_here d c m r g h k o here e is x touch left was
 
-      alone : k.instance.within ≡ None
-      alone = own_here d c m r g h k
+      going : k.instance.outcome ≡ None
+      going = open_still d c m r g h k o here e is x touch left
 
       off_begin : is_begin (effect_of d k.instance) ≡ false
       off_begin = apart d c m r g h k o here e is x touch left
 
       plain_there : (content_of m item).value ≡ value_at h.plain item
       plain_there = as_ran (λ y q. (content_of m y).value ≡ value_at h.plain y)
-          (sym (listed_open d m h.known h.locked h.rows r.id k.instance k.made alone own inside off_begin its_item (content_of m its_item).value) ∙ ap (λ w. listed_under m its_item w (content_of m its_item).value) (sym owned) ∙ h.values its_item)
+          (sym (listed_open d h.known h.sane m h.locked h.rows r.id k.instance own k.made going off_begin inside its_item (content_of m its_item).value) ∙ ap (λ w. listed_under m its_item w (content_of m its_item).value) (sym owned) ∙ h.values its_item)
 
       -- ---- what an answer keeps, and the first row of the shadow
       answers_now : (a : Answer) (n : Rows) → SameRoots m n → Kept h n h.plain (next a) after → Leaves (says.Answers a None) n
+      unfolding Leaves
       answers_now a n roots kept =
           let more = moved_more d r.id k.instance a in
           answers_on d c m i r g h live k finds a more.more n (next a) after (moved d r.id k.instance a) roots kept (maps.here h.known r.id (moved d r.id k.instance a)) (grown_moved d r.id k.instance a)
           (ap (λ ts. (ts ++ a ∷ []) ++ more.more) (all_here d c.book h.known r g k left) ∙ more.same) (wants_here d c m r g h k o here e is x touch) (frees_none d c m i r g h live k finds o tx here e is x on_item n)
 
-      answer_keeps : (a : Answer) (n : Rows) → ((z : Cause) → a ≡ answer.Aborted z → ⊥) → Goes d n h.plain (next a) after → Sane d (next a) → Matches d n (next a) after → ((y : Item) → listed n y ≡ listed m y) → Frame d m n h.plain h.plain h.known (next a) → Kept h n h.plain (next a) after
-      answer_keeps a n lives goes sane matches lists frame = kept_by d c m n h h.plain (next a) after (record {
+      answer_keeps : (a : Answer) (n : Rows) → ((z : Cause) → a ≡ answer.Aborted z → ⊥) → Goes d n h.plain (next a) after → Sane d (next a) → Matches d n (next a) after → ((y : Item) → listed n y ≡ listed m y) → Frame d m n h.plain h.plain h.known (next a) → NoFinish d m n (next a) → Kept h n h.plain (next a) after
+      answer_keeps a n lives goes sane matches lists frame unfinished = kept_by d c m n h h.plain (next a) after (record {
         goes = goes;
         locked_at_ends = ahead_set d h.known h.locked h.locked_at_ends after r.id (moved d r.id k.instance a) out;
         sane = sane;
         rows = matches;
         values = λ y. lists y ∙ h.values y;
-        settled = settled_rows d m n h.plain h.plain h.known (next a) frame (settled_operated d m h.plain h.known r.id k.instance k.made a x stands.touch (λ z j dead. absurd (lives z dead)) (settled h));
+        settled = settled_after d c m h n h.plain (next a) after matches sane (grows_moved d h.known r.id k.instance a k.made) frame unfinished (settled_operated d m h.plain h.known r.id k.instance k.made a x stands.touch (λ z j dead. absurd (lives z dead)) (settled h));
       }) (grows_moved d h.known r.id k.instance a k.made) frame
 
       undecided_here : map.get m (decision_key own) ≡ None
-      undecided_here = undecided d m h.known h.locked h.rows r.id k.instance k.made alone own inside off_begin
+      undecided_here = undecided d h.known h.sane m h.locked h.rows r.id k.instance own k.made going off_begin inside
 
-      shadow_frame : (v : Row) (after_it : Known) → is_some (txn.op_of e) ≡ true → Frame d m (set_row m (shadow_key own its_item) (Some v)) h.plain h.plain h.known after_it
-      shadow_frame v after_it writes = frame_shadow d m h.plain h.plain h.known after_it (items_stay d m h.plain h.plain after_it refl) (set_row m (shadow_key own its_item) (Some v)) own its_item (set_others m (shadow_key own its_item) (Some v))
-          (ap is_some (set_here m (shadow_key own its_item) (Some v))) (record { instance = k.instance; made = k.made; now = inside; writes = ap (λ z. is_some (txn.op_of z)) now_is ∙ writes })
+      shadow_frame : (v : Row) (after_it : Known) → NobodyJoins d h.known after_it → is_some (txn.op_of e) ≡ true → Frame d m (set_row m (shadow_key own its_item) (Some v)) h.plain h.plain h.known after_it
+      shadow_frame v after_it joins writes = frame_shadow d m h.plain h.plain h.known after_it (items_stay d m h.plain h.plain after_it refl) joins (set_row m (shadow_key own its_item) (Some v)) own its_item (set_others m (shadow_key own its_item) (Some v))
+          (ap is_some (set_here m (shadow_key own its_item) (Some v))) (record { writer = r.id; instance = k.instance; made = k.made; now = inside; writes = ap (λ z. is_some (txn.op_of z)) now_is ∙ writes })
+
+      -- nobody joins, and no finish is put
+      joins_none : (a : Answer) → NobodyJoins d h.known (next a)
+      joins_none a = nobody_set d h.known r.id (moved d r.id k.instance a) (ap is_some k.made)
+
+      shadow_unfinished : (v : Row) (after_it : Known) → NoFinish d m (set_row m (shadow_key own its_item) (Some v)) after_it
+      shadow_unfinished v after_it = no_finish m (set_row m (shadow_key own its_item) (Some v)) (shadow_key own its_item) (set_others m (shadow_key own its_item) (Some v)) d after_it refl
 
       first_keeps : (v : Value) → is_some (txn.op_of e) ≡ true → map.get m (shadow_key own its_item) ≡ None → ((writes_on its_item k.instance.func (effect_of d k.instance) ≡ true) ⊎ (v ≡ value_at h.plain its_item)) → Kept h (set_row m (shadow_key own its_item) (Some (fresh v))) h.plain h.known h.locked
-      first_keeps v writes none by = let frame = shadow_frame (fresh v) h.known writes in kept_by d c m (set_row m (shadow_key own its_item) (Some (fresh v))) h h.plain h.known h.locked (record {
-        goes = record { beside = h.beside; shadows = first_rows_go d m h.plain h.known h.locked r.id k.instance own x.0 x.1 (Some (fresh v)) opened stands was none by };
-        locked_at_ends = h.locked_at_ends;
-        sane = h.sane;
-        rows = shadow_made d h.known h.locked m h.rows own its_item (Some (fresh v)) (refl, tt, refl, refl) none refl;
-        values = λ y. shadow_lists m own undecided_here its_item (Some (fresh v)) y ∙ h.values y;
-        settled = settled_rows d m (set_row m (shadow_key own its_item) (Some (fresh v))) h.plain h.plain h.known h.known frame (settled h);
-      }) (grows_self h.known) frame
+      first_keeps v writes none by =
+          let n : Rows = set_row m (shadow_key own its_item) (Some (fresh v)) in
+          let frame = shadow_frame (fresh v) h.known (nobody_new d h.known) writes in
+          let matches = shadow_made d h.known h.locked m h.rows own its_item (Some (fresh v)) (refl, tt, refl, refl) none refl in
+          kept_by d c m n h h.plain h.known h.locked (record {
+            goes = record { beside = h.beside; shadows = first_rows_go d m h.plain h.known h.locked r.id k.instance own x.0 x.1 (Some (fresh v)) opened stands was none by };
+            locked_at_ends = h.locked_at_ends;
+            sane = h.sane;
+            rows = matches;
+            values = λ y. shadow_lists m own undecided_here its_item (Some (fresh v)) y ∙ h.values y;
+            settled = settled_after d c m h n h.plain h.known h.locked matches h.sane (grows_self h.known) frame (shadow_unfinished (fresh v) h.known) (settled h);
+          }) (grows_self h.known) frame
 
       first_made : (v : Value) → is_some (txn.op_of e) ≡ true → map.get m (shadow_key own item) ≡ None → ((writes_on item r.func e ≡ true) ⊎ (v ≡ value_at h.plain item)) → Fits e (at.Write Try) → Found e (at.Write Try) (Some (fresh v)) (value_at h.plain item)
           → Leaves (says.On (stage.Tx (at.Write Try)) None) (set_row m (shadow_key own item) (Some (fresh v)))
+      unfolding Leaves
       first_made v writes none by fits finds_it = let n = set_row m (shadow_key own item) (Some (fresh v)) in goes_at d c m i r g h live k finds o tx here e is x on_item (at.Write Try) n h.locked (set_roots m r.func (kinds.Shadow own x.0 x.1 0) (Some (fresh v)) refl)
           (as_ran (λ y q. Kept h (set_row m (shadow_key own y) (Some (fresh v))) h.plain h.known h.locked) (first_keeps v writes (as_its (λ y q. map.get m (shadow_key own y) ≡ None) none)
           (subst (λ z. (writes_on its_item k.instance.func z ≡ true) ⊎ (v ≡ value_at h.plain its_item)) (sym now_is) (as_its (λ y q. (writes_on y y.func e ≡ true) ⊎ (v ≡ value_at h.plain y)) by))))
           fits (record {
             begin = tt;
-            asked = λ t. ap is_some (set_others m (shadow_key own item) (Some (fresh v)) (lockset_key r.id o.begin item) (kinds_apart is_lockset (lockset_key r.id o.begin item) (shadow_key own item) refl refl)) ∙ l.asked;
+            asked = λ t. ap is_some (set_others m (shadow_key own item) (Some (fresh v)) (lockset_key r.id (begin_of o) item) (kinds_apart is_lockset (lockset_key r.id (begin_of o) item) (shadow_key own item) refl refl)) ∙ l.asked;
             locked = ap (λ (z : Content). note_at z.notes place) (content_apart m (shadow_key own item) (Some (fresh v)) item (kinds_apart is_data (head_key item) (shadow_key own item) refl refl)) ∙ l.got;
             found = λ q made there. subst (λ z. Found e (at.Write Try) z (value_at h.plain item)) (sym (set_here m (shadow_key own item) (Some (fresh v)))) finds_it;
           })
@@ -350,6 +371,7 @@ module _ (d : Deployment) (c : Core) (m : Rows) (i : ℕ) (r : Run) (g : Begun) 
 
     -- it looks at its shadow
     shadow_turn : Turn read at.Shadow
+    unfolding Leaves
     shadow_turn = looked_at read is (t, key) refl l (tx_says at.Shadow (shadow_read (read_goes None (said (act Look c.now (map.get m aside)).1)))) aside
         (subst (λ z. Leaves (tx_says at.Shadow (shadow_read z)) m) (sym (shadow_told c.now (map.get m aside) (h.rows.keys aside))) (by_row (map.get m aside) refl (h.rows.keys aside)))
       where
@@ -360,6 +382,7 @@ module _ (d : Deployment) (c : Core) (m : Rows) (i : ℕ) (r : Run) (g : Begun) 
 
     -- it looks at the item, where it has no shadow
     item_turn : (k.later ≡ [] → map.get m aside ≡ None) → Turn read at.Item
+    unfolding Leaves
     item_turn none = item_found read is (t, key) refl l (λ u same. moves_on read is (t, key) refl l (at.Keep u) tt (record {
       begin = tt;
       asked = λ w. l.asked;
@@ -390,8 +413,9 @@ module _ (d : Deployment) (c : Core) (m : Rows) (i : ℕ) (r : Run) (g : Begun) 
             (as_its read is (t, key) refl l left (λ y p. value_in (map.get m (shadow_key own y)) (value_at h.plain y) ≡ v) (saw left)))
             (sane_read d h.known h.sane r.id k.instance k.made t key v front_read)
             (read_inside d h.known h.locked (after read is (t, key) refl l) r.id k.instance k.made out own (inside read is (t, key) refl l left) m h.rows t key v front_read (lockset read is (t, key) refl l left) (was read is (t, key) refl l left))
-            (read_lists d m h.known h.locked h.rows.txs (λ j z there. h.uncalled j z there) r.id k.instance k.made (Some (rows.ReadLog v)))
-            (frame_row d m h.plain h.plain h.known (next read is (t, key) refl l found_now) (items_stay d m h.plain h.plain (next read is (t, key) refl l found_now) refl) (log_key k.instance.func (place_of r.id (length k.instance.answers))) (Some (rows.ReadLog v)) refl refl)
+            (begun_lists d m h.known h.locked h.rows.txs (got_begun d h.known h.sane h.locked) r.id k.instance k.made (Some (rows.ReadLog v)))
+            (frame_log d m h.plain h.plain h.known (next read is (t, key) refl l found_now) (items_stay d m h.plain h.plain (next read is (t, key) refl l found_now) refl) (joins_none read is (t, key) refl l left found_now) k.instance.func (place_of r.id (length k.instance.answers)) (Some (rows.ReadLog v)) refl)
+            (no_finish m with_log (log_key k.instance.func (place_of r.id (length k.instance.answers))) (set_others m (log_key k.instance.func (place_of r.id (length k.instance.answers))) (Some (rows.ReadLog v))) d (next read is (t, key) refl l found_now) refl)
 
       keep_by : (later : List Answer) → k.later ≡ later → Keeps (map.get m log)
       keep_by [] left = subst Keeps (sym (as_ran read is (t, key) refl l left (λ y p. map.get m (log_key y.func p) ≡ None) (no_log d m h.known h.locked h.rows r.id k.instance k.made)))
@@ -402,9 +426,10 @@ module _ (d : Deployment) (c : Core) (m : Rows) (i : ℕ) (r : Run) (g : Begun) 
           let there : map.get m log ≡ Some (rows.ReadLog z.0) = as_run read is (t, key) refl l b rest left (λ y p. map.get m (log_key y.func p) ≡ Some (rows.ReadLog z.0))
           (behind_looks d m h.known h.locked h.rows r.id k.instance k.made (sane_instance d c m r g h k) k.answers b rest (all_known read is (t, key) refl l b rest left) (short d c m r g h k o here read is (t, key) refl) t key z.0
           (effect_so d c m r g h k o here read is (t, key) refl) z.1) in
-          subst Keeps (sym there) (still_row read is (t, key) refl l (says.Answers (answer.Value z.0) None) log (Some (rows.ReadLog z.0)) there (subst (λ y. Leaves (says.Answers y None) m) z.1 (replays d c m i r g h live k finds o tx here read is (t, key) refl m b rest left (λ u. refl) (as_it_was h))))
+          subst Keeps (sym there) (still_row read is (t, key) refl l (says.Answers (answer.Value z.0) None) log (Some (rows.ReadLog z.0)) there (subst (λ y. Leaves (says.Answers y None) m) z.1 (known_again read is (t, key) refl l b rest left)))
 
       keep_turn : Turn read (at.Keep v)
+      unfolding Leaves
       keep_turn = keep_by k.later refl
 
   -- ---- a write of the shadow, plain or tested: by what it does to a cell, the note that its act says was left, and the answer
@@ -451,19 +476,19 @@ module _ (d : Deployment) (c : Core) (m : Rows) (i : ℕ) (r : Run) (g : Begun) 
         -- its place has the note
         noted_by : (later : List Answer) → k.later ≡ later → (w : Note) → note_at z.log place ≡ Some w → Writes (z, said_noted w)
         noted_by [] left w is_there =
-            absurd (let clash = sym is_there ∙ ap (λ v. note_at (content_in v).notes place) (sym there) ∙ as_ran e is x on_item l left (λ y p. note_at (shadow_of m own y).notes p ≡ None) (no_shadow_note d m h.known h.locked h.rows r.id k.instance k.made own (record { func = k.instance.func; table = x.0; key = x.1 })) in cc)
+            let clash = sym is_there ∙ ap (λ v. note_at (content_in v).notes place) (sym there) ∙ as_ran e is x on_item l left (λ y p. note_at (shadow_of m own y).notes p ≡ None) (no_shadow_note d m h.known h.locked h.rows r.id k.instance k.made own (record { func = k.instance.func; table = x.0; key = x.1 })) in cc
         noted_by (b ∷ rest) left w is_there =
             let q = has_note b rest left in
             let same : q.0 ≡ w = maps.same_some (sym q.1 ∙ ap (λ v. note_at (content_in v).notes place) there ∙ is_there) in
             subst (λ u. Leaves (tx_says (at.Write Try) (note_goes e u)) (set_row m its (Some (rows.Cell z)))) same
-            (subst (λ s. Leaves s (set_row m its (Some (rows.Cell z)))) (sym q.2) (still_row e is x on_item l (says.Answers b None) its (Some (rows.Cell z)) there (replays d c m i r g h live k finds o tx here e is x on_item m b rest left (λ u. refl) (as_it_was h))))
+            (subst (λ s. Leaves s (set_row m its (Some (rows.Cell z)))) (sym q.2) (still_row e is x on_item l (says.Answers b None) its (Some (rows.Cell z)) there (known_again e is x on_item l b rest left)))
 
         -- it has none: it writes now, unless another owns the shadow
         done_by : (later : List Answer) → k.later ≡ later → note_at z.log place ≡ None → (u : Option Owner) → other_owner (ByTx own) z.owner ≡ u → Writes (cell_held z u (does z))
         done_by later left none (Some u) owner = still_row e is x on_item l says.Stays its (Some (rows.Cell z)) there (stays_here e is x on_item l)
         done_by [] left none None owner = subst (λ s. Leaves s (set_row m its (Some (rows.Cell (does z).0)))) (sym (told_now z))
             (answers_now e is x on_item l left (a z) (set_row m its (Some (rows.Cell (does z).0))) (set_roots m r.func (kinds.Shadow own x.0 x.1 0) (Some (rows.Cell (does z).0)) refl) (keeps left z there sound none owner))
-        done_by (b ∷ rest) left none None owner = absurd (let clash = sym (has_note b rest left).1 ∙ ap (λ v. note_at (content_in v).notes place) there ∙ none in cc)
+        done_by (b ∷ rest) left none None owner = let clash = sym (has_note b rest left).1 ∙ ap (λ v. note_at (content_in v).notes place) there ∙ none in cc
 
         by_note : (w : Option Note) → note_at z.log place ≡ w → Writes (cell_noted z w (next_or z z.next (cell_held z (other_owner (ByTx own) z.owner) (does z))))
         by_note (Some w) is_there = noted_by k.later refl w is_there
@@ -524,12 +549,21 @@ module _ (d : Deployment) (c : Core) (m : Rows) (i : ℕ) (r : Run) (g : Begun) 
           (write_inside d h.known h.locked (after write is (t, key) refl l) r.id k.instance k.made was_out own (inside write is (t, key) refl l left) m h.rows t key v written wants (lockset write is (t, key) refl l left) (was write is (t, key) refl l left)
           (sound.0, once_pushed z.log place note.Wrote none sound.1, sound.2, sound.3) parts.0 parts.1)
           (shadow_lists m own (undecided_here write is (t, key) refl l left) (record { func = k.instance.func; table = t; key = key }) written)
-          (shadow_frame write is (t, key) refl l left (rows.Cell (wrote place v z).0) (next write is (t, key) refl l answer.Done) refl))
+          (shadow_frame write is (t, key) refl l left (rows.Cell (wrote place v z).0) (next write is (t, key) refl l answer.Done) (joins_none write is (t, key) refl l left answer.Done) refl)
+          (shadow_unfinished write is (t, key) refl l left (rows.Cell (wrote place v z).0) (next write is (t, key) refl l answer.Done)))
+
+    write_try : Turn write (at.Write Try)
+    unfolding Leaves
+    write_try = subst (λ y. Leaves (tx_says (at.Write Try) (write_leads write (write_goes note.Wrote (said y.1)))) (set_row m write_row y.0)) (sym (write_acts place (ByTx own) v c.now (map.get m write_row)))
+        (try_turn write is (t, key) refl l (λ w. tt) write_found note.Wrote write_note (wrote place v) (λ z. answer.Done) (λ z. refl) write_keeps)
+
+    write_make : Turn write (at.Write Make)
+    unfolding Leaves
+    write_make = make_turn write is (t, key) refl l (λ w. tt) write_found note.Wrote write_note (λ left none. first_made write is (t, key) refl l left value.Null refl none (inl (item_self r.func t key)) tt tt)
 
     write_turn : (w : WriteAt) → Turn write (at.Write w)
-    write_turn Try = subst (λ y. Leaves (tx_says (at.Write Try) (write_leads write (write_goes note.Wrote (said y.1)))) (set_row m write_row y.0)) (sym (write_acts place (ByTx own) v c.now (map.get m write_row)))
-        (try_turn write is (t, key) refl l (λ w. tt) write_found note.Wrote write_note (wrote place v) (λ z. answer.Done) (λ z. refl) write_keeps)
-    write_turn Make = make_turn write is (t, key) refl l (λ w. tt) write_found note.Wrote write_note (λ left none. first_made write is (t, key) refl l left value.Null refl none (inl (item_self r.func t key)) tt tt)
+    write_turn Try = write_try
+    write_turn Make = write_make
 
   -- ---- a write of which a condition is tested
   module _ (t : ℕ) (key : List ℕ) (u : Rel) (y v : Value) (is : g.machine.effect ≡ effect.CondWrite t key u y v) (l : HasLocked m r o g.machine.steps (t, key)) where
@@ -544,6 +578,7 @@ module _ (d : Deployment) (c : Core) (m : Rows) (i : ℕ) (r : Run) (g : Begun) 
 
     -- it looks for its shadow
     seek_turn : Turn test at.Shadow
+    unfolding Leaves
     seek_turn = looked_at test is (t, key) refl l (tx_says at.Shadow (head_goes (said (act Look c.now (map.get m test_row)).1))) test_row (by_row (map.get m test_row) refl)
       where
         by_row : (w : Option Row) → map.get m test_row ≡ w → Leaves (tx_says at.Shadow (head_goes (said (act Look c.now w).1))) m
@@ -552,6 +587,7 @@ module _ (d : Deployment) (c : Core) (m : Rows) (i : ℕ) (r : Run) (g : Begun) 
 
     -- it looks at the item
     value_turn : Turn test at.Item
+    unfolding Leaves
     value_turn = item_found test is (t, key) refl l (λ w same. moves_on test is (t, key) refl l (at.Head w) tt (record {
       begin = tt;
       asked = λ z. l.asked;
@@ -571,14 +607,19 @@ module _ (d : Deployment) (c : Core) (m : Rows) (i : ℕ) (r : Run) (g : Begun) 
         )
 
     -- it makes its shadow, with the value that it found
-    head_turn : (w : Value) → (k.later ≡ [] → map.get m test_row ≡ None → value_at h.plain test_item ≡ w) → Turn test (at.Head w)
-    head_turn w saw = by_row (map.get m test_row) refl k.later refl
-      where
-        by_row : (z : Option Row) → map.get m test_row ≡ z → (later : List Answer) → k.later ≡ later → Leaves (tx_says (at.Head w) (head_made (said (act (MakeCell w None) c.now z).1))) (set_row m test_row (act (MakeCell w None) c.now z).0)
-        by_row (Some z) there later left = still_row test is (t, key) refl l (says.On (stage.Tx (at.Write Try)) None) test_row (Some z) there
-            (moves_on test is (t, key) refl l (at.Write Try) tt (record { begin = tt; asked = λ a. l.asked; locked = l.got; found = λ q made same. ap is_some there }))
-        by_row None there [] left = first_made test is (t, key) refl l left w refl there (inr (sym (saw left there))) tt refl
-        by_row None there (b ∷ rest) left = absurd (let clash = sym (test_note b rest left).1 ∙ ap (λ z. note_at (content_in z).notes place) there in cc)
+    module _ (w : Value) (saw : k.later ≡ [] → map.get m test_row ≡ None → value_at h.plain test_item ≡ w) where
+      abbrev Heads : Option Row → Type 0
+      Heads z = Leaves (tx_says (at.Head w) (head_made (said (act (MakeCell w None) c.now z).1))) (set_row m test_row (act (MakeCell w None) c.now z).0)
+
+      head_by : (z : Option Row) → map.get m test_row ≡ z → (later : List Answer) → k.later ≡ later → Heads z
+      head_by (Some z) there later left = still_row test is (t, key) refl l (says.On (stage.Tx (at.Write Try)) None) test_row (Some z) there
+          (moves_on test is (t, key) refl l (at.Write Try) tt (record { begin = tt; asked = λ a. l.asked; locked = l.got; found = λ q made same. ap is_some there }))
+      head_by None there [] left = first_made test is (t, key) refl l left w refl there (inr (sym (saw left there))) tt refl
+      head_by None there (b ∷ rest) left = let clash = sym (test_note b rest left).1 ∙ ap (λ z. note_at (content_in z).notes place) there in cc
+
+      head_turn : Turn test (at.Head w)
+      unfolding Leaves
+      head_turn = head_by (map.get m test_row) refl k.later refl
 
     module _ (has : k.later ≡ [] → is_some (map.get m test_row) ≡ true) where
       module _ (left : k.later ≡ []) (z : Cell) (there : map.get m test_row ≡ Some (rows.Cell z)) (sound : SoundAt (Some (rows.Cell z))) (none : note_at z.log place ≡ None) (free : other_owner (ByTx own) z.owner ≡ None) where
@@ -610,12 +651,21 @@ module _ (d : Deployment) (c : Core) (m : Rows) (i : ℕ) (r : Run) (g : Begun) 
             (test_inside d h.known h.locked (after test is (t, key) refl l) r.id k.instance k.made was_out own (inside test is (t, key) refl l left) m h.rows t key u y v tried passed wants (lockset test is (t, key) refl l left) (was test is (t, key) refl l left)
             (sound.0, once_pushed z.log place (note.Cond passed) none sound.1, sound.2, sound.3) parts.0 _ parts.1)
             (shadow_lists m own (undecided_here test is (t, key) refl l left) (record { func = k.instance.func; table = t; key = key }) tried)
-            (shadow_frame test is (t, key) refl l left (rows.Cell (tries place u y v z).0) (next test is (t, key) refl l result) refl))
+            (shadow_frame test is (t, key) refl l left (rows.Cell (tries place u y v z).0) (next test is (t, key) refl l result) (joins_none test is (t, key) refl l left result) refl)
+            (shadow_unfinished test is (t, key) refl l left (rows.Cell (tries place u y v z).0) (next test is (t, key) refl l result)))
+
+      test_try : Turn test (at.Write Try)
+      unfolding Leaves
+      test_try = subst (λ a. Leaves (tx_says (at.Write Try) (write_leads test (write_goes (note.Cond true) (said a.1)))) (set_row m test_row a.0)) (sym (test_acts place (ByTx own) u y v c.now (map.get m test_row)))
+          (try_turn test is (t, key) refl l (λ w. tt) (λ w left. has left) (note.Cond true) test_note (tries place u y v) (λ z. answer.Value (value.Bool (passes z.value u y))) (λ z. refl) test_keeps)
+
+      test_make : Turn test (at.Write Make)
+      unfolding Leaves
+      test_make = make_turn test is (t, key) refl l (λ w. tt) (λ w left. has left) (note.Cond true) test_note (λ left none. let clash = sym (has left) ∙ ap is_some none in cc)
 
       test_turn : (w : WriteAt) → Turn test (at.Write w)
-      test_turn Try = subst (λ a. Leaves (tx_says (at.Write Try) (write_leads test (write_goes (note.Cond true) (said a.1)))) (set_row m test_row a.0)) (sym (test_acts place (ByTx own) u y v c.now (map.get m test_row)))
-          (try_turn test is (t, key) refl l (λ w. tt) (λ w left. has left) (note.Cond true) test_note (tries place u y v) (λ z. answer.Value (value.Bool (passes z.value u y))) (λ z. refl) test_keeps)
-      test_turn Make = make_turn test is (t, key) refl l (λ w. tt) (λ w left. has left) (note.Cond true) test_note (λ left none. absurd (let clash = sym (has left) ∙ ap is_some none in cc))
+      test_turn Try = test_try
+      test_turn Make = test_make
 
   -- ---- every stage past the lock
   pub working_turn : (e : Effect) (a : TxAt) → g.machine.effect ≡ e → is_past a ≡ true → Fits e a → InItem d m h.plain h.known r.id r.func o g.machine.steps e a (item_of e) → Turn e a

@@ -1,6 +1,8 @@
 -- What runs that carry a transaction out have found in the rows, and what the rows keep of transactions.
-use Rattle.std.specs.Prelude.{◌≡◌, ℕ, ◌<◌, Bool, true, false, List, length, is_some, Option, Some, None}
+use Rattle.std.specs.Prelude.{◌≡◌, ◌⊎◌, ℕ, ◌<◌, Bool, true, false, List, length, is_some, Option, Some, None}
 use Rattle.std.specs.FinMap as map
+use Rattle.std.specs.Option.{option_map}
+use Rattle.beldi_value.specs.Id.{has_no_hops}
 use Rattle.beldi_value.specs.declared.id.IntentId.{IntentId}
 use Rattle.beldi_value.specs.declared.place.Owner.TheVariants.{Tx as ByTx}
 use Rattle.beldi_value.specs.declared.place.Place.{Place}
@@ -12,6 +14,7 @@ use Rattle.beldi_lang.specs.declared.effect.Effect.TheVariants.{Read, CondWrite,
 use Rattle.beldi_row.specs.declared.key.RowKey.{RowKey}
 use Rattle.beldi_row.specs.declared.notes.Note.{Note}
 use Rattle.beldi_row.specs.declared.row.Row.{Row}
+use Rattle.beldi_row.specs.declared.row.Row.TheVariants as rows
 use Rattle.beldi_row.specs.Log.{note_at}
 use Rattle.beldi_row.specs.Table.{Rows}
 use Rattle.beldi_daal.specs.Content.{Content}
@@ -21,23 +24,29 @@ use Rattle.beldi_txn.specs.declared.tx.TxAt.TheVariants as at
 use Rattle.beldi_txn.specs.declared.end.Visit.{Visit}
 use Rattle.beldi_txn.specs.declared.end_walk.EndWalk.{EndWalk}
 use Rattle.beldi_txn.specs.Tx.{item_of, op_of}
-use Rattle.beldi_txn.specs.End.{end_place}
+use Rattle.beldi_txn.specs.End.{end_place, first_end}
+use Rattle.beldi_txn.specs.Invokes.{func_called}
 use Rattle.beldi_txn.specs.TxTurn.{HasLock}
-use Rattle.beldi_txn.specs.Visited.{Visited}
+use Rattle.beldi_txn.specs.Visited.{AreReleased, Visited}
+use Rattle.beldi_invokelog.specs.InvokeLog.{invoke_key}
+use Rattle.beldi_laws.specs.Stands.{key_in}
 use Rattle.beldi_plain.specs.Item.{Item}
 use Rattle.beldi_plain.specs.Plain.{Instance, PlainState, value_at, effect_of}
+use Rattle.beldi_order.specs.Inside.{IsBelow}
 use Rattle.beldi_order.specs.Txs.{tx_now}
 use Rattle.beldi_step.specs.declared.run.Begun.{Begun}
 use Rattle.beldi_step.specs.declared.run.OpenTx.{OpenTx}
+use Rattle.beldi_step.specs.declared.run.RunTx.{RunTx}
+use Rattle.beldi_step.specs.declared.run.RunTx.TheVariants.{Own}
 use Rattle.beldi_step.specs.declared.run.Run.{Run}
 use Rattle.beldi_step.specs.declared.run.RunAt as standing
 use Rattle.beldi_step.specs.declared.run.RunAt.TheVariants.{Looks, Registers, Begins}
 use Rattle.beldi_step.specs.declared.run.Stage.{Stage}
 use Rattle.beldi_step.specs.declared.run.Stage.TheVariants as stage
-use Rattle.beldi_step.specs.Run.{own_tx, place_of}
+use Rattle.beldi_step.specs.Run.{begin_of, own_tx, place_of, tx_of}
 use Rattle.beldi_step.specs.Tables.{value_in}
 use Rattle.beldi_known.specs.Contents.{content_of, lockset_key, shadow_key}
-use Rattle.beldi_known.specs.Known.{Known, tx_end}
+use Rattle.beldi_known.specs.Known.{Known, last_step, tx_end}
 
 -- ---- an operation inside
 -- its begin, where it asks for the lock
@@ -60,15 +69,15 @@ Found (CondWrite t k r o w) (at.Head u) shadow v = shadow ≡ None → v ≡ u
 Found (CondWrite t k r o w) (at.Write s) shadow v = is_some shadow ≡ true
 Found e a shadow v = Unit {0}
 
-pub record InOperation (d : Deployment) (m : Rows) (p : PlainState) (known : Known) (id : IntentId) (func : ℕ) (o : OpenTx) (step : ℕ) (e : Effect) (a : TxAt) (i : ℕ × List ℕ) : Type 0 where
-  pub begin : OfBegin o.begin a
-  pub asked : has_asked a ≡ true → is_some (map.get m (lockset_key id o.begin (record { func = func; table = i.0; key = i.1 }))) ≡ true
+pub record InOperation (d : Deployment) (m : Rows) (p : PlainState) (known : Known) (id : IntentId) (func : ℕ) (o : RunTx) (step : ℕ) (e : Effect) (a : TxAt) (i : ℕ × List ℕ) : Type 0 where
+  pub begin : OfBegin (begin_of o) a
+  pub asked : has_asked a ≡ true → is_some (map.get m (lockset_key id (begin_of o) (record { func = func; table = i.0; key = i.1 }))) ≡ true
   pub locked : HasLock a (place_of id step) (content_of m (record { func = func; table = i.0; key = i.1 }))
   -- where its instance was not answered since
   pub found : (q : Instance) → map.get known id ≡ Some q → length q.answers ≡ step
-      → let x : Item = record { func = func; table = i.0; key = i.1 } in Found e a (map.get m (shadow_key (own_tx id func o) x)) (value_at p x)
+      → let x : Item = record { func = func; table = i.0; key = i.1 } in Found e a (map.get m (shadow_key (tx_of id func o) x)) (value_at p x)
 
-abbrev pub InItem : Deployment → Rows → PlainState → Known → IntentId → ℕ → OpenTx → ℕ → Effect → TxAt → Option (ℕ × List ℕ) → Type 0
+abbrev pub InItem : Deployment → Rows → PlainState → Known → IntentId → ℕ → RunTx → ℕ → Effect → TxAt → Option (ℕ × List ℕ) → Type 0
 InItem d m p known id func o step e a None = Unit {0}
 InItem d m p known id func o step e a (Some i) = InOperation d m p known id func o step e a i
 
@@ -77,9 +86,9 @@ abbrev pub end_walk : IntentId → ℕ → OpenTx → ℕ → Bool → Visit →
 end_walk id func o step commit v = record { tx = own_tx id func o; end = step; commit = commit; visit = v }
 
 -- ---- a run
-abbrev pub AtStage : Deployment → Rows → PlainState → Known → IntentId → ℕ → Option OpenTx → ℕ → Effect → Stage → Type 0
+abbrev pub AtStage : Deployment → Rows → PlainState → Known → IntentId → ℕ → Option RunTx → ℕ → Effect → Stage → Type 0
 AtStage d m p known id func (Some o) step e (stage.Tx a) = InItem d m p known id func o step e a (item_of e)
-AtStage d m p known id func (Some o) step (End commit) (stage.End v) = Visited (end_walk id func o step commit v) m
+AtStage d m p known id func (Some (Own o)) step (End commit) (stage.End v) = Visited (end_walk id func o step commit v) m
 AtStage d m p known id func o step e s = Unit {0}
 
 -- past the end of a transaction it owns nothing
@@ -89,33 +98,61 @@ Released d m known id step = (t : TxId) (z : ℕ × Bool) → t.intent ≡ id �
 pub record Inside (d : Deployment) (m : Rows) (p : PlainState) (known : Known) (r : Run) (g : Begun) : Type 0 where
   pub here : AtStage d m p known r.id r.func g.tx g.machine.steps g.machine.effect g.stage
   pub released : Released d m known r.id g.machine.steps
+  -- a callee's row was registered before it began
+  pub row : has_no_hops r.id.hops ≡ false → is_some (map.get m (key_in r.func r.id)) ≡ true
 
 abbrev pub InsideAt : Deployment → Rows → PlainState → Known → Run → standing.RunAt → Type 0
 InsideAt d m p known r Looks = Unit {0}
 InsideAt d m p known r (Registers b) = Unit {0}
 InsideAt d m p known r (Begins g) = Inside d m p known r g
 
--- ---- what the rows keep
--- an item that a decided transaction owns has no note of its end: it is given back once
-abbrev pub OwnedAreUnmarked : Deployment → Rows → Known → Type 0
-OwnedAreUnmarked d m known = (t : TxId) (z : ℕ × Bool) (x : Item) (w : Note) → tx_end d known t ≡ Some z → (content_of m x).owner ≡ Some (ByTx t) → note_at (content_of m x).notes (end_place t z.0) ≡ Some w → ⊥
+-- ---- who took part in a transaction
+pub record TookPart (known : Known) (t : TxId) (i : IntentId) : Type 0 where
+  pub instance : Instance
+  pub made : map.get known i ≡ Some instance
+  pub within : instance.within ≡ Some t
 
--- nobody was called in a transaction yet
-abbrev pub NoneIsInside : Deployment → Known → Type 0
-NoneIsInside d known = (id : IntentId) (q : Instance) → map.get known id ≡ Some q → q.within ≡ None
+abbrev pub IsOf : Known → TxId → IntentId → Type 0
+IsOf known t i = (i ≡ t.intent) ⊎ TookPart known t i
+
+-- the places at which items are given back: the owner's end, and the last of all steps of who took part
+abbrev pub IsFreePlace : Known → TxId → ℕ → Place → Type 0
+IsFreePlace known t end a = (a ≡ end_place t end) ⊎ ((a.step ≡ last_step) × TookPart known t a.intent)
+
+-- ---- what the rows keep
+-- an item that a decided transaction owns has no note at such a place: it is given back once
+abbrev pub OwnedAreUnmarked : Deployment → Rows → Known → Type 0
+OwnedAreUnmarked d m known = (t : TxId) (z : ℕ × Bool) (x : Item) (a : Place) (w : Note) → tx_end d known t ≡ Some z → (content_of m x).owner ≡ Some (ByTx t) → IsFreePlace known t z.0 a → note_at (content_of m x).notes a ≡ Some w → ⊥
+
+-- while it owns one, its owner calls nobody: who is below it at a later step than its end is not known
+abbrev pub OwnersCallNobody : Deployment → Rows → Known → Type 0
+OwnersCallNobody d m known = (t : TxId) (z : ℕ × Bool) (x : Item) (i : IntentId) → tx_end d known t ≡ Some z → (content_of m x).owner ≡ Some (ByTx t) → IsBelow (record { intent = t.intent; begin = z.0; func = t.func }) i → map.get known i ≡ None
+
+-- who took part and has its outcome has its row
+abbrev pub ParticipantsHaveRows : Rows → Known → Type 0
+ParticipantsHaveRows m known = (id : IntentId) (q : Instance) (t : TxId) → map.get known id ≡ Some q → q.within ≡ Some t → is_some q.outcome ≡ true → is_some (map.get m (key_in q.func id)) ≡ true
+
+-- who took part and has its finish has given back all, and so have its callees
+abbrev pub ParticipantsAreReleased : Deployment → Rows → Known → Type 0
+ParticipantsAreReleased d m known = (t : TxId) (z : ℕ × Bool) → tx_end d known t ≡ Some z → AreReleased (first_end t z.0 z.1) m
 
 -- ---- what an event keeps for the runs of others
 -- an instance stands at a write in this transaction
 pub record IsWriting (d : Deployment) (known : Known) (t : TxId) : Type 0 where
+  pub writer : IntentId
   pub instance : Instance
-  pub made : map.get known t.intent ≡ Some instance
-  pub now : tx_now d t.intent instance ≡ Some t
+  pub made : map.get known writer ≡ Some instance
+  pub now : tx_now d writer instance ≡ Some t
   pub writes : is_some (op_of (effect_of d instance)) ≡ true
 
--- it owned the item, which has the same note of its end
-pub record StillOwns (c e : Content) (t : TxId) (end : ℕ) : Type 0 where
+-- it owned the item, which has the same notes at the places where it is given back
+pub record StillOwns (known : Known) (c e : Content) (t : TxId) (end : ℕ) : Type 0 where
   pub owner : c.owner ≡ Some (ByTx t)
-  pub note : note_at e.notes (end_place t end) ≡ note_at c.notes (end_place t end)
+  pub notes : (a : Place) → IsFreePlace known t end a → note_at e.notes a ≡ note_at c.notes a
+
+abbrev pub has_finish : Option Row → Bool
+has_finish (Some (rows.Intent i)) = is_some i.finish
+has_finish r = false
 
 pub record Frame (d : Deployment) (m n : Rows) (p q : PlainState) (known next : Known) : Type 0 where
   -- no row and no note goes
@@ -123,8 +160,13 @@ pub record Frame (d : Deployment) (m n : Rows) (p q : PlainState) (known next : 
   pub notes : (x : Item) (a : Place) (w : Note) → note_at (content_of m x).notes a ≡ Some w → note_at (content_of n x).notes a ≡ Some w
   -- a shadow is as before, unless it may be written
   pub shadows : (t : TxId) (x : Item) → (IsWriting d known t → ⊥) → map.get n (shadow_key t x) ≡ map.get m (shadow_key t x)
-  -- a transaction that has ended asks for no further lock, and takes none; what it still owns has the same note of its end
-  pub locksets : (t : TxId) (z : ℕ × Bool) (x : Item) → tx_end d next t ≡ Some z → is_some (map.get n (lockset_key t.intent t.begin x)) ≡ true → is_some (map.get m (lockset_key t.intent t.begin x)) ≡ true
-  pub owners : (t : TxId) (z : ℕ × Bool) (x : Item) → tx_end d next t ≡ Some z → (content_of n x).owner ≡ Some (ByTx t) → StillOwns (content_of m x) (content_of n x) t z.0
+  -- a transaction that has ended asks for no further lock, and takes none; what it still owns has the same notes
+  pub locksets : (t : TxId) (z : ℕ × Bool) (i : IntentId) (x : Item) → tx_end d next t ≡ Some z → IsOf next t i → is_some (map.get n (lockset_key i t.begin x)) ≡ true → is_some (map.get m (lockset_key i t.begin x)) ≡ true
+  pub owners : (t : TxId) (z : ℕ × Bool) (x : Item) → tx_end d next t ≡ Some z → (content_of n x).owner ≡ Some (ByTx t) → StillOwns next (content_of m x) (content_of n x) t z.0
+  -- .. and nobody joins it
+  pub members : (t : TxId) (z : ℕ × Bool) (i : IntentId) → tx_end d next t ≡ Some z → TookPart next t i → is_some (map.get known i) ≡ true
+  -- a finish stays, and what was called
+  pub finishes : (home : ℕ) (i : IntentId) → has_finish (map.get m (key_in home i)) ≡ true → has_finish (map.get n (key_in home i)) ≡ true
+  pub calls : (f : ℕ) (a : Place) (g : ℕ) → option_map func_called (map.get m (invoke_key f a)) ≡ Some g → option_map func_called (map.get n (invoke_key f a)) ≡ Some g
   -- what an open one owns has its plain value
   pub values : (t : TxId) (x : Item) → tx_end d next t ≡ None → (content_of m x).owner ≡ Some (ByTx t) → value_at q x ≡ value_at p x

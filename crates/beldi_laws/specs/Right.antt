@@ -18,6 +18,7 @@ use Rattle.beldi_book.specs.declared.entry.Entry.{Entry}
 use Rattle.beldi_book.specs.Order.{count_changes, linear, SeenBounded}
 use Rattle.beldi_order.specs.Laws.{IsStateAt}
 use Rattle.beldi_plain.specs.Item.{Item}
+use Rattle.beldi_plain.specs.Executor.{AllShort}
 use Rattle.beldi_plain.specs.Guard.{IsGuarded}
 use Rattle.beldi_plain.specs.Holds.{holds}
 use Rattle.beldi_plain.specs.Plain.{Instance, PlainState, nothing, value_at}
@@ -30,8 +31,9 @@ use Rattle.beldi_step.specs.declared.run.RunAt.TheVariants.{Looks, Registers, Be
 use Rattle.beldi_txn.specs.declared.end.EndAt.{EndAt}
 use Rattle.beldi_txn.specs.declared.end.EndAt.TheVariants.{Decide}
 use Rattle.beldi_txn.specs.TxTurn.{Fits}
-use Rattle.beldi_step.specs.declared.run.OpenTx.{OpenTx}
-use Rattle.beldi_step.specs.Run.{is_waited, open_after, end_mark}
+use Rattle.beldi_step.specs.declared.run.RunTx.{RunTx}
+use Rattle.beldi_step.specs.declared.run.RunTx.TheVariants.{Own}
+use Rattle.beldi_step.specs.Run.{is_waited, open_after, end_mark, within}
 use Rattle.beldi_step.specs.declared.run.Begun.{Begun}
 use Rattle.beldi_step.specs.declared.run.Stage.{Stage}
 use Rattle.beldi_step.specs.declared.run.Stage.TheVariants as stage
@@ -42,7 +44,7 @@ use Rattle.beldi_known.specs.Known.{Known}
 use Rattle.beldi_order.specs.Txs.{along, effect_after, tx_after}
 use Rattle.beldi_known.specs.Matches.{Matches, LockedAtEnds}
 use Rattle.beldi_known.specs.Sane.{Sane}
-use Rattle.beldi_laws.specs.Inside.{InsideAt, OwnedAreUnmarked, NoneIsInside}
+use Rattle.beldi_laws.specs.Inside.{InsideAt, OwnedAreUnmarked, OwnersCallNobody, ParticipantsAreReleased, ParticipantsHaveRows}
 use Rattle.beldi_known.specs.Beside.{Beside}
 use Rattle.beldi_known.specs.InsideLaws.{HoldersAreMade}
 use Rattle.beldi_known.specs.Listed.{listed}
@@ -69,18 +71,21 @@ StageOk None id c (Async f a) (stage.Async at) = has_callees id ≡ true
 StageOk None id c (Return o) stage.Back = is_waited c ≡ true
 StageOk None id c (Return o) stage.Tell = is_waited c ≡ false
 StageOk None id c (Return o) stage.Close = Unit {0}
+StageOk (Some t) id c (Call f a) (stage.Call at) = has_callees id ≡ true
+StageOk (Some t) id c (Return o) stage.Back = is_waited c ≡ true
+StageOk (Some t) id c (Return o) stage.Close = is_waited c ≡ true
 StageOk (Some t) id c e (stage.Tx at) = Fits e at
 StageOk (Some t) id c (End commit) (stage.Decide m) = Unit {0}
 StageOk (Some t) id c (End commit) (stage.End v) = is_past v.at ≡ true
 StageOk t id c e s = ⊥
 
--- what is open after these answers: the begin of the transaction, and what was aborted in it
-abbrev pub open_of : Deployment → Instance → List Answer → Option OpenTx
-open_of d q given = along (λ ts a o. open_after (length ts) (effect_after d q ts) a o) [] given None
+-- what a run is in after these answers: the transaction that it was called in, or its own one, with what was aborted in it
+abbrev pub open_of : Deployment → Instance → List Answer → Option RunTx
+open_of d q given = along (λ ts a o. open_after (length ts) (effect_after d q ts) a o) [] given (within q.within)
 
 -- a run that is to decide has the mark of its transaction
-abbrev pub MarkOk : IntentId → ℕ → Option OpenTx → Effect → Stage → Type 0
-MarkOk id step (Some o) (End commit) (stage.Decide m) = m ≡ end_mark id step o.cause commit
+abbrev pub MarkOk : IntentId → ℕ → Option RunTx → Effect → Stage → Type 0
+MarkOk id step (Some (Own o)) (End commit) (stage.Decide m) = m ≡ end_mark id step o.cause commit
 MarkOk id step o e s = Unit {0}
 
 -- what a run has seen done for its instance: a call that it waits for was opened, and an outcome that a caller waits for was given
@@ -172,16 +177,21 @@ pub record Right (d : Deployment) (c : Core) (m : Rows) : Type 0 where
   pub beside : Beside d plain known
   pub sane : Sane d known
   pub locked_at_ends : LockedAtEnds d known locked
+  -- ids are as short as ids are
+  pub short : AllShort known
   -- the rows stand for it
   pub rows : Matches d m known locked
   pub values : (x : Item) → listed m x ≡ value_at plain x
   -- a root has its row exactly where its ticket was issued
   pub tickets : (t : ℕ) → is_some (map.get m (root_key t)) ≡ (nat_lt 0 t && nat_le t c.newest)
-  -- shadows show what the open transactions see, and what a decided one owned is given back once
+  -- shadows show what the open transactions see, and what a decided one owned is given back once, before its owner calls anybody
   pub shadows : Shadows d m plain known locked
   pub marks : OwnedAreUnmarked d m known
-  -- each death has a holder that was made, and nobody was called in a transaction yet
+  pub latest : OwnersCallNobody d m known
+  -- each death has a holder that was made
   pub holders : HoldersAreMade d plain known
-  pub uncalled : NoneIsInside d known
+  -- who took part in a transaction has its row once it has its outcome, and has given back all once it has its finish
+  pub seated : ParticipantsHaveRows m known
+  pub released : ParticipantsAreReleased d m known
   -- each live run knows what is known, and has found what is in the rows
   pub runs : RunsMatch d m plain c.book known c.runs c.last_run

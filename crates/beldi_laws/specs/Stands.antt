@@ -31,11 +31,13 @@ use Rattle.beldi_plain.specs.Item.{Item}
 use Rattle.beldi_plain.specs.Operation.{OnItem, op_of, item_in}
 use Rattle.beldi_plain.specs.Plain.{Instance, PlainState, value_at, effect_before}
 use Rattle.beldi_step.specs.Run.{noted_answer}
+use Rattle.beldi_step.specs.Tables.{decision_key, is_committed}
 use Rattle.beldi_intent.specs.Intent.{root_key, is_ended}
 use Rattle.beldi_known.specs.Contents.{content_of, shadow_key, shadow_of, IsSoundChain}
 use Rattle.beldi_daal.specs.Content.{SoundAt}
 use Rattle.beldi_order.specs.Txs.{tx_at}
 use Rattle.beldi_known.specs.Listed.{listed}
+use Rattle.beldi_known.specs.Rows.{body_of}
 
 -- ---- the answer that the rows hold
 -- the answer that an item's rows hold at a place, for an operation of a function on it
@@ -85,12 +87,11 @@ held_answer m id func step None e = held_outside m (record { intent = id; step =
 held_answer m id func step (Some x) e = held_inside m x (record { intent = id; step = step }) func e
 
 -- ---- the rows stand for a plain state
--- the instance was made with the body's function and arguments; and its outcome is the row's, where the row has one
+-- the instance was made with this body; and its outcome is the row's, where the row has one
 pub record IsMade (p : PlainState) (id : IntentId) (i : IntentRow) (b : Body) : Type 0 where
   pub instance : Instance
   pub made : map.get p.made id ≡ Some instance
-  pub func : instance.func ≡ b.func
-  pub args : instance.args ≡ b.args
+  pub body : b ≡ body_of instance
   pub outcome : (o : Outcome) → i.outcome ≡ Some o → instance.outcome ≡ Some o
 
 -- the row of an intent that has not ended
@@ -103,13 +104,20 @@ pub record HasNotEnded (m : Rows) (k : RowKey) : Type 0 where
 abbrev pub key_in : ℕ → IntentId → RowKey
 key_in home id = record { home = home; kind = kinds.Intent id }
 
+-- an intent that was called in a transaction stands for one of the plain state once that has committed
+abbrev pub has_place : Rows → Option TxId → Bool
+has_place m None = true
+has_place m (Some t) = is_committed (map.get m (decision_key t))
+
 pub record Stands (d : Deployment) (m : Rows) (p : PlainState) : Type 0 where
   -- each item is listed with its plain value
   pub items : (x : Item) → listed m x ≡ value_at p x
-  -- each intent row with a body was made so, with the plain outcome
-  pub made : (home : ℕ) (id : IntentId) (i : IntentRow) (b : Body) → map.get m (key_in home id) ≡ Some (rows.Intent i) → i.body ≡ Some b → IsMade p id i b
+  -- each intent row with a body was made so, with the plain outcome, unless its transaction has not committed
+  pub made : (home : ℕ) (id : IntentId) (i : IntentRow) (b : Body) → map.get m (key_in home id) ≡ Some (rows.Intent i) → i.body ≡ Some b → has_place m b.tx ≡ true → IsMade p id i b
+  -- .. and then it was not made
+  pub unmade : (home : ℕ) (id : IntentId) (i : IntentRow) (b : Body) → map.get m (key_in home id) ≡ Some (rows.Intent i) → i.body ≡ Some b → has_place m b.tx ≡ false → map.get p.made id ≡ None
   -- where such an intent has not ended, each answer of its instance is held by the rows at its step
-  pub held : (home : ℕ) (id : IntentId) (i : IntentRow) (b : Body) → map.get m (key_in home id) ≡ Some (rows.Intent i) → i.body ≡ Some b → is_ended i ≡ false
+  pub held : (home : ℕ) (id : IntentId) (i : IntentRow) (b : Body) → map.get m (key_in home id) ≡ Some (rows.Intent i) → i.body ≡ Some b → has_place m b.tx ≡ true → is_ended i ≡ false
       → (q : Instance) → map.get p.made id ≡ Some q → (n : ℕ) (a : Answer) → slice_get q.answers n ≡ Some a → held_answer m id q.func n (tx_at d id q n) (effect_before d q n) ≡ Some a
   -- each root without outcome has its row, which has not ended
   pub open_roots : (t : ℕ) (q : Instance) → map.get p.made (root_of t) ≡ Some q → q.outcome ≡ None → HasNotEnded m (root_key t)

@@ -7,8 +7,9 @@
 //! Proved:
 //! - A host that nothing has happened to is right, over no rows (`begins_right`).
 //! - Every event keeps it right, also out of memory (`an_event_keeps_right`).
-//! - Where it is right, the book is legal (`right_is_legal`), the rows stand for the book's run (`right_stands`), and
-//!   the listing of the rows is that of the run (`listing_is_plain`).
+//! - Where it is right, the book is legal (`right_is_legal`), the rows stand for the book's run (`right_stands`), those of who
+//!   was called in a transaction exactly where that has committed, and the listing of the rows is that of the run
+//!   (`listing_is_plain`).
 //! - Also where it is right, an outcome that an event tells is the root's in that run (`replies_are_outcomes`), and
 //!   stays (`outcomes_stay`); no ticket is answered as one without a row (`tickets_have_rows`); and each step of an
 //!   instance that is known beside the run of the book has one answer, which the rows hold, and each of its runs was

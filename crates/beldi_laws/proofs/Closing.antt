@@ -1,0 +1,177 @@
+-- Who took part in a transaction that has ended, and has its finish, has given back all: whatever row changes, unless it is such a finish.
+use Rattle.std.proofs.Common.{◌≡◌, ◌∙◌, inr, ℕ, Bool, true, false, ◌∷◌, Option, None, Some, is_some, refl, ap, sym, subst}
+use Rattle.std.specs.FinMap as map
+use Rattle.beldi_value.specs.declared.id.IntentId.{IntentId}
+use Rattle.beldi_value.specs.declared.place.Owner.{Owner}
+use Rattle.beldi_value.specs.declared.place.Owner.TheVariants.{Intent, Tx as ByTx}
+use Rattle.beldi_value.specs.declared.place.TxId.{TxId}
+use Rattle.beldi_tree.specs.declared.deployment.Deployment.{Deployment}
+use Rattle.beldi_row.specs.Act.{owns}
+use Rattle.beldi_row.specs.Table.{Rows}
+use Rattle.beldi_row.specs.declared.row.Body.{Body}
+use Rattle.beldi_row.specs.declared.row.Row.{Row}
+use Rattle.beldi_row.specs.declared.row.Row.TheVariants as rows
+use Rattle.beldi_txn.specs.declared.end_walk.EndWalk.{EndWalk}
+use Rattle.beldi_txn.specs.End.{first_end, visited_by}
+use Rattle.beldi_txn.specs.Visited.{AllFreed, AreClosed, AreReleased, IsReleased, is_closed, is_own, item_in, lock_row, row_closed}
+use Rattle.beldi_txn.specs.Way.{Member, callee_of}
+use Rattle.beldi_plain.specs.Plain.{Instance, PlainState}
+use Rattle.beldi_order.specs.Grown.{Grown, GrownAt, Grows}
+use Rattle.beldi_order.specs.Txs.{end_of, txs_after}
+use Rattle.beldi_order.proofs.Ends.{ended_stays}
+use Rattle.beldi_order.proofs.Maps.{same_some}
+use Rattle.beldi_step.specs.Host.{Core}
+use Rattle.beldi_known.specs.Known.{Known, ended_by, tx_end}
+use Rattle.beldi_known.specs.Matches.{Matches, has_ended}
+use Rattle.beldi_known.specs.Rows.{CalleeBodyMatches, CalleeMatches, FinishMatches, IntentMatches, IsBodyOf, tx_in}
+use Rattle.beldi_known.specs.Sane.{Sane}
+use Rattle.beldi_known.proofs.Locks.{tx_same, tx_self}
+use Rattle.beldi_known.proofs.Participants.{decided_over}
+use Rattle.beldi_laws.specs.Inside.{Frame, ParticipantsAreReleased, ParticipantsHaveRows, TookPart, has_finish}
+use Rattle.beldi_laws.specs.Right.{Right}
+use Rattle.beldi_laws.specs.Stands.{key_in}
+use Rattle.beldi_laws.proofs.Frames.{NoFinish, seated_stays, settled_rows}
+use Rattle.beldi_laws.proofs.Shown.{Settled}
+use Rattle.beldi_laws.proofs.Members.{TakesPart, call_there, callee_is, callee_joins, members_joined, part_below, part_key, reached, took_part}
+
+-- ---- who owns an item
+pub owner_is : (t : TxId) (o : Option Owner) → owns (ByTx t) o ≡ true → o ≡ Some (ByTx t)
+owner_is t None h = cc
+owner_is t (Some (Intent i)) h = cc
+owner_is t (Some (ByTx s)) h = ap (λ z. Some (ByTx z)) (tx_same s t h)
+
+pub owns_it : (t : TxId) (o : Option Owner) → o ≡ Some (ByTx t) → owns (ByTx t) o ≡ true
+owns_it t o h = ap (owns (ByTx t)) h ∙ tx_self t
+
+-- ---- what has ended stays so
+pub end_grows : (d : Deployment) (i j : Instance) (b : ℕ) (z : ℕ × Bool) → Grown i j → end_of d i b ≡ Some z → end_of d j b ≡ Some z
+end_grows d i j b z w e = ended_stays d j i.answers w.later b z w.more ((λ k. (txs_after d (record i { func = w.func k; args = w.args k; within = w.within k }) i.answers).ends b) ∙ e)
+
+pub ended_grows : (d : Deployment) (known next : Known) (t : TxId) (z : ℕ × Bool) → Grows known next → tx_end d known t ≡ Some z → tx_end d next t ≡ Some z
+ended_grows d known next t z grows = at_owner (map.get known t.intent) (map.get next t.intent) (grows t.intent)
+  where
+    at_owner : (o u : Option Instance) → GrownAt o u → ended_by d t.begin o ≡ Some z → ended_by d t.begin u ≡ Some z
+    at_owner None u w e = cc
+    at_owner (Some i) None w e = absurd w
+    at_owner (Some i) (Some j) w e = end_grows d i j t.begin z w e
+
+-- ---- the row of who took part
+-- it is closed by its finish
+finish_of : (ended : TxId → Bool) (home : ℕ) (r : Option Row) (i : Option Instance) → CalleeMatches ended home r i → is_some r ≡ true → row_closed r ≡ true → has_finish r ≡ true
+finish_of ended home None i h there closed = cc
+finish_of ended home (Some (rows.Intent r)) i h there closed = closed
+finish_of ended home (Some r) i h there closed = absurd h
+
+closed_by : (r : Option Row) → has_finish r ≡ true → row_closed r ≡ true
+closed_by (Some (rows.Intent i)) h = h
+closed_by None h = cc
+closed_by (Some r) h = cc
+
+-- which it has only where its transaction has ended
+ended_for : (ended : TxId → Bool) (home : ℕ) (r : Option Row) (q : Instance) (t : TxId) → q.within ≡ Some t → CalleeMatches ended home r (Some q) → has_finish r ≡ true → ended t ≡ true
+ended_for ended home None q t inner h finish = cc
+ended_for ended home (Some (rows.Intent r)) q t inner h finish = by_body r.body refl h.body h.finishes
+  where
+    by_body : (b : Option Body) → r.body ≡ b → CalleeBodyMatches home b r.outcome (Some q) → FinishMatches ended (tx_in b) r.finish r.outcome → ended t ≡ true
+    by_body None is g f = absurd g
+    by_body (Some b) is g f =
+        let w : IsBodyOf b (Some q) = g.0 in
+        let tx : b.tx ≡ Some t = ap (λ (z : Body). z.tx) w.body ∙ ap (λ (y : Instance). y.within) (sym (same_some w.made)) ∙ inner in
+        subst (λ o. FinishMatches ended o r.finish r.outcome) tx f finish
+ended_for ended home (Some r) q t inner h finish = absurd h
+
+module _ (d : Deployment) (m : Rows) (known : Known) (locked : IntentId → Bool) (matches : Matches d m known locked) (sane : Sane d known) (t : TxId) (p : Member) (part : TakesPart known t p) where
+  pub at_key : CalleeMatches (has_ended d known) p.1 (map.get m (key_in p.1 p.0)) (map.get known p.0)
+  at_key = subst (λ b. IntentMatches (has_ended d known) b p.1 (map.get m (key_in p.1 p.0)) (map.get known p.0)) (part_below d known sane t p.0 (took_part part)) (matches.keys (key_in p.1 p.0))
+
+  pub finish_there : ParticipantsHaveRows m known → is_some part.instance.outcome ≡ true → is_closed m p ≡ true → has_finish (map.get m (key_in p.1 p.0)) ≡ true
+  finish_there seated over closed = finish_of (has_ended d known) p.1 (map.get m (key_in p.1 p.0)) (map.get known p.0) at_key
+      (subst (λ f. is_some (map.get m (key_in f p.0)) ≡ true) part.func (seated p.0 part.instance t part.made part.within over))
+      (ap (λ k. row_closed (map.get m k)) (sym (part_key d known sane t p.0 p.1 (took_part part))) ∙ closed)
+
+  pub closed_there : has_finish (map.get m (key_in p.1 p.0)) ≡ true → is_closed m p ≡ true
+  closed_there finish = ap (λ k. row_closed (map.get m k)) (part_key d known sane t p.0 p.1 (took_part part)) ∙ closed_by (map.get m (key_in p.1 p.0)) finish
+
+  pub ended_there : has_finish (map.get m (key_in p.1 p.0)) ≡ true → has_ended d known t ≡ true
+  ended_there finish = ended_for (has_ended d known) p.1 (map.get m (key_in p.1 p.0)) part.instance t part.within (subst (CalleeMatches (has_ended d known) p.1 (map.get m (key_in p.1 p.0))) part.made at_key) finish
+
+-- ---- rows move
+module _ (d : Deployment) (c : Core) (m : Rows) (h : Right d c m) (n : Rows) (q : PlainState) (next : Known) (after : IntentId → Bool) (now : Matches d n next after) (sane : Sane d next) (grows : Grows h.known next) (frame : Frame d m n h.plain q h.known next)
+    (t : TxId) (z : ℕ × Bool) (ended : tx_end d next t ≡ Some z) where
+  abbrev walk : EndWalk
+  walk = first_end t z.0 z.1
+
+  -- ---- who takes part did so before
+  pub before_part : (p : Member) → TakesPart next t p → TakesPart h.known t p
+  before_part p part = by_known (map.get h.known p.0) refl (frame.members t z p.0 ended (took_part part))
+    where
+      by_known : (o : Option Instance) → map.get h.known p.0 ≡ o → is_some o ≡ true → TakesPart h.known t p
+      by_known None is there = cc
+      by_known (Some k) is there =
+          let g : Grown k part.instance = subst (GrownAt (Some k)) part.made (subst (λ o. GrownAt o (map.get next p.0)) is (grows p.0)) in
+          record { instance = k; made = is; within = sym g.within ∙ part.within; func = sym g.func ∙ part.func }
+
+  over_now : (p : Member) (part : TakesPart next t p) → is_some part.instance.outcome ≡ true
+  over_now p part = decided_over d next sane p.0 part.instance t z part.made part.within ended
+
+  module _ (known_end : tx_end d h.known t ≡ Some z) (p : Member) (part : TakesPart next t p) where
+    over_before : (p : Member) (k : TakesPart h.known t p) → is_some k.instance.outcome ≡ true
+    over_before p k = decided_over d h.known h.sane p.0 k.instance t z k.made k.within known_end
+
+    -- it had given back all
+    released_before : has_finish (map.get m (key_in p.1 p.0)) ≡ true → IsReleased walk m p
+    released_before finish =
+        let k = before_part p part in
+        let r = reached d m h.known h.locked h.rows h.sane t z known_end h.short p.0 k.instance k.made k.within in
+        let leads : visited_by t (r.first ∷ r.rest) ≡ p = r.leads ∙ ap (λ f. (p.0, f)) k.func in
+        subst (IsReleased walk m) leads (h.released t z known_end r.first r.rest r.member (subst (λ y. is_closed m y ≡ true) (sym leads) (closed_there d m h.known h.locked h.rows h.sane t p k finish)))
+
+    -- .. and has no item that it had not
+    freed_still : AllFreed walk m p → AllFreed walk n p
+    freed_still freed i r there = by_row (map.get m (lock_row walk p i)) refl (frame.locksets t z p.0 (record { func = p.1; table = i.0; key = i.1 }) ended (inr (took_part part)) (ap is_some there))
+      where
+        by_own : (b : Bool) → is_own walk (item_in p.1 n i) ≡ b → is_own walk (item_in p.1 m i) ≡ false → b ≡ false
+        by_own false e free = refl
+        by_own true e free =
+            let o = frame.owners t z (record { func = p.1; table = i.0; key = i.1 }) ended (owner_is t (item_in p.1 n i).owner e) in
+            let clash = sym (owns_it t (item_in p.1 m i).owner o.owner) ∙ free in cc
+
+        by_row : (o : Option Row) → map.get m (lock_row walk p i) ≡ o → is_some o ≡ true → is_own walk (item_in p.1 n i) ≡ false
+        by_row None is g = cc
+        by_row (Some w) is g = by_own (is_own walk (item_in p.1 n i)) refl (freed i w is)
+
+    -- .. and its callees have their finish still
+    closed_still : AreClosed m p (λ s. Unit {0}) → AreClosed n p (λ s. Unit {0})
+    closed_still closed e call any =
+        let k = before_part p part in
+        let callee = callee_joins d n next after now sane t p e part call in
+        let c = before_part (callee_of p e) callee in
+        let to = callee_is p e call.0 in
+        let there = call_there d m h.known h.locked h.rows p e (record { caller = k.instance; made = k.made; func = k.func; callee = c.instance; there = ap (λ (y : Member). map.get h.known y.0) (sym to) ∙ c.made; its = c.func }) in
+        let finish = finish_there d m h.known h.locked h.rows h.sane t (callee_of p e) c h.seated (over_before (callee_of p e) c) (closed e (call.0, there) any) in
+        closed_there d n next after now sane t (callee_of p e) callee (frame.finishes (callee_of p e).1 (callee_of p e).0 finish)
+
+  -- ---- so it is of one transaction, where no finish of who took part is new
+  pub closed_rows_of : ParticipantsHaveRows n next → ((i : IntentId) (home : ℕ) → TookPart next t i → has_finish (map.get n (key_in home i)) ≡ true → has_finish (map.get m (key_in home i)) ≡ true) → AreReleased (first_end t z.0 z.1) n
+  closed_rows_of seated none e es member closed =
+      let part = members_joined d n next after now sane t z ended e es member in
+      let p = visited_by t (e ∷ es) in
+      let finish = none p.0 p.1 (took_part part) (finish_there d n next after now sane t p part seated (over_now p part) closed) in
+      by_end p part finish (tx_end d h.known t) refl (ended_there d m h.known h.locked h.rows h.sane t p (before_part p part) finish)
+    where
+      by_end : (p : Member) (part : TakesPart next t p) → has_finish (map.get m (key_in p.1 p.0)) ≡ true → (o : Option (ℕ × Bool)) → tx_end d h.known t ≡ o → is_some o ≡ true → IsReleased walk n p
+      by_end p part finish None is there = cc
+      by_end p part finish (Some y) is there =
+          let same : y ≡ z = same_some (sym (ended_grows d h.known next t y grows is) ∙ ended) in
+          let known_end = is ∙ ap Some same in
+          let r = released_before known_end p part finish in
+          (freed_still known_end p part r.0, closed_still known_end p part r.1)
+
+-- .. and so of all
+pub closed_rows : (d : Deployment) (c : Core) (m : Rows) (h : Right d c m) (n : Rows) (q : PlainState) (next : Known) (after : IntentId → Bool) → Matches d n next after → Sane d next → Grows h.known next → Frame d m n h.plain q h.known next → ParticipantsHaveRows n next → NoFinish d m n next → ParticipantsAreReleased d n next
+closed_rows d c m h n q next after now sane grows frame seated none t z ended = closed_rows_of d c m h n q next after now sane grows frame t z ended seated (λ i home. none t z i home ended)
+
+-- what the rows keep, after rows that give no participant a finish
+pub settled_after : (d : Deployment) (c : Core) (m : Rows) (h : Right d c m) (n : Rows) (q : PlainState) (next : Known) (after : IntentId → Bool) → Matches d n next after → Sane d next → Grows h.known next → Frame d m n h.plain q h.known next → NoFinish d m n next → Settled d m q next → Settled d n q next
+settled_after d c m h n q next after now sane grows frame none s =
+    settled_rows d m n h.plain q h.known next frame (closed_rows d c m h n q next after now sane grows frame (seated_stays d m n h.plain q h.known next frame s.seated) none) s

@@ -1,0 +1,131 @@
+-- Who was called in a transaction is in the plain state exactly where the transaction has committed, as its decision's row says.
+use Rattle.std.proofs.Common.{◌≡◌, ◌∙◌, ℕ, zero, suc, ◌<◌, Bool, true, false, List, ◌∷◌, [], length, length-append, take, drop, Option, Some, None, refl, ap, sym, subst, arith, eq-eqb, if◌then◌else◌}
+use Rattle.std.specs.Prelude.{slice_get}
+use Rattle.std.specs.FinMap as map
+use Rattle.std.proofs.lemmas.List.{take-append-drop, take-append-le}
+use Rattle.beldi_value.specs.declared.id.IntentId.{IntentId}
+use Rattle.beldi_value.specs.declared.place.TxId.{TxId}
+use Rattle.beldi_tree.specs.declared.deployment.Deployment.{Deployment}
+use Rattle.beldi_lang.specs.declared.effect.Answer.{Answer}
+use Rattle.beldi_lang.specs.declared.effect.Effect.TheVariants as effect
+use Rattle.beldi_row.specs.Table.{Rows}
+use Rattle.beldi_row.specs.declared.row.Row.{Row}
+use Rattle.beldi_row.specs.declared.row.Row.TheVariants as rows
+use Rattle.beldi_plain.specs.Plain.{Instance, PlainState, effect_before}
+use Rattle.beldi_order.specs.Grown.{Grown}
+use Rattle.beldi_order.specs.Sane as plain
+use Rattle.beldi_order.specs.Txs.{effect_after, end_of, or_own, tx_by, txs_after}
+use Rattle.beldi_order.proofs.Ends.{fits_at}
+use Rattle.beldi_order.proofs.Maps.{same_some}
+use Rattle.beldi_step.specs.Run.{place_of}
+use Rattle.beldi_step.specs.Tables.{decision_key, is_committed}
+use Rattle.beldi_known.specs.Beside.{Beside}
+use Rattle.beldi_known.specs.Known.{Known, at_step, decision_by, ended_by, owed_read, owed_value, read_at, row_at, tx_end, value_or}
+use Rattle.beldi_known.specs.Matches.{Matches}
+use Rattle.beldi_known.specs.Owed.{value_for}
+use Rattle.beldi_known.specs.Rows.{LogMatches}
+use Rattle.beldi_known.specs.Sane.{Sane}
+use Rattle.beldi_known.proofs.Decided.{decision_row}
+use Rattle.beldi_known.proofs.Frame.{begins}
+use Rattle.beldi_known.proofs.Lines.{CallerOf, caller_in, own_tx}
+use Rattle.beldi_laws.specs.Stands.{has_place}
+use Rattle.beldi_laws.proofs.Closing.{end_grows}
+use Rattle.beldi_laws.proofs.Outside.{known_of, made_of}
+
+-- ---- a transaction that somebody was called in has its Begin
+pub record HasBegin (d : Deployment) (known : Known) (t : TxId) : Type 0 where
+  pub owner : Instance
+  pub made : map.get known t.intent ≡ Some owner
+  pub func_is : owner.func ≡ t.func
+  pub begins : effect_before d owner t.begin ≡ effect.Begin
+
+module _ (d : Deployment) (known : Known) (sane : Sane d known) (t : TxId) where
+  begin_upto : (n : ℕ) (j : IntentId) (z : Instance) → length j.hops < n → map.get known j ≡ Some z → z.within ≡ Some t → HasBegin d known t
+  begin_upto zero j z few is inner = absurd (omega (arith, few))
+  begin_upto (suc n) j z few is inner =
+      let c = caller_in d known sane t j z is inner in
+      let more = length-append c.caller.hops (c.step ∷ []) in
+      let long = ap (λ (i : IntentId). length i.hops) c.is in
+      by_within c (begin_upto n c.caller c.waiter (omega (arith, few, more, long)) c.made) c.waiter.within refl
+    where
+      by_within : (c : CallerOf d known t j z) → (c.waiter.within ≡ Some t → HasBegin d known t) → (x : Option TxId) → c.waiter.within ≡ x → HasBegin d known t
+      by_within c up None e =
+          let ts = take c.step c.waiter.answers in
+          let o = own_tx c.caller c.waiter.func (length ts) (effect_after d c.waiter ts) (txs_after d c.waiter ts).begun t (λ g. let clash = sym g ∙ c.call in cc)
+          (sym (ap (λ x. or_own x (tx_by c.caller c.waiter.func (length ts) (effect_after d c.waiter ts) (txs_after d c.waiter ts).begun)) e) ∙ c.within) in
+          let before = (fits_at d c.waiter ts).before t.begin o.begun in
+          let front : take t.begin c.waiter.answers ≡ take t.begin ts = ap (take t.begin) (sym (take-append-drop c.step c.waiter.answers)) ∙ take-append-le t.begin ts (drop c.step c.waiter.answers) (omega (arith, before)) in
+          record { owner = c.waiter; made = ap (map.get known) o.intent ∙ c.made; func_is = sym o.func_is; begins = ap (effect_after d c.waiter) front ∙ (begins d c.waiter ts).begun t.begin o.begun }
+      by_within c up (Some x) e =
+          let ts = take c.step c.waiter.answers in
+          up (e ∙ sym (ap (λ x. or_own x (tx_by c.caller c.waiter.func (length ts) (effect_after d c.waiter ts) (txs_after d c.waiter ts).begun)) e) ∙ c.within)
+
+  pub has_begin : (j : IntentId) (z : Instance) → map.get known j ≡ Some z → z.within ≡ Some t → HasBegin d known t
+  has_begin j z = begin_upto (suc (length j.hops)) j z (omega arith)
+
+  -- so a decision that is there is that of its End
+  module _ (m : Rows) (locked : IntentId → Bool) (matches : Matches d m known locked) (j : IntentId) (z : Instance) (is : map.get known j ≡ Some z) (inner : z.within ≡ Some t) where
+    pub committed_end : is_committed (map.get m (decision_key t)) ≡ true → (n : ℕ) × (tx_end d known t ≡ Some (n, true))
+    committed_end commits = by_end (tx_end d known t) refl
+      where
+        b : HasBegin d known t
+        b = has_begin j z is inner
+
+        no_read : (given : List Answer) (o : Option Answer) → effect_after d (has_begin j z is inner).owner given ≡ effect.Begin → at_step (λ ts a. value_for (effect_after d (has_begin j z is inner).owner ts) a) given o ≡ None
+        no_read given None e = refl
+        no_read given (Some a) e = ap (λ y. value_for y a) e
+
+        undecided : end_of d (has_begin j z is inner).owner t.begin ≡ None → owed_read d known t.func (place_of t.intent t.begin) ≡ None
+        undecided none =
+            ap (owed_value d t.func t.begin) b.made ∙ ap (λ c. if c then row_at d b.owner t.begin else None) (eq-eqb b.owner.func t.func b.func_is)
+            ∙ ap (λ o. value_or (decision_by o) (read_at d b.owner t.begin)) none ∙ no_read (take t.begin b.owner.answers) (slice_get b.owner.answers t.begin) b.begins
+
+        no_commit : (r : Option Row) → LogMatches r None → is_committed r ≡ false
+        no_commit None h = refl
+        no_commit (Some (rows.ReadLog v)) h = cc
+        no_commit (Some r) h = absurd h
+
+        by_end : (o : Option (ℕ × Bool)) → tx_end d known t ≡ o → (n : ℕ) × (tx_end d known t ≡ Some (n, true))
+        by_end None e =
+            let clash = sym commits ∙ no_commit (map.get m (decision_key t)) (subst (LogMatches (map.get m (decision_key t))) (undecided (sym (ap (ended_by d t.begin) b.made) ∙ e)) (matches.keys (decision_key t))) in cc
+        by_end (Some (n, true)) e = (n, e)
+        by_end (Some (n, false)) e =
+            let clash = sym commits ∙ decision_row d m known locked matches t b.owner n false b.made b.func_is (sym (ap (ended_by d t.begin) b.made) ∙ e) in cc
+
+-- ---- in the plain state
+module _ (d : Deployment) (m : Rows) (p : PlainState) (known : Known) (locked : IntentId → Bool) (matches : Matches d m known locked) (beside : Beside d p known) (sane : Sane d known) (legal : plain.Sane d p) (id : IntentId) (k : Instance) (is : map.get known id ≡ Some k) where
+  -- who has a place in it is there
+  pub placed : has_place m k.within ≡ true → (q : Instance) × (map.get p.made id ≡ Some q) × Grown q k × (k.outcome ≡ q.outcome)
+  placed has = by_within k.within refl has
+    where
+      by_plain : (t : TxId) → k.within ≡ Some t → is_committed (map.get m (decision_key t)) ≡ true → (o : Option Instance) → map.get p.made id ≡ o → (q : Instance) × (map.get p.made id ≡ Some q) × Grown q k × (k.outcome ≡ q.outcome)
+      by_plain t inner commits None made =
+          let kept = beside.kept id k made is in
+          let same : t ≡ kept.tx = same_some (sym inner ∙ kept.within) in
+          let e = committed_end d known sane t m locked matches id k is inner commits in
+          absurd (kept.uncommitted e.0 (ap (tx_end d known) (sym same) ∙ e.1))
+      by_plain t inner commits (Some q) made =
+          let z = known_of d p known beside id q made in
+          let same : z.instance ≡ k = same_some (sym z.is ∙ is) in
+          (q, made, subst (Grown q) same z.grown, ap (λ (y : Instance). y.outcome) (sym same) ∙ z.outcome)
+
+      by_within : (w : Option TxId) → k.within ≡ w → has_place m w ≡ true → (q : Instance) × (map.get p.made id ≡ Some q) × Grown q k × (k.outcome ≡ q.outcome)
+      by_within None own h = made_of d p known beside id k is own
+      by_within (Some t) inner h = by_plain t inner h (map.get p.made id) refl
+
+  -- and nobody else
+  pub unplaced : has_place m k.within ≡ false → map.get p.made id ≡ None
+  unplaced has = by_within k.within refl has
+    where
+      by_plain : (t : TxId) → k.within ≡ Some t → is_committed (map.get m (decision_key t)) ≡ false → (o : Option Instance) → map.get p.made id ≡ o → o ≡ None
+      by_plain t inner none None made = refl
+      by_plain t inner none (Some q) made =
+          let z = known_of d p known beside id q made in
+          let within : q.within ≡ Some t = sym z.grown.within ∙ ap (λ (y : Instance). y.within) (same_some (sym z.is ∙ is)) ∙ inner in
+          let c = legal.committed id q t made within in
+          let w = known_of d p known beside t.intent c.owner c.made in
+          let clash = sym none ∙ decision_row d m known locked matches t w.instance c.step true w.is (w.grown.func ∙ c.func) (end_grows d c.owner w.instance t.begin (c.step, true) w.grown c.ends) in cc
+
+      by_within : (w : Option TxId) → k.within ≡ w → has_place m w ≡ false → map.get p.made id ≡ None
+      by_within None own h = cc
+      by_within (Some t) inner h = by_plain t inner h (map.get p.made id) refl

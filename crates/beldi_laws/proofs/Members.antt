@@ -1,0 +1,231 @@
+-- Who took part in a transaction that has ended is who its end visits: the rows of calls lead from its owner to each of them, and to
+-- nobody else.
+use Rattle.std.proofs.Common.{◌≡◌, ◌∙◌, inl, inr, ℕ, zero, suc, ◌<◌, ◌≤◌, ◌==◌, Bool, true, false, List, [], ◌∷◌, ◌++◌, length, length-append, take, Option, None, Some, is_some, refl, ap, sym, subst, arith, eq-eqb, eqb-true, if◌then◌else◌}
+use Rattle.std.specs.FinMap as map
+use Rattle.std.specs.Option.{option_map}
+use Rattle.std.proofs.lemmas.Bool.{lt-ltb}
+use Rattle.std.proofs.lemmas.List.{length-take-le}
+use Rattle.beldi_value.specs.Id.{child_of, has_callees, has_no_hops, root_of}
+use Rattle.beldi_value.specs.declared.id.IntentId.{IntentId}
+use Rattle.beldi_value.proofs.Callees.{no_root}
+use Rattle.beldi_value.specs.declared.outcome.Outcome.{Outcome}
+use Rattle.beldi_value.specs.declared.place.TxId.{TxId}
+use Rattle.beldi_tree.specs.declared.deployment.Deployment.{Deployment}
+use Rattle.beldi_lang.specs.declared.effect.Answer.TheVariants.{Done}
+use Rattle.beldi_lang.specs.declared.effect.Effect.TheVariants as effect
+use Rattle.beldi_row.specs.declared.key.Kind.TheVariants as kinds
+use Rattle.beldi_row.specs.declared.row.Row.{Row}
+use Rattle.beldi_row.specs.declared.row.Row.TheVariants as rows
+use Rattle.beldi_row.specs.Table.{Rows}
+use Rattle.beldi_plain.specs.Executor.{AllShort}
+use Rattle.beldi_plain.specs.Plain.{Instance, effect_before}
+use Rattle.beldi_order.specs.Sane.{CalledBy, IsAnswer, IsCalled, answer_given, call_of, within_by}
+use Rattle.beldi_order.specs.Txs.{or_own, tx_at, tx_by, txs_after}
+use Rattle.beldi_order.proofs.Called.{last_hop}
+use Rattle.beldi_order.proofs.Ends.{fits_at}
+use Rattle.beldi_order.proofs.Maps.{same_some}
+use Rattle.beldi_step.specs.Run.{place_of}
+use Rattle.beldi_txn.specs.declared.way.Called.{Called}
+use Rattle.beldi_txn.specs.End.{first_end, visited_by}
+use Rattle.beldi_txn.specs.Invokes.{call_key, func_called}
+use Rattle.beldi_txn.specs.Visited.{AtEnd, IsCall, IsMember, IsWay, IsWithin, called_at}
+use Rattle.beldi_txn.specs.Way.{Member, callee_of, member_at}
+use Rattle.beldi_txn.proofs.Levels.{member_more, way_more}
+use Rattle.beldi_known.specs.Known.{Known, ended_by, tx_end}
+use Rattle.beldi_known.specs.Matches.{Matches}
+use Rattle.beldi_known.specs.Owed.{called_by, result_of}
+use Rattle.beldi_known.specs.Rows.{CallMatches}
+use Rattle.beldi_known.specs.Sane.{Sane}
+use Rattle.beldi_known.proofs.Lines.{CallerOf, caller_in, own_tx}
+use Rattle.beldi_intent.specs.Intent.{intent_key}
+use Rattle.beldi_laws.specs.Inside.{TookPart}
+use Rattle.beldi_laws.specs.Stands.{key_in}
+use Rattle.beldi_laws.proofs.Ended.{before_end, tx_between}
+
+-- ---- ids
+pub callee_is : (p : Member) (c : Called) → has_callees p.0 ≡ true → callee_of p c ≡ (child_of p.0 c.step, c.func)
+callee_is p c has = ap (λ b. (if b then child_of p.0 c.step else p.0, c.func)) has
+
+-- an id that has a callee whose id is short enough
+caller_short : (i : IntentId) (n : ℕ) → length (child_of i n).hops ≤ 63 → has_callees i ≡ true
+caller_short i n few = let more = length-append i.hops (n ∷ []) in lt-ltb (length i.hops) 63 (omega (arith, few, more))
+
+-- ---- rows of calls
+-- who calls and who is called there are known
+pub record IsKnownCall (known : Known) (p : Member) (c : Called) : Type 0 where
+  pub caller : Instance
+  pub made : map.get known p.0 ≡ Some caller
+  pub func : caller.func ≡ p.1
+  pub callee : Instance
+  pub there : map.get known (child_of p.0 c.step) ≡ Some callee
+  pub its : callee.func ≡ c.func
+
+-- a member of the transaction that was called in it, with its function
+pub record TakesPart (known : Known) (t : TxId) (p : Member) : Type 0 where
+  pub instance : Instance
+  pub made : map.get known p.0 ≡ Some instance
+  pub within : instance.within ≡ Some t
+  pub func : instance.func ≡ p.1
+
+abbrev pub took_part : {known : Known} {t : TxId} {p : Member} → TakesPart known t p → TookPart known t p.0
+took_part k = record { instance = k.instance; made = k.made; within = k.within }
+
+module _ (d : Deployment) (m : Rows) (known : Known) (locked : IntentId → Bool) (h : Matches d m known locked) where
+  module _ (p : Member) (c : Called) where
+    -- a row that is there is owed
+    pub call_known : called_at m p c.step ≡ Some c.func → IsKnownCall known p c
+    call_known is = by_row (map.get m (call_key p.1 p.0 c.step)) (h.keys (call_key p.1 p.0 c.step)) is
+      where
+        by_test : (i j : Instance) → map.get known p.0 ≡ Some i → map.get known (child_of p.0 c.step) ≡ Some j → (z : ℕ × Option Outcome) → z.0 ≡ c.func → (b : Bool) → (i.func == p.1) ≡ b → (if b then Some (j.func, result_of j) else None) ≡ Some z → IsKnownCall known p c
+        by_test i j made there z same true e owed = record { caller = i; made = made; func = eqb-true i.func p.1 e; callee = j; there = there; its = ap (λ (y : ℕ × Option Outcome). y.0) (same_some owed) ∙ same }
+        by_test i j made there z same false e owed = cc
+
+        by_known : (o u : Option Instance) → map.get known p.0 ≡ o → map.get known (child_of p.0 c.step) ≡ u → (z : ℕ × Option Outcome) → z.0 ≡ c.func → called_by p.1 o u ≡ Some z → IsKnownCall known p c
+        by_known None u made there z same owed = cc
+        by_known (Some i) None made there z same owed = cc
+        by_known (Some i) (Some j) made there z same owed = by_test i j made there z same (i.func == p.1) refl owed
+
+        by_row : (r : Option Row) → CallMatches r (called_by p.1 (map.get known p.0) (map.get known (child_of p.0 c.step))) → option_map func_called r ≡ Some c.func → IsKnownCall known p c
+        by_row None owed e = cc
+        by_row (Some (rows.Invoke i)) owed e = by_known (map.get known p.0) (map.get known (child_of p.0 c.step)) refl refl (i.func, i.result) (same_some e) owed
+        by_row (Some r) owed e = absurd owed
+
+    -- and one that is owed is there
+    pub call_there : IsKnownCall known p c → called_at m p c.step ≡ Some c.func
+    call_there k = by_row (map.get m (call_key p.1 p.0 c.step)) (subst (λ o. CallMatches (map.get m (call_key p.1 p.0 c.step)) o) owed (h.keys (call_key p.1 p.0 c.step))) ∙ ap Some k.its
+      where
+        owed : called_by p.1 (map.get known p.0) (map.get known (child_of p.0 c.step)) ≡ Some (k.callee.func, result_of k.callee)
+        owed = (λ i. called_by p.1 (k.made i) (k.there i)) ∙ ap (λ b. if b then Some (k.callee.func, result_of k.callee) else None) (eq-eqb k.caller.func p.1 k.func)
+
+        by_row : (r : Option Row) → CallMatches r (Some (k.callee.func, result_of k.callee)) → option_map func_called r ≡ Some k.callee.func
+        by_row None e = cc
+        by_row (Some (rows.Invoke i)) e = ap (λ (y : ℕ × Option Outcome). Some y.0) (sym (same_some e))
+        by_row (Some r) e = absurd e
+
+  -- ---- a transaction that has ended
+  module _ (sane : Sane d known) (t : TxId) where
+    -- who is called in it takes part in it
+    joins : (i : IntentId) (q j : Instance) (n : ℕ) → map.get known i ≡ Some q → tx_at d i q n ≡ Some t → map.get known (child_of i n) ≡ Some j → j.within ≡ Some t
+    joins i q j n is now there = by_waits c.waits refl
+      where
+        c : IsCalled d i q n j
+        c = subst (λ o. CalledBy d i o n j) is (sane.called i n j there)
+
+        by_waits : (w : Bool) → c.waits ≡ w → j.within ≡ Some t
+        by_waits true e = c.within ∙ ap (λ w. within_by w (tx_at d i q n)) e ∙ now
+        by_waits false e =
+            let so = (sane.each i q is).past n Done (c.answered ∙ ap (λ w. answer_given w j.outcome) e) in
+            absurd (subst (λ f. IsAnswer (place_of i n) (Some t) f Done) (c.call ∙ ap (λ w. call_of w j.func j.args) e) (subst (λ o. IsAnswer (place_of i n) o (effect_before d q n) Done) now so))
+
+    next_joins : (p : Member) (c : Called) → IsCall m p c → (k : IsKnownCall known p c) → tx_at d p.0 k.caller c.step ≡ Some t → TakesPart known t (callee_of p c)
+    next_joins p c call k now = subst (TakesPart known t) (sym (callee_is p c call.0)) (record { instance = k.callee; made = k.there; within = joins p.0 k.caller k.callee c.step k.made now k.there; func = k.its })
+
+    -- who took part, and who is called by them
+    pub callee_joins : (p : Member) (c : Called) → TakesPart known t p → IsCall m p c → TakesPart known t (callee_of p c)
+    callee_joins p c part call =
+        let k = call_known p c call.1 in
+        let ts = take c.step k.caller.answers in
+        let inner : k.caller.within ≡ Some t = ap (λ (q : Instance). q.within) (same_some (sym k.made ∙ part.made)) ∙ part.within in
+        next_joins p c call k (ap (λ w. or_own w (tx_by p.0 k.caller.func (length ts) (effect_before d k.caller c.step) (txs_after d k.caller ts).begun)) inner)
+
+    way_joins : (p : Member) (cs : List Called) → TakesPart known t p → IsWay m p cs → TakesPart known t (member_at p cs)
+    way_joins p [] part w = part
+    way_joins p (c ∷ cs) part w = way_joins (callee_of p c) cs (callee_joins p c part w.0) w.1
+
+    module _ (z : ℕ × Bool) (ended : tx_end d known t ≡ Some z) where
+      owner_calls : (c : Called) → (t.begin < c.step) × (c.step < z.0) → IsCall m (t.intent, t.func) c → TakesPart known t (callee_of (t.intent, t.func) c)
+      owner_calls c in_it call =
+          let k = call_known (t.intent, t.func) c call.1 in
+          let ends = sym (ap (ended_by d t.begin) k.made) ∙ ended in
+          next_joins (t.intent, t.func) c call k (tx_between d k.caller t.begin z ends t.intent c.step in_it.0 in_it.1 ∙ ap (λ f. Some (record { intent = t.intent; begin = t.begin; func = f })) k.func)
+
+      -- who the calls lead to took part
+      pub members_joined : (c : Called) (cs : List Called) → IsMember (first_end t z.0 z.1) m (c ∷ cs) → TakesPart known t (visited_by t (c ∷ cs))
+      members_joined c cs member = way_joins (callee_of (t.intent, t.func) c) cs (owner_calls c member.0 member.1.0) member.1.1
+
+      -- .. and so did who they call
+      pub calls_joined : (cs : List Called) → IsMember (first_end t z.0 z.1) m cs → (c : Called) → AtEnd (IsWithin (first_end t z.0 z.1)) cs c.step → IsCall m (visited_by t cs) c → TakesPart known t (callee_of (visited_by t cs) c)
+      calls_joined [] member c at call = owner_calls c at call
+      calls_joined (e ∷ es) member c at call = callee_joins (visited_by t (e ∷ es)) c (members_joined e es member) call
+
+      -- ---- calls lead to each of them
+      pub record IsReached (p : Member) : Type 0 where
+        pub first : Called
+        pub rest : List Called
+        pub member : IsMember (first_end t z.0 z.1) m (first ∷ rest)
+        pub leads : visited_by t (first ∷ rest) ≡ p
+
+      module _ (short : AllShort known) where
+        -- the call that its caller made
+        call_of_it : (j : IntentId) (y : Instance) → map.get known j ≡ Some y → (c : CallerOf d known t j y) → IsCall m (c.caller, c.waiter.func) (record { step = c.step; func = y.func })
+        call_of_it j y is c = (
+          caller_short c.caller c.step (subst (λ (i : IntentId). length i.hops ≤ 63) c.is (short j (ap is_some is))),
+          call_there (c.caller, c.waiter.func) (record { step = c.step; func = y.func }) (record { caller = c.waiter; made = c.made; func = refl; callee = y; there = ap (map.get known) (sym c.is) ∙ is; its = refl }),
+        )
+
+        -- its caller is the owner ..
+        by_owner : (j : IntentId) (y : Instance) → map.get known j ≡ Some y → (c : CallerOf d known t j y) → c.waiter.within ≡ None → IsReached (j, y.func)
+        by_owner j y is c outside =
+            let ts = take c.step c.waiter.answers in
+            let no_begin : effect_before d c.waiter c.step ≡ effect.Begin → ⊥ = λ g. let clash = sym g ∙ c.call in cc in
+            let own = own_tx c.caller c.waiter.func (length ts) (effect_before d c.waiter c.step) (txs_after d c.waiter ts).begun t no_begin
+            (sym (ap (λ w. or_own w (tx_by c.caller c.waiter.func (length ts) (effect_before d c.waiter c.step) (txs_after d c.waiter ts).begun)) outside) ∙ c.within) in
+            let past = (fits_at d c.waiter ts).before t.begin own.begun in
+            let here = c.here in
+            let l = length-take-le c.step c.waiter.answers here in
+            let called : Called = record { step = c.step; func = y.func } in
+            let same : ◌≡◌ {A = Member} (t.intent, t.func) (c.caller, c.waiter.func) = λ i. (own.intent i, own.func_is i) in
+            let call = call_of_it j y is c in
+            let ends = sym (ap (λ i. ended_by d t.begin (map.get known i)) own.intent ∙ ap (ended_by d t.begin) c.made) ∙ ended in
+            let begins : t.begin < c.step = omega (arith, past, l) in
+            record {
+              first = called;
+              rest = [];
+              member = ((begins, before_end d c.waiter t.begin z ends c.step here own.begun begins (λ b g. let clash = sym g ∙ c.call in cc)), (subst (λ (p : Member). IsCall m p called) (sym same) call, tt));
+              leads = ap (λ (p : Member). callee_of p called) same ∙ callee_is (c.caller, c.waiter.func) called call.0 ∙ ap (λ i. (i, y.func)) (sym c.is);
+            }
+
+        -- .. or one of them
+        by_part : (j : IntentId) (y : Instance) → map.get known j ≡ Some y → (c : CallerOf d known t j y) → IsReached (c.caller, c.waiter.func) → IsReached (j, y.func)
+        by_part j y is c r =
+            let called : Called = record { step = c.step; func = y.func } in
+            let call = call_of_it j y is c in
+            record {
+              first = r.first;
+              rest = r.rest ++ called ∷ [];
+              member = (r.member.0, way_more m (t.intent, t.func) (r.first ∷ r.rest) called r.member.1 (subst (λ (p : Member). IsCall m p called) (sym r.leads) call));
+              leads = member_more (t.intent, t.func) (r.first ∷ r.rest) called ∙ ap (λ (p : Member). callee_of p called) r.leads ∙ callee_is (c.caller, c.waiter.func) called call.0 ∙ ap (λ i. (i, y.func)) (sym c.is);
+            }
+
+        by_caller : (j : IntentId) (y : Instance) → map.get known j ≡ Some y → (c : CallerOf d known t j y) → (c.waiter.within ≡ Some t → IsReached (c.caller, c.waiter.func)) → IsReached (j, y.func)
+        by_caller j y is c rest = by_within c.waiter.within refl
+          where
+            by_within : (w : Option TxId) → c.waiter.within ≡ w → IsReached (j, y.func)
+            by_within None e = by_owner j y is c e
+            by_within (Some u) e =
+                let ts = take c.step c.waiter.answers in
+                by_part j y is c (rest (e ∙ sym (ap (λ w. or_own w (tx_by c.caller c.waiter.func (length ts) (effect_before d c.waiter c.step) (txs_after d c.waiter ts).begun)) e) ∙ c.within))
+
+        reached_upto : (n : ℕ) (j : IntentId) (y : Instance) → length j.hops < n → map.get known j ≡ Some y → y.within ≡ Some t → IsReached (j, y.func)
+        reached_upto zero j y few is inner = absurd (omega (arith, few))
+        reached_upto (suc n) j y few is inner =
+            let c = caller_in d known sane t j y is inner in
+            let more = length-append c.caller.hops (c.step ∷ []) in
+            let long = ap (λ (i : IntentId). length i.hops) c.is in
+            by_caller j y is c (reached_upto n c.caller c.waiter (omega (arith, few, more, long)) c.made)
+
+        pub reached : (j : IntentId) (y : Instance) → map.get known j ≡ Some y → y.within ≡ Some t → IsReached (j, y.func)
+        reached j y = reached_upto (suc (length j.hops)) j y (omega arith)
+
+-- ---- who took part has hops, and so the row in the home of its function
+module _ (d : Deployment) (known : Known) (sane : Sane d known) where
+  pub part_below : (t : TxId) (i : IntentId) → TookPart known t i → has_no_hops i.hops ≡ false
+  part_below t i part = elim (last_hop i.hops) [
+    | inl e ↦
+        let root : i ≡ root_of i.ticket = λ k. record { ticket = i.ticket; hops = e k } in
+        let clash = sym (sane.roots i.ticket part.instance (ap (map.get known) (sym root) ∙ part.made)).1 ∙ part.within in cc
+    | inr r ↦ ap has_no_hops r.2 ∙ no_root (record { ticket = i.ticket; hops = r.0 }) r.1
+  ]
+
+  pub part_key : (t : TxId) (i : IntentId) (func : ℕ) → TookPart known t i → intent_key i func ≡ key_in func i
+  part_key t i func part = ap (λ b. record { home = if b then 0 else func; kind = kinds.Intent i }) (part_below t i part)

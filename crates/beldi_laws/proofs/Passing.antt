@@ -1,0 +1,87 @@
+-- The turns of an effect that is carried out inside a transaction as outside, a call or a return: what its run is in, and how it goes on.
+use Rattle.std.proofs.Common.{◌≡◌, ◌∙◌, ℕ, true, false, IsTrue, List, [], ◌∷◌, ◌++◌, Option, Some, None, is_some, refl, ap, sym, subst, append_assoc}
+use Rattle.std.specs.FinMap as map
+use Rattle.beldi_value.specs.Id.{has_callees}
+use Rattle.beldi_value.specs.declared.id.IntentId.{IntentId}
+use Rattle.beldi_value.specs.declared.outcome.Outcome.{Outcome}
+use Rattle.beldi_value.specs.declared.place.Caller.{Caller}
+use Rattle.beldi_value.specs.declared.place.TxId.{TxId}
+use Rattle.beldi_value.specs.declared.value.Value.{Value}
+use Rattle.beldi_tree.specs.declared.deployment.Deployment.{Deployment}
+use Rattle.beldi_lang.specs.declared.effect.Answer.{Answer}
+use Rattle.beldi_lang.specs.declared.effect.Effect.{Effect}
+use Rattle.beldi_lang.specs.declared.effect.Effect.TheVariants.{Call, Return}
+use Rattle.beldi_lang.specs.Wants.{wants_answer}
+use Rattle.beldi_row.specs.Table.{Rows}
+use Rattle.beldi_book.specs.declared.entry.Entry.{Entry}
+use Rattle.beldi_order.specs.Txs.{effect_after, tx_after, tx_at, tx_now, txs_after}
+use Rattle.beldi_call.specs.declared.call.CallAt.{CallAt}
+use Rattle.beldi_step.specs.declared.run.Begun.{Begun}
+use Rattle.beldi_step.specs.declared.run.Run.{Run}
+use Rattle.beldi_step.specs.declared.run.RunTx.{RunTx}
+use Rattle.beldi_step.specs.declared.run.Says.TheVariants as says
+use Rattle.beldi_step.specs.declared.run.Stage.TheVariants as stage
+use Rattle.beldi_step.specs.Host.{Core}
+use Rattle.beldi_step.specs.Run.{is_waited, tx_at as run_tx, tx_of, within}
+use Rattle.beldi_known.specs.Beside.{is_begin}
+use Rattle.beldi_known.specs.Known.{Known}
+use Rattle.beldi_known.proofs.NoTx.{outside_so}
+use Rattle.beldi_laws.specs.Inside.{Inside}
+use Rattle.beldi_laws.specs.Right.{Right, Knows, StageOk, open_of}
+use Rattle.beldi_laws.proofs.Grown.{grown_same}
+use Rattle.beldi_laws.proofs.Moves.{SameRoots, Stays}
+use Rattle.beldi_laws.proofs.OpenOf.{open_in, open_none, open_tx, tx_open}
+use Rattle.beldi_laws.proofs.Turns.{Leaves, all_here, answers_on, front_here, no_return, wanted_here}
+
+-- ---- where its run stands
+module _ (d : Deployment) (book : List Entry) (known : Known) (r : Run) (g : Begun) (k : Knows d book known r g) where
+  -- the transaction of its step is the one that the run is in
+  module _ (apart : is_begin g.machine.effect ≡ false) where
+    apart_there : is_begin (effect_after d k.instance k.answers) ≡ false
+    apart_there = ap is_begin (wanted_here d book known r g k) ∙ apart
+
+    by_open : (o : Option RunTx) (t : Option TxId) → open_of d k.instance k.answers ≡ o → tx_after d r.id k.instance k.answers ≡ t → t ≡ run_tx r.id r.func o
+    by_open (Some o) t is at = sym at ∙ tx_open d r.id k.instance k.answers o is apart_there ∙ ap (λ f. Some (tx_of r.id f o)) k.func
+    by_open None None is at = refl
+    by_open None (Some t) is at = let clash = sym is ∙ (open_tx d r.id k.instance k.answers t at apart_there).1 in cc
+
+    pub tx_is : tx_after d r.id k.instance k.answers ≡ run_tx r.id r.func g.tx
+    tx_is = by_open (open_of d k.instance k.answers) (tx_after d r.id k.instance k.answers) refl refl ∙ ap (run_tx r.id r.func) (sym k.run_open)
+
+    pub tx_step_is : tx_at d r.id k.instance g.machine.steps ≡ run_tx r.id r.func g.tx
+    tx_step_is = ap (tx_after d r.id k.instance) (front_here d book known r g k) ∙ tx_is
+
+    pub tx_now_is : k.later ≡ [] → tx_now d r.id k.instance ≡ run_tx r.id r.func g.tx
+    tx_now_is left = ap (tx_after d r.id k.instance) (sym (all_here d book known r g k left)) ∙ tx_is
+
+  -- a body returns in no transaction of its own: it is in the one that it was called in, if any
+  pub returns_in : (o : Outcome) → g.machine.effect ≡ Return o → g.tx ≡ within k.instance.within
+  returns_in o is = k.run_open ∙ by_within k.instance.within refl
+    where
+      returns : effect_after d k.instance k.answers ≡ Return o
+      returns = wanted_here d book known r g k ∙ is
+
+      none_begun : (b : Option ℕ) → (txs_after d k.instance k.answers).begun ≡ b → b ≡ None
+      none_begun None e = refl
+      none_begun (Some b) e = absurd (no_return d k.instance k.answers o (ap is_some e) returns)
+
+      by_within : (w : Option TxId) → k.instance.within ≡ w → open_of d k.instance k.answers ≡ within w
+      by_within (Some x) e = open_in d k.instance x k.answers e
+      by_within None e = open_none d r.id k.instance k.answers (outside_so d r.id k.instance k.answers (e, none_begun (txs_after d k.instance k.answers).begun refl) (ap is_begin returns))
+
+-- ---- its stages
+-- of a call, and of an end that its caller waits for
+pub call_ok : (t : Option TxId) (id : IntentId) (c : Option Caller) (f : ℕ) (v : Value) (w : CallAt) → has_callees id ≡ true → StageOk t id c (Call f v) (stage.Call w)
+call_ok None id c f v w h = h
+call_ok (Some t) id c f v w h = h
+
+pub close_ok : (t : Option TxId) (id : IntentId) (c : Option Caller) (o : Outcome) → is_waited c ≡ true → StageOk t id c (Return o) stage.Close
+close_ok None id c o h = tt
+close_ok (Some t) id c o h = h
+
+module _ (d : Deployment) (c : Core) (m : Rows) (i : ℕ) (r : Run) (g : Begun) (h : Right d c m) (live : map.get c.runs i ≡ Some r) (k : Knows d c.book h.known r g) (finds : Inside d m h.plain h.known r g) (e : Effect) (is : g.machine.effect ≡ e) where
+  -- a call replays: the answer is the one that its instance has
+  pub replays_call : (f : ℕ) (v : Value) → e ≡ Call f v → (n : Rows) (a : Answer) (rest : List Answer) → SameRoots m n → Stays h n → k.later ≡ a ∷ rest → Leaves d c m i r g h live k (says.Answers a None) n
+  replays_call f v call n a rest roots kept left =
+      answers_on d c m i r g h live k finds a rest n h.known h.locked k.instance roots kept k.made (grown_same k.instance) (append_assoc k.answers (a ∷ []) rest ∙ ap (λ ys. k.answers ++ ys) (sym left) ∙ k.run_answers)
+      (subst (λ z. IsTrue (wants_answer z)) (sym (is ∙ call)) refl) (λ o commit x open_there ends owned. let clash = sym (is ∙ call) ∙ ends in cc)

@@ -1,0 +1,215 @@
+-- What is so of the visits of an end: it is so once the decision is there, and stays through what others do.
+use Rattle.std.proofs.Common.{◌≡◌, ◌∙◌, inl, inr, ℕ, ◌==◌, ◌||◌, ◌&&◌, Bool, true, false, List, [], ◌∷◌, length, take, Option, None, Some, is_some, refl, ap, sym, subst, arith, eqb-true, eq-eqb, if◌then◌else◌}
+use Rattle.std.specs.Prelude.{slice_get}
+use Rattle.std.specs.FinMap as map
+use Rattle.std.proofs.lemmas.Option.{slice_get_within}
+use Rattle.beldi_value.specs.declared.id.IntentId.{IntentId}
+use Rattle.beldi_value.specs.declared.outcome.Outcome.{Outcome}
+use Rattle.beldi_value.specs.declared.place.Owner.{Owner}
+use Rattle.beldi_value.specs.declared.place.Owner.TheVariants.{Tx as ByTx}
+use Rattle.beldi_value.specs.declared.place.TxId.{TxId}
+use Rattle.beldi_value.specs.declared.value.Value.TheVariants as value
+use Rattle.beldi_tree.specs.declared.deployment.Deployment.{Deployment}
+use Rattle.beldi_lang.specs.declared.effect.Answer.{Answer}
+use Rattle.beldi_lang.specs.declared.effect.Effect.TheVariants as effect
+use Rattle.beldi_row.specs.declared.row.Row.{Row}
+use Rattle.beldi_row.specs.Act.{owns}
+use Rattle.beldi_row.specs.Log.{note_at}
+use Rattle.beldi_row.specs.Table.{Rows}
+use Rattle.beldi_plain.specs.Item.{Item}
+use Rattle.beldi_plain.specs.Plain.{Instance, PlainState, effect_of}
+use Rattle.beldi_order.specs.Grown.{GrownAt, Grows}
+use Rattle.beldi_order.specs.Txs.{effect_after, tx_after, tx_now}
+use Rattle.beldi_step.specs.Host.{Core}
+use Rattle.beldi_txn.specs.declared.end_walk.EndWalk.{EndWalk}
+use Rattle.beldi_txn.specs.declared.way.Called.{Called}
+use Rattle.beldi_txn.specs.End.{at_calls, first_end, free_place, visited_by}
+use Rattle.beldi_txn.specs.Tx.{op_of}
+use Rattle.beldi_txn.specs.TxTurn.{shadow_value}
+use Rattle.beldi_txn.specs.Visited.{AreMarked, AreReleased, AreSound, AtEnd, IsCall, IsDecided, IsMember, IsWay, IsWithin, Leaves, Visited, aside_row, decision_row, is_closed, is_own, item_in, item_row, lock_row, owner_of}
+use Rattle.beldi_txn.specs.Way.{Member, callee_of}
+use Rattle.beldi_txn.proofs.Visited.{visits_stand}
+use Rattle.beldi_known.specs.Contents.{content_of}
+use Rattle.beldi_known.specs.Known.{Known, ahead_by, at_step, commit_in, decision_by, ended_by, is_decided, is_mark, last_step, note_by, note_or, owed_note, owed_read, owed_value, read_at, row_at, tx_end, value_or}
+use Rattle.beldi_known.specs.Matches.{Matches}
+use Rattle.beldi_known.specs.Rows.{LogMatches}
+use Rattle.beldi_known.specs.Sane.{Sane}
+use Rattle.beldi_known.proofs.Behind.{log_there}
+use Rattle.beldi_known.proofs.Participants.{decided_over, now_open}
+use Rattle.beldi_laws.specs.Inside.{Frame, IsFreePlace, IsOf, IsWriting, OwnedAreUnmarked, ParticipantsAreReleased, TookPart}
+use Rattle.beldi_laws.specs.Right.{Right}
+use Rattle.beldi_laws.proofs.Closing.{before_part, closed_there, finish_there, owner_is, owns_it}
+use Rattle.beldi_laws.proofs.Members.{IsKnownCall, TakesPart, call_known, call_there, callee_is, calls_joined, members_joined, took_part}
+use Rattle.beldi_laws.proofs.Shown.{Shows}
+use Rattle.beldi_laws.proofs.Widths.{answered_small}
+
+-- ---- small facts
+-- none that it owns
+not_owned : (t : TxId) (o : Option Owner) → (o ≡ Some (ByTx t) → ⊥) → owns (ByTx t) o ≡ false
+not_owned t o none = by_test (owns (ByTx t) o) refl
+  where
+    by_test : (b : Bool) → owns (ByTx t) o ≡ b → b ≡ false
+    by_test false e = refl
+    by_test true e = absurd (none (owner_is t o e))
+
+-- an effect that gives back the outcome is a return
+no_outcome : (d : Deployment) (q : Instance) → ((o : Outcome) → effect_of d q ≡ effect.Return o → ⊥) → ((o : Outcome) → q.outcome ≡ Some o → effect_of d q ≡ effect.Return o) → q.outcome ≡ None
+no_outcome d q none over = by_outcome q.outcome refl
+  where
+    by_outcome : (o : Option Outcome) → q.outcome ≡ o → o ≡ None
+    by_outcome None e = refl
+    by_outcome (Some o) e = absurd (none o (over o e))
+
+module _ (d : Deployment) (m : Rows) (known : Known) (locked : IntentId → Bool) (h : Matches d m known locked) (sane : Sane d known) where
+  pub sound_rows : (w : EndWalk) → AreSound w m
+  sound_rows w f i = (h.keys (item_row f i), h.keys (aside_row w f i))
+
+  module _ (t : TxId) (z : ℕ × Bool) (ended : tx_end d known t ≡ Some z) (marks : OwnedAreUnmarked d m known) where
+    -- an item with a note at a place where it is given back is not the transaction's
+    pub marked_rows : AreMarked (first_end t z.0 z.1) m
+    marked_rows cs member i nt noted = not_owned t (item_in (visited_by t cs).1 m i).owner (λ own. marks t z (record { func = (visited_by t cs).1; table = i.0; key = i.1 }) (free_place t z.0 cs) nt ended own (free cs member) noted)
+      where
+        free : (cs : List Called) → IsMember (first_end t z.0 z.1) m cs → IsFreePlace known t z.0 (free_place t z.0 cs)
+        free [] member = inl refl
+        free (e ∷ es) member = inr (refl, took_part (members_joined d m known locked h sane t z ended e es member))
+
+    -- the decision is there, and nobody was visited yet
+    pub visits_found : ParticipantsAreReleased d m known → let w : EndWalk = record { tx = t; end = z.0; commit = z.1; visit = at_calls [] None } in IsDecided w m → Visited w m
+    visits_found released there = record {
+      decided = there;
+      item = refl;
+      begins = tt;
+      from = tt;
+      member = (tt, tt);
+      gives = tt;
+      callees = λ c call at. absurd at.1;
+      freed = λ q r here past. absurd past;
+      released = released t z ended;
+      marked = marked_rows;
+      sound = sound_rows (first_end t z.0 z.1);
+    }
+
+  -- ---- who took part comes to no step as late as that at which its items are given back
+  module _ (t : TxId) (open_still : tx_end d known t ≡ None) (i : IntentId) (part : TookPart known t i) where
+    abbrev y : Instance
+    y = part.instance
+
+    never : slice_get y.answers last_step ≡ None
+    never = by_answer (slice_get y.answers last_step) refl
+      where
+        by_answer : (o : Option Answer) → slice_get y.answers last_step ≡ o → o ≡ None
+        by_answer None e = refl
+        by_answer (Some a) e = let small = answered_small d i y last_step (sane.each i y part.made) (slice_get_within y.answers last_step a e) in absurd (omega (arith, small))
+
+    not_next : (last_step == length y.answers) ≡ false
+    not_next = by_test (last_step == length y.answers) refl
+      where
+        by_test : (c : Bool) → (last_step == length y.answers) ≡ c → c ≡ false
+        by_test false e = refl
+        by_test true e =
+            let same = eqb-true last_step (length y.answers) e in
+            let small = answered_small d i y 30000 (sane.each i y part.made) (omega (arith, same)) in
+            absurd (omega (arith, small))
+
+    -- so before the decision no item has a note there
+    pub at_part : (x : Item) → note_at (content_of m x).notes (record { intent = i; step = last_step }) ≡ None
+    at_part x =
+        (h.items x).notes (record { intent = i; step = last_step })
+        (ap (is_mark d known last_step) part.made ∙ (λ j. is_some (at_step (λ given a. commit_in (effect_after d y given)) (take last_step y.answers) (never j)) || (is_decided d known (part.within j) && (last_step == last_step))) ∙ ap (λ e. is_some e && (last_step == last_step)) open_still)
+        ∙ ap (owed_note d x i (locked i) last_step) part.made
+        ∙ (λ j. note_or (at_step (λ ts a. note_by x y.func (tx_after d i y ts) (effect_after d y ts) a) (take last_step y.answers) (never j)) (if not_next j then ahead_by x y.func (tx_now d i y) (effect_of d y) (locked i) else None))
+
+-- ---- what others leave
+module _ (d : Deployment) (c : Core) (m n : Rows) (h : Right d c m) (q : PlainState) (next : Known) (after : IntentId → Bool) (then_rows : Matches d n next after) (then_sane : Sane d next) (grows : Grows h.known next) (frame : Frame d m n h.plain q h.known next)
+    (w : EndWalk) (ended : tx_end d h.known w.tx ≡ Some (w.end, w.commit)) (then_ended : tx_end d next w.tx ≡ Some (w.end, w.commit)) where
+  abbrev s : TxId
+  s = w.tx
+
+  abbrev z : ℕ × Bool
+  z = (w.end, w.commit)
+
+  abbrev item : ℕ → ℕ × List ℕ → Item
+  item f i = record { func = f; table = i.0; key = i.1 }
+
+  -- ---- the calls
+  call_on : (p : Member) (e : Called) → IsCall m p e → IsCall n p e
+  call_on p e call = (call.0, frame.calls p.1 (record { intent = p.0; step = e.step }) e.func call.1)
+
+  way_on : (p : Member) (cs : List Called) → IsWay m p cs → IsWay n p cs
+  way_on p [] way = tt
+  way_on p (e ∷ es) way = (call_on p e way.0, way_on (callee_of p e) es way.1)
+
+  member_on : (cs : List Called) → IsMember w m cs → IsMember w n cs
+  member_on cs member = (member.0, way_on (owner_of w) cs member.1)
+
+  -- who calls was known, and nobody is called any more
+  call_back : (cs : List Called) → IsMember w m cs → (e : Called) → AtEnd (IsWithin w) cs e.step → IsCall n (visited_by s cs) e → IsCall m (visited_by s cs) e
+  call_back cs member e at call = (call.0, call_there d m h.known h.locked h.rows p e (record { caller = caller.0; made = caller.1; func = caller.2; callee = callee.instance; there = ap (λ (b : Member). map.get h.known b.0) (sym (callee_is p e call.0)) ∙ callee.made; its = callee.func }))
+    where
+      p : Member
+      p = visited_by s cs
+
+      caller_of : (cs : List Called) → IsMember w m cs → IsKnownCall next (visited_by s cs) e → (y : Instance) × (map.get h.known (visited_by s cs).0 ≡ Some y) × (y.func ≡ (visited_by s cs).1)
+      caller_of (b ∷ bs) member then_call = let k = members_joined d m h.known h.locked h.rows h.sane s z ended b bs member in (k.instance, k.made, k.func)
+      caller_of [] member then_call = by_owner (map.get h.known s.intent) refl ended
+        where
+          by_owner : (o : Option Instance) → map.get h.known s.intent ≡ o → ended_by d s.begin o ≡ Some z → (y : Instance) × (map.get h.known s.intent ≡ Some y) × (y.func ≡ s.func)
+          by_owner None is g = cc
+          by_owner (Some y) is g = (y, is, sym (subst (λ o. GrownAt o (Some then_call.caller)) is (subst (GrownAt (map.get h.known s.intent)) then_call.made (grows s.intent))).func ∙ then_call.func)
+
+      caller : (y : Instance) × (map.get h.known p.0 ≡ Some y) × (y.func ≡ p.1)
+      caller = caller_of cs member (call_known d n next after then_rows p e call.1)
+
+      callee : TakesPart h.known s (callee_of p e)
+      callee = before_part d c m h n q next after then_rows then_sane grows frame s z then_ended (callee_of p e) (calls_joined d n next after then_rows then_sane s z then_ended cs (member_on cs member) e at call)
+
+  -- ---- locks, items and finishes
+  lock_back : (cs : List Called) → IsMember w m cs → (i : ℕ × List ℕ) (r : Row) → map.get n (lock_row w (visited_by s cs) i) ≡ Some r → is_some (map.get m (lock_row w (visited_by s cs) i)) ≡ true
+  lock_back cs member i r there = let p = visited_by s cs in frame.locksets s z p.0 (item p.1 i) then_ended (of_it cs member) (ap is_some there)
+    where
+      of_it : (cs : List Called) → IsMember w m cs → IsOf next s (visited_by s cs).0
+      of_it [] member = inl refl
+      of_it (e ∷ es) member = inr (took_part (members_joined d n next after then_rows then_sane s z then_ended e es (member_on (e ∷ es) member)))
+
+  item_on : (f : ℕ) (i : ℕ × List ℕ) → is_own w (item_in f m i) ≡ false → is_own w (item_in f n i) ≡ false
+  item_on f i free = not_owned s (item_in f n i).owner (λ own. let clash = sym (owns_it s (item_in f m i).owner (frame.owners s z (item f i) then_ended own).owner) ∙ free in cc)
+
+  closed_on : (e : Called) (es : List Called) → IsMember w m (e ∷ es) → is_closed m (visited_by s (e ∷ es)) ≡ true → is_closed n (visited_by s (e ∷ es)) ≡ true
+  closed_on e es member closed =
+      let p = visited_by s (e ∷ es) in
+      let k = members_joined d m h.known h.locked h.rows h.sane s z ended e es member in
+      let finish = finish_there d m h.known h.locked h.rows h.sane s p k h.seated (decided_over d h.known h.sane p.0 k.instance s z k.made k.within ended) closed in
+      closed_there d n next after then_rows then_sane s p (members_joined d n next after then_rows then_sane s z then_ended e es (member_on (e ∷ es) member)) (frame.finishes p.1 p.0 finish)
+
+  -- the decision is known
+  decided_then : (owner : Instance) → map.get next s.intent ≡ Some owner → owner.func ≡ s.func → IsDecided w n
+  decided_then owner made func = log_there (map.get n (decision_row w)) (value.Bool w.commit) (subst (LogMatches (map.get n (decision_row w))) owed (then_rows.keys (decision_row w)))
+    where
+      owed : owed_read d next s.func (record { intent = s.intent; step = s.begin }) ≡ Some (value.Bool w.commit)
+      owed = ap (owed_value d s.func s.begin) made ∙ ap (λ b. if b then row_at d owner s.begin else None) (eq-eqb owner.func s.func func)
+          ∙ ap (λ e. value_or (decision_by e) (read_at d owner s.begin)) (sym (ap (ended_by d s.begin) made) ∙ then_ended)
+
+  -- nobody writes in it any more
+  not_writing : IsWriting d h.known s → ⊥
+  not_writing wr = let clash = sym ended ∙ now_open d h.known h.sane wr.writer wr.instance s wr.made
+      (no_outcome d wr.instance (λ o returns. let clash = sym wr.writes ∙ ap (λ e. is_some (op_of e)) returns in cc) (h.sane.each wr.writer wr.instance wr.made).over) wr.now in cc
+
+  leaves : (owner : Instance) → map.get next s.intent ≡ Some owner → owner.func ≡ s.func → OwnedAreUnmarked d n next → AreReleased w n → Leaves w m n
+  leaves owner made func marks released = record {
+    decision = λ before. decided_then owner made func;
+    asides = λ f i. ap shadow_value (frame.shadows s (item f i) not_writing);
+    way = member_on w.visit.way;
+    calls = call_back;
+    locks = lock_back;
+    closed = closed_on;
+    items = item_on;
+    released = released;
+    marks = marked_rows d n next after then_rows then_sane s z then_ended marks;
+    sound = sound_rows d n next after then_rows then_sane w;
+  }
+
+-- ---- what a run at its end has found stays
+pub visit_stays : (d : Deployment) (c : Core) (m n : Rows) (h : Right d c m) (q : PlainState) (next : Known) (after : IntentId → Bool) → Shows d n q next after → Grows h.known next → Frame d m n h.plain q h.known next
+    → (w : EndWalk) → tx_end d h.known w.tx ≡ Some (w.end, w.commit) → tx_end d next w.tx ≡ Some (w.end, w.commit) → (owner : Instance) → map.get next w.tx.intent ≡ Some owner → owner.func ≡ w.tx.func → Visited w m → Visited w n
+visit_stays d c m n h q next after shows grows frame w ended then_ended owner made func was =
+    visits_stand w m n was (leaves d c m n h q next after shows.rows shows.sane grows frame w ended then_ended owner made func shows.settled.marks (shows.settled.released w.tx (w.end, w.commit) then_ended))
