@@ -1,4 +1,3 @@
-pub mod Carried
 mod CountMaps
 mod Counting
 pub mod Least

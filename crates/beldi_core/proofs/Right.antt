@@ -125,7 +125,7 @@ module _ (d : Deployment) (c : Core) (m : Rows) (h : Right d c m) (t : ℕ) wher
 
   -- a reply that is known is the plain one
   reply_known : reply_of h.plain t ≡ outcome_of (map.get h.known (root_of t))
-  reply_known = sym (outcome_known d h.plain h.known h.beside h.uncalled (root_of t))
+  reply_known = sym (outcome_known d h.plain h.known h.beside (root_of t) (λ k is. (h.sane.roots t k is).1))
 
   absent : map.get m (root_key t) ≡ None → HasNoReply d c.book t
   absent is = no_reply (reply_known ∙ ap outcome_of (subst (λ (r : Option Row). IntentMatches (has_ended d h.known) true 0 r (map.get h.known (root_of t))) is (h.rows.keys (root_key t))))

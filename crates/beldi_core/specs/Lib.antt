@@ -1,4 +1,3 @@
-pub mod Built
 pub mod Counts
 pub mod Host
 pub mod Opening

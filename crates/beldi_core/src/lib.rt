@@ -3,8 +3,8 @@
 //! It stands on `beldi_step`, which says what one event does, and on `beldi_laws`, which says what every event keeps. Its
 //! definitions: `specs/Host` (the host as the core that events speak of), `specs/Parts` (what holds between an event's
 //! question and its answer), `specs/Runs` (the live runs by number), `specs/Counts` (how many of them each intent has),
-//! `specs/Survey` (calls that read the rows), `specs/Opening` (their errors), `specs/Built` (what it can carry out of a
-//! deployment) and `specs/Right` (what the calls keep, and what a right host has).
+//! `specs/Survey` (calls that read the rows), `specs/Opening` (their errors) and `specs/Right` (what the calls keep, and what a
+//! right host has).
 //!
 //! Proved:
 //! - `Host::event` is one step of the definition, for every table that keeps the trait's contract; crashes, lost
@@ -19,8 +19,6 @@
 //! - What the rows held at a step stays after an event, whether the host is right or not (`answers_stay`).
 //! - Where the host is right and its table tells its rows, no ticket is answered `gone` (`has_rows`).
 //! - `Host::rows` tells how many rows the table has, as `len` does (`IsCount`).
-//! - `built` tells the line of the first statement that the host cannot carry out yet (`exact`); where there is none, no body that
-//!   runs outside a transaction calls inside one that it began (`carried`).
 //! - `Host::open`, at a moment of at most 2^62, finds the newest ticket, which is the greatest that any key names
 //!   (`newest`), and changes no row (`ok`); where it refuses, it gives the table back (`err`).
 //! - `Host::tables` and `Host::reply` say what the rows say, and change nothing (`reads`, `err`, `unknown`, `core`,
@@ -42,9 +40,7 @@ mod host_core;
 mod laws;
 mod runs;
 mod survey;
-mod unbuilt;
 
 pub use host::Host;
 pub use laws::{right_has_one_answer, right_is_legal, right_stands};
 pub use survey::{OpenErr, ReplySeen};
-pub use unbuilt::built;

@@ -1,7 +1,6 @@
 -- What a source says: where and why it is refused, or a deployment and the lines of a script.
 use Rattle.std.specs.Prelude.{◌≡◌, ℕ, ◌+◌, ◌-◌, ◌^◌, min, Bool, true, false, List, [], ◌∷◌, drop, Option, Some, None, Result, Ok, Err, if◌then◌else◌}
 use Rattle.beldi_tree.specs.declared.deployment.Deployment.{Deployment}
-use Rattle.beldi_core.specs.Built.{unbuilt_of}
 use Rattle.beldi_check.specs.Rules.{Offence, first_offence}
 use Rattle.beldi_script.specs.Cut.{lines_of}
 use Rattle.beldi_script.specs.Line.{line_at}
@@ -25,14 +24,13 @@ abbrev pub refusal_at : Cause → ℕ → Refusal
 refusal_at c n = record { line = n; cause = c }
 
 -- ---- the deployment
-abbrev pub refusal_by : Option Offence → Option ℕ → Option Refusal
-refusal_by (Some o) l = Some (refusal_at (cause.Rule o.1) o.0)
-refusal_by None (Some l) = Some (refusal_at cause.Unbuilt l)
-refusal_by None None = None
+abbrev pub refusal_by : Option Offence → Option Refusal
+refusal_by None = None
+refusal_by (Some o) = Some (refusal_at (cause.Rule o.1) o.0)
 
--- the first rule that it breaks, or else its first statement that the host cannot carry out yet
+-- the first rule that it breaks
 abbrev pub refusal_in : Deployment → Option Refusal
-refusal_in d = refusal_by (first_offence d.funcs) (unbuilt_of d.funcs)
+refusal_in d = refusal_by (first_offence d.funcs)
 
 abbrev pub accepted : {A : Type 0} → A → Option Refusal → Result A Refusal
 accepted a None = Ok a
@@ -47,7 +45,7 @@ source_by (Ok p) = accepted (accepted_of p) (refusal_in p.code)
 source_by (Err (syntax.Refused n w)) = Err (refusal_at (cause.Syntax w) n)
 source_by (Err syntax.OutOfMemory) = Err (refusal_at (cause.Syntax what.Syntax) 1)
 
--- what a source says before its script: a deployment that was read, keeps every rule and can be carried out, or a refusal
+-- what a source says before its script: a deployment that was read and keeps every rule, or a refusal
 abbrev pub source_at : List ℕ → Result Accepted Refusal
 source_at bytes = source_by (parsed_at bytes)
 

@@ -5,7 +5,6 @@ ghost use Rattle.beldi_program.specs.declared.refusal.SourceErr.TheVariants.{Ref
 
 use crate::refusal::{Cause, Refusal, SourceErr};
 use beldi_check::{CheckErr, Checked, check};
-use beldi_core::built;
 use beldi_script::{Line, ScriptErr, read_line};
 use beldi_syntax::{Parsed, SyntaxErr, read_deployment};
 use std::alloc::Global;
@@ -27,24 +26,20 @@ fn refused(line: u32, cause: Cause) -> SourceErr
     SourceErr::Refused(Refusal { line, cause })
 }
 
-// Tests that the deployment keeps every rule, and that the host can carry out each of its statements.
+// Tests that the deployment keeps every rule.
 fn accept(alloc: Global, parsed: Parsed) -> Result<Accepted, SourceErr>
     ensures { ReadsAs (accepted (accepted_of parsed) (refusal_in parsed.code)) result }
 {
     let Parsed { code, rest, line } = parsed;
     match check(alloc, code) {
-        Ok(code) => match built(code.code()) {
-            Ok(()) => Ok(Accepted { code, rest, line }),
-            Err(line) => Err(refused(line, Cause::Unbuilt)),
-        },
+        Ok(code) => Ok(Accepted { code, rest, line }),
         Err(CheckErr::Refused { line, why }) => Err(refused(line, Cause::Rule(why))),
         Err(CheckErr::OutOfMemory) => Err(SourceErr::OutOfMemory),
     }
 }
 
 /// Reads the deployment of a source and finds the script, which it does not read. A refusal tells the first fault of the
-/// text; where there is none, the first rule that is broken; where none is, the first statement that the host cannot carry
-/// out yet.
+/// text; where there is none, the first rule that is broken. Every other deployment is carried out.
 pub fn read_source(alloc: Global, bytes: &[u8]) -> Result<Accepted, SourceErr>
     ensures { ReadsAs (source_at bytes.now) result }
 {
