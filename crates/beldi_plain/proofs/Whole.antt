@@ -1,5 +1,5 @@
 -- A transaction as a whole: from its begin, and what its call answers.
-use Rattle.std.proofs.Common.{◌≡◌, Bool, true, false, [], length, Option, Some, None, Ok, Err, refl, ap, sym, ◌∙◌, subst}
+use Rattle.std.proofs.Common.{◌≡◌, Bool, true, false, [], Option, Some, None, Ok, Err, refl, ap, sym, ◌∙◌, subst}
 use Rattle.std.specs.Prelude.{option_and_then, if◌then◌else◌}
 use Rattle.std.specs.FinMap as map
 use Rattle.beldi_value.specs.Id.{id_total}
@@ -33,39 +33,25 @@ owner_of id q m = record { id = id; func = q.func; machine = m }
 abbrev pub draft_of : Actor → Draft
 draft_of a = record { tx = record { intent = a.id; begin = a.machine.steps; func = a.func }; undo = []; members = []; waiting = [] }
 
-module _ (d : Deployment) (p : PlainState) (id : IntentId) (q : Instance) (m : Machine) (a : Actor) (h : Draft)
-    (ready : IsReady d p id m)
-    (begins : m.effect ≡ effect.Begin)
-    (here : map.get p.made id ≡ Some q)
-    (owner : a ≡ owner_of id q m)
-    (first : h ≡ draft_of a) where
-  abbrev t : TxId
-  t = tx_begun id q
+-- the owner at the front and its draft, where the transaction begins
+pub record Opens (d : Deployment) (p : PlainState) (id : IntentId) (q : Instance) (a : Actor) (h : Draft) : Type 0 where
+  pub goes : GoesOn d (tx_begun id q) p q p h a
+  pub begins : a.machine.effect ≡ effect.Begin
+  pub here : map.get p.made a.id ≡ Some q
+  pub start : after p h a q answer.Done ≡ opened p id q
 
-  acts : Acts d p (owner_of id q m)
-  acts = ready_acts d p (owner_of id q m) ready (ap wants_answer begins) (λ z is. ap (λ (i : Instance). i.func) (same_instance (map.get p.made id) q z here is))
-
-  draft_is : h ≡ record { tx = t; undo = []; members = []; waiting = [] }
-  draft_is = first ∙ ap draft_of owner ∙ (λ i. record { tx = record { intent = id; begin = its_step d p (owner_of id q m) acts q here i; func = q.func }; undo = []; members = []; waiting = [] })
-
-  pub first_goes : GoesOn d t p q p h a
-  first_goes = subst (GoesOn d t p q p h) (sym owner) (record {
-    draft = first_draft t p q h here draft_is;
-    acts = acts;
-    line = subst (λ (h : Draft). Line d t p h.members id h.waiting) (sym draft_is) refl;
-  })
-
-  pub begins_too : a.machine.effect ≡ effect.Begin
-  begins_too = ap (λ (b : Actor). b.machine.effect) owner ∙ begins
-
-  pub here_too : map.get p.made a.id ≡ Some q
-  here_too = ap (λ (b : Actor). map.get p.made b.id) owner ∙ here
-
-  pub begun_few : h.tx.begin ≡ length q.answers
-  begun_few = ap (λ (k : Draft). k.tx.begin) draft_is
-
-  pub opened_so : after p h a q answer.Done ≡ opened p id q
-  opened_so = ap (λ (k : Draft). after p k a q answer.Done) draft_is ∙ ap (λ (b : Actor). after p (record { tx = t; undo = []; members = []; waiting = [] }) b q answer.Done) owner
+pub opens : {d : Deployment} {p : PlainState} {id : IntentId} {m : Machine} {a : Actor} {h : Draft} (q : Instance) → IsReady d p id m × (m.effect ≡ effect.Begin) → map.get p.made id ≡ Some q → a ≡ owner_of id q m → h ≡ draft_of a → Opens d p id q a h
+opens {d} {p} {id} {m} {a} {h} q (ready, begins) here owner first =
+    let t = tx_begun id q in
+    let acts : Acts d p (owner_of id q m) = ready_acts d p (owner_of id q m) ready (ap wants_answer begins) (λ z is. ap (λ (i : Instance). i.func) (same_instance (map.get p.made id) q z here is)) in
+    let draft : h ≡ record { tx = t; undo = []; members = []; waiting = [] } =
+    first ∙ ap draft_of owner ∙ (λ i. record { tx = record { intent = id; begin = its_step d p (owner_of id q m) acts q here i; func = q.func }; undo = []; members = []; waiting = [] }) in
+    subst (λ (a : Actor). Opens d p id q a h) (sym owner) (record {
+      goes = record { draft = first_draft t p q h here draft; acts = acts; line = subst (λ (h : Draft). Line d t p h.members id h.waiting) (sym draft) refl };
+      begins = begins;
+      here = here;
+      start = ap (λ (k : Draft). after p k (owner_of id q m) q answer.Done) draft;
+    })
 
 -- ---- what it comes to
 
