@@ -268,10 +268,7 @@ impl State {
             drop(front);
             return Err(PlainErr::NotEnabled(no_end(commit)));
         }
-        let front = match self.give(alloc, code, front, Answer::Done) {
-            Ok(front) => front,
-            Err(_) => return Err(PlainErr::OutOfMemory),
-        };
+        let front = self.give(alloc, code, front, Answer::Done)?;
         Ok(front)
     }
 
