@@ -285,13 +285,12 @@ impl<'a> Plain<'a> {
         ensures same { self.new ≡ self.old }
         ensures stands { StandsAtBegin self.old.code self.old.state id.now result }
     {
-        let kept = id.copy(self.alloc)?;
         let machine = match self.machine(id) {
             Ok(machine) => machine,
             Err(why) => return Err(why),
         };
         if !matches!(machine.wants(), Effect::Begin) {
-            self.keep(kept, machine);
+            drop(machine);
             return Err(PlainErr::NotEnabled(Bar::OtherEffect));
         }
         Ok(machine)
