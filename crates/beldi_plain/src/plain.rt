@@ -245,10 +245,7 @@ impl<'a> Plain<'a> {
             Ok(machine) => machine,
             Err(why) => return Err(why),
         };
-        let owner = match self.state.piece(self.alloc, self.code.code(), id, machine) {
-            Ok(owner) => owner,
-            Err(why) => return Err(why),
-        };
+        let owner = self.state.piece(self.alloc, self.code.code(), id, machine)?;
         self.machines.keep(owner.id, owner.machine);
         Ok(())
     }
@@ -269,13 +266,9 @@ impl<'a> Plain<'a> {
             Ok(machine) => machine,
             Err(why) => return Err(why),
         };
-        let owner = match self
+        let owner = self
             .state
-            .try_piece(self.alloc, self.code.code(), id, machine, place, holder)
-        {
-            Ok(owner) => owner,
-            Err(why) => return Err(why),
-        };
+            .try_piece(self.alloc, self.code.code(), id, machine, place, holder)?;
         self.machines.keep(owner.id, owner.machine);
         Ok(())
     }

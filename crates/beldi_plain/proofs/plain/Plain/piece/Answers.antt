@@ -21,7 +21,7 @@ invariant_of-self-2 c =
     let state = c.self-2.inside.state in
     let b = subst (λ (x : Executor). Begins x.code x.state id c.in-Ok.machine) (sym (c.self-2.view_is ∙ c.begin.ensures.same)) c.in-Ok.ensures.stands in
     let q = b.free.ready.instance in
-    let owner = c.in-Ok-piece.owner in
-    let done = subst (λ (d : Deployment). Pieced d state id q c.piece.new.self (Ok owner)) c.code.ensures.same (c.in-Ok-piece.ensures q b.free.ready.made) in
+    let owner = c.in_ok-owner.owner in
+    let done = subst (λ (d : Deployment). Pieced d state id q c.piece.new.self (Ok owner)) c.code.ensures.same (c.in_ok-owner.ensures q b.free.ready.made) in
     transacted c.self-2.inside.code.now state c.piece.new.self c.self-2.inside.machines c.keep.new.self id owner.machine c.self-2.invariant done.3 done.0
     (subst (λ (i : IntentId). IsKept c.self-2.inside.machines c.keep.new.self i owner.machine) done.1 c.keep.ensures)
