@@ -1,10 +1,10 @@
 -- What an operation leaves of the plain items, and of who holds their locks.
-use Rattle.std.proofs.Common.{◌≡◌, Bool, true, false, cond, List, [], ◌∷◌, ◌++◌, Option, None, Some, is_some, refl, ap, sym, ◌∙◌, subst, append_assoc, append-nil, ℕ}
+use Rattle.std.proofs.Common.{◌≡◌, Bool, true, false, cond, List, [], ◌∷◌, ◌++◌, Option, None, Some, is_some, refl, ap, sym, ◌∙◌, append_assoc, append-nil, ℕ}
 use Rattle.std.specs.FinMap as map
 use Rattle.std.specs.FinMap.{FinMap, get-insert, get-remove}
 use Rattle.std.specs.Cmp.{Equal-is}
 use Rattle.std.specs.Ordering.{is_eq}
-use Rattle.beldi_value.specs.Id.{id_cmp, id_total, id_exact}
+use Rattle.beldi_value.specs.Id.{id_cmp, id_exact}
 use Rattle.beldi_value.specs.declared.id.IntentId.{IntentId}
 use Rattle.beldi_value.specs.declared.place.Owner.{Owner}
 use Rattle.beldi_value.specs.declared.place.Owner.TheVariants.{Intent, Tx}
@@ -15,9 +15,9 @@ use Rattle.beldi_tree.specs.declared.deployment.Deployment.{Deployment}
 use Rattle.beldi_lang.specs.declared.effect.Answer.{Answer}
 use Rattle.beldi_lang.specs.Wants.{wants}
 use Rattle.beldi_plain.specs.Item.{Item, item_cmp, item_total, item_exact}
-use Rattle.beldi_plain.specs.Holds.{held_if, held_along, holds, holds_as}
+use Rattle.beldi_plain.specs.Holds.{held_if, held_along, holds}
 use Rattle.beldi_plain.specs.Operation.{op_of, or_old, set_if, set_item}
-use Rattle.beldi_plain.specs.Plain.{Instance, PlainState, answered, effect_of}
+use Rattle.beldi_plain.specs.Plain.{Instance, answered, effect_of}
 use Rattle.beldi_order.proofs.Maps.{made_set}
 
 pub item_same : (x y : Item) → is_eq (item_cmp x y) ≡ true → x ≡ y
@@ -70,13 +70,3 @@ module _ (d : Deployment) (x : Item) (f : FinMap id_cmp Instance) (id : IntentId
 abbrev pub IsOther : IntentId → Owner → Type 0
 IsOther id (Intent j) = is_eq (id_cmp j id) ≡ false
 IsOther id (Tx t) = Unit {0}
-
--- what is so of its holder after an answer more, and of all others before, is so of all
-pub holds_more : (d : Deployment) (p : PlainState) (items : FinMap item_cmp Value) (id : IntentId) (q : Instance) (a : Answer) → map.get p.made id ≡ Some q → (x : Item) (P : Owner → Bool → Type 0)
-    → P (Intent id) (held_if x q.func (op_of (effect_of d q)) (holds d x (map.get p.made id))) → ((o : Owner) → IsOther id o → P o (holds_as d p x o)) → (o : Owner) → P o (holds_as d (record { items = items; made = map.insert p.made id (answered q a) }) x o)
-holds_more d p items id q a is x P here others (Tx t) = others (Tx t) tt
-holds_more d p items id q a is x P here others (Intent j) = subst (λ o. P (Intent j) (holds d x o)) (sym (get-insert id_total p.made id (answered q a) j)) (elim (is_eq (id_cmp j id)) as (λ b. is_eq (id_cmp j id) ≡ b → P (Intent j) (holds d x (cond b (Some (answered q a)) (map.get p.made j)))) [
-  | true ↦ λ e. subst (λ z. P (Intent z) (holds d x (Some (answered q a)))) (sym (id_same j id e))
-      (subst (P (Intent id)) (ap (λ o. held_if x q.func (op_of (effect_of d q)) (holds d x o)) is ∙ sym (held_pushed d x q.func q.args (is_some q.within) [] q.answers a false)) here)
-  | false ↦ λ e. others (Intent j) e
-] refl)

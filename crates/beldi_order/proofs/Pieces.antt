@@ -64,10 +64,6 @@ and_both true c h = (refl, h)
 and_both false c h = cc
 
 -- ---- what goes on by plain moves until it stops
-abbrev with_front : {X : Type 0} → Option Instance → X → (Instance → X) → X
-with_front None x f = x
-with_front (Some q) x f = f q
-
 module _ (d : Deployment) (t : TxId) (go : ℕ → Going → Option PlainState) (stops : Going → Instance → Bool) (last : ℕ → Going → Instance → Option PlainState)
     (starts : (s : Going) → go zero s ≡ None)
     (nobody : (n : ℕ) (s : Going) → map.get s.state.made s.front ≡ None → go (suc n) s ≡ None)
