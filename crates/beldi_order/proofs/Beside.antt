@@ -122,7 +122,7 @@ in_state p s = record { state = p; front = s.front }
 abbrev pub SameMembers : TxId → PlainState → PlainState → Type 0
 SameMembers t p s = (i : IntentId) → IsIn t i → map.get p.made i ≡ map.get s.made i
 
-set_alike : (f g : FinMap id_cmp Instance) (k i : IntentId) (z : Instance) → map.get f i ≡ map.get g i → map.get (map.insert f k z) i ≡ map.get (map.insert g k z) i
+pub set_alike : (f g : FinMap id_cmp Instance) (k i : IntentId) (z : Instance) → map.get f i ≡ map.get g i → map.get (map.insert f k z) i ≡ map.get (map.insert g k z) i
 set_alike f g k i z h = get-insert id_total f k z i ∙ ap (cond (is_eq (id_cmp i k)) (Some z)) h ∙ sym (get-insert id_total g k z i)
 
 -- one move, in another state

@@ -1,5 +1,5 @@
 -- An entry of another leaves an instance that stands at its Begin, and the items that the entry does not touch.
-use Rattle.std.proofs.Common.{◌≡◌, inl, inr, ◌<◌, ℕ, true, false, cond, List, [], ◌∷◌, ◌++◌, length, Option, None, Some, refl, ap, sym, ◌∙◌, subst, append-nil, append_assoc, arith}
+use Rattle.std.proofs.Common.{◌≡◌, inl, inr, ◌<◌, ◌≤◌, ℕ, true, false, cond, List, [], ◌∷◌, ◌++◌, length, Option, None, Some, refl, ap, sym, ◌∙◌, subst, append-nil, append_assoc, arith}
 use Rattle.std.specs.Option.{option_map}
 use Rattle.std.specs.FinMap as map
 use Rattle.std.specs.FinMap.{FinMap, get-insert}
@@ -7,6 +7,7 @@ use Rattle.std.specs.Ordering.{is_eq}
 use Rattle.beldi_value.specs.Id.{root_of, child_of, id_cmp, id_total}
 use Rattle.beldi_value.specs.declared.id.IntentId.{IntentId}
 use Rattle.beldi_value.specs.declared.place.Place.{Place}
+use Rattle.beldi_value.specs.declared.place.TxId.{TxId}
 use Rattle.beldi_tree.specs.declared.deployment.Deployment.{Deployment}
 use Rattle.beldi_lang.specs.declared.effect.Answer.TheVariants as answer
 use Rattle.beldi_lang.specs.declared.effect.Effect.{Effect}
@@ -24,35 +25,39 @@ use Rattle.beldi_plain.specs.Plain.{Instance, PlainState, new_instance, answered
 use Rattle.beldi_plain.specs.declared.kind.Kind.{Kind}
 use Rattle.beldi_plain.specs.declared.kind.Kind.TheVariants as kinds
 use Rattle.beldi_order.specs.Inside.{IsBelow, IsIn, EntriesTouchWhatTheyChange, OthersLeaveTransactions}
+use Rattle.beldi_order.specs.Sane.{IsCalled}
 use Rattle.beldi_order.proofs.Beside.{kept_by, kept, others, beside}
 use Rattle.beldi_order.proofs.Called.{Linked}
 use Rattle.beldi_order.proofs.Entries.{did, Stepped, absent, answer_keeps}
 use Rattle.beldi_order.proofs.Line.{line_opened}
-use Rattle.beldi_order.proofs.Maps.{same_some, still_made, elsewhere}
+use Rattle.beldi_order.proofs.Maps.{same_some, still_made, elsewhere, none_by}
 use Rattle.beldi_order.proofs.Sanes.{SaneWith, waited_in}
 use Rattle.beldi_order.proofs.Sound.{sane_with, after_sane, answers_nobody, answers_waiter}
 use Rattle.beldi_order.proofs.Touched.{written_touched}
 
 -- ---- who is below an instance at a step that it has not come to was not made
+module _ (f : FinMap id_cmp Instance) (childless : (i : IntentId) → map.get f i ≡ None → (n : ℕ) → map.get f (child_of i n) ≡ None)
+    (later : (i : IntentId) (q : Instance) (n : ℕ) → map.get f i ≡ Some q → length q.answers < n → map.get f (child_of i n) ≡ None) where
+  none_from : (i : IntentId) (hops : List ℕ) → map.get f i ≡ None → map.get f (record { ticket = i.ticket; hops = i.hops ++ hops }) ≡ None
+  none_from i [] is = ap (λ hs. map.get f (record { ticket = i.ticket; hops = hs })) (append-nil i.hops) ∙ is
+  none_from i (n ∷ hops) is = ap (λ hs. map.get f (record { ticket = i.ticket; hops = hs })) (sym (append_assoc i.hops (n ∷ []) hops)) ∙ none_from (child_of i n) hops (childless i is n)
+
+  pub none_after : (t : TxId) → ((q : Instance) → map.get f t.intent ≡ Some q → length q.answers ≤ t.begin) → (i : IntentId) → IsBelow t i → map.get f i ≡ None
+  none_after t few i b = ap (map.get f) (b.is ∙ ap (λ hs. record { ticket = t.intent.ticket; hops = hs }) (sym (append_assoc t.intent.hops (b.step ∷ []) b.hops))) ∙ none_from (child_of t.intent b.step) b.hops (by_owner (map.get f t.intent) refl)
+    where
+      by_owner : (o : Option Instance) → map.get f t.intent ≡ o → map.get f (child_of t.intent b.step) ≡ None
+      by_owner None is = childless t.intent is b.step
+      by_owner (Some q) is = later t.intent q b.step is (let n = few q is in let l = b.later in omega (arith, n, l))
+
 module _ (d : Deployment) (f : FinMap id_cmp Instance) (h : SaneWith d None f) where
   pub no_callees : (i : IntentId) → map.get f i ≡ None → (n : ℕ) → map.get f (child_of i n) ≡ None
   no_callees i is n = subst (λ o. Linked d i o n (map.get f (child_of i n))) is (h.links i n)
 
   pub no_later : (i : IntentId) (q : Instance) (n : ℕ) → map.get f i ≡ Some q → length q.answers < n → map.get f (child_of i n) ≡ None
-  no_later i q n is lt = by_callee (map.get f (child_of i n)) (subst (λ o. Linked d i o n (map.get f (child_of i n))) is (h.links i n))
-    where
-      by_callee : (o : Option Instance) → Linked d i (Some q) n o → o ≡ None
-      by_callee None l = refl
-      by_callee (Some j) l = let k = l.here in absurd (omega (arith, lt, k))
-
-  none_from : (i : IntentId) (hops : List ℕ) → map.get f i ≡ None → map.get f (record { ticket = i.ticket; hops = i.hops ++ hops }) ≡ None
-  none_from i [] is = ap (λ hs. map.get f (record { ticket = i.ticket; hops = hs })) (append-nil i.hops) ∙ is
-  none_from i (n ∷ hops) is = ap (λ hs. map.get f (record { ticket = i.ticket; hops = hs })) (sym (append_assoc i.hops (n ∷ []) hops)) ∙ none_from (child_of i n) hops (no_callees i is n)
+  no_later i q n is lt = none_by (map.get f (child_of i n)) (λ j on. let l : IsCalled d i q n j = subst (Linked d i (Some q) n) on (subst (λ o. Linked d i o n (map.get f (child_of i n))) is (h.links i n)) in let k = l.here in omega (arith, lt, k))
 
   pub none_below : (id : IntentId) (q : Instance) (i : IntentId) → map.get f id ≡ Some q → IsBelow (tx_begun id q) i → map.get f i ≡ None
-  none_below id q i is b =
-      ap (map.get f) (b.is ∙ ap (λ hs. record { ticket = id.ticket; hops = hs }) (sym (append_assoc id.hops (b.step ∷ []) b.hops)))
-      ∙ none_from (child_of id b.step) b.hops (no_later id q b.step is b.later)
+  none_below id q i is = none_after f no_callees no_later (tx_begun id q) (λ z made. let n = ap (λ (y : Instance). length y.answers) (same_some (sym made ∙ is)) in omega (arith, n)) i
 
 -- ---- the instance
 module _ (d : Deployment) (p : PlainState) (sane : SaneWith d None p.made) (id : IntentId) (q : Instance) (is : map.get p.made id ≡ Some q) (begins : effect_of d q ≡ effect.Begin) where

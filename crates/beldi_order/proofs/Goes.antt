@@ -7,6 +7,7 @@ use Rattle.std.specs.Ordering.{is_eq}
 use Rattle.std.proofs.lemmas.Cmp.{tied_itself}
 use Rattle.std.proofs.lemmas.List.{take_all, take-append-le}
 use Rattle.std.proofs.Math.Nat.{eq-or-lt_of_le}
+use Rattle.std.proofs.lemmas.Bool.{false_from_ne_true}
 use Rattle.beldi_value.specs.Id.{id_cmp, id_total, is_older}
 use Rattle.beldi_value.specs.declared.id.IntentId.{IntentId}
 use Rattle.beldi_value.specs.declared.place.Place.{Place}
@@ -77,7 +78,7 @@ is_plainly (effect.CondWrite b k r o v) = true
 is_plainly effect.Abort = true
 is_plainly e = false
 
-plainly_edge : (e : Effect) → is_plainly e ≡ true → is_edge e ≡ false
+pub plainly_edge : (e : Effect) → is_plainly e ≡ true → is_edge e ≡ false
 plainly_edge effect.Begin h = cc
 plainly_edge (effect.End c) h = cc
 plainly_edge e h = refl
@@ -160,11 +161,7 @@ module _ (d : Deployment) (t : TxId) (q : Instance) where
           }
 
   pub not_owner : (k : IntentId) → (k ≡ t.intent → ⊥) → is_owner t k ≡ false
-  not_owner k apart = by_test (is_owner t k) refl
-    where
-      by_test : (b : Bool) → is_owner t k ≡ b → b ≡ false
-      by_test true own = absurd (apart (sym (equal t.intent k own)))
-      by_test false own = refl
+  not_owner k apart = false_from_ne_true (is_owner t k) (λ own. apart (sym (equal t.intent k own)))
 
   -- ---- a move
   begun_by : (f : FinMap id_cmp Instance) (i : IntentId) (y : Instance) → Line d t f i → map.get f i ≡ Some y → i ≡ t.intent → t.begin < length y.answers

@@ -13,6 +13,10 @@ use Rattle.beldi_plain.specs.Plain.{Instance}
 pub same_some : {X : Type 0} {x y : X} → Some x ≡ Some y → x ≡ y
 same_some h = cc
 
+pub none_by : {X : Type 0} (o : Option X) → ((x : X) → o ≡ Some x → ⊥) → o ≡ None
+none_by None h = refl
+none_by (Some x) h = absurd (h x refl)
+
 -- ---- what holds at the key that changed, and at all keys before, holds at all keys
 pub changed : {K X : Type 0} {R : K → K → Ordering} → IsAntisymmetric R → (m n : FinMap R X) (k : K) (v : Option X) → ((q : K) → map.get n q ≡ cond (is_eq (R q k)) v (map.get m q))
     → (P : K → Option X → Type 0) → P k v → ((q : K) → P q (map.get m q)) → (q : K) → P q (map.get n q)

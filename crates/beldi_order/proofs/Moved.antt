@@ -20,15 +20,10 @@ use Rattle.beldi_plain.specs.Moves.{Move, plain, fell, moved, move_by}
 use Rattle.beldi_plain.specs.Operation.{OnItem, op_of, item_in, sets, set_if, answer_after, write, cond}
 use Rattle.beldi_plain.specs.Piece.{Going, at_instance, moves_by, returns_to, is_owner, with_member, dies_at, aborted, fallen}
 use Rattle.beldi_plain.specs.Plain.{Instance, with_instance, answered, ended, answer_to, callee_of, effect_of, unless, value_at, item_of}
-use Rattle.beldi_order.proofs.Maps.{same_some}
+use Rattle.beldi_order.proofs.Maps.{same_some, none_by}
 
 abbrev pub Items : Type 0
 Items = FinMap item_cmp Value
-
--- ---- what there is
-pub is_none_of : {X : Type 0} (o : Option X) → is_some o ≡ false → o ≡ None
-is_none_of None h = refl
-is_none_of (Some x) h = cc
 
 -- ---- an answer
 -- by the items, of the one at this id
@@ -101,7 +96,7 @@ module _ (d : Deployment) (t : TxId) (m : Move) (s : Going) where
 
     by_call : (f : ℕ) (v : Value) (b c : Bool) → has_callees s.front ≡ b → is_some (map.get s.state.made (callee_of s.front q)) ≡ c → effect_of d q ≡ effect.Call f v → m ≡ plain
         → (if b then unless c (Some (with_member t s.state s.front q f v)) else None) ≡ Some r → MoveIs d t m s r q
-    by_call f v true false short free so is h = calls (record { plainly = is; func = f; args = v; call = so; short = short; gone = is_none_of (map.get s.state.made (callee_of s.front q)) free; is = sym (same_some h) })
+    by_call f v true false short free so is h = calls (record { plainly = is; func = f; args = v; call = so; short = short; gone = none_by (map.get s.state.made (callee_of s.front q)) (λ z on. let clash = sym free ∙ ap is_some on in cc); is = sym (same_some h) })
     by_call f v true true short free so is h = cc
     by_call f v false c short free so is h = cc
 

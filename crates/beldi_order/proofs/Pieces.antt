@@ -4,6 +4,7 @@ use Rattle.std.specs.Prelude.{option_and_then, if◌then◌else◌}
 use Rattle.std.specs.FinMap as map
 use Rattle.std.specs.Ordering.{is_eq}
 use Rattle.std.proofs.lemmas.Cmp.{tied_itself}
+use Rattle.std.proofs.lemmas.Bool.{and_parts}
 use Rattle.beldi_value.specs.Id.{id_total}
 use Rattle.beldi_value.specs.declared.id.IntentId.{IntentId}
 use Rattle.beldi_value.specs.declared.outcome.Outcome.{Outcome}
@@ -58,10 +59,6 @@ some_of (Some x) k y h = (x, refl, h)
 
 left_of : (m n : ℕ) → m ≤ n → (l : ℕ) × (l + m ≡ n)
 left_of m n h = (n - m, omega (arith, h))
-
-and_both : (b c : Bool) → (b && c) ≡ true → (b ≡ true) × (c ≡ true)
-and_both true c h = (refl, h)
-and_both false c h = cc
 
 -- ---- what goes on by plain moves until it stops
 module _ (d : Deployment) (t : TxId) (go : ℕ → Going → Option PlainState) (stops : Going → Instance → Bool) (last : ℕ → Going → Instance → Option PlainState)
@@ -189,7 +186,7 @@ module _ (d : Deployment) (t : TxId) (c : Bool) where
   closed_so : (s : Going) (q : Instance) (r : PlainState) (e : Effect) → close_by t c s.state s.front q e ≡ Some r → (e ≡ effect.End c) × (s.front ≡ t.intent) × (r ≡ gives s.state t.intent q answer.Done)
   closed_so s q r (effect.End b) h =
       let w = if_some (is_owner t s.front && is_same c b) (Some (gives s.state s.front q answer.Done)) r h in
-      let both = and_both (is_owner t s.front) (is_same c b) w.0 in
+      let both = and_parts (is_owner t s.front) (is_same c b) w.0 in
       let own = sym (equal t.intent s.front both.0) in
       (ap effect.End (same_flag c b both.1), own, sym (same_some w.1) ∙ ap (λ i. gives s.state i q answer.Done) own)
   closed_so s q r e h = cc

@@ -2,7 +2,7 @@
 use Rattle.std.proofs.Common.{◌≡◌, ℕ, zero, suc, ◌+◌, ◌≤◌, ◌<◌, List, [], ◌∷◌, ◌++◌, length, Option, Some, None, refl, ap, ap₂, sym, ◌∙◌, subst, arith, append_assoc}
 use Rattle.beldi_book.specs.declared.entry.Entry.{Entry}
 use Rattle.beldi_book.specs.Order.{seen_of, if_change, changes_of, count_changes, until_change, by_change, front, back, put_by, put_read, put_reads, linear, SeenBy, SeenBounded}
-use Rattle.beldi_book.proofs.Orders.{changes_more, linear_changes, puts_keep, front_back}
+use Rattle.beldi_book.proofs.Orders.{changes_more, changes_twice, puts_keep, front_back}
 
 -- the number of changes, with an entry before
 abbrev count_by : Option ℕ → ℕ → ℕ
@@ -107,13 +107,10 @@ linear_change es c h change =
     puts_last (changes_of (es ++ c ∷ [])) es c
     ∙ ap (λ o. put_by o c (put_reads (changes_of (es ++ c ∷ [])) es)) change
     ∙ ap (λ xs. put_reads xs es) (changes_more es (c ∷ []) ∙ ap (λ o. changes_of es ++ if_change o c []) change)
-    ∙ puts_more c change (changes_of es) es (subst (λ n. AllSeen n es) (from_zero (count_changes es) ∙ ap length (sym (puts_keep_all es))) (all_seen 0 es h))
+    ∙ puts_more c change (changes_of es) es (subst (λ n. AllSeen n es) (from_zero (count_changes es) ∙ ap length (sym (changes_twice es))) (all_seen 0 es h))
   where
     from_zero : (n : ℕ) → 0 + n ≡ n
     from_zero n = omega arith
-
-    puts_keep_all : (es : List Entry) → changes_of (changes_of es) ≡ changes_of es
-    puts_keep_all es = sym (puts_keep (changes_of es) es) ∙ linear_changes es
 
 -- a read stands behind the reads that are at its place
 pub linear_read : (es : List Entry) (r : Entry) (s : ℕ) → seen_of r ≡ Some s → linear (es ++ r ∷ []) ≡ front s (linear es) ++ r ∷ back s (linear es)

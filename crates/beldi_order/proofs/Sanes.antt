@@ -25,7 +25,7 @@ use Rattle.beldi_order.specs.Txs.{Txs, txs_by, txs_after, tx_by, or_own, tx_at, 
 use Rattle.beldi_order.proofs.Called.{Linked, Links, IsAlone, last_hop, not_root, not_own, next_step, effect_now, tx_here_now, made_in, caller_new, caller_answered, caller_ended, callee_answered, callee_over, callee_new, callee_ended, pairs_set, both_set}
 use Rattle.beldi_order.proofs.Ends.{ends_go_on}
 use Rattle.beldi_order.proofs.Went.{txs_pushed, went_pushed}
-use Rattle.beldi_order.proofs.Maps.{same_some, made_set, still_made, elsewhere, equal}
+use Rattle.beldi_order.proofs.Maps.{same_some, made_set, still_made, elsewhere, equal, none_by}
 
 -- ---- Begins and Ends
 abbrev pub is_edge : Effect → Bool
@@ -123,6 +123,27 @@ pub record Waited (d : Deployment) (f : FinMap id_cmp Instance) (id : IntentId) 
   pub from : q.from ≡ Some (calls_at caller waiter true)
   pub within : q.within ≡ tx_now d caller waiter
 
+-- one that stands at a call has no outcome
+pub open_at_call : (d : Deployment) (q : Instance) (g : ℕ) (v : Value) → effect_of d q ≡ effect.Call g v → ((u : Outcome) → q.outcome ≡ Some u → effect_of d q ≡ effect.Return u) → q.outcome ≡ None
+open_at_call d q g v call over = none_by q.outcome (λ u is. let clash = sym call ∙ over u is in cc)
+
+-- so who called one that has no outcome stands at its call, where it waits
+abbrev pub waited_by : (d : Deployment) (f : FinMap id_cmp Instance) (id : IntentId) (q : Instance) (i : IntentId) (n : ℕ) (z : Instance) → id ≡ child_of i n → map.get f i ≡ Some z → (c : IsCalled d i z n q) → c.waits ≡ true → q.outcome ≡ None → ((u : Outcome) → z.outcome ≡ Some u → effect_of d z ≡ effect.Return u) → Waited d f id q
+waited_by d f id q i n z same made c so none over =
+    let last = next_step z.answers n c.here (c.answered ∙ ap (λ b. answer_given b q.outcome) so ∙ ap (option_map answer_of) none) in
+    let stands = sym (effect_now d z) ∙ ap (effect_before d z) (sym last) ∙ c.call ∙ ap (λ b. call_of b q.func q.args) so in
+    record {
+      caller = i;
+      waiter = z;
+      is_callee = same ∙ ap (child_of i) last;
+      made = made;
+      open_still = open_at_call d z q.func q.args stands over;
+      stands = stands;
+      called = subst (λ m. IsCalled d i z m q) last c;
+      from = c.from ∙ ap (λ m. Some (record { place = record { intent = i; step = m }; func = z.func; waits = c.waits })) last ∙ ap (λ b. Some (calls_at i z b)) so;
+      within = c.within ∙ ap (λ b. within_by b (tx_at d i z n)) so ∙ ap (tx_at d i z) last ∙ tx_here_now d z i;
+    }
+
 -- nobody waits for it, and it was called in no transaction
 pub record Unwaited (q : Instance) : Type 0 where
   pub alone : IsAlone q.from
@@ -131,11 +152,6 @@ pub record Unwaited (q : Instance) : Type 0 where
 module _ (d : Deployment) (o : Option TxId) (f : FinMap id_cmp Instance) (h : SaneWith d o f) where
   pub sane_in : (id : IntentId) (q : Instance) → map.get f id ≡ Some q → SaneIn d o id q
   sane_in id q is = subst (λ u. SaneInAt d o id u) is (h.each id)
-
-  -- one that stands at a call has no outcome
-  open_at_call : (id : IntentId) (q : Instance) (g : ℕ) (v : Value) → SaneIn d o id q → effect_of d q ≡ effect.Call g v → (u : Option Outcome) → q.outcome ≡ u → u ≡ None
-  open_at_call id q g v s call None is = refl
-  open_at_call id q g v s call (Some u) is = let c = sym call ∙ s.over u is in cc
 
   pub called_at : (i : IntentId) (n : ℕ) (j : Instance) → map.get f (child_of i n) ≡ Some j → (q : Instance) × (map.get f i ≡ Some q) × IsCalled d i q n j
   called_at i n j on = by_caller (map.get f i) refl (subst (Linked d i (map.get f i) n) on (h.links i n))
@@ -163,20 +179,7 @@ module _ (d : Deployment) (o : Option TxId) (f : FinMap id_cmp Instance) (h : Sa
         alone = λ a from. ap (λ (y : Caller). y.waits) (same_some (sym from ∙ c.from)) ∙ so;
         outside = c.within ∙ ap (λ b. within_by b (tx_at d i z n)) so;
       })
-      by_waits i n same z made c true so =
-          let last = next_step z.answers n c.here (c.answered ∙ ap (λ b. answer_given b q.outcome) so ∙ ap (option_map answer_of) none) in
-          let stands = sym (effect_now d z) ∙ ap (effect_before d z) (sym last) ∙ c.call ∙ ap (λ b. call_of b q.func q.args) so in
-          inr (record {
-            caller = i;
-            waiter = z;
-            is_callee = same ∙ ap (child_of i) last;
-            made = made;
-            open_still = open_at_call i z q.func q.args (sane_in i z made) stands z.outcome refl;
-            stands = stands;
-            called = subst (λ m. IsCalled d i z m q) last c;
-            from = c.from ∙ ap (λ m. Some (record { place = record { intent = i; step = m }; func = z.func; waits = c.waits })) last ∙ ap (λ b. Some (calls_at i z b)) so;
-            within = c.within ∙ ap (λ b. within_by b (tx_at d i z n)) so ∙ ap (tx_at d i z) last ∙ tx_here_now d z i;
-          })
+      by_waits i n same z made c true so = inr (waited_by d f id q i n z same made c so none (sane_in i z made).over)
 
   -- the owner of the open transaction stands at a call
   pub record OwnerCalls : Type 0 where
@@ -223,11 +226,7 @@ module _ (d : Deployment) (o : Option TxId) (f : FinMap id_cmp Instance) (h : Sa
 
   -- ---- one that is open, outside of transactions
   pub outside_of : o ≡ None → (i : IntentId) (q : Instance) → map.get f i ≡ Some q → q.outcome ≡ None → q.within ≡ None
-  outside_of none i q is yet = by_within q.within refl
-    where
-      by_within : (x : Option TxId) → q.within ≡ x → x ≡ None
-      by_within None e = refl
-      by_within (Some u) e = let w = open_in i q u is e yet in let c = sym none ∙ w.is in cc
+  outside_of none i q is yet = none_by q.within (λ u e. let w = open_in i q u is e yet in let c = sym none ∙ w.is in cc)
 
   -- ---- an answer to another effect than a call, a Begin or an End
   module _ (id : IntentId) (q : Instance) (is : map.get f id ≡ Some q) (none : q.outcome ≡ None) where

@@ -10,7 +10,6 @@ use Rattle.std.proofs.Math.Nat.{eq-or-lt_of_le}
 use Rattle.std.proofs.lemmas.Bool.Decides.{nat_tests}
 use Rattle.beldi_value.specs.Id.{id_cmp, id_total, root_of}
 use Rattle.beldi_value.specs.declared.id.IntentId.{IntentId}
-use Rattle.beldi_value.specs.declared.outcome.Outcome.{Outcome}
 use Rattle.beldi_value.specs.declared.place.TxId.{TxId}
 use Rattle.beldi_value.specs.declared.value.Value.{Value}
 use Rattle.beldi_tree.specs.declared.deployment.Deployment.{Deployment}
@@ -27,7 +26,7 @@ use Rattle.beldi_order.proofs.Called.{Linked, caller_answered, callee_answered, 
 use Rattle.beldi_order.proofs.Ends.{ended_stays}
 use Rattle.beldi_order.proofs.Goes.{GoingSane}
 use Rattle.beldi_order.proofs.Line.{line_opened}
-use Rattle.beldi_order.proofs.Maps.{same_some, here, made_set, equal}
+use Rattle.beldi_order.proofs.Maps.{same_some, here, made_set, equal, none_by}
 use Rattle.beldi_order.proofs.Sanes.{open_of, SaneIn, SaneInAt, SaneWith, Follows, follows_answer, sane_in, good_set}
 use Rattle.beldi_order.proofs.Went.{txs_pushed, went_pushed}
 
@@ -194,11 +193,7 @@ module _ (d : Deployment) (t : TxId) (q : Instance) (s : Going) (h : GoingSane d
     as_longer = λ i. record { func = grown.func i; args = grown.args i; from = grown.from i; within = grown.within i; answers = all i; outcome = same_outcome i }
       where
         same_outcome : last.outcome ≡ q.outcome
-        same_outcome = open_still ∙ sym (none_before q.outcome refl)
-          where
-            none_before : (o : Option Outcome) → q.outcome ≡ o → o ≡ None
-            none_before None e = refl
-            none_before (Some u) e = let k = sym (grown.over u e) ∙ open_still in cc
+        same_outcome = open_still ∙ sym (none_by q.outcome (λ u e. let k = sym (grown.over u e) ∙ open_still in cc))
 
     abbrev longer : Instance
     longer = record q { answers = q.answers ++ rest }
