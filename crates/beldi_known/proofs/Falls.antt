@@ -28,7 +28,7 @@ use Rattle.beldi_order.specs.Inside.{IsIn, Line, top, next, WrittenIn, written_a
 use Rattle.beldi_order.specs.Sane.{IsAnswer}
 use Rattle.beldi_order.specs.Txs.{tx_after, tx_now, effect_after}
 use Rattle.beldi_order.proofs.Entries.{moves_grow}
-use Rattle.beldi_order.proofs.Goes.{IsSound, AllSound, GoingSane, going_moved, line_tx, answered_plainly, is_plainly}
+use Rattle.beldi_order.proofs.Goes.{IsSound, AllSound, GoingSane, going_moved, line_tx, answered_plainly, is_plainly, plainly_edge}
 use Rattle.beldi_order.proofs.Line.{all_in, line_moved, returned}
 use Rattle.beldi_order.proofs.Maps.{same_some, here}
 use Rattle.beldi_order.proofs.Moved.{Items, answer_inside, Answers, MoveIs, answers, calls, returns, move_is, mover}
@@ -143,11 +143,6 @@ module _ (d : Deployment) (t : TxId) (q : Instance) (outside : q.within ≡ None
         made = y.1;
         grown = y.2;
       }
-
-  pub plainly_edge : (e : Effect) → is_plainly e ≡ true → is_edge e ≡ false
-  plainly_edge effect.Begin g = cc
-  plainly_edge (effect.End c) g = cc
-  plainly_edge e g = refl
 
   -- ---- who lets one die is older: so it is known
   sound_at : (m : Move) (s r l : Going) (ms : List Move) → GoingSane d t q s → moved d t m s ≡ Some r → Leads d t r ms l → ((i : IntentId) (y : Instance) → IsIn t i → map.get l.state.made i ≡ Some y → SaneInstance d i y) → IsSound t m

@@ -29,18 +29,19 @@ use Rattle.beldi_order.specs.Txs.{Txs, txs_after, txs_by, tx_by, tx_at, tx_now, 
 use Rattle.beldi_order.proofs.Called.{last_hop, next_step, effect_now, tx_here_now}
 use Rattle.beldi_order.proofs.Ends.{fits_at}
 use Rattle.beldi_order.proofs.Foreign.{none_below}
-use Rattle.beldi_order.proofs.Goes.{answered_plainly, is_plainly}
+use Rattle.beldi_order.proofs.Goes.{answered_plainly, plainly_edge}
 use Rattle.beldi_order.proofs.Line.{all_in, in_line, line_alike, line_moved, line_opened, long, longer, not_longer, returned}
 use Rattle.beldi_order.proofs.Maps.{same_some, equal, elsewhere}
 use Rattle.beldi_order.proofs.Moved.{Answers, Calls, Returns, MoveIs, answers, calls, returns, move_is, mover}
 use Rattle.beldi_order.proofs.Sanes.{is_edge, tx_is, begun_pushed, SaneWith, outside_of}
 use Rattle.beldi_order.proofs.Sound.{sane_with}
 use Rattle.beldi_order.proofs.Went.{txs_pushed}
-use Rattle.beldi_known.specs.Beside.{Beside, OpenTx, begins}
+use Rattle.beldi_known.specs.Beside.{Beside, OpenTx, begins, is_begin}
 use Rattle.beldi_known.specs.InsideLaws.{OpensAreOpen}
 use Rattle.beldi_known.specs.Known.{Known, answer_at_once}
 use Rattle.beldi_known.specs.Sane.{Sane}
 use Rattle.beldi_known.proofs.NoTx.{begins_parts}
+use Rattle.beldi_known.proofs.OneFunction.{Own, own_by}
 
 -- ---- ids
 -- an id, or one that was called below it
@@ -112,11 +113,6 @@ pub record Member (d : Deployment) (t : TxId) (q : Instance) (front i : IntentId
 abbrev pub Members : Deployment → TxId → Instance → Going → Type 0
 Members d t q s = (i : IntentId) (z : Instance) → IsIn t i → map.get s.state.made i ≡ Some z → Member d t q s.front i z
 
-no_edge : (e : Effect) → is_plainly e ≡ true → is_edge e ≡ false
-no_edge effect.Begin h = cc
-no_edge (effect.End c) h = cc
-no_edge e h = refl
-
 module _ (d : Deployment) (t : TxId) (q : Instance) where
   owner_answered : (z : Instance) (a : Answer) → is_edge (effect_of d z) ≡ false → OwnerNow d t q z → OwnerNow d t q (answered z a)
   owner_answered z a edge h = record { func = h.func; args = h.args; from = h.from; within = h.within; open_still = h.open_still; begun = begun_pushed d z a edge ∙ h.begun }
@@ -134,7 +130,7 @@ module _ (d : Deployment) (t : TxId) (q : Instance) where
 
     by_answer : (z : Instance) → map.get s.state.made s.front ≡ Some z → (a : Answers d t m s r z) → Members d t q r
     by_answer z made a = subst (Members d t q) (sym a.is) (λ i w is_in has. elim (set_cases s.state.made s.front i (answered z a.answer) w has) [
-      | inl same ↦ member_answered s.front i s.front z w a.answer (no_edge (effect_of d z) (answered_plainly s.front s.state.items z (effect_of d z) m a.answer a.gives_it)) (h s.front z front_in made) same
+      | inl same ↦ member_answered s.front i s.front z w a.answer (plainly_edge (effect_of d z) (answered_plainly s.front s.state.items z (effect_of d z) m a.answer a.gives_it)) (h s.front z front_in made) same
       | inr other ↦ h i w is_in other.1
     ])
 
@@ -261,17 +257,6 @@ module _ (d : Deployment) (known : Known) (sane : Sane d known) (s : TxId) (i : 
       by_outcome k w made call None e = refl
       by_outcome k w made call (Some o) e = let clash = sym call ∙ (sane.each k w made).over o e in cc
 
--- the transaction of a step of one that was called in none is its own, and its Begin is the one that is open
-pub record OwnTx (id : IntentId) (func : ℕ) (o : Option ℕ) (t : TxId) : Type 0 where
-  pub intent : t.intent ≡ id
-  pub func_is : t.func ≡ func
-  pub begun : o ≡ Some t.begin
-
-pub own_tx : (id : IntentId) (func n : ℕ) (e : Effect) (o : Option ℕ) (t : TxId) → (e ≡ effect.Begin → ⊥) → tx_by id func n e o ≡ Some t → OwnTx id func o t
-own_tx id func n effect.Begin o t g h = absurd (g refl)
-own_tx id func n e None t g h = cc
-own_tx id func n e (Some b) t g h = let k = same_some h in record { intent = ap (λ (z : TxId). z.intent) (sym k); func_is = ap (λ (z : TxId). z.func) (sym k); begun = ap (λ (z : TxId). Some z.begin) k }
-
 -- ---- the line: all but its last wait for a callee that is there
 record Waits (d : Deployment) (f : FinMap id_cmp Instance) (i : IntentId) : Type 0 where
   instance : Instance
@@ -396,7 +381,7 @@ module _ (d : Deployment) (p : PlainState) (known : Known) (sane : plain.Sane d 
         by_within : (x : Option TxId) → c.waiter.within ≡ x → IsIn (tx_begun id q) (child_of c.caller c.step)
         by_within None e =
             let ts = take c.step c.waiter.answers in
-            let o = own_tx c.caller c.waiter.func (length ts) (effect_before d c.waiter c.step) (txs_after d c.waiter ts).begun this (λ g. let clash = sym g ∙ c.call in cc)
+            let o = own_by c.caller c.waiter.func (length ts) (effect_before d c.waiter c.step) (txs_after d c.waiter ts).begun this (ap is_begin c.call)
             (sym (ap (λ x. or_own x (tx_by c.caller c.waiter.func (length ts) (effect_before d c.waiter c.step) (txs_after d c.waiter ts).begun)) e) ∙ c.within) in
             inr (record {
               step = c.step;
@@ -458,7 +443,7 @@ pub record OpenOwner (d : Deployment) (p : PlainState) (s : TxId) : Type 0 where
   pub is : s ≡ tx_begun s.intent owner
 
 module _ (d : Deployment) (p : PlainState) (known : Known) (plain_sane : plain.Sane d p) (sane : Sane d known) (beside : Beside d p known) (s : TxId) where
-  own_open : (i : IntentId) (z : Instance) → map.get known i ≡ Some z → z.within ≡ None → (o : OwnTx i z.func (txs_after d z z.answers).begun s) → OpenOwner d p s
+  own_open : (i : IntentId) (z : Instance) → map.get known i ≡ Some z → z.within ≡ None → (o : Own i z.func (txs_after d z z.answers).begun s) → OpenOwner d p s
   own_open i z is outside o = by_made (map.get p.made i) refl
     where
       by_begins : (q : Instance) (b : Bool) → map.get p.made i ≡ Some q → begins d q ≡ b → OpenOwner d p s
@@ -484,8 +469,12 @@ module _ (d : Deployment) (p : PlainState) (known : Known) (plain_sane : plain.S
       let w = waits_for d known sane s i z is within none in
       open_up n w.caller w.waiter (let m = longer w.caller (length w.waiter.answers) in let k = ap (λ (y : IntentId). length y.hops) w.is in omega (arith, few, m, k)) w.made w.open_still w.within)
     where
+      no_begin : (e : Effect) → answer_at_once i (length z.answers) e ≡ None → is_begin e ≡ false
+      no_begin effect.Begin h = cc
+      no_begin e h = refl
+
       by_within : (x : Option TxId) → z.within ≡ x → (z.within ≡ Some s → OpenOwner d p s) → OpenOwner d p s
-      by_within None e up = own_open i z is e (own_tx i z.func (length z.answers) (effect_of d z) (txs_after d z z.answers).begun s (λ g. let clash = sym (sane.closed i z is none) ∙ ap (answer_at_once i (length z.answers)) g in cc)
+      by_within None e up = own_open i z is e (own_by i z.func (length z.answers) (effect_of d z) (txs_after d z z.answers).begun s (no_begin (effect_of d z) (sane.closed i z is none))
           (sym (ap (λ x. or_own x (tx_by i z.func (length z.answers) (effect_of d z) (txs_after d z z.answers).begun)) e) ∙ now))
       by_within (Some x) e up = up (e ∙ sym (ap (λ x. or_own x (tx_by i z.func (length z.answers) (effect_of d z) (txs_after d z z.answers).begun)) e) ∙ now)
 

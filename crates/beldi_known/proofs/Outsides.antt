@@ -27,7 +27,7 @@ use Rattle.beldi_plain.specs.Moves.{fell, TouchedIn}
 use Rattle.beldi_plain.specs.Operation.{set_if, or_old, touched}
 use Rattle.beldi_plain.specs.Piece.{aborted, dies_at, is_aborted, opened, tx_begun}
 use Rattle.beldi_plain.specs.Plain.{Instance, PlainState, answered, ended, effect_of, value_at, with_instance}
-use Rattle.beldi_order.specs.Inside.{IsIn, IsBelow, Alike}
+use Rattle.beldi_order.specs.Inside.{IsIn, IsBelow}
 use Rattle.beldi_order.specs.Inside as inside
 use Rattle.beldi_order.specs.Sane as plain
 use Rattle.beldi_order.specs.Sane.{CalledBy}
@@ -53,7 +53,8 @@ use Rattle.beldi_known.proofs.Answers.{true_false}
 use Rattle.beldi_known.proofs.Begins.{aborts_inside}
 use Rattle.beldi_known.proofs.Frame.{at_once_same, moved_one}
 use Rattle.beldi_known.proofs.FrameAt.{known_set}
-use Rattle.beldi_known.proofs.Lines.{CallerOf, below_child, caller_in, own_tx, parent_in}
+use Rattle.beldi_known.proofs.Lines.{CallerOf, below_child, caller_in, parent_in}
+use Rattle.beldi_known.proofs.OneFunction.{own_by}
 use Rattle.beldi_known.proofs.Locks.{tx_same}
 use Rattle.beldi_known.proofs.NoTx.{IsOutside, begins_parts, no_begin}
 use Rattle.beldi_known.proofs.Owns.{going, got_owned, owner_known, touched_owned}
@@ -150,7 +151,7 @@ module _ (d : Deployment) (known : Known) (sane : Sane d known) where
       by_within : (c : CallerOf d known s i z) → (c.waiter.within ≡ Some s → IsBelow s c.caller) → (x : Option TxId) → c.waiter.within ≡ x → IsBelow s i
       by_within c up None e =
           let ts = take c.step c.waiter.answers in
-          let o = own_tx c.caller c.waiter.func (length ts) (effect_after d c.waiter ts) (txs_after d c.waiter ts).begun s (λ g. let clash = sym g ∙ c.call in cc)
+          let o = own_by c.caller c.waiter.func (length ts) (effect_after d c.waiter ts) (txs_after d c.waiter ts).begun s (ap is_begin c.call)
           (sym (ap (λ x. or_own x (tx_by c.caller c.waiter.func (length ts) (effect_after d c.waiter ts) (txs_after d c.waiter ts).begun)) e) ∙ c.within) in
           record {
             step = c.step;

@@ -19,7 +19,7 @@ use Rattle.beldi_order.proofs.Ends.{fits_at}
 use Rattle.beldi_order.proofs.Maps.{same_some}
 use Rattle.beldi_step.specs.Run.{place_of}
 use Rattle.beldi_step.specs.Tables.{decision_key, is_committed}
-use Rattle.beldi_known.specs.Beside.{Beside}
+use Rattle.beldi_known.specs.Beside.{Beside, is_begin}
 use Rattle.beldi_known.specs.Known.{Known, at_step, decision_by, ended_by, owed_read, owed_value, read_at, row_at, tx_end, value_or}
 use Rattle.beldi_known.specs.Matches.{Matches}
 use Rattle.beldi_known.specs.Owed.{value_for}
@@ -27,7 +27,8 @@ use Rattle.beldi_known.specs.Rows.{LogMatches}
 use Rattle.beldi_known.specs.Sane.{Sane}
 use Rattle.beldi_known.proofs.Decided.{decision_row}
 use Rattle.beldi_known.proofs.Frame.{begins}
-use Rattle.beldi_known.proofs.Lines.{CallerOf, caller_in, own_tx}
+use Rattle.beldi_known.proofs.Lines.{CallerOf, caller_in}
+use Rattle.beldi_known.proofs.OneFunction.{own_by}
 use Rattle.beldi_laws.specs.Stands.{has_place}
 use Rattle.beldi_laws.proofs.Closing.{end_grows}
 use Rattle.beldi_laws.proofs.Outside.{known_of, made_of}
@@ -51,7 +52,7 @@ module _ (d : Deployment) (known : Known) (sane : Sane d known) (t : TxId) where
       by_within : (c : CallerOf d known t j z) → (c.waiter.within ≡ Some t → HasBegin d known t) → (x : Option TxId) → c.waiter.within ≡ x → HasBegin d known t
       by_within c up None e =
           let ts = take c.step c.waiter.answers in
-          let o = own_tx c.caller c.waiter.func (length ts) (effect_after d c.waiter ts) (txs_after d c.waiter ts).begun t (λ g. let clash = sym g ∙ c.call in cc)
+          let o = own_by c.caller c.waiter.func (length ts) (effect_after d c.waiter ts) (txs_after d c.waiter ts).begun t (ap is_begin c.call)
           (sym (ap (λ x. or_own x (tx_by c.caller c.waiter.func (length ts) (effect_after d c.waiter ts) (txs_after d c.waiter ts).begun)) e) ∙ c.within) in
           let before = (fits_at d c.waiter ts).before t.begin o.begun in
           let front : take t.begin c.waiter.answers ≡ take t.begin ts = ap (take t.begin) (sym (take-append-drop c.step c.waiter.answers)) ∙ take-append-le t.begin ts (drop c.step c.waiter.answers) (omega (arith, before)) in

@@ -12,7 +12,6 @@ use Rattle.beldi_value.specs.declared.outcome.Outcome.{Outcome}
 use Rattle.beldi_value.specs.declared.place.TxId.{TxId}
 use Rattle.beldi_tree.specs.declared.deployment.Deployment.{Deployment}
 use Rattle.beldi_lang.specs.declared.effect.Answer.TheVariants.{Done}
-use Rattle.beldi_lang.specs.declared.effect.Effect.TheVariants as effect
 use Rattle.beldi_row.specs.declared.key.Kind.TheVariants as kinds
 use Rattle.beldi_row.specs.declared.row.Row.{Row}
 use Rattle.beldi_row.specs.declared.row.Row.TheVariants as rows
@@ -31,12 +30,14 @@ use Rattle.beldi_txn.specs.Invokes.{call_key, func_called}
 use Rattle.beldi_txn.specs.Visited.{AtEnd, IsCall, IsMember, IsWay, IsWithin, called_at}
 use Rattle.beldi_txn.specs.Way.{Member, callee_of, member_at}
 use Rattle.beldi_txn.proofs.Levels.{member_more, way_more}
+use Rattle.beldi_known.specs.Beside.{is_begin}
 use Rattle.beldi_known.specs.Known.{Known, ended_by, tx_end}
 use Rattle.beldi_known.specs.Matches.{Matches}
 use Rattle.beldi_known.specs.Owed.{called_by, result_of}
 use Rattle.beldi_known.specs.Rows.{CallMatches}
 use Rattle.beldi_known.specs.Sane.{Sane}
-use Rattle.beldi_known.proofs.Lines.{CallerOf, caller_in, own_tx}
+use Rattle.beldi_known.proofs.Lines.{CallerOf, caller_in}
+use Rattle.beldi_known.proofs.OneFunction.{own_by}
 use Rattle.beldi_intent.specs.Intent.{intent_key}
 use Rattle.beldi_laws.specs.Inside.{TookPart}
 use Rattle.beldi_laws.specs.Stands.{key_in}
@@ -167,8 +168,7 @@ module _ (d : Deployment) (m : Rows) (known : Known) (locked : IntentId → Bool
         by_owner : (j : IntentId) (y : Instance) → map.get known j ≡ Some y → (c : CallerOf d known t j y) → c.waiter.within ≡ None → IsReached (j, y.func)
         by_owner j y is c outside =
             let ts = take c.step c.waiter.answers in
-            let no_begin : effect_before d c.waiter c.step ≡ effect.Begin → ⊥ = λ g. let clash = sym g ∙ c.call in cc in
-            let own = own_tx c.caller c.waiter.func (length ts) (effect_before d c.waiter c.step) (txs_after d c.waiter ts).begun t no_begin
+            let own = own_by c.caller c.waiter.func (length ts) (effect_before d c.waiter c.step) (txs_after d c.waiter ts).begun t (ap is_begin c.call)
             (sym (ap (λ w. or_own w (tx_by c.caller c.waiter.func (length ts) (effect_before d c.waiter c.step) (txs_after d c.waiter ts).begun)) outside) ∙ c.within) in
             let past = (fits_at d c.waiter ts).before t.begin own.begun in
             let here = c.here in
