@@ -61,7 +61,8 @@ use Rattle.beldi_known.proofs.Answers.{true_false}
 use Rattle.beldi_known.proofs.AtOnce.{origin_stays}
 use Rattle.beldi_known.proofs.Frame.{at_once_same, moved_one}
 use Rattle.beldi_known.proofs.FrameAt.{known_set}
-use Rattle.beldi_known.proofs.Lines.{alone, alone_callee, called_in, front_in_tx, front_is, in_tx, known_line, member_is, owner_outside, set_cases, waits_for}
+use Rattle.beldi_known.proofs.Callers.{caller_in, waits_for}
+use Rattle.beldi_known.proofs.Lines.{alone, alone_callee, called_in, front_in_tx, front_is, in_tx, known_line, member_is, owner_outside, set_cases}
 use Rattle.beldi_known.proofs.Lists.{elsewhere as row_elsewhere}
 use Rattle.beldi_known.proofs.Locks.{tx_self}
 use Rattle.beldi_known.proofs.Owns.{not_ended, seen, unwritten}
@@ -444,11 +445,11 @@ module _ (d : Deployment) (m n : Rows) (p : PlainState) (known : Known) (locked 
       let inside : tx_now d e j ≡ Some t = ap (λ w. or_own w (tx_by e j.func (length j.answers) (effect_of d j) (txs_after d j j.answers).begun)) within in
       let free = λ (g : ℕ) (w : Value) (x : effect_of d j ≡ effect.Call g w). absurd (no_call g w x) in
       let at = front d m p known locked h o q made b e j called inside none free in
-      let w = waits_for d known h.sane t e j called within none in
-      let same = child_same id w.caller c (length w.waiter.answers) w.is in
+      let w = waits_for d known h.sane t e j (caller_in d known h.sane t e j called within) within none in
+      let same = child_same id w.caller c (length w.waiter.answers) w.is_callee in
       let waiter : w.waiter ≡ i = same_some (sym w.made ∙ ap (map.get known) (sym same.0) ∙ is) in
-      let call : effect_of d i ≡ effect.Call j.func j.args = ap (effect_of d) (sym waiter) ∙ w.call in
-      let owner_in : IsIn t id = in_tx d p known h.plain_sane o q made b own_tx h.sane id i is ((λ x. tx_now d (same.0 x) (sym waiter x)) ∙ w.within) in
+      let call : effect_of d i ≡ effect.Call j.func j.args = ap (effect_of d) (sym waiter) ∙ w.stands in
+      let owner_in : IsIn t id = in_tx d p known h.plain_sane o q made b own_tx h.sane id i is ((λ x. tx_now d (same.0 x) (sym waiter x)) ∙ sym w.within ∙ within) in
       let over = ended j u in
       let f = map.insert known e over in
       let back = moved d id i (answer_of u) in

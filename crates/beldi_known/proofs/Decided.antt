@@ -59,11 +59,12 @@ use Rattle.beldi_known.proofs.AtFront.{no_decision}
 use Rattle.beldi_known.proofs.Falls.{Fell, cause_of, later_is}
 use Rattle.beldi_known.proofs.Frame.{moved_one}
 use Rattle.beldi_known.proofs.FrameAt.{known_set}
+use Rattle.beldi_known.proofs.Callers.{called_below}
 use Rattle.beldi_known.proofs.Lines.{OwnerNow, front_is, member, outside}
 use Rattle.beldi_known.proofs.Lists.{elsewhere, lists_same, is_log as is_row_log}
 use Rattle.beldi_known.proofs.Members.{in_or_out}
 use Rattle.beldi_known.proofs.NoTx.{IsOutside, begins_parts}
-use Rattle.beldi_known.proofs.Outsides.{at_once_opens, at_once_stays, below_apart, called_below, fresh_next, goes_one, got_next, known_none_after, plain_none_after, set_next, shows_beside}
+use Rattle.beldi_known.proofs.Outsides.{at_once_opens, at_once_stays, below_apart, fresh_next, goes_one, got_next, known_none_after, plain_none_after, set_next, shows_beside}
 use Rattle.beldi_known.proofs.Owns.{fall, got_owned, older, own, seen, touched_owned, unowned_kept}
 use Rattle.beldi_known.proofs.Unaborted.{owner_lives}
 

@@ -8,6 +8,7 @@ pub mod Begins
 pub mod Begun
 pub mod Behind
 pub mod Callees
+pub mod Callers
 pub mod Calls
 pub mod Deaths
 pub mod Decided

@@ -1,15 +1,13 @@
 -- Who is in an open transaction: its owner, and all that were called in it. Of those that have no outcome one can step, and each other
 -- waits for the next.
-use Rattle.std.proofs.Common.{◌≡◌, ◌⊎◌, inl, inr, ◌<◌, ◌≤◌, ℕ, zero, suc, Bool, true, false, cond, List, [], ◌∷◌, ◌++◌, length, length-append, length-take-le, take, Option, None, Some, refl, ap, sym, ◌∙◌, subst, append_assoc, append-nil, arith}
-use Rattle.std.specs.Prelude.{is_some, slice_get}
-use Rattle.std.specs.Option.{option_map}
+use Rattle.std.proofs.Common.{◌≡◌, ◌⊎◌, inl, inr, ◌<◌, ℕ, Bool, true, false, cond, List, [], ◌∷◌, ◌++◌, length, length-append, Option, None, Some, refl, ap, sym, ◌∙◌, subst, append_assoc, append-nil, arith}
+use Rattle.std.specs.Prelude.{is_some}
 use Rattle.std.specs.FinMap as map
 use Rattle.std.specs.FinMap.{FinMap, get-insert}
 use Rattle.std.specs.Ordering.{is_eq}
 use Rattle.std.proofs.lemmas.Cmp.{tied_itself}
-use Rattle.beldi_value.specs.Id.{id_cmp, id_total, root_of, child_of}
+use Rattle.beldi_value.specs.Id.{id_cmp, id_total, child_of}
 use Rattle.beldi_value.specs.declared.id.IntentId.{IntentId}
-use Rattle.beldi_value.specs.declared.outcome.Outcome.{Outcome}
 use Rattle.beldi_value.specs.declared.place.TxId.{TxId}
 use Rattle.beldi_value.specs.declared.value.Value.{Value}
 use Rattle.beldi_value.proofs.Callees.{child_same}
@@ -21,13 +19,11 @@ use Rattle.beldi_lang.specs.declared.effect.Effect.{Effect}
 use Rattle.beldi_lang.specs.declared.effect.Effect.TheVariants as effect
 use Rattle.beldi_plain.specs.Moves.{Move, moved, Leads}
 use Rattle.beldi_plain.specs.Piece.{Going, is_owner, new_member, opened, tx_begun}
-use Rattle.beldi_plain.specs.Plain.{Instance, PlainState, answered, ended, callee_of, calls_at, effect_of, effect_before}
+use Rattle.beldi_plain.specs.Plain.{Instance, PlainState, answered, ended, callee_of, calls_at, effect_of}
 use Rattle.beldi_order.specs.Inside.{IsIn, IsBelow, Line, top, next, InLine}
 use Rattle.beldi_order.specs.Sane as plain
-use Rattle.beldi_order.specs.Sane.{IsCalled, CalledBy, call_of, within_by, answer_given}
-use Rattle.beldi_order.specs.Txs.{Txs, txs_after, txs_by, tx_by, tx_at, tx_now, or_own}
-use Rattle.beldi_order.proofs.Called.{last_hop, next_step, effect_now, tx_here_now}
-use Rattle.beldi_order.proofs.Ends.{fits_at}
+use Rattle.beldi_order.specs.Txs.{Txs, txs_after, txs_by, tx_by, tx_now, or_own}
+use Rattle.beldi_order.proofs.Called.{last_hop}
 use Rattle.beldi_order.proofs.Foreign.{none_below}
 use Rattle.beldi_order.proofs.Goes.{answered_plainly, plainly_edge}
 use Rattle.beldi_order.proofs.Line.{all_in, in_line, line_alike, line_moved, line_opened, long, longer, not_longer, returned}
@@ -41,7 +37,8 @@ use Rattle.beldi_known.specs.InsideLaws.{OpensAreOpen}
 use Rattle.beldi_known.specs.Known.{Known, answer_at_once}
 use Rattle.beldi_known.specs.Sane.{Sane}
 use Rattle.beldi_known.proofs.NoTx.{begins_parts}
-use Rattle.beldi_known.proofs.OneFunction.{Own, own_by}
+use Rattle.beldi_known.proofs.Callers.{called_below}
+use Rattle.beldi_known.proofs.Participants.{IsOpenOwner, open_owner}
 
 -- ---- ids
 -- an id, or one that was called below it
@@ -76,15 +73,6 @@ parent_in t i n (inr b) = elim (last_hop b.hops) [
       let same : child_of i n ≡ child_of up r.1 = b.is ∙ ap (λ hs. record { ticket = t.intent.ticket; hops = hs }) (ap (λ hs. t.intent.hops ++ b.step ∷ hs) r.2 ∙ sym (append_assoc t.intent.hops (b.step ∷ r.0) (r.1 ∷ []))) in
       inr (inr (record { step = b.step; later = b.later; hops = r.0; is = (child_same i up n r.1 same).0 }))
 ]
-
--- what is called by who is below the owner is below it
-pub below_child : (t : TxId) (i : IntentId) (n : ℕ) → IsBelow t i → IsBelow t (child_of i n)
-below_child t i n b = record {
-  step = b.step;
-  later = b.later;
-  hops = b.hops ++ n ∷ [];
-  is = ap (λ z. child_of z n) b.is ∙ ap (λ hs. record { ticket = t.intent.ticket; hops = hs }) (append_assoc t.intent.hops (b.step ∷ b.hops) (n ∷ []));
-}
 
 -- what is found where one was set
 pub set_cases : (f : FinMap id_cmp Instance) (k i : IntentId) (s w : Instance) → map.get (map.insert f k s) i ≡ Some w → ((i ≡ k) × (s ≡ w)) ⊎ ((i ≡ k → ⊥) × (map.get f i ≡ Some w))
@@ -181,81 +169,6 @@ module _ (d : Deployment) (t : TxId) (q : Instance) where
   pub members_led : (s : Going) (moves : List Move) (l : Going) → InLine d t s → Members d t q s → Leads d t s moves l → Members d t q l
   members_led s [] l line h leads = subst (Members d t q) leads h
   members_led s (m ∷ ms) l line h leads = members_led leads.0 ms l (line_moved d t m s leads.0 line leads.1) (members_moved m s leads.0 line h leads.1) leads.2
-
--- ---- who called an instance, in a transaction
-pub record CallerOf (d : Deployment) (known : Known) (s : TxId) (i : IntentId) (z : Instance) : Type 0 where
-  pub caller : IntentId
-  pub step : ℕ
-  pub is : i ≡ child_of caller step
-  pub waiter : Instance
-  pub made : map.get known caller ≡ Some waiter
-  pub here : step ≤ length waiter.answers
-  pub call : effect_before d waiter step ≡ effect.Call z.func z.args
-  pub within : tx_at d caller waiter step ≡ Some s
-  pub answered : slice_get waiter.answers step ≡ option_map answer_of z.outcome
-  pub from : z.from ≡ Some (record { place = record { intent = caller; step = step }; func = waiter.func; waits = true })
-
--- .. and waits for it
-pub record WaitsFor (d : Deployment) (known : Known) (s : TxId) (i : IntentId) (z : Instance) : Type 0 where
-  pub caller : IntentId
-  pub waiter : Instance
-  pub is : i ≡ callee_of caller waiter
-  pub made : map.get known caller ≡ Some waiter
-  pub open_still : waiter.outcome ≡ None
-  pub call : effect_of d waiter ≡ effect.Call z.func z.args
-  pub within : tx_now d caller waiter ≡ Some s
-  pub from : z.from ≡ Some (calls_at caller waiter true)
-
-module _ (d : Deployment) (known : Known) (sane : Sane d known) (s : TxId) (i : IntentId) (z : Instance) (is : map.get known i ≡ Some z) (within : z.within ≡ Some s) where
-  by_waits : (c : IntentId) (n : ℕ) → i ≡ child_of c n → (w : Instance) → map.get known c ≡ Some w → (h : IsCalled d c w n z) (b : Bool) → h.waits ≡ b → CallerOf d known s i z
-  by_waits c n same w made h false so = let clash = sym within ∙ h.within ∙ ap (λ b. within_by b (tx_at d c w n)) so in cc
-  by_waits c n same w made h true so = record {
-    caller = c;
-    step = n;
-    is = same;
-    waiter = w;
-    made = made;
-    here = h.here;
-    call = h.call ∙ ap (λ b. call_of b z.func z.args) so;
-    within = sym (h.within ∙ ap (λ b. within_by b (tx_at d c w n)) so) ∙ within;
-    answered = h.answered ∙ ap (λ b. answer_given b z.outcome) so;
-    from = h.from ∙ ap (λ b. Some (record { place = record { intent = c; step = n }; func = w.func; waits = b })) so;
-  }
-
-  by_caller : (c : IntentId) (n : ℕ) → i ≡ child_of c n → (o : Option Instance) → map.get known c ≡ o → CalledBy d c o n z → CallerOf d known s i z
-  by_caller c n same None made h = absurd h
-  by_caller c n same (Some w) made h = by_waits c n same w made h h.waits refl
-
-  pub caller_in : CallerOf d known s i z
-  caller_in = elim (last_hop i.hops) [
-    | inl e ↦
-        let root : i ≡ root_of i.ticket = λ k. record { ticket = i.ticket; hops = e k } in
-        let clash = sym (sane.roots i.ticket z (ap (map.get known) (sym root) ∙ is)).1 ∙ within in cc
-    | inr r ↦
-        let c : IntentId = record { ticket = i.ticket; hops = r.0 } in
-        let same : i ≡ child_of c r.1 = λ k. record { ticket = i.ticket; hops = r.2 k } in
-        by_caller c r.1 same (map.get known c) refl (sane.called c r.1 z (ap (map.get known) (sym same) ∙ is))
-  ]
-
-  pub waits_for : z.outcome ≡ None → WaitsFor d known s i z
-  waits_for none =
-      let c = caller_in in
-      let last = next_step c.waiter.answers c.step c.here (c.answered ∙ ap (option_map answer_of) none) in
-      let call = sym (effect_now d c.waiter) ∙ ap (effect_before d c.waiter) (sym last) ∙ c.call in
-      record {
-        caller = c.caller;
-        waiter = c.waiter;
-        is = c.is ∙ ap (child_of c.caller) last;
-        made = c.made;
-        open_still = by_outcome c.caller c.waiter c.made call c.waiter.outcome refl;
-        call = call;
-        within = sym (ap (tx_at d c.caller c.waiter) last ∙ tx_here_now d c.waiter c.caller) ∙ c.within;
-        from = c.from ∙ ap (λ n. Some (record { place = record { intent = c.caller; step = n }; func = c.waiter.func; waits = true })) last;
-      }
-    where
-      by_outcome : (k : IntentId) (w : Instance) → map.get known k ≡ Some w → effect_of d w ≡ effect.Call z.func z.args → (o : Option Outcome) → w.outcome ≡ o → o ≡ None
-      by_outcome k w made call None e = refl
-      by_outcome k w made call (Some o) e = let clash = sym call ∙ (sane.each k w made).over o e in cc
 
 -- ---- the line: all but its last wait for a callee that is there
 record Waits (d : Deployment) (f : FinMap id_cmp Instance) (i : IntentId) : Type 0 where
@@ -371,37 +284,8 @@ module _ (d : Deployment) (p : PlainState) (known : Known) (sane : plain.Sane d 
 
   -- ---- who was called in it is in it
   module _ (known_sane : Sane d known) where
-    from_caller : (i : IntentId) (z : Instance) → (c : CallerOf d known (tx_begun id q) i z) → (c.waiter.within ≡ Some (tx_begun id q) → IsIn (tx_begun id q) c.caller) → IsIn (tx_begun id q) i
-    from_caller i z c up = subst (IsIn this) (sym c.is) (by_within c.waiter.within refl)
-      where
-        of_caller : c.waiter.within ≡ Some (tx_begun id q) → IsIn (tx_begun id q) c.caller → IsIn (tx_begun id q) (child_of c.caller c.step)
-        of_caller within (inl own) = let clash = sym within ∙ owner_outside c.waiter (ap (map.get known) (sym own) ∙ c.made) in cc
-        of_caller within (inr h) = inr (below_child this c.caller c.step h)
-
-        by_within : (x : Option TxId) → c.waiter.within ≡ x → IsIn (tx_begun id q) (child_of c.caller c.step)
-        by_within None e =
-            let ts = take c.step c.waiter.answers in
-            let o = own_by c.caller c.waiter.func (length ts) (effect_before d c.waiter c.step) (txs_after d c.waiter ts).begun this (ap is_begin c.call)
-            (sym (ap (λ x. or_own x (tx_by c.caller c.waiter.func (length ts) (effect_before d c.waiter c.step) (txs_after d c.waiter ts).begun)) e) ∙ c.within) in
-            inr (record {
-              step = c.step;
-              later = let k = (fits_at d c.waiter ts).before (length q.answers) o.begun in let l = length-take-le c.step c.waiter.answers c.here in omega (arith, k, l);
-              hops = [];
-              is = ap (λ y. child_of y c.step) (sym o.intent);
-            })
-        by_within (Some x) e =
-            let same : x ≡ this = same_some (sym (ap (λ x. or_own x (tx_by c.caller c.waiter.func (length (take c.step c.waiter.answers)) (effect_before d c.waiter c.step) (txs_after d c.waiter (take c.step c.waiter.answers)).begun)) e) ∙ c.within) in
-            let within : c.waiter.within ≡ Some this = e ∙ ap (λ y. Some y) same in
-            of_caller within (up within)
-
-    in_up : (n : ℕ) (i : IntentId) (z : Instance) → length i.hops < n → map.get known i ≡ Some z → z.within ≡ Some (tx_begun id q) → IsIn (tx_begun id q) i
-    in_up zero i z few is within = absurd (omega (arith, few))
-    in_up (suc n) i z few is within =
-        let c = caller_in d known known_sane this i z is within in
-        from_caller i z c (λ up. in_up n c.caller c.waiter (let m = longer c.caller c.step in let k = ap (λ (y : IntentId). length y.hops) c.is in omega (arith, few, m, k)) c.made up)
-
     pub called_in : (i : IntentId) (z : Instance) → map.get known i ≡ Some z → z.within ≡ Some (tx_begun id q) → IsIn (tx_begun id q) i
-    called_in i z = in_up (suc (length i.hops)) i z (omega arith)
+    called_in i z is within = inr (called_below d known known_sane this i z is within)
 
     pub in_tx : (i : IntentId) (z : Instance) → map.get known i ≡ Some z → tx_now d i z ≡ Some (tx_begun id q) → IsIn (tx_begun id q) i
     in_tx i z is now = by_within z.within refl
@@ -436,50 +320,35 @@ module _ (d : Deployment) (p : PlainState) (known : Known) (sane : plain.Sane d 
   ]
 
 -- ---- the transaction of who can step inside is open
-pub record OpenOwner (d : Deployment) (p : PlainState) (s : TxId) : Type 0 where
+-- its owner, where the plain state has it: at its Begin
+pub record PlainOwner (d : Deployment) (p : PlainState) (s : TxId) : Type 0 where
   pub owner : Instance
   pub made : map.get p.made s.intent ≡ Some owner
   pub begun : begins d owner ≡ true
   pub is : s ≡ tx_begun s.intent owner
 
 module _ (d : Deployment) (p : PlainState) (known : Known) (plain_sane : plain.Sane d p) (sane : Sane d known) (beside : Beside d p known) (s : TxId) where
-  own_open : (i : IntentId) (z : Instance) → map.get known i ≡ Some z → z.within ≡ None → (o : Own i z.func (txs_after d z z.answers).begun s) → OpenOwner d p s
-  own_open i z is outside o = by_made (map.get p.made i) refl
+  by_owner : IsOpenOwner d known s → PlainOwner d p s
+  by_owner o = by_made (map.get p.made s.intent) refl
     where
-      by_begins : (q : Instance) (b : Bool) → map.get p.made i ≡ Some q → begins d q ≡ b → OpenOwner d p s
+      by_begins : (q : Instance) (b : Bool) → map.get p.made s.intent ≡ Some q → begins d q ≡ b → PlainOwner d p s
       by_begins q false made b =
-          let same : q ≡ z = same_some (sym (beside.same i q made b) ∙ is) in
-          let clash = sym (subst (plain.SaneAt d i) made (plain_sane.each i)).ended ∙ ap (λ (x : Instance). (txs_after d x x.answers).begun) same ∙ o.begun in cc
+          let same : q ≡ o.owner = same_some (sym (beside.same s.intent q made b) ∙ o.made) in
+          let clash = sym (subst (plain.SaneAt d s.intent) made (plain_sane.each s.intent)).ended ∙ ap (λ (x : Instance). (txs_after d x x.answers).begun) same ∙ o.begun in cc
       by_begins q true made b =
-          let now = (member d p known plain_sane i q made b (beside.begun i q made b) i z (inl refl) is).owner refl in
-          record {
-            owner = q;
-            made = ap (map.get p.made) o.intent ∙ made;
-            begun = b;
-            is = λ k. record { intent = s.intent; begin = same_some (sym o.begun ∙ now.begun) k; func = (o.func_is ∙ now.func) k };
-          }
+          let now = (member d p known plain_sane s.intent q made b (beside.begun s.intent q made b) s.intent o.owner (inl refl) o.made).owner refl in
+          record { owner = q; made = made; begun = b; is = λ k. record { intent = s.intent; begin = same_some (sym o.begun ∙ now.begun) k; func = (o.func_is ∙ now.func) k } }
 
-      by_made : (r : Option Instance) → map.get p.made i ≡ r → OpenOwner d p s
-      by_made None gone = let k = beside.kept i z gone is in let clash = sym k.within ∙ outside in cc
+      by_made : (r : Option Instance) → map.get p.made s.intent ≡ r → PlainOwner d p s
+      by_made None gone = let k = beside.kept s.intent o.owner gone o.made in let clash = sym k.within ∙ o.outside in cc
       by_made (Some q) made = by_begins q (begins d q) made refl
 
-  open_up : (n : ℕ) (i : IntentId) (z : Instance) → length i.hops < n → map.get known i ≡ Some z → z.outcome ≡ None → tx_now d i z ≡ Some s → OpenOwner d p s
-  open_up zero i z few is none now = absurd (omega (arith, few))
-  open_up (suc n) i z few is none now = by_within z.within refl (λ within.
-      let w = waits_for d known sane s i z is within none in
-      open_up n w.caller w.waiter (let m = longer w.caller (length w.waiter.answers) in let k = ap (λ (y : IntentId). length y.hops) w.is in omega (arith, few, m, k)) w.made w.open_still w.within)
+  pub plain_owner : (i : IntentId) (z : Instance) → map.get known i ≡ Some z → z.outcome ≡ None → tx_now d i z ≡ Some s → PlainOwner d p s
+  plain_owner i z is none now = by_owner (open_owner d known sane i z s is none (no_begin (effect_of d z) (sane.closed i z is none)) now)
     where
       no_begin : (e : Effect) → answer_at_once i (length z.answers) e ≡ None → is_begin e ≡ false
       no_begin effect.Begin h = cc
       no_begin e h = refl
 
-      by_within : (x : Option TxId) → z.within ≡ x → (z.within ≡ Some s → OpenOwner d p s) → OpenOwner d p s
-      by_within None e up = own_open i z is e (own_by i z.func (length z.answers) (effect_of d z) (txs_after d z z.answers).begun s (no_begin (effect_of d z) (sane.closed i z is none))
-          (sym (ap (λ x. or_own x (tx_by i z.func (length z.answers) (effect_of d z) (txs_after d z z.answers).begun)) e) ∙ now))
-      by_within (Some x) e up = up (e ∙ sym (ap (λ x. or_own x (tx_by i z.func (length z.answers) (effect_of d z) (txs_after d z z.answers).begun)) e) ∙ now)
-
-  pub open_owner : (i : IntentId) (z : Instance) → map.get known i ≡ Some z → z.outcome ≡ None → tx_now d i z ≡ Some s → OpenOwner d p s
-  open_owner i z = open_up (suc (length i.hops)) i z (omega arith)
-
 pub opens_are_open : OpensAreOpen
-opens_are_open d m p known locked id k s h made none now = let o = open_owner d p known h.plain_sane h.sane h.beside s id k made none now in record { sound = h; owner = o.owner; made = o.made; begun = o.begun; is = o.is }
+opens_are_open d m p known locked id k s h made none now = let o = plain_owner d p known h.plain_sane h.sane h.beside s id k made none now in record { sound = h; owner = o.owner; made = o.made; begun = o.begun; is = o.is }

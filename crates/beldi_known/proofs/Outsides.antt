@@ -1,6 +1,6 @@
 -- An instance goes on outside in both: what is known stays beside the plain state, and shadows show what they did. It is in no open
 -- transaction of another, so those go on as they did.
-use Rattle.std.proofs.Common.{◌≡◌, ◌∙◌, inl, inr, ℕ, zero, suc, ◌<◌, ◌≤◌, ◌&&◌, ◌||◌, not, Bool, true, false, cond, List, [], ◌∷◌, ◌++◌, length, length-append, length-take-le, take, Option, Some, None, is_some, refl, ap, sym, subst, append_assoc, append-nil, arith, if◌then◌else◌}
+use Rattle.std.proofs.Common.{◌≡◌, ◌∙◌, inl, inr, ℕ, ◌<◌, ◌≤◌, ◌&&◌, ◌||◌, not, Bool, true, false, cond, List, [], ◌∷◌, ◌++◌, length, length-append, Option, Some, None, is_some, refl, ap, sym, subst, append_assoc, append-nil, arith, if◌then◌else◌}
 use Rattle.std.specs.FinMap as map
 use Rattle.std.specs.FinMap.{FinMap, get-insert}
 use Rattle.std.specs.Option.{is_none}
@@ -34,7 +34,6 @@ use Rattle.beldi_order.specs.Sane.{CalledBy}
 use Rattle.beldi_order.specs.Txs.{Txs, txs_after, txs_by, tx_after, tx_by, or_own, end_of, effect_after, is_at}
 use Rattle.beldi_order.proofs.Beside.{beside as moves_beside}
 use Rattle.beldi_order.proofs.Called.{last_hop}
-use Rattle.beldi_order.proofs.Ends.{fits_at}
 use Rattle.beldi_order.proofs.Foreign.{no_callees, no_later}
 use Rattle.beldi_order.proofs.Line.{all_in, in_line, line_opened, not_longer}
 use Rattle.beldi_order.proofs.Maps.{equal, here, elsewhere, same_some}
@@ -53,8 +52,8 @@ use Rattle.beldi_known.proofs.Answers.{true_false}
 use Rattle.beldi_known.proofs.Begins.{aborts_inside}
 use Rattle.beldi_known.proofs.Frame.{at_once_same, moved_one}
 use Rattle.beldi_known.proofs.FrameAt.{known_set}
-use Rattle.beldi_known.proofs.Lines.{CallerOf, below_child, caller_in, parent_in}
-use Rattle.beldi_known.proofs.OneFunction.{own_by}
+use Rattle.beldi_known.proofs.Callers.{called_below}
+use Rattle.beldi_known.proofs.Lines.{parent_in}
 use Rattle.beldi_known.proofs.Locks.{tx_same}
 use Rattle.beldi_known.proofs.NoTx.{IsOutside, begins_parts, no_begin}
 use Rattle.beldi_known.proofs.Owns.{going, got_owned, owner_known, touched_owned}
@@ -141,32 +140,6 @@ module _ (d : Deployment) (known : Known) (sane : Sane d known) where
   pub known_none_after : (t : TxId) → ((q : Instance) → map.get known t.intent ≡ Some q → length q.answers ≤ t.begin) → (i : IntentId) → IsBelow t i → map.get known i ≡ None
   known_none_after = none_after known known_childless known_later
 
-  -- ---- who was called in a transaction is below its owner
-  below_up : (n : ℕ) (s : TxId) (i : IntentId) (z : Instance) → length i.hops < n → map.get known i ≡ Some z → z.within ≡ Some s → IsBelow s i
-  below_up zero s i z few is within = absurd (omega (arith, few))
-  below_up (suc n) s i z few is within =
-      let c = caller_in d known sane s i z is within in
-      by_within c (λ up. below_up n s c.caller c.waiter (let m = length-append c.caller.hops (c.step ∷ []) in let k = ap (λ (y : IntentId). length y.hops) c.is in omega (arith, few, m, k)) c.made up) c.waiter.within refl
-    where
-      by_within : (c : CallerOf d known s i z) → (c.waiter.within ≡ Some s → IsBelow s c.caller) → (x : Option TxId) → c.waiter.within ≡ x → IsBelow s i
-      by_within c up None e =
-          let ts = take c.step c.waiter.answers in
-          let o = own_by c.caller c.waiter.func (length ts) (effect_after d c.waiter ts) (txs_after d c.waiter ts).begun s (ap is_begin c.call)
-          (sym (ap (λ x. or_own x (tx_by c.caller c.waiter.func (length ts) (effect_after d c.waiter ts) (txs_after d c.waiter ts).begun)) e) ∙ c.within) in
-          record {
-            step = c.step;
-            later = let k = (fits_at d c.waiter ts).before s.begin o.begun in let l = length-take-le c.step c.waiter.answers c.here in omega (arith, k, l);
-            hops = [];
-            is = c.is ∙ ap (λ y. child_of y c.step) (sym o.intent);
-          }
-      by_within c up (Some x) e =
-          let ts = take c.step c.waiter.answers in
-          let same : x ≡ s = same_some (sym (ap (λ x. or_own x (tx_by c.caller c.waiter.func (length ts) (effect_after d c.waiter ts) (txs_after d c.waiter ts).begun)) e) ∙ c.within) in
-          subst (IsBelow s) (sym c.is) (below_child s c.caller c.step (up (e ∙ ap (λ y. Some y) same)))
-
-  pub called_below : (s : TxId) (i : IntentId) (z : Instance) → map.get known i ≡ Some z → z.within ≡ Some s → IsBelow s i
-  called_below s i z = below_up (suc (length i.hops)) s i z (omega arith)
-
   -- ---- a transaction that is yet to begin got nothing
   pub nothing_got : (locked : IntentId → Bool) (s : TxId) (x : Item) → ((q : Instance) → map.get known s.intent ≡ Some q → length q.answers ≤ s.begin) → Got d known locked s x → ⊥
   nothing_got locked s x few g = by_known (map.get known g.member) refl g.got
@@ -178,7 +151,7 @@ module _ (d : Deployment) (known : Known) (sane : Sane d known) where
           let b = k.before in omega (arith, n, b)
       by_within z is got (Some u) e =
           let same : s ≡ u = member_tx d s x g.member z u e (locked g.member) got in
-          let clash = sym is ∙ known_none_after s few g.member (called_below s g.member z is (e ∙ ap (λ y. Some y) (sym same))) in cc
+          let clash = sym is ∙ known_none_after s few g.member (called_below d known sane s g.member z is (e ∙ ap (λ y. Some y) (sym same))) in cc
 
       by_known : (o : Option Instance) → map.get known g.member ≡ o → got_by d s x g.member (locked g.member) o ≡ true → ⊥
       by_known None is got = cc

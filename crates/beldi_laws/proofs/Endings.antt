@@ -76,7 +76,8 @@ use Rattle.beldi_known.proofs.Frame.{moved_one}
 use Rattle.beldi_known.proofs.FrameAt.{known_set}
 use Rattle.beldi_known.proofs.Instances.{no_own_callee}
 use Rattle.beldi_known.proofs.Intents.{intent_ended, callee_put}
-use Rattle.beldi_known.proofs.Lines.{caller_in, opens_are_open}
+use Rattle.beldi_known.proofs.Callers.{caller_in}
+use Rattle.beldi_known.proofs.Lines.{opens_are_open}
 use Rattle.beldi_known.proofs.NoTx.{outside_parts}
 use Rattle.beldi_known.proofs.Outside.{call_answered}
 use Rattle.beldi_known.proofs.Outsides.{goes_one, got_ended, set_over}

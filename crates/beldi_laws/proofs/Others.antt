@@ -58,7 +58,7 @@ use Rattle.beldi_known.specs.Known.{Known, ahead_by, ended_by, got_before, got_b
 use Rattle.beldi_known.specs.Sane.{Sane}
 use Rattle.beldi_known.proofs.Answers.{true_false}
 use Rattle.beldi_known.proofs.AtFront.{no_decision, note_is_ahead}
-use Rattle.beldi_known.proofs.Lines.{front_is, in_tx, open_owner}
+use Rattle.beldi_known.proofs.Lines.{front_is, in_tx, plain_owner}
 use Rattle.beldi_order.proofs.Ends.{along_append, ended_stays}
 use Rattle.beldi_known.proofs.Locks.{tx_self}
 use Rattle.beldi_known.proofs.Participants.{now_open}
@@ -172,7 +172,7 @@ is_ahead x f (Some t) e false w h = cc
 one_steps : (d : Deployment) (p : PlainState) (known : Known) → plain.Sane d p → Sane d known → Beside d p known → (s : TxId) (i j : IntentId) (y z : Instance) → map.get known i ≡ Some y → map.get known j ≡ Some z → y.outcome ≡ None → z.outcome ≡ None → is_some (touched (effect_of d y)) ≡ true
     → is_some (touched (effect_of d z)) ≡ true → tx_now d i y ≡ Some s → tx_now d j z ≡ Some s → i ≡ j
 one_steps d p known legal sane beside s i j y z is there on over touch touches now after =
-    let o = open_owner d p known legal sane beside s i y is on now in
+    let o = plain_owner d p known legal sane beside s i y is on now in
     let tx = beside.begun s.intent o.owner o.made o.begun in
     let front = λ (k : IntentId) (w : Instance) (known_so : map.get known k ≡ Some w) (none : w.outcome ≡ None) (touched_so : is_some (touched (effect_of d w)) ≡ true) (inside : tx_now d k w ≡ Some s).
     front_is d p known legal s.intent o.owner o.made o.begun tx k w (in_tx d p known legal s.intent o.owner o.made o.begun tx sane k w known_so (inside ∙ ap Some o.is)) known_so none (λ f v call. absurd (no_call f v call touched_so)) in

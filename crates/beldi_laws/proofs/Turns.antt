@@ -60,7 +60,7 @@ use Rattle.beldi_known.proofs.Ahead.{unlocked_outside}
 use Rattle.beldi_known.proofs.Begins.{going_now}
 use Rattle.beldi_known.proofs.Flows.{stands}
 use Rattle.beldi_known.proofs.Goes.{run_on_prefix}
-use Rattle.beldi_known.proofs.Lines.{caller_in}
+use Rattle.beldi_known.proofs.Callers.{caller_in}
 use Rattle.beldi_known.proofs.NoTx.{IsOutside, outside_so, outside_parts}
 use Rattle.beldi_known.proofs.Phases.{at}
 use Rattle.beldi_laws.proofs.Lives.{open_stays}

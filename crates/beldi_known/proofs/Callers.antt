@@ -1,0 +1,115 @@
+-- Who called an instance in a transaction; and what holds of all that were called in one, by who called them.
+use Rattle.std.proofs.Common.{◌≡◌, ◌<◌, ◌≤◌, ℕ, zero, suc, Bool, true, false, [], ◌∷◌, ◌++◌, length, take, Option, None, Some, refl, ap, sym, ◌∙◌, subst, append_assoc, arith, inl, inr}
+use Rattle.std.specs.Prelude.{slice_get}
+use Rattle.std.specs.Option.{option_map}
+use Rattle.std.specs.FinMap as map
+use Rattle.std.proofs.lemmas.List.{length-take-le}
+use Rattle.beldi_value.specs.Id.{root_of, child_of}
+use Rattle.beldi_value.specs.declared.id.IntentId.{IntentId}
+use Rattle.beldi_value.specs.declared.place.TxId.{TxId}
+use Rattle.beldi_tree.specs.declared.deployment.Deployment.{Deployment}
+use Rattle.beldi_lang.specs.Callee.{answer_of}
+use Rattle.beldi_lang.specs.declared.effect.Effect.TheVariants as effect
+use Rattle.beldi_plain.specs.Plain.{Instance, effect_before}
+use Rattle.beldi_order.specs.Inside.{IsBelow}
+use Rattle.beldi_order.specs.Sane.{IsCalled, CalledBy, call_of, within_by, answer_given}
+use Rattle.beldi_order.specs.Txs.{txs_after, tx_by, tx_at, or_own}
+use Rattle.beldi_order.proofs.Called.{last_hop}
+use Rattle.beldi_order.proofs.Ends.{fits_at}
+use Rattle.beldi_order.proofs.Line.{longer}
+use Rattle.beldi_order.proofs.Sanes.{Waited, waited_by}
+use Rattle.beldi_known.specs.Beside.{is_begin}
+use Rattle.beldi_known.specs.Known.{Known}
+use Rattle.beldi_known.specs.Sane.{Sane}
+use Rattle.beldi_known.proofs.OneFunction.{Own, own_by}
+
+-- who called an instance, in a transaction
+pub record CallerOf (d : Deployment) (known : Known) (s : TxId) (i : IntentId) (z : Instance) : Type 0 where
+  pub caller : IntentId
+  pub step : ℕ
+  pub is : i ≡ child_of caller step
+  pub waiter : Instance
+  pub made : map.get known caller ≡ Some waiter
+  pub here : step ≤ length waiter.answers
+  pub call : effect_before d waiter step ≡ effect.Call z.func z.args
+  pub within : tx_at d caller waiter step ≡ Some s
+  pub answered : slice_get waiter.answers step ≡ option_map answer_of z.outcome
+  pub from : z.from ≡ Some (record { place = record { intent = caller; step = step }; func = waiter.func; waits = true })
+
+module _ (d : Deployment) (known : Known) (sane : Sane d known) (s : TxId) (i : IntentId) (z : Instance) (is : map.get known i ≡ Some z) (within : z.within ≡ Some s) where
+  by_waits : (c : IntentId) (n : ℕ) → i ≡ child_of c n → (w : Instance) → map.get known c ≡ Some w → (h : IsCalled d c w n z) (b : Bool) → h.waits ≡ b → CallerOf d known s i z
+  by_waits c n same w made h false so = let clash = sym within ∙ h.within ∙ ap (λ b. within_by b (tx_at d c w n)) so in cc
+  by_waits c n same w made h true so = record {
+    caller = c;
+    step = n;
+    is = same;
+    waiter = w;
+    made = made;
+    here = h.here;
+    call = h.call ∙ ap (λ b. call_of b z.func z.args) so;
+    within = sym (h.within ∙ ap (λ b. within_by b (tx_at d c w n)) so) ∙ within;
+    answered = h.answered ∙ ap (λ b. answer_given b z.outcome) so;
+    from = h.from ∙ ap (λ b. Some (record { place = record { intent = c; step = n }; func = w.func; waits = b })) so;
+  }
+
+  by_caller : (c : IntentId) (n : ℕ) → i ≡ child_of c n → (o : Option Instance) → map.get known c ≡ o → CalledBy d c o n z → CallerOf d known s i z
+  by_caller c n same None made h = absurd h
+  by_caller c n same (Some w) made h = by_waits c n same w made h h.waits refl
+
+  pub caller_in : CallerOf d known s i z
+  caller_in = elim (last_hop i.hops) [
+    | inl e ↦
+        let root : i ≡ root_of i.ticket = λ k. record { ticket = i.ticket; hops = e k } in
+        let clash = sym (sane.roots i.ticket z (ap (map.get known) (sym root) ∙ is)).1 ∙ within in cc
+    | inr r ↦
+        let c : IntentId = record { ticket = i.ticket; hops = r.0 } in
+        let same : i ≡ child_of c r.1 = λ k. record { ticket = i.ticket; hops = r.2 k } in
+        by_caller c r.1 same (map.get known c) refl (sane.called c r.1 z (ap (map.get known) (sym same) ∙ is))
+  ]
+
+-- what is called by who is below the owner is below it
+pub below_child : (t : TxId) (i : IntentId) (n : ℕ) → IsBelow t i → IsBelow t (child_of i n)
+below_child t i n b = record {
+  step = b.step;
+  later = b.later;
+  hops = b.hops ++ n ∷ [];
+  is = ap (λ z. child_of z n) b.is ∙ ap (λ hs. record { ticket = t.intent.ticket; hops = hs }) (append_assoc t.intent.hops (b.step ∷ b.hops) (n ∷ []));
+}
+
+module _ (d : Deployment) (known : Known) (sane : Sane d known) (s : TxId) where
+  -- it waits for one that has no outcome
+  abbrev pub waits_for : (i : IntentId) (z : Instance) → CallerOf d known s i z → z.within ≡ Some s → z.outcome ≡ None → Waited d known i z
+  waits_for i z c within none = waited_by d known i z c.caller c.step c.waiter c.is c.made (record { waits = true; here = c.here; call = c.call; from = c.from; within = within ∙ sym c.within; answered = c.answered }) refl none
+      (sane.each c.caller c.waiter c.made).over
+
+  -- what is so of all that its owner called, and of all that one called of which it is so, is so of all that were called in it
+  module _ (P : IntentId → Instance → Type 0)
+      (first : (i : IntentId) (z : Instance) → z.within ≡ Some s → (c : CallerOf d known s i z) → c.waiter.within ≡ None → Own c.caller c.waiter.func (txs_after d c.waiter (take c.step c.waiter.answers)).begun s → P i z)
+      (later : (i : IntentId) (z : Instance) → z.within ≡ Some s → (c : CallerOf d known s i z) → c.waiter.within ≡ Some s → P c.caller c.waiter → P i z) where
+    by_hops : (n : ℕ) (i : IntentId) (z : Instance) → length i.hops < n → map.get known i ≡ Some z → z.within ≡ Some s → P i z
+    by_hops zero i z few is inner = absurd (omega (arith, few))
+    by_hops (suc n) i z few is inner = by_within c.waiter.within refl
+      where
+        c : CallerOf d known s i z
+        c = caller_in d known sane s i z is inner
+
+        in_it : (x : Option TxId) → c.waiter.within ≡ x → or_own x (tx_by c.caller c.waiter.func (length (take c.step c.waiter.answers)) (effect_before d c.waiter c.step) (txs_after d c.waiter (take c.step c.waiter.answers)).begun) ≡ Some s
+        in_it x e = sym (ap (λ w. or_own w (tx_by c.caller c.waiter.func (length (take c.step c.waiter.answers)) (effect_before d c.waiter c.step) (txs_after d c.waiter (take c.step c.waiter.answers)).begun)) e) ∙ c.within
+
+        by_within : (x : Option TxId) → c.waiter.within ≡ x → P i z
+        by_within None e = first i z inner c e (own_by c.caller c.waiter.func (length (take c.step c.waiter.answers)) (effect_before d c.waiter c.step) (txs_after d c.waiter (take c.step c.waiter.answers)).begun s (ap is_begin c.call) (in_it None e))
+        by_within (Some x) e = let up = e ∙ in_it (Some x) e in
+            later i z inner c up (by_hops n c.caller c.waiter (let m = longer c.caller c.step in let k = ap (λ (y : IntentId). length y.hops) c.is in omega (arith, few, m, k)) c.made up)
+
+    pub all_called : (i : IntentId) (z : Instance) → map.get known i ≡ Some z → z.within ≡ Some s → P i z
+    all_called i z = by_hops (suc (length i.hops)) i z (omega arith)
+
+-- its Begin is before the step of such a call
+pub begun_before : (d : Deployment) (known : Known) (s : TxId) (i : IntentId) (z : Instance) (c : CallerOf d known s i z) → Own c.caller c.waiter.func (txs_after d c.waiter (take c.step c.waiter.answers)).begun s → s.begin < c.step
+begun_before d known s i z c o = let k = (fits_at d c.waiter (take c.step c.waiter.answers)).before s.begin o.begun in let l = length-take-le c.step c.waiter.answers c.here in omega (arith, k, l)
+
+-- who was called in a transaction is below its owner
+pub called_below : (d : Deployment) (known : Known) → Sane d known → (s : TxId) (i : IntentId) (z : Instance) → map.get known i ≡ Some z → z.within ≡ Some s → IsBelow s i
+called_below d known sane s = all_called d known sane s (λ i z. IsBelow s i)
+    (λ i z inner c outside o. record { step = c.step; later = begun_before d known s i z c o; hops = []; is = c.is ∙ ap (λ y. child_of y c.step) (sym o.intent) })
+    (λ i z inner c up b. subst (IsBelow s) (sym c.is) (below_child s c.caller c.step b))
