@@ -306,7 +306,7 @@ module _ (d : Deployment) (func : ℕ) (args : Value) (i : Bool) where
   pub going : (given : List Answer) → Going d func args i given
   going given = going_rest [] given at_first
 
-  -- after a Begin comes no Begin ..
+  -- after a Begin comes no Begin
   pub begins_once : (given : List Answer) (a : Answer) → wants d func args i given ≡ effect.Begin → wants d func args i (given ++ a ∷ []) ≡ effect.Begin → ⊥
   begins_once given a is then_so =
       let g = going given in
@@ -314,13 +314,6 @@ module _ (d : Deployment) (func : ℕ) (args : Value) (i : Bool) where
       let k = (going_now (given ++ a ∷ []) (going_on given a g n)).at_begin then_so in
       let open_then = n.begun ∙ ap (λ e. begun_after e (is_begun g.phase)) is in
       let shut = sym open_then ∙ k.2 in cc
-
-  -- .. and none inside, nor an End
-  pub begins_outside : (given : List Answer) → wants d func args i given ≡ effect.Begin → i ≡ false
-  begins_outside given is = let k = (going_now given (going given)).at_begin is in k.0
-
-  pub ends_outside : (given : List Answer) (c : Bool) → wants d func args i given ≡ effect.End c → i ≡ false
-  ends_outside given c is = let g = going given in g.outside ((going_now given g).at_end c is)
 
   -- an Abort is wanted inside alone, and after it neither a Begin nor an Abort
   pub aborts_inside : (given : List Answer) → wants d func args i given ≡ effect.Abort → is_inside d func args i given ≡ true

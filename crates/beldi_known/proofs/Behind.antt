@@ -25,15 +25,15 @@ use Rattle.beldi_row.specs.Log.{note_at}
 use Rattle.beldi_row.specs.Act.{other_owner}
 use Rattle.beldi_row.proofs.Logs.{place_self}
 use Rattle.beldi_row.specs.Table.{Rows}
-use Rattle.beldi_daal.specs.Content.{Content, content_in}
+use Rattle.beldi_daal.specs.Content.{Content}
 use Rattle.beldi_readlog.specs.ReadLog.{log_key}
 use Rattle.beldi_plain.specs.Item.{Item, item_total}
-use Rattle.beldi_plain.specs.Operation.{OnItem, op_of, item_in, touched}
+use Rattle.beldi_plain.specs.Operation.{touched}
 use Rattle.beldi_plain.specs.Plain.{Instance, effect_of, effect_before}
 use Rattle.beldi_step.specs.Run.{place_of}
-use Rattle.beldi_known.specs.Owed.{noted as noted_op, note_of, value_for}
+use Rattle.beldi_known.specs.Owed.{note_of, value_for}
 use Rattle.beldi_known.specs.Rows.{LogMatches}
-use Rattle.beldi_known.specs.Contents.{content_of, shadow_key, shadow_of, lockset_key}
+use Rattle.beldi_known.specs.Contents.{content_of, shadow_of, lockset_key}
 use Rattle.beldi_known.specs.Known.{Known, at_step, tx_eq, is_tx, is_item, write_op, read_at, decision_by, value_or, row_at, owed_value, lock_note, note_by, answered_note, ahead_by, note_or, owed_note, shadow_by, owed_shadow, begins_at, asks_lock, owed_lockset, is_mark, is_decided, commit_in, last_step}
 use Rattle.beldi_order.specs.Txs.{effect_after, along, is_at, txs_by, txs_after, end_of, tx_after, tx_now}
 use Rattle.beldi_known.specs.Matches.{Matches, LocksetMatches, lockset_ahead}
@@ -44,10 +44,6 @@ use Rattle.beldi_known.proofs.Answers.{take_front, get_next, true_false}
 use Rattle.beldi_order.proofs.Ends.{along_append, ended_stays}
 use Rattle.beldi_known.proofs.Frame.{begins}
 use Rattle.beldi_order.proofs.Went.{txs_pushed}
-
-or_none : (o : Option Value) → value_or o None ≡ o
-or_none None = refl
-or_none (Some v) = refl
 
 note_or_none : (o : Option Note) → note_or o None ≡ o
 note_or_none None = refl
@@ -235,28 +231,14 @@ module _ (d : Deployment) (m : Rows) (known : Known) (locked : IntentId → Bool
   pub behind_looks_dead : (b : ℕ) (k : List ℕ) (c : Cause) → wanted ≡ effect.Read b k → a ≡ answer.Aborted c → map.get m (log_key q.func p) ≡ None
   behind_looks_dead b k c wants same = no_log (map.get m (log_key q.func p)) (subst (LogMatches (map.get m (log_key q.func p))) (row_there d id q given a rest run_answers b k wants ∙ ap (λ z. value_for z a) wants ∙ ap (value_for (effect.Read b k)) same) log_match)
 
-  -- .. and its PutRead is told that value, whatever it found
-  pub behind_keeps : (b : ℕ) (k : List ℕ) (v w : Value) → wanted ≡ effect.Read b k → a ≡ answer.Value w → keep_value v (map.get m (log_key q.func p)) ≡ (map.get m (log_key q.func p), Some w)
-  behind_keeps b k v w wants same = kept_there (map.get m (log_key q.func p)) v w (behind_looks b k w wants same)
-
   -- an End: the decision row is there with its commit
   pub behind_decided : (b : ℕ) (c : Bool) → wanted ≡ effect.End c → (txs_after d q given).begun ≡ Some b → map.get m (log_key q.func (place_of id b)) ≡ Some (rows.ReadLog (value.Bool c))
   behind_decided b c wants begun = log_there (map.get m (log_key q.func (place_of id b))) (value.Bool c)
       (subst (LogMatches (map.get m (log_key q.func (place_of id b)))) (ap (λ o. owed_value d q.func b o) is ∙ ap (λ z. if z then row_at d q b else None) (eq-eqb q.func q.func refl) ∙ decision_there d id q given a rest run_answers b c wants begun) (h.keys (log_key q.func (place_of id b))))
 
-  pub behind_decides : (b : ℕ) (v : Value) (c : Bool) → wanted ≡ effect.End c → (txs_after d q given).begun ≡ Some b
-      → keep_value v (map.get m (log_key q.func (place_of id b))) ≡ (map.get m (log_key q.func (place_of id b)), Some (value.Bool c))
-  behind_decides b v c wants begun = kept_there (map.get m (log_key q.func (place_of id b))) v (value.Bool c) (behind_decided b c wants begun)
-
   -- an item has the note of the answer
   note_match : (x : Item) → commit_in wanted ≡ None → note_at (content_of m x).notes p ≡ note_by x q.func stood wanted a
   note_match x apart = (h.items x).notes p (no_mark apart) ∙ ap (λ o. owed_note d x id (locked id) (length given) o) is ∙ note_there d id q given a rest run_answers x (locked id)
-
-  -- outside: an operation is told the note of the known answer
-  pub behind_does : (o : OnItem) (w : Note) (r : Content × Told) → stood ≡ None → op_of wanted ≡ Some o → commit_in wanted ≡ None → noted_op o.does a ≡ Some w
-      → noted_or (content_of m (item_in q.func o)) (note_at (content_of m (item_in q.func o)).notes p) r ≡ (content_of m (item_in q.func o), noted w)
-  behind_does o w r out wants apart same = noted_there (content_of m (item_in q.func o)) p w r (note_match (item_in q.func o) apart ∙ ap (λ z. note_by (item_in q.func o) q.func z wanted a) out ∙ ap (λ z. note_of (item_in q.func o) q.func z a) wants
-      ∙ ap (λ z. if is_eq z then noted_op o.does a else None) (tied_itself item_total (item_in q.func o)) ∙ same)
 
   -- inside, an operation on an item
   module _ (s : TxId) (inside : stood ≡ Some s) (o : ℕ × List ℕ) (touch : touched wanted ≡ Some o) where
@@ -310,11 +292,3 @@ module _ (d : Deployment) (m : Rows) (known : Known) (locked : IntentId → Bool
         own : Some (b, k) ≡ Some o → note_of x q.func (write_op (effect.CondWrite b k u y v)) a ≡ Some (notes.Cond t)
         own g = let f : (b, k) ≡ o = cc in subst (λ (z : ℕ × List ℕ). note_of (record { func = q.func; table = z.0; key = z.1 }) q.func (write_op (effect.CondWrite b k u y v)) a ≡ Some (notes.Cond t)) f
             (ap (λ z. note_of (record { func = q.func; table = b; key = k }) q.func (write_op (effect.CondWrite b k u y v)) z) same ∙ ap (λ z. if is_eq z then Some (notes.Cond t) else None) (tied_itself item_total (record { func = q.func; table = b; key = k })))
-
-    -- the first row of its shadow is there, whatever would be made: a write was answered, so it has a note
-    pub behind_makes : (w : Note) → note_of x q.func (write_op wanted) a ≡ Some w → (r : Row) × (map.get m (shadow_key s x) ≡ Some r)
-    behind_makes w same = by_row (map.get m (shadow_key s x)) refl (shadow_match ∙ same)
-      where
-        by_row : (r : Option Row) → map.get m (shadow_key s x) ≡ r → note_at (content_in r).notes p ≡ Some w → (z : Row) × (map.get m (shadow_key s x) ≡ Some z)
-        by_row None g k = cc
-        by_row (Some r) g k = (r, g)

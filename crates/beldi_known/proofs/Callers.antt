@@ -21,7 +21,7 @@ use Rattle.beldi_order.proofs.Sanes.{Waited, waited_by}
 use Rattle.beldi_known.specs.Beside.{is_begin}
 use Rattle.beldi_known.specs.Known.{Known}
 use Rattle.beldi_known.specs.Sane.{Sane}
-use Rattle.beldi_known.proofs.OneFunction.{Own, own_by}
+use Rattle.beldi_known.proofs.OwnTx.{Own, own_by}
 
 -- who called an instance, in a transaction
 pub record CallerOf (d : Deployment) (known : Known) (s : TxId) (i : IntentId) (z : Instance) : Type 0 where

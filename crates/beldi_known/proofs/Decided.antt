@@ -177,9 +177,6 @@ module _ (d : Deployment) (m : Rows) (p : PlainState) (known : Known) (locked : 
   at_front : map.get tx.going.state.made tx.going.front ≡ Some k
   at_front = ap (map.get tx.going.state.made) front ∙ sym (tx.whole id (inl refl)) ∙ is
 
-  at_end : AtEnd d id tx.going c
-  at_end = record { owner = front; stands = record { instance = k; made = at_front; effect = ends } }
-
   off : (x : Item) → is_writing d locked x tx.going ≡ false
   off x = (λ i. writing_at d locked x (front i) (at_front i)) ∙ ap (λ l. l && writes_on x k.func (effect_of d k)) unlocked
 

@@ -22,7 +22,6 @@ use Rattle.beldi_row.specs.declared.row.Row.{Row}
 use Rattle.beldi_row.specs.declared.row.Row.TheVariants as rows
 use Rattle.beldi_row.specs.Log.{note_at, place_eq}
 use Rattle.beldi_row.proofs.Logs.{note_pushed, place_same}
-use Rattle.beldi_row.specs.Table.{Rows}
 use Rattle.beldi_row.specs.Key.{key_cmp}
 use Rattle.beldi_row.proofs.Gets.{key_self}
 use Rattle.beldi_daal.specs.Content.{Content}
@@ -32,7 +31,7 @@ use Rattle.beldi_plain.specs.Operation.{op_of, touched}
 use Rattle.beldi_plain.specs.Holds.{held_if, holds}
 use Rattle.beldi_plain.specs.Plain.{Instance, effect_of}
 use Rattle.beldi_step.specs.Run.{place_of}
-use Rattle.beldi_known.specs.Rows.{LogMatches, IntentMatches}
+use Rattle.beldi_known.specs.Rows.{IntentMatches}
 use Rattle.beldi_known.specs.Contents.{is_owner}
 use Rattle.beldi_plain.specs.Piece.{is_aborted}
 use Rattle.beldi_known.specs.Known.{Known, is_item, owed_value, owed_read, row_at, lock_note, note_by, ahead_by, note_or, owed_note, shadow_by, owed_shadow, begins_at, asks_lock, owed_lockset, got_by, ended_by, tx_end, commit_in, ended_at, is_decided, is_mark, last_step}
@@ -44,7 +43,7 @@ use Rattle.beldi_known.proofs.Answers.{true_false}
 use Rattle.beldi_known.proofs.Instances.{EndMore, intent_stays, intent_same}
 use Rattle.beldi_order.proofs.Ends.{ends_kept, fits}
 use Rattle.beldi_known.proofs.Frame.{step_next}
-use Rattle.beldi_known.proofs.FrameAt.{known_set, no_place, read_none, read_one, shadow_one, lockset_one, holds_one, note_one, got_same}
+use Rattle.beldi_known.proofs.FrameAt.{known_set, no_place, read_one, shadow_one, lockset_one, holds_one, note_one, got_same}
 
 -- ---- effects that end no transaction
 quiet_ends : (e : Effect) (n : ℕ) (s : Txs) (b : ℕ) → commit_in e ≡ None → (txs_by n e s).ends b ≡ s.ends b
@@ -71,9 +70,6 @@ op_holds x f (effect.CondWrite t k r u v) o b h = by_test (is_eq (item_cmp (reco
     by_test false = refl
 op_holds x f e o b h = cc
 
-or_same : (a b : Bool) → (a || b) ≡ true → (c : Bool) → (a || c) ≡ true → (a || c) ≡ (a || b)
-or_same a b h c g = g ∙ sym h
-
 module _ (d : Deployment) (known : Known) (locked unlocked : IntentId → Bool) (id : IntentId) (q r : Instance) (a : Answer) (is : map.get known id ≡ Some q) (h : AnswersOne d id q a r) (out : LockedOut locked unlocked id) where
   abbrev n : ℕ
   n = length q.answers
@@ -85,10 +81,6 @@ module _ (d : Deployment) (known : Known) (locked unlocked : IntentId → Bool) 
   after = map.insert known id r
 
   -- ---- the rows of reads and decisions: one is added, or none
-  pub logs_kept : (m l : Rows) → row_added n (txs_after d q q.answers).begun (effect_of d q) a ≡ None → ((f : ℕ) (b : Place) → map.get l (log_key f b) ≡ map.get m (log_key f b))
-      → ((f : ℕ) (b : Place) → LogMatches (map.get m (log_key f b)) (owed_read d known f b)) → (f : ℕ) (b : Place) → LogMatches (map.get l (log_key f b)) (owed_read d after f b)
-  logs_kept m l none same g f b = subst (λ z. LogMatches z (owed_read d after f b)) (sym (same f b)) (subst (LogMatches (map.get m (log_key f b))) (sym (read_none d known id q r a is h none f b)) (g f b))
-
   -- at another key than that of the row that is added
   pub read_elsewhere : (k : ℕ) (v : Value) → row_added n (txs_after d q q.answers).begun (effect_of d q) a ≡ Some (k, v) → (f : ℕ) (b : Place) → is_eq (key_cmp (log_key f b) (log_key q.func (place_of id k))) ≡ false
       → owed_read d after f b ≡ owed_read d known f b

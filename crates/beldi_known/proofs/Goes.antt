@@ -60,14 +60,6 @@ once_goes d id q = by_outcome q.outcome
 pub goes_then : (q r u : Instance) → GoesOn q r → GoesOn r u → GoesOn q u
 goes_then q r u g h = record { more = g.more ++ h.more; same = sym (append_assoc q.answers g.more h.more) ∙ ap (λ xs. xs ++ h.more) g.same ∙ h.same }
 
-pub moved_goes : (d : Deployment) (id : IntentId) (q : Instance) (a : Answer) → GoesOn q (moved d id q a)
-moved_goes d id q a = goes_then q (answered q a) (moved d id q a) (record { more = a ∷ []; same = refl })
-    (goes_then (answered q a) (once d id (answered q a)) (moved d id q a) (once_goes d id (answered q a)) (once_goes d id (once d id (answered q a))))
-
--- so a run's answers stay how the known ones begin
-pub prefix_stays : (given : List Answer) (q r : Instance) → Prefix given q → GoesOn q r → Prefix given r
-prefix_stays given q r h g = record { later = h.later ++ g.more; all = sym (append_assoc given h.later g.more) ∙ ap (λ xs. xs ++ g.more) h.all ∙ g.same }
-
 -- ---- a run takes at once what is known there
 module _ (d : Deployment) (id : IntentId) (q : Instance) (closed : Closed d id q) (sane : SaneInstance d id q) where
   -- an answer that takes no turn is the only one to its effect

@@ -29,11 +29,11 @@ pub mod Locks
 pub mod Members
 pub mod NoTx
 pub mod Nothing
-pub mod OneFunction
 pub mod Operations
 pub mod Outside
 pub mod Outsides
 pub mod Owners
+pub mod OwnTx
 pub mod Owns
 pub mod Participants
 pub mod Phases

@@ -27,9 +27,9 @@ use Rattle.beldi_order.proofs.Called.{last_hop}
 use Rattle.beldi_order.proofs.Foreign.{none_below}
 use Rattle.beldi_order.proofs.Goes.{answered_plainly, plainly_edge}
 use Rattle.beldi_order.proofs.Line.{all_in, in_line, line_alike, line_moved, line_opened, long, longer, not_longer, returned}
-use Rattle.beldi_order.proofs.Maps.{same_some, equal, elsewhere}
+use Rattle.beldi_order.proofs.Maps.{same_some, equal}
 use Rattle.beldi_order.proofs.Moved.{Answers, Calls, Returns, MoveIs, answers, calls, returns, move_is, mover}
-use Rattle.beldi_order.proofs.Sanes.{is_edge, tx_is, begun_pushed, SaneWith, outside_of}
+use Rattle.beldi_order.proofs.Sanes.{is_edge, begun_pushed, SaneWith, outside_of}
 use Rattle.beldi_order.proofs.Sound.{sane_with}
 use Rattle.beldi_order.proofs.Went.{txs_pushed}
 use Rattle.beldi_known.specs.Beside.{Beside, OpenTx, begins, is_begin}
@@ -38,6 +38,7 @@ use Rattle.beldi_known.specs.Known.{Known, answer_at_once}
 use Rattle.beldi_known.specs.Sane.{Sane}
 use Rattle.beldi_known.proofs.NoTx.{begins_parts}
 use Rattle.beldi_known.proofs.Callers.{called_below}
+use Rattle.beldi_known.proofs.OwnTx.{own_intent}
 use Rattle.beldi_known.proofs.Participants.{IsOpenOwner, open_owner}
 
 -- ---- ids
@@ -264,15 +265,6 @@ module _ (d : Deployment) (p : PlainState) (known : Known) (sane : plain.Sane d 
   pub owner_outside : (z : Instance) → map.get known id ≡ Some z → z.within ≡ None
   owner_outside z is = ((member id z (inl refl) is).owner refl).within ∙ outside
 
-  -- a step of who is in it is
-  pub tx_inside : (i : IntentId) (z : Instance) → IsIn (tx_begun id q) i → map.get known i ≡ Some z → is_edge (effect_of d z) ≡ false → tx_now d i z ≡ Some (tx_begun id q)
-  tx_inside i z (inl own) is edge =
-      let o = (member i z (inl own) is).owner own in
-      ap (λ x. or_own x (tx_by i z.func (length z.answers) (effect_of d z) (txs_after d z z.answers).begun)) (o.within ∙ outside)
-      ∙ ap (tx_by i z.func (length z.answers) (effect_of d z)) o.begun ∙ tx_is i z.func (length z.answers) (effect_of d z) (Some (length q.answers)) edge
-      ∙ (λ j. Some (record { intent = own j; begin = length q.answers; func = o.func j }))
-  tx_inside i z (inr h) is edge = ap (λ x. or_own x (tx_by i z.func (length z.answers) (effect_of d z) (txs_after d z z.answers).begun)) ((member i z (inr h) is).below h)
-
   -- who can step: it has no outcome, and waits for nobody
   pub front_is : (i : IntentId) (z : Instance) → IsIn (tx_begun id q) i → map.get known i ≡ Some z → z.outcome ≡ None → ((f : ℕ) (v : Value) → effect_of d z ≡ effect.Call f v → map.get known (callee_of i z) ≡ None) → tx.going.front ≡ i
   front_is i z is_in is none free = elim (last_or_waits d this known tx.going.front known_line i ((member i z is_in is).above none) is_in) [
@@ -290,18 +282,9 @@ module _ (d : Deployment) (p : PlainState) (known : Known) (sane : plain.Sane d 
     pub in_tx : (i : IntentId) (z : Instance) → map.get known i ≡ Some z → tx_now d i z ≡ Some (tx_begun id q) → IsIn (tx_begun id q) i
     in_tx i z is now = by_within z.within refl
       where
-        own_intent : (n : ℕ) (e : Effect) (o : Option ℕ) → tx_by i z.func n e o ≡ Some (tx_begun id q) → i ≡ id
-        own_intent n effect.Begin o h = ap (λ (y : TxId). y.intent) (same_some h)
-        own_intent n e None h = cc
-        own_intent n e (Some b) h = ap (λ (y : TxId). y.intent) (same_some h)
-
         by_within : (x : Option TxId) → z.within ≡ x → IsIn (tx_begun id q) i
-        by_within None e = inl (own_intent (length z.answers) (effect_of d z) (txs_after d z z.answers).begun (sym (ap (λ x. or_own x (tx_by i z.func (length z.answers) (effect_of d z) (txs_after d z z.answers).begun)) e) ∙ now))
+        by_within None e = inl (sym (own_intent i z.func (length z.answers) (effect_of d z) (txs_after d z z.answers).begun (tx_begun id q) (sym (ap (λ x. or_own x (tx_by i z.func (length z.answers) (effect_of d z) (txs_after d z z.answers).begun)) e) ∙ now)))
         by_within (Some x) e = called_in i z is (e ∙ sym (ap (λ x. or_own x (tx_by i z.func (length z.answers) (effect_of d z) (txs_after d z z.answers).begun)) e) ∙ now)
-
-  -- one that is not in it is set
-  abbrev pub still_open : (k : IntentId) (z : Instance) → (IsIn (tx_begun id q) k → ⊥) → OpenTx d p (map.insert known k z) id q
-  still_open k z out = record { moves = tx.moves; going = tx.going; leads = tx.leads; whole = λ i is_in. elsewhere known k i z (λ same. out (subst (IsIn (tx_begun id q)) (sym same) is_in)) ∙ tx.whole i is_in }
 
 -- ---- two of them share nobody that is known
 module _ (d : Deployment) (p : PlainState) (known : Known) (sane : plain.Sane d p) (id : IntentId) (q : Instance) (made : map.get p.made id ≡ Some q) (b : begins d q ≡ true) (tx : OpenTx d p known id q)

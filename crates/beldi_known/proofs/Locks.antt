@@ -60,10 +60,6 @@ owned_is s t o h g = by_test (tx_eq t s) refl (sym (ap (other_owner (Tx s)) g) �
     by_test true e k = tx_same t s e
     by_test false e k = cc
 
-none_at_all : {X : Type 0} (b : Bool) → (λ (o : Option X). (if b then o else o)) None ≡ None
-none_at_all true = refl
-none_at_all false = refl
-
 -- ---- a lock that is ahead
 lock_here : (locked : IntentId → Bool) (id : IntentId) → lock_in locked id id ≡ true
 lock_here locked id = ap (λ c. if is_eq c then true else locked id) (tied_itself id_total id)

@@ -38,14 +38,6 @@ module _ (d : Deployment) (id : IntentId) (q : Instance) (given : List Answer) w
       by_within None e g = let k = by_begun (effect_after d q given) (txs_after d q given).begun g in ((e, k.0), k.1)
       by_within (Some t) e g = cc
 
-  -- in its own transaction an effect is of that transaction, but a Begin
-  pub inside_so : (b : ℕ) → q.within ≡ None → (txs_after d q given).begun ≡ Some b → is_begin (effect_after d q given) ≡ false → tx_after d id q given ≡ Some (record { intent = id; begin = b; func = q.func })
-  inside_so b own begun apart = (λ i. or_own (own i) (tx_by id q.func (length given) (effect_after d q given) (begun i))) ∙ by_effect (effect_after d q given) apart
-    where
-      by_effect : (e : Effect) → is_begin e ≡ false → tx_by id q.func (length given) e (Some b) ≡ Some (record { intent = id; begin = b; func = q.func })
-      by_effect effect.Begin h = cc
-      by_effect e h = refl
-
 pub no_begin : (d : Deployment) (q : Instance) (b : ℕ) → (txs_after d q q.answers).begun ≡ Some b → effect_of d q ≡ effect.Begin → ⊥
 no_begin d q b begun is = let clash = sym (ap is_some begun) ∙ (begin_is d q q.answers is).1 in cc
 

@@ -1,11 +1,10 @@
 -- At the start nothing is known, no lock is ahead, and no row is there: all that matches.
-use Rattle.std.proofs.Common.{◌≡◌, ℕ, zero, suc, ◌==◌, Bool, true, false, [], Some, None, refl, ap, sym, ◌∙◌, subst}
+use Rattle.std.proofs.Common.{◌≡◌, ℕ, zero, suc, ◌==◌, Bool, true, false, Some, None, refl, ap, sym, ◌∙◌, subst}
 use Rattle.std.specs.FinMap as map
 use Rattle.std.specs.FinMap.{get-empty}
 use Rattle.beldi_value.specs.Id.{id_cmp, root_of, child_of, has_no_hops}
 use Rattle.beldi_value.specs.declared.id.IntentId.{IntentId}
 use Rattle.beldi_value.specs.declared.place.TxId.{TxId}
-use Rattle.beldi_value.specs.declared.value.Value.TheVariants.{Null}
 use Rattle.beldi_tree.specs.declared.deployment.Deployment.{Deployment}
 use Rattle.beldi_row.specs.Key.{key_cmp}
 use Rattle.beldi_row.specs.declared.key.Kind.{Kind}
@@ -38,7 +37,6 @@ sane_nothing d = record {
   each = λ id q is. absurd (nobody id q is);
   closed = λ id q is. absurd (nobody id q is);
   called = λ i n j is. absurd (nobody (child_of i n) j is);
-  within = λ i q n j is on. absurd (nobody i q is);
   callees = λ i q n w f a is. absurd (nobody i q is);
   roots = λ t q is. absurd (nobody (root_of t) q is);
 }
@@ -66,9 +64,6 @@ no_row d home (kinds.Invoke a) = ap (called_by home (map.get none a.intent)) (ab
 no_row d home (kinds.Lockset i b t k) = ap (owed_lockset d b (record { func = home; table = t; key = k }) i) (absent i)
 no_row d home (kinds.Data t k n) = no_cell n
 no_row d home (kinds.Shadow s t k n) = no_cell n
-
-abbrev empty_content : Content
-empty_content = record { value = Null; owner = None; notes = [] }
 
 pub nothing_matches : (d : Deployment) → Matches d map.empty none unlocked
 nothing_matches d = record {

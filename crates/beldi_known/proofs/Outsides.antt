@@ -59,6 +59,7 @@ use Rattle.beldi_known.proofs.NoTx.{IsOutside, begins_parts, no_begin}
 use Rattle.beldi_known.proofs.Owns.{going, got_owned, owner_known, touched_owned}
 use Rattle.beldi_known.proofs.Phases.{end_is, inside_is}
 use Rattle.beldi_known.proofs.ReadLists.{both, gathered, got_since}
+use Rattle.beldi_known.proofs.Sanes.{no_callees as known_childless}
 
 abbrev pub value_of : Items → Item → Value
 value_of m x = or_null (map.get m x)
@@ -123,13 +124,6 @@ pub plain_none_after : (d : Deployment) (p : PlainState) → plain.Sane d p → 
 plain_none_after d p legal = let good = sane_with d p legal in none_after p.made (λ i is n. no_callees d p.made good i is n) (λ i q n is lt. no_later d p.made good i q n is lt)
 
 module _ (d : Deployment) (known : Known) (sane : Sane d known) where
-  known_childless : (i : IntentId) → map.get known i ≡ None → (n : ℕ) → map.get known (child_of i n) ≡ None
-  known_childless i is n = by_callee (map.get known (child_of i n)) refl
-    where
-      by_callee : (o : Option Instance) → map.get known (child_of i n) ≡ o → o ≡ None
-      by_callee None e = refl
-      by_callee (Some j) e = absurd (subst (λ o. CalledBy d i o n j) is (sane.called i n j e))
-
   known_later : (i : IntentId) (q : Instance) (n : ℕ) → map.get known i ≡ Some q → length q.answers < n → map.get known (child_of i n) ≡ None
   known_later i q n is lt = by_callee (map.get known (child_of i n)) refl
     where
@@ -138,7 +132,7 @@ module _ (d : Deployment) (known : Known) (sane : Sane d known) where
       by_callee (Some j) e = let c = subst (λ o. CalledBy d i o n j) is (sane.called i n j e) in let l = c.here in absurd (omega (arith, lt, l))
 
   pub known_none_after : (t : TxId) → ((q : Instance) → map.get known t.intent ≡ Some q → length q.answers ≤ t.begin) → (i : IntentId) → IsBelow t i → map.get known i ≡ None
-  known_none_after = none_after known known_childless known_later
+  known_none_after = none_after known (λ i is n. known_childless d known sane i n is) known_later
 
   -- ---- a transaction that is yet to begin got nothing
   pub nothing_got : (locked : IntentId → Bool) (s : TxId) (x : Item) → ((q : Instance) → map.get known s.intent ≡ Some q → length q.answers ≤ s.begin) → Got d known locked s x → ⊥

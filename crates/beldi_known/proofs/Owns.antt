@@ -43,7 +43,6 @@ use Rattle.beldi_step.specs.Run.{place_of}
 use Rattle.beldi_step.specs.Tables.{value_in}
 use Rattle.beldi_known.specs.Beside.{OpenTx, begins}
 use Rattle.beldi_known.specs.Contents.{content_of, shadow_key}
-use Rattle.beldi_known.specs.InsideLaws.{IsSound}
 use Rattle.beldi_known.specs.Known.{Known, Got, at_step, ended_by, got_before, got_by, is_item, is_on, is_tx, owed_shadow, shadow_at, shadow_by, tx_end, write_op}
 use Rattle.beldi_known.specs.Matches.{Matches}
 use Rattle.beldi_known.specs.Owed.{note_of, noted}
@@ -193,12 +192,3 @@ module _ (d : Deployment) (p : PlainState) (known : Known) (sane : Sane d known)
           by_row (Some (rows.Cell c)) is fits (inl e) = absurd (true_false (sym e ∙ off))
           by_row (Some (rows.Cell c)) is fits (inr e) = e
           by_row (Some r) is fits h = absurd fits
-
--- .. in a sound state
-pub written_there : (d : Deployment) (m : Rows) (p : PlainState) (known : Known) (locked : IntentId → Bool) → IsSound d m p known locked → (id : IntentId) (q : Instance) → map.get p.made id ≡ Some q → begins d q ≡ true
-    → (tx : OpenTx d p known id q) (x : Item) → WrittenIn d (tx_begun id q) (opened p id q) tx.moves x → is_some (map.get m (shadow_key (tx_begun id q) x)) ≡ true
-written_there d m p known locked h id q made b tx x on = by_row (map.get m (shadow_key (tx_begun id q) x)) refl
-  where
-    by_row : (o : Option Row) → map.get m (shadow_key (tx_begun id q) x) ≡ o → is_some o ≡ true
-    by_row None e = absurd (written_bare d p known h.sane h.plain_sane id q made b tx locked x m h.matches on e)
-    by_row (Some r) e = refl

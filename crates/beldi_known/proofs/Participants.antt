@@ -21,7 +21,7 @@ use Rattle.beldi_known.specs.Sane.{Sane}
 use Rattle.beldi_order.proofs.Ends.{fits}
 use Rattle.beldi_known.specs.Beside.{is_begin}
 use Rattle.beldi_known.proofs.Callers.{all_called, waits_for}
-use Rattle.beldi_known.proofs.OneFunction.{Own, own, own_by, own_intent}
+use Rattle.beldi_known.proofs.OwnTx.{Own, own, own_by, own_intent}
 use Rattle.beldi_known.proofs.Phases.{inside_holds_none}
 
 -- one's own transaction has not ended, where it is that of the next step

@@ -413,16 +413,6 @@ module _ (d : Deployment) (id : IntentId) (q : Instance) (h : SaneInstance d id 
       by_begin (inr other) = holds_none (sym (tx_is d q id q.answers other ∙ inside_is d q q.answers) ∙ inner) x
 
 module _ (d : Deployment) (id : IntentId) (q : Instance) (h : SaneInstance d id q) (c : Cause) (fits : IsAnswer (place_of id (length q.answers)) (tx_now d id q) (effect_of d q) (answer.Aborted c)) where
-  -- outside one's own it ends the body: it is returned, or first the locks are released
-  pub abort_leaves : is_some (txs_after d q q.answers).begun ≡ false → (effect_of d (answered q (answer.Aborted c)) ≡ effect.Return (outcome.Aborted c)) ⊎ (is_unlock (effect_of d (answered q (answer.Aborted c))) ≡ true)
-  abort_leaves outer =
-      let k = abort_answer (place_of id (length q.answers)) (tx_now d id q) (effect_of d q) c fits in
-      let g = at d q q.answers in
-      elim (dies_else d q.func q.args (is_some q.within) q.answers c g.going (g.begun ∙ outer) k.0 k.1) [
-        | inl e ↦ inl e
-        | inr e ↦ inr e.0
-      ]
-
   -- who was called in a transaction holds none, and returns it
   pub abort_returns : (t : TxId) → q.within ≡ Some t → effect_of d (answered q (answer.Aborted c)) ≡ effect.Return (outcome.Aborted c)
   abort_returns t inner =

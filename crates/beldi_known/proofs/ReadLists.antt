@@ -36,7 +36,7 @@ use Rattle.beldi_known.proofs.Acts.{kinds_apart, is_data, is_shadow, content_apa
 use Rattle.beldi_known.specs.Beside.{is_begin}
 use Rattle.beldi_step.specs.Tables.{decision_key, is_committed, value_in}
 use Rattle.beldi_known.specs.Listed.{listed_under, listed}
-use Rattle.beldi_known.proofs.OneFunction.{own_by}
+use Rattle.beldi_known.proofs.OwnTx.{own_by}
 use Rattle.beldi_known.proofs.Lists.{elsewhere}
 
 pub both : (u v : Bool) → (u && v) ≡ true → (u ≡ true) × (v ≡ true)
@@ -136,15 +136,3 @@ module _ (d : Deployment) (m : Rows) (known : Known) (locked : IntentId → Bool
       under (Some (Tx t)) e =
           ap (λ r. if is_committed r then value_in (map.get (set_row m key v) (shadow_key t x)) (content_of m x).value else (content_of m x).value) (row_got m key (decision_key t) v ∙ ap (λ b. cond b v (map.get m (decision_key t))) (apart x t e))
           ∙ ap (λ r. if is_committed (map.get m (decision_key t)) then value_in r (content_of m x).value else (content_of m x).value) (elsewhere m key v is_shadow (shadow_key t x) refl refl)
-
--- where nobody was called in a transaction
-module _ (d : Deployment) (m : Rows) (known : Known) (locked : IntentId → Bool) (h : (x : Item) → TxsMatch d known locked x (content_of m x).owner) (one : (j : IntentId) (z : Instance) → map.get known j ≡ Some z → z.within ≡ None) where
-  own_begun : (t : TxId) (x : Item) → Got d known locked t x → IsBegun known t
-  own_begun t x g = by_member (map.get known g.member) refl g.got
-    where
-      by_member : (o : Option Instance) → map.get known g.member ≡ o → got_by d t x g.member (locked g.member) o ≡ true → IsBegun known t
-      by_member None e k = cc
-      by_member (Some z) e k = let s = got_since d t x g.member z (one g.member z e) (locked g.member) k in record { owner = z; made = ap (map.get known) s.own ∙ e; func_is = s.func_is; before = s.before }
-
-  pub read_lists : (id : IntentId) (q : Instance) → map.get known id ≡ Some q → (v : Option Row) (x : Item) → listed (set_row m (log_key q.func (place_of id (length q.answers))) v) x ≡ listed m x
-  read_lists = begun_lists d m known locked h own_begun

@@ -22,11 +22,6 @@ then_equal Less = refl
 then_equal Equal = refl
 then_equal Greater = refl
 
-not_greater : (o : Ordering) → is_eq (ordering_then o Greater) ≡ false
-not_greater Less = refl
-not_greater Equal = refl
-not_greater Greater = refl
-
 not_less : (o : Ordering) → is_eq (ordering_then o Less) ≡ false
 not_less Less = refl
 not_less Equal = refl
@@ -36,24 +31,11 @@ not_less Greater = refl
 pub head_order : (x y : Item) → key_cmp (head_key x) (head_key y) ≡ item_cmp x y
 head_order x y = ap (λ o. ordering_then (nat_cmp x.func y.func) (ordering_then (nat_cmp x.table y.table) o)) (then_equal (slice_cmp nat_cmp x.key y.key))
 
-abbrev pub is_cell_key : Kind → Bool
-is_cell_key (kinds.Data t k n) = true
-is_cell_key k = false
-
 abbrev pub is_intent_key : Kind → Bool
 is_intent_key (kinds.Intent id) = true
 is_intent_key k = false
 
--- a row of another kind is no item's ..
-pub no_head : (x : Item) (home : ℕ) (k : Kind) → is_cell_key k ≡ false → is_eq (key_cmp (head_key x) (record { home = home; kind = k })) ≡ false
-no_head x home (kinds.Intent a) h = not_greater (nat_cmp x.func home)
-no_head x home (kinds.ReadLog a) h = not_greater (nat_cmp x.func home)
-no_head x home (kinds.Invoke a) h = not_greater (nat_cmp x.func home)
-no_head x home (kinds.Data t k n) h = cc
-no_head x home (kinds.Shadow a t k n) h = not_less (nat_cmp x.func home)
-no_head x home (kinds.Lockset a b t k) h = not_less (nat_cmp x.func home)
-
--- .. and no root's
+-- a row of another kind is no root's
 pub no_root : (t home : ℕ) (k : Kind) → is_intent_key k ≡ false → is_eq (key_cmp (root_key t) (record { home = home; kind = k })) ≡ false
 no_root t home (kinds.Intent a) h = cc
 no_root t home k h = not_less (nat_cmp 0 home)

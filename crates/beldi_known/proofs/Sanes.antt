@@ -1,5 +1,5 @@
 -- All that is known stays sane: move by move.
-use Rattle.std.proofs.Common.{◌≡◌, inl, inr, ℕ, ◌<◌, Bool, true, false, List, [], length, Option, Some, None, is_some, refl, ap, sym, ◌∙◌, subst, arith, if◌then◌else◌}
+use Rattle.std.proofs.Common.{◌≡◌, inl, inr, ℕ, ◌<◌, Bool, true, false, List, [], length, Option, Some, None, is_some, refl, ap, sym, ◌∙◌, subst, arith}
 use Rattle.std.specs.Prelude.{slice_get}
 use Rattle.std.specs.Option.{option_map}
 use Rattle.std.specs.FinMap as map
@@ -23,13 +23,13 @@ use Rattle.beldi_lang.specs.declared.effect.Effect.{Effect}
 use Rattle.beldi_lang.specs.declared.effect.Effect.TheVariants as effect
 use Rattle.beldi_plain.specs.Operation.{OnItem, op_of, answer_after, touched}
 use Rattle.beldi_plain.specs.Plain.{Instance, new_instance, answered, ended, calls_at, callee_of, effect_of, effect_before}
-use Rattle.beldi_order.specs.Sane.{IsCalled, CalledBy, call_of, answer_given, within_by, IsDeath, IsAnswer}
+use Rattle.beldi_order.specs.Sane.{IsCalled, CalledBy, call_of, answer_given, IsDeath, IsAnswer}
 use Rattle.beldi_order.proofs.Called.{IsAlone, not_root, next_step, longer_cases, effect_now, effect_past, tx_here_now, caller_answered, caller_ended, callee_answered, callee_over, callee_new, callee_ended, callee_sent, pairs_set, both_set}
 use Rattle.beldi_order.proofs.Maps.{still_made, made_set, same_some}
 use Rattle.beldi_step.specs.Run.{is_waited, place_of}
 use Rattle.beldi_known.specs.Known.{Known, answer_at_once, once, at_once, moved}
 use Rattle.beldi_order.specs.Txs.{tx_now, tx_at}
-use Rattle.beldi_known.specs.Sane.{SaneInstance, Closed, Sane, within_of}
+use Rattle.beldi_known.specs.Sane.{SaneInstance, Closed, Sane}
 use Rattle.beldi_known.proofs.AtOnce.{at_once_is, at_once_by, origin_stays, closed_at_once}
 use Rattle.beldi_known.proofs.Goes.{sane_once, sane_moved}
 
@@ -153,16 +153,10 @@ sane_by d f good pairs roots = record {
   each = λ id q is. let g = good id q is in g.0;
   closed = λ id q is. let g = good id q is in g.1;
   called = λ i n j is. subst (Pair d i (map.get f i) n) is (pairs i n);
-  within = λ i q n j is on. let c : IsCalled d i q n j = subst (λ o. Pair d i o n (Some j)) is (subst (Pair d i (map.get f i) n) on (pairs i n)) in
-      c.within ∙ within_so c.waits (tx_at d i q n) ∙ ap (λ o. within_of o (tx_at d i q n)) (sym c.from);
   callees = λ i q n w g a is lt call. has_callee i q n w g a lt call (map.get f (child_of i n)) (subst (λ o. Pair d i o n (map.get f (child_of i n))) is (pairs i n));
   roots = roots;
 }
   where
-    within_so : (w : Bool) (t : Option TxId) → within_by w t ≡ (if w then t else None)
-    within_so true t = refl
-    within_so false t = refl
-
     has_callee : (i : IntentId) (q : Instance) (n : ℕ) (w : Bool) (f : ℕ) (a : Value) → n < length q.answers → effect_before d q n ≡ call_of w f a → (o : Option Instance) → Pair d i (Some q) n o → is_some o ≡ true
     has_callee i q n w f a lt call None l = absurd (l lt w f a call)
     has_callee i q n w f a lt call (Some j) l = refl

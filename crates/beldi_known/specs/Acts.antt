@@ -9,7 +9,6 @@ use Rattle.beldi_value.specs.declared.place.Place.{Place}
 use Rattle.beldi_value.specs.declared.place.TxId.{TxId}
 use Rattle.beldi_value.specs.declared.rel.Rel.{Rel}
 use Rattle.beldi_value.specs.declared.value.Value.{Value}
-use Rattle.beldi_value.specs.declared.value.Value.TheVariants as value
 use Rattle.beldi_lang.specs.declared.effect.Answer.{Answer}
 use Rattle.beldi_lang.specs.declared.effect.Answer.TheVariants as answer
 use Rattle.beldi_row.specs.Act.{other_owner}
@@ -65,17 +64,8 @@ keep_value v None = (Some (rows.ReadLog v), None)
 keep_value v (Some (rows.ReadLog w)) = (Some (rows.ReadLog w), Some w)
 keep_value v (Some r) = (Some r, None)
 
--- ---- what a run reads in what it was told
--- of its lock: that it died
+-- ---- what a run reads in what it was told of its lock: that it died
 abbrev pub lock_answer : Place → Told → Option Answer
 lock_answer p (noted (notes.Died h)) = Some (answer.Aborted (record { place = p; holder = Some h }))
 lock_answer p (died h) = Some (answer.Aborted (record { place = p; holder = Some h }))
 lock_answer p t = None
-
--- of its shadow
-abbrev pub shadow_answer : Told → Option Answer
-shadow_answer (noted notes.Wrote) = Some answer.Done
-shadow_answer (noted (notes.Cond b)) = Some (answer.Value (value.Bool b))
-shadow_answer did = Some answer.Done
-shadow_answer (tested b) = Some (answer.Value (value.Bool b))
-shadow_answer t = None

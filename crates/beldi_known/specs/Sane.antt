@@ -1,18 +1,15 @@
 -- Instances that are known went as their bodies want, inside transactions and outside, and were called where their ids say.
-use Rattle.std.specs.Prelude.{◌≡◌, ℕ, ◌<◌, Bool, true, length, is_some, Option, Some, None, if◌then◌else◌}
+use Rattle.std.specs.Prelude.{◌≡◌, ℕ, ◌<◌, Bool, true, length, is_some, Some, None}
 use Rattle.std.specs.FinMap as map
 use Rattle.beldi_value.specs.Id.{root_of, child_of}
 use Rattle.beldi_value.specs.declared.id.IntentId.{IntentId}
 use Rattle.beldi_value.specs.declared.outcome.Outcome.{Outcome}
-use Rattle.beldi_value.specs.declared.place.Caller.{Caller}
-use Rattle.beldi_value.specs.declared.place.TxId.{TxId}
 use Rattle.beldi_value.specs.declared.value.Value.{Value}
 use Rattle.beldi_tree.specs.declared.deployment.Deployment.{Deployment}
 use Rattle.beldi_lang.specs.declared.effect.Effect.TheVariants as effect
 use Rattle.beldi_plain.specs.Plain.{Instance, effect_of, effect_before}
 use Rattle.beldi_order.specs.Sane.{WentSo, CalledBy, call_of}
 use Rattle.beldi_known.specs.Known.{Known, answer_at_once}
-use Rattle.beldi_order.specs.Txs.{tx_at}
 
 -- an instance that went as its body wants
 pub record SaneInstance (d : Deployment) (id : IntentId) (q : Instance) : Type 0 where
@@ -25,17 +22,11 @@ abbrev pub Closed : Deployment → IntentId → Instance → Type 0
 Closed d id q = q.outcome ≡ None → answer_at_once id (length q.answers) (effect_of d q) ≡ None
 
 -- ---- all that is known
--- what is called in a transaction belongs to it, where the caller waits
-abbrev pub within_of : Option Caller → Option TxId → Option TxId
-within_of None t = None
-within_of (Some c) t = if c.waits then t else None
-
 pub record Sane (d : Deployment) (known : Known) : Type 0 where
   pub each : (id : IntentId) (q : Instance) → map.get known id ≡ Some q → SaneInstance d id q
   pub closed : (id : IntentId) (q : Instance) → map.get known id ≡ Some q → Closed d id q
   -- what has an id of a callee was called there, in the transaction that its caller is in
   pub called : (i : IntentId) (n : ℕ) (j : Instance) → map.get known (child_of i n) ≡ Some j → CalledBy d i (map.get known i) n j
-  pub within : (i : IntentId) (q : Instance) (n : ℕ) (j : Instance) → map.get known i ≡ Some q → map.get known (child_of i n) ≡ Some j → j.within ≡ within_of j.from (tx_at d i q n)
   -- and a call that was answered has its callee
   pub callees : (i : IntentId) (q : Instance) (n : ℕ) (w : Bool) (f : ℕ) (a : Value) → map.get known i ≡ Some q → n < length q.answers → effect_before d q n ≡ call_of w f a → is_some (map.get known (child_of i n)) ≡ true
   -- nobody called a root

@@ -39,7 +39,7 @@ use Rattle.beldi_known.specs.Sane.{Sane}
 use Rattle.beldi_order.proofs.Ends.{ended_stays, fits}
 use Rattle.beldi_known.proofs.Locks.{tx_same}
 use Rattle.beldi_known.proofs.Callers.{CallerOf, called_below, caller_in}
-use Rattle.beldi_known.proofs.OneFunction.{own, own_by}
+use Rattle.beldi_known.proofs.OwnTx.{own, own_by}
 use Rattle.beldi_known.proofs.Outsides.{member_tx}
 use Rattle.beldi_known.proofs.Owners.{her_own}
 use Rattle.beldi_known.proofs.Participants.{IsOpenOwner, open_owner}

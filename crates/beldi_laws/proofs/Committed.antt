@@ -28,7 +28,7 @@ use Rattle.beldi_known.specs.Sane.{Sane}
 use Rattle.beldi_known.proofs.Decided.{decision_row}
 use Rattle.beldi_known.proofs.Frame.{begins}
 use Rattle.beldi_known.proofs.Callers.{CallerOf, caller_in}
-use Rattle.beldi_known.proofs.OneFunction.{own_by}
+use Rattle.beldi_known.proofs.OwnTx.{own_by}
 use Rattle.beldi_laws.specs.Stands.{has_place}
 use Rattle.beldi_laws.proofs.Closing.{end_grows}
 use Rattle.beldi_laws.proofs.Outside.{known_of, made_of}

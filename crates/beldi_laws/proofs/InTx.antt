@@ -48,7 +48,7 @@ use Rattle.beldi_known.proofs.Lines.{opens_are_open}
 use Rattle.beldi_known.proofs.Frame.{moved_one}
 use Rattle.beldi_known.proofs.FrameAt.{known_set}
 use Rattle.beldi_known.proofs.Locks.{tx_self}
-use Rattle.beldi_known.proofs.OneFunction.{own as own_is}
+use Rattle.beldi_known.proofs.OwnTx.{own as own_is}
 use Rattle.beldi_known.proofs.Participants.{now_open}
 use Rattle.beldi_known.proofs.Rows.{is_intent_key, no_root, set_others}
 use Rattle.beldi_laws.specs.Right.{Right, Knows, StageOk}

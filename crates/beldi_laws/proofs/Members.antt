@@ -37,7 +37,7 @@ use Rattle.beldi_known.specs.Owed.{called_by, result_of}
 use Rattle.beldi_known.specs.Rows.{CallMatches}
 use Rattle.beldi_known.specs.Sane.{Sane}
 use Rattle.beldi_known.proofs.Callers.{CallerOf, caller_in}
-use Rattle.beldi_known.proofs.OneFunction.{own_by}
+use Rattle.beldi_known.proofs.OwnTx.{own_by}
 use Rattle.beldi_intent.specs.Intent.{intent_key}
 use Rattle.beldi_laws.specs.Inside.{TookPart}
 use Rattle.beldi_laws.specs.Stands.{key_in}

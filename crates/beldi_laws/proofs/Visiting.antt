@@ -97,7 +97,7 @@ use Rattle.beldi_known.proofs.Behind.{front, there as was_answered, stepped, loc
 use Rattle.beldi_known.proofs.Decided.{release_lists}
 use Rattle.beldi_known.proofs.Inside.{released}
 use Rattle.beldi_known.proofs.Locks.{tx_self, tx_same}
-use Rattle.beldi_known.proofs.OneFunction.{own_by}
+use Rattle.beldi_known.proofs.OwnTx.{own_by}
 use Rattle.beldi_known.proofs.Participants.{now_open}
 use Rattle.beldi_known.proofs.ReadLists.{both, Gathered, gathered}
 use Rattle.beldi_known.proofs.Rows.{keys_set, no_root}

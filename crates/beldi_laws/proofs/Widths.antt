@@ -52,7 +52,7 @@ use Rattle.beldi_known.specs.Rows.{IntentMatches}
 use Rattle.beldi_known.specs.Sane.{Sane, SaneInstance}
 use Rattle.beldi_known.proofs.Begun.{called_begun}
 use Rattle.beldi_known.proofs.Frame.{begins}
-use Rattle.beldi_known.proofs.OneFunction.{own_by}
+use Rattle.beldi_known.proofs.OwnTx.{own_by}
 use Rattle.beldi_known.proofs.Phases.{begin_is}
 use Rattle.beldi_known.proofs.ReadLists.{both, gathered}
 use Rattle.beldi_laws.specs.Right.{Right}

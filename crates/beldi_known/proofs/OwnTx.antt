@@ -1,0 +1,31 @@
+-- The transaction of a step of one that was called in none is its own.
+use Rattle.std.proofs.Common.{◌≡◌, ℕ, false, length, Option, None, Some, ap, sym, ◌∙◌}
+use Rattle.beldi_value.specs.declared.id.IntentId.{IntentId}
+use Rattle.beldi_value.specs.declared.place.TxId.{TxId}
+use Rattle.beldi_tree.specs.declared.deployment.Deployment.{Deployment}
+use Rattle.beldi_lang.specs.declared.effect.Effect.{Effect}
+use Rattle.beldi_lang.specs.declared.effect.Effect.TheVariants as effect
+use Rattle.beldi_plain.specs.Plain.{Instance, effect_of}
+use Rattle.beldi_order.proofs.Maps.{same_some}
+use Rattle.beldi_known.specs.Beside.{is_begin}
+use Rattle.beldi_order.specs.Txs.{txs_after, tx_by, tx_now, or_own}
+use Rattle.beldi_known.proofs.Answers.{true_false}
+
+-- the transaction of a step is of its instance, and its Begin is the one that is open
+pub record Own (id : IntentId) (func : ℕ) (o : Option ℕ) (t : TxId) : Type 0 where
+  pub intent : t.intent ≡ id
+  pub func_is : t.func ≡ func
+  pub begun : o ≡ Some t.begin
+
+pub own_intent : (id : IntentId) (func n : ℕ) (e : Effect) (o : Option ℕ) (t : TxId) → tx_by id func n e o ≡ Some t → t.intent ≡ id
+own_intent id func n effect.Begin o t h = ap (λ (z : TxId). z.intent) (sym (same_some h))
+own_intent id func n e None t h = cc
+own_intent id func n e (Some b) t h = ap (λ (z : TxId). z.intent) (sym (same_some h))
+
+pub own_by : (id : IntentId) (func n : ℕ) (e : Effect) (o : Option ℕ) (t : TxId) → is_begin e ≡ false → tx_by id func n e o ≡ Some t → Own id func o t
+own_by id func n effect.Begin o t g h = absurd (true_false g)
+own_by id func n e None t g h = cc
+own_by id func n e (Some b) t g h = let k = same_some h in record { intent = ap (λ (z : TxId). z.intent) (sym k); func_is = ap (λ (z : TxId). z.func) (sym k); begun = ap (λ (z : TxId). Some z.begin) k }
+
+pub own : (d : Deployment) (id : IntentId) (q : Instance) (t : TxId) → q.within ≡ None → is_begin (effect_of d q) ≡ false → tx_now d id q ≡ Some t → Own id q.func (txs_after d q q.answers).begun t
+own d id q t none apart h = own_by id q.func (length q.answers) (effect_of d q) (txs_after d q q.answers).begun t apart (sym (ap (λ w. or_own w (tx_by id q.func (length q.answers) (effect_of d q) (txs_after d q q.answers).begun)) none) ∙ h)
