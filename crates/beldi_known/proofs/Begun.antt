@@ -1,30 +1,26 @@
 -- A transaction that got an item, or that somebody was called in, was begun: its owner is known, and went past its Begin. One of who can
 -- step is open still, so its decision is not there.
-use Rattle.std.proofs.Common.{◌≡◌, inl, inr, ◌&&◌, ◌||◌, not, Bool, true, false, List, [], length, Option, None, Some, refl, ap, sym, ◌∙◌, subst, arith, if◌then◌else◌}
+use Rattle.std.proofs.Common.{◌≡◌, Bool, true, false, Option, None, Some, refl, ap, sym, ◌∙◌, subst, arith, if◌then◌else◌}
 use Rattle.std.specs.FinMap as map
 use Rattle.beldi_value.specs.declared.id.IntentId.{IntentId}
 use Rattle.beldi_value.specs.declared.place.TxId.{TxId}
 use Rattle.beldi_value.specs.declared.value.Value.{Value}
 use Rattle.beldi_tree.specs.declared.deployment.Deployment.{Deployment}
-use Rattle.beldi_lang.specs.declared.effect.Answer.{Answer}
 use Rattle.beldi_row.specs.Table.{Rows}
 use Rattle.beldi_plain.specs.Item.{Item}
-use Rattle.beldi_plain.specs.Operation.{touched}
-use Rattle.beldi_plain.specs.Piece.{is_aborted}
 use Rattle.beldi_plain.specs.Plain.{Instance, effect_of}
-use Rattle.beldi_order.specs.Txs.{effect_after, txs_after, tx_by, tx_after, tx_now, or_own}
+use Rattle.beldi_order.specs.Txs.{tx_now}
 use Rattle.beldi_step.specs.Tables.{decision_key, is_committed, value_in}
 use Rattle.beldi_known.specs.Beside.{is_begin}
 use Rattle.beldi_known.specs.Contents.{shadow_key}
-use Rattle.beldi_known.specs.Known.{Known, Got, is_tx, is_item, is_on, got_by, got_before}
+use Rattle.beldi_known.specs.Known.{Known, Got, got_by}
 use Rattle.beldi_known.specs.Listed.{listed_under}
 use Rattle.beldi_known.specs.Matches.{Matches}
 use Rattle.beldi_known.specs.Sane.{Sane}
 use Rattle.beldi_known.proofs.AtFront.{no_decision}
-use Rattle.beldi_known.proofs.Locks.{tx_same}
 use Rattle.beldi_known.proofs.Callers.{all_called, begun_before}
 use Rattle.beldi_known.proofs.Participants.{open_owner}
-use Rattle.beldi_known.proofs.ReadLists.{IsBegun, both, gathered, got_since}
+use Rattle.beldi_known.proofs.ReadLists.{IsBegun, got_since, member_tx}
 use Rattle.beldi_step.specs.Run.{place_of}
 use Rattle.beldi_readlog.specs.ReadLog.{log_key}
 use Rattle.beldi_known.proofs.Answers.{true_false}
@@ -39,26 +35,12 @@ module _ (d : Deployment) (known : Known) (h : Sane d known) where
 
   -- .. and so was one that got an item
   module _ (t : TxId) (x : Item) (j : IntentId) (z : Instance) (is : map.get known j ≡ Some z) where
-    of_it : (w : TxId) (ts : List Answer) → z.within ≡ Some w → is_on t x z.func (tx_after d j z ts) (effect_after d z ts) ≡ true → t ≡ w
-    of_it w ts inner on = tx_same t w (both (is_tx t (Some w)) (is_item x z.func (touched (effect_after d z ts)))
-        (ap (λ o. is_tx t (or_own o (tx_by j z.func (length ts) (effect_after d z ts) (txs_after d z ts).begun)) && is_item x z.func (touched (effect_after d z ts))) (sym inner) ∙ on)).0
-
-    got_in : (w : TxId) (b : Bool) → z.within ≡ Some w → got_by d t x j b (Some z) ≡ true → t ≡ w
-    got_in w b inner g = by_before (got_before d t x j z) refl g
-      where
-        by_before : (u : Bool) → got_before d t x j z ≡ u → (u || (b && is_on t x z.func (tx_now d j z) (effect_of d z))) ≡ true → t ≡ w
-        by_before false e k = of_it w z.answers inner (both b (is_on t x z.func (tx_now d j z) (effect_of d z)) k).1
-        by_before true e k = elim (gathered (λ ts c. is_on t x z.func (tx_after d j z ts) (effect_after d z ts) && not (is_aborted c)) [] z.answers false e) [
-          | inl f ↦ absurd (true_false (sym f))
-          | inr f ↦ of_it w f.before inner (both (is_on t x z.func (tx_after d j z f.before) (effect_after d z f.before)) (not (is_aborted f.answer)) f.holds).0
-        ]
-
     member_begun : (b : Bool) → got_by d t x j b (Some z) ≡ true → IsBegun known t
     member_begun b g = by_within z.within refl
       where
         by_within : (o : Option TxId) → z.within ≡ o → IsBegun known t
         by_within None e = let k = got_since d t x j z e b g in record { owner = z; made = ap (map.get known) k.own ∙ is; func_is = k.func_is; before = k.before }
-        by_within (Some w) e = subst (IsBegun known) (sym (got_in w b e g)) (called_begun j z w is e)
+        by_within (Some w) e = subst (IsBegun known) (sym (member_tx d t x j z w e b g)) (called_begun j z w is e)
 
   pub got_begun : (locked : IntentId → Bool) (t : TxId) (x : Item) → Got d known locked t x → IsBegun known t
   got_begun locked t x g = by_member (map.get known g.member) refl g.got

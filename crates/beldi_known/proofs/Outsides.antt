@@ -24,14 +24,14 @@ use Rattle.beldi_row.specs.declared.row.Row.{Row}
 use Rattle.beldi_plain.specs.Executor.{answered_if}
 use Rattle.beldi_plain.specs.Item.{Item, item_cmp}
 use Rattle.beldi_plain.specs.Moves.{fell, TouchedIn}
-use Rattle.beldi_plain.specs.Operation.{set_if, or_old, touched}
+use Rattle.beldi_plain.specs.Operation.{set_if, or_old}
 use Rattle.beldi_plain.specs.Piece.{aborted, dies_at, is_aborted, opened, tx_begun}
 use Rattle.beldi_plain.specs.Plain.{Instance, PlainState, answered, ended, effect_of, value_at, with_instance}
 use Rattle.beldi_order.specs.Inside.{IsIn, IsBelow}
 use Rattle.beldi_order.specs.Inside as inside
 use Rattle.beldi_order.specs.Sane as plain
 use Rattle.beldi_order.specs.Sane.{CalledBy}
-use Rattle.beldi_order.specs.Txs.{Txs, txs_after, txs_by, tx_after, tx_by, or_own, end_of, effect_after, is_at}
+use Rattle.beldi_order.specs.Txs.{Txs, txs_after, txs_by, tx_after, end_of, is_at}
 use Rattle.beldi_order.proofs.Beside.{beside as moves_beside}
 use Rattle.beldi_order.proofs.Called.{last_hop}
 use Rattle.beldi_order.proofs.Foreign.{no_callees, no_later}
@@ -44,7 +44,7 @@ use Rattle.beldi_order.proofs.Went.{txs_pushed}
 use Rattle.beldi_known.specs.Beside.{Beside, IsKept, OpenTx, begins, is_begin}
 use Rattle.beldi_known.specs.Contents.{content_of, shadow_key}
 use Rattle.beldi_known.specs.InsideLaws.{Goes}
-use Rattle.beldi_known.specs.Known.{Known, Got, at_once, ended_by, got_before, got_by, is_item, is_on, is_tx, moved, once, once_if, answer_at_once, tx_end}
+use Rattle.beldi_known.specs.Known.{Known, Got, at_once, ended_by, got_before, got_by, is_on, moved, once, once_if, answer_at_once, tx_end}
 use Rattle.beldi_known.specs.Matches.{Matches}
 use Rattle.beldi_known.specs.Sane.{Sane}
 use Rattle.beldi_known.specs.Shadows.{AllGot, AllShow, ShadowShows, Shadows, Shows, is_writing, writing_at}
@@ -54,11 +54,10 @@ use Rattle.beldi_known.proofs.Frame.{at_once_same, moved_one}
 use Rattle.beldi_known.proofs.FrameAt.{known_set}
 use Rattle.beldi_known.proofs.Callers.{called_below}
 use Rattle.beldi_known.proofs.Lines.{parent_in}
-use Rattle.beldi_known.proofs.Locks.{tx_same}
 use Rattle.beldi_known.proofs.NoTx.{IsOutside, begins_parts, no_begin}
 use Rattle.beldi_known.proofs.Owns.{going, got_owned, owner_known, touched_owned}
 use Rattle.beldi_known.proofs.Phases.{end_is, inside_is}
-use Rattle.beldi_known.proofs.ReadLists.{both, gathered, got_since}
+use Rattle.beldi_known.proofs.ReadLists.{got_since, member_tx}
 use Rattle.beldi_known.proofs.Sanes.{no_callees as known_childless}
 
 abbrev pub value_of : Items → Item → Value
@@ -87,21 +86,6 @@ at_once_stays d id q out apart = ap (once d id) same ∙ same
 
     same : once d id q ≡ q
     same = by_outcome q.outcome refl
-
--- who was called in a transaction gets for that one
-pub member_tx : (d : Deployment) (s : TxId) (x : Item) (j : IntentId) (z : Instance) (u : TxId) → z.within ≡ Some u → (b : Bool) → got_by d s x j b (Some z) ≡ true → s ≡ u
-member_tx d s x j z u within b got = by_before (got_before d s x j z) refl got
-  where
-    on_so : (ts : List Answer) → is_on s x z.func (tx_after d j z ts) (effect_after d z ts) ≡ true → s ≡ u
-    on_so ts h = tx_same s u (both (is_tx s (Some u)) (is_item x z.func (touched (effect_after d z ts)))
-        (sym (ap (λ w. is_tx s (or_own w (tx_by j z.func (length ts) (effect_after d z ts) (txs_after d z ts).begun)) && is_item x z.func (touched (effect_after d z ts))) within) ∙ h)).0
-
-    by_before : (c : Bool) → got_before d s x j z ≡ c → (c || (b && is_on s x z.func (tx_after d j z z.answers) (effect_of d z))) ≡ true → s ≡ u
-    by_before false e g = on_so z.answers (both b (is_on s x z.func (tx_after d j z z.answers) (effect_of d z)) g).1
-    by_before true e g = elim (gathered (λ ts c. is_on s x z.func (tx_after d j z ts) (effect_after d z ts) && not (is_aborted c)) [] z.answers false e) [
-      | inl k ↦ cc
-      | inr k ↦ on_so k.before (both (is_on s x z.func (tx_after d j z k.before) (effect_after d z k.before)) (not (is_aborted k.answer)) k.holds).0
-    ]
 
 -- ---- who is below an instance at a step that it has not come to is not there
 pub below_apart : (t : TxId) (i : IntentId) → IsBelow t i → t.intent ≡ i → ⊥

@@ -1,5 +1,5 @@
 -- A row of a read decides no transaction that owns an item, so what is listed stays.
-use Rattle.std.proofs.Common.{◌≡◌, ◌<◌, ◌⊎◌, inl, inr, ◌&&◌, ◌||◌, not, Bool, true, false, cond, List, [], ◌∷◌, ◌++◌, length, length-append, Option, None, Some, refl, ap, sym, ◌∙◌, subst, append_assoc, arith, if◌then◌else◌}
+use Rattle.std.proofs.Common.{◌≡◌, ◌<◌, ◌⊎◌, inl, inr, ◌&&◌, ◌||◌, not, Bool, true, false, cond, List, [], ◌∷◌, ◌++◌, length, length-append, Option, None, Some, refl, ap, sym, ◌∙◌, subst, append-nil, append_assoc, arith, if◌then◌else◌}
 use Rattle.std.specs.FinMap as map
 use Rattle.std.specs.Ordering.{is_eq}
 use Rattle.beldi_value.specs.declared.id.IntentId.{IntentId}
@@ -62,7 +62,31 @@ gathered g given (c ∷ rest) b h = elim (gathered g (given ++ c ∷ []) rest (b
     by_first true e = inl refl
     by_first false e = inr (record { before = given; answer = c; later = rest; parts = refl; holds = e })
 
--- ---- what a transaction got, it got after its Begin
+-- ---- what a transaction got, or asks for, it asked for after some answers
+pub record AskedFor (d : Deployment) (t : TxId) (x : Item) (j : IntentId) (z : Instance) : Type 0 where
+  pub given : List Answer
+  pub later : List Answer
+  pub all : given ++ later ≡ z.answers
+  pub on : is_on t x z.func (tx_after d j z given) (effect_after d z given) ≡ true
+
+pub asked_for : (d : Deployment) (t : TxId) (x : Item) (j : IntentId) (z : Instance) (b : Bool) → got_by d t x j b (Some z) ≡ true → AskedFor d t x j z
+asked_for d t x j z b h = by_before (got_before d t x j z) refl h
+  where
+    by_before : (u : Bool) → got_before d t x j z ≡ u → (u || (b && is_on t x z.func (tx_now d j z) (effect_of d z))) ≡ true → AskedFor d t x j z
+    by_before false e g = record { given = z.answers; later = []; all = append-nil z.answers; on = (both b (is_on t x z.func (tx_now d j z) (effect_of d z)) g).1 }
+    by_before true e g = elim (gathered (λ ts c. is_on t x z.func (tx_after d j z ts) (effect_after d z ts) && not (is_aborted c)) [] z.answers false e) [
+      | inl k ↦ cc
+      | inr k ↦ record { given = k.before; later = k.answer ∷ k.later; all = k.parts; on = (both (is_on t x z.func (tx_after d j z k.before) (effect_after d z k.before)) (not (is_aborted k.answer)) k.holds).0 }
+    ]
+
+-- who was called in a transaction gets for that one
+pub member_tx : (d : Deployment) (s : TxId) (x : Item) (j : IntentId) (z : Instance) (u : TxId) → z.within ≡ Some u → (b : Bool) → got_by d s x j b (Some z) ≡ true → s ≡ u
+member_tx d s x j z u within b got =
+    let a = asked_for d s x j z b got in
+    tx_same s u (both (is_tx s (Some u)) (is_item x z.func (touched (effect_after d z a.given)))
+        (sym (ap (λ w. is_tx s (or_own w (tx_by j z.func (length a.given) (effect_after d z a.given) (txs_after d z a.given).begun)) && is_item x z.func (touched (effect_after d z a.given))) within) ∙ a.on)).0
+
+-- .. and who was called in none gets after its Begin
 pub record Since (j : IntentId) (z : Instance) (t : TxId) : Type 0 where
   pub own : t.intent ≡ j
   pub func_is : t.func ≡ z.func
@@ -87,15 +111,12 @@ module _ (d : Deployment) (t : TxId) (x : Item) (j : IntentId) (z : Instance) (n
           (ap (λ (y : TxId). y.intent) same ∙ k.intent, ap (λ (y : TxId). y.func) same ∙ k.func_is, subst (λ (y : TxId). y.begin < length ts) (sym same) ((fits_at d z ts).before s.begin k.begun))
 
   pub got_since : (b : Bool) → got_by d t x j b (Some z) ≡ true → Since j z t
-  got_since b h = by_before (got_before d t x j z) refl h
-    where
-      by_before : (u : Bool) → got_before d t x j z ≡ u → (u || (b && is_on t x z.func (tx_now d j z) (effect_of d z))) ≡ true → Since j z t
-      by_before false e g = let p = operation z.answers (both b (is_on t x z.func (tx_now d j z) (effect_of d z)) g).1 in record { own = p.0; func_is = p.1; before = p.2 }
-      by_before true e g = elim (gathered (λ ts c. is_on t x z.func (tx_after d j z ts) (effect_after d z ts) && not (is_aborted c)) [] z.answers false e) [
-        | inl k ↦ cc
-        | inr k ↦ let p = operation k.before (both (is_on t x z.func (tx_after d j z k.before) (effect_after d z k.before)) (not (is_aborted k.answer)) k.holds).0 in
-            let l = length-append k.before (k.answer ∷ k.later) in let n = ap length k.parts in let q = p.2 in record { own = p.0; func_is = p.1; before = omega (arith, l, n, q) }
-      ]
+  got_since b h =
+      let a = asked_for d t x j z b h in
+      let p = operation a.given a.on in
+      let l = length-append a.given a.later in
+      let n = ap length a.all in
+      let q = p.2 in record { own = p.0; func_is = p.1; before = omega (arith, l, n, q) }
 
 -- ---- PutRead of a read at the front
 -- the owner is known, and went past the Begin

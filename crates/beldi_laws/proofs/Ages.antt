@@ -40,11 +40,10 @@ use Rattle.beldi_order.proofs.Ends.{ended_stays, fits}
 use Rattle.beldi_known.proofs.Locks.{tx_same}
 use Rattle.beldi_known.proofs.Callers.{CallerOf, called_below, caller_in}
 use Rattle.beldi_known.proofs.OwnTx.{own, own_by}
-use Rattle.beldi_known.proofs.Outsides.{member_tx}
 use Rattle.beldi_known.proofs.Owners.{her_own}
 use Rattle.beldi_known.proofs.Participants.{IsOpenOwner, open_owner}
 use Rattle.beldi_known.proofs.Phases.{begin_is}
-use Rattle.beldi_known.proofs.ReadLists.{both, gathered}
+use Rattle.beldi_known.proofs.ReadLists.{both, gathered, member_tx}
 use Rattle.beldi_laws.specs.Inside.{OwnersCallNobody, Released}
 use Rattle.beldi_laws.proofs.Ended.{EndedAt, ended_at}
 
