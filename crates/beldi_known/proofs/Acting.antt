@@ -3,6 +3,7 @@ use Rattle.std.proofs.Common.{◌≡◌, ◌∙◌, ◌⊎◌, inl, inr, ℕ, Bo
 use Rattle.std.specs.FinMap as map
 use Rattle.std.specs.Ordering.{is_eq}
 use Rattle.std.proofs.lemmas.Cmp.{tied_itself}
+use Rattle.std.proofs.lemmas.Bool.{and_right}
 use Rattle.beldi_value.specs.Id.{id_cmp, id_total, child_of, has_callees}
 use Rattle.beldi_value.specs.Passes.{passes}
 use Rattle.beldi_value.specs.declared.id.IntentId.{IntentId}
@@ -40,7 +41,7 @@ use Rattle.beldi_order.proofs.Called.{not_own}
 use Rattle.beldi_order.proofs.Foreign.{none_below}
 use Rattle.beldi_order.proofs.Goes.{not_owner}
 use Rattle.beldi_order.proofs.Line.{callee_in}
-use Rattle.beldi_order.proofs.Maps.{elsewhere, equal, made_set, same_some}
+use Rattle.beldi_order.proofs.Maps.{elsewhere, equal, made_set, same_some, none_by}
 use Rattle.beldi_order.proofs.Moved.{Items, answer_by, answer_inside, items_after, items_by}
 use Rattle.beldi_order.proofs.Operations.{item_same, plain_set}
 use Rattle.beldi_order.proofs.Sanes.{is_edge}
@@ -66,7 +67,7 @@ use Rattle.beldi_known.proofs.Lines.{alone, alone_callee, called_in, front_in_tx
 use Rattle.beldi_known.proofs.Lists.{elsewhere as row_elsewhere}
 use Rattle.beldi_known.proofs.Locks.{tx_self}
 use Rattle.beldi_known.proofs.Owns.{not_ended, seen, unwritten}
-use Rattle.beldi_known.proofs.Shadows.{and_false, more_writes, writing_more, of_row, there_value, others_rows, row_set, got_answered, got_passed, got_still, got_set, shadows_rows}
+use Rattle.beldi_known.proofs.Shadows.{more_writes, writing_more, of_row, there_value, others_rows, row_set, got_answered, got_passed, got_still, got_set, shadows_rows}
 use Rattle.beldi_known.proofs.Steps.{GoesOn, goes_answered, goes_called, goes_returned}
 use Rattle.beldi_known.proofs.Told.{write_parts, test_parts}
 
@@ -227,11 +228,7 @@ front_apart e w h = cc
 
 -- one that returns not has no outcome
 open_still : (d : Deployment) (known : Known) → Sane d known → (id : IntentId) (k : Instance) → map.get known id ≡ Some k → ((u : Outcome) → effect_of d k ≡ effect.Return u → ⊥) → k.outcome ≡ None
-open_still d known sane id k is other = by_outcome k.outcome refl
-  where
-    by_outcome : (u : Option Outcome) → k.outcome ≡ u → u ≡ None
-    by_outcome None e = refl
-    by_outcome (Some u) e = absurd (other u ((sane.each id k is).over u e))
+open_still d known sane id k is other = none_by k.outcome (λ u e. other u ((sane.each id k is).over u e))
 
 module _ (d : Deployment) (m : Rows) (p : PlainState) (known : Known) (locked : IntentId → Bool) (h : IsSound d m p known locked) (o : IntentId) (q : Instance) (made : map.get p.made o ≡ Some q) (b : begins d q ≡ true)
     (id : IntentId) (k : Instance) (t : ℕ) (y : List ℕ) (f : IsFront d known id k (tx_begun o q) t y) where
@@ -281,7 +278,7 @@ module _ (d : Deployment) (m : Rows) (p : PlainState) (known : Known) (locked : 
     module _ (unlocked : IntentId → Bool) (out : LockedOut locked unlocked id) where
       read_goes : (v : Value) → effect_of d k ≡ effect.Read t y → value_in (map.get m (shadow_key (tx_begun o q) (item_of k t y))) (value_at p (item_of k t y)) ≡ v → Goes d (set_row m key row) p (map.insert known id (moved d id k (answer.Value v))) unlocked
       read_goes v wants is =
-          let off = λ (z : Item). ap (λ e. locked id && writes_on z k.func e) wants ∙ and_false (locked id) in
+          let off = λ (z : Item). ap (λ e. locked id && writes_on z k.func e) wants ∙ and_right (locked id) false refl in
           let seen = sym (sees d m p known locked h o q made b id k f.made f.inside none free x (off x)) ∙ is in
           answered_goes d m p known locked h o q made b id k f.made f.inside none free unlocked out set_other (answer.Value v) (items_by going k (effect_of d k) plain) apart.0 (λ l. refl) (λ u z other. others_stay u z) got_stays
           (goes_on d m p known locked h o q made b id k f.made f.inside none free (answer.Value v) plain (ap (answer_inside going k.func) wants ∙ ap (λ w. Some (answer.Value w)) seen))
@@ -340,7 +337,7 @@ module _ (d : Deployment) (m : Rows) (p : PlainState) (known : Known) (locked : 
           (of_row false row (or_null (map.get after x)) (inr (leaves ∙ sym (value x
           ∙ ap (λ c. cond c (or_old (sets w.does (or_null (map.get going (item_in k.func w)))) (or_null (map.get going (item_in k.func w)))) (or_null (map.get going x))) (ap (λ z. is_eq (item_cmp x z)) (sym same) ∙ ap is_eq (tied_itself item_total x))))))
           (λ z other. subst (ShadowShows false (map.get m (shadow_key s z))) (sym (value z ∙ ap (λ c. cond c (or_old (sets w.does (or_null (map.get going (item_in k.func w)))) (or_null (map.get going (item_in k.func w)))) (or_null (map.get going z)))
-          (ap (λ i. is_eq (item_cmp z i)) (sym same) ∙ turned x z other))) (shown z (ap (λ u. locked id && u) (off z other) ∙ and_false (locked id)))))
+          (ap (λ i. is_eq (item_cmp z i)) (sym same) ∙ turned x z other))) (shown z (ap (λ u. locked id && u) (off z other) ∙ and_right (locked id) false refl))))
         where
           turned : (x z : Item) → is_eq (item_cmp x z) ≡ false → is_eq (item_cmp z x) ≡ false
           turned x z e = by_test (is_eq (item_cmp z x)) refl
@@ -359,7 +356,7 @@ module _ (d : Deployment) (m : Rows) (p : PlainState) (known : Known) (locked : 
       test_goes u w v c wants there acts =
           let parts = test_parts (place_of id (length k.answers)) (Tx s) u w v (shadow_of m s x) (content_in row) c acts in
           let off = λ (z : Item). ap (λ e. writes_on z k.func e) wants in
-          let seen : (shadow_of m s x).value ≡ or_null (map.get going x) = there_value (map.get m (shadow_key s x)) (or_null (map.get going x)) (shown x (ap (λ e. locked id && e) (off x) ∙ and_false (locked id))) there in
+          let seen : (shadow_of m s x).value ≡ or_null (map.get going x) = there_value (map.get m (shadow_key s x)) (or_null (map.get going x)) (shown x (ap (λ e. locked id && e) (off x) ∙ and_right (locked id) false refl)) there in
           set_goes (record { table = t; key = y; does = operation.cond u w v }) (answer.Value (value.Bool c)) refl (ap op_of wants)
           (ap (answer_inside going k.func) wants ∙ ap (λ z. Some (answer.Value (value.Bool (passes z u w)))) (sym seen) ∙ ap (λ z. Some (answer.Value (value.Bool z))) parts.2) refl
           (ap (λ c. c.value) parts.1 ∙ chosen (passes (shadow_of m s x).value u w) v (shadow_of m s x).value ∙ ap (λ z. or_old (if passes z u w then Some v else None) z) seen) (λ z other. off z)
@@ -431,7 +428,7 @@ module _ (d : Deployment) (m n : Rows) (p : PlainState) (known : Known) (locked 
       (λ i. (at_once_same d c new).ends i ∙ ap (ended_by d i) (sym gone)) (inr (origin_stays d c new).1) in
       all_goes d m p known locked h o q made b after n locked ch (λ j y there e apart i is_in l. l) (λ u x other. rows_stay u x)
       (own_shows d m p known locked h o q made b after n locked ch (λ j y there e apart i is_in l. l) (λ u x other. rows_stay u x) c own_tx.going.state.items g
-      (λ x. subst (λ r. ShadowShows false r (value_at own_tx.going.state x)) (sym (rows_stay (tx_begun o q) x)) (settled d m p known locked h o q made b id k is inside none free x (ap (λ e. locked id && writes_on x k.func e) call ∙ and_false (locked id)))))
+      (λ x. subst (λ r. ShadowShows false r (value_at own_tx.going.state x)) (sym (rows_stay (tx_begun o q) x)) (settled d m p known locked h o q made b id k is inside none free x (ap (λ e. locked id && writes_on x k.func e) call ∙ and_right (locked id) false refl))))
       (got_still d m n known after locked locked h.shadows.got there_still (λ u x j. known_set known c z (λ j w. got_by d u x j (locked j) (map.get known j) ≡ true → got_by d u x j (locked j) w ≡ true)
       (λ e. let clash = sym e ∙ ap (got_by d u x c (locked c)) gone in cc) (λ j other e. e) j))
 
@@ -465,7 +462,7 @@ module _ (d : Deployment) (m n : Rows) (p : PlainState) (known : Known) (locked 
       (role_of d m p known locked h o q made b id i back owner_in is (moved_one d id i (answer_of u)).within)) in
       all_goes d m p known locked h o q made b after n locked ch (λ j y there e apart i is_in l. l) (λ u x other. rows_stay u x)
       (own_shows d m p known locked h o q made b after n locked ch (λ j y there e apart i is_in l. l) (λ u x other. rows_stay u x) id own_tx.going.state.items g
-      (λ x. subst (λ r. ShadowShows false r (value_at own_tx.going.state x)) (sym (rows_stay t x)) (settled d m p known locked h o q made b e j called inside none free x (ap (λ y. locked e && writes_on x j.func y) returns ∙ and_false (locked e)))))
+      (λ x. subst (λ r. ShadowShows false r (value_at own_tx.going.state x)) (sym (rows_stay t x)) (settled d m p known locked h o q made b e j called inside none free x (ap (λ y. locked e && writes_on x j.func y) returns ∙ and_right (locked e) false refl))))
       (got_still d m n known after locked locked h.shadows.got there_still (λ s x y had.
       known_set f id back (λ y w. got_by d s x y (locked y) (map.get f y) ≡ true → got_by d s x y (locked y) w ≡ true)
       (λ g. got_passed d s x id i (answer_of u) (locked id) (ap touched call) (sym (ap (got_by d s x id (locked id)) there) ∙ g)) (λ y other g. g) y

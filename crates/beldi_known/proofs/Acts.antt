@@ -3,6 +3,7 @@ use Rattle.std.proofs.Common.{◌≡◌, ℕ, ◌==◌, ◌&&◌, Bool, true, fa
 use Rattle.std.specs.FinMap as map
 use Rattle.std.specs.Ordering.{is_eq}
 use Rattle.std.proofs.lemmas.Cmp.{tied_itself, eq_by_cmp_equiv}
+use Rattle.std.proofs.lemmas.Bool.{and_from, and_parts, false_from_ne_true}
 use Rattle.beldi_value.specs.Id.{id_cmp}
 use Rattle.beldi_value.specs.declared.id.IntentId.{IntentId}
 use Rattle.beldi_value.specs.declared.place.Owner.TheVariants.{Tx}
@@ -49,10 +50,7 @@ use Rattle.beldi_known.proofs.Fronts.{intents_same, locksets_answered, items_ans
 
 -- ---- keys of two kinds are apart: by a test that tells the kinds, and no order
 pub kinds_apart : (f : Kind → Bool) (k l : RowKey) → f k.kind ≡ true → f l.kind ≡ false → is_eq (key_cmp k l) ≡ false
-kinds_apart f k l h g = elim (is_eq (key_cmp k l)) as (λ b. is_eq (key_cmp k l) ≡ b → b ≡ false) [
-  | true ↦ λ e. absurd (true_false (sym h ∙ ap (λ (z : RowKey). f z.kind) (key_same k l e) ∙ g))
-  | false ↦ λ e. refl
-] refl
+kinds_apart f k l h g = false_from_ne_true (is_eq (key_cmp k l)) (λ e. true_false (sym h ∙ ap (λ (z : RowKey). f z.kind) (key_same k l e) ∙ g))
 
 abbrev pub is_data : Kind → Bool
 is_data (kinds.Data t k n) = true
@@ -97,9 +95,6 @@ item_at home k = record { func = home; table = 0; key = [] }
 pub shadow_same : (s t : TxId) (x y : Item) → shadow_key s x ≡ shadow_key t y → (s ≡ t) × (x ≡ y)
 shadow_same s t x y h = (ap (λ (k : RowKey). tx_of k.kind) h, ap (λ (k : RowKey). item_at k.home k.kind) h)
 
-and_true : (a b : Bool) → true ≡ b → a ≡ true → (a && b) ≡ true
-and_true a b h g = ap (λ z. z && b) g ∙ sym h
-
 -- ---- LockCell Did
 module _ (d : Deployment) (known : Known) (locked : IntentId → Bool) (id : IntentId) (q : Instance) (is : map.get known id ≡ Some q) (unlocked : locked id ≡ false)
     (s : TxId) (inside : tx_now d id q ≡ Some s) (o : ℕ × List ℕ) (touch : touched (effect_of d q) ≡ Some o) where
@@ -139,13 +134,9 @@ module _ (d : Deployment) (known : Known) (locked unlocked : IntentId → Bool) 
   -- the lockset row that it owes is the one that it has
   there : (b : ℕ) (x : Item) (j : IntentId) → (is_eq (id_cmp j id) && asks_lock b x q.func (tx_now d id q) (effect_of d q)) ≡ true → map.get m (lockset_key j b x) ≡ Some rows.Lockset
   there b x j g =
-      let e = both (is_eq (id_cmp j id)) (asks_lock b x q.func (tx_now d id q) (effect_of d q)) g in
-      let f = both (s.begin == b) (is_eq (item_cmp own x)) (sym (ap (λ z. begins_at b z && is_item x q.func (touched (effect_of d q))) inside ∙ ap (λ z. (s.begin == b) && is_item x q.func z) touch) ∙ e.1) in
+      let e = and_parts (is_eq (id_cmp j id)) (asks_lock b x q.func (tx_now d id q) (effect_of d q)) g in
+      let f = and_parts (s.begin == b) (is_eq (item_cmp own x)) (sym (ap (λ z. begins_at b z && is_item x q.func (touched (effect_of d q))) inside ∙ ap (λ z. (s.begin == b) && is_item x q.func z) touch) ∙ e.1) in
       ap (map.get m) (λ i. lockset_key (id_same j id e.0 i) (sym (eqb-true s.begin b f.0) i) (sym (item_same own x f.1) i)) ∙ has_lockset
-    where
-      both : (u w : Bool) → (u && w) ≡ true → (u ≡ true) × (w ≡ true)
-      both true w k = (refl, k)
-      both false w k = cc
 
   -- all other rows
   row_answered : (k : RowKey) → ((b : Place) → k.kind ≡ kinds.ReadLog b → owed_read d after k.home b ≡ owed_read d known k.home b) → RowMatches d known k.home k.kind (map.get m k) → RowMatches d after k.home k.kind (map.get m k)
@@ -193,7 +184,7 @@ module _ (d : Deployment) (known : Known) (locked unlocked : IntentId → Bool) 
           (shadow_kept d known locked unlocked id q r a is one out t x (shadow_of m t x) (apart t x g) (h.shadows t x))
         where
           by_key : (b : Bool) → is_eq (key_cmp (shadow_key t x) (shadow_key s own)) ≡ b → b ≡ false
-          by_key true e = let p = shadow_same t s x own (key_same (shadow_key t x) (shadow_key s own) e) in absurd (true_false (sym (and_true (tx_eq t s) (is_eq (item_cmp own x)) (sym (ap (λ z. is_eq (item_cmp own z)) p.1 ∙ ap is_eq (tied_itself item_total own))) (ap (λ z. tx_eq z s) p.0 ∙ tx_self s)) ∙ g))
+          by_key true e = let p = shadow_same t s x own (key_same (shadow_key t x) (shadow_key s own) e) in absurd (true_false (sym (and_from (tx_eq t s) (is_eq (item_cmp own x)) (ap (λ z. tx_eq z s) p.0 ∙ tx_self s) (ap (λ z. is_eq (item_cmp own z)) p.1 ∙ ap is_eq (tied_itself item_total own))) ∙ g))
           by_key false e = refl
 
       by_both : (t : TxId) (x : Item) (b : Bool) → tx_eq t s ≡ b → (c : Bool) → is_eq (item_cmp own x) ≡ c → ShadowMatches d after t x (shadow_of (set_row m (shadow_key s own) v) t x)

@@ -1,10 +1,10 @@
 -- A lock that is ahead is that of an instance which stands at an operation inside: move by move, and whose it is not.
-use Rattle.std.proofs.Common.{◌≡◌, ℕ, List, Bool, true, false, Option, Some, None, is_some, refl, ap, sym, ◌∙◌, subst, if◌then◌else◌}
+use Rattle.std.proofs.Common.{◌≡◌, ℕ, List, Bool, true, false, Some, None, is_some, refl, ap, sym, ◌∙◌, subst, if◌then◌else◌}
 use Rattle.std.specs.FinMap as map
 use Rattle.std.specs.Ordering.{is_eq}
+use Rattle.std.proofs.lemmas.Bool.{false_from_ne_true}
 use Rattle.beldi_value.specs.Id.{id_cmp}
 use Rattle.beldi_value.specs.declared.id.IntentId.{IntentId}
-use Rattle.beldi_value.specs.declared.outcome.Outcome.{Outcome}
 use Rattle.beldi_value.specs.declared.place.TxId.{TxId}
 use Rattle.beldi_tree.specs.declared.deployment.Deployment.{Deployment}
 use Rattle.beldi_plain.specs.Plain.{Instance, effect_of}
@@ -17,6 +17,7 @@ use Rattle.beldi_known.specs.Laws.{IsFront}
 use Rattle.beldi_known.specs.Sane.{SaneInstance}
 use Rattle.beldi_known.specs.Matches.{LockedAt, LockedIf, LockedAtEnds}
 use Rattle.beldi_known.proofs.FrameAt.{known_set}
+use Rattle.beldi_order.proofs.Maps.{none_by}
 
 -- nothing is taken out that was not ahead
 pub none_out : (locked : IntentId → Bool) (id : IntentId) → locked id ≡ false → LockedOut locked locked id
@@ -36,33 +37,22 @@ module _ (d : Deployment) (known : Known) (locked : IntentId → Bool) (h : Lock
       by_test false e g = h j (sym (ap (λ b. if b then true else locked j) e) ∙ g)
 
   pub ahead_front : (id : IntentId) (q : Instance) (s : TxId) (t : ℕ) (k : List ℕ) → IsFront d known id q s t k → SaneInstance d id q → LockedAtEnds d known (lock_in locked id)
-  ahead_front id q s t k front sane = ahead_in id q front.made (record { open_still = open_there q.outcome refl; inside = ap is_some front.inside; operation = ap is_some front.touch })
-    where
-      open_there : (o : Option Outcome) → q.outcome ≡ o → o ≡ None
-      open_there None is = refl
-      open_there (Some o) is = let clash = sym front.touch ∙ ap touched (sane.over o is) in cc
+  ahead_front id q s t k front sane = ahead_in id q front.made (record { open_still = none_by q.outcome (λ o is. let clash = sym front.touch ∙ ap touched (sane.over o is) in cc); inside = ap is_some front.inside; operation = ap is_some front.touch })
 
   -- whose lock is not ahead
   module _ (id : IntentId) where
-    not_locked : (locked id ≡ true → ⊥) → locked id ≡ false
-    not_locked none = by_test (locked id) refl
-      where
-        by_test : (b : Bool) → locked id ≡ b → b ≡ false
-        by_test true e = absurd (none e)
-        by_test false e = refl
-
     pub unlocked_absent : map.get known id ≡ None → locked id ≡ false
-    unlocked_absent is = not_locked (λ e. subst (LockedIf d id) is (h id e))
+    unlocked_absent is = false_from_ne_true (locked id) (λ e. subst (LockedIf d id) is (h id e))
 
     module _ (q : Instance) (is : map.get known id ≡ Some q) where
       stands : locked id ≡ true → LockedAt d id q
       stands e = subst (LockedIf d id) is (h id e)
 
       pub unlocked_over : is_some q.outcome ≡ true → locked id ≡ false
-      unlocked_over over = not_locked (λ e. let k = stands e in let clash = sym over ∙ ap is_some k.open_still in cc)
+      unlocked_over over = false_from_ne_true (locked id) (λ e. let k = stands e in let clash = sym over ∙ ap is_some k.open_still in cc)
 
       pub unlocked_outside : tx_now d id q ≡ None → locked id ≡ false
-      unlocked_outside out = not_locked (λ e. let k = stands e in let clash = sym k.inside ∙ ap is_some out in cc)
+      unlocked_outside out = false_from_ne_true (locked id) (λ e. let k = stands e in let clash = sym k.inside ∙ ap is_some out in cc)
 
       pub unlocked_elsewhere : touched (effect_of d q) ≡ None → locked id ≡ false
-      unlocked_elsewhere other = not_locked (λ e. let k = stands e in let clash = sym k.operation ∙ ap is_some other in cc)
+      unlocked_elsewhere other = false_from_ne_true (locked id) (λ e. let k = stands e in let clash = sym k.operation ∙ ap is_some other in cc)

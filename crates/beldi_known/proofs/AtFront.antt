@@ -2,6 +2,7 @@
 use Rattle.std.proofs.Common.{◌≡◌, ◌<◌, ℕ, ◌==◌, ◌&&◌, ◌||◌, Bool, true, false, length, take, Option, None, Some, is_some, refl, ap, ◌∙◌, subst, eqb-true, eq-eqb, arith, if◌then◌else◌}
 use Rattle.std.specs.Prelude.{slice_get}
 use Rattle.std.specs.FinMap as map
+use Rattle.std.proofs.lemmas.Bool.{and_right, false_from_ne_true}
 use Rattle.beldi_value.specs.declared.id.IntentId.{IntentId}
 use Rattle.beldi_value.specs.declared.place.Place.{Place}
 use Rattle.beldi_value.specs.declared.place.TxId.{TxId}
@@ -53,17 +54,10 @@ module _ (d : Deployment) (m : Rows) (known : Known) (locked : IntentId → Bool
 
   module _ (short : n < last_step) where
     no_mark : is_mark d known n (map.get known id) ≡ false
-    no_mark = ap (is_mark d known n) is ∙ ap (λ z. is_some z || (is_decided d known q.within && (n == last_step))) (step_next (λ ts a. commit_in (effect_after d q ts)) q.answers) ∙ ap (λ z. is_decided d known q.within && z) not_last ∙ and_false (is_decided d known q.within)
+    no_mark = ap (is_mark d known n) is ∙ ap (λ z. is_some z || (is_decided d known q.within && (n == last_step))) (step_next (λ ts a. commit_in (effect_after d q ts)) q.answers) ∙ ap (λ z. is_decided d known q.within && z) not_last ∙ and_right (is_decided d known q.within) false refl
       where
-        and_false : (b : Bool) → (b && false) ≡ false
-        and_false true = refl
-        and_false false = refl
-
         not_last : (n == last_step) ≡ false
-        not_last = elim (n == last_step) as (λ b. (n == last_step) ≡ b → b ≡ false) [
-          | true ↦ λ g. let k = eqb-true n last_step g in absurd (omega (arith, k, short))
-          | false ↦ λ g. refl
-        ] refl
+        not_last = false_from_ne_true (n == last_step) (λ g. let k = eqb-true n last_step g in omega (arith, k, short))
 
     -- of a plain item it has the note of the lock that is ahead, and no other
     pub note_is_ahead : (x : Item) → note_at (content_of m x).notes p ≡ ahead_by x q.func (tx_now d id q) (effect_of d q) (locked id)

@@ -4,6 +4,7 @@ use Rattle.std.specs.Prelude.{slice_get}
 use Rattle.std.specs.FinMap as map
 use Rattle.std.specs.Ordering.{is_eq}
 use Rattle.std.proofs.lemmas.Cmp.{tied_itself}
+use Rattle.std.proofs.lemmas.Bool.{and_right, false_from_ne_true, or_left, or_right}
 use Rattle.beldi_value.specs.declared.id.IntentId.{IntentId}
 use Rattle.beldi_value.specs.declared.outcome.Cause.{Cause}
 use Rattle.beldi_value.specs.declared.place.Place.{Place}
@@ -43,13 +44,19 @@ use Rattle.beldi_known.specs.Acts.{Told, noted, noted_or, lock_or, lock_on, put_
 use Rattle.beldi_known.proofs.Answers.{take_front, get_next, true_false}
 use Rattle.beldi_order.proofs.Ends.{along_append, ended_stays}
 use Rattle.beldi_known.proofs.Frame.{begins}
+use Rattle.beldi_known.proofs.FrameAt.{or_none}
 use Rattle.beldi_order.proofs.Went.{txs_pushed}
-
-note_or_none : (o : Option Note) → note_or o None ≡ o
-note_or_none None = refl
-note_or_none (Some v) = refl
+use Rattle.beldi_order.proofs.Maps.{none_by}
 
 -- ---- what is known of the step of a run that is behind
+-- a fold that only gathers has what was so at a step
+pub gathers : (g : List Answer → Answer → Bool) (given : List Answer) (a : Answer) (rest : List Answer) → g given a ≡ true → along (λ ts c r. r || g ts c) [] (given ++ a ∷ rest) false ≡ true
+gathers g given a rest h = along_append (λ ts c r. r || g ts c) [] given (a ∷ rest) false ∙ stays (given ++ a ∷ []) rest (along (λ ts c r. r || g ts c) [] given false || g given a) (or_right (along (λ ts c r. r || g ts c) [] given false) (g given a) h)
+  where
+    stays : (before later : List Answer) (b : Bool) → b ≡ true → along (λ ts c r. r || g ts c) before later b ≡ true
+    stays before [] b k = k
+    stays before (c ∷ later) b k = stays (before ++ c ∷ []) later (b || g before c) (or_left b (g before c) k)
+
 module _ (d : Deployment) (id : IntentId) (q : Instance) (given : List Answer) (a : Answer) (rest : List Answer) (run_answers : given ++ a ∷ rest ≡ q.answers) where
   abbrev n : ℕ
   n = length given
@@ -71,42 +78,22 @@ module _ (d : Deployment) (id : IntentId) (q : Instance) (given : List Answer) (
   stepped f = ap (at_step f (take n q.answers)) there ∙ ap (λ ts. f ts a) front
 
   no_end : (n == length q.answers) ≡ false
-  no_end = elim (n == length q.answers) as (λ b. (n == length q.answers) ≡ b → b ≡ false) [
-    | true ↦ λ g. let l = length-append given (a ∷ rest) in let k = eqb-true n (length q.answers) g in let m = ap length run_answers in absurd (omega (arith, l, k, m))
-    | false ↦ λ g. refl
-  ] refl
-
-  -- a fold that only gathers has it
-  gathered : (g : List Answer → Answer → Bool) (before after : List Answer) (b : Bool) → b ≡ true → along (λ ts c r. r || g ts c) before after b ≡ true
-  gathered g before [] b h = h
-  gathered g before (c ∷ after) b h = gathered g (before ++ c ∷ []) after (b || g before c) (ap (λ z. z || g before c) h)
-
-  pub gathers : (g : List Answer → Answer → Bool) → g given a ≡ true → along (λ ts c r. r || g ts c) [] q.answers false ≡ true
-  gathers g h = ap (λ ts. along (λ us c r. r || g us c) [] ts false) (sym run_answers) ∙ along_append (λ us c r. r || g us c) [] given (a ∷ rest) false
-      ∙ gathered g (given ++ a ∷ []) rest (along (λ us c r. r || g us c) [] given false || g given a) (ap (λ z. along (λ us c r. r || g us c) [] given false || z) h ∙ or_true (along (λ us c r. r || g us c) [] given false))
-    where
-      or_true : (b : Bool) → (b || true) ≡ true
-      or_true true = refl
-      or_true false = refl
+  no_end = false_from_ne_true (n == length q.answers) (λ g. let l = length-append given (a ∷ rest) in let k = eqb-true n (length q.answers) g in let m = ap length run_answers in omega (arith, l, k, m))
 
   -- the note of an item is that of the answer, and none is ahead
   pub note_there : (x : Item) (b : Bool) → owed_note d x id b n (Some q) ≡ note_by x q.func t e a
-  note_there x b = ap (λ c. note_or (answered_note d x id n q) (if c then ahead_by x q.func (tx_now d id q) (effect_of d q) b else None)) no_end ∙ note_or_none (answered_note d x id n q)
+  note_there x b = ap (λ c. note_or (answered_note d x id n q) (if c then ahead_by x q.func (tx_now d id q) (effect_of d q) b else None)) no_end ∙ or_none (answered_note d x id n q)
       ∙ stepped (λ ts c. note_by x q.func (tx_after d id q ts) (effect_after d q ts) c)
 
   pub shadow_there : (s : TxId) (x : Item) → owed_shadow d s x id n (Some q) ≡ shadow_by s x q.func t e a
   shadow_there s x = stepped (λ ts c. shadow_by s x q.func (tx_after d id q ts) (effect_after d q ts) c)
 
   pub lockset_there : (b : ℕ) (x : Item) → asks_lock b x q.func t e ≡ true → owed_lockset d b x id (Some q) ≡ true
-  lockset_there b x h = gathers (λ ts c. asks_lock b x q.func (tx_after d id q ts) (effect_after d q ts)) h
+  lockset_there b x h = ap (λ ts. along (λ us c r. r || asks_lock b x q.func (tx_after d id q us) (effect_after d q us)) [] ts false) (sym run_answers) ∙ gathers (λ ts c. asks_lock b x q.func (tx_after d id q ts) (effect_after d q ts)) given a rest h
 
   -- at a read no Begin ended, so the row is the value's
   not_begun : (m : ℕ) → (effect_before d q m ≡ effect.Begin → ⊥) → end_of d q m ≡ None
-  not_begun m apart = by_end (end_of d q m) refl
-    where
-      by_end : (o : Option (ℕ × Bool)) → end_of d q m ≡ o → o ≡ None
-      by_end None h = refl
-      by_end (Some z) h = absurd (apart ((begins d q q.answers).ended m z h))
+  not_begun m apart = none_by (end_of d q m) (λ z h. apart ((begins d q q.answers).ended m z h))
 
   pub row_there : (b : ℕ) (k : List ℕ) → e ≡ effect.Read b k → row_at d q n ≡ value_for e a
   row_there b k is = ap (λ o. value_or (decision_by o) (read_at d q n)) (not_begun n (λ g. let h = sym is ∙ ap (effect_after d q) (sym front) ∙ g in cc)) ∙ stepped (λ ts c. value_for (effect_after d q ts) c)
@@ -208,17 +195,10 @@ module _ (d : Deployment) (m : Rows) (known : Known) (locked : IntentId → Bool
   no_mark : commit_in wanted ≡ None → is_mark d known (length given) (map.get known id) ≡ false
   no_mark apart = ap (is_mark d known (length given)) is
       ∙ ap (λ z. is_some z || (is_decided d known q.within && (length given == last_step))) (stepped d id q given a rest run_answers (λ ts c. commit_in (effect_after d q ts)) ∙ apart)
-      ∙ ap (λ z. is_decided d known q.within && z) not_last ∙ and_false (is_decided d known q.within)
+      ∙ ap (λ z. is_decided d known q.within && z) not_last ∙ and_right (is_decided d known q.within) false refl
     where
-      and_false : (b : Bool) → (b && false) ≡ false
-      and_false true = refl
-      and_false false = refl
-
       not_last : (length given == last_step) ≡ false
-      not_last = elim (length given == last_step) as (λ b. (length given == last_step) ≡ b → b ≡ false) [
-        | true ↦ λ g. let k = eqb-true (length given) last_step g in absurd (omega (arith, k, short))
-        | false ↦ λ g. refl
-      ] refl
+      not_last = false_from_ne_true (length given == last_step) (λ g. let k = eqb-true (length given) last_step g in omega (arith, k, short))
 
   -- a read, outside and inside: its row has the known answer
   log_match : LogMatches (map.get m (log_key q.func p)) (row_at d q (length given))

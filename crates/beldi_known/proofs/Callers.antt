@@ -86,20 +86,21 @@ module _ (d : Deployment) (known : Known) (sane : Sane d known) (s : TxId) where
   module _ (P : IntentId → Instance → Type 0)
       (first : (i : IntentId) (z : Instance) → z.within ≡ Some s → (c : CallerOf d known s i z) → c.waiter.within ≡ None → Own c.caller c.waiter.func (txs_after d c.waiter (take c.step c.waiter.answers)).begun s → P i z)
       (later : (i : IntentId) (z : Instance) → z.within ≡ Some s → (c : CallerOf d known s i z) → c.waiter.within ≡ Some s → P c.caller c.waiter → P i z) where
-    by_hops : (n : ℕ) (i : IntentId) (z : Instance) → length i.hops < n → map.get known i ≡ Some z → z.within ≡ Some s → P i z
-    by_hops zero i z few is inner = absurd (omega (arith, few))
-    by_hops (suc n) i z few is inner = by_within c.waiter.within refl
+    by_call : (i : IntentId) (z : Instance) → z.within ≡ Some s → (c : CallerOf d known s i z) → (c.waiter.within ≡ Some s → P c.caller c.waiter) → P i z
+    by_call i z inner c up = by_within c.waiter.within refl
       where
-        c : CallerOf d known s i z
-        c = caller_in d known sane s i z is inner
-
         in_it : (x : Option TxId) → c.waiter.within ≡ x → or_own x (tx_by c.caller c.waiter.func (length (take c.step c.waiter.answers)) (effect_before d c.waiter c.step) (txs_after d c.waiter (take c.step c.waiter.answers)).begun) ≡ Some s
         in_it x e = sym (ap (λ w. or_own w (tx_by c.caller c.waiter.func (length (take c.step c.waiter.answers)) (effect_before d c.waiter c.step) (txs_after d c.waiter (take c.step c.waiter.answers)).begun)) e) ∙ c.within
 
         by_within : (x : Option TxId) → c.waiter.within ≡ x → P i z
         by_within None e = first i z inner c e (own_by c.caller c.waiter.func (length (take c.step c.waiter.answers)) (effect_before d c.waiter c.step) (txs_after d c.waiter (take c.step c.waiter.answers)).begun s (ap is_begin c.call) (in_it None e))
-        by_within (Some x) e = let up = e ∙ in_it (Some x) e in
-            later i z inner c up (by_hops n c.caller c.waiter (let m = longer c.caller c.step in let k = ap (λ (y : IntentId). length y.hops) c.is in omega (arith, few, m, k)) c.made up)
+        by_within (Some x) e = let on = e ∙ in_it (Some x) e in later i z inner c on (up on)
+
+    by_hops : (n : ℕ) (i : IntentId) (z : Instance) → length i.hops < n → map.get known i ≡ Some z → z.within ≡ Some s → P i z
+    by_hops zero i z few is inner = absurd (omega (arith, few))
+    by_hops (suc n) i z few is inner =
+        let c = caller_in d known sane s i z is inner in
+        by_call i z inner c (by_hops n c.caller c.waiter (let m = longer c.caller c.step in let k = ap (λ (y : IntentId). length y.hops) c.is in omega (arith, few, m, k)) c.made)
 
     pub all_called : (i : IntentId) (z : Instance) → map.get known i ≡ Some z → z.within ≡ Some s → P i z
     all_called i z = by_hops (suc (length i.hops)) i z (omega arith)

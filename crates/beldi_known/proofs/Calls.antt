@@ -3,6 +3,7 @@ use Rattle.std.proofs.Common.{◌≡◌, ℕ, ◌==◌, ◌&&◌, ◌||◌, Bool
 use Rattle.std.specs.FinMap as map
 use Rattle.std.specs.Option.{is_none}
 use Rattle.std.specs.Ordering.{is_eq}
+use Rattle.std.proofs.lemmas.Bool.{and_right}
 use Rattle.beldi_value.specs.Id.{child_of, has_no_hops}
 use Rattle.beldi_value.specs.declared.id.IntentId.{IntentId}
 use Rattle.beldi_value.specs.declared.outcome.Outcome.{Outcome}
@@ -87,14 +88,8 @@ ended_owes d known id q o u returns = record {
   held = λ x. refl;
   ends = λ b. refl;
   marks = λ n h. h;
-  behind = λ b x. ap (λ e. is_none q.outcome && (is_open d known (tx_now d id q) && (begins_at b (tx_now d id q) && is_item x q.func (touched e)))) returns ∙ three (is_none q.outcome) (is_open d known (tx_now d id q)) (begins_at b (tx_now d id q));
+  behind = λ b x. ap (λ e. is_none q.outcome && (is_open d known (tx_now d id q) && (begins_at b (tx_now d id q) && is_item x q.func (touched e)))) returns ∙ and_right (is_none q.outcome) _ (and_right (is_open d known (tx_now d id q)) _ (and_right (begins_at b (tx_now d id q)) false refl));
 }
-  where
-    three : (a b c : Bool) → (a && (b && (c && false))) ≡ false
-    three true true true = refl
-    three true true false = refl
-    three true false c = refl
-    three false b c = refl
 
 -- ---- a call is opened: its callee is made, and its row is put
 module _ (d : Deployment) (known : Known) (locked : IntentId → Bool) (id : IntentId) (i s : Instance) (waits : Bool) (is : map.get known id ≡ Some i) (new : map.get known (callee_of id i) ≡ None)

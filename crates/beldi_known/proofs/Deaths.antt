@@ -2,7 +2,6 @@
 use Rattle.std.proofs.Common.{◌≡◌, ℕ, Bool, true, false, List, Option, Some, None, refl, ap, sym, ◌∙◌, if◌then◌else◌}
 use Rattle.beldi_value.specs.Id.{age_of, is_older}
 use Rattle.beldi_value.specs.declared.id.IntentId.{IntentId}
-use Rattle.beldi_value.specs.declared.outcome.Outcome.{Outcome}
 use Rattle.beldi_value.specs.declared.place.Owner.{Owner}
 use Rattle.beldi_value.specs.declared.place.Owner.TheVariants.{Intent, Tx}
 use Rattle.beldi_value.specs.declared.place.Place.{Place}
@@ -27,6 +26,7 @@ use Rattle.beldi_order.specs.Sane.{IsDeath}
 use Rattle.beldi_known.proofs.Locks.{tx_self}
 use Rattle.beldi_known.proofs.Participants.{owner_holds_none}
 use Rattle.beldi_known.proofs.Told.{past_note}
+use Rattle.beldi_order.proofs.Maps.{none_by}
 
 -- it owns the item, and is not younger
 record Stops (t : TxId) (was : Option Owner) (holder : IntentId) : Type 0 where
@@ -60,13 +60,12 @@ module _ (d : Deployment) (known : Known) (h : Sane d known) (locked : IntentId 
       let z = stops p s c x holder acts in
       record { holder = holder; cause = refl; older = by_test (is_older holder s.intent) refl z }
     where
-      open_still : (o : Option Outcome) → q.outcome ≡ o → o ≡ None
-      open_still None is = refl
-      open_still (Some o) is = let m = h.each id q front.made in let clash = sym front.touch ∙ ap touched (m.over o is) in cc
+      open_still : q.outcome ≡ None
+      open_still = none_by q.outcome (λ o is. let m = h.each id q front.made in let clash = sym front.touch ∙ ap touched (m.over o is) in cc)
 
       apart : (o : Owner) → c.owner ≡ Some o → owner_eq o (Tx s) ≡ false → s.intent ≡ age_of o → ⊥
       apart (Intent j) owns other same =
-          let none = owner_holds_none d known h id q s front.made (open_still q.outcome refl) front.inside y in
+          let none = owner_holds_none d known h id q s front.made open_still front.inside y in
           let clash = sym (id_self j) ∙ ap (λ i. id_eq j i) (sym same) ∙ sym (ap (λ w. is_owner w (Intent s.intent)) owns) ∙ matches.owner s.intent ∙ none in cc
       apart (Tx u) owns other same = let one = single u owns (sym same) in let clash = sym (tx_self s) ∙ ap (λ v. owner_eq (Tx v) (Tx s)) (sym one) ∙ other in cc
 

@@ -3,6 +3,7 @@ use Rattle.std.specs.Option.{is_none}
 use Rattle.std.proofs.Common.{◌≡◌, ℕ, ◌==◌, ◌&&◌, ◌||◌, not, Bool, true, false, length, Option, None, Some, refl, ap, sym, ◌∙◌, subst, eqb-true, eq-eqb, is_some, if◌then◌else◌}
 use Rattle.std.specs.FinMap as map
 use Rattle.std.specs.Ordering.{is_eq}
+use Rattle.std.proofs.lemmas.Bool.{and_right, or_from, or_left, or_parts}
 use Rattle.beldi_value.specs.declared.place.Owner.TheVariants.{Intent}
 use Rattle.beldi_value.specs.Id.{id_cmp}
 use Rattle.beldi_value.specs.declared.id.IntentId.{IntentId}
@@ -36,18 +37,11 @@ use Rattle.beldi_order.specs.Txs.{effect_after, is_at, txs_after, txs_by, end_of
 use Rattle.beldi_known.specs.Matches.{RowMatches, Matches, ItemMatches, ShadowMatches, TxsMatch, LocksetMatches, lockset_ahead, is_open}
 use Rattle.beldi_known.specs.Frame.{AnswersOne, row_added, LockedOut}
 use Rattle.beldi_known.proofs.Rows.{keys_set}
-use Rattle.beldi_known.proofs.Frame.{step_next, no_note, no_shadow}
+use Rattle.beldi_known.proofs.Frame.{step_next, no_note, no_shadow, or_false}
 use Rattle.beldi_known.proofs.FrameAt.{known_set, read_one, holds_one, note_one, got_one, lockset_one, calls_same}
 use Rattle.beldi_known.proofs.Fronts.{intents_same, shadow_kept, read_elsewhere, tx_end_stays}
 use Rattle.beldi_known.proofs.Acts.{kinds_apart, is_data, is_shadow, content_apart, shadow_apart}
-
-or_false : (b c : Bool) → c ≡ false → (b || c) ≡ b
-or_false true c h = refl
-or_false false c h = h
-
-or_none : (b c : Bool) → (b || c) ≡ false → (b ≡ false) × (c ≡ false)
-or_none true c h = cc
-or_none false c h = (refl, h)
+use Rattle.beldi_order.proofs.Maps.{none_by}
 
 module _ (d : Deployment) (known : Known) (locked : IntentId → Bool) (id : IntentId) (q r : Instance) (a : Answer) (is : map.get known id ≡ Some q) (one : AnswersOne d id q a r) (unlocked : locked id ≡ false)
     (c : Bool) (ends : effect_of d q ≡ effect.End c) (b : ℕ) (begun : (txs_after d q q.answers).begun ≡ Some b)
@@ -69,11 +63,7 @@ module _ (d : Deployment) (known : Known) (locked : IntentId → Bool) (id : Int
   no_note_here x = ap (λ e. note_by x q.func (tx_now d id q) e a) ends ∙ no_note x q.func (tx_now d id q) (effect.End c) a refl refl
 
   asks_none : (f : ℕ) (x : Item) → asks_lock f x q.func (tx_now d id q) (effect_of d q) ≡ false
-  asks_none f x = ap (λ e. begins_at f (tx_now d id q) && is_item x q.func (touched e)) ends ∙ and_false (begins_at f (tx_now d id q))
-    where
-      and_false : (u : Bool) → (u && false) ≡ false
-      and_false true = refl
-      and_false false = refl
+  asks_none f x = ap (λ e. begins_at f (tx_now d id q) && is_item x q.func (touched e)) ends ∙ and_right (begins_at f (tx_now d id q)) false refl
 
   -- no item owes more
   notes_same : (x : Item) (y : Place) → owed_note d x y.intent (locked y.intent) y.step (map.get after y.intent) ≡ owed_note d x y.intent (locked y.intent) y.step (map.get known y.intent)
@@ -99,43 +89,24 @@ module _ (d : Deployment) (known : Known) (locked : IntentId → Bool) (id : Int
       (λ j other. refl)
     where
       no_on : is_on t x q.func (tx_now d id q) (effect_of d q) ≡ false
-      no_on = ap (λ e. is_tx t (tx_now d id q) && is_item x q.func (touched e)) ends ∙ and_false (is_tx t (tx_now d id q))
-        where
-          and_false : (u : Bool) → (u && false) ≡ false
-          and_false true = refl
-          and_false false = refl
+      no_on = ap (λ e. is_tx t (tx_now d id q) && is_item x q.func (touched e)) ends ∙ and_right (is_tx t (tx_now d id q)) false refl
 
   -- what is open afterwards was open
   pub still_open : (t : TxId) → tx_end d after t ≡ None → tx_end d known t ≡ None
-  still_open t h = by_end (tx_end d known t) refl
-    where
-      by_end : (o : Option (ℕ × Bool)) → tx_end d known t ≡ o → o ≡ None
-      by_end None e = refl
-      by_end (Some z) e = let k = sym h ∙ tx_end_stays d known locked locked id q r a is one out t z e in cc
+  still_open t h = none_by (tx_end d known t) (λ z e. let k = sym h ∙ tx_end_stays d known locked locked id q r a is one out t z e in cc)
 
   decided_stays : (t : Option TxId) → is_decided d after t ≡ false → is_decided d known t ≡ false
   decided_stays None h = refl
-  decided_stays (Some t) h = ap is_some (still_open t (none_of (tx_end d after t) h))
-    where
-      none_of : (o : Option (ℕ × Bool)) → is_some o ≡ false → o ≡ None
-      none_of None e = refl
-      none_of (Some z) e = cc
+  decided_stays (Some t) h = ap is_some (still_open t (none_by (tx_end d after t) (λ z e. let k = sym h ∙ ap is_some e in cc)))
 
   marks_stay : (y : Place) → is_mark d after y.step (map.get after y.intent) ≡ false → is_mark d known y.step (map.get known y.intent) ≡ false
   marks_stay y = known_set known id r (λ j o. is_mark d after y.step o ≡ false → is_mark d known y.step (map.get known j) ≡ false)
-      (λ h. let e = or_none (is_some (ended_at d r y.step)) (is_decided d after r.within && (y.step == last_step)) h in
-      ap (is_mark d known y.step) is ∙ both (is_some (ended_at d q y.step)) (is_decided d known q.within && (y.step == last_step)) (at_end y.step e.0) (and_stays r.within q.within one.within (y.step == last_step) e.1))
+      (λ h. let e = or_parts (is_some (ended_at d r y.step)) (is_decided d after r.within && (y.step == last_step)) h in
+      ap (is_mark d known y.step) is ∙ or_from (is_some (ended_at d q y.step)) (is_decided d known q.within && (y.step == last_step)) (at_end y.step e.0) (and_stays r.within q.within one.within (y.step == last_step) e.1))
       (λ j other. elsewhere (map.get known j)) y.intent
     where
-      both : (u v : Bool) → u ≡ false → v ≡ false → (u || v) ≡ false
-      both u v h g = ap (λ z. z || v) h ∙ g
-
       and_stays : (t w : Option TxId) → t ≡ w → (v : Bool) → (is_decided d after t && v) ≡ false → (is_decided d known w && v) ≡ false
-      and_stays t w same false g = and_false (is_decided d known w)
-        where
-          and_false : (u : Bool) → (u && false) ≡ false
-          and_false true = refl
-          and_false false = refl
+      and_stays t w same false g = and_right (is_decided d known w) false refl
       and_stays t w same true g = ap (λ z. z && true) (ap (is_decided d known) (sym same) ∙ decided_stays t (and_only (is_decided d after t) g))
         where
           and_only : (u : Bool) → (u && true) ≡ false → u ≡ false
@@ -151,8 +122,8 @@ module _ (d : Deployment) (known : Known) (locked : IntentId → Bool) (id : Int
 
       elsewhere : (o : Option Instance) → is_mark d after y.step o ≡ false → is_mark d known y.step o ≡ false
       elsewhere None h = refl
-      elsewhere (Some z) h = let e = or_none (is_some (ended_at d z y.step)) (is_decided d after z.within && (y.step == last_step)) h in
-          both (is_some (ended_at d z y.step)) (is_decided d known z.within && (y.step == last_step)) e.0 (and_stays z.within z.within refl (y.step == last_step) e.1)
+      elsewhere (Some z) h = let e = or_parts (is_some (ended_at d z y.step)) (is_decided d after z.within && (y.step == last_step)) h in
+          or_from (is_some (ended_at d z y.step)) (is_decided d known z.within && (y.step == last_step)) e.0 (and_stays z.within z.within refl (y.step == last_step) e.1)
 
   -- all other transactions are as before
   tx_end_apart : (t : TxId) → (t.intent ≡ id → t.begin ≡ b → ⊥) → tx_end d after t ≡ tx_end d known t
@@ -167,12 +138,7 @@ module _ (d : Deployment) (known : Known) (locked : IntentId → Bool) (id : Int
 
   -- a lockset row that is ahead is of another transaction
   owed_same : (f : ℕ) (x : Item) (j : IntentId) → owed_lockset d f x j (map.get after j) ≡ owed_lockset d f x j (map.get known j)
-  owed_same f x j = lockset_one d known id q r a is one f x j ∙ ap (λ u. owed_lockset d f x j (map.get known j) || (is_eq (id_cmp j id) && u)) (asks_none f x) ∙ by_bool (owed_lockset d f x j (map.get known j)) (is_eq (id_cmp j id))
-    where
-      by_bool : (u v : Bool) → (u || (v && false)) ≡ u
-      by_bool true v = refl
-      by_bool false true = refl
-      by_bool false false = refl
+  owed_same f x j = lockset_one d known id q r a is one f x j ∙ ap (λ u. owed_lockset d f x j (map.get known j) || (is_eq (id_cmp j id) && u)) (asks_none f x) ∙ or_false (owed_lockset d f x j (map.get known j)) _ (and_right (is_eq (id_cmp j id)) false refl)
 
   ahead_apart : (f : ℕ) (x : Item) (j : IntentId) → is_eq (id_cmp j id) ≡ false → (o : Option Instance) → map.get known j ≡ o → lockset_ahead d after f x j o ≡ lockset_ahead d known f x j o
   ahead_apart f x j other None at = refl
@@ -191,20 +157,11 @@ module _ (d : Deployment) (known : Known) (locked : IntentId → Bool) (id : Int
       → LocksetMatches row (owed_lockset d f x j (map.get after j)) (lockset_ahead d after f x j (map.get after j))
   locksets_same f x j None g = owed_same f x j ∙ g
   locksets_same f x j (Some rows.Lockset) g = ap (λ u. u || lockset_ahead d after f x j (map.get after j)) (owed_same f x j) ∙ known_set known id r (λ i o. (owed_lockset d f x i (map.get known i) || lockset_ahead d known f x i (map.get known i)) ≡ true → (owed_lockset d f x i (map.get known i) || lockset_ahead d after f x i o) ≡ true)
-      (λ k. by_first (owed_lockset d f x id (map.get known id)) (lockset_ahead d after f x id (Some r)) (sym (ap (λ o. owed_lockset d f x id (map.get known id) || lockset_ahead d known f x id o) is ∙ or_false (owed_lockset d f x id (map.get known id)) (lockset_ahead d known f x id (Some q)) not_ahead) ∙ k))
+      (λ k. or_left (owed_lockset d f x id (map.get known id)) (lockset_ahead d after f x id (Some r)) (sym (ap (λ o. owed_lockset d f x id (map.get known id) || lockset_ahead d known f x id o) is ∙ or_false (owed_lockset d f x id (map.get known id)) (lockset_ahead d known f x id (Some q)) not_ahead) ∙ k))
       (λ i other k. ap (λ u. owed_lockset d f x i (map.get known i) || u) (ahead_apart f x i other (map.get known i) refl) ∙ k) j g
     where
-      three : (u v w : Bool) → (u && (v && (w && false))) ≡ false
-      three true true true = refl
-      three true true false = refl
-      three true false w = refl
-      three false v w = refl
-
       not_ahead : lockset_ahead d known f x id (Some q) ≡ false
-      not_ahead = ap (λ e. is_none q.outcome && (is_open d known (tx_now d id q) && (begins_at f (tx_now d id q) && is_item x q.func (touched e)))) ends ∙ three (is_none q.outcome) (is_open d known (tx_now d id q)) (begins_at f (tx_now d id q))
-
-      by_first : (u v : Bool) → u ≡ true → (u || v) ≡ true
-      by_first u v k = ap (λ z. z || v) k
+      not_ahead = ap (λ e. is_none q.outcome && (is_open d known (tx_now d id q) && (begins_at f (tx_now d id q) && is_item x q.func (touched e)))) ends ∙ and_right (is_none q.outcome) _ (and_right (is_open d known (tx_now d id q)) _ (and_right (begins_at f (tx_now d id q)) false refl))
   locksets_same f x j (Some (rows.Intent i)) g = g
   locksets_same f x j (Some (rows.ReadLog i)) g = g
   locksets_same f x j (Some (rows.Invoke i)) g = g

@@ -184,7 +184,7 @@ same_then d id q r u g h = record {
   marks = λ m. h.marks m ∙ g.marks m;
 }
 
-or_false : (b c : Bool) → c ≡ false → (b || c) ≡ b
+pub or_false : (b c : Bool) → c ≡ false → (b || c) ≡ b
 or_false true c h = refl
 or_false false c h = h
 

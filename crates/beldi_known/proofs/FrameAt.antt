@@ -68,6 +68,10 @@ not_ahead d x id n q = by_tx (tx_now d id q) (n == length q.answers)
     by_tx (Some t) true = refl
     by_tx t false = refl
 
+pub or_no : (b : Bool) → (b || false) ≡ b
+or_no true = refl
+or_no false = refl
+
 pub or_none : (o : Option Note) → note_or o None ≡ o
 or_none None = refl
 or_none (Some n) = refl
@@ -150,10 +154,6 @@ module _ (d : Deployment) (known : Known) (id : IntentId) (q r : Instance) (a : 
     got_one t x P here others j = known_set known id r (λ j o. P j (got_by d t x j (unlocked j) o))
         (subst (P id) (sym (ap (λ b. got_before d t x id r || (b && is_on t x r.func (tx_now d id r) (effect_of d r))) out.out ∙ or_no (got_before d t x id r) ∙ h.got t x)) here)
         (λ j other. subst (λ b. P j (got_by d t x j b (map.get known j))) (sym (out.others j other)) (others j other)) j
-      where
-        or_no : (b : Bool) → (b || false) ≡ b
-        or_no true = refl
-        or_no false = refl
 
     -- an answer other than a death to whose lock is ahead, or a death to whose is not: what is got stays
     pub got_same : (locked id ≡ not (is_aborted a)) → (t : TxId) (x : Item) (j : IntentId) → got_by d t x j (unlocked j) (map.get after j) ≡ got_by d t x j (locked j) (map.get known j)

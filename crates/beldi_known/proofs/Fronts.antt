@@ -4,6 +4,7 @@ use Rattle.std.proofs.Common.{◌≡◌, ℕ, ◌==◌, ◌&&◌, ◌||◌, not,
 use Rattle.std.specs.FinMap as map
 use Rattle.std.specs.Ordering.{is_eq}
 use Rattle.std.proofs.lemmas.Cmp.{tied_itself}
+use Rattle.std.proofs.lemmas.Bool.{and_right}
 use Rattle.beldi_value.specs.declared.place.Owner.TheVariants.{Intent}
 use Rattle.beldi_value.specs.Id.{id_cmp, has_no_hops}
 use Rattle.beldi_value.specs.declared.id.IntentId.{IntentId}
@@ -42,8 +43,8 @@ use Rattle.beldi_known.specs.Frame.{AnswersOne, row_added, LockedOut}
 use Rattle.beldi_known.proofs.Answers.{true_false}
 use Rattle.beldi_known.proofs.Instances.{EndMore, intent_stays, intent_same}
 use Rattle.beldi_order.proofs.Ends.{ends_kept, fits}
-use Rattle.beldi_known.proofs.Frame.{step_next}
-use Rattle.beldi_known.proofs.FrameAt.{known_set, no_place, read_one, shadow_one, lockset_one, holds_one, note_one, got_same}
+use Rattle.beldi_known.proofs.Frame.{step_next, or_false}
+use Rattle.beldi_known.proofs.FrameAt.{known_set, no_place, read_one, shadow_one, lockset_one, holds_one, note_one, got_same, or_no}
 
 -- ---- effects that end no transaction
 quiet_ends : (e : Effect) (n : ℕ) (s : Txs) (b : ℕ) → commit_in e ≡ None → (txs_by n e s).ends b ≡ s.ends b
@@ -160,17 +161,8 @@ module _ (d : Deployment) (known : Known) (locked unlocked : IntentId → Bool) 
         → LocksetMatches row (owed_lockset d b x j (map.get known j)) (lockset_ahead d known b x j (map.get known j)) → LocksetMatches row (owed_lockset d b x j (map.get after j)) (lockset_ahead d after b x j (map.get after j))
     locksets_kept b x j row none not_ahead g = by_row row g
       where
-        or_none : (u v : Bool) → (u || (v && false)) ≡ u
-        or_none true v = refl
-        or_none false true = refl
-        or_none false false = refl
-
-        or_no : (u : Bool) → (u || false) ≡ u
-        or_no true = refl
-        or_no false = refl
-
         owed_same : owed_lockset d b x j (map.get after j) ≡ owed_lockset d b x j (map.get known j)
-        owed_same = lockset_one d known id q r a is h b x j ∙ ap (λ u. owed_lockset d b x j (map.get known j) || (is_eq (id_cmp j id) && u)) none ∙ or_none (owed_lockset d b x j (map.get known j)) (is_eq (id_cmp j id))
+        owed_same = lockset_one d known id q r a is h b x j ∙ ap (λ u. owed_lockset d b x j (map.get known j) || (is_eq (id_cmp j id) && u)) none ∙ or_false (owed_lockset d b x j (map.get known j)) _ (and_right (is_eq (id_cmp j id)) false refl)
 
         by_row : (row : Option Row) → LocksetMatches row (owed_lockset d b x j (map.get known j)) (lockset_ahead d known b x j (map.get known j)) → LocksetMatches row (owed_lockset d b x j (map.get after j)) (lockset_ahead d after b x j (map.get after j))
         by_row None g = owed_same ∙ g

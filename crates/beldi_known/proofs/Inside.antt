@@ -1,9 +1,10 @@
 -- The front acts of operations inside, by their effects; and a release.
 use Rattle.std.specs.Option.{is_none}
-use Rattle.std.proofs.Common.{◌≡◌, ℕ, ◌==◌, ◌&&◌, ◌||◌, not, Bool, true, false, cond, List, [], ◌∷◌, ◌++◌, length, Option, None, Some, is_some, refl, ap, sym, ◌∙◌, subst, eq-eqb, if◌then◌else◌}
+use Rattle.std.proofs.Common.{◌≡◌, ℕ, ◌==◌, ◌&&◌, not, Bool, true, false, cond, List, [], ◌∷◌, ◌++◌, length, Option, None, Some, is_some, refl, ap, sym, ◌∙◌, subst, eq-eqb, if◌then◌else◌}
 use Rattle.std.specs.FinMap as map
 use Rattle.std.specs.Ordering.{is_eq}
 use Rattle.std.proofs.lemmas.Cmp.{tied_itself}
+use Rattle.std.proofs.lemmas.Bool.{or_right}
 use Rattle.beldi_value.specs.declared.id.IntentId.{IntentId}
 use Rattle.beldi_value.specs.declared.place.Owner.TheVariants.{Intent, Tx}
 use Rattle.beldi_value.specs.declared.place.Place.{Place}
@@ -160,16 +161,12 @@ module _ (d : Deployment) (known : Known) (locked : IntentId → Bool) (m : Rows
   pub lockset_put : (id : IntentId) (q : Instance) (s : TxId) (o : ℕ × List ℕ) → map.get known id ≡ Some q → q.outcome ≡ None → tx_now d id q ≡ Some s → tx_end d known s ≡ None → touched (effect_of d q) ≡ Some o
       → Matches d (set_row m (lockset_key id s.begin (record { func = q.func; table = o.0; key = o.1 })) (Some rows.Lockset)) known locked
   lockset_put id q s o is none inside open_still touch = let x : Item = record { func = q.func; table = o.0; key = o.1 } in let k = lockset_key id s.begin x in record {
-    keys = keys_set m k (Some rows.Lockset) (λ l z. RowMatches d known l.home l.kind z) (or_second (owed_lockset d s.begin x id (map.get known id)) (lockset_ahead d known s.begin x id (map.get known id)) ahead) (λ l other. h.keys l);
+    keys = keys_set m k (Some rows.Lockset) (λ l z. RowMatches d known l.home l.kind z) (or_right (owed_lockset d s.begin x id (map.get known id)) (lockset_ahead d known s.begin x id (map.get known id)) ahead) (λ l other. h.keys l);
     items = λ y. subst (ItemMatches d known locked y) (sym (content_apart m k (Some rows.Lockset) y (kinds_apart is_data (head_key y) k refl refl))) (h.items y);
     shadows = λ t y. subst (ShadowMatches d known t y) (sym (shadow_apart m k (Some rows.Lockset) t y (kinds_apart is_shadow (shadow_key t y) k refl refl))) (h.shadows t y);
     txs = λ y. subst (λ (c : Content). TxsMatch d known locked y c.owner) (sym (content_apart m k (Some rows.Lockset) y (kinds_apart is_data (head_key y) k refl refl))) (h.txs y);
   }
     where
-      or_second : (a b : Bool) → b ≡ true → (a || b) ≡ true
-      or_second true b g = refl
-      or_second false b g = g
-
       ahead : lockset_ahead d known s.begin (record { func = q.func; table = o.0; key = o.1 }) id (map.get known id) ≡ true
       ahead = ap (lockset_ahead d known s.begin (record { func = q.func; table = o.0; key = o.1 }) id) is
           ∙ ap (λ z. is_none z && (is_open d known (tx_now d id q) && (begins_at s.begin (tx_now d id q) && is_item (record { func = q.func; table = o.0; key = o.1 }) q.func (touched (effect_of d q))))) none

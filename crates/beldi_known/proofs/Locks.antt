@@ -4,6 +4,7 @@ use Rattle.std.specs.FinMap as map
 use Rattle.std.specs.FinMap.{get-insert}
 use Rattle.std.specs.Ordering.{is_eq}
 use Rattle.std.proofs.lemmas.Cmp.{tied_itself}
+use Rattle.std.proofs.lemmas.Bool.{and_from, and_parts, and_right, or_left, or_right}
 use Rattle.beldi_value.specs.Id.{id_cmp, id_total}
 use Rattle.beldi_value.specs.declared.id.IntentId.{IntentId}
 use Rattle.beldi_value.specs.declared.place.Owner.{Owner}
@@ -33,16 +34,9 @@ use Rattle.beldi_known.proofs.FrameAt.{one_place}
 pub tx_self : (s : TxId) → tx_eq s s ≡ true
 tx_self s = ap (λ b. b && (s.func == s.func)) (place_self (place_of s.intent s.begin)) ∙ eq-eqb s.func s.func refl
 
-and_both : (a b : Bool) → (a && b) ≡ true → (a ≡ true) × (b ≡ true)
-and_both true b h = (refl, h)
-and_both false b h = cc
-
-and_true : (a b : Bool) → a ≡ true → b ≡ true → (a && b) ≡ true
-and_true a b h g = ap (λ z. z && b) h ∙ g
-
 pub tx_same : (s t : TxId) → tx_eq s t ≡ true → s ≡ t
 tx_same s t h =
-    let e = and_both (id_eq s.intent t.intent && (s.begin == t.begin)) (s.func == t.func) h in
+    let e = and_parts (id_eq s.intent t.intent && (s.begin == t.begin)) (s.func == t.func) h in
     let f = place_same (place_of s.intent s.begin) (place_of t.intent t.begin) e.0 in
     λ i. record { intent = ap (λ (z : Place). z.intent) f i; begin = ap (λ (z : Place). z.step) f i; func = eqb-true s.func t.func e.1 i }
 
@@ -147,12 +141,9 @@ module _ (d : Deployment) (known : Known) (locked : IntentId → Bool) (id : Int
       or_drop true k = refl
       or_drop false k = cc
 
-      or_any : (b c : Bool) → b ≡ true → (b || c) ≡ true
-      or_any b c k = ap (λ z. z || c) k
-
       by_id : (b : Bool) → is_eq (id_cmp g.member id) ≡ b → got_by d t x g.member (locked g.member) (map.get known g.member) ≡ true
       by_id true e = subst (λ j. got_by d t x j (locked j) (map.get known j) ≡ true) (sym (id_same g.member id e))
-          (ap (got_by d t x id (locked id)) is ∙ or_any (got_before d t x id q) (locked id && is_on t x q.func (tx_now d id q) (effect_of d q))
+          (ap (got_by d t x id (locked id)) is ∙ or_left (got_before d t x id q) (locked id && is_on t x q.func (tx_now d id q) (effect_of d q))
           (or_drop (got_before d t x id q) (sym (got_of t x ∙ ap (λ b. got_before d t x id q || b) apart) ∙ subst (λ j. got_by d t x j (taken j) (map.get known j) ≡ true) (id_same g.member id e) g.got)))
       by_id false e = sym (ap (λ b. got_by d t x g.member b (map.get known g.member)) (lock_there locked id g.member e)) ∙ g.got
 
@@ -174,14 +165,10 @@ module _ (d : Deployment) (known : Known) (locked : IntentId → Bool) (id : Int
 
     pub txs_taken : TxsMatch d known locked item c.owner → TxsMatch d known taken item (Some (Tx s))
     txs_taken h = record {
-      owned_is_got = λ t e. let same : s ≡ t = cc in record { member = id; got = got_of t item ∙ by_or (got_before d t item id q) (tx_eq t s && is_eq (item_cmp item item)) (and_true (tx_eq t s) (is_eq (item_cmp item item)) (subst (λ z. tx_eq z s ≡ true) same (tx_self s)) (ap is_eq (tied_itself item_total item))) };
+      owned_is_got = λ t e. let same : s ≡ t = cc in record { member = id; got = got_of t item ∙ or_right (got_before d t item id q) (tx_eq t s && is_eq (item_cmp item item)) (and_from (tx_eq t s) (is_eq (item_cmp item item)) (subst (λ z. tx_eq z s ≡ true) same (tx_self s)) (ap is_eq (tied_itself item_total item))) };
       got_is_owned = λ t g open_still. by_test t g open_still (tx_eq t s) refl;
     }
       where
-        by_or : (a b : Bool) → b ≡ true → (a || b) ≡ true
-        by_or true b e = refl
-        by_or false b e = e
-
         by_test : (t : TxId) → Got d known taken t item → tx_end d known t ≡ None → (b : Bool) → tx_eq t s ≡ b → Some (Tx s) ≡ Some (Tx t)
         by_test t g open_still true e = ap (λ z. Some (Tx z)) (sym (tx_same t s e))
         by_test t g open_still false e = ap (λ z. Some (Tx z)) (sym (owned_is s t c.owner free (h.got_is_owned t (got_less t item g (ap (λ b. b && is_eq (item_cmp item item)) e)) open_still)))
@@ -202,9 +189,5 @@ module _ (d : Deployment) (known : Known) (locked : IntentId → Bool) (id : Int
   pub txs_kept : (x : Item) (c : Option Owner) → is_eq (item_cmp item x) ≡ false → TxsMatch d known locked x c → TxsMatch d known taken x c
   txs_kept x c other h = record {
     owned_is_got = λ t e. got_more t x (h.owned_is_got t e);
-    got_is_owned = λ t g open_still. h.got_is_owned t (got_less t x g (ap (λ b. tx_eq t s && b) other ∙ by_bool (tx_eq t s))) open_still;
+    got_is_owned = λ t g open_still. h.got_is_owned t (got_less t x g (ap (λ b. tx_eq t s && b) other ∙ and_right (tx_eq t s) false refl)) open_still;
   }
-    where
-      by_bool : (b : Bool) → (b && false) ≡ false
-      by_bool true = refl
-      by_bool false = refl

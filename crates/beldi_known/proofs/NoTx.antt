@@ -1,6 +1,7 @@
 -- Who is in no transaction, and who stands at a Begin.
-use Rattle.std.proofs.Common.{ℕ, Bool, true, false, ◌≡◌, ◌∙◌, List, Option, Some, None, refl, ap, sym, length, ◌&&◌, is_some}
+use Rattle.std.proofs.Common.{ℕ, true, false, ◌≡◌, ◌∙◌, List, Option, Some, None, refl, ap, sym, length, is_some}
 use Rattle.std.specs.Option.{is_none}
+use Rattle.std.proofs.lemmas.Bool.{and_parts}
 use Rattle.beldi_value.specs.declared.id.IntentId.{IntentId}
 use Rattle.beldi_value.specs.declared.outcome.Outcome.{Outcome}
 use Rattle.beldi_value.specs.declared.place.TxId.{TxId}
@@ -40,10 +41,6 @@ module _ (d : Deployment) (id : IntentId) (q : Instance) (given : List Answer) w
 
 pub no_begin : (d : Deployment) (q : Instance) (b : ℕ) → (txs_after d q q.answers).begun ≡ Some b → effect_of d q ≡ effect.Begin → ⊥
 no_begin d q b begun is = let clash = sym (ap is_some begun) ∙ (begin_is d q q.answers is).1 in cc
-
-and_parts : (u v : Bool) → (u && v) ≡ true → (u ≡ true) × (v ≡ true)
-and_parts true v h = (refl, h)
-and_parts false v h = cc
 
 pub begins_parts : (d : Deployment) (q : Instance) → begins d q ≡ true → (q.outcome ≡ None) × (effect_of d q ≡ effect.Begin)
 begins_parts d q h = let k = and_parts (is_none q.outcome) (is_begin (effect_of d q)) h in (by_outcome q.outcome k.0, by_effect (effect_of d q) k.1)

@@ -4,6 +4,7 @@ use Rattle.std.proofs.Common.{◌≡◌, ◌&&◌, ◌||◌, not, Bool, false, l
 use Rattle.std.specs.FinMap as map
 use Rattle.std.specs.Ordering.{is_eq}
 use Rattle.std.proofs.lemmas.Cmp.{tied_itself}
+use Rattle.std.proofs.lemmas.Bool.{and_right}
 use Rattle.beldi_value.specs.declared.id.IntentId.{IntentId}
 use Rattle.beldi_value.specs.declared.place.Owner.{Owner}
 use Rattle.beldi_value.specs.declared.place.Owner.TheVariants as owner
@@ -63,10 +64,6 @@ module _ (d : Deployment) (known : Known) (locked : IntentId → Bool) (id : Int
   out : LockedOut locked locked id
   out = record { out = unlocked; others = λ j other. refl }
 
-  and_false : (u : Bool) → (u && false) ≡ false
-  and_false true = refl
-  and_false false = refl
-
   unmarked : (b : Place) → is_mark d after b.step (map.get after b.intent) ≡ false → is_mark d known b.step (map.get known b.intent) ≡ false
   unmarked b apart = sym (mark_same d known locked locked id q r a is one out quiet b) ∙ apart
 
@@ -74,7 +71,7 @@ module _ (d : Deployment) (known : Known) (locked : IntentId → Bool) (id : Int
   on_none : (t : TxId) (x : Item) → is_on t x q.func (tx_now d id q) (effect_of d q) ≡ false
   on_none t x = elim away [
     | inl outside ↦ ap (λ s. is_on t x q.func s (effect_of d q)) outside
-    | inr none ↦ ap (λ o. is_tx t (tx_now d id q) && is_item x q.func o) none ∙ and_false (is_tx t (tx_now d id q))
+    | inr none ↦ ap (λ o. is_tx t (tx_now d id q) && is_item x q.func o) none ∙ and_right (is_tx t (tx_now d id q)) false refl
   ]
 
   got_same : (t : TxId) (x : Item) (j : IntentId) → got_by d t x j (locked j) (map.get after j) ≡ got_by d t x j (locked j) (map.get known j)
@@ -119,17 +116,13 @@ module _ (d : Deployment) (known : Known) (locked : IntentId → Bool) (id : Int
   row_kept home (kinds.Invoke b) row same g = subst (CallMatches row) (sym (calls_same d known id q r a is one home b)) g
   row_kept home (kinds.Lockset j b t k) row same g = let x : Item = record { func = home; table = t; key = k } in
       locksets_kept d known locked locked id q r a is one out quiet b x j row (asks_none b x)
-      (ap (λ u. is_none q.outcome && (is_open d known (tx_now d id q) && u)) (asks_none b x) ∙ three (is_none q.outcome) (is_open d known (tx_now d id q))) g
+      (ap (λ u. is_none q.outcome && (is_open d known (tx_now d id q) && u)) (asks_none b x) ∙ and_right (is_none q.outcome) _ (and_right (is_open d known (tx_now d id q)) false refl)) g
     where
       asks_none : (b : ℕ) (x : Item) → asks_lock b x q.func (tx_now d id q) (effect_of d q) ≡ false
       asks_none b x = elim away [
         | inl outside ↦ ap (λ s. asks_lock b x q.func s (effect_of d q)) outside
-        | inr none ↦ ap (λ o. begins_at b (tx_now d id q) && is_item x q.func o) none ∙ and_false (begins_at b (tx_now d id q))
+        | inr none ↦ ap (λ o. begins_at b (tx_now d id q) && is_item x q.func o) none ∙ and_right (begins_at b (tx_now d id q)) false refl
       ]
-
-      three : (u v : Bool) → (u && (v && false)) ≡ false
-      three true v = and_false v
-      three false v = refl
   row_kept home kind row same g = g
 
   -- an item, where the effect is no operation

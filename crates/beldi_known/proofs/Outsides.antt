@@ -1,11 +1,12 @@
 -- An instance goes on outside in both: what is known stays beside the plain state, and shadows show what they did. It is in no open
 -- transaction of another, so those go on as they did.
-use Rattle.std.proofs.Common.{◌≡◌, ◌∙◌, inl, inr, ℕ, ◌<◌, ◌≤◌, ◌&&◌, ◌||◌, not, Bool, true, false, cond, List, [], ◌∷◌, ◌++◌, length, length-append, Option, Some, None, is_some, refl, ap, sym, subst, append_assoc, append-nil, arith, if◌then◌else◌}
+use Rattle.std.proofs.Common.{◌≡◌, ◌∙◌, inl, inr, ℕ, ◌<◌, ◌≤◌, ◌&&◌, ◌||◌, not, Bool, true, false, cond, [], ◌∷◌, ◌++◌, length, length-append, Option, Some, None, is_some, refl, ap, sym, subst, arith, if◌then◌else◌}
 use Rattle.std.specs.FinMap as map
 use Rattle.std.specs.FinMap.{FinMap, get-insert}
 use Rattle.std.specs.Option.{is_none}
 use Rattle.std.specs.Ordering.{is_eq}
 use Rattle.std.proofs.lemmas.Cmp.{tied_itself}
+use Rattle.std.proofs.lemmas.Bool.{false_from_ne_true}
 use Rattle.beldi_value.specs.Id.{id_cmp, id_total, root_of, child_of}
 use Rattle.beldi_value.specs.declared.id.IntentId.{IntentId}
 use Rattle.beldi_value.specs.declared.outcome.Outcome.{Outcome}
@@ -34,9 +35,9 @@ use Rattle.beldi_order.specs.Sane.{CalledBy}
 use Rattle.beldi_order.specs.Txs.{Txs, txs_after, txs_by, tx_after, end_of, is_at}
 use Rattle.beldi_order.proofs.Beside.{beside as moves_beside}
 use Rattle.beldi_order.proofs.Called.{last_hop}
-use Rattle.beldi_order.proofs.Foreign.{no_callees, no_later}
+use Rattle.beldi_order.proofs.Foreign.{no_callees, no_later, none_after}
 use Rattle.beldi_order.proofs.Line.{all_in, in_line, line_opened, not_longer}
-use Rattle.beldi_order.proofs.Maps.{equal, here, elsewhere, same_some}
+use Rattle.beldi_order.proofs.Maps.{equal, here, elsewhere, same_some, none_by}
 use Rattle.beldi_order.proofs.Moved.{Items, answers_so, gone_on}
 use Rattle.beldi_order.proofs.Operations.{plain_set, item_same}
 use Rattle.beldi_order.proofs.Sound.{sane_with}
@@ -91,29 +92,12 @@ at_once_stays d id q out apart = ap (once d id) same ∙ same
 pub below_apart : (t : TxId) (i : IntentId) → IsBelow t i → t.intent ≡ i → ⊥
 below_apart t i b same = not_longer t.intent i (let n = length-append t.intent.hops (b.step ∷ b.hops) in let k = ap (λ (z : IntentId). length z.hops) b.is in omega (arith, n, k)) (sym same)
 
-module _ (f : FinMap id_cmp Instance) (childless : (i : IntentId) → map.get f i ≡ None → (n : ℕ) → map.get f (child_of i n) ≡ None)
-    (later : (i : IntentId) (q : Instance) (n : ℕ) → map.get f i ≡ Some q → length q.answers < n → map.get f (child_of i n) ≡ None) where
-  none_from : (i : IntentId) (hops : List ℕ) → map.get f i ≡ None → map.get f (record { ticket = i.ticket; hops = i.hops ++ hops }) ≡ None
-  none_from i [] is = ap (λ hs. map.get f (record { ticket = i.ticket; hops = hs })) (append-nil i.hops) ∙ is
-  none_from i (n ∷ hops) is = ap (λ hs. map.get f (record { ticket = i.ticket; hops = hs })) (sym (append_assoc i.hops (n ∷ []) hops)) ∙ none_from (child_of i n) hops (childless i is n)
-
-  none_after : (t : TxId) → ((q : Instance) → map.get f t.intent ≡ Some q → length q.answers ≤ t.begin) → (i : IntentId) → IsBelow t i → map.get f i ≡ None
-  none_after t few i b = ap (map.get f) (b.is ∙ ap (λ hs. record { ticket = t.intent.ticket; hops = hs }) (sym (append_assoc t.intent.hops (b.step ∷ []) b.hops))) ∙ none_from (child_of t.intent b.step) b.hops (by_owner (map.get f t.intent) refl)
-    where
-      by_owner : (o : Option Instance) → map.get f t.intent ≡ o → map.get f (child_of t.intent b.step) ≡ None
-      by_owner None is = childless t.intent is b.step
-      by_owner (Some q) is = later t.intent q b.step is (let n = few q is in let l = b.later in omega (arith, n, l))
-
 pub plain_none_after : (d : Deployment) (p : PlainState) → plain.Sane d p → (t : TxId) → ((q : Instance) → map.get p.made t.intent ≡ Some q → length q.answers ≤ t.begin) → (i : IntentId) → IsBelow t i → map.get p.made i ≡ None
 plain_none_after d p legal = let good = sane_with d p legal in none_after p.made (λ i is n. no_callees d p.made good i is n) (λ i q n is lt. no_later d p.made good i q n is lt)
 
 module _ (d : Deployment) (known : Known) (sane : Sane d known) where
   known_later : (i : IntentId) (q : Instance) (n : ℕ) → map.get known i ≡ Some q → length q.answers < n → map.get known (child_of i n) ≡ None
-  known_later i q n is lt = by_callee (map.get known (child_of i n)) refl
-    where
-      by_callee : (o : Option Instance) → map.get known (child_of i n) ≡ o → o ≡ None
-      by_callee None e = refl
-      by_callee (Some j) e = let c = subst (λ o. CalledBy d i o n j) is (sane.called i n j e) in let l = c.here in absurd (omega (arith, lt, l))
+  known_later i q n is lt = none_by (map.get known (child_of i n)) (λ j e. let c = subst (λ o. CalledBy d i o n j) is (sane.called i n j e) in let l = c.here in omega (arith, lt, l))
 
   pub known_none_after : (t : TxId) → ((q : Instance) → map.get known t.intent ≡ Some q → length q.answers ≤ t.begin) → (i : IntentId) → IsBelow t i → map.get known i ≡ None
   known_none_after = none_after known (λ i is n. known_childless d known sane i n is) known_later
@@ -359,22 +343,14 @@ module _ (d : Deployment) (m : Rows) (p : PlainState) (known : Known) (locked : 
       by_made (Some q) made = (q, made, by_begins q made (begins d q) refl)
 
   pub plain_none : (id : IntentId) → map.get known id ≡ None → map.get p.made id ≡ None
-  plain_none id new = by_made (map.get p.made id) refl
+  plain_none id new = none_by (map.get p.made id) (λ q made. by_begins q made (begins d q) refl)
     where
-      by_begins : (q : Instance) → map.get p.made id ≡ Some q → (b : Bool) → begins d q ≡ b → Some q ≡ None
+      by_begins : (q : Instance) → map.get p.made id ≡ Some q → (b : Bool) → begins d q ≡ b → ⊥
       by_begins q made false e = let clash = sym (beside.same id q made e) ∙ new in cc
       by_begins q made true e = let clash = sym (owner_known d p known sane legal id q made e (beside.begun id q made e)) ∙ new in cc
 
-      by_made : (o : Option Instance) → map.get p.made id ≡ o → o ≡ None
-      by_made None made = refl
-      by_made (Some q) made = by_begins q made (begins d q) refl
-
   no_shadow : (t : TxId) (x : Item) → ((q : Instance) → map.get known t.intent ≡ Some q → length q.answers ≤ t.begin) → map.get m (shadow_key t x) ≡ None
-  no_shadow t x few = by_row (map.get m (shadow_key t x)) refl
-    where
-      by_row : (o : Option Row) → map.get m (shadow_key t x) ≡ o → o ≡ None
-      by_row None e = refl
-      by_row (Some r) e = absurd (nothing_got d known sane locked t x few (h.got t x (ap is_some e)))
+  no_shadow t x few = none_by (map.get m (shadow_key t x)) (λ r e. nothing_got d known sane locked t x few (h.got t x (ap is_some e)))
 
   none_below : (t : TxId) → ((q : Instance) → map.get known t.intent ≡ Some q → length q.answers ≤ t.begin) → ((q : Instance) → map.get p.made t.intent ≡ Some q → length q.answers ≤ t.begin) → (i : IntentId) → IsBelow t i → map.get known i ≡ map.get p.made i
   none_below t few less i b = known_none_after d known sane t few i b ∙ sym (plain_none_after d p legal t less i b)
@@ -443,13 +419,12 @@ set_after d m n p known id s set rows i z y other above apart = record {
 -- .. a callee of it: that is not below, and not above
 pub set_after_callee : (d : Deployment) (m n : Rows) (p : PlainState) (known : Known) (id : IntentId) (s : Instance) → MaySet d m p known id s → ((x : Item) → map.get n (shadow_key (tx_begun id s) x) ≡ map.get m (shadow_key (tx_begun id s) x)) → (c : ℕ) (z y : Instance) → c < length s.answers
     → MaySet d n (with_instance p (child_of id c) z) (map.insert known (child_of id c) y) id s
-set_after_callee d m n p known id s set rows c z y lt = set_after d m n p known id s set rows (child_of id c) z y (off (is_eq (id_cmp id (child_of id c))) refl)
+set_after_callee d m n p known id s set rows c z y lt = set_after d m n p known id s set rows (child_of id c) z y (false_from_ne_true (is_eq (id_cmp id (child_of id c))) off)
     (λ b. let e = child_below b in omega (arith, lt, e))
     (λ b h. let n = length-append (child_of id c).hops (h.step ∷ h.hops) in let k = ap (λ (i : IntentId). length i.hops) h.is in let l = length-append id.hops (c ∷ []) in omega (arith, n, k, l))
   where
-    off : (b : Bool) → is_eq (id_cmp id (child_of id c)) ≡ b → b ≡ false
-    off false e = refl
-    off true e = let same = equal id (child_of id c) e in let l = length-append id.hops (c ∷ []) in let k = ap (λ (i : IntentId). length i.hops) same in absurd (omega (arith, l, k))
+    off : is_eq (id_cmp id (child_of id c)) ≡ true → ⊥
+    off e = let l = length-append id.hops (c ∷ []) in let k = ap (λ (i : IntentId). length i.hops) (equal id (child_of id c) e) in omega (arith, l, k)
 
     child_below : IsBelow (tx_begun id s) (child_of id c) → length s.answers < c
     child_below b = elim (last_hop b.hops) [

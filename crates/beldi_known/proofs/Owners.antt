@@ -2,6 +2,7 @@
 use Rattle.std.proofs.Common.{◌≡◌, ◌⊎◌, inl, inr, true, false, Option, None, Some, refl, ap, sym, ◌∙◌, if◌then◌else◌}
 use Rattle.std.specs.Ordering.{is_eq}
 use Rattle.std.proofs.lemmas.Cmp.{tied_itself}
+use Rattle.std.proofs.lemmas.Bool.{false_from_ne_true}
 use Rattle.beldi_value.specs.Id.{id_cmp, id_total}
 use Rattle.beldi_value.specs.declared.id.IntentId.{IntentId}
 use Rattle.beldi_value.specs.declared.place.Owner.{Owner}
@@ -58,10 +59,8 @@ nobody_else id was (inr is) j h = sym (id_same id j (sym (ap (λ o. is_owner o (
 pub not_hers : (id : IntentId) (was : Option Owner) → IsFreeFor id was → (who : Owner) → IsOther id who → is_owner was who ≡ false
 not_hers id was (inl is) who other = ap (λ o. is_owner o who) is
 not_hers id was (inr is) (Tx t) other = ap (λ o. is_owner o (Tx t)) is
-not_hers id was (inr is) (Intent j) other = ap (λ o. is_owner o (Intent j)) is ∙ (elim (id_eq id j) as (λ b. id_eq id j ≡ b → b ≡ false) [
-  | true ↦ λ e. let same = sym (ap (λ z. is_eq (id_cmp z id)) (id_same id j e)) in let clash = sym (ap is_eq (tied_itself id_total id)) ∙ sym same ∙ other in cc
-  | false ↦ λ e. refl
-] refl)
+not_hers id was (inr is) (Intent j) other = ap (λ o. is_owner o (Intent j)) is ∙ false_from_ne_true (id_eq id j) (λ e.
+    let clash = sym (ap is_eq (tied_itself id_total id)) ∙ ap (λ z. is_eq (id_cmp z id)) (id_same id j e) ∙ other in cc)
 
 pub her_own : (id : IntentId) → is_owner (Some (Intent id)) (Intent id) ≡ true
 her_own id = id_self id

@@ -1,10 +1,11 @@
 -- What an open transaction touched it got, and owns; what it wrote has a shadow. So what it sees of an item is what its shadow shows,
 -- where that is there, and else the plain value.
-use Rattle.std.proofs.Common.{◌≡◌, ◌∙◌, ◌⊎◌, inl, inr, ℕ, Bool, true, false, ◌&&◌, ◌||◌, not, List, [], ◌∷◌, ◌++◌, length, Option, Some, None, is_some, refl, ap, sym, subst, if◌then◌else◌}
+use Rattle.std.proofs.Common.{◌≡◌, ◌∙◌, ◌⊎◌, inl, inr, ℕ, Bool, true, false, ◌&&◌, not, List, ◌∷◌, length, Option, Some, None, is_some, refl, ap, sym, subst, if◌then◌else◌}
 use Rattle.std.specs.FinMap as map
 use Rattle.std.specs.Option.{option_map}
 use Rattle.std.specs.Ordering.{is_eq}
 use Rattle.std.proofs.lemmas.Cmp.{tied_itself}
+use Rattle.std.proofs.lemmas.Bool.{or_left}
 use Rattle.beldi_value.specs.Id.{id_total}
 use Rattle.beldi_value.specs.declared.id.IntentId.{IntentId}
 use Rattle.beldi_value.specs.declared.place.Owner.TheVariants.{Tx}
@@ -27,9 +28,9 @@ use Rattle.beldi_plain.specs.Piece.{is_aborted, opened, tx_begun}
 use Rattle.beldi_plain.specs.Plain.{Instance, PlainState, effect_of, item_of, value_at}
 use Rattle.beldi_order.specs.Inside.{WrittenIn}
 use Rattle.beldi_order.specs.Sane as plain
-use Rattle.beldi_order.specs.Txs.{along, effect_after, tx_after, tx_now}
+use Rattle.beldi_order.specs.Txs.{effect_after, tx_after, tx_now}
 use Rattle.beldi_order.proofs.Beside.{kept}
-use Rattle.beldi_order.proofs.Ends.{along_append, fits}
+use Rattle.beldi_order.proofs.Ends.{fits}
 use Rattle.beldi_order.proofs.Goes.{AllSound, GoingSane}
 use Rattle.beldi_order.proofs.Maps.{same_some}
 use Rattle.beldi_order.proofs.Moved.{Items, answer_inside}
@@ -50,6 +51,7 @@ use Rattle.beldi_known.specs.Rows.{CellMatches}
 use Rattle.beldi_known.specs.Sane.{Sane}
 use Rattle.beldi_known.specs.Shadows.{ShadowShows, is_writing}
 use Rattle.beldi_known.proofs.Answers.{take_front, get_next, true_false}
+use Rattle.beldi_known.proofs.Behind.{gathers}
 use Rattle.beldi_known.proofs.Falls.{Fell, falls, later_is, sound, touched_made, written_made}
 use Rattle.beldi_known.proofs.Locks.{tx_self}
 use Rattle.beldi_known.proofs.NoTx.{begins_parts}
@@ -79,18 +81,6 @@ plain_note m x func (effect.CondWrite t k r u v) a h w = let o : OnItem = record
 plain_note m x func (effect.Read t k) a h w = cc
 plain_note m x func e a h w = cc
 
-pub or_first : (a b : Bool) → a ≡ true → (a || b) ≡ true
-or_first true b h = refl
-or_first false b h = cc
-
-gathered : (on : List Answer → Answer → Bool) (given later : List Answer) (r : Bool) → r ≡ true → along (λ ts c z. z || on ts c) given later r ≡ true
-gathered on given [] r h = h
-gathered on given (c ∷ later) r h = gathered on (given ++ c ∷ []) later (r || on given c) (or_first r (on given c) h)
-
-or_second : (a b : Bool) → b ≡ true → (a || b) ≡ true
-or_second true b h = refl
-or_second false b h = h
-
 module _ (d : Deployment) (t : TxId) (x : Item) (id : IntentId) (z y : Instance) (a : Answer) (g : Grown (answered z a) y) (inside : tx_now d id z ≡ Some t) where
   in_tx : is_tx t (tx_now d id z) ≡ true
   in_tx = ap (is_tx t) inside ∙ tx_self t
@@ -98,8 +88,7 @@ module _ (d : Deployment) (t : TxId) (x : Item) (id : IntentId) (z y : Instance)
   -- what was done on the item was got
   got_at : is_item x z.func (touched (effect_of d z)) ≡ true → is_aborted a ≡ false → got_before d t x id y ≡ true
   got_at item lives = subst (λ (u : Instance). got_before d t x id u ≡ true) (sym (later_is z y a g))
-      (along_append (λ ts c r. r || on ts c) [] z.answers (a ∷ g.later) false ∙ gathered on (z.answers ++ a ∷ []) g.later (along (λ ts c r. r || on ts c) [] z.answers false || on z.answers a)
-      (or_second (along (λ ts c r. r || on ts c) [] z.answers false) (on z.answers a) (λ i. (in_tx i && item i) && not (lives i))))
+      (gathers on z.answers a g.later (λ i. (in_tx i && item i) && not (lives i)))
     where
       on : List Answer → Answer → Bool
       on ts c = is_on t x z.func (tx_after d id z ts) (effect_after d z ts) && not (is_aborted c)
@@ -152,7 +141,7 @@ module _ (d : Deployment) (p : PlainState) (known : Known) (sane : Sane d known)
         record {
           member = w.id;
           got = ap (got_by d t x w.id (locked w.id)) (tx.whole w.id w.step.member ∙ w.step.made)
-              ∙ or_first (got_before d t x w.id w.step.instance) (locked w.id && is_on t x w.step.instance.func (tx_now d w.id w.step.instance) (effect_of d w.step.instance)) got;
+              ∙ or_left (got_before d t x w.id w.step.instance) (locked w.id && is_on t x w.step.instance.func (tx_now d w.id w.step.instance) (effect_of d w.step.instance)) got;
         }
 
     module _ (m : Rows) (matches : Matches d m known locked) where

@@ -58,8 +58,8 @@ module _ (d : Deployment) (known : Known) (h : Sane d known) where
   waits : (t : TxId) (i : IntentId) (z : Instance) → map.get known i ≡ Some z → z.within ≡ Some t → z.outcome ≡ None → Waits t
   waits t = all_called d known h t (λ i z. z.outcome ≡ None → Waits t)
       (λ i z inner c outside o none.
-          let w = waits_for d known h t i z c inner none in
-          record { owns = own_is w.caller w.waiter t w.made outside (own d w.caller w.waiter t outside (ap is_begin w.stands) (sym w.within ∙ inner)); func = z.func; args = z.args; at_call = w.stands })
+      let w = waits_for d known h t i z c inner none in
+      record { owns = own_is w.caller w.waiter t w.made outside (own d w.caller w.waiter t outside (ap is_begin w.stands) (sym w.within ∙ inner)); func = z.func; args = z.args; at_call = w.stands })
       (λ i z inner c up rest none. rest (waits_for d known h t i z c inner none).open_still)
 
   -- who stands in a transaction owns it, or was called in it

@@ -7,6 +7,7 @@ use Rattle.std.proofs.lemmas.List.{take-append-le}
 use Rattle.std.proofs.lemmas.Option.{slice_get_within}
 use Rattle.std.proofs.lemmas.Cmp.{tied_itself}
 use Rattle.std.proofs.lemmas.Slice.Eq.{slice_eq-Decides}
+use Rattle.std.proofs.lemmas.Bool.{false_from_ne_true, or_right}
 use Rattle.beldi_value.specs.declared.outcome.Cause.{Cause}
 use Rattle.beldi_value.specs.declared.id.IntentId.{IntentId}
 use Rattle.beldi_value.specs.declared.outcome.Outcome.TheVariants as outcome
@@ -52,10 +53,6 @@ lock_is t k l h = by_table (l.table == t) refl
 
 lock_itself : (l : HeldLock) → is_lock l.table l.key l ≡ true
 lock_itself l = ap (λ b. b && is_name l.key l.key) (eq-eqb l.table l.table refl) ∙ (name_decides l.key l.key).1 refl
-
-or_right : (a b : Bool) → b ≡ true → (a || b) ≡ true
-or_right true b h = refl
-or_right false b h = h
 
 held_front : (t : ℕ) (k : List ℕ) (hs : List HeldLock) (l : HeldLock) → is_held t k hs ≡ true → is_held t k (hs ++ l ∷ []) ≡ true
 held_front t k [] l h = cc
@@ -279,11 +276,7 @@ module _ (d : Deployment) (q : Instance) where
       outside (Some t) h = cc
 
   pub begin_free : (given : List Answer) → effect_after d q given ≡ effect.Begin → (x : Item) → holds d x (Some (record q { answers = given })) ≡ false
-  begin_free given is x = by_test (holds d x (Some (record q { answers = given }))) refl
-    where
-      by_test : (b : Bool) → holds d x (Some (record q { answers = given })) ≡ b → b ≡ false
-      by_test true e = let k = (here given).at_begin is in let z = (at given).locks k.3 x e in let none = sym (ap (is_held x.table x.key) k.1) ∙ z.1 in cc
-      by_test false e = refl
+  begin_free given is x = false_from_ne_true (holds d x (Some (record q { answers = given }))) (λ e. let k = (here given).at_begin is in let z = (at given).locks k.3 x e in let none = sym (ap (is_held x.table x.key) k.1) ∙ z.1 in cc)
 
   -- .. an End where one is open
   pub end_is : (given : List Answer) (c : Bool) → effect_after d q given ≡ effect.End c → is_some (txs_after d q given).begun ≡ true

@@ -2,6 +2,7 @@
 use Rattle.std.proofs.Common.{◌≡◌, ◌<◌, ◌⊎◌, inl, inr, ◌&&◌, ◌||◌, not, Bool, true, false, cond, List, [], ◌∷◌, ◌++◌, length, length-append, Option, None, Some, refl, ap, sym, ◌∙◌, subst, append-nil, append_assoc, arith, if◌then◌else◌}
 use Rattle.std.specs.FinMap as map
 use Rattle.std.specs.Ordering.{is_eq}
+use Rattle.std.proofs.lemmas.Bool.{and_parts, false_from_ne_true}
 use Rattle.beldi_value.specs.declared.id.IntentId.{IntentId}
 use Rattle.beldi_value.specs.declared.place.Owner.{Owner}
 use Rattle.beldi_value.specs.declared.place.Owner.TheVariants.{Intent, Tx}
@@ -39,10 +40,6 @@ use Rattle.beldi_known.specs.Listed.{listed_under, listed}
 use Rattle.beldi_known.proofs.OwnTx.{own_by}
 use Rattle.beldi_known.proofs.Lists.{elsewhere}
 
-pub both : (u v : Bool) → (u && v) ≡ true → (u ≡ true) × (v ≡ true)
-both true v h = (refl, h)
-both false v h = cc
-
 -- ---- a step that a fold has gathered
 pub record Gathered (g : List Answer → Answer → Bool) (all : List Answer) : Type 0 where
   pub before : List Answer
@@ -73,18 +70,18 @@ pub asked_for : (d : Deployment) (t : TxId) (x : Item) (j : IntentId) (z : Insta
 asked_for d t x j z b h = by_before (got_before d t x j z) refl h
   where
     by_before : (u : Bool) → got_before d t x j z ≡ u → (u || (b && is_on t x z.func (tx_now d j z) (effect_of d z))) ≡ true → AskedFor d t x j z
-    by_before false e g = record { given = z.answers; later = []; all = append-nil z.answers; on = (both b (is_on t x z.func (tx_now d j z) (effect_of d z)) g).1 }
+    by_before false e g = record { given = z.answers; later = []; all = append-nil z.answers; on = (and_parts b (is_on t x z.func (tx_now d j z) (effect_of d z)) g).1 }
     by_before true e g = elim (gathered (λ ts c. is_on t x z.func (tx_after d j z ts) (effect_after d z ts) && not (is_aborted c)) [] z.answers false e) [
       | inl k ↦ cc
-      | inr k ↦ record { given = k.before; later = k.answer ∷ k.later; all = k.parts; on = (both (is_on t x z.func (tx_after d j z k.before) (effect_after d z k.before)) (not (is_aborted k.answer)) k.holds).0 }
+      | inr k ↦ record { given = k.before; later = k.answer ∷ k.later; all = k.parts; on = (and_parts (is_on t x z.func (tx_after d j z k.before) (effect_after d z k.before)) (not (is_aborted k.answer)) k.holds).0 }
     ]
 
 -- who was called in a transaction gets for that one
 pub member_tx : (d : Deployment) (s : TxId) (x : Item) (j : IntentId) (z : Instance) (u : TxId) → z.within ≡ Some u → (b : Bool) → got_by d s x j b (Some z) ≡ true → s ≡ u
 member_tx d s x j z u within b got =
     let a = asked_for d s x j z b got in
-    tx_same s u (both (is_tx s (Some u)) (is_item x z.func (touched (effect_after d z a.given)))
-        (sym (ap (λ w. is_tx s (or_own w (tx_by j z.func (length a.given) (effect_after d z a.given) (txs_after d z a.given).begun)) && is_item x z.func (touched (effect_after d z a.given))) within) ∙ a.on)).0
+    tx_same s u (and_parts (is_tx s (Some u)) (is_item x z.func (touched (effect_after d z a.given)))
+    (sym (ap (λ w. is_tx s (or_own w (tx_by j z.func (length a.given) (effect_after d z a.given) (txs_after d z a.given).begun)) && is_item x z.func (touched (effect_after d z a.given))) within) ∙ a.on)).0
 
 -- .. and who was called in none gets after its Begin
 pub record Since (j : IntentId) (z : Instance) (t : TxId) : Type 0 where
@@ -105,7 +102,7 @@ module _ (d : Deployment) (t : TxId) (x : Item) (j : IntentId) (z : Instance) (n
       by_tx : (o : Option TxId) → tx_by j z.func (length ts) (effect_after d z ts) (txs_after d z ts).begun ≡ o → (is_tx t o && is_item x z.func (touched (effect_after d z ts))) ≡ true → (t.intent ≡ j) × (t.func ≡ z.func) × (t.begin < length ts)
       by_tx None e g = cc
       by_tx (Some s) e g =
-          let p = both (is_tx t (Some s)) (is_item x z.func (touched (effect_after d z ts))) g in
+          let p = and_parts (is_tx t (Some s)) (is_item x z.func (touched (effect_after d z ts))) g in
           let k = own_by j z.func (length ts) (effect_after d z ts) (txs_after d z ts).begun s (no_begin (effect_after d z ts) p.1) e in
           let same = tx_same t s p.0 in
           (ap (λ (y : TxId). y.intent) same ∙ k.intent, ap (λ (y : TxId). y.func) same ∙ k.func_is, subst (λ (y : TxId). y.begin < length ts) (sym same) ((fits_at d z ts).before s.begin k.begun))
@@ -136,17 +133,13 @@ module _ (d : Deployment) (m : Rows) (known : Known) (locked : IntentId → Bool
   place_at k = place_of id 0
 
   apart : (x : Item) (t : TxId) → (content_of m x).owner ≡ Some (Tx t) → is_eq (key_cmp (decision_key t) key) ≡ false
-  apart x t owned = by_key (is_eq (key_cmp (decision_key t) key)) refl
-    where
-      by_key : (b : Bool) → is_eq (key_cmp (decision_key t) key) ≡ b → b ≡ false
-      by_key true e =
-          let place = ap (λ (k : RowKey). place_at k.kind) (key_same (decision_key t) key e) in
-          let k = begun t x ((h x).owned_is_got t owned) in
-          let same : k.owner ≡ q = same_some (sym k.made ∙ ap (λ (y : Place). map.get known y.intent) place ∙ is) in
-          let len : length k.owner.answers ≡ length q.answers = ap (λ (y : Instance). length y.answers) same in
-          let step : t.begin ≡ length q.answers = ap (λ (y : Place). y.step) place in
-          let b = k.before in absurd (omega (arith, b, step, len))
-      by_key false e = refl
+  apart x t owned = false_from_ne_true (is_eq (key_cmp (decision_key t) key)) (λ e.
+      let place = ap (λ (k : RowKey). place_at k.kind) (key_same (decision_key t) key e) in
+      let k = begun t x ((h x).owned_is_got t owned) in
+      let same : k.owner ≡ q = same_some (sym k.made ∙ ap (λ (y : Place). map.get known y.intent) place ∙ is) in
+      let len : length k.owner.answers ≡ length q.answers = ap (λ (y : Instance). length y.answers) same in
+      let step : t.begin ≡ length q.answers = ap (λ (y : Place). y.step) place in
+      let b = k.before in omega (arith, b, step, len))
 
   pub begun_lists : (x : Item) → listed (set_row m key v) x ≡ listed m x
   begun_lists x = ap (λ (c : Content). listed_under (set_row m key v) x c.owner c.value) (content_apart m key v x (kinds_apart is_data (head_key x) key refl refl)) ∙ under (content_of m x).owner refl

@@ -25,7 +25,8 @@ use Rattle.beldi_plain.specs.Operation.{OnItem, op_of, answer_after, touched}
 use Rattle.beldi_plain.specs.Plain.{Instance, new_instance, answered, ended, calls_at, callee_of, effect_of, effect_before}
 use Rattle.beldi_order.specs.Sane.{IsCalled, CalledBy, call_of, answer_given, IsDeath, IsAnswer}
 use Rattle.beldi_order.proofs.Called.{IsAlone, not_root, next_step, longer_cases, effect_now, effect_past, tx_here_now, caller_answered, caller_ended, callee_answered, callee_over, callee_new, callee_ended, callee_sent, pairs_set, both_set}
-use Rattle.beldi_order.proofs.Maps.{still_made, made_set, same_some}
+use Rattle.beldi_order.proofs.Maps.{still_made, made_set, same_some, none_by}
+use Rattle.beldi_order.proofs.Sound.{operation_answers, operation_is_no_call}
 use Rattle.beldi_step.specs.Run.{is_waited, place_of}
 use Rattle.beldi_known.specs.Known.{Known, answer_at_once, once, at_once, moved}
 use Rattle.beldi_order.specs.Txs.{tx_now, tx_at}
@@ -62,11 +63,7 @@ call_answers p t f v (outcome.Aborted c) = tt
 
 -- so who has one has no outcome
 pub open_still : (d : Deployment) (id : IntentId) (q : Instance) (a : Answer) → SaneInstance d id q → IsAnswer (place_of id (length q.answers)) (tx_now d id q) (effect_of d q) a → q.outcome ≡ None
-open_still d id q a h fits = by_outcome q.outcome refl
-  where
-    by_outcome : (o : Option Outcome) → q.outcome ≡ o → o ≡ None
-    by_outcome None is = refl
-    by_outcome (Some o) is = absurd (no_return (place_of id (length q.answers)) (tx_now d id q) o a (subst (λ e. IsAnswer (place_of id (length q.answers)) (tx_now d id q) e a) (h.over o is) fits))
+open_still d id q a h fits = none_by q.outcome (λ o is. no_return (place_of id (length q.answers)) (tx_now d id q) o a (subst (λ e. IsAnswer (place_of id (length q.answers)) (tx_now d id q) e a) (h.over o is) fits))
 
 pub not_waited : (o : Option Caller) → is_waited o ≡ false → IsAlone o
 not_waited None h = λ c is. cc
@@ -175,11 +172,7 @@ module _ (d : Deployment) (known : Known) (h : Sane d known) where
 
   -- who is not there has called nobody
   pub no_callees : (i : IntentId) (n : ℕ) → map.get known i ≡ None → map.get known (child_of i n) ≡ None
-  no_callees i n is = by_callee (map.get known (child_of i n)) refl
-    where
-      by_callee : (o : Option Instance) → map.get known (child_of i n) ≡ o → o ≡ None
-      by_callee None on = refl
-      by_callee (Some j) on = absurd (subst (λ o. CalledBy d i o n j) is (h.called i n j on))
+  no_callees i n is = none_by (map.get known (child_of i n)) (λ j on. subst (λ o. CalledBy d i o n j) is (h.called i n j on))
 
   -- ---- one that was not there before, without answers and outcome
   module _ (k : IntentId) (s : Instance) (empty : s.answers ≡ []) (none : s.outcome ≡ None) (gone : map.get known k ≡ None) where
@@ -293,14 +286,6 @@ module _ (d : Deployment) (known : Known) (h : Sane d known) where
         (λ m u l. pair_ended d k j o m u (subst (λ z. Pair d k z m u) there l)) two)
 
 -- ---- answers to operations
--- outside, as the operation is answered
-pub operation_answer : (p : Place) (e : Effect) (o : OnItem) (w : Value) → op_of e ≡ Some o → IsAnswer p None e (answer_after o.does w)
-operation_answer p (effect.Write t k v) o w h = subst (λ (z : OnItem). IsAnswer p None (effect.Write t k v) (answer_after z.does w)) (same_some h) tt
-operation_answer p (effect.CondWrite t k r y v) o w h = subst (λ (z : OnItem). IsAnswer p None (effect.CondWrite t k r y v) (answer_after z.does w)) (same_some h) tt
-operation_answer p (effect.Lock t k) o w h = subst (λ (z : OnItem). IsAnswer p None (effect.Lock t k) (answer_after z.does w)) (same_some h) tt
-operation_answer p (effect.Unlock t k) o w h = subst (λ (z : OnItem). IsAnswer p None (effect.Unlock t k) (answer_after z.does w)) (same_some h) tt
-operation_answer p e o w h = cc
-
 -- inside, by a death
 pub death_answer : (p : Place) (t : TxId) (e : Effect) (x : ℕ × List ℕ) (c : Cause) → touched e ≡ Some x → IsDeath p t c → IsAnswer p (Some t) e (answer.Aborted c)
 death_answer p t (effect.Read b k) x c h dies = dies
@@ -308,11 +293,7 @@ death_answer p t (effect.Write b k v) x c h dies = dies
 death_answer p t (effect.CondWrite b k r o v) x c h dies = dies
 death_answer p t e x c h dies = cc
 
--- neither is a call
-operation_is_no_call : (o : OnItem) (w : Bool) (f : ℕ) (v : Value) → op_of (call_of w f v) ≡ Some o → ⊥
-operation_is_no_call o true f v h = cc
-operation_is_no_call o false f v h = cc
-
+-- it is no call
 touched_is_no_call : (x : ℕ × List ℕ) (w : Bool) (f : ℕ) (v : Value) → touched (call_of w f v) ≡ Some x → ⊥
 touched_is_no_call x true f v h = cc
 touched_is_no_call x false f v h = cc
@@ -320,7 +301,7 @@ touched_is_no_call x false f v h = cc
 module _ (d : Deployment) (known : Known) (h : Sane d known) (id : IntentId) (q : Instance) (is : map.get known id ≡ Some q) where
   pub sane_operated : (o : OnItem) (w : Value) → tx_now d id q ≡ None → op_of (effect_of d q) ≡ Some o → Sane d (map.insert known id (moved d id q (answer_after o.does w)))
   sane_operated o w out op = let p = place_of id (length q.answers) in
-      sane_answered d known h id q is (answer_after o.does w) (subst (λ t. IsAnswer p t (effect_of d q) (answer_after o.does w)) (sym out) (operation_answer p (effect_of d q) o w op))
+      sane_answered d known h id q is (answer_after o.does w) (subst (λ t. IsAnswer p t (effect_of d q) (answer_after o.does w)) (sym out) (operation_answers p (effect_of d q) o w op))
       (λ b f v call. operation_is_no_call o b f v (ap op_of (sym call) ∙ op))
 
   pub sane_died : (t : TxId) (x : ℕ × List ℕ) (c : Cause) → tx_now d id q ≡ Some t → touched (effect_of d q) ≡ Some x → IsDeath (place_of id (length q.answers)) t c → Sane d (map.insert known id (moved d id q (answer.Aborted c)))

@@ -27,7 +27,7 @@ use Rattle.beldi_plain.specs.Operation.{touched}
 use Rattle.beldi_known.specs.Matches.{Matches, RowMatches, ItemMatches, ShadowMatches, TxsMatch, LocksetMatches, lockset_ahead, has_ended, is_open}
 use Rattle.beldi_known.specs.Rows.{IntentMatches, LogMatches, CallMatches}
 use Rattle.beldi_known.proofs.Acts.{kinds_apart, content_apart, shadow_apart}
-use Rattle.beldi_known.proofs.FrameAt.{known_set}
+use Rattle.beldi_known.proofs.FrameAt.{known_set, or_no}
 use Rattle.beldi_known.proofs.Instances.{EndMore, intent_stays}
 use Rattle.beldi_known.proofs.Rows.{keys_set}
 
@@ -107,10 +107,6 @@ module _ (d : Deployment) (known : Known) (locked : IntentId → Bool) (id : Int
       ahead : (i : IntentId) (o : Option Instance) → lockset_ahead d after b x i o ≡ lockset_ahead d known b x i o
       ahead i None = refl
       ahead i (Some z) = ap (λ u. is_none z.outcome && (u && (begins_at b (tx_now d i z) && is_item x z.func (touched (effect_of d z))))) (open_same (tx_now d i z))
-
-      or_no : (u : Bool) → (u || false) ≡ u
-      or_no true = refl
-      or_no false = refl
 
       by_row : (row : Option Row) → LocksetMatches row (owed_lockset d b x j (map.get known j)) (lockset_ahead d known b x j (map.get known j)) → LocksetMatches row (owed_lockset d b x j (map.get after j)) (lockset_ahead d after b x j (map.get after j))
       by_row None g = owed j ∙ g

@@ -3,6 +3,7 @@ use Rattle.std.proofs.Common.{◌≡◌, ◌∙◌, ◌⊎◌, inl, inr, Bool, t
 use Rattle.std.specs.FinMap as map
 use Rattle.std.specs.Ordering.{is_eq}
 use Rattle.std.proofs.lemmas.Cmp.{tied_itself}
+use Rattle.std.proofs.lemmas.Bool.{and_right, false_from_ne_true}
 use Rattle.beldi_value.specs.declared.id.IntentId.{IntentId}
 use Rattle.beldi_value.specs.declared.place.TxId.{TxId}
 use Rattle.beldi_value.specs.declared.value.Value.{Value}
@@ -56,11 +57,7 @@ writing_more d locked after x i (Some k) f e = by_lock (locked i) (after i) (wri
 -- ---- a row of a shadow is set
 module _ (m : Rows) (t : TxId) (x : Item) (v : Option Row) where
   key_there : (u : TxId) (y : Item) → ((u ≡ t) × (y ≡ x) → ⊥) → map.get (set_row m (shadow_key t x) v) (shadow_key u y) ≡ map.get m (shadow_key u y)
-  key_there u y apart = row_got m (shadow_key t x) (shadow_key u y) v ∙ ap (λ b. cond b v (map.get m (shadow_key u y))) (off (is_eq (key_cmp (shadow_key u y) (shadow_key t x))) refl)
-    where
-      off : (b : Bool) → is_eq (key_cmp (shadow_key u y) (shadow_key t x)) ≡ b → b ≡ false
-      off false e = refl
-      off true e = absurd (apart (shadow_same u t y x (key_same (shadow_key u y) (shadow_key t x) e)))
+  key_there u y apart = row_got m (shadow_key t x) (shadow_key u y) v ∙ ap (λ b. cond b v (map.get m (shadow_key u y))) (false_from_ne_true (is_eq (key_cmp (shadow_key u y) (shadow_key t x))) (λ e. apart (shadow_same u t y x (key_same (shadow_key u y) (shadow_key t x) e))))
 
   -- it is no row of another transaction
   pub others_rows : (u : TxId) (y : Item) → (u ≡ t → ⊥) → map.get (set_row m (shadow_key t x) v) (shadow_key u y) ≡ map.get m (shadow_key u y)
@@ -95,15 +92,11 @@ untouched_got false true l dead ahead off h = cc
 untouched_got false false true dead ahead off h = cc
 untouched_got false false false dead ahead off h = cc
 
-pub and_false : (b : Bool) → (b && false) ≡ false
-and_false true = refl
-and_false false = refl
-
 pub got_passed : (d : Deployment) (t : TxId) (x : Item) (id : IntentId) (k : Instance) (a : Answer) (l : Bool) → touched (effect_of d k) ≡ None → got_by d t x id l (Some k) ≡ true → got_by d t x id l (Some (moved d id k a)) ≡ true
 got_passed d t x id k a l off h =
     let r = moved d id k a in
     ap (λ b. b || (l && is_on t x r.func (tx_now d id r) (effect_of d r))) ((moved_one d id k a).got t x)
-    ∙ untouched_got (got_before d t x id k) (is_on t x k.func (tx_now d id k) (effect_of d k)) l (is_aborted a) (l && is_on t x r.func (tx_now d id r) (effect_of d r)) (ap (λ o. is_tx t (tx_now d id k) && is_item x k.func o) off ∙ and_false (is_tx t (tx_now d id k))) h
+    ∙ untouched_got (got_before d t x id k) (is_on t x k.func (tx_now d id k) (effect_of d k)) l (is_aborted a) (l && is_on t x r.func (tx_now d id r) (effect_of d r)) (ap (λ o. is_tx t (tx_now d id k) && is_item x k.func o) off ∙ and_right (is_tx t (tx_now d id k)) false refl) h
 
 more_ahead : (had on l r : Bool) → (l ≡ true → r ≡ true) → (had || (l && on)) ≡ true → (had || (r && on)) ≡ true
 more_ahead true on l r f h = refl

@@ -22,6 +22,7 @@ use Rattle.beldi_plain.specs.Piece.{Going, aborted, dies_at, is_owner, new_membe
 use Rattle.beldi_plain.specs.Plain.{Instance, PlainState, answered, ended, callee_of, calls_at, effect_of}
 use Rattle.beldi_order.specs.Inside.{IsIn}
 use Rattle.beldi_order.specs.Sane as plain
+use Rattle.beldi_order.proofs.Beside.{set_alike}
 use Rattle.beldi_order.proofs.Line.{all_in, callee_in, last_of, returned}
 use Rattle.beldi_order.proofs.Maps.{here, made_set, same_some}
 use Rattle.beldi_order.proofs.Moved.{Items, answer_by, answers_so, calls_so, gone_on, items_by, returns_so}
@@ -44,9 +45,6 @@ leads_more d t s [] l r m h step = (r, subst (λ z. moved d t m z ≡ Some r) (s
 leads_more d t s (n ∷ ms) l r m h step = (h.0, h.1, leads_more d t h.0 ms l r m h.2 step)
 
 -- ---- maps that agree on some
-set_both : (f g : FinMap id_cmp Instance) (k i : IntentId) (z : Instance) → map.get f i ≡ map.get g i → map.get (map.insert f k z) i ≡ map.get (map.insert g k z) i
-set_both f g k i z h = get-insert id_total f k z i ∙ ap (cond (is_eq (id_cmp i k)) (Some z)) h ∙ sym (get-insert id_total g k z i)
-
 set_same : (f : FinMap id_cmp Instance) (k i : IntentId) (z : Instance) → map.get f k ≡ Some z → map.get (map.insert f k z) i ≡ map.get f i
 set_same f k i z is = made_set f k z (λ j u. u ≡ map.get f j) (sym is) (λ j. refl) i
 
@@ -81,7 +79,7 @@ module _ (d : Deployment) (p : PlainState) (sane : plain.Sane d p) (o : IntentId
     answer_on : (y : Instance) → map.get known tx.going.front ≡ Some y → (m : Move) (a : Answer) → answer_by tx.going.front tx.going.state.items y (effect_of d y) m ≡ Some a
         → GoesOn d p (map.insert known tx.going.front (answered y a)) o q tx.going.front (items_by tx.going.state.items y (effect_of d y) m)
     answer_on y is m a gives = next_on d p o q known (map.insert known tx.going.front (answered y a)) tx m (gone_on tx.going (items_by tx.going.state.items y (effect_of d y) m) y a)
-        (answers_so d (tx_begun o q) m tx.going y (made_front y is) a gives) (λ i is_in. set_both known tx.going.state.made tx.going.front i (answered y a) (tx.whole i is_in))
+        (answers_so d (tx_begun o q) m tx.going y (made_front y is) a gives) (λ i is_in. set_alike known tx.going.state.made tx.going.front i (answered y a) (tx.whole i is_in))
 
     settled : (y : Instance) → map.get known tx.going.front ≡ Some y → y.outcome ≡ None → GoesOn d p (map.insert known tx.going.front (at_once d tx.going.front y)) o q tx.going.front tx.going.state.items
     settled y is none = by_effect (effect_of d y) refl
@@ -137,7 +135,7 @@ module _ (d : Deployment) (p : PlainState) (sane : plain.Sane d p) (o : IntentId
         let c_in = callee_in d t tx.going.state.made i y (line d p known sane o q made b tx) there in
         then_once known c z tx.going.state.items
         (next_on d p o q known (map.insert known c z) tx plain (with_member t tx.going.state i y f v) (calls_so d t plain tx.going y there f v refl call short (sym (tx.whole c c_in) ∙ gone))
-        (λ j is_in. set_both known tx.going.state.made c j z (tx.whole j is_in))) refl
+        (λ j is_in. set_alike known tx.going.state.made c j z (tx.whole j is_in))) refl
 
     -- ---- a return, to who waits
     pub goes_returned : (z : Instance) → map.get known tx.going.front ≡ Some z → (u : Outcome) (c : Caller) → effect_of d z ≡ effect.Return u → is_owner (tx_begun o q) tx.going.front ≡ false → z.from ≡ Some c
@@ -159,4 +157,4 @@ module _ (d : Deployment) (p : PlainState) (sane : plain.Sane d p) (o : IntentId
         let led : moved d t plain tx.going ≡ Some r = step ∙ ap (λ x. Some x) (w.is ∙ (λ k. record { state = record { items = tx.going.state.items; made = map.insert (map.insert f j over) (same k) (answered (waiter k) (answer_of u)) }; front = same k })) in
         then_once (map.insert known j over) i (answered y (answer_of u)) tx.going.state.items
         (next_on d p o q known (map.insert (map.insert known j over) i (answered y (answer_of u))) tx plain r led
-        (λ x is_in. set_both (map.insert known j over) (map.insert f j over) i x (answered y (answer_of u)) (set_both known f j x over (tx.whole x is_in)))) none
+        (λ x is_in. set_alike (map.insert known j over) (map.insert f j over) i x (answered y (answer_of u)) (set_alike known f j x over (tx.whole x is_in)))) none

@@ -4,6 +4,7 @@ use Rattle.std.specs.Prelude.{nat_lt}
 use Rattle.std.proofs.lemmas.List.{length-take-le}
 use borrow.Author.Tests.{ltb-true, ltb-false}
 use Rattle.std.specs.FinMap as map
+use Rattle.std.proofs.lemmas.Bool.{and_parts}
 use Rattle.beldi_value.specs.Id.{age_of, is_older}
 use Rattle.beldi_value.specs.declared.id.IntentId.{IntentId}
 use Rattle.beldi_value.specs.declared.place.Owner.{Owner}
@@ -43,7 +44,7 @@ use Rattle.beldi_known.proofs.OwnTx.{own, own_by}
 use Rattle.beldi_known.proofs.Owners.{her_own}
 use Rattle.beldi_known.proofs.Participants.{IsOpenOwner, open_owner}
 use Rattle.beldi_known.proofs.Phases.{begin_is}
-use Rattle.beldi_known.proofs.ReadLists.{both, gathered, member_tx}
+use Rattle.beldi_known.proofs.ReadLists.{gathered, member_tx}
 use Rattle.beldi_laws.specs.Inside.{OwnersCallNobody, Released}
 use Rattle.beldi_laws.proofs.Ended.{EndedAt, ended_at}
 
@@ -136,7 +137,7 @@ module _ (d : Deployment) (m : Rows) (known : Known) (locked : IntentId → Bool
 
     -- .. as where it got an item
     operated : (x : Item) (given later : List Answer) → given ++ later ≡ z.answers → is_on t x z.func (tx_after d j z given) (effect_after d z given) ≡ true → WasOpen t
-    operated x given later all on = by_tx (tx_after d j z given) refl (both (is_tx t (tx_after d j z given)) (is_item x z.func (touched (effect_after d z given))) on)
+    operated x given later all on = by_tx (tx_after d j z given) refl (and_parts (is_tx t (tx_after d j z given)) (is_item x z.func (touched (effect_after d z given))) on)
       where
         no_begin : (e : Effect) → is_item x z.func (touched e) ≡ true → is_begin e ≡ false
         no_begin effect.Begin g = cc
@@ -150,10 +151,10 @@ module _ (d : Deployment) (m : Rows) (known : Known) (locked : IntentId → Bool
     own_open x b got = by_before (got_before d t x j z) refl got
       where
         by_before : (u : Bool) → got_before d t x j z ≡ u → (u || (b && is_on t x z.func (tx_now d j z) (effect_of d z))) ≡ true → WasOpen t
-        by_before false e g = operated x z.answers [] (append-nil z.answers) (both b (is_on t x z.func (tx_now d j z) (effect_of d z)) g).1
+        by_before false e g = operated x z.answers [] (append-nil z.answers) (and_parts b (is_on t x z.func (tx_now d j z) (effect_of d z)) g).1
         by_before true e g = elim (gathered (λ ts c. is_on t x z.func (tx_after d j z ts) (effect_after d z ts) && not (is_aborted c)) [] z.answers false e) [
           | inl k ↦ cc
-          | inr k ↦ operated x k.before (k.answer ∷ k.later) k.parts (both (is_on t x z.func (tx_after d j z k.before) (effect_after d z k.before)) (not (is_aborted k.answer)) k.holds).0
+          | inr k ↦ operated x k.before (k.answer ∷ k.later) k.parts (and_parts (is_on t x z.func (tx_after d j z k.before) (effect_after d z k.before)) (not (is_aborted k.answer)) k.holds).0
         ]
 
   -- where somebody was called in it

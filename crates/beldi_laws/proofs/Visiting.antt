@@ -5,6 +5,7 @@ use Rattle.std.specs.FinMap as map
 use Rattle.std.specs.FinMap.{same_map}
 use Rattle.std.specs.Option.{option_map}
 use Rattle.std.specs.Ordering.{is_eq}
+use Rattle.std.proofs.lemmas.Bool.{and_parts}
 use Rattle.beldi_value.specs.Id.{has_callees, has_no_hops}
 use Rattle.beldi_value.specs.declared.id.IntentId.{IntentId}
 use Rattle.beldi_value.specs.declared.place.Owner.TheVariants.{Tx}
@@ -99,7 +100,7 @@ use Rattle.beldi_known.proofs.Inside.{released}
 use Rattle.beldi_known.proofs.Locks.{tx_self, tx_same}
 use Rattle.beldi_known.proofs.OwnTx.{own_by}
 use Rattle.beldi_known.proofs.Participants.{now_open}
-use Rattle.beldi_known.proofs.ReadLists.{both, Gathered, gathered}
+use Rattle.beldi_known.proofs.ReadLists.{Gathered, gathered}
 use Rattle.beldi_known.proofs.Rows.{keys_set, no_root}
 use Rattle.beldi_known.proofs.Sets.{row_put}
 use Rattle.beldi_laws.specs.Inside.{AtStage, Frame, Inside, ParticipantsAreReleased, ParticipantsHaveRows, TookPart, end_walk, has_finish}
@@ -207,7 +208,7 @@ module _ (d : Deployment) (m : Rows) (known : Known) (locked : IntentId → Bool
     On ts = is_on t x q.func (tx_after d j q ts) (effect_after d q ts) ≡ true
 
     tx_there : (ts : List Answer) → On ts → tx_after d j q ts ≡ Some t
-    tx_there ts on = is_its t (tx_after d j q ts) (both (is_tx t (tx_after d j q ts)) (is_item x q.func (touched (effect_after d q ts))) on).0
+    tx_there ts on = is_its t (tx_after d j q ts) (and_parts (is_tx t (tx_after d j q ts)) (is_item x q.func (touched (effect_after d q ts))) on).0
 
     -- it is its owner, or was called in it
     role_there : (ts : List Answer) → On ts → (◌≡◌ {A = Member} (j, q.func) (t.intent, t.func)) ⊎ TakesPart known t (j, q.func)
@@ -216,7 +217,7 @@ module _ (d : Deployment) (m : Rows) (known : Known) (locked : IntentId → Bool
         by_within : (o : Option TxId) → q.within ≡ o → (◌≡◌ {A = Member} (j, q.func) (t.intent, t.func)) ⊎ TakesPart known t (j, q.func)
         by_within None out =
             let k = own_by j q.func (length ts) (effect_after d q ts) (txs_after d q ts).begun t
-            (no_begin x q.func (effect_after d q ts) (both (is_tx t (tx_after d j q ts)) (is_item x q.func (touched (effect_after d q ts))) on).1)
+            (no_begin x q.func (effect_after d q ts) (and_parts (is_tx t (tx_after d j q ts)) (is_item x q.func (touched (effect_after d q ts))) on).1)
             (sym (ap (λ o. or_own o (tx_by j q.func (length ts) (effect_after d q ts) (txs_after d q ts).begun)) out) ∙ tx_there ts on) in
             inl (λ i. (sym k.intent i, sym k.func_is i))
         by_within (Some s) in_it = inr (record {
@@ -231,7 +232,7 @@ module _ (d : Deployment) (m : Rows) (known : Known) (locked : IntentId → Bool
     by_answer g on k =
         let ts = k.before in
         let here = on ts k.answer k.holds in
-        let touches = (both (is_tx t (tx_after d j q ts)) (is_item x q.func (touched (effect_after d q ts))) here).1 in
+        let touches = (and_parts (is_tx t (tx_after d j q ts)) (is_item x q.func (touched (effect_after d q ts))) here).1 in
         let asks : (begins_at t.begin (tx_after d j q ts) && is_item x q.func (touched (effect_after d q ts))) ≡ true =
         ap (λ z. begins_at t.begin z && is_item x q.func (touched (effect_after d q ts))) (tx_there ts here) ∙ ap (λ b. b && is_item x q.func (touched (effect_after d q ts))) (eq-eqb t.begin t.begin refl) ∙ touches in
         let owed : owed_lockset d t.begin x j (map.get known j) ≡ true = ap (owed_lockset d t.begin x j) is ∙ lockset_there d j q ts k.answer k.later k.parts t.begin x asks in
@@ -246,7 +247,7 @@ module _ (d : Deployment) (m : Rows) (known : Known) (locked : IntentId → Bool
     -- none is ahead, as it has ended
     not_ahead : (locked j && is_on t x q.func (tx_now d j q) (effect_of d q)) ≡ true → ⊥
     not_ahead g =
-        let k = both (locked j) (is_on t x q.func (tx_now d j q) (effect_of d q)) g in
+        let k = and_parts (locked j) (is_on t x q.func (tx_now d j q) (effect_of d q)) g in
         let at = subst (LockedIf d j) is (ends j k.0) in
         let clash = sym (now_open d known sane j q t is at.open_still (tx_there q.answers k.1)) ∙ ended in cc
 
@@ -254,7 +255,7 @@ module _ (d : Deployment) (m : Rows) (known : Known) (locked : IntentId → Bool
     by_got false was g = absurd (not_ahead g)
     by_got true was g = elim (gathered (λ ts c. is_on t x q.func (tx_after d j q ts) (effect_after d q ts) && not (is_aborted c)) [] q.answers false was) [
       | inl k ↦ cc
-      | inr k ↦ by_answer (λ ts c. is_on t x q.func (tx_after d j q ts) (effect_after d q ts) && not (is_aborted c)) (λ ts c on. (both (is_on t x q.func (tx_after d j q ts) (effect_after d q ts)) (not (is_aborted c)) on).0) k
+      | inr k ↦ by_answer (λ ts c. is_on t x q.func (tx_after d j q ts) (effect_after d q ts) && not (is_aborted c)) (λ ts c on. (and_parts (is_on t x q.func (tx_after d j q ts) (effect_after d q ts)) (not (is_aborted c)) on).0) k
     ]
 
   by_member : (j : IntentId) (u : Option Instance) → map.get known j ≡ u → got_by d t x j (locked j) u ≡ true → HasAsked m known t x

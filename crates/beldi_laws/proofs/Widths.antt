@@ -4,7 +4,7 @@ use Rattle.std.proofs.Common.{◌≡◌, ◌⊎◌, inl, inr, zero, suc, ◌≤�
 use Rattle.std.specs.Prelude.{take, nat_lt, nat_le, slice_get}
 use Rattle.std.specs.FinMap as map
 use Rattle.std.specs.Option.{is_none, option_map}
-use Rattle.std.proofs.lemmas.Bool.{ltb-true}
+use Rattle.std.proofs.lemmas.Bool.{and_parts, ltb-true}
 use Rattle.std.proofs.lemmas.List.{length-take-le, take_more, take-append-le}
 use Rattle.beldi_value.specs.Id.{root_of}
 use Rattle.beldi_value.specs.declared.id.IntentId.{IntentId}
@@ -54,7 +54,7 @@ use Rattle.beldi_known.proofs.Begun.{called_begun}
 use Rattle.beldi_known.proofs.Frame.{begins}
 use Rattle.beldi_known.proofs.OwnTx.{own_by}
 use Rattle.beldi_known.proofs.Phases.{begin_is}
-use Rattle.beldi_known.proofs.ReadLists.{both, gathered}
+use Rattle.beldi_known.proofs.ReadLists.{gathered}
 use Rattle.beldi_laws.specs.Right.{Right}
 use Rattle.beldi_laws.proofs.Ended.{owner_outside}
 use Rattle.beldi_laws.proofs.Members.{call_known, members_joined}
@@ -163,7 +163,7 @@ module _ (d : Deployment) (m : Rows) (known : Known) (locked : IntentId → Bool
     asked_in : (q : Instance) (given more : List Answer) → map.get known i ≡ Some q → given ++ more ≡ q.answers → asks_lock b x q.func (tx_after d i q given) (effect_after d q given) ≡ true → Asks d known i b
     asked_in q given more is all asks =
         let e = effect_after d q given in
-        let k = both (begins_at b (tx_after d i q given)) (is_item x q.func (touched e)) asks in
+        let k = and_parts (begins_at b (tx_after d i q given)) (is_item x q.func (touched e)) asks in
         record { instance = q; made = is; given = given; more = more; all = all; begins = k.0; on = no_begin x q.func e k.1; few = few_answers d q.func q.args (is_some q.within) given (wants_item x q.func e k.1) }
 
     by_owed : (o : Option Instance) → map.get known i ≡ o → (owed_lockset d b x i o || lockset_ahead d known b x i o) ≡ true → Asks d known i b
@@ -176,8 +176,8 @@ module _ (d : Deployment) (m : Rows) (known : Known) (locked : IntentId → Bool
           | inr k ↦ asked_in q k.before (k.answer ∷ k.later) is k.parts k.holds
         ]
         by_row false e g =
-            let a = both (is_none q.outcome) (is_open d known (tx_now d i q) && (begins_at b (tx_now d i q) && is_item x q.func (touched (effect_of d q)))) g in
-            asked_in q q.answers [] is (append-nil q.answers) (both (is_open d known (tx_now d i q)) (begins_at b (tx_now d i q) && is_item x q.func (touched (effect_of d q))) a.1).1
+            let a = and_parts (is_none q.outcome) (is_open d known (tx_now d i q) && (begins_at b (tx_now d i q) && is_item x q.func (touched (effect_of d q)))) g in
+            asked_in q q.answers [] is (append-nil q.answers) (and_parts (is_open d known (tx_now d i q)) (begins_at b (tx_now d i q) && is_item x q.func (touched (effect_of d q))) a.1).1
 
   asked_lock : (home : ℕ) (i : IntentId) (b t : ℕ) (k : List ℕ) (r : Row) → map.get m (lockset_key i b (record { func = home; table = t; key = k })) ≡ Some r → Asks d known i b
   asked_lock home i b t k r there =
