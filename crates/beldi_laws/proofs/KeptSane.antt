@@ -14,7 +14,6 @@ use Rattle.beldi_lang.specs.declared.effect.Effect.TheVariants as effect
 use Rattle.beldi_lang.specs.Callee.{answer_of}
 use Rattle.beldi_plain.specs.Plain.{Instance, effect_of, new_instance, ended, callee_of, calls_at}
 use Rattle.beldi_order.specs.Sane.{call_of, IsAnswer}
-use Rattle.beldi_laws.specs.Outside.{IsAnswerTo}
 use Rattle.beldi_step.specs.Run.{is_waited, place_of}
 use Rattle.beldi_known.specs.Known.{Known, at_once, moved}
 use Rattle.beldi_order.specs.Txs.{tx_now, txs_after, effect_after}
@@ -23,8 +22,6 @@ use Rattle.beldi_laws.proofs.Outside.{is_call, is_of_tx}
 use Rattle.beldi_known.proofs.NoTx.{IsOutside}
 use Rattle.beldi_known.specs.Beside.{is_begin}
 use Rattle.beldi_lang.specs.declared.effect.Effect.{Effect}
-use Rattle.beldi_value.specs.declared.place.Place.{Place}
-use Rattle.beldi_value.specs.declared.value.Value.TheVariants as value
 use Rattle.beldi_known.proofs.Sanes.{sane_bound, sane_answered, sane_called, sane_sent, sane_returned, sane_ended, not_waited}
 use Rattle.beldi_known.proofs.Phases.{end_is, inside_is}
 use Rattle.beldi_known.proofs.Begins.{aborts_inside}
@@ -44,17 +41,6 @@ outside_effect d q given out apart = by_effect (effect_after d q given) refl apa
     by_effect e is g = refl
 
 -- ---- of what is known
--- an answer outside is one
-known_answer : (p : Place) (e : Effect) (a : Answer) → IsAnswerTo e a → IsAnswer p None e a
-known_answer p (effect.Read t k) (answer.Value v) h = tt
-known_answer p (effect.Write t k v) answer.Done h = tt
-known_answer p (effect.CondWrite t k r o v) (answer.Value (value.Bool b)) h = tt
-known_answer p (effect.Lock t k) answer.Done h = tt
-known_answer p (effect.Unlock t k) answer.Done h = tt
-known_answer p (effect.Call f v) a h = h
-known_answer p (effect.Async f v) answer.Done h = tt
-known_answer p e a h = absurd h
-
 no_call : (w : Bool) (f : ℕ) (v : Value) → is_call (call_of w f v) ≡ false → ⊥
 no_call true f v h = cc
 no_call false f v h = cc
@@ -69,8 +55,8 @@ module _ (d : Deployment) (known : Known) (sane : Sane d known) where
   root_kept t f v new = sane_bound d known sane (root_of t) f v new refl
 
   -- an answer outside transactions, to a read or an operation on an item
-  pub answered_kept : (id : IntentId) (q : Instance) (a : Answer) → map.get known id ≡ Some q → q.outcome ≡ None → tx_now d id q ≡ None → is_call (effect_of d q) ≡ false → IsAnswerTo (effect_of d q) a → Sane d (map.insert known id (moved d id q a))
-  answered_kept id q a is none outside apart ok = sane_answered d known sane id q is a (subst (λ t. IsAnswer (place_of id (length q.answers)) t (effect_of d q) a) (sym outside) (known_answer (place_of id (length q.answers)) (effect_of d q) a ok)) (λ w f v e. no_call w f v (ap is_call (sym e) ∙ apart))
+  pub answered_kept : (id : IntentId) (q : Instance) (a : Answer) → map.get known id ≡ Some q → q.outcome ≡ None → tx_now d id q ≡ None → is_call (effect_of d q) ≡ false → IsAnswer (place_of id (length q.answers)) None (effect_of d q) a → Sane d (map.insert known id (moved d id q a))
+  answered_kept id q a is none outside apart ok = sane_answered d known sane id q is a (subst (λ t. IsAnswer (place_of id (length q.answers)) t (effect_of d q) a) (sym outside) ok) (λ w f v e. no_call w f v (ap is_call (sym e) ∙ apart))
 
   -- a callee is made that its caller waits for, in the transaction of the call, or one that nobody waits for: then the caller is answered
   pub called_kept : (t : Option TxId) (id : IntentId) (q : Instance) (f : ℕ) (v : Value) → map.get known id ≡ Some q → t ≡ tx_now d id q → effect_of d q ≡ effect.Call f v → map.get known (callee_of id q) ≡ None

@@ -43,11 +43,10 @@ use Rattle.beldi_daal.proofs.Logged.{by_op}
 use Rattle.beldi_plain.specs.Item.{Item, item_total}
 use Rattle.beldi_plain.specs.Guard.{IsFree, touched_by, item_touched}
 use Rattle.beldi_plain.specs.Holds.{holds}
-use Rattle.beldi_plain.specs.Operation as operation
-use Rattle.beldi_plain.specs.Operation.{OnItem, Operation, op_of, item_in, answer_after, write, lock, free, sets}
+use Rattle.beldi_plain.specs.Operation.{OnItem, op_of, item_in, answer_after, sets}
 use Rattle.beldi_plain.specs.Plain.{Instance, PlainState, value_at, operate, effect_of, kind_of, effect_before}
 use Rattle.beldi_plain.specs.declared.kind.Kind.TheVariants as kind
-use Rattle.beldi_laws.specs.Outside.{Answers as OpAnswered, OpAnswers, IsAnswerTo}
+use Rattle.beldi_order.specs.Sane.{IsAnswer}
 use Rattle.beldi_order.proofs.Entries.{enabled_step, free_at_operation}
 use Rattle.beldi_order.proofs.Maps.{same_some}
 use Rattle.beldi_order.proofs.Locks.{operation_step}
@@ -88,28 +87,25 @@ use Rattle.beldi_laws.proofs.KeptSane.{answered_kept}
 use Rattle.beldi_laws.proofs.Outside.{is_call}
 use Rattle.beldi_known.proofs.Outside.{operation_done, no_tx}
 use Rattle.beldi_known.proofs.Frame.{moved_one}
+use Rattle.beldi_order.proofs.Sound.{operation_answers}
 use Rattle.beldi_laws.proofs.Grown.{grows_moved}
 
--- an operation is answered so
-op_answers : (o : Operation) (w : Value) → OpAnswered o (answer_after o w)
-op_answers (write v) w = tt
-op_answers (operation.cond r u v) w = tt
-op_answers lock w = tt
-op_answers free w = tt
+-- what is answered to an operation is what its note reads as, and of its kind
+abbrev ReadsAs : Effect → OnItem → Answer → Type 0
+ReadsAs e o a = (option_and_then noted_answer (noted o.does a) ≡ Some a) × (answers_it e a ≡ true)
 
-operation_answers : (e : Effect) (o : OnItem) (w : Value) → op_of e ≡ Some o → IsAnswerTo e (answer_after o.does w)
-operation_answers (effect.Read t k) o w h = cc
-operation_answers (effect.Call f v) o w h = cc
-operation_answers (effect.Async f v) o w h = cc
-operation_answers e o w h = subst (λ z. OpAnswers z (answer_after o.does w)) (sym h) (op_answers o.does w)
-
--- what is answered to an operation is what its note reads as
-pub noted_back : (o : Operation) (a : Answer) → OpAnswered o a → option_and_then noted_answer (noted o a) ≡ Some a
-noted_back (write v) answer.Done ok = refl
-noted_back (operation.cond r u v) (answer.Value (value.Bool b)) ok = refl
-noted_back lock answer.Done ok = refl
-noted_back free answer.Done ok = refl
-noted_back o a ok = absurd ok
+pub noted_back : (p : Place) (e : Effect) (o : OnItem) (a : Answer) → op_of e ≡ Some o → IsAnswer p None e a → ReadsAs e o a
+noted_back p (effect.Write t k v) o answer.Done h is = subst (λ z. ReadsAs (effect.Write t k v) z answer.Done) (same_some h) (refl, refl)
+noted_back p (effect.CondWrite t k r u v) o (answer.Value (value.Bool b)) h is = subst (λ z. ReadsAs (effect.CondWrite t k r u v) z (answer.Value (value.Bool b))) (same_some h) (refl, refl)
+noted_back p (effect.Lock t k) o answer.Done h is = subst (λ z. ReadsAs (effect.Lock t k) z answer.Done) (same_some h) (refl, refl)
+noted_back p (effect.Unlock t k) o answer.Done h is = subst (λ z. ReadsAs (effect.Unlock t k) z answer.Done) (same_some h) (refl, refl)
+noted_back p (effect.Read t k) o a h is = cc
+noted_back p (effect.Call f v) o a h is = cc
+noted_back p (effect.Async f v) o a h is = cc
+noted_back p effect.Begin o a h is = cc
+noted_back p (effect.End c) o a h is = cc
+noted_back p effect.Abort o a h is = cc
+noted_back p e o a h is = absurd is
 
 -- ---- what an operation does to its item's cell
 abbrev IsCell : Effect → OnItem → Type 0
@@ -147,26 +143,9 @@ is_no_call (effect.Call f v) o h = cc
 is_no_call (effect.Async f v) o h = cc
 is_no_call e o h = refl
 
--- .. its answers are those of its operation, and its note is told as the answer that it reads as
-answered_so : (e : Effect) (o : OnItem) (a : Answer) → op_of e ≡ Some o → IsAnswerTo e a → OpAnswered o.does a
-answered_so (effect.Read t k) o a h is = cc
-answered_so (effect.Call f v) o a h is = cc
-answered_so (effect.Async f v) o a h is = cc
-answered_so e o a h is = subst (λ z. OpAnswers z a) h is
-
-of_its_kind : (e : Effect) (o : OnItem) (a : Answer) → op_of e ≡ Some o → IsAnswerTo e a → answers_it e a ≡ true
-of_its_kind (effect.Read t k) o a h is = cc
-of_its_kind (effect.Call f v) o a h is = cc
-of_its_kind (effect.Async f v) o a h is = cc
-of_its_kind (effect.Write t k v) o answer.Done h is = refl
-of_its_kind (effect.CondWrite t k r u v) o (answer.Value w) h is = refl
-of_its_kind (effect.Lock t k) o answer.Done h is = refl
-of_its_kind (effect.Unlock t k) o answer.Done h is = refl
-of_its_kind e o a h is = absurd is
-
-told_back : (e : Effect) (o : OnItem) (n : Note) (a : Answer) → op_of e ≡ Some o → IsAnswerTo e a → noted o.does a ≡ Some n → answer_noted e n ≡ Some a
-told_back e o n a h is same =
-    ap (if_answers e) (sym (ap (option_and_then noted_answer) same) ∙ noted_back o.does a (answered_so e o a h is)) ∙ ap (λ b. if b then Some a else None) (of_its_kind e o a h is)
+-- .. its note is told as the answer that it reads as
+told_back : (e : Effect) (o : OnItem) (n : Note) (a : Answer) → ReadsAs e o a → noted o.does a ≡ Some n → answer_noted e n ≡ Some a
+told_back e o n a back same = ap (if_answers e) (sym (ap (option_and_then noted_answer) same) ∙ back.0) ∙ ap (λ b. if b then Some a else None) back.1
 
 -- ---- the turn
 module _ (d : Deployment) (c : Core) (m : Rows) (i : ℕ) (r : Run) (g : Begun) (h : Right d c m) (live : map.get c.runs i ≡ Some r) (k : Knows d c.book h.known r g) (finds : Inside d m h.plain h.known r g) (out : tx_after d r.id k.instance k.answers ≡ None)
@@ -231,8 +210,8 @@ module _ (d : Deployment) (c : Core) (m : Rows) (i : ℕ) (r : Run) (g : Begun) 
       wants_op : op_of (effect_of d k.instance) ≡ Some o
       wants_op = ap op_of now ∙ so
 
-      answers_so : IsAnswerTo e a
-      answers_so = operation_answers e o old so
+      answers_so : IsAnswer place None e a
+      answers_so = operation_answers place e o old so
 
       old_here : (content_of m item).value ≡ old
       old_here = value_here h item (no_tx r.id (content_of m item).owner (unbarred op r.id (content_of m item).owner did.1.0)) ∙ ap (λ f. value_at h.plain (item_in f o)) (sym k.func)
@@ -261,7 +240,7 @@ module _ (d : Deployment) (c : Core) (m : Rows) (i : ℕ) (r : Run) (g : Begun) 
           (subst (λ f. DoneRows m n (item_in f o) place op) (sym k.func) (record { same = same; sound = sound; none = did.0; free = did.1.0; here = did.1.1 }))
 
       open_still : k.instance.outcome ≡ None
-      open_still = not_over d c m r g h k left (subst (λ z. IsTrue (wants_answer z)) (sym is) (wants_it e a answers_so))
+      open_still = not_over d c m r g h k left (subst (λ z. IsTrue (wants_answer z)) (sym is) (wants_it place None e a answers_so))
 
       -- nobody else has locked the item
       free_here : IsFree d h.plain (Step r.id)
@@ -290,7 +269,7 @@ module _ (d : Deployment) (c : Core) (m : Rows) (i : ℕ) (r : Run) (g : Begun) 
       grows = grows_moved d h.known r.id k.instance a k.made
 
       sane_now : Sane d next
-      sane_now = answered_kept d h.known h.sane r.id k.instance a k.made open_still outside (is_no_call (effect_of d k.instance) o wants_op) (subst (λ z. IsAnswerTo z a) (sym now) answers_so)
+      sane_now = answered_kept d h.known h.sane r.id k.instance a k.made open_still outside (is_no_call (effect_of d k.instance) o wants_op) (operation_answers (place_of r.id (length k.instance.answers)) (effect_of d k.instance) o old wants_op)
 
       rows_now : Matches d n next h.locked
       rows_now = operation_done d h.known h.locked r.id k.instance (moved d r.id k.instance a) old o op (does_so o.does) k.made unlocked outside wants_op (moved_one d r.id k.instance a) m n did_here (value_here h y unowned) h.rows
@@ -317,10 +296,13 @@ module _ (d : Deployment) (c : Core) (m : Rows) (i : ℕ) (r : Run) (g : Begun) 
     DidNow = DidOnce place (owner.Intent r.id) op true (content_of m item) (content_of n item)
 
     now_first : k.later ≡ [] → (w : Note) → note_at (content_of n item).notes place ≡ Some w → DidNow → After (write_says e (writes.Done w true))
-    now_first left w there did = subst (λ x. After (done_says true x)) (sym (told_back e o w (a left did) so (answers_so left did) (told left did w there))) (steps left did)
+    now_first left w there did = subst (λ x. After (done_says true x)) (sym (told_back e o w (a left did) (noted_back place e o (a left did) so (answers_so left did)) (told left did w there))) (steps left did)
+
+    fits_back : (b : Answer) (rest : List Answer) → k.later ≡ b ∷ rest → ReadsAs e o b
+    fits_back b rest left = noted_back place e o b so (fits d c m i r g h live k finds out e is b rest left)
 
     not_again : (b : Answer) (rest : List Answer) → k.later ≡ b ∷ rest → DidNow → ⊥
-    not_again b rest left did = let clash = sym (noted_back o.does b (answered_so e o b so (fits d c m i r g h live k finds out e is b rest left))) ∙ ap (option_and_then noted_answer) (sym (note_read b rest left) ∙ did.0) in cc
+    not_again b rest left did = let clash = sym (fits_back b rest left).0 ∙ ap (option_and_then noted_answer) (sym (note_read b rest left) ∙ did.0) in cc
 
     done_now : (later : List Answer) → k.later ≡ later → (w : Note) → note_at (content_of n item).notes place ≡ Some w → DidNow → After (write_says e (writes.Done w true))
     done_now [] left w noted did = now_first left w noted did
@@ -330,7 +312,7 @@ module _ (d : Deployment) (c : Core) (m : Rows) (i : ℕ) (r : Run) (g : Begun) 
     not_yet left w there = let clash = sym there ∙ note_is [] left in cc
 
     again : (b : Answer) (rest : List Answer) → k.later ≡ b ∷ rest → (w : Note) → note_at (content_of m item).notes place ≡ Some w → content_of n item ≡ content_of m item → After (write_says e (writes.Done w false))
-    again b rest left w there same = subst (λ x. After (done_says false x)) (sym (told_back e o w b so (fits d c m i r g h live k finds out e is b rest left) (sym (note_read b rest left) ∙ there))) (replays d c m i r g h live k finds out e is n b rest roots (kept same) left)
+    again b rest left w there same = subst (λ x. After (done_says false x)) (sym (told_back e o w b (fits_back b rest left) (sym (note_read b rest left) ∙ there))) (replays d c m i r g h live k finds out e is n b rest roots (kept same) left)
 
     done_before : (later : List Answer) → k.later ≡ later → (w : Note) → note_at (content_of m item).notes place ≡ Some w → content_of n item ≡ content_of m item → After (write_says e (writes.Done w false))
     done_before [] left w noted same = absurd (not_yet left w noted)

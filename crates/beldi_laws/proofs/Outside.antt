@@ -19,8 +19,6 @@ use Rattle.beldi_plain.specs.Piece.{opened, tx_begun}
 use Rattle.beldi_plain.specs.Plain.{Instance, PlainState, effect_of, outcome_of}
 use Rattle.beldi_order.specs.Inside.{Line, top, next}
 use Rattle.beldi_order.specs.Sane as plain
-use Rattle.beldi_order.specs.Sane.{IsAnswer}
-use Rattle.beldi_laws.specs.Outside.{IsAnswerTo}
 use Rattle.beldi_order.specs.Grown.{Grown, GrownAt}
 use Rattle.beldi_order.proofs.Maps.{same_some}
 use Rattle.beldi_order.proofs.Entries.{opened_grows}
@@ -49,7 +47,6 @@ module _ (d : Deployment) (id : IntentId) (q : Instance) (given : List Answer) w
       by_effect (effect.End c) g = refl
       by_effect e g = h.1
 
--- ---- answers outside
 -- the effects that begin and end a transaction
 abbrev pub is_of_tx : Effect → Bool
 is_of_tx effect.Begin = true
@@ -65,19 +62,6 @@ is_call e = false
 pub of_none : (e : Effect) → is_of_tx e ≡ false → is_begin e ≡ false
 of_none effect.Begin h = cc
 of_none e h = refl
-
-pub outside_answer : (p : Place) (e : Effect) (a : Answer) → is_of_tx e ≡ false → IsAnswer p None e a → IsAnswerTo e a
-outside_answer p (effect.Read t k) (answer.Value v) h g = tt
-outside_answer p (effect.Write t k v) answer.Done h g = tt
-outside_answer p (effect.CondWrite t k r o v) (answer.Value (value.Bool b)) h g = tt
-outside_answer p (effect.Lock t k) answer.Done h g = tt
-outside_answer p (effect.Unlock t k) answer.Done h g = tt
-outside_answer p (effect.Call f v) a h g = g
-outside_answer p (effect.Async f v) answer.Done h g = tt
-outside_answer p effect.Begin a h g = cc
-outside_answer p (effect.End c) a h g = cc
-outside_answer p effect.Abort a h g = cc
-outside_answer p e a h g = absurd g
 
 -- a run that stands outside has no effect of a transaction
 pub stands_outside : (id : IntentId) (c : Option Caller) (e : Effect) (s : Stage) → StageOk None id c e s → is_of_tx e ≡ false

@@ -79,11 +79,11 @@ use Rattle.beldi_laws.proofs.Outside.{is_call}
 use Rattle.beldi_known.proofs.Ahead.{ahead_set, none_out}
 use Rattle.beldi_known.proofs.Outside.{read_added, no_tx}
 use Rattle.beldi_known.proofs.Frame.{moved_one}
-use Rattle.beldi_laws.specs.Outside.{IsAnswerTo}
 use Rattle.beldi_plain.specs.Operation.{op_of}
 use Rattle.beldi_known.proofs.Begun.{got_begun}
 use Rattle.beldi_known.proofs.ReadLists.{begun_lists}
 use Rattle.beldi_known.specs.Sane.{Sane}
+use Rattle.beldi_order.specs.Sane.{IsAnswer}
 use Rattle.beldi_order.specs.Grown.{Grows}
 use Rattle.beldi_known.specs.Listed.{listed}
 use Rattle.beldi_value.specs.declared.place.TxId.{TxId}
@@ -252,7 +252,7 @@ module _ (d : Deployment) (c : Core) (m : Rows) (i : ℕ) (r : Run) (g : Begun) 
       frame = frame_log d m h.plain state h.known next (items_stay d m h.plain state next refl) (nobody_set d h.known r.id (moved d r.id k.instance (answer.Value v)) (ap is_some k.made)) r.func place (Some (rows.ReadLog v)) refl
 
       sane_now : Sane d next
-      sane_now = answered_kept d h.known h.sane r.id k.instance (answer.Value v) k.made open_still outside (ap is_call now) (subst (λ e. IsAnswerTo e (answer.Value v)) (sym now) tt)
+      sane_now = answered_kept d h.known h.sane r.id k.instance (answer.Value v) k.made open_still outside (ap is_call now) (subst (λ e. IsAnswer (place_of r.id (length k.instance.answers)) None e (answer.Value v)) (sym now) tt)
 
       rows_now : Matches d n next h.locked
       rows_now = subst (λ z. Matches d (set_row m z (Some (rows.ReadLog v))) next h.locked) own_key

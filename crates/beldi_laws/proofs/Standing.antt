@@ -36,7 +36,6 @@ use Rattle.beldi_readlog.specs.ReadLog.{log_key, given}
 use Rattle.beldi_invokelog.specs.InvokeLog.{invoke_key, call_in, result_in}
 use Rattle.beldi_lang.specs.Callee.{answer_of}
 use Rattle.beldi_order.specs.Sane.{IsCalled, CalledBy, call_of, answer_given, IsAnswer, IsDeath}
-use Rattle.beldi_laws.specs.Outside.{OpAnswers, IsAnswerTo}
 use Rattle.beldi_laws.specs.Stands.{Stands, IsMade, HasNotEnded, key_in, has_place, held_answer, held_outside, held_inside, held_note, decides, told_by, note_of_lock, answer_aside}
 use Rattle.std.specs.Option.{option_map}
 use Rattle.beldi_order.proofs.Maps.{same_some}
@@ -59,7 +58,7 @@ use Rattle.beldi_known.specs.Matches.{Matches, has_ended}
 use Rattle.beldi_known.specs.Sane.{Sane}
 use Rattle.beldi_known.specs.Beside.{is_begin}
 use Rattle.beldi_known.proofs.NoTx.{IsOutside, outside_parts}
-use Rattle.beldi_laws.proofs.Outside.{outside_answer, is_of_tx, known_of}
+use Rattle.beldi_laws.proofs.Outside.{is_of_tx, known_of}
 use Rattle.beldi_laws.proofs.Owed.{note_if, value_if, note_there, read_there, no_end}
 use Rattle.beldi_laws.proofs.Grown.{tx_stays}
 use Rattle.beldi_laws.proofs.Shown.{Shows, legal_sane, shown}
@@ -80,9 +79,9 @@ never_ended : (i : IntentRow) → i.outcome ≡ None → is_some i.finish ≡ is
 never_ended i none finishes = ap (λ o. is_some o || is_some i.finish) none ∙ finishes ∙ ap is_some none
 
 -- an answer to a read is its value
-read_back : (t : ℕ) (k : List ℕ) (a : Answer) → IsAnswerTo (Read t k) a → option_map answer.Value (value_for (Read t k) a) ≡ Some a
-read_back t k (answer.Value v) ok = refl
-read_back t k a ok = absurd ok
+read_back : (p : Place) (t : ℕ) (k : List ℕ) (a : Answer) → IsAnswer p None (Read t k) a → option_map answer.Value (value_for (Read t k) a) ≡ Some a
+read_back p t k (answer.Value v) ok = refl
+read_back p t k a ok = absurd ok
 
 -- what a call gave back is what is owed
 abbrev gave : Option (ℕ × Option Outcome) → Option Outcome
@@ -134,12 +133,11 @@ module _ (d : Deployment) (m : Rows) (known : Known) (locked : IntentId → Bool
     given_here t k is = given_owed (map.get m (log_key q.func place)) (value_if (Read t k) (slice_get q.answers n)) (read_there d m known locked h id q made n t k is) ∙ ap (value_if (Read t k)) at
 
     -- ---- outside transactions
-    held_op : tx_at d id q n ≡ None → is_of_tx e ≡ false → (o : Option OnItem) → op_of e ≡ o → OpAnswers o a → held_note m place q.func o ≡ Some a
-    held_op outside not_of_tx None is ok = absurd ok
-    held_op outside not_of_tx (Some o) is ok =
+    held_op : tx_at d id q n ≡ None → is_of_tx e ≡ false → (o : OnItem) → op_of e ≡ Some o → IsAnswer place None e a → held_note m place q.func (Some o) ≡ Some a
+    held_op outside not_of_tx o is ok =
         let x : Item = item_in q.func o in
         ap (option_and_then noted_answer) (note_there d m known locked h id q made n (outside_parts d id q (take n q.answers) outside).0.0 outside (no_end e not_of_tx) x ∙ ap (note_if x q.func e) at ∙ ap (λ z. note_of x q.func z a) is
-        ∙ ap (λ t. if is_eq t then noted o.does a else None) (tied_itself item_total x)) ∙ noted_back o.does a ok
+        ∙ ap (λ t. if is_eq t then noted o.does a else None) (tied_itself item_total x)) ∙ (noted_back place e o a is ok).0
 
     -- a call, by its callee
     was_called : (j : Instance) → map.get known (child_of id n) ≡ Some j → IsCalled d id q n j
@@ -172,7 +170,7 @@ module _ (d : Deployment) (m : Rows) (known : Known) (locked : IntentId → Bool
             (by_wait j c.waits (sym at ∙ c.answered) (subst (CallMatches (map.get m (invoke_key q.func place))) (owed_so j on) (h.keys (invoke_key q.func place))))
 
     outside_here : tx_at d id q n ≡ None → held_outside m place q.func e ≡ Some a
-    outside_here outside = by_effect e refl (outside_answer place e a not_of_tx (subst (λ t. IsAnswer place t e a) outside went))
+    outside_here outside = by_effect e refl not_of_tx (subst (λ t. IsAnswer place t e a) outside went)
       where
         out : IsOutside d q (take n q.answers) × (is_begin e ≡ false)
         out = outside_parts d id q (take n q.answers) outside
@@ -180,11 +178,18 @@ module _ (d : Deployment) (m : Rows) (known : Known) (locked : IntentId → Bool
         not_of_tx : is_of_tx e ≡ false
         not_of_tx = outside_effect d q (take n q.answers) out.0 out.1
 
-        by_effect : (z : Effect) → e ≡ z → IsAnswerTo z a → held_outside m place q.func z ≡ Some a
-        by_effect (Read t k) is ok = ap (option_map answer.Value) (given_here t k is) ∙ read_back t k a ok
-        by_effect (Call f v) is ok = held_call true f v is
-        by_effect (Async f v) is ok = held_call false f v is
-        by_effect z is ok = held_op outside not_of_tx (op_of z) (ap op_of is) ok
+        operated : (z : Effect) → e ≡ z → (o : OnItem) → op_of z ≡ Some o → IsAnswer place None z a → held_note m place q.func (op_of z) ≡ Some a
+        operated z is o on ok = ap (held_note m place q.func) on ∙ held_op outside not_of_tx o (ap op_of is ∙ on) (subst (λ y. IsAnswer place None y a) (sym is) ok)
+
+        by_effect : (z : Effect) → e ≡ z → is_of_tx z ≡ false → IsAnswer place None z a → held_outside m place q.func z ≡ Some a
+        by_effect (Read t k) is apart ok = ap (option_map answer.Value) (given_here t k is) ∙ read_back place t k a ok
+        by_effect (Call f v) is apart ok = held_call true f v is
+        by_effect (Async f v) is apart ok = held_call false f v is
+        by_effect effect.Begin is apart ok = cc
+        by_effect (End b) is apart ok = cc
+        by_effect effect.Abort is apart ok = cc
+        by_effect (effect.Return o) is apart ok = absurd ok
+        by_effect z is apart ok = operated z is _ refl ok
 
     -- ---- inside one
     module _ (x : TxId) (inside : tx_at d id q n ≡ Some x) where

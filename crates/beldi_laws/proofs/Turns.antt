@@ -8,6 +8,7 @@ use Rattle.beldi_value.specs.declared.outcome.Outcome.{Outcome}
 use Rattle.beldi_value.specs.declared.place.Caller.{Caller}
 use Rattle.beldi_value.specs.declared.place.Owner.{Owner}
 use Rattle.beldi_value.specs.declared.place.Owner.TheVariants.{Tx as ByTx}
+use Rattle.beldi_value.specs.declared.place.Place.{Place}
 use Rattle.beldi_value.specs.declared.place.TxId.{TxId}
 use Rattle.beldi_tree.specs.declared.deployment.Deployment.{Deployment}
 use Rattle.beldi_lang.specs.declared.effect.Answer.{Answer}
@@ -46,7 +47,6 @@ use Rattle.beldi_laws.specs.Inside.{AtStage, Inside, Released}
 use Rattle.beldi_laws.specs.Stands.{key_in}
 use Rattle.beldi_laws.specs.Right.{Right, RunAt, Knows, KnowsAt, StageOk, MarkOk, PlaceOk, SeenDone, open_of}
 use Rattle.beldi_order.specs.Sane.{IsAnswer}
-use Rattle.beldi_laws.specs.Outside.{IsAnswerTo}
 use Rattle.beldi_order.proofs.Maps.{same_some}
 use Rattle.beldi_order.proofs.Called.{get_after}
 use Rattle.std.proofs.Math.Seq.{take-append_seam}
@@ -65,7 +65,7 @@ use Rattle.beldi_known.proofs.NoTx.{IsOutside, outside_so, outside_parts}
 use Rattle.beldi_known.proofs.Phases.{at}
 use Rattle.beldi_laws.proofs.Lives.{open_stays}
 use Rattle.beldi_laws.proofs.OpenOf.{called_in, called_out, open_begun, open_none, open_pushed, own_begin, tx_open}
-use Rattle.beldi_laws.proofs.Outside.{outside_more, outside_answer, is_of_tx, stands_outside, plain_here}
+use Rattle.beldi_laws.proofs.Outside.{outside_more, is_of_tx, stands_outside, plain_here}
 use Rattle.beldi_laws.proofs.Released.{released_next, released_on}
 use Rattle.beldi_order.specs.Grown.{Grown}
 use Rattle.beldi_laws.proofs.Grown.{tx_stays, grown_same, grown_moved, moved_more}
@@ -417,9 +417,10 @@ module _ (d : Deployment) (book : List Entry) (known : Known) (r : Run) (g : Beg
     outside_after e a = subst (λ ts. IsOutside d k.instance (ts ++ a ∷ [])) (all_here e) (outside_next a)
 
 -- an effect with an answer wants one
-pub wants_it : (e : Effect) (a : Answer) → IsAnswerTo e a → IsTrue (wants_answer e)
-wants_it (Return o) a is = absurd is
-wants_it e a is = refl
+pub wants_it : (p : Place) (t : Option TxId) (e : Effect) (a : Answer) → IsAnswer p t e a → IsTrue (wants_answer e)
+wants_it p None (Return o) a is = absurd is
+wants_it p (Some t) (Return o) a is = absurd is
+wants_it p t e a is = refl
 
 -- ---- its instance
 module _ (d : Deployment) (c : Core) (m : Rows) (r : Run) (g : Begun) (h : Right d c m) (k : Knows d c.book h.known r g) where
@@ -563,13 +564,13 @@ module _ (d : Deployment) (c : Core) (m : Rows) (i : ℕ) (r : Run) (g : Begun) 
       goes_on n s off roots kept ok place done = on_other e is n s off roots kept (subst (λ t. StageOk t r.id g.caller e s) (sym out) ok) place done
 
       -- what the step was answered, where it was, is an answer to its effect
-      pub fits : (a : Answer) (rest : List Answer) → k.later ≡ a ∷ rest → IsAnswerTo e a
-      fits a rest left = subst (λ z. IsAnswerTo z a) is (outside_answer (place_of r.id g.machine.steps) g.machine.effect a (not_of_tx d c.book h.known r g k out)
+      pub fits : (a : Answer) (rest : List Answer) → k.later ≡ a ∷ rest → IsAnswer (place_of r.id g.machine.steps) None e a
+      fits a rest left = subst (λ z. IsAnswer (place_of r.id g.machine.steps) None z a) is
           (subst (λ t. IsAnswer (place_of r.id g.machine.steps) t g.machine.effect a) (tx_step d c.book h.known r g k out)
-          (subst (λ z. IsAnswer (place_of r.id g.machine.steps) (tx_at d r.id k.instance g.machine.steps) z a) (effect_here d c.book h.known r g k) ((sane_instance d c m r g h k).past g.machine.steps a (answer_here d c.book h.known r g k (a ∷ rest) left)))))
+          (subst (λ z. IsAnswer (place_of r.id g.machine.steps) (tx_at d r.id k.instance g.machine.steps) z a) (effect_here d c.book h.known r g k) ((sane_instance d c m r g h k).past g.machine.steps a (answer_here d c.book h.known r g k (a ∷ rest) left))))
 
-      pub answers_it : (a : Answer) → IsAnswerTo e a → IsTrue (wants_answer g.machine.effect)
-      answers_it a ok = subst (λ e. IsTrue (wants_answer e)) (sym is) (wants_it e a ok)
+      pub answers_it : (a : Answer) → IsAnswer (place_of r.id g.machine.steps) None e a → IsTrue (wants_answer g.machine.effect)
+      answers_it a ok = subst (λ e. IsTrue (wants_answer e)) (sym is) (wants_it (place_of r.id g.machine.steps) None e a ok)
 
       -- there is nothing to own
       none_owned : (n : Rows) → Freed n
@@ -588,7 +589,7 @@ module _ (d : Deployment) (c : Core) (m : Rows) (i : ℕ) (r : Run) (g : Begun) 
           (takes_next c.book n h.plain h.known h.locked k.instance a rest None kept k.made (grown_same k.instance) (known_prefix a rest left) (answers_it a (fits a rest left)) (none_owned n)) (callee c.book h.known) kept
 
       -- it steps on: the instance has the answer now
-      pub steps_on : (a : Answer) (by : Mark) (q : PlainState) (n : Rows) → k.later ≡ [] → IsAnswerTo e a → let known : Known = map.insert h.known r.id (moved d r.id k.instance a) in Entered d c h.plain h.known (entry_of r.id by) q known → SameRoots m n → Kept h n q known h.locked → Leaves (says.Answers a (Some by)) n
+      pub steps_on : (a : Answer) (by : Mark) (q : PlainState) (n : Rows) → k.later ≡ [] → IsAnswer (place_of r.id g.machine.steps) None e a → let known : Known = map.insert h.known r.id (moved d r.id k.instance a) in Entered d c h.plain h.known (entry_of r.id by) q known → SameRoots m n → Kept h n q known h.locked → Leaves (says.Answers a (Some by)) n
       steps_on a by q n left ok leads roots kept =
           let j = moved d r.id k.instance a in
           let more = moved_more d r.id k.instance a in
