@@ -2,7 +2,6 @@
 use Rattle.std.proofs.Common.{◌≡◌, inl, ℕ, Bool, true, false, List, [], ◌∷◌, ◌++◌, if◌then◌else◌, Option, None, Some, refl, ap, sym, ◌∙◌, subst, is_some, length, append_assoc}
 use Rattle.std.specs.FinMap as map
 use Rattle.beldi_book.specs.declared.entry.Entry.TheVariants.{Step}
-use Rattle.beldi_book.specs.declared.entry.Entry.{Entry}
 use Rattle.beldi_call.specs.Async.{async_asks, async_says, open_says, note_says}
 use Rattle.beldi_call.specs.declared.async_call.AsyncAt.TheVariants as async
 use Rattle.beldi_call.specs.declared.async_call.AsyncAt.{AsyncAt}
@@ -214,16 +213,16 @@ module _ (d : Deployment) (c : Core) (m : Rows) (i : ℕ) (r : Run) (g : Begun) 
         own : row_key ≡ intent_key callee f
         own = λ j. record { home = sym (ap (λ t. if t then 0 else f) (no_root r.id g.machine.steps)) j; kind = kinds.Intent callee }
 
-    looks_later : (book : List Entry) (known : Known) (o : Run) → run_called r ≡ Some o → KnowsAt d book known o o.at
-    looks_later book known o started = by_hops (has_callees r.id) (sym (ap (callee_at r) at_is ∙ ap (callee_by r g.tx g.machine.steps) is) ∙ started)
+    looks_later : (n : Rows) (o : Run) → run_called r ≡ Some o → KnowsAt d n h.plain c.book h.known o o.at
+    looks_later n o started = by_hops (has_callees r.id) (sym (ap (callee_at r) at_is ∙ ap (callee_by r g.tx g.machine.steps) is) ∙ started)
       where
-        by_hops : (b : Bool) → (if b then Some (record { id = callee; func = f; deadline = r.deadline; at = Looks }) else None) ≡ Some o → KnowsAt d book known o o.at
-        by_hops true same = subst (λ (z : Run). KnowsAt d book known z z.at) (same_some same) tt
+        by_hops : (b : Bool) → (if b then Some (record { id = callee; func = f; deadline = r.deadline; at = Looks }) else None) ≡ Some o → KnowsAt d n h.plain c.book h.known o o.at
+        by_hops true same = subst (λ (z : Run). KnowsAt d n h.plain c.book h.known z z.at) (same_some same) tt
         by_hops false same = cc
 
     note_says_so : (n : Rows) → SameRoots m n → Stays h n → (b : back.Back) → Left (async_answer async.Note (note_says b)) n
-    note_says_so n roots rows Set = let a = answered_so there in starts_one d c m i r g h live k finds out (Async f v) is n Done a.0 roots rows a.1 looks_later
-    note_says_so n roots rows AlreadySet = let a = answered_so there in starts_one d c m i r g h live k finds out (Async f v) is n Done a.0 roots rows a.1 looks_later
+    note_says_so n roots rows Set = let a = answered_so there in starts_one d c m i r g h live k finds out (Async f v) is n Done a.0 roots rows a.1 (looks_later n)
+    note_says_so n roots rows AlreadySet = let a = answered_so there in starts_one d c m i r g h live k finds out (Async f v) is n Done a.0 roots rows a.1 (looks_later n)
     note_says_so n roots rows Absent = goes_to_stage async.Note n roots rows there
 
     note_turn : AfterQuery d h.plain c.now m (λ t. turn_next c i r (turned_by d r g (async_answer async.Note (async_says f async.Note t)))) (registered_asks r.func place)

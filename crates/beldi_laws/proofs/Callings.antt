@@ -107,11 +107,11 @@ module _ (d : Deployment) (c : Core) (m : Rows) (i : ℕ) (r : Run) (g : Begun) 
   looks_ok : StageOk (tx_after d r.id k.instance k.answers) r.id g.caller (Call f v) (stage.Call call.Look)
   looks_ok = call_ok (tx_after d r.id k.instance k.answers) r.id g.caller f v call.Look hops
 
-  starts : (book : List Entry) (known : Known) → Sane d known → map.get known r.id ≡ Some k.instance → is_some (map.get known callee) ≡ true → (o : Run) → run_called r ≡ Some o → KnowsAt d book known o o.at
-  starts book known sane made there o started = callee_knows d book known sane r g.tx g.machine.steps g.machine.effect f v k.instance is made k.func (tx_step_is d c.book h.known r g k apart) call_here there o (sym (ap (callee_at r) at_is) ∙ started)
+  starts : (n : Rows) (p : PlainState) (book : List Entry) (known : Known) → Sane d known → map.get known r.id ≡ Some k.instance → is_some (map.get known callee) ≡ true → (o : Run) → run_called r ≡ Some o → KnowsAt d n p book known o o.at
+  starts n p book known sane made there o started = callee_knows d n p book known sane r g.tx g.machine.steps g.machine.effect f v k.instance is made k.func (tx_step_is d c.book h.known r g k apart) call_here there o (sym (ap (callee_at r) at_is) ∙ started)
 
-  starts_here : is_some (map.get h.known callee) ≡ true → (o : Run) → run_called r ≡ Some o → KnowsAt d c.book h.known o o.at
-  starts_here there = starts c.book h.known h.sane k.made there
+  starts_here : is_some (map.get h.known callee) ≡ true → (o : Run) → run_called r ≡ Some o → KnowsAt d m h.plain c.book h.known o o.at
+  starts_here there = starts m h.plain c.book h.known h.sane k.made there
 
   waits : is_some (map.get h.known callee) ≡ true → Left (Waits (wait.Result callee)) m
   waits there = awaits d c m i r g h live k callee m (λ t. refl) (as_it_was h) (λ e. starts_here there)
@@ -163,7 +163,7 @@ module _ (d : Deployment) (c : Core) (m : Rows) (i : ℕ) (r : Run) (g : Begun) 
         let leads = call_entered d c m i r g h live k finds true f v is hops new left out (next None inner) in
         let kept = kept_opened None inner state leads.grows refl (log_values h key row refl) (callee_goes d c m i r g h live k finds true f v is hops new left out) in
         entered d c m rows_now i r h live roots (turned_by d r g (Opens (Some mark.Step))) mark.Step state (next None inner) h.locked refl leads (λ o told. cc)
-        (looks None inner (c.book ++ Step r.id ∷ []) state kept) (λ e. starts (c.book ++ Step r.id ∷ []) (next None inner) (sane None inner) (made None inner) (stays_made None inner)) kept
+        (looks None inner (c.book ++ Step r.id ∷ []) state kept) (λ e. starts rows_now state (c.book ++ Step r.id ∷ []) (next None inner) (sane None inner) (made None inner) (stays_made None inner)) kept
 
     -- inside, by none
     opens_inside : (o : RunTx) → g.tx ≡ Some o → Left (Opens None) rows_now
@@ -176,7 +176,7 @@ module _ (d : Deployment) (c : Core) (m : Rows) (i : ℕ) (r : Run) (g : Begun) 
         (absent_here d c m r g h k true f v is new left) (set_shadows m key row refl) in
         let kept = kept_opened (Some t) (sym now) h.plain (grows_self h.plain.made) refl (log_values h key row refl) goes in
         quiet d c m rows_now i r h live roots (turned_by d r g (Opens None)) (next (Some t) (sym now)) h.locked refl refl
-        (looks (Some t) (sym now) c.book h.plain kept) (λ e. starts c.book (next (Some t) (sym now)) (sane (Some t) (sym now)) (made (Some t) (sym now)) (stays_made (Some t) (sym now))) kept
+        (looks (Some t) (sym now) c.book h.plain kept) (λ e. starts rows_now h.plain c.book (next (Some t) (sym now)) (sane (Some t) (sym now)) (made (Some t) (sym now)) (stays_made (Some t) (sym now))) kept
 
     pub opens_now : Left (Opens (step_mark g.tx true)) rows_now
     opens_now = by_tx g.tx refl

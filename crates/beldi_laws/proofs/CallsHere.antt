@@ -105,20 +105,20 @@ made_with d known sane id func step w f v q j t made func_is inner here at =
     record { instance = j; made = at; body = λ i. record { func = parts.1 i; args = parts.2 i; tx = sym within i; from = from i } }
 
 -- a run of one that is waited for registers it
-module _ (d : Deployment) (book : List Entry) (known : Known) (sane : Sane d known) (r : Run) (o : Option RunTx) (step : ℕ) (e : Effect) (f : ℕ) (v : Value) (q : Instance) (is : e ≡ Call f v) (made : map.get known r.id ≡ Some q) (func : q.func ≡ r.func) (inner : tx_at d r.id q step ≡ run_tx r.id r.func o)
+module _ (d : Deployment) (m : Rows) (p : PlainState) (book : List Entry) (known : Known) (sane : Sane d known) (r : Run) (o : Option RunTx) (step : ℕ) (e : Effect) (f : ℕ) (v : Value) (q : Instance) (is : e ≡ Call f v) (made : map.get known r.id ≡ Some q) (func : q.func ≡ r.func) (inner : tx_at d r.id q step ≡ run_tx r.id r.func o)
     (here : effect_before d q step ≡ Call f v) (there : is_some (map.get known (child_of r.id step)) ≡ true) (k : Run) (started : callee_by r o step e ≡ Some k) where
   abbrev body : Body
   body = callee_body r.id r.func step f v (run_tx r.id r.func o) true
 
-  by_hops : (b : Bool) → (if b then Some (record { id = child_of r.id step; func = f; deadline = r.deadline; at = Registers body }) else None) ≡ Some k → KnowsAt d book known (record { id = child_of r.id step; func = f; deadline = r.deadline; at = Registers body }) (Registers body) → KnowsAt d book known k k.at
-  by_hops true same knows = subst (λ z. KnowsAt d book known z z.at) (same_some same) knows
+  by_hops : (b : Bool) → (if b then Some (record { id = child_of r.id step; func = f; deadline = r.deadline; at = Registers body }) else None) ≡ Some k → KnowsAt d m p book known (record { id = child_of r.id step; func = f; deadline = r.deadline; at = Registers body }) (Registers body) → KnowsAt d m p book known k k.at
+  by_hops true same knows = subst (λ z. KnowsAt d m p book known z z.at) (same_some same) knows
   by_hops false same knows = cc
 
-  by_callee : (u : Option Instance) → map.get known (child_of r.id step) ≡ u → is_some u ≡ true → KnowsAt d book known k k.at
+  by_callee : (u : Option Instance) → map.get known (child_of r.id step) ≡ u → is_some u ≡ true → KnowsAt d m p book known k k.at
   by_callee None at there = cc
   by_callee (Some j) at there = by_hops (has_callees r.id) (sym (ap (callee_by r o step) is) ∙ started) (record { body = made_with d known sane r.id r.func step true f v q j (run_tx r.id r.func o) made func inner here at; func = refl; callee = no_root r.id step })
 
-  pub callee_knows : KnowsAt d book known k k.at
+  pub callee_knows : KnowsAt d m p book known k k.at
   callee_knows = by_callee (map.get known (child_of r.id step)) refl there
 
 -- ---- a call that a run stands at, whether it waits for it or not

@@ -76,7 +76,7 @@ use Rattle.beldi_row.specs.declared.key.RowKey.{RowKey}
 use Rattle.beldi_laws.proofs.Operations.{operation_turn}
 use Rattle.beldi_laws.proofs.Readings.{ask_turn, walk_turn, keep_turn}
 use Rattle.beldi_plain.specs.Guard.{touched_by}
-use Rattle.beldi_laws.specs.Inside.{Inside, InsideAt, AtStage, has_finish}
+use Rattle.beldi_laws.specs.Inside.{Inside, AtStage, has_finish}
 use Rattle.beldi_laws.specs.Right.{Right, Knows, KnowsAt, RunAt, StageOk, PlaceOk, SeenDone, MarkOk}
 use Rattle.beldi_known.specs.Known.{Known, at_once as with_once, ended_by}
 use Rattle.beldi_known.specs.Matches.{has_ended}
@@ -147,13 +147,13 @@ module _ (d : Deployment) (c : Core) (m : Rows) (i : ℕ) (h : Right d c m) (r :
     stage_turn (Some t) (End commit) (stage.End v) inside is ok at done mark here = end_turn d c m i r g h live k finds t inside commit v is ok here
     stage_turn t e s inside is ok at done mark here = absurd ok
 
-  at_turn : (at : standing.RunAt) → r.at ≡ at → KnowsAt d c.book h.known r at → InsideAt d m h.plain h.known r at → AfterQuery d h.plain c.now m (λ t. turn_next c i r (told_at d (count_changes c.book) r at t)) (asks_at r at)
-  at_turn Looks is k finds = look_turn d c m i r h live
-  at_turn (Registers b) is k finds = register_turn d c m i r h live b k
-  at_turn (Begins g) is k finds = stage_turn g is k finds (tx_after d r.id k.instance k.answers) g.machine.effect g.stage refl refl k.run_stage k.run_place k.run_done k.run_mark finds.here
+  at_turn : (at : standing.RunAt) → r.at ≡ at → KnowsAt d m h.plain c.book h.known r at → AfterQuery d h.plain c.now m (λ t. turn_next c i r (told_at d (count_changes c.book) r at t)) (asks_at r at)
+  at_turn Looks is k = look_turn d c m i r h live
+  at_turn (Registers b) is k = register_turn d c m i r h live b k
+  at_turn (Begins g) is k = stage_turn g is k.0 k.1 (tx_after d r.id k.0.instance k.0.answers) g.machine.effect g.stage refl refl k.0.run_stage k.0.run_place k.0.run_done k.0.run_mark k.1.here
 
   turn_made : AfterQuery d h.plain c.now m (λ t. run_next d c i t (Some r)) (run_asks r)
-  turn_made = let at = subst (RunAt d m h.plain c.book h.known) live (h.runs.runs i) in at_turn r.at refl at.0 at.1
+  turn_made = at_turn r.at refl (subst (RunAt d m h.plain c.book h.known) live (h.runs.runs i))
 
   -- nobody hears what it told: it leaves what the turn leaves, without the run and without one that it started
   turn_unheard : AfterQuery d h.plain c.now m (λ t. (unheard_next d c i t (Some r), seen.Dropped)) (run_asks r)
@@ -161,7 +161,7 @@ module _ (d : Deployment) (c : Core) (m : Rows) (i : ℕ) (h : Right d c m) (r :
 
 -- ---- a run more
 abbrev with_new : (d : Deployment) (c : Core) (m : Rows) (id : IntentId) (f : ℕ) → is_crowded c ≡ false → Right d c m → Right d (with_run c (new_run d c id f)) m
-with_new d c m id f few h = with_runs h (with_run c (new_run d c id f)) refl refl (runs_more d m h.plain c.book h.known c.runs c.last_run (new_run d c id f) (leb-false most_runs (map.len c.runs) few) (tt, tt) h.runs)
+with_new d c m id f few h = with_runs h (with_run c (new_run d c id f)) refl refl (runs_more d m h.plain c.book h.known c.runs c.last_run (new_run d c id f) (leb-false most_runs (map.len c.runs) few) tt h.runs)
 
 -- ---- a ticket
 roots_apart : (t u : ℕ) → is_eq (id_cmp (root_of t) (root_of u)) ≡ false → t ≡ u → ⊥
@@ -253,7 +253,7 @@ module _ (d : Deployment) (c : Core) (m : Rows) (h : Right d c m) (t f : ℕ) (a
       record {
         right = right_by {q = state} {next = next} {locked = h.locked} leads.bounded leads.legal leads.guarded kept.shows
             (λ u. replaced m (root_key t) (Some (rows.Intent (bound_row i))) (ap is_some (sym is)) u ∙ h.tickets u)
-            (runs_more d n state (c.book ++ Start t f a ∷ []) next c.runs c.last_run (new_run d c own_id f) (leb-false most_runs (map.len c.runs) room) (tt, tt)
+            (runs_more d n state (c.book ++ Start t f a ∷ []) next c.runs c.last_run (new_run d c own_id f) (leb-false most_runs (map.len c.runs) room) tt
             (runs_on d m n h.plain state c.book (c.book ++ Start t f a ∷ []) h.known next c.runs c.last_run kept.grows leads.places kept.others h.runs));
         goes_on = leads.grows;
         there = refl;

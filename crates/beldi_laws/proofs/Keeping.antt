@@ -41,7 +41,7 @@ use Rattle.beldi_laws.proofs.Shown.{legal_sane, settled, shown}
 
 -- rows as they were
 pub as_it_was : {d : Deployment} {c : Core} {m : Rows} (h : Right d c m) → Stays h m
-as_it_was {d} {m} h = record { shows = shown h; grows = grows_self h.known; frame = frame_still d m h.plain h.plain h.known h.known (items_stay d m h.plain h.plain h.known refl) (nobody_new d h.known); others = λ q knows finds. finds }
+as_it_was {d} {m} h = record { shows = shown h; grows = grows_self h.known; frame = frame_still d m h.plain h.plain h.known h.known (items_stay d m h.plain h.plain h.known refl) (nobody_new d h.known); others = λ q g knows finds. finds }
 
 -- the shadows are as before
 abbrev pub SameShadows : Rows → Rows → Type 0

@@ -39,7 +39,7 @@ use Rattle.beldi_step.specs.Host.{put_run, most_runs}
 use Rattle.beldi_call.specs.declared.async_call.AsyncAt.TheVariants as async
 use Rattle.beldi_call.specs.declared.call.CallAt.TheVariants as call
 use Rattle.beldi_laws.specs.Right.{WasThere, Keeps, PlaceOk, SeenDone, Knows, KnowsAt, RunAt, RunsMatch, StageOk, open_of}
-use Rattle.beldi_laws.specs.Inside.{InsideAt}
+use Rattle.beldi_laws.specs.Inside.{Inside}
 use Rattle.beldi_row.specs.Table.{Rows}
 use Rattle.beldi_known.specs.Rows.{IsBodyOf, body_of}
 use Rattle.beldi_known.specs.Known.{Known, moved}
@@ -115,18 +115,18 @@ body_on b None u w h = let clash = h.made in cc
 body_on b (Some i) None w h = absurd w
 body_on b (Some i) (Some j) w h = record { instance = j; made = refl; body = h.body ∙ ap body_of (same_some (sym h.made)) ∙ λ k. record { func = sym w.func k; args = sym w.args k; tx = sym w.within k; from = sym w.from k } }
 
-knows_on : (d : Deployment) (book more : List Entry) (p q : Known) (r : Run) (at : standing.RunAt) → Grows p q → PlacesOn d book more p q r → KnowsAt d book p r at → KnowsAt d more q r at
-knows_on d book more p q r Looks w on h = tt
-knows_on d book more p q r (Registers b) w on h = record { body = body_on b (map.get p r.id) (map.get q r.id) (w r.id) h.body; func = h.func; callee = h.callee }
-knows_on d book more p q r (Begins g) w on h = knows_more d book more p q r g h (map.get q r.id) refl (subst (λ o. GrownAt o (map.get q r.id)) h.made (w r.id)) w on
-
--- a run that is live finds in the rows n what it has to, where it did in the rows m
+-- a run that has begun finds in the rows n what it has to, where it did in the rows m
 abbrev pub InsideOn : Deployment → Rows → Rows → PlainState → PlainState → List Entry → Known → Known → Type 0
-InsideOn d m n p q book known next = (r : Run) → KnowsAt d book known r r.at → InsideAt d m p known r r.at → InsideAt d n q next r r.at
+InsideOn d m n p q book known next = (r : Run) (g : Begun) → Knows d book known r g → Inside d m p known r g → Inside d n q next r g
 
-run_on : (d : Deployment) (m n : Rows) (x y : PlainState) (book more : List Entry) (p q : Known) (o : Option Run) → Grows p q → ((r : Run) → PlacesOn d book more p q r) → InsideOn d m n x y book p q → RunAt d m x book p o → RunAt d n y more q o
+knows_on : (d : Deployment) (m n : Rows) (x y : PlainState) (book more : List Entry) (p q : Known) (r : Run) (at : standing.RunAt) → Grows p q → PlacesOn d book more p q r → InsideOn d m n x y book p q → KnowsAt d m x book p r at → KnowsAt d n y more q r at
+knows_on d m n x y book more p q r Looks w on finds h = tt
+knows_on d m n x y book more p q r (Registers b) w on finds h = record { body = body_on b (map.get p r.id) (map.get q r.id) (w r.id) h.body; func = h.func; callee = h.callee }
+knows_on d m n x y book more p q r (Begins g) w on finds h = (knows_more d book more p q r g h.0 (map.get q r.id) refl (subst (λ o. GrownAt o (map.get q r.id)) h.0.made (w r.id)) w on, finds r g h.0 h.1)
+
+pub run_on : (d : Deployment) (m n : Rows) (x y : PlainState) (book more : List Entry) (p q : Known) (o : Option Run) → Grows p q → ((r : Run) → PlacesOn d book more p q r) → InsideOn d m n x y book p q → RunAt d m x book p o → RunAt d n y more q o
 run_on d m n x y book more p q None w on finds h = tt
-run_on d m n x y book more p q (Some r) w on finds h = (knows_on d book more p q r r.at w (on r) h.0, finds r h.0 h.1)
+run_on d m n x y book more p q (Some r) w on finds h = knows_on d m n x y book more p q r r.at w (on r) finds h
 
 -- a change at the end leaves all places as they are
 there_last : (d : Deployment) (book : List Entry) (e : Entry) (q : PlainState) → IsLast d book e q → (id : IntentId) (answers : List Answer) (x : Item) (v : Value) (s : ℕ) → s ≤ count_changes book → WasThere d book id answers x v s → WasThere d (book ++ e ∷ []) id answers x v s
@@ -247,7 +247,7 @@ runs_less d m p book known live last i h = record {
 }
 
 -- a run is new
-pub runs_more : (d : Deployment) (m : Rows) (p : PlainState) (book : List Entry) (known : Known) (live : FinMap nat_cmp Run) (last : ℕ) (r : Run) → map.len live < most_runs → KnowsAt d book known r r.at × InsideAt d m p known r r.at → RunsMatch d m p book known live last → RunsMatch d m p book known (map.insert live (last + 1) r) (last + 1)
+pub runs_more : (d : Deployment) (m : Rows) (p : PlainState) (book : List Entry) (known : Known) (live : FinMap nat_cmp Run) (last : ℕ) (r : Run) → map.len live < most_runs → KnowsAt d m p book known r r.at → RunsMatch d m p book known live last → RunsMatch d m p book known (map.insert live (last + 1) r) (last + 1)
 runs_more d m p book known live last r room here h = record {
   numbers = changed nat_cmp-IsAntisymmetric live (map.insert live (last + 1) r) (last + 1) (Some r) (get-insert nat_cmp_total live (last + 1) r) (λ n o. IsTrue (is_some o) → (1 ≤ n) × (n ≤ last + 1))
       (λ t. (omega arith, omega arith)) (λ n t. let b = h.numbers n t in (b.0, omega (arith, b.1)));

@@ -21,13 +21,12 @@ use Rattle.beldi_plain.specs.Legal.{run_of}
 use Rattle.beldi_step.specs.declared.event.Seen.{Seen}
 use Rattle.beldi_step.specs.declared.event.Seen.TheVariants as seen
 use Rattle.beldi_step.specs.declared.run.Mark.{Mark}
-use Rattle.beldi_step.specs.declared.run.RunTx.{RunTx}
 use Rattle.beldi_step.specs.declared.run.Run.{Run}
 use Rattle.beldi_step.specs.declared.run.Wait.{Wait}
 use Rattle.beldi_step.specs.declared.run.Wait.TheVariants as wait
 use Rattle.beldi_intent.specs.Intent.{root_key}
 use Rattle.beldi_step.specs.declared.run.TurnSays.{TurnSays}
-use Rattle.beldi_step.specs.Run.{Turned, says_of, callee_of, callee_at, callee_by, callee_body, tx_at}
+use Rattle.beldi_step.specs.Run.{Turned, says_of, callee_of}
 use Rattle.beldi_step.specs.Host.{Core, most_runs, is_crowded, has_run, with_run, put_run, entry_of, marked, made, started, may_start, after_turn, turned_core, turn_next, without_run}
 use borrow.Author.Tests.{leb-false}
 use Rattle.std.proofs.lemmas.Bool.{or_parts}
@@ -46,12 +45,7 @@ use Rattle.beldi_plain.specs.Guard.{IsFree, IsGuarded}
 use Rattle.beldi_plain.specs.Plain.{nothing}
 use Rattle.beldi_known.specs.Known.{Known}
 use Rattle.beldi_laws.proofs.Shown.{Shows, shown}
-use Rattle.beldi_laws.specs.Inside.{InsideAt, Frame}
-use Rattle.beldi_lang.specs.declared.effect.Effect.{Effect}
-use Rattle.beldi_lang.specs.declared.effect.Effect.TheVariants.{Call, Async}
-use Rattle.beldi_value.specs.Id.{has_callees, child_of}
-use Rattle.beldi_step.specs.declared.run.RunAt as standing
-use Rattle.beldi_step.specs.declared.run.RunAt.TheVariants.{Looks, Registers, Begins}
+use Rattle.beldi_laws.specs.Inside.{Frame}
 use Rattle.std.specs.Prelude.{nat_lt, nat_le}
 
 -- what an event came to, as an answer: out of memory it tells no more than one that was lost
@@ -155,9 +149,9 @@ told_reply q t (Some u) h s o e = let both = same_some e in ap (reply_of q) (ap 
 
 -- ---- a run more
 -- a run that knows what it has to is started, where there is a place
-pub with_one : (d : Deployment) (p : PlainState) (c : Core) (m : Rows) (x : Seen) (r : Run) → is_crowded c ≡ false → (h : After d p c m x) → KnowsAt d c.book h.right.known r r.at → InsideAt d m h.right.plain h.right.known r r.at → After d p (with_run c r) m x
-with_one d p c m x r room h knows finds = record {
-  right = with_runs h.right (with_run c r) refl refl (runs_more d m h.right.plain c.book h.right.known c.runs c.last_run r (leb-false most_runs (map.len c.runs) room) (knows, finds) h.right.runs);
+pub with_one : (d : Deployment) (p : PlainState) (c : Core) (m : Rows) (x : Seen) (r : Run) → is_crowded c ≡ false → (h : After d p c m x) → KnowsAt d m h.right.plain c.book h.right.known r r.at → After d p (with_run c r) m x
+with_one d p c m x r room h knows = record {
+  right = with_runs h.right (with_run c r) refl refl (runs_more d m h.right.plain c.book h.right.known c.runs c.last_run r (leb-false most_runs (map.len c.runs) room) knows h.right.runs);
   goes_on = h.goes_on;
   there = h.there;
   reply = h.reply;
@@ -175,26 +169,8 @@ starts_by (Some (wait.Held o)) starts = false
 starts_by (Some (wait.Result j)) starts = true
 
 -- that run knows what it has to
-abbrev pub KnowsCallee : Deployment → List Entry → Known → Run → Turned → Option Wait → Type 0
-KnowsCallee d book known r s w = starts_by w s.starts ≡ true → (k : Run) → callee_of r ≡ Some k → KnowsAt d book known k k.at
-
--- it has not begun, so it has found nothing
-callee_inside : (d : Deployment) (m : Rows) (p : PlainState) (known : Known) (r k : Run) → callee_of r ≡ Some k → InsideAt d m p known k k.at
-callee_inside d m p known r k = at_stand r.at
-  where
-    by_hops : (b : Bool) (id : IntentId) (f deadline : ℕ) (at : standing.RunAt) → ((z : Run) → InsideAt d m p known z at) → (if b then Some (record { id = id; func = f; deadline = deadline; at = at }) else None) ≡ Some k → InsideAt d m p known k k.at
-    by_hops true id f deadline at none is = subst (λ (z : Run). InsideAt d m p known z z.at) (same_some is) (none (record { id = id; func = f; deadline = deadline; at = at }))
-    by_hops false id f deadline at none is = cc
-
-    by_effect : (o : Option RunTx) (step : ℕ) (e : Effect) → callee_by r o step e ≡ Some k → InsideAt d m p known k k.at
-    by_effect o step (Call f a) is = by_hops (has_callees r.id) (child_of r.id step) f r.deadline (Registers (callee_body r.id r.func step f a (tx_at r.id r.func o) true)) (λ z. tt) is
-    by_effect o step (Async f a) is = by_hops (has_callees r.id) (child_of r.id step) f r.deadline Looks (λ z. tt) is
-    by_effect o step e is = cc
-
-    at_stand : (at : standing.RunAt) → callee_at r at ≡ Some k → InsideAt d m p known k k.at
-    at_stand Looks is = cc
-    at_stand (Registers b) is = cc
-    at_stand (Begins g) is = by_effect g.tx g.machine.steps g.machine.effect is
+abbrev pub KnowsCallee : Deployment → Rows → PlainState → List Entry → Known → Run → Turned → Option Wait → Type 0
+KnowsCallee d m p book known r s w = starts_by w s.starts ≡ true → (k : Run) → callee_of r ≡ Some k → KnowsAt d m p book known k k.at
 
 -- what follows a turn whose core is so tells nothing but the outcome that the turn gave
 module _ (d : Deployment) (p : PlainState) (c : Core) (m : Rows) (r : Run) (s : Turned) (h : Right d c m) (goes_on : Grows p.made h.plain.made)
@@ -211,34 +187,30 @@ module _ (d : Deployment) (p : PlainState) (c : Core) (m : Rows) (r : Run) (s : 
   none_more : AfterMade (c, None)
   none_more = told_so (made r.id (says_of s) (c, None)).1 refl refl
 
-  after_started : (o : Option Run) → ((k : Run) → o ≡ Some k → KnowsAt d c.book h.known k k.at × InsideAt d m h.plain h.known k k.at) → is_crowded c ≡ false → AfterMade (started c o)
+  after_started : (o : Option Run) → ((k : Run) → o ≡ Some k → KnowsAt d m h.plain c.book h.known k k.at) → is_crowded c ≡ false → AfterMade (started c o)
   unfolding told_so
   after_started None knows room = none_more
-  after_started (Some k) knows room = let x = (made r.id (says_of s) (started c (Some k))).1 in with_one d p c m x k room (told_so x refl refl) (knows k refl).0 (knows k refl).1
+  after_started (Some k) knows room = let x = (made r.id (says_of s) (started c (Some k))).1 in with_one d p c m x k room (told_so x refl refl) (knows k refl)
 
-  after_opened : (o : Option Run) → ((k : Run) → o ≡ Some k → KnowsAt d c.book h.known k k.at × InsideAt d m h.plain h.known k k.at) → AfterMade (may_start c o)
+  after_opened : (o : Option Run) → ((k : Run) → o ≡ Some k → KnowsAt d m h.plain c.book h.known k k.at) → AfterMade (may_start c o)
   after_opened None knows = none_more
   after_opened (Some k) knows = if_plan AfterMade (has_run c.runs k.id || is_crowded c) _ _ (λ t. none_more) (λ e. after_started (Some k) knows (or_parts (has_run c.runs k.id) (is_crowded c) e).1)
-
-  -- a run of what is called has found nothing yet
-  with_found : (w : Bool) → (w ≡ true → (k : Run) → callee_of r ≡ Some k → KnowsAt d c.book h.known k k.at) → w ≡ true → (k : Run) → callee_of r ≡ Some k → KnowsAt d c.book h.known k k.at × InsideAt d m h.plain h.known k k.at
-  with_found w knows t k is = (knows t k is, callee_inside d m h.plain h.known r k is)
 
   AfterThat : Core × Seen → Type 0
   AfterThat z = After d p z.0 m z.1
 
-  pub followed : (w : Option Wait) → KnowsCallee d c.book h.known r s w → let z = after_turn c (callee_of r) r.id (says_of s) w in After d p z.0 m z.1
+  pub followed : (w : Option Wait) → KnowsCallee d m h.plain c.book h.known r s w → let z = after_turn c (callee_of r) r.id (says_of s) w in After d p z.0 m z.1
   unfolding AfterThat
-  followed None knows = if_plan AfterMade s.starts _ _ (λ t. after_opened (callee_of r) (with_found s.starts knows t)) (λ t. none_more)
+  followed None knows = if_plan AfterMade s.starts _ _ (λ t. after_opened (callee_of r) (knows t)) (λ t. none_more)
   followed (Some (wait.Held u)) knows = silent (seen.Held u) refl refl
   followed (Some (wait.Result j)) knows =
       if_plan AfterThat (has_run c.runs j) _ _ (λ t. silent (seen.NotYet j) refl refl)
-      (λ t. if_plan AfterThat (is_crowded c) _ _ (λ u. silent seen.Crowded refl refl) (λ u. after_started (callee_of r) (with_found true knows refl) u))
+      (λ t. if_plan AfterThat (is_crowded c) _ _ (λ u. silent seen.Crowded refl refl) (λ u. after_started (callee_of r) (knows refl) u))
 
 -- ---- a run turned
 module _ (d : Deployment) (c : Core) (m n : Rows) (i : ℕ) (r : Run) (h : Right d c m) (live : map.get c.runs i ≡ Some r) (roots : SameRoots m n) where
   -- it made no entry
-  pub quiet : (s : Turned) (next : Known) (after : IntentId → Bool) → s.mark ≡ None → s.reply ≡ None → RunAt d n h.plain c.book next s.next → KnowsCallee d c.book next r s s.wait → Kept h n h.plain next after → AfterTurn d h.plain c i r s n
+  pub quiet : (s : Turned) (next : Known) (after : IntentId → Bool) → s.mark ≡ None → s.reply ≡ None → RunAt d n h.plain c.book next s.next → KnowsCallee d n h.plain c.book next r s s.wait → Kept h n h.plain next after → AfterTurn d h.plain c i r s n
   quiet s next after none silent run callee kept =
       let book : c.book ≡ marked c.book r.id s.mark = sym (append-nil c.book) ∙ ap (marked c.book r.id) (sym none) in
       followed d h.plain (turned_core c i r.id s) n r s
@@ -247,11 +219,11 @@ module _ (d : Deployment) (c : Core) (m n : Rows) (i : ℕ) (r : Run) (h : Right
       (runs_on d m n h.plain h.plain c.book c.book h.known next c.runs c.last_run kept.grows (places_same d c.book h.known next) kept.others h.runs))))
       (grows_self h.plain.made)
       (λ t u e. let clash = sym (ap (reply_told r.id.ticket) silent) ∙ e in cc)
-      s.wait (subst (λ b. KnowsCallee d b next r s s.wait) book callee)
+      s.wait (subst (λ b. KnowsCallee d n h.plain b next r s s.wait) book callee)
 
   -- it made this entry, which led to the plain state q
   pub entered : (s : Turned) (k : Mark) (q : PlainState) (next : Known) (after : IntentId → Bool) → s.mark ≡ Some k → Entered d c h.plain h.known (entry_of r.id k) q next → ((v : Outcome) → s.reply ≡ Some v → reply_of q r.id.ticket ≡ Some v) → RunAt d n q (c.book ++ entry_of r.id k ∷ []) next s.next
-      → KnowsCallee d (c.book ++ entry_of r.id k ∷ []) next r s s.wait → Kept h n q next after → AfterTurn d h.plain c i r s n
+      → KnowsCallee d n q (c.book ++ entry_of r.id k ∷ []) next r s s.wait → Kept h n q next after → AfterTurn d h.plain c i r s n
   entered s k q next after is leads reply run callee kept =
       let more : List Entry = c.book ++ entry_of r.id k ∷ [] in
       let book : more ≡ marked c.book r.id s.mark = ap (marked c.book r.id) (sym is) in
@@ -261,7 +233,7 @@ module _ (d : Deployment) (c : Core) (m n : Rows) (i : ℕ) (r : Run) (h : Right
       (runs_on d m n h.plain q c.book more h.known next c.runs c.last_run kept.grows leads.places kept.others h.runs))))
       leads.grows
       (told_reply q r.id.ticket s.reply reply)
-      s.wait (subst (λ b. KnowsCallee d b next r s s.wait) book callee)
+      s.wait (subst (λ b. KnowsCallee d n q b next r s s.wait) book callee)
 
 -- ---- nobody hears what a turn told: its run is over, and none is started
 -- what follows a turn leaves its core, or one run more

@@ -45,8 +45,6 @@ use Rattle.beldi_step.specs.declared.run.OpenTx.{OpenTx}
 use Rattle.beldi_step.specs.declared.run.RunTx.{RunTx}
 use Rattle.beldi_step.specs.declared.run.RunTx.TheVariants.{Own}
 use Rattle.beldi_step.specs.declared.run.Run.{Run}
-use Rattle.beldi_step.specs.declared.run.RunAt as standing
-use Rattle.beldi_step.specs.declared.run.RunAt.TheVariants.{Looks, Registers, Begins}
 use Rattle.beldi_step.specs.declared.run.Stage.{Stage}
 use Rattle.beldi_step.specs.declared.run.Stage.TheVariants as stage
 use Rattle.beldi_step.specs.Run.{begin_of, place_of, tx_of}
@@ -62,8 +60,8 @@ use Rattle.beldi_known.proofs.Lines.{front_is, in_tx, plain_owner}
 use Rattle.beldi_order.proofs.Ends.{along_append, ended_stays}
 use Rattle.beldi_known.proofs.Locks.{tx_self}
 use Rattle.beldi_known.proofs.Participants.{now_open}
-use Rattle.beldi_laws.specs.Inside.{AtStage, Found, Frame, InItem, InOperation, Inside, InsideAt, IsWriting, Released, end_walk}
-use Rattle.beldi_laws.specs.Right.{Right, Knows, KnowsAt, StageOk, is_past, open_of}
+use Rattle.beldi_laws.specs.Inside.{AtStage, Found, Frame, InItem, InOperation, Inside, IsWriting, Released, end_walk}
+use Rattle.beldi_laws.specs.Right.{Right, Knows, StageOk, is_past, open_of}
 use Rattle.beldi_laws.specs.Stands.{key_in}
 use Rattle.beldi_laws.proofs.Grown.{tx_stays}
 use Rattle.beldi_laws.proofs.InTx.{no_begin, wants_one}
@@ -363,13 +361,8 @@ module _ (d : Deployment) (c : Core) (m n : Rows) (h : Right d c m) (q : PlainSt
 
 -- what others have found stays
 pub kept_by : (d : Deployment) (c : Core) (m n : Rows) (h : Right d c m) (q : PlainState) (next : Known) (after : IntentId → Bool) → Shows d n q next after → Grows h.known next → Frame d m n h.plain q h.known next → Kept h n q next after
-kept_by d c m n h q next after shows grows frame = record { shows = shows; grows = grows; frame = frame; others = λ r. others r r.at }
+kept_by d c m n h q next after shows grows frame = record { shows = shows; grows = grows; frame = frame; others = λ r g k. grown r g k (map.get next r.id) refl (subst (λ o. GrownAt o (map.get next r.id)) k.made (grows r.id)) }
   where
     grown : (r : Run) (g : Begun) (k : Knows d c.book h.known r g) (o : Option Instance) → map.get next r.id ≡ o → GrownAt (Some k.instance) o → Inside d m h.plain h.known r g → Inside d n q next r g
     grown r g k None there w s = absurd w
     grown r g k (Some j) there w s = found d c m n h q next after shows grows frame r g k j there w s
-
-    others : (r : Run) (at : standing.RunAt) → KnowsAt d c.book h.known r at → InsideAt d m h.plain h.known r at → InsideAt d n q next r at
-    others r Looks k s = tt
-    others r (Registers b) k s = tt
-    others r (Begins g) k s = grown r g k (map.get next r.id) refl (subst (λ o. GrownAt o (map.get next r.id)) k.made (grows r.id)) s

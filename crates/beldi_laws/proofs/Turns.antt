@@ -63,7 +63,7 @@ use Rattle.beldi_known.proofs.Goes.{run_on_prefix}
 use Rattle.beldi_known.proofs.Callers.{caller_in}
 use Rattle.beldi_known.proofs.NoTx.{IsOutside, outside_so, outside_parts}
 use Rattle.beldi_known.proofs.Phases.{at}
-use Rattle.beldi_laws.proofs.Lives.{open_stays}
+use Rattle.beldi_laws.proofs.Lives.{open_stays, places_same, run_on as live_on}
 use Rattle.beldi_laws.proofs.OpenOf.{called_in, called_out, open_begun, open_none, open_pushed, own_begin, tx_open}
 use Rattle.beldi_laws.proofs.Outside.{outside_more, is_of_tx, stands_outside, plain_here}
 use Rattle.beldi_laws.proofs.Released.{released_next, released_on}
@@ -292,7 +292,7 @@ module _ (d : Deployment) (c : Core) (m n : Rows) (i : ℕ) (r : Run) (h : Right
       by_stage t (Some w) run = quiet d c m n i r h live roots (goes r (record { machine = t.0; caller = k; tx = t.1; stage = w }) None) next after refl refl run (λ e. cc) kept
 
   -- .. and a run of its callee may start
-  pub comes_with : (s : Machine × Option RunTx) (k : Option Caller) → RunAt d n h.plain c.book h.known (goes_to d r s k None).next → ((o : Run) → callee_of r ≡ Some o → KnowsAt d c.book h.known o o.at) → Stays h n → AfterTurn d h.plain c i r (record (goes_to d r s k None) { starts = true }) n
+  pub comes_with : (s : Machine × Option RunTx) (k : Option Caller) → RunAt d n h.plain c.book h.known (goes_to d r s k None).next → ((o : Run) → callee_of r ≡ Some o → KnowsAt d n h.plain c.book h.known o o.at) → Stays h n → AfterTurn d h.plain c i r (record (goes_to d r s k None) { starts = true }) n
   comes_with s k run callee kept = let t = step.at_once d r.id s in by_stage t (first_stage r.id k t.1 t.0.steps t.0.effect) run
     where
       by_stage : (t : Machine × Option RunTx) (o : Option Stage) → RunAt d n h.plain c.book h.known (goes_from r t k None o).next → AfterTurn d h.plain c i r (record (goes_from r t k None o) { starts = true }) n
@@ -461,13 +461,13 @@ module _ (d : Deployment) (c : Core) (m : Rows) (i : ℕ) (r : Run) (g : Begun) 
 
   -- where it stands it finds what it found
   stays_as : (n : Rows) → Stays h n → RunAt d n h.plain c.book h.known (Some r)
-  stays_as n kept = let was = subst (RunAt d m h.plain c.book h.known) live (h.runs.runs i) in (was.0, kept.others r was.0 was.1)
+  stays_as n kept = live_on d m n h.plain h.plain c.book c.book h.known h.known (Some r) kept.grows (places_same d c.book h.known h.known) kept.others (subst (RunAt d m h.plain c.book h.known) live (h.runs.runs i))
 
   -- it waits where it stands: for an owner, or for a callee of which a run may be started
   pub held : (o : Owner) (n : Rows) → SameRoots m n → Stays h n → Leaves (says.Waits (wait.Held o)) n
   held o n roots kept = quiet d c m n i r h live roots (turned_by d r g (says.Waits (wait.Held o))) h.known h.locked refl refl (stays_as n kept) (λ e. cc) kept
 
-  pub awaits : (j : IntentId) (n : Rows) → SameRoots m n → Stays h n → KnowsCallee d c.book h.known r (turned_by d r g (says.Waits (wait.Result j))) (Some (wait.Result j)) → Leaves (says.Waits (wait.Result j)) n
+  pub awaits : (j : IntentId) (n : Rows) → SameRoots m n → Stays h n → KnowsCallee d n h.plain c.book h.known r (turned_by d r g (says.Waits (wait.Result j))) (Some (wait.Result j)) → Leaves (says.Waits (wait.Result j)) n
   awaits j n roots kept callee = quiet d c m n i r h live roots (turned_by d r g (says.Waits (wait.Result j))) h.known h.locked refl refl (stays_as n kept) callee kept
 
   -- the run is over
@@ -478,7 +478,7 @@ module _ (d : Deployment) (c : Core) (m : Rows) (i : ℕ) (r : Run) (g : Begun) 
   module _ (finds : Inside d m h.plain h.known r g) where
     -- it finds that still
     pub finds_still : (n : Rows) (q : PlainState) (next : Known) (after : IntentId → Bool) → Kept h n q next after → Inside d n q next (record r { at = Begins g }) g
-    finds_still n q next after kept = kept.others (record r { at = Begins g }) (knows_here d c.book h.known r g k) (record { here = finds.here; released = finds.released; row = finds.row })
+    finds_still n q next after kept = kept.others (record r { at = Begins g }) g (knows_here d c.book h.known r g k) (record { here = finds.here; released = finds.released; row = finds.row })
 
     -- .. and past its ends its transactions own nothing
     pub released_here : (n : Rows) (q : PlainState) (next : Known) (after : IntentId → Bool) → Kept h n q next after → Released d n next r.id g.machine.steps
@@ -584,9 +584,9 @@ module _ (d : Deployment) (c : Core) (m : Rows) (i : ℕ) (r : Run) (g : Begun) 
       replays n a rest roots kept left = answers_on a rest n h.known h.locked k.instance roots kept k.made (grown_same k.instance) (known_prefix a rest left) (answers_it a (fits a rest left)) (none_owned n)
 
       -- .. and a run of its callee, which has its row, may start
-      pub starts_one : (n : Rows) (a : Answer) (rest : List Answer) → SameRoots m n → Stays h n → k.later ≡ a ∷ rest → ((book : List Entry) (known : Known) (o : Run) → callee_of r ≡ Some o → KnowsAt d book known o o.at) → Leaves (says.Starts a) n
+      pub starts_one : (n : Rows) (a : Answer) (rest : List Answer) → SameRoots m n → Stays h n → k.later ≡ a ∷ rest → ((o : Run) → callee_of r ≡ Some o → KnowsAt d n h.plain c.book h.known o o.at) → Leaves (says.Starts a) n
       starts_one n a rest roots kept left callee = comes_with d c m n i r h live roots (takes d g.machine g.tx a) g.caller
-          (takes_next c.book n h.plain h.known h.locked k.instance a rest None kept k.made (grown_same k.instance) (known_prefix a rest left) (answers_it a (fits a rest left)) (none_owned n)) (callee c.book h.known) kept
+          (takes_next c.book n h.plain h.known h.locked k.instance a rest None kept k.made (grown_same k.instance) (known_prefix a rest left) (answers_it a (fits a rest left)) (none_owned n)) callee kept
 
       -- it steps on: the instance has the answer now
       pub steps_on : (a : Answer) (by : Mark) (q : PlainState) (n : Rows) → k.later ≡ [] → IsAnswer (place_of r.id g.machine.steps) None e a → let known : Known = map.insert h.known r.id (moved d r.id k.instance a) in Entered d c h.plain h.known (entry_of r.id by) q known → SameRoots m n → Kept h n q known h.locked → Leaves (says.Answers a (Some by)) n

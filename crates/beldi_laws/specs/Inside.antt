@@ -39,8 +39,6 @@ use Rattle.beldi_step.specs.declared.run.OpenTx.{OpenTx}
 use Rattle.beldi_step.specs.declared.run.RunTx.{RunTx}
 use Rattle.beldi_step.specs.declared.run.RunTx.TheVariants.{Own}
 use Rattle.beldi_step.specs.declared.run.Run.{Run}
-use Rattle.beldi_step.specs.declared.run.RunAt as standing
-use Rattle.beldi_step.specs.declared.run.RunAt.TheVariants.{Looks, Registers, Begins}
 use Rattle.beldi_step.specs.declared.run.Stage.{Stage}
 use Rattle.beldi_step.specs.declared.run.Stage.TheVariants as stage
 use Rattle.beldi_step.specs.Run.{begin_of, own_tx, place_of, tx_of}
@@ -100,11 +98,6 @@ pub record Inside (d : Deployment) (m : Rows) (p : PlainState) (known : Known) (
   pub released : Released d m known r.id g.machine.steps
   -- a callee's row was registered before it began
   pub row : has_no_hops r.id.hops ≡ false → is_some (map.get m (key_in r.func r.id)) ≡ true
-
-abbrev pub InsideAt : Deployment → Rows → PlainState → Known → Run → standing.RunAt → Type 0
-InsideAt d m p known r Looks = Unit {0}
-InsideAt d m p known r (Registers b) = Unit {0}
-InsideAt d m p known r (Begins g) = Inside d m p known r g
 
 -- ---- who took part in a transaction
 pub record TookPart (known : Known) (t : TxId) (i : IntentId) : Type 0 where

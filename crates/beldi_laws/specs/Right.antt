@@ -44,7 +44,7 @@ use Rattle.beldi_known.specs.Known.{Known}
 use Rattle.beldi_order.specs.Txs.{along, effect_after, tx_after}
 use Rattle.beldi_known.specs.Matches.{Matches, LockedAtEnds}
 use Rattle.beldi_known.specs.Sane.{Sane}
-use Rattle.beldi_laws.specs.Inside.{InsideAt, OwnedAreUnmarked, OwnersCallNobody, ParticipantsAreReleased, ParticipantsHaveRows}
+use Rattle.beldi_laws.specs.Inside.{Inside, OwnedAreUnmarked, OwnersCallNobody, ParticipantsAreReleased, ParticipantsHaveRows}
 use Rattle.beldi_known.specs.Beside.{Beside}
 use Rattle.beldi_known.specs.InsideLaws.{HoldersAreMade}
 use Rattle.beldi_known.specs.Listed.{listed}
@@ -144,16 +144,16 @@ pub record KnowsBody (known : Known) (r : Run) (b : Body) : Type 0 where
   pub func : b.func ≡ r.func
   pub callee : has_no_hops r.id.hops ≡ false
 
--- nothing else is known of a run before its first turn
-abbrev pub KnowsAt : Deployment → List Entry → Known → Run → standing.RunAt → Type 0
-KnowsAt d book known r Looks = Unit {0}
-KnowsAt d book known r (Registers b) = KnowsBody known r b
-KnowsAt d book known r (Begins g) = Knows d book known r g
+-- nothing else is known of a run before its first turn, and only one that has begun has found anything in the rows
+abbrev pub KnowsAt : Deployment → Rows → PlainState → List Entry → Known → Run → standing.RunAt → Type 0
+KnowsAt d m p book known r Looks = Unit {0}
+KnowsAt d m p book known r (Registers b) = KnowsBody known r b
+KnowsAt d m p book known r (Begins g) = Knows d book known r g × Inside d m p known r g
 
--- the run of a number, if it is live, knows so much, and has found so much
+-- the run of a number, if it is live, knows so much
 abbrev pub RunAt : Deployment → Rows → PlainState → List Entry → Known → Option Run → Type 0
 RunAt d m p book known None = Unit {0}
-RunAt d m p book known (Some r) = KnowsAt d book known r r.at × InsideAt d m p known r r.at
+RunAt d m p book known (Some r) = KnowsAt d m p book known r r.at
 
 -- the live runs
 pub record RunsMatch (d : Deployment) (m : Rows) (p : PlainState) (book : List Entry) (known : Known) (live : FinMap nat_cmp Run) (last : ℕ) : Type 0 where
