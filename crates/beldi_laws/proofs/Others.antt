@@ -221,9 +221,6 @@ module _ (d : Deployment) (c : Core) (m n : Rows) (h : Right d c m) (q : PlainSt
     step_here : length k.instance.answers ≡ g.machine.steps
     step_here = ap length (sym left_here) ∙ sym steps
 
-    step_then : length j.answers ≡ g.machine.steps
-    step_then = ap length (sym left) ∙ sym steps
-
     now : effect_of d k.instance ≡ g.machine.effect
     now = ap (effect_after d k.instance) (sym left_here) ∙ wanted
 

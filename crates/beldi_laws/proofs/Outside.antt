@@ -1,18 +1,14 @@
 -- Steps outside transactions: where no Begin is open. There what is known of an instance is what the plain state has.
-use Rattle.std.proofs.Common.{Bool, true, false, ◌≡◌, ◌∙◌, inl, List, [], ◌∷◌, ◌++◌, Option, Some, None, refl, ap, sym, subst, length, ◌&&◌, is_some}
+use Rattle.std.proofs.Common.{Bool, true, false, ◌≡◌, ◌∙◌, inl, List, [], ◌∷◌, ◌++◌, Option, Some, None, refl, ap, sym, subst, length, is_some}
 use Rattle.std.specs.FinMap as map
 use Rattle.std.specs.FinMap.{FinMap}
-use Rattle.std.specs.Option.{is_none}
 use Rattle.beldi_value.specs.Id.{id_cmp}
 use Rattle.beldi_value.specs.declared.id.IntentId.{IntentId}
-use Rattle.beldi_value.specs.declared.place.Place.{Place}
 use Rattle.beldi_value.specs.declared.place.Caller.{Caller}
 use Rattle.beldi_value.specs.declared.place.TxId.{TxId}
-use Rattle.beldi_value.specs.declared.value.Value.TheVariants as value
 use Rattle.beldi_tree.specs.declared.deployment.Deployment.{Deployment}
 use Rattle.beldi_lang.specs.declared.effect.Answer.{Answer}
 use Rattle.beldi_lang.specs.declared.effect.Effect.{Effect}
-use Rattle.beldi_lang.specs.declared.effect.Answer.TheVariants as answer
 use Rattle.beldi_lang.specs.declared.effect.Effect.TheVariants as effect
 use Rattle.beldi_plain.specs.Item.{Item}
 use Rattle.beldi_plain.specs.Piece.{opened, tx_begun}
@@ -58,10 +54,6 @@ abbrev pub is_call : Effect → Bool
 is_call (effect.Call f v) = true
 is_call (effect.Async f v) = true
 is_call e = false
-
-pub of_none : (e : Effect) → is_of_tx e ≡ false → is_begin e ≡ false
-of_none effect.Begin h = cc
-of_none e h = refl
 
 -- a run that stands outside has no effect of a transaction
 pub stands_outside : (id : IntentId) (c : Option Caller) (e : Effect) (s : Stage) → StageOk None id c e s → is_of_tx e ≡ false
@@ -109,14 +101,6 @@ module _ (d : Deployment) (p : PlainState) (known : Known) (beside : Beside d p 
       by_plain : (o : Option Instance) → map.get p.made id ≡ o → o ≡ None
       by_plain None made = refl
       by_plain (Some q) made = let clash = sym (known_of q made).is ∙ new in cc
-
-  -- who begins no transaction is known as the plain state has it
-  pub same_here : (q : Instance) → map.get p.made id ≡ Some q → is_begin (effect_of d q) ≡ false → map.get known id ≡ Some q
-  same_here q made apart = beside.same id q made (ap (λ b. is_none q.outcome && b) apart ∙ and_false (is_none q.outcome))
-    where
-      and_false : (b : Bool) → (b && false) ≡ false
-      and_false true = refl
-      and_false false = refl
 
 -- ---- who was called in no transaction
 module _ (d : Deployment) (p : PlainState) (known : Known) (beside : Beside d p known) (id : IntentId) where
