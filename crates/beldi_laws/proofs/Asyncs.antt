@@ -14,7 +14,8 @@ use Rattle.beldi_lang.specs.declared.effect.Answer.{Answer}
 use Rattle.beldi_lang.specs.declared.effect.Effect.TheVariants.{Async}
 use Rattle.beldi_laws.proofs.Beginnings.{same_roots}
 use Rattle.beldi_laws.proofs.CallsHere.{made_with, not_made, made_by, next_here, given_first, first_given, call_now, absent_here, callee_there, caller_there, call_entered, callee_goes, callee_row, callee_ahead, callee_settled, callee_grows, goes_answered_then}
-use Rattle.beldi_laws.proofs.Frames.{NobodyJoins, settled_outside}
+use Rattle.beldi_laws.proofs.Frames.{NobodyJoins}
+use Rattle.beldi_laws.proofs.Settling.{settled_outside}
 use Rattle.beldi_laws.proofs.Keeping.{as_it_was}
 use Rattle.beldi_laws.specs.Inside.{Inside}
 use Rattle.beldi_laws.proofs.Moves.{AfterTurn, AfterQuery, Entered, SameRoots, Kept, Stays, entered, AfterAct, still}

@@ -11,7 +11,8 @@ use Rattle.beldi_lang.specs.declared.effect.Effect.{Effect}
 use Rattle.beldi_lang.specs.Wants.{wants_answer}
 use Rattle.beldi_laws.proofs.Keeping.{SameShadows, goes_made, set_shadows}
 use Rattle.beldi_laws.proofs.Moves.{Entered, change_entered}
-use Rattle.beldi_laws.proofs.Frames.{NobodyJoins, nobody_made, settled_grown, settled_new}
+use Rattle.beldi_laws.proofs.Frames.{NobodyJoins, nobody_made}
+use Rattle.beldi_laws.proofs.Settling.{settled_grown, settled_new}
 use Rattle.beldi_laws.proofs.KeptSane.{called_with}
 use Rattle.beldi_laws.proofs.Registered.{log_frame, stays_new}
 use Rattle.beldi_laws.proofs.Short.{child_short}

@@ -30,7 +30,8 @@ use Rattle.beldi_known.proofs.Participants.{decided_over}
 use Rattle.beldi_laws.specs.Inside.{Frame, ParticipantsAreReleased, ParticipantsHaveRows, TookPart, has_finish}
 use Rattle.beldi_laws.specs.Right.{Right}
 use Rattle.beldi_laws.specs.Stands.{key_in}
-use Rattle.beldi_laws.proofs.Frames.{NoFinish, seated_stays, settled_rows}
+use Rattle.beldi_laws.proofs.Frames.{NoFinish}
+use Rattle.beldi_laws.proofs.Settling.{seated_stays, settled_rows}
 use Rattle.beldi_laws.proofs.Shown.{Settled}
 use Rattle.beldi_laws.proofs.Members.{TakesPart, call_there, callee_is, callee_joins, members_joined, part_below, part_key, reached, took_part}
 

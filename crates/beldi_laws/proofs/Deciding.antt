@@ -74,7 +74,8 @@ use Rattle.beldi_laws.specs.Inside.{OwnedAreUnmarked, OwnersCallNobody, Particip
 use Rattle.beldi_laws.specs.Right.{Right, Knows, MarkOk, StageOk, open_of}
 use Rattle.beldi_laws.proofs.Fallen.{cause_in, cause_is}
 use Rattle.beldi_laws.proofs.Closing.{closed_rows}
-use Rattle.beldi_laws.proofs.Frames.{ValuesStay, IsSettled, frame_log, holders_set, latest_stays, marks_stay, no_finish, nobody_set, one_answered, one_at_once, one_known, seated_set, seated_stays, settled_grown, short_set}
+use Rattle.beldi_laws.proofs.Frames.{ValuesStay, frame_log, no_finish, nobody_set}
+use Rattle.beldi_laws.proofs.Settling.{IsSettled, holders_set, latest_stays, marks_stay, one_answered, one_at_once, one_known, seated_set, seated_stays, settled_grown, short_set}
 use Rattle.beldi_laws.proofs.Visits.{at_part, visits_found}
 use Rattle.beldi_known.proofs.Outsides.{known_none_after}
 use Rattle.beldi_known.specs.Sane.{Sane}

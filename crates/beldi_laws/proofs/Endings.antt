@@ -14,7 +14,8 @@ use Rattle.beldi_lang.specs.declared.effect.Answer.TheVariants as answers
 use Rattle.beldi_lang.specs.declared.effect.Effect.TheVariants.{Return, Call}
 use Rattle.beldi_laws.proofs.Beginnings.{same_roots}
 use Rattle.beldi_laws.proofs.CallsHere.{called_in, goes_answered_then}
-use Rattle.beldi_laws.proofs.Frames.{NobodyJoins, NoFinish, no_member_finish, nobody_set, nobody_then, settled_ended, settled_grown, settled_moved}
+use Rattle.beldi_laws.proofs.Frames.{NobodyJoins, NoFinish, no_member_finish, nobody_set, nobody_then}
+use Rattle.beldi_laws.proofs.Settling.{settled_ended, settled_grown, settled_moved}
 use Rattle.beldi_laws.proofs.Grown.{grows_moved}
 use Rattle.beldi_laws.proofs.Keeping.{SameShadows, as_it_was}
 use Rattle.beldi_laws.proofs.KeptSane.{returned_kept, ended_kept}

@@ -82,7 +82,8 @@ use Rattle.beldi_known.specs.Known.{Known, at_once as with_once, ended_by}
 use Rattle.beldi_known.specs.Matches.{has_ended}
 use Rattle.beldi_laws.proofs.KeptSane.{root_kept}
 use Rattle.beldi_laws.proofs.Shown.{log_values, settled}
-use Rattle.beldi_laws.proofs.Frames.{frame_row, items_stay, nobody_made, settled_grown, settled_new}
+use Rattle.beldi_laws.proofs.Frames.{frame_row, items_stay, nobody_made}
+use Rattle.beldi_laws.proofs.Settling.{settled_grown, settled_new}
 use Rattle.beldi_known.proofs.Frame.{at_once_same}
 use Rattle.beldi_order.specs.Inside.{IsBelow}
 use Rattle.beldi_txn.specs.Invokes.{func_called}

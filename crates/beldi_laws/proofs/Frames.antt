@@ -1,21 +1,14 @@
--- What an event keeps for the runs of others, and what rows keep of transactions.
-use Rattle.std.proofs.Common.{◌≡◌, ◌∙◌, inl, inr, ℕ, ◌≤◌, Bool, true, false, List, [], ◌∷◌, ◌++◌, length, cond, Option, Some, None, is_some, refl, ap, sym, subst, if◌then◌else◌}
-use Rattle.std.specs.Prelude.{slice_get}
+-- What an event keeps for the runs of others: a frame, of a row that is set.
+use Rattle.std.proofs.Common.{◌≡◌, ◌∙◌, ℕ, Bool, true, false, List, [], ◌∷◌, ◌++◌, cond, Option, Some, None, is_some, refl, ap, sym, subst, if◌then◌else◌}
 use Rattle.std.specs.FinMap as map
 use Rattle.std.specs.Ordering.{is_eq}
 use Rattle.beldi_value.specs.declared.id.IntentId.{IntentId}
-use Rattle.beldi_value.specs.declared.outcome.Cause.{Cause}
-use Rattle.beldi_value.specs.declared.outcome.Outcome.{Outcome}
 use Rattle.beldi_value.specs.declared.place.Owner.TheVariants.{Tx as ByTx}
 use Rattle.beldi_value.specs.declared.place.Place.{Place}
 use Rattle.beldi_value.specs.declared.place.TxId.{TxId}
 use Rattle.beldi_value.specs.declared.value.Value.{Value}
 use Rattle.beldi_tree.specs.Bindings.{or_null}
 use Rattle.beldi_tree.specs.declared.deployment.Deployment.{Deployment}
-use Rattle.beldi_lang.specs.declared.effect.Answer.{Answer}
-use Rattle.beldi_lang.specs.declared.effect.Answer.TheVariants as answer
-use Rattle.beldi_lang.specs.declared.effect.Effect.{Effect}
-use Rattle.beldi_lang.specs.declared.effect.Effect.TheVariants as effect
 use Rattle.beldi_row.specs.Key.{key_cmp}
 use Rattle.beldi_row.specs.Log.{note_at, place_eq}
 use Rattle.beldi_row.specs.Table.{Rows, set_row}
@@ -35,37 +28,24 @@ use Rattle.beldi_daal.specs.declared.cell.CellOp.{CellOp}
 use Rattle.beldi_daal.specs.Content.{Content, content_in}
 use Rattle.beldi_daal.specs.Logged.{note_after}
 use Rattle.beldi_plain.specs.Item.{Item, item_cmp}
-use Rattle.beldi_plain.specs.Operation.{set_if, or_old, touched}
-use Rattle.beldi_plain.specs.Plain.{Instance, PlainState, value_at, answered, ended, effect_of}
-use Rattle.beldi_plain.specs.Executor.{answered_if}
-use Rattle.beldi_order.specs.Grown.{Grows}
-use Rattle.beldi_order.specs.Txs.{Txs, tx_at, tx_now, tx_after, txs_after, txs_by, end_of}
+use Rattle.beldi_plain.specs.Operation.{set_if, or_old}
+use Rattle.beldi_plain.specs.Plain.{Instance, PlainState, value_at, ended}
 use Rattle.beldi_order.proofs.Maps.{same_some}
 use Rattle.beldi_order.proofs.Operations.{plain_set, item_same}
-use Rattle.beldi_order.proofs.Went.{txs_pushed, pushed_cases}
-use Rattle.beldi_step.specs.Run.{place_of}
 use Rattle.beldi_known.specs.Contents.{content_of, head_key, shadow_key, lockset_key}
-use Rattle.beldi_known.specs.Known.{Known, tx_end, ended_by, at_once, once, once_if, moved, answer_at_once}
+use Rattle.beldi_known.specs.Known.{Known, tx_end}
 use Rattle.beldi_known.specs.Operations.{DoneRows}
 use Rattle.beldi_known.proofs.Acts.{kinds_apart, is_data, is_shadow, shadow_same, by_item, turned}
 use Rattle.beldi_known.proofs.FrameAt.{known_set}
 use Rattle.beldi_known.proofs.Outside.{no_tx, free_after}
 use Rattle.beldi_known.proofs.Owners.{IsFreeFor}
 use Rattle.beldi_known.proofs.Rows.{set_others}
-use Rattle.beldi_known.proofs.NoTx.{outside_parts}
-use Rattle.beldi_laws.specs.Inside.{OwnedAreUnmarked, OwnersCallNobody, ParticipantsAreReleased, ParticipantsHaveRows, Frame, IsFreePlace, IsOf, IsWriting, StillOwns, TookPart, has_finish}
+use Rattle.beldi_laws.specs.Inside.{Frame, IsOf, IsWriting, StillOwns, TookPart, has_finish}
 use Rattle.beldi_laws.specs.Stands.{key_in}
-use Rattle.beldi_known.specs.InsideLaws.{HoldersAreMade}
 use Rattle.beldi_invokelog.specs.InvokeLog.{invoke_key}
 use Rattle.beldi_readlog.specs.ReadLog.{log_key}
 use Rattle.beldi_txn.specs.Invokes.{func_called}
-use Rattle.beldi_order.specs.Inside.{IsBelow}
-use Rattle.beldi_plain.specs.Executor.{AllShort}
 use Rattle.std.specs.Option.{option_map}
-use Rattle.beldi_laws.proofs.KeptSane.{outside_effect}
-use Rattle.beldi_laws.proofs.Lives.{made_stays}
-use Rattle.beldi_laws.proofs.Outside.{is_of_tx}
-use Rattle.beldi_laws.proofs.Shown.{Settled}
 
 -- ---- what an open transaction owns has its plain value still
 abbrev pub ValuesStay : Deployment → Rows → PlainState → PlainState → Known → Type 0
@@ -375,209 +355,3 @@ module _ (d : Deployment) (m : Rows) (p q : PlainState) (known next : Known) (va
       by_key t z i x e is here true g = let one = key_same (lockset_key i t.begin x) (lockset_key j b y) g in
           absurd (none t z e (subst (IsOf next t) (λ k. intent_in j (one k).kind) is) (λ k. begin_in (one k).kind))
       by_key t z i x e is here false g = ap is_some (sym (same (lockset_key i t.begin x) g)) ∙ here
-
--- ---- what rows keep of transactions
--- the plain state grows
-pub settled_grown : (d : Deployment) (m : Rows) (p q : PlainState) (known : Known) → Grows p.made q.made → Settled d m p known → Settled d m q known
-settled_grown d m p q known grows h = record {
-  marks = h.marks;
-  latest = h.latest;
-  holders = λ id k n c i is inside dead holder. made_stays (map.get p.made i) (map.get q.made i) (grows i) (h.holders id k n c i is inside dead holder);
-  seated = h.seated;
-  released = h.released;
-  short = h.short;
-}
-
--- the rows move, by a frame
-module _ (d : Deployment) (m n : Rows) (p q : PlainState) (known next : Known) (frame : Frame d m n p q known next) where
-  pub marks_stay : OwnedAreUnmarked d m next → OwnedAreUnmarked d n next
-  marks_stay marks t z x a w e own free noted = let s = frame.owners t z x e own in marks t z x a w e s.owner free (sym (s.notes a free) ∙ noted)
-
-  pub latest_stays : OwnersCallNobody d m next → OwnersCallNobody d n next
-  latest_stays latest t z x i e own = let s = frame.owners t z x e own in latest t z x i e s.owner
-
-  pub seated_stays : ParticipantsHaveRows m next → ParticipantsHaveRows n next
-  seated_stays seated id k t is within over = frame.rows (key_in k.func id) (seated id k t is within over)
-
-  -- .. by which who took part and has its finish has given back all
-  pub settled_rows : ParticipantsAreReleased d n next → Settled d m q next → Settled d n q next
-  settled_rows released h = record { marks = marks_stay h.marks; latest = latest_stays h.latest; holders = h.holders; seated = seated_stays h.seated; released = released; short = h.short }
-
--- what it wants of an instance: who let a step die was made, who took part and has its outcome has its row, and its id is short
-pub record IsSettled (d : Deployment) (m : Rows) (p : PlainState) (id : IntentId) (s : Instance) : Type 0 where
-  pub holders : (n : ℕ) (c : Cause) (i : IntentId) → is_some (tx_at d id s n) ≡ true → slice_get s.answers n ≡ Some (answer.Aborted c) → c.holder ≡ Some i → is_some (map.get p.made i) ≡ true
-  pub seated : (t : TxId) → s.within ≡ Some t → is_some s.outcome ≡ true → is_some (map.get m (key_in s.func id)) ≡ true
-  pub short : length id.hops ≤ 63
-
--- .. beside what is known: none of its transactions ended that had not, it joins none that has ended, and is called by no owner past
--- its end that owns an item still
-pub record GoesAlong (d : Deployment) (m : Rows) (known : Known) (id : IntentId) (s : Instance) : Type 0 where
-  pub ends : (b : ℕ) (z : ℕ × Bool) → end_of d s b ≡ Some z → ended_by d b (map.get known id) ≡ Some z
-  pub joined : (t : TxId) (z : ℕ × Bool) → tx_end d known t ≡ Some z → s.within ≡ Some t → TookPart known t id
-  pub late : (t : TxId) (z : ℕ × Bool) (x : Item) → tx_end d known t ≡ Some z → (content_of m x).owner ≡ Some (ByTx t) → IsBelow (record { intent = t.intent; begin = z.0; func = t.func }) id → ⊥
-
-module _ (d : Deployment) (m : Rows) (p : PlainState) (known : Known) (id : IntentId) (s : Instance) where
-  -- an instance is set, of whose transactions the rows keep what they have to
-  module _ (one : IsSettled d m p id s) (h : Settled d m p known) where
-    pub holders_set : HoldersAreMade d p (map.insert known id s)
-    holders_set j k n c i is inside dead holder = known_set known id s (λ j o. o ≡ Some k → is_some (tx_at d j k n) ≡ true → is_some (map.get p.made i) ≡ true)
-        (λ e g. one.holders n c i (subst (λ (y : Instance). is_some (tx_at d id y n) ≡ true) (sym (same_some e)) g) (subst (λ (y : Instance). slice_get y.answers n ≡ Some (answer.Aborted c)) (sym (same_some e)) dead) holder)
-        (λ j other e g. h.holders j k n c i e g dead holder) j is inside
-
-    pub seated_set : ParticipantsHaveRows m (map.insert known id s)
-    seated_set j k t is within over = known_set known id s (λ j o. o ≡ Some k → is_some (map.get m (key_in k.func j)) ≡ true)
-        (λ e. subst (λ (y : Instance). y.within ≡ Some t → is_some y.outcome ≡ true → is_some (map.get m (key_in y.func id)) ≡ true) (same_some e) (one.seated t) within over)
-        (λ j other e. h.seated j k t e within over) j is
-
-    pub short_set : AllShort (map.insert known id s)
-    short_set j there = known_set known id s (λ j o. is_some o ≡ true → length j.hops ≤ 63) (λ e. one.short) (λ j other e. h.short j e) j there
-
-    -- .. none of which ended that had not
-    pub settled_set : GoesAlong d m known id s → Settled d m p (map.insert known id s)
-    settled_set along = record {
-      marks = λ t z x a w e own free noted. h.marks t z x a w (ended t z e) own (place t z a (ended t z e) free) noted;
-      latest = λ t z x i e own below. known_set known id s (λ j o. IsBelow (record { intent = t.intent; begin = z.0; func = t.func }) j → o ≡ None)
-          (λ b. absurd (along.late t z x (ended t z e) own b)) (λ j other b. h.latest t z x j (ended t z e) own b) i below;
-      holders = holders_set;
-      seated = seated_set;
-      released = λ t z e. h.released t z (ended t z e);
-      short = short_set;
-    }
-      where
-        ended : (t : TxId) (z : ℕ × Bool) → tx_end d (map.insert known id s) t ≡ Some z → tx_end d known t ≡ Some z
-        ended t z e = known_set known id s (λ j o. ended_by d t.begin o ≡ Some z → ended_by d t.begin (map.get known j) ≡ Some z) (along.ends t.begin z) (λ j other e. e) t.intent e
-
-        took : (t : TxId) (z : ℕ × Bool) (i : IntentId) → tx_end d known t ≡ Some z → TookPart (map.insert known id s) t i → TookPart known t i
-        took t z i e part = known_set known id s (λ j o. o ≡ Some part.instance → TookPart known t j) (λ g. along.joined t z e (ap (λ (y : Instance). y.within) (same_some g) ∙ part.within))
-            (λ j other g. record { instance = part.instance; made = g; within = part.within }) i part.made
-
-        place : (t : TxId) (z : ℕ × Bool) (a : Place) → tx_end d known t ≡ Some z → IsFreePlace (map.insert known id s) t z.0 a → IsFreePlace known t z.0 a
-        place t z a e free = elim free [
-          | inl at ↦ inl at
-          | inr g ↦ inr (g.0, took t z a.intent e g.1)
-        ]
-
--- ---- such instances
--- one that is known
-module _ (d : Deployment) (m : Rows) (p : PlainState) (known : Known) (id : IntentId) (k : Instance) (is : map.get known id ≡ Some k) (h : Settled d m p known) where
-  pub one_known : IsSettled d m p id k
-  one_known = record {
-    holders = λ n c i inside dead holder. h.holders id k n c i is inside dead holder;
-    seated = λ t within over. h.seated id k t is within over;
-    short = h.short id (ap is_some is);
-  }
-
-  -- .. goes along, and so does one that is as it was but for its answers, of which none ended a transaction
-  pub goes_known : (s : Instance) → s.within ≡ k.within → ((b : ℕ) (z : ℕ × Bool) → end_of d s b ≡ Some z → end_of d k b ≡ Some z) → GoesAlong d m known id s
-  goes_known s within ends = record {
-    ends = λ b z e. ap (ended_by d b) is ∙ ends b z e;
-    joined = λ t z e g. record { instance = k; made = is; within = sym within ∙ g };
-    late = λ t z x e own below. let clash = sym is ∙ h.latest t z x id e own below in cc;
-  }
-
--- a new one
-pub one_new : (d : Deployment) (m : Rows) (p : PlainState) (id : IntentId) (s : Instance) → s.answers ≡ [] → s.outcome ≡ None → length id.hops ≤ 63 → IsSettled d m p id s
-one_new d m p id s none open_still short = record {
-  holders = λ n c i inside dead holder. let clash = sym (ap (λ ts. slice_get ts n) none) ∙ dead in cc;
-  seated = λ t within over. let clash = sym (ap is_some open_still) ∙ over in cc;
-  short = short;
-}
-
--- one that ended: if it took part, it has its row
-pub one_ended : (d : Deployment) (m : Rows) (p : PlainState) (id : IntentId) (s : Instance) (o : Outcome) → ((t : TxId) → s.within ≡ Some t → is_some (map.get m (key_in s.func id)) ≡ true) → IsSettled d m p id s → IsSettled d m p id (ended s o)
-one_ended d m p id s o there h = record { holders = h.holders; seated = λ t within over. there t within; short = h.short }
-
--- what it wants of an answer to an effect: the effect is no End, and a death has a holder that was made
-pub record IsFit (d : Deployment) (p : PlainState) (t : Option TxId) (e : Effect) (a : Answer) : Type 0 where
-  pub no_end : (c : Bool) → e ≡ effect.End c → ⊥
-  pub holder : (c : Cause) (i : IntentId) → is_some t ≡ true → a ≡ answer.Aborted c → c.holder ≡ Some i → is_some (map.get p.made i) ≡ true
-
--- who let a step die, by its answer
-abbrev holder_in : Answer → Option IntentId
-holder_in (answer.Aborted c) = c.holder
-holder_in a = None
-
--- one that was answered so
-pub one_answered : (d : Deployment) (m : Rows) (p : PlainState) (id : IntentId) (s : Instance) (a : Answer) → ((c : Cause) (i : IntentId) → is_some (tx_now d id s) ≡ true → a ≡ answer.Aborted c → c.holder ≡ Some i → is_some (map.get p.made i) ≡ true) → IsSettled d m p id s → IsSettled d m p id (answered s a)
-one_answered d m p id s a made h = record {
-  holders = λ n c i inside dead holder. elim (pushed_cases s.answers a (answer.Aborted c) n dead) [
-    | inl e ↦ made c i (sym (ap (λ ts. is_some (tx_after d id s ts)) e.1) ∙ inside) (sym e.2) holder
-    | inr e ↦ h.holders n c i (sym (ap (λ ts. is_some (tx_after d id s ts)) e.0) ∙ inside) e.1 holder
-  ];
-  seated = h.seated;
-  short = h.short;
-}
-
--- an answer to no End ends no transaction
-same_ends : (d : Deployment) (s : Instance) (a : Answer) → ((c : Bool) → effect_of d s ≡ effect.End c → ⊥) → (b : ℕ) → end_of d (answered s a) b ≡ end_of d s b
-same_ends d s a none b = ap (λ (t : Txs). t.ends b) (txs_pushed d s s.answers a) ∙ by_effect (effect_of d s) none
-  where
-    by_effect : (e : Effect) → ((c : Bool) → e ≡ effect.End c → ⊥) → (txs_by (length s.answers) e (txs_after d s s.answers)).ends b ≡ (txs_after d s s.answers).ends b
-    by_effect effect.Begin none = refl
-    by_effect (effect.End c) none = absurd (none c refl)
-    by_effect e none = refl
-
--- .. and what takes no turn, which ends none
-pub record SameBut (d : Deployment) (m : Rows) (p : PlainState) (id : IntentId) (s r : Instance) : Type 0 where
-  pub settled : IsSettled d m p id r
-  pub within : r.within ≡ s.within
-  pub outcome : r.outcome ≡ s.outcome
-  pub ends : (b : ℕ) → end_of d r b ≡ end_of d s b
-
-pub one_at_once : (d : Deployment) (m : Rows) (p : PlainState) (id : IntentId) (s : Instance) → IsSettled d m p id s → SameBut d m p id s (at_once d id s)
-one_at_once d m p id s h = let k = once_more s h in let l = once_more (once d id s) k.settled in record { settled = l.settled; within = l.within ∙ k.within; outcome = l.outcome ∙ k.outcome; ends = λ b. l.ends b ∙ k.ends b }
-  where
-    by_answer : (s : Instance) (a : Answer) → ((c : Bool) → effect_of d s ≡ effect.End c → ⊥) → ((c : Cause) (i : IntentId) → a ≡ answer.Aborted c → c.holder ≡ Some i → ⊥) → IsSettled d m p id s → SameBut d m p id s (answered s a)
-    by_answer s a none dead h = record { settled = one_answered d m p id s a (λ c i inside e holder. absurd (dead c i e holder)) h; within = refl; outcome = refl; ends = same_ends d s a none }
-
-    as_was : (s : Instance) → IsSettled d m p id s → SameBut d m p id s s
-    as_was s h = record { settled = h; within = refl; outcome = refl; ends = λ b. refl }
-
-    by_effect : (s : Instance) (e : Effect) → effect_of d s ≡ e → IsSettled d m p id s → SameBut d m p id s (answered_if s (answer_at_once id (length s.answers) e))
-    by_effect s effect.Begin is h = by_answer s answer.Done (λ c g. let clash = sym is ∙ g in cc) (λ c i dead. cc) h
-    by_effect s effect.Abort is h = by_answer s (answer.Aborted (record { place = place_of id (length s.answers); holder = None })) (λ c g. let clash = sym is ∙ g in cc)
-        (λ c i dead holder. let clash : None ≡ Some i = ap holder_in dead ∙ holder in cc) h
-    by_effect s e is h = as_was s h
-
-    by_outcome : (s : Instance) (o : Option Outcome) → IsSettled d m p id s → SameBut d m p id s (once_if d id s o)
-    by_outcome s None h = by_effect s (effect_of d s) refl h
-    by_outcome s (Some o) h = as_was s h
-
-    once_more : (s : Instance) → IsSettled d m p id s → SameBut d m p id s (once d id s)
-    once_more s h = by_outcome s s.outcome h
-
--- ---- an instance is made: in no transaction that has ended, and by no owner past its end that owns an item still
-pub settled_new : (d : Deployment) (m : Rows) (p : PlainState) (known : Known) (id : IntentId) (s : Instance) → s.answers ≡ [] → s.outcome ≡ None → length id.hops ≤ 63 → map.get known id ≡ None → ((t : TxId) → s.within ≡ Some t → tx_end d known t ≡ None)
-    → ((t : TxId) (z : ℕ × Bool) (x : Item) → tx_end d known t ≡ Some z → (content_of m x).owner ≡ Some (ByTx t) → IsBelow (record { intent = t.intent; begin = z.0; func = t.func }) id → ⊥) → Settled d m p known → Settled d m p (map.insert known id (at_once d id s))
-settled_new d m p known id s none open_still short new still late h =
-    let k = one_at_once d m p id s (one_new d m p id s none open_still short) in
-    settled_set d m p known id (at_once d id s) k.settled h (record {
-      ends = λ b z e. let clash = sym (k.ends b ∙ ap (λ ts. (txs_after d s ts).ends b) none) ∙ e in cc;
-      joined = λ t z e within. let clash = sym (still t (sym k.within ∙ within)) ∙ e in cc;
-      late = late;
-    })
-
--- .. ends
-pub settled_ended : (d : Deployment) (m : Rows) (p : PlainState) (known : Known) (id : IntentId) (k : Instance) (o : Outcome) → map.get known id ≡ Some k → ((t : TxId) → k.within ≡ Some t → is_some (map.get m (key_in k.func id)) ≡ true) → Settled d m p known → Settled d m p (map.insert known id (ended k o))
-settled_ended d m p known id k o is there h = settled_set d m p known id (ended k o) (one_ended d m p id k o there (one_known d m p known id k is h)) h (goes_known d m p known id k is h (ended k o) refl (λ b z e. e))
-
--- .. or is answered
-module _ (d : Deployment) (m : Rows) (p : PlainState) (known : Known) (id : IntentId) (k : Instance) (is : map.get known id ≡ Some k) (a : Answer) where
-  pub settled_moved : IsFit d p (tx_now d id k) (effect_of d k) a → Settled d m p known → Settled d m p (map.insert known id (moved d id k a))
-  settled_moved fit h =
-      let s = one_at_once d m p id (answered k a) (one_answered d m p id k a fit.holder (one_known d m p known id k is h)) in
-      settled_set d m p known id (moved d id k a) s.settled h (goes_known d m p known id k is h (moved d id k a) s.within (λ b z e. sym (s.ends b ∙ same_ends d k a fit.no_end b) ∙ e))
-
-  -- outside transactions
-  pub settled_outside : tx_now d id k ≡ None → Settled d m p known → Settled d m p (map.insert known id (moved d id k a))
-  settled_outside outside h = settled_moved (record {
-    no_end = λ c g. let out = outside_parts d id k k.answers outside in let clash = sym (outside_effect d k k.answers out.0 out.1) ∙ ap is_of_tx g in cc;
-    holder = λ c i inside dead holder. let clash = sym (ap is_some outside) ∙ inside in cc;
-  }) h
-
-  -- .. or at an operation inside, of whose death the holder was made
-  pub settled_operated : (o : ℕ × List ℕ) → touched (effect_of d k) ≡ Some o → ((c : Cause) (i : IntentId) → a ≡ answer.Aborted c → c.holder ≡ Some i → is_some (map.get p.made i) ≡ true) → Settled d m p known → Settled d m p (map.insert known id (moved d id k a))
-  settled_operated o touch dead h = settled_moved (record {
-    no_end = λ c g. let clash = sym (ap touched g) ∙ touch in cc;
-    holder = λ c i inside. dead c i;
-  }) h

@@ -25,6 +25,7 @@ mod Passing
 mod Readings
 mod Registered
 mod Released
+mod Settling
 mod Short
 mod Shown
 mod Turns

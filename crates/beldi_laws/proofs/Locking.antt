@@ -97,7 +97,8 @@ use Rattle.beldi_laws.specs.Right.{Right, Knows}
 use Rattle.beldi_laws.specs.Inside.{Found, Frame, InOperation, Inside, IsFreePlace, OfBegin, Released, has_asked}
 use Rattle.beldi_laws.proofs.Ages.{Holder, dies_so, free_of, holder_made, only_one}
 use Rattle.beldi_laws.proofs.Closing.{settled_after}
-use Rattle.beldi_laws.proofs.Frames.{NoFinish, frame_held, frame_item, frame_lockset, is_lockset, items_stay, no_finish, nobody_new, nobody_set, settled_operated}
+use Rattle.beldi_laws.proofs.Frames.{NoFinish, frame_held, frame_item, frame_lockset, is_lockset, items_stay, no_finish, nobody_new, nobody_set}
+use Rattle.beldi_laws.proofs.Settling.{settled_operated}
 use Rattle.beldi_laws.proofs.Grown.{grown_moved, grows_moved, moved_more}
 use Rattle.beldi_laws.proofs.InTx as in_tx
 use Rattle.beldi_laws.proofs.Keeping.{act_stays, as_it_was, set_shadows, stays_by}

@@ -69,7 +69,8 @@ use Rattle.beldi_laws.specs.Inside.{Frame, Inside}
 use Rattle.beldi_laws.proofs.Moves.{AfterTurn, AfterQuery, SameRoots, change_entered, Entered, Kept, Stays}
 use Rattle.beldi_known.proofs.Outsides.{set_agrees}
 use Rattle.beldi_laws.proofs.Closing.{settled_after}
-use Rattle.beldi_laws.proofs.Frames.{frame_done, frame_held, item_stays, items_stay, no_finish, nobody_new, nobody_set, query_keeps, settled_grown, settled_outside}
+use Rattle.beldi_laws.proofs.Frames.{frame_done, frame_held, item_stays, items_stay, no_finish, nobody_new, nobody_set, query_keeps}
+use Rattle.beldi_laws.proofs.Settling.{settled_grown, settled_outside}
 use Rattle.beldi_known.specs.Matches.{Matches}
 use Rattle.beldi_known.specs.Sane.{Sane}
 use Rattle.beldi_order.specs.Grown.{Grows}

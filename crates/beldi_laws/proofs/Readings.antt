@@ -59,7 +59,8 @@ use Rattle.beldi_laws.proofs.Lives.{places_late}
 use Rattle.beldi_laws.specs.Inside.{Frame, Inside}
 use Rattle.beldi_laws.proofs.Moves.{AfterAct, AfterTurn, Entered, Kept}
 use Rattle.beldi_laws.proofs.Closing.{settled_after}
-use Rattle.beldi_laws.proofs.Frames.{frame_log, items_stay, no_finish, nobody_set, settled_grown, settled_outside}
+use Rattle.beldi_laws.proofs.Frames.{frame_log, items_stay, no_finish, nobody_set}
+use Rattle.beldi_laws.proofs.Settling.{settled_grown, settled_outside}
 use Rattle.beldi_laws.proofs.Others.{kept_by}
 use Rattle.beldi_laws.proofs.Grown.{grows_moved}
 use Rattle.beldi_laws.proofs.Keeping.{as_it_was, goes_answered, set_shadows}

@@ -108,7 +108,8 @@ use Rattle.beldi_laws.specs.Right.{Right, Knows, StageOk, MarkOk, is_past, open_
 use Rattle.beldi_laws.specs.Stands.{key_in}
 use Rattle.beldi_laws.proofs.Closing.{at_key, closed_rows_of, owner_is}
 use Rattle.beldi_laws.proofs.Ended.{ends_outside}
-use Rattle.beldi_laws.proofs.Frames.{NoFinish, frame_held, frame_item, frame_row, items_stay, no_finish, nobody_new, settled_rows}
+use Rattle.beldi_laws.proofs.Frames.{NoFinish, frame_held, frame_item, frame_row, items_stay, no_finish, nobody_new}
+use Rattle.beldi_laws.proofs.Settling.{settled_rows}
 use Rattle.beldi_laws.proofs.Grown.{grown_same}
 use Rattle.beldi_laws.proofs.Keeping.{SameShadows, act_stays, as_it_was, goes_still, stays_by}
 use Rattle.beldi_laws.proofs.Members.{TakesPart, members_joined, part_below, part_key, reached, took_part}

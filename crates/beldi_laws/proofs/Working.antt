@@ -87,7 +87,8 @@ use Rattle.beldi_known.proofs.Told.{write_parts, test_parts}
 use Rattle.beldi_laws.specs.Right.{Right, Knows}
 use Rattle.beldi_laws.specs.Inside.{Found, Frame, InItem, InOperation, Inside}
 use Rattle.beldi_laws.proofs.Closing.{settled_after}
-use Rattle.beldi_laws.proofs.Frames.{NoFinish, NobodyJoins, frame_log, frame_shadow, is_lockset, items_stay, no_finish, nobody_new, nobody_set, settled_operated}
+use Rattle.beldi_laws.proofs.Frames.{NoFinish, NobodyJoins, frame_log, frame_shadow, is_lockset, items_stay, no_finish, nobody_new, nobody_set}
+use Rattle.beldi_laws.proofs.Settling.{settled_operated}
 use Rattle.beldi_laws.proofs.Grown.{grown_moved, grows_moved, moved_more}
 use Rattle.beldi_laws.proofs.InTx.{begin_is, frees_none, open_still, item_self, goes_at, replays, lockset_is, set_roots, touches, same_item, steps, effect_so, wants_here, short, known_answers, answers_so, at_front, now, tx_is, front, apart, opened as opened_here, owned as owned_here, was_locked}
 use Rattle.beldi_laws.proofs.Keeping.{as_it_was}
