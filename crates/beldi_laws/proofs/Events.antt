@@ -68,7 +68,8 @@ use Rattle.beldi_laws.proofs.OneEvent.{lent_only}
 use Rattle.beldi_laws.proofs.Beginnings.{look_turn, register_turn}
 use Rattle.beldi_laws.proofs.Callings.{call_turn}
 use Rattle.beldi_laws.proofs.Asyncs.{async_turn}
-use Rattle.beldi_laws.proofs.Endings.{back_turn, tell_turn, close_turn}
+use Rattle.beldi_laws.proofs.Endings.{close_turn}
+use Rattle.beldi_laws.proofs.GivingBack.{back_turn, tell_turn}
 use Rattle.beldi_collect.specs.declared.cursor.Found.{Found}
 use Rattle.beldi_collect.specs.declared.cursor.Found.TheVariants as found
 use Rattle.beldi_collect.specs.Collect.{collect_asks, collect_says}

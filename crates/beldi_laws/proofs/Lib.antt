@@ -10,6 +10,7 @@ mod Ended
 mod Endings
 mod Fallen
 mod Frames
+mod GivingBack
 mod Grown
 mod InTx
 mod InsideTurns
@@ -25,6 +26,7 @@ mod Passing
 mod Readings
 mod Registered
 mod Released
+mod Returns
 mod Settling
 mod Short
 mod Shown

@@ -1,0 +1,174 @@
+-- A run at its return: who called its instance, and how that ends.
+use Rattle.std.proofs.Common.{◌≡◌, inl, inr, ℕ, Bool, true, false, List, [], ◌∷◌, Option, None, Some, refl, ap, sym, ◌∙◌, subst, is_some}
+use Rattle.std.specs.FinMap as map
+use Rattle.beldi_book.specs.declared.entry.Entry.TheVariants.{Step}
+use Rattle.beldi_lang.specs.Callee.{answer_of}
+use Rattle.beldi_lang.specs.declared.effect.Answer.{Answer}
+use Rattle.beldi_lang.specs.declared.effect.Answer.TheVariants as answers
+use Rattle.beldi_lang.specs.declared.effect.Effect.TheVariants.{Return}
+use Rattle.beldi_laws.proofs.CallsHere.{called_in}
+use Rattle.beldi_laws.proofs.Frames.{NobodyJoins, nobody_set}
+use Rattle.beldi_laws.proofs.Settling.{settled_ended, settled_grown}
+use Rattle.beldi_laws.proofs.Keeping.{SameShadows}
+use Rattle.beldi_laws.proofs.Moves.{change_entered, Entered}
+use Rattle.beldi_laws.proofs.Passing.{returns_in, tx_is}
+use Rattle.beldi_laws.proofs.Shown.{Settled, settled, legal_sane}
+use Rattle.beldi_laws.proofs.Turns.{answer_here, effect_here, effect_next, sane_instance, plain_there, outside_there}
+use Rattle.beldi_laws.specs.Inside.{Inside}
+use Rattle.beldi_laws.specs.Right.{Right, Knows}
+use Rattle.beldi_laws.specs.Stands.{key_in}
+use Rattle.beldi_order.proofs.Called.{last_hop}
+use Rattle.beldi_order.proofs.Entries.{enabled_step, grows_at, grown_end}
+use Rattle.beldi_order.proofs.Maps.{same_some}
+use Rattle.beldi_order.specs.Grown.{Grows}
+use Rattle.beldi_order.specs.Sane.{IsAnswer, IsCalled}
+use Rattle.beldi_order.specs.Txs.{tx_after, tx_at}
+use Rattle.beldi_plain.specs.Guard.{touched_by, item_touched}
+use Rattle.beldi_plain.specs.Operation.{touched}
+use Rattle.beldi_plain.specs.Plain.{PlainState, Instance, effect_of, with_instance, ended, kind_of, step_by, waits_at}
+use Rattle.beldi_row.specs.Table.{Rows}
+use Rattle.beldi_step.specs.Host.{Core}
+use Rattle.beldi_step.specs.Run.{is_waited, place_of, tx_at as run_tx, within}
+use Rattle.beldi_step.specs.declared.run.Begun.{Begun}
+use Rattle.beldi_step.specs.declared.run.Run.{Run}
+use Rattle.beldi_tree.specs.declared.deployment.Deployment.{Deployment}
+use Rattle.beldi_value.specs.Id.{child_of, has_no_hops, root_of}
+use Rattle.beldi_value.specs.declared.id.IntentId.{IntentId}
+use Rattle.beldi_value.specs.declared.outcome.Cause.{Cause}
+use Rattle.beldi_value.specs.declared.outcome.Outcome.{Outcome}
+use Rattle.beldi_value.specs.declared.outcome.Outcome.TheVariants as outcome
+use Rattle.beldi_value.specs.declared.place.Caller.{Caller}
+use Rattle.beldi_value.specs.declared.place.Place.{Place}
+use Rattle.beldi_value.specs.declared.place.TxId.{TxId}
+use Rattle.beldi_known.proofs.Ahead.{unlocked_elsewhere, ahead_set, none_out}
+use Rattle.beldi_known.proofs.Callers.{caller_in}
+use Rattle.beldi_known.proofs.Outsides.{goes_one, got_ended, set_over}
+use Rattle.beldi_known.specs.Beside.{is_begin}
+use Rattle.beldi_known.specs.InsideLaws.{Goes}
+use Rattle.beldi_known.specs.Known.{Known}
+use Rattle.beldi_known.specs.Matches.{LockedAtEnds}
+use Rattle.beldi_known.specs.Sane.{Sane}
+
+-- the caller of an instance, if it has one, made it at this step
+pub record HasCaller (d : Deployment) (known : Known) (id : IntentId) (q : Instance) (c : Caller) : Type 0 where
+  pub caller : Instance
+  pub is_callee : id ≡ child_of c.place.intent c.place.step
+  pub made : map.get known c.place.intent ≡ Some caller
+  pub called : IsCalled d c.place.intent caller c.place.step q
+  pub func : caller.func ≡ c.func
+
+pub has_caller : (d : Deployment) (known : Known) (id : IntentId) (q : Instance) (c : Caller) → Sane d known → map.get known id ≡ Some q → q.from ≡ Some c → HasCaller d known id q c
+has_caller d known id q c sane made from = elim (last_hop id.hops) [
+  | inl e ↦
+      let root : id ≡ root_of id.ticket = λ k. record { ticket = id.ticket; hops = e k } in
+      let clash = sym (sane.roots id.ticket q (ap (map.get known) (sym root) ∙ made)).0 ∙ from in cc
+  | inr r ↦
+      let i : IntentId = record { ticket = id.ticket; hops = r.0 } in
+      let same : id ≡ child_of i r.1 = λ k. record { ticket = id.ticket; hops = r.2 k } in
+      let at = called_in d known sane i r.1 q (ap (map.get known) (sym same) ∙ made) in
+      let is : record { place = record { intent = i; step = r.1 }; func = at.0.func; waits = at.2.waits } ≡ c = same_some (sym at.2.from ∙ from) in
+      subst (HasCaller d known id q) is (record { caller = at.0; is_callee = same; made = at.1; called = at.2; func = refl })
+]
+
+-- a root has none, and was called in no transaction
+pub root_is : (id : IntentId) → has_no_hops id.hops ≡ true → id ≡ root_of id.ticket
+root_is id root = by_hops id.hops root
+  where
+    by_hops : (xs : List ℕ) → has_no_hops xs ≡ true → record { ticket = id.ticket; hops = xs } ≡ root_of id.ticket
+    by_hops [] e = refl
+    by_hops (x ∷ xs) e = cc
+
+pub root_outside : (d : Deployment) (known : Known) (id : IntentId) (q : Instance) → Sane d known → map.get known id ≡ Some q → has_no_hops id.hops ≡ true → (q.from ≡ None) × (q.within ≡ None)
+root_outside d known id q sane made root = sane.roots id.ticket q (ap (map.get known) (sym (root_is id root)) ∙ made)
+
+pub not_root : (b : Bool) → (b ≡ true → ⊥) → b ≡ false
+not_root true h = absurd (h refl)
+not_root false h = refl
+
+-- a return has no answer
+unanswered : (p : Place) (t : Option TxId) (o : Outcome) (a : Answer) → IsAnswer p t (Return o) a → ⊥
+unanswered p None o a h = h
+unanswered p (Some t) o a h = h
+
+-- an outcome that was aborted
+pub aborted_by : (o : Outcome) (c : Cause) → answer_of o ≡ answers.Aborted c → o ≡ outcome.Aborted c
+aborted_by (outcome.Aborted k) c e = cc
+aborted_by (outcome.Value v) c e = cc
+aborted_by (outcome.Fault k) c e = cc
+
+module _ (d : Deployment) (c : Core) (m : Rows) (i : ℕ) (r : Run) (g : Begun) (h : Right d c m) (live : map.get c.runs i ≡ Some r) (k : Knows d c.book h.known r g) (finds : Inside d m h.plain h.known r g) (o : Outcome) (is : g.machine.effect ≡ Return o) where
+  -- a body that returns was answered nothing more
+  no_answer : (later : List Answer) → k.later ≡ later → k.later ≡ []
+  no_answer [] left = left
+  no_answer (a ∷ rest) left = absurd (unanswered (place_of r.id g.machine.steps) (tx_at d r.id k.instance g.machine.steps) o a
+      (subst (λ e. IsAnswer (place_of r.id g.machine.steps) (tx_at d r.id k.instance g.machine.steps) e a) (effect_here d c.book h.known r g k ∙ is) ((sane_instance d c m r g h k).past g.machine.steps a (answer_here d c.book h.known r g k (a ∷ rest) left))))
+
+  pub at_end : k.later ≡ []
+  at_end = no_answer k.later refl
+
+  pub returns_now : effect_of d k.instance ≡ Return o
+  returns_now = effect_next d c.book h.known r g k at_end ∙ is
+
+  -- it is in the transaction that it was called in, if any
+  pub tx : g.tx ≡ within k.instance.within
+  tx = returns_in d c.book h.known r g k o is
+
+  pub unlocked : h.locked r.id ≡ false
+  unlocked = unlocked_elsewhere d h.known h.locked h.locked_at_ends r.id k.instance k.made (ap touched returns_now)
+
+  -- an outcome that it has is this one
+  pub same_outcome : (u : Outcome) → k.instance.outcome ≡ Some u → u ≡ o
+  same_outcome u has = let both : Return u ≡ Return o = sym ((sane_instance d c m r g h k).over u has) ∙ returns_now in cc
+
+  abbrev pub done : Instance
+  done = ended k.instance o
+
+  abbrev pub over : Known
+  over = map.insert h.known r.id done
+
+  -- who was called in a transaction has its row
+  seated : (t : TxId) → k.instance.within ≡ Some t → is_some (map.get m (key_in k.instance.func r.id)) ≡ true
+  seated t within = ap (λ f. is_some (map.get m (key_in f r.id))) k.func ∙ finds.row (not_root (has_no_hops r.id.hops) (λ e. let clash = sym within ∙ (root_outside d h.known r.id k.instance h.sane k.made e).1 in cc))
+
+  -- one that nobody waits for was called in none
+  pub idle_outside : is_waited g.caller ≡ false → k.instance.within ≡ None
+  idle_outside idle = by_within k.instance.within refl
+    where
+      by_within : (w : Option TxId) → k.instance.within ≡ w → w ≡ None
+      by_within None e = refl
+      by_within (Some t) e = let clash = sym idle ∙ ap is_waited (k.caller ∙ (caller_in d h.known h.sane t r.id k.instance k.made e).from) in cc
+
+  pub ahead_over : LockedAtEnds d over h.locked
+  ahead_over = ahead_set d h.known h.locked h.locked_at_ends h.locked r.id done (none_out h.locked r.id unlocked)
+
+  -- who ends was known
+  pub nobody_over : NobodyJoins d h.known over
+  nobody_over = nobody_set d h.known r.id done (ap is_some k.made)
+
+  -- its step ends it, and answers its caller
+  module _ (open_still : k.instance.outcome ≡ None) where
+    pub grows_over : Grows h.known over
+    grows_over = grows_at h.known r.id k.instance done k.made (grown_end k.instance o open_still)
+
+    pub settled_over : (p : PlainState) → Grows h.plain.made p.made → Settled d m p over
+    settled_over p grows = settled_ended d m p h.known r.id k.instance o k.made seated (settled_grown d m h.plain p h.known grows (settled h))
+
+  -- outside it is the plain step
+  module _ (own : k.instance.within ≡ None) where
+    out : tx_after d r.id k.instance k.answers ≡ None
+    out = tx_is d c.book h.known r g k (ap is_begin is) ∙ ap (run_tx r.id r.func) (tx ∙ ap within own)
+
+    there : map.get h.plain.made r.id ≡ Some k.instance
+    there = plain_there d c m i r g h live k finds out (Return o) is at_end
+
+    pub goes_over : (n : Rows) → SameShadows m n → Goes d n (with_instance h.plain r.id done) over h.locked
+    goes_over n same = goes_one d m h.plain h.known h.locked h.shadows h.beside r.id done
+        (set_over d m h.plain h.known h.locked h.shadows h.beside h.sane h.rows (legal_sane h) r.id k.instance k.made o (outside_there d c.book h.known r g k out at_end)) n same (got_ended d m h.known h.locked h.shadows.got n same r.id k.instance k.made o)
+
+    abbrev pub state : PlainState
+    state = step_by h.plain r.id k.instance (Return o)
+
+    pub leads : k.instance.outcome ≡ None → (next : Known) → Entered d c h.plain h.known (Step r.id) state next
+    leads open_still next = change_entered d c m h (Step r.id) state next refl
+        (enabled_step d h.plain r.id k.instance there open_still (ap (waits_at h.plain.made r.id k.instance) returns_now) (ap (kind_of r.id) returns_now) ∙ ap (λ z. Some (step_by h.plain r.id k.instance z)) returns_now)
+        (λ x touched. let none = sym (ap (touched_by d) there ∙ ap (item_touched k.instance) returns_now) ∙ touched in cc)
