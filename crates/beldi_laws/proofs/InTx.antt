@@ -35,7 +35,6 @@ use Rattle.beldi_step.specs.declared.run.Says.TheVariants as says
 use Rattle.beldi_step.specs.declared.run.Stage.TheVariants as stage
 use Rattle.beldi_step.specs.Host.{Core}
 use Rattle.beldi_step.specs.Run.{begin_of, place_of, tx_of}
-use Rattle.beldi_txn.specs.Tx as txn
 use Rattle.beldi_txn.specs.TxTurn.{Fits}
 use Rattle.beldi_known.specs.Beside.{is_begin}
 use Rattle.beldi_known.specs.Contents.{content_of}
@@ -60,13 +59,7 @@ use Rattle.beldi_laws.proofs.Ended.{ended_at}
 use Rattle.beldi_laws.proofs.Shown.{sound}
 use Rattle.beldi_laws.proofs.Turns.{Freed, Leaves, answers_on, not_over, sane_instance, stands_on, at_steps, wanted_here, front_here, effect_here, answer_here, all_here, effect_next, unmarked_tx}
 
--- an operation is on its item, wants an answer, and is no begin
-pub touches : (e : Effect) (x : ℕ × List ℕ) → txn.item_of e ≡ Some x → touched e ≡ Some x
-touches (effect.Read t k) x h = h
-touches (effect.Write t k v) x h = h
-touches (effect.CondWrite t k r o v) x h = h
-touches e x h = cc
-
+-- an operation on an item wants an answer, and is no begin
 pub wants_one : (e : Effect) (x : ℕ × List ℕ) → touched e ≡ Some x → IsTrue (wants_answer e)
 wants_one (effect.Return o) x h = cc
 wants_one e x h = refl
@@ -250,7 +243,7 @@ module _ (d : Deployment) (c : Core) (m : Rows) (r : Run) (g : Begun) (h : Right
 
 -- ---- what it says leaves
 module _ (d : Deployment) (c : Core) (m : Rows) (i : ℕ) (r : Run) (g : Begun) (h : Right d c m) (live : map.get c.runs i ≡ Some r) (k : Knows d c.book h.known r g) (finds : Inside d m h.plain h.known r g)
-    (o : RunTx) (tx : g.tx ≡ Some o) (here : tx_after d r.id k.instance k.answers ≡ Some (tx_of r.id r.func o)) (e : Effect) (is : g.machine.effect ≡ e) (x : ℕ × List ℕ) (on : txn.item_of e ≡ Some x) where
+    (o : RunTx) (tx : g.tx ≡ Some o) (here : tx_after d r.id k.instance k.answers ≡ Some (tx_of r.id r.func o)) (e : Effect) (is : g.machine.effect ≡ e) (x : ℕ × List ℕ) (touch : touched e ≡ Some x) where
   -- it goes on in the operation; a lock may be ahead that was not
   pub goes_at : (b : TxAt) (n : Rows) (after : IntentId → Bool) → SameRoots m n → Kept h n h.plain h.known after → Fits e b → InOperation d n h.plain h.known r.id r.func o g.machine.steps e b x → Leaves d c m i r g h live k (says.On (stage.Tx b) None) n
   goes_at b n after roots kept fits at =
@@ -258,13 +251,13 @@ module _ (d : Deployment) (c : Core) (m : Rows) (i : ℕ) (r : Run) (g : Begun) 
       (subst (λ t. StageOk t r.id g.caller g.machine.effect (stage.Tx b)) (sym here) (fits_stage (tx_of r.id r.func o) r.id g.caller g.machine.effect b (subst (λ z. Fits z b) (sym is) fits)))
       (unmarked_tx r.id g.machine.steps g.tx g.machine.effect b)
       (subst (λ t. AtStage d n h.plain h.known r.id r.func t g.machine.steps g.machine.effect (stage.Tx b)) (sym tx)
-      (subst (λ z. InItem d n h.plain h.known r.id r.func o g.machine.steps z b (txn.item_of z)) (sym is) (subst (InItem d n h.plain h.known r.id r.func o g.machine.steps e b) (sym on) at)))
+      (subst (λ z. InItem d n h.plain h.known r.id r.func o g.machine.steps z b (touched z)) (sym is) (subst (InItem d n h.plain h.known r.id r.func o g.machine.steps e b) (sym touch) at)))
 
   -- it ends no transaction
   pub frees_none : (n : Rows) → Freed d c m i r g h live k n
-  frees_none n u commit y begun ends owned = let clash = sym on ∙ ap txn.item_of (sym is ∙ ends) in cc
+  frees_none n u commit y begun ends owned = let clash = sym touch ∙ ap touched (sym is ∙ ends) in cc
 
   -- it has the answer that is known
   pub replays : (n : Rows) (a : Answer) (rest : List Answer) → k.later ≡ a ∷ rest → SameRoots m n → Stays h n → Leaves d c m i r g h live k (says.Answers a None) n
-  replays n a rest left roots kept = let touch = touches e x on in answers_on d c m i r g h live k finds a rest n h.known h.locked k.instance roots kept k.made (grown_same k.instance)
+  replays n a rest left roots kept = answers_on d c m i r g h live k finds a rest n h.known h.locked k.instance roots kept k.made (grown_same k.instance)
       (append_assoc k.answers (a ∷ []) rest ∙ known_answers d c m r g h k o here e is x touch a rest left) (wants_here d c m r g h k o here e is x touch) (frees_none n)

@@ -8,7 +8,7 @@ use Rattle.beldi_lang.specs.declared.effect.Effect.TheVariants.{Read, Write, Con
 use Rattle.beldi_book.specs.Order.{count_changes}
 use Rattle.beldi_row.specs.Table.{Rows}
 use Rattle.beldi_order.specs.Txs.{tx_after}
-use Rattle.beldi_txn.specs.Tx.{item_of}
+use Rattle.beldi_plain.specs.Operation.{touched}
 use Rattle.beldi_txn.specs.TxTurn.{Fits}
 use Rattle.beldi_txn.specs.declared.tx.TxAt.{TxAt}
 use Rattle.beldi_txn.specs.declared.tx.TxAt.TheVariants as at
@@ -48,7 +48,7 @@ module _ (d : Deployment) (c : Core) (m : Rows) (i : ℕ) (r : Run) (g : Begun) 
       let z = opens d c m r g h k t inside (ap is_begin is ∙ no_begin e x.0 x.1) in
       subst (AfterStage e (stage.Tx a)) (sym z.1) (by_stage e is z.0 z.1 z.2 a fits (subst (λ w. AtStage d m h.plain h.known r.id r.func w g.machine.steps e (stage.Tx a)) z.1 found))
     where
-      by_stage : (e : Effect) → g.machine.effect ≡ e → (o : RunTx) (tx : g.tx ≡ Some o) (here : tx_after d r.id k.instance k.answers ≡ Some (tx_of r.id r.func o)) (a : TxAt) → Fits e a → InItem d m h.plain h.known r.id r.func o g.machine.steps e a (item_of e)
+      by_stage : (e : Effect) → g.machine.effect ≡ e → (o : RunTx) (tx : g.tx ≡ Some o) (here : tx_after d r.id k.instance k.answers ≡ Some (tx_of r.id r.func o)) (a : TxAt) → Fits e a → InItem d m h.plain h.known r.id r.func o g.machine.steps e a (touched e)
           → AfterStage e (stage.Tx a) (Some o)
       by_stage (Read b y) is o tx here at.Log fits f = log_turn d c m i r g h live k finds o tx here (Read b y) is (b, y) refl fits
       by_stage (Read b y) is o tx here (at.Lock l) fits f = lock_turn d c m i r g h live k finds o tx here (Read b y) is (b, y) refl l fits f

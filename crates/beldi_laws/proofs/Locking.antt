@@ -124,7 +124,14 @@ looks_lock (effect.Write t k v) l h = absurd h
 looks_lock (effect.CondWrite t k r o v) l h = absurd h
 looks_lock e l h = absurd h
 
-looks_read : (e : Effect) (x : ℕ × List ℕ) → Fits e at.Log → item_of e ≡ Some x → e ≡ effect.Read x.0 x.1
+-- its item, as its stage asks for it
+item_touched : (e : Effect) → item_of e ≡ touched e
+item_touched (effect.Read t k) = refl
+item_touched (effect.Write t k v) = refl
+item_touched (effect.CondWrite t k r o v) = refl
+item_touched e = refl
+
+looks_read : (e : Effect) (x : ℕ × List ℕ) → Fits e at.Log → touched e ≡ Some x → e ≡ effect.Read x.0 x.1
 looks_read (effect.Read t k) x h on = ap (λ (z : ℕ × List ℕ). effect.Read z.0 z.1) (same_some on)
 looks_read (effect.Write t k v) x h on = absurd h
 looks_read (effect.CondWrite t k r o v) x h on = absurd h
@@ -194,7 +201,7 @@ noted_death p a j h = cc
 
 -- ---- the turns
 module _ (d : Deployment) (c : Core) (m : Rows) (i : ℕ) (r : Run) (g : Begun) (h : Right d c m) (live : map.get c.runs i ≡ Some r) (k : Knows d c.book h.known r g) (finds : Inside d m h.plain h.known r g)
-    (o : RunTx) (tx : g.tx ≡ Some o) (here : tx_after d r.id k.instance k.answers ≡ Some (tx_of r.id r.func o)) (e : Effect) (is : g.machine.effect ≡ e) (x : ℕ × List ℕ) (on : item_of e ≡ Some x) where
+    (o : RunTx) (tx : g.tx ≡ Some o) (here : tx_after d r.id k.instance k.answers ≡ Some (tx_of r.id r.func o)) (e : Effect) (is : g.machine.effect ≡ e) (x : ℕ × List ℕ) (touch : touched e ≡ Some x) where
   abbrev own : TxId
   own = tx_of r.id r.func o
 
@@ -214,10 +221,7 @@ module _ (d : Deployment) (c : Core) (m : Rows) (i : ℕ) (r : Run) (g : Begun) 
 
   -- .. by what it asks of its item
   asks_it : (a : TxAt) → AfterQuery d h.plain c.now m (λ u. turn_next c i r (turned_by d r g (tx_here_says r.id g.machine.steps e a (Some o) u))) (item_asks r.func place own e x.0 x.1 a) → Turns a
-  asks_it a z = subst (λ y. AfterQuery d h.plain c.now m (λ u. turn_next c i r (turned_by d r g (tx_here_says r.id g.machine.steps e a (Some o) u))) (asks_of r.func place own e a y)) (sym on) z
-
-  touch : touched e ≡ Some x
-  touch = in_tx.touches e x on
+  asks_it a z = subst (λ y. AfterQuery d h.plain c.now m (λ u. turn_next c i r (turned_by d r g (tx_here_says r.id g.machine.steps e a (Some o) u))) (asks_of r.func place own e a y)) (sym (item_touched e ∙ touch)) z
 
   -- what it finds where it asks for its lock
   in_lock : (n : Rows) (l : LockAt) → OfBegin (begin_of o) (at.Lock l) → (has_asked (at.Lock l) ≡ true → is_some (map.get n (lockset_key r.id (begin_of o) item)) ≡ true) → InOperation d n h.plain h.known r.id r.func o g.machine.steps e (at.Lock l) x
@@ -226,11 +230,11 @@ module _ (d : Deployment) (c : Core) (m : Rows) (i : ℕ) (r : Run) (g : Begun) 
   -- it goes on in its operation, or has the answer that is known
   goes_at : (b : TxAt) (n : Rows) (after : IntentId → Bool) → SameRoots m n → Kept h n h.plain h.known after → Fits e b → InOperation d n h.plain h.known r.id r.func o g.machine.steps e b x → Comes (says.On (stage.Tx b) None) n
   unfolding Comes
-  goes_at = in_tx.goes_at d c m i r g h live k finds o tx here e is x on
+  goes_at = in_tx.goes_at d c m i r g h live k finds o tx here e is x touch
 
   replays : (n : Rows) (a : Answer) (rest : List Answer) → k.later ≡ a ∷ rest → SameRoots m n → Stays h n → Comes (says.Answers a None) n
   unfolding Comes
-  replays = in_tx.replays d c m i r g h live k finds o tx here e is x on
+  replays = in_tx.replays d c m i r g h live k finds o tx here e is x touch
 
   -- ---- its instance
   steps : g.machine.steps ≡ length k.answers
@@ -318,14 +322,14 @@ module _ (d : Deployment) (c : Core) (m : Rows) (i : ℕ) (r : Run) (g : Begun) 
     log_row = log_key r.func place
 
     is_read : effect_after d k.instance k.answers ≡ effect.Read x.0 x.1
-    is_read = in_tx.effect_so d c m r g h k o here e is x touch ∙ looks_read e x fits on
+    is_read = in_tx.effect_so d c m r g h k o here e is x touch ∙ looks_read e x fits touch
 
     -- its row, as its instance has it
     its_row : (n : ℕ) → g.machine.steps ≡ n → map.get m (log_key k.instance.func (place_of r.id n)) ≡ map.get m log_row
     its_row n same = ap (map.get m) (λ j. log_key (k.func j) (place_of r.id (sym same j)))
 
     behind_row : (a : Answer) (rest : List Answer) → k.later ≡ a ∷ rest → (w : Row) → map.get m log_row ≡ Some w → answer.Value (given_in w) ≡ a
-    behind_row a rest left w there = by_answer a left (subst (λ z. IsAnswer place (Some own) z a) (looks_read e x fits on) (in_tx.answers_so d c m r g h k o here e is x touch a rest left))
+    behind_row a rest left w there = by_answer a left (subst (λ z. IsAnswer place (Some own) z a) (looks_read e x fits touch) (in_tx.answers_so d c m r g h k o here e is x touch a rest left))
       where
         by_answer : (b : Answer) → k.later ≡ b ∷ rest → IsAnswer place (Some own) (effect.Read x.0 x.1) b → answer.Value (given_in w) ≡ b
         by_answer (answer.Value v) left ok =
@@ -441,7 +445,7 @@ module _ (d : Deployment) (c : Core) (m : Rows) (i : ℕ) (r : Run) (g : Begun) 
           by_effect (effect.Read t y) f = goes_at at.Shadow n after roots kept (subst (λ z. Fits z at.Shadow) f tt) (in_past at.Shadow tt got (λ z u. subst (λ q. Found q at.Shadow z u) f tt))
           by_effect (effect.Write t y u) f = goes_at (at.Write Try) n after roots kept (subst (λ z. Fits z (at.Write Try)) f tt) (in_past (at.Write Try) tt got (λ z u. subst (λ q. Found q (at.Write Try) z u) f tt))
           by_effect (effect.CondWrite t y l p u) f = goes_at at.Shadow n after roots kept (subst (λ z. Fits z at.Shadow) f tt) (in_past at.Shadow tt got (λ z u. subst (λ q. Found q at.Shadow z u) f tt))
-          by_effect f same = let clash = ap item_of same ∙ on in cc
+          by_effect f same = let clash = ap touched same ∙ touch in cc
 
       -- ---- at the front, where the place had no note
       module _ (left : k.later ≡ []) (none : note_at (content_of m item).notes place ≡ None) where
@@ -571,7 +575,7 @@ module _ (d : Deployment) (c : Core) (m : Rows) (i : ℕ) (r : Run) (g : Begun) 
           dies_now = let more = moved_more d r.id k.instance a in
               subst (λ p. Comes (says.Answers (answer.Aborted (record { place = p; holder = Some j })) None) n) (at_place left)
               (turns.answers_on d c m i r g h live k finds a more.more n next h.locked (moved d r.id k.instance a) roots died_kept (inserted h.known r.id (moved d r.id k.instance a)) (grown_moved d r.id k.instance a)
-              (ap (λ ts. (ts ++ a ∷ []) ++ more.more) (turns.all_here d c.book h.known r g k left) ∙ more.same) (in_tx.wants_here d c m r g h k o here e is x touch) (in_tx.frees_none d c m i r g h live k finds o tx here e is x on n))
+              (ap (λ ts. (ts ++ a ∷ []) ++ more.more) (turns.all_here d c.book h.known r g k left) ∙ more.same) (in_tx.wants_here d c m r g h k o here e is x touch) (in_tx.frees_none d c m i r g h live k finds o tx here e is x touch n))
 
       -- ---- what the lock told
       -- where the place had no note, it is at the front

@@ -29,7 +29,7 @@ use Rattle.beldi_txn.specs.declared.end.EndAt.{EndAt}
 use Rattle.beldi_txn.specs.declared.end.EndAt.TheVariants.{Decide, Callees, Next, Shadow, Free, Stamp}
 use Rattle.beldi_txn.specs.declared.end.Visit.{Visit}
 use Rattle.beldi_txn.specs.declared.end_walk.EndWalk.{EndWalk}
-use Rattle.beldi_txn.specs.Tx.{item_of, op_of}
+use Rattle.beldi_txn.specs.Tx.{op_of}
 use Rattle.beldi_txn.specs.TxTurn.{HasLock}
 use Rattle.beldi_txn.specs.Visited.{Visited, IsDecided, DecidedAt}
 use Rattle.beldi_plain.specs.Item.{Item, item_total}
@@ -140,13 +140,6 @@ found_stays (CondWrite t k r o y) (at.Head x) s u v w same there keeps h = λ no
     absent (Some r) none there = let clash = sym (there refl) ∙ ap is_some none in cc
 found_stays (CondWrite t k r o y) (at.Write x) s u v w same there keeps h = there h
 found_stays e a s u v w same there keeps h = tt
-
--- its item is the one that it touches
-item_touched : (e : Effect) → item_of e ≡ touched e
-item_touched (effect.Read t k) = refl
-item_touched (effect.Write t k v) = refl
-item_touched (effect.CondWrite t k r o v) = refl
-item_touched e = refl
 
 -- who writes touches one
 writes_touch : (e : Effect) → is_some (op_of e) ≡ true → is_some (touched e) ≡ true
@@ -349,7 +342,7 @@ module _ (d : Deployment) (c : Core) (m n : Rows) (h : Right d c m) (q : PlainSt
   in_item o is_open e is a (Some i) touch s = operation o is_open e is i touch a s
 
   at_stage : (o : Option RunTx) → g.tx ≡ o → (e : Effect) → g.machine.effect ≡ e → (s : Stage) → StageOk (tx_after d r.id k.instance k.answers) r.id g.caller e s → AtStage d m h.plain h.known r.id r.func o g.machine.steps e s → AtStage d n q next r.id r.func o g.machine.steps e s
-  at_stage (Some o) is_open e is (stage.Tx a) ok s = in_item o is_open e is a (item_of e) (sym (item_touched e)) s
+  at_stage (Some o) is_open e is (stage.Tx a) ok s = in_item o is_open e is a (touched e) refl s
   at_stage (Some (Own o)) is_open (End commit) is (stage.End v) ok s = visited o is_open commit is v (subst (λ t. StageOk t r.id g.caller (End commit) (stage.End v)) (inside (Own o) is_open (ap is_begin is)) ok) s
   at_stage o is_open e is s ok k = tt
 

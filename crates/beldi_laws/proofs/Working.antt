@@ -41,7 +41,7 @@ use Rattle.beldi_daal.specs.declared.cell.WriteAt.TheVariants.{Try, Make}
 use Rattle.beldi_readlog.specs.ReadLog.{log_key}
 use Rattle.beldi_txn.specs.declared.tx.TxAt.{TxAt}
 use Rattle.beldi_txn.specs.declared.tx.TxAt.TheVariants as at
-use Rattle.beldi_txn.specs.Tx.{item_of, item_goes, item_leads, shadow_read, head_goes, head_made, keep_goes, write_leads, note_goes}
+use Rattle.beldi_txn.specs.Tx.{item_goes, item_leads, shadow_read, head_goes, head_made, keep_goes, write_leads, note_goes}
 use Rattle.beldi_txn.specs.Tx as txn
 use Rattle.beldi_txn.specs.TxTurn.{Fits, shadow_value}
 use Rattle.beldi_txn.proofs.TxTurn.{shadow_told}
@@ -90,7 +90,7 @@ use Rattle.beldi_laws.proofs.Closing.{settled_after}
 use Rattle.beldi_laws.proofs.Frames.{NoFinish, NobodyJoins, frame_log, frame_shadow, is_lockset, items_stay, no_finish, nobody_new, nobody_set}
 use Rattle.beldi_laws.proofs.Settling.{settled_operated}
 use Rattle.beldi_laws.proofs.Grown.{grown_moved, grows_moved, moved_more}
-use Rattle.beldi_laws.proofs.InTx.{begin_is, frees_none, open_still, item_self, goes_at, replays, lockset_is, set_roots, touches, same_item, steps, effect_so, wants_here, short, known_answers, answers_so, at_front, now, tx_is, front, apart, opened as opened_here, owned as owned_here, was_locked}
+use Rattle.beldi_laws.proofs.InTx.{begin_is, frees_none, open_still, item_self, goes_at, replays, lockset_is, set_roots, same_item, steps, effect_so, wants_here, short, known_answers, answers_so, at_front, now, tx_is, front, apart, opened as opened_here, owned as owned_here, was_locked}
 use Rattle.beldi_laws.proofs.Keeping.{as_it_was}
 use Rattle.beldi_laws.proofs.Moves.{AfterQuery, AfterTurn, SameRoots, Kept}
 use Rattle.beldi_laws.proofs.Others.{kept_by}
@@ -173,15 +173,12 @@ module _ (d : Deployment) (c : Core) (m : Rows) (i : ℕ) (r : Run) (g : Begun) 
   place = place_of r.id g.machine.steps
 
   -- ---- an operation on an item
-  module _ (e : Effect) (is : g.machine.effect ≡ e) (x : ℕ × List ℕ) (on_item : item_of e ≡ Some x) (l : HasLocked m r o g.machine.steps x) where
+  module _ (e : Effect) (is : g.machine.effect ≡ e) (x : ℕ × List ℕ) (touch : touched e ≡ Some x) (l : HasLocked m r o g.machine.steps x) where
     abbrev item : Item
     item = record { func = r.func; table = x.0; key = x.1 }
 
     abbrev its_item : Item
     its_item = record { func = k.instance.func; table = x.0; key = x.1 }
-
-    touch : touched e ≡ Some x
-    touch = touches e x on_item
 
     same : its_item ≡ item
     same = same_item d c m r g h k o here e is x touch
@@ -189,7 +186,7 @@ module _ (d : Deployment) (c : Core) (m : Rows) (i : ℕ) (r : Run) (g : Begun) 
     -- ---- it goes on to another stage, with the rows as they are
     moves_on : (b : TxAt) → Fits e b → InOperation d m h.plain h.known r.id r.func o g.machine.steps e b x → Leaves (says.On (stage.Tx b) None) m
     unfolding Leaves
-    moves_on b fits f = goes_at d c m i r g h live k finds o tx here e is x on_item b m h.locked (λ u. refl) (as_it_was h) fits f
+    moves_on b fits f = goes_at d c m i r g h live k finds o tx here e is x touch b m h.locked (λ u. refl) (as_it_was h) fits f
 
     stays_here : Leaves says.Stays m
     unfolding Leaves
@@ -197,7 +194,7 @@ module _ (d : Deployment) (c : Core) (m : Rows) (i : ℕ) (r : Run) (g : Begun) 
 
     known_again : (a : Answer) (rest : List Answer) → k.later ≡ a ∷ rest → Leaves (says.Answers a None) m
     unfolding Leaves
-    known_again a rest left = replays d c m i r g h live k finds o tx here e is x on_item m a rest left (λ u. refl) (as_it_was h)
+    known_again a rest left = replays d c m i r g h live k finds o tx here e is x touch m a rest left (λ u. refl) (as_it_was h)
 
     -- a row that is as it was
     still_row : (s : Says) (z : RowKey) (v : Option Row) → map.get m z ≡ v → Leaves s m → Leaves s (set_row m z v)
@@ -296,7 +293,7 @@ module _ (d : Deployment) (c : Core) (m : Rows) (i : ℕ) (r : Run) (g : Begun) 
       answers_now a n roots kept =
           let more = moved_more d r.id k.instance a in
           answers_on d c m i r g h live k finds a more.more n (next a) after (moved d r.id k.instance a) roots kept (maps.here h.known r.id (moved d r.id k.instance a)) (grown_moved d r.id k.instance a)
-          (ap (λ ts. (ts ++ a ∷ []) ++ more.more) (all_here d c.book h.known r g k left) ∙ more.same) (wants_here d c m r g h k o here e is x touch) (frees_none d c m i r g h live k finds o tx here e is x on_item n)
+          (ap (λ ts. (ts ++ a ∷ []) ++ more.more) (all_here d c.book h.known r g k left) ∙ more.same) (wants_here d c m r g h k o here e is x touch) (frees_none d c m i r g h live k finds o tx here e is x touch n)
 
       answer_keeps : (a : Answer) (n : Rows) → ((z : Cause) → a ≡ answer.Aborted z → ⊥) → Goes d n h.plain (next a) after → Sane d (next a) → Matches d n (next a) after → ((y : Item) → listed n y ≡ listed m y) → Frame d m n h.plain h.plain h.known (next a) → NoFinish d m n (next a) → Kept h n h.plain (next a) after
       answer_keeps a n lives goes sane matches lists frame unfinished = kept_by d c m n h h.plain (next a) after (record {
@@ -339,7 +336,7 @@ module _ (d : Deployment) (c : Core) (m : Rows) (i : ℕ) (r : Run) (g : Begun) 
       first_made : (v : Value) → is_some (txn.op_of e) ≡ true → map.get m (shadow_key own item) ≡ None → ((writes_on item r.func e ≡ true) ⊎ (v ≡ value_at h.plain item)) → Fits e (at.Write Try) → Found e (at.Write Try) (Some (fresh v)) (value_at h.plain item)
           → Leaves (says.On (stage.Tx (at.Write Try)) None) (set_row m (shadow_key own item) (Some (fresh v)))
       unfolding Leaves
-      first_made v writes none by fits finds_it = let n = set_row m (shadow_key own item) (Some (fresh v)) in goes_at d c m i r g h live k finds o tx here e is x on_item (at.Write Try) n h.locked (set_roots m r.func (kinds.Shadow own x.0 x.1 0) (Some (fresh v)) refl)
+      first_made v writes none by fits finds_it = let n = set_row m (shadow_key own item) (Some (fresh v)) in goes_at d c m i r g h live k finds o tx here e is x touch (at.Write Try) n h.locked (set_roots m r.func (kinds.Shadow own x.0 x.1 0) (Some (fresh v)) refl)
           (as_ran (λ y q. Kept h (set_row m (shadow_key own y) (Some (fresh v))) h.plain h.known h.locked) (first_keeps v writes (as_its (λ y q. map.get m (shadow_key own y) ≡ None) none)
           (subst (λ z. (writes_on its_item k.instance.func z ≡ true) ⊎ (v ≡ value_at h.plain its_item)) (sym now_is) (as_its (λ y q. (writes_on y y.func e ≡ true) ⊎ (v ≡ value_at h.plain y)) by))))
           fits (record {
@@ -438,17 +435,17 @@ module _ (d : Deployment) (c : Core) (m : Rows) (i : ℕ) (r : Run) (g : Begun) 
   abbrev HasNote : Effect → ℕ × List ℕ → Answer → Type 0
   HasNote e x b = (w : Note) × (note_at (shadow_of m own (record { func = r.func; table = x.0; key = x.1 })).notes place ≡ Some w) × (tx_says (at.Write Try) (note_goes e w) ≡ says.Answers b None)
 
-  module _ (e : Effect) (is : g.machine.effect ≡ e) (x : ℕ × List ℕ) (on_item : item_of e ≡ Some x) (l : HasLocked m r o g.machine.steps x) (fits : (w : WriteAt) → Fits e (at.Write w))
+  module _ (e : Effect) (is : g.machine.effect ≡ e) (x : ℕ × List ℕ) (touch : touched e ≡ Some x) (l : HasLocked m r o g.machine.steps x) (fits : (w : WriteAt) → Fits e (at.Write w))
       (finds_it : (w : WriteAt) → k.later ≡ [] → Found e (at.Write w) (map.get m (shadow_key own (record { func = r.func; table = x.0; key = x.1 }))) (value_at h.plain (record { func = r.func; table = x.0; key = x.1 })))
       (n : Note) (has_note : (b : Answer) (rest : List Answer) → k.later ≡ b ∷ rest → HasNote e x b) where
     abbrev its : RowKey
     its = shadow_key own (record { func = r.func; table = x.0; key = x.1 })
 
     stood : (w : WriteAt) → InOperation d m h.plain h.known r.id r.func o g.machine.steps e (at.Write w) x
-    stood w = record { begin = tt; asked = λ u. l.asked; locked = l.got; found = λ q made same. finds_it w (at_front d c m r g h k o here e is x (touches e x on_item) q made same) }
+    stood w = record { begin = tt; asked = λ u. l.asked; locked = l.got; found = λ q made same. finds_it w (at_front d c m r g h k o here e is x touch q made same) }
 
     onto : (w : WriteAt) → Leaves (says.On (stage.Tx (at.Write w)) None) m
-    onto w = moves_on e is x on_item l (at.Write w) (fits w) (stood w)
+    onto w = moves_on e is x touch l (at.Write w) (fits w) (stood w)
 
     -- the shadow is there behind
     not_behind : (b : Answer) (rest : List Answer) → k.later ≡ b ∷ rest → map.get m its ≡ None → ⊥
@@ -460,7 +457,7 @@ module _ (d : Deployment) (c : Core) (m : Rows) (i : ℕ) (r : Run) (g : Begun) 
 
     module _ (makes : k.later ≡ [] → map.get m its ≡ None → Leaves (says.On (stage.Tx (at.Write Try)) None) (set_row m its (Some (fresh value.Null)))) where
       makes_by : (later : List Answer) → k.later ≡ later → (v : Option Row) → map.get m its ≡ v → Makes v
-      makes_by later left (Some v) there = still_row e is x on_item l (says.On (stage.Tx (at.Write Try)) None) its (Some v) there (onto Try)
+      makes_by later left (Some v) there = still_row e is x touch l (says.On (stage.Tx (at.Write Try)) None) its (Some v) there (onto Try)
       makes_by [] left None there = makes left there
       makes_by (b ∷ rest) left None there = absurd (not_behind b rest left there)
 
@@ -469,7 +466,7 @@ module _ (d : Deployment) (c : Core) (m : Rows) (i : ℕ) (r : Run) (g : Begun) 
 
     -- it writes
     module _ (does : Cell → Cell × Tell) (a : Cell → Answer) (told_now : (z : Cell) → tx_says (at.Write Try) (write_leads e (write_goes n (said (does z).1))) ≡ says.Answers (a z) None)
-        (keeps : (left : k.later ≡ []) (z : Cell) → map.get m its ≡ Some (rows.Cell z) → SoundAt (Some (rows.Cell z)) → note_at z.log place ≡ None → other_owner (ByTx own) z.owner ≡ None → Kept h (set_row m its (Some (rows.Cell (does z).0))) h.plain (next e is x on_item l (a z)) (after e is x on_item l)) where
+        (keeps : (left : k.later ≡ []) (z : Cell) → map.get m its ≡ Some (rows.Cell z) → SoundAt (Some (rows.Cell z)) → note_at z.log place ≡ None → other_owner (ByTx own) z.owner ≡ None → Kept h (set_row m its (Some (rows.Cell (does z).0))) h.plain (next e is x touch l (a z)) (after e is x touch l)) where
       abbrev Writes : Cell × Tell → Type 0
       Writes y = Leaves (tx_says (at.Write Try) (write_leads e (write_goes n (said y.1)))) (set_row m its (Some (rows.Cell y.0)))
 
@@ -477,18 +474,18 @@ module _ (d : Deployment) (c : Core) (m : Rows) (i : ℕ) (r : Run) (g : Begun) 
         -- its place has the note
         noted_by : (later : List Answer) → k.later ≡ later → (w : Note) → note_at z.log place ≡ Some w → Writes (z, said_noted w)
         noted_by [] left w is_there =
-            let clash = sym is_there ∙ ap (λ v. note_at (content_in v).notes place) (sym there) ∙ as_ran e is x on_item l left (λ y p. note_at (shadow_of m own y).notes p ≡ None) (no_shadow_note d m h.known h.locked h.rows r.id k.instance k.made own (record { func = k.instance.func; table = x.0; key = x.1 })) in cc
+            let clash = sym is_there ∙ ap (λ v. note_at (content_in v).notes place) (sym there) ∙ as_ran e is x touch l left (λ y p. note_at (shadow_of m own y).notes p ≡ None) (no_shadow_note d m h.known h.locked h.rows r.id k.instance k.made own (record { func = k.instance.func; table = x.0; key = x.1 })) in cc
         noted_by (b ∷ rest) left w is_there =
             let q = has_note b rest left in
             let same : q.0 ≡ w = maps.same_some (sym q.1 ∙ ap (λ v. note_at (content_in v).notes place) there ∙ is_there) in
             subst (λ u. Leaves (tx_says (at.Write Try) (note_goes e u)) (set_row m its (Some (rows.Cell z)))) same
-            (subst (λ s. Leaves s (set_row m its (Some (rows.Cell z)))) (sym q.2) (still_row e is x on_item l (says.Answers b None) its (Some (rows.Cell z)) there (known_again e is x on_item l b rest left)))
+            (subst (λ s. Leaves s (set_row m its (Some (rows.Cell z)))) (sym q.2) (still_row e is x touch l (says.Answers b None) its (Some (rows.Cell z)) there (known_again e is x touch l b rest left)))
 
         -- it has none: it writes now, unless another owns the shadow
         done_by : (later : List Answer) → k.later ≡ later → note_at z.log place ≡ None → (u : Option Owner) → other_owner (ByTx own) z.owner ≡ u → Writes (cell_held z u (does z))
-        done_by later left none (Some u) owner = still_row e is x on_item l says.Stays its (Some (rows.Cell z)) there (stays_here e is x on_item l)
+        done_by later left none (Some u) owner = still_row e is x touch l says.Stays its (Some (rows.Cell z)) there (stays_here e is x touch l)
         done_by [] left none None owner = subst (λ s. Leaves s (set_row m its (Some (rows.Cell (does z).0)))) (sym (told_now z))
-            (answers_now e is x on_item l left (a z) (set_row m its (Some (rows.Cell (does z).0))) (set_roots m r.func (kinds.Shadow own x.0 x.1 0) (Some (rows.Cell (does z).0)) refl) (keeps left z there sound none owner))
+            (answers_now e is x touch l left (a z) (set_row m its (Some (rows.Cell (does z).0))) (set_roots m r.func (kinds.Shadow own x.0 x.1 0) (Some (rows.Cell (does z).0)) refl) (keeps left z there sound none owner))
         done_by (b ∷ rest) left none None owner = let clash = sym (has_note b rest left).1 ∙ ap (λ v. note_at (content_in v).notes place) there ∙ none in cc
 
         by_note : (w : Option Note) → note_at z.log place ≡ w → Writes (cell_noted z w (next_or z z.next (cell_held z (other_owner (ByTx own) z.owner) (does z))))
@@ -499,7 +496,7 @@ module _ (d : Deployment) (c : Core) (m : Rows) (i : ℕ) (r : Run) (g : Begun) 
       Tries y = Leaves (tx_says (at.Write Try) (write_leads e (write_goes n (said y.1)))) (set_row m its y.0)
 
       tries_by : (v : Option Row) → map.get m its ≡ v → SoundAt v → Tries (on_shadow place (ByTx own) does v)
-      tries_by None there sound = still_row e is x on_item l (says.On (stage.Tx (at.Write Make)) None) its None there (onto Make)
+      tries_by None there sound = still_row e is x touch l (says.On (stage.Tx (at.Write Make)) None) its None there (onto Make)
       tries_by (Some (rows.Cell z)) there sound = by_note z there sound (note_at z.log place) refl
       tries_by (Some v) there sound = absurd sound
 
@@ -669,7 +666,7 @@ module _ (d : Deployment) (c : Core) (m : Rows) (i : ℕ) (r : Run) (g : Begun) 
       test_turn Make = test_make
 
   -- ---- every stage past the lock
-  pub working_turn : (e : Effect) (a : TxAt) → g.machine.effect ≡ e → is_past a ≡ true → Fits e a → InItem d m h.plain h.known r.id r.func o g.machine.steps e a (item_of e) → Turn e a
+  pub working_turn : (e : Effect) (a : TxAt) → g.machine.effect ≡ e → is_past a ≡ true → Fits e a → InItem d m h.plain h.known r.id r.func o g.machine.steps e a (touched e) → Turn e a
   working_turn e at.Log is past fits f = cc
   working_turn e (at.Lock w) is past fits f = cc
   working_turn (effect.Read t key) at.Shadow is past fits f = shadow_turn t key is (record { asked = f.asked refl; got = f.locked })

@@ -23,7 +23,7 @@ use Rattle.beldi_txn.specs.declared.tx.TxAt.{TxAt}
 use Rattle.beldi_txn.specs.declared.tx.TxAt.TheVariants as at
 use Rattle.beldi_txn.specs.declared.end.Visit.{Visit}
 use Rattle.beldi_txn.specs.declared.end_walk.EndWalk.{EndWalk}
-use Rattle.beldi_txn.specs.Tx.{item_of, op_of}
+use Rattle.beldi_txn.specs.Tx.{op_of}
 use Rattle.beldi_txn.specs.End.{end_place, first_end}
 use Rattle.beldi_txn.specs.Invokes.{func_called}
 use Rattle.beldi_txn.specs.TxTurn.{HasLock}
@@ -31,6 +31,7 @@ use Rattle.beldi_txn.specs.Visited.{AreReleased, Visited}
 use Rattle.beldi_invokelog.specs.InvokeLog.{invoke_key}
 use Rattle.beldi_laws.specs.Stands.{key_in}
 use Rattle.beldi_plain.specs.Item.{Item}
+use Rattle.beldi_plain.specs.Operation.{touched}
 use Rattle.beldi_plain.specs.Plain.{Instance, PlainState, value_at, effect_of}
 use Rattle.beldi_order.specs.Inside.{IsBelow}
 use Rattle.beldi_order.specs.Txs.{tx_now}
@@ -85,7 +86,7 @@ end_walk id func o step commit v = record { tx = own_tx id func o; end = step; c
 
 -- ---- a run
 abbrev pub AtStage : Deployment → Rows → PlainState → Known → IntentId → ℕ → Option RunTx → ℕ → Effect → Stage → Type 0
-AtStage d m p known id func (Some o) step e (stage.Tx a) = InItem d m p known id func o step e a (item_of e)
+AtStage d m p known id func (Some o) step e (stage.Tx a) = InItem d m p known id func o step e a (touched e)
 AtStage d m p known id func (Some (Own o)) step (End commit) (stage.End v) = Visited (end_walk id func o step commit v) m
 AtStage d m p known id func o step e s = Unit {0}
 
