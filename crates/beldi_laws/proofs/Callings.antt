@@ -14,7 +14,7 @@ use Rattle.beldi_lang.specs.declared.effect.Answer.{Answer}
 use Rattle.beldi_lang.specs.declared.effect.Effect.TheVariants.{Call}
 use Rattle.beldi_laws.proofs.CallsHere.{not_made, was_made, made_by, next_here, callee_knows, given_first, first_given, call_now, absent_here, callee_frame, callee_there, caller_there, call_entered, callee_goes, callee_row, callee_ahead, callee_settled, callee_grows, no_outcome}
 use Rattle.beldi_laws.proofs.Keeping.{as_it_was, set_shadows}
-use Rattle.beldi_laws.proofs.Passing.{call_ok, replays_call, tx_is, tx_now_is, tx_step_is}
+use Rattle.beldi_laws.proofs.Passing.{replays_call, tx_is, tx_now_is, tx_step_is}
 use Rattle.beldi_laws.specs.Inside.{Inside}
 use Rattle.beldi_laws.proofs.Moves.{AfterTurn, AfterQuery, Kept, SameRoots, quiet, entered, AfterAct, still}
 use Rattle.beldi_laws.proofs.Registered.{kept_moving, no_intent}
@@ -53,7 +53,7 @@ use Rattle.beldi_value.specs.declared.place.TxId.{TxId}
 use Rattle.beldi_value.specs.declared.value.Value.{Value}
 use Rattle.beldi_known.specs.Owed.{result_of}
 use Rattle.beldi_known.specs.Rows.{CallMatches}
-use Rattle.beldi_laws.specs.Right.{Right, RunAt, Knows, KnowsAt, SeenDone, StageOk}
+use Rattle.beldi_laws.specs.Right.{Right, RunAt, Knows, KnowsAt, SeenDone}
 use Rattle.beldi_known.specs.Beside.{is_begin}
 use Rattle.beldi_known.specs.InsideLaws.{Goes}
 use Rattle.beldi_known.specs.Known.{owed_call, Known, at_once}
@@ -104,9 +104,6 @@ module _ (d : Deployment) (c : Core) (m : Rows) (i : ℕ) (r : Run) (g : Begun) 
   apart : is_begin g.machine.effect ≡ false
   apart = ap is_begin is
 
-  looks_ok : StageOk (tx_after d r.id k.instance k.answers) r.id g.caller (Call f v) (stage.Call call.Look)
-  looks_ok = call_ok (tx_after d r.id k.instance k.answers) r.id g.caller f v call.Look hops
-
   starts : (n : Rows) (p : PlainState) (book : List Entry) (known : Known) → Sane d known → map.get known r.id ≡ Some k.instance → is_some (map.get known callee) ≡ true → (o : Run) → run_called r ≡ Some o → KnowsAt d n p book known o o.at
   starts n p book known sane made there o started = callee_knows d n p book known sane r g.tx g.machine.steps g.machine.effect f v k.instance is made k.func (tx_step_is d c.book h.known r g k apart) call_here there o (sym (ap (callee_at r) at_is) ∙ started)
 
@@ -118,7 +115,7 @@ module _ (d : Deployment) (c : Core) (m : Rows) (i : ℕ) (r : Run) (g : Begun) 
 
   opens_again : is_some (map.get h.known callee) ≡ true → Left (Opens (step_mark g.tx false)) m
   opens_again there = subst (λ z. Left (Opens z) m) (sym (again_unmarked g.tx)) (quiet d c m m i r h live (λ t. refl) (turned_by d r g (Opens None)) h.known h.locked refl refl
-      (stays_other d c m i r g h live k finds (Call f v) is m (stage.Call call.Look) refl (as_it_was h) looks_ok tt there)
+      (stays_other d c m i r g h live k finds (Call f v) is m (stage.Call call.Look) refl (as_it_was h) hops tt there)
       (λ e. starts_here there) (as_it_was h))
 
   -- ---- it is opened now: it is the instance's next step
@@ -152,7 +149,7 @@ module _ (d : Deployment) (c : Core) (m : Rows) (i : ℕ) (r : Run) (g : Begun) 
       stays_made = callee_there d c m r g h k finds true f v is hops new left t inner
 
       looks : (more : List Entry) (q : PlainState) → Kept h rows_now q next h.locked → RunAt d rows_now q more next (Some (record r { at = Begins (at_stage g (stage.Call call.Look)) }))
-      looks more q kept = at_other d c m i r g h live k finds (Call f v) is more rows_now q next h.locked k.instance k.later (stage.Call call.Look) refl kept made (grown_same k.instance) k.run_answers looks_ok tt stays_made
+      looks more q kept = at_other d c m i r g h live k finds (Call f v) is more rows_now q next h.locked k.instance k.later (stage.Call call.Look) refl kept made (grown_same k.instance) k.run_answers hops tt stays_made
 
     -- outside, by an entry
     opens_outside : g.tx ≡ None → Left (Opens (Some mark.Step)) rows_now

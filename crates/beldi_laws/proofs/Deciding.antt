@@ -146,8 +146,8 @@ module _ (d : Deployment) (c : Core) (m : Rows) (i : ℕ) (r : Run) (g : Begun) 
   own_key = ap (λ f. log_key f (place_of r.id o.begin)) k.func
 
   -- ---- where it stands next
-  fits_end : StageOk (tx_after d r.id k.instance k.answers) r.id g.caller g.machine.effect (stage.End next_visit)
-  fits_end = subst (λ t. StageOk t r.id g.caller g.machine.effect (stage.End next_visit)) (sym inside_here) (subst (λ e. StageOk (Some own) r.id g.caller e (stage.End next_visit)) (sym is) refl)
+  fits_end : StageOk (is_some (tx_after d r.id k.instance k.answers)) r.id g.caller g.machine.effect (stage.End next_visit)
+  fits_end = subst (λ t. StageOk (is_some t) r.id g.caller g.machine.effect (stage.End next_visit)) (sym inside_here) (subst (λ e. StageOk true r.id g.caller e (stage.End next_visit)) (sym is) refl)
 
   mark_end : MarkOk r.id g.machine.steps g.tx g.machine.effect (stage.End next_visit)
   mark_end = subst (λ t. MarkOk r.id g.machine.steps t g.machine.effect (stage.End next_visit)) (sym tx) (subst (λ e. MarkOk r.id g.machine.steps (Some (Own o)) e (stage.End next_visit)) (sym is) tt)

@@ -127,7 +127,7 @@ module _ (d : Deployment) (c : Core) (m : Rows) (i : ℕ) (h : Right d c m) (r :
     back_at (Some b) o from is waited = back_turn d c m i r g h live k finds o is b from waited
 
     -- what its stage leaves
-    stage_turn : (t : Option TxId) (e : Effect) (s : Stage) → tx_after d r.id k.instance k.answers ≡ t → g.machine.effect ≡ e → StageOk t r.id g.caller e s → PlaceOk d c.book r.id r.func k.answers k.later e s → SeenDone h.known r.id g.machine.steps k.instance g.caller s → MarkOk r.id g.machine.steps g.tx e s
+    stage_turn : (t : Option TxId) (e : Effect) (s : Stage) → tx_after d r.id k.instance k.answers ≡ t → g.machine.effect ≡ e → StageOk (is_some t) r.id g.caller e s → PlaceOk d c.book r.id r.func k.answers k.later e s → SeenDone h.known r.id g.machine.steps k.instance g.caller s → MarkOk r.id g.machine.steps g.tx e s
         → AtStage d m h.plain h.known r.id r.func g.tx g.machine.steps e s → AfterStage e s
     stage_turn None (Read t key) stage.Ask out is ok at done mark here = ask_turn d c m i r g h live k finds out t key is
     stage_turn None (Read t key) stage.Walk out is ok at done mark here = walk_turn d c m i r g h live k finds out t key is

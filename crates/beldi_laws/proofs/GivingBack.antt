@@ -118,8 +118,8 @@ module _ (d : Deployment) (c : Core) (m : Rows) (i : ℕ) (r : Run) (g : Begun) 
         ∙ ap (λ t. if t then Some (k.instance.func, result_of k.instance) else None) (eq-eqb called.caller.func b.func called.func)
         ∙ ap (λ z. Some (k.instance.func, (if z then k.instance.outcome else None))) waited_here
 
-    closes : StageOk (tx_after d r.id k.instance k.answers) r.id g.caller (Return o) stage.Close
-    closes = close_ok (tx_after d r.id k.instance k.answers) r.id g.caller o (ap is_waited from ∙ waits)
+    closes : StageOk (is_some (tx_after d r.id k.instance k.answers)) r.id g.caller (Return o) stage.Close
+    closes = close_ok (is_some (tx_after d r.id k.instance k.answers)) r.id g.caller o (ap is_waited from ∙ waits)
 
     closes_on : is_some k.instance.outcome ≡ true → Left (On stage.Close None) m
     closes_on there = on_other d c m i r g h live k finds (Return o) is m stage.Close refl (λ t. refl) (as_it_was h) closes tt (λ w. there)

@@ -84,11 +84,11 @@ ends_same n (effect.End c) s b x touch = cc
 ends_same n e s b x touch = refl
 
 -- a stage of an operation is one in each transaction
-pub fits_stage : (t : TxId) (id : IntentId) (c : Option Caller) (e : Effect) (a : TxAt) → Fits e a → StageOk (Some t) id c e (stage.Tx a)
-fits_stage t id c (effect.Call f v) a h = h
-fits_stage t id c (effect.Return u) a h = h
-fits_stage t id c (effect.End b) a h = h
-fits_stage t id c e a h = h
+pub fits_stage : (id : IntentId) (c : Option Caller) (e : Effect) (a : TxAt) → Fits e a → StageOk true id c e (stage.Tx a)
+fits_stage id c (effect.Call f v) a h = h
+fits_stage id c (effect.Return u) a h = h
+fits_stage id c (effect.End b) a h = h
+fits_stage id c e a h = h
 
 -- a lockset row that is there is one
 pub lockset_is : (r : Option Row) (owed ahead : Bool) → LocksetMatches r owed ahead → is_some r ≡ true → r ≡ Some rows.Lockset
@@ -248,7 +248,7 @@ module _ (d : Deployment) (c : Core) (m : Rows) (i : ℕ) (r : Run) (g : Begun) 
   pub goes_at : (b : TxAt) (n : Rows) (after : IntentId → Bool) → SameRoots m n → Kept h n h.plain h.known after → Fits e b → InOperation d n h.plain h.known r.id r.func o g.machine.steps e b x → Leaves d c m i r g h live k (says.On (stage.Tx b) None) n
   goes_at b n after roots kept fits at =
       stands_on d c m i r g h live k finds (stage.Tx b) n after refl roots kept
-      (subst (λ t. StageOk t r.id g.caller g.machine.effect (stage.Tx b)) (sym here) (fits_stage (tx_of r.id r.func o) r.id g.caller g.machine.effect b (subst (λ z. Fits z b) (sym is) fits)))
+      (subst (λ t. StageOk (is_some t) r.id g.caller g.machine.effect (stage.Tx b)) (sym here) (fits_stage r.id g.caller g.machine.effect b (subst (λ z. Fits z b) (sym is) fits)))
       (unmarked_tx r.id g.machine.steps g.tx g.machine.effect b)
       (subst (λ t. AtStage d n h.plain h.known r.id r.func t g.machine.steps g.machine.effect (stage.Tx b)) (sym tx)
       (subst (λ z. InItem d n h.plain h.known r.id r.func o g.machine.steps z b (touched z)) (sym is) (subst (InItem d n h.plain h.known r.id r.func o g.machine.steps e b) (sym touch) at)))

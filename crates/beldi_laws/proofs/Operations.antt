@@ -128,7 +128,7 @@ touches_it : (e : Effect) (o : OnItem) (q : Instance) → op_of e ≡ Some o →
 touches_it (effect.Read t k) o q h = cc
 touches_it e o q h = ap (option_map (item_in q.func)) h
 
-may_stand : (id : IntentId) (c : Option Caller) (e : Effect) (o : OnItem) (at : WriteAt) → op_of e ≡ Some o → StageOk None id c e (stage.Write at)
+may_stand : (id : IntentId) (c : Option Caller) (e : Effect) (o : OnItem) (at : WriteAt) → op_of e ≡ Some o → StageOk false id c e (stage.Write at)
 may_stand id c (effect.Write t k v) o at h = tt
 may_stand id c (effect.CondWrite t k r u v) o at h = tt
 may_stand id c (effect.Lock t k) o at h = tt

@@ -341,9 +341,9 @@ module _ (d : Deployment) (c : Core) (m n : Rows) (h : Right d c m) (q : PlainSt
   in_item o is_open e is a None touch s = tt
   in_item o is_open e is a (Some i) touch s = operation o is_open e is i touch a s
 
-  at_stage : (o : Option RunTx) → g.tx ≡ o → (e : Effect) → g.machine.effect ≡ e → (s : Stage) → StageOk (tx_after d r.id k.instance k.answers) r.id g.caller e s → AtStage d m h.plain h.known r.id r.func o g.machine.steps e s → AtStage d n q next r.id r.func o g.machine.steps e s
+  at_stage : (o : Option RunTx) → g.tx ≡ o → (e : Effect) → g.machine.effect ≡ e → (s : Stage) → StageOk (is_some (tx_after d r.id k.instance k.answers)) r.id g.caller e s → AtStage d m h.plain h.known r.id r.func o g.machine.steps e s → AtStage d n q next r.id r.func o g.machine.steps e s
   at_stage (Some o) is_open e is (stage.Tx a) ok s = in_item o is_open e is a (touched e) refl s
-  at_stage (Some (Own o)) is_open (End commit) is (stage.End v) ok s = visited o is_open commit is v (subst (λ t. StageOk t r.id g.caller (End commit) (stage.End v)) (inside (Own o) is_open (ap is_begin is)) ok) s
+  at_stage (Some (Own o)) is_open (End commit) is (stage.End v) ok s = visited o is_open commit is v (subst (λ t. StageOk (is_some t) r.id g.caller (End commit) (stage.End v)) (inside (Own o) is_open (ap is_begin is)) ok) s
   at_stage o is_open e is s ok k = tt
 
   found : Inside d m h.plain h.known r g → Inside d n q next r g

@@ -56,7 +56,7 @@ is_call (effect.Async f v) = true
 is_call e = false
 
 -- a run that stands outside has no effect of a transaction
-pub stands_outside : (id : IntentId) (c : Option Caller) (e : Effect) (s : Stage) → StageOk None id c e s → is_of_tx e ≡ false
+pub stands_outside : (id : IntentId) (c : Option Caller) (e : Effect) (s : Stage) → StageOk false id c e s → is_of_tx e ≡ false
 stands_outside id c effect.Begin s h = absurd h
 stands_outside id c (effect.End b) s h = absurd h
 stands_outside id c effect.Abort s h = absurd h

@@ -1,7 +1,6 @@
 -- The turns of an effect that is carried out inside a transaction as outside, a call or a return: what its run is in, and how it goes on.
-use Rattle.std.proofs.Common.{◌≡◌, ◌∙◌, ℕ, true, false, IsTrue, List, [], ◌∷◌, ◌++◌, Option, Some, None, is_some, refl, ap, sym, subst, append_assoc}
+use Rattle.std.proofs.Common.{◌≡◌, ◌∙◌, ℕ, Bool, true, false, IsTrue, List, [], ◌∷◌, ◌++◌, Option, Some, None, is_some, refl, ap, sym, subst, append_assoc}
 use Rattle.std.specs.FinMap as map
-use Rattle.beldi_value.specs.Id.{has_callees}
 use Rattle.beldi_value.specs.declared.id.IntentId.{IntentId}
 use Rattle.beldi_value.specs.declared.outcome.Outcome.{Outcome}
 use Rattle.beldi_value.specs.declared.place.Caller.{Caller}
@@ -15,7 +14,6 @@ use Rattle.beldi_lang.specs.Wants.{wants_answer}
 use Rattle.beldi_row.specs.Table.{Rows}
 use Rattle.beldi_book.specs.declared.entry.Entry.{Entry}
 use Rattle.beldi_order.specs.Txs.{effect_after, tx_after, tx_at, tx_now, txs_after}
-use Rattle.beldi_call.specs.declared.call.CallAt.{CallAt}
 use Rattle.beldi_step.specs.declared.run.Begun.{Begun}
 use Rattle.beldi_step.specs.declared.run.Run.{Run}
 use Rattle.beldi_step.specs.declared.run.RunTx.{RunTx}
@@ -70,14 +68,10 @@ module _ (d : Deployment) (book : List Entry) (known : Known) (r : Run) (g : Beg
       by_within None e = open_none d r.id k.instance k.answers (outside_so d r.id k.instance k.answers (e, none_begun (txs_after d k.instance k.answers).begun refl) (ap is_begin returns))
 
 -- ---- its stages
--- of a call, and of an end that its caller waits for
-pub call_ok : (t : Option TxId) (id : IntentId) (c : Option Caller) (f : ℕ) (v : Value) (w : CallAt) → has_callees id ≡ true → StageOk t id c (Call f v) (stage.Call w)
-call_ok None id c f v w h = h
-call_ok (Some t) id c f v w h = h
-
-pub close_ok : (t : Option TxId) (id : IntentId) (c : Option Caller) (o : Outcome) → is_waited c ≡ true → StageOk t id c (Return o) stage.Close
-close_ok None id c o h = tt
-close_ok (Some t) id c o h = h
+-- of an end that its caller waits for
+pub close_ok : (inside : Bool) (id : IntentId) (c : Option Caller) (o : Outcome) → is_waited c ≡ true → StageOk inside id c (Return o) stage.Close
+close_ok false id c o h = tt
+close_ok true id c o h = h
 
 module _ (d : Deployment) (c : Core) (m : Rows) (i : ℕ) (r : Run) (g : Begun) (h : Right d c m) (live : map.get c.runs i ≡ Some r) (k : Knows d c.book h.known r g) (finds : Inside d m h.plain h.known r g) (e : Effect) (is : g.machine.effect ≡ e) where
   -- a call replays: the answer is the one that its instance has

@@ -96,7 +96,7 @@ unmarked_tx id n o e a = tt
 -- ---- where an effect begins is one of its stages, of which a run knows what it has to, and has found nothing yet
 module _ (d : Deployment) (book : List Entry) (n : Rows) (p : PlainState) (known : Known) (id : IntentId) (func step : ℕ) (q : Instance) (c : Option Caller) (answers later : List Answer) where
   pub record First (t : Option TxId) (o : Option RunTx) (e : Effect) (s : Stage) : Type 0 where
-    pub fits : StageOk t id c e s
+    pub fits : StageOk (is_some t) id c e s
     pub mark : MarkOk id step o e s
     pub place : PlaceOk d book id func answers later e s
     pub done : SeenDone known id step q c s
@@ -132,10 +132,10 @@ module _ (d : Deployment) (book : List Entry) (n : Rows) (p : PlainState) (known
 
   -- inside, where a body returns only if it was called there, by who waits
   module _ (t : TxId) (o : RunTx) where
-    at_operation : (e : Effect) (a : TxAt) → StageOk (Some t) id c e (stage.Tx a) → PlaceOk d book id func answers later e (stage.Tx a) → AtStage d n p known id func (Some o) step e (stage.Tx a) → First (Some t) (Some o) e (stage.Tx a)
+    at_operation : (e : Effect) (a : TxAt) → StageOk true id c e (stage.Tx a) → PlaceOk d book id func answers later e (stage.Tx a) → AtStage d n p known id func (Some o) step e (stage.Tx a) → First (Some t) (Some o) e (stage.Tx a)
     at_operation e a fits place found = record { fits = fits; mark = unmarked_tx id step (Some o) e a; place = place; done = tt; found = found }
 
-    elsewhere : (e : Effect) (s : Stage) → is_inside s ≡ false → StageOk (Some t) id c e s → PlaceOk d book id func answers later e s → SeenDone known id step q c s → First (Some t) (Some o) e s
+    elsewhere : (e : Effect) (s : Stage) → is_inside s ≡ false → StageOk true id c e s → PlaceOk d book id func answers later e s → SeenDone known id step q c s → First (Some t) (Some o) e s
     elsewhere e s off fits place done = record { fits = fits; mark = unmarked_off id step (Some o) e s off; place = place; done = done; found = nothing_found d n p known id func (Some o) step e s off }
 
     pub first_inside : (e : Effect) (s : Stage) → (is_inherited (Some o) ≡ false → (u : Outcome) → e ≡ Return u → ⊥) → (is_inherited (Some o) ≡ true → is_waited c ≡ true) → first_stage id c (Some o) step e ≡ Some s → First (Some t) (Some o) e s
@@ -354,7 +354,7 @@ module _ (d : Deployment) (book : List Entry) (known : Known) (r : Run) (g : Beg
       ∙ sym (at_effect d r.func k.instance.args (is_some k.instance.within) g.machine k.answers k.machine).0
 
   -- the run at another stage of its effect, of which it knows what it has to
-  pub knows_stage : (more : List Entry) (next : Known) (j : Instance) (later : List Answer) (s : Stage) → map.get next r.id ≡ Some j → Grown k.instance j → k.answers ++ later ≡ j.answers → StageOk (tx_after d r.id k.instance k.answers) r.id g.caller g.machine.effect s
+  pub knows_stage : (more : List Entry) (next : Known) (j : Instance) (later : List Answer) (s : Stage) → map.get next r.id ≡ Some j → Grown k.instance j → k.answers ++ later ≡ j.answers → StageOk (is_some (tx_after d r.id k.instance k.answers)) r.id g.caller g.machine.effect s
       → MarkOk r.id g.machine.steps g.tx g.machine.effect s → PlaceOk d more r.id r.func k.answers later g.machine.effect s → SeenDone next r.id g.machine.steps j g.caller s → Knows d more next (record r { at = Begins (at_stage g s) }) (at_stage g s)
   knows_stage more next j later s made w prefix ok mark place done = record {
     instance = j;
@@ -366,7 +366,7 @@ module _ (d : Deployment) (book : List Entry) (known : Known) (r : Run) (g : Beg
     run_answers = prefix;
     machine = (machine_here j w).machine;
     run_open = (machine_here j w).open_there;
-    run_stage = subst (λ t. StageOk t r.id g.caller g.machine.effect s) (tx_stays d r.id k.instance j k.answers w) ok;
+    run_stage = subst (λ t. StageOk (is_some t) r.id g.caller g.machine.effect s) (tx_stays d r.id k.instance j k.answers w) ok;
     run_mark = mark;
     run_done = done;
     run_place = place;
@@ -402,7 +402,7 @@ module _ (d : Deployment) (book : List Entry) (known : Known) (r : Run) (g : Beg
     none_open = k.run_open ∙ open_none d r.id k.instance k.answers out
 
     pub not_of_tx : is_of_tx g.machine.effect ≡ false
-    not_of_tx = stands_outside r.id g.caller g.machine.effect g.stage (subst (λ t. StageOk t r.id g.caller g.machine.effect g.stage) out k.run_stage)
+    not_of_tx = stands_outside r.id g.caller g.machine.effect g.stage (subst (λ t. StageOk (is_some t) r.id g.caller g.machine.effect g.stage) out k.run_stage)
 
     pub outside_next : (a : Answer) → IsOutside d k.instance (k.answers ++ a ∷ [])
     outside_next a = outside_more d r.id k.instance k.answers outside_here (outside_parts d r.id k.instance k.answers out).1 a
@@ -507,7 +507,7 @@ module _ (d : Deployment) (c : Core) (m : Rows) (i : ℕ) (r : Run) (g : Begun) 
         comes_to d c m n i r h live roots next after (takes d g.machine g.tx a) g.caller (takes_next c.book n h.plain next after j a rest None kept made w prefix wanted freed) kept
 
     -- the run stands at another stage of a transaction; a lock may be ahead that was not
-    pub stands_on : (s : Stage) (n : Rows) (after : IntentId → Bool) → is_inside s ≡ true → SameRoots m n → Kept h n h.plain h.known after → StageOk (tx_after d r.id k.instance k.answers) r.id g.caller g.machine.effect s
+    pub stands_on : (s : Stage) (n : Rows) (after : IntentId → Bool) → is_inside s ≡ true → SameRoots m n → Kept h n h.plain h.known after → StageOk (is_some (tx_after d r.id k.instance k.answers)) r.id g.caller g.machine.effect s
         → MarkOk r.id g.machine.steps g.tx g.machine.effect s → AtStage d n h.plain h.known r.id r.func g.tx g.machine.steps g.machine.effect s → Leaves (says.On s None) n
     stands_on s n after inner roots kept ok mark found = quiet d c m n i r h live roots (goes r (at_stage g s) None) h.known after refl refl (
       knows_stage d c.book h.known r g k c.book h.known k.instance k.later s k.made (grown_same k.instance) k.run_answers ok mark (inside_place d c.book r.id r.func k.answers k.later g.machine.effect s inner) (inside_done h.known r.id g.machine.steps k.instance g.caller s inner),
@@ -517,7 +517,7 @@ module _ (d : Deployment) (c : Core) (m : Rows) (i : ℕ) (r : Run) (g : Begun) 
 
     -- the decision made its entry
     pub decides_on : (v : Visit) (by : Mark) (n : Rows) (q : PlainState) (next : Known) (j : Instance) → SameRoots m n → Entered d c h.plain h.known (entry_of r.id by) q next → Kept h n q next h.locked → map.get next r.id ≡ Some j → Grown k.instance j
-        → StageOk (tx_after d r.id k.instance k.answers) r.id g.caller g.machine.effect (stage.End v) → AtStage d n q next r.id r.func g.tx g.machine.steps g.machine.effect (stage.End v) → Leaves (says.On (stage.End v) (Some by)) n
+        → StageOk (is_some (tx_after d r.id k.instance k.answers)) r.id g.caller g.machine.effect (stage.End v) → AtStage d n q next r.id r.func g.tx g.machine.steps g.machine.effect (stage.End v) → Leaves (says.On (stage.End v) (Some by)) n
     decides_on v by n q next j roots leads kept made w ok found =
         let more : List Entry = c.book ++ entry_of r.id by ∷ [] in
         entered d c m n i r h live roots (goes r (at_stage g (stage.End v)) (Some by)) by q next h.locked refl leads (λ u e. cc) (
@@ -530,18 +530,18 @@ module _ (d : Deployment) (c : Core) (m : Rows) (i : ℕ) (r : Run) (g : Begun) 
     -- ---- at another stage of its effect, that is no operation inside and no end: it knows there what it has to
     module _ (e : Effect) (is : g.machine.effect ≡ e) where
       pub at_other : (more : List Entry) (n : Rows) (q : PlainState) (next : Known) (after : IntentId → Bool) (j : Instance) (later : List Answer) (s : Stage) → is_inside s ≡ false → Kept h n q next after → map.get next r.id ≡ Some j → Grown k.instance j → k.answers ++ later ≡ j.answers
-          → StageOk (tx_after d r.id k.instance k.answers) r.id g.caller e s → PlaceOk d more r.id r.func k.answers later e s → SeenDone next r.id g.machine.steps j g.caller s → RunAt d n q more next (Some (record r { at = Begins (at_stage g s) }))
+          → StageOk (is_some (tx_after d r.id k.instance k.answers)) r.id g.caller e s → PlaceOk d more r.id r.func k.answers later e s → SeenDone next r.id g.machine.steps j g.caller s → RunAt d n q more next (Some (record r { at = Begins (at_stage g s) }))
       at_other more n q next after j later s off kept made w prefix ok place done = let still = finds_still n q next after kept in (
-        knows_stage d c.book h.known r g k more next j later s made w prefix (subst (λ z. StageOk (tx_after d r.id k.instance k.answers) r.id g.caller z s) (sym is) ok) (unmarked_off r.id g.machine.steps g.tx g.machine.effect s off)
+        knows_stage d c.book h.known r g k more next j later s made w prefix (subst (λ z. StageOk (is_some (tx_after d r.id k.instance k.answers)) r.id g.caller z s) (sym is) ok) (unmarked_off r.id g.machine.steps g.tx g.machine.effect s off)
             (subst (λ z. PlaceOk d more r.id r.func k.answers later z s) (sym is) place) done,
         record { here = nothing_found d n q next r.id r.func g.tx g.machine.steps g.machine.effect s off; released = still.released; row = still.row },
       )
 
-      pub stays_other : (n : Rows) (s : Stage) → is_inside s ≡ false → Stays h n → StageOk (tx_after d r.id k.instance k.answers) r.id g.caller e s → PlaceOk d c.book r.id r.func k.answers k.later e s → SeenDone h.known r.id g.machine.steps k.instance g.caller s
+      pub stays_other : (n : Rows) (s : Stage) → is_inside s ≡ false → Stays h n → StageOk (is_some (tx_after d r.id k.instance k.answers)) r.id g.caller e s → PlaceOk d c.book r.id r.func k.answers k.later e s → SeenDone h.known r.id g.machine.steps k.instance g.caller s
           → RunAt d n h.plain c.book h.known (Some (record r { at = Begins (at_stage g s) }))
       stays_other n s off kept ok place done = at_other c.book n h.plain h.known h.locked k.instance k.later s off kept k.made (grown_same k.instance) k.run_answers ok place done
 
-      pub on_other : (n : Rows) (s : Stage) → is_inside s ≡ false → SameRoots m n → Stays h n → StageOk (tx_after d r.id k.instance k.answers) r.id g.caller e s → PlaceOk d c.book r.id r.func k.answers k.later e s → SeenDone h.known r.id g.machine.steps k.instance g.caller s
+      pub on_other : (n : Rows) (s : Stage) → is_inside s ≡ false → SameRoots m n → Stays h n → StageOk (is_some (tx_after d r.id k.instance k.answers)) r.id g.caller e s → PlaceOk d c.book r.id r.func k.answers k.later e s → SeenDone h.known r.id g.machine.steps k.instance g.caller s
           → Leaves (says.On s None) n
       on_other n s off roots kept ok place done = quiet d c m n i r h live roots (goes r (at_stage g s) None) h.known h.locked refl refl (stays_other n s off kept ok place done) (λ e. cc) kept
 
@@ -557,11 +557,11 @@ module _ (d : Deployment) (c : Core) (m : Rows) (i : ℕ) (r : Run) (g : Begun) 
 
       -- another stage of its effect
       pub at_another : (more : List Entry) (n : Rows) (q : PlainState) (next : Known) (after : IntentId → Bool) (j : Instance) (later : List Answer) (s : Stage) → is_inside s ≡ false → Kept h n q next after → map.get next r.id ≡ Some j → Grown k.instance j → k.answers ++ later ≡ j.answers
-          → StageOk None r.id g.caller e s → PlaceOk d more r.id r.func k.answers later e s → SeenDone next r.id g.machine.steps j g.caller s → RunAt d n q more next (Some (record r { at = Begins (at_stage g s) }))
-      at_another more n q next after j later s off kept made w prefix ok place done = at_other e is more n q next after j later s off kept made w prefix (subst (λ t. StageOk t r.id g.caller e s) (sym out) ok) place done
+          → StageOk false r.id g.caller e s → PlaceOk d more r.id r.func k.answers later e s → SeenDone next r.id g.machine.steps j g.caller s → RunAt d n q more next (Some (record r { at = Begins (at_stage g s) }))
+      at_another more n q next after j later s off kept made w prefix ok place done = at_other e is more n q next after j later s off kept made w prefix (subst (λ t. StageOk (is_some t) r.id g.caller e s) (sym out) ok) place done
 
-      pub goes_on : (n : Rows) (s : Stage) → is_inside s ≡ false → SameRoots m n → Stays h n → StageOk None r.id g.caller e s → PlaceOk d c.book r.id r.func k.answers k.later e s → SeenDone h.known r.id g.machine.steps k.instance g.caller s → Leaves (says.On s None) n
-      goes_on n s off roots kept ok place done = on_other e is n s off roots kept (subst (λ t. StageOk t r.id g.caller e s) (sym out) ok) place done
+      pub goes_on : (n : Rows) (s : Stage) → is_inside s ≡ false → SameRoots m n → Stays h n → StageOk false r.id g.caller e s → PlaceOk d c.book r.id r.func k.answers k.later e s → SeenDone h.known r.id g.machine.steps k.instance g.caller s → Leaves (says.On s None) n
+      goes_on n s off roots kept ok place done = on_other e is n s off roots kept (subst (λ t. StageOk (is_some t) r.id g.caller e s) (sym out) ok) place done
 
       -- what the step was answered, where it was, is an answer to its effect
       pub fits : (a : Answer) (rest : List Answer) → k.later ≡ a ∷ rest → IsAnswer (place_of r.id g.machine.steps) None e a

@@ -590,7 +590,7 @@ module _ (d : Deployment) (c : Core) (m : Rows) (i : ℕ) (r : Run) (g : Begun) 
     -- it goes on past the decision
     goes_on : (z : EndGoes) → is_past (moved commit v z).at ≡ true → Keeps d c m h rows_left → Leads t g.machine.steps commit v q m rows_left z → Leaves d c m i r g h live k (says.On (stage.End (moved commit v z)) None) rows_left
     goes_on z on kept l = stands_on d c m i r g h live k finds (stage.End (moved commit v z)) rows_left h.locked refl kept.1 kept.0
-        (subst (λ e. StageOk (tx_after d r.id k.instance k.answers) r.id g.caller e (stage.End (moved commit v z))) (sym is) (subst (λ x. StageOk x r.id g.caller (effect.End commit) (stage.End (moved commit v z))) (sym inside) on))
+        (subst (λ e. StageOk (is_some (tx_after d r.id k.instance k.answers)) r.id g.caller e (stage.End (moved commit v z))) (sym is) (subst (λ x. StageOk (is_some x) r.id g.caller (effect.End commit) (stage.End (moved commit v z))) (sym inside) on))
         (subst (λ e. MarkOk r.id g.machine.steps g.tx e (stage.End (moved commit v z))) (sym is) (subst (λ x. MarkOk r.id g.machine.steps x (effect.End commit) (stage.End (moved commit v z))) (sym tx) tt))
         (subst (λ e. AtStage d rows_left h.plain h.known r.id r.func g.tx g.machine.steps e (stage.End (moved commit v z))) (sym is) (subst (λ x. AtStage d rows_left h.plain h.known r.id r.func x g.machine.steps (effect.End commit) (stage.End (moved commit v z))) (sym tx) l.visited))
 

@@ -49,7 +49,6 @@ use Rattle.beldi_known.specs.Beside.{Beside}
 use Rattle.beldi_known.specs.InsideLaws.{HoldersAreMade}
 use Rattle.beldi_known.specs.Listed.{listed}
 use Rattle.beldi_known.specs.Shadows.{Shadows}
-use Rattle.beldi_value.specs.declared.place.TxId.{TxId}
 
 -- ---- what a run knows
 -- an end is past its decision
@@ -57,27 +56,25 @@ abbrev pub is_past : EndAt → Bool
 is_past Decide = false
 is_past a = true
 
--- where an effect of an intent may stand, whose caller this is
-abbrev pub StageOk : Option TxId → IntentId → Option Caller → Effect → Stage → Type 0
-StageOk None id c (Read t k) stage.Ask = Unit {0}
-StageOk None id c (Read t k) stage.Walk = Unit {0}
-StageOk None id c (Read t k) (stage.Keep v seen) = Unit {0}
-StageOk None id c (Write t k v) (stage.Write at) = Unit {0}
-StageOk None id c (CondWrite t k r o v) (stage.Write at) = Unit {0}
-StageOk None id c (Lock t k) (stage.Write at) = Unit {0}
-StageOk None id c (Unlock t k) (stage.Write at) = Unit {0}
-StageOk None id c (Call f a) (stage.Call at) = has_callees id ≡ true
-StageOk None id c (Async f a) (stage.Async at) = has_callees id ≡ true
-StageOk None id c (Return o) stage.Back = is_waited c ≡ true
-StageOk None id c (Return o) stage.Tell = is_waited c ≡ false
-StageOk None id c (Return o) stage.Close = Unit {0}
-StageOk (Some t) id c (Call f a) (stage.Call at) = has_callees id ≡ true
-StageOk (Some t) id c (Return o) stage.Back = is_waited c ≡ true
-StageOk (Some t) id c (Return o) stage.Close = is_waited c ≡ true
-StageOk (Some t) id c e (stage.Tx at) = Fits e at
-StageOk (Some t) id c (End commit) (stage.Decide m) = Unit {0}
-StageOk (Some t) id c (End commit) (stage.End v) = is_past v.at ≡ true
-StageOk t id c e s = ⊥
+-- where an effect of an intent may stand, inside a transaction or outside, whose caller this is
+abbrev pub StageOk : Bool → IntentId → Option Caller → Effect → Stage → Type 0
+StageOk inside id c (Call f a) (stage.Call at) = has_callees id ≡ true
+StageOk inside id c (Return o) stage.Back = is_waited c ≡ true
+StageOk false id c (Read t k) stage.Ask = Unit {0}
+StageOk false id c (Read t k) stage.Walk = Unit {0}
+StageOk false id c (Read t k) (stage.Keep v seen) = Unit {0}
+StageOk false id c (Write t k v) (stage.Write at) = Unit {0}
+StageOk false id c (CondWrite t k r o v) (stage.Write at) = Unit {0}
+StageOk false id c (Lock t k) (stage.Write at) = Unit {0}
+StageOk false id c (Unlock t k) (stage.Write at) = Unit {0}
+StageOk false id c (Async f a) (stage.Async at) = has_callees id ≡ true
+StageOk false id c (Return o) stage.Tell = is_waited c ≡ false
+StageOk false id c (Return o) stage.Close = Unit {0}
+StageOk true id c (Return o) stage.Close = is_waited c ≡ true
+StageOk true id c e (stage.Tx at) = Fits e at
+StageOk true id c (End commit) (stage.Decide m) = Unit {0}
+StageOk true id c (End commit) (stage.End v) = is_past v.at ≡ true
+StageOk inside id c e s = ⊥
 
 -- what a run is in after these answers: the transaction that it was called in, or its own one, with what was aborted in it
 abbrev pub open_of : Deployment → Instance → List Answer → Option RunTx
@@ -132,7 +129,7 @@ pub record Knows (d : Deployment) (book : List Entry) (known : Known) (r : Run) 
   -- its machine stands where these answers lead, and its stage is one of the effect there
   pub machine : IsAt d r.func instance.args (is_some instance.within) g.machine answers
   pub run_open : g.tx ≡ open_of d instance answers
-  pub run_stage : StageOk (tx_after d r.id instance answers) r.id g.caller g.machine.effect g.stage
+  pub run_stage : StageOk (is_some (tx_after d r.id instance answers)) r.id g.caller g.machine.effect g.stage
   pub run_mark : MarkOk r.id g.machine.steps g.tx g.machine.effect g.stage
   pub run_done : SeenDone known r.id g.machine.steps instance g.caller g.stage
   -- where it is to keep a value, it knows where its read belongs
