@@ -5,7 +5,7 @@ use Rattle.std.specs.FinMap.{get-insert, get-remove, same_map}
 use Rattle.std.specs.Ordering.{is_eq}
 use Rattle.beldi_value.specs.Id.{id_cmp, id_total, id_exact}
 use Rattle.beldi_value.specs.declared.id.IntentId.{IntentId}
-use Rattle.beldi_core.specs.Counts.{CountMap, number_of, less, RaisedAt, LoweredTo, LoweredAt}
+use Rattle.beldi_core.specs.Counts.{CountMap, less, RaisedAt, LoweredTo, LoweredAt}
 
 module _ (m n : CountMap) (id : IntentId) where
   pub raised : (o : Option ℕ) (k : ℕ) → o ≡ Some k → n ≡ map.insert m id (k + 1) → RaisedAt m n id o true
@@ -20,14 +20,6 @@ module _ (m n : CountMap) (id : IntentId) where
   pub not_lowered : (o : Option ℕ) → o ≡ None → n ≡ m → LoweredAt m n id o false
   not_lowered o is same = subst (λ x. LoweredAt m n id x false) (sym is) (same, refl)
 
-  pub is_more : (o : Option ℕ) → RaisedAt m n id o true → n ≡ map.insert m id (number_of o + 1)
-  is_more None h = cc
-  is_more (Some k) h = h.0
-
-  pub is_first : (o : Option ℕ) → RaisedAt m n id o false → map.insert n id 1 ≡ map.insert m id (number_of o + 1)
-  is_first None h = ap (λ x. map.insert x id 1) h.0
-  is_first (Some k) h = cc
-
   -- what was put goes
   gone : (b : Bool) (o x : Option ℕ) → cond b None (cond b o x) ≡ cond b None x
   gone true o x = refl
@@ -36,10 +28,6 @@ module _ (m n : CountMap) (id : IntentId) where
   taken_again : (k : ℕ) → map.remove (map.insert m id k) id ≡ map.remove m id
   taken_again k = same_map id_total id_exact _ _ (λ q.
       get-remove id_total (map.insert m id k) id q ∙ ap (cond (is_eq (id_cmp q id)) None) (get-insert id_total m id k q) ∙ gone (is_eq (id_cmp q id)) (Some k) (map.get m q) ∙ sym (get-remove id_total m id q))
-
-  pub is_less : (o : Option ℕ) → LoweredAt m n id o true → n ≡ less m id o
-  is_less None h = cc
-  is_less (Some k) h = h.1 ∙ ap (λ b. if b then map.remove m id else map.insert m id (k - 1)) (sym h.0)
 
   pub is_last : (o : Option ℕ) → LoweredAt m n id o false → map.remove n id ≡ less m id o
   is_last None h = ap (λ x. map.remove x id) h.0
