@@ -96,12 +96,16 @@ no_item (kinds.Invoke a) h = (refl, refl, refl)
 no_item k h = cc
 
 module _ (m n : Rows) (k : RowKey) (same : (l : RowKey) → is_eq (key_cmp l k) ≡ false → map.get n l ≡ map.get m l) where
-  rows_stay : (is_some (map.get m k) ≡ true → is_some (map.get n k) ≡ true) → (l : RowKey) → is_some (map.get m l) ≡ true → is_some (map.get n l) ≡ true
-  rows_stay there l = by_test (is_eq (key_cmp l k)) refl
+  -- what is so at its key is so at all
+  at_all : (P : RowKey → Option Row → Option Row → Type 0) → P k (map.get m k) (map.get n k) → ((l : RowKey) (r : Option Row) → P l r r) → (l : RowKey) → P l (map.get m l) (map.get n l)
+  at_all P here others l = by_test (is_eq (key_cmp l k)) refl
     where
-      by_test : (b : Bool) → is_eq (key_cmp l k) ≡ b → is_some (map.get m l) ≡ true → is_some (map.get n l) ≡ true
-      by_test true e was = subst (λ z. is_some (map.get n z) ≡ true) (sym (key_same l k e)) (there (subst (λ z. is_some (map.get m z) ≡ true) (key_same l k e) was))
-      by_test false e was = ap is_some (same l e) ∙ was
+      by_test : (b : Bool) → is_eq (key_cmp l k) ≡ b → P l (map.get m l) (map.get n l)
+      by_test true e = subst (λ z. P z (map.get m z) (map.get n z)) (sym (key_same l k e)) here
+      by_test false e = subst (P l (map.get m l)) (sym (same l e)) (others l (map.get m l))
+
+  rows_stay : (is_some (map.get m k) ≡ true → is_some (map.get n k) ≡ true) → (l : RowKey) → is_some (map.get m l) ≡ true → is_some (map.get n l) ≡ true
+  rows_stay there = at_all (λ l r s. is_some r ≡ true → is_some s ≡ true) there (λ l r e. e)
 
   content_off : is_data k.kind ≡ false → (x : Item) → content_of n x ≡ content_of m x
   content_off off x = ap content_in (same (head_key x) (kinds_apart is_data (head_key x) k refl off))
@@ -155,19 +159,11 @@ module _ (m n : Rows) (k : RowKey) (same : (l : RowKey) → is_eq (key_cmp l k) 
   calls_off : is_invoke k.kind ≡ false → CallsStay m n
   calls_off off f a g e = ap (option_map func_called) (same (invoke_key f a) (kinds_apart is_invoke (invoke_key f a) k refl off)) ∙ e
 
-  -- what is so at its key is so at all
-  at_all : (P : RowKey → Option Row → Option Row → Type 0) → P k (map.get m k) (map.get n k) → ((l : RowKey) (r : Option Row) → P l r r) → (l : RowKey) → P l (map.get m l) (map.get n l)
-  at_all P here others l = by_test (is_eq (key_cmp l k)) refl
-    where
-      by_test : (b : Bool) → is_eq (key_cmp l k) ≡ b → P l (map.get m l) (map.get n l)
-      by_test true e = subst (λ z. P z (map.get m z) (map.get n z)) (sym (key_same l k e)) here
-      by_test false e = subst (P l (map.get m l)) (sym (same l e)) (others l (map.get m l))
-
   finishes_on : (has_finish (map.get m k) ≡ true → has_finish (map.get n k) ≡ true) → FinishesStay m n
-  finishes_on here home i = at_all (λ l r s. has_finish r ≡ true → has_finish s ≡ true) here (λ l r e. e) (key_in home i)
+  finishes_on here home i = at_all m n k same (λ l r s. has_finish r ≡ true → has_finish s ≡ true) here (λ l r e. e) (key_in home i)
 
   calls_on : ((g : ℕ) → option_map func_called (map.get m k) ≡ Some g → option_map func_called (map.get n k) ≡ Some g) → CallsStay m n
-  calls_on here f a = at_all (λ l r s. (g : ℕ) → option_map func_called r ≡ Some g → option_map func_called s ≡ Some g) here (λ l r g e. e) (invoke_key f a)
+  calls_on here f a = at_all m n k same (λ l r s. (g : ℕ) → option_map func_called r ≡ Some g → option_map func_called s ≡ Some g) here (λ l r g e. e) (invoke_key f a)
 
   -- another row than an intent's gives no finish ..
   pub no_finish : (d : Deployment) (next : Known) → is_intent k.kind ≡ false → NoFinish d m n next
@@ -175,7 +171,7 @@ module _ (m n : Rows) (k : RowKey) (same : (l : RowKey) → is_eq (key_cmp l k) 
 
   -- .. nor does one that had it before
   pub no_new_finish : (d : Deployment) (next : Known) → (has_finish (map.get n k) ≡ true → has_finish (map.get m k) ≡ true) → NoFinish d m n next
-  no_new_finish d next here t z i home ended part = at_all (λ l r s. has_finish s ≡ true → has_finish r ≡ true) here (λ l r e. e) (key_in home i)
+  no_new_finish d next here t z i home ended part = at_all m n k same (λ l r s. has_finish s ≡ true → has_finish r ≡ true) here (λ l r e. e) (key_in home i)
 
 -- .. and one of who took part in none may get it
 pub no_member_finish : (d : Deployment) (m n : Rows) (home : ℕ) (id : IntentId) (next : Known) → ((l : RowKey) → is_eq (key_cmp l (key_in home id)) ≡ false → map.get n l ≡ map.get m l)
@@ -224,29 +220,29 @@ module _ (d : Deployment) (m : Rows) (p q : PlainState) (known next : Known) (va
   }
 
   module _ (n : Rows) where
-    notes_same : ((x : Item) → content_of n x ≡ content_of m x) → (x : Item) (a : Place) (w : Note) → note_at (content_of m x).notes a ≡ Some w → note_at (content_of n x).notes a ≡ Some w
-    notes_same contents x a w e = ap (λ (c : Content). note_at c.notes a) (contents x) ∙ e
-
     owns_same : (t : TxId) (end : ℕ) (x : Item) → content_of n x ≡ content_of m x → (content_of n x).owner ≡ Some (ByTx t) → StillOwns next (content_of m x) (content_of n x) t end
     owns_same t end x same own = record { owner = ap (λ (c : Content). c.owner) (sym same) ∙ own; notes = λ a free. ap (λ (c : Content). note_at c.notes a) same }
 
-    owners_same : ((x : Item) → content_of n x ≡ content_of m x) → (t : TxId) (z : ℕ × Bool) (x : Item) → tx_end d next t ≡ Some z → (content_of n x).owner ≡ Some (ByTx t) → StillOwns next (content_of m x) (content_of n x) t z.0
-    owners_same contents t z x e own = owns_same t z.0 x (contents x) own
-
-    -- the row of an intent, of a read or a decision, or of a call
-    module _ (k : RowKey) (same : (l : RowKey) → is_eq (key_cmp l k) ≡ false → map.get n l ≡ map.get m l) (there : is_some (map.get n k) ≡ true) where
-      frame_of : is_entry k.kind ≡ true → FinishesStay m n → CallsStay m n → Frame d m n p q known next
-      frame_of kind finishes calls = let off = no_item k.kind kind in record {
+    -- a row that is no item's
+    module _ (k : RowKey) (same : (l : RowKey) → is_eq (key_cmp l k) ≡ false → map.get n l ≡ map.get m l) (there : is_some (map.get n k) ≡ true) (off : is_data k.kind ≡ false) where
+      frame_apart : ((t : TxId) (x : Item) → (IsWriting d known t → ⊥) → map.get n (shadow_key t x) ≡ map.get m (shadow_key t x))
+          → ((t : TxId) (z : ℕ × Bool) (i : IntentId) (x : Item) → tx_end d next t ≡ Some z → IsOf next t i → is_some (map.get n (lockset_key i t.begin x)) ≡ true → is_some (map.get m (lockset_key i t.begin x)) ≡ true) → FinishesStay m n → CallsStay m n → Frame d m n p q known next
+      frame_apart shadows locksets finishes calls = record {
         rows = rows_stay m n k same (λ e. there);
-        notes = notes_same (content_off m n k same off.0);
-        shadows = λ t x apart. shadow_off m n k same off.1 t x;
-        locksets = λ t z i x e is here. ap is_some (sym (lockset_off m n k same off.2 i t.begin x)) ∙ here;
-        owners = owners_same (content_off m n k same off.0);
+        notes = λ x a w e. ap (λ (c : Content). note_at c.notes a) (content_off m n k same off x) ∙ e;
+        shadows = shadows;
+        locksets = locksets;
+        owners = λ t z x e own. owns_same t z.0 x (content_off m n k same off x) own;
         members = members;
         finishes = finishes;
         calls = calls;
         values = values;
       }
+
+    -- the row of an intent, of a read or a decision, or of a call
+    module _ (k : RowKey) (same : (l : RowKey) → is_eq (key_cmp l k) ≡ false → map.get n l ≡ map.get m l) (there : is_some (map.get n k) ≡ true) where
+      frame_of : is_entry k.kind ≡ true → FinishesStay m n → CallsStay m n → Frame d m n p q known next
+      frame_of kind = let off = no_item k.kind kind in frame_apart k same there off.0 (λ t x apart. shadow_off m n k same off.1 t x) (λ t z i x e is here. ap is_some (sym (lockset_off m n k same off.2 i t.begin x)) ∙ here)
 
       pub frame_entry : is_entry k.kind ≡ true → (has_finish (map.get m k) ≡ true → has_finish (map.get n k) ≡ true) → ((g : ℕ) → option_map func_called (map.get m k) ≡ Some g → option_map func_called (map.get n k) ≡ Some g) → Frame d m n p q known next
       frame_entry kind ends calls = frame_of kind (finishes_on m n k same ends) (calls_on m n k same calls)
@@ -254,17 +250,8 @@ module _ (d : Deployment) (m : Rows) (p q : PlainState) (known next : Known) (va
     -- the first row of a shadow, of a transaction that an instance is to write in
     module _ (s : TxId) (y : Item) (same : (l : RowKey) → is_eq (key_cmp l (shadow_key s y)) ≡ false → map.get n l ≡ map.get m l) (there : is_some (map.get n (shadow_key s y)) ≡ true) (writing : IsWriting d known s) where
       pub frame_shadow : Frame d m n p q known next
-      frame_shadow = record {
-        rows = rows_stay m n (shadow_key s y) same (λ e. there);
-        notes = notes_same (content_off m n (shadow_key s y) same refl);
-        shadows = λ t x apart. by_key t x apart (is_eq (key_cmp (shadow_key t x) (shadow_key s y))) refl;
-        locksets = λ t z i x e is here. ap is_some (sym (lockset_off m n (shadow_key s y) same refl i t.begin x)) ∙ here;
-        owners = owners_same (content_off m n (shadow_key s y) same refl);
-        members = members;
-        finishes = finishes_off m n (shadow_key s y) same refl;
-        calls = calls_off m n (shadow_key s y) same refl;
-        values = values;
-      }
+      frame_shadow = frame_apart (shadow_key s y) same there refl (λ t x apart. by_key t x apart (is_eq (key_cmp (shadow_key t x) (shadow_key s y))) refl)
+          (λ t z i x e is here. ap is_some (sym (lockset_off m n (shadow_key s y) same refl i t.begin x)) ∙ here) (finishes_off m n (shadow_key s y) same refl) (calls_off m n (shadow_key s y) same refl)
         where
           by_key : (t : TxId) (x : Item) → (IsWriting d known t → ⊥) → (b : Bool) → is_eq (key_cmp (shadow_key t x) (shadow_key s y)) ≡ b → map.get n (shadow_key t x) ≡ map.get m (shadow_key t x)
           by_key t x apart true e = absurd (apart (subst (IsWriting d known) (sym (shadow_same t s x y (key_same (shadow_key t x) (shadow_key s y) e)).0) writing))
@@ -329,17 +316,8 @@ module _ (d : Deployment) (m : Rows) (p q : PlainState) (known next : Known) (va
 
   -- that a member asks for a lock, of no transaction that has ended
   pub frame_lockset : (j : IntentId) (b : ℕ) (y : Item) → ((t : TxId) (z : ℕ × Bool) → tx_end d next t ≡ Some z → IsOf next t j → t.begin ≡ b → ⊥) → Frame d m (set_row m (lockset_key j b y) (Some rows.Lockset)) p q known next
-  frame_lockset j b y none = record {
-    rows = rows_stay m asked key same (λ e. ap is_some (row_there key (Some rows.Lockset)));
-    notes = notes_same asked (content_off m asked key same refl);
-    shadows = λ t x apart. shadow_off m asked key same refl t x;
-    locksets = λ t z i x e is here. by_key t z i x e is here (is_eq (key_cmp (lockset_key i t.begin x) key)) refl;
-    owners = owners_same asked (content_off m asked key same refl);
-    members = members;
-    finishes = finishes_off m asked key same refl;
-    calls = calls_off m asked key same refl;
-    values = values;
-  }
+  frame_lockset j b y none = frame_apart asked key same (ap is_some (row_there key (Some rows.Lockset))) refl (λ t x apart. shadow_off m asked key same refl t x)
+      (λ t z i x e is here. by_key t z i x e is here (is_eq (key_cmp (lockset_key i t.begin x) key)) refl) (finishes_off m asked key same refl) (calls_off m asked key same refl)
     where
       key : RowKey
       key = lockset_key j b y
