@@ -1,7 +1,6 @@
 -- An event that was planned, and then followed, is one step.
 use Rattle.std.proofs.Common.{◌≡◌, ℕ, false, if◌then◌else◌, Option, None, Some, Result, Ok, Err, refl, ap, sym, ◌∙◌}
 use Rattle.std.specs.Prelude.{nat_lt}
-use Rattle.beldi_walk.specs.declared.query.Query.{Query}
 use Rattle.std.specs.FinMap as map
 use Rattle.std.specs.declared.alloc.AllocError.{AllocError}
 use Rattle.beldi_tree.specs.declared.deployment.Deployment.{Deployment}
@@ -19,7 +18,7 @@ use Rattle.beldi_step.specs.declared.run.Run.{Run}
 use Rattle.beldi_step.specs.declared.run.TurnSays.{TurnSays}
 use Rattle.beldi_step.specs.Run.{run_asks, run_told}
 use Rattle.beldi_core.specs.declared.runs.Copies.{Copies}
-use Rattle.beldi_core.specs.Runs.{Numbered, RunMap, RunTold, deadline_of}
+use Rattle.beldi_core.specs.Runs.{Numbered, RunMap, RunTold}
 use Rattle.beldi_step.specs.Host.{Core, Plan, at_once, asks, plan, counted, marked, after_turn, run_next, unheard_next, ended_run, run_plan, crash_plan, no_run, Followed, StepBy, Stepped}
 use Rattle.beldi_core.specs.Parts.{NoMemory, Copied, TellsTurn, entered, mark_told}
 use Rattle.beldi_laws.proofs.Lives.{remove_put}
@@ -70,17 +69,14 @@ pub ended_core : (c k : Core) (i : ℕ) (m : Numbered) → k ≡ c → m ≡ rec
 ended_core c k i m same is = (λ j. record k { runs = (is j).runs; last_run = (is j).given }) ∙ ap (λ q. ended_run q i) same
 
 -- ---- a run that is not live
-pub idle : (c : Core) (i : ℕ) (o : Option Run) (x : Seen) → deadline_of o ≡ None → x ≡ no_run c i → at_once c x ≡ crash_plan c i o
+pub idle : (c : Core) (i : ℕ) (o : Option Run) (x : Seen) → o ≡ None → x ≡ no_run c i → at_once c x ≡ crash_plan c i o
 idle c i None x none is = ap (at_once c) is
 idle c i (Some r) x none is = cc
 
-pub idle_turn : (c : Core) (i : ℕ) (o : Option Run) (x : Seen) → deadline_of o ≡ None → x ≡ no_run c i → run_plan c i o ≡ at_once c x
+pub idle_turn : (c : Core) (i : ℕ) (o : Option Run) (x : Seen) → o ≡ None → x ≡ no_run c i → run_plan c i o ≡ at_once c x
 idle_turn c i None x none is = ap (at_once c) (sym is)
 idle_turn c i (Some r) x none is = cc
 
 -- .. and one that is, in time
-pub asks_in_time : (c : Core) (i : ℕ) (o : Option Run) (l : ℕ) → deadline_of o ≡ Some l → nat_lt l c.now ≡ false → (q : Query) × (run_plan c i o ≡ asks q)
-asks_in_time c i None l is early = cc
-asks_in_time c i (Some r) l is early =
-    let same : r.deadline ≡ l = cc in
-    (run_asks r, ap (λ b. if b then at_once (ended_run c i) seen.Expired else asks (run_asks r)) (ap (λ n. nat_lt n c.now) same ∙ early))
+pub asks_in_time : (c : Core) (i : ℕ) (o : Option Run) (r : Run) → o ≡ Some r → nat_lt r.deadline c.now ≡ false → run_plan c i o ≡ asks (run_asks r)
+asks_in_time c i o r is early = ap (run_plan c i) is ∙ ap (λ b. if b then at_once (ended_run c i) seen.Expired else asks (run_asks r)) early

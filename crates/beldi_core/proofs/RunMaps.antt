@@ -10,16 +10,14 @@ use Rattle.std.specs.Cmp.{nat_cmp_total, Equal-is}
 use Rattle.std.specs.Ordering.{nat_cmp, eq_by_cmp, is_eq}
 use Rattle.std.proofs.lemmas.Cmp.{eq_by_cmp_equiv, tied_itself}
 use Rattle.beldi_tree.specs.declared.deployment.Deployment.{Deployment}
-use Rattle.beldi_walk.specs.declared.query.Query.{Query}
 use Rattle.beldi_walk.specs.Query.{Told}
-use Rattle.beldi_core.specs.declared.runs.Copies.{Copies}
 use Rattle.beldi_step.specs.declared.run.Run.{Run}
 use Rattle.beldi_step.specs.declared.run.TurnSays.{TurnSays}
 use Rattle.beldi_step.specs.declared.run.Mark.{Mark}
 use Rattle.beldi_step.specs.Run.{Turned, Turns, says_of, going, followed, run_told}
 use Rattle.beldi_step.specs.Host.{put_run}
 use Rattle.beldi_laws.proofs.Lives.{remove_put}
-use Rattle.beldi_core.specs.Runs.{RunMap, AllGiven, AllKept, withdrawn, ends_run, settled, uncounted, settled_counts, asked_of, asked_by, RunTold}
+use Rattle.beldi_core.specs.Runs.{RunMap, AllGiven, AllKept, withdrawn, ends_run, settled, uncounted, settled_counts, RunTold}
 use Rattle.beldi_row.proofs.Rows.{get_rows, none_removed}
 use Rattle.beldi_value.specs.Id.{id_cmp}
 use Rattle.beldi_core.specs.Counts.{CountMap, AllCounted, more, kept_as}
@@ -150,13 +148,3 @@ run_was_told d changes a b c i r s t (Err m) here set is h = subst (λ (o : Opti
 
 pub absent_run : (o : Option Run) → IsSome o → o ≡ None → ⊥
 absent_run o h is = cc
-
--- ---- what is asked
-pub run_asked : (o : Option Run) (r : Run) (x : Query × Copies) → o ≡ Some r → x ≡ asked_of r → Some x ≡ asked_by o
-run_asked o r x is at = ap Some at ∙ ap asked_by (sym is)
-
-pub none_asked : (o : Option Run) → o ≡ None → None ≡ asked_by o
-none_asked o is = ap asked_by (sym is)
-
-pub is_there : (o : Option Run) (r : Run) → o ≡ Some r → IsSome o
-is_there o r is = cc

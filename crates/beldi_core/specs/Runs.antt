@@ -54,13 +54,9 @@ withdrawn a = record { runs = map.remove a.runs a.given; given = a.given - 1 }
 abbrev pub copied : Run → Copies
 copied r = record { book = r.id; told = r.id; callee = callee_of r }
 
--- what a run asks, with its copies; one that is not live asks nothing
+-- what a run asks, with its copies
 abbrev pub asked_of : Run → Query × Copies
 asked_of r = (run_asks r, copied r)
-
-abbrev pub asked_by : Option Run → Option (Query × Copies)
-asked_by None = None
-asked_by (Some r) = Some (asked_of r)
 
 -- a run is gone after this
 abbrev pub ends_run : Result TurnSays (Option Mark) → Bool
@@ -75,11 +71,6 @@ uncounted n (Some r) = less n r.id (map.get n r.id)
 abbrev pub settled_counts : Bool → CountMap → Option Run → CountMap
 settled_counts true n o = uncounted n o
 settled_counts false n o = n
-
--- until when a run may act
-abbrev pub deadline_of : Option Run → Option ℕ
-deadline_of None = None
-deadline_of (Some r) = Some r.deadline
 
 abbrev pub settled : Bool → RunMap → ℕ → RunMap
 settled true m i = map.remove m i

@@ -6,12 +6,11 @@ ghost use Rattle.beldi_walk.specs.Query.{told_of};
 ghost use Rattle.beldi_step.specs.declared.event.Event.TheVariants as events;
 ghost use Rattle.beldi_tree.specs.declared.deployment.Deployment.{Deployment};
 ghost use Rattle.beldi_step.specs.Host.{collected as collected_of, passed, Core, Followed, acted as acted_by, after_turn as after_turn_of, may_start as may_start_of, started, at_once, crash_plan, tick_plan, new_run as new_run_of, entry_of as entry_by, marked, no_run as no_run_of, refused, refused_by, ticket_next, unbound};
-ghost use Rattle.beldi_core.specs.Runs.{asked_by};
 ghost use Rattle.beldi_core.specs.declared.events.Planned.TheVariants as planned;
 ghost use Rattle.beldi_core.specs.Parts.{core_in, Planned as IsPlanned, PlannedOf, RunPlanned, Ready, HasPlace, event_of, base, BoundBy, Copied, TellsTurn, acted_unless, mark_told};
 
 use crate::host_core::HostCore;
-use crate::runs::Copies;
+use crate::runs::{Copies, asked};
 use beldi_book::{Book, Entry};
 use beldi_collect::{Found, collect_query, collect_told};
 use beldi_intent::{Binding, bind_query, bind_told, issue_query, issue_told};
@@ -268,14 +267,14 @@ impl HostCore {
         requires given { self.old.runs.given < self.old.taken }
         ensures { RunPlanned (core_in self.old) (core_in self.new) run (map.get self.old.runs.runs run) self.new.book.spare result }
     {
-        let Some(deadline) = self.runs.deadline(run) else {
+        let Some(found) = self.runs.get(run) else {
             return Ok(RunAsks::Now(no_run(run, self.runs.given())));
         };
-        if self.now > deadline {
+        if self.now > found.deadline {
             self.runs.remove(run);
             return Ok(RunAsks::Now(Seen::Expired));
         }
-        match self.ask_run(run) {
+        match asked(found, &mut self.book, self.alloc) {
             Ok((query, copies)) => Ok(RunAsks::Asks(query, copies)),
             Err(why) => {
                 self.runs.remove(run);
@@ -284,26 +283,14 @@ impl HostCore {
         }
     }
 
-    fn ask_run(&mut self, run: u64) -> Result<(Query, Copies), AllocError>
-        requires { IsSome (map.get self.old.runs.runs run) }
-        ensures ok { IfOk result (λ x. (asked_by (map.get self.old.runs.runs run) ≡ Some x) × (1 ≤ self.new.book.spare)) }
-        ensures core { core_in self.new ≡ core_in self.old }
-    {
-        self.book.reserve()?;
-        match self.runs.ask(run, self.alloc)? {
-            Some(asked) => Ok(asked),
-            None => unreachable!(),
-        }
-    }
-
     // Ends a run between two turns.
     fn crash(&mut self, run: u64) -> Seen
         ensures { at_once (core_in self.new) result ≡ crash_plan (core_in self.old) run (map.get self.old.runs.runs run) }
     {
-        let Some(deadline) = self.runs.deadline(run) else {
+        let Some(found) = self.runs.get(run) else {
             return no_run(run, self.runs.given());
         };
-        let late = self.now > deadline;
+        let late = self.now > found.deadline;
         self.runs.remove(run);
         if late { Seen::Expired } else { Seen::Crashed }
     }

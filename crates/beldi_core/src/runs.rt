@@ -1,12 +1,13 @@
 // The live runs of a host, by number.
-ghost use Rattle.std.specs.Prelude.{◌≡◌, ℕ, ◌+◌, ◌-◌, ◌^◌, ◌<◌, ◌≤◌, IsSome, IfOk, IfErr, OnOk, OnErr};
+ghost use Rattle.std.specs.Prelude.{◌≡◌, ℕ, ◌+◌, ◌-◌, ◌^◌, ◌<◌, ◌≤◌, IsSome, IfOk, IfErr, OnOk, OnErr, option_copied};
 ghost use Rattle.std.specs.FinMap as map;
 ghost use Rattle.beldi_walk.specs.Query.{told_of};
-ghost use Rattle.beldi_core.specs.Runs.{map_of, IsLeastPast, started, withdrawn, ends_run, settled, uncounted, settled_counts, deadline_of, AllKept, asked_of, asked_by, RunTold};
+ghost use Rattle.beldi_core.specs.Runs.{map_of, IsLeastPast, started, withdrawn, ends_run, settled, uncounted, settled_counts, AllKept, asked_of, RunTold};
 ghost use Rattle.beldi_core.specs.Counts.{count_at, more, kept_as};
 ghost use Rattle.beldi_step.specs.Host.{has_run};
 
 use crate::counts::Counts;
+use beldi_book::Book;
 use beldi_lang::Deployment;
 use beldi_step::{Callee, Mark, Run, TurnSays};
 use beldi_value::IntentId;
@@ -143,14 +144,22 @@ pub struct Copies {
     pub callee: Option<Callee>,
 }
 
-// What a run asks, and its copies.
-fn asked(run: &Run, alloc: Global) -> Result<(Query, Copies), AllocError>
-    ensures { IfOk result (λ x. x ≡ asked_of run.now) }
+/// What a run asks, and its copies. A place in the book is taken for the entry of its act.
+pub fn asked(run: &Run, book: &mut Book, alloc: Global) -> Result<(Query, Copies), AllocError>
+    ensures ok { IfOk result (λ x. x ≡ asked_of run.now) }
+    ensures room { OnOk result (1 ≤ book.new.spare) }
+    ensures entries { book.new.entries ≡ book.old.entries }
 {
-    let book = run.id.copy(alloc)?;
+    book.reserve()?;
+    let own = run.id.copy(alloc)?;
     let told = run.id.copy(alloc)?;
     let callee = run.callee(alloc)?;
-    Ok((run.ask(alloc)?, Copies { book, told, callee }))
+    let copies = Copies {
+        book: own,
+        told,
+        callee,
+    };
+    Ok((run.ask(alloc)?, copies))
 }
 
 impl Runs {
@@ -179,14 +188,11 @@ impl Runs {
         self.given
     }
 
-    /// The deadline of the run of this number, if it is live.
-    pub fn deadline(&self, number: u64) -> Option<u64>
-        ensures { result ≡ deadline_of (map.get self.now.runs number) }
+    /// The run of this number, if it is live.
+    pub fn get(&self, number: u64) -> Option<&Run>
+        ensures { option_copied result ≡ map.get self.now.runs number }
     {
-        match self.live.get(&number) {
-            Some(run) => Some(run.deadline),
-            None => None,
-        }
+        self.live.get(&number)
     }
 
     /// Whether a run of this intent is live.
@@ -235,20 +241,6 @@ impl Runs {
         ensures { self.new ≡ record { runs = map.remove self.old.runs number; given = self.old.given } }
     {
         end(&mut self.live, &mut self.counts, number);
-    }
-
-    /// What the run of this number asks, and its copies; none where it is not live. Out of memory only where it is.
-    pub fn ask(&self, number: u64, alloc: Global) -> Result<Option<(Query, Copies)>, AllocError>
-        ensures ok { IfOk result (λ q. q ≡ asked_by (map.get self.now.runs number)) }
-        ensures err { OnErr result (IsSome (map.get self.now.runs number)) }
-    {
-        match self.live.get(&number) {
-            None => Ok(None),
-            Some(run) => match asked(run, alloc) {
-                Ok(asked) => Ok(Some(asked)),
-                Err(why) => Err(why),
-            },
-        }
     }
 
     /// The run of this number, which is live, is told, when so many changes had been made. A run that is over is gone
