@@ -5,7 +5,6 @@ use Rattle.std.specs.declared.alloc.AllocError.{AllocError}
 use Rattle.beldi_tree.specs.declared.deployment.Deployment.{Deployment}
 use Rattle.beldi_tree.specs.declared.deployment.Func.{Func}
 use Rattle.beldi_tree.specs.Names.{func_at}
-use Rattle.beldi_value.specs.declared.value.Value.TheVariants as value
 use Rattle.beldi_lang.specs.declared.effect.Answer.{Answer}
 use Rattle.beldi_lang.specs.declared.effect.Effect.{Effect}
 use Rattle.beldi_lang.specs.declared.effect.Effect.TheVariants as effect
@@ -14,10 +13,7 @@ use Rattle.beldi_lang.specs.Machine.{begun}
 use Rattle.beldi_value.specs.declared.id.IntentId.{IntentId}
 use Rattle.beldi_value.specs.declared.place.Caller.{Caller}
 use Rattle.beldi_row.specs.declared.row.Body.{Body}
-use Rattle.beldi_row.specs.Act.{added, kept}
-use Rattle.beldi_walk.specs.Query.{Told, said, found}
-use Rattle.beldi_readlog.specs.ReadLog.{kept_of}
-use Rattle.beldi_txn.specs.End.{decide_goes, decided_by}
+use Rattle.beldi_walk.specs.Query.{Told}
 use Rattle.beldi_txn.specs.declared.end.EndGoes.{EndGoes}
 use Rattle.beldi_txn.specs.declared.end.EndGoes.TheVariants as ends
 use Rattle.beldi_txn.specs.declared.end.Visit.{Visit}
@@ -33,7 +29,7 @@ use Rattle.beldi_step.specs.declared.run.Says.TheVariants.{On, Stays, Opens, Sta
 use Rattle.beldi_step.specs.declared.run.Stage.{Stage}
 use Rattle.beldi_step.specs.declared.run.Stage.TheVariants.{Decide, End}
 use Rattle.beldi_step.specs.declared.run.TurnSays.{TurnSays}
-use Rattle.beldi_step.specs.Run.{Turns, within, run_told, told_at, turned_by, stage_says, ending_says, decided_says, visit_says, decide_here_says, end_here_says, is_end, is_at_end, at_stage, mark_if, mark_of, followed, plain_says, takes, goes_to, goes_from, begin_in, body_found}
+use Rattle.beldi_step.specs.Run.{Turns, within, run_told, told_at, turned_by, stage_says, ending_says, decided_says, visit_says, decide_here_says, end_here_says, is_end, is_at_end, at_stage, mark_of, followed, plain_says, takes, goes_to, goes_from, begin_in, body_found}
 
 pub not_end : (r : Run) (g : Begun) → r.at ≡ Begins g → false ≡ is_at_end r.at → is_end g.stage ≡ false
 not_end r g at is = sym (is ∙ ap is_at_end at)
@@ -74,23 +70,6 @@ ends_so : (id : IntentId) (func : ℕ) (c : Option Caller) (o : Option RunTx) (c
 ends_so id func c o changes step e (Decide m) t is = refl
 ends_so id func c o changes step e (End v) t is = refl
 ends_so id func c o changes step e s t is = cc
-
--- out of memory, its mark is there where the decision was put now
-other_decision : (commit b : Bool) (m : Mark) → None ≡ mark_of (decided_says commit m (decided_by commit b))
-other_decision true true m = refl
-other_decision true false m = refl
-other_decision false true m = refl
-other_decision false false m = refl
-
-decision_at : (commit : Bool) (m : Mark) (t : Told) → mark_if (kept_of value.Null t).added m ≡ mark_of (decided_says commit m (decide_goes commit t))
-decision_at commit m (said added) = refl
-decision_at commit m (said (kept (value.Bool b))) = other_decision commit b m
-decision_at commit m (said (kept v)) = refl
-decision_at commit m (said x) = refl
-decision_at commit m (found e) = refl
-
-pub decision_marks : (commit put : Bool) (m : Mark) (k : Option Mark) (t : Told) → put ≡ (kept_of value.Null t).added → k ≡ mark_if put m → k ≡ mark_of (decided_says commit m (decide_goes commit t))
-decision_marks commit put m k t is marked = marked ∙ ap (λ b. mark_if b m) is ∙ decision_at commit m t
 
 -- it looks at its stage no more, as it neither waits nor stays
 abbrev leaves_stage : Says → Bool

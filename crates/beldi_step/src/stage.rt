@@ -277,7 +277,7 @@ fn hear_keep(
     }
 }
 
-pub(crate) fn is_added(heard: &Heard<'_>) -> bool
+fn is_added(heard: &Heard<'_>) -> bool
     ensures { (v : Value) → result ≡ (kept_of v (told_of heard.entry.now)).added }
 {
     matches!(heard, Heard::Said(Said::Added))

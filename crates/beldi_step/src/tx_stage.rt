@@ -3,13 +3,15 @@ ghost use Rattle.std.specs.Prelude.{◌≡◌, IfOk, IfErr};
 ghost use Rattle.beldi_walk.specs.Query.{told_of};
 ghost use Rattle.beldi_txn.specs.Tx.{tx_goes};
 ghost use Rattle.beldi_txn.specs.End.{end_goes, decide_goes, moved};
-ghost use Rattle.beldi_step.specs.Run.{mark_of, place_of as place_at, own_tx as own_tx_of, tx_at as tx_at_of, tx_here_asks, end_here_asks, put_answer as put_answer_of, tx_says as tx_says_of, tx_here_says, visit_says as visit_says_of, decided_says, decide_here_says, end_here_says, ending_says};
+ghost use Rattle.beldi_step.specs.Run.{mark_of, place_of as place_at, own_tx as own_tx_of, tx_at as tx_at_of, tx_here_asks, end_here_asks, put_answer as put_answer_of, tx_says as tx_says_of, tx_here_says, visit_says as visit_says_of, decided_says, ending_says};
 
 use crate::run::{Mark, OpenTx, RunTx, Says, Stage, Wait};
-use crate::stage::{is_added, look, mark_if, place_of};
+use crate::stage::{look, mark_if, place_of};
 use beldi_lang::{Answer, Effect};
 use beldi_row::copy_tx;
-use beldi_txn::{EndGoes, TxAt, TxGoes, Visit, end_query, end_told, tx_query, tx_told};
+use beldi_txn::{
+    EndGoes, TxAt, TxGoes, Visit, decide_told, end_query, end_told, tx_query, tx_told,
+};
 use beldi_value::{IntentId, TxId};
 use beldi_walk::{Heard, Query};
 use std::alloc::{AllocError, Global};
@@ -148,7 +150,7 @@ fn put_answer(alloc: Global, at: &TxAt) -> Result<Says, AllocError>
     }
 }
 
-// What the stage of an end says of what it was told. Out of memory, it tells the mark of its act.
+// What the stage of an end says of what it was told. Only a visit may be out of memory, and it makes no entry.
 pub(crate) fn hear_end(
     alloc: Global,
     id: &IntentId,
@@ -162,9 +164,13 @@ pub(crate) fn hear_end(
     ensures ok { IfOk result (λ s. s ≡ ending_says id.now func step tx.now effect.now stage (told_of heard.entry)) }
     ensures err { IfErr result (λ e. e ≡ mark_of (ending_says id.now func step tx.now effect.now stage (told_of heard.entry))) }
 {
+    let (Effect::End { commit }, Some(RunTx::Own(tx))) = (effect, tx) else {
+        drop(stage);
+        return Ok(Says::Ends(None, None));
+    };
     match stage {
-        Stage::Decide(mark) => hear_decision(alloc, id, func, step, tx, effect, mark, heard),
-        Stage::End(visit) => match hear_visit(alloc, id, func, step, tx, effect, visit, heard) {
+        Stage::Decide(mark) => Ok(decide(alloc, *commit, mark, heard)),
+        Stage::End(visit) => match hear_visit(alloc, id, func, tx, step, *commit, visit, heard) {
             Ok(says) => Ok(says),
             Err(_) => Err(None),
         },
@@ -175,73 +181,19 @@ pub(crate) fn hear_end(
     }
 }
 
-fn hear_decision(
-    alloc: Global,
-    id: &IntentId,
-    func: u16,
-    step: u32,
-    tx: &Option<RunTx>,
-    effect: &Effect,
-    mark: Mark,
-    heard: Heard<'_>,
-) -> Result<Says, Option<Mark>>
-    ensures ok { IfOk result (λ s. s ≡ decide_here_says id.now func step effect.now mark tx.now (told_of heard.entry)) }
-    ensures err { IfErr result (λ e. e ≡ mark_of (decide_here_says id.now func step effect.now mark tx.now (told_of heard.entry))) }
+fn decide(alloc: Global, commit: bool, mark: Mark, heard: Heard<'_>) -> Says
+    ensures { result ≡ decided_says commit mark (decide_goes commit (told_of heard.entry)) }
 {
-    match (effect, tx) {
-        (Effect::End { commit }, Some(RunTx::Own(tx))) => {
-            decide(alloc, id, func, tx, step, *commit, mark, heard)
+    match decide_told(commit, heard) {
+        EndGoes::Decided { first } => {
+            let visit = went(Visit::first(alloc), commit, EndGoes::Decided { first });
+            Says::On(Stage::End(visit), mark_if(first, mark))
         }
-        _ => {
-            drop(mark);
-            Ok(Says::Ends(None, None))
-        }
-    }
-}
-
-// The mark of the decision is there before its act, so out of memory it can be told.
-fn decide(
-    alloc: Global,
-    id: &IntentId,
-    func: u16,
-    tx: &OpenTx,
-    step: u32,
-    commit: bool,
-    mark: Mark,
-    heard: Heard<'_>,
-) -> Result<Says, Option<Mark>>
-    ensures ok { IfOk result (λ s. s ≡ decided_says commit mark (decide_goes commit (told_of heard.entry))) }
-    ensures err { IfErr result (λ e. e ≡ mark_of (decided_says commit mark (decide_goes commit (told_of heard.entry)))) }
-{
-    let put = is_added(&heard);
-    let visit = Visit::first(alloc);
-    match end_goes_to(alloc, id, func, tx, step, commit, &visit, heard) {
-        Ok(EndGoes::Decided { first }) => Ok(Says::On(
-            Stage::End(went(visit, commit, EndGoes::Decided { first })),
-            mark_if(first, mark),
-        )),
-        Ok(goes) => {
+        goes => {
             drop(goes);
-            Ok(Says::On(Stage::Decide(mark), None))
+            Says::On(Stage::Decide(mark), None)
         }
-        Err(_) => Err(mark_if(put, mark)),
     }
-}
-
-fn end_goes_to(
-    alloc: Global,
-    id: &IntentId,
-    func: u16,
-    tx: &OpenTx,
-    step: u32,
-    commit: bool,
-    visit: &Visit,
-    heard: Heard<'_>,
-) -> Result<EndGoes, AllocError>
-    ensures { IfOk result (λ g. g ≡ end_goes (own_tx_of id.now func tx.now) step commit visit.now.way visit.now.at (told_of heard.entry)) }
-{
-    let who = own_tx(alloc, id, func, tx)?;
-    end_told(alloc, &who, step, commit, visit, heard)
 }
 
 fn went(visit: Visit, commit: bool, goes: EndGoes) -> Visit
@@ -256,34 +208,20 @@ fn hear_visit(
     alloc: Global,
     id: &IntentId,
     func: u16,
+    tx: &OpenTx,
     step: u32,
-    tx: &Option<RunTx>,
-    effect: &Effect,
+    commit: bool,
     visit: Visit,
     heard: Heard<'_>,
 ) -> Result<Says, AllocError>
-    ensures { IfOk result (λ s. s ≡ end_here_says id.now func step effect.now visit tx.now (told_of heard.entry)) }
+    ensures { IfOk result (λ s. s ≡ visit_says_of commit visit (end_goes (own_tx_of id.now func tx.now) step commit visit.way visit.at (told_of heard.entry))) }
 {
-    match (effect, tx) {
-        (Effect::End { commit }, Some(RunTx::Own(tx))) => {
-            let goes = end_goes_to(alloc, id, func, tx, step, *commit, &visit, heard)?;
-            Ok(visit_says(*commit, visit, goes))
-        }
-        _ => {
-            drop(visit);
-            Ok(Says::Ends(None, None))
-        }
-    }
-}
-
-fn visit_says(commit: bool, visit: Visit, goes: EndGoes) -> Says
-    ensures { result ≡ visit_says_of commit visit goes }
-{
-    match goes {
+    let who = own_tx(alloc, id, func, tx)?;
+    match end_told(alloc, &who, step, commit, &visit, heard)? {
         EndGoes::Done => {
             drop(visit);
-            Says::Answers(Answer::Done, None)
+            Ok(Says::Answers(Answer::Done, None))
         }
-        goes => Says::On(Stage::End(went(visit, commit, goes)), None),
+        goes => Ok(Says::On(Stage::End(went(visit, commit, goes)), None)),
     }
 }
