@@ -1,5 +1,5 @@
 -- A run, as a machine that asks one thing a turn.
-use Rattle.std.specs.Prelude.{◌≡◌, ℕ, not, Bool, true, false, Option, Some, None, is_none, is_some, Result, Ok, Err, if◌then◌else◌}
+use Rattle.std.specs.Prelude.{◌≡◌, ℕ, not, Bool, true, false, List, Option, Some, None, is_none, is_some, Result, Ok, Err, if◌then◌else◌}
 use Rattle.beldi_value.specs.Id.{has_callees, has_no_hops, child_of}
 use Rattle.beldi_value.specs.declared.id.IntentId.{IntentId}
 use Rattle.beldi_value.specs.declared.value.Value.{Value}
@@ -35,6 +35,7 @@ use Rattle.beldi_daal.specs.declared.cell.WriteGoes.{WriteGoes}
 use Rattle.beldi_daal.specs.declared.cell.WriteGoes.TheVariants as writes
 use Rattle.beldi_daal.specs.declared.cell.ReadGoes.{ReadGoes}
 use Rattle.beldi_daal.specs.declared.cell.ReadGoes.TheVariants as reads
+use Rattle.beldi_daal.specs.declared.cell.CellOp.{CellOp}
 use Rattle.beldi_daal.specs.declared.cell.CellOp.TheVariants as op
 use Rattle.beldi_daal.specs.Cell.{cell_key, done_note, write_asks, write_goes, read_goes}
 use Rattle.beldi_readlog.specs.declared.read_log.Kept.{Kept}
@@ -65,7 +66,6 @@ use Rattle.beldi_step.specs.declared.run.Mark.{Mark}
 use Rattle.beldi_step.specs.declared.run.Mark.TheVariants as mark
 use Rattle.beldi_step.specs.declared.run.Wait.{Wait}
 use Rattle.beldi_step.specs.declared.run.Wait.TheVariants as wait
-use Rattle.beldi_step.specs.declared.stage.OnCell.{OnCell}
 use Rattle.beldi_step.specs.declared.run.Run.{Run}
 use Rattle.beldi_step.specs.declared.run.RunAt.{RunAt}
 use Rattle.beldi_step.specs.declared.run.RunAt.TheVariants.{Looks, Registers, Begins}
@@ -159,6 +159,11 @@ at_once d id s = once d id (once d id s)
 
 -- ---- an operation on an item
 -- the operation of an effect, and its item
+pub record OnCell : Type 0 where
+  pub table : ℕ
+  pub key : List ℕ
+  pub op : CellOp
+
 abbrev pub cell_op : Effect → Option OnCell
 cell_op (effect.Write t k v) = Some (record { table = t; key = k; op = op.Write v })
 cell_op (effect.CondWrite t k r o v) = Some (record { table = t; key = k; op = op.Cond r o v })

@@ -45,51 +45,6 @@ pub(crate) fn look(alloc: Global, id: &IntentId, func: u16) -> Result<Query, All
     Ok(Query::Act(intent_key(id.copy(alloc)?, func), Act::Look))
 }
 
-// An operation on an item, and where the item is.
-#[derive(Drop)]
-struct OnCell {
-    table: u16,
-    key: Str,
-    op: CellOp,
-}
-
-fn on_cell(alloc: Global, table: u16, key: &Str, op: CellOp) -> Result<Option<OnCell>, AllocError>
-    ensures { IfOk result (λ o. o ≡ Some (record { table = table; key = key.now; op = op })) }
-{
-    let key = key.copy(alloc)?;
-    Ok(Some(OnCell { table, key, op }))
-}
-
-// The operation of an effect.
-fn operation(alloc: Global, effect: &Effect) -> Result<Option<OnCell>, AllocError>
-    ensures { IfOk result (λ o. o ≡ cell_op effect.now) }
-{
-    match effect {
-        Effect::Write { table, key, value } => {
-            on_cell(alloc, *table, key, CellOp::Write(value.copy(alloc)?))
-        }
-        Effect::CondWrite {
-            table,
-            key,
-            rel,
-            operand,
-            value,
-        } => {
-            let operand = operand.copy(alloc)?;
-            let value = value.copy(alloc)?;
-            let op = CellOp::Cond {
-                rel: *rel,
-                operand,
-                value,
-            };
-            on_cell(alloc, *table, key, op)
-        }
-        Effect::Lock { table, key } => on_cell(alloc, *table, key, CellOp::Lock),
-        Effect::Unlock { table, key } => on_cell(alloc, *table, key, CellOp::Free(None)),
-        _ => Ok(None),
-    }
-}
-
 // The note that its act leaves where it says that it was done.
 fn note_done(effect: &Effect) -> Option<Note>
     ensures { result ≡ note_done_of effect.now }
@@ -130,13 +85,54 @@ fn put_here(
 ) -> Result<Query, AllocError>
     ensures { IfOk result (λ q. q ≡ put_asks id.now func step at (cell_op effect.now)) }
 {
-    let Some(on) = operation(alloc, effect)? else {
-        return look(alloc, id, func);
-    };
+    match effect {
+        Effect::Write { table, key, value } => {
+            let op = CellOp::Write(value.copy(alloc)?);
+            put_query(alloc, id, func, step, *table, key, op, at)
+        }
+        Effect::CondWrite {
+            table,
+            key,
+            rel,
+            operand,
+            value,
+        } => {
+            let operand = operand.copy(alloc)?;
+            let value = value.copy(alloc)?;
+            let op = CellOp::Cond {
+                rel: *rel,
+                operand,
+                value,
+            };
+            put_query(alloc, id, func, step, *table, key, op, at)
+        }
+        Effect::Lock { table, key } => {
+            put_query(alloc, id, func, step, *table, key, CellOp::Lock, at)
+        }
+        Effect::Unlock { table, key } => {
+            let op = CellOp::Free(None);
+            put_query(alloc, id, func, step, *table, key, op, at)
+        }
+        _ => look(alloc, id, func),
+    }
+}
+
+fn put_query(
+    alloc: Global,
+    id: &IntentId,
+    func: u16,
+    step: u32,
+    table: u16,
+    key: &Str,
+    op: CellOp,
+    at: WriteAt,
+) -> Result<Query, AllocError>
+    ensures { IfOk result (λ q. q ≡ put_asks id.now func step at (Some (record { table = table; key = key.now; op = op }))) }
+{
+    let row = cell_key(alloc, func, table, key)?;
     let place = place_of(alloc, id, step)?;
     let who = Owner::Intent(id.copy(alloc)?);
-    let key = cell_key(alloc, func, on.table, &on.key)?;
-    write_query(alloc, key, place, who, on.op, at)
+    write_query(alloc, row, place, who, op, at)
 }
 
 // What a stage asks. The table takes the key and the act, so what they have of the effect is copied; the machine keeps it.
