@@ -33,30 +33,30 @@ no_memory d e c z r s h = no_memory_by d e (counted c) z r s (plan d e c) h
 
 -- ---- the answer to a turn
 module _ (d : Deployment) (c z : Core) (a : RunMap) (i : ℕ) (t : Told) (n : Copies) where
-  unheard_by : (o : Option Run) (x : Result TurnSays (Option Mark)) (m : Option Mark) → RunTold d (count_changes c.book) c.runs a i o t x → Copied n o → m ≡ mark_told x → z ≡ record c { runs = map.remove a i; book = marked c.book n.book m } → z ≡ unheard_next d c i t o
+  unheard_by : (o : Option Run) (x : Result TurnSays (Option Mark)) (m : Option Mark) → RunTold d (count_changes c.book) c.runs a i o t x → Copied n o → m ≡ mark_told x → z ≡ record c { runs = map.remove a i; book = marked c.book n.id m } → z ≡ unheard_next d c i t o
   unheard_by None x m h name at is = absurd h
   unheard_by (Some r) (Ok x) m h name at is =
       let s = run_told d (count_changes c.book) r t in
-      is ∙ (λ k. record c { runs = map.remove (h.0 k) i; book = marked c.book (name k).book ((at ∙ ap (λ (y : TurnSays). y.mark) h.1) k) }) ∙ ap (λ q. record c { runs = q; book = marked c.book r.id s.mark }) (remove_put c.runs i s.next)
+      is ∙ (λ k. record c { runs = map.remove (h.0 k) i; book = marked c.book (name k).id ((at ∙ ap (λ (y : TurnSays). y.mark) h.1) k) }) ∙ ap (λ q. record c { runs = q; book = marked c.book r.id s.mark }) (remove_put c.runs i s.next)
   unheard_by (Some r) (Err m') m h name at is =
-      is ∙ (λ k. record c { runs = map.remove (h.0 k) i; book = marked c.book (name k).book ((at ∙ h.1) k) }) ∙ ap (λ q. record c { runs = q; book = marked c.book r.id (run_told d (count_changes c.book) r t).mark }) (remove_put c.runs i None)
+      is ∙ (λ k. record c { runs = map.remove (h.0 k) i; book = marked c.book (name k).id ((at ∙ h.1) k) }) ∙ ap (λ q. record c { runs = q; book = marked c.book r.id (run_told d (count_changes c.book) r t).mark }) (remove_put c.runs i None)
 
-  pub unheard : (x : Result TurnSays (Option Mark)) (m : Option Mark) → RunTold d (count_changes c.book) c.runs a i (map.get c.runs i) t x → Copied n (map.get c.runs i) → m ≡ mark_told x → z ≡ record c { runs = map.remove a i; book = marked c.book n.book m } → Followed d (Lost i) c (Ok t) z (Ok seen.Dropped)
+  pub unheard : (x : Result TurnSays (Option Mark)) (m : Option Mark) → RunTold d (count_changes c.book) c.runs a i (map.get c.runs i) t x → Copied n (map.get c.runs i) → m ≡ mark_told x → z ≡ record c { runs = map.remove a i; book = marked c.book n.id m } → Followed d (Lost i) c (Ok t) z (Ok seen.Dropped)
   unheard x m h name at is = λ j. (unheard_by (map.get c.runs i) x m h name at is j, seen.Dropped)
 
   -- .. and where there was no memory for what follows
-  unheard_made : (x : TurnSays) → RunTold d (count_changes c.book) c.runs a i (map.get c.runs i) t (Ok x) → Copied n (map.get c.runs i) → z ≡ record c { runs = map.remove a i; book = marked c.book n.book x.mark } → Some (unheard_next d c i t (map.get c.runs i)) ≡ Some z
+  unheard_made : (x : TurnSays) → RunTold d (count_changes c.book) c.runs a i (map.get c.runs i) t (Ok x) → Copied n (map.get c.runs i) → z ≡ record c { runs = map.remove a i; book = marked c.book n.id x.mark } → Some (unheard_next d c i t (map.get c.runs i)) ≡ Some z
   unheard_made x h name is = ap Some (sym (unheard_by (map.get c.runs i) (Ok x) x.mark h name refl is))
 
 turned_by : (d : Deployment) (c : Core) (a : RunMap) (i : ℕ) (t : Told) (n : Copies) (o : Option Run) (x : TurnSays) → RunTold d (count_changes c.book) c.runs a i o t (Ok x) → Copied n o
-    → after_turn (record c { runs = a; book = marked c.book n.book x.mark }) n.callee n.told x x.wait ≡ run_next d c i t o
+    → after_turn (record c { runs = a; book = marked c.book n.id x.mark }) n.callee n.id x x.wait ≡ run_next d c i t o
 turned_by d c a i t n None x h name = absurd h
 turned_by d c a i t n (Some r) x h name =
-    λ j. after_turn (record c { runs = h.0 j; book = marked c.book (name j).book (h.1 j).mark }) (name j).callee (name j).told (h.1 j) (h.1 j).wait
+    λ j. after_turn (record c { runs = h.0 j; book = marked c.book (name j).id (h.1 j).mark }) (name j).callee (name j).id (h.1 j) (h.1 j).wait
 
-turned : (d : Deployment) (c k : Core) (a : RunMap) (i : ℕ) (t : Told) (n : Copies) (x : TurnSays) (z : Core × Seen) → RunTold d (count_changes c.book) c.runs a i (map.get c.runs i) t (Ok x) → Copied n (map.get c.runs i) → k ≡ record c { runs = a; book = marked c.book n.book x.mark }
-    → z ≡ after_turn k n.callee n.told x x.wait → z ≡ run_next d c i t (map.get c.runs i)
-turned d c k a i t n x z h name at is = is ∙ ap (λ q. after_turn q n.callee n.told x x.wait) at ∙ turned_by d c a i t n (map.get c.runs i) x h name
+turned : (d : Deployment) (c k : Core) (a : RunMap) (i : ℕ) (t : Told) (n : Copies) (x : TurnSays) (z : Core × Seen) → RunTold d (count_changes c.book) c.runs a i (map.get c.runs i) t (Ok x) → Copied n (map.get c.runs i) → k ≡ record c { runs = a; book = marked c.book n.id x.mark }
+    → z ≡ after_turn k n.callee n.id x x.wait → z ≡ run_next d c i t (map.get c.runs i)
+turned d c k a i t n x z h name at is = is ∙ ap (λ q. after_turn q n.callee n.id x x.wait) at ∙ turned_by d c a i t n (map.get c.runs i) x h name
 
 -- .. which is told, or there is no memory for that
 pub told_turn : (d : Deployment) (c k z : Core) (a : RunMap) (i : ℕ) (t : Told) (n : Copies) (x : TurnSays) (r : Result Seen AllocError) → RunTold d (count_changes c.book) c.runs a i (map.get c.runs i) t (Ok x) → Copied n (map.get c.runs i)

@@ -137,10 +137,10 @@ mark_told (Err m) = m
 -- a turn of the run i was made, whose copies are n: from a core whose runs have gone on, it is told; where there is no memory for
 -- that, the run is over
 abbrev pub entered : Core → Copies → TurnSays → Core
-entered c n x = record c { book = marked c.book n.book x.mark }
+entered c n x = record c { book = marked c.book n.id x.mark }
 
 abbrev pub TellsTurn : Core → ℕ → Copies → TurnSays → Core → Result Seen AllocError → Type 0
-TellsTurn c i n x z (Ok y) = (z, y) ≡ after_turn (entered c n x) n.callee n.told x x.wait
+TellsTurn c i n x z (Ok y) = (z, y) ≡ after_turn (entered c n x) n.callee n.id x x.wait
 TellsTurn c i n x z (Err e) = z ≡ ended_run (entered c n x) i
 
 -- the one query of an event that was planned, and what follows

@@ -52,7 +52,7 @@ withdrawn a = record { runs = map.remove a.runs a.given; given = a.given - 1 }
 
 -- ---- a turn
 abbrev pub copied : Run → Copies
-copied r = record { book = r.id; told = r.id; callee = callee_of r }
+copied r = record { id = r.id; callee = callee_of r }
 
 -- what a run asks, with its copies
 abbrev pub asked_of : Run → Query × Copies

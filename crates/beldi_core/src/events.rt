@@ -5,7 +5,7 @@ ghost use Rattle.std.specs.FinMap as map;
 ghost use Rattle.beldi_walk.specs.Query.{told_of};
 ghost use Rattle.beldi_step.specs.declared.event.Event.TheVariants as events;
 ghost use Rattle.beldi_tree.specs.declared.deployment.Deployment.{Deployment};
-ghost use Rattle.beldi_step.specs.Host.{collected as collected_of, passed, Core, Followed, acted as acted_by, after_turn as after_turn_of, may_start as may_start_of, started, at_once, crash_plan, tick_plan, new_run as new_run_of, entry_of as entry_by, marked, no_run as no_run_of, refused, refused_by, ticket_next, unbound};
+ghost use Rattle.beldi_step.specs.Host.{collected as collected_of, passed, Core, Followed, acted as acted_by, after_turn as after_turn_of, may_start as may_start_of, started, at_once, crash_plan, tick_plan, new_run as new_run_of, entry_of as entry_by, no_run as no_run_of, refused, refused_by, ticket_next, unbound};
 ghost use Rattle.beldi_core.specs.declared.events.Planned.TheVariants as planned;
 ghost use Rattle.beldi_core.specs.Parts.{core_in, Planned as IsPlanned, PlannedOf, RunPlanned, Ready, HasPlace, event_of, base, BoundBy, Copied, TellsTurn, acted_unless, mark_told};
 
@@ -107,12 +107,12 @@ fn entry_if(id: IntentId, mark: Option<Mark>) -> Option<Entry>
 }
 
 // Appends the entry of an act, if it made one.
-fn write(book: &mut Book, id: IntentId, mark: Option<Mark>)
+fn write(book: &mut Book, entry: Option<Entry>)
     requires { 1 ≤ book.old.spare }
-    ensures { book.new.entries ≡ marked book.old.entries id mark }
+    ensures { book.new.entries ≡ book.old.entries ++ option_to_list entry }
 {
-    if let Some(mark) = mark {
-        book.push(entry_of(id, mark));
+    if let Some(entry) = entry {
+        book.push(entry);
     }
 }
 
@@ -154,12 +154,16 @@ fn acted_if(
     }
 }
 
-// The mark of an act once more: it is entered, and told.
-fn copy_mark(alloc: Global, mark: &Option<Mark>) -> Result<Option<Mark>, AllocError>
-    ensures { IfOk result (λ m. m ≡ mark.now) }
+// .. made of copies: the entry of an act is told too.
+fn copy_entry(
+    alloc: Global,
+    id: &IntentId,
+    mark: &Option<Mark>,
+) -> Result<Option<Entry>, AllocError>
+    ensures { IfOk result (λ e. e ≡ option_map (entry_by id.now) mark.now) }
 {
     match mark {
-        Some(mark) => Ok(Some(mark.copy(alloc)?)),
+        Some(mark) => Ok(Some(entry_of(id.copy(alloc)?, mark.copy(alloc)?))),
         None => Ok(None),
     }
 }
@@ -442,7 +446,7 @@ impl HostCore {
         match self.runs.told(run, self.alloc, code, changes, heard) {
             Ok(says) => self.tell(run, copies, says),
             Err(mark) => {
-                write(&mut self.book, copies.book, mark);
+                write(&mut self.book, entry_if(copies.id, mark));
                 Err(AllocError)
             }
         }
@@ -454,10 +458,10 @@ impl HostCore {
         requires given { self.old.runs.given < self.old.taken }
         ensures { TellsTurn (core_in self.old) run copies says (core_in self.new) result }
     {
-        match copy_mark(self.alloc, &says.mark) {
-            Ok(mark) => {
-                write(&mut self.book, copies.book, mark);
-                match self.after_turn(copies.callee, copies.told, says) {
+        match copy_entry(self.alloc, &copies.id, &says.mark) {
+            Ok(entry) => {
+                write(&mut self.book, entry);
+                match self.after_turn(copies.callee, copies.id, says) {
                     Ok(seen) => Ok(seen),
                     Err(why) => {
                         self.runs.remove(run);
@@ -467,7 +471,7 @@ impl HostCore {
             }
             Err(why) => {
                 self.runs.remove(run);
-                write(&mut self.book, copies.book, told_mark(Ok(says)));
+                write(&mut self.book, entry_if(copies.id, says.mark));
                 Err(why)
             }
         }
@@ -599,7 +603,7 @@ impl HostCore {
         let changes = self.book.changes();
         let mark = told_mark(self.runs.told(run, self.alloc, code, changes, heard));
         self.runs.remove(run);
-        write(&mut self.book, copies.book, mark);
+        write(&mut self.book, entry_if(copies.id, mark));
         Seen::Dropped
     }
 }

@@ -135,12 +135,10 @@ fn tell(
     result
 }
 
-/// What the answer to a run's turn needs: the id of the instance, once for the entry in the book and once for the one that
-/// is told, and a run of what it calls, if it stands at a call.
+/// What the answer to a run's turn needs: the id of the instance, and a run of what it calls, if it stands at a call.
 #[derive(Drop)]
 pub struct Copies {
-    pub book: IntentId,
-    pub told: IntentId,
+    pub id: IntentId,
     pub callee: Option<Callee>,
 }
 
@@ -151,15 +149,9 @@ pub fn asked(run: &Run, book: &mut Book, alloc: Global) -> Result<(Query, Copies
     ensures entries { book.new.entries ≡ book.old.entries }
 {
     book.reserve()?;
-    let own = run.id.copy(alloc)?;
-    let told = run.id.copy(alloc)?;
+    let id = run.id.copy(alloc)?;
     let callee = run.callee(alloc)?;
-    let copies = Copies {
-        book: own,
-        told,
-        callee,
-    };
-    Ok((run.ask(alloc)?, copies))
+    Ok((run.ask(alloc)?, Copies { id, callee }))
 }
 
 impl Runs {
