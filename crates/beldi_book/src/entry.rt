@@ -5,7 +5,7 @@ ghost use Rattle.beldi_book.specs.Text.{entry_text, holder_text};
 ghost use Rattle.beldi_book.specs.Order.{seen_of};
 
 use beldi_tree::Deployment;
-use beldi_value::{IntentId, Place, Str, Value};
+use beldi_value::{Apart, IntentId, Place, Str, Value, copy_holder};
 use std::alloc::{AllocError, Global};
 
 /// What a step of the run was.
@@ -33,8 +33,8 @@ pub enum Entry {
     /// A transaction of an instance was aborted at this place: by its body, or where it met an item of the holder.
     Try {
         id: IntentId,
-        place: Place,
-        holder: Option<IntentId>,
+        place: Apart<Place>,
+        holder: Option<Apart<IntentId>>,
     },
 }
 
@@ -61,7 +61,7 @@ impl Entry {
             }),
             Entry::Try { id, place, holder } => Ok(Entry::Try {
                 id: id.copy(alloc)?,
-                place: place.copy(alloc)?,
+                place: Apart::new(alloc, place.get().copy(alloc)?)?,
                 holder: copy_holder(alloc, holder)?,
             }),
         }
@@ -107,7 +107,7 @@ impl Entry {
                 text.push_text("try ")?;
                 id.write(alloc, &mut text)?;
                 text.push_text(" ")?;
-                place.write(alloc, &mut text)?;
+                place.get().write(alloc, &mut text)?;
                 text.push_text(" ")?;
                 write_holder(alloc, holder, &mut text)?;
             }
@@ -116,21 +116,16 @@ impl Entry {
     }
 }
 
-fn copy_holder(alloc: Global, holder: &Option<IntentId>) -> Result<Option<IntentId>, AllocError>
-    ensures { IfOk result (λ h. h ≡ holder.now) }
-{
-    match holder {
-        Some(id) => Ok(Some(id.copy(alloc)?)),
-        None => Ok(None),
-    }
-}
-
 // Appends the holder's id, or `-`.
-fn write_holder(alloc: Global, holder: &Option<IntentId>, out: &mut Str) -> Result<(), AllocError>
+fn write_holder(
+    alloc: Global,
+    holder: &Option<Apart<IntentId>>,
+    out: &mut Str,
+) -> Result<(), AllocError>
     ensures { OnOk result (out.new ≡ out.old ++ holder_text holder.now) }
 {
     match holder {
-        Some(id) => id.write(alloc, out),
+        Some(id) => id.get().write(alloc, out),
         None => out.push_text("-"),
     }
 }

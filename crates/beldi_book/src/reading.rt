@@ -7,7 +7,7 @@ ghost use Rattle.beldi_book.specs.Words.{small_at, place_at, holder_at, read_at,
 
 use crate::entry::Entry;
 use beldi_tree::Deployment;
-use beldi_value::{IdErr, IntentId, Place, Str, Value, ValueErr, cut_at, read_numeral};
+use beldi_value::{Apart, IdErr, IntentId, Place, Str, Value, ValueErr, cut_at, read_numeral};
 use std::alloc::{AllocError, Global};
 
 fn is_word(word: &[u8], name: &str) -> bool
@@ -49,14 +49,14 @@ fn read_place(alloc: Global, word: &[u8]) -> Result<Option<Place>, AllocError>
     Ok(Some(Place { intent, step }))
 }
 
-fn read_holder(alloc: Global, word: &[u8]) -> Result<Option<Option<IntentId>>, AllocError>
+fn read_holder(alloc: Global, word: &[u8]) -> Result<Option<Option<Apart<IntentId>>>, AllocError>
     ensures { IfOk result (λ o. o ≡ holder_at word.now) }
 {
     if is_word(word, "-") {
         return Ok(Some(None));
     }
     match read_id(alloc, word)? {
-        Some(id) => Ok(Some(Some(id))),
+        Some(id) => Ok(Some(Some(Apart::new(alloc, id)?))),
         None => Ok(None),
     }
 }
@@ -95,6 +95,7 @@ fn read_try(alloc: Global, words: &[u8]) -> Result<Option<Entry>, AllocError>
     let Some(holder) = read_holder(alloc, holder)? else {
         return Ok(None)
     };
+    let place = Apart::new(alloc, place)?;
     Ok(Some(Entry::Try { id, place, holder }))
 }
 

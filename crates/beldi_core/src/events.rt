@@ -16,8 +16,8 @@ use beldi_collect::{Found, collect_query, collect_told};
 use beldi_intent::{Binding, bind_query, bind_told, issue_query, issue_told};
 use beldi_lang::Deployment;
 use beldi_row::{RowKey, TableErr};
-use beldi_step::{Callee, Event, Mark, Run, RunAt, Seen, TurnSays, Wait};
-use beldi_value::{IntentId, Outcome, Value};
+use beldi_step::{Event, Mark, Run, RunAt, Seen, TurnSays, Wait};
+use beldi_value::{Apart, IntentId, Outcome, Value};
 use beldi_walk::{Heard, Query};
 use std::alloc::{AllocError, Global};
 
@@ -43,14 +43,14 @@ pub enum Planned {
     /// It is answered.
     Now(Seen),
     /// It asks this.
-    Asks(Query, Pending),
+    Asks(Apart<Query>, Pending),
 }
 
 // What comes of the event of a run before the table is asked.
 #[derive(Drop)]
 enum RunAsks {
     Now(Seen),
-    Asks(Query, Copies),
+    Asks(Apart<Query>, Copies),
 }
 
 // An error of the table, as an event is answered.
@@ -197,7 +197,7 @@ impl HostCore {
         ensures { PlannedOf code.now event (core_in self.old) (core_in self.new) self.new.book.spare result }
     {
         match event {
-            Event::Ticket => Ok(self.plan_ticket()),
+            Event::Ticket => self.plan_ticket(),
             Event::Request { ticket, func, args } => self.plan_request(code, ticket, func, args),
             Event::Turn(run) => match self.plan_run(run)? {
                 RunAsks::Now(seen) => Ok(Planned::Now(seen)),
@@ -216,17 +216,21 @@ impl HostCore {
             Event::Crash(run) => Ok(Planned::Now(self.crash(run))),
             Event::Restart { id, func } => self.restart(code, id, func),
             Event::Tick(ticks) => Ok(Planned::Now(self.tick(ticks))),
-            Event::Ic => Ok(Planned::Asks(collect_query(self.alloc, &self.cursor)?, Pending::Ic)),
+            Event::Ic => {
+                let query = collect_query(self.alloc, &self.cursor)?;
+                Ok(Planned::Asks(Apart::new(self.alloc, query)?, Pending::Ic))
+            }
         }
     }
 
-    fn plan_ticket(&mut self) -> Planned
-        ensures { (d : Deployment) → PlannedOf d events.Ticket (core_in self.old) (core_in self.new) self.new.book.spare (Ok result) }
+    fn plan_ticket(&mut self) -> Result<Planned, AllocError>
+        ensures { (d : Deployment) → PlannedOf d events.Ticket (core_in self.old) (core_in self.new) self.new.book.spare result }
     {
         if self.newest == u32::MAX {
-            return Planned::Now(Seen::NoTicket);
+            return Ok(Planned::Now(Seen::NoTicket));
         }
-        Planned::Asks(issue_query(self.alloc, self.newest + 1), Pending::Ticket)
+        let query = issue_query(self.alloc, self.newest + 1);
+        Ok(Planned::Asks(Apart::new(self.alloc, query)?, Pending::Ticket))
     }
 
     // A request has its run's place while it waits for its answer.
@@ -248,6 +252,7 @@ impl HostCore {
         }
         self.book.reserve()?;
         let query = bind_query(self.alloc, ticket, func, args.copy(self.alloc)?);
+        let query = Apart::new(self.alloc, query)?;
         let run = self.new_run(code, IntentId::root(self.alloc, ticket), func);
         self.runs.start(self.alloc, run)?;
         Ok(Planned::Asks(query, Pending::Request { ticket, func, args }))
@@ -481,7 +486,7 @@ impl HostCore {
     // for it, nothing is done.
     fn after_turn(
         &mut self,
-        callee: Option<Callee>,
+        callee: Option<Apart<Run>>,
         id: IntentId,
         says: TurnSays,
     ) -> Result<Seen, AllocError>
@@ -516,7 +521,11 @@ impl HostCore {
     }
 
     // Starts a run of what was called, if one may start, where that has no live run and there is a place for one.
-    fn may_start(&mut self, starts: bool, callee: Option<Callee>) -> Result<Option<u64>, AllocError>
+    fn may_start(
+        &mut self,
+        starts: bool,
+        callee: Option<Apart<Run>>,
+    ) -> Result<Option<u64>, AllocError>
         requires given { self.old.runs.given < self.old.taken }
         ensures ok { IfOk result (λ n. (core_in self.new, n) ≡ (if starts then may_start_of (core_in self.old) callee else (core_in self.old, None))) }
         ensures err { OnErr result (core_in self.new ≡ core_in self.old) }
@@ -524,21 +533,21 @@ impl HostCore {
         let Some(callee) = callee else {
             return Ok(None);
         };
-        if !starts || self.runs.has_run(callee.id()) || self.runs.len() >= MOST_RUNS {
+        if !starts || self.runs.has_run(&callee.get().id) || self.runs.len() >= MOST_RUNS {
             drop(callee);
             return Ok(None);
         }
-        Ok(Some(self.runs.start(self.alloc, callee.into_run())?))
+        Ok(Some(self.runs.start(self.alloc, callee.into_inner())?))
     }
 
     // Starts a run of what is called.
-    fn start(&mut self, callee: Option<Callee>) -> Result<Option<u64>, AllocError>
+    fn start(&mut self, callee: Option<Apart<Run>>) -> Result<Option<u64>, AllocError>
         requires given { self.old.runs.given < self.old.taken }
         ensures ok { IfOk result (λ n. (core_in self.new, n) ≡ started (core_in self.old) callee) }
         ensures err { OnErr result (core_in self.new ≡ core_in self.old) }
     {
         match callee {
-            Some(callee) => Ok(Some(self.runs.start(self.alloc, callee.into_run())?)),
+            Some(callee) => Ok(Some(self.runs.start(self.alloc, callee.into_inner())?)),
             None => Ok(None),
         }
     }

@@ -200,7 +200,7 @@ impl<T: Table> Host<T> {
     {
         match self.core.plan(self.code.code(), event)? {
             Planned::Now(seen) => Ok(seen),
-            Planned::Asks(query, pending) => self.ask(query, pending),
+            Planned::Asks(query, pending) => self.ask(query.into_inner(), pending),
         }
     }
 

@@ -9,8 +9,8 @@ ghost use Rattle.beldi_step.specs.Host.{has_run};
 use crate::counts::Counts;
 use beldi_book::Book;
 use beldi_lang::Deployment;
-use beldi_step::{Callee, Mark, Run, TurnSays};
-use beldi_value::IntentId;
+use beldi_step::{Mark, Run, TurnSays};
+use beldi_value::{Apart, IntentId};
 use beldi_walk::{Heard, Query};
 use std::alloc::{AllocError, Global};
 use std::collections::BTreeMap;
@@ -139,11 +139,15 @@ fn tell(
 #[derive(Drop)]
 pub struct Copies {
     pub id: IntentId,
-    pub callee: Option<Callee>,
+    pub callee: Option<Apart<Run>>,
 }
 
 /// What a run asks, and its copies. A place in the book is taken for the entry of its act.
-pub fn asked(run: &Run, book: &mut Book, alloc: Global) -> Result<(Query, Copies), AllocError>
+pub fn asked(
+    run: &Run,
+    book: &mut Book,
+    alloc: Global,
+) -> Result<(Apart<Query>, Copies), AllocError>
     ensures ok { IfOk result (λ x. x ≡ asked_of run.now) }
     ensures room { OnOk result (1 ≤ book.new.spare) }
     ensures entries { book.new.entries ≡ book.old.entries }
@@ -151,7 +155,8 @@ pub fn asked(run: &Run, book: &mut Book, alloc: Global) -> Result<(Query, Copies
     book.reserve()?;
     let id = run.id.copy(alloc)?;
     let callee = run.callee(alloc)?;
-    Ok((run.ask(alloc)?, Copies { id, callee }))
+    let query = Apart::new(alloc, run.ask(alloc)?)?;
+    Ok((query, Copies { id, callee }))
 }
 
 impl Runs {

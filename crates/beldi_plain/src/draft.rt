@@ -30,12 +30,9 @@ impl Actor {
     ) -> Result<Actor, AllocError>
         ensures { IfOk result (λ a. a ≡ record self { machine = resumed code.now self.machine answer }) }
     {
-        let Actor { id, func, machine } = self;
-        Ok(Actor {
-            id,
-            func,
-            machine: machine.resume(alloc, code, answer)?,
-        })
+        let mut actor = self;
+        actor.machine.resume(alloc, code, answer)?;
+        Ok(actor)
     }
 }
 

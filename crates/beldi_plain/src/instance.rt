@@ -252,7 +252,7 @@ fn machine_after(
         if !is_answered(machine.wants()) {
             return Ok(machine);
         }
-        machine = machine.resume(alloc, code, copy_answer(alloc, answer)?)?;
+        machine.resume(alloc, code, copy_answer(alloc, answer)?)?;
     }
     Ok(machine)
 }

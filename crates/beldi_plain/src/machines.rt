@@ -83,9 +83,13 @@ impl Machines {
     )
         ensures { IsKept self.old self.new id (resumed code.now machine answer) }
     {
+        let mut machine = machine;
         match machine.resume(alloc, code, answer) {
-            Ok(next) => self.keep(id, next),
-            Err(_) => self.forget(&id),
+            Ok(()) => self.keep(id, machine),
+            Err(_) => {
+                drop(machine);
+                self.forget(&id);
+            }
         }
     }
 

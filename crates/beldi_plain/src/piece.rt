@@ -22,7 +22,7 @@ use crate::plain::{Bar, PlainErr};
 use crate::state::State;
 use crate::undo::Undo;
 use beldi_lang::{Answer, Deployment, Effect, Machine};
-use beldi_value::{Caller, Cause, IntentId, Outcome, Place, TxId, Value, older};
+use beldi_value::{Apart, Caller, Cause, IntentId, Outcome, Place, TxId, Value, older};
 use std::alloc::{AllocError, Global};
 
 // Whether the one at the front stands where a try stops.
@@ -556,16 +556,19 @@ fn cause_of(alloc: Global, front: &Actor, holder: Option<&IntentId>) -> Result<C
 {
     let holder = copy_holder(alloc, holder)?;
     Ok(Cause {
-        place: place_of(alloc, front)?,
+        place: Apart::new(alloc, place_of(alloc, front)?)?,
         holder,
     })
 }
 
-fn copy_holder(alloc: Global, holder: Option<&IntentId>) -> Result<Option<IntentId>, AllocError>
+fn copy_holder(
+    alloc: Global,
+    holder: Option<&IntentId>,
+) -> Result<Option<Apart<IntentId>>, AllocError>
     ensures { IfOk result (λ o. o ≡ option_copied holder.entry) }
 {
     match holder {
-        Some(holder) => Ok(Some(holder.copy(alloc)?)),
+        Some(holder) => Ok(Some(Apart::new(alloc, holder.copy(alloc)?)?)),
         None => Ok(None),
     }
 }

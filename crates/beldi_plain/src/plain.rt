@@ -16,7 +16,7 @@ use crate::state::State;
 use beldi_book::{Book, Entry};
 use beldi_check::Checked;
 use beldi_lang::{Effect, Machine};
-use beldi_value::{IntentId, Outcome, Place, Str, Value};
+use beldi_value::{Apart, IntentId, Outcome, Place, Str, Value};
 use std::alloc::{AllocError, Global};
 use std::marker::Model;
 use thiserror::Error;
@@ -231,7 +231,7 @@ impl<'a> Plain<'a> {
             Entry::Read { id, .. } => self.enter(id, true),
             Entry::Step { id } => self.enter(id, false),
             Entry::Tx { id } => self.piece(id),
-            Entry::Try { id, place, holder } => self.try_piece(id, place, holder.as_ref()),
+            Entry::Try { id, place, holder } => self.try_piece(id, place.get(), lent(holder)),
         }
     }
 
@@ -338,5 +338,14 @@ impl<'a> Plain<'a> {
         ensures { result.now ≡ value_at self.now.state (record { func = func; table = table; key = key.now }) }
     {
         self.state.value(func, table, key)
+    }
+}
+
+fn lent(holder: &Option<Apart<IntentId>>) -> Option<&IntentId>
+    ensures { option_copied result ≡ holder.now }
+{
+    match holder {
+        Some(holder) => Some(holder.get()),
+        None => None,
     }
 }

@@ -29,7 +29,7 @@ use Rattle.beldi_step.specs.declared.run.Says.TheVariants.{On, Stays, Opens, Sta
 use Rattle.beldi_step.specs.declared.run.Stage.{Stage}
 use Rattle.beldi_step.specs.declared.run.Stage.TheVariants.{Decide, End}
 use Rattle.beldi_step.specs.declared.run.TurnSays.{TurnSays}
-use Rattle.beldi_step.specs.Run.{Turns, within, run_told, told_at, turned_by, stage_says, ending_says, decided_says, visit_says, decide_here_says, end_here_says, is_end, is_at_end, at_stage, mark_of, followed, plain_says, takes, goes_to, goes_from, begin_in, body_found}
+use Rattle.beldi_step.specs.Run.{Turns, within, run_told, told_at, turned_by, stage_says, ending_says, decided_says, visit_says, decide_here_says, end_here_says, is_end, is_at_end, at_stage, mark_of, followed, plain_says, takes, at_state, goes_to, goes_from, begin_in, body_found}
 
 pub not_end : (r : Run) (g : Begun) → r.at ≡ Begins g → false ≡ is_at_end r.at → is_end g.stage ≡ false
 not_end r g at is = sym (is ∙ ap is_at_end at)
@@ -151,12 +151,12 @@ end_marks d r h n e w m t at steps effect stage marked g changes there is =
     ended_marks d r g m t is (subst (λ (q : Begun). m ≡ mark_of (ending_says r.id r.func q.machine.steps q.tx q.machine.effect q.stage t)) (same_begun r.at h g at there) so) changes
 
 -- ---- an answer
-pub answered : (d : Deployment) (r z : Run) (h : Begun) (p : Machine × Option RunTx) (a : Answer) (x : Result Bool AllocError) → r.at ≡ Begins h → p ≡ takes d h.machine h.tx a
-    → IfOk x (λ b. (at : RunAt) (mark : Option Mark) → followed z (plain_says mark b) ≡ goes_to d (record r { at = at }) p h.caller mark) → (g : Begun) → r.at ≡ Begins g
-    → IfOk x (λ b. (mark : Option Mark) → followed z (plain_says mark b) ≡ goes_to d r (takes d g.machine g.tx a) g.caller mark)
-answered d r z h p a (Ok b) at is goes g there =
-    λ mark. goes r.at mark ∙ ap (λ q. goes_to d r q h.caller mark) is ∙ ap (λ (q : Begun). goes_to d r (takes d q.machine q.tx a) q.caller mark) (same_begun r.at h g at there)
-answered d r z h p a (Err e) at is goes g there = tt
+pub answered : (d : Deployment) (r : Run) (h k n : Begun) (a : Answer) (x : Result Bool AllocError) → r.at ≡ Begins h → k ≡ at_state h (takes d h.machine h.tx a)
+    → IfOk x (λ b. (q : Run) (mark : Option Mark) → q.id ≡ r.id → followed (record q { at = Begins n }) (plain_says mark b) ≡ goes_to d q (k.machine, k.tx) k.caller mark) → (g : Begun) → r.at ≡ Begins g
+    → IfOk x (λ b. (mark : Option Mark) → followed (record r { at = Begins n }) (plain_says mark b) ≡ goes_to d r (takes d g.machine g.tx a) g.caller mark)
+answered d r h k n a (Ok b) at is goes g there =
+    λ mark. goes r mark refl ∙ ap (λ (q : Begun). goes_to d r (q.machine, q.tx) q.caller mark) is ∙ ap (λ (q : Begun). goes_to d r (takes d q.machine q.tx a) q.caller mark) (same_begun r.at h g at there)
+answered d r h k n a (Err e) at is goes g there = tt
 
 -- ---- a run that finds its body
 -- where it stood counts no more

@@ -146,6 +146,10 @@ answer_at_once id step e = None
 abbrev pub takes : Deployment → Machine → Option RunTx → Answer → Machine × Option RunTx
 takes d m o a = (resumed d m a, open_after m.steps m.effect a o)
 
+-- a run at a machine and a transaction
+abbrev pub at_state : Begun → Machine × Option RunTx → Begun
+at_state g s = record g { machine = s.0; tx = s.1 }
+
 abbrev pub takes_if : Deployment → Machine → Option RunTx → Option Answer → Machine × Option RunTx
 takes_if d m o None = (m, o)
 takes_if d m o (Some a) = takes d m o a

@@ -23,14 +23,12 @@
 #![tactic(auto)]
 
 mod call_stage;
-mod callee;
 mod event;
 mod laws;
 mod run;
 mod stage;
 mod tx_stage;
 
-pub use callee::Callee;
 pub use event::{Event, Seen};
 pub use laws::{
     a_run_begins_inside, a_run_expires_past_its_deadline, a_run_inside_makes_no_entry,

@@ -1,9 +1,9 @@
 // Runs: executions of instances of functions. Each asks one thing a turn, and goes on by what it is told.
-ghost use Rattle.std.specs.Prelude.{◌≡◌, ℕ, true, false, Option, Some, None, IfOk};
+ghost use Rattle.std.specs.Prelude.{◌≡◌, ℕ, true, false, Option, Some, None, IfOk, OnOk};
 ghost use Rattle.beldi_tree.specs.Names.{func_at};
 ghost use Rattle.beldi_walk.specs.Query.{told_of};
 ghost use Rattle.beldi_intent.specs.Intent.{body_in, body_told, open_body as open_body_of};
-ghost use Rattle.beldi_step.specs.Run.{run_asks, run_told, followed, plain_says, begin_in, goes_to, takes, at_once as at_once_of, once as once_of, open_after as open_after_of, with_cause as with_cause_of, begin_of, tx_at, within as within_of, answer_at_once as answer_at_once_of, at_stage, is_end as is_end_of, is_at_end as is_at_end_of, stage_says, body_found, body_added, turned_by, Turns, callee_of, callee_run as callee_run_of};
+ghost use Rattle.beldi_step.specs.Run.{run_asks, run_told, followed, plain_says, begin_in, goes_to, takes, at_state, at_once as at_once_of, once as once_of, open_after as open_after_of, begin_of, tx_at, within as within_of, answer_at_once as answer_at_once_of, at_stage, is_end as is_end_of, is_at_end as is_at_end_of, stage_says, body_found, body_added, turned_by, Turns, callee_of, callee_run as callee_run_of};
 ghost use Rattle.beldi_step.specs.declared.run.Begun.{Begun};
 ghost use Rattle.beldi_step.specs.declared.run.Mark.{Mark};
 ghost use Rattle.beldi_step.specs.declared.run.RunTx.{RunTx};
@@ -11,7 +11,6 @@ ghost use Rattle.beldi_step.specs.declared.run.RunAt.{RunAt};
 ghost use Rattle.beldi_step.specs.declared.run.RunAt.TheVariants as at;
 
 use crate::call_stage::callee_body;
-use crate::callee::Callee;
 use crate::stage::{first_stage, hear, look, place_of, stage_query};
 use crate::tx_stage::{hear_end, tx_at};
 use beldi_call::{AsyncAt, CallAt};
@@ -20,7 +19,9 @@ use beldi_intent::{open_body, register_query};
 use beldi_lang::{Answer, Deployment, Effect, Machine};
 use beldi_row::{Body, IntentRow, Row, Said};
 use beldi_txn::{TxAt, Visit};
-use beldi_value::{Caller, Cause, IntentId, Outcome, Owner, Place, TxId, Value};
+use beldi_value::{
+    Apart, Caller, Cause, IntentId, Outcome, Owner, Place, TxId, Value, copy_holder,
+};
 use beldi_walk::{Heard, Query};
 use std::alloc::{AllocError, Global};
 use std::mem::replace;
@@ -99,7 +100,7 @@ pub enum Stage {
     /// The end of a transaction is to be decided, which leaves this mark.
     Decide(Mark),
     /// The end of a transaction that was decided stands here.
-    End(Visit),
+    End(Apart<Visit>),
     /// A call stands here.
     Call(CallAt),
     /// A call that nobody waits for stands here.
@@ -123,8 +124,8 @@ pub enum Mark {
     Tx,
     /// A transaction was aborted: at this place, by its body, by a fault, or where it met an item of the holder.
     Try {
-        place: Place,
-        holder: Option<IntentId>,
+        place: Apart<Place>,
+        holder: Option<Apart<IntentId>>,
     },
 }
 
@@ -137,19 +138,10 @@ impl Mark {
             Mark::Read(seen) => Ok(Mark::Read(*seen)),
             Mark::Step => Ok(Mark::Step),
             Mark::Tx => Ok(Mark::Tx),
-            Mark::Try { place, holder } => {
-                let place = place.copy(alloc)?;
-                match holder {
-                    None => Ok(Mark::Try {
-                        place,
-                        holder: None,
-                    }),
-                    Some(holder) => Ok(Mark::Try {
-                        place,
-                        holder: Some(holder.copy(alloc)?),
-                    }),
-                }
-            }
+            Mark::Try { place, holder } => Ok(Mark::Try {
+                place: Apart::new(alloc, place.get().copy(alloc)?)?,
+                holder: copy_holder(alloc, holder)?,
+            }),
         }
     }
 }
@@ -265,7 +257,7 @@ fn answer_at_once(
     match effect {
         Effect::Begin => Ok(Some(Answer::Done)),
         Effect::Abort => Ok(Some(Answer::Aborted(Cause {
-            place: place_of(alloc, id, step)?,
+            place: Apart::new(alloc, place_of(alloc, id, step)?)?,
             holder: None,
         }))),
         _ => Ok(None),
@@ -288,91 +280,75 @@ fn open_after(
     step: u32,
     effect: &Effect,
     answer: &Answer,
-    tx: Option<RunTx>,
-) -> Result<Option<RunTx>, AllocError>
-    ensures { IfOk result (λ o. o ≡ open_after_of step effect.now answer.now tx) }
+    tx: &mut Option<RunTx>,
+) -> Result<(), AllocError>
+    ensures { OnOk result (tx.new ≡ open_after_of step effect.now answer.now tx.old) }
 {
     match effect {
         Effect::Begin => {
-            drop(tx);
-            Ok(Some(RunTx::Own(OpenTx {
+            *tx = Some(RunTx::Own(OpenTx {
                 begin: step,
                 cause: None,
-            })))
+            }));
         }
-        Effect::End { .. } => {
-            drop(tx);
-            Ok(None)
+        Effect::End { .. } => *tx = None,
+        _ => {
+            if let (Answer::Aborted(cause), Some(RunTx::Own(tx))) = (answer, tx) {
+                tx.cause = Some(cause.copy(alloc)?);
+            }
         }
-        _ => with_cause(alloc, answer, tx),
     }
+    Ok(())
 }
 
-fn with_cause(
-    alloc: Global,
-    answer: &Answer,
-    tx: Option<RunTx>,
-) -> Result<Option<RunTx>, AllocError>
-    ensures { IfOk result (λ o. o ≡ with_cause_of answer.now tx) }
-{
-    let Answer::Aborted(cause) = answer else {
-        return Ok(tx);
-    };
-    match tx {
-        Some(RunTx::Own(tx)) => {
-            let begin = tx.begin;
-            drop(tx);
-            Ok(Some(RunTx::Own(OpenTx {
-                begin,
-                cause: Some(cause.copy(alloc)?),
-            })))
+impl Begun {
+    // The machine and the transaction that it is in, after an answer.
+    fn take(&mut self, alloc: Global, code: &Deployment, answer: Answer) -> Result<(), AllocError>
+        ensures { OnOk result (self.new ≡ at_state self.old (takes code.now self.old.machine self.old.tx answer)) }
+    {
+        let step = self.machine.steps();
+        open_after(alloc, step, self.machine.wants(), &answer, &mut self.tx)?;
+        self.machine.resume(alloc, code, answer)
+    }
+
+    fn once(&mut self, alloc: Global, code: &Deployment, id: &IntentId) -> Result<(), AllocError>
+        ensures { OnOk result (self.new ≡ at_state self.old (once_of code.now id.now (self.old.machine, self.old.tx))) }
+    {
+        match answer_at_once(alloc, id, self.machine.steps(), self.machine.wants())? {
+            Some(answer) => self.take(alloc, code, answer),
+            None => Ok(()),
         }
-        tx => Ok(tx),
     }
-}
 
-// A machine and the transaction that it is in, after an answer.
-fn take(
-    alloc: Global,
-    code: &Deployment,
-    machine: Machine,
-    tx: Option<RunTx>,
-    answer: Answer,
-) -> Result<(Machine, Option<RunTx>), AllocError>
-    ensures { IfOk result (λ s. s ≡ takes code.now machine tx answer) }
-{
-    let tx = open_after(alloc, machine.steps(), machine.wants(), &answer, tx)?;
-    let machine = machine.resume(alloc, code, answer)?;
-    Ok((machine, tx))
-}
-
-fn once(
-    alloc: Global,
-    code: &Deployment,
-    id: &IntentId,
-    machine: Machine,
-    tx: Option<RunTx>,
-) -> Result<(Machine, Option<RunTx>), AllocError>
-    ensures { IfOk result (λ s. s ≡ once_of code.now id.now (machine, tx)) }
-{
-    match answer_at_once(alloc, id, machine.steps(), machine.wants())? {
-        Some(answer) => take(alloc, code, machine, tx, answer),
-        None => Ok((machine, tx)),
+    // What takes no turn: after a begin comes no begin, and after an abort neither.
+    fn at_once(&mut self, alloc: Global, code: &Deployment, id: &IntentId) -> Result<(), AllocError>
+        ensures { OnOk result (self.new ≡ at_state self.old (at_once_of code.now id.now (self.old.machine, self.old.tx))) }
+    {
+        self.once(alloc, code, id)?;
+        self.once(alloc, code, id)
     }
-}
 
-// What takes no turn: after a begin comes no begin, and after an abort neither.
-fn at_once(
-    alloc: Global,
-    code: &Deployment,
-    id: &IntentId,
-    machine: Machine,
-    tx: Option<RunTx>,
-) -> Result<(Machine, Option<RunTx>), AllocError>
-    ensures { IfOk result (λ s. s ≡ at_once_of code.now id.now (machine, tx)) }
-{
-    let (machine, tx) = once(alloc, code, id, machine, tx)?;
-    once(alloc, code, id, machine, tx)
+    // Past what takes no turn, where its effect begins. It says whether the run is over, as the effect is not carried out.
+    fn go_to(&mut self, alloc: Global, code: &Deployment, id: &IntentId) -> Result<bool, AllocError>
+        ensures { IfOk result (λ over. (r : Run) (mark : Option Mark) → r.id ≡ id.now → followed (record r { at = at.Begins self.new }) (plain_says mark over) ≡ goes_to code.now r (self.old.machine, self.old.tx) self.old.caller mark) }
+    {
+        self.at_once(alloc, code, id)?;
+        let stage = first_stage(
+            alloc,
+            id,
+            &self.caller,
+            &self.tx,
+            self.machine.steps(),
+            self.machine.wants(),
+        )?;
+        match stage {
+            None => Ok(true),
+            Some(stage) => {
+                self.stage = stage;
+                Ok(false)
+            }
+        }
+    }
 }
 
 impl Run {
@@ -389,7 +365,7 @@ impl Run {
 
     /// A run of what the run calls, if it stands at a call: it may act as long as the run. One that is waited for registers
     /// its body, and is in the transaction that the run is in; the row of any other is there before a run of it may start.
-    pub fn callee(&self, alloc: Global) -> Result<Option<Callee>, AllocError>
+    pub fn callee(&self, alloc: Global) -> Result<Option<Apart<Run>>, AllocError>
         ensures { IfOk result (λ r. r ≡ callee_of self.now) }
     {
         let RunAt::Begins(begun) = &self.at else {
@@ -413,7 +389,7 @@ impl Run {
         step: u32,
         func: u16,
         at: RunAt,
-    ) -> Result<Option<Callee>, AllocError>
+    ) -> Result<Option<Apart<Run>>, AllocError>
         ensures { IfOk result (λ r. r ≡ callee_run_of self.now step func at) }
     {
         if !self.id.has_callees() {
@@ -426,7 +402,7 @@ impl Run {
             deadline: self.deadline,
             at,
         };
-        Ok(Some(Callee::new(alloc, run)?))
+        Ok(Some(Apart::new(alloc, run)?))
     }
 
     /// Where it goes after it was told, when so many changes had been made. Out of memory, it is to be dropped, and the
@@ -532,48 +508,15 @@ impl Run {
         }
         let inherited = body.tx.is_some();
         let machine = Machine::new(alloc, code, self.func, body.args, inherited)?;
-        let over = self.go_to(alloc, code, machine, within(body.tx), body.from)?;
+        let mut begun = Begun {
+            machine,
+            caller: body.from,
+            tx: within(body.tx),
+            stage: Stage::Close,
+        };
+        let over = begun.go_to(alloc, code, &self.id)?;
+        self.at = RunAt::Begins(begun);
         Ok(plain(None, over))
-    }
-
-    // Where it stands before counts no more. It says whether the run is over.
-    fn go_to(
-        &mut self,
-        alloc: Global,
-        code: &Deployment,
-        machine: Machine,
-        tx: Option<RunTx>,
-        caller: Option<Caller>,
-    ) -> Result<bool, AllocError>
-        ensures goes { IfOk result (λ b. (at : RunAt) (mark : Option Mark) → followed self.new (plain_says mark b) ≡ goes_to code.now (record self.old { at = at }) (machine, tx) caller mark) }
-        ensures id { self.new.id ≡ self.old.id }
-    {
-        let (machine, tx) = at_once(alloc, code, &self.id, machine, tx)?;
-        let stage = first_stage(
-            alloc,
-            &self.id,
-            &caller,
-            &tx,
-            machine.steps(),
-            machine.wants(),
-        )?;
-        match stage {
-            None => {
-                drop(machine);
-                drop(tx);
-                drop(caller);
-                Ok(true)
-            }
-            Some(stage) => {
-                self.at = RunAt::Begins(Begun {
-                    machine,
-                    caller,
-                    tx,
-                    stage,
-                });
-                Ok(false)
-            }
-        }
     }
 
     fn follow(
@@ -647,10 +590,10 @@ impl Run {
         ensures goes { (g : Begun) → self.old.at ≡ at.Begins g → IfOk result (λ b. (mark : Option Mark) → followed self.new (plain_says mark b) ≡ goes_to code.now self.old (takes code.now g.machine g.tx answer) g.caller mark) }
         ensures id { self.new.id ≡ self.old.id }
     {
-        let RunAt::Begins(begun) = replace(&mut self.at, RunAt::Looks) else {
+        let RunAt::Begins(begun) = &mut self.at else {
             return Ok(true);
         };
-        let (machine, tx) = take(alloc, code, begun.machine, begun.tx, answer)?;
-        self.go_to(alloc, code, machine, tx, begun.caller)
+        begun.take(alloc, code, answer)?;
+        begun.go_to(alloc, code, &self.id)
     }
 }

@@ -26,7 +26,7 @@ use beldi_lang::{Answer, Effect};
 use beldi_readlog::{given_told, kept_told, log_key};
 use beldi_row::{Act, Note, Said};
 use beldi_txn::{TxAt, Visit};
-use beldi_value::{Caller, Cause, IntentId, Owner, Place, Str, Value};
+use beldi_value::{Apart, Caller, Cause, IntentId, Owner, Place, Str, Value};
 use beldi_walk::{Heard, Query};
 use std::alloc::{AllocError, Global};
 
@@ -161,7 +161,15 @@ pub(crate) fn stage_query(
             let visit = Visit::first(alloc);
             end_here(alloc, id, func, step, effect, &visit, &begun.tx)
         }
-        (Stage::End(visit), effect) => end_here(alloc, id, func, step, effect, visit, &begun.tx),
+        (Stage::End(visit), effect) => end_here(
+            alloc,
+            id,
+            func,
+            step,
+            effect,
+            visit.get(),
+            &begun.tx,
+        ),
         (Stage::Call(at), Effect::Call { func: callee, .. }) => {
             Ok(call_query(func, place_of(alloc, id, step)?, *callee, *at))
         }
@@ -350,7 +358,7 @@ fn end_mark(
             Ok(Mark::Try { place, holder })
         }
         None => Ok(Mark::Try {
-            place: place_of(alloc, id, step)?,
+            place: Apart::new(alloc, place_of(alloc, id, step)?)?,
             holder: None,
         }),
     }

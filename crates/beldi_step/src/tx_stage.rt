@@ -2,7 +2,8 @@
 ghost use Rattle.std.specs.Prelude.{◌≡◌, IfOk, IfErr};
 ghost use Rattle.beldi_walk.specs.Query.{told_of};
 ghost use Rattle.beldi_txn.specs.Tx.{tx_goes};
-ghost use Rattle.beldi_txn.specs.End.{end_goes, decide_goes, moved};
+ghost use Rattle.beldi_txn.specs.End.{end_goes, decide_goes, first_visit, moved};
+ghost use Rattle.beldi_txn.specs.declared.end.EndGoes.TheVariants as ends;
 ghost use Rattle.beldi_step.specs.Run.{mark_of, place_of as place_at, own_tx as own_tx_of, tx_at as tx_at_of, tx_here_asks, end_here_asks, put_answer as put_answer_of, tx_says as tx_says_of, tx_here_says, visit_says as visit_says_of, decided_says, ending_says};
 
 use crate::run::{Mark, OpenTx, RunTx, Says, Stage, Wait};
@@ -12,7 +13,7 @@ use beldi_row::copy_tx;
 use beldi_txn::{
     EndGoes, TxAt, TxGoes, Visit, decide_told, end_query, end_told, tx_query, tx_told,
 };
-use beldi_value::{IntentId, TxId};
+use beldi_value::{Apart, IntentId, TxId};
 use beldi_walk::{Heard, Query};
 use std::alloc::{AllocError, Global};
 
@@ -150,7 +151,7 @@ fn put_answer(alloc: Global, at: &TxAt) -> Result<Says, AllocError>
     }
 }
 
-// What the stage of an end says of what it was told. Only a visit may be out of memory, and it makes no entry.
+// What the stage of an end says of what it was told. Out of memory, it tells the mark of its act.
 pub(crate) fn hear_end(
     alloc: Global,
     id: &IntentId,
@@ -169,7 +170,7 @@ pub(crate) fn hear_end(
         return Ok(Says::Ends(None, None));
     };
     match stage {
-        Stage::Decide(mark) => Ok(decide(alloc, *commit, mark, heard)),
+        Stage::Decide(mark) => decide(alloc, *commit, mark, heard),
         Stage::End(visit) => match hear_visit(alloc, id, func, tx, step, *commit, visit, heard) {
             Ok(says) => Ok(says),
             Err(_) => Err(None),
@@ -181,27 +182,29 @@ pub(crate) fn hear_end(
     }
 }
 
-fn decide(alloc: Global, commit: bool, mark: Mark, heard: Heard<'_>) -> Says
-    ensures { result ≡ decided_says commit mark (decide_goes commit (told_of heard.entry)) }
+fn decide(alloc: Global, commit: bool, mark: Mark, heard: Heard<'_>) -> Result<Says, Option<Mark>>
+    ensures ok { IfOk result (λ s. s ≡ decided_says commit mark (decide_goes commit (told_of heard.entry))) }
+    ensures err { IfErr result (λ e. e ≡ mark_of (decided_says commit mark (decide_goes commit (told_of heard.entry)))) }
 {
     match decide_told(commit, heard) {
-        EndGoes::Decided { first } => {
-            let visit = went(Visit::first(alloc), commit, EndGoes::Decided { first });
-            Says::On(Stage::End(visit), mark_if(first, mark))
-        }
+        EndGoes::Decided { first } => match decided(alloc, commit, first) {
+            Ok(visit) => Ok(Says::On(Stage::End(visit), mark_if(first, mark))),
+            Err(_) => Err(mark_if(first, mark)),
+        },
         goes => {
             drop(goes);
-            Says::On(Stage::Decide(mark), None)
+            Ok(Says::On(Stage::Decide(mark), None))
         }
     }
 }
 
-fn went(visit: Visit, commit: bool, goes: EndGoes) -> Visit
-    ensures { result ≡ moved commit visit goes }
+// The visit that follows the decision.
+fn decided(alloc: Global, commit: bool, first: bool) -> Result<Apart<Visit>, AllocError>
+    ensures { IfOk result (λ v. v ≡ moved commit first_visit (ends.Decided first)) }
 {
-    let mut visit = visit;
-    drop(visit.go(commit, goes));
-    visit
+    let mut visit = Visit::first(alloc);
+    drop(visit.go(commit, EndGoes::Decided { first }));
+    Apart::new(alloc, visit)
 }
 
 fn hear_visit(
@@ -211,17 +214,21 @@ fn hear_visit(
     tx: &OpenTx,
     step: u32,
     commit: bool,
-    visit: Visit,
+    visit: Apart<Visit>,
     heard: Heard<'_>,
 ) -> Result<Says, AllocError>
     ensures { IfOk result (λ s. s ≡ visit_says_of commit visit (end_goes (own_tx_of id.now func tx.now) step commit visit.way visit.at (told_of heard.entry))) }
 {
     let who = own_tx(alloc, id, func, tx)?;
-    match end_told(alloc, &who, step, commit, &visit, heard)? {
+    match end_told(alloc, &who, step, commit, visit.get(), heard)? {
         EndGoes::Done => {
             drop(visit);
             Ok(Says::Answers(Answer::Done, None))
         }
-        goes => Ok(Says::On(Stage::End(went(visit, commit, goes)), None)),
+        goes => {
+            let mut visit = visit;
+            drop(visit.get_mut().go(commit, goes));
+            Ok(Says::On(Stage::End(visit), None))
+        }
     }
 }

@@ -13,7 +13,7 @@ use beldi_lang::Effect;
 use beldi_lock::{LockAt, LockGoes, lock_query, lock_told};
 use beldi_readlog::{given_told, log_key};
 use beldi_row::{Act, Note, RowKey, Said, copy_tx};
-use beldi_value::{Cause, IntentId, Owner, Place, Str, TxId, Value};
+use beldi_value::{Apart, Cause, IntentId, Owner, Place, Str, TxId, Value};
 use beldi_walk::{Heard, Query};
 use std::alloc::{AllocError, Global};
 use std::mem::replace;
@@ -299,10 +299,10 @@ fn locked(effect: &Effect) -> TxGoes
 fn died(alloc: Global, place: &Place, holder: IntentId) -> Result<TxGoes, AllocError>
     ensures { IfOk result (λ g. g ≡ died_goes place.now holder) }
 {
-    let place = place.copy(alloc)?;
+    let place = Apart::new(alloc, place.copy(alloc)?)?;
     Ok(TxGoes::Died(Cause {
         place,
-        holder: Some(holder),
+        holder: Some(Apart::new(alloc, holder)?),
     }))
 }
 

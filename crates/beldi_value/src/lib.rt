@@ -27,6 +27,7 @@
 //!   `numeral_text_is_exact`).
 #![tactic(auto)]
 
+mod apart;
 mod canonical;
 mod convert;
 mod cut;
@@ -46,6 +47,7 @@ mod text;
 mod value;
 mod write;
 
+pub use apart::Apart;
 pub use cut::cut_at;
 pub use id::{Hops, IntentId, older};
 pub use laws::{
@@ -54,7 +56,7 @@ pub use laws::{
 };
 pub use list::{ByteList, Items, Moments, Values32};
 pub use number::{read_int, read_number, read_numeral};
-pub use outcome::{Cause, Code, Outcome};
+pub use outcome::{Cause, Code, Outcome, copy_holder};
 pub use place::{Caller, Owner, Place, TxId};
 pub use read::ValueErr;
 pub use read_id::IdErr;

@@ -1,6 +1,7 @@
 // How an instance of a function ends.
 ghost use Rattle.std.specs.Prelude.{◌≡◌, IfOk};
 
+use crate::apart::Apart;
 use crate::id::IntentId;
 use crate::place::Place;
 use crate::value::Value;
@@ -21,8 +22,8 @@ pub enum Code {
 /// Why a transaction was aborted: the place, and the older owner that stood in the way, if any.
 #[derive(Drop)]
 pub struct Cause {
-    pub place: Place,
-    pub holder: Option<IntentId>,
+    pub place: Apart<Place>,
+    pub holder: Option<Apart<IntentId>>,
 }
 
 impl Cause {
@@ -30,17 +31,23 @@ impl Cause {
     pub fn copy(&self, alloc: Global) -> Result<Cause, AllocError>
         ensures { IfOk result (λ c. c ≡ self.now) }
     {
-        let place = self.place.copy(alloc)?;
-        match &self.holder {
-            None => Ok(Cause {
-                place,
-                holder: None,
-            }),
-            Some(holder) => Ok(Cause {
-                place,
-                holder: Some(holder.copy(alloc)?),
-            }),
-        }
+        Ok(Cause {
+            place: Apart::new(alloc, self.place.get().copy(alloc)?)?,
+            holder: copy_holder(alloc, &self.holder)?,
+        })
+    }
+}
+
+/// An equal holder.
+pub fn copy_holder(
+    alloc: Global,
+    holder: &Option<Apart<IntentId>>,
+) -> Result<Option<Apart<IntentId>>, AllocError>
+    ensures { IfOk result (λ h. h ≡ holder.now) }
+{
+    match holder {
+        None => Ok(None),
+        Some(holder) => Ok(Some(Apart::new(alloc, holder.get().copy(alloc)?)?)),
     }
 }
 
