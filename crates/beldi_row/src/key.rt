@@ -155,7 +155,7 @@ impl Ord for Kind {
         match (self, other) {
             (Kind::Intent(a), Kind::Intent(b)) => a.cmp(b),
             (Kind::ReadLog(a), Kind::ReadLog(b)) | (Kind::Invoke(a), Kind::Invoke(b)) => {
-                a.intent.cmp(&b.intent).then(a.step.cmp(&b.step))
+                a.intent.cmp(&b.intent).then_with(|| a.step.cmp(&b.step))
             }
             (
                 Kind::Data { table, key, row },
@@ -166,7 +166,7 @@ impl Ord for Kind {
                 },
             ) => table
                 .cmp(that_table)
-                .then(key.cmp(that_key).then(row.cmp(that_row))),
+                .then_with(|| key.cmp(that_key).then_with(|| row.cmp(that_row))),
             (
                 Kind::Shadow {
                     tx,
@@ -180,15 +180,11 @@ impl Ord for Kind {
                     key: that_key,
                     row: that_row,
                 },
-            ) => tx.intent.cmp(&that_tx.intent).then(
-                tx.begin.cmp(&that_tx.begin).then(
-                    tx.func.cmp(&that_tx.func).then(
-                        table
-                            .cmp(that_table)
-                            .then(key.cmp(that_key).then(row.cmp(that_row))),
-                    ),
-                ),
-            ),
+            ) => tx.intent.cmp(&that_tx.intent).then_with(|| tx.begin.cmp(&that_tx.begin).then_with(
+                || tx.func.cmp(&that_tx.func).then_with(|| table
+                    .cmp(that_table)
+                    .then_with(|| key.cmp(that_key).then_with(|| row.cmp(that_row)))),
+            )),
             (
                 Kind::Lockset {
                     intent,
@@ -202,11 +198,9 @@ impl Ord for Kind {
                     table: that_table,
                     key: that_key,
                 },
-            ) => intent.cmp(that_intent).then(
-                begin
-                    .cmp(that_begin)
-                    .then(table.cmp(that_table).then(key.cmp(that_key))),
-            ),
+            ) => intent.cmp(that_intent).then_with(|| begin
+                .cmp(that_begin)
+                .then_with(|| table.cmp(that_table).then_with(|| key.cmp(that_key)))),
             _ => self.rank().cmp(&other.rank()),
         }
     }
