@@ -1,6 +1,6 @@
 // The entries of a book, and their text.
-ghost use Rattle.std.specs.Prelude.{◌≡◌, ◌++◌, OnOk, OnErr, IfOk, is_none, string_bytes, codes};
-ghost use Rattle.std.specs.Fmt.{decimal};
+ghost use Rattle.std.specs.Prelude.{◌≡◌, ◌++◌, OnOk, IfOk, is_none};
+ghost use Rattle.beldi_value.specs.Text.{id_text};
 ghost use Rattle.beldi_book.specs.Text.{entry_text, holder_text};
 ghost use Rattle.beldi_book.specs.Order.{seen_of};
 
@@ -74,65 +74,51 @@ impl Entry {
         !matches!(self, Entry::Read { .. })
     }
 
-    /// Appends the text of the entry, without an end of line.
+    /// Appends the text of the entry, without an end of line. Out of memory, a part of it may be there.
     pub fn write(&self, alloc: Global, code: &Deployment, out: &mut Str) -> Result<(), AllocError>
-        ensures ok { OnOk result (out.new ≡ out.old ++ entry_text code.now self.now) }
-        ensures err { OnErr result (out.new ≡ out.old) }
+        ensures { OnOk result (out.new ≡ out.old ++ entry_text code.now self.now) }
     {
-        let mut text = Str::new(alloc);
         match self {
             Entry::Start { ticket, func, args } => {
-                text.push_text("start ")?;
-                write_number(alloc, u64::from(*ticket), &mut text)?;
-                text.push_text(" ")?;
-                code.write_func(alloc, *func, &mut text)?;
-                text.push_text(" ")?;
-                args.write_json(alloc, &mut text)?;
+                out.push_text("start ")?;
+                out.push_number(u64::from(*ticket))?;
+                out.push_text(" ")?;
+                code.write_func(*func, out)?;
+                out.push_text(" ")?;
+                args.write_json(alloc, out)
             }
             Entry::Read { id, seen } => {
-                text.push_text("read ")?;
-                id.write(alloc, &mut text)?;
-                text.push_text(" ")?;
-                write_number(alloc, *seen, &mut text)?;
+                write_id("read ", id, out)?;
+                out.push_text(" ")?;
+                out.push_number(*seen)
             }
-            Entry::Step { id } => {
-                text.push_text("step ")?;
-                id.write(alloc, &mut text)?;
-            }
-            Entry::Tx { id } => {
-                text.push_text("tx ")?;
-                id.write(alloc, &mut text)?;
-            }
+            Entry::Step { id } => write_id("step ", id, out),
+            Entry::Tx { id } => write_id("tx ", id, out),
             Entry::Try { id, place, holder } => {
-                text.push_text("try ")?;
-                id.write(alloc, &mut text)?;
-                text.push_text(" ")?;
-                place.get().write(alloc, &mut text)?;
-                text.push_text(" ")?;
-                write_holder(alloc, holder, &mut text)?;
+                write_id("try ", id, out)?;
+                out.push_text(" ")?;
+                place.get().write(out)?;
+                out.push_text(" ")?;
+                write_holder(holder, out)
             }
         }
-        out.push_text(text.as_str())
     }
+}
+
+// Appends a word and an id.
+fn write_id(word: &str, id: &IntentId, out: &mut Str) -> Result<(), AllocError>
+    ensures { OnOk result (out.new ≡ out.old ++ word.now ++ id_text id.now) }
+{
+    out.push_text(word)?;
+    id.write(out)
 }
 
 // Appends the holder's id, or `-`.
-fn write_holder(
-    alloc: Global,
-    holder: &Option<Apart<IntentId>>,
-    out: &mut Str,
-) -> Result<(), AllocError>
+fn write_holder(holder: &Option<Apart<IntentId>>, out: &mut Str) -> Result<(), AllocError>
     ensures { OnOk result (out.new ≡ out.old ++ holder_text holder.now) }
 {
     match holder {
-        Some(id) => id.get().write(alloc, out),
+        Some(id) => id.get().write(out),
         None => out.push_text("-"),
     }
-}
-
-fn write_number(alloc: Global, number: u64, out: &mut Str) -> Result<(), AllocError>
-    ensures { OnOk result (out.new ≡ out.old ++ decimal number) }
-{
-    let text = number.to_string(alloc)?;
-    out.push_text(text.as_str())
 }

@@ -20,9 +20,9 @@ pub fn write_item(
     ensures err { OnErr result (out.new ≡ out.old) }
 {
     let mut text = Str::new(alloc);
-    code.write_func(alloc, func, &mut text)?;
+    code.write_func(func, &mut text)?;
     text.push_text(" ")?;
-    write_table(alloc, code, func, table, &mut text)?;
+    write_table(code, func, table, &mut text)?;
     text.push_text(" ")?;
     write_key(alloc, key, &mut text)?;
     text.push_text(" ")?;
@@ -32,13 +32,7 @@ pub fn write_item(
 }
 
 // Appends the name of a table of a function; its number, where the deployment has none of it.
-fn write_table(
-    alloc: Global,
-    code: &Deployment,
-    func: u16,
-    table: u16,
-    out: &mut Str,
-) -> Result<(), AllocError>
+fn write_table(code: &Deployment, func: u16, table: u16, out: &mut Str) -> Result<(), AllocError>
     ensures { OnOk result (out.new ≡ out.old ++ table_text code.now func table) }
 {
     let head = match code.func_at(func) {
@@ -47,10 +41,7 @@ fn write_table(
     };
     match head {
         Some(found) => out.push_text(found.name.as_str()),
-        None => {
-            let text = table.to_string(alloc)?;
-            out.push_text(text.as_str())
-        }
+        None => out.push_number(u64::from(table)),
     }
 }
 

@@ -26,6 +26,10 @@ ticket_line word t text = word ++ (decimal t ++ (codes " " ++ (text ++ codes "\n
 abbrev pub outcome_line : List ℕ → ℕ → Outcome → List ℕ
 outcome_line word t o = ticket_line word t (outcome_text o)
 
+-- the line of a request that was bound, and its run
+abbrev pub bound_line : ℕ → ℕ → List ℕ
+bound_line t r = codes "bound " ++ (decimal t ++ (codes " run " ++ (decimal r ++ codes "\n")))
+
 -- the line of who has the lock of an item
 abbrev pub held_line : Owner → List ℕ
 held_line o = codes "held " ++ (owner_text o ++ codes "\n")
@@ -59,7 +63,7 @@ reply_part (Some r) = outcome_line (codes "reply ") r.0 r.1
 abbrev pub answer_text : Deployment → Seen → List ℕ
 answer_text d (seen.Issued n) = numbered (codes "ticket ") n
 answer_text d seen.NoTicket = codes "no-ticket\n"
-answer_text d (seen.Bound t r) = codes "bound " ++ (decimal t ++ (codes " run " ++ (decimal r ++ codes "\n")))
+answer_text d (seen.Bound t r) = bound_line t r
 answer_text d (seen.Running t) = numbered (codes "running ") t
 answer_text d (seen.Replied t o) = outcome_line (codes "ended ") t o
 answer_text d (seen.Other t f a) = codes "other " ++ (decimal t ++ (codes " " ++ (func_text d f ++ (codes " " ++ (text_of (datum_of a) ++ codes "\n")))))

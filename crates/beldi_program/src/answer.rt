@@ -4,7 +4,7 @@ ghost use Rattle.std.specs.Fmt.{decimal};
 ghost use Rattle.beldi_value.specs.Json.{text_of};
 ghost use Rattle.beldi_value.specs.Value.{datum_of};
 ghost use Rattle.beldi_tree.specs.Names.{func_text};
-ghost use Rattle.beldi_program.specs.Answer.{answer_text, numbered, held_line, waits_line, launched_line, outcome_line, ticket_line, entry_part, run_part, reply_part, over_part};
+ghost use Rattle.beldi_program.specs.Answer.{answer_text, numbered, bound_line, held_line, waits_line, launched_line, outcome_line, ticket_line, entry_part, run_part, reply_part, over_part};
 ghost use Rattle.beldi_program.specs.Response.{reply_line};
 
 use beldi_book::Entry;
@@ -27,10 +27,7 @@ pub fn write_answer(
     match seen {
         Seen::Issued(ticket) => write_numbered(alloc, "ticket ", u64::from(*ticket), out),
         Seen::NoTicket => out.push_text("no-ticket\n"),
-        Seen::Bound { ticket, run } => {
-            let text = format!(in alloc; "bound {ticket} run {run}\n")?;
-            out.push_text(text.as_str())
-        }
+        Seen::Bound { ticket, run } => write_bound(alloc, *ticket, *run, out),
         Seen::Running(ticket) => write_numbered(alloc, "running ", u64::from(*ticket), out),
         Seen::Replied { ticket, outcome } => write_outcome(alloc, "ended ", *ticket, outcome, out),
         Seen::Other { ticket, func, args } => write_other(alloc, code, *ticket, *func, args, out),
@@ -65,6 +62,19 @@ pub fn write_answer(
     }
 }
 
+fn write_bound(alloc: Global, ticket: u32, run: u64, out: &mut Str) -> Result<(), AllocError>
+    ensures ok { OnOk result (out.new ≡ out.old ++ bound_line ticket run) }
+    ensures err { OnErr result (out.new ≡ out.old) }
+{
+    let mut line = Str::with_room(alloc, 32)?;
+    line.push_text("bound ")?;
+    line.push_number(u64::from(ticket))?;
+    line.push_text(" run ")?;
+    line.push_number(run)?;
+    line.push_text("\n")?;
+    out.push_text(line.as_str())
+}
+
 /// Appends a word and a number, as a line. After an `Err` the text is as before.
 pub fn write_numbered(
     alloc: Global,
@@ -75,8 +85,11 @@ pub fn write_numbered(
     ensures ok { OnOk result (out.new ≡ out.old ++ numbered word.now number) }
     ensures err { OnErr result (out.new ≡ out.old) }
 {
-    let text = format!(in alloc; "{word}{number}\n")?;
-    out.push_text(text.as_str())
+    let mut line = Str::with_room(alloc, 32)?;
+    line.push_text(word)?;
+    line.push_number(number)?;
+    line.push_text("\n")?;
+    out.push_text(line.as_str())
 }
 
 fn write_outcome(
@@ -89,10 +102,26 @@ fn write_outcome(
     ensures ok { OnOk result (out.new ≡ out.old ++ outcome_line word.now ticket outcome.now) }
     ensures err { OnErr result (out.new ≡ out.old) }
 {
-    let mut line = Str::from_string(format!(in alloc; "{word}{ticket} ")?);
-    outcome.write(alloc, &mut line)?;
-    line.push_text("\n")?;
+    let mut line = Str::with_room(alloc, 64)?;
+    put_outcome(alloc, word, ticket, outcome, &mut line)?;
     out.push_text(line.as_str())
+}
+
+// Appends the line of an outcome. Out of memory, a part of it may be there.
+fn put_outcome(
+    alloc: Global,
+    word: &str,
+    ticket: u32,
+    outcome: &Outcome,
+    line: &mut Str,
+) -> Result<(), AllocError>
+    ensures { OnOk result (line.new ≡ line.old ++ outcome_line word.now ticket outcome.now) }
+{
+    line.push_text(word)?;
+    line.push_number(u64::from(ticket))?;
+    line.push_text(" ")?;
+    outcome.write(alloc, line)?;
+    line.push_text("\n")
 }
 
 fn write_other(
@@ -107,7 +136,7 @@ fn write_other(
     ensures err { OnErr result (out.new ≡ out.old) }
 {
     let mut line = Str::from_string(format!(in alloc; "other {ticket} ")?);
-    code.code().write_func(alloc, func, &mut line)?;
+    code.code().write_func(func, &mut line)?;
     line.push_text(" ")?;
     args.write_json(alloc, &mut line)?;
     line.push_text("\n")?;
@@ -119,7 +148,7 @@ fn write_held(alloc: Global, owner: &Owner, out: &mut Str) -> Result<(), AllocEr
     ensures err { OnErr result (out.new ≡ out.old) }
 {
     let mut line = Str::from_text(alloc, "held ")?;
-    owner.write(alloc, &mut line)?;
+    owner.write(&mut line)?;
     line.push_text("\n")?;
     out.push_text(line.as_str())
 }
@@ -129,7 +158,7 @@ fn write_waits(alloc: Global, callee: &IntentId, out: &mut Str) -> Result<(), Al
     ensures err { OnErr result (out.new ≡ out.old) }
 {
     let mut line = Str::from_text(alloc, "waits ")?;
-    callee.write(alloc, &mut line)?;
+    callee.write(&mut line)?;
     line.push_text("\n")?;
     out.push_text(line.as_str())
 }
@@ -139,7 +168,7 @@ fn write_launched(alloc: Global, run: u64, id: &IntentId, out: &mut Str) -> Resu
     ensures err { OnErr result (out.new ≡ out.old) }
 {
     let mut line = Str::from_string(format!(in alloc; "launched run {run} ")?);
-    id.write(alloc, &mut line)?;
+    id.write(&mut line)?;
     line.push_text("\n")?;
     out.push_text(line.as_str())
 }
@@ -156,9 +185,10 @@ fn write_acted(
     ensures ok { OnOk result (out.new ≡ out.old ++ answer_text code.now (Seen.Acted entry.now started over reply.now)) }
     ensures err { OnErr result (out.new ≡ out.old) }
 {
-    let mut lines = Str::from_text(alloc, "acted")?;
+    let mut lines = Str::with_room(alloc, 64)?;
+    lines.push_text("acted")?;
     write_entry(alloc, code, entry, &mut lines)?;
-    write_started(alloc, started, &mut lines)?;
+    write_started(started, &mut lines)?;
     lines.push_text(if over { " over" } else { "" })?;
     lines.push_text("\n")?;
     write_reply(alloc, reply, &mut lines)?;
@@ -182,14 +212,14 @@ fn write_entry(
     }
 }
 
-fn write_started(alloc: Global, started: Option<u64>, out: &mut Str) -> Result<(), AllocError>
+fn write_started(started: Option<u64>, out: &mut Str) -> Result<(), AllocError>
     ensures { OnOk result (out.new ≡ out.old ++ run_part started) }
 {
     match started {
         None => Ok(()),
         Some(run) => {
-            let text = format!(in alloc; " run {run}")?;
-            out.push_text(text.as_str())
+            out.push_text(" run ")?;
+            out.push_number(run)
         }
     }
 }
@@ -203,7 +233,7 @@ fn write_reply(
 {
     match reply {
         None => Ok(()),
-        Some((ticket, outcome)) => write_outcome(alloc, "reply ", *ticket, outcome, out),
+        Some((ticket, outcome)) => put_outcome(alloc, "reply ", *ticket, outcome, out),
     }
 }
 

@@ -21,7 +21,7 @@ fn request_text(
     ensures { IfOk result (λ t. string_bytes t ≡ codes "request " ++ (decimal ticket ++ (codes " " ++ (func_text code.now func ++ (codes " " ++ text_of (datum_of args.now)))))) }
 {
     let mut text = Str::from_string(format!(in alloc; "request {ticket} ")?);
-    code.code().write_func(alloc, func, &mut text)?;
+    code.code().write_func(func, &mut text)?;
     text.push_text(" ")?;
     args.write_json(alloc, &mut text)?;
     Ok(text.into_string())
@@ -36,9 +36,9 @@ fn restart_text(
     ensures { IfOk result (λ t. string_bytes t ≡ codes "restart " ++ (id_text id.now ++ (codes " " ++ func_text code.now func))) }
 {
     let mut text = Str::from_text(alloc, "restart ")?;
-    id.write(alloc, &mut text)?;
+    id.write(&mut text)?;
     text.push_text(" ")?;
-    code.code().write_func(alloc, func, &mut text)?;
+    code.code().write_func(func, &mut text)?;
     Ok(text.into_string())
 }
 

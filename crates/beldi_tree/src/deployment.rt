@@ -34,16 +34,13 @@ impl Deployment {
     }
 
     /// Appends the name of a function; its number, where there is none of it.
-    pub fn write_func(&self, alloc: Global, number: u16, out: &mut Str) -> Result<(), AllocError>
+    pub fn write_func(&self, number: u16, out: &mut Str) -> Result<(), AllocError>
         ensures ok { OnOk result (out.new ≡ out.old ++ func_text self.now number) }
         ensures err { OnErr result (out.new ≡ out.old) }
     {
         match self.func_at(number) {
             Some(found) => out.push_text(found.name.as_str()),
-            None => {
-                let text = number.to_string(alloc)?;
-                out.push_text(text.as_str())
-            }
+            None => out.push_number(u64::from(number)),
         }
     }
 }

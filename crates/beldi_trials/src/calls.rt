@@ -28,8 +28,8 @@ fn ids_and_values(rt: HostRuntime) -> Result<(), Fail> {
     assert!(rt; older(&root, &child) && !older(&child, &root));
     let owner = Owner::Intent(child);
     let mut text = Str::new(alloc);
-    owner.age().write(alloc, &mut text)?;
-    owner.write(alloc, &mut text)?;
+    owner.age().write(&mut text)?;
+    owner.write(&mut text)?;
     assert_eq!(rt; text.as_str(), "7/3intent 7/3");
     assert_eq!(rt; read_int(b"-5"), Some(-5));
     assert!(rt; Value::Int(1).passes(Rel::Lt, &Value::Int(2)));

@@ -4,10 +4,12 @@ ghost use Rattle.std.specs.Cmp.{partial_order_from_own_ties};
 ghost use Rattle.std.specs.Cmp.Lexicographic.{slice_cmp};
 ghost use Rattle.std.specs.Ordering.{nat_cmp, as_partial_cmp};
 ghost use Rattle.std.specs.Bool.{◌==◌};
+ghost use Rattle.std.specs.Fmt.{decimal};
 ghost use lib.Pointwise.{pointwise};
 ghost use Rattle.std.proofs.Common.{rules};
 ghost use Rattle.std.specs.Cmp.Rules.{comparing};
 
+use itoa::Buffer;
 use std::alloc::{AllocError, Global};
 use std::cmp::Ordering;
 use std::marker::Model;
@@ -36,6 +38,15 @@ impl Str {
         Str {
             text: String::new(alloc),
         }
+    }
+
+    /// The empty text, with room for so many bytes.
+    pub fn with_room(alloc: Global, bytes: usize) -> Result<Str, AllocError>
+        ensures { IfOk result (λ s. s ≡ []) }
+    {
+        Ok(Str {
+            text: String::with_capacity(alloc, bytes)?,
+        })
     }
 
     /// This text.
@@ -84,6 +95,15 @@ impl Str {
         ensures err { OnErr result (self.new ≡ self.old) }
     {
         self.text.push_str(text)
+    }
+
+    /// Appends a number in decimal digits.
+    pub fn push_number(&mut self, number: u64) -> Result<(), AllocError>
+        ensures ok { OnOk result (self.new ≡ self.old ++ decimal number) }
+        ensures err { OnErr result (self.new ≡ self.old) }
+    {
+        let mut buffer = Buffer::new();
+        self.text.push_str(buffer.format(number))
     }
 
     /// Makes it empty, and keeps its memory.

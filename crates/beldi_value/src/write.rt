@@ -1,5 +1,5 @@
 // The texts of ids, places, owners and outcomes.
-ghost use Rattle.std.specs.Prelude.{◌≡◌, ◌<◌, ◌^◌, ◌++◌, Some, OnOk, OnErr, IfOk, string_bytes};
+ghost use Rattle.std.specs.Prelude.{◌≡◌, ◌<◌, ◌^◌, ◌++◌, Some, OnOk};
 ghost use Rattle.std.specs.List.{AllByRecursion};
 ghost use Rattle.beldi_value.specs.IdAt.{id_at};
 ghost use Rattle.beldi_value.specs.Text.{hops_text, id_text, place_text, owner_text, code_text, outcome_text};
@@ -11,62 +11,57 @@ use crate::text::Str;
 use std::alloc::{AllocError, Global};
 
 impl IntentId {
-    /// Appends the ticket, and `/` and a step for each hop. Of a ticket from 1 it is read as that id again.
-    pub fn write(&self, alloc: Global, out: &mut Str) -> Result<(), AllocError>
-        ensures ok { OnOk result (out.new ≡ out.old ++ id_text self.now) }
-        ensures err { OnErr result (out.new ≡ out.old) }
+    /// Appends the ticket, and `/` and a step for each hop. Of a ticket from 1 it is read as that id again. Out of memory, a
+    /// part of it may be there, as of all texts here.
+    pub fn write(&self, out: &mut Str) -> Result<(), AllocError>
+        ensures text { OnOk result (out.new ≡ out.old ++ id_text self.now) }
         ensures again { OnOk result (0 < self.now.ticket → id_at (id_text self.now) ≡ Some self.now) }
     {
-        let text = self.text(alloc)?;
-        out.push_text(text.as_str())
-    }
-
-    fn text(&self, alloc: Global) -> Result<String, AllocError>
-        ensures text { IfOk result (λ t. string_bytes t ≡ id_text self.now) }
-        ensures again { OnOk result (0 < self.now.ticket → id_at (id_text self.now) ≡ Some self.now) }
-    {
-        let ticket = self.ticket;
-        let mut text = ticket.to_string(alloc)?;
-        put_hops(alloc, self.hops.as_slice(), &mut text)?;
-        Ok(text)
+        out.push_number(u64::from(self.ticket))?;
+        write_hops(self.hops.as_slice(), out)?;
+        Ok(())
     }
 }
 
-fn put_hops(alloc: Global, steps: &[u32], text: &mut String) -> Result<(), AllocError>
-    ensures text { OnOk result (string_bytes text.new ≡ string_bytes text.old ++ hops_text steps.now) }
+fn write_hops(steps: &[u32], out: &mut Str) -> Result<(), AllocError>
+    ensures text { OnOk result (out.new ≡ out.old ++ hops_text steps.now) }
     ensures small { AllByRecursion (λ h. h < 2 ^ 32) steps.now }
 {
     for step in steps {
-        let hop = format!(in alloc; "/{step}")?;
-        text.push_str(hop.as_str())?;
+        out.push_text("/")?;
+        out.push_number(u64::from(*step))?;
     }
     Ok(())
 }
 
 impl Place {
     /// Appends the id, `:` and the step.
-    pub fn write(&self, alloc: Global, out: &mut Str) -> Result<(), AllocError>
-        ensures ok { OnOk result (out.new ≡ out.old ++ place_text self.now) }
-        ensures err { OnErr result (out.new ≡ out.old) }
+    pub fn write(&self, out: &mut Str) -> Result<(), AllocError>
+        ensures { OnOk result (out.new ≡ out.old ++ place_text self.now) }
     {
-        let id = self.intent.text(alloc)?;
-        let text = format!(in alloc; "{id}:{}", self.step)?;
-        out.push_text(text.as_str())
+        self.intent.write(out)?;
+        out.push_text(":")?;
+        out.push_number(u64::from(self.step))
     }
 }
 
 impl Owner {
     /// Appends `intent` and the id, or `tx` and the id, `:` and the step of its begin.
-    pub fn write(&self, alloc: Global, out: &mut Str) -> Result<(), AllocError>
-        ensures ok { OnOk result (out.new ≡ out.old ++ owner_text self.now) }
-        ensures err { OnErr result (out.new ≡ out.old) }
+    pub fn write(&self, out: &mut Str) -> Result<(), AllocError>
+        ensures { OnOk result (out.new ≡ out.old ++ owner_text self.now) }
     {
-        let id = self.age().text(alloc)?;
-        let text = match self {
-            Owner::Intent(_) => format!(in alloc; "intent {id}")?,
-            Owner::Tx(tx) => format!(in alloc; "tx {id}:{}", tx.begin)?,
-        };
-        out.push_text(text.as_str())
+        match self {
+            Owner::Intent(id) => {
+                out.push_text("intent ")?;
+                id.write(out)
+            }
+            Owner::Tx(tx) => {
+                out.push_text("tx ")?;
+                tx.intent.write(out)?;
+                out.push_text(":")?;
+                out.push_number(u64::from(tx.begin))
+            }
+        }
     }
 }
 
@@ -91,18 +86,16 @@ impl Outcome {
     /// Appends `value` and the value's canonical text, or `fault` and the code. `Aborted`, which no root ever has,
     /// has the text `aborted`.
     pub fn write(&self, alloc: Global, out: &mut Str) -> Result<(), AllocError>
-        ensures ok { OnOk result (out.new ≡ out.old ++ outcome_text self.now) }
-        ensures err { OnErr result (out.new ≡ out.old) }
+        ensures { OnOk result (out.new ≡ out.old ++ outcome_text self.now) }
     {
         match self {
             Outcome::Value(value) => {
-                let mut text = Str::from_text(alloc, "value ")?;
-                value.write_json(alloc, &mut text)?;
-                out.push_text(text.as_str())
+                out.push_text("value ")?;
+                value.write_json(alloc, out)
             }
             Outcome::Fault(code) => {
-                let text = format!(in alloc; "fault {}", code.text())?;
-                out.push_text(text.as_str())
+                out.push_text("fault ")?;
+                out.push_text(code.text())
             }
             Outcome::Aborted(_) => out.push_text("aborted"),
         }

@@ -1,6 +1,0 @@
-use Rattle.std.proofs.Common.{arith, subst}
-use Rattle.beldi_value.proofs.IdTexts.{AreSteps, reads}
-use Rattle.beldi_value.proofs.id.IntentId.text.Goals as goal
-
-pub returns-clause-again : goal.returns-clause-again
-returns-clause-again c = λ some. reads c.args.self.now some (omega arith) (subst AreSteps c.as_slice.ensures.items c.put_hops.ensures.small) c.as_slice.ensures.few
