@@ -82,6 +82,9 @@ impl Hops {
     pub fn copy(&self, alloc: Global) -> Result<Hops, AllocError>
         ensures { IfOk result (λ h. h ≡ self.now) }
     {
+        if self.steps.is_empty() {
+            return Ok(Hops::new(alloc));
+        }
         Ok(Hops {
             steps: Vec::from_slice(alloc, self.steps.as_slice())?,
         })
