@@ -27,16 +27,9 @@ use Rattle.beldi_step.specs.declared.run.Begun.{Begun}
 use Rattle.beldi_step.specs.declared.run.Says.{Says}
 use Rattle.beldi_step.specs.declared.run.Says.TheVariants.{On, Stays, Opens, Starts, Waits, Answers, Ends}
 use Rattle.beldi_step.specs.declared.run.Stage.{Stage}
-use Rattle.beldi_step.specs.declared.run.Stage.TheVariants.{Decide, End}
+use Rattle.beldi_step.specs.declared.run.Stage.TheVariants.{Decide, End, Close}
 use Rattle.beldi_step.specs.declared.run.TurnSays.{TurnSays}
-use Rattle.beldi_step.specs.Run.{Turns, within, run_told, told_at, turned_by, stage_says, ending_says, decided_says, visit_says, decide_here_says, end_here_says, is_end, is_at_end, at_stage, mark_of, followed, plain_says, takes, at_state, goes_to, goes_from, begin_in, body_found}
-
-pub not_end : (r : Run) (g : Begun) → r.at ≡ Begins g → false ≡ is_at_end r.at → is_end g.stage ≡ false
-not_end r g at is = sym (is ∙ ap is_at_end at)
-
-pub told_so : (d : Deployment) (changes : ℕ) (r s : Run) (g : Begun) (x : Says) (t : Told) (y : Result TurnSays (Option Mark)) → r.at ≡ Begins g
-    → x ≡ stage_says r.id r.func g.caller g.tx changes g.machine.steps g.machine.effect g.stage t → Turns s y (turned_by d r g x) → Turns s y (run_told d changes r t)
-told_so d changes r s g x t y at says h = subst (λ o. Turns s y (told_at d changes r o t)) (sym at) (subst (λ z. Turns s y (turned_by d r g z)) says h)
+use Rattle.beldi_step.specs.Run.{Turns, within, run_told, told_at, turned_by, stage_says, ending_says, decided_says, visit_says, decide_here_says, end_here_says, left_of, at_stage, mark_of, followed, plain_says, takes, at_state, goes_to, goes_from, begin_in, body_found}
 
 -- out of memory, the mark of its act is told
 marks : (r : Run) (p : Machine × Option RunTx) (c : Option Caller) (k : Option Mark) (s : Option Stage) → (goes_from r p c k s).mark ≡ k
@@ -65,12 +58,6 @@ same_begun : (at : RunAt) (h g : Begun) → at ≡ Begins h → at ≡ Begins g 
 same_begun at h g this that = ap (begun_in h) (sym this ∙ that)
 
 -- ---- the end of a transaction
--- what the stage of an end says
-ends_so : (id : IntentId) (func : ℕ) (c : Option Caller) (o : Option RunTx) (changes step : ℕ) (e : Effect) (s : Stage) (t : Told) → is_end s ≡ true → ending_says id func step o e s t ≡ stage_says id func c o changes step e s t
-ends_so id func c o changes step e (Decide m) t is = refl
-ends_so id func c o changes step e (End v) t is = refl
-ends_so id func c o changes step e s t is = cc
-
 -- it looks at its stage no more, as it neither waits nor stays
 abbrev leaves_stage : Says → Bool
 leaves_stage Stays = false
@@ -92,11 +79,6 @@ decide_leaves id func step e m o t = refl
 end_leaves : (id : IntentId) (func step : ℕ) (e : Effect) (v : Visit) (o : Option RunTx) (t : Told) → leaves_stage (end_here_says id func step e v o t) ≡ true
 end_leaves id func step (effect.End commit) v (Some (Own o)) t = visit_leaves commit v _
 end_leaves id func step e v o t = refl
-
-ending_leaves : (id : IntentId) (func step : ℕ) (o : Option RunTx) (e : Effect) (s : Stage) (t : Told) → is_end s ≡ true → leaves_stage (ending_says id func step o e s t) ≡ true
-ending_leaves id func step o e (Decide m) t is = decide_leaves id func step e m o t
-ending_leaves id func step o e (End v) t is = end_leaves id func step e v o t
-ending_leaves id func step o e s t is = cc
 
 -- a visit leaves no mark
 visit_marks : (commit : Bool) (v : Visit) (g : EndGoes) → None ≡ mark_of (visit_says commit v g)
@@ -120,35 +102,21 @@ left_so d r g s (Waits w) is = cc
 left_so d r g s (Answers a m) is = refl
 left_so d r g s (Ends m o) is = refl
 
-ended_so : (d : Deployment) (r z : Run) (g : Begun) (s : Stage) (t : Told) (y : Result TurnSays (Option Mark)) → is_end g.stage ≡ true
-    → Turns z y (turned_by d (record r { at = Begins (at_stage g s) }) (at_stage g s) (ending_says r.id r.func g.machine.steps g.tx g.machine.effect g.stage t))
-    → (changes : ℕ) → Turns z y (turned_by d r g (stage_says r.id r.func g.caller g.tx changes g.machine.steps g.machine.effect g.stage t))
-ended_so d r z g s t y is h changes =
-    let x : Says = ending_says r.id r.func g.machine.steps g.tx g.machine.effect g.stage t in
-    let left : Turns z y (turned_by d r g x) = subst (Turns z y) (left_so d r g s x (ending_leaves r.id r.func g.machine.steps g.tx g.machine.effect g.stage t is)) h in
-    subst (λ w. Turns z y (turned_by d r g w)) (ends_so r.id r.func g.caller g.tx changes g.machine.steps g.machine.effect g.stage t is) left
+turned_so : (d : Deployment) (r : Run) (g : Begun) (changes : ℕ) (t : Told) (s : Stage) →
+    let x : Says = stage_says r.id r.func g.caller g.tx changes g.machine.steps g.machine.effect s t in
+    turned_by d (record r { at = Begins (at_stage g (left_of s)) }) (at_stage g (left_of s)) x ≡ turned_by d (record r { at = Begins (at_stage g s) }) (at_stage g s) x
+turned_so d r g changes t (Decide m) = left_so d (record r { at = Begins (at_stage g (Decide m)) }) (at_stage g (Decide m)) Close (decide_here_says r.id r.func g.machine.steps g.machine.effect m g.tx t) (decide_leaves r.id r.func g.machine.steps g.machine.effect m g.tx t)
+turned_so d r g changes t (End v) = left_so d (record r { at = Begins (at_stage g (End v)) }) (at_stage g (End v)) Close (end_here_says r.id r.func g.machine.steps g.machine.effect v g.tx t) (end_leaves r.id r.func g.machine.steps g.machine.effect v g.tx t)
+turned_so d r g changes t s = refl
 
-pub end_so : (d : Deployment) (r z : Run) (h : Begun) (n : ℕ) (e : Effect) (w s : Stage) (x : Says) (t : Told) (y : Result TurnSays (Option Mark)) → r.at ≡ Begins h → n ≡ h.machine.steps → e ≡ h.machine.effect → w ≡ h.stage
-    → x ≡ ending_says r.id r.func n h.tx e w t → Turns z y (turned_by d (record r { at = Begins (at_stage h s) }) (at_stage h s) x)
-    → (g : Begun) (changes : ℕ) → r.at ≡ Begins g → is_end g.stage ≡ true → Turns z y (turned_by d r g (stage_says r.id r.func g.caller g.tx changes g.machine.steps g.machine.effect g.stage t))
-end_so d r z h n e w s x t y at steps effect stage says turns g changes there is =
-    let so : x ≡ ending_says r.id r.func h.machine.steps h.tx h.machine.effect h.stage t =
-    says ∙ ap (λ k. ending_says r.id r.func k h.tx e w t) steps ∙ ap₂ (λ f v. ending_says r.id r.func h.machine.steps h.tx f v t) effect stage in
-    let mine : Turns z y (turned_by d (record r { at = Begins (at_stage h s) }) (at_stage h s) (ending_says r.id r.func h.machine.steps h.tx h.machine.effect h.stage t)) =
-    subst (λ q. Turns z y (turned_by d (record r { at = Begins (at_stage h s) }) (at_stage h s) q)) so turns in
-    ended_so d r z g s t y is (subst (λ (q : Begun). Turns z y (turned_by d (record r { at = Begins (at_stage q s) }) (at_stage q s) (ending_says r.id r.func q.machine.steps q.tx q.machine.effect q.stage t))) (same_begun r.at h g at there) mine) changes
-
-ended_marks : (d : Deployment) (r : Run) (g : Begun) (m : Option Mark) (t : Told) → is_end g.stage ≡ true → m ≡ mark_of (ending_says r.id r.func g.machine.steps g.tx g.machine.effect g.stage t)
-    → (changes : ℕ) → m ≡ (turned_by d r g (stage_says r.id r.func g.caller g.tx changes g.machine.steps g.machine.effect g.stage t)).mark
-ended_marks d r g m t is marked changes =
-    marked ∙ ap mark_of (ends_so r.id r.func g.caller g.tx changes g.machine.steps g.machine.effect g.stage t is) ∙ turn_marks d r g (stage_says r.id r.func g.caller g.tx changes g.machine.steps g.machine.effect g.stage t)
-
-pub end_marks : (d : Deployment) (r : Run) (h : Begun) (n : ℕ) (e : Effect) (w : Stage) (m : Option Mark) (t : Told) → r.at ≡ Begins h → n ≡ h.machine.steps → e ≡ h.machine.effect → w ≡ h.stage → m ≡ mark_of (ending_says r.id r.func n h.tx e w t)
-    → (g : Begun) (changes : ℕ) → r.at ≡ Begins g → is_end g.stage ≡ true → m ≡ (turned_by d r g (stage_says r.id r.func g.caller g.tx changes g.machine.steps g.machine.effect g.stage t)).mark
-end_marks d r h n e w m t at steps effect stage marked g changes there is =
-    let so : m ≡ mark_of (ending_says r.id r.func h.machine.steps h.tx h.machine.effect h.stage t) =
-    marked ∙ ap (λ k. mark_of (ending_says r.id r.func k h.tx e w t)) steps ∙ ap₂ (λ f v. mark_of (ending_says r.id r.func h.machine.steps h.tx f v t)) effect stage in
-    ended_marks d r g m t is (subst (λ (q : Begun). m ≡ mark_of (ending_says r.id r.func q.machine.steps q.tx q.machine.effect q.stage t)) (same_begun r.at h g at there) so) changes
+pub told_so : (d : Deployment) (changes : ℕ) (r s : Run) (g h : Begun) (x : Says) (t : Told) (y : Result TurnSays (Option Mark)) → r.at ≡ Begins g
+    → x ≡ stage_says r.id r.func g.caller g.tx changes g.machine.steps g.machine.effect g.stage t → h ≡ at_stage g (left_of g.stage) → Turns s y (turned_by d (record r { at = Begins h }) h x) → Turns s y (run_told d changes r t)
+told_so d changes r s g h x t y at says left turns =
+    let z : Says = stage_says r.id r.func g.caller g.tx changes g.machine.steps g.machine.effect g.stage t in
+    let here : Turns s y (turned_by d (record r { at = Begins (at_stage g (left_of g.stage)) }) (at_stage g (left_of g.stage)) z) =
+    subst (λ q. Turns s y (turned_by d (record r { at = Begins q }) q z)) left (subst (λ w. Turns s y (turned_by d (record r { at = Begins h }) h w)) says turns) in
+    let there : Turns s y (turned_by d (record r { at = Begins g }) g z) = subst (Turns s y) (turned_so d r g changes t g.stage) here in
+    subst (λ o. Turns s y (told_at d changes (record r { at = o }) o t)) (sym at) there
 
 -- ---- an answer
 pub answered : (d : Deployment) (r : Run) (h k n : Begun) (a : Answer) (x : Result Bool AllocError) → r.at ≡ Begins h → k ≡ at_state h (takes d h.machine h.tx a)

@@ -568,15 +568,11 @@ body_found func at t = body_told func t
 abbrev pub plain_says : Option Mark → Bool → TurnSays
 plain_says m b = record { mark = m; over = b; starts = false; wait = None; reply = None }
 
--- the stages of the end of a transaction, and what they say: what they have is moved
-abbrev pub is_end : Stage → Bool
-is_end (Decide m) = true
-is_end (End v) = true
-is_end s = false
-
-abbrev pub is_at_end : RunAt → Bool
-is_at_end (Begins g) = is_end g.stage
-is_at_end at = false
+-- the stage that is left by the end of a transaction, as what its stage has is moved; and what it says
+abbrev pub left_of : Stage → Stage
+left_of (Decide m) = Close
+left_of (End v) = Close
+left_of s = s
 
 abbrev pub ending_says : IntentId → ℕ → ℕ → Option RunTx → Effect → Stage → Told → Says
 ending_says id func step o e (Decide m) t = decide_here_says id func step e m o t

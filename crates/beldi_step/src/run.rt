@@ -3,7 +3,7 @@ ghost use Rattle.std.specs.Prelude.{◌≡◌, ℕ, true, false, Option, Some, N
 ghost use Rattle.beldi_tree.specs.Names.{func_at};
 ghost use Rattle.beldi_walk.specs.Query.{told_of};
 ghost use Rattle.beldi_intent.specs.Intent.{body_in, body_told, open_body as open_body_of};
-ghost use Rattle.beldi_step.specs.Run.{run_asks, run_told, followed, plain_says, begin_in, goes_to, takes, at_state, at_once as at_once_of, once as once_of, open_after as open_after_of, begin_of, tx_at, within as within_of, answer_at_once as answer_at_once_of, at_stage, is_end as is_end_of, is_at_end as is_at_end_of, stage_says, body_found, body_added, turned_by, Turns, callee_of, callee_run as callee_run_of};
+ghost use Rattle.beldi_step.specs.Run.{run_asks, run_told, followed, plain_says, begin_in, goes_to, takes, at_state, at_once as at_once_of, once as once_of, open_after as open_after_of, begin_of, tx_at, within as within_of, answer_at_once as answer_at_once_of, at_stage, body_found, body_added, turned_by, Turns, callee_of, callee_run as callee_run_of};
 ghost use Rattle.beldi_step.specs.declared.run.Begun.{Begun};
 ghost use Rattle.beldi_step.specs.declared.run.Mark.{Mark};
 ghost use Rattle.beldi_step.specs.declared.run.RunTx.{RunTx};
@@ -12,7 +12,7 @@ ghost use Rattle.beldi_step.specs.declared.run.RunAt.TheVariants as at;
 
 use crate::call_stage::callee_body;
 use crate::stage::{first_stage, hear, look, place_of, stage_query};
-use crate::tx_stage::{hear_end, tx_at};
+use crate::tx_stage::tx_at;
 use beldi_call::{AsyncAt, CallAt};
 use beldi_daal::WriteAt;
 use beldi_intent::{open_body, register_query};
@@ -417,11 +417,8 @@ impl Run {
         ensures turns { Turns self.new result (run_told code.now changes self.old (told_of heard.entry)) }
         ensures id { self.new.id ≡ self.old.id }
     {
-        if self.is_at_end() {
-            return self.end(alloc, code, heard);
-        }
-        match &self.at {
-            RunAt::Begins(begun) => match hear(alloc, &self.id, begun, changes, heard) {
+        match &mut self.at {
+            RunAt::Begins(begun) => match hear(alloc, &self.id, self.func, begun, changes, heard) {
                 Ok(says) => self.follow(alloc, code, says),
                 Err(mark) => Err(mark),
             },
@@ -429,40 +426,6 @@ impl Run {
                 Ok(says) => Ok(says),
                 Err(_) => Err(None),
             },
-        }
-    }
-
-    // Whether it stands at the end of a transaction.
-    fn is_at_end(&self) -> bool
-        ensures { result ≡ is_at_end_of self.now.at }
-    {
-        match &self.at {
-            RunAt::Begins(begun) => matches!(&begun.stage, Stage::Decide(_) | Stage::End(_)),
-            _ => false,
-        }
-    }
-
-    // A turn of the end of a transaction: what its stage has is moved.
-    fn end(
-        &mut self,
-        alloc: Global,
-        code: &Deployment,
-        heard: Heard<'_>,
-    ) -> Result<TurnSays, Option<Mark>>
-        ensures turns { (g : Begun) (changes : ℕ) → self.old.at ≡ at.Begins g → is_end_of g.stage ≡ true → Turns self.new result (turned_by code.now self.old g (stage_says self.old.id self.old.func g.caller g.tx changes g.machine.steps g.machine.effect g.stage (told_of heard.entry))) }
-        ensures id { self.new.id ≡ self.old.id }
-    {
-        let RunAt::Begins(begun) = &mut self.at else {
-            return Ok(plain(None, true));
-        };
-        let stage = replace(&mut begun.stage, Stage::Close);
-        let effect = begun.machine.wants();
-        let step = begun.machine.steps();
-        match hear_end(
-            alloc, &self.id, self.func, step, &begun.tx, effect, stage, heard,
-        ) {
-            Ok(says) => self.follow(alloc, code, says),
-            Err(mark) => Err(mark),
         }
     }
 

@@ -10,13 +10,13 @@ ghost use Rattle.beldi_intent.specs.Intent.{look_asks};
 ghost use Rattle.beldi_step.specs.declared.run.Stage.TheVariants as stages;
 ghost use Rattle.beldi_call.specs.declared.call.CallAt.TheVariants as calls;
 ghost use Rattle.beldi_call.specs.declared.async_call.AsyncAt.TheVariants as asyncs;
-ghost use Rattle.beldi_step.specs.Run.{stage_asks, put_asks, stage_says, mark_of, is_end, first_stage as first_stage_of, first_of as first_stage_in, first_outside, first_end as first_end_of, end_mark as end_mark_of, last_stage as last_stage_of, note_done as note_done_of, answer_noted as answer_noted_of, cell_op, done_says, mark_if as mark_if_of, ask_says, walk_says, keep_says, put_says, place_of as place_at};
+ghost use Rattle.beldi_step.specs.Run.{stage_asks, put_asks, stage_says, mark_of, at_stage, left_of, first_stage as first_stage_of, first_of as first_stage_in, first_outside, first_end as first_end_of, end_mark as end_mark_of, last_stage as last_stage_of, note_done as note_done_of, answer_noted as answer_noted_of, cell_op, done_says, mark_if as mark_if_of, ask_says, walk_says, keep_says, put_says, place_of as place_at};
 
 use crate::call_stage::{
     async_here, back_query, close_query, hear_async, hear_back, hear_call, hear_close, tell_query,
 };
 use crate::run::{Begun, Mark, RunTx, Says, Stage, Wait};
-use crate::tx_stage::{end_here, hear_tx, tx_here};
+use crate::tx_stage::{decide_here, end_here, hear_end, hear_tx, tx_here};
 use beldi_call::{AsyncAt, CallAt, call_query};
 use beldi_daal::{
     CellOp, ReadGoes, WriteAt, WriteGoes, cell_key, read_told, write_query, write_told,
@@ -25,10 +25,11 @@ use beldi_intent::intent_key;
 use beldi_lang::{Answer, Effect};
 use beldi_readlog::{given_told, kept_told, log_key};
 use beldi_row::{Act, Note, Said};
-use beldi_txn::{TxAt, Visit};
+use beldi_txn::TxAt;
 use beldi_value::{Apart, Caller, Cause, IntentId, Owner, Place, Str, Value};
 use beldi_walk::{Heard, Query};
 use std::alloc::{AllocError, Global};
+use std::mem::replace;
 
 pub(crate) fn place_of(alloc: Global, id: &IntentId, step: u32) -> Result<Place, AllocError>
     ensures { IfOk result (λ p. p ≡ place_at id.now step) }
@@ -157,10 +158,7 @@ pub(crate) fn stage_query(
         }
         (Stage::Write(at), effect) => put_here(alloc, id, func, step, effect, *at),
         (Stage::Tx(at), effect) => tx_here(alloc, id, func, step, effect, at, &begun.tx),
-        (Stage::Decide(_), effect) => {
-            let visit = Visit::first(alloc);
-            end_here(alloc, id, func, step, effect, &visit, &begun.tx)
-        }
+        (Stage::Decide(_), effect) => decide_here(alloc, id, func, effect, &begun.tx),
         (Stage::End(visit), effect) => end_here(
             alloc,
             id,
@@ -196,16 +194,18 @@ fn write_done(effect: &Effect, note: &Note, first: bool) -> Says
     }
 }
 
-// What a stage says of what it was told, other than that of an end. Out of memory, it tells the mark of its act.
+// What a stage says of what it was told; what the stage of an end has is moved. Out of memory, it tells the mark of its act.
 pub(crate) fn hear(
     alloc: Global,
     id: &IntentId,
-    begun: &Begun,
+    func: u16,
+    begun: &mut Begun,
     changes: u64,
     heard: Heard<'_>,
 ) -> Result<Says, Option<Mark>>
-    ensures ok { (func : ℕ) → is_end begun.now.stage ≡ false → IfOk result (λ s. s ≡ stage_says id.now func begun.now.caller begun.now.tx changes begun.now.machine.steps begun.now.machine.effect begun.now.stage (told_of heard.entry)) }
-    ensures err { (func : ℕ) → is_end begun.now.stage ≡ false → IfErr result (λ e. e ≡ mark_of (stage_says id.now func begun.now.caller begun.now.tx changes begun.now.machine.steps begun.now.machine.effect begun.now.stage (told_of heard.entry))) }
+    ensures ok { IfOk result (λ s. s ≡ stage_says id.now func begun.old.caller begun.old.tx changes begun.old.machine.steps begun.old.machine.effect begun.old.stage (told_of heard.entry)) }
+    ensures err { IfErr result (λ e. e ≡ mark_of (stage_says id.now func begun.old.caller begun.old.tx changes begun.old.machine.steps begun.old.machine.effect begun.old.stage (told_of heard.entry))) }
+    ensures left { begun.new ≡ at_stage begun.old (left_of begun.old.stage) }
 {
     let effect = begun.machine.wants();
     let step = begun.machine.steps();
@@ -215,7 +215,11 @@ pub(crate) fn hear(
         Stage::Keep { value, seen } => hear_keep(alloc, value, *seen, heard),
         Stage::Write(_) => hear_write(alloc, effect, heard),
         Stage::Tx(at) => hear_tx(alloc, id, step, effect, at, &begun.tx, heard),
-        Stage::Decide(_) | Stage::End(_) => Ok(Says::Stays),
+        Stage::Decide(_) | Stage::End(_) => {
+            let stage = replace(&mut begun.stage, Stage::Close);
+            let effect = begun.machine.wants();
+            hear_end(alloc, id, func, step, &begun.tx, effect, stage, heard)
+        }
         Stage::Call(at) => hear_call(alloc, id, &begun.tx, step, effect, *at, heard),
         Stage::Async(at) => hear_async(alloc, id, effect, *at, heard),
         Stage::Back => Ok(hear_back(&begun.tx, heard)),

@@ -1,5 +1,5 @@
 // The stages of an operation inside a transaction, and of its end: what they ask, and what they say of what they were told.
-ghost use Rattle.std.specs.Prelude.{◌≡◌, IfOk, IfErr};
+ghost use Rattle.std.specs.Prelude.{◌≡◌, ℕ, IfOk, IfErr};
 ghost use Rattle.beldi_walk.specs.Query.{told_of};
 ghost use Rattle.beldi_txn.specs.Tx.{tx_goes};
 ghost use Rattle.beldi_txn.specs.End.{end_goes, decide_goes, first_visit, moved};
@@ -11,7 +11,7 @@ use crate::stage::{look, mark_if, place_of};
 use beldi_lang::{Answer, Effect};
 use beldi_row::copy_tx;
 use beldi_txn::{
-    EndGoes, TxAt, TxGoes, Visit, decide_told, end_query, end_told, tx_query, tx_told,
+    EndGoes, TxAt, TxGoes, Visit, decide_query, decide_told, end_query, end_told, tx_query, tx_told,
 };
 use beldi_value::{Apart, IntentId, TxId};
 use beldi_walk::{Heard, Query};
@@ -65,6 +65,24 @@ pub(crate) fn tx_here(
             tx_query(alloc, func, place_of(alloc, id, step)?, tx, effect, at)
         }
         None => look(alloc, id, func),
+    }
+}
+
+// Asks that the decision of a transaction is kept.
+pub(crate) fn decide_here(
+    alloc: Global,
+    id: &IntentId,
+    func: u16,
+    effect: &Effect,
+    tx: &Option<RunTx>,
+) -> Result<Query, AllocError>
+    ensures { (step : ℕ) → IfOk result (λ q. q ≡ end_here_asks id.now func step effect.now first_visit tx.now) }
+{
+    match (effect, tx) {
+        (Effect::End { commit }, Some(RunTx::Own(tx))) => {
+            decide_query(alloc, &own_tx(alloc, id, func, tx)?, *commit)
+        }
+        _ => look(alloc, id, func),
     }
 }
 
