@@ -253,21 +253,22 @@ impl HostCore {
         self.book.reserve()?;
         let query = bind_query(self.alloc, ticket, func, args.copy(self.alloc)?);
         let query = Apart::new(self.alloc, query)?;
-        let run = self.new_run(code, IntentId::root(self.alloc, ticket), func);
+        let run = self.new_run(code, IntentId::root(self.alloc, ticket), func)?;
         self.runs.start(self.alloc, run)?;
         Ok(Planned::Asks(query, Pending::Request { ticket, func, args }))
     }
 
     // A run of an intent, which may act for the deployment's life from now on.
-    fn new_run(&self, code: &Deployment, id: IntentId, func: u16) -> Run
-        ensures { result ≡ new_run_of code.now (core_in self.entry.now) id func }
+    fn new_run(&self, code: &Deployment, id: IntentId, func: u16) -> Result<Apart<Run>, AllocError>
+        ensures { IfOk result (λ r. r ≡ new_run_of code.now (core_in self.entry.now) id func) }
     {
-        Run {
+        let run = Run {
             id,
             func,
             deadline: self.now.saturating_add(code.life),
             at: RunAt::Looks,
-        }
+        };
+        Apart::new(self.alloc, run)
     }
 
     // What the run of this number asks. A place in the book is taken for the entry of its act. A run that is past its
@@ -323,7 +324,7 @@ impl HostCore {
         if self.runs.len() >= MOST_RUNS {
             return Ok(Planned::Now(Seen::Crowded));
         }
-        let run = self.new_run(code, id, func);
+        let run = self.new_run(code, id, func)?;
         Ok(Planned::Now(Seen::Started(self.runs.start(self.alloc, run)?)))
     }
 
@@ -537,7 +538,7 @@ impl HostCore {
             drop(callee);
             return Ok(None);
         }
-        Ok(Some(self.runs.start(self.alloc, callee.into_inner())?))
+        Ok(Some(self.runs.start(self.alloc, callee)?))
     }
 
     // Starts a run of what is called.
@@ -547,7 +548,7 @@ impl HostCore {
         ensures err { OnErr result (core_in self.new ≡ core_in self.old) }
     {
         match callee {
-            Some(callee) => Ok(Some(self.runs.start(self.alloc, callee.into_inner())?)),
+            Some(callee) => Ok(Some(self.runs.start(self.alloc, callee)?)),
             None => Ok(None),
         }
     }
@@ -593,7 +594,7 @@ impl HostCore {
             return Ok(Seen::Crowded);
         }
         let name = id.copy(self.alloc)?;
-        let run = self.new_run(code, id, func);
+        let run = self.new_run(code, id, func)?;
         let number = self.runs.start(self.alloc, run)?;
         self.cursor = key;
         Ok(Seen::Launched {

@@ -20,7 +20,7 @@ use std::ops::Bound;
 /// The live runs. Numbers rise from 1, and none is given twice.
 #[derive(Drop)]
 pub struct Runs {
-    live: BTreeMap<u64, Run>,
+    live: BTreeMap<u64, Apart<Run>>,
     counts: Counts,
     given: u64,
 }
@@ -42,7 +42,7 @@ impl Model for Runs {
 }
 
 // Out of memory, the run is given back.
-fn put(live: &mut BTreeMap<u64, Run>, number: u64, run: Run) -> Result<(), Run>
+fn put(live: &mut BTreeMap<u64, Apart<Run>>, number: u64, run: Apart<Run>) -> Result<(), Apart<Run>>
     ensures ok { OnOk result (map_of live.new ≡ map.insert (map_of live.old) number run) }
     ensures err { IfErr result (λ r. (r ≡ run) × (map_of live.new ≡ map_of live.old)) }
 {
@@ -52,7 +52,7 @@ fn put(live: &mut BTreeMap<u64, Run>, number: u64, run: Run) -> Result<(), Run>
     }
 }
 
-fn take(live: &mut BTreeMap<u64, Run>, number: u64) -> Option<Run>
+fn take(live: &mut BTreeMap<u64, Apart<Run>>, number: u64) -> Option<Apart<Run>>
     ensures run { result ≡ map.get (map_of live.old) number }
     ensures rest { map_of live.new ≡ map.remove (map_of live.old) number }
 {
@@ -61,11 +61,11 @@ fn take(live: &mut BTreeMap<u64, Run>, number: u64) -> Option<Run>
 
 // Out of memory, a count that was raised is lowered again.
 fn begin(
-    live: &mut BTreeMap<u64, Run>,
+    live: &mut BTreeMap<u64, Apart<Run>>,
     counts: &mut Counts,
     alloc: Global,
     number: u64,
-    run: Run,
+    run: Apart<Run>,
 ) -> Result<(), AllocError>
     requires { count_at counts.old run.id < 2 ^ 64 - 1 }
     ensures ok { OnOk result (map_of live.new ≡ map.insert (map_of live.old) number run) }
@@ -73,11 +73,11 @@ fn begin(
     ensures err { OnErr result (map_of live.new ≡ map_of live.old) }
     ensures kept { (k : ℕ) → map.get counts.old run.id ≡ kept_as k → OnErr result (counts.new ≡ counts.old) }
 {
-    counts.add(alloc, &run.id)?;
+    counts.add(alloc, &run.get().id)?;
     match put(live, number, run) {
         Ok(()) => Ok(()),
         Err(run) => {
-            counts.take(&run.id);
+            counts.take(&run.get().id);
             drop(run);
             Err(AllocError)
         }
@@ -85,12 +85,12 @@ fn begin(
 }
 
 // Ends the run of this number, if it is live.
-fn end(live: &mut BTreeMap<u64, Run>, counts: &mut Counts, number: u64)
+fn end(live: &mut BTreeMap<u64, Apart<Run>>, counts: &mut Counts, number: u64)
     ensures rest { map_of live.new ≡ map.remove (map_of live.old) number }
     ensures counts { counts.new ≡ uncounted counts.old (map.get (map_of live.old) number) }
 {
     if let Some(run) = take(live, number) {
-        counts.take(&run.id);
+        counts.take(&run.get().id);
     }
 }
 
@@ -104,7 +104,7 @@ fn ends(turn: &Result<TurnSays, Option<Mark>>) -> bool
     }
 }
 
-fn settle(live: &mut BTreeMap<u64, Run>, counts: &mut Counts, number: u64, over: bool)
+fn settle(live: &mut BTreeMap<u64, Apart<Run>>, counts: &mut Counts, number: u64, over: bool)
     ensures rest { map_of live.new ≡ settled over (map_of live.old) number }
     ensures counts { counts.new ≡ settled_counts over counts.old (map.get (map_of live.old) number) }
 {
@@ -115,7 +115,7 @@ fn settle(live: &mut BTreeMap<u64, Run>, counts: &mut Counts, number: u64, over:
 
 // The run of this number, which is live, is told.
 fn tell(
-    live: &mut BTreeMap<u64, Run>,
+    live: &mut BTreeMap<u64, Apart<Run>>,
     counts: &mut Counts,
     number: u64,
     alloc: Global,
@@ -130,7 +130,7 @@ fn tell(
     let Some(run) = live.get_mut(&number) else {
         unreachable!()
     };
-    let result = run.told(alloc, code, changes, heard);
+    let result = run.get_mut().told(alloc, code, changes, heard);
     settle(live, counts, number, ends(&result));
     result
 }
@@ -189,7 +189,10 @@ impl Runs {
     pub fn get(&self, number: u64) -> Option<&Run>
         ensures { option_copied result ≡ map.get self.now.runs number }
     {
-        self.live.get(&number)
+        match self.live.get(&number) {
+            Some(run) => Some(run.get()),
+            None => None,
+        }
     }
 
     /// Whether a run of this intent is live.
@@ -211,7 +214,7 @@ impl Runs {
     }
 
     /// Gives a run the next number, which is the answer.
-    pub fn start(&mut self, alloc: Global, run: Run) -> Result<u64, AllocError>
+    pub fn start(&mut self, alloc: Global, run: Apart<Run>) -> Result<u64, AllocError>
         requires { self.old.given < 2 ^ 64 - 1 }
         ensures number { IfOk result (λ n. n ≡ self.old.given + 1) }
         ensures ok { OnOk result (self.new ≡ started self.old run) }

@@ -1,5 +1,10 @@
+use Rattle.std.proofs.Common.{ap, sym, ◌∙◌}
+use Rattle.std.specs.FinMap as map
+use Rattle.beldi_step.specs.declared.run.Run.{Run}
 use Rattle.beldi_core.proofs.Counting.{undone}
 use Rattle.beldi_core.proofs.runs.begin.Goals as goal
 
 pub returns-in-Err-clause-kept : goal.returns-in-Err-clause-kept
-returns-in-Err-clause-kept c = λ k h. undone c.args.counts.now c.add.new.self c.take.new.self c.args.run c.in-Err.run' k h c.in_ok-add.ensures.ok c.in-Err.ensures.err.0 c.take.ensures
+returns-in-Err-clause-kept c = λ k h.
+    undone c.args.counts.now c.add.new.self c.take.new.self c.get.result.now c.get-in-Err.result.now k (ap (λ (r : Run). map.get c.args.counts.now r.id) c.get.ensures ∙ h) c.in_ok-add.ensures.ok
+    (c.get-in-Err.ensures ∙ c.in-Err.ensures.err.0 ∙ sym c.get.ensures) c.take.ensures

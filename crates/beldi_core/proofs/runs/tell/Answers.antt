@@ -1,4 +1,4 @@
-use Rattle.std.proofs.Common.{rules, sym, ap, ◌∙◌}
+use Rattle.std.proofs.Common.{rules, Some, sym, ap, ◌∙◌}
 use Rattle.std.specs.Option.{option_copied_mut}
 use Rattle.std.specs.FinMap as map
 use Rattle.std.specs.FinMap.{nat_cmp-IsAntisymmetric}
@@ -17,8 +17,8 @@ returns-clause-told c =
     let s = c.told-result.new.self in
     let h = c.get_mut.follows.holds s in
     let tree = c.get_mut.follows.lender s in
-    run_was_told c.args.code.now c.args.changes (map_of c.args.live.now) (map_of tree) (map_of c.settle.new.live) c.args.number c.in-Some.run'.now s (told_of c.args.heard) c.told-result.result
-    (get_rows nat_cmp_total nat_cmp-IsAntisymmetric c.args.live.now.entries c.args.number ∙ sym c.get_mut.ensures.value ∙ ap option_copied_mut c.in-Some.is)
+    run_was_told c.args.code.now c.args.changes (map_of c.args.live.now) (map_of tree) (map_of c.settle.new.live) c.args.number c.get_mut-2.result.now s (told_of c.args.heard) c.told-result.result
+    (get_rows nat_cmp_total nat_cmp-IsAntisymmetric c.args.live.now.entries c.args.number ∙ sym c.get_mut.ensures.value ∙ ap option_copied_mut c.in-Some.is ∙ ap Some (sym c.get_mut-2.ensures.value))
     (one_set nat_cmp_total nat_cmp-IsAntisymmetric c.args.live.now.entries tree.entries c.args.number s (h.3 (search rules)).0)
     (search rules) c.told-result.ensures.turns
 
@@ -27,8 +27,8 @@ returns-clause-kept c = λ g h.
     let s = c.told-result.new.self in
     let f = c.get_mut.follows.holds s in
     let tree = c.get_mut.follows.lender s in
-    kept_told g (map_of c.args.live.now) (map_of tree) (map_of c.settle.new.live) c.args.counts.now c.settle.new.counts c.args.number c.in-Some.run'.now s (ends_run c.told-result.result)
-    (get_rows nat_cmp_total nat_cmp-IsAntisymmetric c.args.live.now.entries c.args.number ∙ sym c.get_mut.ensures.value ∙ ap option_copied_mut c.in-Some.is)
+    kept_told g (map_of c.args.live.now) (map_of tree) (map_of c.settle.new.live) c.args.counts.now c.settle.new.counts c.args.number c.get_mut-2.result.now s (ends_run c.told-result.result)
+    (get_rows nat_cmp_total nat_cmp-IsAntisymmetric c.args.live.now.entries c.args.number ∙ sym c.get_mut.ensures.value ∙ ap option_copied_mut c.in-Some.is ∙ ap Some (sym c.get_mut-2.ensures.value))
     c.told-result.ensures.id
     (one_set nat_cmp_total nat_cmp-IsAntisymmetric c.args.live.now.entries tree.entries c.args.number s (f.3 (search rules)).0)
     (search rules) (search rules) h
