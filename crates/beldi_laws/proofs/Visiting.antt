@@ -49,6 +49,7 @@ use Rattle.beldi_daal.specs.Content.{Content, content_in, SoundAt}
 use Rattle.beldi_daal.specs.Logged.{done_to}
 use Rattle.beldi_daal.proofs.Stays.{notes_stay}
 use Rattle.beldi_intent.specs.Intent.{intent_key, root_key}
+use Rattle.beldi_lock.specs.Last.{split_last}
 use Rattle.beldi_lock.specs.Lockset.{lockset_found}
 use Rattle.beldi_plain.specs.Executor.{AllShort}
 use Rattle.beldi_plain.specs.Item.{Item}
@@ -71,7 +72,7 @@ use Rattle.beldi_txn.specs.End.{back_from, call_goes, calls_goes, counts, end_go
 use Rattle.beldi_txn.specs.Invokes.{func_called, invokes_found}
 use Rattle.beldi_txn.specs.TxTurn.{shadow_value}
 use Rattle.beldi_txn.specs.Visited.{AllFreed, AllReleased, AreReleased, DecidedAt, GetsFinish, IsDecided, IsMember, Visited, given_value}
-use Rattle.beldi_txn.specs.Way.{Member, is_owner, split_last}
+use Rattle.beldi_txn.specs.Way.{Member, is_owner}
 use Rattle.beldi_txn.proofs.TxTurn.{asked}
 use Rattle.beldi_txn.proofs.Visited.{Leads, turns}
 use Rattle.beldi_readlog.specs.ReadLog.{log_key}

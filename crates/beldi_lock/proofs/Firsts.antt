@@ -20,7 +20,8 @@ use Rattle.beldi_row.specs.Table.{Rows, IsNext, next_row}
 use Rattle.beldi_row.proofs.Least.{next_row_least}
 use Rattle.beldi_walk.proofs.Promises.{promised}
 use Rattle.beldi_lock.specs.Lock.{lockset_key}
-use Rattle.beldi_lock.specs.Lockset.{most, filled, onto_front, split_last, before_last, before_split, id_before, begin_before, lockset_after, lockset_asks, lockset_found, AreHops, IsFit, AreFit, IsFirstFrom, FindsFirst, LocksetsBegin, FindsNext, LocksetsFollow}
+use Rattle.beldi_lock.specs.Last.{onto_front, split_last}
+use Rattle.beldi_lock.specs.Lockset.{most, filled, before_last, before_split, id_before, begin_before, lockset_after, lockset_asks, lockset_found, AreHops, IsFit, AreFit, IsFirstFrom, FindsFirst, LocksetsBegin, FindsNext, LocksetsFollow}
 use Rattle.beldi_lock.proofs.IdBefore.{less_each}
 
 -- ---- numbers

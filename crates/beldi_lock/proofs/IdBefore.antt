@@ -2,7 +2,9 @@
 use Rattle.std.proofs.Common.{◌≡◌, ℕ, zero, suc, ◌-◌, ◌<◌, List, [], ◌∷◌, ◌++◌, length, replicate, Some, refl, ap, sym, ◌∙◌, arith}
 use Rattle.std.proofs.lemmas.List.{append-nil}
 use Rattle.beldi_value.specs.declared.id.IntentId.{IntentId}
-use Rattle.beldi_lock.specs.Lockset.{most, filled, onto_front, split_last, before_split, id_before}
+use Rattle.beldi_lock.specs.Last.{split_last}
+use Rattle.beldi_lock.specs.Lockset.{most, filled, before_split, id_before}
+use Rattle.beldi_lock.proofs.Last.{split_front}
 
 -- ---- hops with the greatest behind them
 less_one : (a : ℕ) → suc a - 1 ≡ a
@@ -29,13 +31,6 @@ pub filled_whole : (xs : List ℕ) → length xs ≡ 63 → filled 63 xs ≡ xs
 filled_whole xs h = ap (λ n. xs ++ replicate (63 - n) most) h ∙ append-nil xs
 
 -- ---- the last hop
-split_front : (front : List ℕ) (l : ℕ) → split_last (front ++ l ∷ []) ≡ Some (front, l)
-split_front [] l = refl
-split_front (h ∷ hs) l = ap (λ s. Some (onto_front h s)) (split_front hs l)
-
-pub before_none : (id : IntentId) → id.hops ≡ [] → record { ticket = id.ticket - 1; hops = filled 63 [] } ≡ id_before id
-before_none id is = ap (λ hs. before_split id.ticket (split_last hs)) (sym is)
-
 pub before_zero : (id : IntentId) (front : List ℕ) → id.hops ≡ front ++ 0 ∷ [] → record { ticket = id.ticket; hops = front } ≡ id_before id
 before_zero id front is = ap (before_split id.ticket) (sym (split_front front 0)) ∙ ap (λ hs. before_split id.ticket (split_last hs)) (sym is)
 

@@ -1,3 +1,4 @@
 pub mod Firsts
 mod IdBefore
+pub mod Last
 mod Locked

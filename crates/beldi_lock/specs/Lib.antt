@@ -1,3 +1,4 @@
+pub mod Last
 pub mod Lock
 pub mod Locked
 pub mod Lockset

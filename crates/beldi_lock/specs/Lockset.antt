@@ -15,6 +15,7 @@ use Rattle.beldi_walk.specs.declared.query.Query.{Query}
 use Rattle.beldi_walk.specs.declared.query.Query.TheVariants.{After}
 use Rattle.beldi_walk.specs.Query.{Told, found}
 use Rattle.beldi_walk.specs.Walk.{Promises}
+use Rattle.beldi_lock.specs.Last.{split_last}
 use Rattle.beldi_lock.specs.Lock.{lockset_key}
 
 -- ---- the id directly before one
@@ -24,15 +25,6 @@ most = 2 ^ 32 - 1
 
 abbrev pub filled : ℕ → List ℕ → List ℕ
 filled room hops = hops ++ replicate (room - length hops) most
-
--- the last hop, and those before it
-abbrev pub onto_front : ℕ → Option (List ℕ × ℕ) → List ℕ × ℕ
-onto_front h None = ([], h)
-onto_front h (Some s) = (h ∷ s.0, s.1)
-
-abbrev pub split_last : List ℕ → Option (List ℕ × ℕ)
-split_last [] = None
-split_last (h ∷ hs) = Some (onto_front h (split_last hs))
 
 -- hops of which the last is 0 come directly after those before it; others after the same with one less, and then the greatest hops
 abbrev pub before_last : ℕ → List ℕ → ℕ → List ℕ

@@ -54,9 +54,6 @@ steps_below n k h = parts (nat_cmp n k) Equal h (n < k) (λ l. below n k l) (λ 
 reversed : (a i : IntentId) → id_cmp a i ≡ Less → (r : Ordering) → ordering_then (id_cmp i a) r ≡ Less → ⊥
 reversed a i l r s = let clash = sym (ap (λ o. ordering_then o r) (id_total.antisymm i a ∙ ap ordering_reverse l)) ∙ s in cc
 
-level_back : (a i : IntentId) → id_cmp a i ≡ Equal → (r : Ordering) → ordering_then (id_cmp i a) r ≡ Less → r ≡ Less
-level_back a i l r s = sym (ap (λ o. ordering_then o r) (id_total.antisymm i a ∙ ap ordering_reverse l)) ∙ s
-
 -- rows of other kinds stand before all calls of their home, or after them
 no_first : (home room : ℕ) (s : Ordering) (P : Type 0) → ordering_then (nat_cmp home room) Greater ≡ Less → ordering_then (nat_cmp room home) s ≡ Less → P
 no_first home room s P h g = between home room home Greater s (irreflexive home) h g P (λ e f r z. let clash : Greater ≡ Less = r in cc)

@@ -5,21 +5,19 @@ use Rattle.beldi_value.specs.declared.id.IntentId.{IntentId}
 use Rattle.beldi_value.specs.Id.{child_of, has_callees}
 use Rattle.beldi_row.specs.declared.row.Row.{Row}
 use Rattle.beldi_row.specs.Table.{Rows}
+use Rattle.beldi_lock.specs.Last.{split_last}
 use Rattle.beldi_lock.specs.Lockset.{most, AreHops, AreFit}
+use Rattle.beldi_lock.proofs.Last.{split_front}
 use Rattle.beldi_txn.specs.declared.way.Called.{Called}
 use Rattle.beldi_txn.specs.declared.end.Visit.{Visit}
 use Rattle.beldi_txn.specs.End.{back_from}
 use Rattle.beldi_txn.specs.Invokes.{call_key, func_called}
 use Rattle.std.specs.Option.{option_map}
 use Rattle.std.specs.Prelude.{option_to_list, slice_get}
-use Rattle.beldi_txn.specs.Way.{Member, callee_id, callee_of, member_at, onto_front, split_last, front_of, last_of, is_owner}
+use Rattle.beldi_txn.specs.Way.{Member, callee_id, callee_of, member_at, front_of, last_of, is_owner}
 use Rattle.beldi_txn.specs.Visited.{AtEnd, IsCall, IsWay, is_closed, AreClosed, Levels}
 
 -- ---- lists of calls
-pub split_front : (front : List Called) (c : Called) → split_last (front ++ c ∷ []) ≡ Some (front, c)
-split_front [] c = refl
-split_front (d ∷ ds) c = ap (λ s. Some (onto_front d s)) (split_front ds c)
-
 pub record EndsIn (cs : List Called) : Type 0 where
   pub front : List Called
   pub last : Called

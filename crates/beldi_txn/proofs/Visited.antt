@@ -49,6 +49,7 @@ use Rattle.beldi_intent.specs.Intent.{intent_key}
 use Rattle.beldi_lock.specs.Lock.{lockset_key}
 use Rattle.beldi_lock.specs.Lockset.{AreFit, IsFirstFrom, lockset_after, item_after}
 use Rattle.beldi_lock.proofs.Firsts.{first_from}
+use Rattle.beldi_lock.proofs.Last.{split_front}
 use Rattle.beldi_txn.specs.declared.end.EndAt.{EndAt}
 use Rattle.beldi_txn.specs.declared.end.EndAt.TheVariants.{Decide, Callees, Next, Shadow, Free, Stamp}
 use Rattle.beldi_txn.specs.declared.end.EndGoes.{EndGoes}
@@ -65,7 +66,7 @@ use Rattle.beldi_txn.specs.Visited.{AtEnd, decision_row, item_row, aside_row, lo
 use Rattle.beldi_txn.proofs.TxTurn.{apart, others_set, here_set, shadow_told, ranks, asked}
 use Rattle.beldi_txn.proofs.Calls.{by_order, next_call, first_call}
 use Rattle.beldi_txn.proofs.Locks.{Item, item_at, none_past, none_first, none_between, none_before}
-use Rattle.beldi_txn.proofs.Levels.{split_front, ends_in, member_more, way_more, way_front, way_last, levels_top, levels_with, levels_pushed, levels_last, levels_popped, closed_on, levels_on, member_fit}
+use Rattle.beldi_txn.proofs.Levels.{ends_in, member_more, way_more, way_front, way_last, levels_top, levels_with, levels_pushed, levels_last, levels_popped, closed_on, levels_on, member_fit}
 
 -- ---- by the decision
 past_first : (commit : Bool) (w : EndWalk) (p : Member) (j q : Item) → IsPast (free_first commit) w p (Some j) q → key_cmp (lock_row w p q) (lock_row w p j) ≡ Less

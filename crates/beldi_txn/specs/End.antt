@@ -21,12 +21,13 @@ use Rattle.beldi_daal.specs.declared.cell.WriteAt.TheVariants.{Try}
 use Rattle.beldi_daal.specs.declared.cell.WriteGoes.{WriteGoes}
 use Rattle.beldi_daal.specs.declared.cell.WriteGoes.TheVariants as writes
 use Rattle.beldi_daal.specs.Cell.{cell_key, shadow_key, read_goes, write_asks, write_goes}
+use Rattle.beldi_lock.specs.Last.{split_last}
 use Rattle.beldi_lock.specs.Lockset.{most, lockset_asks, lockset_found}
 use Rattle.beldi_readlog.specs.ReadLog.{keep_asks}
 use Rattle.beldi_intent.specs.Intent.{stamp_asks}
 use Rattle.beldi_value.specs.Id.{has_callees}
 use Rattle.beldi_txn.specs.Invokes.{invokes_asks, invokes_found}
-use Rattle.beldi_txn.specs.Way.{Member, member_at, split_last, is_owner}
+use Rattle.beldi_txn.specs.Way.{Member, member_at, is_owner}
 use Rattle.beldi_txn.specs.declared.way.Called.{Called}
 use Rattle.beldi_txn.specs.declared.end.EndAt.{EndAt}
 use Rattle.beldi_txn.specs.declared.end.EndAt.TheVariants.{Decide, Callees, Next, Shadow, Free, Stamp}

@@ -21,14 +21,6 @@ member_at p [] = p
 member_at p (c ∷ cs) = member_at (callee_of p c) cs
 
 -- the calls but the last one, and that one
-abbrev pub onto_front : Called → Option (List Called × Called) → List Called × Called
-onto_front c None = ([], c)
-onto_front c (Some s) = (c ∷ s.0, s.1)
-
-abbrev pub split_last : List Called → Option (List Called × Called)
-split_last [] = None
-split_last (c ∷ cs) = Some (onto_front c (split_last cs))
-
 abbrev pub front_of : Option (List Called × Called) → List Called
 front_of None = []
 front_of (Some s) = s.0

@@ -2,9 +2,10 @@
 ghost use Rattle.std.specs.Prelude.{◌≡◌, ℕ, Some, None, true, IfOk, OnErr};
 ghost use Rattle.beldi_value.specs.declared.value.Value.TheVariants as value;
 ghost use Rattle.beldi_walk.specs.Query.{told_of, lends};
+ghost use Rattle.beldi_lock.specs.Last.{split_last};
 ghost use Rattle.beldi_lock.specs.Lockset.{item_lent};
 ghost use Rattle.beldi_readlog.specs.ReadLog.{keep_asks};
-ghost use Rattle.beldi_txn.specs.Way.{split_last, is_owner};
+ghost use Rattle.beldi_txn.specs.Way.{is_owner};
 ghost use Rattle.beldi_txn.specs.declared.end.EndAt.TheVariants as EndAt;
 ghost use Rattle.beldi_txn.specs.End.{begin_place, first_visit, visited_by, calls_after, counts as counts_by, free_place as freed_at, visit_asks, shadow_asks, free_asks, decided_by, decide_goes, calls_goes, last_goes, value_goes, freed_goes, end_goes, free_first, at_calls, back_from, moved, said_of};
 

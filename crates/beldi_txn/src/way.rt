@@ -1,6 +1,7 @@
 // The calls on the way from the owner of a transaction to a participant.
 ghost use Rattle.std.specs.Prelude.{◌≡◌, List, [], ◌∷◌, ◌++◌, IfOk, option_copied};
-ghost use Rattle.beldi_txn.specs.Way.{callee_id, member_at, split_last, front_of, last_of, is_owner};
+ghost use Rattle.beldi_lock.specs.Last.{split_last};
+ghost use Rattle.beldi_txn.specs.Way.{callee_id, member_at, front_of, last_of, is_owner};
 
 use beldi_value::{Hops, IntentId, TxId};
 use std::alloc::{AllocError, Global};

@@ -1,0 +1,7 @@
+-- A list that is taken apart at its last.
+use Rattle.std.proofs.Common.{◌≡◌, List, [], ◌∷◌, ◌++◌, Some, refl, ap}
+use Rattle.beldi_lock.specs.Last.{onto_front, split_last}
+
+pub split_front : {A : Type 0} (front : List A) (last : A) → split_last (front ++ last ∷ []) ≡ Some (front, last)
+split_front [] last = refl
+split_front (x ∷ xs) last = ap (λ s. Some (onto_front x s)) (split_front xs last)
