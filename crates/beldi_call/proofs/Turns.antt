@@ -4,19 +4,18 @@ use Rattle.std.specs.FinMap as map
 use Rattle.beldi_value.specs.declared.outcome.Outcome.{Outcome}
 use Rattle.beldi_value.specs.declared.place.Place.{Place}
 use Rattle.beldi_row.specs.declared.key.RowKey.{RowKey}
-use Rattle.beldi_row.specs.declared.row.InvokeRow.{InvokeRow}
 use Rattle.beldi_row.specs.declared.row.Row.{Row}
 use Rattle.beldi_row.specs.declared.row.Row.TheVariants as rows
 use Rattle.beldi_row.specs.declared.row.Body.{Body}
 use Rattle.beldi_row.specs.declared.act.Act.{Act}
 use Rattle.beldi_row.specs.declared.act.Act.TheVariants as acts
-use Rattle.beldi_row.specs.Act.{here, act, register_to}
+use Rattle.beldi_row.specs.Act.{act, register_to}
 use Rattle.beldi_row.specs.Table.{Rows, set_row}
 use Rattle.beldi_row.proofs.Gets.{got, key_self}
 use Rattle.beldi_walk.specs.declared.query.Query.{Query}
 use Rattle.beldi_walk.specs.Query.{said, rows_after, told_by}
 use Rattle.beldi_walk.proofs.Promises.{turned, at_each}
-use Rattle.beldi_invokelog.specs.InvokeLog.{invoke_key, call_in, result_in, registered_in, invoked, result_of, back_of}
+use Rattle.beldi_invokelog.specs.InvokeLog.{invoke_key, call_in, result_in, registered_in, result_of, back_of}
 use Rattle.beldi_call.specs.declared.call.CallAt.{CallAt}
 use Rattle.beldi_call.specs.declared.call.CallAt.TheVariants as at_call
 use Rattle.beldi_call.specs.declared.call.CallSays.{CallSays}
@@ -28,7 +27,7 @@ use Rattle.beldi_call.specs.declared.async_call.AsyncSays.{AsyncSays}
 use Rattle.beldi_call.specs.declared.async_call.AsyncSays.TheVariants.{Going, Opened, Done}
 use Rattle.beldi_intent.specs.Intent.{intent_key}
 use Rattle.beldi_call.specs.Async as async
-use Rattle.beldi_call.specs.Async.{AsyncTurn, CalleesAreEnrolled, EnrolledStays, EnrolledAt, IsEnrolled, OpenedAt, is_done, tells_registered, async_key, callee_key}
+use Rattle.beldi_call.specs.Async.{AsyncTurn, CalleesAreEnrolled, EnrolledStays, EnrolledAt, OpenedAt, is_done, callee_key}
 
 -- what is so of a row before, and of the one that it is set to
 set_so : (P : Option Row → Option Row → Type 0) (m : Rows) (k : RowKey) (v : Option Row) → P (map.get m k) v → P (map.get m k) (map.get (set_row m k v) k)

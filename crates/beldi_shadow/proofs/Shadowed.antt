@@ -21,7 +21,6 @@ use Rattle.beldi_daal.specs.ReadWalk as read
 use Rattle.beldi_daal.specs.Walk as write
 use Rattle.beldi_daal.proofs.Logged.{writes_are_logged, reads_are_contents}
 use Rattle.beldi_shadow.specs.declared.shadow.ShadowRead.{ShadowRead}
-use Rattle.beldi_shadow.specs.declared.shadow.ShadowWrite.{ShadowWrite}
 use Rattle.beldi_shadow.specs.Shadow.{first_read, read_so, write_so}
 use Rattle.beldi_shadow.specs.Shadowed.{is_aside, write_key, read_key, DoneOnce, Writes, WriteTurn, Reads, ReadTurn, ShadowsAreLogged, ShadowsReadTheirOwn}
 
