@@ -15,7 +15,7 @@ use Rattle.beldi_txn.specs.Invokes.{call_key, func_called}
 use Rattle.std.specs.Option.{option_map}
 use Rattle.std.specs.Prelude.{option_to_list, slice_get}
 use Rattle.beldi_txn.specs.Way.{Member, callee_id, callee_of, member_at, front_of, last_of, is_owner}
-use Rattle.beldi_txn.specs.Visited.{AtEnd, IsCall, IsWay, is_closed, AreClosed, Levels}
+use Rattle.beldi_txn.specs.Visited.{AtEnd, IsCall, IsWay, AreClosed, Levels}
 
 -- ---- lists of calls
 pub record EndsIn (cs : List Called) : Type 0 where
@@ -120,22 +120,6 @@ pub levels_popped : (m : Rows) (p : Member) (At : ℕ → Type 0) (cs : List Cal
 levels_popped m p At [] c Past Now l h = h
 levels_popped m p At (d ∷ []) c Past Now l h = (l.0, h)
 levels_popped m p At (d ∷ e ∷ es) c Past Now l h = (l.0, levels_popped m (callee_of p d) (λ n. Unit {0}) (e ∷ es) c Past Now l.1 h)
-
--- ---- other rows
--- rows with no further call, where who is closed stays so
-pub closed_on : (m n : Rows) (p : Member) (At : ℕ → Type 0) → ((c : Called) → IsCall n p c → IsCall m p c) → ((c : Called) → IsCall m p c → is_closed m (callee_of p c) ≡ true → is_closed n (callee_of p c) ≡ true)
-    → AreClosed m p At → AreClosed n p At
-closed_on m n p At calls closed h c k at = closed c (calls c k) (h c (calls c k) at)
-
--- .. for all on the way
-pub levels_on : (m n : Rows) (p : Member) (At : ℕ → Type 0) (cs : List Called) (Past : ℕ → Type 0) → (Reached : Member → Type 0) → Reached p → ((q : Member) → Reached q → (c : Called) → IsCall m q c → Reached (callee_of q c))
-    → ((q : Member) → Reached q → (c : Called) → IsCall n q c → IsCall m q c) → ((q : Member) → Reached q → (c : Called) → IsCall m q c → is_closed m (callee_of q c) ≡ true → is_closed n (callee_of q c) ≡ true)
-    → IsWay m p cs → Levels m p At cs Past → Levels n p At cs Past
-levels_on m n p At [] Past R r next calls closed w l = closed_on m n p (λ k. At k × Past k) (calls p r) (closed p r) l
-levels_on m n p At (c ∷ cs) Past R r next calls closed w l = (
-  closed_on m n p (λ k. At k × (k < c.step)) (calls p r) (closed p r) l.0,
-  levels_on m n (callee_of p c) (λ k. Unit {0}) cs Past R (next p r c w.0) next calls closed w.1 l.1,
-)
 
 -- ---- ids of participants
 hops_more : (room : ℕ) (hs : List ℕ) (s : ℕ) → AreHops room hs → length hs < room → s ≤ most → AreHops room (hs ++ s ∷ [])
