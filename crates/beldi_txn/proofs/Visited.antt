@@ -1,5 +1,5 @@
 -- The end of a transaction visits all who took part, and passes all rows of their locks, one after another.
-use Rattle.std.proofs.Common.{◌≡◌, ◌⊎◌, inl, inr, ℕ, zero, suc, ◌<◌, ◌≤◌, Bool, true, false, List, [], ◌∷◌, ◌++◌, Option, None, Some, is_some, refl, ap, sym, ◌∙◌, subst, if◌then◌else◌, ltb-true, ltb-false, arith}
+use Rattle.std.proofs.Common.{◌≡◌, ◌⊎◌, inl, inr, ℕ, zero, suc, ◌<◌, ◌≤◌, Bool, true, false, List, [], ◌∷◌, ◌++◌, Option, None, Some, is_some, is_none, refl, ap, sym, ◌∙◌, subst, if◌then◌else◌, ltb-true, ltb-false, arith}
 use Rattle.std.specs.FinMap as map
 use Rattle.std.specs.Option.{option_map}
 use Rattle.std.specs.Ordering.{is_eq, ordering_reverse}
@@ -12,7 +12,7 @@ use Rattle.beldi_value.specs.declared.value.Value.{Value}
 use Rattle.beldi_value.specs.declared.value.Value.TheVariants as value
 use Rattle.beldi_value.specs.Id.{child_of, has_callees, has_no_hops, home_of}
 use Rattle.beldi_value.proofs.Callees.{no_root}
-use Rattle.beldi_row.specs.declared.act.Act.TheVariants.{Look, PutRead, Stamp as StampAct}
+use Rattle.beldi_row.specs.declared.act.Act.TheVariants.{PutRead, Stamp as StampAct}
 use Rattle.beldi_row.specs.declared.key.Kind.{Kind}
 use Rattle.beldi_row.specs.declared.key.Kind.TheVariants as kinds
 use Rattle.beldi_row.specs.declared.key.RowKey.{RowKey}
@@ -28,7 +28,6 @@ use Rattle.beldi_row.proofs.Gets.{key_same}
 use Rattle.beldi_row.proofs.Least.{next_row_least}
 use Rattle.beldi_row.proofs.Unchanged.{looked, left as left_row}
 use Rattle.beldi_walk.specs.declared.query.Query.{Query}
-use Rattle.beldi_walk.specs.declared.query.Query.TheVariants as query
 use Rattle.beldi_walk.specs.Query.{said, told_by, rows_after}
 use Rattle.beldi_walk.proofs.Promises.{turned}
 use Rattle.beldi_daal.specs.declared.cell.CellOp.TheVariants as op
@@ -40,7 +39,7 @@ use Rattle.beldi_daal.specs.declared.walk.Item.TheVariants.{Plain}
 use Rattle.beldi_daal.specs.declared.walk.WriteSays.{WriteSays}
 use Rattle.beldi_daal.specs.declared.walk.WriteSays.TheVariants as wsays
 use Rattle.beldi_daal.specs.declared.walk.WriteWalk.{WriteWalk}
-use Rattle.beldi_daal.specs.Cell.{write_goes, write_asks}
+use Rattle.beldi_daal.specs.Cell.{write_goes}
 use Rattle.beldi_daal.specs.Content.{Content, content_in, SoundAt}
 use Rattle.beldi_daal.specs.Logged.{unless_owned, LoggedTurn}
 use Rattle.beldi_daal.specs.Walk.{walk_so as logged_so}
@@ -60,7 +59,7 @@ use Rattle.beldi_txn.specs.declared.end_walk.EndWalk.{EndWalk}
 use Rattle.beldi_txn.specs.declared.way.Called.{Called}
 use Rattle.beldi_txn.specs.Invokes.{call_key, invokes_after, func_called, call_after, IsAfter, IsNextCall}
 use Rattle.beldi_txn.specs.Way.{Member, callee_of, member_at, is_owner}
-use Rattle.beldi_txn.specs.End.{first_visit, visited_by, calls_after, counts, free_place, visit_asks, decide_goes, call_goes, calls_goes, last_goes, next_goes, value_goes, freed_goes, end_goes, free_first, back_from, moved, said_of, walk_asks, walk_next, walk_says}
+use Rattle.beldi_txn.specs.End.{first_visit, visited_by, calls_after, counts, free_place, decide_goes, call_goes, calls_goes, last_goes, next_goes, value_goes, freed_goes, free_first, back_from, moved, said_of, walk_asks, walk_goes, walk_next, walk_says}
 use Rattle.beldi_txn.specs.TxTurn.{key_asked, shadow_value}
 use Rattle.beldi_txn.specs.Visited.{AtEnd, decision_row, item_row, aside_row, lock_row, item_in, is_own, IsDecided, given_value, called_at, IsCall, IsWay, IsWithin, StartsWithin, owner_of, IsMember, row_closed, is_closed, AreClosed, AllFreed, IsReleased, AreReleased, DecidedAt, HasItem, HasWay, IsFrom, Gives, IsPassed, Levels, IsPast, AreSound, AreMarked, Visited, AllReleased, Frees, Stamps, LeftAt, EndTurn, EndsAreVisits, Leaves, VisitsStand, VisitsBegin}
 use Rattle.beldi_txn.proofs.TxTurn.{apart, others_set, here_set, shadow_told, ranks, asked}
@@ -68,13 +67,9 @@ use Rattle.beldi_txn.proofs.Calls.{by_order, next_call, first_call}
 use Rattle.beldi_txn.proofs.Locks.{Item, item_at, none_past, none_first, none_between, none_before}
 use Rattle.beldi_txn.proofs.Levels.{ends_in, member_more, way_more, way_front, way_last, levels_top, levels_with, levels_pushed, levels_last, levels_popped, member_fit}
 
-not_owned : (b : Bool) → unless_owned b ≡ Some wsays.NotOwner → b ≡ false
-not_owned true h = cc
-not_owned false h = refl
-
-is_owned : (b : Bool) → unless_owned b ≡ None → b ≡ true
-is_owned true h = refl
-is_owned false h = cc
+is_owned : (b : Bool) (s : Option WriteSays) → unless_owned b ≡ s → b ≡ is_none s
+is_owned true s h = ap is_none h
+is_owned false s h = ap is_none h
 
 -- what is at the one key, and at the others
 by_key : (q k : RowKey) (P : Type 0) → (q ≡ k → P) → (is_eq (key_cmp q k) ≡ false → P) → P
@@ -91,9 +86,13 @@ at_most_or (suc a) (suc b) = elim (at_most_or a b) [
   | inr h ↦ inr (omega (arith, h))
 ]
 
-row_in : (o : Option Row) (f : ℕ) → option_map func_called o ≡ Some f → (r : Row) × (o ≡ Some r)
-row_in None f h = cc
-row_in (Some r) f h = (r, refl)
+row_in : (o : Option Row) → is_some o ≡ true → (r : Row) × (o ≡ Some r)
+row_in None h = cc
+row_in (Some r) h = (r, refl)
+
+was_called : (o : Option Row) (f : ℕ) → option_map func_called o ≡ Some f → is_some o ≡ true
+was_called None f h = cc
+was_called (Some r) f h = refl
 
 -- ---- what others do
 decided_stands : (a : EndAt) (w : EndWalk) (m n : Rows) → Leaves w m n → DecidedAt a w m → DecidedAt a w n
@@ -116,25 +115,22 @@ module _ (w : EndWalk) (m n : Rows) (h : Leaves w m n) where
       let same = member_more (callee_of (owner_of w) d) ds c in
       ap (is_closed n) (sym same) ∙ h.closed d (ds ++ c ∷ []) (member.0, way_more m (owner_of w) (d ∷ ds) c member.1 k) (ap (is_closed m) same ∙ closed)
 
-  level_on : (ds : List Called) (p : Member) (At P : ℕ → Type 0) → visited_by w.tx ds ≡ p → IsMember w m ds → ((s : ℕ) → At s → AtEnd (IsWithin w) ds s) → AreClosed m p (λ s. At s × P s) → AreClosed n p (λ s. At s × P s)
-  level_on ds p At P same member within l c k at =
-      let was : IsCall m p c = subst (λ (q : Member). IsCall n q c → IsCall m q c) same (h.calls ds member c (within c.step at.0)) k in
-      subst (λ (q : Member). IsCall m q c → is_closed m (callee_of q c) ≡ true → is_closed n (callee_of q c) ≡ true) same
-      (λ was closed. closed_more ds c member was (within c.step at.0) closed) was (l c was at)
+  level_on : (ds : List Called) (At P : ℕ → Type 0) → IsMember w m ds → ((s : ℕ) → At s → AtEnd (IsWithin w) ds s) → AreClosed m (visited_by w.tx ds) (λ s. At s × P s) → AreClosed n (visited_by w.tx ds) (λ s. At s × P s)
+  level_on ds At P member within l c k at = let was = h.calls ds member c (within c.step at.0) k in closed_more ds c member was (within c.step at.0) (l c was at)
 
-  below_on : (d : Called) (ds : List Called) (p : Member) (cs : List Called) (Past : ℕ → Type 0) → visited_by w.tx (d ∷ ds) ≡ p → IsMember w m (d ∷ ds) → IsWay m p cs → Levels m p (λ s. Unit {0}) cs Past → Levels n p (λ s. Unit {0}) cs Past
-  below_on d ds p [] Past same member leads l = level_on (d ∷ ds) p (λ s. Unit {0}) Past same member (λ s at. tt) l
-  below_on d ds p (e ∷ es) Past same member leads l =
-      let more : IsWay m (owner_of w) ((d ∷ ds) ++ e ∷ []) = way_more m (owner_of w) (d ∷ ds) e member.1 (subst (λ (q : Member). IsCall m q e) (sym same) leads.0) in (
-        level_on (d ∷ ds) p (λ s. Unit {0}) (λ s. s < e.step) same member (λ s at. tt) l.0,
-        below_on d (ds ++ e ∷ []) (callee_of p e) es Past (member_more (callee_of (owner_of w) d) ds e ∙ ap (λ (q : Member). callee_of q e) same) (member.0, more) leads.1 l.1,
-      )
+  below_on : (d : Called) (ds cs : List Called) (Past : ℕ → Type 0) → let p = visited_by w.tx (d ∷ ds) in IsMember w m (d ∷ ds) → IsWay m p cs → Levels m p (λ s. Unit {0}) cs Past → Levels n p (λ s. Unit {0}) cs Past
+  below_on d ds [] Past member leads l = level_on (d ∷ ds) (λ s. Unit {0}) Past member (λ s at. tt) l
+  below_on d ds (e ∷ es) Past member leads l = (
+    level_on (d ∷ ds) (λ s. Unit {0}) (λ s. s < e.step) member (λ s at. tt) l.0,
+    subst (λ (p : Member). IsWay m p es → Levels m p (λ s. Unit {0}) es Past → Levels n p (λ s. Unit {0}) es Past) (member_more (callee_of (owner_of w) d) ds e)
+    (below_on d (ds ++ e ∷ []) es Past (member.0, way_more m (owner_of w) (d ∷ ds) e member.1 leads.0)) leads.1 l.1,
+  )
 
   levels_stand : (cs : List Called) (Past : ℕ → Type 0) → IsMember w m cs → Levels m (owner_of w) (IsWithin w) cs Past → Levels n (owner_of w) (IsWithin w) cs Past
-  levels_stand [] Past member l = level_on [] (owner_of w) (IsWithin w) Past refl (tt, tt) (λ s at. at) l
+  levels_stand [] Past member l = level_on [] (IsWithin w) Past (tt, tt) (λ s at. at) l
   levels_stand (e ∷ es) Past member l = (
-    level_on [] (owner_of w) (IsWithin w) (λ s. s < e.step) refl (tt, tt) (λ s at. at) l.0,
-    below_on e [] (callee_of (owner_of w) e) es Past refl (member.0, (member.1.0, tt)) member.1.1 l.1,
+    level_on [] (IsWithin w) (λ s. s < e.step) (tt, tt) (λ s at. at) l.0,
+    below_on e [] es Past (member.0, (member.1.0, tt)) member.1.1 l.1,
   )
 
 pub visits_stand : VisitsStand
@@ -146,7 +142,7 @@ visits_stand w m n v h = record {
   member = h.way v.member;
   gives = gives_stands w.visit.at w.visit.item w p.1 m n h v.gives;
   callees = levels_stand w m n h w.visit.way (IsPassed w.visit.at w.visit.after) v.member v.callees;
-  freed = λ q r here past. h.items p.1 q (was q (map.get m (lock_row w p q)) refl (h.locks w.visit.way v.member q r here) past);
+  freed = λ q r here past. let s = row_in (map.get m (lock_row w p q)) (h.locks w.visit.way v.member q r here) in h.items p.1 q (v.freed q s.0 s.1 past);
   released = h.released;
   marked = h.marks;
   sound = h.sound;
@@ -154,11 +150,6 @@ visits_stand w m n v h = record {
   where
     p : Member
     p = visited_by w.tx w.visit.way
-
-    was : (q : Item) (o : Option Row) → map.get m (lock_row w (visited_by w.tx w.visit.way) q) ≡ o → is_some (map.get m (lock_row w (visited_by w.tx w.visit.way) q)) ≡ true → IsPast w.visit.at w (visited_by w.tx w.visit.way) w.visit.item q
-        → is_own w (item_in (visited_by w.tx w.visit.way).1 m q) ≡ false
-    was q None is there past = let clash = sym (ap is_some is) ∙ there in cc
-    was q (Some r) is there past = v.freed q r is past
 
 pub visits_begin : VisitsBegin
 visits_begin tx end commit m released marked sound = record {
@@ -262,11 +253,19 @@ module _ (x : TxId) (end : ℕ) (commit : Bool) where
     pub visited : Visited (walk (moved commit z g)) n
     pub done : said_of g ≡ says.Done → IsDecided (walk z) n × AllReleased (walk z) n
 
-  -- a turn that leaves the rows and is not the last ..
-  kept : (z : Visit) (q : Query) (m : Rows) (g : EndGoes) → LeftAt z.at (walk z) z.item (said_of g) m m → (said_of g ≡ says.Done → ⊥) → Visited (walk (moved commit z g)) m → Leads z q m m g
-  kept z q m g left on v = record { others = λ k off. refl; left = left; visited = v; done = λ h. absurd (on h) }
+  -- a turn of the walk at a visit ..
+  abbrev Turns : Visit → ℕ → Rows → Type 0
+  Turns z now m = let q = walk_asks (walk z) in Leads z q m (rows_after q now m) (walk_goes (walk z) (told_by q now m))
 
-  -- .. and what is so of where it goes: what all gave back who are closed, what is marked and what is sound was so before
+  -- .. and one that leaves the rows
+  abbrev Moves : Visit → Rows → EndGoes → Type 0
+  Moves z m g = Leads z (walk_asks (walk z)) m m g
+
+  -- unless it is the last, it says what is so of where it goes
+  moves : (z : Visit) (m : Rows) (g : EndGoes) → LeftAt z.at (walk z) z.item (said_of g) m m → (said_of g ≡ says.Done → ⊥) → Visited (walk (moved commit z g)) m → Moves z m g
+  moves z m g left on v = record { others = λ k off. refl; left = left; visited = v; done = λ h. absurd (on h) }
+
+  -- at the same rows, all that is said of everyone is so at any visit
   goes_to : (z y : Visit) (m : Rows) → Visited (walk z) m → DecidedAt y.at (walk y) m → HasItem y.at y.item → HasWay y.at y.way y.after → IsFrom bare y.way y.after → IsMember bare m y.way
       → Gives y.at (walk y) (visited_by x y.way).1 m y.item → Levels m owns_all (IsWithin bare) y.way (IsPassed y.at y.after)
       → ((q : Item) (r : Row) → let p = visited_by x y.way in map.get m (lock_row bare p q) ≡ Some r → IsPast y.at (walk y) p y.item q → is_own bare (item_in p.1 m q) ≡ false) → Visited (walk y) m
@@ -360,28 +359,25 @@ module _ (x : TxId) (end : ℕ) (commit : Bool) where
     abbrev dk : RowKey
     dk = decision_row bare
 
-    abbrev dq : Query
-    dq = query.Act dk (PutRead (value.Bool commit))
-
     decides : (n : Rows) → Visited (walk dz) n → IsDecided bare n → Visited (walk (visit [] None None u Callees)) n
     decides n w there = to_calls dz [] None u n w there tt (tt, tt) (λ c k at. absurd at.1)
 
-    put_first : map.get m dk ≡ None → Leads dz dq m (rows_after dq now m) (goes.Decided true)
-    put_first none = record { others = others_set m dk s; left = (none, there); visited = decides n (stands m n shows dz v) there; done = λ is. cc }
+    abbrev dn : Rows
+    dn = rows_after (walk_asks (walk dz)) now m
+
+    put_first : map.get m dk ≡ None → Leads dz (walk_asks (walk dz)) m dn (goes.Decided true)
+    put_first none = record { others = others_set m dk s; left = (none, there); visited = decides dn (stands m dn shows dz v) there; done = λ is. cc }
       where
         s : Option Row
         s = (act (PutRead (value.Bool commit)) now (map.get m dk)).0
 
-        n : Rows
-        n = rows_after dq now m
-
-        there : map.get n dk ≡ Some (rows.ReadLog (value.Bool commit))
+        there : map.get dn dk ≡ Some (rows.ReadLog (value.Bool commit))
         there = here_set m dk s ∙ ap (λ o. (act (PutRead (value.Bool commit)) now o).0) none
 
-        same : (q : RowKey) → (rank_of q.kind ≡ 1 → ⊥) → map.get n q ≡ map.get m q
+        same : (q : RowKey) → (rank_of q.kind ≡ 1 → ⊥) → map.get dn q ≡ map.get m q
         same q h = others_set m dk s q (apart q dk (ranks q dk h))
 
-        shows : Shows m n
+        shows : Shows m dn
         shows = record {
           decision = λ is. there;
           calls = λ p s. same (call_key p.1 p.0 s) (λ y. cc);
@@ -394,15 +390,15 @@ module _ (x : TxId) (end : ℕ) (commit : Bool) where
         }
 
     -- it was there, and stays as it is
-    stood : (r : Row) (g : EndGoes) → map.get m dk ≡ Some r → Decided_by commit r g → Leads dz dq m m g
-    stood r g is (inl h) = let there = is ∙ ap (λ s. Some s) h.0 in subst (Leads dz dq m m) (sym h.1) (kept dz dq m (goes.Decided false) (there, refl) (λ e. cc) (decides m v there))
-    stood r g is (inr h) = subst (Leads dz dq m m) (sym h.1) (kept dz dq m (goes.On Decide) (λ was. h.0 (let e = sym is ∙ was in cc), refl) (λ e. cc) v)
+    stood : (r : Row) (g : EndGoes) → map.get m dk ≡ Some r → Decided_by commit r g → Moves dz m g
+    stood r g is (inl h) = let there = is ∙ ap (λ s. Some s) h.0 in subst (Moves dz m) (sym h.1) (moves dz m (goes.Decided false) (there, refl) (λ e. cc) (decides m v there))
+    stood r g is (inr h) = subst (Moves dz m) (sym h.1) (moves dz m (goes.On Decide) (λ was. h.0 (let e = sym is ∙ was in cc), refl) (λ e. cc) v)
 
-    by_told : (o : Option Row) → map.get m dk ≡ o → Leads dz dq m (rows_after dq now m) (decide_goes commit (said (act (PutRead (value.Bool commit)) now o).1))
+    by_told : (o : Option Row) → map.get m dk ≡ o → Leads dz (walk_asks (walk dz)) m dn (decide_goes commit (said (act (PutRead (value.Bool commit)) now o).1))
     by_told None is = put_first is
     by_told (Some r) is =
         let g = decide_goes commit (said (act (PutRead (value.Bool commit)) now (Some r)).1) in
-        subst (λ n. Leads dz dq m n g) (sym (left_row (PutRead (value.Bool commit)) now dk m (Some r) is refl)) (stood r g is (by_row commit now r))
+        subst (λ n. Leads dz (walk_asks (walk dz)) m n g) (sym (left_row (PutRead (value.Bool commit)) now dk m (Some r) is refl)) (stood r g is (by_row commit now r))
 
   -- ---- the next call of who is visited
   from_none : (cs : List Called) → IsFrom bare cs None
@@ -443,13 +439,6 @@ module _ (x : TxId) (end : ℕ) (commit : Bool) where
     abbrev ckey : RowKey
     ckey = invokes_after who.1 who.0 (calls_after x cs af)
 
-    abbrev Leads_to : EndGoes → Type 0
-    Leads_to g = Leads cz (query.After ckey) m m g
-
-    -- its callees that are closed so far
-    so_far : AreClosed m who (λ n. Counted cs n × IsPassed Callees af n)
-    so_far = levels_top m owns_all (IsWithin bare) cs (IsPassed Callees af) v.callees
-
     seen : (q : ℕ) (r : Row) → map.get m (call_key who.1 who.0 q) ≡ Some r → Counted cs q → (IsAfter (calls_after x cs af) q → map.get m (call_key who.1 who.0 q) ≡ None) → IsPassed Callees af q
     seen q r here at none = elim (passed_or cs af q at) [
       | inl past ↦ past
@@ -457,10 +446,13 @@ module _ (x : TxId) (end : ℕ) (commit : Bool) where
     ]
 
     closed_if : (At : ℕ → Type 0) → ((q : ℕ) (r : Row) → map.get m (call_key who.1 who.0 q) ≡ Some r → Counted cs q → At q → IsPassed Callees af q) → AreClosed m who (λ n. Counted cs n × At n)
-    closed_if At seen c k at = let r = row_in (map.get m (call_key who.1 who.0 c.step)) c.func k.1 in so_far c k (at.0, seen c.step r.0 r.1 at.0 at.1)
+    closed_if At seen c k at = 
+        let o = map.get m (call_key who.1 who.0 c.step) in
+        let r = row_in o (was_called o c.func k.1) in
+        levels_top m owns_all (IsWithin bare) cs (IsPassed Callees af) v.callees c k (at.0, seen c.step r.0 r.1 at.0 at.1)
 
-    to_locks : AreClosed m who (λ n. Counted cs n × Unit {0}) → Leads_to (goes.On Next)
-    to_locks closed = kept cz (query.After ckey) m (goes.On Next) refl (λ h. cc)
+    to_locks : AreClosed m who (λ n. Counted cs n × Unit {0}) → Moves cz m (goes.On Next)
+    to_locks closed = moves cz m (goes.On Next) refl (λ h. cc)
         (goes_to cz (visit cs af None u Next) m v v.decided tt tt v.from v.member tt (levels_with m owns_all (IsWithin bare) cs (IsPassed Callees af) (IsPassed Next af) v.callees closed) (λ q r here past. absurd past))
 
     module _ (c : Called) (next : IsNextCall who.1 who.0 (calls_after x cs af) m (Some c)) where
@@ -470,23 +462,23 @@ module _ (x : TxId) (end : ℕ) (commit : Bool) where
       seen_before : (q : ℕ) (r : Row) → map.get m (call_key who.1 who.0 q) ≡ Some r → Counted cs q → q < c.step → IsPassed Callees af q
       seen_before q r here at less = seen q r here at (λ l. next.1.1 q l less)
 
-      by_callees : (b : Bool) → has_callees who.0 ≡ b → counts end cs c ≡ true → Leads_to (call_goes b cs c)
-      by_callees true has counted = kept cz (query.After ckey) m (goes.Callee (cs ++ c ∷ [])) refl (λ h. cc)
+      by_callees : (b : Bool) → has_callees who.0 ≡ b → counts end cs c ≡ true → Moves cz m (call_goes b cs c)
+      by_callees true has counted = moves cz m (goes.Callee (cs ++ c ∷ [])) refl (λ h. cc)
           (to_calls cz (cs ++ c ∷ []) None None m v v.decided (from_none (cs ++ c ∷ [])) (starts_within cs c v.member.0 from counted, way_more m owns_all cs c v.member.1 (has, next.1.0))
           (levels_pushed m owns_all (IsWithin bare) cs c (IsPassed Callees af) (IsPassed Callees None) v.callees (closed_if (λ n. n < c.step) seen_before) (λ d k at. absurd at.1)))
-      by_callees false has counted = kept cz (query.After ckey) m (goes.Passed c.step) refl (λ h. cc)
+      by_callees false has counted = moves cz m (goes.Passed c.step) refl (λ h. cc)
           (to_calls cz cs (Some c.step) u m v v.decided from v.member
           (levels_with m owns_all (IsWithin bare) cs (IsPassed Callees af) (IsPassed Callees (Some c.step)) v.callees (λ d k at. let clash = sym has ∙ k.0 in cc)))
 
-      by_counts : (b : Bool) → counts end cs c ≡ b → Leads_to (if b then call_goes (has_callees who.0) cs c else goes.On Next)
+      by_counts : (b : Bool) → counts end cs c ≡ b → Moves cz m (if b then call_goes (has_callees who.0) cs c else goes.On Next)
       by_counts true h = by_callees (has_callees who.0) refl h
       by_counts false h = to_locks (closed_if (λ n. Unit {0}) (λ q r here at y. seen_before q r here at (counted_before cs c q h at)))
 
-    by_call : (f : Option Called) → IsNextCall who.1 who.0 (calls_after x cs af) m f → Leads_to (calls_goes end who cs f)
+    by_call : (f : Option Called) → IsNextCall who.1 who.0 (calls_after x cs af) m f → Moves cz m (calls_goes end who cs f)
     by_call None next = to_locks (closed_if (λ n. Unit {0}) (λ q r here at y. seen q r here at (next q)))
     by_call (Some c) next = by_counts c next (counts end cs c) refl
 
-    call_turn : (now : ℕ) → FindsFirstCall who m → let q = query.After ckey in Leads cz q m (rows_after q now m) (end_goes x end commit cs Callees (told_by q now m))
+    call_turn : (now : ℕ) → FindsFirstCall who m → Turns cz now m
     call_turn now first =
         let e = next_row m ckey in
         by_call (call_after who.1 who.0 e) (next_call who.1 who.0 m first (calls_after x cs af) e (next_row_least m ckey) (call_after who.1 who.0 e) refl)
@@ -507,12 +499,12 @@ module _ (x : TxId) (end : ℕ) (commit : Bool) where
 
   -- ---- the next item of who is visited
   -- a participant gets its finish next
-  past_locks : (cs : List Called) (af : Option ℕ) (i : Option Item) (u : Option Value) (m : Rows) → let z = visit cs af i u Next in Visited (walk z) m → (q : Query) → AllFreed bare m (visited_by x cs) → Leads z q m m (last_goes (is_owner cs))
-  past_locks [] af i u m v q freed = record { others = λ k off. refl; left = refl; visited = v; done = λ h. (v.decided, record { owner = freed; closed = closed; freed = λ c cs member. (v.released c cs member (closed c cs member)).0 }) }
+  past_locks : (cs : List Called) (af : Option ℕ) (i : Option Item) (u : Option Value) (m : Rows) → let z = visit cs af i u Next in Visited (walk z) m → AllFreed bare m (visited_by x cs) → Moves z m (last_goes (is_owner cs))
+  past_locks [] af i u m v freed = record { others = λ k off. refl; left = refl; visited = v; done = λ h. (v.decided, record { owner = freed; closed = closed; freed = λ c cs member. (v.released c cs member (closed c cs member)).0 }) }
     where
       closed : (c : Called) (cs : List Called) → IsMember bare m (c ∷ cs) → is_closed m (visited_by x (c ∷ cs)) ≡ true
       closed = all_closed m v.released (λ c k at. v.callees c k (at, tt))
-  past_locks (c ∷ cs) af i u m v q freed = kept (visit (c ∷ cs) af i u Next) q m (goes.On Stamp) refl (λ h. cc)
+  past_locks (c ∷ cs) af i u m v freed = moves (visit (c ∷ cs) af i u Next) m (goes.On Stamp) refl (λ h. cc)
       (goes_to (visit (c ∷ cs) af i u Next) (visit (c ∷ cs) af i u Stamp) m v v.decided tt refl tt v.member tt v.callees (λ q r here past. freed q r here))
 
   module _ (cs : List Called) (af : Option ℕ) (u : Option Value) (m : Rows) (first : FindsFirstLock x (visited_by x cs) m) where
@@ -545,7 +537,7 @@ module _ (x : TxId) (end : ℕ) (commit : Bool) where
     at_item i v j freed true is = goes_to (nz i) (visit cs af (Some j) None Shadow) m v v.decided refl tt v.from v.member is v.callees freed
     at_item i v j freed false is = goes_to (nz i) (visit cs af (Some j) None (Free Try)) m v v.decided refl tt v.from v.member (ap (λ c. given_value c (map.get m (aside_row bare np.1 j))) (sym is)) v.callees freed
 
-    next_turn : (i : Option Item) (now : ℕ) → Visited (walk (nz i)) m → let q = query.After (key_after i) in Leads (nz i) q m (rows_after q now m) (end_goes x end commit cs Next (told_by q now m))
+    next_turn : (i : Option Item) (now : ℕ) → Visited (walk (nz i)) m → Turns (nz i) now m
     next_turn i now v = by (told_item found) refl
       where
         found : Option (RowKey × Row)
@@ -554,27 +546,20 @@ module _ (x : TxId) (end : ℕ) (commit : Bool) where
         least : IsNext m (key_after i) found
         least = next_row_least m (key_after i)
 
-        by : (f : Option Item) → told_item found ≡ f → Leads (nz i) (query.After (key_after i)) m m (next_goes cs f)
-        by None is = past_locks cs af i u m v (query.After (key_after i)) (freed_all i v found least is)
-        by (Some j) is = kept (nz i) (query.After (key_after i)) m (goes.Item j.0 j.1) refl (λ h. cc) (at_item i v j (λ q r here less. freed_before i v j q r found least is here less) commit refl)
+        by : (f : Option Item) → told_item found ≡ f → Moves (nz i) m (next_goes cs f)
+        by None is = past_locks cs af i u m v (freed_all i v found least is)
+        by (Some j) is = moves (nz i) m (goes.Item j.0 j.1) refl (λ h. cc) (at_item i v j (λ q r here less. freed_before i v j q r found least is here less) commit refl)
 
   -- ---- the shadow of an item
-  module _ (cs : List Called) (af : Option ℕ) (j : Item) (u : Option Value) (now : ℕ) (m : Rows) where
-    abbrev sz : Visit
-    sz = visit cs af (Some j) u Shadow
-
-    abbrev sk : RowKey
-    sk = aside_row bare (visited_by x cs).1 j
-
-    abbrev sq : Query
-    sq = query.Act sk Look
-
-    look_turn : Visited (walk sz) m → Leads sz sq m (rows_after sq now m) (end_goes x end commit cs Shadow (told_by sq now m))
-    look_turn v =
-        subst (λ n. Leads sz sq m n (end_goes x end commit cs Shadow (told_by sq now m))) (sym (looked now sk m))
-        (subst (λ g. Leads sz sq m m (value_goes g)) (sym (shadow_told now (map.get m sk) (v.sound (visited_by x cs).1 j).1))
-        (kept sz sq m (goes.Value (shadow_value (map.get m sk))) refl (λ h. cc)
-        (goes_to sz (visit cs af (Some j) (shadow_value (map.get m sk)) (Free Try)) m v v.decided refl tt v.from v.member (ap (λ c. given_value c (map.get m sk)) (sym v.gives)) v.callees v.freed)))
+  look_turn : (cs : List Called) (af : Option ℕ) (j : Item) (u : Option Value) (now : ℕ) (m : Rows) → let z = visit cs af (Some j) u Shadow in Visited (walk z) m → Turns z now m
+  look_turn cs af j u now m v =
+      let z = visit cs af (Some j) u Shadow in
+      let k = aside_row bare (visited_by x cs).1 j in
+      let s = shadow_value (map.get m k) in
+      subst (λ n. Leads z (walk_asks (walk z)) m n (walk_goes (walk z) (told_by (walk_asks (walk z)) now m))) (sym (looked now k m))
+      (subst (λ g. Moves z m (value_goes g)) (sym (shadow_told now (map.get m k) (v.sound (visited_by x cs).1 j).1))
+      (moves z m (goes.Value s) refl (λ h. cc)
+      (goes_to z (visit cs af (Some j) s (Free Try)) m v v.decided refl tt v.from v.member (ap (λ c. given_value c (map.get m k)) (sym v.gives)) v.callees v.freed)))
 
   -- ---- an item is given back
   module _ (cs : List Called) (af : Option ℕ) (j : Item) (u : Option Value) (f : WriteAt) (m n : Rows) (v : Visited (walk (visit cs af (Some j) u (Free f))) m) where
@@ -591,7 +576,7 @@ module _ (x : TxId) (end : ℕ) (commit : Bool) where
     as_free = record { home = fp.1; item = Plain j.0 j.1; place = place; who = owner.Tx x; op = op.Free u; at = f }
 
     abbrev Frees_to : EndGoes → Type 0
-    Frees_to g = Leads fz (write_asks (item_row fp.1 j) place (owner.Tx x) (op.Free u) f) m n g
+    Frees_to g = Leads fz (walk_asks (walk fz)) m n g
 
     -- the item stands, or is nobody's
     abbrev Became : Content → Content → Type 0
@@ -648,11 +633,11 @@ module _ (x : TxId) (end : ℕ) (commit : Bool) where
     free_by (writes.On a) l = again (logged_so (writes.On a)) l a l.logs
     free_by (writes.Done nt true) l =
         let did = l.logs.1.1 in
-        onward (wsays.Done nt true) l (inr (l.logs.1.0, is_owned (owns (owner.Tx x) (item_in fp.1 m j).owner) did.0, did.1)) (ap (is_own bare) did.1)
+        onward (wsays.Done nt true) l (inr (l.logs.1.0, is_owned (owns (owner.Tx x) (item_in fp.1 m j).owner) None did.0, did.1)) (ap (is_own bare) did.1)
     free_by (writes.Done nt false) l =
         let same = l.logs.1 in
         onward (wsays.Done nt false) l (inl same) (ap (is_own bare) same ∙ v.marked cs v.member j nt (ap (λ (c : Content). note_at c.notes place) (sym same) ∙ l.logs.0))
-    free_by writes.NotOwner l = onward wsays.NotOwner l (inl l.logs.2) (ap (is_own bare) l.logs.2 ∙ not_owned (owns (owner.Tx x) (item_in fp.1 m j).owner) l.logs.1)
+    free_by writes.NotOwner l = onward wsays.NotOwner l (inl l.logs.2) (ap (is_own bare) l.logs.2 ∙ is_owned (owns (owner.Tx x) (item_in fp.1 m j).owner) (Some wsays.NotOwner) l.logs.1)
     free_by (writes.Held o) l = again (wsays.Held o) l f l.logs.2
 
   -- ---- a participant gets its finish
@@ -669,11 +654,8 @@ module _ (x : TxId) (end : ℕ) (commit : Bool) where
     abbrev pk : RowKey
     pk = intent_key sp.0 sp.1
 
-    abbrev pq : Query
-    pq = query.Act pk StampAct
-
     abbrev pn : Rows
-    pn = rows_after pq now m
+    pn = rows_after (walk_asks (walk pz)) now m
 
     stamped : Stamps (map.get m pk) (map.get pn pk)
     stamped = subst (Stamps (map.get m pk)) (sym (here_set m pk (act StampAct now (map.get m pk)).0)) (stamp_leaves now (map.get m pk))
@@ -707,65 +689,55 @@ module _ (x : TxId) (end : ℕ) (commit : Bool) where
       sound = λ h q. (subst SoundAt (sym (same_off (item_row h q) (λ y. cc))) (v.sound h q).0, subst SoundAt (sym (same_off (aside_row bare h q) (λ y. cc))) (v.sound h q).1);
     }) pz v
 
-    abbrev caller : Member
-    caller = visited_by x front
-
     -- the caller's callees are closed up to this one
-    closed_to : AreClosed pn caller (λ s. AtEnd (IsWithin bare) front s × (s ≤ c.step))
+    closed_to : let caller = visited_by x front in AreClosed pn caller (λ s. AtEnd (IsWithin bare) front s × (s ≤ c.step))
     closed_to d k at = elim (at_most_or c.step d.step) [
       | inl l ↦
           let level : d.step ≡ c.step = omega (arith, l, at.1) in
-          let func : d.func ≡ c.func = ap (func_or 0) (sym k.1 ∙ ap (called_at pn caller) level ∙ (way_last pn owns_all front c stood_stamp.member.1).1) in
+          let func : d.func ≡ c.func = ap (func_or 0) (sym k.1 ∙ ap (called_at pn (visited_by x front)) level ∙ (way_last pn owns_all front c stood_stamp.member.1).1) in
           let same : d ≡ c = λ y. record { step = level y; func = func y } in
-          ap (λ e. is_closed pn (callee_of caller e)) same ∙ ap (is_closed pn) (sym (member_more owns_all front c)) ∙ closed_here
+          ap (λ e. is_closed pn (callee_of (visited_by x front) e)) same ∙ ap (is_closed pn) (sym (member_more owns_all front c)) ∙ closed_here
       | inr l ↦ levels_last pn owns_all (IsWithin bare) front c (IsPassed Stamp af) stood_stamp.callees d k (at.0, l)
     ]
 
-    from_last : (ds : List Called) → StartsWithin bare (ds ++ c ∷ []) → IsFrom bare ds (Some c.step)
-    from_last [] w = w.0
-    from_last (d ∷ ds) w = tt
+    begins_front : (ds : List Called) → StartsWithin bare (ds ++ c ∷ []) → IsFrom bare ds (Some c.step) × StartsWithin bare ds
+    begins_front [] w = (w.0, tt)
+    begins_front (d ∷ ds) w = (tt, w)
 
-    starts_front : (ds : List Called) → StartsWithin bare (ds ++ c ∷ []) → StartsWithin bare ds
-    starts_front [] w = tt
-    starts_front (d ∷ ds) w = w
-
-    stamp_turn : Leads pz pq m pn goes.Back
+    stamp_turn : Turns pz now m
     stamp_turn = record {
       others = off_here;
       left = stamped;
       visited = subst (λ (s : Option (List Called × Called)). Visited (walk (back_from pz s)) pn) (sym (split_front front c))
-          (to_calls pz front (Some c.step) None pn stood_stamp stood_stamp.decided (from_last front v.member.0) (starts_front front v.member.0, way_front pn owns_all front c stood_stamp.member.1)
+          (to_calls pz front (Some c.step) None pn stood_stamp stood_stamp.decided (begins_front front v.member.0).0 ((begins_front front v.member.0).1, way_front pn owns_all front c stood_stamp.member.1)
           (levels_popped pn owns_all (IsWithin bare) front c (IsPassed Stamp af) (IsPassed Callees (Some c.step)) stood_stamp.callees closed_to));
       done = λ h. cc;
     }
 
   -- ---- all stages
   module _ (now : ℕ) (m : Rows) where
-    abbrev Turns : List Called → Option ℕ → Option Item → Option Value → EndAt → Type 0
-    Turns cs af i u a = let q = visit_asks x end commit cs af i u a in Leads (visit cs af i u a) q m (rows_after q now m) (end_goes x end commit cs a (told_by q now m))
-
     -- the decision comes first
-    decide_turn : (cs : List Called) (af : Option ℕ) (i : Option Item) (u : Option Value) → Visited (walk (visit cs af i u Decide)) m → Turns cs af i u Decide
+    decide_turn : (cs : List Called) (af : Option ℕ) (i : Option Item) (u : Option Value) → Visited (walk (visit cs af i u Decide)) m → Turns (visit cs af i u Decide) now m
     decide_turn [] None None u v = by_told u now m v (map.get m (decision_row bare)) refl
     decide_turn [] None (Some j) u v = absurd (let clash = v.item in cc)
     decide_turn [] (Some s) i u v = absurd (let clash = v.begins.1 in cc)
     decide_turn (c ∷ cs) af i u v = absurd (let clash = v.begins.0 in cc)
 
-    pub turns : (cs : List Called) (af : Option ℕ) (i : Option Item) (u : Option Value) (a : EndAt) → FindsFirstCall (visited_by x cs) m → FindsFirstLock x (visited_by x cs) m → Visited (walk (visit cs af i u a)) m → Turns cs af i u a
+    pub turns : (cs : List Called) (af : Option ℕ) (i : Option Item) (u : Option Value) (a : EndAt) → FindsFirstCall (visited_by x cs) m → FindsFirstLock x (visited_by x cs) m → Visited (walk (visit cs af i u a)) m → Turns (visit cs af i u a) now m
     turns cs af i u Decide calls locks v = decide_turn cs af i u v
     turns cs af None u Callees calls locks v = call_turn cs af u m v now calls
     turns cs af (Some j) u Callees calls locks v = let clash = v.item in cc
     turns cs af i u Next calls locks v = next_turn cs af u m locks i now v
     turns cs af (Some j) u Shadow calls locks v = look_turn cs af j u now m v
     turns cs af (Some j) u (Free f) calls locks v =
-        let q = visit_asks x end commit cs af (Some j) u (Free f) in
+        let q = walk_asks (walk (visit cs af (Some j) u (Free f))) in
         let n = rows_after q now m in
         free_by cs af j u f m n v (write_goes note.Freed (told_by q now m)) (by_op (as_free cs af j u f m n v) m n (v.sound (visited_by x cs).1 j).0 f now refl)
     turns cs af None u Shadow calls locks v = let clash = v.item in cc
     turns cs af None u (Free f) calls locks v = let clash = v.item in cc
     turns cs af i u Stamp calls locks v =
         let e = ends_in cs v.begins in
-        subst (λ (ds : List Called). Visited (walk (visit ds af i u Stamp)) m → Turns ds af i u Stamp) (sym e.parts) (λ w. stamp_turn e.front e.last af i u now m w) v
+        subst (λ (ds : List Called). Visited (walk (visit ds af i u Stamp)) m → Turns (visit ds af i u Stamp) now m) (sym e.parts) (λ w. stamp_turn e.front e.last af i u now m w) v
 
 pub ends_are_visits : EndsAreVisits
 ends_are_visits w x now old new s some hops h =
