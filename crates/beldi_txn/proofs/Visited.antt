@@ -94,6 +94,15 @@ was_called : (o : Option Row) (f : ℕ) → option_map func_called o ≡ Some f 
 was_called None f h = cc
 was_called (Some r) f h = refl
 
+-- calls at rows with the same of them
+module _ (m n : Rows) (same : (p : Member) (s : ℕ) → map.get n (call_key p.1 p.0 s) ≡ map.get m (call_key p.1 p.0 s)) where
+  call_kept : (p : Member) (c : Called) → IsCall m p c → IsCall n p c
+  call_kept p c k = (k.0, ap (option_map func_called) (same p c.step) ∙ k.1)
+
+  way_kept : (p : Member) (cs : List Called) → IsWay m p cs → IsWay n p cs
+  way_kept p [] w = tt
+  way_kept p (c ∷ cs) w = (call_kept p c w.0, way_kept (callee_of p c) cs w.1)
+
 -- ---- what others do
 decided_stands : (a : EndAt) (w : EndWalk) (m n : Rows) → Leaves w m n → DecidedAt a w m → DecidedAt a w n
 decided_stands Decide w m n h d = tt
@@ -123,7 +132,7 @@ module _ (w : EndWalk) (m n : Rows) (h : Leaves w m n) where
   below_on d ds (e ∷ es) Past member leads l = (
     level_on (d ∷ ds) (λ s. Unit {0}) (λ s. s < e.step) member (λ s at. tt) l.0,
     subst (λ (p : Member). IsWay m p es → Levels m p (λ s. Unit {0}) es Past → Levels n p (λ s. Unit {0}) es Past) (member_more (callee_of (owner_of w) d) ds e)
-    (below_on d (ds ++ e ∷ []) es Past (member.0, way_more m (owner_of w) (d ∷ ds) e member.1 leads.0)) leads.1 l.1,
+        (below_on d (ds ++ e ∷ []) es Past (member.0, way_more m (owner_of w) (d ∷ ds) e member.1 leads.0)) leads.1 l.1,
   )
 
   levels_stand : (cs : List Called) (Past : ℕ → Type 0) → IsMember w m cs → Levels m (owner_of w) (IsWithin w) cs Past → Levels n (owner_of w) (IsWithin w) cs Past
@@ -247,6 +256,9 @@ module _ (x : TxId) (end : ℕ) (commit : Bool) where
   abbrev owns_all : Member
   owns_all = owner_of bare
 
+  abbrev who : List Called → Member
+  who cs = visited_by x cs
+
   pub record Leads (z : Visit) (q : Query) (m n : Rows) (g : EndGoes) : Type 0 where
     pub others : (k : RowKey) → is_eq (key_cmp k (key_asked q)) ≡ false → map.get n k ≡ map.get m k
     pub left : LeftAt z.at (walk z) z.item (said_of g) m n
@@ -267,8 +279,8 @@ module _ (x : TxId) (end : ℕ) (commit : Bool) where
 
   -- at the same rows, all that is said of everyone is so at any visit
   goes_to : (z y : Visit) (m : Rows) → Visited (walk z) m → DecidedAt y.at (walk y) m → HasItem y.at y.item → HasWay y.at y.way y.after → IsFrom bare y.way y.after → IsMember bare m y.way
-      → Gives y.at (walk y) (visited_by x y.way).1 m y.item → Levels m owns_all (IsWithin bare) y.way (IsPassed y.at y.after)
-      → ((q : Item) (r : Row) → let p = visited_by x y.way in map.get m (lock_row bare p q) ≡ Some r → IsPast y.at (walk y) p y.item q → is_own bare (item_in p.1 m q) ≡ false) → Visited (walk y) m
+      → Gives y.at (walk y) (who y.way).1 m y.item → Levels m owns_all (IsWithin bare) y.way (IsPassed y.at y.after)
+      → ((q : Item) (r : Row) → let p = who y.way in map.get m (lock_row bare p q) ≡ Some r → IsPast y.at (walk y) p y.item q → is_own bare (item_in p.1 m q) ≡ false) → Visited (walk y) m
   goes_to z y m v decided item begins from member gives callees freed = record {
     decided = decided;
     item = item;
@@ -298,20 +310,12 @@ module _ (x : TxId) (end : ℕ) (commit : Bool) where
     -- an item is as it was, or is not the transaction's
     items : (f : ℕ) (q : Item) → (item_in f n q ≡ item_in f m q) ⊎ (is_own bare (item_in f n q) ≡ false)
     -- who is closed was so, or has given back all
-    released : (c : Called) (cs : List Called) → IsMember bare m (c ∷ cs) → is_closed n (visited_by x (c ∷ cs)) ≡ true → (is_closed m (visited_by x (c ∷ cs)) ≡ true) ⊎ IsReleased bare m (visited_by x (c ∷ cs))
+    released : (c : Called) (cs : List Called) → IsMember bare m (c ∷ cs) → is_closed n (who (c ∷ cs)) ≡ true → (is_closed m (who (c ∷ cs)) ≡ true) ⊎ IsReleased bare m (who (c ∷ cs))
     sound : AreSound bare n
 
   module _ (m n : Rows) (h : Shows m n) where
-    call_back : (p : Member) (c : Called) → IsCall n p c → IsCall m p c
-    call_back p c k = (k.0, ap (option_map func_called) (sym (h.calls p c.step)) ∙ k.1)
-
-    way_back : (p : Member) (cs : List Called) → IsWay n p cs → IsWay m p cs
-    way_back p [] w = tt
-    way_back p (c ∷ cs) w = (call_back p c w.0, way_back (callee_of p c) cs w.1)
-
-    way_on : (p : Member) (cs : List Called) → IsWay m p cs → IsWay n p cs
-    way_on p [] w = tt
-    way_on p (c ∷ cs) w = ((w.0.0, ap (option_map func_called) (h.calls p c.step) ∙ w.0.1), way_on (callee_of p c) cs w.1)
+    call_back : (p : Member) (s : ℕ) → map.get m (call_key p.1 p.0 s) ≡ map.get n (call_key p.1 p.0 s)
+    call_back p s = sym (h.calls p s)
 
     own_on : (f : ℕ) (q : Item) → is_own bare (item_in f m q) ≡ false → is_own bare (item_in f n q) ≡ false
     own_on f q was = elim (h.items f q) [
@@ -321,18 +325,18 @@ module _ (x : TxId) (end : ℕ) (commit : Bool) where
 
     released_on : AreReleased bare m → AreReleased bare n
     released_on all c cs member closed =
-        let was : IsMember bare m (c ∷ cs) = (member.0, way_back owns_all (c ∷ cs) member.1) in
+        let was : IsMember bare m (c ∷ cs) = (member.0, way_kept n m call_back owns_all (c ∷ cs) member.1) in
         elim (h.released c cs was closed) [
-          | inl k ↦ on (visited_by x (c ∷ cs)) (all c cs was k)
-          | inr k ↦ on (visited_by x (c ∷ cs)) k
+          | inl k ↦ on (who (c ∷ cs)) (all c cs was k)
+          | inr k ↦ on (who (c ∷ cs)) k
         ]
       where
         on : (p : Member) → IsReleased bare m p → IsReleased bare n p
-        on p k = (λ q r there. own_on p.1 q (k.0 q r (sym (h.locks p q) ∙ there)), λ c called at. h.closed (callee_of p c) (k.1 c (call_back p c called) at))
+        on p k = (λ q r there. own_on p.1 q (k.0 q r (sym (h.locks p q) ∙ there)), λ c called at. h.closed (callee_of p c) (k.1 c (call_kept n m call_back p c called) at))
 
     marked_on : AreMarked bare m → AreMarked bare n
-    marked_on v cs member q nt noted = elim (h.items (visited_by x cs).1 q) [
-      | inl same ↦ ap (is_own bare) same ∙ v cs (member.0, way_back owns_all cs member.1) q nt (sym (ap (λ (c : Content). note_at c.notes (free_place x end cs)) same) ∙ noted)
+    marked_on v cs member q nt noted = elim (h.items (who cs).1 q) [
+      | inl same ↦ ap (is_own bare) same ∙ v cs (member.0, way_kept n m call_back owns_all cs member.1) q nt (sym (ap (λ (c : Content). note_at c.notes (free_place x end cs)) same) ∙ noted)
       | inr none ↦ none
     ]
 
@@ -341,10 +345,10 @@ module _ (x : TxId) (end : ℕ) (commit : Bool) where
     stands z v = visits_stand (walk z) m n v (record {
       decision = h.decision;
       asides = λ f q. ap shadow_value (h.asides f q);
-      way = λ w. (w.0, way_on owns_all z.way w.1);
-      calls = λ cs w c at. call_back (visited_by x cs) c;
-      locks = λ cs w q r here. ap is_some (sym (h.locks (visited_by x cs) q) ∙ here);
-      closed = λ c cs w. h.closed (visited_by x (c ∷ cs));
+      way = λ w. (w.0, way_kept m n h.calls owns_all z.way w.1);
+      calls = λ cs w c at. call_kept n m call_back (who cs) c;
+      locks = λ cs w q r here. ap is_some (sym (h.locks (who cs) q) ∙ here);
+      closed = λ c cs w. h.closed (who (c ∷ cs));
       items = own_on;
       released = released_on v.released;
       marks = marked_on v.marked;
@@ -385,7 +389,7 @@ module _ (x : TxId) (end : ℕ) (commit : Bool) where
           asides = λ f q. same (aside_row bare f q) (λ y. cc);
           closed = λ p c. ap row_closed (same (intent_key p.0 p.1) (λ y. cc)) ∙ c;
           items = λ f q. inl (ap content_in (same (item_row f q) (λ y. cc)));
-          released = λ c ds w k. inl (sym (ap row_closed (same (intent_key (visited_by x (c ∷ ds)).0 (visited_by x (c ∷ ds)).1) (λ y. cc))) ∙ k);
+          released = λ c ds w k. inl (sym (ap row_closed (same (intent_key (who (c ∷ ds)).0 (who (c ∷ ds)).1) (λ y. cc))) ∙ k);
           sound = λ f q. (subst SoundAt (sym (same (item_row f q) (λ y. cc))) (v.sound f q).0, subst SoundAt (sym (same (aside_row bare f q) (λ y. cc))) (v.sound f q).1);
         }
 
@@ -405,11 +409,8 @@ module _ (x : TxId) (end : ℕ) (commit : Bool) where
   from_none [] = tt
   from_none (c ∷ cs) = tt
 
-  abbrev Counted : List Called → ℕ → Type 0
-  Counted cs = AtEnd (IsWithin bare) cs
-
   -- a call that counts was passed, or is past those that were
-  passed_or : (cs : List Called) (af : Option ℕ) (q : ℕ) → Counted cs q → IsPassed Callees af q ⊎ IsAfter (calls_after x cs af) q
+  passed_or : (cs : List Called) (af : Option ℕ) (q : ℕ) → AtEnd (IsWithin bare) cs q → IsPassed Callees af q ⊎ IsAfter (calls_after x cs af) q
   passed_or [] None q at = inr at.0
   passed_or [] (Some s) q at = at_most_or q s
   passed_or (d ∷ ds) None q at = inr tt
@@ -425,7 +426,7 @@ module _ (x : TxId) (end : ℕ) (commit : Bool) where
   starts_within (d ∷ ds) c w from h = w
 
   -- a call at the end's step or later is none of the transaction's
-  counted_before : (cs : List Called) (c : Called) (n : ℕ) → counts end cs c ≡ false → Counted cs n → n < c.step
+  counted_before : (cs : List Called) (c : Called) (n : ℕ) → counts end cs c ≡ false → AtEnd (IsWithin bare) cs n → n < c.step
   counted_before [] c n h at = let a = ltb-false c.step end h in let b = at.1 in omega (arith, a, b)
   counted_before (d ∷ ds) c n h at = cc
 
@@ -433,36 +434,33 @@ module _ (x : TxId) (end : ℕ) (commit : Bool) where
     abbrev cz : Visit
     cz = visit cs af None u Callees
 
-    abbrev who : Member
-    who = visited_by x cs
-
     abbrev ckey : RowKey
-    ckey = invokes_after who.1 who.0 (calls_after x cs af)
+    ckey = invokes_after (who cs).1 (who cs).0 (calls_after x cs af)
 
-    seen : (q : ℕ) (r : Row) → map.get m (call_key who.1 who.0 q) ≡ Some r → Counted cs q → (IsAfter (calls_after x cs af) q → map.get m (call_key who.1 who.0 q) ≡ None) → IsPassed Callees af q
+    seen : (q : ℕ) (r : Row) → map.get m (call_key (who cs).1 (who cs).0 q) ≡ Some r → AtEnd (IsWithin bare) cs q → (IsAfter (calls_after x cs af) q → map.get m (call_key (who cs).1 (who cs).0 q) ≡ None) → IsPassed Callees af q
     seen q r here at none = elim (passed_or cs af q at) [
       | inl past ↦ past
       | inr l ↦ let clash = sym here ∙ none l in cc
     ]
 
-    closed_if : (At : ℕ → Type 0) → ((q : ℕ) (r : Row) → map.get m (call_key who.1 who.0 q) ≡ Some r → Counted cs q → At q → IsPassed Callees af q) → AreClosed m who (λ n. Counted cs n × At n)
-    closed_if At seen c k at = 
-        let o = map.get m (call_key who.1 who.0 c.step) in
+    closed_if : (At : ℕ → Type 0) → ((q : ℕ) (r : Row) → map.get m (call_key (who cs).1 (who cs).0 q) ≡ Some r → AtEnd (IsWithin bare) cs q → At q → IsPassed Callees af q) → AreClosed m (who cs) (λ n. AtEnd (IsWithin bare) cs n × At n)
+    closed_if At seen c k at =
+        let o = map.get m (call_key (who cs).1 (who cs).0 c.step) in
         let r = row_in o (was_called o c.func k.1) in
         levels_top m owns_all (IsWithin bare) cs (IsPassed Callees af) v.callees c k (at.0, seen c.step r.0 r.1 at.0 at.1)
 
-    to_locks : AreClosed m who (λ n. Counted cs n × Unit {0}) → Moves cz m (goes.On Next)
+    to_locks : AreClosed m (who cs) (λ n. AtEnd (IsWithin bare) cs n × Unit {0}) → Moves cz m (goes.On Next)
     to_locks closed = moves cz m (goes.On Next) refl (λ h. cc)
         (goes_to cz (visit cs af None u Next) m v v.decided tt tt v.from v.member tt (levels_with m owns_all (IsWithin bare) cs (IsPassed Callees af) (IsPassed Next af) v.callees closed) (λ q r here past. absurd past))
 
-    module _ (c : Called) (next : IsNextCall who.1 who.0 (calls_after x cs af) m (Some c)) where
+    module _ (c : Called) (next : IsNextCall (who cs).1 (who cs).0 (calls_after x cs af) m (Some c)) where
       from : IsFrom bare cs (Some c.step)
       from = from_told cs af c.step v.from next.0
 
-      seen_before : (q : ℕ) (r : Row) → map.get m (call_key who.1 who.0 q) ≡ Some r → Counted cs q → q < c.step → IsPassed Callees af q
+      seen_before : (q : ℕ) (r : Row) → map.get m (call_key (who cs).1 (who cs).0 q) ≡ Some r → AtEnd (IsWithin bare) cs q → q < c.step → IsPassed Callees af q
       seen_before q r here at less = seen q r here at (λ l. next.1.1 q l less)
 
-      by_callees : (b : Bool) → has_callees who.0 ≡ b → counts end cs c ≡ true → Moves cz m (call_goes b cs c)
+      by_callees : (b : Bool) → has_callees (who cs).0 ≡ b → counts end cs c ≡ true → Moves cz m (call_goes b cs c)
       by_callees true has counted = moves cz m (goes.Callee (cs ++ c ∷ [])) refl (λ h. cc)
           (to_calls cz (cs ++ c ∷ []) None None m v v.decided (from_none (cs ++ c ∷ [])) (starts_within cs c v.member.0 from counted, way_more m owns_all cs c v.member.1 (has, next.1.0))
           (levels_pushed m owns_all (IsWithin bare) cs c (IsPassed Callees af) (IsPassed Callees None) v.callees (closed_if (λ n. n < c.step) seen_before) (λ d k at. absurd at.1)))
@@ -470,23 +468,23 @@ module _ (x : TxId) (end : ℕ) (commit : Bool) where
           (to_calls cz cs (Some c.step) u m v v.decided from v.member
           (levels_with m owns_all (IsWithin bare) cs (IsPassed Callees af) (IsPassed Callees (Some c.step)) v.callees (λ d k at. let clash = sym has ∙ k.0 in cc)))
 
-      by_counts : (b : Bool) → counts end cs c ≡ b → Moves cz m (if b then call_goes (has_callees who.0) cs c else goes.On Next)
-      by_counts true h = by_callees (has_callees who.0) refl h
+      by_counts : (b : Bool) → counts end cs c ≡ b → Moves cz m (if b then call_goes (has_callees (who cs).0) cs c else goes.On Next)
+      by_counts true h = by_callees (has_callees (who cs).0) refl h
       by_counts false h = to_locks (closed_if (λ n. Unit {0}) (λ q r here at y. seen_before q r here at (counted_before cs c q h at)))
 
-    by_call : (f : Option Called) → IsNextCall who.1 who.0 (calls_after x cs af) m f → Moves cz m (calls_goes end who cs f)
+    by_call : (f : Option Called) → IsNextCall (who cs).1 (who cs).0 (calls_after x cs af) m f → Moves cz m (calls_goes end (who cs) cs f)
     by_call None next = to_locks (closed_if (λ n. Unit {0}) (λ q r here at y. seen q r here at (next q)))
     by_call (Some c) next = by_counts c next (counts end cs c) refl
 
-    call_turn : (now : ℕ) → FindsFirstCall who m → Turns cz now m
+    call_turn : (now : ℕ) → FindsFirstCall (who cs) m → Turns cz now m
     call_turn now first =
         let e = next_row m ckey in
-        by_call (call_after who.1 who.0 e) (next_call who.1 who.0 m first (calls_after x cs af) e (next_row_least m ckey) (call_after who.1 who.0 e) refl)
+        by_call (call_after (who cs).1 (who cs).0 e) (next_call (who cs).1 (who cs).0 m first (calls_after x cs af) e (next_row_least m ckey) (call_after (who cs).1 (who cs).0 e) refl)
 
   -- ---- after the last lock the owner is done: all who took part are closed, as each of them has given back all and so have its callees
   module _ (m : Rows) (released : AreReleased bare m) (own : AreClosed m owns_all (IsWithin bare)) where
     -- from a way to a participant that is closed, on to those below it
-    below_closed : (c : Called) (ds : List Called) → IsMember bare m (c ∷ ds) → is_closed m (visited_by x (c ∷ ds)) ≡ true → (es : List Called) → IsWay m (visited_by x (c ∷ ds)) es → is_closed m (member_at (visited_by x (c ∷ ds)) es) ≡ true
+    below_closed : (c : Called) (ds : List Called) → IsMember bare m (c ∷ ds) → is_closed m (who (c ∷ ds)) ≡ true → (es : List Called) → IsWay m (who (c ∷ ds)) es → is_closed m (member_at (who (c ∷ ds)) es) ≡ true
     below_closed c ds member closed [] w = closed
     below_closed c ds member closed (e ∷ es) w =
         let k = (released c ds member closed).1 e w.0 tt in
@@ -494,51 +492,45 @@ module _ (x : TxId) (end : ℕ) (commit : Bool) where
         subst (λ (p : Member). is_closed m (member_at p es) ≡ true) same
         (below_closed c (ds ++ e ∷ []) (member.0, way_more m owns_all (c ∷ ds) e member.1 w.0) (subst (λ (p : Member). is_closed m p ≡ true) (sym same) k) es (subst (λ (p : Member). IsWay m p es) (sym same) w.1))
 
-    all_closed : (c : Called) (cs : List Called) → IsMember bare m (c ∷ cs) → is_closed m (visited_by x (c ∷ cs)) ≡ true
+    all_closed : (c : Called) (cs : List Called) → IsMember bare m (c ∷ cs) → is_closed m (who (c ∷ cs)) ≡ true
     all_closed c cs member = below_closed c [] (member.0, (member.1.0, tt)) (own c member.1.0 member.0) cs member.1.1
 
   -- ---- the next item of who is visited
   -- a participant gets its finish next
-  past_locks : (cs : List Called) (af : Option ℕ) (i : Option Item) (u : Option Value) (m : Rows) → let z = visit cs af i u Next in Visited (walk z) m → AllFreed bare m (visited_by x cs) → Moves z m (last_goes (is_owner cs))
+  past_locks : (cs : List Called) (af : Option ℕ) (i : Option Item) (u : Option Value) (m : Rows) → let z = visit cs af i u Next in Visited (walk z) m → AllFreed bare m (who cs) → Moves z m (last_goes (is_owner cs))
   past_locks [] af i u m v freed = record { others = λ k off. refl; left = refl; visited = v; done = λ h. (v.decided, record { owner = freed; closed = closed; freed = λ c cs member. (v.released c cs member (closed c cs member)).0 }) }
     where
-      closed : (c : Called) (cs : List Called) → IsMember bare m (c ∷ cs) → is_closed m (visited_by x (c ∷ cs)) ≡ true
+      closed : (c : Called) (cs : List Called) → IsMember bare m (c ∷ cs) → is_closed m (who (c ∷ cs)) ≡ true
       closed = all_closed m v.released (λ c k at. v.callees c k (at, tt))
   past_locks (c ∷ cs) af i u m v freed = moves (visit (c ∷ cs) af i u Next) m (goes.On Stamp) refl (λ h. cc)
       (goes_to (visit (c ∷ cs) af i u Next) (visit (c ∷ cs) af i u Stamp) m v v.decided tt refl tt v.member tt v.callees (λ q r here past. freed q r here))
 
-  module _ (cs : List Called) (af : Option ℕ) (u : Option Value) (m : Rows) (first : FindsFirstLock x (visited_by x cs) m) where
-    abbrev np : Member
-    np = visited_by x cs
-
+  module _ (cs : List Called) (af : Option ℕ) (u : Option Value) (m : Rows) (first : FindsFirstLock x (who cs) m) where
     abbrev nz : Option Item → Visit
     nz i = visit cs af i u Next
 
     abbrev key_after : Option Item → RowKey
-    key_after i = lockset_after np.1 np.0 x.begin i
-
-    abbrev told_item : Option (RowKey × Row) → Option Item
-    told_item e = item_after np.1 np.0 x.begin e
+    key_after i = lockset_after (who cs).1 (who cs).0 x.begin i
 
     -- all that was passed was freed; so are all up to the item that is told ..
-    freed_before : (i : Option Item) (v : Visited (walk (nz i)) m) (j q : Item) (r : Row) (e : Option (RowKey × Row)) → IsNext m (key_after i) e → told_item e ≡ Some j
-        → map.get m (lock_row bare np q) ≡ Some r → key_cmp (lock_row bare np q) (lock_row bare np j) ≡ Less → is_own bare (item_in np.1 m q) ≡ false
-    freed_before None v j q r e next is here less = absurd (none_before np.1 np.0 x.begin m j q r e (first e next) is here less)
-    freed_before (Some c) v j q r e next is here less = v.freed q r here (λ l. none_between np.1 np.0 x.begin m c j q r e next is here less l)
+    freed_before : (i : Option Item) (v : Visited (walk (nz i)) m) (j q : Item) (r : Row) (e : Option (RowKey × Row)) → IsNext m (key_after i) e → item_after (who cs).1 (who cs).0 x.begin e ≡ Some j
+        → map.get m (lock_row bare (who cs) q) ≡ Some r → key_cmp (lock_row bare (who cs) q) (lock_row bare (who cs) j) ≡ Less → is_own bare (item_in (who cs).1 m q) ≡ false
+    freed_before None v j q r e next is here less = absurd (none_before (who cs).1 (who cs).0 x.begin m j q r e (first e next) is here less)
+    freed_before (Some c) v j q r e next is here less = v.freed q r here (λ l. none_between (who cs).1 (who cs).0 x.begin m c j q r e next is here less l)
 
     -- .. and all, where none is told
-    freed_all : (i : Option Item) (v : Visited (walk (nz i)) m) (e : Option (RowKey × Row)) → IsNext m (key_after i) e → told_item e ≡ None → AllFreed bare m np
-    freed_all None v e next none q r here = absurd (none_first np.1 np.0 x.begin m q r e (first e next) none here)
-    freed_all (Some c) v e next none q r here = v.freed q r here (λ l. none_past np.1 np.0 x.begin m c q r e next none here l)
+    freed_all : (i : Option Item) (v : Visited (walk (nz i)) m) (e : Option (RowKey × Row)) → IsNext m (key_after i) e → item_after (who cs).1 (who cs).0 x.begin e ≡ None → AllFreed bare m (who cs)
+    freed_all None v e next none q r here = absurd (none_first (who cs).1 (who cs).0 x.begin m q r e (first e next) none here)
+    freed_all (Some c) v e next none q r here = v.freed q r here (λ l. none_past (who cs).1 (who cs).0 x.begin m c q r e next none here l)
 
     -- a commit looks at the shadow, and an abort gives the item back
-    at_item : (i : Option Item) (v : Visited (walk (nz i)) m) (j : Item) → ((q : Item) (r : Row) → map.get m (lock_row bare np q) ≡ Some r → key_cmp (lock_row bare np q) (lock_row bare np j) ≡ Less → is_own bare (item_in np.1 m q) ≡ false)
+    at_item : (i : Option Item) (v : Visited (walk (nz i)) m) (j : Item) → ((q : Item) (r : Row) → map.get m (lock_row bare (who cs) q) ≡ Some r → key_cmp (lock_row bare (who cs) q) (lock_row bare (who cs) j) ≡ Less → is_own bare (item_in (who cs).1 m q) ≡ false)
         → (c : Bool) → commit ≡ c → Visited (walk (visit cs af (Some j) None (free_first c))) m
     at_item i v j freed true is = goes_to (nz i) (visit cs af (Some j) None Shadow) m v v.decided refl tt v.from v.member is v.callees freed
-    at_item i v j freed false is = goes_to (nz i) (visit cs af (Some j) None (Free Try)) m v v.decided refl tt v.from v.member (ap (λ c. given_value c (map.get m (aside_row bare np.1 j))) (sym is)) v.callees freed
+    at_item i v j freed false is = goes_to (nz i) (visit cs af (Some j) None (Free Try)) m v v.decided refl tt v.from v.member (ap (λ c. given_value c (map.get m (aside_row bare (who cs).1 j))) (sym is)) v.callees freed
 
     next_turn : (i : Option Item) (now : ℕ) → Visited (walk (nz i)) m → Turns (nz i) now m
-    next_turn i now v = by (told_item found) refl
+    next_turn i now v = by (item_after (who cs).1 (who cs).0 x.begin found) refl
       where
         found : Option (RowKey × Row)
         found = next_row m (key_after i)
@@ -546,7 +538,7 @@ module _ (x : TxId) (end : ℕ) (commit : Bool) where
         least : IsNext m (key_after i) found
         least = next_row_least m (key_after i)
 
-        by : (f : Option Item) → told_item found ≡ f → Moves (nz i) m (next_goes cs f)
+        by : (f : Option Item) → item_after (who cs).1 (who cs).0 x.begin found ≡ f → Moves (nz i) m (next_goes cs f)
         by None is = past_locks cs af i u m v (freed_all i v found least is)
         by (Some j) is = moves (nz i) m (goes.Item j.0 j.1) refl (λ h. cc) (at_item i v j (λ q r here less. freed_before i v j q r found least is here less) commit refl)
 
@@ -554,10 +546,10 @@ module _ (x : TxId) (end : ℕ) (commit : Bool) where
   look_turn : (cs : List Called) (af : Option ℕ) (j : Item) (u : Option Value) (now : ℕ) (m : Rows) → let z = visit cs af (Some j) u Shadow in Visited (walk z) m → Turns z now m
   look_turn cs af j u now m v =
       let z = visit cs af (Some j) u Shadow in
-      let k = aside_row bare (visited_by x cs).1 j in
+      let k = aside_row bare (who cs).1 j in
       let s = shadow_value (map.get m k) in
       subst (λ n. Leads z (walk_asks (walk z)) m n (walk_goes (walk z) (told_by (walk_asks (walk z)) now m))) (sym (looked now k m))
-      (subst (λ g. Moves z m (value_goes g)) (sym (shadow_told now (map.get m k) (v.sound (visited_by x cs).1 j).1))
+      (subst (λ g. Moves z m (value_goes g)) (sym (shadow_told now (map.get m k) (v.sound (who cs).1 j).1))
       (moves z m (goes.Value s) refl (λ h. cc)
       (goes_to z (visit cs af (Some j) s (Free Try)) m v v.decided refl tt v.from v.member (ap (λ c. given_value c (map.get m k)) (sym v.gives)) v.callees v.freed)))
 
@@ -566,14 +558,11 @@ module _ (x : TxId) (end : ℕ) (commit : Bool) where
     abbrev fz : Visit
     fz = visit cs af (Some j) u (Free f)
 
-    abbrev fp : Member
-    fp = visited_by x cs
-
     abbrev place : Place
     place = free_place x end cs
 
     abbrev as_free : WriteWalk
-    as_free = record { home = fp.1; item = Plain j.0 j.1; place = place; who = owner.Tx x; op = op.Free u; at = f }
+    as_free = record { home = (who cs).1; item = Plain j.0 j.1; place = place; who = owner.Tx x; op = op.Free u; at = f }
 
     abbrev Frees_to : EndGoes → Type 0
     Frees_to g = Leads fz (walk_asks (walk fz)) m n g
@@ -582,9 +571,9 @@ module _ (x : TxId) (end : ℕ) (commit : Bool) where
     abbrev Became : Content → Content → Type 0
     Became c d = (d ≡ c) ⊎ (is_own bare d ≡ false)
 
-    module _ (s : WriteSays) (l : LoggedTurn as_free m n s) (became : Became (item_in fp.1 m j) (item_in fp.1 n j)) where
+    module _ (s : WriteSays) (l : LoggedTurn as_free m n s) (became : Became (item_in (who cs).1 m j) (item_in (who cs).1 n j)) where
       beside : (k : RowKey) → (rank_of k.kind ≡ 3 → ⊥) → map.get n k ≡ map.get m k
-      beside k h = l.others k (apart k (item_row fp.1 j) (ranks k (item_row fp.1 j) h))
+      beside k h = l.others k (apart k (item_row (who cs).1 j) (ranks k (item_row (who cs).1 j) h))
 
       stood_free : Visited (walk fz) n
       stood_free = stands m n (record {
@@ -593,51 +582,51 @@ module _ (x : TxId) (end : ℕ) (commit : Bool) where
         locks = λ p q. beside (lock_row bare p q) (λ y. cc);
         asides = λ h q. beside (aside_row bare h q) (λ y. cc);
         closed = λ p c. ap row_closed (beside (intent_key p.0 p.1) (λ y. cc)) ∙ c;
-        items = λ h q. by_key (item_row h q) (item_row fp.1 j) (Became (item_in h m q) (item_in h n q))
+        items = λ h q. by_key (item_row h q) (item_row (who cs).1 j) (Became (item_in h m q) (item_in h n q))
             (λ e. subst (λ k. Became (content_in (map.get m k)) (content_in (map.get n k))) (sym e) became)
             (λ off. inl (ap content_in (l.others (item_row h q) off)));
-        released = λ c ds w k. inl (sym (ap row_closed (beside (intent_key (visited_by x (c ∷ ds)).0 (visited_by x (c ∷ ds)).1) (λ y. cc))) ∙ k);
+        released = λ c ds w k. inl (sym (ap row_closed (beside (intent_key (who (c ∷ ds)).0 (who (c ∷ ds)).1) (λ y. cc))) ∙ k);
         sound = λ h q. (
-          by_key (item_row h q) (item_row fp.1 j) (SoundAt (map.get n (item_row h q)))
+          by_key (item_row h q) (item_row (who cs).1 j) (SoundAt (map.get n (item_row h q)))
               (λ e. subst (λ k. SoundAt (map.get n k)) (sym e) l.sound)
               (λ off. subst SoundAt (sym (l.others (item_row h q) off)) (v.sound h q).0),
           subst SoundAt (sym (beside (aside_row bare h q) (λ y. cc))) (v.sound h q).1,
         );
       }) fz v
 
-      freed_to : (g : EndGoes) → Frees place (owner.Tx x) u (item_in fp.1 m j) (item_in fp.1 n j) → (said_of g ≡ says.Done → ⊥) → Visited (walk (moved commit fz g)) n → Frees_to g
+      freed_to : (g : EndGoes) → Frees place (owner.Tx x) u (item_in (who cs).1 m j) (item_in (who cs).1 n j) → (said_of g ≡ says.Done → ⊥) → Visited (walk (moved commit fz g)) n → Frees_to g
       freed_to g left going w = record {
-        others = λ k off. l.others k (sym (ap (λ y. is_eq (key_cmp k y)) (asked (item_row fp.1 j) place (owner.Tx x) (op.Free u) f)) ∙ off);
+        others = λ k off. l.others k (sym (ap (λ y. is_eq (key_cmp k y)) (asked (item_row (who cs).1 j) place (owner.Tx x) (op.Free u) f)) ∙ off);
         left = left;
         visited = w;
         done = λ h. absurd (going h);
       }
 
     -- it goes on at this item
-    again : (s : WriteSays) (l : LoggedTurn as_free m n s) (a : WriteAt) → item_in fp.1 n j ≡ item_in fp.1 m j → Frees_to (goes.On (Free a))
+    again : (s : WriteSays) (l : LoggedTurn as_free m n s) (a : WriteAt) → item_in (who cs).1 n j ≡ item_in (who cs).1 m j → Frees_to (goes.On (Free a))
     again s l a same =
         let w = stood_free s l (inl same) in
         freed_to s l (inl same) (goes.On (Free a)) (inl same) (λ h. cc) (goes_to fz (visit cs af (Some j) u (Free a)) n w w.decided refl tt w.from w.member w.gives w.callees w.freed)
 
     -- or past it, as it is not the transaction's
-    onward : (s : WriteSays) (l : LoggedTurn as_free m n s) → Frees place (owner.Tx x) u (item_in fp.1 m j) (item_in fp.1 n j) → is_own bare (item_in fp.1 n j) ≡ false → Frees_to (goes.On Next)
+    onward : (s : WriteSays) (l : LoggedTurn as_free m n s) → Frees place (owner.Tx x) u (item_in (who cs).1 m j) (item_in (who cs).1 n j) → is_own bare (item_in (who cs).1 n j) ≡ false → Frees_to (goes.On Next)
     onward s l left not_own =
         let w = stood_free s l (inr not_own) in
         freed_to s l (inr not_own) (goes.On Next) left (λ h. cc) (goes_to fz (visit cs af (Some j) u Next) n w w.decided tt tt w.from w.member tt w.callees
-        (λ q r here past. by_order (key_cmp (lock_row bare fp q) (lock_row bare fp j)) (is_own bare (item_in fp.1 n q) ≡ false)
+        (λ q r here past. by_order (key_cmp (lock_row bare (who cs) q) (lock_row bare (who cs) j)) (is_own bare (item_in (who cs).1 n q) ≡ false)
         (λ less. w.freed q r here less)
-        (λ level. subst (λ (i : Item). is_own bare (item_in fp.1 n i) ≡ false) (sym (ap (λ (k : RowKey). item_at k.kind) (key_exact (lock_row bare fp q) (lock_row bare fp j) level))) not_own)
-        (λ greater. absurd (past (key_total.antisymm (lock_row bare fp j) (lock_row bare fp q) ∙ ap ordering_reverse greater)))))
+        (λ level. subst (λ (i : Item). is_own bare (item_in (who cs).1 n i) ≡ false) (sym (ap (λ (k : RowKey). item_at k.kind) (key_exact (lock_row bare (who cs) q) (lock_row bare (who cs) j) level))) not_own)
+        (λ greater. absurd (past (key_total.antisymm (lock_row bare (who cs) j) (lock_row bare (who cs) q) ∙ ap ordering_reverse greater)))))
 
     free_by : (g : WriteGoes) → LoggedTurn as_free m n (logged_so g) → Frees_to (freed_goes f g)
     free_by (writes.On a) l = again (logged_so (writes.On a)) l a l.logs
     free_by (writes.Done nt true) l =
         let did = l.logs.1.1 in
-        onward (wsays.Done nt true) l (inr (l.logs.1.0, is_owned (owns (owner.Tx x) (item_in fp.1 m j).owner) None did.0, did.1)) (ap (is_own bare) did.1)
+        onward (wsays.Done nt true) l (inr (l.logs.1.0, is_owned (owns (owner.Tx x) (item_in (who cs).1 m j).owner) None did.0, did.1)) (ap (is_own bare) did.1)
     free_by (writes.Done nt false) l =
         let same = l.logs.1 in
         onward (wsays.Done nt false) l (inl same) (ap (is_own bare) same ∙ v.marked cs v.member j nt (ap (λ (c : Content). note_at c.notes place) (sym same) ∙ l.logs.0))
-    free_by writes.NotOwner l = onward wsays.NotOwner l (inl l.logs.2) (ap (is_own bare) l.logs.2 ∙ is_owned (owns (owner.Tx x) (item_in fp.1 m j).owner) (Some wsays.NotOwner) l.logs.1)
+    free_by writes.NotOwner l = onward wsays.NotOwner l (inl l.logs.2) (ap (is_own bare) l.logs.2 ∙ is_owned (owns (owner.Tx x) (item_in (who cs).1 m j).owner) (Some wsays.NotOwner) l.logs.1)
     free_by (writes.Held o) l = again (wsays.Held o) l f l.logs.2
 
   -- ---- a participant gets its finish
@@ -648,11 +637,8 @@ module _ (x : TxId) (end : ℕ) (commit : Bool) where
     abbrev pz : Visit
     pz = visit way af i u Stamp
 
-    abbrev sp : Member
-    sp = visited_by x way
-
     abbrev pk : RowKey
-    pk = intent_key sp.0 sp.1
+    pk = intent_key (who way).0 (who way).1
 
     abbrev pn : Rows
     pn = rows_after (walk_asks (walk pz)) now m
@@ -670,7 +656,7 @@ module _ (x : TxId) (end : ℕ) (commit : Bool) where
     closed_here = closed_by (map.get m pk) (map.get pn pk) stamped
 
     -- who is visited has given back all, and so have its callees
-    given_back : IsReleased bare m sp
+    given_back : IsReleased bare m (who way)
     given_back = (λ q r here. v.freed q r here tt, λ d k at. levels_top m owns_all (IsWithin bare) way (IsPassed Stamp af) v.callees d k (at_end (IsWithin bare) way d.step (owner_not front c), tt))
 
     stood_stamp : Visited (walk pz) pn
@@ -683,20 +669,20 @@ module _ (x : TxId) (end : ℕ) (commit : Bool) where
           (λ e. ap (λ (y : RowKey). row_closed (map.get pn y)) e ∙ closed_here)
           (λ off. ap row_closed (off_here (intent_key p.0 p.1) off) ∙ k);
       items = λ h q. inl (ap content_in (same_off (item_row h q) (λ y. cc)));
-      released = λ d ds w k. let p = visited_by x (d ∷ ds) in by_key (intent_key p.0 p.1) pk ((is_closed m p ≡ true) ⊎ IsReleased bare m p)
-          (λ e. inr (subst (λ (y : Member). IsReleased bare m y) (sym (same_member sp p (not_root m owns_all way v.member.1 (owner_not front c)) (not_root m owns_all (d ∷ ds) w.1 refl) e)) given_back))
+      released = λ d ds w k. let p = who (d ∷ ds) in by_key (intent_key p.0 p.1) pk ((is_closed m p ≡ true) ⊎ IsReleased bare m p)
+          (λ e. inr (subst (λ (y : Member). IsReleased bare m y) (sym (same_member (who way) p (not_root m owns_all way v.member.1 (owner_not front c)) (not_root m owns_all (d ∷ ds) w.1 refl) e)) given_back))
           (λ off. inl (sym (ap row_closed (off_here (intent_key p.0 p.1) off)) ∙ k));
       sound = λ h q. (subst SoundAt (sym (same_off (item_row h q) (λ y. cc))) (v.sound h q).0, subst SoundAt (sym (same_off (aside_row bare h q) (λ y. cc))) (v.sound h q).1);
     }) pz v
 
     -- the caller's callees are closed up to this one
-    closed_to : let caller = visited_by x front in AreClosed pn caller (λ s. AtEnd (IsWithin bare) front s × (s ≤ c.step))
+    closed_to : let caller = who front in AreClosed pn caller (λ s. AtEnd (IsWithin bare) front s × (s ≤ c.step))
     closed_to d k at = elim (at_most_or c.step d.step) [
       | inl l ↦
           let level : d.step ≡ c.step = omega (arith, l, at.1) in
-          let func : d.func ≡ c.func = ap (func_or 0) (sym k.1 ∙ ap (called_at pn (visited_by x front)) level ∙ (way_last pn owns_all front c stood_stamp.member.1).1) in
+          let func : d.func ≡ c.func = ap (func_or 0) (sym k.1 ∙ ap (called_at pn (who front)) level ∙ (way_last pn owns_all front c stood_stamp.member.1).1) in
           let same : d ≡ c = λ y. record { step = level y; func = func y } in
-          ap (λ e. is_closed pn (callee_of (visited_by x front) e)) same ∙ ap (is_closed pn) (sym (member_more owns_all front c)) ∙ closed_here
+          ap (λ e. is_closed pn (callee_of (who front) e)) same ∙ ap (is_closed pn) (sym (member_more owns_all front c)) ∙ closed_here
       | inr l ↦ levels_last pn owns_all (IsWithin bare) front c (IsPassed Stamp af) stood_stamp.callees d k (at.0, l)
     ]
 
@@ -723,7 +709,7 @@ module _ (x : TxId) (end : ℕ) (commit : Bool) where
     decide_turn [] (Some s) i u v = absurd (let clash = v.begins.1 in cc)
     decide_turn (c ∷ cs) af i u v = absurd (let clash = v.begins.0 in cc)
 
-    pub turns : (cs : List Called) (af : Option ℕ) (i : Option Item) (u : Option Value) (a : EndAt) → FindsFirstCall (visited_by x cs) m → FindsFirstLock x (visited_by x cs) m → Visited (walk (visit cs af i u a)) m → Turns (visit cs af i u a) now m
+    pub turns : (cs : List Called) (af : Option ℕ) (i : Option Item) (u : Option Value) (a : EndAt) → FindsFirstCall (who cs) m → FindsFirstLock x (who cs) m → Visited (walk (visit cs af i u a)) m → Turns (visit cs af i u a) now m
     turns cs af i u Decide calls locks v = decide_turn cs af i u v
     turns cs af None u Callees calls locks v = call_turn cs af u m v now calls
     turns cs af (Some j) u Callees calls locks v = let clash = v.item in cc
@@ -732,7 +718,7 @@ module _ (x : TxId) (end : ℕ) (commit : Bool) where
     turns cs af (Some j) u (Free f) calls locks v =
         let q = walk_asks (walk (visit cs af (Some j) u (Free f))) in
         let n = rows_after q now m in
-        free_by cs af j u f m n v (write_goes note.Freed (told_by q now m)) (by_op (as_free cs af j u f m n v) m n (v.sound (visited_by x cs).1 j).0 f now refl)
+        free_by cs af j u f m n v (write_goes note.Freed (told_by q now m)) (by_op (as_free cs af j u f m n v) m n (v.sound (who cs).1 j).0 f now refl)
     turns cs af None u Shadow calls locks v = let clash = v.item in cc
     turns cs af None u (Free f) calls locks v = let clash = v.item in cc
     turns cs af i u Stamp calls locks v =
