@@ -10,14 +10,14 @@ use Rattle.beldi_laws.proofs.Beginnings.{same_roots}
 use Rattle.beldi_laws.proofs.Frames.{NoFinish, no_member_finish}
 use Rattle.beldi_laws.proofs.Keeping.{as_it_was}
 use Rattle.beldi_laws.proofs.KeptSane.{ended_kept}
-use Rattle.beldi_laws.proofs.Moves.{AfterTurn, AfterQuery, SameRoots, Kept, Stays, Entered, entered, AfterAct, still, replaced}
+use Rattle.beldi_laws.proofs.Moves.{AfterQuery, SameRoots, Kept, Stays, Entered, entered, AfterAct, still, replaced}
 use Rattle.beldi_laws.proofs.Registered.{StaysRow, kept_moving, log_frame, log_shadows, log_stays, no_more}
 use Rattle.beldi_laws.proofs.Shown.{log_values}
 use Rattle.beldi_laws.proofs.Turns.{ends}
 use Rattle.beldi_laws.specs.Inside.{Inside, has_finish}
 use Rattle.beldi_laws.specs.Right.{Right, Knows}
 use Rattle.beldi_order.proofs.Maps.{same_some, here}
-use Rattle.beldi_plain.specs.Plain.{PlainState, Instance, effect_of, with_instance, ended, outcome_of, answer_caller, give}
+use Rattle.beldi_plain.specs.Plain.{PlainState, Instance, effect_of, with_instance, outcome_of, answer_caller, give}
 use Rattle.beldi_row.specs.Act.{Tell, act, end_with, finish_at}
 use Rattle.beldi_row.specs.Table.{Rows, set_row}
 use Rattle.beldi_row.specs.declared.act.Act.TheVariants.{End}
@@ -32,7 +32,6 @@ use Rattle.beldi_step.specs.declared.run.Begun.{Begun}
 use Rattle.beldi_step.specs.declared.run.Mark.TheVariants as mark
 use Rattle.beldi_step.specs.declared.run.Run.{Run}
 use Rattle.beldi_step.specs.declared.run.Says.TheVariants.{Ends}
-use Rattle.beldi_step.specs.declared.run.Says.{Says}
 use Rattle.beldi_tree.specs.declared.deployment.Deployment.{Deployment}
 use Rattle.beldi_txn.specs.Invokes.{func_called}
 use Rattle.beldi_value.specs.Id.{has_no_hops, root_of}
@@ -44,18 +43,9 @@ use Rattle.beldi_known.proofs.Rows.{set_others}
 use Rattle.beldi_known.specs.Known.{Known}
 use Rattle.beldi_known.specs.Matches.{Matches, has_ended}
 use Rattle.beldi_known.specs.Rows.{IntentMatches, IsCalleeRow, BodyMatches, RootMatches, CalleeBodyMatches, FinishMatches, OutcomeMatches, tx_in}
-use Rattle.beldi_laws.proofs.Returns.{ahead_over, goes_over, grows_over, idle_outside, leads, nobody_over, not_root, returns_now, root_is, root_outside, same_outcome, settled_over, tx, unlocked}
+use Rattle.beldi_laws.proofs.Returns.{Left, ahead_over, done, goes_over, grows_over, idle_outside, leads, nobody_over, not_root, over, returns_now, root_is, root_outside, same_outcome, settled_over, tx, unlocked}
 
 module _ (d : Deployment) (c : Core) (m : Rows) (i : ℕ) (r : Run) (g : Begun) (h : Right d c m) (live : map.get c.runs i ≡ Some r) (k : Knows d c.book h.known r g) (finds : Inside d m h.plain h.known r g) (o : Outcome) (is : g.machine.effect ≡ Return o) where
-  abbrev Left : Says → Rows → Type 0
-  Left s n = AfterTurn d h.plain c i r (turned_by d r g s) n
-
-  abbrev done : Instance
-  done = ended k.instance o
-
-  abbrev over : Known
-  over = map.insert h.known r.id done
-
   returning : effect_of d k.instance ≡ Return o
   returning = returns_now d c m i r g h live k finds o is
 
@@ -79,14 +69,14 @@ module _ (d : Deployment) (c : Core) (m : Rows) (i : ℕ) (r : Run) (g : Begun) 
   finished None = refl
   finished (Some n) = refl
 
-  close_ends : (n : Rows) → SameRoots m n → Stays h n → Left (Ends None None) n
+  close_ends : (n : Rows) → SameRoots m n → Stays h n → Left h i r g (Ends None None) n
   close_ends n roots rows = ends d c m i r g h live k n roots rows
 
   abbrev AfterClose : Option Row × Tell → Type 0
   AfterClose z = AfterAct d h.plain m key (λ t. turn_next c i r (turned_by d r g (close_says r.id g.caller (Return o) (is_did t)))) z
 
   AfterEnd : Type 0
-  AfterEnd = (j : IntentRow) → map.get m key ≡ Some (rows.Intent j) → j.outcome ≡ None → Left (close_says r.id g.caller (Return o) true) (set_row m key (Some (rows.Intent (end_row j))))
+  AfterEnd = (j : IntentRow) → map.get m key ≡ Some (rows.Intent j) → j.outcome ≡ None → Left h i r g (close_says r.id g.caller (Return o) true) (set_row m key (Some (rows.Intent (end_row j))))
 
   row_here : (j : IntentRow) → map.get m key ≡ Some (rows.Intent j) → IntentMatches (has_ended d h.known) (has_no_hops r.id.hops) key.home (Some (rows.Intent j)) (Some k.instance)
   row_here j at = subst (λ w. IntentMatches (has_ended d h.known) (has_no_hops r.id.hops) key.home w (Some k.instance)) at (subst (IntentMatches (has_ended d h.known) (has_no_hops r.id.hops) key.home (map.get m key)) k.made (h.rows.keys key))
@@ -147,7 +137,7 @@ module _ (d : Deployment) (c : Core) (m : Rows) (i : ℕ) (r : Run) (g : Begun) 
         let finishes = subst (λ w. FinishMatches (has_ended d h.known) w (end_row j).finish (Some o)) (sym same)
         (finishes_now k.instance.within j.finish j.outcome (subst (λ w. FinishMatches (has_ended d h.known) w j.finish j.outcome) same f.finishes)) in
         let fits : IsCalleeRow (has_ended d h.known) key.home (end_row j) (map.get h.known r.id) = subst (IsCalleeRow (has_ended d h.known) key.home (end_row j)) (sym k.made) (record { finishes = finishes; body = body_ended key.home j.body j.outcome f.body }) in
-        subst (λ z. Left z (set_row m key new)) (sym (ap (λ b. Ends (mark_if (not b) mark.Step) (reply_if (has_no_hops r.id.hops) o)) waits ∙ ap (λ b. Ends None (reply_if b o)) hops))
+        subst (λ z. Left h i r g z (set_row m key new)) (sym (ap (λ b. Ends (mark_if (not b) mark.Step) (reply_if (has_no_hops r.id.hops) o)) waits ∙ ap (λ b. Ends None (reply_if b o)) hops))
         (close_ends (set_row m key new) (same_roots m key.home r.id new hops) (log_stays d m key new refl c h (end_stays j at) (ends_none h.known k.instance k.made refl j at) (callee_put d h.known h.locked m r.id key.home (end_row j) hops fits h.rows)))
 
   -- one that nobody waits for: its step is its end, which gives a root's reply
@@ -159,7 +149,7 @@ module _ (d : Deployment) (c : Core) (m : Rows) (i : ℕ) (r : Run) (g : Begun) 
     idle_here = ap is_waited (sym k.caller) ∙ idle
 
     abbrev left_state : PlainState
-    left_state = with_instance h.plain r.id done
+    left_state = with_instance h.plain r.id (done k o)
 
     no_answer_given : (b : Option Caller) → is_waited b ≡ false → answer_caller left_state b o ≡ left_state
     no_answer_given None e = refl
@@ -185,7 +175,7 @@ module _ (d : Deployment) (c : Core) (m : Rows) (i : ℕ) (r : Run) (g : Begun) 
         by_home false f = cc
 
     replies : (t : Bool) → has_no_hops r.id.hops ≡ t → (v : Outcome) → reply_if t o ≡ Some v → outcome_of (map.get left_state.made (root_of r.id.ticket)) ≡ Some v
-    replies true root v told = ap (λ z. outcome_of (map.get left_state.made z)) (sym (root_is r.id root)) ∙ ap outcome_of (here h.plain.made r.id done) ∙ told
+    replies true root v told = ap (λ z. outcome_of (map.get left_state.made z)) (sym (root_is r.id root)) ∙ ap outcome_of (here h.plain.made r.id (done k o)) ∙ told
     replies false root v told = cc
 
     step_now : AfterEnd
@@ -194,15 +184,15 @@ module _ (d : Deployment) (c : Core) (m : Rows) (i : ℕ) (r : Run) (g : Begun) 
         let new = Some (rows.Intent (end_row j)) in
         let n = set_row m key new in
         let open_still = open_by (has_no_hops r.id.hops) key.home j (row_here j at) ∙ none in
-        let steps = subst (λ z. Entered d c h.plain h.known (Step r.id) z over) (no_answer_given k.instance.from idle_here) (leads d c m i r g h live k finds o is own_here open_still over) in
+        let steps = subst (λ z. Entered d c h.plain h.known (Step r.id) z (over k o)) (no_answer_given k.instance.from idle_here) (leads d c m i r g h live k finds o is own_here open_still (over k o)) in
         let own : RowKey = intent_key r.id k.instance.func in
         let own_is : own ≡ key = ap (intent_key r.id) k.func in
-        let rows_ended : Matches d n over h.locked = subst (λ z. Matches d (set_row m z new) over h.locked) own_is
+        let rows_ended : Matches d n (over k o) h.locked = subst (λ z. Matches d (set_row m z new) (over k o) h.locked) own_is
         (intent_ended d h.known h.locked r.id k.instance o k.made (unlocked d c m i r g h live k finds o is) returning idle_here own_here m j (end_row j) (record { body = refl; outcome = refl; finish = ap (λ w. is_some (finish_at (stamped w) c.now j.finish)) own_here ∙ finished j.finish }) (ap (map.get m) own_is ∙ at) h.rows) in
-        let kept : Kept h n left_state over h.locked = kept_moving h n left_state over h.locked (goes_over d c m i r g h live k finds o is own_here n (log_shadows d m key new refl)) (ahead_over d c m i r g h live k finds o is) (ended_kept d h.known h.sane r.id k.instance o k.made returning idle_here) rows_ended (log_values h key new refl)
-        (settled_over d c m i r g h live k finds o is open_still left_state steps.grows) (grows_over d c m i r g h live k finds o is open_still) (log_frame d m key new refl (end_stays j at) h.plain left_state h.known over refl (nobody_over d c m i r g h live k finds o is)) (ends_none over done (here h.known r.id done) refl j at) in
-        subst (λ z. Left z n) (sym (ap (λ b. Ends (mark_if (not b) mark.Step) (reply_if (has_no_hops r.id.hops) o)) idle))
-        (entered d c m n i r h live (replaced m key new (ap is_some (sym at))) (turned_by d r g (Ends (Some mark.Step) (reply_if (has_no_hops r.id.hops) o))) mark.Step left_state over h.locked refl steps
+        let kept : Kept h n left_state (over k o) h.locked = kept_moving h n left_state (over k o) h.locked (goes_over d c m i r g h live k finds o is own_here n (log_shadows d m key new refl)) (ahead_over d c m i r g h live k finds o is) (ended_kept d h.known h.sane r.id k.instance o k.made returning idle_here) rows_ended (log_values h key new refl)
+        (settled_over d c m i r g h live k finds o is open_still left_state steps.grows) (grows_over d c m i r g h live k finds o is open_still) (log_frame d m key new refl (end_stays j at) h.plain left_state h.known (over k o) refl (nobody_over d c m i r g h live k finds o is)) (ends_none (over k o) (done k o) (here h.known r.id (done k o)) refl j at) in
+        subst (λ z. Left h i r g z n) (sym (ap (λ b. Ends (mark_if (not b) mark.Step) (reply_if (has_no_hops r.id.hops) o)) idle))
+        (entered d c m n i r h live (replaced m key new (ap is_some (sym at))) (turned_by d r g (Ends (Some mark.Step) (reply_if (has_no_hops r.id.hops) o))) mark.Step left_state (over k o) h.locked refl steps
         (replies (has_no_hops r.id.hops) refl) tt (λ e. cc) kept)
 
   close_by : AfterEnd → (j : IntentRow) (u : Option Outcome) → j.outcome ≡ u → map.get m key ≡ Some (rows.Intent j) → AfterClose (Some (rows.Intent (end_with o (stamped k.instance.within) c.now j u).0), (end_with o (stamped k.instance.within) c.now j u).1)

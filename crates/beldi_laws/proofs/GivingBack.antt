@@ -17,7 +17,7 @@ use Rattle.beldi_laws.proofs.Settling.{settled_moved}
 use Rattle.beldi_laws.proofs.Grown.{grows_moved}
 use Rattle.beldi_laws.proofs.Keeping.{SameShadows, as_it_was}
 use Rattle.beldi_laws.proofs.KeptSane.{returned_kept}
-use Rattle.beldi_laws.proofs.Moves.{AfterTurn, AfterQuery, SameRoots, Kept, Stays, entered, quiet, AfterAct, still}
+use Rattle.beldi_laws.proofs.Moves.{AfterQuery, SameRoots, Kept, Stays, entered, quiet, AfterAct, still}
 use Rattle.beldi_laws.proofs.Outside.{outside_more, plain_here}
 use Rattle.beldi_laws.proofs.Passing.{close_ok}
 use Rattle.beldi_laws.proofs.Registered.{kept_moving, log_frame, log_shadows, log_stays, marked_registered, no_intent, stays_call, stays_marked}
@@ -34,7 +34,7 @@ use Rattle.beldi_order.specs.Sane.{IsCalled, within_by}
 use Rattle.beldi_order.specs.Txs.{effect_after, or_own, tx_after, tx_at, tx_by, tx_now, txs_after}
 use Rattle.beldi_plain.specs.Item.{Item}
 use Rattle.beldi_plain.specs.Operation.{op_of, touched}
-use Rattle.beldi_plain.specs.Plain.{PlainState, Instance, answered, callee_of, effect_of, with_instance, ended, step_by, value_at}
+use Rattle.beldi_plain.specs.Plain.{PlainState, Instance, answered, callee_of, effect_of, with_instance, value_at}
 use Rattle.beldi_row.proofs.Unchanged.{looked}
 use Rattle.beldi_row.specs.Act.{Tell, act, call_back_to}
 use Rattle.beldi_row.specs.Table.{Rows, set_row, after_act}
@@ -51,7 +51,6 @@ use Rattle.beldi_step.specs.declared.run.Mark.TheVariants as mark
 use Rattle.beldi_step.specs.declared.run.Run.{Run}
 use Rattle.beldi_step.specs.declared.run.RunAt.TheVariants.{Begins}
 use Rattle.beldi_step.specs.declared.run.Says.TheVariants.{On}
-use Rattle.beldi_step.specs.declared.run.Says.{Says}
 use Rattle.beldi_step.specs.declared.run.Stage.TheVariants as stage
 use Rattle.beldi_tree.specs.declared.deployment.Deployment.{Deployment}
 use Rattle.beldi_value.specs.Id.{child_of}
@@ -81,21 +80,9 @@ use Rattle.beldi_known.specs.Matches.{Matches}
 use Rattle.beldi_known.specs.Owed.{called_by, result_of}
 use Rattle.beldi_known.specs.Rows.{CallMatches}
 use Rattle.beldi_known.specs.Sane.{Sane}
-use Rattle.beldi_laws.proofs.Returns.{HasCaller, ahead_over, aborted_by, goes_over, grows_over, has_caller, leads, returns_now, settled_over, tx, unlocked}
+use Rattle.beldi_laws.proofs.Returns.{HasCaller, Left, ahead_over, aborted_by, done, goes_over, grows_over, has_caller, leads, over, returns_now, settled_over, state, tx, unlocked}
 
 module _ (d : Deployment) (c : Core) (m : Rows) (i : ℕ) (r : Run) (g : Begun) (h : Right d c m) (live : map.get c.runs i ≡ Some r) (k : Knows d c.book h.known r g) (finds : Inside d m h.plain h.known r g) (o : Outcome) (is : g.machine.effect ≡ Return o) where
-  abbrev Left : Says → Rows → Type 0
-  Left s n = AfterTurn d h.plain c i r (turned_by d r g s) n
-
-  abbrev done : Instance
-  done = ended k.instance o
-
-  abbrev over : Known
-  over = map.insert h.known r.id done
-
-  abbrev state : PlainState
-  state = step_by h.plain r.id k.instance (Return o)
-
   returning : effect_of d k.instance ≡ Return o
   returning = returns_now d c m i r g h live k finds o is
 
@@ -121,7 +108,7 @@ module _ (d : Deployment) (c : Core) (m : Rows) (i : ℕ) (r : Run) (g : Begun) 
     closes : StageOk (is_some (tx_after d r.id k.instance k.answers)) r.id g.caller (Return o) stage.Close
     closes = close_ok (is_some (tx_after d r.id k.instance k.answers)) r.id g.caller o (ap is_waited from ∙ waits)
 
-    closes_on : is_some k.instance.outcome ≡ true → Left (On stage.Close None) m
+    closes_on : is_some k.instance.outcome ≡ true → Left h i r g (On stage.Close None) m
     closes_on there = on_other d c m i r g h live k finds (Return o) is m stage.Close refl (λ t. refl) (as_it_was h) closes tt (λ w. there)
 
     -- it was given back now: its caller stands at the call
@@ -139,7 +126,7 @@ module _ (d : Deployment) (c : Core) (m : Rows) (i : ℕ) (r : Run) (g : Begun) 
       caller_on = moved d caller waiter answer
 
       abbrev next : Known
-      next = map.insert over caller caller_on
+      next = map.insert (over k o) caller caller_on
 
       abbrev new : Option Row
       new = Some (rows.Invoke (record x { result = Some o }))
@@ -179,20 +166,20 @@ module _ (d : Deployment) (c : Core) (m : Rows) (i : ℕ) (r : Run) (g : Begun) 
       apart : r.id ≡ caller → ⊥
       apart e = no_own_callee caller b.place.step (sym called.is_callee ∙ e)
 
-      caller_still : map.get over caller ≡ Some waiter
-      caller_still = elsewhere h.known r.id caller done apart ∙ called.made
+      caller_still : map.get (over k o) caller ≡ Some waiter
+      caller_still = elsewhere h.known r.id caller (done k o) apart ∙ called.made
 
-      itself : map.get next r.id ≡ Some done
-      itself = elsewhere over caller r.id caller_on (λ e. apart (sym e)) ∙ here h.known r.id done
+      itself : map.get next r.id ≡ Some (done k o)
+      itself = elsewhere (over k o) caller r.id caller_on (λ e. apart (sym e)) ∙ here h.known r.id (done k o)
 
       row_key_is : invoke_key waiter.func (place_of caller b.place.step) ≡ back_key
       row_key_is = λ i. invoke_key (called.func i) b.place
 
       rows_given : Matches d rows_now next h.locked
-      rows_given = call_answered d over h.locked caller waiter caller_on answer caller_still caller_unlocked (inr (ap touched stands)) (ap commit_in stands) (moved_one d caller waiter answer)
+      rows_given = call_answered d (over k o) h.locked caller waiter caller_on answer caller_still caller_unlocked (inr (ap touched stands)) (ap commit_in stands) (moved_one d caller waiter answer)
           (ap op_of stands) (ap (λ e. row_added (length waiter.answers) (txs_after d waiter waiter.answers).begun e answer) stands ∙ no_row (length waiter.answers) (txs_after d waiter waiter.answers).begun) rows_now
-          (subst (λ z. Matches d rows_now (map.insert h.known z done) h.locked) (sym called.is_callee)
-          (subst (λ z. Matches d (set_row m z new) (map.insert h.known (child_of caller b.place.step) done) h.locked) row_key_is
+          (subst (λ z. Matches d rows_now (map.insert h.known z (done k o)) h.locked) (sym called.is_callee)
+          (subst (λ z. Matches d (set_row m z new) (map.insert h.known (child_of caller b.place.step) (done k o)) h.locked) row_key_is
           (given_back d h.known h.locked caller waiter k.instance b.place.step o o called.made callee_here open_still waited_here returning (ap h.locked (sym called.is_callee) ∙ unlocked d c m i r g h live k finds o is) m x (ap (map.get m) row_key_is ∙ at) h.rows)))
         where
           no_row : (n : ℕ) (u : Option ℕ) → row_added n u (Call k.instance.func k.instance.args) answer ≡ None
@@ -200,27 +187,27 @@ module _ (d : Deployment) (c : Core) (m : Rows) (i : ℕ) (r : Run) (g : Begun) 
           no_row n (Some u) = refl
 
       sane_given : Sane d next
-      sane_given = subst (λ z. Sane d (map.insert (map.insert h.known z done) caller caller_on)) (sym called.is_callee) (returned_kept d h.known h.sane caller waiter k.instance b.place.step o called.made callee_here open_still waited_here returning)
+      sane_given = subst (λ z. Sane d (map.insert (map.insert h.known z (done k o)) caller caller_on)) (sym called.is_callee) (returned_kept d h.known h.sane caller waiter k.instance b.place.step o called.made callee_here open_still waited_here returning)
 
       nobody_given : NobodyJoins d h.known next
-      nobody_given = nobody_then d h.known over next (λ j. known_set h.known r.id done (λ j u. is_some u ≡ true → is_some (map.get h.known j) ≡ true) (λ e. ap is_some k.made) (λ j other e. e) j) (nobody_set d over caller caller_on (ap is_some caller_still))
+      nobody_given = nobody_then d h.known (over k o) next (λ j. known_set h.known r.id (done k o) (λ j u. is_some u ≡ true → is_some (map.get h.known j) ≡ true) (λ e. ap is_some k.made) (λ j other e. e) j) (nobody_set d (over k o) caller caller_on (ap is_some caller_still))
 
       -- an abort that is passed on was told to it: so its holder was made
-      passed : (q : PlainState) → Settled d m q over → (u : Cause) (j : IntentId) → is_some (tx_now d caller waiter) ≡ true → answer ≡ answers.Aborted u → u.holder ≡ Some j → is_some (map.get q.made j) ≡ true
+      passed : (q : PlainState) → Settled d m q (over k o) → (u : Cause) (j : IntentId) → is_some (tx_now d caller waiter) ≡ true → answer ≡ answers.Aborted u → u.holder ≡ Some j → is_some (map.get q.made j) ≡ true
       passed q s u j inside told holder = by_within k.instance.within refl
         where
           by_within : (w : Option TxId) → k.instance.within ≡ w → is_some (map.get q.made j) ≡ true
           by_within None e = let clash = sym inside ∙ ap is_some (sym same_tx ∙ e) in cc
           by_within (Some t) e = returned_cause (λ c. (j : IntentId) → c.holder ≡ Some j → is_some (map.get q.made j) ≡ true) d k.instance t e
-              (λ n c dead j holds. s.holders r.id done n c j (here h.known r.id done) (ap (λ z. is_some (or_own z (own_at n))) e) dead holds) u (returning ∙ ap Return (aborted_by o u told)) j holder
+              (λ n c dead j holds. s.holders r.id (done k o) n c j (here h.known r.id (done k o)) (ap (λ z. is_some (or_own z (own_at n))) e) dead holds) u (returning ∙ ap Return (aborted_by o u told)) j holder
             where
               own_at : ℕ → Option TxId
               own_at n = let given = take n k.instance.answers in tx_by r.id k.instance.func (length given) (effect_after d k.instance given) (txs_after d k.instance given).begun
 
       kept_given : (q : PlainState) → Grows h.plain.made q.made → q.items ≡ h.plain.items → ((x : Item) → listed rows_now x ≡ value_at q x) → Goes d rows_now q next h.locked → Kept h rows_now q next h.locked
-      kept_given q grows items values goes = kept_moving h rows_now q next h.locked goes (ahead_set d over h.locked (ahead_over d c m i r g h live k finds o is) h.locked caller caller_on (none_out h.locked caller caller_unlocked)) sane_given rows_given values
-          (settled_moved d m q over caller waiter caller_still answer (record { no_end = λ c e. let clash = sym stands ∙ e in cc; holder = passed q (settled_over d c m i r g h live k finds o is open_still q grows) }) (settled_over d c m i r g h live k finds o is open_still q grows))
-          (grows_through h.known over next (grows_over d c m i r g h live k finds o is open_still) (grows_moved d over caller waiter answer caller_still))
+      kept_given q grows items values goes = kept_moving h rows_now q next h.locked goes (ahead_set d (over k o) h.locked (ahead_over d c m i r g h live k finds o is) h.locked caller caller_on (none_out h.locked caller caller_unlocked)) sane_given rows_given values
+          (settled_moved d m q (over k o) caller waiter caller_still answer (record { no_end = λ c e. let clash = sym stands ∙ e in cc; holder = passed q (settled_over d c m i r g h live k finds o is open_still q grows) }) (settled_over d c m i r g h live k finds o is open_still q grows))
+          (grows_through h.known (over k o) next (grows_over d c m i r g h live k finds o is open_still) (grows_moved d (over k o) caller waiter answer caller_still))
           (log_frame d m back_key new refl (stays_call (map.get m back_key) x (record x { result = Some o }) at refl) h.plain q h.known next items nobody_given)
           (no_intent d m back_key new next refl)
 
@@ -228,13 +215,13 @@ module _ (d : Deployment) (c : Core) (m : Rows) (i : ℕ) (r : Run) (g : Begun) 
       roots u = ap is_some (set_others m back_key new (root_key u) (no_root_key u b.func (kinds.Invoke b.place) refl))
 
       then_closes : (more : List Entry) (q : PlainState) → Kept h rows_now q next h.locked → RunAt d rows_now q more next (Some (record r { at = Begins (at_stage g stage.Close) }))
-      then_closes more q kept = at_other d c m i r g h live k finds (Return o) is more rows_now q next h.locked done k.later stage.Close refl kept itself (grown_end k.instance o open_still) k.run_answers closes tt (λ e. refl)
+      then_closes more q kept = at_other d c m i r g h live k finds (Return o) is more rows_now q next h.locked (done k o) k.later stage.Close refl kept itself (grown_end k.instance o open_still) k.run_answers closes tt (λ e. refl)
 
       same_shadows : SameShadows m rows_now
       same_shadows = log_shadows d m back_key new refl
 
       -- outside, by an entry
-      given_outside : k.instance.within ≡ None → Left (On stage.Close (Some mark.Step)) rows_now
+      given_outside : k.instance.within ≡ None → Left h i r g (On stage.Close (Some mark.Step)) rows_now
       given_outside own =
           let caller_out : tx_now d caller waiter ≡ None = sym same_tx ∙ own in
           let parts = outside_parts d caller waiter waiter.answers caller_out in
@@ -249,27 +236,27 @@ module _ (d : Deployment) (c : Core) (m : Rows) (i : ℕ) (r : Run) (g : Begun) 
             from = sym k.caller ∙ from ∙ (λ i. Some (record { place = place_of caller (at_call i); func = sym called.func i; waits = waits i }));
             within = same_tx;
           } in
-          let two = with_instance (with_instance h.plain r.id done) caller (answered waiter answer) in
-          let comes_to : two ≡ state = sym (answers_waiter d h.plain r.id k.instance w done o) in
+          let two = with_instance (with_instance h.plain r.id (done k o)) caller (answered waiter answer) in
+          let comes_to : two ≡ state k o h.plain = sym (answers_waiter d h.plain r.id k.instance w (done k o) o) in
           let steps = leads d c m i r g h live k finds o is own open_still next in
           let goes = subst (λ z. Goes d rows_now z next h.locked) comes_to (goes_answered_then h rows_now same_shadows caller waiter answer called.made caller_unlocked (λ e. let clash = sym stands ∙ e in cc)
-          (outside_more d caller waiter waiter.answers parts.0 (ap is_begin stands) answer) r.id is_callee done done caller_still (goes_over d c m i r g h live k finds o is own rows_now same_shadows)) in
-          let kept = kept_given state steps.grows (ap (λ (z : PlainState). z.items) (sym comes_to)) (subst (λ z. (x : Item) → listed rows_now x ≡ value_at z x) comes_to (log_values h back_key new refl)) goes in
-          entered d c m rows_now i r h live roots (turned_by d r g (On stage.Close (Some mark.Step))) mark.Step state next h.locked refl steps (λ u told. cc) (then_closes (c.book ++ Step r.id ∷ []) state kept) (λ e. cc) kept
+          (outside_more d caller waiter waiter.answers parts.0 (ap is_begin stands) answer) r.id is_callee (done k o) (done k o) caller_still (goes_over d c m i r g h live k finds o is own rows_now same_shadows)) in
+          let kept = kept_given (state k o h.plain) steps.grows (ap (λ (z : PlainState). z.items) (sym comes_to)) (subst (λ z. (x : Item) → listed rows_now x ≡ value_at z x) comes_to (log_values h back_key new refl)) goes in
+          entered d c m rows_now i r h live roots (turned_by d r g (On stage.Close (Some mark.Step))) mark.Step (state k o h.plain) next h.locked refl steps (λ u told. cc) (then_closes (c.book ++ Step r.id ∷ []) (state k o h.plain) kept) (λ e. cc) kept
 
       -- inside, by none
-      given_inside : (t : TxId) → k.instance.within ≡ Some t → Left (On stage.Close None) rows_now
+      given_inside : (t : TxId) → k.instance.within ≡ Some t → Left h i r g (On stage.Close None) rows_now
       given_inside t in_it =
           let now : tx_now d r.id k.instance ≡ Some t = ap (λ z. or_own z (tx_by r.id k.instance.func (length k.instance.answers) (effect_of d k.instance) (txs_after d k.instance k.instance.answers).begun)) in_it in
-          let goes = subst (λ z. Goes d rows_now h.plain (map.insert (map.insert h.known z done) caller caller_on) h.locked) (sym called.is_callee)
+          let goes = subst (λ z. Goes d rows_now h.plain (map.insert (map.insert h.known z (done k o)) caller caller_on) h.locked) (sym called.is_callee)
           (returns_go d m rows_now h.plain h.known h.locked caller waiter k.instance b.place.step t o (opens_are_open d m h.plain h.known h.locked r.id k.instance t (sound h) k.made open_still now) called.made callee_here in_it open_still returning same_shadows) in
           let kept = kept_given h.plain (grows_self h.plain.made) refl (log_values h back_key new refl) goes in
           quiet d c m rows_now i r h live roots (turned_by d r g (On stage.Close None)) next h.locked refl refl (then_closes c.book h.plain kept) (λ e. cc) kept
 
-      given_now : Left (back_says (within k.instance.within) back.Set) rows_now
+      given_now : Left h i r g (back_says (within k.instance.within) back.Set) rows_now
       given_now = by_within k.instance.within refl
         where
-          by_within : (w : Option TxId) → k.instance.within ≡ w → Left (back_says (within w) back.Set) rows_now
+          by_within : (w : Option TxId) → k.instance.within ≡ w → Left h i r g (back_says (within w) back.Set) rows_now
           by_within None own = given_outside own
           by_within (Some t) in_it = given_inside t in_it
 
@@ -302,11 +289,11 @@ module _ (d : Deployment) (c : Core) (m : Rows) (i : ℕ) (r : Run) (g : Begun) 
 
   -- ---- it tells its caller, which does not wait, that it is registered
   module _ (out : tx_after d r.id k.instance k.answers ≡ None) where
-    tells_on : (n : Rows) → SameRoots m n → Stays h n → is_waited g.caller ≡ false → Left (On stage.Close None) n
+    tells_on : (n : Rows) → SameRoots m n → Stays h n → is_waited g.caller ≡ false → Left h i r g (On stage.Close None) n
     tells_on n roots rows idle = goes_on d c m i r g h live k finds out (Return o) is n stage.Close refl roots rows tt tt (λ w. let clash = sym idle ∙ w in cc)
 
     pub tell_turn : (b : Option Caller) → is_waited g.caller ≡ false → AfterQuery d h.plain c.now m (λ t. turn_next c i r (turned_by d r g (On stage.Close None))) (tell_asks r.id r.func b)
-    tell_turn None idle = subst (Left (On stage.Close None)) (sym (looked c.now (intent_key r.id r.func) m)) (tells_on m (λ t. refl) (as_it_was h) idle)
+    tell_turn None idle = subst (Left h i r g (On stage.Close None)) (sym (looked c.now (intent_key r.id r.func) m)) (tells_on m (λ t. refl) (as_it_was h) idle)
     tell_turn (Some b) idle =
         let at = invoke_key b.func b.place in
         let row = (act NoteRegistered c.now (map.get m at)).0 in

@@ -1,6 +1,7 @@
 -- A run at its return: who called its instance, and how that ends.
 use Rattle.std.proofs.Common.{◌≡◌, inl, inr, ℕ, Bool, true, false, List, [], ◌∷◌, Option, None, Some, refl, ap, sym, ◌∙◌, subst, is_some}
 use Rattle.std.specs.FinMap as map
+use Rattle.beldi_book.specs.declared.entry.Entry.{Entry}
 use Rattle.beldi_book.specs.declared.entry.Entry.TheVariants.{Step}
 use Rattle.beldi_lang.specs.Callee.{answer_of}
 use Rattle.beldi_lang.specs.declared.effect.Answer.{Answer}
@@ -10,7 +11,7 @@ use Rattle.beldi_laws.proofs.CallsHere.{called_in}
 use Rattle.beldi_laws.proofs.Frames.{NobodyJoins, nobody_set}
 use Rattle.beldi_laws.proofs.Settling.{settled_ended, settled_grown}
 use Rattle.beldi_laws.proofs.Keeping.{SameShadows}
-use Rattle.beldi_laws.proofs.Moves.{change_entered, Entered}
+use Rattle.beldi_laws.proofs.Moves.{AfterTurn, change_entered, Entered}
 use Rattle.beldi_laws.proofs.Passing.{returns_in, tx_is}
 use Rattle.beldi_laws.proofs.Shown.{Settled, settled, legal_sane}
 use Rattle.beldi_laws.proofs.Turns.{answer_here, effect_here, effect_next, sane_instance, plain_there, outside_there}
@@ -28,9 +29,10 @@ use Rattle.beldi_plain.specs.Operation.{touched}
 use Rattle.beldi_plain.specs.Plain.{PlainState, Instance, effect_of, with_instance, ended, kind_of, step_by, waits_at}
 use Rattle.beldi_row.specs.Table.{Rows}
 use Rattle.beldi_step.specs.Host.{Core}
-use Rattle.beldi_step.specs.Run.{is_waited, place_of, tx_at as run_tx, within}
+use Rattle.beldi_step.specs.Run.{is_waited, place_of, tx_at as run_tx, turned_by, within}
 use Rattle.beldi_step.specs.declared.run.Begun.{Begun}
 use Rattle.beldi_step.specs.declared.run.Run.{Run}
+use Rattle.beldi_step.specs.declared.run.Says.{Says}
 use Rattle.beldi_tree.specs.declared.deployment.Deployment.{Deployment}
 use Rattle.beldi_value.specs.Id.{child_of, has_no_hops, root_of}
 use Rattle.beldi_value.specs.declared.id.IntentId.{IntentId}
@@ -85,6 +87,22 @@ pub not_root : (b : Bool) → (b ≡ true → ⊥) → b ≡ false
 not_root true h = absurd (h refl)
 not_root false h = refl
 
+-- of a run that returns: its instance as it has ended, what is known then, and the plain state after its step
+module _ {d : Deployment} {book : List Entry} {known : Known} {r : Run} {g : Begun} (k : Knows d book known r g) (o : Outcome) where
+  abbrev pub done : Instance
+  done = ended k.instance o
+
+  abbrev pub over : Known
+  over = map.insert known r.id done
+
+  abbrev pub state : PlainState → PlainState
+  state p = step_by p r.id k.instance (Return o)
+
+-- .. and what its turn leaves
+module _ {d : Deployment} {c : Core} {m : Rows} (h : Right d c m) (i : ℕ) (r : Run) (g : Begun) where
+  abbrev pub Left : Says → Rows → Type 0
+  Left s n = AfterTurn d h.plain c i r (turned_by d r g s) n
+
 -- a return has no answer
 unanswered : (p : Place) (t : Option TxId) (o : Outcome) (a : Answer) → IsAnswer p t (Return o) a → ⊥
 unanswered p None o a h = h
@@ -120,12 +138,6 @@ module _ (d : Deployment) (c : Core) (m : Rows) (i : ℕ) (r : Run) (g : Begun) 
   pub same_outcome : (u : Outcome) → k.instance.outcome ≡ Some u → u ≡ o
   same_outcome u has = let both : Return u ≡ Return o = sym ((sane_instance d c m r g h k).over u has) ∙ returns_now in cc
 
-  abbrev pub done : Instance
-  done = ended k.instance o
-
-  abbrev pub over : Known
-  over = map.insert h.known r.id done
-
   -- who was called in a transaction has its row
   seated : (t : TxId) → k.instance.within ≡ Some t → is_some (map.get m (key_in k.instance.func r.id)) ≡ true
   seated t within = ap (λ f. is_some (map.get m (key_in f r.id))) k.func ∙ finds.row (not_root (has_no_hops r.id.hops) (λ e. let clash = sym within ∙ (root_outside d h.known r.id k.instance h.sane k.made e).1 in cc))
@@ -138,19 +150,19 @@ module _ (d : Deployment) (c : Core) (m : Rows) (i : ℕ) (r : Run) (g : Begun) 
       by_within None e = refl
       by_within (Some t) e = let clash = sym idle ∙ ap is_waited (k.caller ∙ (caller_in d h.known h.sane t r.id k.instance k.made e).from) in cc
 
-  pub ahead_over : LockedAtEnds d over h.locked
-  ahead_over = ahead_set d h.known h.locked h.locked_at_ends h.locked r.id done (none_out h.locked r.id unlocked)
+  pub ahead_over : LockedAtEnds d (over k o) h.locked
+  ahead_over = ahead_set d h.known h.locked h.locked_at_ends h.locked r.id (done k o) (none_out h.locked r.id unlocked)
 
   -- who ends was known
-  pub nobody_over : NobodyJoins d h.known over
-  nobody_over = nobody_set d h.known r.id done (ap is_some k.made)
+  pub nobody_over : NobodyJoins d h.known (over k o)
+  nobody_over = nobody_set d h.known r.id (done k o) (ap is_some k.made)
 
   -- its step ends it, and answers its caller
   module _ (open_still : k.instance.outcome ≡ None) where
-    pub grows_over : Grows h.known over
-    grows_over = grows_at h.known r.id k.instance done k.made (grown_end k.instance o open_still)
+    pub grows_over : Grows h.known (over k o)
+    grows_over = grows_at h.known r.id k.instance (done k o) k.made (grown_end k.instance o open_still)
 
-    pub settled_over : (p : PlainState) → Grows h.plain.made p.made → Settled d m p over
+    pub settled_over : (p : PlainState) → Grows h.plain.made p.made → Settled d m p (over k o)
     settled_over p grows = settled_ended d m p h.known r.id k.instance o k.made seated (settled_grown d m h.plain p h.known grows (settled h))
 
   -- outside it is the plain step
@@ -161,14 +173,11 @@ module _ (d : Deployment) (c : Core) (m : Rows) (i : ℕ) (r : Run) (g : Begun) 
     there : map.get h.plain.made r.id ≡ Some k.instance
     there = plain_there d c m i r g h live k finds out (Return o) is at_end
 
-    pub goes_over : (n : Rows) → SameShadows m n → Goes d n (with_instance h.plain r.id done) over h.locked
-    goes_over n same = goes_one d m h.plain h.known h.locked h.shadows h.beside r.id done
+    pub goes_over : (n : Rows) → SameShadows m n → Goes d n (with_instance h.plain r.id (done k o)) (over k o) h.locked
+    goes_over n same = goes_one d m h.plain h.known h.locked h.shadows h.beside r.id (done k o)
         (set_over d m h.plain h.known h.locked h.shadows h.beside h.sane h.rows (legal_sane h) r.id k.instance k.made o (outside_there d c.book h.known r g k out at_end)) n same (got_ended d m h.known h.locked h.shadows.got n same r.id k.instance k.made o)
 
-    abbrev pub state : PlainState
-    state = step_by h.plain r.id k.instance (Return o)
-
-    pub leads : k.instance.outcome ≡ None → (next : Known) → Entered d c h.plain h.known (Step r.id) state next
-    leads open_still next = change_entered d c m h (Step r.id) state next refl
+    pub leads : k.instance.outcome ≡ None → (next : Known) → Entered d c h.plain h.known (Step r.id) (state k o h.plain) next
+    leads open_still next = change_entered d c m h (Step r.id) (state k o h.plain) next refl
         (enabled_step d h.plain r.id k.instance there open_still (ap (waits_at h.plain.made r.id k.instance) returns_now) (ap (kind_of r.id) returns_now) ∙ ap (λ z. Some (step_by h.plain r.id k.instance z)) returns_now)
         (λ x touched. let none = sym (ap (touched_by d) there ∙ ap (item_touched k.instance) returns_now) ∙ touched in cc)
