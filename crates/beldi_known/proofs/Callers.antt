@@ -1,5 +1,5 @@
--- Who called an instance in a transaction; and what holds of all that were called in one, by who called them.
-use Rattle.std.proofs.Common.{◌≡◌, ◌<◌, ◌≤◌, ℕ, zero, suc, Bool, true, false, [], ◌∷◌, ◌++◌, length, take, Option, None, Some, refl, ap, sym, ◌∙◌, subst, append_assoc, arith, inl, inr}
+-- Who called an instance; and what holds of all that were called in a transaction, by who called them.
+use Rattle.std.proofs.Common.{◌≡◌, ◌<◌, ◌≤◌, ℕ, zero, suc, Bool, true, false, [], ◌∷◌, ◌++◌, length, take, Option, None, Some, refl, ap, sym, ◌∙◌, subst, append_assoc, arith, ◌⊎◌, inl, inr}
 use Rattle.std.specs.Prelude.{slice_get}
 use Rattle.std.specs.Option.{option_map}
 use Rattle.std.specs.FinMap as map
@@ -23,11 +23,40 @@ use Rattle.beldi_known.specs.Known.{Known}
 use Rattle.beldi_known.specs.Sane.{Sane}
 use Rattle.beldi_known.proofs.OwnTx.{Own, own_by}
 
+-- who is known by an id of a callee was called there
+pub called_in : (d : Deployment) (known : Known) → Sane d known → (id : IntentId) (n : ℕ) (j : Instance) → map.get known (child_of id n) ≡ Some j → (q : Instance) × (map.get known id ≡ Some q) × IsCalled d id q n j
+called_in d known sane id n j at = by_caller (map.get known id) refl (sane.called id n j at)
+  where
+    by_caller : (o : Option Instance) → map.get known id ≡ o → CalledBy d id o n j → (q : Instance) × (map.get known id ≡ Some q) × IsCalled d id q n j
+    by_caller None e c = absurd c
+    by_caller (Some q) e c = (q, e, c)
+
+-- an instance was called, by this one
+pub record WasCalled (d : Deployment) (known : Known) (i : IntentId) (z : Instance) : Type 0 where
+  pub caller : IntentId
+  pub step : ℕ
+  pub is : i ≡ child_of caller step
+  pub waiter : Instance
+  pub made : map.get known caller ≡ Some waiter
+  pub called : IsCalled d caller waiter step z
+
+-- who is known is a root, or was called
+pub root_or_called : (d : Deployment) (known : Known) → Sane d known → (i : IntentId) (z : Instance) → map.get known i ≡ Some z → (i ≡ root_of i.ticket) ⊎ WasCalled d known i z
+root_or_called d known sane i z is = elim (last_hop i.hops) [
+  | inl e ↦ inl (λ k. record { ticket = i.ticket; hops = e k })
+  | inr r ↦
+      let c : IntentId = record { ticket = i.ticket; hops = r.0 } in
+      let same : i ≡ child_of c r.1 = λ k. record { ticket = i.ticket; hops = r.2 k } in
+      let at = called_in d known sane c r.1 z (ap (map.get known) (sym same) ∙ is) in
+      inr (record { caller = c; step = r.1; is = same; waiter = at.0; made = at.1; called = at.2 })
+]
+
 -- who called an instance, in a transaction
 pub record CallerOf (d : Deployment) (known : Known) (s : TxId) (i : IntentId) (z : Instance) : Type 0 where
   pub caller : IntentId
   pub step : ℕ
   pub is : i ≡ child_of caller step
+  pub there : map.get known i ≡ Some z
   pub waiter : Instance
   pub made : map.get known caller ≡ Some waiter
   pub here : step ≤ length waiter.answers
@@ -37,34 +66,26 @@ pub record CallerOf (d : Deployment) (known : Known) (s : TxId) (i : IntentId) (
   pub from : z.from ≡ Some (record { place = record { intent = caller; step = step }; func = waiter.func; waits = true })
 
 module _ (d : Deployment) (known : Known) (sane : Sane d known) (s : TxId) (i : IntentId) (z : Instance) (is : map.get known i ≡ Some z) (within : z.within ≡ Some s) where
-  by_waits : (c : IntentId) (n : ℕ) → i ≡ child_of c n → (w : Instance) → map.get known c ≡ Some w → (h : IsCalled d c w n z) (b : Bool) → h.waits ≡ b → CallerOf d known s i z
-  by_waits c n same w made h false so = let clash = sym within ∙ h.within ∙ ap (λ b. within_by b (tx_at d c w n)) so in cc
-  by_waits c n same w made h true so = record {
-    caller = c;
-    step = n;
-    is = same;
-    waiter = w;
-    made = made;
-    here = h.here;
-    call = h.call ∙ ap (λ b. call_of b z.func z.args) so;
-    within = sym (h.within ∙ ap (λ b. within_by b (tx_at d c w n)) so) ∙ within;
-    answered = h.answered ∙ ap (λ b. answer_given b z.outcome) so;
-    from = h.from ∙ ap (λ b. Some (record { place = record { intent = c; step = n }; func = w.func; waits = b })) so;
+  by_waits : (c : WasCalled d known i z) (b : Bool) → c.called.waits ≡ b → CallerOf d known s i z
+  by_waits c false so = let clash = sym within ∙ c.called.within ∙ ap (λ b. within_by b (tx_at d c.caller c.waiter c.step)) so in cc
+  by_waits c true so = record {
+    caller = c.caller;
+    step = c.step;
+    is = c.is;
+    there = is;
+    waiter = c.waiter;
+    made = c.made;
+    here = c.called.here;
+    call = c.called.call ∙ ap (λ b. call_of b z.func z.args) so;
+    within = sym (c.called.within ∙ ap (λ b. within_by b (tx_at d c.caller c.waiter c.step)) so) ∙ within;
+    answered = c.called.answered ∙ ap (λ b. answer_given b z.outcome) so;
+    from = c.called.from ∙ ap (λ b. Some (record { place = record { intent = c.caller; step = c.step }; func = c.waiter.func; waits = b })) so;
   }
 
-  by_caller : (c : IntentId) (n : ℕ) → i ≡ child_of c n → (o : Option Instance) → map.get known c ≡ o → CalledBy d c o n z → CallerOf d known s i z
-  by_caller c n same None made h = absurd h
-  by_caller c n same (Some w) made h = by_waits c n same w made h h.waits refl
-
   pub caller_in : CallerOf d known s i z
-  caller_in = elim (last_hop i.hops) [
-    | inl e ↦
-        let root : i ≡ root_of i.ticket = λ k. record { ticket = i.ticket; hops = e k } in
-        let clash = sym (sane.roots i.ticket z (ap (map.get known) (sym root) ∙ is)).1 ∙ within in cc
-    | inr r ↦
-        let c : IntentId = record { ticket = i.ticket; hops = r.0 } in
-        let same : i ≡ child_of c r.1 = λ k. record { ticket = i.ticket; hops = r.2 k } in
-        by_caller c r.1 same (map.get known c) refl (sane.called c r.1 z (ap (map.get known) (sym same) ∙ is))
+  caller_in = elim (root_or_called d known sane i z is) [
+    | inl root ↦ let clash = sym (sane.roots i.ticket z (ap (map.get known) (sym root) ∙ is)).1 ∙ within in cc
+    | inr c ↦ by_waits c c.called.waits refl
   ]
 
 -- what is called by who is below the owner is below it

@@ -40,6 +40,10 @@ tx_same s t h =
     let f = place_same (place_of s.intent s.begin) (place_of t.intent t.begin) e.0 in
     λ i. record { intent = ap (λ (z : Place). z.intent) f i; begin = ap (λ (z : Place). z.step) f i; func = eqb-true s.func t.func e.1 i }
 
+pub is_its : (t : TxId) (o : Option TxId) → is_tx t o ≡ true → o ≡ Some t
+is_its t None h = cc
+is_its t (Some s) h = ap Some (sym (tx_same t s h))
+
 -- no other owner than the transaction: no intent holds it
 owns_none : (s : TxId) (o : Option Owner) (j : IntentId) → other_owner (Tx s) o ≡ None → is_owner o (Intent j) ≡ false
 owns_none s None j h = refl

@@ -1,5 +1,5 @@
 -- A row of a read decides no transaction that owns an item, so what is listed stays.
-use Rattle.std.proofs.Common.{◌≡◌, ◌<◌, ◌⊎◌, inl, inr, ◌&&◌, ◌||◌, not, Bool, true, false, cond, List, [], ◌∷◌, ◌++◌, length, length-append, Option, None, Some, refl, ap, sym, ◌∙◌, subst, append-nil, append_assoc, arith, if◌then◌else◌}
+use Rattle.std.proofs.Common.{◌≡◌, ◌<◌, ◌⊎◌, inl, inr, ℕ, ◌&&◌, ◌||◌, not, Bool, true, false, cond, List, [], ◌∷◌, ◌++◌, length, length-append, Option, None, Some, refl, ap, sym, ◌∙◌, append-nil, append_assoc, arith, if◌then◌else◌}
 use Rattle.std.specs.FinMap as map
 use Rattle.std.specs.Ordering.{is_eq}
 use Rattle.std.proofs.lemmas.Bool.{and_parts, false_from_ne_true}
@@ -32,12 +32,12 @@ use Rattle.beldi_order.specs.Txs.{effect_after, along, txs_after, tx_by, tx_afte
 use Rattle.beldi_plain.specs.Operation.{touched}
 use Rattle.beldi_known.specs.Matches.{TxsMatch}
 use Rattle.beldi_order.proofs.Ends.{fits_at}
-use Rattle.beldi_known.proofs.Locks.{tx_same}
+use Rattle.beldi_known.proofs.Locks.{is_its, tx_same}
 use Rattle.beldi_known.proofs.Acts.{kinds_apart, is_data, is_shadow, content_apart}
 use Rattle.beldi_known.specs.Beside.{is_begin}
 use Rattle.beldi_step.specs.Tables.{decision_key, is_committed, value_in}
 use Rattle.beldi_known.specs.Listed.{listed_under, listed}
-use Rattle.beldi_known.proofs.OwnTx.{own_by}
+use Rattle.beldi_known.proofs.OwnTx.{Own, own_by}
 use Rattle.beldi_known.proofs.Lists.{elsewhere}
 
 -- ---- a step that a fold has gathered
@@ -76,6 +76,10 @@ asked_for d t x j z b h = by_before (got_before d t x j z) refl h
       | inr k ↦ record { given = k.before; later = k.answer ∷ k.later; all = k.parts; on = (and_parts (is_on t x z.func (tx_after d j z k.before) (effect_after d z k.before)) (not (is_aborted k.answer)) k.holds).0 }
     ]
 
+pub no_begin : (x : Item) (func : ℕ) (e : Effect) → is_item x func (touched e) ≡ true → is_begin e ≡ false
+no_begin x func effect.Begin h = cc
+no_begin x func e h = refl
+
 -- who was called in a transaction gets for that one
 pub member_tx : (d : Deployment) (s : TxId) (x : Item) (j : IntentId) (z : Instance) (u : TxId) → z.within ≡ Some u → (b : Bool) → got_by d s x j b (Some z) ≡ true → s ≡ u
 member_tx d s x j z u within b got =
@@ -90,30 +94,22 @@ pub record Since (j : IntentId) (z : Instance) (t : TxId) : Type 0 where
   pub before : t.begin < length z.answers
 
 module _ (d : Deployment) (t : TxId) (x : Item) (j : IntentId) (z : Instance) (none : z.within ≡ None) where
-  -- an operation of it, after these answers
-  operation : (ts : List Answer) → is_on t x z.func (tx_after d j z ts) (effect_after d z ts) ≡ true → (t.intent ≡ j) × (t.func ≡ z.func) × (t.begin < length ts)
-  operation ts h = by_tx (tx_by j z.func (length ts) (effect_after d z ts) (txs_after d z ts).begun) refl
-      (sym (ap (λ w. is_tx t (or_own w (tx_by j z.func (length ts) (effect_after d z ts) (txs_after d z ts).begun)) && is_item x z.func (touched (effect_after d z ts))) none) ∙ h)
-    where
-      no_begin : (e : Effect) → is_item x z.func (touched e) ≡ true → is_begin e ≡ false
-      no_begin effect.Begin g = cc
-      no_begin e g = refl
-
-      by_tx : (o : Option TxId) → tx_by j z.func (length ts) (effect_after d z ts) (txs_after d z ts).begun ≡ o → (is_tx t o && is_item x z.func (touched (effect_after d z ts))) ≡ true → (t.intent ≡ j) × (t.func ≡ z.func) × (t.begin < length ts)
-      by_tx None e g = cc
-      by_tx (Some s) e g =
-          let p = and_parts (is_tx t (Some s)) (is_item x z.func (touched (effect_after d z ts))) g in
-          let k = own_by j z.func (length ts) (effect_after d z ts) (txs_after d z ts).begun s (no_begin (effect_after d z ts) p.1) e in
-          let same = tx_same t s p.0 in
-          (ap (λ (y : TxId). y.intent) same ∙ k.intent, ap (λ (y : TxId). y.func) same ∙ k.func_is, subst (λ (y : TxId). y.begin < length ts) (sym same) ((fits_at d z ts).before s.begin k.begun))
+  -- an operation of it, after these answers, is in its own
+  pub asked_own : (ts : List Answer) → is_on t x z.func (tx_after d j z ts) (effect_after d z ts) ≡ true → Own j z.func (txs_after d z ts).begun t
+  asked_own ts h =
+      let e = effect_after d z ts in
+      let o = (txs_after d z ts).begun in
+      let u = tx_by j z.func (length ts) e o in
+      let p = and_parts (is_tx t u) (is_item x z.func (touched e)) (sym (ap (λ w. is_tx t (or_own w u) && is_item x z.func (touched e)) none) ∙ h) in
+      own_by j z.func (length ts) e o t (no_begin x z.func e p.1) (is_its t u p.0)
 
   pub got_since : (b : Bool) → got_by d t x j b (Some z) ≡ true → Since j z t
   got_since b h =
       let a = asked_for d t x j z b h in
-      let p = operation a.given a.on in
+      let own = asked_own a.given a.on in
       let l = length-append a.given a.later in
       let n = ap length a.all in
-      let q = p.2 in record { own = p.0; func_is = p.1; before = omega (arith, l, n, q) }
+      let q = (fits_at d z a.given).before t.begin own.begun in record { own = own.intent; func_is = own.func_is; before = omega (arith, l, n, q) }
 
 -- ---- PutRead of a read at the front
 -- the owner is known, and went past the Begin

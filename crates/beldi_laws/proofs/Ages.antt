@@ -1,10 +1,9 @@
 -- Who lets an operation inside die: it owns the item, was made, and is older than the transaction.
-use Rattle.std.proofs.Common.{◌≡◌, ◌∙◌, inl, inr, ℕ, ◌&&◌, ◌||◌, not, Bool, true, false, List, [], ◌∷◌, ◌++◌, length, length-append, Option, None, Some, is_some, refl, ap, sym, subst, append_assoc, append-nil, eq-eqb, arith, take, drop, take-append-drop, zero, suc, ◌+◌, ◌<◌, ◌≤◌, if◌then◌else◌}
+use Rattle.std.proofs.Common.{◌≡◌, ◌∙◌, ℕ, Bool, true, false, List, [], ◌∷◌, ◌++◌, length, length-append, Option, None, Some, is_some, refl, ap, sym, subst, append_assoc, append-nil, eq-eqb, arith, take, drop, take-append-drop, ◌<◌, ◌≤◌, if◌then◌else◌}
 use Rattle.std.specs.Prelude.{nat_lt}
 use Rattle.std.proofs.lemmas.List.{length-take-le}
 use borrow.Author.Tests.{ltb-true, ltb-false}
 use Rattle.std.specs.FinMap as map
-use Rattle.std.proofs.lemmas.Bool.{and_parts}
 use Rattle.beldi_value.specs.Id.{age_of, is_older}
 use Rattle.beldi_value.specs.declared.id.IntentId.{IntentId}
 use Rattle.beldi_value.specs.declared.place.Owner.{Owner}
@@ -24,27 +23,24 @@ use Rattle.beldi_daal.specs.Logged.{barred, dies, died_of, held_by, waited}
 use Rattle.beldi_daal.specs.declared.cell.CellOp.TheVariants.{Lock}
 use Rattle.beldi_plain.specs.Holds.{holds}
 use Rattle.beldi_plain.specs.Item.{Item}
-use Rattle.beldi_plain.specs.Operation.{touched}
-use Rattle.beldi_plain.specs.Piece.{is_aborted}
 use Rattle.beldi_plain.specs.Plain.{Instance, PlainState, effect_of}
 use Rattle.beldi_order.specs.Inside.{IsBelow}
-use Rattle.beldi_order.specs.Txs.{Txs, effect_after, end_of, is_at, or_own, tx_after, tx_by, tx_now, txs_after, txs_by}
+use Rattle.beldi_order.specs.Txs.{Txs, effect_after, end_of, is_at, or_own, tx_by, tx_now, txs_after, txs_by}
 use Rattle.beldi_order.proofs.Maps.{same_some}
 use Rattle.beldi_order.proofs.Went.{txs_pushed}
 use Rattle.beldi_known.specs.Acts.{Told, died, held, lock_on, lock_or, noted_or, with_note}
 use Rattle.beldi_known.specs.Beside.{Beside, is_begin}
 use Rattle.beldi_known.specs.Contents.{content_of, is_owner}
-use Rattle.beldi_known.specs.Known.{Known, ended_by, got_before, got_by, is_item, is_on, is_tx, tx_end}
+use Rattle.beldi_known.specs.Known.{Known, ended_by, got_by, tx_end}
 use Rattle.beldi_known.specs.Matches.{Matches}
 use Rattle.beldi_known.specs.Sane.{Sane}
 use Rattle.beldi_order.proofs.Ends.{ended_stays, fits}
-use Rattle.beldi_known.proofs.Locks.{tx_same}
-use Rattle.beldi_known.proofs.Callers.{CallerOf, called_below, caller_in}
-use Rattle.beldi_known.proofs.OwnTx.{own, own_by}
+use Rattle.beldi_known.proofs.Callers.{all_called, called_below}
+use Rattle.beldi_known.proofs.OwnTx.{Own, own}
 use Rattle.beldi_known.proofs.Owners.{her_own}
 use Rattle.beldi_known.proofs.Participants.{IsOpenOwner, open_owner}
 use Rattle.beldi_known.proofs.Phases.{begin_is}
-use Rattle.beldi_known.proofs.ReadLists.{gathered, member_tx}
+use Rattle.beldi_known.proofs.ReadLists.{asked_for, asked_own, member_tx}
 use Rattle.beldi_laws.specs.Inside.{OwnersCallNobody, Released}
 use Rattle.beldi_laws.proofs.Ended.{EndedAt, ended_at}
 
@@ -128,54 +124,20 @@ module _ (d : Deployment) (m : Rows) (known : Known) (locked : IntentId → Bool
     pub all : given ++ later ≡ owner.answers
     pub begun : (txs_after d owner given).begun ≡ Some t.begin
 
-  -- at a step of its owner, which is no Begin
-  module _ (j : IntentId) (z : Instance) (is : map.get known j ≡ Some z) (out : z.within ≡ None) (t : TxId) where
-    open_there : (given later : List Answer) → given ++ later ≡ z.answers → is_begin (effect_after d z given) ≡ false → tx_after d j z given ≡ Some t → WasOpen t
-    open_there given later all apart inside =
-        let k = own_by j z.func (length given) (effect_after d z given) (txs_after d z given).begun t apart (sym (ap (λ w. or_own w (tx_by j z.func (length given) (effect_after d z given) (txs_after d z given).begun)) out) ∙ inside) in
-        record { owner = z; made = ap (map.get known) k.intent ∙ is; outside = out; func_is = k.func_is; given = given; later = later; all = all; begun = k.begun }
+  -- at a step of its owner
+  module _ (t : TxId) (j : IntentId) (z : Instance) (is : map.get known j ≡ Some z) (out : z.within ≡ None) where
+    open_there : (given later : List Answer) → given ++ later ≡ z.answers → Own j z.func (txs_after d z given).begun t → WasOpen t
+    open_there given later all own = record { owner = z; made = ap (map.get known) own.intent ∙ is; outside = out; func_is = own.func_is; given = given; later = later; all = all; begun = own.begun }
 
-    -- .. as where it got an item
-    operated : (x : Item) (given later : List Answer) → given ++ later ≡ z.answers → is_on t x z.func (tx_after d j z given) (effect_after d z given) ≡ true → WasOpen t
-    operated x given later all on = by_tx (tx_after d j z given) refl (and_parts (is_tx t (tx_after d j z given)) (is_item x z.func (touched (effect_after d z given))) on)
-      where
-        no_begin : (e : Effect) → is_item x z.func (touched e) ≡ true → is_begin e ≡ false
-        no_begin effect.Begin g = cc
-        no_begin e g = refl
-
-        by_tx : (o : Option TxId) → tx_after d j z given ≡ o → (is_tx t o ≡ true) × (is_item x z.func (touched (effect_after d z given)) ≡ true) → WasOpen t
-        by_tx None e g = let clash = g.0 in cc
-        by_tx (Some u) e g = open_there given later all (no_begin (effect_after d z given) g.1) (e ∙ ap Some (sym (tx_same t u g.0)))
-
+    -- .. as where it asked for an item
     own_open : (x : Item) (b : Bool) → got_by d t x j b (Some z) ≡ true → WasOpen t
-    own_open x b got = by_before (got_before d t x j z) refl got
-      where
-        by_before : (u : Bool) → got_before d t x j z ≡ u → (u || (b && is_on t x z.func (tx_now d j z) (effect_of d z))) ≡ true → WasOpen t
-        by_before false e g = operated x z.answers [] (append-nil z.answers) (and_parts b (is_on t x z.func (tx_now d j z) (effect_of d z)) g).1
-        by_before true e g = elim (gathered (λ ts c. is_on t x z.func (tx_after d j z ts) (effect_after d z ts) && not (is_aborted c)) [] z.answers false e) [
-          | inl k ↦ cc
-          | inr k ↦ operated x k.before (k.answer ∷ k.later) k.parts (and_parts (is_on t x z.func (tx_after d j z k.before) (effect_after d z k.before)) (not (is_aborted k.answer)) k.holds).0
-        ]
+    own_open x b got = let a = asked_for d t x j z b got in open_there a.given a.later a.all (asked_own d t x j z out a.given a.on)
 
   -- where somebody was called in it
-  called_by_step : (t : TxId) (j : IntentId) (z : Instance) → map.get known j ≡ Some z → (inner : z.within ≡ Some t) → ((i : IntentId) (y : Instance) → length i.hops < length j.hops → map.get known i ≡ Some y → y.within ≡ Some t → WasOpen t) → WasOpen t
-  called_by_step t j z is inner up = by_within c.waiter.within refl
-    where
-      c : CallerOf d known t j z
-      c = caller_in d known sane t j z is inner
-
-      given : List Answer
-      given = take c.step c.waiter.answers
-
-      by_within : (o : Option TxId) → c.waiter.within ≡ o → WasOpen t
-      by_within None e = open_there c.caller c.waiter c.made e t given (drop c.step c.waiter.answers) (take-append-drop c.step c.waiter.answers) (ap is_begin c.call) c.within
-      by_within (Some u) e =
-          let same : u ≡ t = same_some (sym (ap (λ w. or_own w (tx_by c.caller c.waiter.func (length given) (effect_after d c.waiter given) (txs_after d c.waiter given).begun)) e) ∙ c.within) in
-          up c.caller c.waiter (let l = length-append c.caller.hops (c.step ∷ []) in let k = ap (λ (y : IntentId). length y.hops) c.is in omega (arith, l, k)) c.made (e ∙ ap Some same)
-
-  called_upto : (n : ℕ) (t : TxId) (j : IntentId) (z : Instance) → length j.hops < n → map.get known j ≡ Some z → z.within ≡ Some t → WasOpen t
-  called_upto zero t j z few is inner = absurd (omega (arith, few))
-  called_upto (suc n) t j z few is inner = called_by_step t j z is inner (λ i y less. called_upto n t i y (omega (arith, few, less)))
+  called_open : (t : TxId) (j : IntentId) (z : Instance) → map.get known j ≡ Some z → z.within ≡ Some t → WasOpen t
+  called_open t = all_called d known sane t (λ j z. WasOpen t)
+      (λ j z inner c outside own. open_there t c.caller c.waiter c.made outside (take c.step c.waiter.answers) (drop c.step c.waiter.answers) (take-append-drop c.step c.waiter.answers) own)
+      (λ j z inner c up so. so)
 
   pub owns_so : (t : TxId) (x : Item) → (content_of m x).owner ≡ Some (Tx t) → WasOpen t
   owns_so t x owned = let g = (rows.txs x).owned_is_got t owned in by_member g.member (map.get known g.member) refl g.got
@@ -185,8 +147,8 @@ module _ (d : Deployment) (m : Rows) (known : Known) (locked : IntentId → Bool
       by_member j (Some z) e g = by_within z.within refl
         where
           by_within : (w : Option TxId) → z.within ≡ w → WasOpen t
-          by_within None out = own_open j z e out t x (locked j) g
-          by_within (Some u) inner = called_upto (length j.hops + 1) t j z (omega arith) e (inner ∙ ap Some (sym (member_tx d t x j z u inner (locked j) g)))
+          by_within None out = own_open t j z e out x (locked j) g
+          by_within (Some u) inner = called_open t j z e (inner ∙ ap Some (sym (member_tx d t x j z u inner (locked j) g)))
 
   -- so who owns an item was made
   pub holder_made : (p : PlainState) → Beside d p known → (x : Item) (holder : IntentId) → holds d x (map.get known holder) ≡ holds d x (map.get p.made holder) → Holder (content_of m x).owner holder → is_some (map.get p.made holder) ≡ true

@@ -24,7 +24,7 @@ use Rattle.beldi_order.proofs.Called.{last_hop}
 use Rattle.beldi_order.proofs.Maps.{same_some, here, elsewhere, made_set}
 use Rattle.beldi_order.specs.Grown.{Grows}
 use Rattle.beldi_order.specs.Inside.{IsBelow}
-use Rattle.beldi_order.specs.Sane.{call_of, answer_given, within_by, IsCalled, CalledBy}
+use Rattle.beldi_order.specs.Sane.{call_of, answer_given, within_by, CalledBy}
 use Rattle.beldi_plain.specs.Guard.{touched_by, item_touched}
 use Rattle.beldi_plain.specs.Piece.{tx_begun}
 use Rattle.beldi_plain.specs.Item.{Item}
@@ -59,6 +59,7 @@ use Rattle.beldi_known.specs.Matches.{Matches, LockedAtEnds}
 use Rattle.beldi_value.specs.declared.place.TxId.{TxId}
 use Rattle.beldi_value.specs.declared.place.Owner.TheVariants.{Tx as ByTx}
 use Rattle.beldi_known.proofs.Frame.{at_once_same}
+use Rattle.beldi_known.proofs.Callers.{called_in}
 use Rattle.beldi_known.proofs.Calls.{call_opened, made_owes}
 use Rattle.beldi_laws.proofs.Outside.{plain_none}
 use Rattle.beldi_known.proofs.AtOnce.{origin_stays}
@@ -78,14 +79,7 @@ same_call true false f g v u h = cc
 same_call false true f g v u h = cc
 same_call false false f g v u h = (refl, cc, cc)
 
--- who is known by an id of a callee was called there; and who is not known called nobody
-pub called_in : (d : Deployment) (known : Known) → Sane d known → (id : IntentId) (n : ℕ) (j : Instance) → map.get known (child_of id n) ≡ Some j → (q : Instance) × (map.get known id ≡ Some q) × IsCalled d id q n j
-called_in d known sane id n j at = by_caller (map.get known id) refl (sane.called id n j at)
-  where
-    by_caller : (o : Option Instance) → map.get known id ≡ o → CalledBy d id o n j → (q : Instance) × (map.get known id ≡ Some q) × IsCalled d id q n j
-    by_caller None e c = absurd c
-    by_caller (Some q) e c = (q, e, c)
-
+-- who is not known called nobody
 pub childless : (d : Deployment) (known : Known) → Sane d known → (id : IntentId) → map.get known id ≡ None → (n : ℕ) → map.get known (child_of id n) ≡ None
 childless d known sane id new n = by_callee (map.get known (child_of id n)) refl
   where

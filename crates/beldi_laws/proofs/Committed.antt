@@ -1,5 +1,5 @@
 -- Who was called in a transaction is in the plain state exactly where the transaction has committed, as its decision's row says.
-use Rattle.std.proofs.Common.{◌≡◌, ◌∙◌, ℕ, zero, suc, ◌<◌, Bool, true, false, List, ◌∷◌, [], length, length-append, take, drop, Option, Some, None, refl, ap, sym, subst, arith, eq-eqb, if◌then◌else◌}
+use Rattle.std.proofs.Common.{◌≡◌, ◌∙◌, ℕ, Bool, true, false, List, take, drop, Option, Some, None, refl, ap, sym, subst, arith, eq-eqb, if◌then◌else◌}
 use Rattle.std.specs.Prelude.{slice_get}
 use Rattle.std.specs.FinMap as map
 use Rattle.std.proofs.lemmas.List.{take-append-drop, take-append-le}
@@ -14,12 +14,12 @@ use Rattle.beldi_row.specs.declared.row.Row.TheVariants as rows
 use Rattle.beldi_plain.specs.Plain.{Instance, PlainState, effect_before}
 use Rattle.beldi_order.specs.Grown.{Grown}
 use Rattle.beldi_order.specs.Sane as plain
-use Rattle.beldi_order.specs.Txs.{effect_after, end_of, or_own, tx_by, txs_after}
+use Rattle.beldi_order.specs.Txs.{effect_after, end_of}
 use Rattle.beldi_order.proofs.Ends.{fits_at}
 use Rattle.beldi_order.proofs.Maps.{same_some}
 use Rattle.beldi_step.specs.Run.{place_of}
 use Rattle.beldi_step.specs.Tables.{decision_key, is_committed}
-use Rattle.beldi_known.specs.Beside.{Beside, is_begin}
+use Rattle.beldi_known.specs.Beside.{Beside}
 use Rattle.beldi_known.specs.Known.{Known, at_step, decision_by, ended_by, owed_read, owed_value, read_at, row_at, tx_end, value_or}
 use Rattle.beldi_known.specs.Matches.{Matches}
 use Rattle.beldi_known.specs.Owed.{value_for}
@@ -27,8 +27,7 @@ use Rattle.beldi_known.specs.Rows.{LogMatches}
 use Rattle.beldi_known.specs.Sane.{Sane}
 use Rattle.beldi_known.proofs.Decided.{decision_row}
 use Rattle.beldi_known.proofs.Frame.{begins}
-use Rattle.beldi_known.proofs.Callers.{CallerOf, caller_in}
-use Rattle.beldi_known.proofs.OwnTx.{own_by}
+use Rattle.beldi_known.proofs.Callers.{all_called}
 use Rattle.beldi_laws.specs.Stands.{has_place}
 use Rattle.beldi_laws.proofs.Closing.{end_grows}
 use Rattle.beldi_laws.proofs.Outside.{known_of, made_of}
@@ -41,28 +40,14 @@ pub record HasBegin (d : Deployment) (known : Known) (t : TxId) : Type 0 where
   pub begins : effect_before d owner t.begin ≡ effect.Begin
 
 module _ (d : Deployment) (known : Known) (sane : Sane d known) (t : TxId) where
-  begin_upto : (n : ℕ) (j : IntentId) (z : Instance) → length j.hops < n → map.get known j ≡ Some z → z.within ≡ Some t → HasBegin d known t
-  begin_upto zero j z few is inner = absurd (omega (arith, few))
-  begin_upto (suc n) j z few is inner =
-      let c = caller_in d known sane t j z is inner in
-      let more = length-append c.caller.hops (c.step ∷ []) in
-      let long = ap (λ (i : IntentId). length i.hops) c.is in
-      by_within c (begin_upto n c.caller c.waiter (omega (arith, few, more, long)) c.made) c.waiter.within refl
-    where
-      by_within : (c : CallerOf d known t j z) → (c.waiter.within ≡ Some t → HasBegin d known t) → (x : Option TxId) → c.waiter.within ≡ x → HasBegin d known t
-      by_within c up None e =
-          let ts = take c.step c.waiter.answers in
-          let o = own_by c.caller c.waiter.func (length ts) (effect_after d c.waiter ts) (txs_after d c.waiter ts).begun t (ap is_begin c.call)
-          (sym (ap (λ x. or_own x (tx_by c.caller c.waiter.func (length ts) (effect_after d c.waiter ts) (txs_after d c.waiter ts).begun)) e) ∙ c.within) in
-          let before = (fits_at d c.waiter ts).before t.begin o.begun in
-          let front : take t.begin c.waiter.answers ≡ take t.begin ts = ap (take t.begin) (sym (take-append-drop c.step c.waiter.answers)) ∙ take-append-le t.begin ts (drop c.step c.waiter.answers) (omega (arith, before)) in
-          record { owner = c.waiter; made = ap (map.get known) o.intent ∙ c.made; func_is = sym o.func_is; begins = ap (effect_after d c.waiter) front ∙ (begins d c.waiter ts).begun t.begin o.begun }
-      by_within c up (Some x) e =
-          let ts = take c.step c.waiter.answers in
-          up (e ∙ sym (ap (λ x. or_own x (tx_by c.caller c.waiter.func (length ts) (effect_after d c.waiter ts) (txs_after d c.waiter ts).begun)) e) ∙ c.within)
-
   pub has_begin : (j : IntentId) (z : Instance) → map.get known j ≡ Some z → z.within ≡ Some t → HasBegin d known t
-  has_begin j z = begin_upto (suc (length j.hops)) j z (omega arith)
+  has_begin = all_called d known sane t (λ j z. HasBegin d known t)
+      (λ j z inner c outside o.
+      let ts = take c.step c.waiter.answers in
+      let before = (fits_at d c.waiter ts).before t.begin o.begun in
+      let front : take t.begin c.waiter.answers ≡ take t.begin ts = ap (take t.begin) (sym (take-append-drop c.step c.waiter.answers)) ∙ take-append-le t.begin ts (drop c.step c.waiter.answers) (omega (arith, before)) in
+      record { owner = c.waiter; made = ap (map.get known) o.intent ∙ c.made; func_is = sym o.func_is; begins = ap (effect_after d c.waiter) front ∙ (begins d c.waiter ts).begun t.begin o.begun })
+      (λ j z inner c up so. so)
 
   -- so a decision that is there is that of its End
   module _ (m : Rows) (locked : IntentId → Bool) (matches : Matches d m known locked) (j : IntentId) (z : Instance) (is : map.get known j ≡ Some z) (inner : z.within ≡ Some t) where

@@ -1,4 +1,5 @@
 mod Ages
+mod Askers
 mod Asyncs
 mod Beginnings
 mod Callings

@@ -1,11 +1,10 @@
 -- Who took part in a transaction that has ended is who its end visits: the rows of calls lead from its owner to each of them, and to
 -- nobody else.
-use Rattle.std.proofs.Common.{◌≡◌, ◌∙◌, inl, inr, ℕ, zero, suc, ◌<◌, ◌≤◌, ◌==◌, Bool, true, false, List, [], ◌∷◌, ◌++◌, length, length-append, take, Option, None, Some, is_some, refl, ap, sym, subst, arith, eq-eqb, eqb-true, if◌then◌else◌}
+use Rattle.std.proofs.Common.{◌≡◌, ◌∙◌, ℕ, ◌<◌, ◌≤◌, ◌==◌, Bool, true, false, List, [], ◌∷◌, ◌++◌, length, length-append, take, Option, None, Some, is_some, refl, ap, sym, subst, arith, eq-eqb, eqb-true, if◌then◌else◌}
 use Rattle.std.specs.FinMap as map
 use Rattle.std.specs.Option.{option_map}
 use Rattle.std.proofs.lemmas.Bool.{lt-ltb}
-use Rattle.std.proofs.lemmas.List.{length-take-le}
-use Rattle.beldi_value.specs.Id.{child_of, has_callees, has_no_hops, root_of}
+use Rattle.beldi_value.specs.Id.{child_of, has_callees, has_no_hops}
 use Rattle.beldi_value.specs.declared.id.IntentId.{IntentId}
 use Rattle.beldi_value.proofs.Callees.{no_root}
 use Rattle.beldi_value.specs.declared.outcome.Outcome.{Outcome}
@@ -20,8 +19,6 @@ use Rattle.beldi_plain.specs.Executor.{AllShort}
 use Rattle.beldi_plain.specs.Plain.{Instance, effect_before}
 use Rattle.beldi_order.specs.Sane.{CalledBy, IsAnswer, IsCalled, answer_given, call_of, within_by}
 use Rattle.beldi_order.specs.Txs.{or_own, tx_at, tx_by, txs_after}
-use Rattle.beldi_order.proofs.Called.{last_hop}
-use Rattle.beldi_order.proofs.Ends.{fits_at}
 use Rattle.beldi_order.proofs.Maps.{same_some}
 use Rattle.beldi_step.specs.Run.{place_of}
 use Rattle.beldi_txn.specs.declared.way.Called.{Called}
@@ -30,14 +27,13 @@ use Rattle.beldi_txn.specs.Invokes.{call_key, func_called}
 use Rattle.beldi_txn.specs.Visited.{AtEnd, IsCall, IsMember, IsWay, IsWithin, called_at}
 use Rattle.beldi_txn.specs.Way.{Member, callee_of, member_at}
 use Rattle.beldi_txn.proofs.Levels.{member_more, way_more}
-use Rattle.beldi_known.specs.Beside.{is_begin}
 use Rattle.beldi_known.specs.Known.{Known, ended_by, tx_end}
 use Rattle.beldi_known.specs.Matches.{Matches}
 use Rattle.beldi_known.specs.Owed.{called_by, result_of}
 use Rattle.beldi_known.specs.Rows.{CallMatches}
 use Rattle.beldi_known.specs.Sane.{Sane}
-use Rattle.beldi_known.proofs.Callers.{CallerOf, caller_in}
-use Rattle.beldi_known.proofs.OwnTx.{own_by}
+use Rattle.beldi_known.proofs.Callers.{CallerOf, all_called, begun_before, caller_in}
+use Rattle.beldi_known.proofs.OwnTx.{Own}
 use Rattle.beldi_intent.specs.Intent.{intent_key}
 use Rattle.beldi_laws.specs.Inside.{TookPart}
 use Rattle.beldi_laws.specs.Stands.{key_in}
@@ -158,38 +154,32 @@ module _ (d : Deployment) (m : Rows) (known : Known) (locked : IntentId → Bool
 
       module _ (short : AllShort known) where
         -- the call that its caller made
-        call_of_it : (j : IntentId) (y : Instance) → map.get known j ≡ Some y → (c : CallerOf d known t j y) → IsCall m (c.caller, c.waiter.func) (record { step = c.step; func = y.func })
-        call_of_it j y is c = (
-          caller_short c.caller c.step (subst (λ (i : IntentId). length i.hops ≤ 63) c.is (short j (ap is_some is))),
-          call_there (c.caller, c.waiter.func) (record { step = c.step; func = y.func }) (record { caller = c.waiter; made = c.made; func = refl; callee = y; there = ap (map.get known) (sym c.is) ∙ is; its = refl }),
+        call_of_it : (j : IntentId) (y : Instance) (c : CallerOf d known t j y) → IsCall m (c.caller, c.waiter.func) (record { step = c.step; func = y.func })
+        call_of_it j y c = (
+          caller_short c.caller c.step (subst (λ (i : IntentId). length i.hops ≤ 63) c.is (short j (ap is_some c.there))),
+          call_there (c.caller, c.waiter.func) (record { step = c.step; func = y.func }) (record { caller = c.waiter; made = c.made; func = refl; callee = y; there = ap (map.get known) (sym c.is) ∙ c.there; its = refl }),
         )
 
         -- its caller is the owner ..
-        by_owner : (j : IntentId) (y : Instance) → map.get known j ≡ Some y → (c : CallerOf d known t j y) → c.waiter.within ≡ None → IsReached (j, y.func)
-        by_owner j y is c outside =
-            let ts = take c.step c.waiter.answers in
-            let own = own_by c.caller c.waiter.func (length ts) (effect_before d c.waiter c.step) (txs_after d c.waiter ts).begun t (ap is_begin c.call)
-            (sym (ap (λ w. or_own w (tx_by c.caller c.waiter.func (length ts) (effect_before d c.waiter c.step) (txs_after d c.waiter ts).begun)) outside) ∙ c.within) in
-            let past = (fits_at d c.waiter ts).before t.begin own.begun in
-            let here = c.here in
-            let l = length-take-le c.step c.waiter.answers here in
+        by_owner : (j : IntentId) (y : Instance) (c : CallerOf d known t j y) → Own c.caller c.waiter.func (txs_after d c.waiter (take c.step c.waiter.answers)).begun t → IsReached (j, y.func)
+        by_owner j y c own =
             let called : Called = record { step = c.step; func = y.func } in
             let same : ◌≡◌ {A = Member} (t.intent, t.func) (c.caller, c.waiter.func) = λ i. (own.intent i, own.func_is i) in
-            let call = call_of_it j y is c in
+            let call = call_of_it j y c in
             let ends = sym (ap (λ i. ended_by d t.begin (map.get known i)) own.intent ∙ ap (ended_by d t.begin) c.made) ∙ ended in
-            let begins : t.begin < c.step = omega (arith, past, l) in
+            let begins : t.begin < c.step = begun_before d known t j y c own in
             record {
               first = called;
               rest = [];
-              member = ((begins, before_end d c.waiter t.begin z ends c.step here own.begun begins (λ b g. let clash = sym g ∙ c.call in cc)), (subst (λ (p : Member). IsCall m p called) (sym same) call, tt));
+              member = ((begins, before_end d c.waiter t.begin z ends c.step c.here own.begun begins (λ b g. let clash = sym g ∙ c.call in cc)), (subst (λ (p : Member). IsCall m p called) (sym same) call, tt));
               leads = ap (λ (p : Member). callee_of p called) same ∙ callee_is (c.caller, c.waiter.func) called call.0 ∙ ap (λ i. (i, y.func)) (sym c.is);
             }
 
         -- .. or one of them
-        by_part : (j : IntentId) (y : Instance) → map.get known j ≡ Some y → (c : CallerOf d known t j y) → IsReached (c.caller, c.waiter.func) → IsReached (j, y.func)
-        by_part j y is c r =
+        by_part : (j : IntentId) (y : Instance) (c : CallerOf d known t j y) → IsReached (c.caller, c.waiter.func) → IsReached (j, y.func)
+        by_part j y c r =
             let called : Called = record { step = c.step; func = y.func } in
-            let call = call_of_it j y is c in
+            let call = call_of_it j y c in
             record {
               first = r.first;
               rest = r.rest ++ called ∷ [];
@@ -197,35 +187,13 @@ module _ (d : Deployment) (m : Rows) (known : Known) (locked : IntentId → Bool
               leads = member_more (t.intent, t.func) (r.first ∷ r.rest) called ∙ ap (λ (p : Member). callee_of p called) r.leads ∙ callee_is (c.caller, c.waiter.func) called call.0 ∙ ap (λ i. (i, y.func)) (sym c.is);
             }
 
-        by_caller : (j : IntentId) (y : Instance) → map.get known j ≡ Some y → (c : CallerOf d known t j y) → (c.waiter.within ≡ Some t → IsReached (c.caller, c.waiter.func)) → IsReached (j, y.func)
-        by_caller j y is c rest = by_within c.waiter.within refl
-          where
-            by_within : (w : Option TxId) → c.waiter.within ≡ w → IsReached (j, y.func)
-            by_within None e = by_owner j y is c e
-            by_within (Some u) e =
-                let ts = take c.step c.waiter.answers in
-                by_part j y is c (rest (e ∙ sym (ap (λ w. or_own w (tx_by c.caller c.waiter.func (length ts) (effect_before d c.waiter c.step) (txs_after d c.waiter ts).begun)) e) ∙ c.within))
-
-        reached_upto : (n : ℕ) (j : IntentId) (y : Instance) → length j.hops < n → map.get known j ≡ Some y → y.within ≡ Some t → IsReached (j, y.func)
-        reached_upto zero j y few is inner = absurd (omega (arith, few))
-        reached_upto (suc n) j y few is inner =
-            let c = caller_in d known sane t j y is inner in
-            let more = length-append c.caller.hops (c.step ∷ []) in
-            let long = ap (λ (i : IntentId). length i.hops) c.is in
-            by_caller j y is c (reached_upto n c.caller c.waiter (omega (arith, few, more, long)) c.made)
-
         pub reached : (j : IntentId) (y : Instance) → map.get known j ≡ Some y → y.within ≡ Some t → IsReached (j, y.func)
-        reached j y = reached_upto (suc (length j.hops)) j y (omega arith)
+        reached = all_called d known sane t (λ j y. IsReached (j, y.func)) (λ j y inner c outside own. by_owner j y c own) (λ j y inner c up r. by_part j y c r)
 
 -- ---- who took part has hops, and so the row in the home of its function
 module _ (d : Deployment) (known : Known) (sane : Sane d known) where
   pub part_below : (t : TxId) (i : IntentId) → TookPart known t i → has_no_hops i.hops ≡ false
-  part_below t i part = elim (last_hop i.hops) [
-    | inl e ↦
-        let root : i ≡ root_of i.ticket = λ k. record { ticket = i.ticket; hops = e k } in
-        let clash = sym (sane.roots i.ticket part.instance (ap (map.get known) (sym root) ∙ part.made)).1 ∙ part.within in cc
-    | inr r ↦ ap has_no_hops r.2 ∙ no_root (record { ticket = i.ticket; hops = r.0 }) r.1
-  ]
+  part_below t i part = let c = caller_in d known sane t i part.instance part.made part.within in ap (λ (y : IntentId). has_no_hops y.hops) c.is ∙ no_root c.caller c.step
 
   pub part_key : (t : TxId) (i : IntentId) (func : ℕ) → TookPart known t i → intent_key i func ≡ key_in func i
   part_key t i func part = ap (λ b. record { home = if b then 0 else func; kind = kinds.Intent i }) (part_below t i part)

@@ -7,7 +7,6 @@ use Rattle.beldi_lang.specs.Callee.{answer_of}
 use Rattle.beldi_lang.specs.declared.effect.Answer.{Answer}
 use Rattle.beldi_lang.specs.declared.effect.Answer.TheVariants as answers
 use Rattle.beldi_lang.specs.declared.effect.Effect.TheVariants.{Return}
-use Rattle.beldi_laws.proofs.CallsHere.{called_in}
 use Rattle.beldi_laws.proofs.Frames.{NobodyJoins, nobody_set}
 use Rattle.beldi_laws.proofs.Settling.{settled_ended, settled_grown}
 use Rattle.beldi_laws.proofs.Keeping.{SameShadows}
@@ -18,7 +17,6 @@ use Rattle.beldi_laws.proofs.Turns.{answer_here, effect_here, effect_next, sane_
 use Rattle.beldi_laws.specs.Inside.{Inside}
 use Rattle.beldi_laws.specs.Right.{Right, Knows}
 use Rattle.beldi_laws.specs.Stands.{key_in}
-use Rattle.beldi_order.proofs.Called.{last_hop}
 use Rattle.beldi_order.proofs.Entries.{enabled_step, grows_at, grown_end}
 use Rattle.beldi_order.proofs.Maps.{same_some}
 use Rattle.beldi_order.specs.Grown.{Grows}
@@ -43,7 +41,7 @@ use Rattle.beldi_value.specs.declared.place.Caller.{Caller}
 use Rattle.beldi_value.specs.declared.place.Place.{Place}
 use Rattle.beldi_value.specs.declared.place.TxId.{TxId}
 use Rattle.beldi_known.proofs.Ahead.{unlocked_elsewhere, ahead_set, none_out}
-use Rattle.beldi_known.proofs.Callers.{caller_in}
+use Rattle.beldi_known.proofs.Callers.{caller_in, root_or_called}
 use Rattle.beldi_known.proofs.Outsides.{goes_one, got_ended, set_over}
 use Rattle.beldi_known.specs.Beside.{is_begin}
 use Rattle.beldi_known.specs.InsideLaws.{Goes}
@@ -60,16 +58,11 @@ pub record HasCaller (d : Deployment) (known : Known) (id : IntentId) (q : Insta
   pub func : caller.func ≡ c.func
 
 pub has_caller : (d : Deployment) (known : Known) (id : IntentId) (q : Instance) (c : Caller) → Sane d known → map.get known id ≡ Some q → q.from ≡ Some c → HasCaller d known id q c
-has_caller d known id q c sane made from = elim (last_hop id.hops) [
-  | inl e ↦
-      let root : id ≡ root_of id.ticket = λ k. record { ticket = id.ticket; hops = e k } in
-      let clash = sym (sane.roots id.ticket q (ap (map.get known) (sym root) ∙ made)).0 ∙ from in cc
+has_caller d known id q c sane made from = elim (root_or_called d known sane id q made) [
+  | inl root ↦ let clash = sym (sane.roots id.ticket q (ap (map.get known) (sym root) ∙ made)).0 ∙ from in cc
   | inr r ↦
-      let i : IntentId = record { ticket = id.ticket; hops = r.0 } in
-      let same : id ≡ child_of i r.1 = λ k. record { ticket = id.ticket; hops = r.2 k } in
-      let at = called_in d known sane i r.1 q (ap (map.get known) (sym same) ∙ made) in
-      let is : record { place = record { intent = i; step = r.1 }; func = at.0.func; waits = at.2.waits } ≡ c = same_some (sym at.2.from ∙ from) in
-      subst (HasCaller d known id q) is (record { caller = at.0; is_callee = same; made = at.1; called = at.2; func = refl })
+      let is : record { place = record { intent = r.caller; step = r.step }; func = r.waiter.func; waits = r.called.waits } ≡ c = same_some (sym r.called.from ∙ from) in
+      subst (HasCaller d known id q) is (record { caller = r.waiter; is_callee = r.is; made = r.made; called = r.called; func = refl })
 ]
 
 -- a root has none, and was called in no transaction

@@ -1,11 +1,10 @@
 -- The turns of a run at the end of its transaction, past the decision: it visits who took part, one after another; of each the items that
 -- it asked the locks of, and gives each back once; and gives each of them but its own instance a finish.
-use Rattle.std.proofs.Common.{◌≡◌, ◌⊎◌, inl, inr, ℕ, ◌==◌, ◌&&◌, ◌||◌, not, Bool, true, false, List, [], ◌∷◌, ◌++◌, length, Option, None, Some, is_some, refl, ap, sym, ◌∙◌, subst, IsTrue, append_assoc, eq-eqb, if◌then◌else◌}
+use Rattle.std.proofs.Common.{◌≡◌, inl, inr, ℕ, ◌==◌, ◌&&◌, ◌||◌, Bool, true, false, List, [], ◌∷◌, ◌++◌, length, Option, None, Some, is_some, refl, ap, sym, ◌∙◌, subst, IsTrue, append_assoc, if◌then◌else◌}
 use Rattle.std.specs.FinMap as map
 use Rattle.std.specs.FinMap.{same_map}
 use Rattle.std.specs.Option.{option_map}
 use Rattle.std.specs.Ordering.{is_eq}
-use Rattle.std.proofs.lemmas.Bool.{and_parts}
 use Rattle.beldi_value.specs.Id.{has_callees, has_no_hops}
 use Rattle.beldi_value.specs.declared.id.IntentId.{IntentId}
 use Rattle.beldi_value.specs.declared.place.Owner.TheVariants.{Tx}
@@ -28,7 +27,7 @@ use Rattle.beldi_row.specs.declared.row.Body.{Body}
 use Rattle.beldi_row.specs.declared.row.IntentRow.{IntentRow}
 use Rattle.beldi_row.specs.declared.row.Row.{Row}
 use Rattle.beldi_row.specs.declared.row.Row.TheVariants as rows
-use Rattle.beldi_row.specs.Act.{owns, given_or}
+use Rattle.beldi_row.specs.Act.{given_or}
 use Rattle.beldi_row.specs.Key.{key_cmp}
 use Rattle.beldi_row.specs.KeyOrder.{key_total, key_exact}
 use Rattle.beldi_row.specs.Log.{note_at}
@@ -51,16 +50,12 @@ use Rattle.beldi_daal.proofs.Stays.{notes_stay}
 use Rattle.beldi_intent.specs.Intent.{intent_key, root_key}
 use Rattle.beldi_lock.specs.Last.{split_last}
 use Rattle.beldi_lock.specs.Lockset.{lockset_found}
-use Rattle.beldi_plain.specs.Executor.{AllShort}
 use Rattle.beldi_plain.specs.Item.{Item}
-use Rattle.beldi_plain.specs.Operation.{touched}
-use Rattle.beldi_plain.specs.Piece.{is_aborted}
-use Rattle.beldi_plain.specs.Plain.{Instance, effect_of}
+use Rattle.beldi_plain.specs.Plain.{Instance}
 use Rattle.beldi_order.specs.Sane.{IsAnswer}
-use Rattle.beldi_order.specs.Txs.{tx_after, tx_by, tx_now, txs_after, or_own, effect_after}
+use Rattle.beldi_order.specs.Txs.{tx_after, txs_after, effect_after}
 use Rattle.beldi_order.proofs.Entries.{grows_self}
 use Rattle.beldi_order.proofs.Maps.{same_some}
-use Rattle.beldi_order.proofs.Operations.{item_same}
 use Rattle.beldi_txn.specs.declared.end.EndAt.{EndAt}
 use Rattle.beldi_txn.specs.declared.end.EndAt.TheVariants.{Decide, Callees, Next, Shadow, Free, Stamp}
 use Rattle.beldi_txn.specs.declared.end.EndGoes.{EndGoes}
@@ -71,7 +66,7 @@ use Rattle.beldi_txn.specs.declared.way.Called.{Called}
 use Rattle.beldi_txn.specs.End.{back_from, call_goes, calls_goes, counts, end_goes, first_end, free_place, freed_goes, last_goes, moved, next_goes, value_goes, visit_asks, visited_by}
 use Rattle.beldi_txn.specs.Invokes.{func_called, invokes_found}
 use Rattle.beldi_txn.specs.TxTurn.{shadow_value}
-use Rattle.beldi_txn.specs.Visited.{AllFreed, AllReleased, AreReleased, DecidedAt, GetsFinish, IsDecided, IsMember, Visited, given_value}
+use Rattle.beldi_txn.specs.Visited.{AllReleased, AreReleased, DecidedAt, GetsFinish, IsDecided, IsMember, Visited, given_value}
 use Rattle.beldi_txn.specs.Way.{Member, is_owner}
 use Rattle.beldi_txn.proofs.TxTurn.{asked}
 use Rattle.beldi_txn.proofs.Visited.{Leads, turns}
@@ -87,40 +82,37 @@ use Rattle.beldi_step.specs.Run.{place_of, own_tx, tx_of, turned_by, end_by_asks
 use Rattle.beldi_step.specs.Host.{Core, turn_next}
 use Rattle.beldi_step.specs.Tables.{decision_key, is_committed, value_in}
 use Rattle.beldi_known.specs.Beside.{is_begin}
-use Rattle.beldi_known.specs.Contents.{content_of, head_key, lockset_key, shadow_key}
-use Rattle.beldi_known.specs.Known.{Known, is_item, is_tx, is_on, begins_at, got_before, got_by, owed_lockset, tx_end, tx_eq, ended_at, ended_by, commit_in, is_mark, is_decided, last_step}
+use Rattle.beldi_known.specs.Contents.{content_of, head_key, shadow_key}
+use Rattle.beldi_known.specs.Known.{tx_end, tx_eq, ended_at, ended_by, commit_in, is_mark, is_decided, last_step}
 use Rattle.beldi_known.specs.Listed.{listed}
-use Rattle.beldi_known.specs.Matches.{Matches, LocksetMatches, LockedAtEnds, LockedIf, has_ended, lockset_ahead}
+use Rattle.beldi_known.specs.Matches.{Matches, has_ended}
 use Rattle.beldi_known.specs.Rows.{CalleeBodyMatches, CalleeMatches, FinishMatches, IntentMatches, IsCalleeRow, tx_in}
-use Rattle.beldi_known.specs.Sane.{Sane}
 use Rattle.beldi_known.proofs.Acts.{kinds_apart, is_shadow}
 use Rattle.beldi_known.proofs.AtFront.{no_decision}
-use Rattle.beldi_known.proofs.Behind.{front, there as was_answered, stepped, lockset_there}
+use Rattle.beldi_known.proofs.Behind.{front, there as was_answered, stepped}
 use Rattle.beldi_known.proofs.Decided.{release_lists}
 use Rattle.beldi_known.proofs.Inside.{released}
-use Rattle.beldi_known.proofs.Locks.{tx_self, tx_same}
-use Rattle.beldi_known.proofs.OwnTx.{own_by}
-use Rattle.beldi_known.proofs.Participants.{now_open}
-use Rattle.beldi_known.proofs.ReadLists.{Gathered, gathered}
+use Rattle.beldi_known.proofs.Locks.{tx_same, tx_self}
 use Rattle.beldi_known.proofs.Rows.{keys_set, no_root}
 use Rattle.beldi_known.proofs.Sets.{row_put}
 use Rattle.beldi_laws.specs.Inside.{AtStage, Frame, Inside, ParticipantsAreReleased, ParticipantsHaveRows, TookPart, end_walk, has_finish}
 use Rattle.beldi_laws.specs.Right.{Right, Knows, StageOk, MarkOk, is_past, open_of}
 use Rattle.beldi_laws.specs.Stands.{key_in}
+use Rattle.beldi_laws.proofs.Askers.{owns_none}
 use Rattle.beldi_laws.proofs.Closing.{at_key, closed_rows_of, owner_is}
 use Rattle.beldi_laws.proofs.Ended.{ends_outside}
 use Rattle.beldi_laws.proofs.Frames.{NoFinish, frame_held, frame_item, frame_row, items_stay, no_finish, nobody_new}
 use Rattle.beldi_laws.proofs.Settling.{settled_rows}
 use Rattle.beldi_laws.proofs.Grown.{grown_same}
 use Rattle.beldi_laws.proofs.Keeping.{SameShadows, act_stays, as_it_was, goes_still, stays_by}
-use Rattle.beldi_laws.proofs.Members.{TakesPart, members_joined, part_below, part_key, reached, took_part}
+use Rattle.beldi_laws.proofs.Members.{TakesPart, members_joined, part_below, part_key, took_part}
 use Rattle.beldi_laws.proofs.Moves.{AfterQuery, SameRoots, Stays}
 use Rattle.beldi_laws.proofs.OpenOf.{called_in, open_begun, open_tx, own_begin}
 use Rattle.beldi_laws.proofs.Others.{end_here, kept_by}
 use Rattle.beldi_laws.proofs.Owed.{content_kept, contents_kept, others_list}
 use Rattle.beldi_laws.proofs.Shown.{log_values, settled}
 use Rattle.beldi_laws.proofs.Turns.{at_steps, wanted_here, Leaves, all_here, stands_on, answers_on}
-use Rattle.beldi_laws.proofs.Widths.{finds_first, no_begin}
+use Rattle.beldi_laws.proofs.Widths.{finds_first}
 
 -- ---- past the decision
 decided_past : (a : EndAt) (w : EndWalk) (m : Rows) → is_past a ≡ true → DecidedAt a w m → IsDecided w m
@@ -182,108 +174,6 @@ module _ (cs : List Called) (af : Option ℕ) (y : Option (ℕ × List ℕ)) (u 
   goes_past x end commit Shadow t past = shadow_past commit (read_goes None t)
   goes_past x end commit (Free f) t past = free_past commit f (write_goes note.Freed t)
   goes_past x end commit Stamp t past = back_past (split_last cs)
-
--- ---- what a transaction that has ended owns, one that took part asked the lock of
-is_its : (t : TxId) (o : Option TxId) → is_tx t o ≡ true → o ≡ Some t
-is_its t None h = cc
-is_its t (Some s) h = ap Some (sym (tx_same t s h))
-
-of_function : (x : Item) (func : ℕ) (o : Option (ℕ × List ℕ)) → is_item x func o ≡ true → x.func ≡ func
-of_function x func None h = cc
-of_function x func (Some k) h = ap (λ (y : Item). y.func) (sym (item_same (record { func = func; table = k.0; key = k.1 }) x h))
-
-row_owed : (r : Option Row) (ahead : Bool) → LocksetMatches r true ahead → r ≡ Some rows.Lockset
-row_owed None ahead h = cc
-row_owed (Some rows.Lockset) ahead h = refl
-row_owed (Some r) ahead h = absurd h
-
--- a member's function has the item, and the row is there
-pub record HasAsked (m : Rows) (known : Known) (t : TxId) (x : Item) : Type 0 where
-  pub member : Member
-  pub role : (◌≡◌ {A = Member} member (t.intent, t.func)) ⊎ TakesPart known t member
-  pub func : x.func ≡ member.1
-  pub row : map.get m (lockset_key member.0 t.begin x) ≡ Some rows.Lockset
-
-module _ (d : Deployment) (m : Rows) (known : Known) (locked : IntentId → Bool) (h : Matches d m known locked) (sane : Sane d known) (ends : LockedAtEnds d known locked) (t : TxId) (e : ℕ × Bool) (ended : tx_end d known t ≡ Some e) (x : Item) where
-  module _ (j : IntentId) (q : Instance) (is : map.get known j ≡ Some q) where
-    abbrev On : List Answer → Type 0
-    On ts = is_on t x q.func (tx_after d j q ts) (effect_after d q ts) ≡ true
-
-    tx_there : (ts : List Answer) → On ts → tx_after d j q ts ≡ Some t
-    tx_there ts on = is_its t (tx_after d j q ts) (and_parts (is_tx t (tx_after d j q ts)) (is_item x q.func (touched (effect_after d q ts))) on).0
-
-    -- it is its owner, or was called in it
-    role_there : (ts : List Answer) → On ts → (◌≡◌ {A = Member} (j, q.func) (t.intent, t.func)) ⊎ TakesPart known t (j, q.func)
-    role_there ts on = by_within q.within refl
-      where
-        by_within : (o : Option TxId) → q.within ≡ o → (◌≡◌ {A = Member} (j, q.func) (t.intent, t.func)) ⊎ TakesPart known t (j, q.func)
-        by_within None out =
-            let k = own_by j q.func (length ts) (effect_after d q ts) (txs_after d q ts).begun t
-            (no_begin x q.func (effect_after d q ts) (and_parts (is_tx t (tx_after d j q ts)) (is_item x q.func (touched (effect_after d q ts))) on).1)
-            (sym (ap (λ o. or_own o (tx_by j q.func (length ts) (effect_after d q ts) (txs_after d q ts).begun)) out) ∙ tx_there ts on) in
-            inl (λ i. (sym k.intent i, sym k.func_is i))
-        by_within (Some s) in_it = inr (record {
-          instance = q;
-          made = is;
-          within = in_it ∙ sym (ap (λ o. or_own o (tx_by j q.func (length ts) (effect_after d q ts) (txs_after d q ts).begun)) in_it) ∙ tx_there ts on;
-          func = refl;
-        })
-
-    -- an operation of it that was answered
-    by_answer : (g : List Answer → Answer → Bool) → ((ts : List Answer) (a : Answer) → g ts a ≡ true → On ts) → Gathered g q.answers → HasAsked m known t x
-    by_answer g on k =
-        let ts = k.before in
-        let here = on ts k.answer k.holds in
-        let touches = (and_parts (is_tx t (tx_after d j q ts)) (is_item x q.func (touched (effect_after d q ts))) here).1 in
-        let asks : (begins_at t.begin (tx_after d j q ts) && is_item x q.func (touched (effect_after d q ts))) ≡ true =
-        ap (λ z. begins_at t.begin z && is_item x q.func (touched (effect_after d q ts))) (tx_there ts here) ∙ ap (λ b. b && is_item x q.func (touched (effect_after d q ts))) (eq-eqb t.begin t.begin refl) ∙ touches in
-        let owed : owed_lockset d t.begin x j (map.get known j) ≡ true = ap (owed_lockset d t.begin x j) is ∙ lockset_there d j q ts k.answer k.later k.parts t.begin x asks in
-        let key = lockset_key j t.begin x in
-        record {
-          member = (j, q.func);
-          role = role_there ts here;
-          func = of_function x q.func (touched (effect_after d q ts)) touches;
-          row = row_owed (map.get m key) (lockset_ahead d known t.begin x j (map.get known j)) (subst (λ b. LocksetMatches (map.get m key) b (lockset_ahead d known t.begin x j (map.get known j))) owed (h.keys key));
-        }
-
-    -- none is ahead, as it has ended
-    not_ahead : (locked j && is_on t x q.func (tx_now d j q) (effect_of d q)) ≡ true → ⊥
-    not_ahead g =
-        let k = and_parts (locked j) (is_on t x q.func (tx_now d j q) (effect_of d q)) g in
-        let at = subst (LockedIf d j) is (ends j k.0) in
-        let clash = sym (now_open d known sane j q t is at.open_still (tx_there q.answers k.1)) ∙ ended in cc
-
-    by_got : (b : Bool) → got_before d t x j q ≡ b → (b || (locked j && is_on t x q.func (tx_now d j q) (effect_of d q))) ≡ true → HasAsked m known t x
-    by_got false was g = absurd (not_ahead g)
-    by_got true was g = elim (gathered (λ ts c. is_on t x q.func (tx_after d j q ts) (effect_after d q ts) && not (is_aborted c)) [] q.answers false was) [
-      | inl k ↦ cc
-      | inr k ↦ by_answer (λ ts c. is_on t x q.func (tx_after d j q ts) (effect_after d q ts) && not (is_aborted c)) (λ ts c on. (and_parts (is_on t x q.func (tx_after d j q ts) (effect_after d q ts)) (not (is_aborted c)) on).0) k
-    ]
-
-  by_member : (j : IntentId) (u : Option Instance) → map.get known j ≡ u → got_by d t x j (locked j) u ≡ true → HasAsked m known t x
-  by_member j None is g = cc
-  by_member j (Some q) is g = by_got j q is (got_before d t x j q) refl g
-
-  pub has_asked : (content_of m x).owner ≡ Some (Tx t) → HasAsked m known t x
-  has_asked owned = let g = (h.txs x).owned_is_got t owned in by_member g.member (map.get known g.member) refl g.got
-
-  -- so it owns nothing, where all who took part have given back all
-  pub owns_none : AllShort known → AllReleased (first_end t e.0 e.1) m → (content_of m x).owner ≡ Some (Tx t) → ⊥
-  owns_none short all owned = let a = has_asked owned in by_role a a.role
-    where
-      freed_by : (a : HasAsked m known t x) (p : Member) → a.member ≡ p → AllFreed (first_end t e.0 e.1) m p → ⊥
-      freed_by a p same freed =
-          let func : x.func ≡ p.1 = a.func ∙ ap (λ (y : Member). y.1) same in
-          let row : map.get m (lockset_key p.0 t.begin (record { func = p.1; table = x.table; key = x.key })) ≡ Some rows.Lockset = subst (λ f. map.get m (record { home = f; kind = kinds.Lockset p.0 t.begin x.table x.key }) ≡ Some rows.Lockset) func (subst (λ (i : IntentId). map.get m (lockset_key i t.begin x) ≡ Some rows.Lockset) (ap (λ (y : Member). y.0) same) a.row) in
-          let own : (content_of m (record { func = p.1; table = x.table; key = x.key })).owner ≡ Some (Tx t) = subst (λ f. (content_of m (record { func = f; table = x.table; key = x.key })).owner ≡ Some (Tx t)) func owned in
-          let clash = sym (ap (owns (Tx t)) own ∙ tx_self t) ∙ freed (x.table, x.key) rows.Lockset row in cc
-
-      by_role : (a : HasAsked m known t x) → (◌≡◌ {A = Member} a.member (t.intent, t.func)) ⊎ TakesPart known t a.member → ⊥
-      by_role a (inl own) = freed_by a (t.intent, t.func) own all.owner
-      by_role a (inr part) =
-          let r = reached d m known locked h sane t e ended short a.member.0 part.instance part.made part.within in
-          let to : a.member ≡ visited_by t (r.first ∷ r.rest) = sym (r.leads ∙ ap (λ f. (a.member.0, f)) part.func) in
-          freed_by a (visited_by t (r.first ∷ r.rest)) to (all.freed r.first r.rest r.member)
 
 -- ---- the rows of a turn
 -- rows that differ at one key are the others with that row set

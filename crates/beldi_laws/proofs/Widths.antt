@@ -39,7 +39,7 @@ use Rattle.beldi_plain.specs.Operation.{touched}
 use Rattle.beldi_plain.specs.Plain.{Instance, effect_of, effect_before}
 use Rattle.beldi_order.specs.Sane.{CalledBy, IsAnswer, IsCalled, call_of}
 use Rattle.beldi_order.specs.Txs.{Txs, effect_after, or_own, tx_after, tx_by, tx_now, txs_after, txs_by}
-use Rattle.beldi_order.proofs.Called.{last_hop, next_step}
+use Rattle.beldi_order.proofs.Called.{next_step}
 use Rattle.beldi_order.proofs.Ends.{fits_at}
 use Rattle.beldi_order.proofs.Maps.{same_some}
 use Rattle.beldi_order.proofs.Went.{txs_pushed}
@@ -50,11 +50,12 @@ use Rattle.beldi_known.specs.Known.{Known, is_item, begins_at, asks_lock, ended_
 use Rattle.beldi_known.specs.Matches.{Matches, LocksetMatches, is_open, lockset_ahead, has_ended}
 use Rattle.beldi_known.specs.Rows.{IntentMatches}
 use Rattle.beldi_known.specs.Sane.{Sane, SaneInstance}
+use Rattle.beldi_known.proofs.Callers.{root_or_called}
 use Rattle.beldi_known.proofs.Begun.{called_begun}
 use Rattle.beldi_known.proofs.Frame.{begins}
 use Rattle.beldi_known.proofs.OwnTx.{own_by}
 use Rattle.beldi_known.proofs.Phases.{begin_is}
-use Rattle.beldi_known.proofs.ReadLists.{gathered}
+use Rattle.beldi_known.proofs.ReadLists.{gathered, no_begin}
 use Rattle.beldi_laws.specs.Right.{Right}
 use Rattle.beldi_laws.proofs.Ended.{owner_outside}
 use Rattle.beldi_laws.proofs.Members.{call_known, members_joined}
@@ -72,10 +73,6 @@ wants_call false f v = refl
 wants_item : (x : Item) (func : ℕ) (e : Effect) → is_item x func (touched e) ≡ true → IsTrue (wants_answer e)
 wants_item x func (effect.Return o) h = cc
 wants_item x func e h = refl
-
-pub no_begin : (x : Item) (func : ℕ) (e : Effect) → is_item x func (touched e) ≡ true → is_begin e ≡ false
-no_begin x func effect.Begin h = cc
-no_begin x func e h = refl
 
 -- a step that was answered is one that bodies have
 pub answered_small : (d : Deployment) (id : IntentId) (q : Instance) (n : ℕ) → SaneInstance d id q → n < length q.answers → n < 30000
@@ -120,18 +117,14 @@ module _ (d : Deployment) (known : Known) (sane : Sane d known) (tickets : (t : 
 
   fit_step : (j : IntentId) (z : Instance) → map.get known j ≡ Some z → ((i : IntentId) (q : Instance) → length i.hops < length j.hops → map.get known i ≡ Some q → Fit i) → Fit j
   unfolding Each
-  fit_step j z is rest = elim (last_hop j.hops) [
-    | inl e ↦ record { ticket = tickets j.ticket z (ap (λ hs. map.get known (record { ticket = j.ticket; hops = hs })) (sym e) ∙ is); hops = subst Each (sym e) tt }
-    | inr r ↦ by_caller r.0 r.1 r.2 (map.get known (record { ticket = j.ticket; hops = r.0 })) refl (sane.called (record { ticket = j.ticket; hops = r.0 }) r.1 z (ap (λ hs. map.get known (record { ticket = j.ticket; hops = hs })) (sym r.2) ∙ is))
+  fit_step j z is rest = elim (root_or_called d known sane j z is) [
+    | inl root ↦ record { ticket = tickets j.ticket z (ap (map.get known) (sym root) ∙ is); hops = subst Each (sym (ap (λ (i : IntentId). i.hops) root)) tt }
+    | inr c ↦
+        let l = length-append c.caller.hops (c.step ∷ []) in
+        let k = ap (λ (i : IntentId). length i.hops) c.is in
+        let f = rest c.caller c.waiter (omega (arith, l, k)) c.made in
+        record { ticket = subst (λ (i : IntentId). 1 ≤ i.ticket) (sym c.is) f.ticket; hops = subst (λ (i : IntentId). Each i.hops) (sym c.is) (each_pushed c.caller.hops c.step f.hops (called_small d c.caller c.step z c.waiter c.called)) }
   ]
-    where
-      by_caller : (ys : List ℕ) (n : ℕ) → j.hops ≡ ys ++ n ∷ [] → (o : Option Instance) → map.get known (record { ticket = j.ticket; hops = ys }) ≡ o → CalledBy d (record { ticket = j.ticket; hops = ys }) o n z → Fit j
-      by_caller ys n same None at c = absurd c
-      by_caller ys n same (Some q) at c =
-          let l = length-append ys (n ∷ []) in
-          let k = ap length same in
-          let f = rest (record { ticket = j.ticket; hops = ys }) q (omega (arith, l, k)) at in
-          record { ticket = f.ticket; hops = subst Each (sym same) (each_pushed ys n f.hops (called_small d (record { ticket = j.ticket; hops = ys }) n z q c)) }
 
   fits_all : (n : ℕ) (j : IntentId) (z : Instance) → length j.hops ≤ n → map.get known j ≡ Some z → Fit j
   fits_all zero j z small is = fit_step j z is (λ i q less. absurd (omega (arith, small, less)))

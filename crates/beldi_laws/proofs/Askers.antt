@@ -1,0 +1,125 @@
+-- What a transaction that has ended owns, one that took part asked the lock of. So where all who took part have given back all, it owns
+-- nothing.
+use Rattle.std.proofs.Common.{◌≡◌, ◌⊎◌, inl, inr, ℕ, ◌&&◌, ◌||◌, not, Bool, true, false, List, [], ◌∷◌, ◌++◌, length, Option, None, Some, refl, ap, sym, ◌∙◌, subst, eq-eqb}
+use Rattle.std.specs.FinMap as map
+use Rattle.std.proofs.lemmas.Bool.{and_parts}
+use Rattle.beldi_value.specs.declared.id.IntentId.{IntentId}
+use Rattle.beldi_value.specs.declared.place.Owner.TheVariants.{Tx}
+use Rattle.beldi_value.specs.declared.place.TxId.{TxId}
+use Rattle.beldi_tree.specs.declared.deployment.Deployment.{Deployment}
+use Rattle.beldi_lang.specs.declared.effect.Answer.{Answer}
+use Rattle.beldi_row.specs.declared.key.Kind.TheVariants as kinds
+use Rattle.beldi_row.specs.declared.row.Row.{Row}
+use Rattle.beldi_row.specs.declared.row.Row.TheVariants as rows
+use Rattle.beldi_row.specs.Act.{owns}
+use Rattle.beldi_row.specs.Table.{Rows}
+use Rattle.beldi_plain.specs.Executor.{AllShort}
+use Rattle.beldi_plain.specs.Item.{Item}
+use Rattle.beldi_plain.specs.Operation.{touched}
+use Rattle.beldi_plain.specs.Piece.{is_aborted}
+use Rattle.beldi_plain.specs.Plain.{Instance, effect_of}
+use Rattle.beldi_order.specs.Txs.{tx_after, tx_by, tx_now, txs_after, or_own, effect_after}
+use Rattle.beldi_order.proofs.Operations.{item_same}
+use Rattle.beldi_txn.specs.End.{first_end, visited_by}
+use Rattle.beldi_txn.specs.Visited.{AllFreed, AllReleased}
+use Rattle.beldi_txn.specs.Way.{Member}
+use Rattle.beldi_known.specs.Contents.{content_of, lockset_key}
+use Rattle.beldi_known.specs.Known.{Known, is_item, is_tx, is_on, begins_at, got_before, got_by, owed_lockset, tx_end}
+use Rattle.beldi_known.specs.Matches.{Matches, LocksetMatches, LockedAtEnds, LockedIf, lockset_ahead}
+use Rattle.beldi_known.specs.Sane.{Sane}
+use Rattle.beldi_known.proofs.Behind.{lockset_there}
+use Rattle.beldi_known.proofs.Locks.{is_its, tx_self}
+use Rattle.beldi_known.proofs.Participants.{now_open}
+use Rattle.beldi_known.proofs.ReadLists.{asked_own, gathered}
+use Rattle.beldi_laws.proofs.Members.{TakesPart, reached}
+
+of_function : (x : Item) (func : ℕ) (o : Option (ℕ × List ℕ)) → is_item x func o ≡ true → x.func ≡ func
+of_function x func None h = cc
+of_function x func (Some k) h = ap (λ (y : Item). y.func) (sym (item_same (record { func = func; table = k.0; key = k.1 }) x h))
+
+row_owed : (r : Option Row) (ahead : Bool) → LocksetMatches r true ahead → r ≡ Some rows.Lockset
+row_owed None ahead h = cc
+row_owed (Some rows.Lockset) ahead h = refl
+row_owed (Some r) ahead h = absurd h
+
+-- a member's function has the item, and the row is there
+pub record HasAsked (m : Rows) (known : Known) (t : TxId) (x : Item) : Type 0 where
+  pub member : Member
+  pub role : (◌≡◌ {A = Member} member (t.intent, t.func)) ⊎ TakesPart known t member
+  pub func : x.func ≡ member.1
+  pub row : map.get m (lockset_key member.0 t.begin x) ≡ Some rows.Lockset
+
+module _ (d : Deployment) (m : Rows) (known : Known) (locked : IntentId → Bool) (h : Matches d m known locked) (sane : Sane d known) (ends : LockedAtEnds d known locked) (t : TxId) (e : ℕ × Bool) (ended : tx_end d known t ≡ Some e) (x : Item) where
+  module _ (j : IntentId) (q : Instance) (is : map.get known j ≡ Some q) where
+    abbrev On : List Answer → Type 0
+    On ts = is_on t x q.func (tx_after d j q ts) (effect_after d q ts) ≡ true
+
+    tx_there : (ts : List Answer) → On ts → tx_after d j q ts ≡ Some t
+    tx_there ts on = is_its t (tx_after d j q ts) (and_parts (is_tx t (tx_after d j q ts)) (is_item x q.func (touched (effect_after d q ts))) on).0
+
+    -- it is its owner, or was called in it
+    role_there : (ts : List Answer) → On ts → (◌≡◌ {A = Member} (j, q.func) (t.intent, t.func)) ⊎ TakesPart known t (j, q.func)
+    role_there ts on = by_within q.within refl
+      where
+        by_within : (o : Option TxId) → q.within ≡ o → (◌≡◌ {A = Member} (j, q.func) (t.intent, t.func)) ⊎ TakesPart known t (j, q.func)
+        by_within None out = let own = asked_own d t x j q out ts on in inl (λ i. (sym own.intent i, sym own.func_is i))
+        by_within (Some s) in_it = inr (record {
+          instance = q;
+          made = is;
+          within = in_it ∙ sym (ap (λ o. or_own o (tx_by j q.func (length ts) (effect_after d q ts) (txs_after d q ts).begun)) in_it) ∙ tx_there ts on;
+          func = refl;
+        })
+
+    -- an operation of it that was answered
+    by_answer : (ts later : List Answer) (a : Answer) → ts ++ a ∷ later ≡ q.answers → On ts → HasAsked m known t x
+    by_answer ts later a parts here =
+        let touches = (and_parts (is_tx t (tx_after d j q ts)) (is_item x q.func (touched (effect_after d q ts))) here).1 in
+        let asks : (begins_at t.begin (tx_after d j q ts) && is_item x q.func (touched (effect_after d q ts))) ≡ true =
+        ap (λ z. begins_at t.begin z && is_item x q.func (touched (effect_after d q ts))) (tx_there ts here) ∙ ap (λ b. b && is_item x q.func (touched (effect_after d q ts))) (eq-eqb t.begin t.begin refl) ∙ touches in
+        let owed : owed_lockset d t.begin x j (map.get known j) ≡ true = ap (owed_lockset d t.begin x j) is ∙ lockset_there d j q ts a later parts t.begin x asks in
+        let key = lockset_key j t.begin x in
+        record {
+          member = (j, q.func);
+          role = role_there ts here;
+          func = of_function x q.func (touched (effect_after d q ts)) touches;
+          row = row_owed (map.get m key) (lockset_ahead d known t.begin x j (map.get known j)) (subst (λ b. LocksetMatches (map.get m key) b (lockset_ahead d known t.begin x j (map.get known j))) owed (h.keys key));
+        }
+
+    -- none is ahead, as it has ended
+    not_ahead : (locked j && is_on t x q.func (tx_now d j q) (effect_of d q)) ≡ true → ⊥
+    not_ahead g =
+        let k = and_parts (locked j) (is_on t x q.func (tx_now d j q) (effect_of d q)) g in
+        let at = subst (LockedIf d j) is (ends j k.0) in
+        let clash = sym (now_open d known sane j q t is at.open_still (tx_there q.answers k.1)) ∙ ended in cc
+
+    by_got : (b : Bool) → got_before d t x j q ≡ b → (b || (locked j && is_on t x q.func (tx_now d j q) (effect_of d q))) ≡ true → HasAsked m known t x
+    by_got false was g = absurd (not_ahead g)
+    by_got true was g = elim (gathered (λ ts c. is_on t x q.func (tx_after d j q ts) (effect_after d q ts) && not (is_aborted c)) [] q.answers false was) [
+      | inl k ↦ cc
+      | inr k ↦ by_answer k.before k.later k.answer k.parts (and_parts (is_on t x q.func (tx_after d j q k.before) (effect_after d q k.before)) (not (is_aborted k.answer)) k.holds).0
+    ]
+
+  by_member : (j : IntentId) (u : Option Instance) → map.get known j ≡ u → got_by d t x j (locked j) u ≡ true → HasAsked m known t x
+  by_member j None is g = cc
+  by_member j (Some q) is g = by_got j q is (got_before d t x j q) refl g
+
+  pub has_asked : (content_of m x).owner ≡ Some (Tx t) → HasAsked m known t x
+  has_asked owned = let g = (h.txs x).owned_is_got t owned in by_member g.member (map.get known g.member) refl g.got
+
+  -- so it owns nothing, where all who took part have given back all
+  pub owns_none : AllShort known → AllReleased (first_end t e.0 e.1) m → (content_of m x).owner ≡ Some (Tx t) → ⊥
+  owns_none short all owned = let a = has_asked owned in by_role a a.role
+    where
+      freed_by : (a : HasAsked m known t x) (p : Member) → a.member ≡ p → AllFreed (first_end t e.0 e.1) m p → ⊥
+      freed_by a p same freed =
+          let func : x.func ≡ p.1 = a.func ∙ ap (λ (y : Member). y.1) same in
+          let row : map.get m (lockset_key p.0 t.begin (record { func = p.1; table = x.table; key = x.key })) ≡ Some rows.Lockset = subst (λ f. map.get m (record { home = f; kind = kinds.Lockset p.0 t.begin x.table x.key }) ≡ Some rows.Lockset) func (subst (λ (i : IntentId). map.get m (lockset_key i t.begin x) ≡ Some rows.Lockset) (ap (λ (y : Member). y.0) same) a.row) in
+          let own : (content_of m (record { func = p.1; table = x.table; key = x.key })).owner ≡ Some (Tx t) = subst (λ f. (content_of m (record { func = f; table = x.table; key = x.key })).owner ≡ Some (Tx t)) func owned in
+          let clash = sym (ap (owns (Tx t)) own ∙ tx_self t) ∙ freed (x.table, x.key) rows.Lockset row in cc
+
+      by_role : (a : HasAsked m known t x) → (◌≡◌ {A = Member} a.member (t.intent, t.func)) ⊎ TakesPart known t a.member → ⊥
+      by_role a (inl own) = freed_by a (t.intent, t.func) own all.owner
+      by_role a (inr part) =
+          let r = reached d m known locked h sane t e ended short a.member.0 part.instance part.made part.within in
+          let to : a.member ≡ visited_by t (r.first ∷ r.rest) = sym (r.leads ∙ ap (λ f. (a.member.0, f)) part.func) in
+          freed_by a (visited_by t (r.first ∷ r.rest)) to (all.freed r.first r.rest r.member)
