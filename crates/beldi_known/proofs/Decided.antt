@@ -46,7 +46,7 @@ use Rattle.beldi_step.specs.Run.{place_of}
 use Rattle.beldi_step.specs.Tables.{value_in, is_committed, decision_key}
 use Rattle.beldi_known.specs.Beside.{IsKept, OpenTx, begins}
 use Rattle.beldi_known.specs.Contents.{head_key, content_of, shadow_key}
-use Rattle.beldi_known.specs.InsideLaws.{AbortsAreTries, CommitsArePieces, FellAt, Goes, HoldersAreMade, IsAbort, IsCommit, IsSound, last_answer}
+use Rattle.beldi_known.specs.InsideLaws.{AbortsAreTries, CommitsArePieces, FellAt, Goes, HoldersInsideAreMade, IsAbort, IsCommit, IsSound, last_answer}
 use Rattle.beldi_known.specs.InsideLaws as laws
 use Rattle.beldi_known.specs.Known.{Known, at_once, decision_by, ended_by, moved as goes_on, owed_read, owed_value, read_at, row_at, value_or}
 use Rattle.beldi_known.specs.Listed.{listed_under, listed}
@@ -336,7 +336,7 @@ module _ (d : Deployment) (m : Rows) (p : PlainState) (known : Known) (locked : 
     }
 
   -- ---- without commit
-  module _ (no : c ≡ false) (holders : HoldersAreMade d p known) where
+  module _ (no : c ≡ false) (holders : HoldersInsideAreMade d p known) where
     ended_so : effect_of d k ≡ effect.End false
     ended_so = ends ∙ ap effect.End no
 

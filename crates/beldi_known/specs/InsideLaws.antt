@@ -152,13 +152,13 @@ pub record IsAbort (d : Deployment) (m n : Rows) (p : PlainState) (known : Known
   pub lists : (x : Item) → listed n x ≡ listed m x
   pub goes : Goes d n (with_instance p s.intent (answered k answer.Done)) known locked
 
--- .. where who let one of its steps die was made
-abbrev pub HoldersAreMade : Deployment → PlainState → Known → Type 0
-HoldersAreMade d p known = (id : IntentId) (q : Instance) (n : ℕ) (c : Cause) (h : IntentId) → map.get known id ≡ Some q → is_some (tx_at d id q n) ≡ true → slice_get q.answers n ≡ Some (answer.Aborted c) → c.holder ≡ Some h → is_some (map.get p.made h) ≡ true
+-- .. where who let a step inside a transaction die was made
+abbrev pub HoldersInsideAreMade : Deployment → PlainState → Known → Type 0
+HoldersInsideAreMade d p known = (id : IntentId) (q : Instance) (n : ℕ) (c : Cause) (h : IntentId) → map.get known id ≡ Some q → is_some (tx_at d id q n) ≡ true → slice_get q.answers n ≡ Some (answer.Aborted c) → c.holder ≡ Some h → is_some (map.get p.made h) ≡ true
 
 abbrev pub AbortsAreTries : Type 0
 AbortsAreTries = (d : Deployment) (m : Rows) (p : PlainState) (known : Known) (locked : IntentId → Bool) (s : TxId) (k : Instance) → IsOpen d m p known locked s → map.get known s.intent ≡ Some k → effect_of d k ≡ effect.End false → locked s.intent ≡ false
-    → HoldersAreMade d p known → IsAbort d m (decided m s false) p (map.insert known s.intent (moved d s.intent k answer.Done)) locked s k
+    → HoldersInsideAreMade d p known → IsAbort d m (decided m s false) p (map.insert known s.intent (moved d s.intent k answer.Done)) locked s k
 
 -- ---- a release leaves the value that was listed
 abbrev pub ReleasesList : Type 0

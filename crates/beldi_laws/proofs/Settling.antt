@@ -29,7 +29,7 @@ use Rattle.beldi_known.proofs.FrameAt.{known_set}
 use Rattle.beldi_known.proofs.NoTx.{outside_parts}
 use Rattle.beldi_laws.specs.Inside.{OwnedAreUnmarked, OwnersCallNobody, ParticipantsAreReleased, ParticipantsHaveRows, Frame, IsFreePlace, TookPart}
 use Rattle.beldi_laws.specs.Stands.{key_in}
-use Rattle.beldi_known.specs.InsideLaws.{HoldersAreMade}
+use Rattle.beldi_known.specs.InsideLaws.{HoldersInsideAreMade}
 use Rattle.beldi_order.specs.Inside.{IsBelow}
 use Rattle.beldi_plain.specs.Executor.{AllShort}
 use Rattle.beldi_laws.proofs.KeptSane.{outside_effect}
@@ -79,7 +79,7 @@ pub record GoesAlong (d : Deployment) (m : Rows) (known : Known) (id : IntentId)
 module _ (d : Deployment) (m : Rows) (p : PlainState) (known : Known) (id : IntentId) (s : Instance) where
   -- an instance is set, of whose transactions the rows keep what they have to
   module _ (one : IsSettled d m p id s) (h : Settled d m p known) where
-    pub holders_set : HoldersAreMade d p (map.insert known id s)
+    pub holders_set : HoldersInsideAreMade d p (map.insert known id s)
     holders_set j k n c i is inside dead holder = known_set known id s (λ j o. o ≡ Some k → is_some (tx_at d j k n) ≡ true → is_some (map.get p.made i) ≡ true)
         (λ e g. one.holders n c i (subst (λ (y : Instance). is_some (tx_at d id y n) ≡ true) (sym (same_some e)) g) (subst (λ (y : Instance). slice_get y.answers n ≡ Some (answer.Aborted c)) (sym (same_some e)) dead) holder)
         (λ j other e g. h.holders j k n c i e g dead holder) j is inside

@@ -19,7 +19,7 @@ use Rattle.beldi_known.specs.Matches.{Matches, LockedAtEnds}
 use Rattle.beldi_known.specs.Sane.{Sane}
 use Rattle.beldi_laws.specs.Inside.{OwnedAreUnmarked, OwnersCallNobody, ParticipantsAreReleased, ParticipantsHaveRows}
 use Rattle.beldi_plain.specs.Executor.{AllShort}
-use Rattle.beldi_known.specs.InsideLaws.{Goes, HoldersAreMade, IsSound}
+use Rattle.beldi_known.specs.InsideLaws.{Goes, HoldersInsideAreMade, IsSound}
 use Rattle.beldi_laws.specs.Right.{Right}
 use Rattle.beldi_laws.proofs.Outside.{holds_known}
 use Rattle.beldi_row.specs.declared.key.RowKey.{RowKey}
@@ -31,7 +31,7 @@ use Rattle.beldi_known.proofs.Sets.{is_log as is_row_log}
 pub record Settled (d : Deployment) (m : Rows) (p : PlainState) (known : Known) : Type 0 where
   pub marks : OwnedAreUnmarked d m known
   pub latest : OwnersCallNobody d m known
-  pub holders : HoldersAreMade d p known
+  pub holders : HoldersInsideAreMade d p known
   pub seated : ParticipantsHaveRows m known
   pub released : ParticipantsAreReleased d m known
   pub short : AllShort known

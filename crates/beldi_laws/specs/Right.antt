@@ -46,7 +46,7 @@ use Rattle.beldi_known.specs.Matches.{Matches, LockedAtEnds}
 use Rattle.beldi_known.specs.Sane.{Sane}
 use Rattle.beldi_laws.specs.Inside.{Inside, OwnedAreUnmarked, OwnersCallNobody, ParticipantsAreReleased, ParticipantsHaveRows}
 use Rattle.beldi_known.specs.Beside.{Beside}
-use Rattle.beldi_known.specs.InsideLaws.{HoldersAreMade}
+use Rattle.beldi_known.specs.InsideLaws.{HoldersInsideAreMade}
 use Rattle.beldi_known.specs.Listed.{listed}
 use Rattle.beldi_known.specs.Shadows.{Shadows}
 
@@ -186,7 +186,7 @@ pub record Right (d : Deployment) (c : Core) (m : Rows) : Type 0 where
   pub marks : OwnedAreUnmarked d m known
   pub latest : OwnersCallNobody d m known
   -- each death has a holder that was made
-  pub holders : HoldersAreMade d plain known
+  pub holders : HoldersInsideAreMade d plain known
   -- who took part in a transaction has its row once it has its outcome, and has given back all once it has its finish
   pub seated : ParticipantsHaveRows m known
   pub released : ParticipantsAreReleased d m known
