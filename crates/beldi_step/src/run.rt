@@ -1,8 +1,8 @@
 // Runs: executions of instances of functions. Each asks one thing a turn, and goes on by what it is told.
-ghost use Rattle.std.specs.Prelude.{◌≡◌, ℕ, true, false, Option, Some, None, IfOk, OnOk};
+ghost use Rattle.std.specs.Prelude.{◌≡◌, ℕ, true, false, Option, Some, None, IfOk, IfErr, OnOk};
 ghost use Rattle.beldi_tree.specs.Names.{func_at};
 ghost use Rattle.beldi_walk.specs.Query.{told_of};
-ghost use Rattle.beldi_intent.specs.Intent.{body_in, body_told, open_body as open_body_of};
+ghost use Rattle.beldi_intent.specs.Intent.{body_in, body_told, open_body as open_body_of, register_asks};
 ghost use Rattle.beldi_step.specs.Run.{run_asks, run_told, followed, plain_says, begin_in, goes_to, takes, at_state, at_once as at_once_of, once as once_of, open_after as open_after_of, begin_of, tx_at, within as within_of, answer_at_once as answer_at_once_of, at_stage, body_found, body_added, turned_by, Turns, callee_of, callee_run as callee_run_of};
 ghost use Rattle.beldi_step.specs.declared.run.Begun.{Begun};
 ghost use Rattle.beldi_step.specs.declared.run.Mark.{Mark};
@@ -232,6 +232,13 @@ fn own_body(func: u16, body: Body) -> Option<Body>
     None
 }
 
+// Asks for the row of an intent with this body.
+fn register(alloc: Global, id: &IntentId, body: &Body) -> Result<Query, AllocError>
+    ensures { IfOk result (λ q. q ≡ register_asks id.now body.now) }
+{
+    Ok(register_query(id.copy(alloc)?, body.copy(alloc)?))
+}
+
 // The body that a run registered.
 fn registered(func: u16, at: RunAt) -> Option<Body>
     ensures { result ≡ body_added func at }
@@ -358,7 +365,7 @@ impl Run {
     {
         match &self.at {
             RunAt::Looks => look(alloc, &self.id, self.func),
-            RunAt::Registers(body) => Ok(register_query(self.id.copy(alloc)?, body.copy(alloc)?)),
+            RunAt::Registers(body) => register(alloc, &self.id, body),
             RunAt::Begins(begun) => stage_query(alloc, &self.id, self.func, begun),
         }
     }
@@ -422,10 +429,24 @@ impl Run {
                 Ok(says) => self.follow(alloc, code, says),
                 Err(mark) => Err(mark),
             },
-            _ => match self.begin(alloc, code, heard) {
-                Ok(says) => Ok(says),
-                Err(_) => Err(None),
-            },
+            _ => self.find_body(alloc, code, heard),
+        }
+    }
+
+    // A turn before it has its body, which makes no entry.
+    fn find_body(
+        &mut self,
+        alloc: Global,
+        code: &Deployment,
+        heard: Heard<'_>,
+    ) -> Result<TurnSays, Option<Mark>>
+        ensures begun { IfOk result (λ x. followed self.new x ≡ begin_in code.now self.old (func_at code.now self.old.func) (body_found self.old.func self.old.at (told_of heard.entry))) }
+        ensures none { IfErr result (λ m. m ≡ None) }
+        ensures id { self.new.id ≡ self.old.id }
+    {
+        match self.begin(alloc, code, heard) {
+            Ok(says) => Ok(says),
+            Err(_) => Err(None),
         }
     }
 

@@ -4,8 +4,11 @@ ghost use Rattle.beldi_value.specs.Id.{has_callees};
 ghost use Rattle.beldi_value.specs.declared.value.Value.{Value};
 ghost use Rattle.beldi_value.specs.declared.place.Owner.TheVariants as owners;
 ghost use Rattle.beldi_walk.specs.Query.{told_of};
-ghost use Rattle.beldi_daal.specs.Cell.{read_goes};
-ghost use Rattle.beldi_readlog.specs.ReadLog.{given_of, kept_of};
+ghost use Rattle.beldi_row.specs.declared.act.Act.TheVariants as acts;
+ghost use Rattle.beldi_walk.specs.declared.query.Query.TheVariants as queries;
+ghost use Rattle.beldi_call.specs.Call.{call_asks};
+ghost use Rattle.beldi_daal.specs.Cell.{read_goes, cell_key as cell_key_of};
+ghost use Rattle.beldi_readlog.specs.ReadLog.{given_of, kept_of, log_key as log_key_of};
 ghost use Rattle.beldi_intent.specs.Intent.{look_asks};
 ghost use Rattle.beldi_step.specs.declared.run.Stage.TheVariants as stages;
 ghost use Rattle.beldi_call.specs.declared.call.CallAt.TheVariants as calls;
@@ -136,6 +139,48 @@ fn put_query(
     write_query(alloc, row, place, who, op, at)
 }
 
+// A read asks for the value that was kept for it.
+fn ask_query(alloc: Global, id: &IntentId, func: u16, step: u32) -> Result<Query, AllocError>
+    ensures { IfOk result (λ q. q ≡ queries.Act (log_key_of func (place_at id.now step)) acts.Look) }
+{
+    Ok(Query::Act(log_key(func, place_of(alloc, id, step)?), Act::Look))
+}
+
+// A read keeps this value.
+fn keep_query(
+    alloc: Global,
+    id: &IntentId,
+    func: u16,
+    step: u32,
+    value: &Value,
+) -> Result<Query, AllocError>
+    ensures { IfOk result (λ q. q ≡ queries.Act (log_key_of func (place_at id.now step)) (acts.PutRead value.now)) }
+{
+    let place = place_of(alloc, id, step)?;
+    let value = value.copy(alloc)?;
+    Ok(Query::Act(log_key(func, place), Act::PutRead { value }))
+}
+
+// A read looks at its item.
+fn item_query(alloc: Global, func: u16, table: u16, key: &Str) -> Result<Query, AllocError>
+    ensures { IfOk result (λ q. q ≡ queries.Act (cell_key_of func table key.now) acts.Look) }
+{
+    Ok(Query::Act(cell_key(alloc, func, table, key)?, Act::Look))
+}
+
+fn call_here(
+    alloc: Global,
+    id: &IntentId,
+    func: u16,
+    step: u32,
+    callee: u16,
+    at: CallAt,
+) -> Result<Query, AllocError>
+    ensures { IfOk result (λ q. q ≡ call_asks func (place_at id.now step) callee at) }
+{
+    Ok(call_query(func, place_of(alloc, id, step)?, callee, at))
+}
+
 // What a stage asks. The table takes the key and the act, so what they have of the effect is copied; the machine keeps it.
 pub(crate) fn stage_query(
     alloc: Global,
@@ -147,15 +192,9 @@ pub(crate) fn stage_query(
 {
     let step = begun.machine.steps();
     match (&begun.stage, begun.machine.wants()) {
-        (Stage::Ask, _) => Ok(Query::Act(log_key(func, place_of(alloc, id, step)?), Act::Look)),
-        (Stage::Keep { value, seen: _ }, _) => {
-            let place = place_of(alloc, id, step)?;
-            let value = value.copy(alloc)?;
-            Ok(Query::Act(log_key(func, place), Act::PutRead { value }))
-        }
-        (Stage::Walk, Effect::Read { table, key }) => {
-            Ok(Query::Act(cell_key(alloc, func, *table, key)?, Act::Look))
-        }
+        (Stage::Ask, _) => ask_query(alloc, id, func, step),
+        (Stage::Keep { value, seen: _ }, _) => keep_query(alloc, id, func, step, value),
+        (Stage::Walk, Effect::Read { table, key }) => item_query(alloc, func, *table, key),
         (Stage::Write(at), effect) => put_here(alloc, id, func, step, effect, *at),
         (Stage::Tx(at), effect) => tx_here(alloc, id, func, step, effect, at, &begun.tx),
         (Stage::Decide(_), effect) => decide_here(alloc, id, func, effect, &begun.tx),
@@ -169,7 +208,7 @@ pub(crate) fn stage_query(
             &begun.tx,
         ),
         (Stage::Call(at), Effect::Call { func: callee, .. }) => {
-            Ok(call_query(func, place_of(alloc, id, step)?, *callee, *at))
+            call_here(alloc, id, func, step, *callee, *at)
         }
         (Stage::Async(at), effect) => async_here(alloc, id, func, step, effect, *at),
         (Stage::Tell, _) => tell_query(alloc, id, func, &begun.caller),
