@@ -1,13 +1,15 @@
 -- An event that was planned, and then followed, is one step.
-use Rattle.std.proofs.Common.{◌≡◌, ℕ, false, if◌then◌else◌, Option, None, Some, Result, Ok, Err, refl, ap, sym, ◌∙◌}
+use Rattle.std.proofs.Common.{◌≡◌, ℕ, false, if◌then◌else◌, Option, None, Some, Result, Ok, Err, refl, ap, sym, ◌∙◌, subst}
 use Rattle.std.specs.Prelude.{nat_lt}
 use Rattle.std.specs.FinMap as map
 use Rattle.std.specs.declared.alloc.AllocError.{AllocError}
 use Rattle.beldi_tree.specs.declared.deployment.Deployment.{Deployment}
+use Rattle.beldi_row.specs.declared.table.TableErr.{TableErr}
 use Rattle.beldi_row.specs.declared.table.TableErr.TheVariants.{OutOfMemory}
 use Rattle.beldi_row.specs.Table.{TableState}
 use Rattle.beldi_book.specs.Order.{count_changes}
-use Rattle.beldi_walk.specs.Query.{Told}
+use Rattle.beldi_walk.specs.declared.query.Query.{Query}
+use Rattle.beldi_walk.specs.Query.{Told, Came}
 use Rattle.beldi_walk.proofs.Queries.{unasked}
 use Rattle.beldi_step.specs.declared.event.Event.{Event}
 use Rattle.beldi_step.specs.declared.event.Event.TheVariants.{Turn, Lost}
@@ -17,10 +19,11 @@ use Rattle.beldi_step.specs.declared.run.Mark.{Mark}
 use Rattle.beldi_step.specs.declared.run.Run.{Run}
 use Rattle.beldi_step.specs.declared.run.TurnSays.{TurnSays}
 use Rattle.beldi_step.specs.Run.{run_asks, run_told}
+use Rattle.beldi_core.specs.declared.events.Pending.{Pending}
 use Rattle.beldi_core.specs.declared.runs.Copies.{Copies}
 use Rattle.beldi_core.specs.Runs.{Numbered, RunMap, RunTold}
 use Rattle.beldi_step.specs.Host.{Core, Plan, at_once, asks, plan, counted, marked, after_turn, run_next, unheard_next, ended_run, run_plan, crash_plan, no_run, Followed, StepBy, Stepped}
-use Rattle.beldi_core.specs.Parts.{NoMemory, Copied, TellsTurn, entered, mark_told}
+use Rattle.beldi_core.specs.Parts.{NoMemory, Copied, TellsTurn, entered, mark_told, event_of, base, Asked}
 use Rattle.beldi_laws.proofs.Lives.{remove_put}
 
 -- ---- the step
@@ -32,6 +35,9 @@ pub no_memory : (d : Deployment) (e : Event) (c z : Core) (r : Result Seen Alloc
 no_memory d e c z r s h = no_memory_by d e (counted c) z r s (plan d e c) h
 
 -- ---- the answer to a turn
+pub query_asked : (d k : Deployment) (p : Pending) (c z : Core) (q : Query) (old new : TableState) (w : Result Told TableErr) (r : Result Seen AllocError) → k ≡ d → Followed k (event_of p) (base (event_of p) c) w z r → Came q c.now w old new → Asked d p c z q old new r
+query_asked d k p c z q old new w r code followed came = (w, subst (λ (y : Deployment). Followed y (event_of p) (base (event_of p) c) w z r) code followed, came)
+
 module _ (d : Deployment) (c z : Core) (a : RunMap) (i : ℕ) (t : Told) (n : Copies) where
   unheard_by : (o : Option Run) (x : Result TurnSays (Option Mark)) (m : Option Mark) → RunTold d (count_changes c.book) c.runs a i o t x → Copied n o → m ≡ mark_told x → z ≡ record c { runs = map.remove a i; book = marked c.book n.id m } → z ≡ unheard_next d c i t o
   unheard_by None x m h name at is = absurd h

@@ -199,27 +199,12 @@ impl HostCore {
         match event {
             Event::Ticket => self.plan_ticket(),
             Event::Request { ticket, func, args } => self.plan_request(code, ticket, func, args),
-            Event::Turn(run) => match self.plan_run(run)? {
-                RunAsks::Now(seen) => Ok(Planned::Now(seen)),
-                RunAsks::Asks(query, copies) => Ok(Planned::Asks(
-                    query,
-                    Pending::Turn(run, copies),
-                )),
-            },
-            Event::Lost(run) => match self.plan_run(run)? {
-                RunAsks::Now(seen) => Ok(Planned::Now(seen)),
-                RunAsks::Asks(query, copies) => Ok(Planned::Asks(
-                    query,
-                    Pending::Lost(run, copies),
-                )),
-            },
+            Event::Turn(run) => self.plan_turn(run),
+            Event::Lost(run) => self.plan_lost(run),
             Event::Crash(run) => Ok(Planned::Now(self.crash(run))),
             Event::Restart { id, func } => self.restart(code, id, func),
             Event::Tick(ticks) => Ok(Planned::Now(self.tick(ticks))),
-            Event::Ic => {
-                let query = collect_query(self.alloc, &self.cursor)?;
-                Ok(Planned::Asks(Apart::new(self.alloc, query)?, Pending::Ic))
-            }
+            Event::Ic => self.plan_ic(),
         }
     }
 
@@ -231,6 +216,40 @@ impl HostCore {
         }
         let query = issue_query(self.alloc, self.newest + 1);
         Ok(Planned::Asks(Apart::new(self.alloc, query)?, Pending::Ticket))
+    }
+
+    fn plan_turn(&mut self, run: u64) -> Result<Planned, AllocError>
+        requires given { self.old.runs.given < self.old.taken }
+        ensures { (d : Deployment) → PlannedOf d (events.Turn run) (core_in self.old) (core_in self.new) self.new.book.spare result }
+    {
+        match self.plan_run(run) {
+            Ok(RunAsks::Now(seen)) => Ok(Planned::Now(seen)),
+            Ok(RunAsks::Asks(query, copies)) => {
+                Ok(Planned::Asks(query, Pending::Turn(run, copies)))
+            }
+            Err(why) => Err(why),
+        }
+    }
+
+    fn plan_lost(&mut self, run: u64) -> Result<Planned, AllocError>
+        requires given { self.old.runs.given < self.old.taken }
+        ensures { (d : Deployment) → PlannedOf d (events.Lost run) (core_in self.old) (core_in self.new) self.new.book.spare result }
+    {
+        match self.plan_run(run) {
+            Ok(RunAsks::Now(seen)) => Ok(Planned::Now(seen)),
+            Ok(RunAsks::Asks(query, copies)) => {
+                Ok(Planned::Asks(query, Pending::Lost(run, copies)))
+            }
+            Err(why) => Err(why),
+        }
+    }
+
+    fn plan_ic(&mut self) -> Result<Planned, AllocError>
+        requires given { self.old.runs.given < self.old.taken }
+        ensures { (d : Deployment) → PlannedOf d events.Ic (core_in self.old) (core_in self.new) self.new.book.spare result }
+    {
+        let query = collect_query(self.alloc, &self.cursor)?;
+        Ok(Planned::Asks(Apart::new(self.alloc, query)?, Pending::Ic))
     }
 
     // A request has its run's place while it waits for its answer.
@@ -467,13 +486,11 @@ impl HostCore {
         match copy_entry(self.alloc, &copies.id, &says.mark) {
             Ok(entry) => {
                 write(&mut self.book, entry);
-                match self.after_turn(copies.callee, copies.id, says) {
-                    Ok(seen) => Ok(seen),
-                    Err(why) => {
-                        self.runs.remove(run);
-                        Err(why)
-                    }
+                let seen = self.after_turn(copies.callee, copies.id, says);
+                if seen.is_err() {
+                    self.runs.remove(run);
                 }
+                seen
             }
             Err(why) => {
                 self.runs.remove(run);

@@ -7,7 +7,7 @@ use crate::runs::Runs;
 use crate::survey::{OpenErr, ReplySeen, list_tables, prepare, read_reply};
 use beldi_book::Book;
 use beldi_check::Checked;
-use beldi_row::{RowKey, Table};
+use beldi_row::{Act, RowKey, Table};
 use beldi_step::{Event, Seen};
 use beldi_value::Str;
 use beldi_walk::{Heard, Query};
@@ -29,6 +29,7 @@ impl<T: Table> Host<T> {
     ghost use Rattle.beldi_core.specs.Survey.{Opened, Refused, NewestAt, Reads, reply_seen, is_unknown};
     ghost use Rattle.beldi_core.specs.declared.survey.ReplySeen.TheVariants.{Unknown};
     ghost use Rattle.beldi_core.specs.Runs.{IsLeastPast};
+    ghost use Rattle.beldi_walk.specs.declared.query.Query.TheVariants as queries;
     ghost use Rattle.beldi_core.specs.Host.{core_of};
     ghost use Rattle.beldi_core.specs.Parts.{core_in, Ready, Asked};
     ghost use Rattle.beldi_laws.specs.Laws.{is_gone};
@@ -198,9 +199,10 @@ impl<T: Table> Host<T> {
         ensures step { Stepped self.old.code event (core_of self.old) (core_of self.new) (T.state self.old.table) (T.state self.new.table) result }
         ensures code { self.new.code ≡ self.old.code }
     {
-        match self.core.plan(self.code.code(), event)? {
-            Planned::Now(seen) => Ok(seen),
-            Planned::Asks(query, pending) => self.ask(query.into_inner(), pending),
+        match self.core.plan(self.code.code(), event) {
+            Ok(Planned::Now(seen)) => Ok(seen),
+            Ok(Planned::Asks(query, pending)) => self.ask(query.into_inner(), pending),
+            Err(why) => Err(why),
         }
     }
 
@@ -211,16 +213,32 @@ impl<T: Table> Host<T> {
         ensures code { self.new.code ≡ self.old.code }
     {
         match query {
-            Query::Act(key, act) => match self.table.act(key, act, self.core.now) {
-                Ok(said) => self.core.told(self.code.code(), pending, Heard::Said(said)),
-                Err(why) => self.core.refused(pending, why),
-            },
-            Query::After(key) => match self.table.next(&key) {
-                Ok(found) => self
-                    .core
-                    .told(self.code.code(), pending, Heard::Found(found)),
-                Err(why) => self.core.refused(pending, why),
-            },
+            Query::Act(key, act) => self.act(key, act, pending),
+            Query::After(key) => self.look_after(key, pending),
+        }
+    }
+
+    fn act(&mut self, key: RowKey, act: Act, pending: Pending) -> Result<Seen, AllocError>
+        requires { Ready self.old.code pending (core_of self.old) self.old.core.book.spare }
+        ensures asked { Asked self.old.code pending (core_of self.old) (core_of self.new) (queries.Act key act) (T.state self.old.table) (T.state self.new.table) result }
+        ensures code { self.new.code ≡ self.old.code }
+    {
+        match self.table.act(key, act, self.core.now) {
+            Ok(said) => self.core.told(self.code.code(), pending, Heard::Said(said)),
+            Err(why) => self.core.refused(pending, why),
+        }
+    }
+
+    fn look_after(&mut self, key: RowKey, pending: Pending) -> Result<Seen, AllocError>
+        requires { Ready self.old.code pending (core_of self.old) self.old.core.book.spare }
+        ensures asked { Asked self.old.code pending (core_of self.old) (core_of self.new) (queries.After key) (T.state self.old.table) (T.state self.new.table) result }
+        ensures code { self.new.code ≡ self.old.code }
+    {
+        match self.table.next(&key) {
+            Ok(found) => self
+                .core
+                .told(self.code.code(), pending, Heard::Found(found)),
+            Err(why) => self.core.refused(pending, why),
         }
     }
 }

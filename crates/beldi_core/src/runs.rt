@@ -5,6 +5,7 @@ ghost use Rattle.beldi_walk.specs.Query.{told_of};
 ghost use Rattle.beldi_core.specs.Runs.{map_of, IsLeastPast, started, withdrawn, ends_run, settled, uncounted, settled_counts, AllKept, asked_of, RunTold};
 ghost use Rattle.beldi_core.specs.Counts.{count_at, more, kept_as};
 ghost use Rattle.beldi_step.specs.Host.{has_run};
+ghost use Rattle.beldi_step.specs.Run.{run_asks};
 
 use crate::counts::Counts;
 use beldi_book::Book;
@@ -155,8 +156,17 @@ pub fn asked(
     book.reserve()?;
     let id = run.id.copy(alloc)?;
     let callee = run.callee(alloc)?;
-    let query = Apart::new(alloc, run.ask(alloc)?)?;
+    let query = query_of(run, alloc)?;
     Ok((query, Copies { id, callee }))
+}
+
+fn query_of(run: &Run, alloc: Global) -> Result<Apart<Query>, AllocError>
+    ensures { IfOk result (λ q. q ≡ run_asks run.now) }
+{
+    match run.ask(alloc) {
+        Ok(query) => Apart::new(alloc, query),
+        Err(why) => Err(why),
+    }
 }
 
 impl Runs {
