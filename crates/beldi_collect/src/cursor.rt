@@ -53,7 +53,7 @@ pub fn collect_told(alloc: Global, heard: Heard<'_>) -> Result<Found, AllocError
 pub(crate) fn open_intent<'a>(key: &'a RowKey, row: &'a Row) -> Option<(&'a IntentId, &'a Body)>
     ensures { lent_intent result ≡ open_at key.now.kind row.now }
 {
-    match (&key.kind, row) {
+    match (key.kind(), row) {
         (Kind::Intent(id), Row::Intent(intent)) => match open_body(intent) {
             None => None,
             Some(body) => Some((id, body)),
@@ -66,14 +66,12 @@ pub(crate) fn open_intent<'a>(key: &'a RowKey, row: &'a Row) -> Option<(&'a Inte
 pub(crate) fn passing(alloc: Global, key: &RowKey) -> Result<RowKey, AllocError>
     ensures { IfOk result (λ k. k ≡ passing_of key.now key.now.kind) }
 {
-    match &key.kind {
+    match key.kind() {
         Kind::Intent(_) => key.copy(alloc),
         _ => {
-            if key.home < u16::MAX {
-                Ok(RowKey {
-                    home: key.home + 1,
-                    kind: Kind::Intent(IntentId::root(alloc, 0)),
-                })
+            if key.home() < u16::MAX {
+                let first = Kind::Intent(IntentId::root(alloc, 0));
+                Ok(RowKey::new(key.home() + 1, first))
             } else {
                 key.copy(alloc)
             }

@@ -1,6 +1,6 @@
 // The intent collector as a walk of its own.
 ghost use Rattle.std.specs.Prelude.{◌≡◌, Some, None, IsSome};
-ghost use Rattle.beldi_row.specs.declared.key.RowKey.{RowKey};
+ghost use Rattle.beldi_row.specs.Key.{RowKey};
 ghost use Rattle.beldi_walk.specs.Walk.{Turned};
 ghost use Rattle.beldi_collect.specs.Cursor.{first_cursor, cursor_asks, cursor_next, cursor_says};
 

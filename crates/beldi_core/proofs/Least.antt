@@ -13,9 +13,8 @@ use Rattle.std.specs.Cmp.{nat_cmp_total, ranks, Equal-is}
 use Rattle.std.specs.Ordering.{nat_cmp, is_eq, is_lt, MatchOrdering}
 use Rattle.std.proofs.lemmas.Cmp.{tied_itself}
 use Rattle.std.proofs.lemmas.Map.Keys.{ge_from_not_lt}
-use Rattle.beldi_row.specs.Key.{key_cmp, key_ticket}
+use Rattle.beldi_row.specs.Key.{RowKey, key_cmp, key_ticket}
 use Rattle.beldi_row.specs.KeyOrder.{key_total}
-use Rattle.beldi_row.specs.declared.key.RowKey.{RowKey}
 use Rattle.beldi_row.specs.declared.row.Row.{Row}
 use Rattle.beldi_row.specs.Table.{Rows, Tells}
 use Rattle.beldi_row.proofs.Gets.{key_same}

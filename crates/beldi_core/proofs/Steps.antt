@@ -12,9 +12,8 @@ use Rattle.beldi_value.specs.declared.place.Owner.{Owner}
 use Rattle.beldi_value.specs.declared.place.Owner.TheVariants as owner
 use Rattle.beldi_value.specs.declared.value.Value.{Value}
 use Rattle.beldi_tree.specs.declared.deployment.Deployment.{Deployment}
-use Rattle.beldi_row.specs.Key.{key_cmp, kind_cmp, key_ticket, ticket_of, least_key}
+use Rattle.beldi_row.specs.Key.{RowKey, key_cmp, kind_cmp, key_ticket, ticket_of, least_key}
 use Rattle.beldi_row.specs.KeyOrder.{key_total}
-use Rattle.beldi_row.specs.declared.key.RowKey.{RowKey}
 use Rattle.beldi_row.specs.declared.key.Kind.{Kind}
 use Rattle.beldi_row.specs.declared.key.Kind.TheVariants.{Intent, ReadLog, Invoke, Data, Shadow, Lockset}
 use Rattle.beldi_row.specs.declared.row.Row.{Row}

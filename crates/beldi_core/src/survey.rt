@@ -155,14 +155,14 @@ fn write_value(
 ) -> Result<(), AllocError>
     ensures { OnOk result (text.new ≡ text.old ++ key_line code.now key.now.home key.now.kind value.now) }
 {
-    match &key.kind {
+    match key.kind() {
         Kind::Data {
             table,
             key: item,
             row: 0,
         } => match value {
             Value::Null => Ok(()),
-            value => write_item(alloc, code, key.home, *table, item, value, text),
+            value => write_item(alloc, code, key.home(), *table, item, value, text),
         },
         _ => Ok(()),
     }
@@ -181,7 +181,7 @@ fn write_row(
     let Row::Cell(cell) = row else {
         return Ok(None);
     };
-    match &key.kind {
+    match key.kind() {
         Kind::Data {
             table,
             key: item,
@@ -189,7 +189,7 @@ fn write_row(
         } => match &cell.owner {
             Some(Owner::Tx(tx)) => Ok(Some(owned_by(
                 alloc,
-                key.home,
+                key.home(),
                 tx,
                 *table,
                 item,

@@ -5,7 +5,6 @@ use Rattle.beldi_value.specs.declared.place.Place.{Place}
 use Rattle.beldi_value.specs.declared.place.Owner.{Owner}
 use Rattle.beldi_value.specs.declared.place.TxId.{TxId}
 use Rattle.beldi_value.specs.Spare.{spare}
-use Rattle.beldi_row.specs.declared.key.RowKey.{RowKey}
 use Rattle.beldi_row.specs.declared.key.Kind.TheVariants.{Shadow}
 use Rattle.beldi_row.specs.declared.act.Act.{Act}
 use Rattle.beldi_row.specs.declared.notes.Note.{Note}
@@ -13,7 +12,7 @@ use Rattle.beldi_row.specs.declared.notes.Note.TheVariants.{Wrote, Cond, Got, Di
 use Rattle.beldi_row.specs.declared.row.Cell.{Cell}
 use Rattle.beldi_row.specs.declared.row.Row.TheVariants as rows
 use Rattle.beldi_row.specs.declared.act.Act.TheVariants.{MakeCell, WriteCell, CondCell, LockCell, FreeCell}
-use Rattle.beldi_row.specs.Key.{head_key}
+use Rattle.beldi_row.specs.Key.{RowKey, head_key}
 use Rattle.beldi_row.specs.Act.{absent, here, no_row, did, died, noted, held, not_owner, tested, other_owner}
 use Rattle.beldi_walk.specs.declared.query.Query.{Query}
 use Rattle.beldi_walk.specs.declared.query.Query.TheVariants as query

@@ -1,7 +1,7 @@
 -- The walk of a read, as a machine that makes one Look a turn.
 use Rattle.std.specs.Prelude.{ℕ, Option}
 use Rattle.beldi_value.specs.declared.place.Owner.{Owner}
-use Rattle.beldi_row.specs.declared.key.RowKey.{RowKey}
+use Rattle.beldi_row.specs.Key.{RowKey}
 use Rattle.beldi_row.specs.declared.act.Act.TheVariants.{Look}
 use Rattle.beldi_walk.specs.declared.query.Query.{Query}
 use Rattle.beldi_walk.specs.declared.query.Query.TheVariants.{Act}

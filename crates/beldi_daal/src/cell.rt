@@ -125,14 +125,12 @@ pub enum ReadGoes {
 pub fn cell_key(alloc: Global, home: u16, table: u16, key: &Str) -> Result<RowKey, AllocError>
     ensures { IfOk result (λ k. k ≡ key_of home table key.now) }
 {
-    Ok(RowKey {
-        home,
-        kind: Kind::Data {
-            table,
-            key: key.copy(alloc)?,
-            row: 0,
-        },
-    })
+    let kind = Kind::Data {
+        table,
+        key: key.copy(alloc)?,
+        row: 0,
+    };
+    Ok(RowKey::new(home, kind))
 }
 
 /// The key of the first row of a transaction's own copy of an item of the function `home`.
@@ -145,15 +143,13 @@ pub fn shadow_key(
 ) -> Result<RowKey, AllocError>
     ensures { IfOk result (λ k. k ≡ shadow_key_of home tx.now table key.now) }
 {
-    Ok(RowKey {
-        home,
-        kind: Kind::Shadow {
-            tx: copy_tx(tx, alloc)?,
-            table,
-            key: key.copy(alloc)?,
-            row: 0,
-        },
-    })
+    let kind = Kind::Shadow {
+        tx: copy_tx(tx, alloc)?,
+        table,
+        key: key.copy(alloc)?,
+        row: 0,
+    };
+    Ok(RowKey::new(home, kind))
 }
 
 /// What a write asks at the key of its item: the operation, for a place and an owner, or that the first row be made.

@@ -5,7 +5,7 @@ use Rattle.std.specs.FinMap as map
 use Rattle.beldi_value.specs.Same.{same_value}
 use Rattle.beldi_value.specs.declared.outcome.Outcome.{Outcome}
 use Rattle.beldi_value.specs.declared.value.Value.{Value}
-use Rattle.beldi_row.specs.declared.key.RowKey.{RowKey}
+use Rattle.beldi_row.specs.Key.{RowKey}
 use Rattle.beldi_row.specs.declared.row.Body.{Body}
 use Rattle.beldi_row.specs.declared.row.IntentRow.{IntentRow}
 use Rattle.beldi_row.specs.declared.row.Row.{Row}

@@ -39,10 +39,7 @@ pub enum Put {
 pub fn intent_key(id: IntentId, func: u16) -> RowKey
     ensures { result ≡ key_of id func }
 {
-    RowKey {
-        home: id.home(func),
-        kind: Kind::Intent(id),
-    }
+    RowKey::new(id.home(func), Kind::Intent(id))
 }
 
 /// The key of the row of a ticket's root.

@@ -37,10 +37,7 @@ pub enum Back {
 pub fn invoke_key(home: u16, at: Place) -> RowKey
     ensures { result ≡ key_of home at }
 {
-    RowKey {
-        home,
-        kind: Kind::Invoke(at),
-    }
+    RowKey::new(home, Kind::Invoke(at))
 }
 
 /// Asks for the call of a function to be put at a place, once.

@@ -14,9 +14,8 @@ use Rattle.beldi_value.specs.declared.value.Value.{Value}
 use Rattle.beldi_value.proofs.Callees.{child_same, no_root}
 use Rattle.beldi_tree.specs.declared.deployment.Deployment.{Deployment}
 use Rattle.beldi_lang.specs.declared.effect.Effect.TheVariants as effect
-use Rattle.beldi_row.specs.Key.{key_cmp}
+use Rattle.beldi_row.specs.Key.{RowKey, key_cmp}
 use Rattle.beldi_row.specs.Table.{Rows, set_row}
-use Rattle.beldi_row.specs.declared.key.RowKey.{RowKey}
 use Rattle.beldi_row.specs.declared.key.Kind.{Kind}
 use Rattle.beldi_row.specs.declared.row.InvokeRow.{InvokeRow}
 use Rattle.beldi_row.specs.declared.row.Row.{Row}

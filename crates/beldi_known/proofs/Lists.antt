@@ -7,9 +7,8 @@ use Rattle.beldi_value.specs.declared.place.Owner.TheVariants.{Intent, Tx}
 use Rattle.beldi_value.specs.declared.place.TxId.{TxId}
 use Rattle.beldi_value.specs.declared.value.Value.{Value}
 use Rattle.beldi_row.specs.Act.{other_owner}
-use Rattle.beldi_row.specs.Key.{key_cmp}
+use Rattle.beldi_row.specs.Key.{RowKey, key_cmp}
 use Rattle.beldi_row.specs.Table.{Rows, set_row}
-use Rattle.beldi_row.specs.declared.key.RowKey.{RowKey}
 use Rattle.beldi_row.specs.declared.key.Kind.{Kind}
 use Rattle.beldi_row.specs.declared.key.Kind.TheVariants as kinds
 use Rattle.beldi_row.specs.declared.row.Row.{Row}

@@ -5,9 +5,8 @@ use Rattle.std.specs.Ordering.{is_eq}
 use Rattle.beldi_value.specs.declared.id.IntentId.{IntentId}
 use Rattle.beldi_value.specs.declared.place.Owner.{Owner}
 use Rattle.beldi_value.specs.declared.place.TxId.{TxId}
-use Rattle.beldi_row.specs.declared.key.RowKey.{RowKey}
 use Rattle.beldi_row.specs.declared.key.Kind.TheVariants as kinds
-use Rattle.beldi_row.specs.Key.{key_cmp, head_key as first_row}
+use Rattle.beldi_row.specs.Key.{RowKey, key_cmp, head_key as first_row}
 use Rattle.beldi_row.specs.Log.{owner_eq}
 use Rattle.beldi_row.specs.Table.{Rows}
 use Rattle.beldi_daal.specs.Content.{Content, content_in, SoundAt}

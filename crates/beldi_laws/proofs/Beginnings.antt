@@ -14,12 +14,11 @@ use Rattle.beldi_order.proofs.Maps.{same_some}
 use Rattle.beldi_row.proofs.Gets.{got, key_same, key_self}
 use Rattle.beldi_row.proofs.Unchanged.{looked}
 use Rattle.beldi_row.specs.Act.{act}
-use Rattle.beldi_row.specs.Key.{key_cmp}
+use Rattle.beldi_row.specs.Key.{RowKey, key_cmp}
 use Rattle.beldi_row.specs.Table.{Rows, set_row}
 use Rattle.beldi_row.specs.declared.act.Act.TheVariants.{Look, Register}
 use Rattle.beldi_row.specs.declared.key.Kind.TheVariants as kinds
 use Rattle.beldi_row.specs.declared.key.Kind.{Kind}
-use Rattle.beldi_row.specs.declared.key.RowKey.{RowKey}
 use Rattle.beldi_row.specs.declared.row.Body.{Body}
 use Rattle.beldi_row.specs.declared.row.IntentRow.{IntentRow}
 use Rattle.beldi_row.specs.declared.row.Row.TheVariants as rows

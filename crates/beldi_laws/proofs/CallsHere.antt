@@ -32,7 +32,7 @@ use Rattle.beldi_plain.specs.Plain.{effect_before, effect_of, Instance, kind_of,
 use Rattle.beldi_plain.specs.declared.kind.Kind.TheVariants as kind
 use Rattle.beldi_row.specs.Table.{Rows, set_row}
 use Rattle.beldi_row.specs.declared.row.Body.{Body}
-use Rattle.beldi_row.specs.declared.key.RowKey.{RowKey}
+use Rattle.beldi_row.specs.Key.{RowKey}
 use Rattle.beldi_row.specs.declared.row.InvokeRow.{InvokeRow}
 use Rattle.beldi_row.specs.declared.row.Row.{Row}
 use Rattle.beldi_step.specs.Host.{Core}

@@ -19,7 +19,7 @@ use Rattle.beldi_tree.specs.declared.deployment.Deployment.{Deployment}
 use Rattle.beldi_lang.specs.declared.effect.Effect.{Effect}
 use Rattle.beldi_lang.specs.declared.effect.Effect.TheVariants.{Read, Write, CondWrite, Lock, Unlock, Call, Async, End, Return}
 use Rattle.beldi_book.specs.declared.entry.Entry.TheVariants.{Start}
-use Rattle.beldi_row.specs.Key.{key_cmp, least_key}
+use Rattle.beldi_row.specs.Key.{RowKey, key_cmp, least_key}
 use Rattle.beldi_tree.specs.Bindings.{or_null}
 use Rattle.beldi_plain.specs.Item.{item_cmp}
 use Rattle.beldi_row.specs.declared.row.Body.{Body}
@@ -73,7 +73,6 @@ use Rattle.beldi_laws.proofs.GivingBack.{back_turn, tell_turn}
 use Rattle.beldi_collect.specs.declared.cursor.Found.{Found}
 use Rattle.beldi_collect.specs.declared.cursor.Found.TheVariants as found
 use Rattle.beldi_collect.specs.Collect.{collect_asks, collect_says}
-use Rattle.beldi_row.specs.declared.key.RowKey.{RowKey}
 use Rattle.beldi_laws.proofs.Operations.{operation_turn}
 use Rattle.beldi_laws.proofs.Readings.{ask_turn, walk_turn, keep_turn}
 use Rattle.beldi_plain.specs.Guard.{touched_by}

@@ -40,7 +40,7 @@ use Rattle.beldi_row.specs.Act.{Tell, act, call_back_to}
 use Rattle.beldi_row.specs.Table.{Rows, set_row, after_act}
 use Rattle.beldi_row.specs.declared.act.Act.TheVariants.{CallBack, NoteRegistered}
 use Rattle.beldi_row.specs.declared.key.Kind.TheVariants as kinds
-use Rattle.beldi_row.specs.declared.key.RowKey.{RowKey}
+use Rattle.beldi_row.specs.Key.{RowKey}
 use Rattle.beldi_row.specs.declared.row.InvokeRow.{InvokeRow}
 use Rattle.beldi_row.specs.declared.row.Row.TheVariants as rows
 use Rattle.beldi_row.specs.declared.row.Row.{Row}

@@ -9,7 +9,7 @@ use Rattle.beldi_tree.specs.declared.deployment.Deployment.{Deployment}
 use Rattle.beldi_book.specs.declared.entry.Entry.{Entry}
 use Rattle.beldi_book.specs.Order.{seen_of, SeenBounded}
 use Rattle.beldi_row.specs.KeyOrder.{key_exact}
-use Rattle.beldi_row.specs.declared.key.RowKey.{RowKey}
+use Rattle.beldi_row.specs.Key.{RowKey}
 use Rattle.beldi_row.specs.declared.row.Row.{Row}
 use Rattle.beldi_row.specs.Act.{Tell}
 use Rattle.beldi_row.specs.Table.{Rows, set_row}

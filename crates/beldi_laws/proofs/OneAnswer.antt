@@ -14,7 +14,7 @@ use Rattle.beldi_lang.specs.declared.effect.Answer.TheVariants as answer
 use Rattle.beldi_lang.specs.declared.effect.Effect.{Effect}
 use Rattle.beldi_lang.specs.declared.effect.Effect.TheVariants.{Read, Write, CondWrite, Call, Async, Begin, End, Abort}
 use Rattle.beldi_lang.specs.Machine.{IsAt}
-use Rattle.beldi_row.specs.declared.key.RowKey.{RowKey}
+use Rattle.beldi_row.specs.Key.{RowKey}
 use Rattle.beldi_row.specs.declared.notes.Note.{Note}
 use Rattle.beldi_row.specs.declared.notes.Note.TheVariants.{Got, Died}
 use Rattle.beldi_row.specs.declared.row.Row.{Row}

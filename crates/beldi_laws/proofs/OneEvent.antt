@@ -14,13 +14,12 @@ use Rattle.beldi_lang.specs.declared.machine.Machine.{Machine}
 use Rattle.beldi_lang.specs.Machine.{begun}
 use Rattle.beldi_book.specs.declared.entry.Entry.TheVariants.{Start}
 use Rattle.beldi_book.specs.Order.{count_changes}
-use Rattle.beldi_row.specs.declared.key.RowKey.{RowKey}
 use Rattle.beldi_row.specs.declared.act.Act.{Act as RowAct}
 use Rattle.beldi_row.specs.Act.{act, off}
 use Rattle.beldi_row.specs.KeyOrder.{key_total}
 use Rattle.beldi_row.specs.declared.row.Row.{Row}
 use Rattle.beldi_row.specs.declared.row.Body.{Body}
-use Rattle.beldi_row.specs.Key.{least_key}
+use Rattle.beldi_row.specs.Key.{RowKey, least_key}
 use Rattle.beldi_row.specs.declared.table.TableErr.{TableErr}
 use Rattle.beldi_row.specs.declared.table.TableErr.TheVariants.{OutOfMemory, Failed, Full}
 use Rattle.beldi_row.specs.Table.{Rows, TableState, Rose, set_row, after_act}

@@ -17,8 +17,7 @@ use Rattle.beldi_plain.specs.Plain.{Instance, PlainState, value_at, effect_of, e
 use Rattle.beldi_plain.specs.Operation.{Operation, op_of, or_old, set_if, sets}
 use Rattle.beldi_order.proofs.Operations.{plain_set}
 use Rattle.beldi_row.specs.Table.{Rows}
-use Rattle.beldi_row.specs.declared.key.RowKey.{RowKey}
-use Rattle.beldi_row.specs.Key.{key_cmp}
+use Rattle.beldi_row.specs.Key.{RowKey, key_cmp}
 use Rattle.beldi_row.specs.Log.{note_at}
 use Rattle.beldi_row.specs.declared.notes.Note.{Note}
 use Rattle.beldi_readlog.specs.ReadLog.{log_key}

@@ -15,7 +15,7 @@ use Rattle.beldi_lang.specs.Wants.{wants_answer}
 use Rattle.beldi_book.specs.declared.entry.Entry.TheVariants as entry
 use Rattle.beldi_book.specs.Order.{count_changes, front, back, linear}
 use Rattle.beldi_book.proofs.Orders.{linear_changes, front_back}
-use Rattle.beldi_row.specs.declared.key.RowKey.{RowKey}
+use Rattle.beldi_row.specs.Key.{RowKey}
 use Rattle.beldi_row.specs.declared.key.Kind.TheVariants as kinds
 use Rattle.beldi_row.specs.declared.row.Row.{Row}
 use Rattle.beldi_row.specs.declared.row.Row.TheVariants as rows

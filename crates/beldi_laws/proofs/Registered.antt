@@ -9,7 +9,7 @@ use Rattle.beldi_row.specs.Act.{act, register_to}
 use Rattle.beldi_row.specs.Table.{Rows, set_row, after_act}
 use Rattle.beldi_row.specs.declared.act.Act.TheVariants.{NoteRegistered}
 use Rattle.beldi_row.specs.declared.key.Kind.TheVariants as kinds
-use Rattle.beldi_row.specs.declared.key.RowKey.{RowKey}
+use Rattle.beldi_row.specs.Key.{RowKey}
 use Rattle.beldi_row.specs.declared.row.Body.{Body}
 use Rattle.beldi_row.specs.declared.row.InvokeRow.{InvokeRow}
 use Rattle.beldi_row.specs.declared.row.Row.TheVariants as rows

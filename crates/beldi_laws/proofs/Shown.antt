@@ -22,7 +22,7 @@ use Rattle.beldi_plain.specs.Executor.{AllShort}
 use Rattle.beldi_known.specs.InsideLaws.{Goes, HoldersInsideAreMade, IsSound}
 use Rattle.beldi_laws.specs.Right.{Right}
 use Rattle.beldi_laws.proofs.Outside.{holds_known}
-use Rattle.beldi_row.specs.declared.key.RowKey.{RowKey}
+use Rattle.beldi_row.specs.Key.{RowKey}
 use Rattle.beldi_row.specs.declared.row.Row.{Row}
 use Rattle.beldi_known.proofs.Lists.{own_value, log_lists}
 use Rattle.beldi_known.proofs.Sets.{is_log as is_row_log}

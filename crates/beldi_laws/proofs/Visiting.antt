@@ -18,7 +18,6 @@ use Rattle.beldi_lang.specs.declared.effect.Answer.TheVariants as answer
 use Rattle.beldi_lang.specs.declared.effect.Effect.TheVariants as effect
 use Rattle.beldi_lang.specs.Wants.{wants_answer}
 use Rattle.beldi_book.specs.Order.{count_changes}
-use Rattle.beldi_row.specs.declared.key.RowKey.{RowKey}
 use Rattle.beldi_row.specs.declared.key.Kind.{Kind}
 use Rattle.beldi_row.specs.declared.key.Kind.TheVariants as kinds
 use Rattle.beldi_row.specs.declared.notes.Note.{Note}
@@ -28,7 +27,7 @@ use Rattle.beldi_row.specs.declared.row.IntentRow.{IntentRow}
 use Rattle.beldi_row.specs.declared.row.Row.{Row}
 use Rattle.beldi_row.specs.declared.row.Row.TheVariants as rows
 use Rattle.beldi_row.specs.Act.{given_or}
-use Rattle.beldi_row.specs.Key.{key_cmp}
+use Rattle.beldi_row.specs.Key.{RowKey, key_cmp}
 use Rattle.beldi_row.specs.KeyOrder.{key_total, key_exact}
 use Rattle.beldi_row.specs.Log.{note_at}
 use Rattle.beldi_row.specs.Table.{Rows, set_row}

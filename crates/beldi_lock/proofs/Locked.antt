@@ -9,7 +9,7 @@ use Rattle.beldi_value.specs.declared.place.TxId.{TxId}
 use Rattle.beldi_value.specs.Id.{age_of, is_older}
 use Rattle.beldi_value.specs.Spare.{spare}
 use Rattle.beldi_row.specs.declared.act.Act.TheVariants.{LockCell, PutLockset}
-use Rattle.beldi_row.specs.declared.key.RowKey.{RowKey}
+use Rattle.beldi_row.specs.Key.{RowKey}
 use Rattle.beldi_row.specs.declared.notes.Note.{Note}
 use Rattle.beldi_row.specs.declared.notes.Note.TheVariants as note
 use Rattle.beldi_row.specs.declared.row.Cell.{Cell}

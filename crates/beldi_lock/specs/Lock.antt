@@ -7,7 +7,7 @@ use Rattle.beldi_value.specs.declared.place.Owner.TheVariants.{Intent, Tx}
 use Rattle.beldi_value.specs.declared.place.Place.{Place}
 use Rattle.beldi_row.specs.declared.act.Act.TheVariants.{PutLockset}
 use Rattle.beldi_row.specs.declared.key.Kind.TheVariants as kinds
-use Rattle.beldi_row.specs.declared.key.RowKey.{RowKey}
+use Rattle.beldi_row.specs.Key.{RowKey}
 use Rattle.beldi_row.specs.declared.notes.Note.{Note}
 use Rattle.beldi_row.specs.declared.notes.Note.TheVariants as note
 use Rattle.beldi_row.specs.Act.{added, present}

@@ -4,11 +4,10 @@ use Rattle.std.specs.FinMap as map
 use Rattle.std.specs.declared.cmp.Ordering.TheVariants.{Less}
 use denote.Bor.{Bor}
 use Rattle.beldi_value.specs.declared.id.IntentId.{IntentId}
-use Rattle.beldi_row.specs.declared.key.RowKey.{RowKey}
 use Rattle.beldi_row.specs.declared.key.Kind.{Kind}
 use Rattle.beldi_row.specs.declared.key.Kind.TheVariants as kinds
 use Rattle.beldi_row.specs.declared.row.Row.{Row}
-use Rattle.beldi_row.specs.Key.{key_cmp}
+use Rattle.beldi_row.specs.Key.{RowKey, key_cmp}
 use Rattle.beldi_row.specs.Log.{id_eq}
 use Rattle.beldi_row.specs.Table.{Rows, IsNext}
 use Rattle.beldi_walk.specs.declared.query.Query.{Query}

@@ -48,15 +48,15 @@ impl LockAt {
 pub fn lockset_key(home: u16, intent: IntentId, begin: u32, table: u16, key: Str) -> RowKey
     ensures { result ≡ lockset_key_of home intent begin table key }
 {
-    RowKey {
+    RowKey::new(
         home,
-        kind: Kind::Lockset {
+        Kind::Lockset {
             intent,
             begin,
             table,
             key,
         },
-    }
+    )
 }
 
 /// What a lock asks for, of an item of the function `home`.

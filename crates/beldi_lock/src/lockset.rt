@@ -86,14 +86,14 @@ pub fn lockset_told(
 fn item_in<'a>(home: u16, id: &IntentId, begin: u32, key: &'a RowKey) -> Option<(u16, &'a Str)>
     ensures { item_lent result ≡ item_of home id.now begin key.now key.now.kind }
 {
-    match &key.kind {
+    match key.kind() {
         Kind::Lockset {
             intent,
             begin: step,
             table,
             key: name,
         } => {
-            if intent == id && *step == begin && key.home == home {
+            if intent == id && *step == begin && key.home() == home {
                 Some((*table, name))
             } else {
                 None

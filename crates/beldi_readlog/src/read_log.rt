@@ -22,10 +22,7 @@ pub struct Kept {
 pub fn log_key(home: u16, at: Place) -> RowKey
     ensures { result ≡ key_of home at }
 {
-    RowKey {
-        home,
-        kind: Kind::ReadLog(at),
-    }
+    RowKey::new(home, Kind::ReadLog(at))
 }
 
 /// The value that was given, after a Look; None exactly where no row was there. A row of another kind, which no session

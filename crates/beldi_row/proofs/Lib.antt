@@ -1,4 +1,5 @@
 mod Found
+mod Fronts
 pub mod Gets
 pub mod Least
 pub mod Logs

@@ -1,6 +1,6 @@
 -- What is told of a table's rows.
 use Rattle.std.proofs.Common.{◌≡◌, ℕ, Option, None, Some, Result, subst}
-use Rattle.beldi_row.specs.declared.key.RowKey.{RowKey}
+use Rattle.beldi_row.specs.Key.{RowKey}
 use Rattle.beldi_row.specs.declared.act.Act.{Act}
 use Rattle.beldi_row.specs.declared.act.Said.{Said}
 use Rattle.beldi_row.specs.declared.table.TableErr.{TableErr}

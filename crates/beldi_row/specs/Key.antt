@@ -1,11 +1,10 @@
 -- The order of keys, by the parts that they have.
-use Rattle.std.specs.Prelude.{ℕ, List, []}
+use Rattle.std.specs.Prelude.{ℕ, ◌+◌, ◌*◌, ◌^◌, List, []}
 use Rattle.std.specs.Ordering.{nat_cmp, ordering_then}
 use Rattle.std.specs.declared.cmp.Ordering.{Ordering}
 use Rattle.std.specs.Cmp.Lexicographic.{slice_cmp}
 use Rattle.beldi_row.specs.declared.key.Kind.{Kind}
 use Rattle.beldi_row.specs.declared.key.Kind.TheVariants.{Intent, ReadLog, Invoke, Data, Shadow, Lockset}
-use Rattle.beldi_row.specs.declared.key.RowKey.{RowKey}
 
 -- the number of a kind in the order of kinds
 abbrev pub rank_of : Kind → ℕ
@@ -76,12 +75,24 @@ row_of (Data t k r) = r
 row_of (Shadow x t k r) = r
 row_of (Lockset a b t k) = 0
 
+-- by the fields after the ticket
+abbrev pub rest_cmp : Kind → Kind → Ordering
+rest_cmp a b =
+    ordering_then (slice_cmp nat_cmp (hops_of a) (hops_of b)) (ordering_then (nat_cmp (step_of a) (step_of b)) (ordering_then (nat_cmp (func_of a) (func_of b)) (ordering_then (nat_cmp (table_of a) (table_of b))
+    (ordering_then (slice_cmp nat_cmp (item_of a) (item_of b)) (nat_cmp (row_of a) (row_of b))))))
+
 -- kinds in their order, and then by the fields in their order
 abbrev pub kind_cmp : Kind → Kind → Ordering
-kind_cmp a b =
-    ordering_then (nat_cmp (rank_of a) (rank_of b)) (ordering_then (nat_cmp (ticket_of a) (ticket_of b)) (ordering_then (slice_cmp nat_cmp (hops_of a) (hops_of b))
-    (ordering_then (nat_cmp (step_of a) (step_of b)) (ordering_then (nat_cmp (func_of a) (func_of b)) (ordering_then (nat_cmp (table_of a) (table_of b))
-    (ordering_then (slice_cmp nat_cmp (item_of a) (item_of b)) (nat_cmp (row_of a) (row_of b))))))))
+kind_cmp a b = ordering_then (nat_cmp (rank_of a) (rank_of b)) (ordering_then (nat_cmp (ticket_of a) (ticket_of b)) (rest_cmp a b))
+
+-- the home, the number of the kind and the ticket, as one number
+abbrev pub front_of : ℕ → Kind → ℕ
+front_of home k = (home * 256 + rank_of k) * 2 ^ 32 + ticket_of k
+
+-- the home that a row stands in, and what the row is about
+pub record RowKey : Type 0 where
+  pub home : ℕ
+  pub kind : Kind
 
 abbrev pub key_cmp : RowKey → RowKey → Ordering
 key_cmp a b = ordering_then (nat_cmp a.home b.home) (kind_cmp a.kind b.kind)

@@ -2,12 +2,13 @@
 ghost use Rattle.std.specs.Prelude.{◌≡◌, IfOk, refl};
 ghost use Rattle.std.specs.Cmp.{partial_equiv_from_equiv, eq_by_cmp_equiv, partial_order_from_agreeing_total};
 ghost use Rattle.std.specs.Ordering.{as_partial_cmp, eq_by_cmp};
-ghost use Rattle.beldi_row.specs.Key.{kind_cmp, rank_of, ticket_of, key_ticket, least_key};
-ghost use Rattle.beldi_row.specs.KeyOrder.{kind_total};
+ghost use Rattle.beldi_row.specs.Key.{kind_cmp, key_cmp, rank_of, ticket_of, key_ticket, least_key};
+ghost use Rattle.beldi_row.specs.KeyOrder.{kind_total, key_total};
 
 use beldi_value::{IntentId, Owner, Place, Str, TxId};
 use std::alloc::{AllocError, Global};
 use std::cmp::Ordering;
+use std::marker::Model;
 
 /// What a row is about.
 #[derive(Drop)]
@@ -217,22 +218,64 @@ impl PartialOrd for Kind {
 }
 
 /// The key of a row: the home that it stands in, and what it is about. Home 0 is the host's own, and the function with
-/// the number n has the home n. Keys are ordered by home, then by kind in the order of `Kind`, then by the fields.
-#[derive(Drop, PartialEq, Eq, PartialOrd, Ord)]
+/// the number n has the home n. Keys are ordered by home, then by kind in the order of `Kind`, then by the fields. What
+/// most keys differ in is one number, so that two are compared at once.
+#[derive(Drop)]
 pub struct RowKey {
-    pub home: u16,
-    pub kind: Kind,
+    // the home, the number of the kind and the ticket, one after another
+    front: u64,
+    home: u16,
+    kind: Kind,
+}
+
+impl Model for RowKey {
+    ghost use Rattle.std.specs.Prelude.{◌≡◌};
+    ghost use Rattle.std.specs.Coded.{codes};
+    ghost use Rattle.std.specs.Prelude.{◌<◌, ◌^◌};
+    ghost use Rattle.beldi_row.specs.Key.{RowKey, front_of, ticket_of};
+    ghost use Rattle.beldi_row.specs.contracts.key.Kind as about;
+
+    ghost Value = { RowKey };
+
+    ghost coded = { Prim.hlevel (codes, about.the_row.coded) };
+
+    ghost view = { λ a. record { home = a.home; kind = a.kind } };
+
+    ghost invariant = { λ a. (a.front ≡ front_of a.home a.kind) × (ticket_of a.kind < 2 ^ 32) };
 }
 
 impl RowKey {
+    /// The key of a row in this home, of this kind.
+    pub fn new(home: u16, kind: Kind) -> RowKey
+        ensures { result ≡ record { home = home; kind = kind } }
+    {
+        let front = (u64::from(home) * 256 + u64::from(kind.rank())) * (1 << 32);
+        RowKey {
+            front: front + u64::from(kind.ticket()),
+            home,
+            kind,
+        }
+    }
+
     /// The least of all keys: the intent of ticket 0 in home 0. No row has it.
     pub fn least(alloc: Global) -> RowKey
         ensures { result ≡ least_key }
     {
-        RowKey {
-            home: 0,
-            kind: Kind::Intent(IntentId::root(alloc, 0)),
-        }
+        RowKey::new(0, Kind::Intent(IntentId::root(alloc, 0)))
+    }
+
+    /// The home that the row stands in.
+    pub fn home(&self) -> u16
+        ensures { result ≡ self.now.home }
+    {
+        self.home
+    }
+
+    /// What the row is about.
+    pub fn kind(&self) -> &Kind
+        ensures { result.now ≡ self.now.kind }
+    {
+        &self.kind
     }
 
     /// An equal key.
@@ -240,6 +283,7 @@ impl RowKey {
         ensures { IfOk result (λ k. k ≡ self.now) }
     {
         Ok(RowKey {
+            front: self.front,
             home: self.home,
             kind: self.kind.copy(alloc)?,
         })
@@ -250,5 +294,46 @@ impl RowKey {
         ensures { result ≡ key_ticket self.now }
     {
         self.kind.ticket()
+    }
+}
+
+impl PartialEq for RowKey {
+    ghost eq = { eq_by_cmp key_cmp };
+
+    ghost laws = { partial_equiv_from_equiv (eq_by_cmp_equiv key_total) };
+
+    fn eq(&self, other: &RowKey) -> bool {
+        self.cmp(other).is_eq()
+    }
+}
+
+impl Eq for RowKey {
+    ghost laws = { eq_by_cmp_equiv key_total };
+}
+
+impl Ord for RowKey {
+    ghost cmp = { key_cmp };
+
+    ghost total = { key_total };
+
+    ghost matches_partial_cmp = { λ x y. refl };
+
+    ghost matches_eq = { λ x y. refl };
+
+    fn cmp(&self, other: &RowKey) -> Ordering {
+        match self.front.cmp(&other.front) {
+            Ordering::Equal => self.kind.cmp(&other.kind),
+            unlike => unlike,
+        }
+    }
+}
+
+impl PartialOrd for RowKey {
+    ghost partial_cmp = { as_partial_cmp key_cmp };
+
+    ghost laws = { partial_order_from_agreeing_total key_cmp key_total (λ x y. refl) (λ x y. refl) };
+
+    fn partial_cmp(&self, other: &RowKey) -> Option<Ordering> {
+        Some(self.cmp(other))
     }
 }

@@ -32,8 +32,7 @@ use Rattle.beldi_step.specs.declared.run.RunAt.TheVariants.{Looks}
 use Rattle.beldi_step.specs.declared.run.Wait.{Wait}
 use Rattle.beldi_step.specs.declared.run.Wait.TheVariants as wait
 use Rattle.beldi_intent.specs.Intent.{issue_asks, bind_asks, is_added, binding_of}
-use Rattle.beldi_row.specs.Key.{least_key}
-use Rattle.beldi_row.specs.declared.key.RowKey.{RowKey}
+use Rattle.beldi_row.specs.Key.{RowKey, least_key}
 use Rattle.beldi_collect.specs.declared.cursor.Found.{Found}
 use Rattle.beldi_collect.specs.declared.cursor.Found.TheVariants as collect
 use Rattle.beldi_collect.specs.Collect.{collect_asks, collect_says}

@@ -5,7 +5,7 @@ use Rattle.beldi_row.specs.KeyOrder.{key_total, key_exact}
 use Rattle.beldi_row.specs.Act.{on, off, act, said_by, stays, here_tell}
 use Rattle.beldi_row.specs.Table.{Rows, adds, set_row}
 use Rattle.beldi_table.specs.MapTable.{ChangedOn}
-use Rattle.beldi_row.specs.declared.key.RowKey.{RowKey}
+use Rattle.beldi_row.specs.Key.{RowKey}
 use Rattle.beldi_row.specs.declared.row.Row.{Row}
 use Rattle.beldi_row.specs.declared.act.Change.TheVariants as change
 use Rattle.beldi_row.specs.declared.act.Act.{Act}

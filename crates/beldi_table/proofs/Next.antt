@@ -4,9 +4,8 @@ use Rattle.std.specs.Option.{MatchOption}
 use Rattle.std.specs.List.{filter}
 use Rattle.std.specs.Ordering.{is_lt}
 use denote.Bor.{Bor}
-use Rattle.beldi_row.specs.Key.{key_cmp}
+use Rattle.beldi_row.specs.Key.{RowKey, key_cmp}
 use Rattle.beldi_row.specs.Table.{first_above, entry_of}
-use Rattle.beldi_row.specs.declared.key.RowKey.{RowKey}
 use Rattle.beldi_row.specs.declared.row.Row.{Row}
 
 abbrev head_of : List (RowKey × Row) → Option (RowKey × Row)

@@ -3,7 +3,7 @@ use Rattle.std.specs.Prelude.{◌≡◌, ℕ, ◌<◌, Option, Some, None, Resul
 use Rattle.std.specs.FinMap as map
 use Rattle.beldi_row.specs.Act.{said_by}
 use Rattle.beldi_row.specs.Table.{Rows, TableState, after_act, tell_act, adds, IsFull}
-use Rattle.beldi_row.specs.declared.key.RowKey.{RowKey}
+use Rattle.beldi_row.specs.Key.{RowKey}
 use Rattle.beldi_row.specs.declared.row.Row.{Row}
 use Rattle.beldi_row.specs.declared.act.Act.{Act}
 use Rattle.beldi_row.specs.declared.act.Change.{Change}

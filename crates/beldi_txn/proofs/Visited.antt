@@ -15,12 +15,11 @@ use Rattle.beldi_value.proofs.Callees.{no_root}
 use Rattle.beldi_row.specs.declared.act.Act.TheVariants.{PutRead, Stamp as StampAct}
 use Rattle.beldi_row.specs.declared.key.Kind.{Kind}
 use Rattle.beldi_row.specs.declared.key.Kind.TheVariants as kinds
-use Rattle.beldi_row.specs.declared.key.RowKey.{RowKey}
 use Rattle.beldi_row.specs.declared.notes.Note.TheVariants as note
 use Rattle.beldi_row.specs.declared.row.Row.{Row}
 use Rattle.beldi_row.specs.declared.row.Row.TheVariants as rows
 use Rattle.beldi_row.specs.Act.{act, owns, stamp_with}
-use Rattle.beldi_row.specs.Key.{key_cmp, rank_of}
+use Rattle.beldi_row.specs.Key.{RowKey, key_cmp, rank_of}
 use Rattle.beldi_row.specs.KeyOrder.{key_total, key_exact}
 use Rattle.beldi_row.specs.Log.{note_at}
 use Rattle.beldi_row.specs.Table.{Rows, IsNext, next_row}

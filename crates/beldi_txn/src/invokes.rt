@@ -57,9 +57,9 @@ pub fn invokes_told(home: u16, id: &IntentId, heard: Heard<'_>) -> Option<Called
 fn call_in(home: u16, id: &IntentId, key: &RowKey, row: &Row) -> Option<Called>
     ensures { result ≡ call_of home id.now key.now key.now.kind row.now }
 {
-    match &key.kind {
+    match key.kind() {
         Kind::Invoke(place) => {
-            if &place.intent == id && key.home == home {
+            if &place.intent == id && key.home() == home {
                 Some(Called {
                     step: place.step,
                     func: func_called(row),

@@ -1,6 +1,6 @@
 -- A Look leaves the rows as they are, and is never refused as Full.
 use Rattle.std.proofs.Common.{◌≡◌, ℕ, true, false, ◌&&◌, IsTrue, Result, Ok, Err, ◌∙◌}
-use Rattle.beldi_row.specs.declared.key.RowKey.{RowKey}
+use Rattle.beldi_row.specs.Key.{RowKey}
 use Rattle.beldi_row.specs.declared.act.Act.TheVariants.{Look}
 use Rattle.beldi_row.specs.declared.table.TableErr.TheVariants.{OutOfMemory, Failed, Full}
 use Rattle.beldi_row.specs.Table.{Rows}

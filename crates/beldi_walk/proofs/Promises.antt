@@ -2,10 +2,9 @@
 use Rattle.std.proofs.Common.{◌≡◌, ℕ, true, false, cond, Option, Ok, Err, refl, ap, sym, ◌∙◌, subst}
 use Rattle.std.specs.FinMap as map
 use Rattle.std.specs.Ordering.{is_eq}
-use Rattle.beldi_row.specs.Key.{key_cmp}
+use Rattle.beldi_row.specs.Key.{RowKey, key_cmp}
 use Rattle.beldi_row.specs.Act.{act}
 use Rattle.beldi_row.specs.declared.act.Act.{Act}
-use Rattle.beldi_row.specs.declared.key.RowKey.{RowKey}
 use Rattle.beldi_row.specs.declared.row.Row.{Row}
 use Rattle.beldi_row.proofs.Gets.{got, key_same}
 use Rattle.beldi_row.specs.declared.table.TableErr.{TableErr}

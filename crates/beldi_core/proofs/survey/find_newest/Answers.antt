@@ -1,5 +1,5 @@
 use Rattle.std.proofs.Common.{rules, ◌≡◌, ℕ, Option, None, Some, sym, subst}
-use Rattle.beldi_row.specs.declared.key.RowKey.{RowKey}
+use Rattle.beldi_row.specs.Key.{RowKey}
 use Rattle.beldi_row.specs.Table.{next_row}
 use Rattle.beldi_core.specs.Survey.{newest_of, next_key_of}
 use Rattle.beldi_core.proofs.Steps.{Newest, newest_first, newest_next, newest_last, begins, goes, ends}

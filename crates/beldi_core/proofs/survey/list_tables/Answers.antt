@@ -1,6 +1,5 @@
 use Rattle.std.proofs.Common.{◌≡◌, ℕ, List, Option, None, Some, sym, subst}
-use Rattle.beldi_row.specs.Key.{least_key}
-use Rattle.beldi_row.specs.declared.key.RowKey.{RowKey}
+use Rattle.beldi_row.specs.Key.{RowKey, least_key}
 use Rattle.beldi_row.specs.Table.{next_row}
 use Rattle.beldi_step.specs.Tables.{tables_text}
 use Rattle.beldi_core.specs.Survey.{next_line_of}

@@ -1,5 +1,5 @@
 use Rattle.std.proofs.Common.{◌≡◌, Option, Some, Ok}
-use Rattle.beldi_row.specs.declared.key.RowKey.{RowKey}
+use Rattle.beldi_row.specs.Key.{RowKey}
 use Rattle.beldi_row.specs.Table.{next_row}
 use Rattle.beldi_core.specs.declared.survey.Owned.{Owned}
 use Rattle.beldi_core.specs.Survey.{next_seen_of, line_after, next_line_of}

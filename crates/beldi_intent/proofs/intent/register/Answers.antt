@@ -1,6 +1,6 @@
 use Rattle.std.proofs.Common.{refl, ap, sym, Ok, Err}
 use Rattle.beldi_row.specs.declared.act.Act.TheVariants.{Register}
-use Rattle.beldi_row.specs.declared.key.RowKey.{RowKey}
+use Rattle.beldi_row.specs.Key.{RowKey}
 use Rattle.beldi_walk.specs.declared.query.Query.TheVariants.{Act}
 use Rattle.beldi_walk.proofs.Queries.{acted}
 use Rattle.beldi_intent.specs.Intent.{register_asks}

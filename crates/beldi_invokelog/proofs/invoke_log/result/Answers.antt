@@ -1,7 +1,7 @@
 use Rattle.std.proofs.Common.{refl, ap, sym, Ok, Err}
 use Rattle.beldi_row.specs.declared.table.TableErr.TheVariants.{OutOfMemory}
 use Rattle.beldi_row.specs.declared.act.Act.TheVariants.{Look}
-use Rattle.beldi_row.specs.declared.key.RowKey.{RowKey}
+use Rattle.beldi_row.specs.Key.{RowKey}
 use Rattle.beldi_walk.specs.declared.query.Query.TheVariants.{Act}
 use Rattle.beldi_walk.proofs.Queries.{acted, unasked}
 use Rattle.beldi_invokelog.specs.InvokeLog.{result_asks}
