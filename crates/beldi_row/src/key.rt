@@ -320,6 +320,7 @@ impl Ord for RowKey {
 
     ghost matches_eq = { λ x y. refl };
 
+    #[inline(always)]
     fn cmp(&self, other: &RowKey) -> Ordering {
         match self.front.cmp(&other.front) {
             Ordering::Equal => self.kind.cmp(&other.kind),
