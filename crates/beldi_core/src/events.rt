@@ -121,7 +121,7 @@ fn acted(
     id: IntentId,
     mark: Option<Mark>,
     over: bool,
-    reply: Option<Outcome>,
+    reply: Option<Apart<Outcome>>,
     started: Option<u64>,
 ) -> Seen
     ensures { result ≡ acted_by id mark over reply started }
@@ -143,7 +143,7 @@ fn acted_if(
     id: IntentId,
     mark: Option<Mark>,
     over: bool,
-    reply: Option<Outcome>,
+    reply: Option<Apart<Outcome>>,
     started: Result<Option<u64>, AllocError>,
 ) -> Result<Seen, AllocError>
     ensures { result ≡ acted_unless id mark over reply started }
@@ -526,7 +526,7 @@ impl HostCore {
             }
             Some(Wait::Held(owner)) => Ok(Seen::Held(owner)),
             Some(Wait::Result(awaited)) => {
-                if self.runs.has_run(&awaited) {
+                if self.runs.has_run(awaited.get()) {
                     return Ok(Seen::NotYet(awaited));
                 }
                 if self.runs.len() >= MOST_RUNS {

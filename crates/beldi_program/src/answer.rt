@@ -11,7 +11,7 @@ use beldi_book::Entry;
 use beldi_check::Checked;
 use beldi_core::ReplySeen;
 use beldi_step::Seen;
-use beldi_value::{IntentId, Outcome, Owner, Str, Value};
+use beldi_value::{Apart, IntentId, Outcome, Owner, Str, Value};
 use std::alloc::{AllocError, Global};
 
 /// Appends the line of an answer, and a line for the reply that it gives, if any. After an `Err` the text is as before.
@@ -39,8 +39,8 @@ pub fn write_answer(
             over,
             reply,
         } => write_acted(alloc, code, entry, *started, *over, reply, out),
-        Seen::Held(owner) => write_held(alloc, owner, out),
-        Seen::NotYet(id) => write_waits(alloc, id, out),
+        Seen::Held(owner) => write_held(alloc, owner.get(), out),
+        Seen::NotYet(id) => write_waits(alloc, id.get(), out),
         Seen::Full { live, room } => {
             let text = format!(in alloc; "full {live} {room}\n")?;
             out.push_text(text.as_str())
@@ -179,7 +179,7 @@ fn write_acted(
     entry: &Option<Entry>,
     started: Option<u64>,
     over: bool,
-    reply: &Option<(u32, Outcome)>,
+    reply: &Option<(u32, Apart<Outcome>)>,
     out: &mut Str,
 ) -> Result<(), AllocError>
     ensures ok { OnOk result (out.new ≡ out.old ++ answer_text code.now (Seen.Acted entry.now started over reply.now)) }
@@ -226,14 +226,14 @@ fn write_started(started: Option<u64>, out: &mut Str) -> Result<(), AllocError>
 
 fn write_reply(
     alloc: Global,
-    reply: &Option<(u32, Outcome)>,
+    reply: &Option<(u32, Apart<Outcome>)>,
     out: &mut Str,
 ) -> Result<(), AllocError>
     ensures { OnOk result (out.new ≡ out.old ++ reply_part reply.now) }
 {
     match reply {
         None => Ok(()),
-        Some((ticket, outcome)) => put_outcome(alloc, "reply ", *ticket, outcome, out),
+        Some((ticket, outcome)) => put_outcome(alloc, "reply ", *ticket, outcome.get(), out),
     }
 }
 

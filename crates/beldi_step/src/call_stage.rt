@@ -1,5 +1,6 @@
 // The stages of calls, and of the return of what was called: what they ask, and what they say of what they were told.
-ghost use Rattle.std.specs.Prelude.{◌≡◌, IfOk, IfErr};
+ghost use Rattle.std.specs.Prelude.{◌≡◌, true, IfOk, IfErr};
+ghost use Rattle.beldi_value.specs.Id.{child_of, has_callees};
 ghost use Rattle.beldi_walk.specs.Query.{told_of};
 ghost use Rattle.beldi_invokelog.specs.InvokeLog.{back_of};
 ghost use Rattle.beldi_intent.specs.Intent.{is_did as is_did_of};
@@ -14,7 +15,7 @@ use beldi_intent::{end_told, intent_key};
 use beldi_invokelog::{Back, back_told, invoke_key, registered_query};
 use beldi_lang::{Answer, Effect};
 use beldi_row::{Act, Body};
-use beldi_value::{Caller, IntentId, TxId, Value};
+use beldi_value::{Apart, Caller, IntentId, Outcome, TxId, Value};
 use beldi_walk::{Heard, Query};
 use std::alloc::{AllocError, Global};
 
@@ -147,6 +148,13 @@ pub(crate) fn close_query(
 }
 
 // A call that is out of memory made nothing either.
+fn callee_at(alloc: Global, id: &IntentId, step: u32) -> Result<Apart<IntentId>, AllocError>
+    requires { has_callees id.now ≡ true }
+    ensures { IfOk result (λ i. i ≡ child_of id.now step) }
+{
+    Apart::new(alloc, id.child(alloc, step)?)
+}
+
 pub(crate) fn hear_call(
     alloc: Global,
     id: &IntentId,
@@ -168,7 +176,7 @@ pub(crate) fn hear_call(
     match call_told(alloc, *func, at, heard) {
         Err(_) => Err(None),
         Ok(CallSays::Opened { first }) => Ok(Says::Opens(step_mark(tx, first))),
-        Ok(CallSays::NotYet) => match id.child(alloc, step) {
+        Ok(CallSays::NotYet) => match callee_at(alloc, id, step) {
             Ok(callee) => Ok(Says::Waits(Wait::Result(callee))),
             Err(_) => Err(None),
         },
@@ -217,6 +225,12 @@ pub(crate) fn hear_back(tx: &Option<RunTx>, heard: Heard<'_>) -> Says
 }
 
 // The end of what its caller waits for makes no step.
+fn reply_of(alloc: Global, outcome: &Outcome) -> Result<Apart<Outcome>, AllocError>
+    ensures { IfOk result (λ o. o ≡ outcome.now) }
+{
+    Apart::new(alloc, outcome.copy(alloc)?)
+}
+
 pub(crate) fn hear_close(
     alloc: Global,
     id: &IntentId,
@@ -236,7 +250,7 @@ pub(crate) fn hear_close(
             if !id.is_root() {
                 return Ok(Says::Ends(mark, None));
             }
-            match outcome.copy(alloc) {
+            match reply_of(alloc, outcome) {
                 Ok(outcome) => Ok(Says::Ends(mark, Some(outcome))),
                 Err(_) => Err(mark),
             }

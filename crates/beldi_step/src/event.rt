@@ -1,6 +1,6 @@
 // Events, and how they are answered.
 use beldi_book::Entry;
-use beldi_value::{IntentId, Outcome, Owner, Value};
+use beldi_value::{Apart, IntentId, Outcome, Owner, Value};
 
 /// What may happen to a host.
 #[derive(Drop)]
@@ -58,13 +58,13 @@ pub enum Seen {
         entry: Option<Entry>,
         started: Option<u64>,
         over: bool,
-        reply: Option<(u32, Outcome)>,
+        reply: Option<(u32, Apart<Outcome>)>,
     },
     /// This owner has the lock of the item that the run is at: the run waits, and all is as before.
-    Held(Owner),
+    Held(Apart<Owner>),
     /// The call that the run is at has no result, and a run of its callee, which has this id, is live: the run waits, and
     /// all is as before.
-    NotYet(IntentId),
+    NotYet(Apart<IntentId>),
     /// The table has no room for the row that the act would add: it has `live` rows, which are at least `room`.
     Full {
         live: u32,

@@ -150,9 +150,9 @@ impl Mark {
 #[derive(Drop)]
 pub enum Wait {
     /// Another owner has the item.
-    Held(Owner),
+    Held(Apart<Owner>),
     /// The call has no result yet; its callee has this id.
-    Result(IntentId),
+    Result(Apart<IntentId>),
 }
 
 /// What a stage says of what it was told.
@@ -171,7 +171,7 @@ pub enum Says {
     /// The effect has this answer.
     Answers(Answer, Option<Mark>),
     /// The run is over; its act ended the root with this outcome, if any.
-    Ends(Option<Mark>, Option<Outcome>),
+    Ends(Option<Mark>, Option<Apart<Outcome>>),
 }
 
 /// What a turn did: the mark of its act, whether the run is over, whether a run of what it calls may start, why it
@@ -182,7 +182,7 @@ pub struct TurnSays {
     pub over: bool,
     pub starts: bool,
     pub wait: Option<Wait>,
-    pub reply: Option<Outcome>,
+    pub reply: Option<Apart<Outcome>>,
 }
 
 fn plain(mark: Option<Mark>, over: bool) -> TurnSays

@@ -11,6 +11,8 @@ ghost use Rattle.beldi_daal.specs.Cell.{read_goes, cell_key as cell_key_of};
 ghost use Rattle.beldi_readlog.specs.ReadLog.{given_of, kept_of, log_key as log_key_of};
 ghost use Rattle.beldi_intent.specs.Intent.{look_asks};
 ghost use Rattle.beldi_step.specs.declared.run.Stage.TheVariants as stages;
+ghost use Rattle.beldi_step.specs.declared.run.Says.TheVariants as says;
+ghost use Rattle.beldi_step.specs.declared.run.Wait.TheVariants as waits;
 ghost use Rattle.beldi_call.specs.declared.call.CallAt.TheVariants as calls;
 ghost use Rattle.beldi_call.specs.declared.async_call.AsyncAt.TheVariants as asyncs;
 ghost use Rattle.beldi_step.specs.Run.{stage_asks, put_asks, stage_says, mark_of, at_stage, left_of, first_stage as first_stage_of, first_of as first_stage_in, first_outside, first_end as first_end_of, end_mark as end_mark_of, last_stage as last_stage_of, note_done as note_done_of, answer_noted as answer_noted_of, cell_op, done_says, mark_if as mark_if_of, ask_says, walk_says, keep_says, put_says, place_of as place_at};
@@ -301,7 +303,7 @@ fn hear_walk(
             },
             None,
         )),
-        Ok(ReadGoes::Held(owner)) => Ok(Says::Waits(Wait::Held(owner))),
+        Ok(ReadGoes::Held(owner)) => held(alloc, owner),
     }
 }
 
@@ -324,6 +326,17 @@ fn hear_keep(
     }
 }
 
+// The run waits for this owner.
+fn held(alloc: Global, owner: Owner) -> Result<Says, Option<Mark>>
+    ensures ok { IfOk result (λ s. s ≡ says.Waits (waits.Held owner)) }
+    ensures err { IfErr result (λ e. e ≡ None) }
+{
+    match Apart::new(alloc, owner) {
+        Ok(owner) => Ok(Says::Waits(Wait::Held(owner))),
+        Err(_) => Err(None),
+    }
+}
+
 fn is_added(heard: &Heard<'_>) -> bool
     ensures { (v : Value) → result ≡ (kept_of v (told_of heard.entry.now)).added }
 {
@@ -343,7 +356,7 @@ fn hear_write(alloc: Global, effect: &Effect, heard: Heard<'_>) -> Result<Says, 
         Ok(WriteGoes::On(at)) => Ok(Says::On(Stage::Write(at), None)),
         Ok(WriteGoes::Done { note, first }) => Ok(write_done(effect, &note, first)),
         Ok(WriteGoes::NotOwner) => Ok(Says::Ends(None, None)),
-        Ok(WriteGoes::Held(owner)) => Ok(Says::Waits(Wait::Held(owner))),
+        Ok(WriteGoes::Held(owner)) => held(alloc, owner),
     }
 }
 

@@ -153,7 +153,7 @@ fn tx_says(alloc: Global, at: &TxAt, goes: TxGoes) -> Result<Says, AllocError>
         TxGoes::Stays => Ok(Says::Stays),
         TxGoes::Put => put_answer(alloc, at),
         TxGoes::Died(cause) => Ok(Says::Answers(Answer::Aborted(cause), None)),
-        TxGoes::Held(owner) => Ok(Says::Waits(Wait::Held(owner))),
+        TxGoes::Held(owner) => Ok(Says::Waits(Wait::Held(Apart::new(alloc, owner)?))),
         TxGoes::Value(value) => Ok(Says::Answers(Answer::Value(value), None)),
         TxGoes::Done => Ok(Says::Answers(Answer::Done, None)),
     }
