@@ -20,10 +20,11 @@ use Rattle.beldi_step.specs.declared.run.Run.{Run}
 use Rattle.beldi_step.specs.declared.run.TurnSays.{TurnSays}
 use Rattle.beldi_step.specs.Run.{run_asks, run_told}
 use Rattle.beldi_core.specs.declared.events.Pending.{Pending}
+use Rattle.beldi_core.specs.declared.events.Planned.{Planned}
 use Rattle.beldi_core.specs.declared.runs.Copies.{Copies}
 use Rattle.beldi_core.specs.Runs.{Numbered, RunMap, RunTold}
 use Rattle.beldi_step.specs.Host.{Core, Plan, at_once, asks, plan, counted, marked, after_turn, run_next, unheard_next, ended_run, run_plan, crash_plan, no_run, Followed, StepBy, Stepped}
-use Rattle.beldi_core.specs.Parts.{NoMemory, Copied, TellsTurn, entered, mark_told, event_of, base, Asked}
+use Rattle.beldi_core.specs.Parts.{NoMemory, PlannedOf, Copied, TellsTurn, entered, mark_told, event_of, base, Asked}
 use Rattle.beldi_laws.proofs.Lives.{remove_put}
 
 -- ---- the step
@@ -73,6 +74,10 @@ told_turn d c k z a i t n x (Err e) h name at is = unheard_made d c z a i t n x 
 -- a core whose runs go without one
 pub ended_core : (c k : Core) (i : ℕ) (m : Numbered) → k ≡ c → m ≡ record { runs = map.remove k.runs i; given = k.last_run } → record k { runs = m.runs; last_run = m.given } ≡ ended_run c i
 ended_core c k i m same is = (λ j. record k { runs = (is j).runs; last_run = (is j).given }) ∙ ap (λ q. ended_run q i) same
+
+-- ---- an event, known by what it is
+pub planned_as : (d : Deployment) (f : Event) (c z : Core) (e : Event) (spare : ℕ) (r : Result Planned AllocError) → f ≡ e → PlannedOf d e c z spare r → PlannedOf d f c z spare r
+planned_as d f c z e spare r is h = subst (λ (x : Event). PlannedOf d x c z spare r) (sym is) h
 
 -- ---- a run that is not live
 pub idle : (c : Core) (i : ℕ) (o : Option Run) (x : Seen) → o ≡ None → x ≡ no_run c i → at_once c x ≡ crash_plan c i o

@@ -1,5 +1,5 @@
 -- An event is planned, and then followed: what holds between the two.
-use Rattle.std.specs.Prelude.{◌≡◌, ℕ, ◌-◌, ◌^◌, ◌≤◌, ◌<◌, Bool, true, ◌++◌, ◌∷◌, [], Option, Some, None, Result, Ok, Err, IsSome}
+use Rattle.std.specs.Prelude.{◌≡◌, ℕ, ◌-◌, ◌^◌, ◌≤◌, ◌<◌, Bool, true, false, ◌++◌, ◌∷◌, [], Option, Some, None, Result, Ok, Err, IsSome}
 use Rattle.std.specs.FinMap as map
 use Rattle.std.specs.declared.alloc.AllocError.{AllocError}
 use Rattle.beldi_value.specs.Id.{root_of}
@@ -27,6 +27,8 @@ use Rattle.beldi_step.specs.Host.{Core, Plan, at_once, asks, plan, plan_of, coun
 use Rattle.beldi_core.specs.declared.host_core.HostCore.{HostCore}
 use Rattle.beldi_core.specs.declared.events.Planned.TheVariants as planned
 use Rattle.beldi_core.specs.declared.events.Planned.{Planned as Plans}
+use Rattle.beldi_core.specs.declared.events.Immediate.{Immediate}
+use Rattle.beldi_core.specs.declared.events.Immediate.TheVariants as immediate
 use Rattle.beldi_core.specs.declared.events.RunAsks.{RunAsks}
 use Rattle.beldi_core.specs.declared.events.RunAsks.TheVariants as runs
 use Rattle.beldi_core.specs.declared.events.Pending.{Pending}
@@ -86,6 +88,25 @@ HasPlace (pending.Request t f a) c = 1 ≤ c.last_run
 HasPlace p c = Unit
 
 -- ---- planning
+-- an answer at once, as all events are answered
+abbrev pub as_seen : Immediate → Seen
+as_seen immediate.NoTicket = seen.NoTicket
+as_seen (immediate.Unknown t) = seen.Unknown t
+as_seen immediate.Crowded = seen.Crowded
+as_seen immediate.Spent = seen.Spent
+as_seen immediate.Expired = seen.Expired
+as_seen immediate.NoRun = seen.NoRun
+as_seen immediate.RunOver = seen.RunOver
+as_seen immediate.Crashed = seen.Crashed
+as_seen (immediate.Started i) = seen.Started i
+as_seen (immediate.Now n) = seen.Now n
+as_seen immediate.ClockEnd = seen.ClockEnd
+
+-- the event of a run's turn, whose answer it may lose
+abbrev pub turn_event : ℕ → Bool → Event
+turn_event i false = Turn i
+turn_event i true = Lost i
+
 -- out of memory before anything was asked; of the events that ask nothing only one that starts a run may be so
 abbrev pub NoMemory : Event → Core → Plan → Core → Result Seen AllocError → Type 0
 NoMemory e c (at_once b y) z r = AtOnce c b y z r
@@ -98,7 +119,7 @@ pub record Asking (d : Deployment) (e : Event) (c z : Core) (spare : ℕ) (q : Q
   pub ready : Ready d p z spare
 
 abbrev pub PlannedBy : Deployment → Event → Core → Core → ℕ → Plan → Result Plans AllocError → Type 0
-PlannedBy d e c z spare k (Ok (planned.Now y)) = k ≡ at_once z y
+PlannedBy d e c z spare k (Ok (planned.Now y)) = k ≡ at_once z (as_seen y)
 PlannedBy d e c z spare k (Ok (planned.Asks q p)) = Asking d e c z spare q p k
 PlannedBy d e c z spare k (Err w) = NoMemory e c k z (Err w)
 
@@ -111,7 +132,7 @@ Planned d e c z spare r = PlannedBy d e (counted c) z spare (plan d e c) r
 
 -- the event of a run of this number
 abbrev pub RunPlanned : Core → Core → ℕ → Option Run → ℕ → Result RunAsks AllocError → Type 0
-RunPlanned c z i o spare (Ok (runs.Now y)) = run_plan c i o ≡ at_once z y
+RunPlanned c z i o spare (Ok (runs.Now y)) = run_plan c i o ≡ at_once z (as_seen y)
 RunPlanned c z i o spare (Ok (runs.Asks q n)) = (run_plan c i o ≡ asks q) × (z ≡ c) × RunReady c i n spare
 RunPlanned c z i o spare (Err w) = (q : Query) × (run_plan c i o ≡ asks q) × (z ≡ ended_run c i)
 

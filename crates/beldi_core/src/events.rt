@@ -7,7 +7,7 @@ ghost use Rattle.beldi_step.specs.declared.event.Event.TheVariants as events;
 ghost use Rattle.beldi_tree.specs.declared.deployment.Deployment.{Deployment};
 ghost use Rattle.beldi_step.specs.Host.{collected as collected_of, passed, Core, Followed, acted as acted_by, after_turn as after_turn_of, may_start as may_start_of, started, at_once, crash_plan, tick_plan, new_run as new_run_of, entry_of as entry_by, no_run as no_run_of, refused, refused_by, ticket_next, unbound};
 ghost use Rattle.beldi_core.specs.declared.events.Planned.TheVariants as planned;
-ghost use Rattle.beldi_core.specs.Parts.{core_in, Planned as IsPlanned, PlannedOf, RunPlanned, Ready, HasPlace, event_of, base, BoundBy, Copied, TellsTurn, acted_unless, mark_told};
+ghost use Rattle.beldi_core.specs.Parts.{as_seen, core_in, Planned as IsPlanned, PlannedOf, RunPlanned, Ready, HasPlace, event_of, base, BoundBy, Copied, TellsTurn, acted_unless, mark_told, turn_event};
 
 use crate::host_core::HostCore;
 use crate::runs::{Copies, asked};
@@ -37,11 +37,48 @@ pub enum Pending {
     Ic,
 }
 
+/// The answer to an event that asks nothing: one of those of `Seen` that have no long parts.
+#[derive(Drop)]
+pub enum Immediate {
+    NoTicket,
+    Unknown(u32),
+    Crowded,
+    Spent,
+    Expired,
+    NoRun,
+    RunOver,
+    Crashed,
+    Started(u64),
+    Now(u64),
+    ClockEnd,
+}
+
+impl Immediate {
+    /// The same answer, as all events are answered.
+    pub fn seen(self) -> Seen
+        ensures { result ≡ as_seen self }
+    {
+        match self {
+            Immediate::NoTicket => Seen::NoTicket,
+            Immediate::Unknown(ticket) => Seen::Unknown(ticket),
+            Immediate::Crowded => Seen::Crowded,
+            Immediate::Spent => Seen::Spent,
+            Immediate::Expired => Seen::Expired,
+            Immediate::NoRun => Seen::NoRun,
+            Immediate::RunOver => Seen::RunOver,
+            Immediate::Crashed => Seen::Crashed,
+            Immediate::Started(run) => Seen::Started(run),
+            Immediate::Now(moment) => Seen::Now(moment),
+            Immediate::ClockEnd => Seen::ClockEnd,
+        }
+    }
+}
+
 /// What comes of an event before the table is asked.
 #[derive(Drop)]
 pub enum Planned {
     /// It is answered.
-    Now(Seen),
+    Now(Immediate),
     /// It asks this.
     Asks(Apart<Query>, Pending),
 }
@@ -49,7 +86,7 @@ pub enum Planned {
 // What comes of the event of a run before the table is asked.
 #[derive(Drop)]
 enum RunAsks {
-    Now(Seen),
+    Now(Immediate),
     Asks(Apart<Query>, Copies),
 }
 
@@ -65,13 +102,13 @@ fn refuse(why: TableErr) -> Result<Seen, AllocError>
 }
 
 // What is said of a number that no live run has, where so many were given.
-fn no_run(run: u64, given: u64) -> Seen
-    ensures { (c : Core) → c.last_run ≡ given → result ≡ no_run_of c run }
+fn no_run(run: u64, given: u64) -> Immediate
+    ensures { (c : Core) → c.last_run ≡ given → as_seen result ≡ no_run_of c run }
 {
     if run == 0 || run > given {
-        Seen::NoRun
+        Immediate::NoRun
     } else {
-        Seen::RunOver
+        Immediate::RunOver
     }
 }
 
@@ -185,7 +222,7 @@ impl HostCore {
         ensures { IsPlanned code.now event (core_in self.old) (core_in self.new) self.new.book.spare result }
     {
         if self.taken >= MOST_EVENTS {
-            return Ok(Planned::Now(Seen::Spent));
+            return Ok(Planned::Now(Immediate::Spent));
         }
         self.taken += 1;
         self.plan_counted(code, event)
@@ -199,8 +236,8 @@ impl HostCore {
         match event {
             Event::Ticket => self.plan_ticket(),
             Event::Request { ticket, func, args } => self.plan_request(code, ticket, func, args),
-            Event::Turn(run) => self.plan_turn(run),
-            Event::Lost(run) => self.plan_lost(run),
+            Event::Turn(run) => self.plan_turn(run, false),
+            Event::Lost(run) => self.plan_turn(run, true),
             Event::Crash(run) => Ok(Planned::Now(self.crash(run))),
             Event::Restart { id, func } => self.restart(code, id, func),
             Event::Tick(ticks) => Ok(Planned::Now(self.tick(ticks))),
@@ -212,33 +249,26 @@ impl HostCore {
         ensures { (d : Deployment) → PlannedOf d events.Ticket (core_in self.old) (core_in self.new) self.new.book.spare result }
     {
         if self.newest == u32::MAX {
-            return Ok(Planned::Now(Seen::NoTicket));
+            return Ok(Planned::Now(Immediate::NoTicket));
         }
         let query = issue_query(self.alloc, self.newest + 1);
         Ok(Planned::Asks(Apart::new(self.alloc, query)?, Pending::Ticket))
     }
 
-    fn plan_turn(&mut self, run: u64) -> Result<Planned, AllocError>
+    // A turn of a run, or one whose answer it loses.
+    fn plan_turn(&mut self, run: u64, lost: bool) -> Result<Planned, AllocError>
         requires given { self.old.runs.given < self.old.taken }
-        ensures { (d : Deployment) → PlannedOf d (events.Turn run) (core_in self.old) (core_in self.new) self.new.book.spare result }
+        ensures { (d : Deployment) → PlannedOf d (turn_event run lost) (core_in self.old) (core_in self.new) self.new.book.spare result }
     {
         match self.plan_run(run) {
-            Ok(RunAsks::Now(seen)) => Ok(Planned::Now(seen)),
+            Ok(RunAsks::Now(answer)) => Ok(Planned::Now(answer)),
             Ok(RunAsks::Asks(query, copies)) => {
-                Ok(Planned::Asks(query, Pending::Turn(run, copies)))
-            }
-            Err(why) => Err(why),
-        }
-    }
-
-    fn plan_lost(&mut self, run: u64) -> Result<Planned, AllocError>
-        requires given { self.old.runs.given < self.old.taken }
-        ensures { (d : Deployment) → PlannedOf d (events.Lost run) (core_in self.old) (core_in self.new) self.new.book.spare result }
-    {
-        match self.plan_run(run) {
-            Ok(RunAsks::Now(seen)) => Ok(Planned::Now(seen)),
-            Ok(RunAsks::Asks(query, copies)) => {
-                Ok(Planned::Asks(query, Pending::Lost(run, copies)))
+                let pending = if lost {
+                    Pending::Lost(run, copies)
+                } else {
+                    Pending::Turn(run, copies)
+                };
+                Ok(Planned::Asks(query, pending))
             }
             Err(why) => Err(why),
         }
@@ -264,10 +294,10 @@ impl HostCore {
         ensures { PlannedOf code.now (events.Request ticket func args) (core_in self.old) (core_in self.new) self.new.book.spare result }
     {
         if ticket == 0 || ticket > self.newest {
-            return Ok(Planned::Now(Seen::Unknown(ticket)));
+            return Ok(Planned::Now(Immediate::Unknown(ticket)));
         }
         if self.runs.len() >= MOST_RUNS {
-            return Ok(Planned::Now(Seen::Crowded));
+            return Ok(Planned::Now(Immediate::Crowded));
         }
         self.book.reserve()?;
         let query = bind_query(self.alloc, ticket, func, args.copy(self.alloc)?);
@@ -301,7 +331,7 @@ impl HostCore {
         };
         if self.now > found.deadline {
             self.runs.remove(run);
-            return Ok(RunAsks::Now(Seen::Expired));
+            return Ok(RunAsks::Now(Immediate::Expired));
         }
         match asked(found, &mut self.book, self.alloc) {
             Ok((query, copies)) => Ok(RunAsks::Asks(query, copies)),
@@ -313,26 +343,30 @@ impl HostCore {
     }
 
     // Ends a run between two turns.
-    fn crash(&mut self, run: u64) -> Seen
-        ensures { at_once (core_in self.new) result ≡ crash_plan (core_in self.old) run (map.get self.old.runs.runs run) }
+    fn crash(&mut self, run: u64) -> Immediate
+        ensures { at_once (core_in self.new) (as_seen result) ≡ crash_plan (core_in self.old) run (map.get self.old.runs.runs run) }
     {
         let Some(found) = self.runs.get(run) else {
             return no_run(run, self.runs.given());
         };
         let late = self.now > found.deadline;
         self.runs.remove(run);
-        if late { Seen::Expired } else { Seen::Crashed }
+        if late {
+            Immediate::Expired
+        } else {
+            Immediate::Crashed
+        }
     }
 
     // So many ticks pass, if the moment stays at most the last one.
-    fn tick(&mut self, ticks: u64) -> Seen
-        ensures { at_once (core_in self.new) result ≡ tick_plan (core_in self.old) ticks }
+    fn tick(&mut self, ticks: u64) -> Immediate
+        ensures { at_once (core_in self.new) (as_seen result) ≡ tick_plan (core_in self.old) ticks }
     {
         if ticks > LAST_MOMENT - self.now {
-            return Seen::ClockEnd;
+            return Immediate::ClockEnd;
         }
         self.now += ticks;
-        Seen::Now(self.now)
+        Immediate::Now(self.now)
     }
 
     // Starts another run of an intent.
@@ -341,10 +375,10 @@ impl HostCore {
         ensures { PlannedOf code.now (events.Restart id func) (core_in self.old) (core_in self.new) self.new.book.spare result }
     {
         if self.runs.len() >= MOST_RUNS {
-            return Ok(Planned::Now(Seen::Crowded));
+            return Ok(Planned::Now(Immediate::Crowded));
         }
         let run = self.new_run(code, id, func)?;
-        Ok(Planned::Now(Seen::Started(self.runs.start(self.alloc, run)?)))
+        Ok(Planned::Now(Immediate::Started(self.runs.start(self.alloc, run)?)))
     }
 
     /// What follows of an event where the table told.

@@ -200,7 +200,7 @@ impl<T: Table> Host<T> {
         ensures code { self.new.code ≡ self.old.code }
     {
         match self.core.plan(self.code.code(), event) {
-            Ok(Planned::Now(seen)) => Ok(seen),
+            Ok(Planned::Now(answer)) => Ok(answer.seen()),
             Ok(Planned::Asks(query, pending)) => self.ask(query.into_inner(), pending),
             Err(why) => Err(why),
         }
