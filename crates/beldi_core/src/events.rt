@@ -176,6 +176,7 @@ fn acted(
 }
 
 // .. unless there was no memory for that run.
+#[inline(always)]
 fn acted_if(
     id: IntentId,
     mark: Option<Mark>,

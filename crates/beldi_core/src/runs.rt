@@ -255,6 +255,7 @@ impl Runs {
 
     /// The run of this number, which is live, is told, when so many changes had been made. A run that is over is gone
     /// afterwards, and so is one that was out of memory.
+    #[inline(always)]
     pub fn told(
         &mut self,
         number: u64,
