@@ -33,6 +33,13 @@ pub fn write_answer(
         Seen::Other { ticket, func, args } => write_other(alloc, code, *ticket, *func, args, out),
         Seen::Gone(ticket) => write_numbered(alloc, "gone ", u64::from(*ticket), out),
         Seen::Unknown(ticket) => write_numbered(alloc, "unknown ", u64::from(*ticket), out),
+        // most turns tell nothing more
+        Seen::Acted {
+            entry: None,
+            started: None,
+            over,
+            reply: None,
+        } => out.push_text(if *over { "acted over\n" } else { "acted\n" }),
         Seen::Acted {
             entry,
             started,
@@ -173,26 +180,7 @@ fn write_launched(alloc: Global, run: u64, id: &IntentId, out: &mut Str) -> Resu
     out.push_text(line.as_str())
 }
 
-// Most turns have no entry, run or reply to tell of: then the line is one text.
 fn write_acted(
-    alloc: Global,
-    code: &Checked,
-    entry: &Option<Entry>,
-    started: Option<u64>,
-    over: bool,
-    reply: &Option<(u32, Apart<Outcome>)>,
-    out: &mut Str,
-) -> Result<(), AllocError>
-    ensures ok { OnOk result (out.new ≡ out.old ++ answer_text code.now (Seen.Acted entry.now started over reply.now)) }
-    ensures err { OnErr result (out.new ≡ out.old) }
-{
-    match (entry, started, reply) {
-        (None, None, None) => out.push_text(if over { "acted over\n" } else { "acted\n" }),
-        _ => write_effects(alloc, code, entry, started, over, reply, out),
-    }
-}
-
-fn write_effects(
     alloc: Global,
     code: &Checked,
     entry: &Option<Entry>,
