@@ -166,7 +166,7 @@ impl Ord for Str {
     ghost matches_eq = { Prim.search (comparing, rules) };
 
     fn cmp(&self, other: &Str) -> Ordering {
-        self.text.as_bytes().cmp(other.text.as_bytes())
+        self.text.as_str().cmp(other.text.as_str())
     }
 }
 
