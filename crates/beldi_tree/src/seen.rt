@@ -36,6 +36,7 @@ impl Seen<'_> {
 }
 
 // The value, within the limits of what is stored.
+#[inline(always)]
 fn limited(seen: Seen<'_>) -> Result<Seen<'_>, EvalErr>
     ensures { Finds (limited_of (seen_value seen.entry)) result }
 {
@@ -46,6 +47,7 @@ fn limited(seen: Seen<'_>) -> Result<Seen<'_>, EvalErr>
     }
 }
 
+#[inline(always)]
 pub(crate) fn made<'a>(value: Value) -> Result<Seen<'a>, EvalErr>
     ensures { Finds (limited_of value) result }
 {
@@ -53,6 +55,7 @@ pub(crate) fn made<'a>(value: Value) -> Result<Seen<'a>, EvalErr>
 }
 
 /// The value, or null where there is none.
+#[inline(always)]
 pub(crate) fn lent(found: Option<&Value>) -> Result<Seen<'_>, EvalErr>
     ensures { Finds (limited_of (or_null (option_copied found.entry))) result }
 {
