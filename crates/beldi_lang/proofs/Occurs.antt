@@ -1,9 +1,8 @@
 -- The effects that a body wants are those of its statements: what holds of each effect that stands in it, and of the locks that
 -- its statements leave, holds of what it wants.
-use Rattle.std.proofs.Common.{◌≡◌, ℕ, zero, suc, ◌+◌, Bool, true, false, List, [], ◌∷◌, ◌++◌, Option, Some, None, Result, Ok, Err, IsTrue, refl, ap, if◌then◌else◌}
-use Rattle.std.specs.Prelude.{nat_lt, not}
+use Rattle.std.proofs.Common.{ℕ, zero, suc, ◌+◌, Bool, true, false, List, [], ◌∷◌, ◌++◌, Option, Some, None, Result, Ok, Err, if◌then◌else◌}
+use Rattle.std.specs.Prelude.{nat_lt}
 use Rattle.beldi_value.specs.declared.value.Value.{Value}
-use Rattle.beldi_value.specs.declared.rel.Rel.{Rel}
 use Rattle.beldi_value.specs.declared.outcome.Outcome.{Outcome}
 use Rattle.beldi_value.specs.declared.outcome.Outcome.TheVariants as outcome
 use Rattle.beldi_value.specs.declared.outcome.Code.{Code}
@@ -20,7 +19,7 @@ use Rattle.beldi_tree.specs.Names.{func_at}
 use Rattle.beldi_tree.specs.Evaluate.{and_then, truth, term_value}
 use Rattle.beldi_tree.specs.Command.{Command, Commands, no_commands, command, set, read, write, condwrite, call, async, lock, unlock, transaction, abort, break, choose, repeat, return}
 use Rattle.beldi_lang.specs.Locks.{is_held, is_none_held, without}
-use Rattle.beldi_lang.specs.Wants.{key_value, table_number, func_number, most_effects, Local, Leads, asks, goes, breaks, ends, Does, fault, or_fault, takes, counted, set_to, set_if, answered, effect_to, locks, unlocks, followed, looped, turns, closes, closed, transact, does, run_block, tables_of, body_of, first_local, releases, effect_of, inside_of, body, wants, is_inside}
+use Rattle.beldi_lang.specs.Wants.{key_value, table_number, func_number, most_effects, Local, Leads, asks, goes, breaks, ends, Does, fault, or_fault, takes, counted, set_to, answered, effect_to, locks, unlocks, followed, looped, turns, closes, closed, transact, does, run_block, tables_of, body_of, first_local, releases, effect_of, inside_of, body, wants, is_inside}
 
 -- ---- what is said of the locks that are held, and of each effect, inside a transaction or not
 
