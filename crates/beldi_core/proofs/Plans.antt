@@ -1,5 +1,5 @@
 -- An event that was planned, and then followed, is one step.
-use Rattle.std.proofs.Common.{◌≡◌, ℕ, false, if◌then◌else◌, Option, None, Some, Result, Ok, Err, refl, ap, sym, ◌∙◌, subst}
+use Rattle.std.proofs.Common.{◌≡◌, ℕ, Bool, true, false, if◌then◌else◌, Option, None, Some, Result, Ok, Err, refl, ap, sym, ◌∙◌, subst}
 use Rattle.std.specs.Prelude.{nat_lt}
 use Rattle.std.specs.FinMap as map
 use Rattle.std.specs.declared.alloc.AllocError.{AllocError}
@@ -23,8 +23,8 @@ use Rattle.beldi_core.specs.declared.events.Pending.{Pending}
 use Rattle.beldi_core.specs.declared.events.Planned.{Planned}
 use Rattle.beldi_core.specs.declared.runs.Copies.{Copies}
 use Rattle.beldi_core.specs.Runs.{Numbered, RunMap, RunTold}
-use Rattle.beldi_step.specs.Host.{Core, Plan, at_once, asks, plan, counted, marked, after_turn, run_next, unheard_next, ended_run, run_plan, crash_plan, no_run, Followed, StepBy, Stepped}
-use Rattle.beldi_core.specs.Parts.{NoMemory, PlannedOf, Copied, TellsTurn, entered, mark_told, event_of, base, Asked}
+use Rattle.beldi_step.specs.Host.{Core, Plan, at_once, asks, plan, plan_of, counted, marked, after_turn, run_next, unheard_next, ended_run, run_plan, crash_plan, no_run, Followed, StepBy, Stepped}
+use Rattle.beldi_core.specs.Parts.{NoMemory, PlannedOf, Copied, TellsTurn, entered, mark_told, event_of, turn_event, base, Asked}
 use Rattle.beldi_laws.proofs.Lives.{remove_put}
 
 -- ---- the step
@@ -84,10 +84,15 @@ pub idle : (c : Core) (i : ℕ) (o : Option Run) (x : Seen) → o ≡ None → x
 idle c i None x none is = ap (at_once c) is
 idle c i (Some r) x none is = cc
 
-pub idle_turn : (c : Core) (i : ℕ) (o : Option Run) (x : Seen) → o ≡ None → x ≡ no_run c i → run_plan c i o ≡ at_once c x
-idle_turn c i None x none is = ap (at_once c) (sym is)
-idle_turn c i (Some r) x none is = cc
-
 -- .. and one that is, in time
-pub asks_in_time : (c : Core) (i : ℕ) (o : Option Run) (r : Run) → o ≡ Some r → nat_lt r.deadline c.now ≡ false → run_plan c i o ≡ asks (run_asks r)
+asks_in_time : (c : Core) (i : ℕ) (o : Option Run) (r : Run) → o ≡ Some r → nat_lt r.deadline c.now ≡ false → run_plan c i o ≡ asks (run_asks r)
 asks_in_time c i o r is early = ap (run_plan c i) is ∙ ap (λ b. if b then at_once (ended_run c i) seen.Expired else asks (run_asks r)) early
+
+-- ---- a turn, whether its answer is lost or not
+pub idle_turn : (d : Deployment) (c : Core) (i : ℕ) (lost : Bool) (x : Seen) → map.get c.runs i ≡ None → x ≡ no_run c i → plan_of d (turn_event i lost) c ≡ at_once c x
+idle_turn d c i false x none is = ap (run_plan c i) none ∙ ap (at_once c) (sym is)
+idle_turn d c i true x none is = ap (run_plan c i) none ∙ ap (at_once c) (sym is)
+
+pub turn_without_memory : (d : Deployment) (c z : Core) (i : ℕ) (lost : Bool) (r : Run) (w : AllocError) → map.get c.runs i ≡ Some r → nat_lt r.deadline c.now ≡ false → z ≡ ended_run c i → NoMemory (turn_event i lost) c (plan_of d (turn_event i lost) c) z (Err w)
+turn_without_memory d c z i false r w is early ends = subst (λ (k : Plan). NoMemory (Turn i) c k z (Err w)) (sym (asks_in_time c i (map.get c.runs i) r is early)) (ap (λ (z : Core). (z, Err w)) ends)
+turn_without_memory d c z i true r w is early ends = subst (λ (k : Plan). NoMemory (Lost i) c k z (Err w)) (sym (asks_in_time c i (map.get c.runs i) r is early)) (ap (λ (z : Core). (z, Err w)) ends)

@@ -23,14 +23,12 @@ use Rattle.beldi_step.specs.declared.run.Mark.{Mark}
 use Rattle.beldi_step.specs.declared.run.Run.{Run}
 use Rattle.beldi_step.specs.declared.run.TurnSays.{TurnSays}
 use Rattle.beldi_intent.specs.Intent.{binding_of}
-use Rattle.beldi_step.specs.Host.{Core, Plan, at_once, asks, plan, plan_of, counted, run_plan, new_run, unbound, refused, ended_run, marked, after_turn, acted, AtOnce, Followed}
+use Rattle.beldi_step.specs.Host.{Core, Plan, at_once, asks, plan, plan_of, counted, new_run, unbound, refused, ended_run, marked, after_turn, acted, AtOnce, Followed}
 use Rattle.beldi_core.specs.declared.host_core.HostCore.{HostCore}
 use Rattle.beldi_core.specs.declared.events.Planned.TheVariants as planned
 use Rattle.beldi_core.specs.declared.events.Planned.{Planned as Plans}
 use Rattle.beldi_core.specs.declared.events.Immediate.{Immediate}
 use Rattle.beldi_core.specs.declared.events.Immediate.TheVariants as immediate
-use Rattle.beldi_core.specs.declared.events.RunAsks.{RunAsks}
-use Rattle.beldi_core.specs.declared.events.RunAsks.TheVariants as runs
 use Rattle.beldi_core.specs.declared.events.Pending.{Pending}
 use Rattle.beldi_core.specs.declared.events.Pending.TheVariants as pending
 use Rattle.beldi_core.specs.declared.runs.Copies.{Copies}
@@ -107,6 +105,10 @@ abbrev pub turn_event : ℕ → Bool → Event
 turn_event i false = Turn i
 turn_event i true = Lost i
 
+abbrev pub turn_pending : ℕ → Copies → Bool → Pending
+turn_pending i n false = pending.Turn i n
+turn_pending i n true = pending.Lost i n
+
 -- out of memory before anything was asked; of the events that ask nothing only one that starts a run may be so
 abbrev pub NoMemory : Event → Core → Plan → Core → Result Seen AllocError → Type 0
 NoMemory e c (at_once b y) z r = AtOnce c b y z r
@@ -129,12 +131,6 @@ PlannedOf d e c z spare r = PlannedBy d e c z spare (plan_of d e c) r
 
 abbrev pub Planned : Deployment → Event → Core → Core → ℕ → Result Plans AllocError → Type 0
 Planned d e c z spare r = PlannedBy d e (counted c) z spare (plan d e c) r
-
--- the event of a run of this number
-abbrev pub RunPlanned : Core → Core → ℕ → Option Run → ℕ → Result RunAsks AllocError → Type 0
-RunPlanned c z i o spare (Ok (runs.Now y)) = run_plan c i o ≡ at_once z (as_seen y)
-RunPlanned c z i o spare (Ok (runs.Asks q n)) = (run_plan c i o ≡ asks q) × (z ≡ c) × RunReady c i n spare
-RunPlanned c z i o spare (Err w) = (q : Query) × (run_plan c i o ≡ asks q) × (z ≡ ended_run c i)
 
 -- ---- following
 -- a request whose run was started, by what its bind came to

@@ -7,7 +7,7 @@ ghost use Rattle.beldi_step.specs.declared.event.Event.TheVariants as events;
 ghost use Rattle.beldi_tree.specs.declared.deployment.Deployment.{Deployment};
 ghost use Rattle.beldi_step.specs.Host.{collected as collected_of, passed, Core, Followed, acted as acted_by, after_turn as after_turn_of, may_start as may_start_of, started, at_once, crash_plan, tick_plan, new_run as new_run_of, entry_of as entry_by, no_run as no_run_of, refused, refused_by, ticket_next, unbound};
 ghost use Rattle.beldi_core.specs.declared.events.Planned.TheVariants as planned;
-ghost use Rattle.beldi_core.specs.Parts.{as_seen, core_in, Planned as IsPlanned, PlannedOf, RunPlanned, Ready, HasPlace, event_of, base, BoundBy, Copied, TellsTurn, acted_unless, mark_told, turn_event};
+ghost use Rattle.beldi_core.specs.Parts.{as_seen, core_in, Planned as IsPlanned, PlannedOf, Ready, HasPlace, event_of, base, BoundBy, Copied, TellsTurn, acted_unless, mark_told, turn_event, turn_pending};
 
 use crate::host_core::HostCore;
 use crate::runs::{Copies, asked};
@@ -53,6 +53,19 @@ pub enum Immediate {
     ClockEnd,
 }
 
+impl Pending {
+    // A turn of the run of this number, or one whose answer it loses.
+    fn of_turn(run: u64, copies: Copies, lost: bool) -> Pending
+        ensures { result ≡ turn_pending run copies lost }
+    {
+        if lost {
+            Pending::Lost(run, copies)
+        } else {
+            Pending::Turn(run, copies)
+        }
+    }
+}
+
 impl Immediate {
     /// The same answer, as all events are answered.
     pub fn seen(self) -> Seen
@@ -81,13 +94,6 @@ pub enum Planned {
     Now(Immediate),
     /// It asks this.
     Asks(Apart<Query>, Pending),
-}
-
-// What comes of the event of a run before the table is asked.
-#[derive(Drop)]
-enum RunAsks {
-    Now(Immediate),
-    Asks(Apart<Query>, Copies),
 }
 
 // An error of the table, as an event is answered.
@@ -256,22 +262,25 @@ impl HostCore {
         Ok(Planned::Asks(Apart::new(self.alloc, query)?, Pending::Ticket))
     }
 
-    // A turn of a run, or one whose answer it loses.
+    // A turn of the run of this number, or one whose answer it loses. A place in the book is taken for the entry of its act. A
+    // run that is past its deadline is over; and so is one that is out of memory.
     fn plan_turn(&mut self, run: u64, lost: bool) -> Result<Planned, AllocError>
         requires given { self.old.runs.given < self.old.taken }
         ensures { (d : Deployment) → PlannedOf d (turn_event run lost) (core_in self.old) (core_in self.new) self.new.book.spare result }
     {
-        match self.plan_run(run) {
-            Ok(RunAsks::Now(answer)) => Ok(Planned::Now(answer)),
-            Ok(RunAsks::Asks(query, copies)) => {
-                let pending = if lost {
-                    Pending::Lost(run, copies)
-                } else {
-                    Pending::Turn(run, copies)
-                };
-                Ok(Planned::Asks(query, pending))
+        let Some(found) = self.runs.get(run) else {
+            return Ok(Planned::Now(no_run(run, self.runs.given())));
+        };
+        if self.now > found.deadline {
+            self.runs.remove(run);
+            return Ok(Planned::Now(Immediate::Expired));
+        }
+        match asked(found, &mut self.book, self.alloc) {
+            Ok((query, copies)) => Ok(Planned::Asks(query, Pending::of_turn(run, copies, lost))),
+            Err(why) => {
+                self.runs.remove(run);
+                Err(why)
             }
-            Err(why) => Err(why),
         }
     }
 
@@ -319,28 +328,6 @@ impl HostCore {
             at: RunAt::Looks,
         };
         Apart::new(self.alloc, run)
-    }
-
-    // What the run of this number asks. A place in the book is taken for the entry of its act. A run that is past its
-    // deadline is over; and so is one that is out of memory.
-    fn plan_run(&mut self, run: u64) -> Result<RunAsks, AllocError>
-        requires given { self.old.runs.given < self.old.taken }
-        ensures { RunPlanned (core_in self.old) (core_in self.new) run (map.get self.old.runs.runs run) self.new.book.spare result }
-    {
-        let Some(found) = self.runs.get(run) else {
-            return Ok(RunAsks::Now(no_run(run, self.runs.given())));
-        };
-        if self.now > found.deadline {
-            self.runs.remove(run);
-            return Ok(RunAsks::Now(Immediate::Expired));
-        }
-        match asked(found, &mut self.book, self.alloc) {
-            Ok((query, copies)) => Ok(RunAsks::Asks(query, copies)),
-            Err(why) => {
-                self.runs.remove(run);
-                Err(why)
-            }
-        }
     }
 
     // Ends a run between two turns.

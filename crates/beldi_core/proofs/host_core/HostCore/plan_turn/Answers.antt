@@ -1,0 +1,14 @@
+use Rattle.std.proofs.Common.{rules, sym, ap, ◌∙◌}
+use Rattle.std.specs.Option.{option_copied}
+use Rattle.beldi_core.specs.Parts.{as_seen, core_in}
+use Rattle.beldi_core.proofs.Plans.{idle_turn, turn_without_memory, ended_core}
+use Rattle.beldi_core.proofs.host_core.HostCore.plan_turn.Goals as goal
+
+pub returns-in_default : goal.returns-in_default
+returns-in_default c = λ d. idle_turn d (core_in c.args.self.now) c.args.run c.args.lost (as_seen c.no_run.result) (sym c.get.ensures ∙ ap option_copied c.in_default.is) (search rules)
+
+pub returns-in-Err : goal.returns-in-Err
+returns-in-Err c = λ d.
+    let core = core_in c.args.self.now in
+    turn_without_memory d core _ c.args.run c.args.lost c.in-Some.found.now c.in-Err.why (sym c.get.ensures ∙ ap option_copied c.in-Some.is) (search rules)
+    (ended_core core (record core { book = c.asked.new.book.entries }) c.args.run c.remove-in-Err.new.self (λ j. record core { book = c.asked.ensures.entries j }) c.remove-in-Err.ensures)
