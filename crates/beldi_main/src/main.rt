@@ -10,7 +10,7 @@ use beldi_program::top;
 use beldi_table::MapTable;
 use beldi_value::Str;
 use std::process::ExitCode;
-use std::{env, io};
+use std::{env, io, mem};
 
 // The words after the program's name; none where they cannot be had.
 fn words(rt: &HostRuntime) -> io::Result<Vec<Str>> {
@@ -30,7 +30,7 @@ fn main(rt: HostRuntime) -> ExitCode {
     let mut sink = StdSink::new(io::writer(&rt));
     let mut link = ClosedLink::new();
     let mut clock = MemClock::new(Vec::new(alloc));
-    let (status, _table) = top(
+    let (status, table) = top(
         alloc,
         words.as_slice(),
         &mut source,
@@ -39,5 +39,7 @@ fn main(rt: HostRuntime) -> ExitCode {
         &mut link,
         &mut clock,
     );
+    // The process ends: the rows are not given back one by one.
+    mem::forget(table);
     ExitCode::from(status)
 }
