@@ -5,4 +5,5 @@ pub mod Looks
 pub mod Plans
 pub mod Right
 pub mod RunMaps
+pub mod Skips
 pub mod Steps

@@ -1,14 +1,15 @@
 -- Calls that read the rows of a table, one after another, and change none.
-use Rattle.std.specs.Prelude.{◌≡◌, ◌⊎◌, ℕ, zero, ◌≤◌, ◌==◌, ◌||◌, max, IsSome, nat_lt, Bool, ◌++◌, List, [], ◌∷◌, Option, Some, None, Result, IfOk, OnOk, IsErrOf, if◌then◌else◌}
+use Rattle.std.specs.Prelude.{◌≡◌, ◌⊎◌, ℕ, zero, ◌≤◌, ◌==◌, ◌||◌, max, IsSome, nat_lt, Bool, true, false, ◌++◌, List, [], ◌∷◌, Option, Some, None, Result, IfOk, OnOk, IsErrOf, if◌then◌else◌}
 use Rattle.std.specs.FinMap as map
+use Rattle.std.specs.Ordering.{is_lt}
 use Rattle.beldi_value.specs.declared.outcome.Outcome.{Outcome}
 use Rattle.beldi_value.specs.declared.place.Owner.{Owner}
 use Rattle.beldi_value.specs.declared.place.Owner.TheVariants.{Tx}
 use Rattle.beldi_value.specs.declared.value.Value.{Value}
 use Rattle.beldi_tree.specs.declared.deployment.Deployment.{Deployment}
-use Rattle.beldi_row.specs.Key.{RowKey, key_ticket}
+use Rattle.beldi_row.specs.Key.{RowKey, key_cmp, key_ticket, rank_of}
 use Rattle.beldi_row.specs.declared.key.Kind.{Kind}
-use Rattle.beldi_row.specs.declared.key.Kind.TheVariants.{Data}
+use Rattle.beldi_row.specs.declared.key.Kind.TheVariants.{Data, Shadow, Lockset}
 use Rattle.beldi_row.specs.declared.row.Row.{Row}
 use Rattle.beldi_row.specs.declared.row.Row.TheVariants.{Intent, Cell}
 use Rattle.beldi_row.specs.Act.{Tell, here}
@@ -78,6 +79,18 @@ line_after d m f k (Some o, text) = text ++ key_line d f k (owned_value m o.deci
 abbrev pub next_line_of : Deployment → Rows → List ℕ → Option (RowKey × Row) → Option RowKey × List ℕ
 next_line_of d m text None = (None, text)
 next_line_of d m text (Some e) = (Some e.0, text ++ row_line d m e)
+
+-- ---- rows that have no line
+-- the number of the last kind that is as this one before the items or after them
+abbrev pub last_rank : Kind → ℕ
+last_rank (Shadow x t k r) = 5
+last_rank (Lockset a b t k) = 5
+last_rank k = 2
+
+-- reading goes on from the key j where it was at k: no item's row is in between
+pub record Past (k j : RowKey) : Type 0 where
+  pub not_before : is_lt (key_cmp j k) ≡ false
+  pub no_item : (e : RowKey) → is_lt (key_cmp k e) ≡ true → is_lt (key_cmp j e) ≡ false → rank_of e.kind ≡ 3 → ⊥
 
 -- a table is made ready for a host: its room is set
 pub record Prepared (wanted : ℕ) (old new : TableState) (result : Result ℕ OpenErr) : Type 0 where

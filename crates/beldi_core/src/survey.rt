@@ -2,11 +2,12 @@
 ghost use Rattle.std.specs.Prelude.{◌≡◌, ◌≢◌, ◌++◌, IfOk, OnOk};
 ghost use Rattle.std.specs.FinMap as map;
 ghost use Rattle.beldi_row.specs.Act.{tell_of};
+ghost use Rattle.beldi_row.specs.Key.{rank_of};
 ghost use Rattle.beldi_row.specs.Table.{next_row, AtMostOne};
 ghost use Rattle.beldi_intent.specs.Intent.{root_key as root_key_of};
 ghost use Rattle.beldi_daal.specs.Cell.{shadow_key as shadow_key_of};
 ghost use Rattle.beldi_step.specs.Tables.{tables_text, decision_key as decision_key_of, is_committed as is_commit, value_in, owned_value as shown_value};
-ghost use Rattle.beldi_core.specs.Survey.{Reads, Prepared, newest_of, next_key_of, next_seen_of, next_line_of, seen_of, key_line, line_after, row_seen, told_row};
+ghost use Rattle.beldi_core.specs.Survey.{Reads, Prepared, newest_of, next_key_of, next_seen_of, next_line_of, seen_of, key_line, line_after, last_rank, Past, row_seen, told_row};
 ghost use Rattle.beldi_core.specs.declared.survey.ReplySeen.TheVariants.{Unknown};
 
 use beldi_book::write_item;
@@ -15,7 +16,7 @@ use beldi_intent::root_key;
 use beldi_lang::Deployment;
 use beldi_readlog::log_key;
 use beldi_row::{Act, Kind, Row, RowKey, Said, Table, TableErr};
-use beldi_value::{Outcome, Owner, Place, Str, TxId, Value};
+use beldi_value::{IntentId, Outcome, Owner, Place, Str, TxId, Value};
 use std::alloc::{AllocError, Global};
 
 /// Why the rows could not be read. They are as before.
@@ -332,8 +333,37 @@ fn next_line<T: Table>(
     }
 }
 
-/// The listing of tables. Where a transaction owns an item, the rows of its decision and of its shadow are looked at, at the moment
-/// `now`; a look changes nothing.
+// What comes last of what stands before the items of a function or after them, as this does.
+fn last_kind(alloc: Global, kind: &Kind) -> Kind
+    ensures { rank_of result ≡ last_rank kind.now }
+{
+    let intent = IntentId::root(alloc, u32::MAX);
+    match kind {
+        Kind::Intent(_) | Kind::ReadLog(_) | Kind::Invoke(_) | Kind::Data { .. } => {
+            Kind::Invoke(Place {
+                intent,
+                step: u32::MAX,
+            })
+        }
+        Kind::Shadow { .. } | Kind::Lockset { .. } => Kind::Lockset {
+            intent,
+            begin: u32::MAX,
+            table: u16::MAX,
+            key: Str::new(alloc),
+        },
+    }
+}
+
+// The key from which reading goes on: no row of an item stands between this key and that one.
+fn past_others(alloc: Global, key: RowKey) -> RowKey
+    ensures { Past key result }
+{
+    let last = RowKey::new(key.home(), last_kind(alloc, key.kind()));
+    if last < key { key } else { last }
+}
+
+/// The listing of tables. Rows of other kinds than items' are skipped, kind by kind. Where a transaction owns an item, the rows
+/// of its decision and of its shadow are looked at, at the moment `now`; a look changes nothing.
 pub fn list_tables<T: Table>(
     alloc: Global,
     code: &Deployment,
@@ -343,11 +373,11 @@ pub fn list_tables<T: Table>(
     ensures { Reads (λ m s. s ≡ tables_text code.now m) (T.state table.old) (T.state table.new) result }
 {
     let mut text = Str::new(alloc);
-    let mut at = RowKey::least(alloc);
+    let mut at = past_others(alloc, RowKey::least(alloc));
     for _ in 0..u64::MAX {
         match next_line(alloc, code, table, &at, now, &mut text) {
             Ok(None) => return Ok(text),
-            Ok(Some(key)) => at = key,
+            Ok(Some(key)) => at = past_others(alloc, key),
             Err(why) => return Err(why),
         }
     }
