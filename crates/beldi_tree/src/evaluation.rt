@@ -5,7 +5,7 @@ ghost use Rattle.beldi_tree.specs.Seen.{seen_value, Finds};
 ghost use Rattle.beldi_tree.specs.Steps.{plain_step, stepped};
 ghost use Rattle.beldi_tree.specs.Term.{items_of, members_of};
 
-use crate::deployment::{Expr, Step};
+use crate::deployment::{Expr, Op, Step};
 use crate::fault::EvalErr;
 use crate::operators::{
     canonical, compared, element, field, key, length, negated, operate, opposite, pushed, settled,
@@ -80,6 +80,10 @@ fn advance<'a>(
         (Seen::Lent(whole), Step::Element(index)) => {
             lent_element(whole, seen(alloc, variables, index)?.value())
         }
+        // the most common step, before what the others need
+        (value, Step::Binary(op, right)) => {
+            made(binary(alloc, variables, *op, value.value(), right)?)
+        }
         (value, step) => made(apply(alloc, variables, value, step)?),
     }
 }
@@ -104,12 +108,7 @@ fn apply(
             value.value(),
             seen(alloc, variables, right)?.value(),
         )?),
-        Step::Binary(op, right) => operate(
-            alloc,
-            *op,
-            value.value(),
-            seen(alloc, variables, right)?.value(),
-        ),
+        Step::Binary(op, right) => binary(alloc, variables, *op, value.value(), right),
         Step::Field(key) => field(alloc, value.value(), key),
         Step::Element(index) => element(
             alloc,
@@ -121,6 +120,20 @@ fn apply(
         Step::Push(item) => pushed(value.into_value(alloc)?, evaluate(alloc, variables, item)?),
         Step::With(key, field) => with(alloc, variables, value, key, field),
     }
+}
+
+// What an operator makes of both sides.
+#[cycle(evaluate)]
+fn binary(
+    alloc: Global,
+    variables: &Variables,
+    op: Op,
+    left: &Value,
+    right: &Expr,
+) -> Result<Value, EvalErr>
+    ensures { Evaluates (on_two (operate_of op) (Ok left.now) (value_at variables.now right.now)) result }
+{
+    operate(alloc, op, left, seen(alloc, variables, right)?.value())
 }
 
 // The left side where it is true, and otherwise the right side.

@@ -23,6 +23,9 @@ decreases-advance l = 3 * step_size l.step.now + 5
 abbrev pub decreases-apply : goal.decreases-apply
 decreases-apply l = 3 * step_size l.step.now + 4
 
+abbrev pub decreases-binary : goal.decreases-binary
+decreases-binary l = 3 * term_size (term_of l.right.now) + 2
+
 abbrev pub decreases-either : goal.decreases-either
 decreases-either l = 3 * term_size (term_of l.right.now) + 2
 
