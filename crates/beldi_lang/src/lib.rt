@@ -17,6 +17,7 @@
 mod effect;
 mod machine;
 mod request;
+mod resume;
 mod run;
 mod scope;
 mod state;
