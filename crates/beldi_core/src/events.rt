@@ -37,6 +37,19 @@ pub enum Pending {
     Ic,
 }
 
+impl Pending {
+    // A turn of the run of this number, or one whose answer it loses.
+    fn of_turn(run: u64, copies: Copies, lost: bool) -> Pending
+        ensures { result ≡ turn_pending run copies lost }
+    {
+        if lost {
+            Pending::Lost(run, copies)
+        } else {
+            Pending::Turn(run, copies)
+        }
+    }
+}
+
 /// The answer to an event that asks nothing: one of those of `Seen` that have no long parts.
 #[derive(Drop)]
 pub enum Immediate {
@@ -51,19 +64,6 @@ pub enum Immediate {
     Started(u64),
     Now(u64),
     ClockEnd,
-}
-
-impl Pending {
-    // A turn of the run of this number, or one whose answer it loses.
-    fn of_turn(run: u64, copies: Copies, lost: bool) -> Pending
-        ensures { result ≡ turn_pending run copies lost }
-    {
-        if lost {
-            Pending::Lost(run, copies)
-        } else {
-            Pending::Turn(run, copies)
-        }
-    }
 }
 
 impl Immediate {

@@ -333,7 +333,8 @@ fn next_line<T: Table>(
     }
 }
 
-// What comes last of what stands before the items of a function or after them, as this does.
+// A kind that comes last among those before the items of a function, or among those past them: among its own. For an item's it is
+// one of those before, so it is not gone on from.
 fn last_kind(alloc: Global, kind: &Kind) -> Kind
     ensures { rank_of result ≡ last_rank kind.now }
 {
