@@ -6,7 +6,7 @@ ghost use Rattle.beldi_call.specs.Async.{async_asks, async_says, async_next as n
 use beldi_intent::register_query;
 use beldi_invokelog::{Back, back_told, invoked_told, open_query, registered_query};
 use beldi_row::Body;
-use beldi_value::{IntentId, Place};
+use beldi_value::{Apart, IntentId, Place};
 use beldi_walk::{Heard, Query, Walk};
 use std::alloc::{AllocError, Global};
 use std::marker::Model;
@@ -81,16 +81,16 @@ pub fn async_query(
     place: &CallPlace,
     body: &Body,
     at: AsyncAt,
-) -> Result<Query, AllocError>
+) -> Result<Apart<Query>, AllocError>
     ensures { IfOk result (λ q. q ≡ async_asks home place.now body.now at) }
 {
     match at {
-        AsyncAt::Open => Ok(open_query(home, place.copy_place(alloc)?, body.func)),
+        AsyncAt::Open => open_query(alloc, home, place.copy_place(alloc)?, body.func),
         AsyncAt::Register => {
             let callee = place.callee(alloc)?;
-            Ok(register_query(callee, body.copy(alloc)?))
+            register_query(alloc, callee, body.copy(alloc)?)
         }
-        AsyncAt::Note => Ok(registered_query(home, place.copy_place(alloc)?)),
+        AsyncAt::Note => registered_query(alloc, home, place.copy_place(alloc)?),
     }
 }
 
@@ -153,7 +153,7 @@ impl Walk for AsyncWalk {
 
     ghost says = { walk_says };
 
-    fn ask(&self, alloc: Global) -> Result<Query, AllocError> {
+    fn ask(&self, alloc: Global) -> Result<Apart<Query>, AllocError> {
         async_query(alloc, self.home, &self.place, &self.body, self.at)
     }
 

@@ -4,7 +4,7 @@ ghost use Rattle.beldi_walk.specs.Query.{told_of, lends};
 ghost use Rattle.beldi_call.specs.Call.{call_asks, call_says, call_next as next_of, first_call};
 
 use beldi_invokelog::{invoked_told, open_query, result_query, result_told};
-use beldi_value::{Outcome, Place};
+use beldi_value::{Apart, Outcome, Place};
 use beldi_walk::{Heard, Query, Walk};
 use std::alloc::{AllocError, Global};
 
@@ -29,12 +29,18 @@ pub enum CallSays {
 }
 
 /// What a call asks that the function `home` makes of `func` at a place.
-pub fn call_query(home: u16, place: Place, func: u16, at: CallAt) -> Query
-    ensures { result ≡ call_asks home place func at }
+pub fn call_query(
+    alloc: Global,
+    home: u16,
+    place: Place,
+    func: u16,
+    at: CallAt,
+) -> Result<Apart<Query>, AllocError>
+    ensures { IfOk result (λ q. q ≡ call_asks home place func at) }
 {
     match at {
-        CallAt::Open => open_query(home, place, func),
-        CallAt::Look => result_query(home, place),
+        CallAt::Open => open_query(alloc, home, place, func),
+        CallAt::Look => result_query(alloc, home, place),
     }
 }
 
@@ -94,8 +100,14 @@ impl Walk for CallWalk {
 
     ghost says = { walk_says };
 
-    fn ask(&self, alloc: Global) -> Result<Query, AllocError> {
-        Ok(call_query(self.home, self.place.copy(alloc)?, self.func, self.at))
+    fn ask(&self, alloc: Global) -> Result<Apart<Query>, AllocError> {
+        call_query(
+            alloc,
+            self.home,
+            self.place.copy(alloc)?,
+            self.func,
+            self.at,
+        )
     }
 
     fn told(&mut self, alloc: Global, heard: Heard<'_>) -> Result<CallSays, AllocError> {

@@ -5,7 +5,7 @@ ghost use Rattle.beldi_collect.specs.Collect.{collect_asks, collect_says, lent_i
 
 use beldi_intent::open_body;
 use beldi_row::{Body, Kind, Row, RowKey};
-use beldi_value::IntentId;
+use beldi_value::{Apart, IntentId};
 use beldi_walk::{Heard, Query};
 use std::alloc::{AllocError, Global};
 
@@ -25,10 +25,10 @@ pub enum Found {
 }
 
 /// Asks for the row after the cursor.
-pub fn collect_query(alloc: Global, cursor: &RowKey) -> Result<Query, AllocError>
+pub fn collect_query(alloc: Global, cursor: &RowKey) -> Result<Apart<Query>, AllocError>
     ensures { IfOk result (λ q. q ≡ collect_asks cursor.now) }
 {
-    Ok(Query::After(cursor.copy(alloc)?))
+    Query::after(alloc, cursor.copy(alloc)?)
 }
 
 /// What is found there. Out of memory only for what was lent.

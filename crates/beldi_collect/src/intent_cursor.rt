@@ -6,7 +6,7 @@ ghost use Rattle.beldi_collect.specs.Cursor.{first_cursor, cursor_asks, cursor_n
 
 use crate::cursor::{collect_query, open_intent, passing};
 use beldi_row::{Body, RowKey, Table, TableErr};
-use beldi_value::IntentId;
+use beldi_value::{Apart, IntentId};
 use beldi_walk::{Heard, Query, Walk};
 use std::alloc::{AllocError, Global};
 
@@ -40,7 +40,7 @@ impl Walk for IntentCursor {
 
     ghost says = { cursor_says };
 
-    fn ask(&self, alloc: Global) -> Result<Query, AllocError> {
+    fn ask(&self, alloc: Global) -> Result<Apart<Query>, AllocError> {
         collect_query(alloc, &self.at)
     }
 

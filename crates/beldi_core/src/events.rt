@@ -258,8 +258,8 @@ impl HostCore {
         if self.newest == u32::MAX {
             return Ok(Planned::Now(Immediate::NoTicket));
         }
-        let query = issue_query(self.alloc, self.newest + 1);
-        Ok(Planned::Asks(Apart::new(self.alloc, query)?, Pending::Ticket))
+        let query = issue_query(self.alloc, self.newest + 1)?;
+        Ok(Planned::Asks(query, Pending::Ticket))
     }
 
     // A turn of the run of this number, or one whose answer it loses. A place in the book is taken for the entry of its act. A
@@ -289,7 +289,7 @@ impl HostCore {
         ensures { (d : Deployment) → PlannedOf d events.Ic (core_in self.old) (core_in self.new) self.new.book.spare result }
     {
         let query = collect_query(self.alloc, &self.cursor)?;
-        Ok(Planned::Asks(Apart::new(self.alloc, query)?, Pending::Ic))
+        Ok(Planned::Asks(query, Pending::Ic))
     }
 
     // A request has its run's place while it waits for its answer.
@@ -310,8 +310,7 @@ impl HostCore {
             return Ok(Planned::Now(Immediate::Crowded));
         }
         self.book.reserve()?;
-        let query = bind_query(self.alloc, ticket, func, args.copy(self.alloc)?);
-        let query = Apart::new(self.alloc, query)?;
+        let query = bind_query(self.alloc, ticket, func, args.copy(self.alloc)?)?;
         let run = self.new_run(code, IntentId::root(self.alloc, ticket), func)?;
         self.runs.start(self.alloc, run)?;
         Ok(Planned::Asks(query, Pending::Request { ticket, func, args }))

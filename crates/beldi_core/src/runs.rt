@@ -156,17 +156,8 @@ pub fn asked(
     book.reserve()?;
     let id = run.id.copy(alloc)?;
     let callee = run.callee(alloc)?;
-    let query = query_of(run, alloc)?;
+    let query = run.ask(alloc)?;
     Ok((query, Copies { id, callee }))
-}
-
-fn query_of(run: &Run, alloc: Global) -> Result<Apart<Query>, AllocError>
-    ensures { IfOk result (λ q. q ≡ run_asks run.now) }
-{
-    match run.ask(alloc) {
-        Ok(query) => Apart::new(alloc, query),
-        Err(why) => Err(why),
-    }
 }
 
 impl Runs {

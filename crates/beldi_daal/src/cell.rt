@@ -5,7 +5,7 @@ ghost use Rattle.beldi_walk.specs.Query.{told_of, lends};
 ghost use Rattle.beldi_daal.specs.Cell.{cell_key as key_of, shadow_key as shadow_key_of, op_act, done_note as done_note_of, write_asks, write_goes, read_goes, cell_goes, in_the_way};
 
 use beldi_row::{Act, Cell, Kind, Note, Row, RowKey, Said, copy_owner, copy_tx};
-use beldi_value::{Owner, Place, Rel, Spare, Str, TxId, Value};
+use beldi_value::{Apart, Owner, Place, Rel, Spare, Str, TxId, Value};
 use beldi_walk::{Heard, Query};
 use std::alloc::{AllocError, Global};
 
@@ -160,18 +160,15 @@ pub fn write_query(
     who: Owner,
     op: CellOp,
     at: WriteAt,
-) -> Result<Query, AllocError>
+) -> Result<Apart<Query>, AllocError>
     ensures { IfOk result (λ q. q ≡ write_asks key place who op at) }
 {
     match at {
-        WriteAt::Try => Ok(Query::Act(key, op.act(alloc, place, who)?)),
-        WriteAt::Make => Ok(Query::Act(
-            key,
-            Act::MakeCell {
-                value: Value::Null,
-                owner: None,
-            },
-        )),
+        WriteAt::Try => Query::act(alloc, key, op.act(alloc, place, who)?),
+        WriteAt::Make => {
+            let value = Value::Null;
+            Query::act(alloc, key, Act::MakeCell { value, owner: None })
+        }
     }
 }
 

@@ -4,8 +4,7 @@ ghost use Rattle.beldi_daal.specs.ReadWalk.{first_read};
 
 use crate::cell::{ReadGoes, read_told};
 use crate::walk::Item;
-use beldi_row::Act;
-use beldi_value::{Owner, Value};
+use beldi_value::{Apart, Owner, Value};
 use beldi_walk::{Heard, Query, Walk};
 use std::alloc::{AllocError, Global};
 
@@ -39,8 +38,8 @@ impl Walk for ReadWalk {
 
     ghost says = { read_says };
 
-    fn ask(&self, alloc: Global) -> Result<Query, AllocError> {
-        Ok(Query::Act(self.item.first_key(alloc, self.home)?, Act::Look))
+    fn ask(&self, alloc: Global) -> Result<Apart<Query>, AllocError> {
+        Query::look(alloc, self.item.first_key(alloc, self.home)?)
     }
 
     fn told(&mut self, alloc: Global, heard: Heard<'_>) -> Result<ReadSays, AllocError> {

@@ -4,7 +4,7 @@ ghost use Rattle.beldi_daal.specs.Walk.{first_walk, first_key};
 
 use crate::cell::{CellOp, WriteAt, WriteGoes, cell_key, shadow_key, write_query, write_told};
 use beldi_row::{Note, RowKey, copy_owner};
-use beldi_value::{Owner, Place, Str, TxId};
+use beldi_value::{Apart, Owner, Place, Str, TxId};
 use beldi_walk::{Heard, Query, Walk};
 use std::alloc::{AllocError, Global};
 
@@ -67,7 +67,7 @@ impl Walk for WriteWalk {
 
     ghost says = { walk_says };
 
-    fn ask(&self, alloc: Global) -> Result<Query, AllocError> {
+    fn ask(&self, alloc: Global) -> Result<Apart<Query>, AllocError> {
         let key = self.item.first_key(alloc, self.home)?;
         let place = self.place.copy(alloc)?;
         let who = copy_owner(&self.who, alloc)?;

@@ -5,7 +5,7 @@ ghost use Rattle.beldi_walk.specs.Walk.{Answered};
 ghost use Rattle.beldi_intent.specs.Intent.{intent_key as key_of, root_key as root_key_of, issue_asks, bind_asks, register_asks, look_asks, end_asks, stamp_asks, is_added, is_did, put_of, binding_of, intent_of, intent_in, read_as, open_body as open_body_of};
 
 use beldi_row::{Act, Body, IntentRow, Kind, Row, RowKey, Said, Table, TableErr};
-use beldi_value::{IntentId, Outcome, Value};
+use beldi_value::{Apart, IntentId, Outcome, Value};
 use beldi_walk::{Heard, Query};
 use std::alloc::{AllocError, Global};
 
@@ -50,10 +50,10 @@ pub fn root_key(alloc: Global, ticket: u32) -> RowKey
 }
 
 /// Asks for the row of a ticket's root to be added.
-pub fn issue_query(alloc: Global, ticket: u32) -> Query
-    ensures { result ≡ issue_asks ticket }
+pub fn issue_query(alloc: Global, ticket: u32) -> Result<Apart<Query>, AllocError>
+    ensures { IfOk result (λ q. q ≡ issue_asks ticket) }
 {
-    Query::Act(root_key(alloc, ticket), Act::Issue)
+    Query::act(alloc, root_key(alloc, ticket), Act::Issue)
 }
 
 /// Whether it was added: a row that is there stays as it is.
@@ -64,10 +64,15 @@ pub fn issue_told(heard: Heard<'_>) -> bool
 }
 
 /// Asks for the root of a ticket to be bound to a function and arguments, once.
-pub fn bind_query(alloc: Global, ticket: u32, func: u16, args: Value) -> Query
-    ensures { result ≡ bind_asks ticket func args }
+pub fn bind_query(
+    alloc: Global,
+    ticket: u32,
+    func: u16,
+    args: Value,
+) -> Result<Apart<Query>, AllocError>
+    ensures { IfOk result (λ q. q ≡ bind_asks ticket func args) }
 {
-    Query::Act(root_key(alloc, ticket), Act::Bind { func, args })
+    Query::act(alloc, root_key(alloc, ticket), Act::Bind { func, args })
 }
 
 /// What the bind came to. Out of memory only for what was lent.
@@ -116,17 +121,17 @@ fn put_told(heard: Heard<'_>) -> Put
 }
 
 /// Asks for the row of a callee to be added, with what it is to do. It stands in the home of its function.
-pub fn register_query(id: IntentId, body: Body) -> Query
-    ensures { result ≡ register_asks id body }
+pub fn register_query(alloc: Global, id: IntentId, body: Body) -> Result<Apart<Query>, AllocError>
+    ensures { IfOk result (λ q. q ≡ register_asks id body) }
 {
-    Query::Act(intent_key(id, body.func), Act::Register { body })
+    Query::act(alloc, intent_key(id, body.func), Act::Register { body })
 }
 
 /// Asks for the finish of an intent to be set, once.
-pub fn stamp_query(id: IntentId, func: u16) -> Query
-    ensures { result ≡ stamp_asks id func }
+pub fn stamp_query(alloc: Global, id: IntentId, func: u16) -> Result<Apart<Query>, AllocError>
+    ensures { IfOk result (λ q. q ≡ stamp_asks id func) }
 {
-    Query::Act(intent_key(id, func), Act::Stamp)
+    Query::act(alloc, intent_key(id, func), Act::Stamp)
 }
 
 fn read(alloc: Global, row: &Row) -> Result<IntentRow, AllocError>

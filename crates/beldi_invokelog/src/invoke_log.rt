@@ -5,7 +5,7 @@ ghost use Rattle.beldi_walk.specs.Walk.{Answered};
 ghost use Rattle.beldi_invokelog.specs.InvokeLog.{invoke_key as key_of, call_in, invoked as invoked_by, open_asks, result_asks, back_asks, registered_asks, invoked_of, result_of, back_of};
 
 use beldi_row::{Act, InvokeRow, Kind, Row, RowKey, Said, Table, TableErr};
-use beldi_value::{Outcome, Place};
+use beldi_value::{Apart, Outcome, Place};
 use beldi_walk::{Heard, Query};
 use std::alloc::{AllocError, Global};
 
@@ -41,24 +41,29 @@ pub fn invoke_key(home: u16, at: Place) -> RowKey
 }
 
 /// Asks for the call of a function to be put at a place, once.
-pub fn open_query(home: u16, at: Place, func: u16) -> Query
-    ensures { result ≡ open_asks home at func }
+pub fn open_query(
+    alloc: Global,
+    home: u16,
+    at: Place,
+    func: u16,
+) -> Result<Apart<Query>, AllocError>
+    ensures { IfOk result (λ q. q ≡ open_asks home at func) }
 {
-    Query::Act(invoke_key(home, at), Act::OpenInvoke { func })
+    Query::act(alloc, invoke_key(home, at), Act::OpenInvoke { func })
 }
 
 /// Asks for the call of a place.
-pub fn result_query(home: u16, at: Place) -> Query
-    ensures { result ≡ result_asks home at }
+pub fn result_query(alloc: Global, home: u16, at: Place) -> Result<Apart<Query>, AllocError>
+    ensures { IfOk result (λ q. q ≡ result_asks home at) }
 {
-    Query::Act(invoke_key(home, at), Act::Look)
+    Query::look(alloc, invoke_key(home, at))
 }
 
 /// Asks for a call to be marked as registered, once.
-pub fn registered_query(home: u16, at: Place) -> Query
-    ensures { result ≡ registered_asks home at }
+pub fn registered_query(alloc: Global, home: u16, at: Place) -> Result<Apart<Query>, AllocError>
+    ensures { IfOk result (λ q. q ≡ registered_asks home at) }
 {
-    Query::Act(invoke_key(home, at), Act::NoteRegistered)
+    Query::act(alloc, invoke_key(home, at), Act::NoteRegistered)
 }
 
 // What a call gave back, again.

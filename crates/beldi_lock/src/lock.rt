@@ -5,7 +5,7 @@ ghost use Rattle.beldi_lock.specs.Lock.{lock_first, lockset_key as lockset_key_o
 
 use beldi_daal::{CellOp, WriteAt, WriteGoes, cell_key, write_query, write_told};
 use beldi_row::{Act, Kind, Note, RowKey, Said};
-use beldi_value::{IntentId, Owner, Place, Str};
+use beldi_value::{Apart, IntentId, Owner, Place, Str};
 use beldi_walk::{Heard, Query};
 use std::alloc::{AllocError, Global};
 
@@ -68,13 +68,13 @@ pub fn lock_query(
     place: Place,
     who: Owner,
     at: LockAt,
-) -> Result<Query, AllocError>
+) -> Result<Apart<Query>, AllocError>
     ensures { IfOk result (λ q. q ≡ asks_at home table key.now place who at) }
 {
     match at {
         LockAt::Lockset(begin) => {
             let row = lockset_key(home, place.intent, begin, table, key.copy(alloc)?);
-            Ok(Query::Act(row, Act::PutLockset))
+            Query::act(alloc, row, Act::PutLockset)
         }
         LockAt::Item(at) => {
             let row = cell_key(alloc, home, table, key)?;

@@ -4,7 +4,7 @@ ghost use Rattle.beldi_lock.specs.Lock.{first_lock};
 
 use crate::lock::{LockAt, LockGoes, lock_query, lock_told};
 use beldi_row::copy_owner;
-use beldi_value::{IntentId, Owner, Place, Str};
+use beldi_value::{Apart, IntentId, Owner, Place, Str};
 use beldi_walk::{Heard, Query, Walk};
 use std::alloc::{AllocError, Global};
 
@@ -46,7 +46,7 @@ impl Walk for LockWalk {
 
     ghost says = { lock_says };
 
-    fn ask(&self, alloc: Global) -> Result<Query, AllocError> {
+    fn ask(&self, alloc: Global) -> Result<Apart<Query>, AllocError> {
         let place = self.place.copy(alloc)?;
         let who = copy_owner(&self.who, alloc)?;
         lock_query(alloc, self.home, self.table, &self.key, place, who, self.at)

@@ -8,7 +8,7 @@ ghost use Rattle.beldi_lock.specs.Lockset.{lockset_after, lockset_asks, lockset_
 use crate::before::id_before;
 use crate::lock::lockset_key;
 use beldi_row::{Kind, RowKey, Table, TableErr};
-use beldi_value::{IntentId, Str};
+use beldi_value::{Apart, IntentId, Str};
 use beldi_walk::{Heard, Query};
 use std::alloc::{AllocError, Global};
 
@@ -55,10 +55,10 @@ pub fn lockset_query(
     id: &IntentId,
     begin: u32,
     after: Option<(u16, &Str)>,
-) -> Result<Query, AllocError>
+) -> Result<Apart<Query>, AllocError>
     ensures { IfOk result (λ q. q ≡ lockset_asks home id.now begin (item_lent after.entry)) }
 {
-    Ok(Query::After(after_key(alloc, home, id, begin, after)?))
+    Query::after(alloc, after_key(alloc, home, id, begin, after)?)
 }
 
 /// The item of the row that was found; None where no row was, or it is of no lock that this intent asked for in this transaction.

@@ -5,7 +5,7 @@ ghost use Rattle.beldi_walk.specs.Walk.{Answered};
 ghost use Rattle.beldi_readlog.specs.ReadLog.{log_key as key_of, given_asks, given_of, keep_asks, kept_of, kept_so};
 
 use beldi_row::{Act, Kind, Row, RowKey, Said, Table, TableErr};
-use beldi_value::{Place, Value};
+use beldi_value::{Apart, Place, Value};
 use beldi_walk::{Heard, Query, Walk};
 use std::alloc::{AllocError, Global};
 
@@ -76,8 +76,8 @@ impl Walk for Given {
 
     ghost says = { look_says };
 
-    fn ask(&self, alloc: Global) -> Result<Query, AllocError> {
-        Ok(Query::Act(log_key(self.home, self.at.copy(alloc)?), Act::Look))
+    fn ask(&self, alloc: Global) -> Result<Apart<Query>, AllocError> {
+        Query::look(alloc, log_key(self.home, self.at.copy(alloc)?))
     }
 
     fn told(&mut self, alloc: Global, heard: Heard<'_>) -> Result<Option<Value>, AllocError> {
@@ -123,13 +123,10 @@ impl Walk for Keep {
 
     ghost says = { put_says };
 
-    fn ask(&self, alloc: Global) -> Result<Query, AllocError> {
-        Ok(Query::Act(
-            log_key(self.home, self.at.copy(alloc)?),
-            Act::PutRead {
-                value: self.value.copy(alloc)?,
-            },
-        ))
+    fn ask(&self, alloc: Global) -> Result<Apart<Query>, AllocError> {
+        let key = log_key(self.home, self.at.copy(alloc)?);
+        let value = self.value.copy(alloc)?;
+        Query::act(alloc, key, Act::PutRead { value })
     }
 
     fn told(&mut self, alloc: Global, heard: Heard<'_>) -> Result<Option<Value>, AllocError> {

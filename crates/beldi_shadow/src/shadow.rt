@@ -4,7 +4,7 @@ ghost use Rattle.beldi_shadow.specs.Shadow.{first_read, first_write, read_so as 
 
 use beldi_daal::{CellOp, Item, ReadSays, ReadWalk, WriteSays, WriteWalk};
 use beldi_row::{Note, copy_tx};
-use beldi_value::{Owner, Place, Str, TxId, Value};
+use beldi_value::{Apart, Owner, Place, Str, TxId, Value};
 use beldi_walk::{Heard, Query, Walk};
 use std::alloc::{AllocError, Global};
 
@@ -50,7 +50,7 @@ impl Walk for ShadowRead {
 
     ghost says = { read_says };
 
-    fn ask(&self, alloc: Global) -> Result<Query, AllocError> {
+    fn ask(&self, alloc: Global) -> Result<Apart<Query>, AllocError> {
         self.walk.ask(alloc)
     }
 
@@ -108,7 +108,7 @@ impl Walk for ShadowWrite {
 
     ghost says = { write_says };
 
-    fn ask(&self, alloc: Global) -> Result<Query, AllocError> {
+    fn ask(&self, alloc: Global) -> Result<Apart<Query>, AllocError> {
         self.walk.ask(alloc)
     }
 

@@ -79,7 +79,7 @@ pub(crate) fn async_here(
     step: u32,
     effect: &Effect,
     at: AsyncAt,
-) -> Result<Query, AllocError>
+) -> Result<Apart<Query>, AllocError>
     ensures { IfOk result (λ q. q ≡ async_here_asks id.now func step effect.now at) }
 {
     let Effect::Async { func: callee, args } = effect else {
@@ -99,11 +99,11 @@ pub(crate) fn tell_query(
     id: &IntentId,
     func: u16,
     caller: &Option<Caller>,
-) -> Result<Query, AllocError>
+) -> Result<Apart<Query>, AllocError>
     ensures { IfOk result (λ q. q ≡ tell_asks id.now func caller.now) }
 {
     match caller {
-        Some(caller) => Ok(registered_query(caller.func, caller.place.copy(alloc)?)),
+        Some(caller) => registered_query(alloc, caller.func, caller.place.copy(alloc)?),
         None => look(alloc, id, func),
     }
 }
@@ -115,14 +115,14 @@ pub(crate) fn back_query(
     func: u16,
     caller: &Option<Caller>,
     effect: &Effect,
-) -> Result<Query, AllocError>
+) -> Result<Apart<Query>, AllocError>
     ensures { IfOk result (λ q. q ≡ back_to_asks id.now func caller.now effect.now) }
 {
     match (caller, effect) {
         (Some(caller), Effect::Return(outcome)) => {
             let key = invoke_key(caller.func, caller.place.copy(alloc)?);
             let outcome = outcome.copy(alloc)?;
-            Ok(Query::Act(key, Act::CallBack { outcome }))
+            Query::act(alloc, key, Act::CallBack { outcome })
         }
         _ => look(alloc, id, func),
     }
@@ -135,7 +135,7 @@ pub(crate) fn close_query(
     func: u16,
     tx: &Option<RunTx>,
     effect: &Effect,
-) -> Result<Query, AllocError>
+) -> Result<Apart<Query>, AllocError>
     ensures { IfOk result (λ q. q ≡ close_asks id.now func tx.now effect.now) }
 {
     let Effect::Return(outcome) = effect else {
@@ -144,7 +144,7 @@ pub(crate) fn close_query(
     let key = intent_key(id.copy(alloc)?, func);
     let outcome = outcome.copy(alloc)?;
     let stamp = !is_inherited(tx);
-    Ok(Query::Act(key, Act::End { outcome, stamp }))
+    Query::act(alloc, key, Act::End { outcome, stamp })
 }
 
 // A call that is out of memory made nothing either.

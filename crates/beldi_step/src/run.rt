@@ -233,10 +233,10 @@ fn own_body(func: u16, body: Body) -> Option<Body>
 }
 
 // Asks for the row of an intent with this body.
-fn register(alloc: Global, id: &IntentId, body: &Body) -> Result<Query, AllocError>
+fn register(alloc: Global, id: &IntentId, body: &Body) -> Result<Apart<Query>, AllocError>
     ensures { IfOk result (λ q. q ≡ register_asks id.now body.now) }
 {
-    Ok(register_query(id.copy(alloc)?, body.copy(alloc)?))
+    register_query(alloc, id.copy(alloc)?, body.copy(alloc)?)
 }
 
 // The body that a run registered.
@@ -360,7 +360,7 @@ impl Begun {
 
 impl Run {
     /// What the run asks in its next turn.
-    pub fn ask(&self, alloc: Global) -> Result<Query, AllocError>
+    pub fn ask(&self, alloc: Global) -> Result<Apart<Query>, AllocError>
         ensures { IfOk result (λ q. q ≡ run_asks self.now) }
     {
         match &self.at {

@@ -45,10 +45,10 @@ pub(crate) fn place_of(alloc: Global, id: &IntentId, step: u32) -> Result<Place,
     })
 }
 
-pub(crate) fn look(alloc: Global, id: &IntentId, func: u16) -> Result<Query, AllocError>
+pub(crate) fn look(alloc: Global, id: &IntentId, func: u16) -> Result<Apart<Query>, AllocError>
     ensures { IfOk result (λ q. q ≡ look_asks id.now func) }
 {
-    Ok(Query::Act(intent_key(id.copy(alloc)?, func), Act::Look))
+    Query::look(alloc, intent_key(id.copy(alloc)?, func))
 }
 
 // The note that its act leaves where it says that it was done.
@@ -88,7 +88,7 @@ fn put_here(
     step: u32,
     effect: &Effect,
     at: WriteAt,
-) -> Result<Query, AllocError>
+) -> Result<Apart<Query>, AllocError>
     ensures { IfOk result (λ q. q ≡ put_asks id.now func step at (cell_op effect.now)) }
 {
     match effect {
@@ -132,7 +132,7 @@ fn put_query(
     key: &Str,
     op: CellOp,
     at: WriteAt,
-) -> Result<Query, AllocError>
+) -> Result<Apart<Query>, AllocError>
     ensures { IfOk result (λ q. q ≡ put_asks id.now func step at (Some (record { table = table; key = key.now; op = op }))) }
 {
     let row = cell_key(alloc, func, table, key)?;
@@ -142,10 +142,10 @@ fn put_query(
 }
 
 // A read asks for the value that was kept for it.
-fn ask_query(alloc: Global, id: &IntentId, func: u16, step: u32) -> Result<Query, AllocError>
+fn ask_query(alloc: Global, id: &IntentId, func: u16, step: u32) -> Result<Apart<Query>, AllocError>
     ensures { IfOk result (λ q. q ≡ queries.Act (log_key_of func (place_at id.now step)) acts.Look) }
 {
-    Ok(Query::Act(log_key(func, place_of(alloc, id, step)?), Act::Look))
+    Query::look(alloc, log_key(func, place_of(alloc, id, step)?))
 }
 
 // A read keeps this value.
@@ -155,19 +155,19 @@ fn keep_query(
     func: u16,
     step: u32,
     value: &Value,
-) -> Result<Query, AllocError>
+) -> Result<Apart<Query>, AllocError>
     ensures { IfOk result (λ q. q ≡ queries.Act (log_key_of func (place_at id.now step)) (acts.PutRead value.now)) }
 {
     let place = place_of(alloc, id, step)?;
     let value = value.copy(alloc)?;
-    Ok(Query::Act(log_key(func, place), Act::PutRead { value }))
+    Query::act(alloc, log_key(func, place), Act::PutRead { value })
 }
 
 // A read looks at its item.
-fn item_query(alloc: Global, func: u16, table: u16, key: &Str) -> Result<Query, AllocError>
+fn item_query(alloc: Global, func: u16, table: u16, key: &Str) -> Result<Apart<Query>, AllocError>
     ensures { IfOk result (λ q. q ≡ queries.Act (cell_key_of func table key.now) acts.Look) }
 {
-    Ok(Query::Act(cell_key(alloc, func, table, key)?, Act::Look))
+    Query::look(alloc, cell_key(alloc, func, table, key)?)
 }
 
 fn call_here(
@@ -177,10 +177,10 @@ fn call_here(
     step: u32,
     callee: u16,
     at: CallAt,
-) -> Result<Query, AllocError>
+) -> Result<Apart<Query>, AllocError>
     ensures { IfOk result (λ q. q ≡ call_asks func (place_at id.now step) callee at) }
 {
-    Ok(call_query(func, place_of(alloc, id, step)?, callee, at))
+    call_query(alloc, func, place_of(alloc, id, step)?, callee, at)
 }
 
 // What a stage asks. The table takes the key and the act, so what they have of the effect is copied; the machine keeps it.
@@ -189,7 +189,7 @@ pub(crate) fn stage_query(
     id: &IntentId,
     func: u16,
     begun: &Begun,
-) -> Result<Query, AllocError>
+) -> Result<Apart<Query>, AllocError>
     ensures { IfOk result (λ q. q ≡ stage_asks id.now func begun.now.caller begun.now.tx begun.now.machine.steps begun.now.machine.effect begun.now.stage) }
 {
     let step = begun.machine.steps();

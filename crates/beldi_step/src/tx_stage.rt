@@ -53,7 +53,7 @@ pub(crate) fn tx_here(
     effect: &Effect,
     at: &TxAt,
     tx: &Option<RunTx>,
-) -> Result<Query, AllocError>
+) -> Result<Apart<Query>, AllocError>
     ensures { IfOk result (λ q. q ≡ tx_here_asks id.now func step effect.now at.now tx.now) }
 {
     match tx {
@@ -75,7 +75,7 @@ pub(crate) fn decide_here(
     func: u16,
     effect: &Effect,
     tx: &Option<RunTx>,
-) -> Result<Query, AllocError>
+) -> Result<Apart<Query>, AllocError>
     ensures { (step : ℕ) → IfOk result (λ q. q ≡ end_here_asks id.now func step effect.now first_visit tx.now) }
 {
     match (effect, tx) {
@@ -95,7 +95,7 @@ pub(crate) fn end_here(
     effect: &Effect,
     visit: &Visit,
     tx: &Option<RunTx>,
-) -> Result<Query, AllocError>
+) -> Result<Apart<Query>, AllocError>
     ensures { IfOk result (λ q. q ≡ end_here_asks id.now func step effect.now visit.now tx.now) }
 {
     match (effect, tx) {

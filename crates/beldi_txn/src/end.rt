@@ -18,7 +18,7 @@ use beldi_intent::stamp_query;
 use beldi_lock::{lockset_query, lockset_told};
 use beldi_readlog::log_key;
 use beldi_row::{Act, Note, Said, copy_tx};
-use beldi_value::{IntentId, Owner, Place, Str, TxId, Value};
+use beldi_value::{Apart, IntentId, Owner, Place, Str, TxId, Value};
 use beldi_walk::{Heard, Query};
 use std::alloc::{AllocError, Global};
 
@@ -202,7 +202,7 @@ pub fn end_query(
     end: u32,
     commit: bool,
     visit: &Visit,
-) -> Result<Query, AllocError>
+) -> Result<Apart<Query>, AllocError>
     ensures { IfOk result (λ q. q ≡ visit_asks tx.now end commit visit.now.way visit.now.after visit.now.item visit.now.value visit.now.at) }
 {
     let way = &visit.way;
@@ -217,7 +217,7 @@ pub fn end_query(
 }
 
 /// What the end of a transaction asks for first: that its decision is kept.
-pub fn decide_query(alloc: Global, tx: &TxId, commit: bool) -> Result<Query, AllocError>
+pub fn decide_query(alloc: Global, tx: &TxId, commit: bool) -> Result<Apart<Query>, AllocError>
     ensures { IfOk result (λ q. q ≡ keep_asks tx.now.func (begin_place tx.now) (value.Bool commit)) }
 {
     let place = Place {
@@ -225,10 +225,15 @@ pub fn decide_query(alloc: Global, tx: &TxId, commit: bool) -> Result<Query, All
         step: tx.begin,
     };
     let value = Value::Bool(commit);
-    Ok(Query::Act(log_key(tx.func, place), Act::PutRead { value }))
+    Query::act(alloc, log_key(tx.func, place), Act::PutRead { value })
 }
 
-fn calls_query(alloc: Global, tx: &TxId, way: &Way, after: Option<u32>) -> Result<Query, AllocError>
+fn calls_query(
+    alloc: Global,
+    tx: &TxId,
+    way: &Way,
+    after: Option<u32>,
+) -> Result<Apart<Query>, AllocError>
     ensures { IfOk result (λ q. q ≡ visit_asks tx.now 0 true way.now after None None EndAt.Callees) }
 {
     let (id, func) = way.member(alloc, tx)?;
@@ -240,7 +245,7 @@ fn locks_query(
     tx: &TxId,
     way: &Way,
     item: Option<(u16, &Str)>,
-) -> Result<Query, AllocError>
+) -> Result<Apart<Query>, AllocError>
     ensures { IfOk result (λ q. q ≡ visit_asks tx.now 0 true way.now None (item_lent item.entry) None EndAt.Next) }
 {
     let (id, func) = way.member(alloc, tx)?;
@@ -252,14 +257,13 @@ fn look_query(
     tx: &TxId,
     way: &Way,
     item: Option<(u16, &Str)>,
-) -> Result<Query, AllocError>
+) -> Result<Apart<Query>, AllocError>
     ensures { IfOk result (λ q. q ≡ shadow_asks tx.now (visited_by tx.now way.now) (item_lent item.entry)) }
 {
     match item {
-        Some((table, key)) => Ok(Query::Act(
-            shadow_key(alloc, way.func(tx), tx, table, key)?,
-            Act::Look,
-        )),
+        Some((table, key)) => {
+            Query::look(alloc, shadow_key(alloc, way.func(tx), tx, table, key)?)
+        }
         None => locks_query(alloc, tx, way, None),
     }
 }
@@ -272,7 +276,7 @@ fn free_query(
     item: Option<(u16, &Str)>,
     value: &Option<Value>,
     at: WriteAt,
-) -> Result<Query, AllocError>
+) -> Result<Apart<Query>, AllocError>
     ensures { IfOk result (λ q. q ≡ free_asks tx.now (visited_by tx.now way.now) (freed_at tx.now end way.now) value.now at (item_lent item.entry)) }
 {
     match item {
@@ -296,11 +300,11 @@ fn free_place(alloc: Global, tx: &TxId, end: u32, way: &Way) -> Result<Place, Al
     Ok(Place { intent, step })
 }
 
-fn finish_query(alloc: Global, tx: &TxId, way: &Way) -> Result<Query, AllocError>
+fn finish_query(alloc: Global, tx: &TxId, way: &Way) -> Result<Apart<Query>, AllocError>
     ensures { IfOk result (λ q. q ≡ visit_asks tx.now 0 true way.now None None None EndAt.Stamp) }
 {
     let (id, func) = way.member(alloc, tx)?;
-    Ok(stamp_query(id, func))
+    stamp_query(alloc, id, func)
 }
 
 fn copy_of(alloc: Global, value: &Option<Value>) -> Result<Option<Value>, AllocError>

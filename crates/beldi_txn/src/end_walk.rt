@@ -3,7 +3,7 @@ ghost use Rattle.std.specs.Prelude.{◌≡◌};
 ghost use Rattle.beldi_txn.specs.End.{first_end};
 
 use crate::end::{EndSays, Visit, end_query, end_told};
-use beldi_value::TxId;
+use beldi_value::{Apart, TxId};
 use beldi_walk::{Heard, Query, Walk};
 use std::alloc::{AllocError, Global};
 
@@ -29,7 +29,7 @@ impl Walk for EndWalk {
 
     ghost says = { walk_says };
 
-    fn ask(&self, alloc: Global) -> Result<Query, AllocError> {
+    fn ask(&self, alloc: Global) -> Result<Apart<Query>, AllocError> {
         end_query(alloc, &self.tx, self.end, self.commit, &self.visit)
     }
 

@@ -7,7 +7,7 @@ use crate::way::Called;
 use beldi_invokelog::invoke_key;
 use beldi_lock::id_before;
 use beldi_row::{Kind, Row, RowKey};
-use beldi_value::{IntentId, Place};
+use beldi_value::{Apart, IntentId, Place};
 use beldi_walk::{Heard, Query};
 use std::alloc::{AllocError, Global};
 
@@ -37,10 +37,10 @@ pub fn invokes_query(
     home: u16,
     id: IntentId,
     after: Option<u32>,
-) -> Result<Query, AllocError>
+) -> Result<Apart<Query>, AllocError>
     ensures { IfOk result (λ q. q ≡ invokes_asks home id after) }
 {
-    Ok(Query::After(after_key(alloc, home, id, after)?))
+    Query::after(alloc, after_key(alloc, home, id, after)?)
 }
 
 /// The call of the row that was found; None where no row was, or it is of no call of this intent.

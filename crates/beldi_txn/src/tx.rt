@@ -168,12 +168,12 @@ pub fn tx_query(
     tx: &TxId,
     effect: &Effect,
     at: &TxAt,
-) -> Result<Query, AllocError>
+) -> Result<Apart<Query>, AllocError>
     ensures { IfOk result (λ q. q ≡ tx_asks home place tx.now effect.now at.now) }
 {
     match item_of(effect) {
         Some((table, key)) => item_query(alloc, home, place, tx, effect, at, table, key),
-        None => Ok(Query::Act(log_key(home, place), Act::Look)),
+        None => Query::look(alloc, log_key(home, place)),
     }
 }
 
@@ -186,25 +186,25 @@ fn item_query(
     at: &TxAt,
     table: u16,
     key: &Str,
-) -> Result<Query, AllocError>
+) -> Result<Apart<Query>, AllocError>
     ensures { IfOk result (λ q. q ≡ item_asks home place tx.now effect.now table key.now at.now) }
 {
     match at {
-        TxAt::Log => Ok(Query::Act(log_key(home, place), Act::Look)),
+        TxAt::Log => Query::look(alloc, log_key(home, place)),
         TxAt::Lock(at) => {
             let who = Owner::Tx(copy_tx(tx, alloc)?);
             lock_query(alloc, home, table, key, place, who, *at)
         }
-        TxAt::Shadow => Ok(Query::Act(shadow_key(alloc, home, tx, table, key)?, Act::Look)),
-        TxAt::Item => Ok(Query::Act(cell_key(alloc, home, table, key)?, Act::Look)),
+        TxAt::Shadow => Query::look(alloc, shadow_key(alloc, home, tx, table, key)?),
+        TxAt::Item => Query::look(alloc, cell_key(alloc, home, table, key)?),
         TxAt::Keep(value) => {
             let value = value.copy(alloc)?;
-            Ok(Query::Act(log_key(home, place), Act::PutRead { value }))
+            Query::act(alloc, log_key(home, place), Act::PutRead { value })
         }
         TxAt::Head(value) => {
             let row = shadow_key(alloc, home, tx, table, key)?;
             let value = value.copy(alloc)?;
-            Ok(Query::Act(row, Act::MakeCell { value, owner: None }))
+            Query::act(alloc, row, Act::MakeCell { value, owner: None })
         }
         TxAt::Write(at) => {
             let row = shadow_key(alloc, home, tx, table, key)?;
@@ -222,7 +222,7 @@ fn aside_query(
     effect: &Effect,
     row: RowKey,
     at: WriteAt,
-) -> Result<Query, AllocError>
+) -> Result<Apart<Query>, AllocError>
     ensures { IfOk result (λ q. q ≡ aside_asks home place tx.now row at (op_of effect.now)) }
 {
     match operation(alloc, effect)? {
@@ -230,7 +230,7 @@ fn aside_query(
             let who = Owner::Tx(copy_tx(tx, alloc)?);
             write_query(alloc, row, place, who, op, at)
         }
-        None => Ok(Query::Act(log_key(home, place), Act::Look)),
+        None => Query::look(alloc, log_key(home, place)),
     }
 }
 

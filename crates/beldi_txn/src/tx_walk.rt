@@ -5,7 +5,7 @@ ghost use Rattle.beldi_txn.specs.TxWalk.{first_tx};
 
 use crate::tx::{TxAt, TxSays, tx_query, tx_told};
 use beldi_lang::Effect;
-use beldi_value::{Place, TxId};
+use beldi_value::{Apart, Place, TxId};
 use beldi_walk::{Heard, Query, Walk};
 use std::alloc::{AllocError, Global};
 
@@ -32,7 +32,7 @@ impl Walk for TxWalk {
 
     ghost says = { walk_says };
 
-    fn ask(&self, alloc: Global) -> Result<Query, AllocError> {
+    fn ask(&self, alloc: Global) -> Result<Apart<Query>, AllocError> {
         let place = self.place.copy(alloc)?;
         tx_query(alloc, self.home, place, &self.tx, &self.effect, &self.at)
     }

@@ -6,6 +6,7 @@ ghost use Rattle.beldi_walk.specs.declared.query.Query as query_data;
 
 use crate::query::{Heard, Query};
 use beldi_row::{Table, TableErr};
+use beldi_value::Apart;
 use std::alloc::{AllocError, Global};
 
 /// A machine that asks one thing a turn. It touches no table but in `turn`, which is the same for all.
@@ -23,7 +24,7 @@ pub trait Walk {
     ghost says: { Self → Told → Self.Says };
 
     /// What it asks in its next turn.
-    fn ask(&self, alloc: Global) -> Result<Query, AllocError>
+    fn ask(&self, alloc: Global) -> Result<Apart<Query>, AllocError>
         ensures { IfOk result (λ q. q ≡ asks self.now) };
 
     /// Moves it. Out of memory only where what lies in a row was lent.
@@ -47,7 +48,7 @@ pub trait Walk {
             Ok(query) => query,
             Err(_) => return Err(TableErr::OutOfMemory),
         };
-        match query {
+        match query.into_inner() {
             Query::Act(key, act) => match table.act(key, act, now) {
                 Ok(said) => match self.told(alloc, Heard::Said(said)) {
                     Ok(says) => Ok(says),
