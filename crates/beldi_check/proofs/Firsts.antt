@@ -7,7 +7,7 @@ use Rattle.std.specs.Option.{option_or}
 use Rattle.std.specs.List.{list_any}
 use Rattle.beldi_tree.specs.declared.deployment.Func.{Func}
 use Rattle.beldi_check.specs.Site.{sites_of}
-use Rattle.beldi_check.specs.Calls.{edge, reaches, blocks}
+use Rattle.beldi_check.specs.Calls.{reaches, blocks}
 use Rattle.beldi_check.specs.declared.calls.Link.TheVariants.{Call}
 use Rattle.beldi_check.specs.declared.rules.Rule.{Rule}
 use Rattle.beldi_check.specs.Rules.{Offence, past_most, first_site, first_from, first_statement, first_offence, double_name}
@@ -44,8 +44,8 @@ any_of_map p f [] = refl
 any_of_map p f (x ∷ xs) = ap (λ b. p (f x) || b) (any_of_map p f xs)
 
 -- the functions from number n on, where the one there breaks no rule
-pub next_from : (r : Rule) (fs : List Func) (n : ℕ) (f : Func) (w : Bool) → n < length fs → f ≡ get_or fs n f → w ≡ reaches (edge Call fs) blocks n → first_site r fs f w (sites_of f.body) ≡ None → first_from r fs n (drop n fs) ≡ first_statement r fs → first_from r fs (n + 1) (drop (n + 1) fs) ≡ first_statement r fs
+pub next_from : (r : Rule) (fs : List Func) (n : ℕ) (f : Func) (w : Bool) → n < length fs → f ≡ get_or fs n f → w ≡ reaches Call fs (blocks fs) n → first_site r fs f w (sites_of f.body) ≡ None → first_from r fs n (drop n fs) ≡ first_statement r fs → first_from r fs (n + 1) (drop (n + 1) fs) ≡ first_statement r fs
 next_from r fs n f w h is v e i =
     let d : drop n fs ≡ f ∷ drop (n + 1) fs = rw add-one (drop-cons fs n f h ∙ ap (λ g. g ∷ drop (suc n) fs) (sym is)) in
-    let z : first_site r fs f (reaches (edge Call fs) blocks n) (sites_of f.body) ≡ None = subst (λ b. first_site r fs f b (sites_of f.body) ≡ None) v e in
+    let z : first_site r fs f (reaches Call fs (blocks fs) n) (sites_of f.body) ≡ None = subst (λ b. first_site r fs f b (sites_of f.body) ≡ None) v e in
     ap (λ o. option_or o (first_from r fs (n + 1) (drop (n + 1) fs))) (sym z) ∙ ap (first_from r fs n) (sym d) ∙ i

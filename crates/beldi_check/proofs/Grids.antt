@@ -1,59 +1,32 @@
 -- Cells that say of each two whether one leads to the other.
-use Rattle.std.proofs.Common.{◌≡◌, ℕ, zero, suc, ◌+◌, ◌*◌, ◌/◌, ◌%◌, ◌<◌, ◌≤◌, Bool, false, ◌||◌, ◌&&◌, List, length, refl, ap, ◌∙◌, sym, arith}
-use Rattle.std.proofs.Math.Bool.{or-false, and-false}
-use Rattle.std.proofs.lemmas.Bool.{or_from}
-use Rattle.std.proofs.lemmas.Option.{slice_get_past}
-use Rattle.beldi_tree.specs.declared.deployment.Func.{Func}
-use Rattle.beldi_check.specs.Calls.{Link, IsGrid, cell, edge, edge_to, through}
+use Rattle.std.proofs.Common.{◌≡◌, ℕ, zero, suc, ◌+◌, ◌<◌, Bool, ◌||◌, ◌&&◌, List, length, refl, subst, ◌∙◌, sym, add-one}
+use Rattle.beldi_check.specs.Calls.{IsGrid, row_at, cell, over, through}
 
-row_of : (i j : ℕ) → j < 65 → (65 * i + j) / 65 ≡ i
-row_of i j h = omega arith
+pub cell_is : (m n : ℕ) (e : ℕ → ℕ → Bool) (rows : List (List Bool)) → IsGrid m n e rows → (i j : ℕ) → i < m → j < n → cell rows i j ≡ e i j
+cell_is m n e rows g i j h k = (g.each i h).each j k
 
-column_of : (i j : ℕ) → j < 65 → (65 * i + j) % 65 ≡ j
-column_of i j h = omega arith
-
-pub cell_is : (e : ℕ → ℕ → Bool) (cells : List Bool) → IsGrid e cells → (i j : ℕ) → i < 65 → j < 65 → cell cells i j ≡ e i j
-cell_is e cells g i j h k = g.each (65 * i + j) (omega arith) ∙ ap (λ a. e a ((65 * i + j) % 65)) (row_of i j k) ∙ ap (λ b. e i b) (column_of i j k)
-
--- the number of a row is below 65 where that of the cell is below 65 * 65
-row_fits : (x : ℕ) → x < 4225 → x / 65 < 65
-row_fits x h = omega arith
-
-column_fits : (x : ℕ) → x % 65 < 65
-column_fits x = omega arith
-
-through_more : (e : ℕ → ℕ → Bool) (n i j : ℕ) → through e (suc n) i j ≡ (through e n i j || (through e n i n && through e n n j))
+at_once : (e : ℕ → ℕ → Bool) (n i j : ℕ) → through e (suc n) i j ≡ over (through e n) n i j
 unfolding through
-through_more e n i j = refl
+at_once e n i j = refl
 
-pub widens : (e : ℕ → ℕ → Bool) (n : ℕ) (old new : List Bool) → n < 65 → IsGrid (through e n) old → IsGrid (λ i j. cell old i j || (cell old i n && cell old n j)) new → IsGrid (through e (suc n)) new
-widens e n old new h g w = record {
-  all = w.all;
-  each = λ x k.
-      let i : x / 65 < 65 = row_fits x k in
-      let j : x % 65 < 65 = column_fits x in
-      let a : cell old (x / 65) (x % 65) ≡ through e n (x / 65) (x % 65) = cell_is (through e n) old g (x / 65) (x % 65) i j in
-      let b : cell old (x / 65) n ≡ through e n (x / 65) n = cell_is (through e n) old g (x / 65) n i h in
-      let c : cell old n (x % 65) ≡ through e n n (x % 65) = cell_is (through e n) old g n (x % 65) h j in
-      w.each x k ∙ ap (λ p. p || (cell old (x / 65) n && cell old n (x % 65))) a ∙ ap (λ p. through e n (x / 65) (x % 65) || (p && cell old n (x % 65))) b ∙ ap (λ p. through e n (x / 65) (x % 65) || (through e n (x / 65) n && p)) c ∙ sym (through_more e n (x / 65) (x % 65));
-}
+through_more : (e : ℕ → ℕ → Bool) (n i j : ℕ) → through e (n + 1) i j ≡ over (through e n) n i j
+through_more e n i j = rw (add-one) (at_once e n i j)
 
-pub begins : (e : ℕ → ℕ → Bool) (cells : List Bool) → IsGrid e cells → IsGrid (through e zero) cells
+pub widens : (m n : ℕ) (e : ℕ → ℕ → Bool) (h : ℕ) (old new : List (List Bool)) → h < m → h < n → IsGrid m n (through e h) old → IsGrid (length old) (length (row_at old h)) (over (cell old) h) new → IsGrid m n (through e (h + 1)) new
+widens m n e h old new row column g v =
+    let w : IsGrid m n (over (cell old) h) new = subst (λ k. IsGrid k n (over (cell old) h) new) g.all (subst (λ k. IsGrid (length old) k (over (cell old) h) new) (g.each h row).all v) in
+    record {
+      all = w.all;
+      each = λ i x. record {
+        all = (w.each i x).all;
+        each = λ j y.
+            let a = cell_is m n (through e h) old g i j x y in
+            let b = cell_is m n (through e h) old g i h x column in
+            let c = cell_is m n (through e h) old g h j row y in
+            (w.each i x).each j y ∙ (λ z. a z || (b z && c z)) ∙ sym (through_more e h i j);
+      };
+    }
+
+pub begins : (m n : ℕ) (e : ℕ → ℕ → Bool) (rows : List (List Bool)) → IsGrid m n e rows → IsGrid m n (through e zero) rows
 unfolding through
-begins e cells g = g
-
--- what is no function is led to by nothing
-unled : (k : Link) (fs : List Func) (m i n : ℕ) → length fs ≤ n → through (edge k fs) m i n ≡ false
-unfolding through
-unled k fs zero i n h = ap (edge_to k fs i) (slice_get_past fs n h)
-unled k fs (suc m) i n h = or_from (through (edge k fs) m i n) (through (edge k fs) m i m && through (edge k fs) m m n) (unled k fs m i n h) (ap (λ b. through (edge k fs) m i m && b) (unled k fs m m n h) ∙ and-false (through (edge k fs) m i m))
-
--- so nothing leads over it
-pub stays : (k : Link) (fs : List Func) (n : ℕ) (cells : List Bool) → length fs ≤ n → IsGrid (through (edge k fs) n) cells → IsGrid (through (edge k fs) (suc n)) cells
-stays k fs n cells h g = record {
-  all = g.all;
-  each = λ x w.
-      let i = x / 65 in
-      let j = x % 65 in
-      g.each x w ∙ sym (through_more (edge k fs) n i j ∙ ap (λ b. through (edge k fs) n i j || (b && through (edge k fs) n n j)) (unled k fs n i n h) ∙ or-false (through (edge k fs) n i j));
-}
+begins m n e rows g = g

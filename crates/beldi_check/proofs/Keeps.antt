@@ -9,7 +9,7 @@ use Rattle.beldi_tree.specs.declared.deployment.Func.{Func}
 use Rattle.beldi_tree.specs.declared.deployment.TableHead.{TableHead}
 use Rattle.beldi_tree.specs.Bindings.{is_name}
 use Rattle.beldi_check.specs.Site.{Spot, sites_of, line_at}
-use Rattle.beldi_check.specs.Calls.{edge, reaches, blocks}
+use Rattle.beldi_check.specs.Calls.{reaches, blocks}
 use Rattle.beldi_check.specs.declared.calls.Link.TheVariants.{Call, Start}
 use Rattle.beldi_check.specs.declared.rules.Rule.{Rule}
 use Rattle.beldi_check.specs.declared.rules.Rule.TheVariants as rule
@@ -104,14 +104,14 @@ site_keeps r fs f w (u ∷ ss) zero s e at =
     subst (λ v. named r fs f w v ≡ None) same (map_none (λ n. (line_at u.1, why_of r n)) (named r fs f w u) (neither_left _ (first_site r fs f w ss) e))
 site_keeps r fs f w (u ∷ ss) (suc k) s e at = site_keeps r fs f w ss k s (neither_right (option_map (λ n. (line_at u.1, why_of r n)) (named r fs f w u)) _ e) at
 
-function_keeps : (r : Rule) (fs gs : List Func) (m n k : ℕ) (f : Func) → first_from r fs m gs ≡ None → slice_get gs k ≡ Some f → n ≡ m + k → first_site r fs f (reaches (edge Call fs) blocks n) (sites_of f.body) ≡ None
+function_keeps : (r : Rule) (fs gs : List Func) (m n k : ℕ) (f : Func) → first_from r fs m gs ≡ None → slice_get gs k ≡ Some f → n ≡ m + k → first_site r fs f (reaches Call fs (blocks fs) n) (sites_of f.body) ≡ None
 function_keeps r fs [] m n k f e at is = absurd (cc)
 function_keeps r fs (g ∷ gs) m n zero f e at is =
     let same : g ≡ f = cc in
     let here : m ≡ n = omega arith in
-    subst (λ i. first_site r fs f (reaches (edge Call fs) blocks i) (sites_of f.body) ≡ None) here
-    (subst (λ h. first_site r fs h (reaches (edge Call fs) blocks m) (sites_of h.body) ≡ None) same (neither_left _ (first_from r fs (m + 1) gs) e))
-function_keeps r fs (g ∷ gs) m n (suc k) f e at is = function_keeps r fs gs (m + 1) n k f (neither_right (first_site r fs g (reaches (edge Call fs) blocks m) (sites_of g.body)) _ e) at (omega arith)
+    subst (λ i. first_site r fs f (reaches Call fs (blocks fs) i) (sites_of f.body) ≡ None) here
+    (subst (λ h. first_site r fs h (reaches Call fs (blocks fs) m) (sites_of h.body) ≡ None) same (neither_left _ (first_from r fs (m + 1) gs) e))
+function_keeps r fs (g ∷ gs) m n (suc k) f e at is = function_keeps r fs gs (m + 1) n k f (neither_right (first_site r fs g (reaches Call fs (blocks fs) m) (sites_of g.body)) _ e) at (omega arith)
 
 rule_keeps : (fs : List Func) → first_broken fs rules_of_places ≡ None → first_broken fs rules_of_transactions ≡ None → (r : Rule) → first_statement r fs ≡ None
 rule_keeps fs p q rule.UnknownFunction = neither_left _ (first_broken fs (rule.UnknownTable ∷ rule.BreakOutside ∷ rule.NestedTx ∷ rule.LeavesTx ∷ [])) p
@@ -124,12 +124,12 @@ rule_keeps fs p q rule.LockInTx = neither_left _ None (neither_right (first_stat
 
 -- ---- cycles
 
-no_cycle_at : (fs gs : List Func) (m n k : ℕ) → first_cycle fs m gs ≡ None → k < length gs → n ≡ m + k → reaches (edge Start fs) n n ≡ false
+no_cycle_at : (fs gs : List Func) (m n k : ℕ) → first_cycle fs m gs ≡ None → k < length gs → n ≡ m + k → reaches Start fs n n ≡ false
 no_cycle_at fs [] m n k e l is = absurd (omega arith)
 no_cycle_at fs (g ∷ gs) m n zero e l is =
     let here : m ≡ n = omega arith in
-    subst (λ i. reaches (edge Start fs) i i ≡ false) here (if_some (reaches (edge Start fs) m m) _ _ e).0
-no_cycle_at fs (g ∷ gs) m n (suc k) e l is = no_cycle_at fs gs (m + 1) n k (if_some (reaches (edge Start fs) m m) _ _ e).1 (omega arith) (omega arith)
+    subst (λ i. reaches Start fs i i ≡ false) here (if_some (reaches Start fs m m) _ _ e).0
+no_cycle_at fs (g ∷ gs) m n (suc k) e l is = no_cycle_at fs gs (m + 1) n k (if_some (reaches Start fs m m) _ _ e).1 (omega arith) (omega arith)
 
 keeps : (fs : List Func) → first_offence fs ≡ None → KeepsRules fs
 keeps fs e =
@@ -145,7 +145,7 @@ keeps fs e =
       tables = λ n i j f s t at l p q. tables_apart f.tables i j s t (tables_of [] fs n f names at) l p q;
       few = few fs most;
       few_tables = λ n f at. few_tables_of 0 fs n f most at;
-      statements = λ r n k f s at is. site_keeps r fs f (reaches (edge Call fs) blocks n) (sites_of f.body) k s (function_keeps r fs fs 0 n n f (rule_keeps fs first transactions r) at (omega arith)) is;
+      statements = λ r n k f s at is. site_keeps r fs f (reaches Call fs (blocks fs) n) (sites_of f.body) k s (function_keeps r fs fs 0 n n f (rule_keeps fs first transactions r) at (omega arith)) is;
       acyclic = λ n l. no_cycle_at fs fs 0 n n (neither_left (first_cycle fs 0 fs) _ cycles) l (omega arith);
     }
 
@@ -206,25 +206,25 @@ no_site r fs f w (u ∷ ss) h =
     neither_there (option_map (λ n. (line_at u.1, why_of r n)) (named r fs f w u)) (first_site r fs f w ss) (ap (option_map (λ n. (line_at u.1, why_of r n))) (h 0 u refl))
     (no_site r fs f w ss (λ k s at. h (suc k) s at))
 
-no_statement : (r : Rule) (fs gs : List Func) (m : ℕ) → ((n k : ℕ) (f : Func) → n ≡ m + k → slice_get gs k ≡ Some f → first_site r fs f (reaches (edge Call fs) blocks n) (sites_of f.body) ≡ None) → first_from r fs m gs ≡ None
+no_statement : (r : Rule) (fs gs : List Func) (m : ℕ) → ((n k : ℕ) (f : Func) → n ≡ m + k → slice_get gs k ≡ Some f → first_site r fs f (reaches Call fs (blocks fs) n) (sites_of f.body) ≡ None) → first_from r fs m gs ≡ None
 no_statement r fs [] m h = refl
 no_statement r fs (g ∷ gs) m h =
-    neither_there (first_site r fs g (reaches (edge Call fs) blocks m) (sites_of g.body)) (first_from r fs (m + 1) gs) (h m 0 g (omega arith) refl)
+    neither_there (first_site r fs g (reaches Call fs (blocks fs) m) (sites_of g.body)) (first_from r fs (m + 1) gs) (h m 0 g (omega arith) refl)
     (no_statement r fs gs (m + 1) (λ n k f is at. h n (suc k) f (omega arith) at))
 
 no_rule : (fs : List Func) (rs : List Rule) → ((r : Rule) → first_statement r fs ≡ None) → first_broken fs rs ≡ None
 no_rule fs [] h = refl
 no_rule fs (r ∷ rs) h = neither_there (first_statement r fs) (first_broken fs rs) (h r) (no_rule fs rs h)
 
-no_cycle : (fs gs : List Func) (m : ℕ) → ((n k : ℕ) → n ≡ m + k → k < length gs → reaches (edge Start fs) n n ≡ false) → first_cycle fs m gs ≡ None
+no_cycle : (fs gs : List Func) (m : ℕ) → ((n k : ℕ) → n ≡ m + k → k < length gs → reaches Start fs n n ≡ false) → first_cycle fs m gs ≡ None
 no_cycle fs [] m h = refl
 no_cycle fs (g ∷ gs) m h =
-    not_if (reaches (edge Start fs) m m) (g.line, CallCycle g.name) (first_cycle fs (m + 1) gs) (h m 0 (omega arith) (omega arith))
+    not_if (reaches Start fs m m) (g.line, CallCycle g.name) (first_cycle fs (m + 1) gs) (h m 0 (omega arith) (omega arith))
     (no_cycle fs gs (m + 1) (λ n k is l. h n (suc k) (omega arith) (omega arith)))
 
 accepted : (fs : List Func) → KeepsRules fs → first_offence fs ≡ None
 accepted fs k =
-    let each : (r : Rule) → first_statement r fs ≡ None = λ r. no_statement r fs fs 0 (λ n i f is at. let same : i ≡ n = omega arith in no_site r fs f (reaches (edge Call fs) blocks n) (sites_of f.body) (λ j s on. k.statements r n j f s (subst (λ m. slice_get fs m ≡ Some f) same at) on)) in
+    let each : (r : Rule) → first_statement r fs ≡ None = λ r. no_statement r fs fs 0 (λ n i f is at. let same : i ≡ n = omega arith in no_site r fs f (reaches Call fs (blocks fs) n) (sites_of f.body) (λ j s on. k.statements r n j f s (subst (λ m. slice_get fs m ≡ Some f) same at) on)) in
     neither_there (double_name [] fs) _
     (no_double_name [] fs
     (λ j f at. none_of_each (λ g. is_name g.name f.name) (take j fs) (λ i g on. let w = within_taken fs i j g on in k.names i j g f w.0 w.1 at))

@@ -1,5 +1,5 @@
 -- That a function leads to another one by its cells exactly where there is a path.
-use Rattle.std.proofs.Common.{◌≡◌, ℕ, zero, suc, ◌<◌, ◌≤◌, Bool, true, false, ◌||◌, ◌&&◌, IsTrue, ◌⊎◌, inl, inr, List, [], ◌∷◌, ◌++◌, length, slice_get, Some, None, refl, subst, arith, nat_lt}
+use Rattle.std.proofs.Common.{◌≡◌, ℕ, zero, suc, ◌<◌, Bool, true, false, ◌||◌, ◌&&◌, IsTrue, ◌⊎◌, inl, inr, List, [], ◌∷◌, ◌++◌, length, slice_get, Some, None, refl, subst, arith, nat_lt}
 use Rattle.std.proofs.lemmas.Bool.{ltb-true}
 use Rattle.std.proofs.lemmas.Bool.Decides.{nat_tests}
 use Rattle.std.proofs.lemmas.Option.{slice_get_within}
@@ -89,9 +89,9 @@ is_function k fs i h s =
       | Some g ↦ λ is t. slice_get_within fs h g is
     ] refl s
 
-pub reached : (k : Link) (fs : List Func) (path : List ℕ) (i j : ℕ) → length fs ≤ 64 → IsPath (edge k fs) i path j → IsTrue (reaches (edge k fs) i j)
-reached k fs [] i j few p = direct (edge k fs) 64 i j p
-reached k fs (h ∷ hs) i j few p = let l : h < length fs = is_function k fs i h p.0 in before (edge k fs) 64 i h j p.0 (omega arith) (reached k fs hs h j few p.1)
+pub reached : (k : Link) (fs : List Func) (path : List ℕ) (i j : ℕ) → IsPath (edge k fs) i path j → IsTrue (reaches k fs i j)
+reached k fs [] i j p = direct (edge k fs) (length fs) i j p
+reached k fs (h ∷ hs) i j p = before (edge k fs) (length fs) i h j p.0 (is_function k fs i h p.0) (reached k fs hs h j p.1)
 
 pub reaches_by_paths : ReachesByPaths
-reaches_by_paths k fs i j few = (path_of (edge k fs) 64 i j, λ p. reached k fs p.0 i j few p.1)
+reaches_by_paths k fs i j = (path_of (edge k fs) (length fs) i j, λ p. reached k fs p.0 i j p.1)

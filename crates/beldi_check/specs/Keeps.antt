@@ -5,7 +5,7 @@ use Rattle.beldi_tree.specs.declared.deployment.Func.{Func}
 use Rattle.beldi_tree.specs.declared.deployment.TableHead.{TableHead}
 use Rattle.beldi_tree.specs.Bindings.{is_name}
 use Rattle.beldi_check.specs.Site.{Spot, sites_of}
-use Rattle.beldi_check.specs.Calls.{edge, reaches, blocks}
+use Rattle.beldi_check.specs.Calls.{reaches, blocks}
 use Rattle.beldi_check.specs.declared.calls.Link.TheVariants.{Call, Start}
 use Rattle.beldi_check.specs.declared.rules.Rule.{Rule}
 use Rattle.beldi_check.specs.Rules.{named, IsChecked}
@@ -18,9 +18,9 @@ pub record KeepsRules (fs : List Func) : Type 0 where
   pub few : length fs ≤ 64
   pub few_tables : (n : ℕ) (f : Func) → slice_get fs n ≡ Some f → length f.tables ≤ 64
   -- no statement breaks a rule
-  pub statements : (r : Rule) (n k : ℕ) (f : Func) (s : Spot) → slice_get fs n ≡ Some f → slice_get (sites_of f.body) k ≡ Some s → named r fs f (reaches (edge Call fs) blocks n) s ≡ None
+  pub statements : (r : Rule) (n k : ℕ) (f : Func) (s : Spot) → slice_get fs n ≡ Some f → slice_get (sites_of f.body) k ≡ Some s → named r fs f (reaches Call fs (blocks fs) n) s ≡ None
   -- no function reaches itself
-  pub acyclic : (n : ℕ) → n < length fs → reaches (edge Start fs) n n ≡ false
+  pub acyclic : (n : ℕ) → n < length fs → reaches Start fs n n ≡ false
 
 -- what is accepted keeps every rule, and what keeps every rule is accepted
 abbrev pub AcceptsExactly : Type 0

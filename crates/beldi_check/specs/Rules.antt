@@ -9,7 +9,7 @@ use Rattle.beldi_tree.specs.Command.{Command, read, write, condwrite, call, asyn
 use Rattle.beldi_tree.specs.Bindings.{is_name}
 use Rattle.beldi_tree.specs.Names.{func_place}
 use Rattle.beldi_check.specs.Site.{Spot, sites_of, line_at}
-use Rattle.beldi_check.specs.Calls.{edge, reaches, blocks}
+use Rattle.beldi_check.specs.Calls.{reaches, blocks}
 use Rattle.beldi_check.specs.declared.calls.Link.TheVariants.{Call, Start}
 use Rattle.beldi_check.specs.declared.rules.Rule.{Rule}
 use Rattle.beldi_check.specs.declared.rules.Rule.TheVariants as rule
@@ -124,7 +124,7 @@ first_site r fs f within (s ∷ ss) = option_or (offence_at r fs f within s) (fi
 -- the first statement of the functions from number n on that breaks the rule
 abbrev pub first_from : Rule → List Func → ℕ → List Func → Option Offence
 first_from r fs n [] = None
-first_from r fs n (f ∷ gs) = option_or (first_site r fs f (reaches (edge Call fs) blocks n) (sites_of f.body)) (first_from r fs (n + 1) gs)
+first_from r fs n (f ∷ gs) = option_or (first_site r fs f (reaches Call fs (blocks fs) n) (sites_of f.body)) (first_from r fs (n + 1) gs)
 
 abbrev pub first_statement : Rule → List Func → Option Offence
 first_statement r fs = first_from r fs 0 fs
@@ -134,7 +134,7 @@ first_statement r fs = first_from r fs 0 fs
 -- the first function, from number n on, that reaches itself by `call` and `async`
 abbrev pub first_cycle : List Func → ℕ → List Func → Option Offence
 first_cycle fs n [] = None
-first_cycle fs n (f ∷ gs) = if reaches (edge Start fs) n n then Some (f.line, CallCycle f.name) else first_cycle fs (n + 1) gs
+first_cycle fs n (f ∷ gs) = if reaches Start fs n n then Some (f.line, CallCycle f.name) else first_cycle fs (n + 1) gs
 
 -- ---- all of them, in their order
 

@@ -1,14 +1,14 @@
 // Which function leads to which.
-ghost use Rattle.std.specs.Prelude.{◌≡◌, ◌+◌, ◌*◌, ◌<◌, ◌≤◌, ◌&&◌, ◌||◌, ℕ, Bool, length, IfOk, option_copied, slice_get, slice_index};
+ghost use Rattle.std.specs.Prelude.{◌≡◌, ◌+◌, ◌<◌, ◌&&◌, ◌||◌, ℕ, Bool, length, IfOk, option_copied, slice_get};
 ghost use Rattle.std.specs.List.{list_any};
 ghost use Rattle.beldi_tree.specs.Statement.{command_of};
-ghost use Rattle.beldi_check.specs.Calls.{leads, leads_to, leads_within, edge, edge_to, through, reaches, IsGrid, cell};
+ghost use Rattle.beldi_check.specs.Calls.{leads, leads_to, leads_within, edge, edge_to, over, reaches, IsRow, IsGrid, row_at, at, cell};
 ghost use Rattle.beldi_check.specs.Site.{site_of, sites_of};
 
 use crate::listed::Listed;
 use crate::site::Site;
 use beldi_tree::{Form, Stmt};
-use beldi_value::Str;
+use beldi_value::{Items, Str};
 use std::alloc::{AllocError, Global};
 
 /// What leads from a function to another one.
@@ -20,12 +20,8 @@ pub enum Link {
     Start,
 }
 
-/// The number that stands for the first blocks of all transactions. Functions have the numbers below it.
-pub const BLOCKS: usize = 64;
-
-const ROW: usize = 65;
-
-const CELLS: usize = 4225;
+/// Which functions something leads to, by their places.
+pub type Row = Items<bool>;
 
 fn leads(link: Link, name: &Str, stmt: &Stmt) -> bool
     ensures { result ≡ leads link name.now (command_of stmt.now) }
@@ -82,7 +78,7 @@ fn edge_to(link: Link, all: &[Listed], i: usize, to: Option<&Listed>) -> bool
 {
     match to {
         Some(to) => {
-            if i == BLOCKS {
+            if i == all.len() {
                 leads_within(link, all, to)
             } else {
                 leads_to(link, all.get(i), to)
@@ -92,51 +88,71 @@ fn edge_to(link: Link, all: &[Listed], i: usize, to: Option<&Listed>) -> bool
     }
 }
 
-// Which leads to which in one step.
-fn edges(alloc: Global, link: Link, all: &[Listed]) -> Result<Vec<bool>, AllocError>
-    ensures { IfOk result (λ v. IsGrid (edge link all.now) v.items) }
+// What i leads to in one step.
+fn edges_from(alloc: Global, link: Link, all: &[Listed], i: usize) -> Result<Row, AllocError>
+    ensures { IfOk result (λ row. IsRow (length all.now) (edge link all.now i) row) }
 {
-    let mut cells = Vec::new(alloc);
-    for x in 0..CELLS {
-        cells.push(edge_to(link, all, x / ROW, all.get(x % ROW)))?;
+    let mut row = Row::new(alloc);
+    for j in 0..all.len() {
+        row.push(edge_to(link, all, i, all.get(j)))?;
     }
-    Ok(cells)
+    Ok(row)
 }
 
-/// Whether i leads to j, by these cells.
-pub fn cell(cells: &[bool], i: usize, j: usize) -> bool
-    requires size { length cells.now ≡ 4225 }
-    requires row { i < 65 }
-    requires column { j < 65 }
-    ensures { result ≡ cell cells.now i j }
+// Which leads to which in one step.
+fn edges(alloc: Global, link: Link, all: &[Listed]) -> Result<Vec<Row>, AllocError>
+    ensures { IfOk result (λ v. IsGrid (length all.now + 1) (length all.now) (edge link all.now) v.items) }
 {
-    cells[ROW * i + j]
+    let mut rows = Vec::new(alloc);
+    for i in 0..all.len() + 1 {
+        rows.push(edges_from(alloc, link, all, i)?)?;
+    }
+    Ok(rows)
 }
 
-// The cells once steps over this function count as well.
-fn widened(alloc: Global, cells: &[bool], over: usize) -> Result<Vec<bool>, AllocError>
-    requires size { length cells.now ≡ 4225 }
-    requires column { over < 65 }
-    ensures { IfOk result (λ v. IsGrid (λ i j. cell cells.now i j || (cell cells.now i over && cell cells.now over j)) v.items) }
+/// Whether i leads to j, by these rows.
+pub fn cell(rows: &[Row], i: usize, j: usize) -> bool
+    requires row { i < length rows.now }
+    requires column { j < length (row_at rows.now i) }
+    ensures { result ≡ cell rows.now i j }
 {
-    let mut wider = Vec::new(alloc);
-    for x in 0..CELLS {
-        let (i, j) = (x / ROW, x % ROW);
-        wider.push(cell(cells, i, j) || (cell(cells, i, over) && cell(cells, over, j)))?;
+    rows[i].as_slice()[j]
+}
+
+// The row once a step over a function counts as well, which leads to these.
+fn widened_row(alloc: Global, row: &[bool], by: usize, led: &[bool]) -> Result<Row, AllocError>
+    requires by { by < length row.now }
+    requires led { length led.now ≡ length row.now }
+    ensures { IfOk result (λ wider. IsRow (length row.now) (λ j. at row.now j || (at row.now by && at led.now j)) wider) }
+{
+    let mut wider = Row::new(alloc);
+    for j in 0..row.len() {
+        wider.push(row[j] || (row[by] && led[j]))?;
     }
     Ok(wider)
 }
 
-/// Which function leads to which in some steps, where there are at most 64 functions: cells in rows of 65.
-pub fn reach(alloc: Global, link: Link, all: &[Listed]) -> Result<Vec<bool>, AllocError>
-    ensures { IfOk result (λ v. IsGrid (reaches (edge link all.now)) v.items) }
+// The rows, which are as long, once steps over this function count as well.
+fn widened(alloc: Global, rows: &[Row], by: usize) -> Result<Vec<Row>, AllocError>
+    requires row { by < length rows.now }
+    requires column { by < length (row_at rows.now by) }
+    requires grid { IsGrid (length rows.now) (length (row_at rows.now by)) (cell rows.now) rows.now }
+    ensures { IfOk result (λ v. IsGrid (length rows.now) (length (row_at rows.now by)) (over (cell rows.now) by) v.items) }
 {
-    let mut cells = edges(alloc, link, all)?;
-    for over in 0..BLOCKS {
-        // Only functions are led to.
-        if over < all.len() {
-            cells = widened(alloc, &cells, over)?;
-        }
+    let mut wider = Vec::new(alloc);
+    for i in 0..rows.len() {
+        wider.push(widened_row(alloc, rows[i].as_slice(), by, rows[by].as_slice())?)?;
     }
-    Ok(cells)
+    Ok(wider)
+}
+
+/// Which leads to which in some steps: a row for each function, and one for the first blocks of all transactions.
+pub fn reach(alloc: Global, link: Link, all: &[Listed]) -> Result<Vec<Row>, AllocError>
+    ensures { IfOk result (λ v. IsGrid (length all.now + 1) (length all.now) (reaches link all.now) v.items) }
+{
+    let mut rows = edges(alloc, link, all)?;
+    for by in 0..all.len() {
+        rows = widened(alloc, &rows, by)?;
+    }
+    Ok(rows)
 }

@@ -7,8 +7,8 @@
 //! - `check` accepts a deployment just where no rule is broken, and else names the first place that breaks the first
 //!   rule that is broken (`Refuses (first_offence ..)`). What is accepted is the same deployment, with the names in its
 //!   statements found (`find_names` of `beldi_tree`).
-//! - It is accepted exactly where each rule holds at each function, table and statement (`accepts_exactly`); among at
-//!   most 64 functions, one reaches another exactly where there is a path from it (`reaches_by_paths`).
+//! - It is accepted exactly where each rule holds at each function, table and statement (`accepts_exactly`); one function
+//!   reaches another exactly where there is a path from it (`reaches_by_paths`).
 //! - `Checked` keeps that it was checked (`checked`), and `func` finds a function by its name.
 #![tactic(auto)]
 

@@ -1,14 +1,14 @@
 // The rules that a deployment keeps.
-ghost use Rattle.std.specs.Prelude.{◌≡◌, ◌≤◌, [], not, length, slice_get, MatchResult, OnOk, option_copied, option_and_then};
+ghost use Rattle.std.specs.Prelude.{◌≡◌, ◌+◌, [], not, length, slice_get, MatchResult, option_copied, option_and_then};
 ghost use Rattle.std.specs.List.{list_any};
 ghost use Rattle.beldi_tree.specs.Bindings.{is_name};
 ghost use Rattle.beldi_tree.specs.Statement.{command_of};
-ghost use Rattle.beldi_check.specs.Calls.{edge, reaches, IsGrid};
+ghost use Rattle.beldi_check.specs.Calls.{reaches, IsGrid};
 ghost use Rattle.beldi_check.specs.Rules.{Refuses, has_function, has_table, double_table, double_name, past_most, some_if, func_in, table_in, is_break, is_return, is_transaction, is_async, is_lock, named, why_of, offence_at, first_site, first_statement, first_cycle, first_broken};
 ghost use Rattle.beldi_check.specs.Site.{site_of, sites_of};
 ghost use Rattle.beldi_check.specs.declared.calls.Link.TheVariants.{Call, Start};
 
-use crate::calls::{BLOCKS, Link, cell, reach};
+use crate::calls::{Link, Row, cell, reach};
 use crate::listed::Listed;
 use crate::site::Site;
 use crate::why::{CheckErr, Why};
@@ -83,8 +83,7 @@ fn table_past_most(tables: &[TableHead]) -> Option<&TableHead>
 
 /// There are at most 64 functions, and at most 64 tables of each.
 pub fn within_most(all: &[Listed]) -> Result<(), CheckErr>
-    ensures within { MatchResult result (λ _. past_most 0 all.now ≡ None) (λ e. Refuses (past_most 0 all.now) e) }
-    ensures few { OnOk result (length all.now ≤ 64) }
+    ensures { MatchResult result (λ _. past_most 0 all.now ≡ None) (λ e. Refuses (past_most 0 all.now) e) }
 {
     for (i, one) in all.iter().enumerate() {
         let func = one.func();
@@ -246,13 +245,12 @@ fn kept_in(
 }
 
 // Each statement keeps it; `inside` says which function leads to which by calls.
-fn kept(alloc: Global, rule: Rule, all: &[Listed], inside: &[bool]) -> Result<(), CheckErr>
-    requires few { length all.now ≤ 64 }
-    requires inside { IsGrid (reaches (edge Call all.now)) inside.now }
+fn kept(alloc: Global, rule: Rule, all: &[Listed], inside: &[Row]) -> Result<(), CheckErr>
+    requires { IsGrid (length all.now + 1) (length all.now) (reaches Call all.now) inside.now }
     ensures { MatchResult result (λ _. first_statement rule all.now ≡ None) (λ e. Refuses (first_statement rule all.now) e) }
 {
     for (i, one) in all.iter().enumerate() {
-        kept_in(alloc, rule, all, one, cell(inside, BLOCKS, i))?;
+        kept_in(alloc, rule, all, one, cell(inside, all.len(), i))?;
     }
     Ok(())
 }
@@ -262,10 +260,9 @@ pub fn all_kept(
     alloc: Global,
     rules: &[Rule],
     all: &[Listed],
-    inside: &[bool],
+    inside: &[Row],
 ) -> Result<(), CheckErr>
-    requires few { length all.now ≤ 64 }
-    requires inside { IsGrid (reaches (edge Call all.now)) inside.now }
+    requires { IsGrid (length all.now + 1) (length all.now) (reaches Call all.now) inside.now }
     ensures { MatchResult result (λ _. first_broken all.now rules.now ≡ None) (λ e. Refuses (first_broken all.now rules.now) e) }
 {
     for rule in rules {
@@ -276,7 +273,6 @@ pub fn all_kept(
 
 /// No function reaches itself by `call` and `async`.
 pub fn no_cycle(alloc: Global, all: &[Listed]) -> Result<(), CheckErr>
-    requires few { length all.now ≤ 64 }
     ensures { MatchResult result (λ _. first_cycle all.now 0 all.now ≡ None) (λ e. Refuses (first_cycle all.now 0 all.now) e) }
 {
     let reached = reach(alloc, Link::Start, all)?;

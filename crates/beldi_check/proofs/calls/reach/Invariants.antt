@@ -1,5 +1,6 @@
+use Rattle.std.proofs.Common.{◌+◌, length}
 use Rattle.beldi_check.specs.Calls.{edge, through, IsGrid}
 use Rattle.beldi_check.proofs.calls.reach.Given as goal
 
-abbrev pub invariant-loop-over : goal.invariant-loop-over
-invariant-loop-over l = IsGrid (through (edge l.fn.link l.all) l.over) l.cells.items
+abbrev pub invariant-loop-by : goal.invariant-loop-by
+invariant-loop-by l = IsGrid (length l.all + 1) (length l.all) (through (edge l.fn.link l.all) l.by) l.rows.items

@@ -1,5 +1,5 @@
 use Rattle.std.proofs.Common.{◌≡◌, arith, ◌∙◌}
-use Rattle.beldi_check.specs.Calls.{edge, reaches, blocks}
+use Rattle.beldi_check.specs.Calls.{reaches, blocks}
 use Rattle.beldi_check.specs.declared.calls.Link.TheVariants.{Call}
 use Rattle.beldi_check.proofs.Firsts.{next_from}
 use Rattle.beldi_check.proofs.Grids.{cell_is}
@@ -7,5 +7,5 @@ use Rattle.beldi_check.proofs.rules.kept.Goals as goal
 
 pub loop-i-preserved : goal.loop-i-preserved
 loop-i-preserved c =
-    let v : c.cell.result ≡ reaches (edge Call c.args.all.now) blocks c.loop-i.i = c.cell.ensures ∙ cell_is (reaches (edge Call c.args.all.now)) c.args.inside.now c.requires.inside 64 c.loop-i.i (omega arith) (omega arith) in
+    let v : c.cell.result ≡ reaches Call c.args.all.now (blocks c.args.all.now) c.loop-i.i = c.cell.ensures ∙ cell_is _ _ (reaches Call c.args.all.now) c.args.inside.now c.requires (blocks c.args.all.now) c.loop-i.i (omega arith) (omega arith) in
     next_from c.args.rule c.args.all.now c.loop-i.i c.index-all-i.result c.cell.result (omega arith) c.index-all-i.is v c.in_ok-kept_in.ensures c.loop-i.invariant
