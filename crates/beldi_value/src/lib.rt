@@ -31,6 +31,7 @@ mod apart;
 mod canonical;
 mod convert;
 mod cut;
+mod early;
 mod id;
 mod laws;
 mod limits;
