@@ -8,7 +8,7 @@ use Rattle.beldi_lang.specs.declared.effect.Answer.TheVariants as answer
 use Rattle.beldi_lang.specs.declared.effect.Effect.{Effect}
 use Rattle.beldi_lang.specs.declared.effect.Effect.TheVariants as effect
 use Rattle.beldi_known.proofs.Begins.{begins_once, aborts_once}
-use Rattle.beldi_plain.specs.Executor.{answered_if}
+use Rattle.beldi_plain.specs.Plain.{answered_if}
 use Rattle.beldi_plain.specs.Plain.{Instance, answered, effect_of}
 use Rattle.beldi_step.specs.Run.{place_of}
 use Rattle.beldi_known.specs.Known.{answer_at_once, once_if, once, at_once}

@@ -17,7 +17,7 @@ use Rattle.beldi_plain.specs.Item.{Item}
 use Rattle.beldi_plain.specs.Operation.{op_of, touched}
 use Rattle.beldi_plain.specs.Holds.{held_if, holds}
 use Rattle.beldi_plain.specs.Plain.{Instance, effect_of, answered}
-use Rattle.beldi_plain.specs.Executor.{answered_if}
+use Rattle.beldi_plain.specs.Plain.{answered_if}
 use Rattle.beldi_order.proofs.Ends.{fits, fits_at}
 use Rattle.beldi_order.proofs.Operations.{held_pushed}
 use Rattle.beldi_order.proofs.Went.{along_pushed, txs_pushed}

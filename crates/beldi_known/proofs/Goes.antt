@@ -10,7 +10,7 @@ use Rattle.beldi_lang.specs.declared.effect.Answer.TheVariants as answer
 use Rattle.beldi_lang.specs.declared.effect.Effect.{Effect}
 use Rattle.beldi_lang.specs.declared.effect.Effect.TheVariants as effect
 use Rattle.beldi_plain.specs.Plain.{Instance, effect_of, answered}
-use Rattle.beldi_plain.specs.Executor.{answered_if}
+use Rattle.beldi_plain.specs.Plain.{answered_if}
 use Rattle.beldi_order.proofs.Maps.{same_some}
 use Rattle.beldi_order.proofs.Went.{went_pushed}
 use Rattle.beldi_step.specs.Run.{place_of}

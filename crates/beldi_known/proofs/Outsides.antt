@@ -22,7 +22,7 @@ use Rattle.beldi_lang.specs.declared.effect.Effect.{Effect}
 use Rattle.beldi_lang.specs.declared.effect.Effect.TheVariants as effect
 use Rattle.beldi_row.specs.Table.{Rows}
 use Rattle.beldi_row.specs.declared.row.Row.{Row}
-use Rattle.beldi_plain.specs.Executor.{answered_if}
+use Rattle.beldi_plain.specs.Plain.{answered_if}
 use Rattle.beldi_plain.specs.Item.{Item, item_cmp}
 use Rattle.beldi_plain.specs.Moves.{fell, TouchedIn}
 use Rattle.beldi_plain.specs.Operation.{set_if, or_old}

@@ -20,7 +20,7 @@ use Rattle.beldi_lang.specs.declared.effect.Effect.TheVariants as effect
 use Rattle.beldi_row.specs.declared.notes.Note.{Note}
 use Rattle.beldi_row.specs.declared.notes.Note.TheVariants as notes
 use Rattle.beldi_row.specs.Log.{owner_eq}
-use Rattle.beldi_plain.specs.Executor.{answered_if}
+use Rattle.beldi_plain.specs.Plain.{answered_if}
 use Rattle.beldi_plain.specs.Item.{Item, item_cmp}
 use Rattle.beldi_plain.specs.Operation.{OnItem, op_of, touched}
 use Rattle.beldi_plain.specs.Piece.{is_aborted}

@@ -13,7 +13,7 @@ use Rattle.beldi_row.specs.declared.row.Row.{Row}
 use Rattle.beldi_row.specs.declared.row.Row.TheVariants as rows
 use Rattle.beldi_row.specs.Act.{owns}
 use Rattle.beldi_row.specs.Table.{Rows}
-use Rattle.beldi_plain.specs.Executor.{AllShort}
+use Rattle.beldi_plain.specs.Plain.{AllShort}
 use Rattle.beldi_plain.specs.Item.{Item}
 use Rattle.beldi_plain.specs.Operation.{touched}
 use Rattle.beldi_plain.specs.Piece.{is_aborted}

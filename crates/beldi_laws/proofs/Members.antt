@@ -15,7 +15,7 @@ use Rattle.beldi_row.specs.declared.key.Kind.TheVariants as kinds
 use Rattle.beldi_row.specs.declared.row.Row.{Row}
 use Rattle.beldi_row.specs.declared.row.Row.TheVariants as rows
 use Rattle.beldi_row.specs.Table.{Rows}
-use Rattle.beldi_plain.specs.Executor.{AllShort}
+use Rattle.beldi_plain.specs.Plain.{AllShort}
 use Rattle.beldi_plain.specs.Plain.{Instance, effect_before}
 use Rattle.beldi_order.specs.Sane.{CalledBy, IsAnswer, IsCalled, answer_given, call_of, within_by}
 use Rattle.beldi_order.specs.Txs.{or_own, tx_at, tx_by, txs_after}

@@ -17,7 +17,7 @@ use Rattle.beldi_row.specs.Table.{Rows}
 use Rattle.beldi_plain.specs.Item.{Item}
 use Rattle.beldi_plain.specs.Operation.{touched}
 use Rattle.beldi_plain.specs.Plain.{Instance, PlainState, answered, ended, effect_of}
-use Rattle.beldi_plain.specs.Executor.{answered_if}
+use Rattle.beldi_plain.specs.Plain.{answered_if}
 use Rattle.beldi_order.specs.Grown.{Grows}
 use Rattle.beldi_order.specs.Txs.{Txs, tx_at, tx_now, tx_after, txs_after, txs_by, end_of}
 use Rattle.beldi_order.proofs.Maps.{same_some}
@@ -31,7 +31,7 @@ use Rattle.beldi_laws.specs.Inside.{OwnedAreUnmarked, OwnersCallNobody, Particip
 use Rattle.beldi_laws.specs.Stands.{key_in}
 use Rattle.beldi_known.specs.InsideLaws.{HoldersInsideAreMade}
 use Rattle.beldi_order.specs.Inside.{IsBelow}
-use Rattle.beldi_plain.specs.Executor.{AllShort}
+use Rattle.beldi_plain.specs.Plain.{AllShort}
 use Rattle.beldi_laws.proofs.KeptSane.{outside_effect}
 use Rattle.beldi_laws.proofs.Lives.{made_stays}
 use Rattle.beldi_laws.proofs.Outside.{is_of_tx}

@@ -18,7 +18,7 @@ use Rattle.beldi_known.specs.Known.{Known}
 use Rattle.beldi_known.specs.Matches.{Matches, LockedAtEnds}
 use Rattle.beldi_known.specs.Sane.{Sane}
 use Rattle.beldi_laws.specs.Inside.{OwnedAreUnmarked, OwnersCallNobody, ParticipantsAreReleased, ParticipantsHaveRows}
-use Rattle.beldi_plain.specs.Executor.{AllShort}
+use Rattle.beldi_plain.specs.Plain.{AllShort}
 use Rattle.beldi_known.specs.InsideLaws.{Goes, HoldersInsideAreMade, IsSound}
 use Rattle.beldi_laws.specs.Right.{Right}
 use Rattle.beldi_laws.proofs.Outside.{holds_known}

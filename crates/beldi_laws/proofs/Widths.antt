@@ -33,7 +33,7 @@ use Rattle.beldi_txn.specs.Way.{Member}
 use Rattle.beldi_txn.proofs.Calls.{IsNarrow, first_narrow}
 use Rattle.beldi_txn.proofs.Visited.{FindsFirstCall, FindsFirstLock}
 use Rattle.beldi_intent.specs.Intent.{root_key}
-use Rattle.beldi_plain.specs.Executor.{AllShort}
+use Rattle.beldi_plain.specs.Plain.{AllShort}
 use Rattle.beldi_plain.specs.Item.{Item}
 use Rattle.beldi_plain.specs.Operation.{touched}
 use Rattle.beldi_plain.specs.Plain.{Instance, effect_of, effect_before}

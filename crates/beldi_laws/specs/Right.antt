@@ -18,7 +18,7 @@ use Rattle.beldi_book.specs.declared.entry.Entry.{Entry}
 use Rattle.beldi_book.specs.Order.{count_changes, linear, SeenBounded}
 use Rattle.beldi_order.specs.Laws.{IsStateAt}
 use Rattle.beldi_plain.specs.Item.{Item}
-use Rattle.beldi_plain.specs.Executor.{AllShort}
+use Rattle.beldi_plain.specs.Plain.{AllShort}
 use Rattle.beldi_plain.specs.Guard.{IsGuarded}
 use Rattle.beldi_plain.specs.Holds.{holds}
 use Rattle.beldi_plain.specs.Plain.{Instance, PlainState, nothing, value_at}

@@ -1,11 +1,6 @@
-pub mod Answers
-pub mod ByTable
-pub mod Codes
 pub mod Entries
-pub mod Executor
 pub mod Guard
 pub mod Holds
-pub mod Inside
 pub mod Item
 pub mod Legal
 pub mod Listing
@@ -13,4 +8,3 @@ pub mod Moves
 pub mod Operation
 pub mod Piece
 pub mod Plain
-pub mod Undo

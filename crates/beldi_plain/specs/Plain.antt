@@ -1,5 +1,5 @@
 -- The plain state, its step, and the state after an entry.
-use Rattle.std.specs.Prelude.{ℕ, suc, zero, Bool, true, false, List, [], ◌∷◌, ◌++◌, length, take, Option, Some, None, is_some, if◌then◌else◌}
+use Rattle.std.specs.Prelude.{◌≡◌, ◌≤◌, ℕ, suc, zero, Bool, true, false, List, [], ◌∷◌, ◌++◌, length, take, Option, Some, None, is_some, if◌then◌else◌}
 use Rattle.std.specs.FinMap as map
 use Rattle.std.specs.FinMap.{FinMap}
 use Rattle.beldi_value.specs.Id.{id_cmp, root_of, child_of, has_callees}
@@ -39,6 +39,10 @@ new_instance f a c = record { func = f; args = a; from = c; within = None; answe
 pub record PlainState : Type 0 where
   pub items : FinMap item_cmp Value
   pub made : FinMap id_cmp Instance
+
+-- an id has at most 63 hops
+abbrev pub AllShort : FinMap id_cmp Instance → Type 0
+AllShort made = (id : IntentId) → is_some (map.get made id) ≡ true → length id.hops ≤ 63
 
 -- neither items nor instances
 abbrev pub nothing : PlainState
@@ -91,6 +95,11 @@ effect_before d q n = wants d q.func q.args (is_some q.within) (take n q.answers
 
 abbrev pub answered : Instance → Answer → Instance
 answered q a = record q { answers = q.answers ++ a ∷ [] }
+
+-- .. if it was answered
+abbrev pub answered_if : Instance → Option Answer → Instance
+answered_if q None = q
+answered_if q (Some a) = answered q a
 
 -- an item of an instance's function
 abbrev pub item_of : Instance → ℕ → List ℕ → Item

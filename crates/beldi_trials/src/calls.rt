@@ -4,7 +4,7 @@ use beldi_check::{Checked, check};
 use beldi_core::Host;
 use beldi_lang::Machine;
 use beldi_outside::{Clock, ClosedLink, Failed, Link, MemClock, MemSource, read_up_to};
-use beldi_plain::{Bar, Plain, PlainErr};
+use beldi_executor::{Bar, Plain, PlainErr};
 use beldi_script::{read_line, write_line};
 use beldi_step::Event;
 use beldi_syntax::read_deployment;

@@ -1,6 +1,6 @@
 // Transactions of the plain machine, each as one step.
 use beldi_check::{Checked, check};
-use beldi_plain::{Bar, Plain, PlainErr};
+use beldi_executor::{Bar, Plain, PlainErr};
 use beldi_syntax::read_deployment;
 use beldi_value::{IntentId, Place, Str, Value};
 use std::alloc::Global;

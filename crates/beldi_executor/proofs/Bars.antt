@@ -1,0 +1,155 @@
+-- What bars an effect from being entered as a read, or as a change.
+use Rattle.std.proofs.Common.{◌≡◌, Bool, true, false, Option, Some, None, Ok, Err, refl, ap, sym, ◌∙◌}
+use Rattle.std.specs.Prelude.{is_none}
+use Rattle.std.specs.FinMap as map
+use Rattle.beldi_value.specs.declared.id.IntentId.{IntentId}
+use Rattle.beldi_tree.specs.declared.deployment.Deployment.{Deployment}
+use Rattle.beldi_value.specs.declared.outcome.Outcome.{Outcome}
+use Rattle.beldi_value.specs.declared.place.Place.{Place}
+use Rattle.beldi_lang.specs.declared.effect.Effect.{Effect}
+use Rattle.beldi_lang.specs.declared.effect.Effect.TheVariants as effect
+use Rattle.beldi_lang.specs.declared.machine.Machine.{Machine}
+use Rattle.beldi_book.specs.declared.entry.Entry.TheVariants.{Tx, Try}
+use Rattle.beldi_plain.specs.Plain.{PlainState, Instance, effect_of, kind_of, step_by, if_open, unless, can_step, is_waiting, if_built, if_read, if_change}
+use Rattle.beldi_executor.specs.Answers.{Did, IsFree, StandsFree, Entered, DidStep, bar_of, bar_open, bar_waiting, bar_step, bar_as, bar_made, bar_no, bar_piece, bar_try}
+use Rattle.beldi_plain.specs.Entries.{after}
+use Rattle.beldi_executor.specs.Inside.{Begins, StandsAtBegin, Pieced, Tried}
+use Rattle.beldi_plain.specs.Piece.{piece_from, try_from}
+use Rattle.beldi_executor.specs.declared.draft.Actor.{Actor}
+use Rattle.beldi_plain.specs.declared.kind.Kind.{Kind}
+use Rattle.beldi_plain.specs.declared.kind.Kind.TheVariants.{Read, Change, Inside, Unbuilt}
+use Rattle.beldi_executor.specs.declared.plain.Bar.{Bar}
+use Rattle.beldi_executor.specs.declared.plain.Bar.TheVariants.{OtherEffect, NoEnd}
+use Rattle.beldi_executor.specs.declared.plain.PlainErr.TheVariants.{OutOfMemory, NotEnabled}
+use Rattle.beldi_executor.specs.declared.plain.PlainErr.{PlainErr}
+
+-- an instance that has not returned, and does not wait
+steps : {X : Type 0} (o : Option Instance) (q : Instance) (w : Instance → Bool) (f : Instance → Option X) → o ≡ Some q → q.outcome ≡ None → w q ≡ false → can_step o w f ≡ f q
+steps o q w f is yet free = ap (λ r. can_step r w f) is ∙ ap (λ r. if_open r (unless (w q) (f q))) yet ∙ ap (λ b. unless b (f q)) free
+
+bars : (o : Option Instance) (q : Instance) (w : Instance → Bool) (f : Instance → Option Bar) → o ≡ Some q → q.outcome ≡ None → bar_step o w f ≡ bar_waiting (w q) (f q)
+bars o q w f is yet = ap (λ r. bar_step r w f) is ∙ ap (λ r. bar_open r (bar_waiting (w q) (f q))) yet
+
+stepped : {X : Type 0} (d : Deployment) (p : PlainState) (id : IntentId) (m : Machine) (r : IsFree d p id m) (f : Instance → Option X) → can_step (map.get p.made id) (is_waiting d p id) f ≡ f r.ready.instance
+stepped d p id m r f = steps (map.get p.made id) r.ready.instance (is_waiting d p id) f r.ready.made r.ready.yet r.free
+
+barred : (d : Deployment) (p : PlainState) (id : IntentId) (m : Machine) (r : IsFree d p id m) (f : Instance → Option Bar) → bar_step (map.get p.made id) (is_waiting d p id) f ≡ f r.ready.instance
+barred d p id m r f = bars (map.get p.made id) r.ready.instance (is_waiting d p id) f r.ready.made r.ready.yet ∙ ap (λ b. bar_waiting b (f r.ready.instance)) r.free
+
+no_read : {X : Type 0} (k : Kind) (x : X) → is_none (bar_as true k) ≡ false → (if_read k x ≡ None) × (bar_as true k ≡ Some OtherEffect)
+no_read Read x h = cc
+no_read Change x h = (refl, refl)
+no_read Inside x h = (refl, refl)
+no_read Unbuilt x h = (refl, refl)
+
+no_change : {X : Type 0} (k : Kind) (x : X) → is_none (bar_as false k) ≡ false → (if_change k x ≡ None) × (bar_as false k ≡ Some OtherEffect)
+no_change Read x h = (refl, refl)
+no_change Change x h = cc
+no_change Inside x h = (refl, refl)
+no_change Unbuilt x h = (refl, refl)
+
+-- an effect is not entered as what it is not
+pub other_effect : (d : Deployment) (p : PlainState) (id : IntentId) (reads : Bool) (m : Machine) → IsFree d p id m → is_none (bar_as reads (kind_of id m.effect)) ≡ false → Entered d id reads p p (Err (NotEnabled OtherEffect))
+other_effect d p id true m r h =
+    let n = no_read (kind_of id m.effect) (step_by p id r.ready.instance m.effect) h in
+    λ seen. (
+      refl,
+      stepped d p id m r _ ∙ ap (λ e. if_read (kind_of id e) (step_by p id r.ready.instance e)) (sym r.ready.stands.0) ∙ n.0,
+      barred d p id m r _ ∙ ap (λ e. bar_as true (kind_of id e)) (sym r.ready.stands.0) ∙ n.1,
+    )
+other_effect d p id false m r h =
+    let n = no_change (kind_of id m.effect) (step_by p id r.ready.instance m.effect) h in (
+      refl,
+      stepped d p id m r _ ∙ ap (λ e. if_change (kind_of id e) (step_by p id r.ready.instance e)) (sym r.ready.stands.0) ∙ n.0,
+      barred d p id m r _ ∙ ap (λ e. bar_as false (kind_of id e)) (sym r.ready.stands.0) ∙ n.1,
+    )
+
+-- there is no step at an effect that is not carried out yet
+no_step : {X : Type 0} (k : Kind) (x : X) → is_none (bar_made k) ≡ false → (if_built k x ≡ None) × (bar_made k ≡ Some OtherEffect)
+no_step Read x h = cc
+no_step Change x h = cc
+no_step Inside x h = (refl, refl)
+no_step Unbuilt x h = (refl, refl)
+
+pub not_built : (d : Deployment) (p : PlainState) (id : IntentId) (m : Machine) → IsFree d p id m → is_none (bar_made (kind_of id m.effect)) ≡ false → DidStep d id p p (Err (NotEnabled OtherEffect))
+not_built d p id m r h =
+    let n = no_step (kind_of id m.effect) (step_by p id r.ready.instance m.effect) h in (
+      refl,
+      stepped d p id m r _ ∙ ap (λ e. if_built (kind_of id e) (step_by p id r.ready.instance e)) (sym r.ready.stands.0) ∙ n.0,
+      barred d p id m r _ ∙ ap (λ e. bar_made (kind_of id e)) (sym r.ready.stands.0) ∙ n.1,
+    )
+
+-- ---- transactions
+
+-- what is barred whatever its effect has no state after it
+never : {X : Type 0} (o : Option Instance) (w : Instance → Bool) (g : Instance → Option X) (b : Bar) → ((f : Instance → Option Bar) → bar_step o w f ≡ Some b) → can_step o w g ≡ None
+never None w g b h = refl
+never (Some q) w g b h = by_outcome q.outcome (w q) (h (λ r. None))
+  where
+    by_outcome : (o : Option Outcome) (t : Bool) → bar_open o (bar_waiting t None) ≡ Some b → if_open o (unless t (g q)) ≡ None
+    by_outcome (Some o) t h = refl
+    by_outcome None true h = refl
+    by_outcome None false h = cc
+
+pub no_begin : (d : Deployment) (p : PlainState) (id : IntentId) (why : PlainErr) → StandsFree d p id (Err why) → StandsAtBegin d p id (Err why)
+no_begin d p id OutOfMemory h = tt
+no_begin d p id (NotEnabled b) h = λ f g other. (never (map.get p.made id) (is_waiting d p id) (λ q. f q (effect_of d q)) b h, h (λ q. g q (effect_of d q)))
+
+pub other_begin : (d : Deployment) (p : PlainState) (id : IntentId) (m : Machine) → IsFree d p id m → (m.effect ≡ effect.Begin → ⊥) → StandsAtBegin d p id (Err (NotEnabled OtherEffect))
+other_begin d p id m r n = λ f g other.
+    let q = r.ready.instance in
+    let none = other q m.effect n in (
+      stepped d p id m r _ ∙ ap (f q) (sym r.ready.stands.0) ∙ none.0,
+      barred d p id m r _ ∙ ap (g q) (sym r.ready.stands.0) ∙ none.1,
+    )
+
+other_piece : (d : Deployment) (p : PlainState) (id : IntentId) (q : Instance) (e : Effect) → (e ≡ effect.Begin → ⊥) → (piece_from d p id q e ≡ None) × (bar_piece d p id q e ≡ Some OtherEffect)
+other_piece d p id q effect.Begin n = absurd (n refl)
+other_piece d p id q e n = (refl, refl)
+
+other_try : (d : Deployment) (p : PlainState) (id : IntentId) (at : Place) (h : Option IntentId) (q : Instance) (e : Effect) → (e ≡ effect.Begin → ⊥) → (try_from d p id at h q e ≡ None) × (bar_try d p id at h q e ≡ Some OtherEffect)
+other_try d p id at h q effect.Begin n = absurd (n refl)
+other_try d p id at h q e n = (refl, refl)
+
+pub no_piece : (d : Deployment) (p r : PlainState) (id : IntentId) (why : PlainErr) → StandsAtBegin d p id (Err why) → r ≡ p → Did d (Tx id) p r (Err why)
+no_piece d p r id OutOfMemory h same = same
+no_piece d p r id (NotEnabled b) h same = let none = h (piece_from d p id) (bar_piece d p id) (other_piece d p id) in (same, none.0, none.1)
+
+pub no_try : (d : Deployment) (p r : PlainState) (id : IntentId) (at : Place) (hold : Option IntentId) (why : PlainErr) → StandsAtBegin d p id (Err why) → r ≡ p → Did d (Try id at hold) p r (Err why)
+no_try d p r id at hold OutOfMemory h same = same
+no_try d p r id at hold (NotEnabled b) h same = let none = h (try_from d p id at hold) (bar_try d p id at hold) (other_try d p id at hold) in (same, none.0, none.1)
+
+-- at its begin
+module _ (d : Deployment) (p : PlainState) (id : IntentId) (m : Machine) (h : Begins d p id m) where
+  abbrev q : Instance
+  q = h.free.ready.instance
+
+  at_begin : effect_of d q ≡ effect.Begin
+  at_begin = sym h.free.ready.stands.0 ∙ h.begins
+
+  piece_is : after d p (Tx id) ≡ piece_from d p id q effect.Begin
+  piece_is = stepped d p id m h.free (λ q. piece_from d p id q (effect_of d q)) ∙ ap (piece_from d p id q) at_begin
+
+  piece_bar : bar_of d p (Tx id) ≡ bar_piece d p id q effect.Begin
+  piece_bar = barred d p id m h.free (λ q. bar_piece d p id q (effect_of d q)) ∙ ap (bar_piece d p id q) at_begin
+
+  pub piece_done : (r : PlainState) (k : Actor) → Pieced d p id q r (Ok k) → Did d (Tx id) p r (Ok tt)
+  piece_done r k did = (piece_is ∙ did.2, piece_bar ∙ ap (λ o. bar_no NoEnd o None) did.2)
+
+  pub piece_not : (r : PlainState) (why : PlainErr) → Pieced d p id q r (Err why) → Did d (Tx id) p r (Err why)
+  piece_not r OutOfMemory did = did
+  piece_not r (NotEnabled b) did = (did.0, piece_is ∙ did.1, piece_bar ∙ ap (λ o. bar_no NoEnd o None) did.1 ∙ ap (λ b. Some b) (sym did.2))
+
+  module _ (at : Place) (hold : Option IntentId) where
+    try_is : after d p (Try id at hold) ≡ try_from d p id at hold q effect.Begin
+    try_is = stepped d p id m h.free (λ q. try_from d p id at hold q (effect_of d q)) ∙ ap (try_from d p id at hold q) at_begin
+
+    try_bar : bar_of d p (Try id at hold) ≡ bar_try d p id at hold q effect.Begin
+    try_bar = barred d p id m h.free (λ q. bar_try d p id at hold q (effect_of d q)) ∙ ap (bar_try d p id at hold q) at_begin
+
+    pub try_done : (r : PlainState) (k : Actor) → Tried d p id q at hold r (Ok k) → Did d (Try id at hold) p r (Ok tt)
+    try_done r k did = (try_is ∙ did.2, try_bar ∙ did.3)
+
+    pub try_not : (r : PlainState) (why : PlainErr) → Tried d p id q at hold r (Err why) → Did d (Try id at hold) p r (Err why)
+    try_not r OutOfMemory did = did
+    try_not r (NotEnabled b) did = (did.0, try_is ∙ did.1, try_bar ∙ did.2)

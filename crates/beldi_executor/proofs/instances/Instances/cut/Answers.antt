@@ -1,0 +1,34 @@
+use Rattle.std.proofs.Common.{rules, sym, ap, ◌∙◌}
+use Rattle.std.specs.Option.{option_copied_mut}
+use Rattle.std.specs.FinMap as map
+use Rattle.beldi_value.specs.Id.{id_total, id_exact}
+use Rattle.beldi_value.proofs.Maps.{get_made, set_made}
+use Rattle.beldi_executor.specs.Executor.{cut_to}
+use Rattle.beldi_executor.proofs.Made.{one_at, none_at, one_short}
+use Rattle.beldi_executor.proofs.instances.Instances.cut.Goals as goal
+
+pub returns-in_default : goal.returns-in_default
+returns-in_default c =
+    let none = ap (λ m. map.get m c.args.id.now) (sym c.self.view_is) ∙ get_made id_total c.self.inside.entries.entries c.args.id.now ∙ sym c.get_mut.ensures.value ∙ ap option_copied_mut c.in_default.is in
+    let same = c.get_mut.follows.holds-at-none in
+    ap (λ t. map.from_entries t.entries) same ∙ c.self.view_is ∙ none_at c.args.self.now c.args.id.now (cut_to c.args.answers) none
+
+pub invariant_of-self-2 : goal.invariant_of-self-2
+invariant_of-self-2 c =
+    let r = c.cut.new.self in
+    let tree = c.get_mut.follows.lender r in
+    let entries = c.self.inside.entries.entries in
+    one_short (map.from_entries entries) (map.from_entries tree.entries) c.args.id.now c.in-Some.instance.now r c.self.invariant
+    (get_made id_total entries c.args.id.now ∙ sym c.get_mut.ensures.value ∙ ap option_copied_mut c.in-Some.is)
+    (set_made id_total id_exact entries tree.entries c.args.id.now r ((c.get_mut.follows.holds r).3 (search rules)).0)
+
+pub returns : goal.returns
+returns c =
+    let r = c.cut.new.self in
+    let h = c.get_mut.follows.holds r in
+    let tree = c.get_mut.follows.lender r in
+    let entries = c.self.inside.entries.entries in
+    one_at c.args.self.now (map.from_entries tree.entries) c.args.id.now c.in-Some.instance.now r (cut_to c.args.answers)
+    (ap (λ m. map.get m c.args.id.now) (sym c.self.view_is) ∙ get_made id_total entries c.args.id.now ∙ sym c.get_mut.ensures.value ∙ ap option_copied_mut c.in-Some.is)
+    (set_made id_total id_exact entries tree.entries c.args.id.now r (h.3 (search rules)).0 ∙ ap (λ m. map.insert m c.args.id.now r) c.self.view_is)
+    c.cut.ensures

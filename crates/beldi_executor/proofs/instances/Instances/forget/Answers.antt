@@ -1,0 +1,14 @@
+use Rattle.std.proofs.Common.{◌∙◌, ap}
+use Rattle.std.specs.FinMap as map
+use Rattle.beldi_value.specs.Id.{id_total, id_exact}
+use Rattle.beldi_value.proofs.Maps.{unset_made}
+use Rattle.beldi_executor.proofs.Made.{rest_short}
+use Rattle.beldi_executor.proofs.instances.Instances.forget.Goals as goal
+
+pub invariant_of-self : goal.invariant_of-self
+invariant_of-self c =
+    rest_short (map.from_entries c.self.inside.entries.entries) (map.from_entries c.remove.new.self.entries) c.args.id.now c.self.invariant
+    (unset_made id_total id_exact c.self.inside.entries.entries c.remove.new.self.entries c.args.id.now c.remove.ensures.updates.0)
+
+pub returns : goal.returns
+returns c = unset_made id_total id_exact c.self.inside.entries.entries c.remove.new.self.entries c.args.id.now c.remove.ensures.updates.0 ∙ ap (λ m. map.remove m c.args.id.now) c.self.view_is

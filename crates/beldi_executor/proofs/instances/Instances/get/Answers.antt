@@ -1,0 +1,8 @@
+use Rattle.std.proofs.Common.{◌∙◌, sym, ap}
+use Rattle.std.specs.FinMap as map
+use Rattle.beldi_value.specs.Id.{id_total}
+use Rattle.beldi_value.proofs.Maps.{get_made}
+use Rattle.beldi_executor.proofs.instances.Instances.get.Goals as goal
+
+pub returns : goal.returns
+returns c = c.get.ensures.value ∙ sym (get_made id_total c.self.inside.entries.entries c.args.id.now) ∙ ap (λ m. map.get m c.args.id.now) c.self.view_is

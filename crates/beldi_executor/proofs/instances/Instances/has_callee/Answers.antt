@@ -1,0 +1,7 @@
+use Rattle.std.proofs.Common.{rules, subst}
+use Rattle.beldi_plain.specs.Plain.{AllShort}
+use Rattle.beldi_executor.proofs.Made.{no_callee}
+use Rattle.beldi_executor.proofs.instances.Instances.has_callee.Goals as goal
+
+pub returns-then-not-has_callees : goal.returns-then-not-has_callees
+returns-then-not-has_callees c = no_callee c.args.self.now c.args.id.now c.args.step (subst AllShort c.self.view_is c.self.invariant) (search rules)

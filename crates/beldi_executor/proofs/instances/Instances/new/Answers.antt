@@ -1,0 +1,7 @@
+use Rattle.std.proofs.Common.{rules}
+use Rattle.std.specs.FinMap as map
+use Rattle.beldi_executor.proofs.Made.{none_long}
+use Rattle.beldi_executor.proofs.instances.Instances.new.Goals as goal
+
+pub invariant_of-result : goal.invariant_of-result
+invariant_of-result c = none_long (map.from_entries c.new.result.entries) (search rules)

@@ -1,0 +1,16 @@
+use Rattle.std.proofs.Common.{◌∙◌, sym, ap, option_copied}
+use Rattle.std.specs.FinMap as map
+use Rattle.beldi_plain.specs.Item.{Item}
+use Rattle.beldi_executor.specs.ByTable.{at_key}
+use Rattle.beldi_executor.proofs.ByTable.{get_items}
+use Rattle.beldi_executor.proofs.items.Items.get.Goals as goal
+
+pub returns-in-Some : goal.returns-in-Some
+returns-in-Some c =
+    let x : Item = record { func = c.args.func; table = c.args.table; key = c.args.key.now } in
+    c.get-in-Some.ensures ∙ ap (at_key x.key) (ap option_copied (sym c.in-Some.is) ∙ c.get.ensures) ∙ sym (get_items c.self.inside.tables x) ∙ ap (λ m. map.get m x) c.self.view_is
+
+pub returns-in-None : goal.returns-in-None
+returns-in-None c =
+    let x : Item = record { func = c.args.func; table = c.args.table; key = c.args.key.now } in
+    ap (at_key x.key) (ap option_copied (sym c.in-None.is) ∙ c.get.ensures) ∙ sym (get_items c.self.inside.tables x) ∙ ap (λ m. map.get m x) c.self.view_is

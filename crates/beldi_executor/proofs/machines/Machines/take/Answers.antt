@@ -1,0 +1,11 @@
+use Rattle.std.proofs.Common.{◌∙◌, sym, ap}
+use Rattle.std.specs.FinMap as map
+use Rattle.beldi_value.specs.Id.{id_total, id_exact}
+use Rattle.beldi_value.proofs.Maps.{get_made, unset_made}
+use Rattle.beldi_executor.proofs.machines.Machines.take.Goals as goal
+
+pub returns-clause-machine : goal.returns-clause-machine
+returns-clause-machine c = c.remove.ensures.value ∙ sym (get_made id_total c.self.inside.entries.entries c.args.id.now) ∙ ap (λ m. map.get m c.args.id.now) c.self.view_is
+
+pub returns-clause-rest : goal.returns-clause-rest
+returns-clause-rest c = unset_made id_total id_exact c.self.inside.entries.entries c.remove.new.self.entries c.args.id.now c.remove.ensures.updates.0 ∙ ap (λ m. map.remove m c.args.id.now) c.self.view_is

@@ -1,0 +1,18 @@
+use Rattle.std.proofs.Common.{rules, ◌∙◌, sym, ap, subst, Err}
+use Rattle.beldi_value.specs.declared.id.IntentId.{IntentId}
+use Rattle.beldi_plain.specs.Plain.{PlainState}
+use Rattle.beldi_executor.specs.Executor.{Executor}
+use Rattle.beldi_executor.specs.Answers.{IsFree, DidStep}
+use Rattle.beldi_executor.specs.declared.plain.Bar.TheVariants.{OtherEffect}
+use Rattle.beldi_executor.specs.declared.plain.PlainErr.TheVariants.{NotEnabled}
+use Rattle.beldi_executor.proofs.Bars.{not_built}
+use Rattle.beldi_executor.proofs.plain.Plain.step.Goals as goal
+
+pub returns-then-not-is_made-clause-did : goal.returns-then-not-is_made-clause-did
+returns-then-not-is_made-clause-did c =
+    let d = c.args.self.now.code in
+    let p = c.args.self.now.state in
+    let m = c.in_ok-machine.machine in
+    let ready = subst (λ (i : IntentId). IsFree d p i m) c.in_ok-id.ensures c.in_ok-machine.ensures.stands in
+    let same = ap (λ (x : Executor). x.state) (c.keep.ensures ∙ c.in_ok-machine.ensures.same) in
+    subst (λ (q : PlainState). DidStep d c.args.id.now p q (Err (NotEnabled OtherEffect))) (sym same) (not_built d p c.args.id.now m ready (search rules))

@@ -1,0 +1,9 @@
+use Rattle.std.proofs.Common.{◌≡◌, ◌++◌}
+use Rattle.std.specs.FinMap as map
+use Rattle.beldi_executor.specs.ByTable.{items_in, items_of}
+use Rattle.beldi_plain.specs.Listing.{items_text}
+use Rattle.beldi_executor.proofs.tables.Tables.write.Given as goal
+
+-- what is written and the lines of the tables that are left are all
+abbrev pub invariant-loop-table : goal.invariant-loop-table
+invariant-loop-table l = l.out ++ items_text l.code (items_in l.table-iterator) ≡ l.initial.out ++ items_text l.code (map.entries (items_of l.self))

@@ -1,0 +1,6 @@
+pub mod Answers
+pub mod ByTable
+pub mod Codes
+pub mod Executor
+pub mod Inside
+pub mod Undo

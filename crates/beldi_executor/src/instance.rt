@@ -1,0 +1,258 @@
+// An instance of a function.
+ghost use Rattle.std.specs.Prelude.{◌≡◌, option_copied, OnOk, OnErr, IfOk};
+ghost use Rattle.beldi_lang.specs.Wants.{wants, wants_answer};
+ghost use Rattle.beldi_lang.specs.Machine.{IsAt};
+ghost use Rattle.beldi_lang.specs.declared.effect.Effect.TheVariants as effect;
+ghost use Rattle.beldi_lang.specs.declared.effect.Answer.TheVariants as answer;
+ghost use Rattle.beldi_value.specs.declared.value.Value.TheVariants as value;
+ghost use Rattle.beldi_executor.specs.Executor.{StandsFor, StandsAfter, Acted, waiter, cut_to};
+ghost use Rattle.beldi_plain.specs.Operation.{set_item};
+ghost use Rattle.beldi_plain.specs.Plain.{answered, ended, new_instance};
+ghost use Rattle.beldi_plain.specs.Piece.{new_member};
+
+use crate::items::Items;
+use beldi_lang::{Answer, Deployment, Effect, Machine};
+use beldi_value::{Caller, IntentId, Outcome, Str, TxId, Value};
+use std::alloc::{AllocError, Global};
+use std::marker::Model;
+
+/// What it was called with, who called it, the transaction that it was called in, what its effects were answered, and how it ended.
+#[derive(Drop)]
+pub struct Instance {
+    func: u16,
+    args: Value,
+    from: Option<Caller>,
+    within: Option<TxId>,
+    answers: Vec<Answer>,
+    outcome: Option<Outcome>,
+}
+
+impl Model for Instance {
+    ghost use Rattle.beldi_plain.specs.Plain.{Instance};
+    ghost use Rattle.beldi_executor.specs.Codes.{coded_instance};
+
+    ghost Value = { Instance };
+
+    ghost coded = { coded_instance };
+
+    ghost view = { λ a. record { func = a.func; args = a.args; from = a.from; within = a.within; answers = a.answers.items; outcome = a.outcome } };
+}
+
+impl Instance {
+    /// An instance that has made no step.
+    pub fn new(alloc: Global, func: u16, args: Value, from: Option<Caller>) -> Instance
+        ensures { result ≡ new_instance func args from }
+    {
+        Instance {
+            func,
+            args,
+            from,
+            within: None,
+            answers: Vec::new(alloc),
+            outcome: None,
+        }
+    }
+
+    /// One that is called within a transaction.
+    pub fn member(alloc: Global, func: u16, args: Value, from: Caller, within: TxId) -> Instance
+        ensures { result ≡ new_member within func args from }
+    {
+        Instance {
+            func,
+            args,
+            from: Some(from),
+            within: Some(within),
+            answers: Vec::new(alloc),
+            outcome: None,
+        }
+    }
+
+    pub fn func(&self) -> u16
+        ensures { result ≡ self.now.func }
+    {
+        self.func
+    }
+
+    pub fn outcome(&self) -> Option<&Outcome>
+        ensures { option_copied result ≡ self.now.outcome }
+    {
+        match &self.outcome {
+            Some(outcome) => Some(outcome),
+            None => None,
+        }
+    }
+
+    /// The id of who waits for it.
+    pub fn waiter(&self, alloc: Global) -> Result<Option<IntentId>, AllocError>
+        ensures { IfOk result (λ o. o ≡ waiter self.now.from) }
+    {
+        match &self.from {
+            Some(caller) if caller.waits => Ok(Some(caller.place.intent.copy(alloc)?)),
+            _ => Ok(None),
+        }
+    }
+
+    /// It is answered.
+    pub fn answer(&mut self, answer: Answer) -> Result<(), AllocError>
+        ensures ok { OnOk result (self.new ≡ answered self.old answer) }
+        ensures err { OnErr result (self.new ≡ self.old) }
+    {
+        self.answers.push(answer)?;
+        Ok(())
+    }
+
+    /// It has these first answers alone.
+    pub fn cut(&mut self, answers: u32)
+        ensures { self.new ≡ cut_to answers self.old }
+    {
+        self.answers.truncate(answers as usize);
+    }
+
+    /// It ends.
+    pub fn end(&mut self, outcome: Outcome)
+        ensures { self.new ≡ ended self.old outcome }
+    {
+        self.outcome = Some(outcome);
+    }
+
+    /// A machine that stands where its answers led. Its body is run from its start.
+    pub fn machine(&self, alloc: Global, code: &Deployment) -> Result<Machine, AllocError>
+        ensures { IfOk result (λ m. StandsFor code.now self.now m) }
+    {
+        machine_after(
+            alloc,
+            code,
+            self.func,
+            &self.args,
+            self.within.is_some(),
+            self.answers.as_slice(),
+        )
+    }
+
+    /// Makes a read or an operation on an item, and gives the answer to it. Another effect changes nothing.
+    pub fn make(
+        &mut self,
+        alloc: Global,
+        items: &mut Items,
+        effect: &Effect,
+    ) -> Result<Option<Answer>, AllocError>
+        ensures { Acted items.old items.new self.old self.new effect.now result }
+    {
+        match effect {
+            Effect::Read { table, key } => self.read(alloc, items, *table, key),
+            Effect::Write { table, key, value } => {
+                let key = key.copy(alloc)?;
+                let value = value.copy(alloc)?;
+                self.set(items, *table, key, value, Answer::Done)?;
+                Ok(Some(Answer::Done))
+            }
+            Effect::CondWrite {
+                table,
+                key,
+                rel,
+                operand,
+                value,
+            } => {
+                let passes = items.passes(self.func, *table, key, *rel, operand);
+                if passes {
+                    let key = key.copy(alloc)?;
+                    let value = value.copy(alloc)?;
+                    self.set(items, *table, key, value, tested(true))?;
+                } else {
+                    self.answers.push(tested(false))?;
+                }
+                Ok(Some(tested(passes)))
+            }
+            Effect::Lock { .. } | Effect::Unlock { .. } => {
+                self.answers.push(Answer::Done)?;
+                Ok(Some(Answer::Done))
+            }
+            Effect::Call { .. }
+            | Effect::Async { .. }
+            | Effect::Begin
+            | Effect::End { .. }
+            | Effect::Abort
+            | Effect::Return(_) => Ok(None),
+        }
+    }
+
+    // Reads an item.
+    fn read(
+        &mut self,
+        alloc: Global,
+        items: &Items,
+        table: u16,
+        key: &Str,
+    ) -> Result<Option<Answer>, AllocError>
+        ensures { Acted items.now items.now self.old self.new (effect.Read table key.now) result }
+    {
+        let value = items.copy_of(alloc, self.func, table, key)?;
+        let kept = value.copy(alloc)?;
+        self.answers.push(Answer::Value(kept))?;
+        Ok(Some(Answer::Value(value)))
+    }
+
+    // Sets an item, and is answered so.
+    fn set(
+        &mut self,
+        items: &mut Items,
+        table: u16,
+        key: Str,
+        value: Value,
+        answer: Answer,
+    ) -> Result<(), AllocError>
+        ensures ok { OnOk result ((items.new ≡ set_item items.old (record { func = self.old.func; table = table; key = key }) value) × (self.new ≡ answered self.old answer)) }
+        ensures err { OnErr result ((items.new ≡ items.old) × (self.new ≡ self.old)) }
+    {
+        self.answers.reserve(1)?;
+        items.set(self.func, table, key, value)?;
+        self.answers.push_reserved(answer);
+        Ok(())
+    }
+}
+
+// The answer to a test.
+pub(crate) fn tested(passes: bool) -> Answer
+    ensures { result ≡ answer.Value (value.Bool passes) }
+{
+    Answer::Value(Value::Bool(passes))
+}
+
+pub(crate) fn copy_answer(alloc: Global, answer: &Answer) -> Result<Answer, AllocError>
+    ensures { IfOk result (λ a. a ≡ answer.now) }
+{
+    match answer {
+        Answer::Done => Ok(Answer::Done),
+        Answer::Value(value) => Ok(Answer::Value(value.copy(alloc)?)),
+        Answer::Fault(code) => Ok(Answer::Fault(*code)),
+        Answer::Aborted(cause) => Ok(Answer::Aborted(cause.copy(alloc)?)),
+    }
+}
+
+/// Whether the effect is answered.
+pub fn is_answered(effect: &Effect) -> bool
+    ensures { result ≡ wants_answer effect.now }
+{
+    !matches!(effect, Effect::Return(_))
+}
+
+// The machine of a function's body after these answers, run from its start; called in a transaction or not.
+fn machine_after(
+    alloc: Global,
+    code: &Deployment,
+    func: u16,
+    args: &Value,
+    inherited: bool,
+    answers: &[Answer],
+) -> Result<Machine, AllocError>
+    ensures { IfOk result (λ m. StandsAfter code.now func args.now inherited answers.now m) }
+{
+    let mut machine = Machine::new(alloc, code, func, args.copy(alloc)?, inherited)?;
+    for answer in answers {
+        if !is_answered(machine.wants()) {
+            return Ok(machine);
+        }
+        machine.resume(alloc, code, copy_answer(alloc, answer)?)?;
+    }
+    Ok(machine)
+}
