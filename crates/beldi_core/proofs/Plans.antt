@@ -25,7 +25,7 @@ use Rattle.beldi_core.specs.declared.runs.Copies.{Copies}
 use Rattle.beldi_core.specs.Runs.{Numbered, RunMap, RunTold}
 use Rattle.beldi_step.specs.Host.{Core, Plan, at_once, asks, plan, plan_of, counted, marked, after_turn, run_next, unheard_next, ended_run, run_plan, crash_plan, no_run, Followed, StepBy, Stepped}
 use Rattle.beldi_core.specs.Parts.{NoMemory, PlannedOf, Copied, TellsTurn, entered, mark_told, event_of, turn_event, base, Asked}
-use Rattle.beldi_laws.proofs.Lives.{remove_put}
+use Rattle.beldi_step.proofs.PutRun.{remove_put}
 
 -- ---- the step
 no_memory_by : (d : Deployment) (e : Event) (c z : Core) (r : Result Seen AllocError) (s : TableState) (p : Plan) → NoMemory e c p z r → StepBy d e c p z s s r

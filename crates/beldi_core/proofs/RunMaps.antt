@@ -16,7 +16,7 @@ use Rattle.beldi_step.specs.declared.run.TurnSays.{TurnSays}
 use Rattle.beldi_step.specs.declared.run.Mark.{Mark}
 use Rattle.beldi_step.specs.Run.{Turned, Turns, says_of, going, followed, run_told}
 use Rattle.beldi_step.specs.Host.{put_run}
-use Rattle.beldi_laws.proofs.Lives.{remove_put}
+use Rattle.beldi_step.proofs.PutRun.{remove_put}
 use Rattle.beldi_core.specs.Runs.{RunMap, AllGiven, AllKept, withdrawn, ends_run, settled, uncounted, settled_counts, RunTold}
 use Rattle.beldi_row.proofs.Rows.{get_rows, none_removed}
 use Rattle.beldi_value.specs.Id.{id_cmp}

@@ -11,6 +11,7 @@ use crate::counts::Counts;
 use beldi_book::Book;
 use beldi_lang::Deployment;
 use beldi_step::{Mark, Run, TurnSays};
+use beldi_turn::{ask, callee, told};
 use beldi_value::{Apart, IntentId};
 use beldi_walk::{Heard, Query};
 use std::alloc::{AllocError, Global};
@@ -131,7 +132,7 @@ fn tell(
     let Some(run) = live.get_mut(&number) else {
         unreachable!()
     };
-    let result = run.get_mut().told(alloc, code, changes, heard);
+    let result = told(alloc, run.get_mut(), code, changes, heard);
     settle(live, counts, number, ends(&result));
     result
 }
@@ -155,8 +156,8 @@ pub fn asked(
 {
     book.reserve()?;
     let id = run.id.copy(alloc)?;
-    let callee = run.callee(alloc)?;
-    let query = run.ask(alloc)?;
+    let callee = callee(alloc, run)?;
+    let query = ask(alloc, run)?;
     Ok((query, Copies { id, callee }))
 }
 

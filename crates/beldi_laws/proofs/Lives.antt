@@ -36,6 +36,7 @@ use Rattle.beldi_step.specs.declared.run.Begun.{Begun}
 use Rattle.beldi_step.specs.declared.run.Stage.{Stage}
 use Rattle.beldi_step.specs.declared.run.Stage.TheVariants as stage
 use Rattle.beldi_step.specs.Host.{put_run, most_runs}
+use Rattle.beldi_step.proofs.PutRun.{put_got}
 use Rattle.beldi_call.specs.declared.async_call.AsyncAt.TheVariants as async
 use Rattle.beldi_call.specs.declared.call.CallAt.TheVariants as call
 use Rattle.beldi_laws.specs.Right.{WasThere, Keeps, PlaceOk, SeenDone, Knows, KnowsAt, RunAt, RunsMatch, StageOk, open_of}
@@ -195,19 +196,6 @@ module _ (d : Deployment) (book : List Entry) (p : PlainState) (id : IntentId) (
   places_late r answers later before e s back h = tt
 
 -- ---- live runs
-put_got : (m : FinMap nat_cmp Run) (i : ℕ) (o : Option Run) (j : ℕ) → map.get (put_run m i o) j ≡ cond (is_eq (nat_cmp j i)) o (map.get m j)
-put_got m i None j = get-remove nat_cmp_total m i j
-put_got m i (Some r) j = get-insert nat_cmp_total m i r j
-
--- what was put is taken out
-taken_out : (b : Bool) (o x : Option Run) → cond b None (cond b o x) ≡ cond b None x
-taken_out true o x = refl
-taken_out false o x = refl
-
-pub remove_put : (m : FinMap nat_cmp Run) (i : ℕ) (o : Option Run) → map.remove (put_run m i o) i ≡ map.remove m i
-remove_put m i o = same_map nat_cmp_total nat_cmp-IsAntisymmetric _ _ (λ j.
-    get-remove nat_cmp_total (put_run m i o) i j ∙ ap (cond (is_eq (nat_cmp j i)) None) (put_got m i o j) ∙ taken_out (is_eq (nat_cmp j i)) o (map.get m j) ∙ sym (get-remove nat_cmp_total m i j))
-
 fewer : (b : Bool) (n k : ℕ) → n ≤ k → cond b (n - 1) n ≤ k
 fewer true n k h = omega arith
 fewer false n k h = h

@@ -39,7 +39,8 @@ use Rattle.beldi_order.proofs.Entries.{grows_self, after_grows}
 use Rattle.beldi_order.proofs.Maps.{changed, same_some}
 use Rattle.beldi_order.specs.Grown.{Grows}
 use Rattle.beldi_order.proofs.Growth.{change_last}
-use Rattle.beldi_laws.proofs.Lives.{InsideOn, PlacesOn, places_last, places_same, runs_on, runs_put, runs_more, runs_less, runs_before, numbers_put, remove_put}
+use Rattle.beldi_laws.proofs.Lives.{InsideOn, PlacesOn, places_last, places_same, runs_on, runs_put, runs_more, runs_less, runs_before, numbers_put}
+use Rattle.beldi_step.proofs.PutRun.{remove_put}
 use Rattle.beldi_book.specs.Order.{linear}
 use Rattle.beldi_plain.specs.Guard.{IsFree, IsGuarded}
 use Rattle.beldi_plain.specs.Plain.{nothing}

@@ -1,4 +1,4 @@
-mod Told
-pub mod Inside
+mod Inside
 pub mod Late
+pub mod PutRun
 pub mod Steps

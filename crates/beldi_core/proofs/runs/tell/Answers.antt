@@ -14,7 +14,7 @@ unreachable-requires c = absent_run (map.get (map_of c.args.live.now) c.args.num
 
 pub returns-clause-told : goal.returns-clause-told
 returns-clause-told c =
-    let s = c.told-result.new.self in
+    let s = c.told-result.new.run in
     let h = c.get_mut.follows.holds s in
     let tree = c.get_mut.follows.lender s in
     run_was_told c.args.code.now c.args.changes (map_of c.args.live.now) (map_of tree) (map_of c.settle.new.live) c.args.number c.get_mut-2.result.now s (told_of c.args.heard) c.told-result.result
@@ -24,7 +24,7 @@ returns-clause-told c =
 
 pub returns-clause-kept : goal.returns-clause-kept
 returns-clause-kept c = λ g h.
-    let s = c.told-result.new.self in
+    let s = c.told-result.new.run in
     let f = c.get_mut.follows.holds s in
     let tree = c.get_mut.follows.lender s in
     kept_told g (map_of c.args.live.now) (map_of tree) (map_of c.settle.new.live) c.args.counts.now c.settle.new.counts c.args.number c.get_mut-2.result.now s (ends_run c.told-result.result)

@@ -80,18 +80,6 @@ end_leaves : (id : IntentId) (func step : ℕ) (e : Effect) (v : Visit) (o : Opt
 end_leaves id func step (effect.End commit) v (Some (Own o)) t = visit_leaves commit v _
 end_leaves id func step e v o t = refl
 
--- a visit leaves no mark
-visit_marks : (commit : Bool) (v : Visit) (g : EndGoes) → None ≡ mark_of (visit_says commit v g)
-visit_marks commit v ends.Done = refl
-visit_marks commit v g = refl
-
-visits_mark : (id : IntentId) (func step : ℕ) (e : Effect) (v : Visit) (o : Option RunTx) (t : Told) → None ≡ mark_of (end_here_says id func step e v o t)
-visits_mark id func step (effect.End commit) v (Some (Own o)) t = visit_marks commit v _
-visits_mark id func step e v o t = refl
-
-pub end_unmarked : (id : IntentId) (func step : ℕ) (o : Option RunTx) (e : Effect) (s : Stage) (v : Visit) (t : Told) → s ≡ End v → None ≡ mark_of (ending_says id func step o e s t)
-end_unmarked id func step o e s v t is = visits_mark id func step e v o t ∙ ap (λ w. mark_of (ending_says id func step o e w t)) (sym is)
-
 -- so it turns alike from any stage
 left_so : (d : Deployment) (r : Run) (g : Begun) (s : Stage) (x : Says) → leaves_stage x ≡ true → turned_by d (record r { at = Begins (at_stage g s) }) (at_stage g s) x ≡ turned_by d r g x
 left_so d r g s (On w m) is = refl

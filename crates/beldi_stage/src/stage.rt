@@ -20,7 +20,6 @@ ghost use Rattle.beldi_step.specs.Run.{stage_asks, put_asks, stage_says, mark_of
 use crate::call_stage::{
     async_here, back_query, close_query, hear_async, hear_back, hear_call, hear_close, tell_query,
 };
-use crate::run::{Begun, Mark, RunTx, Says, Stage, Wait};
 use crate::tx_stage::{decide_here, end_here, hear_end, hear_tx, tx_here};
 use beldi_call::{AsyncAt, CallAt, call_query};
 use beldi_daal::{
@@ -30,13 +29,14 @@ use beldi_intent::intent_key;
 use beldi_lang::{Answer, Effect};
 use beldi_readlog::{given_told, kept_told, log_key};
 use beldi_row::{Act, Note, Said};
+use beldi_step::{Begun, Mark, RunTx, Says, Stage, Wait};
 use beldi_txn::TxAt;
 use beldi_value::{Apart, Caller, Cause, IntentId, Owner, Place, Str, Value};
 use beldi_walk::{Heard, Query};
 use std::alloc::{AllocError, Global};
 use std::mem::replace;
 
-pub(crate) fn place_of(alloc: Global, id: &IntentId, step: u32) -> Result<Place, AllocError>
+pub fn place_of(alloc: Global, id: &IntentId, step: u32) -> Result<Place, AllocError>
     ensures { IfOk result (λ p. p ≡ place_at id.now step) }
 {
     Ok(Place {
@@ -45,7 +45,7 @@ pub(crate) fn place_of(alloc: Global, id: &IntentId, step: u32) -> Result<Place,
     })
 }
 
-pub(crate) fn look(alloc: Global, id: &IntentId, func: u16) -> Result<Apart<Query>, AllocError>
+pub fn look(alloc: Global, id: &IntentId, func: u16) -> Result<Apart<Query>, AllocError>
     ensures { IfOk result (λ q. q ≡ look_asks id.now func) }
 {
     Query::look(alloc, intent_key(id.copy(alloc)?, func))
@@ -184,7 +184,7 @@ fn call_here(
 }
 
 // What a stage asks. The table takes the key and the act, so what they have of the effect is copied; the machine keeps it.
-pub(crate) fn stage_query(
+pub fn stage_query(
     alloc: Global,
     id: &IntentId,
     func: u16,
@@ -236,7 +236,7 @@ fn write_done(effect: &Effect, note: &Note, first: bool) -> Says
 }
 
 // What a stage says of what it was told; what the stage of an end has is moved. Out of memory, it tells the mark of its act.
-pub(crate) fn hear(
+pub fn hear(
     alloc: Global,
     id: &IntentId,
     func: u16,
@@ -450,7 +450,7 @@ fn last_stage(caller: &Option<Caller>) -> Stage
 }
 
 // Where an effect begins; none where it is not carried out.
-pub(crate) fn first_stage(
+pub fn first_stage(
     alloc: Global,
     id: &IntentId,
     caller: &Option<Caller>,

@@ -6,10 +6,10 @@ ghost use Rattle.beldi_txn.specs.End.{end_goes, decide_goes, first_visit, moved}
 ghost use Rattle.beldi_txn.specs.declared.end.EndGoes.TheVariants as ends;
 ghost use Rattle.beldi_step.specs.Run.{mark_of, place_of as place_at, own_tx as own_tx_of, tx_at as tx_at_of, tx_here_asks, end_here_asks, put_answer as put_answer_of, tx_says as tx_says_of, tx_here_says, visit_says as visit_says_of, decided_says, ending_says};
 
-use crate::run::{Mark, OpenTx, RunTx, Says, Stage, Wait};
 use crate::stage::{look, mark_if, place_of};
 use beldi_lang::{Answer, Effect};
 use beldi_row::copy_tx;
+use beldi_step::{Mark, OpenTx, RunTx, Says, Stage, Wait};
 use beldi_txn::{
     EndGoes, TxAt, TxGoes, Visit, decide_query, decide_told, end_query, end_told, tx_query, tx_told,
 };
@@ -29,7 +29,7 @@ fn own_tx(alloc: Global, id: &IntentId, func: u16, tx: &OpenTx) -> Result<TxId, 
 }
 
 // The transaction that a run is in.
-pub(crate) fn tx_at(
+pub fn tx_at(
     alloc: Global,
     id: &IntentId,
     func: u16,

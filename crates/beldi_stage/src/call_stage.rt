@@ -6,7 +6,6 @@ ghost use Rattle.beldi_invokelog.specs.InvokeLog.{back_of};
 ghost use Rattle.beldi_intent.specs.Intent.{is_did as is_did_of};
 ghost use Rattle.beldi_step.specs.Run.{mark_of, is_waited as is_waited_of, is_inherited as is_inherited_of, step_mark as step_mark_of, close_asks, call_here_says, async_here_asks, async_here_says, tell_asks, back_to_asks, back_says, close_says, callee_body as callee_body_of};
 
-use crate::run::{Mark, RunTx, Says, Stage, Wait};
 use crate::stage::{look, mark_if, place_of};
 use beldi_call::{
     AsyncAt, AsyncSays, CallAt, CallPlace, CallSays, async_query, async_told, call_told,
@@ -15,6 +14,7 @@ use beldi_intent::{end_told, intent_key};
 use beldi_invokelog::{Back, back_told, invoke_key, registered_query};
 use beldi_lang::{Answer, Effect};
 use beldi_row::{Act, Body};
+use beldi_step::{Mark, RunTx, Says, Stage, Wait};
 use beldi_value::{Apart, Caller, IntentId, Outcome, TxId, Value};
 use beldi_walk::{Heard, Query};
 use std::alloc::{AllocError, Global};
@@ -46,7 +46,7 @@ fn step_mark(tx: &Option<RunTx>, first: bool) -> Option<Mark>
 }
 
 // The body of what is called at a step, in this transaction, if any.
-pub(crate) fn callee_body(
+pub fn callee_body(
     alloc: Global,
     id: &IntentId,
     home: u16,

@@ -1,0 +1,21 @@
+//! The stages of an effect: what each asks of the table, and what it says of what it was told. Nothing here touches a table. It
+//! stands on `beldi_step`, which says what a stage asks and says, and on the walks' parts.
+//!
+//! Proved:
+//! - `stage_query` asks what the stage of a run asks (`stage_asks`), and `hear` says what it says (`stage_says`); out of memory, it tells
+//!   the mark of the act. `first_stage` is where an effect begins, or none where it is not carried out.
+//! - An operation inside a transaction asks as the transaction, and makes no entry (`tx_here_asks`, `tx_says`), and the entry is made with
+//!   the decision of the end, as a commit, or as a try with the cause of what was aborted (`end_mark`, `decided_says`). Then the end
+//!   visits all who took part (`end_here_asks`, `visit_says`). Inside, a run that comes to a lock, an unlock or a call that nobody
+//!   waits for is over (`first_stage`).
+//! - What is called in a transaction is in it throughout, and the call, the operations and the return make no entry (`callee_by`,
+//!   `step_mark`, `back_says`). It is stamped by the owner's end, and not by its own (`close_asks`).
+#![tactic(auto)]
+
+mod call_stage;
+mod stage;
+mod tx_stage;
+
+pub use call_stage::callee_body;
+pub use stage::{first_stage, hear, look, place_of, stage_query};
+pub use tx_stage::tx_at;

@@ -1,0 +1,13 @@
+//! One turn of a run: what it asks of the table, and where it goes by what it is told. Nothing here touches a table. It stands on
+//! `beldi_step`, which says what a turn is, and on `beldi_stage`, which has the stages of an effect.
+//!
+//! Proved:
+//! - `ask` asks what the definition of a run asks, and `told` goes where it goes; out of memory, the error tells the mark of the act
+//!   (`Turns`). `callee` is a run of what a run calls, with its deadline (`callee_of`).
+//! - A run carries out the transactions that its function begins: a begin and an abort take no turn (`at_once`).
+#![tactic(auto)]
+
+mod begun;
+mod turn;
+
+pub use turn::{ask, callee, told};

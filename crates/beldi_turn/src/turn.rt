@@ -1,0 +1,309 @@
+// One turn of a run: what it asks, and where it goes by what it is told.
+ghost use Rattle.std.specs.Prelude.{◌≡◌, true, false, Option, Some, None, IfOk, IfErr};
+ghost use Rattle.beldi_tree.specs.Names.{func_at};
+ghost use Rattle.beldi_walk.specs.Query.{told_of};
+ghost use Rattle.beldi_intent.specs.Intent.{body_in, body_told, open_body as open_body_of, register_asks};
+ghost use Rattle.beldi_step.specs.Run.{run_asks, run_told, followed, plain_says, begin_in, goes_to, takes, at_stage, body_found, body_added, turned_by, Turns, callee_of, callee_run as callee_run_of};
+ghost use Rattle.beldi_step.specs.declared.run.Begun.{Begun};
+ghost use Rattle.beldi_step.specs.declared.run.Mark.{Mark};
+ghost use Rattle.beldi_step.specs.declared.run.RunAt.{RunAt};
+ghost use Rattle.beldi_step.specs.declared.run.RunAt.TheVariants as at;
+
+use crate::begun::{go_to, take, within};
+use beldi_call::CallAt;
+use beldi_intent::{open_body, register_query};
+use beldi_lang::{Answer, Deployment, Effect, Machine};
+use beldi_row::{Body, IntentRow, Row, Said};
+use beldi_stage::{callee_body, hear, look, stage_query, tx_at};
+use beldi_step::{Begun, Mark, Run, RunAt, Says, Stage, TurnSays};
+use beldi_value::{Apart, IntentId};
+use beldi_walk::{Heard, Query};
+use std::alloc::{AllocError, Global};
+use std::mem::replace;
+
+fn plain(mark: Option<Mark>, over: bool) -> TurnSays
+    ensures { result ≡ plain_says mark over }
+{
+    TurnSays {
+        mark,
+        over,
+        starts: false,
+        wait: None,
+        reply: None,
+    }
+}
+
+// The body of an intent that has not ended and is to run this function.
+fn told_body(alloc: Global, func: u16, heard: Heard<'_>) -> Result<Option<Body>, AllocError>
+    ensures { IfOk result (λ b. b ≡ body_told func (told_of heard.entry)) }
+{
+    match heard {
+        Heard::Said(Said::Row(Row::Intent(intent))) => body_of(alloc, func, intent),
+        _ => Ok(None),
+    }
+}
+
+fn body_of(alloc: Global, func: u16, intent: &IntentRow) -> Result<Option<Body>, AllocError>
+    ensures { IfOk result (λ b. b ≡ body_in func (open_body_of intent.now)) }
+{
+    match open_body(intent) {
+        None => Ok(None),
+        Some(body) => {
+            if body.func == func {
+                Ok(Some(body.copy(alloc)?))
+            } else {
+                Ok(None)
+            }
+        }
+    }
+}
+
+fn own_body(func: u16, body: Body) -> Option<Body>
+    ensures { result ≡ body_in func (Some body) }
+{
+    if body.func == func {
+        return Some(body);
+    }
+    drop(body);
+    None
+}
+
+// Asks for the row of an intent with this body.
+fn register(alloc: Global, id: &IntentId, body: &Body) -> Result<Apart<Query>, AllocError>
+    ensures { IfOk result (λ q. q ≡ register_asks id.now body.now) }
+{
+    register_query(alloc, id.copy(alloc)?, body.copy(alloc)?)
+}
+
+// The body that a run registered.
+fn registered(func: u16, at: RunAt) -> Option<Body>
+    ensures { result ≡ body_added func at }
+{
+    match at {
+        RunAt::Registers(body) => own_body(func, body),
+        at => {
+            drop(at);
+            None
+        }
+    }
+}
+
+/// What the run asks in its next turn.
+pub fn ask(alloc: Global, run: &Run) -> Result<Apart<Query>, AllocError>
+    ensures { IfOk result (λ q. q ≡ run_asks run.now) }
+{
+    match &run.at {
+        RunAt::Looks => look(alloc, &run.id, run.func),
+        RunAt::Registers(body) => register(alloc, &run.id, body),
+        RunAt::Begins(begun) => stage_query(alloc, &run.id, run.func, begun),
+    }
+}
+
+/// A run of what the run calls, if it stands at a call: it may act as long as the run. One that is waited for registers
+/// its body, and is in the transaction that the run is in; the row of any other is there before a run of it may start.
+pub fn callee(alloc: Global, run: &Run) -> Result<Option<Apart<Run>>, AllocError>
+    ensures { IfOk result (λ r. r ≡ callee_of run.now) }
+{
+    let RunAt::Begins(begun) = &run.at else {
+        return Ok(None);
+    };
+    let step = begun.machine.steps();
+    match begun.machine.wants() {
+        Effect::Call { func, args } => {
+            let tx = tx_at(alloc, &run.id, run.func, &begun.tx)?;
+            let body = callee_body(alloc, &run.id, run.func, step, *func, args, tx, true)?;
+            callee_run(alloc, run, step, *func, RunAt::Registers(body))
+        }
+        Effect::Async { func, args: _ } => callee_run(alloc, run, step, *func, RunAt::Looks),
+        _ => Ok(None),
+    }
+}
+
+fn callee_run(
+    alloc: Global,
+    run: &Run,
+    step: u32,
+    func: u16,
+    at: RunAt,
+) -> Result<Option<Apart<Run>>, AllocError>
+    ensures { IfOk result (λ r. r ≡ callee_run_of run.now step func at) }
+{
+    if !run.id.has_callees() {
+        drop(at);
+        return Ok(None);
+    }
+    let run = Run {
+        id: run.id.child(alloc, step)?,
+        func,
+        deadline: run.deadline,
+        at,
+    };
+    Ok(Some(Apart::new(alloc, run)?))
+}
+
+/// Where it goes after it was told, when so many changes had been made. Out of memory, it is to be dropped, and the
+/// mark of its act is told.
+pub fn told(
+    alloc: Global,
+    run: &mut Run,
+    code: &Deployment,
+    changes: u64,
+    heard: Heard<'_>,
+) -> Result<TurnSays, Option<Mark>>
+    ensures turns { Turns run.new result (run_told code.now changes run.old (told_of heard.entry)) }
+    ensures id { run.new.id ≡ run.old.id }
+{
+    match &mut run.at {
+        RunAt::Begins(begun) => match hear(alloc, &run.id, run.func, begun, changes, heard) {
+            Ok(says) => follow(alloc, run, code, says),
+            Err(mark) => Err(mark),
+        },
+        _ => find_body(alloc, run, code, heard),
+    }
+}
+
+// A turn before it has its body, which makes no entry.
+fn find_body(
+    alloc: Global,
+    run: &mut Run,
+    code: &Deployment,
+    heard: Heard<'_>,
+) -> Result<TurnSays, Option<Mark>>
+    ensures begun { IfOk result (λ x. followed run.new x ≡ begin_in code.now run.old (func_at code.now run.old.func) (body_found run.old.func run.old.at (told_of heard.entry))) }
+    ensures none { IfErr result (λ m. m ≡ None) }
+    ensures id { run.new.id ≡ run.old.id }
+{
+    match begin(alloc, run, code, heard) {
+        Ok(says) => Ok(says),
+        Err(_) => Err(None),
+    }
+}
+
+fn begin(
+    alloc: Global,
+    run: &mut Run,
+    code: &Deployment,
+    heard: Heard<'_>,
+) -> Result<TurnSays, AllocError>
+    ensures begun { IfOk result (λ x. followed run.new x ≡ begin_in code.now run.old (func_at code.now run.old.func) (body_found run.old.func run.old.at (told_of heard.entry))) }
+    ensures id { run.new.id ≡ run.old.id }
+{
+    match find(alloc, run, heard)? {
+        None => Ok(plain(None, true)),
+        Some(body) => begin_body(alloc, run, code, body),
+    }
+}
+
+// The body that it runs. One that was registered now is moved: where the run stands counts no more.
+fn find(alloc: Global, run: &mut Run, heard: Heard<'_>) -> Result<Option<Body>, AllocError>
+    ensures found { IfOk result (λ b. (b ≡ body_found run.old.func run.old.at (told_of heard.entry)) × (run.new ≡ record run.old { at = run.new.at })) }
+    ensures id { run.new.id ≡ run.old.id }
+{
+    match heard {
+        Heard::Said(Said::Added) => { Ok(registered(run.func, replace(&mut run.at, RunAt::Looks))) }
+        heard => told_body(alloc, run.func, heard),
+    }
+}
+
+fn begin_body(
+    alloc: Global,
+    run: &mut Run,
+    code: &Deployment,
+    body: Body,
+) -> Result<TurnSays, AllocError>
+    ensures begun { IfOk result (λ x. (at : RunAt) → followed run.new x ≡ begin_in code.now (record run.old { at = at }) (func_at code.now run.old.func) (Some body)) }
+    ensures id { run.new.id ≡ run.old.id }
+{
+    if code.func_at(run.func).is_none() {
+        return Ok(plain(None, true));
+    }
+    let inherited = body.tx.is_some();
+    let machine = Machine::new(alloc, code, run.func, body.args, inherited)?;
+    let mut begun = Begun {
+        machine,
+        caller: body.from,
+        tx: within(body.tx),
+        stage: Stage::Close,
+    };
+    let over = go_to(alloc, &mut begun, code, &run.id)?;
+    run.at = RunAt::Begins(begun);
+    Ok(plain(None, over))
+}
+
+fn follow(
+    alloc: Global,
+    run: &mut Run,
+    code: &Deployment,
+    says: Says,
+) -> Result<TurnSays, Option<Mark>>
+    ensures turns { (g : Begun) → run.old.at ≡ at.Begins g → Turns run.new result (turned_by code.now run.old g says) }
+    ensures id { run.new.id ≡ run.old.id }
+{
+    match says {
+        Says::On(stage, mark) => {
+            stand(run, stage);
+            Ok(plain(mark, false))
+        }
+        Says::Stays => Ok(plain(None, false)),
+        Says::Opens(mark) => {
+            stand(run, Stage::Call(CallAt::Look));
+            Ok(TurnSays {
+                mark,
+                over: false,
+                starts: true,
+                wait: None,
+                reply: None,
+            })
+        }
+        Says::Waits(wait) => Ok(TurnSays {
+            mark: None,
+            over: false,
+            starts: false,
+            wait: Some(wait),
+            reply: None,
+        }),
+        Says::Starts(answer) => match go_on(alloc, run, code, answer) {
+            Ok(over) => Ok(TurnSays {
+                starts: true,
+                ..plain(None, over)
+            }),
+            Err(_) => Err(None),
+        },
+        Says::Answers(answer, mark) => match go_on(alloc, run, code, answer) {
+            Ok(over) => Ok(plain(mark, over)),
+            Err(_) => Err(mark),
+        },
+        Says::Ends(mark, reply) => Ok(TurnSays {
+            mark,
+            over: true,
+            starts: false,
+            wait: None,
+            reply,
+        }),
+    }
+}
+
+fn stand(run: &mut Run, stage: Stage)
+    ensures stage { (g : Begun) → run.old.at ≡ at.Begins g → run.new ≡ record run.old { at = at.Begins (at_stage g stage) } }
+    ensures id { run.new.id ≡ run.old.id }
+{
+    if let RunAt::Begins(begun) = &mut run.at {
+        begun.stage = stage;
+    }
+}
+
+fn go_on(
+    alloc: Global,
+    run: &mut Run,
+    code: &Deployment,
+    answer: Answer,
+) -> Result<bool, AllocError>
+    ensures goes { (g : Begun) → run.old.at ≡ at.Begins g → IfOk result (λ b. (mark : Option Mark) → followed run.new (plain_says mark b) ≡ goes_to code.now run.old (takes code.now g.machine g.tx answer) g.caller mark) }
+    ensures id { run.new.id ≡ run.old.id }
+{
+    let RunAt::Begins(begun) = &mut run.at else {
+        return Ok(true);
+    };
+    take(alloc, begun, code, answer)?;
+    go_to(alloc, begun, code, &run.id)
+}
