@@ -17,7 +17,7 @@ use Rattle.beldi_step.specs.Host.{has_run}
 use Rattle.beldi_core.specs.Runs.{RunMap, AllKept}
 use Rattle.beldi_core.specs.Counts.{CountMap, AllCounted, count_at, more, less, is_of, more_if, counted, kept_as, number_of}
 use Rattle.beldi_core.proofs.Least.{none_under}
-use Rattle.beldi_core.proofs.Steps.{first, second}
+use Rattle.beldi_core.proofs.Truths.{first, second}
 
 not_some : false ≡ true → ⊥
 not_some h = cc

@@ -7,10 +7,10 @@ use Rattle.std.proofs.lemmas.Bool.{false≢true}
 use Rattle.beldi_tree.specs.declared.deployment.Deployment.{Deployment}
 use Rattle.beldi_row.specs.Table.{Rows, TableState}
 use Rattle.beldi_step.specs.Host.{Core, first_core}
-use Rattle.beldi_core.specs.Survey.{Opened, Refused, newest_of}
-use Rattle.beldi_core.specs.declared.survey.OpenErr.{OpenErr}
+use Rattle.beldi_host.specs.Survey.{Opened, Refused, newest_of}
+use Rattle.beldi_host.specs.declared.survey.OpenErr.{OpenErr}
 use Rattle.beldi_laws.specs.Right.{Right}
-use Rattle.beldi_core.proofs.Right.{begins_right}
+use Rattle.beldi_host.proofs.Right.{begins_right}
 use Rattle.beldi_outside.specs.Outside.{IsPrefixOf, ReadAllOn, Told, Rose, TookFront, WroteOn, max_source}
 use Rattle.beldi_outside.specs.declared.traits.Failed.{Failed}
 use Rattle.beldi_outside.proofs.Told.{told_same, told_then, told_map}

@@ -20,10 +20,10 @@ use Rattle.beldi_laws.proofs.OneEvent.{book_grew}
 use Rattle.beldi_laws.proofs.Starts.{outcomes_stay, starts_bound}
 use Rattle.beldi_laws.proofs.Standing.{right_stands}
 use Rattle.beldi_laws.proofs.Listing.{listing_plain}
-use Rattle.beldi_core.specs.Right.{SaidOf}
-use Rattle.beldi_core.specs.declared.survey.ReplySeen.{ReplySeen}
-use Rattle.beldi_core.specs.declared.survey.ReplySeen.TheVariants.{Unknown, Gone, Waiting, Reply}
-use Rattle.beldi_core.proofs.Right.{said_of}
+use Rattle.beldi_host.specs.Right.{SaidOf}
+use Rattle.beldi_host.specs.declared.survey.ReplySeen.{ReplySeen}
+use Rattle.beldi_host.specs.declared.survey.ReplySeen.TheVariants.{Unknown, Gone, Waiting, Reply}
+use Rattle.beldi_host.proofs.Right.{said_of}
 use Rattle.beldi_program.specs.declared.session.Stop.{Stop}
 use Rattle.beldi_program.specs.declared.session.Stop.TheVariants.{OutOfMemory}
 use Rattle.beldi_program.specs.Script.{Action, Carry}

@@ -7,8 +7,8 @@ use Rattle.beldi_step.specs.declared.event.Event.{Event}
 use Rattle.beldi_step.specs.declared.event.Seen.{Seen}
 use Rattle.beldi_step.specs.Host.{EventOn, Stepped}
 use Rattle.beldi_step.proofs.Steps.{over_rows, over_any_table}
-use Rattle.beldi_core.specs.Survey.{Reads}
-use Rattle.beldi_core.specs.declared.survey.OpenErr.{OpenErr}
+use Rattle.beldi_host.specs.Survey.{Reads}
+use Rattle.beldi_host.specs.declared.survey.OpenErr.{OpenErr}
 use Rattle.beldi_row.proofs.Tells.{tells_map}
 use Rattle.beldi_outside.specs.Outside.{Told}
 use Rattle.beldi_outside.proofs.Told.{told_map}

@@ -4,7 +4,7 @@ use Rattle.std.specs.FinMap as map
 use Rattle.beldi_tree.specs.declared.deployment.Deployment.{Deployment}
 use Rattle.beldi_row.specs.Table.{Rows, TableState}
 use Rattle.beldi_step.specs.Host.{Core, first_core}
-use Rattle.beldi_core.specs.Survey.{newest_of}
+use Rattle.beldi_host.specs.Survey.{newest_of}
 use Rattle.beldi_outside.specs.Outside.{IsPrefixOf, Told, Rose, TookFront, max_source}
 use Rattle.beldi_program.specs.declared.refusal.Refusal.{Refusal}
 use Rattle.beldi_program.specs.declared.source.Accepted.{Accepted}

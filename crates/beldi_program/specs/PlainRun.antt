@@ -13,8 +13,8 @@ use Rattle.beldi_step.specs.Host.{is_lost, is_dropped}
 use Rattle.beldi_step.specs.Tables.{tables_text}
 use Rattle.beldi_laws.specs.Laws.{starts_of, bound_of, entries_told, told_outcome, HasReply}
 use Rattle.beldi_laws.specs.Stands.{Stands}
-use Rattle.beldi_core.specs.Right.{SaidOf}
-use Rattle.beldi_core.specs.declared.survey.ReplySeen.TheVariants.{Reply}
+use Rattle.beldi_host.specs.Right.{SaidOf}
+use Rattle.beldi_host.specs.declared.survey.ReplySeen.TheVariants.{Reply}
 use Rattle.beldi_program.specs.Response.{Report, ReplyIs, TablesAre, BookIs, Response, Answered, Reported}
 use Rattle.beldi_program.specs.Session.{State, IsStep}
 

@@ -3,8 +3,8 @@ use Rattle.std.specs.Prelude.{ℕ, List, ◌++◌, flat_map, Option, Some, None,
 use Rattle.beldi_tree.specs.declared.deployment.Deployment.{Deployment}
 use Rattle.beldi_step.specs.declared.event.Event.{Event}
 use Rattle.beldi_step.specs.declared.event.Seen.{Seen}
-use Rattle.beldi_core.specs.declared.survey.ReplySeen.{ReplySeen}
-use Rattle.beldi_core.specs.declared.survey.ReplySeen.TheVariants as reply
+use Rattle.beldi_host.specs.declared.survey.ReplySeen.{ReplySeen}
+use Rattle.beldi_host.specs.declared.survey.ReplySeen.TheVariants as reply
 use Rattle.beldi_program.specs.declared.refusal.Refusal.{Refusal}
 use Rattle.beldi_program.specs.Answer.{answer_text, numbered, outcome_line, ticket_line}
 use Rattle.beldi_program.specs.Refusal.{refusal_text}

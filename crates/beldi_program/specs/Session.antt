@@ -7,9 +7,9 @@ use Rattle.beldi_row.specs.Table.{Rows, TableState, Rose, row_count}
 use Rattle.beldi_book.specs.Text.{book_text}
 use Rattle.beldi_step.specs.Host.{Core, EventOn}
 use Rattle.beldi_step.specs.Tables.{tables_text}
-use Rattle.beldi_core.specs.declared.host.Host.{Host}
-use Rattle.beldi_core.specs.Host.{core_of}
-use Rattle.beldi_core.specs.Survey.{reply_seen, is_unknown}
+use Rattle.beldi_host.specs.declared.host.Host.{Host}
+use Rattle.beldi_host.specs.Host.{core_of}
+use Rattle.beldi_host.specs.Survey.{reply_seen, is_unknown}
 use Rattle.beldi_outside.specs.Outside.{Told, IsPrefixOf}
 use Rattle.beldi_program.specs.declared.session.Stop.{Stop}
 use Rattle.beldi_program.specs.declared.session.Stop.TheVariants.{OutOfMemory, SinkFault}

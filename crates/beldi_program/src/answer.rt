@@ -9,7 +9,7 @@ ghost use Rattle.beldi_program.specs.Response.{reply_line};
 
 use beldi_book::Entry;
 use beldi_check::Checked;
-use beldi_core::ReplySeen;
+use beldi_host::ReplySeen;
 use beldi_step::Seen;
 use beldi_value::{Apart, IntentId, Outcome, Owner, Str, Value};
 use std::alloc::{AllocError, Global};

@@ -1,6 +1,6 @@
 //! The program without its real streams: it reads a deployment and a script, hosts the deployment, and writes what the
 //! script's events came to; or it tests them, and carries out nothing.
-//! It stands on the host (`beldi_core`), the readers of its words and of its source (`beldi_command`, `beldi_syntax`,
+//! It stands on the host (`beldi_host`), the readers of its words and of its source (`beldi_command`, `beldi_syntax`,
 //! `beldi_script`), the checks of a deployment (`beldi_check`), the table that a host is over (`beldi_row`) and what is outside
 //! (`beldi_outside`); its clauses speak of definitions of the crates below them.
 //! Its own definitions: `specs/Source` (what a source says: its refusal, or a deployment and numbered lines), `specs/Refusal`

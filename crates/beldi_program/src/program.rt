@@ -16,7 +16,7 @@ use crate::session::{Stop, run_script};
 use crate::source::{Accepted, read_source, script_at};
 use beldi_check::Checked;
 use beldi_command::{Command, read_command};
-use beldi_core::{Host, OpenErr};
+use beldi_host::{Host, OpenErr};
 use beldi_outside::{Clock, Link, ReadErr, Sink, Source, read_all, write_all};
 use beldi_row::Table;
 use beldi_value::Str;

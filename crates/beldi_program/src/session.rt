@@ -13,7 +13,7 @@ use crate::refusal::{SourceErr, write_refusal};
 use crate::source::read_said;
 use beldi_book::Book;
 use beldi_check::Checked;
-use beldi_core::{Host, OpenErr};
+use beldi_host::{Host, OpenErr};
 use beldi_outside::Sink;
 use beldi_row::Table;
 use beldi_script::{Line, cut_line};

@@ -1,10 +1,10 @@
 // Calls that the program does not make, each where memory is ample: that it is not, no contract rules out.
 use beldi_book::{Book, Entry};
 use beldi_check::{Checked, check};
-use beldi_core::Host;
+use beldi_executor::{Bar, Plain, PlainErr};
+use beldi_host::Host;
 use beldi_lang::Machine;
 use beldi_outside::{Clock, ClosedLink, Failed, Link, MemClock, MemSource, read_up_to};
-use beldi_executor::{Bar, Plain, PlainErr};
 use beldi_script::{read_line, write_line};
 use beldi_step::Event;
 use beldi_syntax::read_deployment;

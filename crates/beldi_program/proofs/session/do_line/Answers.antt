@@ -1,6 +1,6 @@
 use Rattle.std.proofs.Common.{◌≡◌, ◌++◌, ◌∙◌, [], ◌∷◌, true, false, IfOk, refl, ap, sym, subst, arith}
 use Rattle.std.specs.Prelude.{OnOk}
-use Rattle.beldi_core.specs.Host.{core_of}
+use Rattle.beldi_host.specs.Host.{core_of}
 use Rattle.beldi_program.specs.Source.{Numbered, said_at}
 use Rattle.beldi_program.specs.Script.{Refuse, actions_of, and_then, is_ok}
 use Rattle.beldi_program.specs.Response.{LineRefused, report_text}

@@ -1,5 +1,5 @@
 use Rattle.std.proofs.Common.{[], ◌∷◌, true, Ok, refl, sym, subst}
-use Rattle.beldi_core.specs.Host.{core_of}
+use Rattle.beldi_host.specs.Host.{core_of}
 use Rattle.beldi_program.specs.Script.{ListTables, ListBook}
 use Rattle.beldi_program.specs.Session.{Does, sight}
 use Rattle.beldi_program.proofs.Calls.{does_then, does_before, does_done, flushed}

@@ -1,6 +1,6 @@
 use Rattle.std.proofs.Common.{◌≡◌, IfOk, sym, subst}
 use Rattle.std.proofs.lemmas.List.{append-nil}
-use Rattle.beldi_core.specs.Host.{core_of}
+use Rattle.beldi_host.specs.Host.{core_of}
 use Rattle.beldi_script.specs.Cut.{lines_of}
 use Rattle.beldi_program.specs.Script.{actions_in, is_whole}
 use Rattle.beldi_program.specs.Source.{numbered}

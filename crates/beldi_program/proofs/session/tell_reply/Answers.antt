@@ -1,8 +1,8 @@
 use Rattle.std.proofs.Common.{◌≡◌, ◌++◌, [], ◌∷◌, None, Some, Err, refl, ap, sym, subst}
 use Rattle.std.specs.Prelude.{OnOk}
 use Rattle.beldi_row.specs.Table.{Rows}
-use Rattle.beldi_core.specs.declared.survey.ReplySeen.{ReplySeen}
-use Rattle.beldi_core.specs.Survey.{reply_seen}
+use Rattle.beldi_host.specs.declared.survey.ReplySeen.{ReplySeen}
+use Rattle.beldi_host.specs.Survey.{reply_seen}
 use Rattle.beldi_program.specs.Script.{TellReply}
 use Rattle.beldi_program.specs.Response.{ReplyIs, report_text}
 use Rattle.beldi_program.specs.Session.{Does, IsReport, sight, state_at}

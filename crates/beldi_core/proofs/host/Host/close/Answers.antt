@@ -1,6 +1,0 @@
-use Rattle.std.proofs.Common.{rules}
-use Rattle.beldi_core.proofs.Right.{stands_at}
-use Rattle.beldi_core.proofs.host.Host.close.Goals as goal
-
-pub returns-clause-stands : goal.returns-clause-stands
-returns-clause-stands g c = search (rules, stands_at)

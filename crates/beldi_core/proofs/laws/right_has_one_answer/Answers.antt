@@ -1,6 +1,0 @@
-use Rattle.std.proofs.Common.{rules}
-use Rattle.beldi_core.proofs.Right.{one_answer_at}
-use Rattle.beldi_core.proofs.laws.right_has_one_answer.Goals as goal
-
-pub returns : goal.returns
-returns g c = search (rules, one_answer_at)

@@ -1,6 +1,0 @@
-use Rattle.std.proofs.Common.{rules}
-use Rattle.beldi_core.proofs.Right.{stands_at}
-use Rattle.beldi_core.proofs.laws.right_stands.Goals as goal
-
-pub returns : goal.returns
-returns g c = search (rules, stands_at)

@@ -1,0 +1,5 @@
+mod Looks
+mod Newest
+pub mod Right
+mod Skips
+mod Steps

@@ -1,0 +1,71 @@
+-- The greatest ticket of the keys of a map.
+use Rattle.std.proofs.Common.{◌≡◌, ◌⊎◌, inl, inr, ℕ, ◌<◌, ◌≤◌, Bool, true, false, cond, ◌&&◌, T, List, [], ◌∷◌, Option, None, Some, refl, ap, sym, ◌∙◌, subst, arith}
+use borrow.Author.Tests.{ltb-true, ltb-false}
+use Rattle.std.specs.Prelude.{IsSome, max, nat_lt, filter}
+use Rattle.std.specs.Option.{MatchOption, option_map}
+use denote.Bor.{Bor}
+use Rattle.std.specs.Map.{keys_of}
+use Rattle.std.specs.List.Sorted.{IsStrictlySortedBy}
+use Rattle.std.specs.FinMap as map
+use Rattle.std.specs.FinMap.{nat_cmp-IsAntisymmetric, get-entries, entries_sorted}
+use Rattle.std.specs.FinMap.Entries.{find, is_sorted, below_all}
+use Rattle.std.specs.Cmp.{nat_cmp_total, ranks, Equal-is}
+use Rattle.std.specs.Ordering.{nat_cmp, is_eq, is_lt, MatchOrdering}
+use Rattle.std.proofs.lemmas.Cmp.{tied_itself}
+use Rattle.std.proofs.lemmas.Map.Keys.{ge_from_not_lt}
+use Rattle.beldi_row.specs.Key.{RowKey, key_cmp, key_ticket}
+use Rattle.beldi_row.specs.KeyOrder.{key_total}
+use Rattle.beldi_row.specs.declared.row.Row.{Row}
+use Rattle.beldi_row.specs.Table.{Rows, Tells}
+use Rattle.beldi_row.proofs.Gets.{key_same}
+use Rattle.beldi_row.proofs.Rows.{entries_rows}
+use Rattle.beldi_core.proofs.Truths.{first, second, test_true, less}
+use Rattle.beldi_step.specs.declared.run.Run.{Run}
+use Rattle.beldi_core.specs.Runs.{RunMap, IsLeastPast}
+use Rattle.beldi_host.specs.Survey.{greatest, newest_of, IsNewest, NewestAt}
+
+not_some : false ≡ true → ⊥
+not_some h = cc
+
+at_most : (k : RowKey) (es : List (RowKey × Row)) → IsSome (find key_cmp k es) → key_ticket k ≤ greatest es
+at_most k [] h = absurd (not_some h)
+at_most k (e ∷ es) h = (elim (is_eq (key_cmp k e.0)) as (λ b. is_eq (key_cmp k e.0) ≡ b → IsSome (cond b (Some e.1) (find key_cmp k es)) → key_ticket k ≤ max (key_ticket e.0) (greatest es)) [
+  | true ↦ λ t here. let same : key_ticket k ≡ key_ticket e.0 = ap key_ticket (key_same k e.0 t) in omega arith
+  | false ↦ λ t here. let rest = at_most k es here in omega (arith, rest)
+]) refl h
+
+abbrev Names : List (RowKey × Row) → ℕ → Type 0
+Names es t = (k : RowKey) × IsSome (find key_cmp k es) × (key_ticket k ≡ t)
+
+-- what is there is there with an entry before
+still : (b : Bool) (r : Row) (o : Option Row) → IsSome o → IsSome (cond b (Some r) o)
+still true r o h = refl
+still false r o h = h
+
+named : (es : List (RowKey × Row)) → (greatest es ≡ 0) ⊎ Names es (greatest es)
+named [] = inl refl
+named (e ∷ es) = by_size (nat_lt (key_ticket e.0) (greatest es)) refl (named es)
+  where
+    by_size : (b : Bool) → nat_lt (key_ticket e.0) (greatest es) ≡ b → (greatest es ≡ 0) ⊎ Names es (greatest es) → (max (key_ticket e.0) (greatest es) ≡ 0) ⊎ Names (e ∷ es) (max (key_ticket e.0) (greatest es))
+    by_size false p h =
+        let size : greatest es ≤ key_ticket e.0 = ltb-false (key_ticket e.0) (greatest es) p in
+        inr (e.0, subst (λ (o : Option Row). IsSome o) (ap (λ b. cond b (Some e.1) (find key_cmp e.0 es)) (sym (ap is_eq (tied_itself key_total e.0)))) refl, omega arith)
+    by_size true p (inl z) = let size : key_ticket e.0 < greatest es = ltb-true (key_ticket e.0) (greatest es) p in absurd (omega arith)
+    by_size true p (inr h) =
+        let size : key_ticket e.0 < greatest es = ltb-true (key_ticket e.0) (greatest es) p in
+        let same : greatest es ≡ max (key_ticket e.0) (greatest es) = omega arith in
+        inr (h.0, still (is_eq (key_cmp h.0 e.0)) e.1 (find key_cmp h.0 es) h.1, h.2 ∙ same)
+
+pub newest_is : (m : Rows) (t : ℕ) → t ≡ newest_of m → IsNewest m t
+newest_is m t is = subst (IsNewest m) (sym is) (record {
+  none_above = λ k h. at_most k (map.entries m) (subst IsSome (get-entries m k) h);
+  named = (elim (named (map.entries m)) [
+    | inl z ↦ inl z
+    | inr h ↦ inr (h.0, subst IsSome (sym (get-entries m h.0)) h.1, h.2)
+  ]);
+})
+
+pub newest_at : (t : ℕ) (before after : Option Rows) → Tells before after (λ m n. (n ≡ m) × (t ≡ newest_of m)) → NewestAt before t
+newest_at t None after h = tt
+newest_at t (Some m) None h = absurd h
+newest_at t (Some m) (Some n) h = newest_is m t h.1

@@ -1,0 +1,155 @@
+-- Why the calls of a host keep it and its rows right, and what they tell of the run of the book.
+use Rattle.std.proofs.Common.{◌≡◌, ℕ, ◌++◌, ◌&&◌, Bool, true, false, List, [], Option, None, Some, Result, Ok, Err, refl, ap, sym, ◌∙◌, subst, is_some, arith, if◌then◌else◌}
+use Rattle.std.specs.Prelude.{nat_lt, nat_le, OnOk, IfOk, IfSome, IsSome}
+use Rattle.std.specs.FinMap as map
+use Rattle.std.specs.FinMap.{len-entries, len-empty}
+use Rattle.std.specs.declared.alloc.AllocError.{AllocError}
+use Rattle.std.proofs.lemmas.Bool.Decides.{nat_tests}
+use Rattle.std.proofs.lemmas.List.{nil_from_length}
+use Rattle.beldi_value.specs.Id.{root_of}
+use Rattle.beldi_value.specs.declared.outcome.Outcome.{Outcome}
+use Rattle.beldi_tree.specs.declared.deployment.Deployment.{Deployment}
+use Rattle.beldi_row.specs.Key.{key_cmp}
+use Rattle.beldi_row.specs.declared.row.Body.{Body}
+use Rattle.beldi_row.specs.declared.row.Row.{Row}
+use Rattle.beldi_row.specs.declared.row.Row.TheVariants.{Intent}
+use Rattle.beldi_row.specs.Table.{Rows, TableState, Tells}
+use Rattle.beldi_plain.specs.Plain.{PlainState, reply_of, outcome_of}
+use Rattle.beldi_step.specs.declared.event.Event.{Event}
+use Rattle.beldi_step.specs.declared.event.Seen.{Seen}
+use Rattle.beldi_intent.specs.Intent.{root_key}
+use Rattle.beldi_step.specs.Host.{Core, first_core, Stepped, EventOn}
+use Rattle.beldi_step.proofs.Late.{expires}
+use Rattle.beldi_step.proofs.Steps.{over_rows}
+use Rattle.beldi_step.specs.Tables.{tables_text}
+use Rattle.beldi_laws.specs.Right.{Right}
+use Rattle.beldi_laws.proofs.Events.{begins, after_event, keeps_right, right_legal}
+use Rattle.beldi_laws.proofs.Standing.{same_run, right_stands}
+use Rattle.beldi_laws.proofs.Listing.{listing_plain}
+use Rattle.beldi_laws.proofs.Outside.{outcome_known}
+use Rattle.beldi_host.specs.Survey.{Reads, greatest, newest_of, outcome_seen, row_seen, is_unknown, reply_seen}
+use Rattle.beldi_host.specs.declared.survey.OpenErr.{OpenErr}
+use Rattle.beldi_host.specs.declared.survey.ReplySeen.{ReplySeen}
+use Rattle.beldi_host.specs.declared.survey.ReplySeen.TheVariants.{Unknown}
+use Rattle.beldi_laws.specs.Laws.{is_gone}
+use Rattle.beldi_laws.specs.Stands.{Stands}
+use Rattle.beldi_laws.specs.OneAnswer.{OneAnswerPerStep, AnswersStay}
+use Rattle.beldi_laws.proofs.Moves.{seen_by}
+use Rattle.beldi_laws.proofs.OneAnswer.{one_answer, answers_stay}
+use Rattle.beldi_plain.specs.Legal.{IsLegal, run_of}
+use Rattle.beldi_plain.specs.Listing.{listing_of}
+use Rattle.beldi_row.proofs.Tells.{tells_map}
+use Rattle.beldi_host.specs.Right.{EndsLate, RowsStandFor, HasNoRows, HasNoReply, SaidOf}
+use Rattle.beldi_known.specs.Matches.{has_ended}
+use Rattle.beldi_known.specs.Rows.{IntentMatches, BodyMatches}
+
+-- ---- what is told
+if_told : {P Q : Rows → Type 0} (told : Option Rows) → ((m : Rows) → P m → Q m) → IfSome told P → IfSome told Q
+if_told None f h = h
+if_told (Some m) f h = f m h
+
+-- what follows from what is told before and after
+tells_so : {R : Rows → Rows → Type 0} (Z : Option Rows → Option Rows → Type 0) → Z None None → ((m n : Rows) → R m n → Z (Some m) (Some n)) → (before after : Option Rows) → Tells before after R → Z before after
+tells_so Z none some None after h = subst (Z None) (sym h) none
+tells_so Z none some (Some m) None h = absurd h
+tells_so Z none some (Some m) (Some n) h = some m n h
+
+-- ---- what a right host has
+module _ (d : Deployment) (c : Core) (told : Option Rows) where
+  pub legal_at : IfSome told (Right d c) → IfSome told (λ m. IsLegal d c.book)
+  legal_at h = if_told {P = Right d c} {Q = λ m. IsLegal d c.book} told (right_legal d c) h
+
+  pub stands_at : IfSome told (Right d c) → RowsStandFor d c.book told
+  stands_at h = if_told {P = Right d c} {Q = λ m. (p : PlainState) → run_of d c.book ≡ Some p → Stands d m p} told (λ m r p is. right_stands d c m p r is) h
+
+  pub one_answer_at : IfSome told (Right d c) → IfSome told (λ m. (p : PlainState) → run_of d c.book ≡ Some p → OneAnswerPerStep d c m p)
+  one_answer_at h = if_told {P = Right d c} {Q = λ m. (p : PlainState) → run_of d c.book ≡ Some p → OneAnswerPerStep d c m p} told (λ m r p is. one_answer d c m p r is) h
+
+-- ---- the host after an event
+module _ (d : Deployment) (e : Event) (c b : Core) (old new : TableState) (x : Result Seen AllocError) (s : Stepped d e c b old new x) where
+  abbrev On : Rows → Rows → Type 0
+  On m n = EventOn d old.room old.faults new.faults e c m b n x
+
+  pub event_stays : Tells old.rows new.rows AnswersStay
+  event_stays = tells_map {P = On} {Q = AnswersStay} old.rows new.rows (λ m n h. answers_stay d old.room old.faults new.faults e c b m n x h) (over_rows d e c b old new x s)
+
+  pub event_keeps : (k : Deployment) → k ≡ d → IfSome old.rows (Right d c) → IfSome new.rows (Right k b)
+  event_keeps k code = subst (λ (z : Deployment). IfSome old.rows (Right d c) → IfSome new.rows (Right z b)) (sym code)
+      (tells_so {R = On} (λ o u. IfSome o (Right d c) → IfSome u (Right d b)) (λ h. tt) (λ m n h r. keeps_right d old.room old.faults new.faults e c b m n x r h) old.rows new.rows (over_rows d e c b old new x s))
+
+  -- no ticket is answered gone
+  pub never_gone : IsSome old.rows → IfSome old.rows (Right d c) → IfOk x (λ y. is_gone y ≡ false)
+  never_gone = tells_so {R = On} (λ o u. IsSome o → IfSome o (Right d c) → IfOk x (λ y. is_gone y ≡ false)) (λ some. let clash : false ≡ true = some in cc)
+      (λ m n h some r. answered x (after_event d old.room old.faults new.faults e c b m n x r h).there) old.rows new.rows (over_rows d e c b old new x s)
+    where
+      answered : (y : Result Seen AllocError) → is_gone (seen_by y) ≡ false → IfOk y (λ z. is_gone z ≡ false)
+      answered (Ok z) h = h
+      answered (Err w) h = tt
+
+  pub ends_late : EndsLate e c b old new x
+  ends_late i run few of is past = expires d e c b old new x i run s few of is past
+
+-- ---- a host that was opened over no rows
+no_entries : map.entries (map.empty {X = Row} {R = key_cmp}) ≡ []
+no_entries = nil_from_length (map.entries (map.empty {X = Row} {R = key_cmp})) (sym (len-entries (map.empty {X = Row} {R = key_cmp})) ∙ len-empty key_cmp Row)
+
+pub begins_right : (d : Deployment) (now : ℕ) (m : Rows) → m ≡ map.empty → Right d (first_core (newest_of m) now) m
+begins_right d now m none = subst (λ (y : Rows). Right d (first_core (newest_of y) now) y) (sym none) (subst (λ (k : ℕ). Right d (first_core k now) map.empty) (sym (ap greatest no_entries)) (begins d now))
+
+pub opened : (d : Deployment) (c : Core) (now : ℕ) (before after : Option Rows) → c ≡ first_core c.newest now → Tells before after (λ m n. (n ≡ m) × (c.newest ≡ newest_of m)) → HasNoRows before → IfSome after (Right d c)
+opened d c now before after core = tells_so {R = λ m n. (n ≡ m) × (c.newest ≡ newest_of m)} (λ o u. HasNoRows o → IfSome u (Right d c)) (λ h. tt)
+    (λ m n t none. subst (Right d c) (sym t.0) (subst (λ (z : Core). Right d z m) (sym (core ∙ ap (λ k. first_core k now) t.1)) (begins_right d now m none))) before after
+
+-- ---- the listing
+pub listed : (d : Deployment) (c : Core) (text longer : List ℕ) (old new : TableState) (x : Result (Unit {0}) OpenErr) → Reads (λ m u. longer ≡ text ++ tables_text d m) old new x
+    → IfSome old.rows (Right d c) → OnOk x (IfSome old.rows (λ m. (p : PlainState) → run_of d c.book ≡ Some p → longer ≡ text ++ listing_of d p))
+listed d c text longer old new (Err w) s h = tt
+listed d c text longer old new (Ok u) s h = tells_so {R = λ m n. (n ≡ m) × (longer ≡ text ++ tables_text d m)}
+    (λ o u. IfSome o (Right d c) → IfSome o (λ m. (p : PlainState) → run_of d c.book ≡ Some p → longer ≡ text ++ listing_of d p)) (λ h. tt)
+    (λ m n t h p is. t.1 ∙ ap (λ z. text ++ z) (listing_plain d c m p h is)) old.rows new.rows s.rows h
+
+-- ---- a reply
+issued_if : (t n : ℕ) → is_unknown n t ≡ false → (nat_lt 0 t && nat_le t n) ≡ true
+issued_if t n h = grind (arith, nat_tests)
+
+not_issued_if : (t n : ℕ) → is_unknown n t ≡ true → (nat_lt 0 t && nat_le t n) ≡ false
+not_issued_if t n h = grind (arith, nat_tests)
+
+not_there : (r : Option Row) → is_some r ≡ false → r ≡ None
+not_there None h = refl
+not_there (Some r) h = cc
+
+module _ (d : Deployment) (c : Core) (m : Rows) (h : Right d c m) (t : ℕ) where
+  no_reply : reply_of h.plain t ≡ None → HasNoReply d c.book t
+  no_reply none p is = subst (λ (q : PlainState). reply_of q t ≡ None) (same_run d c m p h is) none
+
+  -- a reply that is known is the plain one
+  reply_known : reply_of h.plain t ≡ outcome_of (map.get h.known (root_of t))
+  reply_known = sym (outcome_known d h.plain h.known h.beside (root_of t) (λ k is. (h.sane.roots t k is).1))
+
+  absent : map.get m (root_key t) ≡ None → HasNoReply d c.book t
+  absent is = no_reply (reply_known ∙ ap outcome_of (subst (λ (r : Option Row). IntentMatches (has_ended d h.known) true 0 r (map.get h.known (root_of t))) is (h.rows.keys (root_key t))))
+
+  by_body : (b : Option Body) (o : Option Outcome) → (b ≡ None → o ≡ None) → BodyMatches b o (map.get h.known (root_of t)) → SaidOf d c.book t (outcome_seen o)
+  by_body None None bare root = no_reply (reply_known ∙ ap outcome_of root)
+  by_body None (Some o) bare root = let clash = bare refl in cc
+  by_body (Some b) None bare root = no_reply (reply_known ∙ ap outcome_of root.0.made ∙ root.1)
+  by_body (Some b) (Some o) bare root = record { run = h.plain; legal = h.legal; reply = reply_known ∙ ap outcome_of root.0.made ∙ root.1 }
+
+  by_row : (r : Option Row) → is_some r ≡ true → IntentMatches (has_ended d h.known) true 0 r (map.get h.known (root_of t)) → SaidOf d c.book t (row_seen r)
+  by_row None there root = cc
+  by_row (Some (Intent i)) there root = by_body i.body i.outcome root.bare root.body
+  by_row (Some r) there root = absurd root
+
+  by_ticket : (b : Bool) → is_unknown c.newest t ≡ b → SaidOf d c.book t (if b then Unknown else row_seen (map.get m (root_key t)))
+  by_ticket true is = absent (not_there (map.get m (root_key t)) (h.tickets t ∙ not_issued_if t c.newest is))
+  by_ticket false is = by_row (map.get m (root_key t)) (h.tickets t ∙ issued_if t c.newest is) (h.rows.keys (root_key t))
+
+  pub said_of : SaidOf d c.book t (reply_seen c.newest t m)
+  said_of = by_ticket (is_unknown c.newest t) refl
+
+pub said : (d : Deployment) (c : Core) (t : ℕ) (old new : TableState) (x : Result ReplySeen OpenErr)
+    → Reads (λ m y. y ≡ reply_seen c.newest t m) old new x → IfSome old.rows (Right d c) → IfOk x (λ y. IfSome old.rows (λ m. SaidOf d c.book t y))
+said d c t old new (Err w) s h = tt
+said d c t old new (Ok y) s h = tells_so {R = λ m n. (n ≡ m) × (y ≡ reply_seen c.newest t m)} (λ o u. IfSome o (Right d c) → IfSome o (λ m. SaidOf d c.book t y)) (λ h. tt)
+    (λ m n z h. subst (λ (r : ReplySeen). SaidOf d c.book t r) (sym z.1) (said_of d c m h t)) old.rows new.rows s.rows h

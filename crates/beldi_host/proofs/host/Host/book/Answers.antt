@@ -1,0 +1,6 @@
+use Rattle.std.proofs.Common.{rules}
+use Rattle.beldi_host.proofs.Right.{legal_at}
+use Rattle.beldi_host.proofs.host.Host.book.Goals as goal
+
+pub returns-clause-legal : goal.returns-clause-legal
+returns-clause-legal g c = search (rules, legal_at)

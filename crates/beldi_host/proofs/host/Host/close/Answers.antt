@@ -1,0 +1,6 @@
+use Rattle.std.proofs.Common.{rules}
+use Rattle.beldi_host.proofs.Right.{stands_at}
+use Rattle.beldi_host.proofs.host.Host.close.Goals as goal
+
+pub returns-clause-stands : goal.returns-clause-stands
+returns-clause-stands g c = search (rules, stands_at)

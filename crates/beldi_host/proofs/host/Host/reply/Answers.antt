@@ -1,0 +1,10 @@
+use Rattle.beldi_host.specs.Host.{core_of}
+use Rattle.beldi_host.proofs.Right.{said}
+use Rattle.beldi_host.proofs.host.Host.reply.Goals as goal
+
+pub returns-clause-plain : goal.returns-clause-plain
+returns-clause-plain g c =
+    let t = g.T.Table in
+    let h = c.args.self.now in
+    let k = c.look.new.self in
+    said h.code (core_of h) c.args.ticket (t.state h.table) (t.state k.table) c.look.result c.look.ensures.reads

@@ -1,0 +1,14 @@
+use Rattle.std.proofs.Common.{subst, Err}
+use Rattle.beldi_tree.specs.declared.deployment.Deployment.{Deployment}
+use Rattle.beldi_step.specs.Host.{Stepped}
+use Rattle.beldi_core.specs.Parts.{core_in}
+use Rattle.beldi_core.proofs.Plans.{no_memory}
+use Rattle.beldi_host.proofs.host.Host.step.Goals as goal
+
+pub returns-in-Err-clause-step : goal.returns-in-Err-clause-step
+returns-in-Err-clause-step g c =
+    let h = c.args.self.now in
+    let s = g.T.Table.state h.table in
+    let w = Err c.in-Err.why in
+    subst (λ (d : Deployment). Stepped d c.args.event (core_in h.core) (core_in c.plan.new.self) s s w) c.code.ensures.same
+    (no_memory c.code.result.now c.args.event (core_in h.core) (core_in c.plan.new.self) w s c.in-Err.ensures)

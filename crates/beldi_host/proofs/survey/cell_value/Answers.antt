@@ -1,0 +1,18 @@
+use Rattle.std.proofs.Common.{Option, Ok, Err, refl}
+use Rattle.beldi_row.specs.declared.row.Row.{Row}
+use Rattle.beldi_step.specs.Tables.{value_in}
+use Rattle.beldi_host.specs.declared.survey.OpenErr.TheVariants.{OutOfMemory}
+use Rattle.beldi_host.proofs.Looks.{seen}
+use Rattle.beldi_host.proofs.survey.cell_value.Goals as goal
+
+pub returns-in-Ok : goal.returns-in-Ok
+returns-in-Ok g c =
+    let t = g.T.Table in
+    seen (λ (o : Option Row). value_in o c.args.value) c.args.key c.args.key c.args.now (t.state c.args.table.now) (t.state c.act.follows.lender-at-none) c.act.result c.in_ok-said.said c.in_ok-said.was
+    refl c.act.follows.holds-at-none (Ok c.in-Ok.value) (λ e. cc) c.in-Ok.ensures
+
+pub returns-in-Err : goal.returns-in-Err
+returns-in-Err g c =
+    let t = g.T.Table in
+    seen (λ (o : Option Row). value_in o c.args.value) c.args.key c.args.key c.args.now (t.state c.args.table.now) (t.state c.act.follows.lender-at-none) c.act.result c.in_ok-said.said c.in_ok-said.was
+    refl c.act.follows.holds-at-none (Err OutOfMemory) (λ e. cc) tt

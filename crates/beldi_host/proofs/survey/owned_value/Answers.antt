@@ -1,0 +1,22 @@
+use Rattle.std.proofs.Common.{◌≡◌, Bool, true, false, Ok}
+use Rattle.std.specs.FinMap as map
+use Rattle.beldi_value.specs.declared.value.Value.{Value}
+use Rattle.beldi_step.specs.Tables.{is_committed, value_in, owned_value}
+use Rattle.beldi_host.proofs.Steps.{reads_so, reads_then, owned_committed, owned_open}
+use Rattle.beldi_host.proofs.survey.owned_value.Goals as goal
+
+pub returns-in-Ok-true : goal.returns-in-Ok-true
+returns-in-Ok-true g c =
+    let t = g.T.Table in
+    let o = c.args.owned in
+    reads_then (λ m (b : Bool). b ≡ is_committed (map.get m o.decision)) (λ m (v : Value). v ≡ value_in (map.get m o.shadow) o.value) (λ m (v : Value). v ≡ owned_value m o.decision o.shadow o.value)
+    (t.state c.args.table.now) (t.state c.is_committed.new.table) (t.state c.cell_value.new.table) true c.cell_value.result (λ m v p q. owned_committed m o.decision o.shadow o.value v p q)
+    (rw c.in-Ok-true.field-0-test at c.in-Ok-true.ensures) c.cell_value.ensures
+
+pub returns-in-Ok-false : goal.returns-in-Ok-false
+returns-in-Ok-false g c =
+    let t = g.T.Table in
+    let o = c.args.owned in
+    reads_so (λ m (b : Bool). b ≡ is_committed (map.get m o.decision)) (λ m (v : Value). v ≡ owned_value m o.decision o.shadow o.value)
+    (t.state c.args.table.now) (t.state c.is_committed.new.table) (Ok false) (Ok o.value) (λ e. cc) (λ m p. owned_open m o.decision o.shadow o.value p)
+    (rw c.in-Ok-false.field-0-test at c.in-Ok-false.ensures)

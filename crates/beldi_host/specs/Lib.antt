@@ -1,0 +1,4 @@
+pub mod Host
+pub mod Opening
+pub mod Right
+pub mod Survey

@@ -1,0 +1,86 @@
+-- What the calls of a host keep. Where the table does not tell its rows, nothing is said.
+use Rattle.std.specs.Prelude.{◌≡◌, ℕ, ◌++◌, List, IsSome, IfSome, Option, Some, None, ◌<◌, Result, Ok}
+use Rattle.std.specs.declared.alloc.AllocError.{AllocError}
+use Rattle.std.specs.FinMap as map
+use Rattle.beldi_tree.specs.declared.deployment.Deployment.{Deployment}
+use Rattle.beldi_row.specs.declared.table.Table.{Ghosts}
+use Rattle.beldi_row.specs.Table.{Rows, TableState, Tells}
+use Rattle.beldi_book.specs.declared.entry.Entry.{Entry}
+use Rattle.beldi_plain.specs.Plain.{PlainState, reply_of}
+use Rattle.beldi_plain.specs.Legal.{IsLegal, run_of}
+use Rattle.beldi_plain.specs.Listing.{listing_of}
+use Rattle.beldi_step.specs.declared.event.Event.{Event}
+use Rattle.beldi_step.specs.declared.event.Seen.{Seen}
+use Rattle.beldi_step.specs.declared.event.Seen.TheVariants.{Expired}
+use Rattle.beldi_step.specs.declared.run.Run.{Run}
+use Rattle.beldi_step.specs.Host.{Core, most_events, ended_run, counted}
+use Rattle.beldi_step.specs.Laws.{run_of_event}
+use Rattle.beldi_laws.specs.Right.{Right}
+use Rattle.beldi_laws.specs.OneAnswer.{OneAnswerPerStep, AnswersStay}
+use Rattle.beldi_laws.specs.Stands.{Stands}
+use Rattle.beldi_laws.specs.Laws.{HasReply}
+use Rattle.beldi_host.specs.declared.host.Host.{Host}
+use Rattle.beldi_host.specs.declared.survey.ReplySeen.{ReplySeen}
+use Rattle.beldi_host.specs.declared.survey.ReplySeen.TheVariants.{Unknown, Gone, Waiting, Reply}
+use Rattle.beldi_host.specs.Host.{core_of}
+
+-- an event of a live run that is past its deadline leaves the table, and ends the run
+abbrev pub EndsLate : Event → Core → Core → TableState → TableState → Result Seen AllocError → Type 0
+EndsLate e c b old new r = (i : ℕ) (run : Run) → c.taken < most_events → run_of_event e ≡ Some i → map.get c.runs i ≡ Some run → run.deadline < c.now
+    → (r ≡ Ok Expired) × (b ≡ ended_run (counted c) i) × (new ≡ old)
+
+-- in the run of the book, the root of the ticket has no outcome
+abbrev pub HasNoReply : Deployment → List Entry → ℕ → Type 0
+HasNoReply d book t = (p : PlainState) → run_of d book ≡ Some p → reply_of p t ≡ None
+
+-- what is said of a reply is so in the run of the book; the row of a ticket that was issued is never absent
+abbrev pub SaidOf : Deployment → List Entry → ℕ → ReplySeen → Type 0
+SaidOf d book t Unknown = HasNoReply d book t
+SaidOf d book t Gone = ⊥
+SaidOf d book t Waiting = HasNoReply d book t
+SaidOf d book t (Reply o) = HasReply d book t o
+
+-- the rows stand for the run of a book, if they are told
+abbrev pub RowsStandFor : Deployment → List Entry → Option Rows → Type 0
+RowsStandFor d book told = IfSome told (λ m. (p : PlainState) → run_of d book ≡ Some p → Stands d m p)
+
+-- the table tells no rows, or it has none
+abbrev pub HasNoRows : Option Rows → Type 0
+HasNoRows told = IfSome told (λ m. m ≡ map.empty)
+
+module _ {T : Type 0} {G : Ghosts T} where
+  -- the rows of a host, where its table tells them
+  abbrev pub rows_of : Host T G → Option Rows
+  rows_of h = (G.state h.table).rows
+
+  -- the host and its rows are right
+  abbrev pub IsRight : Host T G → Type 0
+  IsRight h = IfSome (rows_of h) (Right h.code (core_of h))
+
+  -- its rows are told
+  abbrev pub HasRows : Host T G → Type 0
+  HasRows h = IsSome (rows_of h)
+
+  -- its book is legal
+  abbrev pub HasLegalBook : Host T G → Type 0
+  HasLegalBook h = IfSome (rows_of h) (λ m. IsLegal h.code (core_of h).book)
+
+  -- its rows stand for the run of its book
+  abbrev pub RowsStand : Host T G → Type 0
+  RowsStand h = RowsStandFor h.code (core_of h).book (rows_of h)
+
+  -- each step of an instance, also inside a transaction, has one answer, whichever run asks for it: the one that the rows hold
+  abbrev pub HasOneAnswerPerStep : Host T G → Type 0
+  HasOneAnswerPerStep h = IfSome (rows_of h) (λ m. (p : PlainState) → run_of h.code (core_of h).book ≡ Some p → OneAnswerPerStep h.code (core_of h) m p)
+
+  -- the answers that the first one's rows hold are held by the second one's
+  abbrev pub AnswersAreKept : Host T G → Host T G → Type 0
+  AnswersAreKept h k = Tells (rows_of h) (rows_of k) AnswersStay
+
+  -- the text was the old one, and has the listing of the run of its book after it
+  abbrev pub ListsRun : Host T G → List ℕ → List ℕ → Type 0
+  ListsRun h old new = IfSome (rows_of h) (λ m. (p : PlainState) → run_of h.code (core_of h).book ≡ Some p → new ≡ old ++ listing_of h.code p)
+
+  -- what is said of the ticket's reply is so in the run of its book
+  abbrev pub TellsRun : Host T G → ℕ → ReplySeen → Type 0
+  TellsRun h t x = IfSome (rows_of h) (λ m. SaidOf h.code (core_of h).book t x)

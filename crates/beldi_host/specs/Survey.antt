@@ -1,0 +1,139 @@
+-- Calls that read the rows of a table, one after another, and change none.
+use Rattle.std.specs.Prelude.{◌≡◌, ◌⊎◌, ℕ, zero, ◌≤◌, ◌==◌, ◌||◌, max, IsSome, nat_lt, Bool, true, false, ◌++◌, List, [], ◌∷◌, Option, Some, None, Result, IfOk, OnOk, IsErrOf, if◌then◌else◌}
+use Rattle.std.specs.FinMap as map
+use Rattle.std.specs.Ordering.{is_lt}
+use Rattle.beldi_value.specs.declared.outcome.Outcome.{Outcome}
+use Rattle.beldi_value.specs.declared.place.Owner.{Owner}
+use Rattle.beldi_value.specs.declared.place.Owner.TheVariants.{Tx}
+use Rattle.beldi_value.specs.declared.value.Value.{Value}
+use Rattle.beldi_tree.specs.declared.deployment.Deployment.{Deployment}
+use Rattle.beldi_row.specs.Key.{RowKey, key_cmp, key_ticket, rank_of}
+use Rattle.beldi_row.specs.declared.key.Kind.{Kind}
+use Rattle.beldi_row.specs.declared.key.Kind.TheVariants.{Data, Shadow, Lockset}
+use Rattle.beldi_row.specs.declared.row.Row.{Row}
+use Rattle.beldi_row.specs.declared.row.Row.TheVariants.{Intent, Cell}
+use Rattle.beldi_row.specs.Act.{Tell, here}
+use Rattle.beldi_row.specs.Table.{Rows, TableState, Tells, Rose}
+use Rattle.beldi_daal.specs.Cell.{shadow_key}
+use Rattle.beldi_intent.specs.Intent.{root_key}
+use Rattle.beldi_step.specs.Host.{Core, first_core}
+use Rattle.beldi_step.specs.Tables.{row_line, value_line, decision_key, owned_value}
+use Rattle.beldi_host.specs.declared.survey.OpenErr.{OpenErr}
+use Rattle.beldi_host.specs.declared.survey.Owned.{Owned}
+use Rattle.beldi_host.specs.declared.survey.OpenErr.TheVariants.{Failed}
+use Rattle.beldi_host.specs.declared.survey.ReplySeen.{ReplySeen}
+use Rattle.beldi_host.specs.declared.survey.ReplySeen.TheVariants.{Unknown, Gone, Waiting, Reply}
+
+-- the rows are as before, and an answer is right of them
+pub record Reads {X : Type 0} (P : Rows → X → Type 0) (old new : TableState) (result : Result X OpenErr) : Type 0 where
+  pub rows : Tells old.rows new.rows (λ m n. (n ≡ m) × IfOk result (P m))
+  pub later : old.faults ≤ new.faults
+  pub failed : IsErrOf result Failed → Rose old.faults new.faults
+  pub room : new.room ≡ old.room
+
+-- the greatest ticket that a key names, 0 where there is none
+abbrev pub greatest : List (RowKey × Row) → ℕ
+greatest [] = 0
+greatest (e ∷ es) = max (key_ticket e.0) (greatest es)
+
+abbrev pub newest_of : Rows → ℕ
+newest_of m = greatest (map.entries m)
+
+-- no key names a greater ticket than this, and some key names it, or it is 0
+pub record IsNewest (m : Rows) (t : ℕ) : Type 0 where
+  pub none_above : (k : RowKey) → IsSome (map.get m k) → key_ticket k ≤ t
+  pub named : (t ≡ 0) ⊎ ((k : RowKey) × IsSome (map.get m k) × (key_ticket k ≡ t))
+
+abbrev pub next_key_of : Option (RowKey × Row) → Option RowKey
+next_key_of None = None
+next_key_of (Some e) = Some e.0
+
+-- ---- the line of a row, in two steps: where no transaction owns its item, and where one does
+-- by the owner and the row's own value: the text with its line; of an item that a transaction owns, what its line wants instead
+abbrev pub cell_seen : Deployment → List ℕ → ℕ → ℕ → List ℕ → Option Owner → Value → Option Owned × List ℕ
+cell_seen d text f t k (Some (Tx x)) v = (Some (record { decision = decision_key x; shadow = shadow_key f x t k; value = v }), text)
+cell_seen d text f t k o v = (None, text ++ value_line d f t k v)
+
+abbrev pub seen_at : Deployment → List ℕ → ℕ → Kind → Row → Option Owned × List ℕ
+seen_at d text f (Data t k zero) (Cell c) = cell_seen d text f t k c.owner c.value
+seen_at d text f k r = (None, text)
+
+abbrev pub seen_of : Deployment → List ℕ → RowKey × Row → Option Owned × List ℕ
+seen_of d text e = seen_at d text e.0.home e.0.kind e.1
+
+abbrev pub next_seen_of : Deployment → List ℕ → Option (RowKey × Row) → Option (RowKey × Option Owned) × List ℕ
+next_seen_of d text None = (None, text)
+next_seen_of d text (Some e) = (Some (e.0, (seen_of d text e).0), (seen_of d text e).1)
+
+-- the line of an item's first row, by the value that is shown
+abbrev pub key_line : Deployment → ℕ → Kind → Value → List ℕ
+key_line d f (Data t k zero) v = value_line d f t k v
+key_line d f k v = []
+
+-- the text, with the line that was left
+abbrev pub line_after : Deployment → Rows → ℕ → Kind → Option Owned × List ℕ → List ℕ
+line_after d m f k (None, text) = text
+line_after d m f k (Some o, text) = text ++ key_line d f k (owned_value m o.decision o.shadow o.value)
+
+-- the key of the next row, and the text with its line
+abbrev pub next_line_of : Deployment → Rows → List ℕ → Option (RowKey × Row) → Option RowKey × List ℕ
+next_line_of d m text None = (None, text)
+next_line_of d m text (Some e) = (Some e.0, text ++ row_line d m e)
+
+-- ---- rows that have no line
+-- the number of the last kind that is as this one before the items or after them
+abbrev pub last_rank : Kind → ℕ
+last_rank (Shadow x t k r) = 5
+last_rank (Lockset a b t k) = 5
+last_rank k = 2
+
+-- reading goes on from the key j where it was at k: no item's row is in between
+pub record Past (k j : RowKey) : Type 0 where
+  pub not_before : is_lt (key_cmp j k) ≡ false
+  pub no_item : (e : RowKey) → is_lt (key_cmp k e) ≡ true → is_lt (key_cmp j e) ≡ false → rank_of e.kind ≡ 3 → ⊥
+
+-- a table is made ready for a host: its room is set
+pub record Prepared (wanted : ℕ) (old new : TableState) (result : Result ℕ OpenErr) : Type 0 where
+  pub rows : Tells old.rows new.rows (λ m n. (n ≡ m) × IfOk result (λ x. x ≡ newest_of m))
+  pub later : old.faults ≤ new.faults
+  pub failed : IsErrOf result Failed → Rose old.faults new.faults
+  pub room : OnOk result (new.room ≡ wanted)
+
+-- a host that was opened: nothing has happened to it
+pub record Opened (code kept : Deployment) (now : ℕ) (old new : TableState) (c : Core) : Type 0 where
+  pub rows : Tells old.rows new.rows (λ m n. (n ≡ m) × (c.newest ≡ newest_of m))
+  pub core : c ≡ first_core c.newest now
+  pub code_kept : kept ≡ code
+  pub room_set : new.room ≡ code.room
+  pub later : old.faults ≤ new.faults
+
+-- the table is given back
+pub record Refused (old new : TableState) (why : OpenErr) : Type 0 where
+  pub rows : Tells old.rows new.rows (λ m n. n ≡ m)
+  pub later : old.faults ≤ new.faults
+  pub failed : why ≡ Failed → Rose old.faults new.faults
+
+abbrev pub NewestAt : Option Rows → ℕ → Type 0
+NewestAt None t = Unit {0}
+NewestAt (Some m) t = IsNewest m t
+
+abbrev pub outcome_seen : Option Outcome → ReplySeen
+outcome_seen None = Waiting
+outcome_seen (Some o) = Reply o
+
+-- a row of another kind has no outcome
+abbrev pub row_seen : Option Row → ReplySeen
+row_seen None = Gone
+row_seen (Some (Intent i)) = outcome_seen i.outcome
+row_seen (Some r) = Waiting
+
+-- the row that a look told
+abbrev pub told_row : Tell → Option Row
+told_row (here r) = Some r
+told_row t = None
+
+abbrev pub is_unknown : ℕ → ℕ → Bool
+is_unknown newest t = (t == 0) || nat_lt newest t
+
+abbrev pub reply_seen : ℕ → ℕ → Rows → ReplySeen
+reply_seen newest t m = if is_unknown newest t then Unknown else row_seen (map.get m (root_key t))

@@ -1,0 +1,242 @@
+// The host: the one place where an event touches the table.
+ghost use Rattle.std.specs.Prelude.{◌≡◌, ◌++◌, ◌≤◌, ◌^◌, ◌↔◌, IsTrue, true, false, IfOk, IfErr, OnOk, OnErr};
+
+use crate::survey::{OpenErr, ReplySeen, list_tables, prepare, read_reply};
+use beldi_book::Book;
+use beldi_check::Checked;
+use beldi_core::{HostCore, Pending, Planned, Runs};
+use beldi_row::{Act, RowKey, Table};
+use beldi_step::{Event, Seen};
+use beldi_value::Str;
+use beldi_walk::{Heard, Query};
+use std::alloc::{AllocError, Global};
+
+/// A host: a deployment over a table, with what it knows beside them.
+#[derive(Drop)]
+pub struct Host<T: Table> {
+    code: Checked,
+    core: HostCore,
+    table: T,
+    ghost few: { core.runs.given ≤ core.taken },
+}
+
+impl<T: Table> Host<T> {
+    ghost use Rattle.beldi_row.specs.Table.{IsCount, AtMostOne};
+    ghost use Rattle.beldi_step.specs.Host.{Stepped};
+    ghost use Rattle.beldi_step.specs.Tables.{tables_text};
+    ghost use Rattle.beldi_host.specs.Survey.{Opened, Refused, NewestAt, Reads, reply_seen, is_unknown};
+    ghost use Rattle.beldi_host.specs.declared.survey.ReplySeen.TheVariants.{Unknown};
+    ghost use Rattle.beldi_core.specs.Runs.{IsLeastPast};
+    ghost use Rattle.beldi_walk.specs.declared.query.Query.TheVariants as queries;
+    ghost use Rattle.beldi_host.specs.Host.{core_of};
+    ghost use Rattle.beldi_core.specs.Parts.{core_in, Ready, Asked};
+    ghost use Rattle.beldi_laws.specs.Laws.{is_gone};
+    ghost use Rattle.beldi_host.specs.Right.{EndsLate, IsRight, HasLegalBook, AnswersAreKept, HasRows, ListsRun, TellsRun, HasNoRows, RowsStandFor};
+
+    /// Opens a host over a table whose rows it keeps: sets the table's room, and reads all keys to find the newest
+    /// ticket. `now` is the moment, in ticks. Where it refuses, it gives the table back.
+    pub fn open(
+        alloc: Global,
+        code: Checked,
+        mut table: T,
+        now: u64,
+    ) -> Result<Host<T>, (T, OpenErr)>
+        requires { now ≤ 2 ^ 62 }
+        ensures ok { IfOk result (λ h. Opened code h.code now (T.state table) (T.state h.table) (core_of h)) }
+        ensures err { IfErr result (λ e. Refused (T.state table) (T.state e.0) e.1) }
+        ensures newest { IfOk result (λ h. NewestAt (T.state table).rows h.core.newest) }
+        ensures right { IfOk result (λ h. HasNoRows (T.state table).rows → IsRight h) }
+    {
+        match prepare(alloc, code.code().room, &mut table) {
+            Ok(newest) => Ok(Host {
+                code,
+                core: HostCore {
+                    alloc,
+                    newest,
+                    runs: Runs::new(alloc),
+                    book: Book::new(alloc),
+                    now,
+                    cursor: RowKey::least(alloc),
+                    taken: 0,
+                },
+                table,
+            }),
+            Err(why) => Err((table, why)),
+        }
+    }
+
+    /// Gives the table back.
+    pub fn close(self) -> T
+        ensures table { result ≡ self.table }
+        ensures stands { IsRight self → RowsStandFor self.code (core_of self).book (T.state result).rows }
+    {
+        let Host {
+            code: _,
+            core: _,
+            table,
+        } = self;
+        table
+    }
+
+    /// The deployment.
+    pub fn code(&self) -> &Checked
+        ensures { result.now ≡ self.entry.now.code }
+    {
+        &self.code
+    }
+
+    /// The book. A right host's is legal: each of its transactions is one entry, `Tx` whole, `Try` without a trace in the items.
+    pub fn book(&self) -> &Book
+        ensures book { result.now ≡ self.entry.now.core.book }
+        ensures legal { IsRight self.entry.now → HasLegalBook self.entry.now }
+    {
+        &self.core.book
+    }
+
+    /// The moment, in ticks.
+    pub fn now(&self) -> u64
+        ensures { result ≡ self.entry.now.core.now }
+    {
+        self.core.now
+    }
+
+    /// How many rows its table has; 4,294,967,295 where it has more.
+    pub fn rows(&self) -> u32
+        ensures { IsCount (T.state self.entry.now.table).rows result }
+    {
+        self.table.len()
+    }
+
+    /// The least live run past this number.
+    pub fn next_run(&self, after: u64) -> Option<u64>
+        ensures { IsLeastPast after self.entry.now.core.runs.runs result }
+    {
+        self.core.runs.next_after(after)
+    }
+
+    /// Appends the listing of tables. After an `Err` the text is as before.
+    pub fn tables(&mut self, out: &mut Str) -> Result<(), OpenErr>
+        ensures reads { Reads (λ m u. out.new ≡ out.old ++ tables_text self.old.code m) (T.state self.old.table) (T.state self.new.table) result }
+        ensures err { OnErr result (out.new ≡ out.old) }
+        ensures core { core_of self.new ≡ core_of self.old }
+        ensures code { self.new.code ≡ self.old.code }
+        ensures right { IsRight self.old → IsRight self.new }
+        ensures listing { IsRight self.old → OnOk result (ListsRun self.old out.old out.new) }
+    {
+        self.list(out)
+    }
+
+    // The listing, by the rows alone.
+    fn list(&mut self, out: &mut Str) -> Result<(), OpenErr>
+        ensures reads { Reads (λ m u. out.new ≡ out.old ++ tables_text self.old.code m) (T.state self.old.table) (T.state self.new.table) result }
+        ensures err { OnErr result (out.new ≡ out.old) }
+        ensures core { core_of self.new ≡ core_of self.old }
+        ensures code { self.new.code ≡ self.old.code }
+    {
+        let text = list_tables(
+            self.core.alloc,
+            self.code.code(),
+            &mut self.table,
+            self.core.now,
+        )?;
+        out.push_text(text.as_str())?;
+        Ok(())
+    }
+
+    /// The reply of a ticket's root, as its row has it. A ticket that was not issued is unknown without a call of the table;
+    /// for any other its row is looked at once.
+    pub fn reply(&mut self, ticket: u32) -> Result<ReplySeen, OpenErr>
+        ensures reads { Reads (λ m x. x ≡ reply_seen self.old.core.newest ticket m) (T.state self.old.table) (T.state self.new.table) result }
+        ensures unknown { IfOk result (λ x. (x ≡ Unknown) ↔ IsTrue (is_unknown self.old.core.newest ticket)) }
+        ensures issued { IfErr result (λ e. is_unknown self.old.core.newest ticket ≡ false) }
+        ensures calls { AtMostOne (T.state self.old.table).calls (T.state self.new.table).calls }
+        ensures untouched { is_unknown self.old.core.newest ticket ≡ true → T.state self.new.table ≡ T.state self.old.table }
+        ensures core { core_of self.new ≡ core_of self.old }
+        ensures code { self.new.code ≡ self.old.code }
+        ensures right { IsRight self.old → IsRight self.new }
+        ensures plain { IsRight self.old → IfOk result (λ x. TellsRun self.old ticket x) }
+    {
+        self.look(ticket)
+    }
+
+    // The reply, by its row alone.
+    fn look(&mut self, ticket: u32) -> Result<ReplySeen, OpenErr>
+        ensures reads { Reads (λ m x. x ≡ reply_seen self.old.core.newest ticket m) (T.state self.old.table) (T.state self.new.table) result }
+        ensures unknown { IfOk result (λ x. (x ≡ Unknown) ↔ IsTrue (is_unknown self.old.core.newest ticket)) }
+        ensures issued { IfErr result (λ e. is_unknown self.old.core.newest ticket ≡ false) }
+        ensures calls { AtMostOne (T.state self.old.table).calls (T.state self.new.table).calls }
+        ensures untouched { is_unknown self.old.core.newest ticket ≡ true → T.state self.new.table ≡ T.state self.old.table }
+        ensures core { core_of self.new ≡ core_of self.old }
+        ensures code { self.new.code ≡ self.old.code }
+    {
+        if ticket == 0 || ticket > self.core.newest {
+            return Ok(ReplySeen::Unknown);
+        }
+        read_reply(self.core.alloc, &mut self.table, ticket, self.core.now)
+    }
+
+    /// Carries out one event, with at most one call of the table's `act` or `next`; an event that is answered at once makes
+    /// none. Out of memory, nothing was done, but that the event counts as taken, and that a run that had it is over; the act
+    /// of a turn may then have been made, and the book has its entry. A crash and a tick take no memory, and of the events that
+    /// make no act only a restart may be out of it. A run that is past its deadline makes no act. The entry of a transaction comes with the
+    /// act that keeps its decision; what is read and written inside makes none. Over rows that are told it is the relation that `a_step_over_rows` of `beldi_step`
+    /// gives.
+    pub fn event(&mut self, event: Event) -> Result<Seen, AllocError>
+        ensures step { Stepped self.old.code event (core_of self.old) (core_of self.new) (T.state self.old.table) (T.state self.new.table) result }
+        ensures code { self.new.code ≡ self.old.code }
+        ensures right { IsRight self.old → IsRight self.new }
+        ensures answers_stay { AnswersAreKept self.old self.new }
+        ensures has_rows { HasRows self.old → IsRight self.old → IfOk result (λ x. is_gone x ≡ false) }
+        ensures in_time { EndsLate event (core_of self.old) (core_of self.new) (T.state self.old.table) (T.state self.new.table) result }
+    {
+        self.step(event)
+    }
+
+    // One step of the definition.
+    fn step(&mut self, event: Event) -> Result<Seen, AllocError>
+        ensures step { Stepped self.old.code event (core_of self.old) (core_of self.new) (T.state self.old.table) (T.state self.new.table) result }
+        ensures code { self.new.code ≡ self.old.code }
+    {
+        match self.core.plan(self.code.code(), event) {
+            Ok(Planned::Now(answer)) => Ok(answer.seen()),
+            Ok(Planned::Asks(query, pending)) => self.ask(query.into_inner(), pending),
+            Err(why) => Err(why),
+        }
+    }
+
+    // The one query of an event, and what follows.
+    fn ask(&mut self, query: Query, pending: Pending) -> Result<Seen, AllocError>
+        requires { Ready self.old.code pending (core_of self.old) self.old.core.book.spare }
+        ensures asked { Asked self.old.code pending (core_of self.old) (core_of self.new) query (T.state self.old.table) (T.state self.new.table) result }
+        ensures code { self.new.code ≡ self.old.code }
+    {
+        match query {
+            Query::Act(key, act) => self.act(key, act, pending),
+            Query::After(key) => self.look_after(key, pending),
+        }
+    }
+
+    fn act(&mut self, key: RowKey, act: Act, pending: Pending) -> Result<Seen, AllocError>
+        requires { Ready self.old.code pending (core_of self.old) self.old.core.book.spare }
+        ensures asked { Asked self.old.code pending (core_of self.old) (core_of self.new) (queries.Act key act) (T.state self.old.table) (T.state self.new.table) result }
+        ensures code { self.new.code ≡ self.old.code }
+    {
+        match self.table.act(key, act, self.core.now) {
+            Ok(said) => self.core.told(self.code.code(), pending, Heard::Said(said)),
+            Err(why) => self.core.refused(pending, why),
+        }
+    }
+
+    fn look_after(&mut self, key: RowKey, pending: Pending) -> Result<Seen, AllocError>
+        requires { Ready self.old.code pending (core_of self.old) self.old.core.book.spare }
+        ensures asked { Asked self.old.code pending (core_of self.old) (core_of self.new) (queries.After key) (T.state self.old.table) (T.state self.new.table) result }
+        ensures code { self.new.code ≡ self.old.code }
+    {
+        match self.table.next(&key) {
+            Ok(found) => self
+                .core
+                .told(self.code.code(), pending, Heard::Found(found)),
+            Err(why) => self.core.refused(pending, why),
+        }
+    }
+}

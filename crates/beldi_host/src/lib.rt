@@ -1,0 +1,40 @@
+//! The host: it carries out events over a table, one at a time, and reads the table's rows. Each event is planned, asks the
+//! table at most one thing, and is followed by what the table told (`beldi_core`); only `Host` touches the table.
+//! It stands on `beldi_core`, and on `beldi_laws`, which says what every event keeps. Its
+//! definitions: `specs/Host` (the host as the core that events speak of), `specs/Survey` (calls that read the rows), `specs/Opening`
+//! (their errors) and `specs/Right` (what the calls keep, and what a right host has).
+//!
+//! Proved:
+//! - `Host::event` is one step of the definition, for every table that keeps the trait's contract; crashes, lost
+//!   answers, restarts, faults, want of room and out of memory are cases of the step (`step`, `code`). An event that is
+//!   answered at once makes no call of the table and leaves it as it was; any other makes at most one query, and one word
+//!   of the table, or one refusal, says what followed. A run that met an error is over, but for want of room. What that is
+//!   over rows that are told, and over any table, laws of `beldi_step` and `beldi_laws` say (`a_step_over_rows`,
+//!   `a_step_over_any_table`, `a_dropped_answer_has_a_cause`).
+//! - `reply` makes at most one call of the table's `act` and `next` (`calls`), and none for a ticket that was not issued,
+//!   which leaves the table as it was (`untouched`).
+//! - A run that is past its deadline makes no act: its event makes no call of the table, and the run is over (`in_time`).
+//! - What the rows held at a step stays after an event, whether the host is right or not (`answers_stay`).
+//! - Where the host is right and its table tells its rows, no ticket is answered `gone` (`has_rows`).
+//! - `Host::rows` tells how many rows the table has, as `len` does (`IsCount`).
+//! - `Host::open`, at a moment of at most 2^62, finds the newest ticket, which is the greatest that any key names
+//!   (`newest`), and changes no row (`ok`); where it refuses, it gives the table back (`err`).
+//! - `Host::tables` and `Host::reply` say what the rows say, and change nothing (`reads`, `err`, `unknown`, `core`,
+//!   `code`).
+//! - A host opened over no rows is right, and so are the host and its rows after `event`, `tables` and `reply` where
+//!   they were before, also out of memory (`right`). A right host has a legal book (`right_is_legal`, and `legal` of
+//!   `book`), its rows stand for the book's run (`right_stands`), also in the table that `close` gives back (`stands`), and
+//!   each step of an instance, also inside a transaction, has one answer, whichever of its runs asks: the one that the rows hold
+//!   (`right_has_one_answer`).
+//! - Where the host is right, the listing of `tables` is that of the run (`listing`), and what `reply` tells is the
+//!   outcome that the root has in the run, or none (`plain`).
+//! - `next_run` is the least live run past a number (`IsLeastPast`).
+#![tactic(auto)]
+
+mod host;
+mod laws;
+mod survey;
+
+pub use host::Host;
+pub use laws::{right_has_one_answer, right_is_legal, right_stands};
+pub use survey::{OpenErr, ReplySeen};

@@ -1,0 +1,418 @@
+// Calls that read the rows of a table and change none.
+ghost use Rattle.std.specs.Prelude.{◌≡◌, ◌≢◌, ◌++◌, IfOk, OnOk};
+ghost use Rattle.std.specs.FinMap as map;
+ghost use Rattle.beldi_row.specs.Act.{tell_of};
+ghost use Rattle.beldi_row.specs.Key.{rank_of};
+ghost use Rattle.beldi_row.specs.Table.{next_row, AtMostOne};
+ghost use Rattle.beldi_intent.specs.Intent.{root_key as root_key_of};
+ghost use Rattle.beldi_daal.specs.Cell.{shadow_key as shadow_key_of};
+ghost use Rattle.beldi_step.specs.Tables.{tables_text, decision_key as decision_key_of, is_committed as is_commit, value_in, owned_value as shown_value};
+ghost use Rattle.beldi_host.specs.Survey.{Reads, Prepared, newest_of, next_key_of, next_seen_of, next_line_of, seen_of, key_line, line_after, last_rank, Past, row_seen, told_row};
+ghost use Rattle.beldi_host.specs.declared.survey.ReplySeen.TheVariants.{Unknown};
+
+use beldi_book::write_item;
+use beldi_daal::shadow_key;
+use beldi_intent::root_key;
+use beldi_lang::Deployment;
+use beldi_readlog::log_key;
+use beldi_row::{Act, Kind, Row, RowKey, Said, Table, TableErr};
+use beldi_value::{IntentId, Outcome, Owner, Place, Str, TxId, Value};
+use std::alloc::{AllocError, Global};
+
+/// Why the rows could not be read. They are as before.
+#[derive(Clone, Copy, Debug, PartialEq, Eq)]
+pub enum OpenErr {
+    OutOfMemory,
+    /// The table failed: only where its count of failures rose in this call.
+    Failed,
+}
+
+/// What the row of a root says of its reply.
+#[derive(Drop)]
+pub enum ReplySeen {
+    /// The ticket is 0 or above the newest.
+    Unknown,
+    /// The ticket was issued, and its row is absent.
+    Gone,
+    /// The root has no outcome.
+    Waiting,
+    Reply(Outcome),
+}
+
+impl From<TableErr> for OpenErr {
+    ghost use Rattle.beldi_host.specs.Opening.{open_err};
+    ghost use Rattle.std.specs.Prelude.{◌≡◌};
+
+    ghost from_gives = { λ w e. e ≡ open_err w };
+
+    // A reading is never refused as `Full`.
+    fn from(why: TableErr) -> Self {
+        match why {
+            TableErr::Failed => OpenErr::Failed,
+            TableErr::OutOfMemory | TableErr::Full { .. } => OpenErr::OutOfMemory,
+        }
+    }
+}
+
+impl From<AllocError> for OpenErr {
+    ghost use Rattle.beldi_host.specs.declared.survey.OpenErr.TheVariants.{OutOfMemory};
+    ghost use Rattle.std.specs.Prelude.{◌≡◌};
+
+    ghost from_gives = { λ _ e. e ≡ OutOfMemory };
+
+    fn from(_: AllocError) -> Self {
+        OpenErr::OutOfMemory
+    }
+}
+
+// The key of the row after a key.
+fn next_key<T: Table>(
+    alloc: Global,
+    table: &mut T,
+    after: &RowKey,
+) -> Result<Option<RowKey>, OpenErr>
+    ensures { Reads (λ m k. k ≡ next_key_of (next_row m after.now)) (T.state table.old) (T.state table.new) result }
+{
+    match table.next(after)? {
+        None => Ok(None),
+        Some((key, _)) => Ok(Some(key.copy(alloc)?)),
+    }
+}
+
+// The greatest ticket that a key names, or 0.
+fn find_newest<T: Table>(alloc: Global, table: &mut T) -> Result<u32, OpenErr>
+    ensures { Reads (λ m t. t ≡ newest_of m) (T.state table.old) (T.state table.new) result }
+{
+    let mut newest = 0u32;
+    let mut at = RowKey::least(alloc);
+    for _ in 0..u64::MAX {
+        match next_key(alloc, table, &at) {
+            Ok(None) => return Ok(newest),
+            Ok(Some(key)) => {
+                newest = newest.max(key.ticket());
+                at = key;
+            }
+            Err(why) => return Err(why),
+        }
+    }
+    Err(OpenErr::OutOfMemory)
+}
+
+/// Makes a table ready for a host: sets its room, and finds the greatest ticket that a key names, or 0.
+pub fn prepare<T: Table>(alloc: Global, room: u32, table: &mut T) -> Result<u32, OpenErr>
+    ensures { Prepared room (T.state table.old) (T.state table.new) result }
+{
+    match table.ready(&[room]) {
+        Ok(()) => find_newest(alloc, table),
+        Err(why) => Err(OpenErr::from(why)),
+    }
+}
+
+// What the line of an item that a transaction owns wants: the keys of the transaction's decision and of its shadow of the item, and
+// the item's own value.
+#[derive(Drop)]
+struct Owned {
+    decision: RowKey,
+    shadow: RowKey,
+    value: Value,
+}
+
+// The key of a transaction's decision.
+fn decision_key(alloc: Global, tx: &TxId) -> Result<RowKey, AllocError>
+    ensures { IfOk result (λ k. k ≡ decision_key_of tx.now) }
+{
+    let place = Place {
+        intent: tx.intent.copy(alloc)?,
+        step: tx.begin,
+    };
+    Ok(log_key(tx.func, place))
+}
+
+// What the line of an item wants that this transaction owns.
+fn owned_by(
+    alloc: Global,
+    home: u16,
+    tx: &TxId,
+    table: u16,
+    item: &Str,
+    value: &Value,
+) -> Result<Owned, AllocError>
+    ensures { IfOk result (λ o. o ≡ record { decision = decision_key_of tx.now; shadow = shadow_key_of home tx.now table item.now; value = value.now }) }
+{
+    Ok(Owned {
+        decision: decision_key(alloc, tx)?,
+        shadow: shadow_key(alloc, home, tx, table, item)?,
+        value: value.copy(alloc)?,
+    })
+}
+
+// Appends the line of the item whose first row has this key, if it has one with this value.
+fn write_value(
+    alloc: Global,
+    code: &Deployment,
+    key: &RowKey,
+    value: &Value,
+    text: &mut Str,
+) -> Result<(), AllocError>
+    ensures { OnOk result (text.new ≡ text.old ++ key_line code.now key.now.home key.now.kind value.now) }
+{
+    match key.kind() {
+        Kind::Data {
+            table,
+            key: item,
+            row: 0,
+        } => match value {
+            Value::Null => Ok(()),
+            value => write_item(alloc, code, key.home(), *table, item, value, text),
+        },
+        _ => Ok(()),
+    }
+}
+
+// Appends the line of a row, if it has one; for an item that a transaction owns, it gives what its line wants instead.
+fn write_row(
+    alloc: Global,
+    code: &Deployment,
+    key: &RowKey,
+    row: &Row,
+    text: &mut Str,
+) -> Result<Option<Owned>, AllocError>
+    ensures { IfOk result (λ o. (o, text.new) ≡ seen_of code.now text.old (key.now, row.now)) }
+{
+    let Row::Cell(cell) = row else {
+        return Ok(None);
+    };
+    match key.kind() {
+        Kind::Data {
+            table,
+            key: item,
+            row: 0,
+        } => match &cell.owner {
+            Some(Owner::Tx(tx)) => Ok(Some(owned_by(
+                alloc,
+                key.home(),
+                tx,
+                *table,
+                item,
+                &cell.value,
+            )?)),
+            _ => {
+                write_value(alloc, code, key, &cell.value, text)?;
+                Ok(None)
+            }
+        },
+        _ => Ok(None),
+    }
+}
+
+// The key of the row after a key; its line is appended, but for an item that a transaction owns.
+fn next_seen<T: Table>(
+    alloc: Global,
+    code: &Deployment,
+    table: &mut T,
+    after: &RowKey,
+    text: &mut Str,
+) -> Result<Option<(RowKey, Option<Owned>)>, OpenErr>
+    ensures { Reads (λ m s. (s, text.new) ≡ next_seen_of code.now text.old (next_row m after.now)) (T.state table.old) (T.state table.new) result }
+{
+    match table.next(after)? {
+        None => Ok(None),
+        Some((key, row)) => {
+            let owned = write_row(alloc, code, key, row, text)?;
+            Ok(Some((key.copy(alloc)?, owned)))
+        }
+    }
+}
+
+fn says_commit(said: Said<'_>) -> bool
+    ensures { result ≡ is_commit (told_row (tell_of said.entry)) }
+{
+    match said {
+        Said::Row(Row::ReadLog(Value::Bool(commit))) => *commit,
+        _ => false,
+    }
+}
+
+// Whether a decision is a commit, by its row.
+fn is_committed<T: Table>(table: &mut T, decision: RowKey, now: u64) -> Result<bool, OpenErr>
+    ensures { Reads (λ m b. b ≡ is_commit (map.get m decision)) (T.state table.old) (T.state table.new) result }
+{
+    let said = table.act(decision, Act::Look, now)?;
+    Ok(says_commit(said))
+}
+
+fn says_value(alloc: Global, said: Said<'_>, value: Value) -> Result<Value, AllocError>
+    ensures { IfOk result (λ v. v ≡ value_in (told_row (tell_of said.entry)) value) }
+{
+    match said {
+        Said::Row(Row::Cell(cell)) => cell.value.copy(alloc),
+        _ => Ok(value),
+    }
+}
+
+// The value of a cell, or this one where there is none.
+fn cell_value<T: Table>(
+    alloc: Global,
+    table: &mut T,
+    key: RowKey,
+    value: Value,
+    now: u64,
+) -> Result<Value, OpenErr>
+    ensures { Reads (λ m v. v ≡ value_in (map.get m key) value) (T.state table.old) (T.state table.new) result }
+{
+    let said = table.act(key, Act::Look, now)?;
+    match says_value(alloc, said, value) {
+        Ok(value) => Ok(value),
+        Err(_) => Err(OpenErr::OutOfMemory),
+    }
+}
+
+// The value that is shown of an item that a transaction owns: the shadow's where it is committed and has one, else the item's own.
+fn owned_value<T: Table>(
+    alloc: Global,
+    table: &mut T,
+    owned: Owned,
+    now: u64,
+) -> Result<Value, OpenErr>
+    ensures { Reads (λ m v. v ≡ shown_value m owned.decision owned.shadow owned.value) (T.state table.old) (T.state table.new) result }
+{
+    let Owned {
+        decision,
+        shadow,
+        value,
+    } = owned;
+    match is_committed(table, decision, now) {
+        Ok(true) => cell_value(alloc, table, shadow, value, now),
+        Ok(false) => Ok(value),
+        Err(why) => Err(why),
+    }
+}
+
+// Appends the line of an item that a transaction owns, if there is one.
+fn write_owned<T: Table>(
+    alloc: Global,
+    code: &Deployment,
+    table: &mut T,
+    key: &RowKey,
+    owned: Option<Owned>,
+    now: u64,
+    text: &mut Str,
+) -> Result<(), OpenErr>
+    ensures { Reads (λ m u. text.new ≡ line_after code.now m key.now.home key.now.kind (owned, text.old)) (T.state table.old) (T.state table.new) result }
+{
+    let Some(owned) = owned else {
+        return Ok(());
+    };
+    match owned_value(alloc, table, owned, now) {
+        Ok(value) => match write_value(alloc, code, key, &value, text) {
+            Ok(()) => Ok(()),
+            Err(_) => Err(OpenErr::OutOfMemory),
+        },
+        Err(why) => Err(why),
+    }
+}
+
+// The key of the row after a key; its line is appended.
+fn next_line<T: Table>(
+    alloc: Global,
+    code: &Deployment,
+    table: &mut T,
+    after: &RowKey,
+    now: u64,
+    text: &mut Str,
+) -> Result<Option<RowKey>, OpenErr>
+    ensures { Reads (λ m k. (k, text.new) ≡ next_line_of code.now m text.old (next_row m after.now)) (T.state table.old) (T.state table.new) result }
+{
+    match next_seen(alloc, code, table, after, text) {
+        Ok(None) => Ok(None),
+        Ok(Some((key, owned))) => match write_owned(alloc, code, table, &key, owned, now, text) {
+            Ok(()) => Ok(Some(key)),
+            Err(why) => Err(why),
+        },
+        Err(why) => Err(why),
+    }
+}
+
+// A kind that comes last among those before the items of a function, or among those past them: among its own. For an item's it is
+// one of those before, so it is not gone on from.
+fn last_kind(alloc: Global, kind: &Kind) -> Kind
+    ensures { rank_of result ≡ last_rank kind.now }
+{
+    let intent = IntentId::root(alloc, u32::MAX);
+    match kind {
+        Kind::Intent(_) | Kind::ReadLog(_) | Kind::Invoke(_) | Kind::Data { .. } => {
+            Kind::Invoke(Place {
+                intent,
+                step: u32::MAX,
+            })
+        }
+        Kind::Shadow { .. } | Kind::Lockset { .. } => Kind::Lockset {
+            intent,
+            begin: u32::MAX,
+            table: u16::MAX,
+            key: Str::new(alloc),
+        },
+    }
+}
+
+// The key from which reading goes on: no row of an item stands between this key and that one.
+fn past_others(alloc: Global, key: RowKey) -> RowKey
+    ensures { Past key result }
+{
+    let last = RowKey::new(key.home(), last_kind(alloc, key.kind()));
+    if last < key { key } else { last }
+}
+
+/// The listing of tables. Rows of other kinds than items' are skipped, kind by kind. Where a transaction owns an item, the rows
+/// of its decision and of its shadow are looked at, at the moment `now`; a look changes nothing.
+pub fn list_tables<T: Table>(
+    alloc: Global,
+    code: &Deployment,
+    table: &mut T,
+    now: u64,
+) -> Result<Str, OpenErr>
+    ensures { Reads (λ m s. s ≡ tables_text code.now m) (T.state table.old) (T.state table.new) result }
+{
+    let mut text = Str::new(alloc);
+    let mut at = past_others(alloc, RowKey::least(alloc));
+    for _ in 0..u64::MAX {
+        match next_line(alloc, code, table, &at, now, &mut text) {
+            Ok(None) => return Ok(text),
+            Ok(Some(key)) => at = past_others(alloc, key),
+            Err(why) => return Err(why),
+        }
+    }
+    Err(OpenErr::OutOfMemory)
+}
+
+/// The reply of a root, by its row: never `Unknown`.
+pub fn read_reply<T: Table>(
+    alloc: Global,
+    table: &mut T,
+    ticket: u32,
+    now: u64,
+) -> Result<ReplySeen, OpenErr>
+    ensures reads { Reads (λ m x. x ≡ row_seen (map.get m (root_key_of ticket))) (T.state table.old) (T.state table.new) result }
+    ensures known { IfOk result (λ x. x ≢ Unknown) }
+    ensures calls { AtMostOne (T.state table.old).calls (T.state table.new).calls }
+{
+    let said = table.act(root_key(alloc, ticket), Act::Look, now)?;
+    match says_reply(alloc, said) {
+        Ok(reply) => Ok(reply),
+        Err(_) => Err(OpenErr::OutOfMemory),
+    }
+}
+
+fn says_reply(alloc: Global, said: Said<'_>) -> Result<ReplySeen, AllocError>
+    ensures reply { IfOk result (λ x. x ≡ row_seen (told_row (tell_of said.entry))) }
+    ensures known { IfOk result (λ x. x ≢ Unknown) }
+{
+    match said {
+        Said::Row(Row::Intent(intent)) => match &intent.outcome {
+            None => Ok(ReplySeen::Waiting),
+            Some(outcome) => Ok(ReplySeen::Reply(outcome.copy(alloc)?)),
+        },
+        Said::Row(_) => Ok(ReplySeen::Waiting),
+        _ => Ok(ReplySeen::Gone),
+    }
+}
