@@ -14,23 +14,23 @@ use Rattle.beldi_host.proofs.Right.{begins_right}
 use Rattle.beldi_outside.specs.Outside.{IsPrefixOf, ReadAllOn, Told, Rose, TookFront, WroteOn, max_source}
 use Rattle.beldi_outside.specs.declared.traits.Failed.{Failed}
 use Rattle.beldi_outside.proofs.Told.{told_same, told_then, told_map}
-use Rattle.beldi_program.specs.declared.refusal.Refusal.{Refusal}
-use Rattle.beldi_program.specs.declared.source.Accepted.{Accepted}
-use Rattle.beldi_program.specs.declared.session.Stop.{Stop}
-use Rattle.beldi_program.specs.declared.session.Stop.TheVariants.{OutOfMemory, SinkFault}
+use Rattle.beldi_session.specs.declared.refusal.Refusal.{Refusal}
+use Rattle.beldi_session.specs.declared.source.Accepted.{Accepted}
+use Rattle.beldi_session.specs.declared.session.Stop.{Stop}
+use Rattle.beldi_session.specs.declared.session.Stop.TheVariants.{OutOfMemory, SinkFault}
 use Rattle.beldi_program.specs.declared.program.Ended.{Ended}
 use Rattle.beldi_program.specs.declared.program.Ended.TheVariants as ended
-use Rattle.beldi_program.specs.Script.{actions_in, is_ok, is_whole}
-use Rattle.beldi_program.specs.Session.{Sight, Does, WentBy, Writes, state_at}
-use Rattle.beldi_program.specs.Source.{Numbered, said_at, script_of, source_at}
-use Rattle.beldi_program.specs.Check.{counted, counted_on, tested, with_line, check_at, check_by}
-use Rattle.beldi_program.specs.Refusal.{refusal_text}
+use Rattle.beldi_session.specs.Script.{actions_in, is_ok, is_whole}
+use Rattle.beldi_session.specs.Session.{Sight, Does, WentBy, Writes, state_at}
+use Rattle.beldi_session.specs.Source.{Numbered, said_at, script_of, source_at}
+use Rattle.beldi_session.specs.Check.{counted, counted_on, tested, with_line, check_at, check_by}
+use Rattle.beldi_session.specs.Refusal.{refusal_text}
 use Rattle.beldi_command.specs.declared.command.Command.{Command}
 use Rattle.beldi_command.specs.declared.command.Command.TheVariants.{Run, Check}
 use Rattle.beldi_script.specs.declared.line.Line.{Line}
 use Rattle.beldi_program.specs.Headline.{Whole, Cut, NothingDone, SessionEnds, SourceEnds, TextEnds, CheckEnds, DoneBy, ReadEnds, CommandEnds, Ends, usage, LongOn, AsRead, SourceAsRead, Untouched, end_of, is_whole_source, opened_at, status_of, HasEnded, ByStatus}
-use Rattle.beldi_program.proofs.Responses.{told_tells}
-use Rattle.beldi_program.proofs.Went.{fine, unchanged}
+use Rattle.beldi_session.proofs.Responses.{told_tells}
+use Rattle.beldi_session.proofs.Went.{fine, unchanged}
 use Rattle.beldi_program.proofs.PlainRuns.{at_moments, plain_run}
 
 -- ---- a text that was written, or a front of it

@@ -24,12 +24,12 @@ use Rattle.beldi_host.specs.Right.{SaidOf}
 use Rattle.beldi_host.specs.declared.survey.ReplySeen.{ReplySeen}
 use Rattle.beldi_host.specs.declared.survey.ReplySeen.TheVariants.{Unknown, Gone, Waiting, Reply}
 use Rattle.beldi_host.proofs.Right.{said_of}
-use Rattle.beldi_program.specs.declared.session.Stop.{Stop}
-use Rattle.beldi_program.specs.declared.session.Stop.TheVariants.{OutOfMemory}
-use Rattle.beldi_program.specs.Script.{Action, Carry}
-use Rattle.beldi_program.specs.Response.{Report, ReplyIs, RowsAre, TablesAre, BookIs, LineRefused, Response, Answered, Reported}
-use Rattle.beldi_program.specs.Session.{State, Unchanged, IsReport, IsStep, Steps, Went, BrokeOff, Stopped}
-use Rattle.beldi_program.proofs.Went.{unchanged}
+use Rattle.beldi_session.specs.declared.session.Stop.{Stop}
+use Rattle.beldi_session.specs.declared.session.Stop.TheVariants.{OutOfMemory}
+use Rattle.beldi_session.specs.Script.{Action, Carry}
+use Rattle.beldi_session.specs.Response.{Report, ReplyIs, RowsAre, TablesAre, BookIs, LineRefused, Response, Answered, Reported}
+use Rattle.beldi_session.specs.Session.{State, Unchanged, IsReport, IsStep, Steps, Went, BrokeOff, Stopped}
+use Rattle.beldi_session.proofs.Went.{unchanged}
 use Rattle.beldi_program.specs.PlainRun.{IsReportSo, IsSo, Moment, IsMoment, TellOutcomes, GoesOn, IsPlainRun, bound_by, bound_in, outcome_in}
 
 abbrev Bound : Type 0

@@ -6,18 +6,18 @@ use Rattle.beldi_row.specs.Table.{Rows, TableState}
 use Rattle.beldi_step.specs.Host.{Core, first_core}
 use Rattle.beldi_host.specs.Survey.{newest_of}
 use Rattle.beldi_outside.specs.Outside.{IsPrefixOf, Told, Rose, TookFront, max_source}
-use Rattle.beldi_program.specs.declared.refusal.Refusal.{Refusal}
-use Rattle.beldi_program.specs.declared.source.Accepted.{Accepted}
-use Rattle.beldi_program.specs.declared.session.Stop.{Stop}
-use Rattle.beldi_program.specs.declared.session.Stop.TheVariants as stop
+use Rattle.beldi_session.specs.declared.refusal.Refusal.{Refusal}
+use Rattle.beldi_session.specs.declared.source.Accepted.{Accepted}
+use Rattle.beldi_session.specs.declared.session.Stop.{Stop}
+use Rattle.beldi_session.specs.declared.session.Stop.TheVariants as stop
 use Rattle.beldi_program.specs.declared.program.Ended.{Ended}
 use Rattle.beldi_program.specs.declared.program.Ended.TheVariants as ended
 use Rattle.beldi_program.specs.PlainRun.{IsMoment, IsPlainRun}
-use Rattle.beldi_program.specs.Refusal.{refusal_text}
-use Rattle.beldi_program.specs.Script.{Action, actions_in, is_whole}
-use Rattle.beldi_program.specs.Session.{State, Went, Stopped, Writes}
-use Rattle.beldi_program.specs.Source.{Numbered, script_of, source_at}
-use Rattle.beldi_program.specs.Check.{check_at}
+use Rattle.beldi_session.specs.Refusal.{refusal_text}
+use Rattle.beldi_session.specs.Script.{Action, actions_in, is_whole}
+use Rattle.beldi_session.specs.Session.{State, Went, Stopped, Writes}
+use Rattle.beldi_session.specs.Source.{Numbered, script_of, source_at}
+use Rattle.beldi_session.specs.Check.{check_at}
 use Rattle.beldi_command.specs.declared.command.Command.{Command}
 use Rattle.beldi_command.specs.declared.command.Command.TheVariants.{Run, Check}
 

@@ -15,8 +15,8 @@ use Rattle.beldi_laws.specs.Laws.{starts_of, bound_of, entries_told, told_outcom
 use Rattle.beldi_laws.specs.Stands.{Stands}
 use Rattle.beldi_host.specs.Right.{SaidOf}
 use Rattle.beldi_host.specs.declared.survey.ReplySeen.TheVariants.{Reply}
-use Rattle.beldi_program.specs.Response.{Report, ReplyIs, TablesAre, BookIs, Response, Answered, Reported}
-use Rattle.beldi_program.specs.Session.{State, IsStep}
+use Rattle.beldi_session.specs.Response.{Report, ReplyIs, TablesAre, BookIs, Response, Answered, Reported}
+use Rattle.beldi_session.specs.Session.{State, IsStep}
 
 -- ---- the moment after an action
 -- the entries that a response tells

@@ -1,12 +1,8 @@
 //! The program without its real streams: it reads a deployment and a script, hosts the deployment, and writes what the
 //! script's events came to; or it tests them, and carries out nothing.
-//! It stands on the host (`beldi_host`), the readers of its words and of its source (`beldi_command`, `beldi_syntax`,
-//! `beldi_script`), the checks of a deployment (`beldi_check`), the table that a host is over (`beldi_row`) and what is outside
-//! (`beldi_outside`); its clauses speak of definitions of the crates below them.
-//! Its own definitions: `specs/Source` (what a source says: its refusal, or a deployment and numbered lines), `specs/Refusal`
-//! (the text of a refusal), `specs/Check` (what is said of a source that is tested), `specs/Script` (what a script has the
-//! program do), `specs/Answer` and `specs/Response` (what is said of it, and the text), `specs/Session` (steps one after
-//! another, and what was written), `specs/PlainRun` (that they are a run without crashes), `specs/Headline` (how the program
+//! It stands on the session (`beldi_session`), the host (`beldi_host`), the reader of its words (`beldi_command`), the table that a host is
+//! over (`beldi_row`) and what is outside (`beldi_outside`); its clauses speak of definitions of the crates below them.
+//! Its own definitions: `specs/PlainRun` (that a session's steps are a run without crashes) and `specs/Headline` (how the program
 //! ends: by it the cause, and what is left of source, sink and table).
 //! It has no error type: `top` answers a status, and `Ended` has one variant for each.
 //!
@@ -35,16 +31,10 @@
 //!   out, nor the table failed as it was opened (`complete`); 0 comes only where the source is not refused, and 5
 //!   only where it is, whatever sink and table tell (`refused`).
 //! - With words that ask for no command neither source nor table is touched (`unread`); with 3 and 7 the table is the one
-//!   handed in and   the sink is not called, with 8 the rows are as before (`untouched`).
+//!   handed in and the sink is not called, with 8 the rows are as before (`untouched`).
 //! - Neither the link nor the clock is asked for anything (`unasked`).
 #![tactic(auto)]
 
-mod answer;
-mod check;
-mod output;
 mod program;
-mod refusal;
-mod session;
-mod source;
 
 pub use program::top;

@@ -4,21 +4,21 @@ ghost use Rattle.beldi_outside.specs.Outside.{Told, Rose, max_source};
 ghost use Rattle.beldi_script.specs.Cut.{lines_of};
 ghost use Rattle.beldi_command.specs.Command.{command_of};
 ghost use Rattle.beldi_command.specs.declared.command.Command.TheVariants as commands;
-ghost use Rattle.beldi_program.specs.Check.{check_at};
-ghost use Rattle.beldi_program.specs.Refusal.{refusal_text};
-ghost use Rattle.beldi_program.specs.Source.{numbered, source_at};
+ghost use Rattle.beldi_session.specs.Check.{check_at};
+ghost use Rattle.beldi_session.specs.Refusal.{refusal_text};
+ghost use Rattle.beldi_session.specs.Source.{numbered, source_at};
 ghost use Rattle.beldi_program.specs.Headline.{ByStatus, CheckEnds, CommandEnds, DoneBy, Ends, HasEnded, LongOn, SessionEnds, SourceAsRead, SourceEnds, TextEnds, Untouched, end_of, is_whole_source, status_of, usage};
 ghost use Rattle.beldi_program.specs.declared.program.Ended.TheVariants as ended;
 
-use crate::check::check_source;
-use crate::refusal::{Refusal, SourceErr, write_refusal};
-use crate::session::{Stop, run_script};
-use crate::source::{Accepted, read_source, script_at};
 use beldi_check::Checked;
 use beldi_command::{Command, read_command};
 use beldi_host::{Host, OpenErr};
 use beldi_outside::{Clock, Link, ReadErr, Sink, Source, read_all, write_all};
 use beldi_row::Table;
+use beldi_session::{
+    Accepted, Refusal, SourceErr, Stop, check_source, read_source, run_script, script_at,
+    write_refusal,
+};
 use beldi_value::Str;
 use std::alloc::Global;
 

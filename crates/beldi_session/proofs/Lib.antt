@@ -1,0 +1,5 @@
+mod Calls
+mod Lines
+mod Refusals
+pub mod Responses
+pub mod Went

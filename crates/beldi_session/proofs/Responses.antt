@@ -1,0 +1,117 @@
+-- The responses of the host, and their text.
+use Rattle.std.proofs.Common.{◌≡◌, inl, inr, ℕ, List, [], ◌∷◌, ◌++◌, Option, None, Some, Result, Ok, Err, refl, ap, ◌∙◌, append_assoc}
+use Rattle.std.specs.Prelude.{OnOk, IfOk, IsErrOf}
+use Rattle.std.specs.declared.alloc.AllocError.{AllocError}
+use Rattle.beldi_row.specs.Table.{Rows, Tells, IsCount, row_count}
+use Rattle.beldi_step.specs.declared.event.Event.{Event}
+use Rattle.beldi_step.specs.declared.event.Seen.{Seen}
+use Rattle.beldi_step.specs.Host.{EventOn, Stepped}
+use Rattle.beldi_step.proofs.Steps.{over_rows, over_any_table}
+use Rattle.beldi_host.specs.Survey.{Reads}
+use Rattle.beldi_host.specs.declared.survey.OpenErr.{OpenErr}
+use Rattle.beldi_row.proofs.Tells.{tells_map}
+use Rattle.beldi_outside.specs.Outside.{Told}
+use Rattle.beldi_outside.proofs.Told.{told_map}
+use Rattle.beldi_session.specs.declared.session.Stop.{Stop}
+use Rattle.beldi_session.specs.declared.session.Stop.TheVariants.{OutOfMemory, SinkFault}
+use Rattle.beldi_session.specs.Answer.{answer_text}
+use Rattle.beldi_session.specs.Script.{Action, Carry}
+use Rattle.beldi_session.specs.Response.{Report, Answered, Reported, report_of, report_text, tables_head, unread_line}
+use Rattle.beldi_session.specs.Session.{by_text, IsReport, WentBy, Sight, state_at, Does}
+use Rattle.beldi_session.proofs.Went.{broken, by_one, by_stop}
+use Rattle.beldi_session.proofs.Calls.{Calm, made}
+
+-- what a table tells is told
+pub told_tells : (rows rows' : Option Rows) (P : Rows → Rows → Type 0) → Tells rows rows' P → Told rows rows' P
+told_tells None rows' P h = tt
+told_tells (Some m) None P h = h
+told_tells (Some m) (Some n) P h = h
+
+abbrev OverRows : Sight → Sight → (Rows → Rows → Type 0) → Type 0
+OverRows a b P = Tells a.table.rows b.table.rows P
+
+abbrev EventFrom : Sight → Sight → Event → Result Seen AllocError → Rows → Rows → Type 0
+EventFrom a b e x m n = EventOn a.code a.table.room a.table.faults b.table.faults e a.core m b.core n x
+
+text_by : (wrote : Result (Unit {0}) AllocError) (P : Type 0) → OnOk wrote P → OnOk (by_text wrote) P
+text_by (Ok u) P h = h
+text_by (Err w) P h = tt
+
+no_fault : (wrote : Result (Unit {0}) AllocError) → IsErrOf (by_text wrote) SinkFault → ⊥
+no_fault (Ok u) h = cc
+no_fault (Err w) h = cc
+
+module _ (a b : Sight) (calm : Calm a b) (r : Result (Unit {0}) Stop) where
+  over : (act : Action) (P : Rows → Rows → Type 0) → ((m n : Rows) → P m n → WentBy a.code a.table.room (act ∷ []) (state_at a m) (state_at b n) a.waiting [] b.waiting r) → (IsErrOf r SinkFault → ⊥) → OverRows a b P → Does (act ∷ []) a b r
+  over act P f none t = made (act ∷ []) a b r calm none (told_map {P = P} {Q = λ m n. WentBy a.code a.table.room (act ∷ []) (state_at a m) (state_at b n) a.waiting [] b.waiting r} a.table.rows b.table.rows f (told_tells a.table.rows b.table.rows P t))
+
+-- a report
+module _ (a b : Sight) (calm : Calm a b) where
+  -- a report was made of the rows, which are as they were
+  pub reported : b.core ≡ a.core → (y : Rows → Report) (act : Action) (wrote : Result (Unit {0}) AllocError) → ((m : Rows) → report_of (y m) ≡ act)
+      → OverRows a b (λ m n. (n ≡ m) × (OnOk wrote (b.waiting ≡ a.waiting ++ report_text (y m)) × IsReport a.code (state_at a m) (state_at b n) (y m))) → Does (act ∷ []) a b (by_text wrote)
+  reported core y act wrote is t =
+      over a b calm (by_text wrote) act (λ m n. (n ≡ m) × (OnOk wrote (b.waiting ≡ a.waiting ++ report_text (y m)) × IsReport a.code (state_at a m) (state_at b n) (y m)))
+      (λ m n o. by_one a.code a.table.room act (Reported (y m)) (state_at a m) (state_at b n) a.waiting b.waiting (by_text wrote) (is m) (record { core = core; rows = o.0; later = calm.later }, o.1.1) (text_by wrote _ o.1.0)) (no_fault wrote) t
+
+  -- nothing was reported
+  pub unreported : b.core ≡ a.core → (act : Action) → OverRows a b (λ m n. n ≡ m) → Does (act ∷ []) a b (broken (Unit {0}) OutOfMemory)
+  unreported core act t =
+      over a b calm (broken (Unit {0}) OutOfMemory) act (λ m n. n ≡ m)
+      (λ m n o. by_stop a.code a.table.room (act ∷ []) (state_at a m) (state_at b n) a.waiting b.waiting OutOfMemory (inl (record { core = core; rows = o; later = calm.later }))) (λ e. cc) t
+
+-- an event is one step of the host
+module _ (a b : Sight) (held : b.held ≡ a.held) (faults : b.faults ≡ a.faults) (code : b.code ≡ a.code) (e : Event) where
+  abbrev EventStep : Result Seen AllocError → Type 0
+  EventStep r = Stepped a.code e a.core b.core a.table b.table r
+
+  calm : (r : Result Seen AllocError) → EventStep r → Calm a b
+  calm r h = let t = over_any_table a.code e a.core b.core a.table b.table r h in record { held = held; faults = faults; code = code; room = t.room; later = t.later }
+
+  -- it was answered, and the text of the answer appended
+  pub event_answered : (x : Seen) (wrote : Result (Unit {0}) AllocError) → EventStep (Ok x) → OnOk wrote (b.waiting ≡ a.waiting ++ answer_text a.code x) → Does (Carry e ∷ []) a b (by_text wrote)
+  event_answered x wrote h text =
+      over a b (calm (Ok x) h) (by_text wrote) (Carry e) (EventFrom a b e (Ok x))
+      (λ m n o. by_one a.code a.table.room (Carry e) (Answered e x) (state_at a m) (state_at b n) a.waiting b.waiting (by_text wrote) refl (o, (calm (Ok x) h).later) (text_by wrote _ text)) (no_fault wrote)
+      (over_rows a.code e a.core b.core a.table b.table (Ok x) h)
+
+  -- it broke off
+  pub event_broke : (w : AllocError) → EventStep (Err w) → Does (Carry e ∷ []) a b (broken (Unit {0}) OutOfMemory)
+  event_broke w h =
+      over a b (calm (Err w) h) (broken (Unit {0}) OutOfMemory) (Carry e) (EventFrom a b e (Err w))
+      (λ m n o. by_stop a.code a.table.room (Carry e ∷ []) (state_at a m) (state_at b n) a.waiting b.waiting OutOfMemory (inr (o, (calm (Err w) h).later))) (λ e. cc)
+      (over_rows a.code e a.core b.core a.table b.table (Err w) h)
+
+-- what the table told of its rows as they were read
+module _ (a b : Sight) {X : Type 0} (P : Rows → X → Type 0) where
+  pub read_rows : (x : Result X OpenErr) → Reads P a.table b.table x → OverRows a b (λ m n. n ≡ m)
+  read_rows x h = tells_map {P = λ m n. (n ≡ m) × IfOk x (P m)} {Q = λ m n. n ≡ m} a.table.rows b.table.rows (λ m n v. v.0) h.rows
+
+  -- .. with what they say
+  pub read_as : (x : X) (Q : Rows → Rows → Type 0) → ((m n : Rows) → n ≡ m → P m x → Q m n) → Reads P a.table b.table (Ok x) → OverRows a b (λ m n. (n ≡ m) × Q m n)
+  read_as x Q f h = tells_map {P = λ m n. (n ≡ m) × P m x} {Q = λ m n. (n ≡ m) × Q m n} a.table.rows b.table.rows (λ m n v. (v.0, f m n v.0 v.1)) h.rows
+
+  pub read_failed : (e : OpenErr) (Q : Rows → Rows → Type 0) → ((m n : Rows) → Q m n) → Reads P a.table b.table (Err e) → OverRows a b (λ m n. (n ≡ m) × Q m n)
+  read_failed e Q f h = tells_map {P = λ m n. (n ≡ m) × Unit {0}} {Q = λ m n. (n ≡ m) × Q m n} a.table.rows b.table.rows (λ m n v. (v.0, f m n)) h.rows
+
+-- the rows were not touched
+pub tells_same : (o : Option Rows) (Q : Rows → Type 0) → ((m : Rows) → Q m) → Tells o o (λ m n. (n ≡ m) × Q m)
+tells_same None Q f = refl
+tells_same (Some m) Q f = (refl, f m)
+
+-- .. but counted
+pub counted_rows : (o : Option Rows) (n : ℕ) (Q : Type 0) → IsCount o n → Q → Tells o o (λ m k. (k ≡ m) × (Q × (n ≡ row_count m)))
+counted_rows None n Q is q = refl
+counted_rows (Some m) n Q is q = (refl, (q, is))
+
+pub tells_still : (o : Option Rows) → Tells o o (λ m n. n ≡ m)
+tells_still None = refl
+tells_still (Some m) = refl
+
+-- what went under the heading of the tables
+pub under_head : (p v q lines : List ℕ) → v ≡ p ++ tables_head → q ≡ v ++ lines → q ≡ p ++ (tables_head ++ lines)
+under_head p v q lines h is = is ∙ ap (λ z. z ++ lines) h ∙ append_assoc p tables_head lines
+
+pub unread_under : (p v w q : List ℕ) (wrote : Result (Unit {0}) AllocError) → v ≡ p ++ tables_head → w ≡ v → OnOk wrote (q ≡ w ++ unread_line) → OnOk wrote (q ≡ p ++ (tables_head ++ unread_line))
+unread_under p v w q (Ok u) h same is = under_head p v q unread_line h (is ∙ ap (λ z. z ++ unread_line) same)
+unread_under p v w q (Err e) h same is = tt

@@ -1,0 +1,24 @@
+use Rattle.std.proofs.Common.{◌≡◌, ◌++◌, [], ◌∷◌, refl, sym, subst, arith}
+use Rattle.std.specs.Prelude.{OnOk}
+use Rattle.beldi_book.specs.Text.{book_text}
+use Rattle.beldi_book.specs.declared.book.Book.{Book}
+use Rattle.beldi_session.specs.Script.{ListBook}
+use Rattle.beldi_session.specs.Response.{BookIs, report_text}
+use Rattle.beldi_session.specs.Session.{Does, IsReport, sight, state_at}
+use Rattle.beldi_session.proofs.Responses.{reported, tells_same}
+use Rattle.beldi_session.proofs.session.list_book.Goals as goal
+
+pub returns : goal.returns
+returns g c = λ held faults.
+    let wrote = c.write_book.result in
+    let a = sight c.args.host.now c.args.out.now held faults in
+    let b = sight c.args.host.now c.write_book.new.out held faults in
+    let y = BookIs (book_text a.code a.core.book) in
+    subst (λ r. Does (ListBook ∷ []) a b r) (sym c.appended.ensures)
+    (reported a b (record { held = refl; faults = refl; code = refl; room = refl; later = omega arith }) refl (λ m. y) ListBook wrote (λ m. refl)
+    (tells_same a.table.rows (λ m. OnOk wrote (b.waiting ≡ a.waiting ++ report_text y) × IsReport a.code (state_at a m) (state_at b m) y)
+    (λ m. (
+      subst (λ d. OnOk wrote (b.waiting ≡ a.waiting ++ report_text (BookIs (book_text d a.core.book)))) c.code.ensures
+          (subst (λ (k : Book). OnOk wrote (b.waiting ≡ a.waiting ++ report_text (BookIs (book_text c.code.result.now k.entries)))) c.book.ensures.book c.write_book.ensures),
+      refl,
+    ))))

@@ -1,0 +1,64 @@
+-- What a script has the program do, line by line.
+use Rattle.std.specs.Prelude.{ℕ, zero, suc, Bool, true, false, ◌&&◌, List, [], ◌∷◌, ◌++◌, Result, Ok, Err}
+use Rattle.beldi_tree.specs.declared.deployment.Deployment.{Deployment}
+use Rattle.beldi_step.specs.declared.event.Event.{Event}
+use Rattle.beldi_step.specs.declared.event.Event.TheVariants as event
+use Rattle.beldi_script.specs.declared.line.Line.{Line}
+use Rattle.beldi_script.specs.declared.line.Line.TheVariants as line
+use Rattle.beldi_session.specs.declared.refusal.Refusal.{Refusal}
+use Rattle.beldi_session.specs.declared.session.Taker.{Taker}
+use Rattle.beldi_session.specs.declared.session.Taker.TheVariants as taker
+use Rattle.beldi_session.specs.Source.{Numbered, said_at}
+
+-- carry out an event; tell what a ticket's run gave, how many rows there are, the tables, or the book; refuse a line
+pub data Action : Type 0 where
+  Carry : Event → Action
+  TellReply : ℕ → Action
+  CountRows : Action
+  ListTables : Action
+  ListBook : Action
+  Refuse : Refusal → Action
+
+abbrev pub times : ℕ → Action → List Action
+times zero a = []
+times (suc n) a = a ∷ times n a
+
+-- the event of one turn
+abbrev pub turn_of : Taker → Event
+turn_of (taker.Run r) = event.Turn r
+turn_of taker.IntentCollector = event.Ic
+
+-- none where the program cannot do yet what the line says
+abbrev pub actions_of : Line → List Action
+actions_of line.Ticket = Carry event.Ticket ∷ []
+actions_of (line.Request t f a) = Carry (event.Request t f a) ∷ []
+actions_of (line.Turn r n) = times n (Carry (event.Turn r))
+actions_of (line.Lost r) = Carry (event.Lost r) ∷ []
+actions_of (line.Crash r) = Carry (event.Crash r) ∷ []
+actions_of (line.Restart id f) = Carry (event.Restart id f) ∷ []
+actions_of (line.Ic n) = times n (Carry event.Ic)
+actions_of (line.Tick n) = Carry (event.Tick n) ∷ []
+actions_of (line.Reply t) = TellReply t ∷ []
+actions_of line.Rows = CountRows ∷ []
+actions_of line.Tables = ListTables ∷ []
+actions_of line.Book = ListBook ∷ []
+actions_of l = []
+
+-- a line's actions; one that is refused ends the script
+abbrev pub and_then : Result Line Refusal → List Action → List Action
+and_then (Ok l) more = actions_of l ++ more
+and_then (Err x) more = Refuse x ∷ []
+
+-- the actions of the lines up to the first one that is refused; where none is, the last listings follow
+abbrev pub actions_in : Deployment → List Numbered → List Action
+actions_in d [] = ListTables ∷ ListBook ∷ []
+actions_in d (l ∷ ls) = and_then (said_at d l) (actions_in d ls)
+
+abbrev pub is_ok : {A B : Type 0} → Result A B → Bool
+is_ok (Ok a) = true
+is_ok (Err b) = false
+
+-- no line is refused
+abbrev pub is_whole : Deployment → List Numbered → Bool
+is_whole d [] = true
+is_whole d (l ∷ ls) = is_ok (said_at d l) && is_whole d ls

@@ -1,0 +1,122 @@
+-- A session: the actions of a script one after another, the responses, and the text that was written.
+use Rattle.std.specs.Prelude.{◌≡◌, ◌⊎◌, ◌≤◌, ℕ, Bool, false, map, List, [], ◌∷◌, ◌++◌, Option, Some, None, Result, Ok, Err, IsErrOf}
+use Rattle.std.specs.declared.alloc.AllocError.{AllocError}
+use Rattle.beldi_tree.specs.declared.deployment.Deployment.{Deployment}
+use Rattle.beldi_row.specs.declared.table.Table.{Ghosts}
+use Rattle.beldi_row.specs.Table.{Rows, TableState, Rose, row_count}
+use Rattle.beldi_book.specs.Text.{book_text}
+use Rattle.beldi_step.specs.Host.{Core, EventOn}
+use Rattle.beldi_step.specs.Tables.{tables_text}
+use Rattle.beldi_host.specs.declared.host.Host.{Host}
+use Rattle.beldi_host.specs.Host.{core_of}
+use Rattle.beldi_host.specs.Survey.{reply_seen, is_unknown}
+use Rattle.beldi_outside.specs.Outside.{Told, IsPrefixOf}
+use Rattle.beldi_session.specs.declared.session.Stop.{Stop}
+use Rattle.beldi_session.specs.declared.session.Stop.TheVariants.{OutOfMemory, SinkFault}
+use Rattle.beldi_session.specs.Script.{Action, Carry}
+use Rattle.beldi_session.specs.Response.{Report, ReplyIs, RowsAre, TablesAre, BookIs, LineRefused, Response, Answered, Reported, action_of, responses_text}
+
+-- ---- one step
+-- the host without its table, the rows, and the table's count of failures
+pub record State : Type 0 where
+  pub core : Core
+  pub rows : Rows
+  pub faults : ℕ
+
+-- the host and the rows are as they were
+pub record Unchanged (s t : State) : Type 0 where
+  pub core : t.core ≡ s.core
+  pub rows : t.rows ≡ s.rows
+  pub later : s.faults ≤ t.faults
+
+-- a report says what is to be read, or that the table failed where that is not known without a look at the rows
+abbrev pub IsReport : Deployment → State → State → Report → Type 0
+IsReport d s t (ReplyIs n None) = Rose s.faults t.faults × (is_unknown s.core.newest n ≡ false)
+IsReport d s t (ReplyIs n (Some x)) = x ≡ reply_seen s.core.newest n s.rows
+IsReport d s t (RowsAre n) = n ≡ row_count s.rows
+IsReport d s t (TablesAre None) = Rose s.faults t.faults
+IsReport d s t (TablesAre (Some lines)) = lines ≡ tables_text d s.rows
+IsReport d s t (BookIs lines) = lines ≡ book_text d s.core.book
+IsReport d s t (LineRefused x) = Unit {0}
+
+-- this is the response of an action that leads from s to t: an event is one step of the host, and a report changes nothing
+abbrev pub IsStep : Deployment → ℕ → State → State → Response → Type 0
+IsStep d room s t (Answered e x) = EventOn d room s.faults t.faults e s.core s.rows t.core t.rows (Ok x) × (s.faults ≤ t.faults)
+IsStep d room s t (Reported r) = Unchanged s t × IsReport d s t r
+
+-- ---- one step after another
+abbrev pub Steps : (State → State → Response → Type 0) → List Response → State → State → Type 0
+Steps Step [] s t = t ≡ s
+Steps Step (y ∷ ys) s t = (u : State) × Step s u y × Steps Step ys u t
+
+-- the first of these actions were done, but for `more`: the text of their responses came after the text that waited, a front
+-- of it was written, and the rest waits
+pub record Went (Step : State → State → Response → Type 0) (d : Deployment) (actions more : List Action) (s t : State) (waited written rest : List ℕ) : Type 0 where
+  pub responses : List Response
+  pub actions_are : map action_of responses ++ more ≡ actions
+  pub steps : Steps Step responses s t
+  pub text : written ++ rest ≡ waited ++ responses_text d responses
+
+-- the next action broke off: an event, out of memory
+abbrev pub BrokeOff : Stop → Deployment → ℕ → List Action → State → State → Type 0
+BrokeOff OutOfMemory d room (Carry e ∷ more) s t = EventOn d room s.faults t.faults e s.core s.rows t.core t.rows (Err (record {})) × (s.faults ≤ t.faults)
+BrokeOff why d room more s t = ⊥
+
+-- nothing more happened, or the next action broke off
+abbrev pub Stopped : Stop → Deployment → ℕ → List Action → State → State → Type 0
+Stopped why d room more s t = Unchanged s t ⊎ BrokeOff why d room more s t
+
+-- by what a call answers: all of the actions were done, and what is not written waits; or it stopped
+abbrev pub WentBy : {X : Type 0} → Deployment → ℕ → List Action → State → State → List ℕ → List ℕ → List ℕ → Result X Stop → Type 0
+WentBy d room actions s t waited written waits (Ok x) = Went (IsStep d room) d actions [] s t waited written waits
+WentBy d room actions s t waited written waits (Err why) = (more : List Action) × (u : State) × (rest : List ℕ) × Went (IsStep d room) d actions more s u waited written rest × Stopped why d room more u t
+
+-- ---- calls of the program
+-- a sink got this text, where it tells what it got
+abbrev pub Writes : Option (List ℕ) → Option (List ℕ) → List ℕ → Type 0
+Writes held held' text = Told held held' (λ h k. k ≡ h ++ text)
+
+-- what waited was written, and the rest of it waits; after a fault a front of it was written
+abbrev pub LeftBy : {X E : Type 0} → List ℕ → List ℕ → List ℕ → Result X E → Type 0
+LeftBy waited written rest (Ok x) = written ++ rest ≡ waited
+LeftBy waited written rest (Err e) = IsPrefixOf written waited
+
+abbrev pub Flushes : {X E : Type 0} → Option (List ℕ) → Option (List ℕ) → List ℕ → List ℕ → Result X E → Type 0
+Flushes held held' waited rest r = (written : List ℕ) × Writes held held' written × LeftBy waited written rest r
+
+-- what a call answers after a text was appended
+abbrev pub by_text : Result (Unit {0}) AllocError → Result (Unit {0}) Stop
+by_text (Ok u) = Ok u
+by_text (Err w) = Err OutOfMemory
+
+-- .. and after actions were done, by whether the script is whole
+abbrev pub by_done : Bool → Result (Unit {0}) Stop → Result Bool Stop
+by_done whole (Ok u) = Ok whole
+by_done whole (Err e) = Err e
+
+-- what there is to see between two calls: the host, the text that waits, what the sink got, and its count of faults
+pub record Sight : Type 0 where
+  pub code : Deployment
+  pub core : Core
+  pub table : TableState
+  pub waiting : List ℕ
+  pub held : Option (List ℕ)
+  pub faults : ℕ
+
+abbrev pub sight : {T : Type 0} {G : Ghosts T} → Host T G → List ℕ → Option (List ℕ) → ℕ → Sight
+sight {T} {G} h waiting held faults = record { code = h.code; core = core_of h; table = G.state h.table; waiting = waiting; held = held; faults = faults }
+
+abbrev pub state_at : Sight → Rows → State
+state_at a m = record { core = a.core; rows = m; faults = a.table.faults }
+
+-- a call that does these actions: the text that it wrote, also where the sink does not tell it, and what happened, where the
+-- rows are told. The deployment and the room stay, no count falls, and the sink is at fault only where its count rose.
+pub record Does {X : Type 0} (actions : List Action) (a b : Sight) (result : Result X Stop) : Type 0 where
+  pub written : List ℕ
+  pub sink : Writes a.held b.held written
+  pub went : Told a.table.rows b.table.rows (λ m n. WentBy a.code a.table.room actions (state_at a m) (state_at b n) a.waiting written b.waiting result)
+  pub code : b.code ≡ a.code
+  pub room : b.table.room ≡ a.table.room
+  pub later : a.table.faults ≤ b.table.faults
+  pub sink_later : a.faults ≤ b.faults
+  pub fault : IsErrOf result SinkFault → Rose a.faults b.faults

@@ -1,0 +1,98 @@
+-- What a source says: where and why it is refused, or a deployment and the lines of a script.
+use Rattle.std.specs.Prelude.{◌≡◌, ℕ, ◌+◌, ◌-◌, ◌^◌, min, Bool, true, false, List, [], ◌∷◌, drop, Option, Some, None, Result, Ok, Err, if◌then◌else◌}
+use Rattle.beldi_tree.specs.declared.deployment.Deployment.{Deployment}
+use Rattle.beldi_check.specs.Rules.{Offence, first_offence}
+use Rattle.beldi_script.specs.Cut.{lines_of}
+use Rattle.beldi_script.specs.Line.{line_at}
+use Rattle.beldi_script.specs.declared.line.Line.{Line}
+use Rattle.beldi_script.specs.declared.line.Line.TheVariants as line
+use Rattle.beldi_script.specs.declared.line.ScriptErr.{ScriptErr}
+use Rattle.beldi_script.specs.declared.line.ScriptErr.TheVariants as script
+use Rattle.beldi_syntax.specs.Deployments.{parsed_at}
+use Rattle.beldi_syntax.specs.declared.reading.Parsed.{Parsed}
+use Rattle.beldi_syntax.specs.declared.refusal.SyntaxErr.{SyntaxErr}
+use Rattle.beldi_syntax.specs.declared.refusal.SyntaxErr.TheVariants as syntax
+use Rattle.beldi_syntax.specs.declared.refusal.What.TheVariants as what
+use Rattle.beldi_session.specs.declared.source.Accepted.{Accepted}
+use Rattle.beldi_session.specs.declared.refusal.Cause.{Cause}
+use Rattle.beldi_session.specs.declared.refusal.Cause.TheVariants as cause
+use Rattle.beldi_session.specs.declared.refusal.Refusal.{Refusal}
+use Rattle.beldi_session.specs.declared.refusal.SourceErr.{SourceErr}
+use Rattle.beldi_session.specs.declared.refusal.SourceErr.TheVariants.{OutOfMemory, Refused}
+
+abbrev pub refusal_at : Cause → ℕ → Refusal
+refusal_at c n = record { line = n; cause = c }
+
+-- ---- the deployment
+abbrev pub refusal_by : Option Offence → Option Refusal
+refusal_by None = None
+refusal_by (Some o) = Some (refusal_at (cause.Rule o.1) o.0)
+
+-- the first rule that it breaks
+abbrev pub refusal_in : Deployment → Option Refusal
+refusal_in d = refusal_by (first_offence d.funcs)
+
+abbrev pub accepted : {A : Type 0} → A → Option Refusal → Result A Refusal
+accepted a None = Ok a
+accepted a (Some r) = Err r
+
+abbrev pub accepted_of : Parsed → Accepted
+accepted_of p = record { code = p.code; rest = p.rest; line = p.line }
+
+-- a text is never read as out of memory
+abbrev pub source_by : Result Parsed SyntaxErr → Result Accepted Refusal
+source_by (Ok p) = accepted (accepted_of p) (refusal_in p.code)
+source_by (Err (syntax.Refused n w)) = Err (refusal_at (cause.Syntax w) n)
+source_by (Err syntax.OutOfMemory) = Err (refusal_at (cause.Syntax what.Syntax) 1)
+
+-- what a source says before its script: a deployment that was read and keeps every rule, or a refusal
+abbrev pub source_at : List ℕ → Result Accepted Refusal
+source_at bytes = source_by (parsed_at bytes)
+
+-- ---- the script
+-- a line, with its number in the source
+abbrev pub Numbered : Type 0
+Numbered = ℕ × List ℕ
+
+-- the number of the line after, where one past the last number of 32 bits is told as that
+abbrev pub next : ℕ → ℕ
+next n = min (n + 1) (2 ^ 32 - 1)
+
+-- lines that are numbered from n on
+abbrev pub numbered : ℕ → List (List ℕ) → List Numbered
+numbered n [] = []
+numbered n (l ∷ ls) = (n, l) ∷ numbered (next n) ls
+
+-- the lines of a source after its deployment
+abbrev pub script_of : List ℕ → Accepted → List Numbered
+script_of bytes p = numbered p.line (lines_of (drop p.rest bytes))
+
+-- the program can do what the line says
+abbrev pub is_built : Line → Bool
+is_built (line.Gc k n) = false
+is_built (line.Sweep k n) = false
+is_built (line.Settle n) = false
+is_built line.Halt = false
+is_built l = true
+
+-- a line is never read as out of memory
+abbrev pub cause_of : ScriptErr → Cause
+cause_of script.OutOfMemory = cause.BadLine
+cause_of script.BadLine = cause.BadLine
+cause_of (script.UnknownFunction n) = cause.UnknownFunction n
+cause_of script.BadValue = cause.BadValue
+
+abbrev pub said_by : ℕ → Result Line ScriptErr → Result Line Refusal
+said_by n (Ok l) = if is_built l then Ok l else Err (refusal_at cause.Unbuilt n)
+said_by n (Err e) = Err (refusal_at (cause_of e) n)
+
+-- what a line says, or its refusal
+abbrev pub said_at : Deployment → Numbered → Result Line Refusal
+said_at d l = said_by l.0 (line_at d l.1)
+
+-- ---- reading
+-- read as this, and refused exactly where that is refused
+abbrev pub ReadsAs : {A : Type 0} → Result A Refusal → Result A SourceErr → Type 0
+ReadsAs r (Ok a) = r ≡ Ok a
+ReadsAs r (Err OutOfMemory) = Unit {0}
+ReadsAs r (Err (Refused x)) = r ≡ Err x

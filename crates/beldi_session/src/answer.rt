@@ -1,0 +1,271 @@
+// The text of an answer.
+ghost use Rattle.std.specs.Prelude.{◌≡◌, ◌++◌, OnErr, OnOk, codes, string_bytes, IfOk};
+ghost use Rattle.std.specs.Fmt.{decimal};
+ghost use Rattle.beldi_value.specs.Json.{text_of};
+ghost use Rattle.beldi_value.specs.Value.{datum_of};
+ghost use Rattle.beldi_tree.specs.Names.{func_text};
+ghost use Rattle.beldi_session.specs.Answer.{answer_text, numbered, bound_line, held_line, waits_line, launched_line, outcome_line, ticket_line, entry_part, run_part, reply_part, over_part};
+ghost use Rattle.beldi_session.specs.Response.{reply_line};
+
+use beldi_book::Entry;
+use beldi_check::Checked;
+use beldi_host::ReplySeen;
+use beldi_step::Seen;
+use beldi_value::{Apart, IntentId, Outcome, Owner, Str, Value};
+use std::alloc::{AllocError, Global};
+
+/// Appends the line of an answer, and a line for the reply that it gives, if any. After an `Err` the text is as before.
+pub fn write_answer(
+    alloc: Global,
+    code: &Checked,
+    seen: &Seen,
+    out: &mut Str,
+) -> Result<(), AllocError>
+    ensures ok { OnOk result (out.new ≡ out.old ++ answer_text code.now seen.now) }
+    ensures err { OnErr result (out.new ≡ out.old) }
+{
+    match seen {
+        Seen::Issued(ticket) => write_numbered(alloc, "ticket ", u64::from(*ticket), out),
+        Seen::NoTicket => out.push_text("no-ticket\n"),
+        Seen::Bound { ticket, run } => write_bound(alloc, *ticket, *run, out),
+        Seen::Running(ticket) => write_numbered(alloc, "running ", u64::from(*ticket), out),
+        Seen::Replied { ticket, outcome } => write_outcome(alloc, "ended ", *ticket, outcome, out),
+        Seen::Other { ticket, func, args } => write_other(alloc, code, *ticket, *func, args, out),
+        Seen::Gone(ticket) => write_numbered(alloc, "gone ", u64::from(*ticket), out),
+        Seen::Unknown(ticket) => write_numbered(alloc, "unknown ", u64::from(*ticket), out),
+        // most turns tell nothing more
+        Seen::Acted {
+            entry: None,
+            started: None,
+            over,
+            reply: None,
+        } => out.push_text(if *over { "acted over\n" } else { "acted\n" }),
+        Seen::Acted {
+            entry,
+            started,
+            over,
+            reply,
+        } => write_acted(alloc, code, entry, *started, *over, reply, out),
+        Seen::Held(owner) => write_held(alloc, owner.get(), out),
+        Seen::NotYet(id) => write_waits(alloc, id.get(), out),
+        Seen::Full { live, room } => {
+            let text = format!(in alloc; "full {live} {room}\n")?;
+            out.push_text(text.as_str())
+        }
+        Seen::Worn => out.push_text("worn\n"),
+        Seen::Crowded => out.push_text("crowded 1024\n"),
+        Seen::Expired => out.push_text("expired\n"),
+        Seen::NoRun => out.push_text("no-run\n"),
+        Seen::RunOver => out.push_text("run-over\n"),
+        Seen::Dropped => out.push_text("dropped\n"),
+        Seen::Crashed => out.push_text("crashed\n"),
+        Seen::Started(run) => write_numbered(alloc, "run ", *run, out),
+        Seen::Passed => out.push_text("passed\n"),
+        Seen::Launched { run, id } => write_launched(alloc, *run, id, out),
+        Seen::Round => out.push_text("round\n"),
+        Seen::Now(moment) => write_numbered(alloc, "now ", *moment, out),
+        Seen::ClockEnd => out.push_text("clock-end\n"),
+        Seen::Spent => out.push_text("spent\n"),
+    }
+}
+
+fn write_bound(alloc: Global, ticket: u32, run: u64, out: &mut Str) -> Result<(), AllocError>
+    ensures ok { OnOk result (out.new ≡ out.old ++ bound_line ticket run) }
+    ensures err { OnErr result (out.new ≡ out.old) }
+{
+    let mut line = Str::with_room(alloc, 32)?;
+    line.push_text("bound ")?;
+    line.push_number(u64::from(ticket))?;
+    line.push_text(" run ")?;
+    line.push_number(run)?;
+    line.push_text("\n")?;
+    out.push_text(line.as_str())
+}
+
+/// Appends a word and a number, as a line. After an `Err` the text is as before.
+pub fn write_numbered(
+    alloc: Global,
+    word: &str,
+    number: u64,
+    out: &mut Str,
+) -> Result<(), AllocError>
+    ensures ok { OnOk result (out.new ≡ out.old ++ numbered word.now number) }
+    ensures err { OnErr result (out.new ≡ out.old) }
+{
+    let mut line = Str::with_room(alloc, 32)?;
+    line.push_text(word)?;
+    line.push_number(number)?;
+    line.push_text("\n")?;
+    out.push_text(line.as_str())
+}
+
+fn write_outcome(
+    alloc: Global,
+    word: &str,
+    ticket: u32,
+    outcome: &Outcome,
+    out: &mut Str,
+) -> Result<(), AllocError>
+    ensures ok { OnOk result (out.new ≡ out.old ++ outcome_line word.now ticket outcome.now) }
+    ensures err { OnErr result (out.new ≡ out.old) }
+{
+    let mut line = Str::with_room(alloc, 64)?;
+    put_outcome(alloc, word, ticket, outcome, &mut line)?;
+    out.push_text(line.as_str())
+}
+
+// Appends the line of an outcome. Out of memory, a part of it may be there.
+fn put_outcome(
+    alloc: Global,
+    word: &str,
+    ticket: u32,
+    outcome: &Outcome,
+    line: &mut Str,
+) -> Result<(), AllocError>
+    ensures { OnOk result (line.new ≡ line.old ++ outcome_line word.now ticket outcome.now) }
+{
+    line.push_text(word)?;
+    line.push_number(u64::from(ticket))?;
+    line.push_text(" ")?;
+    outcome.write(alloc, line)?;
+    line.push_text("\n")
+}
+
+fn write_other(
+    alloc: Global,
+    code: &Checked,
+    ticket: u32,
+    func: u16,
+    args: &Value,
+    out: &mut Str,
+) -> Result<(), AllocError>
+    ensures ok { OnOk result (out.new ≡ out.old ++ answer_text code.now (Seen.Other ticket func args.now)) }
+    ensures err { OnErr result (out.new ≡ out.old) }
+{
+    let mut line = Str::from_string(format!(in alloc; "other {ticket} ")?);
+    code.code().write_func(func, &mut line)?;
+    line.push_text(" ")?;
+    args.write_json(alloc, &mut line)?;
+    line.push_text("\n")?;
+    out.push_text(line.as_str())
+}
+
+fn write_held(alloc: Global, owner: &Owner, out: &mut Str) -> Result<(), AllocError>
+    ensures ok { OnOk result (out.new ≡ out.old ++ held_line owner.now) }
+    ensures err { OnErr result (out.new ≡ out.old) }
+{
+    let mut line = Str::from_text(alloc, "held ")?;
+    owner.write(&mut line)?;
+    line.push_text("\n")?;
+    out.push_text(line.as_str())
+}
+
+fn write_waits(alloc: Global, callee: &IntentId, out: &mut Str) -> Result<(), AllocError>
+    ensures ok { OnOk result (out.new ≡ out.old ++ waits_line callee.now) }
+    ensures err { OnErr result (out.new ≡ out.old) }
+{
+    let mut line = Str::from_text(alloc, "waits ")?;
+    callee.write(&mut line)?;
+    line.push_text("\n")?;
+    out.push_text(line.as_str())
+}
+
+fn write_launched(alloc: Global, run: u64, id: &IntentId, out: &mut Str) -> Result<(), AllocError>
+    ensures ok { OnOk result (out.new ≡ out.old ++ launched_line run id.now) }
+    ensures err { OnErr result (out.new ≡ out.old) }
+{
+    let mut line = Str::from_string(format!(in alloc; "launched run {run} ")?);
+    id.write(&mut line)?;
+    line.push_text("\n")?;
+    out.push_text(line.as_str())
+}
+
+fn write_acted(
+    alloc: Global,
+    code: &Checked,
+    entry: &Option<Entry>,
+    started: Option<u64>,
+    over: bool,
+    reply: &Option<(u32, Apart<Outcome>)>,
+    out: &mut Str,
+) -> Result<(), AllocError>
+    ensures ok { OnOk result (out.new ≡ out.old ++ answer_text code.now (Seen.Acted entry.now started over reply.now)) }
+    ensures err { OnErr result (out.new ≡ out.old) }
+{
+    let mut lines = Str::with_room(alloc, 64)?;
+    lines.push_text("acted")?;
+    write_entry(alloc, code, entry, &mut lines)?;
+    write_started(started, &mut lines)?;
+    lines.push_text(if over { " over" } else { "" })?;
+    lines.push_text("\n")?;
+    write_reply(alloc, reply, &mut lines)?;
+    out.push_text(lines.as_str())
+}
+
+fn write_entry(
+    alloc: Global,
+    code: &Checked,
+    entry: &Option<Entry>,
+    out: &mut Str,
+) -> Result<(), AllocError>
+    ensures { OnOk result (out.new ≡ out.old ++ entry_part code.now entry.now) }
+{
+    match entry {
+        None => Ok(()),
+        Some(entry) => {
+            out.push_text(" ")?;
+            entry.write(alloc, code.code(), out)
+        }
+    }
+}
+
+fn write_started(started: Option<u64>, out: &mut Str) -> Result<(), AllocError>
+    ensures { OnOk result (out.new ≡ out.old ++ run_part started) }
+{
+    match started {
+        None => Ok(()),
+        Some(run) => {
+            out.push_text(" run ")?;
+            out.push_number(run)
+        }
+    }
+}
+
+fn write_reply(
+    alloc: Global,
+    reply: &Option<(u32, Apart<Outcome>)>,
+    out: &mut Str,
+) -> Result<(), AllocError>
+    ensures { OnOk result (out.new ≡ out.old ++ reply_part reply.now) }
+{
+    match reply {
+        None => Ok(()),
+        Some((ticket, outcome)) => put_outcome(alloc, "reply ", *ticket, outcome.get(), out),
+    }
+}
+
+/// Appends the line of what a ticket's run gave. After an `Err` the text is as before.
+pub fn write_reply_seen(
+    alloc: Global,
+    ticket: u32,
+    seen: &ReplySeen,
+    out: &mut Str,
+) -> Result<(), AllocError>
+    ensures ok { OnOk result (out.new ≡ out.old ++ reply_line ticket seen.now) }
+    ensures err { OnErr result (out.new ≡ out.old) }
+{
+    match seen {
+        ReplySeen::Unknown => write_no_reply(alloc, ticket, "unknown", out),
+        ReplySeen::Gone => write_no_reply(alloc, ticket, "gone", out),
+        ReplySeen::Waiting => write_no_reply(alloc, ticket, "waiting", out),
+        ReplySeen::Reply(outcome) => write_outcome(alloc, "reply ", ticket, outcome, out),
+    }
+}
+
+fn write_no_reply(alloc: Global, ticket: u32, why: &str, out: &mut Str) -> Result<(), AllocError>
+    ensures ok { OnOk result (out.new ≡ out.old ++ ticket_line (codes "reply ") ticket why.now) }
+    ensures err { OnErr result (out.new ≡ out.old) }
+{
+    let text = format!(in alloc; "reply {ticket} {why}\n")?;
+    out.push_text(text.as_str())
+}

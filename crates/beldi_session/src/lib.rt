@@ -1,0 +1,28 @@
+//! A session: what a source says, the host's calls that the lines of its script make, one after another, and what is written of them;
+//! or what is said of a source that is tested. It stands on the host (`beldi_host`), the readers of a source (`beldi_syntax`,
+//! `beldi_script`), the checks of a deployment (`beldi_check`), the table that a host is over (`beldi_row`) and what is outside
+//! (`beldi_outside`).
+//! Its definitions: `specs/Source` (what a source says: its refusal, or a deployment and numbered lines), `specs/Refusal`
+//! (the text of a refusal), `specs/Check` (what is said of a source that is tested), `specs/Script` (what a script has the
+//! program do), `specs/Answer` and `specs/Response` (what is said of it, and the text) and `specs/Session` (steps one after
+//! another, and what was written).
+//!
+//! Proved:
+//! - `read_source` gives the deployment and where its script begins, or the first refusal (`ReadsAs`), and `check_source` what is said of
+//!   a source that is tested (`check_by`).
+//! - `run_script` carries out what the lines say, line by line, up to the first that is refused or to where it stops (`Does`): the text
+//!   that was written and waits is that of the steps that were done, and the host and its table are those that the last step left.
+//! - `write_refusal` writes the line of a refusal, with its number in the source and its cause (`refusal_text`).
+#![tactic(auto)]
+
+mod answer;
+mod check;
+mod output;
+mod refusal;
+mod session;
+mod source;
+
+pub use check::check_source;
+pub use refusal::{Cause, Refusal, SourceErr, write_refusal};
+pub use session::{Stop, Taker, run_script};
+pub use source::{Accepted, read_source, script_at};

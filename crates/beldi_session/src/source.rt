@@ -1,0 +1,92 @@
+// What a source says: a deployment and the lines of a script, or why it is refused.
+ghost use Rattle.std.specs.Prelude.{◌≡◌, drop};
+ghost use Rattle.beldi_session.specs.Source.{ReadsAs, accepted, accepted_of, is_built, refusal_at, refusal_in, said_at, source_at};
+ghost use Rattle.beldi_session.specs.declared.refusal.SourceErr.TheVariants.{Refused};
+
+use crate::refusal::{Cause, Refusal, SourceErr};
+use beldi_check::{CheckErr, Checked, check};
+use beldi_script::{Line, ScriptErr, read_line};
+use beldi_syntax::{Parsed, SyntaxErr, read_deployment};
+use std::alloc::Global;
+
+/// What a source says before its script.
+#[derive(Drop)]
+pub struct Accepted {
+    /// The deployment.
+    pub code: Checked,
+    /// Where the script begins.
+    pub rest: usize,
+    /// The number of its first line.
+    pub line: u32,
+}
+
+fn refused(line: u32, cause: Cause) -> SourceErr
+    ensures { result ≡ Refused (refusal_at cause line) }
+{
+    SourceErr::Refused(Refusal { line, cause })
+}
+
+// Tests that the deployment keeps every rule.
+fn accept(alloc: Global, parsed: Parsed) -> Result<Accepted, SourceErr>
+    ensures { ReadsAs (accepted (accepted_of parsed) (refusal_in parsed.code)) result }
+{
+    let Parsed { code, rest, line } = parsed;
+    match check(alloc, code) {
+        Ok(code) => Ok(Accepted { code, rest, line }),
+        Err(CheckErr::Refused { line, why }) => Err(refused(line, Cause::Rule(why))),
+        Err(CheckErr::OutOfMemory) => Err(SourceErr::OutOfMemory),
+    }
+}
+
+/// Reads the deployment of a source and finds the script, which it does not read. A refusal tells the first fault of the
+/// text; where there is none, the first rule that is broken. Every other deployment is carried out.
+pub fn read_source(alloc: Global, bytes: &[u8]) -> Result<Accepted, SourceErr>
+    ensures { ReadsAs (source_at bytes.now) result }
+{
+    match read_deployment(alloc, bytes) {
+        Ok(parsed) => accept(alloc, parsed),
+        Err(SyntaxErr::Refused { line, what }) => Err(refused(line, Cause::Syntax(what))),
+        Err(SyntaxErr::OutOfMemory) => Err(SourceErr::OutOfMemory),
+    }
+}
+
+/// The script of a source, which begins there.
+pub fn script_at(bytes: &[u8], rest: usize) -> &[u8]
+    ensures { result.now ≡ drop rest bytes.now }
+{
+    match bytes.get(rest..) {
+        Some(script) => script,
+        None => &[],
+    }
+}
+
+// The program can do what the line says.
+fn is_built(line: &Line) -> bool
+    ensures { result ≡ is_built line.now }
+{
+    match line {
+        Line::Gc { .. } | Line::Sweep { .. } | Line::Settle { .. } | Line::Halt => false,
+        _ => true,
+    }
+}
+
+/// Reads the line of the script that has this number in the source.
+pub fn read_said(alloc: Global, code: &Checked, number: u32, line: &[u8]) -> Result<Line, SourceErr>
+    ensures { ReadsAs (said_at code.now (number, line.now)) result }
+{
+    match read_line(alloc, code, line) {
+        Ok(said) => {
+            if is_built(&said) {
+                Ok(said)
+            } else {
+                Err(refused(number, Cause::Unbuilt))
+            }
+        }
+        Err(ScriptErr::OutOfMemory) => Err(SourceErr::OutOfMemory),
+        Err(ScriptErr::BadLine) => Err(refused(number, Cause::BadLine)),
+        Err(ScriptErr::UnknownFunction(name)) => {
+            Err(refused(number, Cause::UnknownFunction(name)))
+        }
+        Err(ScriptErr::BadValue) => Err(refused(number, Cause::BadValue)),
+    }
+}
