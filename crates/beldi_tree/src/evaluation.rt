@@ -1,6 +1,6 @@
 // The value of an expression.
 ghost use Rattle.std.specs.Prelude.{◌≡◌, [], Ok};
-ghost use Rattle.beldi_tree.specs.Evaluate.{term_value, value_at, key_at as key_of_expr, items_value, fields_value, on_two, compared as compared_of, operate as operate_of, pushed as pushed_of, with_field as with_field_of, either as either_of, both as both_of, on_three, Evaluates};
+ghost use Rattle.beldi_tree.specs.Evaluate.{term_value, value_at, key_at as key_of_expr, items_value, fields_value, on_two, compared as compared_of, operate as operate_of, pushed as pushed_of, with_field as with_field_of, either as either_of, both as both_of, settled as settled_of, limited as limited_of, element_of, on_three, and_then, Evaluates};
 ghost use Rattle.beldi_tree.specs.Seen.{seen_value, Finds};
 ghost use Rattle.beldi_tree.specs.Steps.{plain_step, stepped};
 ghost use Rattle.beldi_tree.specs.Term.{items_of, members_of};
@@ -8,13 +8,13 @@ ghost use Rattle.beldi_tree.specs.Term.{items_of, members_of};
 use crate::deployment::{Expr, Op, Step};
 use crate::fault::EvalErr;
 use crate::operators::{
-    canonical, compared, element, field, key, length, negated, operate, opposite, pushed, settled,
-    truth, with_field,
+    canonical, compared, element, field, key, length, negated, operate, opposite, or_fault, pushed,
+    settled, truth, with_field,
 };
 use crate::parts::{Chain, Exprs, Members};
 use crate::seen::{Seen, lent, lent_element, lent_field, made};
 use crate::variables::Variables;
-use beldi_value::{Rec, Str, Value, Values};
+use beldi_value::{Rec, Rel, Str, Value, Values, or_drop};
 use std::alloc::Global;
 
 /// The value of an expression, with these variables.
@@ -75,50 +75,74 @@ fn advance<'a>(
 ) -> Result<Seen<'a>, EvalErr>
     ensures { Finds (stepped variables.now (seen_value value.entry) step.now) result }
 {
-    match (value, step) {
-        (Seen::Lent(whole), Step::Field(key)) => lent_field(whole, key),
-        (Seen::Lent(whole), Step::Element(index)) => {
-            lent_element(whole, seen(alloc, variables, index)?.value())
-        }
-        // the most common step, before what the others need
-        (value, Step::Binary(op, right)) => {
-            made(binary(alloc, variables, *op, value.value(), right)?)
-        }
-        (value, step) => made(apply(alloc, variables, value, step)?),
+    // the most common step, before what the others need
+    if let Step::Binary(op, right) = step {
+        let result = binary(alloc, variables, *op, value.value(), right);
+        drop(value);
+        return made(result?);
+    }
+    match value {
+        Seen::Lent(whole) => of_lent(alloc, variables, whole, step),
+        Seen::Made(whole) => made(of_made(alloc, variables, whole, step)?),
     }
 }
 
-// What a step makes of a value, before its size is looked at.
+// The value after one step from what stands among the variables.
 #[cycle(evaluate)]
-fn apply(
+fn of_lent<'a>(
     alloc: Global,
-    variables: &Variables,
-    value: Seen<'_>,
+    variables: &'a Variables,
+    whole: &'a Value,
     step: &Step,
-) -> Result<Value, EvalErr>
-    ensures { Evaluates (plain_step variables.now (seen_value value.entry) step.now) result }
+) -> Result<Seen<'a>, EvalErr>
+    ensures { Finds (stepped variables.now whole.entry.now step.now) result }
 {
     match step {
-        Step::Or(right) => either(alloc, variables, value.value(), right),
-        Step::And(right) => both(alloc, variables, value.value(), right),
-        Step::Not => Ok(opposite(value.value())?),
-        Step::Negate => Ok(negated(value.value())?),
-        Step::Compare(rel, right) => Ok(compared(
-            *rel,
-            value.value(),
-            seen(alloc, variables, right)?.value(),
-        )?),
-        Step::Binary(op, right) => binary(alloc, variables, *op, value.value(), right),
-        Step::Field(key) => field(alloc, value.value(), key),
-        Step::Element(index) => element(
-            alloc,
-            value.value(),
-            seen(alloc, variables, index)?.value(),
-        ),
-        Step::Len => Ok(length(value.value())?),
-        Step::TextOf => Ok(canonical(alloc, value.value())?),
-        Step::Push(item) => pushed(value.into_value(alloc)?, evaluate(alloc, variables, item)?),
-        Step::With(key, field) => with(alloc, variables, value, key, field),
+        Step::Field(key) => lent_field(whole, key),
+        Step::Element(index) => lent_at(alloc, variables, whole, index),
+        _ => made(apply(alloc, variables, whole, step)?),
+    }
+}
+
+// What a step makes of a value that was made, before its size is looked at.
+#[cycle(evaluate)]
+fn of_made(
+    alloc: Global,
+    variables: &Variables,
+    whole: Value,
+    step: &Step,
+) -> Result<Value, EvalErr>
+    ensures { Evaluates (plain_step variables.now whole step.now) result }
+{
+    match step {
+        Step::Push(item) => push(alloc, variables, whole, item),
+        Step::With(key, field) => with(alloc, variables, whole, key, field),
+        _ => {
+            let result = apply(alloc, variables, &whole, step);
+            drop(whole);
+            result
+        }
+    }
+}
+
+// What a step makes of a value that is only read, before its size is looked at.
+#[cycle(evaluate)]
+fn apply(alloc: Global, variables: &Variables, value: &Value, step: &Step) -> Result<Value, EvalErr>
+    ensures { Evaluates (plain_step variables.now value.now step.now) result }
+{
+    match step {
+        Step::Or(right) => either(alloc, variables, value, right),
+        Step::And(right) => both(alloc, variables, value, right),
+        Step::Not => or_fault(opposite(value)),
+        Step::Negate => or_fault(negated(value)),
+        Step::Compare(rel, right) => comparison(alloc, variables, *rel, value, right),
+        Step::Binary(op, right) => binary(alloc, variables, *op, value, right),
+        Step::Field(key) => field(alloc, value, key),
+        Step::Element(index) => at(alloc, variables, value, index),
+        Step::Len => or_fault(length(value)),
+        Step::TextOf => Ok(canonical(alloc, value)?),
+        Step::Push(item) => push(alloc, variables, value.copy(alloc)?, item),
+        Step::With(key, field) => with(alloc, variables, value.copy(alloc)?, key, field),
     }
 }
 
@@ -133,7 +157,65 @@ fn binary(
 ) -> Result<Value, EvalErr>
     ensures { Evaluates (on_two (operate_of op) (Ok left.now) (value_at variables.now right.now)) result }
 {
-    operate(alloc, op, left, seen(alloc, variables, right)?.value())
+    let right = seen(alloc, variables, right)?;
+    let result = operate(alloc, op, left, right.value());
+    drop(right);
+    result
+}
+
+// The element of a list at the index that an expression is.
+#[cycle(evaluate)]
+fn at(alloc: Global, variables: &Variables, list: &Value, index: &Expr) -> Result<Value, EvalErr>
+    ensures { Evaluates (on_two element_of (Ok list.now) (value_at variables.now index.now)) result }
+{
+    let index = seen(alloc, variables, index)?;
+    let result = element(alloc, list, index.value());
+    drop(index);
+    result
+}
+
+// The same of a list that stands among the variables.
+#[cycle(evaluate)]
+fn lent_at<'a>(
+    alloc: Global,
+    variables: &Variables,
+    list: &'a Value,
+    index: &Expr,
+) -> Result<Seen<'a>, EvalErr>
+    ensures { Finds (and_then (on_two element_of (Ok list.entry.now) (value_at variables.now index.now)) limited_of) result }
+{
+    let index = seen(alloc, variables, index)?;
+    let result = lent_element(list, index.value());
+    drop(index);
+    result
+}
+
+// Whether both sides stand so to each other.
+#[cycle(evaluate)]
+fn comparison(
+    alloc: Global,
+    variables: &Variables,
+    rel: Rel,
+    left: &Value,
+    right: &Expr,
+) -> Result<Value, EvalErr>
+    ensures { Evaluates (on_two (compared_of rel) (Ok left.now) (value_at variables.now right.now)) result }
+{
+    let right = seen(alloc, variables, right)?;
+    let result = compared(rel, left, right.value());
+    drop(right);
+    or_fault(result)
+}
+
+// The value of an expression that has to be a truth.
+#[cycle(evaluate)]
+fn settled_at(alloc: Global, variables: &Variables, expr: &Expr) -> Result<Value, EvalErr>
+    ensures { Evaluates (and_then (value_at variables.now expr.now) settled_of) result }
+{
+    let value = seen(alloc, variables, expr)?;
+    let result = settled(value.value());
+    drop(value);
+    or_fault(result)
 }
 
 // The left side where it is true, and otherwise the right side.
@@ -149,7 +231,7 @@ fn either(
     if truth(left)? {
         return Ok(Value::Bool(true));
     }
-    Ok(settled(seen(alloc, variables, right)?.value())?)
+    settled_at(alloc, variables, right)
 }
 
 // The left side where it is false, and otherwise the right side.
@@ -160,7 +242,16 @@ fn both(alloc: Global, variables: &Variables, left: &Value, right: &Expr) -> Res
     if !truth(left)? {
         return Ok(Value::Bool(false));
     }
-    Ok(settled(seen(alloc, variables, right)?.value())?)
+    settled_at(alloc, variables, right)
+}
+
+// The list with the value of this item appended.
+#[cycle(evaluate)]
+fn push(alloc: Global, variables: &Variables, list: Value, item: &Expr) -> Result<Value, EvalErr>
+    ensures { Evaluates (on_two pushed_of (Ok list) (value_at variables.now item.now)) result }
+{
+    let item = or_drop!(evaluate(alloc, variables, item); list);
+    pushed(list, item)
 }
 
 // The record, where the field of this key has this value.
@@ -168,16 +259,17 @@ fn both(alloc: Global, variables: &Variables, left: &Value, right: &Expr) -> Res
 fn with(
     alloc: Global,
     variables: &Variables,
-    whole: Seen<'_>,
+    whole: Value,
     key: &Expr,
     value: &Expr,
 ) -> Result<Value, EvalErr>
-    ensures { Evaluates (on_three with_field_of (Ok (seen_value whole.entry)) (value_at variables.now key.now) (value_at variables.now value.now)) result }
+    ensures { Evaluates (on_three with_field_of (Ok whole) (value_at variables.now key.now) (value_at variables.now value.now)) result }
 {
-    let whole = whole.into_value(alloc)?;
-    let key = seen(alloc, variables, key)?;
-    let value = evaluate(alloc, variables, value)?;
-    with_field(alloc, whole, key.value(), value)
+    let key = or_drop!(seen(alloc, variables, key); whole);
+    let value = or_drop!(evaluate(alloc, variables, value); whole, key);
+    let result = with_field(alloc, whole, key.value(), value);
+    drop(key);
+    result
 }
 
 #[cycle(evaluate)]
@@ -186,10 +278,8 @@ fn list(alloc: Global, variables: &Variables, exprs: &Exprs) -> Result<Values, E
 {
     let mut items = Values::new(alloc);
     for expr in &exprs.items {
-        match evaluate(alloc, variables, expr) {
-            Ok(value) => items.push(value)?,
-            Err(why) => return Err(why),
-        }
+        let value = or_drop!(evaluate(alloc, variables, expr); items);
+        or_drop!(items.push(value); items);
     }
     Ok(items)
 }
@@ -200,10 +290,9 @@ fn record(alloc: Global, variables: &Variables, members: &Members) -> Result<Rec
 {
     let mut fields = Rec::new(alloc);
     for member in &members.items {
-        match evaluate(alloc, variables, &member.1) {
-            Ok(value) => fields.set(member.0.copy(alloc)?, value)?,
-            Err(why) => return Err(why),
-        }
+        let value = or_drop!(evaluate(alloc, variables, &member.1); fields);
+        let key = or_drop!(member.0.copy(alloc); fields, value);
+        or_drop!(fields.set(key, value); fields);
     }
     Ok(fields)
 }

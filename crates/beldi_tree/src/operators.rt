@@ -32,7 +32,7 @@ ghost use Rattle.beldi_tree.specs.Evaluate.{
 
 use crate::deployment::Op;
 use crate::fault::EvalErr;
-use beldi_value::{Code, Rec, Rel, Str, Value, Values};
+use beldi_value::{Code, Rec, Rel, Str, Value, Values, or_drop};
 use std::alloc::{AllocError, Global};
 
 const MOST_KEY: usize = 256;
@@ -47,6 +47,13 @@ pub(crate) fn limited(value: Value) -> Result<Value, Code>
         drop(value);
         Err(Code::ValueTooLarge)
     }
+}
+
+// A value, or the fault that it is none.
+pub(crate) fn or_fault(found: Result<Value, Code>) -> Result<Value, EvalErr>
+    ensures { Evaluates found result }
+{
+    Ok(found?)
 }
 
 /// The truth that a value is; the fault `WrongType` where it is none.
@@ -82,6 +89,13 @@ fn text(value: &Value) -> Result<&Str, Code>
         Value::Text(text) => Ok(text),
         _ => Err(Code::WrongType),
     }
+}
+
+// A copy of the text that a value is.
+fn text_copy(alloc: Global, value: &Value) -> Result<Str, EvalErr>
+    ensures { Evaluates (text_of value.now) result }
+{
+    Ok(text(value)?.copy(alloc)?)
 }
 
 fn items(value: Value) -> Result<Values, Code>
@@ -161,7 +175,7 @@ fn joined(alloc: Global, left: &Value, right: &Value) -> Result<Value, EvalErr>
     let front = text(left)?;
     let rest = text(right)?;
     let mut all = front.copy(alloc)?;
-    all.push_text(rest.as_str())?;
+    or_drop!(all.push_text(rest.as_str()); all);
     Ok(Value::Text(all))
 }
 
@@ -179,17 +193,27 @@ pub(crate) fn compared(rel: Rel, left: &Value, right: &Value) -> Result<Value, C
     }
 }
 
+// What an operator makes of two numbers.
+fn number(op: Op, m: i64, n: i64) -> Result<Value, Code>
+    ensures { result ≡ operate_of op (kind.Int m) (kind.Int n) }
+{
+    match op {
+        Op::Add => sum(m, n),
+        Op::Sub => difference(m, n),
+        Op::Join => Err(Code::WrongType),
+        Op::Mul => product(m, n),
+        Op::Div => quotient(m, n),
+        Op::Rem => remainder(m, n),
+    }
+}
+
 // What an operator makes of the values of both sides.
 pub(crate) fn operate(alloc: Global, op: Op, left: &Value, right: &Value) -> Result<Value, EvalErr>
     ensures { Evaluates (operate_of op left.now right.now) result }
 {
     match op {
-        Op::Add => Ok(sum(int(left)?, int(right)?)?),
-        Op::Sub => Ok(difference(int(left)?, int(right)?)?),
         Op::Join => joined(alloc, left, right),
-        Op::Mul => Ok(product(int(left)?, int(right)?)?),
-        Op::Div => Ok(quotient(int(left)?, int(right)?)?),
-        Op::Rem => Ok(remainder(int(left)?, int(right)?)?),
+        _ => or_fault(number(op, int(left)?, int(right)?)),
     }
 }
 
@@ -261,15 +285,15 @@ pub(crate) fn canonical(alloc: Global, value: &Value) -> Result<Value, AllocErro
     ensures { IfOk result (λ v. v ≡ kind.Text (text_of_datum (datum_of value.now))) }
 {
     let mut text = Str::new(alloc);
-    value.write_json(alloc, &mut text)?;
+    or_drop!(value.write_json(alloc, &mut text); text);
     Ok(Value::Text(text))
 }
 
 pub(crate) fn pushed(list: Value, item: Value) -> Result<Value, EvalErr>
     ensures { Evaluates (pushed_of list item) result }
 {
-    let mut items = items(list)?;
-    items.push(item)?;
+    let mut items = or_drop!(items(list); item);
+    or_drop!(items.push(item); items);
     Ok(Value::List(items))
 }
 
@@ -281,8 +305,9 @@ pub(crate) fn with_field(
 ) -> Result<Value, EvalErr>
     ensures { Evaluates (with_field_of whole key.now value) result }
 {
-    let mut fields = fields(whole)?;
-    fields.set(text(key)?.copy(alloc)?, value)?;
+    let mut fields = or_drop!(fields(whole); value);
+    let key = or_drop!(text_copy(alloc, key); fields, value);
+    or_drop!(fields.set(key, value); fields);
     Ok(Value::Rec(fields))
 }
 

@@ -3,7 +3,7 @@ ghost use Rattle.std.specs.Prelude.{◌≡◌, [], ◌∷◌, ◌++◌, OnOk, On
 ghost use Rattle.beldi_tree.specs.Expr.{term_of, applied, chained, members_view};
 
 use crate::deployment::{Expr, Step};
-use beldi_value::Str;
+use beldi_value::{Str, or_drop};
 use std::alloc::{AllocError, Global};
 use std::marker::Model;
 
@@ -148,9 +148,11 @@ impl Chain {
     pub fn new(alloc: Global, first: Expr, next: Step) -> Result<Chain, AllocError>
         ensures { IfOk result (λ c. c ≡ applied (term_of first) next) }
     {
+        let first = or_drop!(Box::new(alloc, first); next);
+        let next = or_drop!(Box::new(alloc, next); first);
         Ok(Chain {
-            first: Box::new(alloc, first)?,
-            next: Box::new(alloc, next)?,
+            first,
+            next,
             more: Vec::new(alloc),
         })
     }
@@ -173,7 +175,7 @@ impl Expr {
         match self {
             Expr::Chain(chain) => {
                 let mut chain = chain;
-                chain.push(step)?;
+                or_drop!(chain.push(step); chain);
                 Ok(Expr::Chain(chain))
             }
             first => Ok(Expr::Chain(Chain::new(alloc, first, step)?)),

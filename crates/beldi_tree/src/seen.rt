@@ -43,6 +43,7 @@ fn limited(seen: Seen<'_>) -> Result<Seen<'_>, EvalErr>
     if seen.value().is_within() {
         Ok(seen)
     } else {
+        drop(seen);
         Err(EvalErr::Fault(Code::ValueTooLarge))
     }
 }

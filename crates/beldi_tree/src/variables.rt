@@ -3,7 +3,7 @@ ghost use Rattle.std.specs.Prelude.{◌≡◌, option_copied, OnOk, OnErr, IfOk}
 ghost use Rattle.std.specs.FinMap as map;
 ghost use Rattle.beldi_tree.specs.Bindings.{no_variables};
 
-use beldi_value::{Str, Value};
+use beldi_value::{Str, Value, or_drop};
 use std::alloc::{AllocError, Global};
 use std::collections::BTreeMap;
 use std::marker::Model;
@@ -42,7 +42,8 @@ impl Variables {
     {
         let mut copy = Variables::new(alloc);
         for (name, value) in self.entries.iter() {
-            copy.set(alloc, name, value.copy(alloc)?)?;
+            let value = or_drop!(value.copy(alloc); copy);
+            or_drop!(copy.set(alloc, name, value); copy);
         }
         Ok(copy)
     }
@@ -64,10 +65,24 @@ impl Variables {
                 *old = value;
                 Ok(())
             }
-            None => match self.entries.insert(name.copy(alloc)?, value) {
-                Ok(_) => Ok(()),
-                Err(_) => Err(AllocError),
-            },
+            None => {
+                let name = or_drop!(name.copy(alloc); value);
+                self.add(name, value)
+            }
         }
+    }
+
+    fn add(&mut self, name: Str, value: Value) -> Result<(), AllocError>
+        ensures ok { OnOk result (self.new ≡ map.insert self.old name value) }
+        ensures err { OnErr result (self.new ≡ self.old) }
+    {
+        match self.entries.insert(name, value) {
+            Ok(old) => drop(old),
+            Err(failed) => {
+                drop(failed);
+                return Err(AllocError);
+            }
+        }
+        Ok(())
     }
 }

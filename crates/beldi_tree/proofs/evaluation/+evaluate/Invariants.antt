@@ -7,39 +7,60 @@ use Rattle.beldi_tree.specs.Steps.{ended}
 use Rattle.beldi_tree.proofs.Evaluated.{onto, step_size}
 use Rattle.beldi_tree.proofs.evaluation.+evaluate.Given as goal
 
--- three times the size of what is evaluated, and a step more for each call on the way to a part
+-- four times the size of what is evaluated, and a step more for each call on the way to a part
 abbrev pub decreases-walk : goal.decreases-walk
-decreases-walk l = 3 * term_size l.chain.now
+decreases-walk l = 4 * term_size l.chain.now
 
 abbrev pub decreases-seen : goal.decreases-seen
-decreases-seen l = 3 * term_size (term_of l.expr.now) + 1
+decreases-seen l = 4 * term_size (term_of l.expr.now) + 1
 
 abbrev pub decreases-evaluate : goal.decreases-evaluate
-decreases-evaluate l = 3 * term_size (term_of l.expr.now) + 2
+decreases-evaluate l = 4 * term_size (term_of l.expr.now) + 2
 
 abbrev pub decreases-advance : goal.decreases-advance
-decreases-advance l = 3 * step_size l.step.now + 5
+decreases-advance l = 4 * step_size l.step.now + 6
+
+abbrev pub decreases-of_lent : goal.decreases-of_lent
+decreases-of_lent l = 4 * step_size l.step.now + 5
+
+abbrev pub decreases-of_made : goal.decreases-of_made
+decreases-of_made l = 4 * step_size l.step.now + 5
 
 abbrev pub decreases-apply : goal.decreases-apply
-decreases-apply l = 3 * step_size l.step.now + 4
+decreases-apply l = 4 * step_size l.step.now + 4
 
 abbrev pub decreases-binary : goal.decreases-binary
-decreases-binary l = 3 * term_size (term_of l.right.now) + 2
+decreases-binary l = 4 * term_size (term_of l.right.now) + 2
+
+abbrev pub decreases-comparison : goal.decreases-comparison
+decreases-comparison l = 4 * term_size (term_of l.right.now) + 2
+
+abbrev pub decreases-at : goal.decreases-at
+decreases-at l = 4 * term_size (term_of l.index.now) + 2
+
+abbrev pub decreases-lent_at : goal.decreases-lent_at
+decreases-lent_at l = 4 * term_size (term_of l.index.now) + 2
+
+abbrev pub decreases-settled_at : goal.decreases-settled_at
+decreases-settled_at l = 4 * term_size (term_of l.expr.now) + 2
 
 abbrev pub decreases-either : goal.decreases-either
-decreases-either l = 3 * term_size (term_of l.right.now) + 2
+decreases-either l = 4 * term_size (term_of l.right.now) + 3
 
 abbrev pub decreases-both : goal.decreases-both
-decreases-both l = 3 * term_size (term_of l.right.now) + 2
+decreases-both l = 4 * term_size (term_of l.right.now) + 3
+
+abbrev pub decreases-push : goal.decreases-push
+decreases-push l = 4 * term_size (term_of l.item.now) + 3
 
 abbrev pub decreases-with : goal.decreases-with
-decreases-with l = 3 * (term_size (term_of l.key.now) + term_size (term_of l.value.now)) + 3
+decreases-with l = 4 * (term_size (term_of l.key.now) + term_size (term_of l.value.now)) + 3
 
 abbrev pub decreases-list : goal.decreases-list
-decreases-list l = 3 * terms_size l.exprs.now + 3
+decreases-list l = 4 * terms_size l.exprs.now + 3
 
 abbrev pub decreases-record : goal.decreases-record
-decreases-record l = 3 * members_size l.members.now + 3
+decreases-record l = 4 * members_size l.members.now + 3
 
 -- the items so far, put before those of the rest, are all of them
 abbrev pub invariant-list-loop-expr : goal.invariant-list-loop-expr

@@ -38,7 +38,7 @@ loop-name-init c = none_copied c.into_iter-name-iterator.result c.self.inside.en
 
 pub loop-name-preserved : goal.loop-name-preserved
 loop-name-preserved c =
-    one_more c.loop-name.copy c.set.new.self c.args.self.now c.in-Some.name.now c.in-Some.name.now c.in-Some.value.now c.in_ok-copy.field-0 c.loop-name.name-iterator c.next.new.self c.loop-name.invariant
+    one_more c.loop-name.copy c.set.new.self c.args.self.now c.in-Some.name.now c.in-Some.name.now c.in-Some.value.now c.in-Some.value.now c.loop-name.name-iterator c.next.new.self c.loop-name.invariant
     (search rules) (search rules) (search rules) (search rules)
 
 pub returns : goal.returns

@@ -10,10 +10,3 @@ returns-in-Some-clause-ok c =
     let new = c.get_mut.follows.lender c.args.value in
     let h = c.get_mut.follows.holds c.args.value in
     set_made nat_list_cmp_total (slice_cmp-IsAntisymmetric nat_cmp-IsAntisymmetric) c.self.inside.entries.entries new.entries c.args.name.now c.args.value (h.3 (search rules)).0 ∙ ap (λ m. map.insert m c.args.name.now c.args.value) c.self.view_is
-
-pub returns-in-Ok-clause-ok : goal.returns-in-Ok-clause-ok
-returns-in-Ok-clause-ok c =
-    set_made nat_list_cmp_total (slice_cmp-IsAntisymmetric nat_cmp-IsAntisymmetric) c.get_mut.follows.lender-at-none.entries c.insert.new.self.entries c.in_ok-copy-in-None.field-0 c.args.value c.in-Ok.ensures.updates.0
-    ∙ ap (λ m. map.insert (map.from_entries m.entries) c.in_ok-copy-in-None.field-0 c.args.value) c.get_mut.follows.holds-at-none
-    ∙ ap (λ m. map.insert m c.in_ok-copy-in-None.field-0 c.args.value) c.self.view_is
-    ∙ ap (λ k. map.insert c.args.self.now k c.args.value) c.in_ok-copy-in-None.ensures
