@@ -63,6 +63,8 @@ impl Scope<'_> {
             }
             return self.run_block(block, part, index + 1, state);
         }
+        drop(place);
+        drop(answer);
         Ok(Went::Leaves(Exit::Goes))
     }
 
@@ -79,20 +81,32 @@ impl Scope<'_> {
         ensures { IfOk result (λ w. told w state.new ≡ choice (block_in self.entry first.now) (block_in self.entry second.now) (term_of test.now) (head (From place answer)) (inner (From place answer)) state.old []) }
     {
         let mut place = place;
-        match place.pop() {
+        let frame = place.pop();
+        match frame {
             Some(
                 Frame::In {
                     part: Part::First,
                     index,
                 },
-            ) => self.resume_block(first, Part::First, index, place, answer, state),
+            ) => {
+                drop(frame);
+                self.resume_block(first, Part::First, index, place, answer, state)
+            }
             Some(
                 Frame::In {
                     part: Part::Second,
                     index,
                 },
-            ) => self.resume_block(second, Part::Second, index, place, answer, state),
-            _ => self.by_test(test, first, second, state),
+            ) => {
+                drop(frame);
+                self.resume_block(second, Part::Second, index, place, answer, state)
+            }
+            _ => {
+                drop(frame);
+                drop(place);
+                drop(answer);
+                self.by_test(test, first, second, state)
+            }
         }
     }
 
@@ -108,13 +122,15 @@ impl Scope<'_> {
         ensures { IfOk result (λ w. told w state.new ≡ loop_of (block_in self.entry block.now) times (head (From place answer)) (inner (From place answer)) state.old []) }
     {
         let mut place = place;
-        match place.pop() {
+        let frame = place.pop();
+        match frame {
             Some(
                 Frame::In {
                     part: Part::Turn(left),
                     index,
                 },
             ) => {
+                drop(frame);
                 let part = Part::Turn(left);
                 let went = self.resume_block(block, part, index, place, answer, state)?;
                 match turned(went) {
@@ -122,7 +138,12 @@ impl Scope<'_> {
                     None => self.turns(left, block, state),
                 }
             }
-            _ => self.turns(times, block, state),
+            _ => {
+                drop(frame);
+                drop(place);
+                drop(answer);
+                self.turns(times, block, state)
+            }
         }
     }
 
@@ -138,18 +159,35 @@ impl Scope<'_> {
         ensures { IfOk result (λ w. told w state.new ≡ transact_of (block_in self.entry first.now) (block_in self.entry second.now) (head (From place answer)) (inner (From place answer)) state.old []) }
     {
         let mut place = place;
-        match place.pop() {
-            None => self.open(first, state),
-            Some(Frame::Ending(exit)) => self.end(second, exit, state),
-            Some(Frame::In { part, index }) => match part {
-                Part::First => self.resume_block(first, part, index, place, answer, state),
-                Part::Second => self.resume_block(second, part, index, place, answer, state),
-                Part::Inside => close(
-                    self.alloc,
-                    self.resume_block(first, part, index, place, answer, state)?,
-                ),
-                Part::Turn(_) => self.enter(first, state),
-            },
+        let frame = place.pop();
+        match frame {
+            None => {
+                drop(frame);
+                drop(place);
+                drop(answer);
+                self.open(first, state)
+            }
+            Some(Frame::Ending(exit)) => {
+                drop(place);
+                drop(answer);
+                self.end(second, exit, state)
+            }
+            Some(Frame::In { part, index }) => {
+                drop(frame);
+                match part {
+                    Part::First => self.resume_block(first, part, index, place, answer, state),
+                    Part::Second => self.resume_block(second, part, index, place, answer, state),
+                    Part::Inside => close(
+                        self.alloc,
+                        self.resume_block(first, part, index, place, answer, state)?,
+                    ),
+                    Part::Turn(_) => {
+                        drop(place);
+                        drop(answer);
+                        self.enter(first, state)
+                    }
+                }
+            }
         }
     }
 }
@@ -169,18 +207,24 @@ pub(crate) fn resume_body(
         Some(func) => {
             let scope = Scope::new(alloc, code, &func.tables);
             let mut place = place;
-            match place.pop() {
-                Some(Frame::In { part: _, index }) => scope.resume_block(
-                    &func.body,
-                    Part::First,
-                    index,
-                    place,
-                    answer,
-                    state,
-                ),
-                _ => scope.run_block(&func.body, Part::First, 0, state),
+            let frame = place.pop();
+            match frame {
+                Some(Frame::In { part: _, index }) => {
+                    drop(frame);
+                    scope.resume_block(&func.body, Part::First, index, place, answer, state)
+                }
+                _ => {
+                    drop(frame);
+                    drop(place);
+                    drop(answer);
+                    scope.run_block(&func.body, Part::First, 0, state)
+                }
             }
         }
-        None => Ok(Went::Leaves(Exit::Goes)),
+        None => {
+            drop(place);
+            drop(answer);
+            Ok(Went::Leaves(Exit::Goes))
+        }
     }
 }

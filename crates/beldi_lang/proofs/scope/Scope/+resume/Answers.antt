@@ -54,6 +54,6 @@ pub resume_transaction-returns-in-Turn : goal.resume_transaction-returns-in-Turn
 resume_transaction-returns-in-Turn t c =
     let f = run_block c.args.self.code.now c.args.self.tables.now (commands_of c.args.first.now) in
     let g = run_block c.args.self.code.now c.args.self.tables.now (commands_of c.args.second.now) in
-    let at : c.args.place ≡ In c.in-Some-In.part c.in-Some-In.index ∷ c.pop.new.self = c.in-Some-In.ensures ∙ ap (λ (x : Frame). x ∷ c.pop.new.self) c.in-Some-In.field-0-is in
+    let at : c.args.place ≡ In c.in-Some-In.part c.in-Some-In.index ∷ c.pop-frame.new.self = c.in-Some-In.ensures ∙ ap (λ (x : Frame). x ∷ c.pop-frame.new.self) c.in-Some-In.field-0-is in
     subst (λ (p : List Frame). IfOk c.enter.result (λ w. told w c.enter.new.state ≡ transact f g (head (From p c.args.answer)) (inner (From p c.args.answer)) c.args.state.now [])) (sym at)
-    (subst (λ (p : Part). IfOk c.enter.result (λ w. told w c.enter.new.state ≡ transact f g (Some (In p c.in-Some-In.index)) (From c.pop.new.self c.args.answer) c.args.state.now [])) (sym c.in-Turn.is) (c.enter.ensures g))
+    (subst (λ (p : Part). IfOk c.enter.result (λ w. told w c.enter.new.state ≡ transact f g (Some (In p c.in-Some-In.index)) (From c.pop-frame.new.self c.args.answer) c.args.state.now [])) (sym c.in-Turn.is) (c.enter.ensures g))
