@@ -1,7 +1,8 @@
 // The acts on one row.
-ghost use Rattle.std.specs.Prelude.{◌≡◌, ℕ, Some, Option};
+ghost use Rattle.std.specs.Prelude.{◌≡◌, ◌&&◌, ◌==◌, ℕ, Some, Option};
+ghost use Rattle.beldi_value.specs.Same.{same_value};
 ghost use Rattle.beldi_row.specs.declared.row.Row as row_data;
-ghost use Rattle.beldi_row.specs.Act.{bind_to, end_with, stamp_with, call_back_to, register_to, off, said_by, Changes};
+ghost use Rattle.beldi_row.specs.Act.{bind_to, end_with, stamp_with, call_back_to, register_to, kept_tell, on_intent, on_invoke, gone, off, said_by, Changes};
 
 use crate::cell::{free, lock, write, write_where};
 use crate::notes::{Log, Note};
@@ -187,10 +188,10 @@ pub fn made(alloc: Global, act: Act, now: u64) -> Option<Row>
             marked: false,
             dangled: None,
         })),
-        Act::Look | Act::Bind { .. } | Act::End { .. } | Act::Stamp => None,
-        Act::CallBack { .. } | Act::NoteRegistered => None,
-        Act::WriteCell { .. } | Act::CondCell { .. } => None,
-        Act::LockCell { .. } | Act::FreeCell { .. } => None,
+        other => {
+            drop(other);
+            None
+        }
     }
 }
 
@@ -214,88 +215,112 @@ pub fn apply(row: &mut Row, act: Act, now: u64) -> Result<Change, TableErr>
     ensures { Changes act now row.old row.new result }
 {
     match act {
-        Act::Look | Act::Register { body: _ } | Act::OpenInvoke { func: _ } => Ok(Change::Row),
-        Act::Issue | Act::PutLockset | Act::MakeCell { value: _, owner: _ } => Ok(Change::Present),
-        Act::PutRead { value: _ } => match row {
-            Row::ReadLog(_) => Ok(Change::Kept),
-            _ => Ok(Change::NoRow),
-        },
-        Act::Bind { func, args } => match row {
-            Row::Intent(intent) => Ok(bind(intent, func, args)),
-            _ => Ok(Change::Gone),
-        },
-        Act::End { outcome, stamp } => match row {
-            Row::Intent(intent) => Ok(end(intent, outcome, stamp, now)),
-            _ => Ok(Change::Gone),
-        },
-        Act::Stamp => match row {
-            Row::Intent(intent) => Ok(stamped(intent, now)),
-            _ => Ok(Change::Gone),
-        },
-        Act::CallBack { outcome } => match row {
-            Row::Invoke(call) => Ok(call_back(call, outcome)),
-            _ => Ok(Change::Gone),
-        },
-        Act::NoteRegistered => match row {
-            Row::Invoke(call) => Ok(note_registered(call)),
-            _ => Ok(Change::Gone),
-        },
-        Act::WriteCell { place, who, value } => match row {
-            Row::Cell(cell) => write(cell, place, who, value),
-            _ => Ok(Change::NoRow),
-        },
+        Act::Look | Act::OpenInvoke { func: _ } => Ok(Change::Row),
+        Act::Register { body } => {
+            drop(body);
+            Ok(Change::Row)
+        }
+        Act::Issue | Act::PutLockset => Ok(Change::Present),
+        Act::MakeCell { value, owner } => {
+            drop(value);
+            drop(owner);
+            Ok(Change::Present)
+        }
+        Act::PutRead { value } => {
+            drop(value);
+            Ok(kept(row))
+        }
+        Act::Bind { func, args } => Ok(bind(row, func, args)),
+        Act::End { outcome, stamp } => Ok(end(row, outcome, stamp, now)),
+        Act::Stamp => Ok(stamp(row, now)),
+        Act::CallBack { outcome } => Ok(call_back(row, outcome)),
+        Act::NoteRegistered => Ok(note_registered(row)),
+        Act::WriteCell { place, who, value } => write(row, place, who, value),
         Act::CondCell {
             place,
             who,
             rel,
             operand,
             value,
-        } => match row {
-            Row::Cell(cell) => write_where(cell, place, who, rel, operand, value),
-            _ => Ok(Change::NoRow),
-        },
-        Act::LockCell { place, who, spare } => match row {
-            Row::Cell(cell) => lock(cell, place, who, spare),
-            _ => Ok(Change::NoRow),
-        },
-        Act::FreeCell { place, who, value } => match row {
-            Row::Cell(cell) => free(cell, place, who, value),
-            _ => Ok(Change::NoRow),
-        },
+        } => write_where(row, place, who, rel, operand, value),
+        Act::LockCell { place, who, spare } => lock(row, place, who, spare),
+        Act::FreeCell { place, who, value } => free(row, place, who, value),
     }
 }
 
-fn bind(intent: &mut IntentRow, func: u16, args: Value) -> Change
+fn kept(row: &Row) -> Change
+    ensures { said_by result (Some row.now) ≡ kept_tell (Some row.now) }
+{
+    match row {
+        Row::ReadLog(_) => Change::Kept,
+        _ => Change::NoRow,
+    }
+}
+
+fn bind(row: &mut Row, func: u16, args: Value) -> Change
+    ensures { (row.new, said_by result (Some row.new)) ≡ on_intent (λ i. bind_to func args i i.body) gone row.old }
+{
+    match row {
+        Row::Intent(intent) => bind_intent(intent, func, args),
+        _ => {
+            drop(args);
+            Change::Gone
+        }
+    }
+}
+
+fn bind_intent(intent: &mut IntentRow, func: u16, args: Value) -> Change
     ensures { (intent.new, said_by result (Some (Row.Intent intent.new))) ≡ bind_to func args intent.old intent.old.body }
 {
     match &intent.body {
         None => {
-            intent.body = Some(Body {
+            let body = Body {
                 func,
                 args,
                 tx: None,
                 from: None,
-            });
+            };
+            intent.body = Some(body);
             Change::Bound
         }
         Some(body) => {
-            if body.func == func && body.args == args {
-                if intent.outcome.is_some() {
-                    Change::Ended
-                } else {
-                    Change::Running
-                }
-            } else {
+            let is_same = is_call(body, func, &args);
+            drop(args);
+            if !is_same {
                 Change::Other
+            } else if intent.outcome.is_some() {
+                Change::Ended
+            } else {
+                Change::Running
             }
         }
     }
 }
 
-fn end(intent: &mut IntentRow, outcome: Outcome, stamp: bool, now: u64) -> Change
+// Whether it is a call of this function with these arguments.
+fn is_call(body: &Body, func: u16, args: &Value) -> bool
+    ensures { result ≡ (body.now.func == func) && same_value body.now.args args.now }
+{
+    body.func == func && body.args == *args
+}
+
+fn end(row: &mut Row, outcome: Outcome, stamp: bool, now: u64) -> Change
+    ensures { (row.new, said_by result (Some row.new)) ≡ on_intent (λ i. end_with outcome stamp now i i.outcome) gone row.old }
+{
+    match row {
+        Row::Intent(intent) => end_intent(intent, outcome, stamp, now),
+        _ => {
+            drop(outcome);
+            Change::Gone
+        }
+    }
+}
+
+fn end_intent(intent: &mut IntentRow, outcome: Outcome, stamp: bool, now: u64) -> Change
     ensures { (intent.new, said_by result (Some (Row.Intent intent.new))) ≡ end_with outcome stamp now intent.old intent.old.outcome }
 {
     if intent.outcome.is_some() {
+        drop(outcome);
         return Change::Already;
     }
     intent.outcome = Some(outcome);
@@ -305,7 +330,16 @@ fn end(intent: &mut IntentRow, outcome: Outcome, stamp: bool, now: u64) -> Chang
     Change::Did
 }
 
-fn stamped(intent: &mut IntentRow, now: u64) -> Change
+fn stamp(row: &mut Row, now: u64) -> Change
+    ensures { (row.new, said_by result (Some row.new)) ≡ on_intent (λ i. stamp_with now i i.finish) gone row.old }
+{
+    match row {
+        Row::Intent(intent) => stamp_intent(intent, now),
+        _ => Change::Gone,
+    }
+}
+
+fn stamp_intent(intent: &mut IntentRow, now: u64) -> Change
     ensures { (intent.new, said_by result (Some (Row.Intent intent.new))) ≡ stamp_with now intent.old intent.old.finish }
 {
     if intent.finish.is_some() {
@@ -315,17 +349,39 @@ fn stamped(intent: &mut IntentRow, now: u64) -> Change
     Change::Did
 }
 
-fn call_back(call: &mut InvokeRow, outcome: Outcome) -> Change
+fn call_back(row: &mut Row, outcome: Outcome) -> Change
+    ensures { (row.new, said_by result (Some row.new)) ≡ on_invoke (λ i. call_back_to outcome i i.result) gone row.old }
+{
+    match row {
+        Row::Invoke(call) => end_call(call, outcome),
+        _ => {
+            drop(outcome);
+            Change::Gone
+        }
+    }
+}
+
+fn end_call(call: &mut InvokeRow, outcome: Outcome) -> Change
     ensures { (call.new, said_by result (Some (Row.Invoke call.new))) ≡ call_back_to outcome call.old call.old.result }
 {
     if call.result.is_some() {
+        drop(outcome);
         return Change::Already;
     }
     call.result = Some(outcome);
     Change::Did
 }
 
-fn note_registered(call: &mut InvokeRow) -> Change
+fn note_registered(row: &mut Row) -> Change
+    ensures { (row.new, said_by result (Some row.new)) ≡ on_invoke (λ i. register_to i i.registered) gone row.old }
+{
+    match row {
+        Row::Invoke(call) => register(call),
+        _ => Change::Gone,
+    }
+}
+
+fn register(call: &mut InvokeRow) -> Change
     ensures { (call.new, said_by result (Some (Row.Invoke call.new))) ≡ register_to call.old call.old.registered }
 {
     if call.registered {

@@ -3,7 +3,7 @@ ghost use Rattle.std.specs.Prelude.{◌≡◌, IfOk};
 
 use crate::key::copy_tx;
 use crate::notes::Log;
-use beldi_value::{Caller, Outcome, Owner, Place, TxId, Value};
+use beldi_value::{Caller, Outcome, Owner, Place, TxId, Value, or_drop};
 use std::alloc::{AllocError, Global};
 
 /// What an instance is to do: a function, its arguments, the transaction that it is called in, and its caller. A root
@@ -24,11 +24,11 @@ impl Body {
         let args = self.args.copy(alloc)?;
         let tx = match &self.tx {
             None => None,
-            Some(tx) => Some(copy_tx(tx, alloc)?),
+            Some(tx) => Some(or_drop!(copy_tx(tx, alloc); args)),
         };
         let from = match &self.from {
             None => None,
-            Some(from) => Some(from.copy(alloc)?),
+            Some(from) => Some(or_drop!(from.copy(alloc); args, tx)),
         };
         Ok(Body {
             func: self.func,
@@ -60,7 +60,7 @@ impl IntentRow {
         };
         let outcome = match &self.outcome {
             None => None,
-            Some(outcome) => Some(outcome.copy(alloc)?),
+            Some(outcome) => Some(or_drop!(outcome.copy(alloc); body)),
         };
         Ok(IntentRow {
             issued: self.issued,
