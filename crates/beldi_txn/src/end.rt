@@ -1,6 +1,7 @@
 // What the end of a transaction asks of the rows, and what follows from what is told.
 ghost use Rattle.std.specs.Prelude.{◌≡◌, ℕ, Some, None, true, IfOk, OnErr};
 ghost use Rattle.beldi_value.specs.declared.value.Value.TheVariants as value;
+ghost use Rattle.beldi_daal.specs.declared.cell.WriteAt.TheVariants as WriteAt;
 ghost use Rattle.beldi_walk.specs.Query.{told_of, lends};
 ghost use Rattle.beldi_lock.specs.Last.{split_last};
 ghost use Rattle.beldi_lock.specs.Lockset.{item_lent};
@@ -10,15 +11,16 @@ ghost use Rattle.beldi_txn.specs.declared.end.EndAt.TheVariants as EndAt;
 ghost use Rattle.beldi_txn.specs.End.{begin_place, first_visit, visited_by, calls_after, counts as counts_by, free_place as freed_at, visit_asks, shadow_asks, free_asks, decided_by, decide_goes, calls_goes, last_goes, value_goes, freed_goes, end_goes, free_first, at_calls, back_from, moved, said_of};
 
 use crate::invokes::{invokes_query, invokes_told};
+use crate::tx::own_query;
 use crate::way::{Called, Way};
 use beldi_daal::{
-    CellOp, ReadGoes, WriteAt, WriteGoes, cell_key, read_told, shadow_key, write_query, write_told,
+    CellOp, ReadGoes, WriteAt, WriteGoes, cell_key, read_told, shadow_key, write_told,
 };
 use beldi_intent::stamp_query;
 use beldi_lock::{lockset_query, lockset_told};
 use beldi_readlog::log_key;
-use beldi_row::{Act, Note, Said, copy_tx};
-use beldi_value::{Apart, IntentId, Owner, Place, Str, TxId, Value};
+use beldi_row::{Act, Note, Said};
+use beldi_value::{Apart, IntentId, Place, Str, TxId, Value, or_drop};
 use beldi_walk::{Heard, Query};
 use std::alloc::{AllocError, Global};
 
@@ -120,19 +122,15 @@ impl Visit {
                 EndSays::Going
             }
             EndGoes::Callee(way) => {
-                self.way = way;
-                self.to_calls(None);
+                self.to_callee(way);
                 EndSays::Going
             }
             EndGoes::Item(table, key) => {
-                self.item = Some((table, key));
-                self.value = None;
-                self.at = at_first(commit);
+                self.to_item(table, key, at_first(commit));
                 EndSays::Going
             }
             EndGoes::Value(value) => {
-                self.value = value;
-                self.at = EndAt::Free(WriteAt::Try);
+                self.to_free(value);
                 EndSays::Going
             }
             EndGoes::Back => {
@@ -141,6 +139,31 @@ impl Visit {
             }
             EndGoes::Done => EndSays::Done,
         }
+    }
+
+    // To the callee that these calls lead to.
+    fn to_callee(&mut self, way: Way)
+        ensures { self.new ≡ at_calls way None }
+    {
+        self.way = way;
+        self.to_calls(None);
+    }
+
+    // To an item, which is given back from there.
+    fn to_item(&mut self, table: u16, key: Str, at: EndAt)
+        ensures { self.new ≡ record self.old { item = Some (table, key); value = None; at = at } }
+    {
+        self.item = Some((table, key));
+        self.value = None;
+        self.at = at;
+    }
+
+    // To the giving back of the item with this value.
+    fn to_free(&mut self, value: Option<Value>)
+        ensures { self.new ≡ record self.old { value = value; at = EndAt.Free WriteAt.Try } }
+    {
+        self.value = value;
+        self.at = EndAt::Free(WriteAt::Try);
     }
 
     // To the calls of who is visited, after a step.
@@ -282,10 +305,9 @@ fn free_query(
     match item {
         Some((table, key)) => {
             let row = cell_key(alloc, way.func(tx), table, key)?;
-            let place = free_place(alloc, tx, end, way)?;
-            let who = Owner::Tx(copy_tx(tx, alloc)?);
-            let op = CellOp::Free(copy_of(alloc, value)?);
-            write_query(alloc, row, place, who, op, at)
+            let place = or_drop!(free_place(alloc, tx, end, way); row);
+            let op = CellOp::Free(or_drop!(copy_of(alloc, value); row, place));
+            own_query(alloc, row, place, tx, op, at)
         }
         None => locks_query(alloc, tx, way, None),
     }
@@ -394,7 +416,9 @@ fn hear_next(alloc: Global, tx: &TxId, way: &Way, heard: Heard<'_>) -> Result<En
     match heard {
         Heard::Found(found) => {
             let (id, func) = way.member(alloc, tx)?;
-            match lockset_told(alloc, func, &id, tx.begin, Heard::Found(found))? {
+            let item = or_drop!(lockset_told(alloc, func, &id, tx.begin, Heard::Found(found)); id);
+            drop(id);
+            match item {
                 Some((table, key)) => Ok(EndGoes::Item(table, key)),
                 None => Ok(past_locks(way)),
             }

@@ -1,9 +1,14 @@
 // What an operation of a transaction asks of the rows, and what follows from what is told.
-ghost use Rattle.std.specs.Prelude.{◌≡◌, true, IfOk, OnErr};
+ghost use Rattle.std.specs.Prelude.{◌≡◌, None, true, IfOk, OnErr};
+ghost use Rattle.beldi_value.specs.declared.place.Owner.TheVariants as Owner;
+ghost use Rattle.beldi_row.specs.declared.act.Act.TheVariants as Act;
+ghost use Rattle.beldi_walk.specs.declared.query.Query.TheVariants as Query;
 ghost use Rattle.beldi_walk.specs.Query.{told_of, lends};
+ghost use Rattle.beldi_daal.specs.Cell.{write_asks};
 ghost use Rattle.beldi_lock.specs.Lock.{lock_goes};
 ghost use Rattle.beldi_lock.specs.Lockset.{item_lent};
-ghost use Rattle.beldi_txn.specs.Tx.{tx_first, item_of as item_of_effect, op_of, done_of, tx_asks, item_asks, aside_asks, given_goes, locked_goes, lock_leads, shadow_read, head_goes, shadow_goes, item_leads, item_goes, keep_goes, head_made, note_goes, write_leads, died_goes, tx_goes};
+ghost use Rattle.beldi_txn.specs.Tx.{tx_first, item_of as item_of_effect, op_of, done_of, tx_asks, item_asks, given_goes, locked_goes, lock_leads, shadow_read, head_goes, shadow_goes, item_leads, item_goes, keep_goes, head_made, note_goes, write_leads, died_goes, tx_goes};
+ghost use Rattle.beldi_txn.specs.declared.tx.TxAt.TheVariants as TxAt;
 ghost use Rattle.beldi_txn.specs.TxWalk.{gone, put_says, said_of};
 
 use beldi_daal::{
@@ -13,7 +18,7 @@ use beldi_lang::Effect;
 use beldi_lock::{LockAt, LockGoes, lock_query, lock_told};
 use beldi_readlog::{given_told, log_key};
 use beldi_row::{Act, Note, RowKey, Said, copy_tx};
-use beldi_value::{Apart, Cause, IntentId, Owner, Place, Str, TxId, Value};
+use beldi_value::{Apart, Cause, IntentId, Owner, Place, Str, TxId, Value, or_drop};
 use beldi_walk::{Heard, Query};
 use std::alloc::{AllocError, Global};
 use std::mem::replace;
@@ -140,11 +145,15 @@ fn operation(alloc: Global, effect: &Effect) -> Result<Option<CellOp>, AllocErro
             operand,
             value,
             ..
-        } => Ok(Some(CellOp::Cond {
-            rel: *rel,
-            operand: operand.copy(alloc)?,
-            value: value.copy(alloc)?,
-        })),
+        } => {
+            let operand = operand.copy(alloc)?;
+            let value = or_drop!(value.copy(alloc); operand);
+            Ok(Some(CellOp::Cond {
+                rel: *rel,
+                operand,
+                value,
+            }))
+        }
         _ => Ok(None),
     }
 }
@@ -192,25 +201,35 @@ fn item_query(
     match at {
         TxAt::Log => Query::look(alloc, log_key(home, place)),
         TxAt::Lock(at) => {
-            let who = Owner::Tx(copy_tx(tx, alloc)?);
+            let who = Owner::Tx(or_drop!(copy_tx(tx, alloc); place));
             lock_query(alloc, home, table, key, place, who, *at)
         }
-        TxAt::Shadow => Query::look(alloc, shadow_key(alloc, home, tx, table, key)?),
-        TxAt::Item => Query::look(alloc, cell_key(alloc, home, table, key)?),
+        TxAt::Shadow => {
+            drop(place);
+            Query::look(alloc, shadow_key(alloc, home, tx, table, key)?)
+        }
+        TxAt::Item => {
+            drop(place);
+            Query::look(alloc, cell_key(alloc, home, table, key)?)
+        }
         TxAt::Keep(value) => {
-            let value = value.copy(alloc)?;
+            let value = or_drop!(value.copy(alloc); place);
             Query::act(alloc, log_key(home, place), Act::PutRead { value })
         }
         TxAt::Head(value) => {
-            let row = shadow_key(alloc, home, tx, table, key)?;
-            let value = value.copy(alloc)?;
-            Query::act(alloc, row, Act::MakeCell { value, owner: None })
+            drop(place);
+            head_query(alloc, shadow_key(alloc, home, tx, table, key)?, value)
         }
-        TxAt::Write(at) => {
-            let row = shadow_key(alloc, home, tx, table, key)?;
-            aside_query(alloc, home, place, tx, effect, row, *at)
-        }
+        TxAt::Write(at) => aside_query(alloc, home, place, tx, effect, table, key, *at),
     }
+}
+
+// Asks that the transaction's own copy be made, with this value.
+fn head_query(alloc: Global, row: RowKey, value: &Value) -> Result<Apart<Query>, AllocError>
+    ensures { IfOk result (λ q. q ≡ Query.Act row (Act.MakeCell value.now None)) }
+{
+    let value = or_drop!(value.copy(alloc); row);
+    Query::act(alloc, row, Act::MakeCell { value, owner: None })
 }
 
 // What a write asks of the transaction's own copy.
@@ -220,18 +239,35 @@ fn aside_query(
     place: Place,
     tx: &TxId,
     effect: &Effect,
-    row: RowKey,
+    table: u16,
+    key: &Str,
     at: WriteAt,
 ) -> Result<Apart<Query>, AllocError>
-    ensures { IfOk result (λ q. q ≡ aside_asks home place tx.now row at (op_of effect.now)) }
+    ensures { IfOk result (λ q. q ≡ item_asks home place tx.now effect.now table key.now (TxAt.Write at)) }
 {
-    match operation(alloc, effect)? {
-        Some(op) => {
-            let who = Owner::Tx(copy_tx(tx, alloc)?);
-            write_query(alloc, row, place, who, op, at)
+    let row = or_drop!(shadow_key(alloc, home, tx, table, key); place);
+    match or_drop!(operation(alloc, effect); place, row) {
+        Some(op) => own_query(alloc, row, place, tx, op, at),
+        None => {
+            drop(row);
+            Query::look(alloc, log_key(home, place))
         }
-        None => Query::look(alloc, log_key(home, place)),
     }
+}
+
+// What the transaction asks of a row for an operation at this place.
+pub(crate) fn own_query(
+    alloc: Global,
+    row: RowKey,
+    place: Place,
+    tx: &TxId,
+    op: CellOp,
+    at: WriteAt,
+) -> Result<Apart<Query>, AllocError>
+    ensures { IfOk result (λ q. q ≡ write_asks row place (Owner.Tx tx.now) op at) }
+{
+    let who = Owner::Tx(or_drop!(copy_tx(tx, alloc); row, place, op));
+    write_query(alloc, row, place, who, op, at)
 }
 
 /// Where an operation of a transaction, begun at the step `begin`, goes after it was told. Out of memory only for what was lent.
@@ -299,10 +335,12 @@ fn locked(effect: &Effect) -> TxGoes
 fn died(alloc: Global, place: &Place, holder: IntentId) -> Result<TxGoes, AllocError>
     ensures { IfOk result (λ g. g ≡ died_goes place.now holder) }
 {
-    let place = Apart::new(alloc, place.copy(alloc)?)?;
+    let place = or_drop!(place.copy(alloc); holder);
+    let place = or_drop!(Apart::new(alloc, place); holder);
+    let holder = or_drop!(Apart::new(alloc, holder); place);
     Ok(TxGoes::Died(Cause {
         place,
-        holder: Some(Apart::new(alloc, holder)?),
+        holder: Some(holder),
     }))
 }
 
