@@ -6,6 +6,7 @@ ghost use Rattle.beldi_row.specs.Act.{said_by};
 ghost use Rattle.beldi_row.specs.Table.{room_of};
 
 use beldi_row::{Act, Change, Row, RowKey, Said, Table, TableErr, apply, made, missing, tell};
+use beldi_value::or_drop;
 use std::alloc::Global;
 use std::collections::BTreeMap;
 use std::ops::Bound;
@@ -100,18 +101,29 @@ impl MapTable {
     {
         let said = missing(&act);
         match made(self.alloc, act, now) {
-            None => Ok(said),
+            None => {
+                drop(key);
+                Ok(said)
+            }
             Some(row) => {
                 let live = self.rows.len();
                 if live >= self.room as usize {
+                    drop(key);
+                    drop(row);
                     return Err(TableErr::Full {
                         live: counted(live),
                         room: self.room,
                     });
                 }
                 match self.rows.insert(key, row) {
-                    Ok(_) => Ok(said),
-                    Err(_) => Err(TableErr::OutOfMemory),
+                    Ok(replaced) => {
+                        drop(replaced);
+                        Ok(said)
+                    }
+                    Err(failed) => {
+                        drop(failed);
+                        Err(TableErr::OutOfMemory)
+                    }
                 }
             }
         }
@@ -133,8 +145,12 @@ impl Table for MapTable {
     }
 
     fn act(&mut self, key: RowKey, act: Act, now: u64) -> Result<Said<'_>, TableErr> {
-        match self.change(&key, act, now)? {
-            Tried::Done(change) => Ok(tell(self.row_told(&key, change), change)),
+        match or_drop!(self.change(&key, act, now); key) {
+            Tried::Done(change) => {
+                let row = self.row_told(&key, change);
+                drop(key);
+                Ok(tell(row, change))
+            }
             Tried::Absent(act) => {
                 let added = self.add(key, act, now)?;
                 Ok(tell(None, added))
