@@ -5,7 +5,7 @@ ghost use Rattle.beldi_collect.specs.Collect.{collect_asks, collect_says, lent_i
 
 use beldi_intent::open_body;
 use beldi_row::{Body, Kind, Row, RowKey};
-use beldi_value::{Apart, IntentId};
+use beldi_value::{Apart, IntentId, or_drop};
 use beldi_walk::{Heard, Query};
 use std::alloc::{AllocError, Global};
 
@@ -41,11 +41,15 @@ pub fn collect_told(alloc: Global, heard: Heard<'_>) -> Result<Found, AllocError
     };
     match open_intent(key, row) {
         None => Ok(Found::Passed(passing(alloc, key)?)),
-        Some((id, body)) => Ok(Found::Unended {
-            key: key.copy(alloc)?,
-            id: id.copy(alloc)?,
-            func: body.func,
-        }),
+        Some((id, body)) => {
+            let key = key.copy(alloc)?;
+            let id = or_drop!(id.copy(alloc); key);
+            Ok(Found::Unended {
+                key,
+                id,
+                func: body.func,
+            })
+        }
     }
 }
 

@@ -1,14 +1,16 @@
 // The intent collector as a walk of its own.
-ghost use Rattle.std.specs.Prelude.{◌≡◌, Some, None, IsSome};
+ghost use Rattle.std.specs.Prelude.{◌≡◌, Some, None, IsSome, IfOk, OnErr};
 ghost use Rattle.beldi_row.specs.Key.{RowKey};
 ghost use Rattle.beldi_walk.specs.Walk.{Turned};
+ghost use Rattle.beldi_collect.specs.declared.intent_cursor.IcSays.TheVariants as IcSays;
 ghost use Rattle.beldi_collect.specs.Cursor.{first_cursor, cursor_asks, cursor_next, cursor_says};
 
 use crate::cursor::{collect_query, open_intent, passing};
 use beldi_row::{Body, RowKey, Table, TableErr};
-use beldi_value::{Apart, IntentId};
+use beldi_value::{Apart, IntentId, or_drop};
 use beldi_walk::{Heard, Query, Walk};
 use std::alloc::{AllocError, Global};
+use std::mem::replace;
 
 /// What a turn of the intent collector says.
 #[derive(Drop)]
@@ -46,21 +48,15 @@ impl Walk for IntentCursor {
 
     fn told(&mut self, alloc: Global, heard: Heard<'_>) -> Result<IcSays, AllocError> {
         let Heard::Found(Some((key, row))) = heard else {
-            *self = IntentCursor::new(alloc);
+            self.go_to(RowKey::least(alloc));
             return Ok(IcSays::Round);
         };
         match open_intent(key, row) {
             None => {
-                self.at = passing(alloc, key)?;
-                self.kept = None;
+                self.go_to(passing(alloc, key)?);
                 Ok(IcSays::Passed)
             }
-            Some((id, body)) => {
-                let id = id.copy(alloc)?;
-                let body = body.copy(alloc)?;
-                self.kept = Some(key.copy(alloc)?);
-                Ok(IcSays::Unended { id, body })
-            }
+            Some((id, body)) => self.stop_at(alloc, key, id, body),
         }
     }
 }
@@ -76,6 +72,31 @@ impl IntentCursor {
         }
     }
 
+    // Sets the walk after this key.
+    fn go_to(&mut self, at: RowKey)
+        ensures { self.new ≡ record { at = at; kept = None } }
+    {
+        drop(replace(self, IntentCursor { at, kept: None }));
+    }
+
+    // Stops at an intent that has not ended, and keeps its key.
+    fn stop_at(
+        &mut self,
+        alloc: Global,
+        key: &RowKey,
+        id: &IntentId,
+        body: &Body,
+    ) -> Result<IcSays, AllocError>
+        ensures ok { IfOk result (λ s. (self.new ≡ record self.old { kept = Some key.now }) × (s ≡ IcSays.Unended id.now body.now)) }
+        ensures err { OnErr result (self.new ≡ self.old) }
+    {
+        let id = id.copy(alloc)?;
+        let body = or_drop!(body.copy(alloc); id);
+        let key = or_drop!(key.copy(alloc); id, body);
+        drop(self.kept.replace(key));
+        Ok(IcSays::Unended { id, body })
+    }
+
     /// One step to the next row; the rows are as before. After `Unended` the walk still stands before that row, and after an
     /// `Err` it stands where it stood. `Failed` comes only where the table failed, and `Full` never.
     pub fn turn<T: Table>(&mut self, alloc: Global, table: &mut T) -> Result<IcSays, TableErr>
@@ -89,8 +110,9 @@ impl IntentCursor {
         requires { IsSome self.old.kept }
         ensures { (k : RowKey) → self.old.kept ≡ Some k → self.new ≡ record { at = k; kept = None } }
     {
-        if let Some(key) = self.kept.take() {
-            self.at = key;
+        match self.kept.take() {
+            Some(key) => self.go_to(key),
+            None => (),
         }
     }
 }
