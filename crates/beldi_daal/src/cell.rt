@@ -5,7 +5,7 @@ ghost use Rattle.beldi_walk.specs.Query.{told_of, lends};
 ghost use Rattle.beldi_daal.specs.Cell.{cell_key as key_of, shadow_key as shadow_key_of, op_act, done_note as done_note_of, write_asks, write_goes, read_goes, cell_goes, in_the_way};
 
 use beldi_row::{Act, Cell, Kind, Note, Row, RowKey, Said, copy_owner, copy_tx};
-use beldi_value::{Apart, Owner, Place, Rel, Spare, Str, TxId, Value};
+use beldi_value::{Apart, Owner, Place, Rel, Spare, Str, TxId, Value, or_drop};
 use beldi_walk::{Heard, Query};
 use std::alloc::{AllocError, Global};
 
@@ -37,11 +37,15 @@ impl CellOp {
                 rel,
                 operand,
                 value,
-            } => Ok(CellOp::Cond {
-                rel: *rel,
-                operand: operand.copy(alloc)?,
-                value: value.copy(alloc)?,
-            }),
+            } => {
+                let operand = operand.copy(alloc)?;
+                let value = or_drop!(value.copy(alloc); operand);
+                Ok(CellOp::Cond {
+                    rel: *rel,
+                    operand,
+                    value,
+                })
+            }
             CellOp::Lock => Ok(CellOp::Lock),
             CellOp::Free(None) => Ok(CellOp::Free(None)),
             CellOp::Free(Some(value)) => Ok(CellOp::Free(Some(value.copy(alloc)?))),
@@ -78,11 +82,10 @@ impl CellOp {
                 operand,
                 value,
             },
-            CellOp::Lock => Act::LockCell {
-                place,
-                who,
-                spare: Spare::new(alloc)?,
-            },
+            CellOp::Lock => {
+                let spare = or_drop!(Spare::new(alloc); place, who);
+                Act::LockCell { place, who, spare }
+            }
             CellOp::Free(value) => Act::FreeCell { place, who, value },
         })
     }
@@ -143,10 +146,12 @@ pub fn shadow_key(
 ) -> Result<RowKey, AllocError>
     ensures { IfOk result (λ k. k ≡ shadow_key_of home tx.now table key.now) }
 {
+    let tx = copy_tx(tx, alloc)?;
+    let key = or_drop!(key.copy(alloc); tx);
     let kind = Kind::Shadow {
-        tx: copy_tx(tx, alloc)?,
+        tx,
         table,
-        key: key.copy(alloc)?,
+        key,
         row: 0,
     };
     Ok(RowKey::new(home, kind))
@@ -164,8 +169,14 @@ pub fn write_query(
     ensures { IfOk result (λ q. q ≡ write_asks key place who op at) }
 {
     match at {
-        WriteAt::Try => Query::act(alloc, key, op.act(alloc, place, who)?),
+        WriteAt::Try => {
+            let act = or_drop!(op.act(alloc, place, who); key);
+            Query::act(alloc, key, act)
+        }
         WriteAt::Make => {
+            drop(place);
+            drop(who);
+            drop(op);
             let value = Value::Null;
             Query::act(alloc, key, Act::MakeCell { value, owner: None })
         }
@@ -178,15 +189,18 @@ pub fn write_told(alloc: Global, done: Note, heard: Heard<'_>) -> Result<WriteGo
     ensures ok { IfOk result (λ s. s ≡ write_goes done (told_of heard.entry)) }
     ensures err { OnErr result (lends (told_of heard.entry) ≡ true) }
 {
+    if let Heard::Said(Said::Did) = heard {
+        return Ok(WriteGoes::Done {
+            note: done,
+            first: true,
+        });
+    }
+    drop(done);
     let Heard::Said(said) = heard else {
         return Ok(WriteGoes::On(WriteAt::Try));
     };
     match said {
         Said::NoRow => Ok(WriteGoes::On(WriteAt::Make)),
-        Said::Did => Ok(WriteGoes::Done {
-            note: done,
-            first: true,
-        }),
         Said::Tested(passed) => Ok(WriteGoes::Done {
             note: Note::Cond(passed),
             first: true,

@@ -4,7 +4,7 @@ ghost use Rattle.beldi_daal.specs.Walk.{first_walk, first_key};
 
 use crate::cell::{CellOp, WriteAt, WriteGoes, cell_key, shadow_key, write_query, write_told};
 use beldi_row::{Note, RowKey, copy_owner};
-use beldi_value::{Apart, Owner, Place, Str, TxId};
+use beldi_value::{Apart, Owner, Place, Str, TxId, or_drop};
 use beldi_walk::{Heard, Query, Walk};
 use std::alloc::{AllocError, Global};
 
@@ -69,9 +69,10 @@ impl Walk for WriteWalk {
 
     fn ask(&self, alloc: Global) -> Result<Apart<Query>, AllocError> {
         let key = self.item.first_key(alloc, self.home)?;
-        let place = self.place.copy(alloc)?;
-        let who = copy_owner(&self.who, alloc)?;
-        write_query(alloc, key, place, who, self.op.copy(alloc)?, self.at)
+        let place = or_drop!(self.place.copy(alloc); key);
+        let who = or_drop!(copy_owner(&self.who, alloc); key, place);
+        let op = or_drop!(self.op.copy(alloc); key, place, who);
+        write_query(alloc, key, place, who, op, self.at)
     }
 
     fn told(&mut self, alloc: Global, heard: Heard<'_>) -> Result<WriteSays, AllocError> {
