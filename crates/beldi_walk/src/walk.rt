@@ -56,13 +56,17 @@ pub trait Walk {
                 },
                 Err(why) => Err(why),
             },
-            Query::After(key) => match table.next(&key) {
-                Ok(found) => match self.told(alloc, Heard::Found(found)) {
-                    Ok(says) => Ok(says),
-                    Err(_) => Err(TableErr::OutOfMemory),
-                },
-                Err(why) => Err(why),
-            },
+            Query::After(key) => {
+                let next = table.next(&key);
+                drop(key);
+                match next {
+                    Ok(found) => match self.told(alloc, Heard::Found(found)) {
+                        Ok(says) => Ok(says),
+                        Err(_) => Err(TableErr::OutOfMemory),
+                    },
+                    Err(why) => Err(why),
+                }
+            }
         }
     }
 }
