@@ -1,7 +1,7 @@
 // An instance of a function.
 ghost use Rattle.std.specs.Prelude.{◌≡◌, option_copied, OnOk, OnErr, IfOk};
 ghost use Rattle.beldi_lang.specs.Wants.{wants, wants_answer};
-ghost use Rattle.beldi_lang.specs.Machine.{IsAt};
+ghost use Rattle.beldi_lang.specs.Machine.{IsAt, resumed};
 ghost use Rattle.beldi_lang.specs.declared.effect.Effect.TheVariants as effect;
 ghost use Rattle.beldi_lang.specs.declared.effect.Answer.TheVariants as answer;
 ghost use Rattle.beldi_value.specs.declared.value.Value.TheVariants as value;
@@ -12,7 +12,7 @@ ghost use Rattle.beldi_plain.specs.Piece.{new_member};
 
 use crate::items::Items;
 use beldi_lang::{Answer, Deployment, Effect, Machine};
-use beldi_value::{Caller, IntentId, Outcome, Str, TxId, Value};
+use beldi_value::{Caller, IntentId, Outcome, Str, TxId, Value, or_drop};
 use std::alloc::{AllocError, Global};
 use std::marker::Model;
 
@@ -141,9 +141,7 @@ impl Instance {
         match effect {
             Effect::Read { table, key } => self.read(alloc, items, *table, key),
             Effect::Write { table, key, value } => {
-                let key = key.copy(alloc)?;
-                let value = value.copy(alloc)?;
-                self.set(items, *table, key, value, Answer::Done)?;
+                self.set(alloc, items, *table, key, value, Answer::Done)?;
                 Ok(Some(Answer::Done))
             }
             Effect::CondWrite {
@@ -155,16 +153,14 @@ impl Instance {
             } => {
                 let passes = items.passes(self.func, *table, key, *rel, operand);
                 if passes {
-                    let key = key.copy(alloc)?;
-                    let value = value.copy(alloc)?;
-                    self.set(items, *table, key, value, tested(true))?;
+                    self.set(alloc, items, *table, key, value, tested(true))?;
                 } else {
-                    self.answers.push(tested(false))?;
+                    self.answer(tested(false))?;
                 }
                 Ok(Some(tested(passes)))
             }
             Effect::Lock { .. } | Effect::Unlock { .. } => {
-                self.answers.push(Answer::Done)?;
+                self.answer(Answer::Done)?;
                 Ok(Some(Answer::Done))
             }
             Effect::Call { .. }
@@ -187,25 +183,28 @@ impl Instance {
         ensures { Acted items.now items.now self.old self.new (effect.Read table key.now) result }
     {
         let value = items.copy_of(alloc, self.func, table, key)?;
-        let kept = value.copy(alloc)?;
-        self.answers.push(Answer::Value(kept))?;
+        let kept = or_drop!(value.copy(alloc); value);
+        or_drop!(self.answer(Answer::Value(kept)); value);
         Ok(Some(Answer::Value(value)))
     }
 
     // Sets an item, and is answered so.
     fn set(
         &mut self,
+        alloc: Global,
         items: &mut Items,
         table: u16,
-        key: Str,
-        value: Value,
+        key: &Str,
+        value: &Value,
         answer: Answer,
     ) -> Result<(), AllocError>
-        ensures ok { OnOk result ((items.new ≡ set_item items.old (record { func = self.old.func; table = table; key = key }) value) × (self.new ≡ answered self.old answer)) }
+        ensures ok { OnOk result ((items.new ≡ set_item items.old (record { func = self.old.func; table = table; key = key.now }) value.now) × (self.new ≡ answered self.old answer)) }
         ensures err { OnErr result ((items.new ≡ items.old) × (self.new ≡ self.old)) }
     {
-        self.answers.reserve(1)?;
-        items.set(self.func, table, key, value)?;
+        or_drop!(self.answers.reserve(1); answer);
+        let key = or_drop!(key.copy(alloc); answer);
+        let value = or_drop!(value.copy(alloc); answer, key);
+        or_drop!(items.set(self.func, table, key, value); answer);
         self.answers.push_reserved(answer);
         Ok(())
     }
@@ -252,7 +251,20 @@ fn machine_after(
         if !is_answered(machine.wants()) {
             return Ok(machine);
         }
-        machine.resume(alloc, code, copy_answer(alloc, answer)?)?;
+        or_drop!(go_on(alloc, code, &mut machine, answer); machine);
     }
     Ok(machine)
+}
+
+// The machine goes on from a copy of this answer.
+fn go_on(
+    alloc: Global,
+    code: &Deployment,
+    machine: &mut Machine,
+    answer: &Answer,
+) -> Result<(), AllocError>
+    ensures { OnOk result (machine.new ≡ resumed code.now machine.old answer.now) }
+{
+    let answer = copy_answer(alloc, answer)?;
+    machine.resume(alloc, code, answer)
 }

@@ -19,12 +19,13 @@ pub loop-answer-preserved : goal.loop-answer-preserved
 loop-answer-preserved c =
     let i = c.loop-answer.answer-index in
     let before = take i c.args.answers.now in
-    let next : take (i + 1) c.args.answers.now ≡ before ++ c.in_ok-copy_answer.field-0 ∷ [] = grind (arith, common_steps) in
+    let answer = c.answer-item.result in
+    let next : take (i + 1) c.args.answers.now ≡ before ++ answer ∷ [] = grind (arith, common_steps) in
     let takes : wants_answer c.loop-answer.machine.effect ≡ true = search rules in
-    let taken : c.resume.new.self ≡ resumed c.args.code.now c.loop-answer.machine c.in_ok-copy_answer.field-0 = search rules in
+    let taken : c.go_on.new.machine ≡ resumed c.args.code.now c.loop-answer.machine answer = search rules in
     taken
-    ∙ subst (λ (l : List Answer). IsAt c.args.code.now c.args.func c.args.args.now c.args.inherited (resumed c.args.code.now c.loop-answer.machine c.in_ok-copy_answer.field-0) l) (sym next)
-    (at_next c.args.code.now c.args.func c.args.args.now c.args.inherited c.loop-answer.machine before c.in_ok-copy_answer.field-0 takes c.loop-answer.invariant)
+    ∙ subst (λ (l : List Answer). IsAt c.args.code.now c.args.func c.args.args.now c.args.inherited (resumed c.args.code.now c.loop-answer.machine answer) l) (sym next)
+    (at_next c.args.code.now c.args.func c.args.args.now c.args.inherited c.loop-answer.machine before answer takes c.loop-answer.invariant)
 
 pub returns : goal.returns
 returns c =
