@@ -6,7 +6,7 @@ ghost use Rattle.beldi_plain.specs.Listing.{items_text};
 
 use crate::cells::Cells;
 use beldi_lang::Deployment;
-use beldi_value::{Str, Value};
+use beldi_value::{Str, Value, or_drop};
 use std::alloc::{AllocError, Global};
 use std::collections::BTreeMap;
 use std::marker::Model;
@@ -84,11 +84,22 @@ impl Tables {
         ensures err { OnErr result ((self.new ≡ self.old) × (at_key key (map.get self.old table) ≡ None)) }
     {
         let mut cells = Cells::new(alloc);
-        cells.put(key, value)?;
+        let none = match cells.put(key, value) {
+            Ok(none) => none,
+            Err(error) => {
+                drop(cells);
+                return Err(error);
+            }
+        };
+        drop(none);
         match self.entries.insert(table, cells) {
-            Ok(_) => Ok(None),
-            Err(_) => Err(AllocError),
+            Ok(old) => drop(old),
+            Err(failed) => {
+                drop(failed);
+                return Err(AllocError);
+            }
         }
+        Ok(None)
     }
 
     pub fn unset(&mut self, table: TableId, key: &Str)

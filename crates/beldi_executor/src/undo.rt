@@ -7,7 +7,7 @@ ghost use Rattle.beldi_executor.specs.Undo.{MadeIn, HasRoom, AllHaveRoom, all_ba
 use crate::instance::tested;
 use crate::items::Items;
 use beldi_lang::{Answer, Effect};
-use beldi_value::{Str, Value};
+use beldi_value::{Str, Value, or_drop};
 use std::alloc::{AllocError, Global};
 use std::marker::Model;
 
@@ -98,8 +98,9 @@ impl Undo {
     {
         self.entries.reserve(1)?;
         let kept = key.copy(alloc)?;
-        let key = key.copy(alloc)?;
-        let before = items.put(func, table, key, value.copy(alloc)?)?;
+        let key = or_drop!(key.copy(alloc); kept);
+        let value = or_drop!(value.copy(alloc); kept, key);
+        let before = or_drop!(items.put(func, table, key, value); kept);
         self.entries.push_reserved(Was {
             func,
             table,
@@ -160,4 +161,5 @@ fn sweep(items: &mut Items, was: Was)
     if is_null {
         items.unset(was.func, was.table, &was.key);
     }
+    drop(was);
 }
