@@ -2,13 +2,14 @@
 ghost use Rattle.std.specs.Prelude.{◌≡◌, ◌≤◌, length, Some, is_some, OnOk, OnErr, IfOk, option_copied};
 ghost use Rattle.std.specs.FinMap as map;
 ghost use Rattle.beldi_value.specs.Id.{child_of};
+ghost use Rattle.beldi_lang.specs.Callee.{answer_of};
 ghost use Rattle.beldi_plain.specs.Plain.{Instance, answered, ended};
 ghost use Rattle.beldi_executor.specs.Executor.{ActedAt, at_one, cut_to};
 
-use crate::instance::Instance;
+use crate::instance::{Instance, copy_answer};
 use crate::items::Items;
 use beldi_lang::{Answer, Effect};
-use beldi_value::{IntentId, Outcome};
+use beldi_value::{IntentId, Outcome, or_drop};
 use std::alloc::{AllocError, Global};
 use std::collections::BTreeMap;
 use std::marker::Model;
@@ -95,6 +96,35 @@ impl Instances {
             return Ok(());
         };
         instance.answer(answer)
+    }
+
+    /// The instance of this id is answered with a copy of this answer, if it is there.
+    pub fn answer_with(
+        &mut self,
+        alloc: Global,
+        id: &IntentId,
+        answer: &Answer,
+    ) -> Result<(), AllocError>
+        ensures ok { OnOk result (self.new ≡ at_one self.old id.now (λ q. answered q answer.now) (map.get self.old id.now)) }
+        ensures err { OnErr result (self.new ≡ self.old) }
+    {
+        let kept = copy_answer(alloc, answer)?;
+        self.answer(id, kept)
+    }
+
+    /// The instance of this id is answered by the outcome of what it called, if it is there.
+    pub fn tell(
+        &mut self,
+        alloc: Global,
+        id: &IntentId,
+        outcome: &Outcome,
+    ) -> Result<Answer, AllocError>
+        ensures ok { IfOk result (λ a. (a ≡ answer_of outcome.now) × (self.new ≡ at_one self.old id.now (λ q. answered q a) (map.get self.old id.now))) }
+        ensures err { OnErr result (self.new ≡ self.old) }
+    {
+        let answer = Answer::of_callee(outcome.copy(alloc)?);
+        or_drop!(self.answer_with(alloc, id, &answer); answer);
+        Ok(answer)
     }
 
     /// The instance of this id has these first answers alone, if it is there.

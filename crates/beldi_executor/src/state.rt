@@ -13,7 +13,7 @@ use crate::instances::Instances;
 use crate::items::Items;
 use crate::next::Next;
 use beldi_lang::{Answer, Deployment, Effect};
-use beldi_value::{Caller, IntentId, Outcome, Place, Str, Value};
+use beldi_value::{Caller, IntentId, Outcome, Place, Str, Value, or_drop};
 use std::alloc::{AllocError, Global};
 use std::marker::Model;
 
@@ -140,7 +140,13 @@ impl State {
         ensures { (q : Instance) → map.get self.old.made id.now ≡ Some q → step ≡ length q.answers → is_some (map.get self.old.made (child_of id.now step)) ≡ false → Made self.old self.new id.now q (effect.Async func args.now) result }
     {
         let callee = id.child(alloc, step)?;
-        self.make_callee(alloc, id, step, func, args, false)?;
+        match self.make_callee(alloc, id, step, func, args, false) {
+            Ok(()) => (),
+            Err(error) => {
+                drop(callee);
+                return Err(error);
+            }
+        }
         match self.made.answer(id, Answer::Done) {
             Ok(()) => Ok(Next::Answered(Answer::Done)),
             Err(error) => {
@@ -175,8 +181,10 @@ impl State {
             func: found.func(),
             waits,
         };
-        let callee = Instance::new(alloc, func, args.copy(alloc)?, Some(caller));
-        self.made.set(id.child(alloc, step)?, callee)
+        let args = or_drop!(args.copy(alloc); caller);
+        let callee = Instance::new(alloc, func, args, Some(caller));
+        let id = or_drop!(id.child(alloc, step); callee);
+        self.made.set(id, callee)
     }
 
     // An instance ends, and who waits for it is answered.
@@ -186,19 +194,26 @@ impl State {
         let Some(found) = self.made.get(id) else {
             return Ok(Next::Ended);
         };
-        let waiter = found.waiter(alloc)?;
         let ended = outcome.copy(alloc)?;
-        match waiter {
-            None => {
+        match found.waiter(alloc) {
+            Ok(None) => {
                 self.made.end(id, ended);
                 Ok(Next::Ended)
             }
-            Some(waiter) => {
-                let answer = Answer::of_callee(outcome.copy(alloc)?);
-                self.made
-                    .answer(&waiter, Answer::of_callee(outcome.copy(alloc)?))?;
-                self.made.end(id, ended);
-                Ok(Next::Tells(waiter, answer))
+            Ok(Some(waiter)) => match self.made.tell(alloc, &waiter, outcome) {
+                Ok(answer) => {
+                    self.made.end(id, ended);
+                    Ok(Next::Tells(waiter, answer))
+                }
+                Err(error) => {
+                    drop(ended);
+                    drop(waiter);
+                    Err(error)
+                }
+            },
+            Err(error) => {
+                drop(ended);
+                Err(error)
             }
         }
     }
