@@ -86,10 +86,7 @@ impl Machines {
         let mut machine = machine;
         match machine.resume(alloc, code, answer) {
             Ok(()) => self.keep(id, machine),
-            Err(_) => {
-                drop(machine);
-                self.forget(&id);
-            }
+            Err(_) => self.end(id, machine),
         }
     }
 
@@ -98,11 +95,16 @@ impl Machines {
         ensures { Passes code.now self.old self.new id answer }
     {
         let Some(machine) = self.take(&id) else {
+            drop(id);
             drop(answer);
             return;
         };
         if is_answered(machine.wants()) {
             self.go_on(alloc, code, id, machine, answer);
+        } else {
+            drop(id);
+            drop(machine);
+            drop(answer);
         }
     }
 

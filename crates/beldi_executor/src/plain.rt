@@ -16,7 +16,7 @@ use crate::state::State;
 use beldi_book::{Book, Entry};
 use beldi_check::Checked;
 use beldi_lang::{Effect, Machine};
-use beldi_value::{Apart, IntentId, Outcome, Place, Str, Value};
+use beldi_value::{Apart, IntentId, Outcome, Place, Str, Value, or_drop};
 use std::alloc::{AllocError, Global};
 use std::marker::Model;
 use thiserror::Error;
@@ -102,6 +102,8 @@ impl<'a> Plain<'a> {
     {
         let id = IntentId::root(self.alloc, ticket);
         if ticket == 0 || self.state.instance(&id).is_some() {
+            drop(id);
+            drop(args);
             return Err(PlainErr::NotEnabled(Bar::AlreadyStarted));
         }
         self.state
@@ -116,7 +118,13 @@ impl<'a> Plain<'a> {
         ensures did { DidStep self.old.code id.now self.old.state self.new.state result }
     {
         let id = id.copy(self.alloc)?;
-        let machine = self.machine(&id)?;
+        let machine = match self.machine(&id) {
+            Ok(machine) => machine,
+            Err(why) => {
+                drop(id);
+                return Err(why);
+            }
+        };
         if !is_made(kind_of(&id, machine.wants())) {
             self.keep(id, machine);
             return Err(PlainErr::NotEnabled(Bar::OtherEffect));
@@ -131,7 +139,13 @@ impl<'a> Plain<'a> {
         ensures did { Entered self.old.code id.now reads self.old.state self.new.state result }
     {
         let id = id.copy(self.alloc)?;
-        let machine = self.machine(&id)?;
+        let machine = match self.machine(&id) {
+            Ok(machine) => machine,
+            Err(why) => {
+                drop(id);
+                return Err(why);
+            }
+        };
         if !is_entered(kind_of(&id, machine.wants()), reads) {
             self.keep(id, machine);
             return Err(PlainErr::NotEnabled(Bar::OtherEffect));
@@ -146,11 +160,19 @@ impl<'a> Plain<'a> {
         ensures stands { StandsFree self.old.code self.old.state id.now result }
     {
         let machine = self.open(id)?;
-        let waits = self
+        let waits = match self
             .state
-            .waits(self.alloc, id, machine.steps(), machine.wants())?;
+            .waits(self.alloc, id, machine.steps(), machine.wants())
+        {
+            Ok(waits) => waits,
+            Err(error) => {
+                drop(machine);
+                return Err(error.into());
+            }
+        };
         if waits {
-            self.keep(id.copy(self.alloc)?, machine);
+            let id = or_drop!(id.copy(self.alloc); machine);
+            self.keep(id, machine);
             return Err(PlainErr::NotEnabled(Bar::Waiting));
         }
         Ok(machine)
@@ -210,6 +232,7 @@ impl<'a> Plain<'a> {
         let next = match made {
             Ok(next) => next,
             Err(error) => {
+                drop(id);
                 drop(machine);
                 return Err(error);
             }
@@ -243,7 +266,10 @@ impl<'a> Plain<'a> {
         let id = id.copy(self.alloc)?;
         let machine = match self.begin(&id) {
             Ok(machine) => machine,
-            Err(why) => return Err(why),
+            Err(why) => {
+                drop(id);
+                return Err(why);
+            }
         };
         let owner = self.state.piece(self.alloc, self.code.code(), id, machine)?;
         self.machines.keep(owner.id, owner.machine);
@@ -264,7 +290,10 @@ impl<'a> Plain<'a> {
         let id = id.copy(self.alloc)?;
         let machine = match self.begin(&id) {
             Ok(machine) => machine,
-            Err(why) => return Err(why),
+            Err(why) => {
+                drop(id);
+                return Err(why);
+            }
         };
         let owner = self
             .state

@@ -12,7 +12,7 @@ pub returns-then-not-is_entered-clause-did : goal.returns-then-not-is_entered-cl
 returns-then-not-is_entered-clause-did c =
     let d = c.args.self.now.code in
     let p = c.args.self.now.state in
-    let m = c.in_ok-machine.machine in
-    let ready = subst (λ (i : IntentId). IsFree d p i m) c.in_ok-id.ensures c.in_ok-machine.ensures.stands in
-    let same = ap (λ (x : Executor). x.state) (c.keep.ensures ∙ c.in_ok-machine.ensures.same) in
+    let m = c.in-Ok.machine in
+    let ready = subst (λ (i : IntentId). IsFree d p i m) c.in_ok-id.ensures c.in-Ok.ensures.stands in
+    let same = ap (λ (x : Executor). x.state) (c.keep.ensures ∙ c.in-Ok.ensures.same) in
     subst (λ (q : PlainState). Entered d c.args.id.now c.args.reads p q (Err (NotEnabled OtherEffect))) (sym same) (other_effect d p c.args.id.now c.args.reads m ready (search rules))

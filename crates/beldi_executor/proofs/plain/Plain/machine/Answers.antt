@@ -17,6 +17,6 @@ returns-clause-stands c =
       free =
           ap (waits_at c.args.self.now.state.made id q) (sym r.stands.0 ∙ sym c.wants.ensures.effect)
           ∙ ap (λ (p : PlainState). waits_at p.made id q e) (sym same)
-          ∙ sym (c.in_ok-waits.ensures q number)
+          ∙ sym (c.in-Ok.ensures q number)
           ∙ c.if-waits.false;
     }

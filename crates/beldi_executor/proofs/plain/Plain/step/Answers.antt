@@ -12,7 +12,7 @@ pub returns-then-not-is_made-clause-did : goal.returns-then-not-is_made-clause-d
 returns-then-not-is_made-clause-did c =
     let d = c.args.self.now.code in
     let p = c.args.self.now.state in
-    let m = c.in_ok-machine.machine in
-    let ready = subst (λ (i : IntentId). IsFree d p i m) c.in_ok-id.ensures c.in_ok-machine.ensures.stands in
-    let same = ap (λ (x : Executor). x.state) (c.keep.ensures ∙ c.in_ok-machine.ensures.same) in
+    let m = c.in-Ok.machine in
+    let ready = subst (λ (i : IntentId). IsFree d p i m) c.in_ok-id.ensures c.in-Ok.ensures.stands in
+    let same = ap (λ (x : Executor). x.state) (c.keep.ensures ∙ c.in-Ok.ensures.same) in
     subst (λ (q : PlainState). DidStep d c.args.id.now p q (Err (NotEnabled OtherEffect))) (sym same) (not_built d p c.args.id.now m ready (search rules))
