@@ -8,7 +8,7 @@ use crate::instance::Instance;
 use crate::instances::Instances;
 use crate::undo::Undo;
 use beldi_lang::{Answer, Deployment, Machine};
-use beldi_value::{IntentId, TxId};
+use beldi_value::{IntentId, TxId, or_drop};
 use std::alloc::{AllocError, Global};
 use std::marker::Model;
 
@@ -31,7 +31,7 @@ impl Actor {
         ensures { IfOk result (λ a. a ≡ record self { machine = resumed code.now self.machine answer }) }
     {
         let mut actor = self;
-        actor.machine.resume(alloc, code, answer)?;
+        or_drop!(actor.machine.resume(alloc, code, answer); actor);
         Ok(actor)
     }
 }
@@ -103,9 +103,10 @@ impl Members {
         ensures ok { OnOk result ((made.new ≡ map.insert made.old id.now instance) × (self.new ≡ self.old ++ id.now ∷ [])) }
         ensures err { OnErr result ((made.new ≡ made.old) × (self.new ≡ self.old)) }
     {
-        self.ids.reserve(1)?;
-        let kept = id.copy(alloc)?;
-        made.set(id.copy(alloc)?, instance)?;
+        or_drop!(self.ids.reserve(1); instance);
+        let kept = or_drop!(id.copy(alloc); instance);
+        let id = or_drop!(id.copy(alloc); instance, kept);
+        or_drop!(made.set(id, instance); kept);
         self.ids.push_reserved(kept);
         Ok(())
     }

@@ -17,12 +17,12 @@ ghost use Rattle.beldi_executor.specs.Undo.{AllHaveRoom, all_back};
 ghost use Rattle.beldi_executor.specs.Inside.{IsDraft, GoesOn, Gave, Moved, WentOn, IsCallee, Left, Comes, Pieced, Tried, most, seen, going, after, all_gone, can_move as can_move_by, is_stop as is_stop_at, ends as ends_by, over_at, no_end as no_end_of};
 
 use crate::draft::{Actor, Draft, Members};
-use crate::instance::{Instance, copy_answer};
+use crate::instance::Instance;
 use crate::plain::{Bar, PlainErr};
 use crate::state::State;
 use crate::undo::Undo;
 use beldi_lang::{Answer, Deployment, Effect, Machine};
-use beldi_value::{Apart, Caller, Cause, IntentId, Outcome, Place, TxId, Value, older};
+use beldi_value::{Apart, Caller, Cause, IntentId, Outcome, Place, TxId, Value, older, or_drop};
 use std::alloc::{AllocError, Global};
 
 // Whether the one at the front stands where a try stops.
@@ -374,7 +374,11 @@ impl State {
                 }
             }
             Effect::Return(outcome) => match draft.waiting.pop() {
-                Some(caller) => self.leave(alloc, code, &front.id, outcome, caller),
+                Some(caller) => {
+                    let left = self.leave(alloc, code, &front.id, outcome, caller);
+                    drop(front);
+                    left
+                }
                 None => Ok(front),
             },
             effect => match draft.undo.make(alloc, &mut self.items, front.func, effect) {
@@ -403,9 +407,9 @@ impl State {
         ensures err { OnErr result ((self.new ≡ self.old) × (draft.new ≡ draft.old)) }
     {
         let member = member_of(alloc, front, func, args, &draft.tx)?;
-        let id = front.id.child(alloc, front.machine.steps())?;
-        let machine = Machine::new(alloc, code, func, args.copy(alloc)?, true)?;
-        draft.members.make(alloc, &mut self.made, &id, member)?;
+        let id = or_drop!(front.id.child(alloc, front.machine.steps()); member);
+        let machine = or_drop!(begin(alloc, code, func, args); member, id);
+        or_drop!(draft.members.make(alloc, &mut self.made, &id, member); id, machine);
         Ok(Actor { id, func, machine })
     }
 
@@ -448,8 +452,14 @@ impl State {
     ) -> Result<Actor, AllocError>
         ensures { (t : TxId) (p : PlainState) (q : Instance) (h : Draft) → GoesOn code.now t p q self.old h front → wants_answer front.machine.effect ≡ true → Gave code.now t p q self.old h front answer self.new result }
     {
-        let kept = copy_answer(alloc, &answer)?;
-        self.made.answer(&front.id, kept)?;
+        match self.made.answer_with(alloc, &front.id, &answer) {
+            Ok(()) => (),
+            Err(error) => {
+                drop(front);
+                drop(answer);
+                return Err(error);
+            }
+        }
         front.resume(alloc, code, answer)
     }
 }
@@ -470,11 +480,20 @@ fn member_of(
         waits: true,
     };
     let within = TxId {
-        intent: tx.intent.copy(alloc)?,
+        intent: or_drop!(tx.intent.copy(alloc); caller),
         begin: tx.begin,
         func: tx.func,
     };
-    Ok(Instance::member(alloc, func, args.copy(alloc)?, caller, within))
+    let args = or_drop!(args.copy(alloc); caller, within);
+    Ok(Instance::member(alloc, func, args, caller, within))
+}
+
+// The machine of a function that is called within a transaction.
+fn begin(alloc: Global, code: &Deployment, func: u16, args: &Value) -> Result<Machine, AllocError>
+    ensures { IfOk result (λ m. m ≡ begun code.now func args.now true) }
+{
+    let args = args.copy(alloc)?;
+    Machine::new(alloc, code, func, args, true)
 }
 
 // Where the one at the front stands.
@@ -506,7 +525,8 @@ fn told(alloc: Global, outcome: &Outcome) -> Result<(Outcome, Answer), AllocErro
     ensures { IfOk result (λ b. (b.0 ≡ outcome.now) × (b.1 ≡ answer_of outcome.now)) }
 {
     let ended = outcome.copy(alloc)?;
-    Ok((ended, Answer::of_callee(outcome.copy(alloc)?)))
+    let given = or_drop!(outcome.copy(alloc); ended);
+    Ok((ended, Answer::of_callee(given)))
 }
 
 fn is_owner(draft: &Draft, front: &Actor) -> bool
@@ -554,11 +574,9 @@ fn dies(effect: &Effect, holder: Option<&IntentId>) -> bool
 fn cause_of(alloc: Global, front: &Actor, holder: Option<&IntentId>) -> Result<Cause, AllocError>
     ensures { IfOk result (λ c. c ≡ record { place = record { intent = front.now.id; step = front.now.machine.steps }; holder = option_copied holder.entry }) }
 {
-    let holder = copy_holder(alloc, holder)?;
-    Ok(Cause {
-        place: Apart::new(alloc, place_of(alloc, front)?)?,
-        holder,
-    })
+    let place = Apart::new(alloc, place_of(alloc, front)?)?;
+    let holder = or_drop!(copy_holder(alloc, holder); place);
+    Ok(Cause { place, holder })
 }
 
 fn copy_holder(

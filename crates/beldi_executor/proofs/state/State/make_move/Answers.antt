@@ -36,8 +36,8 @@ returns-in-Some c = λ t p q g.
     let o = c.in-Return.outcome in
     let returns = sym c.wants.ensures.effect ∙ c.in-Return.is in
     let can = ap (λ (t : TxId). can_move t r.made a.id a.machine.steps a.machine.effect) (sym g.draft.tx) ∙ c.requires in
-    left_moved d t p q r h a w ws o g returns c.in-Some.ensures can c.leave.new.self c.leave.result
-    (c.leave.ensures t p q g.acts.instance (record h { waiting = ws })
+    left_moved d t p q r h a w ws o g returns c.in-Some.ensures can c.leave-left.new.self c.leave-left.result
+    (c.leave-left.ensures t p q g.acts.instance (record h { waiting = ws })
     (popped_goes d t p q r h a w ws o g returns c.in-Some.ensures)
     (popped_callee d t p q r h a w ws o g returns c.in-Some.ensures))
 
