@@ -16,7 +16,7 @@ use beldi_intent::root_key;
 use beldi_lang::Deployment;
 use beldi_readlog::log_key;
 use beldi_row::{Act, Kind, Row, RowKey, Said, Table, TableErr};
-use beldi_value::{IntentId, Outcome, Owner, Place, Str, TxId, Value};
+use beldi_value::{IntentId, Outcome, Owner, Place, Str, TxId, Value, or_drop};
 use std::alloc::{AllocError, Global};
 
 /// Why the rows could not be read. They are as before.
@@ -87,14 +87,21 @@ fn find_newest<T: Table>(alloc: Global, table: &mut T) -> Result<u32, OpenErr>
     let mut at = RowKey::least(alloc);
     for _ in 0..u64::MAX {
         match next_key(alloc, table, &at) {
-            Ok(None) => return Ok(newest),
+            Ok(None) => {
+                drop(at);
+                return Ok(newest);
+            }
             Ok(Some(key)) => {
                 newest = newest.max(key.ticket());
                 at = key;
             }
-            Err(why) => return Err(why),
+            Err(why) => {
+                drop(at);
+                return Err(why);
+            }
         }
     }
+    drop(at);
     Err(OpenErr::OutOfMemory)
 }
 
@@ -139,10 +146,13 @@ fn owned_by(
 ) -> Result<Owned, AllocError>
     ensures { IfOk result (λ o. o ≡ record { decision = decision_key_of tx.now; shadow = shadow_key_of home tx.now table item.now; value = value.now }) }
 {
+    let decision = decision_key(alloc, tx)?;
+    let shadow = or_drop!(shadow_key(alloc, home, tx, table, item); decision);
+    let value = or_drop!(value.copy(alloc); decision, shadow);
     Ok(Owned {
-        decision: decision_key(alloc, tx)?,
-        shadow: shadow_key(alloc, home, tx, table, item)?,
-        value: value.copy(alloc)?,
+        decision,
+        shadow,
+        value,
     })
 }
 
@@ -219,7 +229,8 @@ fn next_seen<T: Table>(
         None => Ok(None),
         Some((key, row)) => {
             let owned = write_row(alloc, code, key, row, text)?;
-            Ok(Some((key.copy(alloc)?, owned)))
+            let key = or_drop!(key.copy(alloc); owned);
+            Ok(Some((key, owned)))
         }
     }
 }
@@ -260,7 +271,7 @@ fn cell_value<T: Table>(
 ) -> Result<Value, OpenErr>
     ensures { Reads (λ m v. v ≡ value_in (map.get m key) value) (T.state table.old) (T.state table.new) result }
 {
-    let said = table.act(key, Act::Look, now)?;
+    let said = or_drop!(table.act(key, Act::Look, now); value);
     match says_value(alloc, said, value) {
         Ok(value) => Ok(value),
         Err(_) => Err(OpenErr::OutOfMemory),
@@ -283,8 +294,15 @@ fn owned_value<T: Table>(
     } = owned;
     match is_committed(table, decision, now) {
         Ok(true) => cell_value(alloc, table, shadow, value, now),
-        Ok(false) => Ok(value),
-        Err(why) => Err(why),
+        Ok(false) => {
+            drop(shadow);
+            Ok(value)
+        }
+        Err(why) => {
+            drop(shadow);
+            drop(value);
+            Err(why)
+        }
     }
 }
 
@@ -327,7 +345,10 @@ fn next_line<T: Table>(
         Ok(None) => Ok(None),
         Ok(Some((key, owned))) => match write_owned(alloc, code, table, &key, owned, now, text) {
             Ok(()) => Ok(Some(key)),
-            Err(why) => Err(why),
+            Err(why) => {
+                drop(key);
+                Err(why)
+            }
         },
         Err(why) => Err(why),
     }
@@ -359,8 +380,17 @@ fn last_kind(alloc: Global, kind: &Kind) -> Kind
 fn past_others(alloc: Global, key: RowKey) -> RowKey
     ensures { Past key result }
 {
+    if let Kind::Data { .. } = key.kind() {
+        return key;
+    }
     let last = RowKey::new(key.home(), last_kind(alloc, key.kind()));
-    if last < key { key } else { last }
+    if last < key {
+        drop(last);
+        key
+    } else {
+        drop(key);
+        last
+    }
 }
 
 /// The listing of tables. Rows of other kinds than items' are skipped, kind by kind. Where a transaction owns an item, the rows
@@ -377,11 +407,20 @@ pub fn list_tables<T: Table>(
     let mut at = past_others(alloc, RowKey::least(alloc));
     for _ in 0..u64::MAX {
         match next_line(alloc, code, table, &at, now, &mut text) {
-            Ok(None) => return Ok(text),
+            Ok(None) => {
+                drop(at);
+                return Ok(text);
+            }
             Ok(Some(key)) => at = past_others(alloc, key),
-            Err(why) => return Err(why),
+            Err(why) => {
+                drop(at);
+                drop(text);
+                return Err(why);
+            }
         }
     }
+    drop(at);
+    drop(text);
     Err(OpenErr::OutOfMemory)
 }
 
