@@ -1,13 +1,15 @@
 // What an event asks of the table, and what follows of what the table told. Nothing here touches a table.
-ghost use Rattle.std.specs.Prelude.{◌≡◌, ◌++◌, ◌+◌, ◌-◌, ◌≤◌, ◌<◌, ◌^◌, if◌then◌else◌, Ok, Some, None, IfOk, OnErr, IsSome, option_to_list};
+ghost use Rattle.std.specs.Prelude.{◌≡◌, ◌++◌, ◌+◌, ◌-◌, ◌≤◌, ◌<◌, ◌^◌, if◌then◌else◌, Ok, Some, None, IfOk, OnOk, OnErr, IsSome, option_to_list};
 ghost use Rattle.std.specs.Option.{option_map};
 ghost use Rattle.std.specs.FinMap as map;
 ghost use Rattle.beldi_walk.specs.Query.{told_of};
+ghost use Rattle.beldi_intent.specs.Intent.{bind_asks};
 ghost use Rattle.beldi_step.specs.declared.event.Event.TheVariants as events;
+ghost use Rattle.beldi_step.specs.declared.run.Wait.TheVariants as waits;
 ghost use Rattle.beldi_tree.specs.declared.deployment.Deployment.{Deployment};
-ghost use Rattle.beldi_step.specs.Host.{collected as collected_of, passed, Core, Followed, acted as acted_by, after_turn as after_turn_of, may_start as may_start_of, started, at_once, crash_plan, tick_plan, new_run as new_run_of, entry_of as entry_by, no_run as no_run_of, refused, refused_by, ticket_next, unbound};
+ghost use Rattle.beldi_step.specs.Host.{collected as collected_of, launched, passed, Core, Followed, acted as acted_by, after_turn as after_turn_of, may_start as may_start_of, started, at_once, asks, crash_plan, tick_plan, new_run as new_run_of, entry_of as entry_by, no_run as no_run_of, refused, refused_by, ticket_next, unbound};
 ghost use Rattle.beldi_core.specs.declared.events.Planned.TheVariants as planned;
-ghost use Rattle.beldi_core.specs.Parts.{as_seen, core_in, Planned as IsPlanned, PlannedOf, Ready, HasPlace, event_of, base, BoundBy, Copied, TellsTurn, acted_unless, mark_told, turn_event, turn_pending};
+ghost use Rattle.beldi_core.specs.Parts.{as_seen, core_in, Planned as IsPlanned, PlannedBy, PlannedOf, Ready, HasPlace, event_of, base, BoundBy, Copied, TellsTurn, acted_unless, mark_told, turn_event, turn_pending};
 
 use crate::host_core::HostCore;
 use crate::runs::{Copies, asked};
@@ -17,7 +19,7 @@ use beldi_intent::{Binding, bind_query, bind_told, issue_query, issue_told};
 use beldi_lang::Deployment;
 use beldi_row::{RowKey, TableErr};
 use beldi_step::{Event, Mark, Run, RunAt, Seen, TurnSays, Wait};
-use beldi_value::{Apart, IntentId, Outcome, Value};
+use beldi_value::{Apart, IntentId, Outcome, Value, or_drop};
 use beldi_walk::{Heard, Query};
 use std::alloc::{AllocError, Global};
 
@@ -160,15 +162,17 @@ fn write(book: &mut Book, entry: Option<Entry>)
 }
 
 // The answer to a turn that was made, which started this run.
-fn acted(
-    id: IntentId,
-    mark: Option<Mark>,
-    over: bool,
-    reply: Option<Apart<Outcome>>,
-    started: Option<u64>,
-) -> Seen
-    ensures { result ≡ acted_by id mark over reply started }
+fn acted(id: IntentId, says: TurnSays, started: Option<u64>) -> Seen
+    ensures { result ≡ acted_by id says.mark says.over says.reply started }
 {
+    let TurnSays {
+        mark,
+        over,
+        starts: _,
+        wait,
+        reply,
+    } = says;
+    drop(wait);
     let reply = match reply {
         Some(outcome) => Some((id.ticket, outcome)),
         None => None,
@@ -185,16 +189,18 @@ fn acted(
 #[inline(always)]
 fn acted_if(
     id: IntentId,
-    mark: Option<Mark>,
-    over: bool,
-    reply: Option<Apart<Outcome>>,
+    says: TurnSays,
     started: Result<Option<u64>, AllocError>,
 ) -> Result<Seen, AllocError>
-    ensures { result ≡ acted_unless id mark over reply started }
+    ensures { result ≡ acted_unless id says.mark says.over says.reply started }
 {
     match started {
-        Ok(started) => Ok(acted(id, mark, over, reply, started)),
-        Err(why) => Err(why),
+        Ok(started) => Ok(acted(id, says, started)),
+        Err(why) => {
+            drop(id);
+            drop(says);
+            Err(why)
+        }
     }
 }
 
@@ -292,7 +298,6 @@ impl HostCore {
         Ok(Planned::Asks(query, Pending::Ic))
     }
 
-    // A request has its run's place while it waits for its answer.
     fn plan_request(
         &mut self,
         code: &Deployment,
@@ -304,16 +309,47 @@ impl HostCore {
         ensures { PlannedOf code.now (events.Request ticket func args) (core_in self.old) (core_in self.new) self.new.book.spare result }
     {
         if ticket == 0 || ticket > self.newest {
+            drop(args);
             return Ok(Planned::Now(Immediate::Unknown(ticket)));
         }
         if self.runs.len() >= MOST_RUNS {
+            drop(args);
             return Ok(Planned::Now(Immediate::Crowded));
         }
-        self.book.reserve()?;
-        let query = bind_query(self.alloc, ticket, func, args.copy(self.alloc)?)?;
-        let run = self.new_run(code, IntentId::root(self.alloc, ticket), func)?;
-        self.runs.start(self.alloc, run)?;
+        self.ask_request(code, ticket, func, args)
+    }
+
+    // A request has its run's place while it waits for its answer.
+    fn ask_request(
+        &mut self,
+        code: &Deployment,
+        ticket: u32,
+        func: u16,
+        args: Value,
+    ) -> Result<Planned, AllocError>
+        requires given { self.old.runs.given < self.old.taken }
+        ensures { PlannedBy code.now (events.Request ticket func args) (core_in self.old) (core_in self.new) self.new.book.spare (asks (bind_asks ticket func args)) result }
+    {
+        let query = or_drop!(self.request_query(ticket, func, &args); args);
+        let run =
+            or_drop!(self.new_run(code, IntentId::root(self.alloc, ticket), func); args, query);
+        or_drop!(self.runs.start(self.alloc, run); args, query);
         Ok(Planned::Asks(query, Pending::Request { ticket, func, args }))
+    }
+
+    // What a request asks. A place in the book is taken for its entry.
+    fn request_query(
+        &mut self,
+        ticket: u32,
+        func: u16,
+        args: &Value,
+    ) -> Result<Apart<Query>, AllocError>
+        ensures query { IfOk result (λ q. q ≡ bind_asks ticket func args.now) }
+        ensures room { OnOk result (1 ≤ self.new.book.spare) }
+        ensures core { core_in self.new ≡ core_in self.old }
+    {
+        self.book.reserve()?;
+        bind_query(self.alloc, ticket, func, args.copy(self.alloc)?)
     }
 
     // A run of an intent, which may act for the deployment's life from now on.
@@ -465,10 +501,12 @@ impl HostCore {
                 })
             }
             Ok(binding) => {
+                drop(args);
                 self.runs.withdraw();
                 Ok(not_bound(ticket, binding))
             }
             Err(why) => {
+                drop(args);
                 self.runs.withdraw();
                 Err(why)
             }
@@ -504,18 +542,20 @@ impl HostCore {
         requires given { self.old.runs.given < self.old.taken }
         ensures { TellsTurn (core_in self.old) run copies says (core_in self.new) result }
     {
-        match copy_entry(self.alloc, &copies.id, &says.mark) {
+        let Copies { id, callee } = copies;
+        match copy_entry(self.alloc, &id, &says.mark) {
             Ok(entry) => {
                 write(&mut self.book, entry);
-                let seen = self.after_turn(copies.callee, copies.id, says);
+                let seen = self.after_turn(callee, id, says);
                 if seen.is_err() {
                     self.runs.remove(run);
                 }
                 seen
             }
             Err(why) => {
+                drop(callee);
                 self.runs.remove(run);
-                write(&mut self.book, entry_if(copies.id, says.mark));
+                write(&mut self.book, entry_if(id, told_mark(Ok(says))));
                 Err(why)
             }
         }
@@ -527,36 +567,53 @@ impl HostCore {
         &mut self,
         callee: Option<Apart<Run>>,
         id: IntentId,
-        says: TurnSays,
+        mut says: TurnSays,
     ) -> Result<Seen, AllocError>
         requires given { self.old.runs.given < self.old.taken }
         ensures ok { IfOk result (λ x. (core_in self.new, x) ≡ after_turn_of (core_in self.old) callee id says says.wait) }
         ensures err { OnErr result (core_in self.new ≡ core_in self.old) }
     {
-        let TurnSays {
-            mark,
-            over,
-            starts,
-            wait,
-            reply,
-        } = says;
-        match wait {
+        match says.wait.take() {
             None => {
-                let started = self.may_start(starts, callee);
-                acted_if(id, mark, over, reply, started)
+                let started = self.may_start(says.starts, callee);
+                acted_if(id, says, started)
             }
-            Some(Wait::Held(owner)) => Ok(Seen::Held(owner)),
-            Some(Wait::Result(awaited)) => {
-                if self.runs.has_run(awaited.get()) {
-                    return Ok(Seen::NotYet(awaited));
-                }
-                if self.runs.len() >= MOST_RUNS {
-                    return Ok(Seen::Crowded);
-                }
-                let started = self.start(callee);
-                acted_if(id, mark, over, reply, started)
+            Some(Wait::Held(owner)) => {
+                drop(callee);
+                drop(id);
+                drop(says);
+                Ok(Seen::Held(owner))
             }
+            Some(Wait::Result(awaited)) => self.after_call(awaited, callee, id, says),
         }
+    }
+
+    // .. where the run waits for what it calls.
+    fn after_call(
+        &mut self,
+        awaited: Apart<IntentId>,
+        callee: Option<Apart<Run>>,
+        id: IntentId,
+        says: TurnSays,
+    ) -> Result<Seen, AllocError>
+        requires given { self.old.runs.given < self.old.taken }
+        ensures ok { IfOk result (λ x. (core_in self.new, x) ≡ after_turn_of (core_in self.old) callee id says (Some (waits.Result awaited))) }
+        ensures err { OnErr result (core_in self.new ≡ core_in self.old) }
+    {
+        let seen = if self.runs.has_run(awaited.get()) {
+            Seen::NotYet(awaited)
+        } else if self.runs.len() >= MOST_RUNS {
+            drop(awaited);
+            Seen::Crowded
+        } else {
+            drop(awaited);
+            let started = self.start(callee);
+            return acted_if(id, says, started);
+        };
+        drop(callee);
+        drop(id);
+        drop(says);
+        Ok(seen)
     }
 
     // Starts a run of what was called, if one may start, where that has no live run and there is a place for one.
@@ -598,7 +655,7 @@ impl HostCore {
     {
         match collect_told(self.alloc, heard)? {
             Found::Round => {
-                self.cursor = RowKey::least(self.alloc);
+                self.go_to(RowKey::least(self.alloc));
                 Ok(Seen::Round)
             }
             Found::Passed(key) => Ok(self.pass(key)),
@@ -606,10 +663,17 @@ impl HostCore {
         }
     }
 
+    // The intent collector stands at this key.
+    fn go_to(&mut self, key: RowKey)
+        ensures { core_in self.new ≡ record (core_in self.old) { cursor = key } }
+    {
+        self.cursor = key;
+    }
+
     fn pass(&mut self, key: RowKey) -> Seen
         ensures { (core_in self.new, result) ≡ passed (core_in self.old) key }
     {
-        self.cursor = key;
+        self.go_to(key);
         Seen::Passed
     }
 
@@ -626,15 +690,28 @@ impl HostCore {
         ensures err { OnErr result (core_in self.new ≡ core_in self.old) }
     {
         if self.runs.has_run(&id) {
+            drop(id);
             return Ok(self.pass(key));
         }
         if self.runs.len() >= MOST_RUNS {
+            drop(id);
+            drop(key);
             return Ok(Seen::Crowded);
         }
-        let name = id.copy(self.alloc)?;
-        let run = self.new_run(code, id, func)?;
-        let number = self.runs.start(self.alloc, run)?;
-        self.cursor = key;
+        let seen = or_drop!(self.launch_new(code, id, func); key);
+        self.go_to(key);
+        Ok(seen)
+    }
+
+    // Launches a run of an intent.
+    fn launch_new(&mut self, code: &Deployment, id: IntentId, func: u16) -> Result<Seen, AllocError>
+        requires given { self.old.runs.given < self.old.taken }
+        ensures ok { IfOk result (λ x. (core_in self.new, x) ≡ launched code.now (core_in self.old) id func) }
+        ensures err { OnErr result (core_in self.new ≡ core_in self.old) }
+    {
+        let name = or_drop!(id.copy(self.alloc); id);
+        let run = or_drop!(self.new_run(code, id, func); name);
+        let number = or_drop!(self.runs.start(self.alloc, run); name);
         Ok(Seen::Launched {
             run: number,
             id: name,

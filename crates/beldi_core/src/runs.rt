@@ -12,7 +12,7 @@ use beldi_book::Book;
 use beldi_lang::Deployment;
 use beldi_step::{Mark, Run, TurnSays};
 use beldi_turn::{ask, callee, told};
-use beldi_value::{Apart, IntentId};
+use beldi_value::{Apart, IntentId, or_drop};
 use beldi_walk::{Heard, Query};
 use std::alloc::{AllocError, Global};
 use std::collections::BTreeMap;
@@ -156,8 +156,8 @@ pub fn asked(
 {
     book.reserve()?;
     let id = run.id.copy(alloc)?;
-    let callee = callee(alloc, run)?;
-    let query = ask(alloc, run)?;
+    let callee = or_drop!(callee(alloc, run); id);
+    let query = or_drop!(ask(alloc, run); id, callee);
     Ok((query, Copies { id, callee }))
 }
 
