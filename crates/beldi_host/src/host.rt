@@ -7,7 +7,7 @@ use beldi_check::Checked;
 use beldi_core::{HostCore, Pending, Planned, Runs};
 use beldi_row::{Act, RowKey, Table};
 use beldi_step::{Event, Seen};
-use beldi_value::Str;
+use beldi_value::{Str, or_drop};
 use beldi_walk::{Heard, Query};
 use std::alloc::{AllocError, Global};
 
@@ -70,11 +70,9 @@ impl<T: Table> Host<T> {
         ensures table { result ≡ self.table }
         ensures stands { IsRight self → RowsStandFor self.code (core_of self).book (T.state result).rows }
     {
-        let Host {
-            code: _,
-            core: _,
-            table,
-        } = self;
+        let Host { code, core, table } = self;
+        drop(code);
+        drop(core);
         table
     }
 
@@ -139,7 +137,7 @@ impl<T: Table> Host<T> {
             &mut self.table,
             self.core.now,
         )?;
-        out.push_text(text.as_str())?;
+        or_drop!(out.push_text(text.as_str()); text);
         Ok(())
     }
 
@@ -212,7 +210,11 @@ impl<T: Table> Host<T> {
     {
         match query {
             Query::Act(key, act) => self.act(key, act, pending),
-            Query::After(key) => self.look_after(key, pending),
+            Query::After(key) => {
+                let seen = self.look_after(&key, pending);
+                drop(key);
+                seen
+            }
         }
     }
 
@@ -227,12 +229,12 @@ impl<T: Table> Host<T> {
         }
     }
 
-    fn look_after(&mut self, key: RowKey, pending: Pending) -> Result<Seen, AllocError>
+    fn look_after(&mut self, key: &RowKey, pending: Pending) -> Result<Seen, AllocError>
         requires { Ready self.old.code pending (core_of self.old) self.old.core.book.spare }
-        ensures asked { Asked self.old.code pending (core_of self.old) (core_of self.new) (queries.After key) (T.state self.old.table) (T.state self.new.table) result }
+        ensures asked { Asked self.old.code pending (core_of self.old) (core_of self.new) (queries.After key.now) (T.state self.old.table) (T.state self.new.table) result }
         ensures code { self.new.code ≡ self.old.code }
     {
-        match self.table.next(&key) {
+        match self.table.next(key) {
             Ok(found) => self
                 .core
                 .told(self.code.code(), pending, Heard::Found(found)),
