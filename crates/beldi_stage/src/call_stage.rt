@@ -4,6 +4,7 @@ ghost use Rattle.beldi_value.specs.Id.{child_of, has_callees};
 ghost use Rattle.beldi_walk.specs.Query.{told_of};
 ghost use Rattle.beldi_invokelog.specs.InvokeLog.{back_of};
 ghost use Rattle.beldi_intent.specs.Intent.{is_did as is_did_of};
+ghost use Rattle.beldi_lang.specs.declared.effect.Effect.TheVariants as effects;
 ghost use Rattle.beldi_step.specs.Run.{mark_of, is_waited as is_waited_of, is_inherited as is_inherited_of, step_mark as step_mark_of, close_asks, call_here_says, async_here_asks, async_here_says, tell_asks, back_to_asks, back_says, close_says, callee_body as callee_body_of};
 
 use crate::stage::{look, mark_if, place_of};
@@ -15,7 +16,7 @@ use beldi_invokelog::{Back, back_told, invoke_key, registered_query};
 use beldi_lang::{Answer, Effect};
 use beldi_row::{Act, Body};
 use beldi_step::{Mark, RunTx, Says, Stage, Wait};
-use beldi_value::{Apart, Caller, IntentId, Outcome, TxId, Value};
+use beldi_value::{Apart, Caller, IntentId, Outcome, TxId, Value, or_drop};
 use beldi_walk::{Heard, Query};
 use std::alloc::{AllocError, Global};
 
@@ -58,14 +59,16 @@ pub fn callee_body(
 ) -> Result<Body, AllocError>
     ensures { IfOk result (λ b. b ≡ callee_body_of id.now home step func args.now tx waits) }
 {
+    let place = or_drop!(place_of(alloc, id, step); tx);
+    let args = or_drop!(args.copy(alloc); place, tx);
     let from = Caller {
-        place: place_of(alloc, id, step)?,
+        place,
         func: home,
         waits,
     };
     Ok(Body {
         func,
-        args: args.copy(alloc)?,
+        args,
         tx,
         from: Some(from),
     })
@@ -82,15 +85,33 @@ pub(crate) fn async_here(
 ) -> Result<Apart<Query>, AllocError>
     ensures { IfOk result (λ q. q ≡ async_here_asks id.now func step effect.now at) }
 {
-    let Effect::Async { func: callee, args } = effect else {
-        return look(alloc, id, func);
-    };
+    match effect {
+        Effect::Async { func: callee, args } => async_to(alloc, id, func, step, *callee, args, at),
+        _ => look(alloc, id, func),
+    }
+}
+
+// The same, where it goes to this function.
+fn async_to(
+    alloc: Global,
+    id: &IntentId,
+    func: u16,
+    step: u32,
+    callee: u16,
+    args: &Value,
+    at: AsyncAt,
+) -> Result<Apart<Query>, AllocError>
+    ensures { IfOk result (λ q. q ≡ async_here_asks id.now func step (effects.Async callee args.now) at) }
+{
     if !id.has_callees() {
         return look(alloc, id, func);
     }
     let place = CallPlace::new(place_of(alloc, id, step)?);
-    let body = callee_body(alloc, id, func, step, *callee, args, None, false)?;
-    async_query(alloc, func, &place, &body, at)
+    let body = or_drop!(callee_body(alloc, id, func, step, callee, args, None, false); place);
+    let asked = async_query(alloc, func, &place, &body, at);
+    drop(body);
+    drop(place);
+    asked
 }
 
 // Asks for the call to be marked as registered.
@@ -121,7 +142,7 @@ pub(crate) fn back_query(
     match (caller, effect) {
         (Some(caller), Effect::Return(outcome)) => {
             let key = invoke_key(caller.func, caller.place.copy(alloc)?);
-            let outcome = outcome.copy(alloc)?;
+            let outcome = or_drop!(outcome.copy(alloc); key);
             Query::act(alloc, key, Act::CallBack { outcome })
         }
         _ => look(alloc, id, func),
@@ -142,7 +163,7 @@ pub(crate) fn close_query(
         return look(alloc, id, func);
     };
     let key = intent_key(id.copy(alloc)?, func);
-    let outcome = outcome.copy(alloc)?;
+    let outcome = or_drop!(outcome.copy(alloc); key);
     let stamp = !is_inherited(tx);
     Query::act(alloc, key, Act::End { outcome, stamp })
 }
