@@ -1,7 +1,7 @@
 // The stages of an operation inside a transaction, and of its end: what they ask, and what they say of what they were told.
 ghost use Rattle.std.specs.Prelude.{◌≡◌, ℕ, IfOk, IfErr};
 ghost use Rattle.beldi_walk.specs.Query.{told_of};
-ghost use Rattle.beldi_txn.specs.Tx.{tx_goes};
+ghost use Rattle.beldi_txn.specs.Tx.{tx_asks, tx_goes};
 ghost use Rattle.beldi_txn.specs.End.{end_goes, decide_goes, first_visit, moved};
 ghost use Rattle.beldi_txn.specs.declared.end.EndGoes.TheVariants as ends;
 ghost use Rattle.beldi_step.specs.Run.{mark_of, place_of as place_at, own_tx as own_tx_of, tx_at as tx_at_of, tx_here_asks, end_here_asks, put_answer as put_answer_of, tx_says as tx_says_of, tx_here_says, visit_says as visit_says_of, decided_says, ending_says};
@@ -13,7 +13,7 @@ use beldi_step::{Mark, OpenTx, RunTx, Says, Stage, Wait};
 use beldi_txn::{
     EndGoes, TxAt, TxGoes, Visit, decide_query, decide_told, end_query, end_told, tx_query, tx_told,
 };
-use beldi_value::{Apart, IntentId, TxId};
+use beldi_value::{Apart, IntentId, TxId, or_drop};
 use beldi_walk::{Heard, Query};
 use std::alloc::{AllocError, Global};
 
@@ -59,13 +59,29 @@ pub(crate) fn tx_here(
     match tx {
         Some(RunTx::Own(tx)) => {
             let who = own_tx(alloc, id, func, tx)?;
-            tx_query(alloc, func, place_of(alloc, id, step)?, &who, effect, at)
+            let asked = tx_ask(alloc, id, func, step, effect, at, &who);
+            drop(who);
+            asked
         }
-        Some(RunTx::Inherited(tx)) => {
-            tx_query(alloc, func, place_of(alloc, id, step)?, tx, effect, at)
-        }
+        Some(RunTx::Inherited(tx)) => tx_ask(alloc, id, func, step, effect, at, tx),
         None => look(alloc, id, func),
     }
+}
+
+// The same, as this transaction.
+fn tx_ask(
+    alloc: Global,
+    id: &IntentId,
+    func: u16,
+    step: u32,
+    effect: &Effect,
+    at: &TxAt,
+    who: &TxId,
+) -> Result<Apart<Query>, AllocError>
+    ensures { IfOk result (λ q. q ≡ tx_asks func (place_at id.now step) who.now effect.now at.now) }
+{
+    let place = place_of(alloc, id, step)?;
+    tx_query(alloc, func, place, who, effect, at)
 }
 
 // Asks that the decision of a transaction is kept.
@@ -141,8 +157,9 @@ fn tx_turn(
     ensures { IfOk result (λ s. s ≡ tx_says_of at.now (tx_goes (place_at id.now step) begin effect.now at.now (told_of heard.entry))) }
 {
     let place = place_of(alloc, id, step)?;
-    let goes = tx_told(alloc, &place, begin, effect, at, heard)?;
-    tx_says(alloc, at, goes)
+    let goes = tx_told(alloc, &place, begin, effect, at, heard);
+    drop(place);
+    tx_says(alloc, at, goes?)
 }
 
 fn tx_says(alloc: Global, at: &TxAt, goes: TxGoes) -> Result<Says, AllocError>
@@ -238,15 +255,24 @@ fn hear_visit(
     ensures { IfOk result (λ s. s ≡ visit_says_of commit visit (end_goes (own_tx_of id.now func tx.now) step commit visit.way visit.at (told_of heard.entry))) }
 {
     let who = own_tx(alloc, id, func, tx)?;
-    match end_told(alloc, &who, step, commit, visit.get(), heard)? {
+    let goes = end_told(alloc, &who, step, commit, visit.get(), heard);
+    drop(who);
+    let goes = or_drop!(goes; visit);
+    Ok(visited(commit, visit, goes))
+}
+
+fn visited(commit: bool, visit: Apart<Visit>, goes: EndGoes) -> Says
+    ensures { result ≡ visit_says_of commit visit goes }
+{
+    match goes {
         EndGoes::Done => {
             drop(visit);
-            Ok(Says::Answers(Answer::Done, None))
+            Says::Answers(Answer::Done, None)
         }
         goes => {
             let mut visit = visit;
             drop(visit.get_mut().go(commit, goes));
-            Ok(Says::On(Stage::End(visit), None))
+            Says::On(Stage::End(visit), None)
         }
     }
 }
