@@ -8,6 +8,7 @@ ghost use Rattle.beldi_row.specs.declared.act.Act.TheVariants as acts;
 ghost use Rattle.beldi_walk.specs.declared.query.Query.TheVariants as queries;
 ghost use Rattle.beldi_call.specs.Call.{call_asks};
 ghost use Rattle.beldi_daal.specs.Cell.{read_goes, cell_key as cell_key_of};
+ghost use Rattle.beldi_daal.specs.declared.cell.CellOp.TheVariants as ops;
 ghost use Rattle.beldi_readlog.specs.ReadLog.{given_of, kept_of, log_key as log_key_of};
 ghost use Rattle.beldi_intent.specs.Intent.{look_asks};
 ghost use Rattle.beldi_step.specs.declared.run.Stage.TheVariants as stages;
@@ -31,7 +32,7 @@ use beldi_readlog::{given_told, kept_told, log_key};
 use beldi_row::{Act, Note, Said};
 use beldi_step::{Begun, Mark, RunTx, Says, Stage, Wait};
 use beldi_txn::TxAt;
-use beldi_value::{Apart, Caller, Cause, IntentId, Owner, Place, Str, Value};
+use beldi_value::{Apart, Caller, Cause, IntentId, Owner, Place, Rel, Str, Value, or_drop};
 use beldi_walk::{Heard, Query};
 use std::alloc::{AllocError, Global};
 use std::mem::replace;
@@ -80,6 +81,23 @@ fn answer_noted(effect: &Effect, note: &Note) -> Option<Answer>
     }
 }
 
+fn test_and_write(
+    alloc: Global,
+    rel: Rel,
+    operand: &Value,
+    value: &Value,
+) -> Result<CellOp, AllocError>
+    ensures { IfOk result (λ o. o ≡ ops.Cond rel operand.now value.now) }
+{
+    let operand = operand.copy(alloc)?;
+    let value = or_drop!(value.copy(alloc); operand);
+    Ok(CellOp::Cond {
+        rel,
+        operand,
+        value,
+    })
+}
+
 // Asks for what an operation on an item comes to next, outside a transaction.
 fn put_here(
     alloc: Global,
@@ -103,13 +121,7 @@ fn put_here(
             operand,
             value,
         } => {
-            let operand = operand.copy(alloc)?;
-            let value = value.copy(alloc)?;
-            let op = CellOp::Cond {
-                rel: *rel,
-                operand,
-                value,
-            };
+            let op = test_and_write(alloc, *rel, operand, value)?;
             put_query(alloc, id, func, step, *table, key, op, at)
         }
         Effect::Lock { table, key } => {
@@ -135,9 +147,9 @@ fn put_query(
 ) -> Result<Apart<Query>, AllocError>
     ensures { IfOk result (λ q. q ≡ put_asks id.now func step at (Some (record { table = table; key = key.now; op = op }))) }
 {
-    let row = cell_key(alloc, func, table, key)?;
-    let place = place_of(alloc, id, step)?;
-    let who = Owner::Intent(id.copy(alloc)?);
+    let row = or_drop!(cell_key(alloc, func, table, key); op);
+    let place = or_drop!(place_of(alloc, id, step); row, op);
+    let who = Owner::Intent(or_drop!(id.copy(alloc); place, row, op));
     write_query(alloc, row, place, who, op, at)
 }
 
@@ -159,7 +171,7 @@ fn keep_query(
     ensures { IfOk result (λ q. q ≡ queries.Act (log_key_of func (place_at id.now step)) (acts.PutRead value.now)) }
 {
     let place = place_of(alloc, id, step)?;
-    let value = value.copy(alloc)?;
+    let value = or_drop!(value.copy(alloc); place);
     Query::act(alloc, log_key(func, place), Act::PutRead { value })
 }
 
@@ -293,7 +305,9 @@ fn hear_walk(
         Ok(id) => Some(Owner::Intent(id)),
         Err(_) => return Err(None),
     };
-    match read_told(alloc, &who, heard) {
+    let told = read_told(alloc, &who, heard);
+    drop(who);
+    match told {
         Err(_) => Err(None),
         Ok(ReadGoes::On) => Ok(Says::On(Stage::Walk, None)),
         Ok(ReadGoes::Got(value)) => Ok(Says::On(
@@ -316,9 +330,9 @@ fn hear_keep(
     ensures ok { IfOk result (λ s. s ≡ keep_says seen (kept_of value.now (told_of heard.entry))) }
     ensures err { IfErr result (λ e. e ≡ mark_of (keep_says seen (kept_of value.now (told_of heard.entry)))) }
 {
-    let mark = mark_if(is_added(&heard), Mark::Read(seen));
+    let added = is_added(&heard);
     match kept_told(alloc, value, heard) {
-        Err(_) => Err(mark),
+        Err(_) => Err(mark_if(added, Mark::Read(seen))),
         Ok(kept) => Ok(Says::Answers(
             Answer::Value(kept.value),
             mark_if(kept.added, Mark::Read(seen)),
