@@ -8,7 +8,7 @@ use beldi_lang::{Answer, Machine};
 use beldi_row::Body;
 use beldi_txn::{TxAt, Visit};
 use beldi_value::{
-    Apart, Caller, Cause, IntentId, Outcome, Owner, Place, TxId, Value, copy_holder,
+    Apart, Caller, Cause, IntentId, Outcome, Owner, Place, TxId, Value, copy_holder, or_drop,
 };
 use std::alloc::{AllocError, Global};
 
@@ -124,10 +124,11 @@ impl Mark {
             Mark::Read(seen) => Ok(Mark::Read(*seen)),
             Mark::Step => Ok(Mark::Step),
             Mark::Tx => Ok(Mark::Tx),
-            Mark::Try { place, holder } => Ok(Mark::Try {
-                place: Apart::new(alloc, place.get().copy(alloc)?)?,
-                holder: copy_holder(alloc, holder)?,
-            }),
+            Mark::Try { place, holder } => {
+                let place = Apart::new(alloc, place.get().copy(alloc)?)?;
+                let holder = or_drop!(copy_holder(alloc, holder); place);
+                Ok(Mark::Try { place, holder })
+            }
         }
     }
 }

@@ -1,5 +1,5 @@
 -- A run that was told: by what its stage says, or by the body that it finds.
-use Rattle.std.proofs.Common.{◌≡◌, ℕ, Bool, true, false, Option, Some, None, is_some, Result, Ok, Err, IfOk, refl, ap, ap₂, sym, ◌∙◌, subst, Bor}
+use Rattle.std.proofs.Common.{◌≡◌, ℕ, Bool, true, false, Option, Some, None, is_some, Result, Ok, Err, IfOk, refl, ap, sym, ◌∙◌, subst, Bor}
 use Rattle.std.specs.Prelude.{option_copied}
 use Rattle.std.specs.declared.alloc.AllocError.{AllocError}
 use Rattle.beldi_tree.specs.declared.deployment.Deployment.{Deployment}
@@ -123,9 +123,10 @@ begin_so d r s z t o b (Ok y) rest own is h =
 begin_so d r s z t o b (Err e) rest own is h = tt
 
 -- .. and it is in the transaction of its body
-pub begun_in_tx : (d : Deployment) (r z : Run) (b : Body) (f : Option (Bor Func)) (g : Option Func) (inherited : Bool) (m : Machine) (o : Option RunTx) (x : Bool) (p : TurnSays) → option_copied f ≡ g → is_some f ≡ true → inherited ≡ is_some b.tx
-    → m ≡ begun d r.func b.args inherited → o ≡ within b.tx → p ≡ plain_says None x → ((at : RunAt) (mark : Option Mark) → followed z (plain_says mark x) ≡ goes_to d (record r { at = at }) (m, o) b.from mark)
-    → (at : RunAt) → followed z p ≡ begin_in d (record r { at = at }) g (Some b)
-begun_in_tx d r z b None g inherited m o x p copied there is made held says h at = cc
-begun_in_tx d r z b (Some f) g inherited m o x p copied there is made held says h at =
-    ap (followed z) says ∙ h at None ∙ ap₂ (λ n q. goes_to d (record r { at = at }) (n, q) b.from None) (made ∙ ap (begun d r.func b.args) is) held ∙ ap (λ u. begin_in d (record r { at = at }) u (Some b)) copied
+pub begun_in_tx : (d : Deployment) (r z : Run) (b : Body) (f : Option (Bor Func)) (g : Option Func) (n : Begun) (x : Result TurnSays AllocError) → option_copied f ≡ g → is_some f ≡ true
+    → n ≡ record { machine = begun d r.func b.args (is_some b.tx); caller = b.from; tx = within b.tx; stage = Close } → IfOk x (λ y. (at : RunAt) → followed z y ≡ goes_to d (record r { at = at }) (n.machine, n.tx) n.caller None)
+    → IfOk x (λ y. (at : RunAt) → followed z y ≡ begin_in d (record r { at = at }) g (Some b))
+begun_in_tx d r z b f g n (Err e) copied there made h = tt
+begun_in_tx d r z b None g n (Ok y) copied there made h = cc
+begun_in_tx d r z b (Some f) g n (Ok y) copied there made h = λ at.
+    h at ∙ ap (λ (q : Begun). goes_to d (record r { at = at }) (q.machine, q.tx) q.caller None) made ∙ ap (λ u. begin_in d (record r { at = at }) u (Some b)) copied

@@ -1,15 +1,19 @@
 // A run that has begun: its machine and the transaction that it is in, past an answer and past what takes no turn.
-ghost use Rattle.std.specs.Prelude.{◌≡◌, Option, IfOk, OnOk};
-ghost use Rattle.beldi_step.specs.Run.{followed, plain_says, goes_to, takes, at_state, at_once as at_once_of, once as once_of, open_after as open_after_of, within as within_of, answer_at_once as answer_at_once_of};
+ghost use Rattle.std.specs.Prelude.{◌≡◌, Option, is_some, IfOk, OnOk};
+ghost use Rattle.beldi_lang.specs.Machine.{begun as machine_begun};
+ghost use Rattle.beldi_step.specs.Run.{followed, plain_says, goes_to, takes, at_state, at_once as at_once_of, once as once_of, open_after as open_after_of, with_cause, at_stage, within as within_of, answer_at_once as answer_at_once_of};
 ghost use Rattle.beldi_step.specs.declared.run.Mark.{Mark};
 ghost use Rattle.beldi_step.specs.declared.run.Run.{Run};
 ghost use Rattle.beldi_step.specs.declared.run.RunAt.TheVariants as at;
+ghost use Rattle.beldi_step.specs.declared.run.Stage.TheVariants as stages;
 
-use beldi_lang::{Answer, Deployment, Effect};
+use beldi_lang::{Answer, Deployment, Effect, Machine};
+use beldi_row::Body;
 use beldi_stage::{first_stage, place_of};
-use beldi_step::{Begun, OpenTx, RunTx};
-use beldi_value::{Apart, Cause, IntentId, TxId};
+use beldi_step::{Begun, OpenTx, RunTx, Stage};
+use beldi_value::{Apart, Cause, IntentId, TxId, or_drop};
 use std::alloc::{AllocError, Global};
+use std::mem::replace;
 
 // The answer that takes no turn: of a begin, and of an abort.
 fn answer_at_once(
@@ -31,7 +35,7 @@ fn answer_at_once(
 }
 
 // The transaction of a body.
-pub fn within(tx: Option<TxId>) -> Option<RunTx>
+fn within(tx: Option<TxId>) -> Option<RunTx>
     ensures { result ≡ within_of tx }
 {
     match tx {
@@ -50,21 +54,51 @@ fn open_after(
 ) -> Result<(), AllocError>
     ensures { OnOk result (tx.new ≡ open_after_of step effect.now answer.now tx.old) }
 {
-    match effect {
-        Effect::Begin => {
-            *tx = Some(RunTx::Own(OpenTx {
-                begin: step,
-                cause: None,
-            }));
-        }
-        Effect::End { .. } => *tx = None,
-        _ => {
-            if let (Answer::Aborted(cause), Some(RunTx::Own(tx))) = (answer, tx) {
-                tx.cause = Some(cause.copy(alloc)?);
-            }
-        }
+    *tx = match effect {
+        Effect::Begin => Some(RunTx::Own(OpenTx {
+            begin: step,
+            cause: None,
+        })),
+        Effect::End { .. } => None,
+        _ => return keep_cause(alloc, answer, tx),
+    };
+    Ok(())
+}
+
+// The cause of what was aborted in its own one is kept.
+fn keep_cause(alloc: Global, answer: &Answer, tx: &mut Option<RunTx>) -> Result<(), AllocError>
+    ensures { OnOk result (tx.new ≡ with_cause answer.now tx.old) }
+{
+    if let (Answer::Aborted(cause), Some(RunTx::Own(tx))) = (answer, tx) {
+        tx.cause = Some(cause.copy(alloc)?);
     }
     Ok(())
+}
+
+/// A run that has this body, and stands nowhere yet.
+pub fn begun_with(
+    alloc: Global,
+    code: &Deployment,
+    func: u16,
+    body: Body,
+) -> Result<Begun, AllocError>
+    ensures { IfOk result (λ g. g ≡ record { machine = machine_begun code.now func body.args (is_some body.tx); caller = body.from; tx = within_of body.tx; stage = stages.Close }) }
+{
+    let Body {
+        func: _,
+        args,
+        tx,
+        from: caller,
+    } = body;
+    let inherited = tx.is_some();
+    let machine = or_drop!(Machine::new(alloc, code, func, args, inherited); tx, caller);
+    let tx = within(tx);
+    Ok(Begun {
+        machine,
+        caller,
+        tx,
+        stage: Stage::Close,
+    })
 }
 
 // The machine and the transaction that it is in, after an answer.
@@ -77,7 +111,7 @@ pub fn take(
     ensures { OnOk result (begun.new ≡ at_state begun.old (takes code.now begun.old.machine begun.old.tx answer)) }
 {
     let step = begun.machine.steps();
-    open_after(alloc, step, begun.machine.wants(), &answer, &mut begun.tx)?;
+    or_drop!(open_after(alloc, step, begun.machine.wants(), &answer, &mut begun.tx); answer);
     begun.machine.resume(alloc, code, answer)
 }
 
@@ -129,8 +163,15 @@ pub fn go_to(
     match stage {
         None => Ok(true),
         Some(stage) => {
-            begun.stage = stage;
+            stand(begun, stage);
             Ok(false)
         }
     }
+}
+
+/// It stands here from now on.
+pub fn stand(begun: &mut Begun, stage: Stage)
+    ensures { begun.new ≡ at_stage begun.old stage }
+{
+    drop(replace(&mut begun.stage, stage));
 }

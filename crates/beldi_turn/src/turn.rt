@@ -9,14 +9,14 @@ ghost use Rattle.beldi_step.specs.declared.run.Mark.{Mark};
 ghost use Rattle.beldi_step.specs.declared.run.RunAt.{RunAt};
 ghost use Rattle.beldi_step.specs.declared.run.RunAt.TheVariants as at;
 
-use crate::begun::{go_to, take, within};
+use crate::begun::{begun_with, go_to, stand, take};
 use beldi_call::CallAt;
 use beldi_intent::{open_body, register_query};
-use beldi_lang::{Answer, Deployment, Effect, Machine};
+use beldi_lang::{Answer, Deployment, Effect};
 use beldi_row::{Body, IntentRow, Row, Said};
 use beldi_stage::{callee_body, hear, look, stage_query, tx_at};
 use beldi_step::{Begun, Mark, Run, RunAt, Says, Stage, TurnSays};
-use beldi_value::{Apart, IntentId};
+use beldi_value::{Apart, IntentId, or_drop};
 use beldi_walk::{Heard, Query};
 use std::alloc::{AllocError, Global};
 use std::mem::replace;
@@ -132,8 +132,9 @@ fn callee_run(
         drop(at);
         return Ok(None);
     }
+    let id = or_drop!(run.id.child(alloc, step); at);
     let run = Run {
-        id: run.id.child(alloc, step)?,
+        id,
         func,
         deadline: run.deadline,
         at,
@@ -215,19 +216,34 @@ fn begin_body(
     ensures id { run.new.id ≡ run.old.id }
 {
     if code.func_at(run.func).is_none() {
+        drop(body);
         return Ok(plain(None, true));
     }
-    let inherited = body.tx.is_some();
-    let machine = Machine::new(alloc, code, run.func, body.args, inherited)?;
-    let mut begun = Begun {
-        machine,
-        caller: body.from,
-        tx: within(body.tx),
-        stage: Stage::Close,
-    };
-    let over = go_to(alloc, &mut begun, code, &run.id)?;
-    run.at = RunAt::Begins(begun);
-    Ok(plain(None, over))
+    let begun = begun_with(alloc, code, run.func, body)?;
+    enter(alloc, run, code, begun)
+}
+
+// The first effect of its body.
+fn enter(
+    alloc: Global,
+    run: &mut Run,
+    code: &Deployment,
+    begun: Begun,
+) -> Result<TurnSays, AllocError>
+    ensures begun { IfOk result (λ x. (at : RunAt) → followed run.new x ≡ goes_to code.now (record run.old { at = at }) (begun.machine, begun.tx) begun.caller None) }
+    ensures id { run.new.id ≡ run.old.id }
+{
+    let mut begun = begun;
+    match go_to(alloc, &mut begun, code, &run.id) {
+        Ok(over) => {
+            drop(replace(&mut run.at, RunAt::Begins(begun)));
+            Ok(plain(None, over))
+        }
+        Err(error) => {
+            drop(begun);
+            Err(error)
+        }
+    }
 }
 
 fn follow(
@@ -241,12 +257,12 @@ fn follow(
 {
     match says {
         Says::On(stage, mark) => {
-            stand(run, stage);
+            stand_at(run, stage);
             Ok(plain(mark, false))
         }
         Says::Stays => Ok(plain(None, false)),
         Says::Opens(mark) => {
-            stand(run, Stage::Call(CallAt::Look));
+            stand_at(run, Stage::Call(CallAt::Look));
             Ok(TurnSays {
                 mark,
                 over: false,
@@ -283,12 +299,13 @@ fn follow(
     }
 }
 
-fn stand(run: &mut Run, stage: Stage)
+fn stand_at(run: &mut Run, stage: Stage)
     ensures stage { (g : Begun) → run.old.at ≡ at.Begins g → run.new ≡ record run.old { at = at.Begins (at_stage g stage) } }
     ensures id { run.new.id ≡ run.old.id }
 {
-    if let RunAt::Begins(begun) = &mut run.at {
-        begun.stage = stage;
+    match &mut run.at {
+        RunAt::Begins(begun) => stand(begun, stage),
+        _ => drop(stage),
     }
 }
 
@@ -302,6 +319,7 @@ fn go_on(
     ensures id { run.new.id ≡ run.old.id }
 {
     let RunAt::Begins(begun) = &mut run.at else {
+        drop(answer);
         return Ok(true);
     };
     take(alloc, begun, code, answer)?;
