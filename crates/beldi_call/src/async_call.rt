@@ -107,11 +107,13 @@ pub fn async_told(
     match at {
         AsyncAt::Open => {
             let call = invoked_told(alloc, func, heard)?;
-            if call.registered {
-                Ok(AsyncSays::Done)
+            let says = if call.registered {
+                AsyncSays::Done
             } else {
-                Ok(AsyncSays::Opened { first: call.added })
-            }
+                AsyncSays::Opened { first: call.added }
+            };
+            drop(call);
+            Ok(says)
         }
         AsyncAt::Register => Ok(AsyncSays::Going),
         AsyncAt::Note => match back_told(heard) {

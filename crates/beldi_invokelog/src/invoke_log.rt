@@ -209,6 +209,7 @@ pub fn call_back<T: Table>(
     ensures { Answered (back_asks home at.now outcome) now back_of (T.state table.old) (T.state table.new) result }
 {
     let Ok(key) = key_at(alloc, home, at) else {
+        drop(outcome);
         return Err(TableErr::OutOfMemory);
     };
     match table.act(key, Act::CallBack { outcome }, now) {

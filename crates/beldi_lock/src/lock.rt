@@ -5,7 +5,7 @@ ghost use Rattle.beldi_lock.specs.Lock.{lock_first, lockset_key as lockset_key_o
 
 use beldi_daal::{CellOp, WriteAt, WriteGoes, cell_key, write_query, write_told};
 use beldi_row::{Act, Kind, Note, RowKey, Said};
-use beldi_value::{Apart, IntentId, Owner, Place, Str};
+use beldi_value::{Apart, IntentId, Owner, Place, Str, or_drop};
 use beldi_walk::{Heard, Query};
 use std::alloc::{AllocError, Global};
 
@@ -73,11 +73,13 @@ pub fn lock_query(
 {
     match at {
         LockAt::Lockset(begin) => {
-            let row = lockset_key(home, place.intent, begin, table, key.copy(alloc)?);
+            drop(who);
+            let key = or_drop!(key.copy(alloc); place);
+            let row = lockset_key(home, place.intent, begin, table, key);
             Query::act(alloc, row, Act::PutLockset)
         }
         LockAt::Item(at) => {
-            let row = cell_key(alloc, home, table, key)?;
+            let row = or_drop!(cell_key(alloc, home, table, key); place, who);
             write_query(alloc, row, place, who, CellOp::Lock, at)
         }
     }

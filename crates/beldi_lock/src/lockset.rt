@@ -137,7 +137,11 @@ pub fn lockset_next<T: Table>(
     ensures { Answered (lockset_asks home id.now begin (item_lent after.entry)) 0 (lockset_found home id.now begin) (T.state table.old) (T.state table.new) result }
 {
     match after_key(alloc, home, id, begin, after) {
-        Ok(key) => next_after(alloc, table, &key, home, id, begin),
+        Ok(key) => {
+            let item = next_after(alloc, table, &key, home, id, begin);
+            drop(key);
+            item
+        }
         Err(_) => Err(TableErr::OutOfMemory),
     }
 }

@@ -5,7 +5,7 @@ ghost use Rattle.beldi_walk.specs.Walk.{Answered};
 ghost use Rattle.beldi_readlog.specs.ReadLog.{log_key as key_of, given_asks, given_of, keep_asks, kept_of, kept_so};
 
 use beldi_row::{Act, Kind, Row, RowKey, Said, Table, TableErr};
-use beldi_value::{Apart, Place, Value};
+use beldi_value::{Apart, Place, Value, or_drop};
 use beldi_walk::{Heard, Query, Walk};
 use std::alloc::{AllocError, Global};
 
@@ -125,7 +125,7 @@ impl Walk for Keep {
 
     fn ask(&self, alloc: Global) -> Result<Apart<Query>, AllocError> {
         let key = log_key(self.home, self.at.copy(alloc)?);
-        let value = self.value.copy(alloc)?;
+        let value = or_drop!(self.value.copy(alloc); key);
         Query::act(alloc, key, Act::PutRead { value })
     }
 
@@ -163,12 +163,16 @@ pub fn put_once<T: Table>(
 ) -> Result<Kept, TableErr>
     ensures { Answered (keep_asks home at.now value) now (kept_of value) (T.state table.old) (T.state table.new) result }
 {
-    let (Ok(at), Ok(copy)) = (at.copy(alloc), value.copy(alloc)) else {
-        return Err(TableErr::OutOfMemory);
-    };
+    let at = or_drop!(at.copy(alloc); value);
+    let copy = or_drop!(value.copy(alloc); value, at);
     let mut keep = Keep { home, at, value };
-    match keep.turn(alloc, table, now) {
+    let turned = keep.turn(alloc, table, now);
+    drop(keep);
+    match turned {
         Ok(there) => Ok(kept_now(copy, there)),
-        Err(why) => Err(why),
+        Err(why) => {
+            drop(copy);
+            Err(why)
+        }
     }
 }

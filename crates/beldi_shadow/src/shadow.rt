@@ -4,7 +4,7 @@ ghost use Rattle.beldi_shadow.specs.Shadow.{first_read, first_write, read_so as 
 
 use beldi_daal::{CellOp, Item, ReadSays, ReadWalk, WriteSays, WriteWalk};
 use beldi_row::{Note, copy_tx};
-use beldi_value::{Apart, Owner, Place, Str, TxId, Value};
+use beldi_value::{Apart, Owner, Place, Str, TxId, Value, or_drop};
 use beldi_walk::{Heard, Query, Walk};
 use std::alloc::{AllocError, Global};
 
@@ -90,7 +90,7 @@ impl ShadowWrite {
     ) -> Result<ShadowWrite, AllocError>
         ensures { IfOk result (λ w. w ≡ first_write home tx place table key op) }
     {
-        let who = Owner::Tx(copy_tx(&tx, alloc)?);
+        let who = Owner::Tx(or_drop!(copy_tx(&tx, alloc); tx, place, key, op));
         Ok(ShadowWrite {
             walk: WriteWalk::new(home, Item::Shadow { tx, table, key }, place, who, op),
         })
