@@ -280,7 +280,7 @@ fn bind_intent(intent: &mut IntentRow, func: u16, args: Value) -> Change
                 tx: None,
                 from: None,
             };
-            intent.body = Some(body);
+            drop(intent.body.replace(body));
             Change::Bound
         }
         Some(body) => {
@@ -323,7 +323,7 @@ fn end_intent(intent: &mut IntentRow, outcome: Outcome, stamp: bool, now: u64) -
         drop(outcome);
         return Change::Already;
     }
-    intent.outcome = Some(outcome);
+    drop(intent.outcome.replace(outcome));
     if stamp && intent.finish.is_none() {
         intent.finish = Some(now);
     }
