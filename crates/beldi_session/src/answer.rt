@@ -11,7 +11,7 @@ use beldi_book::Entry;
 use beldi_check::Checked;
 use beldi_host::ReplySeen;
 use beldi_step::Seen;
-use beldi_value::{Apart, IntentId, Outcome, Owner, Str, Value};
+use beldi_value::{Apart, IntentId, Outcome, Owner, Str, Value, or_drop};
 use std::alloc::{AllocError, Global};
 
 /// Appends the line of an answer, and a line for the reply that it gives, if any. After an `Err` the text is as before.
@@ -48,10 +48,7 @@ pub fn write_answer(
         } => write_acted(alloc, code, entry, *started, *over, reply, out),
         Seen::Held(owner) => write_held(alloc, owner.get(), out),
         Seen::NotYet(id) => write_waits(alloc, id.get(), out),
-        Seen::Full { live, room } => {
-            let text = format!(in alloc; "full {live} {room}\n")?;
-            out.push_text(text.as_str())
-        }
+        Seen::Full { live, room } => write_full(alloc, *live, *room, out),
         Seen::Worn => out.push_text("worn\n"),
         Seen::Crowded => out.push_text("crowded 1024\n"),
         Seen::Expired => out.push_text("expired\n"),
@@ -74,12 +71,19 @@ fn write_bound(alloc: Global, ticket: u32, run: u64, out: &mut Str) -> Result<()
     ensures err { OnErr result (out.new ≡ out.old) }
 {
     let mut line = Str::with_room(alloc, 32)?;
+    or_drop!(put_bound(ticket, run, &mut line); line);
+    append(line, out)
+}
+
+// Appends the line of a bound ticket. Out of memory, a part of it may be there.
+fn put_bound(ticket: u32, run: u64, line: &mut Str) -> Result<(), AllocError>
+    ensures { OnOk result (line.new ≡ line.old ++ bound_line ticket run) }
+{
     line.push_text("bound ")?;
     line.push_number(u64::from(ticket))?;
     line.push_text(" run ")?;
     line.push_number(run)?;
-    line.push_text("\n")?;
-    out.push_text(line.as_str())
+    line.push_text("\n")
 }
 
 /// Appends a word and a number, as a line. After an `Err` the text is as before.
@@ -93,10 +97,10 @@ pub fn write_numbered(
     ensures err { OnErr result (out.new ≡ out.old) }
 {
     let mut line = Str::with_room(alloc, 32)?;
-    line.push_text(word)?;
-    line.push_number(number)?;
-    line.push_text("\n")?;
-    out.push_text(line.as_str())
+    or_drop!(line.push_text(word); line);
+    or_drop!(line.push_number(number); line);
+    or_drop!(line.push_text("\n"); line);
+    append(line, out)
 }
 
 fn write_outcome(
@@ -110,8 +114,8 @@ fn write_outcome(
     ensures err { OnErr result (out.new ≡ out.old) }
 {
     let mut line = Str::with_room(alloc, 64)?;
-    put_outcome(alloc, word, ticket, outcome, &mut line)?;
-    out.push_text(line.as_str())
+    or_drop!(put_outcome(alloc, word, ticket, outcome, &mut line); line);
+    append(line, out)
 }
 
 // Appends the line of an outcome. Out of memory, a part of it may be there.
@@ -143,11 +147,32 @@ fn write_other(
     ensures err { OnErr result (out.new ≡ out.old) }
 {
     let mut line = Str::from_string(format!(in alloc; "other {ticket} ")?);
-    code.code().write_func(func, &mut line)?;
+    or_drop!(put_request(alloc, code, func, args, &mut line); line);
+    append(line, out)
+}
+
+// Appends a function and its arguments, to the end of the line. Out of memory, a part of it may be there.
+fn put_request(
+    alloc: Global,
+    code: &Checked,
+    func: u16,
+    args: &Value,
+    line: &mut Str,
+) -> Result<(), AllocError>
+    ensures { OnOk result (line.new ≡ line.old ++ (func_text code.now func ++ (codes " " ++ (text_of (datum_of args.now) ++ codes "\n")))) }
+{
+    code.code().write_func(func, line)?;
     line.push_text(" ")?;
-    args.write_json(alloc, &mut line)?;
-    line.push_text("\n")?;
-    out.push_text(line.as_str())
+    args.write_json(alloc, line)?;
+    line.push_text("\n")
+}
+
+fn write_full(alloc: Global, live: u32, room: u32, out: &mut Str) -> Result<(), AllocError>
+    ensures ok { OnOk result (out.new ≡ out.old ++ (codes "full " ++ (decimal live ++ (codes " " ++ (decimal room ++ codes "\n"))))) }
+    ensures err { OnErr result (out.new ≡ out.old) }
+{
+    let text = format!(in alloc; "full {live} {room}\n")?;
+    append(Str::from_string(text), out)
 }
 
 fn write_held(alloc: Global, owner: &Owner, out: &mut Str) -> Result<(), AllocError>
@@ -155,9 +180,9 @@ fn write_held(alloc: Global, owner: &Owner, out: &mut Str) -> Result<(), AllocEr
     ensures err { OnErr result (out.new ≡ out.old) }
 {
     let mut line = Str::from_text(alloc, "held ")?;
-    owner.write(&mut line)?;
-    line.push_text("\n")?;
-    out.push_text(line.as_str())
+    or_drop!(owner.write(&mut line); line);
+    or_drop!(line.push_text("\n"); line);
+    append(line, out)
 }
 
 fn write_waits(alloc: Global, callee: &IntentId, out: &mut Str) -> Result<(), AllocError>
@@ -165,9 +190,9 @@ fn write_waits(alloc: Global, callee: &IntentId, out: &mut Str) -> Result<(), Al
     ensures err { OnErr result (out.new ≡ out.old) }
 {
     let mut line = Str::from_text(alloc, "waits ")?;
-    callee.write(&mut line)?;
-    line.push_text("\n")?;
-    out.push_text(line.as_str())
+    or_drop!(callee.write(&mut line); line);
+    or_drop!(line.push_text("\n"); line);
+    append(line, out)
 }
 
 fn write_launched(alloc: Global, run: u64, id: &IntentId, out: &mut Str) -> Result<(), AllocError>
@@ -175,9 +200,9 @@ fn write_launched(alloc: Global, run: u64, id: &IntentId, out: &mut Str) -> Resu
     ensures err { OnErr result (out.new ≡ out.old) }
 {
     let mut line = Str::from_string(format!(in alloc; "launched run {run} ")?);
-    id.write(&mut line)?;
-    line.push_text("\n")?;
-    out.push_text(line.as_str())
+    or_drop!(id.write(&mut line); line);
+    or_drop!(line.push_text("\n"); line);
+    append(line, out)
 }
 
 fn write_acted(
@@ -193,13 +218,27 @@ fn write_acted(
     ensures err { OnErr result (out.new ≡ out.old) }
 {
     let mut lines = Str::with_room(alloc, 64)?;
-    lines.push_text("acted")?;
-    write_entry(alloc, code, entry, &mut lines)?;
-    write_started(started, &mut lines)?;
-    lines.push_text(if over { " over" } else { "" })?;
-    lines.push_text("\n")?;
-    write_reply(alloc, reply, &mut lines)?;
-    out.push_text(lines.as_str())
+    or_drop!(put_acted(alloc, code, entry, started, over, &mut lines); lines);
+    or_drop!(write_reply(alloc, reply, &mut lines); lines);
+    append(lines, out)
+}
+
+// Appends the line of a turn that was made. Out of memory, a part of it may be there.
+fn put_acted(
+    alloc: Global,
+    code: &Checked,
+    entry: &Option<Entry>,
+    started: Option<u64>,
+    over: bool,
+    line: &mut Str,
+) -> Result<(), AllocError>
+    ensures { OnOk result (line.new ≡ line.old ++ (codes "acted" ++ entry_part code.now entry.now ++ run_part started ++ over_part over ++ codes "\n")) }
+{
+    line.push_text("acted")?;
+    write_entry(alloc, code, entry, line)?;
+    write_started(started, line)?;
+    line.push_text(if over { " over" } else { "" })?;
+    line.push_text("\n")
 }
 
 fn write_entry(
@@ -267,5 +306,15 @@ fn write_no_reply(alloc: Global, ticket: u32, why: &str, out: &mut Str) -> Resul
     ensures err { OnErr result (out.new ≡ out.old) }
 {
     let text = format!(in alloc; "reply {ticket} {why}\n")?;
-    out.push_text(text.as_str())
+    append(Str::from_string(text), out)
+}
+
+// Appends this text. After an `Err` the text before it is as it was.
+fn append(text: Str, out: &mut Str) -> Result<(), AllocError>
+    ensures ok { OnOk result (out.new ≡ out.old ++ text) }
+    ensures err { OnErr result (out.new ≡ out.old) }
+{
+    let appended = out.push_text(text.as_str());
+    drop(text);
+    appended
 }
