@@ -173,8 +173,16 @@ fn test_source<K: Sink>(alloc: Global, sink: &mut K, bytes: &[u8]) -> Ended
     ensures { CheckEnds K.held K.faults (check_at bytes.now) sink.old sink.new result }
 {
     match check_source(alloc, bytes) {
-        Ok(text) => tell_tested(sink, &text),
-        Err(SourceErr::Refused(refusal)) => refuse_source(alloc, sink, &refusal),
+        Ok(text) => {
+            let ended = tell_tested(sink, &text);
+            drop(text);
+            ended
+        }
+        Err(SourceErr::Refused(refusal)) => {
+            let ended = refuse_source(alloc, sink, &refusal);
+            drop(refusal);
+            ended
+        }
         Err(SourceErr::OutOfMemory) => Ended::OutOfMemory,
     }
 }
@@ -196,7 +204,11 @@ fn run_source<K: Sink, T: Table>(alloc: Global, sink: &mut K, table: T, bytes: &
         Ok(Accepted { code, rest, line }) => {
             host(alloc, sink, table, code, line, script_at(bytes, rest))
         }
-        Err(SourceErr::Refused(refusal)) => (refuse_source(alloc, sink, &refusal), table),
+        Err(SourceErr::Refused(refusal)) => {
+            let ended = refuse_source(alloc, sink, &refusal);
+            drop(refusal);
+            (ended, table)
+        }
         Err(SourceErr::OutOfMemory) => (Ended::OutOfMemory, table),
     }
 }

@@ -34,7 +34,10 @@ fn count_lines(alloc: Global, code: &Checked, first: u32, script: &[u8]) -> Resu
     while !rest.is_empty() {
         let (line, more) = cut_line(rest);
         match read_said(alloc, code, number, line) {
-            Ok(said) => count = with_line(count, &said),
+            Ok(said) => {
+                count = with_line(count, &said);
+                drop(said);
+            }
             Err(why) => return Err(why),
         }
         number = number.saturating_add(1);

@@ -79,7 +79,11 @@ fn answer<T: Table>(
     ensures { (held : Option (List ℕ)) (faults : ℕ) → Does (Carry event ∷ []) (sight host.old out.old held faults) (sight host.new out.new held faults) result }
 {
     match host.event(event) {
-        Ok(seen) => appended(write_answer(alloc, host.code(), &seen, out)),
+        Ok(seen) => {
+            let told = appended(write_answer(alloc, host.code(), &seen, out));
+            drop(seen);
+            told
+        }
         Err(_) => Err(Stop::OutOfMemory),
     }
 }
@@ -113,7 +117,11 @@ fn tell_reply<T: Table>(
     ensures { (held : Option (List ℕ)) (faults : ℕ) → Does (TellReply ticket ∷ []) (sight host.old out.old held faults) (sight host.new out.new held faults) result }
 {
     match host.reply(ticket) {
-        Ok(seen) => appended(write_reply_seen(alloc, ticket, &seen, out)),
+        Ok(seen) => {
+            let told = appended(write_reply_seen(alloc, ticket, &seen, out));
+            drop(seen);
+            told
+        }
         Err(OpenErr::Failed) => appended(out.push_text("dropped\n")),
         Err(OpenErr::OutOfMemory) => Err(Stop::OutOfMemory),
     }
@@ -200,7 +208,9 @@ fn do_line<K: Sink, T: Table>(
             Err(stop) => Err(stop),
         },
         Err(SourceErr::Refused(refusal)) => {
-            done(false, appended(write_refusal(alloc, &refusal, waiting)))
+            let told = done(false, appended(write_refusal(alloc, &refusal, waiting)));
+            drop(refusal);
+            told
         }
         Err(SourceErr::OutOfMemory) => Err(Stop::OutOfMemory),
     }

@@ -79,6 +79,7 @@ pub fn read_said(alloc: Global, code: &Checked, number: u32, line: &[u8]) -> Res
             if is_built(&said) {
                 Ok(said)
             } else {
+                drop(said);
                 Err(refused(number, Cause::Unbuilt))
             }
         }

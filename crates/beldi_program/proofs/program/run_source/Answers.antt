@@ -21,8 +21,8 @@ pub returns-in-Err-Refused : goal.returns-in-Err-Refused
 returns-in-Err-Refused g c =
     let k = g.K.Sink in
     let refused : source_at c.args.bytes.now ≡ Err c.in-Err-Refused.refusal = rw c.in-Err-Refused.field-0-is at c.in-Err-Refused.ensures in
-    subst (λ (o : Result Accepted Refusal). SourceEnds k.held k.faults g.T.Table.state c.args.bytes.now o c.args.sink.now c.refuse_source.new.sink c.args.table c.args.table c.refuse_source.result) (sym refused)
-    (refl, c.refuse_source.ensures)
+    subst (λ (o : Result Accepted Refusal). SourceEnds k.held k.faults g.T.Table.state c.args.bytes.now o c.args.sink.now c.refuse_source-ended.new.sink c.args.table c.args.table c.refuse_source-ended.result) (sym refused)
+    (refl, c.refuse_source-ended.ensures)
 
 pub returns-in-Err-OutOfMemory : goal.returns-in-Err-OutOfMemory
 returns-in-Err-OutOfMemory g c = unread_source g.K.Sink.held g.K.Sink.faults g.T.Table.state c.args.bytes.now (source_at c.args.bytes.now) c.args.sink.now c.args.table

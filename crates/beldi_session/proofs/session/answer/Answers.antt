@@ -15,7 +15,7 @@ returns-in-Ok g c = λ held faults.
     let e = c.in-Ok.ensures in
     let a = sight old c.args.out.now held faults in
     let b = sight c.event.new.self out held faults in
-    subst (λ r. Does (Carry c.args.event ∷ []) a b r) (sym c.appended.ensures)
+    subst (λ r. Does (Carry c.args.event ∷ []) a b r) (sym c.appended-told.ensures)
     (event_answered a b refl refl e.code c.args.event seen wrote e.step
     (subst (λ d. OnOk wrote (out ≡ c.args.out.now ++ answer_text d seen)) (c.code.ensures ∙ e.code) c.write_answer.ensures.ok))
 

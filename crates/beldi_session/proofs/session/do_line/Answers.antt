@@ -41,7 +41,7 @@ returns-in-Err-Refused-clause-does g c =
     let a = sight old c.args.waiting.now (k.held c.args.sink.now) (k.faults c.args.sink.now) in
     let b = sight old c.write_refusal.new.out (k.held c.args.sink.now) (k.faults c.args.sink.now) in
     let y = LineRefused x in
-    subst (λ r. Does (and_then (said_at old.code line) []) a b r) (sym c.done-in-Err-Refused.ensures)
+    subst (λ r. Does (and_then (said_at old.code line) []) a b r) (sym c.done-told.ensures)
     (subst (λ o. Does (and_then o []) a b (by_done false c.appended.result)) (sym is)
     (does_done false c.appended.result
     (subst (λ r. Does (Refuse x ∷ []) a b r) (sym c.appended.ensures)
@@ -65,5 +65,5 @@ pub returns-in-Err-Refused-clause-whole : goal.returns-in-Err-Refused-clause-who
 returns-in-Err-Refused-clause-whole g c =
     let line : Numbered = (c.args.number, c.args.line.now) in
     let d = c.args.host.now.code in
-    subst (λ r. IfOk r (λ w. is_ok (said_at d line) ≡ w)) (sym c.done-in-Err-Refused.ensures)
+    subst (λ r. IfOk r (λ w. is_ok (said_at d line) ≡ w)) (sym c.done-told.ensures)
     (done_whole (is_ok (said_at d line)) false c.appended.result (ap is_ok (ap (λ d. said_at d line) (sym c.code.ensures) ∙ rw c.in-Err-Refused.field-0-is at c.in-Err-Refused.ensures)))

@@ -19,7 +19,7 @@ returns-in-Ok g c = λ held faults.
     let b = sight c.reply.new.self c.write_reply_seen.new.out held faults in
     let P = λ (m : Rows) (x : ReplySeen). x ≡ reply_seen a.core.newest ticket m in
     let y = ReplyIs ticket (Some seen) in
-    subst (λ r. Does (TellReply ticket ∷ []) a b r) (sym c.appended.ensures)
+    subst (λ r. Does (TellReply ticket ∷ []) a b r) (sym c.appended-told.ensures)
     (reported a b (record { held = refl; faults = refl; code = e.code; room = e.reads.room; later = e.reads.later }) e.core (λ m. y) (TellReply ticket) wrote (λ m. refl)
     (read_as a b P seen (λ m n. OnOk wrote (b.waiting ≡ a.waiting ++ report_text y) × IsReport a.code (state_at a m) (state_at b n) y) (λ m n same is. (c.write_reply_seen.ensures.ok, is)) e.reads))
 
@@ -33,7 +33,7 @@ returns-in-Err-Failed g c = λ held faults.
     let b = sight c.reply.new.self c.push_text.new.self held faults in
     let P = λ (m : Rows) (x : ReplySeen). x ≡ reply_seen a.core.newest ticket m in
     let y = ReplyIs ticket None in
-    subst (λ r. Does (TellReply ticket ∷ []) a b r) (sym c.appended-in-Err-Failed.ensures)
+    subst (λ r. Does (TellReply ticket ∷ []) a b r) (sym c.appended.ensures)
     (reported a b (record { held = refl; faults = refl; code = e.code; room = e.reads.room; later = e.reads.later }) e.core (λ m. y) (TellReply ticket) wrote (λ m. refl)
     (read_failed a b P f.field-0 (λ m n. OnOk wrote (b.waiting ≡ a.waiting ++ report_text y) × IsReport a.code (state_at a m) (state_at b n) y) (λ m n. (c.push_text.ensures.ok, (e.reads.failed (ap Err f.field-0-is), e.issued))) e.reads))
 
