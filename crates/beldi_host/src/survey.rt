@@ -69,11 +69,13 @@ impl From<AllocError> for OpenErr {
 fn next_key<T: Table>(
     alloc: Global,
     table: &mut T,
-    after: &RowKey,
+    after: RowKey,
 ) -> Result<Option<RowKey>, OpenErr>
-    ensures { Reads (λ m k. k ≡ next_key_of (next_row m after.now)) (T.state table.old) (T.state table.new) result }
+    ensures { Reads (λ m k. k ≡ next_key_of (next_row m after)) (T.state table.old) (T.state table.new) result }
 {
-    match table.next(after)? {
+    let found = or_drop!(table.next(&after); after);
+    drop(after);
+    match found {
         None => Ok(None),
         Some((key, _)) => Ok(Some(key.copy(alloc)?)),
     }
@@ -86,19 +88,13 @@ fn find_newest<T: Table>(alloc: Global, table: &mut T) -> Result<u32, OpenErr>
     let mut newest = 0u32;
     let mut at = RowKey::least(alloc);
     for _ in 0..u64::MAX {
-        match next_key(alloc, table, &at) {
-            Ok(None) => {
-                drop(at);
-                return Ok(newest);
-            }
+        match next_key(alloc, table, at) {
+            Ok(None) => return Ok(newest),
             Ok(Some(key)) => {
                 newest = newest.max(key.ticket());
                 at = key;
             }
-            Err(why) => {
-                drop(at);
-                return Err(why);
-            }
+            Err(why) => return Err(why),
         }
     }
     drop(at);
@@ -322,10 +318,14 @@ fn write_owned<T: Table>(
         return Ok(());
     };
     match owned_value(alloc, table, owned, now) {
-        Ok(value) => match write_value(alloc, code, key, &value, text) {
-            Ok(()) => Ok(()),
-            Err(_) => Err(OpenErr::OutOfMemory),
-        },
+        Ok(value) => {
+            let written = write_value(alloc, code, key, &value, text);
+            drop(value);
+            match written {
+                Ok(()) => Ok(()),
+                Err(_) => Err(OpenErr::OutOfMemory),
+            }
+        }
         Err(why) => Err(why),
     }
 }
@@ -335,13 +335,15 @@ fn next_line<T: Table>(
     alloc: Global,
     code: &Deployment,
     table: &mut T,
-    after: &RowKey,
+    after: RowKey,
     now: u64,
     text: &mut Str,
 ) -> Result<Option<RowKey>, OpenErr>
-    ensures { Reads (λ m k. (k, text.new) ≡ next_line_of code.now m text.old (next_row m after.now)) (T.state table.old) (T.state table.new) result }
+    ensures { Reads (λ m k. (k, text.new) ≡ next_line_of code.now m text.old (next_row m after)) (T.state table.old) (T.state table.new) result }
 {
-    match next_seen(alloc, code, table, after, text) {
+    let seen = next_seen(alloc, code, table, &after, text);
+    drop(after);
+    match seen {
         Ok(None) => Ok(None),
         Ok(Some((key, owned))) => match write_owned(alloc, code, table, &key, owned, now, text) {
             Ok(()) => Ok(Some(key)),
@@ -406,14 +408,10 @@ pub fn list_tables<T: Table>(
     let mut text = Str::new(alloc);
     let mut at = past_others(alloc, RowKey::least(alloc));
     for _ in 0..u64::MAX {
-        match next_line(alloc, code, table, &at, now, &mut text) {
-            Ok(None) => {
-                drop(at);
-                return Ok(text);
-            }
+        match next_line(alloc, code, table, at, now, &mut text) {
+            Ok(None) => return Ok(text),
             Ok(Some(key)) => at = past_others(alloc, key),
             Err(why) => {
-                drop(at);
                 drop(text);
                 return Err(why);
             }
