@@ -9,7 +9,7 @@ use crate::entry::Entry;
 use crate::order::in_order;
 use crate::reading::read_entry;
 use beldi_tree::Deployment;
-use beldi_value::{Str, cut_at};
+use beldi_value::{Str, cut_at, or_drop};
 use std::alloc::{AllocError, Global};
 use std::marker::Model;
 use thiserror::Error;
@@ -162,7 +162,7 @@ impl Book {
     fn append(&mut self, entry: Entry) -> Result<(), AllocError>
         ensures { OnOk result (self.new.entries ≡ self.old.entries ++ entry ∷ []) }
     {
-        self.reserve()?;
+        or_drop!(self.reserve(); entry);
         self.push(entry);
         Ok(())
     }

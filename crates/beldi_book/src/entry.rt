@@ -1,11 +1,12 @@
 // The entries of a book, and their text.
-ghost use Rattle.std.specs.Prelude.{◌≡◌, ◌++◌, OnOk, IfOk, is_none};
-ghost use Rattle.beldi_value.specs.Text.{id_text};
+ghost use Rattle.std.specs.Prelude.{◌≡◌, ◌++◌, OnOk, IfOk, is_none, codes};
+ghost use Rattle.beldi_value.specs.Text.{id_text, place_text};
 ghost use Rattle.beldi_book.specs.Text.{entry_text, holder_text};
 ghost use Rattle.beldi_book.specs.Order.{seen_of};
+ghost use Rattle.beldi_book.specs.declared.entry.Entry.TheVariants.{Start, Try};
 
 use beldi_tree::Deployment;
-use beldi_value::{Apart, IntentId, Place, Str, Value, copy_holder};
+use beldi_value::{Apart, IntentId, Place, Str, Value, copy_holder, or_drop};
 use std::alloc::{AllocError, Global};
 
 /// What a step of the run was.
@@ -59,11 +60,7 @@ impl Entry {
             Entry::Tx { id } => Ok(Entry::Tx {
                 id: id.copy(alloc)?,
             }),
-            Entry::Try { id, place, holder } => Ok(Entry::Try {
-                id: id.copy(alloc)?,
-                place: Apart::new(alloc, place.get().copy(alloc)?)?,
-                holder: copy_holder(alloc, holder)?,
-            }),
+            Entry::Try { id, place, holder } => copy_try(alloc, id, place, holder),
         }
     }
 
@@ -80,12 +77,7 @@ impl Entry {
     {
         match self {
             Entry::Start { ticket, func, args } => {
-                out.push_text("start ")?;
-                out.push_number(u64::from(*ticket))?;
-                out.push_text(" ")?;
-                code.write_func(*func, out)?;
-                out.push_text(" ")?;
-                args.write_json(alloc, out)
+                write_start(alloc, code, *ticket, *func, args, out)
             }
             Entry::Read { id, seen } => {
                 write_id("read ", id, out)?;
@@ -94,15 +86,57 @@ impl Entry {
             }
             Entry::Step { id } => write_id("step ", id, out),
             Entry::Tx { id } => write_id("tx ", id, out),
-            Entry::Try { id, place, holder } => {
-                write_id("try ", id, out)?;
-                out.push_text(" ")?;
-                place.get().write(out)?;
-                out.push_text(" ")?;
-                write_holder(holder, out)
-            }
+            Entry::Try { id, place, holder } => write_try(id, place, holder, out),
         }
     }
+}
+
+fn copy_try(
+    alloc: Global,
+    id: &IntentId,
+    place: &Apart<Place>,
+    holder: &Option<Apart<IntentId>>,
+) -> Result<Entry, AllocError>
+    ensures { IfOk result (λ e. e ≡ Try id.now place.now holder.now) }
+{
+    let id = id.copy(alloc)?;
+    let place = or_drop!(place.get().copy(alloc); id);
+    let place = or_drop!(Apart::new(alloc, place); id);
+    let holder = or_drop!(copy_holder(alloc, holder); id, place);
+    Ok(Entry::Try { id, place, holder })
+}
+
+fn write_start(
+    alloc: Global,
+    code: &Deployment,
+    ticket: u32,
+    func: u16,
+    args: &Value,
+    out: &mut Str,
+) -> Result<(), AllocError>
+    ensures { OnOk result (out.new ≡ out.old ++ entry_text code.now (Start ticket func args.now)) }
+{
+    out.push_text("start ")?;
+    out.push_number(u64::from(ticket))?;
+    out.push_text(" ")?;
+    code.write_func(func, out)?;
+    out.push_text(" ")?;
+    args.write_json(alloc, out)
+}
+
+fn write_try(
+    id: &IntentId,
+    place: &Apart<Place>,
+    holder: &Option<Apart<IntentId>>,
+    out: &mut Str,
+) -> Result<(), AllocError>
+    ensures { OnOk result (out.new ≡ out.old ++ (codes "try " ++ (id_text id.now ++ (codes " " ++ (place_text place.now ++ (codes " " ++ holder_text holder.now)))))) }
+{
+    write_id("try ", id, out)?;
+    out.push_text(" ")?;
+    place.get().write(out)?;
+    out.push_text(" ")?;
+    write_holder(holder, out)
 }
 
 // Appends a word and an id.

@@ -1,13 +1,16 @@
 // The entry whose text a line is.
-ghost use Rattle.std.specs.Prelude.{◌≡◌, IfOk, option_copied};
+ghost use Rattle.std.specs.Prelude.{◌≡◌, IfOk, option_copied, option_and_then, option_map};
 ghost use Rattle.beldi_value.specs.IdAt.{id_at};
 ghost use Rattle.beldi_tree.specs.Bindings.{is_name};
 ghost use Rattle.beldi_book.specs.Line.{IsArgs, Follows, Names, IsNamed, IsNumbered, IsCall, IsStart, IsEntryOf};
+ghost use Rattle.beldi_book.specs.declared.entry.Entry.TheVariants.{Try};
 ghost use Rattle.beldi_book.specs.Words.{small_at, place_at, holder_at, read_at, try_at, other_at};
 
 use crate::entry::Entry;
 use beldi_tree::Deployment;
-use beldi_value::{Apart, IdErr, IntentId, Place, Str, Value, ValueErr, cut_at, read_numeral};
+use beldi_value::{
+    Apart, IdErr, IntentId, Place, Str, Value, ValueErr, cut_at, or_drop, read_numeral,
+};
 use std::alloc::{AllocError, Global};
 
 fn is_word(word: &[u8], name: &str) -> bool
@@ -89,13 +92,28 @@ fn read_try(alloc: Global, words: &[u8]) -> Result<Option<Entry>, AllocError>
     let Some(id) = read_id(alloc, id)? else {
         return Ok(None)
     };
-    let Some(place) = read_place(alloc, place)? else {
+    read_try_of(alloc, id, place, holder)
+}
+
+// What follows `try` and this id.
+fn read_try_of(
+    alloc: Global,
+    id: IntentId,
+    place: &[u8],
+    holder: &[u8],
+) -> Result<Option<Entry>, AllocError>
+    ensures { IfOk result (λ o. o ≡ option_and_then (λ p. option_map (λ h. Try id p h) (holder_at holder.now)) (place_at place.now)) }
+{
+    let Some(place) = or_drop!(read_place(alloc, place); id) else {
+        drop(id);
         return Ok(None)
     };
-    let Some(holder) = read_holder(alloc, holder)? else {
+    let Some(holder) = or_drop!(read_holder(alloc, holder); id, place) else {
+        drop(id);
+        drop(place);
         return Ok(None)
     };
-    let place = Apart::new(alloc, place)?;
+    let place = or_drop!(Apart::new(alloc, place); id, holder);
     Ok(Some(Entry::Try { id, place, holder }))
 }
 
@@ -130,8 +148,10 @@ fn read_args(alloc: Global, json: &[u8]) -> Result<Option<Value>, AllocError>
         Err(_) => return Ok(None),
     };
     let mut text = Str::new(alloc);
-    args.write_json(alloc, &mut text)?;
-    if text.as_bytes() == json {
+    or_drop!(args.write_json(alloc, &mut text); text, args);
+    let is_canonical = text.as_bytes() == json;
+    drop(text);
+    if is_canonical {
         Ok(Some(args))
     } else {
         drop(args);
