@@ -9,6 +9,7 @@ ghost use Rattle.beldi_value.specs.Value.{datum_of};
 
 use crate::convert::{ConvertErr, depth_of, value_from};
 use crate::number::read_int;
+use crate::or_drop;
 use crate::text::Str;
 use crate::value::Value;
 use std::alloc::{AllocError, Global};
@@ -81,9 +82,12 @@ impl Value {
             Err(why) => return Err(why),
         };
         if depth_of(&json) > 32 {
+            drop(json);
             return Err(ValueErr::TooDeep);
         }
-        match value_from(alloc, &json) {
+        let converted = value_from(alloc, &json);
+        drop(json);
+        match converted {
             Ok(value) => value.if_small(alloc),
             Err(ConvertErr::OutOfMemory) => Err(ValueErr::OutOfMemory),
             Err(ConvertErr::NotInt) => Err(ValueErr::NotInt),
@@ -98,9 +102,10 @@ impl Value {
             return Ok(self);
         }
         let mut text = Str::new(alloc);
-        self.write_json(alloc, &mut text)?;
-        Err(ValueErr::TooLarge {
-            bytes: text.len() as u64,
-        })
+        or_drop!(self.write_json(alloc, &mut text); text, self);
+        let bytes = text.len() as u64;
+        drop(text);
+        drop(self);
+        Err(ValueErr::TooLarge { bytes })
     }
 }
