@@ -72,6 +72,7 @@ impl Variables {
         }
     }
 
+    // The same, where the name is given as a whole.
     fn add(&mut self, name: Str, value: Value) -> Result<(), AllocError>
         ensures ok { OnOk result (self.new ≡ map.insert self.old name value) }
         ensures err { OnErr result (self.new ≡ self.old) }
