@@ -83,9 +83,11 @@ impl Items {
     {
         if let Value::Null = value {
             self.unset(func, table, &key);
+            drop(key);
+            drop(value);
             return Ok(());
         }
-        self.put(func, table, key, value)?;
+        drop(self.put(func, table, key, value)?);
         Ok(())
     }
 

@@ -84,14 +84,13 @@ impl Tables {
         ensures err { OnErr result ((self.new ≡ self.old) × (at_key key (map.get self.old table) ≡ None)) }
     {
         let mut cells = Cells::new(alloc);
-        let none = match cells.put(key, value) {
-            Ok(none) => none,
+        match cells.put(key, value) {
+            Ok(none) => drop(none),
             Err(error) => {
                 drop(cells);
                 return Err(error);
             }
-        };
-        drop(none);
+        }
         match self.entries.insert(table, cells) {
             Ok(old) => drop(old),
             Err(failed) => {
