@@ -6,7 +6,7 @@ ghost use Rattle.beldi_syntax.specs.Deployments.{table_of, tables, head, body, f
 use crate::refusal::{SyntaxErr, What};
 use crate::tokens::Tokens;
 use beldi_tree::{Block, Deployment, Func, Funcs, TableHead, TableHeads};
-use beldi_value::Str;
+use beldi_value::{Str, or_drop};
 use std::alloc::Global;
 
 /// How many levels of blocks and expressions may be open at once.
@@ -24,7 +24,7 @@ impl Tokens {
         ensures { Reads (table_of line self.old) result self.new }
     {
         let name = self.name()?;
-        self.take(";")?;
+        or_drop!(self.take(";"); name);
         Ok(TableHead { name, line })
     }
 
@@ -41,9 +41,15 @@ impl Tokens {
             match self.table(line) {
                 Ok(table) => match tables.push(table) {
                     Ok(()) => (),
-                    Err(_) => return Err(SyntaxErr::OutOfMemory),
+                    Err(_) => {
+                        drop(tables);
+                        return Err(SyntaxErr::OutOfMemory);
+                    }
                 },
-                Err(why) => return Err(why),
+                Err(why) => {
+                    drop(tables);
+                    return Err(why);
+                }
             }
         }
         Ok(tables)
@@ -54,9 +60,9 @@ impl Tokens {
         ensures { Reads (head self.old) result self.new }
     {
         let name = self.name()?;
-        self.take("(")?;
-        let param = self.name()?;
-        self.take(")")?;
+        or_drop!(self.take("("); name);
+        let param = or_drop!(self.name(); name);
+        or_drop!(self.take(")"); name, param);
         Ok((name, param))
     }
 
@@ -66,8 +72,8 @@ impl Tokens {
     {
         self.take("{")?;
         let tables = self.tables(alloc)?;
-        let block = self.stmts(alloc, MOST_DEPTH)?;
-        self.take("}")?;
+        let block = or_drop!(self.stmts(alloc, MOST_DEPTH); tables);
+        or_drop!(self.take("}"); tables, block);
         Ok((tables, block))
     }
 
@@ -76,7 +82,7 @@ impl Tokens {
         ensures { Reads (function_of line self.old) result self.new }
     {
         let (name, param) = self.head()?;
-        let (tables, body) = self.body(alloc)?;
+        let (tables, body) = or_drop!(self.body(alloc); name, param);
         Ok(Func {
             name,
             param,
@@ -99,9 +105,15 @@ impl Tokens {
             match self.function(alloc, line) {
                 Ok(func) => match funcs.push(func) {
                     Ok(()) => (),
-                    Err(_) => return Err(SyntaxErr::OutOfMemory),
+                    Err(_) => {
+                        drop(funcs);
+                        return Err(SyntaxErr::OutOfMemory);
+                    }
                 },
-                Err(why) => return Err(why),
+                Err(why) => {
+                    drop(funcs);
+                    return Err(why);
+                }
             }
         }
         Ok(funcs)
@@ -157,7 +169,7 @@ impl Tokens {
         let life = self.life()?;
         let room = self.room()?;
         let funcs = self.functions(alloc)?;
-        self.the_end()?;
+        or_drop!(self.the_end(); funcs);
         Ok(Deployment { life, room, funcs })
     }
 }

@@ -9,7 +9,7 @@ use crate::operators::{Level, step};
 use crate::refusal::{SyntaxErr, What};
 use crate::tokens::Tokens;
 use beldi_tree::{Expr, Exprs, Members, Step};
-use beldi_value::Str;
+use beldi_value::{Str, or_drop};
 use std::alloc::{AllocError, Global};
 
 impl Tokens {
@@ -79,7 +79,10 @@ impl Tokens {
             self.pass();
             let right = match self.side(alloc, depth, level) {
                 Ok(right) => right,
-                Err(why) => return Err(why),
+                Err(why) => {
+                    drop(left);
+                    return Err(why);
+                }
             };
             left = match left.then(alloc, step(operator, right)) {
                 Ok(expr) => expr,
@@ -182,7 +185,7 @@ impl Tokens {
     {
         self.take("(")?;
         let expr = self.expr(alloc, depth)?;
-        self.take(")")?;
+        or_drop!(self.take(")"); expr);
         Ok(expr)
     }
 
@@ -196,9 +199,10 @@ impl Tokens {
             self.pass();
             return Ok(items);
         }
-        items.push(self.expr(alloc, depth)?)?;
+        let item = or_drop!(self.expr(alloc, depth); items);
+        or_drop!(items.push(item); items);
         let items = self.more_items(alloc, depth, items)?;
-        self.take("]")?;
+        or_drop!(self.take("]"); items);
         Ok(items)
     }
 
@@ -216,9 +220,15 @@ impl Tokens {
             match self.expr(alloc, depth) {
                 Ok(item) => match all.push(item) {
                     Ok(()) => (),
-                    Err(_) => return Err(SyntaxErr::OutOfMemory),
+                    Err(_) => {
+                        drop(all);
+                        return Err(SyntaxErr::OutOfMemory);
+                    }
                 },
-                Err(why) => return Err(why),
+                Err(why) => {
+                    drop(all);
+                    return Err(why);
+                }
             }
         }
         Ok(all)
@@ -234,10 +244,10 @@ impl Tokens {
             self.pass();
             return Ok(members);
         }
-        let (key, value) = self.member(alloc, depth)?;
-        members.push(key, value)?;
+        let (key, value) = or_drop!(self.member(alloc, depth); members);
+        or_drop!(members.push(key, value); members);
         let members = self.more_members(alloc, depth, members)?;
-        self.take("}")?;
+        or_drop!(self.take("}"); members);
         Ok(members)
     }
 
@@ -260,9 +270,15 @@ impl Tokens {
             match self.member(alloc, depth) {
                 Ok((key, value)) => match all.push(key, value) {
                     Ok(()) => (),
-                    Err(_) => return Err(SyntaxErr::OutOfMemory),
+                    Err(_) => {
+                        drop(all);
+                        return Err(SyntaxErr::OutOfMemory);
+                    }
                 },
-                Err(why) => return Err(why),
+                Err(why) => {
+                    drop(all);
+                    return Err(why);
+                }
             }
         }
         Ok(all)
@@ -274,8 +290,8 @@ impl Tokens {
         ensures { ReadsAs (λ m. (m.0, term_of m.1)) (member (expr_at depth) self.old) result self.new }
     {
         let key = self.text()?;
-        self.take(":")?;
-        let value = self.expr(alloc, depth)?;
+        or_drop!(self.take(":"); key);
+        let value = or_drop!(self.expr(alloc, depth); key);
         Ok((key, value))
     }
 
@@ -318,8 +334,8 @@ impl Tokens {
         ensures { ReadsAs term_of (push_of (expr_at depth) self.old) result self.new }
     {
         let list = self.part(alloc, depth, "(")?;
-        let item = self.part(alloc, depth, ",")?;
-        self.take(")")?;
+        let item = or_drop!(self.part(alloc, depth, ","); list);
+        or_drop!(self.take(")"); list, item);
         Ok(list.then(alloc, Step::Push(item))?)
     }
 
@@ -329,9 +345,9 @@ impl Tokens {
         ensures { ReadsAs term_of (with_of (expr_at depth) self.old) result self.new }
     {
         let fields = self.part(alloc, depth, "(")?;
-        let key = self.part(alloc, depth, ",")?;
-        let value = self.part(alloc, depth, ",")?;
-        self.take(")")?;
+        let key = or_drop!(self.part(alloc, depth, ","); fields);
+        let value = or_drop!(self.part(alloc, depth, ","); fields, key);
+        or_drop!(self.take(")"); fields, key, value);
         Ok(fields.then(alloc, Step::With(key, value))?)
     }
 
@@ -344,8 +360,8 @@ impl Tokens {
             self.pass();
             self.field(alloc, part)
         } else {
-            let index = self.part(alloc, depth, "[")?;
-            self.take("]")?;
+            let index = or_drop!(self.part(alloc, depth, "["); part);
+            or_drop!(self.take("]"); part, index);
             Ok(part.then(alloc, Step::Element(index))?)
         }
     }
@@ -354,7 +370,7 @@ impl Tokens {
     fn field(&mut self, alloc: Global, whole: Expr) -> Result<Expr, SyntaxErr>
         ensures { ReadsAs term_of (field_of (term_of whole) self.old) result self.new }
     {
-        let key = self.name()?;
+        let key = or_drop!(self.name(); whole);
         Ok(whole.then(alloc, Step::Field(key))?)
     }
 }

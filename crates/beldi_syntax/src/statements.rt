@@ -11,7 +11,7 @@ use crate::operators::Level;
 use crate::refusal::{SyntaxErr, What};
 use crate::tokens::Tokens;
 use beldi_tree::{Block, Expr, Form, Name, Stmt};
-use beldi_value::Rel;
+use beldi_value::{Rel, or_drop};
 use std::alloc::Global;
 
 impl Tokens {
@@ -28,8 +28,8 @@ impl Tokens {
         ensures { ReadsAs (λ c. (c.0, term_of c.1)) (cell (expr_at depth) self.old) result self.new }
     {
         let table = Name::new(self.name()?);
-        let key = self.value(alloc, depth, "[")?;
-        self.take("]")?;
+        let key = or_drop!(self.value(alloc, depth, "["); table);
+        or_drop!(self.take("]"); table, key);
         Ok((table, key))
     }
 
@@ -50,8 +50,8 @@ impl Tokens {
         ensures { ReadsAs command_of (set_of (expr_at depth) line self.old) result self.new }
     {
         let name = self.name()?;
-        let value = self.value(alloc, depth, "=")?;
-        self.take(";")?;
+        let value = or_drop!(self.value(alloc, depth, "="); name);
+        or_drop!(self.take(";"); name, value);
         Ok(Stmt {
             line,
             form: Form::Set { name, value },
@@ -62,9 +62,9 @@ impl Tokens {
         ensures { ReadsAs command_of (read_of (expr_at depth) line self.old) result self.new }
     {
         let name = self.name()?;
-        self.take("=")?;
-        let (table, key) = self.cell(alloc, depth)?;
-        self.take(";")?;
+        or_drop!(self.take("="); name);
+        let (table, key) = or_drop!(self.cell(alloc, depth); name);
+        or_drop!(self.take(";"); name, table, key);
         Ok(Stmt {
             line,
             form: Form::Read { name, table, key },
@@ -75,8 +75,8 @@ impl Tokens {
         ensures { ReadsAs command_of (write_of (expr_at depth) line self.old) result self.new }
     {
         let (table, key) = self.cell(alloc, depth)?;
-        let value = self.value(alloc, depth, "=")?;
-        self.take(";")?;
+        let value = or_drop!(self.value(alloc, depth, "="); table, key);
+        or_drop!(self.take(";"); table, key, value);
         Ok(Stmt {
             line,
             form: Form::Write { table, key, value },
@@ -89,8 +89,8 @@ impl Tokens {
     {
         let rel = self.pass_relation()?;
         let operand = self.chain(alloc, depth, Level::Sum)?;
-        let value = self.value(alloc, depth, "then")?;
-        self.take(";")?;
+        let value = or_drop!(self.value(alloc, depth, "then"); operand);
+        or_drop!(self.take(";"); operand, value);
         Ok((rel, (operand, value)))
     }
 
@@ -98,9 +98,9 @@ impl Tokens {
         ensures { ReadsAs command_of (condwrite_of (expr_at depth) line self.old) result self.new }
     {
         let name = self.name()?;
-        self.take("=")?;
-        let (table, key) = self.cell(alloc, depth)?;
-        let (rel, (operand, value)) = self.condition(alloc, depth)?;
+        or_drop!(self.take("="); name);
+        let (table, key) = or_drop!(self.cell(alloc, depth); name);
+        let (rel, (operand, value)) = or_drop!(self.condition(alloc, depth); name, table, key);
         Ok(Stmt {
             line,
             form: Form::CondWrite {
@@ -118,10 +118,10 @@ impl Tokens {
         ensures { ReadsAs command_of (call_of (expr_at depth) line self.old) result self.new }
     {
         let name = self.name()?;
-        self.take("=")?;
-        let func = Name::new(self.name()?);
-        let args = self.argument(alloc, depth)?;
-        self.take(";")?;
+        or_drop!(self.take("="); name);
+        let func = Name::new(or_drop!(self.name(); name));
+        let args = or_drop!(self.argument(alloc, depth); name, func);
+        or_drop!(self.take(";"); name, func, args);
         Ok(Stmt {
             line,
             form: Form::Call { name, func, args },
@@ -132,8 +132,8 @@ impl Tokens {
         ensures { ReadsAs command_of (async_of (expr_at depth) line self.old) result self.new }
     {
         let func = Name::new(self.name()?);
-        let args = self.argument(alloc, depth)?;
-        self.take(";")?;
+        let args = or_drop!(self.argument(alloc, depth); func);
+        or_drop!(self.take(";"); func, args);
         Ok(Stmt {
             line,
             form: Form::Async { func, args },
@@ -144,7 +144,7 @@ impl Tokens {
         ensures { ReadsAs command_of (lock_of (expr_at depth) line self.old) result self.new }
     {
         let (table, key) = self.cell(alloc, depth)?;
-        self.take(";")?;
+        or_drop!(self.take(";"); table, key);
         Ok(Stmt {
             line,
             form: Form::Lock { table, key },
@@ -155,7 +155,7 @@ impl Tokens {
         ensures { ReadsAs command_of (unlock_of (expr_at depth) line self.old) result self.new }
     {
         let (table, key) = self.cell(alloc, depth)?;
-        self.take(";")?;
+        or_drop!(self.take(";"); table, key);
         Ok(Stmt {
             line,
             form: Form::Unlock { table, key },
@@ -166,7 +166,7 @@ impl Tokens {
         ensures { ReadsAs command_of (return_of (expr_at depth) line self.old) result self.new }
     {
         let value = self.expr(alloc, depth)?;
-        self.take(";")?;
+        or_drop!(self.take(";"); value);
         Ok(Stmt {
             line,
             form: Form::Return(value),
@@ -270,8 +270,8 @@ impl Tokens {
         ensures { ReadsAs command_of (if_of (expr_at depth) (block_at depth) line self.old) result self.new }
     {
         let test = self.expr(alloc, depth)?;
-        let block = self.block(alloc, depth)?;
-        let otherwise = self.otherwise(alloc, depth)?;
+        let block = or_drop!(self.block(alloc, depth); test);
+        let otherwise = or_drop!(self.otherwise(alloc, depth); test, block);
         Ok(Stmt {
             line,
             form: Form::If {
@@ -312,8 +312,8 @@ impl Tokens {
         ensures { ReadsAs command_of (transaction_of (block_at depth) line self.old) result self.new }
     {
         let block = self.block(alloc, depth)?;
-        self.take("aborted")?;
-        let aborted = self.block(alloc, depth)?;
+        or_drop!(self.take("aborted"); block);
+        let aborted = or_drop!(self.block(alloc, depth); block);
         Ok(Stmt {
             line,
             form: Form::Transaction { block, aborted },
@@ -333,9 +333,15 @@ impl Tokens {
             match self.stmt(alloc, depth) {
                 Ok(stmt) => match block.push(stmt) {
                     Ok(()) => (),
-                    Err(_) => return Err(SyntaxErr::OutOfMemory),
+                    Err(_) => {
+                        drop(block);
+                        return Err(SyntaxErr::OutOfMemory);
+                    }
                 },
-                Err(why) => return Err(why),
+                Err(why) => {
+                    drop(block);
+                    return Err(why);
+                }
             }
         }
         Ok(block)
@@ -368,7 +374,7 @@ impl Tokens {
     {
         self.take("{")?;
         let block = self.stmts(alloc, depth)?;
-        self.take("}")?;
+        or_drop!(self.take("}"); block);
         Ok(block)
     }
 }
