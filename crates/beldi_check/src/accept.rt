@@ -3,10 +3,11 @@ ghost use Rattle.std.specs.Prelude.{◌≡◌, MatchResult};
 ghost use Rattle.beldi_check.specs.Rules.{Refuses, first_offence, IsChecked, number_of};
 
 use crate::calls::{Link, reach};
-use crate::listed::list_all;
+use crate::listed::{Listed, list_all};
 use crate::rules::{Rule, all_kept, no_cycle, no_double_name, within_most};
 use crate::why::CheckErr;
 use beldi_tree::{Deployment, Func};
+use beldi_value::or_drop;
 use std::alloc::Global;
 use std::marker::Model;
 
@@ -73,12 +74,23 @@ fn all_rules(alloc: Global, funcs: &[Func]) -> Result<(), CheckErr>
     ensures { MatchResult result (λ _. first_offence funcs.now ≡ None) (λ e. Refuses (first_offence funcs.now) e) }
 {
     let all = list_all(alloc, funcs)?;
-    no_double_name(alloc, &all)?;
-    within_most(&all)?;
-    let inside = reach(alloc, Link::Call, &all)?;
-    all_kept(alloc, &PLACE_RULES, &all, &inside)?;
-    no_cycle(alloc, &all)?;
-    all_kept(alloc, &TRANSACTION_RULES, &all, &inside)
+    let result = listed_rules(alloc, all.as_slice());
+    drop(all);
+    result
+}
+
+// The same of functions whose statements are listed.
+fn listed_rules(alloc: Global, all: &[Listed]) -> Result<(), CheckErr>
+    ensures { MatchResult result (λ _. first_offence all.now ≡ None) (λ e. Refuses (first_offence all.now) e) }
+{
+    no_double_name(alloc, all)?;
+    within_most(all)?;
+    let inside = reach(alloc, Link::Call, all)?;
+    or_drop!(all_kept(alloc, &PLACE_RULES, all, &inside); inside);
+    or_drop!(no_cycle(alloc, all); inside);
+    let result = all_kept(alloc, &TRANSACTION_RULES, all, &inside);
+    drop(inside);
+    result
 }
 
 /// Accepts a deployment that keeps every rule. The rules are tried in the order `Duplicate`, `TooMany`, `UnknownFunction`,
@@ -88,7 +100,7 @@ fn all_rules(alloc: Global, funcs: &[Func]) -> Result<(), CheckErr>
 pub fn check(alloc: Global, code: Deployment) -> Result<Checked, CheckErr>
     ensures { MatchResult result (λ c. (c ≡ code) × (first_offence code.funcs ≡ None)) (λ e. Refuses (first_offence code.funcs) e) }
 {
-    all_rules(alloc, code.funcs.as_slice())?;
+    or_drop!(all_rules(alloc, code.funcs.as_slice()); code);
     let mut code = code;
     code.funcs.find_names(alloc);
     Ok(Checked { code })

@@ -278,6 +278,7 @@ pub fn no_cycle(alloc: Global, all: &[Listed]) -> Result<(), CheckErr>
     let reached = reach(alloc, Link::Start, all)?;
     for (i, one) in all.iter().enumerate() {
         if cell(&reached, i, i) {
+            drop(reached);
             let func = one.func();
             return Err(CheckErr::Refused {
                 line: func.line,
@@ -285,5 +286,6 @@ pub fn no_cycle(alloc: Global, all: &[Listed]) -> Result<(), CheckErr>
             });
         }
     }
+    drop(reached);
     Ok(())
 }

@@ -44,18 +44,23 @@ pub enum CheckErr {
 impl fmt::Debug for Why {
     fn fmt<W: Write>(&self, f: &mut fmt::Formatter<W>) -> fmt::Result {
         match self {
-            Why::UnknownFunction(name) => write!(f, "unknown-function {}", name.as_str()),
-            Why::UnknownTable(name) => write!(f, "unknown-table {}", name.as_str()),
-            Why::Duplicate(name) => write!(f, "duplicate {}", name.as_str()),
+            Why::UnknownFunction(name) => named(f, "unknown-function", name),
+            Why::UnknownTable(name) => named(f, "unknown-table", name),
+            Why::Duplicate(name) => named(f, "duplicate", name),
             Why::TooMany => write!(f, "too-many"),
-            Why::BreakOutside(name) => write!(f, "break-outside {}", name.as_str()),
-            Why::NestedTx(name) => write!(f, "nested-tx {}", name.as_str()),
-            Why::LeavesTx(name) => write!(f, "leaves-tx {}", name.as_str()),
-            Why::CallCycle(name) => write!(f, "call-cycle {}", name.as_str()),
-            Why::AsyncInTx(name) => write!(f, "async-in-tx {}", name.as_str()),
-            Why::LockInTx(name) => write!(f, "lock-in-tx {}", name.as_str()),
+            Why::BreakOutside(name) => named(f, "break-outside", name),
+            Why::NestedTx(name) => named(f, "nested-tx", name),
+            Why::LeavesTx(name) => named(f, "leaves-tx", name),
+            Why::CallCycle(name) => named(f, "call-cycle", name),
+            Why::AsyncInTx(name) => named(f, "async-in-tx", name),
+            Why::LockInTx(name) => named(f, "lock-in-tx", name),
         }
     }
+}
+
+// The rule, and the name that it gives.
+fn named<W: Write>(f: &mut fmt::Formatter<W>, rule: &str, name: &Str) -> fmt::Result {
+    write!(f, "{} {}", rule, name.as_str())
 }
 
 impl From<AllocError> for CheckErr {
