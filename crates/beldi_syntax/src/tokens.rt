@@ -245,13 +245,14 @@ impl Tokens {
     {
         let syntax = self.refusal(What::Syntax);
         let outside = self.refusal(What::Number);
-        match self.items.pop_front() {
+        let passed = self.items.pop_front();
+        let read = match &passed {
             Some(
                 Lexeme {
                     token: Token::Number(Some(number)),
                     ..
                 },
-            ) if least <= number && number <= most => Ok(number),
+            ) if least <= *number && *number <= most => Ok(*number),
             Some(
                 Lexeme {
                     token: Token::Number(_),
@@ -259,6 +260,8 @@ impl Tokens {
                 },
             ) => Err(outside),
             _ => Err(syntax),
-        }
+        };
+        drop(passed);
+        read
     }
 }
