@@ -2,16 +2,16 @@
 ghost use Rattle.std.specs.Prelude.{◌≡◌, IfOk, option_and_then};
 ghost use Rattle.clap.specs.Words.{app_of, subcommand_name_of};
 ghost use Rattle.beldi_command.specs.Command.{command_named};
-ghost use Rattle.beldi_command.specs.Parser.{run_or_check};
+ghost use Rattle.beldi_command.specs.Parser.{beldi, run_or_check};
 
 use crate::command::Command;
 use beldi_value::OutOfMemory;
 use clap::ArgMatches;
 use std::alloc::Global;
 
-// A subcommand takes the settings of the command above it.
-pub fn parser<'a>(alloc: Global) -> Result<clap::Command<'a>, OutOfMemory>
-    ensures { IfOk result (λ c. app_of c ≡ run_or_check) }
+// The command above the two. A subcommand takes its settings.
+fn program<'a>(alloc: Global) -> clap::Command<'a>
+    ensures { app_of result ≡ beldi }
 {
     clap::Command::new(alloc, "beldi")
         .no_binary_name(true)
@@ -19,6 +19,12 @@ pub fn parser<'a>(alloc: Global) -> Result<clap::Command<'a>, OutOfMemory>
         .disable_version_flag(true)
         .disable_help_subcommand(true)
         .subcommand_required(true)
+}
+
+pub fn parser<'a>(alloc: Global) -> Result<clap::Command<'a>, OutOfMemory>
+    ensures { IfOk result (λ c. app_of c ≡ run_or_check) }
+{
+    program(alloc)
         .subcommand(clap::Command::new(alloc, "run"))?
         .subcommand(clap::Command::new(alloc, "check"))
 }
