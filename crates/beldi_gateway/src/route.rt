@@ -2,7 +2,7 @@
 ghost use Rattle.std.specs.Prelude.{◌≡◌, IfOk};
 ghost use Rattle.beldi_gateway.specs.Route.{endpoint_at, found_in, method_of, routes};
 
-use beldi_value::OutOfMemory;
+use beldi_value::{OutOfMemory, or_drop};
 use matchit::{InsertError, Router};
 use std::alloc::Global;
 
@@ -34,9 +34,9 @@ fn router(alloc: Global) -> Result<Router<Endpoint>, InsertError>
     ensures { IfOk result (λ r. r ≡ routes) }
 {
     let mut router = Router::new(alloc);
-    router.insert("/tickets", Endpoint::Tickets)?;
-    router.insert("/call/{function}/{ticket}", Endpoint::Call)?;
-    router.insert("/reply/{ticket}", Endpoint::Reply)?;
+    or_drop!(router.insert("/tickets", Endpoint::Tickets); router);
+    or_drop!(router.insert("/call/{function}/{ticket}", Endpoint::Call); router);
+    or_drop!(router.insert("/reply/{ticket}", Endpoint::Reply); router);
     Ok(router)
 }
 

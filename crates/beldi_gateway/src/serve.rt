@@ -153,7 +153,10 @@ fn exchange<D: Desk, N: Link>(
         Ok(response) => response,
         Err(stop) => return Err(stop),
     };
-    match reply(alloc, link, &response) {
+    let replied = reply(alloc, link, &response);
+    drop(response);
+    drop(bytes);
+    match replied {
         Ok(status) => Ok(Some(status)),
         Err(stop) => Err(stop),
     }
