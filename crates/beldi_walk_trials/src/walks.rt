@@ -10,19 +10,15 @@ use beldi_readlog::{get, put_once};
 use beldi_row::{Body, Note, Table};
 use beldi_shadow::{ShadowRead, ShadowSays, ShadowWrite};
 use beldi_table::MapTable;
-use beldi_value::{IntentId, Outcome, Owner, Place, Str, TxId, Value};
+use beldi_value::{IntentId, Outcome, Owner, Place, Str, TxId, Value, or_drop};
 use beldi_walk::Walk;
 use std::alloc::Global;
 use std::test::Fail;
 
-fn item(alloc: Global) -> Result<Item, Fail> {
-    let key = Str::from_text(alloc, "k")?;
-    Ok(Item::Plain { table: 0, key })
-}
-
-fn roomy(alloc: Global) -> Result<MapTable, Fail> {
+/// A table with room for a hundred rows.
+pub fn roomy(alloc: Global) -> Result<MapTable, Fail> {
     let mut table = MapTable::new(alloc);
-    table.ready(&[9])?;
+    or_drop!(table.ready(&[100]); table);
     Ok(table)
 }
 
@@ -35,51 +31,6 @@ fn place(alloc: Global) -> Place
     }
 }
 
-#[test]
-fn an_item_is_written_and_read(rt: HostRuntime) -> Result<(), Fail> {
-    let alloc = rt.alloc();
-    let mut table = roomy(alloc)?;
-    let op = CellOp::Write(Value::Int(7));
-    let who = Owner::Intent(IntentId::root(alloc, 1));
-    let mut write = WriteWalk::new(1, item(alloc)?, place(alloc), who, op);
-    assert!(rt; matches!(write.turn(alloc, &mut table, 5)?, WriteSays::Going));
-    assert!(rt; matches!(write.turn(alloc, &mut table, 5)?, WriteSays::Going));
-    assert!(rt;
-        matches!(
-            write.turn(alloc, &mut table, 5)?,
-            WriteSays::Done {
-                first: true,
-                note: _
-            }
-        )
-    );
-    let mut read = ReadWalk::new(1, item(alloc)?, None);
-    assert!(rt;
-        matches!(
-            read.turn(alloc, &mut table, 5)?,
-            ReadSays::Got(Some(Value::Int(7)))
-        )
-    );
-    Ok(())
-}
-
-#[test]
-fn a_lock_is_taken(rt: HostRuntime) -> Result<(), Fail> {
-    let alloc = rt.alloc();
-    let mut table = roomy(alloc)?;
-    let who = Owner::Intent(IntentId::root(alloc, 1));
-    let mut lock = LockWalk::new(1, place(alloc), who, 0, Str::from_text(alloc, "k")?);
-    lock.turn(alloc, &mut table, 5)?;
-    lock.turn(alloc, &mut table, 5)?;
-    assert!(rt;
-        matches!(
-            lock.turn(alloc, &mut table, 5)?,
-            LockSays::Got { first: true }
-        )
-    );
-    Ok(())
-}
-
 pub fn transaction(alloc: Global, ticket: u32) -> TxId {
     TxId {
         intent: IntentId::root(alloc, ticket),
@@ -88,97 +39,253 @@ pub fn transaction(alloc: Global, ticket: u32) -> TxId {
     }
 }
 
-// The walk of a lock that a transaction asks for, once it has put the row that says so.
-fn asked(alloc: Global, table: &mut MapTable, ticket: u32) -> Result<LockWalk, Fail> {
+// What a walk says in its third turn.
+fn third<W: Walk>(alloc: Global, table: &mut MapTable, walk: &mut W) -> Result<W::Says, Fail>
+where
+    W::Says: Drop,
+{
+    drop(walk.turn(alloc, table, 5)?);
+    drop(walk.turn(alloc, table, 5)?);
+    Ok(walk.turn(alloc, table, 5)?)
+}
+
+fn item(alloc: Global) -> Result<Item, Fail> {
+    let key = Str::from_text(alloc, "k")?;
+    Ok(Item::Plain { table: 0, key })
+}
+
+fn writes(alloc: Global, table: &mut MapTable) -> Result<bool, Fail> {
+    let item = item(alloc)?;
+    let who = Owner::Intent(IntentId::root(alloc, 1));
+    let op = CellOp::Write(Value::Int(7));
+    let mut write = WriteWalk::new(1, item, place(alloc), who, op);
+    let says = or_drop!(third(alloc, table, &mut write); write);
+    Ok(matches!(
+        says,
+        WriteSays::Done {
+            first: true,
+            note: _
+        }
+    ))
+}
+
+fn reads(alloc: Global, table: &mut MapTable) -> Result<bool, Fail> {
+    let mut read = ReadWalk::new(1, item(alloc)?, None);
+    let says = or_drop!(read.turn(alloc, table, 5); read);
+    Ok(matches!(says, ReadSays::Got(Some(Value::Int(7)))))
+}
+
+#[test]
+fn an_item_is_written_and_read(rt: HostRuntime) -> Result<(), Fail> {
+    let alloc = rt.alloc();
+    let mut table = roomy(alloc)?;
+    assert!(rt; writes(alloc, &mut table)?);
+    assert!(rt; reads(alloc, &mut table)?);
+    Ok(())
+}
+
+fn locks(alloc: Global, table: &mut MapTable) -> Result<bool, Fail> {
+    let key = Str::from_text(alloc, "k")?;
+    let who = Owner::Intent(IntentId::root(alloc, 1));
+    let mut lock = LockWalk::new(1, place(alloc), who, 0, key);
+    let says = or_drop!(third(alloc, table, &mut lock); lock);
+    Ok(matches!(says, LockSays::Got { first: true }))
+}
+
+#[test]
+fn a_lock_is_taken(rt: HostRuntime) -> Result<(), Fail> {
+    let alloc = rt.alloc();
+    let mut table = roomy(alloc)?;
+    assert!(rt; locks(alloc, &mut table)?);
+    Ok(())
+}
+
+// The walk of the lock that the transaction of a ticket asks for.
+fn lock_of(alloc: Global, ticket: u32) -> Result<LockWalk, Fail> {
+    let key = Str::from_text(alloc, "k")?;
     let place = Place {
         intent: IntentId::root(alloc, ticket),
         step: 1,
     };
     let who = Owner::Tx(transaction(alloc, ticket));
-    let mut lock = LockWalk::new(1, place, who, 0, Str::from_text(alloc, "k")?);
-    lock.turn(alloc, table, 5)?;
-    Ok(lock)
+    Ok(LockWalk::new(1, place, who, 0, key))
+}
+
+// Whether it puts the row that says that the lock is asked for.
+fn asks(alloc: Global, table: &mut MapTable, ticket: u32) -> Result<bool, Fail> {
+    let mut lock = lock_of(alloc, ticket)?;
+    let says = or_drop!(lock.turn(alloc, table, 5); lock);
+    Ok(matches!(says, LockSays::Going))
+}
+
+// What the walk says in its third turn, once that row is there.
+fn lock_says(alloc: Global, table: &mut MapTable, ticket: u32) -> Result<LockSays, Fail> {
+    let mut lock = lock_of(alloc, ticket)?;
+    third(alloc, table, &mut lock)
+}
+
+fn takes(alloc: Global, table: &mut MapTable) -> Result<bool, Fail> {
+    let mut lock = lock_of(alloc, 2)?;
+    drop(or_drop!(lock.turn(alloc, table, 5); lock));
+    let says = or_drop!(third(alloc, table, &mut lock); lock);
+    Ok(matches!(says, LockSays::Got { first: true }))
+}
+
+fn dies(alloc: Global, table: &mut MapTable) -> Result<bool, Fail> {
+    let says = lock_says(alloc, table, 3)?;
+    Ok(matches!(says, LockSays::Died(_)))
+}
+
+fn waits(alloc: Global, table: &mut MapTable) -> Result<bool, Fail> {
+    let says = lock_says(alloc, table, 1)?;
+    Ok(matches!(says, LockSays::Held(_)))
 }
 
 #[test]
 fn a_younger_transaction_dies(rt: HostRuntime) -> Result<(), Fail> {
     let alloc = rt.alloc();
     let mut table = roomy(alloc)?;
-    let mut lock = asked(alloc, &mut table, 2)?;
-    lock.turn(alloc, &mut table, 5)?;
-    lock.turn(alloc, &mut table, 5)?;
-    assert!(rt;
-        matches!(
-            lock.turn(alloc, &mut table, 5)?,
-            LockSays::Got { first: true }
-        )
-    );
-    let mut younger = asked(alloc, &mut table, 3)?;
-    assert!(rt; matches!(younger.turn(alloc, &mut table, 5)?, LockSays::Died(_)));
-    assert!(rt; matches!(younger.turn(alloc, &mut table, 5)?, LockSays::Died(_)));
-    let mut older = asked(alloc, &mut table, 1)?;
-    assert!(rt; matches!(older.turn(alloc, &mut table, 5)?, LockSays::Held(_)));
+    assert!(rt; takes(alloc, &mut table)?);
+    assert!(rt; dies(alloc, &mut table)?);
+    assert!(rt; waits(alloc, &mut table)?);
     Ok(())
+}
+
+// Whether an item follows this one of those whose locks the transaction of ticket 1 asked for.
+fn lists(alloc: Global, table: &mut MapTable, after: Option<(u16, &Str)>) -> Result<bool, Fail> {
+    let id = IntentId::root(alloc, 1);
+    let found = or_drop!(lockset_next(alloc, table, 1, &id, 0, after); id);
+    Ok(matches!(found, Some((0, _))))
+}
+
+fn lists_more(alloc: Global, table: &mut MapTable) -> Result<bool, Fail> {
+    let key = Str::from_text(alloc, "k")?;
+    lists(alloc, table, Some((0, &key)))
 }
 
 #[test]
 fn locks_are_listed(rt: HostRuntime) -> Result<(), Fail> {
     let alloc = rt.alloc();
     let mut table = roomy(alloc)?;
-    asked(alloc, &mut table, 1)?;
-    asked(alloc, &mut table, 2)?;
-    let id = IntentId::root(alloc, 1);
-    let first = lockset_next(alloc, &mut table, 1, &id, 0, None)?;
-    assert!(rt; matches!(first, Some((0, _))));
-    let key = Str::from_text(alloc, "k")?;
-    let second = lockset_next(alloc, &mut table, 1, &id, 0, Some((0, &key)))?;
-    assert!(rt; second.is_none());
+    assert!(rt; asks(alloc, &mut table, 1)?);
+    assert!(rt; asks(alloc, &mut table, 2)?);
+    assert!(rt; lists(alloc, &mut table, None)?);
+    assert!(rt; !lists_more(alloc, &mut table)?);
     Ok(())
+}
+
+fn writes_a_shadow(alloc: Global, table: &mut MapTable) -> Result<bool, Fail> {
+    let key = Str::from_text(alloc, "k")?;
+    let op = CellOp::Write(Value::Int(7));
+    let mut write = ShadowWrite::new(alloc, 1, transaction(alloc, 1), place(alloc), 0, key, op)?;
+    let says = or_drop!(third(alloc, table, &mut write); write);
+    Ok(matches!(says, ShadowSays::Noted(Note::Wrote)))
+}
+
+fn reads_a_shadow(alloc: Global, table: &mut MapTable) -> Result<bool, Fail> {
+    let key = Str::from_text(alloc, "k")?;
+    let mut read = ShadowRead::new(1, transaction(alloc, 1), 0, key);
+    let says = or_drop!(read.turn(alloc, table, 5); read);
+    Ok(matches!(says, ShadowSays::Got(Some(Value::Int(7)))))
 }
 
 #[test]
 fn a_shadow_is_written_and_read(rt: HostRuntime) -> Result<(), Fail> {
     let alloc = rt.alloc();
     let mut table = roomy(alloc)?;
-    let op = CellOp::Write(Value::Int(7));
-    let key = Str::from_text(alloc, "k")?;
-    let mut write = ShadowWrite::new(alloc, 1, transaction(alloc, 1), place(alloc), 0, key, op)?;
-    write.turn(alloc, &mut table, 5)?;
-    write.turn(alloc, &mut table, 5)?;
-    assert!(rt;
-        matches!(
-            write.turn(alloc, &mut table, 5)?,
-            ShadowSays::Noted(Note::Wrote)
-        )
-    );
-    let key = Str::from_text(alloc, "k")?;
-    let mut read = ShadowRead::new(1, transaction(alloc, 1), 0, key);
-    assert!(rt;
-        matches!(
-            read.turn(alloc, &mut table, 5)?,
-            ShadowSays::Got(Some(Value::Int(7)))
-        )
-    );
+    assert!(rt; writes_a_shadow(alloc, &mut table)?);
+    assert!(rt; reads_a_shadow(alloc, &mut table)?);
     Ok(())
 }
 
+fn keeps_a_read(alloc: Global, table: &mut MapTable) -> Result<bool, Fail> {
+    let at = place(alloc);
+    let kept = or_drop!(put_once(alloc, table, 1, &at, Value::Int(7), 5); at);
+    Ok(kept.added)
+}
+
+fn gives_it(alloc: Global, table: &mut MapTable) -> Result<bool, Fail> {
+    let at = place(alloc);
+    let value = or_drop!(get(alloc, table, 1, &at, 5); at);
+    Ok(matches!(value, Some(Value::Int(7))))
+}
+
 #[test]
-fn logs_and_intents(rt: HostRuntime) -> Result<(), Fail> {
+fn a_read_is_kept(rt: HostRuntime) -> Result<(), Fail> {
     let alloc = rt.alloc();
     let mut table = roomy(alloc)?;
-    let at = place(alloc);
-    assert!(rt; put_once(alloc, &mut table, 1, &at, Value::Int(7), 5)?.added);
-    assert!(rt; matches!(get(alloc, &mut table, 1, &at, 5)?, Some(Value::Int(7))));
-    assert!(rt; issue(alloc, &mut table, 1, 5)?);
-    assert!(rt;
-        matches!(
-            bind(alloc, &mut table, 1, 1, Value::Null, 5)?,
-            Binding::Bound
-        )
-    );
+    assert!(rt; keeps_a_read(alloc, &mut table)?);
+    assert!(rt; gives_it(alloc, &mut table)?);
+    Ok(())
+}
+
+fn binds(alloc: Global, table: &mut MapTable) -> Result<bool, Fail> {
+    let binding = bind(alloc, table, 1, 1, Value::Null, 5)?;
+    Ok(matches!(binding, Binding::Bound))
+}
+
+fn ends(alloc: Global, table: &mut MapTable) -> Result<bool, Fail> {
     let outcome = Outcome::Value(Value::Null);
-    let id = IntentId::root(alloc, 1);
-    assert_eq!(rt; end(&mut table, id, 1, outcome, true, 5)?, Put::Did);
+    let put = end(table, IntentId::root(alloc, 1), 1, outcome, true, 5)?;
+    Ok(put == Put::Did)
+}
+
+#[test]
+fn an_intent_is_bound_and_ended(rt: HostRuntime) -> Result<(), Fail> {
+    let alloc = rt.alloc();
+    let mut table = roomy(alloc)?;
+    assert!(rt; issue(alloc, &mut table, 1, 5)?);
+    assert!(rt; binds(alloc, &mut table)?);
+    assert!(rt; ends(alloc, &mut table)?);
+    Ok(())
+}
+
+fn opens(alloc: Global, table: &mut MapTable, call: &mut CallWalk) -> Result<bool, Fail> {
+    let says = call.turn(alloc, table, 5)?;
+    Ok(matches!(says, CallSays::Opened { first: true }))
+}
+
+fn opens_again(alloc: Global, table: &mut MapTable) -> Result<bool, Fail> {
+    let at = place(alloc);
+    let call = or_drop!(open_once(alloc, table, 1, &at, 2, 5); at);
+    Ok(call.added)
+}
+
+fn calls_back(alloc: Global, table: &mut MapTable) -> Result<bool, Fail> {
+    let at = place(alloc);
+    let outcome = Outcome::Value(Value::Int(7));
+    let back = or_drop!(call_back(alloc, table, 1, &at, outcome, 5); at);
+    Ok(back == Back::Set)
+}
+
+fn has_result(alloc: Global, table: &mut MapTable) -> Result<bool, Fail> {
+    let at = place(alloc);
+    let outcome = or_drop!(result(alloc, table, 1, &at, 5); at);
+    Ok(outcome.is_some())
+}
+
+fn is_over(alloc: Global, table: &mut MapTable, call: &mut CallWalk) -> Result<bool, Fail> {
+    let says = call.turn(alloc, table, 5)?;
+    Ok(matches!(says, CallSays::Done(Outcome::Value(Value::Int(7)))))
+}
+
+// Whether a walk opens a call, once, and then finds what was given back.
+fn comes_back(alloc: Global, table: &mut MapTable, call: &mut CallWalk) -> Result<bool, Fail> {
+    Ok(
+        opens(alloc, table, call)?
+            && !opens_again(alloc, table)?
+            && calls_back(alloc, table)?
+            && has_result(alloc, table)?
+            && is_over(alloc, table, call)?,
+    )
+}
+
+#[test]
+fn a_call_is_kept(rt: HostRuntime) -> Result<(), Fail> {
+    let alloc = rt.alloc();
+    let mut table = roomy(alloc)?;
+    let mut call = CallWalk::new(1, place(alloc), 2);
+    assert!(rt; comes_back(alloc, &mut table, &mut call)?);
     Ok(())
 }
 
@@ -191,46 +298,44 @@ fn body() -> Body {
     }
 }
 
-#[test]
-fn a_call_is_kept(rt: HostRuntime) -> Result<(), Fail> {
-    let alloc = rt.alloc();
-    let mut table = roomy(alloc)?;
-    let mut call = CallWalk::new(1, place(alloc), 2);
-    assert!(rt;
-        matches!(
-            call.turn(alloc, &mut table, 5)?,
-            CallSays::Opened { first: true }
-        )
-    );
+fn registers(alloc: Global, table: &mut MapTable) -> Result<bool, Fail> {
+    let callee = place(alloc).intent.child(alloc, 0)?;
+    let there = register(alloc, table, callee, body(), 5)?;
+    Ok(there.is_none())
+}
+
+// Whether the walk of a call that nobody waits for opens it, and goes on to its callee.
+fn starts(alloc: Global, table: &mut MapTable, call: &mut AsyncWalk) -> Result<bool, Fail> {
+    Ok(
+        call.turn(alloc, table, 5)? == AsyncSays::Opened { first: true }
+            && call.turn(alloc, table, 5)? == AsyncSays::Going,
+    )
+}
+
+fn starts_a_callee(alloc: Global, table: &mut MapTable) -> Result<bool, Fail> {
+    let mut call = AsyncWalk::new(1, place(alloc), body());
+    starts(alloc, table, &mut call)
+}
+
+fn is_marked(alloc: Global, table: &mut MapTable) -> Result<bool, Fail> {
     let at = place(alloc);
-    assert!(rt; !open_once(alloc, &mut table, 1, &at, 2, 5)?.added);
-    let outcome = Outcome::Value(Value::Int(7));
-    assert_eq!(rt;
-        call_back(alloc, &mut table, 1, &at, outcome, 5)?,
-        Back::Set
-    );
-    assert!(rt; result(alloc, &mut table, 1, &at, 5)?.is_some());
-    assert!(rt; matches!(call.turn(alloc, &mut table, 5)?, CallSays::Done(_)));
-    Ok(())
+    let back = or_drop!(registered(alloc, table, 1, &at, 5); at);
+    Ok(back == Back::Set)
+}
+
+fn is_there(alloc: Global, table: &mut MapTable) -> Result<bool, Fail> {
+    let callee = place(alloc).intent.child(alloc, 0)?;
+    let row = look(alloc, table, callee, 2, 5)?;
+    Ok(row.is_some())
 }
 
 #[test]
 fn a_callee_is_left_to_itself(rt: HostRuntime) -> Result<(), Fail> {
     let alloc = rt.alloc();
     let mut table = roomy(alloc)?;
-    let callee = place(alloc).intent.child(alloc, 0)?;
-    assert!(rt; register(alloc, &mut table, callee, body(), 5)?.is_none());
-    let mut call = AsyncWalk::new(1, place(alloc), body());
-    assert_eq!(rt;
-        call.turn(alloc, &mut table, 5)?,
-        AsyncSays::Opened { first: true }
-    );
-    assert_eq!(rt; call.turn(alloc, &mut table, 5)?, AsyncSays::Going);
-    assert_eq!(rt;
-        registered(alloc, &mut table, 1, &place(alloc), 5)?,
-        Back::Set
-    );
-    let callee = place(alloc).intent.child(alloc, 0)?;
-    assert!(rt; look(alloc, &mut table, callee, 2, 5)?.is_some());
+    assert!(rt; registers(alloc, &mut table)?);
+    assert!(rt; starts_a_callee(alloc, &mut table)?);
+    assert!(rt; is_marked(alloc, &mut table)?);
+    assert!(rt; is_there(alloc, &mut table)?);
     Ok(())
 }
