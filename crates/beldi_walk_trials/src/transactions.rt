@@ -3,12 +3,12 @@ ghost use Rattle.std.specs.Prelude.{◌≡◌, ◌<◌, length, true, IfOk};
 ghost use Rattle.beldi_value.specs.Id.{child_of, root_of};
 ghost use Rattle.beldi_txn.specs.Tx.{is_operation};
 
-use crate::walks::{roomy, transaction};
+use crate::walks::{is_so, roomy, transaction, turn};
 use beldi_daal::{Item, ReadSays, ReadWalk};
 use beldi_intent::{look, register};
 use beldi_invokelog::open_once;
 use beldi_lang::Effect;
-use beldi_row::Body;
+use beldi_row::{Body, IntentRow};
 use beldi_table::MapTable;
 use beldi_txn::{EndSays, EndWalk, TxSays, TxWalk};
 use beldi_value::{Caller, IntentId, Place, Str, Value, or_drop};
@@ -32,6 +32,7 @@ fn callee(alloc: Global, ticket: u32) -> Result<IntentId, Fail>
 {
     let root = IntentId::root(alloc, ticket);
     let id = or_drop!(root.child(alloc, 1); root);
+    drop(root);
     Ok(id)
 }
 
@@ -39,6 +40,7 @@ fn callee(alloc: Global, ticket: u32) -> Result<IntentId, Fail>
 fn below(alloc: Global, ticket: u32) -> Result<IntentId, Fail> {
     let callee = callee(alloc, ticket)?;
     let id = or_drop!(callee.child(alloc, 0); callee);
+    drop(callee);
     Ok(id)
 }
 
@@ -71,7 +73,9 @@ fn answer(
 {
     let tx = transaction(alloc, place.intent.ticket);
     let mut walk = TxWalk::new(func, place, tx, effect);
-    last(alloc, table, &mut walk)
+    let says = or_drop!(last(alloc, table, &mut walk); walk);
+    drop(walk);
+    Ok(says)
 }
 
 fn write(
@@ -100,23 +104,18 @@ fn writes(
     key: &str,
     value: i64,
 ) -> Result<bool, Fail> {
-    let says = write(alloc, table, func, place, key, value)?;
-    Ok(matches!(says, TxSays::Done))
+    Ok(is_so!(write(alloc, table, func, place, key, value)?, TxSays::Done))
 }
 
 fn read_dies(alloc: Global, table: &mut MapTable, place: Place, key: &str) -> Result<bool, Fail> {
     let key = or_drop!(Str::from_text(alloc, key); place);
-    let says = answer(alloc, table, 1, place, Effect::Read { table: 0, key })?;
-    Ok(matches!(says, TxSays::Died(_)))
-}
-
-fn is_done(says: EndSays) -> bool {
-    matches!(says, EndSays::Done)
+    let read = Effect::Read { table: 0, key };
+    Ok(is_so!(answer(alloc, table, 1, place, read)?, TxSays::Died(_)))
 }
 
 fn turns_of(alloc: Global, table: &mut MapTable, walk: &mut EndWalk) -> Result<u32, Fail> {
     for turn in 1..40 {
-        if is_done(walk.turn(alloc, table, 7)?) {
+        if is_so!(walk.turn(alloc, table, 7)?, EndSays::Done) {
             return Ok(turn);
         }
     }
@@ -132,7 +131,9 @@ fn turns(
     commit: bool,
 ) -> Result<u32, Fail> {
     let mut walk = EndWalk::new(alloc, transaction(alloc, ticket), end, commit);
-    turns_of(alloc, table, &mut walk)
+    let turns = or_drop!(turns_of(alloc, table, &mut walk); walk);
+    drop(walk);
+    Ok(turns)
 }
 
 // Whether an item has this number.
@@ -144,9 +145,14 @@ fn holds(
     wanted: i64,
 ) -> Result<bool, Fail> {
     let key = Str::from_text(alloc, key)?;
-    let mut read = ReadWalk::new(func, Item::Plain { table: 0, key }, None);
-    let says = or_drop!(read.turn(alloc, table, 5); read);
-    Ok(matches!(says, ReadSays::Got(Some(Value::Int(value))) if value == wanted))
+    let read = ReadWalk::new(func, Item::Plain { table: 0, key }, None);
+    match turn(alloc, table, read, 0)? {
+        ReadSays::Got(Some(Value::Int(value))) => Ok(value == wanted),
+        says => {
+            drop(says);
+            Ok(false)
+        }
+    }
 }
 
 #[test]
@@ -185,53 +191,85 @@ fn calls(
         tx,
         from,
     };
-    let there = register(alloc, table, callee, body, 5)?;
-    Ok(there.is_none())
+    Ok(is_so!(register(alloc, table, callee, body, 5)?, None))
 }
 
 fn is_finished(alloc: Global, table: &mut MapTable, id: IntentId, func: u16) -> Result<bool, Fail> {
-    match look(alloc, table, id, func, 5)? {
-        Some(row) => Ok(matches!(row.finish, Some(7))),
-        None => Ok(false),
-    }
+    Ok(is_so!(
+        look(alloc, table, id, func, 5)?,
+        Some(IntentRow {
+            finish: Some(7),
+            ..
+        })
+    ))
+}
+
+// Whether the root of a ticket calls this function at its step 1, which then writes a 7.
+fn takes_part(
+    alloc: Global,
+    table: &mut MapTable,
+    ticket: u32,
+    func: u16,
+    key: &str,
+) -> Result<bool, Fail> {
+    Ok(
+        calls(alloc, table, 1, step_of(alloc, ticket, 1), func)?
+            && writes(alloc, table, func, first_of(callee(alloc, ticket)?), key, 7)?,
+    )
+}
+
+// Whether the callee of a ticket is finished, and the item has its 7.
+fn took_part(
+    alloc: Global,
+    table: &mut MapTable,
+    ticket: u32,
+    func: u16,
+    key: &str,
+) -> Result<bool, Fail> {
+    Ok(
+        is_finished(alloc, table, callee(alloc, ticket)?, func)?
+            && holds(alloc, table, func, key, 7)?,
+    )
 }
 
 #[test]
 fn a_callee_takes_part(rt: HostRuntime) -> Result<(), Fail> {
     let alloc = rt.alloc();
     let mut table = roomy(alloc)?;
-    assert!(rt; calls(alloc, &mut table, 1, step_of(alloc, 2, 1), 2)?);
-    assert!(rt; writes(alloc, &mut table, 2, first_of(callee(alloc, 2)?), "a", 7)?);
+    assert!(rt; takes_part(alloc, &mut table, 2, 2, "a")?);
     assert!(rt; writes(alloc, &mut table, 1, step_of(alloc, 2, 2), "b", 8)?);
     // decided; its call; the callee's: no call, its lock, copy, item, no lock, finish; no call; the owner's lock, copy, item, no lock
     assert!(rt; turns(alloc, &mut table, 2, 3, true)? == 13);
-    assert!(rt; is_finished(alloc, &mut table, callee(alloc, 2)?, 2)?);
-    assert!(rt; holds(alloc, &mut table, 2, "a", 7)?);
+    assert!(rt; took_part(alloc, &mut table, 2, 2, "a")?);
     assert!(rt; holds(alloc, &mut table, 1, "b", 8)?);
     Ok(())
 }
 
-// Whether a participant of the function 3 dies of a write.
-fn write_dies(alloc: Global, table: &mut MapTable, id: IntentId) -> Result<bool, Fail> {
-    let says = write(alloc, table, 3, first_of(id), "k", 8)?;
-    Ok(matches!(says, TxSays::Died(_)))
+// Whether a callee of the callee of ticket 2 dies of a write of the item that the callee of ticket 1 has.
+fn dies_below(alloc: Global, table: &mut MapTable) -> Result<bool, Fail> {
+    let called = calls(alloc, table, 1, step_of(alloc, 2, 1), 2)?
+        && calls(alloc, table, 2, first_of(callee(alloc, 2)?), 3)?;
+    let place = first_of(below(alloc, 2)?);
+    Ok(called && is_so!(write(alloc, table, 3, place, "k", 8)?, TxSays::Died(_)))
+}
+
+fn are_finished(alloc: Global, table: &mut MapTable) -> Result<bool, Fail> {
+    Ok(
+        is_finished(alloc, table, callee(alloc, 2)?, 2)?
+            && is_finished(alloc, table, below(alloc, 2)?, 3)?,
+    )
 }
 
 #[test]
 fn a_death_is_two_calls_deep(rt: HostRuntime) -> Result<(), Fail> {
     let alloc = rt.alloc();
     let mut table = roomy(alloc)?;
-    assert!(rt; calls(alloc, &mut table, 1, step_of(alloc, 1, 1), 3)?);
-    assert!(rt; writes(alloc, &mut table, 3, first_of(callee(alloc, 1)?), "k", 7)?);
-    assert!(rt; calls(alloc, &mut table, 1, step_of(alloc, 2, 1), 2)?);
-    assert!(rt; calls(alloc, &mut table, 2, first_of(callee(alloc, 2)?), 3)?);
-    assert!(rt; write_dies(alloc, &mut table, below(alloc, 2)?)?);
+    assert!(rt; takes_part(alloc, &mut table, 1, 3, "k")?);
+    assert!(rt; dies_below(alloc, &mut table)?);
     // as the golden case of this name has it: fifteen turns, of which the first is the call's and the last the return's
     assert!(rt; turns(alloc, &mut table, 2, 2, false)? == 13);
-    assert!(rt; is_finished(alloc, &mut table, callee(alloc, 2)?, 2)?);
-    assert!(rt; is_finished(alloc, &mut table, below(alloc, 2)?, 3)?);
+    assert!(rt; are_finished(alloc, &mut table)?);
     assert!(rt; turns(alloc, &mut table, 1, 2, true)? == 10);
-    assert!(rt; is_finished(alloc, &mut table, callee(alloc, 1)?, 3)?);
-    assert!(rt; holds(alloc, &mut table, 3, "k", 7)?);
+    assert!(rt; took_part(alloc, &mut table, 1, 3, "k")?);
     Ok(())
 }

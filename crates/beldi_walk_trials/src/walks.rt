@@ -4,9 +4,9 @@ ghost use Rattle.std.specs.Prelude.{◌≡◌, []};
 use beldi_call::{AsyncSays, AsyncWalk, CallSays, CallWalk};
 use beldi_daal::{CellOp, Item, ReadSays, ReadWalk, WriteSays, WriteWalk};
 use beldi_intent::{Binding, Put, bind, end, issue, look, register};
-use beldi_invokelog::{Back, call_back, open_once, registered, result};
+use beldi_invokelog::{Back, Invoked, call_back, open_once, registered, result};
 use beldi_lock::{LockSays, LockWalk, lockset_next};
-use beldi_readlog::{get, put_once};
+use beldi_readlog::{Kept, get, put_once};
 use beldi_row::{Body, Note, Table};
 use beldi_shadow::{ShadowRead, ShadowSays, ShadowWrite};
 use beldi_table::MapTable;
@@ -39,14 +39,44 @@ pub fn transaction(alloc: Global, ticket: u32) -> TxId {
     }
 }
 
-// What a walk says in its third turn.
-fn third<W: Walk>(alloc: Global, table: &mut MapTable, walk: &mut W) -> Result<W::Says, Fail>
+// Whether a value is of this form. The value is dropped.
+macro_rules! is_so {
+    ($value:expr, $form:pat) => {{
+        let value = $value;
+        let is_so = matches!(value, $form);
+        drop(value);
+        is_so
+    }};
+}
+
+pub(crate) use is_so;
+
+fn after<W: Walk>(
+    alloc: Global,
+    table: &mut MapTable,
+    walk: &mut W,
+    turns: u32,
+) -> Result<W::Says, Fail>
 where
     W::Says: Drop,
 {
-    drop(walk.turn(alloc, table, 5)?);
-    drop(walk.turn(alloc, table, 5)?);
+    for _ in 0..turns {
+        drop(walk.turn(alloc, table, 5)?);
+    }
     Ok(walk.turn(alloc, table, 5)?)
+}
+
+/// What a walk says in the turn after so many.
+pub fn turn<W: Walk + Drop>(
+    alloc: Global,
+    table: &mut MapTable,
+    mut walk: W,
+    turns: u32,
+) -> Result<W::Says, Fail>
+where
+    W::Says: Drop,
+{
+    after(alloc, table, &mut walk, turns)
 }
 
 fn item(alloc: Global) -> Result<Item, Fail> {
@@ -58,10 +88,9 @@ fn writes(alloc: Global, table: &mut MapTable) -> Result<bool, Fail> {
     let item = item(alloc)?;
     let who = Owner::Intent(IntentId::root(alloc, 1));
     let op = CellOp::Write(Value::Int(7));
-    let mut write = WriteWalk::new(1, item, place(alloc), who, op);
-    let says = or_drop!(third(alloc, table, &mut write); write);
-    Ok(matches!(
-        says,
+    let write = WriteWalk::new(1, item, place(alloc), who, op);
+    Ok(is_so!(
+        turn(alloc, table, write, 2)?,
         WriteSays::Done {
             first: true,
             note: _
@@ -70,9 +99,11 @@ fn writes(alloc: Global, table: &mut MapTable) -> Result<bool, Fail> {
 }
 
 fn reads(alloc: Global, table: &mut MapTable) -> Result<bool, Fail> {
-    let mut read = ReadWalk::new(1, item(alloc)?, None);
-    let says = or_drop!(read.turn(alloc, table, 5); read);
-    Ok(matches!(says, ReadSays::Got(Some(Value::Int(7)))))
+    let read = ReadWalk::new(1, item(alloc)?, None);
+    Ok(is_so!(
+        turn(alloc, table, read, 0)?,
+        ReadSays::Got(Some(Value::Int(7)))
+    ))
 }
 
 #[test]
@@ -87,9 +118,8 @@ fn an_item_is_written_and_read(rt: HostRuntime) -> Result<(), Fail> {
 fn locks(alloc: Global, table: &mut MapTable) -> Result<bool, Fail> {
     let key = Str::from_text(alloc, "k")?;
     let who = Owner::Intent(IntentId::root(alloc, 1));
-    let mut lock = LockWalk::new(1, place(alloc), who, 0, key);
-    let says = or_drop!(third(alloc, table, &mut lock); lock);
-    Ok(matches!(says, LockSays::Got { first: true }))
+    let lock = LockWalk::new(1, place(alloc), who, 0, key);
+    Ok(is_so!(turn(alloc, table, lock, 2)?, LockSays::Got { first: true }))
 }
 
 #[test]
@@ -111,43 +141,35 @@ fn lock_of(alloc: Global, ticket: u32) -> Result<LockWalk, Fail> {
     Ok(LockWalk::new(1, place, who, 0, key))
 }
 
-// Whether it puts the row that says that the lock is asked for.
+// Whether its first turn puts the row that says that the lock is asked for.
 fn asks(alloc: Global, table: &mut MapTable, ticket: u32) -> Result<bool, Fail> {
-    let mut lock = lock_of(alloc, ticket)?;
-    let says = or_drop!(lock.turn(alloc, table, 5); lock);
-    Ok(matches!(says, LockSays::Going))
+    let lock = lock_of(alloc, ticket)?;
+    Ok(is_so!(turn(alloc, table, lock, 0)?, LockSays::Going))
 }
 
-// What the walk says in its third turn, once that row is there.
-fn lock_says(alloc: Global, table: &mut MapTable, ticket: u32) -> Result<LockSays, Fail> {
-    let mut lock = lock_of(alloc, ticket)?;
-    third(alloc, table, &mut lock)
+fn takes(alloc: Global, table: &mut MapTable, ticket: u32) -> Result<bool, Fail> {
+    let lock = lock_of(alloc, ticket)?;
+    Ok(is_so!(turn(alloc, table, lock, 3)?, LockSays::Got { first: true }))
 }
 
-fn takes(alloc: Global, table: &mut MapTable) -> Result<bool, Fail> {
-    let mut lock = lock_of(alloc, 2)?;
-    drop(or_drop!(lock.turn(alloc, table, 5); lock));
-    let says = or_drop!(third(alloc, table, &mut lock); lock);
-    Ok(matches!(says, LockSays::Got { first: true }))
+// Whether it dies, and again where it is asked once more.
+fn dies(alloc: Global, table: &mut MapTable, ticket: u32) -> Result<bool, Fail> {
+    let lock = lock_of(alloc, ticket)?;
+    Ok(is_so!(turn(alloc, table, lock, 2)?, LockSays::Died(_)))
 }
 
-fn dies(alloc: Global, table: &mut MapTable) -> Result<bool, Fail> {
-    let says = lock_says(alloc, table, 3)?;
-    Ok(matches!(says, LockSays::Died(_)))
-}
-
-fn waits(alloc: Global, table: &mut MapTable) -> Result<bool, Fail> {
-    let says = lock_says(alloc, table, 1)?;
-    Ok(matches!(says, LockSays::Held(_)))
+fn waits(alloc: Global, table: &mut MapTable, ticket: u32) -> Result<bool, Fail> {
+    let lock = lock_of(alloc, ticket)?;
+    Ok(is_so!(turn(alloc, table, lock, 1)?, LockSays::Held(_)))
 }
 
 #[test]
 fn a_younger_transaction_dies(rt: HostRuntime) -> Result<(), Fail> {
     let alloc = rt.alloc();
     let mut table = roomy(alloc)?;
-    assert!(rt; takes(alloc, &mut table)?);
-    assert!(rt; dies(alloc, &mut table)?);
-    assert!(rt; waits(alloc, &mut table)?);
+    assert!(rt; takes(alloc, &mut table, 2)?);
+    assert!(rt; dies(alloc, &mut table, 3)?);
+    assert!(rt; waits(alloc, &mut table, 1)?);
     Ok(())
 }
 
@@ -155,12 +177,15 @@ fn a_younger_transaction_dies(rt: HostRuntime) -> Result<(), Fail> {
 fn lists(alloc: Global, table: &mut MapTable, after: Option<(u16, &Str)>) -> Result<bool, Fail> {
     let id = IntentId::root(alloc, 1);
     let found = or_drop!(lockset_next(alloc, table, 1, &id, 0, after); id);
-    Ok(matches!(found, Some((0, _))))
+    drop(id);
+    Ok(is_so!(found, Some((0, _))))
 }
 
 fn lists_more(alloc: Global, table: &mut MapTable) -> Result<bool, Fail> {
     let key = Str::from_text(alloc, "k")?;
-    lists(alloc, table, Some((0, &key)))
+    let more = or_drop!(lists(alloc, table, Some((0, &key))); key);
+    drop(key);
+    Ok(more)
 }
 
 #[test]
@@ -177,16 +202,20 @@ fn locks_are_listed(rt: HostRuntime) -> Result<(), Fail> {
 fn writes_a_shadow(alloc: Global, table: &mut MapTable) -> Result<bool, Fail> {
     let key = Str::from_text(alloc, "k")?;
     let op = CellOp::Write(Value::Int(7));
-    let mut write = ShadowWrite::new(alloc, 1, transaction(alloc, 1), place(alloc), 0, key, op)?;
-    let says = or_drop!(third(alloc, table, &mut write); write);
-    Ok(matches!(says, ShadowSays::Noted(Note::Wrote)))
+    let write = ShadowWrite::new(alloc, 1, transaction(alloc, 1), place(alloc), 0, key, op)?;
+    Ok(is_so!(
+        turn(alloc, table, write, 2)?,
+        ShadowSays::Noted(Note::Wrote)
+    ))
 }
 
 fn reads_a_shadow(alloc: Global, table: &mut MapTable) -> Result<bool, Fail> {
     let key = Str::from_text(alloc, "k")?;
-    let mut read = ShadowRead::new(1, transaction(alloc, 1), 0, key);
-    let says = or_drop!(read.turn(alloc, table, 5); read);
-    Ok(matches!(says, ShadowSays::Got(Some(Value::Int(7)))))
+    let read = ShadowRead::new(1, transaction(alloc, 1), 0, key);
+    Ok(is_so!(
+        turn(alloc, table, read, 0)?,
+        ShadowSays::Got(Some(Value::Int(7)))
+    ))
 }
 
 #[test]
@@ -201,13 +230,21 @@ fn a_shadow_is_written_and_read(rt: HostRuntime) -> Result<(), Fail> {
 fn keeps_a_read(alloc: Global, table: &mut MapTable) -> Result<bool, Fail> {
     let at = place(alloc);
     let kept = or_drop!(put_once(alloc, table, 1, &at, Value::Int(7), 5); at);
-    Ok(kept.added)
+    drop(at);
+    Ok(is_so!(
+        kept,
+        Kept {
+            added: true,
+            value: Value::Int(7)
+        }
+    ))
 }
 
 fn gives_it(alloc: Global, table: &mut MapTable) -> Result<bool, Fail> {
     let at = place(alloc);
     let value = or_drop!(get(alloc, table, 1, &at, 5); at);
-    Ok(matches!(value, Some(Value::Int(7))))
+    drop(at);
+    Ok(is_so!(value, Some(Value::Int(7))))
 }
 
 #[test]
@@ -220,8 +257,7 @@ fn a_read_is_kept(rt: HostRuntime) -> Result<(), Fail> {
 }
 
 fn binds(alloc: Global, table: &mut MapTable) -> Result<bool, Fail> {
-    let binding = bind(alloc, table, 1, 1, Value::Null, 5)?;
-    Ok(matches!(binding, Binding::Bound))
+    Ok(is_so!(bind(alloc, table, 1, 1, Value::Null, 5)?, Binding::Bound))
 }
 
 fn ends(alloc: Global, table: &mut MapTable) -> Result<bool, Fail> {
@@ -241,32 +277,39 @@ fn an_intent_is_bound_and_ended(rt: HostRuntime) -> Result<(), Fail> {
 }
 
 fn opens(alloc: Global, table: &mut MapTable, call: &mut CallWalk) -> Result<bool, Fail> {
-    let says = call.turn(alloc, table, 5)?;
-    Ok(matches!(says, CallSays::Opened { first: true }))
+    Ok(is_so!(
+        call.turn(alloc, table, 5)?,
+        CallSays::Opened { first: true }
+    ))
 }
 
 fn opens_again(alloc: Global, table: &mut MapTable) -> Result<bool, Fail> {
     let at = place(alloc);
     let call = or_drop!(open_once(alloc, table, 1, &at, 2, 5); at);
-    Ok(call.added)
+    drop(at);
+    Ok(is_so!(call, Invoked { added: true, .. }))
 }
 
 fn calls_back(alloc: Global, table: &mut MapTable) -> Result<bool, Fail> {
     let at = place(alloc);
     let outcome = Outcome::Value(Value::Int(7));
     let back = or_drop!(call_back(alloc, table, 1, &at, outcome, 5); at);
+    drop(at);
     Ok(back == Back::Set)
 }
 
 fn has_result(alloc: Global, table: &mut MapTable) -> Result<bool, Fail> {
     let at = place(alloc);
     let outcome = or_drop!(result(alloc, table, 1, &at, 5); at);
-    Ok(outcome.is_some())
+    drop(at);
+    Ok(is_so!(outcome, Some(Outcome::Value(Value::Int(7)))))
 }
 
 fn is_over(alloc: Global, table: &mut MapTable, call: &mut CallWalk) -> Result<bool, Fail> {
-    let says = call.turn(alloc, table, 5)?;
-    Ok(matches!(says, CallSays::Done(Outcome::Value(Value::Int(7)))))
+    Ok(is_so!(
+        call.turn(alloc, table, 5)?,
+        CallSays::Done(Outcome::Value(Value::Int(7)))
+    ))
 }
 
 // Whether a walk opens a call, once, and then finds what was given back.
@@ -298,35 +341,34 @@ fn body() -> Body {
     }
 }
 
+fn callee(alloc: Global) -> Result<IntentId, Fail> {
+    let root = IntentId::root(alloc, 1);
+    let callee = or_drop!(root.child(alloc, 0); root);
+    drop(root);
+    Ok(callee)
+}
+
 fn registers(alloc: Global, table: &mut MapTable) -> Result<bool, Fail> {
-    let callee = place(alloc).intent.child(alloc, 0)?;
-    let there = register(alloc, table, callee, body(), 5)?;
-    Ok(there.is_none())
+    let callee = callee(alloc)?;
+    Ok(is_so!(register(alloc, table, callee, body(), 5)?, None))
 }
 
-// Whether the walk of a call that nobody waits for opens it, and goes on to its callee.
-fn starts(alloc: Global, table: &mut MapTable, call: &mut AsyncWalk) -> Result<bool, Fail> {
-    Ok(
-        call.turn(alloc, table, 5)? == AsyncSays::Opened { first: true }
-            && call.turn(alloc, table, 5)? == AsyncSays::Going,
-    )
-}
-
-fn starts_a_callee(alloc: Global, table: &mut MapTable) -> Result<bool, Fail> {
-    let mut call = AsyncWalk::new(1, place(alloc), body());
-    starts(alloc, table, &mut call)
+// Whether the walk of a call that nobody waits for opens it, and goes on with its callee.
+fn starts(alloc: Global, table: &mut MapTable) -> Result<bool, Fail> {
+    let call = AsyncWalk::new(1, place(alloc), body());
+    Ok(turn(alloc, table, call, 1)? == AsyncSays::Going)
 }
 
 fn is_marked(alloc: Global, table: &mut MapTable) -> Result<bool, Fail> {
     let at = place(alloc);
     let back = or_drop!(registered(alloc, table, 1, &at, 5); at);
+    drop(at);
     Ok(back == Back::Set)
 }
 
 fn is_there(alloc: Global, table: &mut MapTable) -> Result<bool, Fail> {
-    let callee = place(alloc).intent.child(alloc, 0)?;
-    let row = look(alloc, table, callee, 2, 5)?;
-    Ok(row.is_some())
+    let callee = callee(alloc)?;
+    Ok(is_so!(look(alloc, table, callee, 2, 5)?, Some(_)))
 }
 
 #[test]
@@ -334,7 +376,7 @@ fn a_callee_is_left_to_itself(rt: HostRuntime) -> Result<(), Fail> {
     let alloc = rt.alloc();
     let mut table = roomy(alloc)?;
     assert!(rt; registers(alloc, &mut table)?);
-    assert!(rt; starts_a_callee(alloc, &mut table)?);
+    assert!(rt; starts(alloc, &mut table)?);
     assert!(rt; is_marked(alloc, &mut table)?);
     assert!(rt; is_there(alloc, &mut table)?);
     Ok(())
