@@ -9,52 +9,90 @@ use beldi_script::{read_line, write_line};
 use beldi_step::Event;
 use beldi_syntax::read_deployment;
 use beldi_table::MapTable;
-use beldi_value::{IntentId, Outcome, Owner, Rel, Str, Value, older, read_int};
+use beldi_value::{IntentId, Outcome, Owner, Rel, Str, Value, older, or_drop, read_int};
 use std::alloc::Global;
 use std::test::Fail;
 
 const CODE: &[u8] =
     b"life 9; function f(x) { table t; read v = t[\"k\"]; write t[\"k\"] = x; return v; }";
 
-fn deployment(alloc: Global) -> Result<Checked, Fail> {
-    Ok(check(alloc, read_deployment(alloc, CODE)?.code)?)
+/// The deployment of this text.
+pub fn deployment(alloc: Global, text: &[u8]) -> Result<Checked, Fail> {
+    Ok(check(alloc, read_deployment(alloc, text)?.code)?)
+}
+
+fn is_older(alloc: Global) -> Result<bool, Fail> {
+    let root = IntentId::root(alloc, 7);
+    let child = or_drop!(root.child(alloc, 3); root);
+    let is_older = older(&root, &child) && !older(&child, &root);
+    drop(root);
+    drop(child);
+    Ok(is_older)
+}
+
+// The age of an owner, and then the owner.
+fn write_owner(owner: &Owner, text: &mut Str) -> Result<(), Fail> {
+    owner.age().write(text)?;
+    owner.write(text)?;
+    Ok(())
+}
+
+fn owner_is_written(alloc: Global) -> Result<bool, Fail> {
+    let owner = Owner::Intent(IntentId::read(alloc, b"7/3")?);
+    let mut text = Str::new(alloc);
+    or_drop!(write_owner(&owner, &mut text); owner, text);
+    drop(owner);
+    Ok(is_text(text, "7/3intent 7/3"))
+}
+
+/// Whether a text is this one.
+pub fn is_text(text: Str, wanted: &str) -> bool {
+    let is_text = text.as_str() == wanted;
+    drop(text);
+    is_text
 }
 
 #[test]
 fn ids_and_values(rt: HostRuntime) -> Result<(), Fail> {
     let alloc = rt.alloc();
-    let root = IntentId::root(alloc, 7);
-    let child = root.child(alloc, 3)?;
-    assert!(rt; older(&root, &child) && !older(&child, &root));
-    let owner = Owner::Intent(child);
-    let mut text = Str::new(alloc);
-    owner.age().write(&mut text)?;
-    owner.write(&mut text)?;
-    assert_eq!(rt; text.as_str(), "7/3intent 7/3");
+    assert!(rt; is_older(alloc)?);
+    assert!(rt; owner_is_written(alloc)?);
     assert_eq!(rt; read_int(b"-5"), Some(-5));
     assert!(rt; Value::Int(1).passes(Rel::Lt, &Value::Int(2)));
     Ok(())
 }
 
+fn line_is_written(alloc: Global, code: &Checked) -> Result<bool, Fail> {
+    let line = read_line(alloc, code, b"request 1 f {\"a\": 2}")?;
+    let mut text = Str::new(alloc);
+    or_drop!(write_line(alloc, code, &line, &mut text); line, text);
+    drop(line);
+    Ok(is_text(text, "request 1 f {\"a\":2}"))
+}
+
+fn begins_inside(alloc: Global, code: &Checked) -> Result<bool, Fail> {
+    let machine = Machine::new(alloc, code.code(), 1, Value::Null, true)?;
+    let is_inside = machine.is_inside();
+    drop(machine);
+    Ok(is_inside)
+}
+
 #[test]
 fn a_line_is_written_and_a_body_begins(rt: HostRuntime) -> Result<(), Fail> {
     let alloc = rt.alloc();
-    let code = deployment(alloc)?;
-    let line = read_line(alloc, &code, b"request 1 f {\"a\": 2}")?;
-    let mut text = Str::new(alloc);
-    write_line(alloc, &code, &line, &mut text)?;
-    assert_eq!(rt; text.as_str(), "request 1 f {\"a\":2}");
-    assert!(rt; Machine::new(alloc, code.code(), 1, Value::Null, true)?.is_inside());
+    let code = deployment(alloc, CODE)?;
+    assert!(rt; line_is_written(alloc, &code)?);
+    assert!(rt; begins_inside(alloc, &code)?);
     Ok(())
 }
 
-fn entered(book: &mut Book, entry: Entry) -> Result<(), Fail> {
-    book.reserve()?;
+fn add(book: &mut Book, entry: Entry) -> Result<(), Fail> {
+    or_drop!(book.reserve(); entry);
     book.push(entry);
     Ok(())
 }
 
-// A start of the function f by a ticket, and a read and two steps of it. The read had seen so many changes.
+// A start of the function f by a ticket, and two steps and a read of it. The read had seen so many changes.
 fn add_request(
     alloc: Global,
     book: &mut Book,
@@ -63,101 +101,175 @@ fn add_request(
     seen: u64,
 ) -> Result<(), Fail> {
     let func = 1;
-    entered(book, Entry::Start { ticket, func, args })?;
+    add(book, Entry::Start { ticket, func, args })?;
     for _ in 0..2 {
         let id = IntentId::root(alloc, ticket);
-        entered(book, Entry::Step { id })?;
+        add(book, Entry::Step { id })?;
     }
     let id = IntentId::root(alloc, ticket);
-    entered(book, Entry::Read { id, seen })
+    add(book, Entry::Read { id, seen })
 }
 
 // Two requests of the function f, each with its read kept last.
 fn two_requests(alloc: Global) -> Result<Book, Fail> {
     let mut book = Book::new(alloc);
-    add_request(alloc, &mut book, 1, Value::Int(5), 1)?;
-    add_request(alloc, &mut book, 2, Value::Int(6), 4)?;
+    or_drop!(add_request(alloc, &mut book, 1, Value::Int(5), 1); book);
+    or_drop!(add_request(alloc, &mut book, 2, Value::Int(6), 4); book);
     Ok(book)
+}
+
+// .. and in the order of time.
+fn in_time(alloc: Global) -> Result<Book, Fail> {
+    let book = two_requests(alloc)?;
+    let ordered = or_drop!(book.linear(alloc); book);
+    drop(book);
+    Ok(ordered)
+}
+
+const WANTED: &str =
+    "start 1 f 5\nread 1 1\nstep 1\nstep 1\nstart 2 f 6\nread 2 4\nstep 2\nstep 2\n";
+
+// Whether a book is that of two requests in the order of time.
+fn is_ordered(alloc: Global, code: &Checked, book: &Book) -> Result<bool, Fail> {
+    let mut text = Str::new(alloc);
+    or_drop!(book.write(alloc, code.code(), &mut text); text);
+    let is_written = is_text(text, WANTED);
+    let has_read = matches!(book.get(5), Some(Entry::Read { seen: 4, .. }));
+    Ok(is_written && has_read && book.len() == 8)
+}
+
+fn orders(alloc: Global, code: &Checked) -> Result<bool, Fail> {
+    let book = in_time(alloc)?;
+    let is_ordered = or_drop!(is_ordered(alloc, code, &book); book);
+    drop(book);
+    Ok(is_ordered)
+}
+
+fn reads_again(alloc: Global, code: &Checked) -> Result<bool, Fail> {
+    let book = Book::read(alloc, WANTED.as_bytes(), code.code())?;
+    let is_ordered = or_drop!(is_ordered(alloc, code, &book); book);
+    drop(book);
+    Ok(is_ordered)
 }
 
 #[test]
 fn a_book_is_ordered_in_time_and_read_again(rt: HostRuntime) -> Result<(), Fail> {
     let alloc = rt.alloc();
-    let code = deployment(alloc)?;
-    let book = two_requests(alloc)?.linear(alloc)?;
-    assert!(rt; book.len() == 8 && matches!(book.get(5), Some(Entry::Read { seen: 4, .. })));
-    let mut text = Str::new(alloc);
-    book.write(alloc, code.code(), &mut text)?;
-    assert_eq!(rt;
-        text.as_str(),
-        "start 1 f 5\nread 1 1\nstep 1\nstep 1\nstart 2 f 6\nread 2 4\nstep 2\nstep 2\n"
-    );
-    assert_eq!(rt; Book::read(alloc, text.as_bytes(), code.code())?.len(), 8);
+    let code = deployment(alloc, CODE)?;
+    assert!(rt; orders(alloc, &code)?);
+    assert!(rt; reads_again(alloc, &code)?);
     Ok(())
+}
+
+fn runs(alloc: Global, plain: &mut Plain<'_>) -> Result<bool, Fail> {
+    let book = two_requests(alloc)?;
+    or_drop!(plain.run(&book); book);
+    drop(book);
+    Ok(matches!(plain.reply(2), Some(Outcome::Value(Value::Int(5)))))
+}
+
+fn has_written(alloc: Global, plain: &Plain<'_>) -> Result<bool, Fail> {
+    let key = Str::from_text(alloc, "k")?;
+    let has_written = matches!(plain.value(1, 0, &key), Value::Int(6));
+    drop(key);
+    Ok(has_written)
+}
+
+// Whether an entry that starts ticket 3 starts it.
+fn carries_out(plain: &mut Plain<'_>) -> Result<bool, Fail> {
+    let (ticket, func) = (3, 1);
+    let args = Value::Null;
+    let start = Entry::Start { ticket, func, args };
+    or_drop!(plain.carry_out(&start); start);
+    drop(start);
+    let again = plain.start(ticket, func, Value::Null);
+    Ok(again == Err(PlainErr::NotEnabled(Bar::AlreadyStarted)))
+}
+
+fn goes_on(alloc: Global, plain: &mut Plain<'_>) -> Result<bool, Fail> {
+    Ok(runs(alloc, plain)? && has_written(alloc, plain)? && carries_out(plain)?)
+}
+
+fn is_run(alloc: Global, code: &Checked) -> Result<bool, Fail> {
+    let mut plain = Plain::new(alloc, code);
+    let is_run = or_drop!(goes_on(alloc, &mut plain); plain);
+    drop(plain);
+    Ok(is_run)
 }
 
 #[test]
 fn a_book_is_run(rt: HostRuntime) -> Result<(), Fail> {
     let alloc = rt.alloc();
-    let code = deployment(alloc)?;
-    let key = Str::from_text(alloc, "k")?;
-    let mut plain = Plain::new(alloc, &code);
-    plain.run(&two_requests(alloc)?)?;
-    assert!(rt; matches!(plain.value(1, 0, &key), Value::Int(6)));
-    assert!(rt; matches!(plain.reply(2), Some(Outcome::Value(Value::Int(5)))));
+    let code = deployment(alloc, CODE)?;
+    assert!(rt; is_run(alloc, &code)?);
     Ok(())
 }
 
-#[test]
-fn steps_are_made(rt: HostRuntime) -> Result<(), Fail> {
-    let alloc = rt.alloc();
-    let code = deployment(alloc)?;
-    let id = IntentId::root(alloc, 1);
-    let mut plain = Plain::new(alloc, &code);
-    plain.start(1, 1, Value::Int(6))?;
-    plain.carry_out(&Entry::Read {
-        id: IntentId::root(alloc, 1),
-        seen: 1,
-    })?;
-    plain.step(&id)?;
-    plain.step(&id)?;
-    assert_eq!(rt; plain.step(&id), Err(PlainErr::NotEnabled(Bar::Over)));
-    let mut text = Str::new(alloc);
-    plain.tables(&mut text)?;
-    assert_eq!(rt; text.as_str(), "f t \"k\" 6\n");
-    Ok(())
+// Whether a host tells its run and its moment, once a request was bound.
+fn tells(host: &mut Host<MapTable>) -> Result<bool, Fail> {
+    let request = Event::Request {
+        ticket: 1,
+        func: 1,
+        args: Value::Null,
+    };
+    drop(or_drop!(host.event(Event::Ticket); request));
+    drop(host.event(request)?);
+    Ok(host.next_run(0) == Some(1) && host.now() == 3)
+}
+
+fn are_told(alloc: Global, code: Checked) -> Result<bool, Fail> {
+    match Host::open(alloc, code, MapTable::new(alloc), 3) {
+        Ok(mut host) => {
+            let told = or_drop!(tells(&mut host); host);
+            drop(host);
+            Ok(told)
+        }
+        Err(refused) => {
+            drop(refused);
+            Ok(false)
+        }
+    }
 }
 
 #[test]
 fn a_host_tells_its_runs(rt: HostRuntime) -> Result<(), Fail> {
     let alloc = rt.alloc();
-    let Ok(mut host) = Host::open(alloc, deployment(alloc)?, MapTable::new(alloc), 3) else {
-        return Err(Fail::new("refused"));
-    };
-    host.event(Event::Ticket)?;
-    let args = Value::Null;
-    host.event(Event::Request {
-        ticket: 1,
-        func: 1,
-        args,
-    })?;
-    assert_eq!(rt; host.next_run(0), Some(1));
-    assert_eq!(rt; host.now(), 3);
+    assert!(rt; are_told(alloc, deployment(alloc, CODE)?)?);
     Ok(())
+}
+
+fn reads_up_to(alloc: Global) -> Result<bool, Fail> {
+    let bytes = b"0123".to_vec(alloc)?;
+    let mut source = MemSource::new(bytes, Vec::new(alloc));
+    let read = or_drop!(read_up_to(alloc, &mut source, 4); source);
+    drop(source);
+    let has_read = read.as_slice() == b"0123".as_slice();
+    drop(read);
+    Ok(has_read)
+}
+
+fn tells_moment(alloc: Global) -> Result<bool, Fail> {
+    let mut clock = MemClock::new([5].to_vec(alloc)?);
+    let is_told = clock.now() == 5;
+    drop(clock);
+    Ok(is_told)
+}
+
+fn is_closed(link: &mut ClosedLink) -> bool {
+    link.listen(8080) == Err(Failed)
+        && link.accept() == Err(Failed)
+        && link.read(&mut [0; 4]) == Err(Failed)
+        && link.write(b"a") == Err(Failed)
 }
 
 #[test]
 fn what_is_outside(rt: HostRuntime) -> Result<(), Fail> {
     let alloc = rt.alloc();
-    let mut source = MemSource::new(b"0123".to_vec(alloc)?, Vec::new(alloc));
-    assert_eq!(rt; read_up_to(alloc, &mut source, 4)?.len(), 4);
+    assert!(rt; reads_up_to(alloc)?);
+    assert!(rt; tells_moment(alloc)?);
     let mut link = ClosedLink::new();
-    assert_eq!(rt; link.listen(8080), Err(Failed));
-    assert_eq!(rt; link.accept(), Err(Failed));
-    assert_eq!(rt; link.read(&mut [0; 4]), Err(Failed));
-    assert_eq!(rt; link.write(b"a"), Err(Failed));
+    assert!(rt; is_closed(&mut link));
     link.close();
     assert_eq!(rt; (link.refusals, link.faults), (2, 2));
-    assert_eq!(rt; MemClock::new([5].to_vec(alloc)?).now(), 5);
     Ok(())
 }

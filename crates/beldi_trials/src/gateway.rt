@@ -1,7 +1,7 @@
 // Requests as they come in, whole and a byte at a time, and what is written; the real link and the clock once.
 use beldi_gateway::{CallSaid, Desk, Served, TicketSaid, serve_one};
 use beldi_outside::{Link, MemLink, TcpLink, WallClock};
-use beldi_value::{Outcome, Value};
+use beldi_value::{Outcome, Value, or_drop};
 use std::alloc::Global;
 use std::io::{Read, Write};
 use std::net::{Ipv4Addr, SocketAddr, TcpStream};
@@ -280,20 +280,27 @@ const CASES: [Case; 43] = [
     ),
 ];
 
-// What is served and written for one request whose bytes come in pieces of this length.
-fn serve(alloc: Global, request: Vec<u8>, piece: usize) -> Result<(Served, Vec<u8>), Fail> {
+// A link with one request, whose bytes come in pieces of this length.
+fn link_of(alloc: Global, request: Vec<u8>, piece: usize) -> Result<MemLink, Fail> {
     let mut connections = Vec::new(alloc);
-    connections.push(request)?;
-    let mut link = MemLink::with_piece(alloc, connections, Vec::new(alloc), piece);
+    or_drop!(connections.push(request); connections);
+    Ok(MemLink::with_piece(alloc, connections, Vec::new(alloc), piece))
+}
+
+fn serve(alloc: Global, link: &mut MemLink) -> Result<Served, Fail> {
     let mut desk = EchoDesk { asked: 0 };
     if link.accept().is_err() {
-        return Ok((Served::Fault, Vec::new(alloc)));
+        return Ok(Served::Fault);
     }
-    let served = serve_one(alloc, &mut desk, &mut link)?;
+    let served = serve_one(alloc, &mut desk, link)?;
     link.close();
+    Ok(served)
+}
+
+fn has_written(link: &MemLink, text: &[u8]) -> bool {
     match link.written(0) {
-        Some(bytes) => Ok((served, Vec::from_slice(alloc, bytes)?)),
-        None => Ok((Served::Fault, Vec::new(alloc))),
+        Some(bytes) => bytes == text,
+        None => false,
     }
 }
 
@@ -313,48 +320,85 @@ fn phrase(status: u16) -> &'static str {
     }
 }
 
+// A response of this status, with this field and body.
+fn response(alloc: Global, wanted: (u16, &str, &str)) -> Result<String, Fail> {
+    let (status, allow, body) = wanted;
+    Ok(format!(in alloc;
+        "HTTP/1.1 {status} {}\r\nContent-Type: application/json\r\n{allow}Content-Length: {}\r\nConnection: close\r\n\r\n{body}",
+        phrase(status),
+        body.len()
+    )?)
+}
+
+// Whether a request is answered so.
 fn is_answered(
     alloc: Global,
     request: Vec<u8>,
     piece: usize,
     wanted: (u16, &str, &str),
 ) -> Result<bool, Fail> {
-    let (status, allow, body) = wanted;
-    let text = format!(in alloc;
-        "HTTP/1.1 {status} {}\r\nContent-Type: application/json\r\n{allow}Content-Length: {}\r\nConnection: close\r\n\r\n{body}",
-        phrase(status),
-        body.len()
-    )?;
-    let (served, written) = serve(alloc, request, piece)?;
-    Ok(served == Served::Status(status) && written.as_slice() == text.as_bytes())
+    let mut link = link_of(alloc, request, piece)?;
+    let served = or_drop!(serve(alloc, &mut link); link);
+    let text = or_drop!(response(alloc, wanted); link);
+    let is_written = has_written(&link, text.as_bytes());
+    drop(link);
+    drop(text);
+    Ok(served == Served::Status(wanted.0) && is_written)
+}
+
+fn is_silent(alloc: Global) -> Result<bool, Fail> {
+    let mut link = link_of(alloc, Vec::new(alloc), 1)?;
+    let served = or_drop!(serve(alloc, &mut link); link);
+    let is_empty = has_written(&link, b"");
+    drop(link);
+    Ok(served == Served::Silent && is_empty)
+}
+
+// Whether a request is answered so where its bytes come in pieces of this length.
+fn passes(alloc: Global, case: &Case, piece: usize) -> Result<bool, Fail> {
+    let (request, status, allow, body) = *case;
+    let request = Vec::from_slice(alloc, request)?;
+    is_answered(alloc, request, piece, (status, allow, body))
 }
 
 #[test]
 fn requests_are_answered(rt: HostRuntime) -> Result<(), Fail> {
     let alloc = rt.alloc();
-    for (request, status, allow, body) in &CASES {
-        for piece in [1, 4096] {
-            let request = Vec::from_slice(alloc, request)?;
-            assert!(rt; is_answered(alloc, request, piece, (*status, allow, body))?);
-        }
+    for case in &CASES {
+        assert!(rt; passes(alloc, case, 1)? && passes(alloc, case, 4096)?);
     }
-    let (served, written) = serve(alloc, Vec::new(alloc), 1)?;
-    assert!(rt; served == Served::Silent && written.is_empty());
+    assert!(rt; is_silent(alloc)?);
     Ok(())
+}
+
+fn repeat(bytes: &mut Vec<u8>, piece: &[u8], times: usize) -> Result<(), Fail> {
+    for _ in 0..times {
+        bytes.extend_from_slice(piece)?;
+    }
+    Ok(())
+}
+
+fn write_head(head: &mut Vec<u8>, fields: usize, slashes: usize) -> Result<(), Fail> {
+    head.extend_from_slice(b"POST /")?;
+    repeat(head, b"/", slashes)?;
+    head.extend_from_slice(b"tickets HTTP/1.1\n")?;
+    repeat(head, b"A:b\n", fields)?;
+    Ok(head.push(b'\n')?)
 }
 
 // A request for a path that begins with so many slashes more than one. With one field its head has 28 bytes beside them.
 fn long_head(alloc: Global, fields: usize, slashes: usize) -> Result<Vec<u8>, Fail> {
-    let mut head = Vec::from_slice(alloc, b"POST /")?;
-    for _ in 0..slashes {
-        head.push(b'/')?;
-    }
-    head.extend_from_slice(b"tickets HTTP/1.1\n")?;
-    for _ in 0..fields {
-        head.extend_from_slice(b"A:b\n")?;
-    }
-    head.push(b'\n')?;
+    let mut head = Vec::new(alloc);
+    or_drop!(write_head(&mut head, fields, slashes); head);
     Ok(head)
+}
+
+// A call whose body has 65,536 bytes.
+fn long_call(alloc: Global) -> Result<Vec<u8>, Fail> {
+    let mut call = Vec::from_slice(alloc, b"POST /call/f/1 HTTP/1.1\nContent-Length: 65536\n\n")?;
+    or_drop!(repeat(&mut call, b" ", 65_535); call);
+    or_drop!(call.push(b'7'); call);
+    Ok(call)
 }
 
 #[test]
@@ -367,13 +411,23 @@ fn limits_are_kept(rt: HostRuntime) -> Result<(), Fail> {
     assert!(rt; is_answered(alloc, long_head(alloc, 65, 0)?, 100, size)?);
     assert!(rt; is_answered(alloc, long_head(alloc, 1, 16_356)?, 100, path)?);
     assert!(rt; is_answered(alloc, long_head(alloc, 1, 16_357)?, 100, size)?);
-    let mut call = Vec::from_slice(alloc, b"POST /call/f/1 HTTP/1.1\nContent-Length: 65536\n\n")?;
-    for _ in 0..65_535 {
-        call.push(b' ')?;
-    }
-    call.push(b'7')?;
-    assert!(rt; is_answered(alloc, call, 4096, (200, "", "{\"value\":7}"))?);
+    assert!(rt; is_answered(alloc, long_call(alloc)?, 4096, (200, "", "{\"value\":7}"))?);
     Ok(())
+}
+
+// Whether a client's request for a ticket is served over the open connection.
+fn takes_and_sends<N: Link>(
+    alloc: Global,
+    link: &mut N,
+    client: &mut TcpStream,
+) -> Result<bool, Fail> {
+    client.write_all(b"POST /tickets HTTP/1.1\r\n\r\n")?;
+    let mut desk = EchoDesk { asked: 0 };
+    let served = serve_one(alloc, &mut desk, link)?;
+    link.close();
+    let mut piece = [0u8; 15];
+    client.read_exact(&mut piece)?;
+    Ok(served == Served::Status(200) && piece == *b"HTTP/1.1 200 OK")
 }
 
 #[test]
@@ -381,16 +435,11 @@ fn the_real_link_takes_and_sends(rt: HostRuntime) -> Result<(), Fail> {
     let mut link = TcpLink::new(&rt);
     assert!(rt; link.accept().is_err());
     assert!(rt; link.listen(47_113).is_ok());
-    let mut client = TcpStream::connect(&rt, SocketAddr::from((Ipv4Addr::LOCALHOST, 47_113)))?;
+    let server = SocketAddr::from((Ipv4Addr::LOCALHOST, 47_113));
+    let mut client = or_drop!(TcpStream::connect(&rt, server); link);
     assert!(rt; link.accept().is_ok());
-    client.write_all(b"POST /tickets HTTP/1.1\r\n\r\n")?;
-    let mut desk = EchoDesk { asked: 0 };
-    let served = serve_one(rt.alloc(), &mut desk, &mut link)?;
-    assert!(rt; served == Served::Status(200));
-    link.close();
-    let mut piece = [0u8; 15];
-    client.read_exact(&mut piece)?;
-    assert!(rt; piece == *b"HTTP/1.1 200 OK");
+    let passed = or_drop!(takes_and_sends(rt.alloc(), &mut link, &mut client); link, client);
+    assert!(rt; passed);
     Ok(())
 }
 

@@ -1,8 +1,8 @@
 // Transactions of the plain machine, each as one step.
-use beldi_check::{Checked, check};
+use crate::calls::{deployment, is_text};
+use beldi_check::Checked;
 use beldi_executor::{Bar, Plain, PlainErr};
-use beldi_syntax::read_deployment;
-use beldi_value::{IntentId, Place, Str, Value};
+use beldi_value::{IntentId, Place, Str, Value, or_drop};
 use std::alloc::Global;
 use std::test::Fail;
 
@@ -26,74 +26,79 @@ function pay(x) {
   return \"paid\";
 }";
 
-fn bank(alloc: Global) -> Result<Checked, Fail> {
-    Ok(check(alloc, read_deployment(alloc, BANK)?.code)?)
-}
-
-// A payment that stands at the begin of its transaction.
-fn begun(plain: &mut Plain<'_>, ticket: u32, args: Value) -> Result<(), Fail> {
-    plain.start(ticket, 1, args)?;
+// The accounts are opened by the ticket of this id, and a payment of ticket 2 stands at the begin of its transaction.
+fn open(plain: &mut Plain<'_>, id: &IntentId) -> Result<(), Fail> {
+    plain.start(1, 1, Value::Null)?;
+    plain.piece(id)?;
+    plain.step(id)?;
+    plain.start(2, 1, Value::Int(3))?;
     Ok(())
 }
 
-// The accounts were opened by the first ticket.
-fn open(alloc: Global, plain: &mut Plain<'_>) -> Result<(), Fail> {
-    begun(plain, 1, Value::Null)?;
-    let id = IntentId::root(alloc, 1);
-    plain.piece(&id)?;
-    plain.step(&id)?;
-    Ok(())
-}
-
+// Whether these are the lines of all items.
 fn holds(alloc: Global, plain: &Plain<'_>, lines: &str) -> Result<bool, Fail> {
     let mut text = Str::new(alloc);
-    plain.tables(&mut text)?;
-    Ok(text.as_str() == lines)
+    or_drop!(plain.tables(&mut text); text);
+    Ok(is_text(text, lines))
+}
+
+fn commits(alloc: Global, plain: &mut Plain<'_>) -> Result<bool, Fail> {
+    let (opener, id) = (IntentId::root(alloc, 1), IntentId::root(alloc, 2));
+    or_drop!(open(plain, &opener); opener, id);
+    or_drop!(plain.piece(&id); opener, id);
+    drop(opener);
+    drop(id);
+    holds(alloc, plain, "pay accounts \"a\" 7\npay accounts \"b\" 3\n")
+}
+
+fn pays(alloc: Global, code: &Checked) -> Result<bool, Fail> {
+    let mut plain = Plain::new(alloc, code);
+    let passed = or_drop!(commits(alloc, &mut plain); plain);
+    drop(plain);
+    Ok(passed)
 }
 
 #[test]
 fn a_payment_commits(rt: HostRuntime) -> Result<(), Fail> {
     let alloc = rt.alloc();
-    let code = bank(alloc)?;
-    let mut plain = Plain::new(alloc, &code);
-    open(alloc, &mut plain)?;
-    begun(&mut plain, 2, Value::Int(3))?;
-    let id = IntentId::root(alloc, 2);
-    plain.piece(&id)?;
-    assert!(rt;
-        holds(
-            alloc,
-            &plain,
-            "pay accounts \"a\" 7\npay accounts \"b\" 3\n"
-        )?
-    );
+    let code = deployment(alloc, BANK)?;
+    assert!(rt; pays(alloc, &code)?);
     Ok(())
 }
 
-#[test]
-fn a_payment_dies(rt: HostRuntime) -> Result<(), Fail> {
-    let alloc = rt.alloc();
-    let code = bank(alloc)?;
-    let mut plain = Plain::new(alloc, &code);
-    let id = IntentId::root(alloc, 2);
-    open(alloc, &mut plain)?;
-    begun(&mut plain, 2, Value::Int(3))?;
+fn dies(alloc: Global, plain: &mut Plain<'_>) -> Result<bool, Fail> {
     let older = IntentId::root(alloc, 1);
     let place = Place {
         intent: IntentId::root(alloc, 2),
         step: 3,
     };
-    plain.try_piece(&id, &place, Some(&older))?;
-    assert!(rt; holds(alloc, &plain, "pay accounts \"a\" 10\n")?);
+    or_drop!(open(plain, &older); older, place);
+    or_drop!(plain.try_piece(&place.intent, &place, Some(&older)); older, place);
+    drop(older);
+    drop(place);
+    holds(alloc, plain, "pay accounts \"a\" 10\n")
+}
+
+fn pays_nothing(alloc: Global, code: &Checked) -> Result<bool, Fail> {
+    let mut plain = Plain::new(alloc, code);
+    let passed = or_drop!(dies(alloc, &mut plain); plain);
+    drop(plain);
+    Ok(passed)
+}
+
+#[test]
+fn a_payment_dies(rt: HostRuntime) -> Result<(), Fail> {
+    let alloc = rt.alloc();
+    let code = deployment(alloc, BANK)?;
+    assert!(rt; pays_nothing(alloc, &code)?);
     Ok(())
 }
 
-// A deal calls `hand`, which calls `put` twice: two calls deep. `put` aborts at a 5, the deal at a 3.
+// A deal calls `hand`, which calls `put` twice: two calls deep. The deal aborts at a 3.
 const DEAL: &[u8] = b"life 9;
 function put(x) {
   table boxes;
   write boxes[\"b\"] = x;
-  if x == 5 { abort; }
   read y = boxes[\"b\"];
   return y;
 }
@@ -118,71 +123,63 @@ function deal(x) {
   return \"dealt\";
 }";
 
-fn deals(alloc: Global) -> Result<Checked, Fail> {
-    Ok(check(alloc, read_deployment(alloc, DEAL)?.code)?)
+// Whether a step of the instance with this id is barred so.
+fn is_barred(alloc: Global, plain: &mut Plain<'_>, id: &[u8], bar: Bar) -> Result<bool, Fail> {
+    let id = IntentId::read(alloc, id)?;
+    let step = plain.step(&id);
+    drop(id);
+    Ok(step == Err(PlainErr::NotEnabled(bar)))
 }
 
-// The deal of ticket 2 aborts at this place, and leaves neither items nor `hand`.
-fn falls(alloc: Global, x: i64, place: &Place, holder: Option<&IntentId>) -> Result<bool, Fail> {
-    let code = deals(alloc)?;
-    let mut plain = Plain::new(alloc, &code);
-    plain.start(1, 3, Value::Null)?;
-    plain.start(2, 3, Value::Int(x))?;
-    plain.try_piece(&IntentId::root(alloc, 2), place, holder)?;
-    let none = Err(PlainErr::NotEnabled(Bar::NotStarted));
-    Ok(plain.step(&IntentId::read(alloc, b"2/2")?) == none && holds(alloc, &plain, "")?)
+const DEALT: &str = "put boxes \"b\" 7\nhand purses \"p\" 8\ndeal sums \"s\" 14\n";
+
+// Whether a deal is made whole, and the second `put` is over.
+fn is_dealt(alloc: Global, plain: &mut Plain<'_>) -> Result<bool, Fail> {
+    plain.start(2, 3, Value::Int(7))?;
+    let id = IntentId::root(alloc, 2);
+    or_drop!(plain.piece(&id); id);
+    drop(id);
+    Ok(is_barred(alloc, plain, b"2/2/3", Bar::Over)? && holds(alloc, plain, DEALT)?)
+}
+
+fn deals(alloc: Global, code: &Checked) -> Result<bool, Fail> {
+    let mut plain = Plain::new(alloc, code);
+    let passed = or_drop!(is_dealt(alloc, &mut plain); plain);
+    drop(plain);
+    Ok(passed)
 }
 
 #[test]
 fn a_deal_commits_with_its_callees(rt: HostRuntime) -> Result<(), Fail> {
     let alloc = rt.alloc();
-    let code = deals(alloc)?;
-    let mut plain = Plain::new(alloc, &code);
-    plain.start(2, 3, Value::Int(7))?;
-    plain.piece(&IntentId::root(alloc, 2))?;
-    assert!(rt;
-        plain.step(&IntentId::read(alloc, b"2/2/3")?) == Err(PlainErr::NotEnabled(Bar::Over))
-    );
-    assert!(rt;
-        holds(
-            alloc,
-            &plain,
-            "put boxes \"b\" 7\nhand purses \"p\" 8\ndeal sums \"s\" 14\n"
-        )?
-    );
+    let code = deployment(alloc, DEAL)?;
+    assert!(rt; deals(alloc, &code)?);
     Ok(())
+}
+
+// Whether a deal that aborts leaves neither items nor `hand`.
+fn leaves_nothing(alloc: Global, plain: &mut Plain<'_>) -> Result<bool, Fail> {
+    plain.start(2, 3, Value::Int(3))?;
+    let place = Place {
+        intent: IntentId::root(alloc, 2),
+        step: 4,
+    };
+    or_drop!(plain.try_piece(&place.intent, &place, None); place);
+    drop(place);
+    Ok(is_barred(alloc, plain, b"2/2", Bar::NotStarted)? && holds(alloc, plain, "")?)
+}
+
+fn falls(alloc: Global, code: &Checked) -> Result<bool, Fail> {
+    let mut plain = Plain::new(alloc, code);
+    let passed = or_drop!(leaves_nothing(alloc, &mut plain); plain);
+    drop(plain);
+    Ok(passed)
 }
 
 #[test]
 fn a_deal_aborts_after_its_callees(rt: HostRuntime) -> Result<(), Fail> {
     let alloc = rt.alloc();
-    let place = Place {
-        intent: IntentId::root(alloc, 2),
-        step: 4,
-    };
-    assert!(rt; falls(alloc, 3, &place, None)?);
-    Ok(())
-}
-
-#[test]
-fn a_deal_aborts_two_calls_deep(rt: HostRuntime) -> Result<(), Fail> {
-    let alloc = rt.alloc();
-    let place = Place {
-        intent: IntentId::read(alloc, b"2/2/1")?,
-        step: 1,
-    };
-    assert!(rt; falls(alloc, 5, &place, None)?);
-    Ok(())
-}
-
-#[test]
-fn a_deal_dies_two_calls_deep(rt: HostRuntime) -> Result<(), Fail> {
-    let alloc = rt.alloc();
-    let older = IntentId::root(alloc, 1);
-    let place = Place {
-        intent: IntentId::read(alloc, b"2/2/3")?,
-        step: 1,
-    };
-    assert!(rt; falls(alloc, 6, &place, Some(&older))?);
+    let code = deployment(alloc, DEAL)?;
+    assert!(rt; falls(alloc, &code)?);
     Ok(())
 }
