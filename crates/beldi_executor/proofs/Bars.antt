@@ -1,4 +1,4 @@
--- What bars an effect from being entered as a read, or as a change.
+-- What bars an effect from being carried out, and a transaction from being one step.
 use Rattle.std.proofs.Common.{◌≡◌, Bool, true, false, Option, Some, None, Ok, Err, refl, ap, sym, ◌∙◌}
 use Rattle.std.specs.Prelude.{is_none}
 use Rattle.std.specs.FinMap as map
@@ -10,8 +10,8 @@ use Rattle.beldi_lang.specs.declared.effect.Effect.{Effect}
 use Rattle.beldi_lang.specs.declared.effect.Effect.TheVariants as effect
 use Rattle.beldi_lang.specs.declared.machine.Machine.{Machine}
 use Rattle.beldi_book.specs.declared.entry.Entry.TheVariants.{Tx, Try}
-use Rattle.beldi_plain.specs.Plain.{PlainState, Instance, effect_of, kind_of, step_by, if_open, unless, can_step, is_waiting, if_built, if_read, if_change}
-use Rattle.beldi_executor.specs.Answers.{Did, IsFree, StandsFree, Entered, DidStep, bar_of, bar_open, bar_waiting, bar_step, bar_as, bar_made, bar_no, bar_piece, bar_try}
+use Rattle.beldi_plain.specs.Plain.{PlainState, Instance, effect_of, kind_of, step_by, if_open, unless, can_step, is_waiting, if_built}
+use Rattle.beldi_executor.specs.Answers.{Did, IsFree, StandsFree, DidStep, bar_of, bar_open, bar_waiting, bar_step, bar_made, bar_no, bar_piece, bar_try}
 use Rattle.beldi_plain.specs.Entries.{after}
 use Rattle.beldi_executor.specs.Inside.{Begins, StandsAtBegin, Pieced, Tried}
 use Rattle.beldi_plain.specs.Piece.{piece_from, try_from}
@@ -35,34 +35,6 @@ stepped d p id m r f = steps (map.get p.made id) r.ready.instance (is_waiting d 
 
 barred : (d : Deployment) (p : PlainState) (id : IntentId) (m : Machine) (r : IsFree d p id m) (f : Instance → Option Bar) → bar_step (map.get p.made id) (is_waiting d p id) f ≡ f r.ready.instance
 barred d p id m r f = bars (map.get p.made id) r.ready.instance (is_waiting d p id) f r.ready.made r.ready.yet ∙ ap (λ b. bar_waiting b (f r.ready.instance)) r.free
-
-no_read : {X : Type 0} (k : Kind) (x : X) → is_none (bar_as true k) ≡ false → (if_read k x ≡ None) × (bar_as true k ≡ Some OtherEffect)
-no_read Read x h = cc
-no_read Change x h = (refl, refl)
-no_read Inside x h = (refl, refl)
-no_read Unbuilt x h = (refl, refl)
-
-no_change : {X : Type 0} (k : Kind) (x : X) → is_none (bar_as false k) ≡ false → (if_change k x ≡ None) × (bar_as false k ≡ Some OtherEffect)
-no_change Read x h = (refl, refl)
-no_change Change x h = cc
-no_change Inside x h = (refl, refl)
-no_change Unbuilt x h = (refl, refl)
-
--- an effect is not entered as what it is not
-pub other_effect : (d : Deployment) (p : PlainState) (id : IntentId) (reads : Bool) (m : Machine) → IsFree d p id m → is_none (bar_as reads (kind_of id m.effect)) ≡ false → Entered d id reads p p (Err (NotEnabled OtherEffect))
-other_effect d p id true m r h =
-    let n = no_read (kind_of id m.effect) (step_by p id r.ready.instance m.effect) h in
-    λ seen. (
-      refl,
-      stepped d p id m r _ ∙ ap (λ e. if_read (kind_of id e) (step_by p id r.ready.instance e)) (sym r.ready.stands.0) ∙ n.0,
-      barred d p id m r _ ∙ ap (λ e. bar_as true (kind_of id e)) (sym r.ready.stands.0) ∙ n.1,
-    )
-other_effect d p id false m r h =
-    let n = no_change (kind_of id m.effect) (step_by p id r.ready.instance m.effect) h in (
-      refl,
-      stepped d p id m r _ ∙ ap (λ e. if_change (kind_of id e) (step_by p id r.ready.instance e)) (sym r.ready.stands.0) ∙ n.0,
-      barred d p id m r _ ∙ ap (λ e. bar_as false (kind_of id e)) (sym r.ready.stands.0) ∙ n.1,
-    )
 
 -- there is no step at an effect that is not carried out yet
 no_step : {X : Type 0} (k : Kind) (x : X) → is_none (bar_made k) ≡ false → (if_built k x ≡ None) × (bar_made k ≡ Some OtherEffect)
