@@ -1,7 +1,7 @@
 use beldi_outside::{ClosedLink, MemClock, MemSink, MemSource};
 use beldi_program::top;
 use beldi_table::FailingTable;
-use beldi_value::Str;
+use beldi_value::{Str, or_drop};
 use std::alloc::Global;
 use std::test::Fail;
 
@@ -11,6 +11,13 @@ const SOURCE: &[u8] =
 const WHOLE: &[u8] =
     b"ticket 1\nbound 1 run 1\nacted\nacted\nacted\nacted step 1\nacted step 1 over\nreply 1 value 7\n== tables\nf t \"k\" 7\n== book\nstart 1 f 7\nstep 1\nstep 1\n";
 
+fn run_words(alloc: Global) -> Result<Vec<Str>, Fail> {
+    let run = Str::from_text(alloc, "run")?;
+    let mut words = Vec::new(alloc);
+    or_drop!(words.push(run); words);
+    Ok(words)
+}
+
 // The status with which `run` ends over a table that fails these calls.
 fn ends(
     alloc: Global,
@@ -18,12 +25,12 @@ fn ends(
     sink: &mut MemSink,
     calls: &[u32],
 ) -> Result<u8, Fail> {
-    let mut words = Vec::new(alloc);
-    words.push(Str::from_text(alloc, "run")?)?;
-    let table = FailingTable::new(alloc, Vec::from_slice(alloc, calls)?);
+    let words = run_words(alloc)?;
+    let calls = or_drop!(Vec::from_slice(alloc, calls); words);
+    let table = FailingTable::new(alloc, calls);
     let mut link = ClosedLink::new();
     let mut clock = MemClock::new(Vec::new(alloc));
-    let (status, _table) = top(
+    let (status, table) = top(
         alloc,
         words.as_slice(),
         source,
@@ -32,7 +39,25 @@ fn ends(
         &mut link,
         &mut clock,
     );
+    drop(words);
+    drop(clock);
+    drop(table);
     Ok(status)
+}
+
+// Whether it ends so over these streams, and has written this text.
+fn is_end(
+    alloc: Global,
+    mut source: MemSource,
+    mut sink: MemSink,
+    calls: &[u32],
+    wanted: (u8, &[u8]),
+) -> Result<bool, Fail> {
+    let status = or_drop!(ends(alloc, &mut source, &mut sink, calls); source, sink);
+    drop(source);
+    let is_written = sink.as_slice() == wanted.1;
+    drop(sink);
+    Ok(status == wanted.0 && is_written)
 }
 
 // Whether the smallest path ends so where these reads, writes and calls of the table fail.
@@ -42,13 +67,12 @@ fn path_ends(
     wanted: u8,
     text: &[u8],
 ) -> Result<bool, Fail> {
-    let mut source = MemSource::new(
-        Vec::from_slice(alloc, SOURCE)?,
-        Vec::from_slice(alloc, fail.0)?,
-    );
-    let mut sink = MemSink::new(alloc, Vec::from_slice(alloc, fail.1)?);
-    let status = ends(alloc, &mut source, &mut sink, fail.2)?;
-    Ok(status == wanted && sink.as_slice() == text)
+    let bytes = Vec::from_slice(alloc, SOURCE)?;
+    let reads = or_drop!(Vec::from_slice(alloc, fail.0); bytes);
+    let source = MemSource::new(bytes, reads);
+    let writes = or_drop!(Vec::from_slice(alloc, fail.1); source);
+    let sink = MemSink::new(alloc, writes);
+    is_end(alloc, source, sink, fail.2, (wanted, text))
 }
 
 #[test]
@@ -96,10 +120,11 @@ fn a_call_of_the_table_that_fails_is_answered(rt: HostRuntime) -> Result<(), Fai
 
 // Whether the smallest path, read and written a byte at a time, ends so where this write fails.
 fn bytes_end(alloc: Global, write: u32, wanted: u8, text: &[u8]) -> Result<bool, Fail> {
-    let mut source = MemSource::with_piece(Vec::from_slice(alloc, SOURCE)?, Vec::new(alloc), 1);
-    let mut sink = MemSink::with_piece(alloc, Vec::from_slice(alloc, [write].as_slice())?, 1);
-    let status = ends(alloc, &mut source, &mut sink, &[])?;
-    Ok(status == wanted && sink.as_slice() == text)
+    let bytes = Vec::from_slice(alloc, SOURCE)?;
+    let source = MemSource::with_piece(bytes, Vec::new(alloc), 1);
+    let writes = or_drop!([write].to_vec(alloc); source);
+    let sink = MemSink::with_piece(alloc, writes, 1);
+    is_end(alloc, source, sink, &[], (wanted, text))
 }
 
 #[test]
