@@ -51,7 +51,10 @@ impl Desk for EchoDesk {
     }
 }
 
-// A request, the status of its response, the field `Allow`, and the body.
+// The status of a response, the field `Allow`, and the body.
+type Answer = (u16, &'static str, &'static str);
+
+// A request, and the same of its response.
 type Case = (&'static [u8], u16, &'static str, &'static str);
 
 const CASES: [Case; 43] = [
@@ -321,7 +324,7 @@ fn phrase(status: u16) -> &'static str {
 }
 
 // A response of this status, with this field and body.
-fn response(alloc: Global, wanted: (u16, &str, &str)) -> Result<String, Fail> {
+fn response(alloc: Global, wanted: Answer) -> Result<String, Fail> {
     let (status, allow, body) = wanted;
     Ok(format!(in alloc;
         "HTTP/1.1 {status} {}\r\nContent-Type: application/json\r\n{allow}Content-Length: {}\r\nConnection: close\r\n\r\n{body}",
@@ -335,7 +338,7 @@ fn is_answered(
     alloc: Global,
     request: Vec<u8>,
     piece: usize,
-    wanted: (u16, &str, &str),
+    wanted: Answer,
 ) -> Result<bool, Fail> {
     let mut link = link_of(alloc, request, piece)?;
     let served = or_drop!(serve(alloc, &mut link); link);
@@ -401,17 +404,32 @@ fn long_call(alloc: Global) -> Result<Vec<u8>, Fail> {
     Ok(call)
 }
 
+const TOO_LARGE: Answer = (431, "", "{\"error\":\"head-size\"}");
+
+fn head_passes(alloc: Global, fields: usize, slashes: usize, wanted: Answer) -> Result<bool, Fail> {
+    is_answered(alloc, long_head(alloc, fields, slashes)?, 100, wanted)
+}
+
+fn fields_are_counted(alloc: Global) -> Result<bool, Fail> {
+    let ticket = (200, "", "{\"ticket\":1}");
+    Ok(head_passes(alloc, 64, 0, ticket)? && head_passes(alloc, 65, 0, TOO_LARGE)?)
+}
+
+fn bytes_are_counted(alloc: Global) -> Result<bool, Fail> {
+    let path = (404, "", "{\"error\":\"path\"}");
+    Ok(head_passes(alloc, 1, 16_356, path)? && head_passes(alloc, 1, 16_357, TOO_LARGE)?)
+}
+
+fn long_call_passes(alloc: Global) -> Result<bool, Fail> {
+    is_answered(alloc, long_call(alloc)?, 4096, (200, "", "{\"value\":7}"))
+}
+
 #[test]
 fn limits_are_kept(rt: HostRuntime) -> Result<(), Fail> {
     let alloc = rt.alloc();
-    let ticket = (200, "", "{\"ticket\":1}");
-    let path = (404, "", "{\"error\":\"path\"}");
-    let size = (431, "", "{\"error\":\"head-size\"}");
-    assert!(rt; is_answered(alloc, long_head(alloc, 64, 0)?, 100, ticket)?);
-    assert!(rt; is_answered(alloc, long_head(alloc, 65, 0)?, 100, size)?);
-    assert!(rt; is_answered(alloc, long_head(alloc, 1, 16_356)?, 100, path)?);
-    assert!(rt; is_answered(alloc, long_head(alloc, 1, 16_357)?, 100, size)?);
-    assert!(rt; is_answered(alloc, long_call(alloc)?, 4096, (200, "", "{\"value\":7}"))?);
+    assert!(rt; fields_are_counted(alloc)?);
+    assert!(rt; bytes_are_counted(alloc)?);
+    assert!(rt; long_call_passes(alloc)?);
     Ok(())
 }
 
