@@ -1,7 +1,6 @@
 -- The least number past another, of the entries of a map.
-use Rattle.std.proofs.Common.{◌≡◌, ◌⊎◌, inl, inr, ℕ, ◌<◌, ◌≤◌, Bool, true, false, cond, ◌&&◌, T, List, [], ◌∷◌, Option, None, Some, refl, ap, sym, ◌∙◌, subst, arith}
-use borrow.Author.Tests.{ltb-true, ltb-false}
-use Rattle.std.specs.Prelude.{IsSome, max, nat_lt, filter}
+use Rattle.std.proofs.Common.{◌≡◌, ℕ, ◌<◌, ◌≤◌, true, false, cond, ◌&&◌, T, List, [], ◌∷◌, Option, None, Some, refl, ap, sym, ◌∙◌, subst, arith}
+use Rattle.std.specs.Prelude.{IsSome, filter}
 use Rattle.std.specs.Option.{MatchOption, option_map}
 use denote.Bor.{Bor}
 use Rattle.std.specs.Map.{keys_of}

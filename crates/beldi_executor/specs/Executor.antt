@@ -1,5 +1,5 @@
 -- What contracts see of the executor, and which machines it keeps.
-use Rattle.std.specs.Prelude.{◌≡◌, ◌⊎◌, ℕ, Bool, ◌≤◌, length, take, List, Option, Some, None, Result, Ok, Err, IsTrue, true, is_some, if◌then◌else◌}
+use Rattle.std.specs.Prelude.{◌≡◌, ◌⊎◌, ℕ, Bool, length, take, List, Option, Some, None, Result, Ok, Err, IsTrue, true, is_some, if◌then◌else◌}
 use Rattle.std.specs.FinMap as map
 use Rattle.std.specs.FinMap.{FinMap}
 use Rattle.std.specs.declared.alloc.AllocError.{AllocError}

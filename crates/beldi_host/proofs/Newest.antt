@@ -1,27 +1,17 @@
 -- The greatest ticket of the keys of a map.
-use Rattle.std.proofs.Common.{◌≡◌, ◌⊎◌, inl, inr, ℕ, ◌<◌, ◌≤◌, Bool, true, false, cond, ◌&&◌, T, List, [], ◌∷◌, Option, None, Some, refl, ap, sym, ◌∙◌, subst, arith}
+use Rattle.std.proofs.Common.{◌≡◌, ◌⊎◌, inl, inr, ℕ, ◌<◌, ◌≤◌, Bool, true, false, cond, List, [], ◌∷◌, Option, None, Some, refl, ap, sym, ◌∙◌, subst, arith}
 use borrow.Author.Tests.{ltb-true, ltb-false}
-use Rattle.std.specs.Prelude.{IsSome, max, nat_lt, filter}
-use Rattle.std.specs.Option.{MatchOption, option_map}
-use denote.Bor.{Bor}
-use Rattle.std.specs.Map.{keys_of}
-use Rattle.std.specs.List.Sorted.{IsStrictlySortedBy}
+use Rattle.std.specs.Prelude.{IsSome, max, nat_lt}
 use Rattle.std.specs.FinMap as map
-use Rattle.std.specs.FinMap.{nat_cmp-IsAntisymmetric, get-entries, entries_sorted}
-use Rattle.std.specs.FinMap.Entries.{find, is_sorted, below_all}
-use Rattle.std.specs.Cmp.{nat_cmp_total, ranks, Equal-is}
-use Rattle.std.specs.Ordering.{nat_cmp, is_eq, is_lt, MatchOrdering}
+use Rattle.std.specs.FinMap.{get-entries}
+use Rattle.std.specs.FinMap.Entries.{find}
+use Rattle.std.specs.Ordering.{is_eq}
 use Rattle.std.proofs.lemmas.Cmp.{tied_itself}
-use Rattle.std.proofs.lemmas.Map.Keys.{ge_from_not_lt}
 use Rattle.beldi_row.specs.Key.{RowKey, key_cmp, key_ticket}
 use Rattle.beldi_row.specs.KeyOrder.{key_total}
 use Rattle.beldi_row.specs.declared.row.Row.{Row}
 use Rattle.beldi_row.specs.Table.{Rows, Tells}
 use Rattle.beldi_row.proofs.Gets.{key_same}
-use Rattle.beldi_row.proofs.Rows.{entries_rows}
-use Rattle.beldi_core.proofs.Truths.{first, second, test_true, less}
-use Rattle.beldi_step.specs.declared.run.Run.{Run}
-use Rattle.beldi_core.specs.Runs.{RunMap, IsLeastPast}
 use Rattle.beldi_host.specs.Survey.{greatest, newest_of, IsNewest, NewestAt}
 
 not_some : false ≡ true → ⊥

@@ -29,7 +29,7 @@ use Rattle.beldi_step.specs.declared.run.Says.TheVariants.{On, Stays, Opens, Sta
 use Rattle.beldi_step.specs.declared.run.Stage.{Stage}
 use Rattle.beldi_step.specs.declared.run.Stage.TheVariants.{Decide, End, Close}
 use Rattle.beldi_step.specs.declared.run.TurnSays.{TurnSays}
-use Rattle.beldi_step.specs.Run.{Turns, within, run_told, told_at, turned_by, stage_says, ending_says, decided_says, visit_says, decide_here_says, end_here_says, left_of, at_stage, mark_of, followed, plain_says, takes, at_state, goes_to, goes_from, begin_in, body_found}
+use Rattle.beldi_step.specs.Run.{Turns, within, run_told, told_at, turned_by, stage_says, decided_says, visit_says, decide_here_says, end_here_says, left_of, at_stage, mark_of, followed, plain_says, takes, at_state, goes_to, goes_from, begin_in, body_found}
 
 -- out of memory, the mark of its act is told
 marks : (r : Run) (p : Machine × Option RunTx) (c : Option Caller) (k : Option Mark) (s : Option Stage) → (goes_from r p c k s).mark ≡ k
