@@ -9,7 +9,9 @@ use beldi_script::{read_line, write_line};
 use beldi_step::Event;
 use beldi_syntax::read_deployment;
 use beldi_table::MapTable;
-use beldi_value::{IntentId, Outcome, Owner, Rel, Str, Value, older, or_drop, read_int};
+use beldi_value::{
+    IntentId, Items, Outcome, Owner, Rel, Str, Value, Values, older, or_drop, read_int,
+};
 use std::alloc::Global;
 use std::test::Fail;
 
@@ -52,11 +54,22 @@ pub fn is_text(text: Str, wanted: &str) -> bool {
     is_text
 }
 
+fn lists_are_made(alloc: Global) -> Result<bool, Fail> {
+    let values = Values::from_vec(Vec::from_array(alloc, [Value::Int(7)])?);
+    let has_value = matches!(values.at(0), Some(Value::Int(7)));
+    drop(values);
+    let items = Items::from_vec(Vec::from_array(alloc, [7])?);
+    let has_item = items.as_slice() == [7].as_slice();
+    drop(items);
+    Ok(has_value && has_item)
+}
+
 #[test]
 fn ids_and_values(rt: HostRuntime) -> Result<(), Fail> {
     let alloc = rt.alloc();
     assert!(rt; is_older(alloc)?);
     assert!(rt; owner_is_written(alloc)?);
+    assert!(rt; lists_are_made(alloc)?);
     assert_eq!(rt; read_int(b"-5"), Some(-5));
     assert!(rt; Value::Int(1).passes(Rel::Lt, &Value::Int(2)));
     Ok(())
@@ -68,6 +81,13 @@ fn line_is_written(alloc: Global, code: &Checked) -> Result<bool, Fail> {
     or_drop!(write_line(alloc, code, &line, &mut text); line, text);
     drop(line);
     Ok(is_text(text, "request 1 f {\"a\":2}"))
+}
+
+fn is_taken_out(alloc: Global) -> Result<bool, Fail> {
+    let code = deployment(alloc, CODE)?.into_code();
+    let has_function = code.func_at(1).is_some();
+    drop(code);
+    Ok(has_function)
 }
 
 fn begins_inside(alloc: Global, code: &Checked) -> Result<bool, Fail> {
@@ -83,6 +103,7 @@ fn a_line_is_written_and_a_body_begins(rt: HostRuntime) -> Result<(), Fail> {
     let code = deployment(alloc, CODE)?;
     assert!(rt; line_is_written(alloc, &code)?);
     assert!(rt; begins_inside(alloc, &code)?);
+    assert!(rt; is_taken_out(alloc)?);
     Ok(())
 }
 

@@ -349,8 +349,10 @@ fn is_answered(
     Ok(served == Served::Status(wanted.0) && is_written)
 }
 
+// Whether a connection without a byte is answered by none.
 fn is_silent(alloc: Global) -> Result<bool, Fail> {
-    let mut link = link_of(alloc, Vec::new(alloc), 1)?;
+    let connections = Vec::from_array(alloc, [Vec::new(alloc)])?;
+    let mut link = MemLink::new(alloc, connections, Vec::new(alloc));
     let served = or_drop!(serve(alloc, &mut link); link);
     let is_empty = has_written(&link, b"");
     drop(link);

@@ -2,6 +2,7 @@
 ghost use Rattle.std.specs.Prelude.{◌≡◌, []};
 
 use beldi_call::{AsyncSays, AsyncWalk, CallSays, CallWalk};
+use beldi_collect::{IcSays, IntentCursor};
 use beldi_daal::{CellOp, Item, ReadSays, ReadWalk, WriteSays, WriteWalk};
 use beldi_intent::{Binding, Put, bind, end, issue, look, register};
 use beldi_invokelog::{Back, Invoked, call_back, open_once, registered, result};
@@ -260,6 +261,14 @@ fn binds(alloc: Global, table: &mut MapTable) -> Result<bool, Fail> {
     Ok(is_so!(bind(alloc, table, 1, 1, Value::Null, 5)?, Binding::Bound))
 }
 
+// What the collector's walk says of the first row.
+fn first_row(alloc: Global, table: &mut MapTable) -> Result<IcSays, Fail> {
+    let mut cursor = IntentCursor::new(alloc);
+    let says = or_drop!(cursor.turn(alloc, table); cursor);
+    drop(cursor);
+    Ok(says)
+}
+
 fn ends(alloc: Global, table: &mut MapTable) -> Result<bool, Fail> {
     let outcome = Outcome::Value(Value::Null);
     let put = end(table, IntentId::root(alloc, 1), 1, outcome, true, 5)?;
@@ -272,7 +281,9 @@ fn an_intent_is_bound_and_ended(rt: HostRuntime) -> Result<(), Fail> {
     let mut table = roomy(alloc)?;
     assert!(rt; issue(alloc, &mut table, 1, 5)?);
     assert!(rt; binds(alloc, &mut table)?);
+    assert!(rt; is_so!(first_row(alloc, &mut table)?, IcSays::Unended { .. }));
     assert!(rt; ends(alloc, &mut table)?);
+    assert!(rt; is_so!(first_row(alloc, &mut table)?, IcSays::Passed));
     Ok(())
 }
 
