@@ -1,62 +1,12 @@
 -- Each act inside an open transaction, among all others: what shadows show is kept, and what is known stays beside the plain state.
-use Rattle.std.proofs.Common.{◌≡◌, ◌∙◌, ◌⊎◌, inl, inr, ℕ, Bool, true, false, cond, ◌&&◌, ◌||◌, List, length, Option, Some, None, is_some, refl, ap, sym, subst, if◌then◌else◌}
-use Rattle.std.specs.FinMap as map
-use Rattle.std.specs.Ordering.{is_eq}
-use Rattle.std.proofs.lemmas.Cmp.{tied_itself}
-use Rattle.std.proofs.lemmas.Bool.{and_right}
-use Rattle.beldi_value.specs.Id.{id_cmp, id_total, child_of, has_callees}
-use Rattle.beldi_value.specs.Passes.{passes}
-use Rattle.beldi_value.specs.declared.id.IntentId.{IntentId}
-use Rattle.beldi_value.specs.declared.outcome.Cause.{Cause}
-use Rattle.beldi_value.specs.declared.outcome.Outcome.{Outcome}
-use Rattle.beldi_value.specs.declared.place.Owner.TheVariants.{Tx}
-use Rattle.beldi_value.specs.declared.place.TxId.{TxId}
-use Rattle.beldi_value.specs.declared.rel.Rel.{Rel}
-use Rattle.beldi_value.specs.declared.value.Value.{Value}
-use Rattle.beldi_value.specs.declared.value.Value.TheVariants as value
-use Rattle.beldi_value.proofs.Callees.{child_same}
-use Rattle.beldi_tree.specs.Bindings.{or_null}
-use Rattle.beldi_tree.specs.declared.deployment.Deployment.{Deployment}
-use Rattle.beldi_lang.specs.Callee.{answer_of}
-use Rattle.beldi_lang.specs.declared.effect.Answer.{Answer}
-use Rattle.beldi_lang.specs.declared.effect.Answer.TheVariants as answer
-use Rattle.beldi_lang.specs.declared.effect.Effect.{Effect}
-use Rattle.beldi_lang.specs.declared.effect.Effect.TheVariants as effect
-use Rattle.beldi_row.specs.Table.{Rows, set_row}
-use Rattle.beldi_row.specs.Key.{RowKey}
-use Rattle.beldi_row.specs.declared.row.Row.{Row}
-use Rattle.beldi_row.specs.declared.row.Row.TheVariants as rows
-use Rattle.beldi_daal.specs.Content.{content_in}
-use Rattle.beldi_readlog.specs.ReadLog.{log_key}
-use Rattle.beldi_plain.specs.Item.{Item, item_cmp, item_total}
-use Rattle.beldi_plain.specs.Moves.{Move, plain, fell}
-use Rattle.beldi_plain.specs.Operation.{OnItem, op_of, item_in, sets, or_old, touched, write}
-use Rattle.beldi_plain.specs.Operation as operation
-use Rattle.beldi_plain.specs.Piece.{aborted, is_aborted, is_owner, new_member, tx_begun}
-use Rattle.beldi_plain.specs.Plain.{Instance, PlainState, callee_of, calls_at, effect_of, ended, value_at}
-use Rattle.beldi_order.specs.Inside.{IsIn, Line}
-use Rattle.beldi_order.specs.Sane.{IsAnswer, IsDeath}
-use Rattle.beldi_order.specs.Txs.{Txs, end_of, or_own, tx_by, tx_now, txs_after, txs_by}
-use Rattle.beldi_order.proofs.Called.{not_own}
-use Rattle.beldi_order.proofs.Foreign.{none_below}
-use Rattle.beldi_order.proofs.Goes.{not_owner}
-use Rattle.beldi_order.proofs.Line.{callee_in}
-use Rattle.beldi_order.proofs.Maps.{elsewhere, equal, made_set, same_some, none_by}
-use Rattle.beldi_order.proofs.Moved.{Items, answer_by, answer_inside, items_after, items_by}
-use Rattle.beldi_order.proofs.Operations.{item_same, plain_set}
-use Rattle.beldi_order.proofs.Sanes.{is_edge}
-use Rattle.beldi_order.proofs.Sound.{sane_with}
-use Rattle.beldi_step.specs.Run.{place_of}
-use Rattle.beldi_step.specs.Tables.{value_in}
-use Rattle.beldi_known.specs.Acts.{did, tested, write_on, test_on}
-use Rattle.beldi_known.specs.Beside.{OpenTx, begins}
-use Rattle.beldi_known.specs.Contents.{head_key, shadow_key, shadow_of}
-use Rattle.beldi_known.specs.Frame.{LockedOut}
-use Rattle.beldi_known.specs.InsideLaws.{Goes, IsSound, item_of, ReadsGo, DeathsGo, WritesGo, TestsGo, FirstRowsGo, RowsGo, CallsGo, ReturnsGo}
-use Rattle.beldi_known.specs.Known.{Known, Got, at_once, ended_by, got_before, got_by, is_item, is_on, moved, tx_end}
-use Rattle.beldi_known.specs.Laws.{IsFront}
-use Rattle.beldi_known.specs.Sane.{Sane}
-use Rattle.beldi_known.specs.Shadows.{ShadowShows, Shows, AllShow, AllGot, Shadows, is_writing, writes_on, writing_at}
+use Rattle.beldi_known.proofs.Names.{AllGot, AllShow, Answer, Bool, CallsGo, Cause, DeathsGo, Deployment, Effect, FirstRowsGo, Goes, Got, Instance, IntentId, IsAnswer, IsDeath, IsFront, IsIn, IsSound, Item, Items, Known, Line, List, LockedOut, Move, None, OnItem, OpenTx, Option, Outcome, PlainState, ReadsGo, Rel, ReturnsGo, Row, RowKey, Rows, RowsGo, Sane, ShadowShows, Shadows, Shows, Some, TestsGo, Tx, TxId, Txs, Value, WritesGo, aborted, and_right, answer_by, answer_inside, answer_of, ap, at_once, begins, callee_in, callee_of, calls_at, child_of, child_same, cond, content_in, did, effect_of, elsewhere, end_of, ended, ended_by, equal, false, fell, got_before, got_by, has_callees, head_key, id_cmp, id_total, if◌then◌else◌, inl, inr, is_aborted, is_edge, is_eq, is_item, is_on, is_some, is_writing, item_cmp, item_in, item_of, item_same, item_total, items_after, items_by, length, log_key, made_set, moved, new_member, none_below, none_by, not_own, not_owner, op_of, or_null, or_old, or_own, passes, place_of, plain, plain_set, refl, same_some, sane_with, set_row, sets, shadow_key, shadow_of, subst, sym, test_on, tested, tied_itself, touched, true, tx_begun, tx_by, tx_end, tx_now, txs_after, txs_by, value_at, value_in, write, write_on, writes_on, writing_at, ℕ, ◌&&◌, ◌||◌, ◌∙◌, ◌≡◌, ◌⊎◌}
+use Rattle.beldi_known.proofs.Names.answer
+use Rattle.beldi_known.proofs.Names.effect
+use Rattle.beldi_known.proofs.Names.map
+use Rattle.beldi_known.proofs.Names.operation
+use Rattle.beldi_known.proofs.Names.rows
+use Rattle.beldi_known.proofs.Names.value
+use Rattle.beldi_plain.specs.Piece.{is_owner}
 use Rattle.beldi_known.proofs.Acts.{is_shadow}
 use Rattle.beldi_known.proofs.Answers.{true_false}
 use Rattle.beldi_known.proofs.AtOnce.{origin_stays}

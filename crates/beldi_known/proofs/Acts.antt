@@ -1,45 +1,10 @@
 -- What the acts at the front leave: rows that match.
-use Rattle.std.proofs.Common.{◌≡◌, ℕ, ◌==◌, ◌&&◌, Bool, true, false, cond, List, [], ◌∷◌, ◌++◌, length, Option, None, Some, refl, ap, sym, ◌∙◌, subst, eqb-true, eq-eqb, if◌then◌else◌}
-use Rattle.std.specs.FinMap as map
-use Rattle.std.specs.Ordering.{is_eq}
-use Rattle.std.proofs.lemmas.Cmp.{tied_itself, eq_by_cmp_equiv}
-use Rattle.std.proofs.lemmas.Bool.{and_from, and_parts, false_from_ne_true}
-use Rattle.beldi_value.specs.Id.{id_cmp}
-use Rattle.beldi_value.specs.declared.id.IntentId.{IntentId}
-use Rattle.beldi_value.specs.declared.place.Owner.TheVariants.{Tx}
-use Rattle.beldi_value.specs.declared.place.Place.{Place}
-use Rattle.beldi_value.specs.declared.place.TxId.{TxId}
-use Rattle.beldi_value.specs.declared.value.Value.{Value}
-use Rattle.beldi_tree.specs.declared.deployment.Deployment.{Deployment}
-use Rattle.beldi_lang.specs.declared.effect.Answer.{Answer}
-use Rattle.beldi_lang.specs.declared.effect.Answer.TheVariants as answer
-use Rattle.beldi_row.specs.Act.{other_owner}
-use Rattle.beldi_row.specs.Key.{RowKey, key_cmp}
-use Rattle.beldi_row.specs.Log.{note_at}
-use Rattle.beldi_row.specs.Table.{Rows, set_row}
-use Rattle.beldi_row.specs.declared.key.Kind.{Kind}
-use Rattle.beldi_row.specs.declared.key.Kind.TheVariants as kinds
-use Rattle.beldi_row.specs.declared.notes.Note.{Note}
-use Rattle.beldi_row.specs.declared.notes.Note.TheVariants as notes
-use Rattle.beldi_row.specs.declared.row.Row.{Row}
-use Rattle.beldi_row.specs.declared.row.Row.TheVariants as rows
-use Rattle.beldi_row.proofs.Gets.{got as row_got, key_same, key_self}
-use Rattle.beldi_row.proofs.Logs.{place_self}
-use Rattle.beldi_daal.specs.Content.{Content, content_in}
-use Rattle.beldi_readlog.specs.ReadLog.{log_key}
-use Rattle.beldi_plain.specs.Item.{Item, item_cmp, item_total}
-use Rattle.beldi_plain.specs.Plain.{Instance, effect_of}
-use Rattle.beldi_order.proofs.Operations.{id_same, item_same}
-use Rattle.beldi_step.specs.Run.{place_of}
-use Rattle.beldi_known.specs.Rows.{LogMatches, CellMatches, CallMatches}
-use Rattle.beldi_known.specs.Contents.{head_key, content_of, shadow_key, shadow_of, lockset_key}
-use Rattle.beldi_plain.specs.Piece.{is_aborted}
-use Rattle.beldi_known.specs.Known.{Known, tx_eq, is_item, owed_read, shadow_by, begins_at, asks_lock}
-use Rattle.beldi_order.specs.Txs.{txs_after, tx_now}
-use Rattle.beldi_plain.specs.Operation.{touched}
-use Rattle.beldi_known.specs.Matches.{RowMatches, Matches, ItemMatches, ShadowMatches, TxsMatch}
-use Rattle.beldi_known.specs.Acts.{with_note}
-use Rattle.beldi_known.specs.Frame.{AnswersOne, row_added, LockedOut, lock_in}
+use Rattle.beldi_known.proofs.Names.{Answer, AnswersOne, Bool, CallMatches, CellMatches, Content, Deployment, Instance, IntentId, Item, ItemMatches, Kind, Known, List, LockedOut, LogMatches, Matches, None, Note, Option, Place, Row, RowKey, RowMatches, Rows, ShadowMatches, Some, Tx, TxId, TxsMatch, Value, [], and_from, and_parts, ap, asks_lock, begins_at, cond, content_in, content_of, effect_of, eq-eqb, eq_by_cmp_equiv, eqb-true, false, false_from_ne_true, head_key, id_cmp, id_same, if◌then◌else◌, is_aborted, is_eq, is_item, item_cmp, item_same, item_total, key_cmp, key_same, key_self, length, lock_in, lockset_key, log_key, note_at, other_owner, owed_read, place_of, place_self, refl, row_added, row_got, set_row, shadow_by, shadow_key, shadow_of, subst, sym, tied_itself, touched, true, tx_eq, tx_now, txs_after, with_note, ℕ, ◌&&◌, ◌++◌, ◌==◌, ◌∙◌, ◌∷◌, ◌≡◌}
+use Rattle.beldi_known.proofs.Names.answer
+use Rattle.beldi_known.proofs.Names.kinds
+use Rattle.beldi_known.proofs.Names.map
+use Rattle.beldi_known.proofs.Names.notes
+use Rattle.beldi_known.proofs.Names.rows
 use Rattle.beldi_known.proofs.Answers.{true_false}
 use Rattle.beldi_known.proofs.Rows.{head_order, keys_set}
 use Rattle.beldi_known.proofs.FrameAt.{read_none, read_one, calls_same}

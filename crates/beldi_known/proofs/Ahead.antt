@@ -1,23 +1,7 @@
 -- A lock that is ahead is that of an instance which stands at an operation inside: move by move, and whose it is not.
-use Rattle.std.proofs.Common.{◌≡◌, ℕ, List, Bool, true, false, Some, None, is_some, refl, ap, sym, ◌∙◌, subst, if◌then◌else◌}
-use Rattle.std.specs.FinMap as map
-use Rattle.std.specs.Ordering.{is_eq}
-use Rattle.std.proofs.lemmas.Bool.{false_from_ne_true}
-use Rattle.beldi_value.specs.Id.{id_cmp}
-use Rattle.beldi_value.specs.declared.id.IntentId.{IntentId}
-use Rattle.beldi_value.specs.declared.place.TxId.{TxId}
-use Rattle.beldi_tree.specs.declared.deployment.Deployment.{Deployment}
-use Rattle.beldi_plain.specs.Plain.{Instance, effect_of}
-use Rattle.beldi_order.proofs.Operations.{id_same}
-use Rattle.beldi_known.specs.Frame.{LockedOut, lock_in}
-use Rattle.beldi_known.specs.Known.{Known}
-use Rattle.beldi_order.specs.Txs.{tx_now}
-use Rattle.beldi_plain.specs.Operation.{touched}
-use Rattle.beldi_known.specs.Laws.{IsFront}
-use Rattle.beldi_known.specs.Sane.{SaneInstance}
-use Rattle.beldi_known.specs.Matches.{LockedAt, LockedIf, LockedAtEnds}
+use Rattle.beldi_known.proofs.Names.{Bool, Deployment, Instance, IntentId, IsFront, Known, List, LockedAt, LockedAtEnds, LockedIf, LockedOut, None, SaneInstance, Some, TxId, ap, effect_of, false, false_from_ne_true, id_cmp, id_same, if◌then◌else◌, is_eq, is_some, lock_in, none_by, refl, subst, sym, touched, true, tx_now, ℕ, ◌∙◌, ◌≡◌}
+use Rattle.beldi_known.proofs.Names.map
 use Rattle.beldi_known.proofs.FrameAt.{known_set}
-use Rattle.beldi_order.proofs.Maps.{none_by}
 
 -- nothing is taken out that was not ahead
 pub none_out : (locked : IntentId → Bool) (id : IntentId) → locked id ≡ false → LockedOut locked locked id

@@ -1,11 +1,5 @@
 -- Lists of answers, with one more at the end.
-use Rattle.std.proofs.Common.{◌≡◌, ℕ, zero, suc, ◌==◌, true, false, take, arith, List, [], ◌∷◌, ◌++◌, length, Option, None, Some, refl, ap, sym, ◌∙◌, if◌then◌else◌}
-use Rattle.std.specs.Prelude.{slice_get}
-use Rattle.std.proofs.lemmas.Option.{slice_get_past}
-use Rattle.std.proofs.Math.Seq.{take-append_seam}
-use lib.Dec.{eqb-suc-suc, eqb-suc-zero, eqb-zero-suc}
-use Rattle.beldi_lang.specs.declared.effect.Answer.{Answer}
-use Rattle.beldi_order.proofs.Called.{get_after}
+use Rattle.beldi_known.proofs.Names.{Answer, List, None, Option, Some, [], ap, arith, eqb-suc-suc, eqb-suc-zero, eqb-zero-suc, false, get_after, if◌then◌else◌, length, refl, slice_get, slice_get_past, suc, sym, take, take-append_seam, true, zero, ℕ, ◌++◌, ◌==◌, ◌∙◌, ◌∷◌, ◌≡◌}
 
 pub true_false : true ≡ false → ⊥
 true_false h = cc

@@ -1,28 +1,8 @@
 -- At the front nothing of the next step is there, but a lock that is ahead.
-use Rattle.std.proofs.Common.{◌≡◌, ◌<◌, ℕ, ◌==◌, ◌&&◌, ◌||◌, Bool, true, false, length, take, Option, None, Some, is_some, refl, ap, ◌∙◌, subst, eqb-true, eq-eqb, arith, if◌then◌else◌}
-use Rattle.std.specs.Prelude.{slice_get}
-use Rattle.std.specs.FinMap as map
-use Rattle.std.proofs.lemmas.Bool.{and_right, false_from_ne_true}
-use Rattle.beldi_value.specs.declared.id.IntentId.{IntentId}
-use Rattle.beldi_value.specs.declared.place.Place.{Place}
-use Rattle.beldi_value.specs.declared.place.TxId.{TxId}
-use Rattle.beldi_tree.specs.declared.deployment.Deployment.{Deployment}
-use Rattle.beldi_row.specs.Log.{note_at}
-use Rattle.beldi_row.specs.Table.{Rows}
-use Rattle.beldi_row.specs.declared.notes.Note.TheVariants as notes
-use Rattle.beldi_readlog.specs.ReadLog.{log_key}
-use Rattle.beldi_plain.specs.Item.{Item}
-use Rattle.beldi_plain.specs.Plain.{Instance, effect_of}
-use Rattle.beldi_step.specs.Run.{place_of}
-use Rattle.beldi_known.specs.Rows.{LogMatches}
-use Rattle.beldi_known.specs.Contents.{content_of, shadow_of}
-use Rattle.beldi_known.specs.Known.{Known, at_step, is_item, read_at, decision_by, value_or, row_at, owed_value, note_by, ahead_by, note_or, owed_note, shadow_by, owed_shadow, commit_in, is_decided, is_mark, last_step}
-use Rattle.beldi_order.specs.Txs.{effect_after, txs_after, tx_after, tx_now}
-use Rattle.beldi_plain.specs.Operation.{touched}
-use Rattle.beldi_known.specs.Owed.{value_for}
-use Rattle.beldi_known.specs.Matches.{Matches}
+use Rattle.beldi_known.proofs.Names.{Bool, Deployment, Instance, IntentId, Item, Known, LogMatches, Matches, None, Option, Place, Rows, Some, TxId, ahead_by, and_right, ap, arith, at_step, commit_in, content_of, decision_by, effect_after, effect_of, eq-eqb, eqb-true, false, false_from_ne_true, fits, if◌then◌else◌, is_decided, is_item, is_mark, is_some, last_step, length, log_key, note_at, note_by, note_or, owed_note, owed_shadow, owed_value, place_of, read_at, refl, row_at, shadow_by, shadow_of, slice_get, subst, take, touched, true, tx_after, tx_now, txs_after, value_for, value_or, ℕ, ◌&&◌, ◌<◌, ◌==◌, ◌||◌, ◌∙◌, ◌≡◌}
+use Rattle.beldi_known.proofs.Names.map
+use Rattle.beldi_known.proofs.Names.notes
 use Rattle.beldi_known.proofs.Answers.{true_false}
-use Rattle.beldi_order.proofs.Ends.{fits}
 use Rattle.beldi_known.proofs.Frame.{step_next, begins}
 use Rattle.beldi_known.proofs.Behind.{no_log}
 

@@ -1,18 +1,8 @@
 -- What takes no turn: two steps are enough, and what each such answer keeps is kept.
-use Rattle.std.proofs.Common.{◌≡◌, ◌⊎◌, inl, inr, ℕ, [], ◌∷◌, ◌++◌, length, Option, Some, None, is_some, refl, ap, sym, ◌∙◌, subst}
-use Rattle.beldi_value.specs.declared.id.IntentId.{IntentId}
-use Rattle.beldi_value.specs.declared.outcome.Outcome.{Outcome}
-use Rattle.beldi_tree.specs.declared.deployment.Deployment.{Deployment}
-use Rattle.beldi_lang.specs.declared.effect.Answer.{Answer}
-use Rattle.beldi_lang.specs.declared.effect.Answer.TheVariants as answer
-use Rattle.beldi_lang.specs.declared.effect.Effect.{Effect}
-use Rattle.beldi_lang.specs.declared.effect.Effect.TheVariants as effect
+use Rattle.beldi_known.proofs.Names.{Answer, Closed, Deployment, Effect, Instance, IntentId, None, Option, Outcome, Some, [], answer_at_once, answered, answered_if, ap, at_once, effect_of, inl, inr, is_some, length, once, once_if, place_of, refl, subst, sym, ℕ, ◌++◌, ◌∙◌, ◌∷◌, ◌≡◌, ◌⊎◌}
+use Rattle.beldi_known.proofs.Names.answer
+use Rattle.beldi_known.proofs.Names.effect
 use Rattle.beldi_known.proofs.Begins.{begins_once, aborts_once}
-use Rattle.beldi_plain.specs.Plain.{answered_if}
-use Rattle.beldi_plain.specs.Plain.{Instance, answered, effect_of}
-use Rattle.beldi_step.specs.Run.{place_of}
-use Rattle.beldi_known.specs.Known.{answer_at_once, once_if, once, at_once}
-use Rattle.beldi_known.specs.Sane.{Closed}
 use Rattle.beldi_known.proofs.Frame.{at_once_same}
 
 -- it is that of a Begin, or of an Abort

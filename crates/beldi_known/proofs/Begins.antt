@@ -1,17 +1,9 @@
 -- What a body wants after an answer more: inside or outside, after a Begin, after an abort, and with which locks.
-use Rattle.std.proofs.Common.{◌≡◌, ◌⊎◌, inl, inr, ℕ, ◌||◌, Bool, true, false, List, [], ◌∷◌, ◌++◌, refl, ap, sym, ◌∙◌, subst, append_assoc, append-nil}
-use Rattle.beldi_value.specs.declared.value.Value.{Value}
-use Rattle.beldi_value.specs.declared.outcome.Cause.{Cause}
-use Rattle.beldi_value.specs.declared.outcome.Outcome.{Outcome}
-use Rattle.beldi_value.specs.declared.outcome.Outcome.TheVariants as outcome
-use Rattle.beldi_tree.specs.declared.deployment.Deployment.{Deployment}
-use Rattle.beldi_tree.specs.Names.{func_at}
-use Rattle.beldi_lang.specs.declared.effect.Effect.{Effect}
-use Rattle.beldi_lang.specs.declared.effect.Effect.TheVariants as effect
-use Rattle.beldi_lang.specs.declared.effect.Answer.{Answer}
-use Rattle.beldi_lang.specs.declared.effect.Answer.TheVariants as answer
-use Rattle.beldi_lang.specs.declared.state.HeldLock.{HeldLock}
-use Rattle.beldi_lang.specs.Wants.{Leads, asks, effect_of, inside_of, body, wants, is_inside}
+use Rattle.beldi_known.proofs.Names.{Answer, Bool, Cause, Deployment, Effect, HeldLock, Leads, List, Outcome, Value, [], ap, append-nil, append_assoc, asks, body, false, func_at, inl, inr, inside_of, is_inside, refl, subst, sym, true, wants, ℕ, ◌++◌, ◌||◌, ◌∙◌, ◌∷◌, ◌≡◌, ◌⊎◌}
+use Rattle.beldi_known.proofs.Names.answer
+use Rattle.beldi_known.proofs.Names.effect
+use Rattle.beldi_known.proofs.Names.outcome
+use Rattle.beldi_lang.specs.Wants.{effect_of}
 use Rattle.beldi_known.proofs.Flows.{Phase, block, own, aborted, leaving, stands, held_after, Flow, goes_on, breaks_off, left, frees, returned, leaves, wanted, begins, inside, closes, aborts, asked, body_flow}
 
 -- ---- phases

@@ -1,30 +1,12 @@
 -- A transaction that got an item, or that somebody was called in, was begun: its owner is known, and went past its Begin. One of who can
 -- step is open still, so its decision is not there.
-use Rattle.std.proofs.Common.{◌≡◌, Bool, true, false, Option, None, Some, refl, ap, sym, ◌∙◌, subst, arith, if◌then◌else◌}
-use Rattle.std.specs.FinMap as map
-use Rattle.beldi_value.specs.declared.id.IntentId.{IntentId}
-use Rattle.beldi_value.specs.declared.place.TxId.{TxId}
-use Rattle.beldi_value.specs.declared.value.Value.{Value}
-use Rattle.beldi_tree.specs.declared.deployment.Deployment.{Deployment}
-use Rattle.beldi_row.specs.Table.{Rows}
-use Rattle.beldi_plain.specs.Item.{Item}
-use Rattle.beldi_plain.specs.Plain.{Instance, effect_of}
-use Rattle.beldi_order.specs.Txs.{tx_now}
-use Rattle.beldi_step.specs.Tables.{decision_key, is_committed, value_in}
-use Rattle.beldi_known.specs.Beside.{is_begin}
-use Rattle.beldi_known.specs.Contents.{shadow_key}
-use Rattle.beldi_known.specs.Known.{Known, Got, got_by}
-use Rattle.beldi_known.specs.Listed.{listed_under}
-use Rattle.beldi_known.specs.Matches.{Matches}
-use Rattle.beldi_known.specs.Sane.{Sane}
+use Rattle.beldi_known.proofs.Names.{Bool, Deployment, Got, Instance, IntentId, Item, Known, Matches, None, Option, Rows, Sane, Some, Tx, TxId, Value, ap, arith, decision_key, effect_of, false, got_by, if◌then◌else◌, is_begin, is_committed, listed_under, log_key, place_of, refl, shadow_key, subst, sym, true, tx_now, value_in, ◌∙◌, ◌≡◌}
+use Rattle.beldi_known.proofs.Names.map
 use Rattle.beldi_known.proofs.AtFront.{no_decision}
 use Rattle.beldi_known.proofs.Callers.{all_called, begun_before}
 use Rattle.beldi_known.proofs.Participants.{open_owner}
 use Rattle.beldi_known.proofs.ReadLists.{IsBegun, got_since, member_tx}
-use Rattle.beldi_step.specs.Run.{place_of}
-use Rattle.beldi_readlog.specs.ReadLog.{log_key}
 use Rattle.beldi_known.proofs.Answers.{true_false}
-use Rattle.beldi_value.specs.declared.place.Owner.TheVariants.{Tx}
 
 module _ (d : Deployment) (known : Known) (h : Sane d known) where
   -- a transaction that somebody was called in was begun

@@ -1,52 +1,15 @@
 -- A run whose answers are not all that are known finds what is owed: nothing changes, and it gets the known answer.
-use Rattle.std.proofs.Common.{◌≡◌, ◌<◌, ℕ, ◌==◌, ◌&&◌, ◌||◌, Bool, true, false, List, [], ◌∷◌, ◌++◌, length, length-append, take, Option, None, Some, refl, ap, sym, ◌∙◌, subst, eqb-true, eq-eqb, is_some, arith, append_assoc, if◌then◌else◌}
-use Rattle.std.specs.Prelude.{slice_get}
-use Rattle.std.specs.FinMap as map
-use Rattle.std.specs.Ordering.{is_eq}
-use Rattle.std.proofs.lemmas.Cmp.{tied_itself}
-use Rattle.std.proofs.lemmas.Bool.{and_right, false_from_ne_true, or_left, or_right}
-use Rattle.beldi_value.specs.declared.id.IntentId.{IntentId}
-use Rattle.beldi_value.specs.declared.outcome.Cause.{Cause}
-use Rattle.beldi_value.specs.declared.place.Place.{Place}
-use Rattle.beldi_value.specs.declared.place.TxId.{TxId}
-use Rattle.beldi_value.specs.declared.rel.Rel.{Rel}
-use Rattle.beldi_value.specs.declared.value.Value.{Value}
-use Rattle.beldi_value.specs.declared.value.Value.TheVariants as value
-use Rattle.beldi_value.specs.declared.place.Owner.TheVariants.{Tx}
-use Rattle.beldi_tree.specs.declared.deployment.Deployment.{Deployment}
-use Rattle.beldi_lang.specs.declared.effect.Answer.{Answer}
-use Rattle.beldi_lang.specs.declared.effect.Answer.TheVariants as answer
-use Rattle.beldi_lang.specs.declared.effect.Effect.{Effect}
-use Rattle.beldi_lang.specs.declared.effect.Effect.TheVariants as effect
-use Rattle.beldi_row.specs.declared.notes.Note.{Note}
-use Rattle.beldi_row.specs.declared.notes.Note.TheVariants as notes
-use Rattle.beldi_row.specs.declared.row.Row.{Row}
-use Rattle.beldi_row.specs.declared.row.Row.TheVariants as rows
-use Rattle.beldi_row.specs.Log.{note_at}
-use Rattle.beldi_row.specs.Act.{other_owner}
-use Rattle.beldi_row.proofs.Logs.{place_self}
-use Rattle.beldi_row.specs.Table.{Rows}
-use Rattle.beldi_daal.specs.Content.{Content}
-use Rattle.beldi_readlog.specs.ReadLog.{log_key}
-use Rattle.beldi_plain.specs.Item.{Item, item_total}
-use Rattle.beldi_plain.specs.Operation.{touched}
-use Rattle.beldi_plain.specs.Plain.{Instance, effect_of, effect_before}
-use Rattle.beldi_step.specs.Run.{place_of}
-use Rattle.beldi_known.specs.Owed.{note_of, value_for}
-use Rattle.beldi_known.specs.Rows.{LogMatches}
-use Rattle.beldi_known.specs.Contents.{content_of, shadow_of, lockset_key}
-use Rattle.beldi_known.specs.Known.{Known, at_step, tx_eq, is_tx, is_item, write_op, read_at, decision_by, value_or, row_at, owed_value, lock_note, note_by, answered_note, ahead_by, note_or, owed_note, shadow_by, owed_shadow, begins_at, asks_lock, owed_lockset, is_mark, is_decided, commit_in, last_step}
-use Rattle.beldi_order.specs.Txs.{effect_after, along, is_at, txs_by, txs_after, end_of, tx_after, tx_now}
-use Rattle.beldi_known.specs.Matches.{Matches, LocksetMatches, lockset_ahead}
-use Rattle.beldi_known.specs.Sane.{SaneInstance}
-use Rattle.beldi_order.specs.Sane.{IsAnswer, IsDeath}
-use Rattle.beldi_known.specs.Acts.{Told, noted, noted_or, lock_or, lock_on, put_lockset, keep_value, lock_answer}
+use Rattle.beldi_known.proofs.Names.{Answer, Bool, Cause, Content, Deployment, Effect, Instance, IntentId, IsAnswer, IsDeath, Item, Known, List, LocksetMatches, LogMatches, Matches, None, Note, Option, Place, Rel, Row, Rows, SaneInstance, Some, Told, Tx, TxId, Value, [], ahead_by, along, along_append, and_right, answered_note, ap, append_assoc, arith, asks_lock, at_step, begins_at, commit_in, content_of, decision_by, effect_after, effect_before, effect_of, end_of, ended_stays, eq-eqb, eqb-true, false, false_from_ne_true, if◌then◌else◌, is_at, is_decided, is_eq, is_item, is_mark, is_some, is_tx, item_total, keep_value, last_step, length, length-append, lock_answer, lock_note, lock_on, lock_or, lockset_ahead, lockset_key, log_key, none_by, note_at, note_by, note_of, note_or, noted_or, or_left, or_right, other_owner, owed_lockset, owed_note, owed_shadow, owed_value, place_of, place_self, put_lockset, read_at, refl, row_at, shadow_by, shadow_of, slice_get, subst, sym, take, tied_itself, touched, true, tx_after, tx_eq, tx_now, txs_after, txs_by, txs_pushed, value_for, value_or, write_op, ℕ, ◌&&◌, ◌++◌, ◌<◌, ◌==◌, ◌||◌, ◌∙◌, ◌∷◌, ◌≡◌}
+use Rattle.beldi_known.proofs.Names.answer
+use Rattle.beldi_known.proofs.Names.effect
+use Rattle.beldi_known.proofs.Names.map
+use Rattle.beldi_known.proofs.Names.notes
+use Rattle.beldi_known.proofs.Names.rows
+use Rattle.beldi_known.proofs.Names.value
+use Rattle.beldi_known.specs.Acts.{noted}
 use Rattle.beldi_known.proofs.Answers.{take_front, get_next, true_false}
-use Rattle.beldi_order.proofs.Ends.{along_append, ended_stays}
 use Rattle.beldi_known.proofs.Frame.{begins}
 use Rattle.beldi_known.proofs.FrameAt.{or_none}
-use Rattle.beldi_order.proofs.Went.{txs_pushed}
-use Rattle.beldi_order.proofs.Maps.{none_by}
 
 -- ---- what is known of the step of a run that is behind
 -- a fold that only gathers has what was so at a step

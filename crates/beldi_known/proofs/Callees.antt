@@ -1,31 +1,7 @@
 -- A call that was answered has its row: a run that is behind at a call finds it there, with what the call gave back.
-use Rattle.std.proofs.Common.{◌≡◌, ℕ, ◌<◌, Bool, true, false, List, ◌∷◌, ◌++◌, length, length-append, take, Option, None, Some, refl, ap, sym, ◌∙◌, subst, eq-eqb, is_some, arith, if◌then◌else◌}
-use Rattle.std.specs.Prelude.{slice_get}
-use Rattle.std.specs.FinMap as map
-use Rattle.std.specs.Option.{option_map}
-use Rattle.beldi_value.specs.Id.{child_of}
-use Rattle.beldi_value.specs.declared.id.IntentId.{IntentId}
-use Rattle.beldi_value.specs.declared.outcome.Outcome.{Outcome}
-use Rattle.beldi_value.specs.declared.place.Place.{Place}
-use Rattle.beldi_value.specs.declared.value.Value.{Value}
-use Rattle.beldi_tree.specs.declared.deployment.Deployment.{Deployment}
-use Rattle.beldi_lang.specs.Callee.{answer_of}
-use Rattle.beldi_lang.specs.declared.effect.Answer.{Answer}
-use Rattle.beldi_lang.specs.declared.effect.Answer.TheVariants.{Done}
-use Rattle.beldi_lang.specs.declared.effect.Effect.TheVariants.{Call, Async}
-use Rattle.beldi_row.specs.Table.{Rows}
-use Rattle.beldi_row.specs.declared.row.Row.{Row}
-use Rattle.beldi_row.specs.declared.row.Row.TheVariants as rows
-use Rattle.beldi_invokelog.specs.InvokeLog.{invoke_key, call_at, call_in, result_in}
-use Rattle.beldi_plain.specs.Plain.{Instance, effect_before}
-use Rattle.beldi_order.specs.Sane.{IsCalled, CalledBy, call_of, answer_given}
-use Rattle.beldi_step.specs.Run.{is_waited, place_of}
-use Rattle.beldi_known.specs.Known.{Known, owed_call}
-use Rattle.beldi_order.specs.Txs.{effect_after}
-use Rattle.beldi_known.specs.Matches.{Matches}
-use Rattle.beldi_known.specs.Owed.{called_by, result_of}
-use Rattle.beldi_known.specs.Rows.{CallMatches}
-use Rattle.beldi_known.specs.Sane.{Sane}
+use Rattle.beldi_known.proofs.Names.{Answer, Async, Bool, Call, CallMatches, CalledBy, Deployment, Done, Instance, IntentId, IsCalled, Known, List, Matches, None, Option, Outcome, Place, Row, Rows, Sane, Some, Value, answer_given, answer_of, ap, arith, call_at, call_in, call_of, called_by, child_of, effect_after, effect_before, eq-eqb, false, if◌then◌else◌, invoke_key, is_some, is_waited, length, length-append, option_map, owed_call, place_of, refl, result_in, result_of, slice_get, subst, sym, take, true, ℕ, ◌++◌, ◌<◌, ◌∙◌, ◌∷◌, ◌≡◌}
+use Rattle.beldi_known.proofs.Names.map
+use Rattle.beldi_known.proofs.Names.rows
 use Rattle.beldi_known.proofs.Answers.{take_front, get_next}
 
 -- a call tells whether it waits

@@ -1,26 +1,7 @@
 -- Who called an instance; and what holds of all that were called in a transaction, by who called them.
-use Rattle.std.proofs.Common.{◌≡◌, ◌<◌, ◌≤◌, ℕ, zero, suc, Bool, true, false, [], ◌∷◌, ◌++◌, length, take, Option, None, Some, refl, ap, sym, ◌∙◌, subst, append_assoc, arith, ◌⊎◌, inl, inr}
-use Rattle.std.specs.Prelude.{slice_get}
-use Rattle.std.specs.Option.{option_map}
-use Rattle.std.specs.FinMap as map
-use Rattle.std.proofs.lemmas.List.{length-take-le}
-use Rattle.beldi_value.specs.Id.{root_of, child_of}
-use Rattle.beldi_value.specs.declared.id.IntentId.{IntentId}
-use Rattle.beldi_value.specs.declared.place.TxId.{TxId}
-use Rattle.beldi_tree.specs.declared.deployment.Deployment.{Deployment}
-use Rattle.beldi_lang.specs.Callee.{answer_of}
-use Rattle.beldi_lang.specs.declared.effect.Effect.TheVariants as effect
-use Rattle.beldi_plain.specs.Plain.{Instance, effect_before}
-use Rattle.beldi_order.specs.Inside.{IsBelow}
-use Rattle.beldi_order.specs.Sane.{IsCalled, CalledBy, call_of, within_by, answer_given}
-use Rattle.beldi_order.specs.Txs.{txs_after, tx_by, tx_at, or_own}
-use Rattle.beldi_order.proofs.Called.{last_hop}
-use Rattle.beldi_order.proofs.Ends.{fits_at}
-use Rattle.beldi_order.proofs.Line.{longer}
-use Rattle.beldi_order.proofs.Sanes.{Waited, waited_by}
-use Rattle.beldi_known.specs.Beside.{is_begin}
-use Rattle.beldi_known.specs.Known.{Known}
-use Rattle.beldi_known.specs.Sane.{Sane}
+use Rattle.beldi_known.proofs.Names.{Bool, CalledBy, Deployment, Instance, IntentId, IsBelow, IsCalled, Known, None, Option, Sane, Some, TxId, Waited, [], answer_given, answer_of, ap, append_assoc, arith, call_of, child_of, effect_before, false, fits_at, inl, inr, is_begin, last_hop, length, length-take-le, longer, option_map, or_own, refl, root_of, slice_get, subst, suc, sym, take, true, tx_at, tx_by, txs_after, waited_by, within_by, zero, ℕ, ◌++◌, ◌<◌, ◌∙◌, ◌∷◌, ◌≡◌, ◌≤◌, ◌⊎◌}
+use Rattle.beldi_known.proofs.Names.effect
+use Rattle.beldi_known.proofs.Names.map
 use Rattle.beldi_known.proofs.OwnTx.{Own, own_by}
 
 -- who is known by an id of a callee was called there

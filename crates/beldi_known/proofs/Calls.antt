@@ -1,36 +1,8 @@
 -- Instances that are made and that end, over what is known: a call is opened, and its callee gives its outcome back.
-use Rattle.std.proofs.Common.{◌≡◌, ℕ, ◌==◌, ◌&&◌, ◌||◌, Bool, true, false, length, Option, None, Some, is_some, refl, ap, sym, ◌∙◌, subst, eqb-true, eq-eqb, if◌then◌else◌}
-use Rattle.std.specs.FinMap as map
-use Rattle.std.specs.Option.{is_none}
-use Rattle.std.specs.Ordering.{is_eq}
-use Rattle.std.proofs.lemmas.Bool.{and_right}
-use Rattle.beldi_value.specs.Id.{child_of, has_no_hops}
-use Rattle.beldi_value.specs.declared.id.IntentId.{IntentId}
-use Rattle.beldi_value.specs.declared.outcome.Outcome.{Outcome}
-use Rattle.beldi_value.specs.declared.place.Caller.{Caller}
-use Rattle.beldi_value.specs.declared.place.Place.{Place}
-use Rattle.beldi_value.specs.declared.place.TxId.{TxId}
-use Rattle.beldi_value.specs.declared.value.Value.{Value}
-use Rattle.beldi_value.proofs.Callees.{child_same, no_root}
-use Rattle.beldi_tree.specs.declared.deployment.Deployment.{Deployment}
-use Rattle.beldi_lang.specs.declared.effect.Effect.TheVariants as effect
-use Rattle.beldi_row.specs.Key.{RowKey, key_cmp}
-use Rattle.beldi_row.specs.Table.{Rows, set_row}
-use Rattle.beldi_row.specs.declared.key.Kind.{Kind}
-use Rattle.beldi_row.specs.declared.row.InvokeRow.{InvokeRow}
-use Rattle.beldi_row.specs.declared.row.Row.{Row}
-use Rattle.beldi_row.specs.declared.row.Row.TheVariants as rows
-use Rattle.beldi_invokelog.specs.InvokeLog.{invoke_key}
-use Rattle.beldi_plain.specs.Item.{Item}
-use Rattle.beldi_plain.specs.Plain.{Instance, new_instance, ended, effect_of, callee_of, calls_at}
-use Rattle.beldi_order.proofs.Maps.{same_some, elsewhere, here}
-use Rattle.beldi_step.specs.Run.{is_waited, place_of}
-use Rattle.beldi_known.specs.Known.{Known, at_once, owed_call, answered_note, ahead_note, note_or, is_decided, last_step, is_item, begins_at}
-use Rattle.beldi_order.specs.Txs.{tx_now}
-use Rattle.beldi_plain.specs.Operation.{touched}
-use Rattle.beldi_known.specs.Matches.{Matches, has_ended, is_open}
-use Rattle.beldi_known.specs.Owed.{called_by, result_of}
-use Rattle.beldi_known.specs.Rows.{IntentMatches, CalleeMatches, CallMatches}
+use Rattle.beldi_known.proofs.Names.{Bool, CallMatches, CalleeMatches, Caller, Deployment, Instance, IntentId, IntentMatches, InvokeRow, Item, Kind, Known, Matches, None, Option, Outcome, Place, Row, RowKey, Rows, Some, TxId, Value, ahead_note, and_right, answered_note, ap, at_once, begins_at, called_by, callee_of, calls_at, child_of, child_same, effect_of, elsewhere, ended, eq-eqb, eqb-true, false, has_ended, has_no_hops, here, if◌then◌else◌, invoke_key, is_decided, is_eq, is_item, is_none, is_open, is_some, is_waited, key_cmp, last_step, length, new_instance, no_root, note_or, owed_call, place_of, refl, result_of, same_some, set_row, subst, sym, touched, true, tx_now, ℕ, ◌&&◌, ◌==◌, ◌||◌, ◌∙◌, ◌≡◌}
+use Rattle.beldi_known.proofs.Names.effect
+use Rattle.beldi_known.proofs.Names.map
+use Rattle.beldi_known.proofs.Names.rows
 use Rattle.beldi_known.proofs.Frame.{OwesSame, at_once_same}
 use Rattle.beldi_known.proofs.FrameAt.{not_ahead, or_none}
 use Rattle.beldi_known.proofs.Instances.{callee_on, callee_new, calls_moved, no_callee, no_own_callee, not_home, return_keeps_row, same_caller, same_key}

@@ -1,32 +1,9 @@
 -- Who lets an operation inside die is older than its transaction.
-use Rattle.std.proofs.Common.{◌≡◌, ℕ, Bool, true, false, List, Option, Some, None, refl, ap, sym, ◌∙◌, if◌then◌else◌}
-use Rattle.beldi_value.specs.Id.{age_of, is_older}
-use Rattle.beldi_value.specs.declared.id.IntentId.{IntentId}
-use Rattle.beldi_value.specs.declared.place.Owner.{Owner}
-use Rattle.beldi_value.specs.declared.place.Owner.TheVariants.{Intent, Tx}
-use Rattle.beldi_value.specs.declared.place.Place.{Place}
-use Rattle.beldi_value.specs.declared.place.TxId.{TxId}
-use Rattle.beldi_value.proofs.Ages.{either}
-use Rattle.beldi_tree.specs.declared.deployment.Deployment.{Deployment}
-use Rattle.beldi_row.specs.Act.{other_owner}
-use Rattle.beldi_row.specs.Log.{note_at, id_eq, owner_eq}
-use Rattle.beldi_row.specs.declared.notes.Note.TheVariants as notes
-use Rattle.beldi_row.proofs.Logs.{id_self}
-use Rattle.beldi_daal.specs.Content.{Content}
-use Rattle.beldi_plain.specs.Item.{Item}
-use Rattle.beldi_plain.specs.Plain.{Instance}
-use Rattle.beldi_known.specs.Acts.{Told, held, died, with_note, lock_or, lock_on}
-use Rattle.beldi_known.specs.Contents.{is_owner}
-use Rattle.beldi_known.specs.Known.{Known}
-use Rattle.beldi_plain.specs.Operation.{touched}
-use Rattle.beldi_known.specs.Laws.{IsFront}
-use Rattle.beldi_known.specs.Matches.{ItemMatches}
-use Rattle.beldi_known.specs.Sane.{Sane}
-use Rattle.beldi_order.specs.Sane.{IsDeath}
+use Rattle.beldi_known.proofs.Names.{Bool, Content, Deployment, Instance, Intent, IntentId, IsDeath, IsFront, Item, ItemMatches, Known, List, None, Option, Owner, Place, Sane, Some, Told, Tx, TxId, age_of, ap, died, either, false, held, id_eq, id_self, if◌then◌else◌, is_older, is_owner, lock_on, lock_or, none_by, note_at, other_owner, owner_eq, refl, sym, touched, true, with_note, ℕ, ◌∙◌, ◌≡◌}
+use Rattle.beldi_known.proofs.Names.notes
 use Rattle.beldi_known.proofs.Locks.{tx_self}
 use Rattle.beldi_known.proofs.Participants.{owner_holds_none}
 use Rattle.beldi_known.proofs.Told.{past_note}
-use Rattle.beldi_order.proofs.Maps.{none_by}
 
 -- it owns the item, and is not younger
 record Stops (t : TxId) (was : Option Owner) (holder : IntentId) : Type 0 where

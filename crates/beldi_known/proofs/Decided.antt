@@ -1,58 +1,14 @@
 -- The decision of an open transaction is its entry in the plain state, and all items are listed as that leaves them.
-use Rattle.std.proofs.Common.{◌≡◌, ◌∙◌, ◌⊎◌, inl, inr, ℕ, ◌≤◌, ◌==◌, ◌&&◌, Bool, true, false, cond, List, [], ◌∷◌, ◌++◌, length, length-append, Option, Some, None, is_some, refl, ap, sym, subst, eq-eqb, eqb-true, arith, if◌then◌else◌}
-use Rattle.std.specs.Prelude.{slice_get}
-use Rattle.std.specs.FinMap as map
-use Rattle.std.specs.Ordering.{is_eq}
-use Rattle.std.proofs.lemmas.Cmp.{tied_itself}
-use Rattle.beldi_value.specs.Id.{id_cmp, id_total, is_older}
-use Rattle.beldi_value.specs.declared.id.IntentId.{IntentId}
-use Rattle.beldi_value.specs.declared.outcome.Cause.{Cause}
-use Rattle.beldi_value.specs.declared.place.Owner.{Owner}
-use Rattle.beldi_value.specs.declared.place.Owner.TheVariants.{Intent, Tx}
-use Rattle.beldi_value.specs.declared.place.Place.{Place}
-use Rattle.beldi_value.specs.declared.place.TxId.{TxId}
-use Rattle.beldi_value.specs.declared.value.Value.{Value}
-use Rattle.beldi_value.specs.declared.value.Value.TheVariants as value
-use Rattle.beldi_tree.specs.declared.deployment.Deployment.{Deployment}
-use Rattle.beldi_lang.specs.declared.effect.Answer.{Answer}
-use Rattle.beldi_lang.specs.declared.effect.Answer.TheVariants as answer
-use Rattle.beldi_lang.specs.declared.effect.Effect.TheVariants as effect
-use Rattle.beldi_book.specs.declared.entry.Entry.TheVariants as entry
-use Rattle.beldi_row.specs.Key.{key_cmp}
-use Rattle.beldi_row.specs.Table.{Rows, set_row}
-use Rattle.beldi_row.specs.declared.key.Kind.{Kind}
-use Rattle.beldi_row.specs.declared.key.Kind.TheVariants as kinds
-use Rattle.beldi_row.specs.declared.row.Row.{Row}
-use Rattle.beldi_row.specs.declared.row.Row.TheVariants as rows
-use Rattle.beldi_row.proofs.Gets.{got as row_got, key_same, key_self}
-use Rattle.beldi_readlog.specs.ReadLog.{log_key}
-use Rattle.beldi_daal.specs.Content.{Content, content_in}
-use Rattle.beldi_plain.specs.Item.{Item}
-use Rattle.beldi_plain.specs.Moves.{Move, fell, AllPlain, AtEnd, Commits, Runs, TouchedIn, is_there, stands_there}
-use Rattle.beldi_plain.specs.Piece.{Going, gives, is_holder, opened, tx_begun}
-use Rattle.beldi_plain.specs.Plain.{Instance, PlainState, answered, effect_of, value_at, with_instance}
-use Rattle.beldi_order.specs.Inside.{IsBelow, IsIn, InLine}
-use Rattle.beldi_order.specs.Sane as plain
-use Rattle.beldi_order.specs.Txs.{Txs, end_of, is_at, tx_after, tx_at, txs_after, txs_by}
-use Rattle.beldi_order.proofs.Beside.{others}
-use Rattle.beldi_order.proofs.Goes.{AllSound, IsSound as Older}
-use Rattle.beldi_order.proofs.Line.{line_opened}
-use Rattle.beldi_order.proofs.Maps.{elsewhere as stays, here, same_some}
-use Rattle.beldi_order.proofs.Pieces.{pieces_are_moves}
-use Rattle.beldi_order.proofs.Rises.{places_come_once}
-use Rattle.beldi_order.proofs.Sound.{after_sane}
-use Rattle.beldi_order.proofs.Went.{txs_pushed}
-use Rattle.beldi_step.specs.Run.{place_of}
-use Rattle.beldi_step.specs.Tables.{value_in, is_committed, decision_key}
-use Rattle.beldi_known.specs.Beside.{IsKept, OpenTx, begins}
-use Rattle.beldi_known.specs.Contents.{head_key, content_of, shadow_key}
-use Rattle.beldi_known.specs.InsideLaws.{AbortsAreTries, CommitsArePieces, FellAt, Goes, HoldersInsideAreMade, IsAbort, IsCommit, IsSound, last_answer}
-use Rattle.beldi_known.specs.InsideLaws as laws
-use Rattle.beldi_known.specs.Known.{Known, at_once, decision_by, ended_by, moved as goes_on, owed_read, owed_value, read_at, row_at, value_or}
-use Rattle.beldi_known.specs.Listed.{listed_under, listed}
-use Rattle.beldi_known.specs.Matches.{Matches}
-use Rattle.beldi_known.specs.Rows.{LogMatches}
-use Rattle.beldi_known.specs.Shadows.{AllShow, ShadowShows, Shows, is_writing, writes_on, writing_at}
+use Rattle.beldi_known.proofs.Names.{AbortsAreTries, AllPlain, AllShow, AllSound, Answer, AtEnd, Bool, Cause, Commits, CommitsArePieces, Content, Deployment, FellAt, Goes, Going, HoldersInsideAreMade, InLine, Instance, Intent, IntentId, IsAbort, IsBelow, IsCommit, IsIn, IsKept, IsSound, Item, Kind, Known, List, LogMatches, Matches, Move, None, Older, OpenTx, Option, Owner, Place, PlainState, Row, Rows, Runs, ShadowShows, Shows, Some, TouchedIn, Tx, TxId, Txs, Value, [], after_sane, answered, ap, arith, at_once, begins, cond, content_in, content_of, decision_by, decision_key, effect_of, end_of, ended_by, eq-eqb, eqb-true, false, fell, gives, goes_on, head_key, here, id_cmp, id_total, if◌then◌else◌, inl, inr, is_at, is_committed, is_eq, is_holder, is_older, is_some, is_there, is_writing, key_cmp, key_same, key_self, last_answer, length, length-append, line_opened, listed, listed_under, log_key, opened, others, owed_read, owed_value, pieces_are_moves, place_of, places_come_once, read_at, refl, row_at, row_got, same_some, set_row, shadow_key, slice_get, stands_there, stays, subst, sym, tied_itself, true, tx_after, tx_at, tx_begun, txs_after, txs_by, txs_pushed, value_at, value_in, value_or, with_instance, writes_on, writing_at, ℕ, ◌&&◌, ◌++◌, ◌==◌, ◌∙◌, ◌∷◌, ◌≡◌, ◌≤◌, ◌⊎◌}
+use Rattle.beldi_known.proofs.Names.answer
+use Rattle.beldi_known.proofs.Names.effect
+use Rattle.beldi_known.proofs.Names.entry
+use Rattle.beldi_known.proofs.Names.kinds
+use Rattle.beldi_known.proofs.Names.laws
+use Rattle.beldi_known.proofs.Names.map
+use Rattle.beldi_known.proofs.Names.plain
+use Rattle.beldi_known.proofs.Names.rows
+use Rattle.beldi_known.proofs.Names.value
 use Rattle.beldi_known.proofs.Acts.{by_item, content_apart, content_here, kinds_apart, is_data, is_shadow, turned}
 use Rattle.beldi_known.proofs.Answers.{true_false, take_front, get_next}
 use Rattle.beldi_known.proofs.AtFront.{no_decision}

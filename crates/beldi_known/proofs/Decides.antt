@@ -1,47 +1,15 @@
 -- The decision: its row is added, at the step of Begin. No item owes more, and no owner changes.
-use Rattle.std.specs.Option.{is_none}
-use Rattle.std.proofs.Common.{◌≡◌, ℕ, ◌==◌, ◌&&◌, ◌||◌, not, Bool, true, false, length, Option, None, Some, refl, ap, sym, ◌∙◌, subst, eqb-true, eq-eqb, is_some, if◌then◌else◌}
-use Rattle.std.specs.FinMap as map
-use Rattle.std.specs.Ordering.{is_eq}
-use Rattle.std.proofs.lemmas.Bool.{and_right, or_from, or_left, or_parts}
-use Rattle.beldi_value.specs.declared.place.Owner.TheVariants.{Intent}
-use Rattle.beldi_value.specs.Id.{id_cmp}
-use Rattle.beldi_value.specs.declared.id.IntentId.{IntentId}
-use Rattle.beldi_value.specs.declared.outcome.Outcome.{Outcome}
-use Rattle.beldi_value.specs.declared.place.Place.{Place}
-use Rattle.beldi_value.specs.declared.place.TxId.{TxId}
-use Rattle.beldi_value.specs.declared.value.Value.TheVariants as value
-use Rattle.beldi_tree.specs.declared.deployment.Deployment.{Deployment}
-use Rattle.beldi_lang.specs.declared.effect.Answer.{Answer}
-use Rattle.beldi_lang.specs.declared.effect.Effect.TheVariants as effect
-use Rattle.beldi_row.specs.Key.{key_cmp}
-use Rattle.beldi_row.specs.Log.{place_eq}
-use Rattle.beldi_row.specs.Table.{Rows, set_row}
-use Rattle.beldi_row.specs.declared.key.Kind.{Kind}
-use Rattle.beldi_row.specs.declared.key.Kind.TheVariants as kinds
-use Rattle.beldi_row.specs.declared.row.Row.{Row}
-use Rattle.beldi_row.specs.declared.row.Row.TheVariants as rows
-use Rattle.beldi_row.proofs.Logs.{place_self, place_same}
-use Rattle.beldi_daal.specs.Content.{Content}
-use Rattle.beldi_readlog.specs.ReadLog.{log_key}
-use Rattle.beldi_plain.specs.Item.{Item}
-use Rattle.beldi_plain.specs.Operation.{op_of, touched}
-use Rattle.beldi_plain.specs.Holds.{held_if, holds}
-use Rattle.beldi_plain.specs.Plain.{Instance, effect_of}
-use Rattle.beldi_step.specs.Run.{place_of}
-use Rattle.beldi_known.specs.Rows.{LogMatches, CallMatches}
-use Rattle.beldi_known.specs.Contents.{is_owner, head_key, content_of, shadow_key, shadow_of}
-use Rattle.beldi_plain.specs.Piece.{is_aborted}
-use Rattle.beldi_known.specs.Known.{Known, is_tx, is_item, owed_read, note_by, ahead_by, note_or, owed_note, shadow_by, begins_at, asks_lock, owed_lockset, is_on, got_before, got_by, ended_by, tx_end, commit_in, ended_at, is_decided, is_mark, last_step}
-use Rattle.beldi_order.specs.Txs.{effect_after, is_at, txs_after, txs_by, end_of, tx_now, tx_after}
-use Rattle.beldi_known.specs.Matches.{RowMatches, Matches, ItemMatches, ShadowMatches, TxsMatch, LocksetMatches, lockset_ahead, is_open}
-use Rattle.beldi_known.specs.Frame.{AnswersOne, row_added, LockedOut}
+use Rattle.beldi_known.proofs.Names.{Answer, AnswersOne, Bool, CallMatches, Content, Deployment, Instance, Intent, IntentId, Item, ItemMatches, Kind, Known, LockedOut, LocksetMatches, LogMatches, Matches, None, Option, Outcome, Place, Row, RowMatches, Rows, ShadowMatches, Some, TxId, TxsMatch, ahead_by, and_right, ap, asks_lock, begins_at, commit_in, content_of, effect_after, effect_of, end_of, ended_at, ended_by, eq-eqb, eqb-true, false, got_before, got_by, head_key, held_if, holds, id_cmp, if◌then◌else◌, is_aborted, is_at, is_decided, is_eq, is_item, is_mark, is_none, is_on, is_open, is_owner, is_some, is_tx, key_cmp, last_step, length, lockset_ahead, log_key, none_by, not, note_by, note_or, op_of, or_from, or_left, or_parts, owed_lockset, owed_note, owed_read, place_eq, place_of, place_same, place_self, refl, row_added, set_row, shadow_by, shadow_key, shadow_of, subst, sym, touched, true, tx_after, tx_end, tx_now, txs_after, txs_by, ℕ, ◌&&◌, ◌==◌, ◌||◌, ◌∙◌, ◌≡◌}
+use Rattle.beldi_known.proofs.Names.effect
+use Rattle.beldi_known.proofs.Names.kinds
+use Rattle.beldi_known.proofs.Names.map
+use Rattle.beldi_known.proofs.Names.rows
+use Rattle.beldi_known.proofs.Names.value
 use Rattle.beldi_known.proofs.Rows.{keys_set}
 use Rattle.beldi_known.proofs.Frame.{step_next, no_note, no_shadow, or_false}
 use Rattle.beldi_known.proofs.FrameAt.{known_set, read_one, holds_one, note_one, got_one, lockset_one, calls_same}
 use Rattle.beldi_known.proofs.Fronts.{intents_same, shadow_kept, read_elsewhere, tx_end_stays}
 use Rattle.beldi_known.proofs.Acts.{kinds_apart, is_data, is_shadow, content_apart, shadow_apart}
-use Rattle.beldi_order.proofs.Maps.{none_by}
 
 module _ (d : Deployment) (known : Known) (locked : IntentId → Bool) (id : IntentId) (q r : Instance) (a : Answer) (is : map.get known id ≡ Some q) (one : AnswersOne d id q a r) (unlocked : locked id ≡ false)
     (c : Bool) (ends : effect_of d q ≡ effect.End c) (b : ℕ) (begun : (txs_after d q q.answers).begun ≡ Some b)

@@ -1,20 +1,11 @@
 -- The tables at a body with a transaction: they compute.
+use Rattle.beldi_known.proofs.Names.{Answer, Deployment, Instance, IntentId, Item, TxId, at_once, commands_of, effect_of, end_of, got_by, lockset_of, null, owed_note, owed_shadow, read, return, root_of, row_at, text, transaction, tx_now}
+use Rattle.beldi_known.proofs.Names.answer
+use Rattle.beldi_known.proofs.Names.effect
+use Rattle.beldi_known.proofs.Names.notes
+use Rattle.beldi_known.proofs.Names.value
 use Rattle.std.specs.Prelude.{◌≡◌, true, false, List, [], ◌∷◌, Some, None, refl}
-use Rattle.beldi_value.specs.Id.{root_of}
-use Rattle.beldi_value.specs.declared.id.IntentId.{IntentId}
-use Rattle.beldi_value.specs.declared.place.TxId.{TxId}
-use Rattle.beldi_value.specs.declared.value.Value.TheVariants as value
-use Rattle.beldi_tree.specs.Command.{read, write, transaction, return, commands_of}
-use Rattle.beldi_tree.specs.Term.{text, null}
-use Rattle.beldi_tree.specs.declared.deployment.Deployment.{Deployment}
-use Rattle.beldi_lang.specs.declared.effect.Answer.{Answer}
-use Rattle.beldi_lang.specs.declared.effect.Answer.TheVariants as answer
-use Rattle.beldi_lang.specs.declared.effect.Effect.TheVariants as effect
-use Rattle.beldi_row.specs.declared.notes.Note.TheVariants as notes
-use Rattle.beldi_plain.specs.Item.{Item}
-use Rattle.beldi_plain.specs.Plain.{Instance, effect_of}
-use Rattle.beldi_known.specs.Known.{at_once, row_at, owed_note, owed_shadow, lockset_of, got_by}
-use Rattle.beldi_order.specs.Txs.{tx_now, end_of}
+use Rattle.beldi_tree.specs.Command.{write}
 
 -- function f(x) { table t; transaction { read v = t[""]; write t[""] = null; } aborted { } return null; }
 abbrev deployment : Deployment

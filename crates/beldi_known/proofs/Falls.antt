@@ -1,41 +1,13 @@
 -- An open transaction falls at most once: until then its moves are plain steps, and from then on it goes up, to the End without commit
 -- of its owner. What its moves touched it got, and what they wrote has a shadow.
-use Rattle.std.proofs.Common.{◌≡◌, ◌∙◌, ◌⊎◌, inl, inr, ℕ, Bool, true, false, List, [], ◌∷◌, ◌++◌, length, Option, Some, None, is_some, refl, ap, sym, subst, append_assoc, append-nil, if◌then◌else◌}
-use Rattle.std.specs.FinMap as map
-use Rattle.std.specs.FinMap.{FinMap}
-use Rattle.std.specs.Ordering.{is_eq}
-use Rattle.std.proofs.lemmas.Cmp.{tied_itself}
-use Rattle.beldi_value.specs.Id.{id_cmp, id_total, is_older}
-use Rattle.beldi_value.specs.declared.id.IntentId.{IntentId}
-use Rattle.beldi_value.specs.declared.outcome.Cause.{Cause}
-use Rattle.beldi_value.specs.declared.outcome.Outcome.{Outcome}
-use Rattle.beldi_value.specs.declared.outcome.Outcome.TheVariants as outcome
-use Rattle.beldi_value.specs.declared.place.TxId.{TxId}
-use Rattle.beldi_value.specs.declared.value.Value.{Value}
-use Rattle.beldi_tree.specs.declared.deployment.Deployment.{Deployment}
-use Rattle.beldi_lang.specs.Callee.{answer_of}
-use Rattle.beldi_lang.specs.declared.effect.Answer.{Answer}
-use Rattle.beldi_lang.specs.declared.effect.Answer.TheVariants as answer
-use Rattle.beldi_lang.specs.declared.effect.Effect.{Effect}
-use Rattle.beldi_lang.specs.declared.effect.Effect.TheVariants as effect
-use Rattle.beldi_plain.specs.Item.{Item}
-use Rattle.beldi_plain.specs.Moves.{Move, plain, fell, moved, Leads, AllPlain, TouchedIn, touched_at, touched_item}
-use Rattle.beldi_plain.specs.Operation.{touched}
-use Rattle.beldi_plain.specs.Piece.{Going, is_owner, aborted, dies_at}
-use Rattle.beldi_plain.specs.Plain.{Instance, answered, ended, effect_of}
-use Rattle.beldi_order.specs.Grown.{Grown, GrownAt}
-use Rattle.beldi_order.specs.Inside.{IsIn, Line, top, next, WrittenIn, written_at, written_on}
-use Rattle.beldi_order.specs.Sane.{IsAnswer}
-use Rattle.beldi_order.specs.Txs.{tx_after, tx_now, effect_after}
-use Rattle.beldi_order.proofs.Entries.{moves_grow}
-use Rattle.beldi_order.proofs.Goes.{IsSound, AllSound, GoingSane, going_moved, line_tx, answered_plainly, is_plainly, plainly_edge}
-use Rattle.beldi_order.proofs.Line.{all_in, line_moved, returned}
-use Rattle.beldi_order.proofs.Maps.{same_some, here}
-use Rattle.beldi_order.proofs.Moved.{Items, answer_inside, Answers, MoveIs, answers, calls, returns, move_is, mover}
-use Rattle.beldi_order.proofs.Sanes.{SaneWith, sane_in, is_edge}
-use Rattle.beldi_step.specs.Run.{place_of}
-use Rattle.beldi_known.specs.InsideLaws.{last_answer}
-use Rattle.beldi_known.specs.Sane.{SaneInstance}
+use Rattle.beldi_known.proofs.Names.{AllPlain, AllSound, Answer, Answers, Bool, Cause, Deployment, Effect, FinMap, Going, GoingSane, Grown, GrownAt, Instance, IntentId, IsAnswer, IsIn, Item, Items, Line, List, Move, MoveIs, None, Option, Outcome, SaneInstance, SaneWith, Some, TouchedIn, TxId, Value, WrittenIn, [], aborted, all_in, answer_inside, answer_of, answered, answered_plainly, answers, ap, append-nil, append_assoc, calls, dies_at, effect_after, effect_of, ended, false, fell, going_moved, here, id_cmp, id_total, if◌then◌else◌, inl, inr, is_edge, is_eq, is_older, is_plainly, is_some, last_answer, length, line_moved, line_tx, move_is, mover, moves_grow, next, place_of, plain, plainly_edge, refl, returned, returns, same_some, sane_in, subst, sym, tied_itself, top, touched, touched_at, touched_item, true, tx_after, tx_now, written_at, written_on, ℕ, ◌++◌, ◌∙◌, ◌∷◌, ◌≡◌, ◌⊎◌}
+use Rattle.beldi_known.proofs.Names.answer
+use Rattle.beldi_known.proofs.Names.effect
+use Rattle.beldi_known.proofs.Names.map
+use Rattle.beldi_known.proofs.Names.outcome
+use Rattle.beldi_plain.specs.Moves.{moved, Leads}
+use Rattle.beldi_plain.specs.Piece.{is_owner}
+use Rattle.beldi_order.proofs.Goes.{IsSound}
 use Rattle.beldi_known.proofs.Answers.{take_front, get_next}
 use Rattle.beldi_known.proofs.Phases.{abort_ends, abort_returns}
 

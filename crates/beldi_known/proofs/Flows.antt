@@ -1,27 +1,12 @@
 -- How a body goes: the effects that it wants one after another, whatever they are answered, and the locks that it holds then. No
 -- effect of a transaction stands outside of one, none begins inside another, and an abort leads to the end.
-use Rattle.std.proofs.Common.{◌≡◌, ℕ, zero, suc, ◌+◌, Bool, true, false, List, [], ◌∷◌, ◌++◌, length, Option, Some, None, Result, Ok, Err, refl, ap, sym, ◌∙◌, subst, arith, eqb-true, if◌then◌else◌}
-use Rattle.std.specs.Prelude.{nat_lt}
-use Rattle.beldi_value.specs.declared.value.Value.{Value}
-use Rattle.beldi_value.specs.declared.value.Value.TheVariants.{Null}
-use Rattle.beldi_value.specs.declared.outcome.Cause.{Cause}
-use Rattle.beldi_value.specs.declared.outcome.Outcome.{Outcome}
-use Rattle.beldi_value.specs.declared.outcome.Outcome.TheVariants as outcome
-use Rattle.beldi_value.specs.declared.outcome.Code.{Code}
-use Rattle.beldi_value.specs.declared.outcome.Code.TheVariants as code
-use Rattle.beldi_tree.specs.declared.deployment.Deployment.{Deployment}
-use Rattle.beldi_tree.specs.declared.deployment.TableHead.{TableHead}
-use Rattle.beldi_lang.specs.declared.effect.Effect.{Effect}
-use Rattle.beldi_lang.specs.declared.effect.Effect.TheVariants as effect
-use Rattle.beldi_lang.specs.declared.effect.Answer.{Answer}
-use Rattle.beldi_lang.specs.declared.effect.Answer.TheVariants as answer
-use Rattle.beldi_lang.specs.declared.state.HeldLock.{HeldLock}
-use Rattle.beldi_tree.specs.Bindings.{Bindings}
-use Rattle.beldi_tree.specs.Names.{func_at}
-use Rattle.beldi_tree.specs.Evaluate.{and_then, truth, term_value}
-use Rattle.beldi_tree.specs.Command.{Command, Commands, no_commands, command, set, read, write, condwrite, call, async, lock, unlock, transaction, abort, break, choose, repeat, return}
-use Rattle.beldi_lang.specs.Locks.{is_held, is_none_held, without}
-use Rattle.beldi_lang.specs.Wants.{key_value, table_number, func_number, most_effects, Local, Leads, asks, goes, breaks, ends, Does, fault, or_fault, takes, counted, set_to, answered, effect_to, locks, unlocks, followed, looped, turns, closed, transact, does, run_block, tables_of, body_of, first_local, releases, effect_of, inside_of, body}
+use Rattle.beldi_known.proofs.Names.{Answer, Bindings, Bool, Cause, Code, Command, Commands, Deployment, Does, Effect, Err, HeldLock, Leads, List, Local, None, Null, Ok, Option, Outcome, Result, Some, TableHead, Value, [], abort, and_then, ap, arith, asks, async, body, break, breaks, call, choose, closed, command, condwrite, counted, does, effect_to, ends, eqb-true, false, fault, first_local, followed, func_at, func_number, goes, if◌then◌else◌, inside_of, is_held, is_none_held, key_value, length, lock, locks, looped, most_effects, nat_lt, no_commands, or_fault, read, refl, releases, repeat, return, run_block, set, set_to, subst, suc, sym, table_number, tables_of, takes, term_value, transact, transaction, true, truth, turns, unlock, unlocks, without, zero, ℕ, ◌++◌, ◌+◌, ◌∙◌, ◌∷◌, ◌≡◌}
+use Rattle.beldi_known.proofs.Names.answer
+use Rattle.beldi_known.proofs.Names.code
+use Rattle.beldi_known.proofs.Names.effect
+use Rattle.beldi_known.proofs.Names.outcome
+use Rattle.beldi_tree.specs.Command.{write}
+use Rattle.beldi_lang.specs.Wants.{answered, body_of, effect_of}
 
 -- where a body is: at statements with no transaction of their own open, inside a transaction of its own, at its End after an
 -- abort, or at what ends the body

@@ -1,33 +1,8 @@
 -- What an instance owes after one answer more, and after what takes no turn.
-use Rattle.std.proofs.Common.{◌≡◌, ◌<◌, ℕ, ◌==◌, ◌&&◌, ◌||◌, not, Bool, true, false, List, [], ◌∷◌, ◌++◌, length, take, Option, None, Some, refl, ap, sym, ◌∙◌, subst, append_assoc, append-nil, eqb-true, arith, if◌then◌else◌, is_some}
-use Rattle.std.specs.Prelude.{slice_get}
-use Rattle.std.proofs.lemmas.List.{take-append-le}
-use Rattle.std.proofs.Math.Seq.{take-append_seam}
-use Rattle.beldi_value.specs.declared.id.IntentId.{IntentId}
-use Rattle.beldi_value.specs.declared.outcome.Outcome.{Outcome}
-use Rattle.beldi_value.specs.declared.place.TxId.{TxId}
-use Rattle.beldi_value.specs.declared.value.Value.TheVariants as value
-use Rattle.beldi_tree.specs.declared.deployment.Deployment.{Deployment}
-use Rattle.beldi_lang.specs.declared.effect.Answer.{Answer}
-use Rattle.beldi_lang.specs.declared.effect.Answer.TheVariants as answer
-use Rattle.beldi_lang.specs.declared.effect.Effect.{Effect}
-use Rattle.beldi_lang.specs.declared.effect.Effect.TheVariants as effect
-use Rattle.beldi_row.specs.declared.notes.Note.{Note}
-use Rattle.beldi_plain.specs.Item.{Item}
-use Rattle.beldi_plain.specs.Operation.{op_of, touched}
-use Rattle.beldi_plain.specs.Holds.{held_if, holds}
-use Rattle.beldi_plain.specs.Plain.{Instance, effect_of, answered}
-use Rattle.beldi_plain.specs.Plain.{answered_if}
-use Rattle.beldi_order.proofs.Ends.{fits, fits_at}
-use Rattle.beldi_order.proofs.Operations.{held_pushed}
-use Rattle.beldi_order.proofs.Went.{along_pushed, txs_pushed}
-use Rattle.beldi_step.specs.Run.{place_of}
-use Rattle.beldi_known.specs.Frame.{AnswersOne, row_added, put}
-use Rattle.beldi_known.specs.Rows.{body_of}
-use Rattle.beldi_known.specs.Owed.{note_of, value_for}
-use Rattle.beldi_plain.specs.Piece.{is_aborted}
-use Rattle.beldi_known.specs.Known.{answer_at_once, once_if, once, at_once, at_step, is_tx, is_item, write_op, read_at, decision_by, value_or, row_at, lock_note, note_by, answered_note, shadow_by, shadow_at, asks_lock, lockset_of, is_on, got_before, commit_in, ended_at, moved}
-use Rattle.beldi_order.specs.Txs.{effect_after, Txs, is_at, txs_by, txs_after, end_of, tx_after, tx_now}
+use Rattle.beldi_known.proofs.Names.{Answer, AnswersOne, Bool, Deployment, Effect, Instance, IntentId, Item, List, None, Note, Option, Outcome, Some, TxId, Txs, [], along_pushed, answer_at_once, answered, answered_if, answered_note, ap, append-nil, append_assoc, arith, asks_lock, at_once, at_step, body_of, commit_in, decision_by, effect_after, effect_of, end_of, ended_at, eqb-true, false, fits, fits_at, got_before, held_if, held_pushed, holds, if◌then◌else◌, is_aborted, is_at, is_item, is_on, is_some, is_tx, length, lock_note, lockset_of, moved, not, note_by, note_of, once, once_if, op_of, place_of, put, read_at, refl, row_added, row_at, shadow_at, shadow_by, slice_get, subst, sym, take, take-append-le, take-append_seam, touched, true, tx_after, tx_now, txs_after, txs_by, txs_pushed, value_for, value_or, write_op, ℕ, ◌&&◌, ◌++◌, ◌<◌, ◌==◌, ◌||◌, ◌∙◌, ◌∷◌, ◌≡◌}
+use Rattle.beldi_known.proofs.Names.answer
+use Rattle.beldi_known.proofs.Names.effect
+use Rattle.beldi_known.proofs.Names.value
 use Rattle.beldi_known.proofs.Answers.{pushed_at, none_at_end}
 
 -- ---- folds and steps, with an answer more

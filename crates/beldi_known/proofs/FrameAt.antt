@@ -1,31 +1,6 @@
 -- What is owed at each key, after an instance was answered: it changes at that place alone.
-use Rattle.std.proofs.Common.{◌≡◌, ℕ, ◌==◌, ◌&&◌, ◌||◌, not, Bool, true, false, cond, length, Option, None, Some, refl, ap, sym, ◌∙◌, subst, eqb-true, eq-eqb, if◌then◌else◌}
-use Rattle.std.specs.FinMap as map
-use Rattle.std.specs.FinMap.{get-insert}
-use Rattle.std.specs.Ordering.{is_eq}
-use Rattle.std.proofs.lemmas.Cmp.{tied_itself}
-use Rattle.beldi_value.specs.Id.{id_cmp, id_total, child_of}
-use Rattle.beldi_value.specs.declared.id.IntentId.{IntentId}
-use Rattle.beldi_value.specs.declared.place.Place.{Place}
-use Rattle.beldi_value.specs.declared.place.TxId.{TxId}
-use Rattle.beldi_value.specs.declared.value.Value.{Value}
-use Rattle.beldi_tree.specs.declared.deployment.Deployment.{Deployment}
-use Rattle.beldi_lang.specs.declared.effect.Answer.{Answer}
-use Rattle.beldi_row.specs.declared.row.Body.{Body}
-use Rattle.beldi_row.specs.declared.notes.Note.{Note}
-use Rattle.beldi_row.specs.Log.{place_eq}
-use Rattle.beldi_row.proofs.Logs.{place_same, place_self}
-use Rattle.beldi_plain.specs.Item.{Item}
-use Rattle.beldi_plain.specs.Operation.{op_of}
-use Rattle.beldi_plain.specs.Holds.{held_if, holds}
-use Rattle.beldi_plain.specs.Plain.{Instance, effect_of}
-use Rattle.beldi_order.proofs.Operations.{id_same}
-use Rattle.beldi_step.specs.Run.{place_of, is_waited}
-use Rattle.beldi_known.specs.Owed.{called_by}
-use Rattle.beldi_plain.specs.Piece.{is_aborted}
-use Rattle.beldi_known.specs.Known.{Known, row_at, owed_value, owed_read, note_by, answered_note, ahead_by, ahead_note, note_or, owed_note, shadow_by, owed_shadow, asks_lock, owed_lockset, is_on, got_before, got_by, owed_call}
-use Rattle.beldi_order.specs.Txs.{txs_after, tx_now, tx_after, effect_after}
-use Rattle.beldi_known.specs.Frame.{AnswersOne, row_added, put, LockedOut}
+use Rattle.beldi_known.proofs.Names.{Answer, AnswersOne, Body, Bool, Deployment, Instance, IntentId, Item, Known, LockedOut, None, Note, Option, Place, Some, TxId, Value, ahead_by, ahead_note, answered_note, ap, asks_lock, called_by, child_of, cond, effect_after, effect_of, eq-eqb, eqb-true, false, get-insert, got_before, got_by, held_if, holds, id_cmp, id_same, id_total, if◌then◌else◌, is_aborted, is_eq, is_on, is_waited, length, not, note_by, note_or, op_of, owed_call, owed_lockset, owed_note, owed_read, owed_shadow, owed_value, place_eq, place_of, place_same, place_self, put, refl, row_added, row_at, shadow_by, subst, sym, tied_itself, true, tx_after, tx_now, txs_after, ℕ, ◌&&◌, ◌==◌, ◌||◌, ◌∙◌, ◌≡◌}
+use Rattle.beldi_known.proofs.Names.map
 use Rattle.beldi_known.proofs.Instances.{calls_moved, same_caller, same_callee}
 use Rattle.beldi_known.proofs.Answers.{true_false}
 use Rattle.beldi_known.proofs.Frame.{step_next}

@@ -1,48 +1,12 @@
 -- The acts at the front that answer an operation inside, or die, or decide.
-use Rattle.std.specs.Option.{is_none}
-use Rattle.std.proofs.Common.{◌≡◌, ℕ, ◌==◌, ◌&&◌, ◌||◌, not, Bool, true, false, List, [], ◌∷◌, ◌++◌, length, Option, None, Some, refl, ap, sym, ◌∙◌, subst, eqb-true, eq-eqb, is_some, if◌then◌else◌}
-use Rattle.std.specs.FinMap as map
-use Rattle.std.specs.Ordering.{is_eq}
-use Rattle.std.proofs.lemmas.Cmp.{tied_itself}
-use Rattle.std.proofs.lemmas.Bool.{and_right}
-use Rattle.beldi_value.specs.declared.place.Owner.TheVariants.{Intent}
-use Rattle.beldi_value.specs.Id.{id_cmp, has_no_hops}
-use Rattle.beldi_value.specs.declared.id.IntentId.{IntentId}
-use Rattle.beldi_value.specs.declared.place.Owner.{Owner}
-use Rattle.beldi_value.specs.declared.place.Place.{Place}
-use Rattle.beldi_value.specs.declared.place.TxId.{TxId}
-use Rattle.beldi_value.specs.declared.value.Value.{Value}
-use Rattle.beldi_tree.specs.declared.deployment.Deployment.{Deployment}
-use Rattle.beldi_lang.specs.declared.effect.Answer.{Answer}
-use Rattle.beldi_lang.specs.declared.effect.Answer.TheVariants as answer
-use Rattle.beldi_lang.specs.declared.effect.Effect.{Effect}
-use Rattle.beldi_lang.specs.declared.effect.Effect.TheVariants as effect
-use Rattle.beldi_row.specs.declared.notes.Note.{Note}
-use Rattle.beldi_row.specs.declared.notes.Note.TheVariants as notes
-use Rattle.beldi_row.specs.declared.row.Row.{Row}
-use Rattle.beldi_row.specs.declared.row.Row.TheVariants as rows
-use Rattle.beldi_row.specs.Log.{note_at, place_eq}
-use Rattle.beldi_row.proofs.Logs.{note_pushed, place_same}
-use Rattle.beldi_row.specs.Key.{key_cmp}
-use Rattle.beldi_row.proofs.Gets.{key_self}
-use Rattle.beldi_daal.specs.Content.{Content}
-use Rattle.beldi_readlog.specs.ReadLog.{log_key}
-use Rattle.beldi_plain.specs.Item.{Item, item_cmp, item_total}
-use Rattle.beldi_plain.specs.Operation.{op_of, touched}
-use Rattle.beldi_plain.specs.Holds.{held_if, holds}
-use Rattle.beldi_plain.specs.Plain.{Instance, effect_of}
-use Rattle.beldi_step.specs.Run.{place_of}
-use Rattle.beldi_known.specs.Rows.{IntentMatches}
-use Rattle.beldi_known.specs.Contents.{is_owner}
-use Rattle.beldi_plain.specs.Piece.{is_aborted}
-use Rattle.beldi_known.specs.Known.{Known, is_item, owed_value, owed_read, row_at, lock_note, note_by, ahead_by, note_or, owed_note, shadow_by, owed_shadow, begins_at, asks_lock, owed_lockset, got_by, ended_by, tx_end, commit_in, ended_at, is_decided, is_mark, last_step}
-use Rattle.beldi_order.specs.Txs.{effect_after, txs_by, txs_after, Txs, tx_after, tx_now}
-use Rattle.beldi_known.specs.Matches.{ItemMatches, TxsMatch, ShadowMatches, LocksetMatches, lockset_ahead, has_ended, is_open}
-use Rattle.beldi_known.specs.Acts.{with_note}
-use Rattle.beldi_known.specs.Frame.{AnswersOne, row_added, LockedOut}
+use Rattle.beldi_known.proofs.Names.{Answer, AnswersOne, Bool, Content, Deployment, Effect, Instance, Intent, IntentId, IntentMatches, Item, ItemMatches, Known, List, LockedOut, LocksetMatches, None, Note, Option, Owner, Place, Row, ShadowMatches, Some, TxId, Txs, TxsMatch, Value, [], ahead_by, and_right, ap, asks_lock, begins_at, commit_in, effect_after, effect_of, ended_at, ended_by, ends_kept, eq-eqb, eqb-true, false, fits, got_by, has_ended, has_no_hops, held_if, holds, id_cmp, if◌then◌else◌, is_aborted, is_decided, is_eq, is_item, is_mark, is_none, is_open, is_owner, is_some, item_cmp, item_total, key_cmp, key_self, last_step, length, lock_note, lockset_ahead, log_key, not, note_at, note_by, note_or, note_pushed, op_of, owed_lockset, owed_note, owed_read, owed_shadow, owed_value, place_eq, place_of, place_same, refl, row_added, row_at, shadow_by, subst, sym, tied_itself, touched, true, tx_after, tx_end, tx_now, txs_after, txs_by, with_note, ℕ, ◌&&◌, ◌++◌, ◌==◌, ◌||◌, ◌∙◌, ◌∷◌, ◌≡◌}
+use Rattle.beldi_known.proofs.Names.answer
+use Rattle.beldi_known.proofs.Names.effect
+use Rattle.beldi_known.proofs.Names.map
+use Rattle.beldi_known.proofs.Names.notes
+use Rattle.beldi_known.proofs.Names.rows
 use Rattle.beldi_known.proofs.Answers.{true_false}
 use Rattle.beldi_known.proofs.Instances.{EndMore, intent_stays, intent_same}
-use Rattle.beldi_order.proofs.Ends.{ends_kept, fits}
 use Rattle.beldi_known.proofs.Frame.{step_next, or_false}
 use Rattle.beldi_known.proofs.FrameAt.{known_set, no_place, read_one, shadow_one, lockset_one, holds_one, note_one, got_same, or_no}
 

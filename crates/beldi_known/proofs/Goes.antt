@@ -1,23 +1,7 @@
 -- What is known stays sane with an answer, and a run that is behind stays so with what takes no turn.
-use Rattle.std.proofs.Common.{◌≡◌, ℕ, List, [], ◌∷◌, ◌++◌, length, take, Option, None, Some, refl, ap, sym, ◌∙◌, subst, append_assoc, append-nil}
-use Rattle.std.specs.Prelude.{slice_get}
-use Rattle.beldi_value.specs.declared.id.IntentId.{IntentId}
-use Rattle.beldi_value.specs.declared.outcome.Outcome.{Outcome}
-use Rattle.beldi_value.specs.declared.place.TxId.{TxId}
-use Rattle.beldi_tree.specs.declared.deployment.Deployment.{Deployment}
-use Rattle.beldi_lang.specs.declared.effect.Answer.{Answer}
-use Rattle.beldi_lang.specs.declared.effect.Answer.TheVariants as answer
-use Rattle.beldi_lang.specs.declared.effect.Effect.{Effect}
-use Rattle.beldi_lang.specs.declared.effect.Effect.TheVariants as effect
-use Rattle.beldi_plain.specs.Plain.{Instance, effect_of, answered}
-use Rattle.beldi_plain.specs.Plain.{answered_if}
-use Rattle.beldi_order.proofs.Maps.{same_some}
-use Rattle.beldi_order.proofs.Went.{went_pushed}
-use Rattle.beldi_step.specs.Run.{place_of}
-use Rattle.beldi_known.specs.Known.{answer_at_once, once_if, once, and_once, run_once, run_on, moved, Prefix}
-use Rattle.beldi_order.specs.Txs.{effect_after, tx_after, tx_now}
-use Rattle.beldi_known.specs.Sane.{SaneInstance, Closed}
-use Rattle.beldi_order.specs.Sane.{IsAnswer}
+use Rattle.beldi_known.proofs.Names.{Answer, Closed, Deployment, Effect, Instance, IntentId, IsAnswer, List, None, Option, Outcome, Prefix, SaneInstance, Some, TxId, [], and_once, answer_at_once, answered, answered_if, ap, append-nil, append_assoc, effect_after, effect_of, length, moved, once, once_if, place_of, refl, run_on, run_once, same_some, slice_get, subst, sym, take, tx_after, tx_now, went_pushed, ℕ, ◌++◌, ◌∙◌, ◌∷◌, ◌≡◌}
+use Rattle.beldi_known.proofs.Names.answer
+use Rattle.beldi_known.proofs.Names.effect
 use Rattle.beldi_known.proofs.Answers.{take_front, get_next}
 
 -- ---- an answer more

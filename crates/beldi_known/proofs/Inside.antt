@@ -1,45 +1,11 @@
 -- The front acts of operations inside, by their effects; and a release.
-use Rattle.std.specs.Option.{is_none}
-use Rattle.std.proofs.Common.{◌≡◌, ℕ, ◌==◌, ◌&&◌, not, Bool, true, false, cond, List, [], ◌∷◌, ◌++◌, length, Option, None, Some, is_some, refl, ap, sym, ◌∙◌, subst, eq-eqb, if◌then◌else◌}
-use Rattle.std.specs.FinMap as map
-use Rattle.std.specs.Ordering.{is_eq}
-use Rattle.std.proofs.lemmas.Cmp.{tied_itself}
-use Rattle.std.proofs.lemmas.Bool.{or_right}
-use Rattle.beldi_value.specs.declared.id.IntentId.{IntentId}
-use Rattle.beldi_value.specs.declared.place.Owner.TheVariants.{Intent, Tx}
-use Rattle.beldi_value.specs.declared.place.Place.{Place}
-use Rattle.beldi_value.specs.declared.place.TxId.{TxId}
-use Rattle.beldi_value.specs.declared.rel.Rel.{Rel}
-use Rattle.beldi_value.specs.declared.value.Value.{Value}
-use Rattle.beldi_value.specs.declared.value.Value.TheVariants as value
-use Rattle.beldi_tree.specs.declared.deployment.Deployment.{Deployment}
-use Rattle.beldi_lang.specs.declared.effect.Answer.{Answer}
-use Rattle.beldi_lang.specs.declared.effect.Answer.TheVariants as answer
-use Rattle.beldi_lang.specs.declared.effect.Effect.{Effect}
-use Rattle.beldi_lang.specs.declared.effect.Effect.TheVariants as effect
-use Rattle.beldi_row.specs.Log.{note_at, place_eq}
-use Rattle.beldi_row.specs.Table.{Rows, set_row}
-use Rattle.beldi_row.specs.declared.notes.Note.{Note}
-use Rattle.beldi_row.specs.declared.notes.Note.TheVariants as notes
-use Rattle.beldi_row.specs.declared.row.Row.{Row}
-use Rattle.beldi_row.specs.declared.row.Row.TheVariants as rows
-use Rattle.beldi_row.proofs.Logs.{note_pushed, place_same}
-use Rattle.beldi_row.proofs.Gets.{got as row_got, key_same}
-use Rattle.beldi_row.specs.Key.{key_cmp}
-use Rattle.beldi_daal.specs.Content.{Content, content_in}
-use Rattle.beldi_readlog.specs.ReadLog.{log_key}
-use Rattle.beldi_plain.specs.Item.{Item, item_cmp, item_total}
-use Rattle.beldi_plain.specs.Plain.{Instance, effect_of}
-use Rattle.beldi_step.specs.Run.{place_of}
-use Rattle.beldi_known.specs.Rows.{CellMatches}
-use Rattle.beldi_known.specs.Owed.{note_of}
-use Rattle.beldi_known.specs.Contents.{is_owner, head_key, content_of, shadow_key, shadow_of, lockset_key}
-use Rattle.beldi_known.specs.Known.{Known, tx_eq, is_tx, write_op, shadow_by, owed_note, owed_lockset, begins_at, is_item, tx_end, is_mark, moved}
-use Rattle.beldi_order.specs.Txs.{txs_after, tx_now}
-use Rattle.beldi_plain.specs.Operation.{touched}
-use Rattle.beldi_known.specs.Matches.{Matches, RowMatches, ItemMatches, ShadowMatches, TxsMatch, lockset_ahead, is_open}
-use Rattle.beldi_known.specs.Acts.{with_note}
-use Rattle.beldi_known.specs.Frame.{row_added, LockedOut}
+use Rattle.beldi_known.proofs.Names.{Answer, Bool, CellMatches, Content, Deployment, Effect, Instance, Intent, IntentId, Item, ItemMatches, Known, List, LockedOut, Matches, None, Note, Option, Place, Rel, Row, RowMatches, Rows, ShadowMatches, Some, Tx, TxId, TxsMatch, Value, [], ap, begins_at, cond, content_in, content_of, effect_of, eq-eqb, false, head_key, if◌then◌else◌, is_eq, is_item, is_mark, is_none, is_open, is_owner, is_some, is_tx, item_cmp, item_total, key_cmp, key_same, length, lockset_ahead, lockset_key, log_key, moved, not, note_at, note_of, note_pushed, or_right, owed_lockset, owed_note, place_eq, place_of, place_same, refl, row_added, row_got, set_row, shadow_by, shadow_key, shadow_of, subst, sym, tied_itself, touched, true, tx_end, tx_eq, tx_now, txs_after, with_note, write_op, ℕ, ◌&&◌, ◌++◌, ◌==◌, ◌∙◌, ◌∷◌, ◌≡◌}
+use Rattle.beldi_known.proofs.Names.answer
+use Rattle.beldi_known.proofs.Names.effect
+use Rattle.beldi_known.proofs.Names.map
+use Rattle.beldi_known.proofs.Names.notes
+use Rattle.beldi_known.proofs.Names.rows
+use Rattle.beldi_known.proofs.Names.value
 use Rattle.beldi_known.proofs.Answers.{true_false}
 use Rattle.beldi_known.proofs.Rows.{keys_set}
 use Rattle.beldi_known.proofs.Frame.{moved_one, no_shadow}

@@ -1,25 +1,7 @@
 -- The rows of an intent, and of the calls to it and from it, as its instance goes on.
-use Rattle.std.proofs.Common.{◌≡◌, ℕ, ◌==◌, Bool, true, false, Option, None, Some, refl, ap, sym, ◌∙◌, subst, if◌then◌else◌, [], ◌∷◌, length, length-append, arith}
-use Rattle.std.specs.FinMap as map
-use Rattle.std.specs.Ordering.{is_eq}
-use Rattle.std.specs.FinMap.{FinMap}
-use Rattle.beldi_value.specs.Id.{id_cmp, child_of}
-use Rattle.beldi_value.specs.declared.id.IntentId.{IntentId}
-use Rattle.beldi_value.specs.declared.outcome.Outcome.{Outcome}
-use Rattle.beldi_value.specs.declared.place.Place.{Place}
-use Rattle.beldi_value.specs.declared.place.TxId.{TxId}
-use Rattle.beldi_row.proofs.Gets.{key_self}
-use Rattle.beldi_row.specs.Key.{key_cmp}
-use Rattle.beldi_row.specs.declared.row.Body.{Body}
-use Rattle.beldi_row.specs.declared.row.IntentRow.{IntentRow}
-use Rattle.beldi_row.specs.declared.row.Row.{Row}
-use Rattle.beldi_row.specs.declared.row.Row.TheVariants as rows
-use Rattle.beldi_invokelog.specs.InvokeLog.{invoke_key}
-use Rattle.beldi_plain.specs.Plain.{Instance, ended}
-use Rattle.beldi_order.proofs.Maps.{same_some, made_set}
-use Rattle.beldi_step.specs.Run.{is_waited}
-use Rattle.beldi_known.specs.Owed.{called_by, result_of}
-use Rattle.beldi_known.specs.Rows.{IntentMatches, RootMatches, CalleeMatches, FinishMatches, tx_in, IsBodyOf, BodyMatches, CalleeBodyMatches, OutcomeMatches, body_of}
+use Rattle.beldi_known.proofs.Names.{Body, BodyMatches, Bool, CalleeBodyMatches, CalleeMatches, FinMap, FinishMatches, Instance, IntentId, IntentMatches, IntentRow, IsBodyOf, None, Option, Outcome, OutcomeMatches, Place, RootMatches, Row, Some, TxId, [], ap, arith, body_of, called_by, child_of, ended, false, id_cmp, if◌then◌else◌, invoke_key, is_eq, is_waited, key_cmp, key_self, length, length-append, made_set, refl, result_of, same_some, subst, sym, true, tx_in, ℕ, ◌==◌, ◌∙◌, ◌∷◌, ◌≡◌}
+use Rattle.beldi_known.proofs.Names.map
+use Rattle.beldi_known.proofs.Names.rows
 use Rattle.beldi_known.proofs.Answers.{true_false}
 
 -- one that is there has a body only of an instance that was made

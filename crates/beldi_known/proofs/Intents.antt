@@ -1,37 +1,14 @@
 -- The row of an intent, over what is known: its instance is made, or ends, or only the row is set.
-use Rattle.std.proofs.Common.{◌≡◌, ℕ, ◌==◌, Bool, true, false, Option, None, Some, is_some, refl, ap, sym, ◌∙◌, subst, eqb-true, eq-eqb, if◌then◌else◌}
-use Rattle.std.specs.FinMap as map
-use Rattle.std.specs.Ordering.{is_eq}
-use Rattle.beldi_value.specs.Id.{id_total, id_exact, child_of, has_no_hops}
-use Rattle.beldi_value.specs.declared.id.IntentId.{IntentId}
-use Rattle.beldi_value.specs.declared.outcome.Outcome.{Outcome}
-use Rattle.beldi_value.specs.declared.place.Place.{Place}
-use Rattle.beldi_value.proofs.Callees.{no_root}
-use Rattle.beldi_tree.specs.declared.deployment.Deployment.{Deployment}
-use Rattle.beldi_row.specs.Key.{RowKey, key_cmp}
-use Rattle.beldi_row.specs.Table.{Rows, set_row}
-use Rattle.beldi_row.specs.declared.key.Kind.{Kind}
-use Rattle.beldi_row.specs.declared.key.Kind.TheVariants as kinds
-use Rattle.beldi_row.specs.declared.row.Body.{Body}
-use Rattle.beldi_row.specs.declared.row.IntentRow.{IntentRow}
-use Rattle.beldi_row.specs.declared.row.Row.{Row}
-use Rattle.beldi_row.specs.declared.row.Row.TheVariants as rows
-use Rattle.beldi_row.proofs.Gets.{key_self}
-use Rattle.beldi_row.proofs.Rows.{get_set}
-use Rattle.beldi_plain.specs.Plain.{Instance, ended, effect_of, new_instance}
-use Rattle.beldi_order.proofs.Maps.{same_some, elsewhere}
-use Rattle.beldi_step.specs.Run.{is_waited}
-use Rattle.beldi_known.specs.Known.{Known, owed_call, at_once}
-use Rattle.beldi_known.specs.Matches.{Matches, has_ended}
-use Rattle.beldi_known.specs.Owed.{called_by}
-use Rattle.beldi_known.specs.Rows.{IntentMatches, RootMatches, CalleeMatches, FinishMatches, tx_in, CalleeBodyMatches, BodyMatches, OutcomeMatches, IsRootRow, IsCalleeRow, EndsRow, body_of}
+use Rattle.beldi_known.proofs.Names.{Body, BodyMatches, Bool, CalleeBodyMatches, CalleeMatches, Deployment, EndsRow, FinishMatches, Instance, IntentId, IntentMatches, IntentRow, IsCalleeRow, IsRootRow, Kind, Known, Matches, None, Option, Outcome, OutcomeMatches, Place, RootMatches, Row, RowKey, Rows, Some, Value, ap, at_once, body_of, called_by, child_of, effect_of, elsewhere, ended, eq-eqb, eqb-true, false, get_set, has_ended, has_no_hops, id_exact, id_total, if◌then◌else◌, is_eq, is_some, is_waited, key_cmp, key_self, new_instance, no_root, owed_call, refl, same_some, set_row, subst, sym, true, tx_in, ℕ, ◌==◌, ◌∙◌, ◌≡◌}
+use Rattle.beldi_known.proofs.Names.effect
+use Rattle.beldi_known.proofs.Names.kinds
+use Rattle.beldi_known.proofs.Names.map
+use Rattle.beldi_known.proofs.Names.rows
 use Rattle.beldi_known.proofs.Answers.{true_false}
 use Rattle.beldi_known.proofs.Instances.{body_stays, intent_stays, calls_moved, same_caller, same_callee, no_callee, no_own_callee}
 use Rattle.beldi_known.proofs.Sets.{OwesStill, ended_more, instance_set, row_put}
 use Rattle.beldi_known.proofs.Calls.{ended_owes, made_owes}
-use Rattle.beldi_lang.specs.declared.effect.Effect.TheVariants as effect
 use Rattle.beldi_known.proofs.Frame.{at_once_same}
-use Rattle.beldi_value.specs.declared.value.Value.{Value}
 
 -- the key of an intent's row in a home
 abbrev pub own_key : ℕ → IntentId → RowKey

@@ -27,13 +27,14 @@ pub mod Lines
 pub mod Lists
 pub mod Locks
 pub mod Members
+mod Names
 pub mod NoTx
 pub mod Nothing
 pub mod Operations
 pub mod Outside
 pub mod Outsides
-pub mod Owners
 pub mod OwnTx
+pub mod Owners
 pub mod Owns
 pub mod Participants
 pub mod Phases

@@ -1,41 +1,13 @@
 -- Who is in an open transaction: its owner, and all that were called in it. Of those that have no outcome one can step, and each other
 -- waits for the next.
-use Rattle.std.proofs.Common.{◌≡◌, ◌⊎◌, inl, inr, ◌<◌, ℕ, Bool, true, false, cond, List, [], ◌∷◌, ◌++◌, length, length-append, Option, None, Some, refl, ap, sym, ◌∙◌, subst, append_assoc, append-nil, arith}
+use Rattle.beldi_known.proofs.Names.{Answer, Answers, Beside, Bool, Calls, Deployment, Effect, FinMap, Going, InLine, Instance, IntentId, IsBelow, IsIn, Known, Line, List, Move, MoveIs, None, OpenTx, OpensAreOpen, Option, PlainState, Returns, Sane, SaneWith, Some, TxId, Txs, Value, [], all_in, answer_at_once, answer_of, answered, answered_plainly, answers, ap, append-nil, append_assoc, arith, begins, begun_pushed, callee_of, calls, calls_at, child_of, child_same, cond, effect_of, ended, equal, false, get-insert, id_cmp, id_total, in_line, inl, inr, is_begin, is_edge, is_eq, last_hop, length, length-append, line_alike, line_moved, line_opened, long, longer, move_is, mover, new_member, next, none_below, not_longer, opened, or_own, outside_of, plainly_edge, refl, returned, returns, same_some, sane_with, subst, sym, tied_itself, top, true, tx_begun, tx_by, tx_now, txs_after, txs_by, txs_pushed, ℕ, ◌++◌, ◌<◌, ◌∙◌, ◌∷◌, ◌≡◌, ◌⊎◌}
+use Rattle.beldi_known.proofs.Names.answer
+use Rattle.beldi_known.proofs.Names.effect
+use Rattle.beldi_known.proofs.Names.map
+use Rattle.beldi_known.proofs.Names.plain
 use Rattle.std.specs.Prelude.{is_some}
-use Rattle.std.specs.FinMap as map
-use Rattle.std.specs.FinMap.{FinMap, get-insert}
-use Rattle.std.specs.Ordering.{is_eq}
-use Rattle.std.proofs.lemmas.Cmp.{tied_itself}
-use Rattle.beldi_value.specs.Id.{id_cmp, id_total, child_of}
-use Rattle.beldi_value.specs.declared.id.IntentId.{IntentId}
-use Rattle.beldi_value.specs.declared.place.TxId.{TxId}
-use Rattle.beldi_value.specs.declared.value.Value.{Value}
-use Rattle.beldi_value.proofs.Callees.{child_same}
-use Rattle.beldi_tree.specs.declared.deployment.Deployment.{Deployment}
-use Rattle.beldi_lang.specs.Callee.{answer_of}
-use Rattle.beldi_lang.specs.declared.effect.Answer.{Answer}
-use Rattle.beldi_lang.specs.declared.effect.Answer.TheVariants as answer
-use Rattle.beldi_lang.specs.declared.effect.Effect.{Effect}
-use Rattle.beldi_lang.specs.declared.effect.Effect.TheVariants as effect
-use Rattle.beldi_plain.specs.Moves.{Move, moved, Leads}
-use Rattle.beldi_plain.specs.Piece.{Going, is_owner, new_member, opened, tx_begun}
-use Rattle.beldi_plain.specs.Plain.{Instance, PlainState, answered, ended, callee_of, calls_at, effect_of}
-use Rattle.beldi_order.specs.Inside.{IsIn, IsBelow, Line, top, next, InLine}
-use Rattle.beldi_order.specs.Sane as plain
-use Rattle.beldi_order.specs.Txs.{Txs, txs_after, txs_by, tx_by, tx_now, or_own}
-use Rattle.beldi_order.proofs.Called.{last_hop}
-use Rattle.beldi_order.proofs.Foreign.{none_below}
-use Rattle.beldi_order.proofs.Goes.{answered_plainly, plainly_edge}
-use Rattle.beldi_order.proofs.Line.{all_in, in_line, line_alike, line_moved, line_opened, long, longer, not_longer, returned}
-use Rattle.beldi_order.proofs.Maps.{same_some, equal}
-use Rattle.beldi_order.proofs.Moved.{Answers, Calls, Returns, MoveIs, answers, calls, returns, move_is, mover}
-use Rattle.beldi_order.proofs.Sanes.{is_edge, begun_pushed, SaneWith, outside_of}
-use Rattle.beldi_order.proofs.Sound.{sane_with}
-use Rattle.beldi_order.proofs.Went.{txs_pushed}
-use Rattle.beldi_known.specs.Beside.{Beside, OpenTx, begins, is_begin}
-use Rattle.beldi_known.specs.InsideLaws.{OpensAreOpen}
-use Rattle.beldi_known.specs.Known.{Known, answer_at_once}
-use Rattle.beldi_known.specs.Sane.{Sane}
+use Rattle.beldi_plain.specs.Moves.{moved, Leads}
+use Rattle.beldi_plain.specs.Piece.{is_owner}
 use Rattle.beldi_known.proofs.NoTx.{begins_parts}
 use Rattle.beldi_known.proofs.Callers.{called_below}
 use Rattle.beldi_known.proofs.OwnTx.{own_intent}

@@ -1,25 +1,9 @@
 -- What is listed stays where a transaction that is open takes a lock, or writes its shadow.
-use Rattle.std.proofs.Common.{◌≡◌, Bool, true, false, cond, Option, None, Some, refl, ap, sym, ◌∙◌, subst, if◌then◌else◌, not}
-use Rattle.std.specs.FinMap as map
-use Rattle.std.specs.Ordering.{is_eq}
-use Rattle.beldi_value.specs.declared.place.Owner.{Owner}
-use Rattle.beldi_value.specs.declared.place.Owner.TheVariants.{Intent, Tx}
-use Rattle.beldi_value.specs.declared.place.TxId.{TxId}
-use Rattle.beldi_value.specs.declared.value.Value.{Value}
-use Rattle.beldi_row.specs.Act.{other_owner}
-use Rattle.beldi_row.specs.Key.{RowKey, key_cmp}
-use Rattle.beldi_row.specs.Table.{Rows, set_row}
-use Rattle.beldi_row.specs.declared.key.Kind.{Kind}
-use Rattle.beldi_row.specs.declared.key.Kind.TheVariants as kinds
-use Rattle.beldi_row.specs.declared.row.Row.{Row}
-use Rattle.beldi_row.proofs.Gets.{got as row_got, key_same}
-use Rattle.beldi_daal.specs.Content.{Content, content_in}
-use Rattle.beldi_plain.specs.Item.{Item}
-use Rattle.beldi_step.specs.Tables.{decision_key, is_committed, value_in}
-use Rattle.beldi_known.specs.Contents.{head_key, content_of, shadow_key}
+use Rattle.beldi_known.proofs.Names.{Bool, Content, Intent, Item, Kind, None, Option, Owner, Row, RowKey, Rows, Some, Tx, TxId, Value, ap, cond, content_in, content_of, decision_key, false, head_key, if◌then◌else◌, is_committed, is_eq, key_cmp, key_same, listed, listed_under, not, other_owner, refl, row_got, set_row, shadow_key, subst, sym, true, value_in, ◌∙◌, ◌≡◌}
+use Rattle.beldi_known.proofs.Names.kinds
+use Rattle.beldi_known.proofs.Names.map
 use Rattle.beldi_known.proofs.Locks.{owned_is}
 use Rattle.beldi_known.proofs.Acts.{kinds_apart, is_data, is_shadow, content_apart, content_here, by_item, turned, shadow_same}
-use Rattle.beldi_known.specs.Listed.{listed_under, listed}
 use Rattle.beldi_known.proofs.Sets.{is_log as is_row_log}
 
 abbrev pub is_log : Kind → Bool

@@ -1,32 +1,7 @@
 -- The lock of an operation inside, at the front: it is taken, or the operation dies.
-use Rattle.std.proofs.Common.{◌≡◌, ℕ, ◌==◌, ◌&&◌, ◌||◌, Bool, true, false, cond, List, [], ◌∷◌, ◌++◌, length, Option, None, Some, refl, ap, sym, ◌∙◌, subst, eqb-true, eq-eqb, if◌then◌else◌}
-use Rattle.std.specs.FinMap as map
-use Rattle.std.specs.FinMap.{get-insert}
-use Rattle.std.specs.Ordering.{is_eq}
-use Rattle.std.proofs.lemmas.Cmp.{tied_itself}
-use Rattle.std.proofs.lemmas.Bool.{and_from, and_parts, and_right, or_left, or_right}
-use Rattle.beldi_value.specs.Id.{id_cmp, id_total}
-use Rattle.beldi_value.specs.declared.id.IntentId.{IntentId}
-use Rattle.beldi_value.specs.declared.place.Owner.{Owner}
-use Rattle.beldi_value.specs.declared.place.Owner.TheVariants.{Intent, Tx}
-use Rattle.beldi_value.specs.declared.place.Place.{Place}
-use Rattle.beldi_value.specs.declared.place.TxId.{TxId}
-use Rattle.beldi_tree.specs.declared.deployment.Deployment.{Deployment}
-use Rattle.beldi_row.specs.Act.{other_owner}
-use Rattle.beldi_row.specs.declared.notes.Note.TheVariants as notes
-use Rattle.beldi_row.specs.Log.{note_at, place_eq, id_eq}
-use Rattle.beldi_row.proofs.Logs.{note_pushed, place_self, place_same}
-use Rattle.beldi_daal.specs.Content.{Content}
-use Rattle.beldi_plain.specs.Item.{Item, item_cmp, item_total}
-use Rattle.beldi_plain.specs.Plain.{Instance, effect_of}
-use Rattle.beldi_order.proofs.Operations.{id_same}
-use Rattle.beldi_step.specs.Run.{place_of}
-use Rattle.beldi_known.specs.Frame.{lock_in}
-use Rattle.beldi_known.specs.Contents.{is_owner}
-use Rattle.beldi_known.specs.Known.{Known, tx_eq, is_tx, is_item, note_by, answered_note, ahead_by, note_or, owed_note, is_on, got_before, got_by, Got, tx_end, is_mark}
-use Rattle.beldi_order.specs.Txs.{effect_after, tx_after, tx_now}
-use Rattle.beldi_plain.specs.Operation.{touched}
-use Rattle.beldi_known.specs.Matches.{ItemMatches, TxsMatch}
+use Rattle.beldi_known.proofs.Names.{Bool, Content, Deployment, Got, Instance, Intent, IntentId, Item, ItemMatches, Known, List, None, Option, Owner, Place, Some, Tx, TxId, TxsMatch, [], ahead_by, and_from, and_parts, and_right, answered_note, ap, cond, effect_after, effect_of, eq-eqb, eqb-true, false, get-insert, got_before, got_by, id_cmp, id_eq, id_same, id_total, if◌then◌else◌, is_eq, is_item, is_mark, is_on, is_owner, is_tx, item_cmp, item_total, length, lock_in, note_at, note_by, note_or, note_pushed, or_left, or_right, other_owner, owed_note, place_eq, place_of, place_same, place_self, refl, subst, sym, tied_itself, touched, true, tx_after, tx_end, tx_eq, tx_now, ℕ, ◌&&◌, ◌++◌, ◌==◌, ◌||◌, ◌∙◌, ◌∷◌, ◌≡◌}
+use Rattle.beldi_known.proofs.Names.map
+use Rattle.beldi_known.proofs.Names.notes
 use Rattle.beldi_known.proofs.Frame.{step_next}
 use Rattle.beldi_known.proofs.FrameAt.{one_place}
 

@@ -1,9 +1,5 @@
 -- Whether an id is in a transaction.
-use Rattle.std.proofs.Common.{◌≡◌, ◌∙◌, ◌⊎◌, inl, inr, ℕ, zero, suc, ◌<◌, ◌≤◌, ◌==◌, Bool, true, false, List, [], ◌∷◌, ◌++◌, length, length-append, refl, ap, sym, append-nil, eqb-true, eq-eqb, arith}
-use Rattle.std.proofs.lemmas.List.{append_cancel_left}
-use Rattle.beldi_value.specs.declared.id.IntentId.{IntentId}
-use Rattle.beldi_value.specs.declared.place.TxId.{TxId}
-use Rattle.beldi_order.specs.Inside.{IsIn}
+use Rattle.beldi_known.proofs.Names.{Bool, IntentId, IsIn, List, TxId, [], ap, append-nil, append_cancel_left, arith, eq-eqb, eqb-true, false, inl, inr, length, length-append, refl, suc, sym, true, zero, ℕ, ◌++◌, ◌<◌, ◌==◌, ◌∙◌, ◌∷◌, ◌≡◌, ◌≤◌, ◌⊎◌}
 
 lt_or_le : (n m : ℕ) → (n < m) ⊎ (m ≤ n)
 lt_or_le n zero = inr (omega arith)

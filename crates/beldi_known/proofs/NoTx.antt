@@ -1,17 +1,6 @@
 -- Who is in no transaction, and who stands at a Begin.
-use Rattle.std.proofs.Common.{ℕ, true, false, ◌≡◌, ◌∙◌, List, Option, Some, None, refl, ap, sym, length, is_some}
-use Rattle.std.specs.Option.{is_none}
-use Rattle.std.proofs.lemmas.Bool.{and_parts}
-use Rattle.beldi_value.specs.declared.id.IntentId.{IntentId}
-use Rattle.beldi_value.specs.declared.outcome.Outcome.{Outcome}
-use Rattle.beldi_value.specs.declared.place.TxId.{TxId}
-use Rattle.beldi_tree.specs.declared.deployment.Deployment.{Deployment}
-use Rattle.beldi_lang.specs.declared.effect.Answer.{Answer}
-use Rattle.beldi_lang.specs.declared.effect.Effect.{Effect}
-use Rattle.beldi_lang.specs.declared.effect.Effect.TheVariants as effect
-use Rattle.beldi_plain.specs.Plain.{Instance, effect_of}
-use Rattle.beldi_order.specs.Txs.{tx_after, or_own, tx_by, txs_after, effect_after}
-use Rattle.beldi_known.specs.Beside.{is_begin, begins}
+use Rattle.beldi_known.proofs.Names.{Answer, Deployment, Effect, Instance, IntentId, List, None, Option, Outcome, Some, TxId, and_parts, ap, begins, effect_after, effect_of, false, is_begin, is_none, is_some, length, or_own, refl, sym, true, tx_after, tx_by, txs_after, ℕ, ◌∙◌, ◌≡◌}
+use Rattle.beldi_known.proofs.Names.effect
 use Rattle.beldi_known.proofs.Phases.{begin_is}
 
 -- no Begin is open after these answers, nor was the instance called in a transaction

@@ -1,23 +1,7 @@
 -- At the start nothing is known, no lock is ahead, and no row is there: all that matches.
-use Rattle.std.proofs.Common.{◌≡◌, ℕ, zero, suc, ◌==◌, Bool, true, false, Some, None, refl, ap, sym, ◌∙◌, subst}
-use Rattle.std.specs.FinMap as map
-use Rattle.std.specs.FinMap.{get-empty}
-use Rattle.beldi_value.specs.Id.{id_cmp, root_of, child_of, has_no_hops}
-use Rattle.beldi_value.specs.declared.id.IntentId.{IntentId}
-use Rattle.beldi_value.specs.declared.place.TxId.{TxId}
-use Rattle.beldi_tree.specs.declared.deployment.Deployment.{Deployment}
-use Rattle.beldi_row.specs.Key.{key_cmp}
-use Rattle.beldi_row.specs.declared.key.Kind.{Kind}
-use Rattle.beldi_row.specs.declared.key.Kind.TheVariants as kinds
-use Rattle.beldi_daal.specs.Content.{Content, content_in}
-use Rattle.beldi_plain.specs.Holds.{holds}
-use Rattle.beldi_plain.specs.Plain.{Instance}
-use Rattle.beldi_known.specs.Contents.{head_key, shadow_key}
-use Rattle.beldi_known.specs.Known.{Known, owed_value, owed_note, owed_shadow, owed_lockset, got_by}
-use Rattle.beldi_known.specs.Matches.{Matches, has_ended, RowMatches, ItemMatches, ShadowMatches, TxsMatch, LockedAtEnds}
-use Rattle.beldi_known.specs.Owed.{called_by}
-use Rattle.beldi_known.specs.Rows.{RootMatches, IntentMatches, CellMatches}
-use Rattle.beldi_known.specs.Sane.{Sane}
+use Rattle.beldi_known.proofs.Names.{Bool, CellMatches, Content, Deployment, Instance, IntentId, IntentMatches, ItemMatches, Kind, Known, LockedAtEnds, Matches, None, RootMatches, RowMatches, Sane, ShadowMatches, Some, TxId, TxsMatch, ap, called_by, child_of, content_in, false, get-empty, got_by, has_ended, has_no_hops, head_key, holds, id_cmp, key_cmp, owed_lockset, owed_note, owed_shadow, owed_value, refl, root_of, shadow_key, subst, suc, sym, true, zero, ℕ, ◌==◌, ◌∙◌, ◌≡◌}
+use Rattle.beldi_known.proofs.Names.kinds
+use Rattle.beldi_known.proofs.Names.map
 use Rattle.beldi_known.proofs.Instances.{no_callee}
 
 abbrev none : Known

@@ -1,20 +1,9 @@
 -- What an operation on an item does to its cell: as the walk of an intent does it.
-use Rattle.std.proofs.Common.{◌≡◌, inr, Bool, true, false, Option, None, Some, refl, sym, ◌∙◌, if◌then◌else◌}
-use Rattle.beldi_value.specs.Passes.{passes}
-use Rattle.beldi_value.specs.declared.id.IntentId.{IntentId}
-use Rattle.beldi_value.specs.declared.place.Owner.{Owner}
-use Rattle.beldi_value.specs.declared.place.Owner.TheVariants as owner
-use Rattle.beldi_value.specs.declared.value.Value.{Value}
-use Rattle.beldi_daal.specs.declared.cell.CellOp.{CellOp}
-use Rattle.beldi_daal.specs.declared.cell.CellOp.TheVariants as cell
-use Rattle.beldi_daal.specs.Logged.{value_after, owner_after, note_after, barred}
-use Rattle.beldi_plain.specs.Holds.{held_by}
-use Rattle.beldi_plain.specs.Operation.{Operation, sets, or_old, answer_after, write, lock, free}
-use Rattle.beldi_plain.specs.Operation as operation
-use Rattle.beldi_order.proofs.Operations.{IsOther}
-use Rattle.beldi_known.specs.Operations.{cell_of}
-use Rattle.beldi_known.specs.Contents.{is_owner}
-use Rattle.beldi_known.specs.Owed.{noted}
+use Rattle.beldi_known.proofs.Names.{Bool, CellOp, IntentId, IsOther, None, Operation, Option, Owner, Some, Value, answer_after, barred, cell_of, false, free, held_by, if◌then◌else◌, inr, is_owner, note_after, noted, or_old, owner_after, passes, refl, sets, sym, true, value_after, write, ◌∙◌, ◌≡◌}
+use Rattle.beldi_known.proofs.Names.cell
+use Rattle.beldi_known.proofs.Names.operation
+use Rattle.beldi_known.proofs.Names.owner
+use Rattle.beldi_plain.specs.Operation.{lock}
 use Rattle.beldi_known.proofs.Owners.{unbarred, not_hers, her_own}
 
 -- what an operation on cells leaves is what the plain operation leaves

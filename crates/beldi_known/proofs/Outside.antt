@@ -1,48 +1,11 @@
 -- An operation outside transactions, over what is known: by the same frame.
-use Rattle.std.specs.Option.{is_none}
-use Rattle.std.proofs.Common.{◌≡◌, ◌&&◌, ◌||◌, not, Bool, false, length, Option, None, Some, refl, ap, sym, ◌∙◌, if◌then◌else◌, true, ℕ, ◌==◌, inl, inr, ◌⊎◌, subst, eq-eqb}
-use Rattle.std.specs.FinMap as map
-use Rattle.std.specs.Ordering.{is_eq}
-use Rattle.std.proofs.lemmas.Cmp.{tied_itself}
-use Rattle.std.proofs.lemmas.Bool.{and_right}
-use Rattle.beldi_value.specs.declared.id.IntentId.{IntentId}
-use Rattle.beldi_value.specs.declared.place.Owner.{Owner}
-use Rattle.beldi_value.specs.declared.place.Owner.TheVariants as owner
-use Rattle.beldi_value.specs.declared.place.Place.{Place}
-use Rattle.beldi_value.specs.declared.place.TxId.{TxId}
-use Rattle.beldi_value.specs.declared.value.Value.{Value}
-use Rattle.beldi_tree.specs.declared.deployment.Deployment.{Deployment}
-use Rattle.beldi_lang.specs.declared.effect.Answer.{Answer}
-use Rattle.beldi_lang.specs.declared.effect.Effect.{Effect}
-use Rattle.beldi_lang.specs.declared.effect.Effect.TheVariants as effect
-use Rattle.beldi_row.specs.declared.row.Row.{Row}
-use Rattle.beldi_row.specs.declared.key.Kind.{Kind}
-use Rattle.beldi_row.specs.Table.{Rows, set_row}
-use Rattle.beldi_row.specs.declared.key.Kind.TheVariants as kinds
-use Rattle.beldi_row.specs.declared.row.Row.TheVariants as rows
-use Rattle.beldi_row.specs.Key.{RowKey, key_cmp}
-use Rattle.beldi_row.specs.Log.{note_at, place_eq}
-use Rattle.beldi_row.specs.declared.notes.Note.{Note}
-use Rattle.beldi_row.proofs.Logs.{note_pushed, place_self}
-use Rattle.beldi_daal.specs.declared.cell.CellOp.TheVariants as cell
-use Rattle.beldi_daal.specs.declared.cell.CellOp.{CellOp}
-use Rattle.beldi_daal.specs.Content.{Content, content_in}
-use Rattle.beldi_daal.specs.Logged.{owner_after, note_after, done_to, barred}
-use Rattle.beldi_readlog.specs.ReadLog.{log_key}
-use Rattle.beldi_plain.specs.Item.{Item, item_cmp, item_total}
-use Rattle.beldi_plain.specs.Operation.{OnItem, op_of, answer_after, item_in, touched}
-use Rattle.beldi_plain.specs.Holds.{held_if, held_by, holds}
-use Rattle.beldi_plain.specs.Plain.{Instance, effect_of}
-use Rattle.beldi_step.specs.Run.{place_of}
-use Rattle.beldi_known.specs.Rows.{LogMatches, CallMatches}
-use Rattle.beldi_known.specs.Owed.{noted, note_of}
-use Rattle.beldi_known.specs.Contents.{is_owner, head_key, content_of, shadow_key, shadow_of}
-use Rattle.beldi_plain.specs.Piece.{is_aborted}
-use Rattle.beldi_known.specs.Known.{Known, is_tx, is_item, write_op, lock_note, note_by, is_on, got_before, got_by, commit_in, is_mark, shadow_by, asks_lock, begins_at, owed_read}
-use Rattle.beldi_order.specs.Txs.{tx_now, txs_after}
-use Rattle.beldi_known.specs.Matches.{ItemMatches, TxsMatch, ShadowMatches, RowMatches, Matches, is_open}
-use Rattle.beldi_known.specs.Frame.{AnswersOne, row_added, LockedOut}
-use Rattle.beldi_known.specs.Operations.{DoneRows}
+use Rattle.beldi_known.proofs.Names.{Answer, AnswersOne, Bool, CallMatches, CellOp, Content, Deployment, DoneRows, Effect, Instance, IntentId, Item, ItemMatches, Kind, Known, LockedOut, LogMatches, Matches, None, Note, OnItem, Option, Owner, Place, Row, RowKey, RowMatches, Rows, ShadowMatches, Some, TxId, TxsMatch, Value, and_right, answer_after, ap, asks_lock, barred, begins_at, commit_in, content_in, content_of, done_to, effect_of, eq-eqb, false, got_before, got_by, head_key, held_by, held_if, holds, if◌then◌else◌, inl, inr, is_aborted, is_eq, is_item, is_mark, is_none, is_on, is_open, is_owner, is_tx, item_cmp, item_in, item_total, key_cmp, length, lock_note, log_key, not, note_after, note_at, note_by, note_of, note_pushed, noted, op_of, owed_read, owner_after, place_eq, place_of, place_self, refl, row_added, set_row, shadow_by, shadow_key, shadow_of, subst, sym, tied_itself, touched, true, tx_now, txs_after, write_op, ℕ, ◌&&◌, ◌==◌, ◌||◌, ◌∙◌, ◌≡◌, ◌⊎◌}
+use Rattle.beldi_known.proofs.Names.cell
+use Rattle.beldi_known.proofs.Names.effect
+use Rattle.beldi_known.proofs.Names.kinds
+use Rattle.beldi_known.proofs.Names.map
+use Rattle.beldi_known.proofs.Names.owner
+use Rattle.beldi_known.proofs.Names.rows
 use Rattle.beldi_known.proofs.Acts.{kinds_apart, is_data, is_shadow, content_apart, shadow_apart, by_item, turned}
 use Rattle.beldi_known.proofs.Rows.{keys_set, keys_at}
 use Rattle.beldi_known.proofs.Owners.{IsFreeFor, unbarred}

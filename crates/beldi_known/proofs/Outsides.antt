@@ -1,54 +1,11 @@
 -- An instance goes on outside in both: what is known stays beside the plain state, and shadows show what they did. It is in no open
 -- transaction of another, so those go on as they did.
-use Rattle.std.proofs.Common.{◌≡◌, ◌∙◌, inl, inr, ℕ, ◌<◌, ◌≤◌, ◌&&◌, ◌||◌, not, Bool, true, false, cond, [], ◌∷◌, ◌++◌, length, length-append, Option, Some, None, is_some, refl, ap, sym, subst, arith, if◌then◌else◌}
-use Rattle.std.specs.FinMap as map
-use Rattle.std.specs.FinMap.{FinMap, get-insert}
-use Rattle.std.specs.Option.{is_none}
-use Rattle.std.specs.Ordering.{is_eq}
-use Rattle.std.proofs.lemmas.Cmp.{tied_itself}
-use Rattle.std.proofs.lemmas.Bool.{false_from_ne_true}
-use Rattle.beldi_value.specs.Id.{id_cmp, id_total, root_of, child_of}
-use Rattle.beldi_value.specs.declared.id.IntentId.{IntentId}
-use Rattle.beldi_value.specs.declared.outcome.Outcome.{Outcome}
-use Rattle.beldi_value.specs.declared.place.Owner.TheVariants.{Tx}
-use Rattle.beldi_value.specs.declared.place.TxId.{TxId}
-use Rattle.beldi_value.specs.declared.value.Value.{Value}
-use Rattle.beldi_value.proofs.Callees.{child_same}
-use Rattle.beldi_tree.specs.Bindings.{or_null}
-use Rattle.beldi_tree.specs.declared.deployment.Deployment.{Deployment}
-use Rattle.beldi_lang.specs.declared.effect.Answer.{Answer}
-use Rattle.beldi_lang.specs.declared.effect.Answer.TheVariants as answer
-use Rattle.beldi_lang.specs.declared.effect.Effect.{Effect}
-use Rattle.beldi_lang.specs.declared.effect.Effect.TheVariants as effect
-use Rattle.beldi_row.specs.Table.{Rows}
-use Rattle.beldi_row.specs.declared.row.Row.{Row}
-use Rattle.beldi_plain.specs.Plain.{answered_if}
-use Rattle.beldi_plain.specs.Item.{Item, item_cmp}
-use Rattle.beldi_plain.specs.Moves.{fell, TouchedIn}
-use Rattle.beldi_plain.specs.Operation.{set_if, or_old}
-use Rattle.beldi_plain.specs.Piece.{aborted, dies_at, is_aborted, opened, tx_begun}
-use Rattle.beldi_plain.specs.Plain.{Instance, PlainState, answered, ended, effect_of, value_at, with_instance}
-use Rattle.beldi_order.specs.Inside.{IsIn, IsBelow}
-use Rattle.beldi_order.specs.Inside as inside
-use Rattle.beldi_order.specs.Sane as plain
-use Rattle.beldi_order.specs.Sane.{CalledBy}
-use Rattle.beldi_order.specs.Txs.{Txs, txs_after, txs_by, tx_after, end_of, is_at}
-use Rattle.beldi_order.proofs.Beside.{beside as moves_beside}
-use Rattle.beldi_order.proofs.Called.{last_hop}
-use Rattle.beldi_order.proofs.Foreign.{no_callees, no_later, none_after}
-use Rattle.beldi_order.proofs.Line.{all_in, in_line, line_opened, not_longer}
-use Rattle.beldi_order.proofs.Maps.{equal, here, elsewhere, same_some, none_by}
-use Rattle.beldi_order.proofs.Moved.{Items, answers_so, gone_on}
-use Rattle.beldi_order.proofs.Operations.{plain_set, item_same}
-use Rattle.beldi_order.proofs.Sound.{sane_with}
-use Rattle.beldi_order.proofs.Went.{txs_pushed}
-use Rattle.beldi_known.specs.Beside.{Beside, IsKept, OpenTx, begins, is_begin}
-use Rattle.beldi_known.specs.Contents.{content_of, shadow_key}
-use Rattle.beldi_known.specs.InsideLaws.{Goes}
-use Rattle.beldi_known.specs.Known.{Known, Got, at_once, ended_by, got_before, got_by, is_on, moved, once, once_if, answer_at_once, tx_end}
-use Rattle.beldi_known.specs.Matches.{Matches}
-use Rattle.beldi_known.specs.Sane.{Sane}
-use Rattle.beldi_known.specs.Shadows.{AllGot, AllShow, ShadowShows, Shadows, Shows, is_writing, writing_at}
+use Rattle.beldi_known.proofs.Names.{AllGot, AllShow, Answer, Beside, Bool, CalledBy, Deployment, Effect, FinMap, Goes, Got, Instance, IntentId, IsBelow, IsIn, IsKept, Item, Items, Known, Matches, None, OpenTx, Option, Outcome, PlainState, Row, Rows, Sane, ShadowShows, Shadows, Shows, Some, TouchedIn, Tx, TxId, Txs, Value, [], aborted, all_in, answer_at_once, answered, answered_if, answers_so, ap, arith, at_once, begins, child_of, child_same, cond, content_of, dies_at, effect_of, elsewhere, end_of, ended, ended_by, equal, false, false_from_ne_true, fell, get-insert, gone_on, got_before, got_by, here, id_cmp, id_total, if◌then◌else◌, in_line, inl, inr, is_aborted, is_at, is_begin, is_eq, is_none, is_on, is_some, is_writing, item_cmp, item_same, last_hop, length, length-append, line_opened, moved, moves_beside, no_callees, no_later, none_after, none_by, not, not_longer, once, once_if, opened, or_null, or_old, plain_set, refl, root_of, same_some, sane_with, set_if, shadow_key, subst, sym, tied_itself, true, tx_after, tx_begun, tx_end, txs_after, txs_by, txs_pushed, value_at, with_instance, writing_at, ℕ, ◌&&◌, ◌++◌, ◌<◌, ◌||◌, ◌∙◌, ◌∷◌, ◌≡◌, ◌≤◌}
+use Rattle.beldi_known.proofs.Names.answer
+use Rattle.beldi_known.proofs.Names.effect
+use Rattle.beldi_known.proofs.Names.inside
+use Rattle.beldi_known.proofs.Names.map
+use Rattle.beldi_known.proofs.Names.plain
 use Rattle.beldi_known.proofs.Answers.{true_false}
 use Rattle.beldi_known.proofs.Begins.{aborts_inside}
 use Rattle.beldi_known.proofs.Frame.{at_once_same, moved_one}

@@ -1,14 +1,6 @@
 -- The transaction of a step of one that was called in none is its own.
-use Rattle.std.proofs.Common.{◌≡◌, ℕ, false, length, Option, None, Some, ap, sym, ◌∙◌}
-use Rattle.beldi_value.specs.declared.id.IntentId.{IntentId}
-use Rattle.beldi_value.specs.declared.place.TxId.{TxId}
-use Rattle.beldi_tree.specs.declared.deployment.Deployment.{Deployment}
-use Rattle.beldi_lang.specs.declared.effect.Effect.{Effect}
-use Rattle.beldi_lang.specs.declared.effect.Effect.TheVariants as effect
-use Rattle.beldi_plain.specs.Plain.{Instance, effect_of}
-use Rattle.beldi_order.proofs.Maps.{same_some}
-use Rattle.beldi_known.specs.Beside.{is_begin}
-use Rattle.beldi_order.specs.Txs.{txs_after, tx_by, tx_now, or_own}
+use Rattle.beldi_known.proofs.Names.{Deployment, Effect, Instance, IntentId, None, Option, Some, TxId, ap, effect_of, false, is_begin, length, or_own, same_some, sym, tx_by, tx_now, txs_after, ℕ, ◌∙◌, ◌≡◌}
+use Rattle.beldi_known.proofs.Names.effect
 use Rattle.beldi_known.proofs.Answers.{true_false}
 
 -- the transaction of a step is of its instance, and its Begin is the one that is open

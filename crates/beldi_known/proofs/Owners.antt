@@ -1,20 +1,7 @@
 -- Who may own an item that an operation of an intent, or its read, gets past.
-use Rattle.std.proofs.Common.{◌≡◌, ◌⊎◌, inl, inr, true, false, Option, None, Some, refl, ap, sym, ◌∙◌, if◌then◌else◌}
-use Rattle.std.specs.Ordering.{is_eq}
-use Rattle.std.proofs.lemmas.Cmp.{tied_itself}
-use Rattle.std.proofs.lemmas.Bool.{false_from_ne_true}
-use Rattle.beldi_value.specs.Id.{id_cmp, id_total}
-use Rattle.beldi_value.specs.declared.id.IntentId.{IntentId}
-use Rattle.beldi_value.specs.declared.place.Owner.{Owner}
-use Rattle.beldi_value.specs.declared.place.Owner.TheVariants.{Intent, Tx}
-use Rattle.beldi_row.specs.Act.{other_owner, owns}
-use Rattle.beldi_row.specs.Log.{id_eq, owner_eq}
-use Rattle.beldi_row.proofs.Logs.{id_same, id_self}
-use Rattle.beldi_daal.specs.declared.cell.CellOp.{CellOp}
-use Rattle.beldi_daal.specs.declared.cell.CellOp.TheVariants.{Write, Cond, Lock, Free}
-use Rattle.beldi_daal.specs.Logged.{held_by, unless_owned, barred}
-use Rattle.beldi_order.proofs.Operations.{IsOther}
-use Rattle.beldi_known.specs.Contents.{is_owner}
+use Rattle.beldi_known.proofs.Names.{CellOp, Cond, Free, Intent, IntentId, IsOther, Lock, None, Option, Owner, Some, Tx, Write, ap, barred, false, false_from_ne_true, id_cmp, id_eq, id_self, id_total, if◌then◌else◌, inl, inr, is_eq, is_owner, other_owner, owner_eq, owns, refl, sym, tied_itself, true, unless_owned, ◌∙◌, ◌≡◌, ◌⊎◌}
+use Rattle.beldi_row.proofs.Logs.{id_same}
+use Rattle.beldi_daal.specs.Logged.{held_by}
 
 -- nobody owns it, or the intent does
 abbrev pub IsFreeFor : IntentId → Option Owner → Type 0

@@ -1,55 +1,12 @@
 -- What an open transaction touched it got, and owns; what it wrote has a shadow. So what it sees of an item is what its shadow shows,
 -- where that is there, and else the plain value.
-use Rattle.std.proofs.Common.{◌≡◌, ◌∙◌, ◌⊎◌, inl, inr, ℕ, Bool, true, false, ◌&&◌, not, List, ◌∷◌, length, Option, Some, None, is_some, refl, ap, sym, subst, if◌then◌else◌}
-use Rattle.std.specs.FinMap as map
-use Rattle.std.specs.Option.{option_map}
-use Rattle.std.specs.Ordering.{is_eq}
-use Rattle.std.proofs.lemmas.Cmp.{tied_itself}
-use Rattle.std.proofs.lemmas.Bool.{or_left}
-use Rattle.beldi_value.specs.Id.{id_total}
-use Rattle.beldi_value.specs.declared.id.IntentId.{IntentId}
-use Rattle.beldi_value.specs.declared.place.Owner.TheVariants.{Tx}
-use Rattle.beldi_value.specs.declared.place.TxId.{TxId}
-use Rattle.beldi_tree.specs.Bindings.{or_null}
-use Rattle.beldi_tree.specs.declared.deployment.Deployment.{Deployment}
-use Rattle.beldi_lang.specs.declared.effect.Answer.{Answer}
-use Rattle.beldi_lang.specs.declared.effect.Effect.{Effect}
-use Rattle.beldi_lang.specs.declared.effect.Effect.TheVariants as effect
-use Rattle.beldi_row.specs.Log.{note_at}
-use Rattle.beldi_row.specs.Table.{Rows}
-use Rattle.beldi_row.specs.declared.row.Row.{Row}
-use Rattle.beldi_row.specs.declared.row.Row.TheVariants as rows
-use Rattle.beldi_daal.specs.Content.{content_in}
-use Rattle.beldi_plain.specs.Item.{Item, item_total}
-use Rattle.beldi_plain.specs.Moves.{AllPlain, TouchedIn}
-use Rattle.beldi_plain.specs.Operation.{OnItem, op_of, item_in, touched, write}
-use Rattle.beldi_plain.specs.Operation as operation
-use Rattle.beldi_plain.specs.Piece.{is_aborted, opened, tx_begun}
-use Rattle.beldi_plain.specs.Plain.{Instance, PlainState, effect_of, item_of, value_at}
-use Rattle.beldi_order.specs.Inside.{WrittenIn}
-use Rattle.beldi_order.specs.Sane as plain
-use Rattle.beldi_order.specs.Txs.{effect_after, tx_after, tx_now}
-use Rattle.beldi_order.proofs.Beside.{kept}
-use Rattle.beldi_order.proofs.Ends.{fits}
-use Rattle.beldi_order.proofs.Goes.{AllSound, GoingSane}
-use Rattle.beldi_order.proofs.Maps.{same_some}
-use Rattle.beldi_order.proofs.Moved.{Items, answer_inside}
-use Rattle.beldi_order.proofs.Sanes.{SaneWith, sane_in, outside_of}
-use Rattle.beldi_order.proofs.Sound.{sane_with, going_so}
-use Rattle.beldi_order.proofs.Touched.{written_touched}
-use Rattle.beldi_order.proofs.Whole.{going_begun}
-use Rattle.beldi_order.specs.Grown.{Grown}
-use Rattle.beldi_plain.specs.Plain.{answered}
-use Rattle.beldi_step.specs.Run.{place_of}
-use Rattle.beldi_step.specs.Tables.{value_in}
-use Rattle.beldi_known.specs.Beside.{OpenTx, begins}
-use Rattle.beldi_known.specs.Contents.{content_of, shadow_key}
-use Rattle.beldi_known.specs.Known.{Known, Got, at_step, ended_by, got_before, got_by, is_item, is_on, is_tx, owed_shadow, shadow_at, shadow_by, tx_end, write_op}
-use Rattle.beldi_known.specs.Matches.{Matches}
-use Rattle.beldi_known.specs.Owed.{note_of, noted}
-use Rattle.beldi_known.specs.Rows.{CellMatches}
-use Rattle.beldi_known.specs.Sane.{Sane}
-use Rattle.beldi_known.specs.Shadows.{ShadowShows, is_writing}
+use Rattle.beldi_known.proofs.Names.{AllPlain, AllSound, Answer, Bool, CellMatches, Deployment, Effect, GoingSane, Got, Grown, Instance, IntentId, Item, Items, Known, List, Matches, None, OnItem, OpenTx, Option, PlainState, Row, Rows, Sane, SaneWith, ShadowShows, Some, TouchedIn, Tx, TxId, WrittenIn, answer_inside, answered, ap, at_step, begins, content_in, content_of, effect_after, effect_of, ended_by, false, fits, going_begun, going_so, got_before, got_by, id_total, if◌then◌else◌, inl, inr, is_aborted, is_eq, is_item, is_on, is_some, is_tx, is_writing, item_in, item_total, kept, length, not, note_at, note_of, noted, op_of, opened, option_map, or_left, or_null, outside_of, owed_shadow, place_of, refl, same_some, sane_in, sane_with, shadow_at, shadow_by, shadow_key, subst, sym, tied_itself, touched, true, tx_after, tx_begun, tx_end, tx_now, value_at, value_in, write, write_op, written_touched, ℕ, ◌&&◌, ◌∙◌, ◌∷◌, ◌≡◌, ◌⊎◌}
+use Rattle.beldi_known.proofs.Names.effect
+use Rattle.beldi_known.proofs.Names.map
+use Rattle.beldi_known.proofs.Names.operation
+use Rattle.beldi_known.proofs.Names.plain
+use Rattle.beldi_known.proofs.Names.rows
+use Rattle.beldi_plain.specs.Plain.{item_of}
 use Rattle.beldi_known.proofs.Answers.{take_front, get_next, true_false}
 use Rattle.beldi_known.proofs.Behind.{gathers}
 use Rattle.beldi_known.proofs.Falls.{Fell, falls, later_is, sound, touched_made, written_made}

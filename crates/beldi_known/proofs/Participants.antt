@@ -1,25 +1,7 @@
 -- Who was called in a transaction, and has no outcome, holds up its owner at a call: so at an End nobody else is inside.
-use Rattle.std.proofs.Common.{◌≡◌, ◌⊎◌, inl, inr, ℕ, Bool, true, false, [], length, Option, Some, None, is_some, refl, ap, sym, ◌∙◌, arith}
-use Rattle.std.specs.FinMap as map
-use Rattle.std.specs.Ordering.{is_eq}
-use Rattle.std.proofs.lemmas.Cmp.{tied_itself}
-use Rattle.beldi_value.specs.Id.{id_cmp, id_total}
-use Rattle.beldi_value.specs.declared.id.IntentId.{IntentId}
-use Rattle.beldi_value.specs.declared.outcome.Outcome.{Outcome}
-use Rattle.beldi_value.specs.declared.place.TxId.{TxId}
-use Rattle.beldi_value.specs.declared.value.Value.{Value}
-use Rattle.beldi_tree.specs.declared.deployment.Deployment.{Deployment}
-use Rattle.beldi_lang.specs.declared.effect.Effect.{Effect}
-use Rattle.beldi_lang.specs.declared.effect.Effect.TheVariants as effect
-use Rattle.beldi_plain.specs.Holds.{holds}
-use Rattle.beldi_plain.specs.Item.{Item}
-use Rattle.beldi_plain.specs.Plain.{Instance, effect_of}
-use Rattle.beldi_order.proofs.Maps.{same_some}
-use Rattle.beldi_known.specs.Known.{Known, ended_by, tx_end}
-use Rattle.beldi_order.specs.Txs.{tx_now, or_own, tx_by, end_of, txs_after}
-use Rattle.beldi_known.specs.Sane.{Sane}
-use Rattle.beldi_order.proofs.Ends.{fits}
-use Rattle.beldi_known.specs.Beside.{is_begin}
+use Rattle.beldi_known.proofs.Names.{Bool, Deployment, Effect, Instance, IntentId, Item, Known, None, Option, Outcome, Sane, Some, TxId, Value, [], ap, arith, effect_of, end_of, ended_by, false, fits, holds, id_cmp, id_total, inl, inr, is_begin, is_eq, is_some, length, or_own, refl, same_some, sym, tied_itself, true, tx_by, tx_end, tx_now, txs_after, ℕ, ◌∙◌, ◌≡◌, ◌⊎◌}
+use Rattle.beldi_known.proofs.Names.effect
+use Rattle.beldi_known.proofs.Names.map
 use Rattle.beldi_known.proofs.Callers.{all_called, waits_for}
 use Rattle.beldi_known.proofs.OwnTx.{Own, own, own_by, own_intent}
 use Rattle.beldi_known.proofs.Phases.{inside_holds_none}

@@ -1,44 +1,11 @@
 -- Where a body is, by the answers of its instance: the Begin that is open, what was aborted since, and the locks that it holds.
-use Rattle.std.proofs.Common.{◌≡◌, ◌⊎◌, inl, inr, ℕ, zero, suc, ◌<◌, ◌==◌, ◌||◌, ◌&&◌, not, Bool, true, false, List, [], ◌∷◌, ◌++◌, length, take, Option, Some, None, is_some, refl, ap, sym, ◌∙◌, subst, arith, length-append, append_assoc, append-nil, eqb-true, eq-eqb, if◌then◌else◌}
-use Rattle.std.specs.Prelude.{slice_get}
-use Rattle.std.specs.Cmp.{unsigned_Decides}
-use Rattle.std.specs.Ordering.{is_eq}
-use Rattle.std.proofs.lemmas.List.{take-append-le}
-use Rattle.std.proofs.lemmas.Option.{slice_get_within}
-use Rattle.std.proofs.lemmas.Cmp.{tied_itself}
-use Rattle.std.proofs.lemmas.Slice.Eq.{slice_eq-Decides}
-use Rattle.std.proofs.lemmas.Bool.{false_from_ne_true, or_right}
-use Rattle.beldi_value.specs.declared.outcome.Cause.{Cause}
-use Rattle.beldi_value.specs.declared.id.IntentId.{IntentId}
-use Rattle.beldi_value.specs.declared.outcome.Outcome.TheVariants as outcome
-use Rattle.beldi_value.specs.declared.place.Place.{Place}
-use Rattle.beldi_value.specs.declared.place.TxId.{TxId}
-use Rattle.beldi_tree.specs.declared.deployment.Deployment.{Deployment}
-use Rattle.beldi_tree.specs.Bindings.{is_name}
-use Rattle.beldi_lang.specs.declared.effect.Answer.{Answer}
-use Rattle.beldi_lang.specs.declared.effect.Answer.TheVariants as answer
-use Rattle.beldi_lang.specs.declared.effect.Effect.{Effect}
-use Rattle.beldi_lang.specs.declared.effect.Effect.TheVariants as effect
-use Rattle.beldi_lang.specs.declared.state.HeldLock.{HeldLock}
-use Rattle.beldi_lang.specs.Locks.{is_lock, is_held, without}
-use Rattle.beldi_tree.specs.Names.{func_at}
-use Rattle.beldi_lang.specs.Wants.{body, is_inside}
+use Rattle.beldi_known.proofs.Names.{Answer, Bool, Cause, Deployment, Effect, HeldLock, Instance, IntentId, IsAnswer, Item, List, None, Option, Place, SaneInstance, Some, TxId, Txs, [], answered, ap, append-nil, append_assoc, arith, body, effect_after, effect_of, eq-eqb, eqb-true, false, false_from_ne_true, func_at, get_front, get_last, held_along, held_if, held_pushed, holds, if◌then◌else◌, inl, inr, is_aborted, is_eq, is_held, is_inside, is_lock, is_name, is_some, item_cmp, item_same, item_total, length, length-append, longer_cases, not, op_of, or_own, or_right, place_of, refl, same_some, slice_eq-Decides, slice_get, slice_get_within, subst, suc, sym, take, take-append-le, tied_itself, true, tx_after, tx_at, tx_by, tx_now, txs_after, txs_by, txs_pushed, unsigned_Decides, without, zero, ℕ, ◌&&◌, ◌++◌, ◌<◌, ◌==◌, ◌||◌, ◌∙◌, ◌∷◌, ◌≡◌, ◌⊎◌}
+use Rattle.beldi_known.proofs.Names.answer
+use Rattle.beldi_known.proofs.Names.effect
+use Rattle.beldi_known.proofs.Names.outcome
 use Rattle.beldi_known.proofs.Flows.{Phase, block, own, aborted, leaving, stands, held_after, asked}
 use Rattle.beldi_known.proofs.Begins.{is_begun, is_leaving, is_unlock, begun_after, Going, Now, Next, at_first, going_now, going_next, going_on, dies_own, dies_else}
-use Rattle.beldi_plain.specs.Holds.{held_if, held_along, holds}
-use Rattle.beldi_plain.specs.Item.{Item, item_cmp, item_total}
-use Rattle.beldi_plain.specs.Operation.{op_of}
-use Rattle.beldi_plain.specs.Plain.{Instance, answered, effect_of}
-use Rattle.beldi_order.proofs.Called.{get_front, get_last, longer_cases}
-use Rattle.beldi_order.proofs.Maps.{same_some}
-use Rattle.beldi_order.proofs.Operations.{held_pushed, item_same}
-use Rattle.beldi_order.specs.Txs.{tx_now, tx_at, tx_after, or_own, tx_by, txs_after, txs_by, Txs, effect_after}
-use Rattle.beldi_plain.specs.Piece.{is_aborted}
-use Rattle.beldi_step.specs.Run.{place_of}
-use Rattle.beldi_known.specs.Sane.{SaneInstance}
-use Rattle.beldi_order.specs.Sane.{IsAnswer}
 use Rattle.beldi_known.proofs.Answers.{take_front}
-use Rattle.beldi_order.proofs.Went.{txs_pushed}
 
 -- ---- locks
 name_decides : (a b : List ℕ) → (is_name a b ≡ true → a ≡ b) × (a ≡ b → is_name a b ≡ true)

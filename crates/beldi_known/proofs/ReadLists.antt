@@ -1,41 +1,10 @@
 -- A row of a read decides no transaction that owns an item, so what is listed stays.
-use Rattle.std.proofs.Common.{◌≡◌, ◌<◌, ◌⊎◌, inl, inr, ℕ, ◌&&◌, ◌||◌, not, Bool, true, false, cond, List, [], ◌∷◌, ◌++◌, length, length-append, Option, None, Some, refl, ap, sym, ◌∙◌, append-nil, append_assoc, arith, if◌then◌else◌}
-use Rattle.std.specs.FinMap as map
-use Rattle.std.specs.Ordering.{is_eq}
-use Rattle.std.proofs.lemmas.Bool.{and_parts, false_from_ne_true}
-use Rattle.beldi_value.specs.declared.id.IntentId.{IntentId}
-use Rattle.beldi_value.specs.declared.place.Owner.{Owner}
-use Rattle.beldi_value.specs.declared.place.Owner.TheVariants.{Intent, Tx}
-use Rattle.beldi_value.specs.declared.place.Place.{Place}
-use Rattle.beldi_value.specs.declared.place.TxId.{TxId}
-use Rattle.beldi_tree.specs.declared.deployment.Deployment.{Deployment}
-use Rattle.beldi_lang.specs.declared.effect.Answer.{Answer}
-use Rattle.beldi_lang.specs.declared.effect.Effect.{Effect}
-use Rattle.beldi_lang.specs.declared.effect.Effect.TheVariants as effect
-use Rattle.beldi_row.specs.Key.{RowKey, key_cmp}
-use Rattle.beldi_row.specs.Table.{Rows, set_row}
-use Rattle.beldi_row.specs.declared.key.Kind.{Kind}
-use Rattle.beldi_row.specs.declared.key.Kind.TheVariants as kinds
-use Rattle.beldi_row.specs.declared.row.Row.{Row}
-use Rattle.beldi_row.proofs.Gets.{got as row_got, key_same}
-use Rattle.beldi_daal.specs.Content.{Content}
-use Rattle.beldi_readlog.specs.ReadLog.{log_key}
-use Rattle.beldi_plain.specs.Item.{Item}
-use Rattle.beldi_plain.specs.Plain.{Instance, effect_of}
-use Rattle.beldi_order.proofs.Maps.{same_some}
-use Rattle.beldi_step.specs.Run.{place_of}
-use Rattle.beldi_known.specs.Contents.{head_key, content_of, shadow_key}
-use Rattle.beldi_plain.specs.Piece.{is_aborted}
-use Rattle.beldi_known.specs.Known.{Known, Got, is_tx, is_item, is_on, got_before, got_by}
-use Rattle.beldi_order.specs.Txs.{effect_after, along, txs_after, tx_by, tx_after, tx_now, or_own}
-use Rattle.beldi_plain.specs.Operation.{touched}
-use Rattle.beldi_known.specs.Matches.{TxsMatch}
-use Rattle.beldi_order.proofs.Ends.{fits_at}
+use Rattle.beldi_known.proofs.Names.{Answer, Bool, Content, Deployment, Effect, Got, Instance, Intent, IntentId, Item, Kind, Known, List, None, Option, Owner, Place, Row, RowKey, Rows, Some, Tx, TxId, TxsMatch, [], along, and_parts, ap, append-nil, append_assoc, arith, cond, content_of, decision_key, effect_after, effect_of, false, false_from_ne_true, fits_at, got_before, got_by, head_key, if◌then◌else◌, inl, inr, is_aborted, is_begin, is_committed, is_eq, is_item, is_on, is_tx, key_cmp, key_same, length, length-append, listed, listed_under, log_key, not, or_own, place_of, refl, row_got, same_some, set_row, shadow_key, sym, touched, true, tx_after, tx_by, tx_now, txs_after, value_in, ℕ, ◌&&◌, ◌++◌, ◌<◌, ◌||◌, ◌∙◌, ◌∷◌, ◌≡◌, ◌⊎◌}
+use Rattle.beldi_known.proofs.Names.effect
+use Rattle.beldi_known.proofs.Names.kinds
+use Rattle.beldi_known.proofs.Names.map
 use Rattle.beldi_known.proofs.Locks.{is_its, tx_same}
 use Rattle.beldi_known.proofs.Acts.{kinds_apart, is_data, is_shadow, content_apart}
-use Rattle.beldi_known.specs.Beside.{is_begin}
-use Rattle.beldi_step.specs.Tables.{decision_key, is_committed, value_in}
-use Rattle.beldi_known.specs.Listed.{listed_under, listed}
 use Rattle.beldi_known.proofs.OwnTx.{Own, own_by}
 use Rattle.beldi_known.proofs.Lists.{elsewhere}
 

@@ -1,19 +1,7 @@
 -- What is at a key after one row was set, and which keys differ.
-use Rattle.std.proofs.Common.{◌≡◌, ℕ, Bool, true, false, cond, Option, refl, ap, sym, ◌∙◌, subst}
-use Rattle.std.specs.FinMap as map
-use Rattle.std.specs.Ordering.{is_eq, nat_cmp, ordering_then}
-use Rattle.std.specs.Cmp.Lexicographic.{slice_cmp}
-use Rattle.std.specs.declared.cmp.Ordering.{Ordering}
-use Rattle.std.specs.declared.cmp.Ordering.TheVariants.{Less, Equal, Greater}
-use Rattle.beldi_row.specs.Key.{RowKey, key_cmp}
-use Rattle.beldi_row.specs.declared.key.Kind.{Kind}
-use Rattle.beldi_row.specs.declared.key.Kind.TheVariants as kinds
-use Rattle.beldi_row.specs.declared.row.Row.{Row}
-use Rattle.beldi_row.specs.Table.{Rows, set_row}
-use Rattle.beldi_row.proofs.Gets.{got, key_self, key_same}
-use Rattle.beldi_intent.specs.Intent.{root_key}
-use Rattle.beldi_plain.specs.Item.{Item, item_cmp}
-use Rattle.beldi_known.specs.Contents.{head_key}
+use Rattle.beldi_known.proofs.Names.{Bool, Equal, Greater, Item, Kind, Less, Option, Ordering, Row, RowKey, Rows, ap, cond, false, got, head_key, is_eq, item_cmp, key_cmp, key_same, key_self, nat_cmp, ordering_then, refl, root_key, set_row, slice_cmp, subst, sym, true, ℕ, ◌∙◌, ◌≡◌}
+use Rattle.beldi_known.proofs.Names.kinds
+use Rattle.beldi_known.proofs.Names.map
 
 -- ---- which keys differ
 then_equal : (o : Ordering) → ordering_then o Equal ≡ o

@@ -1,36 +1,10 @@
 -- All that is known stays sane: move by move.
-use Rattle.std.proofs.Common.{◌≡◌, inl, inr, ℕ, ◌<◌, Bool, true, false, List, [], length, Option, Some, None, is_some, refl, ap, sym, ◌∙◌, subst, arith}
-use Rattle.std.specs.Prelude.{slice_get}
-use Rattle.std.specs.Option.{option_map}
-use Rattle.std.specs.FinMap as map
-use Rattle.beldi_value.specs.Id.{root_of, child_of, has_no_hops}
-use Rattle.beldi_value.specs.declared.id.IntentId.{IntentId}
-use Rattle.beldi_value.specs.declared.outcome.Cause.{Cause}
-use Rattle.beldi_value.specs.declared.outcome.Outcome.{Outcome}
-use Rattle.beldi_value.specs.declared.outcome.Outcome.TheVariants as outcome
-use Rattle.beldi_value.specs.declared.place.Caller.{Caller}
-use Rattle.beldi_value.specs.declared.place.Place.{Place}
-use Rattle.beldi_value.specs.declared.place.TxId.{TxId}
-use Rattle.beldi_value.specs.declared.rel.Rel.{Rel}
-use Rattle.beldi_value.specs.declared.value.Value.{Value}
-use Rattle.beldi_value.specs.declared.value.Value.TheVariants as value
-use Rattle.beldi_value.proofs.Callees.{child_same, no_root}
-use Rattle.beldi_tree.specs.declared.deployment.Deployment.{Deployment}
-use Rattle.beldi_lang.specs.Callee.{answer_of}
-use Rattle.beldi_lang.specs.declared.effect.Answer.{Answer}
-use Rattle.beldi_lang.specs.declared.effect.Answer.TheVariants as answer
-use Rattle.beldi_lang.specs.declared.effect.Effect.{Effect}
-use Rattle.beldi_lang.specs.declared.effect.Effect.TheVariants as effect
-use Rattle.beldi_plain.specs.Operation.{OnItem, op_of, answer_after, touched}
-use Rattle.beldi_plain.specs.Plain.{Instance, new_instance, answered, ended, calls_at, callee_of, effect_of, effect_before}
-use Rattle.beldi_order.specs.Sane.{IsCalled, CalledBy, call_of, answer_given, IsDeath, IsAnswer}
-use Rattle.beldi_order.proofs.Called.{IsAlone, not_root, next_step, longer_cases, effect_now, effect_past, tx_here_now, caller_answered, caller_ended, callee_answered, callee_over, callee_new, callee_ended, callee_sent, pairs_set, both_set}
-use Rattle.beldi_order.proofs.Maps.{still_made, made_set, same_some, none_by}
-use Rattle.beldi_order.proofs.Sound.{operation_answers, operation_is_no_call}
-use Rattle.beldi_step.specs.Run.{is_waited, place_of}
-use Rattle.beldi_known.specs.Known.{Known, answer_at_once, once, at_once, moved}
-use Rattle.beldi_order.specs.Txs.{tx_now, tx_at}
-use Rattle.beldi_known.specs.Sane.{SaneInstance, Closed, Sane}
+use Rattle.beldi_known.proofs.Names.{Answer, Bool, CalledBy, Caller, Cause, Closed, Deployment, Effect, Instance, IntentId, IsAlone, IsAnswer, IsCalled, IsDeath, Known, List, None, OnItem, Option, Outcome, Place, Rel, Sane, SaneInstance, Some, TxId, Value, [], answer_after, answer_at_once, answer_given, answer_of, answered, ap, arith, at_once, both_set, call_of, callee_answered, callee_ended, callee_new, callee_of, callee_over, callee_sent, caller_answered, caller_ended, calls_at, child_of, child_same, effect_before, effect_now, effect_of, effect_past, ended, false, has_no_hops, inl, inr, is_some, is_waited, length, longer_cases, made_set, moved, new_instance, next_step, no_root, none_by, not_root, once, op_of, operation_answers, operation_is_no_call, option_map, pairs_set, place_of, refl, root_of, same_some, slice_get, still_made, subst, sym, touched, true, tx_at, tx_here_now, tx_now, ℕ, ◌<◌, ◌∙◌, ◌≡◌}
+use Rattle.beldi_known.proofs.Names.answer
+use Rattle.beldi_known.proofs.Names.effect
+use Rattle.beldi_known.proofs.Names.map
+use Rattle.beldi_known.proofs.Names.outcome
+use Rattle.beldi_known.proofs.Names.value
 use Rattle.beldi_known.proofs.AtOnce.{at_once_is, at_once_by, origin_stays, closed_at_once}
 use Rattle.beldi_known.proofs.Goes.{sane_once, sane_moved}
 

@@ -1,30 +1,8 @@
 -- An instance is made, or ends: it owes items, shadows, locksets and reads what was owed, and its own rows or those of a call change.
-use Rattle.std.proofs.Common.{◌≡◌, ℕ, ◌==◌, ◌&&◌, ◌||◌, not, Bool, true, false, Option, None, Some, is_some, refl, ap, sym, ◌∙◌, subst}
-use Rattle.std.specs.FinMap as map
-use Rattle.std.specs.Option.{is_none}
-use Rattle.std.specs.Ordering.{is_eq}
-use Rattle.beldi_value.specs.Id.{has_no_hops}
-use Rattle.beldi_value.specs.declared.id.IntentId.{IntentId}
-use Rattle.beldi_value.specs.declared.place.Owner.{Owner}
-use Rattle.beldi_value.specs.declared.place.Place.{Place}
-use Rattle.beldi_value.specs.declared.place.TxId.{TxId}
-use Rattle.beldi_tree.specs.declared.deployment.Deployment.{Deployment}
-use Rattle.beldi_row.specs.Key.{RowKey, key_cmp}
-use Rattle.beldi_row.specs.Table.{Rows, set_row}
-use Rattle.beldi_row.specs.declared.key.Kind.{Kind}
-use Rattle.beldi_row.specs.declared.key.Kind.TheVariants as kinds
-use Rattle.beldi_row.specs.declared.row.Row.{Row}
-use Rattle.beldi_row.specs.declared.row.Row.TheVariants as rows
-use Rattle.beldi_daal.specs.Content.{Content}
-use Rattle.beldi_plain.specs.Holds.{holds}
-use Rattle.beldi_plain.specs.Item.{Item}
-use Rattle.beldi_plain.specs.Plain.{Instance, effect_of}
-use Rattle.beldi_known.specs.Contents.{head_key, content_of, shadow_key, shadow_of}
-use Rattle.beldi_known.specs.Known.{Known, owed_value, owed_call, owed_note, owed_shadow, owed_lockset, got_by, ended_by, ended_at, tx_end, begins_at, is_item, is_decided, is_mark, last_step}
-use Rattle.beldi_order.specs.Txs.{tx_now}
-use Rattle.beldi_plain.specs.Operation.{touched}
-use Rattle.beldi_known.specs.Matches.{Matches, RowMatches, ItemMatches, ShadowMatches, TxsMatch, LocksetMatches, lockset_ahead, has_ended, is_open}
-use Rattle.beldi_known.specs.Rows.{IntentMatches, LogMatches, CallMatches}
+use Rattle.beldi_known.proofs.Names.{Bool, CallMatches, Content, Deployment, Instance, IntentId, IntentMatches, Item, ItemMatches, Kind, Known, LocksetMatches, LogMatches, Matches, None, Option, Owner, Place, Row, RowKey, RowMatches, Rows, ShadowMatches, Some, TxId, TxsMatch, ap, begins_at, content_of, effect_of, ended_at, ended_by, false, got_by, has_ended, has_no_hops, head_key, holds, is_decided, is_eq, is_item, is_mark, is_none, is_open, is_some, key_cmp, last_step, lockset_ahead, not, owed_call, owed_lockset, owed_note, owed_shadow, owed_value, refl, set_row, shadow_key, shadow_of, subst, sym, touched, true, tx_end, tx_now, ℕ, ◌&&◌, ◌==◌, ◌||◌, ◌∙◌, ◌≡◌}
+use Rattle.beldi_known.proofs.Names.kinds
+use Rattle.beldi_known.proofs.Names.map
+use Rattle.beldi_known.proofs.Names.rows
 use Rattle.beldi_known.proofs.Acts.{kinds_apart, content_apart, shadow_apart}
 use Rattle.beldi_known.proofs.FrameAt.{known_set, or_no}
 use Rattle.beldi_known.proofs.Instances.{EndMore, intent_stays}

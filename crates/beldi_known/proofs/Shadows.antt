@@ -1,28 +1,6 @@
 -- Rows of shadows, one at a time, and what they show; and who got the items that have one.
-use Rattle.std.proofs.Common.{◌≡◌, ◌∙◌, ◌⊎◌, inl, inr, Bool, true, false, cond, ◌&&◌, ◌||◌, not, is_some, Option, Some, None, refl, ap, sym, subst}
-use Rattle.std.specs.FinMap as map
-use Rattle.std.specs.Ordering.{is_eq}
-use Rattle.std.proofs.lemmas.Cmp.{tied_itself}
-use Rattle.std.proofs.lemmas.Bool.{and_right, false_from_ne_true}
-use Rattle.beldi_value.specs.declared.id.IntentId.{IntentId}
-use Rattle.beldi_value.specs.declared.place.TxId.{TxId}
-use Rattle.beldi_value.specs.declared.value.Value.{Value}
-use Rattle.beldi_tree.specs.declared.deployment.Deployment.{Deployment}
-use Rattle.beldi_lang.specs.declared.effect.Answer.{Answer}
-use Rattle.beldi_row.specs.Key.{RowKey, key_cmp}
-use Rattle.beldi_row.specs.Table.{Rows, set_row}
-use Rattle.beldi_row.specs.declared.row.Row.{Row}
-use Rattle.beldi_row.proofs.Gets.{got as row_got, key_same, key_self}
-use Rattle.beldi_daal.specs.Content.{content_in}
-use Rattle.beldi_plain.specs.Item.{Item, item_cmp, item_total}
-use Rattle.beldi_plain.specs.Operation.{touched}
-use Rattle.beldi_plain.specs.Piece.{is_aborted, tx_begun}
-use Rattle.beldi_plain.specs.Plain.{Instance, PlainState, effect_of, value_at}
-use Rattle.beldi_order.specs.Txs.{tx_now}
-use Rattle.beldi_known.specs.Contents.{shadow_key}
-use Rattle.beldi_known.specs.Frame.{LockedOut}
-use Rattle.beldi_known.specs.Known.{Known, Got, moved, is_item, is_on, is_tx, got_before, got_by}
-use Rattle.beldi_known.specs.Shadows.{ShadowShows, AllGot, Shadows, is_writing, writing_at, writes_on}
+use Rattle.beldi_known.proofs.Names.{AllGot, Answer, Bool, Deployment, Got, Instance, IntentId, Item, Known, LockedOut, None, Option, PlainState, Row, RowKey, Rows, ShadowShows, Shadows, Some, TxId, Value, and_right, ap, cond, content_in, effect_of, false, false_from_ne_true, got_before, got_by, inl, inr, is_aborted, is_eq, is_item, is_on, is_some, is_tx, is_writing, item_cmp, item_total, key_cmp, key_same, key_self, moved, not, refl, row_got, set_row, shadow_key, subst, sym, tied_itself, touched, true, tx_begun, tx_now, value_at, writes_on, writing_at, ◌&&◌, ◌||◌, ◌∙◌, ◌≡◌, ◌⊎◌}
+use Rattle.beldi_known.proofs.Names.map
 use Rattle.beldi_known.proofs.Acts.{by_item, shadow_same}
 use Rattle.beldi_known.proofs.Answers.{true_false}
 use Rattle.beldi_known.proofs.Frame.{moved_one}

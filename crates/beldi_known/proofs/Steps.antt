@@ -1,34 +1,11 @@
 -- An open transaction goes on: by an answer to the one that can step, by a call of it, or by its return; and by what takes no turn.
-use Rattle.std.proofs.Common.{◌≡◌, inl, inr, ℕ, Bool, true, false, cond, List, [], ◌∷◌, ◌++◌, length, Option, None, Some, refl, ap, sym, ◌∙◌, subst, if◌then◌else◌, is_some}
-use Rattle.std.specs.FinMap as map
-use Rattle.std.specs.FinMap.{FinMap, get-insert}
-use Rattle.std.specs.Ordering.{is_eq}
-use Rattle.beldi_value.specs.Id.{id_cmp, id_total, child_of, has_callees}
-use Rattle.beldi_value.specs.declared.id.IntentId.{IntentId}
-use Rattle.beldi_value.specs.declared.outcome.Cause.{Cause}
-use Rattle.beldi_value.specs.declared.outcome.Outcome.{Outcome}
-use Rattle.beldi_value.specs.declared.place.Caller.{Caller}
-use Rattle.beldi_value.specs.declared.place.TxId.{TxId}
-use Rattle.beldi_value.specs.declared.value.Value.{Value}
-use Rattle.beldi_value.proofs.Callees.{child_same}
-use Rattle.beldi_tree.specs.declared.deployment.Deployment.{Deployment}
-use Rattle.beldi_lang.specs.Callee.{answer_of}
-use Rattle.beldi_lang.specs.declared.effect.Answer.{Answer}
-use Rattle.beldi_lang.specs.declared.effect.Answer.TheVariants as answer
-use Rattle.beldi_lang.specs.declared.effect.Effect.{Effect}
-use Rattle.beldi_lang.specs.declared.effect.Effect.TheVariants as effect
-use Rattle.beldi_plain.specs.Moves.{Move, plain, fell, moved, Leads}
-use Rattle.beldi_plain.specs.Piece.{Going, aborted, dies_at, is_owner, new_member, opened, tx_begun, with_member}
-use Rattle.beldi_plain.specs.Plain.{Instance, PlainState, answered, ended, callee_of, calls_at, effect_of}
-use Rattle.beldi_order.specs.Inside.{IsIn}
-use Rattle.beldi_order.specs.Sane as plain
-use Rattle.beldi_order.proofs.Beside.{set_alike}
-use Rattle.beldi_order.proofs.Line.{all_in, callee_in, last_of, returned}
-use Rattle.beldi_order.proofs.Maps.{here, made_set, same_some}
-use Rattle.beldi_order.proofs.Moved.{Items, answer_by, answers_so, calls_so, gone_on, items_by, returns_so}
-use Rattle.beldi_step.specs.Run.{place_of}
-use Rattle.beldi_known.specs.Beside.{OpenTx, begins}
-use Rattle.beldi_known.specs.Known.{Known, answer_at_once, at_once, once, moved as answered_on}
+use Rattle.beldi_known.proofs.Names.{Answer, Bool, Caller, Cause, Deployment, Effect, FinMap, Going, Instance, IntentId, IsIn, Items, Known, List, Move, None, OpenTx, Option, Outcome, PlainState, Some, TxId, Value, [], aborted, all_in, answer_at_once, answer_by, answer_of, answered, answered_on, answers_so, ap, at_once, begins, callee_in, callee_of, calls_at, calls_so, child_of, child_same, cond, dies_at, effect_of, ended, false, fell, get-insert, gone_on, has_callees, here, id_cmp, id_total, if◌then◌else◌, inl, inr, is_eq, is_some, items_by, last_of, length, made_set, new_member, once, opened, place_of, plain, refl, returned, returns_so, same_some, set_alike, subst, sym, true, tx_begun, with_member, ℕ, ◌++◌, ◌∙◌, ◌∷◌, ◌≡◌}
+use Rattle.beldi_known.proofs.Names.answer
+use Rattle.beldi_known.proofs.Names.effect
+use Rattle.beldi_known.proofs.Names.map
+use Rattle.beldi_known.proofs.Names.plain
+use Rattle.beldi_plain.specs.Moves.{moved, Leads}
+use Rattle.beldi_plain.specs.Piece.{is_owner}
 use Rattle.beldi_known.proofs.AtOnce.{none_of, once_none, once_some}
 use Rattle.beldi_known.proofs.Begins.{aborts_once}
 use Rattle.beldi_known.proofs.Lines.{front_in_tx, line, member}

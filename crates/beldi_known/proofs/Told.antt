@@ -1,20 +1,7 @@
 -- What was told of an act says what was there before it, and what is there now.
-use Rattle.std.proofs.Common.{◌≡◌, Bool, true, false, [], ◌∷◌, ◌++◌, Option, None, Some, refl, ap, sym, if◌then◌else◌, ◌∙◌}
-use Rattle.beldi_value.specs.Id.{is_older, age_of}
-use Rattle.beldi_value.specs.Passes.{passes}
-use Rattle.beldi_value.specs.declared.id.IntentId.{IntentId}
-use Rattle.beldi_value.specs.declared.place.Owner.{Owner}
-use Rattle.beldi_value.specs.declared.place.Owner.TheVariants.{Tx}
-use Rattle.beldi_value.specs.declared.place.Place.{Place}
-use Rattle.beldi_value.specs.declared.place.TxId.{TxId}
-use Rattle.beldi_value.specs.declared.rel.Rel.{Rel}
-use Rattle.beldi_value.specs.declared.value.Value.{Value}
-use Rattle.beldi_row.specs.Act.{other_owner}
-use Rattle.beldi_row.specs.Log.{note_at}
-use Rattle.beldi_row.specs.declared.notes.Note.{Note}
-use Rattle.beldi_row.specs.declared.notes.Note.TheVariants as notes
-use Rattle.beldi_daal.specs.Content.{Content}
-use Rattle.beldi_known.specs.Acts.{Told, noted, held, died, did, tested, noted_or, held_or, with_note, lock_or, lock_on, write_on, test_on}
+use Rattle.beldi_known.proofs.Names.{Bool, Content, IntentId, None, Note, Option, Owner, Place, Rel, Some, Told, Tx, TxId, Value, [], age_of, ap, did, died, false, held, held_or, if◌then◌else◌, is_older, lock_on, lock_or, note_at, noted_or, other_owner, passes, refl, sym, test_on, tested, true, with_note, write_on, ◌++◌, ◌∙◌, ◌∷◌, ◌≡◌}
+use Rattle.beldi_known.proofs.Names.notes
+use Rattle.beldi_known.specs.Acts.{noted}
 
 -- the place had no note, and what follows was told
 pub past_note : (c x : Content) (n : Option Note) (r : Content × Told) (t : Told) → noted_or c n r ≡ (x, t) → ((m : Note) → noted m ≡ t → ⊥) → (n ≡ None) × (r ≡ (x, t))

@@ -1,42 +1,16 @@
 -- Who was called in a transaction returns an abort only where it was told one; so where all moves were plain steps, nobody was.
-use Rattle.std.proofs.Common.{◌≡◌, ◌⊎◌, inl, inr, ℕ, zero, suc, ◌+◌, Bool, true, false, List, [], ◌∷◌, ◌++◌, length, Option, Some, None, is_some, Result, Ok, Err, refl, ap, sym, ◌∙◌, subst, arith, if◌then◌else◌}
-use Rattle.std.specs.Prelude.{nat_lt, slice_get}
-use Rattle.std.specs.FinMap as map
-use Rattle.std.specs.Ordering.{is_eq}
-use Rattle.std.proofs.lemmas.Cmp.{tied_itself}
-use Rattle.beldi_value.specs.Id.{id_total}
-use Rattle.beldi_value.specs.declared.value.Value.TheVariants.{Null}
-use Rattle.beldi_value.specs.declared.outcome.Outcome.{Outcome}
-use Rattle.beldi_value.specs.declared.outcome.Outcome.TheVariants as outcome
-use Rattle.beldi_value.specs.declared.outcome.Code.{Code}
-use Rattle.beldi_value.specs.declared.outcome.Code.TheVariants as code
-use Rattle.beldi_tree.specs.declared.deployment.Deployment.{Deployment}
-use Rattle.beldi_tree.specs.declared.deployment.TableHead.{TableHead}
-use Rattle.beldi_lang.specs.declared.effect.Effect.{Effect}
-use Rattle.beldi_lang.specs.declared.effect.Effect.TheVariants as effect
-use Rattle.beldi_lang.specs.declared.effect.Answer.{Answer}
-use Rattle.beldi_lang.specs.declared.effect.Answer.TheVariants as answer
-use Rattle.beldi_lang.specs.declared.state.HeldLock.{HeldLock}
-use Rattle.beldi_tree.specs.Bindings.{Bindings}
-use Rattle.beldi_tree.specs.Names.{func_at}
-use Rattle.beldi_tree.specs.Evaluate.{and_then, truth, term_value}
-use Rattle.beldi_tree.specs.Command.{Command, Commands, no_commands, command, set, read, write, condwrite, call, async, lock, unlock, transaction, abort, break, choose, repeat, return}
-use Rattle.beldi_lang.specs.Locks.{is_held, without}
-use Rattle.beldi_lang.specs.Wants.{key_value, table_number, func_number, most_effects, Local, Leads, asks, goes, breaks, ends, Does, fault, or_fault, takes, counted, set_to, answered as answer_to, effect_to, locks, unlocks, followed, looped, turns, does, run_block, tables_of, body_of, first_local, releases, effect_of, body}
-use Rattle.beldi_value.specs.declared.outcome.Cause.{Cause}
-use Rattle.beldi_value.specs.declared.place.TxId.{TxId}
-use Rattle.beldi_value.specs.declared.id.IntentId.{IntentId}
-use Rattle.beldi_lang.specs.Callee.{answer_of}
-use Rattle.beldi_plain.specs.Moves.{Move, plain, moved, Leads as LeadsTo, AllPlain}
-use Rattle.beldi_plain.specs.Piece.{Going, is_aborted, is_owner, new_member, opened, tx_begun}
-use Rattle.beldi_plain.specs.Plain as plainly
-use Rattle.beldi_plain.specs.Plain.{Instance, PlainState, answered, callee_of, calls_at, ended}
-use Rattle.beldi_order.specs.Inside.{IsIn, InLine}
+use Rattle.beldi_known.proofs.Names.{AllPlain, Answer, Bindings, Bool, Cause, Code, Command, Commands, Deployment, Does, Effect, Err, Going, HeldLock, InLine, Instance, IntentId, IsIn, Leads, LeadsTo, List, Local, Move, MoveIs, None, Null, Ok, Option, Outcome, PlainState, Result, Some, TableHead, TxId, [], abort, all_in, and_then, answer_of, answer_to, answered, answers, ap, arith, asks, async, body, break, breaks, call, callee_of, calls, calls_at, choose, command, condwrite, counted, does, effect_to, ended, ends, false, fault, first_local, followed, func_at, func_number, goes, id_total, if◌then◌else◌, inl, inr, is_aborted, is_eq, is_held, is_some, key_value, last_answer, length, line_moved, lock, locks, looped, most_effects, move_is, mover, nat_lt, new_member, no_commands, opened, or_fault, plain, read, refl, releases, repeat, return, returned, returns, run_block, same_some, set, set_to, slice_get, subst, suc, sym, table_number, tables_of, takes, term_value, tied_itself, transaction, true, truth, turns, tx_begun, unlock, unlocks, without, zero, ℕ, ◌++◌, ◌+◌, ◌∙◌, ◌∷◌, ◌≡◌, ◌⊎◌}
+use Rattle.beldi_known.proofs.Names.answer
+use Rattle.beldi_known.proofs.Names.code
+use Rattle.beldi_known.proofs.Names.effect
+use Rattle.beldi_known.proofs.Names.map
+use Rattle.beldi_known.proofs.Names.outcome
+use Rattle.beldi_known.proofs.Names.plainly
+use Rattle.beldi_tree.specs.Command.{write}
+use Rattle.beldi_lang.specs.Wants.{body_of, effect_of}
+use Rattle.beldi_plain.specs.Moves.{moved}
+use Rattle.beldi_plain.specs.Piece.{is_owner}
 use Rattle.beldi_order.specs.Sane as plain_sane
-use Rattle.beldi_order.proofs.Line.{all_in, line_moved, returned}
-use Rattle.beldi_order.proofs.Maps.{same_some}
-use Rattle.beldi_order.proofs.Moved.{MoveIs, answers, calls, returns, move_is, mover}
-use Rattle.beldi_known.specs.InsideLaws.{last_answer}
 use Rattle.beldi_known.proofs.Falls.{last_is}
 use Rattle.beldi_known.proofs.Lines.{set_cases}
 use Rattle.beldi_known.proofs.Outsides.{plain_none_after}

@@ -1,47 +1,12 @@
 -- Who lets an operation inside die: it owns the item, was made, and is older than the transaction.
-use Rattle.std.proofs.Common.{◌≡◌, ◌∙◌, ℕ, Bool, true, false, List, [], ◌∷◌, ◌++◌, length, length-append, Option, None, Some, is_some, refl, ap, sym, subst, append_assoc, append-nil, eq-eqb, arith, take, drop, take-append-drop, ◌<◌, ◌≤◌, if◌then◌else◌}
-use Rattle.std.specs.Prelude.{nat_lt}
-use Rattle.std.proofs.lemmas.List.{length-take-le}
-use borrow.Author.Tests.{ltb-true, ltb-false}
-use Rattle.std.specs.FinMap as map
-use Rattle.beldi_value.specs.Id.{age_of, is_older}
-use Rattle.beldi_value.specs.declared.id.IntentId.{IntentId}
-use Rattle.beldi_value.specs.declared.place.Owner.{Owner}
-use Rattle.beldi_value.specs.declared.place.Owner.TheVariants.{Intent, Tx}
-use Rattle.beldi_value.specs.declared.place.Place.{Place}
-use Rattle.beldi_value.specs.declared.place.TxId.{TxId}
-use Rattle.beldi_tree.specs.declared.deployment.Deployment.{Deployment}
-use Rattle.beldi_lang.specs.declared.effect.Answer.{Answer}
-use Rattle.beldi_lang.specs.declared.effect.Effect.{Effect}
-use Rattle.beldi_lang.specs.declared.effect.Effect.TheVariants as effect
-use Rattle.beldi_row.specs.Act.{other_owner}
-use Rattle.beldi_row.specs.Log.{note_at, owner_eq}
-use Rattle.beldi_row.specs.Table.{Rows}
+use Rattle.beldi_laws.proofs.Names.{Answer, Beside, Bool, Content, Deployment, Effect, Instance, Intent, IntentId, IsBelow, IsOpenOwner, Item, Known, List, Lock, Matches, None, Option, Owner, OwnersCallNobody, Place, PlainState, Released, Rows, Sane, Some, Tx, TxId, Txs, [], age_of, all_called, ap, append-nil, append_assoc, arith, asked_for, asked_own, barred, begin_is, called_below, content_of, died, died_of, dies, drop, effect_after, effect_of, end_of, ended_by, ended_stays, eq-eqb, false, fits, got_by, held, held_by, her_own, holds, if◌then◌else◌, is_at, is_begin, is_older, is_owner, is_some, length, length-append, length-take-le, lock_on, lock_or, ltb-false, member_tx, nat_lt, note_at, noted_or, open_owner, or_own, other_owner, own, owner_eq, refl, same_some, subst, sym, take, true, tx_by, tx_end, tx_now, txs_after, txs_by, txs_pushed, waited, with_note, ℕ, ◌++◌, ◌<◌, ◌∙◌, ◌∷◌, ◌≡◌, ◌≤◌}
+use Rattle.beldi_laws.proofs.Names.effect
+use Rattle.beldi_laws.proofs.Names.map
+use Rattle.std.proofs.Common.{take-append-drop}
+use borrow.Author.Tests.{ltb-true}
 use Rattle.beldi_row.specs.declared.notes.Note.TheVariants as notes
-use Rattle.beldi_daal.specs.Content.{Content}
-use Rattle.beldi_daal.specs.Logged.{barred, dies, died_of, held_by, waited}
-use Rattle.beldi_daal.specs.declared.cell.CellOp.TheVariants.{Lock}
-use Rattle.beldi_plain.specs.Holds.{holds}
-use Rattle.beldi_plain.specs.Item.{Item}
-use Rattle.beldi_plain.specs.Plain.{Instance, PlainState, effect_of}
-use Rattle.beldi_order.specs.Inside.{IsBelow}
-use Rattle.beldi_order.specs.Txs.{Txs, effect_after, end_of, is_at, or_own, tx_by, tx_now, txs_after, txs_by}
-use Rattle.beldi_order.proofs.Maps.{same_some}
-use Rattle.beldi_order.proofs.Went.{txs_pushed}
-use Rattle.beldi_known.specs.Acts.{Told, died, held, lock_on, lock_or, noted_or, with_note}
-use Rattle.beldi_known.specs.Beside.{Beside, is_begin}
-use Rattle.beldi_known.specs.Contents.{content_of, is_owner}
-use Rattle.beldi_known.specs.Known.{Known, ended_by, got_by, tx_end}
-use Rattle.beldi_known.specs.Matches.{Matches}
-use Rattle.beldi_known.specs.Sane.{Sane}
-use Rattle.beldi_order.proofs.Ends.{ended_stays, fits}
-use Rattle.beldi_known.proofs.Callers.{all_called, called_below}
-use Rattle.beldi_known.proofs.OwnTx.{Own, own}
-use Rattle.beldi_known.proofs.Owners.{her_own}
-use Rattle.beldi_known.proofs.Participants.{IsOpenOwner, open_owner}
-use Rattle.beldi_known.proofs.Phases.{begin_is}
-use Rattle.beldi_known.proofs.ReadLists.{asked_for, asked_own, member_tx}
-use Rattle.beldi_laws.specs.Inside.{OwnersCallNobody, Released}
+use Rattle.beldi_known.specs.Acts.{Told}
+use Rattle.beldi_known.proofs.OwnTx.{Own}
 use Rattle.beldi_laws.proofs.Ended.{EndedAt, ended_at}
 
 -- ---- what a death tells

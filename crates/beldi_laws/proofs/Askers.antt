@@ -1,36 +1,9 @@
 -- What a transaction that has ended owns, one that took part asked the lock of. So where all who took part have given back all, it owns
 -- nothing.
-use Rattle.std.proofs.Common.{◌≡◌, ◌⊎◌, inl, inr, ℕ, ◌&&◌, ◌||◌, not, Bool, true, false, List, [], ◌∷◌, ◌++◌, length, Option, None, Some, refl, ap, sym, ◌∙◌, subst, eq-eqb}
-use Rattle.std.specs.FinMap as map
-use Rattle.std.proofs.lemmas.Bool.{and_parts}
-use Rattle.beldi_value.specs.declared.id.IntentId.{IntentId}
-use Rattle.beldi_value.specs.declared.place.Owner.TheVariants.{Tx}
-use Rattle.beldi_value.specs.declared.place.TxId.{TxId}
-use Rattle.beldi_tree.specs.declared.deployment.Deployment.{Deployment}
-use Rattle.beldi_lang.specs.declared.effect.Answer.{Answer}
-use Rattle.beldi_row.specs.declared.key.Kind.TheVariants as kinds
-use Rattle.beldi_row.specs.declared.row.Row.{Row}
-use Rattle.beldi_row.specs.declared.row.Row.TheVariants as rows
-use Rattle.beldi_row.specs.Act.{owns}
-use Rattle.beldi_row.specs.Table.{Rows}
-use Rattle.beldi_plain.specs.Plain.{AllShort}
-use Rattle.beldi_plain.specs.Item.{Item}
-use Rattle.beldi_plain.specs.Operation.{touched}
-use Rattle.beldi_plain.specs.Piece.{is_aborted}
-use Rattle.beldi_plain.specs.Plain.{Instance, effect_of}
-use Rattle.beldi_order.specs.Txs.{tx_after, tx_by, tx_now, txs_after, or_own, effect_after}
-use Rattle.beldi_order.proofs.Operations.{item_same}
-use Rattle.beldi_txn.specs.End.{first_end, visited_by}
-use Rattle.beldi_txn.specs.Visited.{AllFreed, AllReleased}
-use Rattle.beldi_txn.specs.Way.{Member}
-use Rattle.beldi_known.specs.Contents.{content_of, lockset_key}
-use Rattle.beldi_known.specs.Known.{Known, is_item, is_tx, is_on, begins_at, got_before, got_by, owed_lockset, tx_end}
-use Rattle.beldi_known.specs.Matches.{Matches, LocksetMatches, LockedAtEnds, LockedIf, lockset_ahead}
-use Rattle.beldi_known.specs.Sane.{Sane}
-use Rattle.beldi_known.proofs.Behind.{lockset_there}
-use Rattle.beldi_known.proofs.Locks.{is_its, tx_self}
-use Rattle.beldi_known.proofs.Participants.{now_open}
-use Rattle.beldi_known.proofs.ReadLists.{asked_own, gathered}
+use Rattle.beldi_laws.proofs.Names.{AllFreed, AllReleased, AllShort, Answer, Bool, Deployment, Instance, IntentId, Item, Known, List, LockedAtEnds, LockedIf, LocksetMatches, Matches, Member, None, Option, Row, Rows, Sane, Some, Tx, TxId, [], and_parts, ap, asked_own, begins_at, content_of, effect_after, effect_of, eq-eqb, false, first_end, gathered, got_before, got_by, inl, inr, is_aborted, is_item, is_its, is_on, is_tx, item_same, length, lockset_ahead, lockset_key, lockset_there, not, now_open, or_own, owed_lockset, owns, refl, subst, sym, touched, true, tx_after, tx_by, tx_end, tx_now, tx_self, txs_after, visited_by, ℕ, ◌&&◌, ◌++◌, ◌||◌, ◌∙◌, ◌∷◌, ◌≡◌, ◌⊎◌}
+use Rattle.beldi_laws.proofs.Names.kinds
+use Rattle.beldi_laws.proofs.Names.map
+use Rattle.beldi_laws.proofs.Names.rows
 use Rattle.beldi_laws.proofs.Members.{TakesPart, reached}
 
 of_function : (x : Item) (func : ℕ) (o : Option (ℕ × List ℕ)) → is_item x func o ≡ true → x.func ≡ func

@@ -1,71 +1,23 @@
 -- The turns of a call that nobody waits for: it is opened once, its callee's row is put, and then it is marked as registered.
-use Rattle.std.proofs.Common.{◌≡◌, inl, ℕ, Bool, true, false, List, [], ◌∷◌, ◌++◌, if◌then◌else◌, Option, None, Some, refl, ap, sym, ◌∙◌, subst, is_some, length, append_assoc}
-use Rattle.std.specs.FinMap as map
-use Rattle.beldi_book.specs.declared.entry.Entry.TheVariants.{Step}
-use Rattle.beldi_call.specs.Async.{async_asks, async_says, open_says, note_says}
-use Rattle.beldi_call.specs.declared.async_call.AsyncAt.TheVariants as async
-use Rattle.beldi_call.specs.declared.async_call.AsyncAt.{AsyncAt}
-use Rattle.beldi_intent.specs.Intent.{root_key, intent_key, issued_at, look_asks}
-use Rattle.beldi_invokelog.specs.InvokeLog.{invoke_key, opened, back_of, registered_asks}
-use Rattle.beldi_invokelog.specs.declared.invoke_log.Back as back
-use Rattle.beldi_invokelog.specs.declared.invoke_log.Back.TheVariants.{Set, AlreadySet, Absent}
-use Rattle.beldi_lang.specs.declared.effect.Answer.TheVariants.{Done}
-use Rattle.beldi_lang.specs.declared.effect.Answer.{Answer}
-use Rattle.beldi_lang.specs.declared.effect.Effect.TheVariants.{Async}
+use Rattle.beldi_laws.proofs.Names.{Absent, AlreadySet, Answer, Async, AsyncAt, Begins, Begun, Body, Bool, CallMatches, Core, Deployment, Done, Ends, Grows, Inside, Instance, IntentId, InvokeRow, IsBodyOf, Known, Knows, KnowsAt, List, Looks, Matches, None, NoteRegistered, On, OpenInvoke, Option, Place, PlainState, Register, Right, Row, RowKey, Rows, Run, Says, SeenDone, Set, Some, Step, Tell, Value, [], act, after_act, ahead_set, ap, append_assoc, async_answer, async_asks, async_here_asks, async_here_says, async_says, at_once, back_of, call_answered, callee_at, callee_body, callee_by, callee_of, calls_at, child_of, commit_in, effect_before, effect_of, elsewhere, false, grows_through, has_callees, here, if◌then◌else◌, inl, intent_key, invoke_key, is_some, issued_at, known_set, length, look_asks, moved, moved_one, new_instance, no_own_callee, no_root_key, none_out, note_says, op_of, open_says, opened, origin_stays, owed_call, place_of, refl, registered_asks, root_key, row_added, run_called, said, same_some, set_others, set_row, step_by, subst, sym, true, turn_next, turned_by, tx_after, tx_now, txs_after, ℕ, ◌++◌, ◌∙◌, ◌∷◌, ◌≡◌}
+use Rattle.beldi_laws.proofs.Names.async
+use Rattle.beldi_laws.proofs.Names.back
+use Rattle.beldi_laws.proofs.Names.kinds
+use Rattle.beldi_laws.proofs.Names.map
+use Rattle.beldi_laws.proofs.Names.mark
+use Rattle.beldi_laws.proofs.Names.rows
+use Rattle.beldi_laws.proofs.Names.stage
 use Rattle.beldi_laws.proofs.Beginnings.{same_roots}
 use Rattle.beldi_laws.proofs.CallsHere.{made_with, not_made, made_by, next_here, given_first, first_given, call_now, absent_here, callee_there, caller_there, call_entered, callee_goes, callee_row, callee_ahead, callee_settled, callee_grows, goes_answered_then}
 use Rattle.beldi_laws.proofs.Frames.{NobodyJoins}
 use Rattle.beldi_laws.proofs.Settling.{settled_outside}
 use Rattle.beldi_laws.proofs.Keeping.{as_it_was}
-use Rattle.beldi_laws.specs.Inside.{Inside}
 use Rattle.beldi_laws.proofs.Moves.{AfterTurn, AfterQuery, Entered, SameRoots, Kept, Stays, entered, AfterAct, still}
-use Rattle.beldi_known.proofs.Rows.{set_others, no_root as no_root_key}
 use Rattle.beldi_laws.proofs.Turns.{effect_here, goes_on, replays, at_another, all_here, starts_one, tx_step, tx_next, outside_after, unlocked_there}
-use Rattle.beldi_order.proofs.Entries.{grows_through}
-use Rattle.beldi_order.proofs.Maps.{same_some, elsewhere, here}
-use Rattle.beldi_order.specs.Grown.{Grows}
-use Rattle.beldi_plain.specs.Plain.{effect_before, PlainState, callee_of, Instance, effect_of, new_instance, calls_at, step_by}
-use Rattle.beldi_plain.specs.Operation.{op_of}
-use Rattle.beldi_row.specs.Act.{Tell, act}
-use Rattle.beldi_row.specs.Table.{Rows, set_row, after_act}
-use Rattle.beldi_row.specs.declared.act.Act.TheVariants.{Register, OpenInvoke, NoteRegistered}
-use Rattle.beldi_row.specs.declared.key.Kind.TheVariants as kinds
-use Rattle.beldi_row.specs.Key.{RowKey}
-use Rattle.beldi_row.specs.declared.row.Body.{Body}
-use Rattle.beldi_row.specs.declared.row.InvokeRow.{InvokeRow}
-use Rattle.beldi_row.specs.declared.row.Row.TheVariants as rows
-use Rattle.beldi_row.specs.declared.row.Row.{Row}
-use Rattle.beldi_step.specs.Host.{Core, turn_next}
-use Rattle.beldi_step.specs.Run.{place_of, turned_by, callee_by, callee_at, callee_body, async_answer, async_here_asks, async_here_says, callee_of as run_called}
-use Rattle.beldi_step.specs.declared.run.Begun.{Begun}
-use Rattle.beldi_step.specs.declared.run.Mark.TheVariants as mark
-use Rattle.beldi_step.specs.declared.run.Run.{Run}
-use Rattle.beldi_step.specs.declared.run.RunAt.TheVariants.{Begins, Looks}
-use Rattle.beldi_step.specs.declared.run.Says.TheVariants.{On, Ends}
-use Rattle.beldi_step.specs.declared.run.Says.{Says}
-use Rattle.beldi_step.specs.declared.run.Stage.TheVariants as stage
-use Rattle.beldi_tree.specs.declared.deployment.Deployment.{Deployment}
 use Rattle.beldi_value.proofs.Callees.{no_root}
-use Rattle.beldi_value.specs.Id.{child_of, has_callees}
-use Rattle.beldi_value.specs.declared.id.IntentId.{IntentId}
-use Rattle.beldi_value.specs.declared.place.Place.{Place}
-use Rattle.beldi_value.specs.declared.value.Value.{Value}
-use Rattle.beldi_walk.specs.Query.{said}
-use Rattle.beldi_known.specs.Rows.{CallMatches, IsBodyOf}
-use Rattle.beldi_known.proofs.AtOnce.{origin_stays}
-use Rattle.beldi_known.proofs.FrameAt.{known_set}
-use Rattle.beldi_known.proofs.Instances.{no_own_callee}
-use Rattle.beldi_laws.specs.Right.{Right, Knows, KnowsAt, SeenDone}
-use Rattle.beldi_known.specs.Known.{owed_call, Known, at_once, moved, commit_in}
-use Rattle.beldi_known.specs.Matches.{Matches}
-use Rattle.beldi_known.proofs.Ahead.{ahead_set, none_out}
-use Rattle.beldi_order.specs.Txs.{tx_after, tx_now, txs_after}
 use Rattle.beldi_laws.proofs.KeptSane.{sent_kept}
 use Rattle.beldi_laws.proofs.Shown.{log_values}
 use Rattle.beldi_laws.proofs.Grown.{grows_moved, grown_moved, moved_more}
-use Rattle.beldi_known.proofs.Outside.{call_answered}
-use Rattle.beldi_known.proofs.Frame.{moved_one}
-use Rattle.beldi_known.specs.Frame.{row_added}
 use Rattle.beldi_laws.proofs.Registered.{callee_registered, kept_moving, log_frame, log_shadows, log_stays, marked_registered, no_intent, no_more, stays_marked, stays_new}
 
 module _ (d : Deployment) (c : Core) (m : Rows) (i : ℕ) (r : Run) (g : Begun) (h : Right d c m) (live : map.get c.runs i ≡ Some r) (at_is : r.at ≡ Begins g) (k : Knows d c.book h.known r g) (finds : Inside d m h.plain h.known r g) (out : tx_after d r.id k.instance k.answers ≡ None)

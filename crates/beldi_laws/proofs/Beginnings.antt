@@ -1,45 +1,12 @@
 -- The first turn of a run: it finds its body, or registers the one that its call gave it.
-use Rattle.std.proofs.Common.{◌≡◌, ℕ, Bool, true, false, cond, [], if◌then◌else◌, Option, None, Some, refl, ap, sym, ◌∙◌, subst, is_some, arith, ◌==◌, eqb-true}
-use Rattle.std.specs.FinMap as map
-use Rattle.std.specs.Ordering.{is_eq}
-use Rattle.beldi_intent.specs.Intent.{root_key, intent_key, look_asks, is_ended, body_told, register_asks, body_in, issued_at, open_body}
-use Rattle.beldi_lang.proofs.Resumes.{at_begin}
-use Rattle.beldi_lang.specs.Machine.{IsAt, begun as machine_begun}
+use Rattle.beldi_laws.proofs.Names.{Body, Bool, Core, Deployment, Func, IntentId, IntentMatches, IntentRow, IsAt, IsBodyOf, IsRowOf, Kind, KnowsBody, Look, Machine, None, Option, Register, Right, Row, RowKey, Rows, Run, RunTx, Some, [], act, ap, arith, at_begin, begin_in, body_in, body_registered, body_told, cond, eqb-true, false, func_at, got, has_ended, has_no_hops, if◌then◌else◌, intent_key, is_ended, is_eq, is_some, issued_at, key_cmp, key_in, key_same, key_self, look_asks, looked, machine_begun, open_body, refl, register_asks, root_key, row_of, said, same_some, set_others, set_row, subst, sym, true, true_false, turn_next, within, ℕ, ◌==◌, ◌∙◌, ◌≡◌}
+use Rattle.beldi_laws.proofs.Names.kinds
+use Rattle.beldi_laws.proofs.Names.map
+use Rattle.beldi_laws.proofs.Names.rows
 use Rattle.beldi_laws.proofs.Moves.{AfterTurn, AfterQuery, SameRoots, AfterAct, Stays, still}
-use Rattle.beldi_known.proofs.Answers.{true_false}
-use Rattle.beldi_known.proofs.Rows.{set_others}
-use Rattle.beldi_known.proofs.Instances.{row_of, IsRowOf}
 use Rattle.beldi_laws.proofs.Turns.{is_over, comes_to, knows_next}
-use Rattle.beldi_order.proofs.Maps.{same_some}
-use Rattle.beldi_row.proofs.Gets.{got, key_same, key_self}
-use Rattle.beldi_row.proofs.Unchanged.{looked}
-use Rattle.beldi_row.specs.Act.{act}
-use Rattle.beldi_row.specs.Key.{RowKey, key_cmp}
-use Rattle.beldi_row.specs.Table.{Rows, set_row}
-use Rattle.beldi_row.specs.declared.act.Act.TheVariants.{Look, Register}
-use Rattle.beldi_row.specs.declared.key.Kind.TheVariants as kinds
-use Rattle.beldi_row.specs.declared.key.Kind.{Kind}
-use Rattle.beldi_row.specs.declared.row.Body.{Body}
-use Rattle.beldi_row.specs.declared.row.IntentRow.{IntentRow}
-use Rattle.beldi_row.specs.declared.row.Row.TheVariants as rows
-use Rattle.beldi_row.specs.declared.row.Row.{Row}
-use Rattle.beldi_step.specs.Host.{Core, turn_next}
-use Rattle.beldi_step.specs.Run.{begin_in, body_registered, within}
-use Rattle.beldi_step.specs.declared.run.RunTx.{RunTx}
-use Rattle.beldi_lang.specs.declared.machine.Machine.{Machine}
-use Rattle.beldi_step.specs.declared.run.Run.{Run}
-use Rattle.beldi_tree.specs.Names.{func_at}
-use Rattle.beldi_tree.specs.declared.deployment.Deployment.{Deployment}
-use Rattle.beldi_tree.specs.declared.deployment.Func.{Func}
-use Rattle.beldi_value.specs.Id.{has_no_hops}
-use Rattle.beldi_value.specs.declared.id.IntentId.{IntentId}
-use Rattle.beldi_walk.specs.Query.{said}
-use Rattle.beldi_known.specs.Matches.{has_ended}
-use Rattle.beldi_known.specs.Rows.{IntentMatches, IsBodyOf}
-use Rattle.beldi_laws.specs.Right.{Right, KnowsBody}
 use Rattle.beldi_laws.proofs.Keeping.{as_it_was}
 use Rattle.beldi_laws.proofs.Registered.{callee_registered, log_stays, no_more, stays_new}
-use Rattle.beldi_laws.specs.Stands.{key_in}
 
 -- ---- rows of callees are no rows of roots
 is_root_key : Kind → Bool

@@ -1,66 +1,19 @@
 -- The turns of a call: it is opened once, and waits for its result.
-use Rattle.std.proofs.Common.{◌≡◌, ℕ, Bool, true, false, List, [], ◌∷◌, ◌++◌, if◌then◌else◌, Option, None, Some, refl, ap, sym, ◌∙◌, subst, is_some}
-use Rattle.std.specs.FinMap as map
-use Rattle.std.specs.Option.{option_map}
-use Rattle.beldi_book.specs.declared.entry.Entry.TheVariants.{Step}
-use Rattle.beldi_book.specs.declared.entry.Entry.{Entry}
-use Rattle.beldi_call.specs.Call.{call_asks, call_says, open_says, look_says}
-use Rattle.beldi_call.specs.declared.call.CallAt.TheVariants as call
-use Rattle.beldi_call.specs.declared.call.CallAt.{CallAt}
-use Rattle.beldi_intent.specs.Intent.{root_key}
-use Rattle.beldi_invokelog.specs.InvokeLog.{invoke_key, opened}
-use Rattle.beldi_lang.specs.Callee.{answer_of}
-use Rattle.beldi_lang.specs.declared.effect.Answer.{Answer}
-use Rattle.beldi_lang.specs.declared.effect.Effect.TheVariants.{Call}
+use Rattle.beldi_laws.proofs.Names.{Answer, Answers, Begins, Begun, Bool, Call, CallAt, CallMatches, Core, Deployment, Ends, Entry, Goes, Grows, Inside, Instance, IntentId, InvokeRow, Item, Known, Knows, KnowsAt, List, Look, None, OpenInvoke, Opens, Option, Outcome, Place, PlainState, Right, Row, RowKey, Rows, Run, RunAt, RunTx, Sane, Says, SeenDone, Some, Step, Tell, TxId, Value, Waits, [], act, answer_of, ap, at_once, at_stage, call_answer, call_asks, call_here_says, call_says, callee_at, callee_of, calls_at, calls_go, child_of, effect_before, false, grows_self, has_callees, if◌then◌else◌, invoke_key, is_begin, is_some, is_waited, listed, look_says, no_root_key, opened, opens_are_open, option_map, owed_call, place_of, refl, result_of, root_key, run_called, run_tx, set_others, set_row, step_by, step_mark, subst, sym, true, turn_next, turned_by, tx_after, tx_now, tx_of, value_at, ℕ, ◌++◌, ◌∙◌, ◌∷◌, ◌≡◌}
+use Rattle.beldi_laws.proofs.Names.call
+use Rattle.beldi_laws.proofs.Names.kinds
+use Rattle.beldi_laws.proofs.Names.map
+use Rattle.beldi_laws.proofs.Names.mark
+use Rattle.beldi_laws.proofs.Names.rows
+use Rattle.beldi_laws.proofs.Names.stage
+use Rattle.beldi_laws.proofs.Names.wait
+use Rattle.beldi_call.specs.Call.{open_says}
 use Rattle.beldi_laws.proofs.CallsHere.{not_made, was_made, made_by, next_here, callee_knows, given_first, first_given, call_now, absent_here, callee_frame, callee_there, caller_there, call_entered, callee_goes, callee_row, callee_ahead, callee_settled, callee_grows, no_outcome}
 use Rattle.beldi_laws.proofs.Keeping.{as_it_was, set_shadows}
 use Rattle.beldi_laws.proofs.Passing.{replays_call, tx_is, tx_now_is, tx_step_is}
-use Rattle.beldi_laws.specs.Inside.{Inside}
 use Rattle.beldi_laws.proofs.Moves.{AfterTurn, AfterQuery, Kept, SameRoots, quiet, entered, AfterAct, still}
 use Rattle.beldi_laws.proofs.Registered.{kept_moving, no_intent}
-use Rattle.beldi_known.proofs.Rows.{set_others, no_root as no_root_key}
 use Rattle.beldi_laws.proofs.Turns.{at_other, effect_here, awaits, stays_other, tx_next}
-use Rattle.beldi_order.proofs.Entries.{grows_self}
-use Rattle.beldi_order.specs.Grown.{Grows}
-use Rattle.beldi_order.specs.Txs.{tx_after, tx_now}
-use Rattle.beldi_plain.specs.Item.{Item}
-use Rattle.beldi_plain.specs.Plain.{effect_before, PlainState, callee_of, Instance, calls_at, step_by, value_at}
-use Rattle.beldi_row.specs.Act.{Tell, act}
-use Rattle.beldi_row.specs.Table.{Rows, set_row}
-use Rattle.beldi_row.specs.declared.act.Act.TheVariants.{Look, OpenInvoke}
-use Rattle.beldi_row.specs.declared.key.Kind.TheVariants as kinds
-use Rattle.beldi_row.specs.Key.{RowKey}
-use Rattle.beldi_row.specs.declared.row.InvokeRow.{InvokeRow}
-use Rattle.beldi_row.specs.declared.row.Row.TheVariants as rows
-use Rattle.beldi_row.specs.declared.row.Row.{Row}
-use Rattle.beldi_step.specs.Host.{Core, turn_next}
-use Rattle.beldi_step.specs.Run.{at_stage, is_waited, place_of, step_mark, turned_by, tx_at as run_tx, tx_of, callee_at, call_answer, call_here_says, callee_of as run_called}
-use Rattle.beldi_step.specs.declared.run.Begun.{Begun}
-use Rattle.beldi_step.specs.declared.run.Mark.TheVariants as mark
-use Rattle.beldi_step.specs.declared.run.Run.{Run}
-use Rattle.beldi_step.specs.declared.run.RunTx.{RunTx}
-use Rattle.beldi_step.specs.declared.run.RunAt.TheVariants.{Begins}
-use Rattle.beldi_step.specs.declared.run.Says.TheVariants.{Answers, Waits, Ends, Opens}
-use Rattle.beldi_step.specs.declared.run.Says.{Says}
-use Rattle.beldi_step.specs.declared.run.Stage.TheVariants as stage
-use Rattle.beldi_step.specs.declared.run.Wait.TheVariants as wait
-use Rattle.beldi_tree.specs.declared.deployment.Deployment.{Deployment}
-use Rattle.beldi_value.specs.Id.{child_of, has_callees}
-use Rattle.beldi_value.specs.declared.id.IntentId.{IntentId}
-use Rattle.beldi_value.specs.declared.outcome.Outcome.{Outcome}
-use Rattle.beldi_value.specs.declared.place.Place.{Place}
-use Rattle.beldi_value.specs.declared.place.TxId.{TxId}
-use Rattle.beldi_value.specs.declared.value.Value.{Value}
-use Rattle.beldi_known.specs.Owed.{result_of}
-use Rattle.beldi_known.specs.Rows.{CallMatches}
-use Rattle.beldi_laws.specs.Right.{Right, RunAt, Knows, KnowsAt, SeenDone}
-use Rattle.beldi_known.specs.Beside.{is_begin}
-use Rattle.beldi_known.specs.InsideLaws.{Goes}
-use Rattle.beldi_known.specs.Known.{owed_call, Known, at_once}
-use Rattle.beldi_known.specs.Listed.{listed}
-use Rattle.beldi_known.proofs.Acting.{calls_go}
-use Rattle.beldi_known.proofs.Lines.{opens_are_open}
-use Rattle.beldi_known.specs.Sane.{Sane}
 use Rattle.beldi_laws.proofs.KeptSane.{called_kept, called_with}
 use Rattle.beldi_laws.proofs.Shown.{log_values, sound}
 use Rattle.beldi_laws.proofs.Grown.{grown_same}

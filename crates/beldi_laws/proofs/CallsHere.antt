@@ -1,14 +1,8 @@
 -- What is called at a step, and what a run knows of it.
-use Rattle.std.proofs.Common.{◌≡◌, ◌⊎◌, inl, inr, append_assoc, ℕ, Bool, true, false, List, [], ◌∷◌, if◌then◌else◌, Option, None, Some, refl, ap, sym, ◌∙◌, subst, is_some, zero, suc, arith, length, eq-eqb, ◌<◌, ◌&&◌, ◌++◌, length-append, IsTrue}
-use Rattle.std.specs.FinMap as map
-use Rattle.std.specs.Option.{is_none, option_map}
-use Rattle.std.specs.Prelude.{slice_get}
-use Rattle.beldi_book.specs.declared.entry.Entry.{Entry}
-use Rattle.beldi_book.specs.declared.entry.Entry.TheVariants.{Step}
-use Rattle.beldi_lang.specs.declared.effect.Answer.{Answer}
-use Rattle.beldi_lang.specs.declared.effect.Effect.TheVariants.{Call, End}
-use Rattle.beldi_lang.specs.declared.effect.Effect.{Effect}
-use Rattle.beldi_lang.specs.Wants.{wants_answer}
+use Rattle.beldi_laws.proofs.Names.{Answer, Begun, Body, Bool, ByTx, Call, CalledBy, Core, Deployment, Effect, End, Entry, Frame, Goes, Grows, Inside, Instance, IntentId, InvokeRow, IsBelow, IsBodyOf, IsOutside, IsTrue, Item, Known, Knows, KnowsAt, List, LockedAtEnds, Matches, MaySet, None, Option, Outcome, PlainState, Registers, Right, Row, RowKey, Rows, Run, RunTx, Sane, Some, Step, TxId, Value, [], ahead_set, answer_given, answered, ap, append_assoc, arith, at_once, at_once_same, call_of, call_opened, called_by, called_in, callee_apart, callee_body, callee_by, callee_of, calls_at, child_of, child_same, content_of, effect_before, effect_of, elsewhere, enabled_step, ended_by, eq-eqb, false, goes_one, got_next, grows_new, has_callees, here, if◌then◌else◌, inl, inr, invoke_key, is_begin, is_none, is_some, item_touched, kind_of, last_hop, length, length-append, made_owes, made_set, moved, new_instance, no_own_callee, none_out, now_open, opened, option_map, origin_stays, owed_call, place_of, refl, result_of, run_tx, same_some, set_after_callee, set_next, set_row, slice_get, step_by, subst, suc, sym, touched_by, true, tx_after, tx_at, tx_begun, tx_end, tx_now, unlocked_absent, waits_at, wants_answer, with_callee, with_instance, within_by, zero, ℕ, ◌&&◌, ◌++◌, ◌<◌, ◌∙◌, ◌∷◌, ◌≡◌, ◌⊎◌}
+use Rattle.beldi_laws.proofs.Names.kind
+use Rattle.beldi_laws.proofs.Names.map
+use Rattle.beldi_laws.proofs.Names.rows
 use Rattle.beldi_laws.proofs.Keeping.{SameShadows, goes_made, set_shadows}
 use Rattle.beldi_laws.proofs.Moves.{Entered, change_entered}
 use Rattle.beldi_laws.proofs.Frames.{NobodyJoins, nobody_made}
@@ -17,60 +11,10 @@ use Rattle.beldi_laws.proofs.KeptSane.{called_with}
 use Rattle.beldi_laws.proofs.Registered.{log_frame, stays_new}
 use Rattle.beldi_laws.proofs.Short.{child_short}
 use Rattle.beldi_laws.proofs.Shown.{Settled, legal_sane, settled}
-use Rattle.beldi_laws.specs.Inside.{Frame, Inside}
 use Rattle.beldi_laws.proofs.Turns.{answer_here, step_here, effect_next, not_over, plain_there}
-use Rattle.beldi_order.proofs.Entries.{enabled_step, grows_new}
-use Rattle.beldi_order.proofs.Called.{last_hop}
-use Rattle.beldi_order.proofs.Maps.{same_some, here, elsewhere, made_set}
-use Rattle.beldi_order.specs.Grown.{Grows}
-use Rattle.beldi_order.specs.Inside.{IsBelow}
-use Rattle.beldi_order.specs.Sane.{call_of, answer_given, within_by, CalledBy}
-use Rattle.beldi_plain.specs.Guard.{touched_by, item_touched}
-use Rattle.beldi_plain.specs.Piece.{tx_begun}
-use Rattle.beldi_plain.specs.Item.{Item}
-use Rattle.beldi_plain.specs.Plain.{effect_before, effect_of, Instance, kind_of, new_instance, calls_at, callee_of, step_by, waits_at, with_callee, with_instance, answered, PlainState}
-use Rattle.beldi_plain.specs.declared.kind.Kind.TheVariants as kind
-use Rattle.beldi_row.specs.Table.{Rows, set_row}
-use Rattle.beldi_row.specs.declared.row.Body.{Body}
-use Rattle.beldi_row.specs.Key.{RowKey}
-use Rattle.beldi_row.specs.declared.row.InvokeRow.{InvokeRow}
-use Rattle.beldi_row.specs.declared.row.Row.{Row}
-use Rattle.beldi_step.specs.Host.{Core}
-use Rattle.beldi_step.specs.Run.{place_of, callee_by, callee_body, tx_at as run_tx}
-use Rattle.beldi_step.specs.declared.run.Begun.{Begun}
-use Rattle.beldi_step.specs.declared.run.Run.{Run}
-use Rattle.beldi_step.specs.declared.run.RunTx.{RunTx}
-use Rattle.beldi_step.specs.declared.run.RunAt.TheVariants.{Registers}
-use Rattle.beldi_tree.specs.declared.deployment.Deployment.{Deployment}
-use Rattle.beldi_value.proofs.Callees.{child_same, no_root}
-use Rattle.beldi_value.specs.Id.{child_of, has_callees}
-use Rattle.beldi_value.specs.declared.id.IntentId.{IntentId}
-use Rattle.beldi_value.specs.declared.outcome.Outcome.{Outcome}
-use Rattle.beldi_value.specs.declared.value.Value.{Value}
-use Rattle.beldi_known.specs.Owed.{called_by, result_of}
-use Rattle.beldi_known.specs.Rows.{IsBodyOf}
-use Rattle.beldi_laws.specs.Right.{Right, Knows, KnowsAt}
-use Rattle.beldi_known.proofs.Ahead.{unlocked_absent, ahead_set, none_out}
-use Rattle.beldi_known.specs.Contents.{content_of}
-use Rattle.beldi_known.specs.Known.{owed_call, Known, at_once, ended_by, moved, tx_end}
-use Rattle.beldi_order.specs.Txs.{tx_at, tx_after, tx_now}
-use Rattle.beldi_known.specs.Sane.{Sane}
-use Rattle.beldi_known.specs.Matches.{Matches, LockedAtEnds}
-use Rattle.beldi_value.specs.declared.place.TxId.{TxId}
-use Rattle.beldi_value.specs.declared.place.Owner.TheVariants.{Tx as ByTx}
-use Rattle.beldi_known.proofs.Frame.{at_once_same}
-use Rattle.beldi_known.proofs.Callers.{called_in}
-use Rattle.beldi_known.proofs.Calls.{call_opened, made_owes}
+use Rattle.beldi_value.proofs.Callees.{no_root}
 use Rattle.beldi_laws.proofs.Outside.{plain_none}
-use Rattle.beldi_known.proofs.AtOnce.{origin_stays}
-use Rattle.beldi_known.proofs.Instances.{no_own_callee}
-use Rattle.beldi_known.proofs.Participants.{now_open}
-use Rattle.beldi_known.specs.InsideLaws.{Goes}
-use Rattle.beldi_known.proofs.NoTx.{IsOutside}
-use Rattle.beldi_known.proofs.Outsides.{MaySet, callee_apart, goes_one, got_next, set_after_callee, set_next}
-use Rattle.beldi_known.specs.Beside.{begins, is_begin}
-use Rattle.beldi_invokelog.specs.InvokeLog.{invoke_key, opened}
-use Rattle.beldi_row.specs.declared.row.Row.TheVariants as rows
+use Rattle.beldi_known.specs.Beside.{begins}
 
 -- a call tells whether it waits, its function and its argument
 pub same_call : (a b : Bool) (f g : ℕ) (v u : Value) → call_of a f v ≡ call_of b g u → (a ≡ b) × (f ≡ g) × (v ≡ u)

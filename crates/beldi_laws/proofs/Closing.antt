@@ -1,35 +1,9 @@
 -- Who took part in a transaction that has ended, and has its finish, has given back all: whatever row changes, unless it is such a finish.
-use Rattle.std.proofs.Common.{◌≡◌, ◌∙◌, inr, ℕ, Bool, true, false, ◌∷◌, Option, None, Some, is_some, refl, ap, sym, subst}
-use Rattle.std.specs.FinMap as map
-use Rattle.beldi_value.specs.declared.id.IntentId.{IntentId}
-use Rattle.beldi_value.specs.declared.place.Owner.{Owner}
-use Rattle.beldi_value.specs.declared.place.Owner.TheVariants.{Intent, Tx as ByTx}
-use Rattle.beldi_value.specs.declared.place.TxId.{TxId}
-use Rattle.beldi_tree.specs.declared.deployment.Deployment.{Deployment}
-use Rattle.beldi_row.specs.Act.{owns}
-use Rattle.beldi_row.specs.Table.{Rows}
-use Rattle.beldi_row.specs.declared.row.Body.{Body}
-use Rattle.beldi_row.specs.declared.row.Row.{Row}
-use Rattle.beldi_row.specs.declared.row.Row.TheVariants as rows
-use Rattle.beldi_txn.specs.declared.end_walk.EndWalk.{EndWalk}
-use Rattle.beldi_txn.specs.End.{first_end, visited_by}
-use Rattle.beldi_txn.specs.Visited.{AllFreed, AreClosed, AreReleased, IsReleased, is_closed, is_own, item_in, lock_row, row_closed}
-use Rattle.beldi_txn.specs.Way.{Member, callee_of}
-use Rattle.beldi_plain.specs.Plain.{Instance, PlainState}
-use Rattle.beldi_order.specs.Grown.{Grown, GrownAt, Grows}
-use Rattle.beldi_order.specs.Txs.{end_of, txs_after}
-use Rattle.beldi_order.proofs.Ends.{ended_stays}
-use Rattle.beldi_order.proofs.Maps.{same_some}
-use Rattle.beldi_step.specs.Host.{Core}
-use Rattle.beldi_known.specs.Known.{Known, ended_by, tx_end}
-use Rattle.beldi_known.specs.Matches.{Matches, has_ended}
-use Rattle.beldi_known.specs.Rows.{CalleeBodyMatches, CalleeMatches, FinishMatches, IntentMatches, IsBodyOf, tx_in}
-use Rattle.beldi_known.specs.Sane.{Sane}
-use Rattle.beldi_known.proofs.Locks.{tx_same, tx_self}
-use Rattle.beldi_known.proofs.Participants.{decided_over}
-use Rattle.beldi_laws.specs.Inside.{Frame, ParticipantsAreReleased, ParticipantsHaveRows, TookPart, has_finish}
-use Rattle.beldi_laws.specs.Right.{Right}
-use Rattle.beldi_laws.specs.Stands.{key_in}
+use Rattle.beldi_laws.proofs.Names.{AllFreed, AreClosed, AreReleased, Body, Bool, ByTx, CalleeBodyMatches, CalleeMatches, Core, Deployment, EndWalk, FinishMatches, Frame, Grown, GrownAt, Grows, Instance, Intent, IntentId, IntentMatches, IsBodyOf, IsReleased, Known, Matches, Member, None, Option, Owner, ParticipantsAreReleased, ParticipantsHaveRows, PlainState, Right, Row, Rows, Sane, Some, TookPart, TxId, ap, decided_over, end_of, ended_by, ended_stays, false, first_end, has_ended, has_finish, inr, is_closed, is_own, is_some, key_in, lock_row, owns, refl, row_closed, same_some, subst, sym, true, tx_end, tx_in, tx_same, tx_self, txs_after, visited_by, ℕ, ◌∙◌, ◌∷◌, ◌≡◌}
+use Rattle.beldi_laws.proofs.Names.map
+use Rattle.beldi_laws.proofs.Names.rows
+use Rattle.beldi_txn.specs.Visited.{item_in}
+use Rattle.beldi_txn.specs.Way.{callee_of}
 use Rattle.beldi_laws.proofs.Frames.{NoFinish}
 use Rattle.beldi_laws.proofs.Settling.{seated_stays, settled_rows}
 use Rattle.beldi_laws.proofs.Shown.{Settled}

@@ -1,34 +1,9 @@
 -- Who was called in a transaction is in the plain state exactly where the transaction has committed, as its decision's row says.
-use Rattle.std.proofs.Common.{◌≡◌, ◌∙◌, ℕ, Bool, true, false, List, take, drop, Option, Some, None, refl, ap, sym, subst, arith, eq-eqb, if◌then◌else◌}
-use Rattle.std.specs.Prelude.{slice_get}
-use Rattle.std.specs.FinMap as map
-use Rattle.std.proofs.lemmas.List.{take-append-drop, take-append-le}
-use Rattle.beldi_value.specs.declared.id.IntentId.{IntentId}
-use Rattle.beldi_value.specs.declared.place.TxId.{TxId}
-use Rattle.beldi_tree.specs.declared.deployment.Deployment.{Deployment}
-use Rattle.beldi_lang.specs.declared.effect.Answer.{Answer}
-use Rattle.beldi_lang.specs.declared.effect.Effect.TheVariants as effect
-use Rattle.beldi_row.specs.Table.{Rows}
-use Rattle.beldi_row.specs.declared.row.Row.{Row}
-use Rattle.beldi_row.specs.declared.row.Row.TheVariants as rows
-use Rattle.beldi_plain.specs.Plain.{Instance, PlainState, effect_before}
-use Rattle.beldi_order.specs.Grown.{Grown}
-use Rattle.beldi_order.specs.Sane as plain
-use Rattle.beldi_order.specs.Txs.{effect_after, end_of}
-use Rattle.beldi_order.proofs.Ends.{fits_at}
-use Rattle.beldi_order.proofs.Maps.{same_some}
-use Rattle.beldi_step.specs.Run.{place_of}
-use Rattle.beldi_step.specs.Tables.{decision_key, is_committed}
-use Rattle.beldi_known.specs.Beside.{Beside}
-use Rattle.beldi_known.specs.Known.{Known, at_step, decision_by, ended_by, owed_read, owed_value, read_at, row_at, tx_end, value_or}
-use Rattle.beldi_known.specs.Matches.{Matches}
-use Rattle.beldi_known.specs.Owed.{value_for}
-use Rattle.beldi_known.specs.Rows.{LogMatches}
-use Rattle.beldi_known.specs.Sane.{Sane}
-use Rattle.beldi_known.proofs.Decided.{decision_row}
-use Rattle.beldi_known.proofs.Frame.{begins}
-use Rattle.beldi_known.proofs.Callers.{all_called}
-use Rattle.beldi_laws.specs.Stands.{has_place}
+use Rattle.beldi_laws.proofs.Names.{Answer, Beside, Bool, Deployment, Grown, Instance, IntentId, Known, List, LogMatches, Matches, None, Option, PlainState, Row, Rows, Sane, Some, TxId, all_called, ap, arith, at_step, begins, decision_by, decision_key, decision_row, drop, effect_after, effect_before, end_of, ended_by, eq-eqb, false, fits_at, has_place, if◌then◌else◌, is_committed, owed_read, owed_value, place_of, read_at, refl, row_at, same_some, slice_get, subst, sym, take, take-append-drop, take-append-le, true, tx_end, value_for, value_or, ℕ, ◌∙◌, ◌≡◌}
+use Rattle.beldi_laws.proofs.Names.effect
+use Rattle.beldi_laws.proofs.Names.map
+use Rattle.beldi_laws.proofs.Names.plain
+use Rattle.beldi_laws.proofs.Names.rows
 use Rattle.beldi_laws.proofs.Closing.{end_grows}
 use Rattle.beldi_laws.proofs.Outside.{known_of, made_of}
 

@@ -1,85 +1,21 @@
 -- The turn of a run that is to decide its transaction: it puts the decision, whose entry is the transaction's piece or its try; or the
 -- decision is there.
-use Rattle.std.proofs.Common.{◌≡◌, ◌∙◌, inl, inr, ℕ, ◌==◌, ◌<◌, ◌⊎◌, Bool, true, false, List, [], ◌∷◌, ◌++◌, length, Option, None, Some, is_some, IsTrue, refl, ap, sym, subst, arith, cond, eq-eqb, eqb-true, if◌then◌else◌}
-use Rattle.std.specs.FinMap as map
-use Rattle.beldi_value.specs.declared.id.IntentId.{IntentId}
-use Rattle.beldi_value.specs.declared.place.Place.{Place}
-use Rattle.beldi_value.specs.declared.place.Owner.{Owner}
-use Rattle.beldi_value.specs.declared.place.Owner.TheVariants.{Intent, Tx as ByTx}
-use Rattle.beldi_value.specs.declared.place.TxId.{TxId}
-use Rattle.beldi_value.specs.declared.value.Value.TheVariants as value
-use Rattle.beldi_tree.specs.Bindings.{or_null}
-use Rattle.beldi_tree.specs.declared.deployment.Deployment.{Deployment}
-use Rattle.beldi_lang.specs.declared.effect.Answer.{Answer}
-use Rattle.beldi_lang.specs.declared.effect.Answer.TheVariants as answer
-use Rattle.beldi_lang.specs.declared.effect.Effect.TheVariants as effect
-use Rattle.beldi_lang.specs.Wants.{wants_answer}
-use Rattle.beldi_lang.proofs.Resumes.{few_answers}
-use Rattle.beldi_book.specs.declared.entry.Entry.TheVariants.{Tx, Try}
-use Rattle.beldi_book.specs.Order.{seen_of}
-use Rattle.beldi_row.specs.Act.{act}
-use Rattle.beldi_row.specs.Log.{note_at}
-use Rattle.beldi_row.specs.Table.{Rows, set_row}
-use Rattle.beldi_row.specs.declared.act.Act.TheVariants.{PutRead}
-use Rattle.beldi_row.specs.Key.{RowKey}
-use Rattle.beldi_row.specs.declared.key.Kind.TheVariants as kinds
-use Rattle.beldi_row.specs.declared.row.Row.{Row}
-use Rattle.beldi_row.specs.declared.row.Row.TheVariants as rows
-use Rattle.beldi_row.proofs.Gets.{got as row_got, key_self}
-use Rattle.beldi_readlog.specs.ReadLog.{log_key}
-use Rattle.beldi_txn.specs.declared.end.EndGoes.TheVariants as goes
-use Rattle.beldi_txn.specs.declared.end.Visit.{Visit}
-use Rattle.beldi_txn.specs.End.{at_calls, first_visit, decided_by}
-use Rattle.beldi_plain.specs.Guard.{IsFree, Touches}
-use Rattle.beldi_plain.specs.Item.{Item}
-use Rattle.beldi_plain.specs.Moves.{TouchedIn}
-use Rattle.beldi_plain.specs.Operation.{touched}
-use Rattle.beldi_plain.specs.Piece.{opened, tx_begun}
-use Rattle.beldi_plain.specs.Plain.{Instance, PlainState, answered, effect_of, value_at, with_instance}
-use Rattle.beldi_plain.specs.Entries.{after}
-use Rattle.beldi_order.specs.Grown.{Grows}
-use Rattle.beldi_order.specs.Txs.{effect_after, end_of, is_at, tx_after, txs_after, txs_by}
-use Rattle.beldi_order.proofs.Ends.{fits}
-use Rattle.beldi_order.proofs.Foreign.{entries_touch}
-use Rattle.beldi_order.proofs.Maps.{here, same_some}
-use Rattle.beldi_order.proofs.Pieces.{pieces_are_moves}
-use Rattle.beldi_order.proofs.Touched.{pieces_touch_their_items}
-use Rattle.beldi_step.specs.declared.run.Begun.{Begun}
-use Rattle.beldi_step.specs.declared.run.Mark.{Mark}
-use Rattle.beldi_step.specs.declared.run.OpenTx.{OpenTx}
-use Rattle.beldi_step.specs.declared.run.Run.{Run}
-use Rattle.beldi_step.specs.declared.run.Stage.TheVariants as stage
-use Rattle.beldi_step.specs.Run.{own_tx, place_of, end_mark, turned_by, decide_by_says, decided_says, end_by_asks}
-use Rattle.beldi_step.specs.Host.{Core, entry_of, turn_next}
-use Rattle.beldi_step.specs.Tables.{decision_key}
-use Rattle.beldi_intent.specs.Intent.{root_key}
-use Rattle.beldi_known.specs.Contents.{content_of, is_owner}
-use Rattle.beldi_known.specs.InsideLaws.{decided as with_decision, FellAt, Goes, IsAbort, IsCommit, IsOpen, last_answer}
-use Rattle.beldi_known.specs.Known.{Known, ended_by, moved, tx_end}
-use Rattle.beldi_known.specs.Listed.{listed}
-use Rattle.beldi_known.specs.Matches.{Matches}
-use Rattle.beldi_known.specs.Sane.{SaneInstance}
-use Rattle.beldi_known.proofs.Ahead.{none_out, ahead_set, unlocked_elsewhere}
-use Rattle.beldi_known.proofs.AtFront.{no_decision, no_note}
-use Rattle.beldi_known.proofs.Behind.{behind_decided}
-use Rattle.beldi_known.proofs.Decided.{aborts_are_tries, commits_are_pieces}
-use Rattle.beldi_known.proofs.Decides.{decided}
-use Rattle.beldi_known.proofs.Frame.{moved_one}
-use Rattle.beldi_known.proofs.FrameAt.{known_set}
-use Rattle.beldi_known.proofs.Lines.{opens_are_open}
-use Rattle.beldi_known.proofs.Participants.{ends_alone}
-use Rattle.beldi_known.proofs.Rows.{set_others, no_root}
-use Rattle.beldi_known.proofs.Sanes.{sane_decided}
-use Rattle.beldi_laws.specs.Inside.{OwnedAreUnmarked, OwnersCallNobody, ParticipantsHaveRows, AtStage, Frame, Inside, IsFreePlace, TookPart}
-use Rattle.beldi_laws.specs.Right.{Right, Knows, MarkOk, StageOk, open_of}
+use Rattle.beldi_laws.proofs.Names.{Answer, AtStage, Begun, Bool, ByTx, Core, Deployment, FellAt, Frame, Goes, Grows, Inside, Instance, Intent, IntentId, IsAbort, IsCommit, IsFree, IsFreePlace, IsOpen, IsTrue, Item, Known, Knows, List, Mark, MarkOk, Matches, None, OpenTx, Option, Own, OwnedAreUnmarked, Owner, OwnersCallNobody, ParticipantsHaveRows, Place, PlainState, PutRead, Right, Row, RowKey, Rows, Run, Sane, SaneInstance, Some, StageOk, TookPart, TouchedIn, Touches, Try, TxId, Visit, [], aborts_are_tries, act, after, ahead_set, answered, ap, arith, at_calls, behind_decided, commits_are_pieces, cond, content_of, decide_by_says, decided, decided_by, decided_says, decision_key, effect_after, effect_of, end_by_asks, end_mark, end_of, ended_by, ends_alone, entries_touch, entry_of, eq-eqb, eqb-true, false, few_answers, first_visit, fits, here, if◌then◌else◌, inl, inr, is_at, is_owner, is_some, key_self, known_none_after, known_set, last_answer, length, listed, log_key, moved, moved_one, no_decision, no_note, no_root, none_out, note_at, open_of, opens_are_open, or_null, own_tx, pieces_are_moves, pieces_touch_their_items, place_of, refl, root_key, row_got, same_some, sane_decided, seen_of, set_others, set_row, subst, sym, touched, true, turn_next, turned_by, tx_after, tx_begun, tx_end, txs_after, txs_by, unlocked_elsewhere, value_at, wants_answer, with_decision, with_instance, ℕ, ◌++◌, ◌<◌, ◌==◌, ◌∙◌, ◌∷◌, ◌≡◌, ◌⊎◌}
+use Rattle.beldi_laws.proofs.Names.answer
+use Rattle.beldi_laws.proofs.Names.effect
+use Rattle.beldi_laws.proofs.Names.goes
+use Rattle.beldi_laws.proofs.Names.kinds
+use Rattle.beldi_laws.proofs.Names.map
+use Rattle.beldi_laws.proofs.Names.rows
+use Rattle.beldi_laws.proofs.Names.stage
+use Rattle.beldi_laws.proofs.Names.value
+use Rattle.beldi_book.specs.declared.entry.Entry.TheVariants.{Tx}
+use Rattle.beldi_plain.specs.Piece.{opened}
 use Rattle.beldi_laws.proofs.Fallen.{cause_in, cause_is}
 use Rattle.beldi_laws.proofs.Closing.{closed_rows}
 use Rattle.beldi_laws.proofs.Frames.{ValuesStay, frame_log, no_finish, nobody_set}
 use Rattle.beldi_laws.proofs.Settling.{IsSettled, holders_set, latest_stays, marks_stay, one_answered, one_at_once, one_known, seated_set, seated_stays, settled_grown, short_set}
 use Rattle.beldi_laws.proofs.Visits.{at_part, visits_found}
-use Rattle.beldi_known.proofs.Outsides.{known_none_after}
-use Rattle.beldi_known.specs.Sane.{Sane}
-use Rattle.beldi_step.specs.declared.run.RunTx.TheVariants.{Own}
 use Rattle.beldi_laws.proofs.Grown.{grown_moved, grows_moved}
 use Rattle.beldi_laws.proofs.Keeping.{as_it_was}
 use Rattle.beldi_laws.proofs.Moves.{AfterAct, AfterQuery, AfterTurn, Entered, SameRoots, change_entered, still}

@@ -1,26 +1,8 @@
 -- How a transaction ended: its End was wanted while it was open, and all steps of its owner between its Begin and its End are of it.
-use Rattle.std.proofs.Common.{◌≡◌, ◌∙◌, ◌⊎◌, inl, inr, ℕ, ◌+◌, ◌<◌, ◌≤◌, Bool, true, false, List, [], ◌∷◌, ◌++◌, length, length-append, take, drop, get_or, Option, None, Some, refl, ap, sym, subst, arith, append_assoc, append-nil, if◌then◌else◌, is_some}
-use Rattle.std.proofs.lemmas.List.{take-append-le, take-append-drop, length-take-le, take_more}
-use Rattle.std.specs.Prelude.{nat_lt}
-use Rattle.std.proofs.Math.Nat.{eq-or-lt_of_le}
-use Rattle.std.proofs.lemmas.Bool.{ltb-false, ltb-true}
-use Rattle.beldi_value.specs.declared.id.IntentId.{IntentId}
-use Rattle.beldi_value.specs.declared.place.TxId.{TxId}
-use Rattle.beldi_tree.specs.declared.deployment.Deployment.{Deployment}
-use Rattle.beldi_lang.specs.declared.effect.Answer.{Answer}
-use Rattle.beldi_lang.specs.declared.effect.Answer.TheVariants as answer
-use Rattle.beldi_lang.specs.declared.effect.Effect.{Effect}
-use Rattle.beldi_lang.specs.declared.effect.Effect.TheVariants as effect
-use Rattle.beldi_lang.specs.Bounds.{is_bound}
-use Rattle.beldi_lang.specs.Wants.{wants}
-use Rattle.beldi_lang.proofs.Bounds.{no_bound}
-use Rattle.beldi_plain.specs.Plain.{Instance, effect_before}
-use Rattle.beldi_order.specs.Txs.{Txs, effect_after, end_of, is_at, or_own, tx_at, tx_by, txs_after, txs_by}
-use Rattle.beldi_order.proofs.Ends.{at_of, fits_at}
-use Rattle.beldi_order.proofs.Maps.{same_some}
-use Rattle.beldi_order.proofs.Went.{txs_pushed}
-use Rattle.beldi_known.proofs.Answers.{take_front}
-use Rattle.beldi_known.proofs.Phases.{begin_is}
+use Rattle.beldi_laws.proofs.Names.{Answer, Bool, Deployment, Effect, Instance, IntentId, List, None, Option, Some, TxId, Txs, [], ap, append-nil, append_assoc, arith, at_of, begin_is, drop, effect_after, effect_before, end_of, eq-or-lt_of_le, false, fits_at, get_or, if◌then◌else◌, inl, inr, is_at, is_bound, is_some, length, length-append, length-take-le, ltb-true, nat_lt, no_bound, or_own, refl, same_some, subst, sym, take, take-append-drop, take-append-le, take_front, take_more, true, tx_at, tx_by, txs_after, txs_by, txs_pushed, wants, ℕ, ◌++◌, ◌+◌, ◌<◌, ◌∙◌, ◌∷◌, ◌≡◌, ◌≤◌, ◌⊎◌}
+use Rattle.beldi_laws.proofs.Names.answer
+use Rattle.beldi_laws.proofs.Names.effect
+use Rattle.std.proofs.lemmas.Bool.{ltb-false}
 
 -- after these answers the Begin at a step ended so: its End was wanted while it was open
 pub record EndedAt (d : Deployment) (q : Instance) (given : List Answer) (b : ℕ) (z : ℕ × Bool) : Type 0 where

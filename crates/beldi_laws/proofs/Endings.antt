@@ -1,11 +1,8 @@
 -- The last turn of a run: its instance is ended.
-use Rattle.std.proofs.Common.{◌≡◌, ℕ, Bool, true, false, if◌then◌else◌, Option, None, Some, refl, ap, sym, ◌∙◌, subst, is_some, ◌==◌, not}
-use Rattle.std.specs.Option.{option_map}
-use Rattle.std.specs.FinMap as map
-use Rattle.beldi_book.specs.declared.entry.Entry.TheVariants.{Step}
-use Rattle.beldi_intent.specs.Intent.{intent_key, is_did, end_asks}
-use Rattle.beldi_lang.specs.Callee.{answer_of}
-use Rattle.beldi_lang.specs.declared.effect.Effect.TheVariants.{Return}
+use Rattle.beldi_laws.proofs.Names.{Begun, Body, BodyMatches, Bool, CalleeBodyMatches, Caller, Core, Deployment, Ends, FinishMatches, Inside, Instance, IntentMatches, IntentRow, IsCalleeRow, Known, Knows, Matches, None, Option, Outcome, OutcomeMatches, PlainState, Return, Right, RootMatches, Row, RowKey, Rows, Run, Some, Step, Tell, TxId, act, answer_caller, answer_of, ap, callee_put, close_says, effect_of, end_asks, end_with, false, finish_at, func_called, give, has_ended, has_finish, has_no_hops, here, if◌then◌else◌, intent_ended, intent_key, is_did, is_inherited, is_some, is_waited, mark_if, not, option_map, outcome_of, refl, reply_if, root_of, same_some, set_others, set_row, subst, sym, true, turn_next, turned_by, tx_in, with_instance, within, ℕ, ◌==◌, ◌∙◌, ◌≡◌}
+use Rattle.beldi_laws.proofs.Names.map
+use Rattle.beldi_laws.proofs.Names.mark
+use Rattle.beldi_laws.proofs.Names.rows
 use Rattle.beldi_laws.proofs.Beginnings.{same_roots}
 use Rattle.beldi_laws.proofs.Frames.{NoFinish, no_member_finish}
 use Rattle.beldi_laws.proofs.Keeping.{as_it_was}
@@ -14,35 +11,7 @@ use Rattle.beldi_laws.proofs.Moves.{AfterQuery, SameRoots, Kept, Stays, Entered,
 use Rattle.beldi_laws.proofs.Registered.{StaysRow, kept_moving, log_frame, log_shadows, log_stays, no_more}
 use Rattle.beldi_laws.proofs.Shown.{log_values}
 use Rattle.beldi_laws.proofs.Turns.{ends}
-use Rattle.beldi_laws.specs.Inside.{Inside, has_finish}
-use Rattle.beldi_laws.specs.Right.{Right, Knows}
-use Rattle.beldi_order.proofs.Maps.{same_some, here}
-use Rattle.beldi_plain.specs.Plain.{PlainState, Instance, effect_of, with_instance, outcome_of, answer_caller, give}
-use Rattle.beldi_row.specs.Act.{Tell, act, end_with, finish_at}
-use Rattle.beldi_row.specs.Table.{Rows, set_row}
 use Rattle.beldi_row.specs.declared.act.Act.TheVariants.{End}
-use Rattle.beldi_row.specs.Key.{RowKey}
-use Rattle.beldi_row.specs.declared.row.Body.{Body}
-use Rattle.beldi_row.specs.declared.row.IntentRow.{IntentRow}
-use Rattle.beldi_row.specs.declared.row.Row.TheVariants as rows
-use Rattle.beldi_row.specs.declared.row.Row.{Row}
-use Rattle.beldi_step.specs.Host.{Core, turn_next}
-use Rattle.beldi_step.specs.Run.{is_inherited, is_waited, turned_by, close_says, reply_if, mark_if, within}
-use Rattle.beldi_step.specs.declared.run.Begun.{Begun}
-use Rattle.beldi_step.specs.declared.run.Mark.TheVariants as mark
-use Rattle.beldi_step.specs.declared.run.Run.{Run}
-use Rattle.beldi_step.specs.declared.run.Says.TheVariants.{Ends}
-use Rattle.beldi_tree.specs.declared.deployment.Deployment.{Deployment}
-use Rattle.beldi_txn.specs.Invokes.{func_called}
-use Rattle.beldi_value.specs.Id.{has_no_hops, root_of}
-use Rattle.beldi_value.specs.declared.outcome.Outcome.{Outcome}
-use Rattle.beldi_value.specs.declared.place.Caller.{Caller}
-use Rattle.beldi_value.specs.declared.place.TxId.{TxId}
-use Rattle.beldi_known.proofs.Intents.{intent_ended, callee_put}
-use Rattle.beldi_known.proofs.Rows.{set_others}
-use Rattle.beldi_known.specs.Known.{Known}
-use Rattle.beldi_known.specs.Matches.{Matches, has_ended}
-use Rattle.beldi_known.specs.Rows.{IntentMatches, IsCalleeRow, BodyMatches, RootMatches, CalleeBodyMatches, FinishMatches, OutcomeMatches, tx_in}
 use Rattle.beldi_laws.proofs.Returns.{Left, ahead_over, done, goes_over, grows_over, idle_outside, leads, nobody_over, not_root, over, returns_now, root_is, root_outside, same_outcome, settled_over, tx, unlocked}
 
 module _ (d : Deployment) (c : Core) (m : Rows) (i : ℕ) (r : Run) (g : Begun) (h : Right d c m) (live : map.get c.runs i ≡ Some r) (k : Knows d c.book h.known r g) (finds : Inside d m h.plain h.known r g) (o : Outcome) (is : g.machine.effect ≡ Return o) where

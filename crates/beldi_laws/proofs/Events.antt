@@ -1,68 +1,14 @@
 -- Every event keeps the host and its rows right.
-use Rattle.std.proofs.Common.{◌≡◌, ℕ, zero, suc, ◌+◌, ◌≤◌, ◌==◌, ◌||◌, ◌&&◌, Bool, true, false, cond, [], ◌∷◌, ◌++◌, length, length-append, Option, None, Some, Result, Ok, Err, refl, ap, sym, ◌∙◌, subst, IsTrue, is_some, arith, if◌then◌else◌}
-use Rattle.std.specs.Prelude.{◌-◌, ◌^◌, nat_lt, nat_le}
-use Rattle.std.specs.FinMap as map
-use Rattle.std.specs.FinMap.{get-empty, len-empty}
-use Rattle.std.specs.Ordering.{is_eq, nat_cmp}
-use Rattle.std.specs.declared.alloc.AllocError.{AllocError}
-use borrow.Author.Tests.{leb-true, leb-false, le-leb, lt-leb, lt-ltb}
-use Rattle.std.proofs.lemmas.Cmp.{tied_itself}
-use Rattle.std.proofs.lemmas.Bool.Decides.{nat_tests}
-use Rattle.std.proofs.Math.Bool.{and-false}
-use Rattle.std.proofs.lemmas.Bool.{or_parts}
-use Rattle.beldi_value.specs.Id.{id_cmp, id_total, root_of}
-use Rattle.beldi_value.specs.declared.place.Caller.{Caller}
-use Rattle.beldi_value.specs.Same.{same_value}
-use Rattle.beldi_value.specs.declared.outcome.Outcome.{Outcome}
-use Rattle.beldi_value.specs.declared.value.Value.{Value}
-use Rattle.beldi_tree.specs.declared.deployment.Deployment.{Deployment}
-use Rattle.beldi_lang.specs.declared.effect.Effect.{Effect}
-use Rattle.beldi_lang.specs.declared.effect.Effect.TheVariants.{Read, Write, CondWrite, Lock, Unlock, Call, Async, End, Return}
-use Rattle.beldi_book.specs.declared.entry.Entry.TheVariants.{Start}
-use Rattle.beldi_row.specs.Key.{RowKey, key_cmp, least_key}
-use Rattle.beldi_tree.specs.Bindings.{or_null}
-use Rattle.beldi_plain.specs.Item.{item_cmp}
-use Rattle.beldi_row.specs.declared.row.Body.{Body}
-use Rattle.beldi_row.specs.declared.row.IntentRow.{IntentRow}
-use Rattle.beldi_row.specs.declared.row.Row.{Row}
-use Rattle.beldi_row.specs.declared.row.Row.TheVariants as rows
-use Rattle.beldi_row.specs.declared.act.Act.TheVariants.{Issue, Bind}
-use Rattle.beldi_row.specs.Act.{Tell, act, other, outcome_tell, bind_to}
-use Rattle.beldi_row.specs.declared.table.TableErr.{TableErr}
-use Rattle.beldi_row.specs.declared.table.TableErr.TheVariants.{OutOfMemory, Failed, Full}
-use Rattle.beldi_row.specs.Table.{Rows, set_row, after_act}
-use Rattle.beldi_plain.specs.Plain.{Instance, PlainState, new_instance, start, nothing, with_instance, reply_of, outcome_of}
-use Rattle.beldi_step.specs.declared.event.Event.{Event}
-use Rattle.beldi_step.specs.declared.event.Event.TheVariants.{Ticket, Request, Turn, Lost, Crash, Restart, Tick, Ic}
-use Rattle.beldi_step.specs.declared.event.Seen.{Seen}
-use Rattle.beldi_step.specs.declared.event.Seen.TheVariants as seen
-use Rattle.beldi_step.specs.declared.run.Run.{Run}
-use Rattle.beldi_step.specs.declared.run.RunAt as standing
-use Rattle.beldi_step.specs.declared.run.RunAt.TheVariants.{Looks, Registers, Begins}
-use Rattle.beldi_step.specs.declared.run.Begun.{Begun}
-use Rattle.beldi_step.specs.declared.run.Stage.{Stage}
-use Rattle.beldi_step.specs.declared.run.Stage.TheVariants as stage
-use Rattle.beldi_value.specs.declared.id.IntentId.{IntentId}
-use Rattle.beldi_value.specs.declared.place.TxId.{TxId}
-use Rattle.beldi_order.specs.Txs.{tx_after}
-use Rattle.beldi_walk.specs.declared.query.Query.{Query}
-use Rattle.beldi_walk.specs.Query.{Told, lends, rows_after, told_by, CameOn}
-use Rattle.beldi_walk.proofs.Lent.{rows_stand, refused_stand}
-use Rattle.beldi_intent.specs.Intent.{root_key, bind_asks, is_added, binding_of}
-use Rattle.beldi_invokelog.specs.InvokeLog.{back_of}
-use Rattle.beldi_step.specs.Run.{is_waited, back_says, back_to_asks, turned_by, stage_asks, stage_says, asks_at, told_at, run_asks, run_told}
-use Rattle.beldi_step.specs.Host.{at_once, Core, Plan, asks, first_core, most_runs, most_events, last_moment, is_crowded, has_run, passed, launched, collect_next, run_plan, crash_plan, new_run, with_run, ended_run, ticket_next, bound_next, request_next, turn_next, run_next, unheard_next, plan_of, counted, plan, heard, no_memory, refused, refused_by, Followed, EventBy, EventOn}
-use Rattle.beldi_known.specs.Contents.{head_key}
-use Rattle.beldi_known.specs.Rows.{IntentMatches, IsRootRow, BodyMatches}
-use Rattle.beldi_daal.specs.Content.{content_in}
-use Rattle.beldi_laws.specs.Laws.{told_outcome, is_gone, RepliesAreOutcomes, KeepsRight, RightIsLegal}
-use Rattle.beldi_row.proofs.Gets.{got}
-use Rattle.beldi_row.proofs.Unchanged.{unchanged}
-use Rattle.beldi_book.specs.Order.{count_changes}
-use Rattle.beldi_order.proofs.Entries.{grows_self, grows_new}
-use Rattle.beldi_order.proofs.Maps.{same_some}
+use Rattle.beldi_laws.proofs.Names.{AllocError, Async, AtStage, Begins, Begun, Bind, Body, BodyMatches, Bool, Call, Caller, CameOn, CondWrite, Core, Crash, Deployment, Effect, End, Err, Event, EventBy, EventOn, Failed, Followed, Full, Ic, Inside, Instance, IntentId, IntentMatches, IntentRow, IsBelow, IsRootRow, IsTrue, Issue, KeepsRight, Known, Knows, KnowsAt, Looks, Lost, MarkOk, None, Ok, Option, OutOfMemory, Outcome, PlaceOk, PlainState, Plan, Query, Read, Registers, RepliesAreOutcomes, Request, Restart, Result, Return, Right, RightIsLegal, Row, RowKey, Rows, Run, RunAt, Seen, SeenDone, Some, Stage, StageOk, Start, TableErr, Tell, Tick, Ticket, Told, Turn, TxId, Unlock, Value, Write, [], act, after_act, ahead_nothing, ahead_set, and-false, ap, arith, asks, asks_at, at_once_same, back_of, back_says, back_to_asks, bind_asks, bind_to, binding_of, bound_next, collect_asks, collect_next, collect_says, cond, content_in, count_changes, counted, crash_plan, ended_by, ended_run, false, first_core, func_called, get-empty, got, grows_new, grows_self, has_ended, has_finish, has_run, head_key, heard, id_cmp, id_same, id_total, if◌then◌else◌, is_added, is_crowded, is_eq, is_gone, is_some, is_waited, item_cmp, key_cmp, last_moment, launched, le-leb, least_key, leb-false, leb-true, len-empty, lends, length, length-append, listed_under, lt-leb, most_events, most_runs, nat_cmp, nat_le, nat_lt, nat_tests, new_instance, new_run, no_memory, none_out, none_show, nothing, nothing_matches, option_map, or_null, or_parts, other, outcome_of, outcome_tell, passed, plan, plan_of, refl, refused, refused_by, refused_stand, reply_of, request_next, root_apart, root_bound, root_key, root_of, row_put, rows_after, rows_stand, run_asks, run_next, run_plan, run_told, same_some, same_value, sane_nothing, set_row, stage_asks, stage_says, start, subst, suc, sym, ticket_next, tied_itself, told_at, told_by, told_outcome, touched_by, true, true_false, turn_next, turned_by, tx_after, unchanged, unheard_next, unlocked_absent, with_instance, with_once, with_run, zero, ℕ, ◌&&◌, ◌++◌, ◌+◌, ◌-◌, ◌==◌, ◌^◌, ◌||◌, ◌∙◌, ◌∷◌, ◌≡◌, ◌≤◌}
+use Rattle.beldi_laws.proofs.Names.map
+use Rattle.beldi_laws.proofs.Names.rows
+use Rattle.beldi_laws.proofs.Names.seen
+use Rattle.beldi_laws.proofs.Names.stage
+use Rattle.beldi_laws.proofs.Names.standing
+use borrow.Author.Tests.{lt-ltb}
+use Rattle.beldi_lang.specs.declared.effect.Effect.TheVariants.{Lock}
+use Rattle.beldi_step.specs.Host.{at_once}
 use Rattle.beldi_laws.proofs.Lives.{places_same, runs_on, runs_more, runs_less}
-use Rattle.beldi_order.proofs.Operations.{id_same}
 use Rattle.beldi_laws.proofs.Moves.{if_plan, seen_by, After, AfterQuery, AfterAct, replaced, change_entered, unheard, with_runs, right_by, Kept, Stays}
 use Rattle.beldi_laws.proofs.OneEvent.{lent_only}
 use Rattle.beldi_laws.proofs.Beginnings.{look_turn, register_turn}
@@ -72,35 +18,17 @@ use Rattle.beldi_laws.proofs.Endings.{close_turn}
 use Rattle.beldi_laws.proofs.GivingBack.{back_turn, tell_turn}
 use Rattle.beldi_collect.specs.declared.cursor.Found.{Found}
 use Rattle.beldi_collect.specs.declared.cursor.Found.TheVariants as found
-use Rattle.beldi_collect.specs.Collect.{collect_asks, collect_says}
 use Rattle.beldi_laws.proofs.Operations.{operation_turn}
 use Rattle.beldi_laws.proofs.Readings.{ask_turn, walk_turn, keep_turn}
-use Rattle.beldi_plain.specs.Guard.{touched_by}
-use Rattle.beldi_laws.specs.Inside.{Inside, AtStage, has_finish}
-use Rattle.beldi_laws.specs.Right.{Right, Knows, KnowsAt, RunAt, StageOk, PlaceOk, SeenDone, MarkOk}
-use Rattle.beldi_known.specs.Known.{Known, at_once as with_once, ended_by}
-use Rattle.beldi_known.specs.Matches.{has_ended}
 use Rattle.beldi_laws.proofs.KeptSane.{root_kept}
 use Rattle.beldi_laws.proofs.Shown.{log_values, settled}
 use Rattle.beldi_laws.proofs.Frames.{frame_row, items_stay, nobody_made}
 use Rattle.beldi_laws.proofs.Settling.{settled_grown, settled_new}
-use Rattle.beldi_known.proofs.Frame.{at_once_same}
-use Rattle.beldi_order.specs.Inside.{IsBelow}
-use Rattle.beldi_txn.specs.Invokes.{func_called}
-use Rattle.std.specs.Option.{option_map}
 use Rattle.beldi_laws.proofs.Keeping.{goes_made, set_shadows}
 use Rattle.beldi_laws.proofs.InsideTurns.{tx_turn, decide_turn, end_turn}
 use Rattle.beldi_laws.proofs.Outside.{plain_none, outcome_known}
 use Rattle.beldi_laws.proofs.Registered.{kept_moving, log_stays, no_more, stays_new}
 use Rattle.beldi_laws.proofs.CallsHere.{childless}
-use Rattle.beldi_known.proofs.Intents.{root_bound}
-use Rattle.beldi_known.proofs.Sets.{row_put}
-use Rattle.beldi_known.specs.Listed.{listed_under}
-use Rattle.beldi_known.proofs.Ahead.{unlocked_absent, ahead_set, none_out}
-use Rattle.beldi_known.proofs.Answers.{true_false}
-use Rattle.beldi_known.proofs.Outsides.{root_apart}
-use Rattle.beldi_known.proofs.Shadows.{none_show}
-use Rattle.beldi_known.proofs.Nothing.{ahead_nothing, nothing_matches, sane_nothing}
 
 -- it tells no outcome, nor that a row is absent
 abbrev TellsNothing : Seen → Type 0

@@ -1,26 +1,7 @@
 -- What was aborted in an open transaction, if anything: it is the cause that a run keeps, and its instance's last answer.
-use Rattle.std.proofs.Common.{◌≡◌, ◌∙◌, Bool, true, false, List, [], ◌∷◌, ◌++◌, length, Option, Some, None, is_some, refl, ap, sym, subst, take, append_assoc, append-nil}
-use Rattle.std.specs.Prelude.{slice_get}
-use Rattle.beldi_value.specs.declared.id.IntentId.{IntentId}
-use Rattle.beldi_value.specs.declared.outcome.Cause.{Cause}
-use Rattle.beldi_value.specs.declared.place.TxId.{TxId}
-use Rattle.beldi_tree.specs.declared.deployment.Deployment.{Deployment}
-use Rattle.beldi_lang.specs.declared.effect.Answer.{Answer}
-use Rattle.beldi_lang.specs.declared.effect.Answer.TheVariants as answer
-use Rattle.beldi_lang.specs.declared.effect.Effect.{Effect}
-use Rattle.beldi_lang.specs.declared.effect.Effect.TheVariants as effect
-use Rattle.beldi_plain.specs.Plain.{Instance}
-use Rattle.beldi_order.specs.Sane.{IsAnswer}
-use Rattle.beldi_order.specs.Txs.{effect_after, tx_after}
-use Rattle.beldi_step.specs.declared.run.OpenTx.{OpenTx}
-use Rattle.beldi_step.specs.declared.run.RunTx.{RunTx}
-use Rattle.beldi_step.specs.declared.run.RunTx.TheVariants.{Own, Inherited}
-use Rattle.beldi_step.specs.Run.{open_after, place_of, within}
-use Rattle.beldi_known.specs.InsideLaws.{last_answer}
-use Rattle.beldi_known.specs.Sane.{SaneInstance}
-use Rattle.beldi_known.proofs.Answers.{take_front, get_next}
-use Rattle.beldi_known.proofs.Phases.{abort_ends}
-use Rattle.beldi_laws.specs.Right.{open_of}
+use Rattle.beldi_laws.proofs.Names.{Answer, Bool, Cause, Deployment, Effect, Inherited, Instance, IntentId, IsAnswer, List, None, OpenTx, Option, Own, RunTx, SaneInstance, Some, TxId, [], abort_ends, ap, append-nil, append_assoc, effect_after, false, get_next, is_some, last_answer, length, open_after, open_of, place_of, refl, slice_get, subst, sym, take, take_front, true, tx_after, within, ◌++◌, ◌∙◌, ◌∷◌, ◌≡◌}
+use Rattle.beldi_laws.proofs.Names.answer
+use Rattle.beldi_laws.proofs.Names.effect
 use Rattle.beldi_laws.proofs.OpenOf.{own_begin, open_begun, open_pushed}
 
 -- one's own is one

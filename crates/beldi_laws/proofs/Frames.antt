@@ -1,50 +1,9 @@
 -- What an event keeps for the runs of others: a frame, of a row that is set.
-use Rattle.std.proofs.Common.{◌≡◌, ◌∙◌, ℕ, Bool, true, false, List, [], ◌∷◌, ◌++◌, cond, Option, Some, None, is_some, refl, ap, sym, subst, if◌then◌else◌}
-use Rattle.std.specs.FinMap as map
-use Rattle.std.specs.Ordering.{is_eq}
-use Rattle.beldi_value.specs.declared.id.IntentId.{IntentId}
-use Rattle.beldi_value.specs.declared.place.Owner.TheVariants.{Tx as ByTx}
-use Rattle.beldi_value.specs.declared.place.Place.{Place}
-use Rattle.beldi_value.specs.declared.place.TxId.{TxId}
-use Rattle.beldi_value.specs.declared.value.Value.{Value}
-use Rattle.beldi_tree.specs.Bindings.{or_null}
-use Rattle.beldi_tree.specs.declared.deployment.Deployment.{Deployment}
-use Rattle.beldi_row.specs.Key.{RowKey, key_cmp}
-use Rattle.beldi_row.specs.Log.{note_at, place_eq}
-use Rattle.beldi_row.specs.Table.{Rows, set_row}
-use Rattle.beldi_row.specs.declared.key.Kind.{Kind}
-use Rattle.beldi_row.specs.declared.key.Kind.TheVariants as kinds
-use Rattle.beldi_row.specs.declared.notes.Note.{Note}
-use Rattle.beldi_row.specs.declared.row.Row.{Row}
-use Rattle.beldi_row.specs.declared.row.Row.TheVariants as rows
-use Rattle.beldi_row.proofs.Gets.{got as row_got, key_self, key_same}
-use Rattle.beldi_row.proofs.Logs.{note_pushed, place_same}
-use Rattle.beldi_row.specs.Act.{act}
-use Rattle.beldi_walk.specs.declared.query.Query.{Query}
-use Rattle.beldi_walk.specs.declared.query.Query.TheVariants as query
-use Rattle.beldi_walk.specs.Query.{rows_after}
-use Rattle.beldi_daal.specs.declared.cell.CellOp.{CellOp}
-use Rattle.beldi_daal.specs.Content.{Content, content_in}
-use Rattle.beldi_daal.specs.Logged.{note_after}
-use Rattle.beldi_plain.specs.Item.{Item, item_cmp}
-use Rattle.beldi_plain.specs.Operation.{set_if, or_old}
-use Rattle.beldi_plain.specs.Plain.{Instance, PlainState, value_at, ended}
-use Rattle.beldi_order.proofs.Maps.{same_some}
-use Rattle.beldi_order.proofs.Operations.{plain_set, item_same}
-use Rattle.beldi_known.specs.Contents.{content_of, head_key, shadow_key, lockset_key}
-use Rattle.beldi_known.specs.Known.{Known, tx_end}
-use Rattle.beldi_known.specs.Operations.{DoneRows}
-use Rattle.beldi_known.proofs.Acts.{kinds_apart, is_data, is_shadow, shadow_same, by_item, turned}
-use Rattle.beldi_known.proofs.FrameAt.{known_set}
-use Rattle.beldi_known.proofs.Outside.{no_tx, free_after}
-use Rattle.beldi_known.proofs.Owners.{IsFreeFor}
-use Rattle.beldi_known.proofs.Rows.{set_others}
-use Rattle.beldi_laws.specs.Inside.{Frame, IsOf, IsWriting, StillOwns, TookPart, has_finish}
-use Rattle.beldi_laws.specs.Stands.{key_in}
-use Rattle.beldi_invokelog.specs.InvokeLog.{invoke_key}
-use Rattle.beldi_readlog.specs.ReadLog.{log_key}
-use Rattle.beldi_txn.specs.Invokes.{func_called}
-use Rattle.std.specs.Option.{option_map}
+use Rattle.beldi_laws.proofs.Names.{Bool, ByTx, CellOp, Content, Deployment, DoneRows, Frame, Instance, IntentId, IsFreeFor, IsOf, IsWriting, Item, Kind, Known, List, None, Note, Option, Place, PlainState, Query, Row, RowKey, Rows, Some, StillOwns, TookPart, TxId, Value, [], act, ap, by_item, cond, content_in, content_of, ended, false, free_after, func_called, has_finish, head_key, if◌then◌else◌, invoke_key, is_data, is_eq, is_shadow, is_some, item_cmp, item_same, key_cmp, key_in, key_same, key_self, kinds_apart, known_set, lockset_key, log_key, no_tx, note_after, note_at, note_pushed, option_map, or_null, or_old, place_eq, place_same, plain_set, refl, row_got, rows_after, same_some, set_if, set_others, set_row, shadow_key, shadow_same, subst, sym, true, turned, tx_end, value_at, ℕ, ◌++◌, ◌∙◌, ◌∷◌, ◌≡◌}
+use Rattle.beldi_laws.proofs.Names.kinds
+use Rattle.beldi_laws.proofs.Names.map
+use Rattle.beldi_laws.proofs.Names.query
+use Rattle.beldi_laws.proofs.Names.rows
 
 -- ---- what an open transaction owns has its plain value still
 abbrev pub ValuesStay : Deployment → Rows → PlainState → PlainState → Known → Type 0

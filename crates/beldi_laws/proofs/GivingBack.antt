@@ -1,16 +1,13 @@
 -- The turns at which a run that returns tells its caller: the outcome, where the caller waits for it, and else that it is registered.
-use Rattle.std.proofs.Common.{◌≡◌, inr, ℕ, true, false, List, [], ◌∷◌, ◌++◌, if◌then◌else◌, Option, None, Some, refl, ap, sym, ◌∙◌, subst, is_some, length, eq-eqb}
+use Rattle.beldi_laws.proofs.Names.{Answer, Begins, Begun, Call, CallBack, CallMatches, Caller, Cause, Core, Deployment, Entry, Goes, Grows, Inside, Instance, IntentId, InvokeRow, IsCalled, Item, Known, Knows, List, Matches, None, NoteRegistered, On, Option, Outcome, PlainState, Return, Right, Row, RowKey, Rows, Run, RunAt, Sane, Some, StageOk, Step, Tell, TxId, Waited, [], act, after_act, ahead_set, answer_of, answered, answers_waiter, ap, at_stage, back_asks, back_of, back_says, call_answered, call_back_to, called_by, callee_of, child_of, commit_in, effect_after, effect_of, elsewhere, eq-eqb, false, given_back, grown_end, grows_self, grows_through, here, if◌then◌else◌, inr, intent_key, invoke_key, is_begin, is_some, is_waited, known_set, last, length, listed, looked, moved, moved_one, no_own_callee, no_root_key, none_out, op_of, opens_are_open, or_own, outside_parts, owed_call, place_of, refl, result_of, returned_cause, returns_go, root_key, row_added, same_some, set_others, set_row, stands_at_call, subst, sym, tell_asks, touched, true, turn_next, turned_by, tx_after, tx_at, tx_by, tx_here, tx_now, txs_after, unlocked_elsewhere, value_at, with_instance, within, within_by, ℕ, ◌++◌, ◌∙◌, ◌∷◌, ◌≡◌}
+use Rattle.beldi_laws.proofs.Names.kinds
+use Rattle.beldi_laws.proofs.Names.map
+use Rattle.beldi_laws.proofs.Names.mark
+use Rattle.beldi_laws.proofs.Names.rows
+use Rattle.beldi_laws.proofs.Names.stage
 use Rattle.std.specs.Prelude.{take}
-use Rattle.std.specs.FinMap as map
-use Rattle.beldi_book.specs.declared.entry.Entry.TheVariants.{Step}
-use Rattle.beldi_book.specs.declared.entry.Entry.{Entry}
-use Rattle.beldi_intent.specs.Intent.{root_key, intent_key}
-use Rattle.beldi_invokelog.specs.InvokeLog.{invoke_key, back_asks, back_of}
 use Rattle.beldi_invokelog.specs.declared.invoke_log.Back.TheVariants as back
-use Rattle.beldi_lang.specs.Callee.{answer_of}
-use Rattle.beldi_lang.specs.declared.effect.Answer.{Answer}
 use Rattle.beldi_lang.specs.declared.effect.Answer.TheVariants as answers
-use Rattle.beldi_lang.specs.declared.effect.Effect.TheVariants.{Return, Call}
 use Rattle.beldi_laws.proofs.CallsHere.{goes_answered_then}
 use Rattle.beldi_laws.proofs.Frames.{NobodyJoins, nobody_set, nobody_then}
 use Rattle.beldi_laws.proofs.Settling.{settled_moved}
@@ -23,63 +20,6 @@ use Rattle.beldi_laws.proofs.Passing.{close_ok}
 use Rattle.beldi_laws.proofs.Registered.{kept_moving, log_frame, log_shadows, log_stays, marked_registered, no_intent, stays_call, stays_marked}
 use Rattle.beldi_laws.proofs.Shown.{Settled, log_values, legal_sane, sound}
 use Rattle.beldi_laws.proofs.Turns.{at_other, goes_on, on_other}
-use Rattle.beldi_laws.specs.Inside.{Inside}
-use Rattle.beldi_laws.specs.Right.{Right, Knows, RunAt, StageOk}
-use Rattle.beldi_order.proofs.Entries.{grown_end, grows_self, grows_through}
-use Rattle.beldi_order.proofs.Maps.{same_some, elsewhere, here}
-use Rattle.beldi_order.proofs.Sanes.{Waited}
-use Rattle.beldi_order.proofs.Sound.{answers_waiter}
-use Rattle.beldi_order.specs.Grown.{Grows}
-use Rattle.beldi_order.specs.Sane.{IsCalled, within_by}
-use Rattle.beldi_order.specs.Txs.{effect_after, or_own, tx_after, tx_at, tx_by, tx_now, txs_after}
-use Rattle.beldi_plain.specs.Item.{Item}
-use Rattle.beldi_plain.specs.Operation.{op_of, touched}
-use Rattle.beldi_plain.specs.Plain.{PlainState, Instance, answered, callee_of, effect_of, with_instance, value_at}
-use Rattle.beldi_row.proofs.Unchanged.{looked}
-use Rattle.beldi_row.specs.Act.{Tell, act, call_back_to}
-use Rattle.beldi_row.specs.Table.{Rows, set_row, after_act}
-use Rattle.beldi_row.specs.declared.act.Act.TheVariants.{CallBack, NoteRegistered}
-use Rattle.beldi_row.specs.declared.key.Kind.TheVariants as kinds
-use Rattle.beldi_row.specs.Key.{RowKey}
-use Rattle.beldi_row.specs.declared.row.InvokeRow.{InvokeRow}
-use Rattle.beldi_row.specs.declared.row.Row.TheVariants as rows
-use Rattle.beldi_row.specs.declared.row.Row.{Row}
-use Rattle.beldi_step.specs.Host.{Core, turn_next}
-use Rattle.beldi_step.specs.Run.{at_stage, is_waited, turned_by, back_says, tell_asks, place_of, within}
-use Rattle.beldi_step.specs.declared.run.Begun.{Begun}
-use Rattle.beldi_step.specs.declared.run.Mark.TheVariants as mark
-use Rattle.beldi_step.specs.declared.run.Run.{Run}
-use Rattle.beldi_step.specs.declared.run.RunAt.TheVariants.{Begins}
-use Rattle.beldi_step.specs.declared.run.Says.TheVariants.{On}
-use Rattle.beldi_step.specs.declared.run.Stage.TheVariants as stage
-use Rattle.beldi_tree.specs.declared.deployment.Deployment.{Deployment}
-use Rattle.beldi_value.specs.Id.{child_of}
-use Rattle.beldi_value.specs.declared.id.IntentId.{IntentId}
-use Rattle.beldi_value.specs.declared.outcome.Cause.{Cause}
-use Rattle.beldi_value.specs.declared.outcome.Outcome.{Outcome}
-use Rattle.beldi_value.specs.declared.place.Caller.{Caller}
-use Rattle.beldi_value.specs.declared.place.TxId.{TxId}
-use Rattle.beldi_known.proofs.Acting.{returns_go}
-use Rattle.beldi_known.proofs.Ahead.{unlocked_elsewhere, ahead_set, none_out}
-use Rattle.beldi_known.proofs.Calls.{given_back}
-use Rattle.beldi_known.proofs.Frame.{moved_one}
-use Rattle.beldi_known.proofs.FrameAt.{known_set}
-use Rattle.beldi_known.proofs.Instances.{no_own_callee}
-use Rattle.beldi_known.proofs.Lines.{opens_are_open}
-use Rattle.beldi_known.proofs.NoTx.{outside_parts}
-use Rattle.beldi_known.proofs.Outside.{call_answered}
-use Rattle.beldi_known.proofs.Rows.{set_others, no_root as no_root_key}
-use Rattle.beldi_known.proofs.Sanes.{last, stands as stands_at_call, tx_here}
-use Rattle.beldi_known.proofs.Unaborted.{returned_cause}
-use Rattle.beldi_known.specs.Beside.{is_begin}
-use Rattle.beldi_known.specs.Frame.{row_added}
-use Rattle.beldi_known.specs.InsideLaws.{Goes}
-use Rattle.beldi_known.specs.Known.{Known, owed_call, moved, commit_in}
-use Rattle.beldi_known.specs.Listed.{listed}
-use Rattle.beldi_known.specs.Matches.{Matches}
-use Rattle.beldi_known.specs.Owed.{called_by, result_of}
-use Rattle.beldi_known.specs.Rows.{CallMatches}
-use Rattle.beldi_known.specs.Sane.{Sane}
 use Rattle.beldi_laws.proofs.Returns.{HasCaller, Left, ahead_over, aborted_by, done, goes_over, grows_over, has_caller, leads, over, returns_now, settled_over, state, tx, unlocked}
 
 module _ (d : Deployment) (c : Core) (m : Rows) (i : ℕ) (r : Run) (g : Begun) (h : Right d c m) (live : map.get c.runs i ≡ Some r) (k : Knows d c.book h.known r g) (finds : Inside d m h.plain h.known r g) (o : Outcome) (is : g.machine.effect ≡ Return o) where

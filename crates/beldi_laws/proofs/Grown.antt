@@ -1,17 +1,7 @@
 -- Instances that are known go on, with an answer and what takes no turn.
-use Rattle.beldi_tree.specs.declared.deployment.Deployment.{Deployment}
-use Rattle.beldi_value.specs.declared.id.IntentId.{IntentId}
-use Rattle.beldi_plain.specs.Plain.{Instance, answered}
-use Rattle.beldi_lang.specs.declared.effect.Answer.{Answer}
-use Rattle.beldi_known.specs.Known.{moved, once, Known}
-use Rattle.beldi_order.specs.Txs.{tx_after}
-use Rattle.beldi_known.proofs.Goes.{GoesOn, once_goes, goes_then}
-use Rattle.beldi_order.specs.Grown.{Grown, Grows}
-use Rattle.beldi_known.proofs.Frame.{at_once_same}
-use Rattle.beldi_row.specs.declared.row.Body.{Body}
-use Rattle.beldi_order.proofs.Entries.{grows_at}
-use Rattle.std.proofs.Common.{ap, sym, append_assoc, ◌∷◌, ◌++◌, [], ◌≡◌, ◌∙◌, Some, length, length-append, arith, ◌<◌, List, refl, append-nil}
-use Rattle.std.specs.FinMap as map
+use Rattle.beldi_laws.proofs.Names.{Answer, Body, Deployment, Grown, Grows, Instance, IntentId, Known, List, Some, [], answered, ap, append-nil, append_assoc, arith, at_once_same, goes_then, grows_at, length, length-append, moved, once, once_goes, refl, sym, tx_after, ◌++◌, ◌<◌, ◌∙◌, ◌∷◌, ◌≡◌}
+use Rattle.beldi_laws.proofs.Names.map
+use Rattle.beldi_known.proofs.Goes.{GoesOn}
 
 pub moved_more : (d : Deployment) (id : IntentId) (q : Instance) (a : Answer) → GoesOn (answered q a) (moved d id q a)
 moved_more d id q a = goes_then (answered q a) (once d id (answered q a)) (moved d id q a) (once_goes d id (answered q a)) (once_goes d id (once d id (answered q a)))

@@ -1,57 +1,11 @@
 -- An operation of a run inside a transaction: where it stands among the answers that are known, and in which transaction.
-use Rattle.std.proofs.Common.{◌≡◌, inl, inr, take, ℕ, ◌<◌, Bool, true, false, List, [], ◌∷◌, ◌++◌, length, length-append, Option, None, Some, refl, ap, sym, ◌∙◌, ◌&&◌, ◌||◌, subst, append_assoc, IsTrue, is_some, arith}
-use Rattle.std.specs.FinMap as map
-use Rattle.std.specs.Ordering.{is_eq}
-use Rattle.std.proofs.lemmas.Cmp.{tied_itself}
-use Rattle.beldi_value.specs.declared.id.IntentId.{IntentId}
-use Rattle.beldi_value.specs.declared.place.Owner.TheVariants.{Tx as ByTx}
-use Rattle.beldi_value.specs.declared.place.Caller.{Caller}
-use Rattle.beldi_value.specs.declared.place.TxId.{TxId}
-use Rattle.beldi_tree.specs.declared.deployment.Deployment.{Deployment}
-use Rattle.beldi_lang.specs.declared.effect.Answer.{Answer}
-use Rattle.beldi_lang.specs.declared.effect.Effect.{Effect}
-use Rattle.beldi_lang.specs.declared.effect.Effect.TheVariants as effect
-use Rattle.beldi_lang.specs.Wants.{wants_answer}
-use Rattle.beldi_lang.proofs.Resumes.{few_answers}
-use Rattle.beldi_row.specs.Log.{note_at}
-use Rattle.beldi_row.specs.Table.{Rows, set_row}
-use Rattle.beldi_row.specs.declared.key.Kind.{Kind}
-use Rattle.beldi_row.specs.declared.row.Row.{Row}
-use Rattle.beldi_row.specs.declared.row.Row.TheVariants as rows
-use Rattle.beldi_intent.specs.Intent.{root_key}
-use Rattle.beldi_txn.specs.declared.tx.TxAt.{TxAt}
-use Rattle.beldi_row.specs.declared.notes.Note.TheVariants as note
-use Rattle.beldi_plain.specs.Item.{Item, item_total}
-use Rattle.beldi_plain.specs.Operation.{touched}
-use Rattle.beldi_plain.specs.Plain.{Instance, effect_of, effect_before}
-use Rattle.beldi_order.specs.Sane.{IsAnswer}
-use Rattle.beldi_order.specs.Txs.{Txs, effect_after, or_own, tx_after, tx_by, tx_now, txs_after, txs_by}
-use Rattle.beldi_order.proofs.Maps.{same_some}
-use Rattle.beldi_step.specs.declared.run.Begun.{Begun}
-use Rattle.beldi_step.specs.declared.run.RunTx.{RunTx}
-use Rattle.beldi_step.specs.declared.run.RunTx.TheVariants.{Own, Inherited}
-use Rattle.beldi_step.specs.declared.run.Run.{Run}
-use Rattle.beldi_step.specs.declared.run.Says.TheVariants as says
-use Rattle.beldi_step.specs.declared.run.Stage.TheVariants as stage
-use Rattle.beldi_step.specs.Host.{Core}
-use Rattle.beldi_step.specs.Run.{begin_of, place_of, tx_of}
-use Rattle.beldi_txn.specs.TxTurn.{Fits}
-use Rattle.beldi_known.specs.Beside.{is_begin}
-use Rattle.beldi_known.specs.Contents.{content_of}
-use Rattle.beldi_known.specs.InsideLaws.{IsOpen}
-use Rattle.beldi_known.specs.Known.{ahead_by, ended_by, moved, got_before, got_by, is_item, is_on, is_tx, last_step, tx_end}
-use Rattle.beldi_known.specs.Laws.{IsFront, IsBehind}
-use Rattle.beldi_known.specs.Matches.{LocksetMatches}
-use Rattle.beldi_known.proofs.AtFront.{note_is_ahead}
-use Rattle.beldi_known.proofs.Lines.{opens_are_open}
-use Rattle.beldi_known.proofs.Frame.{moved_one}
-use Rattle.beldi_known.proofs.FrameAt.{known_set}
-use Rattle.beldi_known.proofs.Locks.{tx_self}
-use Rattle.beldi_known.proofs.OwnTx.{own as own_is}
-use Rattle.beldi_known.proofs.Participants.{now_open}
-use Rattle.beldi_known.proofs.Rows.{is_intent_key, no_root, set_others}
-use Rattle.beldi_laws.specs.Right.{Right, Knows, StageOk}
-use Rattle.beldi_laws.specs.Inside.{AtStage, InItem, InOperation, Inside, IsOf, TookPart}
+use Rattle.beldi_laws.proofs.Names.{Answer, AtStage, Begun, Bool, ByTx, Caller, Core, Deployment, Effect, Fits, InItem, InOperation, Inherited, Inside, Instance, IntentId, IsAnswer, IsBehind, IsFront, IsOf, IsOpen, IsTrue, Item, Kind, Knows, List, LocksetMatches, None, Option, Own, Right, Row, Rows, Run, RunTx, Some, StageOk, TookPart, TxAt, TxId, Txs, [], ahead_by, ap, append_assoc, arith, begin_of, content_of, effect_after, effect_before, effect_of, ended_by, false, few_answers, got_before, got_by, inl, inr, is_begin, is_eq, is_intent_key, is_item, is_on, is_some, is_tx, item_total, known_set, last_step, length, length-append, moved, moved_one, no_root, note_at, note_is_ahead, now_open, opens_are_open, or_own, own_is, place_of, refl, root_key, same_some, set_others, set_row, subst, sym, take, tied_itself, touched, true, tx_after, tx_by, tx_end, tx_now, tx_of, tx_self, txs_after, txs_by, wants_answer, ℕ, ◌&&◌, ◌++◌, ◌<◌, ◌||◌, ◌∙◌, ◌∷◌, ◌≡◌}
+use Rattle.beldi_laws.proofs.Names.effect
+use Rattle.beldi_laws.proofs.Names.map
+use Rattle.beldi_laws.proofs.Names.note
+use Rattle.beldi_laws.proofs.Names.rows
+use Rattle.beldi_laws.proofs.Names.says
+use Rattle.beldi_laws.proofs.Names.stage
 use Rattle.beldi_laws.proofs.Grown.{grown_same}
 use Rattle.beldi_laws.proofs.Moves.{Kept, SameRoots, Stays}
 use Rattle.beldi_laws.proofs.OpenOf.{open_begun, open_in, open_tx, own_begin}

@@ -1,31 +1,8 @@
 -- The turns of a run that carries a transaction out, by its stages: an operation up to its lock and past it, the decision, and the visits.
-use Rattle.std.proofs.Common.{◌≡◌, ◌∙◌, ℕ, Bool, true, Option, Some, ap, refl, sym, subst}
-use Rattle.std.specs.FinMap as map
-use Rattle.beldi_value.specs.declared.place.TxId.{TxId}
-use Rattle.beldi_tree.specs.declared.deployment.Deployment.{Deployment}
-use Rattle.beldi_lang.specs.declared.effect.Effect.{Effect}
-use Rattle.beldi_lang.specs.declared.effect.Effect.TheVariants.{Read, Write, CondWrite, End}
-use Rattle.beldi_book.specs.Order.{count_changes}
-use Rattle.beldi_row.specs.Table.{Rows}
-use Rattle.beldi_order.specs.Txs.{tx_after}
-use Rattle.beldi_plain.specs.Operation.{touched}
-use Rattle.beldi_txn.specs.TxTurn.{Fits}
-use Rattle.beldi_txn.specs.declared.tx.TxAt.{TxAt}
-use Rattle.beldi_txn.specs.declared.tx.TxAt.TheVariants as at
-use Rattle.beldi_txn.specs.declared.end.Visit.{Visit}
-use Rattle.beldi_step.specs.declared.run.Run.{Run}
-use Rattle.beldi_step.specs.declared.run.Begun.{Begun}
-use Rattle.beldi_step.specs.declared.run.Mark.{Mark}
-use Rattle.beldi_step.specs.declared.run.OpenTx.{OpenTx}
-use Rattle.beldi_step.specs.declared.run.RunTx.{RunTx}
-use Rattle.beldi_step.specs.declared.run.RunTx.TheVariants.{Own, Inherited}
-use Rattle.beldi_step.specs.declared.run.Stage.{Stage}
-use Rattle.beldi_step.specs.declared.run.Stage.TheVariants as stage
-use Rattle.beldi_step.specs.Run.{own_tx, tx_of, turned_by, stage_asks, stage_says}
-use Rattle.beldi_step.specs.Host.{Core, turn_next}
-use Rattle.beldi_known.specs.Beside.{is_begin}
-use Rattle.beldi_laws.specs.Right.{Right, Knows, MarkOk, is_past}
-use Rattle.beldi_laws.specs.Inside.{Inside, AtStage, InItem}
+use Rattle.beldi_laws.proofs.Names.{AtStage, Begun, Bool, CondWrite, Core, Deployment, Effect, End, Fits, InItem, Inherited, Inside, Knows, Mark, MarkOk, OpenTx, Option, Own, Read, Right, Rows, Run, RunTx, Some, Stage, TxAt, TxId, Visit, Write, ap, count_changes, is_begin, is_past, own_tx, refl, stage_asks, stage_says, subst, sym, touched, true, turn_next, turned_by, tx_after, tx_of, ℕ, ◌∙◌, ◌≡◌}
+use Rattle.beldi_laws.proofs.Names.at
+use Rattle.beldi_laws.proofs.Names.map
+use Rattle.beldi_laws.proofs.Names.stage
 use Rattle.beldi_laws.proofs.Deciding as deciding
 use Rattle.beldi_laws.proofs.Ended.{ends_outside}
 use Rattle.beldi_laws.proofs.InTx.{no_begin, opens}

@@ -1,37 +1,6 @@
 -- What a turn outside transactions keeps, over rows whose shadows are as before.
-use Rattle.std.proofs.Common.{◌≡◌, ℕ, true, false, [], Option, None, Some, is_some, refl}
-use Rattle.std.specs.FinMap as map
-use Rattle.std.specs.Ordering.{is_eq}
-use Rattle.beldi_value.specs.Id.{id_cmp}
-use Rattle.beldi_value.specs.declared.id.IntentId.{IntentId}
-use Rattle.beldi_value.specs.declared.place.Owner.TheVariants.{Tx}
-use Rattle.beldi_value.specs.declared.place.TxId.{TxId}
-use Rattle.beldi_tree.specs.declared.deployment.Deployment.{Deployment}
-use Rattle.beldi_lang.specs.declared.effect.Answer.{Answer}
-use Rattle.beldi_row.specs.Table.{Rows, set_row}
-use Rattle.beldi_row.specs.Act.{act}
-use Rattle.beldi_row.specs.declared.act.Act.{Act}
-use Rattle.beldi_row.specs.Key.{RowKey}
-use Rattle.beldi_row.specs.declared.row.Row.{Row}
-use Rattle.beldi_plain.specs.Item.{Item}
-use Rattle.beldi_plain.specs.Plain.{Instance, answered, value_at, with_instance}
-use Rattle.beldi_plain.specs.Piece.{tx_begun}
-use Rattle.beldi_order.specs.Txs.{tx_now}
-use Rattle.beldi_order.proofs.Entries.{grows_self}
-use Rattle.beldi_order.proofs.Moved.{Items}
-use Rattle.beldi_step.specs.Host.{Core}
-use Rattle.beldi_known.specs.Contents.{content_of, shadow_key}
-use Rattle.beldi_known.specs.InsideLaws.{Goes}
-use Rattle.beldi_known.specs.Known.{at_once, moved}
-use Rattle.beldi_known.specs.Listed.{listed}
-use Rattle.beldi_known.specs.Matches.{Matches}
-use Rattle.beldi_known.proofs.Acts.{is_shadow}
-use Rattle.beldi_known.proofs.Acting.{rows_go}
-use Rattle.beldi_known.proofs.Lists.{elsewhere as log_elsewhere}
-use Rattle.beldi_known.proofs.NoTx.{IsOutside, outside_parts}
-use Rattle.beldi_known.proofs.Outsides.{Apart, goes_one, goes_set, got_new, got_next, outside_no_end, set_new, set_next, value_of}
-use Rattle.beldi_laws.specs.Inside.{Frame}
-use Rattle.beldi_laws.specs.Right.{Right}
+use Rattle.beldi_laws.proofs.Names.{Act, Answer, Apart, Core, Deployment, Frame, Goes, Instance, IntentId, IsOutside, Item, Items, Matches, None, Option, Right, Row, RowKey, Rows, Some, Tx, TxId, [], act, answered, at_once, content_of, false, goes_one, goes_set, got_new, got_next, grows_self, id_cmp, is_eq, is_shadow, is_some, listed, log_elsewhere, moved, outside_no_end, outside_parts, refl, rows_go, set_new, set_next, set_row, shadow_key, true, tx_begun, tx_now, value_at, value_of, with_instance, ℕ, ◌≡◌}
+use Rattle.beldi_laws.proofs.Names.map
 use Rattle.beldi_laws.proofs.Closing.{settled_after}
 use Rattle.beldi_laws.proofs.Frames.{NoFinish, frame_still, items_stay, nobody_new}
 use Rattle.beldi_laws.proofs.Moves.{Stays}

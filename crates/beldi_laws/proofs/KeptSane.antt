@@ -1,30 +1,9 @@
 -- What is known stays sane, as turns outside transactions move it, and calls and returns.
-use Rattle.std.proofs.Common.{ℕ, true, false, ◌≡◌, Option, Some, None, List, ◌∙◌, refl, ap, sym, subst, ◌||◌, is_some, length, Bool}
-use Rattle.std.specs.FinMap as map
-use Rattle.beldi_value.specs.Id.{child_of, root_of}
-use Rattle.beldi_value.specs.declared.id.IntentId.{IntentId}
-use Rattle.beldi_value.specs.declared.outcome.Outcome.{Outcome}
-use Rattle.beldi_value.specs.declared.place.Caller.{Caller}
-use Rattle.beldi_value.specs.declared.place.TxId.{TxId}
-use Rattle.beldi_value.specs.declared.value.Value.{Value}
-use Rattle.beldi_tree.specs.declared.deployment.Deployment.{Deployment}
-use Rattle.beldi_lang.specs.declared.effect.Answer.{Answer}
-use Rattle.beldi_lang.specs.declared.effect.Answer.TheVariants as answer
-use Rattle.beldi_lang.specs.declared.effect.Effect.TheVariants as effect
-use Rattle.beldi_lang.specs.Callee.{answer_of}
-use Rattle.beldi_plain.specs.Plain.{Instance, effect_of, new_instance, ended, callee_of, calls_at}
-use Rattle.beldi_order.specs.Sane.{call_of, IsAnswer}
-use Rattle.beldi_step.specs.Run.{is_waited, place_of}
-use Rattle.beldi_known.specs.Known.{Known, at_once, moved}
-use Rattle.beldi_order.specs.Txs.{tx_now, txs_after, effect_after}
-use Rattle.beldi_known.specs.Sane.{Sane}
+use Rattle.beldi_laws.proofs.Names.{Answer, Bool, Caller, Deployment, Effect, Instance, IntentId, IsAnswer, IsOutside, Known, List, None, Option, Outcome, Sane, Some, TxId, Value, aborts_inside, answer_of, ap, at_once, call_of, callee_of, calls_at, child_of, effect_after, effect_of, end_is, ended, false, inside_is, is_begin, is_some, is_waited, length, moved, new_instance, not_waited, place_of, refl, root_of, sane_answered, sane_bound, sane_called, sane_ended, sane_returned, sane_sent, subst, sym, true, tx_now, txs_after, ℕ, ◌||◌, ◌∙◌, ◌≡◌}
+use Rattle.beldi_laws.proofs.Names.answer
+use Rattle.beldi_laws.proofs.Names.effect
+use Rattle.beldi_laws.proofs.Names.map
 use Rattle.beldi_laws.proofs.Outside.{is_call, is_of_tx}
-use Rattle.beldi_known.proofs.NoTx.{IsOutside}
-use Rattle.beldi_known.specs.Beside.{is_begin}
-use Rattle.beldi_lang.specs.declared.effect.Effect.{Effect}
-use Rattle.beldi_known.proofs.Sanes.{sane_bound, sane_answered, sane_called, sane_sent, sane_returned, sane_ended, not_waited}
-use Rattle.beldi_known.proofs.Phases.{end_is, inside_is}
-use Rattle.beldi_known.proofs.Begins.{aborts_inside}
 
 -- ---- of bodies
 -- an End and an Abort stand in a transaction, and a Begin outside

@@ -9,6 +9,7 @@ mod Committed
 mod Deciding
 mod Ended
 mod Endings
+pub mod Events
 mod Fallen
 mod Frames
 mod GivingBack
@@ -17,11 +18,18 @@ mod InTx
 mod InsideTurns
 mod Keeping
 mod KeptSane
+pub mod Listing
+pub mod Lives
 mod Locking
 mod Members
+pub mod Moves
+mod Names
+pub mod OneAnswer
+pub mod OneEvent
 mod OpenOf
 mod Operations
 mod Others
+pub mod Outside
 mod Owed
 mod Passing
 mod Readings
@@ -31,17 +39,10 @@ mod Returns
 mod Settling
 mod Short
 mod Shown
+pub mod Standing
+pub mod Starts
 mod Turns
 mod Visiting
 mod Visits
 mod Widths
 mod Working
-pub mod Events
-pub mod Listing
-pub mod Lives
-pub mod Moves
-pub mod OneAnswer
-pub mod OneEvent
-pub mod Outside
-pub mod Standing
-pub mod Starts

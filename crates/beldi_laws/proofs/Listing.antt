@@ -1,37 +1,8 @@
 -- The listing of the rows is that of the plain state.
-use Rattle.std.proofs.Common.{◌≡◌, ℕ, zero, Bool, true, false, cond, ◌&&◌, T, List, [], ◌∷◌, ◌++◌, Option, None, Some, refl, ap, sym, ◌∙◌, subst, flat_map}
-use Rattle.std.specs.FinMap as map
-use Rattle.std.specs.FinMap.{entries_sorted, get-entries}
-use Rattle.std.specs.FinMap.Entries.{find, is_sorted, below_all, same_entries}
-use Rattle.std.specs.Ordering.{is_eq, is_lt}
-use Rattle.std.specs.declared.cmp.Ordering.{Ordering}
-use Rattle.std.specs.declared.cmp.Ordering.TheVariants.{Less, Equal, Greater}
-use Rattle.std.proofs.lemmas.Cmp.{tied_itself}
-use Rattle.beldi_value.specs.declared.value.Value.{Value}
-use Rattle.beldi_value.specs.declared.value.Value.TheVariants.{Null}
-use Rattle.beldi_tree.specs.declared.deployment.Deployment.{Deployment}
-use Rattle.beldi_tree.specs.Bindings.{or_null}
-use Rattle.beldi_book.specs.Text.{item_text}
-use Rattle.beldi_row.specs.Key.{RowKey, key_cmp}
-use Rattle.beldi_row.specs.declared.key.Kind.{Kind}
-use Rattle.beldi_row.specs.declared.key.Kind.TheVariants as kinds
-use Rattle.beldi_row.specs.declared.row.Row.{Row}
-use Rattle.beldi_row.specs.declared.row.Row.TheVariants as rows
-use Rattle.beldi_row.specs.Table.{Rows}
-use Rattle.beldi_plain.specs.Item.{Item, item_cmp, item_total, item_exact}
-use Rattle.beldi_plain.specs.Plain.{PlainState}
-use Rattle.beldi_plain.specs.Legal.{run_of}
-use Rattle.beldi_plain.specs.Listing.{listing_of}
-use Rattle.beldi_step.specs.Host.{Core}
-use Rattle.beldi_step.specs.Tables.{tables_text, row_line, line_at, value_line, shown_under}
-use Rattle.beldi_known.specs.Contents.{head_key}
-use Rattle.beldi_known.specs.Listed.{listed_under, listed}
-use Rattle.beldi_daal.specs.Content.{content_in}
-use Rattle.beldi_laws.specs.Right.{Right}
-use Rattle.beldi_row.proofs.Gets.{key_same}
-use Rattle.beldi_known.proofs.Rows.{head_order}
-use Rattle.beldi_order.specs.Laws.{KeepsNoNull}
-use Rattle.beldi_order.proofs.Nulls.{no_null}
+use Rattle.beldi_laws.proofs.Names.{Bool, Core, Deployment, Equal, Greater, Item, KeepsNoNull, Kind, Less, List, None, Null, Option, Ordering, PlainState, Right, Row, RowKey, Rows, Some, T, Value, [], ap, below_all, cond, content_in, entries_sorted, false, find, flat_map, get-entries, head_key, head_order, is_eq, is_lt, is_sorted, item_cmp, item_exact, item_text, item_total, key_cmp, key_same, line_at, listed, listed_under, listing_of, no_null, or_null, refl, row_line, run_of, same_entries, shown_under, subst, sym, tables_text, tied_itself, true, value_line, zero, ℕ, ◌&&◌, ◌++◌, ◌∙◌, ◌∷◌, ◌≡◌}
+use Rattle.beldi_laws.proofs.Names.kinds
+use Rattle.beldi_laws.proofs.Names.map
+use Rattle.beldi_laws.proofs.Names.rows
 use Rattle.beldi_laws.proofs.Standing.{same_run}
 
 -- ---- the entries of rows, as entries of items

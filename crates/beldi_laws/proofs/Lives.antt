@@ -1,49 +1,14 @@
 -- Live runs, and what they know when the book has grown.
-use Rattle.std.proofs.Common.{◌≡◌, ℕ, ◌+◌, ◌-◌, ◌<◌, ◌≤◌, Bool, true, false, cond, List, [], ◌∷◌, ◌++◌, length, length-append, Option, None, Some, refl, ap, sym, ◌∙◌, subst, IsTrue, is_some, append_assoc, append-nil, arith}
-use Rattle.std.specs.FinMap as map
-use Rattle.std.specs.FinMap.{FinMap, nat_cmp-IsAntisymmetric, get-insert, get-remove, len-insert, len-remove}
-use Rattle.std.specs.Cmp.{nat_cmp_total}
-use Rattle.std.specs.Ordering.{is_eq, nat_cmp}
-use Rattle.std.specs.Cmp.{Equal-is}
-use Rattle.beldi_value.specs.Id.{child_of}
-use Rattle.beldi_value.specs.declared.id.IntentId.{IntentId}
-use Rattle.beldi_value.specs.declared.outcome.Outcome.{Outcome}
-use Rattle.beldi_value.specs.declared.place.Caller.{Caller}
-use Rattle.beldi_value.specs.declared.value.Value.{Value}
-use Rattle.beldi_tree.specs.declared.deployment.Deployment.{Deployment}
-use Rattle.beldi_lang.specs.declared.effect.Answer.{Answer}
-use Rattle.beldi_lang.specs.declared.effect.Effect.{Effect}
-use Rattle.beldi_lang.specs.declared.effect.Effect.TheVariants.{Read}
-use Rattle.beldi_lang.specs.Machine.{IsAt}
-use Rattle.beldi_book.specs.declared.entry.Entry.{Entry}
-use Rattle.beldi_book.specs.Order.{changes_of, count_changes}
-use Rattle.beldi_book.proofs.Orders.{changes_more}
-use Rattle.beldi_plain.specs.Item.{Item}
-use Rattle.beldi_plain.specs.Plain.{Instance, PlainState}
-use borrow.Author.Tests.{ltb-true, ltb-false}
-use Rattle.std.specs.Prelude.{nat_lt}
-use Rattle.beldi_lang.specs.declared.effect.Answer.TheVariants as answer
-use Rattle.beldi_book.specs.declared.entry.Entry.TheVariants as entry
-use Rattle.beldi_plain.specs.Plain.{answered}
-use Rattle.beldi_order.specs.Laws.{IsLast, with_answer, IsKeptLate}
-use Rattle.beldi_row.specs.declared.row.Body.{Body}
-use Rattle.beldi_order.proofs.Maps.{changed, same_some, elsewhere, here}
-use Rattle.beldi_order.specs.Grown.{Grown, GrownAt, Grows}
-use Rattle.beldi_step.specs.declared.run.Run.{Run}
-use Rattle.beldi_step.specs.declared.run.RunAt as standing
-use Rattle.beldi_step.specs.declared.run.RunAt.TheVariants.{Looks, Registers, Begins}
-use Rattle.beldi_step.specs.declared.run.Begun.{Begun}
-use Rattle.beldi_step.specs.declared.run.Stage.{Stage}
-use Rattle.beldi_step.specs.declared.run.Stage.TheVariants as stage
-use Rattle.beldi_step.specs.Host.{put_run, most_runs}
-use Rattle.beldi_step.proofs.PutRun.{put_got}
-use Rattle.beldi_call.specs.declared.async_call.AsyncAt.TheVariants as async
-use Rattle.beldi_call.specs.declared.call.CallAt.TheVariants as call
-use Rattle.beldi_laws.specs.Right.{WasThere, Keeps, PlaceOk, SeenDone, Knows, KnowsAt, RunAt, RunsMatch, StageOk, open_of}
-use Rattle.beldi_laws.specs.Inside.{Inside}
-use Rattle.beldi_row.specs.Table.{Rows}
-use Rattle.beldi_known.specs.Rows.{IsBodyOf, body_of}
-use Rattle.beldi_known.specs.Known.{Known, moved}
+use Rattle.beldi_laws.proofs.Names.{Answer, Begins, Begun, Body, Bool, Caller, Deployment, Effect, Entry, Equal-is, FinMap, Grown, GrownAt, Grows, Inside, Instance, IntentId, IsAt, IsBodyOf, IsKeptLate, IsLast, IsTrue, Item, Keeps, Known, Knows, KnowsAt, List, Looks, None, Option, Outcome, PlaceOk, PlainState, Read, Registers, Rows, Run, RunAt, RunsMatch, SeenDone, Some, Stage, StageOk, Value, WasThere, [], answered, ap, append-nil, append_assoc, arith, body_of, changed, changes_more, changes_of, child_of, cond, count_changes, elsewhere, false, get-insert, get-remove, here, is_eq, is_some, len-insert, len-remove, length, length-append, ltb-false, most_runs, moved, nat_cmp, nat_cmp-IsAntisymmetric, nat_cmp_total, nat_lt, open_of, put_got, put_run, refl, same_some, subst, sym, true, with_answer, ℕ, ◌++◌, ◌+◌, ◌<◌, ◌∙◌, ◌∷◌, ◌≡◌, ◌≤◌}
+use Rattle.beldi_laws.proofs.Names.answer
+use Rattle.beldi_laws.proofs.Names.async
+use Rattle.beldi_laws.proofs.Names.call
+use Rattle.beldi_laws.proofs.Names.entry
+use Rattle.beldi_laws.proofs.Names.map
+use Rattle.beldi_laws.proofs.Names.stage
+use Rattle.beldi_laws.proofs.Names.standing
+use Rattle.std.proofs.Common.{◌-◌}
+use borrow.Author.Tests.{ltb-true}
 use Rattle.beldi_laws.proofs.Grown.{moved_longer, tx_stays}
 
 -- ---- a run knows what it knew, when the book and the plain state have grown

@@ -1,99 +1,21 @@
 -- The turns of an operation of a transaction up to its lock: a read looks whether a value was kept for it, the row is put that says that
 -- the lock is asked for, and the lock of the item is tried.
-use Rattle.std.proofs.Common.{◌≡◌, ◌∙◌, ℕ, ◌<◌, Bool, true, false, List, [], ◌∷◌, ◌++◌, inl, inr, length, Option, None, Some, is_some, refl, ap, sym, subst, arith, if◌then◌else◌}
-use Rattle.std.specs.FinMap as map
-use Rattle.std.specs.Ordering.{is_eq}
-use Rattle.beldi_value.specs.Id.{age_of, id_cmp, is_older}
-use Rattle.beldi_value.specs.declared.id.IntentId.{IntentId}
-use Rattle.beldi_value.specs.declared.outcome.Cause.{Cause}
-use Rattle.beldi_value.specs.declared.place.Owner.{Owner}
-use Rattle.beldi_value.specs.declared.place.Owner.TheVariants.{Tx as ByTx}
-use Rattle.beldi_value.specs.declared.place.Place.{Place}
-use Rattle.beldi_value.specs.declared.place.TxId.{TxId}
-use Rattle.beldi_value.specs.declared.value.Value.{Value}
-use Rattle.beldi_value.specs.declared.value.Value.TheVariants as value
-use Rattle.beldi_tree.specs.declared.deployment.Deployment.{Deployment}
-use Rattle.beldi_lang.specs.declared.effect.Answer.{Answer}
-use Rattle.beldi_lang.specs.declared.effect.Answer.TheVariants as answer
-use Rattle.beldi_lang.specs.declared.effect.Effect.{Effect}
-use Rattle.beldi_lang.specs.declared.effect.Effect.TheVariants as effect
-use Rattle.beldi_row.specs.declared.act.Act.{Act}
-use Rattle.beldi_row.specs.declared.act.Act.TheVariants.{Look, PutLockset, MakeCell}
-use Rattle.beldi_row.specs.declared.key.Kind.TheVariants as kinds
-use Rattle.beldi_row.specs.declared.notes.Note.{Note}
+use Rattle.beldi_laws.proofs.Names.{Act, Answer, AtItem, Begun, Bool, ByTx, Cause, Content, Core, Deployment, DidAs, DidOnce, Effect, Fits, Found, Frame, Goes, HasLock, InOperation, Inside, IntentId, IsAnswer, IsDeath, IsFreePlace, IsFront, Item, Known, Knows, List, Lock, LockAt, LockTold, Lockset, LoggedTurn, Logs, Look, Make, MakeCell, Matches, None, Note, OfBegin, Option, Owner, Place, Plain, PutLockset, Query, Released, Right, Row, RowKey, Rows, Run, RunTx, Sane, SaneInstance, Says, Some, SoundAt, TxAt, TxId, Value, WriteAt, WriteGoes, WriteWalk, [], act, age_of, ahead_by, ahead_front, ahead_set, ap, arith, asks_of, begin_of, behind_asks, behind_locks, behind_looks, behind_looks_dead, by_op, content_apart, content_here, content_in, content_of, death_answer, death_in, death_is_older, deaths_go, decision_key, did_lists, died, died_at, died_lists, dies, dies_inside, done_to, effect_after, effect_of, end_place, ended_by, false, given_goes, given_in, given_of, grows_self, has_asked, head_key, held, id_cmp, if◌then◌else◌, inl, inr, inserted, is_data, is_eq, is_item, is_log, is_older, is_shadow, is_some, item_asks, item_goes, item_of, key_cmp, kinds_apart, last_step, length, listed, lists_same, lock_answer, lock_did, lock_in, lock_is_there, lock_leads, lock_on, lock_or, locked_goes, lockset_ahead, lockset_key, lockset_put, log_key, looked, moved, no_row, none_out, note_at, note_goes, note_here, note_is_ahead, note_pushed, noted, noted_or, notes_stay, op_act, other_owner, owed_lockset, place_eq, place_of, place_same, put_goes, put_lockset, refl, rows_after, rows_go, said, same_some, sane_died, set_here, set_others, set_row, shadow_key, subst, sym, told, told_by, touched, true, true_false, turn_next, turned_by, tx_after, tx_end, tx_here_asks, tx_here_says, tx_now, tx_of, tx_says, unchanged, undecided, value_at, walk_so, with_note, write_asks, write_goes, ℕ, ◌++◌, ◌<◌, ◌∙◌, ◌∷◌, ◌≡◌}
+use Rattle.beldi_laws.proofs.Names.answer
+use Rattle.beldi_laws.proofs.Names.at
+use Rattle.beldi_laws.proofs.Names.effect
+use Rattle.beldi_laws.proofs.Names.kinds
+use Rattle.beldi_laws.proofs.Names.map
+use Rattle.beldi_laws.proofs.Names.rows
+use Rattle.beldi_laws.proofs.Names.says
+use Rattle.beldi_laws.proofs.Names.stage
+use Rattle.beldi_laws.proofs.Names.value
+use Rattle.beldi_laws.proofs.Names.wait
+use Rattle.beldi_laws.proofs.Names.writes
 use Rattle.beldi_row.specs.declared.notes.Note.TheVariants as notes
-use Rattle.beldi_row.specs.declared.row.Row.{Row}
-use Rattle.beldi_row.specs.declared.row.Row.TheVariants as rows
-use Rattle.beldi_row.specs.Act.{act, other_owner}
-use Rattle.beldi_row.specs.Key.{RowKey, key_cmp}
-use Rattle.beldi_row.specs.Log.{note_at, place_eq}
-use Rattle.beldi_row.specs.Table.{Rows, set_row}
-use Rattle.beldi_row.proofs.Logs.{note_here, note_pushed, place_same}
-use Rattle.beldi_row.proofs.Unchanged.{looked, unchanged}
-use Rattle.beldi_walk.specs.declared.query.Query.{Query}
-use Rattle.beldi_walk.specs.Query.{rows_after, said, told_by}
-use Rattle.beldi_daal.specs.declared.cell.CellOp.TheVariants.{Lock}
-use Rattle.beldi_daal.specs.declared.cell.WriteAt.{WriteAt}
-use Rattle.beldi_daal.specs.declared.cell.WriteAt.TheVariants.{Try, Make}
-use Rattle.beldi_daal.specs.declared.cell.WriteGoes.{WriteGoes}
-use Rattle.beldi_daal.specs.declared.cell.WriteGoes.TheVariants as writes
-use Rattle.beldi_daal.specs.declared.walk.Item.TheVariants.{Plain}
-use Rattle.beldi_daal.specs.declared.walk.WriteWalk.{WriteWalk}
-use Rattle.beldi_daal.specs.Cell.{op_act, write_asks, write_goes}
-use Rattle.beldi_daal.specs.Content.{Content, content_in, SoundAt}
-use Rattle.beldi_daal.specs.Logged.{dies, died_at, done_to, DidAs, DidOnce, Logs, LoggedTurn}
-use Rattle.beldi_daal.specs.Walk.{walk_so}
-use Rattle.beldi_daal.proofs.Logged.{by_op}
-use Rattle.beldi_daal.proofs.Stays.{notes_stay}
-use Rattle.beldi_lock.specs.declared.lock.LockAt.{LockAt}
-use Rattle.beldi_lock.specs.declared.lock.LockAt.TheVariants.{Lockset, Item as AtItem}
-use Rattle.beldi_lock.specs.Lock.{item_goes, note_goes, put_goes}
-use Rattle.beldi_readlog.specs.ReadLog.{given_in, given_of, log_key}
-use Rattle.beldi_txn.specs.declared.tx.TxAt.{TxAt}
-use Rattle.beldi_txn.specs.declared.tx.TxAt.TheVariants as at
-use Rattle.beldi_txn.specs.End.{end_place}
-use Rattle.beldi_txn.specs.Tx.{asks_of, given_goes, item_asks, item_of, lock_leads, locked_goes}
-use Rattle.beldi_txn.specs.TxTurn.{Fits, HasLock}
-use Rattle.beldi_plain.specs.Item.{Item}
-use Rattle.beldi_plain.specs.Operation.{touched}
-use Rattle.beldi_plain.specs.Plain.{effect_of, value_at}
-use Rattle.beldi_order.specs.Sane.{IsAnswer, IsDeath}
-use Rattle.beldi_order.specs.Txs.{effect_after, tx_after, tx_now}
-use Rattle.beldi_order.proofs.Entries.{grows_self}
-use Rattle.beldi_order.proofs.Maps.{here as inserted, same_some}
-use Rattle.beldi_step.specs.declared.run.Begun.{Begun}
-use Rattle.beldi_step.specs.declared.run.RunTx.{RunTx}
-use Rattle.beldi_step.specs.declared.run.Run.{Run}
-use Rattle.beldi_step.specs.declared.run.Says.{Says}
-use Rattle.beldi_step.specs.declared.run.Says.TheVariants as says
-use Rattle.beldi_step.specs.declared.run.Stage.TheVariants as stage
-use Rattle.beldi_step.specs.declared.run.Wait.TheVariants as wait
-use Rattle.beldi_step.specs.Host.{Core, turn_next}
-use Rattle.beldi_step.specs.Run.{begin_of, place_of, tx_of, turned_by, tx_here_asks, tx_here_says, tx_says}
-use Rattle.beldi_known.specs.Contents.{content_of, head_key, lockset_key, shadow_key}
-use Rattle.beldi_known.specs.Frame.{lock_in}
-use Rattle.beldi_known.specs.Known.{Known, ahead_by, ended_by, is_item, last_step, moved, owed_lockset, tx_end}
-use Rattle.beldi_known.specs.InsideLaws.{Goes}
-use Rattle.beldi_known.specs.Laws.{IsFront}
-use Rattle.beldi_known.specs.Listed.{listed}
-use Rattle.beldi_known.specs.Matches.{Matches, lockset_ahead}
-use Rattle.beldi_known.specs.Sane.{Sane, SaneInstance}
-use Rattle.beldi_step.specs.Tables.{decision_key}
-use Rattle.beldi_known.proofs.Answers.{true_false}
-use Rattle.beldi_known.specs.Acts.{Told, died, held, lock_answer, lock_on, lock_or, noted, noted_or, put_lockset, with_note}
-use Rattle.beldi_known.proofs.Acts.{content_apart, content_here, is_data, is_shadow, kinds_apart, lock_did}
-use Rattle.beldi_known.proofs.Ahead.{ahead_front, ahead_set, none_out}
-use Rattle.beldi_known.proofs.AtFront.{lock_is_there, no_row, note_is_ahead}
-use Rattle.beldi_known.proofs.Behind.{LockTold, behind_asks, behind_locks, behind_looks, behind_looks_dead, death_in, told}
-use Rattle.beldi_known.proofs.Deaths.{death_is_older}
-use Rattle.beldi_known.proofs.Inside.{dies_inside, lockset_put}
-use Rattle.beldi_known.proofs.Acting.{deaths_go, rows_go}
-use Rattle.beldi_known.proofs.Lists.{did_lists, died_lists, elsewhere, is_log, lists_same}
-use Rattle.beldi_known.proofs.Begun.{undecided}
-use Rattle.beldi_known.proofs.Rows.{set_here, set_others}
-use Rattle.beldi_known.proofs.Sanes.{death_answer, sane_died}
-use Rattle.beldi_laws.specs.Right.{Right, Knows}
-use Rattle.beldi_laws.specs.Inside.{Found, Frame, InOperation, Inside, IsFreePlace, OfBegin, Released, has_asked}
+use Rattle.beldi_daal.specs.declared.cell.WriteAt.TheVariants.{Try}
+use Rattle.beldi_known.specs.Acts.{Told}
+use Rattle.beldi_known.proofs.Lists.{elsewhere}
 use Rattle.beldi_laws.proofs.Ages.{Holder, dies_so, free_of, holder_made, only_one}
 use Rattle.beldi_laws.proofs.Closing.{settled_after}
 use Rattle.beldi_laws.proofs.Frames.{NoFinish, frame_held, frame_item, frame_lockset, is_lockset, items_stay, no_finish, nobody_new, nobody_set}

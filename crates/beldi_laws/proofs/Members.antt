@@ -1,42 +1,12 @@
 -- Who took part in a transaction that has ended is who its end visits: the rows of calls lead from its owner to each of them, and to
 -- nobody else.
-use Rattle.std.proofs.Common.{◌≡◌, ◌∙◌, ℕ, ◌<◌, ◌≤◌, ◌==◌, Bool, true, false, List, [], ◌∷◌, ◌++◌, length, length-append, take, Option, None, Some, is_some, refl, ap, sym, subst, arith, eq-eqb, eqb-true, if◌then◌else◌}
-use Rattle.std.specs.FinMap as map
-use Rattle.std.specs.Option.{option_map}
-use Rattle.std.proofs.lemmas.Bool.{lt-ltb}
-use Rattle.beldi_value.specs.Id.{child_of, has_callees, has_no_hops}
-use Rattle.beldi_value.specs.declared.id.IntentId.{IntentId}
+use Rattle.beldi_laws.proofs.Names.{AllShort, AtEnd, Bool, CallMatches, Called, CalledBy, CallerOf, Deployment, Done, Instance, IntentId, IsAnswer, IsCall, IsCalled, IsMember, IsWay, IsWithin, Known, List, Matches, Member, None, Option, Outcome, Row, Rows, Sane, Some, TookPart, TxId, [], all_called, answer_given, ap, arith, begun_before, call_key, call_of, called_at, called_by, caller_in, child_of, effect_before, ended_by, eq-eqb, eqb-true, false, first_end, func_called, has_callees, has_no_hops, if◌then◌else◌, intent_key, is_some, key_in, length, length-append, lt-ltb, member_at, member_more, option_map, or_own, place_of, refl, result_of, same_some, subst, sym, take, true, tx_at, tx_by, tx_end, txs_after, visited_by, way_more, within_by, ℕ, ◌++◌, ◌<◌, ◌==◌, ◌∙◌, ◌∷◌, ◌≡◌, ◌≤◌}
+use Rattle.beldi_laws.proofs.Names.kinds
+use Rattle.beldi_laws.proofs.Names.map
+use Rattle.beldi_laws.proofs.Names.rows
 use Rattle.beldi_value.proofs.Callees.{no_root}
-use Rattle.beldi_value.specs.declared.outcome.Outcome.{Outcome}
-use Rattle.beldi_value.specs.declared.place.TxId.{TxId}
-use Rattle.beldi_tree.specs.declared.deployment.Deployment.{Deployment}
-use Rattle.beldi_lang.specs.declared.effect.Answer.TheVariants.{Done}
-use Rattle.beldi_row.specs.declared.key.Kind.TheVariants as kinds
-use Rattle.beldi_row.specs.declared.row.Row.{Row}
-use Rattle.beldi_row.specs.declared.row.Row.TheVariants as rows
-use Rattle.beldi_row.specs.Table.{Rows}
-use Rattle.beldi_plain.specs.Plain.{AllShort}
-use Rattle.beldi_plain.specs.Plain.{Instance, effect_before}
-use Rattle.beldi_order.specs.Sane.{CalledBy, IsAnswer, IsCalled, answer_given, call_of, within_by}
-use Rattle.beldi_order.specs.Txs.{or_own, tx_at, tx_by, txs_after}
-use Rattle.beldi_order.proofs.Maps.{same_some}
-use Rattle.beldi_step.specs.Run.{place_of}
-use Rattle.beldi_txn.specs.declared.way.Called.{Called}
-use Rattle.beldi_txn.specs.End.{first_end, visited_by}
-use Rattle.beldi_txn.specs.Invokes.{call_key, func_called}
-use Rattle.beldi_txn.specs.Visited.{AtEnd, IsCall, IsMember, IsWay, IsWithin, called_at}
-use Rattle.beldi_txn.specs.Way.{Member, callee_of, member_at}
-use Rattle.beldi_txn.proofs.Levels.{member_more, way_more}
-use Rattle.beldi_known.specs.Known.{Known, ended_by, tx_end}
-use Rattle.beldi_known.specs.Matches.{Matches}
-use Rattle.beldi_known.specs.Owed.{called_by, result_of}
-use Rattle.beldi_known.specs.Rows.{CallMatches}
-use Rattle.beldi_known.specs.Sane.{Sane}
-use Rattle.beldi_known.proofs.Callers.{CallerOf, all_called, begun_before, caller_in}
+use Rattle.beldi_txn.specs.Way.{callee_of}
 use Rattle.beldi_known.proofs.OwnTx.{Own}
-use Rattle.beldi_intent.specs.Intent.{intent_key}
-use Rattle.beldi_laws.specs.Inside.{TookPart}
-use Rattle.beldi_laws.specs.Stands.{key_in}
 use Rattle.beldi_laws.proofs.Ended.{before_end, tx_between}
 
 -- ---- ids

@@ -1,53 +1,11 @@
 -- The host after an event: what it makes of the table, and how the book and the runs went on.
-use Rattle.std.proofs.Common.{◌≡◌, ◌⊎◌, inl, inr, ℕ, ◌||◌, Bool, true, false, List, [], ◌∷◌, ◌++◌, if◌then◌else◌, Option, None, Some, Result, Ok, Err, refl, ap, sym, ◌∙◌, subst, is_some, append-nil, ◌&&◌}
-use Rattle.std.specs.Option.{option_map}
-use Rattle.std.specs.declared.alloc.AllocError.{AllocError}
-use Rattle.std.specs.FinMap as map
-use Rattle.beldi_value.specs.declared.id.IntentId.{IntentId}
-use Rattle.beldi_value.specs.declared.outcome.Outcome.{Outcome}
-use Rattle.beldi_tree.specs.declared.deployment.Deployment.{Deployment}
-use Rattle.beldi_book.specs.declared.entry.Entry.{Entry}
-use Rattle.beldi_book.specs.Order.{seen_of, SeenBounded}
-use Rattle.beldi_row.specs.KeyOrder.{key_exact}
-use Rattle.beldi_row.specs.Key.{RowKey}
-use Rattle.beldi_row.specs.declared.row.Row.{Row}
-use Rattle.beldi_row.specs.Act.{Tell}
-use Rattle.beldi_row.specs.Table.{Rows, set_row}
-use Rattle.beldi_walk.specs.declared.query.Query.{Query}
-use Rattle.beldi_walk.specs.Query.{Told, said, rows_after, told_by}
-use Rattle.beldi_plain.specs.Plain.{PlainState, reply_of}
-use Rattle.beldi_plain.specs.Entries.{after}
-use Rattle.beldi_plain.specs.Legal.{run_of}
-use Rattle.beldi_step.specs.declared.event.Seen.{Seen}
-use Rattle.beldi_step.specs.declared.event.Seen.TheVariants as seen
-use Rattle.beldi_step.specs.declared.run.Mark.{Mark}
-use Rattle.beldi_step.specs.declared.run.Run.{Run}
-use Rattle.beldi_step.specs.declared.run.Wait.{Wait}
-use Rattle.beldi_step.specs.declared.run.Wait.TheVariants as wait
-use Rattle.beldi_intent.specs.Intent.{root_key}
-use Rattle.beldi_step.specs.declared.run.TurnSays.{TurnSays}
-use Rattle.beldi_step.specs.Run.{Turned, says_of, callee_of}
-use Rattle.beldi_step.specs.Host.{Core, most_runs, is_crowded, has_run, with_run, put_run, entry_of, marked, made, started, may_start, after_turn, turned_core, turn_next, without_run}
-use borrow.Author.Tests.{leb-false}
-use Rattle.std.proofs.lemmas.Bool.{or_parts}
-use Rattle.beldi_laws.specs.Right.{Right, KnowsAt, RunAt, RunsMatch}
-use Rattle.beldi_laws.specs.Laws.{told_outcome, is_gone}
-use Rattle.beldi_row.proofs.Gets.{got}
-use Rattle.beldi_row.proofs.Unchanged.{unchanged}
-use Rattle.beldi_order.specs.Laws.{IsLast}
-use Rattle.beldi_order.proofs.Entries.{grows_self, after_grows}
-use Rattle.beldi_order.proofs.Maps.{changed, same_some}
-use Rattle.beldi_order.specs.Grown.{Grows}
-use Rattle.beldi_order.proofs.Growth.{change_last}
+use Rattle.beldi_laws.proofs.Names.{AllocError, Bool, Core, Deployment, Entry, Err, Frame, Grows, IntentId, IsFree, IsGuarded, IsLast, Known, KnowsAt, List, Mark, None, Ok, Option, Outcome, PlainState, Query, Result, Right, Row, RowKey, Rows, Run, RunAt, RunsMatch, Seen, SeenBounded, Some, Tell, Told, TurnSays, Turned, Wait, [], after, after_grows, after_turn, ap, append-nil, change_last, changed, entry_of, false, got, grows_self, has_run, if◌then◌else◌, inl, inr, is_crowded, is_gone, is_some, key_exact, leb-false, linear, made, marked, may_start, most_runs, nat_le, nat_lt, nothing, option_map, or_parts, put_run, refl, remove_put, reply_of, root_key, rows_after, run_of, said, same_some, says_of, seen_of, set_row, started, subst, sym, told_by, told_outcome, true, turn_next, turned_core, unchanged, with_run, without_run, ℕ, ◌&&◌, ◌++◌, ◌||◌, ◌∙◌, ◌∷◌, ◌≡◌, ◌⊎◌}
+use Rattle.beldi_laws.proofs.Names.map
+use Rattle.beldi_laws.proofs.Names.seen
+use Rattle.beldi_laws.proofs.Names.wait
+use Rattle.beldi_step.specs.Run.{callee_of}
 use Rattle.beldi_laws.proofs.Lives.{InsideOn, PlacesOn, places_last, places_same, runs_on, runs_put, runs_more, runs_less, runs_before, numbers_put}
-use Rattle.beldi_step.proofs.PutRun.{remove_put}
-use Rattle.beldi_book.specs.Order.{linear}
-use Rattle.beldi_plain.specs.Guard.{IsFree, IsGuarded}
-use Rattle.beldi_plain.specs.Plain.{nothing}
-use Rattle.beldi_known.specs.Known.{Known}
 use Rattle.beldi_laws.proofs.Shown.{Shows, shown}
-use Rattle.beldi_laws.specs.Inside.{Frame}
-use Rattle.std.specs.Prelude.{nat_lt, nat_le}
 
 -- what an event came to, as an answer: out of memory it tells no more than one that was lost
 abbrev pub seen_by : Result Seen AllocError → Seen

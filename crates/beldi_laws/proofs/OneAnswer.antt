@@ -1,55 +1,12 @@
 -- Where the host and its rows are right, each step of an instance has one answer; and it stays, whatever comes.
-use Rattle.std.proofs.Common.{◌≡◌, inl, inr, ℕ, Option, None, Some, refl, ap, sym, ◌∙◌, subst, is_some}
-use Rattle.std.specs.Prelude.{option_and_then}
-use Rattle.std.specs.Option.{option_map}
-use Rattle.std.specs.FinMap as map
-use Rattle.beldi_value.specs.declared.id.IntentId.{IntentId}
-use Rattle.beldi_value.specs.declared.outcome.Outcome.{Outcome}
-use Rattle.beldi_value.specs.declared.place.Place.{Place}
-use Rattle.beldi_value.specs.declared.place.TxId.{TxId}
-use Rattle.beldi_value.specs.declared.value.Value.{Value}
-use Rattle.beldi_tree.specs.declared.deployment.Deployment.{Deployment}
-use Rattle.beldi_lang.specs.declared.effect.Answer.{Answer}
-use Rattle.beldi_lang.specs.declared.effect.Answer.TheVariants as answer
-use Rattle.beldi_lang.specs.declared.effect.Effect.{Effect}
-use Rattle.beldi_lang.specs.declared.effect.Effect.TheVariants.{Read, Write, CondWrite, Call, Async, Begin, End, Abort}
-use Rattle.beldi_lang.specs.Machine.{IsAt}
-use Rattle.beldi_row.specs.Key.{RowKey}
-use Rattle.beldi_row.specs.declared.notes.Note.{Note}
-use Rattle.beldi_row.specs.declared.notes.Note.TheVariants.{Got, Died}
-use Rattle.beldi_row.specs.declared.row.Row.{Row}
-use Rattle.beldi_row.specs.declared.row.Row.TheVariants as rows
-use Rattle.beldi_row.specs.declared.act.Act.{Act}
-use Rattle.beldi_row.specs.declared.act.Act.TheVariants.{Look}
-use Rattle.beldi_row.specs.Act.{act, on}
-use Rattle.beldi_row.specs.declared.row.InvokeRow.{InvokeRow}
-use Rattle.beldi_row.specs.Log.{note_at}
-use Rattle.beldi_row.specs.Table.{Rows, after_act}
-use Rattle.beldi_daal.specs.Content.{content_in}
-use Rattle.beldi_daal.proofs.Stays.{notes_stay}
-use Rattle.beldi_readlog.specs.ReadLog.{given_in, log_key, given}
-use Rattle.beldi_plain.specs.Item.{Item}
-use Rattle.beldi_plain.specs.Operation.{OnItem, op_of, item_in}
-use Rattle.beldi_plain.specs.Plain.{Instance}
-use Rattle.beldi_step.specs.declared.run.Run.{Run}
-use Rattle.beldi_step.specs.declared.run.RunAt.TheVariants.{Begins}
-use Rattle.beldi_step.specs.declared.run.Begun.{Begun}
-use Rattle.beldi_step.specs.Host.{Core}
-use Rattle.beldi_order.proofs.Maps.{same_some}
-use Rattle.beldi_laws.specs.Laws.{HeldAnswersStay, OneRowChanged, RightHasOneAnswer}
-use Rattle.beldi_laws.specs.OneAnswer.{WasGiven, AnswersOf, OneAnswerPerStep, AnswersStay}
-use Rattle.beldi_laws.specs.Right.{Right, Knows, KnowsAt, RunAt}
-use Rattle.beldi_laws.specs.Stands.{held_answer, held_outside, held_inside, held_note, decides, told_by, note_of_lock, answer_aside}
-use Rattle.beldi_walk.specs.declared.query.Query.TheVariants as query
-use Rattle.beldi_walk.proofs.Promises.{at_each}
-use Rattle.beldi_invokelog.specs.InvokeLog.{invoke_key, call_in, result_in, GoesOn, CallGoesOn}
-use Rattle.beldi_invokelog.proofs.Calls.{calls_stay}
-use Rattle.beldi_lang.specs.Callee.{answer_of}
+use Rattle.beldi_laws.proofs.Names.{Abort, Act, Answer, AnswersOf, AnswersStay, Async, Begin, Begins, Begun, Call, CallGoesOn, CondWrite, Core, Deployment, Died, Done, Effect, End, GoesOn, Got, HeldAnswersStay, Instance, IntentId, InvokeRow, IsAt, Item, Knows, KnowsAt, Look, None, Note, OnItem, OneAnswerPerStep, OneRowChanged, Option, Outcome, Place, Read, Right, RightHasOneAnswer, Row, RowKey, Rows, Run, RunAt, Some, TxId, Value, WasGiven, Write, act, after_act, answer_aside, answer_of, ap, at_each, call_in, calls_stay, content_in, decides, given, given_in, head_key, held_answer, held_inside, held_note, held_outside, inl, inr, invoke_key, is_some, item_in, log_key, note_at, note_of_lock, noted_answer, notes_stay, on, op_of, option_and_then, option_map, refl, result_in, same_some, shadow_key, subst, sym, ℕ, ◌∙◌, ◌≡◌}
+use Rattle.beldi_laws.proofs.Names.answer
+use Rattle.beldi_laws.proofs.Names.map
+use Rattle.beldi_laws.proofs.Names.query
+use Rattle.beldi_laws.proofs.Names.rows
+use Rattle.beldi_laws.specs.Stands.{told_by}
 use Rattle.beldi_laws.proofs.OneEvent.{one_row}
 use Rattle.beldi_laws.proofs.Standing.{held_here, same_run}
-use Rattle.beldi_step.specs.Run.{noted_answer}
-use Rattle.beldi_lang.specs.declared.effect.Answer.TheVariants.{Done}
-use Rattle.beldi_known.specs.Contents.{head_key, shadow_key}
 
 -- ---- one answer
 module _ (d : Deployment) (c : Core) (m : Rows) (h : Right d c m) (id : IntentId) where

@@ -1,64 +1,21 @@
 -- What one event changes: at most one row, never past the room, and at most one entry of the book, which its answer tells.
-use Rattle.std.proofs.Common.{◌≡◌, inl, inr, ℕ, ◌≤◌, ◌<◌, not, cond, IsTrue, is_some, arith, ◌==◌, ◌+◌, ◌||◌, nat_lt, Bool, true, false, [], Option, Some, None, Result, Ok, Err, if◌then◌else◌, refl, ap, sym, ◌∙◌, subst}
+use Rattle.beldi_laws.proofs.Names.{After, AllocError, Begins, Begun, Binding, Body, BookGrew, Bool, Caller, CameOn, ChangesOneRow, Core, Crash, Deployment, DropsHaveCause, Err, Event, EventBy, Failed, Followed, Full, Func, Ic, IfOk, IntentId, IsTrue, KeepsRoom, Looks, Lost, Machine, Mark, None, Ok, OneRowChanged, Option, OutOfMemory, Plan, Query, Registers, Request, Restart, Result, Rose, Row, RowAct, RowKey, Rows, Run, RunTx, Says, Seen, Some, Stage, Start, StepBy, TableErr, TableState, Tick, Ticket, Told, Turn, Turned, Value, Wait, WritesWhatIsTold, [], act, after_act, after_turn, ap, arith, asks, at_once_of, begin_in, begun, binding_of, body_registered, body_told, bound_by, bound_of, collect_next, collect_says, collected, cond, content_in, content_of, count_changes, counted, crash_plan, ended_run, entries_told, entry_of, false, first_stage, func_at, goes_from, goes_to, has_run, head_key, heard, if_lent, if◌then◌else◌, inl, inr, is_added, is_crowded, is_dropped, is_lost, is_some, key_total, last_moment, launched, least_key, len-insert, len-remove, lends, made, marked, may_start, most_events, no_memory, no_run, not, off, option_map, option_to_list, passed, plan, plan_of, query_adds, refl, refused, refused_by, refused_stand, request_next, rows_after, run_next, run_plan, run_told, same_some, says_of, set_others, set_row, stage_says, started, starts_of, subst, sym, takes, ticket_next, told_at, true, turn_next, turned_by, turned_core, unbound, unheard_next, within, ℕ, ◌+◌, ◌-◌, ◌<◌, ◌==◌, ◌^◌, ◌||◌, ◌∙◌, ◌≡◌, ◌≤◌}
+use Rattle.beldi_laws.proofs.Names.binding
+use Rattle.beldi_laws.proofs.Names.collect
+use Rattle.beldi_laws.proofs.Names.map
+use Rattle.beldi_laws.proofs.Names.mark
+use Rattle.beldi_laws.proofs.Names.says
+use Rattle.beldi_laws.proofs.Names.seen
+use Rattle.beldi_laws.proofs.Names.wait
+use Rattle.std.proofs.Common.{nat_lt}
 use Rattle.std.proofs.lemmas.List.{append-nil}
-use Rattle.std.specs.Prelude.{◌&&◌, ◌-◌, ◌^◌, option_to_list, IfOk}
-use Rattle.std.specs.declared.alloc.AllocError.{AllocError}
-use Rattle.std.specs.Option.{option_map}
-use Rattle.std.specs.FinMap as map
-use Rattle.std.specs.FinMap.{len-insert, len-remove}
-use Rattle.beldi_value.specs.declared.id.IntentId.{IntentId}
-use Rattle.beldi_value.specs.declared.value.Value.{Value}
-use Rattle.beldi_value.specs.declared.place.Caller.{Caller}
-use Rattle.beldi_tree.specs.declared.deployment.Deployment.{Deployment}
-use Rattle.beldi_lang.specs.declared.machine.Machine.{Machine}
-use Rattle.beldi_lang.specs.Machine.{begun}
-use Rattle.beldi_book.specs.declared.entry.Entry.TheVariants.{Start}
-use Rattle.beldi_book.specs.Order.{count_changes}
-use Rattle.beldi_row.specs.declared.act.Act.{Act as RowAct}
-use Rattle.beldi_row.specs.Act.{act, off}
-use Rattle.beldi_row.specs.KeyOrder.{key_total}
-use Rattle.beldi_row.specs.declared.row.Row.{Row}
-use Rattle.beldi_row.specs.declared.row.Body.{Body}
-use Rattle.beldi_row.specs.Key.{RowKey, least_key}
-use Rattle.beldi_row.specs.declared.table.TableErr.{TableErr}
-use Rattle.beldi_row.specs.declared.table.TableErr.TheVariants.{OutOfMemory, Failed, Full}
-use Rattle.beldi_row.specs.Table.{Rows, TableState, Rose, set_row, after_act}
-use Rattle.beldi_walk.specs.declared.query.Query.{Query}
-use Rattle.beldi_walk.specs.declared.query.Query.TheVariants.{Act, After}
-use Rattle.beldi_walk.specs.Query.{Told, lends, rows_after, query_adds, CameOn}
-use Rattle.beldi_walk.proofs.Lent.{refused_stand}
-use Rattle.beldi_daal.specs.Content.{content_in}
-use Rattle.beldi_step.specs.declared.event.Event.{Event}
-use Rattle.beldi_step.specs.declared.event.Event.TheVariants.{Ticket, Request, Turn, Lost, Crash, Restart, Tick, Ic}
-use Rattle.beldi_step.specs.declared.event.Seen.{Seen}
-use Rattle.beldi_step.specs.declared.event.Seen.TheVariants as seen
-use Rattle.beldi_intent.specs.declared.intent.Binding.{Binding}
-use Rattle.beldi_intent.specs.declared.intent.Binding.TheVariants as binding
-use Rattle.beldi_step.specs.declared.run.Mark.{Mark}
-use Rattle.beldi_step.specs.declared.run.Mark.TheVariants as mark
-use Rattle.beldi_step.specs.declared.run.Run.{Run}
+use Rattle.std.specs.Prelude.{◌&&◌}
+use Rattle.beldi_walk.specs.declared.query.Query.TheVariants.{Act}
 use Rattle.beldi_step.specs.declared.run.RunAt.{RunAt}
-use Rattle.beldi_step.specs.declared.run.RunAt.TheVariants.{Looks, Registers, Begins}
-use Rattle.beldi_step.specs.declared.run.Begun.{Begun}
-use Rattle.beldi_step.specs.declared.run.RunTx.{RunTx}
-use Rattle.beldi_step.specs.declared.run.Stage.{Stage}
-use Rattle.beldi_step.specs.declared.run.Wait.{Wait}
-use Rattle.beldi_step.specs.declared.run.Wait.TheVariants as wait
-use Rattle.beldi_step.specs.declared.run.Says.{Says}
-use Rattle.beldi_step.specs.declared.run.Says.TheVariants as says
-use Rattle.beldi_tree.specs.declared.deployment.Func.{Func}
-use Rattle.beldi_tree.specs.Names.{func_at}
-use Rattle.beldi_intent.specs.Intent.{is_added, binding_of, body_told}
-use Rattle.beldi_step.specs.Run.{Turned, within, says_of, turned_by, takes, at_once as at_once_of, goes_from, goes_to, first_stage, begin_in, body_registered, told_at, stage_says, run_told, callee_of}
-use Rattle.beldi_step.specs.Host.{turn_next, turned_core, after_turn, made, started, may_start, collect_next, collected, launched, passed, has_run, Core, Plan, at_once, asks, counted, plan, plan_of, run_plan, crash_plan, last_moment, is_crowded, most_events, no_run, ended_run, entry_of, marked, ticket_next, request_next, unbound, run_next, unheard_next, heard, no_memory, if_lent, refused, refused_by, Followed, StepBy, EventBy, is_lost, is_dropped}
-use Rattle.beldi_order.proofs.Maps.{same_some}
-use Rattle.beldi_known.specs.Contents.{head_key, content_of}
+use Rattle.beldi_step.specs.Run.{callee_of}
+use Rattle.beldi_step.specs.Host.{at_once}
 use Rattle.beldi_laws.proofs.Moves.{if_plan}
-use Rattle.beldi_known.proofs.Rows.{set_others}
-use Rattle.beldi_laws.specs.Laws.{OneRowChanged, ChangesOneRow, KeepsRoom, BookGrew, WritesWhatIsTold, DropsHaveCause, entries_told, starts_of, bound_of, bound_by}
 use Rattle.beldi_collect.specs.declared.cursor.Found.{Found}
-use Rattle.beldi_collect.specs.declared.cursor.Found.TheVariants as collect
-use Rattle.beldi_collect.specs.Collect.{collect_says}
 
 -- ---- rows
 same_rows : (c : Core) (m n : Rows) → n ≡ m → OneRowChanged c m n

@@ -1,24 +1,8 @@
 -- What a run is in after answers: the transaction that it was called in throughout, or else its own one that is open; and so the
 -- transaction of the step there.
-use Rattle.std.proofs.Common.{◌≡◌, ◌∙◌, ℕ, false, List, [], ◌∷◌, ◌++◌, length, Option, None, Some, is_some, refl, ap, sym}
-use Rattle.beldi_value.specs.declared.id.IntentId.{IntentId}
-use Rattle.beldi_value.specs.declared.place.TxId.{TxId}
-use Rattle.beldi_tree.specs.declared.deployment.Deployment.{Deployment}
-use Rattle.beldi_lang.specs.Bounds.{is_bound}
-use Rattle.beldi_lang.specs.declared.effect.Answer.{Answer}
-use Rattle.beldi_lang.specs.declared.effect.Answer.TheVariants as answer
-use Rattle.beldi_lang.specs.declared.effect.Effect.{Effect}
-use Rattle.beldi_lang.specs.declared.effect.Effect.TheVariants as effect
-use Rattle.beldi_lang.specs.Wants.{wants}
-use Rattle.beldi_lang.proofs.Bounds.{no_bound}
-use Rattle.beldi_plain.specs.Plain.{Instance}
-use Rattle.beldi_order.specs.Txs.{Txs, along, effect_after, none_begun, or_own, tx_after, tx_by, txs_after, txs_by}
-use Rattle.beldi_order.proofs.Went.{along_pushed}
-use Rattle.beldi_step.specs.declared.run.RunTx.{RunTx}
-use Rattle.beldi_step.specs.declared.run.RunTx.TheVariants.{Own, Inherited}
-use Rattle.beldi_step.specs.Run.{is_inherited, open_after, own_tx, tx_of, with_cause, within}
-use Rattle.beldi_known.specs.Beside.{is_begin}
-use Rattle.beldi_laws.specs.Right.{open_of}
+use Rattle.beldi_laws.proofs.Names.{Answer, Deployment, Effect, Inherited, Instance, IntentId, List, None, Option, Own, RunTx, Some, TxId, Txs, [], along, along_pushed, ap, effect_after, false, is_begin, is_bound, is_inherited, is_some, length, no_bound, none_begun, open_after, open_of, or_own, own_tx, refl, sym, tx_after, tx_by, tx_of, txs_after, txs_by, wants, with_cause, within, ℕ, ◌++◌, ◌∙◌, ◌∷◌, ◌≡◌}
+use Rattle.beldi_laws.proofs.Names.answer
+use Rattle.beldi_laws.proofs.Names.effect
 
 -- the Begin of one's own that is open
 abbrev pub own_begin : Option RunTx → Option ℕ

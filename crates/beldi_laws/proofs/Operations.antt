@@ -1,93 +1,27 @@
 -- The turns of an operation on an item: they rest on the law that a chain is a logged cell, and on what each operation is.
-use Rattle.std.proofs.Common.{◌≡◌, ℕ, IsTrue, true, false, List, [], ◌∷◌, Option, None, Some, refl, ap, sym, ◌∙◌, subst, is_some, if◌then◌else◌, length}
-use Rattle.std.specs.Prelude.{slice_get, option_and_then}
-use Rattle.std.specs.Option.{option_map}
-use Rattle.std.specs.FinMap as map
-use Rattle.std.specs.Ordering.{is_eq}
-use Rattle.std.proofs.lemmas.Cmp.{tied_itself}
-use Rattle.beldi_value.specs.declared.id.IntentId.{IntentId}
-use Rattle.beldi_value.specs.declared.place.Caller.{Caller}
-use Rattle.beldi_value.specs.declared.place.Owner.TheVariants as owner
-use Rattle.beldi_value.specs.declared.value.Value.TheVariants as value
-use Rattle.beldi_value.specs.declared.place.Place.{Place}
-use Rattle.beldi_value.specs.declared.place.TxId.{TxId}
-use Rattle.beldi_value.specs.declared.value.Value.{Value}
-use Rattle.beldi_tree.specs.declared.deployment.Deployment.{Deployment}
-use Rattle.beldi_lang.specs.declared.effect.Answer.{Answer}
-use Rattle.beldi_lang.specs.declared.effect.Answer.TheVariants as answer
-use Rattle.beldi_lang.specs.declared.effect.Effect.{Effect}
-use Rattle.beldi_lang.specs.declared.effect.Effect.TheVariants as effect
-use Rattle.beldi_lang.specs.Wants.{wants_answer}
-use Rattle.beldi_book.specs.declared.entry.Entry.{Entry}
-use Rattle.beldi_book.specs.declared.entry.Entry.TheVariants.{Step}
-use Rattle.beldi_row.specs.declared.key.Kind.TheVariants as kinds
-use Rattle.beldi_row.specs.declared.notes.Note.{Note}
-use Rattle.beldi_row.specs.Key.{RowKey, key_cmp}
-use Rattle.beldi_row.specs.Log.{note_at}
-use Rattle.beldi_row.specs.Table.{Rows}
-use Rattle.beldi_row.proofs.Logs.{note_here}
-use Rattle.beldi_walk.specs.declared.query.Query.{Query}
-use Rattle.beldi_walk.specs.Query.{rows_after, told_by}
-use Rattle.beldi_daal.specs.declared.cell.WriteAt.{WriteAt}
-use Rattle.beldi_daal.specs.declared.cell.WriteGoes.{WriteGoes}
-use Rattle.beldi_daal.specs.declared.cell.WriteGoes.TheVariants as writes
-use Rattle.beldi_daal.specs.declared.cell.CellOp.{CellOp}
-use Rattle.beldi_daal.specs.declared.walk.Item.TheVariants.{Plain}
-use Rattle.beldi_daal.specs.declared.walk.WriteWalk.{WriteWalk}
-use Rattle.beldi_daal.specs.Cell.{cell_key, done_note, write_asks, write_goes}
-use Rattle.beldi_daal.specs.Content.{SoundAt}
-use Rattle.beldi_daal.specs.Logged.{note_after, DidOnce, Logs, LoggedTurn}
-use Rattle.beldi_daal.specs.Walk.{walk_so}
-use Rattle.beldi_daal.proofs.Logged.{by_op}
-use Rattle.beldi_plain.specs.Item.{Item, item_total}
-use Rattle.beldi_plain.specs.Guard.{IsFree, touched_by, item_touched}
-use Rattle.beldi_plain.specs.Holds.{holds}
-use Rattle.beldi_plain.specs.Operation.{OnItem, op_of, item_in, answer_after, sets}
-use Rattle.beldi_plain.specs.Plain.{Instance, PlainState, value_at, operate, effect_of, kind_of, effect_before}
-use Rattle.beldi_plain.specs.declared.kind.Kind.TheVariants as kind
-use Rattle.beldi_order.specs.Sane.{IsAnswer}
-use Rattle.beldi_order.proofs.Entries.{enabled_step, free_at_operation}
-use Rattle.beldi_order.proofs.Maps.{same_some}
-use Rattle.beldi_order.proofs.Locks.{operation_step}
-use Rattle.beldi_step.specs.declared.run.Run.{Run}
-use Rattle.beldi_step.specs.declared.run.Begun.{Begun}
-use Rattle.beldi_step.specs.declared.run.Mark.TheVariants as mark
-use Rattle.beldi_step.specs.declared.run.Says.{Says}
-use Rattle.beldi_step.specs.declared.run.Says.TheVariants.{Answers}
-use Rattle.beldi_step.specs.declared.run.Stage.TheVariants as stage
-use Rattle.beldi_intent.specs.Intent.{root_key}
-use Rattle.beldi_step.specs.Run.{place_of, turned_by, put_asks, put_says, write_says, done_says, note_done, note_of_op, noted_answer, answers_it, if_answers, answer_noted, cell_op}
-use Rattle.beldi_step.specs.Host.{Core, turn_next}
-use Rattle.beldi_known.specs.Contents.{head_key, content_of, shadow_key}
-use Rattle.beldi_known.proofs.Acts.{kinds_apart, is_shadow}
-use Rattle.beldi_known.proofs.Ahead.{ahead_set, none_out}
-use Rattle.beldi_known.specs.Owed.{noted, note_of}
-use Rattle.beldi_laws.specs.Right.{Right, Knows, StageOk, PlaceOk}
-use Rattle.beldi_known.proofs.Rows.{no_root}
-use Rattle.beldi_laws.specs.Inside.{Frame, Inside}
+use Rattle.beldi_laws.proofs.Names.{Answer, Answers, Begun, Caller, CellOp, Core, Deployment, DidOnce, DoneRows, Effect, Entry, Frame, Grows, Inside, Instance, IntentId, IsAnswer, IsFree, IsTrue, Item, Known, Knows, List, LoggedTurn, Logs, Matches, None, Note, OnItem, Option, Place, PlaceOk, Plain, PlainState, Query, Right, RowKey, Rows, Run, Sane, Says, Some, SoundAt, StageOk, Step, TxId, Value, WriteAt, WriteGoes, WriteWalk, [], ahead_set, answer_after, answer_noted, answers_it, ap, by_op, cell_key, cell_of, cell_op, commit_in, content_of, does_so, done_note, done_says, effect_before, effect_of, enabled_step, false, free_at_operation, head_key, holds, if_answers, if◌then◌else◌, is_eq, is_shadow, is_some, item_in, item_total, item_touched, key_cmp, kind_of, kinds_apart, length, moved, moved_one, no_root, no_tx, nobody_else, none_out, note_after, note_at, note_done, note_here, note_of, note_of_op, noted_answer, op_of, operate, operation_answers, operation_done, operation_step, option_and_then, option_map, place_of, put_asks, put_says, refl, root_key, rows_after, same_some, set_agrees, sets, shadow_key, slice_get, subst, sym, tied_itself, told_by, touched_by, true, turn_next, turned_by, tx_after, tx_now, unbarred, value_at, walk_so, wants_answer, write_asks, write_goes, write_says, ℕ, ◌∙◌, ◌∷◌, ◌≡◌}
+use Rattle.beldi_laws.proofs.Names.answer
+use Rattle.beldi_laws.proofs.Names.effect
+use Rattle.beldi_laws.proofs.Names.kind
+use Rattle.beldi_laws.proofs.Names.kinds
+use Rattle.beldi_laws.proofs.Names.map
+use Rattle.beldi_laws.proofs.Names.mark
+use Rattle.beldi_laws.proofs.Names.owner
+use Rattle.beldi_laws.proofs.Names.stage
+use Rattle.beldi_laws.proofs.Names.value
+use Rattle.beldi_laws.proofs.Names.writes
+use Rattle.beldi_known.specs.Owed.{noted}
 use Rattle.beldi_laws.proofs.Moves.{AfterTurn, AfterQuery, SameRoots, change_entered, Entered, Kept, Stays}
-use Rattle.beldi_known.proofs.Outsides.{set_agrees}
 use Rattle.beldi_laws.proofs.Closing.{settled_after}
 use Rattle.beldi_laws.proofs.Frames.{frame_done, frame_held, item_stays, items_stay, no_finish, nobody_new, nobody_set, query_keeps}
 use Rattle.beldi_laws.proofs.Settling.{settled_grown, settled_outside}
-use Rattle.beldi_known.specs.Matches.{Matches}
-use Rattle.beldi_known.specs.Sane.{Sane}
-use Rattle.beldi_order.specs.Grown.{Grows}
 use Rattle.beldi_laws.proofs.Others.{kept_by}
 use Rattle.beldi_laws.proofs.Keeping.{SameShadows, goes_answered, stays_by}
 use Rattle.beldi_laws.proofs.Turns.{effect_here, answer_here, step_here, effect_next, wants_it, fits, not_over, goes_on, held, ends, replays, steps_on, outside_here, tx_step, tx_next, not_of_tx, plain_there, unlocked_there}
-use Rattle.beldi_known.proofs.Operations.{does_so}
-use Rattle.beldi_known.proofs.Owners.{unbarred, nobody_else}
-use Rattle.beldi_known.specs.Operations.{cell_of, DoneRows}
-use Rattle.beldi_known.specs.Known.{Known, moved, commit_in}
-use Rattle.beldi_order.specs.Txs.{tx_after, tx_now}
 use Rattle.beldi_laws.proofs.Shown.{Shows, value_here, holds_here, legal_sane, settled}
 use Rattle.beldi_laws.proofs.Owed.{note_if, note_there, no_end, content_kept, contents_kept, others_list, done_lists}
 use Rattle.beldi_laws.proofs.KeptSane.{answered_kept}
 use Rattle.beldi_laws.proofs.Outside.{is_call}
-use Rattle.beldi_known.proofs.Outside.{operation_done, no_tx}
-use Rattle.beldi_known.proofs.Frame.{moved_one}
-use Rattle.beldi_order.proofs.Sound.{operation_answers}
 use Rattle.beldi_laws.proofs.Grown.{grows_moved}
 
 -- what is answered to an operation is what its note reads as, and of its kind

@@ -1,68 +1,12 @@
 -- What the runs of others have found in the rows stays, through an event that keeps its frame.
-use Rattle.std.proofs.Common.{◌≡◌, ◌∙◌, ◌<◌, ◌&&◌, ◌||◌, ℕ, Bool, true, false, List, [], ◌∷◌, ◌++◌, length, length-append, append_assoc, append-nil, Option, Some, None, is_some, refl, ap, sym, subst, arith, eq-eqb, if◌then◌else◌}
-use Rattle.std.specs.FinMap as map
-use Rattle.std.specs.Ordering.{is_eq}
-use Rattle.std.proofs.lemmas.Cmp.{tied_itself}
-use Rattle.beldi_value.specs.declared.id.IntentId.{IntentId}
-use Rattle.beldi_value.specs.declared.outcome.Outcome.{Outcome}
-use Rattle.beldi_value.specs.declared.place.Owner.TheVariants.{Tx as ByTx}
-use Rattle.beldi_value.specs.declared.place.Place.{Place}
-use Rattle.beldi_value.specs.declared.place.TxId.{TxId}
-use Rattle.beldi_value.specs.declared.value.Value.{Value}
-use Rattle.beldi_tree.specs.declared.deployment.Deployment.{Deployment}
-use Rattle.beldi_lang.specs.declared.effect.Answer.{Answer}
-use Rattle.beldi_lang.specs.declared.effect.Effect.{Effect}
-use Rattle.beldi_lang.specs.declared.effect.Effect.TheVariants as effect
-use Rattle.beldi_lang.specs.declared.effect.Effect.TheVariants.{Read, CondWrite, End}
-use Rattle.beldi_lang.specs.Wants.{wants}
-use Rattle.beldi_lang.proofs.Resumes.{at_effect, few_answers}
-use Rattle.beldi_readlog.specs.ReadLog.{log_key}
-use Rattle.beldi_row.specs.Log.{note_at}
-use Rattle.beldi_row.specs.Table.{Rows}
-use Rattle.beldi_row.specs.declared.notes.Note.{Note}
+use Rattle.beldi_laws.proofs.Names.{Answer, AtStage, Begun, Beside, Bool, ByTx, Callees, CondWrite, Content, Core, Decide, DecidedAt, Deployment, Effect, End, EndAt, EndWalk, Found, Frame, Free, Grown, GrownAt, Grows, HasLock, InItem, InOperation, Inside, Instance, IntentId, IsDecided, IsWriting, Item, Known, Knows, List, Next, None, Note, OpenTx, Option, Outcome, Own, Place, PlainState, Read, Released, Right, Row, Rows, Run, RunTx, Sane, Shadow, Some, Stage, StageOk, Stamp, TxAt, TxId, Txs, Value, Visit, Visited, [], ahead_by, along, along_append, ap, append-nil, append_assoc, arith, at_effect, begin_of, content_of, effect_after, effect_of, end_of, end_walk, ended_by, ended_stays, eq-eqb, false, few_answers, front_is, got_before, got_by, if◌then◌else◌, in_tx, is_at, is_begin, is_eq, is_item, is_on, is_past, is_some, item_total, key_in, last_step, length, length-append, lockset_key, log_key, no_decision, none_begun, note_at, note_is_ahead, now_open, open_of, place_of, plain_owner, refl, same_some, shadow_key, subst, sym, tied_itself, touched, true, true_false, tx_after, tx_end, tx_now, tx_of, tx_self, txs_after, txs_by, txs_pushed, value_at, value_in, wants, ℕ, ◌&&◌, ◌++◌, ◌<◌, ◌||◌, ◌∙◌, ◌∷◌, ◌≡◌}
+use Rattle.beldi_laws.proofs.Names.at
+use Rattle.beldi_laws.proofs.Names.effect
+use Rattle.beldi_laws.proofs.Names.map
+use Rattle.beldi_laws.proofs.Names.plain
+use Rattle.beldi_laws.proofs.Names.stage
 use Rattle.beldi_row.specs.declared.notes.Note.TheVariants as notes
-use Rattle.beldi_row.specs.declared.row.Row.{Row}
-use Rattle.beldi_daal.specs.Content.{Content}
-use Rattle.beldi_txn.specs.declared.tx.TxAt.{TxAt}
-use Rattle.beldi_txn.specs.declared.tx.TxAt.TheVariants as at
-use Rattle.beldi_txn.specs.declared.end.EndAt.{EndAt}
-use Rattle.beldi_txn.specs.declared.end.EndAt.TheVariants.{Decide, Callees, Next, Shadow, Free, Stamp}
-use Rattle.beldi_txn.specs.declared.end.Visit.{Visit}
-use Rattle.beldi_txn.specs.declared.end_walk.EndWalk.{EndWalk}
 use Rattle.beldi_txn.specs.Tx.{op_of}
-use Rattle.beldi_txn.specs.TxTurn.{HasLock}
-use Rattle.beldi_txn.specs.Visited.{Visited, IsDecided, DecidedAt}
-use Rattle.beldi_plain.specs.Item.{Item, item_total}
-use Rattle.beldi_plain.specs.Operation.{touched}
-use Rattle.beldi_plain.specs.Plain.{Instance, PlainState, value_at, effect_of}
-use Rattle.beldi_order.specs.Grown.{Grown, Grows, GrownAt}
-use Rattle.beldi_order.specs.Sane as plain
-use Rattle.beldi_order.specs.Txs.{Txs, is_at, none_begun, tx_now, tx_after, txs_after, txs_by, along, end_of, effect_after}
-use Rattle.beldi_order.proofs.Maps.{same_some}
-use Rattle.beldi_order.proofs.Went.{txs_pushed}
-use Rattle.beldi_step.specs.declared.run.Begun.{Begun}
-use Rattle.beldi_step.specs.declared.run.OpenTx.{OpenTx}
-use Rattle.beldi_step.specs.declared.run.RunTx.{RunTx}
-use Rattle.beldi_step.specs.declared.run.RunTx.TheVariants.{Own}
-use Rattle.beldi_step.specs.declared.run.Run.{Run}
-use Rattle.beldi_step.specs.declared.run.Stage.{Stage}
-use Rattle.beldi_step.specs.declared.run.Stage.TheVariants as stage
-use Rattle.beldi_step.specs.Run.{begin_of, place_of, tx_of}
-use Rattle.beldi_step.specs.Host.{Core}
-use Rattle.beldi_step.specs.Tables.{value_in}
-use Rattle.beldi_known.specs.Beside.{Beside, is_begin}
-use Rattle.beldi_known.specs.Contents.{content_of, shadow_key, lockset_key}
-use Rattle.beldi_known.specs.Known.{Known, ahead_by, ended_by, got_before, got_by, is_item, is_on, last_step, tx_end}
-use Rattle.beldi_known.specs.Sane.{Sane}
-use Rattle.beldi_known.proofs.Answers.{true_false}
-use Rattle.beldi_known.proofs.AtFront.{no_decision, note_is_ahead}
-use Rattle.beldi_known.proofs.Lines.{front_is, in_tx, plain_owner}
-use Rattle.beldi_order.proofs.Ends.{along_append, ended_stays}
-use Rattle.beldi_known.proofs.Locks.{tx_self}
-use Rattle.beldi_known.proofs.Participants.{now_open}
-use Rattle.beldi_laws.specs.Inside.{AtStage, Found, Frame, InItem, InOperation, Inside, IsWriting, Released, end_walk}
-use Rattle.beldi_laws.specs.Right.{Right, Knows, StageOk, is_past, open_of}
-use Rattle.beldi_laws.specs.Stands.{key_in}
 use Rattle.beldi_laws.proofs.Grown.{tx_stays}
 use Rattle.beldi_laws.proofs.InTx.{no_begin, wants_one}
 use Rattle.beldi_laws.proofs.Lives.{no_more}

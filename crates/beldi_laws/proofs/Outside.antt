@@ -1,37 +1,11 @@
 -- Steps outside transactions: where no Begin is open. There what is known of an instance is what the plain state has.
-use Rattle.std.proofs.Common.{Bool, true, false, ◌≡◌, ◌∙◌, inl, List, [], ◌∷◌, ◌++◌, Option, Some, None, refl, ap, sym, subst, length, is_some}
-use Rattle.std.specs.FinMap as map
-use Rattle.std.specs.FinMap.{FinMap}
-use Rattle.beldi_value.specs.Id.{id_cmp}
-use Rattle.beldi_value.specs.declared.id.IntentId.{IntentId}
-use Rattle.beldi_value.specs.declared.place.Caller.{Caller}
-use Rattle.beldi_value.specs.declared.place.TxId.{TxId}
-use Rattle.beldi_tree.specs.declared.deployment.Deployment.{Deployment}
-use Rattle.beldi_lang.specs.declared.effect.Answer.{Answer}
-use Rattle.beldi_lang.specs.declared.effect.Effect.{Effect}
-use Rattle.beldi_lang.specs.declared.effect.Effect.TheVariants as effect
-use Rattle.beldi_plain.specs.Item.{Item}
-use Rattle.beldi_plain.specs.Piece.{opened, tx_begun}
-use Rattle.beldi_plain.specs.Plain.{Instance, PlainState, effect_of, outcome_of}
-use Rattle.beldi_order.specs.Inside.{Line, top, next}
-use Rattle.beldi_order.specs.Sane as plain
-use Rattle.beldi_order.specs.Grown.{Grown, GrownAt}
-use Rattle.beldi_order.proofs.Maps.{same_some}
-use Rattle.beldi_order.proofs.Entries.{opened_grows}
-use Rattle.beldi_order.proofs.Line.{in_line, line_opened}
-use Rattle.beldi_order.proofs.Locks.{from_begin}
-use Rattle.beldi_step.specs.declared.run.Stage.{Stage}
-use Rattle.beldi_known.specs.Beside.{Beside, is_begin, begins}
-use Rattle.beldi_known.specs.Known.{Known}
-use Rattle.beldi_order.specs.Txs.{txs_after, txs_by, tx_by, or_own, Txs, effect_after}
-use Rattle.beldi_order.proofs.Went.{txs_pushed}
-use Rattle.beldi_known.proofs.Lines.{owner_is}
-use Rattle.beldi_known.proofs.NoTx.{IsOutside, begins_parts}
-use Rattle.beldi_known.specs.Sane.{Sane}
-use Rattle.beldi_known.proofs.Phases.{inside_holds_none}
-use Rattle.beldi_laws.specs.Right.{StageOk}
+use Rattle.beldi_laws.proofs.Names.{Answer, Beside, Bool, Caller, Deployment, Effect, FinMap, Grown, GrownAt, Instance, IntentId, IsOutside, Item, Known, Line, List, None, Option, PlainState, Sane, Some, Stage, StageOk, TxId, Txs, [], ap, begins_parts, effect_after, effect_of, false, from_begin, holds, id_cmp, in_line, inl, inside_holds_none, is_begin, is_some, length, line_opened, next, opened_grows, or_own, outcome_of, owner_is, refl, same_some, subst, sym, top, true, tx_begun, tx_by, txs_after, txs_by, txs_pushed, ◌++◌, ◌∙◌, ◌∷◌, ◌≡◌}
+use Rattle.beldi_laws.proofs.Names.effect
+use Rattle.beldi_laws.proofs.Names.map
+use Rattle.beldi_laws.proofs.Names.plain
+use Rattle.beldi_plain.specs.Piece.{opened}
+use Rattle.beldi_known.specs.Beside.{begins}
 use Rattle.beldi_laws.proofs.Grown.{grown_same}
-use Rattle.beldi_plain.specs.Holds.{holds}
 
 module _ (d : Deployment) (id : IntentId) (q : Instance) (given : List Answer) where
   -- an answer to it opens none

@@ -1,47 +1,9 @@
 -- What the rows have of a step outside transactions: what its answer owes, or nothing where it has none.
-use Rattle.std.proofs.Common.{ℕ, Bool, true, false, ◌≡◌, ◌∙◌, List, [], Option, Some, None, refl, ap, sym, subst, length, ◌&&◌, ◌||◌, ◌==◌, if◌then◌else◌, is_some, eq-eqb, append-nil, cond, eqb-true}
-use Rattle.std.specs.Prelude.{take, slice_get}
-use Rattle.std.specs.FinMap as map
-use Rattle.std.specs.Ordering.{is_eq}
-use Rattle.std.proofs.lemmas.Cmp.{tied_itself, eq_by_cmp_equiv}
-use Rattle.beldi_value.specs.declared.id.IntentId.{IntentId}
-use Rattle.beldi_value.specs.declared.place.Place.{Place}
-use Rattle.beldi_value.specs.declared.value.Value.{Value}
-use Rattle.beldi_tree.specs.declared.deployment.Deployment.{Deployment}
-use Rattle.beldi_lang.specs.declared.effect.Answer.{Answer}
-use Rattle.beldi_lang.specs.declared.effect.Effect.{Effect}
-use Rattle.beldi_lang.specs.declared.effect.Effect.TheVariants as effect
-use Rattle.beldi_plain.specs.Item.{Item, item_total}
-use Rattle.beldi_tree.specs.Bindings.{or_null}
-use Rattle.beldi_plain.specs.Plain.{Instance, PlainState, value_at, effect_of, effect_before}
-use Rattle.beldi_plain.specs.Operation.{Operation, op_of, or_old, set_if, sets}
-use Rattle.beldi_order.proofs.Operations.{plain_set}
-use Rattle.beldi_row.specs.Table.{Rows}
-use Rattle.beldi_row.specs.Key.{RowKey, key_cmp}
-use Rattle.beldi_row.specs.Log.{note_at}
-use Rattle.beldi_row.specs.declared.notes.Note.{Note}
-use Rattle.beldi_readlog.specs.ReadLog.{log_key}
-use Rattle.beldi_daal.specs.Content.{Content, content_in, SoundAt}
-use Rattle.beldi_step.specs.Run.{place_of}
-use Rattle.beldi_known.specs.Contents.{content_of, head_key, shadow_key}
-use Rattle.beldi_known.specs.Known.{Known, at_step, owed_value, row_at, read_at, value_or, decision_by, owed_note, note_or, answered_note, note_by, ahead_by, is_mark, is_decided, last_step, commit_in}
-use Rattle.beldi_order.specs.Txs.{tx_now, tx_at, tx_after, end_of, effect_after}
-use Rattle.beldi_known.specs.Owed.{note_of, value_for}
-use Rattle.beldi_known.specs.Matches.{Matches, RowMatches, ItemMatches, ShadowMatches, TxsMatch}
-use Rattle.beldi_known.specs.Rows.{LogMatches}
-use Rattle.beldi_known.specs.Operations.{DoneRows, cell_of}
-use Rattle.beldi_known.proofs.Operations.{does_so}
-use Rattle.beldi_known.proofs.Rows.{keys_at}
-use Rattle.beldi_known.proofs.Acts.{by_item, turned, kinds_apart, is_shadow}
-use Rattle.beldi_known.proofs.FrameAt.{or_none}
-use Rattle.beldi_known.proofs.Frame.{begins}
-use Rattle.beldi_known.proofs.Answers.{take_front}
+use Rattle.beldi_laws.proofs.Names.{Answer, Bool, Content, Deployment, DoneRows, Effect, Instance, IntentId, IsFreeFor, Item, ItemMatches, Known, List, LogMatches, Matches, None, Note, Operation, Option, Place, PlainState, RowKey, RowMatches, Rows, ShadowMatches, Some, SoundAt, TxsMatch, Value, [], ahead_by, answered_note, ap, append-nil, at_step, begins, by_item, cell_of, commit_in, cond, content_in, content_of, decision_by, decision_key, does_so, effect_after, effect_before, effect_of, end_of, eq-eqb, eq_by_cmp_equiv, eqb-true, false, free_after, head_key, if◌then◌else◌, is_decided, is_eq, is_log, is_mark, is_shadow, is_some, item_total, key_cmp, keys_at, kinds_apart, last_step, length, listed, lists_same, log_key, no_tx, note_at, note_by, note_of, note_or, op_of, or_none, or_null, or_old, owed_note, owed_value, own_value, place_of, plain_set, read_at, refl, row_at, set_if, sets, shadow_key, slice_get, subst, sym, take_front, tied_itself, true, turned, tx_after, tx_at, tx_now, unbarred, value_at, value_for, value_or, ℕ, ◌&&◌, ◌==◌, ◌||◌, ◌∙◌, ◌≡◌}
+use Rattle.beldi_laws.proofs.Names.effect
+use Rattle.beldi_laws.proofs.Names.map
+use Rattle.std.specs.Prelude.{take}
 use Rattle.beldi_laws.proofs.Outside.{is_of_tx}
-use Rattle.beldi_step.specs.Tables.{decision_key}
-use Rattle.beldi_known.specs.Listed.{listed}
-use Rattle.beldi_known.proofs.Lists.{lists_same, own_value, is_log}
-use Rattle.beldi_known.proofs.Outside.{no_tx, free_after}
-use Rattle.beldi_known.proofs.Owners.{unbarred, IsFreeFor}
 
 -- the note and the value of an answer, if there is one
 abbrev pub note_if : Item → ℕ → Effect → Option Answer → Option Note

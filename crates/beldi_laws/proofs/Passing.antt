@@ -1,31 +1,8 @@
 -- The turns of an effect that is carried out inside a transaction as outside, a call or a return: what its run is in, and how it goes on.
-use Rattle.std.proofs.Common.{◌≡◌, ◌∙◌, ℕ, Bool, true, false, IsTrue, List, [], ◌∷◌, ◌++◌, Option, Some, None, is_some, refl, ap, sym, subst, append_assoc}
-use Rattle.std.specs.FinMap as map
-use Rattle.beldi_value.specs.declared.id.IntentId.{IntentId}
-use Rattle.beldi_value.specs.declared.outcome.Outcome.{Outcome}
-use Rattle.beldi_value.specs.declared.place.Caller.{Caller}
-use Rattle.beldi_value.specs.declared.place.TxId.{TxId}
-use Rattle.beldi_value.specs.declared.value.Value.{Value}
-use Rattle.beldi_tree.specs.declared.deployment.Deployment.{Deployment}
-use Rattle.beldi_lang.specs.declared.effect.Answer.{Answer}
-use Rattle.beldi_lang.specs.declared.effect.Effect.{Effect}
-use Rattle.beldi_lang.specs.declared.effect.Effect.TheVariants.{Call, Return}
-use Rattle.beldi_lang.specs.Wants.{wants_answer}
-use Rattle.beldi_row.specs.Table.{Rows}
-use Rattle.beldi_book.specs.declared.entry.Entry.{Entry}
-use Rattle.beldi_order.specs.Txs.{effect_after, tx_after, tx_at, tx_now, txs_after}
-use Rattle.beldi_step.specs.declared.run.Begun.{Begun}
-use Rattle.beldi_step.specs.declared.run.Run.{Run}
-use Rattle.beldi_step.specs.declared.run.RunTx.{RunTx}
-use Rattle.beldi_step.specs.declared.run.Says.TheVariants as says
-use Rattle.beldi_step.specs.declared.run.Stage.TheVariants as stage
-use Rattle.beldi_step.specs.Host.{Core}
-use Rattle.beldi_step.specs.Run.{is_waited, tx_at as run_tx, tx_of, within}
-use Rattle.beldi_known.specs.Beside.{is_begin}
-use Rattle.beldi_known.specs.Known.{Known}
-use Rattle.beldi_known.proofs.NoTx.{outside_so}
-use Rattle.beldi_laws.specs.Inside.{Inside}
-use Rattle.beldi_laws.specs.Right.{Right, Knows, StageOk, open_of}
+use Rattle.beldi_laws.proofs.Names.{Answer, Begun, Bool, Call, Caller, Core, Deployment, Effect, Entry, Inside, IntentId, IsTrue, Known, Knows, List, None, Option, Outcome, Return, Right, Rows, Run, RunTx, Some, StageOk, TxId, Value, [], ap, append_assoc, effect_after, false, is_begin, is_some, is_waited, open_of, outside_so, refl, run_tx, subst, sym, true, tx_after, tx_at, tx_now, tx_of, txs_after, wants_answer, within, ℕ, ◌++◌, ◌∙◌, ◌∷◌, ◌≡◌}
+use Rattle.beldi_laws.proofs.Names.map
+use Rattle.beldi_laws.proofs.Names.says
+use Rattle.beldi_laws.proofs.Names.stage
 use Rattle.beldi_laws.proofs.Grown.{grown_same}
 use Rattle.beldi_laws.proofs.Moves.{SameRoots, Stays}
 use Rattle.beldi_laws.proofs.OpenOf.{open_in, open_none, open_tx, tx_open}

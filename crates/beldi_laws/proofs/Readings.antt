@@ -1,62 +1,15 @@
 -- The turns of a read.
-use Rattle.std.proofs.Common.{◌≡◌, inl, ℕ, ◌≤◌, List, [], ◌∷◌, length, Option, None, Some, refl, ap, sym, ◌∙◌, subst, is_some, arith, false}
-use Rattle.std.specs.Prelude.{slice_get}
-use Rattle.std.specs.Option.{option_map}
-use Rattle.std.specs.FinMap as map
-use Rattle.beldi_value.specs.declared.place.Place.{Place}
-use Rattle.beldi_value.specs.declared.place.Owner.TheVariants as owner
-use Rattle.beldi_value.specs.declared.value.Value.{Value}
-use Rattle.beldi_tree.specs.declared.deployment.Deployment.{Deployment}
-use Rattle.beldi_tree.specs.Bindings.{or_null}
-use Rattle.beldi_lang.specs.declared.effect.Answer.{Answer}
-use Rattle.beldi_lang.specs.declared.effect.Answer.TheVariants as answer
-use Rattle.beldi_lang.specs.declared.effect.Effect.TheVariants.{Read}
-use Rattle.beldi_lang.specs.Wants.{wants_answer}
-use Rattle.beldi_book.specs.declared.entry.Entry.TheVariants as entry
-use Rattle.beldi_book.specs.Order.{count_changes, front, back, linear}
-use Rattle.beldi_book.proofs.Orders.{linear_changes, front_back}
-use Rattle.beldi_row.specs.Key.{RowKey}
-use Rattle.beldi_row.specs.declared.key.Kind.TheVariants as kinds
-use Rattle.beldi_row.specs.declared.row.Row.{Row}
-use Rattle.beldi_row.specs.declared.row.Row.TheVariants as rows
-use Rattle.beldi_row.specs.declared.act.Act.TheVariants.{Look, PutRead}
-use Rattle.beldi_row.specs.Act.{Tell, act}
-use Rattle.beldi_row.specs.Table.{Rows, set_row}
-use Rattle.beldi_row.proofs.Unchanged.{looked, unchanged}
-use Rattle.beldi_walk.specs.Query.{said}
-use Rattle.beldi_daal.specs.declared.cell.ReadGoes.TheVariants as reads
-use Rattle.beldi_daal.specs.declared.cell.ReadGoes.{ReadGoes}
-use Rattle.beldi_daal.specs.declared.read_walk.ReadWalk.{ReadWalk}
-use Rattle.beldi_daal.specs.declared.walk.Item.TheVariants.{Plain}
-use Rattle.beldi_daal.specs.Cell.{in_the_way, read_goes}
-use Rattle.beldi_daal.specs.Logged.{ReadsContent}
-use Rattle.beldi_daal.specs.ReadWalk.{read_so}
-use Rattle.beldi_daal.proofs.Logged.{by_row}
-use Rattle.beldi_readlog.specs.ReadLog.{log_key, given_in, given_of, kept_of}
-use Rattle.beldi_plain.specs.Item.{Item}
-use Rattle.beldi_plain.specs.Plain.{PlainState, nothing, effect_of, value_at, answered}
-use Rattle.beldi_plain.specs.Legal.{run_from}
-use Rattle.beldi_order.specs.Laws.{IsStateAt, BelongsEarlier, with_answer, IsKeptLate}
-use Rattle.beldi_order.proofs.Places.{front_all}
-use Rattle.beldi_order.proofs.Entries.{runs_on, run_grows, grows_at, grown_answer}
-use Rattle.beldi_order.proofs.Maps.{same_some}
-use Rattle.beldi_order.proofs.Late.{not_moved}
-use Rattle.beldi_order.proofs.Growth.{kept_late}
-use Rattle.beldi_step.specs.declared.run.Run.{Run}
-use Rattle.beldi_step.specs.declared.run.Begun.{Begun}
-use Rattle.beldi_step.specs.declared.run.Mark.TheVariants as mark
-use Rattle.beldi_step.specs.declared.run.Says.{Says}
-use Rattle.beldi_step.specs.declared.run.Says.TheVariants.{On, Answers}
-use Rattle.beldi_step.specs.declared.run.Stage.{Stage}
-use Rattle.beldi_step.specs.declared.run.Stage.TheVariants as stage
-use Rattle.beldi_intent.specs.Intent.{root_key}
-use Rattle.beldi_step.specs.Run.{place_of, turned_by, ask_says, keep_says, stage_says, walk_says}
-use Rattle.beldi_step.specs.Host.{Core, turn_next}
-use Rattle.beldi_known.specs.Contents.{head_key, content_of}
-use Rattle.beldi_known.specs.Rows.{LogMatches}
-use Rattle.beldi_known.proofs.Rows.{no_root, set_others}
+use Rattle.beldi_laws.proofs.Names.{Answer, Answers, Begun, BelongsEarlier, Core, Deployment, Frame, Grows, Inside, IsAnswer, IsKeptLate, IsStateAt, Item, Keeps, Known, Knows, List, LogMatches, Look, Matches, None, On, Option, Place, Plain, PlainState, PutRead, Read, ReadGoes, ReadWalk, ReadsContent, Right, Row, RowKey, Rows, Run, Sane, Says, Some, Stage, Tell, TxId, Value, WasThere, [], act, ahead_set, answered, ap, arith, ask_says, back, begun_lists, by_row, commit_in, content_of, count_changes, effect_of, false, front, front_all, front_back, given_in, given_of, got_begun, grown_answer, grows_at, head_key, holds, in_the_way, inl, is_some, item_touched, keep_says, kept_late, kept_of, length, linear, linear_changes, listed, log_key, looked, moved, moved_one, no_root, no_tx, nobody_else, none_out, not_moved, nothing, op_of, option_map, or_null, owed_read, place_of, read_added, read_goes, read_so, refl, root_key, row_added, run_from, run_grows, runs_on, said, same_some, set_others, set_row, slice_get, stage_says, subst, sym, touched_by, turn_next, turned_by, tx_after, tx_now, txs_after, unchanged, unowned, value_at, walk_says, wants_answer, with_answer, ℕ, ◌∙◌, ◌∷◌, ◌≡◌, ◌≤◌}
+use Rattle.beldi_laws.proofs.Names.answer
+use Rattle.beldi_laws.proofs.Names.entry
+use Rattle.beldi_laws.proofs.Names.kinds
+use Rattle.beldi_laws.proofs.Names.map
+use Rattle.beldi_laws.proofs.Names.mark
+use Rattle.beldi_laws.proofs.Names.owner
+use Rattle.beldi_laws.proofs.Names.reads
+use Rattle.beldi_laws.proofs.Names.rows
+use Rattle.beldi_laws.proofs.Names.stage
 use Rattle.beldi_laws.proofs.Lives.{places_late}
-use Rattle.beldi_laws.specs.Inside.{Frame, Inside}
 use Rattle.beldi_laws.proofs.Moves.{AfterAct, AfterTurn, Entered, Kept}
 use Rattle.beldi_laws.proofs.Closing.{settled_after}
 use Rattle.beldi_laws.proofs.Frames.{frame_log, items_stay, no_finish, nobody_set}
@@ -65,29 +18,10 @@ use Rattle.beldi_laws.proofs.Others.{kept_by}
 use Rattle.beldi_laws.proofs.Grown.{grows_moved}
 use Rattle.beldi_laws.proofs.Keeping.{as_it_was, goes_answered, set_shadows}
 use Rattle.beldi_laws.proofs.Turns.{effect_here, answer_here, all_here, step_here, effect_next, fits, not_over, goes_on, held, replays, steps_on, tx_next, plain_there, unlocked_there}
-use Rattle.beldi_known.proofs.Owners.{unowned, nobody_else}
-use Rattle.beldi_plain.specs.Guard.{touched_by, item_touched}
-use Rattle.beldi_plain.specs.Holds.{holds}
-use Rattle.beldi_laws.specs.Right.{Right, Knows, Keeps, WasThere}
-use Rattle.beldi_known.specs.Known.{Known, moved, commit_in, owed_read}
-use Rattle.beldi_order.specs.Txs.{tx_after, tx_now, txs_after}
-use Rattle.beldi_known.specs.Matches.{Matches}
-use Rattle.beldi_known.specs.Frame.{row_added}
 use Rattle.beldi_laws.proofs.Shown.{Shows, value_here, holds_here, settled}
 use Rattle.beldi_laws.proofs.Owed.{value_if, read_there}
 use Rattle.beldi_laws.proofs.KeptSane.{answered_kept}
 use Rattle.beldi_laws.proofs.Outside.{is_call}
-use Rattle.beldi_known.proofs.Ahead.{ahead_set, none_out}
-use Rattle.beldi_known.proofs.Outside.{read_added, no_tx}
-use Rattle.beldi_known.proofs.Frame.{moved_one}
-use Rattle.beldi_plain.specs.Operation.{op_of}
-use Rattle.beldi_known.proofs.Begun.{got_begun}
-use Rattle.beldi_known.proofs.ReadLists.{begun_lists}
-use Rattle.beldi_known.specs.Sane.{Sane}
-use Rattle.beldi_order.specs.Sane.{IsAnswer}
-use Rattle.beldi_order.specs.Grown.{Grows}
-use Rattle.beldi_known.specs.Listed.{listed}
-use Rattle.beldi_value.specs.declared.place.TxId.{TxId}
 
 -- what a log gives is what it owes
 pub given_owed : (w : Option Row) (o : Option Value) → LogMatches w o → option_map given_in w ≡ o

@@ -1,50 +1,14 @@
 -- A row of an intent or of a call was set: rows match what is known, after the row of a callee was put or a call was marked as registered, and a turn that does no more keeps all.
-use Rattle.std.proofs.Common.{◌≡◌, ℕ, Bool, true, false, cond, Option, None, Some, refl, ap, sym, ◌∙◌, subst, is_some}
-use Rattle.std.specs.FinMap as map
-use Rattle.beldi_intent.specs.Intent.{issued_at}
-use Rattle.beldi_invokelog.specs.InvokeLog.{invoke_key}
-use Rattle.beldi_row.proofs.Gets.{got, key_self}
-use Rattle.beldi_row.proofs.Unchanged.{unchanged}
-use Rattle.beldi_row.specs.Act.{act, register_to}
-use Rattle.beldi_row.specs.Table.{Rows, set_row, after_act}
-use Rattle.beldi_row.specs.declared.act.Act.TheVariants.{NoteRegistered}
-use Rattle.beldi_row.specs.declared.key.Kind.TheVariants as kinds
-use Rattle.beldi_row.specs.Key.{RowKey}
-use Rattle.beldi_row.specs.declared.row.Body.{Body}
-use Rattle.beldi_row.specs.declared.row.InvokeRow.{InvokeRow}
-use Rattle.beldi_row.specs.declared.row.Row.TheVariants as rows
-use Rattle.beldi_row.specs.declared.row.Row.{Row}
-use Rattle.beldi_step.specs.Run.{is_waited}
-use Rattle.beldi_tree.specs.declared.deployment.Deployment.{Deployment}
-use Rattle.beldi_value.specs.Id.{has_no_hops}
-use Rattle.beldi_value.specs.declared.id.IntentId.{IntentId}
-use Rattle.beldi_value.specs.declared.place.Place.{Place}
-use Rattle.beldi_value.specs.declared.place.TxId.{TxId}
-use Rattle.beldi_known.specs.Rows.{HasNoRow, IsBodyOf, CalleeMatches, FinishMatches, IntentMatches, CallMatches, OutcomeMatches}
-use Rattle.beldi_known.specs.Known.{Known, owed_call}
-use Rattle.beldi_known.specs.Matches.{LockedAtEnds, Matches, has_ended}
-use Rattle.beldi_known.proofs.Acts.{is_shadow}
-use Rattle.beldi_known.proofs.Intents.{callee_put}
-use Rattle.beldi_known.proofs.Sets.{is_log as is_row_log, row_put}
+use Rattle.beldi_laws.proofs.Names.{Body, Bool, CallMatches, CalleeMatches, Core, Deployment, FinishMatches, Frame, Goes, Grows, HasNoRow, IntentId, IntentMatches, InvokeRow, IsBodyOf, Item, Kind, Known, LockedAtEnds, Matches, None, NoteRegistered, Option, OutcomeMatches, Place, PlainState, Right, Row, RowKey, Rows, Sane, Some, TxId, act, after_act, ap, callee_put, cond, false, func_called, got, has_ended, has_finish, has_no_hops, invoke_key, is_row_log, is_shadow, is_some, is_waited, issued_at, key_self, listed, option_map, owed_call, refl, register_to, row_put, set_others, set_row, subst, sym, true, unchanged, value_at, ℕ, ◌∙◌, ◌≡◌}
+use Rattle.beldi_laws.proofs.Names.kinds
+use Rattle.beldi_laws.proofs.Names.map
+use Rattle.beldi_laws.proofs.Names.rows
 use Rattle.beldi_laws.proofs.Closing.{settled_after}
 use Rattle.beldi_laws.proofs.Frames.{NobodyJoins, NoFinish, is_entry, is_intent, frame_still, frame_row, items_stay, no_finish, no_new_finish, nobody_new}
 use Rattle.beldi_laws.proofs.Others.{kept_by}
 use Rattle.beldi_laws.proofs.Keeping.{SameShadows, set_shadows, stays_by}
-use Rattle.beldi_laws.specs.Inside.{Frame, has_finish}
-use Rattle.beldi_txn.specs.Invokes.{func_called}
-use Rattle.std.specs.Option.{option_map}
-use Rattle.beldi_plain.specs.Item.{Item}
-use Rattle.beldi_plain.specs.Plain.{PlainState, value_at}
-use Rattle.beldi_order.specs.Grown.{Grows}
-use Rattle.beldi_known.specs.InsideLaws.{Goes}
-use Rattle.beldi_known.specs.Listed.{listed}
-use Rattle.beldi_known.specs.Sane.{Sane}
-use Rattle.beldi_known.proofs.Rows.{set_others}
 use Rattle.beldi_laws.proofs.Moves.{Kept, Stays}
 use Rattle.beldi_laws.proofs.Shown.{Settled, log_values}
-use Rattle.beldi_laws.specs.Right.{Right}
-use Rattle.beldi_row.specs.declared.key.Kind.{Kind}
-use Rattle.beldi_step.specs.Host.{Core}
 
 -- ---- a row of an intent or of a call was set, and nothing else
 log_kind : (k : Kind) → is_row_log k ≡ true → (is_shadow k ≡ false) × (is_entry k ≡ true)

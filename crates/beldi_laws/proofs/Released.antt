@@ -1,30 +1,7 @@
 -- Past the end of a transaction it owns nothing: so it is of each number of steps that a run comes to.
-use Rattle.std.proofs.Common.{◌≡◌, ◌∙◌, ℕ, Bool, true, false, List, [], ◌∷◌, ◌++◌, length, length-append, take, Option, None, Some, refl, ap, sym, arith, append_assoc, eq-eqb, eqb-true, ◌==◌}
-use Rattle.std.specs.FinMap as map
-use Rattle.beldi_value.specs.declared.id.IntentId.{IntentId}
-use Rattle.beldi_value.specs.declared.place.Owner.TheVariants.{Tx as ByTx}
-use Rattle.beldi_value.specs.declared.place.TxId.{TxId}
-use Rattle.beldi_tree.specs.declared.deployment.Deployment.{Deployment}
-use Rattle.beldi_lang.specs.declared.effect.Answer.{Answer}
-use Rattle.beldi_lang.specs.declared.effect.Effect.{Effect}
-use Rattle.beldi_lang.specs.declared.effect.Effect.TheVariants as effect
-use Rattle.beldi_row.specs.Table.{Rows}
-use Rattle.beldi_plain.specs.Item.{Item}
-use Rattle.beldi_plain.specs.Plain.{Instance}
-use Rattle.beldi_order.specs.Txs.{effect_after, txs_after}
-use Rattle.beldi_order.proofs.Maps.{same_some}
-use Rattle.beldi_step.specs.declared.run.OpenTx.{OpenTx}
-use Rattle.beldi_step.specs.declared.run.RunTx.{RunTx}
-use Rattle.beldi_step.specs.declared.run.RunTx.TheVariants.{Own, Inherited}
-use Rattle.beldi_step.specs.Run.{own_tx}
-use Rattle.beldi_known.specs.Contents.{content_of}
-use Rattle.beldi_known.specs.Known.{Known, Prefix, and_once, answer_at_once, ended_by, run_on, run_once}
-use Rattle.beldi_known.specs.Matches.{Matches}
-use Rattle.beldi_known.proofs.Answers.{take_front}
-use Rattle.beldi_known.specs.Sane.{Sane}
-use Rattle.beldi_known.proofs.Begun.{got_begun}
-use Rattle.beldi_laws.specs.Inside.{Released}
-use Rattle.beldi_laws.specs.Right.{open_of}
+use Rattle.beldi_laws.proofs.Names.{Answer, Bool, ByTx, Deployment, Effect, Inherited, Instance, IntentId, Item, Known, List, Matches, None, OpenTx, Option, Own, Prefix, Released, Rows, RunTx, Sane, Some, TxId, [], and_once, answer_at_once, ap, append_assoc, arith, content_of, effect_after, ended_by, eq-eqb, eqb-true, false, got_begun, length, length-append, open_of, own_tx, refl, run_on, run_once, same_some, sym, take, take_front, true, txs_after, ℕ, ◌++◌, ◌==◌, ◌∙◌, ◌∷◌, ◌≡◌}
+use Rattle.beldi_laws.proofs.Names.effect
+use Rattle.beldi_laws.proofs.Names.map
 use Rattle.beldi_laws.proofs.Ended.{EndedAt, ended_at}
 use Rattle.beldi_laws.proofs.OpenOf.{own_begin, open_begun}
 

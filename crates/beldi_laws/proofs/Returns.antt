@@ -1,12 +1,8 @@
 -- A run at its return: who called its instance, and how that ends.
-use Rattle.std.proofs.Common.{◌≡◌, inl, inr, ℕ, Bool, true, false, List, [], ◌∷◌, Option, None, Some, refl, ap, sym, ◌∙◌, subst, is_some}
-use Rattle.std.specs.FinMap as map
-use Rattle.beldi_book.specs.declared.entry.Entry.{Entry}
-use Rattle.beldi_book.specs.declared.entry.Entry.TheVariants.{Step}
-use Rattle.beldi_lang.specs.Callee.{answer_of}
-use Rattle.beldi_lang.specs.declared.effect.Answer.{Answer}
+use Rattle.beldi_laws.proofs.Names.{Answer, Begun, Bool, Caller, Cause, Core, Deployment, Entry, Goes, Grows, Inside, Instance, IntentId, IsAnswer, IsCalled, Known, Knows, List, LockedAtEnds, None, Option, Outcome, Place, PlainState, Return, Right, Rows, Run, Sane, Says, Some, Step, TxId, [], ahead_set, answer_of, ap, caller_in, child_of, effect_of, enabled_step, ended, false, goes_one, got_ended, grown_end, grows_at, has_no_hops, inl, inr, is_begin, is_some, is_waited, item_touched, key_in, kind_of, none_out, place_of, refl, root_of, root_or_called, run_tx, same_some, set_over, step_by, subst, sym, touched, touched_by, true, turned_by, tx_after, tx_at, unlocked_elsewhere, waits_at, with_instance, within, ℕ, ◌∙◌, ◌∷◌, ◌≡◌}
+use Rattle.beldi_laws.proofs.Names.map
+use Rattle.beldi_laws.proofs.Names.outcome
 use Rattle.beldi_lang.specs.declared.effect.Answer.TheVariants as answers
-use Rattle.beldi_lang.specs.declared.effect.Effect.TheVariants.{Return}
 use Rattle.beldi_laws.proofs.Frames.{NobodyJoins, nobody_set}
 use Rattle.beldi_laws.proofs.Settling.{settled_ended, settled_grown}
 use Rattle.beldi_laws.proofs.Keeping.{SameShadows}
@@ -14,40 +10,6 @@ use Rattle.beldi_laws.proofs.Moves.{AfterTurn, change_entered, Entered}
 use Rattle.beldi_laws.proofs.Passing.{returns_in, tx_is}
 use Rattle.beldi_laws.proofs.Shown.{Settled, settled, legal_sane}
 use Rattle.beldi_laws.proofs.Turns.{answer_here, effect_here, effect_next, sane_instance, plain_there, outside_there}
-use Rattle.beldi_laws.specs.Inside.{Inside}
-use Rattle.beldi_laws.specs.Right.{Right, Knows}
-use Rattle.beldi_laws.specs.Stands.{key_in}
-use Rattle.beldi_order.proofs.Entries.{enabled_step, grows_at, grown_end}
-use Rattle.beldi_order.proofs.Maps.{same_some}
-use Rattle.beldi_order.specs.Grown.{Grows}
-use Rattle.beldi_order.specs.Sane.{IsAnswer, IsCalled}
-use Rattle.beldi_order.specs.Txs.{tx_after, tx_at}
-use Rattle.beldi_plain.specs.Guard.{touched_by, item_touched}
-use Rattle.beldi_plain.specs.Operation.{touched}
-use Rattle.beldi_plain.specs.Plain.{PlainState, Instance, effect_of, with_instance, ended, kind_of, step_by, waits_at}
-use Rattle.beldi_row.specs.Table.{Rows}
-use Rattle.beldi_step.specs.Host.{Core}
-use Rattle.beldi_step.specs.Run.{is_waited, place_of, tx_at as run_tx, turned_by, within}
-use Rattle.beldi_step.specs.declared.run.Begun.{Begun}
-use Rattle.beldi_step.specs.declared.run.Run.{Run}
-use Rattle.beldi_step.specs.declared.run.Says.{Says}
-use Rattle.beldi_tree.specs.declared.deployment.Deployment.{Deployment}
-use Rattle.beldi_value.specs.Id.{child_of, has_no_hops, root_of}
-use Rattle.beldi_value.specs.declared.id.IntentId.{IntentId}
-use Rattle.beldi_value.specs.declared.outcome.Cause.{Cause}
-use Rattle.beldi_value.specs.declared.outcome.Outcome.{Outcome}
-use Rattle.beldi_value.specs.declared.outcome.Outcome.TheVariants as outcome
-use Rattle.beldi_value.specs.declared.place.Caller.{Caller}
-use Rattle.beldi_value.specs.declared.place.Place.{Place}
-use Rattle.beldi_value.specs.declared.place.TxId.{TxId}
-use Rattle.beldi_known.proofs.Ahead.{unlocked_elsewhere, ahead_set, none_out}
-use Rattle.beldi_known.proofs.Callers.{caller_in, root_or_called}
-use Rattle.beldi_known.proofs.Outsides.{goes_one, got_ended, set_over}
-use Rattle.beldi_known.specs.Beside.{is_begin}
-use Rattle.beldi_known.specs.InsideLaws.{Goes}
-use Rattle.beldi_known.specs.Known.{Known}
-use Rattle.beldi_known.specs.Matches.{LockedAtEnds}
-use Rattle.beldi_known.specs.Sane.{Sane}
 
 -- the caller of an instance, if it has one, made it at this step
 pub record HasCaller (d : Deployment) (known : Known) (id : IntentId) (q : Instance) (c : Caller) : Type 0 where

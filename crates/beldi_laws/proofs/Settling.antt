@@ -1,37 +1,8 @@
 -- What rows keep of transactions is kept: where the plain state grows, where rows move by a frame, and where an instance is set.
-use Rattle.std.proofs.Common.{◌≡◌, ◌∙◌, inl, inr, ℕ, ◌≤◌, Bool, true, List, [], length, Option, Some, None, is_some, refl, ap, sym, subst}
-use Rattle.std.specs.Prelude.{slice_get}
-use Rattle.std.specs.FinMap as map
-use Rattle.beldi_value.specs.declared.id.IntentId.{IntentId}
-use Rattle.beldi_value.specs.declared.outcome.Cause.{Cause}
-use Rattle.beldi_value.specs.declared.outcome.Outcome.{Outcome}
-use Rattle.beldi_value.specs.declared.place.Owner.TheVariants.{Tx as ByTx}
-use Rattle.beldi_value.specs.declared.place.Place.{Place}
-use Rattle.beldi_value.specs.declared.place.TxId.{TxId}
-use Rattle.beldi_tree.specs.declared.deployment.Deployment.{Deployment}
-use Rattle.beldi_lang.specs.declared.effect.Answer.{Answer}
-use Rattle.beldi_lang.specs.declared.effect.Answer.TheVariants as answer
-use Rattle.beldi_lang.specs.declared.effect.Effect.{Effect}
-use Rattle.beldi_lang.specs.declared.effect.Effect.TheVariants as effect
-use Rattle.beldi_row.specs.Table.{Rows}
-use Rattle.beldi_plain.specs.Item.{Item}
-use Rattle.beldi_plain.specs.Operation.{touched}
-use Rattle.beldi_plain.specs.Plain.{Instance, PlainState, answered, ended, effect_of}
-use Rattle.beldi_plain.specs.Plain.{answered_if}
-use Rattle.beldi_order.specs.Grown.{Grows}
-use Rattle.beldi_order.specs.Txs.{Txs, tx_at, tx_now, tx_after, txs_after, txs_by, end_of}
-use Rattle.beldi_order.proofs.Maps.{same_some}
-use Rattle.beldi_order.proofs.Went.{txs_pushed, pushed_cases}
-use Rattle.beldi_step.specs.Run.{place_of}
-use Rattle.beldi_known.specs.Contents.{content_of}
-use Rattle.beldi_known.specs.Known.{Known, tx_end, ended_by, at_once, once, once_if, moved, answer_at_once}
-use Rattle.beldi_known.proofs.FrameAt.{known_set}
-use Rattle.beldi_known.proofs.NoTx.{outside_parts}
-use Rattle.beldi_laws.specs.Inside.{OwnedAreUnmarked, OwnersCallNobody, ParticipantsAreReleased, ParticipantsHaveRows, Frame, IsFreePlace, TookPart}
-use Rattle.beldi_laws.specs.Stands.{key_in}
-use Rattle.beldi_known.specs.InsideLaws.{HoldersInsideAreMade}
-use Rattle.beldi_order.specs.Inside.{IsBelow}
-use Rattle.beldi_plain.specs.Plain.{AllShort}
+use Rattle.beldi_laws.proofs.Names.{AllShort, Answer, Bool, ByTx, Cause, Deployment, Effect, Frame, Grows, HoldersInsideAreMade, Instance, IntentId, IsBelow, IsFreePlace, Item, Known, List, None, Option, Outcome, OwnedAreUnmarked, OwnersCallNobody, ParticipantsAreReleased, ParticipantsHaveRows, Place, PlainState, Rows, Some, TookPart, TxId, Txs, [], answer_at_once, answered, answered_if, ap, at_once, content_of, effect_of, end_of, ended, ended_by, inl, inr, is_some, key_in, known_set, length, moved, once, once_if, outside_parts, place_of, pushed_cases, refl, same_some, slice_get, subst, sym, touched, true, tx_after, tx_at, tx_end, tx_now, txs_after, txs_by, txs_pushed, ℕ, ◌∙◌, ◌≡◌, ◌≤◌}
+use Rattle.beldi_laws.proofs.Names.answer
+use Rattle.beldi_laws.proofs.Names.effect
+use Rattle.beldi_laws.proofs.Names.map
 use Rattle.beldi_laws.proofs.KeptSane.{outside_effect}
 use Rattle.beldi_laws.proofs.Lives.{made_stays}
 use Rattle.beldi_laws.proofs.Outside.{is_of_tx}

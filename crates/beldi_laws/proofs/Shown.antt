@@ -1,31 +1,9 @@
 -- What rows show of a plain state: what is known beside it, and that they match that. An event keeps it as the two move together.
-use Rattle.std.proofs.Common.{Bool, true, ◌≡◌, ◌∙◌, Option, Some, sym}
-use Rattle.std.specs.FinMap as map
-use Rattle.beldi_value.specs.declared.id.IntentId.{IntentId}
-use Rattle.beldi_value.specs.declared.place.TxId.{TxId}
-use Rattle.beldi_value.specs.declared.place.Owner.TheVariants as owner
-use Rattle.beldi_tree.specs.declared.deployment.Deployment.{Deployment}
-use Rattle.beldi_plain.specs.Item.{Item}
-use Rattle.beldi_plain.specs.Plain.{PlainState, value_at}
-use Rattle.beldi_order.specs.Sane as plain
-use Rattle.beldi_plain.specs.Holds.{holds}
-use Rattle.beldi_row.specs.Table.{Rows, set_row}
-use Rattle.beldi_order.proofs.Sound.{legal_is_sane}
-use Rattle.beldi_step.specs.Host.{Core}
-use Rattle.beldi_known.specs.Contents.{content_of}
-use Rattle.beldi_known.specs.Listed.{listed}
-use Rattle.beldi_known.specs.Known.{Known}
-use Rattle.beldi_known.specs.Matches.{Matches, LockedAtEnds}
-use Rattle.beldi_known.specs.Sane.{Sane}
-use Rattle.beldi_laws.specs.Inside.{OwnedAreUnmarked, OwnersCallNobody, ParticipantsAreReleased, ParticipantsHaveRows}
-use Rattle.beldi_plain.specs.Plain.{AllShort}
-use Rattle.beldi_known.specs.InsideLaws.{Goes, HoldersInsideAreMade, IsSound}
-use Rattle.beldi_laws.specs.Right.{Right}
+use Rattle.beldi_laws.proofs.Names.{AllShort, Bool, Core, Deployment, Goes, HoldersInsideAreMade, IntentId, IsSound, Item, Known, LockedAtEnds, Matches, Option, OwnedAreUnmarked, OwnersCallNobody, ParticipantsAreReleased, ParticipantsHaveRows, PlainState, Right, Row, RowKey, Rows, Sane, Some, TxId, content_of, holds, is_row_log, legal_is_sane, listed, log_lists, own_value, set_row, sym, true, value_at, ◌∙◌, ◌≡◌}
+use Rattle.beldi_laws.proofs.Names.map
+use Rattle.beldi_laws.proofs.Names.owner
+use Rattle.beldi_laws.proofs.Names.plain
 use Rattle.beldi_laws.proofs.Outside.{holds_known}
-use Rattle.beldi_row.specs.Key.{RowKey}
-use Rattle.beldi_row.specs.declared.row.Row.{Row}
-use Rattle.beldi_known.proofs.Lists.{own_value, log_lists}
-use Rattle.beldi_known.proofs.Sets.{is_log as is_row_log}
 
 -- what the rows keep of transactions
 pub record Settled (d : Deployment) (m : Rows) (p : PlainState) (known : Known) : Type 0 where

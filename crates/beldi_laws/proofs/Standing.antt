@@ -1,63 +1,17 @@
 -- Where the host and its rows are right, the rows stand for the run of the book.
-use Rattle.std.proofs.Common.{◌≡◌, ℕ, true, false, ◌||◌, ◌&&◌, ◌==◌, List, length, Option, None, Some, refl, ap, sym, ◌∙◌, subst, is_some, eq-eqb, eqb-true, arith, if◌then◌else◌, Bool, [], ◌∷◌, ◌++◌}
-use Rattle.std.specs.Prelude.{slice_get, option_and_then, zero, suc, take}
-use Rattle.std.specs.FinMap as map
-use Rattle.std.specs.Ordering.{is_eq}
-use Rattle.std.proofs.lemmas.Cmp.{tied_itself}
-use Rattle.std.proofs.lemmas.Option.{slice_get_within}
-use Rattle.beldi_value.specs.Id.{has_no_hops, child_of, root_of}
-use Rattle.beldi_value.specs.declared.id.IntentId.{IntentId}
-use Rattle.beldi_value.specs.declared.outcome.Outcome.{Outcome}
-use Rattle.beldi_value.specs.declared.outcome.Cause.{Cause}
-use Rattle.beldi_value.specs.declared.place.Place.{Place}
-use Rattle.beldi_value.specs.declared.place.TxId.{TxId}
-use Rattle.beldi_value.specs.declared.value.Value.{Value}
-use Rattle.beldi_value.specs.declared.value.Value.TheVariants as value
-use Rattle.beldi_tree.specs.declared.deployment.Deployment.{Deployment}
-use Rattle.beldi_lang.specs.declared.effect.Answer.{Answer}
-use Rattle.beldi_lang.specs.declared.effect.Answer.TheVariants as answer
-use Rattle.beldi_lang.specs.declared.effect.Effect.{Effect}
-use Rattle.beldi_lang.specs.declared.effect.Effect.TheVariants.{Read, Write, CondWrite, End, Call, Async}
-use Rattle.beldi_row.specs.Log.{note_at}
-use Rattle.beldi_row.specs.declared.notes.Note.{Note}
-use Rattle.beldi_row.specs.declared.notes.Note.TheVariants.{Wrote, Cond, Got, Died}
-use Rattle.beldi_row.specs.declared.row.Body.{Body}
-use Rattle.beldi_row.specs.declared.row.IntentRow.{IntentRow}
-use Rattle.beldi_row.specs.declared.row.Row.{Row}
-use Rattle.beldi_row.specs.declared.row.Row.TheVariants as rows
-use Rattle.beldi_row.specs.Table.{Rows}
-use Rattle.beldi_plain.specs.Item.{Item, item_total}
-use Rattle.beldi_plain.specs.Operation.{OnItem, op_of, item_in, touched}
-use Rattle.beldi_plain.specs.Plain.{Instance, PlainState, effect_before}
-use Rattle.beldi_plain.specs.Legal.{run_of}
-use Rattle.beldi_intent.specs.Intent.{root_key, is_ended}
-use Rattle.beldi_step.specs.Host.{Core}
-use Rattle.beldi_readlog.specs.ReadLog.{log_key, given}
-use Rattle.beldi_invokelog.specs.InvokeLog.{invoke_key, call_in, result_in}
-use Rattle.beldi_lang.specs.Callee.{answer_of}
-use Rattle.beldi_order.specs.Sane.{IsCalled, CalledBy, call_of, answer_given, IsAnswer, IsDeath}
-use Rattle.beldi_laws.specs.Stands.{Stands, IsMade, HasNotEnded, key_in, has_place, held_answer, held_outside, held_inside, held_note, decides, told_by, note_of_lock, answer_aside}
-use Rattle.std.specs.Option.{option_map}
-use Rattle.beldi_order.proofs.Maps.{same_some}
-use Rattle.beldi_known.proofs.Instances.{IsRowOf, row_of}
+use Rattle.beldi_laws.proofs.Names.{Answer, Async, Body, BodyMatches, Bool, Call, CallMatches, CalledBy, Cause, Cond, CondWrite, Core, Deployment, Died, Done, Effect, End, Got, HasNotEnded, Instance, IntentId, IntentMatches, IntentRow, IsAnswer, IsBodyOf, IsCalled, IsDeath, IsMade, IsOutside, IsRowOf, Item, Known, List, LogMatches, Matches, None, Note, OnItem, Option, Outcome, Place, PlainState, Read, Right, RootMatches, Row, Rows, Sane, Some, Stands, TxId, Value, Write, Wrote, [], ahead_note, answer_aside, answer_given, answer_of, answered_note, ap, arith, at_step, call_in, call_of, called_by, child_of, commit_in, decides, decision_there, effect_after, effect_before, ended_at, eq-eqb, eqb-true, false, given, has_ended, has_no_hops, has_place, head_key, held_answer, held_inside, held_note, held_outside, if◌then◌else◌, invoke_key, is_begin, is_decided, is_ended, is_eq, is_item, is_mark, is_some, is_waited, item_in, item_total, key_in, last_step, length, lock_owed, log_key, note_at, note_by, note_of, note_of_lock, note_or, noted_answer, op_of, option_and_then, option_map, or_own, outside_parts, owed_call, owed_note, owed_shadow, owed_value, place_of, refl, result_in, result_of, root_key, root_of, row_at, row_of, run_of, same_some, shadow_by, shadow_key, shadow_of, slice_get, slice_get_within, subst, sym, tied_itself, touched, true, tx_after, tx_at, tx_by, tx_self, txs_after, value_for, wants, write_op, ℕ, ◌&&◌, ◌++◌, ◌==◌, ◌||◌, ◌∙◌, ◌∷◌, ◌≡◌}
+use Rattle.beldi_laws.proofs.Names.answer
+use Rattle.beldi_laws.proofs.Names.effect
+use Rattle.beldi_laws.proofs.Names.map
+use Rattle.beldi_laws.proofs.Names.plain
+use Rattle.beldi_laws.proofs.Names.rows
+use Rattle.beldi_laws.proofs.Names.value
+use Rattle.std.specs.Prelude.{zero, suc, take}
+use Rattle.beldi_laws.specs.Stands.{told_by}
 use Rattle.beldi_laws.proofs.Readings.{given_owed}
 use Rattle.beldi_laws.proofs.Operations.{noted_back}
-use Rattle.beldi_step.specs.Run.{noted_answer, is_waited, place_of}
-use Rattle.beldi_lang.specs.declared.effect.Answer.TheVariants.{Done}
 use Rattle.beldi_laws.proofs.CallsHere.{same_call}
-use Rattle.beldi_known.specs.Contents.{head_key, shadow_of, shadow_key}
-use Rattle.beldi_known.specs.Owed.{noted, note_of, value_for, called_by, result_of}
-use Rattle.beldi_known.specs.Known.{write_op}
-use Rattle.beldi_known.specs.Rows.{IntentMatches, IsBodyOf, RootMatches, BodyMatches, CallMatches, LogMatches}
-use Rattle.beldi_laws.specs.Right.{Right}
-use Rattle.beldi_known.specs.Known.{Known, owed_call, owed_note, owed_shadow, owed_value, row_at, note_or, ahead_note, answered_note, at_step, note_by, shadow_by, is_item, lock_note as lock_owed, ended_at, commit_in, is_mark, is_decided, last_step}
-use Rattle.beldi_known.proofs.Behind.{decision_there}
-use Rattle.beldi_known.proofs.Locks.{tx_self}
-use Rattle.beldi_order.specs.Txs.{tx_at, tx_after, effect_after, txs_after, tx_by, or_own}
-use Rattle.beldi_known.specs.Matches.{Matches, has_ended}
-use Rattle.beldi_known.specs.Sane.{Sane}
-use Rattle.beldi_known.specs.Beside.{is_begin}
-use Rattle.beldi_known.proofs.NoTx.{IsOutside, outside_parts}
+use Rattle.beldi_known.specs.Owed.{noted}
 use Rattle.beldi_laws.proofs.Outside.{is_of_tx, known_of}
 use Rattle.beldi_laws.proofs.Owed.{note_if, value_if, note_there, read_there, no_end}
 use Rattle.beldi_laws.proofs.Grown.{tx_stays}
@@ -65,9 +19,6 @@ use Rattle.beldi_laws.proofs.Shown.{Shows, legal_sane, shown}
 use Rattle.beldi_laws.proofs.Committed.{placed, unplaced}
 use Rattle.beldi_laws.proofs.Ended.{ends_outside}
 use Rattle.beldi_laws.proofs.Widths.{answered_small}
-use Rattle.beldi_order.specs.Sane as plain
-use Rattle.beldi_lang.specs.Wants.{wants}
-use Rattle.beldi_lang.specs.declared.effect.Effect.TheVariants as effect
 use Rattle.beldi_laws.proofs.KeptSane.{outside_effect}
 
 -- the row of a root without outcome has none

@@ -1,20 +1,7 @@
 -- The roots that a book starts are the requests that were bound; and the outcomes that were told stay.
-use Rattle.std.proofs.Common.{◌≡◌, ℕ, List, [], ◌∷◌, ◌++◌, Option, None, Some, refl, ap, sym, ◌∙◌, subst}
-use Rattle.std.specs.Prelude.{option_to_list}
-use Rattle.std.specs.FinMap as map
-use Rattle.beldi_value.specs.declared.outcome.Outcome.{Outcome}
-use Rattle.beldi_tree.specs.declared.deployment.Deployment.{Deployment}
-use Rattle.beldi_book.specs.declared.entry.Entry.{Entry}
-use Rattle.beldi_book.specs.declared.entry.Entry.TheVariants.{Start, Read, Step, Tx, Try}
-use Rattle.beldi_row.specs.Table.{Rows}
-use Rattle.beldi_step.specs.declared.event.Seen.{Seen}
-use Rattle.beldi_step.specs.Host.{Core}
-use Rattle.beldi_laws.specs.Right.{Right}
-use Rattle.beldi_laws.specs.Laws.{starts_of, HasReply, InstancesGoOn, OutcomesStay, StartsAreBound}
-use Rattle.beldi_value.specs.Id.{root_of}
-use Rattle.beldi_plain.specs.Plain.{Instance, reply_of, outcome_of}
-use Rattle.beldi_order.proofs.Maps.{same_some}
-use Rattle.beldi_order.specs.Grown.{GrownAt, Grows}
+use Rattle.beldi_laws.proofs.Names.{Core, Deployment, Entry, GrownAt, Grows, HasReply, Instance, InstancesGoOn, List, None, Option, Outcome, OutcomesStay, Right, Rows, Seen, Some, Start, StartsAreBound, Step, Try, [], ap, option_to_list, outcome_of, refl, reply_of, root_of, same_some, starts_of, subst, sym, ℕ, ◌++◌, ◌∙◌, ◌∷◌, ◌≡◌}
+use Rattle.beldi_laws.proofs.Names.map
+use Rattle.beldi_book.specs.declared.entry.Entry.TheVariants.{Read, Tx}
 use Rattle.beldi_laws.proofs.Events.{after_event}
 use Rattle.beldi_laws.proofs.Moves.{seen_by, After}
 use Rattle.beldi_laws.proofs.OneEvent.{book_grew}

@@ -1,75 +1,23 @@
 -- The turns of a run: where it stands, and what each thing that a stage says leaves.
-use Rattle.std.proofs.Common.{◌≡◌, ℕ, Bool, true, false, List, [], ◌∷◌, ◌++◌, length, take, Option, None, Some, refl, ap, sym, ◌∙◌, subst, IsTrue, append_assoc, append-nil, if◌then◌else◌}
-use Rattle.std.specs.Prelude.{slice_get, is_some}
-use Rattle.std.specs.FinMap as map
-use Rattle.beldi_value.specs.Id.{id_total, id_exact, has_callees, has_no_hops}
-use Rattle.beldi_value.specs.declared.id.IntentId.{IntentId}
-use Rattle.beldi_value.specs.declared.outcome.Outcome.{Outcome}
-use Rattle.beldi_value.specs.declared.place.Caller.{Caller}
-use Rattle.beldi_value.specs.declared.place.Owner.{Owner}
-use Rattle.beldi_value.specs.declared.place.Owner.TheVariants.{Tx as ByTx}
-use Rattle.beldi_value.specs.declared.place.Place.{Place}
-use Rattle.beldi_value.specs.declared.place.TxId.{TxId}
-use Rattle.beldi_tree.specs.declared.deployment.Deployment.{Deployment}
-use Rattle.beldi_lang.specs.declared.effect.Answer.{Answer}
-use Rattle.beldi_lang.specs.declared.effect.Effect.{Effect}
-use Rattle.beldi_lang.specs.declared.effect.Effect.TheVariants.{Read, Write, CondWrite, Lock, Unlock, Call, Async, End, Return}
-use Rattle.beldi_lang.specs.declared.effect.Effect.TheVariants as effect
-use Rattle.beldi_lang.specs.declared.machine.Machine.{Machine}
-use Rattle.beldi_lang.specs.Wants.{wants, wants_answer}
-use Rattle.beldi_lang.specs.Machine.{IsAt}
-use Rattle.beldi_lang.proofs.Resumes.{at_effect, at_next}
-use Rattle.beldi_book.specs.declared.entry.Entry.{Entry}
-use Rattle.beldi_row.specs.Table.{Rows}
-use Rattle.beldi_row.proofs.Rows.{get_set}
-use Rattle.beldi_plain.specs.Item.{Item}
-use Rattle.beldi_plain.specs.Plain.{Instance, PlainState, effect_of, effect_before}
-use Rattle.beldi_txn.specs.declared.end.Visit.{Visit}
-use Rattle.beldi_txn.specs.declared.tx.TxAt.{TxAt}
-use Rattle.beldi_step.specs.declared.run.Run.{Run}
-use Rattle.beldi_step.specs.declared.run.RunAt.TheVariants.{Begins}
-use Rattle.beldi_step.specs.declared.run.Begun.{Begun}
-use Rattle.beldi_step.specs.declared.run.Mark.{Mark}
-use Rattle.beldi_step.specs.declared.run.OpenTx.{OpenTx}
-use Rattle.beldi_step.specs.declared.run.RunTx.{RunTx}
-use Rattle.beldi_step.specs.declared.run.RunTx.TheVariants.{Own, Inherited}
-use Rattle.beldi_step.specs.declared.run.Says.{Says}
-use Rattle.beldi_step.specs.declared.run.Says.TheVariants as says
-use Rattle.beldi_step.specs.declared.run.Stage.{Stage}
-use Rattle.beldi_step.specs.declared.run.Stage.TheVariants as stage
-use Rattle.beldi_step.specs.declared.run.Wait.TheVariants as wait
-use Rattle.beldi_call.specs.declared.async_call.AsyncAt.TheVariants as async
-use Rattle.beldi_call.specs.declared.call.CallAt.TheVariants as call
-use Rattle.beldi_step.specs.Run as step
-use Rattle.beldi_step.specs.Run.{callee_of, is_waited, last_stage, first_stage, over, goes, goes_from, goes_to, at_stage, turned_by, place_of, takes, takes_if, open_after, own_tx, tx_of, first_end, is_inherited}
-use Rattle.beldi_step.specs.Host.{Core, entry_of}
-use Rattle.beldi_laws.specs.Inside.{AtStage, Inside, Released}
-use Rattle.beldi_laws.specs.Stands.{key_in}
-use Rattle.beldi_laws.specs.Right.{Right, RunAt, Knows, KnowsAt, StageOk, MarkOk, PlaceOk, SeenDone, open_of}
-use Rattle.beldi_order.specs.Sane.{IsAnswer}
-use Rattle.beldi_order.proofs.Maps.{same_some}
-use Rattle.beldi_order.proofs.Called.{get_after}
-use Rattle.std.proofs.Math.Seq.{take-append_seam}
+use Rattle.beldi_laws.proofs.Names.{Answer, Async, AtStage, Begins, Begun, Bool, ByTx, Call, Caller, CondWrite, Core, Deployment, Effect, End, Entry, Grown, Inherited, Inside, Instance, IntentId, IsAnswer, IsAt, IsOutside, IsTrue, Item, Known, Knows, KnowsAt, List, Machine, Mark, MarkOk, None, OpenTx, Option, Outcome, Own, Owner, Place, PlaceOk, PlainState, Prefix, Read, Released, Return, Right, Rows, Run, RunAt, RunTx, SaneInstance, Says, SeenDone, Some, Stage, StageOk, TxAt, TxId, Unlock, Visit, Write, [], and_once, answer_at_once, ap, append-nil, append_assoc, at, at_effect, at_next, at_stage, caller_in, content_of, effect_after, effect_before, effect_of, entry_of, false, first_stage, get_after, get_set, goes, goes_from, goes_to, going_now, has_callees, has_no_hops, id_exact, id_total, if◌then◌else◌, is_begin, is_inherited, is_waited, key_in, last_stage, length, moved, open_after, open_of, outside_parts, outside_so, over, own_tx, place_of, refl, run_on, run_on_prefix, run_once, same_some, slice_get, stands, subst, sym, take, take-append_seam, takes, takes_if, true, turned_by, tx_after, tx_at, tx_now, tx_of, txs_after, unlocked_outside, wants, wants_answer, ℕ, ◌++◌, ◌∙◌, ◌∷◌, ◌≡◌}
+use Rattle.beldi_laws.proofs.Names.async
+use Rattle.beldi_laws.proofs.Names.call
+use Rattle.beldi_laws.proofs.Names.effect
+use Rattle.beldi_laws.proofs.Names.map
+use Rattle.beldi_laws.proofs.Names.says
+use Rattle.beldi_laws.proofs.Names.stage
+use Rattle.beldi_laws.proofs.Names.step
+use Rattle.beldi_laws.proofs.Names.wait
+use Rattle.std.specs.Prelude.{is_some}
+use Rattle.beldi_lang.specs.declared.effect.Effect.TheVariants.{Lock}
+use Rattle.beldi_step.specs.Run.{callee_of, first_end}
 use Rattle.beldi_laws.proofs.Moves.{AfterTurn, SameRoots, Kept, Stays, Entered, KnowsCallee, quiet, entered}
-use Rattle.beldi_known.specs.Contents.{content_of}
-use Rattle.beldi_known.specs.Known.{Known, Prefix, and_once, answer_at_once, moved, run_on, run_once}
-use Rattle.beldi_order.specs.Txs.{effect_after, tx_now, tx_at, tx_after, txs_after}
 use Rattle.beldi_laws.proofs.Shown.{Shows, legal_sane}
-use Rattle.beldi_known.specs.Beside.{is_begin}
-use Rattle.beldi_known.proofs.Ahead.{unlocked_outside}
-use Rattle.beldi_known.proofs.Begins.{going_now}
-use Rattle.beldi_known.proofs.Flows.{stands}
-use Rattle.beldi_known.proofs.Goes.{run_on_prefix}
-use Rattle.beldi_known.proofs.Callers.{caller_in}
-use Rattle.beldi_known.proofs.NoTx.{IsOutside, outside_so, outside_parts}
-use Rattle.beldi_known.proofs.Phases.{at}
 use Rattle.beldi_laws.proofs.Lives.{open_stays, places_same, run_on as live_on}
 use Rattle.beldi_laws.proofs.OpenOf.{called_in, called_out, open_begun, open_none, open_pushed, own_begin, tx_open}
 use Rattle.beldi_laws.proofs.Outside.{outside_more, is_of_tx, stands_outside, plain_here}
 use Rattle.beldi_laws.proofs.Released.{released_next, released_on}
-use Rattle.beldi_order.specs.Grown.{Grown}
 use Rattle.beldi_laws.proofs.Grown.{tx_stays, grown_same, grown_moved, moved_more}
-use Rattle.beldi_known.specs.Sane.{SaneInstance}
 
 -- ---- the stages of a transaction, but for calls and returns
 abbrev pub is_inside : Stage → Bool

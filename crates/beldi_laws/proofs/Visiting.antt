@@ -1,102 +1,21 @@
 -- The turns of a run at the end of its transaction, past the decision: it visits who took part, one after another; of each the items that
 -- it asked the locks of, and gives each back once; and gives each of them but its own instance a finish.
-use Rattle.std.proofs.Common.{◌≡◌, inl, inr, ℕ, ◌==◌, ◌&&◌, ◌||◌, Bool, true, false, List, [], ◌∷◌, ◌++◌, length, Option, None, Some, is_some, refl, ap, sym, ◌∙◌, subst, IsTrue, append_assoc, if◌then◌else◌}
-use Rattle.std.specs.FinMap as map
-use Rattle.std.specs.FinMap.{same_map}
-use Rattle.std.specs.Option.{option_map}
-use Rattle.std.specs.Ordering.{is_eq}
-use Rattle.beldi_value.specs.Id.{has_callees, has_no_hops}
-use Rattle.beldi_value.specs.declared.id.IntentId.{IntentId}
-use Rattle.beldi_value.specs.declared.place.Owner.TheVariants.{Tx}
-use Rattle.beldi_value.specs.declared.place.Place.{Place}
-use Rattle.beldi_value.specs.declared.place.TxId.{TxId}
-use Rattle.beldi_value.specs.declared.value.Value.{Value}
-use Rattle.beldi_value.specs.declared.value.Value.TheVariants as value
-use Rattle.beldi_tree.specs.declared.deployment.Deployment.{Deployment}
-use Rattle.beldi_lang.specs.declared.effect.Answer.{Answer}
-use Rattle.beldi_lang.specs.declared.effect.Answer.TheVariants as answer
-use Rattle.beldi_lang.specs.declared.effect.Effect.TheVariants as effect
-use Rattle.beldi_lang.specs.Wants.{wants_answer}
-use Rattle.beldi_book.specs.Order.{count_changes}
-use Rattle.beldi_row.specs.declared.key.Kind.{Kind}
-use Rattle.beldi_row.specs.declared.key.Kind.TheVariants as kinds
-use Rattle.beldi_row.specs.declared.notes.Note.{Note}
-use Rattle.beldi_row.specs.declared.notes.Note.TheVariants as note
-use Rattle.beldi_row.specs.declared.row.Body.{Body}
-use Rattle.beldi_row.specs.declared.row.IntentRow.{IntentRow}
-use Rattle.beldi_row.specs.declared.row.Row.{Row}
-use Rattle.beldi_row.specs.declared.row.Row.TheVariants as rows
-use Rattle.beldi_row.specs.Act.{given_or}
-use Rattle.beldi_row.specs.Key.{RowKey, key_cmp}
-use Rattle.beldi_row.specs.KeyOrder.{key_total, key_exact}
-use Rattle.beldi_row.specs.Log.{note_at}
-use Rattle.beldi_row.specs.Table.{Rows, set_row}
-use Rattle.beldi_row.proofs.Gets.{key_same}
-use Rattle.beldi_row.proofs.Unchanged.{unchanged}
-use Rattle.beldi_walk.specs.declared.query.Query.{Query}
-use Rattle.beldi_walk.specs.Query.{Told, rows_after, told_by}
-use Rattle.beldi_walk.proofs.Promises.{at_each}
-use Rattle.beldi_daal.specs.declared.cell.CellOp.TheVariants.{Free as FreeOp}
-use Rattle.beldi_daal.specs.declared.cell.WriteAt.{WriteAt}
-use Rattle.beldi_daal.specs.declared.cell.WriteGoes.{WriteGoes}
-use Rattle.beldi_daal.specs.declared.cell.WriteGoes.TheVariants as writes
-use Rattle.beldi_daal.specs.declared.cell.ReadGoes.{ReadGoes}
-use Rattle.beldi_daal.specs.declared.cell.ReadGoes.TheVariants as reads
-use Rattle.beldi_daal.specs.Cell.{read_goes, write_goes}
-use Rattle.beldi_daal.specs.Content.{Content, content_in, SoundAt}
-use Rattle.beldi_daal.specs.Logged.{done_to}
-use Rattle.beldi_daal.proofs.Stays.{notes_stay}
-use Rattle.beldi_intent.specs.Intent.{intent_key, root_key}
-use Rattle.beldi_lock.specs.Last.{split_last}
-use Rattle.beldi_lock.specs.Lockset.{lockset_found}
-use Rattle.beldi_plain.specs.Item.{Item}
-use Rattle.beldi_plain.specs.Plain.{Instance}
-use Rattle.beldi_order.specs.Sane.{IsAnswer}
-use Rattle.beldi_order.specs.Txs.{tx_after, txs_after, effect_after}
-use Rattle.beldi_order.proofs.Entries.{grows_self}
-use Rattle.beldi_order.proofs.Maps.{same_some}
-use Rattle.beldi_txn.specs.declared.end.EndAt.{EndAt}
-use Rattle.beldi_txn.specs.declared.end.EndAt.TheVariants.{Decide, Callees, Next, Shadow, Free, Stamp}
-use Rattle.beldi_txn.specs.declared.end.EndGoes.{EndGoes}
-use Rattle.beldi_txn.specs.declared.end.EndGoes.TheVariants as goes
-use Rattle.beldi_txn.specs.declared.end.Visit.{Visit}
-use Rattle.beldi_txn.specs.declared.end_walk.EndWalk.{EndWalk}
-use Rattle.beldi_txn.specs.declared.way.Called.{Called}
-use Rattle.beldi_txn.specs.End.{back_from, call_goes, calls_goes, counts, end_goes, first_end, free_place, freed_goes, last_goes, moved, next_goes, value_goes, visit_asks, visited_by}
-use Rattle.beldi_txn.specs.Invokes.{func_called, invokes_found}
-use Rattle.beldi_txn.specs.TxTurn.{shadow_value}
-use Rattle.beldi_txn.specs.Visited.{AllReleased, AreReleased, DecidedAt, GetsFinish, IsDecided, IsMember, Visited, given_value}
-use Rattle.beldi_txn.specs.Way.{Member, is_owner}
-use Rattle.beldi_txn.proofs.TxTurn.{asked}
-use Rattle.beldi_txn.proofs.Visited.{Leads, turns}
-use Rattle.beldi_readlog.specs.ReadLog.{log_key}
-use Rattle.beldi_step.specs.declared.run.Run.{Run}
-use Rattle.beldi_step.specs.declared.run.Begun.{Begun}
-use Rattle.beldi_step.specs.declared.run.OpenTx.{OpenTx}
-use Rattle.beldi_step.specs.declared.run.RunTx.{RunTx}
-use Rattle.beldi_step.specs.declared.run.RunTx.TheVariants.{Own, Inherited}
-use Rattle.beldi_step.specs.declared.run.Says.TheVariants as says
-use Rattle.beldi_step.specs.declared.run.Stage.TheVariants as stage
-use Rattle.beldi_step.specs.Run.{place_of, own_tx, tx_of, turned_by, end_by_asks, end_by_says, stage_asks, stage_says, visit_says}
-use Rattle.beldi_step.specs.Host.{Core, turn_next}
-use Rattle.beldi_step.specs.Tables.{decision_key, is_committed, value_in}
-use Rattle.beldi_known.specs.Beside.{is_begin}
-use Rattle.beldi_known.specs.Contents.{content_of, head_key, shadow_key}
-use Rattle.beldi_known.specs.Known.{tx_end, tx_eq, ended_at, ended_by, commit_in, is_mark, is_decided, last_step}
-use Rattle.beldi_known.specs.Listed.{listed}
-use Rattle.beldi_known.specs.Matches.{Matches, has_ended}
-use Rattle.beldi_known.specs.Rows.{CalleeBodyMatches, CalleeMatches, FinishMatches, IntentMatches, IsCalleeRow, tx_in}
-use Rattle.beldi_known.proofs.Acts.{kinds_apart, is_shadow}
-use Rattle.beldi_known.proofs.AtFront.{no_decision}
-use Rattle.beldi_known.proofs.Behind.{front, there as was_answered, stepped}
-use Rattle.beldi_known.proofs.Decided.{release_lists}
-use Rattle.beldi_known.proofs.Inside.{released}
-use Rattle.beldi_known.proofs.Locks.{tx_same, tx_self}
-use Rattle.beldi_known.proofs.Rows.{keys_set, no_root}
-use Rattle.beldi_known.proofs.Sets.{row_put}
-use Rattle.beldi_laws.specs.Inside.{AtStage, Frame, Inside, ParticipantsAreReleased, ParticipantsHaveRows, TookPart, end_walk, has_finish}
-use Rattle.beldi_laws.specs.Right.{Right, Knows, StageOk, MarkOk, is_past, open_of}
-use Rattle.beldi_laws.specs.Stands.{key_in}
+use Rattle.beldi_laws.proofs.Names.{AllReleased, Answer, AreReleased, AtStage, Begun, Body, Bool, Called, CalleeBodyMatches, CalleeMatches, Callees, Content, Core, Decide, DecidedAt, Deployment, EndAt, EndGoes, EndWalk, FinishMatches, Frame, Free, FreeOp, GetsFinish, Inherited, Inside, Instance, IntentId, IntentMatches, IntentRow, IsAnswer, IsCalleeRow, IsDecided, IsMember, IsTrue, Item, Kind, Knows, Leads, List, MarkOk, Matches, Member, Next, None, Note, OpenTx, Option, Own, ParticipantsAreReleased, ParticipantsHaveRows, Place, Query, ReadGoes, Right, Row, RowKey, Rows, Run, RunTx, Shadow, Some, SoundAt, StageOk, Stamp, Told, TookPart, Tx, TxId, Value, Visit, Visited, WriteAt, WriteGoes, [], ap, append_assoc, asked, at_each, back_from, call_goes, calls_goes, commit_in, content_in, content_of, count_changes, counts, decision_key, done_to, effect_after, end_by_asks, end_by_says, end_goes, end_walk, ended_at, ended_by, false, first_end, free_place, freed_goes, func_called, given_or, given_value, grows_self, has_callees, has_ended, has_finish, has_no_hops, head_key, if◌then◌else◌, inl, inr, intent_key, invokes_found, is_begin, is_committed, is_decided, is_eq, is_mark, is_past, is_shadow, is_some, key_cmp, key_exact, key_in, key_same, key_total, keys_set, kinds_apart, last_goes, last_step, length, listed, lockset_found, log_key, next_goes, no_decision, no_root, note_at, notes_stay, open_of, option_map, own_tx, place_of, read_goes, refl, release_lists, released, root_key, row_put, rows_after, same_map, same_some, set_row, shadow_key, shadow_value, split_last, stage_asks, stage_says, stepped, subst, sym, told_by, true, turn_next, turned_by, turns, tx_after, tx_end, tx_eq, tx_in, tx_of, tx_same, tx_self, txs_after, unchanged, value_goes, value_in, visit_asks, visit_says, visited_by, wants_answer, was_answered, write_goes, ℕ, ◌&&◌, ◌++◌, ◌==◌, ◌||◌, ◌∙◌, ◌∷◌, ◌≡◌}
+use Rattle.beldi_laws.proofs.Names.answer
+use Rattle.beldi_laws.proofs.Names.effect
+use Rattle.beldi_laws.proofs.Names.goes
+use Rattle.beldi_laws.proofs.Names.kinds
+use Rattle.beldi_laws.proofs.Names.map
+use Rattle.beldi_laws.proofs.Names.note
+use Rattle.beldi_laws.proofs.Names.reads
+use Rattle.beldi_laws.proofs.Names.rows
+use Rattle.beldi_laws.proofs.Names.says
+use Rattle.beldi_laws.proofs.Names.stage
+use Rattle.beldi_laws.proofs.Names.value
+use Rattle.beldi_laws.proofs.Names.writes
+use Rattle.beldi_txn.specs.End.{moved}
+use Rattle.beldi_txn.specs.Way.{is_owner}
+use Rattle.beldi_known.proofs.Behind.{front}
 use Rattle.beldi_laws.proofs.Askers.{owns_none}
 use Rattle.beldi_laws.proofs.Closing.{at_key, closed_rows_of, owner_is}
 use Rattle.beldi_laws.proofs.Ended.{ends_outside}

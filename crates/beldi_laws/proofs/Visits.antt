@@ -1,43 +1,11 @@
 -- What is so of the visits of an end: it is so once the decision is there, and stays through what others do.
-use Rattle.std.proofs.Common.{◌≡◌, ◌∙◌, inl, inr, ℕ, ◌==◌, ◌||◌, ◌&&◌, Bool, true, false, List, [], ◌∷◌, length, take, Option, None, Some, is_some, refl, ap, sym, subst, arith, eqb-true, eq-eqb, if◌then◌else◌}
-use Rattle.std.specs.Prelude.{slice_get}
-use Rattle.std.specs.FinMap as map
-use Rattle.std.proofs.lemmas.Option.{slice_get_within}
-use Rattle.beldi_value.specs.declared.id.IntentId.{IntentId}
-use Rattle.beldi_value.specs.declared.outcome.Outcome.{Outcome}
-use Rattle.beldi_value.specs.declared.place.Owner.{Owner}
-use Rattle.beldi_value.specs.declared.place.Owner.TheVariants.{Tx as ByTx}
-use Rattle.beldi_value.specs.declared.place.TxId.{TxId}
-use Rattle.beldi_value.specs.declared.value.Value.TheVariants as value
-use Rattle.beldi_tree.specs.declared.deployment.Deployment.{Deployment}
-use Rattle.beldi_lang.specs.declared.effect.Answer.{Answer}
-use Rattle.beldi_lang.specs.declared.effect.Effect.TheVariants as effect
-use Rattle.beldi_row.specs.declared.row.Row.{Row}
-use Rattle.beldi_row.specs.Act.{owns}
-use Rattle.beldi_row.specs.Log.{note_at}
-use Rattle.beldi_row.specs.Table.{Rows}
-use Rattle.beldi_plain.specs.Item.{Item}
-use Rattle.beldi_plain.specs.Plain.{Instance, PlainState, effect_of}
-use Rattle.beldi_order.specs.Grown.{GrownAt, Grows}
-use Rattle.beldi_order.specs.Txs.{effect_after, tx_after, tx_now}
-use Rattle.beldi_step.specs.Host.{Core}
-use Rattle.beldi_txn.specs.declared.end_walk.EndWalk.{EndWalk}
-use Rattle.beldi_txn.specs.declared.way.Called.{Called}
-use Rattle.beldi_txn.specs.End.{at_calls, first_end, free_place, visited_by}
+use Rattle.beldi_laws.proofs.Names.{Answer, AreMarked, AreReleased, AreSound, AtEnd, Bool, ByTx, Called, Core, Deployment, EndWalk, Frame, GrownAt, Grows, Instance, IntentId, IsCall, IsDecided, IsFreePlace, IsMember, IsOf, IsWay, IsWithin, IsWriting, Item, Known, List, LogMatches, Matches, Member, None, Option, Outcome, OwnedAreUnmarked, Owner, ParticipantsAreReleased, PlainState, Right, Row, Rows, Sane, Some, TookPart, TxId, Visited, [], ahead_by, ap, arith, aside_row, at_calls, at_step, commit_in, content_of, decided_over, decision_by, effect_after, effect_of, ended_by, eq-eqb, eqb-true, false, first_end, free_place, if◌then◌else◌, inl, inr, is_closed, is_decided, is_mark, is_own, is_some, item_row, last_step, length, lock_row, log_there, note_at, note_by, note_or, now_open, owed_note, owed_read, owed_value, owner_of, owns, read_at, refl, row_at, shadow_value, slice_get, slice_get_within, subst, sym, take, true, tx_after, tx_end, tx_now, value_or, visited_by, visits_stand, ℕ, ◌&&◌, ◌==◌, ◌||◌, ◌∙◌, ◌∷◌, ◌≡◌}
+use Rattle.beldi_laws.proofs.Names.effect
+use Rattle.beldi_laws.proofs.Names.map
+use Rattle.beldi_laws.proofs.Names.value
 use Rattle.beldi_txn.specs.Tx.{op_of}
-use Rattle.beldi_txn.specs.TxTurn.{shadow_value}
-use Rattle.beldi_txn.specs.Visited.{AreMarked, AreReleased, AreSound, AtEnd, IsCall, IsDecided, IsMember, IsWay, IsWithin, Leaves, Visited, aside_row, decision_row, is_closed, is_own, item_in, item_row, lock_row, owner_of}
-use Rattle.beldi_txn.specs.Way.{Member, callee_of}
-use Rattle.beldi_txn.proofs.Visited.{visits_stand}
-use Rattle.beldi_known.specs.Contents.{content_of}
-use Rattle.beldi_known.specs.Known.{Known, ahead_by, at_step, commit_in, decision_by, ended_by, is_decided, is_mark, last_step, note_by, note_or, owed_note, owed_read, owed_value, read_at, row_at, tx_end, value_or}
-use Rattle.beldi_known.specs.Matches.{Matches}
-use Rattle.beldi_known.specs.Rows.{LogMatches}
-use Rattle.beldi_known.specs.Sane.{Sane}
-use Rattle.beldi_known.proofs.Behind.{log_there}
-use Rattle.beldi_known.proofs.Participants.{decided_over, now_open}
-use Rattle.beldi_laws.specs.Inside.{Frame, IsFreePlace, IsOf, IsWriting, OwnedAreUnmarked, ParticipantsAreReleased, TookPart}
-use Rattle.beldi_laws.specs.Right.{Right}
+use Rattle.beldi_txn.specs.Visited.{Leaves, decision_row, item_in}
+use Rattle.beldi_txn.specs.Way.{callee_of}
 use Rattle.beldi_laws.proofs.Closing.{before_part, closed_there, finish_there, owner_is, owns_it}
 use Rattle.beldi_laws.proofs.Members.{IsKnownCall, TakesPart, call_known, call_there, callee_is, calls_joined, members_joined, took_part}
 use Rattle.beldi_laws.proofs.Shown.{Shows}

@@ -1,62 +1,13 @@
 -- Ids that are known are as long as ids may be, and rows of locks and of calls are of steps that bodies have: so the end of a
 -- transaction finds the first of the rows of whom it visits.
-use Rattle.std.proofs.Common.{◌≡◌, ◌⊎◌, inl, inr, zero, suc, ◌≤◌, ◌<◌, ◌+◌, ℕ, ◌&&◌, ◌||◌, Bool, true, false, List, [], ◌∷◌, ◌++◌, length, length-append, add-one, append-nil, get_or, Option, None, Some, is_some, refl, ap, sym, ◌∙◌, subst, arith, eqb-true, IsTrue}
-use Rattle.std.specs.Prelude.{take, nat_lt, nat_le, slice_get}
-use Rattle.std.specs.FinMap as map
-use Rattle.std.specs.Option.{is_none, option_map}
-use Rattle.std.proofs.lemmas.Bool.{and_parts, ltb-true}
-use Rattle.std.proofs.lemmas.List.{length-take-le, take_more, take-append-le}
-use Rattle.beldi_value.specs.Id.{root_of}
-use Rattle.beldi_value.specs.declared.id.IntentId.{IntentId}
-use Rattle.beldi_value.specs.declared.place.Place.{Place}
-use Rattle.beldi_value.specs.declared.place.TxId.{TxId}
-use Rattle.beldi_value.specs.declared.value.Value.{Value}
-use Rattle.beldi_tree.specs.declared.deployment.Deployment.{Deployment}
-use Rattle.beldi_lang.specs.declared.effect.Answer.{Answer}
-use Rattle.beldi_lang.specs.declared.effect.Answer.TheVariants as answer
-use Rattle.beldi_lang.specs.declared.effect.Effect.{Effect}
-use Rattle.beldi_lang.specs.declared.effect.Effect.TheVariants as effect
-use Rattle.beldi_lang.specs.Wants.{wants_answer}
-use Rattle.beldi_lang.proofs.Resumes.{few_answers}
-use Rattle.beldi_row.specs.declared.key.Kind.{Kind}
-use Rattle.beldi_row.specs.declared.key.Kind.TheVariants as kinds
-use Rattle.beldi_row.specs.declared.row.Row.{Row}
-use Rattle.beldi_row.specs.declared.row.Row.TheVariants as rows
-use Rattle.beldi_row.specs.Table.{Rows}
-use Rattle.beldi_lock.specs.Lockset.{most, AreHops}
-use Rattle.beldi_lock.proofs.Firsts.{IsLast, IsApart, first_apart}
-use Rattle.beldi_txn.specs.declared.way.Called.{Called}
-use Rattle.beldi_txn.specs.End.{first_end, visited_by}
-use Rattle.beldi_txn.specs.Invokes.{func_called}
-use Rattle.beldi_txn.specs.Visited.{IsMember}
-use Rattle.beldi_txn.specs.Way.{Member}
-use Rattle.beldi_txn.proofs.Calls.{IsNarrow, first_narrow}
-use Rattle.beldi_txn.proofs.Visited.{FindsFirstCall, FindsFirstLock}
-use Rattle.beldi_intent.specs.Intent.{root_key}
-use Rattle.beldi_plain.specs.Plain.{AllShort}
-use Rattle.beldi_plain.specs.Item.{Item}
-use Rattle.beldi_plain.specs.Operation.{touched}
-use Rattle.beldi_plain.specs.Plain.{Instance, effect_of, effect_before}
-use Rattle.beldi_order.specs.Sane.{CalledBy, IsAnswer, IsCalled, call_of}
-use Rattle.beldi_order.specs.Txs.{Txs, effect_after, or_own, tx_after, tx_by, tx_now, txs_after, txs_by}
-use Rattle.beldi_order.proofs.Called.{next_step}
-use Rattle.beldi_order.proofs.Ends.{fits_at}
-use Rattle.beldi_order.proofs.Maps.{same_some}
-use Rattle.beldi_order.proofs.Went.{txs_pushed}
-use Rattle.beldi_step.specs.Host.{Core}
-use Rattle.beldi_known.specs.Beside.{is_begin}
-use Rattle.beldi_known.specs.Contents.{lockset_key}
-use Rattle.beldi_known.specs.Known.{Known, is_item, begins_at, asks_lock, ended_by, lockset_of, owed_lockset, tx_end}
-use Rattle.beldi_known.specs.Matches.{Matches, LocksetMatches, is_open, lockset_ahead, has_ended}
-use Rattle.beldi_known.specs.Rows.{IntentMatches}
-use Rattle.beldi_known.specs.Sane.{Sane, SaneInstance}
-use Rattle.beldi_known.proofs.Callers.{root_or_called}
-use Rattle.beldi_known.proofs.Begun.{called_begun}
-use Rattle.beldi_known.proofs.Frame.{begins}
-use Rattle.beldi_known.proofs.OwnTx.{own_by}
-use Rattle.beldi_known.proofs.Phases.{begin_is}
-use Rattle.beldi_known.proofs.ReadLists.{gathered, no_begin}
-use Rattle.beldi_laws.specs.Right.{Right}
+use Rattle.beldi_laws.proofs.Names.{AllShort, Answer, AreHops, Bool, Called, CalledBy, Core, Deployment, Effect, FindsFirstCall, FindsFirstLock, Instance, IntentId, IntentMatches, IsAnswer, IsApart, IsCalled, IsMember, IsNarrow, IsTrue, Item, Kind, Known, List, LocksetMatches, Matches, Member, None, Option, Place, Right, Row, Rows, Sane, SaneInstance, Some, TxId, Txs, Value, [], add-one, and_parts, ap, append-nil, arith, asks_lock, begin_is, begins, begins_at, call_of, called_begun, effect_after, effect_before, effect_of, ended_by, eqb-true, false, few_answers, first_apart, first_end, first_narrow, fits_at, func_called, gathered, get_or, has_ended, inl, inr, is_begin, is_item, is_none, is_open, is_some, length, length-append, length-take-le, lockset_ahead, lockset_key, lockset_of, ltb-true, most, nat_le, nat_lt, next_step, no_begin, option_map, or_own, owed_lockset, own_by, refl, root_key, root_of, root_or_called, same_some, slice_get, subst, suc, sym, take-append-le, take_more, touched, true, tx_after, tx_by, tx_end, tx_now, txs_after, txs_by, txs_pushed, visited_by, wants_answer, zero, ℕ, ◌&&◌, ◌++◌, ◌+◌, ◌<◌, ◌||◌, ◌∙◌, ◌∷◌, ◌≡◌, ◌≤◌, ◌⊎◌}
+use Rattle.beldi_laws.proofs.Names.answer
+use Rattle.beldi_laws.proofs.Names.effect
+use Rattle.beldi_laws.proofs.Names.kinds
+use Rattle.beldi_laws.proofs.Names.map
+use Rattle.beldi_laws.proofs.Names.rows
+use Rattle.std.specs.Prelude.{take}
+use Rattle.beldi_lock.proofs.Firsts.{IsLast}
 use Rattle.beldi_laws.proofs.Ended.{owner_outside}
 use Rattle.beldi_laws.proofs.Members.{call_known, members_joined}
 

@@ -1,91 +1,21 @@
 -- The turns of an operation inside a transaction, past its lock: it looks at its shadow and at the item, keeps what it read, and makes and writes its shadow.
-use Rattle.std.proofs.Common.{◌≡◌, ◌⊎◌, inl, inr, ℕ, Bool, true, false, List, [], ◌∷◌, ◌++◌, length, Option, None, Some, refl, ap, sym, ◌∙◌, subst, is_some, if◌then◌else◌}
-use Rattle.std.specs.FinMap as map
-use Rattle.std.specs.Ordering.{is_eq}
-use Rattle.std.proofs.lemmas.Cmp.{tied_itself}
-use Rattle.beldi_value.specs.Id.{id_cmp, id_total}
-use Rattle.beldi_value.specs.Passes.{passes}
-use Rattle.beldi_value.specs.declared.id.IntentId.{IntentId}
-use Rattle.beldi_value.specs.declared.outcome.Cause.{Cause}
-use Rattle.beldi_value.specs.declared.place.Owner.{Owner}
-use Rattle.beldi_value.specs.declared.place.Owner.TheVariants.{Tx as ByTx}
-use Rattle.beldi_value.specs.declared.place.Place.{Place}
-use Rattle.beldi_value.specs.declared.place.TxId.{TxId}
-use Rattle.beldi_value.specs.declared.rel.Rel.{Rel}
-use Rattle.beldi_value.specs.declared.value.Value.{Value}
-use Rattle.beldi_value.specs.declared.value.Value.TheVariants as value
-use Rattle.beldi_tree.specs.declared.deployment.Deployment.{Deployment}
-use Rattle.beldi_lang.specs.declared.effect.Answer.{Answer}
-use Rattle.beldi_lang.specs.declared.effect.Answer.TheVariants as answer
-use Rattle.beldi_lang.specs.declared.effect.Effect.{Effect}
-use Rattle.beldi_lang.specs.declared.effect.Effect.TheVariants as effect
-use Rattle.beldi_row.specs.Act.{Tell, act, stays, other_owner, no_row, on_cell, at_tail, unless_held, noted_or as cell_noted, next_or, held_or as cell_held, entered, cond_to, did as was_did, noted as said_noted}
-use Rattle.beldi_row.specs.Log.{note_at}
-use Rattle.beldi_row.specs.Table.{Rows, set_row}
-use Rattle.beldi_row.specs.declared.act.Act.TheVariants.{Look, PutRead, MakeCell, WriteCell, CondCell}
-use Rattle.beldi_row.specs.Key.{RowKey}
-use Rattle.beldi_row.specs.declared.key.Kind.TheVariants as kinds
-use Rattle.beldi_row.specs.declared.notes.Note.{Note}
-use Rattle.beldi_row.specs.declared.notes.Note.TheVariants as note
-use Rattle.beldi_row.specs.declared.row.Cell.{Cell}
-use Rattle.beldi_row.specs.declared.row.Row.{Row}
-use Rattle.beldi_row.specs.declared.row.Row.TheVariants as rows
-use Rattle.beldi_row.proofs.Logs.{once_pushed}
-use Rattle.beldi_row.proofs.Unchanged.{unchanged, looked}
-use Rattle.beldi_walk.specs.Query.{said}
-use Rattle.beldi_daal.specs.Cell.{read_goes, write_goes}
-use Rattle.beldi_daal.specs.Content.{Content, content_in, SoundAt}
-use Rattle.beldi_daal.specs.declared.cell.ReadGoes.TheVariants as reads
-use Rattle.beldi_daal.specs.declared.cell.WriteAt.{WriteAt}
-use Rattle.beldi_daal.specs.declared.cell.WriteAt.TheVariants.{Try, Make}
-use Rattle.beldi_readlog.specs.ReadLog.{log_key}
-use Rattle.beldi_txn.specs.declared.tx.TxAt.{TxAt}
-use Rattle.beldi_txn.specs.declared.tx.TxAt.TheVariants as at
-use Rattle.beldi_txn.specs.Tx.{item_goes, item_leads, shadow_read, head_goes, head_made, keep_goes, write_leads, note_goes}
-use Rattle.beldi_txn.specs.Tx as txn
-use Rattle.beldi_txn.specs.TxTurn.{Fits, shadow_value}
-use Rattle.beldi_txn.proofs.TxTurn.{shadow_told}
-use Rattle.beldi_plain.specs.Item.{Item}
-use Rattle.beldi_plain.specs.Operation.{touched}
-use Rattle.beldi_plain.specs.Plain.{Instance, value_at, effect_of}
-use Rattle.beldi_order.specs.Sane.{IsAnswer}
-use Rattle.beldi_order.specs.Txs.{tx_after, tx_now}
-use Rattle.beldi_order.proofs.Entries.{grows_self}
-use Rattle.beldi_order.proofs.Maps as maps
-use Rattle.beldi_step.specs.declared.run.Begun.{Begun}
-use Rattle.beldi_step.specs.declared.run.RunTx.{RunTx}
-use Rattle.beldi_step.specs.declared.run.Run.{Run}
-use Rattle.beldi_step.specs.declared.run.Says.{Says}
-use Rattle.beldi_step.specs.declared.run.Says.TheVariants as says
-use Rattle.beldi_step.specs.declared.run.Stage.TheVariants as stage
-use Rattle.beldi_step.specs.Host.{Core, turn_next}
-use Rattle.beldi_step.specs.Run.{begin_of, place_of, tx_of, turned_by, tx_here_asks, tx_here_says, tx_says}
-use Rattle.beldi_step.specs.Tables.{decision_key, value_in}
-use Rattle.beldi_known.specs.Acts.{noted, did, tested, noted_or, held_or, lock_or, lock_answer, write_on, test_on}
-use Rattle.beldi_known.specs.Contents.{content_of, head_key, lockset_key, shadow_key, shadow_of}
-use Rattle.beldi_known.specs.Frame.{LockedOut}
-use Rattle.beldi_known.specs.Beside.{is_begin}
-use Rattle.beldi_known.specs.InsideLaws.{Goes, IsOpen}
-use Rattle.beldi_known.specs.Known.{Known, moved, owed_lockset}
-use Rattle.beldi_known.specs.Laws.{IsFront}
-use Rattle.beldi_known.specs.Listed.{listed, listed_under}
-use Rattle.beldi_known.specs.Matches.{Matches, lockset_ahead}
-use Rattle.beldi_known.specs.Sane.{Sane}
-use Rattle.beldi_known.specs.Shadows.{writes_on}
-use Rattle.beldi_known.proofs.Acts.{content_apart, kinds_apart, is_data}
-use Rattle.beldi_known.proofs.Ahead.{ahead_set}
-use Rattle.beldi_known.proofs.AtFront.{no_row as no_log, no_shadow_note}
-use Rattle.beldi_known.proofs.Behind.{behind_looks, behind_locks, behind_writes, behind_tests, death_in}
-use Rattle.beldi_known.proofs.Inside.{read_inside, write_inside, test_inside, shadow_made}
-use Rattle.beldi_known.proofs.Acting.{first_rows_go, reads_go, tests_go, writes_go}
-use Rattle.beldi_known.proofs.Lists.{shadow_lists}
-use Rattle.beldi_known.proofs.Begun.{got_begun, listed_open, undecided}
-use Rattle.beldi_known.proofs.ReadLists.{begun_lists}
-use Rattle.beldi_known.proofs.Rows.{set_here, set_others}
-use Rattle.beldi_known.proofs.Sanes.{sane_read, sane_wrote, sane_tested}
-use Rattle.beldi_known.proofs.Told.{write_parts, test_parts}
-use Rattle.beldi_laws.specs.Right.{Right, Knows}
-use Rattle.beldi_laws.specs.Inside.{Found, Frame, InItem, InOperation, Inside}
+use Rattle.beldi_laws.proofs.Names.{Answer, Begun, Bool, ByTx, Cause, Cell, CondCell, Content, Core, Deployment, Effect, Fits, Found, Frame, Goes, InItem, InOperation, Inside, Instance, IntentId, IsAnswer, IsFront, IsOpen, Item, Known, Knows, List, LockedOut, Look, Make, MakeCell, Matches, None, Note, Option, Owner, Place, PutRead, Rel, Right, Row, RowKey, Rows, Run, RunTx, Sane, Says, Some, SoundAt, Tell, TxAt, TxId, Value, WriteAt, WriteCell, [], act, ahead_set, ap, at_tail, begin_of, begun_lists, behind_locks, behind_looks, behind_tests, behind_writes, cell_held, cell_noted, cond_to, content_apart, content_in, content_of, death_in, decision_key, did, effect_of, entered, false, first_rows_go, got_begun, grows_self, head_goes, head_key, head_made, held_or, id_cmp, id_total, if◌then◌else◌, inl, inr, is_begin, is_data, is_eq, is_some, item_leads, keep_goes, kinds_apart, length, listed, listed_open, listed_under, lock_answer, lock_or, lockset_ahead, lockset_key, log_key, looked, moved, next_or, no_log, no_shadow_note, note_at, noted, noted_or, on_cell, once_pushed, other_owner, owed_lockset, passes, place_of, read_goes, read_inside, reads_go, refl, said, said_noted, sane_read, sane_tested, sane_wrote, set_here, set_others, set_row, shadow_key, shadow_lists, shadow_made, shadow_of, shadow_read, shadow_told, shadow_value, stays, subst, sym, test_inside, test_on, test_parts, tested, tests_go, tied_itself, touched, true, turn_next, turned_by, tx_after, tx_here_asks, tx_here_says, tx_now, tx_of, tx_says, unchanged, undecided, unless_held, value_at, value_in, was_did, write_goes, write_inside, write_leads, write_on, write_parts, writes_go, writes_on, ℕ, ◌++◌, ◌∙◌, ◌∷◌, ◌≡◌, ◌⊎◌}
+use Rattle.beldi_laws.proofs.Names.answer
+use Rattle.beldi_laws.proofs.Names.at
+use Rattle.beldi_laws.proofs.Names.effect
+use Rattle.beldi_laws.proofs.Names.kinds
+use Rattle.beldi_laws.proofs.Names.map
+use Rattle.beldi_laws.proofs.Names.maps
+use Rattle.beldi_laws.proofs.Names.note
+use Rattle.beldi_laws.proofs.Names.reads
+use Rattle.beldi_laws.proofs.Names.rows
+use Rattle.beldi_laws.proofs.Names.says
+use Rattle.beldi_laws.proofs.Names.stage
+use Rattle.beldi_laws.proofs.Names.txn
+use Rattle.beldi_laws.proofs.Names.value
+use Rattle.beldi_row.specs.Act.{no_row}
+use Rattle.beldi_daal.specs.declared.cell.WriteAt.TheVariants.{Try}
+use Rattle.beldi_txn.specs.Tx.{item_goes, note_goes}
 use Rattle.beldi_laws.proofs.Closing.{settled_after}
 use Rattle.beldi_laws.proofs.Frames.{NoFinish, NobodyJoins, frame_log, frame_shadow, is_lockset, items_stay, no_finish, nobody_new, nobody_set}
 use Rattle.beldi_laws.proofs.Settling.{settled_operated}

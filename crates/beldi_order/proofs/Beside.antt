@@ -1,27 +1,8 @@
 -- The moves of a transaction go by the items alone that they touch, and by the instances that are in it; and change no others.
-use Rattle.std.proofs.Common.{◌≡◌, inl, inr, ℕ, Bool, true, false, cond, List, [], ◌∷◌, Option, None, Some, refl, ap, sym, ◌∙◌, subst}
-use Rattle.std.specs.Option.{option_map}
-use Rattle.std.specs.FinMap as map
-use Rattle.std.specs.FinMap.{FinMap, get-insert, get-remove}
-use Rattle.std.specs.Ordering.{is_eq}
-use Rattle.beldi_value.specs.Id.{id_cmp, id_total}
-use Rattle.beldi_value.specs.declared.id.IntentId.{IntentId}
-use Rattle.beldi_value.specs.declared.place.TxId.{TxId}
-use Rattle.beldi_value.specs.declared.value.Value.{Value}
-use Rattle.beldi_value.specs.declared.value.Value.TheVariants.{Null}
-use Rattle.beldi_tree.specs.Bindings.{or_null}
-use Rattle.beldi_tree.specs.declared.deployment.Deployment.{Deployment}
-use Rattle.beldi_lang.specs.Callee.{answer_of}
-use Rattle.beldi_lang.specs.declared.effect.Answer.{Answer}
-use Rattle.beldi_lang.specs.declared.effect.Answer.TheVariants as answer
-use Rattle.beldi_lang.specs.declared.effect.Effect.{Effect}
-use Rattle.beldi_lang.specs.declared.effect.Effect.TheVariants as effect
-use Rattle.beldi_plain.specs.Item.{Item, item_cmp, item_total}
-use Rattle.beldi_plain.specs.Moves.{Move, plain, fell, moved, Leads, touched_item, touched_at, TouchedBy, TouchedIn}
-use Rattle.beldi_plain.specs.Operation.{OnItem, op_of, or_old, item_in, sets, set_if, set_item, answer_after, write, cond as test}
-use Rattle.beldi_plain.specs.Piece.{Going, new_member}
-use Rattle.beldi_plain.specs.Plain.{Instance, PlainState, with_instance, answered, ended, callee_of, calls_at, effect_of, value_at}
-use Rattle.beldi_order.specs.Inside.{IsIn, InLine, written_at, WrittenBy, WrittenIn, Alike, Beside, MovesReadTheirItems}
+use Rattle.beldi_order.proofs.Names.{Alike, Answer, Beside, Bool, Deployment, Effect, FinMap, Going, InLine, Instance, IntentId, IsIn, Item, Leads, List, Move, MovesReadTheirItems, None, Null, OnItem, Option, PlainState, Some, TouchedBy, TouchedIn, TxId, Value, WrittenBy, WrittenIn, [], answer_after, answer_of, answered, ap, callee_of, calls_at, cond, effect_of, ended, false, fell, get-insert, get-remove, id_cmp, id_total, inl, inr, is_eq, item_cmp, item_in, item_total, moved, new_member, op_of, option_map, or_null, or_old, plain, refl, set_if, set_item, sets, subst, sym, test, touched_at, touched_item, true, value_at, with_instance, write, written_at, ℕ, ◌∙◌, ◌∷◌, ◌≡◌}
+use Rattle.beldi_order.proofs.Names.answer
+use Rattle.beldi_order.proofs.Names.effect
+use Rattle.beldi_order.proofs.Names.map
 use Rattle.beldi_order.proofs.Line.{all_in, callee_in, line_moved, in_line, returned, answers_who_waits, shorter, not_longer}
 use Rattle.beldi_order.proofs.Maps.{elsewhere as stays}
 use Rattle.beldi_order.proofs.Moved.{Items, answer_inside, answer_by, items_after, items_by, MoveIs, answers, calls, returns, move_is, mover, answers_so, calls_so, returns_so}

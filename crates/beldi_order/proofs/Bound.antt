@@ -1,25 +1,10 @@
 -- The moves of a transaction are few: the address of the one that can step, from the owner on, read as a number of 64 digits,
 -- rises at each move.
-use Rattle.std.proofs.Common.{◌≡◌, inl, inr, ◌<◌, ◌≤◌, ◌+◌, ◌*◌, ◌^◌, ℕ, zero, suc, true, IsTrue, List, [], ◌∷◌, ◌++◌, length, length-append, None, Some, refl, ap, sym, ◌∙◌, subst, append_assoc, append-nil, arith}
-use Rattle.std.specs.FinMap as map
-use Rattle.std.specs.FinMap.{FinMap}
-use Rattle.std.proofs.Math.Nat.{one-le-pow, pow-succ', mul-le-mul_right}
-use Rattle.std.proofs.lemmas.Bool.{ltb-true}
-use Rattle.beldi_value.specs.Id.{id_cmp}
-use Rattle.beldi_value.specs.declared.id.IntentId.{IntentId}
-use Rattle.beldi_value.specs.declared.place.TxId.{TxId}
-use Rattle.beldi_tree.specs.declared.deployment.Deployment.{Deployment}
-use Rattle.beldi_lang.specs.Callee.{answer_of}
-use Rattle.beldi_lang.specs.Wants.{wants_answer}
-use Rattle.beldi_lang.specs.declared.effect.Answer.{Answer}
-use Rattle.beldi_lang.specs.declared.effect.Answer.TheVariants as answer
-use Rattle.beldi_lang.specs.declared.effect.Effect.{Effect}
-use Rattle.beldi_lang.specs.declared.effect.Effect.TheVariants as effect
-use Rattle.beldi_lang.proofs.Resumes.{few_answers}
-use Rattle.beldi_plain.specs.Moves.{Move, plain, fell, moved, Leads, Runs}
-use Rattle.beldi_plain.specs.Piece.{Going, enough, opened, tx_begun, new_member}
-use Rattle.beldi_plain.specs.Plain.{Instance, PlainState, answered, ended, callee_of, calls_at, effect_of}
-use Rattle.beldi_order.specs.Inside.{Line, top, next, InLine}
+use Rattle.beldi_order.proofs.Names.{Answer, Deployment, Effect, FinMap, Going, InLine, Instance, IntentId, IsTrue, Leads, Line, List, Move, None, PlainState, Runs, Some, TxId, [], answer_of, answered, ap, append-nil, append_assoc, arith, callee_of, calls_at, effect_of, ended, fell, few_answers, id_cmp, inl, inr, length, length-append, ltb-true, moved, mul-le-mul_right, new_member, next, one-le-pow, opened, plain, pow-succ', refl, subst, suc, sym, top, true, tx_begun, wants_answer, zero, ℕ, ◌*◌, ◌++◌, ◌+◌, ◌<◌, ◌^◌, ◌∙◌, ◌∷◌, ◌≡◌, ◌≤◌}
+use Rattle.beldi_order.proofs.Names.answer
+use Rattle.beldi_order.proofs.Names.effect
+use Rattle.beldi_order.proofs.Names.map
+use Rattle.beldi_plain.specs.Piece.{enough}
 use Rattle.beldi_order.proofs.Line.{line_opened, last_of, line_moved, returned, shorter, longer}
 use Rattle.beldi_order.proofs.Maps.{same_some, here}
 use Rattle.beldi_order.proofs.Moved.{Items, answer_by, MoveIs, answers, calls, returns, move_is, mover}

@@ -1,29 +1,7 @@
 -- An instance and what it called at a step: what the next entry leaves of the two.
-use Rattle.std.proofs.Common.{◌≡◌, ℕ, zero, suc, ◌<◌, ◌≤◌, Bool, false, List, [], ◌∷◌, ◌++◌, length, Option, Some, None, refl, ap, sym, ◌∙◌, subst, ◌⊎◌, inl, inr, true, arith, length-append, is_some, take}
-use Rattle.std.specs.Prelude.{slice_get}
-use Rattle.std.specs.FinMap as map
-use Rattle.std.specs.FinMap.{FinMap}
-use Rattle.std.specs.Ordering.{is_eq}
-use Rattle.std.proofs.lemmas.Cmp.{tied_itself}
-use Rattle.std.proofs.Math.Nat.{eq-or-lt_of_le}
-use Rattle.std.proofs.lemmas.List.{take_all, take-append-le}
-use Rattle.std.proofs.lemmas.Option.{slice_get_past}
-use Rattle.beldi_value.specs.Id.{id_cmp, id_total, root_of, child_of, has_no_hops}
-use Rattle.beldi_value.specs.declared.id.IntentId.{IntentId}
-use Rattle.beldi_value.specs.declared.outcome.Outcome.{Outcome}
-use Rattle.beldi_value.specs.declared.place.Caller.{Caller}
-use Rattle.beldi_value.specs.declared.place.TxId.{TxId}
-use Rattle.beldi_value.specs.declared.value.Value.{Value}
-use Rattle.beldi_value.proofs.Callees.{child_same, no_root}
-use Rattle.beldi_tree.specs.declared.deployment.Deployment.{Deployment}
-use Rattle.beldi_lang.specs.declared.effect.Answer.{Answer}
-use Rattle.beldi_lang.specs.declared.effect.Answer.TheVariants.{Done}
-use Rattle.beldi_lang.specs.declared.effect.Effect.TheVariants.{Call, Async}
-use Rattle.beldi_lang.specs.Callee.{answer_of}
-use Rattle.beldi_lang.specs.Wants.{wants}
-use Rattle.beldi_plain.specs.Plain.{Instance, new_instance, answered, ended, calls_at, effect_of, effect_before}
-use Rattle.beldi_order.specs.Sane.{IsCalled, CalledBy, call_of, answer_given, within_by, forgets, forgets_begun, is_forgotten}
-use Rattle.beldi_order.specs.Txs.{tx_at, tx_after, tx_now, txs_after, end_of}
+use Rattle.beldi_order.proofs.Names.{Answer, Async, Bool, Call, CalledBy, Caller, Deployment, Done, FinMap, Instance, IntentId, IsCalled, List, None, Option, Outcome, Some, TxId, Value, [], answer_given, answer_of, answered, ap, arith, call_of, calls_at, child_of, child_same, effect_before, effect_of, end_of, ended, eq-or-lt_of_le, false, forgets, forgets_begun, has_no_hops, id_cmp, id_total, inl, inr, is_eq, is_forgotten, length, length-append, new_instance, no_root, refl, root_of, slice_get, slice_get_past, subst, suc, sym, take, take-append-le, take_all, tied_itself, true, tx_after, tx_at, tx_now, txs_after, wants, within_by, zero, ℕ, ◌++◌, ◌<◌, ◌∙◌, ◌∷◌, ◌≡◌, ◌≤◌, ◌⊎◌}
+use Rattle.beldi_order.proofs.Names.map
+use Rattle.std.proofs.Common.{is_some}
 use Rattle.beldi_order.proofs.Ends.{ends_go_on}
 use Rattle.beldi_order.proofs.Maps.{same_some, made_set, equal, elsewhere, here}
 

@@ -1,12 +1,6 @@
 -- The transactions of an instance: one that is open has not ended, and an End that is answered stays.
-use Rattle.std.proofs.Common.{◌≡◌, ℕ, ◌+◌, ◌<◌, ◌≤◌, Bool, true, false, List, [], ◌∷◌, ◌++◌, length, length-append, Option, None, Some, refl, ap, sym, ◌∙◌, subst, eqb-true, append-nil, append_assoc, arith}
-use Rattle.std.specs.Prelude.{if◌then◌else◌}
-use Rattle.beldi_tree.specs.declared.deployment.Deployment.{Deployment}
-use Rattle.beldi_lang.specs.declared.effect.Answer.{Answer}
-use Rattle.beldi_lang.specs.declared.effect.Effect.{Effect}
-use Rattle.beldi_lang.specs.declared.effect.Effect.TheVariants as effect
-use Rattle.beldi_plain.specs.Plain.{Instance, answered}
-use Rattle.beldi_order.specs.Txs.{Txs, txs_by, txs_after, none_begun, effect_after, along, is_at, end_of}
+use Rattle.beldi_order.proofs.Names.{Answer, Bool, Deployment, Effect, Instance, List, None, Option, Some, Txs, [], along, answered, ap, append-nil, append_assoc, arith, effect_after, end_of, eqb-true, false, if◌then◌else◌, is_at, length, length-append, none_begun, refl, subst, sym, true, txs_after, txs_by, ℕ, ◌++◌, ◌+◌, ◌<◌, ◌∙◌, ◌∷◌, ◌≡◌, ◌≤◌}
+use Rattle.beldi_order.proofs.Names.effect
 
 pub record Fits (n : ℕ) (s : Txs) : Type 0 where
   pub fresh : (b : ℕ) → n ≤ b → s.ends b ≡ None

@@ -1,37 +1,14 @@
 -- What every entry does, and what it keeps.
-use Rattle.std.proofs.Common.{◌≡◌, ℕ, zero, suc, Bool, true, false, List, [], ◌∷◌, ◌++◌, Option, None, Some, refl, ap, sym, ◌∙◌, subst, append-nil, append_assoc}
-use Rattle.std.specs.Prelude.{option_and_then, is_some, if◌then◌else◌}
-use Rattle.std.specs.FinMap as map
-use Rattle.std.specs.FinMap.{FinMap}
-use Rattle.beldi_value.specs.Id.{root_of, has_callees, id_cmp}
-use Rattle.beldi_value.specs.declared.id.IntentId.{IntentId}
-use Rattle.beldi_value.specs.declared.outcome.Outcome.{Outcome}
-use Rattle.beldi_value.specs.declared.place.Caller.{Caller}
-use Rattle.beldi_value.specs.declared.place.Place.{Place}
-use Rattle.beldi_value.specs.declared.place.TxId.{TxId}
-use Rattle.beldi_value.specs.declared.value.Value.{Value}
-use Rattle.beldi_tree.specs.declared.deployment.Deployment.{Deployment}
-use Rattle.beldi_lang.specs.declared.effect.Answer.{Answer}
-use Rattle.beldi_lang.specs.declared.effect.Answer.TheVariants as answer
-use Rattle.beldi_lang.specs.declared.effect.Effect.{Effect}
-use Rattle.beldi_lang.specs.declared.effect.Effect.TheVariants as effect
-use Rattle.beldi_lang.specs.Callee.{answer_of}
-use Rattle.beldi_book.specs.declared.entry.Entry.{Entry}
-use Rattle.beldi_book.specs.declared.entry.Entry.TheVariants.{Start, Read, Step, Tx, Try}
-use Rattle.beldi_order.specs.Grown.{Grown, GrownAt, Grows}
-use Rattle.beldi_order.specs.Inside.{InLine}
-use Rattle.beldi_plain.specs.Moves.{Move, moved, Leads, Commits, Aborts}
-use Rattle.beldi_plain.specs.Piece.{Going, tx_begun, opened, new_member}
+use Rattle.beldi_order.proofs.Names.{Aborts, Answer, Bool, Caller, Commits, Deployment, Effect, Entry, FinMap, Going, Grown, GrownAt, Grows, InLine, Instance, IntentId, Kind, Leads, List, Move, None, OnItem, Option, Outcome, Place, PlainState, Read, Some, Start, Step, Try, Tx, TxId, Value, [], after, answer_after, answer_caller, answer_of, answered, ap, append-nil, append_assoc, callee_of, calls_at, can_step, effect_of, ended, false, give, has_callees, id_cmp, if_read, if◌then◌else◌, is_some, is_waiting, item_in, item_of, kind_of, moved, new_instance, new_member, op_of, opened, operated, option_and_then, refl, root_of, run_from, start, step_by, subst, suc, sym, true, tx_begun, value_at, waits_at, with_instance, zero, ℕ, ◌++◌, ◌∙◌, ◌∷◌, ◌≡◌}
+use Rattle.beldi_order.proofs.Names.answer
+use Rattle.beldi_order.proofs.Names.effect
+use Rattle.beldi_order.proofs.Names.kinds
+use Rattle.beldi_order.proofs.Names.map
 use Rattle.beldi_order.proofs.Line.{all_moves, line_opened, last_of, line_moved, returned, shorter, not_longer}
 use Rattle.beldi_order.proofs.Maps.{same_some, made_set, still_made, elsewhere}
 use Rattle.beldi_order.proofs.Moved.{MoveIs, answers, calls, returns, move_is, mover}
 use Rattle.beldi_order.proofs.Pieces.{can_step_is, steps_so, commits, aborts}
-use Rattle.beldi_plain.specs.Plain.{Instance, PlainState, new_instance, start, can_step, if_read, if_change, step_by, operated, with_instance, answered, ended, give, answer_caller, callee_of, calls_at, effect_of, kind_of, waits_at, is_waiting, item_of, value_at}
-use Rattle.beldi_plain.specs.Entries.{after}
-use Rattle.beldi_plain.specs.Legal.{run_from}
-use Rattle.beldi_plain.specs.Operation.{OnItem, op_of, item_in, answer_after}
-use Rattle.beldi_plain.specs.declared.kind.Kind.{Kind}
-use Rattle.beldi_plain.specs.declared.kind.Kind.TheVariants as kinds
+use Rattle.beldi_plain.specs.Plain.{if_change}
 
 -- ---- runs in parts
 pub run_append : (d : Deployment) (p : PlainState) (es fs : List Entry) → run_from d p (es ++ fs) ≡ option_and_then (λ q. run_from d q fs) (run_from d p es)

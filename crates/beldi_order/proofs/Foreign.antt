@@ -1,31 +1,9 @@
 -- An entry of another leaves an instance that stands at its Begin, and the items that the entry does not touch.
-use Rattle.std.proofs.Common.{◌≡◌, inl, inr, ◌<◌, ◌≤◌, ℕ, true, false, cond, List, [], ◌∷◌, ◌++◌, length, Option, None, Some, refl, ap, sym, ◌∙◌, subst, append-nil, append_assoc, arith}
-use Rattle.std.specs.Option.{option_map}
-use Rattle.std.specs.FinMap as map
-use Rattle.std.specs.FinMap.{FinMap, get-insert}
-use Rattle.std.specs.Ordering.{is_eq}
-use Rattle.beldi_value.specs.Id.{root_of, child_of, id_cmp, id_total}
-use Rattle.beldi_value.specs.declared.id.IntentId.{IntentId}
-use Rattle.beldi_value.specs.declared.place.Place.{Place}
-use Rattle.beldi_value.specs.declared.place.TxId.{TxId}
-use Rattle.beldi_tree.specs.declared.deployment.Deployment.{Deployment}
-use Rattle.beldi_lang.specs.declared.effect.Answer.TheVariants as answer
-use Rattle.beldi_lang.specs.declared.effect.Effect.{Effect}
-use Rattle.beldi_lang.specs.declared.effect.Effect.TheVariants as effect
-use Rattle.beldi_lang.specs.Callee.{answer_of}
-use Rattle.beldi_book.specs.declared.entry.Entry.{Entry}
-use Rattle.beldi_book.specs.declared.entry.Entry.TheVariants.{Start, Read, Step, Tx, Try}
-use Rattle.beldi_plain.specs.Entries.{after}
-use Rattle.beldi_plain.specs.Guard.{actor, touched_by, item_touched}
-use Rattle.beldi_plain.specs.Item.{Item}
-use Rattle.beldi_plain.specs.Moves.{Commits, Aborts}
-use Rattle.beldi_plain.specs.Operation.{OnItem, op_of, item_in, answer_after}
-use Rattle.beldi_plain.specs.Piece.{opened, tx_begun}
-use Rattle.beldi_plain.specs.Plain.{Instance, PlainState, new_instance, answered, ended, with_instance, calls_at, callee_of, waits_at, effect_of, item_of, operated, step_by, value_at}
-use Rattle.beldi_plain.specs.declared.kind.Kind.{Kind}
-use Rattle.beldi_plain.specs.declared.kind.Kind.TheVariants as kinds
-use Rattle.beldi_order.specs.Inside.{IsBelow, IsIn, EntriesTouchWhatTheyChange, OthersLeaveTransactions}
-use Rattle.beldi_order.specs.Sane.{IsCalled}
+use Rattle.beldi_order.proofs.Names.{Aborts, Commits, Deployment, Effect, EntriesTouchWhatTheyChange, Entry, FinMap, Instance, IntentId, IsBelow, IsCalled, IsIn, Item, Kind, List, None, OnItem, Option, OthersLeaveTransactions, Place, PlainState, Read, Some, Start, Step, Try, Tx, TxId, [], actor, after, answer_after, answer_of, answered, ap, append-nil, append_assoc, arith, callee_of, calls_at, child_of, cond, effect_of, ended, false, get-insert, id_cmp, id_total, inl, inr, is_eq, item_in, item_of, item_touched, length, new_instance, op_of, opened, operated, option_map, refl, root_of, step_by, subst, sym, touched_by, true, tx_begun, value_at, waits_at, with_instance, ℕ, ◌++◌, ◌<◌, ◌∙◌, ◌∷◌, ◌≡◌, ◌≤◌}
+use Rattle.beldi_order.proofs.Names.answer
+use Rattle.beldi_order.proofs.Names.effect
+use Rattle.beldi_order.proofs.Names.kinds
+use Rattle.beldi_order.proofs.Names.map
 use Rattle.beldi_order.proofs.Beside.{kept_by, kept, others, beside}
 use Rattle.beldi_order.proofs.Called.{Linked}
 use Rattle.beldi_order.proofs.Entries.{did, Stepped, absent, answer_keeps}

@@ -1,31 +1,8 @@
 -- A transaction that goes on is sane at each of its moves; and so is what it leaves at its end.
-use Rattle.std.proofs.Common.{◌≡◌, ℕ, ◌<◌, ◌≤◌, Bool, true, false, inl, inr, List, [], ◌∷◌, ◌++◌, length, length-append, take, Option, None, Some, refl, ap, sym, ◌∙◌, subst, append_assoc, arith}
-use Rattle.std.specs.Prelude.{if◌then◌else◌}
-use Rattle.std.specs.FinMap as map
-use Rattle.std.specs.FinMap.{FinMap}
-use Rattle.std.specs.Ordering.{is_eq}
-use Rattle.std.proofs.lemmas.Cmp.{tied_itself}
-use Rattle.std.proofs.lemmas.List.{take_all, take-append-le}
-use Rattle.std.proofs.Math.Nat.{eq-or-lt_of_le}
-use Rattle.std.proofs.lemmas.Bool.{false_from_ne_true}
-use Rattle.beldi_value.specs.Id.{id_cmp, id_total, is_older}
-use Rattle.beldi_value.specs.declared.id.IntentId.{IntentId}
-use Rattle.beldi_value.specs.declared.place.Place.{Place}
-use Rattle.beldi_value.specs.declared.place.TxId.{TxId}
-use Rattle.beldi_value.specs.declared.value.Value.{Value}
-use Rattle.beldi_tree.specs.declared.deployment.Deployment.{Deployment}
-use Rattle.beldi_lang.specs.declared.effect.Answer.{Answer}
-use Rattle.beldi_lang.specs.declared.effect.Answer.TheVariants as answer
-use Rattle.beldi_lang.specs.declared.effect.Effect.{Effect}
-use Rattle.beldi_lang.specs.declared.effect.Effect.TheVariants as effect
-use Rattle.beldi_lang.specs.Callee.{answer_of}
-use Rattle.beldi_plain.specs.Moves.{Move, plain, fell, moved, Leads}
-use Rattle.beldi_plain.specs.Piece.{Going, is_owner, dies_at, aborted}
-use Rattle.beldi_plain.specs.Plain.{Instance, answered, ended, callee_of, calls_at, effect_of}
-use Rattle.beldi_order.specs.Grown.{Grown}
-use Rattle.beldi_order.specs.Inside.{IsMember, Line, top, next, InLine}
-use Rattle.beldi_order.specs.Sane.{IsAnswer, IsCalled, call_of}
-use Rattle.beldi_order.specs.Txs.{txs_after, tx_by, or_own, tx_now}
+use Rattle.beldi_order.proofs.Names.{Answer, Bool, Deployment, Effect, FinMap, Going, Grown, InLine, Instance, IntentId, IsAnswer, IsCalled, IsMember, Leads, Line, List, Move, None, Option, Place, Some, TxId, Value, [], aborted, answer_of, answered, ap, append_assoc, arith, call_of, callee_of, calls_at, dies_at, effect_of, ended, eq-or-lt_of_le, false, false_from_ne_true, fell, id_cmp, id_total, if◌then◌else◌, inl, inr, is_eq, is_older, is_owner, length, length-append, moved, next, or_own, plain, refl, subst, sym, take, take-append-le, take_all, tied_itself, top, true, tx_by, tx_now, txs_after, ℕ, ◌++◌, ◌<◌, ◌∙◌, ◌∷◌, ◌≡◌, ◌≤◌}
+use Rattle.beldi_order.proofs.Names.answer
+use Rattle.beldi_order.proofs.Names.effect
+use Rattle.beldi_order.proofs.Names.map
 use Rattle.beldi_order.proofs.Line.{last_of, line_moved, returned, longer, long, not_longer, shorter}
 use Rattle.beldi_order.proofs.Maps.{same_some, here, elsewhere, equal}
 use Rattle.beldi_order.proofs.Moved.{Items, answer_inside, answer_by, MoveIs, answers, calls, returns, move_is, mover}

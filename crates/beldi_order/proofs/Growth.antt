@@ -1,19 +1,7 @@
 -- A legal book grows by a change at its end, or by a read that belongs earlier.
-use Rattle.std.proofs.Common.{◌≡◌, ℕ, ◌+◌, ◌≤◌, List, [], ◌∷◌, ◌++◌, length, None, Some, refl, ap, sym, ◌∙◌, subst, arith}
-use Rattle.std.specs.FinMap as map
-use Rattle.beldi_value.specs.declared.id.IntentId.{IntentId}
-use Rattle.beldi_value.specs.declared.value.Value.{Value}
-use Rattle.beldi_tree.specs.declared.deployment.Deployment.{Deployment}
-use Rattle.beldi_book.specs.declared.entry.Entry.{Entry}
-use Rattle.beldi_book.specs.declared.entry.Entry.TheVariants.{Read}
-use Rattle.beldi_book.specs.Order.{count_changes, front, back, linear}
-use Rattle.beldi_book.proofs.Orders.{linear_changes, front_back}
-use Rattle.beldi_lang.specs.declared.effect.Answer.TheVariants as answer
-use Rattle.beldi_plain.specs.Guard.{IsGuarded}
-use Rattle.beldi_plain.specs.Plain.{Instance, PlainState, nothing, kind_of, waits_at, step_by}
-use Rattle.beldi_plain.specs.Entries.{after}
-use Rattle.beldi_plain.specs.Legal.{run_from}
-use Rattle.beldi_order.specs.Laws.{EndsWith, IsLast, BelongsEarlier, with_answer, IsKeptLate}
+use Rattle.beldi_order.proofs.Names.{BelongsEarlier, Deployment, EndsWith, Entry, GrownAt, Instance, IntentId, IsGuarded, IsKeptLate, IsLast, List, None, PlainState, Read, Some, Value, [], after, ap, arith, back, count_changes, front, front_back, kind_of, length, linear, linear_changes, nothing, refl, run_from, step_by, subst, sym, waits_at, with_answer, ℕ, ◌++◌, ◌+◌, ◌∙◌, ◌∷◌, ◌≡◌, ◌≤◌}
+use Rattle.beldi_order.proofs.Names.answer
+use Rattle.beldi_order.proofs.Names.map
 use Rattle.beldi_order.proofs.Places.{front_more, linear_change, linear_read, put_between, put_after, SeenAt, bounded_more}
 use Rattle.beldi_order.proofs.Entries.{runs_on, one_more, run_grows, enabled_read}
 use Rattle.beldi_order.proofs.Maps.{same_some}
@@ -21,7 +9,6 @@ use Rattle.beldi_order.proofs.Guard.{guarded_parts, guarded_first, guarded_secon
 use Rattle.beldi_order.proofs.Late.{StandsAtRead, unmoved, put_late}
 use Rattle.beldi_order.proofs.Sanes.{SaneWith}
 use Rattle.beldi_order.proofs.Sound.{sane_with, run_is_sane}
-use Rattle.beldi_order.specs.Grown.{GrownAt}
 
 from_zero : (n : ℕ) → n ≡ 0 + n
 from_zero n = omega arith

@@ -1,25 +1,8 @@
 -- Entries that are guarded, in parts; and a read that is kept late leaves those that it passes guarded.
-use Rattle.std.proofs.Common.{◌≡◌, List, [], ◌∷◌, ◌++◌, Option, None, Some, refl, ap, sym, ◌∙◌, subst}
-use Rattle.std.specs.Prelude.{option_and_then}
-use Rattle.std.specs.FinMap as map
-use Rattle.beldi_value.specs.declared.id.IntentId.{IntentId}
-use Rattle.beldi_tree.specs.declared.deployment.Deployment.{Deployment}
-use Rattle.beldi_lang.specs.declared.effect.Answer.{Answer}
-use Rattle.beldi_book.specs.declared.entry.Entry.{Entry}
-use Rattle.beldi_book.specs.declared.entry.Entry.TheVariants.{Start, Read, Step, Tx, Try}
-use Rattle.beldi_plain.specs.Item.{Item}
-use Rattle.beldi_plain.specs.Guard.{touched_by, TouchedInPiece, TouchedInTry, Touches, actor, IsFree, IsGuarded}
-use Rattle.beldi_plain.specs.Moves.{Move, Leads, Commits, Aborts, TouchedIn}
-use Rattle.beldi_plain.specs.Piece.{Going, opened, tx_begun}
-use Rattle.beldi_lang.specs.declared.effect.Effect.TheVariants as effect
-use Rattle.beldi_value.specs.declared.place.Place.{Place}
-use Rattle.beldi_plain.specs.Holds.{holds}
-use Rattle.beldi_plain.specs.Operation.{op_of}
-use Rattle.beldi_plain.specs.Plain.{Instance, PlainState, with_instance, answered, effect_of}
-use Rattle.beldi_plain.specs.Entries.{after}
-use Rattle.beldi_plain.specs.Legal.{run_from}
-use Rattle.beldi_plain.specs.declared.kind.Kind.TheVariants as kinds
-use Rattle.beldi_order.specs.Guard.{LateReadsLeaveGuards}
+use Rattle.beldi_order.proofs.Names.{Aborts, Answer, Commits, Deployment, Entry, Going, Instance, IntentId, IsFree, IsGuarded, Item, LateReadsLeaveGuards, Leads, List, Move, None, Option, Place, PlainState, Read, Some, Start, Step, TouchedIn, TouchedInPiece, TouchedInTry, Touches, Try, Tx, [], actor, after, answered, ap, effect_of, holds, op_of, opened, option_and_then, refl, run_from, subst, sym, touched_by, tx_begun, with_instance, ◌++◌, ◌∙◌, ◌∷◌, ◌≡◌}
+use Rattle.beldi_order.proofs.Names.effect
+use Rattle.beldi_order.proofs.Names.kinds
+use Rattle.beldi_order.proofs.Names.map
 use Rattle.beldi_order.proofs.Entries.{did, Did, read_is}
 use Rattle.beldi_order.proofs.Line.{line_opened}
 use Rattle.beldi_order.proofs.Maps.{same_some, elsewhere}

@@ -1,13 +1,5 @@
 -- The linear order of a book, by the changes and by the reads behind each number of them.
-use Rattle.std.proofs.Common.{◌≡◌, ◌==◌, ℕ, zero, suc, Bool, true, false, cond, List, [], ◌∷◌, ◌++◌, length, refl, ap, sym, ◌∙◌, arith, append-nil, append_assoc}
-use Rattle.std.specs.Prelude.{min, filter}
-use Rattle.std.proofs.lemmas.Bool.Decides.{nat_tests}
-use Rattle.beldi_value.specs.declared.id.IntentId.{IntentId}
-use Rattle.beldi_book.specs.declared.entry.Entry.{Entry}
-use Rattle.beldi_book.specs.declared.entry.Entry.TheVariants.{Start, Read, Step, Tx, Try}
-use Rattle.beldi_book.specs.Order.{seen_of, changes_of, count_changes, front, back, put_read, put_reads}
-use Rattle.beldi_book.proofs.Orders.{put_keeps, changes_twice, linear_changes}
-use Rattle.beldi_order.specs.Laws.{reads_after, belongs, LinearIsInOrder}
+use Rattle.beldi_order.proofs.Names.{Bool, Entry, IntentId, LinearIsInOrder, List, Read, Start, Step, Try, Tx, [], ap, append-nil, append_assoc, arith, back, belongs, changes_of, changes_twice, cond, count_changes, false, filter, front, length, linear_changes, min, nat_tests, put_keeps, put_read, put_reads, reads_after, refl, seen_of, suc, sym, true, zero, ℕ, ◌++◌, ◌==◌, ◌∙◌, ◌∷◌, ◌≡◌}
 
 none_zero : (s : ℕ) → true ≡ (min s 0 == 0)
 none_zero s = grind (arith, nat_tests)

@@ -1,33 +1,11 @@
 -- A read that is kept late: it passes every entry that leaves its instance as it is.
-use Rattle.std.proofs.Common.{◌≡◌, ℕ, zero, suc, Bool, true, false, List, [], ◌∷◌, ◌++◌, length, Option, None, Some, refl, ap, sym, ◌∙◌, subst, arith, length-append, append-nil, inl, inr}
-use Rattle.std.specs.Prelude.{◌&&◌, option_and_then, is_some, if◌then◌else◌}
-use Rattle.std.specs.FinMap as map
-use Rattle.std.specs.FinMap.{FinMap}
-use Rattle.beldi_value.specs.Id.{root_of, id_cmp, is_older}
-use Rattle.beldi_value.specs.declared.id.IntentId.{IntentId}
-use Rattle.beldi_value.specs.declared.outcome.Outcome.{Outcome}
-use Rattle.beldi_value.specs.declared.place.Caller.{Caller}
-use Rattle.beldi_value.specs.declared.place.Place.{Place}
-use Rattle.beldi_value.specs.declared.value.Value.{Value}
-use Rattle.beldi_tree.specs.declared.deployment.Deployment.{Deployment}
-use Rattle.beldi_lang.specs.declared.effect.Answer.{Answer}
-use Rattle.beldi_lang.specs.declared.effect.Answer.TheVariants as answer
-use Rattle.beldi_lang.specs.declared.effect.Effect.{Effect}
-use Rattle.beldi_lang.specs.declared.effect.Effect.TheVariants as effect
-use Rattle.beldi_lang.specs.Callee.{answer_of}
-use Rattle.beldi_book.specs.declared.entry.Entry.{Entry}
-use Rattle.beldi_book.specs.declared.entry.Entry.TheVariants.{Start, Read, Step, Tx, Try}
-use Rattle.beldi_plain.specs.Item.{item_cmp}
-use Rattle.beldi_plain.specs.Plain.{Instance, PlainState, new_instance, start, step_by, with_instance, answered, ended, give, answer_caller, callee_of, calls_at, effect_of, kind_of, waits_at, is_waiting, item_of, operated, value_at}
-use Rattle.beldi_plain.specs.Entries.{after}
-use Rattle.beldi_plain.specs.Operation.{OnItem, op_of, item_in, sets, set_if, answer_after}
-use Rattle.beldi_plain.specs.Legal.{run_from}
-use Rattle.beldi_plain.specs.Piece.{Going, opened, tx_begun, is_holder}
-use Rattle.beldi_plain.specs.declared.kind.Kind.{Kind}
-use Rattle.beldi_plain.specs.declared.kind.Kind.TheVariants as kinds
+use Rattle.beldi_order.proofs.Names.{Aborts, Answer, Bool, Caller, Commits, Deployment, Effect, Entry, FinMap, Going, Grown, GrownAt, Instance, IntentId, IsIn, Kind, Leads, List, Move, None, NotBefore, OnItem, Option, Outcome, Place, PlainState, Read, Runs, Some, Start, Step, Try, Tx, Value, [], after, answer_after, answer_caller, answer_of, answered, ap, append-nil, arith, callee_of, calls_at, effect_of, ended, false, give, id_cmp, if◌then◌else◌, inl, inr, is_holder, is_older, is_some, is_waiting, item_cmp, item_in, item_of, kind_of, length, length-append, new_instance, op_of, opened, operated, option_and_then, refl, root_of, run_from, set_if, sets, start, step_by, subst, suc, sym, true, tx_begun, value_at, waits_at, with_instance, zero, ℕ, ◌++◌, ◌∙◌, ◌∷◌, ◌≡◌}
+use Rattle.beldi_order.proofs.Names.answer
+use Rattle.beldi_order.proofs.Names.effect
+use Rattle.beldi_order.proofs.Names.kinds
+use Rattle.beldi_order.proofs.Names.map
+use Rattle.std.specs.Prelude.{◌&&◌}
 use Rattle.beldi_order.proofs.Entries.{Started, Stepped, Did, did, read_is, absent, enabled_read, enabled_step, after_grows, run_grows, runs_on}
-use Rattle.beldi_order.specs.Inside.{IsIn}
-use Rattle.beldi_plain.specs.Moves.{Move, Leads, Runs, Commits, Aborts, NotBefore}
 use Rattle.beldi_order.proofs.Foreign.{none_below}
 use Rattle.beldi_order.proofs.Line.{line_opened, in_line}
 use Rattle.beldi_order.proofs.Passes.{front_there, moves_pass, first_passes, there_passes, opened_passes}
@@ -35,7 +13,6 @@ use Rattle.beldi_order.proofs.Sanes.{SaneWith}
 use Rattle.beldi_order.proofs.Sound.{by_entry}
 use Rattle.beldi_order.proofs.Maps.{same_some, made_set, commutes, elsewhere, here}
 use Rattle.beldi_order.proofs.Pieces.{committed, aborted_so}
-use Rattle.beldi_order.specs.Grown.{Grown, GrownAt}
 
 -- ---- an instance that stands at a read
 pub record StandsAtRead (d : Deployment) (p : PlainState) (i : IntentId) (a : Instance) : Type 0 where

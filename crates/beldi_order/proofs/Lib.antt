@@ -13,6 +13,7 @@ pub mod Line
 pub mod Locks
 pub mod Maps
 pub mod Moved
+mod Names
 pub mod Nulls
 pub mod Operations
 pub mod Passes

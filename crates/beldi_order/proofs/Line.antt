@@ -1,23 +1,8 @@
 -- Who waits inside a transaction: a line from the owner to the one that can step. A move changes it at its end alone.
-use Rattle.std.proofs.Common.{◌≡◌, inl, inr, ◌<◌, ◌≤◌, ℕ, suc, true, List, [], ◌∷◌, ◌++◌, length, length-append, None, Some, refl, ap, sym, ◌∙◌, subst, append_assoc, arith}
-use Rattle.std.specs.FinMap as map
-use Rattle.std.specs.FinMap.{FinMap}
-use Rattle.std.specs.Ordering.{is_eq}
-use Rattle.std.proofs.lemmas.Cmp.{tied_itself}
-use Rattle.beldi_value.specs.Id.{id_cmp, id_total, child_of}
-use Rattle.beldi_value.specs.declared.id.IntentId.{IntentId}
-use Rattle.beldi_value.specs.declared.outcome.Outcome.{Outcome}
-use Rattle.beldi_value.specs.declared.place.Caller.{Caller}
-use Rattle.beldi_value.specs.declared.place.TxId.{TxId}
-use Rattle.beldi_tree.specs.declared.deployment.Deployment.{Deployment}
-use Rattle.beldi_lang.specs.Callee.{answer_of}
-use Rattle.beldi_lang.specs.declared.effect.Answer.{Answer}
-use Rattle.beldi_lang.specs.declared.effect.Answer.TheVariants as answer
-use Rattle.beldi_lang.specs.declared.effect.Effect.TheVariants as effect
-use Rattle.beldi_plain.specs.Moves.{Move, moved, Leads}
-use Rattle.beldi_plain.specs.Piece.{Going, opened, tx_begun, is_owner, new_member}
-use Rattle.beldi_plain.specs.Plain.{Instance, PlainState, with_instance, answered, ended, answer_to, give, callee_of, calls_at}
-use Rattle.beldi_order.specs.Inside.{IsIn, IsMember, Line, top, next, InLine}
+use Rattle.beldi_order.proofs.Names.{Answer, Caller, Deployment, FinMap, Going, InLine, Instance, IntentId, IsIn, IsMember, Leads, Line, List, Move, None, Outcome, PlainState, Some, TxId, [], answer_of, answer_to, answered, ap, append_assoc, arith, callee_of, calls_at, child_of, ended, give, id_cmp, id_total, inl, inr, is_eq, is_owner, length, length-append, moved, new_member, next, opened, refl, subst, suc, sym, tied_itself, top, true, tx_begun, with_instance, ℕ, ◌++◌, ◌<◌, ◌∙◌, ◌∷◌, ◌≡◌, ◌≤◌}
+use Rattle.beldi_order.proofs.Names.answer
+use Rattle.beldi_order.proofs.Names.effect
+use Rattle.beldi_order.proofs.Names.map
 use Rattle.beldi_order.proofs.Maps.{same_some, here, elsewhere}
 use Rattle.beldi_order.proofs.Moved.{Returns, MoveIs, answers, calls, returns, move_is, mover}
 

@@ -1,47 +1,20 @@
 -- From a lock to its unlock nobody else touches the item.
-use Rattle.std.proofs.Common.{◌≡◌, ℕ, Bool, true, false, cond, List, [], ◌∷◌, ◌++◌, Option, None, Some, refl, ap, sym, ◌∙◌, subst, inl, inr, append_assoc, append-nil, is_some}
-use Rattle.std.specs.Prelude.{option_and_then}
-use Rattle.std.specs.FinMap as map
-use Rattle.std.specs.Ordering.{is_eq}
-use Rattle.std.proofs.lemmas.Cmp.{tied_itself}
-use Rattle.beldi_value.specs.Id.{root_of}
-use Rattle.beldi_value.specs.declared.id.IntentId.{IntentId}
-use Rattle.beldi_value.specs.declared.outcome.Outcome.{Outcome}
-use Rattle.beldi_value.specs.declared.value.Value.{Value}
-use Rattle.beldi_tree.specs.declared.deployment.Deployment.{Deployment}
-use Rattle.beldi_lang.specs.declared.effect.Answer.{Answer}
-use Rattle.beldi_lang.specs.declared.effect.Answer.TheVariants as answer
-use Rattle.beldi_lang.specs.Callee.{answer_of}
-use Rattle.beldi_lang.specs.declared.effect.Effect.{Effect}
-use Rattle.beldi_lang.specs.declared.effect.Effect.TheVariants as effect
-use Rattle.beldi_book.specs.declared.entry.Entry.{Entry}
-use Rattle.beldi_book.specs.declared.entry.Entry.TheVariants.{Start, Read, Step, Tx, Try}
-use Rattle.beldi_plain.specs.Guard.{IsGuarded, actor}
-use Rattle.beldi_plain.specs.Holds.{holds, held_by, held_if}
-use Rattle.beldi_plain.specs.Item.{Item, item_cmp, item_total}
-use Rattle.beldi_plain.specs.Legal.{run_from}
-use Rattle.beldi_plain.specs.Operation as operation
-use Rattle.beldi_plain.specs.Operation.{Operation, OnItem, op_of, item_in, write, lock, free, answer_after}
-use Rattle.beldi_plain.specs.Plain.{Instance, PlainState, nothing, new_instance, step_by, operated, with_instance, answered, ended, answer_caller, with_callee, callee_of, calls_at, waits_at, effect_of, item_of, value_at}
-use Rattle.beldi_plain.specs.Entries.{after}
-use Rattle.beldi_plain.specs.declared.kind.Kind.{Kind}
-use Rattle.beldi_plain.specs.declared.kind.Kind.TheVariants as kinds
-use Rattle.beldi_order.specs.Guard.{StandsAtOperation, LegalIsGuarded}
+use Rattle.beldi_order.proofs.Names.{Aborts, Answer, Bool, Commits, Deployment, Effect, Entry, Going, InLine, Instance, IntentId, IsGuarded, Item, Kind, Leads, LegalIsGuarded, List, Move, None, OnItem, Operation, Option, Outcome, Place, PlainState, Read, Sane, Some, StandsAtOperation, Start, Step, Try, Tx, TxId, Value, [], actor, after, answer_after, answer_caller, answer_of, answered, ap, append-nil, append_assoc, callee_of, calls_at, cond, effect_of, ended, false, free, held_by, held_if, holds, inl, inr, is_eq, item_cmp, item_in, item_of, item_total, lock, moved, new_instance, new_member, nothing, op_of, opened, operated, option_and_then, refl, root_of, run_from, step_by, subst, sym, tied_itself, true, tx_begun, value_at, waits_at, with_callee, with_instance, write, ℕ, ◌++◌, ◌∙◌, ◌∷◌, ◌≡◌}
+use Rattle.beldi_order.proofs.Names.answer
+use Rattle.beldi_order.proofs.Names.effect
+use Rattle.beldi_order.proofs.Names.kinds
+use Rattle.beldi_order.proofs.Names.map
+use Rattle.beldi_order.proofs.Names.operation
+use Rattle.std.proofs.Common.{is_some}
 use Rattle.beldi_order.proofs.Entries.{did, Did, Stepped, read_is, absent, runs_on, try_leads}
 use Rattle.beldi_order.proofs.Maps.{same_some, made_set, still_made, elsewhere, here}
 use Rattle.beldi_order.proofs.Guard.{guarded_second}
-use Rattle.beldi_order.specs.Inside.{InLine}
-use Rattle.beldi_plain.specs.Moves.{Move, moved, Leads, Commits, Aborts}
-use Rattle.beldi_plain.specs.Piece.{Going, opened, tx_begun, new_member}
-use Rattle.beldi_value.specs.declared.place.Place.{Place}
-use Rattle.beldi_value.specs.declared.place.TxId.{TxId}
 use Rattle.beldi_order.proofs.Goes.{is_plainly, answered_plainly}
 use Rattle.beldi_order.proofs.Line.{line_opened, line_moved, returned, shorter, not_longer}
 use Rattle.beldi_order.proofs.Moved.{MoveIs, answers, calls, returns, move_is, mover}
 use Rattle.beldi_order.proofs.Operations.{held_pushed, holds_answered, holds_set, item_same}
 use Rattle.beldi_order.proofs.Sanes.{waited_in}
 use Rattle.beldi_order.proofs.Sound.{sane_with, still_there, answers_nobody, answers_waiter, run_is_sane}
-use Rattle.beldi_order.specs.Sane.{Sane}
 
 -- what an operation on an item leaves
 pub operation_step : (p : PlainState) (id : IntentId) (q : Instance) (e : Effect) (o : OnItem) → op_of e ≡ Some o → step_by p id q e ≡ operated p id q (Some o)

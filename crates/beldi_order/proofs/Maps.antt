@@ -1,14 +1,6 @@
 -- Finite maps of instances, one instance at a time.
-use Rattle.std.proofs.Common.{◌≡◌, Bool, true, false, cond, Option, None, Some, refl, ap, sym, ◌∙◌, subst}
-use Rattle.std.specs.FinMap as map
-use Rattle.std.specs.FinMap.{FinMap, IsAntisymmetric, get-insert, same_map}
-use Rattle.std.specs.Cmp.{Equal-is}
-use Rattle.std.specs.Ordering.{is_eq}
-use Rattle.std.specs.declared.cmp.Ordering.{Ordering}
-use Rattle.std.proofs.lemmas.Cmp.{tied_itself}
-use Rattle.beldi_value.specs.Id.{id_cmp, id_total, id_exact}
-use Rattle.beldi_value.specs.declared.id.IntentId.{IntentId}
-use Rattle.beldi_plain.specs.Plain.{Instance}
+use Rattle.beldi_order.proofs.Names.{Bool, Equal-is, FinMap, Instance, IntentId, IsAntisymmetric, None, Option, Ordering, Some, ap, cond, false, get-insert, id_cmp, id_exact, id_total, is_eq, refl, same_map, subst, sym, tied_itself, true, ◌∙◌, ◌≡◌}
+use Rattle.beldi_order.proofs.Names.map
 
 pub same_some : {X : Type 0} {x y : X} → Some x ≡ Some y → x ≡ y
 same_some h = cc

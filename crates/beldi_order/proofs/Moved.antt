@@ -1,25 +1,9 @@
 -- One move of a transaction: an answer of the one that can step, a call of it, or its return.
-use Rattle.std.proofs.Common.{◌≡◌, ℕ, Bool, true, false, Option, None, Some, refl, ap, sym, ◌∙◌}
-use Rattle.std.specs.Prelude.{is_some, if◌then◌else◌}
-use Rattle.std.specs.FinMap as map
-use Rattle.std.specs.FinMap.{FinMap}
-use Rattle.beldi_value.specs.Id.{has_callees}
-use Rattle.beldi_value.specs.declared.id.IntentId.{IntentId}
-use Rattle.beldi_value.specs.declared.outcome.Outcome.{Outcome}
-use Rattle.beldi_value.specs.declared.place.Caller.{Caller}
-use Rattle.beldi_value.specs.declared.place.TxId.{TxId}
-use Rattle.beldi_value.specs.declared.value.Value.{Value}
-use Rattle.beldi_tree.specs.Bindings.{or_null}
-use Rattle.beldi_tree.specs.declared.deployment.Deployment.{Deployment}
-use Rattle.beldi_lang.specs.declared.effect.Answer.{Answer}
-use Rattle.beldi_lang.specs.declared.effect.Answer.TheVariants as answer
-use Rattle.beldi_lang.specs.declared.effect.Effect.{Effect}
-use Rattle.beldi_lang.specs.declared.effect.Effect.TheVariants as effect
-use Rattle.beldi_plain.specs.Item.{item_cmp}
-use Rattle.beldi_plain.specs.Moves.{Move, plain, fell, moved, move_by}
-use Rattle.beldi_plain.specs.Operation.{OnItem, op_of, item_in, sets, set_if, answer_after, write, cond}
-use Rattle.beldi_plain.specs.Piece.{Going, at_instance, moves_by, returns_to, is_owner, with_member, dies_at, aborted, fallen}
-use Rattle.beldi_plain.specs.Plain.{Instance, with_instance, answered, ended, answer_to, callee_of, effect_of, unless, value_at, item_of}
+use Rattle.beldi_order.proofs.Names.{Answer, Bool, Caller, Deployment, Effect, FinMap, Going, Instance, IntentId, Move, None, OnItem, Option, Outcome, Some, TxId, Value, aborted, answer_after, answer_to, answered, ap, at_instance, callee_of, dies_at, effect_of, ended, fallen, false, fell, has_callees, if◌then◌else◌, is_owner, is_some, item_cmp, item_in, item_of, move_by, moved, moves_by, op_of, or_null, plain, refl, returns_to, set_if, sets, sym, true, unless, value_at, with_instance, with_member, write, ℕ, ◌∙◌, ◌≡◌}
+use Rattle.beldi_order.proofs.Names.answer
+use Rattle.beldi_order.proofs.Names.effect
+use Rattle.beldi_order.proofs.Names.map
+use Rattle.beldi_plain.specs.Operation.{cond}
 use Rattle.beldi_order.proofs.Maps.{same_some, none_by}
 
 abbrev pub Items : Type 0

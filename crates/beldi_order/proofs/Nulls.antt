@@ -1,29 +1,9 @@
 -- No item of a run is kept as null.
-use Rattle.std.proofs.Common.{◌≡◌, List, [], ◌∷◌, Option, None, Some, sym, ◌∙◌, subst}
-use Rattle.std.specs.FinMap as map
-use Rattle.std.specs.FinMap.{FinMap, get-empty, get-insert, get-remove}
-use Rattle.beldi_value.specs.declared.id.IntentId.{IntentId}
-use Rattle.beldi_value.specs.declared.value.Value.{Value}
-use Rattle.beldi_value.specs.declared.value.Value.TheVariants.{Null}
-use Rattle.beldi_tree.specs.Bindings.{or_null}
-use Rattle.beldi_tree.specs.declared.deployment.Deployment.{Deployment}
-use Rattle.beldi_lang.specs.declared.effect.Effect.{Effect}
-use Rattle.beldi_lang.specs.declared.effect.Effect.TheVariants as effect
-use Rattle.beldi_book.specs.declared.entry.Entry.{Entry}
-use Rattle.beldi_book.specs.declared.entry.Entry.TheVariants.{Start, Read, Step, Tx, Try}
-use Rattle.beldi_book.specs.Order.{linear}
-use Rattle.beldi_plain.specs.Item.{Item, item_cmp, item_total, item_exact}
-use Rattle.beldi_plain.specs.Operation.{OnItem, op_of, item_in, sets, set_if, set_item}
-use Rattle.beldi_plain.specs.Plain.{Instance, PlainState, nothing, with_instance, ended, step_by, operated, value_at, effect_of}
-use Rattle.beldi_plain.specs.Entries.{after}
-use Rattle.beldi_order.specs.Inside.{InLine}
-use Rattle.beldi_plain.specs.Moves.{Move, plain, fell, moved, Leads, Commits, Aborts}
-use Rattle.beldi_plain.specs.Piece.{Going, opened, tx_begun}
-use Rattle.beldi_value.specs.declared.place.Place.{Place}
-use Rattle.beldi_value.specs.declared.place.TxId.{TxId}
+use Rattle.beldi_order.proofs.Names.{Aborts, Commits, Deployment, Effect, Entry, FinMap, Going, InLine, Instance, IntentId, Item, KeepsNoNull, Leads, List, Move, None, Null, NullIsAbsent, OnItem, Option, Place, PlainState, Read, Some, Start, Step, Try, Tx, TxId, Value, [], after, effect_of, ended, fell, get-empty, get-insert, get-remove, item_cmp, item_exact, item_in, item_total, linear, moved, nothing, op_of, opened, operated, or_null, plain, set_if, set_item, sets, step_by, subst, sym, tx_begun, value_at, with_instance, ◌∙◌, ◌∷◌, ◌≡◌}
+use Rattle.beldi_order.proofs.Names.effect
+use Rattle.beldi_order.proofs.Names.map
 use Rattle.beldi_order.proofs.Line.{line_opened, line_moved, returned}
 use Rattle.beldi_order.proofs.Moved.{items_after, items_by, MoveIs, answers, calls, returns, move_is, mover}
-use Rattle.beldi_order.specs.Laws.{KeepsNoNull, NullIsAbsent}
 use Rattle.beldi_order.proofs.Entries.{did, answer_keeps, run_keeps}
 use Rattle.beldi_order.proofs.Maps.{changed}
 

@@ -1,23 +1,8 @@
 -- What an operation leaves of the plain items, and of who holds their locks.
-use Rattle.std.proofs.Common.{◌≡◌, Bool, true, false, cond, List, [], ◌∷◌, ◌++◌, Option, None, Some, is_some, refl, ap, sym, ◌∙◌, append_assoc, append-nil, ℕ}
-use Rattle.std.specs.FinMap as map
-use Rattle.std.specs.FinMap.{FinMap, get-insert, get-remove}
-use Rattle.std.specs.Cmp.{Equal-is}
-use Rattle.std.specs.Ordering.{is_eq}
-use Rattle.beldi_value.specs.Id.{id_cmp, id_exact}
-use Rattle.beldi_value.specs.declared.id.IntentId.{IntentId}
-use Rattle.beldi_value.specs.declared.place.Owner.{Owner}
-use Rattle.beldi_value.specs.declared.place.Owner.TheVariants.{Intent, Tx}
-use Rattle.beldi_value.specs.declared.value.Value.{Value}
-use Rattle.beldi_value.specs.declared.value.Value.TheVariants.{Null}
-use Rattle.beldi_tree.specs.Bindings.{or_null}
-use Rattle.beldi_tree.specs.declared.deployment.Deployment.{Deployment}
-use Rattle.beldi_lang.specs.declared.effect.Answer.{Answer}
-use Rattle.beldi_lang.specs.Wants.{wants}
-use Rattle.beldi_plain.specs.Item.{Item, item_cmp, item_total, item_exact}
-use Rattle.beldi_plain.specs.Holds.{held_if, held_along, holds}
-use Rattle.beldi_plain.specs.Operation.{op_of, or_old, set_if, set_item}
-use Rattle.beldi_plain.specs.Plain.{Instance, answered, effect_of}
+use Rattle.beldi_order.proofs.Names.{Answer, Bool, Deployment, Equal-is, FinMap, Instance, Intent, IntentId, Item, List, None, Null, Option, Owner, Some, Value, [], answered, ap, append-nil, append_assoc, cond, effect_of, false, get-insert, get-remove, held_along, held_if, holds, id_cmp, id_exact, is_eq, item_cmp, item_exact, item_total, op_of, or_null, or_old, refl, set_if, set_item, sym, true, wants, ℕ, ◌++◌, ◌∙◌, ◌∷◌, ◌≡◌}
+use Rattle.beldi_order.proofs.Names.map
+use Rattle.std.proofs.Common.{is_some}
+use Rattle.beldi_value.specs.declared.place.Owner.TheVariants.{Tx}
 use Rattle.beldi_order.proofs.Maps.{made_set}
 
 pub item_same : (x y : Item) → is_eq (item_cmp x y) ≡ true → x ≡ y

@@ -1,17 +1,7 @@
 -- A transaction does not see an instance that is not in it: its moves lead on where that was set.
-use Rattle.std.proofs.Common.{◌≡◌, inl, inr, true, List, [], ◌∷◌, Some, ap, sym, ◌∙◌, subst}
-use Rattle.std.specs.FinMap as map
-use Rattle.beldi_value.specs.declared.id.IntentId.{IntentId}
-use Rattle.beldi_value.specs.declared.place.Place.{Place}
-use Rattle.beldi_value.specs.declared.place.TxId.{TxId}
-use Rattle.beldi_tree.specs.declared.deployment.Deployment.{Deployment}
-use Rattle.beldi_lang.specs.Callee.{answer_of}
-use Rattle.beldi_lang.specs.declared.effect.Answer.TheVariants as answer
-use Rattle.beldi_plain.specs.Item.{Item}
-use Rattle.beldi_plain.specs.Moves.{Move, plain, fell, moved, Leads, NotBefore, is_there, stands_there, touched_at, TouchedBy, TouchedIn}
-use Rattle.beldi_plain.specs.Piece.{Going, opened, new_member}
-use Rattle.beldi_plain.specs.Plain.{Instance, PlainState, with_instance, answered, ended, callee_of, calls_at, effect_of}
-use Rattle.beldi_order.specs.Inside.{IsIn, InLine}
+use Rattle.beldi_order.proofs.Names.{Deployment, Going, InLine, Instance, IntentId, IsIn, Item, Leads, List, Move, NotBefore, Place, PlainState, Some, TouchedBy, TouchedIn, TxId, [], answer_of, answered, ap, callee_of, calls_at, effect_of, ended, fell, inl, inr, is_there, moved, new_member, opened, plain, stands_there, subst, sym, touched_at, true, with_instance, ◌∙◌, ◌∷◌, ◌≡◌}
+use Rattle.beldi_order.proofs.Names.answer
+use Rattle.beldi_order.proofs.Names.map
 use Rattle.beldi_order.proofs.Line.{all_in, callee_in, line_moved, returned, answers_who_waits, shorter, not_longer}
 use Rattle.beldi_order.proofs.Maps.{same_some, elsewhere, commutes}
 use Rattle.beldi_order.proofs.Moved.{items_by, MoveIs, answers, calls, returns, move_is, mover, answers_so, calls_so, returns_so}

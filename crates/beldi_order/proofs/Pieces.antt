@@ -1,25 +1,9 @@
 -- A piece and a try are lists of moves.
-use Rattle.std.proofs.Common.{◌≡◌, ◌&&◌, ℕ, zero, suc, ◌+◌, ◌-◌, ◌<◌, ◌≤◌, Bool, true, false, List, [], ◌∷◌, ◌++◌, length, length-append, Option, None, Some, refl, ap, sym, ◌∙◌, subst, arith}
-use Rattle.std.specs.Prelude.{option_and_then, if◌then◌else◌}
-use Rattle.std.specs.FinMap as map
-use Rattle.std.specs.Ordering.{is_eq}
-use Rattle.std.proofs.lemmas.Cmp.{tied_itself}
-use Rattle.std.proofs.lemmas.Bool.{and_parts}
-use Rattle.beldi_value.specs.Id.{id_total}
-use Rattle.beldi_value.specs.declared.id.IntentId.{IntentId}
-use Rattle.beldi_value.specs.declared.outcome.Outcome.{Outcome}
-use Rattle.beldi_value.specs.declared.place.Place.{Place}
-use Rattle.beldi_value.specs.declared.place.TxId.{TxId}
-use Rattle.beldi_tree.specs.declared.deployment.Deployment.{Deployment}
-use Rattle.beldi_lang.specs.declared.effect.Answer.TheVariants as answer
-use Rattle.beldi_lang.specs.declared.effect.Effect.{Effect}
-use Rattle.beldi_lang.specs.declared.effect.Effect.TheVariants as effect
-use Rattle.beldi_book.specs.declared.entry.Entry.TheVariants.{Tx, Try}
-use Rattle.beldi_plain.specs.Entries.{after}
-use Rattle.beldi_plain.specs.Moves.{Move, plain, fell, moved, move_by, Leads, AllPlain, AtEnd, Runs, Commits, Aborts, is_there, stands_there, NotBefore, FallsSo}
-use Rattle.beldi_plain.specs.Piece.{Going, enough, gives, opened, tx_begun, is_owner, at_instance, moves_by, is_same, over_by, ends_by, ends_on, piece_from, stands_at, dies_at, fallen, fault_by, falls_by, try_on, try_from, with_answers, is_holder}
-use Rattle.beldi_plain.specs.Plain.{Instance, PlainState, with_instance, answered, effect_of, can_step, if_open, unless, is_waiting, waits_at}
-use Rattle.beldi_order.specs.Inside.{PiecesAreMoves}
+use Rattle.beldi_order.proofs.Names.{Aborts, AllPlain, AtEnd, Bool, Commits, Deployment, Effect, FallsSo, Going, Instance, IntentId, Leads, List, Move, None, NotBefore, Option, Outcome, PiecesAreMoves, Place, PlainState, Runs, Some, Try, Tx, TxId, [], after, and_parts, answered, ap, arith, at_instance, can_step, dies_at, effect_of, ends_by, ends_on, fallen, falls_by, false, fault_by, fell, gives, id_total, if_open, if◌then◌else◌, is_eq, is_holder, is_owner, is_same, is_there, is_waiting, length, length-append, move_by, moved, moves_by, opened, option_and_then, over_by, piece_from, plain, refl, stands_at, stands_there, subst, suc, sym, tied_itself, true, try_from, try_on, tx_begun, unless, waits_at, with_answers, with_instance, zero, ℕ, ◌&&◌, ◌++◌, ◌+◌, ◌-◌, ◌<◌, ◌∙◌, ◌∷◌, ◌≡◌, ◌≤◌}
+use Rattle.beldi_order.proofs.Names.answer
+use Rattle.beldi_order.proofs.Names.effect
+use Rattle.beldi_order.proofs.Names.map
+use Rattle.beldi_plain.specs.Piece.{enough}
 use Rattle.beldi_order.proofs.Bound.{few_moves}
 use Rattle.beldi_order.proofs.Line.{all_moves}
 use Rattle.beldi_order.proofs.Maps.{same_some, equal, here}

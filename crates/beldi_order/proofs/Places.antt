@@ -1,8 +1,5 @@
 -- Where the entries of a book stand in its linear order, when an entry is added to it.
-use Rattle.std.proofs.Common.{◌≡◌, ℕ, zero, suc, ◌+◌, ◌≤◌, ◌<◌, List, [], ◌∷◌, ◌++◌, length, Option, Some, None, refl, ap, ap₂, sym, ◌∙◌, subst, arith, append_assoc}
-use Rattle.beldi_book.specs.declared.entry.Entry.{Entry}
-use Rattle.beldi_book.specs.Order.{seen_of, if_change, changes_of, count_changes, until_change, by_change, front, back, put_by, put_read, put_reads, linear, SeenBy, SeenBounded}
-use Rattle.beldi_book.proofs.Orders.{changes_more, changes_twice, puts_keep, front_back}
+use Rattle.beldi_order.proofs.Names.{Entry, List, None, Option, SeenBounded, SeenBy, Some, [], ap, append_assoc, ap₂, arith, back, by_change, changes_more, changes_of, changes_twice, count_changes, front, front_back, if_change, length, linear, put_by, put_read, put_reads, puts_keep, refl, seen_of, subst, suc, sym, until_change, zero, ℕ, ◌++◌, ◌+◌, ◌<◌, ◌∙◌, ◌∷◌, ◌≡◌, ◌≤◌}
 
 -- the number of changes, with an entry before
 abbrev count_by : Option ℕ → ℕ → ℕ

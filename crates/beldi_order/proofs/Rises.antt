@@ -1,17 +1,6 @@
 -- In a transaction the place of the one that can step rises at each move, in dictionary order: so nobody stands at one place twice.
-use Rattle.std.proofs.Common.{◌≡◌, ◌==◌, ◌&&◌, ◌⊎◌, inl, inr, ◌<◌, ℕ, suc, Bool, true, false, List, [], ◌∷◌, ◌++◌, length, length-append, Some, refl, ap, sym, ◌∙◌, subst, append_assoc, eqb-true, arith}
-use Rattle.std.specs.FinMap as map
-use Rattle.std.specs.Ordering.{is_eq}
-use Rattle.beldi_value.specs.Id.{id_cmp}
-use Rattle.beldi_value.specs.declared.id.IntentId.{IntentId}
-use Rattle.beldi_value.specs.declared.place.Place.{Place}
-use Rattle.beldi_value.specs.declared.place.TxId.{TxId}
-use Rattle.beldi_tree.specs.declared.deployment.Deployment.{Deployment}
-use Rattle.beldi_lang.specs.Callee.{answer_of}
-use Rattle.beldi_plain.specs.Moves.{Move, moved, Leads, NotBefore, is_there, stands_there}
-use Rattle.beldi_plain.specs.Piece.{Going, new_member}
-use Rattle.beldi_plain.specs.Plain.{Instance, answered, ended, callee_of, calls_at}
-use Rattle.beldi_order.specs.Inside.{InLine, PlacesComeOnce}
+use Rattle.beldi_order.proofs.Names.{Bool, Deployment, Going, InLine, Instance, IntentId, Leads, List, Move, NotBefore, Place, PlacesComeOnce, Some, TxId, [], answer_of, answered, ap, append_assoc, arith, callee_of, calls_at, ended, eqb-true, false, id_cmp, inl, inr, is_eq, is_there, length, length-append, moved, new_member, refl, stands_there, subst, suc, sym, true, ℕ, ◌&&◌, ◌++◌, ◌<◌, ◌==◌, ◌∙◌, ◌∷◌, ◌≡◌, ◌⊎◌}
+use Rattle.beldi_order.proofs.Names.map
 use Rattle.beldi_order.proofs.Line.{last_of, in_line, line_moved, returned}
 use Rattle.beldi_order.proofs.Maps.{same_some, here, equal}
 use Rattle.beldi_order.proofs.Moved.{MoveIs, answers, calls, returns, move_is, mover}

@@ -1,27 +1,8 @@
 -- Every state of a run is sane, also while a transaction goes on: what one answer, one call and one return keep.
-use Rattle.std.proofs.Common.{◌≡◌, ℕ, zero, suc, ◌<◌, Bool, true, false, ◌⊎◌, inl, inr, [], ◌∷◌, length, length-append, Option, None, Some, refl, ap, sym, ◌∙◌, subst, arith}
-use Rattle.std.specs.Prelude.{if◌then◌else◌}
-use Rattle.std.specs.Option.{option_map}
-use Rattle.std.specs.FinMap as map
-use Rattle.std.specs.FinMap.{FinMap}
-use Rattle.beldi_value.specs.Id.{id_cmp, root_of, child_of}
-use Rattle.beldi_value.specs.declared.id.IntentId.{IntentId}
-use Rattle.beldi_value.specs.declared.outcome.Outcome.{Outcome}
-use Rattle.beldi_value.specs.declared.outcome.Outcome.TheVariants as outcome
-use Rattle.beldi_value.specs.declared.place.Caller.{Caller}
-use Rattle.beldi_value.specs.declared.place.Place.{Place}
-use Rattle.beldi_value.specs.declared.place.TxId.{TxId}
-use Rattle.beldi_value.specs.declared.value.Value.{Value}
-use Rattle.beldi_value.proofs.Callees.{child_same}
-use Rattle.beldi_tree.specs.declared.deployment.Deployment.{Deployment}
-use Rattle.beldi_lang.specs.declared.effect.Answer.{Answer}
-use Rattle.beldi_lang.specs.declared.effect.Effect.{Effect}
-use Rattle.beldi_lang.specs.declared.effect.Effect.TheVariants as effect
-use Rattle.beldi_lang.specs.Callee.{answer_of}
-use Rattle.beldi_plain.specs.Piece.{is_owner}
-use Rattle.beldi_plain.specs.Plain.{Instance, answered, ended, callee_of, calls_at, effect_of, effect_before}
-use Rattle.beldi_order.specs.Sane.{WentSo, IsCalled, IsAnswer, IsCommitted, call_of, answer_given, within_by}
-use Rattle.beldi_order.specs.Txs.{Txs, txs_by, txs_after, tx_by, or_own, tx_at, tx_now, end_of}
+use Rattle.beldi_order.proofs.Names.{Answer, Bool, Caller, Deployment, Effect, FinMap, Instance, IntentId, IsAnswer, IsCalled, IsCommitted, None, Option, Outcome, Place, Some, TxId, Txs, Value, WentSo, [], answer_given, answer_of, answered, ap, arith, call_of, callee_of, calls_at, child_of, child_same, effect_before, effect_of, end_of, ended, false, id_cmp, if◌then◌else◌, inl, inr, is_owner, length, length-append, option_map, or_own, refl, root_of, subst, suc, sym, true, tx_at, tx_by, tx_now, txs_after, txs_by, within_by, zero, ℕ, ◌<◌, ◌∙◌, ◌∷◌, ◌≡◌, ◌⊎◌}
+use Rattle.beldi_order.proofs.Names.effect
+use Rattle.beldi_order.proofs.Names.map
+use Rattle.beldi_order.proofs.Names.outcome
 use Rattle.beldi_order.proofs.Called.{Linked, Links, IsAlone, last_hop, not_root, not_own, next_step, effect_now, tx_here_now, made_in, caller_new, caller_answered, caller_ended, callee_answered, callee_over, callee_new, callee_ended, pairs_set, both_set}
 use Rattle.beldi_order.proofs.Ends.{ends_go_on}
 use Rattle.beldi_order.proofs.Went.{txs_pushed, went_pushed}

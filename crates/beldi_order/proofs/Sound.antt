@@ -1,34 +1,9 @@
 -- Every state of a run is sane: entry by entry.
-use Rattle.std.proofs.Common.{◌≡◌, ◌&&◌, ℕ, Bool, true, false, inl, inr, List, [], ◌∷◌, ◌++◌, length, Option, None, Some, refl, ap, sym, ◌∙◌, subst}
-use Rattle.std.specs.Prelude.{is_some, if◌then◌else◌}
-use Rattle.std.specs.FinMap as map
-use Rattle.std.specs.FinMap.{get-empty}
-use Rattle.beldi_value.specs.Id.{id_cmp, is_older, root_of, child_of}
-use Rattle.beldi_value.specs.declared.id.IntentId.{IntentId}
-use Rattle.beldi_value.specs.declared.outcome.Outcome.{Outcome}
-use Rattle.beldi_value.specs.declared.place.Caller.{Caller}
-use Rattle.beldi_value.specs.declared.place.Place.{Place}
-use Rattle.beldi_value.specs.declared.place.TxId.{TxId}
-use Rattle.beldi_value.specs.declared.value.Value.{Value}
-use Rattle.beldi_tree.specs.declared.deployment.Deployment.{Deployment}
-use Rattle.beldi_lang.specs.declared.effect.Answer.{Answer}
-use Rattle.beldi_lang.specs.declared.effect.Answer.TheVariants as answer
-use Rattle.beldi_lang.specs.declared.effect.Effect.{Effect}
-use Rattle.beldi_lang.specs.declared.effect.Effect.TheVariants as effect
-use Rattle.beldi_lang.specs.Callee.{answer_of}
-use Rattle.beldi_book.specs.declared.entry.Entry.{Entry}
-use Rattle.beldi_book.specs.declared.entry.Entry.TheVariants.{Start, Read, Step, Tx, Try}
-use Rattle.beldi_book.specs.Order.{linear}
-use Rattle.beldi_plain.specs.Legal.{run_from}
-use Rattle.beldi_plain.specs.Moves.{Move, fell, Leads, AllPlain, AtEnd, FallsSo, Commits, Aborts}
-use Rattle.beldi_plain.specs.Operation.{OnItem, op_of, item_in, answer_after}
-use Rattle.beldi_plain.specs.Piece.{Going, opened, tx_begun, is_holder}
-use Rattle.beldi_plain.specs.Plain.{Instance, PlainState, nothing, new_instance, with_instance, step_by, operated, answered, ended, give, answer_caller, with_callee, callee_of, calls_at, waits_at, effect_of, item_of, value_at}
-use Rattle.beldi_plain.specs.declared.kind.Kind.{Kind}
-use Rattle.beldi_plain.specs.declared.kind.Kind.TheVariants as kinds
-use Rattle.beldi_order.specs.Sane.{Sane, SaneAt, IsAnswer, LegalIsSane, InsideIsOver, call_of}
-use Rattle.beldi_order.specs.Txs.{txs_after, tx_by, or_own, tx_now}
-use Rattle.beldi_plain.specs.Entries.{after}
+use Rattle.beldi_order.proofs.Names.{Aborts, AllPlain, Answer, AtEnd, Bool, Caller, Commits, Deployment, Effect, Entry, FallsSo, Going, InsideIsOver, Instance, IntentId, IsAnswer, Kind, Leads, LegalIsSane, List, Move, None, OnItem, Option, Outcome, Place, PlainState, Read, Sane, SaneAt, Some, Start, Step, Try, Tx, TxId, Value, [], after, answer_after, answer_caller, answer_of, answered, ap, call_of, callee_of, calls_at, child_of, effect_of, ended, false, fell, get-empty, give, id_cmp, if◌then◌else◌, inl, inr, is_holder, is_older, is_some, item_in, item_of, length, linear, new_instance, nothing, op_of, opened, operated, or_own, refl, root_of, run_from, step_by, subst, sym, true, tx_begun, tx_by, tx_now, txs_after, value_at, waits_at, with_callee, with_instance, ℕ, ◌&&◌, ◌++◌, ◌∙◌, ◌∷◌, ◌≡◌}
+use Rattle.beldi_order.proofs.Names.answer
+use Rattle.beldi_order.proofs.Names.effect
+use Rattle.beldi_order.proofs.Names.kinds
+use Rattle.beldi_order.proofs.Names.map
 use Rattle.beldi_order.proofs.Called.{Linked, called_of, has_callee, linked, IsAlone, not_own, not_root, caller_new, callee_sent}
 use Rattle.beldi_order.proofs.Entries.{did, Did, Stepped, absent, run_keeps, try_leads}
 use Rattle.beldi_order.proofs.Goes.{IsSound, AllSound, GoingSane, going_led}

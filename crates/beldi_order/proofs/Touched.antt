@@ -1,16 +1,6 @@
 -- What a piece and a try touch: their moves are one list.
-use Rattle.std.proofs.Common.{◌≡◌, inl, inr, Bool, true, List, [], ◌∷◌, Option, Some, refl, ap, sym, ◌∙◌, subst}
-use Rattle.std.specs.FinMap as map
-use Rattle.beldi_value.specs.declared.id.IntentId.{IntentId}
-use Rattle.beldi_value.specs.declared.place.Place.{Place}
-use Rattle.beldi_value.specs.declared.place.TxId.{TxId}
-use Rattle.beldi_tree.specs.declared.deployment.Deployment.{Deployment}
-use Rattle.beldi_plain.specs.Guard.{TouchedInPiece, TouchedInTry}
-use Rattle.beldi_plain.specs.Item.{Item}
-use Rattle.beldi_plain.specs.Moves.{Move, plain, fell, moved, Leads, AllPlain, AtEnd, Commits, Aborts, NotBefore, is_there, touched_at, TouchedBy, TouchedIn}
-use Rattle.beldi_plain.specs.Piece.{Going, opened, tx_begun}
-use Rattle.beldi_plain.specs.Plain.{Instance, PlainState, effect_of}
-use Rattle.beldi_order.specs.Inside.{written_at, written_on, WrittenBy, WrittenIn, PiecesTouchTheirItems}
+use Rattle.beldi_order.proofs.Names.{Aborts, AllPlain, AtEnd, Bool, Commits, Deployment, Going, Instance, IntentId, Item, Leads, List, Move, NotBefore, Option, PiecesTouchTheirItems, Place, PlainState, Some, TouchedBy, TouchedIn, TouchedInPiece, TouchedInTry, TxId, WrittenBy, WrittenIn, [], ap, effect_of, fell, inl, inr, is_there, moved, opened, plain, refl, subst, sym, touched_at, true, tx_begun, written_at, written_on, ◌∙◌, ◌∷◌, ◌≡◌}
+use Rattle.beldi_order.proofs.Names.map
 use Rattle.beldi_order.proofs.Beside.{touches}
 use Rattle.beldi_order.proofs.Maps.{same_some}
 use Rattle.beldi_order.proofs.Moved.{MoveIs, answers, calls, returns, move_is, mover, moved_is}

@@ -1,12 +1,5 @@
 -- The transactions of an instance, and how it went, after one answer more.
-use Rattle.std.proofs.Common.{◌≡◌, ◌⊎◌, inl, inr, ℕ, suc, zero, List, [], ◌∷◌, ◌++◌, length, take, Some, refl, ap, sym, ◌∙◌, subst, append_assoc, append-nil}
-use Rattle.std.specs.Prelude.{slice_get}
-use Rattle.beldi_value.specs.declared.id.IntentId.{IntentId}
-use Rattle.beldi_tree.specs.declared.deployment.Deployment.{Deployment}
-use Rattle.beldi_lang.specs.declared.effect.Answer.{Answer}
-use Rattle.beldi_plain.specs.Plain.{Instance, effect_of, answered}
-use Rattle.beldi_order.specs.Sane.{IsAnswer, WentSo}
-use Rattle.beldi_order.specs.Txs.{effect_after, along, none_begun, txs_by, txs_after, tx_after, tx_now}
+use Rattle.beldi_order.proofs.Names.{Answer, Deployment, Instance, IntentId, IsAnswer, List, Some, WentSo, [], along, answered, ap, append-nil, append_assoc, effect_after, effect_of, inl, inr, length, none_begun, refl, slice_get, subst, suc, sym, take, tx_after, tx_now, txs_after, txs_by, zero, ℕ, ◌++◌, ◌∙◌, ◌∷◌, ◌≡◌, ◌⊎◌}
 
 pub along_pushed : {X : Type 0} (f : List Answer → Answer → X → X) (given rest : List Answer) (a : Answer) (x : X) → along f given (rest ++ a ∷ []) x ≡ f (given ++ rest) a (along f given rest x)
 along_pushed f given [] a x = ap (λ ts. f ts a x) (sym (append-nil given))

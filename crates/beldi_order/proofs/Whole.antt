@@ -1,27 +1,8 @@
 -- Where a transaction begins and where it ends, all is sane: with commit what it called stays, and without it is forgotten.
-use Rattle.std.proofs.Common.{◌≡◌, ℕ, zero, suc, ◌<◌, ◌≤◌, Bool, true, false, ◌⊎◌, inl, inr, List, [], ◌∷◌, ◌++◌, length, length-append, take, Option, None, Some, refl, ap, sym, ◌∙◌, subst, append_assoc, arith}
-use Rattle.std.specs.Prelude.{is_some, slice_get, not, if◌then◌else◌}
-use Rattle.std.specs.FinMap as map
-use Rattle.std.specs.FinMap.{FinMap}
-use Rattle.std.specs.Ordering.{is_eq}
-use Rattle.std.proofs.lemmas.Cmp.{tied_itself}
-use Rattle.std.proofs.lemmas.List.{take_all, take-append-le}
-use Rattle.std.proofs.Math.Nat.{eq-or-lt_of_le}
-use Rattle.std.proofs.lemmas.Bool.Decides.{nat_tests}
-use Rattle.beldi_value.specs.Id.{id_cmp, id_total, root_of}
-use Rattle.beldi_value.specs.declared.id.IntentId.{IntentId}
-use Rattle.beldi_value.specs.declared.place.TxId.{TxId}
-use Rattle.beldi_value.specs.declared.value.Value.{Value}
-use Rattle.beldi_tree.specs.declared.deployment.Deployment.{Deployment}
-use Rattle.beldi_lang.specs.declared.effect.Answer.{Answer}
-use Rattle.beldi_lang.specs.declared.effect.Answer.TheVariants as answer
-use Rattle.beldi_lang.specs.declared.effect.Effect.TheVariants as effect
-use Rattle.beldi_lang.specs.Wants.{wants}
-use Rattle.beldi_plain.specs.Piece.{Going, is_owner, tx_begun, opened}
-use Rattle.beldi_plain.specs.Plain.{Instance, PlainState, answered, effect_of, effect_before}
-use Rattle.beldi_order.specs.Grown.{Grown}
-use Rattle.beldi_order.specs.Sane.{IsAnswer, IsCalled, IsCommitted, call_of, within_by, forgets, forgets_begun, is_forgotten}
-use Rattle.beldi_order.specs.Txs.{Txs, txs_by, txs_after, tx_after, tx_now, end_of, is_at}
+use Rattle.beldi_order.proofs.Names.{Answer, Bool, Deployment, FinMap, Going, Grown, Instance, IntentId, IsAnswer, IsCalled, IsCommitted, List, None, Option, PlainState, Some, TxId, Txs, Value, [], answered, ap, append_assoc, arith, call_of, effect_before, effect_of, end_of, eq-or-lt_of_le, false, forgets, forgets_begun, id_cmp, id_total, if◌then◌else◌, inl, inr, is_at, is_eq, is_forgotten, is_owner, is_some, length, length-append, nat_tests, not, opened, refl, root_of, slice_get, subst, suc, sym, take, take-append-le, take_all, tied_itself, true, tx_after, tx_begun, tx_now, txs_after, txs_by, wants, within_by, zero, ℕ, ◌++◌, ◌<◌, ◌∙◌, ◌∷◌, ◌≡◌, ◌≤◌, ◌⊎◌}
+use Rattle.beldi_order.proofs.Names.answer
+use Rattle.beldi_order.proofs.Names.effect
+use Rattle.beldi_order.proofs.Names.map
 use Rattle.beldi_order.proofs.Called.{Linked, caller_answered, callee_answered, effect_now, forgets_on, pairs_set}
 use Rattle.beldi_order.proofs.Ends.{ended_stays}
 use Rattle.beldi_order.proofs.Goes.{GoingSane}
