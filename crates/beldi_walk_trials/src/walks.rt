@@ -269,6 +269,19 @@ fn first_row(alloc: Global, table: &mut MapTable) -> Result<IcSays, Fail> {
     Ok(says)
 }
 
+// Whether no row follows the first one, which the collector's walk stops at and passes.
+fn passes_it(alloc: Global, table: &mut MapTable) -> Result<bool, Fail> {
+    let mut cursor = IntentCursor::new(alloc);
+    let says = or_drop!(cursor.turn(alloc, table); cursor);
+    let stops = is_so!(says, IcSays::Unended { .. });
+    if stops {
+        cursor.pass();
+    }
+    let says = or_drop!(cursor.turn(alloc, table); cursor);
+    drop(cursor);
+    Ok(stops && is_so!(says, IcSays::Round))
+}
+
 fn ends(alloc: Global, table: &mut MapTable) -> Result<bool, Fail> {
     let outcome = Outcome::Value(Value::Null);
     let put = end(table, IntentId::root(alloc, 1), 1, outcome, true, 5)?;
@@ -281,7 +294,7 @@ fn an_intent_is_bound_and_ended(rt: HostRuntime) -> Result<(), Fail> {
     let mut table = roomy(alloc)?;
     assert!(rt; issue(alloc, &mut table, 1, 5)?);
     assert!(rt; binds(alloc, &mut table)?);
-    assert!(rt; is_so!(first_row(alloc, &mut table)?, IcSays::Unended { .. }));
+    assert!(rt; passes_it(alloc, &mut table)?);
     assert!(rt; ends(alloc, &mut table)?);
     assert!(rt; is_so!(first_row(alloc, &mut table)?, IcSays::Passed));
     Ok(())
