@@ -46,7 +46,7 @@ fn step_mark(tx: &Option<RunTx>, first: bool) -> Option<Mark>
     }
 }
 
-// The body of what is called at a step, in this transaction, if any.
+/// The body of what is called at a step, in this transaction, if any. `home` is the function of the caller.
 pub fn callee_body(
     alloc: Global,
     id: &IntentId,

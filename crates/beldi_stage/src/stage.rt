@@ -37,6 +37,7 @@ use beldi_walk::{Heard, Query};
 use std::alloc::{AllocError, Global};
 use std::mem::replace;
 
+/// The place of a step of an intent. `AllocError`: out of memory, as in all calls here that answer it.
 pub fn place_of(alloc: Global, id: &IntentId, step: u32) -> Result<Place, AllocError>
     ensures { IfOk result (λ p. p ≡ place_at id.now step) }
 {
@@ -46,6 +47,7 @@ pub fn place_of(alloc: Global, id: &IntentId, step: u32) -> Result<Place, AllocE
     })
 }
 
+/// Asks for a look at the row of an intent whose function has this number.
 pub fn look(alloc: Global, id: &IntentId, func: u16) -> Result<Apart<Query>, AllocError>
     ensures { IfOk result (λ q. q ≡ look_asks id.now func) }
 {
@@ -195,7 +197,8 @@ fn call_here(
     call_query(alloc, func, place_of(alloc, id, step)?, callee, at)
 }
 
-// What a stage asks. The table takes the key and the act, so what they have of the effect is copied; the machine keeps it.
+/// What the stage of a run asks. The table takes the key and the act, so what they have of the effect is copied; the machine keeps
+/// it.
 pub fn stage_query(
     alloc: Global,
     id: &IntentId,
@@ -247,7 +250,8 @@ fn write_done(effect: &Effect, note: &Note, first: bool) -> Says
     }
 }
 
-// What a stage says of what it was told; what the stage of an end has is moved. Out of memory, it tells the mark of its act.
+/// What the stage of a run says of what it was told, when so many changes had been made; what the stage of an end has is moved. Out
+/// of memory, the error is the mark of its act.
 pub fn hear(
     alloc: Global,
     id: &IntentId,
@@ -463,7 +467,7 @@ fn last_stage(caller: &Option<Caller>) -> Stage
     Stage::Tell
 }
 
-// Where an effect begins; none where it is not carried out.
+/// Where an effect begins; none where it is not carried out, and the run is over.
 pub fn first_stage(
     alloc: Global,
     id: &IntentId,

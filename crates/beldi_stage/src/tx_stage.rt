@@ -28,7 +28,7 @@ fn own_tx(alloc: Global, id: &IntentId, func: u16, tx: &OpenTx) -> Result<TxId, 
     })
 }
 
-// The transaction that a run is in.
+/// The transaction that a run is in, as its rows name it; none outside.
 pub fn tx_at(
     alloc: Global,
     id: &IntentId,

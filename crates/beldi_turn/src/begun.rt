@@ -101,7 +101,7 @@ pub fn begun_with(
     })
 }
 
-// The machine and the transaction that it is in, after an answer.
+/// The machine and the transaction that it is in, after an answer.
 pub fn take(
     alloc: Global,
     begun: &mut Begun,
@@ -142,7 +142,7 @@ fn at_once(
     once(alloc, begun, code, id)
 }
 
-// Past what takes no turn, where its effect begins. It says whether the run is over, as the effect is not carried out.
+/// Past what takes no turn, where its effect begins. It says whether the run is over, as the effect is not carried out.
 pub fn go_to(
     alloc: Global,
     begun: &mut Begun,
