@@ -27,7 +27,7 @@ pub mod Lines
 pub mod Lists
 pub mod Locks
 pub mod Members
-mod Names
+pub mod Names
 pub mod NoTx
 pub mod Nothing
 pub mod Operations

@@ -1,22 +1,16 @@
 -- Names of the crates below and of this crate's definitions, gathered for its lemmas.
-pub use Rattle.std.proofs.Common.{Bool, Err, IsTrue, List, None, Ok, Option, Result, Some, T, [], add-one, ap, append-nil, append_assoc, arith, cond, drop, eq-eqb, eqb-true, false, flat_map, get_or, if◌then◌else◌, inl, inr, is_some, length, length-append, not, refl, subst, suc, sym, take, true, zero, ℕ, ◌&&◌, ◌++◌, ◌+◌, ◌<◌, ◌==◌, ◌||◌, ◌∙◌, ◌∷◌, ◌≡◌, ◌≤◌, ◌⊎◌}
+pub use Rattle.std.proofs.Common.{IsTrue, T, add-one, drop, flat_map, get_or}
 pub use Rattle.std.proofs.Math.Bool.{and-false}
 pub use Rattle.std.proofs.Math.Nat.{eq-or-lt_of_le}
-pub use Rattle.std.proofs.Math.Seq.{take-append_seam}
-pub use Rattle.std.proofs.lemmas.Bool.{and_parts, lt-ltb, ltb-true, or_parts}
+pub use Rattle.std.proofs.lemmas.Bool.{lt-ltb, ltb-true}
 pub use Rattle.std.proofs.lemmas.Bool.Decides.{nat_tests}
-pub use Rattle.std.proofs.lemmas.Cmp.{eq_by_cmp_equiv, tied_itself}
-pub use Rattle.std.proofs.lemmas.List.{length-take-le, take-append-drop, take-append-le, take_more}
-pub use Rattle.std.proofs.lemmas.Option.{slice_get_within}
+pub use Rattle.std.proofs.lemmas.List.{take-append-drop, take_more}
 pub use Rattle.std.specs.Cmp.{Equal-is, nat_cmp_total}
-pub use Rattle.std.specs.FinMap.{FinMap, entries_sorted, get-empty, get-entries, get-insert, get-remove, len-empty, len-insert, len-remove, nat_cmp-IsAntisymmetric, same_map}
+pub use Rattle.std.specs.FinMap.{entries_sorted, get-entries, get-remove, len-empty, len-insert, len-remove, nat_cmp-IsAntisymmetric, same_map}
 pub use Rattle.std.specs.FinMap.Entries.{below_all, find, is_sorted, same_entries}
-pub use Rattle.std.specs.Option.{is_none, option_map}
-pub use Rattle.std.specs.Ordering.{is_eq, is_lt, nat_cmp}
-pub use Rattle.std.specs.Prelude.{IfOk, nat_le, nat_lt, option_and_then, option_to_list, slice_get, ◌-◌, ◌^◌}
+pub use Rattle.std.specs.Ordering.{is_lt}
+pub use Rattle.std.specs.Prelude.{IfOk, nat_le, option_and_then, option_to_list, ◌-◌, ◌^◌}
 pub use Rattle.std.specs.declared.alloc.AllocError.{AllocError}
-pub use Rattle.std.specs.declared.cmp.Ordering.{Ordering}
-pub use Rattle.std.specs.declared.cmp.Ordering.TheVariants.{Equal, Greater, Less}
 pub use borrow.Author.Tests.{le-leb, leb-false, leb-true, lt-leb, ltb-false}
 pub use Rattle.beldi_book.proofs.Orders.{changes_more, front_back, linear_changes}
 pub use Rattle.beldi_book.specs.Order.{SeenBounded, back, changes_of, count_changes, front, linear, seen_of}
@@ -31,12 +25,11 @@ pub use Rattle.beldi_collect.specs.Collect.{collect_asks, collect_says}
 pub use Rattle.beldi_daal.proofs.Logged.{by_op, by_row}
 pub use Rattle.beldi_daal.proofs.Stays.{notes_stay}
 pub use Rattle.beldi_daal.specs.Cell.{cell_key, done_note, in_the_way, op_act, read_goes, write_asks, write_goes}
-pub use Rattle.beldi_daal.specs.Content.{Content, SoundAt, content_in}
-pub use Rattle.beldi_daal.specs.Logged.{DidAs, DidOnce, LoggedTurn, Logs, ReadsContent, barred, died_at, died_of, dies, done_to, held_by, note_after, waited}
+pub use Rattle.beldi_daal.specs.Content.{SoundAt}
+pub use Rattle.beldi_daal.specs.Logged.{DidAs, DidOnce, LoggedTurn, Logs, ReadsContent, died_at, died_of, dies, held_by, waited}
 pub use Rattle.beldi_daal.specs.ReadWalk.{read_so}
 pub use Rattle.beldi_daal.specs.Walk.{walk_so}
-pub use Rattle.beldi_daal.specs.declared.cell.CellOp.{CellOp}
-pub use Rattle.beldi_daal.specs.declared.cell.CellOp.TheVariants.{Free as FreeOp, Lock}
+pub use Rattle.beldi_daal.specs.declared.cell.CellOp.TheVariants.{Free as FreeOp}
 pub use Rattle.beldi_daal.specs.declared.cell.ReadGoes.{ReadGoes}
 pub use Rattle.beldi_daal.specs.declared.cell.WriteAt.{WriteAt}
 pub use Rattle.beldi_daal.specs.declared.cell.WriteAt.TheVariants.{Make}
@@ -44,11 +37,12 @@ pub use Rattle.beldi_daal.specs.declared.cell.WriteGoes.{WriteGoes}
 pub use Rattle.beldi_daal.specs.declared.read_walk.ReadWalk.{ReadWalk}
 pub use Rattle.beldi_daal.specs.declared.walk.Item.TheVariants.{Plain}
 pub use Rattle.beldi_daal.specs.declared.walk.WriteWalk.{WriteWalk}
-pub use Rattle.beldi_intent.specs.Intent.{bind_asks, binding_of, body_in, body_told, end_asks, intent_key, is_added, is_did, is_ended, issued_at, look_asks, open_body, register_asks, root_key}
+pub use Rattle.beldi_intent.specs.Intent.{bind_asks, binding_of, body_in, body_told, end_asks, intent_key, is_added, is_did, is_ended, issued_at, look_asks, open_body, register_asks}
 pub use Rattle.beldi_intent.specs.declared.intent.Binding.{Binding}
 pub use Rattle.beldi_invokelog.proofs.Calls.{calls_stay}
-pub use Rattle.beldi_invokelog.specs.InvokeLog.{CallGoesOn, GoesOn, back_asks, back_of, call_in, invoke_key, opened, registered_asks, result_in}
+pub use Rattle.beldi_invokelog.specs.InvokeLog.{CallGoesOn, GoesOn, back_asks, back_of, opened, registered_asks}
 pub use Rattle.beldi_invokelog.specs.declared.invoke_log.Back.TheVariants.{Absent, AlreadySet, Set}
+pub use Rattle.beldi_known.proofs.Names.{Answer, Async, Beside, Body, BodyMatches, Bool, Call, CallMatches, CalledBy, CalleeBodyMatches, CalleeMatches, Caller, Cause, CellOp, Content, Deployment, Done, DoneRows, Effect, Equal, Err, FellAt, FinMap, FinishMatches, Goes, Greater, Grown, GrownAt, HoldersInsideAreMade, Instance, Intent, IntentId, IntentMatches, IntentRow, InvokeRow, IsAbort, IsAnswer, IsBelow, IsBodyOf, IsCalled, IsCalleeRow, IsCommit, IsDeath, IsFront, IsRootRow, IsSound, Item, ItemMatches, Items, Kind, Known, Less, Line, List, Lock, LockedAtEnds, LockedIf, LockedOut, LocksetMatches, LogMatches, Matches, None, Note, Null, Ok, OnItem, Operation, Option, Ordering, Outcome, OutcomeMatches, Owner, Place, PlainState, Prefix, Rel, Result, RootMatches, Row, RowKey, RowMatches, Rows, Sane, SaneInstance, ShadowMatches, Some, TouchedIn, Tx, TxId, Txs, TxsMatch, Value, Waited, [], age_of, ahead_by, ahead_note, along, along_append, along_pushed, and_once, and_parts, answer_after, answer_at_once, answer_given, answer_of, answered, answered_if, answered_note, ap, append-nil, append_assoc, arith, asks_lock, at_once, at_step, barred, begins_at, body_of, call_in, call_of, called_by, callee_of, calls_at, cell_of, child_of, child_same, commit_in, cond, content_in, content_of, decision_by, decision_key, did, died, done_to, effect_after, effect_before, effect_of, elsewhere, end_of, ended, ended_at, ended_by, ended_stays, eq-eqb, eq_by_cmp_equiv, eqb-true, false, fits, fits_at, func_at, get-empty, get-insert, get_after, get_set, got, got_before, got_by, has_callees, has_ended, has_no_hops, head_key, held, held_or, here, holds, id_cmp, id_exact, id_same, id_total, if◌then◌else◌, in_line, inl, inr, invoke_key, is_aborted, is_at, is_begin, is_committed, is_decided, is_eq, is_item, is_mark, is_none, is_older, is_on, is_open, is_owner, is_some, is_tx, is_waited, item_cmp, item_in, item_same, item_total, key_cmp, key_same, key_self, last_answer, last_hop, last_step, length, length-append, length-take-le, line_opened, listed, listed_under, lock_answer, lock_in, lock_on, lock_or, lockset_ahead, lockset_key, lockset_of, log_key, made_set, moved, nat_cmp, nat_lt, new_instance, next, next_step, not, note_after, note_at, note_by, note_of, note_or, note_pushed, noted_or, once, once_if, op_of, operation_answers, option_map, or_null, or_old, or_own, or_parts, other_owner, owed_call, owed_lockset, owed_note, owed_read, owed_shadow, owed_value, owner_eq, owns, passes, pieces_are_moves, place_eq, place_of, place_same, plain_set, put_lockset, read_at, refl, result_in, result_of, root_key, root_of, row_added, row_at, row_got, run_on, run_once, same_some, set_if, set_row, sets, shadow_by, shadow_key, shadow_of, slice_get, slice_get_within, subst, suc, sym, take, take-append-le, take-append_seam, test_on, tested, tied_itself, top, touched, true, tx_after, tx_at, tx_begun, tx_by, tx_end, tx_eq, tx_in, tx_now, txs_after, txs_by, txs_pushed, value_at, value_for, value_in, value_or, wants, with_instance, with_note, within_by, write_on, write_op, writes_on, zero, ℕ, ◌&&◌, ◌++◌, ◌+◌, ◌<◌, ◌==◌, ◌||◌, ◌∙◌, ◌∷◌, ◌≡◌, ◌≤◌, ◌⊎◌}
 pub use Rattle.beldi_known.proofs.Acting.{calls_go, deaths_go, first_rows_go, reads_go, returns_go, rows_go, tests_go, writes_go}
 pub use Rattle.beldi_known.proofs.Acts.{by_item, content_apart, content_here, is_data, is_shadow, kinds_apart, lock_did, shadow_same, turned}
 pub use Rattle.beldi_known.proofs.Ahead.{ahead_front, ahead_set, none_out, unlocked_absent, unlocked_elsewhere, unlocked_outside}
@@ -89,30 +83,17 @@ pub use Rattle.beldi_known.proofs.Sets.{is_log as is_row_log, row_put}
 pub use Rattle.beldi_known.proofs.Shadows.{none_show}
 pub use Rattle.beldi_known.proofs.Told.{test_parts, write_parts}
 pub use Rattle.beldi_known.proofs.Unaborted.{returned_cause}
-pub use Rattle.beldi_known.specs.Acts.{did, died, held, held_or, lock_answer, lock_on, lock_or, noted, noted_or, put_lockset, test_on, tested, with_note, write_on}
-pub use Rattle.beldi_known.specs.Beside.{Beside, is_begin}
-pub use Rattle.beldi_known.specs.Contents.{content_of, head_key, is_owner, lockset_key, shadow_key, shadow_of}
-pub use Rattle.beldi_known.specs.Frame.{LockedOut, lock_in, row_added}
-pub use Rattle.beldi_known.specs.InsideLaws.{FellAt, Goes, HoldersInsideAreMade, IsAbort, IsCommit, IsOpen, IsSound, decided as with_decision, last_answer}
-pub use Rattle.beldi_known.specs.Known.{Known, Prefix, ahead_by, ahead_note, and_once, answer_at_once, answered_note, asks_lock, at_once, at_once as with_once, at_step, begins_at, commit_in, decision_by, ended_at, ended_by, got_before, got_by, is_decided, is_item, is_mark, is_on, is_tx, last_step, lock_note as lock_owed, lockset_of, moved, note_by, note_or, once, once_if, owed_call, owed_lockset, owed_note, owed_read, owed_shadow, owed_value, read_at, row_at, run_on, run_once, shadow_by, tx_end, tx_eq, value_or, write_op}
-pub use Rattle.beldi_known.specs.Laws.{IsBehind, IsFront}
-pub use Rattle.beldi_known.specs.Listed.{listed, listed_under}
-pub use Rattle.beldi_known.specs.Matches.{ItemMatches, LockedAtEnds, LockedIf, LocksetMatches, Matches, RowMatches, ShadowMatches, TxsMatch, has_ended, is_open, lockset_ahead}
-pub use Rattle.beldi_known.specs.Operations.{DoneRows, cell_of}
-pub use Rattle.beldi_known.specs.Owed.{called_by, note_of, result_of, value_for}
-pub use Rattle.beldi_known.specs.Rows.{BodyMatches, CallMatches, CalleeBodyMatches, CalleeMatches, FinishMatches, HasNoRow, IntentMatches, IsBodyOf, IsCalleeRow, IsRootRow, LogMatches, OutcomeMatches, RootMatches, body_of, tx_in}
-pub use Rattle.beldi_known.specs.Sane.{Sane, SaneInstance}
-pub use Rattle.beldi_known.specs.Shadows.{writes_on}
+pub use Rattle.beldi_known.specs.Acts.{noted}
+pub use Rattle.beldi_known.specs.InsideLaws.{IsOpen, decided as with_decision}
+pub use Rattle.beldi_known.specs.Known.{at_once as with_once, lock_note as lock_owed}
+pub use Rattle.beldi_known.specs.Laws.{IsBehind}
+pub use Rattle.beldi_known.specs.Rows.{HasNoRow}
 pub use Rattle.beldi_lang.proofs.Bounds.{no_bound}
 pub use Rattle.beldi_lang.proofs.Resumes.{at_begin, at_effect, at_next, few_answers}
 pub use Rattle.beldi_lang.specs.Bounds.{is_bound}
-pub use Rattle.beldi_lang.specs.Callee.{answer_of}
 pub use Rattle.beldi_lang.specs.Machine.{IsAt, begun, begun as machine_begun}
-pub use Rattle.beldi_lang.specs.Wants.{wants, wants_answer}
-pub use Rattle.beldi_lang.specs.declared.effect.Answer.{Answer}
-pub use Rattle.beldi_lang.specs.declared.effect.Answer.TheVariants.{Done}
-pub use Rattle.beldi_lang.specs.declared.effect.Effect.{Effect}
-pub use Rattle.beldi_lang.specs.declared.effect.Effect.TheVariants.{Abort, Async, Begin, Call, CondWrite, End, Read, Return, Unlock, Write}
+pub use Rattle.beldi_lang.specs.Wants.{wants_answer}
+pub use Rattle.beldi_lang.specs.declared.effect.Effect.TheVariants.{Abort, Begin, CondWrite, End, Read, Return, Unlock, Write}
 pub use Rattle.beldi_lang.specs.declared.machine.Machine.{Machine}
 pub use Rattle.beldi_laws.specs.Inside.{AtStage, Found, Frame, InItem, InOperation, Inside, IsFreePlace, IsOf, IsWriting, OfBegin, OwnedAreUnmarked, OwnersCallNobody, ParticipantsAreReleased, ParticipantsHaveRows, Released, StillOwns, TookPart, end_walk, has_asked, has_finish}
 pub use Rattle.beldi_laws.specs.Laws.{BookGrew, ChangesOneRow, DropsHaveCause, HasReply, HeldAnswersStay, InstancesGoOn, KeepsRight, KeepsRoom, OneRowChanged, OutcomesStay, RepliesAreOutcomes, RightHasOneAnswer, RightIsLegal, StartsAreBound, WritesWhatIsTold, bound_by, bound_of, entries_told, is_gone, starts_of, told_outcome}
@@ -125,65 +106,44 @@ pub use Rattle.beldi_lock.specs.Lock.{item_goes, note_goes, put_goes}
 pub use Rattle.beldi_lock.specs.Lockset.{AreHops, lockset_found, most}
 pub use Rattle.beldi_lock.specs.declared.lock.LockAt.{LockAt}
 pub use Rattle.beldi_lock.specs.declared.lock.LockAt.TheVariants.{Item as AtItem, Lockset}
-pub use Rattle.beldi_order.proofs.Called.{get_after, last_hop, next_step}
-pub use Rattle.beldi_order.proofs.Ends.{along_append, at_of, ended_stays, fits, fits_at}
+pub use Rattle.beldi_order.proofs.Ends.{at_of}
 pub use Rattle.beldi_order.proofs.Entries.{after_grows, enabled_step, free_at_operation, grown_answer, grown_end, grows_at, grows_new, grows_self, grows_through, opened_grows, run_grows, runs_on}
 pub use Rattle.beldi_order.proofs.Foreign.{entries_touch}
 pub use Rattle.beldi_order.proofs.Growth.{change_last, kept_late}
 pub use Rattle.beldi_order.proofs.Late.{not_moved}
-pub use Rattle.beldi_order.proofs.Line.{in_line, line_opened}
 pub use Rattle.beldi_order.proofs.Locks.{from_begin, operation_step}
-pub use Rattle.beldi_order.proofs.Maps.{changed, elsewhere, here, here as inserted, made_set, same_some}
-pub use Rattle.beldi_order.proofs.Moved.{Items}
+pub use Rattle.beldi_order.proofs.Maps.{changed, here as inserted}
 pub use Rattle.beldi_order.proofs.Nulls.{no_null}
-pub use Rattle.beldi_order.proofs.Operations.{id_same, item_same, plain_set}
-pub use Rattle.beldi_order.proofs.Pieces.{pieces_are_moves}
 pub use Rattle.beldi_order.proofs.Places.{front_all}
-pub use Rattle.beldi_order.proofs.Sanes.{Waited}
-pub use Rattle.beldi_order.proofs.Sound.{answers_waiter, legal_is_sane, operation_answers}
+pub use Rattle.beldi_order.proofs.Sound.{answers_waiter, legal_is_sane}
 pub use Rattle.beldi_order.proofs.Touched.{pieces_touch_their_items}
-pub use Rattle.beldi_order.proofs.Went.{along_pushed, pushed_cases, txs_pushed}
-pub use Rattle.beldi_order.specs.Grown.{Grown, GrownAt, Grows}
-pub use Rattle.beldi_order.specs.Inside.{IsBelow, Line, next, top}
+pub use Rattle.beldi_order.proofs.Went.{pushed_cases}
+pub use Rattle.beldi_order.specs.Grown.{Grows}
 pub use Rattle.beldi_order.specs.Laws.{BelongsEarlier, IsKeptLate, IsLast, IsStateAt, KeepsNoNull, with_answer}
-pub use Rattle.beldi_order.specs.Sane.{CalledBy, IsAnswer, IsCalled, IsDeath, answer_given, call_of, within_by}
-pub use Rattle.beldi_order.specs.Txs.{Txs, along, effect_after, end_of, is_at, none_begun, or_own, tx_after, tx_at, tx_by, tx_now, txs_after, txs_by}
+pub use Rattle.beldi_order.specs.Txs.{none_begun}
 pub use Rattle.beldi_plain.specs.Entries.{after}
 pub use Rattle.beldi_plain.specs.Guard.{IsFree, IsGuarded, Touches, item_touched, touched_by}
-pub use Rattle.beldi_plain.specs.Holds.{holds}
-pub use Rattle.beldi_plain.specs.Item.{Item, item_cmp, item_exact, item_total}
+pub use Rattle.beldi_plain.specs.Item.{item_exact}
 pub use Rattle.beldi_plain.specs.Legal.{run_from, run_of}
 pub use Rattle.beldi_plain.specs.Listing.{listing_of}
-pub use Rattle.beldi_plain.specs.Moves.{TouchedIn}
-pub use Rattle.beldi_plain.specs.Operation.{OnItem, Operation, answer_after, item_in, op_of, or_old, set_if, sets, touched}
-pub use Rattle.beldi_plain.specs.Piece.{is_aborted, tx_begun}
-pub use Rattle.beldi_plain.specs.Plain.{AllShort, Instance, PlainState, answer_caller, answered, answered_if, callee_of, calls_at, effect_before, effect_of, ended, give, kind_of, new_instance, nothing, operate, outcome_of, reply_of, start, step_by, value_at, waits_at, with_callee, with_instance}
-pub use Rattle.beldi_readlog.specs.ReadLog.{given, given_in, given_of, kept_of, log_key}
-pub use Rattle.beldi_row.proofs.Gets.{got, got as row_got, key_same, key_self}
-pub use Rattle.beldi_row.proofs.Logs.{note_here, note_pushed, once_pushed, place_same}
-pub use Rattle.beldi_row.proofs.Rows.{get_set}
+pub use Rattle.beldi_plain.specs.Plain.{AllShort, answer_caller, give, kind_of, nothing, operate, outcome_of, reply_of, start, step_by, waits_at, with_callee}
+pub use Rattle.beldi_readlog.specs.ReadLog.{given, given_in, given_of, kept_of}
+pub use Rattle.beldi_row.proofs.Logs.{note_here, once_pushed}
 pub use Rattle.beldi_row.proofs.Unchanged.{looked, unchanged}
-pub use Rattle.beldi_row.specs.Act.{Tell, act, at_tail, bind_to, call_back_to, cond_to, did as was_did, end_with, entered, finish_at, given_or, held_or as cell_held, next_or, noted as said_noted, noted_or as cell_noted, off, on, on_cell, other, other_owner, outcome_tell, owns, register_to, stays, unless_held}
-pub use Rattle.beldi_row.specs.Key.{RowKey, key_cmp, least_key}
+pub use Rattle.beldi_row.specs.Act.{Tell, act, at_tail, bind_to, call_back_to, cond_to, did as was_did, end_with, entered, finish_at, given_or, held_or as cell_held, next_or, noted as said_noted, noted_or as cell_noted, off, on, on_cell, other, outcome_tell, register_to, stays, unless_held}
+pub use Rattle.beldi_row.specs.Key.{least_key}
 pub use Rattle.beldi_row.specs.KeyOrder.{key_exact, key_total}
-pub use Rattle.beldi_row.specs.Log.{note_at, owner_eq, place_eq}
-pub use Rattle.beldi_row.specs.Table.{Rose, Rows, TableState, after_act, set_row}
+pub use Rattle.beldi_row.specs.Table.{Rose, TableState, after_act}
 pub use Rattle.beldi_row.specs.declared.act.Act.{Act, Act as RowAct}
 pub use Rattle.beldi_row.specs.declared.act.Act.TheVariants.{Bind, CallBack, CondCell, Issue, Look, MakeCell, NoteRegistered, OpenInvoke, PutLockset, PutRead, Register, WriteCell}
-pub use Rattle.beldi_row.specs.declared.key.Kind.{Kind}
-pub use Rattle.beldi_row.specs.declared.notes.Note.{Note}
 pub use Rattle.beldi_row.specs.declared.notes.Note.TheVariants.{Cond, Died, Got, Wrote}
-pub use Rattle.beldi_row.specs.declared.row.Body.{Body}
 pub use Rattle.beldi_row.specs.declared.row.Cell.{Cell}
-pub use Rattle.beldi_row.specs.declared.row.IntentRow.{IntentRow}
-pub use Rattle.beldi_row.specs.declared.row.InvokeRow.{InvokeRow}
-pub use Rattle.beldi_row.specs.declared.row.Row.{Row}
 pub use Rattle.beldi_row.specs.declared.table.TableErr.{TableErr}
 pub use Rattle.beldi_row.specs.declared.table.TableErr.TheVariants.{Failed, Full, OutOfMemory}
 pub use Rattle.beldi_step.proofs.PutRun.{put_got, remove_put}
 pub use Rattle.beldi_step.specs.Host.{Core, EventBy, EventOn, Followed, Plan, StepBy, after_turn, asks, bound_next, collect_next, collected, counted, crash_plan, ended_run, entry_of, first_core, has_run, heard, if_lent, is_crowded, is_dropped, is_lost, last_moment, launched, made, marked, may_start, most_events, most_runs, new_run, no_memory, no_run, passed, plan, plan_of, put_run, refused, refused_by, request_next, run_next, run_plan, started, ticket_next, turn_next, turned_core, unbound, unheard_next, with_run, without_run}
-pub use Rattle.beldi_step.specs.Run.{Turned, answer_noted, answers_it, ask_says, asks_at, async_answer, async_here_asks, async_here_says, at_once as at_once_of, at_stage, back_says, back_to_asks, begin_in, begin_of, body_registered, call_answer, call_here_says, callee_at, callee_body, callee_by, callee_of as run_called, cell_op, close_says, decide_by_says, decided_says, done_says, end_by_asks, end_by_says, end_mark, first_stage, goes, goes_from, goes_to, if_answers, is_inherited, is_waited, keep_says, last_stage, mark_if, note_done, note_of_op, noted_answer, open_after, over, own_tx, place_of, put_asks, put_says, reply_if, run_asks, run_told, says_of, stage_asks, stage_says, step_mark, takes, takes_if, tell_asks, told_at, turned_by, tx_at as run_tx, tx_here_asks, tx_here_says, tx_of, tx_says, visit_says, walk_says, with_cause, within, write_says}
-pub use Rattle.beldi_step.specs.Tables.{decision_key, is_committed, line_at, row_line, shown_under, tables_text, value_in, value_line}
+pub use Rattle.beldi_step.specs.Run.{Turned, answer_noted, answers_it, ask_says, asks_at, async_answer, async_here_asks, async_here_says, at_once as at_once_of, at_stage, back_says, back_to_asks, begin_in, begin_of, body_registered, call_answer, call_here_says, callee_at, callee_body, callee_by, callee_of as run_called, cell_op, close_says, decide_by_says, decided_says, done_says, end_by_asks, end_by_says, end_mark, first_stage, goes, goes_from, goes_to, if_answers, is_inherited, keep_says, last_stage, mark_if, note_done, note_of_op, noted_answer, open_after, over, own_tx, put_asks, put_says, reply_if, run_asks, run_told, says_of, stage_asks, stage_says, step_mark, takes, takes_if, tell_asks, told_at, turned_by, tx_at as run_tx, tx_here_asks, tx_here_says, tx_of, tx_says, visit_says, walk_says, with_cause, within, write_says}
+pub use Rattle.beldi_step.specs.Tables.{line_at, row_line, shown_under, tables_text, value_line}
 pub use Rattle.beldi_step.specs.declared.event.Event.{Event}
 pub use Rattle.beldi_step.specs.declared.event.Event.TheVariants.{Crash, Ic, Lost, Request, Restart, Tick, Ticket, Turn}
 pub use Rattle.beldi_step.specs.declared.event.Seen.{Seen}
@@ -199,9 +159,6 @@ pub use Rattle.beldi_step.specs.declared.run.Says.TheVariants.{Answers, Ends, On
 pub use Rattle.beldi_step.specs.declared.run.Stage.{Stage}
 pub use Rattle.beldi_step.specs.declared.run.TurnSays.{TurnSays}
 pub use Rattle.beldi_step.specs.declared.run.Wait.{Wait}
-pub use Rattle.beldi_tree.specs.Bindings.{or_null}
-pub use Rattle.beldi_tree.specs.Names.{func_at}
-pub use Rattle.beldi_tree.specs.declared.deployment.Deployment.{Deployment}
 pub use Rattle.beldi_tree.specs.declared.deployment.Func.{Func}
 pub use Rattle.beldi_txn.proofs.Calls.{IsNarrow, first_narrow}
 pub use Rattle.beldi_txn.proofs.Levels.{member_more, way_more}
@@ -220,21 +177,8 @@ pub use Rattle.beldi_txn.specs.declared.end.Visit.{Visit}
 pub use Rattle.beldi_txn.specs.declared.end_walk.EndWalk.{EndWalk}
 pub use Rattle.beldi_txn.specs.declared.tx.TxAt.{TxAt}
 pub use Rattle.beldi_txn.specs.declared.way.Called.{Called}
-pub use Rattle.beldi_value.proofs.Callees.{child_same}
-pub use Rattle.beldi_value.specs.Id.{age_of, child_of, has_callees, has_no_hops, id_cmp, id_exact, id_total, is_older, root_of}
-pub use Rattle.beldi_value.specs.Passes.{passes}
 pub use Rattle.beldi_value.specs.Same.{same_value}
-pub use Rattle.beldi_value.specs.declared.id.IntentId.{IntentId}
-pub use Rattle.beldi_value.specs.declared.outcome.Cause.{Cause}
-pub use Rattle.beldi_value.specs.declared.outcome.Outcome.{Outcome}
-pub use Rattle.beldi_value.specs.declared.place.Caller.{Caller}
-pub use Rattle.beldi_value.specs.declared.place.Owner.{Owner}
-pub use Rattle.beldi_value.specs.declared.place.Owner.TheVariants.{Intent, Tx, Tx as ByTx}
-pub use Rattle.beldi_value.specs.declared.place.Place.{Place}
-pub use Rattle.beldi_value.specs.declared.place.TxId.{TxId}
-pub use Rattle.beldi_value.specs.declared.rel.Rel.{Rel}
-pub use Rattle.beldi_value.specs.declared.value.Value.{Value}
-pub use Rattle.beldi_value.specs.declared.value.Value.TheVariants.{Null}
+pub use Rattle.beldi_value.specs.declared.place.Owner.TheVariants.{Tx as ByTx}
 pub use Rattle.beldi_walk.proofs.Lent.{refused_stand, rows_stand}
 pub use Rattle.beldi_walk.proofs.Promises.{at_each}
 pub use Rattle.beldi_walk.specs.Query.{CameOn, Told, lends, query_adds, rows_after, said, told_by}
