@@ -15,6 +15,12 @@
 //!   first line that is the text of no entry (`ReadsBook`). Where the names of the functions are words and differ, a book
 //!   that was written is read as it was (`book_is_read_again`); a text that is no book's is refused (`nothing_else_is_read`);
 //!   the bad line is one, and a text that has one is no book's (`bad_line_is_first`).
+//!
+//! Files:
+//! - Code (`src/`): `entry`, `book`, `item` a line of a listing; `order` the order in time; `reading` a line of a text;
+//!   `laws`.
+//! - Lemmas (`proofs/`): `Orders`, `Places` the linear order; `Books`, `Cuts`, `LineFeeds`, `Starts`, `Others` what is read
+//!   of a line and a text; `Again` what was written is read again.
 #![tactic(auto)]
 
 mod book;

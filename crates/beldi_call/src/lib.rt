@@ -12,6 +12,10 @@
 //!   at the turns that open it and mark it and at no other; it is marked only once the row of its callee is there
 //!   (`a_callee_is_enrolled`), which stays there (`an_enrolled_callee_stays`). A place has one callee, and a callee one place
 //!   (`a_call_stays` of `beldi_invokelog`, `a_callee_has_one_place`).
+//!
+//! Files:
+//! - Code (`src/`): `call` a call that waits for its result, `async_call` one that nobody waits for: parts and walks; `laws`.
+//! - Lemmas (`proofs/`): `Turns`, `Callees`.
 #![tactic(auto)]
 
 mod async_call;

@@ -10,6 +10,13 @@
 //! - It is accepted exactly where each rule holds at each function, table and statement (`accepts_exactly`); one function
 //!   reaches another exactly where there is a path from it (`reaches_by_paths`).
 //! - `Checked` keeps that it was checked (`checked`), and `func` finds a function by its name.
+//!
+//! Files:
+//! - Code (`src/`): `site` the statements of a body, and where each stands; `listed`, `calls` which function leads to which;
+//!   `rules` the first place that breaks a rule; `accept` the checks in their order, and a deployment that passed; `why`;
+//!   `laws`.
+//! - Lemmas (`proofs/`): `Firsts` the first offence, one part after another; `Grids`, `Paths` a path from function to
+//!   function; `Keeps`.
 #![tactic(auto)]
 
 mod accept;

@@ -8,6 +8,10 @@
 //!   whatever the table tells; at an error it stands where it stood (`Turned`). `pass` sets it after the row that was kept.
 //! - Laws: `Unended` tells an intent that has not ended, and its body, and the cursor stays before it; any other row is passed,
 //!   and `Round` says that no row follows (`the_next_intent_is_told`). Past a row no intent is left out (`no_intent_is_jumped`).
+//!
+//! Files:
+//! - Code (`src/`): `cursor` what the intent collector asks and finds, as parts; `intent_cursor` its walk; `laws`.
+//! - Lemmas (`proofs/`): `Turns` what a turn tells; `Jumps` that no intent is left out.
 #![tactic(auto)]
 
 mod cursor;

@@ -8,6 +8,12 @@
 //! - This follows from what `clap` says of the command that it is given, `run_or_check`: where none of the words is `--`, it
 //!   refuses them just where they ask for no command, and else it met the subcommand that they name (`proofs/Asked`). By hand the
 //!   words are only looked through for `--`, since `clap` takes `run --` for `run`.
+//!
+//! Files:
+//! - Code (`src/`): `command` the commands; `reading` which one the words ask for; `parser` the grammar, as `clap` is given
+//!   it.
+//! - Lemmas (`proofs/`): `Asked` that `clap` takes just the words of a command, and meets its name; `Strays`, `Entered` words
+//!   that it refuses, and words after a name; `Answered` what its answer says.
 #![tactic(auto)]
 
 mod command;

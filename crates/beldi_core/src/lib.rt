@@ -7,6 +7,12 @@
 //!   definition of an event says (`PlannedOf`, `Asked`); crashes, lost answers, restarts, faults, want of room and out of memory are
 //!   cases of it.
 //! - `Runs::next_after` is the least live run past a number (`IsLeastPast`).
+//!
+//! Files:
+//! - Code (`src/`): `host_core` the host without its table; `events` what an event asks, and what follows; `runs` the live
+//!   runs by number; `counts` how many of them each intent has.
+//! - Lemmas (`proofs/`): `Plans` a plan, followed, is one step; `RunMaps`; `CountMaps`, `Counting` what is counted of the
+//!   runs; `Least` the least number past another; `Truths`.
 #![tactic(auto)]
 
 mod counts;

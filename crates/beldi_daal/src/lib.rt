@@ -17,6 +17,11 @@
 //!   gives the lock back does not, it tells that (`a_chain_is_a_logged_cell`). No act takes away the note of a place, so every
 //!   later walk for it is told the same (`a_note_stays`). A read's walk changes nothing, is never refused as `Full`, and says
 //!   the content's value, or the owner that is in the way (`a_read_gives_the_content`).
+//!
+//! Files:
+//! - Code (`src/`): `cell` the operations on an item, what they ask of its rows, and what follows, for walks and runs; `walk`
+//!   the walk of an operation; `read_walk` that of a read; `laws`.
+//! - Lemmas (`proofs/`): `Logged`; `Stays` that notes stay; `Bars` the owner in the way.
 #![tactic(auto)]
 
 mod cell;

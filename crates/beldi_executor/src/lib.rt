@@ -13,6 +13,16 @@
 //! - An asynchronous call makes its callee and is answered at once; the callee's return answers nobody. No callee is made twice.
 //! - `Plain::run` runs a book in its linear order, or stops at the first entry that is not enabled (`Ran`).
 //! - `reply`, `value` and `tables` read its state (`reply_of`, `value_at`; `ok`, `err`).
+//!
+//! Files:
+//! - Code (`src/`): `plain` the executor; `state` the plain state; `instance`, `instances`; `cells`, `tables`, `items` the
+//!   items, table by table; `machines` the machines that are kept, `next` what a step leaves for them; `kind` how the effect
+//!   of an instance is entered; `piece` a transaction as one step, `draft` one under way, `undo` what it has set.
+//! - Further definitions (`specs/`): `Codes` plain states as data.
+//! - Lemmas (`proofs/`): `Made` the state after a step, by its parts; `Kept` machines that are kept stand for their
+//!   instances; `ByTable` items table by table; `Finite` maps; `Runs` the first entries; `Bars` what bars an effect;
+//!   `Drafts`, `Lines`, `Leads`, `Whole` a transaction under way; in it `Entered` a call, `Returned` a return, `Touched` an
+//!   operation, `Falls` the end, `InPlace` what is set.
 #![tactic(auto)]
 
 mod cells;

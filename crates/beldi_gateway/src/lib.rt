@@ -9,6 +9,14 @@
 //!   and the desk is as it was; or, after a fault of the link or where memory is short, a front of that response, or nothing asked.
 //!   `cut` is told only where the connection ended. A fault comes only where the link's count rose (`cause`).
 //! - Where the link tells nothing (`seen`), what is said of bytes is said of some bytes.
+//!
+//! Files:
+//! - Code (`src/`): `desk` whom an exchange asks; `scan` where a head ends, `gather` taking bytes; `framing` fields, `route`
+//!   paths, `plan` what a head wants; `ask` the question; `response`, `send`; `serve` one exchange.
+//! - Further definitions (`specs/`): `Taking` what is taken from the open connection and written on it.
+//! - Lemmas (`proofs/`): `Scans` a head read in parts; `Moves` one thing after another on a connection; `Paths`; `Comes` a
+//!   body that came; `Answers` what was gathered, `Cuts` refusals where it ended, `Replies`, `Responses`, `Whole` one
+//!   exchange.
 #![tactic(auto)]
 
 mod ask;

@@ -11,6 +11,10 @@
 //!   (`an_intent_is_told`); a body and an outcome are set where the intent has none, and at every other answer and every error the
 //!   rows are as before (`a_body_is_set_once`, `an_outcome_is_set_once`); whatever is asked of a table, an intent that was put stays,
 //!   with its body, its outcome and its finish (`an_intent_stays`).
+//!
+//! Files:
+//! - Code (`src/`): `intent` calls on the rows of intents, and their parts; `laws`.
+//! - Lemmas (`proofs/`): `Intents`.
 #![tactic(auto)]
 
 mod intent;

@@ -12,6 +12,10 @@
 //!   mark where it has none, and at `AlreadySet`, `Absent` and every error the rows are as before (`a_result_is_set_once`,
 //!   `a_registration_is_set_once`); whatever is asked of a table, a call that was put stays, with its function, its result and its
 //!   mark (`a_call_stays`). So a place has one callee.
+//!
+//! Files:
+//! - Code (`src/`): `invoke_log` the calls that were made, for calls and walks; `laws`.
+//! - Lemmas (`proofs/`): `Calls`.
 #![tactic(auto)]
 
 mod invoke_log;

@@ -33,6 +33,20 @@
 //!   `first_rows_go`, `rows_go`), and so do callees that are made inside and give back (`calls_go`, `returns_go`). A
 //!   decision to commit is the piece of its transaction, and lists what that leaves (`commits_are_pieces`); one not to
 //!   commit is its try, and leaves what is listed (`aborts_are_tries`), as a release does (`releases_list`).
+//!
+//! Files:
+//! - Code (`src/`): `laws` one function a law, with no body.
+//! - Lemmas (`proofs/`): `Answers` lists of answers; `Rows` keys and maps of rows; `Frame`, `FrameAt` what is owed after an
+//!   answer more; `Behind`, `Callees` a run that is behind; `AtFront`, `Locks`, `Fronts`, `Acts`, `Inside`, `Decides` the
+//!   acts inside, `Told` by what they tell; `Outside`, `Operations`, `Owners` those outside; `Sets`, `Instances`, `Calls`,
+//!   `Intents` instances that are made and that end; `Goes` runs stay at a front; `Flows`, `Begins` how bodies go on,
+//!   whatever they are answered, and `Phases` what that says of their transactions; `AtOnce` what takes no turn; `OwnTx`,
+//!   `Callers` who called an instance, and what holds of all that were called in a transaction; `Sanes`, `Participants`,
+//!   `Deaths`, `Ahead`, `Nothing` instances stay sane, and what follows of locks and ends; `Begun`, `Lists`, `ReadLists` what
+//!   is listed; `NoTx` steps in no transaction; `Lines` who is in an open one, `Steps` how it goes on, `Owns` what it owns,
+//!   `Falls` what is aborted in it; `Shadows`, `Acting` that each act inside keeps what its shadows show; `Members`,
+//!   `Decided` its decision; `Outsides` an instance goes on in both; `Example` a body, computed; `Unaborted` who was called
+//!   and told no abort.
 #![tactic(auto)]
 
 mod laws;

@@ -12,6 +12,17 @@
 //!   (`Machine::is_inside`).
 //! - `Machine::new` stands where no answers lead (`begun`), and `Machine::resume`, at an effect that wants an answer, where
 //!   one more leads (`resumed`, `stands`).
+//!
+//! Files:
+//! - Code (`src/`): `effect` effects and answers; `state` where a body stands; `scope` what its statements are run in;
+//!   `request` what a statement without blocks does first, and after its answer; `run` statements up to the next effect, from
+//!   their start, `resume` from where an answer was waited for; `machine` runs a body.
+//! - Further definitions (`specs/`): `Bounds` a body that was called in a transaction wants neither a begin nor an end of
+//!   one; `Callee` how a callee ended, as the answer to its call; `Told` what the code tells of a statement: it has one
+//!   answer at most, so none remains where it leaves.
+//! - Lemmas (`proofs/`): `SameWants` the machine wants what the body wants; `Blocks` a block from one of its statements on;
+//!   `Goes`, `Resumes` one answer more; `Spends` how many answers a body takes; `Occurs` which effects a body may want;
+//!   `Bounds`.
 #![tactic(auto)]
 
 mod effect;

@@ -19,6 +19,13 @@
 //!   `lockset_found`). Laws: it changes nothing, and is never refused as `Full`; after an item it finds the row after that of
 //!   the item (`the_next_lockset_is_found`), and without one the first row from the least key of the transaction on
 //!   (`the_first_lockset_is_found`), where no row of a lock has the table 65,535 and the intent's ticket is not 0.
+//!
+//! Files:
+//! - Code (`src/`): `lock` what a lock asks, and what follows, for walks and runs; `lock_walk` its walk, for calls; `lockset`
+//!   what a transaction asked the locks of, `before` the id directly before one; `laws`.
+//! - Further definitions (`specs/`): `Last` a list that is taken apart at its last.
+//! - Lemmas (`proofs/`): `Locked`; `IdBefore`; `Firsts` the first row of a transaction's locks; `Last` a list that is taken
+//!   apart at its last.
 #![tactic(auto)]
 
 mod before;

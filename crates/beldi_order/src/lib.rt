@@ -27,6 +27,16 @@
 //!   past an entry of another that leaves its items (`others_leave_transactions`).
 //! - Entries that are guarded by locks stay so where a read that belongs earlier is answered before them
 //!   (`late_reads_leave_guards`).
+//!
+//! Files:
+//! - Code (`src/`): `laws` one function a law, with no body.
+//! - Lemmas (`proofs/`): `Places` where entries stand; `InOrder` what stands behind each number of changes; `Entries` what
+//!   every entry does and keeps; `Late` a read passes the entries that leave its instance; `Called` an instance and what it
+//!   called; `Growth`; `Nulls` that no item is kept as null; `Operations` plain items and locks; `Pieces` a transaction is
+//!   its moves: `Moved` what one changes, `Line` who waits in it, `Rises` that no place comes again, `Touched`, `Beside` that
+//!   it reads its own items alone, `Foreign` that others leave it; `Ends`, `Went` the transactions of an answer more; `Maps`;
+//!   `Sanes` that a state stays sane, also with a transaction open (`Goes`, `Whole`, `Sound`); `Passes`, `Guard`, `Locks`;
+//!   `Bound` the moves of a transaction are few.
 #![tactic(auto)]
 
 mod laws;

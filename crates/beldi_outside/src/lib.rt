@@ -12,6 +12,11 @@
 //! - The source and the sink in memory do exactly what their definitions say (`exact`); so does the link in memory;
 //!   the closed link refuses or fails each call but `close`, and the clock in memory tells the next moment.
 //! - `TcpLink` and `WallClock` tell nothing of what is real: that an error comes only where its count rose is proved (`cause`).
+//!
+//! Files:
+//! - Code (`src/`): `traits`; `transfer` whole transfers; `real` readers and writers, `real_link` TCP and the system's clock;
+//!   `memory`, `memory_link`.
+//! - Lemmas (`proofs/`): `Told`, `Transfers`; `Taking` a connection that gives more.
 #![tactic(auto)]
 
 mod memory;

@@ -4,6 +4,9 @@
 //! item, and who holds a lock), `specs/Piece` and `specs/Moves` (a transaction as one step, and as a list of moves), `specs/Entries`
 //! (the state after an entry), `specs/Guard` and `specs/Legal` (entries that are guarded by locks, the legal book and its run),
 //! `specs/Listing` (the listing of a plain state).
+//!
+//! Files:
+//! - Code (`src/`): `kind` how an effect is entered.
 #![tactic(auto)]
 
 mod kind;

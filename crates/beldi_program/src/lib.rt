@@ -33,6 +33,11 @@
 //! - With words that ask for no command neither source nor table is touched (`unread`); with 3 and 7 the table is the one
 //!   handed in and the sink is not called, with 8 the rows are as before (`untouched`).
 //! - Neither the link nor the clock is asked for anything (`unasked`).
+//!
+//! Files:
+//! - Code (`src/`): `program` the program, and `top` with its theorem.
+//! - Lemmas (`proofs/`): `PlainRuns` what every step keeps, what is said at its moment, and what is so at the end; `Ends` the
+//!   parts of the program, and what is read off an ending.
 #![tactic(auto)]
 
 mod program;

@@ -8,6 +8,10 @@
 //! - Laws: `get` gives the value that a read was given, none exactly where there is no row, and changes nothing
 //!   (`what_was_given_is_given`); `put_once` keeps a value where none was, and gives the value that is kept, which stays, and
 //!   at an error the rows are as before (`a_value_is_put_once`).
+//!
+//! Files:
+//! - Code (`src/`): `read_log` the values that reads were given, for calls and runs; `laws`.
+//! - Lemmas (`proofs/`): `Once`.
 #![tactic(auto)]
 
 mod laws;

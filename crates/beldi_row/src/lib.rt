@@ -17,6 +17,12 @@
 //! - `len` tells the number of rows, 4,294,967,295 where there are more (`IsCount`), `ready` sets the room
 //!   (`Readied`), `act` carries out an act (`acts`), `next` finds the row after and is never refused as full (`went`); `act`
 //!   and `next` count one call, `ready` none.
+//!
+//! Files:
+//! - Code (`src/`): `key`, `row`, `notes` the log of a cell; `act` acts on one row, `cell` those on a cell, `telling` what is
+//!   said of a change; `table` the trait; `laws`.
+//! - Lemmas (`proofs/`): `Found`; `Least` the row after a key; `Rows`, `Gets`, `Logs`, `Tells`, `Unchanged`, also for the
+//!   crates above; `Fronts` keys by their fronts.
 #![tactic(auto)]
 
 mod act;

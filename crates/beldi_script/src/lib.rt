@@ -12,6 +12,11 @@
 //! - `cut_line` takes the first line off a text that is not empty (`lines`, `shorter`); lines without newlines in
 //!   them, nor a carriage return at their end, that are put after one another are cut into just these
 //!   (`lines_are_cut`).
+//!
+//! Files:
+//! - Code (`src/`): `cut` lines; `words` the words of a line; `reading`, `writing` what a line says, and its text; `line`;
+//!   `laws`.
+//! - Lemmas (`proofs/`): `Lines`, `Parted`, `Names`; `ReadAgain` a line that was written.
 #![tactic(auto)]
 
 mod cut;

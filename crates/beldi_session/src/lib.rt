@@ -13,6 +13,13 @@
 //! - `run_script` carries out what the lines say, line by line, up to the first that is refused or to where it stops (`Does`): the text
 //!   that was written and waits is that of the steps that were done, and the host and its table are those that the last step left.
 //! - `write_refusal` writes the line of a refusal, with its number in the source and its cause (`refusal_text`).
+//!
+//! Files:
+//! - Code (`src/`): `source` what a source says, and one that is not refused; `refusal` why it is refused; `session` a
+//!   script's lines, from a line to the host's calls; `check` a source that is tested; `answer` the text of an answer;
+//!   `output` text on its way.
+//! - Lemmas (`proofs/`): `Went` actions that were done, `Calls` calls one after another; `Responses` what the host answers;
+//!   `Lines`, `Refusals`.
 #![tactic(auto)]
 
 mod answer;

@@ -10,6 +10,10 @@
 //!   but for its own operation's effect, of which a place has one, however many walks there are for it; `Noted` tells the
 //!   note that the place has (`a_shadow_is_a_logged_cell`). A read changes nothing, is never refused as `Full`, and gives the
 //!   shadow's value, or none where the transaction has no shadow of the item (`a_shadow_reads_its_own`).
+//!
+//! Files:
+//! - Code (`src/`): `shadow` the walks over a transaction's own copies of items, for calls; `laws`.
+//! - Lemmas (`proofs/`): `Shadowed`.
 #![tactic(auto)]
 
 mod laws;

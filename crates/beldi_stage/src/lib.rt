@@ -10,6 +10,11 @@
 //!   waits for is over (`first_stage`).
 //! - What is called in a transaction is in it throughout, and the call, the operations and the return make no entry (`callee_by`,
 //!   `step_mark`, `back_says`). It is stamped by the owner's end, and not by its own (`close_asks`).
+//!
+//! Files:
+//! - Code (`src/`): `stage`, with `call_stage` for calls and `tx_stage` inside a transaction and at its end: what a stage
+//!   asks and says.
+//! - Lemmas (`proofs/`): `Ended` a visit leaves no mark.
 #![tactic(auto)]
 
 mod call_stage;

@@ -13,6 +13,10 @@
 //!   or a return (`a_run_begins_inside`), and makes no entry (`a_run_inside_makes_no_entry`): the words of these laws are in
 //!   `specs/Inside`.
 //! - No run acts past its deadline: an event of it is answered at once, and ends it (`a_run_expires_past_its_deadline`).
+//!
+//! Files:
+//! - Code (`src/`): `event` events and answers; `run` the runs of instances, as data; `laws`.
+//! - Lemmas (`proofs/`): `Steps` both; `Late` no run acts past its deadline; `Inside`; `PutRun` a map of runs.
 #![tactic(auto)]
 
 mod event;

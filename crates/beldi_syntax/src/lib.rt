@@ -15,6 +15,14 @@
 //!   with which no deployment goes on; a number outside the limits of its place, a token in more than 64 open levels, a text
 //!   that is too long, of two causes at one token the first in this order; a line of `script` that is not blank
 //!   (`refuses_first`).
+//!
+//! Files:
+//! - Code (`src/`): `lexer`, `token` from bytes to tokens; `tokens` those that are left, and the phrases of one token;
+//!   `operators`, `expressions`, `statements`, `deployments` the grammar, a function a phrase; `reading` a text; `refusal`;
+//!   `laws`.
+//! - Lemmas (`proofs/`): `Pieces`, `Repeated` pieces and phrases that go on; `Lookahead` which token decides which rule;
+//!   `Fill`, `Deep` that every symbol goes on, and the first token of a level too many; `Sound`, `Terms`, `Commands` phrases
+//!   as runs over the grammar; `First` what is read and refused of tokens, `Texts` of a text.
 #![tactic(auto)]
 
 mod deployments;

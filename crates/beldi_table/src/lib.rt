@@ -6,6 +6,10 @@
 //! - `MapTable` and `FailingTable` keep the contract of the trait.
 //! - `FailingTable` fails a call of the numbers that it is given, counted from 0, and no other (`told` of `act` and
 //!   `next`); each raises its number by one (`acts`, `went`), until that stands at its end.
+//!
+//! Files:
+//! - Code (`src/`): `map_table`, `failing_table`.
+//! - Lemmas (`proofs/`): `Changes` one row; `Next` the row after.
 #![tactic(auto)]
 
 mod failing_table;

@@ -11,6 +11,16 @@
 //!   and `place_of` the same of a name in a statement, which is not searched where `find_names` found it;
 //!   `Deployment::func_at` the function of a number (`func_at`), and `write_func` its name or, where there is none of
 //!   it, the number (`ok`, `err`).
+//!
+//! Files:
+//! - Code (`src/`): `deployment` functions, statements and expressions, and what names mean; `name` a name in a statement,
+//!   with the place where it was found; `find` finds them, once; `block` statements one after another; `parts` the parts of
+//!   expressions, and chains of operators; `evaluation` the value of an expression; `operators` what each makes of values;
+//!   `seen` a value that is lent or made; `fault`; `variables`.
+//! - Further definitions (`specs/`): `Apart` things of which no two have one name; `Bindings` names and their values; `Falls`
+//!   each part of an expression is smaller than the expression, and each part of a statement than the statement; `Seen` the
+//!   value of an expression, lent or made.
+//! - Lemmas (`proofs/`): `Evaluated` an evaluation part by part; `Copies`; `Aparts`.
 #![tactic(auto)]
 
 mod block;

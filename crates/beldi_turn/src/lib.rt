@@ -5,6 +5,11 @@
 //! - `ask` asks what the definition of a run asks, and `told` goes where it goes; out of memory, the error tells the mark of the act
 //!   (`Turns`). `callee` is a run of what a run calls, with its deadline (`callee_of`).
 //! - A run carries out the transactions that its function begins: a begin and an abort take no turn (`at_once`).
+//!
+//! Files:
+//! - Code (`src/`): `turn` what a run asks in its next turn, and where it goes by what it is told; `begun` its machine and
+//!   transaction, past an answer.
+//! - Lemmas (`proofs/`): `Turns` a run that was told.
 #![tactic(auto)]
 
 mod begun;

@@ -33,6 +33,12 @@
 //!   participants are those that the rows of calls lead to. That stands whatever else changes in the rows, where that adds no call and
 //!   no lock of those who take part, takes no finish away, and makes the transaction the owner of nothing (`a_visit_stands`); and it
 //!   is so from the start (`a_visit_begins`).
+//!
+//! Files:
+//! - Code (`src/`): `tx` what an operation of a transaction asks, and what follows, for walks and runs; `tx_walk` its walk,
+//!   for calls; `end` the end of a transaction, which visits the owner and all that took part, `end_walk` its walk, `way` the
+//!   calls on the way to who is visited, `invokes` the calls of an intent; `laws`.
+//! - Lemmas (`proofs/`): `TxTurn`; `Visited`, `Levels`, `Calls`, `Locks`.
 #![tactic(auto)]
 
 mod end;

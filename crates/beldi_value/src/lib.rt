@@ -25,6 +25,19 @@
 //! - `older` is the order of ages (`is_older`), which is total (`ages_are_ordered`); a whole number has one text, and
 //!   no other text is read as it, and so has a number without a sign or zeros in front (`int_text_is_exact`,
 //!   `numeral_text_is_exact`).
+//!
+//! Files:
+//! - Code (`src/`): `value` values; `early` an early return whose drops are written; `apart` a value behind a pointer, seen
+//!   as itself; `text` a text as its bytes; `list` lists of small numbers; `limits` how deep and how long a value is; `parts`
+//!   fields and elements; `rel` relations; `read` and `convert` from JSON, `canonical` to JSON; `id` ids of intents;
+//!   `read_id`; `place` places and owners; `spare` room for an id, made before an act; `outcome` how an instance ends;
+//!   `number` reading numbers; `cut` a text at a byte; `write` the other texts; `laws`.
+//! - Further definitions (`specs/`): `Falls` each value in a list or a record is smaller than the list or the record;
+//!   `Injective` values that stand for one datum are one value; `Same` whether two values are equal, as a test; `Spare` room
+//!   for hops, made before an act; `Value` the value that a `Value` stands for.
+//! - Lemmas (`proofs/`): `Ages`, `Ints`, `Numbers`; `JsonText`, `Converting`, `Within`, `ReadAgain` JSON; `IdTexts`,
+//!   `Slashes`, `Marks` ids and cuts; `Fields`, `Results`; `Maps` maps that entries make, also for the crates above;
+//!   `Callees` ids of callees.
 #![tactic(auto)]
 
 mod apart;

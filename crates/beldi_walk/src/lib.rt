@@ -10,6 +10,12 @@
 //!   (`what_is_lent_stands`), which only an act does that asks for a lock as a transaction (`only_transactions_die`). So
 //!   after an error of a turn the rows are as before, for every walk, but for a death that the turn was out of memory to tell
 //!   (`an_error_leaves_the_rows`).
+//!
+//! Files:
+//! - Code (`src/`): `query` what is asked of a table, and what is heard; `walk` the trait of a machine that asks one thing a
+//!   turn, and one turn of it over a table; `laws`.
+//! - Lemmas (`proofs/`): `Queries` a call of a table as an answer to a query; `Promises` such a promise, by what the query
+//!   does to rows; `Lent`, `Looks` what leaves the rows as they are.
 #![tactic(auto)]
 
 mod laws;
