@@ -17,7 +17,7 @@ use Rattle.beldi_row.specs.Table.{Rows, set_row}
 use Rattle.beldi_row.proofs.Unchanged.{unchanged, looked}
 use Rattle.beldi_walk.specs.Query.{said}
 use Rattle.beldi_walk.proofs.Promises.{promised, at_each}
-use Rattle.beldi_intent.specs.Intent.{intent_key, root_key, issue_asks, bind_asks, register_asks, look_asks, end_asks, is_added, binding_of, intent_of, put_of, intent_in, read_as, IssuedOn, RegisteredOn, bound_by, bound_before, BoundBy, BoundOn, EndedBy, EndedOn, GoesOn, IntentGoesOn, RootsArePutOnce, CalleesArePutOnce, IntentsAreTold, BodiesAreSetOnce, OutcomesAreSetOnce, IntentsStay}
+use Rattle.beldi_intent.specs.Intent.{intent_key, root_key, issue_asks, bind_asks, register_asks, look_asks, end_asks, stamp_asks, is_added, binding_of, intent_of, put_of, intent_in, read_as, IssuedOn, RegisteredOn, bound_by, bound_before, BoundBy, BoundOn, EndedBy, EndedOn, StampedBy, StampedOn, GoesOn, IntentGoesOn, RootsArePutOnce, CalleesArePutOnce, IntentsAreTold, BodiesAreSetOnce, OutcomesAreSetOnce, FinishesAreSetOnce, IntentsStay}
 
 -- ---- an intent is told
 told_row : (now : ℕ) (o : Option Row) → intent_of (said (act Look now o).1) ≡ option_map (λ w. read_as (intent_in (Some w))) o
@@ -70,6 +70,15 @@ module _ (k : RowKey) (m : Rows) (now : ℕ) where
   ended o stamp (Some (rows.Intent i)) there = ended_row o stamp i i.outcome there
   ended o stamp (Some r) there = (same (Some r) there, refl)
 
+  stamped_row : (i : IntentRow) (t : Option ℕ) → map.get m k ≡ Some (rows.Intent i) → StampedBy now i t k m (set_row m k (Some (rows.Intent (stamp_with now i t).0))) (put_of (said (stamp_with now i t).1))
+  stamped_row i None there = (refl, refl)
+  stamped_row i (Some t) there = (same (Some (rows.Intent i)) there, refl)
+
+  stamped : (r : Option Row) → map.get m k ≡ r → StampedOn now k (intent_in r) m (set_row m k (act Stamp now r).0) (put_of (said (act Stamp now r).1))
+  stamped None there = (same None there, refl)
+  stamped (Some (rows.Intent i)) there = stamped_row i i.finish there
+  stamped (Some r) there = (same (Some r) there, refl)
+
 pub roots_put : RootsArePutOnce
 roots_put t now = promised (issue_asks t) now is_added (λ m. IssuedOn now (root_key t) (map.get m (root_key t)) m) (λ m. issued (root_key t) m now (map.get m (root_key t)) refl)
 
@@ -81,6 +90,9 @@ bodies_set t f a now = promised (bind_asks t f a) now binding_of (λ m. BoundOn 
 
 pub outcomes_set : OutcomesAreSetOnce
 outcomes_set id func o stamp now = promised (end_asks id func o stamp) now put_of (λ m. EndedOn o stamp now (intent_key id func) (intent_in (map.get m (intent_key id func))) m) (λ m. ended (intent_key id func) m now o stamp (map.get m (intent_key id func)) refl)
+
+pub finishes_set : FinishesAreSetOnce
+finishes_set id func now = promised (stamp_asks id func) now put_of (λ m. StampedOn now (intent_key id func) (intent_in (map.get m (intent_key id func))) m) (λ m. stamped (intent_key id func) m now (map.get m (intent_key id func)) refl)
 
 -- ---- an intent stays
 as_was : (i : IntentRow) → GoesOn i i

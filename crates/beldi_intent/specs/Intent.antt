@@ -171,6 +171,19 @@ abbrev pub OutcomesAreSetOnce : Type 0
 OutcomesAreSetOnce = (id : IntentId) (func : ℕ) (o : Outcome) (stamp : Bool) (now : ℕ) → let k = intent_key id func in
     Promises (end_asks id func o stamp) now put_of (λ m. EndedOn o stamp now k (intent_in (map.get m k)) m)
 
+abbrev pub StampedBy : ℕ → IntentRow → Option ℕ → RowKey → Rows → Rows → Put → Type 0
+StampedBy now i None k m n x = SetTo (record i { finish = Some now }) k m n × (x ≡ put.Did)
+StampedBy now i (Some t) k m n x = (n ≡ m) × (x ≡ put.Already)
+
+-- `stamp` sets the finish of an intent that has none; where it has one, or there is no intent, all rows stay
+abbrev pub StampedOn : ℕ → RowKey → Option IntentRow → Rows → Rows → Put → Type 0
+StampedOn now k None m n x = (n ≡ m) × (x ≡ put.Gone)
+StampedOn now k (Some i) m n x = StampedBy now i i.finish k m n x
+
+abbrev pub FinishesAreSetOnce : Type 0
+FinishesAreSetOnce = (id : IntentId) (func now : ℕ) → let k = intent_key id func in
+    Promises (stamp_asks id func) now put_of (λ m. StampedOn now k (intent_in (map.get m k)) m)
+
 -- the intent j goes on from the intent i: it was issued then, and what was set stays
 pub record GoesOn (i j : IntentRow) : Type 0 where
   pub issued : j.issued ≡ i.issued

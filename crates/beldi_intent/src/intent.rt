@@ -254,3 +254,14 @@ pub fn end<T: Table>(
         Err(why) => Err(why),
     }
 }
+
+/// Sets the moment of an intent's finish, once: what was called in a transaction gets it from the owner's end. Where it answers
+/// otherwise than `Did`, and at an `Err`, the rows are as before: `Failed` comes only where the table failed, and `Full` never.
+pub fn stamp<T: Table>(table: &mut T, id: IntentId, func: u16, now: u64) -> Result<Put, TableErr>
+    ensures { Answered (stamp_asks id func) now put_of (T.state table.old) (T.state table.new) result }
+{
+    match table.act(intent_key(id, func), Act::Stamp, now) {
+        Ok(said) => Ok(put_told(Heard::Said(said))),
+        Err(why) => Err(why),
+    }
+}

@@ -1,5 +1,5 @@
 // The laws of intents.
-ghost use Rattle.beldi_intent.specs.Intent.{BodiesAreSetOnce, CalleesArePutOnce, IntentsAreTold, IntentsStay, OutcomesAreSetOnce, RootsArePutOnce};
+ghost use Rattle.beldi_intent.specs.Intent.{BodiesAreSetOnce, CalleesArePutOnce, FinishesAreSetOnce, IntentsAreTold, IntentsStay, OutcomesAreSetOnce, RootsArePutOnce};
 
 /// `issue` adds the row of a root, without a body, exactly where no row was.
 pub fn a_root_is_put_once()
@@ -25,6 +25,12 @@ pub fn a_body_is_set_once()
 /// `Gone`, there is none; then all rows stay.
 pub fn an_outcome_is_set_once()
     ensures { OutcomesAreSetOnce }
+{}
+
+/// `stamp` sets the finish of an intent that has none. Where it answers `Already`, the intent had one, and where it answers
+/// `Gone`, there is none; then all rows stay.
+pub fn a_finish_is_set_once()
+    ensures { FinishesAreSetOnce }
 {}
 
 /// Whatever is asked of a table, an intent that was put stays, with its body, its outcome and its finish.

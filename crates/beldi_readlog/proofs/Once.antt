@@ -1,18 +1,19 @@
 -- What a place was given is kept once.
-use Rattle.std.proofs.Common.{◌≡◌, ℕ, false, Option, None, Some, refl, sym}
+use Rattle.std.proofs.Common.{◌≡◌, ℕ, false, Option, None, Some, refl, sym, subst}
 use Rattle.std.specs.Option.{option_map}
 use Rattle.std.specs.FinMap as map
 use Rattle.beldi_value.specs.declared.value.Value.{Value}
 use Rattle.beldi_row.specs.Key.{RowKey}
 use Rattle.beldi_row.specs.declared.row.Row.{Row}
 use Rattle.beldi_row.specs.declared.row.Row.TheVariants as rows
-use Rattle.beldi_row.specs.declared.act.Act.TheVariants.{Look, PutRead}
+use Rattle.beldi_row.specs.declared.act.Act.{Act}
+use Rattle.beldi_row.specs.declared.act.Act.TheVariants.{Bind, Look, PutRead}
 use Rattle.beldi_row.specs.Act.{act}
 use Rattle.beldi_row.specs.Table.{Rows, set_row}
 use Rattle.beldi_row.proofs.Unchanged.{unchanged, looked}
 use Rattle.beldi_walk.specs.Query.{said}
-use Rattle.beldi_walk.proofs.Promises.{promised}
-use Rattle.beldi_readlog.specs.ReadLog.{log_key, given_asks, keep_asks, given_in, given, given_of, kept_of, PutOn, GetGives, ValuesArePutOnce}
+use Rattle.beldi_walk.proofs.Promises.{promised, at_each}
+use Rattle.beldi_readlog.specs.ReadLog.{log_key, given_asks, keep_asks, given_in, given, given_of, kept_of, PutOn, GetGives, IsKept, ValuesArePutOnce, ValuesStay}
 
 given_row : (now : ℕ) (o : Option Row) → given_of (said (act Look now o).1) ≡ option_map given_in o
 given_row now None = refl
@@ -31,3 +32,11 @@ put_at v now k m (Some r) there = (unchanged m k (Some r) (sym there), kept_ther
 
 pub put_once : ValuesArePutOnce
 put_once home at v now = promised (keep_asks home at v) now (kept_of v) (λ m. PutOn v (log_key home at) (map.get m (log_key home at)) m) (λ m. put_at v now (log_key home at) m (map.get m (log_key home at)) refl)
+
+-- no act changes such a row
+act_keeps : (a : Act) (now : ℕ) (v : Value) → (act a now (Some (rows.ReadLog v))).0 ≡ Some (rows.ReadLog v)
+act_keeps (Bind f w) now v = refl
+act_keeps a now v = refl
+
+pub values_stay : ValuesStay
+values_stay q now m k = at_each IsKept (λ r v is. is) (λ a now r v is. subst (λ o. (act a now o).0 ≡ Some (rows.ReadLog v)) (sym is) (act_keeps a now v)) q now m k

@@ -14,7 +14,7 @@ use Rattle.beldi_row.specs.Act.{here, added, kept}
 use Rattle.beldi_row.specs.Table.{Rows, set_row}
 use Rattle.beldi_walk.specs.declared.query.Query.{Query}
 use Rattle.beldi_walk.specs.declared.query.Query.TheVariants.{Act}
-use Rattle.beldi_walk.specs.Query.{Told, said}
+use Rattle.beldi_walk.specs.Query.{Told, said, rows_after}
 use Rattle.beldi_walk.specs.Walk.{Promises}
 use Rattle.beldi_readlog.specs.declared.read_log.Kept.{Kept}
 use Rattle.beldi_readlog.specs.declared.read_log.Given.{Given}
@@ -88,3 +88,11 @@ PutOn v k (Some w) m n r = (n ≡ m) × (r ≡ record { value = given_in w; adde
 abbrev pub ValuesArePutOnce : Type 0
 ValuesArePutOnce = (home : ℕ) (at : Place) (v : Value) (now : ℕ) → let k = log_key home at in
     Promises (keep_asks home at v) now (kept_of v) (λ m. PutOn v k (map.get m k) m)
+
+-- a row of what a read was given is as it was
+abbrev pub IsKept : Option Row → Option Row → Type 0
+IsKept r s = (v : Value) → r ≡ Some (rows.ReadLog v) → s ≡ Some (rows.ReadLog v)
+
+-- whatever is asked of a table, wherever, what a read was given stays
+abbrev pub ValuesStay : Type 0
+ValuesStay = (q : Query) (now : ℕ) (m : Rows) (k : RowKey) → IsKept (map.get m k) (map.get (rows_after q now m) k)

@@ -1,5 +1,5 @@
 // The laws of what reads were given.
-ghost use Rattle.beldi_readlog.specs.ReadLog.{GetGives, ValuesArePutOnce};
+ghost use Rattle.beldi_readlog.specs.ReadLog.{GetGives, ValuesArePutOnce, ValuesStay};
 
 /// What `get` answers is what was given, none exactly where there is no row, and the rows stay as they are.
 pub fn what_was_given_is_given()
@@ -9,4 +9,9 @@ pub fn what_was_given_is_given()
 /// What `put_once` answers is given from then on: the value that was there, with all rows as they were, or else its own.
 pub fn a_value_is_put_once()
     ensures { ValuesArePutOnce }
+{}
+
+/// Whatever is asked of a table, what a read was given stays.
+pub fn a_value_stays()
+    ensures { ValuesStay }
 {}

@@ -6,8 +6,9 @@
 //!   key of a place.
 //! - `get` and `put_once` each ask one thing, in at most one call of the table, and answer so by what was told (`Answered`).
 //! - Laws: `get` gives the value that a read was given, none exactly where there is no row, and changes nothing
-//!   (`what_was_given_is_given`); `put_once` keeps a value where none was, and gives the value that is kept, which stays, and
-//!   at an error the rows are as before (`a_value_is_put_once`).
+//!   (`what_was_given_is_given`); `put_once` keeps a value where none was, and gives the value that is kept, and at an
+//!   error the rows are as before (`a_value_is_put_once`); whatever is asked of a table, what a read was given stays
+//!   (`a_value_stays`).
 //!
 //! Files:
 //! - Code (`src/`): `read_log` the values that reads were given, for calls and runs; `laws`.
@@ -17,5 +18,5 @@
 mod laws;
 mod read_log;
 
-pub use laws::{a_value_is_put_once, what_was_given_is_given};
+pub use laws::{a_value_is_put_once, a_value_stays, what_was_given_is_given};
 pub use read_log::{Kept, get, given_told, kept_told, log_key, put_once};

@@ -4,7 +4,7 @@ ghost use Rattle.std.specs.Prelude.{◌≡◌, []};
 use beldi_call::{AsyncSays, AsyncWalk, CallSays, CallWalk};
 use beldi_collect::{IcSays, IntentCursor};
 use beldi_daal::{CellOp, Item, ReadSays, ReadWalk, WriteSays, WriteWalk};
-use beldi_intent::{Binding, Put, bind, end, issue, look, register};
+use beldi_intent::{Binding, Put, bind, end, issue, look, register, stamp};
 use beldi_invokelog::{Back, Invoked, call_back, open_once, registered, result};
 use beldi_lock::{LockSays, LockWalk, lockset_next};
 use beldi_readlog::{Kept, get, put_once};
@@ -284,8 +284,15 @@ fn passes_it(alloc: Global, table: &mut MapTable) -> Result<bool, Fail> {
 
 fn ends(alloc: Global, table: &mut MapTable) -> Result<bool, Fail> {
     let outcome = Outcome::Value(Value::Null);
-    let put = end(table, IntentId::root(alloc, 1), 1, outcome, true, 5)?;
+    let put = end(table, IntentId::root(alloc, 1), 1, outcome, false, 5)?;
     Ok(put == Put::Did)
+}
+
+// Whether the finish, which the end left open, is set now, and no second time.
+fn finishes(alloc: Global, table: &mut MapTable) -> Result<bool, Fail> {
+    let first = stamp(table, IntentId::root(alloc, 1), 1, 6)?;
+    let second = stamp(table, IntentId::root(alloc, 1), 1, 7)?;
+    Ok(first == Put::Did && second == Put::Already)
 }
 
 #[test]
@@ -296,6 +303,7 @@ fn an_intent_is_bound_and_ended(rt: HostRuntime) -> Result<(), Fail> {
     assert!(rt; binds(alloc, &mut table)?);
     assert!(rt; passes_it(alloc, &mut table)?);
     assert!(rt; ends(alloc, &mut table)?);
+    assert!(rt; finishes(alloc, &mut table)?);
     assert!(rt; is_so!(first_row(alloc, &mut table)?, IcSays::Passed));
     Ok(())
 }
