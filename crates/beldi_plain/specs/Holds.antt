@@ -1,16 +1,13 @@
 -- Who holds the lock of an item: read off the answers of the instances.
 use Rattle.std.specs.Prelude.{ℕ, Bool, true, false, List, [], ◌∷◌, ◌++◌, Option, Some, None, is_some, if◌then◌else◌}
-use Rattle.std.specs.FinMap as map
 use Rattle.std.specs.Ordering.{is_eq}
-use Rattle.beldi_value.specs.declared.place.Owner.{Owner}
-use Rattle.beldi_value.specs.declared.place.Owner.TheVariants.{Intent, Tx}
 use Rattle.beldi_value.specs.declared.value.Value.{Value}
 use Rattle.beldi_tree.specs.declared.deployment.Deployment.{Deployment}
 use Rattle.beldi_lang.specs.declared.effect.Answer.{Answer}
 use Rattle.beldi_lang.specs.Wants.{wants}
 use Rattle.beldi_plain.specs.Item.{Item, item_cmp}
 use Rattle.beldi_plain.specs.Operation.{Operation, OnItem, op_of, item_in, write, cond, lock, free}
-use Rattle.beldi_plain.specs.Plain.{Instance, PlainState}
+use Rattle.beldi_plain.specs.Plain.{Instance}
 
 -- whether the instance that did it holds the lock then, by whether it held it before
 abbrev pub held_by : Operation → Bool → Bool
@@ -33,8 +30,3 @@ held_along d x func args inherited given (a ∷ rest) b = held_along d x func ar
 abbrev pub holds : Deployment → Item → Option Instance → Bool
 holds d x None = false
 holds d x (Some q) = held_along d x q.func q.args (is_some q.within) [] q.answers false
-
--- whether an owner holds it: an intent as its instance does, and no transaction yet
-abbrev pub holds_as : Deployment → PlainState → Item → Owner → Bool
-holds_as d p x (Intent id) = holds d x (map.get p.made id)
-holds_as d p x (Tx t) = false
