@@ -32,14 +32,16 @@ use Rattle.beldi_host.specs.declared.survey.OpenErr.{OpenErr}
 use Rattle.beldi_host.specs.declared.survey.ReplySeen.{ReplySeen}
 use Rattle.beldi_host.specs.declared.survey.ReplySeen.TheVariants.{Unknown}
 use Rattle.beldi_laws.specs.Laws.{is_gone}
-use Rattle.beldi_laws.specs.Stands.{Stands}
+use Rattle.beldi_known.specs.Stands.{Stands}
 use Rattle.beldi_laws.specs.OneAnswer.{OneAnswerPerStep, AnswersStay}
 use Rattle.beldi_laws.proofs.Moves.{seen_by}
 use Rattle.beldi_laws.proofs.OneAnswer.{one_answer, answers_stay}
 use Rattle.beldi_plain.specs.Legal.{IsLegal, run_of}
 use Rattle.beldi_plain.specs.Listing.{listing_of}
 use Rattle.beldi_row.proofs.Tells.{tells_map}
-use Rattle.beldi_host.specs.Right.{EndsLate, RowsStandFor, HasNoRows, HasNoReply, SaidOf}
+use Rattle.beldi_host.specs.Right.{EndsLate, RowsStandFor, HasNoRows}
+use Rattle.beldi_plain.specs.Replies.{HasNoReply}
+use Rattle.beldi_host.specs.Said.{SaidOf}
 use Rattle.beldi_known.specs.Matches.{has_ended}
 use Rattle.beldi_known.specs.Rows.{IntentMatches, BodyMatches}
 

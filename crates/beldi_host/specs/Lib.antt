@@ -1,4 +1,5 @@
 pub mod Host
 pub mod Opening
 pub mod Right
+pub mod Said
 pub mod Survey

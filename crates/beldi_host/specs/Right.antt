@@ -17,28 +17,18 @@ use Rattle.beldi_step.specs.Host.{Core, most_events, ended_run, counted}
 use Rattle.beldi_step.specs.Laws.{run_of_event}
 use Rattle.beldi_laws.specs.Right.{Right}
 use Rattle.beldi_laws.specs.OneAnswer.{OneAnswerPerStep, AnswersStay}
-use Rattle.beldi_laws.specs.Stands.{Stands}
-use Rattle.beldi_laws.specs.Laws.{HasReply}
+use Rattle.beldi_known.specs.Stands.{Stands}
+use Rattle.beldi_plain.specs.Replies.{HasReply}
 use Rattle.beldi_host.specs.declared.host.Host.{Host}
 use Rattle.beldi_host.specs.declared.survey.ReplySeen.{ReplySeen}
 use Rattle.beldi_host.specs.declared.survey.ReplySeen.TheVariants.{Unknown, Gone, Waiting, Reply}
 use Rattle.beldi_host.specs.Host.{core_of}
+use Rattle.beldi_host.specs.Said.{SaidOf}
 
 -- an event of a live run that is past its deadline leaves the table, and ends the run
 abbrev pub EndsLate : Event → Core → Core → TableState → TableState → Result Seen AllocError → Type 0
 EndsLate e c b old new r = (i : ℕ) (run : Run) → c.taken < most_events → run_of_event e ≡ Some i → map.get c.runs i ≡ Some run → run.deadline < c.now
     → (r ≡ Ok Expired) × (b ≡ ended_run (counted c) i) × (new ≡ old)
-
--- in the run of the book, the root of the ticket has no outcome
-abbrev pub HasNoReply : Deployment → List Entry → ℕ → Type 0
-HasNoReply d book t = (p : PlainState) → run_of d book ≡ Some p → reply_of p t ≡ None
-
--- what is said of a reply is so in the run of the book; the row of a ticket that was issued is never absent
-abbrev pub SaidOf : Deployment → List Entry → ℕ → ReplySeen → Type 0
-SaidOf d book t Unknown = HasNoReply d book t
-SaidOf d book t Gone = ⊥
-SaidOf d book t Waiting = HasNoReply d book t
-SaidOf d book t (Reply o) = HasReply d book t o
 
 -- the rows stand for the run of a book, if they are told
 abbrev pub RowsStandFor : Deployment → List Entry → Option Rows → Type 0

@@ -2,7 +2,7 @@
 //! table at most one thing, and is followed by what the table told (`beldi_core`); only `Host` touches the table.
 //! It stands on `beldi_core`, and on `beldi_laws`, which says what every event keeps. Its
 //! definitions: `specs/Host` (the host as the core that events speak of), `specs/Survey` (calls that read the rows), `specs/Opening`
-//! (their errors) and `specs/Right` (what the calls keep, and what a right host has).
+//! (their errors), `specs/Said` (that what is said of a reply is so) and `specs/Right` (what the calls keep, and what a right host has).
 //!
 //! Proved:
 //! - `Host::event` is one step of the definition, for every table that keeps the trait's contract; crashes, lost

@@ -32,7 +32,8 @@ pub use Rattle.beldi_known.specs.Listed.{listed, listed_under}
 pub use Rattle.beldi_known.specs.Matches.{ItemMatches, LockedAt, LockedAtEnds, LockedIf, LocksetMatches, Matches, RowMatches, ShadowMatches, TxsMatch, has_ended, is_open, lockset_ahead}
 pub use Rattle.beldi_known.specs.Operations.{DoneRows, cell_of}
 pub use Rattle.beldi_known.specs.Owed.{called_by, note_of, noted, result_of, value_for}
-pub use Rattle.beldi_known.specs.Rows.{BodyMatches, CallMatches, CalleeBodyMatches, CalleeMatches, CellMatches, EndsRow, FinishMatches, IntentMatches, IsBodyOf, IsCalleeRow, IsRootRow, LogMatches, OutcomeMatches, RootMatches, body_of, tx_in}
+pub use Rattle.beldi_known.specs.Rows.{BodyMatches, CallMatches, CalleeBodyMatches, CalleeMatches, CellMatches, EndsRow, FinishMatches, IntentMatches, IsBodyOf, IsCalleeRow, IsRootRow, LogMatches, OutcomeMatches, RootMatches, tx_in}
+pub use Rattle.beldi_known.specs.Stands.{body_of}
 pub use Rattle.beldi_known.specs.Sane.{Closed, Sane, SaneInstance}
 pub use Rattle.beldi_known.specs.Shadows.{AllGot, AllShow, ShadowShows, Shadows, Shows, is_writing, writes_on, writing_at}
 pub use Rattle.beldi_lang.specs.Callee.{answer_of}

@@ -18,7 +18,7 @@ use Rattle.beldi_plain.specs.Plain.{Instance, effect_of}
 use Rattle.beldi_plain.specs.Piece.{is_aborted}
 use Rattle.beldi_known.specs.Known.{row_at, note_by, answered_note, shadow_by, shadow_at, asks_lock, lockset_of, is_on, got_before, commit_in, ended_at}
 use Rattle.beldi_order.specs.Txs.{txs_by, txs_after, end_of, tx_now}
-use Rattle.beldi_known.specs.Rows.{body_of}
+use Rattle.beldi_known.specs.Stands.{body_of}
 
 -- the row that an answer adds, if any: of a read at its own step, of an End at the step of the Begin that is open
 abbrev pub row_added : ℕ → Option ℕ → Effect → Answer → Option (ℕ × Value)

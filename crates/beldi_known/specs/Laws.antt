@@ -46,7 +46,8 @@ use Rattle.beldi_order.specs.Txs.{effect_after, txs_after, end_of, tx_after, tx_
 use Rattle.beldi_plain.specs.Piece.{is_aborted}
 use Rattle.beldi_known.specs.Matches.{Matches, LockedAtEnds}
 use Rattle.beldi_known.specs.Operations.{cell_of, DoneRows}
-use Rattle.beldi_known.specs.Rows.{CellMatches, body_of, EndsRow}
+use Rattle.beldi_known.specs.Rows.{CellMatches, EndsRow}
+use Rattle.beldi_known.specs.Stands.{body_of}
 use Rattle.beldi_order.specs.Sane.{IsAnswer, IsDeath}
 use Rattle.beldi_known.specs.Sane.{Sane, SaneInstance, Closed}
 

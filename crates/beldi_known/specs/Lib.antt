@@ -4,11 +4,12 @@ pub mod Contents
 pub mod Frame
 pub mod InsideLaws
 pub mod Known
-pub mod Listed
 pub mod Laws
+pub mod Listed
 pub mod Matches
 pub mod Operations
 pub mod Owed
 pub mod Rows
 pub mod Sane
 pub mod Shadows
+pub mod Stands

@@ -10,12 +10,9 @@ use Rattle.beldi_row.specs.declared.row.Row.TheVariants as rows
 use Rattle.beldi_daal.specs.Content.{SoundAt}
 use Rattle.beldi_plain.specs.Plain.{Instance}
 use Rattle.beldi_step.specs.Run.{is_waited}
+use Rattle.beldi_known.specs.Stands.{body_of}
 
 -- ---- bodies
--- the body that an instance was made with
-abbrev pub body_of : Instance → Body
-body_of q = record { func = q.func; args = q.args; tx = q.within; from = q.from }
-
 -- the body is the one that the instance was made with
 pub record IsBodyOf (b : Body) (i : Option Instance) : Type 0 where
   pub instance : Instance

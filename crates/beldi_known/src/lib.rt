@@ -3,6 +3,7 @@
 //! rows, by its answers; `specs/Owed` its parts), `specs/Contents`, `specs/Rows`, `specs/Matches` (rows that match what is known), `specs/Sane` (instances that went as their
 //! bodies want), `specs/Beside` (what is known beside the plain state),
 //! `specs/Shadows` (what shadows show of it), `specs/Listed` (the value that is listed),
+//! `specs/Stands` (the answers that the rows hold, and that they stand for a plain state),
 //! `specs/Acts` (the acts inside a transaction), `specs/Operations` (those outside), `specs/Frame` (an answer more), `specs/Laws` and
 //! `specs/InsideLaws` (the laws).
 //!

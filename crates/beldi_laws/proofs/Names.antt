@@ -96,10 +96,12 @@ pub use Rattle.beldi_lang.specs.Wants.{wants_answer}
 pub use Rattle.beldi_lang.specs.declared.effect.Effect.TheVariants.{Abort, Begin, CondWrite, End, Read, Return, Unlock, Write}
 pub use Rattle.beldi_lang.specs.declared.machine.Machine.{Machine}
 pub use Rattle.beldi_laws.specs.Inside.{AtStage, Found, Frame, InItem, InOperation, Inside, IsFreePlace, IsOf, IsWriting, OfBegin, OwnedAreUnmarked, OwnersCallNobody, ParticipantsAreReleased, ParticipantsHaveRows, Released, StillOwns, TookPart, end_walk, has_asked, has_finish}
-pub use Rattle.beldi_laws.specs.Laws.{BookGrew, ChangesOneRow, DropsHaveCause, HasReply, HeldAnswersStay, InstancesGoOn, KeepsRight, KeepsRoom, OneRowChanged, OutcomesStay, RepliesAreOutcomes, RightHasOneAnswer, RightIsLegal, StartsAreBound, WritesWhatIsTold, bound_by, bound_of, entries_told, is_gone, starts_of, told_outcome}
+pub use Rattle.beldi_laws.specs.Laws.{BookGrew, ChangesOneRow, DropsHaveCause, HeldAnswersStay, InstancesGoOn, KeepsRight, KeepsRoom, OneRowChanged, OutcomesStay, RepliesAreOutcomes, RightHasOneAnswer, RightIsLegal, StartsAreBound, WritesWhatIsTold, bound_by, is_gone}
+pub use Rattle.beldi_plain.specs.Replies.{HasReply, starts_of}
+pub use Rattle.beldi_step.specs.Told.{bound_of, entries_told, told_outcome}
 pub use Rattle.beldi_laws.specs.OneAnswer.{AnswersOf, AnswersStay, OneAnswerPerStep, WasGiven}
 pub use Rattle.beldi_laws.specs.Right.{Keeps, Knows, KnowsAt, KnowsBody, MarkOk, PlaceOk, Right, RunAt, RunsMatch, SeenDone, StageOk, WasThere, is_past, open_of}
-pub use Rattle.beldi_laws.specs.Stands.{HasNotEnded, IsMade, Stands, answer_aside, decides, has_place, held_answer, held_inside, held_note, held_outside, key_in, note_of_lock}
+pub use Rattle.beldi_known.specs.Stands.{HasNotEnded, IsMade, Stands, answer_aside, decides, has_place, held_answer, held_inside, held_note, held_outside, key_in, note_of_lock}
 pub use Rattle.beldi_lock.proofs.Firsts.{IsApart, first_apart}
 pub use Rattle.beldi_lock.specs.Last.{split_last}
 pub use Rattle.beldi_lock.specs.Lock.{item_goes, note_goes, put_goes}
@@ -141,8 +143,10 @@ pub use Rattle.beldi_row.specs.declared.row.Cell.{Cell}
 pub use Rattle.beldi_row.specs.declared.table.TableErr.{TableErr}
 pub use Rattle.beldi_row.specs.declared.table.TableErr.TheVariants.{Failed, Full, OutOfMemory}
 pub use Rattle.beldi_step.proofs.PutRun.{put_got, remove_put}
-pub use Rattle.beldi_step.specs.Host.{Core, EventBy, EventOn, Followed, Plan, StepBy, after_turn, asks, bound_next, collect_next, collected, counted, crash_plan, ended_run, entry_of, first_core, has_run, heard, if_lent, is_crowded, is_dropped, is_lost, last_moment, launched, made, marked, may_start, most_events, most_runs, new_run, no_memory, no_run, passed, plan, plan_of, put_run, refused, refused_by, request_next, run_next, run_plan, started, ticket_next, turn_next, turned_core, unbound, unheard_next, with_run, without_run}
-pub use Rattle.beldi_step.specs.Run.{Turned, answer_noted, answers_it, ask_says, asks_at, async_answer, async_here_asks, async_here_says, at_once as at_once_of, at_stage, back_says, back_to_asks, begin_in, begin_of, body_registered, call_answer, call_here_says, callee_at, callee_body, callee_by, callee_of as run_called, cell_op, close_says, decide_by_says, decided_says, done_says, end_by_asks, end_by_says, end_mark, first_stage, goes, goes_from, goes_to, if_answers, is_inherited, keep_says, last_stage, mark_if, note_done, note_of_op, noted_answer, open_after, over, own_tx, put_asks, put_says, reply_if, run_asks, run_told, says_of, stage_asks, stage_says, step_mark, takes, takes_if, tell_asks, told_at, turned_by, tx_at as run_tx, tx_here_asks, tx_here_says, tx_of, tx_says, visit_says, walk_says, with_cause, within, write_says}
+pub use Rattle.beldi_step.specs.Host.{Core, EventBy, EventOn, Followed, Plan, StepBy, after_turn, asks, bound_next, collect_next, collected, counted, crash_plan, ended_run, entry_of, first_core, has_run, heard, if_lent, is_crowded, last_moment, launched, made, marked, may_start, most_events, most_runs, new_run, no_memory, no_run, passed, plan, plan_of, put_run, refused, refused_by, request_next, run_next, run_plan, started, ticket_next, turn_next, turned_core, unbound, unheard_next, with_run, without_run}
+pub use Rattle.beldi_step.specs.Told.{is_dropped, is_lost}
+pub use Rattle.beldi_step.specs.Run.{Turned, answer_noted, answers_it, ask_says, asks_at, async_answer, async_here_asks, async_here_says, at_once as at_once_of, at_stage, back_says, back_to_asks, begin_in, begin_of, body_registered, call_answer, call_here_says, callee_at, callee_body, callee_by, callee_of as run_called, cell_op, close_says, decide_by_says, decided_says, done_says, end_by_asks, end_by_says, end_mark, first_stage, goes, goes_from, goes_to, if_answers, is_inherited, keep_says, last_stage, mark_if, note_done, note_of_op, open_after, over, own_tx, put_asks, put_says, reply_if, run_asks, run_told, says_of, stage_asks, stage_says, step_mark, takes, takes_if, tell_asks, told_at, turned_by, tx_at as run_tx, tx_here_asks, tx_here_says, tx_of, tx_says, visit_says, walk_says, with_cause, within, write_says}
+pub use Rattle.beldi_step.specs.Noted.{noted_answer}
 pub use Rattle.beldi_step.specs.Tables.{line_at, row_line, shown_under, tables_text, value_line}
 pub use Rattle.beldi_step.specs.declared.event.Event.{Event}
 pub use Rattle.beldi_step.specs.declared.event.Event.TheVariants.{Crash, Ic, Lost, Request, Restart, Tick, Ticket, Turn}

@@ -4,7 +4,7 @@ use Rattle.beldi_laws.proofs.Names.answer
 use Rattle.beldi_laws.proofs.Names.map
 use Rattle.beldi_laws.proofs.Names.query
 use Rattle.beldi_laws.proofs.Names.rows
-use Rattle.beldi_laws.specs.Stands.{told_by}
+use Rattle.beldi_known.specs.Stands.{told_by}
 use Rattle.beldi_laws.proofs.OneEvent.{one_row}
 use Rattle.beldi_laws.proofs.Standing.{held_here, same_run}
 

@@ -7,7 +7,7 @@ use Rattle.beldi_laws.proofs.Names.plain
 use Rattle.beldi_laws.proofs.Names.rows
 use Rattle.beldi_laws.proofs.Names.value
 use Rattle.std.specs.Prelude.{zero, suc, take}
-use Rattle.beldi_laws.specs.Stands.{told_by}
+use Rattle.beldi_known.specs.Stands.{told_by}
 use Rattle.beldi_laws.proofs.Readings.{given_owed}
 use Rattle.beldi_laws.proofs.Operations.{noted_back}
 use Rattle.beldi_laws.proofs.CallsHere.{same_call}

@@ -29,7 +29,7 @@ use Rattle.beldi_txn.specs.Invokes.{func_called}
 use Rattle.beldi_txn.specs.TxTurn.{HasLock}
 use Rattle.beldi_txn.specs.Visited.{AreReleased, Visited}
 use Rattle.beldi_invokelog.specs.InvokeLog.{invoke_key}
-use Rattle.beldi_laws.specs.Stands.{key_in}
+use Rattle.beldi_known.specs.Stands.{key_in}
 use Rattle.beldi_plain.specs.Item.{Item}
 use Rattle.beldi_plain.specs.Operation.{touched}
 use Rattle.beldi_plain.specs.Plain.{Instance, PlainState, value_at, effect_of}

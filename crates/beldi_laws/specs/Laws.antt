@@ -19,12 +19,15 @@ use Rattle.beldi_step.specs.declared.event.Event.{Event}
 use Rattle.beldi_step.specs.declared.event.Event.TheVariants.{Ticket, Request, Turn, Lost, Crash, Restart, Tick, Ic}
 use Rattle.beldi_step.specs.declared.event.Seen.{Seen}
 use Rattle.beldi_step.specs.declared.event.Seen.TheVariants as seen
-use Rattle.beldi_step.specs.Host.{Core, Stepped, EventOn, first_core, is_lost, is_dropped}
+use Rattle.beldi_step.specs.Host.{Core, Stepped, EventOn, first_core}
+use Rattle.beldi_step.specs.Told.{is_lost, is_dropped}
 use Rattle.beldi_step.specs.Tables.{tables_text}
-use Rattle.beldi_laws.specs.Stands.{Stands}
+use Rattle.beldi_known.specs.Stands.{Stands}
 use Rattle.beldi_laws.specs.Right.{Right}
 use Rattle.beldi_laws.specs.OneAnswer.{OneAnswerPerStep, AnswersStay}
 use Rattle.beldi_known.specs.Contents.{is_row_of, content_of}
+use Rattle.beldi_step.specs.Told.{told_outcome, bound_of, entries_told}
+use Rattle.beldi_plain.specs.Replies.{starts_of, HasReply}
 
 -- a host that nothing has happened to is right, over no rows
 abbrev pub BeginsRight : Type 0
@@ -42,41 +45,6 @@ RightIsLegal = (d : Deployment) (c : Core) (m : Rows) → Right d c m → IsLega
 abbrev pub RightStands : Type 0
 RightStands = (d : Deployment) (c : Core) (m : Rows) (p : PlainState) → Right d c m → run_of d c.book ≡ Some p → Stands d m p
 
--- the outcome of a root that an answer tells, with the root's ticket
-abbrev pub told_outcome : Seen → Option (ℕ × Outcome)
-told_outcome (seen.Issued t) = None
-told_outcome seen.NoTicket = None
-told_outcome (seen.Bound t run) = None
-told_outcome (seen.Running t) = None
-told_outcome (seen.Replied t o) = Some (t, o)
-told_outcome (seen.Other t f a) = None
-told_outcome (seen.Gone t) = None
-told_outcome (seen.Unknown t) = None
-told_outcome (seen.Acted e started over reply) = reply
-told_outcome (seen.Held owner) = None
-told_outcome (seen.NotYet id) = None
-told_outcome (seen.Full live room) = None
-told_outcome seen.Worn = None
-told_outcome seen.Crowded = None
-told_outcome seen.Expired = None
-told_outcome seen.NoRun = None
-told_outcome seen.RunOver = None
-told_outcome seen.Dropped = None
-told_outcome seen.Crashed = None
-told_outcome (seen.Started run) = None
-told_outcome seen.Passed = None
-told_outcome (seen.Launched run id) = None
-told_outcome seen.Round = None
-told_outcome (seen.Now n) = None
-told_outcome seen.ClockEnd = None
-told_outcome seen.Spent = None
-
--- the root of the ticket has this outcome in the run of the book
-pub record HasReply (d : Deployment) (book : List Entry) (t : ℕ) (o : Outcome) : Type 0 where
-  pub run : PlainState
-  pub legal : run_of d book ≡ Some run
-  pub reply : reply_of run t ≡ Some o
-
 -- an outcome that is told is that of the root in the run of the book
 abbrev pub RepliesAreOutcomes : Type 0
 RepliesAreOutcomes = (d : Deployment) (room old new : ℕ) (e : Event) (c b : Core) (m n : Rows) (x : Seen) → Right d c m → EventOn d room old new e c m b n (Ok x)
@@ -91,32 +59,7 @@ is_gone x = false
 abbrev pub TicketsHaveRows : Type 0
 TicketsHaveRows = (d : Deployment) (room old new : ℕ) (e : Event) (c b : Core) (m n : Rows) (x : Seen) → Right d c m → EventOn d room old new e c m b n (Ok x) → is_gone x ≡ false
 
--- the roots that a book starts, in order: ticket, function and arguments
-abbrev pub starts_of : List Entry → List (ℕ × (ℕ × Value))
-starts_of [] = []
-starts_of (Start t f a ∷ es) = (t, (f, a)) ∷ starts_of es
-starts_of (Read id seen ∷ es) = starts_of es
-starts_of (Step id ∷ es) = starts_of es
-starts_of (Tx id ∷ es) = starts_of es
-starts_of (Try id p h ∷ es) = starts_of es
-
--- what an event asks to be bound
-abbrev pub requested : Event → List (ℕ × (ℕ × Value))
-requested (Request t f a) = (t, (f, a)) ∷ []
-requested Ticket = []
-requested (Turn i) = []
-requested (Lost i) = []
-requested (Crash i) = []
-requested (Restart id f) = []
-requested (Tick n) = []
-requested Ic = []
-
--- the request that an event bound: the one that was answered so
-abbrev pub bound_of : Event → Seen → List (ℕ × (ℕ × Value))
-bound_of e (seen.Bound t run) = requested e
-bound_of e x = []
-
--- .. by what it came to: none out of memory
+-- the request that an event bound, by what it came to: none out of memory
 abbrev pub bound_by : Event → Result Seen AllocError → List (ℕ × (ℕ × Value))
 bound_by e (Ok x) = bound_of e x
 bound_by e (Err w) = []
@@ -161,12 +104,6 @@ ChangesOneRow = (d : Deployment) (room old new : ℕ) (e : Event) (c b : Core) (
 -- the rows never exceed the room, where they did not before: a row is added only where there was room, also out of memory
 abbrev pub KeepsRoom : Type 0
 KeepsRoom = (d : Deployment) (room old new : ℕ) (e : Event) (c b : Core) (m n : Rows) (r : Result Seen AllocError) → EventOn d room old new e c m b n r → map.len m ≤ room → map.len n ≤ room
-
--- the entries that an event's answer tells: the start of a root that was bound, or the entry of a turn
-abbrev pub entries_told : Event → Seen → List Entry
-entries_told e (seen.Acted entry started over reply) = option_to_list entry
-entries_told (Request t f a) (seen.Bound u run) = Start t f a ∷ []
-entries_told e x = []
 
 -- the book gets at most one entry, which starts what the event bound: it is the one that the answer tells, unless the answer was
 -- lost. Out of memory nothing is told.

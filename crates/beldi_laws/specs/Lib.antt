@@ -2,4 +2,3 @@ pub mod Inside
 pub mod Laws
 pub mod OneAnswer
 pub mod Right
-pub mod Stands

@@ -14,7 +14,7 @@ use Rattle.beldi_step.specs.declared.run.Run.{Run}
 use Rattle.beldi_step.specs.declared.run.RunAt.TheVariants.{Begins}
 use Rattle.beldi_step.specs.declared.run.Begun.{Begun}
 use Rattle.beldi_step.specs.Host.{Core}
-use Rattle.beldi_laws.specs.Stands.{held_answer}
+use Rattle.beldi_known.specs.Stands.{held_answer}
 use Rattle.beldi_known.specs.Known.{Known}
 use Rattle.beldi_order.specs.Txs.{tx_at}
 use Rattle.beldi_known.specs.Beside.{Beside}

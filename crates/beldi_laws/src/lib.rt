@@ -1,8 +1,7 @@
 //! What every event of the host keeps: the book is legal, and the rows stand for its plain run. It has no code.
 //! It stands on the step of the host, on the plain machine, and on what rows hold and owe (`beldi_known`). Its
-//! definitions: `specs/Stands` (the answers that the rows hold, and that they stand for a plain state), `specs/Right` (the
-//! invariant), `specs/Inside` (what runs inside a transaction have found, and what an event keeps for the runs of others),
-//! `specs/OneAnswer` (what was answered to the steps of an instance), `specs/Laws` (the laws).
+//! definitions: `specs/Right` (the invariant), `specs/Inside` (what runs inside a transaction have found, and what an event keeps
+//! for the runs of others), `specs/OneAnswer` (what was answered to the steps of an instance), `specs/Laws` (the laws).
 //!
 //! Proved:
 //! - A host that nothing has happened to is right, over no rows (`begins_right`).

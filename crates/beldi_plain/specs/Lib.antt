@@ -8,3 +8,4 @@ pub mod Moves
 pub mod Operation
 pub mod Piece
 pub mod Plain
+pub mod Replies

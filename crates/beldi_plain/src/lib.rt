@@ -3,7 +3,7 @@
 //! and its step), `specs/Item` (an item and its order), `specs/Operation` and `specs/Holds` (an effect that is one operation on an
 //! item, and who holds a lock), `specs/Piece` and `specs/Moves` (a transaction as one step, and as a list of moves), `specs/Entries`
 //! (the state after an entry), `specs/Guard` and `specs/Legal` (entries that are guarded by locks, the legal book and its run),
-//! `specs/Listing` (the listing of a plain state).
+//! `specs/Replies` (the roots that a book starts, and their outcomes), `specs/Listing` (the listing of a plain state).
 //!
 //! Files:
 //! - Code (`src/`): `kind` how an effect is entered.

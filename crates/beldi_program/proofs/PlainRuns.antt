@@ -12,7 +12,8 @@ use Rattle.beldi_book.specs.declared.entry.Entry.{Entry}
 use Rattle.beldi_step.specs.declared.event.Event.{Event}
 use Rattle.beldi_step.specs.declared.event.Seen.{Seen}
 use Rattle.beldi_step.specs.Host.{Core, EventOn}
-use Rattle.beldi_laws.specs.Laws.{HasReply, BookGrew, starts_of}
+use Rattle.beldi_laws.specs.Laws.{BookGrew}
+use Rattle.beldi_plain.specs.Replies.{HasReply, starts_of}
 use Rattle.beldi_laws.specs.Laws.{bound_by as bound_by_event}
 use Rattle.beldi_laws.specs.Right.{Right}
 use Rattle.beldi_laws.proofs.Events.{keeps_right, replies, right_legal}
@@ -20,7 +21,7 @@ use Rattle.beldi_laws.proofs.OneEvent.{book_grew}
 use Rattle.beldi_laws.proofs.Starts.{outcomes_stay, starts_bound}
 use Rattle.beldi_laws.proofs.Standing.{right_stands}
 use Rattle.beldi_laws.proofs.Listing.{listing_plain}
-use Rattle.beldi_host.specs.Right.{SaidOf}
+use Rattle.beldi_host.specs.Said.{SaidOf}
 use Rattle.beldi_host.specs.declared.survey.ReplySeen.{ReplySeen}
 use Rattle.beldi_host.specs.declared.survey.ReplySeen.TheVariants.{Unknown, Gone, Waiting, Reply}
 use Rattle.beldi_host.proofs.Right.{said_of}

@@ -9,11 +9,12 @@ use Rattle.beldi_row.specs.Table.{Rows}
 use Rattle.beldi_plain.specs.Plain.{PlainState}
 use Rattle.beldi_plain.specs.Legal.{IsLegal, run_of}
 use Rattle.beldi_plain.specs.Listing.{listing_of}
-use Rattle.beldi_step.specs.Host.{is_lost, is_dropped}
+use Rattle.beldi_step.specs.Told.{is_lost, is_dropped}
 use Rattle.beldi_step.specs.Tables.{tables_text}
-use Rattle.beldi_laws.specs.Laws.{starts_of, bound_of, entries_told, told_outcome, HasReply}
-use Rattle.beldi_laws.specs.Stands.{Stands}
-use Rattle.beldi_host.specs.Right.{SaidOf}
+use Rattle.beldi_plain.specs.Replies.{starts_of, HasReply}
+use Rattle.beldi_step.specs.Told.{bound_of, entries_told, told_outcome}
+use Rattle.beldi_known.specs.Stands.{Stands}
+use Rattle.beldi_host.specs.Said.{SaidOf}
 use Rattle.beldi_host.specs.declared.survey.ReplySeen.TheVariants.{Reply}
 use Rattle.beldi_session.specs.Response.{Report, ReplyIs, TablesAre, BookIs, Response, Answered, Reported}
 use Rattle.beldi_session.specs.Session.{State, IsStep}

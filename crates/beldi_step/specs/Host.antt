@@ -320,14 +320,3 @@ EventBy d room old new e c (asks q) m z n r = (w : Result Told TableErr) × Foll
 
 abbrev pub EventOn : Deployment → ℕ → ℕ → ℕ → Event → Core → Rows → Core → Rows → Result Seen AllocError → Type 0
 EventOn d room old new e c m z n r = EventBy d room old new e (counted c) (plan d e c) m z n r
-
--- ---- an answer that is lost
--- the event of a run whose answer is lost
-abbrev pub is_lost : Event → Bool
-is_lost (Lost i) = true
-is_lost e = false
-
--- the answer that tells nothing of what was done: it was lost, or the table failed
-abbrev pub is_dropped : Seen → Bool
-is_dropped seen.Dropped = true
-is_dropped x = false

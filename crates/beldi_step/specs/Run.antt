@@ -79,6 +79,7 @@ use Rattle.beldi_step.specs.declared.run.Stage.TheVariants.{Ask, Walk, Keep, Wri
 use Rattle.beldi_step.specs.declared.run.Says.{Says}
 use Rattle.beldi_step.specs.declared.run.Says.TheVariants.{On, Stays, Opens, Starts, Waits, Answers, Ends}
 use Rattle.beldi_intent.specs.Intent.{look_asks, register_asks, end_asks, is_did, body_in, body_told}
+use Rattle.beldi_step.specs.Noted.{noted_answer}
 
 -- the place of a run's effect at a step
 abbrev pub place_of : IntentId → ℕ → Place
@@ -183,16 +184,7 @@ note_of_op (Some o) = Some (done_note o.op)
 abbrev pub note_done : Effect → Option Note
 note_done e = note_of_op (cell_op e)
 
--- a note, read as an answer: what was written, locked or freed was done, and a test has its truth. A death is no answer outside
--- a transaction.
-abbrev pub noted_answer : Note → Option Answer
-noted_answer Wrote = Some answer.Done
-noted_answer (Cond b) = Some (answer.Value (value.Bool b))
-noted_answer Got = Some answer.Done
-noted_answer (Died h) = None
-noted_answer Freed = Some answer.Done
-
--- .. to an effect, none where it is of another kind than the effect's answers
+-- a note's answer to an effect, none where it is of another kind than the effect's answers
 abbrev pub answers_it : Effect → Answer → Bool
 answers_it (effect.Write t k v) answer.Done = true
 answers_it (effect.CondWrite t k r o v) (answer.Value w) = true

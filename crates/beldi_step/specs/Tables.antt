@@ -16,11 +16,10 @@ use Rattle.beldi_row.specs.Table.{Rows}
 use Rattle.beldi_daal.specs.Cell.{shadow_key}
 use Rattle.beldi_readlog.specs.ReadLog.{log_key}
 use Rattle.beldi_book.specs.Text.{item_text}
-use Rattle.beldi_step.specs.Run.{place_of}
 
 -- the row of a transaction's decision, at the step that began it
 abbrev pub decision_key : TxId → RowKey
-decision_key t = log_key t.func (place_of t.intent t.begin)
+decision_key t = log_key t.func (record { intent = t.intent; step = t.begin })
 
 -- it is a commit
 abbrev pub is_committed : Option Row → Bool

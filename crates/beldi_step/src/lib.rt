@@ -1,8 +1,8 @@
 //! The step of the host as definitions: events, their answers, the runs of instances, and what one event does. Nothing here touches a
 //! table. Its definitions: `specs/Run` (what a run asks in its next turn, and where it goes after what it was told),
 //! `specs/Host` (the host without its table, what an event asks, what follows, and what one event does), `specs/Laws` (the same over rows
-//! that are told, and over any table), `specs/Inside` (a run that was called in a transaction) and `specs/Tables` (the listing of the
-//! rows). `beldi_stage` and `beldi_turn` carry out what a run does, and `beldi_core` what an event does.
+//! that are told, and over any table), `specs/Inside` (a run that was called in a transaction), `specs/Told` (what an event and its
+//! answer tell), `specs/Noted` (the answer that a note stands for) and `specs/Tables` (the listing of the rows). `beldi_stage` and `beldi_turn` carry out what a run does, and `beldi_core` what an event does.
 //!
 //! Proved:
 //! - What one event does is defined here: it is answered at once, or makes one query, and one witness says what that came

@@ -30,14 +30,13 @@ use Rattle.std.specs.Option.{option_map}
 use Rattle.beldi_plain.specs.Item.{Item}
 use Rattle.beldi_plain.specs.Operation.{OnItem, op_of, item_in}
 use Rattle.beldi_plain.specs.Plain.{Instance, PlainState, value_at, effect_before}
-use Rattle.beldi_step.specs.Run.{noted_answer}
+use Rattle.beldi_step.specs.Noted.{noted_answer}
 use Rattle.beldi_step.specs.Tables.{decision_key, is_committed}
 use Rattle.beldi_intent.specs.Intent.{root_key, is_ended}
 use Rattle.beldi_known.specs.Contents.{content_of, shadow_key, shadow_of, IsSoundChain}
 use Rattle.beldi_daal.specs.Content.{SoundAt}
 use Rattle.beldi_order.specs.Txs.{tx_at}
 use Rattle.beldi_known.specs.Listed.{listed}
-use Rattle.beldi_known.specs.Rows.{body_of}
 
 -- ---- the answer that the rows hold
 -- the answer that an item's rows hold at a place, for an operation of a function on it
@@ -87,6 +86,10 @@ held_answer m id func step None e = held_outside m (record { intent = id; step =
 held_answer m id func step (Some x) e = held_inside m x (record { intent = id; step = step }) func e
 
 -- ---- the rows stand for a plain state
+-- the body that an instance was made with
+abbrev pub body_of : Instance → Body
+body_of q = record { func = q.func; args = q.args; tx = q.within; from = q.from }
+
 -- the instance was made with this body; and its outcome is the row's, where the row has one
 pub record IsMade (p : PlainState) (id : IntentId) (i : IntentRow) (b : Body) : Type 0 where
   pub instance : Instance

@@ -1,0 +1,14 @@
+-- That what is said of a ticket's reply is so in the run of a book.
+use Rattle.std.specs.Prelude.{ℕ, List}
+use Rattle.beldi_tree.specs.declared.deployment.Deployment.{Deployment}
+use Rattle.beldi_book.specs.declared.entry.Entry.{Entry}
+use Rattle.beldi_plain.specs.Replies.{HasNoReply, HasReply}
+use Rattle.beldi_host.specs.declared.survey.ReplySeen.{ReplySeen}
+use Rattle.beldi_host.specs.declared.survey.ReplySeen.TheVariants.{Unknown, Gone, Waiting, Reply}
+
+-- what is said of a reply is so in the run of the book; the row of a ticket that was issued is never absent
+abbrev pub SaidOf : Deployment → List Entry → ℕ → ReplySeen → Type 0
+SaidOf d book t Unknown = HasNoReply d book t
+SaidOf d book t Gone = ⊥
+SaidOf d book t Waiting = HasNoReply d book t
+SaidOf d book t (Reply o) = HasReply d book t o
