@@ -21,17 +21,18 @@ use Rattle.beldi_session.specs.declared.session.Stop.TheVariants.{OutOfMemory, S
 use Rattle.beldi_program.specs.declared.program.Ended.{Ended}
 use Rattle.beldi_program.specs.declared.program.Ended.TheVariants as ended
 use Rattle.beldi_session.specs.Script.{actions_in, is_ok, is_whole}
-use Rattle.beldi_session.specs.Session.{Sight, Does, WentBy, Writes, state_at}
+use Rattle.beldi_session.specs.Session.{Sight, State, Does, Stopped, WentBy, Writes, state_at}
 use Rattle.beldi_session.specs.Source.{Numbered, said_at, script_of, source_at}
 use Rattle.beldi_session.specs.Check.{counted, counted_on, tested, with_line, check_at, check_by}
 use Rattle.beldi_session.specs.Refusal.{refusal_text}
 use Rattle.beldi_command.specs.declared.command.Command.{Command}
 use Rattle.beldi_command.specs.declared.command.Command.TheVariants.{Run, Check}
 use Rattle.beldi_script.specs.declared.line.Line.{Line}
-use Rattle.beldi_program.specs.Headline.{Whole, Cut, NothingDone, SessionEnds, SourceEnds, TextEnds, CheckEnds, DoneBy, ReadEnds, CommandEnds, Ends, usage, LongOn, AsRead, SourceAsRead, Untouched, end_of, is_whole_source, opened_at, status_of, HasEnded, ByStatus}
+use Rattle.beldi_program.specs.Hosted.{opened_at}
+use Rattle.beldi_program.specs.Headline.{Whole, Cut, NothingDone, SessionEnds, SourceEnds, TextEnds, CheckEnds, DoneBy, ReadEnds, CommandEnds, Ends, usage, LongOn, AsRead, SourceAsRead, Untouched, end_of, is_whole_source, status_of, HasEnded, ByStatus}
 use Rattle.beldi_session.proofs.Responses.{told_tells}
 use Rattle.beldi_session.proofs.Went.{fine, unchanged}
-use Rattle.beldi_program.proofs.PlainRuns.{at_moments, plain_run}
+use Rattle.beldi_program.proofs.PlainRuns.{hosted_by, last_booked, said}
 
 -- ---- a text that was written, or a front of it
 pub front : (a b : Option (List ℕ)) (text : List ℕ) (e : Failed) → Told a b (WroteOn text (Err e)) → (w : List ℕ) × IsPrefixOf w text × Writes a b w
@@ -48,26 +49,23 @@ module _ (d : Deployment) (lines : List Numbered) (m n : Rows) (f opened g : ℕ
   begins : m ≡ map.empty → Right d (first_core (newest_of m) 0) m
   begins none = begins_right d 0 m none
 
-  session : {X : Type 0} (r : Result X Stop) → OnOk r (q ≡ []) → WentBy d d.room (actions_in d lines) (opened_at m opened) (record { core = core; rows = n; faults = g }) [] w q r → SessionBy r d lines m n f g w
+  -- where it ends
+  abbrev at_end : State
+  at_end = record { core = core; rows = n; faults = g }
+
+  session : {X : Type 0} (r : Result X Stop) → OnOk r (q ≡ []) → WentBy d d.room (actions_in d lines) (opened_at m opened) at_end [] w q r → SessionBy r d lines m n f g w
   session (Ok x) none h =
-      let k = subst (λ z. WentBy d d.room (actions_in d lines) (opened_at m opened) (record { core = core; rows = n; faults = g }) [] w z (fine x)) none h in
+      let k = subst (λ z. WentBy d d.room (actions_in d lines) (opened_at m opened) at_end [] w z (fine x)) none h in
       record {
-        opened = opened;
-        sooner = sooner;
-        core = core;
-        went = at_moments d (m ≡ map.empty) (actions_in d lines) [] (opened_at m opened) (record { core = core; rows = n; faults = g }) [] w [] begins k;
-        plain = λ none. plain_run d k.responses SinkFault [] (opened_at m opened) (record { core = core; rows = n; faults = g }) (record { core = core; rows = n; faults = g }) refl (begins none) k.steps (inl (unchanged _));
+        session = said d (actions_in d lines) [] m opened at_end at_end w [] begins k SinkFault (inl (unchanged at_end));
+        all = sym (last_booked d d.room k.responses (opened_at m opened) at_end k.steps);
+        hosted = hosted_by d (actions_in d lines) [] m opened at_end at_end w [] begins k SinkFault (inl (unchanged at_end)) (λ s t. t ≡ s) f sooner refl;
       }
   session (Err why) none h = record {
-    opened = opened;
-    sooner = sooner;
     more = h.0;
-    last = h.1;
     rest = h.2;
-    went = at_moments d (m ≡ map.empty) (actions_in d lines) h.0 (opened_at m opened) h.1 [] w h.2 begins h.3;
-    core = core;
-    stopped = h.4;
-    plain = λ none. plain_run d h.3.responses why h.0 (opened_at m opened) h.1 (record { core = core; rows = n; faults = g }) refl (begins none) h.3.steps h.4;
+    session = said d (actions_in d lines) h.0 m opened h.1 at_end w h.2 begins h.3 why h.4;
+    hosted = hosted_by d (actions_in d lines) h.0 m opened h.1 at_end w h.2 begins h.3 why h.4 (Stopped why d d.room h.0) f sooner h.4;
   }
 
 -- a host that was opened over a table, and the script that it carried out

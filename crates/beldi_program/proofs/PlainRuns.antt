@@ -1,6 +1,8 @@
 -- What every step keeps, what is said at its moment, and what is so at the end.
 use Rattle.std.proofs.Common.{◌≡◌, inl, inr, ℕ, List, [], ◌∷◌, ◌++◌, None, Some, Result, Ok, Err, refl, ap, sym, ◌∙◌, subst, append_assoc}
-use Rattle.std.specs.Prelude.{option_to_list}
+use Rattle.std.specs.Prelude.{◌≤◌, option_to_list}
+use Rattle.std.specs.Prelude.{map as mapped}
+use Rattle.std.specs.FinMap as map
 use Rattle.std.proofs.lemmas.List.{append-nil}
 use Rattle.std.proofs.lemmas.Option.{same_Some}
 use Rattle.std.specs.declared.alloc.AllocError.{AllocError}
@@ -11,7 +13,7 @@ use Rattle.beldi_row.specs.Table.{Rows}
 use Rattle.beldi_book.specs.declared.entry.Entry.{Entry}
 use Rattle.beldi_step.specs.declared.event.Event.{Event}
 use Rattle.beldi_step.specs.declared.event.Seen.{Seen}
-use Rattle.beldi_step.specs.Host.{Core, EventOn}
+use Rattle.beldi_step.specs.Host.{Core, EventOn, first_core}
 use Rattle.beldi_laws.specs.Laws.{BookGrew}
 use Rattle.beldi_plain.specs.Replies.{HasReply, starts_of}
 use Rattle.beldi_laws.specs.Laws.{bound_by as bound_by_event}
@@ -24,14 +26,16 @@ use Rattle.beldi_laws.proofs.Listing.{listing_plain}
 use Rattle.beldi_host.specs.Said.{SaidOf}
 use Rattle.beldi_host.specs.declared.survey.ReplySeen.{ReplySeen}
 use Rattle.beldi_host.specs.declared.survey.ReplySeen.TheVariants.{Unknown, Gone, Waiting, Reply}
+use Rattle.beldi_host.specs.Survey.{newest_of}
 use Rattle.beldi_host.proofs.Right.{said_of}
 use Rattle.beldi_session.specs.declared.session.Stop.{Stop}
 use Rattle.beldi_session.specs.declared.session.Stop.TheVariants.{OutOfMemory}
 use Rattle.beldi_session.specs.Script.{Action, Carry}
-use Rattle.beldi_session.specs.Response.{Report, ReplyIs, RowsAre, TablesAre, BookIs, LineRefused, Response, Answered, Reported}
+use Rattle.beldi_session.specs.Response.{Report, ReplyIs, RowsAre, TablesAre, BookIs, LineRefused, Response, Answered, Reported, action_of, responses_text}
 use Rattle.beldi_session.specs.Session.{State, Unchanged, IsReport, IsStep, Steps, Went, BrokeOff, Stopped}
 use Rattle.beldi_session.proofs.Went.{unchanged}
-use Rattle.beldi_program.specs.PlainRun.{IsReportSo, IsSo, Moment, IsMoment, TellOutcomes, GoesOn, IsPlainRun, bound_by, bound_in, outcome_in}
+use Rattle.beldi_program.specs.PlainRun.{IsReportSo, IsSo, Moment, Moments, Booked, TellOutcomes, GoesOn, IsPlainRun, Session, bound_by, bound_in, last_book, outcome_in, responses_in}
+use Rattle.beldi_program.specs.Hosted.{Hosted, StepsTo, opened_at}
 
 abbrev Bound : Type 0
 Bound = List (ℕ × (ℕ × Value))
@@ -140,22 +144,77 @@ module _ (d : Deployment) (room : ℕ) where
       (λ n o is. k n o ((kept_steps ys x.0 t after x.2).keeps n o (tells x.0.core.book y n o (moment s x.0 y h x.1).so is)), told_all ys x.0 t book after x.2 k)
 
 -- ---- a session
-module _ (d : Deployment) (P : Type 0) where
-  pub moments : (ys : List Response) (s t : State) → (P → Right d s.core s.rows) → Steps (IsStep d d.room) ys s t → Steps (IsMoment d P) ys s t
-  moments [] s t h x = x
-  moments (y ∷ ys) s t h x = (x.0, (x.1, λ p. moment d d.room s x.0 y (h p) x.1), moments ys x.0 t (λ p. (kept_step d d.room s x.0 y (h p) x.1).right) x.2)
+-- the responses, each with the book after its step
+abbrev pub booked : (d : Deployment) (room : ℕ) (ys : List Response) (s t : State) → Steps (IsStep d room) ys s t → List Booked
+booked d room [] s t x = []
+booked d room (y ∷ ys) s t x = (y, x.0.core.book) ∷ booked d room ys x.0 t x.2
 
-  abbrev pub at_moments : (fs more : List Action) (s t : State) (p w rest : List ℕ) → (P → Right d s.core s.rows) → Went (IsStep d d.room) d fs more s t p w rest → Went (IsMoment d P) d fs more s t p w rest
-  at_moments fs more s t p w rest h x = record { responses = x.responses; actions_are = x.actions_are; steps = moments x.responses s t h x.steps; text = x.text }
+pub booked_back : (d : Deployment) (room : ℕ) (ys : List Response) (s t : State) (x : Steps (IsStep d room) ys s t) → responses_in (booked d room ys s t x) ≡ ys
+booked_back d room [] s t x = refl
+booked_back d room (y ∷ ys) s t x = ap (λ z. y ∷ z) (booked_back d room ys x.0 t x.2)
 
-pub plain_run : (d : Deployment) (ys : List Response) (why : Stop) (more : List Action) (s t u : State) → s.core.book ≡ [] → Right d s.core s.rows → Steps (IsStep d d.room) ys s t → Stopped why d d.room more t u → IsPlainRun d u.rows ys t.core.book u.core.book
-plain_run d ys why more s t u empty h x o =
-    let k = kept_steps d d.room ys s t h x in
-    let l = kept_stop d d.room why more t u k.right o in
-    record {
-      goes_on = l.goes_on;
-      legal = right_legal d u.core u.rows l.right;
-      bound = l.starts ∙ append-nil (starts_of t.core.book) ∙ k.starts ∙ ap (λ z. starts_of z ++ bound_in ys) empty;
-      replies = told_all d d.room ys s t u.core.book h x l.keeps;
-      tables = λ p is. (right_stands d u.core u.rows p l.right is, listing_plain d u.core u.rows p l.right is);
-    }
+pub last_booked : (d : Deployment) (room : ℕ) (ys : List Response) (s t : State) (x : Steps (IsStep d room) ys s t) → last_book s.core.book (booked d room ys s t x) ≡ t.core.book
+last_booked d room [] s t x = ap (λ (z : State). z.core.book) (sym x)
+last_booked d room (y ∷ ys) s t x = last_booked d room ys x.0 t x.2
+
+moments : (d : Deployment) (ys : List Response) (s t : State) → Right d s.core s.rows → (x : Steps (IsStep d d.room) ys s t) → Moments d s.core.book (booked d d.room ys s t x)
+moments d [] s t h x = tt
+moments d (y ∷ ys) s t h x = (moment d d.room s x.0 y h x.1, moments d ys x.0 t (kept_step d d.room s x.0 y h x.1).right x.2)
+
+steps_to : (d : Deployment) (ys : List Response) (s t : State) (x : Steps (IsStep d d.room) ys s t) → StepsTo d (booked d d.room ys s t x) s t
+steps_to d [] s t x = x
+steps_to d (y ∷ ys) s t x = (x.0, (x.1, refl), steps_to d ys x.0 t x.2)
+
+-- from the rows m, over which a host was opened, by these steps, and to u in the end
+module _ (d : Deployment) (actions more : List Action) (m : Rows) (opened : ℕ) (t u : State) (written rest : List ℕ) (begins : m ≡ map.empty → Right d (first_core (newest_of m) 0) m) (x : Went (IsStep d d.room) d actions more (opened_at m opened) t [] written rest) (why : Stop) (o : Stopped why d d.room more t u) where
+  abbrev s : State
+  s = opened_at m opened
+
+  abbrev ys : List Response
+  ys = x.responses
+
+  abbrev zs : List Booked
+  zs = booked d d.room ys s t x.steps
+
+  pub same : ys ≡ responses_in zs
+  same = sym (booked_back d d.room ys s t x.steps)
+
+  kept : Right d s.core m → Kept d s t (bound_in ys)
+  kept h = kept_steps d d.room ys s t h x.steps
+
+  stopped : Right d s.core m → Kept d t u []
+  stopped h = kept_stop d d.room why more t u (kept h).right o
+
+  pub plain_run : Right d s.core m → IsPlainRun d u.rows zs u.core.book
+  plain_run h =
+      let k = kept h in
+      let l = stopped h in
+      record {
+        moments = moments d ys s t h x.steps;
+        goes_on = (l.goes_on.0, ap (λ z. z ++ l.goes_on.0) (last_booked d d.room ys s t x.steps) ∙ l.goes_on.1);
+        legal = right_legal d u.core u.rows l.right;
+        bound = l.starts ∙ append-nil (starts_of t.core.book) ∙ k.starts ∙ ap bound_in same;
+        replies = subst (λ z. TellOutcomes d u.core.book z) same (told_all d d.room ys s t u.core.book h x.steps l.keeps);
+        tables = λ p is. right_stands d u.core u.rows p l.right is;
+      }
+
+  abbrev pub said : Session d actions more m u.rows written rest
+  said = record {
+    responses = zs;
+    actions_are = ap (λ z. mapped action_of z ++ more) (sym same) ∙ x.actions_are;
+    text = x.text ∙ ap (responses_text d) same;
+    book = u.core.book;
+    plain = λ none. plain_run (begins none);
+  }
+
+  pub hosted_by : (ThenTo : State → State → Type 0) (f : ℕ) → f ≤ opened → ThenTo t u → Hosted ThenTo d zs u.core.book m u.rows f u.faults
+  hosted_by ThenTo f sooner ends = record {
+    opened = opened;
+    sooner = sooner;
+    last = t;
+    steps = steps_to d ys s t x.steps;
+    core = u.core;
+    ends = ends;
+    book_is = refl;
+    listing = λ none p is. listing_plain d u.core u.rows p (stopped (begins none)).right is;
+  }

@@ -1,10 +1,7 @@
 -- How the program ends: the cause of each way of ending, and what it leaves of the source, the sink and the table.
 use Rattle.std.specs.Prelude.{◌≡◌, ◌⊎◌, ◌≤◌, ◌<◌, ◌+◌, ℕ, length, Bool, true, false, List, [], ◌∷◌, drop, Option, Some, None, Result, Ok, Err, codes}
-use Rattle.std.specs.FinMap as map
 use Rattle.beldi_tree.specs.declared.deployment.Deployment.{Deployment}
 use Rattle.beldi_row.specs.Table.{Rows, TableState}
-use Rattle.beldi_step.specs.Host.{Core, first_core}
-use Rattle.beldi_host.specs.Survey.{newest_of}
 use Rattle.beldi_outside.specs.Outside.{IsPrefixOf, Told, Rose, TookFront, max_source}
 use Rattle.beldi_session.specs.declared.refusal.Refusal.{Refusal}
 use Rattle.beldi_session.specs.declared.source.Accepted.{Accepted}
@@ -12,10 +9,11 @@ use Rattle.beldi_session.specs.declared.session.Stop.{Stop}
 use Rattle.beldi_session.specs.declared.session.Stop.TheVariants as stop
 use Rattle.beldi_program.specs.declared.program.Ended.{Ended}
 use Rattle.beldi_program.specs.declared.program.Ended.TheVariants as ended
-use Rattle.beldi_program.specs.PlainRun.{IsMoment, IsPlainRun}
+use Rattle.beldi_program.specs.Hosted.{HostedUntil, HostedWhole}
+use Rattle.beldi_program.specs.PlainRun.{Session, last_book}
 use Rattle.beldi_session.specs.Refusal.{refusal_text}
 use Rattle.beldi_session.specs.Script.{Action, actions_in, is_whole}
-use Rattle.beldi_session.specs.Session.{State, Went, Stopped, Writes}
+use Rattle.beldi_session.specs.Session.{Writes}
 use Rattle.beldi_session.specs.Source.{Numbered, script_of, source_at}
 use Rattle.beldi_session.specs.Check.{check_at}
 use Rattle.beldi_command.specs.declared.command.Command.{Command}
@@ -24,31 +22,20 @@ use Rattle.beldi_command.specs.declared.command.Command.TheVariants.{Run, Check}
 abbrev pub usage : List ℕ
 usage = codes "usage: beldi run | check\n"
 
--- ---- a session over a deployment, from the rows m to the rows n, with the text that was written. The numbers f and g are the
--- table's count of failures before and after, and `opened` is the count once the host was open. Over a table without rows it
--- is a run of the book without crashes.
-abbrev pub opened_at : Rows → ℕ → State
-opened_at m f = record { core = first_core (newest_of m) 0; rows = m; faults = f }
-
--- all actions of the lines were done, and all text was written
+-- ---- a session over a deployment, from the rows m to the rows n, with the text that was written: what was said, and how the host
+-- moved to it. The numbers f and g are the table's count of failures before and after.
+-- all actions of the lines were done, no event broke off, and all text was written
 pub record Whole (d : Deployment) (lines : List Numbered) (m n : Rows) (f g : ℕ) (written : List ℕ) : Type 0 where
-  pub opened : ℕ
-  pub sooner : f ≤ opened
-  pub core : Core
-  pub went : Went (IsMoment d (m ≡ map.empty)) d (actions_in d lines) [] (opened_at m opened) (record { core = core; rows = n; faults = g }) [] written []
-  pub plain : m ≡ map.empty → IsPlainRun d n went.responses core.book core.book
+  pub session : Session d (actions_in d lines) [] m n written []
+  pub all : session.book ≡ last_book [] session.responses
+  pub hosted : HostedWhole d session.responses session.book m n f g
 
 -- the first actions were done, but for `more`, and a front of the text was written; then it stopped
 pub record Cut (why : Stop) (d : Deployment) (lines : List Numbered) (m n : Rows) (f g : ℕ) (written : List ℕ) : Type 0 where
-  pub opened : ℕ
-  pub sooner : f ≤ opened
   pub more : List Action
-  pub last : State
   pub rest : List ℕ
-  pub went : Went (IsMoment d (m ≡ map.empty)) d (actions_in d lines) more (opened_at m opened) last [] written rest
-  pub core : Core
-  pub stopped : Stopped why d d.room more last (record { core = core; rows = n; faults = g })
-  pub plain : m ≡ map.empty → IsPlainRun d n went.responses last.core.book core.book
+  pub session : Session d (actions_in d lines) more m n written rest
+  pub hosted : HostedUntil why d more session.responses session.book m n f g
 
 -- ---- by how the program ended. A sink is seen by what it got and its faults ..
 module _ {K : Type 0} (held : K → Option (List ℕ)) (faults : K → ℕ) where
@@ -79,7 +66,7 @@ module _ {K T : Type 0} (held : K → Option (List ℕ)) (faults : K → ℕ) (s
 
   -- a session and its text: the one that the sink got, where it tells it; and what came of the rows, where they are told
   abbrev pub Ran : (Rows → Rows → ℕ → ℕ → List ℕ → Type 0) → K → K → T → T → Type 0
-  Ran Session k k' t t' = (written : List ℕ) × Writes (held k) (held k') written × Told (state t).rows (state t').rows (λ m n. Session m n (state t).faults (state t').faults written)
+  Ran Leads k k' t t' = (written : List ℕ) × Writes (held k) (held k') written × Told (state t).rows (state t').rows (λ m n. Leads m n (state t).faults (state t').faults written)
 
   -- the lines of a deployment are carried out
   abbrev pub SessionEnds : Deployment → List Numbered → K → K → T → T → Ended → Type 0

@@ -1,5 +1,6 @@
--- That a session is a run without crashes, of exactly the requests that were bound.
-use Rattle.std.specs.Prelude.{◌≡◌, ◌&&◌, ℕ, Bool, false, List, [], ◌∷◌, ◌++◌, flat_map, Option, Some, None, option_to_list}
+-- That a session is a run without crashes, of exactly the requests that were bound. Nothing here knows how the host moves.
+use Rattle.std.specs.Prelude.{◌≡◌, ◌&&◌, ℕ, Bool, false, List, [], ◌∷◌, ◌++◌, flat_map, map, Option, Some, None, option_to_list}
+use Rattle.std.specs.FinMap as finite
 use Rattle.beldi_value.specs.declared.value.Value.{Value}
 use Rattle.beldi_value.specs.declared.outcome.Outcome.{Outcome}
 use Rattle.beldi_tree.specs.declared.deployment.Deployment.{Deployment}
@@ -9,15 +10,13 @@ use Rattle.beldi_row.specs.Table.{Rows}
 use Rattle.beldi_plain.specs.Plain.{PlainState}
 use Rattle.beldi_plain.specs.Legal.{IsLegal, run_of}
 use Rattle.beldi_plain.specs.Listing.{listing_of}
-use Rattle.beldi_step.specs.Told.{is_lost, is_dropped}
-use Rattle.beldi_step.specs.Tables.{tables_text}
 use Rattle.beldi_plain.specs.Replies.{starts_of, HasReply}
-use Rattle.beldi_step.specs.Told.{bound_of, entries_told, told_outcome}
+use Rattle.beldi_step.specs.Told.{bound_of, entries_told, is_dropped, is_lost, told_outcome}
 use Rattle.beldi_known.specs.Stands.{Stands}
 use Rattle.beldi_host.specs.Said.{SaidOf}
 use Rattle.beldi_host.specs.declared.survey.ReplySeen.TheVariants.{Reply}
-use Rattle.beldi_session.specs.Response.{Report, ReplyIs, TablesAre, BookIs, Response, Answered, Reported}
-use Rattle.beldi_session.specs.Session.{State, IsStep}
+use Rattle.beldi_session.specs.Response.{Report, ReplyIs, TablesAre, BookIs, Response, Answered, Reported, action_of, responses_text}
+use Rattle.beldi_session.specs.Script.{Action}
 
 -- ---- the moment after an action
 -- the entries that a response tells
@@ -50,9 +49,22 @@ pub record Moment (d : Deployment) (y : Response) (before book : List Entry) : T
   pub legal : IsLegal d book
   pub so : IsSo d book y
 
--- one step, and where the session began over no rows the moment after it: the book is that of the step's own host
-abbrev pub IsMoment : Deployment → Type 0 → State → State → Response → Type 0
-IsMoment d over_no_rows s t y = IsStep d d.room s t y × (over_no_rows → Moment d y s.core.book t.core.book)
+-- a response, with the book after it
+abbrev pub Booked : Type 0
+Booked = Response × List Entry
+
+-- from a book on, each of these is a moment after the one before
+abbrev pub Moments : Deployment → List Entry → List Booked → Type 0
+Moments d before [] = Unit {0}
+Moments d before (y ∷ ys) = Moment d y.0 before y.1 × Moments d y.1 ys
+
+-- the book after the last of them
+abbrev pub last_book : List Entry → List Booked → List Entry
+last_book before [] = before
+last_book before (y ∷ ys) = last_book y.1 ys
+
+abbrev pub responses_in : List Booked → List Response
+responses_in ys = map (λ y. y.0) ys
 
 -- ---- the book at the end
 -- the requests that were bound
@@ -74,20 +86,32 @@ abbrev pub TellOutcomes : Deployment → List Entry → List Response → Type 0
 TellOutcomes d book [] = Unit {0}
 TellOutcomes d book (y ∷ ys) = ((t : ℕ) (o : Outcome) → outcome_in y ≡ Some (t, o) → HasReply d book t o) × TellOutcomes d book ys
 
--- the rows stand for the run of the book, and their listing is that of the run
+-- the rows stand for the run of the book
 abbrev pub RowsStandFor : Deployment → Rows → List Entry → Type 0
-RowsStandFor d n book = (p : PlainState) → run_of d book ≡ Some p → Stands d n p × (tables_text d n ≡ listing_of d p)
+RowsStandFor d n book = (p : PlainState) → run_of d book ≡ Some p → Stands d n p
 
 abbrev pub GoesOn : List Entry → List Entry → Type 0
 GoesOn before after = (more : List Entry) × (before ++ more ≡ after)
 
--- the book at the end goes on from the last moment's, where an event broke off out of memory. It is legal, so that each step
--- of an instance acts once and in its order, each transaction that committed is one entry, whole, and each that was aborted one that
--- leaves no item changed (`after` of `beldi_plain/specs/Entries`); it starts exactly the requests that were answered bound, in order; every outcome
--- that was told is its root's; and the rows stand for its run.
-pub record IsPlainRun (d : Deployment) (rows : Rows) (ys : List Response) (last book : List Entry) : Type 0 where
-  pub goes_on : GoesOn last book
+-- after each response the book is legal, and what was said is so in its run. The book at the end goes on from the last moment's,
+-- where an event broke off out of memory. It is legal, so that each step of an instance acts once and in its order, each
+-- transaction that committed is one entry, whole, and each that was aborted one that leaves no item changed (`after` of
+-- `beldi_plain/specs/Entries`); it starts exactly the requests that were answered bound, in order; every outcome that was told is
+-- its root's; and the rows stand for its run.
+pub record IsPlainRun (d : Deployment) (rows : Rows) (ys : List Booked) (book : List Entry) : Type 0 where
+  pub moments : Moments d [] ys
+  pub goes_on : GoesOn (last_book [] ys) book
   pub legal : IsLegal d book
-  pub bound : starts_of book ≡ bound_in ys
-  pub replies : TellOutcomes d book ys
+  pub bound : starts_of book ≡ bound_in (responses_in ys)
+  pub replies : TellOutcomes d book (responses_in ys)
   pub tables : RowsStandFor d rows book
+
+-- ---- a session from the rows m to the rows n, with the text that was written
+-- the actions, but for `more`, got a response each, in order, after which the book was such; the text is theirs, and a front of it
+-- was written; and there is the book at the end. Over no rows this is a run without crashes.
+pub record Session (d : Deployment) (actions more : List Action) (m n : Rows) (written rest : List ℕ) : Type 0 where
+  pub responses : List Booked
+  pub actions_are : map action_of (responses_in responses) ++ more ≡ actions
+  pub text : written ++ rest ≡ responses_text d (responses_in responses)
+  pub book : List Entry
+  pub plain : m ≡ finite.empty → IsPlainRun d n responses book

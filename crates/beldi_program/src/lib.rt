@@ -2,8 +2,8 @@
 //! script's events came to; or it tests them, and carries out nothing.
 //! It stands on the session (`beldi_session`), the host (`beldi_host`), the reader of its words (`beldi_command`), the table that a host is
 //! over (`beldi_row`) and what is outside (`beldi_outside`); its clauses speak of definitions of the crates below them.
-//! Its own definitions: `specs/PlainRun` (that a session's steps are a run without crashes) and `specs/Headline` (how the program
-//! ends: by it the cause, and what is left of source, sink and table).
+//! Its own definitions: `specs/PlainRun` (that a session is a run without crashes), `specs/Hosted` (how the host moved in it) and
+//! `specs/Headline` (how the program ends: by it the cause, and what is left of source, sink and table).
 //! It has no error type: `top` answers a status, and `Ended` has one variant for each.
 //!
 //! Proved:
@@ -18,12 +18,14 @@
 //!   was done or written; with 2 the words are not those of a command (`usage`).
 //! - A source that is tested leaves the table as it was handed in (`tested`); with 0 it has no fault, and the text tells how many
 //!   functions and lines it has, with 5 it is its first refusal alone.
-//! - Over a table without rows, that session is a run without crashes: after each step the book of that step's host has the
+//! - Over a table without rows, that session is a run without crashes: after each response the book has the
 //!   entries that were told, is legal, and each outcome, reply, listing of the tables and of the book is that of its
 //!   run then (`Moment`); at the end (`IsPlainRun`) it is legal, so each step of an instance acts once and in its order, each
 //!   committed transaction in one piece, and each aborted one reads one state and leaves no item changed (`legal`),
 //!   it starts exactly the requests that were answered `bound`, in order (`bound`), each outcome that was told is the
-//!   root's in its run (`replies`), and the rows stand for that run, and are listed as it is (`tables`).
+//!   root's in its run (`replies`), and the rows stand for that run (`tables`).
+//! - Each response is that of one step of the host, and the book is that step's (`Hosted`); over a table without rows the rows are
+//!   listed as the run is (`listing`).
 //! - 3, 4 and 8 come only where the count of the source, the sink or the table rose (`source_fault`, `sink_fault`,
 //!   `open_fault`); 7 only where the source has more than 16,777,216 bytes, of which 16,777,217 were taken, and where,
 //!   with the right words, it has more, only 7, 3 or 1 (`too_long`); with the right words, a source of at most

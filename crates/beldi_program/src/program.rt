@@ -55,7 +55,8 @@ pub fn top<S: Source, K: Sink, T: Table, N: Link, C: Clock>(
 ) -> (u8, T)
     // The status tells how the program ended: by it the cause, and what is left of source, sink and table. The text is that of
     // a session of the source. Over a table without rows this session is a run without crashes of exactly the requests that
-    // were answered bound, and the replies, the tables and the rows are those of that run.
+    // were answered bound, and the replies, the tables and the rows are those of that run. A field of its own says how the host
+    // moved to it (`Hosted`).
     ensures session { ByStatus result.0 (λ e. Ends S.left S.faults K.held K.faults T.state (command_of words.now) source.old source.new sink.old sink.new table result.1 e) }
     // Neither the link nor the clock is asked for anything.
     ensures unasked { (_link.new ≡ _link.old) × (_clock.new ≡ _clock.old) }
