@@ -7,7 +7,6 @@ pub mod AtOnce
 pub mod Begins
 pub mod Begun
 pub mod Behind
-pub mod Callees
 pub mod Callers
 pub mod Calls
 pub mod Deaths

@@ -35,7 +35,7 @@ use Rattle.beldi_known.specs.Beside.{Beside, begins}
 use Rattle.beldi_known.specs.Contents.{head_key, content_of, shadow_key, shadow_of}
 use Rattle.beldi_known.specs.Frame.{LockedOut}
 use Rattle.beldi_known.specs.Known.{Known, at_once, moved}
-use Rattle.beldi_known.specs.Laws.{IsFront}
+use Rattle.beldi_known.specs.Behind.{IsFront}
 use Rattle.beldi_known.specs.Listed.{listed}
 use Rattle.beldi_known.specs.Matches.{Matches}
 use Rattle.beldi_known.specs.Sane.{Sane}

@@ -1,10 +1,10 @@
 pub mod Acts
+pub mod Behind
 pub mod Beside
 pub mod Contents
 pub mod Frame
 pub mod InsideLaws
 pub mod Known
-pub mod Laws
 pub mod Listed
 pub mod Matches
 pub mod Operations

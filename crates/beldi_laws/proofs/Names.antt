@@ -86,7 +86,7 @@ pub use Rattle.beldi_known.proofs.Unaborted.{returned_cause}
 pub use Rattle.beldi_known.specs.Acts.{noted}
 pub use Rattle.beldi_known.specs.InsideLaws.{IsOpen, decided as with_decision}
 pub use Rattle.beldi_known.specs.Known.{at_once as with_once, lock_note as lock_owed}
-pub use Rattle.beldi_known.specs.Laws.{IsBehind}
+pub use Rattle.beldi_known.specs.Behind.{IsBehind}
 pub use Rattle.beldi_known.specs.Rows.{HasNoRow}
 pub use Rattle.beldi_lang.proofs.Bounds.{no_bound}
 pub use Rattle.beldi_lang.proofs.Resumes.{at_begin, at_effect, at_next, few_answers}

@@ -1,5 +1,0 @@
-use Rattle.beldi_known.proofs.Callees.{behind_calls}
-use Rattle.beldi_known.proofs.laws.calls_are_known.Goals as goal
-
-pub returns : goal.returns
-returns c = λ d m known id q given a f v h sane wants. behind_calls d m known h.locked h.matches sane id q h.made given a h.rest h.run_answers f v wants
