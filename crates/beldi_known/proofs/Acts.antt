@@ -6,11 +6,11 @@ use Rattle.beldi_known.proofs.Names.map
 use Rattle.beldi_known.proofs.Names.notes
 use Rattle.beldi_known.proofs.Names.rows
 use Rattle.beldi_known.proofs.Answers.{true_false}
-use Rattle.beldi_known.proofs.Rows.{head_order, keys_set}
-use Rattle.beldi_known.proofs.FrameAt.{read_none, read_one, calls_same}
+use Rattle.beldi_known.proofs.Rows.{head_order, keys_at, keys_set, set_here, set_others}
+use Rattle.beldi_known.proofs.FrameAt.{read_none, read_here}
 use Rattle.beldi_known.proofs.Fronts.{read_elsewhere}
 use Rattle.beldi_known.proofs.Locks.{lock_taken, lock_kept, txs_taken, txs_kept, tx_same, tx_self}
-use Rattle.beldi_known.proofs.Fronts.{intents_same, locksets_answered, items_answered, txs_answered, item_died, item_kept, txs_died, shadow_kept, shadow_noted}
+use Rattle.beldi_known.proofs.Fronts.{row_by, locksets_answered, items_answered, txs_answered, item_died, item_kept, txs_died, shadow_kept, shadow_noted}
 
 -- ---- keys of two kinds are apart: by a test that tells the kinds, and no order
 pub kinds_apart : (f : Kind → Bool) (k l : RowKey) → f k.kind ≡ true → f l.kind ≡ false → is_eq (key_cmp k l) ≡ false
@@ -37,6 +37,22 @@ content_here m v x = ap content_in (row_got m (head_key x) (head_key x) v ∙ ap
 pub shadow_here : (m : Rows) (v : Option Row) (t : TxId) (x : Item) → shadow_of (set_row m (shadow_key t x) v) t x ≡ content_in v
 shadow_here m v t x = ap content_in (row_got m (shadow_key t x) (shadow_key t x) v ∙ ap (λ b. cond b v (map.get m (shadow_key t x))) (key_self (shadow_key t x)))
 
+-- ---- rows that match, after one was set that is no cell's
+abbrev pub is_cell : Kind → Bool
+is_cell (kinds.Data t k n) = true
+is_cell (kinds.Shadow s t k n) = true
+is_cell k = false
+
+module _ (d : Deployment) (known : Known) (locked : IntentId → Bool) (m : Rows) where
+  pub log_set : (k : RowKey) (v : Option Row) → is_cell k.kind ≡ false → RowMatches d known k.home k.kind v → ((l : RowKey) → is_eq (key_cmp l k) ≡ false → RowMatches d known l.home l.kind (map.get m l))
+      → ((x : Item) → ItemMatches d known locked x (content_of m x)) → ((t : TxId) (x : Item) → ShadowMatches d known t x (shadow_of m t x)) → ((x : Item) → TxsMatch d known locked x (content_of m x).owner) → Matches d (set_row m k v) known locked
+  log_set k v kind here others items shadows txs = record {
+    keys = keys_set m k v (λ l z. RowMatches d known l.home l.kind z) here others;
+    items = λ x. subst (ItemMatches d known locked x) (sym (content_apart m k v x (kinds_apart is_cell (head_key x) k refl kind))) (items x);
+    shadows = λ t x. subst (ShadowMatches d known t x) (sym (shadow_apart m k v t x (kinds_apart is_cell (shadow_key t x) k refl kind))) (shadows t x);
+    txs = λ x. subst (λ (c : Content). TxsMatch d known locked x c.owner) (sym (content_apart m k v x (kinds_apart is_cell (head_key x) k refl kind))) (txs x);
+  }
+
 -- a fact on every item, after the row of one was set
 pub by_item : (item x : Item) (P : Item → Type 0) → P item → (is_eq (item_cmp item x) ≡ false → P x) → P x
 by_item item x P here other = elim (is_eq (item_cmp item x)) as (λ b. is_eq (item_cmp item x) ≡ b → P x) [
@@ -46,6 +62,24 @@ by_item item x P here other = elim (is_eq (item_cmp item x)) as (λ b. is_eq (it
 
 pub turned : (x y : Item) → is_eq (item_cmp x y) ≡ false → is_eq (key_cmp (head_key y) (head_key x)) ≡ false
 turned x y h = ap is_eq (head_order y x) ∙ (eq_by_cmp_equiv item_total).symm y x ∙ h
+
+module _ (d : Deployment) (known : Known) (locked : IntentId → Bool) (m : Rows) where
+  -- .. that is an item's
+  pub head_at : (n : Rows) (x : Item) (c : Content) → ((l : RowKey) → is_eq (key_cmp l (head_key x)) ≡ false → map.get n l ≡ map.get m l) → content_of n x ≡ c → CellMatches 0 (map.get n (head_key x)) → ((l : RowKey) → RowMatches d known l.home l.kind (map.get m l))
+      → ItemMatches d known locked x c → ((y : Item) → is_eq (item_cmp x y) ≡ false → ItemMatches d known locked y (content_of m y)) → ((t : TxId) (y : Item) → ShadowMatches d known t y (shadow_of m t y))
+      → TxsMatch d known locked x c.owner → ((y : Item) → is_eq (item_cmp x y) ≡ false → TxsMatch d known locked y (content_of m y).owner) → Matches d n known locked
+  head_at n x c apart here fits keys own items shadows own_txs txs = record {
+    keys = keys_at m n (head_key x) (λ l z. RowMatches d known l.home l.kind z) apart fits (λ l other. keys l);
+    items = λ y. by_item x y (λ y. ItemMatches d known locked y (content_of n y)) (subst (ItemMatches d known locked x) (sym here) own)
+        (λ other. subst (ItemMatches d known locked y) (ap content_in (sym (apart (head_key y) (turned x y other)))) (items y other));
+    shadows = λ t y. subst (ShadowMatches d known t y) (ap content_in (sym (apart (shadow_key t y) (kinds_apart is_shadow (shadow_key t y) (head_key x) refl refl)))) (shadows t y);
+    txs = λ y. by_item x y (λ y. TxsMatch d known locked y (content_of n y).owner) (subst (λ (z : Content). TxsMatch d known locked x z.owner) (sym here) own_txs)
+        (λ other. subst (λ r. TxsMatch d known locked y (content_in r).owner) (sym (apart (head_key y) (turned x y other))) (txs y other));
+  }
+
+  pub head_set : (x : Item) (v : Option Row) (c : Content) → content_in v ≡ c → CellMatches 0 v → ((l : RowKey) → RowMatches d known l.home l.kind (map.get m l)) → ItemMatches d known locked x c → ((y : Item) → is_eq (item_cmp x y) ≡ false → ItemMatches d known locked y (content_of m y))
+      → ((t : TxId) (y : Item) → ShadowMatches d known t y (shadow_of m t y)) → TxsMatch d known locked x c.owner → ((y : Item) → is_eq (item_cmp x y) ≡ false → TxsMatch d known locked y (content_of m y).owner) → Matches d (set_row m (head_key x) v) known locked
+  head_set x v c same fits = head_at (set_row m (head_key x) v) x c (set_others m (head_key x) v) (content_here m v x ∙ same) (subst (CellMatches 0) (sym (set_here m (head_key x) v)) fits)
 
 -- shadows with one key are one
 abbrev tx_of : Kind → TxId
@@ -71,16 +105,9 @@ module _ (d : Deployment) (known : Known) (locked : IntentId → Bool) (id : Int
   pub lock_did : (m : Rows) (v : Option Row) → CellMatches 0 v → note_at (content_of m item).notes place ≡ None → other_owner (Tx s) (content_of m item).owner ≡ None
       → content_in v ≡ record { value = (content_of m item).value; owner = Some (Tx s); notes = (content_of m item).notes ++ (place, notes.Got) ∷ [] }
       → Matches d m known locked → Matches d (set_row m (head_key item) v) known (lock_in locked id)
-  lock_did m v fits none free same h = record {
-    keys = keys_set m (head_key item) v (λ l r. RowMatches d known l.home l.kind r) fits (λ l other. h.keys l);
-    items = λ x. by_item item x (λ x. ItemMatches d known (lock_in locked id) x (content_of (set_row m (head_key item) v) x))
-        (subst (ItemMatches d known (lock_in locked id) item) (sym (content_here m v item ∙ same)) (lock_taken d known locked id q is unlocked s inside o touch (content_of m item) none free (h.items item)))
-        (λ other. subst (ItemMatches d known (lock_in locked id) x) (sym (content_apart m (head_key item) v x (turned item x other))) (lock_kept d known locked id q is unlocked s inside o touch x (content_of m x) other (h.items x)));
-    shadows = λ t x. subst (ShadowMatches d known t x) (sym (shadow_apart m (head_key item) v t x (kinds_apart is_shadow (shadow_key t x) (head_key item) refl refl))) (h.shadows t x);
-    txs = λ x. by_item item x (λ x. TxsMatch d known (lock_in locked id) x (content_of (set_row m (head_key item) v) x).owner)
-        (subst (λ (c : Content). TxsMatch d known (lock_in locked id) item c.owner) (sym (content_here m v item ∙ same)) (txs_taken d known locked id q is unlocked s inside o touch (content_of m item) none free (h.txs item)))
-        (λ other. subst (λ (c : Content). TxsMatch d known (lock_in locked id) x c.owner) (sym (content_apart m (head_key item) v x (turned item x other))) (txs_kept d known locked id q is unlocked s inside o touch x (content_of m x).owner other (h.txs x)));
-  }
+  lock_did m v fits none free same h = head_set d known (lock_in locked id) m item v _ same fits h.keys (lock_taken d known locked id q is unlocked s inside o touch (content_of m item) none free (h.items item))
+      (λ x other. lock_kept d known locked id q is unlocked s inside o touch x (content_of m x) other (h.items x)) h.shadows
+      (txs_taken d known locked id q is unlocked s inside o touch (content_of m item) none free (h.txs item)) (λ x other. txs_kept d known locked id q is unlocked s inside o touch x (content_of m x).owner other (h.txs x))
 
 -- ---- an answer to an operation inside
 module _ (d : Deployment) (known : Known) (locked unlocked : IntentId → Bool) (id : IntentId) (q r : Instance) (a : Answer) (is : map.get known id ≡ Some q) (one : AnswersOne d id q a r) (out : LockedOut locked unlocked id)
@@ -104,32 +131,17 @@ module _ (d : Deployment) (known : Known) (locked unlocked : IntentId → Bool) 
 
   -- all other rows
   row_answered : (k : RowKey) → ((b : Place) → k.kind ≡ kinds.ReadLog b → owed_read d after k.home b ≡ owed_read d known k.home b) → RowMatches d known k.home k.kind (map.get m k) → RowMatches d after k.home k.kind (map.get m k)
-  row_answered k same g = by_kind k.home k.kind same g
-    where
-      by_kind : (home : ℕ) (kind : Kind) → ((b : Place) → kind ≡ kinds.ReadLog b → owed_read d after home b ≡ owed_read d known home b) → RowMatches d known home kind (map.get m (record { home = home; kind = kind }))
-          → RowMatches d after home kind (map.get m (record { home = home; kind = kind }))
-      by_kind home (kinds.Intent j) same g = intents_same d known locked unlocked id q r a is one out home j (map.get m (record { home = home; kind = kinds.Intent j })) g
-      by_kind home (kinds.ReadLog b) same g = subst (LogMatches (map.get m (log_key home b))) (sym (same b refl)) g
-      by_kind home (kinds.Invoke b) same g = subst (CallMatches (map.get m (record { home = home; kind = kinds.Invoke b }))) (sym (calls_same d known id q r a is one home b)) g
-      by_kind home (kinds.Lockset j b t z) same g = let x : Item = record { func = home; table = t; key = z } in
-          locksets_answered d known locked unlocked id q r a is one out s inside o touch b x j (map.get m (lockset_key j b x)) (there b x j) g
-      by_kind home kind same g = g
+  row_answered k same = row_by d known locked unlocked id q r a is one out k.home k.kind (map.get m k) same (λ j b t z e.
+      locksets_answered d known locked unlocked id q r a is one out s inside o touch b (record { func = k.home; table = t; key = z }) j (map.get m k) (λ g. ap (λ y. map.get m (record { home = k.home; kind = y })) e ∙ there b (record { func = k.home; table = t; key = z }) j g))
 
   -- PutRead Added: a read is answered, its lock being ahead
   pub read_answered : (v : Value) → row_added (length q.answers) (txs_after d q q.answers).begun (effect_of d q) a ≡ Some (length q.answers, v) → locked id ≡ true → is_aborted a ≡ false
       → ((t : TxId) (x : Item) → shadow_by t x q.func (tx_now d id q) (effect_of d q) a ≡ None) → Matches d (set_row m (log_key q.func here) (Some (rows.ReadLog v))) after unlocked
-  read_answered v added was lives no_note = let k = log_key q.func here in record {
-    keys = keys_set m k (Some (rows.ReadLog v)) (λ l z. RowMatches d after l.home l.kind z) (subst (λ z. z ≡ Some v) (sym read_here) refl) (λ l other. row_answered l (λ b kind. read_apart l b kind other) (h.keys l));
-    items = λ x. subst (ItemMatches d after unlocked x) (sym (content_apart m k (Some (rows.ReadLog v)) x (kinds_apart is_data (head_key x) k refl refl))) (items_answered d known locked unlocked id q r a is one out s inside o touch was lives x (content_of m x) (h.items x));
-    shadows = λ t x. subst (ShadowMatches d after t x) (sym (shadow_apart m k (Some (rows.ReadLog v)) t x (kinds_apart is_shadow (shadow_key t x) k refl refl))) (shadow_kept d known locked unlocked id q r a is one out t x (shadow_of m t x) (no_note t x) (h.shadows t x));
-    txs = λ x. subst (λ (c : Content). TxsMatch d after unlocked x c.owner) (sym (content_apart m k (Some (rows.ReadLog v)) x (kinds_apart is_data (head_key x) k refl refl))) (txs_answered d known locked unlocked id q r a is one out s inside o touch was lives x (content_of m x).owner (h.txs x));
-  }
-    where
-      read_here : owed_read d after q.func here ≡ Some v
-      read_here = read_one d known id q r a is one (length q.answers) v added q.func here ∙ ap (λ c. if c then (if q.func == q.func then Some v else None) else owed_read d known q.func here) (place_self here) ∙ ap (λ c. if c then Some v else None) (eq-eqb q.func q.func refl)
-
-      read_apart : (l : RowKey) (b : Place) → l.kind ≡ kinds.ReadLog b → is_eq (key_cmp l (log_key q.func here)) ≡ false → owed_read d after l.home b ≡ owed_read d known l.home b
-      read_apart l b kind other = read_elsewhere d known locked unlocked id q r a is one out (length q.answers) v added l.home b (subst (λ (z : Kind). is_eq (key_cmp (record { home = l.home; kind = z }) (log_key q.func here)) ≡ false) kind other)
+  read_answered v added was lives no_note = let k = log_key q.func here in
+      log_set d after unlocked m k (Some (rows.ReadLog v)) refl (subst (λ z. z ≡ Some v) (sym (read_here d known id q r a is one (length q.answers) v added)) refl)
+      (λ l other. row_answered l (λ b kind. read_elsewhere d known locked unlocked id q r a is one out (length q.answers) v added l.home b (subst (λ (z : Kind). is_eq (key_cmp (record { home = l.home; kind = z }) k) ≡ false) kind other)) (h.keys l))
+      (λ x. items_answered d known locked unlocked id q r a is one out s inside o touch was lives x (content_of m x) (h.items x)) (λ t x. shadow_kept d known locked unlocked id q r a is one out t x (shadow_of m t x) (no_note t x) (h.shadows t x))
+      (λ x. txs_answered d known locked unlocked id q r a is one out s inside o touch was lives x (content_of m x).owner (h.txs x))
 
   -- WriteCell Did, CondCell Tested, of the shadow: a write is answered, its lock being ahead
   pub write_answered : (v : Option Row) (w : Note) → CellMatches 0 v → row_added (length q.answers) (txs_after d q q.answers).begun (effect_of d q) a ≡ None → locked id ≡ true → is_aborted a ≡ false
@@ -161,13 +173,7 @@ module _ (d : Deployment) (known : Known) (locked unlocked : IntentId → Bool) 
   pub lock_died : (v : Option Row) (holder : IntentId) → CellMatches 0 v → row_added (length q.answers) (txs_after d q q.answers).begun (effect_of d q) a ≡ None → a ≡ answer.Aborted (record { place = here; holder = Some holder }) → locked id ≡ false
       → ((t : TxId) (x : Item) → shadow_by t x q.func (tx_now d id q) (effect_of d q) a ≡ None) → note_at (content_of m own).notes here ≡ None → content_in v ≡ with_note (content_of m own) here (notes.Died holder)
       → Matches d (set_row m (head_key own) v) after unlocked
-  lock_died v holder fits added dies was no_note none same = let k = head_key own in record {
-    keys = keys_set m k v (λ l z. RowMatches d after l.home l.kind z) fits (λ l other. row_answered l (λ b kind. read_none d known id q r a is one added l.home b) (h.keys l));
-    items = λ x. by_item own x (λ x. ItemMatches d after unlocked x (content_of (set_row m k v) x))
-        (subst (ItemMatches d after unlocked own) (sym (content_here m v own ∙ same)) (item_died d known locked unlocked id q r a is one out s inside o touch holder dies was (content_of m own) none (h.items own)))
-        (λ other. subst (ItemMatches d after unlocked x) (sym (content_apart m k v x (turned own x other))) (item_kept d known locked unlocked id q r a is one out s inside o touch holder dies was x (content_of m x) other (h.items x)));
-    shadows = λ t x. subst (ShadowMatches d after t x) (sym (shadow_apart m k v t x (kinds_apart is_shadow (shadow_key t x) k refl refl))) (shadow_kept d known locked unlocked id q r a is one out t x (shadow_of m t x) (no_note t x) (h.shadows t x));
-    txs = λ x. by_item own x (λ x. TxsMatch d after unlocked x (content_of (set_row m k v) x).owner)
-        (subst (λ (c : Content). TxsMatch d after unlocked own c.owner) (sym (content_here m v own ∙ same)) (txs_died d known locked unlocked id q r a is one out s inside o touch holder dies was own (content_of m own).owner (h.txs own)))
-        (λ other. subst (λ (c : Content). TxsMatch d after unlocked x c.owner) (sym (content_apart m k v x (turned own x other))) (txs_died d known locked unlocked id q r a is one out s inside o touch holder dies was x (content_of m x).owner (h.txs x)));
-  }
+  lock_died v holder fits added dies was no_note none same = head_set d after unlocked m own v _ same fits (λ l. row_answered l (λ b kind. read_none d known id q r a is one added l.home b) (h.keys l))
+      (item_died d known locked unlocked id q r a is one out s inside o touch holder dies was (content_of m own) none (h.items own)) (λ x other. item_kept d known locked unlocked id q r a is one out s inside o touch holder dies was x (content_of m x) other (h.items x))
+      (λ t x. shadow_kept d known locked unlocked id q r a is one out t x (shadow_of m t x) (no_note t x) (h.shadows t x)) (txs_died d known locked unlocked id q r a is one out s inside o touch holder dies was own (content_of m own).owner (h.txs own))
+      (λ x other. txs_died d known locked unlocked id q r a is one out s inside o touch holder dies was x (content_of m x).owner (h.txs x))

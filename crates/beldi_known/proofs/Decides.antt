@@ -1,15 +1,15 @@
 -- The decision: its row is added, at the step of Begin. No item owes more, and no owner changes.
-use Rattle.beldi_known.proofs.Names.{Answer, AnswersOne, Bool, CallMatches, Content, Deployment, Instance, Intent, IntentId, Item, ItemMatches, Kind, Known, LockedOut, LocksetMatches, LogMatches, Matches, None, Option, Outcome, Place, Row, RowMatches, Rows, ShadowMatches, Some, TxId, TxsMatch, ahead_by, and_right, ap, asks_lock, begins_at, commit_in, content_of, effect_after, effect_of, end_of, ended_at, ended_by, eq-eqb, eqb-true, false, got_before, got_by, head_key, held_if, holds, id_cmp, if◌then◌else◌, is_aborted, is_at, is_decided, is_eq, is_item, is_mark, is_none, is_on, is_open, is_owner, is_some, is_tx, key_cmp, last_step, length, lockset_ahead, log_key, none_by, not, note_by, note_or, op_of, or_from, or_left, or_parts, owed_lockset, owed_note, owed_read, place_eq, place_of, place_same, place_self, refl, row_added, set_row, shadow_by, shadow_key, shadow_of, subst, sym, touched, true, tx_after, tx_end, tx_now, txs_after, txs_by, ℕ, ◌&&◌, ◌==◌, ◌||◌, ◌∙◌, ◌≡◌}
+use Rattle.beldi_known.proofs.Names.{Answer, AnswersOne, Bool, CallMatches, Content, Deployment, Instance, Intent, IntentId, Item, ItemMatches, Kind, Known, LockedOut, LocksetMatches, LogMatches, Matches, None, Option, Outcome, Place, Row, RowMatches, Rows, ShadowMatches, Some, TxId, TxsMatch, ahead_by, and_right, ap, asks_lock, begins_at, commit_in, content_of, effect_after, effect_of, end_of, ended_at, ended_by, eq-eqb, eqb-true, false, got_before, got_by, head_key, held_if, holds, id_cmp, if◌then◌else◌, is_aborted, is_at, is_decided, is_eq, is_item, is_mark, is_none, is_on, is_open, is_owner, is_some, is_tx, key_cmp, last_step, length, lockset_ahead, log_key, none_by, not, note_by, note_or, op_of, or_from, or_left, or_parts, owed_lockset, owed_note, owed_read, place_eq, place_of, place_same, place_self, refl, row_added, set_row, shadow_by, shadow_key, shadow_of, subst, sym, touched, true, tx_after, tx_end, tx_now, txs_after, txs_by, ℕ, ◌&&◌, ◌==◌, ◌||◌, ◌∙◌, ◌≡◌, arith}
 use Rattle.beldi_known.proofs.Names.effect
 use Rattle.beldi_known.proofs.Names.kinds
 use Rattle.beldi_known.proofs.Names.map
 use Rattle.beldi_known.proofs.Names.rows
 use Rattle.beldi_known.proofs.Names.value
-use Rattle.beldi_known.proofs.Rows.{keys_set}
 use Rattle.beldi_known.proofs.Frame.{step_next, no_note, no_shadow, or_false}
-use Rattle.beldi_known.proofs.FrameAt.{known_set, read_one, holds_one, note_one, got_one, lockset_one, calls_same}
-use Rattle.beldi_known.proofs.Fronts.{intents_same, shadow_kept, read_elsewhere, tx_end_stays}
-use Rattle.beldi_known.proofs.Acts.{kinds_apart, is_data, is_shadow, content_apart, shadow_apart}
+use Rattle.beldi_known.proofs.FrameAt.{known_set, read_here, holds_one, note_same, got_one, lockset_one, item_alike, txs_alike, lockset_by}
+use Rattle.beldi_known.proofs.Fronts.{row_by, shadow_kept, read_elsewhere, tx_end_stays}
+use Rattle.beldi_known.proofs.Acts.{log_set}
+use Rattle.beldi_known.proofs.Cases.{by_cases, if_is}
 
 module _ (d : Deployment) (known : Known) (locked : IntentId → Bool) (id : IntentId) (q r : Instance) (a : Answer) (is : map.get known id ≡ Some q) (one : AnswersOne d id q a r) (unlocked : locked id ≡ false)
     (c : Bool) (ends : effect_of d q ≡ effect.End c) (b : ℕ) (begun : (txs_after d q q.answers).begun ≡ Some b)
@@ -35,19 +35,7 @@ module _ (d : Deployment) (known : Known) (locked : IntentId → Bool) (id : Int
 
   -- no item owes more
   notes_same : (x : Item) (y : Place) → owed_note d x y.intent (locked y.intent) y.step (map.get after y.intent) ≡ owed_note d x y.intent (locked y.intent) y.step (map.get known y.intent)
-  notes_same x y = note_one d known id q r a is one locked locked out x y ∙ (elim (place_eq p y) as (λ u. place_eq p y ≡ u → (if u then note_by x q.func (tx_now d id q) (effect_of d q) a else owed_note d x y.intent (locked y.intent) y.step (map.get known y.intent))
-      ≡ owed_note d x y.intent (locked y.intent) y.step (map.get known y.intent)) [
-        | true ↦ λ e. subst (λ (z : Place). note_by x q.func (tx_now d id q) (effect_of d q) a ≡ owed_note d x z.intent (locked z.intent) z.step (map.get known z.intent)) (place_same p y e)
-            (no_note_here x ∙ sym (ap (owed_note d x id (locked id) (length q.answers)) is ∙ ap (λ z. note_or z (if length q.answers == length q.answers then ahead_by x q.func (tx_now d id q) (effect_of d q) (locked id) else None))
-            (step_next (λ ts u. note_by x q.func (tx_after d id q ts) (effect_after d q ts) u) q.answers) ∙ by_bool (length q.answers == length q.answers) (tx_now d id q) (locked id) unlocked))
-        | false ↦ λ e. refl
-      ] refl)
-    where
-      by_bool : (u : Bool) (t : Option TxId) (v : Bool) → v ≡ false → note_or None (if u then ahead_by x q.func t (effect_of d q) v else None) ≡ None
-      by_bool true None v h = refl
-      by_bool true (Some t) true h = cc
-      by_bool true (Some t) false h = refl
-      by_bool false t v h = refl
+  notes_same x y = note_same d known id q r a is one locked locked out x (no_note_here x) unlocked y
 
   -- nothing more is got
   got_same : (t : TxId) (x : Item) (j : IntentId) → got_by d t x j (locked j) (map.get after j) ≡ got_by d t x j (locked j) (map.get known j)
@@ -74,19 +62,14 @@ module _ (d : Deployment) (known : Known) (locked : IntentId → Bool) (id : Int
       (λ j other. elsewhere (map.get known j)) y.intent
     where
       and_stays : (t w : Option TxId) → t ≡ w → (v : Bool) → (is_decided d after t && v) ≡ false → (is_decided d known w && v) ≡ false
-      and_stays t w same false g = and_right (is_decided d known w) false refl
-      and_stays t w same true g = ap (λ z. z && true) (ap (is_decided d known) (sym same) ∙ decided_stays t (and_only (is_decided d after t) g))
+      and_stays t w same v = fewer (is_decided d after t) (is_decided d known w) v (λ e. ap (is_decided d known) (sym same) ∙ decided_stays t e)
         where
-          and_only : (u : Bool) → (u && true) ≡ false → u ≡ false
-          and_only true k = k
-          and_only false k = refl
+          fewer : (b c v : Bool) → (b ≡ false → c ≡ false) → (b && v) ≡ false → (c && v) ≡ false
+          fewer b c v f g = grind arith
 
       at_end : (k : ℕ) → is_some (ended_at d r k) ≡ false → is_some (ended_at d q k) ≡ false
-      at_end k h = by_step (k == length q.answers) refl (sym (ap is_some (one.marks k)) ∙ h)
-        where
-          by_step : (u : Bool) → (k == length q.answers) ≡ u → is_some (if u then commit_in (effect_of d q) else ended_at d q k) ≡ false → is_some (ended_at d q k) ≡ false
-          by_step true e g = ap is_some (subst (λ n. ended_at d q n ≡ None) (sym (eqb-true k (length q.answers) e)) (step_next (λ ts u. commit_in (effect_after d q ts)) q.answers))
-          by_step false e g = g
+      at_end k h = by_cases (k == length q.answers) (λ e. ap is_some (subst (λ n. ended_at d q n ≡ None) (sym (eqb-true k (length q.answers) e)) (step_next (λ ts u. commit_in (effect_after d q ts)) q.answers)))
+          (λ e. sym (ap is_some (one.marks k) ∙ ap (λ u. is_some (if u then commit_in (effect_of d q) else ended_at d q k)) e) ∙ h)
 
       elsewhere : (o : Option Instance) → is_mark d after y.step o ≡ false → is_mark d known y.step o ≡ false
       elsewhere None h = refl
@@ -97,12 +80,8 @@ module _ (d : Deployment) (known : Known) (locked : IntentId → Bool) (id : Int
   tx_end_apart : (t : TxId) → (t.intent ≡ id → t.begin ≡ b → ⊥) → tx_end d after t ≡ tx_end d known t
   tx_end_apart t apart = known_set known id r (λ j o. t.intent ≡ j → ended_by d t.begin o ≡ ended_by d t.begin (map.get known j))
       (λ own. one.ends t.begin ∙ ap (λ e. (txs_by (length q.answers) e (txs_after d q q.answers)).ends t.begin) ends
-      ∙ ap (λ o. if is_at t.begin o then Some (length q.answers, c) else end_of d q t.begin) begun ∙ by_test own (t.begin == b) refl ∙ ap (ended_by d t.begin) (sym is))
+      ∙ ap (λ o. if is_at t.begin o then Some (length q.answers, c) else end_of d q t.begin) begun ∙ if_is (t.begin == b) (λ e. absurd (apart own (eqb-true t.begin b e))) (λ e. refl) ∙ ap (ended_by d t.begin) (sym is))
       (λ j other own. refl) t.intent refl
-    where
-      by_test : t.intent ≡ id → (u : Bool) → (t.begin == b) ≡ u → (if u then Some (length q.answers, c) else end_of d q t.begin) ≡ end_of d q t.begin
-      by_test own true e = absurd (apart own (eqb-true t.begin b e))
-      by_test own false e = refl
 
   -- a lockset row that is ahead is of another transaction
   owed_same : (f : ℕ) (x : Item) (j : IntentId) → owed_lockset d f x j (map.get after j) ≡ owed_lockset d f x j (map.get known j)
@@ -123,41 +102,19 @@ module _ (d : Deployment) (known : Known) (locked : IntentId → Bool) (id : Int
 
   locksets_same : (f : ℕ) (x : Item) (j : IntentId) (row : Option Row) → LocksetMatches row (owed_lockset d f x j (map.get known j)) (lockset_ahead d known f x j (map.get known j))
       → LocksetMatches row (owed_lockset d f x j (map.get after j)) (lockset_ahead d after f x j (map.get after j))
-  locksets_same f x j None g = owed_same f x j ∙ g
-  locksets_same f x j (Some rows.Lockset) g = ap (λ u. u || lockset_ahead d after f x j (map.get after j)) (owed_same f x j) ∙ known_set known id r (λ i o. (owed_lockset d f x i (map.get known i) || lockset_ahead d known f x i (map.get known i)) ≡ true → (owed_lockset d f x i (map.get known i) || lockset_ahead d after f x i o) ≡ true)
+  locksets_same f x j row = lockset_by d known after locked locked x f j row (λ e g. owed_same f x j ∙ g) (λ e g. ap (λ u. u || lockset_ahead d after f x j (map.get after j)) (owed_same f x j)
+      ∙ known_set known id r (λ i o. (owed_lockset d f x i (map.get known i) || lockset_ahead d known f x i (map.get known i)) ≡ true → (owed_lockset d f x i (map.get known i) || lockset_ahead d after f x i o) ≡ true)
       (λ k. or_left (owed_lockset d f x id (map.get known id)) (lockset_ahead d after f x id (Some r)) (sym (ap (λ o. owed_lockset d f x id (map.get known id) || lockset_ahead d known f x id o) is ∙ or_false (owed_lockset d f x id (map.get known id)) (lockset_ahead d known f x id (Some q)) not_ahead) ∙ k))
-      (λ i other k. ap (λ u. owed_lockset d f x i (map.get known i) || u) (ahead_apart f x i other (map.get known i) refl) ∙ k) j g
+      (λ i other k. ap (λ u. owed_lockset d f x i (map.get known i) || u) (ahead_apart f x i other (map.get known i) refl) ∙ k) j g)
     where
       not_ahead : lockset_ahead d known f x id (Some q) ≡ false
       not_ahead = ap (λ e. is_none q.outcome && (is_open d known (tx_now d id q) && (begins_at f (tx_now d id q) && is_item x q.func (touched e)))) ends ∙ and_right (is_none q.outcome) _ (and_right (is_open d known (tx_now d id q)) _ (and_right (begins_at f (tx_now d id q)) false refl))
-  locksets_same f x j (Some (rows.Intent i)) g = g
-  locksets_same f x j (Some (rows.ReadLog i)) g = g
-  locksets_same f x j (Some (rows.Invoke i)) g = g
-  locksets_same f x j (Some (rows.Cell i)) g = g
 
   pub decided : (m : Rows) → Matches d m known locked → Matches d (set_row m (log_key q.func (place_of id b)) (Some (rows.ReadLog (value.Bool c)))) after locked
-  decided m h = let k = log_key q.func (place_of id b) in let v : Option Row = Some (rows.ReadLog (value.Bool c)) in record {
-    keys = keys_set m k v (λ l z. RowMatches d after l.home l.kind z) (subst (λ z. z ≡ Some (value.Bool c)) (sym here) refl) (λ l other. by_kind m l.home l.kind other (h.keys l));
-    items = λ x. subst (ItemMatches d after locked x) (sym (content_apart m k v x (kinds_apart is_data (head_key x) k refl refl))) (record {
-      owner = holds_one d known id q r a is one x (λ j u. is_owner (content_of m x).owner (Intent j) ≡ u) ((h.items x).owner id ∙ sym (ap (λ e. held_if x q.func (op_of e) (holds d x (map.get known id))) ends)) (λ j other. (h.items x).owner j);
-      notes = λ y apart. (h.items x).notes y (marks_stay y apart) ∙ sym (notes_same x y);
-    });
-    shadows = λ t x. subst (ShadowMatches d after t x) (sym (shadow_apart m k v t x (kinds_apart is_shadow (shadow_key t x) k refl refl)))
-        (shadow_kept d known locked locked id q r a is one out t x (shadow_of m t x) (ap (λ e. shadow_by t x q.func (tx_now d id q) e a) ends ∙ no_shadow t x q.func (tx_now d id q) (effect.End c) a refl) (h.shadows t x));
-    txs = λ x. subst (λ (z : Content). TxsMatch d after locked x z.owner) (sym (content_apart m k v x (kinds_apart is_data (head_key x) k refl refl))) (record {
-      owned_is_got = λ t e. let g = (h.txs x).owned_is_got t e in record { member = g.member; got = got_same t x g.member ∙ g.got };
-      got_is_owned = λ t g open_still. (h.txs x).got_is_owned t (record { member = g.member; got = sym (got_same t x g.member) ∙ g.got }) (still_open t open_still);
-    });
-  }
-    where
-      here : owed_read d after q.func (place_of id b) ≡ Some (value.Bool c)
-      here = read_one d known id q r a is one b (value.Bool c) added q.func (place_of id b) ∙ ap (λ u. if u then (if q.func == q.func then Some (value.Bool c) else None) else owed_read d known q.func (place_of id b)) (place_self (place_of id b))
-          ∙ ap (λ u. if u then Some (value.Bool c) else None) (eq-eqb q.func q.func refl)
-
-      by_kind : (m : Rows) (home : ℕ) (kind : Kind) → is_eq (key_cmp (record { home = home; kind = kind }) (log_key q.func (place_of id b))) ≡ false → RowMatches d known home kind (map.get m (record { home = home; kind = kind }))
-          → RowMatches d after home kind (map.get m (record { home = home; kind = kind }))
-      by_kind m home (kinds.Intent j) other g = intents_same d known locked locked id q r a is one out home j (map.get m (record { home = home; kind = kinds.Intent j })) g
-      by_kind m home (kinds.Invoke y) other g = subst (CallMatches (map.get m (record { home = home; kind = kinds.Invoke y }))) (sym (calls_same d known id q r a is one home y)) g
-      by_kind m home (kinds.ReadLog y) other g = subst (LogMatches (map.get m (log_key home y))) (sym (read_elsewhere d known locked locked id q r a is one out b (value.Bool c) added home y other)) g
-      by_kind m home (kinds.Lockset j f t z) other g = locksets_same f (record { func = home; table = t; key = z }) j (map.get m (record { home = home; kind = kinds.Lockset j f t z })) g
-      by_kind m home kind other g = g
+  decided m h = let k = log_key q.func (place_of id b) in
+      log_set d after locked m k (Some (rows.ReadLog (value.Bool c))) refl (subst (λ z. z ≡ Some (value.Bool c)) (sym (read_here d known id q r a is one b (value.Bool c) added)) refl)
+      (λ l other. row_by d known locked locked id q r a is one out l.home l.kind (map.get m l) (λ y kind. read_elsewhere d known locked locked id q r a is one out b (value.Bool c) added l.home y (subst (λ (z : Kind). is_eq (key_cmp (record { home = l.home; kind = z }) k) ≡ false) kind other))
+      (λ j f t z kind. locksets_same f (record { func = l.home; table = t; key = z }) j (map.get m l)) (h.keys l))
+      (λ x. item_alike d known after locked locked x (holds_one d known id q r a is one x (λ j u. u ≡ holds d x (map.get known j)) (ap (λ e. held_if x q.func (op_of e) (holds d x (map.get known id))) ends) (λ j other. refl)) marks_stay (notes_same x) (content_of m x) (h.items x))
+      (λ t x. shadow_kept d known locked locked id q r a is one out t x (shadow_of m t x) (ap (λ e. shadow_by t x q.func (tx_now d id q) e a) ends ∙ no_shadow t x q.func (tx_now d id q) (effect.End c) a refl) (h.shadows t x))
+      (λ x. txs_alike d known after locked locked x (λ t. got_same t x) still_open (content_of m x).owner (h.txs x))

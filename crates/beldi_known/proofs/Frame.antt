@@ -4,6 +4,7 @@ use Rattle.beldi_known.proofs.Names.answer
 use Rattle.beldi_known.proofs.Names.effect
 use Rattle.beldi_known.proofs.Names.value
 use Rattle.beldi_known.proofs.Answers.{pushed_at, none_at_end}
+use Rattle.beldi_known.proofs.Cases.{if_is, if_same, by_cases}
 
 -- ---- folds and steps, with an answer more
 pub step_pushed : {X : Type 0} (f : List Answer → Answer → Option X) (xs : List Answer) (a : Answer) (n : ℕ) → at_step f (take n (xs ++ a ∷ [])) (slice_get (xs ++ a ∷ []) n) ≡ (if n == length xs then f xs a else at_step f (take n xs) (slice_get xs n))
@@ -15,10 +16,7 @@ step_next f xs = ap (at_step f (take (length xs) xs)) (none_at_end xs)
 
 -- an answer that owes nothing
 pub step_same : {X : Type 0} (f : List Answer → Answer → Option X) (xs : List Answer) (a : Answer) (n : ℕ) → f xs a ≡ None → at_step f (take n (xs ++ a ∷ [])) (slice_get (xs ++ a ∷ []) n) ≡ at_step f (take n xs) (slice_get xs n)
-step_same f xs a n none = step_pushed f xs a n ∙ (elim (n == length xs) as (λ b. (n == length xs) ≡ b → (if b then f xs a else at_step f (take n xs) (slice_get xs n)) ≡ at_step f (take n xs) (slice_get xs n)) [
-  | true ↦ λ e. none ∙ sym (subst (λ m. at_step f (take m xs) (slice_get xs m) ≡ None) (sym (eqb-true n (length xs) e)) (step_next f xs))
-  | false ↦ λ e. refl
-] refl)
+step_same f xs a n none = step_pushed f xs a n ∙ if_is (n == length xs) (λ e. none ∙ sym (subst (λ m. at_step f (take m xs) (slice_get xs m) ≡ None) (sym (eqb-true n (length xs) e)) (step_next f xs))) (λ e. refl)
 
 -- ---- what is open or ended is a Begin
 pub record Begins (d : Deployment) (q : Instance) (given : List Answer) (s : Txs) : Type 0 where
@@ -41,18 +39,11 @@ module _ (d : Deployment) (q : Instance) where
       begun = λ b g. let k : length given ≡ b = cc in subst (λ m. effect_after d q (take m (given ++ a ∷ [])) ≡ effect.Begin) k (ap (effect_after d q) (take-append_seam given (a ∷ [])) ∙ is);
       ended = kept_begins.ended;
     }
-    begins_by (effect.End c) is = record {
-      begun = λ b g. cc;
-      ended = λ b z g. by_open b z before.begun refl g;
-    }
+    begins_by (effect.End c) is = record { begun = λ b g. cc; ended = λ b z g. by_open b z before.begun refl g }
       where
         by_open : (b : ℕ) (z : ℕ × Bool) (o : Option ℕ) → before.begun ≡ o → (if is_at b o then Some (length given, c) else before.ends b) ≡ Some z → effect_after d q (take b (given ++ a ∷ [])) ≡ effect.Begin
         by_open b z None so g = kept_begins.ended b z g
-        by_open b z (Some m) so g = by_test (b == m) refl g
-          where
-            by_test : (t : Bool) → (b == m) ≡ t → (if t then Some (length given, c) else before.ends b) ≡ Some z → effect_after d q (take b (given ++ a ∷ [])) ≡ effect.Begin
-            by_test true e g = kept_begins.begun b (so ∙ sym (ap Some (eqb-true b m e)))
-            by_test false e g = kept_begins.ended b z g
+        by_open b z (Some m) so g = by_cases (b == m) (λ e. kept_begins.begun b (so ∙ sym (ap Some (eqb-true b m e)))) (λ e. kept_begins.ended b z (sym (ap (λ t. if t then Some (length given, c) else before.ends b) e) ∙ g))
     begins_by e is = kept_begins
 
     begins_more : Begins d q (given ++ a ∷ []) (txs_after d q (given ++ a ∷ []))
@@ -90,22 +81,15 @@ module _ (d : Deployment) (id : IntentId) (q : Instance) (a : Answer) where
       quiet none = ap (value_or (decision_by (s.ends m))) (read_same (ap (λ e. value_for e a) is ∙ none) m)
 
       by_answer : (b : Answer) → a ≡ b → value_or (decision_by (s.ends m)) (read_at d (answered q a) m) ≡ put (row_added n s.begun (effect.Read t k) b) m (row_at d q m)
-      by_answer (answer.Value v) same = ap (value_or (decision_by (s.ends m))) (read_more m) ∙ (elim (m == n) as (λ c. (m == n) ≡ c → value_or (decision_by (s.ends m)) (if c then value_for (effect_of d q) a else read_at d q m) ≡ (if c then Some v else row_at d q m)) [
-        | true ↦ λ e. ap (λ o. value_or (decision_by o) (value_for (effect_of d q) a)) ((fits d q).fresh m (let k = eqb-true m n e in omega (arith, k))) ∙ ap (λ e. value_for e a) is ∙ ap (value_for (effect.Read t k)) same
-        | false ↦ λ e. refl
-      ] refl)
-      by_answer answer.Done same = quiet (ap (value_for (effect.Read t k)) same)
-      by_answer (answer.Fault c) same = quiet (ap (value_for (effect.Read t k)) same)
-      by_answer (answer.Aborted c) same = quiet (ap (value_for (effect.Read t k)) same)
+      by_answer (answer.Value v) same = ap (value_or (decision_by (s.ends m))) (read_more m) ∙ by_cases (m == n)
+          (λ e. (λ i. value_or (decision_by ((fits d q).fresh m (let k = eqb-true m n e in omega (arith, k)) i)) (if e i then value_for (is i) (same i) else read_at d q m)) ∙ sym (ap (λ c. if c then Some v else row_at d q m) e))
+          (λ e. ap (λ c. value_or (decision_by (s.ends m)) (if c then value_for (effect_of d q) a else read_at d q m)) e ∙ sym (ap (λ c. if c then Some v else row_at d q m) e))
+      by_answer b same = quiet (ap (value_for (effect.Read t k)) same)
   rows_by (effect.End c) is m = ap (value_or (decision_by (if is_at m s.begun then Some (n, c) else s.ends m))) (read_same (ap (λ e. value_for e a) is) m) ∙ by_begun s.begun
     where
       by_begun : (o : Option ℕ) → value_or (decision_by (if is_at m o then Some (n, c) else s.ends m)) (read_at d q m) ≡ put (row_added n o (effect.End c) a) m (row_at d q m)
       by_begun None = refl
-      by_begun (Some b) = by_test (m == b)
-        where
-          by_test : (t : Bool) → value_or (decision_by (if t then Some (n, c) else s.ends m)) (read_at d q m) ≡ (if t then Some (value.Bool c) else row_at d q m)
-          by_test true = refl
-          by_test false = refl
+      by_begun (Some b) = elim (m == b) as (λ t. value_or (decision_by (if t then Some (n, c) else s.ends m)) (read_at d q m) ≡ (if t then Some (value.Bool c) else row_at d q m)) [ true ↦ refl | false ↦ refl ]
   rows_by effect.Begin is m = ap (value_or (decision_by (s.ends m))) (read_same (ap (λ e. value_for e a) is) m)
   rows_by e is m = ap (value_or (decision_by (s.ends m))) (read_same (ap (λ e. value_for e a) is) m)
 
@@ -173,11 +157,7 @@ no_note x f None e a h g = ap (λ o. note_of x f o a) h
 no_note x f (Some t) e a h g = ap (λ o. if is_item x f o then lock_note a else None) g
 
 pub no_shadow : (t : TxId) (x : Item) (f : ℕ) (s : Option TxId) (e : Effect) (a : Answer) → write_op e ≡ None → shadow_by t x f s e a ≡ None
-no_shadow t x f s e a h = ap (λ o. if is_tx t s then note_of x f o a else None) h ∙ by_test (is_tx t s)
-  where
-    by_test : (b : Bool) → (λ (o : Option Note). (if b then o else None)) None ≡ None
-    by_test true = refl
-    by_test false = refl
+no_shadow t x f s e a h = ap (λ o. if is_tx t s then note_of x f o a else None) h ∙ if_same (is_tx t s) None
 
 -- .. and ends no transaction
 quiet_same : (d : Deployment) (id : IntentId) (q : Instance) (a : Answer) (e : Effect) → effect_of d q ≡ e → op_of e ≡ None → touched e ≡ None → write_op e ≡ None

@@ -1,15 +1,38 @@
 -- What is owed at each key, after an instance was answered: it changes at that place alone.
-use Rattle.beldi_known.proofs.Names.{Answer, AnswersOne, Body, Bool, Deployment, Instance, IntentId, Item, Known, LockedOut, None, Note, Option, Place, Some, TxId, Value, ahead_by, ahead_note, answered_note, ap, asks_lock, called_by, child_of, cond, effect_after, effect_of, eq-eqb, eqb-true, false, get-insert, got_before, got_by, held_if, holds, id_cmp, id_same, id_total, if◌then◌else◌, is_aborted, is_eq, is_on, is_waited, length, not, note_by, note_or, op_of, owed_call, owed_lockset, owed_note, owed_read, owed_shadow, owed_value, place_eq, place_of, place_same, place_self, put, refl, row_added, row_at, shadow_by, subst, sym, tied_itself, true, tx_after, tx_now, txs_after, ℕ, ◌&&◌, ◌==◌, ◌||◌, ◌∙◌, ◌≡◌}
+use Rattle.beldi_known.proofs.Names.{Answer, AnswersOne, Body, Bool, Deployment, Instance, IntentId, Item, Known, LockedOut, None, Note, Option, Place, Some, TxId, Value, ahead_by, ahead_note, answered_note, ap, asks_lock, called_by, child_of, cond, effect_after, effect_of, eq-eqb, eqb-true, false, get-insert, got_before, got_by, held_if, holds, id_cmp, id_same, id_total, if◌then◌else◌, is_aborted, is_eq, is_on, is_waited, length, not, note_by, note_or, op_of, owed_call, owed_lockset, owed_note, owed_read, owed_shadow, owed_value, place_eq, place_of, place_same, place_self, put, refl, row_added, row_at, shadow_by, subst, sym, tied_itself, true, tx_after, tx_now, txs_after, ℕ, ◌&&◌, ◌==◌, ◌||◌, ◌∙◌, ◌≡◌, LocksetMatches, ItemMatches, TxsMatch, Row, Content, Owner, is_mark, tx_end, arith, lockset_ahead}
 use Rattle.beldi_known.proofs.Names.map
+use Rattle.beldi_known.proofs.Names.rows
 use Rattle.beldi_known.proofs.Instances.{calls_moved, same_caller, same_callee}
 use Rattle.beldi_known.proofs.Answers.{true_false}
 use Rattle.beldi_known.proofs.Frame.{step_next}
+use Rattle.beldi_known.proofs.Cases.{by_cases, if_is, if_same}
 
 pub known_set : (known : Known) (id : IntentId) (r : Instance) (P : IntentId → Option Instance → Type 0) → P id (Some r) → ((j : IntentId) → is_eq (id_cmp j id) ≡ false → P j (map.get known j)) → (j : IntentId) → P j (map.get (map.insert known id r) j)
 known_set known id r P here others j = subst (P j) (sym (get-insert id_total known id r j)) (elim (is_eq (id_cmp j id)) as (λ b. is_eq (id_cmp j id) ≡ b → P j (cond b (Some r) (map.get known j))) [
   | true ↦ λ e. subst (λ z. P z (Some r)) (sym (id_same j id e)) here
   | false ↦ λ e. others j e
 ] refl)
+
+-- ---- what is owed alike matches alike
+module _ (d : Deployment) (known after : Known) (locked unlocked : IntentId → Bool) (x : Item) where
+  pub item_alike : ((j : IntentId) → holds d x (map.get after j) ≡ holds d x (map.get known j)) → ((b : Place) → is_mark d after b.step (map.get after b.intent) ≡ false → is_mark d known b.step (map.get known b.intent) ≡ false)
+      → ((b : Place) → owed_note d x b.intent (unlocked b.intent) b.step (map.get after b.intent) ≡ owed_note d x b.intent (locked b.intent) b.step (map.get known b.intent)) → (c : Content) → ItemMatches d known locked x c → ItemMatches d after unlocked x c
+  item_alike held marks notes c h = record { owner = λ j. h.owner j ∙ sym (held j); notes = λ b apart. h.notes b (marks b apart) ∙ sym (notes b) }
+
+  -- a lockset row
+  pub lockset_by : (b : ℕ) (j : IntentId) (row : Option Row) → (row ≡ None → owed_lockset d b x j (map.get known j) ≡ false → owed_lockset d b x j (map.get after j) ≡ false)
+      → (row ≡ Some rows.Lockset → (owed_lockset d b x j (map.get known j) || lockset_ahead d known b x j (map.get known j)) ≡ true → (owed_lockset d b x j (map.get after j) || lockset_ahead d after b x j (map.get after j)) ≡ true)
+      → LocksetMatches row (owed_lockset d b x j (map.get known j)) (lockset_ahead d known b x j (map.get known j)) → LocksetMatches row (owed_lockset d b x j (map.get after j)) (lockset_ahead d after b x j (map.get after j))
+  lockset_by b j None none there h = none refl h
+  lockset_by b j (Some rows.Lockset) none there h = there refl h
+  lockset_by b j (Some r) none there h = h
+
+  -- who owns it, where what is open was open
+  pub txs_alike : ((t : TxId) (j : IntentId) → got_by d t x j (unlocked j) (map.get after j) ≡ got_by d t x j (locked j) (map.get known j)) → ((t : TxId) → tx_end d after t ≡ None → tx_end d known t ≡ None) → (o : Option Owner) → TxsMatch d known locked x o → TxsMatch d after unlocked x o
+  txs_alike got ends o h = record {
+    owned_is_got = λ t e. let g = h.owned_is_got t e in record { member = g.member; got = got t g.member ∙ g.got };
+    got_is_owned = λ t g open_still. h.got_is_owned t (record { member = g.member; got = sym (got t g.member) ∙ g.got }) (ends t open_still);
+  }
 
 -- ---- a table by places, of which an instance changed one step
 module _ {X : Type 0} (known : Known) (id : IntentId) (q r : Instance) (is : map.get known id ≡ Some q) (F G : IntentId → ℕ → Option Instance → X)
@@ -19,29 +42,20 @@ module _ {X : Type 0} (known : Known) (id : IntentId) (q r : Instance) (is : map
 
   pub one_place : (n : ℕ) (v : X) → ((m : ℕ) → G id m (Some r) ≡ (if m == n then v else F id m (Some q))) → (b : Place) → G b.intent b.step (map.get (map.insert known id r) b.intent) ≡ (if place_eq (place_of id n) b then v else F b.intent b.step (map.get known b.intent))
   one_place n v here b = known_set known id r (λ j o. G j b.step o ≡ (if place_eq (place_of id n) (place_of j b.step) then v else F j b.step (map.get known j)))
-      (here b.step ∙ (elim (b.step == n) as (λ c. (b.step == n) ≡ c → (if c then v else F id b.step (Some q)) ≡ (if place_eq (place_of id n) (place_of id b.step) then v else F id b.step (map.get known id))) [
-        | true ↦ λ e. ap (λ c. if c then v else F id b.step (map.get known id)) (sym (subst (λ m. place_eq (place_of id n) (place_of id m) ≡ true) (sym (eqb-true b.step n e)) (place_self (place_of id n))))
-        | false ↦ λ e. by_place e (place_eq (place_of id n) (place_of id b.step)) refl
-      ] refl))
-      (λ j other. others j other b.step (map.get known j) ∙ elsewhere j other (place_eq (place_of id n) (place_of j b.step)) refl)
+      (here b.step ∙ if_is (b.step == n)
+      (λ e. ap (λ c. if c then v else F id b.step (map.get known id)) (sym (subst (λ m. place_eq (place_of id n) (place_of id m) ≡ true) (sym (eqb-true b.step n e)) (place_self (place_of id n)))))
+      (λ e. sym (if_is (place_eq (place_of id n) (place_of id b.step)) (λ g. absurd (true_false (sym (eq-eqb b.step n (sym (ap (λ (z : Place). z.step) (place_same (place_of id n) (place_of id b.step) g)))) ∙ e))) (λ g. ap (F id b.step) is))))
+      (λ j other. others j other b.step (map.get known j) ∙ sym (if_is (place_eq (place_of id n) (place_of j b.step))
+      (λ g. let same : id ≡ j = ap (λ (z : Place). z.intent) (place_same (place_of id n) (place_of j b.step) g) in absurd (true_false (sym (ap is_eq (tied_itself id_total id)) ∙ ap (λ z. is_eq (id_cmp z id)) same ∙ other))) (λ g. refl)))
       b.intent
-    where
-      by_place : (b.step == n) ≡ false → (c : Bool) → place_eq (place_of id n) (place_of id b.step) ≡ c → F id b.step (Some q) ≡ (if c then v else F id b.step (map.get known id))
-      by_place e true g = absurd (true_false (sym (eq-eqb b.step n (sym (ap (λ (z : Place). z.step) (place_same (place_of id n) (place_of id b.step) g)))) ∙ e))
-      by_place e false g = ap (F id b.step) (sym is)
-
-      elsewhere : (j : IntentId) → is_eq (id_cmp j id) ≡ false → (c : Bool) → place_eq (place_of id n) (place_of j b.step) ≡ c → F j b.step (map.get known j) ≡ (if c then v else F j b.step (map.get known j))
-      elsewhere j other true g = let same : id ≡ j = ap (λ (z : Place). z.intent) (place_same (place_of id n) (place_of j b.step) g) in absurd (true_false (sym (ap is_eq (tied_itself id_total id)) ∙ ap (λ z. is_eq (id_cmp z id)) same ∙ other))
-      elsewhere j other false g = refl
 
 -- ---- an instance was answered
 pub not_ahead : (d : Deployment) (x : Item) (id : IntentId) (n : ℕ) (q : Instance) → ahead_note d x id false n q ≡ None
 not_ahead d x id n q = by_tx (tx_now d id q) (n == length q.answers)
   where
     by_tx : (t : Option TxId) (b : Bool) → (if b then ahead_by x q.func t (effect_of d q) false else None) ≡ None
-    by_tx None true = refl
-    by_tx (Some t) true = refl
-    by_tx t false = refl
+    by_tx None b = if_same b None
+    by_tx (Some t) b = if_same b None
 
 pub or_no : (b : Bool) → (b || false) ≡ b
 or_no true = refl
@@ -66,13 +80,13 @@ module _ (d : Deployment) (known : Known) (id : IntentId) (q r : Instance) (a : 
   pub read_one : (m : ℕ) (v : Value) → row_added n (txs_after d q q.answers).begun (effect_of d q) a ≡ Some (m, v) → (f : ℕ) (b : Place)
       → owed_read d after f b ≡ (if place_eq (place_of id m) b then (if q.func == f then Some v else None) else owed_read d known f b)
   read_one m v some f b = one_place known id q r is (λ j k o. owed_value d f k o) (λ j k o. owed_value d f k o) (λ j other k o. refl) m (if q.func == f then Some v else None)
-      (λ k. ap (λ z. if z == f then row_at d r k else None) h.func ∙ ap (λ z. if q.func == f then z else None) (h.rows k ∙ ap (λ z. put z k (row_at d q k)) some) ∙ by_test k (q.func == f) (k == m)) b
+      (λ k. ap (λ z. if z == f then row_at d r k else None) h.func ∙ ap (λ z. if q.func == f then z else None) (h.rows k ∙ ap (λ z. put z k (row_at d q k)) some) ∙ by_test (q.func == f) (k == m) (row_at d q k)) b
     where
-      by_test : (k : ℕ) (b c : Bool) → (if b then (if c then Some v else row_at d q k) else None) ≡ (if c then (if b then Some v else None) else (if b then row_at d q k else None))
-      by_test k true true = refl
-      by_test k true false = refl
-      by_test k false true = refl
-      by_test k false false = refl
+      by_test : (b c : Bool) (o : Option Value) → (if b then (if c then Some v else o) else None) ≡ (if c then (if b then Some v else None) else (if b then o else None))
+      by_test b c o = grind arith
+
+  pub read_here : (m : ℕ) (v : Value) → row_added n (txs_after d q q.answers).begun (effect_of d q) a ≡ Some (m, v) → owed_read d after q.func (place_of id m) ≡ Some v
+  read_here m v some = read_one m v some q.func (place_of id m) ∙ ap (λ c. if c then (if q.func == q.func then Some v else None) else owed_read d known q.func (place_of id m)) (place_self (place_of id m)) ∙ ap (λ c. if c then Some v else None) (eq-eqb q.func q.func refl)
 
   -- the notes of a shadow
   pub shadow_one : (t : TxId) (x : Item) (b : Place) → owed_shadow d t x b.intent b.step (map.get after b.intent) ≡ (if place_eq (place_of id n) b then shadow_by t x q.func (tx_now d id q) (effect_of d q) a else owed_shadow d t x b.intent b.step (map.get known b.intent))
@@ -82,11 +96,7 @@ module _ (d : Deployment) (known : Known) (id : IntentId) (q r : Instance) (a : 
   pub lockset_one : (b : ℕ) (x : Item) (j : IntentId) → owed_lockset d b x j (map.get after j) ≡ (owed_lockset d b x j (map.get known j) || (is_eq (id_cmp j id) && asks_lock b x q.func (tx_now d id q) (effect_of d q)))
   lockset_one b x j = known_set known id r (λ j o. owed_lockset d b x j o ≡ (owed_lockset d b x j (map.get known j) || (is_eq (id_cmp j id) && asks_lock b x q.func (tx_now d id q) (effect_of d q))))
       (h.locksets b x ∙ ap (λ o. owed_lockset d b x id o || asks_lock b x q.func (tx_now d id q) (effect_of d q)) (sym is) ∙ ap (λ c. owed_lockset d b x id (map.get known id) || (is_eq c && asks_lock b x q.func (tx_now d id q) (effect_of d q))) (sym (tied_itself id_total id)))
-      (λ j other. by_bool (owed_lockset d b x j (map.get known j)) ∙ ap (λ c. owed_lockset d b x j (map.get known j) || (c && asks_lock b x q.func (tx_now d id q) (effect_of d q))) (sym other)) j
-    where
-      by_bool : (c : Bool) → c ≡ (c || false)
-      by_bool true = refl
-      by_bool false = refl
+      (λ j other. sym (or_no (owed_lockset d b x j (map.get known j))) ∙ ap (λ c. owed_lockset d b x j (map.get known j) || (c && asks_lock b x q.func (tx_now d id q) (effect_of d q))) (sym other)) j
 
   -- who holds an item's own lock
   pub holds_one : (x : Item) (P : IntentId → Bool → Type 0) → P id (held_if x q.func (op_of (effect_of d q)) (holds d x (map.get known id))) → ((j : IntentId) → is_eq (id_cmp j id) ≡ false → P j (holds d x (map.get known j))) → (j : IntentId) → P j (holds d x (map.get after j))
@@ -103,13 +113,10 @@ module _ (d : Deployment) (known : Known) (id : IntentId) (q r : Instance) (a : 
     pub note_one : (x : Item) (b : Place) → owed_note d x b.intent (unlocked b.intent) b.step (map.get after b.intent)
         ≡ (if place_eq (place_of id n) b then note_by x q.func (tx_now d id q) (effect_of d q) a else owed_note d x b.intent (locked b.intent) b.step (map.get known b.intent))
     note_one x b = one_place known id q r is (λ j m o. owed_note d x j (locked j) m o) (λ j m o. owed_note d x j (unlocked j) m o) (λ j other m o. ap (λ c. owed_note d x j c m o) (out.others j other)) n (note_by x q.func (tx_now d id q) (effect_of d q) a)
-        (λ m. ap (λ c. note_or (answered_note d x id m r) (ahead_note d x id c m r)) out.out ∙ ap (note_or (answered_note d x id m r)) (not_ahead d x id m r) ∙ or_none (answered_note d x id m r) ∙ h.notes x m ∙ by_step m (m == n) refl) b
-      where
+        (λ m. ap (λ c. note_or (answered_note d x id m r) (ahead_note d x id c m r)) out.out ∙ ap (note_or (answered_note d x id m r)) (not_ahead d x id m r) ∙ or_none (answered_note d x id m r) ∙ h.notes x m
+        ∙ by_cases (m == n) (λ e. ap (λ c. if c then note_by x q.func (tx_now d id q) (effect_of d q) a else answered_note d x id m q) e ∙ sym (ap (λ c. if c then note_by x q.func (tx_now d id q) (effect_of d q) a else owed_note d x id (locked id) m (Some q)) e))
         -- no other step has a note ahead
-        by_step : (m : ℕ) (c : Bool) → (m == n) ≡ c → (if c then note_by x q.func (tx_now d id q) (effect_of d q) a else answered_note d x id m q)
-            ≡ (if c then note_by x q.func (tx_now d id q) (effect_of d q) a else note_or (answered_note d x id m q) (ahead_note d x id (locked id) m q))
-        by_step m true e = refl
-        by_step m false e = sym (ap (λ c. note_or (answered_note d x id m q) (if c then ahead_by x q.func (tx_now d id q) (effect_of d q) (locked id) else None)) e ∙ or_none (answered_note d x id m q))
+        (λ e. ap (λ c. if c then note_by x q.func (tx_now d id q) (effect_of d q) a else answered_note d x id m q) e ∙ sym (ap (λ c. if c then note_by x q.func (tx_now d id q) (effect_of d q) a else note_or (answered_note d x id m q) (if c then ahead_by x q.func (tx_now d id q) (effect_of d q) (locked id) else None)) e ∙ or_none (answered_note d x id m q)))) b
 
     -- nothing is owed at the next step, where no lock is ahead; so an answer that owes no note leaves all as they are
     nothing_yet : (x : Item) → locked id ≡ false → owed_note d x id (locked id) n (map.get known id) ≡ None
@@ -117,11 +124,8 @@ module _ (d : Deployment) (known : Known) (id : IntentId) (q r : Instance) (a : 
         ∙ or_none (answered_note d x id n q) ∙ step_next (λ ts c. note_by x q.func (tx_after d id q ts) (effect_after d q ts) c) q.answers
 
     pub note_same : (x : Item) → note_by x q.func (tx_now d id q) (effect_of d q) a ≡ None → locked id ≡ false → (b : Place) → owed_note d x b.intent (unlocked b.intent) b.step (map.get after b.intent) ≡ owed_note d x b.intent (locked b.intent) b.step (map.get known b.intent)
-    note_same x none was b = note_one x b ∙ (elim (place_eq (place_of id n) b) as (λ c. place_eq (place_of id n) b ≡ c → (if c then note_by x q.func (tx_now d id q) (effect_of d q) a else owed_note d x b.intent (locked b.intent) b.step (map.get known b.intent))
-        ≡ owed_note d x b.intent (locked b.intent) b.step (map.get known b.intent)) [
-          | true ↦ λ e. subst (λ (z : Place). note_by x q.func (tx_now d id q) (effect_of d q) a ≡ owed_note d x z.intent (locked z.intent) z.step (map.get known z.intent)) (place_same (place_of id n) b e) (none ∙ sym (nothing_yet x was))
-          | false ↦ λ e. refl
-        ] refl)
+    note_same x none was b = note_one x b ∙ if_is (place_eq (place_of id n) b)
+        (λ e. subst (λ (z : Place). note_by x q.func (tx_now d id q) (effect_of d q) a ≡ owed_note d x z.intent (locked z.intent) z.step (map.get known z.intent)) (place_same (place_of id n) b e) (none ∙ sym (nothing_yet x was))) (λ e. refl)
 
     -- what a transaction has got
     pub got_one : (t : TxId) (x : Item) (P : IntentId → Bool → Type 0) → P id (got_before d t x id q || (is_on t x q.func (tx_now d id q) (effect_of d q) && not (is_aborted a)))
@@ -136,7 +140,4 @@ module _ (d : Deployment) (known : Known) (id : IntentId) (q r : Instance) (a : 
         (ap (λ b. got_before d t x id q || b) (turn (is_on t x q.func (tx_now d id q) (effect_of d q)) (not (is_aborted a)) ∙ ap (λ b. b && is_on t x q.func (tx_now d id q) (effect_of d q)) (sym same)) ∙ ap (got_by d t x id (locked id)) (sym is)) (λ j other. refl)
       where
         turn : (b c : Bool) → (b && c) ≡ (c && b)
-        turn true true = refl
-        turn true false = refl
-        turn false true = refl
-        turn false false = refl
+        turn b c = grind arith

@@ -1,19 +1,20 @@
 -- The acts at the front that answer an operation inside, or die, or decide.
-use Rattle.beldi_known.proofs.Names.{Answer, AnswersOne, Bool, Content, Deployment, Effect, Instance, Intent, IntentId, IntentMatches, Item, ItemMatches, Known, List, LockedOut, LocksetMatches, None, Note, Option, Owner, Place, Row, ShadowMatches, Some, TxId, Txs, TxsMatch, Value, [], ahead_by, and_right, ap, asks_lock, begins_at, commit_in, effect_after, effect_of, ended_at, ended_by, ends_kept, eq-eqb, eqb-true, false, fits, got_by, has_ended, has_no_hops, held_if, holds, id_cmp, if◌then◌else◌, is_aborted, is_decided, is_eq, is_item, is_mark, is_none, is_open, is_owner, is_some, item_cmp, item_total, key_cmp, key_self, last_step, length, lock_note, lockset_ahead, log_key, not, note_at, note_by, note_or, note_pushed, op_of, owed_lockset, owed_note, owed_read, owed_shadow, owed_value, place_eq, place_of, place_same, refl, row_added, row_at, shadow_by, subst, sym, tied_itself, touched, true, tx_after, tx_end, tx_now, txs_after, txs_by, with_note, ℕ, ◌&&◌, ◌++◌, ◌==◌, ◌||◌, ◌∙◌, ◌∷◌, ◌≡◌}
+use Rattle.beldi_known.proofs.Names.{Answer, AnswersOne, Bool, Content, Deployment, Effect, Instance, Intent, IntentId, IntentMatches, Item, ItemMatches, Known, List, LockedOut, LocksetMatches, None, Note, Option, Owner, Place, Row, ShadowMatches, Some, TxId, Txs, TxsMatch, Value, [], ahead_by, and_right, ap, asks_lock, begins_at, commit_in, effect_after, effect_of, ended_at, ended_by, ends_kept, eq-eqb, eqb-true, false, fits, got_by, has_ended, has_no_hops, held_if, holds, id_cmp, if◌then◌else◌, is_aborted, is_decided, is_eq, is_item, is_mark, is_none, is_open, is_owner, is_some, item_cmp, item_total, key_cmp, key_self, last_step, length, lock_note, lockset_ahead, log_key, not, note_at, note_by, note_or, note_pushed, op_of, owed_lockset, owed_note, owed_read, owed_shadow, owed_value, place_eq, place_of, place_same, refl, row_added, row_at, shadow_by, subst, sym, tied_itself, touched, true, tx_after, tx_end, tx_now, txs_after, txs_by, with_note, ℕ, ◌&&◌, ◌++◌, ◌==◌, ◌||◌, ◌∙◌, ◌∷◌, ◌≡◌, CallMatches, LogMatches, RowMatches, Kind, false_from_ne_true, arith}
 use Rattle.beldi_known.proofs.Names.answer
 use Rattle.beldi_known.proofs.Names.effect
+use Rattle.beldi_known.proofs.Names.kinds
 use Rattle.beldi_known.proofs.Names.map
 use Rattle.beldi_known.proofs.Names.notes
 use Rattle.beldi_known.proofs.Names.rows
 use Rattle.beldi_known.proofs.Answers.{true_false}
 use Rattle.beldi_known.proofs.Instances.{EndMore, intent_stays, intent_same}
 use Rattle.beldi_known.proofs.Frame.{step_next, or_false}
-use Rattle.beldi_known.proofs.FrameAt.{known_set, no_place, read_one, shadow_one, lockset_one, holds_one, note_one, got_same, or_no}
+use Rattle.beldi_known.proofs.FrameAt.{known_set, no_place, read_one, shadow_one, lockset_one, holds_one, note_one, got_same, or_no, calls_same, item_alike, txs_alike, lockset_by}
+use Rattle.beldi_known.proofs.Cases.{if_is, if_same}
 
 -- ---- effects that end no transaction
 quiet_ends : (e : Effect) (n : ℕ) (s : Txs) (b : ℕ) → commit_in e ≡ None → (txs_by n e s).ends b ≡ s.ends b
 quiet_ends (effect.End c) n s b h = cc
-quiet_ends effect.Begin n s b h = refl
 quiet_ends e n s b h = refl
 
 op_quiet : (e : Effect) (o : ℕ × List ℕ) → touched e ≡ Some o → commit_in e ≡ None
@@ -23,16 +24,8 @@ op_quiet e o h = refl
 -- an operation inside moves no lock of an intent
 op_holds : (x : Item) (f : ℕ) (e : Effect) (o : ℕ × List ℕ) (b : Bool) → touched e ≡ Some o → held_if x f (op_of e) b ≡ b
 op_holds x f (effect.Read t k) o b h = refl
-op_holds x f (effect.Write t k v) o b h = by_test (is_eq (item_cmp (record { func = f; table = t; key = k }) x))
-  where
-    by_test : (c : Bool) → (if c then b else b) ≡ b
-    by_test true = refl
-    by_test false = refl
-op_holds x f (effect.CondWrite t k r u v) o b h = by_test (is_eq (item_cmp (record { func = f; table = t; key = k }) x))
-  where
-    by_test : (c : Bool) → (if c then b else b) ≡ b
-    by_test true = refl
-    by_test false = refl
+op_holds x f (effect.Write t k v) o b h = if_same (is_eq (item_cmp (record { func = f; table = t; key = k }) x)) b
+op_holds x f (effect.CondWrite t k r u v) o b h = if_same (is_eq (item_cmp (record { func = f; table = t; key = k }) x)) b
 op_holds x f e o b h = cc
 
 module _ (d : Deployment) (known : Known) (locked unlocked : IntentId → Bool) (id : IntentId) (q r : Instance) (a : Answer) (is : map.get known id ≡ Some q) (h : AnswersOne d id q a r) (out : LockedOut locked unlocked id) where
@@ -49,21 +42,15 @@ module _ (d : Deployment) (known : Known) (locked unlocked : IntentId → Bool) 
   -- at another key than that of the row that is added
   pub read_elsewhere : (k : ℕ) (v : Value) → row_added n (txs_after d q q.answers).begun (effect_of d q) a ≡ Some (k, v) → (f : ℕ) (b : Place) → is_eq (key_cmp (log_key f b) (log_key q.func (place_of id k))) ≡ false
       → owed_read d after f b ≡ owed_read d known f b
-  read_elsewhere k v some f b other = read_one d known id q r a is h k v some f b ∙ by_place (q.func == f) refl (place_eq (place_of id k) b) refl
-    where
-      by_place : (t : Bool) → (q.func == f) ≡ t → (c : Bool) → place_eq (place_of id k) b ≡ c → (if c then (if t then Some v else None) else owed_read d known f b) ≡ owed_read d known f b
-      by_place true func true same = let own : log_key f b ≡ log_key q.func (place_of id k) = sym (λ i. log_key (eqb-true q.func f func i) (place_same (place_of id k) b same i)) in
-          absurd (true_false (sym (ap (λ z. is_eq (key_cmp z (log_key q.func (place_of id k)))) own ∙ key_self (log_key q.func (place_of id k))) ∙ other))
-      by_place false func true same = subst (λ (z : Place). None ≡ owed_read d known f z) (place_same (place_of id k) b same) (sym (ap (owed_value d f k) is ∙ ap (λ z. if z then row_at d q k else None) func))
-      by_place t func false same = refl
+  read_elsewhere k v some f b other = read_one d known id q r a is h k v some f b ∙ if_is (place_eq (place_of id k) b) (λ same. if_is (q.func == f)
+      (λ func. absurd (true_false (sym (ap (λ z. is_eq (key_cmp z (log_key q.func (place_of id k)))) (λ i. log_key (sym (eqb-true q.func f func) i) (sym (place_same (place_of id k) b same) i)) ∙ key_self (log_key q.func (place_of id k))) ∙ other)))
+      (λ func. subst (λ (z : Place). None ≡ owed_read d known f z) (place_same (place_of id k) b same) (sym (ap (owed_value d f k) is ∙ ap (λ z. if z then row_at d q k else None) func)))) (λ apart. refl)
 
   -- ---- the notes of shadows: one is added, or none
   pub shadow_kept : (t : TxId) (x : Item) (c : Content) → shadow_by t x q.func (tx_now d id q) (effect_of d q) a ≡ None → ShadowMatches d known t x c → ShadowMatches d after t x c
-  shadow_kept t x c none g b = g b ∙ sym (shadow_one d known id q r a is h t x b ∙ (elim (place_eq p b) as (λ z. place_eq p b ≡ z → (if z then shadow_by t x q.func (tx_now d id q) (effect_of d q) a else owed_shadow d t x b.intent b.step (map.get known b.intent)) ≡ owed_shadow d t x b.intent b.step (map.get known b.intent)) [
-    | true ↦ λ e. subst (λ (z : Place). shadow_by t x q.func (tx_now d id q) (effect_of d q) a ≡ owed_shadow d t x z.intent z.step (map.get known z.intent)) (place_same p b e)
-        (none ∙ sym (ap (owed_shadow d t x id n) is ∙ step_next (λ ts c. shadow_by t x q.func (tx_after d id q ts) (effect_after d q ts) c) q.answers))
-    | false ↦ λ e. refl
-  ] refl))
+  shadow_kept t x c none g b = g b ∙ sym (shadow_one d known id q r a is h t x b ∙ if_is (place_eq p b)
+      (λ e. subst (λ (z : Place). shadow_by t x q.func (tx_now d id q) (effect_of d q) a ≡ owed_shadow d t x z.intent z.step (map.get known z.intent)) (place_same p b e)
+      (none ∙ sym (ap (owed_shadow d t x id n) is ∙ step_next (λ ts c. shadow_by t x q.func (tx_after d id q ts) (effect_after d q ts) c) q.answers))) (λ e. refl))
 
   pub shadow_noted : (t : TxId) (x : Item) (c : Content) (w : Note) (v : Value) → shadow_by t x q.func (tx_now d id q) (effect_of d q) a ≡ Some w → note_at c.notes p ≡ None → ShadowMatches d known t x c
       → ShadowMatches d after t x (record { value = v; owner = c.owner; notes = c.notes ++ (p, w) ∷ [] })
@@ -88,6 +75,15 @@ module _ (d : Deployment) (known : Known) (locked unlocked : IntentId → Bool) 
       (known_set known id r (λ j o. IntentMatches (has_ended d known) (has_no_hops j.hops) home row (map.get known j) → IntentMatches (has_ended d known) (has_no_hops j.hops) home row o)
       (λ g. intent_same (has_ended d known) (has_no_hops id.hops) home row q r h.body (sym h.outcome) (subst (IntentMatches (has_ended d known) (has_no_hops id.hops) home row) is g)) (λ j other g. g) j g)
 
+  -- and all other rows match, where those of reads do and lockset rows
+  pub row_by : (home : ℕ) (kind : Kind) (row : Option Row) → ((b : Place) → kind ≡ kinds.ReadLog b → owed_read d after home b ≡ owed_read d known home b)
+      → ((j : IntentId) (b t : ℕ) (k : List ℕ) → kind ≡ kinds.Lockset j b t k → RowMatches d known home (kinds.Lockset j b t k) row → RowMatches d after home (kinds.Lockset j b t k) row) → RowMatches d known home kind row → RowMatches d after home kind row
+  row_by home (kinds.Intent j) row reads locksets g = intents_same home j row g
+  row_by home (kinds.ReadLog b) row reads locksets g = subst (LogMatches row) (sym (reads b refl)) g
+  row_by home (kinds.Invoke b) row reads locksets g = subst (CallMatches row) (sym (calls_same d known id q r a is h home b)) g
+  row_by home (kinds.Lockset j b t k) row reads locksets g = locksets j b t k refl g
+  row_by home kind row reads locksets g = g
+
   module _ (quiet : commit_in (effect_of d q) ≡ None) where
     -- transactions are as before
     pub tx_end_same : (t : TxId) → tx_end d after t ≡ tx_end d known t
@@ -107,10 +103,7 @@ module _ (d : Deployment) (known : Known) (locked unlocked : IntentId → Bool) 
         elsewhere m (Some z) = ap (λ c. is_some (ended_at d z m) || (c && (m == last_step))) (decided_same z.within)
 
         by_step : (m : ℕ) → (if m == n then commit_in (effect_of d q) else ended_at d q m) ≡ ended_at d q m
-        by_step m = elim (m == n) as (λ b. (m == n) ≡ b → (if b then commit_in (effect_of d q) else ended_at d q m) ≡ ended_at d q m) [
-          | true ↦ λ e. quiet ∙ sym (subst (λ k. ended_at d q k ≡ None) (sym (eqb-true m n e)) (step_next (λ ts c. commit_in (effect_after d q ts)) q.answers))
-          | false ↦ λ e. refl
-        ] refl
+        by_step m = if_is (m == n) (λ e. quiet ∙ sym (subst (λ k. ended_at d q k ≡ None) (sym (eqb-true m n e)) (step_next (λ ts c. commit_in (effect_after d q ts)) q.answers))) (λ e. refl)
 
     open_same : (t : Option TxId) → is_open d after t ≡ is_open d known t
     open_same None = refl
@@ -123,21 +116,13 @@ module _ (d : Deployment) (known : Known) (locked unlocked : IntentId → Bool) 
     -- and lockset rows, where it asked for no lock
     pub locksets_kept : (b : ℕ) (x : Item) (j : IntentId) (row : Option Row) → asks_lock b x q.func (tx_now d id q) (effect_of d q) ≡ false → lockset_ahead d known b x id (Some q) ≡ false
         → LocksetMatches row (owed_lockset d b x j (map.get known j)) (lockset_ahead d known b x j (map.get known j)) → LocksetMatches row (owed_lockset d b x j (map.get after j)) (lockset_ahead d after b x j (map.get after j))
-    locksets_kept b x j row none not_ahead g = by_row row g
+    locksets_kept b x j row none not_ahead = lockset_by d known after locked unlocked x b j row (λ e g. owed_same ∙ g) (λ e g. ap (λ u. u || lockset_ahead d after b x j (map.get after j)) owed_same
+        ∙ known_set known id r (λ i o. (owed_lockset d b x i (map.get known i) || lockset_ahead d known b x i (map.get known i)) ≡ true → (owed_lockset d b x i (map.get known i) || lockset_ahead d after b x i o) ≡ true)
+        (λ k. ap (λ u. u || lockset_ahead d after b x id (Some r)) (sym (or_no (owed_lockset d b x id (map.get known id))) ∙ ap (λ u. owed_lockset d b x id (map.get known id) || u) (sym (ap (lockset_ahead d known b x id) is ∙ not_ahead)) ∙ k))
+        (λ i other k. ap (λ u. owed_lockset d b x i (map.get known i) || u) (ahead_same b x i (map.get known i)) ∙ k) j g)
       where
         owed_same : owed_lockset d b x j (map.get after j) ≡ owed_lockset d b x j (map.get known j)
         owed_same = lockset_one d known id q r a is h b x j ∙ ap (λ u. owed_lockset d b x j (map.get known j) || (is_eq (id_cmp j id) && u)) none ∙ or_false (owed_lockset d b x j (map.get known j)) _ (and_right (is_eq (id_cmp j id)) false refl)
-
-        by_row : (row : Option Row) → LocksetMatches row (owed_lockset d b x j (map.get known j)) (lockset_ahead d known b x j (map.get known j)) → LocksetMatches row (owed_lockset d b x j (map.get after j)) (lockset_ahead d after b x j (map.get after j))
-        by_row None g = owed_same ∙ g
-        by_row (Some rows.Lockset) g = ap (λ u. u || lockset_ahead d after b x j (map.get after j)) owed_same
-            ∙ known_set known id r (λ i o. (owed_lockset d b x i (map.get known i) || lockset_ahead d known b x i (map.get known i)) ≡ true → (owed_lockset d b x i (map.get known i) || lockset_ahead d after b x i o) ≡ true)
-            (λ k. ap (λ u. u || lockset_ahead d after b x id (Some r)) (sym (or_no (owed_lockset d b x id (map.get known id))) ∙ ap (λ u. owed_lockset d b x id (map.get known id) || u) (sym (ap (lockset_ahead d known b x id) is ∙ not_ahead)) ∙ k))
-            (λ i other k. ap (λ u. owed_lockset d b x i (map.get known i) || u) (ahead_same b x i (map.get known i)) ∙ k) j g
-        by_row (Some (rows.Intent i)) g = g
-        by_row (Some (rows.ReadLog i)) g = g
-        by_row (Some (rows.Invoke i)) g = g
-        by_row (Some (rows.Cell i)) g = g
 
   -- ---- an operation inside
   module _ (s : TxId) (inside : tx_now d id q ≡ Some s) (o : ℕ × List ℕ) (touch : touched (effect_of d q) ≡ Some o) where
@@ -146,6 +131,16 @@ module _ (d : Deployment) (known : Known) (locked unlocked : IntentId → Bool) 
 
     quiet_op : commit_in (effect_of d q) ≡ None
     quiet_op = op_quiet (effect_of d q) o touch
+
+    held_same : (x : Item) (j : IntentId) → holds d x (map.get after j) ≡ holds d x (map.get known j)
+    held_same x = holds_one d known id q r a is h x (λ j b. b ≡ holds d x (map.get known j)) (op_holds x q.func (effect_of d q) o (holds d x (map.get known id)) touch) (λ j other. refl)
+
+    unmarked : (b : Place) → is_mark d after b.step (map.get after b.intent) ≡ false → is_mark d known b.step (map.get known b.intent) ≡ false
+    unmarked b apart = sym (mark_same quiet_op b) ∙ apart
+
+    -- what is got stays so
+    txs_same : locked id ≡ not (is_aborted a) → (x : Item) (c : Option Owner) → TxsMatch d known locked x c → TxsMatch d after unlocked x c
+    txs_same same x = txs_alike d known after locked unlocked x (λ t. got_same d known id q r a is h locked unlocked out same t x) (λ t e. sym (tx_end_same quiet_op t) ∙ e)
 
     note_is : (x : Item) → note_by x q.func (tx_now d id q) (effect_of d q) a ≡ (if is_eq (item_cmp item x) then lock_note a else None)
     note_is x = ap (λ t. note_by x q.func t (effect_of d q) a) inside ∙ ap (λ z. if is_item x q.func z then lock_note a else None) touch
@@ -170,27 +165,15 @@ module _ (d : Deployment) (known : Known) (locked unlocked : IntentId → Bool) 
           by_answer b g = refl
 
       pub notes_same : (x : Item) (b : Place) → owed_note d x b.intent (unlocked b.intent) b.step (map.get after b.intent) ≡ owed_note d x b.intent (locked b.intent) b.step (map.get known b.intent)
-      notes_same x b = note_one d known id q r a is h locked unlocked out x b ∙ (elim (place_eq p b) as (λ c. place_eq p b ≡ c → (if c then note_by x q.func (tx_now d id q) (effect_of d q) a else owed_note d x b.intent (locked b.intent) b.step (map.get known b.intent))
-          ≡ owed_note d x b.intent (locked b.intent) b.step (map.get known b.intent)) [
-            | true ↦ λ e. subst (λ (z : Place). note_by x q.func (tx_now d id q) (effect_of d q) a ≡ owed_note d x z.intent (locked z.intent) z.step (map.get known z.intent)) (place_same p b e)
-                (note_is x ∙ ap (λ z. if is_eq (item_cmp item x) then z else None) got_note ∙ sym (owed_was x ∙ ap (λ z. if z then (if is_eq (item_cmp item x) then Some notes.Got else None) else None) was))
-            | false ↦ λ e. refl
-          ] refl)
+      notes_same x b = note_one d known id q r a is h locked unlocked out x b ∙ if_is (place_eq p b)
+          (λ e. subst (λ (z : Place). note_by x q.func (tx_now d id q) (effect_of d q) a ≡ owed_note d x z.intent (locked z.intent) z.step (map.get known z.intent)) (place_same p b e)
+          (note_is x ∙ ap (λ z. if is_eq (item_cmp item x) then z else None) got_note ∙ sym (owed_was x ∙ ap (λ z. if z then (if is_eq (item_cmp item x) then Some notes.Got else None) else None) was))) (λ e. refl)
 
       pub items_answered : (x : Item) (c : Content) → ItemMatches d known locked x c → ItemMatches d after unlocked x c
-      items_answered x c g = record {
-        owner = holds_one d known id q r a is h x (λ j b. is_owner c.owner (Intent j) ≡ b) (g.owner id ∙ sym (op_holds x q.func (effect_of d q) o (holds d x (map.get known id)) touch)) (λ j other. g.owner j);
-        notes = λ b apart. g.notes b (sym (mark_same quiet_op b) ∙ apart) ∙ sym (notes_same x b);
-      }
+      items_answered x = item_alike d known after locked unlocked x (held_same x) unmarked (notes_same x)
 
       pub txs_answered : (x : Item) (c : Option Owner) → TxsMatch d known locked x c → TxsMatch d after unlocked x c
-      txs_answered x c g = record {
-        owned_is_got = λ t e. let k = g.owned_is_got t e in record { member = k.member; got = same t x k.member ∙ k.got };
-        got_is_owned = λ t k open_still. g.got_is_owned t (record { member = k.member; got = sym (same t x k.member) ∙ k.got }) (sym (tx_end_same quiet_op t) ∙ open_still);
-      }
-        where
-          same : (t : TxId) (x : Item) (j : IntentId) → got_by d t x j (unlocked j) (map.get after j) ≡ got_by d t x j (locked j) (map.get known j)
-          same = got_same d known id q r a is h locked unlocked out (was ∙ ap not (sym lives))
+      txs_answered = txs_same (was ∙ ap not (sym lives))
 
     -- ---- it dies: the item owes the death, and no transaction has got more or less
     module _ (holder : IntentId) (dies : a ≡ answer.Aborted (record { place = p; holder = Some holder })) (was : locked id ≡ false) where
@@ -199,55 +182,30 @@ module _ (d : Deployment) (known : Known) (locked unlocked : IntentId → Bool) 
 
       pub item_died : (c : Content) → note_at c.notes p ≡ None → ItemMatches d known locked item c → ItemMatches d after unlocked item (with_note c p (notes.Died holder))
       item_died c none g = record {
-        owner = holds_one d known id q r a is h item (λ j b. is_owner c.owner (Intent j) ≡ b) (g.owner id ∙ sym (op_holds item q.func (effect_of d q) o (holds d item (map.get known id)) touch)) (λ j other. g.owner j);
+        owner = λ j. g.owner j ∙ sym (held_same item j);
         notes = λ b apart. note_pushed c.notes p b (notes.Died holder) none
             ∙ ap (λ z. if place_eq p b then z else note_at c.notes b) (sym (note_is item ∙ ap (λ z. if is_eq z then lock_note a else None) (tied_itself item_total item) ∙ death_note))
-            ∙ ap (λ z. if place_eq p b then note_by item q.func (tx_now d id q) (effect_of d q) a else z) (g.notes b (sym (mark_same quiet_op b) ∙ apart))
+            ∙ ap (λ z. if place_eq p b then note_by item q.func (tx_now d id q) (effect_of d q) a else z) (g.notes b (unmarked b apart))
             ∙ sym (note_one d known id q r a is h locked unlocked out item b);
       }
 
       pub item_kept : (x : Item) (c : Content) → is_eq (item_cmp item x) ≡ false → ItemMatches d known locked x c → ItemMatches d after unlocked x c
-      item_kept x c other g = record {
-        owner = holds_one d known id q r a is h x (λ j b. is_owner c.owner (Intent j) ≡ b) (g.owner id ∙ sym (op_holds x q.func (effect_of d q) o (holds d x (map.get known id)) touch)) (λ j other. g.owner j);
-        notes = λ b apart. g.notes b (sym (mark_same quiet_op b) ∙ apart) ∙ sym (note_one d known id q r a is h locked unlocked out x b ∙ same b);
-      }
-        where
-          same : (b : Place) → (if place_eq p b then note_by x q.func (tx_now d id q) (effect_of d q) a else owed_note d x b.intent (locked b.intent) b.step (map.get known b.intent)) ≡ owed_note d x b.intent (locked b.intent) b.step (map.get known b.intent)
-          same b = elim (place_eq p b) as (λ c. place_eq p b ≡ c → (if c then note_by x q.func (tx_now d id q) (effect_of d q) a else owed_note d x b.intent (locked b.intent) b.step (map.get known b.intent))
-              ≡ owed_note d x b.intent (locked b.intent) b.step (map.get known b.intent)) [
-                | true ↦ λ e. subst (λ (z : Place). note_by x q.func (tx_now d id q) (effect_of d q) a ≡ owed_note d x z.intent (locked z.intent) z.step (map.get known z.intent)) (place_same p b e)
-                    (note_is x ∙ ap (λ z. if z then lock_note a else None) other ∙ sym (owed_was x ∙ ap (λ z. if z then (if is_eq (item_cmp item x) then Some notes.Got else None) else None) was))
-                | false ↦ λ e. refl
-              ] refl
+      item_kept x c other = item_alike d known after locked unlocked x (held_same x) unmarked (λ b. note_one d known id q r a is h locked unlocked out x b ∙ if_is (place_eq p b)
+          (λ e. subst (λ (z : Place). note_by x q.func (tx_now d id q) (effect_of d q) a ≡ owed_note d x z.intent (locked z.intent) z.step (map.get known z.intent)) (place_same p b e)
+          (note_is x ∙ ap (λ z. if z then lock_note a else None) other ∙ sym (owed_was x ∙ ap (λ z. if z then (if is_eq (item_cmp item x) then Some notes.Got else None) else None) was))) (λ e. refl)) c
 
       pub txs_died : (x : Item) (c : Option Owner) → TxsMatch d known locked x c → TxsMatch d after unlocked x c
-      txs_died x c g = record {
-        owned_is_got = λ t e. let k = g.owned_is_got t e in record { member = k.member; got = same t x k.member ∙ k.got };
-        got_is_owned = λ t k open_still. g.got_is_owned t (record { member = k.member; got = sym (same t x k.member) ∙ k.got }) (sym (tx_end_same quiet_op t) ∙ open_still);
-      }
-        where
-          same : (t : TxId) (x : Item) (j : IntentId) → got_by d t x j (unlocked j) (map.get after j) ≡ got_by d t x j (locked j) (map.get known j)
-          same = got_same d known id q r a is h locked unlocked out (was ∙ ap (λ z. not (is_aborted z)) (sym dies))
+      txs_died = txs_same (was ∙ ap (λ z. not (is_aborted z)) (sym dies))
 
     -- ---- lockset rows: its own is there, so it may be owed
     pub locksets_answered : (b : ℕ) (x : Item) (j : IntentId) (row : Option Row) → ((is_eq (id_cmp j id) && asks_lock b x q.func (tx_now d id q) (effect_of d q)) ≡ true → row ≡ Some rows.Lockset)
         → LocksetMatches row (owed_lockset d b x j (map.get known j)) (lockset_ahead d known b x j (map.get known j)) → LocksetMatches row (owed_lockset d b x j (map.get after j)) (lockset_ahead d after b x j (map.get after j))
-    locksets_answered b x j None there g = lockset_one d known id q r a is h b x j ∙ ap (λ z. z || (is_eq (id_cmp j id) && asks_lock b x q.func (tx_now d id q) (effect_of d q))) g ∙ by_test (is_eq (id_cmp j id) && asks_lock b x q.func (tx_now d id q) (effect_of d q)) refl
-      where
-        by_test : (t : Bool) → (is_eq (id_cmp j id) && asks_lock b x q.func (tx_now d id q) (effect_of d q)) ≡ t → t ≡ false
-        by_test true e = let k = there e in cc
-        by_test false e = refl
-    locksets_answered b x j (Some rows.Lockset) there g = known_set known id r (λ i o. (owed_lockset d b x i (map.get known i) || lockset_ahead d known b x i (map.get known i)) ≡ true → (owed_lockset d b x i o || lockset_ahead d after b x i o) ≡ true)
+    locksets_answered b x j row there = lockset_by d known after locked unlocked x b j row
+        (λ at g. lockset_one d known id q r a is h b x j ∙ ap (λ z. z || (is_eq (id_cmp j id) && asks_lock b x q.func (tx_now d id q) (effect_of d q))) g ∙ false_from_ne_true _ (λ e. let clash = sym at ∙ there e in cc))
+        (λ at. known_set known id r (λ i o. (owed_lockset d b x i (map.get known i) || lockset_ahead d known b x i (map.get known i)) ≡ true → (owed_lockset d b x i o || lockset_ahead d after b x i o) ≡ true)
         (λ k. ap (λ z. z || lockset_ahead d after b x id (Some r)) (h.locksets b x
         ∙ from_ahead (owed_lockset d b x id (Some q)) (is_none q.outcome) (is_open d known (tx_now d id q)) (asks_lock b x q.func (tx_now d id q) (effect_of d q)) (sym (ap (λ z. owed_lockset d b x id z || lockset_ahead d known b x id z) is) ∙ k)))
-        (λ i other k. ap (λ z. owed_lockset d b x i (map.get known i) || z) (ahead_same quiet_op b x i (map.get known i)) ∙ k) j g
+        (λ i other k. ap (λ z. owed_lockset d b x i (map.get known i) || z) (ahead_same quiet_op b x i (map.get known i)) ∙ k) j)
       where
         from_ahead : (u y o t : Bool) → (u || (y && (o && t))) ≡ true → (u || t) ≡ true
-        from_ahead true y o t k = refl
-        from_ahead false true true t k = k
-        from_ahead false true false t k = cc
-        from_ahead false false o t k = cc
-    locksets_answered b x j (Some (rows.Intent i)) there g = g
-    locksets_answered b x j (Some (rows.ReadLog i)) there g = g
-    locksets_answered b x j (Some (rows.Invoke i)) there g = g
-    locksets_answered b x j (Some (rows.Cell i)) there g = g
+        from_ahead u y o t k = grind arith

@@ -1,5 +1,5 @@
 -- The front acts of operations inside, by their effects; and a release.
-use Rattle.beldi_known.proofs.Names.{Answer, Bool, CellMatches, Content, Deployment, Effect, Instance, Intent, IntentId, Item, ItemMatches, Known, List, LockedOut, Matches, None, Note, Option, Place, Rel, Row, RowMatches, Rows, ShadowMatches, Some, Tx, TxId, TxsMatch, Value, [], ap, begins_at, cond, content_in, content_of, effect_of, eq-eqb, false, head_key, if◌then◌else◌, is_eq, is_item, is_mark, is_none, is_open, is_owner, is_some, is_tx, item_cmp, item_total, key_cmp, key_same, length, lockset_ahead, lockset_key, log_key, moved, not, note_at, note_of, note_pushed, or_right, owed_lockset, owed_note, place_eq, place_of, place_same, refl, row_added, row_got, set_row, shadow_by, shadow_key, shadow_of, subst, sym, tied_itself, touched, true, tx_end, tx_eq, tx_now, txs_after, with_note, write_op, ℕ, ◌&&◌, ◌++◌, ◌==◌, ◌∙◌, ◌∷◌, ◌≡◌}
+use Rattle.beldi_known.proofs.Names.{Answer, Bool, CellMatches, Content, Deployment, Effect, Instance, Intent, IntentId, Item, ItemMatches, Known, List, LockedOut, Matches, None, Note, Option, Place, Rel, Row, RowMatches, Rows, ShadowMatches, Some, Tx, TxId, TxsMatch, Value, [], ap, begins_at, cond, content_in, content_of, effect_of, eq-eqb, false, head_key, if◌then◌else◌, is_eq, is_item, is_mark, is_none, is_open, is_owner, is_some, is_tx, item_cmp, item_total, key_cmp, key_same, length, lockset_ahead, lockset_key, log_key, moved, not, note_at, note_of, note_pushed, or_right, owed_lockset, owed_note, place_eq, place_of, place_same, refl, row_added, row_got, set_row, shadow_by, shadow_key, shadow_of, subst, sym, tied_itself, touched, true, tx_end, tx_eq, tx_now, txs_after, with_note, write_op, ℕ, ◌&&◌, ◌++◌, ◌==◌, ◌∙◌, ◌∷◌, ◌≡◌, arith}
 use Rattle.beldi_known.proofs.Names.answer
 use Rattle.beldi_known.proofs.Names.effect
 use Rattle.beldi_known.proofs.Names.map
@@ -10,12 +10,8 @@ use Rattle.beldi_known.proofs.Answers.{true_false}
 use Rattle.beldi_known.proofs.Rows.{keys_set}
 use Rattle.beldi_known.proofs.Frame.{moved_one, no_shadow}
 use Rattle.beldi_known.proofs.Locks.{tx_self}
-use Rattle.beldi_known.proofs.Acts.{read_answered, write_answered, lock_died, kinds_apart, is_data, is_shadow, content_apart, shadow_apart, by_item, content_here, turned}
-
-none_both : (b c : Bool) → (if b then (if c then None else None) else None) ≡ (λ (o : Option Note). o) None
-none_both true true = refl
-none_both true false = refl
-none_both false c = refl
+use Rattle.beldi_known.proofs.Acts.{read_answered, write_answered, lock_died, kinds_apart, is_data, is_shadow, content_apart, shadow_apart, by_item, content_here, turned, log_set, head_set}
+use Rattle.beldi_known.proofs.Cases.{if_is, if_same}
 
 module _ (d : Deployment) (known : Known) (locked unlocked : IntentId → Bool) (id : IntentId) (q : Instance) (is : map.get known id ≡ Some q) (out : LockedOut locked unlocked id)
     (s : TxId) (inside : tx_now d id q ≡ Some s) (m : Rows) (h : Matches d m known locked) (t : ℕ) (k : List ℕ) where
@@ -41,12 +37,10 @@ module _ (d : Deployment) (known : Known) (locked unlocked : IntentId → Bool) 
 
   apart : (e : Effect) (a : Answer) (n : Option Note) → effect_of d q ≡ e → ((x : Item) → note_of x q.func (write_op e) a ≡ (if is_eq (item_cmp item x) then n else None)) → (u : TxId) (x : Item) → (tx_eq u s && is_eq (item_cmp item x)) ≡ false
       → shadow_by u x q.func (tx_now d id q) (effect_of d q) a ≡ None
-  apart e a n wants notes u x h = ap (λ z. if is_tx u z then note_of x q.func (write_op (effect_of d q)) a else None) inside ∙ ap (λ z. if tx_eq u s then note_of x q.func (write_op z) a else None) wants ∙ ap (λ z. if tx_eq u s then z else None) (notes x) ∙ by_tests (tx_eq u s) (is_eq (item_cmp item x)) h
+  apart e a n wants notes u x h = ap (λ z. if is_tx u z then note_of x q.func (write_op (effect_of d q)) a else None) inside ∙ ap (λ z. if tx_eq u s then note_of x q.func (write_op z) a else None) wants ∙ ap (λ z. if tx_eq u s then z else None) (notes x) ∙ by_tests (tx_eq u s) (is_eq (item_cmp item x)) n h
     where
-      by_tests : (b c : Bool) → (b && c) ≡ false → (if b then (if c then n else None) else None) ≡ None
-      by_tests true true g = absurd (true_false g)
-      by_tests true false g = refl
-      by_tests false c g = refl
+      by_tests : (b c : Bool) (m : Option Note) → (b && c) ≡ false → (if b then (if c then m else None) else None) ≡ None
+      by_tests b c m g = grind arith
 
   pub write_inside : (v : Value) (r : Option Row) → effect_of d q ≡ effect.Write t k v → HasLockset → locked id ≡ true → CellMatches 0 r → note_at (shadow_of m s item).notes place ≡ None
       → content_in r ≡ record { value = v; owner = (shadow_of m s item).owner; notes = (shadow_of m s item).notes ++ (place, notes.Wrote) ∷ [] }
@@ -73,14 +67,13 @@ module _ (d : Deployment) (known : Known) (locked unlocked : IntentId → Bool) 
       lock_died d known locked unlocked id q (moved d id q a) a is (moved_one d id q a) out s inside (t, k) touch m lockset h
       r holder fits (no_row (effect_of d q) touch) refl was (λ u x. by_effect u x (effect_of d q) touch) none same
     where
+      none_both : (b c : Bool) → ◌≡◌ {A = Option Note} (if b then (if c then None else None) else None) None
+      none_both b c = ap (λ o. if b then o else None) (if_same c None) ∙ if_same b None
+
       no_row : (e : Effect) → touched e ≡ Some (t, k) → row_added (length q.answers) (txs_after d q q.answers).begun e (answer.Aborted (record { place = place; holder = Some holder })) ≡ None
       no_row (effect.Read t k) g = refl
       no_row (effect.End c) g = cc
-      no_row e g = by_begun (txs_after d q q.answers).begun
-        where
-          by_begun : (o : Option ℕ) → row_added (length q.answers) o e (answer.Aborted (record { place = place; holder = Some holder })) ≡ None
-          by_begun None = refl
-          by_begun (Some b) = refl
+      no_row e g = elim (txs_after d q q.answers).begun as (λ o. row_added (length q.answers) o e (answer.Aborted (record { place = place; holder = Some holder })) ≡ None) [ None ↦ refl | Some b ↦ refl ]
 
       by_effect : (u : TxId) (x : Item) (e : Effect) → touched e ≡ Some (t, k) → shadow_by u x q.func (tx_now d id q) e (answer.Aborted (record { place = place; holder = Some holder })) ≡ None
       by_effect u x (effect.Read b y) g = no_shadow u x q.func (tx_now d id q) (effect.Read b y) (answer.Aborted (record { place = place; holder = Some holder })) refl
@@ -94,12 +87,8 @@ module _ (d : Deployment) (known : Known) (locked : IntentId → Bool) (x : Item
       → ItemMatches d known locked x (record { value = v; owner = None; notes = c.notes ++ (p, notes.Freed) ∷ [] })
   item_released p v mark none h = record {
     owner = λ j. sym (ap (λ o. is_owner o (Intent j)) owned) ∙ h.owner j;
-    notes = λ a apart. note_pushed c.notes p a notes.Freed none ∙ by_place a apart (place_eq p a) refl;
+    notes = λ a apart. note_pushed c.notes p a notes.Freed none ∙ if_is (place_eq p a) (λ e. absurd (true_false (sym mark ∙ ap (λ (y : Place). is_mark d known y.step (map.get known y.intent)) (place_same p a e) ∙ apart))) (λ e. h.notes a apart);
   }
-    where
-      by_place : (a : Place) → is_mark d known a.step (map.get known a.intent) ≡ false → (b : Bool) → place_eq p a ≡ b → (if b then Some notes.Freed else note_at c.notes a) ≡ owed_note d x a.intent (locked a.intent) a.step (map.get known a.intent)
-      by_place a apart true e = absurd (true_false (sym mark ∙ ap (λ (y : Place). is_mark d known y.step (map.get known y.intent)) (place_same p a e) ∙ apart))
-      by_place a apart false e = h.notes a apart
 
   pub txs_released : TxsMatch d known locked x c.owner → TxsMatch d known locked x None
   txs_released h = record {
@@ -110,28 +99,16 @@ module _ (d : Deployment) (known : Known) (locked : IntentId → Bool) (x : Item
 -- .. and the rows
 pub released : (d : Deployment) (m : Rows) (known : Known) (locked : IntentId → Bool) (x : Item) (s : TxId) (z : ℕ × Bool) (p : Place) (w : Value) (v : Option Row) → (content_of m x).owner ≡ Some (Tx s) → tx_end d known s ≡ Some z → is_mark d known p.step (map.get known p.intent) ≡ true
     → note_at (content_of m x).notes p ≡ None → CellMatches 0 v → content_in v ≡ record { value = w; owner = None; notes = (content_of m x).notes ++ (p, notes.Freed) ∷ [] } → Matches d m known locked → Matches d (set_row m (head_key x) v) known locked
-released d m known locked x s z p w v owned decided mark none fits same h = record {
-  keys = keys_set m (head_key x) v (λ l r. RowMatches d known l.home l.kind r) fits (λ l other. h.keys l);
-  items = λ y. by_item x y (λ y. ItemMatches d known locked y (content_of (set_row m (head_key x) v) y))
-      (subst (ItemMatches d known locked x) (sym (content_here m v x ∙ same)) (item_released d known locked x (content_of m x) s owned z decided p w mark none (h.items x)))
-      (λ other. subst (ItemMatches d known locked y) (sym (content_apart m (head_key x) v y (turned x y other))) (h.items y));
-  shadows = λ t y. subst (ShadowMatches d known t y) (sym (shadow_apart m (head_key x) v t y (kinds_apart is_shadow (shadow_key t y) (head_key x) refl refl))) (h.shadows t y);
-  txs = λ y. by_item x y (λ y. TxsMatch d known locked y (content_of (set_row m (head_key x) v) y).owner)
-      (subst (λ (c : Content). TxsMatch d known locked x c.owner) (sym (content_here m v x ∙ same)) (txs_released d known locked x (content_of m x) s owned z decided (h.txs x)))
-      (λ other. subst (λ (c : Content). TxsMatch d known locked y c.owner) (sym (content_apart m (head_key x) v y (turned x y other))) (h.txs y));
-}
+released d m known locked x s z p w v owned decided mark none fits same h = head_set d known locked m x v _ same fits h.keys (item_released d known locked x (content_of m x) s owned z decided p w mark none (h.items x)) (λ y other. h.items y) h.shadows
+    (txs_released d known locked x (content_of m x) s owned z decided (h.txs x)) (λ y other. h.txs y)
 
 -- ---- the front acts that answer nothing
 module _ (d : Deployment) (known : Known) (locked : IntentId → Bool) (m : Rows) (h : Matches d m known locked) where
   -- a lockset row, ahead of its answer
   pub lockset_put : (id : IntentId) (q : Instance) (s : TxId) (o : ℕ × List ℕ) → map.get known id ≡ Some q → q.outcome ≡ None → tx_now d id q ≡ Some s → tx_end d known s ≡ None → touched (effect_of d q) ≡ Some o
       → Matches d (set_row m (lockset_key id s.begin (record { func = q.func; table = o.0; key = o.1 })) (Some rows.Lockset)) known locked
-  lockset_put id q s o is none inside open_still touch = let x : Item = record { func = q.func; table = o.0; key = o.1 } in let k = lockset_key id s.begin x in record {
-    keys = keys_set m k (Some rows.Lockset) (λ l z. RowMatches d known l.home l.kind z) (or_right (owed_lockset d s.begin x id (map.get known id)) (lockset_ahead d known s.begin x id (map.get known id)) ahead) (λ l other. h.keys l);
-    items = λ y. subst (ItemMatches d known locked y) (sym (content_apart m k (Some rows.Lockset) y (kinds_apart is_data (head_key y) k refl refl))) (h.items y);
-    shadows = λ t y. subst (ShadowMatches d known t y) (sym (shadow_apart m k (Some rows.Lockset) t y (kinds_apart is_shadow (shadow_key t y) k refl refl))) (h.shadows t y);
-    txs = λ y. subst (λ (c : Content). TxsMatch d known locked y c.owner) (sym (content_apart m k (Some rows.Lockset) y (kinds_apart is_data (head_key y) k refl refl))) (h.txs y);
-  }
+  lockset_put id q s o is none inside open_still touch = let x : Item = record { func = q.func; table = o.0; key = o.1 } in
+      log_set d known locked m (lockset_key id s.begin x) (Some rows.Lockset) refl (or_right (owed_lockset d s.begin x id (map.get known id)) (lockset_ahead d known s.begin x id (map.get known id)) ahead) (λ l other. h.keys l) h.items h.shadows h.txs
     where
       ahead : lockset_ahead d known s.begin (record { func = q.func; table = o.0; key = o.1 }) id (map.get known id) ≡ true
       ahead = ap (lockset_ahead d known s.begin (record { func = q.func; table = o.0; key = o.1 }) id) is

@@ -7,6 +7,7 @@ pub mod AtOnce
 pub mod Begins
 pub mod Begun
 pub mod Behind
+pub mod Cases
 pub mod Callers
 pub mod Calls
 pub mod Deaths

@@ -1,9 +1,10 @@
 -- The lock of an operation inside, at the front: it is taken, or the operation dies.
-use Rattle.beldi_known.proofs.Names.{Bool, Content, Deployment, Got, Instance, Intent, IntentId, Item, ItemMatches, Known, List, None, Option, Owner, Place, Some, Tx, TxId, TxsMatch, [], ahead_by, and_from, and_parts, and_right, answered_note, ap, cond, effect_after, effect_of, eq-eqb, eqb-true, false, get-insert, got_before, got_by, id_cmp, id_eq, id_same, id_total, if◌then◌else◌, is_eq, is_item, is_mark, is_on, is_owner, is_tx, item_cmp, item_total, length, lock_in, note_at, note_by, note_or, note_pushed, or_left, or_right, other_owner, owed_note, place_eq, place_of, place_same, place_self, refl, subst, sym, tied_itself, touched, true, tx_after, tx_end, tx_eq, tx_now, ℕ, ◌&&◌, ◌++◌, ◌==◌, ◌||◌, ◌∙◌, ◌∷◌, ◌≡◌}
+use Rattle.beldi_known.proofs.Names.{Bool, Content, Deployment, Got, Instance, Intent, IntentId, Item, ItemMatches, Known, List, None, Option, Owner, Place, Some, Tx, TxId, TxsMatch, [], ahead_by, and_from, and_parts, and_right, answered_note, ap, cond, effect_after, effect_of, eq-eqb, eqb-true, false, get-insert, got_before, got_by, id_cmp, id_eq, id_same, id_total, if◌then◌else◌, is_eq, is_item, is_mark, is_on, is_owner, is_tx, item_cmp, item_total, length, lock_in, note_at, note_by, note_or, note_pushed, or_left, or_right, other_owner, owed_note, place_eq, place_of, place_same, place_self, refl, subst, sym, tied_itself, touched, true, tx_after, tx_end, tx_eq, tx_now, ℕ, ◌&&◌, ◌++◌, ◌==◌, ◌||◌, ◌∙◌, ◌∷◌, ◌≡◌, ahead_note}
 use Rattle.beldi_known.proofs.Names.map
 use Rattle.beldi_known.proofs.Names.notes
 use Rattle.beldi_known.proofs.Frame.{step_next}
-use Rattle.beldi_known.proofs.FrameAt.{one_place}
+use Rattle.beldi_known.proofs.FrameAt.{known_set, one_place, not_ahead, or_no, or_none}
+use Rattle.beldi_known.proofs.Cases.{by_cases, if_is}
 
 -- ---- small facts
 pub tx_self : (s : TxId) → tx_eq s s ≡ true
@@ -27,11 +28,7 @@ owns_none s (Some (Tx t)) j h = refl
 
 -- .. and no other transaction
 pub owned_is : (s t : TxId) (o : Option Owner) → other_owner (Tx s) o ≡ None → o ≡ Some (Tx t) → t ≡ s
-owned_is s t o h g = by_test (tx_eq t s) refl (sym (ap (other_owner (Tx s)) g) ∙ h)
-  where
-    by_test : (b : Bool) → tx_eq t s ≡ b → (if b then None else Some (Tx t)) ≡ None → t ≡ s
-    by_test true e k = tx_same t s e
-    by_test false e k = cc
+owned_is s t o h g = by_cases (tx_eq t s) (tx_same t s) (λ e. let clash = sym (ap (other_owner (Tx s)) g ∙ ap (λ b. if b then None else Some (Tx t)) e) ∙ h in cc)
 
 -- ---- a lock that is ahead
 lock_here : (locked : IntentId → Bool) (id : IntentId) → lock_in locked id id ≡ true
@@ -42,10 +39,7 @@ lock_there locked id j h = ap (λ c. if c then true else locked j) h
 
 -- an instance that is put where it is
 put_same : (known : Known) (id : IntentId) (q : Instance) → map.get known id ≡ Some q → (j : IntentId) → map.get (map.insert known id q) j ≡ map.get known j
-put_same known id q is j = get-insert id_total known id q j ∙ (elim (is_eq (id_cmp j id)) as (λ b. is_eq (id_cmp j id) ≡ b → cond b (Some q) (map.get known j) ≡ map.get known j) [
-  | true ↦ λ e. sym (ap (map.get known) (id_same j id e) ∙ is)
-  | false ↦ λ e. refl
-] refl)
+put_same known id q is = known_set known id q (λ j o. o ≡ map.get known j) (sym is) (λ j other. refl)
 
 module _ (d : Deployment) (known : Known) (locked : IntentId → Bool) (id : IntentId) (q : Instance) (is : map.get known id ≡ Some q) (unlocked : locked id ≡ false)
     (s : TxId) (inside : tx_now d id q ≡ Some s) (o : ℕ × List ℕ) (touch : touched (effect_of d q) ≡ Some o) where
@@ -75,10 +69,10 @@ module _ (d : Deployment) (known : Known) (locked : IntentId → Bool) (id : Int
   ahead_more x m =
       ap (λ b. owed_note d x id b m (Some q)) (lock_here locked id)
       ∙ ap (λ t. note_or (answered_note d x id m q) (if m == n then ahead_by x q.func t (effect_of d q) true else None)) inside
-      ∙ (elim (m == n) as (λ b. (m == n) ≡ b → note_or (answered_note d x id m q) (if b then (if is_item x q.func (touched (effect_of d q)) then Some notes.Got else None) else None) ≡ (if b then (if is_item x q.func (touched (effect_of d q)) then Some notes.Got else None) else owed_note d x id (locked id) m (Some q))) [
-        | true ↦ λ e. ap (λ z. note_or z (if is_item x q.func (touched (effect_of d q)) then Some notes.Got else None)) (subst (λ k. answered_note d x id k q ≡ None) (sym (eqb-true m n e)) (step_next (λ ts a. note_by x q.func (tx_after d id q ts) (effect_after d q ts) a) q.answers))
-        | false ↦ λ e. sym (ap (λ b. note_or (answered_note d x id m q) (if b then ahead_by x q.func (tx_now d id q) (effect_of d q) (locked id) else None)) e)
-      ] refl)
+      ∙ sym (if_is (m == n)
+      (λ e. sym (ap (λ b. note_or (answered_note d x id m q) (if b then (if is_item x q.func (touched (effect_of d q)) then Some notes.Got else None) else None)) e
+      ∙ ap (λ z. note_or z (if is_item x q.func (touched (effect_of d q)) then Some notes.Got else None)) (subst (λ k. answered_note d x id k q ≡ None) (sym (eqb-true m n e)) (step_next (λ ts a. note_by x q.func (tx_after d id q ts) (effect_after d q ts) a) q.answers))))
+      (λ e. ap (λ b. note_or (answered_note d x id m q) (if b then ahead_by x q.func (tx_now d id q) (effect_of d q) (locked id) else None)) e ∙ sym (ap (λ b. note_or (answered_note d x id m q) (if b then (if is_item x q.func (touched (effect_of d q)) then Some notes.Got else None) else None)) e)))
 
   pub note_ahead : (x : Item) (a : Place) → owed_note d x a.intent (taken a.intent) a.step (map.get known a.intent) ≡ (if place_eq p a then (if is_item x q.func (touched (effect_of d q)) then Some notes.Got else None) else owed_note d x a.intent (locked a.intent) a.step (map.get known a.intent))
   note_ahead x a = ap (owed_note d x a.intent (taken a.intent) a.step) (sym (put_same known id q is a.intent))
@@ -87,44 +81,31 @@ module _ (d : Deployment) (known : Known) (locked : IntentId → Bool) (id : Int
 
   -- nothing was owed there before
   owed_before : (x : Item) → owed_note d x id (locked id) n (map.get known id) ≡ None
-  owed_before x = ap (owed_note d x id (locked id) n) is ∙ ap (λ b. note_or (answered_note d x id n q) (if n == n then ahead_by x q.func (tx_now d id q) (effect_of d q) b else None)) unlocked
-      ∙ ap (λ z. note_or z (if n == n then ahead_by x q.func (tx_now d id q) (effect_of d q) false else None)) (step_next (λ ts a. note_by x q.func (tx_after d id q ts) (effect_after d q ts) a) q.answers) ∙ by_tx (n == n) (tx_now d id q)
-    where
-      by_tx : (b : Bool) (t : Option TxId) → note_or None (if b then ahead_by x q.func t (effect_of d q) false else None) ≡ None
-      by_tx true None = refl
-      by_tx true (Some t) = refl
-      by_tx false t = refl
+  owed_before x = ap (owed_note d x id (locked id) n) is ∙ ap (λ b. note_or (answered_note d x id n q) (ahead_note d x id b n q)) unlocked ∙ ap (note_or (answered_note d x id n q)) (not_ahead d x id n q) ∙ or_none (answered_note d x id n q)
+      ∙ step_next (λ ts a. note_by x q.func (tx_after d id q ts) (effect_after d q ts) a) q.answers
 
   -- what is got: this item by this transaction, and what was
   got_of : (t : TxId) (x : Item) → got_by d t x id (taken id) (map.get known id) ≡ (got_before d t x id q || (tx_eq t s && is_eq (item_cmp item x)))
   got_of t x = ap (λ b. got_by d t x id b (map.get known id)) (lock_here locked id) ∙ ap (got_by d t x id true) is ∙ ap (λ b. got_before d t x id q || b) (is_on_it t x)
 
   pub got_more : (t : TxId) (x : Item) → Got d known locked t x → Got d known taken t x
-  got_more t x g = record { member = g.member; got = by_id (is_eq (id_cmp g.member id)) refl }
-    where
-      or_first : (b c : Bool) → (b || false) ≡ true → (b || c) ≡ true
-      or_first true c k = refl
-      or_first false c k = cc
-
-      by_id : (b : Bool) → is_eq (id_cmp g.member id) ≡ b → got_by d t x g.member (taken g.member) (map.get known g.member) ≡ true
-      by_id true e = subst (λ j. got_by d t x j (taken j) (map.get known j) ≡ true) (sym (id_same g.member id e))
-          (got_of t x ∙ or_first (got_before d t x id q) (tx_eq t s && is_eq (item_cmp item x)) (sym (ap (got_by d t x id (locked id)) is ∙ ap (λ b. got_before d t x id q || (b && is_on t x q.func (tx_now d id q) (effect_of d q))) unlocked)
-          ∙ subst (λ j. got_by d t x j (locked j) (map.get known j) ≡ true) (id_same g.member id e) g.got))
-      by_id false e = ap (λ b. got_by d t x g.member b (map.get known g.member)) (lock_there locked id g.member e) ∙ g.got
+  got_more t x g = record {
+    member = g.member;
+    got = by_cases (is_eq (id_cmp g.member id)) (λ e. subst (λ j. got_by d t x j (taken j) (map.get known j) ≡ true) (sym (id_same g.member id e))
+        (got_of t x ∙ or_left (got_before d t x id q) (tx_eq t s && is_eq (item_cmp item x)) (sym (or_no (got_before d t x id q)) ∙ sym (ap (got_by d t x id (locked id)) is ∙ ap (λ b. got_before d t x id q || (b && is_on t x q.func (tx_now d id q) (effect_of d q))) unlocked)
+        ∙ subst (λ j. got_by d t x j (locked j) (map.get known j) ≡ true) (id_same g.member id e) g.got)))
+        (λ e. ap (λ b. got_by d t x g.member b (map.get known g.member)) (lock_there locked id g.member e) ∙ g.got);
+  }
 
   -- .. and no more
   pub got_less : (t : TxId) (x : Item) → Got d known taken t x → (tx_eq t s && is_eq (item_cmp item x)) ≡ false → Got d known locked t x
-  got_less t x g apart = record { member = g.member; got = by_id (is_eq (id_cmp g.member id)) refl }
-    where
-      or_drop : (b : Bool) → (b || false) ≡ true → b ≡ true
-      or_drop true k = refl
-      or_drop false k = cc
-
-      by_id : (b : Bool) → is_eq (id_cmp g.member id) ≡ b → got_by d t x g.member (locked g.member) (map.get known g.member) ≡ true
-      by_id true e = subst (λ j. got_by d t x j (locked j) (map.get known j) ≡ true) (sym (id_same g.member id e))
-          (ap (got_by d t x id (locked id)) is ∙ or_left (got_before d t x id q) (locked id && is_on t x q.func (tx_now d id q) (effect_of d q))
-          (or_drop (got_before d t x id q) (sym (got_of t x ∙ ap (λ b. got_before d t x id q || b) apart) ∙ subst (λ j. got_by d t x j (taken j) (map.get known j) ≡ true) (id_same g.member id e) g.got)))
-      by_id false e = sym (ap (λ b. got_by d t x g.member b (map.get known g.member)) (lock_there locked id g.member e)) ∙ g.got
+  got_less t x g apart = record {
+    member = g.member;
+    got = by_cases (is_eq (id_cmp g.member id)) (λ e. subst (λ j. got_by d t x j (locked j) (map.get known j) ≡ true) (sym (id_same g.member id e))
+        (ap (got_by d t x id (locked id)) is ∙ or_left (got_before d t x id q) (locked id && is_on t x q.func (tx_now d id q) (effect_of d q))
+        (sym (got_of t x ∙ ap (λ b. got_before d t x id q || b) apart ∙ or_no (got_before d t x id q)) ∙ subst (λ j. got_by d t x j (taken j) (map.get known j) ≡ true) (id_same g.member id e) g.got)))
+        (λ e. sym (ap (λ b. got_by d t x g.member b (map.get known g.member)) (lock_there locked id g.member e)) ∙ g.got);
+  }
 
   -- its item's content
   module _ (c : Content) (none : note_at c.notes p ≡ None) (free : other_owner (Tx s) c.owner ≡ None) where
@@ -134,36 +115,23 @@ module _ (d : Deployment) (known : Known) (locked : IntentId → Bool) (id : Int
     pub lock_taken : ItemMatches d known locked item c → ItemMatches d known taken item locked_content
     lock_taken h = record {
       owner = λ j. sym (owns_none s c.owner j free) ∙ h.owner j;
-      notes = λ a apart. note_pushed c.notes p a notes.Got none ∙ by_place a apart (place_eq p a) refl ∙ sym (note_ahead item a);
+      notes = λ a apart. note_pushed c.notes p a notes.Got none ∙ ap (λ z. if place_eq p a then z else note_at c.notes a) (sym (ap (λ b. if b then Some notes.Got else None) on_it))
+          ∙ ap (λ z. if place_eq p a then (if is_item item q.func (touched (effect_of d q)) then Some notes.Got else None) else z) (h.notes a apart) ∙ sym (note_ahead item a);
     }
-      where
-        by_place : (a : Place) → is_mark d known a.step (map.get known a.intent) ≡ false → (b : Bool) → place_eq p a ≡ b → (if b then Some notes.Got else note_at c.notes a)
-            ≡ (if b then (if is_item item q.func (touched (effect_of d q)) then Some notes.Got else None) else owed_note d item a.intent (locked a.intent) a.step (map.get known a.intent))
-        by_place a apart true e = sym (ap (λ b. if b then Some notes.Got else None) on_it)
-        by_place a apart false e = h.notes a apart
 
     pub txs_taken : TxsMatch d known locked item c.owner → TxsMatch d known taken item (Some (Tx s))
     txs_taken h = record {
       owned_is_got = λ t e. let same : s ≡ t = cc in record { member = id; got = got_of t item ∙ or_right (got_before d t item id q) (tx_eq t s && is_eq (item_cmp item item)) (and_from (tx_eq t s) (is_eq (item_cmp item item)) (subst (λ z. tx_eq z s ≡ true) same (tx_self s)) (ap is_eq (tied_itself item_total item))) };
-      got_is_owned = λ t g open_still. by_test t g open_still (tx_eq t s) refl;
+      got_is_owned = λ t g open_still. ap (λ z. Some (Tx z)) (sym (by_cases (tx_eq t s) (tx_same t s) (λ e. owned_is s t c.owner free (h.got_is_owned t (got_less t item g (ap (λ b. b && is_eq (item_cmp item item)) e)) open_still))));
     }
-      where
-        by_test : (t : TxId) → Got d known taken t item → tx_end d known t ≡ None → (b : Bool) → tx_eq t s ≡ b → Some (Tx s) ≡ Some (Tx t)
-        by_test t g open_still true e = ap (λ z. Some (Tx z)) (sym (tx_same t s e))
-        by_test t g open_still false e = ap (λ z. Some (Tx z)) (sym (owned_is s t c.owner free (h.got_is_owned t (got_less t item g (ap (λ b. b && is_eq (item_cmp item item)) e)) open_still)))
 
   -- all other items
   pub lock_kept : (x : Item) (c : Content) → is_eq (item_cmp item x) ≡ false → ItemMatches d known locked x c → ItemMatches d known taken x c
   lock_kept x c other h = record {
     owner = h.owner;
-    notes = λ a apart. h.notes a apart ∙ by_place a (place_eq p a) refl ∙ sym (note_ahead x a);
+    notes = λ a apart. h.notes a apart ∙ sym (note_ahead x a ∙ if_is (place_eq p a) (λ e. subst (λ (z : Place). (if is_item x q.func (touched (effect_of d q)) then Some notes.Got else None) ≡ owed_note d x z.intent (locked z.intent) z.step (map.get known z.intent)) (place_same p a e)
+        (ap (λ b. if b then Some notes.Got else None) (on_item x ∙ other) ∙ sym (owed_before x))) (λ e. refl));
   }
-    where
-      by_place : (a : Place) (b : Bool) → place_eq p a ≡ b → owed_note d x a.intent (locked a.intent) a.step (map.get known a.intent)
-          ≡ (if b then (if is_item x q.func (touched (effect_of d q)) then Some notes.Got else None) else owed_note d x a.intent (locked a.intent) a.step (map.get known a.intent))
-      by_place a true e = subst (λ (z : Place). owed_note d x z.intent (locked z.intent) z.step (map.get known z.intent) ≡ (if is_item x q.func (touched (effect_of d q)) then Some notes.Got else None)) (place_same p a e)
-          (owed_before x ∙ sym (ap (λ b. if b then Some notes.Got else None) (on_item x ∙ other)))
-      by_place a false e = refl
 
   pub txs_kept : (x : Item) (c : Option Owner) → is_eq (item_cmp item x) ≡ false → TxsMatch d known locked x c → TxsMatch d known taken x c
   txs_kept x c other h = record {

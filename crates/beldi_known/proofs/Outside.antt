@@ -6,12 +6,12 @@ use Rattle.beldi_known.proofs.Names.kinds
 use Rattle.beldi_known.proofs.Names.map
 use Rattle.beldi_known.proofs.Names.owner
 use Rattle.beldi_known.proofs.Names.rows
-use Rattle.beldi_known.proofs.Acts.{kinds_apart, is_data, is_shadow, content_apart, shadow_apart, by_item, turned}
-use Rattle.beldi_known.proofs.Rows.{keys_set, keys_at}
+use Rattle.beldi_known.proofs.Acts.{log_set, head_at}
 use Rattle.beldi_known.proofs.Owners.{IsFreeFor, unbarred}
 use Rattle.beldi_known.proofs.Operations.{Does}
-use Rattle.beldi_known.proofs.FrameAt.{holds_one, note_one, got_one, note_same, calls_same, read_none, read_one}
-use Rattle.beldi_known.proofs.Fronts.{intents_same, mark_same, tx_end_same, shadow_kept, locksets_kept, read_elsewhere}
+use Rattle.beldi_known.proofs.FrameAt.{holds_one, note_one, got_one, note_same, read_none, read_here, item_alike, txs_alike}
+use Rattle.beldi_known.proofs.Fronts.{row_by, mark_same, tx_end_same, shadow_kept, locksets_kept, read_elsewhere}
+use Rattle.beldi_known.proofs.Cases.{if_same}
 
 -- ---- an answer outside, or to an effect that touches no item, but to an End: what it leaves of all that it does not answer
 -- no item is touched inside
@@ -48,10 +48,7 @@ module _ (d : Deployment) (known : Known) (locked : IntentId → Bool) (id : Int
   }
 
   pub txs_kept : (x : Item) (c : Option Owner) → TxsMatch d known locked x c → TxsMatch d after locked x c
-  txs_kept x c h = record {
-    owned_is_got = λ t e. let g = h.owned_is_got t e in record { member = g.member; got = got_same t x g.member ∙ g.got };
-    got_is_owned = λ t g open_still. h.got_is_owned t (record { member = g.member; got = sym (got_same t x g.member) ∙ g.got }) (sym (tx_end_same d known locked locked id q r a is one out quiet t) ∙ open_still);
-  }
+  txs_kept x = txs_alike d known after locked locked x (λ t. got_same t x) (λ t e. sym (tx_end_same d known locked locked id q r a is one out quiet t) ∙ e)
 
   shadows_kept : (t : TxId) (x : Item) (c : Content) → ShadowMatches d known t x c → ShadowMatches d after t x c
   shadows_kept t x c h = shadow_kept d known locked locked id q r a is one out t x c none h
@@ -64,35 +61,25 @@ module _ (d : Deployment) (known : Known) (locked : IntentId → Bool) (id : Int
       none : shadow_by t x q.func (tx_now d id q) (effect_of d q) a ≡ None
       none = elim away [
         | inl outside ↦ ap (λ s. shadow_by t x q.func s (effect_of d q) a) outside
-        | inr apart ↦ ap (λ o. if is_tx t (tx_now d id q) then note_of x q.func o a else None) (no_write (effect_of d q) apart) ∙ by_test (is_tx t (tx_now d id q))
+        | inr apart ↦ ap (λ o. if is_tx t (tx_now d id q) then note_of x q.func o a else None) (no_write (effect_of d q) apart) ∙ if_same (is_tx t (tx_now d id q)) None
       ]
-        where
-          by_test : (b : Bool) → ◌≡◌ {A = Option Note} (if b then None else None) None
-          by_test true = refl
-          by_test false = refl
 
   -- every row, but that of a read
   pub row_kept : (home : ℕ) (kind : Kind) (row : Option Row) → ((b : Place) → kind ≡ kinds.ReadLog b → owed_read d after home b ≡ owed_read d known home b) → RowMatches d known home kind row → RowMatches d after home kind row
-  row_kept home (kinds.Intent j) row same g = intents_same d known locked locked id q r a is one out home j row g
-  row_kept home (kinds.ReadLog b) row same g = subst (LogMatches row) (sym (same b refl)) g
-  row_kept home (kinds.Invoke b) row same g = subst (CallMatches row) (sym (calls_same d known id q r a is one home b)) g
-  row_kept home (kinds.Lockset j b t k) row same g = let x : Item = record { func = home; table = t; key = k } in
+  row_kept home kind row same = row_by d known locked locked id q r a is one out home kind row same (λ j b t k e. let x : Item = record { func = home; table = t; key = k } in
       locksets_kept d known locked locked id q r a is one out quiet b x j row (asks_none b x)
-      (ap (λ u. is_none q.outcome && (is_open d known (tx_now d id q) && u)) (asks_none b x) ∙ and_right (is_none q.outcome) _ (and_right (is_open d known (tx_now d id q)) false refl)) g
+      (ap (λ u. is_none q.outcome && (is_open d known (tx_now d id q) && u)) (asks_none b x) ∙ and_right (is_none q.outcome) _ (and_right (is_open d known (tx_now d id q)) false refl)))
     where
       asks_none : (b : ℕ) (x : Item) → asks_lock b x q.func (tx_now d id q) (effect_of d q) ≡ false
       asks_none b x = elim away [
         | inl outside ↦ ap (λ s. asks_lock b x q.func s (effect_of d q)) outside
         | inr none ↦ ap (λ o. begins_at b (tx_now d id q) && is_item x q.func o) none ∙ and_right (begins_at b (tx_now d id q)) false refl
       ]
-  row_kept home kind row same g = g
 
   -- an item, where the effect is no operation
   pub item_same : op_of (effect_of d q) ≡ None → (x : Item) (c : Content) → ItemMatches d known locked x c → ItemMatches d after locked x c
-  item_same none x c h = record {
-    owner = holds_one d known id q r a is one x (λ j b. is_owner c.owner (owner.Intent j) ≡ b) (h.owner id ∙ sym (ap (λ z. held_if x q.func z (holds d x (map.get known id))) none)) (λ j apart. h.owner j);
-    notes = λ b apart. h.notes b (unmarked b apart) ∙ sym (note_same d known id q r a is one locked locked out x no_note unlocked b);
-  }
+  item_same none x = item_alike d known after locked locked x
+      (holds_one d known id q r a is one x (λ j b. b ≡ holds d x (map.get known j)) (ap (λ z. held_if x q.func z (holds d x (map.get known id))) none) (λ j apart. refl)) unmarked (note_same d known id q r a is one locked locked out x no_note unlocked)
     where
       by_tx : touched (effect_of d q) ≡ None → (t : Option TxId) → note_by x q.func t (effect_of d q) a ≡ None
       by_tx apart None = ap (λ z. note_of x q.func z a) none
@@ -116,19 +103,10 @@ module _ (d : Deployment) (known : Known) (locked : IntentId → Bool) (id : Int
   -- the row of a read is added with its answer
   pub read_added : (m : Rows) (v : Value) → op_of (effect_of d q) ≡ None → row_added (length q.answers) (txs_after d q q.answers).begun (effect_of d q) a ≡ Some (length q.answers, v) → Matches d m known locked
       → Matches d (set_row m (log_key q.func (place_of id (length q.answers))) (Some (rows.ReadLog v))) after locked
-  read_added m v none added h = let k = log_key q.func (place_of id (length q.answers)) in record {
-    keys = keys_set m k (Some (rows.ReadLog v)) (λ l z. RowMatches d after l.home l.kind z) (subst (λ z. z ≡ Some v) (sym read_here) refl) (λ l other. row_kept l.home l.kind (map.get m l) (λ b kind. read_apart l b kind other) (h.keys l));
-    items = λ x. subst (ItemMatches d after locked x) (sym (content_apart m k (Some (rows.ReadLog v)) x (kinds_apart is_data (head_key x) k refl refl))) (item_same none x (content_of m x) (h.items x));
-    shadows = λ t x. subst (ShadowMatches d after t x) (sym (shadow_apart m k (Some (rows.ReadLog v)) t x (kinds_apart is_shadow (shadow_key t x) k refl refl))) (shadows_kept t x (shadow_of m t x) (h.shadows t x));
-    txs = λ x. subst (λ (c : Content). TxsMatch d after locked x c.owner) (sym (content_apart m k (Some (rows.ReadLog v)) x (kinds_apart is_data (head_key x) k refl refl))) (txs_kept x (content_of m x).owner (h.txs x));
-  }
-    where
-      read_here : owed_read d after q.func (place_of id (length q.answers)) ≡ Some v
-      read_here = read_one d known id q r a is one (length q.answers) v added q.func (place_of id (length q.answers))
-          ∙ ap (λ c. if c then (if q.func == q.func then Some v else None) else owed_read d known q.func (place_of id (length q.answers))) (place_self (place_of id (length q.answers))) ∙ ap (λ c. if c then Some v else None) (eq-eqb q.func q.func refl)
-
-      read_apart : (l : RowKey) (b : Place) → l.kind ≡ kinds.ReadLog b → is_eq (key_cmp l (log_key q.func (place_of id (length q.answers)))) ≡ false → owed_read d after l.home b ≡ owed_read d known l.home b
-      read_apart l b kind other = read_elsewhere d known locked locked id q r a is one out (length q.answers) v added l.home b (subst (λ (z : Kind). is_eq (key_cmp (record { home = l.home; kind = z }) (log_key q.func (place_of id (length q.answers)))) ≡ false) kind other)
+  read_added m v none added h = let k = log_key q.func (place_of id (length q.answers)) in
+      log_set d after locked m k (Some (rows.ReadLog v)) refl (subst (λ z. z ≡ Some v) (sym (read_here d known id q r a is one (length q.answers) v added)) refl)
+      (λ l other. row_kept l.home l.kind (map.get m l) (λ b kind. read_elsewhere d known locked locked id q r a is one out (length q.answers) v added l.home b (subst (λ (z : Kind). is_eq (key_cmp (record { home = l.home; kind = z }) k) ≡ false) kind other)) (h.keys l))
+      (λ x. item_same none x (content_of m x) (h.items x)) (λ t x. shadows_kept t x (shadow_of m t x) (h.shadows t x)) (λ x. txs_kept x (content_of m x).owner (h.txs x))
 
 -- ---- an operation
 op_quiet : (e : Effect) (o : OnItem) → op_of e ≡ Some o → commit_in e ≡ None
@@ -138,8 +116,7 @@ op_quiet e o h = refl
 op_adds_none : (n : ℕ) (b : Option ℕ) (e : Effect) (o : OnItem) (a : Answer) → op_of e ≡ Some o → row_added n b e a ≡ None
 op_adds_none n b (effect.Read t k) o a h = cc
 op_adds_none n b (effect.End c) o a h = cc
-op_adds_none n None e o a h = refl
-op_adds_none n (Some b) e o a h = refl
+op_adds_none n b e o a h = elim b as (λ c. row_added n c e a ≡ None) [ None ↦ refl | Some c ↦ refl ]
 
 -- who owns its item then is no transaction, nor was one before
 pub no_tx : (id : IntentId) (was : Option Owner) → IsFreeFor id was → (t : TxId) → was ≡ Some (owner.Tx t) → ⊥
@@ -196,29 +173,14 @@ module _ (d : Deployment) (known : Known) (locked : IntentId → Bool) (id : Int
 
   -- all others
   pub item_kept : (x : Item) (c : Content) → is_eq (item_cmp item x) ≡ false → ItemMatches d known locked x c → ItemMatches d now locked x c
-  item_kept x c other h = record {
-    owner = holds_one d known id q r a is one x (λ j b. is_owner c.owner (owner.Intent j) ≡ b)
-        (h.owner id ∙ sym (held_here x (holds d x (map.get known id)) ∙ ap (λ t. if t then held_by o.does (holds d x (map.get known id)) else holds d x (map.get known id)) other)) (λ j apart. h.owner j);
-    notes = λ b apart. h.notes b (unmarked d known locked id q r a is unlocked (inl outside) ends_none one b apart)
-        ∙ sym (note_same d known id q r a is one locked locked still x (note_here x ∙ ap (λ t. if t then noted o.does a else None) other) unlocked b);
-  }
+  item_kept x c other = item_alike d known now locked locked x
+      (holds_one d known id q r a is one x (λ j b. b ≡ holds d x (map.get known j)) (held_here x (holds d x (map.get known id)) ∙ ap (λ t. if t then held_by o.does (holds d x (map.get known id)) else holds d x (map.get known id)) other) (λ j apart. refl))
+      (unmarked d known locked id q r a is unlocked (inl outside) ends_none one) (note_same d known id q r a is one locked locked still x (note_here x ∙ ap (λ t. if t then noted o.does a else None) other) unlocked) c
 
   -- and the rows
   pub operation_done : (m n : Rows) → DoneRows m n item p op → (content_of m item).value ≡ w → Matches d m known locked → Matches d n now locked
-  operation_done m n did value h = record {
-    keys = keys_at m n (head_key item) (λ l z. RowMatches d now l.home l.kind z) did.same did.sound
-        (λ l other. row_kept d known locked id q r a is unlocked (inl outside) ends_none one l.home l.kind (map.get m l) (λ b kind. read_none d known id q r a is one (op_adds_none (length q.answers) (txs_after d q q.answers).begun (effect_of d q) o a wants_it) l.home b) (h.keys l));
-    items = λ x. by_item item x (λ x. ItemMatches d now locked x (content_of n x))
-        (subst (ItemMatches d now locked item) (sym did.here) (item_done (content_of m item) value did.none did.free (h.items item)))
-        (λ other. subst (ItemMatches d now locked x) (sym (same_content x other)) (item_kept x (content_of m x) other (h.items x)));
-    shadows = λ t x. subst (ShadowMatches d now t x) (ap content_in (sym (did.same (shadow_key t x) (kinds_apart is_shadow (shadow_key t x) (head_key item) refl refl))))
-        (shadows_kept d known locked id q r a is unlocked (inl outside) ends_none one t x (shadow_of m t x) (h.shadows t x));
-    txs = λ x. by_item item x (λ x. TxsMatch d now locked x (content_of n x).owner)
-        (subst (λ (c : Content). TxsMatch d now locked item c.owner) (sym did.here)
-        (txs_done d known locked id q r a is unlocked (inl outside) ends_none one item (content_of m item).owner (owner_after op who (content_of m item).owner) (no_tx id (content_of m item).owner (unbarred op id (content_of m item).owner did.free))
-        (no_tx id (owner_after op who (content_of m item).owner) (free_after op id (content_of m item).owner did.free)) (h.txs item)))
-        (λ other. subst (λ (c : Content). TxsMatch d now locked x c.owner) (sym (same_content x other)) (txs_kept d known locked id q r a is unlocked (inl outside) ends_none one x (content_of m x).owner (h.txs x)));
-  }
-    where
-      same_content : (x : Item) → is_eq (item_cmp item x) ≡ false → content_of n x ≡ content_of m x
-      same_content x other = ap content_in (did.same (head_key x) (turned item x other))
+  operation_done m n did value h = let was = (content_of m item).owner in head_at d now locked m n item (done_to p who op (content_of m item)) did.same did.here did.sound
+      (λ l. row_kept d known locked id q r a is unlocked (inl outside) ends_none one l.home l.kind (map.get m l) (λ b kind. read_none d known id q r a is one (op_adds_none (length q.answers) (txs_after d q q.answers).begun (effect_of d q) o a wants_it) l.home b) (h.keys l))
+      (item_done (content_of m item) value did.none did.free (h.items item)) (λ x other. item_kept x (content_of m x) other (h.items x)) (λ t x. shadows_kept d known locked id q r a is unlocked (inl outside) ends_none one t x (shadow_of m t x) (h.shadows t x))
+      (txs_done d known locked id q r a is unlocked (inl outside) ends_none one item was (owner_after op who was) (no_tx id was (unbarred op id was did.free)) (no_tx id (owner_after op who was) (free_after op id was did.free)) (h.txs item))
+      (λ x other. txs_kept d known locked id q r a is unlocked (inl outside) ends_none one x (content_of m x).owner (h.txs x))

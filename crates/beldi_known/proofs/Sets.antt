@@ -3,10 +3,9 @@ use Rattle.beldi_known.proofs.Names.{Bool, CallMatches, Content, Deployment, Ins
 use Rattle.beldi_known.proofs.Names.kinds
 use Rattle.beldi_known.proofs.Names.map
 use Rattle.beldi_known.proofs.Names.rows
-use Rattle.beldi_known.proofs.Acts.{kinds_apart, content_apart, shadow_apart}
-use Rattle.beldi_known.proofs.FrameAt.{known_set, or_no}
+use Rattle.beldi_known.proofs.Acts.{is_cell, log_set}
+use Rattle.beldi_known.proofs.FrameAt.{known_set, item_alike, txs_alike, lockset_by, or_no}
 use Rattle.beldi_known.proofs.Instances.{EndMore, intent_stays}
-use Rattle.beldi_known.proofs.Rows.{keys_set}
 
 -- what is at an id owes what was owed there, and has no lock ahead
 pub record OwesStill (d : Deployment) (known : Known) (id : IntentId) (o : Option Instance) (s : Instance) : Type 0 where
@@ -25,6 +24,11 @@ abbrev pub is_log : Kind → Bool
 is_log (kinds.Intent id) = true
 is_log (kinds.Invoke a) = true
 is_log k = false
+
+no_cell : (k : Kind) → is_log k ≡ true → is_cell k ≡ false
+no_cell (kinds.Data t k n) h = cc
+no_cell (kinds.Shadow s t k n) h = cc
+no_cell k h = refl
 
 module _ (d : Deployment) (known : Known) (locked : IntentId → Bool) (id : IntentId) (s : Instance) (unlocked : locked id ≡ false) (owes : OwesStill d known id (map.get known id) s) where
   abbrev after : Known
@@ -61,22 +65,19 @@ module _ (d : Deployment) (known : Known) (locked : IntentId → Bool) (id : Int
   got_same t x = as_before (λ j o. got_by d t x j (locked j) o) (subst (λ c. got_by d t x id c (Some s) ≡ got_by d t x id c (map.get known id)) (sym unlocked) (owes.got t x))
 
   item_same : (x : Item) (c : Content) → ItemMatches d known locked x c → ItemMatches d after locked x c
-  item_same x c h = record {
-    owner = λ j. h.owner j ∙ sym (as_before (λ j o. holds d x o) (owes.held x) j);
-    notes = λ b apart. h.notes b (unmarked b apart) ∙ sym (notes_same x b);
-  }
+  item_same x = item_alike d known after locked locked x (as_before (λ j o. holds d x o) (owes.held x)) unmarked (notes_same x)
 
   shadow_same : (t : TxId) (x : Item) (c : Content) → ShadowMatches d known t x c → ShadowMatches d after t x c
   shadow_same t x c h b = h b ∙ sym (as_before (λ j o. owed_shadow d t x j b.step o) (owes.shadows t x b.step) b.intent)
 
   txs_same : (x : Item) (c : Option Owner) → TxsMatch d known locked x c → TxsMatch d after locked x c
-  txs_same x c h = record {
-    owned_is_got = λ t e. let g = h.owned_is_got t e in record { member = g.member; got = got_same t x g.member ∙ g.got };
-    got_is_owned = λ t g open_still. h.got_is_owned t (record { member = g.member; got = sym (got_same t x g.member) ∙ g.got }) (sym (ends_same t) ∙ open_still);
-  }
+  txs_same x = txs_alike d known after locked locked x (λ t. got_same t x) (λ t e. sym (ends_same t) ∙ e)
 
   lockset_same : (b : ℕ) (x : Item) (j : IntentId) (row : Option Row) → LocksetMatches row (owed_lockset d b x j (map.get known j)) (lockset_ahead d known b x j (map.get known j)) → LocksetMatches row (owed_lockset d b x j (map.get after j)) (lockset_ahead d after b x j (map.get after j))
-  lockset_same b x j row g = by_row row g
+  lockset_same b x j row = lockset_by d known after locked locked x b j row (λ at k. owed j ∙ k) (λ at k. ap (λ u. u || lockset_ahead d after b x j (map.get after j)) (owed j)
+      ∙ known_set known id s (λ i o. (owed_lockset d b x i (map.get known i) || lockset_ahead d known b x i (map.get known i)) ≡ true → (owed_lockset d b x i (map.get known i) || lockset_ahead d after b x i o) ≡ true)
+      (λ k. ap (λ u. u || lockset_ahead d after b x id (Some s)) (sym (or_no (owed_lockset d b x id (map.get known id))) ∙ ap (λ u. owed_lockset d b x id (map.get known id) || u) (sym (owes.behind b x)) ∙ k))
+      (λ i other k. ap (λ u. owed_lockset d b x i (map.get known i) || u) (ahead i (map.get known i)) ∙ k) j k)
     where
       owed : (i : IntentId) → owed_lockset d b x i (map.get after i) ≡ owed_lockset d b x i (map.get known i)
       owed i = as_before (λ i o. owed_lockset d b x i o) (owes.locksets b x) i
@@ -84,17 +85,6 @@ module _ (d : Deployment) (known : Known) (locked : IntentId → Bool) (id : Int
       ahead : (i : IntentId) (o : Option Instance) → lockset_ahead d after b x i o ≡ lockset_ahead d known b x i o
       ahead i None = refl
       ahead i (Some z) = ap (λ u. is_none z.outcome && (u && (begins_at b (tx_now d i z) && is_item x z.func (touched (effect_of d z))))) (open_same (tx_now d i z))
-
-      by_row : (row : Option Row) → LocksetMatches row (owed_lockset d b x j (map.get known j)) (lockset_ahead d known b x j (map.get known j)) → LocksetMatches row (owed_lockset d b x j (map.get after j)) (lockset_ahead d after b x j (map.get after j))
-      by_row None g = owed j ∙ g
-      by_row (Some rows.Lockset) g = ap (λ u. u || lockset_ahead d after b x j (map.get after j)) (owed j)
-          ∙ known_set known id s (λ i o. (owed_lockset d b x i (map.get known i) || lockset_ahead d known b x i (map.get known i)) ≡ true → (owed_lockset d b x i (map.get known i) || lockset_ahead d after b x i o) ≡ true)
-          (λ k. ap (λ u. u || lockset_ahead d after b x id (Some s)) (sym (or_no (owed_lockset d b x id (map.get known id))) ∙ ap (λ u. owed_lockset d b x id (map.get known id) || u) (sym (owes.behind b x)) ∙ k))
-          (λ i other k. ap (λ u. owed_lockset d b x i (map.get known i) || u) (ahead i (map.get known i)) ∙ k) j g
-      by_row (Some (rows.Intent i)) g = g
-      by_row (Some (rows.ReadLog i)) g = g
-      by_row (Some (rows.Invoke i)) g = g
-      by_row (Some (rows.Cell i)) g = g
 
   -- a row matches still, where its own do and calls are owed as before
   pub row_same : (home : ℕ) (kind : Kind) (row : Option Row) → (kind ≡ kinds.Intent id → IntentMatches (has_ended d known) (has_no_hops id.hops) home row (map.get known id) → IntentMatches (has_ended d known) (has_no_hops id.hops) home row (Some s))
@@ -111,24 +101,9 @@ module _ (d : Deployment) (known : Known) (locked : IntentId → Bool) (id : Int
   pub instance_set : (m : Rows) (k : RowKey) (v : Option Row) → is_log k.kind ≡ true → RowMatches d after k.home k.kind v
       → ((l : RowKey) → is_eq (key_cmp l k) ≡ false → l.kind ≡ kinds.Intent id → IntentMatches (has_ended d known) (has_no_hops id.hops) l.home (map.get m l) (map.get known id) → IntentMatches (has_ended d known) (has_no_hops id.hops) l.home (map.get m l) (Some s))
       → ((l : RowKey) (b : Place) → is_eq (key_cmp l k) ≡ false → l.kind ≡ kinds.Invoke b → owed_call after l.home b ≡ owed_call known l.home b) → Matches d m known locked → Matches d (set_row m k v) after locked
-  instance_set m k v kind here own calls h = record {
-    keys = keys_set m k v (λ l z. RowMatches d after l.home l.kind z) here (λ l other. row_same l.home l.kind (map.get m l) (own l other) (λ b e. calls l b other e) (h.keys l));
-    items = λ x. subst (ItemMatches d after locked x) (sym (content_apart m k v x (apart (head_key x) refl))) (item_same x (content_of m x) (h.items x));
-    shadows = λ t x. subst (ShadowMatches d after t x) (sym (shadow_apart m k v t x (apart (shadow_key t x) refl))) (shadow_same t x (shadow_of m t x) (h.shadows t x));
-    txs = λ x. subst (λ (c : Content). TxsMatch d after locked x c.owner) (sym (content_apart m k v x (apart (head_key x) refl))) (txs_same x (content_of m x).owner (h.txs x));
-  }
-    where
-      apart : (l : RowKey) → is_log l.kind ≡ false → is_eq (key_cmp l k) ≡ false
-      apart l e = kinds_apart (λ z. not (is_log z)) l k (ap not e) (ap not kind)
+  instance_set m k v kind here own calls h = log_set d after locked m k v (no_cell k.kind kind) here (λ l other. row_same l.home l.kind (map.get m l) (own l other) (λ b e. calls l b other e) (h.keys l))
+      (λ x. item_same x (content_of m x) (h.items x)) (λ t x. shadow_same t x (shadow_of m t x) (h.shadows t x)) (λ x. txs_same x (content_of m x).owner (h.txs x))
 
 -- only a row of an intent or of a call was set, to one that matches as well
 pub row_put : (d : Deployment) (known : Known) (locked : IntentId → Bool) (m : Rows) (k : RowKey) (v : Option Row) → is_log k.kind ≡ true → RowMatches d known k.home k.kind v → Matches d m known locked → Matches d (set_row m k v) known locked
-row_put d known locked m k v kind here h = record {
-  keys = keys_set m k v (λ l z. RowMatches d known l.home l.kind z) here (λ l other. h.keys l);
-  items = λ x. subst (ItemMatches d known locked x) (sym (content_apart m k v x (apart (head_key x) refl))) (h.items x);
-  shadows = λ t x. subst (ShadowMatches d known t x) (sym (shadow_apart m k v t x (apart (shadow_key t x) refl))) (h.shadows t x);
-  txs = λ x. subst (λ (c : Content). TxsMatch d known locked x c.owner) (sym (content_apart m k v x (apart (head_key x) refl))) (h.txs x);
-}
-  where
-    apart : (l : RowKey) → is_log l.kind ≡ false → is_eq (key_cmp l k) ≡ false
-    apart l e = kinds_apart (λ z. not (is_log z)) l k (ap not e) (ap not kind)
+row_put d known locked m k v kind here h = log_set d known locked m k v (no_cell k.kind kind) here (λ l other. h.keys l) h.items h.shadows h.txs
