@@ -20,6 +20,7 @@ use Rattle.beldi_known.proofs.Owns.{not_ended, seen, unwritten}
 use Rattle.beldi_known.proofs.Shadows.{more_writes, writing_more, of_row, there_value, others_rows, row_set, got_answered, got_passed, got_still, got_set, shadows_rows}
 use Rattle.beldi_known.proofs.Steps.{GoesOn, goes_answered, goes_called, goes_returned}
 use Rattle.beldi_known.proofs.Told.{write_parts, test_parts}
+use Rattle.beldi_known.proofs.Behind.{death_of}
 
 -- all other transactions that are open
 abbrev Others : Deployment → PlainState → IntentId → (TxId → Type 0) → Type 0
@@ -237,17 +238,11 @@ module _ (d : Deployment) (m : Rows) (p : PlainState) (known : Known) (locked : 
 
       death_goes : (c : Cause) → locked id ≡ false → IsAnswer (place_of id (length k.answers)) (Some (tx_begun o q)) (effect_of d k) (answer.Aborted c) → Goes d (set_row m key row) p (map.insert known id (moved d id k (answer.Aborted c))) unlocked
       death_goes c was fits =
-          let w = death (effect_of d k) f.touch fits in
+          let w = death_of (place_of id (length k.answers)) (tx_begun o q) (effect_of d k) c (ap is_some f.touch) fits in
           answered_goes d m p known locked h o q made b id k f.made f.inside none free unlocked out set_other (answer.Aborted c) going apart.0 (λ l. absurd (true_false (sym l ∙ was))) (λ u z other. others_stay u z) got_stays
           (goes_on d m p known locked h o q made b id k f.made f.inside none free (answer.Aborted c) (fell (Some w.holder))
           (ap (λ z. if z then Some (aborted id k (Some w.holder)) else None) (ap is_some f.touch) ∙ ap (λ z. Some (answer.Aborted z)) (sym w.cause)))
           (λ z. subst (λ r. ShadowShows false r (or_null (map.get going z))) (sym (others_stay s z)) (shown z (ap (λ u. u && writes_on z k.func (effect_of d k)) was)))
-        where
-          death : (e : Effect) → touched e ≡ Some (t, y) → IsAnswer (place_of id (length k.answers)) (Some (tx_begun o q)) e (answer.Aborted c) → IsDeath (place_of id (length k.answers)) (tx_begun o q) c
-          death (effect.Read i j) g fits = fits
-          death (effect.Write i j v) g fits = fits
-          death (effect.CondWrite i j r u v) g fits = fits
-          death e g fits = cc
 
   -- a row of its shadow
   module _ (row : Option Row) where

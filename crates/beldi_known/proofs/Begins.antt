@@ -139,8 +139,6 @@ pub record Next (i : Bool) (p : Phase) (hs : List HeldLock) (e : Effect) (a : An
   pub flow : Flow true i phase held F
   pub begun : is_begun phase ≡ begun_after e (is_begun p)
   pub locks : is_leaving phase ≡ false → (is_leaving p ≡ false) × (held ≡ held_after e hs)
-  -- it is no abort, but of a Begin
-  pub clean : phase ≡ own → (e ≡ effect.Begin) ⊎ ((p ≡ own) × ((c : Cause) → a ≡ answer.Aborted c → ⊥))
   -- an abort leads to the End, or ends the body
   pub dies : (c : Cause) → a ≡ answer.Aborted c → stands true e ≡ true → is_begun p ≡ true → phase ≡ aborted
   pub ends : (c : Cause) → a ≡ answer.Aborted c → stands true e ≡ true → is_begun p ≡ false → is_unlock e ≡ false → (phase ≡ leaving (outcome.Aborted c)) × (held ≡ held_after e hs)
@@ -156,7 +154,6 @@ freed_next i _ _ _ a (frees hs F o l ls whole same is more) p h = next_of i p hs
   flow = more a;
   begun = sym h;
   locks = λ g. cc;
-  clean = λ g. cc;
   dies = λ c g f k. cc;
   ends = λ c g f k u. cc;
 })
@@ -166,7 +163,6 @@ freed_next i _ _ _ a (returned hs F o whole same is) p h = next_of i p hs (F [])
   flow = returned hs (λ ts. F (a ∷ ts)) o whole same (λ ts. is (a ∷ ts));
   begun = sym h;
   locks = λ g. cc;
-  clean = λ g. cc;
   dies = λ c g f k. cc;
   ends = λ c g f k u. cc;
 })
@@ -179,7 +175,6 @@ wanted_next i hs F e is fits more none (answer.Aborted c) = record {
   flow = none c;
   begun = sym (stands_begun i false e fits);
   locks = λ g. cc;
-  clean = λ g. cc;
   dies = λ z g f k. cc;
   ends = λ z g f k u. (ap (λ a. leaving (outcome_of a)) g, refl);
 }
@@ -193,7 +188,6 @@ wanted_next i hs F e is fits more none a = record {
   flow = more a;
   begun = sym (stands_begun i false e fits);
   locks = λ g. (refl, refl);
-  clean = λ g. cc;
   dies = λ z g f k. cc;
   ends = λ z g f k u. cc;
 }
@@ -206,7 +200,6 @@ inside_next i hs F e fits more none (answer.Aborted c) = record {
   flow = none c;
   begun = sym (stands_begun true true e fits);
   locks = λ g. (refl, refl);
-  clean = λ g. cc;
   dies = λ z g f k. refl;
   ends = λ z g f k u. cc;
 }
@@ -216,23 +209,13 @@ inside_next i hs F e fits more none a = record {
   flow = more a;
   begun = sym (stands_begun true true e fits);
   locks = λ g. (refl, refl);
-  clean = λ g. inr (refl, λ z k. cc);
   dies = λ z g f k. cc;
   ends = λ z g f k u. cc;
 }
 
 -- after an End
 ended_next : (i : Bool) (p : Phase) (hs : List HeldLock) (c : Bool) (a : Answer) (F : List Answer → Leads) → is_leaving p ≡ false → Flow true i block hs F → Next i p hs (effect.End c) a F
-ended_next i p hs c a F stays f = record {
-  phase = block;
-  held = hs;
-  flow = f;
-  begun = refl;
-  locks = λ g. (stays, refl);
-  clean = λ g. cc;
-  dies = λ z g f k. cc;
-  ends = λ z g f k u. cc;
-}
+ended_next i p hs c a F stays f = record { phase = block; held = hs; flow = f; begun = refl; locks = λ g. (stays, refl); dies = λ z g f k. cc; ends = λ z g f k u. cc }
 
 pub next : (i : Bool) (p : Phase) (hs : List HeldLock) (F : List Answer → Leads) (a : Answer) → Flow true i p hs F → Next i p hs (effect_of (F [])) a (λ ts. F (a ∷ ts))
 next i _ _ _ a (goes_on hs F s part same e) = cc
@@ -248,7 +231,6 @@ next i _ _ _ a (begins hs F out free is more) = next_of i block hs (F []) false 
   flow = more a;
   begun = refl;
   locks = λ g. (refl, refl);
-  clean = λ g. inl refl;
   dies = λ z g f k. cc;
   ends = λ z g f k u. cc;
 })

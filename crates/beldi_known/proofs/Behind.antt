@@ -10,6 +10,7 @@ use Rattle.beldi_known.specs.Acts.{noted}
 use Rattle.beldi_known.proofs.Answers.{take_front, get_next, true_false}
 use Rattle.beldi_known.proofs.Frame.{begins}
 use Rattle.beldi_known.proofs.FrameAt.{or_none}
+use Rattle.beldi_known.proofs.Locks.{tx_self}
 
 -- ---- what is known of the step of a run that is behind
 -- a fold that only gathers has what was so at a step
@@ -67,31 +68,18 @@ module _ (d : Deployment) (id : IntentId) (q : Instance) (given : List Answer) (
       ap (λ s. s.ends b) (txs_pushed d q given a) ∙ ap (λ z. (txs_by n z (txs_after d q given)).ends b) is ∙ ap (λ o. if is_at b o then Some (n, c) else (txs_after d q given).ends b) begun ∙ ap (λ z. if z then Some (n, c) else (txs_after d q given).ends b) (eq-eqb b b refl)))
 
 -- ---- small facts
-tx_self : (s : TxId) → tx_eq s s ≡ true
-tx_self s = ap (λ b. b && (s.func == s.func)) (place_self (place_of s.intent s.begin)) ∙ eq-eqb s.func s.func refl
-
 item_self : (x : Item) → is_item x x.func (Some (x.table, x.key)) ≡ true
 item_self x = ap is_eq (tied_itself item_total x)
 
 pub log_there : (r : Option Row) (w : Value) → LogMatches r (Some w) → r ≡ Some (rows.ReadLog w)
 log_there None w h = cc
 log_there (Some (rows.ReadLog v)) w h = let k : w ≡ v = cc in ap (λ z. Some (rows.ReadLog z)) (sym k)
-log_there (Some (rows.Intent i)) w h = absurd h
-log_there (Some (rows.Invoke i)) w h = absurd h
-log_there (Some (rows.Cell i)) w h = absurd h
-log_there (Some rows.Lockset) w h = absurd h
+log_there (Some r) w h = absurd h
 
 pub no_log : (r : Option Row) → LogMatches r None → r ≡ None
 no_log None h = refl
 no_log (Some (rows.ReadLog v)) h = cc
-no_log (Some (rows.Intent i)) h = absurd h
-no_log (Some (rows.Invoke i)) h = absurd h
-no_log (Some (rows.Cell i)) h = absurd h
-no_log (Some rows.Lockset) h = absurd h
-
--- what is kept is there already, and is told
-pub kept_there : (r : Option Row) (v w : Value) → r ≡ Some (rows.ReadLog w) → keep_value v r ≡ (r, Some w)
-kept_there r v w h = ap (keep_value v) h ∙ ap (λ z. (z, Some w)) (sym h)
+no_log (Some r) h = absurd h
 
 pub lockset_present : (r : Option Row) (ahead : Bool) → LocksetMatches r true ahead → put_lockset r ≡ (r, false)
 lockset_present None ahead h = absurd (true_false h)
@@ -110,34 +98,18 @@ pub record LockTold (p : Place) (a : Answer) : Type 0 where
   pub is : lock_note a ≡ Some note
   pub says : lock_answer p (noted note) ≡ death_in a
 
--- a death is one of this place
-abbrev Fair : Place → TxId → Answer → Type 0
-Fair p s (answer.Aborted c) = IsDeath p s c
-Fair p s a = Unit {0}
+-- an operation inside is aborted by a death at its place
+pub death_of : (p : Place) (s : TxId) (e : Effect) (c : Cause) → is_some (touched e) ≡ true → IsAnswer p (Some s) e (answer.Aborted c) → IsDeath p s c
+death_of p s (effect.Read b k) c touch h = h
+death_of p s (effect.Write b k v) c touch h = h
+death_of p s (effect.CondWrite b k r u v) c touch h = h
+death_of p s e c touch h = cc
 
-lock_told : (p : Place) (s : TxId) (e : Effect) (o : ℕ × List ℕ) (a : Answer) → touched e ≡ Some o → IsAnswer p (Some s) e a → LockTold p a
-lock_told p s e o a touch h = by_answer a (by_effect e a touch h)
-  where
-    by_effect : (e : Effect) (a : Answer) → touched e ≡ Some o → IsAnswer p (Some s) e a → Fair p s a
-    by_effect (effect.Read b k) answer.Done touch h = tt
-    by_effect (effect.Read b k) (answer.Value v) touch h = tt
-    by_effect (effect.Read b k) (answer.Fault f) touch h = tt
-    by_effect (effect.Read b k) (answer.Aborted c) touch h = h
-    by_effect (effect.Write b k v) answer.Done touch h = tt
-    by_effect (effect.Write b k v) (answer.Value w) touch h = tt
-    by_effect (effect.Write b k v) (answer.Fault f) touch h = tt
-    by_effect (effect.Write b k v) (answer.Aborted c) touch h = h
-    by_effect (effect.CondWrite b k r u v) answer.Done touch h = tt
-    by_effect (effect.CondWrite b k r u v) (answer.Value w) touch h = tt
-    by_effect (effect.CondWrite b k r u v) (answer.Fault f) touch h = tt
-    by_effect (effect.CondWrite b k r u v) (answer.Aborted c) touch h = h
-    by_effect e a touch h = cc
-
-    by_answer : (a : Answer) → Fair p s a → LockTold p a
-    by_answer (answer.Aborted c) g = record { note = notes.Died g.holder; is = ap (λ z. lock_note (answer.Aborted z)) g.cause; says = ap (λ z. Some (answer.Aborted z)) (sym g.cause) }
-    by_answer answer.Done g = record { note = notes.Got; is = refl; says = refl }
-    by_answer (answer.Value v) g = record { note = notes.Got; is = refl; says = refl }
-    by_answer (answer.Fault f) g = record { note = notes.Got; is = refl; says = refl }
+lock_told : (p : Place) (s : TxId) (e : Effect) (a : Answer) → is_some (touched e) ≡ true → IsAnswer p (Some s) e a → LockTold p a
+lock_told p s e (answer.Aborted c) touch h =
+    let g = death_of p s e c touch h in
+    record { note = notes.Died g.holder; is = ap (λ z. lock_note (answer.Aborted z)) g.cause; says = ap (λ z. Some (answer.Aborted z)) (sym g.cause) }
+lock_told p s e a touch h = record { note = notes.Got; is = refl; says = refl }
 
 -- ---- the acts of a run that is behind
 module _ (d : Deployment) (m : Rows) (known : Known) (locked : IntentId → Bool) (h : Matches d m known locked) (id : IntentId) (q : Instance) (is : map.get known id ≡ Some q) (sane : SaneInstance d id q)
@@ -206,7 +178,7 @@ module _ (d : Deployment) (m : Rows) (known : Known) (locked : IntentId → Bool
         asks = ap (λ z. begins_at s.begin z && is_item x q.func (touched wanted)) inside ∙ ap (λ b. b && is_item x q.func (touched wanted)) (eq-eqb s.begin s.begin refl) ∙ on_it
 
     pub told : LockTold p a
-    told = lock_told p s wanted o a touch (subst (λ z. IsAnswer p z wanted a) inside answers)
+    told = lock_told p s wanted a (ap is_some touch) (subst (λ z. IsAnswer p z wanted a) inside answers)
 
     -- the walk of its lock is told the note that is there: a death is the known answer, else it goes on
     pub behind_locks : (lock_on p s (content_of m x) ≡ (content_of m x, noted told.note)) × (lock_answer p (noted told.note) ≡ death_in a)

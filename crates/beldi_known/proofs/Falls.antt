@@ -10,6 +10,7 @@ use Rattle.beldi_plain.specs.Piece.{is_owner}
 use Rattle.beldi_order.proofs.Goes.{IsSound}
 use Rattle.beldi_known.proofs.Answers.{take_front, get_next}
 use Rattle.beldi_known.proofs.Phases.{abort_ends, abort_returns}
+use Rattle.beldi_known.proofs.Behind.{death_of}
 
 -- ---- what an instance is later, by what it was before an answer
 abbrev pub later_by : Instance → Answer → List Answer → Option Outcome → Instance
@@ -108,13 +109,7 @@ module _ (d : Deployment) (t : TxId) (q : Instance) (outside : q.within ≡ None
       let next = answered z a.answer in
       let there : map.get r.state.made s.front ≡ Some next = ap (λ (x : Going). map.get x.state.made s.front) a.is ∙ here s.state.made s.front next in
       let y = grown_at next (map.get l.state.made s.front) (subst (λ o. GrownAt o (map.get l.state.made s.front)) there (moves_grow d t r moves l (line_moved d t m s r h.line step) leads s.front)) in
-      record {
-        member = all_in d t s.state.made s.front h.line;
-        inside = line_tx d t q s.state.made h.sane h.owner outside func s.front z h.line made edge;
-        instance = y.0;
-        made = y.1;
-        grown = y.2;
-      }
+      record { member = all_in d t s.state.made s.front h.line; inside = line_tx d t q s.state.made h.sane h.owner outside func s.front z h.line made edge; instance = y.0; made = y.1; grown = y.2 }
 
   -- ---- who lets one die is older: so it is known
   sound_at : (m : Move) (s r l : Going) (ms : List Move) → GoingSane d t q s → moved d t m s ≡ Some r → Leads d t r ms l → ((i : IntentId) (y : Instance) → IsIn t i → map.get l.state.made i ≡ Some y → SaneInstance d i y) → IsSound t m
@@ -123,10 +118,7 @@ module _ (d : Deployment) (t : TxId) (q : Instance) (outside : q.within ≡ None
   sound_at (fell (Some u)) s r l ms h step leads sane = let z = mover d t (fell (Some u)) s r step in by_kind z.0 z.1 (move_is d t (fell (Some u)) s z.0 r z.1 step)
     where
       is_death : (i : IntentId) (z : Instance) (e : Effect) → is_some (touched e) ≡ true → IsAnswer (place_of i (length z.answers)) (Some t) e (aborted i z (Some u)) → is_older u t.intent ≡ true
-      is_death i z (effect.Read b k) on w = let same : u ≡ w.holder = same_some (ap (λ (c : Cause). c.holder) w.cause) in ap (λ x. is_older x t.intent) same ∙ w.older
-      is_death i z (effect.Write b k v) on w = let same : u ≡ w.holder = same_some (ap (λ (c : Cause). c.holder) w.cause) in ap (λ x. is_older x t.intent) same ∙ w.older
-      is_death i z (effect.CondWrite b k o x v) on w = let same : u ≡ w.holder = same_some (ap (λ (c : Cause). c.holder) w.cause) in ap (λ x. is_older x t.intent) same ∙ w.older
-      is_death i z e on w = cc
+      is_death i z e on fits = let w = death_of (place_of i (length z.answers)) t e _ on fits in ap (λ x. is_older x t.intent) (same_some (ap (λ (c : Cause). c.holder) w.cause)) ∙ w.older
 
       by_dies : (z : Instance) (b : Bool) → dies_at (Some u) (effect_of d z) ≡ b → (a : Answer) → (if b then Some (aborted s.front z (Some u)) else None) ≡ Some a → IsAnswer (place_of s.front (length z.answers)) (Some t) (effect_of d z) a → is_older u t.intent ≡ true
       by_dies z true dies a gives fits = is_death s.front z (effect_of d z) dies (subst (IsAnswer (place_of s.front (length z.answers)) (Some t) (effect_of d z)) (sym (same_some gives)) fits)

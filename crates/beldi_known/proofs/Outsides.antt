@@ -204,10 +204,7 @@ module _ (d : Deployment) (m : Rows) (p : PlainState) (known : Known) (locked : 
     next_shows e =
         let below = λ (i : IntentId) (b : IsBelow (tx_begun id s) i). elsewhere known id i (at_once d id s) (below_apart (tx_begun id s) i b) ∙ set.below e i b ∙ sym (elsewhere p.made id i s (below_apart (tx_begun id s) i b)) in
         let tx = at_once_opens d after more id s e (here known id (at_once d id s)) below in
-        record {
-          tx = tx;
-          shadows = λ x. subst (λ o. ShadowShows (is_writing d locked x tx.going) o (value_at tx.going.state x)) (sym (rows (tx_begun id s) x ∙ set.fresh e x)) tt;
-        }
+        record { tx = tx; shadows = λ x. subst (λ o. ShadowShows (is_writing d locked x tx.going) o (value_at tx.going.state x)) (sym (rows (tx_begun id s) x ∙ set.fresh e x)) tt }
 
     other_shows : (j : IntentId) (z : Instance) → is_eq (id_cmp j id) ≡ false → map.get p.made j ≡ Some z → begins d z ≡ true → Shows d n after more locked j z
     other_shows j z other made b = shows_beside d m n p after known more locked j z b (h.shows j z made b) (λ i is. elsewhere p.made id i s (out i is)) (λ i is. elsewhere known id i (at_once d id s) (out i is))

@@ -6,6 +6,8 @@ use Rattle.beldi_known.proofs.Names.outcome
 use Rattle.beldi_known.proofs.Flows.{Phase, block, own, aborted, leaving, stands, held_after, asked}
 use Rattle.beldi_known.proofs.Begins.{is_begun, is_leaving, is_unlock, begun_after, Going, Now, Next, at_first, going_now, going_next, going_on, dies_own, dies_else}
 use Rattle.beldi_known.proofs.Answers.{take_front}
+use Rattle.beldi_known.proofs.Cases.{by_cases, if_same}
+use Rattle.beldi_known.proofs.FrameAt.{or_no}
 
 -- ---- locks
 name_decides : (a b : List ℕ) → (is_name a b ≡ true → a ≡ b) × (a ≡ b → is_name a b ≡ true)
@@ -49,16 +51,8 @@ abbrev Holds : Item → ℕ → Bool → List HeldLock → Type 0
 Holds x func b hs = b ≡ true → (x.func ≡ func) × (is_held x.table x.key hs ≡ true)
 
 holds_after : (x : Item) (func : ℕ) (hs : List HeldLock) (e : Effect) (b : Bool) → Holds x func b hs → Holds x func (held_if x func (op_of e) b) (held_after e hs)
-holds_after x func hs (effect.Write t k v) b h = by_test (is_eq (item_cmp (record { func = func; table = t; key = k }) x))
-  where
-    by_test : (c : Bool) → Holds x func (if c then b else b) hs
-    by_test true = h
-    by_test false = h
-holds_after x func hs (effect.CondWrite t k r o v) b h = by_test (is_eq (item_cmp (record { func = func; table = t; key = k }) x))
-  where
-    by_test : (c : Bool) → Holds x func (if c then b else b) hs
-    by_test true = h
-    by_test false = h
+holds_after x func hs (effect.Write t k v) b h = λ g. h (sym (if_same (is_eq (item_cmp (record { func = func; table = t; key = k }) x)) b) ∙ g)
+holds_after x func hs (effect.CondWrite t k r o v) b h = λ g. h (sym (if_same (is_eq (item_cmp (record { func = func; table = t; key = k }) x)) b) ∙ g)
 holds_after x func hs (effect.Lock t k) b h = by_test (is_eq (item_cmp (record { func = func; table = t; key = k }) x)) refl
   where
     by_test : (c : Bool) → is_eq (item_cmp (record { func = func; table = t; key = k }) x) ≡ c → Holds x func (if c then true else b) (hs ++ record { table = t; key = k } ∷ [])
@@ -84,25 +78,12 @@ is_locking e = false
 
 bare_after : (e : Effect) → is_locking e ≡ false → held_after e [] ≡ []
 bare_after (effect.Lock t k) h = cc
-bare_after (effect.Unlock t k) h = refl
 bare_after e h = refl
 
 -- ---- the Begin that is open
 begun_by : (n : ℕ) (e : Effect) (s : Txs) → is_some (txs_by n e s).begun ≡ begun_after e (is_some s.begun)
 begun_by n effect.Begin s = refl
-begun_by n (effect.End c) s = refl
 begun_by n e s = refl
-
-same_begun : (n : ℕ) (e : Effect) (s : Txs) (b : Bool) → begun_after e b ≡ true → (e ≡ effect.Begin) ⊎ ((txs_by n e s).begun ≡ s.begun)
-same_begun n effect.Begin s b h = inl refl
-same_begun n (effect.End c) s b h = cc
-same_begun n e s b h = inr refl
-
-not_aborted : (a : Answer) → ((c : Cause) → a ≡ answer.Aborted c → ⊥) → is_aborted a ≡ false
-not_aborted (answer.Aborted c) h = absurd (h c refl)
-not_aborted answer.Done h = refl
-not_aborted (answer.Value v) h = refl
-not_aborted (answer.Fault c) h = refl
 
 -- ---- locks inside
 -- no lock was answered inside
@@ -134,7 +115,6 @@ begun_cases e b h = inr h
 pub record At (d : Deployment) (q : Instance) (given : List Answer) : Type 0 where
   pub going : Going d q.func q.args (is_some q.within) given
   pub begun : is_begun going.phase ≡ is_some (txs_after d q given).begun
-  pub clean : going.phase ≡ own → (b n : ℕ) (a : Answer) → (txs_after d q given).begun ≡ Some b → b < n → slice_get given n ≡ Some a → is_aborted a ≡ false
   pub bare : is_leaving going.phase ≡ false → (is_begun going.phase || is_some q.within) ≡ true → Quiet d q given → going.held ≡ []
   pub locks : is_leaving going.phase ≡ false → (x : Item) → Holds x q.func (held_along d x q.func q.args (is_some q.within) [] given false) going.held
 
@@ -143,7 +123,7 @@ module _ (d : Deployment) (q : Instance) where
   i = is_some q.within
 
   first : At d q []
-  first = record { going = at_first d q.func q.args i; begun = refl; clean = λ p b n a g. cc; bare = λ p inner g. refl; locks = λ p x g. cc }
+  first = record { going = at_first d q.func q.args i; begun = refl; bare = λ p inner g. refl; locks = λ p x g. cc }
 
   module _ (given : List Answer) (a : Answer) (h : At d q given) where
     abbrev e : Effect
@@ -154,25 +134,6 @@ module _ (d : Deployment) (q : Instance) where
 
     abbrev then_on : Next i h.going.phase h.going.held e a (λ ts. asked i (body d (func_at d q.func) q.args i ((given ++ a ∷ []) ++ ts)))
     then_on = going_next d q.func q.args i given a h.going
-
-    -- no answer since the Begin is an abort
-    clean_on : then_on.phase ≡ own → (b n : ℕ) (c : Answer) → (txs_by (length given) e s).begun ≡ Some b → b < n → slice_get (given ++ a ∷ []) n ≡ Some c → is_aborted c ≡ false
-    clean_on p b n c is lt there = elim (longer_cases given a n (slice_get_within (given ++ a ∷ []) n c there)) [
-      | inl same ↦ by_effect (λ k. let z = at_begin k in omega (arith, z, lt, same)) (λ k more. not_aborted c (λ w f. k.1 w (same_some (sym (get_last given a) ∙ ap (slice_get (given ++ a ∷ [])) (sym same) ∙ there) ∙ f)))
-      | inr before ↦ by_effect (λ k. let z = at_begin k in omega (arith, z, lt, before)) (λ k more. h.clean k.0 b n c (sym more ∙ is) lt (sym (get_front given a n before) ∙ there))
-    ]
-      where
-        at_begin : e ≡ effect.Begin → b ≡ length given
-        at_begin k = let z = ap (λ e. (txs_by (length given) e s).begun) (sym k) ∙ is in cc
-
-        by_effect : (e ≡ effect.Begin → ⊥) → ((h.going.phase ≡ own) × ((c : Cause) → a ≡ answer.Aborted c → ⊥) → (txs_by (length given) e s).begun ≡ s.begun → is_aborted c ≡ false) → is_aborted c ≡ false
-        by_effect new old = elim (same_begun (length given) e s (is_begun h.going.phase) (sym then_on.begun ∙ ap is_begun p)) [
-          | inl k ↦ absurd (new k)
-          | inr k ↦ elim (then_on.clean p) [
-            | inl z ↦ absurd (new z)
-            | inr z ↦ old z k
-          ]
-        ]
 
     -- inside no lock is held, if none was answered there
     bare_on : is_leaving then_on.phase ≡ false → (is_begun then_on.phase || i) ≡ true → Quiet d q (given ++ a ∷ []) → then_on.held ≡ []
@@ -197,7 +158,6 @@ module _ (d : Deployment) (q : Instance) where
     more = record {
       going = going_on d q.func q.args i given a h.going then_on;
       begun = then_on.begun ∙ ap (begun_after e) h.begun ∙ sym (begun_by (length given) e s) ∙ ap (λ (z : Txs). is_some z.begun) (sym (txs_pushed d q given a));
-      clean = λ p b n c is lt there. clean_on p b n c (ap (λ (z : Txs). z.begun) (sym (txs_pushed d q given a)) ∙ is) lt there;
       bare = bare_on;
       locks = λ p x g.
           let k = then_on.locks p in
@@ -224,15 +184,12 @@ module _ (d : Deployment) (q : Instance) where
   tx_is id given other = by_within q.within (tx_by id q.func (length given) (effect_after d q given) (txs_after d q given).begun) ∙ ap (λ b. b || i) (by_begun (length given) (txs_after d q given).begun (effect_after d q given) other) ∙ sym (inside_is given)
     where
       by_within : (w o : Option TxId) → is_some (or_own w o) ≡ (is_some o || is_some w)
-      by_within None None = refl
-      by_within None (Some t) = refl
-      by_within (Some t) None = refl
-      by_within (Some t) (Some u) = refl
+      by_within None o = sym (or_no (is_some o))
+      by_within (Some t) o = sym (or_right (is_some o) true refl)
 
       by_begun : (n : ℕ) (o : Option ℕ) (e : Effect) → (e ≡ effect.Begin → ⊥) → is_some (tx_by id q.func n e o) ≡ is_some o
       by_begun n o effect.Begin no_begin = absurd (no_begin refl)
-      by_begun n None e no_begin = refl
-      by_begun n (Some b) e no_begin = refl
+      by_begun n o e no_begin = elim o as (λ b. is_some (tx_by id q.func n e b) ≡ is_some b) [ None ↦ refl | Some b ↦ refl ]
 
   -- a Begin is wanted where none is open, outside, and with no lock held ..
   pub begin_is : (given : List Answer) → effect_after d q given ≡ effect.Begin → (q.within ≡ None) × (is_some (txs_after d q given).begun ≡ false)
@@ -249,26 +206,9 @@ module _ (d : Deployment) (q : Instance) where
   pub end_is : (given : List Answer) (c : Bool) → effect_after d q given ≡ effect.End c → is_some (txs_after d q given).begun ≡ true
   end_is given c is = sym (at given).begun ∙ (here given).at_end c is
 
-  -- .. and with commit where none of the answers since is an abort
-  pub commit_is : (given : List Answer) (b n : ℕ) (a : Answer) → effect_after d q given ≡ effect.End true → (txs_after d q given).begun ≡ Some b → b < n → slice_get given n ≡ Some a → is_aborted a ≡ false
-  commit_is given b n a is begun lt there = by_phase (at given).going.phase refl
-    where
-      open_now : is_begun (at given).going.phase ≡ true
-      open_now = (at given).begun ∙ ap is_some begun
-
-      by_phase : (p : Phase) → (at given).going.phase ≡ p → is_aborted a ≡ false
-      by_phase own e = (at given).clean e b n a begun lt there
-      by_phase aborted e = let k = sym is ∙ (here given).dying e in cc
-      by_phase block e = let k = sym open_now ∙ ap is_begun e in cc
-      by_phase (leaving o) e = let k = sym open_now ∙ ap is_begun e in cc
-
   -- who was called in a transaction begins and ends none
   pub none_begun_inside : (given : List Answer) → i ≡ true → is_some (txs_after d q given).begun ≡ false
-  none_begun_inside given is = by_test (is_begun (at given).going.phase) refl
-    where
-      by_test : (b : Bool) → is_begun (at given).going.phase ≡ b → is_some (txs_after d q given).begun ≡ false
-      by_test true e = let k = sym is ∙ (at given).going.outside e in cc
-      by_test false e = sym (at given).begun ∙ e
+  none_begun_inside given is = by_cases (is_begun (at given).going.phase) (λ e. let k = sym is ∙ (at given).going.outside e in cc) (λ e. sym (at given).begun ∙ e)
 
   -- ---- after an abort
   -- inside a transaction of one's own its End is wanted, without commit
@@ -283,16 +223,8 @@ abort_answer p t (effect.CondWrite b k r o v) c h = (refl, refl, λ hs. refl)
 abort_answer p t (effect.Call f v) c h = (refl, refl, λ hs. refl)
 abort_answer p t effect.Abort c h = (refl, refl, λ hs. refl)
 abort_answer p t (effect.Async f v) c h = (refl, refl, λ hs. refl)
-abort_answer p None (effect.Lock b k) c h = absurd h
-abort_answer p (Some t) (effect.Lock b k) c h = absurd h
-abort_answer p None (effect.Unlock b k) c h = absurd h
-abort_answer p (Some t) (effect.Unlock b k) c h = absurd h
-abort_answer p None effect.Begin c h = absurd h
-abort_answer p (Some t) effect.Begin c h = absurd h
-abort_answer p None (effect.End b) c h = absurd h
-abort_answer p (Some t) (effect.End b) c h = absurd h
-abort_answer p None (effect.Return o) c h = absurd h
-abort_answer p (Some t) (effect.Return o) c h = absurd h
+abort_answer p None e c h = absurd h
+abort_answer p (Some t) e c h = absurd h
 
 get_there : (xs : List Answer) (n : ℕ) → n < length xs → slice_get xs n ≡ None → ⊥
 get_there [] n less h = omega (arith, less)
@@ -308,15 +240,11 @@ begun_stays (leaving o) h = cc
 begun_stays p h = refl
 
 -- what locks nothing holds nothing
-if_same : (c : Bool) → (if c then false else false) ≡ false
-if_same true = refl
-if_same false = refl
-
 none_if : (x : Item) (func : ℕ) (e : Effect) → is_locking e ≡ false → held_if x func (op_of e) false ≡ false
-none_if x func (effect.Write t k v) h = if_same (is_eq (item_cmp (record { func = func; table = t; key = k }) x))
-none_if x func (effect.CondWrite t k r o v) h = if_same (is_eq (item_cmp (record { func = func; table = t; key = k }) x))
+none_if x func (effect.Write t k v) h = if_same (is_eq (item_cmp (record { func = func; table = t; key = k }) x)) false
+none_if x func (effect.CondWrite t k r o v) h = if_same (is_eq (item_cmp (record { func = func; table = t; key = k }) x)) false
 none_if x func (effect.Lock t k) h = cc
-none_if x func (effect.Unlock t k) h = if_same (is_eq (item_cmp (record { func = func; table = t; key = k }) x))
+none_if x func (effect.Unlock t k) h = if_same (is_eq (item_cmp (record { func = func; table = t; key = k }) x)) false
 none_if x func e h = refl
 
 none_along : (d : Deployment) (q : Instance) (x : Item) (given rest : List Answer) → ((n : ℕ) → n < length rest → is_locking (effect_after d q (given ++ take n rest)) ≡ false) → held_along d x q.func q.args (is_some q.within) given rest false ≡ false
@@ -328,9 +256,7 @@ none_along d q x given (a ∷ rest) g =
 -- no lock is answered inside
 no_lock : (p : Place) (t : TxId) (e : Effect) (a : Answer) → IsAnswer p (Some t) e a → is_locking e ≡ false
 no_lock p t (effect.Lock b k) answer.Done h = absurd h
-no_lock p t (effect.Lock b k) (answer.Value v) h = absurd h
-no_lock p t (effect.Lock b k) (answer.Fault c) h = absurd h
-no_lock p t (effect.Lock b k) (answer.Aborted c) h = absurd h
+no_lock p t (effect.Lock b k) a h = absurd h
 no_lock p t e a h = refl
 
 module _ (d : Deployment) (id : IntentId) (q : Instance) (h : SaneInstance d id q) where

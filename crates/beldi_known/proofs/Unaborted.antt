@@ -66,10 +66,9 @@ module _ (P : Cause → Type 0) where
   counted_left f h s rest un = if_left (nat_lt s.used most_effects) (f (record s { used = s.used + 1 }) rest) (fault code.Steps s rest) (h (record s { used = s.used + 1 }) rest un) ((λ k e. cc), un)
 
   answered_left : (n : Option (List ℕ)) (a : Answer) → ((c : Cause) → a ≡ answer.Aborted c → P c) → LeftBy (answer_to n a)
-  answered_left n answer.Done lives s rest un = un
-  answered_left n (answer.Value v) lives s rest un = un
   answered_left n (answer.Fault c) lives s rest un = ((λ k e. cc), un)
   answered_left n (answer.Aborted c) lives s rest un = ((λ k e. lives k (ap (λ z. answer.Aborted z) (same_cause c k e))), un)
+  answered_left n a lives s rest un = un
 
   takes_left : (e : Effect) (n : Option (List ℕ)) (h : Local → Local) → is_return e ≡ false → LeftBy (counted (takes true e (λ a s. answer_to n a (h s))))
   takes_left e n h other = counted_left (takes true e (λ a s. answer_to n a (h s))) by_answers
@@ -87,16 +86,12 @@ module _ (P : Cause → Type 0) where
   or_fault_left (Err c) h s rest un = ((λ k e. cc), un)
 
   followed_left : (f : Does) → LeftBy f → (l : Leads) → Left l → Left (followed f l)
-  followed_left f h (asks i e) g = g
   followed_left f h (goes s rest) g = h s rest g
-  followed_left f h (breaks s rest) g = g
-  followed_left f h (ends o s rest) g = g
+  followed_left f h l g = g
 
   looped_left : (f : Does) → LeftBy f → (l : Leads) → Left l → Left (looped f l)
-  looped_left f h (asks i e) g = g
   looped_left f h (goes s rest) g = h s rest g
-  looped_left f h (breaks s rest) g = g
-  looped_left f h (ends o s rest) g = g
+  looped_left f h l g = g
 
   turns_left : (f : Does) → LeftBy f → (n : ℕ) → LeftBy (turns f n)
   turns_left f h zero s rest un = un
@@ -184,9 +179,8 @@ module _ (d : Deployment) (t : TxId) where
   lives_on i z a lives (inr un) = inr (unaborted_more z.answers a un lives)
 
   outcome_lives : (o : Outcome) → ((c : Cause) → o ≡ outcome.Aborted c → ⊥) → is_aborted (answer_of o) ≡ false
-  outcome_lives (outcome.Value v) none = refl
-  outcome_lives (outcome.Fault c) none = refl
   outcome_lives (outcome.Aborted c) none = absurd (none c refl)
+  outcome_lives o none = refl
 
   lives_moved : (s r : Going) → InLine d t s → moved d t plain s ≡ Some r → AllLive s → AllLive r
   lives_moved s r line step h = let z = mover d t plain s r step in by_kind z.0 z.1 (move_is d t plain s z.0 r z.1 step)
