@@ -1,5 +1,5 @@
 -- Each act inside an open transaction, among all others: what shadows show is kept, and what is known stays beside the plain state.
-use Rattle.beldi_known.proofs.Names.{AllGot, AllShow, Answer, Bool, CallsGo, Cause, DeathsGo, Deployment, Effect, FirstRowsGo, Goes, Got, Instance, IntentId, IsAnswer, IsDeath, IsFront, IsIn, IsSound, Item, Items, Known, Line, List, LockedOut, Move, None, OnItem, OpenTx, Option, Outcome, PlainState, ReadsGo, Rel, ReturnsGo, Row, RowKey, Rows, RowsGo, Sane, ShadowShows, Shadows, Shows, Some, TestsGo, Tx, TxId, Txs, Value, WritesGo, aborted, and_right, answer_by, answer_inside, answer_of, ap, at_once, begins, callee_in, callee_of, calls_at, child_of, child_same, cond, content_in, did, effect_of, elsewhere, end_of, ended, ended_by, equal, false, fell, got_before, got_by, has_callees, head_key, id_cmp, id_total, if◌then◌else◌, inl, inr, is_aborted, is_edge, is_eq, is_item, is_on, is_some, is_writing, item_cmp, item_in, item_of, item_same, item_total, items_after, items_by, length, log_key, made_set, moved, new_member, none_below, none_by, not_own, not_owner, op_of, or_null, or_old, or_own, passes, place_of, plain, plain_set, refl, same_some, sane_with, set_row, sets, shadow_key, shadow_of, subst, sym, test_on, tested, tied_itself, touched, true, tx_begun, tx_by, tx_end, tx_now, txs_after, txs_by, value_at, value_in, write, write_on, writes_on, writing_at, ℕ, ◌&&◌, ◌||◌, ◌∙◌, ◌≡◌, ◌⊎◌}
+use Rattle.beldi_known.proofs.Names.{AllGot, AllShow, Answer, Bool, CallsGo, Cause, DeathsGo, Deployment, Effect, FirstRowsGo, Goes, Got, Instance, IntentId, IsAnswer, IsDeath, IsFront, IsIn, IsSound, Item, Items, Known, Line, List, LockedOut, Move, None, OnItem, OpenTx, Option, Outcome, PlainState, ReadsGo, Rel, ReturnsGo, Row, RowKey, Rows, RowsGo, Sane, ShadowShows, Shadows, Shows, Some, TestsGo, Tx, TxId, Txs, Value, WritesGo, aborted, and_right, answer_by, answer_inside, answer_of, ap, at_once, begins, callee_in, callee_of, calls_at, child_of, child_same, cond, content_in, did, effect_of, elsewhere, end_of, ended, ended_by, equal, false, fell, got_before, got_by, has_callees, head_key, id_cmp, id_total, if◌then◌else◌, inl, inr, is_aborted, is_edge, is_eq, is_item, is_on, is_some, is_writing, item_cmp, item_in, item_of, item_same, item_total, items_after, items_by, length, log_key, made_set, moved, new_member, none_below, none_by, not_own, not_owner, op_of, or_null, or_old, or_own, passes, place_of, plain, plain_set, refl, same_some, sane_with, set_row, sets, shadow_key, shadow_of, subst, sym, test_on, tested, tied_itself, touched, true, tx_begun, tx_by, tx_end, tx_now, txs_after, txs_by, value_at, value_in, write, write_on, writes_on, writing_at, ℕ, ◌&&◌, ◌||◌, ◌∙◌, ◌≡◌, ◌⊎◌, false_from_ne_true}
 use Rattle.beldi_known.proofs.Names.answer
 use Rattle.beldi_known.proofs.Names.effect
 use Rattle.beldi_known.proofs.Names.map
@@ -21,6 +21,7 @@ use Rattle.beldi_known.proofs.Shadows.{more_writes, writing_more, of_row, there_
 use Rattle.beldi_known.proofs.Steps.{GoesOn, goes_answered, goes_called, goes_returned}
 use Rattle.beldi_known.proofs.Told.{write_parts, test_parts}
 use Rattle.beldi_known.proofs.Behind.{death_of}
+use Rattle.beldi_known.proofs.Cases.{by_cases}
 
 -- all other transactions that are open
 abbrev Others : Deployment → PlainState → IntentId → (TxId → Type 0) → Type 0
@@ -109,11 +110,9 @@ module _ (d : Deployment) (m : Rows) (p : PlainState) (known : Known) (locked : 
     }
       where
         shows : AllShow d n p after unlocked
-        shows j y there c = by_test (is_eq (id_cmp o j)) refl
-          where
-            by_test : (u : Bool) → is_eq (id_cmp o j) ≡ u → Shows d n p after unlocked j y
-            by_test true e = subst (λ i. map.get p.made i ≡ Some y → Shows d n p after unlocked i y) (equal o j e) (λ g. subst (λ z. Shows d n p after unlocked o z) (same_some (sym made ∙ g)) own) there
-            by_test false e = other_shows j y there c (λ same. true_false (sym (ap is_eq (tied_itself id_total o)) ∙ ap (λ z. is_eq (id_cmp o z)) same ∙ e))
+        shows j y there c = by_cases (is_eq (id_cmp o j))
+            (λ e. subst (λ i. map.get p.made i ≡ Some y → Shows d n p after unlocked i y) (equal o j e) (λ g. subst (λ z. Shows d n p after unlocked o z) (same_some (sym made ∙ g)) own) there)
+            (λ e. other_shows j y there c (λ same. true_false (sym (ap is_eq (tied_itself id_total o)) ∙ ap (λ z. is_eq (id_cmp o z)) same ∙ e)))
 
     own_shows : (front : IntentId) (items : Items) → GoesOn d p after o q front items → ((x : Item) → ShadowShows false (map.get n (shadow_key (tx_begun o q) x)) (or_null (map.get items x))) → Shows d n p after unlocked o q
     own_shows front items g shows = record {
@@ -156,11 +155,7 @@ module _ (d : Deployment) (m : Rows) (p : PlainState) (known : Known) (locked : 
 
     module _ (unlocked : IntentId → Bool) (out : LockedOut locked unlocked id) where
       locks_of : Others d p o (λ u. (i : IntentId) → IsIn u i → locked i ≡ true → unlocked i ≡ true)
-      locks_of j y there c apart i is_in l = out.others i (by_test (is_eq (id_cmp i id)) refl) ∙ l
-        where
-          by_test : (u : Bool) → is_eq (id_cmp i id) ≡ u → u ≡ false
-          by_test true e = absurd (out_of id k id_in is j y there c apart (subst (IsIn (tx_begun j y)) (equal i id e) is_in))
-          by_test false e = refl
+      locks_of j y there c apart i is_in l = out.others i (false_from_ne_true (is_eq (id_cmp i id)) (λ e. out_of id k id_in is j y there c apart (subst (IsIn (tx_begun j y)) (equal i id e) is_in))) ∙ l
 
       answered_goes : (n : Rows) (a : Answer) (items : Items) → is_edge (effect_of d k) ≡ false → (locked id ≡ true → is_aborted a ≡ false) → ((u : TxId) (x : Item) → (u ≡ tx_begun o q → ⊥) → map.get n (shadow_key u x) ≡ map.get m (shadow_key u x))
           → AllGot d n known locked → GoesOn d p (map.insert known id (moved d id k a)) o q id items → ((x : Item) → ShadowShows false (map.get n (shadow_key (tx_begun o q) x)) (or_null (map.get items x))) → Goes d n p (map.insert known id (moved d id k a)) unlocked
@@ -285,11 +280,7 @@ module _ (d : Deployment) (m : Rows) (p : PlainState) (known : Known) (locked : 
           (ap (λ i. is_eq (item_cmp z i)) (sym same) ∙ turned x z other))) (shown z (ap (λ u. locked id && u) (off z other) ∙ and_right (locked id) false refl))))
         where
           turned : (x z : Item) → is_eq (item_cmp x z) ≡ false → is_eq (item_cmp z x) ≡ false
-          turned x z e = by_test (is_eq (item_cmp z x)) refl
-            where
-              by_test : (u : Bool) → is_eq (item_cmp z x) ≡ u → u ≡ false
-              by_test true g = absurd (true_false (sym (ap is_eq (tied_itself item_total x)) ∙ ap (λ i. is_eq (item_cmp x i)) (sym (item_same z x g)) ∙ e))
-              by_test false g = refl
+          turned x z e = false_from_ne_true (is_eq (item_cmp z x)) (λ g. true_false (sym (ap is_eq (tied_itself item_total x)) ∙ ap (λ i. is_eq (item_cmp x i)) (sym (item_same z x g)) ∙ e))
 
       write_goes : (v : Value) → effect_of d k ≡ effect.Write t y v → write_on (place_of id (length k.answers)) (Tx (tx_begun o q)) v (shadow_of m (tx_begun o q) (item_of k t y)) ≡ (content_in row, did)
           → Goes d (set_row m (shadow_key (tx_begun o q) (item_of k t y)) row) p (map.insert known id (moved d id k answer.Done)) unlocked

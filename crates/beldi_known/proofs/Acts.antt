@@ -11,6 +11,7 @@ use Rattle.beldi_known.proofs.FrameAt.{read_none, read_here}
 use Rattle.beldi_known.proofs.Fronts.{read_elsewhere}
 use Rattle.beldi_known.proofs.Locks.{lock_taken, lock_kept, txs_taken, txs_kept, tx_same, tx_self}
 use Rattle.beldi_known.proofs.Fronts.{row_by, locksets_answered, items_answered, txs_answered, item_died, item_kept, txs_died, shadow_kept, shadow_noted}
+use Rattle.beldi_known.proofs.Cases.{by_cases}
 
 -- ---- keys of two kinds are apart: by a test that tells the kinds, and no order
 pub kinds_apart : (f : Kind → Bool) (k l : RowKey) → f k.kind ≡ true → f l.kind ≡ false → is_eq (key_cmp k l) ≡ false
@@ -151,23 +152,16 @@ module _ (d : Deployment) (known : Known) (locked unlocked : IntentId → Bool) 
   write_answered v w fits added was lives noted apart none u same = let k = shadow_key s own in record {
     keys = keys_set m k v (λ l z. RowMatches d after l.home l.kind z) fits (λ l other. row_answered l (λ b kind. read_none d known id q r a is one added l.home b) (h.keys l));
     items = λ x. subst (ItemMatches d after unlocked x) (sym (content_apart m k v x (kinds_apart is_data (head_key x) k refl refl))) (items_answered d known locked unlocked id q r a is one out s inside o touch was lives x (content_of m x) (h.items x));
-    shadows = λ t x. by_both t x (tx_eq t s) refl (is_eq (item_cmp own x)) refl;
+    shadows = λ t x. by_cases (tx_eq t s && is_eq (item_cmp own x)) (λ e. let f = and_parts (tx_eq t s) (is_eq (item_cmp own x)) e in
+        subst (λ z. ShadowMatches d after z x (shadow_of (set_row m (shadow_key s own) v) z x)) (sym (tx_same t s f.0)) (subst (λ y. ShadowMatches d after s y (shadow_of (set_row m (shadow_key s own) v) s y)) (item_same own x f.1)
+        (subst (ShadowMatches d after s own) (sym (shadow_here m v s own ∙ same)) (shadow_noted d known locked unlocked id q r a is one out s own (shadow_of m s own) w u noted none (h.shadows s own))))) (elsewhere t x);
     txs = λ x. subst (λ (c : Content). TxsMatch d after unlocked x c.owner) (sym (content_apart m k v x (kinds_apart is_data (head_key x) k refl refl))) (txs_answered d known locked unlocked id q r a is one out s inside o touch was lives x (content_of m x).owner (h.txs x));
   }
     where
       elsewhere : (t : TxId) (x : Item) → (tx_eq t s && is_eq (item_cmp own x)) ≡ false → ShadowMatches d after t x (shadow_of (set_row m (shadow_key s own) v) t x)
-      elsewhere t x g = subst (ShadowMatches d after t x) (sym (shadow_apart m (shadow_key s own) v t x (by_key (is_eq (key_cmp (shadow_key t x) (shadow_key s own))) refl)))
+      elsewhere t x g = subst (ShadowMatches d after t x) (sym (shadow_apart m (shadow_key s own) v t x (false_from_ne_true (is_eq (key_cmp (shadow_key t x) (shadow_key s own))) (λ e. let p = shadow_same t s x own (key_same (shadow_key t x) (shadow_key s own) e) in
+          true_false (sym (and_from (tx_eq t s) (is_eq (item_cmp own x)) (ap (λ z. tx_eq z s) p.0 ∙ tx_self s) (ap (λ z. is_eq (item_cmp own z)) p.1 ∙ ap is_eq (tied_itself item_total own))) ∙ g)))))
           (shadow_kept d known locked unlocked id q r a is one out t x (shadow_of m t x) (apart t x g) (h.shadows t x))
-        where
-          by_key : (b : Bool) → is_eq (key_cmp (shadow_key t x) (shadow_key s own)) ≡ b → b ≡ false
-          by_key true e = let p = shadow_same t s x own (key_same (shadow_key t x) (shadow_key s own) e) in absurd (true_false (sym (and_from (tx_eq t s) (is_eq (item_cmp own x)) (ap (λ z. tx_eq z s) p.0 ∙ tx_self s) (ap (λ z. is_eq (item_cmp own z)) p.1 ∙ ap is_eq (tied_itself item_total own))) ∙ g))
-          by_key false e = refl
-
-      by_both : (t : TxId) (x : Item) (b : Bool) → tx_eq t s ≡ b → (c : Bool) → is_eq (item_cmp own x) ≡ c → ShadowMatches d after t x (shadow_of (set_row m (shadow_key s own) v) t x)
-      by_both t x true e true f = subst (λ z. ShadowMatches d after z x (shadow_of (set_row m (shadow_key s own) v) z x)) (sym (tx_same t s e)) (subst (λ y. ShadowMatches d after s y (shadow_of (set_row m (shadow_key s own) v) s y)) (item_same own x f)
-          (subst (ShadowMatches d after s own) (sym (shadow_here m v s own ∙ same)) (shadow_noted d known locked unlocked id q r a is one out s own (shadow_of m s own) w u noted none (h.shadows s own))))
-      by_both t x true e false f = elsewhere t x (ap (λ z. z && is_eq (item_cmp own x)) e ∙ f)
-      by_both t x false e c f = elsewhere t x (ap (λ z. z && is_eq (item_cmp own x)) e)
 
   -- LockCell Died
   pub lock_died : (v : Option Row) (holder : IntentId) → CellMatches 0 v → row_added (length q.answers) (txs_after d q q.answers).begun (effect_of d q) a ≡ None → a ≡ answer.Aborted (record { place = here; holder = Some holder }) → locked id ≡ false

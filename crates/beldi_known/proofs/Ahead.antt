@@ -2,6 +2,7 @@
 use Rattle.beldi_known.proofs.Names.{Bool, Deployment, Instance, IntentId, IsFront, Known, List, LockedAt, LockedAtEnds, LockedIf, LockedOut, None, SaneInstance, Some, TxId, ap, effect_of, false, false_from_ne_true, id_cmp, id_same, if◌then◌else◌, is_eq, is_some, lock_in, none_by, refl, subst, sym, touched, true, tx_now, ℕ, ◌∙◌, ◌≡◌}
 use Rattle.beldi_known.proofs.Names.map
 use Rattle.beldi_known.proofs.FrameAt.{known_set}
+use Rattle.beldi_known.proofs.Cases.{by_cases}
 
 -- nothing is taken out that was not ahead
 pub none_out : (locked : IntentId → Bool) (id : IntentId) → locked id ≡ false → LockedOut locked locked id
@@ -14,11 +15,8 @@ module _ (d : Deployment) (known : Known) (locked : IntentId → Bool) (h : Lock
 
   -- its lock is taken
   pub ahead_in : (id : IntentId) (q : Instance) → map.get known id ≡ Some q → LockedAt d id q → LockedAtEnds d known (lock_in locked id)
-  ahead_in id q is stands j = by_test (is_eq (id_cmp j id)) refl
-    where
-      by_test : (b : Bool) → is_eq (id_cmp j id) ≡ b → lock_in locked id j ≡ true → LockedIf d j (map.get known j)
-      by_test true e g = subst (λ z. LockedIf d z (map.get known z)) (sym (id_same j id e)) (subst (LockedIf d id) (sym is) stands)
-      by_test false e g = h j (sym (ap (λ b. if b then true else locked j) e) ∙ g)
+  ahead_in id q is stands j = by_cases (is_eq (id_cmp j id)) (λ e g. subst (λ z. LockedIf d z (map.get known z)) (sym (id_same j id e)) (subst (LockedIf d id) (sym is) stands))
+      (λ e g. h j (sym (ap (λ b. if b then true else locked j) e) ∙ g))
 
   pub ahead_front : (id : IntentId) (q : Instance) (s : TxId) (t : ℕ) (k : List ℕ) → IsFront d known id q s t k → SaneInstance d id q → LockedAtEnds d known (lock_in locked id)
   ahead_front id q s t k front sane = ahead_in id q front.made (record { open_still = none_by q.outcome (λ o is. let clash = sym front.touch ∙ ap touched (sane.over o is) in cc); inside = ap is_some front.inside; operation = ap is_some front.touch })
@@ -31,9 +29,6 @@ module _ (d : Deployment) (known : Known) (locked : IntentId → Bool) (h : Lock
     module _ (q : Instance) (is : map.get known id ≡ Some q) where
       stands : locked id ≡ true → LockedAt d id q
       stands e = subst (LockedIf d id) is (h id e)
-
-      pub unlocked_over : is_some q.outcome ≡ true → locked id ≡ false
-      unlocked_over over = false_from_ne_true (locked id) (λ e. let k = stands e in let clash = sym over ∙ ap is_some k.open_still in cc)
 
       pub unlocked_outside : tx_now d id q ≡ None → locked id ≡ false
       unlocked_outside out = false_from_ne_true (locked id) (λ e. let k = stands e in let clash = sym k.inside ∙ ap is_some out in cc)

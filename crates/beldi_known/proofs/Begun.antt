@@ -7,6 +7,7 @@ use Rattle.beldi_known.proofs.Callers.{all_called, begun_before}
 use Rattle.beldi_known.proofs.Participants.{open_owner}
 use Rattle.beldi_known.proofs.ReadLists.{IsBegun, got_since, member_tx}
 use Rattle.beldi_known.proofs.Answers.{true_false}
+use Rattle.beldi_known.proofs.Cases.{by_option}
 
 module _ (d : Deployment) (known : Known) (h : Sane d known) where
   -- a transaction that somebody was called in was begun
@@ -18,11 +19,8 @@ module _ (d : Deployment) (known : Known) (h : Sane d known) where
   -- .. and so was one that got an item
   module _ (t : TxId) (x : Item) (j : IntentId) (z : Instance) (is : map.get known j ≡ Some z) where
     member_begun : (b : Bool) → got_by d t x j b (Some z) ≡ true → IsBegun known t
-    member_begun b g = by_within z.within refl
-      where
-        by_within : (o : Option TxId) → z.within ≡ o → IsBegun known t
-        by_within None e = let k = got_since d t x j z e b g in record { owner = z; made = ap (map.get known) k.own ∙ is; func_is = k.func_is; before = k.before }
-        by_within (Some w) e = subst (IsBegun known) (sym (member_tx d t x j z w e b g)) (called_begun j z w is e)
+    member_begun b g = by_option z.within (λ e. let k = got_since d t x j z e b g in record { owner = z; made = ap (map.get known) k.own ∙ is; func_is = k.func_is; before = k.before })
+        (λ w e. subst (IsBegun known) (sym (member_tx d t x j z w e b g)) (called_begun j z w is e))
 
   pub got_begun : (locked : IntentId → Bool) (t : TxId) (x : Item) → Got d known locked t x → IsBegun known t
   got_begun locked t x g = by_member (map.get known g.member) refl g.got

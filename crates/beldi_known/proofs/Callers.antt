@@ -3,6 +3,7 @@ use Rattle.beldi_known.proofs.Names.{Bool, CalledBy, Deployment, Instance, Inten
 use Rattle.beldi_known.proofs.Names.effect
 use Rattle.beldi_known.proofs.Names.map
 use Rattle.beldi_known.proofs.OwnTx.{Own, own_by}
+use Rattle.beldi_known.proofs.Cases.{by_option}
 
 -- who is known by an id of a callee was called there
 pub called_in : (d : Deployment) (known : Known) → Sane d known → (id : IntentId) (n : ℕ) (j : Instance) → map.get known (child_of id n) ≡ Some j → (q : Instance) × (map.get known id ≡ Some q) × IsCalled d id q n j
@@ -89,14 +90,12 @@ module _ (d : Deployment) (known : Known) (sane : Sane d known) (s : TxId) where
       (first : (i : IntentId) (z : Instance) → z.within ≡ Some s → (c : CallerOf d known s i z) → c.waiter.within ≡ None → Own c.caller c.waiter.func (txs_after d c.waiter (take c.step c.waiter.answers)).begun s → P i z)
       (later : (i : IntentId) (z : Instance) → z.within ≡ Some s → (c : CallerOf d known s i z) → c.waiter.within ≡ Some s → P c.caller c.waiter → P i z) where
     by_call : (i : IntentId) (z : Instance) → z.within ≡ Some s → (c : CallerOf d known s i z) → (c.waiter.within ≡ Some s → P c.caller c.waiter) → P i z
-    by_call i z inner c up = by_within c.waiter.within refl
+    by_call i z inner c up = by_option c.waiter.within
+        (λ e. first i z inner c e (own_by c.caller c.waiter.func (length (take c.step c.waiter.answers)) (effect_before d c.waiter c.step) (txs_after d c.waiter (take c.step c.waiter.answers)).begun s (ap is_begin c.call) (in_it None e)))
+        (λ x e. let on = e ∙ in_it (Some x) e in later i z inner c on (up on))
       where
         in_it : (x : Option TxId) → c.waiter.within ≡ x → or_own x (tx_by c.caller c.waiter.func (length (take c.step c.waiter.answers)) (effect_before d c.waiter c.step) (txs_after d c.waiter (take c.step c.waiter.answers)).begun) ≡ Some s
         in_it x e = sym (ap (λ w. or_own w (tx_by c.caller c.waiter.func (length (take c.step c.waiter.answers)) (effect_before d c.waiter c.step) (txs_after d c.waiter (take c.step c.waiter.answers)).begun)) e) ∙ c.within
-
-        by_within : (x : Option TxId) → c.waiter.within ≡ x → P i z
-        by_within None e = first i z inner c e (own_by c.caller c.waiter.func (length (take c.step c.waiter.answers)) (effect_before d c.waiter c.step) (txs_after d c.waiter (take c.step c.waiter.answers)).begun s (ap is_begin c.call) (in_it None e))
-        by_within (Some x) e = let on = e ∙ in_it (Some x) e in later i z inner c on (up on)
 
     by_hops : (n : ℕ) (i : IntentId) (z : Instance) → length i.hops < n → map.get known i ≡ Some z → z.within ≡ Some s → P i z
     by_hops zero i z few is inner = absurd (omega (arith, few))

@@ -1,5 +1,5 @@
 -- Instances that are made and that end, over what is known: a call is opened, and its callee gives its outcome back.
-use Rattle.beldi_known.proofs.Names.{Bool, CallMatches, CalleeMatches, Caller, Deployment, Instance, IntentId, IntentMatches, InvokeRow, Item, Kind, Known, Matches, None, Option, Outcome, Place, Row, RowKey, Rows, Some, TxId, Value, ahead_note, and_right, answered_note, ap, at_once, begins_at, called_by, callee_of, calls_at, child_of, child_same, effect_of, elsewhere, ended, eq-eqb, eqb-true, false, has_ended, has_no_hops, here, if◌then◌else◌, invoke_key, is_decided, is_eq, is_item, is_none, is_open, is_some, is_waited, key_cmp, last_step, length, new_instance, no_root, note_or, owed_call, place_of, refl, result_of, same_some, set_row, subst, sym, touched, true, tx_now, ℕ, ◌&&◌, ◌==◌, ◌||◌, ◌∙◌, ◌≡◌}
+use Rattle.beldi_known.proofs.Names.{Bool, CallMatches, CalleeMatches, Caller, Deployment, Instance, IntentId, IntentMatches, InvokeRow, Item, Kind, Known, Matches, None, Option, Outcome, Place, Row, RowKey, Rows, Some, TxId, Value, ahead_note, and_right, answered_note, ap, at_once, begins_at, called_by, callee_of, calls_at, child_of, child_same, effect_of, elsewhere, ended, eq-eqb, eqb-true, false, has_ended, has_no_hops, here, if◌then◌else◌, invoke_key, is_decided, is_eq, is_item, is_none, is_open, is_some, is_waited, key_cmp, last_step, length, new_instance, no_root, note_or, owed_call, place_of, refl, result_of, same_some, set_row, subst, sym, touched, true, tx_now, ℕ, ◌&&◌, ◌==◌, ◌||◌, ◌∙◌, ◌≡◌, false_from_ne_true}
 use Rattle.beldi_known.proofs.Names.effect
 use Rattle.beldi_known.proofs.Names.map
 use Rattle.beldi_known.proofs.Names.rows
@@ -7,11 +7,12 @@ use Rattle.beldi_known.proofs.Frame.{OwesSame, at_once_same}
 use Rattle.beldi_known.proofs.FrameAt.{not_ahead, or_none}
 use Rattle.beldi_known.proofs.Instances.{callee_on, callee_new, calls_moved, no_callee, no_own_callee, not_home, return_keeps_row, same_caller, same_key}
 use Rattle.beldi_known.proofs.Sets.{OwesStill, instance_set}
+use Rattle.beldi_known.proofs.Cases.{if_same}
 
 -- ---- what is made owes nothing
 pub new_owes : (d : Deployment) (known : Known) (id : IntentId) (f : ℕ) (v : Value) (c : Option Caller) (t : Option TxId) → OwesStill d known id None (record (new_instance f v c) { within = t })
 new_owes d known id f v c t = record {
-  values = λ u n. by_test (f == u);
+  values = λ u n. if_same (f == u) None;
   notes = λ x n. not_ahead d x id n (record (new_instance f v c) { within = t });
   shadows = λ t x n. refl;
   locksets = λ b x. refl;
@@ -21,10 +22,6 @@ new_owes d known id f v c t = record {
   marks = λ n h. refl;
   behind = λ b x. refl;
 }
-  where
-    by_test : (b : Bool) → ◌≡◌ {A = Option Value} (if b then None else None) None
-    by_test true = refl
-    by_test false = refl
 
 -- nor does what takes no turn
 pub still_then : (d : Deployment) (known : Known) (id : IntentId) (o : Option Instance) (q s : Instance) → OwesStill d known id o q → OwesSame d id q s → OwesStill d known id o s
@@ -78,11 +75,7 @@ module _ (d : Deployment) (known : Known) (locked : IntentId → Bool) (id : Int
   caller_there = elsewhere known callee id s (λ same. let clash = sym new ∙ ap (map.get known) same ∙ is in cc) ∙ is
 
   no_result : result_of s ≡ None
-  no_result = ap (λ o. if is_waited s.from then o else None) none ∙ by_wait (is_waited s.from)
-    where
-      by_wait : (b : Bool) → ◌≡◌ {A = Option Outcome} (if b then None else None) None
-      by_wait true = refl
-      by_wait false = refl
+  no_result = ap (λ o. if is_waited s.from then o else None) none ∙ if_same (is_waited s.from) None
 
   owed_here : owed_call after i.func (place_of id (length i.answers)) ≡ Some (s.func, None)
   owed_here = ap (λ o. called_by i.func o (map.get after callee)) caller_there ∙ ap (called_by i.func (Some i)) (here known callee s) ∙ ap (λ b. if b then Some (s.func, result_of s) else None) (eq-eqb i.func i.func refl) ∙ ap (λ o. Some (s.func, o)) no_result
@@ -98,10 +91,7 @@ module _ (d : Deployment) (known : Known) (locked : IntentId → Bool) (id : Int
   as_callee : (home : ℕ) (b : Place) → is_eq (key_cmp (invoke_key home b) key) ≡ false → child_of b.intent b.step ≡ callee → called_by home (map.get known b.intent) (Some s) ≡ called_by home (map.get known b.intent) (map.get known callee)
   as_callee home b other same =
       let place = child_same b.intent id b.step (length i.answers) same in
-      let away : (i.func == home) ≡ false = elim (i.func == home) as (λ t. (i.func == home) ≡ t → t ≡ false) [
-        | true ↦ λ e. absurd (same_key home i.func b (place_of id (length i.answers)) (sym (eqb-true i.func home e)) (λ k. record { intent = place.0 k; step = place.1 k }) other)
-        | false ↦ λ e. refl
-      ] refl in
+      let away : (i.func == home) ≡ false = false_from_ne_true (i.func == home) (λ e. same_key home i.func b (place_of id (length i.answers)) (sym (eqb-true i.func home e)) (λ k. record { intent = place.0 k; step = place.1 k }) other) in
       ap (λ z. called_by home (map.get known z) (Some s)) place.0 ∙ ap (λ o. called_by home o (Some s)) is ∙ not_home home i (Some s) away ∙ sym (ap (called_by home (map.get known b.intent)) new ∙ no_callee home (map.get known b.intent))
 
   own_row : (home : ℕ) (r : Option Row) → IntentMatches (has_ended d known) (has_no_hops callee.hops) home r (map.get known callee) → IntentMatches (has_ended d known) (has_no_hops callee.hops) home r (Some s)
@@ -141,10 +131,7 @@ module _ (d : Deployment) (known : Known) (locked : IntentId → Bool) (id : Int
   other_callers home b other same =
       let place = child_same b.intent id b.step n same in
       let caller : map.get known b.intent ≡ Some i = ap (map.get known) place.0 ∙ is in
-      let away : (i.func == home) ≡ false = elim (i.func == home) as (λ t. (i.func == home) ≡ t → t ≡ false) [
-        | true ↦ λ e. absurd (same_key home i.func b (place_of id n) (sym (eqb-true i.func home e)) (λ k. record { intent = place.0 k; step = place.1 k }) other)
-        | false ↦ λ e. refl
-      ] refl in
+      let away : (i.func == home) ≡ false = false_from_ne_true (i.func == home) (λ e. same_key home i.func b (place_of id n) (sym (eqb-true i.func home e)) (λ k. record { intent = place.0 k; step = place.1 k }) other) in
       ap (λ c. called_by home c (Some (ended j o))) caller ∙ not_home home i (Some (ended j o)) away ∙ sym (ap (λ c. called_by home c (map.get known child)) caller ∙ not_home home i (map.get known child) away)
 
   callee_row : (home : ℕ) (r : Option Row) → IntentMatches (has_ended d known) (has_no_hops child.hops) home r (map.get known child) → IntentMatches (has_ended d known) (has_no_hops child.hops) home r (Some (ended j o))

@@ -1,5 +1,5 @@
--- Both ways of a test.
-use Rattle.beldi_known.proofs.Names.{Bool, false, if◌then◌else◌, refl, true, ◌≡◌}
+-- Both ways of a test, and of an option.
+use Rattle.beldi_known.proofs.Names.{Bool, None, Option, Some, false, if◌then◌else◌, refl, true, ◌≡◌}
 
 -- what holds either way holds
 pub by_cases : {P : Type 0} (b : Bool) → (b ≡ true → P) → (b ≡ false → P) → P
@@ -14,3 +14,8 @@ if_is false f g = g refl
 pub if_same : {A : Type 0} (b : Bool) (x : A) → (if b then x else x) ≡ x
 if_same true x = refl
 if_same false x = refl
+
+-- .. and of an option
+pub by_option : {A P : Type 0} (o : Option A) → (o ≡ None → P) → ((a : A) → o ≡ Some a → P) → P
+by_option None f g = f refl
+by_option (Some a) f g = g a refl

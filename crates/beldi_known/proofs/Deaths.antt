@@ -4,6 +4,7 @@ use Rattle.beldi_known.proofs.Names.notes
 use Rattle.beldi_known.proofs.Locks.{tx_self}
 use Rattle.beldi_known.proofs.Participants.{owner_holds_none}
 use Rattle.beldi_known.proofs.Told.{past_note}
+use Rattle.beldi_known.proofs.Cases.{by_cases}
 
 -- it owns the item, and is not younger
 record Stops (t : TxId) (was : Option Owner) (holder : IntentId) : Type 0 where
@@ -35,7 +36,7 @@ module _ (d : Deployment) (known : Known) (h : Sane d known) (locked : IntentId 
   pub death_is_older : ((u : TxId) → c.owner ≡ Some (Tx u) → u.intent ≡ s.intent → u ≡ s) → (p : Place) (x : Content) (holder : IntentId) → lock_on p s c ≡ (x, died holder) → IsDeath p s (record { place = p; holder = Some holder })
   death_is_older single p x holder acts =
       let z = stops p s c x holder acts in
-      record { holder = holder; cause = refl; older = by_test (is_older holder s.intent) refl z }
+      record { holder = holder; cause = refl; older = by_cases (is_older holder s.intent) (λ e. e) (λ e. absurd (apart z.owner z.owns z.other (either s.intent (age_of z.owner) z.old (ap (λ i. is_older i s.intent) z.age ∙ e)))) }
     where
       open_still : q.outcome ≡ None
       open_still = none_by q.outcome (λ o is. let m = h.each id q front.made in let clash = sym front.touch ∙ ap touched (m.over o is) in cc)
@@ -45,7 +46,3 @@ module _ (d : Deployment) (known : Known) (h : Sane d known) (locked : IntentId 
           let none = owner_holds_none d known h id q s front.made open_still front.inside y in
           let clash = sym (id_self j) ∙ ap (λ i. id_eq j i) (sym same) ∙ sym (ap (λ w. is_owner w (Intent s.intent)) owns) ∙ matches.owner s.intent ∙ none in cc
       apart (Tx u) owns other same = let one = single u owns (sym same) in let clash = sym (tx_self s) ∙ ap (λ v. owner_eq (Tx v) (Tx s)) (sym one) ∙ other in cc
-
-      by_test : (b : Bool) → is_older holder s.intent ≡ b → Stops s c.owner holder → b ≡ true
-      by_test true e z = refl
-      by_test false e z = absurd (apart z.owner z.owns z.other (either s.intent (age_of z.owner) z.old (ap (λ i. is_older i s.intent) z.age ∙ e)))

@@ -1,5 +1,5 @@
 -- The decision of an open transaction is its entry in the plain state, and all items are listed as that leaves them.
-use Rattle.beldi_known.proofs.Names.{AbortsAreTries, AllPlain, AllShow, AllSound, Answer, AtEnd, Bool, Cause, Commits, CommitsArePieces, Content, Deployment, FellAt, Goes, Going, HoldersInsideAreMade, InLine, Instance, Intent, IntentId, IsAbort, IsBelow, IsCommit, IsIn, IsKept, IsSound, Item, Kind, Known, List, LogMatches, Matches, Move, None, Older, OpenTx, Option, Owner, Place, PlainState, Row, Rows, Runs, ShadowShows, Shows, Some, TouchedIn, Tx, TxId, Txs, Value, [], after_sane, answered, ap, arith, at_once, begins, cond, content_in, content_of, decision_by, decision_key, effect_of, end_of, ended_by, eq-eqb, eqb-true, false, fell, gives, goes_on, head_key, here, id_cmp, id_total, if◌then◌else◌, inl, inr, is_at, is_committed, is_eq, is_holder, is_older, is_some, is_there, is_writing, key_cmp, key_same, key_self, last_answer, length, length-append, line_opened, listed, listed_under, log_key, opened, others, owed_read, owed_value, pieces_are_moves, place_of, places_come_once, read_at, refl, row_at, row_got, same_some, set_row, shadow_key, slice_get, stands_there, stays, subst, sym, tied_itself, true, tx_after, tx_at, tx_begun, txs_after, txs_by, txs_pushed, value_at, value_in, value_or, with_instance, writes_on, writing_at, ℕ, ◌&&◌, ◌++◌, ◌==◌, ◌∙◌, ◌∷◌, ◌≡◌, ◌≤◌, ◌⊎◌}
+use Rattle.beldi_known.proofs.Names.{AbortsAreTries, AllPlain, AllShow, AllSound, Answer, AtEnd, Bool, Cause, Commits, CommitsArePieces, Content, Deployment, FellAt, Goes, Going, HoldersInsideAreMade, InLine, Instance, Intent, IntentId, IsAbort, IsBelow, IsCommit, IsIn, IsKept, IsSound, Item, Kind, Known, List, LogMatches, Matches, Move, None, Older, OpenTx, Option, Owner, Place, PlainState, Row, Rows, Runs, ShadowShows, Shows, Some, TouchedIn, Tx, TxId, Txs, Value, [], after_sane, answered, ap, arith, at_once, begins, cond, content_in, content_of, decision_by, decision_key, effect_of, end_of, ended_by, eq-eqb, eqb-true, false, fell, gives, goes_on, head_key, here, id_cmp, id_total, if◌then◌else◌, inl, inr, is_at, is_committed, is_eq, is_holder, is_older, is_some, is_there, is_writing, key_cmp, key_same, key_self, last_answer, length, length-append, line_opened, listed, listed_under, log_key, opened, others, owed_read, owed_value, pieces_are_moves, place_of, places_come_once, read_at, refl, row_at, row_got, same_some, set_row, shadow_key, slice_get, stands_there, stays, subst, sym, tied_itself, true, tx_after, tx_at, tx_begun, txs_after, txs_by, txs_pushed, value_at, value_in, value_or, with_instance, writes_on, writing_at, ℕ, ◌&&◌, ◌++◌, ◌==◌, ◌∙◌, ◌∷◌, ◌≡◌, ◌≤◌, ◌⊎◌, false_from_ne_true, tx_eq}
 use Rattle.beldi_known.proofs.Names.answer
 use Rattle.beldi_known.proofs.Names.effect
 use Rattle.beldi_known.proofs.Names.entry
@@ -17,12 +17,15 @@ use Rattle.beldi_known.proofs.Frame.{moved_one}
 use Rattle.beldi_known.proofs.FrameAt.{known_set}
 use Rattle.beldi_known.proofs.Callers.{called_below}
 use Rattle.beldi_known.proofs.Lines.{OwnerNow, front_is, member, outside}
-use Rattle.beldi_known.proofs.Lists.{elsewhere, lists_same, is_log as is_row_log}
+use Rattle.beldi_known.proofs.Lists.{elsewhere, lists_same, is_log as is_row_log, lists_owned}
 use Rattle.beldi_known.proofs.Members.{in_or_out}
 use Rattle.beldi_known.proofs.NoTx.{IsOutside, begins_parts}
 use Rattle.beldi_known.proofs.Outsides.{at_once_opens, at_once_stays, below_apart, fresh_next, goes_one, got_next, known_none_after, plain_none_after, set_next, shows_beside}
 use Rattle.beldi_known.proofs.Owns.{fall, got_owned, older, own, seen, touched_owned, unowned_kept}
 use Rattle.beldi_known.proofs.Unaborted.{owner_lives}
+use Rattle.beldi_known.proofs.Rows.{set_here, set_others}
+use Rattle.beldi_known.proofs.Cases.{by_cases}
+use Rattle.beldi_known.proofs.Locks.{tx_same, tx_self}
 
 -- ---- the key of a decision is that of its transaction
 place_in : Kind → Place
@@ -32,6 +35,11 @@ place_in k = record { intent = record { ticket = 0; hops = [] }; step = 0 }
 decision_same : (s t : TxId) → decision_key s ≡ decision_key t → s ≡ t
 unfolding place_in
 decision_same s t h i = record { intent = (place_in (h i).kind).intent; begin = (place_in (h i).kind).step; func = (h i).home }
+
+-- the transaction that owns, if one does
+abbrev tx_in : TxId → Option Owner → TxId
+tx_in t (Some (Tx z)) = z
+tx_in t o = t
 
 -- ---- what is listed
 module _ (m : Rows) (s : TxId) (undecided : map.get m (decision_key s) ≡ None) (c : Bool) where
@@ -55,43 +63,24 @@ module _ (m : Rows) (s : TxId) (undecided : map.get m (decision_key s) ≡ None)
       now : listed decided x ≡ listed_under decided x (content_of m x).owner (content_of m x).value
       now = ap (λ (z : Content). listed_under decided x z.owner z.value) same
 
-      with : (o : Option Owner) → (content_of m x).owner ≡ o → (n : Rows) → listed_under n x (content_of m x).owner (content_of m x).value ≡ listed_under n x o (content_of m x).value
-      with o is n = ap (λ z. listed_under n x z (content_of m x).value) is
+      w : Value
+      w = (content_of m x).value
 
-      by_commit : (b : Bool) (w : Value) → (if b then value_in (map.get decided (shadow_key s x)) w else w) ≡ (if b then value_in (map.get m (shadow_key s x)) w else w)
-      by_commit b w = ap (λ r. if b then value_in r w else w) (shadow s)
+      mine : (content_of m x).owner ≡ Some (Tx s) → listed decided x ≡ (if c then value_in (map.get m (shadow_key s x)) (listed m x) else listed m x)
+      mine is =
+          let was : listed m x ≡ w = ap (λ o. listed_under m x o w) is ∙ ap (λ r. if is_committed r then value_in (map.get m (shadow_key s x)) w else w) undecided in
+          now ∙ ap (λ o. listed_under decided x o w) is ∙ (λ i. if is_committed (set_here m (decision_key s) (Some (rows.ReadLog (value.Bool c))) i) then value_in (shadow s i) w else w) ∙ ap (λ z. if c then value_in (map.get m (shadow_key s x)) z else z) (sym was)
+
+      others : ((content_of m x).owner ≡ Some (Tx s) → ⊥) → listed decided x ≡ listed m x
+      others away = lists_owned m decided x (ap (λ (z : Content). z.owner) same) (ap (λ (z : Content). z.value) same) (λ t v is i.
+          if is_committed (set_others m (decision_key s) (Some (rows.ReadLog (value.Bool c))) (decision_key t) (false_from_ne_true _ (λ e. away (is ∙ ap (λ z. Some (Tx z)) (decision_same t s (key_same (decision_key t) (decision_key s) e))))) i) then value_in (shadow t i) v else v)
+
+      apart : ((content_of m x).owner ≡ Some (Tx s) → ⊥) → Lists x
+      apart away = inr (away, others away)
 
       by_owner : (o : Option Owner) → (content_of m x).owner ≡ o → Lists x
-      by_owner None is = inr (λ e. let clash = sym is ∙ e in cc, now ∙ with None is decided ∙ sym (with None is m))
-      by_owner (Some (Intent j)) is = inr (λ e. let clash = sym is ∙ e in cc, now ∙ with (Some (Intent j)) is decided ∙ sym (with (Some (Intent j)) is m))
-      by_owner (Some (Tx t)) is = by_key (is_eq (key_cmp (decision_key t) (decision_key s))) refl
-        where
-          found : (b : Bool) → is_eq (key_cmp (decision_key t) (decision_key s)) ≡ b → map.get decided (decision_key t) ≡ cond b (Some (rows.ReadLog (value.Bool c))) (map.get m (decision_key t))
-          found b e = row_got m (decision_key s) (decision_key t) (Some (rows.ReadLog (value.Bool c))) ∙ ap (λ z. cond z (Some (rows.ReadLog (value.Bool c))) (map.get m (decision_key t))) e
-
-          w : Value
-          w = (content_of m x).value
-
-          by_key : (b : Bool) → is_eq (key_cmp (decision_key t) (decision_key s)) ≡ b → Lists x
-          by_key true e =
-              let it = decision_same t s (key_same (decision_key t) (decision_key s) e) in
-              let was : listed m x ≡ w = with (Some (Tx t)) is m ∙ ap (λ r. if is_committed r then value_in (map.get m (shadow_key t x)) w else w) (ap (λ z. map.get m (decision_key z)) it ∙ undecided) in
-              inl (
-                is ∙ ap (λ z. Some (Tx z)) it,
-                now ∙ with (Some (Tx t)) is decided ∙ ap (λ r. if is_committed r then value_in (map.get decided (shadow_key t x)) w else w) (found true e)
-                    ∙ ap (λ z. if c then value_in (map.get decided (shadow_key z x)) w else w) it ∙ by_commit c w ∙ ap (λ z. if c then value_in (map.get m (shadow_key s x)) z else z) (sym was),
-              )
-          by_key false e = inr (
-            λ g. let k : t ≡ s = same_tx (sym is ∙ g) in true_false (sym (key_self (decision_key s)) ∙ ap (λ z. is_eq (key_cmp (decision_key z) (decision_key s))) (sym k) ∙ e),
-            now ∙ with (Some (Tx t)) is decided ∙ (λ i. if is_committed (found false e i) then value_in (shadow t i) w else w) ∙ sym (with (Some (Tx t)) is m),
-          )
-            where
-              tx_in : Option Owner → TxId
-              tx_in (Some (Tx z)) = z
-              tx_in o = t
-
-              same_tx : Some (Tx t) ≡ Some (Tx s) → t ≡ s
-              same_tx g = ap tx_in g
+      by_owner (Some (Tx t)) is = by_cases (tx_eq t s) (λ e. let own = is ∙ ap (λ z. Some (Tx z)) (tx_same t s e) in inl (own, mine own)) (λ e. apart (λ g. let k : t ≡ s = ap (tx_in t) (sym is ∙ g) in let clash = sym (tx_self s) ∙ ap (λ z. tx_eq z s) (sym k) ∙ e in cc))
+      by_owner o is = apart (λ g. let clash = sym is ∙ g in cc)
 
 abbrev intent_in : IntentId → Option Owner → IntentId
 intent_in j (Some (Tx t)) = t.intent

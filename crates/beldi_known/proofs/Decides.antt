@@ -15,9 +15,6 @@ module _ (d : Deployment) (known : Known) (locked : IntentId → Bool) (id : Int
     (c : Bool) (ends : effect_of d q ≡ effect.End c) (b : ℕ) (begun : (txs_after d q q.answers).begun ≡ Some b)
     -- nobody else that can step is in it
     (alone : (j : IntentId) (z : Instance) (t : TxId) → map.get known j ≡ Some z → is_eq (id_cmp j id) ≡ false → z.outcome ≡ None → tx_now d j z ≡ Some t → t.intent ≡ id → t.begin ≡ b → ⊥) where
-  abbrev p : Place
-  p = place_of id (length q.answers)
-
   abbrev after : Known
   after = map.insert known id r
 

@@ -36,53 +36,27 @@ so_far xs = record { func = 1; args = value.Null; from = None; within = None; an
 abbrev begun : Instance
 begun = so_far (answer.Done ∷ [])
 
-abbrev has_read : Instance
-has_read = so_far (answer.Done ∷ answer.Value value.Null ∷ [])
-
 abbrev at_end : Instance
 at_end = so_far (answer.Done ∷ answer.Value value.Null ∷ answer.Done ∷ [])
 
 abbrev committed : Instance
 committed = so_far (answer.Done ∷ answer.Value value.Null ∷ answer.Done ∷ answer.Done ∷ [])
 
-begins : effect_of deployment (so_far []) ≡ effect.Begin
-begins = refl
+begins : (effect_of deployment (so_far []) ≡ effect.Begin) × (at_once deployment id (so_far []) ≡ begun)
+begins = (refl, refl)
 
-closes : at_once deployment id (so_far []) ≡ begun
-closes = refl
+reads : (effect_of deployment begun ≡ effect.Read 0 []) × (owed_note deployment item id true 1 (Some begun) ≡ Some notes.Got)
+reads = (refl, refl)
 
-reads : effect_of deployment begun ≡ effect.Read 0 []
-reads = refl
+is_inside : (tx_now deployment id at_end ≡ Some tx) × (row_at deployment at_end 0 ≡ None)
+is_inside = (refl, refl)
 
-locked_ahead : owed_note deployment item id true 1 (Some begun) ≡ Some notes.Got
-locked_ahead = refl
+-- what it owes once it has committed: its rows, the notes of its write and of its lock, and what it has got
+owes : (row_at deployment committed 0 ≡ Some (value.Bool true)) × (row_at deployment committed 1 ≡ Some value.Null) × (owed_shadow deployment tx item id 2 (Some committed) ≡ Some notes.Wrote) × (owed_note deployment item id false 2 (Some committed) ≡ Some notes.Got)
+owes = (refl, refl, refl, refl)
 
-is_inside : tx_now deployment id at_end ≡ Some tx
-is_inside = refl
+got : (lockset_of deployment 0 item id committed ≡ true) × (got_by deployment tx item id false (Some committed) ≡ true)
+got = (refl, refl)
 
-no_decision : row_at deployment at_end 0 ≡ None
-no_decision = refl
-
-decision : row_at deployment committed 0 ≡ Some (value.Bool true)
-decision = refl
-
-read_row : row_at deployment committed 1 ≡ Some value.Null
-read_row = refl
-
-wrote : owed_shadow deployment tx item id 2 (Some committed) ≡ Some notes.Wrote
-wrote = refl
-
-lock_of_write : owed_note deployment item id false 2 (Some committed) ≡ Some notes.Got
-lock_of_write = refl
-
-lockset : lockset_of deployment 0 item id committed ≡ true
-lockset = refl
-
-got : got_by deployment tx item id false (Some committed) ≡ true
-got = refl
-
-ended : end_of deployment committed 0 ≡ Some (3, true)
-ended = refl
-
-outside : tx_now deployment id committed ≡ None
-outside = refl
+ended : (end_of deployment committed 0 ≡ Some (3, true)) × (tx_now deployment id committed ≡ None)
+ended = (refl, refl)

@@ -12,6 +12,7 @@ use Rattle.beldi_known.proofs.NoTx.{begins_parts}
 use Rattle.beldi_known.proofs.Callers.{called_below}
 use Rattle.beldi_known.proofs.OwnTx.{own_intent}
 use Rattle.beldi_known.proofs.Participants.{IsOpenOwner, open_owner}
+use Rattle.beldi_known.proofs.Cases.{by_option}
 
 -- ---- ids
 -- an id, or one that was called below it
@@ -252,11 +253,9 @@ module _ (d : Deployment) (p : PlainState) (known : Known) (sane : plain.Sane d 
     called_in i z is within = inr (called_below d known known_sane this i z is within)
 
     pub in_tx : (i : IntentId) (z : Instance) → map.get known i ≡ Some z → tx_now d i z ≡ Some (tx_begun id q) → IsIn (tx_begun id q) i
-    in_tx i z is now = by_within z.within refl
-      where
-        by_within : (x : Option TxId) → z.within ≡ x → IsIn (tx_begun id q) i
-        by_within None e = inl (sym (own_intent i z.func (length z.answers) (effect_of d z) (txs_after d z z.answers).begun (tx_begun id q) (sym (ap (λ x. or_own x (tx_by i z.func (length z.answers) (effect_of d z) (txs_after d z z.answers).begun)) e) ∙ now)))
-        by_within (Some x) e = called_in i z is (e ∙ sym (ap (λ x. or_own x (tx_by i z.func (length z.answers) (effect_of d z) (txs_after d z z.answers).begun)) e) ∙ now)
+    in_tx i z is now = by_option z.within
+        (λ e. inl (sym (own_intent i z.func (length z.answers) (effect_of d z) (txs_after d z z.answers).begun (tx_begun id q) (sym (ap (λ x. or_own x (tx_by i z.func (length z.answers) (effect_of d z) (txs_after d z z.answers).begun)) e) ∙ now))))
+        (λ x e. called_in i z is (e ∙ sym (ap (λ x. or_own x (tx_by i z.func (length z.answers) (effect_of d z) (txs_after d z z.answers).begun)) e) ∙ now))
 
 -- ---- two of them share nobody that is known
 module _ (d : Deployment) (p : PlainState) (known : Known) (sane : plain.Sane d p) (id : IntentId) (q : Instance) (made : map.get p.made id ≡ Some q) (b : begins d q ≡ true) (tx : OpenTx d p known id q)
@@ -284,7 +283,8 @@ pub record PlainOwner (d : Deployment) (p : PlainState) (s : TxId) : Type 0 wher
 
 module _ (d : Deployment) (p : PlainState) (known : Known) (plain_sane : plain.Sane d p) (sane : Sane d known) (beside : Beside d p known) (s : TxId) where
   by_owner : IsOpenOwner d known s → PlainOwner d p s
-  by_owner o = by_made (map.get p.made s.intent) refl
+  by_owner o = by_option (map.get p.made s.intent) (λ gone. let k = beside.kept s.intent o.owner gone o.made in let clash = sym k.within ∙ o.outside in cc)
+      (λ q made. by_begins q (begins d q) made refl)
     where
       by_begins : (q : Instance) (b : Bool) → map.get p.made s.intent ≡ Some q → begins d q ≡ b → PlainOwner d p s
       by_begins q false made b =
@@ -293,10 +293,6 @@ module _ (d : Deployment) (p : PlainState) (known : Known) (plain_sane : plain.S
       by_begins q true made b =
           let now = (member d p known plain_sane s.intent q made b (beside.begun s.intent q made b) s.intent o.owner (inl refl) o.made).owner refl in
           record { owner = q; made = made; begun = b; is = λ k. record { intent = s.intent; begin = same_some (sym o.begun ∙ now.begun) k; func = (o.func_is ∙ now.func) k } }
-
-      by_made : (r : Option Instance) → map.get p.made s.intent ≡ r → PlainOwner d p s
-      by_made None gone = let k = beside.kept s.intent o.owner gone o.made in let clash = sym k.within ∙ o.outside in cc
-      by_made (Some q) made = by_begins q (begins d q) made refl
 
   pub plain_owner : (i : IntentId) (z : Instance) → map.get known i ≡ Some z → z.outcome ≡ None → tx_now d i z ≡ Some s → PlainOwner d p s
   plain_owner i z is none now = by_owner (open_owner d known sane i z s is none (no_begin (effect_of d z) (sane.closed i z is none)) now)

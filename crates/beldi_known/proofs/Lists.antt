@@ -1,10 +1,11 @@
 -- What is listed stays where a transaction that is open takes a lock, or writes its shadow.
-use Rattle.beldi_known.proofs.Names.{Bool, Content, Intent, Item, Kind, None, Option, Owner, Row, RowKey, Rows, Some, Tx, TxId, Value, ap, cond, content_in, content_of, decision_key, false, head_key, if◌then◌else◌, is_committed, is_eq, key_cmp, key_same, listed, listed_under, not, other_owner, refl, row_got, set_row, shadow_key, subst, sym, true, value_in, ◌∙◌, ◌≡◌}
+use Rattle.beldi_known.proofs.Names.{Bool, Content, Intent, Item, Kind, None, Option, Owner, Row, RowKey, Rows, Some, Tx, TxId, Value, ap, cond, content_in, content_of, decision_key, false, head_key, if◌then◌else◌, is_committed, is_eq, key_cmp, key_same, listed, listed_under, not, other_owner, refl, row_got, set_row, shadow_key, subst, sym, true, value_in, ◌∙◌, ◌≡◌, item_cmp}
 use Rattle.beldi_known.proofs.Names.kinds
 use Rattle.beldi_known.proofs.Names.map
 use Rattle.beldi_known.proofs.Locks.{owned_is}
 use Rattle.beldi_known.proofs.Acts.{kinds_apart, is_data, is_shadow, content_apart, content_here, by_item, turned, shadow_same}
 use Rattle.beldi_known.proofs.Sets.{is_log as is_row_log}
+use Rattle.beldi_known.proofs.Cases.{by_cases}
 
 abbrev pub is_log : Kind → Bool
 is_log (kinds.ReadLog a) = true
@@ -14,14 +15,18 @@ is_log k = false
 pub elsewhere : (m : Rows) (k : RowKey) (v : Option Row) (f : Kind → Bool) (l : RowKey) → f l.kind ≡ true → f k.kind ≡ false → map.get (set_row m k v) l ≡ map.get m l
 elsewhere m k v f l h g = row_got m k l v ∙ ap (λ b. cond b v (map.get m l)) (kinds_apart f l k h g)
 
--- what is listed of an item, where what it holds, its shadows and the decisions are the same
-pub lists_same : (m n : Rows) (x : Item) → content_of n x ≡ content_of m x → ((t : TxId) → map.get n (decision_key t) ≡ map.get m (decision_key t)) → ((t : TxId) → map.get n (shadow_key t x) ≡ map.get m (shadow_key t x)) → listed n x ≡ listed m x
-lists_same m n x content decisions shadows = ap (λ (c : Content). listed_under n x c.owner c.value) content ∙ under (content_of m x).owner (content_of m x).value
+-- what is listed of an item, where its owner and its value are the same, and so is what its owner shows
+pub lists_owned : (m n : Rows) (x : Item) → (content_of n x).owner ≡ (content_of m x).owner → (content_of n x).value ≡ (content_of m x).value → ((t : TxId) (w : Value) → (content_of m x).owner ≡ Some (Tx t) → listed_under n x (Some (Tx t)) w ≡ listed_under m x (Some (Tx t)) w) → listed n x ≡ listed m x
+lists_owned m n x owner value owned = (λ i. listed_under n x (owner i) (value i)) ∙ under (content_of m x).owner refl
   where
-    under : (o : Option Owner) (w : Value) → listed_under n x o w ≡ listed_under m x o w
-    under None w = refl
-    under (Some (Intent i)) w = refl
-    under (Some (Tx t)) w = λ i. if is_committed (decisions t i) then value_in (shadows t i) w else w
+    under : (o : Option Owner) → (content_of m x).owner ≡ o → listed_under n x o (content_of m x).value ≡ listed_under m x o (content_of m x).value
+    under (Some (Tx t)) e = owned t (content_of m x).value e
+    under (Some (Intent i)) e = refl
+    under None e = refl
+
+-- .. with all decisions and all shadows of the item
+pub lists_same : (m n : Rows) (x : Item) → content_of n x ≡ content_of m x → ((t : TxId) → map.get n (decision_key t) ≡ map.get m (decision_key t)) → ((t : TxId) → map.get n (shadow_key t x) ≡ map.get m (shadow_key t x)) → listed n x ≡ listed m x
+lists_same m n x content decisions shadows = lists_owned m n x (ap (λ (c : Content). c.owner) content) (ap (λ (c : Content). c.value) content) (λ t w e i. if is_committed (decisions t i) then value_in (shadows t i) w else w)
 
 -- a row of an intent or of a call changes nothing there
 pub log_lists : (m : Rows) (k : RowKey) (v : Option Row) → is_row_log k.kind ≡ true → (x : Item) → listed (set_row m k v) x ≡ listed m x
@@ -48,12 +53,11 @@ module _ (m : Rows) (s : TxId) (undecided : map.get m (decision_key s) ≡ None)
     abbrev after : Rows
     after = set_row m (head_key item) v
 
-    under_same : (x : Item) (o : Option Owner) (w : Value) → listed_under after x o w ≡ listed_under m x o w
-    under_same x None w = refl
-    under_same x (Some (Intent i)) w = refl
-    under_same x (Some (Tx t)) w =
-        ap (λ r. if is_committed r then value_in (map.get after (shadow_key t x)) w else w) (elsewhere m (head_key item) v is_log (decision_key t) refl refl)
-        ∙ ap (λ r. if is_committed (map.get m (decision_key t)) then value_in r w else w) (elsewhere m (head_key item) v is_shadow (shadow_key t x) refl refl)
+    stays : (x : Item) (t : TxId) (w : Value) → listed_under after x (Some (Tx t)) w ≡ listed_under m x (Some (Tx t)) w
+    stays x t w = λ i. if is_committed (elsewhere m (head_key item) v is_log (decision_key t) refl refl i) then value_in (elsewhere m (head_key item) v is_shadow (shadow_key t x) refl refl i) w else w
+
+    others_listed : (x : Item) → is_eq (item_cmp item x) ≡ false → listed after x ≡ listed m x
+    others_listed x other = let same = content_apart m (head_key item) v x (turned item x other) in lists_owned m after x (ap (λ (c : Content). c.owner) same) (ap (λ (c : Content). c.value) same) (λ t w e. stays x t w)
 
     was_listed : (o : Option Owner) (w : Value) → other_owner (Tx s) o ≡ None → listed_under m item o w ≡ w
     was_listed None w free = refl
@@ -63,28 +67,18 @@ module _ (m : Rows) (s : TxId) (undecided : map.get m (decision_key s) ≡ None)
     -- LockCell Did
     pub did_lists : other_owner (Tx s) (content_of m item).owner ≡ None → (content_in v).value ≡ (content_of m item).value → (content_in v).owner ≡ Some (Tx s) → (x : Item) → listed after x ≡ listed m x
     did_lists free value owner x = by_item item x (λ x. listed after x ≡ listed m x)
-        (ap (λ (c : Content). listed_under after item c.owner c.value) (content_here m v item) ∙ ap (λ o. listed_under after item o (content_in v).value) owner ∙ under_same item (Some (Tx s)) (content_in v).value ∙ open_lists m item (content_in v).value refl
-        ∙ value ∙ sym (was_listed (content_of m item).owner (content_of m item).value free))
-        (λ other. ap (λ (c : Content). listed_under after x c.owner c.value) (content_apart m (head_key item) v x (turned item x other)) ∙ under_same x (content_of m x).owner (content_of m x).value)
+        (ap (λ (c : Content). listed_under after item c.owner c.value) (content_here m v item) ∙ ap (λ o. listed_under after item o (content_in v).value) owner ∙ stays item s (content_in v).value ∙ open_lists m item (content_in v).value refl
+        ∙ value ∙ sym (was_listed (content_of m item).owner (content_of m item).value free)) (others_listed x)
 
     -- LockCell Died: value and owner stay
     pub died_lists : (content_in v).value ≡ (content_of m item).value → (content_in v).owner ≡ (content_of m item).owner → (x : Item) → listed after x ≡ listed m x
     died_lists value owner x = by_item item x (λ x. listed after x ≡ listed m x)
-        (ap (λ (c : Content). listed_under after item c.owner c.value) (content_here m v item) ∙ under_same item (content_in v).owner (content_in v).value ∙ (λ i. listed_under m item (owner i) (value i)))
-        (λ other. ap (λ (c : Content). listed_under after x c.owner c.value) (content_apart m (head_key item) v x (turned item x other)) ∙ under_same x (content_of m x).owner (content_of m x).value)
+        (lists_owned m after item (ap (λ (c : Content). c.owner) (content_here m v item) ∙ owner) (ap (λ (c : Content). c.value) (content_here m v item) ∙ value) (λ t w e. stays item t w)) (others_listed x)
 
   -- a row of its shadow was set
   pub shadow_lists : (item : Item) (v : Option Row) (x : Item) → listed (set_row m (shadow_key s item) v) x ≡ listed m x
-  shadow_lists item v x = ap (λ (c : Content). listed_under (set_row m (shadow_key s item) v) x c.owner c.value) (content_apart m (shadow_key s item) v x (kinds_apart is_data (head_key x) (shadow_key s item) refl refl)) ∙ under (content_of m x).owner (content_of m x).value
-    where
-      under : (o : Option Owner) (w : Value) → listed_under (set_row m (shadow_key s item) v) x o w ≡ listed_under m x o w
-      under None w = refl
-      under (Some (Intent i)) w = refl
-      under (Some (Tx t)) w = by_key (is_eq (key_cmp (shadow_key t x) (shadow_key s item))) refl
-        where
-          by_key : (b : Bool) → is_eq (key_cmp (shadow_key t x) (shadow_key s item)) ≡ b → listed_under (set_row m (shadow_key s item) v) x (Some (Tx t)) w ≡ listed_under m x (Some (Tx t)) w
-          by_key true e = subst (λ z. listed_under (set_row m (shadow_key s item) v) x (Some (Tx z)) w ≡ listed_under m x (Some (Tx z)) w) (sym (shadow_same t s x item (key_same (shadow_key t x) (shadow_key s item) e)).0)
-              (open_lists (set_row m (shadow_key s item) v) x w (elsewhere m (shadow_key s item) v is_log (decision_key s) refl refl) ∙ sym (open_lists m x w refl))
-          by_key false e =
-              ap (λ r. if is_committed r then value_in (map.get (set_row m (shadow_key s item) v) (shadow_key t x)) w else w) (elsewhere m (shadow_key s item) v is_log (decision_key t) refl refl)
-              ∙ ap (λ r. if is_committed (map.get m (decision_key t)) then value_in r w else w) (row_got m (shadow_key s item) (shadow_key t x) v ∙ ap (λ b. cond b v (map.get m (shadow_key t x))) e)
+  shadow_lists item v x = let n = set_row m (shadow_key s item) v in let same = content_apart m (shadow_key s item) v x (kinds_apart is_data (head_key x) (shadow_key s item) refl refl) in
+      lists_owned m n x (ap (λ (c : Content). c.owner) same) (ap (λ (c : Content). c.value) same) (λ t w e. by_cases (is_eq (key_cmp (shadow_key t x) (shadow_key s item)))
+      (λ e. subst (λ z. listed_under n x (Some (Tx z)) w ≡ listed_under m x (Some (Tx z)) w) (sym (shadow_same t s x item (key_same (shadow_key t x) (shadow_key s item) e)).0)
+      (open_lists n x w (elsewhere m (shadow_key s item) v is_log (decision_key s) refl refl) ∙ sym (open_lists m x w refl)))
+      (λ e i. if is_committed (elsewhere m (shadow_key s item) v is_log (decision_key t) refl refl i) then value_in ((row_got m (shadow_key s item) (shadow_key t x) v ∙ ap (λ b. cond b v (map.get m (shadow_key t x))) e) i) w else w))

@@ -1,13 +1,9 @@
 -- Whether an id is in a transaction.
 use Rattle.beldi_known.proofs.Names.{Bool, IntentId, IsIn, List, TxId, [], ap, append-nil, append_cancel_left, arith, eq-eqb, eqb-true, false, inl, inr, length, length-append, refl, suc, sym, true, zero, ℕ, ◌++◌, ◌<◌, ◌==◌, ◌∙◌, ◌∷◌, ◌≡◌, ◌≤◌, ◌⊎◌}
+use Rattle.beldi_known.proofs.Cases.{by_cases}
 
 lt_or_le : (n m : ℕ) → (n < m) ⊎ (m ≤ n)
-lt_or_le n zero = inr (omega arith)
-lt_or_le zero (suc m) = inl (omega arith)
-lt_or_le (suc n) (suc m) = elim (lt_or_le n m) [
-  | inl h ↦ inl (omega (arith, h))
-  | inr h ↦ inr (omega (arith, h))
-]
+lt_or_le n m = grind arith
 
 abbrev head_of : ℕ → List ℕ → ℕ
 head_of n [] = n
@@ -33,7 +29,12 @@ rest_of t i (inl own) = []
 rest_of t i (inr b) = b.step ∷ b.hops
 
 pub in_or_out : (t : TxId) (i : IntentId) → IsIn t i ⊎ (IsIn t i → ⊥)
-in_or_out t i = by_ticket (i.ticket == t.intent.ticket) refl
+in_or_out t i = by_cases (i.ticket == t.intent.ticket)
+    (λ e. elim (begins_with t.intent.hops i.hops) [
+      | inl h ↦ by_rest (eqb-true i.ticket t.intent.ticket e) h.0 h.1
+      | inr f ↦ inr (λ h. f (rest_of t i h) (hops_of h))
+    ])
+    (λ e. inr (λ h. let c = sym e ∙ eq-eqb i.ticket t.intent.ticket (ticket_of h) in cc))
   where
     ticket_of : IsIn t i → i.ticket ≡ t.intent.ticket
     ticket_of (inl own) = ap (λ (z : IntentId). z.ticket) own
@@ -56,10 +57,3 @@ in_or_out t i = by_ticket (i.ticket == t.intent.ticket) refl
             let e : n ≡ b.step = ap (head_of 0) (append_cancel_left t.intent.hops (n ∷ zs) (b.step ∷ b.hops) (sym h ∙ ap (λ (z : IntentId). z.hops) b.is)) in
             let l = b.later in
             omega (arith, le, e, l)
-
-    by_ticket : (b : Bool) → (i.ticket == t.intent.ticket) ≡ b → IsIn t i ⊎ (IsIn t i → ⊥)
-    by_ticket false e = inr (λ h. let c = sym e ∙ eq-eqb i.ticket t.intent.ticket (ticket_of h) in cc)
-    by_ticket true e = elim (begins_with t.intent.hops i.hops) [
-      | inl h ↦ by_rest (eqb-true i.ticket t.intent.ticket e) h.0 h.1
-      | inr f ↦ inr (λ h. f (rest_of t i h) (hops_of h))
-    ]

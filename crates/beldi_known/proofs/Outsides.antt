@@ -17,6 +17,7 @@ use Rattle.beldi_known.proofs.Owns.{going, got_owned, owner_known, touched_owned
 use Rattle.beldi_known.proofs.Phases.{end_is, inside_is}
 use Rattle.beldi_known.proofs.ReadLists.{got_since, member_tx}
 use Rattle.beldi_known.proofs.Sanes.{no_callees as known_childless}
+use Rattle.beldi_known.proofs.Cases.{by_option}
 
 abbrev pub value_of : Items → Item → Value
 value_of m x = or_null (map.get m x)
@@ -280,7 +281,7 @@ ends_next d k a other b n ends = by_effect (effect_of d k) refl (sym (ap (λ (s 
 module _ (d : Deployment) (m : Rows) (p : PlainState) (known : Known) (locked : IntentId → Bool) (h : Shadows d m p known locked) (beside : Beside d p known) (sane : Sane d known) (matches : Matches d m known locked) (legal : plain.Sane d p) where
   -- who was called in no transaction is in the plain state, with no more answers
   pub plain_owner : (id : IntentId) (k : Instance) → map.get known id ≡ Some k → k.within ≡ None → (q : Instance) × (map.get p.made id ≡ Some q) × (length q.answers ≤ length k.answers)
-  plain_owner id k is own = by_made (map.get p.made id) refl
+  plain_owner id k is own = by_option (map.get p.made id) (λ none. let w = beside.kept id k none is in let clash = sym own ∙ w.within in cc) (λ q made. (q, made, by_begins q made (begins d q) refl))
     where
       by_begins : (q : Instance) → map.get p.made id ≡ Some q → (b : Bool) → begins d q ≡ b → length q.answers ≤ length k.answers
       by_begins q made false e = let n = ap (λ (z : Instance). length z.answers) (same_some (sym (beside.same id q made e) ∙ is)) in omega (arith, n)
@@ -291,10 +292,6 @@ module _ (d : Deployment) (m : Rows) (p : PlainState) (known : Known) (locked : 
           let l = length-append q.answers o.grown.later in
           let k = ap length o.grown.more in
           omega (arith, n, l, k)
-
-      by_made : (o : Option Instance) → map.get p.made id ≡ o → (q : Instance) × (map.get p.made id ≡ Some q) × (length q.answers ≤ length k.answers)
-      by_made None none = let w = beside.kept id k none is in let clash = sym own ∙ w.within in cc
-      by_made (Some q) made = (q, made, by_begins q made (begins d q) refl)
 
   pub plain_none : (id : IntentId) → map.get known id ≡ None → map.get p.made id ≡ None
   plain_none id new = none_by (map.get p.made id) (λ q made. by_begins q made (begins d q) refl)
@@ -353,11 +350,7 @@ module _ (d : Deployment) (m : Rows) (p : PlainState) (known : Known) (locked : 
 
   -- by an operation outside: nobody owns its item
   pub set_agrees : (y : Item) (o : Option Value) → ((t : TxId) → (content_of m y).owner ≡ Some (Tx t) → ⊥) → (j : IntentId) (z : Instance) (x : Item) → (content_of m x).owner ≡ Some (Tx (tx_begun j z)) → value_of (set_if p.items y o) x ≡ value_at p x
-  set_agrees y o free j z x owned = plain_set p.items y x o ∙ ap (λ c. cond c (or_old o (value_of p.items y)) (value_of p.items x)) (off (is_eq (item_cmp x y)) refl)
-    where
-      off : (c : Bool) → is_eq (item_cmp x y) ≡ c → c ≡ false
-      off false e = refl
-      off true e = absurd (free (tx_begun j z) (ap (λ w. (content_of m w).owner) (sym (item_same x y e)) ∙ owned))
+  set_agrees y o free j z x owned = plain_set p.items y x o ∙ ap (λ c. cond c (or_old o (value_of p.items y)) (value_of p.items x)) (false_from_ne_true (is_eq (item_cmp x y)) (λ e. free (tx_begun j z) (ap (λ w. (content_of m w).owner) (sym (item_same x y e)) ∙ owned)))
 
 -- another one was set before: its caller, or one that was called by it
 pub set_after : (d : Deployment) (m n : Rows) (p : PlainState) (known : Known) (id : IntentId) (s : Instance) → MaySet d m p known id s → ((x : Item) → map.get n (shadow_key (tx_begun id s) x) ≡ map.get m (shadow_key (tx_begun id s) x)) → (i : IntentId) (z y : Instance) → is_eq (id_cmp id i) ≡ false

@@ -5,6 +5,7 @@ use Rattle.beldi_known.proofs.Names.map
 use Rattle.beldi_known.proofs.Callers.{all_called, waits_for}
 use Rattle.beldi_known.proofs.OwnTx.{Own, own, own_by, own_intent}
 use Rattle.beldi_known.proofs.Phases.{inside_holds_none}
+use Rattle.beldi_known.proofs.Cases.{by_option}
 
 -- one's own transaction has not ended, where it is that of the next step
 own_begin : (id : IntentId) (func n : ℕ) (e : Effect) (o : Option ℕ) (t : TxId) → tx_by id func n e o ≡ Some t → (t.begin ≡ n) ⊎ (o ≡ Some t.begin)
@@ -46,14 +47,10 @@ module _ (d : Deployment) (known : Known) (h : Sane d known) where
 
   -- who stands in a transaction owns it, or was called in it
   stands_in : (j : IntentId) (z : Instance) (t : TxId) → map.get known j ≡ Some z → z.outcome ≡ None → tx_now d j z ≡ Some t → ((z.within ≡ None) × (tx_by j z.func (length z.answers) (effect_of d z) (txs_after d z z.answers).begun ≡ Some t)) ⊎ Waits t
-  stands_in j z t on none now = by_within z.within refl
+  stands_in j z t on none now = by_option z.within (λ e. inl (e, in_it None e)) (λ u e. inr (waits t j z on (e ∙ in_it (Some u) e) none))
     where
       in_it : (w : Option TxId) → z.within ≡ w → or_own w (tx_by j z.func (length z.answers) (effect_of d z) (txs_after d z z.answers).begun) ≡ Some t
       in_it w e = sym (ap (λ o. or_own o (tx_by j z.func (length z.answers) (effect_of d z) (txs_after d z z.answers).begun)) e) ∙ now
-
-      by_within : (w : Option TxId) → z.within ≡ w → ((z.within ≡ None) × (tx_by j z.func (length z.answers) (effect_of d z) (txs_after d z z.answers).begun ≡ Some t)) ⊎ Waits t
-      by_within None e = inl (e, in_it None e)
-      by_within (Some u) e = inr (waits t j z on (e ∙ in_it (Some u) e) none)
 
   -- where an instance stands at no call, nobody else that can step is in a transaction of its own
   pub ends_alone : (id : IntentId) (q : Instance) → map.get known id ≡ Some q → ((f : ℕ) (v : Value) → effect_of d q ≡ effect.Call f v → ⊥) → (j : IntentId) (z : Instance) (t : TxId) → map.get known j ≡ Some z → is_eq (id_cmp j id) ≡ false → z.outcome ≡ None → tx_now d j z ≡ Some t → t.intent ≡ id → ⊥

@@ -14,11 +14,8 @@ name_decides : (a b : List ℕ) → (is_name a b ≡ true → a ≡ b) × (a ≡
 name_decides a b = slice_eq-Decides unsigned_Decides a b (is_name a b) refl
 
 lock_is : (t : ℕ) (k : List ℕ) (l : HeldLock) → is_lock t k l ≡ true → (l.table ≡ t) × (l.key ≡ k)
-lock_is t k l h = by_table (l.table == t) refl
-  where
-    by_table : (b : Bool) → (l.table == t) ≡ b → (l.table ≡ t) × (l.key ≡ k)
-    by_table true e = (eqb-true l.table t e, (name_decides l.key k).0 (sym (ap (λ b. b && is_name l.key k) e) ∙ h))
-    by_table false e = let clash = sym h ∙ ap (λ b. b && is_name l.key k) e in cc
+lock_is t k l h = by_cases (l.table == t) (λ e. (eqb-true l.table t e, (name_decides l.key k).0 (sym (ap (λ b. b && is_name l.key k) e) ∙ h)))
+    (λ e. let clash = sym h ∙ ap (λ b. b && is_name l.key k) e in cc)
 
 lock_itself : (l : HeldLock) → is_lock l.table l.key l ≡ true
 lock_itself l = ap (λ b. b && is_name l.key l.key) (eq-eqb l.table l.table refl) ∙ (name_decides l.key l.key).1 refl
@@ -261,22 +258,19 @@ no_lock p t e a h = refl
 
 module _ (d : Deployment) (id : IntentId) (q : Instance) (h : SaneInstance d id q) where
   quiet : Quiet d q q.answers
-  quiet n less inner = by_lock (is_locking (effect_after d q (take n q.answers))) refl
+  quiet n less inner = false_from_ne_true (is_locking (effect_after d q (take n q.answers))) (λ e.
+      let there : is_some (tx_at d id q n) ≡ true = tx_is d q id (take n q.answers) (λ begin. let clash = sym (ap is_locking begin) ∙ e in cc) ∙ inside_is d q (take n q.answers) ∙ inner in
+      let clash = sym e ∙ by_tx (tx_at d id q n) (slice_get q.answers n) refl refl there in cc)
     where
       by_tx : (t : Option TxId) (o : Option Answer) → tx_at d id q n ≡ t → slice_get q.answers n ≡ o → is_some t ≡ true → is_locking (effect_after d q (take n q.answers)) ≡ false
       by_tx None o same there e = cc
       by_tx (Some t) None same there e = absurd (get_there q.answers n less there)
       by_tx (Some t) (Some a) same there e = no_lock (place_of id n) t (effect_after d q (take n q.answers)) a (subst (λ o. IsAnswer (place_of id n) o (effect_after d q (take n q.answers)) a) same (h.past n a there))
 
-      by_lock : (b : Bool) → is_locking (effect_after d q (take n q.answers)) ≡ b → b ≡ false
-      by_lock false e = refl
-      by_lock true e =
-          let there : is_some (tx_at d id q n) ≡ true = tx_is d q id (take n q.answers) (λ begin. let clash = sym (ap is_locking begin) ∙ e in cc) ∙ inside_is d q (take n q.answers) ∙ inner in
-          sym e ∙ by_tx (tx_at d id q n) (slice_get q.answers n) refl refl there
-
   -- who is inside holds no lock
   holds_none : (is_some (txs_after d q q.answers).begun || is_some q.within) ≡ true → (x : Item) → holds d x (Some q) ≡ false
-  holds_none inner x = by_inherited (is_some q.within) refl
+  holds_none inner x = by_cases (is_some q.within) (λ e. none_along d q x [] q.answers (λ n less. quiet n less (or_right (is_some (txs_after d q (take n q.answers)).begun) (is_some q.within) e)))
+      (λ e. own_none (holds d x (Some q)) refl e)
     where
       own_none : (b : Bool) → holds d x (Some q) ≡ b → is_some q.within ≡ false → b ≡ false
       own_none false e out = refl
@@ -286,10 +280,6 @@ module _ (d : Deployment) (id : IntentId) (q : Instance) (h : SaneInstance d id 
           let stays : is_leaving g.going.phase ≡ false = begun_stays g.going.phase open_now in
           let k = g.locks stays x e in
           let clash = sym (ap (is_held x.table x.key) (g.bare stays (ap (λ b. b || is_some q.within) open_now) quiet)) ∙ k.1 in cc
-
-      by_inherited : (b : Bool) → is_some q.within ≡ b → holds d x (Some q) ≡ false
-      by_inherited true e = none_along d q x [] q.answers (λ n less. quiet n less (or_right (is_some (txs_after d q (take n q.answers)).begun) (is_some q.within) e))
-      by_inherited false e = own_none (holds d x (Some q)) refl e
 
   pub inside_holds_none : is_some (tx_now d id q) ≡ true → (x : Item) → holds d x (Some q) ≡ false
   inside_holds_none inner x = by_begin (is_begin (effect_of d q))

@@ -5,6 +5,7 @@ use Rattle.beldi_known.proofs.Acts.{by_item, shadow_same}
 use Rattle.beldi_known.proofs.Answers.{true_false}
 use Rattle.beldi_known.proofs.Frame.{moved_one}
 use Rattle.beldi_known.proofs.FrameAt.{known_set}
+use Rattle.beldi_known.proofs.Cases.{by_cases}
 
 -- ---- one shadow
 pub more_writes : (b c : Bool) (o : Option Row) (v : Value) → (b ≡ true → c ≡ true) → ShadowShows b o v → ShadowShows c o v
@@ -46,11 +47,8 @@ module _ (m : Rows) (t : TxId) (x : Item) (v : Option Row) where
       (λ apart. subst (P y) (sym (key_there t y (λ same. true_false (sym (ap is_eq (tied_itself item_total x)) ∙ ap (λ z. is_eq (item_cmp x z)) (sym same.1) ∙ apart)))) (other y apart))
 
   pub there_before : (u : TxId) (y : Item) → is_some (map.get (set_row m (shadow_key t x) v) (shadow_key u y)) ≡ true → ((u ≡ t) × (y ≡ x)) ⊎ (is_some (map.get m (shadow_key u y)) ≡ true)
-  there_before u y there = by_key (is_eq (key_cmp (shadow_key u y) (shadow_key t x))) refl
-    where
-      by_key : (b : Bool) → is_eq (key_cmp (shadow_key u y) (shadow_key t x)) ≡ b → ((u ≡ t) × (y ≡ x)) ⊎ (is_some (map.get m (shadow_key u y)) ≡ true)
-      by_key true e = inl (shadow_same u t y x (key_same (shadow_key u y) (shadow_key t x) e))
-      by_key false e = inr (sym (ap is_some (row_got m (shadow_key t x) (shadow_key u y) v ∙ ap (λ b. cond b v (map.get m (shadow_key u y))) e)) ∙ there)
+  there_before u y there = by_cases (is_eq (key_cmp (shadow_key u y) (shadow_key t x))) (λ e. inl (shadow_same u t y x (key_same (shadow_key u y) (shadow_key t x) e)))
+      (λ e. inr (sym (ap is_some (row_got m (shadow_key t x) (shadow_key u y) v ∙ ap (λ b. cond b v (map.get m (shadow_key u y))) e)) ∙ there))
 
 -- ---- what it got stays so
 still_got : (had on l dead : Bool) → (l ≡ true → dead ≡ false) → (had || (l && on)) ≡ true → ((had || (on && not dead)) || false) ≡ true
