@@ -1,5 +1,5 @@
 -- Each act inside an open transaction, among all others: what shadows show is kept, and what is known stays beside the plain state.
-use Rattle.beldi_known.proofs.Names.{AllGot, AllShow, Answer, Bool, CallsGo, Cause, DeathsGo, Deployment, Effect, FirstRowsGo, Goes, Got, Instance, IntentId, IsAnswer, IsDeath, IsFront, IsIn, IsSound, Item, Items, Known, Line, List, LockedOut, Move, None, OnItem, OpenTx, Option, Outcome, PlainState, ReadsGo, Rel, ReturnsGo, Row, RowKey, Rows, RowsGo, Sane, ShadowShows, Shadows, Shows, Some, TestsGo, Tx, TxId, Txs, Value, WritesGo, aborted, and_right, answer_by, answer_inside, answer_of, ap, at_once, begins, callee_in, callee_of, calls_at, child_of, child_same, cond, content_in, did, effect_of, elsewhere, end_of, ended, ended_by, equal, false, fell, got_before, got_by, has_callees, head_key, id_cmp, id_total, if◌then◌else◌, inl, inr, is_aborted, is_edge, is_eq, is_item, is_on, is_some, is_writing, item_cmp, item_in, item_of, item_same, item_total, items_after, items_by, length, log_key, made_set, moved, new_member, none_below, none_by, not_own, not_owner, op_of, or_null, or_old, or_own, passes, place_of, plain, plain_set, refl, same_some, sane_with, set_row, sets, shadow_key, shadow_of, subst, sym, test_on, tested, tied_itself, touched, true, tx_begun, tx_by, tx_end, tx_now, txs_after, txs_by, value_at, value_in, write, write_on, writes_on, writing_at, ℕ, ◌&&◌, ◌||◌, ◌∙◌, ◌≡◌, ◌⊎◌, false_from_ne_true}
+use Rattle.beldi_known.proofs.Names.{AllGot, AllShow, Answer, Bool, CallsGo, Cause, DeathsGo, Deployment, Effect, FirstRowsGo, Goes, Got, Instance, IntentId, IsAnswer, IsFront, IsIn, IsSound, Item, Items, Known, Line, List, LockedOut, Move, None, OnItem, OpenTx, Option, Outcome, PlainState, ReadsGo, Rel, ReturnsGo, Row, RowKey, Rows, RowsGo, Sane, ShadowShows, Shadows, Shows, Some, TestsGo, Tx, TxId, Txs, Value, WritesGo, aborted, and_right, answer_by, answer_inside, answer_of, ap, at_once, begins, callee_in, callee_of, calls_at, child_of, child_same, cond, content_in, did, effect_of, elsewhere, end_of, ended, ended_by, equal, false, fell, got_before, got_by, has_callees, head_key, id_cmp, id_total, if◌then◌else◌, inl, inr, is_aborted, is_edge, is_eq, is_item, is_on, is_some, is_writing, item_cmp, item_in, item_of, item_same, item_total, items_after, items_by, length, log_key, made_set, moved, new_member, none_below, none_by, not_own, not_owner, op_of, or_null, or_old, or_own, passes, place_of, plain, plain_set, refl, same_some, sane_with, set_row, sets, shadow_key, shadow_of, subst, sym, test_on, tested, tied_itself, touched, true, tx_begun, tx_by, tx_end, tx_now, txs_after, txs_by, value_at, value_in, write, write_on, writes_on, writing_at, ℕ, ◌&&◌, ◌||◌, ◌∙◌, ◌≡◌, ◌⊎◌, false_from_ne_true}
 use Rattle.beldi_known.proofs.Names.answer
 use Rattle.beldi_known.proofs.Names.effect
 use Rattle.beldi_known.proofs.Names.map

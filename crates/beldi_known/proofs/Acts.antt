@@ -1,5 +1,5 @@
 -- What the acts at the front leave: rows that match.
-use Rattle.beldi_known.proofs.Names.{Answer, AnswersOne, Bool, CallMatches, CellMatches, Content, Deployment, Instance, IntentId, Item, ItemMatches, Kind, Known, List, LockedOut, LogMatches, Matches, None, Note, Option, Place, Row, RowKey, RowMatches, Rows, ShadowMatches, Some, Tx, TxId, TxsMatch, Value, [], and_from, and_parts, ap, asks_lock, begins_at, cond, content_in, content_of, effect_of, eq-eqb, eq_by_cmp_equiv, eqb-true, false, false_from_ne_true, head_key, id_cmp, id_same, if◌then◌else◌, is_aborted, is_eq, is_item, item_cmp, item_same, item_total, key_cmp, key_same, key_self, length, lock_in, lockset_key, log_key, note_at, other_owner, owed_read, place_of, place_self, refl, row_added, row_got, set_row, shadow_by, shadow_key, shadow_of, subst, sym, tied_itself, touched, true, tx_eq, tx_now, txs_after, with_note, ℕ, ◌&&◌, ◌++◌, ◌==◌, ◌∙◌, ◌∷◌, ◌≡◌}
+use Rattle.beldi_known.proofs.Names.{Answer, AnswersOne, Bool, CellMatches, Content, Deployment, Instance, IntentId, Item, ItemMatches, Kind, Known, List, LockedOut, Matches, None, Note, Option, Place, Row, RowKey, RowMatches, Rows, ShadowMatches, Some, Tx, TxId, TxsMatch, Value, [], and_from, and_parts, ap, asks_lock, begins_at, cond, content_in, content_of, effect_of, eq_by_cmp_equiv, eqb-true, false, false_from_ne_true, head_key, id_cmp, id_same, is_aborted, is_eq, is_item, item_cmp, item_same, item_total, key_cmp, key_same, key_self, length, lock_in, lockset_key, log_key, note_at, other_owner, owed_read, place_of, refl, row_added, row_got, set_row, shadow_by, shadow_key, shadow_of, subst, sym, tied_itself, touched, true, tx_eq, tx_now, txs_after, with_note, ℕ, ◌&&◌, ◌++◌, ◌==◌, ◌∙◌, ◌∷◌, ◌≡◌}
 use Rattle.beldi_known.proofs.Names.answer
 use Rattle.beldi_known.proofs.Names.kinds
 use Rattle.beldi_known.proofs.Names.map

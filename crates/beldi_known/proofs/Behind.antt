@@ -1,5 +1,5 @@
 -- A run whose answers are not all that are known finds what is owed: nothing changes, and it gets the known answer.
-use Rattle.beldi_known.proofs.Names.{Answer, Bool, Cause, Content, Deployment, Effect, Instance, IntentId, IsAnswer, IsDeath, Item, Known, List, LocksetMatches, LogMatches, Matches, None, Note, Option, Place, Rel, Row, Rows, SaneInstance, Some, Told, Tx, TxId, Value, [], ahead_by, along, along_append, and_right, answered_note, ap, append_assoc, arith, asks_lock, at_step, begins_at, commit_in, content_of, decision_by, effect_after, effect_before, effect_of, end_of, ended_stays, eq-eqb, eqb-true, false, false_from_ne_true, if◌then◌else◌, is_at, is_decided, is_eq, is_item, is_mark, is_some, is_tx, item_total, keep_value, last_step, length, length-append, lock_answer, lock_note, lock_on, lock_or, lockset_ahead, lockset_key, log_key, none_by, note_at, note_by, note_of, note_or, noted_or, or_left, or_right, other_owner, owed_lockset, owed_note, owed_shadow, owed_value, place_of, place_self, put_lockset, read_at, refl, row_at, shadow_by, shadow_of, slice_get, subst, sym, take, tied_itself, touched, true, tx_after, tx_eq, tx_now, txs_after, txs_by, txs_pushed, value_for, value_or, write_op, ℕ, ◌&&◌, ◌++◌, ◌<◌, ◌==◌, ◌||◌, ◌∙◌, ◌∷◌, ◌≡◌}
+use Rattle.beldi_known.proofs.Names.{Answer, Bool, Cause, Content, Deployment, Effect, Instance, IntentId, IsAnswer, IsDeath, Item, Known, List, LocksetMatches, LogMatches, Matches, None, Note, Option, Place, Rel, Row, Rows, SaneInstance, Some, Told, Tx, TxId, Value, [], ahead_by, along, along_append, and_right, answered_note, ap, append_assoc, arith, asks_lock, at_step, begins_at, commit_in, content_of, decision_by, effect_after, effect_before, effect_of, end_of, ended_stays, eq-eqb, eqb-true, false, false_from_ne_true, if◌then◌else◌, is_at, is_decided, is_eq, is_item, is_mark, is_some, is_tx, item_total, last_step, length, length-append, lock_answer, lock_note, lock_on, lock_or, lockset_ahead, lockset_key, log_key, none_by, note_at, note_by, note_of, note_or, noted_or, or_left, or_right, other_owner, owed_lockset, owed_note, owed_shadow, owed_value, place_of, put_lockset, read_at, refl, row_at, shadow_by, shadow_of, slice_get, subst, sym, take, tied_itself, touched, true, tx_after, tx_now, txs_after, txs_by, txs_pushed, value_for, value_or, write_op, ℕ, ◌&&◌, ◌++◌, ◌<◌, ◌==◌, ◌||◌, ◌∙◌, ◌∷◌, ◌≡◌}
 use Rattle.beldi_known.proofs.Names.answer
 use Rattle.beldi_known.proofs.Names.effect
 use Rattle.beldi_known.proofs.Names.map

@@ -1,5 +1,5 @@
 -- The decision of an open transaction is its entry in the plain state, and all items are listed as that leaves them.
-use Rattle.beldi_known.proofs.Names.{AbortsAreTries, AllPlain, AllShow, AllSound, Answer, AtEnd, Bool, Cause, Commits, CommitsArePieces, Content, Deployment, FellAt, Goes, Going, HoldersInsideAreMade, InLine, Instance, Intent, IntentId, IsAbort, IsBelow, IsCommit, IsIn, IsKept, IsSound, Item, Kind, Known, List, LogMatches, Matches, Move, None, Older, OpenTx, Option, Owner, Place, PlainState, Row, Rows, Runs, ShadowShows, Shows, Some, TouchedIn, Tx, TxId, Txs, Value, [], after_sane, answered, ap, arith, at_once, begins, cond, content_in, content_of, decision_by, decision_key, effect_of, end_of, ended_by, eq-eqb, eqb-true, false, fell, gives, goes_on, head_key, here, id_cmp, id_total, if◌then◌else◌, inl, inr, is_at, is_committed, is_eq, is_holder, is_older, is_some, is_there, is_writing, key_cmp, key_same, key_self, last_answer, length, length-append, line_opened, listed, listed_under, log_key, opened, others, owed_read, owed_value, pieces_are_moves, place_of, places_come_once, read_at, refl, row_at, row_got, same_some, set_row, shadow_key, slice_get, stands_there, stays, subst, sym, tied_itself, true, tx_after, tx_at, tx_begun, txs_after, txs_by, txs_pushed, value_at, value_in, value_or, with_instance, writes_on, writing_at, ℕ, ◌&&◌, ◌++◌, ◌==◌, ◌∙◌, ◌∷◌, ◌≡◌, ◌≤◌, ◌⊎◌, false_from_ne_true, tx_eq}
+use Rattle.beldi_known.proofs.Names.{AbortsAreTries, AllPlain, AllShow, AllSound, Answer, AtEnd, Bool, Cause, Commits, CommitsArePieces, Content, Deployment, FellAt, Goes, Going, HoldersInsideAreMade, InLine, Instance, IntentId, IsAbort, IsBelow, IsCommit, IsIn, IsKept, IsSound, Item, Kind, Known, List, LogMatches, Matches, Move, None, Older, OpenTx, Option, Owner, Place, PlainState, Row, Rows, Runs, ShadowShows, Shows, Some, TouchedIn, Tx, TxId, Txs, Value, [], after_sane, answered, ap, arith, at_once, begins, content_in, content_of, decision_by, decision_key, effect_of, end_of, ended_by, eq-eqb, eqb-true, false, fell, gives, goes_on, head_key, here, id_cmp, id_total, if◌then◌else◌, inl, inr, is_at, is_committed, is_eq, is_holder, is_older, is_some, is_there, is_writing, key_same, last_answer, length, length-append, line_opened, listed, listed_under, log_key, opened, others, owed_read, owed_value, pieces_are_moves, place_of, places_come_once, read_at, refl, row_at, same_some, set_row, shadow_key, slice_get, stands_there, stays, subst, sym, tied_itself, true, tx_after, tx_at, tx_begun, txs_after, txs_by, txs_pushed, value_at, value_in, value_or, with_instance, writes_on, writing_at, ℕ, ◌&&◌, ◌++◌, ◌==◌, ◌∙◌, ◌∷◌, ◌≡◌, ◌≤◌, ◌⊎◌, false_from_ne_true, tx_eq}
 use Rattle.beldi_known.proofs.Names.answer
 use Rattle.beldi_known.proofs.Names.effect
 use Rattle.beldi_known.proofs.Names.entry

@@ -1,7 +1,6 @@
 -- The decision: its row is added, at the step of Begin. No item owes more, and no owner changes.
-use Rattle.beldi_known.proofs.Names.{Answer, AnswersOne, Bool, CallMatches, Content, Deployment, Instance, Intent, IntentId, Item, ItemMatches, Kind, Known, LockedOut, LocksetMatches, LogMatches, Matches, None, Option, Outcome, Place, Row, RowMatches, Rows, ShadowMatches, Some, TxId, TxsMatch, ahead_by, and_right, ap, asks_lock, begins_at, commit_in, content_of, effect_after, effect_of, end_of, ended_at, ended_by, eq-eqb, eqb-true, false, got_before, got_by, head_key, held_if, holds, id_cmp, if◌then◌else◌, is_aborted, is_at, is_decided, is_eq, is_item, is_mark, is_none, is_on, is_open, is_owner, is_some, is_tx, key_cmp, last_step, length, lockset_ahead, log_key, none_by, not, note_by, note_or, op_of, or_from, or_left, or_parts, owed_lockset, owed_note, owed_read, place_eq, place_of, place_same, place_self, refl, row_added, set_row, shadow_by, shadow_key, shadow_of, subst, sym, touched, true, tx_after, tx_end, tx_now, txs_after, txs_by, ℕ, ◌&&◌, ◌==◌, ◌||◌, ◌∙◌, ◌≡◌, arith}
+use Rattle.beldi_known.proofs.Names.{Answer, AnswersOne, Bool, Deployment, Instance, IntentId, Item, Kind, Known, LockedOut, LocksetMatches, Matches, None, Option, Outcome, Place, Row, Rows, Some, TxId, and_right, ap, asks_lock, begins_at, commit_in, content_of, effect_after, effect_of, end_of, ended_at, ended_by, eqb-true, false, got_before, got_by, held_if, holds, id_cmp, if◌then◌else◌, is_aborted, is_at, is_decided, is_eq, is_item, is_mark, is_none, is_on, is_open, is_some, is_tx, key_cmp, last_step, length, lockset_ahead, log_key, none_by, not, note_by, op_of, or_from, or_left, or_parts, owed_lockset, owed_note, place_of, refl, row_added, set_row, shadow_by, shadow_of, subst, sym, touched, true, tx_end, tx_now, txs_after, txs_by, ℕ, ◌&&◌, ◌==◌, ◌||◌, ◌∙◌, ◌≡◌, arith}
 use Rattle.beldi_known.proofs.Names.effect
-use Rattle.beldi_known.proofs.Names.kinds
 use Rattle.beldi_known.proofs.Names.map
 use Rattle.beldi_known.proofs.Names.rows
 use Rattle.beldi_known.proofs.Names.value

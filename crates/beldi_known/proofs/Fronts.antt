@@ -1,5 +1,5 @@
 -- The acts at the front that answer an operation inside, or die, or decide.
-use Rattle.beldi_known.proofs.Names.{Answer, AnswersOne, Bool, Content, Deployment, Effect, Instance, Intent, IntentId, IntentMatches, Item, ItemMatches, Known, List, LockedOut, LocksetMatches, None, Note, Option, Owner, Place, Row, ShadowMatches, Some, TxId, Txs, TxsMatch, Value, [], ahead_by, and_right, ap, asks_lock, begins_at, commit_in, effect_after, effect_of, ended_at, ended_by, ends_kept, eq-eqb, eqb-true, false, fits, got_by, has_ended, has_no_hops, held_if, holds, id_cmp, if◌then◌else◌, is_aborted, is_decided, is_eq, is_item, is_mark, is_none, is_open, is_owner, is_some, item_cmp, item_total, key_cmp, key_self, last_step, length, lock_note, lockset_ahead, log_key, not, note_at, note_by, note_or, note_pushed, op_of, owed_lockset, owed_note, owed_read, owed_shadow, owed_value, place_eq, place_of, place_same, refl, row_added, row_at, shadow_by, subst, sym, tied_itself, touched, true, tx_after, tx_end, tx_now, txs_after, txs_by, with_note, ℕ, ◌&&◌, ◌++◌, ◌==◌, ◌||◌, ◌∙◌, ◌∷◌, ◌≡◌, CallMatches, LogMatches, RowMatches, Kind, false_from_ne_true, arith}
+use Rattle.beldi_known.proofs.Names.{Answer, AnswersOne, Bool, Content, Deployment, Effect, Instance, Intent, IntentId, IntentMatches, Item, ItemMatches, Known, List, LockedOut, LocksetMatches, None, Note, Option, Owner, Place, Row, ShadowMatches, Some, TxId, Txs, TxsMatch, Value, [], ahead_by, and_right, ap, asks_lock, begins_at, commit_in, effect_after, effect_of, ended_at, ended_by, ends_kept, eq-eqb, eqb-true, false, fits, has_ended, has_no_hops, held_if, holds, id_cmp, if◌then◌else◌, is_aborted, is_decided, is_eq, is_item, is_mark, is_none, is_open, is_some, item_cmp, item_total, key_cmp, key_self, last_step, length, lock_note, lockset_ahead, log_key, not, note_at, note_by, note_or, note_pushed, op_of, owed_lockset, owed_note, owed_read, owed_shadow, owed_value, place_eq, place_of, place_same, refl, row_added, row_at, shadow_by, subst, sym, tied_itself, touched, true, tx_after, tx_end, tx_now, txs_after, txs_by, with_note, ℕ, ◌&&◌, ◌++◌, ◌==◌, ◌||◌, ◌∙◌, ◌∷◌, ◌≡◌, CallMatches, LogMatches, RowMatches, Kind, false_from_ne_true, arith}
 use Rattle.beldi_known.proofs.Names.answer
 use Rattle.beldi_known.proofs.Names.effect
 use Rattle.beldi_known.proofs.Names.kinds

@@ -1,5 +1,5 @@
 -- The front acts of operations inside, by their effects; and a release.
-use Rattle.beldi_known.proofs.Names.{Answer, Bool, CellMatches, Content, Deployment, Effect, Instance, Intent, IntentId, Item, ItemMatches, Known, List, LockedOut, Matches, None, Note, Option, Place, Rel, Row, RowMatches, Rows, ShadowMatches, Some, Tx, TxId, TxsMatch, Value, [], ap, begins_at, cond, content_in, content_of, effect_of, eq-eqb, false, head_key, if◌then◌else◌, is_eq, is_item, is_mark, is_none, is_open, is_owner, is_some, is_tx, item_cmp, item_total, key_cmp, key_same, length, lockset_ahead, lockset_key, log_key, moved, not, note_at, note_of, note_pushed, or_right, owed_lockset, owed_note, place_eq, place_of, place_same, refl, row_added, row_got, set_row, shadow_by, shadow_key, shadow_of, subst, sym, tied_itself, touched, true, tx_end, tx_eq, tx_now, txs_after, with_note, write_op, ℕ, ◌&&◌, ◌++◌, ◌==◌, ◌∙◌, ◌∷◌, ◌≡◌, arith}
+use Rattle.beldi_known.proofs.Names.{Answer, Bool, CellMatches, Content, Deployment, Effect, Instance, Intent, IntentId, Item, ItemMatches, Known, List, LockedOut, Matches, None, Note, Option, Place, Rel, Row, RowMatches, Rows, Some, Tx, TxId, TxsMatch, Value, [], ap, begins_at, cond, content_in, content_of, effect_of, eq-eqb, false, head_key, if◌then◌else◌, is_eq, is_item, is_mark, is_none, is_open, is_owner, is_some, is_tx, item_cmp, item_total, key_cmp, key_same, length, lockset_ahead, lockset_key, log_key, moved, not, note_at, note_of, note_pushed, or_right, owed_lockset, place_eq, place_of, place_same, refl, row_added, row_got, set_row, shadow_by, shadow_key, shadow_of, subst, sym, tied_itself, touched, true, tx_end, tx_eq, tx_now, txs_after, with_note, write_op, ℕ, ◌&&◌, ◌++◌, ◌==◌, ◌∙◌, ◌∷◌, ◌≡◌, arith}
 use Rattle.beldi_known.proofs.Names.answer
 use Rattle.beldi_known.proofs.Names.effect
 use Rattle.beldi_known.proofs.Names.map
@@ -10,7 +10,7 @@ use Rattle.beldi_known.proofs.Answers.{true_false}
 use Rattle.beldi_known.proofs.Rows.{keys_set}
 use Rattle.beldi_known.proofs.Frame.{moved_one, no_shadow}
 use Rattle.beldi_known.proofs.Locks.{tx_self}
-use Rattle.beldi_known.proofs.Acts.{read_answered, write_answered, lock_died, kinds_apart, is_data, is_shadow, content_apart, shadow_apart, by_item, content_here, turned, log_set, head_set}
+use Rattle.beldi_known.proofs.Acts.{read_answered, write_answered, lock_died, kinds_apart, is_data, content_apart, shadow_apart, log_set, head_set}
 use Rattle.beldi_known.proofs.Cases.{if_is, if_same}
 
 module _ (d : Deployment) (known : Known) (locked unlocked : IntentId → Bool) (id : IntentId) (q : Instance) (is : map.get known id ≡ Some q) (out : LockedOut locked unlocked id)

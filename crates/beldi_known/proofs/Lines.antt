@@ -1,6 +1,6 @@
 -- Who is in an open transaction: its owner, and all that were called in it. Of those that have no outcome one can step, and each other
 -- waits for the next.
-use Rattle.beldi_known.proofs.Names.{Answer, Answers, Beside, Bool, Calls, Deployment, Effect, FinMap, Going, InLine, Instance, IntentId, IsBelow, IsIn, Known, Line, List, Move, MoveIs, None, OpenTx, OpensAreOpen, Option, PlainState, Returns, Sane, SaneWith, Some, TxId, Txs, Value, [], all_in, answer_at_once, answer_of, answered, answered_plainly, answers, ap, append-nil, append_assoc, arith, begins, begun_pushed, callee_of, calls, calls_at, child_of, child_same, cond, effect_of, ended, equal, false, get-insert, id_cmp, id_total, in_line, inl, inr, is_begin, is_edge, is_eq, last_hop, length, length-append, line_alike, line_moved, line_opened, long, longer, move_is, mover, new_member, next, none_below, not_longer, opened, or_own, outside_of, plainly_edge, refl, returned, returns, same_some, sane_with, subst, sym, tied_itself, top, true, tx_begun, tx_by, tx_now, txs_after, txs_by, txs_pushed, ℕ, ◌++◌, ◌<◌, ◌∙◌, ◌∷◌, ◌≡◌, ◌⊎◌}
+use Rattle.beldi_known.proofs.Names.{Answer, Answers, Beside, Bool, Calls, Deployment, Effect, FinMap, Going, InLine, Instance, IntentId, IsBelow, IsIn, Known, Line, List, Move, MoveIs, None, OpenTx, OpensAreOpen, PlainState, Returns, Sane, SaneWith, Some, TxId, Txs, Value, [], all_in, answer_at_once, answer_of, answered, answered_plainly, answers, ap, append-nil, append_assoc, arith, begins, begun_pushed, callee_of, calls, calls_at, child_of, child_same, cond, effect_of, ended, equal, false, get-insert, id_cmp, id_total, in_line, inl, inr, is_begin, is_edge, is_eq, last_hop, length, length-append, line_alike, line_moved, line_opened, long, longer, move_is, mover, new_member, next, none_below, not_longer, opened, or_own, outside_of, plainly_edge, refl, returned, returns, same_some, sane_with, subst, sym, tied_itself, top, true, tx_begun, tx_by, tx_now, txs_after, txs_by, txs_pushed, ℕ, ◌++◌, ◌<◌, ◌∙◌, ◌∷◌, ◌≡◌, ◌⊎◌}
 use Rattle.beldi_known.proofs.Names.answer
 use Rattle.beldi_known.proofs.Names.effect
 use Rattle.beldi_known.proofs.Names.map

@@ -1,5 +1,5 @@
 -- The lock of an operation inside, at the front: it is taken, or the operation dies.
-use Rattle.beldi_known.proofs.Names.{Bool, Content, Deployment, Got, Instance, Intent, IntentId, Item, ItemMatches, Known, List, None, Option, Owner, Place, Some, Tx, TxId, TxsMatch, [], ahead_by, and_from, and_parts, and_right, answered_note, ap, cond, effect_after, effect_of, eq-eqb, eqb-true, false, get-insert, got_before, got_by, id_cmp, id_eq, id_same, id_total, if◌then◌else◌, is_eq, is_item, is_mark, is_on, is_owner, is_tx, item_cmp, item_total, length, lock_in, note_at, note_by, note_or, note_pushed, or_left, or_right, other_owner, owed_note, place_eq, place_of, place_same, place_self, refl, subst, sym, tied_itself, touched, true, tx_after, tx_end, tx_eq, tx_now, ℕ, ◌&&◌, ◌++◌, ◌==◌, ◌||◌, ◌∙◌, ◌∷◌, ◌≡◌, ahead_note}
+use Rattle.beldi_known.proofs.Names.{Bool, Content, Deployment, Got, Instance, Intent, IntentId, Item, ItemMatches, Known, List, None, Option, Owner, Place, Some, Tx, TxId, TxsMatch, [], ahead_by, and_from, and_parts, and_right, answered_note, ap, effect_after, effect_of, eq-eqb, eqb-true, false, got_before, got_by, id_cmp, id_eq, id_same, id_total, if◌then◌else◌, is_eq, is_item, is_on, is_owner, is_tx, item_cmp, item_total, length, lock_in, note_at, note_by, note_or, note_pushed, or_left, or_right, other_owner, owed_note, place_eq, place_of, place_same, place_self, refl, subst, sym, tied_itself, touched, true, tx_after, tx_eq, tx_now, ℕ, ◌&&◌, ◌++◌, ◌==◌, ◌||◌, ◌∙◌, ◌∷◌, ◌≡◌, ahead_note}
 use Rattle.beldi_known.proofs.Names.map
 use Rattle.beldi_known.proofs.Names.notes
 use Rattle.beldi_known.proofs.Frame.{step_next}

@@ -1,5 +1,5 @@
 -- Whether an id is in a transaction.
-use Rattle.beldi_known.proofs.Names.{Bool, IntentId, IsIn, List, TxId, [], ap, append-nil, append_cancel_left, arith, eq-eqb, eqb-true, false, inl, inr, length, length-append, refl, suc, sym, true, zero, ℕ, ◌++◌, ◌<◌, ◌==◌, ◌∙◌, ◌∷◌, ◌≡◌, ◌≤◌, ◌⊎◌}
+use Rattle.beldi_known.proofs.Names.{Bool, IntentId, IsIn, List, TxId, [], ap, append-nil, append_cancel_left, arith, eq-eqb, eqb-true, false, inl, inr, length, length-append, refl, sym, true, ℕ, ◌++◌, ◌<◌, ◌==◌, ◌∙◌, ◌∷◌, ◌≡◌, ◌≤◌, ◌⊎◌}
 use Rattle.beldi_known.proofs.Cases.{by_cases}
 
 lt_or_le : (n m : ℕ) → (n < m) ⊎ (m ≤ n)

@@ -1,5 +1,5 @@
 -- An operation outside transactions, over what is known: by the same frame.
-use Rattle.beldi_known.proofs.Names.{Answer, AnswersOne, Bool, CallMatches, CellOp, Content, Deployment, DoneRows, Effect, Instance, IntentId, Item, ItemMatches, Kind, Known, LockedOut, LogMatches, Matches, None, Note, OnItem, Option, Owner, Place, Row, RowKey, RowMatches, Rows, ShadowMatches, Some, TxId, TxsMatch, Value, and_right, answer_after, ap, asks_lock, barred, begins_at, commit_in, content_in, content_of, done_to, effect_of, eq-eqb, false, got_before, got_by, head_key, held_by, held_if, holds, if◌then◌else◌, inl, inr, is_aborted, is_eq, is_item, is_mark, is_none, is_on, is_open, is_owner, is_tx, item_cmp, item_in, item_total, key_cmp, length, lock_note, log_key, not, note_after, note_at, note_by, note_of, note_pushed, noted, op_of, owed_read, owner_after, place_eq, place_of, place_self, refl, row_added, set_row, shadow_by, shadow_key, shadow_of, subst, sym, tied_itself, touched, true, tx_now, txs_after, write_op, ℕ, ◌&&◌, ◌==◌, ◌||◌, ◌∙◌, ◌≡◌, ◌⊎◌}
+use Rattle.beldi_known.proofs.Names.{Answer, AnswersOne, Bool, CellOp, Content, Deployment, DoneRows, Effect, Instance, IntentId, Item, ItemMatches, Kind, Known, LockedOut, Matches, None, OnItem, Option, Owner, Place, Row, RowMatches, Rows, ShadowMatches, Some, TxId, TxsMatch, Value, and_right, answer_after, ap, asks_lock, barred, begins_at, commit_in, content_of, done_to, effect_of, false, got_before, got_by, held_by, held_if, holds, if◌then◌else◌, inl, inr, is_aborted, is_eq, is_item, is_mark, is_none, is_on, is_open, is_owner, is_tx, item_cmp, item_in, item_total, key_cmp, length, lock_note, log_key, not, note_after, note_at, note_by, note_of, note_pushed, noted, op_of, owed_read, owner_after, place_eq, place_of, refl, row_added, set_row, shadow_by, shadow_of, subst, sym, tied_itself, touched, tx_now, txs_after, write_op, ℕ, ◌&&◌, ◌||◌, ◌∙◌, ◌≡◌, ◌⊎◌}
 use Rattle.beldi_known.proofs.Names.cell
 use Rattle.beldi_known.proofs.Names.effect
 use Rattle.beldi_known.proofs.Names.kinds

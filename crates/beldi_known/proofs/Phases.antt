@@ -1,5 +1,5 @@
 -- Where a body is, by the answers of its instance: the Begin that is open, what was aborted since, and the locks that it holds.
-use Rattle.beldi_known.proofs.Names.{Answer, Bool, Cause, Deployment, Effect, HeldLock, Instance, IntentId, IsAnswer, Item, List, None, Option, Place, SaneInstance, Some, TxId, Txs, [], answered, ap, append-nil, append_assoc, arith, body, effect_after, effect_of, eq-eqb, eqb-true, false, false_from_ne_true, func_at, get_front, get_last, held_along, held_if, held_pushed, holds, if◌then◌else◌, inl, inr, is_aborted, is_eq, is_held, is_inside, is_lock, is_name, is_some, item_cmp, item_same, item_total, length, length-append, longer_cases, not, op_of, or_own, or_right, place_of, refl, same_some, slice_eq-Decides, slice_get, slice_get_within, subst, suc, sym, take, take-append-le, tied_itself, true, tx_after, tx_at, tx_by, tx_now, txs_after, txs_by, txs_pushed, unsigned_Decides, without, zero, ℕ, ◌&&◌, ◌++◌, ◌<◌, ◌==◌, ◌||◌, ◌∙◌, ◌∷◌, ◌≡◌, ◌⊎◌}
+use Rattle.beldi_known.proofs.Names.{Answer, Bool, Cause, Deployment, Effect, HeldLock, Instance, IntentId, IsAnswer, Item, List, None, Option, Place, SaneInstance, Some, TxId, Txs, [], answered, ap, append-nil, append_assoc, arith, body, effect_after, effect_of, eq-eqb, eqb-true, false, false_from_ne_true, func_at, held_along, held_if, held_pushed, holds, if◌then◌else◌, inl, inr, is_eq, is_held, is_inside, is_lock, is_name, is_some, item_cmp, item_same, item_total, length, length-append, not, op_of, or_own, or_right, place_of, refl, slice_eq-Decides, slice_get, subst, suc, sym, take, take-append-le, tied_itself, true, tx_after, tx_at, tx_by, tx_now, txs_after, txs_by, txs_pushed, unsigned_Decides, without, zero, ℕ, ◌&&◌, ◌++◌, ◌<◌, ◌==◌, ◌||◌, ◌∙◌, ◌∷◌, ◌≡◌, ◌⊎◌}
 use Rattle.beldi_known.proofs.Names.answer
 use Rattle.beldi_known.proofs.Names.effect
 use Rattle.beldi_known.proofs.Names.outcome

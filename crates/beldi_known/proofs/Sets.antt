@@ -1,8 +1,7 @@
 -- An instance is made, or ends: it owes items, shadows, locksets and reads what was owed, and its own rows or those of a call change.
-use Rattle.beldi_known.proofs.Names.{Bool, CallMatches, Content, Deployment, Instance, IntentId, IntentMatches, Item, ItemMatches, Kind, Known, LocksetMatches, LogMatches, Matches, None, Option, Owner, Place, Row, RowKey, RowMatches, Rows, ShadowMatches, Some, TxId, TxsMatch, ap, begins_at, content_of, effect_of, ended_at, ended_by, false, got_by, has_ended, has_no_hops, head_key, holds, is_decided, is_eq, is_item, is_mark, is_none, is_open, is_some, key_cmp, last_step, lockset_ahead, not, owed_call, owed_lockset, owed_note, owed_shadow, owed_value, refl, set_row, shadow_key, shadow_of, subst, sym, touched, true, tx_end, tx_now, ℕ, ◌&&◌, ◌==◌, ◌||◌, ◌∙◌, ◌≡◌}
+use Rattle.beldi_known.proofs.Names.{Bool, CallMatches, Content, Deployment, Instance, IntentId, IntentMatches, Item, ItemMatches, Kind, Known, LocksetMatches, LogMatches, Matches, None, Option, Owner, Place, Row, RowKey, RowMatches, Rows, ShadowMatches, Some, TxId, TxsMatch, ap, begins_at, content_of, effect_of, ended_at, ended_by, false, got_by, has_ended, has_no_hops, holds, is_decided, is_eq, is_item, is_mark, is_none, is_open, is_some, key_cmp, last_step, lockset_ahead, not, owed_call, owed_lockset, owed_note, owed_shadow, owed_value, refl, set_row, shadow_of, subst, sym, touched, true, tx_end, tx_now, ℕ, ◌&&◌, ◌==◌, ◌||◌, ◌∙◌, ◌≡◌}
 use Rattle.beldi_known.proofs.Names.kinds
 use Rattle.beldi_known.proofs.Names.map
-use Rattle.beldi_known.proofs.Names.rows
 use Rattle.beldi_known.proofs.Acts.{is_cell, log_set}
 use Rattle.beldi_known.proofs.FrameAt.{known_set, item_alike, txs_alike, lockset_by, or_no}
 use Rattle.beldi_known.proofs.Instances.{EndMore, intent_stays}

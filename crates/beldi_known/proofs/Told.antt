@@ -1,5 +1,5 @@
 -- What was told of an act says what was there before it, and what is there now.
-use Rattle.beldi_known.proofs.Names.{Bool, Content, IntentId, None, Note, Option, Owner, Place, Rel, Some, Told, Tx, TxId, Value, [], age_of, ap, did, died, false, held, held_or, if◌then◌else◌, is_older, lock_on, lock_or, note_at, noted_or, other_owner, passes, refl, sym, test_on, tested, true, with_note, write_on, ◌++◌, ◌∙◌, ◌∷◌, ◌≡◌}
+use Rattle.beldi_known.proofs.Names.{Bool, Content, None, Note, Option, Owner, Place, Rel, Some, Told, Value, [], ap, did, held, held_or, if◌then◌else◌, note_at, noted_or, other_owner, passes, refl, sym, test_on, tested, write_on, ◌++◌, ◌∙◌, ◌∷◌, ◌≡◌}
 use Rattle.beldi_known.proofs.Names.notes
 use Rattle.beldi_known.specs.Acts.{noted}
 
