@@ -5,6 +5,7 @@ use Rattle.beldi_known.proofs.Names.effect
 use Rattle.beldi_known.proofs.Names.outcome
 use Rattle.beldi_lang.specs.Wants.{effect_of}
 use Rattle.beldi_known.proofs.Flows.{Phase, block, own, aborted, leaving, stands, held_after, Flow, goes_on, breaks_off, left, frees, returned, leaves, wanted, begins, inside, closes, aborts, asked, body_flow}
+use Rattle.beldi_known.proofs.Answers.{true_false}
 
 -- ---- phases
 -- a transaction of its own is open
@@ -58,34 +59,32 @@ stood_end b e c h g = let k = sym (ap (stands b) g) ∙ h in cc
 stood_abort : (b : Bool) (e : Effect) → stands b e ≡ true → e ≡ effect.Abort → b ≡ true
 stood_abort b e h g = sym (ap (stands b) g) ∙ h
 
-freed : (i : Bool) (hs : List HeldLock) (o : Outcome) (F : List Answer → Leads) → Flow true i (leaving o) hs F → (p : Phase) → p ≡ block ⊎ p ≡ leaving o → Now i p hs (inside_of i (F [])) (effect_of (F []))
-freed i _ _ _ (left hs F o s part same e) p h = cc
-freed i _ _ _ (frees hs F o l ls whole same is more) p h = now_of i p hs (F []) i (effect.Unlock l.table l.key) is (record {
-  within = elim h [ inl e ↦ ap (λ z. is_begun z || i) (sym e) | inr e ↦ ap (λ z. is_begun z || i) (sym e) ];
+-- what ends the body may be wanted of statements
+as_block : (i : Bool) (o : Outcome) (hs : List HeldLock) (b : Bool) (e : Effect) → Now i (leaving o) hs b e → Now i block hs b e
+as_block i o hs b e n =
+    record { within = n.within; at_begin = λ g. let k = n.at_begin g in absurd (true_false k.3); at_end = n.at_end; at_abort = n.at_abort; dying = λ g. cc; standing = n.standing; ending = λ u g. cc }
+
+-- an End is wanted where a transaction is open
+at_end_now : (i c : Bool) (p : Phase) (hs : List HeldLock) → is_begun p ≡ true → (p ≡ aborted → c ≡ false) → Now i p hs true (effect.End c)
+at_end_now i c p hs begun dead = record {
+  within = sym (ap (λ z. z || i) begun);
   at_begin = λ g. cc;
-  at_end = λ c g. cc;
-  at_abort = λ g. cc;
-  dying = λ g. elim h [ inl e ↦ let k = sym e ∙ g in cc | inr e ↦ let k = sym e ∙ g in cc ];
-  standing = λ g k. elim h [ inl e ↦ let z = sym (ap is_begun e) ∙ g in cc | inr e ↦ let z = sym (ap is_begun e) ∙ g in cc ];
-  ending = λ u g. inr (refl, λ none. let z = sym same ∙ none in cc);
-})
-freed i _ _ _ (returned hs F o whole same is) p h = now_of i p hs (F []) i (effect.Return o) (is []) (record {
-  within = elim h [ inl e ↦ ap (λ z. is_begun z || i) (sym e) | inr e ↦ ap (λ z. is_begun z || i) (sym e) ];
-  at_begin = λ g. cc;
-  at_end = λ c g. cc;
-  at_abort = λ g. cc;
-  dying = λ g. elim h [ inl e ↦ let k = sym e ∙ g in cc | inr e ↦ let k = sym e ∙ g in cc ];
-  standing = λ g k. elim h [ inl e ↦ let z = sym (ap is_begun e) ∙ g in cc | inr e ↦ let z = sym (ap is_begun e) ∙ g in cc ];
-  ending = λ u g. elim h [ inl e ↦ let k = sym e ∙ g in cc | inr e ↦ let k : leaving o ≡ leaving u = sym e ∙ g in inl cc ];
-})
+  at_end = λ z g. begun;
+  at_abort = λ g. refl;
+  dying = λ g. ap effect.End (dead g);
+  standing = λ g k. absurd (k c refl);
+  ending = λ o g. let k = sym begun ∙ ap is_begun g in cc;
+}
 
 pub now : (i : Bool) (p : Phase) (hs : List HeldLock) (F : List Answer → Leads) → Flow true i p hs F → Now i p hs (inside_of i (F [])) (effect_of (F []))
 now i _ _ _ (goes_on hs F s part same e) = cc
 now i _ _ _ (breaks_off hs F s part same e) = cc
 now i _ _ _ (left hs F o s part same e) = cc
-now i _ _ _ (frees hs F o l ls whole same is more) = freed i hs o F (frees hs F o l ls whole same is more) (leaving o) (inr refl)
-now i _ _ _ (returned hs F o whole same is) = freed i hs o F (returned hs F o whole same is) (leaving o) (inr refl)
-now i _ _ _ (leaves hs F o f) = freed i hs o F f block (inl refl)
+now i _ _ _ (frees hs F o l ls whole same is more) = now_of i (leaving o) hs (F []) i (effect.Unlock l.table l.key) is
+    (record { within = refl; at_begin = λ g. cc; at_end = λ c g. cc; at_abort = λ g. cc; dying = λ g. cc; standing = λ g k. cc; ending = λ u g. inr (refl, λ none. let z = sym same ∙ none in cc) })
+now i _ _ _ (returned hs F o whole same is) = now_of i (leaving o) hs (F []) i (effect.Return o) (is [])
+    (record { within = refl; at_begin = λ g. cc; at_end = λ c g. cc; at_abort = λ g. cc; dying = λ g. cc; standing = λ g k. cc; ending = λ u g. inl cc })
+now i _ _ _ (leaves hs F o f) = as_block i o hs (inside_of i (F [])) (effect_of (F [])) (now i (leaving o) hs F f)
 now i _ _ _ (wanted hs F e is fits more none) = now_of i block hs (F []) i e is (record {
   within = refl;
   at_begin = λ g. absurd (stood_begin i e fits g);
@@ -95,42 +94,12 @@ now i _ _ _ (wanted hs F e is fits more none) = now_of i block hs (F []) i e is 
   standing = λ g k. cc;
   ending = λ o g. cc;
 })
-now i _ _ _ (begins hs F out free is more) = now_of i block hs (F []) false effect.Begin is (record {
-  within = sym out;
-  at_begin = λ g. (out, free, refl, refl);
-  at_end = λ c g. cc;
-  at_abort = λ g. cc;
-  dying = λ g. cc;
-  standing = λ g k. cc;
-  ending = λ o g. cc;
-})
-now i _ _ _ (inside hs F e is fits more none) = now_of i own hs (F []) true e is (record {
-  within = refl;
-  at_begin = λ g. absurd (stood_begin true e fits g);
-  at_end = λ c g. refl;
-  at_abort = λ g. refl;
-  dying = λ g. cc;
-  standing = λ g k. fits;
-  ending = λ o g. cc;
-})
-now i _ _ _ (closes hs F c is more) = now_of i own hs (F []) true (effect.End c) is (record {
-  within = refl;
-  at_begin = λ g. cc;
-  at_end = λ c g. refl;
-  at_abort = λ g. refl;
-  dying = λ g. cc;
-  standing = λ g k. absurd (k c refl);
-  ending = λ o g. cc;
-})
-now i _ _ _ (aborts hs F is more) = now_of i aborted hs (F []) true (effect.End false) is (record {
-  within = refl;
-  at_begin = λ g. cc;
-  at_end = λ c g. refl;
-  at_abort = λ g. refl;
-  dying = λ g. refl;
-  standing = λ g k. absurd (k false refl);
-  ending = λ o g. cc;
-})
+now i _ _ _ (begins hs F out free is more) = now_of i block hs (F []) false effect.Begin is
+    (record { within = sym out; at_begin = λ g. (out, free, refl, refl); at_end = λ c g. cc; at_abort = λ g. cc; dying = λ g. cc; standing = λ g k. cc; ending = λ o g. cc })
+now i _ _ _ (inside hs F e is fits more none) = now_of i own hs (F []) true e is
+    (record { within = refl; at_begin = λ g. absurd (stood_begin true e fits g); at_end = λ c g. refl; at_abort = λ g. refl; dying = λ g. cc; standing = λ g k. fits; ending = λ o g. cc })
+now i _ _ _ (closes hs F c is more) = now_of i own hs (F []) true (effect.End c) is (at_end_now i c own hs refl (λ g. cc))
+now i _ _ _ (aborts hs F is more) = now_of i aborted hs (F []) true (effect.End false) is (at_end_now i false aborted hs refl (λ g. refl))
 
 -- ---- after an answer
 pub record Next (i : Bool) (p : Phase) (hs : List HeldLock) (e : Effect) (a : Answer) (F : List Answer → Leads) : Type 0 where
@@ -146,27 +115,6 @@ pub record Next (i : Bool) (p : Phase) (hs : List HeldLock) (e : Effect) (a : An
 next_of : (i : Bool) (p : Phase) (hs : List HeldLock) (l : Leads) (b : Bool) (e : Effect) (a : Answer) (F : List Answer → Leads) → l ≡ asks b e → Next i p hs e a F → Next i p hs (effect_of l) a F
 next_of i p hs l b e a F is h = subst (λ l. Next i p hs (effect_of l) a F) (sym is) h
 
-freed_next : (i : Bool) (hs : List HeldLock) (o : Outcome) (F : List Answer → Leads) (a : Answer) → Flow true i (leaving o) hs F → (p : Phase) → is_begun p ≡ false → Next i p hs (effect_of (F [])) a (λ ts. F (a ∷ ts))
-freed_next i _ _ _ a (left hs F o s part same e) p h = cc
-freed_next i _ _ _ a (frees hs F o l ls whole same is more) p h = next_of i p hs (F []) i (effect.Unlock l.table l.key) a (λ ts. F (a ∷ ts)) is (record {
-  phase = leaving o;
-  held = ls;
-  flow = more a;
-  begun = sym h;
-  locks = λ g. cc;
-  dies = λ c g f k. cc;
-  ends = λ c g f k u. cc;
-})
-freed_next i _ _ _ a (returned hs F o whole same is) p h = next_of i p hs (F []) i (effect.Return o) a (λ ts. F (a ∷ ts)) (is []) (record {
-  phase = leaving o;
-  held = hs;
-  flow = returned hs (λ ts. F (a ∷ ts)) o whole same (λ ts. is (a ∷ ts));
-  begun = sym h;
-  locks = λ g. cc;
-  dies = λ c g f k. cc;
-  ends = λ c g f k u. cc;
-})
-
 wanted_next : (i : Bool) (hs : List HeldLock) (F : List Answer → Leads) (e : Effect) → F [] ≡ asks i e → stands i e ≡ true → ((a : Answer) → Flow true i block (held_after e hs) (λ ts. F (a ∷ ts)))
     → ((c : Cause) → Flow true i (leaving (outcome.Aborted c)) (held_after e hs) (λ ts. F (answer.Aborted c ∷ ts))) → (a : Answer) → Next i block hs e a (λ ts. F (a ∷ ts))
 wanted_next i hs F e is fits more none (answer.Aborted c) = record {
@@ -176,42 +124,17 @@ wanted_next i hs F e is fits more none (answer.Aborted c) = record {
   begun = sym (stands_begun i false e fits);
   locks = λ g. cc;
   dies = λ z g f k. cc;
-  ends = λ z g f k u. (ap (λ a. leaving (outcome_of a)) g, refl);
+  ends = λ z g f k u. let same : c ≡ z = cc in (ap (λ w. leaving (outcome.Aborted w)) same, refl);
 }
-  where
-    outcome_of : Answer → Outcome
-    outcome_of (answer.Aborted c) = outcome.Aborted c
-    outcome_of a = outcome.Aborted c
-wanted_next i hs F e is fits more none a = record {
-  phase = block;
-  held = held_after e hs;
-  flow = more a;
-  begun = sym (stands_begun i false e fits);
-  locks = λ g. (refl, refl);
-  dies = λ z g f k. cc;
-  ends = λ z g f k u. cc;
-}
+wanted_next i hs F e is fits more none a =
+    record { phase = block; held = held_after e hs; flow = more a; begun = sym (stands_begun i false e fits); locks = λ g. (refl, refl); dies = λ z g f k. cc; ends = λ z g f k u. cc }
 
 inside_next : (i : Bool) (hs : List HeldLock) (F : List Answer → Leads) (e : Effect) → stands true e ≡ true → ((a : Answer) → Flow true i own (held_after e hs) (λ ts. F (a ∷ ts))) → ((c : Cause) → Flow true i aborted (held_after e hs) (λ ts. F (answer.Aborted c ∷ ts)))
     → (a : Answer) → Next i own hs e a (λ ts. F (a ∷ ts))
-inside_next i hs F e fits more none (answer.Aborted c) = record {
-  phase = aborted;
-  held = held_after e hs;
-  flow = none c;
-  begun = sym (stands_begun true true e fits);
-  locks = λ g. (refl, refl);
-  dies = λ z g f k. refl;
-  ends = λ z g f k u. cc;
-}
-inside_next i hs F e fits more none a = record {
-  phase = own;
-  held = held_after e hs;
-  flow = more a;
-  begun = sym (stands_begun true true e fits);
-  locks = λ g. (refl, refl);
-  dies = λ z g f k. cc;
-  ends = λ z g f k u. cc;
-}
+inside_next i hs F e fits more none (answer.Aborted c) =
+    record { phase = aborted; held = held_after e hs; flow = none c; begun = sym (stands_begun true true e fits); locks = λ g. (refl, refl); dies = λ z g f k. refl; ends = λ z g f k u. cc }
+inside_next i hs F e fits more none a =
+    record { phase = own; held = held_after e hs; flow = more a; begun = sym (stands_begun true true e fits); locks = λ g. (refl, refl); dies = λ z g f k. cc; ends = λ z g f k u. cc }
 
 -- after an End
 ended_next : (i : Bool) (p : Phase) (hs : List HeldLock) (c : Bool) (a : Answer) (F : List Answer → Leads) → is_leaving p ≡ false → Flow true i block hs F → Next i p hs (effect.End c) a F
@@ -221,19 +144,16 @@ pub next : (i : Bool) (p : Phase) (hs : List HeldLock) (F : List Answer → Lead
 next i _ _ _ a (goes_on hs F s part same e) = cc
 next i _ _ _ a (breaks_off hs F s part same e) = cc
 next i _ _ _ a (left hs F o s part same e) = cc
-next i _ _ _ a (frees hs F o l ls whole same is more) = freed_next i hs o F a (frees hs F o l ls whole same is more) (leaving o) refl
-next i _ _ _ a (returned hs F o whole same is) = freed_next i hs o F a (returned hs F o whole same is) (leaving o) refl
-next i _ _ _ a (leaves hs F o f) = freed_next i hs o F a f block refl
+next i _ _ _ a (frees hs F o l ls whole same is more) = next_of i (leaving o) hs (F []) i (effect.Unlock l.table l.key) a (λ ts. F (a ∷ ts)) is
+    (record { phase = leaving o; held = ls; flow = more a; begun = refl; locks = λ g. cc; dies = λ c g f k. cc; ends = λ c g f k u. cc })
+next i _ _ _ a (returned hs F o whole same is) = next_of i (leaving o) hs (F []) i (effect.Return o) a (λ ts. F (a ∷ ts)) (is [])
+    (record { phase = leaving o; held = hs; flow = returned hs (λ ts. F (a ∷ ts)) o whole same (λ ts. is (a ∷ ts)); begun = refl; locks = λ g. cc; dies = λ c g f k. cc; ends = λ c g f k u. cc })
+next i _ _ _ a (leaves hs F o f) =
+    let n = next i (leaving o) hs F a f in
+    record { phase = n.phase; held = n.held; flow = n.flow; begun = n.begun; locks = λ g. (refl, (n.locks g).1); dies = n.dies; ends = n.ends }
 next i _ _ _ a (wanted hs F e is fits more none) = next_of i block hs (F []) i e a (λ ts. F (a ∷ ts)) is (wanted_next i hs F e is fits more none a)
-next i _ _ _ a (begins hs F out free is more) = next_of i block hs (F []) false effect.Begin a (λ ts. F (a ∷ ts)) is (record {
-  phase = own;
-  held = hs;
-  flow = more a;
-  begun = refl;
-  locks = λ g. (refl, refl);
-  dies = λ z g f k. cc;
-  ends = λ z g f k u. cc;
-})
+next i _ _ _ a (begins hs F out free is more) = next_of i block hs (F []) false effect.Begin a (λ ts. F (a ∷ ts)) is
+    (record { phase = own; held = hs; flow = more a; begun = refl; locks = λ g. (refl, refl); dies = λ z g f k. cc; ends = λ z g f k u. cc })
 next i _ _ _ a (inside hs F e is fits more none) = next_of i own hs (F []) true e a (λ ts. F (a ∷ ts)) is (inside_next i hs F e fits more none a)
 next i _ _ _ a (closes hs F c is more) = next_of i own hs (F []) true (effect.End c) a (λ ts. F (a ∷ ts)) is (ended_next i own hs c a (λ ts. F (a ∷ ts)) refl (more a))
 next i _ _ _ a (aborts hs F is more) = next_of i aborted hs (F []) true (effect.End false) a (λ ts. F (a ∷ ts)) is (ended_next i aborted hs false a (λ ts. F (a ∷ ts)) refl (more a))

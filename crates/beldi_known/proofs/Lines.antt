@@ -80,11 +80,8 @@ module _ (d : Deployment) (t : TxId) (q : Instance) where
   owner_answered z a edge h = record { func = h.func; args = h.args; from = h.from; within = h.within; open_still = h.open_still; begun = begun_pushed d z a edge ∙ h.begun }
 
   member_answered : (front : IntentId) (i k : IntentId) (z w : Instance) (a : Answer) → is_edge (effect_of d z) ≡ false → Member d t q front k z → (i ≡ k) × (answered z a ≡ w) → Member d t q k i w
-  member_answered front i k z w a edge h same = subst (Member d t q k i) same.1 (record {
-    owner = λ own. owner_answered z a edge (h.owner (sym same.0 ∙ own));
-    below = λ b. h.below (subst (IsBelow t) same.0 b);
-    above = λ none. subst (Above i) same.0 (above_self i);
-  })
+  member_answered front i k z w a edge h same = subst (Member d t q k i) same.1
+      (record { owner = λ own. owner_answered z a edge (h.owner (sym same.0 ∙ own)); below = λ b. h.below (subst (IsBelow t) same.0 b); above = λ none. subst (Above i) same.0 (above_self i) })
 
   module _ (m : Move) (s r : Going) (line : InLine d t s) (h : Members d t q s) where
     front_in : IsIn t s.front

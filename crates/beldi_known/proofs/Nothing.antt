@@ -52,13 +52,9 @@ no_row d home (kinds.Shadow s t k n) = no_cell n
 pub nothing_matches : (d : Deployment) → Matches d map.empty none unlocked
 nothing_matches d = record {
   keys = λ k. subst (RowMatches d none k.home k.kind) (sym (get-empty key_cmp k)) (no_row d k.home k.kind);
-  items = λ x. subst (ItemMatches d none unlocked x) (sym (ap content_in (get-empty key_cmp (head_key x)))) (record {
-    owner = λ j. sym (ap (holds d x) (absent j));
-    notes = λ a other. sym (ap (owed_note d x a.intent false a.step) (absent a.intent));
-  });
+  items = λ x. subst (ItemMatches d none unlocked x) (sym (ap content_in (get-empty key_cmp (head_key x))))
+      (record { owner = λ j. sym (ap (holds d x) (absent j)); notes = λ a other. sym (ap (owed_note d x a.intent false a.step) (absent a.intent)) });
   shadows = λ t x. subst (ShadowMatches d none t x) (sym (ap content_in (get-empty key_cmp (shadow_key t x)))) (λ a. sym (ap (owed_shadow d t x a.intent a.step) (absent a.intent)));
-  txs = λ x. subst (λ (c : Content). TxsMatch d none unlocked x c.owner) (sym (ap content_in (get-empty key_cmp (head_key x)))) (record {
-    owned_is_got = λ t e. cc;
-    got_is_owned = λ t g open_still. let clash = sym (ap (got_by d t x g.member false) (absent g.member)) ∙ g.got in cc;
-  });
+  txs = λ x. subst (λ (c : Content). TxsMatch d none unlocked x c.owner) (sym (ap content_in (get-empty key_cmp (head_key x))))
+      (record { owned_is_got = λ t e. cc; got_is_owned = λ t g open_still. let clash = sym (ap (got_by d t x g.member false) (absent g.member)) ∙ g.got in cc });
 }
