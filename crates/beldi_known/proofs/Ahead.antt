@@ -2,11 +2,8 @@
 use Rattle.beldi_known.proofs.Names.{Bool, Deployment, Instance, IntentId, IsFront, Known, List, LockedAt, LockedAtEnds, LockedIf, LockedOut, None, SaneInstance, Some, TxId, ap, effect_of, false, false_from_ne_true, id_cmp, id_same, if◌then◌else◌, is_eq, is_some, lock_in, none_by, refl, subst, sym, touched, true, tx_now, ℕ, ◌∙◌, ◌≡◌}
 use Rattle.beldi_known.proofs.Names.map
 use Rattle.beldi_known.proofs.FrameAt.{known_set}
+pub use Rattle.beldi_known.proofs.FrameAt.{none_out}
 use Rattle.beldi_known.proofs.Cases.{by_cases}
-
--- nothing is taken out that was not ahead
-pub none_out : (locked : IntentId → Bool) (id : IntentId) → locked id ≡ false → LockedOut locked locked id
-none_out locked id h = record { out = h; others = λ j other. refl }
 
 module _ (d : Deployment) (known : Known) (locked : IntentId → Bool) (h : LockedAtEnds d known locked) where
   -- an instance was set whose lock is ahead no more

@@ -1,9 +1,9 @@
 -- Instances that are made and that end, over what is known: a call is opened, and its callee gives its outcome back.
-use Rattle.beldi_known.proofs.Names.{Bool, CallMatches, CalleeMatches, Caller, Deployment, Instance, IntentId, IntentMatches, InvokeRow, Item, Kind, Known, Matches, None, Option, Outcome, Place, Row, RowKey, Rows, Some, TxId, Value, ahead_note, and_right, answered_note, ap, at_once, begins_at, called_by, callee_of, calls_at, child_of, child_same, effect_of, elsewhere, ended, eq-eqb, eqb-true, false, has_ended, has_no_hops, here, if◌then◌else◌, invoke_key, is_decided, is_eq, is_item, is_none, is_open, is_some, is_waited, key_cmp, last_step, length, new_instance, no_root, note_or, owed_call, place_of, refl, result_of, same_some, set_row, subst, sym, touched, true, tx_now, ℕ, ◌&&◌, ◌==◌, ◌||◌, ◌∙◌, ◌≡◌, false_from_ne_true}
+use Rattle.beldi_known.proofs.Names.{Bool, CallMatches, CalleeMatches, Caller, Deployment, Instance, IntentId, IntentMatches, InvokeRow, Item, Kind, Known, Matches, None, Option, Outcome, Place, Row, RowKey, Rows, Some, TxId, Value, ahead_note, and_right, answered_note, ap, at_once, begins_at, called_by, callee_of, calls_at, child_of, child_same, effect_of, elsewhere, ended, eq-eqb, eqb-true, false, has_ended, has_no_hops, here, if◌then◌else◌, invoke_key, is_decided, is_eq, is_item, is_none, is_open, is_some, is_waited, key_cmp, last_step, length, new_instance, no_root, note_or, owed_call, place_of, refl, result_of, same_some, set_row, subst, sym, touched, true, tx_now, ℕ, ◌&&◌, ◌==◌, ◌||◌, ◌∙◌, ◌≡◌, false_from_ne_true, OwesSame}
 use Rattle.beldi_known.proofs.Names.effect
 use Rattle.beldi_known.proofs.Names.map
 use Rattle.beldi_known.proofs.Names.rows
-use Rattle.beldi_known.proofs.Frame.{OwesSame, at_once_same}
+use Rattle.beldi_known.proofs.Frame.{at_once_same}
 use Rattle.beldi_known.proofs.FrameAt.{not_ahead, or_none}
 use Rattle.beldi_known.proofs.Instances.{callee_on, callee_new, calls_moved, no_callee, no_own_callee, not_home, return_keeps_row, same_caller, same_key}
 use Rattle.beldi_known.proofs.Sets.{OwesStill, instance_set}

@@ -5,7 +5,7 @@ use Rattle.beldi_known.proofs.Names.map
 use Rattle.beldi_known.proofs.Names.rows
 use Rattle.beldi_known.proofs.Names.value
 use Rattle.beldi_known.proofs.Frame.{step_next, no_note, no_shadow, or_false}
-use Rattle.beldi_known.proofs.FrameAt.{known_set, read_here, holds_one, note_same, got_one, lockset_one, item_alike, txs_alike, lockset_by}
+use Rattle.beldi_known.proofs.FrameAt.{known_set, read_here, holds_one, note_same, got_one, lockset_one, item_alike, txs_alike, lockset_by, none_out}
 use Rattle.beldi_known.proofs.Fronts.{row_by, shadow_kept, read_elsewhere, tx_end_stays}
 use Rattle.beldi_known.proofs.Acts.{log_set}
 use Rattle.beldi_known.proofs.Cases.{by_cases, if_is}
@@ -18,7 +18,7 @@ module _ (d : Deployment) (known : Known) (locked : IntentId → Bool) (id : Int
   after = map.insert known id r
 
   out : LockedOut locked locked id
-  out = record { out = unlocked; others = λ j other. refl }
+  out = none_out locked id unlocked
 
   added : row_added (length q.answers) (txs_after d q q.answers).begun (effect_of d q) a ≡ Some (b, value.Bool c)
   added = ap (λ o. row_added (length q.answers) o (effect_of d q) a) begun ∙ ap (λ e. row_added (length q.answers) (Some b) e a) ends

@@ -1,5 +1,5 @@
 -- What an instance owes after one answer more, and after what takes no turn.
-use Rattle.beldi_known.proofs.Names.{Answer, AnswersOne, Bool, Deployment, Effect, Instance, IntentId, Item, List, None, Option, Outcome, Some, TxId, Txs, [], along_pushed, answer_at_once, answered, answered_if, answered_note, ap, append-nil, append_assoc, arith, asks_lock, at_once, at_step, body_of, commit_in, decision_by, effect_after, effect_of, end_of, ended_at, eqb-true, false, fits, fits_at, got_before, held_if, held_pushed, holds, if◌then◌else◌, is_aborted, is_at, is_item, is_on, is_some, is_tx, length, lock_note, lockset_of, moved, not, note_by, note_of, once, once_if, op_of, place_of, put, read_at, refl, row_added, row_at, shadow_at, shadow_by, slice_get, subst, sym, take, take-append-le, take-append_seam, touched, true, tx_after, tx_now, txs_after, txs_by, txs_pushed, value_for, value_or, write_op, ℕ, ◌&&◌, ◌++◌, ◌<◌, ◌==◌, ◌||◌, ◌∙◌, ◌∷◌, ◌≡◌}
+use Rattle.beldi_known.proofs.Names.{Answer, AnswersOne, Bool, Deployment, Effect, Instance, IntentId, Item, List, None, Option, Outcome, Some, TxId, Txs, [], along_pushed, answer_at_once, answered, answered_if, answered_note, ap, append-nil, append_assoc, arith, asks_lock, at_once, at_step, body_of, commit_in, decision_by, effect_after, effect_of, end_of, ended_at, eqb-true, false, fits, fits_at, got_before, held_if, held_pushed, holds, if◌then◌else◌, is_aborted, is_at, is_item, is_on, is_some, is_tx, length, lock_note, lockset_of, moved, not, note_by, note_of, once, once_if, op_of, place_of, put, read_at, refl, row_added, row_at, shadow_at, shadow_by, slice_get, subst, sym, take, take-append-le, take-append_seam, touched, true, tx_after, tx_now, txs_after, txs_by, txs_pushed, value_for, value_or, write_op, ℕ, ◌&&◌, ◌++◌, ◌<◌, ◌==◌, ◌||◌, ◌∙◌, ◌∷◌, ◌≡◌, Owes, OwesSame, Body, Value, Note}
 use Rattle.beldi_known.proofs.Names.answer
 use Rattle.beldi_known.proofs.Names.effect
 use Rattle.beldi_known.proofs.Names.value
@@ -110,25 +110,13 @@ module _ (d : Deployment) (id : IntentId) (q : Instance) (a : Answer) where
   }
 
 -- ---- what takes no turn owes nothing
-pub record OwesSame (d : Deployment) (id : IntentId) (q r : Instance) : Type 0 where
-  pub func : r.func ≡ q.func
-  pub within : r.within ≡ q.within
-  pub outcome : r.outcome ≡ q.outcome
-  pub body : body_of q ≡ body_of r
-  pub rows : (m : ℕ) → row_at d r m ≡ row_at d q m
-  pub notes : (x : Item) (m : ℕ) → answered_note d x id m r ≡ answered_note d x id m q
-  pub shadows : (t : TxId) (x : Item) (m : ℕ) → shadow_at d t x id m r ≡ shadow_at d t x id m q
-  pub locksets : (b : ℕ) (x : Item) → lockset_of d b x id r ≡ lockset_of d b x id q
-  pub got : (t : TxId) (x : Item) → got_before d t x id r ≡ got_before d t x id q
-  pub held : (x : Item) → holds d x (Some r) ≡ holds d x (Some q)
-  pub ends : (b : ℕ) → end_of d r b ≡ end_of d q b
-  pub marks : (m : ℕ) → ended_at d r m ≡ ended_at d q m
-
 same_itself : (d : Deployment) (id : IntentId) (q : Instance) → OwesSame d id q q
 same_itself d id q = record { func = refl; within = refl; outcome = refl; body = refl; rows = λ m. refl; notes = λ x m. refl; shadows = λ t x m. refl; locksets = λ b x. refl; got = λ t x. refl; held = λ x. refl; ends = λ b. refl; marks = λ m. refl }
 
-same_then : (d : Deployment) (id : IntentId) (q r u : Instance) → OwesSame d id q r → OwesSame d id r u → OwesSame d id q u
-same_then d id q r u g h = record {
+-- who owes what another one owes, owes what that one does
+owes_then : (d : Deployment) (id : IntentId) (q r : Instance) {f : ℕ} {t : Option TxId} {o : Option Outcome} {b : Body} {row : ℕ → Option Value} {note : Item → ℕ → Option Note} {shadow : TxId → Item → ℕ → Option Note} {lockset : ℕ → Item → Bool} {has : TxId → Item → Bool} {hold : Item → Bool} {ended : ℕ → Option (ℕ × Bool)} {mark : ℕ → Option Bool}
+    → Owes d id q f t o b row note shadow lockset has hold ended mark → OwesSame d id q r → Owes d id r f t o b row note shadow lockset has hold ended mark
+owes_then d id q r g h = record {
   func = h.func ∙ g.func;
   within = h.within ∙ g.within;
   outcome = h.outcome ∙ g.outcome;
@@ -195,24 +183,8 @@ once_same d id q = by_outcome q.outcome
     by_outcome (Some o) = same_itself d id q
 
 pub at_once_same : (d : Deployment) (id : IntentId) (q : Instance) → OwesSame d id q (at_once d id q)
-at_once_same d id q = same_then d id q (once d id q) (at_once d id q) (once_same d id q) (once_same d id (once d id q))
+at_once_same d id q = owes_then d id (once d id q) (at_once d id q) (once_same d id q) (once_same d id (once d id q))
 
 -- ---- an answer, and then what takes no turn
 pub moved_one : (d : Deployment) (id : IntentId) (q : Instance) (a : Answer) → AnswersOne d id q a (moved d id q a)
-moved_one d id q a =
-    let g = answers_one d id q a in
-    let h = at_once_same d id (answered q a) in
-    record {
-      func = h.func;
-      within = h.within;
-      outcome = h.outcome;
-      body = h.body;
-      rows = λ m. h.rows m ∙ g.rows m;
-      notes = λ x m. h.notes x m ∙ g.notes x m;
-      shadows = λ t x m. h.shadows t x m ∙ g.shadows t x m;
-      locksets = λ b x. h.locksets b x ∙ g.locksets b x;
-      got = λ t x. h.got t x ∙ g.got t x;
-      held = λ x. h.held x ∙ g.held x;
-      ends = λ b. h.ends b ∙ g.ends b;
-      marks = λ m. h.marks m ∙ g.marks m;
-    }
+moved_one d id q a = owes_then d id (answered q a) (moved d id q a) (answers_one d id q a) (at_once_same d id (answered q a))

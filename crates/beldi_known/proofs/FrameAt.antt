@@ -13,6 +13,10 @@ known_set known id r P here others j = subst (P j) (sym (get-insert id_total kno
   | false ↦ λ e. others j e
 ] refl)
 
+-- nothing is taken out that was not ahead
+pub none_out : (locked : IntentId → Bool) (id : IntentId) → locked id ≡ false → LockedOut locked locked id
+none_out locked id h = record { out = h; others = λ j other. refl }
+
 -- ---- what is owed alike matches alike
 module _ (d : Deployment) (known after : Known) (locked unlocked : IntentId → Bool) (x : Item) where
   pub item_alike : ((j : IntentId) → holds d x (map.get after j) ≡ holds d x (map.get known j)) → ((b : Place) → is_mark d after b.step (map.get after b.intent) ≡ false → is_mark d known b.step (map.get known b.intent) ≡ false)

@@ -9,7 +9,7 @@ use Rattle.beldi_known.proofs.Names.rows
 use Rattle.beldi_known.proofs.Acts.{log_set, head_at}
 use Rattle.beldi_known.proofs.Owners.{IsFreeFor, unbarred}
 use Rattle.beldi_known.proofs.Operations.{Does}
-use Rattle.beldi_known.proofs.FrameAt.{holds_one, note_one, got_one, note_same, read_none, read_here, item_alike, txs_alike}
+use Rattle.beldi_known.proofs.FrameAt.{holds_one, note_one, got_one, note_same, read_none, read_here, item_alike, txs_alike, none_out}
 use Rattle.beldi_known.proofs.Fronts.{row_by, mark_same, tx_end_same, shadow_kept, locksets_kept, read_elsewhere}
 use Rattle.beldi_known.proofs.Cases.{if_same}
 
@@ -24,7 +24,7 @@ module _ (d : Deployment) (known : Known) (locked : IntentId → Bool) (id : Int
   after = map.insert known id r
 
   out : LockedOut locked locked id
-  out = record { out = unlocked; others = λ j other. refl }
+  out = none_out locked id unlocked
 
   unmarked : (b : Place) → is_mark d after b.step (map.get after b.intent) ≡ false → is_mark d known b.step (map.get known b.intent) ≡ false
   unmarked b apart = sym (mark_same d known locked locked id q r a is one out quiet b) ∙ apart
@@ -147,7 +147,7 @@ module _ (d : Deployment) (known : Known) (locked : IntentId → Bool) (id : Int
   now = map.insert known id r
 
   still : LockedOut locked locked id
-  still = record { out = unlocked; others = λ j other. refl }
+  still = none_out locked id unlocked
 
   ends_none : commit_in (effect_of d q) ≡ None
   ends_none = op_quiet (effect_of d q) o wants_it

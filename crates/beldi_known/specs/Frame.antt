@@ -3,6 +3,7 @@ use Rattle.std.specs.Prelude.{◌≡◌, ℕ, ◌==◌, ◌&&◌, ◌||◌, not,
 use Rattle.std.specs.Ordering.{is_eq}
 use Rattle.beldi_value.specs.Id.{id_cmp}
 use Rattle.beldi_value.specs.declared.id.IntentId.{IntentId}
+use Rattle.beldi_value.specs.declared.outcome.Outcome.{Outcome}
 use Rattle.beldi_value.specs.declared.place.TxId.{TxId}
 use Rattle.beldi_value.specs.declared.value.Value.{Value}
 use Rattle.beldi_value.specs.declared.value.Value.TheVariants as value
@@ -11,6 +12,8 @@ use Rattle.beldi_lang.specs.declared.effect.Answer.{Answer}
 use Rattle.beldi_lang.specs.declared.effect.Answer.TheVariants as answer
 use Rattle.beldi_lang.specs.declared.effect.Effect.{Effect}
 use Rattle.beldi_lang.specs.declared.effect.Effect.TheVariants as effect
+use Rattle.beldi_row.specs.declared.notes.Note.{Note}
+use Rattle.beldi_row.specs.declared.row.Body.{Body}
 use Rattle.beldi_plain.specs.Holds.{held_if, holds}
 use Rattle.beldi_plain.specs.Item.{Item}
 use Rattle.beldi_plain.specs.Operation.{op_of}
@@ -30,20 +33,35 @@ abbrev pub put : Option (ℕ × Value) → ℕ → Option Value → Option Value
 put None m o = o
 put (Some r) m o = if m == r.0 then Some r.1 else o
 
+-- an instance has these and owes these, as functions of places, items and transactions
+pub record Owes (d : Deployment) (id : IntentId) (r : Instance) (f : ℕ) (t : Option TxId) (o : Option Outcome) (b : Body) (row : ℕ → Option Value) (note : Item → ℕ → Option Note) (shadow : TxId → Item → ℕ → Option Note) (lockset : ℕ → Item → Bool) (has : TxId → Item → Bool) (hold : Item → Bool) (ended : ℕ → Option (ℕ × Bool)) (mark : ℕ → Option Bool) : Type 0 where
+  pub func : r.func ≡ f
+  pub within : r.within ≡ t
+  pub outcome : r.outcome ≡ o
+  pub body : b ≡ body_of r
+  pub rows : (m : ℕ) → row_at d r m ≡ row m
+  pub notes : (x : Item) (m : ℕ) → answered_note d x id m r ≡ note x m
+  pub shadows : (t : TxId) (x : Item) (m : ℕ) → shadow_at d t x id m r ≡ shadow t x m
+  pub locksets : (b : ℕ) (x : Item) → lockset_of d b x id r ≡ lockset b x
+  pub got : (t : TxId) (x : Item) → got_before d t x id r ≡ has t x
+  pub held : (x : Item) → holds d x (Some r) ≡ hold x
+  pub ends : (b : ℕ) → end_of d r b ≡ ended b
+  pub marks : (m : ℕ) → ended_at d r m ≡ mark m
+
 -- what an instance owes once it has this answer more
-pub record AnswersOne (d : Deployment) (id : IntentId) (q : Instance) (a : Answer) (r : Instance) : Type 0 where
-  pub func : r.func ≡ q.func
-  pub within : r.within ≡ q.within
-  pub outcome : r.outcome ≡ q.outcome
-  pub body : body_of q ≡ body_of r
-  pub rows : (m : ℕ) → row_at d r m ≡ put (row_added (length q.answers) (txs_after d q q.answers).begun (effect_of d q) a) m (row_at d q m)
-  pub notes : (x : Item) (m : ℕ) → answered_note d x id m r ≡ (if m == length q.answers then note_by x q.func (tx_now d id q) (effect_of d q) a else answered_note d x id m q)
-  pub shadows : (t : TxId) (x : Item) (m : ℕ) → shadow_at d t x id m r ≡ (if m == length q.answers then shadow_by t x q.func (tx_now d id q) (effect_of d q) a else shadow_at d t x id m q)
-  pub locksets : (b : ℕ) (x : Item) → lockset_of d b x id r ≡ (lockset_of d b x id q || asks_lock b x q.func (tx_now d id q) (effect_of d q))
-  pub got : (t : TxId) (x : Item) → got_before d t x id r ≡ (got_before d t x id q || (is_on t x q.func (tx_now d id q) (effect_of d q) && not (is_aborted a)))
-  pub held : (x : Item) → holds d x (Some r) ≡ held_if x q.func (op_of (effect_of d q)) (holds d x (Some q))
-  pub ends : (b : ℕ) → end_of d r b ≡ (txs_by (length q.answers) (effect_of d q) (txs_after d q q.answers)).ends b
-  pub marks : (m : ℕ) → ended_at d r m ≡ (if m == length q.answers then commit_in (effect_of d q) else ended_at d q m)
+abbrev pub AnswersOne : Deployment → IntentId → Instance → Answer → Instance → Type 0
+AnswersOne d id q a r = Owes d id r q.func q.within q.outcome (body_of q) (λ m. put (row_added (length q.answers) (txs_after d q q.answers).begun (effect_of d q) a) m (row_at d q m))
+    (λ x m. if m == length q.answers then note_by x q.func (tx_now d id q) (effect_of d q) a else answered_note d x id m q)
+    (λ t x m. if m == length q.answers then shadow_by t x q.func (tx_now d id q) (effect_of d q) a else shadow_at d t x id m q)
+    (λ b x. lockset_of d b x id q || asks_lock b x q.func (tx_now d id q) (effect_of d q))
+    (λ t x. got_before d t x id q || (is_on t x q.func (tx_now d id q) (effect_of d q) && not (is_aborted a)))
+    (λ x. held_if x q.func (op_of (effect_of d q)) (holds d x (Some q)))
+    (λ b. (txs_by (length q.answers) (effect_of d q) (txs_after d q q.answers)).ends b)
+    (λ m. if m == length q.answers then commit_in (effect_of d q) else ended_at d q m)
+
+-- .. and what takes no turn owes nothing
+abbrev pub OwesSame : Deployment → IntentId → Instance → Instance → Type 0
+OwesSame d id q r = Owes d id r q.func q.within q.outcome (body_of q) (row_at d q) (λ x m. answered_note d x id m q) (λ t x m. shadow_at d t x id m q) (λ b x. lockset_of d b x id q) (λ t x. got_before d t x id q) (λ x. holds d x (Some q)) (end_of d q) (ended_at d q)
 
 -- a lock that was ahead of its answer is so no more
 pub record LockedOut (locked after : IntentId → Bool) (id : IntentId) : Type 0 where
