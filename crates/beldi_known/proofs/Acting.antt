@@ -1,5 +1,5 @@
 -- Each act inside an open transaction, among all others: what shadows show is kept, and what is known stays beside the plain state.
-use Rattle.beldi_known.proofs.Names.{AllGot, AllShow, Answer, Bool, CallsGo, Cause, DeathsGo, Deployment, Effect, FirstRowsGo, Goes, Got, Instance, IntentId, IsAnswer, IsFront, IsIn, IsSound, Item, Items, Known, Line, List, LockedOut, Move, None, OnItem, OpenTx, Option, Outcome, PlainState, ReadsGo, Rel, ReturnsGo, Row, RowKey, Rows, RowsGo, Sane, ShadowShows, Shadows, Shows, Some, TestsGo, Tx, TxId, Txs, Value, WritesGo, aborted, and_right, answer_by, answer_inside, answer_of, ap, at_once, begins, callee_in, callee_of, calls_at, child_of, child_same, cond, content_in, did, effect_of, elsewhere, end_of, ended, ended_by, equal, false, fell, got_before, got_by, has_callees, head_key, id_cmp, id_total, if◌then◌else◌, inl, inr, is_aborted, is_edge, is_eq, is_item, is_on, is_some, is_writing, item_cmp, item_in, item_of, item_same, item_total, items_after, items_by, length, log_key, made_set, moved, new_member, none_below, none_by, not_own, not_owner, op_of, or_null, or_old, or_own, passes, place_of, plain, plain_set, refl, same_some, sane_with, set_row, sets, shadow_key, shadow_of, subst, sym, test_on, tested, tied_itself, touched, true, tx_begun, tx_by, tx_end, tx_now, txs_after, txs_by, value_at, value_in, write, write_on, writes_on, writing_at, ℕ, ◌&&◌, ◌||◌, ◌∙◌, ◌≡◌, ◌⊎◌, false_from_ne_true}
+use Rattle.beldi_known.proofs.Names.{AllGot, AllShow, Answer, Bool, CallsGo, Cause, DeathsGo, Deployment, Effect, FirstRowsGo, Goes, Got, Instance, IntentId, IsAnswer, IsFront, IsIn, IsSound, Item, Items, Known, Line, List, LockedOut, Move, None, OnItem, OpenTx, Option, Outcome, PlainState, ReadsGo, Rel, ReturnsGo, Row, RowKey, Rows, RowsGo, Sane, ShadowShows, Shadows, Shows, Some, TestsGo, Tx, TxId, Txs, Value, WritesGo, aborted, and_right, answer_by, answer_inside, answer_of, ap, at_once, begins, callee_in, callee_of, calls_at, child_of, child_same, cond, content_in, did, effect_of, elsewhere, end_of, ended, ended_by, equal, false, fell, got_before, got_by, has_callees, head_key, id_cmp, id_total, if◌then◌else◌, inl, inr, is_aborted, is_edge, is_eq, is_item, is_on, is_some, is_writing, item_cmp, item_in, item_of, item_same, item_total, items_after, items_by, length, log_key, made_set, moved, new_member, none_below, none_by, not_own, not_owner, op_of, or_null, or_old, or_own, passes, place_of, plain, plain_set, refl, same_some, sane_with, set_row, sets, shadow_key, shadow_of, subst, sym, test_on, tested, tied_itself, touched, true, tx_begun, tx_by, tx_end, tx_now, txs_after, txs_by, value_at, value_in, write, write_on, writes_on, writing_at, ℕ, ◌&&◌, ◌||◌, ◌∙◌, ◌≡◌, ◌⊎◌, false_from_ne_true, or_right}
 use Rattle.beldi_known.proofs.Names.answer
 use Rattle.beldi_known.proofs.Names.effect
 use Rattle.beldi_known.proofs.Names.map
@@ -22,6 +22,7 @@ use Rattle.beldi_known.proofs.Steps.{GoesOn, goes_answered, goes_called, goes_re
 use Rattle.beldi_known.proofs.Told.{write_parts, test_parts}
 use Rattle.beldi_known.proofs.Behind.{death_of}
 use Rattle.beldi_known.proofs.Cases.{by_cases}
+use Rattle.beldi_known.proofs.Operations.{kept_or}
 
 -- all other transactions that are open
 abbrev Others : Deployment → PlainState → IntentId → (TxId → Type 0) → Type 0
@@ -203,12 +204,8 @@ module _ (d : Deployment) (m : Rows) (p : PlainState) (known : Known) (locked : 
   front_got : locked id ≡ true → Got d known locked (tx_begun o q) (item_of k t y)
   front_got was = record {
     member = id;
-    got = ap (got_by d s x id (locked id)) f.made ∙ or_true (got_before d s x id k) ((λ i. was i && is_on s x k.func (f.inside i) (effect_of d k)) ∙ ap (λ z. z && is_item x k.func (touched (effect_of d k))) (tx_self s) ∙ ap (is_item x k.func) f.touch ∙ ap is_eq (tied_itself item_total x));
+    got = ap (got_by d s x id (locked id)) f.made ∙ or_right (got_before d s x id k) (locked id && is_on s x k.func (tx_now d id k) (effect_of d k)) ((λ i. was i && is_on s x k.func (f.inside i) (effect_of d k)) ∙ ap (λ z. z && is_item x k.func (touched (effect_of d k))) (tx_self s) ∙ ap (is_item x k.func) f.touch ∙ ap is_eq (tied_itself item_total x));
   }
-    where
-      or_true : (a : Bool) {c : Bool} → c ≡ true → (a || c) ≡ true
-      or_true true e = refl
-      or_true false e = e
 
   -- rows that are no shadows
   module _ (key : RowKey) (row : Option Row) (kind : is_shadow key.kind ≡ false) where
@@ -295,11 +292,7 @@ module _ (d : Deployment) (m : Rows) (p : PlainState) (known : Known) (locked : 
           let seen : (shadow_of m s x).value ≡ or_null (map.get going x) = there_value (map.get m (shadow_key s x)) (or_null (map.get going x)) (shown x (ap (λ e. locked id && e) (off x) ∙ and_right (locked id) false refl)) there in
           set_goes (record { table = t; key = y; does = operation.cond u w v }) (answer.Value (value.Bool c)) refl (ap op_of wants)
           (ap (answer_inside going k.func) wants ∙ ap (λ z. Some (answer.Value (value.Bool (passes z u w)))) (sym seen) ∙ ap (λ z. Some (answer.Value (value.Bool z))) parts.2) refl
-          (ap (λ c. c.value) parts.1 ∙ chosen (passes (shadow_of m s x).value u w) v (shadow_of m s x).value ∙ ap (λ z. or_old (if passes z u w then Some v else None) z) seen) (λ z other. off z)
-        where
-          chosen : (b : Bool) (v c : Value) → (if b then v else c) ≡ or_old (if b then Some v else None) c
-          chosen true v c = refl
-          chosen false v c = refl
+          (ap (λ c. c.value) parts.1 ∙ sym (kept_or (passes (shadow_of m s x).value u w) v (shadow_of m s x).value) ∙ ap (λ z. or_old (if passes z u w then Some v else None) z) seen) (λ z other. off z)
 
 -- ---- the laws
 pub reads_go : ReadsGo

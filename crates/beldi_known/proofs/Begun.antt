@@ -23,11 +23,8 @@ module _ (d : Deployment) (known : Known) (h : Sane d known) where
         (λ w e. subst (IsBegun known) (sym (member_tx d t x j z w e b g)) (called_begun j z w is e))
 
   pub got_begun : (locked : IntentId → Bool) (t : TxId) (x : Item) → Got d known locked t x → IsBegun known t
-  got_begun locked t x g = by_member (map.get known g.member) refl g.got
-    where
-      by_member : (o : Option Instance) → map.get known g.member ≡ o → got_by d t x g.member (locked g.member) o ≡ true → IsBegun known t
-      by_member None e k = absurd (true_false (sym k))
-      by_member (Some z) e k = member_begun t x g.member z e (locked g.member) k
+  got_begun locked t x g = by_option (map.get known g.member) (λ e. absurd (true_false (sym (sym (ap (got_by d t x g.member (locked g.member)) e) ∙ g.got))))
+      (λ z e. member_begun t x g.member z e (locked g.member) (sym (ap (got_by d t x g.member (locked g.member)) e) ∙ g.got))
 
   -- ---- the transaction of who can step
   module _ (m : Rows) (locked : IntentId → Bool) (rows : Matches d m known locked) (j : IntentId) (z : Instance) (t : TxId) (is : map.get known j ≡ Some z) (none : z.outcome ≡ None) (apart : is_begin (effect_of d z) ≡ false) (now : tx_now d j z ≡ Some t) where

@@ -7,11 +7,7 @@ use Rattle.beldi_known.proofs.Cases.{by_option}
 
 -- who is known by an id of a callee was called there
 pub called_in : (d : Deployment) (known : Known) → Sane d known → (id : IntentId) (n : ℕ) (j : Instance) → map.get known (child_of id n) ≡ Some j → (q : Instance) × (map.get known id ≡ Some q) × IsCalled d id q n j
-called_in d known sane id n j at = by_caller (map.get known id) refl (sane.called id n j at)
-  where
-    by_caller : (o : Option Instance) → map.get known id ≡ o → CalledBy d id o n j → (q : Instance) × (map.get known id ≡ Some q) × IsCalled d id q n j
-    by_caller None e c = absurd c
-    by_caller (Some q) e c = (q, e, c)
+called_in d known sane id n j at = by_option (map.get known id) (λ e. absurd (subst (λ o. CalledBy d id o n j) e (sane.called id n j at))) (λ q e. (q, e, subst (λ o. CalledBy d id o n j) e (sane.called id n j at)))
 
 -- an instance was called, by this one
 pub record WasCalled (d : Deployment) (known : Known) (i : IntentId) (z : Instance) : Type 0 where

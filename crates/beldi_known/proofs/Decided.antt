@@ -339,9 +339,8 @@ module _ (d : Deployment) (m : Rows) (p : PlainState) (known : Known) (locked : 
         }
       where
         by_last : (o : Option Answer) → ((e : Cause) → o ≡ Some (answer.Aborted e) → ⊥) → FellAt id (length k.answers) o (place_of tx.going.front (length k.answers)) None
-        by_last None none = (ap (λ i. place_of i (length k.answers)) front, refl)
         by_last (Some (answer.Aborted e)) none = absurd (none e refl)
-        by_last (Some a) none = (ap (λ i. place_of i (length k.answers)) front, refl)
+        by_last o none = (ap (λ i. place_of i (length k.answers)) front, refl)
 
     -- or something was aborted
     by_fall : Fell d t q (own d p known h.sane h.plain_sane id q made b tx) refl (opened p id q) tx.moves tx.going → Tries

@@ -13,6 +13,10 @@ known_set known id r P here others j = subst (P j) (sym (get-insert id_total kno
   | false ↦ λ e. others j e
 ] refl)
 
+-- one that is put where it is
+pub known_same : (known : Known) (id : IntentId) (q : Instance) → map.get known id ≡ Some q → (j : IntentId) → map.get (map.insert known id q) j ≡ map.get known j
+known_same known id q is = known_set known id q (λ j o. o ≡ map.get known j) (sym is) (λ j other. refl)
+
 -- nothing is taken out that was not ahead
 pub none_out : (locked : IntentId → Bool) (id : IntentId) → locked id ≡ false → LockedOut locked locked id
 none_out locked id h = record { out = h; others = λ j other. refl }

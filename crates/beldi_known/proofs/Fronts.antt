@@ -10,7 +10,7 @@ use Rattle.beldi_known.proofs.Answers.{true_false}
 use Rattle.beldi_known.proofs.Instances.{EndMore, intent_stays, intent_same}
 use Rattle.beldi_known.proofs.Frame.{step_next, or_false}
 use Rattle.beldi_known.proofs.FrameAt.{known_set, no_place, read_one, shadow_one, lockset_one, holds_one, note_one, got_same, or_no, calls_same, item_alike, txs_alike, lockset_by}
-use Rattle.beldi_known.proofs.Cases.{if_is, if_same}
+use Rattle.beldi_known.proofs.Cases.{if_is, if_same, by_option}
 
 -- ---- effects that end no transaction
 quiet_ends : (e : Effect) (n : ℕ) (s : Txs) (b : ℕ) → commit_in e ≡ None → (txs_by n e s).ends b ≡ s.ends b
@@ -64,11 +64,7 @@ module _ (d : Deployment) (known : Known) (locked unlocked : IntentId → Bool) 
 
   -- so the rows of intents match them
   pub ends_more : EndMore (has_ended d known) (has_ended d after)
-  ends_more t e = by_end (tx_end d known t) refl e
-    where
-      by_end : (o : Option (ℕ × Bool)) → tx_end d known t ≡ o → is_some o ≡ true → has_ended d after t ≡ true
-      by_end None g k = cc
-      by_end (Some z) g k = ap is_some (tx_end_stays t z g)
+  ends_more t e = by_option (tx_end d known t) (λ none. absurd (true_false (sym e ∙ ap is_some none))) (λ z g. ap is_some (tx_end_stays t z g))
 
   pub intents_same : (home : ℕ) (j : IntentId) (row : Option Row) → IntentMatches (has_ended d known) (has_no_hops j.hops) home row (map.get known j) → IntentMatches (has_ended d after) (has_no_hops j.hops) home row (map.get after j)
   intents_same home j row g = intent_stays (has_ended d known) (has_ended d after) ends_more (has_no_hops j.hops) home row (map.get after j)

@@ -3,6 +3,7 @@ use Rattle.beldi_known.proofs.Names.{Answer, Closed, Deployment, Effect, Instanc
 use Rattle.beldi_known.proofs.Names.answer
 use Rattle.beldi_known.proofs.Names.effect
 use Rattle.beldi_known.proofs.Answers.{take_front, get_next}
+use Rattle.beldi_known.proofs.Cases.{by_option}
 
 -- ---- an answer more
 pub sane_pushed : (d : Deployment) (id : IntentId) (q : Instance) (a : Answer) → q.outcome ≡ None → IsAnswer (place_of id (length q.answers)) (tx_now d id q) (effect_of d q) a → SaneInstance d id q → SaneInstance d id (answered q a)
@@ -54,9 +55,8 @@ module _ (d : Deployment) (id : IntentId) (q : Instance) (closed : Closed d id q
   only_one t n effect.Abort a b h g = absurd g
   only_one t n e a b h g = cc
 
-  none_at_outcome : (o : Option Outcome) → q.outcome ≡ o → answer_at_once id (length q.answers) (effect_of d q) ≡ None
-  none_at_outcome None e = closed e
-  none_at_outcome (Some o) e = ap (answer_at_once id (length q.answers)) (sane.over o e)
+  none_now : answer_at_once id (length q.answers) (effect_of d q) ≡ None
+  none_now = by_option q.outcome closed (λ o e. ap (answer_at_once id (length q.answers)) (sane.over o e))
 
   run_once_prefix : (given : List Answer) → Prefix given q → Prefix (run_once d id q given) q
   run_once_prefix given h = by_later h.later h.all
@@ -71,7 +71,7 @@ module _ (d : Deployment) (id : IntentId) (q : Instance) (closed : Closed d id q
 
       by_later : (later : List Answer) → given ++ later ≡ q.answers → Prefix (run_once d id q given) q
       by_later [] all = let same : q.answers ≡ given = sym all ∙ append-nil given in
-          subst (λ o. Prefix (and_once given o) q) (sym (ap (λ ts. answer_at_once id (length ts) (effect_after d q ts)) (sym same) ∙ none_at_outcome q.outcome refl)) (record { later = []; all = all })
+          subst (λ o. Prefix (and_once given o) q) (sym (ap (λ ts. answer_at_once id (length ts) (effect_after d q ts)) (sym same) ∙ none_now)) (record { later = []; all = all })
       by_later (b ∷ later) all = by_answer later b all (answer_at_once id (length given) (effect_after d q given)) refl
 
   pub run_on_prefix : (given : List Answer) → Prefix given q → Prefix (run_on d id q given) q

@@ -12,7 +12,7 @@ use Rattle.beldi_known.proofs.NoTx.{begins_parts}
 use Rattle.beldi_known.proofs.Callers.{called_below}
 use Rattle.beldi_known.proofs.OwnTx.{own_intent}
 use Rattle.beldi_known.proofs.Participants.{IsOpenOwner, open_owner}
-use Rattle.beldi_known.proofs.Cases.{by_option}
+use Rattle.beldi_known.proofs.Cases.{by_option, by_cases}
 
 -- ---- ids
 -- an id, or one that was called below it
@@ -50,11 +50,9 @@ parent_in t i n (inr b) = elim (last_hop b.hops) [
 
 -- what is found where one was set
 pub set_cases : (f : FinMap id_cmp Instance) (k i : IntentId) (s w : Instance) → map.get (map.insert f k s) i ≡ Some w → ((i ≡ k) × (s ≡ w)) ⊎ ((i ≡ k → ⊥) × (map.get f i ≡ Some w))
-set_cases f k i s w has = by_test (is_eq (id_cmp i k)) refl (sym (get-insert id_total f k s i) ∙ has)
-  where
-    by_test : (b : Bool) → is_eq (id_cmp i k) ≡ b → cond b (Some s) (map.get f i) ≡ Some w → ((i ≡ k) × (s ≡ w)) ⊎ ((i ≡ k → ⊥) × (map.get f i ≡ Some w))
-    by_test true e h = inl (equal i k e, same_some h)
-    by_test false e h = inr (λ same. let c = sym e ∙ ap (λ z. is_eq (id_cmp z k)) same ∙ ap is_eq (tied_itself id_total k) in cc, h)
+set_cases f k i s w has = let found = λ (b : Bool) (e : is_eq (id_cmp i k) ≡ b). sym (get-insert id_total f k s i ∙ ap (λ b. cond b (Some s) (map.get f i)) e) ∙ has in by_cases (is_eq (id_cmp i k))
+    (λ e. inl (equal i k e, same_some (found true e)))
+    (λ e. inr (λ same. let c = sym e ∙ ap (λ z. is_eq (id_cmp z k)) same ∙ ap is_eq (tied_itself id_total k) in cc, found false e))
 
 -- ---- members
 -- the owner, as it stood at its Begin but for its answers: it is begun

@@ -3,7 +3,7 @@ use Rattle.beldi_known.proofs.Names.{Bool, Content, Deployment, Got, Instance, I
 use Rattle.beldi_known.proofs.Names.map
 use Rattle.beldi_known.proofs.Names.notes
 use Rattle.beldi_known.proofs.Frame.{step_next}
-use Rattle.beldi_known.proofs.FrameAt.{known_set, one_place, not_ahead, or_no, or_none}
+use Rattle.beldi_known.proofs.FrameAt.{known_set, one_place, not_ahead, or_no, or_none, known_same}
 use Rattle.beldi_known.proofs.Cases.{by_cases, if_is}
 
 -- ---- small facts
@@ -36,10 +36,6 @@ lock_here locked id = ap (λ c. if is_eq c then true else locked id) (tied_itsel
 
 lock_there : (locked : IntentId → Bool) (id j : IntentId) → is_eq (id_cmp j id) ≡ false → lock_in locked id j ≡ locked j
 lock_there locked id j h = ap (λ c. if c then true else locked j) h
-
--- an instance that is put where it is
-put_same : (known : Known) (id : IntentId) (q : Instance) → map.get known id ≡ Some q → (j : IntentId) → map.get (map.insert known id q) j ≡ map.get known j
-put_same known id q is = known_set known id q (λ j o. o ≡ map.get known j) (sym is) (λ j other. refl)
 
 module _ (d : Deployment) (known : Known) (locked : IntentId → Bool) (id : IntentId) (q : Instance) (is : map.get known id ≡ Some q) (unlocked : locked id ≡ false)
     (s : TxId) (inside : tx_now d id q ≡ Some s) (o : ℕ × List ℕ) (touch : touched (effect_of d q) ≡ Some o) where
@@ -75,7 +71,7 @@ module _ (d : Deployment) (known : Known) (locked : IntentId → Bool) (id : Int
       (λ e. ap (λ b. note_or (answered_note d x id m q) (if b then ahead_by x q.func (tx_now d id q) (effect_of d q) (locked id) else None)) e ∙ sym (ap (λ b. note_or (answered_note d x id m q) (if b then (if is_item x q.func (touched (effect_of d q)) then Some notes.Got else None) else None)) e)))
 
   pub note_ahead : (x : Item) (a : Place) → owed_note d x a.intent (taken a.intent) a.step (map.get known a.intent) ≡ (if place_eq p a then (if is_item x q.func (touched (effect_of d q)) then Some notes.Got else None) else owed_note d x a.intent (locked a.intent) a.step (map.get known a.intent))
-  note_ahead x a = ap (owed_note d x a.intent (taken a.intent) a.step) (sym (put_same known id q is a.intent))
+  note_ahead x a = ap (owed_note d x a.intent (taken a.intent) a.step) (sym (known_same known id q is a.intent))
       ∙ one_place known id q q is (λ j m z. owed_note d x j (locked j) m z) (λ j m z. owed_note d x j (taken j) m z) (λ j other m z. ap (λ b. owed_note d x j b m z) (lock_there locked id j other)) n
       (if is_item x q.func (touched (effect_of d q)) then Some notes.Got else None) (ahead_more x) a
 

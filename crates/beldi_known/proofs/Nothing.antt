@@ -30,11 +30,7 @@ ahead_nothing d id e = cc
 
 -- ---- rows
 no_intent : (ended : TxId → Bool) (home : ℕ) (b : Bool) → IntentMatches ended b home None None
-no_intent ended home true = by_home (home == 0)
-  where
-    by_home : (b : Bool) → RootMatches b None None
-    by_home true = refl
-    by_home false = refl
+no_intent ended home true = elim (home == 0) as (λ b. RootMatches b None None) [ true ↦ refl | false ↦ refl ]
 no_intent ended home false = record { open_still = λ q is same idle. cc }
 
 no_cell : (n : ℕ) → CellMatches n None

@@ -6,6 +6,11 @@ use Rattle.beldi_known.proofs.Names.owner
 use Rattle.beldi_plain.specs.Operation.{lock}
 use Rattle.beldi_known.proofs.Owners.{unbarred, not_hers, her_own}
 
+-- a value that is set, or stays
+pub kept_or : (b : Bool) (v w : Value) → or_old (if b then Some v else None) w ≡ (if b then v else w)
+kept_or true v w = refl
+kept_or false v w = refl
+
 -- what an operation on cells leaves is what the plain operation leaves
 pub record Does (o : Operation) (op : CellOp) : Type 0 where
   pub value : (w : Value) → or_old (sets o w) w ≡ value_after op w
@@ -15,11 +20,7 @@ pub record Does (o : Operation) (op : CellOp) : Type 0 where
 
 pub does_so : (o : Operation) → Does o (cell_of o)
 does_so (write v) = record { value = λ w. refl; note = λ w. refl; own = λ id was free. refl; others = λ id was free who other. refl }
-does_so (operation.cond r u v) = record { value = λ w. by_test (passes w r u) w; note = λ w. refl; own = λ id was free. refl; others = λ id was free who other. refl }
-  where
-    by_test : (b : Bool) (w : Value) → or_old (if b then Some v else None) w ≡ (if b then v else w)
-    by_test true w = refl
-    by_test false w = refl
+does_so (operation.cond r u v) = record { value = λ w. kept_or (passes w r u) v w; note = λ w. refl; own = λ id was free. refl; others = λ id was free who other. refl }
 does_so lock = record {
   value = λ w. refl;
   note = λ w. refl;

@@ -62,20 +62,15 @@ module _ (d : Deployment) (known : Known) (sane : Sane d known) where
 
   -- ---- a transaction that is yet to begin got nothing
   pub nothing_got : (locked : IntentId → Bool) (s : TxId) (x : Item) → ((q : Instance) → map.get known s.intent ≡ Some q → length q.answers ≤ s.begin) → Got d known locked s x → ⊥
-  nothing_got locked s x few g = by_known (map.get known g.member) refl g.got
-    where
-      by_within : (z : Instance) → map.get known g.member ≡ Some z → got_by d s x g.member (locked g.member) (Some z) ≡ true → (w : Option TxId) → z.within ≡ w → ⊥
-      by_within z is got None e =
-          let k = got_since d s x g.member z e (locked g.member) got in
-          let n = few z (ap (map.get known) k.own ∙ is) in
-          let b = k.before in omega (arith, n, b)
-      by_within z is got (Some u) e =
-          let same : s ≡ u = member_tx d s x g.member z u e (locked g.member) got in
-          let clash = sym is ∙ known_none_after s few g.member (called_below d known sane s g.member z is (e ∙ ap (λ y. Some y) (sym same))) in cc
-
-      by_known : (o : Option Instance) → map.get known g.member ≡ o → got_by d s x g.member (locked g.member) o ≡ true → ⊥
-      by_known None is got = cc
-      by_known (Some z) is got = by_within z is got z.within refl
+  nothing_got locked s x few g = by_option (map.get known g.member) (λ none. true_false (sym (sym (ap (got_by d s x g.member (locked g.member)) none) ∙ g.got))) (λ z is.
+      let got : got_by d s x g.member (locked g.member) (Some z) ≡ true = sym (ap (got_by d s x g.member (locked g.member)) is) ∙ g.got in by_option z.within
+      (λ e.
+      let k = got_since d s x g.member z e (locked g.member) got in
+      let n = few z (ap (map.get known) k.own ∙ is) in
+      let b = k.before in omega (arith, n, b))
+      (λ u e.
+      let same : s ≡ u = member_tx d s x g.member z u e (locked g.member) got in
+      let clash = sym is ∙ known_none_after s few g.member (called_below d known sane s g.member z is (e ∙ ap (λ y. Some y) (sym same))) in cc))
 
 -- ---- an instance that is set is in no open transaction of another
 abbrev pub Apart : Deployment → PlainState → IntentId → Type 0
@@ -407,6 +402,4 @@ module _ (d : Deployment) (m : Rows) (known : Known) (locked : IntentId → Bool
         ∙ still (got_before d t x id k) (is_on t x k.func (tx_after d id k k.answers) (effect_of d k) && not (is_aborted a)) (locked id) (is_on t x k.func (tx_after d id k k.answers) (effect_of d k)) _ unlocked (sym (ap (got_by d t x id (locked id)) is) ∙ e))
       where
         still : (had now l on next : Bool) → l ≡ false → (had || (l && on)) ≡ true → ((had || now) || (l && next)) ≡ true
-        still true now l on next off e = refl
-        still false now true on next off e = cc
-        still false now false on next off e = cc
+        still had now l on next off e = grind arith

@@ -32,10 +32,8 @@ owned id (Some w) h = elim (owner_eq w (Intent id)) as (λ b. owner_eq w (Intent
 ] refl h
 
 pub unbarred : (op : CellOp) (id : IntentId) (was : Option Owner) → barred op (Intent id) was ≡ None → IsFreeFor id was
-unbarred (Write v) id was h = unowned id was (unheld_none (other_owner (Intent id) was) h)
-unbarred (Cond r o v) id was h = unowned id was (unheld_none (other_owner (Intent id) was) h)
-unbarred Lock id was h = unowned id was (unheld_none (other_owner (Intent id) was) h)
 unbarred (Free v) id was h = inr (owned id was h)
+unbarred op id was h = unowned id was (unheld_none (other_owner (Intent id) was) h)
 
 -- then no other intent does
 pub nobody_else : (id : IntentId) (was : Option Owner) → IsFreeFor id was → (j : IntentId) → is_owner was (Intent j) ≡ true → j ≡ id

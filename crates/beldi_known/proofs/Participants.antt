@@ -79,11 +79,8 @@ module _ (d : Deployment) (known : Known) (h : Sane d known) where
 
   -- so who was called in one that has ended has its outcome
   pub decided_over : (j : IntentId) (z : Instance) (t : TxId) (e : ℕ × Bool) → map.get known j ≡ Some z → z.within ≡ Some t → tx_end d known t ≡ Some e → is_some z.outcome ≡ true
-  decided_over j z t e on inner ended = by_outcome z.outcome refl
-    where
-      by_outcome : (o : Option Outcome) → z.outcome ≡ o → is_some o ≡ true
-      by_outcome None none = let clash = sym (now_open j z t on none (ap (λ w. or_own w (tx_by j z.func (length z.answers) (effect_of d z) (txs_after d z z.answers).begun)) inner)) ∙ ended in cc
-      by_outcome (Some o) some = refl
+  decided_over j z t e on inner ended = by_option z.outcome
+      (λ none. let clash = sym (now_open j z t on none (ap (λ w. or_own w (tx_by j z.func (length z.answers) (effect_of d z) (txs_after d z z.answers).begun)) inner)) ∙ ended in cc) (λ o some. ap is_some some)
 
   -- the owner of the transaction of who can step holds no lock of its own
   pub owner_holds_none : (j : IntentId) (z : Instance) (t : TxId) → map.get known j ≡ Some z → z.outcome ≡ None → tx_now d j z ≡ Some t → (x : Item) → holds d x (map.get known t.intent) ≡ false

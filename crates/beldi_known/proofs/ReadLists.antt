@@ -6,7 +6,9 @@ use Rattle.beldi_known.proofs.Names.map
 use Rattle.beldi_known.proofs.Locks.{is_its, tx_same}
 use Rattle.beldi_known.proofs.Acts.{kinds_apart, is_data, is_shadow, content_apart}
 use Rattle.beldi_known.proofs.OwnTx.{Own, own_by}
-use Rattle.beldi_known.proofs.Lists.{elsewhere}
+use Rattle.beldi_known.proofs.Lists.{elsewhere, lists_owned}
+use Rattle.beldi_known.proofs.Cases.{by_cases}
+use Rattle.beldi_known.proofs.Answers.{true_false}
 
 -- ---- a step that a fold has gathered
 pub record Gathered (g : List Answer → Answer → Bool) (all : List Answer) : Type 0 where
@@ -35,14 +37,12 @@ pub record AskedFor (d : Deployment) (t : TxId) (x : Item) (j : IntentId) (z : I
   pub on : is_on t x z.func (tx_after d j z given) (effect_after d z given) ≡ true
 
 pub asked_for : (d : Deployment) (t : TxId) (x : Item) (j : IntentId) (z : Instance) (b : Bool) → got_by d t x j b (Some z) ≡ true → AskedFor d t x j z
-asked_for d t x j z b h = by_before (got_before d t x j z) refl h
-  where
-    by_before : (u : Bool) → got_before d t x j z ≡ u → (u || (b && is_on t x z.func (tx_now d j z) (effect_of d z))) ≡ true → AskedFor d t x j z
-    by_before false e g = record { given = z.answers; later = []; all = append-nil z.answers; on = (and_parts b (is_on t x z.func (tx_now d j z) (effect_of d z)) g).1 }
-    by_before true e g = elim (gathered (λ ts c. is_on t x z.func (tx_after d j z ts) (effect_after d z ts) && not (is_aborted c)) [] z.answers false e) [
-      | inl k ↦ cc
+asked_for d t x j z b h = by_cases (got_before d t x j z)
+    (λ e. elim (gathered (λ ts c. is_on t x z.func (tx_after d j z ts) (effect_after d z ts) && not (is_aborted c)) [] z.answers false e) [
+      | inl k ↦ absurd (true_false (sym k))
       | inr k ↦ record { given = k.before; later = k.answer ∷ k.later; all = k.parts; on = (and_parts (is_on t x z.func (tx_after d j z k.before) (effect_after d z k.before)) (not (is_aborted k.answer)) k.holds).0 }
-    ]
+    ])
+    (λ e. record { given = z.answers; later = []; all = append-nil z.answers; on = (and_parts b (is_on t x z.func (tx_now d j z) (effect_of d z)) (sym (ap (λ u. u || (b && is_on t x z.func (tx_now d j z) (effect_of d z))) e) ∙ h)).1 })
 
 pub no_begin : (x : Item) (func : ℕ) (e : Effect) → is_item x func (touched e) ≡ true → is_begin e ≡ false
 no_begin x func effect.Begin h = cc
@@ -106,11 +106,6 @@ module _ (d : Deployment) (m : Rows) (known : Known) (locked : IntentId → Bool
       let b = k.before in omega (arith, b, step, len))
 
   pub begun_lists : (x : Item) → listed (set_row m key v) x ≡ listed m x
-  begun_lists x = ap (λ (c : Content). listed_under (set_row m key v) x c.owner c.value) (content_apart m key v x (kinds_apart is_data (head_key x) key refl refl)) ∙ under (content_of m x).owner refl
-    where
-      under : (o : Option Owner) → (content_of m x).owner ≡ o → listed_under (set_row m key v) x o (content_of m x).value ≡ listed_under m x o (content_of m x).value
-      under None e = refl
-      under (Some (Intent i)) e = refl
-      under (Some (Tx t)) e =
-          ap (λ r. if is_committed r then value_in (map.get (set_row m key v) (shadow_key t x)) (content_of m x).value else (content_of m x).value) (row_got m key (decision_key t) v ∙ ap (λ b. cond b v (map.get m (decision_key t))) (apart x t e))
-          ∙ ap (λ r. if is_committed (map.get m (decision_key t)) then value_in r (content_of m x).value else (content_of m x).value) (elsewhere m key v is_shadow (shadow_key t x) refl refl)
+  begun_lists x = let same = content_apart m key v x (kinds_apart is_data (head_key x) key refl refl) in
+      lists_owned m (set_row m key v) x (ap (λ (c : Content). c.owner) same) (ap (λ (c : Content). c.value) same) (λ t w e i.
+      if is_committed ((row_got m key (decision_key t) v ∙ ap (λ b. cond b v (map.get m (decision_key t))) (apart x t e)) i) then value_in (elsewhere m key v is_shadow (shadow_key t x) refl refl i) w else w)

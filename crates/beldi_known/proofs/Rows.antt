@@ -6,13 +6,11 @@ use Rattle.beldi_known.proofs.Names.map
 -- ---- which keys differ
 then_equal : (o : Ordering) → ordering_then o Equal ≡ o
 then_equal Less = refl
-then_equal Equal = refl
-then_equal Greater = refl
+then_equal o = refl
 
 not_less : (o : Ordering) → is_eq (ordering_then o Less) ≡ false
 not_less Less = refl
-not_less Equal = refl
-not_less Greater = refl
+not_less o = refl
 
 -- first rows of items are in the order of the items
 pub head_order : (x y : Item) → key_cmp (head_key x) (head_key y) ≡ item_cmp x y

@@ -32,8 +32,7 @@ no_return p (Some t) o a h = h
 -- a call is answered by an outcome
 call_answers : (p : Place) (t : Option TxId) (f : ℕ) (v : Value) (o : Outcome) → IsAnswer p t (effect.Call f v) (answer_of o)
 call_answers p t f v (outcome.Value w) = tt
-call_answers p t f v (outcome.Fault c) = tt
-call_answers p t f v (outcome.Aborted c) = tt
+call_answers p t f v o = tt
 
 -- so who has one has no outcome
 pub open_still : (d : Deployment) (id : IntentId) (q : Instance) (a : Answer) → SaneInstance d id q → IsAnswer (place_of id (length q.answers)) (tx_now d id q) (effect_of d q) a → q.outcome ≡ None
@@ -273,11 +272,6 @@ touched_is_no_call x true f v h = cc
 touched_is_no_call x false f v h = cc
 
 module _ (d : Deployment) (known : Known) (h : Sane d known) (id : IntentId) (q : Instance) (is : map.get known id ≡ Some q) where
-  pub sane_operated : (o : OnItem) (w : Value) → tx_now d id q ≡ None → op_of (effect_of d q) ≡ Some o → Sane d (map.insert known id (moved d id q (answer_after o.does w)))
-  sane_operated o w out op = let p = place_of id (length q.answers) in
-      sane_answered d known h id q is (answer_after o.does w) (subst (λ t. IsAnswer p t (effect_of d q) (answer_after o.does w)) (sym out) (operation_answers p (effect_of d q) o w op))
-      (λ b f v call. operation_is_no_call o b f v (ap op_of (sym call) ∙ op))
-
   pub sane_died : (t : TxId) (x : ℕ × List ℕ) (c : Cause) → tx_now d id q ≡ Some t → touched (effect_of d q) ≡ Some x → IsDeath (place_of id (length q.answers)) t c → Sane d (map.insert known id (moved d id q (answer.Aborted c)))
   sane_died t x c inner touch dies = let p = place_of id (length q.answers) in
       sane_answered d known h id q is (answer.Aborted c) (subst (λ t. IsAnswer p t (effect_of d q) (answer.Aborted c)) (sym inner) (death_answer p t (effect_of d q) x c touch dies))

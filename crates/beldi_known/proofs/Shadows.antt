@@ -1,5 +1,5 @@
 -- Rows of shadows, one at a time, and what they show; and who got the items that have one.
-use Rattle.beldi_known.proofs.Names.{AllGot, Answer, Bool, Deployment, Got, Instance, IntentId, Item, Known, LockedOut, None, Option, PlainState, Row, RowKey, Rows, ShadowShows, Shadows, Some, TxId, Value, and_right, ap, cond, content_in, effect_of, false, false_from_ne_true, got_before, got_by, inl, inr, is_aborted, is_eq, is_item, is_on, is_some, is_tx, is_writing, item_cmp, item_total, key_cmp, key_same, key_self, moved, not, refl, row_got, set_row, shadow_key, subst, sym, tied_itself, touched, true, tx_begun, tx_now, value_at, writes_on, writing_at, ◌&&◌, ◌||◌, ◌∙◌, ◌≡◌, ◌⊎◌}
+use Rattle.beldi_known.proofs.Names.{AllGot, Answer, Bool, Deployment, Got, Instance, IntentId, Item, Known, LockedOut, None, Option, PlainState, Row, RowKey, Rows, ShadowShows, Shadows, Some, TxId, Value, and_right, ap, cond, content_in, effect_of, false, false_from_ne_true, got_before, got_by, inl, inr, is_aborted, is_eq, is_item, is_on, is_some, is_tx, is_writing, item_cmp, item_total, key_cmp, key_same, key_self, moved, not, refl, row_got, set_row, shadow_key, subst, sym, tied_itself, touched, true, tx_begun, tx_now, value_at, writes_on, writing_at, ◌&&◌, ◌||◌, ◌∙◌, ◌≡◌, ◌⊎◌, arith}
 use Rattle.beldi_known.proofs.Names.map
 use Rattle.beldi_known.proofs.Acts.{by_item, shadow_same}
 use Rattle.beldi_known.proofs.Answers.{true_false}
@@ -52,20 +52,14 @@ module _ (m : Rows) (t : TxId) (x : Item) (v : Option Row) where
 
 -- ---- what it got stays so
 still_got : (had on l dead : Bool) → (l ≡ true → dead ≡ false) → (had || (l && on)) ≡ true → ((had || (on && not dead)) || false) ≡ true
-still_got true on l dead f h = refl
-still_got false true true dead f h = ap (λ b. not b || false) (f refl)
-still_got false false true dead f h = h
-still_got false on false dead f h = cc
+still_got had on l dead f h = grind arith
 
 got_moved : (d : Deployment) (t : TxId) (x : Item) (id : IntentId) (k : Instance) (a : Answer) (l : Bool) → (l ≡ true → is_aborted a ≡ false) → got_by d t x id l (Some k) ≡ true → got_by d t x id false (Some (moved d id k a)) ≡ true
 got_moved d t x id k a l f h = ap (λ b. b || false) ((moved_one d id k a).got t x) ∙ still_got (got_before d t x id k) (is_on t x k.func (tx_now d id k) (effect_of d k)) l (is_aborted a) f h
 
 -- .. where no item was asked for
 untouched_got : (had on l dead ahead : Bool) → on ≡ false → (had || (l && on)) ≡ true → ((had || (on && not dead)) || ahead) ≡ true
-untouched_got true on l dead ahead off h = refl
-untouched_got false true l dead ahead off h = cc
-untouched_got false false true dead ahead off h = cc
-untouched_got false false false dead ahead off h = cc
+untouched_got had on l dead ahead off h = grind arith
 
 pub got_passed : (d : Deployment) (t : TxId) (x : Item) (id : IntentId) (k : Instance) (a : Answer) (l : Bool) → touched (effect_of d k) ≡ None → got_by d t x id l (Some k) ≡ true → got_by d t x id l (Some (moved d id k a)) ≡ true
 got_passed d t x id k a l off h =
@@ -74,9 +68,7 @@ got_passed d t x id k a l off h =
     ∙ untouched_got (got_before d t x id k) (is_on t x k.func (tx_now d id k) (effect_of d k)) l (is_aborted a) (l && is_on t x r.func (tx_now d id r) (effect_of d r)) (ap (λ o. is_tx t (tx_now d id k) && is_item x k.func o) off ∙ and_right (is_tx t (tx_now d id k)) false refl) h
 
 more_ahead : (had on l r : Bool) → (l ≡ true → r ≡ true) → (had || (l && on)) ≡ true → (had || (r && on)) ≡ true
-more_ahead true on l r f h = refl
-more_ahead false on true r f h = ap (λ b. b && on) (f refl) ∙ h
-more_ahead false on false r f h = cc
+more_ahead had on l r f h = grind arith
 
 got_if : (d : Deployment) (t : TxId) (x : Item) (id : IntentId) (o : Option Instance) (l r : Bool) → (l ≡ true → r ≡ true) → got_by d t x id l o ≡ true → got_by d t x id r o ≡ true
 got_if d t x id None l r f h = h

@@ -10,6 +10,7 @@ use Rattle.beldi_known.proofs.AtOnce.{none_of, once_none, once_some}
 use Rattle.beldi_known.proofs.Begins.{aborts_once}
 use Rattle.beldi_known.proofs.Lines.{front_in_tx, line, member}
 use Rattle.beldi_known.proofs.Phases.{begin_is}
+use Rattle.beldi_known.proofs.FrameAt.{known_same}
 
 -- it is open, this one can step in it, and these are its items
 pub record GoesOn (d : Deployment) (p : PlainState) (known : Known) (o : IntentId) (q : Instance) (front : IntentId) (items : Items) : Type 0 where
@@ -22,15 +23,9 @@ leads_more d t s [] l r m h step = (r, subst (λ z. moved d t m z ≡ Some r) (s
 leads_more d t s (n ∷ ms) l r m h step = (h.0, h.1, leads_more d t h.0 ms l r m h.2 step)
 
 -- ---- maps that agree on some
-set_same : (f : FinMap id_cmp Instance) (k i : IntentId) (z : Instance) → map.get f k ≡ Some z → map.get (map.insert f k z) i ≡ map.get f i
-set_same f k i z is = made_set f k z (λ j u. u ≡ map.get f j) (sym is) (λ j. refl) i
-
 set_again : (f : FinMap id_cmp Instance) (k i : IntentId) (y z : Instance) → map.get (map.insert f k z) i ≡ map.get (map.insert (map.insert f k y) k z) i
-set_again f k i y z = get-insert id_total f k z i ∙ by_test (is_eq (id_cmp i k)) (map.get f i) ∙ sym (get-insert id_total (map.insert f k y) k z i ∙ ap (cond (is_eq (id_cmp i k)) (Some z)) (get-insert id_total f k y i))
-  where
-    by_test : (b : Bool) (o : Option Instance) → cond b (Some z) o ≡ cond b (Some z) (cond b (Some y) o)
-    by_test true o = refl
-    by_test false o = refl
+set_again f k i y z = get-insert id_total f k z i ∙ elim (is_eq (id_cmp i k)) as (λ b. cond b (Some z) (map.get f i) ≡ cond b (Some z) (cond b (Some y) (map.get f i))) [ true ↦ refl | false ↦ refl ]
+    ∙ sym (get-insert id_total (map.insert f k y) k z i ∙ ap (cond (is_eq (id_cmp i k)) (Some z)) (get-insert id_total f k y i))
 
 module _ (d : Deployment) (p : PlainState) (o : IntentId) (q : Instance) where
   next_on : (known after : Known) (tx : OpenTx d p known o q) (m : Move) (r : Going) → moved d (tx_begun o q) m tx.going ≡ Some r → ((i : IntentId) → IsIn (tx_begun o q) i → map.get after i ≡ map.get r.state.made i) → GoesOn d p after o q r.front r.state.items
@@ -67,7 +62,7 @@ module _ (d : Deployment) (p : PlainState) (sane : plain.Sane d p) (o : IntentId
         still : answer_at_once tx.going.front (length y.answers) (effect_of d y) ≡ None → GoesOn d p (map.insert known tx.going.front (at_once d tx.going.front y)) o q tx.going.front tx.going.state.items
         still e = subst (λ z. GoesOn d p (map.insert known tx.going.front z) o q tx.going.front tx.going.state.items) (sym (ap (once d tx.going.front) (once_none d tx.going.front y e) ∙ once_none d tx.going.front y e))
             (record {
-              tx = record { moves = tx.moves; going = tx.going; leads = tx.leads; whole = λ j is_in. set_same known tx.going.front j y is ∙ tx.whole j is_in };
+              tx = record { moves = tx.moves; going = tx.going; leads = tx.leads; whole = λ j is_in. known_same known tx.going.front y is j ∙ tx.whole j is_in };
               front_is = refl;
               items_are = refl;
             })
