@@ -1,5 +1,5 @@
 -- Each act inside an open transaction, among all others: what shadows show is kept, and what is known stays beside the plain state.
-use Rattle.beldi_known.proofs.Names.{AllGot, AllShow, Answer, Bool, CallsGo, Cause, DeathsGo, Deployment, Effect, FirstRowsGo, Goes, Got, Instance, IntentId, IsAnswer, IsFront, IsIn, IsSound, Item, Items, Known, Line, List, LockedOut, Move, None, OnItem, OpenTx, Option, Outcome, PlainState, ReadsGo, Rel, ReturnsGo, Row, RowKey, Rows, RowsGo, Sane, ShadowShows, Shadows, Shows, Some, TestsGo, Tx, TxId, Txs, Value, WritesGo, aborted, and_right, answer_by, answer_inside, answer_of, ap, at_once, begins, callee_in, callee_of, calls_at, child_of, child_same, cond, content_in, did, effect_of, elsewhere, end_of, ended, ended_by, equal, false, fell, got_before, got_by, has_callees, head_key, id_cmp, id_total, if◌then◌else◌, inl, inr, is_aborted, is_edge, is_eq, is_item, is_on, is_some, is_writing, item_cmp, item_in, item_of, item_same, item_total, items_after, items_by, length, log_key, made_set, moved, new_member, none_below, none_by, not_own, not_owner, op_of, or_null, or_old, or_own, passes, place_of, plain, plain_set, refl, same_some, sane_with, set_row, sets, shadow_key, shadow_of, subst, sym, test_on, tested, tied_itself, touched, true, tx_begun, tx_by, tx_end, tx_now, txs_after, txs_by, value_at, value_in, write, write_on, writes_on, writing_at, ℕ, ◌&&◌, ◌||◌, ◌∙◌, ◌≡◌, ◌⊎◌, false_from_ne_true, or_right}
+use Rattle.beldi_known.proofs.Names.{AllGot, AllShow, Answer, Bool, CallsGo, Cause, DeathsGo, Deployment, Effect, FirstRowsGo, Goes, Got, Instance, IntentId, IsAnswer, IsFront, IsIn, IsSound, Item, Items, Known, Line, List, LockedOut, Move, None, OnItem, OpenTx, Option, Outcome, PlainState, ReadsGo, Rel, ReturnsGo, Row, RowKey, Rows, RowsGo, Sane, ShadowShows, Shadows, Shows, Some, TestsGo, Tx, TxId, Txs, Value, WritesGo, aborted, and_right, answer_by, answer_inside, answer_of, ap, at_once, begins, callee_in, callee_of, calls_at, child_of, child_same, cond, content_in, did, effect_of, elsewhere, end_of, ended, ended_by, equal, false, fell, got_before, got_by, has_callees, head_key, id_cmp, id_total, if◌then◌else◌, inl, inr, is_aborted, is_edge, is_eq, is_item, is_on, is_some, is_writing, item_cmp, item_in, item_of, item_total, items_after, items_by, length, log_key, made_set, moved, new_member, none_below, none_by, not_own, not_owner, op_of, or_null, or_old, or_own, passes, place_of, plain, plain_set, refl, same_some, sane_with, set_row, sets, shadow_key, shadow_of, subst, sym, test_on, tested, tied_itself, touched, true, tx_begun, tx_by, tx_end, tx_now, txs_after, txs_by, value_at, value_in, write, write_on, writes_on, writing_at, ℕ, ◌&&◌, ◌∙◌, ◌≡◌, ◌⊎◌, false_from_ne_true, or_right, eq_by_cmp_equiv}
 use Rattle.beldi_known.proofs.Names.answer
 use Rattle.beldi_known.proofs.Names.effect
 use Rattle.beldi_known.proofs.Names.map
@@ -274,10 +274,7 @@ module _ (d : Deployment) (m : Rows) (p : PlainState) (known : Known) (locked : 
           (of_row false row (or_null (map.get after x)) (inr (leaves ∙ sym (value x
           ∙ ap (λ c. cond c (or_old (sets w.does (or_null (map.get going (item_in k.func w)))) (or_null (map.get going (item_in k.func w)))) (or_null (map.get going x))) (ap (λ z. is_eq (item_cmp x z)) (sym same) ∙ ap is_eq (tied_itself item_total x))))))
           (λ z other. subst (ShadowShows false (map.get m (shadow_key s z))) (sym (value z ∙ ap (λ c. cond c (or_old (sets w.does (or_null (map.get going (item_in k.func w)))) (or_null (map.get going (item_in k.func w)))) (or_null (map.get going z)))
-          (ap (λ i. is_eq (item_cmp z i)) (sym same) ∙ turned x z other))) (shown z (ap (λ u. locked id && u) (off z other) ∙ and_right (locked id) false refl))))
-        where
-          turned : (x z : Item) → is_eq (item_cmp x z) ≡ false → is_eq (item_cmp z x) ≡ false
-          turned x z e = false_from_ne_true (is_eq (item_cmp z x)) (λ g. true_false (sym (ap is_eq (tied_itself item_total x)) ∙ ap (λ i. is_eq (item_cmp x i)) (sym (item_same z x g)) ∙ e))
+          (ap (λ i. is_eq (item_cmp z i)) (sym same) ∙ (eq_by_cmp_equiv item_total).symm z x ∙ other))) (shown z (ap (λ u. locked id && u) (off z other) ∙ and_right (locked id) false refl))))
 
       write_goes : (v : Value) → effect_of d k ≡ effect.Write t y v → write_on (place_of id (length k.answers)) (Tx (tx_begun o q)) v (shadow_of m (tx_begun o q) (item_of k t y)) ≡ (content_in row, did)
           → Goes d (set_row m (shadow_key (tx_begun o q) (item_of k t y)) row) p (map.insert known id (moved d id k answer.Done)) unlocked
@@ -369,7 +366,7 @@ module _ (d : Deployment) (m n : Rows) (p : PlainState) (known : Known) (locked 
       let e = child_of id c in
       let e_in = called_in d p known h.plain_sane o q made b own_tx h.sane e j called within in
       let inside : tx_now d e j ≡ Some t = ap (λ w. or_own w (tx_by e j.func (length j.answers) (effect_of d j) (txs_after d j j.answers).begun)) within in
-      let free = λ (g : ℕ) (w : Value) (x : effect_of d j ≡ effect.Call g w). absurd (no_call g w x) in
+      let free = λ (g : ℕ) (w : Value) (x : effect_of d j ≡ effect.Call g w). absurd (let clash = sym returns ∙ x in cc) in
       let at = front d m p known locked h o q made b e j called inside none free in
       let w = waits_for d known h.sane t e j (caller_in d known h.sane t e j called within) within none in
       let same = child_same id w.caller c (length w.waiter.answers) w.is_callee in
@@ -396,9 +393,6 @@ module _ (d : Deployment) (m n : Rows) (p : PlainState) (known : Known) (locked 
       known_set f id back (λ y w. got_by d s x y (locked y) (map.get f y) ≡ true → got_by d s x y (locked y) w ≡ true)
       (λ g. got_passed d s x id i (answer_of u) (locked id) (ap touched call) (sym (ap (got_by d s x id (locked id)) there) ∙ g)) (λ y other g. g) y
       (known_set known e over (λ y w. got_by d s x y (locked y) (map.get known y) ≡ true → got_by d s x y (locked y) w ≡ true) (λ g. sym (ap (got_by d s x e (locked e)) called) ∙ g) (λ y other g. g) y had)))
-    where
-      no_call : (g : ℕ) (w : Value) → effect_of d j ≡ effect.Call g w → ⊥
-      no_call g w x = let clash = sym returns ∙ x in cc
 
 pub calls_go : CallsGo
 calls_go d m n p known locked id k s f v h is inside call short gone same =

@@ -1,5 +1,5 @@
 -- A lock that is ahead is that of an instance which stands at an operation inside: move by move, and whose it is not.
-use Rattle.beldi_known.proofs.Names.{Bool, Deployment, Instance, IntentId, IsFront, Known, List, LockedAt, LockedAtEnds, LockedIf, LockedOut, None, SaneInstance, Some, TxId, ap, effect_of, false, false_from_ne_true, id_cmp, id_same, if◌then◌else◌, is_eq, is_some, lock_in, none_by, refl, subst, sym, touched, true, tx_now, ℕ, ◌∙◌, ◌≡◌}
+use Rattle.beldi_known.proofs.Names.{Bool, Deployment, Instance, IntentId, IsFront, Known, List, LockedAt, LockedAtEnds, LockedIf, LockedOut, None, SaneInstance, Some, TxId, ap, effect_of, false, false_from_ne_true, id_cmp, id_same, if◌then◌else◌, is_eq, is_some, lock_in, none_by, subst, sym, touched, true, tx_now, ℕ, ◌∙◌, ◌≡◌}
 use Rattle.beldi_known.proofs.Names.map
 use Rattle.beldi_known.proofs.FrameAt.{known_set}
 pub use Rattle.beldi_known.proofs.FrameAt.{none_out}

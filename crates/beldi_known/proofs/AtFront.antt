@@ -1,10 +1,10 @@
 -- At the front nothing of the next step is there, but a lock that is ahead.
-use Rattle.beldi_known.proofs.Names.{Bool, Deployment, Instance, IntentId, Item, Known, LogMatches, Matches, None, Option, Place, Rows, Some, TxId, ahead_by, and_right, ap, arith, at_step, commit_in, content_of, decision_by, effect_after, effect_of, eq-eqb, eqb-true, false, false_from_ne_true, fits, if◌then◌else◌, is_decided, is_item, is_mark, is_some, last_step, length, log_key, note_at, note_by, note_or, owed_note, owed_shadow, owed_value, place_of, read_at, refl, row_at, shadow_by, shadow_of, slice_get, subst, take, touched, true, tx_after, tx_now, txs_after, value_for, value_or, ℕ, ◌&&◌, ◌<◌, ◌==◌, ◌||◌, ◌∙◌, ◌≡◌}
+use Rattle.beldi_known.proofs.Names.{Bool, Deployment, Instance, IntentId, Item, Known, LogMatches, Matches, None, Option, Place, Rows, Some, TxId, ahead_by, ap, arith, at_step, commit_in, content_of, decision_by, effect_after, effect_of, eq-eqb, false, fits, if◌then◌else◌, is_item, is_mark, last_step, length, log_key, note_at, note_by, note_or, owed_note, owed_shadow, owed_value, place_of, read_at, refl, row_at, shadow_by, shadow_of, slice_get, subst, take, touched, true, tx_after, tx_now, txs_after, value_for, value_or, ℕ, ◌<◌, ◌==◌, ◌∙◌, ◌≡◌}
 use Rattle.beldi_known.proofs.Names.map
 use Rattle.beldi_known.proofs.Names.notes
-use Rattle.beldi_known.proofs.Answers.{true_false}
 use Rattle.beldi_known.proofs.Frame.{step_next, begins}
 use Rattle.beldi_known.proofs.Behind.{no_log}
+use Rattle.beldi_known.proofs.FrameAt.{no_mark_at, none_ahead}
 
 module _ (d : Deployment) (m : Rows) (known : Known) (locked : IntentId → Bool) (h : Matches d m known locked) (id : IntentId) (q : Instance) (is : map.get known id ≡ Some q) where
   abbrev n : ℕ
@@ -34,10 +34,7 @@ module _ (d : Deployment) (m : Rows) (known : Known) (locked : IntentId → Bool
 
   module _ (short : n < last_step) where
     no_mark : is_mark d known n (map.get known id) ≡ false
-    no_mark = ap (is_mark d known n) is ∙ ap (λ z. is_some z || (is_decided d known q.within && (n == last_step))) (step_next (λ ts a. commit_in (effect_after d q ts)) q.answers) ∙ ap (λ z. is_decided d known q.within && z) not_last ∙ and_right (is_decided d known q.within) false refl
-      where
-        not_last : (n == last_step) ≡ false
-        not_last = false_from_ne_true (n == last_step) (λ g. let k = eqb-true n last_step g in omega (arith, k, short))
+    no_mark = no_mark_at d known id q n is short (step_next (λ ts a. commit_in (effect_after d q ts)) q.answers)
 
     -- of a plain item it has the note of the lock that is ahead, and no other
     pub note_is_ahead : (x : Item) → note_at (content_of m x).notes p ≡ ahead_by x q.func (tx_now d id q) (effect_of d q) (locked id)
@@ -46,12 +43,7 @@ module _ (d : Deployment) (m : Rows) (known : Known) (locked : IntentId → Bool
         ∙ ap (λ b. note_or None (if b then ahead_by x q.func (tx_now d id q) (effect_of d q) (locked id) else None)) (eq-eqb n n refl)
 
     pub no_note : (x : Item) → locked id ≡ false → note_at (content_of m x).notes p ≡ None
-    no_note x out = note_is_ahead x ∙ by_lock (tx_now d id q) (locked id) out
-      where
-        by_lock : (t : Option TxId) (b : Bool) → b ≡ false → ahead_by x q.func t (effect_of d q) b ≡ None
-        by_lock None b e = refl
-        by_lock (Some t) true e = absurd (true_false e)
-        by_lock (Some t) false e = refl
+    no_note x out = note_is_ahead x ∙ ap (ahead_by x q.func (tx_now d id q) (effect_of d q)) out ∙ none_ahead x q.func (tx_now d id q) (effect_of d q)
 
     -- a further run at the front finds the lock
     pub lock_is_there : (x : Item) (s : TxId) → tx_now d id q ≡ Some s → is_item x q.func (touched (effect_of d q)) ≡ true → locked id ≡ true → note_at (content_of m x).notes p ≡ Some notes.Got

@@ -22,11 +22,7 @@ module _ (d : Deployment) (id : IntentId) where
   next q = answer_at_once id (length q.answers) (effect_of d q)
 
   pub once_none : (q : Instance) → next q ≡ None → once d id q ≡ q
-  once_none q is = by_outcome q.outcome
-    where
-      by_outcome : (o : Option Outcome) → once_if d id q o ≡ q
-      by_outcome None = ap (answered_if q) is
-      by_outcome (Some o) = refl
+  once_none q is = elim q.outcome as (λ o. once_if d id q o ≡ q) [ None ↦ ap (answered_if q) is | Some o ↦ refl ]
 
   pub once_some : (q : Instance) (a : Answer) → q.outcome ≡ None → next q ≡ Some a → once d id q ≡ answered q a
   once_some q a none is = ap (once_if d id q) none ∙ ap (answered_if q) is

@@ -1,6 +1,6 @@
 -- A transaction that got an item, or that somebody was called in, was begun: its owner is known, and went past its Begin. One of who can
 -- step is open still, so its decision is not there.
-use Rattle.beldi_known.proofs.Names.{Bool, Deployment, Got, Instance, IntentId, Item, Known, Matches, None, Option, Rows, Sane, Some, Tx, TxId, Value, ap, arith, decision_key, effect_of, false, got_by, if◌then◌else◌, is_begin, is_committed, listed_under, log_key, place_of, refl, shadow_key, subst, sym, true, tx_now, value_in, ◌∙◌, ◌≡◌}
+use Rattle.beldi_known.proofs.Names.{Bool, Deployment, Got, Instance, IntentId, Item, Known, Matches, None, Rows, Sane, Some, Tx, TxId, Value, ap, arith, decision_key, effect_of, false, got_by, if◌then◌else◌, is_begin, is_committed, listed_under, log_key, place_of, shadow_key, subst, sym, true, tx_now, value_in, ◌∙◌, ◌≡◌}
 use Rattle.beldi_known.proofs.Names.map
 use Rattle.beldi_known.proofs.AtFront.{no_decision}
 use Rattle.beldi_known.proofs.Callers.{all_called, begun_before}

@@ -1,5 +1,5 @@
 -- A run whose answers are not all that are known finds what is owed: nothing changes, and it gets the known answer.
-use Rattle.beldi_known.proofs.Names.{Answer, Bool, Cause, Content, Deployment, Effect, Instance, IntentId, IsAnswer, IsDeath, Item, Known, List, LocksetMatches, LogMatches, Matches, None, Note, Option, Place, Rel, Row, Rows, SaneInstance, Some, Told, Tx, TxId, Value, [], ahead_by, along, along_append, and_right, answered_note, ap, append_assoc, arith, asks_lock, at_step, begins_at, commit_in, content_of, decision_by, effect_after, effect_before, effect_of, end_of, ended_stays, eq-eqb, eqb-true, false, false_from_ne_true, if◌then◌else◌, is_at, is_decided, is_eq, is_item, is_mark, is_some, is_tx, item_total, last_step, length, length-append, lock_answer, lock_note, lock_on, lock_or, lockset_ahead, lockset_key, log_key, none_by, note_at, note_by, note_of, note_or, noted_or, or_left, or_right, other_owner, owed_lockset, owed_note, owed_shadow, owed_value, place_of, put_lockset, read_at, refl, row_at, shadow_by, shadow_of, slice_get, subst, sym, take, tied_itself, touched, true, tx_after, tx_now, txs_after, txs_by, txs_pushed, value_for, value_or, write_op, ℕ, ◌&&◌, ◌++◌, ◌<◌, ◌==◌, ◌||◌, ◌∙◌, ◌∷◌, ◌≡◌}
+use Rattle.beldi_known.proofs.Names.{Answer, Bool, Cause, Content, Deployment, Effect, Instance, IntentId, IsAnswer, IsDeath, Item, Known, List, LocksetMatches, LogMatches, Matches, None, Note, Option, Place, Rel, Row, Rows, SaneInstance, Some, Told, Tx, TxId, Value, [], ahead_by, along, along_append, answered_note, ap, append_assoc, arith, asks_lock, at_step, begins_at, commit_in, content_of, decision_by, effect_after, effect_before, effect_of, end_of, ended_stays, eq-eqb, eqb-true, false, false_from_ne_true, if◌then◌else◌, is_at, is_eq, is_item, is_mark, is_some, is_tx, item_total, last_step, length, length-append, lock_answer, lock_note, lock_on, lock_or, lockset_ahead, lockset_key, log_key, none_by, note_at, note_by, note_of, note_or, noted_or, or_left, or_right, other_owner, owed_lockset, owed_note, owed_shadow, owed_value, place_of, put_lockset, read_at, refl, row_at, shadow_by, shadow_of, slice_get, subst, sym, take, tied_itself, touched, true, tx_after, tx_now, txs_after, txs_by, txs_pushed, value_for, value_or, write_op, ℕ, ◌&&◌, ◌++◌, ◌<◌, ◌==◌, ◌||◌, ◌∙◌, ◌∷◌, ◌≡◌, OnItem, item_in, write, same_some}
 use Rattle.beldi_known.proofs.Names.answer
 use Rattle.beldi_known.proofs.Names.effect
 use Rattle.beldi_known.proofs.Names.map
@@ -7,9 +7,11 @@ use Rattle.beldi_known.proofs.Names.notes
 use Rattle.beldi_known.proofs.Names.rows
 use Rattle.beldi_known.proofs.Names.value
 use Rattle.beldi_known.specs.Acts.{noted}
+use Rattle.beldi_known.specs.Owed.{noted as noted_by}
+use Rattle.beldi_known.proofs.Names.operation
 use Rattle.beldi_known.proofs.Answers.{take_front, get_next, true_false}
 use Rattle.beldi_known.proofs.Frame.{begins}
-use Rattle.beldi_known.proofs.FrameAt.{or_none}
+use Rattle.beldi_known.proofs.FrameAt.{or_none, no_mark_at}
 use Rattle.beldi_known.proofs.Locks.{tx_self}
 
 -- ---- what is known of the step of a run that is behind
@@ -128,12 +130,7 @@ module _ (d : Deployment) (m : Rows) (known : Known) (locked : IntentId → Bool
 
   -- an operation's place is no mark
   no_mark : commit_in wanted ≡ None → is_mark d known (length given) (map.get known id) ≡ false
-  no_mark apart = ap (is_mark d known (length given)) is
-      ∙ ap (λ z. is_some z || (is_decided d known q.within && (length given == last_step))) (stepped d id q given a rest run_answers (λ ts c. commit_in (effect_after d q ts)) ∙ apart)
-      ∙ ap (λ z. is_decided d known q.within && z) not_last ∙ and_right (is_decided d known q.within) false refl
-    where
-      not_last : (length given == last_step) ≡ false
-      not_last = false_from_ne_true (length given == last_step) (λ g. let k = eqb-true (length given) last_step g in omega (arith, k, short))
+  no_mark apart = no_mark_at d known id q (length given) is short (stepped d id q given a rest run_answers (λ ts c. commit_in (effect_after d q ts)) ∙ apart)
 
   -- a read, outside and inside: its row has the known answer
   log_match : LogMatches (map.get m (log_key q.func p)) (row_at d q (length given))
@@ -192,18 +189,15 @@ module _ (d : Deployment) (m : Rows) (known : Known) (locked : IntentId → Bool
     shadow_match = h.shadows s x p ∙ ap (owed_shadow d s x id (length given)) is ∙ shadow_there d id q given a rest run_answers s x
         ∙ ap (λ z. if is_tx s z then note_of x q.func (write_op wanted) a else None) inside ∙ ap (λ b. if b then note_of x q.func (write_op wanted) a else None) (tx_self s)
 
+    -- the note of an operation that writes is that of its answer
+    own_note : (w : OnItem) → write_op wanted ≡ Some w → Some (w.table, w.key) ≡ Some o → note_of x q.func (write_op wanted) a ≡ noted_by w.does a
+    own_note w op g = ap (λ z. note_of x q.func z a) op ∙ ap (λ (z : ℕ × List ℕ). note_of (record { func = q.func; table = z.0; key = z.1 }) q.func (Some w) a) (sym (same_some g))
+        ∙ ap (λ z. if is_eq z then noted_by w.does a else None) (tied_itself item_total (item_in q.func w))
+
     -- the walk of its shadow is told the note of the known answer
     pub behind_writes : (b : ℕ) (k : List ℕ) (v : Value) (r : Content × Told) → wanted ≡ effect.Write b k v → a ≡ answer.Done → noted_or (shadow_of m s x) (note_at (shadow_of m s x).notes p) r ≡ (shadow_of m s x, noted notes.Wrote)
-    behind_writes b k v r wants same = noted_there (shadow_of m s x) p notes.Wrote r (shadow_match ∙ ap (λ z. note_of x q.func (write_op z) a) wants ∙ own (ap touched (sym wants) ∙ touch))
-      where
-        own : Some (b, k) ≡ Some o → note_of x q.func (write_op (effect.Write b k v)) a ≡ Some notes.Wrote
-        own g = let f : (b, k) ≡ o = cc in subst (λ (z : ℕ × List ℕ). note_of (record { func = q.func; table = z.0; key = z.1 }) q.func (write_op (effect.Write b k v)) a ≡ Some notes.Wrote) f
-            (ap (λ z. note_of (record { func = q.func; table = b; key = k }) q.func (write_op (effect.Write b k v)) z) same ∙ ap (λ z. if is_eq z then Some notes.Wrote else None) (tied_itself item_total (record { func = q.func; table = b; key = k })))
+    behind_writes b k v r wants same = noted_there (shadow_of m s x) p notes.Wrote r (shadow_match ∙ own_note (record { table = b; key = k; does = write v }) (ap write_op wants) (ap touched (sym wants) ∙ touch) ∙ ap (noted_by (write v)) same)
 
     pub behind_tests : (b : ℕ) (k : List ℕ) (u : Rel) (y v : Value) (t : Bool) (r : Content × Told) → wanted ≡ effect.CondWrite b k u y v → a ≡ answer.Value (value.Bool t)
         → noted_or (shadow_of m s x) (note_at (shadow_of m s x).notes p) r ≡ (shadow_of m s x, noted (notes.Cond t))
-    behind_tests b k u y v t r wants same = noted_there (shadow_of m s x) p (notes.Cond t) r (shadow_match ∙ ap (λ z. note_of x q.func (write_op z) a) wants ∙ own (ap touched (sym wants) ∙ touch))
-      where
-        own : Some (b, k) ≡ Some o → note_of x q.func (write_op (effect.CondWrite b k u y v)) a ≡ Some (notes.Cond t)
-        own g = let f : (b, k) ≡ o = cc in subst (λ (z : ℕ × List ℕ). note_of (record { func = q.func; table = z.0; key = z.1 }) q.func (write_op (effect.CondWrite b k u y v)) a ≡ Some (notes.Cond t)) f
-            (ap (λ z. note_of (record { func = q.func; table = b; key = k }) q.func (write_op (effect.CondWrite b k u y v)) z) same ∙ ap (λ z. if is_eq z then Some (notes.Cond t) else None) (tied_itself item_total (record { func = q.func; table = b; key = k })))
+    behind_tests b k u y v t r wants same = noted_there (shadow_of m s x) p (notes.Cond t) r (shadow_match ∙ own_note (record { table = b; key = k; does = operation.cond u y v }) (ap write_op wants) (ap touched (sym wants) ∙ touch) ∙ ap (noted_by (operation.cond u y v)) same)

@@ -1,5 +1,5 @@
 -- The decision of an open transaction is its entry in the plain state, and all items are listed as that leaves them.
-use Rattle.beldi_known.proofs.Names.{AbortsAreTries, AllPlain, AllShow, AllSound, Answer, AtEnd, Bool, Cause, Commits, CommitsArePieces, Content, Deployment, FellAt, Goes, Going, HoldersInsideAreMade, InLine, Instance, IntentId, IsAbort, IsBelow, IsCommit, IsIn, IsKept, IsSound, Item, Kind, Known, List, LogMatches, Matches, Move, None, Older, OpenTx, Option, Owner, Place, PlainState, Row, Rows, Runs, ShadowShows, Shows, Some, TouchedIn, Tx, TxId, Txs, Value, [], after_sane, answered, ap, arith, at_once, begins, content_in, content_of, decision_by, decision_key, effect_of, end_of, ended_by, eq-eqb, eqb-true, false, fell, gives, goes_on, head_key, here, id_cmp, id_total, if◌then◌else◌, inl, inr, is_at, is_committed, is_eq, is_holder, is_older, is_some, is_there, is_writing, key_same, last_answer, length, length-append, line_opened, listed, listed_under, log_key, opened, others, owed_read, owed_value, pieces_are_moves, place_of, places_come_once, read_at, refl, row_at, same_some, set_row, shadow_key, slice_get, stands_there, stays, subst, sym, tied_itself, true, tx_after, tx_at, tx_begun, txs_after, txs_by, txs_pushed, value_at, value_in, value_or, with_instance, writes_on, writing_at, ℕ, ◌&&◌, ◌++◌, ◌==◌, ◌∙◌, ◌∷◌, ◌≡◌, ◌≤◌, ◌⊎◌, false_from_ne_true, tx_eq}
+use Rattle.beldi_known.proofs.Names.{AbortsAreTries, AllPlain, AllShow, AllSound, Answer, AtEnd, Bool, Cause, Commits, CommitsArePieces, Content, Deployment, FellAt, Goes, Going, HoldersInsideAreMade, InLine, Instance, IntentId, IsAbort, IsBelow, IsCommit, IsIn, IsKept, IsSound, Item, Kind, Known, List, LogMatches, Matches, Move, None, Older, OpenTx, Option, Owner, Place, PlainState, Row, Rows, Runs, ShadowShows, Shows, Some, TouchedIn, Tx, TxId, Txs, Value, [], after_sane, answered, ap, arith, at_once, begins, content_in, content_of, decision_by, decision_key, effect_of, end_of, ended_by, eq-eqb, eqb-true, false, fell, gives, goes_on, head_key, here, id_cmp, id_total, if◌then◌else◌, inl, inr, is_at, is_committed, is_eq, is_holder, is_older, is_some, is_there, is_writing, key_same, last_answer, length, length-append, line_opened, listed, listed_under, log_key, opened, others, owed_read, owed_value, pieces_are_moves, place_of, places_come_once, read_at, refl, row_at, same_some, set_row, shadow_key, slice_get, stands_there, stays, subst, sym, tied_itself, true, tx_after, tx_at, tx_begun, txs_after, txs_by, txs_pushed, value_at, value_in, value_or, with_instance, writes_on, writing_at, ℕ, ◌&&◌, ◌++◌, ◌==◌, ◌∙◌, ◌∷◌, ◌≡◌, ◌≤◌, ◌⊎◌, false_from_ne_true, tx_eq, ReleasesList}
 use Rattle.beldi_known.proofs.Names.answer
 use Rattle.beldi_known.proofs.Names.effect
 use Rattle.beldi_known.proofs.Names.entry
@@ -421,14 +421,10 @@ aborts_are_tries d m p known locked s k o is ends unlocked holders =
     subst (λ z. IsAbort d m (laws.decided m z false) p (map.insert known z.intent (goes_on d z.intent k answer.Done)) locked z k) (sym o.is) (try_made d m p known locked o.sound s.intent o.owner k o.made o.begun is unlocked false ends refl holders)
 
 -- ---- a release: the value that it leaves is the one that was listed
-pub release_lists : (m : Rows) (x : Item) (s : TxId) (v : Option Row) → (content_of m x).owner ≡ Some (Tx s) → (content_in v).owner ≡ None
-    → (content_in v).value ≡ (if is_committed (map.get m (decision_key s)) then value_in (map.get m (shadow_key s x)) (content_of m x).value else (content_of m x).value) → (y : Item) → listed (set_row m (head_key x) v) y ≡ listed m y
-release_lists m x s v owned free value y = by_item x y (λ y. listed n y ≡ listed m y)
+pub release_lists : ReleasesList
+release_lists m x s v owned free value y = let n : Rows = set_row m (head_key x) v in by_item x y (λ y. listed n y ≡ listed m y)
     (ap (λ (c : Content). listed_under n x c.owner c.value) (content_here m v x) ∙ ap (λ o. listed_under n x o (content_in v).value) free ∙ value ∙ ap (λ o. listed_under m x o (content_of m x).value) (sym owned))
     (λ other. lists_same m n y (content_apart m (head_key x) v y (turned x y other)) (λ t. elsewhere m (head_key x) v is_row_log (decision_key t) refl refl) (λ t. elsewhere m (head_key x) v is_shadow (shadow_key t y) refl refl))
-  where
-    n : Rows
-    n = set_row m (head_key x) v
 
 -- .. by how its transaction is known to have ended
 pub decision_row : (d : Deployment) (m : Rows) (known : Known) (locked : IntentId → Bool) → Matches d m known locked → (s : TxId) (k : Instance) (n : ℕ) (c : Bool) → map.get known s.intent ≡ Some k → k.func ≡ s.func → end_of d k s.begin ≡ Some (n, c) → is_committed (map.get m (decision_key s)) ≡ c

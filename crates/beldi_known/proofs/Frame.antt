@@ -1,5 +1,5 @@
 -- What an instance owes after one answer more, and after what takes no turn.
-use Rattle.beldi_known.proofs.Names.{Answer, AnswersOne, Bool, Deployment, Effect, Instance, IntentId, Item, List, None, Option, Outcome, Some, TxId, Txs, [], along_pushed, answer_at_once, answered, answered_if, answered_note, ap, append-nil, append_assoc, arith, asks_lock, at_once, at_step, body_of, commit_in, decision_by, effect_after, effect_of, end_of, ended_at, eqb-true, false, fits, fits_at, got_before, held_if, held_pushed, holds, if◌then◌else◌, is_aborted, is_at, is_item, is_on, is_some, is_tx, length, lock_note, lockset_of, moved, not, note_by, note_of, once, once_if, op_of, place_of, put, read_at, refl, row_added, row_at, shadow_at, shadow_by, slice_get, subst, sym, take, take-append-le, take-append_seam, touched, true, tx_after, tx_now, txs_after, txs_by, txs_pushed, value_for, value_or, write_op, ℕ, ◌&&◌, ◌++◌, ◌<◌, ◌==◌, ◌||◌, ◌∙◌, ◌∷◌, ◌≡◌, Owes, OwesSame, Body, Value, Note}
+use Rattle.beldi_known.proofs.Names.{Answer, AnswersOne, Bool, Deployment, Effect, Instance, IntentId, Item, List, None, Option, Outcome, Some, TxId, Txs, [], along_pushed, answer_at_once, answered, answered_if, ap, append-nil, append_assoc, arith, asks_lock, at_once, at_step, commit_in, decision_by, effect_after, effect_of, end_of, eqb-true, false, fits, fits_at, got_before, held_if, held_pushed, holds, if◌then◌else◌, is_aborted, is_at, is_item, is_on, is_some, is_tx, length, lock_note, lockset_of, moved, not, note_by, note_of, once, once_if, op_of, place_of, put, read_at, refl, row_added, row_at, shadow_by, slice_get, subst, sym, take, take-append-le, take-append_seam, touched, true, tx_after, tx_now, txs_after, txs_by, txs_pushed, value_for, value_or, write_op, ℕ, ◌&&◌, ◌++◌, ◌<◌, ◌==◌, ◌||◌, ◌∙◌, ◌∷◌, ◌≡◌, Owes, OwesSame, Body, Value, Note}
 use Rattle.beldi_known.proofs.Names.answer
 use Rattle.beldi_known.proofs.Names.effect
 use Rattle.beldi_known.proofs.Names.value

@@ -1,5 +1,5 @@
 -- What is owed at each key, after an instance was answered: it changes at that place alone.
-use Rattle.beldi_known.proofs.Names.{Answer, AnswersOne, Body, Bool, Deployment, Instance, IntentId, Item, Known, LockedOut, None, Note, Option, Place, Some, TxId, Value, ahead_by, ahead_note, answered_note, ap, asks_lock, called_by, child_of, cond, effect_after, effect_of, eq-eqb, eqb-true, false, get-insert, got_before, got_by, held_if, holds, id_cmp, id_same, id_total, if◌then◌else◌, is_aborted, is_eq, is_on, is_waited, length, not, note_by, note_or, op_of, owed_call, owed_lockset, owed_note, owed_read, owed_shadow, owed_value, place_eq, place_of, place_same, place_self, put, refl, row_added, row_at, shadow_by, subst, sym, tied_itself, true, tx_after, tx_now, txs_after, ℕ, ◌&&◌, ◌==◌, ◌||◌, ◌∙◌, ◌≡◌, LocksetMatches, ItemMatches, TxsMatch, Row, Content, Owner, is_mark, tx_end, arith, lockset_ahead}
+use Rattle.beldi_known.proofs.Names.{Answer, AnswersOne, Body, Bool, Deployment, Instance, IntentId, Item, Known, LockedOut, None, Note, Option, Place, Some, TxId, Value, ahead_by, ahead_note, answered_note, ap, asks_lock, called_by, child_of, cond, effect_after, effect_of, eq-eqb, eqb-true, false, get-insert, got_before, got_by, held_if, holds, id_cmp, id_same, id_total, if◌then◌else◌, is_aborted, is_eq, is_on, is_waited, length, not, note_by, note_or, op_of, owed_call, owed_lockset, owed_note, owed_read, owed_shadow, owed_value, place_eq, place_of, place_same, place_self, put, refl, row_added, row_at, shadow_by, subst, sym, tied_itself, true, tx_after, tx_now, txs_after, ℕ, ◌&&◌, ◌==◌, ◌||◌, ◌∙◌, ◌≡◌, LocksetMatches, ItemMatches, TxsMatch, Row, Content, Owner, is_mark, tx_end, arith, lockset_ahead, last_step, ended_at, is_decided, is_some, false_from_ne_true, and_right, Effect, ◌<◌}
 use Rattle.beldi_known.proofs.Names.map
 use Rattle.beldi_known.proofs.Names.rows
 use Rattle.beldi_known.proofs.Instances.{calls_moved, same_caller, same_callee}
@@ -58,12 +58,18 @@ module _ {X : Type 0} (known : Known) (id : IntentId) (q r : Instance) (is : map
       b.intent
 
 -- ---- an instance was answered
+-- a step that ended no transaction is no mark
+pub no_mark_at : (d : Deployment) (known : Known) (id : IntentId) (q : Instance) (n : ℕ) → map.get known id ≡ Some q → n < last_step → ended_at d q n ≡ None → is_mark d known n (map.get known id) ≡ false
+no_mark_at d known id q n is short none = ap (is_mark d known n) is ∙ ap (λ z. is_some z || (is_decided d known q.within && (n == last_step))) none
+    ∙ ap (λ z. is_decided d known q.within && z) (false_from_ne_true (n == last_step) (λ g. let k = eqb-true n last_step g in omega (arith, k, short))) ∙ and_right (is_decided d known q.within) false refl
+
+-- nothing is ahead where no lock is
+pub none_ahead : (x : Item) (f : ℕ) (t : Option TxId) (e : Effect) → ahead_by x f t e false ≡ None
+none_ahead x f None e = refl
+none_ahead x f (Some t) e = refl
+
 pub not_ahead : (d : Deployment) (x : Item) (id : IntentId) (n : ℕ) (q : Instance) → ahead_note d x id false n q ≡ None
-not_ahead d x id n q = by_tx (tx_now d id q) (n == length q.answers)
-  where
-    by_tx : (t : Option TxId) (b : Bool) → (if b then ahead_by x q.func t (effect_of d q) false else None) ≡ None
-    by_tx None b = if_same b None
-    by_tx (Some t) b = if_same b None
+not_ahead d x id n q = ap (λ o. if n == length q.answers then o else None) (none_ahead x q.func (tx_now d id q) (effect_of d q)) ∙ if_same (n == length q.answers) None
 
 pub or_no : (b : Bool) → (b || false) ≡ b
 or_no true = refl

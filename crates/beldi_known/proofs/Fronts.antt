@@ -145,11 +145,10 @@ module _ (d : Deployment) (known : Known) (locked unlocked : IntentId → Bool) 
     owed_was : (x : Item) → owed_note d x id (locked id) n (map.get known id) ≡ (if locked id then (if is_eq (item_cmp item x) then Some notes.Got else None) else None)
     owed_was x = ap (owed_note d x id (locked id) n) is ∙ ap (λ z. note_or z (if n == n then ahead_by x q.func (tx_now d id q) (effect_of d q) (locked id) else None)) (step_next (λ ts c. note_by x q.func (tx_after d id q ts) (effect_after d q ts) c) q.answers)
         ∙ ap (λ b. note_or None (if b then ahead_by x q.func (tx_now d id q) (effect_of d q) (locked id) else None)) (eq-eqb n n refl)
-        ∙ ap (λ t. ahead_by x q.func t (effect_of d q) (locked id)) inside ∙ by_bool (locked id)
-      where
-        by_bool : (b : Bool) → ahead_by x q.func (Some s) (effect_of d q) b ≡ (if b then (if is_eq (item_cmp item x) then Some notes.Got else None) else None)
-        by_bool true = ap (λ z. if is_item x q.func z then Some notes.Got else None) touch
-        by_bool false = refl
+        ∙ ap (λ t. ahead_by x q.func t (effect_of d q) (locked id)) inside ∙ elim (locked id) as (λ b. ahead_by x q.func (Some s) (effect_of d q) b ≡ (if b then (if is_eq (item_cmp item x) then Some notes.Got else None) else None)) [
+          | true ↦ ap (λ z. if is_item x q.func z then Some notes.Got else None) touch
+          | false ↦ refl
+        ]
 
     -- ---- it is answered, its lock being ahead: no plain item owes more
     module _ (was : locked id ≡ true) (lives : is_aborted a ≡ false) where

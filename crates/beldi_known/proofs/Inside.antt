@@ -11,7 +11,7 @@ use Rattle.beldi_known.proofs.Rows.{keys_set}
 use Rattle.beldi_known.proofs.Frame.{moved_one, no_shadow}
 use Rattle.beldi_known.proofs.Locks.{tx_self}
 use Rattle.beldi_known.proofs.Acts.{read_answered, write_answered, lock_died, kinds_apart, is_data, content_apart, shadow_apart, log_set, head_set}
-use Rattle.beldi_known.proofs.Cases.{if_is, if_same}
+use Rattle.beldi_known.proofs.Cases.{if_is, if_same, by_cases}
 
 module _ (d : Deployment) (known : Known) (locked unlocked : IntentId → Bool) (id : IntentId) (q : Instance) (is : map.get known id ≡ Some q) (out : LockedOut locked unlocked id)
     (s : TxId) (inside : tx_now d id q ≡ Some s) (m : Rows) (h : Matches d m known locked) (t : ℕ) (k : List ℕ) where
@@ -123,11 +123,11 @@ module _ (d : Deployment) (known : Known) (locked : IntentId → Bool) (m : Rows
   shadow_made s x v fits absent empty = let k = shadow_key s x in record {
     keys = keys_set m k v (λ l z. RowMatches d known l.home l.kind z) fits (λ l other. h.keys l);
     items = λ y. subst (ItemMatches d known locked y) (sym (content_apart m k v y (kinds_apart is_data (head_key y) k refl refl))) (h.items y);
-    shadows = λ t y a. ap (λ ns. note_at ns a) (same_notes t y (is_eq (key_cmp (shadow_key t y) k)) refl) ∙ h.shadows t y a;
+    shadows = λ t y a. ap (λ ns. note_at ns a) (same_notes t y) ∙ h.shadows t y a;
     txs = λ y. subst (λ (c : Content). TxsMatch d known locked y c.owner) (sym (content_apart m k v y (kinds_apart is_data (head_key y) k refl refl))) (h.txs y);
   }
     where
-      same_notes : (t : TxId) (y : Item) (b : Bool) → is_eq (key_cmp (shadow_key t y) (shadow_key s x)) ≡ b → (shadow_of (set_row m (shadow_key s x) v) t y).notes ≡ (shadow_of m t y).notes
-      same_notes t y true e = ap (λ r. (content_in r).notes) (row_got m (shadow_key s x) (shadow_key t y) v ∙ ap (λ b. cond b v (map.get m (shadow_key t y))) e) ∙ empty
-          ∙ sym (ap (λ r. (content_in r).notes) (ap (map.get m) (key_same (shadow_key t y) (shadow_key s x) e) ∙ absent))
-      same_notes t y false e = ap (λ (c : Content). c.notes) (shadow_apart m (shadow_key s x) v t y e)
+      same_notes : (t : TxId) (y : Item) → (shadow_of (set_row m (shadow_key s x) v) t y).notes ≡ (shadow_of m t y).notes
+      same_notes t y = by_cases (is_eq (key_cmp (shadow_key t y) (shadow_key s x)))
+          (λ e. ap (λ r. (content_in r).notes) (row_got m (shadow_key s x) (shadow_key t y) v ∙ ap (λ b. cond b v (map.get m (shadow_key t y))) e) ∙ empty ∙ sym (ap (λ r. (content_in r).notes) (ap (map.get m) (key_same (shadow_key t y) (shadow_key s x) e) ∙ absent)))
+          (λ e. ap (λ (c : Content). c.notes) (shadow_apart m (shadow_key s x) v t y e))

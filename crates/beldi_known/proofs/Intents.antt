@@ -1,5 +1,5 @@
 -- The row of an intent, over what is known: its instance is made, or ends, or only the row is set.
-use Rattle.beldi_known.proofs.Names.{Body, BodyMatches, Bool, CalleeBodyMatches, CalleeMatches, Deployment, EndsRow, FinishMatches, Instance, IntentId, IntentMatches, IntentRow, IsCalleeRow, IsRootRow, Kind, Known, Matches, None, Option, Outcome, OutcomeMatches, Place, RootMatches, Row, RowKey, Rows, Some, Value, ap, at_once, body_of, called_by, child_of, effect_of, elsewhere, ended, eq-eqb, eqb-true, false, get_set, has_ended, has_no_hops, id_exact, id_total, if◌then◌else◌, is_eq, is_some, is_waited, key_cmp, key_self, new_instance, no_root, owed_call, refl, same_some, set_row, subst, sym, true, tx_in, ℕ, ◌==◌, ◌∙◌, ◌≡◌}
+use Rattle.beldi_known.proofs.Names.{Body, BodyMatches, Bool, CalleeBodyMatches, CalleeMatches, Deployment, EndsRow, FinishMatches, Instance, IntentId, IntentMatches, IntentRow, IsCalleeRow, IsRootRow, Known, Matches, None, Option, Outcome, OutcomeMatches, Place, RootMatches, Row, RowKey, Rows, Some, Value, ap, at_once, body_of, called_by, child_of, effect_of, elsewhere, ended, eq-eqb, eqb-true, false, get_set, has_ended, has_no_hops, id_exact, id_total, if◌then◌else◌, is_eq, is_some, is_waited, key_cmp, key_self, new_instance, no_root, owed_call, refl, same_some, set_row, subst, sym, true, tx_in, ℕ, ◌==◌, ◌∙◌, ◌≡◌}
 use Rattle.beldi_known.proofs.Names.effect
 use Rattle.beldi_known.proofs.Names.kinds
 use Rattle.beldi_known.proofs.Names.map
@@ -9,6 +9,7 @@ use Rattle.beldi_known.proofs.Instances.{body_stays, intent_stays, calls_moved, 
 use Rattle.beldi_known.proofs.Sets.{OwesStill, ended_more, instance_set, row_put}
 use Rattle.beldi_known.proofs.Calls.{ended_owes, made_owes}
 use Rattle.beldi_known.proofs.Frame.{at_once_same}
+use Rattle.beldi_known.proofs.Cases.{by_cases}
 
 -- the key of an intent's row in a home
 abbrev pub own_key : ℕ → IntentId → RowKey
@@ -25,12 +26,10 @@ module _ (d : Deployment) (known : Known) (locked : IntentId → Bool) (id : Int
     own_set m r fits h = instance_set d known locked id s unlocked owes m (own_key home id) (Some (rows.Intent r)) refl
         (intent_stays (has_ended d known) (has_ended d after) (ended_more d known locked id s unlocked owes) (has_no_hops id.hops) home (Some (rows.Intent r)) (map.get after id)
         (subst (IntentMatches (has_ended d known) (has_no_hops id.hops) home (Some (rows.Intent r))) (sym (get_set id_total id_exact known id s)) fits))
-        (λ l other e g. at_home l.home (map.get m l) (l.home == home) refl (subst (λ (z : Kind). is_eq (key_cmp (record { home = l.home; kind = z }) (own_key home id)) ≡ false) e other) g)
+        (λ l other e g. by_cases (l.home == home)
+        (λ at. absurd (true_false (sym (key_self (own_key home id)) ∙ (λ i. is_eq (key_cmp (record { home = sym (eqb-true l.home home at) i; kind = sym e i }) (own_key home id))) ∙ other)))
+        (λ away. others l.home (map.get m l) away g))
         (λ l b other e. calls l.home b) h
-      where
-        at_home : (f : ℕ) (w : Option Row) (b : Bool) → (f == home) ≡ b → is_eq (key_cmp (own_key f id) (own_key home id)) ≡ false → IntentMatches (has_ended d known) (has_no_hops id.hops) f w (map.get known id) → IntentMatches (has_ended d known) (has_no_hops id.hops) f w (Some s)
-        at_home f w true e other g = let same : is_eq (key_cmp (own_key home id) (own_key home id)) ≡ false = subst (λ z. is_eq (key_cmp (own_key z id) (own_key home id)) ≡ false) (eqb-true f home e) other in absurd (true_false (sym (key_self (own_key home id)) ∙ same))
-        at_home f w false e other g = others f w e g
 
   -- a root: its row stands in the host's home, and it is nobody's callee
   pub root_set : has_no_hops id.hops ≡ true → ((f : ℕ) (b : Place) → b.intent ≡ id → called_by f (Some s) (map.get after (child_of b.intent b.step)) ≡ called_by f (map.get known id) (map.get after (child_of b.intent b.step)))

@@ -30,10 +30,7 @@ lists_same m n x content decisions shadows = lists_owned m n x (ap (λ (c : Cont
 
 -- a row of an intent or of a call changes nothing there
 pub log_lists : (m : Rows) (k : RowKey) (v : Option Row) → is_row_log k.kind ≡ true → (x : Item) → listed (set_row m k v) x ≡ listed m x
-log_lists m k v kind x = lists_same m (set_row m k v) x (content_apart m k v x (kinds_apart off (head_key x) k refl (ap not kind))) (λ t. elsewhere m k v off (decision_key t) refl (ap not kind)) (λ t. elsewhere m k v off (shadow_key t x) refl (ap not kind))
-  where
-    off : Kind → Bool
-    off z = not (is_row_log z)
+log_lists m k v kind x = let off : Kind → Bool = λ z. not (is_row_log z) in lists_same m (set_row m k v) x (content_apart m k v x (kinds_apart off (head_key x) k refl (ap not kind))) (λ t. elsewhere m k v off (decision_key t) refl (ap not kind)) (λ t. elsewhere m k v off (shadow_key t x) refl (ap not kind))
 
 -- an item that no transaction owns has its own value
 pub own_value : (m : Rows) (x : Item) → ((t : TxId) → (content_of m x).owner ≡ Some (Tx t) → ⊥) → listed m x ≡ (content_of m x).value

@@ -3,7 +3,7 @@ use Rattle.beldi_known.proofs.Names.{Bool, Content, Deployment, Got, Instance, I
 use Rattle.beldi_known.proofs.Names.map
 use Rattle.beldi_known.proofs.Names.notes
 use Rattle.beldi_known.proofs.Frame.{step_next}
-use Rattle.beldi_known.proofs.FrameAt.{known_set, one_place, not_ahead, or_no, or_none, known_same}
+use Rattle.beldi_known.proofs.FrameAt.{one_place, not_ahead, or_no, or_none, known_same}
 use Rattle.beldi_known.proofs.Cases.{by_cases, if_is}
 
 -- ---- small facts

@@ -17,7 +17,7 @@ use Rattle.beldi_known.proofs.Owns.{going, got_owned, owner_known, touched_owned
 use Rattle.beldi_known.proofs.Phases.{end_is, inside_is}
 use Rattle.beldi_known.proofs.ReadLists.{got_since, member_tx}
 use Rattle.beldi_known.proofs.Sanes.{no_callees as known_childless}
-use Rattle.beldi_known.proofs.Cases.{by_option}
+use Rattle.beldi_known.proofs.Cases.{by_option, by_cases}
 
 abbrev pub value_of : Items → Item → Value
 value_of m x = or_null (map.get m x)
@@ -289,11 +289,8 @@ module _ (d : Deployment) (m : Rows) (p : PlainState) (known : Known) (locked : 
           omega (arith, n, l, k)
 
   pub plain_none : (id : IntentId) → map.get known id ≡ None → map.get p.made id ≡ None
-  plain_none id new = none_by (map.get p.made id) (λ q made. by_begins q made (begins d q) refl)
-    where
-      by_begins : (q : Instance) → map.get p.made id ≡ Some q → (b : Bool) → begins d q ≡ b → ⊥
-      by_begins q made false e = let clash = sym (beside.same id q made e) ∙ new in cc
-      by_begins q made true e = let clash = sym (owner_known d p known sane legal id q made e (beside.begun id q made e)) ∙ new in cc
+  plain_none id new = none_by (map.get p.made id) (λ q made. by_cases (begins d q)
+      (λ e. let clash = sym (owner_known d p known sane legal id q made e (beside.begun id q made e)) ∙ new in cc) (λ e. let clash = sym (beside.same id q made e) ∙ new in cc))
 
   no_shadow : (t : TxId) (x : Item) → ((q : Instance) → map.get known t.intent ≡ Some q → length q.answers ≤ t.begin) → map.get m (shadow_key t x) ≡ None
   no_shadow t x few = none_by (map.get m (shadow_key t x)) (λ r e. nothing_got d known sane locked t x few (h.got t x (ap is_some e)))

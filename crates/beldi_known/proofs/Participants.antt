@@ -1,5 +1,5 @@
 -- Who was called in a transaction, and has no outcome, holds up its owner at a call: so at an End nobody else is inside.
-use Rattle.beldi_known.proofs.Names.{Bool, Deployment, Effect, Instance, IntentId, Item, Known, None, Option, Outcome, Sane, Some, TxId, Value, ap, arith, effect_of, end_of, ended_by, false, fits, holds, id_cmp, id_total, inl, inr, is_begin, is_eq, is_some, length, or_own, refl, same_some, sym, tied_itself, true, tx_by, tx_end, tx_now, txs_after, ℕ, ◌∙◌, ◌≡◌, ◌⊎◌}
+use Rattle.beldi_known.proofs.Names.{Bool, Deployment, Effect, Instance, IntentId, Item, Known, None, Option, Sane, Some, TxId, Value, ap, arith, effect_of, end_of, ended_by, false, fits, holds, id_cmp, id_total, inl, inr, is_begin, is_eq, is_some, length, or_own, same_some, sym, tied_itself, true, tx_by, tx_end, tx_now, txs_after, ℕ, ◌∙◌, ◌≡◌, ◌⊎◌}
 use Rattle.beldi_known.proofs.Names.effect
 use Rattle.beldi_known.proofs.Names.map
 use Rattle.beldi_known.proofs.Callers.{all_called, waits_for}

@@ -1,5 +1,5 @@
 -- Where a body is, by the answers of its instance: the Begin that is open, what was aborted since, and the locks that it holds.
-use Rattle.beldi_known.proofs.Names.{Answer, Bool, Cause, Deployment, Effect, HeldLock, Instance, IntentId, IsAnswer, Item, List, None, Option, Place, SaneInstance, Some, TxId, Txs, [], answered, ap, append-nil, append_assoc, arith, body, effect_after, effect_of, eq-eqb, eqb-true, false, false_from_ne_true, func_at, held_along, held_if, held_pushed, holds, if◌then◌else◌, inl, inr, is_eq, is_held, is_inside, is_lock, is_name, is_some, item_cmp, item_same, item_total, length, length-append, not, op_of, or_own, or_right, place_of, refl, slice_eq-Decides, slice_get, subst, suc, sym, take, take-append-le, tied_itself, true, tx_after, tx_at, tx_by, tx_now, txs_after, txs_by, txs_pushed, unsigned_Decides, without, zero, ℕ, ◌&&◌, ◌++◌, ◌<◌, ◌==◌, ◌||◌, ◌∙◌, ◌∷◌, ◌≡◌, ◌⊎◌}
+use Rattle.beldi_known.proofs.Names.{Answer, Bool, Cause, Deployment, Effect, HeldLock, Instance, IntentId, IsAnswer, Item, List, None, Option, Place, SaneInstance, Some, TxId, Txs, [], answered, ap, append-nil, append_assoc, arith, body, effect_after, effect_of, eq-eqb, eqb-true, false, false_from_ne_true, func_at, held_along, held_if, held_pushed, holds, if◌then◌else◌, inl, inr, is_eq, is_held, is_inside, is_lock, is_name, is_some, item_cmp, item_same, item_total, length, length-append, not, op_of, or_own, or_right, place_of, refl, slice_eq-Decides, slice_get, subst, suc, sym, take, take-append-le, tied_itself, true, tx_after, tx_at, tx_by, tx_now, txs_after, txs_by, txs_pushed, unsigned_Decides, without, zero, ℕ, ◌&&◌, ◌++◌, ◌<◌, ◌==◌, ◌||◌, ◌∙◌, ◌∷◌, ◌≡◌, ◌⊎◌, none_by}
 use Rattle.beldi_known.proofs.Names.answer
 use Rattle.beldi_known.proofs.Names.effect
 use Rattle.beldi_known.proofs.Names.outcome
@@ -22,11 +22,8 @@ lock_itself l = ap (λ b. b && is_name l.key l.key) (eq-eqb l.table l.table refl
 
 held_front : (t : ℕ) (k : List ℕ) (hs : List HeldLock) (l : HeldLock) → is_held t k hs ≡ true → is_held t k (hs ++ l ∷ []) ≡ true
 held_front t k [] l h = cc
-held_front t k (m ∷ ms) l h = by_test (λ g. held_front t k ms l g) (is_lock t k m) refl
-  where
-    by_test : (is_held t k ms ≡ true → is_held t k (ms ++ l ∷ []) ≡ true) → (b : Bool) → is_lock t k m ≡ b → (is_lock t k m || is_held t k (ms ++ l ∷ [])) ≡ true
-    by_test rest true e = ap (λ b. b || is_held t k (ms ++ l ∷ [])) e
-    by_test rest false e = or_right (is_lock t k m) (is_held t k (ms ++ l ∷ [])) (rest (sym (ap (λ b. b || is_held t k ms) e) ∙ h))
+held_front t k (m ∷ ms) l h = by_cases (is_lock t k m) (λ e. ap (λ b. b || is_held t k (ms ++ l ∷ [])) e)
+    (λ e. or_right (is_lock t k m) (is_held t k (ms ++ l ∷ [])) (held_front t k ms l (sym (ap (λ b. b || is_held t k ms) e) ∙ h)))
 
 held_last : (hs : List HeldLock) (l : HeldLock) → is_held l.table l.key (hs ++ l ∷ []) ≡ true
 held_last [] l = ap (λ b. b || false) (lock_itself l)
@@ -190,11 +187,7 @@ module _ (d : Deployment) (q : Instance) where
 
   -- a Begin is wanted where none is open, outside, and with no lock held ..
   pub begin_is : (given : List Answer) → effect_after d q given ≡ effect.Begin → (q.within ≡ None) × (is_some (txs_after d q given).begun ≡ false)
-  begin_is given is = let k = (here given).at_begin is in (outside q.within k.0, sym (at given).begun ∙ k.2)
-    where
-      outside : (o : Option TxId) → is_some o ≡ false → o ≡ None
-      outside None h = refl
-      outside (Some t) h = cc
+  begin_is given is = let k = (here given).at_begin is in (none_by q.within (λ t e. let clash = sym (ap is_some e) ∙ k.0 in cc), sym (at given).begun ∙ k.2)
 
   pub begin_free : (given : List Answer) → effect_after d q given ≡ effect.Begin → (x : Item) → holds d x (Some (record q { answers = given })) ≡ false
   begin_free given is x = false_from_ne_true (holds d x (Some (record q { answers = given }))) (λ e. let k = (here given).at_begin is in let z = (at given).locks k.3 x e in let none = sym (ap (is_held x.table x.key) k.1) ∙ z.1 in cc)

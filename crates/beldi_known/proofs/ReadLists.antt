@@ -1,5 +1,5 @@
 -- A row of a read decides no transaction that owns an item, so what is listed stays.
-use Rattle.beldi_known.proofs.Names.{Answer, Bool, Content, Deployment, Effect, Got, Instance, Intent, IntentId, Item, Kind, Known, List, None, Option, Owner, Place, Row, RowKey, Rows, Some, Tx, TxId, TxsMatch, [], along, and_parts, ap, append-nil, append_assoc, arith, cond, content_of, decision_key, effect_after, effect_of, false, false_from_ne_true, fits_at, got_before, got_by, head_key, if◌then◌else◌, inl, inr, is_aborted, is_begin, is_committed, is_eq, is_item, is_on, is_tx, key_cmp, key_same, length, length-append, listed, listed_under, log_key, not, or_own, place_of, refl, row_got, same_some, set_row, shadow_key, sym, touched, true, tx_after, tx_by, tx_now, txs_after, value_in, ℕ, ◌&&◌, ◌++◌, ◌<◌, ◌||◌, ◌∙◌, ◌∷◌, ◌≡◌, ◌⊎◌}
+use Rattle.beldi_known.proofs.Names.{Answer, Bool, Content, Deployment, Effect, Got, Instance, IntentId, Item, Kind, Known, List, None, Option, Place, Row, RowKey, Rows, Some, Tx, TxId, TxsMatch, [], along, and_parts, ap, append-nil, append_assoc, arith, cond, content_of, decision_key, effect_after, effect_of, false, false_from_ne_true, fits_at, got_before, got_by, head_key, if◌then◌else◌, inl, inr, is_aborted, is_begin, is_committed, is_eq, is_item, is_on, is_tx, key_cmp, key_same, length, length-append, listed, log_key, not, or_own, place_of, refl, row_got, same_some, set_row, shadow_key, sym, touched, true, tx_after, tx_by, tx_now, txs_after, value_in, ℕ, ◌&&◌, ◌++◌, ◌<◌, ◌||◌, ◌∙◌, ◌∷◌, ◌≡◌, ◌⊎◌}
 use Rattle.beldi_known.proofs.Names.effect
 use Rattle.beldi_known.proofs.Names.kinds
 use Rattle.beldi_known.proofs.Names.map

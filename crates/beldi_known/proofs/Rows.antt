@@ -1,5 +1,5 @@
 -- What is at a key after one row was set, and which keys differ.
-use Rattle.beldi_known.proofs.Names.{Bool, Equal, Greater, Item, Kind, Less, Option, Ordering, Row, RowKey, Rows, ap, cond, false, got, head_key, is_eq, item_cmp, key_cmp, key_same, key_self, nat_cmp, ordering_then, refl, root_key, set_row, slice_cmp, subst, sym, true, ℕ, ◌∙◌, ◌≡◌}
+use Rattle.beldi_known.proofs.Names.{Bool, Equal, Item, Kind, Less, Option, Ordering, Row, RowKey, Rows, ap, cond, false, got, head_key, is_eq, item_cmp, key_cmp, key_same, key_self, nat_cmp, ordering_then, refl, root_key, set_row, slice_cmp, subst, sym, true, ℕ, ◌∙◌, ◌≡◌}
 use Rattle.beldi_known.proofs.Names.kinds
 use Rattle.beldi_known.proofs.Names.map
 

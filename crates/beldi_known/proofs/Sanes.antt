@@ -1,5 +1,5 @@
 -- All that is known stays sane: move by move.
-use Rattle.beldi_known.proofs.Names.{Answer, Bool, CalledBy, Caller, Cause, Closed, Deployment, Effect, Instance, IntentId, IsAlone, IsAnswer, IsCalled, IsDeath, Known, List, None, OnItem, Option, Outcome, Place, Rel, Sane, SaneInstance, Some, TxId, Value, [], answer_after, answer_at_once, answer_given, answer_of, answered, ap, arith, at_once, both_set, call_of, callee_answered, callee_ended, callee_new, callee_of, callee_over, callee_sent, caller_answered, caller_ended, calls_at, child_of, child_same, effect_before, effect_now, effect_of, effect_past, ended, false, has_no_hops, inl, inr, is_some, is_waited, length, longer_cases, made_set, moved, new_instance, next_step, no_root, none_by, not_root, once, op_of, operation_answers, operation_is_no_call, option_map, pairs_set, place_of, refl, root_of, same_some, slice_get, still_made, subst, sym, touched, true, tx_at, tx_here_now, tx_now, ℕ, ◌<◌, ◌∙◌, ◌≡◌}
+use Rattle.beldi_known.proofs.Names.{Answer, Bool, CalledBy, Caller, Cause, Closed, Deployment, Effect, Instance, IntentId, IsAlone, IsAnswer, IsCalled, IsDeath, Known, List, None, Option, Outcome, Place, Rel, Sane, SaneInstance, Some, TxId, Value, [], answer_at_once, answer_given, answer_of, answered, ap, arith, at_once, both_set, call_of, callee_answered, callee_ended, callee_new, callee_of, callee_over, callee_sent, caller_answered, caller_ended, calls_at, child_of, child_same, effect_before, effect_now, effect_of, effect_past, ended, false, has_no_hops, inl, inr, is_some, is_waited, length, longer_cases, made_set, moved, new_instance, next_step, no_root, none_by, not_root, once, option_map, pairs_set, place_of, refl, root_of, same_some, slice_get, still_made, subst, sym, touched, true, tx_at, tx_here_now, tx_now, ℕ, ◌<◌, ◌∙◌, ◌≡◌}
 use Rattle.beldi_known.proofs.Names.answer
 use Rattle.beldi_known.proofs.Names.effect
 use Rattle.beldi_known.proofs.Names.map

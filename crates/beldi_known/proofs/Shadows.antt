@@ -29,8 +29,7 @@ writing_more d locked after x i None f e = e
 writing_more d locked after x i (Some k) f e = by_lock (locked i) (after i) (writes_on x k.func (effect_of d k)) f e
   where
     by_lock : (l r w : Bool) → (l ≡ true → r ≡ true) → (l && w) ≡ true → (r && w) ≡ true
-    by_lock true r w g e = ap (λ z. z && w) (g refl) ∙ e
-    by_lock false r w g e = cc
+    by_lock l r w g e = grind arith
 
 -- ---- a row of a shadow is set
 module _ (m : Rows) (t : TxId) (x : Item) (v : Option Row) where

@@ -1,5 +1,5 @@
 -- An open transaction goes on: by an answer to the one that can step, by a call of it, or by its return; and by what takes no turn.
-use Rattle.beldi_known.proofs.Names.{Answer, Bool, Caller, Cause, Deployment, Effect, FinMap, Going, Instance, IntentId, IsIn, Items, Known, List, Move, None, OpenTx, Option, Outcome, PlainState, Some, TxId, Value, [], aborted, all_in, answer_at_once, answer_by, answer_of, answered, answered_on, answers_so, ap, at_once, begins, callee_in, callee_of, calls_at, calls_so, child_of, child_same, cond, dies_at, effect_of, ended, false, fell, get-insert, gone_on, has_callees, here, id_cmp, id_total, if◌then◌else◌, inl, inr, is_eq, is_some, items_by, last_of, length, made_set, new_member, once, opened, place_of, plain, refl, returned, returns_so, same_some, set_alike, subst, sym, true, tx_begun, with_member, ℕ, ◌++◌, ◌∙◌, ◌∷◌, ◌≡◌}
+use Rattle.beldi_known.proofs.Names.{Answer, Caller, Cause, Deployment, Effect, FinMap, Going, Instance, IntentId, IsIn, Items, Known, List, Move, None, OpenTx, Outcome, PlainState, Some, TxId, Value, [], aborted, all_in, answer_at_once, answer_by, answer_of, answered, answered_on, answers_so, ap, at_once, begins, callee_in, callee_of, calls_at, calls_so, child_of, child_same, cond, dies_at, effect_of, ended, false, fell, get-insert, gone_on, has_callees, here, id_cmp, id_total, if◌then◌else◌, inl, inr, is_eq, is_some, items_by, last_of, length, new_member, once, opened, place_of, plain, refl, returned, returns_so, same_some, set_alike, subst, sym, true, tx_begun, with_member, ℕ, ◌++◌, ◌∙◌, ◌∷◌, ◌≡◌}
 use Rattle.beldi_known.proofs.Names.answer
 use Rattle.beldi_known.proofs.Names.effect
 use Rattle.beldi_known.proofs.Names.map

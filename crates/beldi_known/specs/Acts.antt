@@ -59,11 +59,6 @@ abbrev pub put_lockset : Option Row → Option Row × Bool
 put_lockset None = (Some rows.Lockset, true)
 put_lockset (Some r) = (Some r, false)
 
-abbrev pub keep_value : Value → Option Row → Option Row × Option Value
-keep_value v None = (Some (rows.ReadLog v), None)
-keep_value v (Some (rows.ReadLog w)) = (Some (rows.ReadLog w), Some w)
-keep_value v (Some r) = (Some r, None)
-
 -- ---- what a run reads in what it was told of its lock: that it died
 abbrev pub lock_answer : Place → Told → Option Answer
 lock_answer p (noted (notes.Died h)) = Some (answer.Aborted (record { place = p; holder = Some h }))
