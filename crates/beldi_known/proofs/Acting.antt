@@ -1,5 +1,5 @@
 -- Each act inside an open transaction, among all others: what shadows show is kept, and what is known stays beside the plain state.
-use Rattle.beldi_known.proofs.Names.{AllGot, AllShow, Answer, Bool, CallsGo, Cause, DeathsGo, Deployment, Effect, FirstRowsGo, Goes, Got, Instance, IntentId, IsAnswer, IsFront, IsIn, IsSound, Item, Items, Known, Line, List, LockedOut, Move, None, OnItem, OpenTx, Option, Outcome, PlainState, ReadsGo, Rel, ReturnsGo, Row, RowKey, Rows, RowsGo, Sane, ShadowShows, Shadows, Shows, Some, TestsGo, Tx, TxId, Txs, Value, WritesGo, aborted, and_right, answer_by, answer_inside, answer_of, ap, at_once, begins, callee_in, callee_of, calls_at, child_of, child_same, cond, content_in, did, effect_of, elsewhere, end_of, ended, ended_by, equal, false, fell, got_before, got_by, has_callees, head_key, id_cmp, id_total, if◌then◌else◌, inl, inr, is_aborted, is_edge, is_eq, is_item, is_on, is_some, is_writing, item_cmp, item_in, item_of, item_total, items_after, items_by, length, log_key, made_set, moved, new_member, none_below, none_by, not_own, not_owner, op_of, or_null, or_old, or_own, passes, place_of, plain, plain_set, refl, same_some, sane_with, set_row, sets, shadow_key, shadow_of, subst, sym, test_on, tested, tied_itself, touched, true, tx_begun, tx_by, tx_end, tx_now, txs_after, txs_by, value_at, value_in, write, write_on, writes_on, writing_at, ℕ, ◌&&◌, ◌∙◌, ◌≡◌, ◌⊎◌, false_from_ne_true, or_right, eq_by_cmp_equiv}
+use Rattle.beldi_known.proofs.Names.{AllGot, AllShow, Answer, Bool, CallsGo, Cause, DeathsGo, Deployment, Effect, FirstRowsGo, Goes, Got, Instance, IntentId, IsAnswer, IsFront, IsIn, IsSound, Item, Items, Known, Line, List, LockedOut, Move, None, OnItem, OpenTx, Option, Outcome, PlainState, ReadsGo, Rel, ReturnsGo, Row, RowKey, Rows, RowsGo, Sane, ShadowShows, Shadows, Shows, Some, TestsGo, Tx, TxId, Txs, Value, WritesGo, aborted, and_right, answer_by, answer_inside, answer_of, ap, at_once, begins, callee_in, callee_of, calls_at, child_of, child_same, cond, content_in, did, effect_of, elsewhere, end_of, ended, ended_by, equal, false, fell, got_before, got_by, has_callees, head_key, id_cmp, id_total, if◌then◌else◌, inl, inr, is_aborted, is_edge, is_eq, is_item, is_on, is_some, is_writing, item_cmp, item_in, item_of, item_total, items_after, items_by, length, log_key, made_set, moved, new_member, none_by, not_own, not_owner, op_of, or_null, or_old, or_own, passes, place_of, plain, plain_set, refl, same_some, set_row, sets, shadow_key, shadow_of, subst, sym, test_on, tested, tied_itself, touched, true, tx_begun, tx_by, tx_end, tx_now, txs_after, txs_by, value_at, value_in, write, write_on, writes_on, writing_at, ℕ, ◌&&◌, ◌∙◌, ◌≡◌, ◌⊎◌, false_from_ne_true, or_right, eq_by_cmp_equiv}
 use Rattle.beldi_known.proofs.Names.answer
 use Rattle.beldi_known.proofs.Names.effect
 use Rattle.beldi_known.proofs.Names.map
@@ -13,7 +13,7 @@ use Rattle.beldi_known.proofs.AtOnce.{origin_stays}
 use Rattle.beldi_known.proofs.Frame.{at_once_same, moved_one}
 use Rattle.beldi_known.proofs.FrameAt.{known_set}
 use Rattle.beldi_known.proofs.Callers.{caller_in, waits_for}
-use Rattle.beldi_known.proofs.Lines.{alone, alone_callee, called_in, front_in_tx, front_is, in_tx, known_line, member_is, owner_outside, set_cases}
+use Rattle.beldi_known.proofs.Lines.{alone, alone_callee, called_in, front_in_tx, front_is, in_tx, known_line, member_is, owner_outside, set_cases, owner_alone}
 use Rattle.beldi_known.proofs.Lists.{elsewhere as row_elsewhere}
 use Rattle.beldi_known.proofs.Locks.{tx_self}
 use Rattle.beldi_known.proofs.Owns.{not_ended, seen, unwritten}
@@ -56,16 +56,11 @@ module _ (d : Deployment) (m : Rows) (p : PlainState) (known : Known) (locked : 
   abbrev other_tx : (j : IntentId) (y : Instance) → map.get p.made j ≡ Some y → begins d y ≡ true → OpenTx d p known j y
   other_tx j y there c = (h.shadows.shows j y there c).tx
 
-  -- of the plain state it has its owner alone
-  owner_alone : (k : IntentId) (z : Instance) → IsIn (tx_begun o q) k → map.get p.made k ≡ Some z → k ≡ o
-  owner_alone k z (inl own) is = own
-  owner_alone k z (inr below) is = let clash = sym is ∙ none_below d p.made (sane_with d p h.plain_sane) o q k made below in cc
-
   changed_one : (f : Known) (k : IntentId) (z : Instance) → IsIn (tx_begun o q) k → Others d p o (λ u. IsIn u k → ⊥)
       → ((n : ℕ) → end_of d z n ≡ ended_by d n (map.get f k)) → ((k ≡ o) ⊎ (z.within ≡ Some (tx_begun o q))) → Changed d p f (map.insert f k z) o q
   changed_one f k z k_in out ends role = record {
     others = λ j y there c apart i is_in. elsewhere f k i z (λ same. out j y there c apart (subst (IsIn (tx_begun j y)) (sym same) is_in));
-    plainly = λ i u is apart. elsewhere f k i z (λ same. apart (sym same ∙ owner_alone k u k_in (ap (map.get p.made) same ∙ is)));
+    plainly = λ i u is apart. elsewhere f k i z (λ same. apart (sym same ∙ owner_alone d p h.plain_sane o q made k u k_in (ap (map.get p.made) same ∙ is)));
     kept = λ i u gone has. elim (set_cases f k i z u has) [
       | inl same ↦ elim role [
         | inl own ↦ let clash = sym made ∙ ap (map.get p.made) (sym own ∙ sym same.0) ∙ gone in cc

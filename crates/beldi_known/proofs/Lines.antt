@@ -54,6 +54,11 @@ set_cases f k i s w has = let found = λ (b : Bool) (e : is_eq (id_cmp i k) ≡ 
     (λ e. inl (equal i k e, same_some (found true e)))
     (λ e. inr (λ same. let c = sym e ∙ ap (λ z. is_eq (id_cmp z k)) same ∙ ap is_eq (tied_itself id_total k) in cc, found false e))
 
+-- of the plain state an open transaction has its owner alone
+pub owner_alone : (d : Deployment) (p : PlainState) → plain.Sane d p → (id : IntentId) (q : Instance) → map.get p.made id ≡ Some q → (i : IntentId) (z : Instance) → IsIn (tx_begun id q) i → map.get p.made i ≡ Some z → i ≡ id
+owner_alone d p legal id q made i z (inl own) is = own
+owner_alone d p legal id q made i z (inr below) is = let clash = sym is ∙ none_below d p.made (sane_with d p legal) id q i made below in cc
+
 -- ---- members
 -- the owner, as it stood at its Begin but for its answers: it is begun
 pub record OwnerNow (d : Deployment) (t : TxId) (q z : Instance) : Type 0 where
@@ -209,12 +214,8 @@ module _ (d : Deployment) (p : PlainState) (known : Known) (sane : plain.Sane d 
       below = λ h. let clash = sym made ∙ ap (map.get p.made) (sym same.0) ∙ none_below d p.made good id q i made h in cc;
       above = λ none. subst (Above i) same.0 (above_self i);
     })
-    | inr other ↦ absurd (none_there is_in other.0 other.1)
+    | inr other ↦ absurd (other.0 (owner_alone d p sane id q made i z is_in other.1))
   ]
-    where
-      none_there : IsIn (tx_begun id q) i → (i ≡ id → ⊥) → map.get p.made i ≡ Some z → ⊥
-      none_there (inl own) apart is = apart own
-      none_there (inr h) apart is = let clash = sym is ∙ none_below d p.made good id q i made h in cc
 
   pub member : (i : IntentId) (z : Instance) → IsIn (tx_begun id q) i → map.get known i ≡ Some z → Member d (tx_begun id q) q tx.going.front i z
   member i z is_in is = members_led d this q (opened p id q) tx.moves tx.going (line_opened d p id q (begins_parts d q b).0) at_first tx.leads i z is_in (sym (tx.whole i is_in) ∙ is)

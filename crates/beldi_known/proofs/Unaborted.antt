@@ -1,5 +1,5 @@
 -- Who was called in a transaction returns an abort only where it was told one; so where all moves were plain steps, nobody was.
-use Rattle.beldi_known.proofs.Names.{AllPlain, Answer, Bindings, Bool, Cause, Code, Command, Commands, Deployment, Does, Effect, Err, Going, HeldLock, InLine, Instance, IntentId, IsIn, Leads, LeadsTo, List, Local, Move, MoveIs, None, Null, Ok, Option, Outcome, PlainState, Result, Some, TableHead, TxId, [], abort, all_in, and_then, answer_of, answer_to, answered, answers, ap, arith, asks, async, body, break, breaks, call, callee_of, calls, calls_at, choose, command, condwrite, counted, does, effect_to, ended, ends, false, fault, first_local, followed, func_at, func_number, goes, id_total, if◌then◌else◌, inl, inr, is_aborted, is_eq, is_held, is_some, key_value, last_answer, length, line_moved, lock, locks, looped, most_effects, move_is, mover, nat_lt, new_member, no_commands, opened, or_fault, plain, read, refl, releases, repeat, return, returned, returns, run_block, same_some, set, set_to, slice_get, subst, suc, sym, table_number, tables_of, takes, term_value, tied_itself, transaction, true, truth, turns, tx_begun, unlock, unlocks, without, zero, ℕ, ◌++◌, ◌+◌, ◌∙◌, ◌∷◌, ◌≡◌, ◌⊎◌}
+use Rattle.beldi_known.proofs.Names.{AllPlain, Answer, Bindings, Bool, Cause, Code, Command, Commands, Deployment, Does, Effect, Err, Going, HeldLock, InLine, Instance, IntentId, IsIn, Leads, LeadsTo, List, Local, Move, MoveIs, None, Null, Ok, Option, Outcome, PlainState, Result, Some, TableHead, TxId, [], abort, all_in, and_then, answer_of, answer_to, answered, answers, ap, asks, async, body, break, breaks, call, callee_of, calls, calls_at, choose, command, condwrite, counted, does, effect_to, ended, ends, false, fault, first_local, followed, func_at, func_number, goes, id_total, if◌then◌else◌, inl, inr, is_aborted, is_eq, is_held, is_some, key_value, last_answer, line_moved, lock, locks, looped, most_effects, move_is, mover, nat_lt, new_member, no_commands, opened, or_fault, plain, read, refl, releases, repeat, return, returned, returns, run_block, same_some, set, set_to, slice_get, subst, suc, sym, table_number, tables_of, takes, term_value, tied_itself, transaction, true, truth, turns, tx_begun, unlock, unlocks, without, zero, ℕ, ◌++◌, ◌+◌, ◌∙◌, ◌∷◌, ◌≡◌, ◌⊎◌}
 use Rattle.beldi_known.proofs.Names.answer
 use Rattle.beldi_known.proofs.Names.code
 use Rattle.beldi_known.proofs.Names.effect
@@ -12,8 +12,7 @@ use Rattle.beldi_plain.specs.Moves.{moved}
 use Rattle.beldi_plain.specs.Piece.{is_owner}
 use Rattle.beldi_order.specs.Sane as plain_sane
 use Rattle.beldi_known.proofs.Falls.{last_is}
-use Rattle.beldi_known.proofs.Lines.{set_cases}
-use Rattle.beldi_known.proofs.Outsides.{plain_none_after}
+use Rattle.beldi_known.proofs.Lines.{set_cases, owner_alone}
 use Rattle.beldi_known.proofs.Owns.{plain_lives}
 
 -- its releases return what it was left by
@@ -234,9 +233,5 @@ owner_lives d p legal id q made moves l line plains leads k is c told = elim (li
     at_first : AllLive d (tx_begun id q) (opened p id q)
     at_first i z is_in has = elim (set_cases p.made id i (answered q answer.Done) z has) [
       | inl same ↦ inl (same.0, λ c is. let clash = ap is_aborted (same_some (sym (last_is q.answers answer.Done) ∙ ap (λ (y : Instance). last_answer y.answers) same.1 ∙ is)) in cc)
-      | inr other ↦ absurd (elsewhere_none is_in other.0 other.1)
+      | inr other ↦ absurd (other.0 (owner_alone d p legal id q made i z is_in other.1))
     ]
-      where
-        elsewhere_none : IsIn (tx_begun id q) i → (i ≡ id → ⊥) → map.get p.made i ≡ Some z → ⊥
-        elsewhere_none (inl own) apart there = apart own
-        elsewhere_none (inr b) apart there = let clash = sym there ∙ plain_none_after d p legal (tx_begun id q) (λ y same. let l = ap (λ (w : Instance). length w.answers) (same_some (sym same ∙ made)) in omega (arith, l)) i b in cc
