@@ -1,5 +1,5 @@
 -- The decision of an open transaction is its entry in the plain state, and all items are listed as that leaves them.
-use Rattle.beldi_known.proofs.Names.{AbortsAreTries, AllPlain, AllShow, AllSound, Answer, AtEnd, Bool, Cause, Commits, CommitsArePieces, Content, Deployment, FellAt, Goes, Going, HoldersInsideAreMade, InLine, Instance, IntentId, IsAbort, IsBelow, IsCommit, IsIn, IsKept, IsSound, Item, Kind, Known, List, LogMatches, Matches, Move, None, Older, OpenTx, Option, Owner, Place, PlainState, Row, Rows, Runs, ShadowShows, Shows, Some, TouchedIn, Tx, TxId, Txs, Value, [], after_sane, answered, ap, arith, at_once, begins, content_in, content_of, decision_by, decision_key, effect_of, end_of, ended_by, eq-eqb, eqb-true, false, fell, gives, goes_on, head_key, here, id_cmp, id_total, if◌then◌else◌, inl, inr, is_at, is_committed, is_eq, is_holder, is_older, is_some, is_there, is_writing, key_same, last_answer, length, length-append, line_opened, listed, listed_under, log_key, opened, others, owed_read, owed_value, pieces_are_moves, place_of, places_come_once, read_at, refl, row_at, same_some, set_row, shadow_key, slice_get, stands_there, stays, subst, sym, tied_itself, true, tx_after, tx_at, tx_begun, txs_after, txs_by, txs_pushed, value_at, value_in, value_or, with_instance, writes_on, writing_at, ℕ, ◌&&◌, ◌++◌, ◌==◌, ◌∙◌, ◌∷◌, ◌≡◌, ◌≤◌, ◌⊎◌, false_from_ne_true, tx_eq, ReleasesList}
+use Rattle.beldi_known.proofs.Names.{AbortsAreTries, AllPlain, AllShow, AllSound, Answer, AtEnd, Bool, Cause, Commits, CommitsArePieces, Content, Deployment, FellAt, Goes, Going, HoldersInsideAreMade, InLine, Instance, IntentId, IsAbort, IsBelow, IsCommit, IsIn, IsKept, IsSound, Item, Kind, Known, List, LogMatches, Matches, Move, None, Older, OpenTx, Option, Owner, Place, PlainState, Row, Rows, Runs, ShadowShows, Shows, Some, TouchedIn, Tx, TxId, Txs, Value, [], after_sane, answered, ap, arith, at_once, begins, content_in, content_of, decision_by, decision_key, effect_of, end_of, ended_by, eq-eqb, eqb-true, false, fell, gives, goes_on, head_key, here, id_cmp, id_total, if◌then◌else◌, inl, inr, is_at, is_committed, is_eq, is_holder, is_older, is_some, is_there, is_writing, key_same, last_answer, length, length-append, line_opened, listed, listed_under, log_key, opened, others, owed_read, owed_value, pieces_are_moves, place_of, places_come_once, read_at, refl, row_at, same_some, set_row, shadow_key, slice_get, stands_there, stays, subst, sym, tied_itself, true, tx_after, tx_at, tx_begun, txs_after, txs_by, txs_pushed, value_at, value_in, value_or, with_instance, writes_on, writing_at, ℕ, ◌&&◌, ◌++◌, ◌==◌, ◌∙◌, ◌∷◌, ◌≡◌, ◌≤◌, ◌⊎◌, false_from_ne_true, tx_eq, ReleasesList, LeadsTo}
 use Rattle.beldi_known.proofs.Names.answer
 use Rattle.beldi_known.proofs.Names.effect
 use Rattle.beldi_known.proofs.Names.entry
@@ -16,6 +16,7 @@ use Rattle.beldi_known.proofs.Falls.{Fell, cause_of, later_is}
 use Rattle.beldi_known.proofs.Frame.{moved_one}
 use Rattle.beldi_known.proofs.FrameAt.{known_set}
 use Rattle.beldi_known.proofs.Callers.{called_below}
+use Rattle.beldi_plain.specs.Moves.{FallsSo}
 use Rattle.beldi_known.proofs.Lines.{OwnerNow, front_is, member, outside}
 use Rattle.beldi_known.proofs.Lists.{elsewhere, lists_same, is_log as is_row_log, lists_owned}
 use Rattle.beldi_known.proofs.Members.{in_or_out}
@@ -308,35 +309,38 @@ module _ (d : Deployment) (m : Rows) (p : PlainState) (known : Known) (locked : 
     stands_so : (s : Going) (z : Instance) → map.get s.state.made s.front ≡ Some z → is_there (place_of s.front (length z.answers)) s ≡ true
     stands_so s z there = ap (stands_there (place_of s.front (length z.answers)) s) there ∙ (λ i. is_eq (tied_itself id_total s.front i) && eq-eqb (length z.answers) (length z.answers) refl i)
 
+    -- the try of who stands there, by what led there and what followed
+    try_at : (holder : Option IntentId) (before : List Move) (there : Going) (z : Instance) → map.get there.state.made there.front ≡ Some z → LeadsTo d t (opened p id q) before there → AllPlain before → is_holder p id holder ≡ true → (since : List Move) → LeadsTo d t there since tx.going → FallsSo holder since
+        → ((x : Item) → TouchedIn d t (opened p id q) before x → TouchedIn d t (opened p id q) tx.moves x) → FellAt id (length k.answers) (last_answer k.answers) (place_of there.front (length z.answers)) holder → Tries
+    try_at holder before there z stood led plainly old since leads falls touches fell_there = let place = place_of there.front (length z.answers) in record {
+      place = place;
+      holder = holder;
+      aborts = record {
+        instance = q;
+        before = before;
+        there = there;
+        runs = record { made = made; open_still = (begins_parts d q b).0; begins = (begins_parts d q b).1; leads = led };
+        plainly = plainly;
+        first = places_come_once d t place (opened p id q) before there at_start led (stands_so there z stood);
+        stands = stands_so there z stood;
+        older = old;
+        since = since;
+        last = tx.going;
+        leads = leads;
+        falls = falls;
+        ends = end_there;
+        is = refl;
+      };
+      touched = λ x on. owns x (touches x on);
+      fell = fell_there;
+      lists = abort_lists;
+      goes = goes;
+    }
+
     -- a fault led to the End
     by_fault : AllPlain tx.moves → Tries
-    by_fault plainly =
-        let place = place_of tx.going.front (length k.answers) in
-        let stands = stands_so tx.going k at_front in
-        record {
-          place = place;
-          holder = None;
-          aborts = record {
-            instance = q;
-            before = tx.moves;
-            there = tx.going;
-            runs = runs;
-            plainly = plainly;
-            first = places_come_once d t place (opened p id q) tx.moves tx.going at_start tx.leads stands;
-            stands = stands;
-            older = refl;
-            since = [];
-            last = tx.going;
-            leads = refl;
-            falls = refl;
-            ends = end_there;
-            is = refl;
-          };
-          touched = owns;
-          fell = by_last (last_answer k.answers) (λ e. owner_lives d p h.plain_sane id q made tx.moves tx.going at_start plainly tx.leads k (sym (tx.whole id (inl refl)) ∙ is) e);
-          lists = abort_lists;
-          goes = goes;
-        }
+    by_fault plainly = try_at None tx.moves tx.going k at_front tx.leads plainly refl [] refl refl (λ x on. on)
+        (by_last (last_answer k.answers) (λ e. owner_lives d p h.plain_sane id q made tx.moves tx.going at_start plainly tx.leads k (sym (tx.whole id (inl refl)) ∙ is) e))
       where
         by_last : (o : Option Answer) → ((e : Cause) → o ≡ Some (answer.Aborted e) → ⊥) → FellAt id (length k.answers) o (place_of tx.going.front (length k.answers)) None
         by_last (Some (answer.Aborted e)) none = absurd (none e refl)
@@ -344,33 +348,9 @@ module _ (d : Deployment) (m : Rows) (p : PlainState) (known : Known) (locked : 
 
     -- or something was aborted
     by_fall : Fell d t q (own d p known h.sane h.plain_sane id q made b tx) refl (opened p id q) tx.moves tx.going → Tries
-    by_fall f =
-        let place = place_of f.there.front (length f.faller.answers) in
-        let stands = stands_so f.there f.faller f.made in
-        record {
-          place = place;
-          holder = f.holder;
-          aborts = record {
-            instance = q;
-            before = f.before;
-            there = f.there;
-            runs = record { made = made; open_still = (begins_parts d q b).0; begins = (begins_parts d q b).1; leads = f.to };
-            plainly = f.plainly;
-            first = places_come_once d t place (opened p id q) f.before f.there at_start f.to stands;
-            stands = stands;
-            older = by_holder f.holder refl;
-            since = fell f.holder ∷ f.since;
-            last = tx.going;
-            leads = f.from;
-            falls = (refl, f.upwards);
-            ends = end_there;
-            is = refl;
-          };
-          touched = λ x on. owns x (subst (λ ms. TouchedIn d t (opened p id q) ms x) (sym f.whole) (touched_more (opened p id q) f.before x on));
-          fell = subst (λ o. FellAt id (length k.answers) o place f.holder) (sym told) (refl, refl);
-          lists = abort_lists;
-          goes = goes;
-        }
+    by_fall f = try_at f.holder f.before f.there f.faller f.made f.to f.plainly (by_holder f.holder refl) (fell f.holder ∷ f.since) f.from (refl, f.upwards)
+        (λ x on. subst (λ ms. TouchedIn d t (opened p id q) ms x) (sym f.whole) (touched_more (opened p id q) f.before x on))
+        (subst (λ o. FellAt id (length k.answers) o (place_of f.there.front (length f.faller.answers)) f.holder) (sym told) (refl, refl))
       where
         touched_more : (s : Going) (ms : List Move) (x : Item) → TouchedIn d (tx_begun id q) s ms x → TouchedIn d (tx_begun id q) s (ms ++ fell f.holder ∷ f.since) x
         touched_more s [] x on = absurd on
