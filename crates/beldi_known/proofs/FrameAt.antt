@@ -1,5 +1,5 @@
 -- What is owed at each key, after an instance was answered: it changes at that place alone.
-use Rattle.beldi_known.proofs.Names.{Answer, AnswersOne, Body, Bool, Deployment, Instance, IntentId, Item, Known, LockedOut, None, Note, Option, Place, Some, TxId, Value, ahead_by, ahead_note, answered_note, ap, asks_lock, called_by, child_of, cond, effect_after, effect_of, eq-eqb, eqb-true, false, get-insert, got_before, got_by, held_if, holds, id_cmp, id_same, id_total, if◌then◌else◌, is_aborted, is_eq, is_on, is_waited, length, not, note_by, note_or, op_of, owed_call, owed_lockset, owed_note, owed_read, owed_shadow, owed_value, place_eq, place_of, place_same, place_self, put, refl, row_added, row_at, shadow_by, subst, sym, tied_itself, true, tx_after, tx_now, txs_after, ℕ, ◌&&◌, ◌==◌, ◌||◌, ◌∙◌, ◌≡◌, LocksetMatches, ItemMatches, TxsMatch, Row, Content, Owner, is_mark, tx_end, arith, lockset_ahead, last_step, ended_at, is_decided, is_some, false_from_ne_true, and_right, Effect, ◌<◌}
+use Rattle.beldi_known.proofs.Names.{Answer, AnswersOne, Body, Bool, Deployment, Instance, IntentId, Item, Known, LockedOut, None, Note, Option, Place, Some, TxId, Value, ahead_by, ahead_note, answered_note, ap, asks_lock, called_by, child_of, cond, effect_after, effect_of, eq-eqb, eqb-true, false, get-insert, got_before, got_by, held_if, holds, id_cmp, id_same, id_total, if◌then◌else◌, is_aborted, is_eq, is_on, is_waited, length, not, note_by, note_or, op_of, owed_call, owed_lockset, owed_note, owed_read, owed_shadow, owed_value, place_eq, place_of, place_same, place_self, put, refl, row_added, row_at, shadow_by, subst, sym, tied_itself, true, tx_after, tx_now, txs_after, ℕ, ◌&&◌, ◌==◌, ◌||◌, ◌∙◌, ◌≡◌, LocksetMatches, ItemMatches, TxsMatch, Row, Content, Owner, is_mark, tx_end, arith, lockset_ahead, last_step, ended_at, is_decided, is_some, false_from_ne_true, and_right, Effect, ◌<◌, is_open, is_none, begins_at, is_item, touched}
 use Rattle.beldi_known.proofs.Names.map
 use Rattle.beldi_known.proofs.Names.rows
 use Rattle.beldi_known.proofs.Instances.{calls_moved, same_caller, same_callee}
@@ -41,6 +41,24 @@ module _ (d : Deployment) (known after : Known) (locked unlocked : IntentId → 
     owned_is_got = λ t e. let g = h.owned_is_got t e in record { member = g.member; got = got t g.member ∙ g.got };
     got_is_owned = λ t g open_still. h.got_is_owned t (record { member = g.member; got = sym (got t g.member) ∙ g.got }) (ends t open_still);
   }
+
+-- where transactions have ended as before, marks are as before, and what is ahead
+module _ (d : Deployment) (known after : Known) (ends : (t : TxId) → tx_end d after t ≡ tx_end d known t) where
+  pub decided_alike : (t : Option TxId) → is_decided d after t ≡ is_decided d known t
+  decided_alike None = refl
+  decided_alike (Some t) = ap is_some (ends t)
+
+  open_alike : (t : Option TxId) → is_open d after t ≡ is_open d known t
+  open_alike None = refl
+  open_alike (Some t) = ap (λ z. not (is_some z)) (ends t)
+
+  pub mark_alike : (n : ℕ) (o : Option Instance) → is_mark d after n o ≡ is_mark d known n o
+  mark_alike n None = refl
+  mark_alike n (Some z) = ap (λ c. is_some (ended_at d z n) || (c && (n == last_step))) (decided_alike z.within)
+
+  pub ahead_alike : (b : ℕ) (x : Item) (i : IntentId) (o : Option Instance) → lockset_ahead d after b x i o ≡ lockset_ahead d known b x i o
+  ahead_alike b x i None = refl
+  ahead_alike b x i (Some z) = ap (λ u. is_none z.outcome && (u && (begins_at b (tx_now d i z) && is_item x z.func (touched (effect_of d z))))) (open_alike (tx_now d i z))
 
 -- ---- a table by places, of which an instance changed one step
 module _ {X : Type 0} (known : Known) (id : IntentId) (q r : Instance) (is : map.get known id ≡ Some q) (F G : IntentId → ℕ → Option Instance → X)

@@ -1,5 +1,5 @@
 -- The acts at the front that answer an operation inside, or die, or decide.
-use Rattle.beldi_known.proofs.Names.{Answer, AnswersOne, Bool, Content, Deployment, Effect, Instance, Intent, IntentId, IntentMatches, Item, ItemMatches, Known, List, LockedOut, LocksetMatches, None, Note, Option, Owner, Place, Row, ShadowMatches, Some, TxId, Txs, TxsMatch, Value, [], ahead_by, and_right, ap, asks_lock, begins_at, commit_in, effect_after, effect_of, ended_at, ended_by, ends_kept, eq-eqb, eqb-true, false, fits, has_ended, has_no_hops, held_if, holds, id_cmp, if◌then◌else◌, is_aborted, is_decided, is_eq, is_item, is_mark, is_none, is_open, is_some, item_cmp, item_total, key_cmp, key_self, last_step, length, lock_note, lockset_ahead, log_key, not, note_at, note_by, note_or, note_pushed, op_of, owed_lockset, owed_note, owed_read, owed_shadow, owed_value, place_eq, place_of, place_same, refl, row_added, row_at, shadow_by, subst, sym, tied_itself, touched, true, tx_after, tx_end, tx_now, txs_after, txs_by, with_note, ℕ, ◌&&◌, ◌++◌, ◌==◌, ◌||◌, ◌∙◌, ◌∷◌, ◌≡◌, CallMatches, LogMatches, RowMatches, Kind, false_from_ne_true, arith}
+use Rattle.beldi_known.proofs.Names.{Answer, AnswersOne, Bool, Content, Deployment, Effect, Instance, Intent, IntentId, IntentMatches, Item, ItemMatches, Known, List, LockedOut, LocksetMatches, None, Note, Option, Owner, Place, Row, ShadowMatches, Some, TxId, Txs, TxsMatch, Value, [], ahead_by, and_right, ap, asks_lock, commit_in, effect_after, effect_of, ended_at, ended_by, ends_kept, eq-eqb, eqb-true, false, fits, has_ended, has_no_hops, held_if, holds, id_cmp, if◌then◌else◌, is_aborted, is_decided, is_eq, is_item, is_mark, is_none, is_open, is_some, item_cmp, item_total, key_cmp, key_self, last_step, length, lock_note, lockset_ahead, log_key, not, note_at, note_by, note_or, note_pushed, op_of, owed_lockset, owed_note, owed_read, owed_shadow, owed_value, place_eq, place_of, place_same, refl, row_added, row_at, shadow_by, subst, sym, tied_itself, touched, true, tx_after, tx_end, tx_now, txs_after, txs_by, with_note, ℕ, ◌&&◌, ◌++◌, ◌==◌, ◌||◌, ◌∙◌, ◌∷◌, ◌≡◌, CallMatches, LogMatches, RowMatches, Kind, false_from_ne_true, arith}
 use Rattle.beldi_known.proofs.Names.answer
 use Rattle.beldi_known.proofs.Names.effect
 use Rattle.beldi_known.proofs.Names.kinds
@@ -9,7 +9,7 @@ use Rattle.beldi_known.proofs.Names.rows
 use Rattle.beldi_known.proofs.Answers.{true_false}
 use Rattle.beldi_known.proofs.Instances.{EndMore, intent_stays, intent_same}
 use Rattle.beldi_known.proofs.Frame.{step_next, or_false}
-use Rattle.beldi_known.proofs.FrameAt.{known_set, no_place, read_one, shadow_one, lockset_one, holds_one, note_one, got_same, or_no, calls_same, item_alike, txs_alike, lockset_by}
+use Rattle.beldi_known.proofs.FrameAt.{known_set, no_place, read_one, shadow_one, lockset_one, holds_one, note_one, got_same, or_no, calls_same, item_alike, txs_alike, lockset_by, decided_alike, mark_alike, ahead_alike}
 use Rattle.beldi_known.proofs.Cases.{if_is, if_same, by_option}
 
 -- ---- effects that end no transaction
@@ -85,29 +85,13 @@ module _ (d : Deployment) (known : Known) (locked unlocked : IntentId → Bool) 
     pub tx_end_same : (t : TxId) → tx_end d after t ≡ tx_end d known t
     tx_end_same t = known_set known id r (λ j o. ended_by d t.begin o ≡ ended_by d t.begin (map.get known j)) (h.ends t.begin ∙ quiet_ends (effect_of d q) n (txs_after d q q.answers) t.begin quiet ∙ ap (ended_by d t.begin) (sym is)) (λ j other. refl) t.intent
 
-    decided_same : (t : Option TxId) → is_decided d after t ≡ is_decided d known t
-    decided_same None = refl
-    decided_same (Some t) = ap is_some (tx_end_same t)
-
     -- and so are the places of releases
     pub mark_same : (b : Place) → is_mark d after b.step (map.get after b.intent) ≡ is_mark d known b.step (map.get known b.intent)
-    mark_same b = no_place known id q r is (λ j m o. is_mark d known m o) (λ j m o. is_mark d after m o) (λ j other m o. elsewhere m o)
-        (λ m. ap (λ z. is_some z || (is_decided d after r.within && (m == last_step))) (h.marks m ∙ by_step m) ∙ ap (λ z. is_some (ended_at d q m) || (z && (m == last_step))) (decided_same r.within ∙ ap (is_decided d known) h.within)) b
+    mark_same b = no_place known id q r is (λ j m o. is_mark d known m o) (λ j m o. is_mark d after m o) (λ j other m o. mark_alike d known after tx_end_same m o)
+        (λ m. ap (λ z. is_some z || (is_decided d after r.within && (m == last_step))) (h.marks m ∙ by_step m) ∙ ap (λ z. is_some (ended_at d q m) || (z && (m == last_step))) (decided_alike d known after tx_end_same r.within ∙ ap (is_decided d known) h.within)) b
       where
-        elsewhere : (m : ℕ) (o : Option Instance) → is_mark d after m o ≡ is_mark d known m o
-        elsewhere m None = refl
-        elsewhere m (Some z) = ap (λ c. is_some (ended_at d z m) || (c && (m == last_step))) (decided_same z.within)
-
         by_step : (m : ℕ) → (if m == n then commit_in (effect_of d q) else ended_at d q m) ≡ ended_at d q m
         by_step m = if_is (m == n) (λ e. quiet ∙ sym (subst (λ k. ended_at d q k ≡ None) (sym (eqb-true m n e)) (step_next (λ ts c. commit_in (effect_after d q ts)) q.answers))) (λ e. refl)
-
-    open_same : (t : Option TxId) → is_open d after t ≡ is_open d known t
-    open_same None = refl
-    open_same (Some t) = ap (λ z. not (is_some z)) (tx_end_same t)
-
-    ahead_same : (b : ℕ) (x : Item) (i : IntentId) (o : Option Instance) → lockset_ahead d after b x i o ≡ lockset_ahead d known b x i o
-    ahead_same b x i None = refl
-    ahead_same b x i (Some z) = ap (λ u. is_none z.outcome && (u && (begins_at b (tx_now d i z) && is_item x z.func (touched (effect_of d z))))) (open_same (tx_now d i z))
 
     -- and lockset rows, where it asked for no lock
     pub locksets_kept : (b : ℕ) (x : Item) (j : IntentId) (row : Option Row) → asks_lock b x q.func (tx_now d id q) (effect_of d q) ≡ false → lockset_ahead d known b x id (Some q) ≡ false
@@ -115,7 +99,7 @@ module _ (d : Deployment) (known : Known) (locked unlocked : IntentId → Bool) 
     locksets_kept b x j row none not_ahead = lockset_by d known after locked unlocked x b j row (λ e g. owed_same ∙ g) (λ e g. ap (λ u. u || lockset_ahead d after b x j (map.get after j)) owed_same
         ∙ known_set known id r (λ i o. (owed_lockset d b x i (map.get known i) || lockset_ahead d known b x i (map.get known i)) ≡ true → (owed_lockset d b x i (map.get known i) || lockset_ahead d after b x i o) ≡ true)
         (λ k. ap (λ u. u || lockset_ahead d after b x id (Some r)) (sym (or_no (owed_lockset d b x id (map.get known id))) ∙ ap (λ u. owed_lockset d b x id (map.get known id) || u) (sym (ap (lockset_ahead d known b x id) is ∙ not_ahead)) ∙ k))
-        (λ i other k. ap (λ u. owed_lockset d b x i (map.get known i) || u) (ahead_same b x i (map.get known i)) ∙ k) j g)
+        (λ i other k. ap (λ u. owed_lockset d b x i (map.get known i) || u) (ahead_alike d known after tx_end_same b x i (map.get known i)) ∙ k) j g)
       where
         owed_same : owed_lockset d b x j (map.get after j) ≡ owed_lockset d b x j (map.get known j)
         owed_same = lockset_one d known id q r a is h b x j ∙ ap (λ u. owed_lockset d b x j (map.get known j) || (is_eq (id_cmp j id) && u)) none ∙ or_false (owed_lockset d b x j (map.get known j)) _ (and_right (is_eq (id_cmp j id)) false refl)
@@ -200,7 +184,7 @@ module _ (d : Deployment) (known : Known) (locked unlocked : IntentId → Bool) 
         (λ at. known_set known id r (λ i o. (owed_lockset d b x i (map.get known i) || lockset_ahead d known b x i (map.get known i)) ≡ true → (owed_lockset d b x i o || lockset_ahead d after b x i o) ≡ true)
         (λ k. ap (λ z. z || lockset_ahead d after b x id (Some r)) (h.locksets b x
         ∙ from_ahead (owed_lockset d b x id (Some q)) (is_none q.outcome) (is_open d known (tx_now d id q)) (asks_lock b x q.func (tx_now d id q) (effect_of d q)) (sym (ap (λ z. owed_lockset d b x id z || lockset_ahead d known b x id z) is) ∙ k)))
-        (λ i other k. ap (λ z. owed_lockset d b x i (map.get known i) || z) (ahead_same quiet_op b x i (map.get known i)) ∙ k) j)
+        (λ i other k. ap (λ z. owed_lockset d b x i (map.get known i) || z) (ahead_alike d known after (tx_end_same quiet_op) b x i (map.get known i)) ∙ k) j)
       where
         from_ahead : (u y o t : Bool) → (u || (y && (o && t))) ≡ true → (u || t) ≡ true
         from_ahead u y o t k = grind arith

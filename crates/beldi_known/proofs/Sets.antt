@@ -1,9 +1,9 @@
 -- An instance is made, or ends: it owes items, shadows, locksets and reads what was owed, and its own rows or those of a call change.
-use Rattle.beldi_known.proofs.Names.{Bool, CallMatches, Content, Deployment, Instance, IntentId, IntentMatches, Item, ItemMatches, Kind, Known, LocksetMatches, LogMatches, Matches, None, Option, Owner, Place, Row, RowKey, RowMatches, Rows, ShadowMatches, Some, TxId, TxsMatch, ap, begins_at, content_of, effect_of, ended_at, ended_by, false, got_by, has_ended, has_no_hops, holds, is_decided, is_eq, is_item, is_mark, is_none, is_open, is_some, key_cmp, last_step, lockset_ahead, not, owed_call, owed_lockset, owed_note, owed_shadow, owed_value, refl, set_row, shadow_of, subst, sym, touched, true, tx_end, tx_now, ℕ, ◌&&◌, ◌==◌, ◌||◌, ◌∙◌, ◌≡◌}
+use Rattle.beldi_known.proofs.Names.{Bool, CallMatches, Content, Deployment, Instance, IntentId, IntentMatches, Item, ItemMatches, Kind, Known, LocksetMatches, LogMatches, Matches, Option, Owner, Place, Row, RowKey, RowMatches, Rows, ShadowMatches, Some, TxId, TxsMatch, ap, content_of, ended_by, false, got_by, has_ended, has_no_hops, holds, is_eq, is_mark, is_some, key_cmp, lockset_ahead, owed_call, owed_lockset, owed_note, owed_shadow, owed_value, refl, set_row, shadow_of, subst, sym, true, tx_end, ℕ, ◌||◌, ◌∙◌, ◌≡◌}
 use Rattle.beldi_known.proofs.Names.kinds
 use Rattle.beldi_known.proofs.Names.map
 use Rattle.beldi_known.proofs.Acts.{is_cell, log_set}
-use Rattle.beldi_known.proofs.FrameAt.{known_set, item_alike, txs_alike, lockset_by, or_no}
+use Rattle.beldi_known.proofs.FrameAt.{known_set, item_alike, txs_alike, lockset_by, or_no, mark_alike, ahead_alike}
 use Rattle.beldi_known.proofs.Instances.{EndMore, intent_stays}
 
 -- what is at an id owes what was owed there, and has no lock ahead
@@ -39,23 +39,11 @@ module _ (d : Deployment) (known : Known) (locked : IntentId → Bool) (id : Int
   ends_same : (t : TxId) → tx_end d after t ≡ tx_end d known t
   ends_same t = as_before (λ j o. ended_by d t.begin o) (owes.ends t.begin) t.intent
 
-  decided_same : (t : Option TxId) → is_decided d after t ≡ is_decided d known t
-  decided_same None = refl
-  decided_same (Some t) = ap is_some (ends_same t)
-
-  open_same : (t : Option TxId) → is_open d after t ≡ is_open d known t
-  open_same None = refl
-  open_same (Some t) = ap (λ z. not (is_some z)) (ends_same t)
-
   pub ended_more : EndMore (has_ended d known) (has_ended d after)
   ended_more t e = ap is_some (ends_same t) ∙ e
 
   unmarked : (b : Place) → is_mark d after b.step (map.get after b.intent) ≡ false → is_mark d known b.step (map.get known b.intent) ≡ false
-  unmarked b h = known_set known id s (λ j o. is_mark d known b.step o ≡ false → is_mark d known b.step (map.get known j) ≡ false) (owes.marks b.step) (λ j other g. g) b.intent (sym (elsewhere (map.get after b.intent)) ∙ h)
-    where
-      elsewhere : (o : Option Instance) → is_mark d after b.step o ≡ is_mark d known b.step o
-      elsewhere None = refl
-      elsewhere (Some z) = ap (λ c. is_some (ended_at d z b.step) || (c && (b.step == last_step))) (decided_same z.within)
+  unmarked b h = known_set known id s (λ j o. is_mark d known b.step o ≡ false → is_mark d known b.step (map.get known j) ≡ false) (owes.marks b.step) (λ j other g. g) b.intent (sym (mark_alike d known after ends_same b.step (map.get after b.intent)) ∙ h)
 
   notes_same : (x : Item) (b : Place) → owed_note d x b.intent (locked b.intent) b.step (map.get after b.intent) ≡ owed_note d x b.intent (locked b.intent) b.step (map.get known b.intent)
   notes_same x b = as_before (λ j o. owed_note d x j (locked j) b.step o) (subst (λ c. owed_note d x id c b.step (Some s) ≡ owed_note d x id c b.step (map.get known id)) (sym unlocked) (owes.notes x b.step)) b.intent
@@ -76,14 +64,10 @@ module _ (d : Deployment) (known : Known) (locked : IntentId → Bool) (id : Int
   lockset_same b x j row = lockset_by d known after locked locked x b j row (λ at k. owed j ∙ k) (λ at k. ap (λ u. u || lockset_ahead d after b x j (map.get after j)) (owed j)
       ∙ known_set known id s (λ i o. (owed_lockset d b x i (map.get known i) || lockset_ahead d known b x i (map.get known i)) ≡ true → (owed_lockset d b x i (map.get known i) || lockset_ahead d after b x i o) ≡ true)
       (λ k. ap (λ u. u || lockset_ahead d after b x id (Some s)) (sym (or_no (owed_lockset d b x id (map.get known id))) ∙ ap (λ u. owed_lockset d b x id (map.get known id) || u) (sym (owes.behind b x)) ∙ k))
-      (λ i other k. ap (λ u. owed_lockset d b x i (map.get known i) || u) (ahead i (map.get known i)) ∙ k) j k)
+      (λ i other k. ap (λ u. owed_lockset d b x i (map.get known i) || u) (ahead_alike d known after ends_same b x i (map.get known i)) ∙ k) j k)
     where
       owed : (i : IntentId) → owed_lockset d b x i (map.get after i) ≡ owed_lockset d b x i (map.get known i)
       owed i = as_before (λ i o. owed_lockset d b x i o) (owes.locksets b x) i
-
-      ahead : (i : IntentId) (o : Option Instance) → lockset_ahead d after b x i o ≡ lockset_ahead d known b x i o
-      ahead i None = refl
-      ahead i (Some z) = ap (λ u. is_none z.outcome && (u && (begins_at b (tx_now d i z) && is_item x z.func (touched (effect_of d z))))) (open_same (tx_now d i z))
 
   -- a row matches still, where its own do and calls are owed as before
   pub row_same : (home : ℕ) (kind : Kind) (row : Option Row) → (kind ≡ kinds.Intent id → IntentMatches (has_ended d known) (has_no_hops id.hops) home row (map.get known id) → IntentMatches (has_ended d known) (has_no_hops id.hops) home row (Some s))
