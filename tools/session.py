@@ -194,6 +194,11 @@ class Event:
         self.entries = []
 
     @property
+    def text_of_one(self):
+        """The line of this event alone."""
+        return " ".join(self.text.split(" ")[:2 if self.word == "turn" else 1]) if self.word in ("turn", "ic") else self.text
+
+    @property
     def is_silent(self):
         """Whether it may have made an entry that it does not tell."""
         return self.answer == "dropped" or self.word == "settle"
