@@ -354,9 +354,10 @@ class Session:
 
     def callee(self, at):
         """The instance of the run that a call starts at this event. It is known where a later line names it: the caller waits for
-        it, or the run makes an entry. Else from the caller's text: a callee that was started before, is waited for and has not ended is
-        started again; past one that has ended it is the next call, on all paths that the caller's entries leave. Where that is no
-        or more calls, the id ends in `?` and the number of the run."""
+        it, or the run makes an entry. Else it is found from the caller's text and entries: it is the callee that was started last
+        where the caller's run made no turn since but waits; the next call, on all paths that the entries leave, where it made one,
+        or where that callee's run came to its end; and either of the two in another run of the caller. Where that leaves no call or
+        several, the id ends in `?` and the number of the run."""
         start = self.events[at]
         caller = self.owner.get(start.run, "?")
         for event in self.events[at + 1:]:
@@ -375,15 +376,15 @@ class Session:
         if last.startswith("?"):
             return f"{caller}/?{start.starts}"
         paths = self.calls(caller)
-        same = {it[0] for path in paths for it in path if str(it[0]) == last and it[2]}
-        ended = any(it.run == before[-1].starts and it.is_over for it in self.events[:at]) if before else True
+        same = {it[0] for path in paths for it in path if str(it[0]) == last}
         silent = any(it.is_silent and (it.run is None or self.owner.get(it.run) == caller) for it in self.events[:at])
-        steps = set()
-        for path in paths:
-            later = [it[0] for it in path if it[0] > int(last)]
-            steps |= set(later if silent else later[:1])
-        if same and not ended:
-            steps = same
+        later = [[it[0] for it in path if it[0] > int(last)] for path in paths]
+        steps = {it for path in later for it in (path if silent else path[:1])}
+        if before and before[-1].run == start.run:
+            between = self.events[self.events.index(before[-1]) + 1:at]
+            steps = steps if any(it.run == start.run and it.answer.startswith("acted") for it in between) else same
+        elif before and not any(it.run == before[-1].starts and it.is_over for it in self.events[:at]):
+            steps |= same
         return f"{caller}/{steps.pop()}" if len(steps) == 1 else f"{caller}/?{start.starts}"
 
     def instances(self):
