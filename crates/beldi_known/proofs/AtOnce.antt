@@ -1,16 +1,11 @@
--- What takes no turn: two steps are enough, and what each such answer keeps is kept.
-use Rattle.beldi_known.proofs.Names.{Answer, Closed, Deployment, Effect, Instance, IntentId, None, Option, Outcome, Some, [], answer_at_once, answered, answered_if, ap, at_once, effect_of, inl, inr, is_some, length, once, once_if, place_of, refl, subst, sym, ℕ, ◌++◌, ◌∙◌, ◌∷◌, ◌≡◌, ◌⊎◌}
+-- What takes no turn: two steps are enough.
+use Rattle.beldi_known.proofs.Names.{Answer, Closed, Deployment, Effect, Instance, IntentId, None, Option, Some, [], answer_at_once, answered, answered_if, ap, at_once, effect_of, inl, inr, is_some, length, once, once_if, place_of, refl, subst, sym, ℕ, ◌++◌, ◌∙◌, ◌∷◌, ◌≡◌, ◌⊎◌}
 use Rattle.beldi_known.proofs.Names.answer
 use Rattle.beldi_known.proofs.Names.effect
 use Rattle.beldi_known.proofs.Begins.{begins_once, aborts_once}
-use Rattle.beldi_known.proofs.Frame.{at_once_same}
+use Rattle.beldi_known.proofs.Frame.{at_once_by, at_once_is, at_once_same}
 
--- it is that of a Begin, or of an Abort
-pub at_once_is : (id : IntentId) (n : ℕ) (e : Effect) (a : Answer) → answer_at_once id n e ≡ Some a → (e ≡ effect.Begin) ⊎ ((e ≡ effect.Abort) × (a ≡ answer.Aborted (record { place = place_of id n; holder = None })))
-at_once_is id n effect.Begin a h = inl refl
-at_once_is id n effect.Abort a h = let same : answer.Aborted (record { place = place_of id n; holder = None }) ≡ a = cc in inr (refl, sym same)
-at_once_is id n e a h = cc
-
+-- no other effect has an answer without a turn
 pub none_of : (id : IntentId) (n : ℕ) (e : Effect) → (e ≡ effect.Begin ⊎ e ≡ effect.Abort → ⊥) → answer_at_once id n e ≡ None
 none_of id n effect.Begin h = absurd (h (inl refl))
 none_of id n effect.Abort h = absurd (h (inr refl))
@@ -27,24 +22,9 @@ module _ (d : Deployment) (id : IntentId) where
   pub once_some : (q : Instance) (a : Answer) → q.outcome ≡ None → next q ≡ Some a → once d id q ≡ answered q a
   once_some q a none is = ap (once_if d id q) none ∙ ap (answered_if q) is
 
-  -- ---- what is kept
-  once_by : (P : Instance → Type 0) → ((q : Instance) (a : Answer) → q.outcome ≡ None → next q ≡ Some a → P q → P (answered q a)) → (q : Instance) → P q → P (once d id q)
-  once_by P keeps q h = by_outcome q.outcome refl
-    where
-      by_answer : q.outcome ≡ None → (o : Option Answer) → next q ≡ o → P (answered_if q o)
-      by_answer none None is = h
-      by_answer none (Some a) is = keeps q a none is h
-
-      by_outcome : (o : Option Outcome) → q.outcome ≡ o → P (once_if d id q o)
-      by_outcome None none = by_answer none (next q) refl
-      by_outcome (Some o) some = h
-
-  pub at_once_by : (P : Instance → Type 0) → ((q : Instance) (a : Answer) → q.outcome ≡ None → next q ≡ Some a → P q → P (answered q a)) → (q : Instance) → P q → P (at_once d id q)
-  at_once_by P keeps q h = once_by P keeps (once d id q) (once_by P keeps q h)
-
   -- what an instance was called with stays
   pub origin_stays : (q : Instance) → ((at_once d id q).from ≡ q.from) × ((at_once d id q).within ≡ q.within)
-  origin_stays q = at_once_by (λ r. (r.from ≡ q.from) × (r.within ≡ q.within)) (λ r a none is h. h) q (refl, refl)
+  origin_stays q = at_once_by d id (λ r. (r.from ≡ q.from) × (r.within ≡ q.within)) (λ r a none is h. h) q (refl, refl)
 
   -- ---- two steps are enough
   -- a third one would stand after a second Begin, or after an Abort

@@ -1,10 +1,10 @@
 -- What an instance owes after one answer more, and after what takes no turn.
-use Rattle.beldi_known.proofs.Names.{Answer, AnswersOne, Bool, Deployment, Effect, Instance, IntentId, Item, List, None, Option, Outcome, Some, TxId, Txs, [], along_pushed, answer_at_once, answered, answered_if, ap, append-nil, append_assoc, arith, asks_lock, at_once, at_step, commit_in, decision_by, effect_after, effect_of, end_of, eqb-true, false, fits, fits_at, got_before, held_if, held_pushed, holds, if◌then◌else◌, is_aborted, is_at, is_item, is_on, is_some, is_tx, length, lock_note, lockset_of, moved, not, note_by, note_of, once, once_if, op_of, place_of, put, read_at, refl, row_added, row_at, shadow_by, slice_get, subst, sym, take, take-append-le, take-append_seam, touched, true, tx_after, tx_now, txs_after, txs_by, txs_pushed, value_for, value_or, write_op, ℕ, ◌&&◌, ◌++◌, ◌<◌, ◌==◌, ◌||◌, ◌∙◌, ◌∷◌, ◌≡◌, Owes, OwesSame, Body, Value, Note}
+use Rattle.beldi_known.proofs.Names.{Answer, AnswersOne, Bool, Deployment, Effect, Instance, IntentId, Item, List, None, Option, Outcome, Some, TxId, Txs, [], along_pushed, answer_at_once, answered, answered_if, ap, append-nil, append_assoc, arith, asks_lock, at_once, at_step, commit_in, decision_by, effect_after, effect_of, end_of, eqb-true, false, fits, fits_at, got_before, held_if, held_pushed, holds, if◌then◌else◌, is_aborted, is_at, is_item, is_on, is_some, is_tx, length, lock_note, lockset_of, moved, not, note_by, note_of, once, once_if, op_of, place_of, put, read_at, refl, row_added, row_at, shadow_by, slice_get, subst, sym, take, take-append-le, take-append_seam, touched, true, tx_after, tx_now, txs_after, txs_by, txs_pushed, value_for, value_or, write_op, ℕ, ◌&&◌, ◌++◌, ◌<◌, ◌==◌, ◌||◌, ◌∙◌, ◌∷◌, ◌≡◌, Owes, OwesSame, Body, Value, Note, inl, inr, ◌⊎◌}
 use Rattle.beldi_known.proofs.Names.answer
 use Rattle.beldi_known.proofs.Names.effect
 use Rattle.beldi_known.proofs.Names.value
 use Rattle.beldi_known.proofs.Answers.{pushed_at, none_at_end}
-use Rattle.beldi_known.proofs.Cases.{if_is, if_same, by_cases}
+use Rattle.beldi_known.proofs.Cases.{if_is, if_same, by_cases, by_option}
 
 -- ---- folds and steps, with an answer more
 pub step_pushed : {X : Type 0} (f : List Answer → Answer → Option X) (xs : List Answer) (a : Answer) (n : ℕ) → at_step f (take n (xs ++ a ∷ [])) (slice_get (xs ++ a ∷ []) n) ≡ (if n == length xs then f xs a else at_step f (take n xs) (slice_get xs n))
@@ -170,20 +170,28 @@ quiet_same d id q a e is op touch writes row ends none =
     no_on : (t : TxId) (x : Item) → (is_on t x q.func (tx_now d id q) (effect_of d q) && not (is_aborted a)) ≡ false
     no_on t x = ap (λ b. b && not (is_aborted a)) (and_no (is_tx t (tx_now d id q)) _ (ap (is_item x q.func) (ap touched is ∙ touch)))
 
-once_same : (d : Deployment) (id : IntentId) (q : Instance) → OwesSame d id q (once d id q)
-once_same d id q = by_outcome q.outcome
-  where
-    by_effect : (e : Effect) → effect_of d q ≡ e → OwesSame d id q (answered_if q (answer_at_once id (length q.answers) e))
-    by_effect effect.Begin is = quiet_same d id q answer.Done effect.Begin is refl refl refl refl (λ b. refl) refl
-    by_effect effect.Abort is = quiet_same d id q (answer.Aborted (record { place = place_of id (length q.answers); holder = None })) effect.Abort is refl refl refl refl (λ b. refl) refl
-    by_effect e is = same_itself d id q
+-- .. and so is what takes no turn: that of a Begin, or of an Abort
+pub at_once_is : (id : IntentId) (n : ℕ) (e : Effect) (a : Answer) → answer_at_once id n e ≡ Some a → (e ≡ effect.Begin) ⊎ ((e ≡ effect.Abort) × (a ≡ answer.Aborted (record { place = place_of id n; holder = None })))
+at_once_is id n effect.Begin a h = inl refl
+at_once_is id n effect.Abort a h = let same : answer.Aborted (record { place = place_of id n; holder = None }) ≡ a = cc in inr (refl, sym same)
+at_once_is id n e a h = cc
 
-    by_outcome : (o : Option Outcome) → OwesSame d id q (once_if d id q o)
-    by_outcome None = by_effect (effect_of d q) refl
-    by_outcome (Some o) = same_itself d id q
+-- it keeps what each of its answers keeps
+module _ (d : Deployment) (id : IntentId) (P : Instance → Type 0) (keeps : (q : Instance) (a : Answer) → q.outcome ≡ None → answer_at_once id (length q.answers) (effect_of d q) ≡ Some a → P q → P (answered q a)) where
+  pub once_by : (q : Instance) → P q → P (once d id q)
+  once_by q h = by_option q.outcome (λ none. subst (λ o. P (once_if d id q o)) (sym none) (by_option (answer_at_once id (length q.answers) (effect_of d q))
+      (λ e. subst (λ o. P (answered_if q o)) (sym e) h) (λ a e. subst (λ o. P (answered_if q o)) (sym e) (keeps q a none e h)))) (λ o some. subst (λ u. P (once_if d id q u)) (sym some) h)
+
+  pub at_once_by : (q : Instance) → P q → P (at_once d id q)
+  at_once_by q h = once_by (once d id q) (once_by q h)
 
 pub at_once_same : (d : Deployment) (id : IntentId) (q : Instance) → OwesSame d id q (at_once d id q)
-at_once_same d id q = owes_then d id (once d id q) (at_once d id q) (once_same d id q) (once_same d id (once d id q))
+at_once_same d id q = at_once_by d id (OwesSame d id q) (λ r a none is g. owes_then d id r (answered r a) g (by_effect r a (effect_of d r) refl is)) q (same_itself d id q)
+  where
+    by_effect : (r : Instance) (a : Answer) (e : Effect) → effect_of d r ≡ e → answer_at_once id (length r.answers) e ≡ Some a → OwesSame d id r (answered r a)
+    by_effect r a effect.Begin is g = quiet_same d id r a effect.Begin is refl refl refl refl (λ b. refl) refl
+    by_effect r a effect.Abort is g = quiet_same d id r a effect.Abort is refl refl refl refl (λ b. refl) refl
+    by_effect r a e is g = cc
 
 -- ---- an answer, and then what takes no turn
 pub moved_one : (d : Deployment) (id : IntentId) (q : Instance) (a : Answer) → AnswersOne d id q a (moved d id q a)

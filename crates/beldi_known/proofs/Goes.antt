@@ -1,26 +1,23 @@
 -- What is known stays sane with an answer, and a run that is behind stays so with what takes no turn.
-use Rattle.beldi_known.proofs.Names.{Answer, Closed, Deployment, Effect, Instance, IntentId, IsAnswer, List, None, Option, Outcome, Prefix, SaneInstance, Some, TxId, [], and_once, answer_at_once, answered, answered_if, ap, append-nil, append_assoc, effect_after, effect_of, length, moved, once, once_if, place_of, refl, run_on, run_once, same_some, slice_get, subst, sym, take, tx_after, tx_now, went_pushed, ℕ, ◌++◌, ◌∙◌, ◌∷◌, ◌≡◌}
+use Rattle.beldi_known.proofs.Names.{Answer, Closed, Deployment, Effect, Instance, IntentId, IsAnswer, List, None, Option, Prefix, SaneInstance, Some, TxId, [], and_once, answer_at_once, answered, ap, append-nil, append_assoc, effect_after, effect_of, length, moved, once, place_of, refl, run_on, run_once, same_some, slice_get, subst, sym, take, tx_after, tx_now, went_pushed, ℕ, ◌++◌, ◌∙◌, ◌∷◌, ◌≡◌}
 use Rattle.beldi_known.proofs.Names.answer
 use Rattle.beldi_known.proofs.Names.effect
 use Rattle.beldi_known.proofs.Answers.{take_front, get_next}
 use Rattle.beldi_known.proofs.Cases.{by_option}
+use Rattle.beldi_known.proofs.Frame.{once_by}
 
 -- ---- an answer more
 pub sane_pushed : (d : Deployment) (id : IntentId) (q : Instance) (a : Answer) → q.outcome ≡ None → IsAnswer (place_of id (length q.answers)) (tx_now d id q) (effect_of d q) a → SaneInstance d id q → SaneInstance d id (answered q a)
 sane_pushed d id q a none is h = record { past = went_pushed d id q a is h.past; over = λ o g. let k = sym none ∙ g in cc }
 
-pub sane_once : (d : Deployment) (id : IntentId) (q : Instance) → SaneInstance d id q → SaneInstance d id (once d id q)
-sane_once d id q h = by_outcome q.outcome refl
-  where
-    by_effect : q.outcome ≡ None → (e : Effect) → effect_of d q ≡ e → SaneInstance d id (answered_if q (answer_at_once id (length q.answers) e))
-    by_effect none effect.Begin is = sane_pushed d id q answer.Done none (subst (λ z. IsAnswer (place_of id (length q.answers)) (tx_now d id q) z answer.Done) (sym is) tt) h
-    by_effect none effect.Abort is = let a = answer.Aborted (record { place = place_of id (length q.answers); holder = None }) in
-        sane_pushed d id q a none (subst (λ z. IsAnswer (place_of id (length q.answers)) (tx_now d id q) z a) (sym is) refl) h
-    by_effect none e is = h
+-- what takes no turn is answered so
+at_once_fits : (id : IntentId) (n : ℕ) (t : Option TxId) (e : Effect) (a : Answer) → answer_at_once id n e ≡ Some a → IsAnswer (place_of id n) t e a
+at_once_fits id n t effect.Begin a h = let same : answer.Done ≡ a = cc in subst (IsAnswer (place_of id n) t effect.Begin) same tt
+at_once_fits id n t effect.Abort a h = let same : answer.Aborted (record { place = place_of id n; holder = None }) ≡ a = cc in subst (IsAnswer (place_of id n) t effect.Abort) same refl
+at_once_fits id n t e a h = cc
 
-    by_outcome : (o : Option Outcome) → q.outcome ≡ o → SaneInstance d id (once_if d id q o)
-    by_outcome None none = by_effect none (effect_of d q) refl
-    by_outcome (Some o) some = h
+pub sane_once : (d : Deployment) (id : IntentId) (q : Instance) → SaneInstance d id q → SaneInstance d id (once d id q)
+sane_once d id = once_by d id (SaneInstance d id) (λ r a none is h. sane_pushed d id r a none (at_once_fits id (length r.answers) (tx_now d id r) (effect_of d r) a is) h)
 
 -- a plain step inside, or a death
 pub sane_moved : (d : Deployment) (id : IntentId) (q : Instance) (a : Answer) → q.outcome ≡ None → IsAnswer (place_of id (length q.answers)) (tx_now d id q) (effect_of d q) a → SaneInstance d id q → SaneInstance d id (moved d id q a)
@@ -31,19 +28,11 @@ pub record GoesOn (q r : Instance) : Type 0 where
   pub more : List Answer
   pub same : q.answers ++ more ≡ r.answers
 
-pub once_goes : (d : Deployment) (id : IntentId) (q : Instance) → GoesOn q (once d id q)
-once_goes d id q = by_outcome q.outcome
-  where
-    by_answer : (o : Option Answer) → GoesOn q (answered_if q o)
-    by_answer None = record { more = []; same = append-nil q.answers }
-    by_answer (Some a) = record { more = a ∷ []; same = refl }
-
-    by_outcome : (o : Option Outcome) → GoesOn q (once_if d id q o)
-    by_outcome None = by_answer (answer_at_once id (length q.answers) (effect_of d q))
-    by_outcome (Some o) = record { more = []; same = append-nil q.answers }
-
 pub goes_then : (q r u : Instance) → GoesOn q r → GoesOn r u → GoesOn q u
 goes_then q r u g h = record { more = g.more ++ h.more; same = sym (append_assoc q.answers g.more h.more) ∙ ap (λ xs. xs ++ h.more) g.same ∙ h.same }
+
+pub once_goes : (d : Deployment) (id : IntentId) (q : Instance) → GoesOn q (once d id q)
+once_goes d id q = once_by d id (GoesOn q) (λ r a none is g. goes_then q r (answered r a) g (record { more = a ∷ []; same = refl })) q (record { more = []; same = append-nil q.answers })
 
 -- ---- a run takes at once what is known there
 module _ (d : Deployment) (id : IntentId) (q : Instance) (closed : Closed d id q) (sane : SaneInstance d id q) where

@@ -5,7 +5,8 @@ use Rattle.beldi_known.proofs.Names.effect
 use Rattle.beldi_known.proofs.Names.map
 use Rattle.beldi_known.proofs.Names.outcome
 use Rattle.beldi_known.proofs.Names.value
-use Rattle.beldi_known.proofs.AtOnce.{at_once_is, at_once_by, origin_stays, closed_at_once}
+use Rattle.beldi_known.proofs.AtOnce.{origin_stays, closed_at_once}
+use Rattle.beldi_known.proofs.Frame.{at_once_is, at_once_by}
 use Rattle.beldi_known.proofs.Goes.{sane_once, sane_moved}
 
 -- ---- one instance
