@@ -1,5 +1,5 @@
 -- The turns of a call that nobody waits for: it is opened once, its callee's row is put, and then it is marked as registered.
-use Rattle.beldi_laws.proofs.Names.{Absent, AlreadySet, Answer, Async, AsyncAt, Begins, Begun, Body, Bool, CallMatches, Core, Deployment, Done, Ends, Grows, Inside, Instance, IntentId, InvokeRow, IsBodyOf, Known, Knows, KnowsAt, List, Looks, Matches, None, NoteRegistered, On, OpenInvoke, Option, Place, PlainState, Register, Right, Row, RowKey, Rows, Run, Says, SeenDone, Set, Some, Step, Tell, Value, [], act, after_act, ahead_set, ap, append_assoc, async_answer, async_asks, async_here_asks, async_here_says, async_says, at_once, back_of, call_answered, callee_at, callee_body, callee_by, callee_of, calls_at, child_of, commit_in, effect_before, effect_of, elsewhere, false, grows_through, has_callees, here, if◌then◌else◌, inl, intent_key, invoke_key, is_some, issued_at, known_set, length, look_asks, moved, moved_one, new_instance, no_own_callee, no_root_key, none_out, note_says, op_of, open_says, opened, origin_stays, owed_call, place_of, refl, registered_asks, root_key, row_added, run_called, said, same_some, set_others, set_row, step_by, subst, sym, true, turn_next, turned_by, tx_after, tx_now, txs_after, ℕ, ◌++◌, ◌∙◌, ◌∷◌, ◌≡◌}
+use Rattle.beldi_laws.proofs.Names.{Absent, AlreadySet, Answer, Async, AsyncAt, Begins, Begun, Body, Bool, CallMatches, Core, Deployment, Done, Ends, Grows, Inside, Instance, IntentId, InvokeRow, IsBodyOf, Known, Knows, KnowsAt, List, Looks, Matches, None, NoteRegistered, On, OpenInvoke, Option, Place, PlainState, Register, Right, Row, RowKey, Rows, Run, Says, Set, Some, Step, Tell, Value, [], act, after_act, ahead_set, ap, async_answer, async_asks, async_here_asks, async_here_says, async_says, at_once, back_of, call_answered, callee_at, callee_body, callee_by, callee_of, calls_at, child_of, commit_in, effect_before, effect_of, elsewhere, false, grows_through, has_callees, here, if◌then◌else◌, inl, intent_key, invoke_key, is_sent, is_some, issued_at, known_set, length, look_asks, moved, moved_one, new_instance, no_own_callee, no_root_key, none_out, note_says, op_of, open_says, opened, origin_stays, owed_call, place_of, refl, registered_asks, root_key, row_added, run_called, said, same_some, set_others, set_row, step_by, subst, sym, true, turn_next, turned_by, tx_after, tx_now, txs_after, ℕ, ◌∙◌, ◌∷◌, ◌≡◌}
 use Rattle.beldi_laws.proofs.Names.async
 use Rattle.beldi_laws.proofs.Names.back
 use Rattle.beldi_laws.proofs.Names.kinds
@@ -12,15 +12,16 @@ use Rattle.beldi_laws.proofs.CallsHere.{made_with, not_made, made_by, next_here,
 use Rattle.beldi_laws.proofs.Frames.{NobodyJoins}
 use Rattle.beldi_laws.proofs.Settling.{settled_outside}
 use Rattle.beldi_laws.proofs.Keeping.{as_it_was}
-use Rattle.beldi_laws.proofs.Moves.{AfterTurn, AfterQuery, Entered, SameRoots, Kept, Stays, entered, AfterAct, still}
-use Rattle.beldi_laws.proofs.Turns.{effect_here, goes_on, replays, at_another, all_here, starts_one, tx_step, tx_next, outside_after, unlocked_there}
+use Rattle.beldi_laws.proofs.Moves.{AfterTurn, AfterQuery, Entered, SameRoots, Kept, Stays, AfterAct, still}
+use Rattle.beldi_laws.proofs.Turns.{effect_here, enters_on, goes_on, none_open, replays, starts_one, tx_step, tx_next, outside_after, unlocked_there}
 use Rattle.beldi_value.proofs.Callees.{no_root}
 use Rattle.beldi_laws.proofs.KeptSane.{sent_kept}
 use Rattle.beldi_laws.proofs.Shown.{log_values}
-use Rattle.beldi_laws.proofs.Grown.{grows_moved, grown_moved, moved_more}
-use Rattle.beldi_laws.proofs.Registered.{callee_registered, kept_moving, log_frame, log_shadows, log_stays, marked_registered, no_intent, no_more, stays_marked, stays_new}
+use Rattle.beldi_laws.proofs.Grown.{grows_moved, grown_moved}
+use Rattle.beldi_laws.proofs.Others.{kept_moving}
+use Rattle.beldi_laws.proofs.Registered.{callee_registered, log_frame, log_shadows, log_stays, marked_registered, no_intent, no_more, stays_marked, stays_new}
 
-module _ (d : Deployment) (c : Core) (m : Rows) (i : ℕ) (r : Run) (g : Begun) (h : Right d c m) (live : map.get c.runs i ≡ Some r) (at_is : r.at ≡ Begins g) (k : Knows d c.book h.known r g) (finds : Inside d m h.plain h.known r g) (out : tx_after d r.id k.instance k.answers ≡ None)
+module _ (d : Deployment) (c : Core) (m : Rows) (i : ℕ) (r : Run) (g : Begun) (h : Right d c m) (live : map.get c.runs i ≡ Some r) (at_is : r.at ≡ Begins g) (k : Knows d h.known r g) (finds : Inside m h.plain c.book k g.stage) (out : tx_after d r.id k.instance k.answers ≡ None)
     (f : ℕ) (v : Value) (is : g.machine.effect ≡ Async f v) (hops : has_callees r.id ≡ true) where
   abbrev place : Place
   place = place_of r.id g.machine.steps
@@ -35,7 +36,7 @@ module _ (d : Deployment) (c : Core) (m : Rows) (i : ℕ) (r : Run) (g : Begun) 
   Left s n = AfterTurn d h.plain c i r (turned_by d r g s) n
 
   call_here : effect_before d k.instance g.machine.steps ≡ Async f v
-  call_here = effect_here d c.book h.known r g k ∙ is
+  call_here = effect_here k ∙ is
 
   -- a callee that was made is the answer that the step was given
   answered_so : is_some (map.get h.known callee) ≡ true → (rest : List Answer) × (k.later ≡ Done ∷ rest)
@@ -45,8 +46,8 @@ module _ (d : Deployment) (c : Core) (m : Rows) (i : ℕ) (r : Run) (g : Begun) 
       by_callee None at there = cc
       by_callee (Some j) at there = given_first Done k.later (first_given d c m r g h k false f v call_here j at k.later refl)
 
-  goes_to_stage : (at : AsyncAt) (n : Rows) → SameRoots m n → Stays h n → SeenDone h.known r.id g.machine.steps k.instance g.caller (stage.Async at) → Left (On (stage.Async at) None) n
-  goes_to_stage at n roots rows done = goes_on d c m i r g h live k finds out (Async f v) is n (stage.Async at) refl roots rows hops tt done
+  goes_to_stage : (at : AsyncAt) (n : Rows) → SameRoots m n → Stays h n → (is_sent at ≡ true → is_some (map.get h.known callee) ≡ true) → Left (On (stage.Async at) None) n
+  goes_to_stage at n roots rows done = goes_on d c m i r g h live k finds out (Async f v) is n (stage.Async at) roots rows (hops, done)
 
   -- ---- it is opened now: it is the instance's next step
   module _ (none : map.get m key ≡ None) (new : map.get h.known callee ≡ None) (left : k.later ≡ []) where
@@ -76,7 +77,7 @@ module _ (d : Deployment) (c : Core) (m : Rows) (i : ℕ) (r : Run) (g : Begun) 
     now = call_now d c m r g h k false f v is new left
 
     outside : tx_now d r.id k.instance ≡ None
-    outside = tx_next d c.book h.known r g k out left
+    outside = tx_next k out left
 
     unlocked : h.locked r.id ≡ false
     unlocked = unlocked_there d c m i r g h live k finds out (Async f v) is left
@@ -107,7 +108,7 @@ module _ (d : Deployment) (c : Core) (m : Rows) (i : ℕ) (r : Run) (g : Begun) 
 
     kept_opened : Kept h rows_now state next h.locked
     kept_opened = kept_moving h rows_now state next h.locked
-        (goes_answered_then h rows_now (log_shadows d m key row refl) r.id k.instance Done k.made unlocked (λ e. let clash = sym now ∙ e in cc) (outside_after d c.book h.known r g k out left Done) made_id refl
+        (goes_answered_then h rows_now (log_shadows d m key row refl) r.id k.instance Done k.made unlocked (λ e. let clash = sym now ∙ e in cc) (outside_after k out left Done) made_id refl
         callee_made (at_once d made_id callee_made) caller_given (callee_goes d c m i r g h live k finds false f v is hops new left out))
         (ahead_set d given h.locked (callee_ahead d c m r g h k finds false f v is hops new left None refl) h.locked r.id (moved d r.id k.instance Done) (none_out h.locked r.id unlocked))
         (sent_kept d h.known h.sane r.id k.instance f v k.made outside now (absent_here d c m r g h k false f v is new left))
@@ -121,20 +122,15 @@ module _ (d : Deployment) (c : Core) (m : Rows) (i : ℕ) (r : Run) (g : Begun) 
     callee_stays = ap is_some (elsewhere given r.id callee (moved d r.id k.instance Done) (λ e. no_own_callee r.id g.machine.steps (sym e))) ∙ callee_there d c m r g h k finds false f v is hops new left None refl
 
     pub opens_now : Left (On (stage.Async async.Register) (Some mark.Step)) rows_now
-    opens_now =
-        let more = moved_more d r.id k.instance Done in
-        entered d c m rows_now i r h live (λ u. ap is_some (set_others m key row (root_key u) (no_root_key u r.func (kinds.Invoke place) refl)))
-        (turned_by d r g (On (stage.Async async.Register) (Some mark.Step))) mark.Step state next h.locked refl leads (λ o told. cc)
-        (at_another d c m i r g h live k finds out (Async f v) is (c.book ++ Step r.id ∷ []) rows_now state next h.locked (moved d r.id k.instance Done) (Done ∷ more.more) (stage.Async async.Register) refl kept_opened
-        (here given r.id (moved d r.id k.instance Done)) (grown_moved d r.id k.instance Done) (sym (append_assoc k.answers (Done ∷ []) more.more) ∙ ap (λ xs. (xs ++ Done ∷ []) ++ more.more) (all_here d c.book h.known r g k left) ∙ more.same) hops tt callee_stays)
-        (λ e. cc) kept_opened
+    opens_now = enters_on d c m i r g h live k finds is (none_open k out) (stage.Async async.Register) mark.Step rows_now state next (moved d r.id k.instance Done) (here given r.id (moved d r.id k.instance Done)) (grown_moved d r.id k.instance Done)
+        (λ u. ap is_some (set_others m key row (root_key u) (no_root_key u r.func (kinds.Invoke place) refl))) leads kept_opened (hops, λ e. callee_stays)
 
   -- ---- its turns
   abbrev AfterAsync : RowKey → AsyncAt → Option Row × Tell → Type 0
   AfterAsync q at z = AfterAct d h.plain m q (λ t. turn_next c i r (turned_by d r g (async_answer at (async_says f at t)))) z
 
   open_by : (x : InvokeRow) (b : Bool) → x.registered ≡ b → is_some (map.get h.known callee) ≡ true → Left (async_answer async.Open (open_says false b)) m
-  open_by x false e there = goes_to_stage async.Register m (λ t. refl) (as_it_was h) there
+  open_by x false e there = goes_to_stage async.Register m (λ t. refl) (as_it_was h) (λ e. there)
   open_by x true e there = let a = answered_so there in replays d c m i r g h live k finds out (Async f v) is m Done a.0 (λ t. refl) (as_it_was h) a.1
 
   open_at : (w : Option Row) → map.get m key ≡ w → CallMatches w (owed_call h.known r.func place) → AfterAsync key async.Open (act (OpenInvoke f) c.now w)
@@ -145,7 +141,7 @@ module _ (d : Deployment) (c : Core) (m : Rows) (i : ℕ) (r : Run) (g : Begun) 
   module _ (there : is_some (map.get h.known callee) ≡ true) where
     body_is : (o : Option Instance) → map.get h.known callee ≡ o → is_some o ≡ true → IsBodyOf (callee_body r.id r.func g.machine.steps f v None false) (map.get h.known callee)
     body_is None at there = cc
-    body_is (Some j) at there = made_with d h.known h.sane r.id r.func g.machine.steps false f v k.instance j None k.made k.func (tx_step d c.book h.known r g k out) call_here at
+    body_is (Some j) at there = made_with d h.known h.sane r.id r.func g.machine.steps false f v k.instance j None k.made k.func (tx_step k out) call_here at
 
     abbrev body : Body
     body = callee_body r.id r.func g.machine.steps f v None false
@@ -157,8 +153,8 @@ module _ (d : Deployment) (c : Core) (m : Rows) (i : ℕ) (r : Run) (g : Begun) 
     register_at None at =
         let new = Some (rows.Intent (issued_at c.now (Some body))) in
         goes_to_stage async.Note (set_row m row_key new) (same_roots m f callee new (no_root r.id g.machine.steps))
-        (log_stays d m row_key new refl c h (stays_new (map.get m row_key) new at) (no_more d m row_key new h.known (λ e. cc)) (callee_registered d m h.known h.locked callee body c.now (no_root r.id g.machine.steps) (body_is (map.get h.known callee) refl there) h.rows at)) there
-    register_at (Some w) at = still d h.plain m row_key (Some w) (sym at) (goes_to_stage async.Note m (λ t. refl) (as_it_was h) there)
+        (log_stays d m row_key new refl c h (stays_new (map.get m row_key) new at) (no_more d m row_key new h.known (λ e. cc)) (callee_registered d m h.known h.locked callee body c.now (no_root r.id g.machine.steps) (body_is (map.get h.known callee) refl there) h.rows at)) (λ e. there)
+    register_at (Some w) at = still d h.plain m row_key (Some w) (sym at) (goes_to_stage async.Note m (λ t. refl) (as_it_was h) (λ e. there))
 
     register_turn : AfterQuery d h.plain c.now m (λ t. turn_next c i r (turned_by d r g (async_answer async.Register (async_says f async.Register t)))) (async_asks r.func place body async.Register)
     register_turn = subst (λ z. AfterAsync z async.Register (act (Register body) c.now (map.get m z))) own (register_at (map.get m row_key) refl)
@@ -176,19 +172,19 @@ module _ (d : Deployment) (c : Core) (m : Rows) (i : ℕ) (r : Run) (g : Begun) 
     note_says_so : (n : Rows) → SameRoots m n → Stays h n → (b : back.Back) → Left (async_answer async.Note (note_says b)) n
     note_says_so n roots rows Set = let a = answered_so there in starts_one d c m i r g h live k finds out (Async f v) is n Done a.0 roots rows a.1 (looks_later n)
     note_says_so n roots rows AlreadySet = let a = answered_so there in starts_one d c m i r g h live k finds out (Async f v) is n Done a.0 roots rows a.1 (looks_later n)
-    note_says_so n roots rows Absent = goes_to_stage async.Note n roots rows there
+    note_says_so n roots rows Absent = goes_to_stage async.Note n roots rows (λ e. there)
 
     note_turn : AfterQuery d h.plain c.now m (λ t. turn_next c i r (turned_by d r g (async_answer async.Note (async_says f async.Note t)))) (registered_asks r.func place)
     note_turn = note_says_so (after_act NoteRegistered c.now key m) (λ u. ap is_some (set_others m key (act NoteRegistered c.now (map.get m key)).0 (root_key u) (no_root_key u r.func (kinds.Invoke place) refl)))
         (log_stays d m key (act NoteRegistered c.now (map.get m key)).0 refl c h (stays_marked c.now (map.get m key)) (no_intent d m key (act NoteRegistered c.now (map.get m key)).0 h.known refl) (marked_registered d m h.known h.locked r.func place c.now h.rows)) (back_of (said (act NoteRegistered c.now (map.get m key)).1))
 
-  by_at : (at : AsyncAt) → SeenDone h.known r.id g.machine.steps k.instance g.caller (stage.Async at)
+  by_at : (at : AsyncAt) → (is_sent at ≡ true → is_some (map.get h.known callee) ≡ true)
       → AfterQuery d h.plain c.now m (λ t. turn_next c i r (turned_by d r g (async_answer at (async_says f at t)))) (async_asks r.func place (callee_body r.id r.func g.machine.steps f v None false) at)
   by_at async.Open seen = open_at (map.get m key) refl (h.rows.keys key)
-  by_at async.Register seen = register_turn seen
-  by_at async.Note seen = note_turn seen
+  by_at async.Register seen = register_turn (seen refl)
+  by_at async.Note seen = note_turn (seen refl)
 
-  pub async_turn : (at : AsyncAt) → SeenDone h.known r.id g.machine.steps k.instance g.caller (stage.Async at)
+  pub async_turn : (at : AsyncAt) → (is_sent at ≡ true → is_some (map.get h.known callee) ≡ true)
       → AfterQuery d h.plain c.now m (λ t. turn_next c i r (turned_by d r g (async_here_says r.id (Async f v) at t))) (async_here_asks r.id r.func g.machine.steps (Async f v) at)
   async_turn at seen = subst (λ b. AfterQuery d h.plain c.now m (λ t. turn_next c i r (turned_by d r g (if b then async_answer at (async_says f at t) else Ends None None)))
       (if b then async_asks r.func place (callee_body r.id r.func g.machine.steps f v None false) at else look_asks r.id r.func)) (sym hops) (by_at at seen)

@@ -7,6 +7,7 @@ use Rattle.beldi_laws.proofs.Moves.{AfterTurn, AfterQuery, SameRoots, AfterAct, 
 use Rattle.beldi_laws.proofs.Turns.{is_over, comes_to, knows_next}
 use Rattle.beldi_laws.proofs.Keeping.{as_it_was}
 use Rattle.beldi_laws.proofs.Registered.{callee_registered, log_stays, no_more, stays_new}
+use Rattle.beldi_laws.proofs.Cases.{false_by}
 
 -- ---- rows of callees are no rows of roots
 is_root_key : Kind → Bool
@@ -15,10 +16,8 @@ is_root_key k = false
 
 pub no_root_row : (t home : ℕ) (id : IntentId) → has_no_hops id.hops ≡ false → is_eq (key_cmp (root_key t) (record { home = home; kind = kinds.Intent id })) ≡ false
 unfolding is_root_key
-no_root_row t home id hops = elim (is_eq (key_cmp (root_key t) (record { home = home; kind = kinds.Intent id }))) as (λ b. is_eq (key_cmp (root_key t) (record { home = home; kind = kinds.Intent id })) ≡ b → b ≡ false) [
-  | true ↦ λ e. absurd (true_false (ap (λ (k : RowKey). is_root_key k.kind) (key_same (root_key t) (record { home = home; kind = kinds.Intent id }) e) ∙ hops))
-  | false ↦ λ e. refl
-] refl
+no_root_row t home id hops = let key : RowKey = record { home = home; kind = kinds.Intent id } in
+    false_by (is_eq (key_cmp (root_key t) key)) (λ e. true_false (ap (λ (k : RowKey). is_root_key k.kind) (key_same (root_key t) key e) ∙ hops))
 
 pub same_roots : (m : Rows) (home : ℕ) (id : IntentId) (v : Option Row) → has_no_hops id.hops ≡ false → SameRoots m (set_row m (record { home = home; kind = kinds.Intent id }) v)
 same_roots m home id v hops t = ap is_some (set_others m (record { home = home; kind = kinds.Intent id }) v (root_key t) (no_root_row t home id hops))

@@ -1,5 +1,5 @@
 -- The turns of a call: it is opened once, and waits for its result.
-use Rattle.beldi_laws.proofs.Names.{Answer, Answers, Begins, Begun, Bool, Call, CallAt, CallMatches, Core, Deployment, Ends, Entry, Goes, Grows, Inside, Instance, IntentId, InvokeRow, Item, Known, Knows, KnowsAt, List, Look, None, OpenInvoke, Opens, Option, Outcome, Place, PlainState, Right, Row, RowKey, Rows, Run, RunAt, RunTx, Sane, Says, SeenDone, Some, Step, Tell, TxId, Value, Waits, [], act, answer_of, ap, at_once, at_stage, call_answer, call_asks, call_here_says, call_says, callee_at, callee_of, calls_at, calls_go, child_of, effect_before, false, grows_self, has_callees, if◌then◌else◌, invoke_key, is_begin, is_some, is_waited, listed, look_says, no_root_key, opened, opens_are_open, option_map, owed_call, place_of, refl, result_of, root_key, run_called, run_tx, set_others, set_row, step_by, step_mark, subst, sym, true, turn_next, turned_by, tx_after, tx_now, tx_of, value_at, ℕ, ◌++◌, ◌∙◌, ◌∷◌, ◌≡◌}
+use Rattle.beldi_laws.proofs.Names.{Answer, Answers, Begins, Begun, Bool, Call, CallAt, CallMatches, Core, Deployment, Ends, Entry, Goes, Grows, Inside, Instance, IntentId, InvokeRow, Item, Known, Knows, KnowsAt, List, Look, None, OpenInvoke, Opens, Option, Outcome, Place, PlainState, Right, Row, RowKey, Rows, Run, RunAt, RunTx, Sane, Says, Some, Step, Tell, TxId, Value, Waits, [], act, answer_of, ap, at_once, at_stage, call_answer, call_asks, call_here_says, call_says, callee_at, callee_of, calls_at, calls_go, child_of, effect_before, false, grows_self, has_callees, if◌then◌else◌, invoke_key, is_begin, is_opened, is_some, is_waited, listed, look_says, no_root_key, opened, opens_are_open, option_map, owed_call, place_of, refl, result_of, root_key, run_called, run_tx, set_others, set_row, step_by, step_mark, subst, sym, true, turn_next, turned_by, tx_after, tx_now, tx_of, value_at, ℕ, ◌++◌, ◌∙◌, ◌∷◌, ◌≡◌}
 use Rattle.beldi_laws.proofs.Names.call
 use Rattle.beldi_laws.proofs.Names.kinds
 use Rattle.beldi_laws.proofs.Names.map
@@ -12,8 +12,9 @@ use Rattle.beldi_laws.proofs.CallsHere.{not_made, was_made, made_by, next_here, 
 use Rattle.beldi_laws.proofs.Keeping.{as_it_was, set_shadows}
 use Rattle.beldi_laws.proofs.Passing.{replays_call, tx_is, tx_now_is, tx_step_is}
 use Rattle.beldi_laws.proofs.Moves.{AfterTurn, AfterQuery, Kept, SameRoots, quiet, entered, AfterAct, still}
-use Rattle.beldi_laws.proofs.Registered.{kept_moving, no_intent}
-use Rattle.beldi_laws.proofs.Turns.{at_other, effect_here, awaits, stays_other, tx_next}
+use Rattle.beldi_laws.proofs.Others.{kept_moving}
+use Rattle.beldi_laws.proofs.Registered.{no_intent}
+use Rattle.beldi_laws.proofs.Turns.{at_other, effect_here, awaits, stands_at, tx_next}
 use Rattle.beldi_laws.proofs.KeptSane.{called_kept, called_with}
 use Rattle.beldi_laws.proofs.Shown.{log_values, sound}
 use Rattle.beldi_laws.proofs.Grown.{grown_same}
@@ -23,7 +24,7 @@ again_unmarked : (o : Option RunTx) → step_mark o false ≡ None
 again_unmarked None = refl
 again_unmarked (Some x) = refl
 
-module _ (d : Deployment) (c : Core) (m : Rows) (i : ℕ) (r : Run) (g : Begun) (h : Right d c m) (live : map.get c.runs i ≡ Some r) (at_is : r.at ≡ Begins g) (k : Knows d c.book h.known r g) (finds : Inside d m h.plain h.known r g) (f : ℕ) (v : Value) (is : g.machine.effect ≡ Call f v) (hops : has_callees r.id ≡ true) where
+module _ (d : Deployment) (c : Core) (m : Rows) (i : ℕ) (r : Run) (g : Begun) (h : Right d c m) (live : map.get c.runs i ≡ Some r) (at_is : r.at ≡ Begins g) (k : Knows d h.known r g) (finds : Inside m h.plain c.book k g.stage) (f : ℕ) (v : Value) (is : g.machine.effect ≡ Call f v) (hops : has_callees r.id ≡ true) where
   abbrev place : Place
   place = place_of r.id g.machine.steps
 
@@ -37,7 +38,7 @@ module _ (d : Deployment) (c : Core) (m : Rows) (i : ℕ) (r : Run) (g : Begun) 
   Left s n = AfterTurn d h.plain c i r (turned_by d r g s) n
 
   call_here : effect_before d k.instance g.machine.steps ≡ Call f v
-  call_here = effect_here d c.book h.known r g k ∙ is
+  call_here = effect_here k ∙ is
 
   -- ---- the result is there: it is the answer that the step was given
   answered_by : (u : Outcome) (j : Instance) → map.get h.known callee ≡ Some j → result_of j ≡ Some u → (later : List Answer) → k.later ≡ later → (rest : List Answer) × (later ≡ answer_of u ∷ rest)
@@ -58,7 +59,7 @@ module _ (d : Deployment) (c : Core) (m : Rows) (i : ℕ) (r : Run) (g : Begun) 
   apart = ap is_begin is
 
   starts : (n : Rows) (p : PlainState) (book : List Entry) (known : Known) → Sane d known → map.get known r.id ≡ Some k.instance → is_some (map.get known callee) ≡ true → (o : Run) → run_called r ≡ Some o → KnowsAt d n p book known o o.at
-  starts n p book known sane made there o started = callee_knows d n p book known sane r g.tx g.machine.steps g.machine.effect f v k.instance is made k.func (tx_step_is d c.book h.known r g k apart) call_here there o (sym (ap (callee_at r) at_is) ∙ started)
+  starts n p book known sane made there o started = callee_knows d n p book known sane r g.tx g.machine.steps g.machine.effect f v k.instance is made k.func (tx_step_is k apart) call_here there o (sym (ap (callee_at r) at_is) ∙ started)
 
   starts_here : is_some (map.get h.known callee) ≡ true → (o : Run) → run_called r ≡ Some o → KnowsAt d m h.plain c.book h.known o o.at
   starts_here there = starts m h.plain c.book h.known h.sane k.made there
@@ -68,7 +69,7 @@ module _ (d : Deployment) (c : Core) (m : Rows) (i : ℕ) (r : Run) (g : Begun) 
 
   opens_again : is_some (map.get h.known callee) ≡ true → Left (Opens (step_mark g.tx false)) m
   opens_again there = subst (λ z. Left (Opens z) m) (sym (again_unmarked g.tx)) (quiet d c m m i r h live (λ t. refl) (turned_by d r g (Opens None)) h.known h.locked refl refl
-      (stays_other d c m i r g h live k finds (Call f v) is m (stage.Call call.Look) refl (as_it_was h) hops tt there)
+      (stands_at d c m i r g h live k finds is refl (stage.Call call.Look) m h.locked (as_it_was h) (hops, λ e. there))
       (λ e. starts_here there) (as_it_was h))
 
   -- ---- it is opened now: it is the instance's next step
@@ -102,13 +103,13 @@ module _ (d : Deployment) (c : Core) (m : Rows) (i : ℕ) (r : Run) (g : Begun) 
       stays_made = callee_there d c m r g h k finds true f v is hops new left t inner
 
       looks : (more : List Entry) (q : PlainState) → Kept h rows_now q next h.locked → RunAt d rows_now q more next (Some (record r { at = Begins (at_stage g (stage.Call call.Look)) }))
-      looks more q kept = at_other d c m i r g h live k finds (Call f v) is more rows_now q next h.locked k.instance k.later (stage.Call call.Look) refl kept made (grown_same k.instance) k.run_answers hops tt stays_made
+      looks more q kept = at_other d c m i r g h live k finds is refl (stage.Call call.Look) more rows_now q next h.locked k.instance made (grown_same k.instance) kept (hops, λ e. stays_made)
 
     -- outside, by an entry
     opens_outside : g.tx ≡ None → Left (Opens (Some mark.Step)) rows_now
     opens_outside tx =
-        let out : tx_after d r.id k.instance k.answers ≡ None = tx_is d c.book h.known r g k apart ∙ ap (run_tx r.id r.func) tx in
-        let inner : None ≡ tx_now d r.id k.instance = sym (tx_next d c.book h.known r g k out left) in
+        let out : tx_after d r.id k.instance k.answers ≡ None = tx_is k apart ∙ ap (run_tx r.id r.func) tx in
+        let inner : None ≡ tx_now d r.id k.instance = sym (tx_next k out left) in
         let state = step_by h.plain r.id k.instance (Call f v) in
         let leads = call_entered d c m i r g h live k finds true f v is hops new left out (next None inner) in
         let kept = kept_opened None inner state leads.grows refl (log_values h key row refl) (callee_goes d c m i r g h live k finds true f v is hops new left out) in
@@ -119,7 +120,7 @@ module _ (d : Deployment) (c : Core) (m : Rows) (i : ℕ) (r : Run) (g : Begun) 
     opens_inside : (o : RunTx) → g.tx ≡ Some o → Left (Opens None) rows_now
     opens_inside o tx =
         let t : TxId = tx_of r.id r.func o in
-        let now : tx_now d r.id k.instance ≡ Some t = tx_now_is d c.book h.known r g k apart left ∙ ap (run_tx r.id r.func) tx in
+        let now : tx_now d r.id k.instance ≡ Some t = tx_now_is k apart left ∙ ap (run_tx r.id r.func) tx in
         let calls = call_now d c m r g h k true f v is new left in
         let none = no_outcome d c m r g h k true f v is new left in
         let goes = calls_go d m rows_now h.plain h.known h.locked r.id k.instance t f v (opens_are_open d m h.plain h.known h.locked r.id k.instance t (sound h) k.made none now) k.made now calls hops
@@ -157,10 +158,10 @@ module _ (d : Deployment) (c : Core) (m : Rows) (i : ℕ) (r : Run) (g : Begun) 
   look_at (Some (rows.Invoke x)) at owed there = still d h.plain m key (Some (rows.Invoke x)) (sym at) (look_by x x.result refl owed)
   look_at (Some w) at owed there = absurd owed
 
-  by_at : (at : CallAt) → SeenDone h.known r.id g.machine.steps k.instance g.caller (stage.Call at) → AfterQuery d h.plain c.now m (λ t. turn_next c i r (turned_by d r g (call_answer r.id g.tx g.machine.steps (call_says f at t)))) (call_asks r.func place f at)
+  by_at : (at : CallAt) → (is_opened at ≡ true → is_some (map.get h.known callee) ≡ true) → AfterQuery d h.plain c.now m (λ t. turn_next c i r (turned_by d r g (call_answer r.id g.tx g.machine.steps (call_says f at t)))) (call_asks r.func place f at)
   by_at call.Open seen = open_at (map.get m key) refl (h.rows.keys key)
-  by_at call.Look seen = look_at (map.get m key) refl (h.rows.keys key) seen
+  by_at call.Look seen = look_at (map.get m key) refl (h.rows.keys key) (seen refl)
 
-  pub call_turn : (at : CallAt) → SeenDone h.known r.id g.machine.steps k.instance g.caller (stage.Call at)
+  pub call_turn : (at : CallAt) → (is_opened at ≡ true → is_some (map.get h.known callee) ≡ true)
       → AfterQuery d h.plain c.now m (λ t. turn_next c i r (turned_by d r g (call_here_says r.id g.tx g.machine.steps (Call f v) at t))) (call_asks r.func place f at)
   call_turn at seen = subst (λ b. AfterQuery d h.plain c.now m (λ t. turn_next c i r (turned_by d r g (if b then call_answer r.id g.tx g.machine.steps (call_says f at t) else Ends None None))) (call_asks r.func place f at)) (sym hops) (by_at at seen)

@@ -1,5 +1,5 @@
 -- What is called at a step, and what a run knows of it.
-use Rattle.beldi_laws.proofs.Names.{Answer, Begun, Body, Bool, ByTx, Call, CalledBy, Core, Deployment, Effect, End, Entry, Frame, Goes, Grows, Inside, Instance, IntentId, InvokeRow, IsBelow, IsBodyOf, IsOutside, IsTrue, Item, Known, Knows, KnowsAt, List, LockedAtEnds, Matches, MaySet, None, Option, Outcome, PlainState, Registers, Right, Row, RowKey, Rows, Run, RunTx, Sane, Some, Step, TxId, Value, [], ahead_set, answer_given, answered, ap, append_assoc, arith, at_once, at_once_same, call_of, call_opened, called_by, called_in, callee_apart, callee_body, callee_by, callee_of, calls_at, child_of, child_same, content_of, effect_before, effect_of, elsewhere, enabled_step, ended_by, eq-eqb, false, goes_one, got_next, grows_new, has_callees, here, if◌then◌else◌, inl, inr, invoke_key, is_begin, is_none, is_some, item_touched, kind_of, last_hop, length, length-append, made_owes, made_set, moved, new_instance, no_own_callee, none_out, now_open, opened, option_map, origin_stays, owed_call, place_of, refl, result_of, run_tx, same_some, set_after_callee, set_next, set_row, slice_get, step_by, subst, suc, sym, touched_by, true, tx_after, tx_at, tx_begun, tx_end, tx_now, unlocked_absent, waits_at, wants_answer, with_callee, with_instance, within_by, zero, ℕ, ◌&&◌, ◌++◌, ◌<◌, ◌∙◌, ◌∷◌, ◌≡◌, ◌⊎◌}
+use Rattle.beldi_laws.proofs.Names.{Answer, Begun, Body, Bool, ByTx, Call, CalledBy, Core, Deployment, Effect, End, Entry, Frame, Goes, Grows, Inside, Instance, IntentId, InvokeRow, IsBelow, IsBodyOf, IsOutside, IsTrue, Item, Known, Knows, KnowsAt, List, LockedAtEnds, Matches, MaySet, None, Option, Outcome, PlainState, Registers, Right, Row, RowKey, Rows, Run, RunTx, Sane, Some, Step, TxId, Value, [], ahead_set, answer_given, answered, ap, append_assoc, arith, at_once, at_once_same, call_of, call_opened, called_by, called_in, callee_apart, callee_body, callee_by, callee_of, calls_at, child_of, child_same, content_of, effect_before, effect_of, elsewhere, enabled_step, ended_by, eq-eqb, false, goes_one, got_next, grows_new, has_callees, here, if◌then◌else◌, inl, inr, invoke_key, is_begin, is_none, is_some, item_touched, kind_of, last_hop, length, length-append, made_owes, made_set, moved, new_instance, no_own_callee, none_by, none_out, now_open, opened, option_map, origin_stays, owed_call, place_of, refl, result_of, run_tx, same_some, set_after_callee, set_next, set_row, slice_get, step_by, subst, suc, sym, touched_by, true, tx_after, tx_at, tx_begun, tx_end, tx_now, unlocked_absent, waits_at, wants_answer, with_callee, with_instance, within_by, zero, ℕ, ◌&&◌, ◌++◌, ◌<◌, ◌∙◌, ◌∷◌, ◌≡◌, ◌⊎◌}
 use Rattle.beldi_laws.proofs.Names.kind
 use Rattle.beldi_laws.proofs.Names.map
 use Rattle.beldi_laws.proofs.Names.rows
@@ -15,6 +15,7 @@ use Rattle.beldi_laws.proofs.Turns.{answer_here, step_here, effect_next, not_ove
 use Rattle.beldi_value.proofs.Callees.{no_root}
 use Rattle.beldi_laws.proofs.Outside.{plain_none}
 use Rattle.beldi_known.specs.Beside.{begins}
+use Rattle.beldi_laws.proofs.Cases.{by_option}
 
 -- a call tells whether it waits, its function and its argument
 pub same_call : (a b : Bool) (f g : ℕ) (v u : Value) → call_of a f v ≡ call_of b g u → (a ≡ b) × (f ≡ g) × (v ≡ u)
@@ -25,11 +26,7 @@ same_call false false f g v u h = (refl, cc, cc)
 
 -- who is not known called nobody
 pub childless : (d : Deployment) (known : Known) → Sane d known → (id : IntentId) → map.get known id ≡ None → (n : ℕ) → map.get known (child_of id n) ≡ None
-childless d known sane id new n = by_callee (map.get known (child_of id n)) refl
-  where
-    by_callee : (o : Option Instance) → map.get known (child_of id n) ≡ o → o ≡ None
-    by_callee None e = refl
-    by_callee (Some j) e = absurd (subst (λ o. CalledBy d id o n j) new (sane.called id n j e))
+childless d known sane id new n = none_by (map.get known (child_of id n)) (λ j e. subst (λ o. CalledBy d id o n j) new (sane.called id n j e))
 
 -- a callee that was made has the body of its call, in the transaction of the call where its caller waits
 pub made_with : (d : Deployment) (known : Known) → Sane d known → (id : IntentId) (func step : ℕ) (w : Bool) (f : ℕ) (v : Value) (q j : Instance) (t : Option TxId) → map.get known id ≡ Some q → q.func ≡ func → tx_at d id q step ≡ t → effect_before d q step ≡ call_of w f v → map.get known (child_of id step) ≡ Some j
@@ -61,7 +58,7 @@ module _ (d : Deployment) (m : Rows) (p : PlainState) (book : List Entry) (known
   callee_knows = by_callee (map.get known (child_of r.id step)) refl there
 
 -- ---- a call that a run stands at, whether it waits for it or not
-module _ (d : Deployment) (c : Core) (m : Rows) (r : Run) (g : Begun) (h : Right d c m) (k : Knows d c.book h.known r g) (w : Bool) (f : ℕ) (v : Value) (call_here : effect_before d k.instance g.machine.steps ≡ call_of w f v) where
+module _ (d : Deployment) (c : Core) (m : Rows) (r : Run) (g : Begun) (h : Right d c m) (k : Knows d h.known r g) (w : Bool) (f : ℕ) (v : Value) (call_here : effect_before d k.instance g.machine.steps ≡ call_of w f v) where
   abbrev callee : IntentId
   callee = child_of r.id g.machine.steps
 
@@ -74,18 +71,12 @@ module _ (d : Deployment) (c : Core) (m : Rows) (r : Run) (g : Begun) (h : Right
       by_callee (Some j) = ap (λ b. if b then Some (j.func, result_of j) else None) (eq-eqb k.instance.func r.func k.func)
 
   pub not_made : owed_call h.known r.func (place_of r.id g.machine.steps) ≡ None → map.get h.known callee ≡ None
-  not_made none = by_callee (map.get h.known callee) (sym owed_is ∙ none)
-    where
-      by_callee : (o : Option Instance) → option_map {U = ℕ × Option Outcome} (λ j. (j.func, result_of j)) o ≡ None → o ≡ None
-      by_callee None e = refl
-      by_callee (Some j) e = cc
+  not_made none = none_by (map.get h.known callee) (λ j at. let clash = sym (sym owed_is ∙ none) ∙ ap (option_map {U = ℕ × Option Outcome} (λ j. (j.func, result_of j))) at in cc)
 
   pub was_made : (z : ℕ × Option Outcome) → owed_call h.known r.func (place_of r.id g.machine.steps) ≡ Some z → (j : Instance) × (map.get h.known callee ≡ Some j) × (result_of j ≡ z.1)
-  was_made z there = by_callee (map.get h.known callee) refl (sym owed_is ∙ there)
-    where
-      by_callee : (o : Option Instance) → map.get h.known callee ≡ o → option_map {U = ℕ × Option Outcome} (λ j. (j.func, result_of j)) o ≡ Some z → (j : Instance) × (map.get h.known callee ≡ Some j) × (result_of j ≡ z.1)
-      by_callee None at e = cc
-      by_callee (Some j) at e = (j, at, ap (λ z. z.1) (same_some e))
+  was_made z there = let owed = sym there ∙ owed_is in by_option (map.get h.known callee)
+      (λ none. let clash = owed ∙ ap (option_map {U = ℕ × Option Outcome} (λ j. (j.func, result_of j))) none in cc)
+      (λ j at. (j, at, ap (λ z. z.1) (sym (same_some (owed ∙ ap (option_map {U = ℕ × Option Outcome} (λ j. (j.func, result_of j))) at)))))
 
   pub made_by : (x : InvokeRow) → owed_call h.known r.func (place_of r.id g.machine.steps) ≡ Some (x.func, x.result) → is_some (map.get h.known callee) ≡ true
   made_by x there = let j = was_made (x.func, x.result) there in ap is_some j.1
@@ -96,13 +87,13 @@ module _ (d : Deployment) (c : Core) (m : Rows) (r : Run) (g : Begun) (h : Right
       let called = called_in d h.known h.sane r.id g.machine.steps j at in
       let same : called.0 ≡ k.instance = same_some (sym called.1 ∙ k.made) in
       let parts = same_call w called.2.waits f j.func v j.args (sym call_here ∙ ap (λ z. effect_before d z g.machine.steps) (sym same) ∙ called.2.call) in
-      sym (answer_here d c.book h.known r g k later left) ∙ ap (λ z. slice_get z.answers g.machine.steps) (sym same) ∙ called.2.answered ∙ ap (λ t. answer_given t j.outcome) (sym parts.0)
+      sym (answer_here k later left) ∙ ap (λ z. slice_get z.answers g.machine.steps) (sym same) ∙ called.2.answered ∙ ap (λ t. answer_given t j.outcome) (sym parts.0)
 
   -- where it was not made, the call is the instance's next step
   pub next_here : map.get h.known callee ≡ None → (later : List Answer) → k.later ≡ later → k.later ≡ []
   next_here new [] left = left
   next_here new (a ∷ rest) left =
-      let there = h.sane.callees r.id k.instance g.machine.steps w f v k.made (answered_before k.instance.answers g.machine.steps a (answer_here d c.book h.known r g k (a ∷ rest) left)) call_here in
+      let there = h.sane.callees r.id k.instance g.machine.steps w f v k.made (answered_before k.instance.answers g.machine.steps a (answer_here k (a ∷ rest) left)) call_here in
       let clash = sym (ap is_some new) ∙ there in cc
     where
       answered_before : (xs : List Answer) (n : ℕ) (a : Answer) → slice_get xs n ≡ Some a → n < length xs
@@ -140,22 +131,22 @@ call_row d known locked ends sane id i t f v waits is new m step func steps func
     (call_opened d known locked id i z waits is new (childless d known sane (callee_of id i) new) (unlocked_absent d known locked ends (callee_of id i) new) (made_owes d known (callee_of id i) f v (Some (calls_at id i waits)) t) (sym (ap (λ (b : Body). b.from) same.body)) same.outcome m (opened f) (sym same.func) refl h))
 
 -- .. now: it is the instance's next step
-module _ (d : Deployment) (c : Core) (m : Rows) (r : Run) (g : Begun) (h : Right d c m) (k : Knows d c.book h.known r g) (w : Bool) (f : ℕ) (v : Value) (is : g.machine.effect ≡ call_of w f v) (new : map.get h.known (child_of r.id g.machine.steps) ≡ None) (left : k.later ≡ []) where
+module _ (d : Deployment) (c : Core) (m : Rows) (r : Run) (g : Begun) (h : Right d c m) (k : Knows d h.known r g) (w : Bool) (f : ℕ) (v : Value) (is : g.machine.effect ≡ call_of w f v) (new : map.get h.known (child_of r.id g.machine.steps) ≡ None) (left : k.later ≡ []) where
   pub call_now : effect_of d k.instance ≡ call_of w f v
-  call_now = effect_next d c.book h.known r g k left ∙ is
+  call_now = effect_next k left ∙ is
 
   pub absent_here : map.get h.known (callee_of r.id k.instance) ≡ None
-  absent_here = ap (λ n. map.get h.known (child_of r.id n)) (sym (step_here d c.book h.known r g k left)) ∙ new
+  absent_here = ap (λ n. map.get h.known (child_of r.id n)) (sym (step_here k left)) ∙ new
 
   pub no_outcome : k.instance.outcome ≡ None
-  no_outcome = not_over d c m r g h k left (subst (λ e. IsTrue (wants_answer e)) (sym is) (by_wait w))
+  no_outcome = not_over h k left (subst (λ e. IsTrue (wants_answer e)) (sym is) (by_wait w))
     where
       by_wait : (b : Bool) → IsTrue (wants_answer (call_of b f v))
       by_wait true = refl
       by_wait false = refl
 
 -- .. its callee is in this transaction, if any
-module _ (d : Deployment) (c : Core) (m : Rows) (r : Run) (g : Begun) (h : Right d c m) (k : Knows d c.book h.known r g) (finds : Inside d m h.plain h.known r g)
+module _ (d : Deployment) (c : Core) (m : Rows) (r : Run) (g : Begun) (h : Right d c m) (k : Knows d h.known r g) (finds : Inside m h.plain c.book k g.stage)
     (w : Bool) (f : ℕ) (v : Value) (is : g.machine.effect ≡ call_of w f v) (hops : has_callees r.id ≡ true) (new : map.get h.known (child_of r.id g.machine.steps) ≡ None) (left : k.later ≡ []) (t : Option TxId) (inner : t ≡ within_by w (tx_now d r.id k.instance)) where
   abbrev made_id : IntentId
   made_id = callee_of r.id k.instance
@@ -180,7 +171,7 @@ module _ (d : Deployment) (c : Core) (m : Rows) (r : Run) (g : Begun) (h : Right
   opened_rows = set_row m key row
 
   steps : g.machine.steps ≡ length k.instance.answers
-  steps = step_here d c.book h.known r g k left
+  steps = step_here k left
 
   absent : map.get h.known made_id ≡ None
   absent = absent_here d c m r g h k w f v is new left
@@ -230,7 +221,7 @@ module _ (d : Deployment) (c : Core) (m : Rows) (r : Run) (g : Begun) (h : Right
   callee_frame none p same = log_frame d m key row refl (stays_new (map.get m key) row none) h.plain p h.known given same callee_joins
 
 -- ---- outside a transaction its step is entered
-module _ (d : Deployment) (c : Core) (m : Rows) (i : ℕ) (r : Run) (g : Begun) (h : Right d c m) (live : map.get c.runs i ≡ Some r) (k : Knows d c.book h.known r g) (finds : Inside d m h.plain h.known r g)
+module _ (d : Deployment) (c : Core) (m : Rows) (i : ℕ) (r : Run) (g : Begun) (h : Right d c m) (live : map.get c.runs i ≡ Some r) (k : Knows d h.known r g) (finds : Inside m h.plain c.book k g.stage)
     (w : Bool) (f : ℕ) (v : Value) (is : g.machine.effect ≡ call_of w f v) (hops : has_callees r.id ≡ true) (new : map.get h.known (child_of r.id g.machine.steps) ≡ None) (left : k.later ≡ []) (out : tx_after d r.id k.instance k.answers ≡ None) where
   now : effect_of d k.instance ≡ call_of w f v
   now = call_now d c m r g h k w f v is new left

@@ -1,6 +1,6 @@
 -- The turn of a run that is to decide its transaction: it puts the decision, whose entry is the transaction's piece or its try; or the
 -- decision is there.
-use Rattle.beldi_laws.proofs.Names.{Answer, AtStage, Begun, Bool, ByTx, Core, Deployment, FellAt, Frame, Goes, Grows, Inside, Instance, Intent, IntentId, IsAbort, IsCommit, IsFree, IsFreePlace, IsOpen, IsTrue, Item, Known, Knows, List, Mark, MarkOk, Matches, None, OpenTx, Option, Own, OwnedAreUnmarked, Owner, OwnersCallNobody, ParticipantsHaveRows, Place, PlainState, PutRead, Right, Row, RowKey, Rows, Run, Sane, SaneInstance, Some, StageOk, TookPart, TouchedIn, Touches, Try, TxId, Visit, [], aborts_are_tries, act, after, ahead_set, answered, ap, arith, at_calls, behind_decided, commits_are_pieces, cond, content_of, decide_by_says, decided, decided_by, decided_says, decision_key, effect_after, effect_of, end_by_asks, end_mark, end_of, ended_by, ends_alone, entries_touch, entry_of, eq-eqb, eqb-true, false, few_answers, first_visit, fits, here, if◌then◌else◌, inl, inr, is_at, is_owner, is_some, key_self, known_none_after, known_set, last_answer, length, listed, log_key, moved, moved_one, no_decision, no_note, no_root, none_out, note_at, open_of, opens_are_open, or_null, own_tx, pieces_are_moves, pieces_touch_their_items, place_of, refl, root_key, row_got, same_some, sane_decided, seen_of, set_others, set_row, subst, sym, touched, true, turn_next, turned_by, tx_after, tx_begun, tx_end, txs_after, txs_by, unlocked_elsewhere, value_at, wants_answer, with_decision, with_instance, ℕ, ◌++◌, ◌<◌, ◌==◌, ◌∙◌, ◌∷◌, ◌≡◌, ◌⊎◌}
+use Rattle.beldi_laws.proofs.Names.{Answer, Begun, Bool, ByTx, Core, Deployment, FellAt, Frame, Goes, Grows, Inside, Instance, Intent, IntentId, IsAbort, IsCommit, IsFree, IsFreePlace, IsOpen, IsTrue, Item, Known, Knows, List, Mark, Matches, None, OpenTx, Option, Own, OwnedAreUnmarked, Owner, OwnersCallNobody, ParticipantsHaveRows, Place, PlainState, PutRead, Right, Row, RowKey, Rows, Run, Sane, SaneInstance, Some, TookPart, TouchedIn, Touches, Try, TxId, Visit, Visited, [], aborts_are_tries, act, after, ahead_set, answered, ap, arith, at_calls, behind_decided, commits_are_pieces, cond, content_of, decide_by_says, decided, decided_by, decided_says, decision_key, effect_after, effect_of, end_by_asks, end_mark, end_of, end_walk, ended_by, ends_alone, entries_touch, entry_of, eq-eqb, eqb-true, false, few_answers, first_visit, fits, here, if◌then◌else◌, inl, inr, is_at, is_owner, is_some, key_self, known_none_after, known_set, last_answer, length, listed, log_key, moved, moved_one, no_decision, no_note, no_root, none_out, note_at, open_of, opens_are_open, or_null, own_tx, pieces_are_moves, pieces_touch_their_items, place_of, refl, root_key, row_got, same_some, sane_decided, seen_of, set_others, set_row, subst, sym, touched, true, turn_next, turned_by, tx_after, tx_begun, tx_end, txs_after, txs_by, unlocked_elsewhere, value_at, wants_answer, with_decision, with_instance, ℕ, ◌++◌, ◌<◌, ◌==◌, ◌∙◌, ◌∷◌, ◌≡◌, ◌⊎◌}
 use Rattle.beldi_laws.proofs.Names.answer
 use Rattle.beldi_laws.proofs.Names.effect
 use Rattle.beldi_laws.proofs.Names.goes
@@ -22,7 +22,7 @@ use Rattle.beldi_laws.proofs.Moves.{AfterAct, AfterQuery, AfterTurn, Entered, Sa
 use Rattle.beldi_laws.proofs.OpenOf.{open_begun, own_begin}
 use Rattle.beldi_laws.proofs.Others.{kept_by, end_here}
 use Rattle.beldi_laws.proofs.Shown.{Settled, Shows, holds_here, settled, sound}
-use Rattle.beldi_laws.proofs.Turns.{at_steps, wanted_here, all_here, decides_on, effect_next, not_over, sane_instance, stands_on, step_here}
+use Rattle.beldi_laws.proofs.Turns.{at_steps, by_answer, enters_on, wanted_here, all_here, effect_next, not_over, sane_instance, stands_on, step_here}
 
 -- ---- small facts
 -- its own decision is the one that is there
@@ -46,7 +46,7 @@ one_over : (d : Deployment) (m : Rows) (p : PlainState) (id : IntentId) (k : Ins
 one_over d m p id k h = (one_at_once d m p id (answered k answer.Done) (one_answered d m p id k answer.Done (λ c i inside dead. cc) h)).settled
 
 -- ---- the turn
-module _ (d : Deployment) (c : Core) (m : Rows) (i : ℕ) (r : Run) (g : Begun) (h : Right d c m) (live : map.get c.runs i ≡ Some r) (k : Knows d c.book h.known r g) (finds : Inside d m h.plain h.known r g) (o : OpenTx) (tx : g.tx ≡ Some (Own o))
+module _ (d : Deployment) (c : Core) (m : Rows) (i : ℕ) (r : Run) (g : Begun) (h : Right d c m) (live : map.get c.runs i ≡ Some r) (k : Knows d h.known r g) (finds : Inside m h.plain c.book k g.stage) (o : OpenTx) (tx : g.tx ≡ Some (Own o))
     (inside_here : tx_after d r.id k.instance k.answers ≡ Some (own_tx r.id r.func o)) (open_here : open_of d k.instance k.answers ≡ Some (Own o)) (commit : Bool) (is : g.machine.effect ≡ effect.End commit) (mk : Mark) (mark : mk ≡ end_mark r.id g.machine.steps o.cause commit) where
   abbrev own : TxId
   own = own_tx r.id r.func o
@@ -63,10 +63,10 @@ module _ (d : Deployment) (c : Core) (m : Rows) (i : ℕ) (r : Run) (g : Begun) 
   next_visit = at_calls [] None
 
   steps : g.machine.steps ≡ length k.answers
-  steps = at_steps d c.book h.known r g k
+  steps = at_steps k
 
   effect_so : effect_after d k.instance k.answers ≡ effect.End commit
-  effect_so = wanted_here d c.book h.known r g k ∙ is
+  effect_so = wanted_here k ∙ is
 
   begun_here : (txs_after d k.instance k.answers).begun ≡ Some o.begin
   begun_here = open_begun d k.instance k.answers ∙ ap own_begin open_here
@@ -75,24 +75,15 @@ module _ (d : Deployment) (c : Core) (m : Rows) (i : ℕ) (r : Run) (g : Begun) 
   few = few_answers d k.instance.func k.instance.args (is_some k.instance.within) k.answers (subst (λ z. IsTrue (wants_answer z)) (sym effect_so) refl)
 
   sane_here : SaneInstance d r.id k.instance
-  sane_here = sane_instance d c m r g h k
+  sane_here = sane_instance h k
 
   -- the key is that of its instance
   own_key : log_key k.instance.func (place_of r.id o.begin) ≡ key
   own_key = ap (λ f. log_key f (place_of r.id o.begin)) k.func
 
-  -- ---- where it stands next
-  fits_end : StageOk (is_some (tx_after d r.id k.instance k.answers)) r.id g.caller g.machine.effect (stage.End next_visit)
-  fits_end = subst (λ t. StageOk (is_some t) r.id g.caller g.machine.effect (stage.End next_visit)) (sym inside_here) (subst (λ e. StageOk true r.id g.caller e (stage.End next_visit)) (sym is) refl)
-
-  mark_end : MarkOk r.id g.machine.steps g.tx g.machine.effect (stage.End next_visit)
-  mark_end = subst (λ t. MarkOk r.id g.machine.steps t g.machine.effect (stage.End next_visit)) (sym tx) (subst (λ e. MarkOk r.id g.machine.steps (Some (Own o)) e (stage.End next_visit)) (sym is) tt)
-
-  -- the decision is there, and nobody was visited yet
-  next_found : (n : Rows) (p : PlainState) (known : Known) (locked : IntentId → Bool) → Matches d n known locked → Sane d known → Settled d n p known → tx_end d known own ≡ Some (g.machine.steps, commit) → map.get n key ≡ row
-      → AtStage d n p known r.id r.func g.tx g.machine.steps g.machine.effect (stage.End next_visit)
-  next_found n p known locked matches sane settled ended there = subst (λ t. AtStage d n p known r.id r.func t g.machine.steps g.machine.effect (stage.End next_visit)) (sym tx) (subst (λ e. AtStage d n p known r.id r.func (Some (Own o)) g.machine.steps e (stage.End next_visit)) (sym is)
-      (visits_found d n known locked matches sane own (g.machine.steps, commit) ended settled.marks settled.released there))
+  -- ---- where it stands next: the decision is there, and nobody was visited yet
+  next_found : (n : Rows) (p : PlainState) (known : Known) (locked : IntentId → Bool) → Matches d n known locked → Sane d known → Settled d n p known → tx_end d known own ≡ Some (g.machine.steps, commit) → map.get n key ≡ row → Visited (end_walk r.id r.func o g.machine.steps commit next_visit) n
+  next_found n p known locked matches sane settled ended there = visits_found d n known locked matches sane own (g.machine.steps, commit) ended settled.marks settled.released there
 
   -- what follows the act on its row
   abbrev AfterPut : Option Row → Type 0
@@ -112,18 +103,18 @@ module _ (d : Deployment) (c : Core) (m : Rows) (i : ℕ) (r : Run) (g : Begun) 
     finds_it : AfterPut (map.get m key)
     finds_it = subst AfterPut (sym there) (still d h.plain m key row (sym there)
         (subst (λ z. AfterTurn d h.plain c i r (turned_by d r g (decided_says commit mk z)) m) (sym (own_there commit))
-        (stands_on d c m i r g h live k finds (stage.End next_visit) m h.locked refl (λ t. refl) (as_it_was h) fits_end mark_end (next_found m h.plain h.known h.locked h.rows h.sane (settled h) ended there))))
+        (stands_on d c m i r g h live k finds is tx (stage.End next_visit) m h.locked (λ t. refl) (as_it_was h) (refl, next_found m h.plain h.known h.locked h.rows h.sane (settled h) ended there))))
 
   -- ---- at the front: it is put
   module _ (left : k.later ≡ []) where
     all : k.answers ≡ k.instance.answers
-    all = all_here d c.book h.known r g k left
+    all = all_here k left
 
     step_now : g.machine.steps ≡ length k.instance.answers
-    step_now = step_here d c.book h.known r g k left
+    step_now = step_here k left
 
     now : effect_of d k.instance ≡ effect.End commit
-    now = effect_next d c.book h.known r g k left ∙ is
+    now = effect_next k left ∙ is
 
     begun_now : (txs_after d k.instance k.instance.answers).begun ≡ Some o.begin
     begun_now = subst (λ ts. (txs_after d k.instance ts).begun ≡ Some o.begin) all begun_here
@@ -215,7 +206,7 @@ module _ (d : Deployment) (c : Core) (m : Rows) (i : ℕ) (r : Run) (g : Begun) 
 
     -- ---- its transaction is open
     opened_tx : IsOpen d m h.plain h.known h.locked own
-    opened_tx = opens_are_open d m h.plain h.known h.locked r.id k.instance own (sound h) k.made (not_over d c m r g h k left (subst (λ e. IsTrue (wants_answer e)) (sym is) refl)) (subst (λ ts. tx_after d r.id k.instance ts ≡ Some own) all inside_here)
+    opened_tx = opens_are_open d m h.plain h.known h.locked r.id k.instance own (sound h) k.made (not_over h k left (subst (λ e. IsTrue (wants_answer e)) (sym is) refl)) (subst (λ ts. tx_after d r.id k.instance ts ≡ Some own) all inside_here)
 
     begun_so : (q : Instance) → map.get h.plain.made r.id ≡ Some q → tx_begun r.id q ≡ own
     begun_so q made = ap (tx_begun r.id) (same_some (sym made ∙ opened_tx.made)) ∙ sym opened_tx.is
@@ -275,8 +266,8 @@ module _ (d : Deployment) (c : Core) (m : Rows) (i : ℕ) (r : Run) (g : Begun) 
 
     -- ---- what it keeps
     puts : (state : PlainState) → Decision state → AfterPut None
-    puts state by = decides_on d c m i r g h live k finds next_visit mk n state next over roots leads (kept_by d c m n h state next h.locked shows_now grows frame) (here h.known r.id over) (grown_moved d r.id k.instance answer.Done) fits_end
-        (next_found n state next h.locked rows_now sane_now settled_now ended_now put_there)
+    puts state by = enters_on d c m i r g h live k finds is tx (stage.End next_visit) mk n state next over (here h.known r.id over) (grown_moved d r.id k.instance answer.Done) roots leads (kept_by d c m n h state next h.locked shows_now grows frame)
+        (refl, next_found n state next h.locked rows_now sane_now settled_now ended_now put_there)
       where
         -- nobody holds the lock of an item that it owns
         free : IsFree d h.plain (entry_of r.id mk)
@@ -337,8 +328,4 @@ module _ (d : Deployment) (c : Core) (m : Rows) (i : ℕ) (r : Run) (g : Begun) 
 
   -- ---- the turn, by the answers that the run lacks
   pub decide_turn : AfterQuery d h.plain c.now m (λ u. turn_next c i r (turned_by d r g (decide_by_says r.id r.func g.machine.steps commit mk (Some (Own o)) u))) (end_by_asks r.id r.func g.machine.steps commit first_visit (Some (Own o)))
-  decide_turn = by_later k.later refl
-    where
-      by_later : (later : List Answer) → k.later ≡ later → AfterPut (map.get m key)
-      by_later [] left = puts_it left
-      by_later (a ∷ rest) left = finds_it a rest left
+  decide_turn = by_answer k puts_it finds_it

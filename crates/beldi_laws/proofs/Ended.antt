@@ -1,5 +1,5 @@
 -- How a transaction ended: its End was wanted while it was open, and all steps of its owner between its Begin and its End are of it.
-use Rattle.beldi_laws.proofs.Names.{Answer, Bool, Deployment, Effect, Instance, IntentId, List, None, Option, Some, TxId, Txs, [], ap, append-nil, append_assoc, arith, at_of, begin_is, drop, effect_after, effect_before, end_of, eq-or-lt_of_le, false, fits_at, get_or, if◌then◌else◌, inl, inr, is_at, is_bound, is_some, length, length-append, length-take-le, ltb-true, nat_lt, no_bound, or_own, refl, same_some, subst, sym, take, take-append-drop, take-append-le, take_front, take_more, true, tx_at, tx_by, txs_after, txs_by, txs_pushed, wants, ℕ, ◌++◌, ◌+◌, ◌<◌, ◌∙◌, ◌∷◌, ◌≡◌, ◌≤◌, ◌⊎◌}
+use Rattle.beldi_laws.proofs.Names.{Answer, Bool, Deployment, Effect, Instance, IntentId, List, None, Some, Txs, [], ap, append-nil, append_assoc, arith, at_of, begin_is, drop, effect_after, effect_before, end_of, eq-or-lt_of_le, false, fits_at, get_or, if◌then◌else◌, inl, inr, is_at, is_bound, is_some, length, length-append, length-take-le, ltb-true, nat_lt, no_bound, none_by, or_own, refl, same_some, subst, sym, take, take-append-drop, take-append-le, take_front, take_more, true, tx_at, tx_by, txs_after, txs_by, txs_pushed, wants, ℕ, ◌++◌, ◌+◌, ◌<◌, ◌∙◌, ◌∷◌, ◌≡◌, ◌≤◌, ◌⊎◌}
 use Rattle.beldi_laws.proofs.Names.answer
 use Rattle.beldi_laws.proofs.Names.effect
 use Rattle.std.proofs.lemmas.Bool.{ltb-false}
@@ -50,11 +50,7 @@ ended_at d q b z h = ended_on d q [] q.answers (λ b z e. cc) b z h
 
 -- who was called in a transaction wants no End
 pub ends_outside : (d : Deployment) (q : Instance) (given : List Answer) (c : Bool) → effect_after d q given ≡ effect.End c → q.within ≡ None
-ends_outside d q given c ends = by_within q.within refl
-  where
-    by_within : (w : Option TxId) → q.within ≡ w → w ≡ None
-    by_within None is = refl
-    by_within (Some t) is = let clash = sym (no_bound d q.func q.args given) ∙ ap (λ w. is_bound (wants d q.func q.args (is_some w) given)) (sym is) ∙ ap is_bound ends in cc
+ends_outside d q given c ends = none_by q.within (λ t is. let clash = sym (no_bound d q.func q.args given) ∙ ap (λ w. is_bound (wants d q.func q.args (is_some w) given)) (sym is) ∙ ap is_bound ends in cc)
 
 -- ---- between a Begin and its End
 module _ (d : Deployment) (q : Instance) (b : ℕ) where

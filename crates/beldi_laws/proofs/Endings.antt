@@ -8,13 +8,15 @@ use Rattle.beldi_laws.proofs.Frames.{NoFinish, no_member_finish}
 use Rattle.beldi_laws.proofs.Keeping.{as_it_was}
 use Rattle.beldi_laws.proofs.KeptSane.{ended_kept}
 use Rattle.beldi_laws.proofs.Moves.{AfterQuery, SameRoots, Kept, Stays, Entered, entered, AfterAct, still, replaced}
-use Rattle.beldi_laws.proofs.Registered.{StaysRow, kept_moving, log_frame, log_shadows, log_stays, no_more}
+use Rattle.beldi_laws.proofs.Others.{kept_moving}
+use Rattle.beldi_laws.proofs.Registered.{StaysRow, log_frame, log_shadows, log_stays, no_more}
 use Rattle.beldi_laws.proofs.Shown.{log_values}
 use Rattle.beldi_laws.proofs.Turns.{ends}
 use Rattle.beldi_row.specs.declared.act.Act.TheVariants.{End}
-use Rattle.beldi_laws.proofs.Returns.{Left, ahead_over, done, goes_over, grows_over, idle_outside, leads, nobody_over, not_root, over, returns_now, root_is, root_outside, same_outcome, settled_over, tx, unlocked}
+use Rattle.beldi_laws.proofs.Returns.{Left, ahead_over, done, goes_over, grows_over, idle_outside, leads, nobody_over, over, returns_now, root_is, root_outside, same_outcome, settled_over, tx, unlocked}
+use Rattle.beldi_laws.proofs.Cases.{false_by}
 
-module _ (d : Deployment) (c : Core) (m : Rows) (i : ℕ) (r : Run) (g : Begun) (h : Right d c m) (live : map.get c.runs i ≡ Some r) (k : Knows d c.book h.known r g) (finds : Inside d m h.plain h.known r g) (o : Outcome) (is : g.machine.effect ≡ Return o) where
+module _ (d : Deployment) (c : Core) (m : Rows) (i : ℕ) (r : Run) (g : Begun) (h : Right d c m) (live : map.get c.runs i ≡ Some r) (k : Knows d h.known r g) (finds : Inside m h.plain c.book k g.stage) (o : Outcome) (is : g.machine.effect ≡ Return o) where
   returning : effect_of d k.instance ≡ Return o
   returning = returns_now d c m i r g h live k finds o is
 
@@ -74,7 +76,7 @@ module _ (d : Deployment) (c : Core) (m : Rows) (i : ℕ) (r : Run) (g : Begun) 
   -- one that its caller waits for: its step was made
   module _ (waits : is_waited g.caller ≡ true) (seen : is_some k.instance.outcome ≡ true) where
     hops : has_no_hops r.id.hops ≡ false
-    hops = not_root (has_no_hops r.id.hops) (λ e. let clash = sym waits ∙ ap is_waited (k.caller ∙ (root_outside d h.known r.id k.instance h.sane k.made e).0) in cc)
+    hops = false_by (has_no_hops r.id.hops) (λ e. let clash = sym waits ∙ ap is_waited (k.caller ∙ (root_outside d h.known r.id k.instance h.sane k.made e).0) in cc)
 
     outcome_there : (u : Option Outcome) → k.instance.outcome ≡ u → is_some u ≡ true → k.instance.outcome ≡ Some o
     outcome_there None has there = cc

@@ -1,5 +1,6 @@
 -- Every event keeps the host and its rows right.
-use Rattle.beldi_laws.proofs.Names.{AllocError, Async, AtStage, Begins, Begun, Bind, Body, BodyMatches, Bool, Call, Caller, CameOn, CondWrite, Core, Crash, Deployment, Effect, End, Err, Event, EventBy, EventOn, Failed, Followed, Full, Ic, Inside, Instance, IntentId, IntentMatches, IntentRow, IsBelow, IsRootRow, IsTrue, Issue, KeepsRight, Known, Knows, KnowsAt, Looks, Lost, MarkOk, None, Ok, Option, OutOfMemory, Outcome, PlaceOk, PlainState, Plan, Query, Read, Registers, RepliesAreOutcomes, Request, Restart, Result, Return, Right, RightIsLegal, Row, RowKey, Rows, Run, RunAt, Seen, SeenDone, Some, Stage, StageOk, Start, TableErr, Tell, Tick, Ticket, Told, Turn, TxId, Unlock, Value, Write, [], act, after_act, ahead_nothing, ahead_set, and-false, ap, arith, asks, asks_at, at_once_same, back_of, back_says, back_to_asks, bind_asks, bind_to, binding_of, bound_next, collect_asks, collect_next, collect_says, cond, content_in, count_changes, counted, crash_plan, ended_by, ended_run, false, first_core, func_called, get-empty, got, grows_new, grows_self, has_ended, has_finish, has_run, head_key, heard, id_cmp, id_same, id_total, if◌then◌else◌, is_added, is_crowded, is_eq, is_gone, is_some, is_waited, item_cmp, key_cmp, last_moment, launched, le-leb, least_key, leb-false, leb-true, len-empty, lends, length, length-append, listed_under, lt-leb, most_events, most_runs, nat_cmp, nat_le, nat_lt, nat_tests, new_instance, new_run, no_memory, none_out, none_show, nothing, nothing_matches, option_map, or_null, or_parts, other, outcome_of, outcome_tell, passed, plan, plan_of, refl, refused, refused_by, refused_stand, reply_of, request_next, root_apart, root_bound, root_key, root_of, row_put, rows_after, rows_stand, run_asks, run_next, run_plan, run_told, same_some, same_value, sane_nothing, set_row, stage_asks, stage_says, start, subst, suc, sym, ticket_next, tied_itself, told_at, told_by, told_outcome, touched_by, true, true_false, turn_next, turned_by, tx_after, unchanged, unheard_next, unlocked_absent, with_instance, with_once, with_run, zero, ℕ, ◌&&◌, ◌++◌, ◌+◌, ◌-◌, ◌==◌, ◌^◌, ◌||◌, ◌∙◌, ◌∷◌, ◌≡◌, ◌≤◌}
+use Rattle.beldi_laws.proofs.Names.{AllocError, Async, AtStage, Begins, Begun, Bind, Body, BodyMatches, Bool, Call, Caller, CameOn, CondWrite, Core, Crash, Deployment, Effect, End, Err, Event, EventBy, EventOn, Failed, Fits, Followed, Full, Ic, InItem, Inside, Instance, IntentId, IntentMatches, IntentRow, IsBelow, IsRootRow, IsTrue, Issue, KeepsRight, Known, Knows, KnowsAt, Looks, Lost, None, Ok, OnItem, Option, OutOfMemory, Outcome, Own, PlainState, Plan, Query, Read, Registers, RepliesAreOutcomes, Request, Restart, Result, Return, Right, RightIsLegal, Row, RowKey, Rows, Run, RunAt, RunTx, Seen, Some, Stage, Start, TableErr, Tell, Tick, Ticket, Told, Turn, TxAt, TxId, Value, Write, WriteAt, [], act, after_act, ahead_nothing, ahead_set, and-false, ap, arith, asks, asks_at, at_once_same, back_of, back_says, back_to_asks, bind_asks, bind_to, binding_of, bound_next, collect_asks, collect_next, collect_says, cond, content_in, count_changes, counted, crash_plan, ended_by, ended_run, false, first_core, func_called, get-empty, got, grows_new, grows_self, has_ended, has_finish, has_run, head_key, heard, id_cmp, id_same, id_total, if◌then◌else◌, is_added, is_begin, is_crowded, is_eq, is_gone, is_some, is_waited, item_cmp, key_cmp, last_moment, launched, le-leb, least_key, leb-false, leb-true, len-empty, lends, length, length-append, listed_under, lt-leb, most_events, most_runs, nat_cmp, nat_le, nat_lt, nat_tests, new_instance, new_run, no_memory, none_out, none_show, nothing, nothing_matches, op_of, option_map, or_null, or_parts, other, outcome_of, outcome_tell, passed, plan, plan_of, refl, refused, refused_by, refused_stand, reply_of, request_next, root_apart, root_bound, root_key, root_of, row_put, rows_after, rows_stand, run_asks, run_next, run_plan, run_told, run_tx, same_some, same_value, sane_nothing, set_row, stage_asks, stage_says, start, subst, suc, sym, ticket_next, tied_itself, told_at, told_by, told_outcome, touched, touched_by, true, true_false, turn_next, turned_by, tx_after, tx_of, unchanged, unheard_next, unlocked_absent, with_instance, with_once, with_run, zero, ℕ, ◌&&◌, ◌++◌, ◌+◌, ◌-◌, ◌==◌, ◌^◌, ◌||◌, ◌∙◌, ◌∷◌, ◌≡◌, ◌≤◌}
+use Rattle.beldi_laws.proofs.Names.at
 use Rattle.beldi_laws.proofs.Names.map
 use Rattle.beldi_laws.proofs.Names.rows
 use Rattle.beldi_laws.proofs.Names.seen
@@ -18,16 +19,22 @@ use Rattle.beldi_laws.proofs.Endings.{close_turn}
 use Rattle.beldi_laws.proofs.GivingBack.{back_turn, tell_turn}
 use Rattle.beldi_collect.specs.declared.cursor.Found.{Found}
 use Rattle.beldi_collect.specs.declared.cursor.Found.TheVariants as found
-use Rattle.beldi_laws.proofs.Operations.{operation_turn}
+use Rattle.beldi_laws.proofs.Operations.{is_operation, operation_turn}
 use Rattle.beldi_laws.proofs.Readings.{ask_turn, walk_turn, keep_turn}
 use Rattle.beldi_laws.proofs.KeptSane.{root_kept}
 use Rattle.beldi_laws.proofs.Shown.{log_values, settled}
 use Rattle.beldi_laws.proofs.Frames.{frame_row, items_stay, nobody_made}
 use Rattle.beldi_laws.proofs.Settling.{settled_grown, settled_new}
 use Rattle.beldi_laws.proofs.Keeping.{goes_made, set_shadows}
-use Rattle.beldi_laws.proofs.InsideTurns.{tx_turn, decide_turn, end_turn}
+use Rattle.beldi_laws.proofs.Deciding.{decide_turn}
+use Rattle.beldi_laws.proofs.InTx.{no_begin}
+use Rattle.beldi_laws.proofs.Locking.{lock_turn, log_turn}
+use Rattle.beldi_laws.proofs.Passing.{tx_is}
+use Rattle.beldi_laws.proofs.Visiting.{visit_turn}
+use Rattle.beldi_laws.proofs.Working.{operates, working_turn}
 use Rattle.beldi_laws.proofs.Outside.{plain_none, outcome_known}
-use Rattle.beldi_laws.proofs.Registered.{kept_moving, log_stays, no_more, stays_new}
+use Rattle.beldi_laws.proofs.Others.{kept_moving}
+use Rattle.beldi_laws.proofs.Registered.{log_stays, no_more, stays_new}
 use Rattle.beldi_laws.proofs.CallsHere.{childless}
 
 -- it tells no outcome, nor that a row is absent
@@ -44,42 +51,52 @@ without d c m i h = with_runs h (ended_run c i) refl refl (runs_less d m h.plain
 
 -- ---- a turn
 module _ (d : Deployment) (c : Core) (m : Rows) (i : ℕ) (h : Right d c m) (r : Run) (live : map.get c.runs i ≡ Some r) where
-  module _ (g : Begun) (at_is : r.at ≡ Begins g) (k : Knows d c.book h.known r g) (finds : Inside d m h.plain h.known r g) where
-    abbrev AfterStage : Effect → Stage → Type 0
-    AfterStage e s = AfterQuery d h.plain c.now m (λ t. turn_next c i r (turned_by d r g (stage_says r.id r.func g.caller g.tx (count_changes c.book) g.machine.steps e s t))) (stage_asks r.id r.func g.caller g.tx g.machine.steps e s)
+  module _ (g : Begun) (at_is : r.at ≡ Begins g) (k : Knows d h.known r g) (finds : Inside m h.plain c.book k g.stage) where
+    abbrev AfterStage : Stage → Effect → Option RunTx → Type 0
+    AfterStage s e o = AfterQuery d h.plain c.now m (λ t. turn_next c i r (turned_by d r g (stage_says r.id r.func g.caller o (count_changes c.book) g.machine.steps e s t))) (stage_asks r.id r.func g.caller o g.machine.steps e s)
 
     -- what a caller waits for is given back to it
-    back_at : (b : Option Caller) (o : Outcome) → g.caller ≡ b → g.machine.effect ≡ Return o → is_waited b ≡ true → AfterQuery d h.plain c.now m (λ t. turn_next c i r (turned_by d r g (back_says g.tx (back_of t)))) (back_to_asks r.id r.func b (Return o))
-    back_at None o from is waited = cc
-    back_at (Some b) o from is waited = back_turn d c m i r g h live k finds o is b from waited
+    back_at : (b : Option Caller) (u : Outcome) → g.caller ≡ b → g.machine.effect ≡ Return u → is_waited b ≡ true → AfterQuery d h.plain c.now m (λ t. turn_next c i r (turned_by d r g (back_says g.tx (back_of t)))) (back_to_asks r.id r.func b (Return u))
+    back_at None u from is waited = cc
+    back_at (Some b) u from is waited = back_turn d c m i r g h live k finds u is b from waited
+
+    -- its step is in the transaction that the run is in
+    in_it : {e : Effect} {o : Option RunTx} → g.machine.effect ≡ e → g.tx ≡ o → is_begin e ≡ false → tx_after d r.id k.instance k.answers ≡ run_tx r.id r.func o
+    in_it is tx apart = tx_is k (ap is_begin is ∙ apart) ∙ ap (run_tx r.id r.func) tx
+
+    write_turn : (w : WriteAt) (e : Effect) (o : Option OnItem) → op_of e ≡ o → is_some o ≡ true → g.machine.effect ≡ e → g.tx ≡ None → AfterStage (stage.Write w) e g.tx
+    write_turn w e None so some is tx = cc
+    write_turn w e (Some o) so some is tx = operation_turn d c m i r g h live k finds (in_it is tx (is_operation e o so).2) e so is w
+
+    tx_turn : (a : TxAt) (e : Effect) (o : RunTx) → g.machine.effect ≡ e → g.tx ≡ Some o → tx_after d r.id k.instance k.answers ≡ Some (tx_of r.id r.func o) → Fits e a → InItem d m h.plain h.known r.id r.func o g.machine.steps e a (touched e) → AfterStage (stage.Tx a) e (Some o)
+    tx_turn at.Log (Read b y) o is tx here fits f = log_turn d c m i r g h live k finds o tx here (Read b y) is (b, y) refl fits
+    tx_turn (at.Lock l) (Read b y) o is tx here fits f = lock_turn d c m i r g h live k finds o tx here (Read b y) is (b, y) refl l fits f
+    tx_turn (at.Lock l) (Write b y v) o is tx here fits f = lock_turn d c m i r g h live k finds o tx here (Write b y v) is (b, y) refl l fits f
+    tx_turn (at.Lock l) (CondWrite b y u w v) o is tx here fits f = lock_turn d c m i r g h live k finds o tx here (CondWrite b y u w v) is (b, y) refl l fits f
+    tx_turn at.Log e o is tx here fits f = absurd fits
+    tx_turn (at.Lock l) e o is tx here fits f = absurd fits
+    tx_turn a e o is tx here fits f = working_turn d c m i r g h live k finds o tx here e a is refl fits f
 
     -- what its stage leaves
-    stage_turn : (t : Option TxId) (e : Effect) (s : Stage) → tx_after d r.id k.instance k.answers ≡ t → g.machine.effect ≡ e → StageOk (is_some t) r.id g.caller e s → PlaceOk d c.book r.id r.func k.answers k.later e s → SeenDone h.known r.id g.machine.steps k.instance g.caller s → MarkOk r.id g.machine.steps g.tx e s
-        → AtStage d m h.plain h.known r.id r.func g.tx g.machine.steps e s → AfterStage e s
-    stage_turn None (Read t key) stage.Ask out is ok at done mark here = ask_turn d c m i r g h live k finds out t key is
-    stage_turn None (Read t key) stage.Walk out is ok at done mark here = walk_turn d c m i r g h live k finds out t key is
-    stage_turn None (Read t key) (stage.Keep v seen) out is ok at done mark here = keep_turn d c m i r g h live k finds out t key is v seen at
-    stage_turn None (Write t key v) (stage.Write w) out is ok at done mark here = operation_turn d c m i r g h live k finds out (Write t key v) refl is w
-    stage_turn None (CondWrite t key u o v) (stage.Write w) out is ok at done mark here = operation_turn d c m i r g h live k finds out (CondWrite t key u o v) refl is w
-    stage_turn None (Lock t key) (stage.Write w) out is ok at done mark here = operation_turn d c m i r g h live k finds out (Lock t key) refl is w
-    stage_turn None (Unlock t key) (stage.Write w) out is ok at done mark here = operation_turn d c m i r g h live k finds out (Unlock t key) refl is w
-    stage_turn None (Call f v) (stage.Call w) out is ok at done mark here = call_turn d c m i r g h live at_is k finds f v is ok w done
-    stage_turn None (Async f v) (stage.Async w) out is ok at done mark here = async_turn d c m i r g h live at_is k finds out f v is ok w done
-    stage_turn None (Return o) stage.Back out is ok at done mark here = back_at g.caller o refl is ok
-    stage_turn None (Return o) stage.Tell out is ok at done mark here = tell_turn d c m i r g h live k finds o is out g.caller ok
-    stage_turn None (Return o) stage.Close out is ok at done mark here = close_turn d c m i r g h live k finds o is done
-    stage_turn (Some t) (Call f v) (stage.Call w) inside is ok at done mark here = call_turn d c m i r g h live at_is k finds f v is ok w done
-    stage_turn (Some t) (Return o) stage.Back inside is ok at done mark here = back_at g.caller o refl is ok
-    stage_turn (Some t) (Return o) stage.Close inside is ok at done mark here = close_turn d c m i r g h live k finds o is done
-    stage_turn (Some t) e (stage.Tx at) inside is ok place done mark here = tx_turn d c m i r g h live k finds t inside e at is ok here
-    stage_turn (Some t) (End commit) (stage.Decide w) inside is ok at done mark here = decide_turn d c m i r g h live k finds t inside commit w is mark
-    stage_turn (Some t) (End commit) (stage.End v) inside is ok at done mark here = end_turn d c m i r g h live k finds t inside commit v is ok here
-    stage_turn t e s inside is ok at done mark here = absurd ok
+    stage_turn : (s : Stage) (e : Effect) (o : Option RunTx) → g.machine.effect ≡ e → g.tx ≡ o → AtStage m h.plain c.book k s e o → AfterStage s e g.tx
+    stage_turn stage.Ask (Read t key) None is tx at = ask_turn d c m i r g h live k finds (in_it is tx refl) t key is
+    stage_turn stage.Walk (Read t key) None is tx at = walk_turn d c m i r g h live k finds (in_it is tx refl) t key is
+    stage_turn (stage.Keep v seen) (Read t key) None is tx at = keep_turn d c m i r g h live k finds (in_it is tx refl) t key is v seen at
+    stage_turn (stage.Write w) e None is tx at = write_turn w e (op_of e) refl at is tx
+    stage_turn (stage.Call w) (Call f v) o is tx at = call_turn d c m i r g h live at_is k finds f v is at.0 w at.1
+    stage_turn (stage.Async w) (Async f v) None is tx at = async_turn d c m i r g h live at_is k finds (in_it is tx refl) f v is at.0 w at.1
+    stage_turn stage.Back (Return u) o is tx at = back_at g.caller u refl is at
+    stage_turn stage.Tell (Return u) None is tx at = tell_turn d c m i r g h live k finds u is (in_it is tx refl) g.caller at
+    stage_turn stage.Close (Return u) o is tx at = close_turn d c m i r g h live k finds u is at.1
+    stage_turn (stage.Tx a) e (Some o) is tx at = let x = operates e a at.0 in subst (AfterStage (stage.Tx a) e) (sym tx) (tx_turn a e o is tx (in_it is tx (no_begin e x.0 x.1)) at.0 at.1)
+    stage_turn (stage.Decide w) (End commit) (Some (Own o)) is tx at = subst (AfterStage (stage.Decide w) (End commit)) (sym tx) (decide_turn d c m i r g h live k finds o tx (in_it is tx refl) (sym k.run_open ∙ tx) commit is w at)
+    stage_turn (stage.End v) (End commit) (Some (Own o)) is tx at = subst (AfterStage (stage.End v) (End commit)) (sym tx) (visit_turn d c m i r g h live k finds o tx (in_it is tx refl) commit is v at.0 at.1)
+    stage_turn s e o is tx at = absurd at
 
   at_turn : (at : standing.RunAt) → r.at ≡ at → KnowsAt d m h.plain c.book h.known r at → AfterQuery d h.plain c.now m (λ t. turn_next c i r (told_at d (count_changes c.book) r at t)) (asks_at r at)
   at_turn Looks is k = look_turn d c m i r h live
   at_turn (Registers b) is k = register_turn d c m i r h live b k
-  at_turn (Begins g) is k = stage_turn g is k.0 k.1 (tx_after d r.id k.0.instance k.0.answers) g.machine.effect g.stage refl refl k.0.run_stage k.0.run_place k.0.run_done k.0.run_mark k.1.here
+  at_turn (Begins g) is k = stage_turn g is k.0 k.1 g.stage g.machine.effect g.tx refl refl k.1.here
 
   turn_made : AfterQuery d h.plain c.now m (λ t. run_next d c i t (Some r)) (run_asks r)
   turn_made = at_turn r.at refl (subst (RunAt d m h.plain c.book h.known) live (h.runs.runs i))
@@ -125,7 +142,7 @@ module _ (d : Deployment) (c : Core) (m : Rows) (h : Right d c m) where
       subst (λ (w : Option Row × Tell). After d h.plain (record c { newest = c.newest + 1 }) (set_row m (root_key t) w.0) (seen.Issued t)) (ap (act Issue c.now) (sym is)) (record {
         right = right_by {q = h.plain} {next = h.known} {locked = h.locked} h.bounded h.legal h.guarded kept.shows
             (λ u. ap is_some (got m (root_key t) (root_key u) (Some (rows.Intent i))) ∙ some_if (is_eq (id_cmp (root_of u) (root_of t))) (map.get m (root_key u)) ∙ next_ticket (is_eq (id_cmp (root_of u) (root_of t))) u c.newest refl (is_some (map.get m (root_key u))) (h.tickets u))
-            (runs_on d m n h.plain h.plain c.book c.book h.known h.known c.runs c.last_run kept.grows (places_same d c.book h.known h.known) kept.others h.runs);
+            (runs_on d m n h.plain h.plain c.book c.book h.known h.known kept.grows (places_same d c.book h.known h.known) kept.others c.runs c.last_run h.runs);
         goes_on = grows_self h.plain.made;
         there = refl;
         reply = λ u o e. cc;
@@ -183,7 +200,7 @@ module _ (d : Deployment) (c : Core) (m : Rows) (h : Right d c m) (t f : ℕ) (a
         right = right_by {q = state} {next = next} {locked = h.locked} leads.bounded leads.legal leads.guarded kept.shows
             (λ u. replaced m (root_key t) (Some (rows.Intent (bound_row i))) (ap is_some (sym is)) u ∙ h.tickets u)
             (runs_more d n state (c.book ++ Start t f a ∷ []) next c.runs c.last_run (new_run d c own_id f) (leb-false most_runs (map.len c.runs) room) tt
-            (runs_on d m n h.plain state c.book (c.book ++ Start t f a ∷ []) h.known next c.runs c.last_run kept.grows leads.places kept.others h.runs));
+            (runs_on d m n h.plain state c.book (c.book ++ Start t f a ∷ []) h.known next kept.grows leads.places kept.others c.runs c.last_run h.runs));
         goes_on = leads.grows;
         there = refl;
         reply = λ u o e. cc;

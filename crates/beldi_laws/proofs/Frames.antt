@@ -4,6 +4,7 @@ use Rattle.beldi_laws.proofs.Names.kinds
 use Rattle.beldi_laws.proofs.Names.map
 use Rattle.beldi_laws.proofs.Names.query
 use Rattle.beldi_laws.proofs.Names.rows
+use Rattle.beldi_laws.proofs.Cases.{false_by}
 
 -- ---- what an open transaction owns has its plain value still
 abbrev pub ValuesStay : Deployment → Rows → PlainState → PlainState → Known → Type 0
@@ -15,11 +16,8 @@ items_stay d m p q next same t x open_still own = ap (λ f. or_null (map.get f x
 
 -- .. or one is set that no transaction owns
 pub item_stays : (d : Deployment) (m : Rows) (p q : PlainState) (next : Known) (y : Item) (o : Option Value) → q.items ≡ set_if p.items y o → ((t : TxId) → (content_of m y).owner ≡ Some (ByTx t) → ⊥) → ValuesStay d m p q next
-item_stays d m p q next y o same free t x open_still own = ap (λ f. or_null (map.get f x)) same ∙ plain_set p.items y x o ∙ ap (λ c. cond c (or_old o (value_at p y)) (value_at p x)) (off (is_eq (item_cmp x y)) refl)
-  where
-    off : (c : Bool) → is_eq (item_cmp x y) ≡ c → c ≡ false
-    off false e = refl
-    off true e = absurd (free t (ap (λ w. (content_of m w).owner) (sym (item_same x y e)) ∙ own))
+item_stays d m p q next y o same free t x open_still own = ap (λ f. or_null (map.get f x)) same ∙ plain_set p.items y x o ∙ ap (λ c. cond c (or_old o (value_at p y)) (value_at p x))
+    (false_by (is_eq (item_cmp x y)) (λ e. free t (ap (λ w. (content_of m w).owner) (sym (item_same x y e)) ∙ own)))
 
 -- ---- rows of which one changed
 abbrev pub is_lockset : Kind → Bool

@@ -1,5 +1,5 @@
 -- The turns at which a run that returns tells its caller: the outcome, where the caller waits for it, and else that it is registered.
-use Rattle.beldi_laws.proofs.Names.{Answer, Begins, Begun, Call, CallBack, CallMatches, Caller, Cause, Core, Deployment, Entry, Goes, Grows, Inside, Instance, IntentId, InvokeRow, IsCalled, Item, Known, Knows, List, Matches, None, NoteRegistered, On, Option, Outcome, PlainState, Return, Right, Row, RowKey, Rows, Run, RunAt, Sane, Some, StageOk, Step, Tell, TxId, Waited, [], act, after_act, ahead_set, answer_of, answered, answers_waiter, ap, at_stage, back_asks, back_of, back_says, call_answered, call_back_to, called_by, callee_of, child_of, commit_in, effect_after, effect_of, elsewhere, eq-eqb, false, given_back, grown_end, grows_self, grows_through, here, if◌then◌else◌, inr, intent_key, invoke_key, is_begin, is_some, is_waited, known_set, last, length, listed, looked, moved, moved_one, no_own_callee, no_root_key, none_out, op_of, opens_are_open, or_own, outside_parts, owed_call, place_of, refl, result_of, returned_cause, returns_go, root_key, row_added, same_some, set_others, set_row, stands_at_call, subst, sym, tell_asks, touched, true, turn_next, turned_by, tx_after, tx_at, tx_by, tx_here, tx_now, txs_after, unlocked_elsewhere, value_at, with_instance, within, within_by, ℕ, ◌++◌, ◌∙◌, ◌∷◌, ◌≡◌}
+use Rattle.beldi_laws.proofs.Names.{Answer, Begins, Begun, Call, CallBack, CallMatches, Caller, Cause, Core, Deployment, Entry, Goes, Grows, Inside, Instance, IntentId, InvokeRow, IsCalled, Item, Known, Knows, List, Matches, None, NoteRegistered, On, Option, Outcome, PlainState, Return, Right, Row, RowKey, Rows, Run, RunAt, Sane, Some, Step, Tell, TxId, Waited, [], act, after_act, ahead_set, answer_of, answered, answers_waiter, ap, at_stage, back_asks, back_of, back_says, call_answered, call_back_to, called_by, callee_of, child_of, commit_in, effect_after, effect_of, elsewhere, eq-eqb, false, given_back, grown_end, grows_self, grows_through, here, if◌then◌else◌, inr, intent_key, invoke_key, is_begin, is_some, is_waited, known_set, last, length, listed, looked, moved, moved_one, no_own_callee, no_root_key, none_by, none_out, op_of, opens_are_open, or_own, outside_parts, owed_call, place_of, refl, result_of, returned_cause, returns_go, root_key, row_added, same_some, set_others, set_row, stands_at_call, subst, sym, tell_asks, touched, true, turn_next, turned_by, tx_after, tx_at, tx_by, tx_here, tx_now, txs_after, unlocked_elsewhere, value_at, with_instance, within, within_by, ℕ, ◌++◌, ◌∙◌, ◌∷◌, ◌≡◌}
 use Rattle.beldi_laws.proofs.Names.kinds
 use Rattle.beldi_laws.proofs.Names.map
 use Rattle.beldi_laws.proofs.Names.mark
@@ -16,13 +16,13 @@ use Rattle.beldi_laws.proofs.Keeping.{SameShadows, as_it_was}
 use Rattle.beldi_laws.proofs.KeptSane.{returned_kept}
 use Rattle.beldi_laws.proofs.Moves.{AfterQuery, SameRoots, Kept, Stays, entered, quiet, AfterAct, still}
 use Rattle.beldi_laws.proofs.Outside.{outside_more, plain_here}
-use Rattle.beldi_laws.proofs.Passing.{close_ok}
-use Rattle.beldi_laws.proofs.Registered.{kept_moving, log_frame, log_shadows, log_stays, marked_registered, no_intent, stays_call, stays_marked}
+use Rattle.beldi_laws.proofs.Others.{kept_moving}
+use Rattle.beldi_laws.proofs.Registered.{log_frame, log_shadows, log_stays, marked_registered, no_intent, stays_call, stays_marked}
 use Rattle.beldi_laws.proofs.Shown.{Settled, log_values, legal_sane, sound}
-use Rattle.beldi_laws.proofs.Turns.{at_other, goes_on, on_other}
+use Rattle.beldi_laws.proofs.Turns.{at_other, goes_on, stands_on}
 use Rattle.beldi_laws.proofs.Returns.{HasCaller, Left, ahead_over, aborted_by, done, goes_over, grows_over, has_caller, leads, over, returns_now, settled_over, state, tx, unlocked}
 
-module _ (d : Deployment) (c : Core) (m : Rows) (i : ℕ) (r : Run) (g : Begun) (h : Right d c m) (live : map.get c.runs i ≡ Some r) (k : Knows d c.book h.known r g) (finds : Inside d m h.plain h.known r g) (o : Outcome) (is : g.machine.effect ≡ Return o) where
+module _ (d : Deployment) (c : Core) (m : Rows) (i : ℕ) (r : Run) (g : Begun) (h : Right d c m) (live : map.get c.runs i ≡ Some r) (k : Knows d h.known r g) (finds : Inside m h.plain c.book k g.stage) (o : Outcome) (is : g.machine.effect ≡ Return o) where
   returning : effect_of d k.instance ≡ Return o
   returning = returns_now d c m i r g h live k finds o is
 
@@ -45,11 +45,8 @@ module _ (d : Deployment) (c : Core) (m : Rows) (i : ℕ) (r : Run) (g : Begun) 
         ∙ ap (λ t. if t then Some (k.instance.func, result_of k.instance) else None) (eq-eqb called.caller.func b.func called.func)
         ∙ ap (λ z. Some (k.instance.func, (if z then k.instance.outcome else None))) waited_here
 
-    closes : StageOk (is_some (tx_after d r.id k.instance k.answers)) r.id g.caller (Return o) stage.Close
-    closes = close_ok (is_some (tx_after d r.id k.instance k.answers)) r.id g.caller o (ap is_waited from ∙ waits)
-
     closes_on : is_some k.instance.outcome ≡ true → Left h i r g (On stage.Close None) m
-    closes_on there = on_other d c m i r g h live k finds (Return o) is m stage.Close refl (λ t. refl) (as_it_was h) closes tt (λ w. there)
+    closes_on there = stands_on d c m i r g h live k finds is refl stage.Close m h.locked (λ t. refl) (as_it_was h) (λ inner. ap is_waited from ∙ waits, λ w. there)
 
     -- it was given back now: its caller stands at the call
     module _ (x : InvokeRow) (at : map.get m back_key ≡ Some (rows.Invoke x)) (open_still : k.instance.outcome ≡ None) where
@@ -87,11 +84,7 @@ module _ (d : Deployment) (c : Core) (m : Rows) (i : ℕ) (r : Run) (g : Begun) 
       is_callee = called.is_callee ∙ ap (child_of caller) at_call
 
       waits_open : waiter.outcome ≡ None
-      waits_open = by_outcome waiter.outcome refl
-        where
-          by_outcome : (u : Option Outcome) → waiter.outcome ≡ u → u ≡ None
-          by_outcome None e = refl
-          by_outcome (Some u) e = let clash = sym stands ∙ (h.sane.each caller waiter called.made).over u e in cc
+      waits_open = none_by waiter.outcome (λ u e. let clash = sym stands ∙ (h.sane.each caller waiter called.made).over u e in cc)
 
       waited : called.called.waits ≡ true
       waited = ap is_waited (sym called.called.from) ∙ waited_here
@@ -155,7 +148,7 @@ module _ (d : Deployment) (c : Core) (m : Rows) (i : ℕ) (r : Run) (g : Begun) 
       roots u = ap is_some (set_others m back_key new (root_key u) (no_root_key u b.func (kinds.Invoke b.place) refl))
 
       then_closes : (more : List Entry) (q : PlainState) → Kept h rows_now q next h.locked → RunAt d rows_now q more next (Some (record r { at = Begins (at_stage g stage.Close) }))
-      then_closes more q kept = at_other d c m i r g h live k finds (Return o) is more rows_now q next h.locked (done k o) k.later stage.Close refl kept itself (grown_end k.instance o open_still) k.run_answers closes tt (λ e. refl)
+      then_closes more q kept = at_other d c m i r g h live k finds is refl stage.Close more rows_now q next h.locked (done k o) itself (grown_end k.instance o open_still) kept (λ inner. ap is_waited from ∙ waits, λ w. refl)
 
       same_shadows : SameShadows m rows_now
       same_shadows = log_shadows d m back_key new refl
@@ -230,7 +223,7 @@ module _ (d : Deployment) (c : Core) (m : Rows) (i : ℕ) (r : Run) (g : Begun) 
   -- ---- it tells its caller, which does not wait, that it is registered
   module _ (out : tx_after d r.id k.instance k.answers ≡ None) where
     tells_on : (n : Rows) → SameRoots m n → Stays h n → is_waited g.caller ≡ false → Left h i r g (On stage.Close None) n
-    tells_on n roots rows idle = goes_on d c m i r g h live k finds out (Return o) is n stage.Close refl roots rows tt tt (λ w. let clash = sym idle ∙ w in cc)
+    tells_on n roots rows idle = goes_on d c m i r g h live k finds out (Return o) is n stage.Close roots rows (λ inner. cc, λ w. let clash = sym idle ∙ w in cc)
 
     pub tell_turn : (b : Option Caller) → is_waited g.caller ≡ false → AfterQuery d h.plain c.now m (λ t. turn_next c i r (turned_by d r g (On stage.Close None))) (tell_asks r.id r.func b)
     tell_turn None idle = subst (Left h i r g (On stage.Close None)) (sym (looked c.now (intent_key r.id r.func) m)) (tells_on m (λ t. refl) (as_it_was h) idle)

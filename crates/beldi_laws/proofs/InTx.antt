@@ -1,5 +1,5 @@
 -- An operation of a run inside a transaction: where it stands among the answers that are known, and in which transaction.
-use Rattle.beldi_laws.proofs.Names.{Answer, AtStage, Begun, Bool, ByTx, Caller, Core, Deployment, Effect, Fits, InItem, InOperation, Inherited, Inside, Instance, IntentId, IsAnswer, IsBehind, IsFront, IsOf, IsOpen, IsTrue, Item, Kind, Knows, List, LocksetMatches, None, Option, Own, Right, Row, Rows, Run, RunTx, Some, StageOk, TookPart, TxAt, TxId, Txs, [], ahead_by, ap, append_assoc, arith, begin_of, content_of, effect_after, effect_before, effect_of, ended_by, false, few_answers, got_before, got_by, inl, inr, is_begin, is_eq, is_intent_key, is_item, is_on, is_some, is_tx, item_total, known_set, last_step, length, length-append, moved, moved_one, no_root, note_at, note_is_ahead, now_open, opens_are_open, or_own, own_is, place_of, refl, root_key, same_some, set_others, set_row, subst, sym, take, tied_itself, touched, true, tx_after, tx_by, tx_end, tx_now, tx_of, tx_self, txs_after, txs_by, wants_answer, ℕ, ◌&&◌, ◌++◌, ◌<◌, ◌||◌, ◌∙◌, ◌∷◌, ◌≡◌}
+use Rattle.beldi_laws.proofs.Names.{Answer, Begun, Bool, ByTx, Core, Deployment, Effect, Fits, InItem, InOperation, Inherited, Inside, Instance, IntentId, IsAnswer, IsBehind, IsFront, IsOf, IsOpen, IsTrue, Item, Kind, Knows, List, LocksetMatches, None, Option, Own, Right, Row, Rows, Run, RunTx, Some, TookPart, TxAt, TxId, Txs, [], ahead_by, ap, arith, begin_of, content_of, effect_after, effect_before, effect_of, ended_by, false, few_answers, got_before, got_by, inl, inr, is_begin, is_eq, is_intent_key, is_item, is_on, is_some, is_tx, item_total, known_set, last_step, length, length-append, moved, moved_one, no_root, note_at, note_is_ahead, now_open, opens_are_open, or_own, own_is, place_of, refl, root_key, same_some, set_others, set_row, subst, sym, take, tied_itself, touched, true, tx_after, tx_by, tx_end, tx_now, tx_of, tx_self, txs_after, txs_by, wants_answer, ℕ, ◌&&◌, ◌++◌, ◌<◌, ◌||◌, ◌∙◌, ◌∷◌, ◌≡◌}
 use Rattle.beldi_laws.proofs.Names.effect
 use Rattle.beldi_laws.proofs.Names.map
 use Rattle.beldi_laws.proofs.Names.note
@@ -8,10 +8,10 @@ use Rattle.beldi_laws.proofs.Names.says
 use Rattle.beldi_laws.proofs.Names.stage
 use Rattle.beldi_laws.proofs.Grown.{grown_same}
 use Rattle.beldi_laws.proofs.Moves.{Kept, SameRoots, Stays}
-use Rattle.beldi_laws.proofs.OpenOf.{open_begun, open_in, open_tx, own_begin}
+use Rattle.beldi_laws.proofs.OpenOf.{open_begun, open_in, own_begin}
 use Rattle.beldi_laws.proofs.Ended.{ended_at}
 use Rattle.beldi_laws.proofs.Shown.{sound}
-use Rattle.beldi_laws.proofs.Turns.{Freed, Leaves, answers_on, not_over, sane_instance, stands_on, at_steps, wanted_here, front_here, effect_here, answer_here, all_here, effect_next, unmarked_tx}
+use Rattle.beldi_laws.proofs.Turns.{Freed, Leaves, by_answer, known_prefix, answers_on, not_over, sane_instance, stands_on, at_steps, wanted_here, front_here, effect_here, answer_here, all_here, effect_next}
 
 -- an operation on an item wants an answer, and is no begin
 pub wants_one : (e : Effect) (x : ℕ × List ℕ) → touched e ≡ Some x → IsTrue (wants_answer e)
@@ -37,13 +37,6 @@ ends_same n effect.Begin s b x touch = cc
 ends_same n (effect.End c) s b x touch = cc
 ends_same n e s b x touch = refl
 
--- a stage of an operation is one in each transaction
-pub fits_stage : (id : IntentId) (c : Option Caller) (e : Effect) (a : TxAt) → Fits e a → StageOk true id c e (stage.Tx a)
-fits_stage id c (effect.Call f v) a h = h
-fits_stage id c (effect.Return u) a h = h
-fits_stage id c (effect.End b) a h = h
-fits_stage id c e a h = h
-
 -- a lockset row that is there is one
 pub lockset_is : (r : Option Row) (owed ahead : Bool) → LocksetMatches r owed ahead → is_some r ≡ true → r ≡ Some rows.Lockset
 lockset_is None owed ahead h there = cc
@@ -54,14 +47,7 @@ lockset_is (Some r) owed ahead h there = absurd h
 pub set_roots : (m : Rows) (home : ℕ) (kind : Kind) (v : Option Row) → is_intent_key kind ≡ false → SameRoots m (set_row m (record { home = home; kind = kind }) v)
 set_roots m home kind v off u = ap is_some (set_others m (record { home = home; kind = kind }) v (root_key u) (no_root u home kind off))
 
--- a run that stands in a transaction has it open
-pub opens : (d : Deployment) (c : Core) (m : Rows) (r : Run) (g : Begun) (h : Right d c m) (k : Knows d c.book h.known r g) (t : TxId) → tx_after d r.id k.instance k.answers ≡ Some t → is_begin g.machine.effect ≡ false
-    → (o : RunTx) × (g.tx ≡ Some o) × (tx_after d r.id k.instance k.answers ≡ Some (tx_of r.id r.func o))
-opens d c m r g h k t inside apart =
-    let z = open_tx d r.id k.instance k.answers t inside (ap is_begin (wanted_here d c.book h.known r g k) ∙ apart) in
-    (z.0, k.run_open ∙ z.1, inside ∙ ap Some z.2 ∙ ap (λ f. Some (tx_of r.id f z.0)) k.func)
-
-module _ (d : Deployment) (c : Core) (m : Rows) (r : Run) (g : Begun) (h : Right d c m) (k : Knows d c.book h.known r g) (o : RunTx) (here : tx_after d r.id k.instance k.answers ≡ Some (tx_of r.id r.func o))
+module _ (d : Deployment) (c : Core) (m : Rows) (r : Run) (g : Begun) (h : Right d c m) (k : Knows d h.known r g) (o : RunTx) (here : tx_after d r.id k.instance k.answers ≡ Some (tx_of r.id r.func o))
     (e : Effect) (is : g.machine.effect ≡ e) (x : ℕ × List ℕ) (touch : touched e ≡ Some x) where
   abbrev pub own : TxId
   own = tx_of r.id r.func o
@@ -77,10 +63,10 @@ module _ (d : Deployment) (c : Core) (m : Rows) (r : Run) (g : Begun) (h : Right
   same_item i = record { func = k.func i; table = x.0; key = x.1 }
 
   pub steps : g.machine.steps ≡ length k.answers
-  steps = at_steps d c.book h.known r g k
+  steps = at_steps k
 
   pub effect_so : effect_after d k.instance k.answers ≡ e
-  effect_so = wanted_here d c.book h.known r g k ∙ is
+  effect_so = wanted_here k ∙ is
 
   pub wants_here : IsTrue (wants_answer g.machine.effect)
   wants_here = subst (λ z. IsTrue (wants_answer z)) (sym is) (wants_one e x touch)
@@ -95,33 +81,29 @@ module _ (d : Deployment) (c : Core) (m : Rows) (r : Run) (g : Begun) (h : Right
     known_answers = ap (λ ys. k.answers ++ ys) (sym left) ∙ k.run_answers
 
     pub behind : IsBehind d m h.known r.id k.instance k.answers a
-    behind = record { locked = h.locked; matches = h.rows; made = k.made; sane = sane_instance d c m r g h k; rest = rest; run_answers = known_answers; short = short }
+    behind = record { locked = h.locked; matches = h.rows; made = k.made; sane = sane_instance h k; rest = rest; run_answers = known_answers; short = short }
 
     -- .. which is one to its effect
     pub answers_so : IsAnswer (place_of r.id g.machine.steps) (Some own) e a
-    answers_so = subst (λ z. IsAnswer (place_of r.id g.machine.steps) (Some own) z a) (effect_here d c.book h.known r g k ∙ is)
-        (subst (λ t. IsAnswer (place_of r.id g.machine.steps) t (effect_before d k.instance g.machine.steps) a) (ap (tx_after d r.id k.instance) (front_here d c.book h.known r g k) ∙ here)
-        ((sane_instance d c m r g h k).past g.machine.steps a (answer_here d c.book h.known r g k (a ∷ rest) left)))
+    answers_so = subst (λ z. IsAnswer (place_of r.id g.machine.steps) (Some own) z a) (effect_here k ∙ is)
+        (subst (λ t. IsAnswer (place_of r.id g.machine.steps) t (effect_before d k.instance g.machine.steps) a) (ap (tx_after d r.id k.instance) (front_here k) ∙ here)
+        ((sane_instance h k).past g.machine.steps a (answer_here k (a ∷ rest) left)))
 
   -- ---- at the front: it is the instance's next
   -- where the instance was not answered since
   pub at_front : (q : Instance) → map.get h.known r.id ≡ Some q → length q.answers ≡ g.machine.steps → k.later ≡ []
-  at_front q made same = by_later k.later refl
-    where
-      by_later : (later : List Answer) → k.later ≡ later → later ≡ []
-      by_later [] left = refl
-      by_later (a ∷ rest) left =
-          let l = ap (λ (z : Instance). length z.answers) (same_some (sym k.made ∙ made)) in
-          let n = ap length (known_answers a rest left) in
-          let p = length-append k.answers (a ∷ rest) in
-          absurd (omega (arith, l, n, p, same, steps))
+  at_front q made same = by_answer k (λ left. left) (λ a rest left.
+      let l = ap (λ (z : Instance). length z.answers) (same_some (sym k.made ∙ made)) in
+      let n = ap length (known_answers a rest left) in
+      let p = length-append k.answers (a ∷ rest) in
+      absurd (omega (arith, l, n, p, same, steps)))
 
   module _ (left : k.later ≡ []) where
     pub now : effect_of d k.instance ≡ e
-    now = effect_next d c.book h.known r g k left ∙ is
+    now = effect_next k left ∙ is
 
     pub tx_is : tx_now d r.id k.instance ≡ Some own
-    tx_is = ap (tx_after d r.id k.instance) (sym (all_here d c.book h.known r g k left)) ∙ here
+    tx_is = ap (tx_after d r.id k.instance) (sym (all_here k left)) ∙ here
 
     pub front : IsFront d h.known r.id k.instance own x.0 x.1
     front = record { made = k.made; inside = tx_is; touch = ap touched now ∙ touch }
@@ -130,7 +112,7 @@ module _ (d : Deployment) (c : Core) (m : Rows) (r : Run) (g : Begun) (h : Right
     apart = ap is_begin now ∙ no_begin e x touch
 
     pub open_still : k.instance.outcome ≡ None
-    open_still = not_over d c m r g h k left wants_here
+    open_still = not_over h k left wants_here
 
     -- its transaction has not ended
     pub not_ended : tx_end d h.known own ≡ None
@@ -181,7 +163,7 @@ module _ (d : Deployment) (c : Core) (m : Rows) (r : Run) (g : Begun) (h : Right
             let clash = sym not_ended ∙ ap (tx_end d h.known) (sym is_own ∙ is_t) ∙ ended in cc
 
     short_now : length k.instance.answers < last_step
-    short_now = subst (λ (ts : List Answer). length ts < last_step) (all_here d c.book h.known r g k left) short
+    short_now = subst (λ (ts : List Answer). length ts < last_step) (all_here k left) short
 
     -- where its place has the lock, that is ahead of the answer
     pub was_locked : note_at (content_of m its_item).notes (place_of r.id (length k.instance.answers)) ≡ Some note.Got → h.locked r.id ≡ true
@@ -196,16 +178,12 @@ module _ (d : Deployment) (c : Core) (m : Rows) (r : Run) (g : Begun) (h : Right
         by_lock false e = let clash = sym got ∙ note_is_ahead d m h.known h.locked h.rows r.id k.instance k.made short_now its_item ∙ ap (ahead_by its_item k.instance.func (tx_now d r.id k.instance) (effect_of d k.instance)) e ∙ none (tx_now d r.id k.instance) in cc
 
 -- ---- what it says leaves
-module _ (d : Deployment) (c : Core) (m : Rows) (i : ℕ) (r : Run) (g : Begun) (h : Right d c m) (live : map.get c.runs i ≡ Some r) (k : Knows d c.book h.known r g) (finds : Inside d m h.plain h.known r g)
+module _ (d : Deployment) (c : Core) (m : Rows) (i : ℕ) (r : Run) (g : Begun) (h : Right d c m) (live : map.get c.runs i ≡ Some r) (k : Knows d h.known r g) (finds : Inside m h.plain c.book k g.stage)
     (o : RunTx) (tx : g.tx ≡ Some o) (here : tx_after d r.id k.instance k.answers ≡ Some (tx_of r.id r.func o)) (e : Effect) (is : g.machine.effect ≡ e) (x : ℕ × List ℕ) (touch : touched e ≡ Some x) where
   -- it goes on in the operation; a lock may be ahead that was not
   pub goes_at : (b : TxAt) (n : Rows) (after : IntentId → Bool) → SameRoots m n → Kept h n h.plain h.known after → Fits e b → InOperation d n h.plain h.known r.id r.func o g.machine.steps e b x → Leaves d c m i r g h live k (says.On (stage.Tx b) None) n
   goes_at b n after roots kept fits at =
-      stands_on d c m i r g h live k finds (stage.Tx b) n after refl roots kept
-      (subst (λ t. StageOk (is_some t) r.id g.caller g.machine.effect (stage.Tx b)) (sym here) (fits_stage r.id g.caller g.machine.effect b (subst (λ z. Fits z b) (sym is) fits)))
-      (unmarked_tx r.id g.machine.steps g.tx g.machine.effect b)
-      (subst (λ t. AtStage d n h.plain h.known r.id r.func t g.machine.steps g.machine.effect (stage.Tx b)) (sym tx)
-      (subst (λ z. InItem d n h.plain h.known r.id r.func o g.machine.steps z b (touched z)) (sym is) (subst (InItem d n h.plain h.known r.id r.func o g.machine.steps e b) (sym touch) at)))
+      stands_on d c m i r g h live k finds is tx (stage.Tx b) n after roots kept (fits, subst (InItem d n h.plain h.known r.id r.func o g.machine.steps e b) (sym touch) at)
 
   -- it ends no transaction
   pub frees_none : (n : Rows) → Freed d c m i r g h live k n
@@ -214,4 +192,4 @@ module _ (d : Deployment) (c : Core) (m : Rows) (i : ℕ) (r : Run) (g : Begun) 
   -- it has the answer that is known
   pub replays : (n : Rows) (a : Answer) (rest : List Answer) → k.later ≡ a ∷ rest → SameRoots m n → Stays h n → Leaves d c m i r g h live k (says.Answers a None) n
   replays n a rest left roots kept = answers_on d c m i r g h live k finds a rest n h.known h.locked k.instance roots kept k.made (grown_same k.instance)
-      (append_assoc k.answers (a ∷ []) rest ∙ known_answers d c m r g h k o here e is x touch a rest left) (wants_here d c m r g h k o here e is x touch) (frees_none n)
+      (known_prefix k a rest left) (wants_here d c m r g h k o here e is x touch) (frees_none n)

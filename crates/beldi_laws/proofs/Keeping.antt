@@ -1,16 +1,15 @@
 -- What a turn outside transactions keeps, over rows whose shadows are as before.
 use Rattle.beldi_laws.proofs.Names.{Act, Answer, Apart, Core, Deployment, Frame, Goes, Instance, IntentId, IsOutside, Item, Items, Matches, None, Option, Right, Row, RowKey, Rows, Some, Tx, TxId, [], act, answered, at_once, content_of, false, goes_one, goes_set, got_new, got_next, grows_self, id_cmp, is_eq, is_shadow, is_some, listed, log_elsewhere, moved, outside_no_end, outside_parts, refl, rows_go, set_new, set_next, set_row, shadow_key, true, tx_begun, tx_now, value_at, value_of, with_instance, ℕ, ◌≡◌}
 use Rattle.beldi_laws.proofs.Names.map
-use Rattle.beldi_laws.proofs.Closing.{settled_after}
 use Rattle.beldi_laws.proofs.Frames.{NoFinish, frame_still, items_stay, nobody_new}
 use Rattle.beldi_laws.proofs.Moves.{Stays}
 use Rattle.beldi_laws.proofs.Outside.{outside_more}
-use Rattle.beldi_laws.proofs.Others.{kept_by}
+use Rattle.beldi_laws.proofs.Others.{kept_by, kept_moving}
 use Rattle.beldi_laws.proofs.Shown.{legal_sane, settled, shown}
 
 -- rows as they were
 pub as_it_was : {d : Deployment} {c : Core} {m : Rows} (h : Right d c m) → Stays h m
-as_it_was {d} {m} h = record { shows = shown h; grows = grows_self h.known; frame = frame_still d m h.plain h.plain h.known h.known (items_stay d m h.plain h.plain h.known refl) (nobody_new d h.known); others = λ q g knows finds. finds }
+as_it_was {d} {c} {m} h = kept_by d c m m h h.plain h.known h.locked (shown h) (grows_self h.known) (frame_still d m h.plain h.plain h.known h.known (items_stay d m h.plain h.plain h.known refl) (nobody_new d h.known))
 
 -- the shadows are as before
 abbrev pub SameShadows : Rows → Rows → Type 0
@@ -47,5 +46,4 @@ module _ {d : Deployment} {c : Core} {m : Rows} (h : Right d c m) (n : Rows) (sa
 
   -- .. so the plain state and what is known may stay
   pub stays_by : Matches d n h.known h.locked → ((x : Item) → listed n x ≡ value_at h.plain x) → Frame d m n h.plain h.plain h.known h.known → NoFinish d m n h.known → Stays h n
-  stays_by rows values frame none = kept_by d c m n h h.plain h.known h.locked
-      (record { goes = goes_still; locked_at_ends = h.locked_at_ends; sane = h.sane; rows = rows; values = values; settled = settled_after d c m h n h.plain h.known h.locked rows h.sane (grows_self h.known) frame none (settled h) }) (grows_self h.known) frame
+  stays_by rows values frame none = kept_moving h n h.plain h.known h.locked goes_still h.locked_at_ends h.sane rows values (settled h) (grows_self h.known) frame none

@@ -4,6 +4,7 @@ mod Asyncs
 mod Beginnings
 mod Callings
 mod CallsHere
+mod Cases
 mod Closing
 mod Committed
 mod Deciding
@@ -15,7 +16,6 @@ mod Frames
 mod GivingBack
 mod Grown
 mod InTx
-mod InsideTurns
 mod Keeping
 mod KeptSane
 pub mod Listing

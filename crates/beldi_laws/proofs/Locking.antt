@@ -17,19 +17,19 @@ use Rattle.beldi_daal.specs.declared.cell.WriteAt.TheVariants.{Try}
 use Rattle.beldi_known.specs.Acts.{Told}
 use Rattle.beldi_known.proofs.Lists.{elsewhere}
 use Rattle.beldi_laws.proofs.Ages.{Holder, dies_so, free_of, holder_made, only_one}
-use Rattle.beldi_laws.proofs.Closing.{settled_after}
 use Rattle.beldi_laws.proofs.Frames.{NoFinish, frame_held, frame_item, frame_lockset, is_lockset, items_stay, no_finish, nobody_new, nobody_set}
 use Rattle.beldi_laws.proofs.Settling.{settled_operated}
 use Rattle.beldi_laws.proofs.Grown.{grown_moved, grows_moved, moved_more}
 use Rattle.beldi_laws.proofs.InTx as in_tx
 use Rattle.beldi_laws.proofs.Keeping.{act_stays, as_it_was, set_shadows, stays_by}
 use Rattle.beldi_laws.proofs.Moves.{AfterQuery, Kept, SameRoots, Stays}
-use Rattle.beldi_laws.proofs.Others.{kept_by}
+use Rattle.beldi_laws.proofs.Others.{kept_moving}
 use Rattle.beldi_laws.proofs.Owed.{content_kept, contents_kept, others_list}
 use Rattle.beldi_laws.proofs.Ended.{ended_at}
 use Rattle.beldi_laws.proofs.Shown.{holds_here, settled}
 use Rattle.beldi_laws.proofs.Turns as turns
 use Rattle.beldi_laws.proofs.Turns.{Freed, Leaves}
+use Rattle.beldi_laws.proofs.Cases.{false_by}
 
 -- ---- where an operation may stand
 fits_lock : (e : Effect) (l j : LockAt) → Fits e (at.Lock l) → Fits e (at.Lock j)
@@ -121,7 +121,7 @@ noted_death p (answer.Aborted c) j h = same_some h
 noted_death p a j h = cc
 
 -- ---- the turns
-module _ (d : Deployment) (c : Core) (m : Rows) (i : ℕ) (r : Run) (g : Begun) (h : Right d c m) (live : map.get c.runs i ≡ Some r) (k : Knows d c.book h.known r g) (finds : Inside d m h.plain h.known r g)
+module _ (d : Deployment) (c : Core) (m : Rows) (i : ℕ) (r : Run) (g : Begun) (h : Right d c m) (live : map.get c.runs i ≡ Some r) (k : Knows d h.known r g) (finds : Inside m h.plain c.book k g.stage)
     (o : RunTx) (tx : g.tx ≡ Some o) (here : tx_after d r.id k.instance k.answers ≡ Some (tx_of r.id r.func o)) (e : Effect) (is : g.machine.effect ≡ e) (x : ℕ × List ℕ) (touch : touched e ≡ Some x) where
   abbrev own : TxId
   own = tx_of r.id r.func o
@@ -162,7 +162,7 @@ module _ (d : Deployment) (c : Core) (m : Rows) (i : ℕ) (r : Run) (g : Begun) 
   steps = in_tx.steps d c m r g h k o here e is x touch
 
   sane : SaneInstance d r.id k.instance
-  sane = turns.sane_instance d c m r g h k
+  sane = turns.sane_instance h k
 
   few : length k.answers < last_step
   few = in_tx.short d c m r g h k o here e is x touch
@@ -206,7 +206,7 @@ module _ (d : Deployment) (c : Core) (m : Rows) (i : ℕ) (r : Run) (g : Begun) 
     place_now = place_of r.id (length k.instance.answers)
 
     at_place : place_now ≡ place
-    at_place = ap (place_of r.id) (sym (turns.step_here d c.book h.known r g k left))
+    at_place = ap (place_of r.id) (sym (turns.step_here k left))
 
     -- what is said of the instance's item and next step is said of the run's
     as_run : (P : Item → Place → Type 0) → P its_item place_now → P item place
@@ -222,20 +222,16 @@ module _ (d : Deployment) (c : Core) (m : Rows) (i : ℕ) (r : Run) (g : Begun) 
     not_ended = in_tx.not_ended d c m r g h k o here e is x touch left
 
     few_now : length k.instance.answers < last_step
-    few_now = subst (λ (ts : List Answer). length ts < last_step) (turns.all_here d c.book h.known r g k left) few
+    few_now = subst (λ (ts : List Answer). length ts < last_step) (turns.all_here k left) few
 
     no_decision_yet : map.get m (decision_key own) ≡ None
     no_decision_yet = undecided d h.known h.sane m h.locked h.rows r.id k.instance own k.made (in_tx.open_still d c m r g h k o here e is x touch left) (in_tx.apart d c m r g h k o here e is x touch left) tx_is
 
     -- without a note the lock is not ahead
     not_locked : note_at (content_of m item).notes place ≡ None → h.locked r.id ≡ false
-    not_locked none = by_lock (h.locked r.id) refl
-      where
-        by_lock : (b : Bool) → h.locked r.id ≡ b → b ≡ false
-        by_lock false z = refl
-        by_lock true z =
-            let got = as_run (λ y q. note_at (content_of m y).notes q ≡ Some notes.Got) (lock_is_there d m h.known h.locked h.rows r.id k.instance k.made few_now its_item own tx_is (ap (is_item its_item k.instance.func) front.touch ∙ in_tx.item_self k.instance.func x.0 x.1) z) in
-            let clash = sym none ∙ got in cc
+    not_locked none = false_by (h.locked r.id) (λ z.
+        let got = as_run (λ y q. note_at (content_of m y).notes q ≡ Some notes.Got) (lock_is_there d m h.known h.locked h.rows r.id k.instance k.made few_now its_item own tx_is (ap (is_item its_item k.instance.func) front.touch ∙ in_tx.item_self k.instance.func x.0 x.1) z) in
+        let clash = sym none ∙ got in cc)
 
   -- ---- what was kept for a read
   module _ (fits : Fits e at.Log) where
@@ -265,13 +261,9 @@ module _ (d : Deployment) (c : Core) (m : Rows) (i : ℕ) (r : Run) (g : Begun) 
 
     by_row : (v : Option Row) → map.get m log_row ≡ v → Comes (tx_says at.Log (given_goes (begin_of o) (given_of (said (act Look c.now v).1)))) m
     by_row None there = goes_at (at.Lock (Lockset (begin_of o))) m h.locked (λ t. refl) (as_it_was h) (looks_lock e (Lockset (begin_of o)) fits) (in_lock m (Lockset (begin_of o)) refl (λ asked. cc))
-    by_row (Some w) there = by_later k.later refl
-      where
-        by_later : (later : List Answer) → k.later ≡ later → Comes (says.Answers (answer.Value (given_in w)) None) m
-        by_later [] left =
-            let none = no_row d m h.known h.locked h.rows r.id k.instance k.made in
-            let clash = sym there ∙ sym (its_row (length k.instance.answers) (turns.step_here d c.book h.known r g k left)) ∙ none in cc
-        by_later (a ∷ rest) left = subst (λ z. Comes (says.Answers z None) m) (sym (behind_row a rest left w there)) (replays m a rest left (λ t. refl) (as_it_was h))
+    by_row (Some w) there = turns.by_answer k
+        (λ left. let clash = sym there ∙ sym (its_row (length k.instance.answers) (turns.step_here k left)) ∙ no_row d m h.known h.locked h.rows r.id k.instance k.made in cc)
+        (λ a rest left. subst (λ z. Comes (says.Answers z None) m) (sym (behind_row a rest left w there)) (replays m a rest left (λ t. refl) (as_it_was h)))
 
     pub log_turn : Turns at.Log
     unfolding Comes
@@ -299,12 +291,10 @@ module _ (d : Deployment) (c : Core) (m : Rows) (i : ℕ) (r : Run) (g : Begun) 
 
   module _ (fits : Fits e (at.Lock (Lockset (begin_of o)))) where
     by_lockset : (v : Option Row) → map.get m lock_row ≡ v → Comes (tx_says (at.Lock (Lockset (begin_of o))) (lock_leads place e (put_goes (begin_of o) (said (act PutLockset c.now v).1)))) (set_row m lock_row (act PutLockset c.now v).0)
-    by_lockset None there = by_later k.later refl
-      where
-        by_later : (later : List Answer) → k.later ≡ later → Comes (says.On (stage.Tx (at.Lock (AtItem Try))) None) (set_row m lock_row (Some rows.Lockset))
-        by_later [] left = goes_at (at.Lock (AtItem Try)) (set_row m lock_row (Some rows.Lockset)) h.locked (in_tx.set_roots m r.func (kinds.Lockset r.id (begin_of o) x.0 x.1) (Some rows.Lockset) refl) (asked_kept left)
-            (fits_lock e (Lockset (begin_of o)) (AtItem Try) fits) (in_lock (set_row m lock_row (Some rows.Lockset)) (AtItem Try) tt (λ asked. ap is_some (set_here m lock_row (Some rows.Lockset))))
-        by_later (a ∷ rest) left = absurd (lockset_there a rest left there)
+    by_lockset None there = turns.by_answer k
+        (λ left. goes_at (at.Lock (AtItem Try)) (set_row m lock_row (Some rows.Lockset)) h.locked (in_tx.set_roots m r.func (kinds.Lockset r.id (begin_of o) x.0 x.1) (Some rows.Lockset) refl) (asked_kept left)
+        (fits_lock e (Lockset (begin_of o)) (AtItem Try) fits) (in_lock (set_row m lock_row (Some rows.Lockset)) (AtItem Try) tt (λ asked. ap is_some (set_here m lock_row (Some rows.Lockset)))))
+        (λ a rest left. absurd (lockset_there a rest left there))
     by_lockset (Some w) there = subst (λ n. Comes (says.On (stage.Tx (at.Lock (AtItem Try))) None) n) (sym (unchanged m lock_row (Some w) (sym there)))
         (goes_at (at.Lock (AtItem Try)) m h.locked (λ t. refl) (as_it_was h) (fits_lock e (Lockset (begin_of o)) (AtItem Try) fits) (in_lock m (AtItem Try) tt (λ asked. ap is_some there)))
 
@@ -401,15 +391,9 @@ module _ (d : Deployment) (c : Core) (m : Rows) (i : ℕ) (r : Run) (g : Begun) 
               same_owner same = cc
 
           taken_kept : Kept h n h.plain h.known taken
-          taken_kept = kept_by d c m n h h.plain h.known taken
-              (record {
-                goes = record { beside = h.beside; shadows = rows_go d m n h.plain h.known h.locked taken taken_more (set_shadows m (head_key item) v refl) h.shadows };
-                locked_at_ends = ahead_front d h.known h.locked h.locked_at_ends r.id k.instance own x.0 x.1 (front left) sane;
-                sane = h.sane;
-                rows = taken_matches;
-                values = λ y. did_lists m own (no_decision_yet left) item v free (ap (λ (z : Content). z.value) row_did) (ap (λ (z : Content). z.owner) row_did) y ∙ h.values y;
-                settled = settled_after d c m h n h.plain h.known taken taken_matches h.sane (grows_self h.known) taken_frame (unfinished h.known) (settled h);
-              }) (grows_self h.known) taken_frame
+          taken_kept = kept_moving h n h.plain h.known taken (record { beside = h.beside; shadows = rows_go d m n h.plain h.known h.locked taken taken_more (set_shadows m (head_key item) v refl) h.shadows })
+              (ahead_front d h.known h.locked h.locked_at_ends r.id k.instance own x.0 x.1 (front left) sane) h.sane taken_matches
+              (λ y. did_lists m own (no_decision_yet left) item v free (ap (λ (z : Content). z.value) row_did) (ap (λ (z : Content). z.owner) row_did) y ∙ h.values y) (settled h) (grows_self h.known) taken_frame (unfinished h.known)
 
         -- it dies: it has that answer from now on
         module _ (j : IntentId) (dead : dies (ByTx own) Lock (content_of m item).owner ≡ Some j) (did : content_of n item ≡ died_at place j (content_of m item)) where
@@ -429,7 +413,7 @@ module _ (d : Deployment) (c : Core) (m : Rows) (i : ℕ) (r : Run) (g : Begun) 
           next = map.insert h.known r.id (moved d r.id k.instance a)
 
           released_now : Released d m h.known r.id (length k.instance.answers)
-          released_now = subst (Released d m h.known r.id) (turns.step_here d c.book h.known r g k left) finds.released
+          released_now = subst (Released d m h.known r.id) (turns.step_here k left) finds.released
 
           is_death : IsDeath (place_now left) own cause
           is_death = death_is_older d h.known h.sane h.locked r.id k.instance own x.0 x.1 (front left) item (content_of m item) (h.rows.items item)
@@ -456,13 +440,13 @@ module _ (d : Deployment) (c : Core) (m : Rows) (i : ℕ) (r : Run) (g : Begun) 
               let was = sym (ap (ended_by d t.begin) (ap (map.get h.known) (sym mine) ∙ k.made)) ∙ in_tx.ends_before d c m r g h k o here e is x touch left a t z ended in
               let less = (ended_at d k.instance t.begin z was).before in
               let step : g.machine.steps ≡ z.0 = ap (λ (p : Place). p.step) at_end in
-              let last = turns.step_here d c.book h.known r g k left in
+              let last = turns.step_here k left in
               omega (arith, less, step, last)
 
           -- so its place is none where items are given back
           not_free : (t : TxId) (z : ℕ × Bool) (p : Place) → tx_end d next t ≡ Some z → IsFreePlace next t z.0 p → place ≡ p → ⊥
           not_free t z p ended (inl at_end) same = not_there t z ended (same ∙ at_end)
-          not_free t z p ended (inr last) same = let l = few_now left in let w = turns.step_here d c.book h.known r g k left in let step : g.machine.steps ≡ p.step = ap (λ (y : Place). y.step) same in let is_last = last.0 in omega (arith, l, w, step, is_last)
+          not_free t z p ended (inr last) same = let l = few_now left in let w = turns.step_here k left in let step : g.machine.steps ≡ p.step = ap (λ (y : Place). y.step) same in let is_last = last.0 in omega (arith, l, w, step, is_last)
 
           died_frame : Frame d m n h.plain h.plain h.known next
           died_frame = frame_item d m h.plain h.plain h.known next (items_stay d m h.plain h.plain next refl) (nobody_set d h.known r.id (moved d r.id k.instance a) (ap is_some k.made)) n item same row_there notes_on
@@ -479,33 +463,23 @@ module _ (d : Deployment) (c : Core) (m : Rows) (i : ℕ) (r : Run) (g : Begun) 
           died_sane = sane_died d h.known h.sane r.id k.instance k.made own x cause (tx_is left) (front left).touch is_death
 
           died_kept : Kept h n h.plain next h.locked
-          died_kept = kept_by d c m n h h.plain next h.locked
-              (record {
-                goes = died_goes;
-                locked_at_ends = ahead_set d h.known h.locked h.locked_at_ends h.locked r.id (moved d r.id k.instance a) (none_out h.locked r.id unlocked);
-                sane = died_sane;
-                rows = died_matches;
-                values = λ y. died_lists m own (no_decision_yet left) item v (ap (λ (z : Content). z.value) row_died) (ap (λ (z : Content). z.owner) row_died) y ∙ h.values y;
-                settled = settled_after d c m h n h.plain next h.locked died_matches died_sane (grows_moved d h.known r.id k.instance a k.made) died_frame (unfinished next)
-                    (settled_operated d m h.plain h.known r.id k.instance k.made a x (front left).touch
-                    (λ z u same by. subst (λ y. is_some (map.get h.plain.made y) ≡ true) (same_some (ap (λ (y : Cause). y.holder) (one_cause same) ∙ by)) (holder_made d m h.known h.locked h.rows h.sane h.plain h.beside item j (holds_here h item j) holder)) (settled h));
-              }) (grows_moved d h.known r.id k.instance a k.made) died_frame
+          died_kept = kept_moving h n h.plain next h.locked died_goes (ahead_set d h.known h.locked h.locked_at_ends h.locked r.id (moved d r.id k.instance a) (none_out h.locked r.id unlocked)) died_sane died_matches
+              (λ y. died_lists m own (no_decision_yet left) item v (ap (λ (z : Content). z.value) row_died) (ap (λ (z : Content). z.owner) row_died) y ∙ h.values y)
+              (settled_operated d m h.plain h.known r.id k.instance k.made a x (front left).touch
+              (λ z u same by. subst (λ y. is_some (map.get h.plain.made y) ≡ true) (same_some (ap (λ (y : Cause). y.holder) (one_cause same) ∙ by)) (holder_made d m h.known h.locked h.rows h.sane h.plain h.beside item j (holds_here h item j) holder)) (settled h))
+              (grows_moved d h.known r.id k.instance a k.made) died_frame (unfinished next)
 
           dies_now : Comes (says.Answers (answer.Aborted (record { place = place; holder = Some j })) None) n
           unfolding Comes
           dies_now = let more = moved_more d r.id k.instance a in
               subst (λ p. Comes (says.Answers (answer.Aborted (record { place = p; holder = Some j })) None) n) (at_place left)
               (turns.answers_on d c m i r g h live k finds a more.more n next h.locked (moved d r.id k.instance a) roots died_kept (inserted h.known r.id (moved d r.id k.instance a)) (grown_moved d r.id k.instance a)
-              (ap (λ ts. (ts ++ a ∷ []) ++ more.more) (turns.all_here d c.book h.known r g k left) ∙ more.same) (in_tx.wants_here d c m r g h k o here e is x touch) (in_tx.frees_none d c m i r g h live k finds o tx here e is x touch n))
+              (ap (λ ts. (ts ++ a ∷ []) ++ more.more) (turns.all_here k left) ∙ more.same) (in_tx.wants_here d c m r g h k o here e is x touch) (in_tx.frees_none d c m i r g h live k finds o tx here e is x touch n))
 
       -- ---- what the lock told
       -- where the place had no note, it is at the front
       at_front : note_at (content_of m item).notes place ≡ None → k.later ≡ []
-      at_front none = by_later k.later refl
-        where
-          by_later : (later : List Answer) → k.later ≡ later → later ≡ []
-          by_later [] left = refl
-          by_later (a ∷ rest) left = let clash = sym none ∙ note_here_is a rest left in cc
+      at_front none = turns.by_answer k (λ left. left) (λ a rest left. let clash = sym none ∙ note_here_is a rest left in cc)
 
       taken_now : note_at (content_of m item).notes place ≡ None → (j : Option IntentId) → dies (ByTx own) Lock (content_of m item).owner ≡ j → DidAs place (ByTx own) Lock j (content_of m item) (content_of n item)
           → note_at (content_of n item).notes place ≡ Some notes.Got → Comes (tx_says (at.Lock (AtItem w)) (locked_goes e)) n
@@ -520,15 +494,13 @@ module _ (d : Deployment) (c : Core) (m : Rows) (i : ℕ) (r : Run) (g : Begun) 
 
       -- a death that was there is the known answer
       died_before : (j : IntentId) → content_of n item ≡ content_of m item → note_at (content_of m item).notes place ≡ Some (notes.Died j) → Comes (says.Answers (answer.Aborted (record { place = place; holder = Some j })) None) n
-      died_before j whole there = by_later k.later refl
-        where
-          by_later : (later : List Answer) → k.later ≡ later → Comes (says.Answers (answer.Aborted (record { place = place; holder = Some j })) None) n
-          by_later [] left = absurd (none_dead its_item k.instance.func (tx_now d r.id k.instance) (effect_of d k.instance) (h.locked r.id) j
-              (sym (note_is_ahead d m h.known h.locked h.rows r.id k.instance k.made (few_now left) its_item) ∙ (λ i. note_at (content_of m (same_item i)).notes (at_place left i)) ∙ there))
-          by_later (a ∷ rest) left =
-              let noted_so : (told_here a rest left).note ≡ notes.Died j = same_some (sym (note_here_is a rest left) ∙ there) in
-              let same : answer.Aborted (record { place = place_of r.id (length k.answers); holder = Some j }) ≡ a = noted_death (place_of r.id (length k.answers)) a j (ap (λ u. lock_answer (place_of r.id (length k.answers)) (noted u)) (sym noted_so) ∙ (told_here a rest left).says) in
-              subst (λ z. Comes (says.Answers z None) n) (sym same ∙ ap (λ q. answer.Aborted (record { place = place_of r.id q; holder = Some j })) (sym steps)) (replays n a rest left roots (as_held whole))
+      died_before j whole there = turns.by_answer k
+          (λ left. absurd (none_dead its_item k.instance.func (tx_now d r.id k.instance) (effect_of d k.instance) (h.locked r.id) j
+          (sym (note_is_ahead d m h.known h.locked h.rows r.id k.instance k.made (few_now left) its_item) ∙ (λ i. note_at (content_of m (same_item i)).notes (at_place left i)) ∙ there)))
+          (λ a rest left.
+          let noted_so : (told_here a rest left).note ≡ notes.Died j = same_some (sym (note_here_is a rest left) ∙ there) in
+          let same : answer.Aborted (record { place = place_of r.id (length k.answers); holder = Some j }) ≡ a = noted_death (place_of r.id (length k.answers)) a j (ap (λ u. lock_answer (place_of r.id (length k.answers)) (noted u)) (sym noted_so) ∙ (told_here a rest left).says) in
+          subst (λ z. Comes (says.Answers z None) n) (sym same ∙ ap (λ q. answer.Aborted (record { place = place_of r.id q; holder = Some j })) (sym steps)) (replays n a rest left roots (as_held whole)))
 
       by_note : (u : Note) (first : Bool) → note_at (content_of n item).notes place ≡ Some u → DidOnce place (ByTx own) Lock first (content_of m item) (content_of n item) → Comes (tx_says (at.Lock (AtItem w)) (lock_leads place e (note_goes w u first))) n
       by_note notes.Got true got l = taken_now l.0 (dies (ByTx own) Lock (content_of m item).owner) refl l.1 got

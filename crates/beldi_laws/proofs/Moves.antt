@@ -59,7 +59,7 @@ pub record Entered (d : Deployment) (c : Core) (p : PlainState) (known : Known) 
   pub bounded : SeenBounded 0 (c.book ++ e ∷ [])
   pub legal : run_of d (c.book ++ e ∷ []) ≡ Some q
   pub guarded : IsGuarded d nothing (linear (c.book ++ e ∷ []))
-  pub places : (r : Run) → PlacesOn d c.book (c.book ++ e ∷ []) known next r
+  pub places : PlacesOn d c.book (c.book ++ e ∷ []) known next
 
 -- where the entry is a change, and nobody else has locked its item
 pub change_entered : (d : Deployment) (c : Core) (m : Rows) (h : Right d c m) (e : Entry) (q : PlainState) (next : Known) → seen_of e ≡ None → after d h.plain e ≡ Some q → IsFree d h.plain e → Entered d c h.plain h.known e q next
@@ -175,7 +175,7 @@ module _ (d : Deployment) (c : Core) (m n : Rows) (i : ℕ) (r : Run) (h : Right
       followed d h.plain (turned_core c i r.id s) n r s
       (right_by (subst (SeenBounded 0) book h.bounded) (ap (run_of d) (sym book) ∙ h.legal) (subst (λ b. IsGuarded d nothing (linear b)) book h.guarded) kept.shows (λ t. roots t ∙ h.tickets t)
       (subst (λ b. RunsMatch d n h.plain b next (put_run c.runs i s.next) c.last_run) book (runs_put d n h.plain c.book next c.runs c.last_run i s.next (ap is_some live) run
-      (runs_on d m n h.plain h.plain c.book c.book h.known next c.runs c.last_run kept.grows (places_same d c.book h.known next) kept.others h.runs))))
+      (runs_on d m n h.plain h.plain c.book c.book h.known next kept.grows (places_same d c.book h.known next) kept.others c.runs c.last_run h.runs))))
       (grows_self h.plain.made)
       (λ t u e. let clash = sym (ap (reply_told r.id.ticket) silent) ∙ e in cc)
       s.wait (subst (λ b. KnowsCallee d n h.plain b next r s s.wait) book callee)
@@ -189,7 +189,7 @@ module _ (d : Deployment) (c : Core) (m n : Rows) (i : ℕ) (r : Run) (h : Right
       followed d h.plain (turned_core c i r.id s) n r s
       (right_by (subst (SeenBounded 0) book leads.bounded) (ap (run_of d) (sym book) ∙ leads.legal) (subst (λ b. IsGuarded d nothing (linear b)) book leads.guarded) kept.shows (λ t. roots t ∙ h.tickets t)
       (subst (λ b. RunsMatch d n q b next (put_run c.runs i s.next) c.last_run) book (runs_put d n q more next c.runs c.last_run i s.next (ap is_some live) run
-      (runs_on d m n h.plain q c.book more h.known next c.runs c.last_run kept.grows leads.places kept.others h.runs))))
+      (runs_on d m n h.plain q c.book more h.known next kept.grows leads.places kept.others c.runs c.last_run h.runs))))
       leads.grows
       (told_reply q r.id.ticket s.reply reply)
       s.wait (subst (λ b. KnowsCallee d n q b next r s s.wait) book callee)

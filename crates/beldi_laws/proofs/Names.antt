@@ -42,7 +42,7 @@ pub use Rattle.beldi_intent.specs.declared.intent.Binding.{Binding}
 pub use Rattle.beldi_invokelog.proofs.Calls.{calls_stay}
 pub use Rattle.beldi_invokelog.specs.InvokeLog.{CallGoesOn, GoesOn, back_asks, back_of, opened, registered_asks}
 pub use Rattle.beldi_invokelog.specs.declared.invoke_log.Back.TheVariants.{Absent, AlreadySet, Set}
-pub use Rattle.beldi_known.proofs.Names.{Answer, Async, Beside, Body, BodyMatches, Bool, Call, CallMatches, CalledBy, CalleeBodyMatches, CalleeMatches, Caller, Cause, CellOp, Content, Deployment, Done, DoneRows, Effect, Equal, Err, FellAt, FinMap, FinishMatches, Goes, Greater, Grown, GrownAt, HoldersInsideAreMade, Instance, Intent, IntentId, IntentMatches, IntentRow, InvokeRow, IsAbort, IsAnswer, IsBelow, IsBodyOf, IsCalled, IsCalleeRow, IsCommit, IsDeath, IsFront, IsRootRow, IsSound, Item, ItemMatches, Items, Kind, Known, Less, Line, List, Lock, LockedAtEnds, LockedIf, LockedOut, LocksetMatches, LogMatches, Matches, None, Note, Null, Ok, OnItem, Operation, Option, Ordering, Outcome, OutcomeMatches, Owner, Place, PlainState, Prefix, Rel, Result, RootMatches, Row, RowKey, RowMatches, Rows, Sane, SaneInstance, ShadowMatches, Some, TouchedIn, Tx, TxId, Txs, TxsMatch, Value, Waited, [], age_of, ahead_by, ahead_note, along, along_append, along_pushed, and_once, and_parts, answer_after, answer_at_once, answer_given, answer_of, answered, answered_if, answered_note, ap, append-nil, append_assoc, arith, asks_lock, at_once, at_step, barred, begins_at, body_of, call_in, call_of, called_by, callee_of, calls_at, cell_of, child_of, child_same, commit_in, cond, content_in, content_of, decision_by, decision_key, did, died, done_to, effect_after, effect_before, effect_of, elsewhere, end_of, ended, ended_at, ended_by, ended_stays, eq-eqb, eq_by_cmp_equiv, eqb-true, false, fits, fits_at, func_at, get-empty, get-insert, get_after, get_set, got, got_before, got_by, has_callees, has_ended, has_no_hops, head_key, held, held_or, here, holds, id_cmp, id_exact, id_same, id_total, if◌then◌else◌, in_line, inl, inr, invoke_key, is_aborted, is_at, is_begin, is_committed, is_decided, is_eq, is_item, is_mark, is_none, is_older, is_on, is_open, is_owner, is_some, is_tx, is_waited, item_cmp, item_in, item_same, item_total, key_cmp, key_same, key_self, last_answer, last_hop, last_step, length, length-append, length-take-le, line_opened, listed, listed_under, lock_answer, lock_in, lock_on, lock_or, lockset_ahead, lockset_key, lockset_of, log_key, made_set, moved, nat_cmp, nat_lt, new_instance, next, next_step, not, note_after, note_at, note_by, note_of, note_or, note_pushed, noted_or, once, once_if, op_of, operation_answers, option_map, or_null, or_old, or_own, or_parts, other_owner, owed_call, owed_lockset, owed_note, owed_read, owed_shadow, owed_value, owner_eq, owns, passes, pieces_are_moves, place_eq, place_of, place_same, plain_set, put_lockset, read_at, refl, result_in, result_of, root_key, root_of, row_added, row_at, row_got, run_on, run_once, same_some, set_if, set_row, sets, shadow_by, shadow_key, shadow_of, slice_get, slice_get_within, subst, suc, sym, take, take-append-le, take-append_seam, test_on, tested, tied_itself, top, touched, true, tx_after, tx_at, tx_begun, tx_by, tx_end, tx_eq, tx_in, tx_now, txs_after, txs_by, txs_pushed, value_at, value_for, value_in, value_or, wants, with_instance, with_note, within_by, write_on, write_op, writes_on, zero, ℕ, ◌&&◌, ◌++◌, ◌+◌, ◌<◌, ◌==◌, ◌||◌, ◌∙◌, ◌∷◌, ◌≡◌, ◌≤◌, ◌⊎◌}
+pub use Rattle.beldi_known.proofs.Names.{Answer, Async, Beside, Body, BodyMatches, Bool, Call, CallMatches, CalledBy, CalleeBodyMatches, CalleeMatches, Caller, Cause, CellOp, Content, Deployment, Done, DoneRows, Effect, Equal, Err, FellAt, FinMap, FinishMatches, Goes, Greater, Grown, GrownAt, HoldersInsideAreMade, Instance, Intent, IntentId, IntentMatches, IntentRow, InvokeRow, IsAbort, IsAnswer, IsBelow, IsBodyOf, IsCalled, IsCalleeRow, IsCommit, IsDeath, IsFront, IsRootRow, IsSound, Item, ItemMatches, Items, Kind, Known, Less, Line, List, Lock, LockedAtEnds, LockedIf, LockedOut, LocksetMatches, LogMatches, Matches, None, Note, Null, Ok, OnItem, Operation, Option, Ordering, Outcome, OutcomeMatches, Owner, Place, PlainState, Prefix, Rel, Result, RootMatches, Row, RowKey, RowMatches, Rows, Sane, SaneInstance, ShadowMatches, Some, TouchedIn, Tx, TxId, Txs, TxsMatch, Value, Waited, [], age_of, ahead_by, ahead_note, along, along_append, along_pushed, and_once, and_parts, answer_after, answer_at_once, answer_given, answer_of, answered, answered_if, answered_note, ap, append-nil, append_assoc, arith, asks_lock, at_once, at_step, barred, begins_at, body_of, call_in, call_of, called_by, callee_of, calls_at, cell_of, child_of, child_same, commit_in, cond, content_in, content_of, decision_by, decision_key, did, died, done_to, effect_after, effect_before, effect_of, elsewhere, end_of, ended, ended_at, ended_by, ended_stays, eq-eqb, eq_by_cmp_equiv, eqb-true, false, fits, fits_at, func_at, get-empty, get-insert, get_after, get_set, got, got_before, got_by, has_callees, has_ended, has_no_hops, head_key, held, held_or, here, holds, id_cmp, id_exact, id_same, id_total, if◌then◌else◌, in_line, inl, inr, invoke_key, is_aborted, is_at, is_begin, is_committed, is_decided, is_eq, is_item, is_mark, is_none, is_older, is_on, is_open, is_owner, is_some, is_tx, is_waited, item_cmp, item_in, item_same, item_total, key_cmp, key_same, key_self, last_answer, last_hop, last_step, length, length-append, length-take-le, line_opened, listed, listed_under, lock_answer, lock_in, lock_on, lock_or, lockset_ahead, lockset_key, lockset_of, log_key, made_set, moved, nat_cmp, nat_lt, new_instance, next, next_step, none_by, not, note_after, note_at, note_by, note_of, note_or, note_pushed, noted_or, once, once_if, op_of, operation_answers, option_map, or_null, or_old, or_own, or_parts, other_owner, owed_call, owed_lockset, owed_note, owed_read, owed_shadow, owed_value, owner_eq, owns, passes, pieces_are_moves, place_eq, place_of, place_same, plain_set, put_lockset, read_at, refl, result_in, result_of, root_key, root_of, row_added, row_at, row_got, run_on, run_once, same_some, set_if, set_row, sets, shadow_by, shadow_key, shadow_of, slice_get, slice_get_within, subst, suc, sym, take, take-append-le, take-append_seam, test_on, tested, tied_itself, top, touched, true, tx_after, tx_at, tx_begun, tx_by, tx_end, tx_eq, tx_in, tx_now, txs_after, txs_by, txs_pushed, value_at, value_for, value_in, value_or, wants, with_instance, with_note, within_by, write_on, write_op, writes_on, zero, ℕ, ◌&&◌, ◌++◌, ◌+◌, ◌<◌, ◌==◌, ◌||◌, ◌∙◌, ◌∷◌, ◌≡◌, ◌≤◌, ◌⊎◌}
 pub use Rattle.beldi_known.proofs.Acting.{calls_go, deaths_go, first_rows_go, reads_go, returns_go, rows_go, tests_go, writes_go}
 pub use Rattle.beldi_known.proofs.Acts.{by_item, content_apart, content_here, is_data, is_shadow, kinds_apart, lock_did, shadow_same, turned}
 pub use Rattle.beldi_known.proofs.Ahead.{ahead_front, ahead_set, none_out, unlocked_absent, unlocked_elsewhere, unlocked_outside}
@@ -95,12 +95,12 @@ pub use Rattle.beldi_lang.specs.Machine.{IsAt, begun, begun as machine_begun}
 pub use Rattle.beldi_lang.specs.Wants.{wants_answer}
 pub use Rattle.beldi_lang.specs.declared.effect.Effect.TheVariants.{Abort, Begin, CondWrite, End, Read, Return, Unlock, Write}
 pub use Rattle.beldi_lang.specs.declared.machine.Machine.{Machine}
-pub use Rattle.beldi_laws.specs.Inside.{AtStage, Found, Frame, InItem, InOperation, Inside, IsFreePlace, IsOf, IsWriting, OfBegin, OwnedAreUnmarked, OwnersCallNobody, ParticipantsAreReleased, ParticipantsHaveRows, Released, StillOwns, TookPart, end_walk, has_asked, has_finish}
+pub use Rattle.beldi_laws.specs.Inside.{Found, Frame, InItem, InOperation, IsFreePlace, IsOf, IsWriting, OfBegin, OwnedAreUnmarked, OwnersCallNobody, ParticipantsAreReleased, ParticipantsHaveRows, Released, StillOwns, TookPart, end_walk, has_asked, has_finish}
 pub use Rattle.beldi_laws.specs.Laws.{BookGrew, ChangesOneRow, DropsHaveCause, HeldAnswersStay, InstancesGoOn, KeepsRight, KeepsRoom, OneRowChanged, OutcomesStay, RepliesAreOutcomes, RightHasOneAnswer, RightIsLegal, StartsAreBound, WritesWhatIsTold, bound_by, is_gone}
 pub use Rattle.beldi_plain.specs.Replies.{HasReply, starts_of}
-pub use Rattle.beldi_step.specs.Told.{bound_of, entries_told, told_outcome}
+pub use Rattle.beldi_step.specs.Told.{bound_of, entries_told, is_dropped, is_lost, told_outcome}
 pub use Rattle.beldi_laws.specs.OneAnswer.{AnswersOf, AnswersStay, OneAnswerPerStep, WasGiven}
-pub use Rattle.beldi_laws.specs.Right.{Keeps, Knows, KnowsAt, KnowsBody, MarkOk, PlaceOk, Right, RunAt, RunsMatch, SeenDone, StageOk, WasThere, is_past, open_of}
+pub use Rattle.beldi_laws.specs.Right.{AtStage, Inside, Keeps, Knows, KnowsAt, KnowsBody, Right, RunAt, RunsMatch, StandsAt, WasThere, is_opened, is_past, is_sent, open_of}
 pub use Rattle.beldi_known.specs.Stands.{HasNotEnded, IsMade, Stands, answer_aside, decides, has_place, held_answer, held_inside, held_note, held_outside, key_in, note_of_lock}
 pub use Rattle.beldi_lock.proofs.Firsts.{IsApart, first_apart}
 pub use Rattle.beldi_lock.specs.Last.{split_last}
@@ -144,7 +144,6 @@ pub use Rattle.beldi_row.specs.declared.table.TableErr.{TableErr}
 pub use Rattle.beldi_row.specs.declared.table.TableErr.TheVariants.{Failed, Full, OutOfMemory}
 pub use Rattle.beldi_step.proofs.PutRun.{put_got, remove_put}
 pub use Rattle.beldi_step.specs.Host.{Core, EventBy, EventOn, Followed, Plan, StepBy, after_turn, asks, bound_next, collect_next, collected, counted, crash_plan, ended_run, entry_of, first_core, has_run, heard, if_lent, is_crowded, last_moment, launched, made, marked, may_start, most_events, most_runs, new_run, no_memory, no_run, passed, plan, plan_of, put_run, refused, refused_by, request_next, run_next, run_plan, started, ticket_next, turn_next, turned_core, unbound, unheard_next, with_run, without_run}
-pub use Rattle.beldi_step.specs.Told.{is_dropped, is_lost}
 pub use Rattle.beldi_step.specs.Run.{Turned, answer_noted, answers_it, ask_says, asks_at, async_answer, async_here_asks, async_here_says, at_once as at_once_of, at_stage, back_says, back_to_asks, begin_in, begin_of, body_registered, call_answer, call_here_says, callee_at, callee_body, callee_by, callee_of as run_called, cell_op, close_says, decide_by_says, decided_says, done_says, end_by_asks, end_by_says, end_mark, first_stage, goes, goes_from, goes_to, if_answers, is_inherited, keep_says, last_stage, mark_if, note_done, note_of_op, open_after, over, own_tx, put_asks, put_says, reply_if, run_asks, run_told, says_of, stage_asks, stage_says, step_mark, takes, takes_if, tell_asks, told_at, turned_by, tx_at as run_tx, tx_here_asks, tx_here_says, tx_of, tx_says, visit_says, walk_says, with_cause, within, write_says}
 pub use Rattle.beldi_step.specs.Noted.{noted_answer}
 pub use Rattle.beldi_step.specs.Tables.{line_at, row_line, shown_under, tables_text, value_line}

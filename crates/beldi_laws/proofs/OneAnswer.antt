@@ -11,10 +11,10 @@ use Rattle.beldi_laws.proofs.Standing.{held_here, same_run}
 -- ---- one answer
 module _ (d : Deployment) (c : Core) (m : Rows) (h : Right d c m) (id : IntentId) where
   -- what a begun run knows
-  known : (i : ℕ) (r : Run) (g : Begun) → map.get c.runs i ≡ Some r → r.at ≡ Begins g → Knows d c.book h.known r g
+  known : (i : ℕ) (r : Run) (g : Begun) → map.get c.runs i ≡ Some r → r.at ≡ Begins g → Knows d h.known r g
   known i r g live at = (subst (λ o. KnowsAt d m h.plain c.book h.known r o) at (subst (RunAt d m h.plain c.book h.known) live (h.runs.runs i))).0
 
-  given_of : (q : Instance) (r : Run) (g : Begun) → map.get h.known id ≡ Some q → r.id ≡ id → Knows d c.book h.known r g → WasGiven d q r g
+  given_of : (q : Instance) (r : Run) (g : Begun) → map.get h.known id ≡ Some q → r.id ≡ id → Knows d h.known r g → WasGiven d q r g
   given_of q r g made same k =
       let is : k.instance ≡ q = same_some (sym k.made ∙ ap (map.get h.known) same ∙ made) in
       let func : r.func ≡ q.func = sym k.func ∙ ap (λ z. z.func) is in

@@ -1,8 +1,9 @@
 -- What a run is in after answers: the transaction that it was called in throughout, or else its own one that is open; and so the
 -- transaction of the step there.
-use Rattle.beldi_laws.proofs.Names.{Answer, Deployment, Effect, Inherited, Instance, IntentId, List, None, Option, Own, RunTx, Some, TxId, Txs, [], along, along_pushed, ap, effect_after, false, is_begin, is_bound, is_inherited, is_some, length, no_bound, none_begun, open_after, open_of, or_own, own_tx, refl, sym, tx_after, tx_by, tx_of, txs_after, txs_by, wants, with_cause, within, ℕ, ◌++◌, ◌∙◌, ◌∷◌, ◌≡◌}
+use Rattle.beldi_laws.proofs.Names.{Answer, Deployment, Effect, Inherited, Instance, IntentId, List, None, Option, Own, RunTx, Some, TxId, Txs, [], along, along_pushed, ap, effect_after, false, is_begin, is_bound, is_inherited, is_some, length, no_bound, none_begun, none_by, open_after, open_of, or_own, own_tx, refl, sym, tx_after, tx_by, tx_of, txs_after, txs_by, wants, with_cause, within, ℕ, ◌++◌, ◌∙◌, ◌∷◌, ◌≡◌}
 use Rattle.beldi_laws.proofs.Names.answer
 use Rattle.beldi_laws.proofs.Names.effect
+use Rattle.beldi_laws.proofs.Cases.{by_option}
 
 -- the Begin of one's own that is open
 abbrev pub own_begin : Option RunTx → Option ℕ
@@ -87,18 +88,11 @@ module _ (d : Deployment) (q : Instance) where
 
   -- so what it is in tells how it was called
   pub called_out : (given : List Answer) → is_inherited (open_of d q given) ≡ false → q.within ≡ None
-  called_out given own = by_within q.within refl
-    where
-      by_within : (w : Option TxId) → q.within ≡ w → w ≡ None
-      by_within None e = refl
-      by_within (Some x) e = let clash = sym own ∙ ap is_inherited (open_in x given e) in cc
+  called_out given own = none_by q.within (λ x e. let clash = sym own ∙ ap is_inherited (open_in x given e) in cc)
 
   pub called_in : (x : TxId) (given : List Answer) → open_of d q given ≡ Some (Inherited x) → q.within ≡ Some x
-  called_in x given is = by_within q.within refl
-    where
-      by_within : (w : Option TxId) → q.within ≡ w → w ≡ Some x
-      by_within None e = let clash = sym (open_out given e) ∙ ap is_inherited is in cc
-      by_within (Some y) e = let same : Some (Inherited y) ≡ Some (Inherited x) = sym (open_in y given e) ∙ is in cc
+  called_in x given is = by_option q.within (λ e. let clash = sym (open_out given e) ∙ ap is_inherited is in cc)
+      (λ y e. let same : Some (Inherited y) ≡ Some (Inherited x) = sym (open_in y given e) ∙ is in e ∙ cc)
 
 -- ---- the transaction of a step is the one that the run is in, but at a Begin
 module _ (d : Deployment) (id : IntentId) (q : Instance) (given : List Answer) where
@@ -129,17 +123,11 @@ module _ (d : Deployment) (id : IntentId) (q : Instance) (given : List Answer) w
 
   -- in none, it is in none
   pub open_none : tx_after d id q given ≡ None → open_of d q given ≡ None
-  open_none is = by_within q.within refl
+  open_none is = by_option q.within
+      (λ out. none_by (open_of d q given) (λ o e. by_some o (effect_after d q given) (ap is_inherited (sym e) ∙ open_out d q given out) (sym (tx_so out (Some o) e) ∙ is)))
+      (λ x in_it. let clash = sym is ∙ tx_in x in_it in cc)
     where
       by_some : (o : RunTx) (e : Effect) → is_inherited (Some o) ≡ false → tx_by id q.func (length given) e (own_begin (Some o)) ≡ None → ⊥
       by_some (Own o) effect.Begin own k = cc
       by_some (Own o) e own k = cc
       by_some (Inherited x) e own k = cc
-
-      by_open : q.within ≡ None → (o : Option RunTx) → open_of d q given ≡ o → o ≡ None
-      by_open out None e = refl
-      by_open out (Some o) e = absurd (by_some o (effect_after d q given) (ap is_inherited (sym e) ∙ open_out d q given out) (sym (tx_so out (Some o) e) ∙ is))
-
-      by_within : (w : Option TxId) → q.within ≡ w → open_of d q given ≡ None
-      by_within None out = by_open out (open_of d q given) refl
-      by_within (Some x) in_it = let clash = sym is ∙ tx_in x in_it in cc

@@ -1,5 +1,5 @@
 -- The turns of an operation on an item: they rest on the law that a chain is a logged cell, and on what each operation is.
-use Rattle.beldi_laws.proofs.Names.{Answer, Answers, Begun, Caller, CellOp, Core, Deployment, DidOnce, DoneRows, Effect, Entry, Frame, Grows, Inside, Instance, IntentId, IsAnswer, IsFree, IsTrue, Item, Known, Knows, List, LoggedTurn, Logs, Matches, None, Note, OnItem, Option, Place, PlaceOk, Plain, PlainState, Query, Right, RowKey, Rows, Run, Sane, Says, Some, SoundAt, StageOk, Step, TxId, Value, WriteAt, WriteGoes, WriteWalk, [], ahead_set, answer_after, answer_noted, answers_it, ap, by_op, cell_key, cell_of, cell_op, commit_in, content_of, does_so, done_note, done_says, effect_before, effect_of, enabled_step, false, free_at_operation, head_key, holds, if_answers, if◌then◌else◌, is_eq, is_shadow, is_some, item_in, item_total, item_touched, key_cmp, kind_of, kinds_apart, length, moved, moved_one, no_root, no_tx, nobody_else, none_out, note_after, note_at, note_done, note_here, note_of, note_of_op, noted_answer, op_of, operate, operation_answers, operation_done, operation_step, option_and_then, option_map, place_of, put_asks, put_says, refl, root_key, rows_after, same_some, set_agrees, sets, shadow_key, slice_get, subst, sym, tied_itself, told_by, touched_by, true, turn_next, turned_by, tx_after, tx_now, unbarred, value_at, walk_so, wants_answer, write_asks, write_goes, write_says, ℕ, ◌∙◌, ◌∷◌, ◌≡◌}
+use Rattle.beldi_laws.proofs.Names.{Answer, Answers, Begun, CellOp, Core, Deployment, DidOnce, DoneRows, Effect, Frame, Grows, Inside, Instance, IntentId, IsAnswer, IsFree, IsTrue, Item, Known, Knows, List, LoggedTurn, Logs, Matches, None, Note, OnItem, Place, Plain, PlainState, Query, Right, RowKey, Rows, Run, Sane, Says, Some, SoundAt, Step, TxId, Value, WriteAt, WriteGoes, WriteWalk, [], ahead_set, answer_after, answer_noted, answers_it, ap, by_op, cell_key, cell_of, cell_op, commit_in, content_of, does_so, done_note, done_says, effect_before, effect_of, enabled_step, false, free_at_operation, head_key, holds, if_answers, if◌then◌else◌, is_begin, is_eq, is_shadow, is_some, item_in, item_total, item_touched, key_cmp, kind_of, kinds_apart, length, moved, moved_one, no_root, no_tx, nobody_else, none_out, note_after, note_at, note_done, note_here, note_of, note_of_op, noted_answer, op_of, operate, operation_answers, operation_done, operation_step, option_and_then, option_map, place_of, put_asks, put_says, refl, root_key, rows_after, same_some, set_agrees, sets, shadow_key, slice_get, subst, sym, tied_itself, told_by, touched_by, true, turn_next, turned_by, tx_after, tx_now, unbarred, value_at, walk_so, wants_answer, write_asks, write_goes, write_says, ℕ, ◌∙◌, ◌∷◌, ◌≡◌}
 use Rattle.beldi_laws.proofs.Names.answer
 use Rattle.beldi_laws.proofs.Names.effect
 use Rattle.beldi_laws.proofs.Names.kind
@@ -12,14 +12,13 @@ use Rattle.beldi_laws.proofs.Names.value
 use Rattle.beldi_laws.proofs.Names.writes
 use Rattle.beldi_known.specs.Owed.{noted}
 use Rattle.beldi_laws.proofs.Moves.{AfterTurn, AfterQuery, SameRoots, change_entered, Entered, Kept, Stays}
-use Rattle.beldi_laws.proofs.Closing.{settled_after}
 use Rattle.beldi_laws.proofs.Frames.{frame_done, frame_held, item_stays, items_stay, no_finish, nobody_new, nobody_set, query_keeps}
 use Rattle.beldi_laws.proofs.Settling.{settled_grown, settled_outside}
-use Rattle.beldi_laws.proofs.Others.{kept_by}
+use Rattle.beldi_laws.proofs.Others.{kept_moving}
 use Rattle.beldi_laws.proofs.Keeping.{SameShadows, goes_answered, stays_by}
-use Rattle.beldi_laws.proofs.Turns.{effect_here, answer_here, step_here, effect_next, wants_it, fits, not_over, goes_on, held, ends, replays, steps_on, outside_here, tx_step, tx_next, not_of_tx, plain_there, unlocked_there}
-use Rattle.beldi_laws.proofs.Shown.{Shows, value_here, holds_here, legal_sane, settled}
-use Rattle.beldi_laws.proofs.Owed.{note_if, note_there, no_end, content_kept, contents_kept, others_list, done_lists}
+use Rattle.beldi_laws.proofs.Turns.{effect_here, answer_here, step_here, effect_next, wants_it, fits, not_over, goes_on, held, ends, replays, steps_on, outside_here, tx_step, tx_next, plain_there, unlocked_there}
+use Rattle.beldi_laws.proofs.Shown.{value_here, holds_here, legal_sane, settled}
+use Rattle.beldi_laws.proofs.Owed.{note_if, note_there, content_kept, contents_kept, others_list, done_lists}
 use Rattle.beldi_laws.proofs.KeptSane.{answered_kept}
 use Rattle.beldi_laws.proofs.Outside.{is_call}
 use Rattle.beldi_laws.proofs.Grown.{grows_moved}
@@ -61,28 +60,20 @@ touches_it : (e : Effect) (o : OnItem) (q : Instance) → op_of e ≡ Some o →
 touches_it (effect.Read t k) o q h = cc
 touches_it e o q h = ap (option_map (item_in q.func)) h
 
-may_stand : (id : IntentId) (c : Option Caller) (e : Effect) (o : OnItem) (at : WriteAt) → op_of e ≡ Some o → StageOk false id c e (stage.Write at)
-may_stand id c (effect.Write t k v) o at h = tt
-may_stand id c (effect.CondWrite t k r u v) o at h = tt
-may_stand id c (effect.Lock t k) o at h = tt
-may_stand id c (effect.Unlock t k) o at h = tt
-may_stand id c e o at h = cc
-
-no_place : (d : Deployment) (book : List Entry) (id : IntentId) (func : ℕ) (given later : List Answer) (e : Effect) (at : WriteAt) → PlaceOk d book id func given later e (stage.Write at)
-no_place d book id func given later (effect.Read t k) at = tt
-no_place d book id func given later e at = tt
-
-is_no_call : (e : Effect) (o : OnItem) → op_of e ≡ Some o → is_call e ≡ false
-is_no_call (effect.Call f v) o h = cc
-is_no_call (effect.Async f v) o h = cc
-is_no_call e o h = refl
+-- .. and it is no call, no end and no begin
+pub is_operation : (e : Effect) (o : OnItem) → op_of e ≡ Some o → (is_call e ≡ false) × (commit_in e ≡ None) × (is_begin e ≡ false)
+is_operation (effect.Call f v) o h = cc
+is_operation (effect.Async f v) o h = cc
+is_operation effect.Begin o h = cc
+is_operation (effect.End b) o h = cc
+is_operation e o h = (refl, refl, refl)
 
 -- .. its note is told as the answer that it reads as
 told_back : (e : Effect) (o : OnItem) (n : Note) (a : Answer) → ReadsAs e o a → noted o.does a ≡ Some n → answer_noted e n ≡ Some a
 told_back e o n a back same = ap (if_answers e) (sym (ap (option_and_then noted_answer) same) ∙ back.0) ∙ ap (λ b. if b then Some a else None) back.1
 
 -- ---- the turn
-module _ (d : Deployment) (c : Core) (m : Rows) (i : ℕ) (r : Run) (g : Begun) (h : Right d c m) (live : map.get c.runs i ≡ Some r) (k : Knows d c.book h.known r g) (finds : Inside d m h.plain h.known r g) (out : tx_after d r.id k.instance k.answers ≡ None)
+module _ (d : Deployment) (c : Core) (m : Rows) (i : ℕ) (r : Run) (g : Begun) (h : Right d c m) (live : map.get c.runs i ≡ Some r) (k : Knows d h.known r g) (finds : Inside m h.plain c.book k g.stage) (out : tx_after d r.id k.instance k.answers ≡ None)
     (e : Effect) {o : OnItem} (so : op_of e ≡ Some o) (is : g.machine.effect ≡ e) (at : WriteAt) where
   abbrev op : CellOp
   op = cell_of o.does
@@ -106,10 +97,10 @@ module _ (d : Deployment) (c : Core) (m : Rows) (i : ℕ) (r : Run) (g : Begun) 
   -- the item has the note of what the step was answered
   note_is : (later : List Answer) → k.later ≡ later → note_at (content_of m item).notes place ≡ note_if item r.func e (slice_get later 0)
   note_is later left =
-      note_there d m h.known h.locked h.rows r.id k.instance k.made g.machine.steps (outside_here d c.book h.known r g k out).0 (tx_step d c.book h.known r g k out)
-      (ap commit_in (effect_here d c.book h.known r g k) ∙ no_end g.machine.effect (not_of_tx d c.book h.known r g k out)) item
-      ∙ ap (note_if item k.instance.func (effect_before d k.instance g.machine.steps)) (answer_here d c.book h.known r g k later left)
-      ∙ ap (λ z. note_if item k.instance.func z (slice_get later 0)) (effect_here d c.book h.known r g k ∙ is)
+      note_there d m h.known h.locked h.rows r.id k.instance k.made g.machine.steps (outside_here k out).0 (tx_step k out)
+      (ap commit_in (effect_here k ∙ is) ∙ (is_operation e o so).1) item
+      ∙ ap (note_if item k.instance.func (effect_before d k.instance g.machine.steps)) (answer_here k later left)
+      ∙ ap (λ z. note_if item k.instance.func z (slice_get later 0)) (effect_here k ∙ is)
       ∙ ap (λ f. note_if item f e (slice_get later 0)) k.func
 
   note_read : (a : Answer) (rest : List Answer) → k.later ≡ a ∷ rest → note_at (content_of m item).notes place ≡ noted o.does a
@@ -139,7 +130,7 @@ module _ (d : Deployment) (c : Core) (m : Rows) (i : ℕ) (r : Run) (g : Begun) 
       a = answer_after o.does old
 
       now : effect_of d k.instance ≡ e
-      now = effect_next d c.book h.known r g k left ∙ is
+      now = effect_next k left ∙ is
 
       wants_op : op_of (effect_of d k.instance) ≡ Some o
       wants_op = ap op_of now ∙ so
@@ -167,14 +158,14 @@ module _ (d : Deployment) (c : Core) (m : Rows) (i : ℕ) (r : Run) (g : Begun) 
       there = plain_there d c m i r g h live k finds out e is left
 
       outside : tx_now d r.id k.instance ≡ None
-      outside = tx_next d c.book h.known r g k out left
+      outside = tx_next k out left
 
       did_here : DoneRows m n (item_in k.instance.func o) (place_of r.id (length k.instance.answers)) op
-      did_here = subst (λ s. DoneRows m n (item_in k.instance.func o) (place_of r.id s) op) (step_here d c.book h.known r g k left)
+      did_here = subst (λ s. DoneRows m n (item_in k.instance.func o) (place_of r.id s) op) (step_here k left)
           (subst (λ f. DoneRows m n (item_in f o) place op) (sym k.func) (record { same = same; sound = sound; none = did.0; free = did.1.0; here = did.1.1 }))
 
       open_still : k.instance.outcome ≡ None
-      open_still = not_over d c m r g h k left (subst (λ z. IsTrue (wants_answer z)) (sym is) (wants_it place None e a answers_so))
+      open_still = not_over h k left (subst (λ z. IsTrue (wants_answer z)) (sym is) (wants_it place None e a answers_so))
 
       -- nobody else has locked the item
       free_here : IsFree d h.plain (Step r.id)
@@ -203,24 +194,16 @@ module _ (d : Deployment) (c : Core) (m : Rows) (i : ℕ) (r : Run) (g : Begun) 
       grows = grows_moved d h.known r.id k.instance a k.made
 
       sane_now : Sane d next
-      sane_now = answered_kept d h.known h.sane r.id k.instance a k.made open_still outside (is_no_call (effect_of d k.instance) o wants_op) (operation_answers (place_of r.id (length k.instance.answers)) (effect_of d k.instance) o old wants_op)
+      sane_now = answered_kept d h.known h.sane r.id k.instance a k.made open_still outside (is_operation (effect_of d k.instance) o wants_op).0 (operation_answers (place_of r.id (length k.instance.answers)) (effect_of d k.instance) o old wants_op)
 
       rows_now : Matches d n next h.locked
       rows_now = operation_done d h.known h.locked r.id k.instance (moved d r.id k.instance a) old o op (does_so o.does) k.made unlocked outside wants_op (moved_one d r.id k.instance a) m n did_here (value_here h y unowned) h.rows
 
-      rows_done : Shows d n state next h.locked
-      rows_done = record {
-        goes = goes_answered h n same_shadows r.id k.instance a k.made unlocked outside state.items
-            (λ j z other. set_agrees d m h.plain h.known h.locked h.shadows h.beside h.sane h.rows (legal_sane h) y (sets o.does old) unowned j z);
-        locked_at_ends = ahead_set d h.known h.locked h.locked_at_ends h.locked r.id (moved d r.id k.instance a) (none_out h.locked r.id unlocked);
-        sane = sane_now;
-        rows = rows_now;
-        values = done_lists m n h.plain y o.does (place_of r.id (length k.instance.answers)) did_here h.values;
-        settled = settled_after d c m h n state next h.locked rows_now sane_now grows frame (no_finish m n (head_key item) same d next refl) (settled_grown d m h.plain state next leads.grows (settled_outside d m h.plain h.known r.id k.instance k.made a outside (settled h)));
-      }
-
       kept_done : Kept h n state next h.locked
-      kept_done = kept_by d c m n h state next h.locked rows_done grows frame
+      kept_done = kept_moving h n state next h.locked
+          (goes_answered h n same_shadows r.id k.instance a k.made unlocked outside state.items (λ j z other. set_agrees d m h.plain h.known h.locked h.shadows h.beside h.sane h.rows (legal_sane h) y (sets o.does old) unowned j z))
+          (ahead_set d h.known h.locked h.locked_at_ends h.locked r.id (moved d r.id k.instance a) (none_out h.locked r.id unlocked)) sane_now rows_now (done_lists m n h.plain y o.does (place_of r.id (length k.instance.answers)) did_here h.values)
+          (settled_grown d m h.plain state next leads.grows (settled_outside d m h.plain h.known r.id k.instance k.made a outside (settled h))) grows frame (no_finish m n (head_key item) same d next refl)
 
       steps : After (Answers a (Some mark.Step))
       steps = steps_on d c m i r g h live k finds out e is a mark.Step state n left answers_so leads roots kept_done
@@ -253,7 +236,7 @@ module _ (d : Deployment) (c : Core) (m : Rows) (i : ℕ) (r : Run) (g : Begun) 
     done_before (b ∷ rest) left w noted same = again b rest left w noted same
 
     by_says : (z : WriteGoes) → Logs place (owner.Intent r.id) op (walk_so z) (content_of m item) (content_of n item) → After (write_says e z)
-    by_says (writes.On to) held = goes_on d c m i r g h live k finds out e is n (stage.Write to) refl roots (kept held) (may_stand r.id g.caller e o to so) (no_place d c.book r.id r.func k.answers k.later e to) tt
+    by_says (writes.On to) held = goes_on d c m i r g h live k finds out e is n (stage.Write to) roots (kept held) (ap is_some so)
     by_says (writes.Done w true) l = done_now k.later refl w l.0 l.1
     by_says (writes.Done w false) l = done_before k.later refl w (ap (λ x. note_at x.notes place) (sym l.1) ∙ l.0) l.1
     by_says writes.NotOwner l = ends d c m i r g h live k n roots (kept l.2)

@@ -1,5 +1,5 @@
 -- What the runs of others have found in the rows stays, through an event that keeps its frame.
-use Rattle.beldi_laws.proofs.Names.{Answer, AtStage, Begun, Beside, Bool, ByTx, Callees, CondWrite, Content, Core, Decide, DecidedAt, Deployment, Effect, End, EndAt, EndWalk, Found, Frame, Free, Grown, GrownAt, Grows, HasLock, InItem, InOperation, Inside, Instance, IntentId, IsDecided, IsWriting, Item, Known, Knows, List, Next, None, Note, OpenTx, Option, Outcome, Own, Place, PlainState, Read, Released, Right, Row, Rows, Run, RunTx, Sane, Shadow, Some, Stage, StageOk, Stamp, TxAt, TxId, Txs, Value, Visit, Visited, [], ahead_by, along, along_append, ap, append-nil, append_assoc, arith, at_effect, begin_of, content_of, effect_after, effect_of, end_of, end_walk, ended_by, ended_stays, eq-eqb, false, few_answers, front_is, got_before, got_by, if◌then◌else◌, in_tx, is_at, is_begin, is_eq, is_item, is_on, is_past, is_some, item_total, key_in, last_step, length, length-append, lockset_key, log_key, no_decision, none_begun, note_at, note_is_ahead, now_open, open_of, place_of, plain_owner, refl, same_some, shadow_key, subst, sym, tied_itself, touched, true, true_false, tx_after, tx_end, tx_now, tx_of, tx_self, txs_after, txs_by, txs_pushed, value_at, value_in, wants, ℕ, ◌&&◌, ◌++◌, ◌<◌, ◌||◌, ◌∙◌, ◌∷◌, ◌≡◌}
+use Rattle.beldi_laws.proofs.Names.{Answer, Async, AtStage, Begun, Beside, Bool, ByTx, Call, Callees, CondWrite, Content, Core, Decide, DecidedAt, Deployment, Effect, End, EndAt, EndWalk, Entry, Found, Frame, Free, Goes, Grown, Grows, HasLock, InItem, InOperation, Inside, Instance, IntentId, IsDecided, IsWriting, Item, Known, Knows, List, LockedAtEnds, Matches, Next, None, Note, OpenTx, Option, Outcome, Own, Place, PlainState, Read, Released, Return, Right, Row, Rows, Run, RunTx, Sane, Shadow, Some, Stage, Stamp, TxAt, TxId, Txs, Value, Visit, Visited, [], ahead_by, along, along_append, ap, append-nil, append_assoc, arith, begin_of, child_of, content_of, effect_after, effect_of, end_of, end_walk, ended_by, ended_stays, eq-eqb, false, few_answers, front_is, got_before, got_by, if◌then◌else◌, in_tx, is_at, is_begin, is_eq, is_item, is_on, is_opened, is_past, is_sent, is_some, item_total, key_in, last_step, length, length-append, listed, lockset_key, log_key, no_decision, none_begun, note_at, note_is_ahead, now_open, open_of, place_of, plain_owner, refl, same_some, shadow_key, subst, sym, tied_itself, touched, true, true_false, tx_after, tx_end, tx_now, tx_of, tx_self, txs_after, txs_by, txs_pushed, value_at, value_in, wants, ℕ, ◌&&◌, ◌++◌, ◌<◌, ◌||◌, ◌∙◌, ◌∷◌, ◌≡◌}
 use Rattle.beldi_laws.proofs.Names.at
 use Rattle.beldi_laws.proofs.Names.effect
 use Rattle.beldi_laws.proofs.Names.map
@@ -7,12 +7,15 @@ use Rattle.beldi_laws.proofs.Names.plain
 use Rattle.beldi_laws.proofs.Names.stage
 use Rattle.beldi_row.specs.declared.notes.Note.TheVariants as notes
 use Rattle.beldi_txn.specs.Tx.{op_of}
+use Rattle.beldi_laws.proofs.Closing.{settled_after}
+use Rattle.beldi_laws.proofs.Frames.{NoFinish}
 use Rattle.beldi_laws.proofs.Grown.{tx_stays}
 use Rattle.beldi_laws.proofs.InTx.{no_begin, wants_one}
-use Rattle.beldi_laws.proofs.Lives.{no_more}
+use Rattle.beldi_laws.proofs.Lives.{PlacesOn, keeps_still, made_stays, no_more, outcome_stays, stands_still}
 use Rattle.beldi_laws.proofs.OpenOf.{open_begun, own_begin, tx_open}
 use Rattle.beldi_laws.proofs.Moves.{Kept}
-use Rattle.beldi_laws.proofs.Shown.{Shows, legal_sane}
+use Rattle.beldi_laws.proofs.Shown.{Settled, Shows, legal_sane}
+use Rattle.beldi_laws.proofs.Turns.{all_here, at_steps, by_answer, effect_next, step_here, wanted_here}
 use Rattle.beldi_laws.proofs.Visits.{visit_stays}
 
 -- ---- small facts
@@ -118,21 +121,12 @@ one_steps d p known legal sane beside s i j y z is there on over touch touches n
 
 -- ---- a run, before and after the event
 module _ (d : Deployment) (c : Core) (m n : Rows) (h : Right d c m) (q : PlainState) (next : Known) (after : IntentId → Bool) (shows : Shows d n q next after) (grows : Grows h.known next) (frame : Frame d m n h.plain q h.known next)
-    (r : Run) (g : Begun) (k : Knows d c.book h.known r g) (j : Instance) (made : map.get next r.id ≡ Some j) (w : Grown k.instance j) where
-  steps : g.machine.steps ≡ length k.answers
-  steps = (at_effect d r.func k.instance.args (is_some k.instance.within) g.machine k.answers k.machine).1
-
-  wanted : effect_after d k.instance k.answers ≡ g.machine.effect
-  wanted = ap (λ f. wants d f k.instance.args (is_some k.instance.within) k.answers) k.func ∙ sym (at_effect d r.func k.instance.args (is_some k.instance.within) g.machine k.answers k.machine).0
-
+    (r : Run) (g : Begun) (k : Knows d h.known r g) (j : Instance) (made : map.get next r.id ≡ Some j) (w : Grown k.instance j) where
   wanted_then : effect_after d j k.answers ≡ g.machine.effect
-  wanted_then = sym (effects_stay d k.instance j k.answers w) ∙ wanted
+  wanted_then = sym (effects_stay d k.instance j k.answers w) ∙ wanted_here k
 
   all_then : k.answers ++ (k.later ++ w.later) ≡ j.answers
-  all_then = sym (append_assoc k.answers k.later w.later) ∙ ap (λ xs. xs ++ w.later) k.run_answers ∙ w.more
-
-  func_then : j.func ≡ r.func
-  func_then = w.func ∙ k.func
+  all_then = (stands_still k j made w).run_answers
 
   -- an end that is known, too
   ends_then : (b : ℕ) (z : ℕ × Bool) → end_of d k.instance b ≡ Some z → end_of d j b ≡ Some z
@@ -142,7 +136,7 @@ module _ (d : Deployment) (c : Core) (m n : Rows) (h : Right d c m) (q : PlainSt
   ended_known : (t : TxId) (z : ℕ × Bool) → t.intent ≡ r.id → tx_end d next t ≡ Some z → z.0 < g.machine.steps → tx_end d h.known t ≡ Some z
   ended_known t z mine e less = ap (ended_by d t.begin) (ap (map.get h.known) mine ∙ k.made) ∙ ended_stays d k.instance k.answers k.later t.begin z k.run_answers
       (ap (λ (s : Txs). s.ends t.begin) (txs_stay d k.instance j k.answers w)
-      ∙ end_before d j k.answers (k.later ++ w.later) t.begin z all_then (sym (ap (ended_by d t.begin) (ap (map.get next) mine ∙ made)) ∙ e) (subst (λ x. z.0 < x) steps less))
+      ∙ end_before d j k.answers (k.later ++ w.later) t.begin z all_then (sym (ap (ended_by d t.begin) (ap (map.get next) mine ∙ made)) ∙ e) (subst (λ x. z.0 < x) (at_steps k) less))
 
   released : Released d m h.known r.id g.machine.steps → Released d n next r.id g.machine.steps
   released was t z mine e less x own = was t z mine (ended_known t z mine e less) less x (frame.owners t z x e own).owner
@@ -152,14 +146,8 @@ module _ (d : Deployment) (c : Core) (m n : Rows) (h : Right d c m) (q : PlainSt
     left_before : k.later ≡ []
     left_before = (no_more k.later w.later (none_later k.answers (k.later ++ w.later) (ap length (all_then ∙ sym left)))).0
 
-    left_here : k.answers ≡ k.instance.answers
-    left_here = sym (append-nil k.answers) ∙ ap (λ ys. k.answers ++ ys) (sym left_before) ∙ k.run_answers
-
-    step_here : length k.instance.answers ≡ g.machine.steps
-    step_here = ap length (sym left_here) ∙ sym steps
-
     now : effect_of d k.instance ≡ g.machine.effect
-    now = ap (effect_after d k.instance) (sym left_here) ∙ wanted
+    now = effect_next k left_before
 
     now_then : effect_of d j ≡ g.machine.effect
     now_then = ap (effect_after d j) (sym left) ∙ wanted_then
@@ -173,7 +161,7 @@ module _ (d : Deployment) (c : Core) (m n : Rows) (h : Right d c m) (q : PlainSt
     opened = sym k.run_open ∙ is_open
 
     inside : is_begin g.machine.effect ≡ false → tx_after d r.id k.instance k.answers ≡ Some tx
-    inside apart = tx_open d r.id k.instance k.answers o opened (ap is_begin wanted ∙ apart) ∙ ap (λ f. Some (tx_of r.id f o)) k.func
+    inside apart = tx_open d r.id k.instance k.answers o opened (ap is_begin (wanted_here k) ∙ apart) ∙ ap (λ f. Some (tx_of r.id f o)) k.func
 
     inside_then : is_begin g.machine.effect ≡ false → tx_after d r.id j k.answers ≡ Some tx
     inside_then apart = sym (tx_stays d r.id k.instance j k.answers w) ∙ inside apart
@@ -188,7 +176,7 @@ module _ (d : Deployment) (c : Core) (m n : Rows) (h : Right d c m) (q : PlainSt
 
       module _ (left : k.answers ≡ j.answers) where
         now_in : tx_now d r.id k.instance ≡ Some tx
-        now_in = ap (tx_after d r.id k.instance) (sym (left_here left)) ∙ inside apart
+        now_in = ap (tx_after d r.id k.instance) (sym (all_here k (left_before left))) ∙ inside apart
 
         then_in : tx_now d r.id j ≡ Some tx
         then_in = ap (tx_after d r.id j) (sym left) ∙ inside_then apart
@@ -212,7 +200,7 @@ module _ (d : Deployment) (c : Core) (m n : Rows) (h : Right d c m) (q : PlainSt
         }) open_before
           where
             here : note_at (content_of m item).notes (place_of r.id (length k.instance.answers)) ≡ Some notes.Got
-            here = ap (λ z. note_at (content_of m item).notes (place_of r.id z)) (step_here left) ∙ noted
+            here = ap (λ z. note_at (content_of m item).notes (place_of r.id z)) (sym (step_here k (left_before left))) ∙ noted
 
             few : length k.instance.answers < last_step
             few = let n = few_answers d k.instance.func k.instance.args (is_some k.instance.within) k.instance.answers (wants_one (effect_of d k.instance) i (ap touched (now left ∙ is) ∙ touch)) in omega (arith, n)
@@ -238,13 +226,13 @@ module _ (d : Deployment) (c : Core) (m n : Rows) (h : Right d c m) (q : PlainSt
             found_stays e a (map.get m (shadow_key tx item)) (map.get n (shadow_key tx item)) (value_at h.plain item) (value_at q item)
             (λ none. frame.shadows tx item (unwritten left none)) (frame.rows (shadow_key tx item))
             (λ past. frame.values tx item (open_after left) (owned left (lock_noted a (place_of r.id g.machine.steps) (content_of m item) past s.locked)))
-            (s.found k.instance k.made (step_here left));
+            (s.found k.instance k.made (sym (step_here k (left_before left))));
       }
         where
           front : (y : Instance) → map.get next r.id ≡ Some y → length y.answers ≡ g.machine.steps → k.answers ≡ j.answers
           front y there short =
               let one : j ≡ y = same_some (sym made ∙ there) in
-              let none = none_later k.answers (k.later ++ w.later) (ap length all_then ∙ ap (λ (z : Instance). length z.answers) one ∙ short ∙ steps) in
+              let none = none_later k.answers (k.later ++ w.later) (ap length all_then ∙ ap (λ (z : Instance). length z.answers) one ∙ short ∙ at_steps k) in
               sym (append-nil k.answers) ∙ ap (λ ys. k.answers ++ ys) (sym none) ∙ all_then
 
   -- ---- the end of its own
@@ -258,8 +246,7 @@ module _ (d : Deployment) (c : Core) (m n : Rows) (h : Right d c m) (q : PlainSt
     -- where its step has no answer it is to decide
     undecided : k.later ≡ [] → IsDecided walk m → ⊥
     undecided left decided =
-        let here : k.answers ≡ k.instance.answers = sym (append-nil k.answers) ∙ ap (λ ys. k.answers ++ ys) (sym left) ∙ k.run_answers in
-        let none = no_decision d m h.known h.locked h.rows r.id k.instance k.made o.begin (ap (λ ts. (txs_after d k.instance ts).begun) (sym here) ∙ begun) in
+        let none = no_decision d m h.known h.locked h.rows r.id k.instance k.made o.begin (ap (λ ts. (txs_after d k.instance ts).begun) (sym (all_here k left)) ∙ begun) in
         let clash = sym (ap (λ f. map.get m (log_key f (place_of r.id o.begin))) (sym k.func) ∙ none) ∙ decided in cc
 
     has_decided : (a : EndAt) → is_past a ≡ true → DecidedAt a walk m → IsDecided walk m
@@ -272,31 +259,43 @@ module _ (d : Deployment) (c : Core) (m n : Rows) (h : Right d c m) (q : PlainSt
 
     -- so it has ended
     visited : Visited walk m → Visited walk n
-    visited was = by_later k.later refl
-      where
-        by_later : (ys : List Answer) → k.later ≡ ys → Visited walk n
-        by_later [] left = absurd (undecided left (has_decided v.at past was.decided))
-        by_later (a ∷ rest) left =
-            let ends : end_of d k.instance o.begin ≡ Some (g.machine.steps, commit) = end_here d k.instance k.answers a rest o.begin commit (ap (λ xs. k.answers ++ xs) (sym left) ∙ k.run_answers) (wanted ∙ is) begun ∙ ap (λ z. Some (z, commit)) (sym steps) in
-            visit_stays d c m n h q next after shows grows frame walk (ap (ended_by d o.begin) k.made ∙ ends) (ap (ended_by d o.begin) made ∙ ends_then o.begin (g.machine.steps, commit) ends) j made func_then was
+    visited was = by_answer k (λ left. absurd (undecided left (has_decided v.at past was.decided))) (λ a rest left.
+        let ends : end_of d k.instance o.begin ≡ Some (g.machine.steps, commit) = end_here d k.instance k.answers a rest o.begin commit (ap (λ xs. k.answers ++ xs) (sym left) ∙ k.run_answers) (wanted_here k ∙ is) begun ∙ ap (λ z. Some (z, commit)) (sym (at_steps k)) in
+        visit_stays d c m n h q next after shows grows frame walk (ap (ended_by d o.begin) k.made ∙ ends) (ap (ended_by d o.begin) made ∙ ends_then o.begin (g.machine.steps, commit) ends) j made (w.func ∙ k.func) was)
 
   -- ---- where it stands
   in_item : (o : RunTx) → g.tx ≡ Some o → (e : Effect) → g.machine.effect ≡ e → (a : TxAt) (i : Option (ℕ × List ℕ)) → touched e ≡ i → InItem d m h.plain h.known r.id r.func o g.machine.steps e a i → InItem d n q next r.id r.func o g.machine.steps e a i
   in_item o is_open e is a None touch s = tt
   in_item o is_open e is a (Some i) touch s = operation o is_open e is i touch a s
 
-  at_stage : (o : Option RunTx) → g.tx ≡ o → (e : Effect) → g.machine.effect ≡ e → (s : Stage) → StageOk (is_some (tx_after d r.id k.instance k.answers)) r.id g.caller e s → AtStage d m h.plain h.known r.id r.func o g.machine.steps e s → AtStage d n q next r.id r.func o g.machine.steps e s
-  at_stage (Some o) is_open e is (stage.Tx a) ok s = in_item o is_open e is a (touched e) refl s
-  at_stage (Some (Own o)) is_open (End commit) is (stage.End v) ok s = visited o is_open commit is v (subst (λ t. StageOk (is_some t) r.id g.caller (End commit) (stage.End v)) (inside (Own o) is_open (ap is_begin is)) ok) s
-  at_stage o is_open e is s ok k = tt
+  -- what it calls is known still
+  callee_stays : (step : ℕ) (b : Bool) → (b ≡ true → is_some (map.get h.known (child_of r.id step)) ≡ true) → b ≡ true → is_some (map.get next (child_of r.id step)) ≡ true
+  callee_stays step b was e = made_stays (map.get h.known (child_of r.id step)) (map.get next (child_of r.id step)) (grows (child_of r.id step)) (was e)
 
-  found : Inside d m h.plain h.known r g → Inside d n q next r g
-  found s = record { here = at_stage g.tx refl g.machine.effect refl g.stage k.run_stage s.here; released = released s.released; row = λ callee. frame.rows (key_in r.func r.id) (s.row callee) }
+  at_stage : (more : List Entry) → PlacesOn d c.book more h.known next → (s : Stage) (e : Effect) (o : Option RunTx) → g.machine.effect ≡ e → g.tx ≡ o → AtStage m h.plain c.book k s e o → AtStage n q more (stands_still k j made w) s e o
+  at_stage more on stage.Ask (Read t x) None is open_now s = s
+  at_stage more on stage.Walk (Read t x) None is open_now s = s
+  at_stage more on (stage.Keep v seen) (Read t x) None is open_now s = keeps_still next k j made w c.book more on (record { func = r.func; table = t; key = x }) v seen s
+  at_stage more on (stage.Write at) e None is open_now s = s
+  at_stage more on (stage.Call at) (Call f a) o is open_now s = (s.0, callee_stays g.machine.steps (is_opened at) s.1)
+  at_stage more on (stage.Async at) (Async f a) None is open_now s = (s.0, callee_stays g.machine.steps (is_sent at) s.1)
+  at_stage more on stage.Back (Return u) o is open_now s = s
+  at_stage more on stage.Tell (Return u) None is open_now s = s
+  at_stage more on stage.Close (Return u) o is open_now s = (s.0, λ waited. outcome_stays k.instance j w (s.1 waited))
+  at_stage more on (stage.Tx a) e (Some o) is open_now s = (s.0, in_item o open_now e is a (touched e) refl s.1)
+  at_stage more on (stage.Decide b) (End commit) (Some (Own o)) is open_now s = s
+  at_stage more on (stage.End v) (End commit) (Some (Own o)) is open_now s = (s.0, visited o open_now commit is v s.0 s.1)
+  at_stage more on z e o is open_now s = absurd s
+
+  found : (more : List Entry) → PlacesOn d c.book more h.known next → Inside m h.plain c.book k g.stage → Inside n q more (stands_still k j made w) g.stage
+  found more on s = record { here = at_stage more on g.stage g.machine.effect g.tx refl refl s.here; released = released s.released; row = λ callee. frame.rows (key_in r.func r.id) (s.row callee) }
 
 -- what others have found stays
 pub kept_by : (d : Deployment) (c : Core) (m n : Rows) (h : Right d c m) (q : PlainState) (next : Known) (after : IntentId → Bool) → Shows d n q next after → Grows h.known next → Frame d m n h.plain q h.known next → Kept h n q next after
-kept_by d c m n h q next after shows grows frame = record { shows = shows; grows = grows; frame = frame; others = λ r g k. grown r g k (map.get next r.id) refl (subst (λ o. GrownAt o (map.get next r.id)) k.made (grows r.id)) }
-  where
-    grown : (r : Run) (g : Begun) (k : Knows d c.book h.known r g) (o : Option Instance) → map.get next r.id ≡ o → GrownAt (Some k.instance) o → Inside d m h.plain h.known r g → Inside d n q next r g
-    grown r g k None there w s = absurd w
-    grown r g k (Some j) there w s = found d c m n h q next after shows grows frame r g k j there w s
+kept_by d c m n h q next after shows grows frame = record { shows = shows; grows = grows; frame = frame; others = λ more on r g k s j made w. found d c m n h q next after shows grows frame r g k j made w more on s }
+
+-- .. over rows that show what is known then
+pub kept_moving : {d : Deployment} {c : Core} {m : Rows} (h : Right d c m) (n : Rows) (q : PlainState) (next : Known) (after : IntentId → Bool) → Goes d n q next after → LockedAtEnds d next after → Sane d next → Matches d n next after → ((x : Item) → listed n x ≡ value_at q x) → Settled d m q next
+    → Grows h.known next → Frame d m n h.plain q h.known next → NoFinish d m n next → Kept h n q next after
+kept_moving {d} {c} {m} h n q next after goes ends sane rows values settled grows frame none = kept_by d c m n h q next after
+    (record { goes = goes; locked_at_ends = ends; sane = sane; rows = rows; values = values; settled = settled_after d c m h n q next after rows sane grows frame none settled }) grows frame

@@ -1,11 +1,12 @@
 -- Steps outside transactions: where no Begin is open. There what is known of an instance is what the plain state has.
-use Rattle.beldi_laws.proofs.Names.{Answer, Beside, Bool, Caller, Deployment, Effect, FinMap, Grown, GrownAt, Instance, IntentId, IsOutside, Item, Known, Line, List, None, Option, PlainState, Sane, Some, Stage, StageOk, TxId, Txs, [], ap, begins_parts, effect_after, effect_of, false, from_begin, holds, id_cmp, in_line, inl, inside_holds_none, is_begin, is_some, length, line_opened, next, opened_grows, or_own, outcome_of, owner_is, refl, same_some, subst, sym, top, true, tx_begun, tx_by, txs_after, txs_by, txs_pushed, ◌++◌, ◌∙◌, ◌∷◌, ◌≡◌}
+use Rattle.beldi_laws.proofs.Names.{Answer, Beside, Bool, Deployment, Effect, FinMap, Grown, GrownAt, Instance, IntentId, IsOutside, Item, Known, Line, List, None, Option, PlainState, Sane, Some, TxId, Txs, [], ap, begins_parts, effect_after, effect_of, false, from_begin, holds, id_cmp, in_line, inl, inside_holds_none, is_begin, is_some, length, line_opened, next, none_by, opened_grows, or_own, outcome_of, owner_is, refl, same_some, subst, sym, top, true, tx_begun, tx_by, txs_after, txs_by, txs_pushed, ◌++◌, ◌∙◌, ◌∷◌, ◌≡◌}
 use Rattle.beldi_laws.proofs.Names.effect
 use Rattle.beldi_laws.proofs.Names.map
 use Rattle.beldi_laws.proofs.Names.plain
 use Rattle.beldi_plain.specs.Piece.{opened}
 use Rattle.beldi_known.specs.Beside.{begins}
 use Rattle.beldi_laws.proofs.Grown.{grown_same}
+use Rattle.beldi_laws.proofs.Cases.{by_option}
 
 module _ (d : Deployment) (id : IntentId) (q : Instance) (given : List Answer) where
   -- an answer to it opens none
@@ -29,13 +30,6 @@ is_call (effect.Call f v) = true
 is_call (effect.Async f v) = true
 is_call e = false
 
--- a run that stands outside has no effect of a transaction
-pub stands_outside : (id : IntentId) (c : Option Caller) (e : Effect) (s : Stage) → StageOk false id c e s → is_of_tx e ≡ false
-stands_outside id c effect.Begin s h = absurd h
-stands_outside id c (effect.End b) s h = absurd h
-stands_outside id c effect.Abort s h = absurd h
-stands_outside id c e s h = refl
-
 -- ---- beside the plain state
 -- what is known of an instance that was made: it goes on, with no outcome more
 pub record KnownOf (known : Known) (id : IntentId) (q : Instance) : Type 0 where
@@ -49,7 +43,7 @@ owner_open : (d : Deployment) (t : TxId) (f : FinMap id_cmp Instance) (i : Inten
 owner_open d t f i (top _ h) = (h.instance, ap (map.get f) (sym h.own) ∙ h.made, h.open_still)
 owner_open d t f i (next k _ l h) = owner_open d t f k l
 
-grown_there : (q : Instance) (o u : Option Instance) → o ≡ Some q → GrownAt o u → (y : Instance) × (u ≡ Some y) × Grown q y
+pub grown_there : (q : Instance) (o u : Option Instance) → o ≡ Some q → GrownAt o u → (y : Instance) × (u ≡ Some y) × Grown q y
 grown_there q None u is g = cc
 grown_there q (Some z) None is g = absurd g
 grown_there q (Some z) (Some y) is g = (y, refl, subst (λ (x : Instance). Grown x y) (same_some is) g)
@@ -70,22 +64,15 @@ module _ (d : Deployment) (p : PlainState) (known : Known) (beside : Beside d p 
           record { instance = y.0; is = at.whole id (inl refl) ∙ y.1; grown = y.2; outcome = ap (λ (x : Instance). x.outcome) (same_some (sym y.1 ∙ z.1)) ∙ z.2 ∙ sym b.0 }
 
   pub plain_none : map.get known id ≡ None → map.get p.made id ≡ None
-  plain_none new = by_plain (map.get p.made id) refl
-    where
-      by_plain : (o : Option Instance) → map.get p.made id ≡ o → o ≡ None
-      by_plain None made = refl
-      by_plain (Some q) made = let clash = sym (known_of q made).is ∙ new in cc
+  plain_none new = none_by (map.get p.made id) (λ q made. let clash = sym (known_of q made).is ∙ new in cc)
 
 -- ---- who was called in no transaction
 module _ (d : Deployment) (p : PlainState) (known : Known) (beside : Beside d p known) (id : IntentId) where
   -- it was made
   module _ (k : Instance) (is : map.get known id ≡ Some k) (own : k.within ≡ None) where
     pub made_of : (q : Instance) × (map.get p.made id ≡ Some q) × Grown q k × (k.outcome ≡ q.outcome)
-    made_of = by_plain (map.get p.made id) refl
-      where
-        by_plain : (o : Option Instance) → map.get p.made id ≡ o → (q : Instance) × (map.get p.made id ≡ Some q) × Grown q k × (k.outcome ≡ q.outcome)
-        by_plain None made = let clash = sym own ∙ (beside.kept id k made is).within in cc
-        by_plain (Some q) made = let z = known_of d p known beside id q made in let same : z.instance ≡ k = same_some (sym z.is ∙ is) in (q, made, subst (Grown q) same z.grown, ap (λ (y : Instance). y.outcome) (sym same) ∙ z.outcome)
+    made_of = by_option (map.get p.made id) (λ none. let clash = sym own ∙ (beside.kept id k none is).within in cc)
+        (λ q made. let z = known_of d p known beside id q made in let same : z.instance ≡ k = same_some (sym z.is ∙ is) in (q, made, subst (Grown q) same z.grown, ap (λ (y : Instance). y.outcome) (sym same) ∙ z.outcome))
 
     -- outside it is known as the plain state has it
     pub plain_here : plain.Sane d p → (txs_after d k k.answers).begun ≡ None → map.get p.made id ≡ Some k
@@ -99,11 +86,8 @@ module _ (d : Deployment) (p : PlainState) (known : Known) (beside : Beside d p 
 
   -- an outcome that is known is the plain one
   pub outcome_known : ((k : Instance) → map.get known id ≡ Some k → k.within ≡ None) → outcome_of (map.get known id) ≡ outcome_of (map.get p.made id)
-  outcome_known own = by_known (map.get known id) refl
-    where
-      by_known : (o : Option Instance) → map.get known id ≡ o → outcome_of o ≡ outcome_of (map.get p.made id)
-      by_known None none = ap outcome_of (sym (plain_none d p known beside id none))
-      by_known (Some k) is = let q = made_of k is (own k is) in q.3 ∙ ap outcome_of (sym q.1)
+  outcome_known own = by_option (map.get known id) (λ none. ap outcome_of (none ∙ sym (plain_none d p known beside id none)))
+      (λ k is. let q = made_of k is (own k is) in ap outcome_of is ∙ q.3 ∙ ap outcome_of (sym q.1))
 
   -- ---- who holds a lock is known to hold it, and nobody else is: who was called in a transaction holds none
   pub holds_known : Sane d known → (x : Item) → holds d x (map.get known id) ≡ holds d x (map.get p.made id)

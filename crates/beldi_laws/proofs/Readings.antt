@@ -11,14 +11,13 @@ use Rattle.beldi_laws.proofs.Names.rows
 use Rattle.beldi_laws.proofs.Names.stage
 use Rattle.beldi_laws.proofs.Lives.{places_late}
 use Rattle.beldi_laws.proofs.Moves.{AfterAct, AfterTurn, Entered, Kept}
-use Rattle.beldi_laws.proofs.Closing.{settled_after}
 use Rattle.beldi_laws.proofs.Frames.{frame_log, items_stay, no_finish, nobody_set}
 use Rattle.beldi_laws.proofs.Settling.{settled_grown, settled_outside}
-use Rattle.beldi_laws.proofs.Others.{kept_by}
+use Rattle.beldi_laws.proofs.Others.{kept_moving}
 use Rattle.beldi_laws.proofs.Grown.{grows_moved}
 use Rattle.beldi_laws.proofs.Keeping.{as_it_was, goes_answered, set_shadows}
 use Rattle.beldi_laws.proofs.Turns.{effect_here, answer_here, all_here, step_here, effect_next, fits, not_over, goes_on, held, replays, steps_on, tx_next, plain_there, unlocked_there}
-use Rattle.beldi_laws.proofs.Shown.{Shows, value_here, holds_here, settled}
+use Rattle.beldi_laws.proofs.Shown.{value_here, holds_here, settled}
 use Rattle.beldi_laws.proofs.Owed.{value_if, read_there}
 use Rattle.beldi_laws.proofs.KeptSane.{answered_kept}
 use Rattle.beldi_laws.proofs.Outside.{is_call}
@@ -29,7 +28,7 @@ given_owed None o h = sym h
 given_owed (Some (rows.ReadLog v)) o h = sym h
 given_owed (Some w) o h = absurd h
 
-module _ (d : Deployment) (c : Core) (m : Rows) (i : ℕ) (r : Run) (g : Begun) (h : Right d c m) (live : map.get c.runs i ≡ Some r) (k : Knows d c.book h.known r g) (finds : Inside d m h.plain h.known r g) (out : tx_after d r.id k.instance k.answers ≡ None)
+module _ (d : Deployment) (c : Core) (m : Rows) (i : ℕ) (r : Run) (g : Begun) (h : Right d c m) (live : map.get c.runs i ≡ Some r) (k : Knows d h.known r g) (finds : Inside m h.plain c.book k g.stage) (out : tx_after d r.id k.instance k.answers ≡ None)
     (t : ℕ) (key : List ℕ) (is : g.machine.effect ≡ Read t key) where
   abbrev item : Item
   item = record { func = r.func; table = t; key = key }
@@ -44,8 +43,8 @@ module _ (d : Deployment) (c : Core) (m : Rows) (i : ℕ) (r : Run) (g : Begun) 
   given_here : (later : List Answer) → k.later ≡ later → (w : Option Row) → map.get m (log_key r.func place) ≡ w → option_map given_in w ≡ value_if (Read t key) (slice_get later 0)
   given_here later left w at =
       given_owed w (value_if (Read t key) (slice_get k.instance.answers g.machine.steps)) (subst (λ o. LogMatches o (value_if (Read t key) (slice_get k.instance.answers g.machine.steps))) (ap (λ f. map.get m (log_key f place)) k.func ∙ at)
-      (read_there d m h.known h.locked h.rows r.id k.instance k.made g.machine.steps t key (effect_here d c.book h.known r g k ∙ is)))
-      ∙ ap (value_if (Read t key)) (answer_here d c.book h.known r g k later left)
+      (read_there d m h.known h.locked h.rows r.id k.instance k.made g.machine.steps t key (effect_here k ∙ is)))
+      ∙ ap (value_if (Read t key)) (answer_here k later left)
 
   -- what the turn leaves where it says this
   Left : Says → Rows → Type 0
@@ -63,7 +62,7 @@ module _ (d : Deployment) (c : Core) (m : Rows) (i : ℕ) (r : Run) (g : Begun) 
   -- ---- it asks for what was given
   walks : Left (On stage.Walk None) m
   unfolding Left
-  walks = goes_on d c m i r g h live k finds out (Read t key) is m stage.Walk refl (λ u. refl) (as_it_was h) tt tt tt
+  walks = goes_on d c m i r g h live k finds out (Read t key) is m stage.Walk (λ u. refl) (as_it_was h) tt
 
   abbrev asked : Option Row → Type 0
   asked w = let z = act Look c.now w in Left (ask_says (given_of (said z.1))) (set_row m (log_key r.func place) z.0)
@@ -88,18 +87,18 @@ module _ (d : Deployment) (c : Core) (m : Rows) (i : ℕ) (r : Run) (g : Begun) 
       few = let n = ap length (linear_changes c.book) in omega (arith, n)
 
   found : (o : Option Value) → value_at h.plain item ≡ or_null o → in_the_way (Some (owner.Intent r.id)) (content_of m item).owner ≡ None → AfterTurn d h.plain c i r (turned_by d r g (walk_says (count_changes c.book) (reads.Got o))) m
-  found o same free = goes_on d c m i r g h live k finds out (Read t key) is m (stage.Keep (or_null o) (count_changes c.book)) refl (λ u. refl) (as_it_was h) tt (record {
+  found o same free = goes_on d c m i r g h live k finds out (Read t key) is m (stage.Keep (or_null o) (count_changes c.book)) (λ u. refl) (as_it_was h) (record {
     few = omega arith;
     was_there = λ none. record {
       state = h.plain;
       is_state = state_now;
       instance = k.instance;
       made = plain_there d c m i r g h live k finds out (Read t key) is none;
-      same = sym (all_here d c.book h.known r g k none);
+      same = sym (all_here k none);
       value = same;
       unlocked = λ j held. nobody_else r.id (content_of m item).owner (unowned r.id (content_of m item).owner free) j ((h.rows.items item).owner j ∙ holds_here h item j ∙ held);
     };
-  }) tt
+  })
 
   none_owns : in_the_way (Some (owner.Intent r.id)) (content_of m item).owner ≡ None → (t : TxId) → (content_of m item).owner ≡ Some (owner.Tx t) → ⊥
   none_owns free = no_tx r.id (content_of m item).owner (unowned r.id (content_of m item).owner free)
@@ -126,10 +125,10 @@ module _ (d : Deployment) (c : Core) (m : Rows) (i : ℕ) (r : Run) (g : Begun) 
       there = at.was_there left
 
       now : effect_of d k.instance ≡ Read t key
-      now = effect_next d c.book h.known r g k left ∙ is
+      now = effect_next k left ∙ is
 
       open_still : k.instance.outcome ≡ None
-      open_still = not_over d c m r g h k left (ap (λ e. wants_answer e) is)
+      open_still = not_over h k left (ap (λ e. wants_answer e) is)
 
       made : map.get h.plain.made r.id ≡ Some k.instance
       made = plain_there d c m i r g h live k finds out (Read t key) is left
@@ -139,7 +138,7 @@ module _ (d : Deployment) (c : Core) (m : Rows) (i : ℕ) (r : Run) (g : Begun) 
 
       same : there.instance ≡ k.instance
       same = not_moved (map.get there.state.made r.id) (map.get h.plain.made r.id) there.instance k.instance there.made made (run_grows d there.state (back seen (linear c.book)) h.plain behind r.id)
-          (there.same ∙ all_here d c.book h.known r g k left) open_still
+          (there.same ∙ all_here k left) open_still
 
       belongs : BelongsEarlier d c.book h.plain r.id seen k.instance v
       belongs = record {
@@ -172,7 +171,7 @@ module _ (d : Deployment) (c : Core) (m : Rows) (i : ℕ) (r : Run) (g : Begun) 
       read_entered = record { grows = grows_at h.plain.made r.id k.instance (answered k.instance (answer.Value v)) made (grown_answer k.instance (answer.Value v)); bounded = late.bounded; legal = late.legal; guarded = late.guarded; places = places_late d c.book h.plain r.id seen k.instance v h.known k.made late }
 
       outside : tx_now d r.id k.instance ≡ None
-      outside = tx_next d c.book h.known r g k out left
+      outside = tx_next k out left
 
       abbrev n : Rows
       n = set_row m (log_key r.func place) (Some (rows.ReadLog v))
@@ -181,7 +180,7 @@ module _ (d : Deployment) (c : Core) (m : Rows) (i : ℕ) (r : Run) (g : Begun) 
       unlocked = unlocked_there d c m i r g h live k finds out (Read t key) is left
 
       own_key : log_key k.instance.func (place_of r.id (length k.instance.answers)) ≡ log_key r.func place
-      own_key = λ i. log_key (k.func i) (place_of r.id (sym (step_here d c.book h.known r g k left) i))
+      own_key = λ i. log_key (k.func i) (place_of r.id (sym (step_here k left) i))
 
       frame : Frame d m n h.plain state h.known next
       frame = frame_log d m h.plain state h.known next (items_stay d m h.plain state next refl) (nobody_set d h.known r.id (moved d r.id k.instance (answer.Value v)) (ap is_some k.made)) r.func place (Some (rows.ReadLog v)) refl
@@ -197,20 +196,12 @@ module _ (d : Deployment) (c : Core) (m : Rows) (i : ℕ) (r : Run) (g : Begun) 
       grows : Grows h.known next
       grows = grows_moved d h.known r.id k.instance (answer.Value v) k.made
 
-      read_rows : Shows d n state next h.locked
-      read_rows = record {
-        goes = goes_answered h n (set_shadows m (log_key r.func place) (Some (rows.ReadLog v)) refl) r.id k.instance (answer.Value v) k.made unlocked outside h.plain.items (λ j z other x owned. refl);
-        locked_at_ends = ahead_set d h.known h.locked h.locked_at_ends h.locked r.id (moved d r.id k.instance (answer.Value v)) (none_out h.locked r.id unlocked);
-        sane = sane_now;
-        rows = rows_now;
-        values = λ x. subst (λ z. listed (set_row m z (Some (rows.ReadLog v))) x ≡ value_at h.plain x) own_key
-            (begun_lists d m h.known h.locked h.rows.txs (λ u y got. got_begun d h.known h.sane h.locked u y got) r.id k.instance k.made (Some (rows.ReadLog v)) x ∙ h.values x);
-        settled = settled_after d c m h n state next h.locked rows_now sane_now grows frame (no_finish m n (log_key r.func place) (set_others m (log_key r.func place) (Some (rows.ReadLog v))) d next refl)
-            (settled_grown d m h.plain state next read_entered.grows (settled_outside d m h.plain h.known r.id k.instance k.made (answer.Value v) outside (settled h)));
-      }
-
       kept_rows : Kept h n state next h.locked
-      kept_rows = kept_by d c m n h state next h.locked read_rows grows frame
+      kept_rows = kept_moving h n state next h.locked (goes_answered h n (set_shadows m (log_key r.func place) (Some (rows.ReadLog v)) refl) r.id k.instance (answer.Value v) k.made unlocked outside h.plain.items (λ j z other x owned. refl))
+          (ahead_set d h.known h.locked h.locked_at_ends h.locked r.id (moved d r.id k.instance (answer.Value v)) (none_out h.locked r.id unlocked)) sane_now rows_now
+          (λ x. subst (λ z. listed (set_row m z (Some (rows.ReadLog v))) x ≡ value_at h.plain x) own_key (begun_lists d m h.known h.locked h.rows.txs (λ u y got. got_begun d h.known h.sane h.locked u y got) r.id k.instance k.made (Some (rows.ReadLog v)) x ∙ h.values x))
+          (settled_grown d m h.plain state next read_entered.grows (settled_outside d m h.plain h.known r.id k.instance k.made (answer.Value v) outside (settled h))) grows frame
+          (no_finish m n (log_key r.func place) (set_others m (log_key r.func place) (Some (rows.ReadLog v))) d next refl)
 
     keeps : k.later ≡ [] → Left (Answers (answer.Value v) (Some (mark.Read seen))) (set_row m (log_key r.func place) (Some (rows.ReadLog v)))
     unfolding Left

@@ -1,14 +1,12 @@
 -- A row of an intent or of a call was set: rows match what is known, after the row of a callee was put or a call was marked as registered, and a turn that does no more keeps all.
-use Rattle.beldi_laws.proofs.Names.{Body, Bool, CallMatches, CalleeMatches, Core, Deployment, FinishMatches, Frame, Goes, Grows, HasNoRow, IntentId, IntentMatches, InvokeRow, IsBodyOf, Item, Kind, Known, LockedAtEnds, Matches, None, NoteRegistered, Option, OutcomeMatches, Place, PlainState, Right, Row, RowKey, Rows, Sane, Some, TxId, act, after_act, ap, callee_put, cond, false, func_called, got, has_ended, has_finish, has_no_hops, invoke_key, is_row_log, is_shadow, is_some, is_waited, issued_at, key_self, listed, option_map, owed_call, refl, register_to, row_put, set_others, set_row, subst, sym, true, unchanged, value_at, ℕ, ◌∙◌, ◌≡◌}
+use Rattle.beldi_laws.proofs.Names.{Body, Bool, CallMatches, CalleeMatches, Core, Deployment, FinishMatches, Frame, HasNoRow, IntentId, IntentMatches, InvokeRow, IsBodyOf, Kind, Known, Matches, None, NoteRegistered, Option, OutcomeMatches, Place, PlainState, Right, Row, RowKey, Rows, Some, TxId, act, after_act, ap, callee_put, cond, false, func_called, got, has_ended, has_finish, has_no_hops, invoke_key, is_row_log, is_shadow, is_some, is_waited, issued_at, key_self, option_map, owed_call, refl, register_to, row_put, set_others, set_row, subst, sym, true, unchanged, ℕ, ◌∙◌, ◌≡◌}
 use Rattle.beldi_laws.proofs.Names.kinds
 use Rattle.beldi_laws.proofs.Names.map
 use Rattle.beldi_laws.proofs.Names.rows
-use Rattle.beldi_laws.proofs.Closing.{settled_after}
 use Rattle.beldi_laws.proofs.Frames.{NobodyJoins, NoFinish, is_entry, is_intent, frame_still, frame_row, items_stay, no_finish, no_new_finish, nobody_new}
-use Rattle.beldi_laws.proofs.Others.{kept_by}
 use Rattle.beldi_laws.proofs.Keeping.{SameShadows, set_shadows, stays_by}
-use Rattle.beldi_laws.proofs.Moves.{Kept, Stays}
-use Rattle.beldi_laws.proofs.Shown.{Settled, log_values}
+use Rattle.beldi_laws.proofs.Moves.{Stays}
+use Rattle.beldi_laws.proofs.Shown.{log_values}
 
 -- ---- a row of an intent or of a call was set, and nothing else
 log_kind : (k : Kind) → is_row_log k ≡ true → (is_shadow k ≡ false) × (is_entry k ≡ true)
@@ -76,12 +74,6 @@ no_intent d m k v next off = no_finish m (set_row m k v) k (set_others m k v) d 
 
 pub no_more : (d : Deployment) (m : Rows) (k : RowKey) (v : Option Row) (next : Known) → (has_finish v ≡ true → has_finish (map.get m k) ≡ true) → NoFinish d m (set_row m k v) next
 no_more d m k v next before = no_new_finish m (set_row m k v) k (set_others m k v) d next (λ e. before (ap has_finish (sym (got m k k v ∙ ap (λ b. cond b v (map.get m k)) (key_self k))) ∙ e))
-
--- ---- what a turn leaves that moves what is known, over rows that are set
-pub kept_moving : {d : Deployment} {c : Core} {m : Rows} (h : Right d c m) (n : Rows) (q : PlainState) (next : Known) (after : IntentId → Bool) → Goes d n q next after → LockedAtEnds d next after → Sane d next → Matches d n next after → ((x : Item) → listed n x ≡ value_at q x) → Settled d m q next
-    → Grows h.known next → Frame d m n h.plain q h.known next → NoFinish d m n next → Kept h n q next after
-kept_moving {d} {c} {m} h n q next after goes ends sane rows values settled grows frame none = kept_by d c m n h q next after
-    (record { goes = goes; locked_at_ends = ends; sane = sane; rows = rows; values = values; settled = settled_after d c m h n q next after rows sane grows frame none settled }) grows frame
 
 unfinished : (ended : TxId → Bool) (t : Option TxId) → FinishMatches ended t None None
 unfinished ended None = refl

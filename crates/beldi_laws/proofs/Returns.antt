@@ -1,5 +1,5 @@
 -- A run at its return: who called its instance, and how that ends.
-use Rattle.beldi_laws.proofs.Names.{Answer, Begun, Bool, Caller, Cause, Core, Deployment, Entry, Goes, Grows, Inside, Instance, IntentId, IsAnswer, IsCalled, Known, Knows, List, LockedAtEnds, None, Option, Outcome, Place, PlainState, Return, Right, Rows, Run, Sane, Says, Some, Step, TxId, [], ahead_set, answer_of, ap, caller_in, child_of, effect_of, enabled_step, ended, false, goes_one, got_ended, grown_end, grows_at, has_no_hops, inl, inr, is_begin, is_some, is_waited, item_touched, key_in, kind_of, none_out, place_of, refl, root_of, root_or_called, run_tx, same_some, set_over, step_by, subst, sym, touched, touched_by, true, turned_by, tx_after, tx_at, unlocked_elsewhere, waits_at, with_instance, within, ℕ, ◌∙◌, ◌∷◌, ◌≡◌}
+use Rattle.beldi_laws.proofs.Names.{Answer, Begun, Caller, Cause, Core, Deployment, Goes, Grows, Inside, Instance, IntentId, IsAnswer, IsCalled, Known, Knows, List, LockedAtEnds, Machine, None, Option, Outcome, Place, PlainState, Return, Right, Rows, Run, RunTx, Sane, Says, Some, StandsAt, Step, TxId, [], ahead_set, answer_of, ap, caller_in, child_of, effect_of, enabled_step, ended, false, goes_one, got_ended, grown_end, grows_at, has_no_hops, inl, inr, is_begin, is_some, is_waited, item_touched, key_in, kind_of, none_by, none_out, place_of, refl, root_of, root_or_called, run_tx, same_some, set_over, step_by, subst, sym, touched, touched_by, true, turned_by, tx_after, tx_at, unlocked_elsewhere, waits_at, with_instance, within, ℕ, ◌∙◌, ◌∷◌, ◌≡◌}
 use Rattle.beldi_laws.proofs.Names.map
 use Rattle.beldi_laws.proofs.Names.outcome
 use Rattle.beldi_lang.specs.declared.effect.Answer.TheVariants as answers
@@ -10,6 +10,7 @@ use Rattle.beldi_laws.proofs.Moves.{AfterTurn, change_entered, Entered}
 use Rattle.beldi_laws.proofs.Passing.{returns_in, tx_is}
 use Rattle.beldi_laws.proofs.Shown.{Settled, settled, legal_sane}
 use Rattle.beldi_laws.proofs.Turns.{answer_here, effect_here, effect_next, sane_instance, plain_there, outside_there}
+use Rattle.beldi_laws.proofs.Cases.{false_by}
 
 -- the caller of an instance, if it has one, made it at this step
 pub record HasCaller (d : Deployment) (known : Known) (id : IntentId) (q : Instance) (c : Caller) : Type 0 where
@@ -38,20 +39,16 @@ root_is id root = by_hops id.hops root
 pub root_outside : (d : Deployment) (known : Known) (id : IntentId) (q : Instance) → Sane d known → map.get known id ≡ Some q → has_no_hops id.hops ≡ true → (q.from ≡ None) × (q.within ≡ None)
 root_outside d known id q sane made root = sane.roots id.ticket q (ap (map.get known) (sym (root_is id root)) ∙ made)
 
-pub not_root : (b : Bool) → (b ≡ true → ⊥) → b ≡ false
-not_root true h = absurd (h refl)
-not_root false h = refl
-
 -- of a run that returns: its instance as it has ended, what is known then, and the plain state after its step
-module _ {d : Deployment} {book : List Entry} {known : Known} {r : Run} {g : Begun} (k : Knows d book known r g) (o : Outcome) where
+module _ {d : Deployment} {known : Known} {id : IntentId} {home : ℕ} {c : Option Caller} {s : Machine} {z : Option RunTx} (k : StandsAt d known id home c s z) (o : Outcome) where
   abbrev pub done : Instance
   done = ended k.instance o
 
   abbrev pub over : Known
-  over = map.insert known r.id done
+  over = map.insert known id done
 
   abbrev pub state : PlainState → PlainState
-  state p = step_by p r.id k.instance (Return o)
+  state p = step_by p id k.instance (Return o)
 
 -- .. and what its turn leaves
 module _ {d : Deployment} {c : Core} {m : Rows} (h : Right d c m) (i : ℕ) (r : Run) (g : Begun) where
@@ -69,41 +66,37 @@ aborted_by (outcome.Aborted k) c e = cc
 aborted_by (outcome.Value v) c e = cc
 aborted_by (outcome.Fault k) c e = cc
 
-module _ (d : Deployment) (c : Core) (m : Rows) (i : ℕ) (r : Run) (g : Begun) (h : Right d c m) (live : map.get c.runs i ≡ Some r) (k : Knows d c.book h.known r g) (finds : Inside d m h.plain h.known r g) (o : Outcome) (is : g.machine.effect ≡ Return o) where
+module _ (d : Deployment) (c : Core) (m : Rows) (i : ℕ) (r : Run) (g : Begun) (h : Right d c m) (live : map.get c.runs i ≡ Some r) (k : Knows d h.known r g) (finds : Inside m h.plain c.book k g.stage) (o : Outcome) (is : g.machine.effect ≡ Return o) where
   -- a body that returns was answered nothing more
   no_answer : (later : List Answer) → k.later ≡ later → k.later ≡ []
   no_answer [] left = left
   no_answer (a ∷ rest) left = absurd (unanswered (place_of r.id g.machine.steps) (tx_at d r.id k.instance g.machine.steps) o a
-      (subst (λ e. IsAnswer (place_of r.id g.machine.steps) (tx_at d r.id k.instance g.machine.steps) e a) (effect_here d c.book h.known r g k ∙ is) ((sane_instance d c m r g h k).past g.machine.steps a (answer_here d c.book h.known r g k (a ∷ rest) left))))
+      (subst (λ e. IsAnswer (place_of r.id g.machine.steps) (tx_at d r.id k.instance g.machine.steps) e a) (effect_here k ∙ is) ((sane_instance h k).past g.machine.steps a (answer_here k (a ∷ rest) left))))
 
   pub at_end : k.later ≡ []
   at_end = no_answer k.later refl
 
   pub returns_now : effect_of d k.instance ≡ Return o
-  returns_now = effect_next d c.book h.known r g k at_end ∙ is
+  returns_now = effect_next k at_end ∙ is
 
   -- it is in the transaction that it was called in, if any
   pub tx : g.tx ≡ within k.instance.within
-  tx = returns_in d c.book h.known r g k o is
+  tx = returns_in k o is
 
   pub unlocked : h.locked r.id ≡ false
   unlocked = unlocked_elsewhere d h.known h.locked h.locked_at_ends r.id k.instance k.made (ap touched returns_now)
 
   -- an outcome that it has is this one
   pub same_outcome : (u : Outcome) → k.instance.outcome ≡ Some u → u ≡ o
-  same_outcome u has = let both : Return u ≡ Return o = sym ((sane_instance d c m r g h k).over u has) ∙ returns_now in cc
+  same_outcome u has = let both : Return u ≡ Return o = sym ((sane_instance h k).over u has) ∙ returns_now in cc
 
   -- who was called in a transaction has its row
   seated : (t : TxId) → k.instance.within ≡ Some t → is_some (map.get m (key_in k.instance.func r.id)) ≡ true
-  seated t within = ap (λ f. is_some (map.get m (key_in f r.id))) k.func ∙ finds.row (not_root (has_no_hops r.id.hops) (λ e. let clash = sym within ∙ (root_outside d h.known r.id k.instance h.sane k.made e).1 in cc))
+  seated t within = ap (λ f. is_some (map.get m (key_in f r.id))) k.func ∙ finds.row (false_by (has_no_hops r.id.hops) (λ e. let clash = sym within ∙ (root_outside d h.known r.id k.instance h.sane k.made e).1 in cc))
 
   -- one that nobody waits for was called in none
   pub idle_outside : is_waited g.caller ≡ false → k.instance.within ≡ None
-  idle_outside idle = by_within k.instance.within refl
-    where
-      by_within : (w : Option TxId) → k.instance.within ≡ w → w ≡ None
-      by_within None e = refl
-      by_within (Some t) e = let clash = sym idle ∙ ap is_waited (k.caller ∙ (caller_in d h.known h.sane t r.id k.instance k.made e).from) in cc
+  idle_outside idle = none_by k.instance.within (λ t e. let clash = sym idle ∙ ap is_waited (k.caller ∙ (caller_in d h.known h.sane t r.id k.instance k.made e).from) in cc)
 
   pub ahead_over : LockedAtEnds d (over k o) h.locked
   ahead_over = ahead_set d h.known h.locked h.locked_at_ends h.locked r.id (done k o) (none_out h.locked r.id unlocked)
@@ -123,14 +116,14 @@ module _ (d : Deployment) (c : Core) (m : Rows) (i : ℕ) (r : Run) (g : Begun) 
   -- outside it is the plain step
   module _ (own : k.instance.within ≡ None) where
     out : tx_after d r.id k.instance k.answers ≡ None
-    out = tx_is d c.book h.known r g k (ap is_begin is) ∙ ap (run_tx r.id r.func) (tx ∙ ap within own)
+    out = tx_is k (ap is_begin is) ∙ ap (run_tx r.id r.func) (tx ∙ ap within own)
 
     there : map.get h.plain.made r.id ≡ Some k.instance
     there = plain_there d c m i r g h live k finds out (Return o) is at_end
 
     pub goes_over : (n : Rows) → SameShadows m n → Goes d n (with_instance h.plain r.id (done k o)) (over k o) h.locked
     goes_over n same = goes_one d m h.plain h.known h.locked h.shadows h.beside r.id (done k o)
-        (set_over d m h.plain h.known h.locked h.shadows h.beside h.sane h.rows (legal_sane h) r.id k.instance k.made o (outside_there d c.book h.known r g k out at_end)) n same (got_ended d m h.known h.locked h.shadows.got n same r.id k.instance k.made o)
+        (set_over d m h.plain h.known h.locked h.shadows h.beside h.sane h.rows (legal_sane h) r.id k.instance k.made o (outside_there k out at_end)) n same (got_ended d m h.known h.locked h.shadows.got n same r.id k.instance k.made o)
 
     pub leads : k.instance.outcome ≡ None → (next : Known) → Entered d c h.plain h.known (Step r.id) (state k o h.plain) next
     leads open_still next = change_entered d c m h (Step r.id) (state k o h.plain) next refl

@@ -20,6 +20,7 @@ use Rattle.beldi_laws.proofs.Committed.{placed, unplaced}
 use Rattle.beldi_laws.proofs.Ended.{ends_outside}
 use Rattle.beldi_laws.proofs.Widths.{answered_small}
 use Rattle.beldi_laws.proofs.KeptSane.{outside_effect}
+use Rattle.beldi_laws.proofs.Cases.{false_by}
 
 -- the row of a root without outcome has none
 no_outcome : (b : Option Body) (o : Option Outcome) (q : Instance) → BodyMatches b o (Some q) → q.outcome ≡ None → o ≡ None
@@ -152,14 +153,10 @@ module _ (d : Deployment) (m : Rows) (known : Known) (locked : IntentId → Bool
         where
           -- it is not so late a step
           early : (n == last_step) ≡ false
-          early = by_test (n == last_step) refl
-            where
-              by_test : (b : Bool) → (n == last_step) ≡ b → b ≡ false
-              by_test false e = refl
-              by_test true e =
-                  let last = eqb-true n last_step e in
-                  let small = answered_small d id q n (sane.each id q made) (slice_get_within q.answers n a at) in
-                  absurd (omega (arith, last, small))
+          early = false_by (n == last_step) (λ e.
+              let last = eqb-true n last_step e in
+              let small = answered_small d id q n (sane.each id q made) (slice_get_within q.answers n a at) in
+              absurd (omega (arith, last, small)))
 
           never : (b : Bool) → (b && false) ≡ false
           never true = refl

@@ -1,6 +1,6 @@
 -- The turns of a run at the end of its transaction, past the decision: it visits who took part, one after another; of each the items that
 -- it asked the locks of, and gives each back once; and gives each of them but its own instance a finish.
-use Rattle.beldi_laws.proofs.Names.{AllReleased, Answer, AreReleased, AtStage, Begun, Body, Bool, Called, CalleeBodyMatches, CalleeMatches, Callees, Content, Core, Decide, DecidedAt, Deployment, EndAt, EndGoes, EndWalk, FinishMatches, Frame, Free, FreeOp, GetsFinish, Inherited, Inside, Instance, IntentId, IntentMatches, IntentRow, IsAnswer, IsCalleeRow, IsDecided, IsMember, IsTrue, Item, Kind, Knows, Leads, List, MarkOk, Matches, Member, Next, None, Note, OpenTx, Option, Own, ParticipantsAreReleased, ParticipantsHaveRows, Place, Query, ReadGoes, Right, Row, RowKey, Rows, Run, RunTx, Shadow, Some, SoundAt, StageOk, Stamp, Told, TookPart, Tx, TxId, Value, Visit, Visited, WriteAt, WriteGoes, [], ap, append_assoc, asked, at_each, back_from, call_goes, calls_goes, commit_in, content_in, content_of, count_changes, counts, decision_key, done_to, effect_after, end_by_asks, end_by_says, end_goes, end_walk, ended_at, ended_by, false, first_end, free_place, freed_goes, func_called, given_or, given_value, grows_self, has_callees, has_ended, has_finish, has_no_hops, head_key, if◌then◌else◌, inl, inr, intent_key, invokes_found, is_begin, is_committed, is_decided, is_eq, is_mark, is_past, is_shadow, is_some, key_cmp, key_exact, key_in, key_same, key_total, keys_set, kinds_apart, last_goes, last_step, length, listed, lockset_found, log_key, next_goes, no_decision, no_root, note_at, notes_stay, open_of, option_map, own_tx, place_of, read_goes, refl, release_lists, released, root_key, row_put, rows_after, same_map, same_some, set_row, shadow_key, shadow_value, split_last, stage_asks, stage_says, stepped, subst, sym, told_by, true, turn_next, turned_by, turns, tx_after, tx_end, tx_eq, tx_in, tx_of, tx_same, tx_self, txs_after, unchanged, value_goes, value_in, visit_asks, visit_says, visited_by, wants_answer, was_answered, write_goes, ℕ, ◌&&◌, ◌++◌, ◌==◌, ◌||◌, ◌∙◌, ◌∷◌, ◌≡◌}
+use Rattle.beldi_laws.proofs.Names.{AllReleased, Answer, AreReleased, Begun, Body, Bool, Called, CalleeBodyMatches, CalleeMatches, Callees, Content, Core, Decide, DecidedAt, Deployment, EndAt, EndGoes, EndWalk, FinishMatches, Frame, Free, FreeOp, GetsFinish, Inherited, Inside, Instance, IntentId, IntentMatches, IntentRow, IsAnswer, IsCalleeRow, IsDecided, IsMember, IsTrue, Item, Kind, Knows, Leads, List, Matches, Member, Next, None, Note, OpenTx, Option, Own, ParticipantsAreReleased, ParticipantsHaveRows, Place, Query, ReadGoes, Right, Row, RowKey, Rows, Run, RunTx, Shadow, Some, SoundAt, Stamp, Told, TookPart, Tx, TxId, Value, Visit, Visited, WriteAt, WriteGoes, [], ap, asked, at_each, back_from, call_goes, calls_goes, commit_in, content_in, content_of, counts, decision_key, done_to, effect_after, end_by_asks, end_by_says, end_goes, end_walk, ended_at, ended_by, false, first_end, free_place, freed_goes, func_called, given_or, given_value, grows_self, has_callees, has_ended, has_finish, has_no_hops, head_key, if◌then◌else◌, inl, inr, intent_key, invokes_found, is_committed, is_decided, is_eq, is_mark, is_past, is_shadow, is_some, key_cmp, key_exact, key_in, key_same, key_total, keys_set, kinds_apart, last_goes, last_step, length, listed, lockset_found, log_key, next_goes, no_decision, no_root, note_at, notes_stay, option_map, own_tx, place_of, read_goes, refl, release_lists, released, root_key, row_put, rows_after, same_map, same_some, set_row, shadow_key, shadow_value, split_last, stepped, subst, sym, told_by, true, turn_next, turned_by, turns, tx_after, tx_end, tx_eq, tx_in, tx_same, tx_self, txs_after, unchanged, value_goes, value_in, visit_asks, visit_says, visited_by, wants_answer, was_answered, write_goes, ℕ, ◌&&◌, ◌++◌, ◌==◌, ◌||◌, ◌∙◌, ◌∷◌, ◌≡◌}
 use Rattle.beldi_laws.proofs.Names.answer
 use Rattle.beldi_laws.proofs.Names.effect
 use Rattle.beldi_laws.proofs.Names.goes
@@ -18,18 +18,17 @@ use Rattle.beldi_txn.specs.Way.{is_owner}
 use Rattle.beldi_known.proofs.Behind.{front}
 use Rattle.beldi_laws.proofs.Askers.{owns_none}
 use Rattle.beldi_laws.proofs.Closing.{at_key, closed_rows_of, owner_is}
-use Rattle.beldi_laws.proofs.Ended.{ends_outside}
 use Rattle.beldi_laws.proofs.Frames.{NoFinish, frame_held, frame_item, frame_row, items_stay, no_finish, nobody_new}
 use Rattle.beldi_laws.proofs.Settling.{settled_rows}
 use Rattle.beldi_laws.proofs.Grown.{grown_same}
 use Rattle.beldi_laws.proofs.Keeping.{SameShadows, act_stays, as_it_was, goes_still, stays_by}
 use Rattle.beldi_laws.proofs.Members.{TakesPart, members_joined, part_below, part_key, took_part}
 use Rattle.beldi_laws.proofs.Moves.{AfterQuery, SameRoots, Stays}
-use Rattle.beldi_laws.proofs.OpenOf.{called_in, open_begun, open_tx, own_begin}
+use Rattle.beldi_laws.proofs.OpenOf.{open_begun, own_begin}
 use Rattle.beldi_laws.proofs.Others.{end_here, kept_by}
 use Rattle.beldi_laws.proofs.Owed.{content_kept, contents_kept, others_list}
 use Rattle.beldi_laws.proofs.Shown.{log_values, settled}
-use Rattle.beldi_laws.proofs.Turns.{at_steps, wanted_here, Leaves, all_here, stands_on, answers_on}
+use Rattle.beldi_laws.proofs.Turns.{at_steps, known_prefix, wanted_here, Leaves, all_here, stands_on, answers_on}
 use Rattle.beldi_laws.proofs.Widths.{finds_first}
 
 -- ---- past the decision
@@ -257,7 +256,7 @@ module _ (d : Deployment) (c : Core) (m : Rows) (h : Right d c m) where
     )
 
 -- ---- a run at the end of its transaction
-module _ (d : Deployment) (c : Core) (m : Rows) (r : Run) (g : Begun) (h : Right d c m) (k : Knows d c.book h.known r g) (o : OpenTx) (tx : g.tx ≡ Some (Own o)) (commit : Bool) (is : g.machine.effect ≡ effect.End commit) where
+module _ (d : Deployment) (c : Core) (m : Rows) (r : Run) (g : Begun) (h : Right d c m) (k : Knows d h.known r g) (o : OpenTx) (tx : g.tx ≡ Some (Own o)) (commit : Bool) (is : g.machine.effect ≡ effect.End commit) where
   abbrev end : ℕ
   end = g.machine.steps
 
@@ -265,10 +264,10 @@ module _ (d : Deployment) (c : Core) (m : Rows) (r : Run) (g : Begun) (h : Right
   s = own_tx r.id r.func o
 
   steps_here : end ≡ length k.answers
-  steps_here = at_steps d c.book h.known r g k
+  steps_here = at_steps k
 
   wanted : effect_after d k.instance k.answers ≡ effect.End commit
-  wanted = wanted_here d c.book h.known r g k ∙ is
+  wanted = wanted_here k ∙ is
 
   -- its Begin is the one that is open
   begun : (txs_after d k.instance k.answers).begun ≡ Some o.begin
@@ -286,7 +285,7 @@ module _ (d : Deployment) (c : Core) (m : Rows) (r : Run) (g : Begun) (h : Right
     where
       by_later : (later : List Answer) → k.later ≡ later → HasEnded
       by_later [] none =
-          let clash = sym (ap (λ f. map.get m (log_key f (place_of r.id o.begin))) (sym k.func) ∙ no_decision d m h.known h.locked h.rows r.id k.instance k.made o.begin (subst (λ ts. (txs_after d k.instance ts).begun ≡ Some o.begin) (all_here d c.book h.known r g k none) begun)) ∙ decided in cc
+          let clash = sym (ap (λ f. map.get m (log_key f (place_of r.id o.begin))) (sym k.func) ∙ no_decision d m h.known h.locked h.rows r.id k.instance k.made o.begin (subst (λ ts. (txs_after d k.instance ts).begun ≡ Some o.begin) (all_here k none) begun)) ∙ decided in cc
       by_later (a ∷ rest) some =
           let q = k.instance in
           let given = k.answers in
@@ -381,7 +380,7 @@ module _ (d : Deployment) (c : Core) (m : Rows) (r : Run) (g : Begun) (h : Right
   keeps (b ∷ bs) af y u Stamp z past visited e l = stamps e b bs visited.member af y u z l
 
 -- ---- the turn
-module _ (d : Deployment) (c : Core) (m : Rows) (i : ℕ) (r : Run) (g : Begun) (h : Right d c m) (live : map.get c.runs i ≡ Some r) (k : Knows d c.book h.known r g) (finds : Inside d m h.plain h.known r g)
+module _ (d : Deployment) (c : Core) (m : Rows) (i : ℕ) (r : Run) (g : Begun) (h : Right d c m) (live : map.get c.runs i ≡ Some r) (k : Knows d h.known r g) (finds : Inside m h.plain c.book k g.stage)
     (o : OpenTx) (tx : g.tx ≡ Some (Own o)) (inside : tx_after d r.id k.instance k.answers ≡ Some (own_tx r.id r.func o)) (commit : Bool) (is : g.machine.effect ≡ effect.End commit) where
   abbrev t : TxId
   t = own_tx r.id r.func o
@@ -398,15 +397,12 @@ module _ (d : Deployment) (c : Core) (m : Rows) (i : ℕ) (r : Run) (g : Begun) 
 
     -- it goes on past the decision
     goes_on : (z : EndGoes) → is_past (moved commit v z).at ≡ true → Keeps d c m h rows_left → Leads t g.machine.steps commit v q m rows_left z → Leaves d c m i r g h live k (says.On (stage.End (moved commit v z)) None) rows_left
-    goes_on z on kept l = stands_on d c m i r g h live k finds (stage.End (moved commit v z)) rows_left h.locked refl kept.1 kept.0
-        (subst (λ e. StageOk (is_some (tx_after d r.id k.instance k.answers)) r.id g.caller e (stage.End (moved commit v z))) (sym is) (subst (λ x. StageOk (is_some x) r.id g.caller (effect.End commit) (stage.End (moved commit v z))) (sym inside) on))
-        (subst (λ e. MarkOk r.id g.machine.steps g.tx e (stage.End (moved commit v z))) (sym is) (subst (λ x. MarkOk r.id g.machine.steps x (effect.End commit) (stage.End (moved commit v z))) (sym tx) tt))
-        (subst (λ e. AtStage d rows_left h.plain h.known r.id r.func g.tx g.machine.steps e (stage.End (moved commit v z))) (sym is) (subst (λ x. AtStage d rows_left h.plain h.known r.id r.func x g.machine.steps (effect.End commit) (stage.End (moved commit v z))) (sym tx) l.visited))
+    goes_on z on kept l = stands_on d c m i r g h live k finds is tx (stage.End (moved commit v z)) rows_left h.locked kept.1 kept.0 (on, l.visited)
 
     -- it is over, and answered: all have given back all
     is_over : Keeps d c m h rows_left → AllReleased (end_walk r.id r.func o g.machine.steps commit v) rows_left → Leaves d c m i r g h live k (says.Answers answer.Done None) rows_left
     is_over kept all = answers_on d c m i r g h live k finds answer.Done has.rest rows_left h.known h.locked k.instance kept.1 kept.0 k.made (grown_same k.instance)
-        (append_assoc k.answers (answer.Done ∷ []) has.rest ∙ ap (λ ys. k.answers ++ ys) (sym has.left) ∙ k.run_answers)
+        (known_prefix k answer.Done has.rest has.left)
         (subst (λ e. IsTrue (wants_answer e)) (sym is) refl)
         (λ u b x opened ends owned. owns_none d rows_left h.known h.locked kept.0.shows.rows h.sane h.locked_at_ends t (g.machine.steps, commit) has.ended x h.short (record { owner = all.owner; closed = all.closed; freed = all.freed }) (owned ∙ ap (λ z. Some (Tx (own_tx r.id r.func z))) (own_same (sym opened ∙ tx))))
       where
@@ -434,36 +430,3 @@ module _ (d : Deployment) (c : Core) (m : Rows) (i : ℕ) (r : Run) (g : Begun) 
         let first = finds_first d c m h t (g.machine.steps, commit) has.ended v.way visited.member in
         let l : Leads t g.machine.steps commit v q m rows_left z = turns t g.machine.steps commit c.now m v.way v.after v.item v.value v.at first.0 first.1 visited in
         by_goes z (goes_past v.way v.after v.item v.value t g.machine.steps commit v.at (told_by q c.now m) past) (keeps d c m r g h k o tx commit is v.way v.after v.item v.value v.at z past visited has l) l
-
--- .. of a run that stands at its end
-module _ (d : Deployment) (c : Core) (m : Rows) (i : ℕ) (r : Run) (g : Begun) (h : Right d c m) (live : map.get c.runs i ≡ Some r) (k : Knows d c.book h.known r g) (finds : Inside d m h.plain h.known r g)
-    (t : TxId) (inside : tx_after d r.id k.instance k.answers ≡ Some t) where
-  abbrev AfterEnd : Bool → Visit → Option RunTx → Type 0
-  AfterEnd commit v o = AfterQuery d h.plain c.now m (λ u. turn_next c i r (turned_by d r g (end_by_says r.id r.func g.machine.steps commit v o u))) (end_by_asks r.id r.func g.machine.steps commit v o)
-
-  pub end_turn : (commit : Bool) (v : Visit) → g.machine.effect ≡ effect.End commit → is_past v.at ≡ true → AtStage d m h.plain h.known r.id r.func g.tx g.machine.steps (effect.End commit) (stage.End v)
-      → AfterQuery d h.plain c.now m (λ u. turn_next c i r (turned_by d r g (stage_says r.id r.func g.caller g.tx (count_changes c.book) g.machine.steps (effect.End commit) (stage.End v) u))) (stage_asks r.id r.func g.caller g.tx g.machine.steps (effect.End commit) (stage.End v))
-  end_turn commit v is past visited =
-      let z = own_here in
-      subst (AfterEnd commit v) (sym z.1)
-      (visit_turn d c m i r g h live k finds z.0 z.1 (inside ∙ ap Some (own_is z.0 z.1)) commit is v past (subst (λ x. AtStage d m h.plain h.known r.id r.func x g.machine.steps (effect.End commit) (stage.End v)) z.1 visited))
-    where
-      wanted_end : effect_after d k.instance k.answers ≡ effect.End commit
-      wanted_end = wanted_here d c.book h.known r g k ∙ is
-
-      in_it : (o : RunTx) × (open_of d k.instance k.answers ≡ Some o) × (t ≡ tx_of r.id k.instance.func o)
-      in_it = open_tx d r.id k.instance k.answers t inside (ap is_begin wanted_end)
-
-      tx_is : g.tx ≡ Some in_it.0
-      tx_is = k.run_open ∙ in_it.1
-
-      -- who was called in a transaction does not end it
-      own_here : (o : OpenTx) × (g.tx ≡ Some (Own o))
-      own_here = by_tx in_it.0 tx_is
-        where
-          by_tx : (o : RunTx) → g.tx ≡ Some o → (o : OpenTx) × (g.tx ≡ Some (Own o))
-          by_tx (Own o) tx = (o, tx)
-          by_tx (Inherited x) tx = let clash = sym (ends_outside d k.instance k.answers commit wanted_end) ∙ called_in d k.instance x k.answers (sym k.run_open ∙ tx) in cc
-
-      own_is : (o : OpenTx) → g.tx ≡ Some (Own o) → t ≡ own_tx r.id r.func o
-      own_is o tx = in_it.2 ∙ ap (tx_of r.id k.instance.func) (same_some (sym tx_is ∙ tx)) ∙ ap (λ f. own_tx r.id f o) k.func

@@ -1,5 +1,5 @@
 -- What is so of the visits of an end: it is so once the decision is there, and stays through what others do.
-use Rattle.beldi_laws.proofs.Names.{Answer, AreMarked, AreReleased, AreSound, AtEnd, Bool, ByTx, Called, Core, Deployment, EndWalk, Frame, GrownAt, Grows, Instance, IntentId, IsCall, IsDecided, IsFreePlace, IsMember, IsOf, IsWay, IsWithin, IsWriting, Item, Known, List, LogMatches, Matches, Member, None, Option, Outcome, OwnedAreUnmarked, Owner, ParticipantsAreReleased, PlainState, Right, Row, Rows, Sane, Some, TookPart, TxId, Visited, [], ahead_by, ap, arith, aside_row, at_calls, at_step, commit_in, content_of, decided_over, decision_by, effect_after, effect_of, ended_by, eq-eqb, eqb-true, false, first_end, free_place, if◌then◌else◌, inl, inr, is_closed, is_decided, is_mark, is_own, is_some, item_row, last_step, length, lock_row, log_there, note_at, note_by, note_or, now_open, owed_note, owed_read, owed_value, owner_of, owns, read_at, refl, row_at, shadow_value, slice_get, slice_get_within, subst, sym, take, true, tx_after, tx_end, tx_now, value_or, visited_by, visits_stand, ℕ, ◌&&◌, ◌==◌, ◌||◌, ◌∙◌, ◌∷◌, ◌≡◌}
+use Rattle.beldi_laws.proofs.Names.{AreMarked, AreReleased, AreSound, AtEnd, Bool, ByTx, Called, Core, Deployment, EndWalk, Frame, GrownAt, Grows, Instance, IntentId, IsCall, IsDecided, IsFreePlace, IsMember, IsOf, IsWay, IsWithin, IsWriting, Item, Known, List, LogMatches, Matches, Member, None, Option, Outcome, OwnedAreUnmarked, Owner, ParticipantsAreReleased, PlainState, Right, Row, Rows, Sane, Some, TookPart, TxId, Visited, [], ahead_by, ap, arith, aside_row, at_calls, at_step, commit_in, content_of, decided_over, decision_by, effect_after, effect_of, ended_by, eq-eqb, eqb-true, false, first_end, free_place, if◌then◌else◌, inl, inr, is_closed, is_decided, is_mark, is_own, is_some, item_row, last_step, length, lock_row, log_there, none_by, note_at, note_by, note_or, now_open, owed_note, owed_read, owed_value, owner_of, owns, read_at, refl, row_at, shadow_value, slice_get, slice_get_within, subst, sym, take, true, tx_after, tx_end, tx_now, value_or, visited_by, visits_stand, ℕ, ◌&&◌, ◌==◌, ◌||◌, ◌∙◌, ◌∷◌, ◌≡◌}
 use Rattle.beldi_laws.proofs.Names.effect
 use Rattle.beldi_laws.proofs.Names.map
 use Rattle.beldi_laws.proofs.Names.value
@@ -10,23 +10,16 @@ use Rattle.beldi_laws.proofs.Closing.{before_part, closed_there, finish_there, o
 use Rattle.beldi_laws.proofs.Members.{IsKnownCall, TakesPart, call_known, call_there, callee_is, calls_joined, members_joined, took_part}
 use Rattle.beldi_laws.proofs.Shown.{Shows}
 use Rattle.beldi_laws.proofs.Widths.{answered_small}
+use Rattle.beldi_laws.proofs.Cases.{false_by}
 
 -- ---- small facts
 -- none that it owns
 not_owned : (t : TxId) (o : Option Owner) → (o ≡ Some (ByTx t) → ⊥) → owns (ByTx t) o ≡ false
-not_owned t o none = by_test (owns (ByTx t) o) refl
-  where
-    by_test : (b : Bool) → owns (ByTx t) o ≡ b → b ≡ false
-    by_test false e = refl
-    by_test true e = absurd (none (owner_is t o e))
+not_owned t o none = false_by (owns (ByTx t) o) (λ e. none (owner_is t o e))
 
 -- an effect that gives back the outcome is a return
 no_outcome : (d : Deployment) (q : Instance) → ((o : Outcome) → effect_of d q ≡ effect.Return o → ⊥) → ((o : Outcome) → q.outcome ≡ Some o → effect_of d q ≡ effect.Return o) → q.outcome ≡ None
-no_outcome d q none over = by_outcome q.outcome refl
-  where
-    by_outcome : (o : Option Outcome) → q.outcome ≡ o → o ≡ None
-    by_outcome None e = refl
-    by_outcome (Some o) e = absurd (none o (over o e))
+no_outcome d q none over = none_by q.outcome (λ o e. none o (over o e))
 
 module _ (d : Deployment) (m : Rows) (known : Known) (locked : IntentId → Bool) (h : Matches d m known locked) (sane : Sane d known) where
   pub sound_rows : (w : EndWalk) → AreSound w m
@@ -63,21 +56,13 @@ module _ (d : Deployment) (m : Rows) (known : Known) (locked : IntentId → Bool
     y = part.instance
 
     never : slice_get y.answers last_step ≡ None
-    never = by_answer (slice_get y.answers last_step) refl
-      where
-        by_answer : (o : Option Answer) → slice_get y.answers last_step ≡ o → o ≡ None
-        by_answer None e = refl
-        by_answer (Some a) e = let small = answered_small d i y last_step (sane.each i y part.made) (slice_get_within y.answers last_step a e) in absurd (omega (arith, small))
+    never = none_by (slice_get y.answers last_step) (λ a e. let small = answered_small d i y last_step (sane.each i y part.made) (slice_get_within y.answers last_step a e) in absurd (omega (arith, small)))
 
     not_next : (last_step == length y.answers) ≡ false
-    not_next = by_test (last_step == length y.answers) refl
-      where
-        by_test : (c : Bool) → (last_step == length y.answers) ≡ c → c ≡ false
-        by_test false e = refl
-        by_test true e =
-            let same = eqb-true last_step (length y.answers) e in
-            let small = answered_small d i y 30000 (sane.each i y part.made) (omega (arith, same)) in
-            absurd (omega (arith, small))
+    not_next = false_by (last_step == length y.answers) (λ e.
+        let same = eqb-true last_step (length y.answers) e in
+        let small = answered_small d i y 30000 (sane.each i y part.made) (omega (arith, same)) in
+        absurd (omega (arith, small)))
 
     -- so before the decision no item has a note there
     pub at_part : (x : Item) → note_at (content_of m x).notes (record { intent = i; step = last_step }) ≡ None

@@ -16,14 +16,13 @@ use Rattle.beldi_laws.proofs.Names.value
 use Rattle.beldi_row.specs.Act.{no_row}
 use Rattle.beldi_daal.specs.declared.cell.WriteAt.TheVariants.{Try}
 use Rattle.beldi_txn.specs.Tx.{item_goes, note_goes}
-use Rattle.beldi_laws.proofs.Closing.{settled_after}
 use Rattle.beldi_laws.proofs.Frames.{NoFinish, NobodyJoins, frame_log, frame_shadow, is_lockset, items_stay, no_finish, nobody_new, nobody_set}
 use Rattle.beldi_laws.proofs.Settling.{settled_operated}
 use Rattle.beldi_laws.proofs.Grown.{grown_moved, grows_moved, moved_more}
 use Rattle.beldi_laws.proofs.InTx.{begin_is, frees_none, open_still, item_self, goes_at, replays, lockset_is, set_roots, same_item, steps, effect_so, wants_here, short, known_answers, answers_so, at_front, now, tx_is, front, apart, opened as opened_here, owned as owned_here, was_locked}
 use Rattle.beldi_laws.proofs.Keeping.{as_it_was}
 use Rattle.beldi_laws.proofs.Moves.{AfterQuery, AfterTurn, SameRoots, Kept}
-use Rattle.beldi_laws.proofs.Others.{kept_by}
+use Rattle.beldi_laws.proofs.Others.{kept_moving}
 use Rattle.beldi_laws.proofs.Shown.{settled}
 use Rattle.beldi_laws.proofs.Turns.{sane_instance, all_here, step_here, answers_on, stays_on}
 
@@ -90,7 +89,7 @@ pub record HasLocked (m : Rows) (r : Run) (o : RunTx) (step : ℕ) (x : ℕ × L
 abbrev fresh : Value → Row
 fresh v = rows.Cell (record { value = v; owner = None; log = []; next = None; marked = false; dangled = None })
 
-module _ (d : Deployment) (c : Core) (m : Rows) (i : ℕ) (r : Run) (g : Begun) (h : Right d c m) (live : map.get c.runs i ≡ Some r) (k : Knows d c.book h.known r g) (finds : Inside d m h.plain h.known r g)
+module _ (d : Deployment) (c : Core) (m : Rows) (i : ℕ) (r : Run) (g : Begun) (h : Right d c m) (live : map.get c.runs i ≡ Some r) (k : Knows d h.known r g) (finds : Inside m h.plain c.book k g.stage)
     (o : RunTx) (tx : g.tx ≡ Some o) (here : tx_after d r.id k.instance k.answers ≡ Some (tx_of r.id r.func o)) where
   -- what it says leaves what it has to: not unfolded, as a run after an answer is large
   Leaves : Says → Rows → Type 0
@@ -158,7 +157,7 @@ module _ (d : Deployment) (c : Core) (m : Rows) (i : ℕ) (r : Run) (g : Begun) 
       not_dead : death_in a ≡ None
       not_dead =
           let p : Place = place_of r.id (length k.answers) in
-          let b = behind_locks d m h.known h.locked h.rows r.id k.instance k.made (sane_instance d c m r g h k) k.answers a rest all_known (short d c m r g h k o here e is x touch) own here x (ap touched (effect_so d c m r g h k o here e is x touch) ∙ touch) in
+          let b = behind_locks d m h.known h.locked h.rows r.id k.instance k.made (sane_instance h k) k.answers a rest all_known (short d c m r g h k o here e is x touch) own here x (ap touched (effect_so d c m r g h k o here e is x touch) ∙ touch) in
           sym b.1 ∙ ap (lock_answer p) (ap (λ z. z.1) (sym b.0 ∙ ap (λ n. noted_or (content_of m its_item) n (lock_or p own (content_of m its_item) (other_owner (ByTx own) (content_of m its_item).owner))) (as_behind (λ y q. note_at (content_of m y).notes q ≡ Some note.Got) l.got)))
 
       answer_fits : IsAnswer place (Some own) e a
@@ -179,10 +178,10 @@ module _ (d : Deployment) (c : Core) (m : Rows) (i : ℕ) (r : Run) (g : Begun) 
 
     module _ (left : k.later ≡ []) where
       as_its : (P : Item → Place → Type 0) → P item place → P its_item its_place
-      as_its P z = subst (λ n. P its_item (place_of r.id n)) (step_here d c.book h.known r g k left) (subst (λ y. P y place) (sym same) z)
+      as_its P z = subst (λ n. P its_item (place_of r.id n)) (step_here k left) (subst (λ y. P y place) (sym same) z)
 
       as_ran : (P : Item → Place → Type 0) → P its_item its_place → P item place
-      as_ran P z = subst (λ y. P y place) same (subst (λ n. P its_item (place_of r.id n)) (sym (step_here d c.book h.known r g k left)) z)
+      as_ran P z = subst (λ y. P y place) same (subst (λ n. P its_item (place_of r.id n)) (sym (step_here k left)) z)
 
       now_is : effect_of d k.instance ≡ e
       now_is = now d c m r g h k o here e is x touch left
@@ -223,17 +222,11 @@ module _ (d : Deployment) (c : Core) (m : Rows) (i : ℕ) (r : Run) (g : Begun) 
       answers_now a n roots kept =
           let more = moved_more d r.id k.instance a in
           answers_on d c m i r g h live k finds a more.more n (next a) after (moved d r.id k.instance a) roots kept (maps.here h.known r.id (moved d r.id k.instance a)) (grown_moved d r.id k.instance a)
-          (ap (λ ts. (ts ++ a ∷ []) ++ more.more) (all_here d c.book h.known r g k left) ∙ more.same) (wants_here d c m r g h k o here e is x touch) (frees_none d c m i r g h live k finds o tx here e is x touch n)
+          (ap (λ ts. (ts ++ a ∷ []) ++ more.more) (all_here k left) ∙ more.same) (wants_here d c m r g h k o here e is x touch) (frees_none d c m i r g h live k finds o tx here e is x touch n)
 
       answer_keeps : (a : Answer) (n : Rows) → ((z : Cause) → a ≡ answer.Aborted z → ⊥) → Goes d n h.plain (next a) after → Sane d (next a) → Matches d n (next a) after → ((y : Item) → listed n y ≡ listed m y) → Frame d m n h.plain h.plain h.known (next a) → NoFinish d m n (next a) → Kept h n h.plain (next a) after
-      answer_keeps a n lives goes sane matches lists frame unfinished = kept_by d c m n h h.plain (next a) after (record {
-        goes = goes;
-        locked_at_ends = ahead_set d h.known h.locked h.locked_at_ends after r.id (moved d r.id k.instance a) out;
-        sane = sane;
-        rows = matches;
-        values = λ y. lists y ∙ h.values y;
-        settled = settled_after d c m h n h.plain (next a) after matches sane (grows_moved d h.known r.id k.instance a k.made) frame unfinished (settled_operated d m h.plain h.known r.id k.instance k.made a x stands.touch (λ z j dead. absurd (lives z dead)) (settled h));
-      }) (grows_moved d h.known r.id k.instance a k.made) frame
+      answer_keeps a n lives goes sane matches lists frame unfinished = kept_moving h n h.plain (next a) after goes (ahead_set d h.known h.locked h.locked_at_ends after r.id (moved d r.id k.instance a) out) sane matches (λ y. lists y ∙ h.values y)
+          (settled_operated d m h.plain h.known r.id k.instance k.made a x stands.touch (λ z j dead. absurd (lives z dead)) (settled h)) (grows_moved d h.known r.id k.instance a k.made) frame unfinished
 
       undecided_here : map.get m (decision_key own) ≡ None
       undecided_here = undecided d h.known h.sane m h.locked h.rows r.id k.instance own k.made going off_begin inside
@@ -252,16 +245,9 @@ module _ (d : Deployment) (c : Core) (m : Rows) (i : ℕ) (r : Run) (g : Begun) 
       first_keeps : (v : Value) → is_some (txn.op_of e) ≡ true → map.get m (shadow_key own its_item) ≡ None → ((writes_on its_item k.instance.func (effect_of d k.instance) ≡ true) ⊎ (v ≡ value_at h.plain its_item)) → Kept h (set_row m (shadow_key own its_item) (Some (fresh v))) h.plain h.known h.locked
       first_keeps v writes none by =
           let n : Rows = set_row m (shadow_key own its_item) (Some (fresh v)) in
-          let frame = shadow_frame (fresh v) h.known (nobody_new d h.known) writes in
-          let matches = shadow_made d h.known h.locked m h.rows own its_item (Some (fresh v)) (refl, tt, refl, refl) none refl in
-          kept_by d c m n h h.plain h.known h.locked (record {
-            goes = record { beside = h.beside; shadows = first_rows_go d m h.plain h.known h.locked r.id k.instance own x.0 x.1 (Some (fresh v)) opened stands was none by };
-            locked_at_ends = h.locked_at_ends;
-            sane = h.sane;
-            rows = matches;
-            values = λ y. shadow_lists m own undecided_here its_item (Some (fresh v)) y ∙ h.values y;
-            settled = settled_after d c m h n h.plain h.known h.locked matches h.sane (grows_self h.known) frame (shadow_unfinished (fresh v) h.known) (settled h);
-          }) (grows_self h.known) frame
+          kept_moving h n h.plain h.known h.locked (record { beside = h.beside; shadows = first_rows_go d m h.plain h.known h.locked r.id k.instance own x.0 x.1 (Some (fresh v)) opened stands was none by }) h.locked_at_ends h.sane
+          (shadow_made d h.known h.locked m h.rows own its_item (Some (fresh v)) (refl, tt, refl, refl) none refl) (λ y. shadow_lists m own undecided_here its_item (Some (fresh v)) y ∙ h.values y) (settled h) (grows_self h.known)
+          (shadow_frame (fresh v) h.known (nobody_new d h.known) writes) (shadow_unfinished (fresh v) h.known)
 
       first_made : (v : Value) → is_some (txn.op_of e) ≡ true → map.get m (shadow_key own item) ≡ None → ((writes_on item r.func e ≡ true) ⊎ (v ≡ value_at h.plain item)) → Fits e (at.Write Try) → Found e (at.Write Try) (Some (fresh v)) (value_at h.plain item)
           → Leaves (says.On (stage.Tx (at.Write Try)) None) (set_row m (shadow_key own item) (Some (fresh v)))
@@ -352,7 +338,7 @@ module _ (d : Deployment) (c : Core) (m : Rows) (i : ℕ) (r : Run) (g : Begun) 
       keep_by (b ∷ rest) left =
           let z = read_is place own t key b (answer_fits read is (t, key) refl l b rest left) (not_dead read is (t, key) refl l b rest left) in
           let there : map.get m log ≡ Some (rows.ReadLog z.0) = as_run read is (t, key) refl l b rest left (λ y p. map.get m (log_key y.func p) ≡ Some (rows.ReadLog z.0))
-          (behind_looks d m h.known h.locked h.rows r.id k.instance k.made (sane_instance d c m r g h k) k.answers b rest (all_known read is (t, key) refl l b rest left) (short d c m r g h k o here read is (t, key) refl) t key z.0
+          (behind_looks d m h.known h.locked h.rows r.id k.instance k.made (sane_instance h k) k.answers b rest (all_known read is (t, key) refl l b rest left) (short d c m r g h k o here read is (t, key) refl) t key z.0
           (effect_so d c m r g h k o here read is (t, key) refl) z.1) in
           subst Keeps (sym there) (still_row read is (t, key) refl l (says.Answers (answer.Value z.0) None) log (Some (rows.ReadLog z.0)) there (subst (λ y. Leaves (says.Answers y None) m) z.1 (known_again read is (t, key) refl l b rest left)))
 
@@ -450,7 +436,7 @@ module _ (d : Deployment) (c : Core) (m : Rows) (i : ℕ) (r : Run) (g : Begun) 
         let s = shadow_of m own (record { func = k.instance.func; table = t; key = key }) in (
           note.Wrote,
           as_run write is (t, key) refl l b rest left (λ y p. note_at (shadow_of m own y).notes p ≡ Some note.Wrote) (note_told s (note_at s.notes (place_of r.id (length k.answers))) note.Wrote
-              (behind_writes d m h.known h.locked h.rows r.id k.instance k.made (sane_instance d c m r g h k) k.answers b rest (all_known write is (t, key) refl l b rest left) (short d c m r g h k o here write is (t, key) refl) own here (t, key)
+              (behind_writes d m h.known h.locked h.rows r.id k.instance k.made (sane_instance h k) k.answers b rest (all_known write is (t, key) refl l b rest left) (short d c m r g h k o here write is (t, key) refl) own here (t, key)
               (ap touched (effect_so d c m r g h k o here write is (t, key) refl)) t key v (s, did) (effect_so d c m r g h k o here write is (t, key) refl) done)),
           ap (λ z. says.Answers z None) (sym done),
         )
@@ -529,7 +515,7 @@ module _ (d : Deployment) (c : Core) (m : Rows) (i : ℕ) (r : Run) (g : Begun) 
         let s = shadow_of m own (record { func = k.instance.func; table = t; key = key }) in (
           note.Cond told.0,
           as_run test is (t, key) refl l b rest left (λ z p. note_at (shadow_of m own z).notes p ≡ Some (note.Cond told.0)) (note_told s (note_at s.notes (place_of r.id (length k.answers))) (note.Cond told.0)
-              (behind_tests d m h.known h.locked h.rows r.id k.instance k.made (sane_instance d c m r g h k) k.answers b rest (all_known test is (t, key) refl l b rest left) (short d c m r g h k o here test is (t, key) refl) own here (t, key)
+              (behind_tests d m h.known h.locked h.rows r.id k.instance k.made (sane_instance h k) k.answers b rest (all_known test is (t, key) refl l b rest left) (short d c m r g h k o here test is (t, key) refl) own here (t, key)
               (ap touched (effect_so d c m r g h k o here test is (t, key) refl)) t key u y v told.0 (s, did) (effect_so d c m r g h k o here test is (t, key) refl) told.1)),
           ap (λ z. says.Answers z None) (sym told.1),
         )
@@ -600,8 +586,8 @@ module _ (d : Deployment) (c : Core) (m : Rows) (i : ℕ) (r : Run) (g : Begun) 
   working_turn e at.Log is past fits f = cc
   working_turn e (at.Lock w) is past fits f = cc
   working_turn (effect.Read t key) at.Shadow is past fits f = shadow_turn t key is (record { asked = f.asked refl; got = f.locked })
-  working_turn (effect.Read t key) at.Item is past fits f = item_turn t key is (record { asked = f.asked refl; got = f.locked }) (λ left. f.found k.instance k.made (sym (step_here d c.book h.known r g k left)))
-  working_turn (effect.Read t key) (at.Keep v) is past fits f = keep_turn t key is (record { asked = f.asked refl; got = f.locked }) v (λ left. f.found k.instance k.made (sym (step_here d c.book h.known r g k left)))
+  working_turn (effect.Read t key) at.Item is past fits f = item_turn t key is (record { asked = f.asked refl; got = f.locked }) (λ left. f.found k.instance k.made (sym (step_here k left)))
+  working_turn (effect.Read t key) (at.Keep v) is past fits f = keep_turn t key is (record { asked = f.asked refl; got = f.locked }) v (λ left. f.found k.instance k.made (sym (step_here k left)))
   working_turn (effect.Read t key) (at.Head v) is past fits f = absurd fits
   working_turn (effect.Read t key) (at.Write w) is past fits f = absurd fits
   working_turn (effect.Write t key v) (at.Write w) is past fits f = write_turn t key v is (record { asked = f.asked refl; got = f.locked }) w
@@ -609,8 +595,8 @@ module _ (d : Deployment) (c : Core) (m : Rows) (i : ℕ) (r : Run) (g : Begun) 
   working_turn (effect.CondWrite t key u y v) at.Shadow is past fits f = seek_turn t key u y v is (record { asked = f.asked refl; got = f.locked })
   working_turn (effect.CondWrite t key u y v) at.Item is past fits f = value_turn t key u y v is (record { asked = f.asked refl; got = f.locked })
   working_turn (effect.CondWrite t key u y v) (at.Keep w) is past fits f = absurd fits
-  working_turn (effect.CondWrite t key u y v) (at.Head w) is past fits f = head_turn t key u y v is (record { asked = f.asked refl; got = f.locked }) w (λ left. f.found k.instance k.made (sym (step_here d c.book h.known r g k left)))
-  working_turn (effect.CondWrite t key u y v) (at.Write w) is past fits f = test_turn t key u y v is (record { asked = f.asked refl; got = f.locked }) (λ left. f.found k.instance k.made (sym (step_here d c.book h.known r g k left))) w
+  working_turn (effect.CondWrite t key u y v) (at.Head w) is past fits f = head_turn t key u y v is (record { asked = f.asked refl; got = f.locked }) w (λ left. f.found k.instance k.made (sym (step_here k left)))
+  working_turn (effect.CondWrite t key u y v) (at.Write w) is past fits f = test_turn t key u y v is (record { asked = f.asked refl; got = f.locked }) (λ left. f.found k.instance k.made (sym (step_here k left))) w
   working_turn e b is past fits f = absurd fits
 
 -- ---- of a run that stands in a transaction, as its stage asks it

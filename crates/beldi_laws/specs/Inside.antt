@@ -2,7 +2,6 @@
 use Rattle.std.specs.Prelude.{◌≡◌, ◌⊎◌, ℕ, ◌<◌, Bool, true, false, List, length, is_some, Option, Some, None}
 use Rattle.std.specs.FinMap as map
 use Rattle.std.specs.Option.{option_map}
-use Rattle.beldi_value.specs.Id.{has_no_hops}
 use Rattle.beldi_value.specs.declared.id.IntentId.{IntentId}
 use Rattle.beldi_value.specs.declared.place.Owner.TheVariants.{Tx as ByTx}
 use Rattle.beldi_value.specs.declared.place.Place.{Place}
@@ -10,7 +9,7 @@ use Rattle.beldi_value.specs.declared.place.TxId.{TxId}
 use Rattle.beldi_value.specs.declared.value.Value.{Value}
 use Rattle.beldi_tree.specs.declared.deployment.Deployment.{Deployment}
 use Rattle.beldi_lang.specs.declared.effect.Effect.{Effect}
-use Rattle.beldi_lang.specs.declared.effect.Effect.TheVariants.{Read, CondWrite, End}
+use Rattle.beldi_lang.specs.declared.effect.Effect.TheVariants.{Read, CondWrite}
 use Rattle.beldi_row.specs.Key.{RowKey}
 use Rattle.beldi_row.specs.declared.notes.Note.{Note}
 use Rattle.beldi_row.specs.declared.row.Row.{Row}
@@ -27,21 +26,15 @@ use Rattle.beldi_txn.specs.Tx.{op_of}
 use Rattle.beldi_txn.specs.End.{end_place, first_end}
 use Rattle.beldi_txn.specs.Invokes.{func_called}
 use Rattle.beldi_txn.specs.TxTurn.{HasLock}
-use Rattle.beldi_txn.specs.Visited.{AreReleased, Visited}
+use Rattle.beldi_txn.specs.Visited.{AreReleased}
 use Rattle.beldi_invokelog.specs.InvokeLog.{invoke_key}
 use Rattle.beldi_known.specs.Stands.{key_in}
 use Rattle.beldi_plain.specs.Item.{Item}
-use Rattle.beldi_plain.specs.Operation.{touched}
 use Rattle.beldi_plain.specs.Plain.{Instance, PlainState, value_at, effect_of}
 use Rattle.beldi_order.specs.Inside.{IsBelow}
 use Rattle.beldi_order.specs.Txs.{tx_now}
-use Rattle.beldi_step.specs.declared.run.Begun.{Begun}
 use Rattle.beldi_step.specs.declared.run.OpenTx.{OpenTx}
 use Rattle.beldi_step.specs.declared.run.RunTx.{RunTx}
-use Rattle.beldi_step.specs.declared.run.RunTx.TheVariants.{Own}
-use Rattle.beldi_step.specs.declared.run.Run.{Run}
-use Rattle.beldi_step.specs.declared.run.Stage.{Stage}
-use Rattle.beldi_step.specs.declared.run.Stage.TheVariants as stage
 use Rattle.beldi_step.specs.Run.{begin_of, own_tx, place_of, tx_of}
 use Rattle.beldi_step.specs.Tables.{value_in}
 use Rattle.beldi_known.specs.Contents.{content_of, lockset_key, shadow_key}
@@ -84,21 +77,9 @@ InItem d m p known id func o step e a (Some i) = InOperation d m p known id func
 abbrev pub end_walk : IntentId → ℕ → OpenTx → ℕ → Bool → Visit → EndWalk
 end_walk id func o step commit v = record { tx = own_tx id func o; end = step; commit = commit; visit = v }
 
--- ---- a run
-abbrev pub AtStage : Deployment → Rows → PlainState → Known → IntentId → ℕ → Option RunTx → ℕ → Effect → Stage → Type 0
-AtStage d m p known id func (Some o) step e (stage.Tx a) = InItem d m p known id func o step e a (touched e)
-AtStage d m p known id func (Some (Own o)) step (End commit) (stage.End v) = Visited (end_walk id func o step commit v) m
-AtStage d m p known id func o step e s = Unit {0}
-
 -- past the end of a transaction it owns nothing
 abbrev pub Released : Deployment → Rows → Known → IntentId → ℕ → Type 0
 Released d m known id step = (t : TxId) (z : ℕ × Bool) → t.intent ≡ id → tx_end d known t ≡ Some z → z.0 < step → (x : Item) → (content_of m x).owner ≡ Some (ByTx t) → ⊥
-
-pub record Inside (d : Deployment) (m : Rows) (p : PlainState) (known : Known) (r : Run) (g : Begun) : Type 0 where
-  pub here : AtStage d m p known r.id r.func g.tx g.machine.steps g.machine.effect g.stage
-  pub released : Released d m known r.id g.machine.steps
-  -- a callee's row was registered before it began
-  pub row : has_no_hops r.id.hops ≡ false → is_some (map.get m (key_in r.func r.id)) ≡ true
 
 -- ---- who took part in a transaction
 pub record TookPart (known : Known) (t : TxId) (i : IntentId) : Type 0 where

@@ -10,8 +10,9 @@ use Rattle.beldi_value.specs.declared.value.Value.{Value}
 use Rattle.beldi_tree.specs.declared.deployment.Deployment.{Deployment}
 use Rattle.beldi_lang.specs.declared.effect.Answer.{Answer}
 use Rattle.beldi_lang.specs.declared.effect.Effect.{Effect}
-use Rattle.beldi_lang.specs.declared.effect.Effect.TheVariants.{Read, Write, CondWrite, Lock, Unlock, Call, Async, End, Return}
+use Rattle.beldi_lang.specs.declared.effect.Effect.TheVariants.{Read, Call, Async, End, Return}
 use Rattle.beldi_lang.specs.Machine.{IsAt}
+use Rattle.beldi_lang.specs.declared.machine.Machine.{Machine}
 use Rattle.beldi_row.specs.declared.row.Body.{Body}
 use Rattle.beldi_row.specs.Table.{Rows}
 use Rattle.beldi_book.specs.declared.entry.Entry.{Entry}
@@ -21,9 +22,12 @@ use Rattle.beldi_plain.specs.Item.{Item}
 use Rattle.beldi_plain.specs.Plain.{AllShort}
 use Rattle.beldi_plain.specs.Guard.{IsGuarded}
 use Rattle.beldi_plain.specs.Holds.{holds}
+use Rattle.beldi_plain.specs.Operation.{op_of, touched}
 use Rattle.beldi_plain.specs.Plain.{Instance, PlainState, nothing, value_at}
 use Rattle.beldi_plain.specs.Legal.{run_of}
+use Rattle.beldi_call.specs.declared.async_call.AsyncAt.{AsyncAt}
 use Rattle.beldi_call.specs.declared.async_call.AsyncAt.TheVariants as async
+use Rattle.beldi_call.specs.declared.call.CallAt.{CallAt}
 use Rattle.beldi_call.specs.declared.call.CallAt.TheVariants as call
 use Rattle.beldi_step.specs.declared.run.Run.{Run}
 use Rattle.beldi_step.specs.declared.run.RunAt as standing
@@ -31,6 +35,7 @@ use Rattle.beldi_step.specs.declared.run.RunAt.TheVariants.{Looks, Registers, Be
 use Rattle.beldi_txn.specs.declared.end.EndAt.{EndAt}
 use Rattle.beldi_txn.specs.declared.end.EndAt.TheVariants.{Decide}
 use Rattle.beldi_txn.specs.TxTurn.{Fits}
+use Rattle.beldi_txn.specs.Visited.{Visited}
 use Rattle.beldi_step.specs.declared.run.RunTx.{RunTx}
 use Rattle.beldi_step.specs.declared.run.RunTx.TheVariants.{Own}
 use Rattle.beldi_step.specs.Run.{is_waited, open_after, end_mark, within}
@@ -41,58 +46,38 @@ use Rattle.beldi_intent.specs.Intent.{root_key}
 use Rattle.beldi_step.specs.Host.{Core, most_runs}
 use Rattle.beldi_known.specs.Rows.{IsBodyOf}
 use Rattle.beldi_known.specs.Known.{Known}
-use Rattle.beldi_order.specs.Txs.{along, effect_after, tx_after}
+use Rattle.beldi_order.specs.Txs.{along, effect_after}
 use Rattle.beldi_known.specs.Matches.{Matches, LockedAtEnds}
 use Rattle.beldi_known.specs.Sane.{Sane}
-use Rattle.beldi_laws.specs.Inside.{Inside, OwnedAreUnmarked, OwnersCallNobody, ParticipantsAreReleased, ParticipantsHaveRows}
+use Rattle.beldi_laws.specs.Stands.{key_in}
+use Rattle.beldi_laws.specs.Inside.{InItem, Released, end_walk, OwnedAreUnmarked, OwnersCallNobody, ParticipantsAreReleased, ParticipantsHaveRows}
 use Rattle.beldi_known.specs.Beside.{Beside}
 use Rattle.beldi_known.specs.InsideLaws.{HoldersInsideAreMade}
 use Rattle.beldi_known.specs.Listed.{listed}
 use Rattle.beldi_known.specs.Shadows.{Shadows}
 
--- ---- what a run knows
--- an end is past its decision
-abbrev pub is_past : EndAt → Bool
-is_past Decide = false
-is_past a = true
-
--- where an effect of an intent may stand, inside a transaction or outside, whose caller this is
-abbrev pub StageOk : Bool → IntentId → Option Caller → Effect → Stage → Type 0
-StageOk inside id c (Call f a) (stage.Call at) = has_callees id ≡ true
-StageOk inside id c (Return o) stage.Back = is_waited c ≡ true
-StageOk false id c (Read t k) stage.Ask = Unit {0}
-StageOk false id c (Read t k) stage.Walk = Unit {0}
-StageOk false id c (Read t k) (stage.Keep v seen) = Unit {0}
-StageOk false id c (Write t k v) (stage.Write at) = Unit {0}
-StageOk false id c (CondWrite t k r o v) (stage.Write at) = Unit {0}
-StageOk false id c (Lock t k) (stage.Write at) = Unit {0}
-StageOk false id c (Unlock t k) (stage.Write at) = Unit {0}
-StageOk false id c (Async f a) (stage.Async at) = has_callees id ≡ true
-StageOk false id c (Return o) stage.Tell = is_waited c ≡ false
-StageOk false id c (Return o) stage.Close = Unit {0}
-StageOk true id c (Return o) stage.Close = is_waited c ≡ true
-StageOk true id c e (stage.Tx at) = Fits e at
-StageOk true id c (End commit) (stage.Decide m) = Unit {0}
-StageOk true id c (End commit) (stage.End v) = is_past v.at ≡ true
-StageOk inside id c e s = ⊥
-
+-- ---- where a run stands
 -- what a run is in after these answers: the transaction that it was called in, or its own one, with what was aborted in it
 abbrev pub open_of : Deployment → Instance → List Answer → Option RunTx
 open_of d q given = along (λ ts a o. open_after (length ts) (effect_after d q ts) a o) [] given (within q.within)
 
--- a run that is to decide has the mark of its transaction
-abbrev pub MarkOk : IntentId → ℕ → Option RunTx → Effect → Stage → Type 0
-MarkOk id step (Some (Own o)) (End commit) (stage.Decide m) = m ≡ end_mark id step o.cause commit
-MarkOk id step o e s = Unit {0}
+-- a run of an intent, of a function, with this caller, machine and open transaction
+pub record StandsAt (d : Deployment) (known : Known) (id : IntentId) (home : ℕ) (c : Option Caller) (s : Machine) (o : Option RunTx) : Type 0 where
+  -- its instance is known, and has its function
+  pub instance : Instance
+  pub made : map.get known id ≡ Some instance
+  pub func : instance.func ≡ home
+  pub caller : c ≡ instance.from
+  -- what it was answered is how the known answers begin
+  pub answers : List Answer
+  pub later : List Answer
+  pub run_answers : answers ++ later ≡ instance.answers
+  -- its machine stands where these answers lead
+  pub machine : IsAt d home instance.args (is_some instance.within) s answers
+  pub run_open : o ≡ open_of d instance answers
 
--- what a run has seen done for its instance: a call that it waits for was opened, and an outcome that a caller waits for was given
--- back before the end
-abbrev pub SeenDone : Known → IntentId → ℕ → Instance → Option Caller → Stage → Type 0
-SeenDone known id step q c (stage.Call call.Look) = is_some (map.get known (child_of id step)) ≡ true
-SeenDone known id step q c (stage.Async async.Register) = is_some (map.get known (child_of id step)) ≡ true
-SeenDone known id step q c (stage.Async async.Note) = is_some (map.get known (child_of id step)) ≡ true
-SeenDone known id step q c stage.Close = is_waited c ≡ true → is_some q.outcome ≡ true
-SeenDone known id step q c s = Unit {0}
+abbrev pub Knows : Deployment → Known → Run → Begun → Type 0
+Knows d known r g = StandsAt d known r.id r.func g.caller g.machine g.tx
 
 -- where a read belongs after the first `seen` changes: there its instance had these answers, and the item had this value and
 -- was not locked by another
@@ -110,30 +95,47 @@ pub record Keeps (d : Deployment) (book : List Entry) (id : IntentId) (answers l
   pub few : seen ≤ count_changes book
   pub was_there : later ≡ [] → WasThere d book id answers x v seen
 
--- what it knows of the place of its read
-abbrev pub PlaceOk : Deployment → List Entry → IntentId → ℕ → List Answer → List Answer → Effect → Stage → Type 0
-PlaceOk d book id func answers later (Read t k) (stage.Keep v seen) = Keeps d book id answers later (record { func = func; table = t; key = k }) v seen
-PlaceOk d book id func answers later e s = Unit {0}
+-- an end is past its decision
+abbrev pub is_past : EndAt → Bool
+is_past Decide = false
+is_past a = true
 
--- what a run that has begun knows
-pub record Knows (d : Deployment) (book : List Entry) (known : Known) (r : Run) (g : Begun) : Type 0 where
-  -- its instance is known, and has its function
-  pub instance : Instance
-  pub made : map.get known r.id ≡ Some instance
-  pub func : instance.func ≡ r.func
-  pub caller : g.caller ≡ instance.from
-  -- what it was answered is how the known answers begin
-  pub answers : List Answer
-  pub later : List Answer
-  pub run_answers : answers ++ later ≡ instance.answers
-  -- its machine stands where these answers lead, and its stage is one of the effect there
-  pub machine : IsAt d r.func instance.args (is_some instance.within) g.machine answers
-  pub run_open : g.tx ≡ open_of d instance answers
-  pub run_stage : StageOk (is_some (tx_after d r.id instance answers)) r.id g.caller g.machine.effect g.stage
-  pub run_mark : MarkOk r.id g.machine.steps g.tx g.machine.effect g.stage
-  pub run_done : SeenDone known r.id g.machine.steps instance g.caller g.stage
-  -- where it is to keep a value, it knows where its read belongs
-  pub run_place : PlaceOk d book r.id r.func answers later g.machine.effect g.stage
+-- a call was opened
+abbrev pub is_opened : CallAt → Bool
+is_opened call.Open = false
+is_opened call.Look = true
+
+-- .. that nobody waits for
+abbrev pub is_sent : AsyncAt → Bool
+is_sent async.Open = false
+is_sent a = true
+
+-- ---- what a run knows and has found in the rows, at each stage of its effect
+module _ {d : Deployment} (m : Rows) (p : PlainState) (book : List Entry) {known : Known} {id : IntentId} {home : ℕ} {c : Option Caller} {s : Machine} {o : Option RunTx} (k : StandsAt d known id home c s o) where
+  abbrev pub AtStage : Stage → Effect → Option RunTx → Type 0
+  -- outside a transaction: where a value is to be kept, where its read belongs
+  AtStage stage.Ask (Read t x) None = Unit {0}
+  AtStage stage.Walk (Read t x) None = Unit {0}
+  AtStage (stage.Keep v seen) (Read t x) None = Keeps d book id k.answers k.later (record { func = home; table = t; key = x }) v seen
+  AtStage (stage.Write at) e None = is_some (op_of e) ≡ true
+  -- what it opened is known
+  AtStage (stage.Async at) (Async f a) None = (has_callees id ≡ true) × (is_sent at ≡ true → is_some (map.get known (child_of id s.steps)) ≡ true)
+  AtStage (stage.Call at) (Call f a) o = (has_callees id ≡ true) × (is_opened at ≡ true → is_some (map.get known (child_of id s.steps)) ≡ true)
+  -- an outcome that a caller waits for was given back before the end
+  AtStage stage.Back (Return u) o = is_waited c ≡ true
+  AtStage stage.Tell (Return u) None = is_waited c ≡ false
+  AtStage stage.Close (Return u) o = (is_some o ≡ true → is_waited c ≡ true) × (is_waited c ≡ true → is_some k.instance.outcome ≡ true)
+  -- inside one: what the operation found, the mark of the decision, and what was visited
+  AtStage (stage.Tx a) e (Some o) = Fits e a × InItem d m p known id home o s.steps e a (touched e)
+  AtStage (stage.Decide w) (End commit) (Some (Own o)) = w ≡ end_mark id s.steps o.cause commit
+  AtStage (stage.End v) (End commit) (Some (Own o)) = (is_past v.at ≡ true) × Visited (end_walk id home o s.steps commit v) m
+  AtStage w e o = ⊥
+
+  -- a run at a stage: past the ends of its transactions it owns nothing, and a callee's row was registered before it began
+  pub record Inside (w : Stage) : Type 0 where
+    pub here : AtStage w s.effect o
+    pub released : Released d m known id s.steps
+    pub row : has_no_hops id.hops ≡ false → is_some (map.get m (key_in home id)) ≡ true
 
 -- the body that a call gave a run is that of its instance, and of its function
 pub record KnowsBody (known : Known) (r : Run) (b : Body) : Type 0 where
@@ -145,7 +147,7 @@ pub record KnowsBody (known : Known) (r : Run) (b : Body) : Type 0 where
 abbrev pub KnowsAt : Deployment → Rows → PlainState → List Entry → Known → Run → standing.RunAt → Type 0
 KnowsAt d m p book known r Looks = Unit {0}
 KnowsAt d m p book known r (Registers b) = KnowsBody known r b
-KnowsAt d m p book known r (Begins g) = Knows d book known r g × Inside d m p known r g
+KnowsAt d m p book known r (Begins g) = (k : Knows d known r g) × Inside m p book k g.stage
 
 -- the run of a number, if it is live, knows so much
 abbrev pub RunAt : Deployment → Rows → PlainState → List Entry → Known → Option Run → Type 0
