@@ -43,8 +43,7 @@ pub free_of : (t : TxId) (o : Option Owner) → barred Lock (Tx t) o ≡ None �
 free_of t o = by_other (other_owner (Tx t) o)
   where
     by_age : (w : Owner) (b : Bool) → held_by (if b then Some w else None) ≡ None → (if b then None else Some (age_of w)) ≡ None → Some w ≡ None
-    by_age w true h g = cc
-    by_age w false h g = cc
+    by_age w b h g = grind arith
 
     by_other : (u : Option Owner) → held_by (waited (Tx t) u) ≡ None → died_of (Tx t) u ≡ None → u ≡ None
     by_other None h g = refl
@@ -120,8 +119,7 @@ module _ (d : Deployment) (m : Rows) (known : Known) (locked : IntentId → Bool
   holder_made p beside x holder same h = by_owner h.owner h.owns h.age
     where
       held_there : (o : Option Instance) → holds d x o ≡ true → is_some o ≡ true
-      held_there None e = cc
-      held_there (Some z) e = refl
+      held_there o e = grind arith
 
       by_plain : (t : TxId) → WasOpen t → (o : Option Instance) → map.get p.made t.intent ≡ o → is_some o ≡ true
       by_plain t w None made = let clash = sym w.outside ∙ (beside.kept t.intent w.owner made w.made).within in cc

@@ -1,6 +1,6 @@
 -- What a transaction that has ended owns, one that took part asked the lock of. So where all who took part have given back all, it owns
 -- nothing.
-use Rattle.beldi_laws.proofs.Names.{AllFreed, AllReleased, AllShort, Answer, Bool, Deployment, Instance, IntentId, Item, Known, List, LockedAtEnds, LockedIf, LocksetMatches, Matches, Member, None, Option, Row, Rows, Sane, Some, Tx, TxId, [], and_parts, ap, asked_own, begins_at, content_of, effect_after, effect_of, eq-eqb, false, first_end, gathered, got_before, got_by, inl, inr, is_aborted, is_item, is_its, is_on, is_tx, item_same, length, lockset_ahead, lockset_key, lockset_there, not, now_open, or_own, owed_lockset, owns, refl, subst, sym, touched, true, tx_after, tx_by, tx_end, tx_now, tx_self, txs_after, visited_by, ℕ, ◌&&◌, ◌++◌, ◌||◌, ◌∙◌, ◌∷◌, ◌≡◌, ◌⊎◌}
+use Rattle.beldi_laws.proofs.Names.{AllFreed, AllReleased, AllShort, Answer, Bool, Deployment, Instance, IntentId, Item, Known, List, LockedAtEnds, LockedIf, LocksetMatches, Matches, Member, None, Option, Row, Rows, Sane, Some, Tx, TxId, [], and_parts, ap, arith, asked_own, begins_at, content_of, effect_after, effect_of, eq-eqb, false, first_end, gathered, got_before, got_by, inl, inr, is_aborted, is_item, is_its, is_on, is_tx, item_same, length, lockset_ahead, lockset_key, lockset_there, not, now_open, or_own, owed_lockset, owns, refl, subst, sym, touched, true, tx_after, tx_by, tx_end, tx_now, tx_self, txs_after, visited_by, ℕ, ◌&&◌, ◌++◌, ◌||◌, ◌∙◌, ◌∷◌, ◌≡◌, ◌⊎◌}
 use Rattle.beldi_laws.proofs.Names.kinds
 use Rattle.beldi_laws.proofs.Names.map
 use Rattle.beldi_laws.proofs.Names.rows
@@ -11,9 +11,7 @@ of_function x func None h = cc
 of_function x func (Some k) h = ap (λ (y : Item). y.func) (sym (item_same (record { func = func; table = k.0; key = k.1 }) x h))
 
 row_owed : (r : Option Row) (ahead : Bool) → LocksetMatches r true ahead → r ≡ Some rows.Lockset
-row_owed None ahead h = cc
-row_owed (Some rows.Lockset) ahead h = refl
-row_owed (Some r) ahead h = absurd h
+row_owed r ahead h = grind arith
 
 -- a member's function has the item, and the row is there
 pub record HasAsked (m : Rows) (known : Known) (t : TxId) (x : Item) : Type 0 where

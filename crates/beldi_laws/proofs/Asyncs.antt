@@ -1,5 +1,5 @@
 -- The turns of a call that nobody waits for: it is opened once, its callee's row is put, and then it is marked as registered.
-use Rattle.beldi_laws.proofs.Names.{Absent, AlreadySet, Answer, Async, AsyncAt, Begins, Begun, Body, Bool, CallMatches, Core, Deployment, Done, Ends, Grows, Inside, Instance, IntentId, InvokeRow, IsBodyOf, Known, Knows, KnowsAt, List, Looks, Matches, None, NoteRegistered, On, OpenInvoke, Option, Place, PlainState, Register, Right, Row, RowKey, Rows, Run, Says, Set, Some, Step, Tell, Value, [], act, after_act, ahead_set, ap, async_answer, async_asks, async_here_asks, async_here_says, async_says, at_once, back_of, call_answered, callee_at, callee_body, callee_by, callee_of, calls_at, child_of, commit_in, effect_before, effect_of, elsewhere, false, grows_through, has_callees, here, if◌then◌else◌, inl, intent_key, invoke_key, is_sent, is_some, issued_at, known_set, length, look_asks, moved, moved_one, new_instance, no_own_callee, no_root_key, none_out, note_says, op_of, open_says, opened, origin_stays, owed_call, place_of, refl, registered_asks, root_key, row_added, run_called, said, same_some, set_others, set_row, step_by, subst, sym, true, turn_next, turned_by, tx_after, tx_now, txs_after, ℕ, ◌∙◌, ◌∷◌, ◌≡◌}
+use Rattle.beldi_laws.proofs.Names.{Absent, AlreadySet, Answer, Async, AsyncAt, Begins, Begun, Body, Bool, CallMatches, Core, Deployment, Done, Ends, Grows, Inside, Instance, IntentId, InvokeRow, IsBodyOf, Known, Knows, KnowsAt, List, Looks, Matches, None, NoteRegistered, On, OpenInvoke, Option, Place, PlainState, Register, Right, Row, RowKey, Rows, Run, Says, Set, Some, Step, Tell, Value, [], act, after_act, ahead_set, ap, arith, async_answer, async_asks, async_here_asks, async_here_says, async_says, at_once, back_of, call_answered, callee_at, callee_body, callee_by, callee_of, calls_at, child_of, commit_in, effect_before, effect_of, elsewhere, false, grows_through, has_callees, here, if◌then◌else◌, inl, intent_key, invoke_key, is_sent, is_some, issued_at, known_set, length, look_asks, moved, moved_one, new_instance, no_own_callee, no_root_key, none_out, note_says, op_of, open_says, opened, origin_stays, owed_call, place_of, refl, registered_asks, root_key, row_added, run_called, said, same_some, set_others, set_row, step_by, subst, sym, true, turn_next, turned_by, tx_after, tx_now, txs_after, ℕ, ◌∙◌, ◌∷◌, ◌≡◌}
 use Rattle.beldi_laws.proofs.Names.async
 use Rattle.beldi_laws.proofs.Names.back
 use Rattle.beldi_laws.proofs.Names.kinds
@@ -94,8 +94,7 @@ module _ (d : Deployment) (c : Core) (m : Rows) (i : ℕ) (r : Run) (g : Begun) 
         (callee_row d c m r g h k finds false f v is hops new left None refl)
       where
         no_row : (n : ℕ) (b : Option ℕ) → row_added n b (Async f v) Done ≡ None
-        no_row n None = refl
-        no_row n (Some b) = refl
+        no_row n b = grind arith
 
     grows : Grows h.known next
     grows = grows_through h.known given next (callee_grows d c m r g h k finds false f v is hops new left None refl) (grows_moved d given r.id k.instance Done caller_given)

@@ -1,5 +1,5 @@
 -- The turns of a call: it is opened once, and waits for its result.
-use Rattle.beldi_laws.proofs.Names.{Answer, Answers, Begins, Begun, Bool, Call, CallAt, CallMatches, Core, Deployment, Ends, Entry, Goes, Grows, Inside, Instance, IntentId, InvokeRow, Item, Known, Knows, KnowsAt, List, Look, None, OpenInvoke, Opens, Option, Outcome, Place, PlainState, Right, Row, RowKey, Rows, Run, RunAt, RunTx, Sane, Says, Some, Step, Tell, TxId, Value, Waits, [], act, answer_of, ap, at_once, at_stage, call_answer, call_asks, call_here_says, call_says, callee_at, callee_of, calls_at, calls_go, child_of, effect_before, false, grows_self, has_callees, if◌then◌else◌, invoke_key, is_begin, is_opened, is_some, is_waited, listed, look_says, no_root_key, opened, opens_are_open, option_map, owed_call, place_of, refl, result_of, root_key, run_called, run_tx, set_others, set_row, step_by, step_mark, subst, sym, true, turn_next, turned_by, tx_after, tx_now, tx_of, value_at, ℕ, ◌++◌, ◌∙◌, ◌∷◌, ◌≡◌}
+use Rattle.beldi_laws.proofs.Names.{Answer, Answers, Begins, Begun, Bool, Call, CallAt, CallMatches, Core, Deployment, Ends, Entry, Goes, Grows, Inside, Instance, IntentId, InvokeRow, Item, Known, Knows, KnowsAt, List, Look, None, OpenInvoke, Opens, Option, Outcome, Place, PlainState, Right, Row, RowKey, Rows, Run, RunAt, RunTx, Sane, Says, Some, Step, Tell, TxId, Value, Waits, [], act, answer_of, ap, arith, at_once, at_stage, call_answer, call_asks, call_here_says, call_says, callee_at, callee_of, calls_at, calls_go, child_of, effect_before, false, grows_self, has_callees, if◌then◌else◌, invoke_key, is_begin, is_opened, is_some, is_waited, listed, look_says, no_root_key, opened, opens_are_open, option_map, owed_call, place_of, refl, result_of, root_key, run_called, run_tx, set_others, set_row, step_by, step_mark, subst, sym, true, turn_next, turned_by, tx_after, tx_now, tx_of, value_at, ℕ, ◌++◌, ◌∙◌, ◌∷◌, ◌≡◌}
 use Rattle.beldi_laws.proofs.Names.call
 use Rattle.beldi_laws.proofs.Names.kinds
 use Rattle.beldi_laws.proofs.Names.map
@@ -21,8 +21,7 @@ use Rattle.beldi_laws.proofs.Grown.{grown_same}
 
 -- a call that is there already made no entry
 again_unmarked : (o : Option RunTx) → step_mark o false ≡ None
-again_unmarked None = refl
-again_unmarked (Some x) = refl
+again_unmarked o = grind arith
 
 module _ (d : Deployment) (c : Core) (m : Rows) (i : ℕ) (r : Run) (g : Begun) (h : Right d c m) (live : map.get c.runs i ≡ Some r) (at_is : r.at ≡ Begins g) (k : Knows d h.known r g) (finds : Inside m h.plain c.book k g.stage) (f : ℕ) (v : Value) (is : g.machine.effect ≡ Call f v) (hops : has_callees r.id ≡ true) where
   abbrev place : Place
@@ -45,8 +44,7 @@ module _ (d : Deployment) (c : Core) (m : Rows) (i : ℕ) (r : Run) (g : Begun) 
   answered_by u j at result later left = given_first (answer_of u) later (first_given d c m r g h k true f v call_here j at later left ∙ ap (option_map answer_of) (by_wait (is_waited j.from) result))
     where
       by_wait : (t : Bool) → (if t then j.outcome else None) ≡ Some u → j.outcome ≡ Some u
-      by_wait true is = is
-      by_wait false is = cc
+      by_wait t is = grind arith
 
   done : (u : Outcome) (z : ℕ × Option Outcome) → owed_call h.known r.func place ≡ Some z → z.1 ≡ Some u → Left (Answers (answer_of u) None) m
   done u z there result =

@@ -142,8 +142,7 @@ module _ (d : Deployment) (c : Core) (m : Rows) (r : Run) (g : Begun) (h : Right
   no_outcome = not_over h k left (subst (λ e. IsTrue (wants_answer e)) (sym is) (by_wait w))
     where
       by_wait : (b : Bool) → IsTrue (wants_answer (call_of b f v))
-      by_wait true = refl
-      by_wait false = refl
+      by_wait b = grind arith
 
 -- .. its callee is in this transaction, if any
 module _ (d : Deployment) (c : Core) (m : Rows) (r : Run) (g : Begun) (h : Right d c m) (k : Knows d h.known r g) (finds : Inside m h.plain c.book k g.stage)
@@ -198,8 +197,7 @@ module _ (d : Deployment) (c : Core) (m : Rows) (r : Run) (g : Begun) (h : Right
   open_still u is_tx = now_open d h.known h.sane r.id k.instance u k.made (no_outcome d c m r g h k w f v is new left) (by_wait w (sym inner ∙ is_tx))
     where
       by_wait : (b : Bool) → within_by b (tx_now d r.id k.instance) ≡ Some u → tx_now d r.id k.instance ≡ Some u
-      by_wait true e = e
-      by_wait false e = cc
+      by_wait b e = grind arith
 
   ends_same : (u : TxId) → tx_end d given u ≡ tx_end d h.known u
   ends_same u = made_set h.known made_id made_on (λ j o. ended_by d u.begin o ≡ ended_by d u.begin (map.get h.known j)) ((at_once_same d made_id made_new).ends u.begin ∙ ap (ended_by d u.begin) (sym absent)) (λ j. refl) u.intent
@@ -236,9 +234,7 @@ module _ (d : Deployment) (c : Core) (m : Rows) (i : ℕ) (r : Run) (g : Begun) 
   no_begin = ap (λ e. is_none k.instance.outcome && is_begin e) now ∙ by_outcome k.instance.outcome w
     where
       by_outcome : (o : Option Outcome) (b : Bool) → (is_none o && is_begin (call_of b f v)) ≡ false
-      by_outcome None true = refl
-      by_outcome None false = refl
-      by_outcome (Some u) b = refl
+      by_outcome o b = grind arith
 
   pub call_entered : (next : Known) → Entered d c h.plain h.known (Step r.id) (step_by h.plain r.id k.instance (call_of w f v)) next
   call_entered next = change_entered d c m h (Step r.id) (step_by h.plain r.id k.instance (call_of w f v)) next refl
@@ -254,8 +250,7 @@ module _ (d : Deployment) (c : Core) (m : Rows) (i : ℕ) (r : Run) (g : Begun) 
       is_change false = ap (λ t. if t then kind.Change else kind.Unbuilt) hops
 
       touches : (b : Bool) → item_touched k.instance (call_of b f v) ≡ None
-      touches true = refl
-      touches false = refl
+      touches b = grind arith
 
   -- the callee is made in both
   abbrev rows_now : Rows

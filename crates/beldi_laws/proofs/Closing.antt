@@ -1,5 +1,5 @@
 -- Who took part in a transaction that has ended, and has its finish, has given back all: whatever row changes, unless it is such a finish.
-use Rattle.beldi_laws.proofs.Names.{AllFreed, AreClosed, AreReleased, Body, Bool, ByTx, CalleeBodyMatches, CalleeMatches, Core, Deployment, EndWalk, FinishMatches, Frame, Grown, GrownAt, Grows, Instance, Intent, IntentId, IntentMatches, IsBodyOf, IsReleased, Known, Matches, Member, None, Option, Owner, ParticipantsAreReleased, ParticipantsHaveRows, PlainState, Right, Row, Rows, Sane, Some, TookPart, TxId, ap, decided_over, end_of, ended_by, ended_stays, false, first_end, has_ended, has_finish, inr, is_closed, is_own, is_some, key_in, lock_row, owns, refl, row_closed, same_some, subst, sym, true, tx_end, tx_in, tx_same, tx_self, txs_after, visited_by, ℕ, ◌∙◌, ◌∷◌, ◌≡◌}
+use Rattle.beldi_laws.proofs.Names.{AllFreed, AreClosed, AreReleased, Body, Bool, ByTx, CalleeBodyMatches, CalleeMatches, Core, Deployment, EndWalk, FinishMatches, Frame, Grown, GrownAt, Grows, Instance, Intent, IntentId, IntentMatches, IsBodyOf, IsReleased, Known, Matches, Member, None, Option, Owner, ParticipantsAreReleased, ParticipantsHaveRows, PlainState, Right, Row, Rows, Sane, Some, TookPart, TxId, ap, arith, decided_over, end_of, ended_by, ended_stays, false, first_end, has_ended, has_finish, inr, is_closed, is_own, is_some, key_in, lock_row, owns, refl, row_closed, same_some, subst, sym, true, tx_end, tx_in, tx_same, tx_self, txs_after, visited_by, ℕ, ◌∙◌, ◌∷◌, ◌≡◌}
 use Rattle.beldi_laws.proofs.Names.map
 use Rattle.beldi_laws.proofs.Names.rows
 use Rattle.beldi_txn.specs.Visited.{item_in}
@@ -33,14 +33,10 @@ ended_grows d known next t z grows = at_owner (map.get known t.intent) (map.get 
 -- ---- the row of who took part
 -- it is closed by its finish
 finish_of : (ended : TxId → Bool) (home : ℕ) (r : Option Row) (i : Option Instance) → CalleeMatches ended home r i → is_some r ≡ true → row_closed r ≡ true → has_finish r ≡ true
-finish_of ended home None i h there closed = cc
-finish_of ended home (Some (rows.Intent r)) i h there closed = closed
-finish_of ended home (Some r) i h there closed = absurd h
+finish_of ended home r i h there closed = grind arith
 
 closed_by : (r : Option Row) → has_finish r ≡ true → row_closed r ≡ true
-closed_by (Some (rows.Intent i)) h = h
-closed_by None h = cc
-closed_by (Some r) h = cc
+closed_by r h = grind arith
 
 -- which it has only where its transaction has ended
 ended_for : (ended : TxId → Bool) (home : ℕ) (r : Option Row) (q : Instance) (t : TxId) → q.within ≡ Some t → CalleeMatches ended home r (Some q) → has_finish r ≡ true → ended t ≡ true

@@ -3,7 +3,6 @@ use Rattle.beldi_laws.proofs.Names.{Answer, Beside, Bool, Deployment, Grown, Ins
 use Rattle.beldi_laws.proofs.Names.effect
 use Rattle.beldi_laws.proofs.Names.map
 use Rattle.beldi_laws.proofs.Names.plain
-use Rattle.beldi_laws.proofs.Names.rows
 use Rattle.beldi_laws.proofs.Closing.{end_grows}
 use Rattle.beldi_laws.proofs.Outside.{known_of, made_of}
 
@@ -42,9 +41,7 @@ module _ (d : Deployment) (known : Known) (sane : Sane d known) (t : TxId) where
             ∙ ap (λ o. value_or (decision_by o) (read_at d b.owner t.begin)) none ∙ no_read (take t.begin b.owner.answers) (slice_get b.owner.answers t.begin) b.begins
 
         no_commit : (r : Option Row) → LogMatches r None → is_committed r ≡ false
-        no_commit None h = refl
-        no_commit (Some (rows.ReadLog v)) h = cc
-        no_commit (Some r) h = absurd h
+        no_commit r h = grind arith
 
         by_end : (o : Option (ℕ × Bool)) → tx_end d known t ≡ o → (n : ℕ) × (tx_end d known t ≡ Some (n, true))
         by_end None e =

@@ -27,8 +27,7 @@ use Rattle.beldi_laws.proofs.Turns.{at_steps, by_answer, enters_on, wanted_here,
 -- ---- small facts
 -- its own decision is the one that is there
 own_there : (c : Bool) → decided_by c c ≡ goes.Decided false
-own_there true = refl
-own_there false = refl
+own_there c = grind arith
 
 -- the mark of a decision without commit, by what its instance was answered last
 entry_fell : (id : IntentId) (n : ℕ) (u : Option Answer) (p : Place) (h : Option IntentId) → FellAt id n u p h → entry_of id (end_mark id n (cause_in u) false) ≡ Try id p h

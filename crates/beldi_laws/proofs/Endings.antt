@@ -1,5 +1,5 @@
 -- The last turn of a run: its instance is ended.
-use Rattle.beldi_laws.proofs.Names.{Begun, Body, BodyMatches, Bool, CalleeBodyMatches, Caller, Core, Deployment, Ends, FinishMatches, Inside, Instance, IntentMatches, IntentRow, IsCalleeRow, Known, Knows, Matches, None, Option, Outcome, OutcomeMatches, PlainState, Return, Right, RootMatches, Row, RowKey, Rows, Run, Some, Step, Tell, TxId, act, answer_caller, answer_of, ap, callee_put, close_says, effect_of, end_asks, end_with, false, finish_at, func_called, give, has_ended, has_finish, has_no_hops, here, if◌then◌else◌, intent_ended, intent_key, is_did, is_inherited, is_some, is_waited, mark_if, not, option_map, outcome_of, refl, reply_if, root_of, same_some, set_others, set_row, subst, sym, true, turn_next, turned_by, tx_in, with_instance, within, ℕ, ◌==◌, ◌∙◌, ◌≡◌}
+use Rattle.beldi_laws.proofs.Names.{Begun, Body, BodyMatches, Bool, CalleeBodyMatches, Caller, Core, Deployment, Ends, FinishMatches, Inside, Instance, IntentMatches, IntentRow, IsCalleeRow, Known, Knows, Matches, None, Option, Outcome, OutcomeMatches, PlainState, Return, Right, RootMatches, Row, RowKey, Rows, Run, Some, Step, Tell, TxId, act, answer_caller, answer_of, ap, arith, callee_put, close_says, effect_of, end_asks, end_with, false, finish_at, func_called, give, has_ended, has_finish, has_no_hops, here, if◌then◌else◌, intent_ended, intent_key, is_did, is_inherited, is_some, is_waited, mark_if, not, option_map, outcome_of, refl, reply_if, root_of, same_some, set_others, set_row, subst, sym, true, turn_next, turned_by, tx_in, with_instance, within, ℕ, ◌==◌, ◌∙◌, ◌≡◌}
 use Rattle.beldi_laws.proofs.Names.map
 use Rattle.beldi_laws.proofs.Names.mark
 use Rattle.beldi_laws.proofs.Names.rows
@@ -37,8 +37,7 @@ module _ (d : Deployment) (c : Core) (m : Rows) (i : ℕ) (r : Run) (g : Begun) 
   row_in w j = Some (rows.Intent (ended_in w j))
 
   finished : (f : Option ℕ) → is_some (finish_at true c.now f) ≡ true
-  finished None = refl
-  finished (Some n) = refl
+  finished f = grind arith
 
   close_ends : (n : Rows) → SameRoots m n → Stays h n → Left h i r g (Ends None None) n
   close_ends n roots rows = ends d c m i r g h live k n roots rows
@@ -61,9 +60,7 @@ module _ (d : Deployment) (c : Core) (m : Rows) (i : ℕ) (r : Run) (g : Begun) 
   }
     where
       stays : (b : Bool) (f : Option ℕ) → is_some f ≡ true → is_some (finish_at b c.now f) ≡ true
-      stays false f e = e
-      stays true None e = refl
-      stays true (Some n) e = refl
+      stays b f e = grind arith
 
   -- .. and gets one only where it was called in no transaction
   ends_none : (next : Known) (q : Instance) → map.get next r.id ≡ Some q → q.within ≡ k.instance.within → (j : IntentRow) → map.get m key ≡ Some (rows.Intent j) → NoFinish d m (set_row m key (Some (rows.Intent (end_row j)))) next

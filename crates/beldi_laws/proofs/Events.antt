@@ -1,5 +1,5 @@
 -- Every event keeps the host and its rows right.
-use Rattle.beldi_laws.proofs.Names.{AllocError, Async, AtStage, Begins, Begun, Bind, Body, BodyMatches, Bool, Call, Caller, CameOn, CondWrite, Core, Crash, Deployment, Effect, End, Err, Event, EventBy, EventOn, Failed, Fits, Followed, Full, Ic, InItem, Inside, Instance, IntentId, IntentMatches, IntentRow, IsBelow, IsRootRow, IsTrue, Issue, KeepsRight, Known, Knows, KnowsAt, Looks, Lost, None, Ok, OnItem, Option, OutOfMemory, Outcome, Own, PlainState, Plan, Query, Read, Registers, RepliesAreOutcomes, Request, Restart, Result, Return, Right, RightIsLegal, Row, RowKey, Rows, Run, RunAt, RunTx, Seen, Some, Stage, Start, TableErr, Tell, Tick, Ticket, Told, Turn, TxAt, TxId, Value, Write, WriteAt, [], act, after_act, ahead_nothing, ahead_set, and-false, ap, arith, asks, asks_at, at_once_same, back_of, back_says, back_to_asks, bind_asks, bind_to, binding_of, bound_next, collect_asks, collect_next, collect_says, cond, content_in, count_changes, counted, crash_plan, ended_by, ended_run, false, first_core, func_called, get-empty, got, grows_new, grows_self, has_ended, has_finish, has_run, head_key, heard, id_cmp, id_same, id_total, if◌then◌else◌, is_added, is_begin, is_crowded, is_eq, is_gone, is_some, is_waited, item_cmp, key_cmp, last_moment, launched, le-leb, least_key, leb-false, leb-true, len-empty, lends, length, length-append, listed_under, lt-leb, most_events, most_runs, nat_cmp, nat_le, nat_lt, nat_tests, new_instance, new_run, no_memory, none_out, none_show, nothing, nothing_matches, op_of, option_map, or_null, or_parts, other, outcome_of, outcome_tell, passed, plan, plan_of, refl, refused, refused_by, refused_stand, reply_of, request_next, root_apart, root_bound, root_key, root_of, row_put, rows_after, rows_stand, run_asks, run_next, run_plan, run_told, run_tx, same_some, same_value, sane_nothing, set_row, stage_asks, stage_says, start, subst, suc, sym, ticket_next, tied_itself, told_at, told_by, told_outcome, touched, touched_by, true, true_false, turn_next, turned_by, tx_after, tx_of, unchanged, unheard_next, unlocked_absent, with_instance, with_once, with_run, zero, ℕ, ◌&&◌, ◌++◌, ◌+◌, ◌-◌, ◌==◌, ◌^◌, ◌||◌, ◌∙◌, ◌∷◌, ◌≡◌, ◌≤◌}
+use Rattle.beldi_laws.proofs.Names.{AllocError, Async, AtStage, Begins, Begun, Bind, Body, BodyMatches, Bool, Call, Caller, CameOn, CondWrite, Core, Crash, Deployment, Effect, End, Err, Event, EventBy, EventOn, Fits, Followed, Full, Ic, InItem, Inside, Instance, IntentId, IntentMatches, IntentRow, IsBelow, IsRootRow, IsTrue, Issue, KeepsRight, Known, Knows, KnowsAt, Looks, Lost, None, Ok, OnItem, Option, OutOfMemory, Outcome, Own, PlainState, Plan, Query, Read, Registers, RepliesAreOutcomes, Request, Restart, Result, Return, Right, RightIsLegal, Row, RowKey, Rows, Run, RunAt, RunTx, Seen, Some, Stage, Start, TableErr, Tell, Tick, Ticket, Told, Turn, TxAt, TxId, Value, Write, WriteAt, [], act, after_act, ahead_nothing, ahead_set, and-false, ap, arith, asks, asks_at, at_once_same, back_of, back_says, back_to_asks, bind_asks, bind_to, binding_of, bound_next, collect_asks, collect_next, collect_says, cond, content_in, count_changes, counted, crash_plan, ended_by, ended_run, false, first_core, func_called, get-empty, got, grows_new, grows_self, has_ended, has_finish, has_run, head_key, heard, id_cmp, id_same, id_total, if◌then◌else◌, is_added, is_begin, is_crowded, is_eq, is_gone, is_some, is_waited, item_cmp, key_cmp, last_moment, launched, le-leb, least_key, leb-false, leb-true, len-empty, lends, length, length-append, listed_under, lt-leb, most_events, most_runs, nat_cmp, nat_le, nat_lt, nat_tests, new_instance, new_run, no_memory, none_out, none_show, nothing, nothing_matches, op_of, option_map, or_null, or_parts, other, outcome_of, outcome_tell, passed, plan, plan_of, refl, refused, refused_by, refused_stand, reply_of, request_next, root_apart, root_bound, root_key, root_of, row_put, rows_after, rows_stand, run_asks, run_next, run_plan, run_told, run_tx, same_some, same_value, sane_nothing, set_row, stage_asks, stage_says, start, subst, suc, sym, ticket_next, tied_itself, told_at, told_by, told_outcome, touched, touched_by, true, true_false, turn_next, turned_by, tx_after, tx_of, unchanged, unheard_next, unlocked_absent, with_instance, with_once, with_run, zero, ℕ, ◌&&◌, ◌++◌, ◌+◌, ◌-◌, ◌==◌, ◌^◌, ◌||◌, ◌∙◌, ◌∷◌, ◌≡◌, ◌≤◌}
 use Rattle.beldi_laws.proofs.Names.at
 use Rattle.beldi_laws.proofs.Names.map
 use Rattle.beldi_laws.proofs.Names.rows
@@ -149,8 +149,7 @@ module _ (d : Deployment) (c : Core) (m : Rows) (h : Right d c m) where
       })
     where
       some_if : (b : Bool) (r : Option Row) → is_some (cond b (Some (rows.Intent (record { issued = c.now; body = None; outcome = None; finish = None }))) r) ≡ cond b true (is_some r)
-      some_if true r = refl
-      some_if false r = refl
+      some_if b r = grind arith
 
   ticket_by : (r : Option Row) → map.get m (root_key (c.newest + 1)) ≡ r → AfterAct d h.plain m (root_key (c.newest + 1)) (λ t. ticket_next c (is_added t)) (act Issue c.now r)
   ticket_by None is = subst (λ (r : Option Row). After d h.plain (record c { newest = c.newest + 1 }) (set_row m (root_key (c.newest + 1)) (act Issue c.now r).0) (seen.Issued (c.newest + 1))) is (issued is)
@@ -211,8 +210,7 @@ module _ (d : Deployment) (c : Core) (m : Rows) (h : Right d c m) (t f : ℕ) (a
       below_none u below = let n = length-append u.intent.hops (below.step ∷ below.hops) in let k = ap (λ (i : IntentId). length i.hops) below.is in omega (arith, n, k)
 
       no_finish : (o : Option ℕ) → is_some o ≡ false → o ≡ None
-      no_finish None e = refl
-      no_finish (Some k) e = cc
+      no_finish o e = grind arith
 
   -- an answer that changes no row
   answer_kept : (v : Option Row) (x : Seen) → v ≡ map.get m (root_key t) → is_gone x ≡ false → ((u : ℕ) (o : Outcome) → told_outcome x ≡ Some (u, o) → reply_of h.plain u ≡ Some o) → After d h.plain c (set_row m (root_key t) v) x
@@ -322,9 +320,7 @@ right_plan d e c m h = if_plan (RightPlan d m h.plain e (counted c)) (nat_lt c.t
 
 -- the query was not made, so no more than a run is over
 refusal_tells : (v : TableErr) → TellsNothing (seen_by (refused_by v))
-refusal_tells OutOfMemory = (refl, refl)
-refusal_tells Failed = (refl, refl)
-refusal_tells (Full live most) = (refl, refl)
+refusal_tells v = grind arith
 
 after_refused : (d : Deployment) (e : Event) (c : Core) (m : Rows) (h : Right d c m) (v : TableErr) → After d h.plain (refused e c v).0 m (seen_by (refused e c v).1)
 after_refused d (Turn i) c m h (Full live most) = as_before d c m (seen.Full live most) (refl, refl) h

@@ -1,5 +1,5 @@
 -- What was aborted in an open transaction, if anything: it is the cause that a run keeps, and its instance's last answer.
-use Rattle.beldi_laws.proofs.Names.{Answer, Bool, Cause, Deployment, Effect, Inherited, Instance, IntentId, IsAnswer, List, None, OpenTx, Option, Own, RunTx, SaneInstance, Some, TxId, [], abort_ends, ap, append-nil, append_assoc, effect_after, false, get_next, is_some, last_answer, length, open_after, open_of, place_of, refl, slice_get, subst, sym, take, take_front, true, tx_after, within, ◌++◌, ◌∙◌, ◌∷◌, ◌≡◌}
+use Rattle.beldi_laws.proofs.Names.{Answer, Bool, Cause, Deployment, Effect, Inherited, Instance, IntentId, IsAnswer, List, None, OpenTx, Option, Own, RunTx, SaneInstance, Some, TxId, [], abort_ends, ap, append-nil, append_assoc, arith, effect_after, false, get_next, is_some, last_answer, length, open_after, open_of, place_of, refl, slice_get, subst, sym, take, take_front, true, tx_after, within, ◌++◌, ◌∙◌, ◌∷◌, ◌≡◌}
 use Rattle.beldi_laws.proofs.Names.answer
 use Rattle.beldi_laws.proofs.Names.effect
 use Rattle.beldi_laws.proofs.OpenOf.{own_begin, open_begun, open_pushed}
@@ -10,8 +10,7 @@ same_own h = cc
 
 -- where nothing was answered none is one's own
 none_own : (t : Option TxId) (w : OpenTx) → within t ≡ Some (Own w) → ⊥
-none_own None w h = cc
-none_own (Some x) w h = cc
+none_own t w h = grind arith
 
 -- the cause of an answer
 abbrev pub cause_in : Option Answer → Option Cause
@@ -40,8 +39,7 @@ module _ (d : Deployment) (id : IntentId) (q : Instance) where
   next ts a fits h o is = let z = by_open (open_of d q ts) refl (effect_after d q ts) refl a fits (sym (open_pushed d q ts a) ∙ is) in record { last = z.0 ∙ ap cause_in (sym (last_pushed ts a)); ends = z.1 }
     where
       no_cause : (u : Option Cause) → u ≡ None → is_some u ≡ true → ⊥
-      no_cause None e g = cc
-      no_cause (Some c) e g = cc
+      no_cause u e g = grind arith
 
       -- where the answer is none that was aborted, nothing was before
       no_end : (e : Effect) → effect_after d q ts ≡ e → ((c : Bool) → e ≡ effect.End c → ⊥) → (w : OpenTx) → IsCause ts w → (u : Option Cause) → w.cause ≡ u → u ≡ None
@@ -66,8 +64,7 @@ module _ (d : Deployment) (id : IntentId) (q : Instance) where
       by_open (Some (Own w)) opened e is b fits g = let none = plainly e is (other e b fits g) w opened (same_own g) in (none, λ s. absurd (no_cause o.cause none s))
         where
           other : (e : Effect) (b : Answer) → IsAnswer (place_of id (length ts)) (tx_after d id q ts) e b → open_after (length ts) e b (Some (Own w)) ≡ Some (Own o) → (c : Bool) → e ≡ effect.End c → ⊥
-          other (effect.End c) b f g c' same = cc
-          other e b f g c same = cc
+          other e b f g c same = grind arith
 
   along_answers : (given rest : List Answer) → given ++ rest ≡ q.answers → SaneInstance d id q → Causes given → Causes q.answers
   along_answers given [] all sane h = subst Causes (sym (append-nil given) ∙ all) h

@@ -1,5 +1,5 @@
 -- What an event keeps for the runs of others: a frame, of a row that is set.
-use Rattle.beldi_laws.proofs.Names.{Bool, ByTx, CellOp, Content, Deployment, DoneRows, Frame, Instance, IntentId, IsFreeFor, IsOf, IsWriting, Item, Kind, Known, List, None, Note, Option, Place, PlainState, Query, Row, RowKey, Rows, Some, StillOwns, TookPart, TxId, Value, [], act, ap, by_item, cond, content_in, content_of, ended, false, free_after, func_called, has_finish, head_key, if◌then◌else◌, invoke_key, is_data, is_eq, is_shadow, is_some, item_cmp, item_same, key_cmp, key_in, key_same, key_self, kinds_apart, known_set, lockset_key, log_key, no_tx, note_after, note_at, note_pushed, option_map, or_null, or_old, place_eq, place_same, plain_set, refl, row_got, rows_after, same_some, set_if, set_others, set_row, shadow_key, shadow_same, subst, sym, true, turned, tx_end, value_at, ℕ, ◌++◌, ◌∙◌, ◌∷◌, ◌≡◌}
+use Rattle.beldi_laws.proofs.Names.{Bool, ByTx, CellOp, Content, Deployment, DoneRows, Frame, Instance, IntentId, IsFreeFor, IsOf, IsWriting, Item, Kind, Known, List, None, Note, Option, Place, PlainState, Query, Row, RowKey, Rows, Some, StillOwns, TookPart, TxId, Value, [], act, ap, arith, by_item, cond, content_in, content_of, ended, false, free_after, func_called, has_finish, head_key, if◌then◌else◌, invoke_key, is_data, is_eq, is_shadow, is_some, item_cmp, item_same, key_cmp, key_in, key_same, key_self, kinds_apart, known_set, lockset_key, log_key, no_tx, note_after, note_at, note_pushed, option_map, or_null, or_old, place_eq, place_same, plain_set, refl, row_got, rows_after, same_some, set_if, set_others, set_row, shadow_key, shadow_same, subst, sym, true, turned, tx_end, value_at, ℕ, ◌++◌, ◌∙◌, ◌∷◌, ◌≡◌}
 use Rattle.beldi_laws.proofs.Names.kinds
 use Rattle.beldi_laws.proofs.Names.map
 use Rattle.beldi_laws.proofs.Names.query
@@ -46,10 +46,7 @@ intent_of j (kinds.Intent i) = i
 intent_of j k = j
 
 no_item : (k : Kind) → is_entry k ≡ true → (is_data k ≡ false) × (is_shadow k ≡ false) × (is_lockset k ≡ false)
-no_item (kinds.Intent i) h = (refl, refl, refl)
-no_item (kinds.ReadLog a) h = (refl, refl, refl)
-no_item (kinds.Invoke a) h = (refl, refl, refl)
-no_item k h = cc
+no_item k h = grind arith
 
 module _ (m n : Rows) (k : RowKey) (same : (l : RowKey) → is_eq (key_cmp l k) ≡ false → map.get n l ≡ map.get m l) where
   -- what is so at its key is so at all
@@ -78,8 +75,7 @@ query_keeps (query.After k) now m l there = there
 query_keeps (query.Act k a) now m l there = ap is_some (row_got m k l (act a now (map.get m k)).0) ∙ by_key (is_eq (key_cmp l k)) refl
   where
     acted : (r : Option Row) → is_some r ≡ true → is_some (act a now r).0 ≡ true
-    acted None h = cc
-    acted (Some r) h = refl
+    acted r h = grind arith
 
     by_key : (b : Bool) → is_eq (key_cmp l k) ≡ b → is_some (cond b (act a now (map.get m k)).0 (map.get m l)) ≡ true
     by_key true e = acted (map.get m k) (subst (λ z. is_some (map.get m z) ≡ true) (key_same l k e) there)

@@ -1,5 +1,5 @@
 -- The turns at which a run that returns tells its caller: the outcome, where the caller waits for it, and else that it is registered.
-use Rattle.beldi_laws.proofs.Names.{Answer, Begins, Begun, Call, CallBack, CallMatches, Caller, Cause, Core, Deployment, Entry, Goes, Grows, Inside, Instance, IntentId, InvokeRow, IsCalled, Item, Known, Knows, List, Matches, None, NoteRegistered, On, Option, Outcome, PlainState, Return, Right, Row, RowKey, Rows, Run, RunAt, Sane, Some, Step, Tell, TxId, Waited, [], act, after_act, ahead_set, answer_of, answered, answers_waiter, ap, at_stage, back_asks, back_of, back_says, call_answered, call_back_to, called_by, callee_of, child_of, commit_in, effect_after, effect_of, elsewhere, eq-eqb, false, given_back, grown_end, grows_self, grows_through, here, if◌then◌else◌, inr, intent_key, invoke_key, is_begin, is_some, is_waited, known_set, last, length, listed, looked, moved, moved_one, no_own_callee, no_root_key, none_by, none_out, op_of, opens_are_open, or_own, outside_parts, owed_call, place_of, refl, result_of, returned_cause, returns_go, root_key, row_added, same_some, set_others, set_row, stands_at_call, subst, sym, tell_asks, touched, true, turn_next, turned_by, tx_after, tx_at, tx_by, tx_here, tx_now, txs_after, unlocked_elsewhere, value_at, with_instance, within, within_by, ℕ, ◌++◌, ◌∙◌, ◌∷◌, ◌≡◌}
+use Rattle.beldi_laws.proofs.Names.{Answer, Begins, Begun, Call, CallBack, CallMatches, Caller, Cause, Core, Deployment, Entry, Goes, Grows, Inside, Instance, IntentId, InvokeRow, IsCalled, Item, Known, Knows, List, Matches, None, NoteRegistered, On, Option, Outcome, PlainState, Return, Right, Row, RowKey, Rows, Run, RunAt, Sane, Some, Step, Tell, TxId, Waited, [], act, after_act, ahead_set, answer_of, answered, answers_waiter, ap, arith, at_stage, back_asks, back_of, back_says, call_answered, call_back_to, called_by, callee_of, child_of, commit_in, effect_after, effect_of, elsewhere, eq-eqb, false, given_back, grown_end, grows_self, grows_through, here, if◌then◌else◌, inr, intent_key, invoke_key, is_begin, is_some, is_waited, known_set, last, length, listed, looked, moved, moved_one, no_own_callee, no_root_key, none_by, none_out, op_of, opens_are_open, or_own, outside_parts, owed_call, place_of, refl, result_of, returned_cause, returns_go, root_key, row_added, same_some, set_others, set_row, stands_at_call, subst, sym, tell_asks, touched, true, turn_next, turned_by, tx_after, tx_at, tx_by, tx_here, tx_now, txs_after, unlocked_elsewhere, value_at, with_instance, within, within_by, ℕ, ◌++◌, ◌∙◌, ◌∷◌, ◌≡◌}
 use Rattle.beldi_laws.proofs.Names.kinds
 use Rattle.beldi_laws.proofs.Names.map
 use Rattle.beldi_laws.proofs.Names.mark
@@ -116,8 +116,7 @@ module _ (d : Deployment) (c : Core) (m : Rows) (i : ℕ) (r : Run) (g : Begun) 
           (given_back d h.known h.locked caller waiter k.instance b.place.step o o called.made callee_here open_still waited_here returning (ap h.locked (sym called.is_callee) ∙ unlocked d c m i r g h live k finds o is) m x (ap (map.get m) row_key_is ∙ at) h.rows)))
         where
           no_row : (n : ℕ) (u : Option ℕ) → row_added n u (Call k.instance.func k.instance.args) answer ≡ None
-          no_row n None = refl
-          no_row n (Some u) = refl
+          no_row n u = grind arith
 
       sane_given : Sane d next
       sane_given = subst (λ z. Sane d (map.insert (map.insert h.known z (done k o)) caller caller_on)) (sym called.is_callee) (returned_kept d h.known h.sane caller waiter k.instance b.place.step o called.made callee_here open_still waited_here returning)

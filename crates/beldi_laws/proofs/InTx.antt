@@ -1,6 +1,5 @@
 -- An operation of a run inside a transaction: where it stands among the answers that are known, and in which transaction.
-use Rattle.beldi_laws.proofs.Names.{Answer, Begun, Bool, ByTx, Core, Deployment, Effect, Fits, InItem, InOperation, Inherited, Inside, Instance, IntentId, IsAnswer, IsBehind, IsFront, IsOf, IsOpen, IsTrue, Item, Kind, Knows, List, LocksetMatches, None, Option, Own, Right, Row, Rows, Run, RunTx, Some, TookPart, TxAt, TxId, Txs, [], ahead_by, ap, arith, begin_of, content_of, effect_after, effect_before, effect_of, ended_by, false, few_answers, got_before, got_by, inl, inr, is_begin, is_eq, is_intent_key, is_item, is_on, is_some, is_tx, item_total, known_set, last_step, length, length-append, moved, moved_one, no_root, note_at, note_is_ahead, now_open, opens_are_open, or_own, own_is, place_of, refl, root_key, same_some, set_others, set_row, subst, sym, take, tied_itself, touched, true, tx_after, tx_by, tx_end, tx_now, tx_of, tx_self, txs_after, txs_by, wants_answer, ℕ, ◌&&◌, ◌++◌, ◌<◌, ◌||◌, ◌∙◌, ◌∷◌, ◌≡◌}
-use Rattle.beldi_laws.proofs.Names.effect
+use Rattle.beldi_laws.proofs.Names.{Answer, Begun, Bool, ByTx, Core, Deployment, Effect, Fits, InItem, InOperation, Inside, Instance, IntentId, IsAnswer, IsBehind, IsFront, IsOf, IsOpen, IsTrue, Item, Kind, Knows, List, LocksetMatches, None, Option, Right, Row, Rows, Run, RunTx, Some, TookPart, TxAt, TxId, Txs, [], ahead_by, ap, arith, begin_of, content_of, effect_after, effect_before, effect_of, ended_by, false, few_answers, got_before, got_by, inl, inr, is_begin, is_eq, is_intent_key, is_item, is_on, is_some, is_tx, item_total, known_set, last_step, length, length-append, moved, moved_one, no_root, note_at, note_is_ahead, now_open, opens_are_open, or_own, own_is, place_of, refl, root_key, same_some, set_others, set_row, subst, sym, take, tied_itself, touched, true, tx_after, tx_by, tx_end, tx_now, tx_of, tx_self, txs_after, txs_by, wants_answer, ℕ, ◌&&◌, ◌++◌, ◌<◌, ◌||◌, ◌∙◌, ◌∷◌, ◌≡◌}
 use Rattle.beldi_laws.proofs.Names.map
 use Rattle.beldi_laws.proofs.Names.note
 use Rattle.beldi_laws.proofs.Names.rows
@@ -15,12 +14,10 @@ use Rattle.beldi_laws.proofs.Turns.{Freed, Leaves, by_answer, known_prefix, answ
 
 -- an operation on an item wants an answer, and is no begin
 pub wants_one : (e : Effect) (x : ℕ × List ℕ) → touched e ≡ Some x → IsTrue (wants_answer e)
-wants_one (effect.Return o) x h = cc
-wants_one e x h = refl
+wants_one e x h = grind arith
 
 pub no_begin : (e : Effect) (x : ℕ × List ℕ) → touched e ≡ Some x → is_begin e ≡ false
-no_begin effect.Begin x h = cc
-no_begin e x h = refl
+no_begin e x h = grind arith
 
 -- an operation on it
 pub item_self : (func t : ℕ) (k : List ℕ) → is_item (record { func = func; table = t; key = k }) func (Some (t, k)) ≡ true
@@ -28,20 +25,15 @@ item_self func t k = ap is_eq (tied_itself item_total (record { func = func; tab
 
 -- the begin of what a run is in
 pub begin_is : (id : IntentId) (func : ℕ) (o : RunTx) → (tx_of id func o).begin ≡ begin_of o
-begin_is id func (Own o) = refl
-begin_is id func (Inherited t) = refl
+begin_is id func o = grind arith
 
 -- an operation ends no transaction
 ends_same : (n : ℕ) (e : Effect) (s : Txs) (b : ℕ) (x : ℕ × List ℕ) → touched e ≡ Some x → (txs_by n e s).ends b ≡ s.ends b
-ends_same n effect.Begin s b x touch = cc
-ends_same n (effect.End c) s b x touch = cc
-ends_same n e s b x touch = refl
+ends_same n e s b x touch = grind arith
 
 -- a lockset row that is there is one
 pub lockset_is : (r : Option Row) (owed ahead : Bool) → LocksetMatches r owed ahead → is_some r ≡ true → r ≡ Some rows.Lockset
-lockset_is None owed ahead h there = cc
-lockset_is (Some rows.Lockset) owed ahead h there = refl
-lockset_is (Some r) owed ahead h there = absurd h
+lockset_is r owed ahead h there = grind arith
 
 -- where a row was set that is no intent's, the roots are as they were
 pub set_roots : (m : Rows) (home : ℕ) (kind : Kind) (v : Option Row) → is_intent_key kind ≡ false → SameRoots m (set_row m (record { home = home; kind = kind }) v)
@@ -170,8 +162,7 @@ module _ (d : Deployment) (c : Core) (m : Rows) (r : Run) (g : Begun) (h : Right
     was_locked got = by_lock (h.locked r.id) refl
       where
         none : (u : Option TxId) → ahead_by its_item k.instance.func u (effect_of d k.instance) false ≡ None
-        none None = refl
-        none (Some u) = refl
+        none u = grind arith
 
         by_lock : (b : Bool) → h.locked r.id ≡ b → b ≡ true
         by_lock true e = refl

@@ -1,5 +1,5 @@
 -- What a turn outside transactions keeps, over rows whose shadows are as before.
-use Rattle.beldi_laws.proofs.Names.{Act, Answer, Apart, Core, Deployment, Frame, Goes, Instance, IntentId, IsOutside, Item, Items, Matches, None, Option, Right, Row, RowKey, Rows, Some, Tx, TxId, [], act, answered, at_once, content_of, false, goes_one, goes_set, got_new, got_next, grows_self, id_cmp, is_eq, is_shadow, is_some, listed, log_elsewhere, moved, outside_no_end, outside_parts, refl, rows_go, set_new, set_next, set_row, shadow_key, true, tx_begun, tx_now, value_at, value_of, with_instance, ℕ, ◌≡◌}
+use Rattle.beldi_laws.proofs.Names.{Act, Answer, Apart, Core, Deployment, Frame, Goes, Instance, IntentId, IsOutside, Item, Items, Matches, None, Option, Right, Row, RowKey, Rows, Some, Tx, TxId, [], act, answered, arith, at_once, content_of, false, goes_one, goes_set, got_new, got_next, grows_self, id_cmp, is_eq, is_shadow, is_some, listed, log_elsewhere, moved, outside_no_end, outside_parts, refl, rows_go, set_new, set_next, set_row, shadow_key, true, tx_begun, tx_now, value_at, value_of, with_instance, ℕ, ◌≡◌}
 use Rattle.beldi_laws.proofs.Names.map
 use Rattle.beldi_laws.proofs.Frames.{NoFinish, frame_still, items_stay, nobody_new}
 use Rattle.beldi_laws.proofs.Moves.{Stays}
@@ -21,8 +21,7 @@ set_shadows m k v kind t x = log_elsewhere m k v is_shadow (shadow_key t x) refl
 
 -- no act takes a row away
 pub act_stays : (a : Act) (now : ℕ) (o : Option Row) → is_some o ≡ true → is_some (act a now o).0 ≡ true
-act_stays a now None there = cc
-act_stays a now (Some r) there = refl
+act_stays a now o there = grind arith
 
 module _ {d : Deployment} {c : Core} {m : Rows} (h : Right d c m) (n : Rows) (same : SameShadows m n) where
   -- nothing more is known

@@ -1,5 +1,5 @@
 -- What is known stays sane, as turns outside transactions move it, and calls and returns.
-use Rattle.beldi_laws.proofs.Names.{Answer, Bool, Caller, Deployment, Effect, Instance, IntentId, IsAnswer, IsOutside, Known, List, None, Option, Outcome, Sane, Some, TxId, Value, aborts_inside, answer_of, ap, at_once, call_of, callee_of, calls_at, child_of, effect_after, effect_of, end_is, ended, false, inside_is, is_begin, is_some, is_waited, length, moved, new_instance, not_waited, place_of, refl, root_of, sane_answered, sane_bound, sane_called, sane_ended, sane_returned, sane_sent, subst, sym, true, tx_now, txs_after, ℕ, ◌||◌, ◌∙◌, ◌≡◌}
+use Rattle.beldi_laws.proofs.Names.{Answer, Bool, Caller, Deployment, Effect, Instance, IntentId, IsAnswer, IsOutside, Known, List, None, Option, Outcome, Sane, Some, TxId, Value, aborts_inside, answer_of, ap, arith, at_once, call_of, callee_of, calls_at, child_of, effect_after, effect_of, end_is, ended, false, inside_is, is_begin, is_some, is_waited, length, moved, new_instance, not_waited, place_of, refl, root_of, sane_answered, sane_bound, sane_called, sane_ended, sane_returned, sane_sent, subst, sym, true, tx_now, txs_after, ℕ, ◌||◌, ◌∙◌, ◌≡◌}
 use Rattle.beldi_laws.proofs.Names.answer
 use Rattle.beldi_laws.proofs.Names.effect
 use Rattle.beldi_laws.proofs.Names.map
@@ -21,8 +21,7 @@ outside_effect d q given out apart = by_effect (effect_after d q given) refl apa
 
 -- ---- of what is known
 no_call : (w : Bool) (f : ℕ) (v : Value) → is_call (call_of w f v) ≡ false → ⊥
-no_call true f v h = cc
-no_call false f v h = cc
+no_call w f v h = grind arith
 
 -- one that was called so
 abbrev pub called_with : Option TxId → ℕ → Value → Caller → Instance

@@ -1,5 +1,5 @@
 -- The listing of the rows is that of the plain state.
-use Rattle.beldi_laws.proofs.Names.{Bool, Core, Deployment, Equal, Greater, Item, KeepsNoNull, Kind, Less, List, None, Null, Option, Ordering, PlainState, Right, Row, RowKey, Rows, Some, T, Value, [], ap, below_all, cond, content_in, entries_sorted, false, find, flat_map, get-entries, head_key, head_order, is_eq, is_lt, is_sorted, item_cmp, item_exact, item_text, item_total, key_cmp, key_same, line_at, listed, listed_under, listing_of, no_null, or_null, refl, row_line, run_of, same_entries, shown_under, subst, sym, tables_text, tied_itself, true, value_line, zero, ℕ, ◌&&◌, ◌++◌, ◌∙◌, ◌∷◌, ◌≡◌}
+use Rattle.beldi_laws.proofs.Names.{Bool, Core, Deployment, Item, KeepsNoNull, Kind, List, None, Null, Option, Ordering, PlainState, Right, Row, RowKey, Rows, Some, T, Value, [], ap, arith, below_all, cond, content_in, entries_sorted, false, find, flat_map, get-entries, head_key, head_order, is_eq, is_lt, is_sorted, item_cmp, item_exact, item_text, item_total, key_cmp, key_same, line_at, listed, listed_under, listing_of, no_null, or_null, refl, row_line, run_of, same_entries, shown_under, subst, sym, tables_text, tied_itself, true, value_line, zero, ℕ, ◌&&◌, ◌++◌, ◌∙◌, ◌∷◌, ◌≡◌}
 use Rattle.beldi_laws.proofs.Names.kinds
 use Rattle.beldi_laws.proofs.Names.map
 use Rattle.beldi_laws.proofs.Names.rows
@@ -31,8 +31,7 @@ abbrev item_line : Deployment → Item × Value → List ℕ
 item_line d e = item_text d e.0.func e.0.table e.0.key e.1
 
 value_lines : (d : Deployment) (x : Item) (v : Value) (zs : List (Item × Value)) → value_line d x.func x.table x.key v ++ flat_map (item_line d) zs ≡ flat_map (item_line d) (cons_some (valued x v) zs)
-value_lines d x Null zs = refl
-value_lines d x v zs = refl
+value_lines d x v zs = grind arith
 
 entry_lines : (m : Rows) (d : Deployment) (f : ℕ) (k : Kind) (r : Row) (zs : List (Item × Value)) → line_at d m f k r ++ flat_map (item_line d) zs ≡ flat_map (item_line d) (cons_some (item_entry m f k r) zs)
 entry_lines m d f (kinds.Data t k zero) (rows.Cell c) zs = value_lines d (record { func = f; table = t; key = k }) (shown_under m f t k c.owner c.value) zs
@@ -44,16 +43,13 @@ lines m d (e ∷ es) = ap (λ bs. row_line d m e ++ bs) (lines m d es) ∙ entry
 
 -- ---- they are in the order of items
 both : (a b : Bool) → T a → T b → T (a && b)
-both true b p q = q
-both false b p q = p
+both a b p q = grind arith
 
 first : (a b : Bool) → T (a && b) → T a
-first true b p = tt
-first false b p = p
+first a b p = grind arith
 
 second : (a b : Bool) → T (a && b) → T b
-second true b p = p
-second false b p = absurd p
+second a b p = grind arith
 
 below_valued : (x y : Item) (v : Value) (zs : List (Item × Value)) → T (is_lt (item_cmp x y)) → T (below_all item_cmp x zs) → T (below_all item_cmp x (cons_some (valued y v) zs))
 below_valued x y Null zs h g = g
@@ -86,9 +82,7 @@ shown_in : Rows → Item → Option Row → Option Value
 shown_in m x o = not_null (listed_under m x (content_in o).owner (content_in o).value)
 
 not_tied : (o : Ordering) → T (is_lt o) → is_eq o ≡ false
-not_tied Less h = refl
-not_tied Equal h = absurd h
-not_tied Greater h = refl
+not_tied o h = grind arith
 
 none_below : (x : Item) (zs : List (Item × Value)) → T (below_all item_cmp x zs) → find item_cmp x zs ≡ None
 none_below x [] h = refl

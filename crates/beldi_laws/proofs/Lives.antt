@@ -33,9 +33,7 @@ not_answered p q id i j was is w none = ap answers_of was ∙ sym (append-nil i.
 
 -- what was made stays made, and an outcome that is there stays
 pub made_stays : (o u : Option Instance) → GrownAt o u → is_some o ≡ true → is_some u ≡ true
-made_stays None u w there = cc
-made_stays (Some i) None w there = absurd w
-made_stays (Some i) (Some j) w there = refl
+made_stays o u w there = grind arith
 
 pub outcome_stays : (i j : Instance) → Grown i j → is_some i.outcome ≡ true → is_some j.outcome ≡ true
 outcome_stays i j w there = by_option i.outcome (λ none. let clash = sym (ap is_some none) ∙ there in cc) (λ o is. ap is_some (w.over o is))
@@ -157,8 +155,7 @@ put_few m i None k there h = subst (λ n. n ≤ k) (sym (len-remove nat_cmp_tota
 put_few m i (Some r) k there h = subst (λ n. n ≤ k) (sym (len-insert nat_cmp_total m i r)) (by_test (is_some (map.get m i)) there)
   where
     by_test : (b : Bool) → IsTrue b → cond b (map.len m) (map.len m + 1) ≤ k
-    by_test true t = h
-    by_test false t = cc
+    by_test b t = grind arith
 
 -- what is known has grown beside the same book
 pub places_same : (d : Deployment) (book : List Entry) (known next : Known) → PlacesOn d book book known next

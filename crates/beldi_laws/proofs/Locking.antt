@@ -33,24 +33,15 @@ use Rattle.beldi_laws.proofs.Cases.{false_by}
 
 -- ---- where an operation may stand
 fits_lock : (e : Effect) (l j : LockAt) → Fits e (at.Lock l) → Fits e (at.Lock j)
-fits_lock (effect.Read t k) l j h = h
-fits_lock (effect.Write t k v) l j h = h
-fits_lock (effect.CondWrite t k r o v) l j h = h
-fits_lock e l j h = absurd h
+fits_lock e l j h = grind arith
 
 -- a read alone looks for a kept value
 looks_lock : (e : Effect) (l : LockAt) → Fits e at.Log → Fits e (at.Lock l)
-looks_lock (effect.Read t k) l h = h
-looks_lock (effect.Write t k v) l h = absurd h
-looks_lock (effect.CondWrite t k r o v) l h = absurd h
-looks_lock e l h = absurd h
+looks_lock e l h = grind arith
 
 -- its item, as its stage asks for it
 item_touched : (e : Effect) → item_of e ≡ touched e
-item_touched (effect.Read t k) = refl
-item_touched (effect.Write t k v) = refl
-item_touched (effect.CondWrite t k r o v) = refl
-item_touched e = refl
+item_touched e = grind arith
 
 looks_read : (e : Effect) (x : ℕ × List ℕ) → Fits e at.Log → touched e ≡ Some x → e ≡ effect.Read x.0 x.1
 looks_read (effect.Read t k) x h on = ap (λ (z : ℕ × List ℕ). effect.Read z.0 z.1) (same_some on)
@@ -60,9 +51,7 @@ looks_read e x h on = absurd h
 
 -- before its lock it found nothing
 none_found : (e : Effect) (l : LockAt) (r : Option Row) (v : Value) → Found e (at.Lock l) r v
-none_found (effect.Read t k) l r v = tt
-none_found (effect.CondWrite t k u w y) l r v = tt
-none_found e l r v = tt
+none_found e l r v = grind arith
 
 -- ---- a note that was told was there
 told_note : (p : Place) (t : TxId) (c x : Content) (w : Note) → lock_on p t c ≡ (x, noted w) → note_at c.notes p ≡ Some w
@@ -112,8 +101,7 @@ none_dead y f (Some t) e false j same = cc
 none_dead y f (Some t) e true j same = by_item (is_item y f (touched e)) same
   where
     by_item : (b : Bool) → (if b then Some notes.Got else None) ≡ Some (notes.Died j) → ⊥
-    by_item true same = cc
-    by_item false same = cc
+    by_item b same = grind arith
 
 -- a death that was noted is the answer
 noted_death : (p : Place) (a : Answer) (j : IntentId) → Some (answer.Aborted (record { place = p; holder = Some j })) ≡ death_in a → answer.Aborted (record { place = p; holder = Some j }) ≡ a
@@ -375,8 +363,7 @@ module _ (d : Deployment) (c : Core) (m : Rows) (i : ℕ) (r : Run) (g : Begun) 
           taken_more j was = by_test (is_eq (id_cmp j r.id))
             where
               by_test : (b : Bool) → (if b then true else h.locked j) ≡ true
-              by_test true = refl
-              by_test false = was
+              by_test b = grind arith
 
           taken_matches : Matches d n h.known taken
           taken_matches = as_run left (λ y p. note_at (content_of m y).notes p ≡ None → other_owner (ByTx own) (content_of m y).owner ≡ None

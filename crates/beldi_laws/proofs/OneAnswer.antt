@@ -1,9 +1,8 @@
 -- Where the host and its rows are right, each step of an instance has one answer; and it stays, whatever comes.
-use Rattle.beldi_laws.proofs.Names.{Abort, Act, Answer, AnswersOf, AnswersStay, Async, Begin, Begins, Begun, Call, CallGoesOn, CondWrite, Core, Deployment, Died, Done, Effect, End, GoesOn, Got, HeldAnswersStay, Instance, IntentId, InvokeRow, IsAt, Item, Knows, KnowsAt, Look, None, Note, OnItem, OneAnswerPerStep, OneRowChanged, Option, Outcome, Place, Read, Right, RightHasOneAnswer, Row, RowKey, Rows, Run, RunAt, Some, TxId, Value, WasGiven, Write, act, after_act, answer_aside, answer_of, ap, at_each, call_in, calls_stay, content_in, decides, given, given_in, head_key, held_answer, held_inside, held_note, held_outside, inl, inr, invoke_key, is_some, item_in, log_key, note_at, note_of_lock, noted_answer, notes_stay, on, op_of, option_and_then, option_map, refl, result_in, same_some, shadow_key, subst, sym, ℕ, ◌∙◌, ◌≡◌}
+use Rattle.beldi_laws.proofs.Names.{Abort, Act, Answer, AnswersOf, AnswersStay, Async, Begin, Begins, Begun, Call, CallGoesOn, CondWrite, Core, Deployment, Died, Done, Effect, End, GoesOn, Got, HeldAnswersStay, Instance, IntentId, InvokeRow, IsAt, Item, Knows, KnowsAt, None, Note, OnItem, OneAnswerPerStep, OneRowChanged, Option, Outcome, Place, Read, Right, RightHasOneAnswer, Row, RowKey, Rows, Run, RunAt, Some, TxId, Value, WasGiven, Write, act, after_act, answer_aside, answer_of, ap, arith, at_each, call_in, calls_stay, content_in, decides, given, given_in, head_key, held_answer, held_inside, held_note, held_outside, inl, inr, invoke_key, is_some, item_in, log_key, note_at, note_of_lock, noted_answer, notes_stay, on, op_of, option_and_then, option_map, refl, result_in, same_some, shadow_key, subst, sym, ℕ, ◌∙◌, ◌≡◌}
 use Rattle.beldi_laws.proofs.Names.answer
 use Rattle.beldi_laws.proofs.Names.map
 use Rattle.beldi_laws.proofs.Names.query
-use Rattle.beldi_laws.proofs.Names.rows
 use Rattle.beldi_known.specs.Stands.{told_by}
 use Rattle.beldi_laws.proofs.OneEvent.{one_row}
 use Rattle.beldi_laws.proofs.Standing.{held_here, same_run}
@@ -38,12 +37,7 @@ one_answer d c m p h is = subst (OneAnswerPerStep d c m) (same_run d c m p h is)
 
 -- ---- it stays: no act takes away what a read was given, what a call gave back, nor a note
 given_stays : (r : Row) (a : Act) (now : ℕ) → given_in (on a now r).0 ≡ given_in r
-given_stays (rows.Intent i) Look now = refl
-given_stays (rows.ReadLog v) Look now = refl
-given_stays (rows.Invoke i) Look now = refl
-given_stays (rows.Cell c) Look now = refl
-given_stays rows.Lockset Look now = refl
-given_stays r a now = refl
+given_stays r a now = grind arith
 
 of_note : (o : Option Note) (x : Answer) → option_and_then noted_answer o ≡ Some x → (n : Note) × (o ≡ Some n)
 of_note None x is = cc

@@ -3,7 +3,6 @@ use Rattle.beldi_laws.proofs.Names.{After, AllocError, Begins, Begun, Binding, B
 use Rattle.beldi_laws.proofs.Names.binding
 use Rattle.beldi_laws.proofs.Names.collect
 use Rattle.beldi_laws.proofs.Names.map
-use Rattle.beldi_laws.proofs.Names.mark
 use Rattle.beldi_laws.proofs.Names.says
 use Rattle.beldi_laws.proofs.Names.seen
 use Rattle.beldi_laws.proofs.Names.wait
@@ -57,8 +56,7 @@ set_fits m k room (Some r) h more = subst (λ n. n ≤ room) (sym (len-insert ke
     by_test false more = omega (arith, more refl)
 
 adds_row : (a : RowAct) (now : ℕ) (o : Option Row) → IsTrue (not (is_some o) && is_some (act a now o).0) → IsTrue (not (is_some o) && is_some (off a now).0)
-adds_row a now None h = h
-adds_row a now (Some r) h = cc
+adds_row a now o h = grind arith
 
 query_fits : (q : Query) (now room : ℕ) (m : Rows) → map.len m ≤ room → (IsTrue (query_adds q now m) → map.len m < room) → map.len (rows_after q now m) ≤ room
 query_fits (Act k a) now room m h more = set_fits m k room (act a now (map.get m k)).0 h (λ t. more (adds_row a now (map.get m k) t))
@@ -78,11 +76,7 @@ keeps_room d room old new e c b m n r s h = plan_fits d room old new e (counted 
 -- ---- the book
 -- the entry of an act starts nothing
 act_starts_none : (id : IntentId) (k : Option Mark) → starts_of (option_to_list (option_map (entry_of id) k)) ≡ []
-act_starts_none id None = refl
-act_starts_none id (Some (mark.Read seen)) = refl
-act_starts_none id (Some mark.Step) = refl
-act_starts_none id (Some mark.Tx) = refl
-act_starts_none id (Some (mark.Try p holder)) = refl
+act_starts_none id k = grind arith
 
 -- an answer that tells no entry
 abbrev is_silent : Seen → Bool
@@ -91,9 +85,7 @@ is_silent (seen.Acted entry started over reply) = false
 is_silent x = true
 
 told_none : (e : Event) (x : Seen) → is_silent x ≡ true → (entries_told e x ≡ []) × (bound_of e x ≡ [])
-told_none e (seen.Bound t run) silent = cc
-told_none e (seen.Acted entry started over reply) silent = cc
-told_none e x silent = (refl, refl)
+told_none e x silent = grind arith
 
 -- out of memory for what was lent, nothing was done
 pub lent_only : (b : Bool) (c z : Core) → if_lent b c ≡ Some z → (z ≡ c) × (b ≡ true)
@@ -113,8 +105,7 @@ PlanTells c (at_once b y) = (b.book ≡ c.book) × (is_silent y ≡ true) × (is
 PlanTells c (asks q) = Unit {0}
 
 no_run_tells : (c : Core) (b : Bool) → PlanTells c (at_once c (if b then seen.NoRun else seen.RunOver))
-no_run_tells c true = (refl, refl, refl)
-no_run_tells c false = (refl, refl, refl)
+no_run_tells c b = grind arith
 
 run_tells : (c : Core) (i : ℕ) (o : Option Run) → PlanTells c (run_plan c i o)
 run_tells c i None = no_run_tells c ((i == 0) || nat_lt c.last_run i)
@@ -143,8 +134,7 @@ abbrev Unmarked : Turned → Type 0
 Unmarked s = (w : Wait) → s.wait ≡ Some w → s.mark ≡ None
 
 goes_unmarked : (r : Run) (s : Machine × Option RunTx) (c : Option Caller) (m : Option Mark) (at : Option Stage) → Unmarked (goes_from r s c m at)
-goes_unmarked r s c m None w is = cc
-goes_unmarked r s c m (Some at) w is = cc
+goes_unmarked r s c m at w is = grind arith
 
 stands_unmarked : (d : Deployment) (r : Run) (s : Machine × Option RunTx) (c : Option Caller) (m : Option Mark) → Unmarked (goes_to d r s c m)
 stands_unmarked d r s c m w is = let z = at_once_of d r.id s in goes_unmarked r z c m (first_stage r.id c z.1 z.0.steps z.0.effect) w is
@@ -204,8 +194,7 @@ made_tells d c i r t = let s = run_told d (count_changes c.book) r t in turn_tel
 
 -- a turn binds nothing
 turn_unbound : (i : ℕ) (x : Seen) → bound_of (Turn i) x ≡ []
-turn_unbound i (seen.Bound t run) = refl
-turn_unbound i x = refl
+turn_unbound i x = grind arith
 
 -- what is left by an act of an intent, which makes an entry or none
 act_grew : (e : Event) (c b : Core) (r : Result Seen AllocError) (id : IntentId) (k : Option Mark) → b.book ≡ marked c.book id k → bound_by e r ≡ []
@@ -299,12 +288,10 @@ says_dropped (Err w) = false
 
 module _ (d : Deployment) (c : Core) where
   ticket_heard : (b : Bool) → is_dropped (ticket_next c b).1 ≡ false
-  ticket_heard true = refl
-  ticket_heard false = refl
+  ticket_heard b = grind arith
 
   request_heard : (t f : ℕ) (a : Value) (u : Binding) → is_dropped (request_next d c t f a u).1 ≡ false
-  request_heard t f a binding.Bound = refl
-  request_heard t f a u = refl
+  request_heard t f a u = grind arith
 
   run_heard : (i : ℕ) (t : Told) (o : Option Run) → is_dropped (run_next d c i t o).1 ≡ false
   run_heard i t None = (no_run_tells c ((i == 0) || nat_lt c.last_run i)).2
@@ -329,9 +316,7 @@ module _ (d : Deployment) (c : Core) where
   heard_lost Ic t = collect_heard (collect_says t)
 
   error_heard : (v : TableErr) → says_dropped (refused_by v) ≡ true → v ≡ Failed
-  error_heard OutOfMemory h = cc
-  error_heard Failed h = refl
-  error_heard (Full live most) h = cc
+  error_heard v h = grind arith
 
   refused_heard : (e : Event) (v : TableErr) → is_lost e ≡ false → says_dropped (refused e c v).1 ≡ true → v ≡ Failed
   refused_heard (Lost i) v lost h = cc

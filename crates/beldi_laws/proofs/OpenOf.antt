@@ -1,7 +1,6 @@
 -- What a run is in after answers: the transaction that it was called in throughout, or else its own one that is open; and so the
 -- transaction of the step there.
-use Rattle.beldi_laws.proofs.Names.{Answer, Deployment, Effect, Inherited, Instance, IntentId, List, None, Option, Own, RunTx, Some, TxId, Txs, [], along, along_pushed, ap, effect_after, false, is_begin, is_bound, is_inherited, is_some, length, no_bound, none_begun, none_by, open_after, open_of, or_own, own_tx, refl, sym, tx_after, tx_by, tx_of, txs_after, txs_by, wants, with_cause, within, ℕ, ◌++◌, ◌∙◌, ◌∷◌, ◌≡◌}
-use Rattle.beldi_laws.proofs.Names.answer
+use Rattle.beldi_laws.proofs.Names.{Answer, Deployment, Effect, Inherited, Instance, IntentId, List, None, Option, Own, RunTx, Some, TxId, Txs, [], along, along_pushed, ap, arith, effect_after, false, is_begin, is_bound, is_inherited, is_some, length, no_bound, none_begun, none_by, open_after, open_of, or_own, own_tx, refl, sym, tx_after, tx_by, tx_of, txs_after, txs_by, wants, with_cause, within, ℕ, ◌++◌, ◌∙◌, ◌∷◌, ◌≡◌}
 use Rattle.beldi_laws.proofs.Names.effect
 use Rattle.beldi_laws.proofs.Cases.{by_option}
 
@@ -12,21 +11,14 @@ own_begin (Some (Own o)) = Some o.begin
 own_begin (Some (Inherited x)) = None
 
 begun_in : (w : Option TxId) → own_begin (within w) ≡ None
-begun_in None = refl
-begun_in (Some x) = refl
+begun_in w = grind arith
 
 -- what was aborted leaves it
 cause_begins : (a : Answer) (o : Option RunTx) → own_begin (with_cause a o) ≡ own_begin o
-cause_begins (answer.Aborted c) None = refl
-cause_begins (answer.Aborted c) (Some (Own o)) = refl
-cause_begins (answer.Aborted c) (Some (Inherited x)) = refl
-cause_begins a o = refl
+cause_begins a o = grind arith
 
 cause_inherits : (a : Answer) (o : Option RunTx) → is_inherited (with_cause a o) ≡ is_inherited o
-cause_inherits (answer.Aborted c) None = refl
-cause_inherits (answer.Aborted c) (Some (Own o)) = refl
-cause_inherits (answer.Aborted c) (Some (Inherited x)) = refl
-cause_inherits a o = refl
+cause_inherits a o = grind arith
 
 -- ---- an answer
 -- it begins and ends alike
@@ -43,8 +35,7 @@ owns_after n e a o h = cause_inherits a o ∙ h
 
 -- and so does what was inherited
 cause_keeps : (a : Answer) (x : TxId) → with_cause a (Some (Inherited x)) ≡ Some (Inherited x)
-cause_keeps (answer.Aborted c) x = refl
-cause_keeps a x = refl
+cause_keeps a x = grind arith
 
 keeps_after : (n : ℕ) (e : Effect) (a : Answer) (x : TxId) → is_bound e ≡ false → open_after n e a (Some (Inherited x)) ≡ Some (Inherited x)
 keeps_after n effect.Begin a x h = cc
@@ -106,16 +97,14 @@ module _ (d : Deployment) (id : IntentId) (q : Instance) (given : List Answer) w
   tx_open (Own o) is apart = tx_so (called_out d q given (ap is_inherited is)) (Some (Own o)) is ∙ by_effect (effect_after d q given) apart
     where
       by_effect : (e : Effect) → is_begin e ≡ false → tx_by id q.func (length given) e (Some o.begin) ≡ Some (own_tx id q.func o)
-      by_effect effect.Begin h = cc
-      by_effect e h = refl
+      by_effect e h = grind arith
   tx_open (Inherited x) is apart = tx_in x (called_in d q x given is)
 
   pub open_tx : (t : TxId) → tx_after d id q given ≡ Some t → is_begin (effect_after d q given) ≡ false → (o : RunTx) × (open_of d q given ≡ Some o) × (t ≡ tx_of id q.func o)
   open_tx t is apart = by_open (open_of d q given) refl
     where
       by_none : (e : Effect) → is_begin e ≡ false → tx_by id q.func (length given) e None ≡ Some t → ⊥
-      by_none effect.Begin h k = cc
-      by_none e h k = cc
+      by_none e h k = grind arith
 
       by_open : (o : Option RunTx) → open_of d q given ≡ o → (o : RunTx) × (open_of d q given ≡ Some o) × (t ≡ tx_of id q.func o)
       by_open None e = absurd (by_none (effect_after d q given) apart (sym (tx_so (called_out d q given (ap is_inherited e)) None e) ∙ is))
@@ -128,6 +117,4 @@ module _ (d : Deployment) (id : IntentId) (q : Instance) (given : List Answer) w
       (λ x in_it. let clash = sym is ∙ tx_in x in_it in cc)
     where
       by_some : (o : RunTx) (e : Effect) → is_inherited (Some o) ≡ false → tx_by id q.func (length given) e (own_begin (Some o)) ≡ None → ⊥
-      by_some (Own o) effect.Begin own k = cc
-      by_some (Own o) e own k = cc
-      by_some (Inherited x) e own k = cc
+      by_some o e own k = grind arith

@@ -1,5 +1,5 @@
 -- What the runs of others have found in the rows stays, through an event that keeps its frame.
-use Rattle.beldi_laws.proofs.Names.{Answer, Async, AtStage, Begun, Beside, Bool, ByTx, Call, Callees, CondWrite, Content, Core, Decide, DecidedAt, Deployment, Effect, End, EndAt, EndWalk, Entry, Found, Frame, Free, Goes, Grown, Grows, HasLock, InItem, InOperation, Inside, Instance, IntentId, IsDecided, IsWriting, Item, Known, Knows, List, LockedAtEnds, Matches, Next, None, Note, OpenTx, Option, Outcome, Own, Place, PlainState, Read, Released, Return, Right, Row, Rows, Run, RunTx, Sane, Shadow, Some, Stage, Stamp, TxAt, TxId, Txs, Value, Visit, Visited, [], ahead_by, along, along_append, ap, append-nil, append_assoc, arith, begin_of, child_of, content_of, effect_after, effect_of, end_of, end_walk, ended_by, ended_stays, eq-eqb, false, few_answers, front_is, got_before, got_by, if◌then◌else◌, in_tx, is_at, is_begin, is_eq, is_item, is_on, is_opened, is_past, is_sent, is_some, item_total, key_in, last_step, length, length-append, listed, lockset_key, log_key, no_decision, none_begun, note_at, note_is_ahead, now_open, open_of, place_of, plain_owner, refl, same_some, shadow_key, subst, sym, tied_itself, touched, true, true_false, tx_after, tx_end, tx_now, tx_of, tx_self, txs_after, txs_by, txs_pushed, value_at, value_in, wants, ℕ, ◌&&◌, ◌++◌, ◌<◌, ◌||◌, ◌∙◌, ◌∷◌, ◌≡◌}
+use Rattle.beldi_laws.proofs.Names.{Answer, Async, AtStage, Begun, Beside, Bool, ByTx, Call, CondWrite, Content, Core, Decide, DecidedAt, Deployment, Effect, End, EndAt, EndWalk, Entry, Found, Frame, Goes, Grown, Grows, HasLock, InItem, InOperation, Inside, Instance, IntentId, IsDecided, IsWriting, Item, Known, Knows, List, LockedAtEnds, Matches, None, Note, OpenTx, Option, Outcome, Own, Place, PlainState, Read, Released, Return, Right, Row, Rows, Run, RunTx, Sane, Some, Stage, TxAt, TxId, Txs, Value, Visit, Visited, [], ahead_by, along, along_append, ap, append-nil, append_assoc, arith, begin_of, child_of, content_of, effect_after, effect_of, end_of, end_walk, ended_by, ended_stays, eq-eqb, false, few_answers, front_is, got_before, got_by, if◌then◌else◌, in_tx, is_at, is_begin, is_eq, is_item, is_on, is_opened, is_past, is_sent, is_some, item_total, key_in, last_step, length, length-append, listed, lockset_key, log_key, no_decision, none_begun, note_at, note_is_ahead, now_open, open_of, place_of, plain_owner, refl, same_some, shadow_key, subst, sym, tied_itself, touched, true, true_false, tx_after, tx_end, tx_now, tx_of, tx_self, txs_after, txs_by, txs_pushed, value_at, value_in, wants, ℕ, ◌&&◌, ◌++◌, ◌<◌, ◌||◌, ◌∙◌, ◌∷◌, ◌≡◌}
 use Rattle.beldi_laws.proofs.Names.at
 use Rattle.beldi_laws.proofs.Names.effect
 use Rattle.beldi_laws.proofs.Names.map
@@ -24,8 +24,7 @@ none_later xs [] h = refl
 none_later xs (y ∷ ys) h = let l = length-append xs (y ∷ ys) in absurd (omega (arith, l, h))
 
 or_true : (b : Bool) → (b || true) ≡ true
-or_true true = refl
-or_true false = refl
+or_true b = grind arith
 
 -- ---- how a transaction ended
 -- by its End, where that was answered
@@ -67,9 +66,7 @@ past_lock (at.Lock l) = false
 past_lock a = true
 
 lock_noted : (a : TxAt) (p : Place) (c : Content) → past_lock a ≡ true → HasLock a p c → note_at c.notes p ≡ Some notes.Got
-lock_noted at.Log p c h g = cc
-lock_noted (at.Lock l) p c h g = cc
-lock_noted a p c h g = g
+lock_noted a p c h g = grind arith
 
 lock_stays : (a : TxAt) (p : Place) (c e : Content) → ((w : Note) → note_at c.notes p ≡ Some w → note_at e.notes p ≡ Some w) → HasLock a p c → HasLock a p e
 lock_stays at.Log p c e stay h = tt
@@ -90,9 +87,7 @@ found_stays e a s u v w same there keeps h = tt
 
 -- who writes touches one
 writes_touch : (e : Effect) → is_some (op_of e) ≡ true → is_some (touched e) ≡ true
-writes_touch (effect.Write t k v) h = refl
-writes_touch (effect.CondWrite t k r o v) h = refl
-writes_touch e h = cc
+writes_touch e h = grind arith
 
 -- an effect that gives back the outcome touches no item, and ends none
 no_outcome : (e : Effect) (o : Option Outcome) → (is_some (touched e) ≡ true) → ((u : Outcome) → o ≡ Some u → e ≡ effect.Return u) → o ≡ None
@@ -102,9 +97,7 @@ no_outcome e (Some u) h over = let clash = sym (ap (λ z. is_some (touched z)) (
 -- ---- the step of an instance that is to be answered
 -- a lock that is ahead by this is one
 pub is_ahead : (x : Item) (f : ℕ) (t : Option TxId) (e : Effect) (b : Bool) (w : Note) → ahead_by x f t e b ≡ Some w → b ≡ true
-is_ahead x f None e b w h = cc
-is_ahead x f (Some t) e true w h = refl
-is_ahead x f (Some t) e false w h = cc
+is_ahead x f t e b w h = grind arith
 
 -- ---- of who can step in an open transaction there is one
 one_steps : (d : Deployment) (p : PlainState) (known : Known) → plain.Sane d p → Sane d known → Beside d p known → (s : TxId) (i j : IntentId) (y z : Instance) → map.get known i ≡ Some y → map.get known j ≡ Some z → y.outcome ≡ None → z.outcome ≡ None → is_some (touched (effect_of d y)) ≡ true
@@ -250,12 +243,7 @@ module _ (d : Deployment) (c : Core) (m n : Rows) (h : Right d c m) (q : PlainSt
         let clash = sym (ap (λ f. map.get m (log_key f (place_of r.id o.begin))) (sym k.func) ∙ none) ∙ decided in cc
 
     has_decided : (a : EndAt) → is_past a ≡ true → DecidedAt a walk m → IsDecided walk m
-    has_decided Decide at e = cc
-    has_decided Callees at e = e
-    has_decided Next at e = e
-    has_decided Shadow at e = e
-    has_decided (Free f) at e = e
-    has_decided Stamp at e = e
+    has_decided a at e = grind arith
 
     -- so it has ended
     visited : Visited walk m → Visited walk n

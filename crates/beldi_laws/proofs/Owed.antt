@@ -1,5 +1,5 @@
 -- What the rows have of a step outside transactions: what its answer owes, or nothing where it has none.
-use Rattle.beldi_laws.proofs.Names.{Answer, Bool, Content, Deployment, DoneRows, Effect, Instance, IntentId, IsFreeFor, Item, ItemMatches, Known, List, LogMatches, Matches, None, Note, Operation, Option, Place, PlainState, RowKey, RowMatches, Rows, ShadowMatches, Some, SoundAt, TxsMatch, Value, [], ahead_by, answered_note, ap, append-nil, at_step, begins, by_item, cell_of, commit_in, cond, content_in, content_of, decision_by, decision_key, does_so, effect_after, effect_before, effect_of, end_of, eq-eqb, eq_by_cmp_equiv, eqb-true, false, free_after, head_key, if◌then◌else◌, is_decided, is_eq, is_log, is_mark, is_shadow, is_some, item_total, key_cmp, keys_at, kinds_apart, last_step, length, listed, lists_same, log_key, no_tx, none_by, note_at, note_by, note_of, note_or, op_of, or_none, or_null, or_old, owed_note, owed_value, own_value, place_of, plain_set, read_at, refl, row_at, set_if, sets, shadow_key, slice_get, subst, sym, take_front, tied_itself, true, turned, tx_after, tx_at, tx_now, unbarred, value_at, value_for, value_or, ℕ, ◌&&◌, ◌==◌, ◌||◌, ◌∙◌, ◌≡◌}
+use Rattle.beldi_laws.proofs.Names.{Answer, Bool, Content, Deployment, DoneRows, Effect, Instance, IntentId, IsFreeFor, Item, ItemMatches, Known, List, LogMatches, Matches, None, Note, Operation, Option, Place, PlainState, RowKey, RowMatches, Rows, ShadowMatches, Some, SoundAt, TxsMatch, Value, [], ahead_by, answered_note, ap, append-nil, arith, at_step, begins, by_item, cell_of, commit_in, cond, content_in, content_of, decision_by, decision_key, does_so, effect_after, effect_before, effect_of, end_of, eq-eqb, eq_by_cmp_equiv, eqb-true, false, free_after, head_key, if◌then◌else◌, is_decided, is_eq, is_log, is_mark, is_shadow, is_some, item_total, key_cmp, keys_at, kinds_apart, last_step, length, listed, lists_same, log_key, no_tx, none_by, note_at, note_by, note_of, note_or, op_of, or_none, or_null, or_old, owed_note, owed_value, own_value, place_of, plain_set, read_at, refl, row_at, set_if, sets, shadow_key, slice_get, subst, sym, take_front, tied_itself, true, turned, tx_after, tx_at, tx_now, unbarred, value_at, value_for, value_or, ℕ, ◌&&◌, ◌==◌, ◌||◌, ◌∙◌, ◌≡◌}
 use Rattle.beldi_laws.proofs.Names.effect
 use Rattle.beldi_laws.proofs.Names.map
 use Rattle.std.specs.Prelude.{take}
@@ -15,8 +15,7 @@ value_if e None = None
 value_if e (Some a) = value_for e a
 
 pub no_end : (e : Effect) → is_of_tx e ≡ false → commit_in e ≡ None
-no_end (effect.End c) h = cc
-no_end e h = refl
+no_end e h = grind arith
 
 module _ (d : Deployment) (m : Rows) (known : Known) (locked : IntentId → Bool) (h : Matches d m known locked) (id : IntentId) (q : Instance) (is : map.get known id ≡ Some q) (n : ℕ) where
   -- a read's row
@@ -29,8 +28,7 @@ module _ (d : Deployment) (m : Rows) (known : Known) (locked : IntentId → Bool
       no_decision = none_by (end_of d q n) (λ z e. let clash = sym wants ∙ (begins d q q.answers).ended n z e in cc)
 
       by_answer : (o : Option Answer) → at_step (λ given a. value_for (effect_after d q given) a) (take n q.answers) o ≡ value_if (effect_before d q n) o
-      by_answer None = refl
-      by_answer (Some a) = refl
+      by_answer o = grind arith
 
   -- an item's note
   pub note_there : q.within ≡ None → tx_at d id q n ≡ None → commit_in (effect_before d q n) ≡ None → (x : Item) → note_at (content_of m x).notes (place_of id n) ≡ note_if x q.func (effect_before d q n) (slice_get q.answers n)
@@ -38,8 +36,7 @@ module _ (d : Deployment) (m : Rows) (known : Known) (locked : IntentId → Bool
       ∙ ap (owed_note d x id (locked id) n) is ∙ ap (note_or (answered_note d x id n q)) (by_end (n == length q.answers) refl) ∙ or_none (answered_note d x id n q) ∙ by_answer (slice_get q.answers n)
     where
       no_mark : (o : Option Answer) → at_step (λ given a. commit_in (effect_after d q given)) (take n q.answers) o ≡ None
-      no_mark None = refl
-      no_mark (Some a) = apart
+      no_mark o = grind arith
 
       by_end : (b : Bool) → (n == length q.answers) ≡ b → (if b then ahead_by x q.func (tx_now d id q) (effect_of d q) (locked id) else None) ≡ None
       by_end false e = refl

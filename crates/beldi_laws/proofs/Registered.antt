@@ -1,5 +1,5 @@
 -- A row of an intent or of a call was set: rows match what is known, after the row of a callee was put or a call was marked as registered, and a turn that does no more keeps all.
-use Rattle.beldi_laws.proofs.Names.{Body, Bool, CallMatches, CalleeMatches, Core, Deployment, FinishMatches, Frame, HasNoRow, IntentId, IntentMatches, InvokeRow, IsBodyOf, Kind, Known, Matches, None, NoteRegistered, Option, OutcomeMatches, Place, PlainState, Right, Row, RowKey, Rows, Some, TxId, act, after_act, ap, callee_put, cond, false, func_called, got, has_ended, has_finish, has_no_hops, invoke_key, is_row_log, is_shadow, is_some, is_waited, issued_at, key_self, option_map, owed_call, refl, register_to, row_put, set_others, set_row, subst, sym, true, unchanged, ℕ, ◌∙◌, ◌≡◌}
+use Rattle.beldi_laws.proofs.Names.{Body, Bool, CallMatches, CalleeMatches, Core, Deployment, FinishMatches, Frame, HasNoRow, IntentId, IntentMatches, InvokeRow, IsBodyOf, Kind, Known, Matches, None, NoteRegistered, Option, OutcomeMatches, Place, PlainState, Right, Row, RowKey, Rows, Some, TxId, act, after_act, ap, arith, callee_put, cond, false, func_called, got, has_ended, has_finish, has_no_hops, invoke_key, is_row_log, is_shadow, is_some, is_waited, issued_at, key_self, option_map, owed_call, refl, register_to, row_put, set_others, set_row, subst, sym, true, unchanged, ℕ, ◌∙◌, ◌≡◌}
 use Rattle.beldi_laws.proofs.Names.kinds
 use Rattle.beldi_laws.proofs.Names.map
 use Rattle.beldi_laws.proofs.Names.rows
@@ -10,9 +10,7 @@ use Rattle.beldi_laws.proofs.Shown.{log_values}
 
 -- ---- a row of an intent or of a call was set, and nothing else
 log_kind : (k : Kind) → is_row_log k ≡ true → (is_shadow k ≡ false) × (is_entry k ≡ true)
-log_kind (kinds.Intent id) kind = (refl, refl)
-log_kind (kinds.Invoke a) kind = (refl, refl)
-log_kind k kind = cc
+log_kind k kind = grind arith
 
 -- a row that is set keeps what others found there: that it is there, its finish, and the function that was called
 pub record StaysRow (r v : Option Row) : Type 0 where

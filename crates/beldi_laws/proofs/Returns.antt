@@ -1,5 +1,5 @@
 -- A run at its return: who called its instance, and how that ends.
-use Rattle.beldi_laws.proofs.Names.{Answer, Begun, Caller, Cause, Core, Deployment, Goes, Grows, Inside, Instance, IntentId, IsAnswer, IsCalled, Known, Knows, List, LockedAtEnds, Machine, None, Option, Outcome, Place, PlainState, Return, Right, Rows, Run, RunTx, Sane, Says, Some, StandsAt, Step, TxId, [], ahead_set, answer_of, ap, caller_in, child_of, effect_of, enabled_step, ended, false, goes_one, got_ended, grown_end, grows_at, has_no_hops, inl, inr, is_begin, is_some, is_waited, item_touched, key_in, kind_of, none_by, none_out, place_of, refl, root_of, root_or_called, run_tx, same_some, set_over, step_by, subst, sym, touched, touched_by, true, turned_by, tx_after, tx_at, unlocked_elsewhere, waits_at, with_instance, within, ℕ, ◌∙◌, ◌∷◌, ◌≡◌}
+use Rattle.beldi_laws.proofs.Names.{Answer, Begun, Caller, Cause, Core, Deployment, Goes, Grows, Inside, Instance, IntentId, IsAnswer, IsCalled, Known, Knows, List, LockedAtEnds, Machine, None, Option, Outcome, Place, PlainState, Return, Right, Rows, Run, RunTx, Sane, Says, Some, StandsAt, Step, TxId, [], ahead_set, answer_of, ap, arith, caller_in, child_of, effect_of, enabled_step, ended, false, goes_one, got_ended, grown_end, grows_at, has_no_hops, inl, inr, is_begin, is_some, is_waited, item_touched, key_in, kind_of, none_by, none_out, place_of, refl, root_of, root_or_called, run_tx, same_some, set_over, step_by, subst, sym, touched, touched_by, true, turned_by, tx_after, tx_at, unlocked_elsewhere, waits_at, with_instance, within, ℕ, ◌∙◌, ◌∷◌, ◌≡◌}
 use Rattle.beldi_laws.proofs.Names.map
 use Rattle.beldi_laws.proofs.Names.outcome
 use Rattle.beldi_lang.specs.declared.effect.Answer.TheVariants as answers
@@ -33,8 +33,7 @@ pub root_is : (id : IntentId) → has_no_hops id.hops ≡ true → id ≡ root_o
 root_is id root = by_hops id.hops root
   where
     by_hops : (xs : List ℕ) → has_no_hops xs ≡ true → record { ticket = id.ticket; hops = xs } ≡ root_of id.ticket
-    by_hops [] e = refl
-    by_hops (x ∷ xs) e = cc
+    by_hops xs e = grind arith
 
 pub root_outside : (d : Deployment) (known : Known) (id : IntentId) (q : Instance) → Sane d known → map.get known id ≡ Some q → has_no_hops id.hops ≡ true → (q.from ≡ None) × (q.within ≡ None)
 root_outside d known id q sane made root = sane.roots id.ticket q (ap (map.get known) (sym (root_is id root)) ∙ made)
@@ -57,14 +56,11 @@ module _ {d : Deployment} {c : Core} {m : Rows} (h : Right d c m) (i : ℕ) (r :
 
 -- a return has no answer
 unanswered : (p : Place) (t : Option TxId) (o : Outcome) (a : Answer) → IsAnswer p t (Return o) a → ⊥
-unanswered p None o a h = h
-unanswered p (Some t) o a h = h
+unanswered p t o a h = grind arith
 
 -- an outcome that was aborted
 pub aborted_by : (o : Outcome) (c : Cause) → answer_of o ≡ answers.Aborted c → o ≡ outcome.Aborted c
-aborted_by (outcome.Aborted k) c e = cc
-aborted_by (outcome.Value v) c e = cc
-aborted_by (outcome.Fault k) c e = cc
+aborted_by o c e = grind arith
 
 module _ (d : Deployment) (c : Core) (m : Rows) (i : ℕ) (r : Run) (g : Begun) (h : Right d c m) (live : map.get c.runs i ≡ Some r) (k : Knows d h.known r g) (finds : Inside m h.plain c.book k g.stage) (o : Outcome) (is : g.machine.effect ≡ Return o) where
   -- a body that returns was answered nothing more

@@ -32,8 +32,7 @@ never_ended i none finishes = ap (λ o. is_some o || is_some i.finish) none ∙ 
 
 -- an answer to a read is its value
 read_back : (p : Place) (t : ℕ) (k : List ℕ) (a : Answer) → IsAnswer p None (Read t k) a → option_map answer.Value (value_for (Read t k) a) ≡ Some a
-read_back p t k (answer.Value v) ok = refl
-read_back p t k a ok = absurd ok
+read_back p t k a ok = grind arith
 
 -- what a call gave back is what is owed
 abbrev gave : Option (ℕ × Option Outcome) → Option Outcome
@@ -59,8 +58,7 @@ cut_at (x ∷ xs) (suc n) a h = let k = cut_at xs n a h in (k.0, (ap (λ zs. x �
 
 -- a decision is its own
 decided_so : (c : Bool) → decides c (value.Bool c) ≡ Some Done
-decided_so true = refl
-decided_so false = refl
+decided_so c = grind arith
 
 -- a root without outcome has its row
 open_by : (d : Deployment) (m : Rows) (t : ℕ) (q : Instance) (r : Option Row) → map.get m (root_key t) ≡ r → RootMatches true r (Some q) → q.outcome ≡ None → HasNotEnded m (root_key t)
@@ -109,9 +107,7 @@ module _ (d : Deployment) (m : Rows) (known : Known) (locked : IntentId → Bool
         by_wait j false answered row = there_so (map.get m (invoke_key q.func place)) row ∙ sym answered
           where
             there_so : (r : Option Row) → CallMatches r (Some (j.func, None)) → ◌≡◌ {A = Option Answer} (option_map (λ i. Done) (call_in r)) (Some Done)
-            there_so None row = cc
-            there_so (Some (rows.Invoke i)) row = refl
-            there_so (Some r) row = absurd row
+            there_so r row = grind arith
 
         by_callee : (o : Option Instance) → map.get known (child_of id n) ≡ o → held_outside m place q.func (call_of w f v) ≡ Some a
         by_callee None none = let clash = sym (sane.callees id q n w f v made (slice_get_within q.answers n a at) call) ∙ ap is_some none in cc
@@ -159,8 +155,7 @@ module _ (d : Deployment) (m : Rows) (known : Known) (locked : IntentId → Bool
               absurd (omega (arith, last, small)))
 
           never : (b : Bool) → (b && false) ≡ false
-          never true = refl
-          never false = refl
+          never b = grind arith
 
           no_mark : ended_at d q n ≡ None
           no_mark = ap (at_step (λ given b. commit_in (effect_after d q given)) (take n q.answers)) at ∙ ap commit_in is ∙ apart

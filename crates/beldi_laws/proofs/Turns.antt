@@ -1,5 +1,5 @@
 -- The turns of a run: where it stands, and what each thing that a stage says leaves.
-use Rattle.beldi_laws.proofs.Names.{Answer, Async, AtStage, Begins, Begun, Bool, ByTx, Call, Caller, CondWrite, Core, Deployment, Effect, End, Entry, Grown, Inherited, Inside, Instance, IntentId, IsAnswer, IsAt, IsOutside, IsTrue, Item, Known, Knows, KnowsAt, List, Machine, Mark, None, OpenTx, Option, Outcome, Own, Owner, Place, PlainState, Prefix, Read, Released, Return, Right, Rows, Run, RunAt, RunTx, SaneInstance, Says, Some, Stage, StandsAt, TxId, Unlock, Write, [], and_once, answer_at_once, ap, append-nil, append_assoc, at, at_effect, at_next, at_stage, caller_in, content_of, effect_after, effect_before, effect_of, entry_of, false, first_stage, get_after, get_set, goes, goes_from, goes_to, going_now, has_callees, has_no_hops, id_exact, id_total, if◌then◌else◌, is_waited, key_in, last_stage, length, moved, none_by, open_after, open_of, outside_parts, over, own_tx, place_of, refl, run_on, run_on_prefix, run_once, same_some, slice_get, stands, subst, sym, take, take-append_seam, takes, takes_if, true, turned_by, tx_after, tx_at, tx_now, txs_after, unlocked_outside, wants, wants_answer, ℕ, ◌++◌, ◌∙◌, ◌∷◌, ◌≡◌}
+use Rattle.beldi_laws.proofs.Names.{Answer, Async, AtStage, Begins, Begun, Bool, ByTx, Call, Caller, CondWrite, Core, Deployment, Effect, End, Entry, Grown, Inherited, Inside, Instance, IntentId, IsAnswer, IsAt, IsOutside, IsTrue, Item, Known, Knows, KnowsAt, List, Machine, Mark, None, OpenTx, Option, Outcome, Own, Owner, Place, PlainState, Prefix, Read, Released, Return, Right, Rows, Run, RunAt, RunTx, SaneInstance, Says, Some, Stage, StandsAt, TxId, Unlock, Write, [], and_once, answer_at_once, ap, append-nil, append_assoc, arith, at, at_effect, at_next, at_stage, caller_in, content_of, effect_after, effect_before, effect_of, entry_of, false, first_stage, get_after, get_set, goes, goes_from, goes_to, going_now, has_callees, has_no_hops, id_exact, id_total, if◌then◌else◌, is_waited, key_in, last_stage, length, moved, none_by, open_after, open_of, outside_parts, over, own_tx, place_of, refl, run_on, run_on_prefix, run_once, same_some, slice_get, stands, subst, sym, take, take-append_seam, takes, takes_if, true, turned_by, tx_after, tx_at, tx_now, txs_after, unlocked_outside, wants, wants_answer, ℕ, ◌++◌, ◌∙◌, ◌∷◌, ◌≡◌}
 use Rattle.beldi_laws.proofs.Names.async
 use Rattle.beldi_laws.proofs.Names.call
 use Rattle.beldi_laws.proofs.Names.map
@@ -70,8 +70,7 @@ pub record MachineAt (d : Deployment) (func : ℕ) (j : Instance) (given : List 
 
 -- an effect whose answer takes no turn wants one
 wanted_at_once : (id : IntentId) (n : ℕ) (e : Effect) (a : Answer) → answer_at_once id n e ≡ Some a → IsTrue (wants_answer e)
-wanted_at_once id n (Return o) a h = cc
-wanted_at_once id n e a h = refl
+wanted_at_once id n e a h = grind arith
 
 module _ (d : Deployment) (func : ℕ) (j : Instance) (same : j.func ≡ func) where
   module _ (given : List Answer) (s : Machine × Option RunTx) (h : MachineAt d func j given s) where
@@ -221,9 +220,7 @@ module _ {d : Deployment} {known : Known} {id : IntentId} {home : ℕ} {c : Opti
 
 -- an effect with an answer wants one
 pub wants_it : (p : Place) (t : Option TxId) (e : Effect) (a : Answer) → IsAnswer p t e a → IsTrue (wants_answer e)
-wants_it p None (Return o) a is = absurd is
-wants_it p (Some t) (Return o) a is = absurd is
-wants_it p t e a is = refl
+wants_it p t e a is = grind arith
 
 -- ---- its instance
 module _ {d : Deployment} {b : Core} {m : Rows} (h : Right d b m) {id : IntentId} {home : ℕ} {c : Option Caller} {s : Machine} {o : Option RunTx} (k : StandsAt d h.known id home c s o) where

@@ -1,18 +1,16 @@
 -- The turns of a run at the end of its transaction, past the decision: it visits who took part, one after another; of each the items that
 -- it asked the locks of, and gives each back once; and gives each of them but its own instance a finish.
-use Rattle.beldi_laws.proofs.Names.{AllReleased, Answer, AreReleased, Begun, Body, Bool, Called, CalleeBodyMatches, CalleeMatches, Callees, Content, Core, Decide, DecidedAt, Deployment, EndAt, EndGoes, EndWalk, FinishMatches, Frame, Free, FreeOp, GetsFinish, Inherited, Inside, Instance, IntentId, IntentMatches, IntentRow, IsAnswer, IsCalleeRow, IsDecided, IsMember, IsTrue, Item, Kind, Knows, Leads, List, Matches, Member, Next, None, Note, OpenTx, Option, Own, ParticipantsAreReleased, ParticipantsHaveRows, Place, Query, ReadGoes, Right, Row, RowKey, Rows, Run, RunTx, Shadow, Some, SoundAt, Stamp, Told, TookPart, Tx, TxId, Value, Visit, Visited, WriteAt, WriteGoes, [], ap, asked, at_each, back_from, call_goes, calls_goes, commit_in, content_in, content_of, counts, decision_key, done_to, effect_after, end_by_asks, end_by_says, end_goes, end_walk, ended_at, ended_by, false, first_end, free_place, freed_goes, func_called, given_or, given_value, grows_self, has_callees, has_ended, has_finish, has_no_hops, head_key, if◌then◌else◌, inl, inr, intent_key, invokes_found, is_committed, is_decided, is_eq, is_mark, is_past, is_shadow, is_some, key_cmp, key_exact, key_in, key_same, key_total, keys_set, kinds_apart, last_goes, last_step, length, listed, lockset_found, log_key, next_goes, no_decision, no_root, note_at, notes_stay, option_map, own_tx, place_of, read_goes, refl, release_lists, released, root_key, row_put, rows_after, same_map, same_some, set_row, shadow_key, shadow_value, split_last, stepped, subst, sym, told_by, true, turn_next, turned_by, turns, tx_after, tx_end, tx_eq, tx_in, tx_same, tx_self, txs_after, unchanged, value_goes, value_in, visit_asks, visit_says, visited_by, wants_answer, was_answered, write_goes, ℕ, ◌&&◌, ◌++◌, ◌==◌, ◌||◌, ◌∙◌, ◌∷◌, ◌≡◌}
+use Rattle.beldi_laws.proofs.Names.{AllReleased, Answer, AreReleased, Begun, Body, Bool, Called, CalleeBodyMatches, CalleeMatches, Callees, Content, Core, Decide, DecidedAt, Deployment, EndAt, EndGoes, EndWalk, FinishMatches, Frame, Free, FreeOp, GetsFinish, Inherited, Inside, Instance, IntentId, IntentMatches, IntentRow, IsAnswer, IsCalleeRow, IsDecided, IsMember, IsTrue, Item, Kind, Knows, Leads, List, Matches, Member, Next, None, Note, OpenTx, Option, Own, ParticipantsAreReleased, ParticipantsHaveRows, Place, Query, ReadGoes, Right, Row, RowKey, Rows, Run, RunTx, Shadow, Some, SoundAt, Stamp, Told, TookPart, Tx, TxId, Value, Visit, Visited, WriteAt, WriteGoes, [], ap, arith, asked, at_each, back_from, call_goes, calls_goes, commit_in, content_in, content_of, counts, decision_key, done_to, effect_after, end_by_asks, end_by_says, end_goes, end_walk, ended_at, ended_by, false, first_end, free_place, freed_goes, func_called, given_or, given_value, grows_self, has_callees, has_ended, has_finish, has_no_hops, head_key, if◌then◌else◌, inl, inr, intent_key, invokes_found, is_committed, is_decided, is_eq, is_mark, is_past, is_shadow, is_some, key_cmp, key_exact, key_in, key_same, key_total, keys_set, kinds_apart, last_goes, last_step, length, listed, lockset_found, log_key, next_goes, no_decision, no_root, note_at, notes_stay, option_map, own_tx, place_of, read_goes, refl, release_lists, released, root_key, row_put, rows_after, same_map, same_some, set_row, shadow_key, shadow_value, split_last, stepped, subst, sym, told_by, true, turn_next, turned_by, turns, tx_after, tx_end, tx_eq, tx_in, tx_same, tx_self, txs_after, unchanged, value_goes, value_in, visit_asks, visit_says, visited_by, wants_answer, was_answered, write_goes, ℕ, ◌&&◌, ◌++◌, ◌==◌, ◌||◌, ◌∙◌, ◌∷◌, ◌≡◌}
 use Rattle.beldi_laws.proofs.Names.answer
 use Rattle.beldi_laws.proofs.Names.effect
 use Rattle.beldi_laws.proofs.Names.goes
 use Rattle.beldi_laws.proofs.Names.kinds
 use Rattle.beldi_laws.proofs.Names.map
 use Rattle.beldi_laws.proofs.Names.note
-use Rattle.beldi_laws.proofs.Names.reads
 use Rattle.beldi_laws.proofs.Names.rows
 use Rattle.beldi_laws.proofs.Names.says
 use Rattle.beldi_laws.proofs.Names.stage
 use Rattle.beldi_laws.proofs.Names.value
-use Rattle.beldi_laws.proofs.Names.writes
 use Rattle.beldi_txn.specs.End.{moved}
 use Rattle.beldi_txn.specs.Way.{is_owner}
 use Rattle.beldi_known.proofs.Behind.{front}
@@ -33,12 +31,7 @@ use Rattle.beldi_laws.proofs.Widths.{finds_first}
 
 -- ---- past the decision
 decided_past : (a : EndAt) (w : EndWalk) (m : Rows) → is_past a ≡ true → DecidedAt a w m → IsDecided w m
-decided_past Decide w m past h = cc
-decided_past Callees w m past h = h
-decided_past Next w m past h = h
-decided_past Shadow w m past h = h
-decided_past (Free f) w m past h = h
-decided_past Stamp w m past h = h
+decided_past a w m past h = grind arith
 
 -- a turn past it stays past it
 abbrev visit : List Called → Option ℕ → Option (ℕ × List ℕ) → Option Value → EndAt → Visit
@@ -49,8 +42,7 @@ module _ (cs : List Called) (af : Option ℕ) (y : Option (ℕ × List ℕ)) (u 
   IsPast commit a z = is_past (moved commit (visit cs af y u a) z).at ≡ true
 
   called_past : (commit b : Bool) (c : Called) → IsPast commit Callees (call_goes b cs c)
-  called_past commit true c = refl
-  called_past commit false c = refl
+  called_past commit b c = grind arith
 
   calls_past : (commit : Bool) (end : ℕ) (p : Member) (f : Option Called) → IsPast commit Callees (calls_goes end p cs f)
   calls_past commit end p None = refl
@@ -61,8 +53,7 @@ module _ (cs : List Called) (af : Option ℕ) (y : Option (ℕ × List ℕ)) (u 
       by_test false = refl
 
   last_past : (commit b : Bool) → IsPast commit Next (last_goes b)
-  last_past commit true = refl
-  last_past commit false = refl
+  last_past commit b = grind arith
 
   next_past : (commit : Bool) (f : Option (ℕ × List ℕ)) → IsPast commit Next (next_goes cs f)
   next_past commit None = last_past commit (is_owner cs)
@@ -70,19 +61,13 @@ module _ (cs : List Called) (af : Option ℕ) (y : Option (ℕ × List ℕ)) (u 
   next_past false (Some j) = refl
 
   shadow_past : (commit : Bool) (g : ReadGoes) → IsPast commit Shadow (value_goes g)
-  shadow_past commit reads.On = refl
-  shadow_past commit (reads.Got v) = refl
-  shadow_past commit (reads.Held w) = refl
+  shadow_past commit g = grind arith
 
   free_past : (commit : Bool) (f : WriteAt) (g : WriteGoes) → IsPast commit (Free f) (freed_goes f g)
-  free_past commit f (writes.On a) = refl
-  free_past commit f (writes.Done w first) = refl
-  free_past commit f writes.NotOwner = refl
-  free_past commit f (writes.Held w) = refl
+  free_past commit f g = grind arith
 
   back_past : (s : Option (List Called × Called)) → is_past (back_from (visit cs af y u Stamp) s).at ≡ true
-  back_past None = refl
-  back_past (Some s) = refl
+  back_past s = grind arith
 
   goes_past : (x : TxId) (end : ℕ) (commit : Bool) (a : EndAt) (t : Told) → is_past a ≡ true → IsPast commit a (end_goes x end commit cs a t)
   goes_past x end commit Decide t past = cc
@@ -99,9 +84,7 @@ as_set m n k same = same_map key_total key_exact (set_row m k (map.get n k)) n (
 
 -- ---- an item is given back with the value that was listed
 value_given : (r : Option Row) (v : Value) → given_or (shadow_value r) v ≡ value_in r v
-value_given None v = refl
-value_given (Some (rows.Cell z)) v = refl
-value_given (Some r) v = refl
+value_given r v = grind arith
 
 given_so : (commit : Bool) (r : Option Row) (v : Value) → given_or (given_value commit r) v ≡ (if commit then value_in r v else v)
 given_so true r v = value_given r v
@@ -109,13 +92,10 @@ given_so false r v = refl
 
 -- an End is answered by Done
 done_only : (p : Place) (t : Option TxId) (b : Bool) (a : Answer) → IsAnswer p t (effect.End b) a → a ≡ answer.Done
-done_only p None b answer.Done h = refl
-done_only p (Some t) b answer.Done h = refl
-done_only p t b a h = absurd h
+done_only p t b a h = grind arith
 
 or_true : (b : Bool) → (b || true) ≡ true
-or_true true = refl
-or_true false = refl
+or_true b = grind arith
 
 -- the row of a root, and whose an intent's row is
 abbrev is_root : Kind → Bool

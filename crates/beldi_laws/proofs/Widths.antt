@@ -5,7 +5,6 @@ use Rattle.beldi_laws.proofs.Names.answer
 use Rattle.beldi_laws.proofs.Names.effect
 use Rattle.beldi_laws.proofs.Names.kinds
 use Rattle.beldi_laws.proofs.Names.map
-use Rattle.beldi_laws.proofs.Names.rows
 use Rattle.std.specs.Prelude.{take}
 use Rattle.beldi_lock.proofs.Firsts.{IsLast}
 use Rattle.beldi_laws.proofs.Ended.{owner_outside}
@@ -13,17 +12,13 @@ use Rattle.beldi_laws.proofs.Members.{call_known, members_joined}
 
 -- ---- steps
 wanted_by : (p : Place) (t : Option TxId) (e : Effect) (a : Answer) → IsAnswer p t e a → IsTrue (wants_answer e)
-wanted_by p None (effect.Return o) a h = absurd h
-wanted_by p (Some t) (effect.Return o) a h = absurd h
-wanted_by p t e a h = refl
+wanted_by p t e a h = grind arith
 
 wants_call : (w : Bool) (f : ℕ) (v : Value) → IsTrue (wants_answer (call_of w f v))
-wants_call true f v = refl
-wants_call false f v = refl
+wants_call w f v = grind arith
 
 wants_item : (x : Item) (func : ℕ) (e : Effect) → is_item x func (touched e) ≡ true → IsTrue (wants_answer e)
-wants_item x func (effect.Return o) h = cc
-wants_item x func e h = refl
+wants_item x func e h = grind arith
 
 -- a step that was answered is one that bodies have
 pub answered_small : (d : Deployment) (id : IntentId) (q : Instance) (n : ℕ) → SaneInstance d id q → n < length q.answers → n < 30000
@@ -98,9 +93,7 @@ record Asks (d : Deployment) (known : Known) (i : IntentId) (b : ℕ) : Type 0 w
   pub few : length given < 30000
 
 row_there : (r : Option Row) (row : Row) (owed ahead : Bool) → r ≡ Some row → LocksetMatches r owed ahead → (owed || ahead) ≡ true
-row_there None row owed ahead is h = cc
-row_there (Some rows.Lockset) row owed ahead is h = h
-row_there (Some r) row owed ahead is h = absurd h
+row_there r row owed ahead is h = grind arith
 
 module _ (d : Deployment) (m : Rows) (known : Known) (locked : IntentId → Bool) (h : Matches d m known locked) (sane : Sane d known) where
   module _ (i : IntentId) (b : ℕ) (x : Item) where

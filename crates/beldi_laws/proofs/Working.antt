@@ -1,5 +1,5 @@
 -- The turns of an operation inside a transaction, past its lock: it looks at its shadow and at the item, keeps what it read, and makes and writes its shadow.
-use Rattle.beldi_laws.proofs.Names.{Answer, Begun, Bool, ByTx, Cause, Cell, CondCell, Content, Core, Deployment, Effect, Fits, Found, Frame, Goes, InItem, InOperation, Inside, Instance, IntentId, IsAnswer, IsFront, IsOpen, Item, Known, Knows, List, LockedOut, Look, Make, MakeCell, Matches, None, Note, Option, Owner, Place, PutRead, Rel, Right, Row, RowKey, Rows, Run, RunTx, Sane, Says, Some, SoundAt, Tell, TxAt, TxId, Value, WriteAt, WriteCell, [], act, ahead_set, ap, at_tail, begin_of, begun_lists, behind_locks, behind_looks, behind_tests, behind_writes, cell_held, cell_noted, cond_to, content_apart, content_in, content_of, death_in, decision_key, did, effect_of, entered, false, first_rows_go, got_begun, grows_self, head_goes, head_key, head_made, held_or, id_cmp, id_total, if◌then◌else◌, inl, inr, is_begin, is_data, is_eq, is_some, item_leads, keep_goes, kinds_apart, length, listed, listed_open, listed_under, lock_answer, lock_or, lockset_ahead, lockset_key, log_key, looked, moved, next_or, no_log, no_shadow_note, note_at, noted, noted_or, on_cell, once_pushed, other_owner, owed_lockset, passes, place_of, read_goes, read_inside, reads_go, refl, said, said_noted, sane_read, sane_tested, sane_wrote, set_here, set_others, set_row, shadow_key, shadow_lists, shadow_made, shadow_of, shadow_read, shadow_told, shadow_value, stays, subst, sym, test_inside, test_on, test_parts, tested, tests_go, tied_itself, touched, true, turn_next, turned_by, tx_after, tx_here_asks, tx_here_says, tx_now, tx_of, tx_says, unchanged, undecided, unless_held, value_at, value_in, was_did, write_goes, write_inside, write_leads, write_on, write_parts, writes_go, writes_on, ℕ, ◌++◌, ◌∙◌, ◌∷◌, ◌≡◌, ◌⊎◌}
+use Rattle.beldi_laws.proofs.Names.{Answer, Begun, Bool, ByTx, Cause, Cell, CondCell, Content, Core, Deployment, Effect, Fits, Found, Frame, Goes, InItem, InOperation, Inside, Instance, IntentId, IsAnswer, IsFront, IsOpen, Item, Known, Knows, List, LockedOut, Look, Make, MakeCell, Matches, None, Note, Option, Owner, Place, PutRead, Rel, Right, Row, RowKey, Rows, Run, RunTx, Sane, Says, Some, SoundAt, Tell, TxAt, TxId, Value, WriteAt, WriteCell, [], act, ahead_set, ap, arith, at_tail, begin_of, begun_lists, behind_locks, behind_looks, behind_tests, behind_writes, cell_held, cell_noted, cond_to, content_apart, content_in, content_of, death_in, decision_key, did, effect_of, entered, false, first_rows_go, got_begun, grows_self, head_goes, head_key, head_made, held_or, id_cmp, id_total, if◌then◌else◌, inl, inr, is_begin, is_data, is_eq, is_some, item_leads, keep_goes, kinds_apart, length, listed, listed_open, listed_under, lock_answer, lock_or, lockset_ahead, lockset_key, log_key, looked, moved, next_or, no_log, no_shadow_note, note_at, noted, noted_or, on_cell, once_pushed, other_owner, owed_lockset, passes, place_of, read_goes, read_inside, reads_go, refl, said, said_noted, sane_read, sane_tested, sane_wrote, set_here, set_others, set_row, shadow_key, shadow_lists, shadow_made, shadow_of, shadow_read, shadow_told, shadow_value, stays, subst, sym, test_inside, test_on, test_parts, tested, tests_go, tied_itself, touched, true, turn_next, turned_by, tx_after, tx_here_asks, tx_here_says, tx_now, tx_of, tx_says, unchanged, undecided, unless_held, value_at, value_in, was_did, write_goes, write_inside, write_leads, write_on, write_parts, writes_go, writes_on, ℕ, ◌++◌, ◌∙◌, ◌∷◌, ◌≡◌, ◌⊎◌}
 use Rattle.beldi_laws.proofs.Names.answer
 use Rattle.beldi_laws.proofs.Names.at
 use Rattle.beldi_laws.proofs.Names.effect
@@ -34,9 +34,7 @@ read_is p s t key (answer.Aborted z) fits lives = cc
 read_is p s t key a fits lives = absurd fits
 
 write_is : (p : Place) (s : TxId) (t : ℕ) (key : List ℕ) (v : Value) (a : Answer) → IsAnswer p (Some s) (effect.Write t key v) a → death_in a ≡ None → a ≡ answer.Done
-write_is p s t key v answer.Done fits lives = refl
-write_is p s t key v (answer.Aborted z) fits lives = cc
-write_is p s t key v a fits lives = absurd fits
+write_is p s t key v a fits lives = grind arith
 
 test_is : (p : Place) (s : TxId) (t : ℕ) (key : List ℕ) (u : Rel) (w v : Value) (a : Answer) → IsAnswer p (Some s) (effect.CondWrite t key u w v) a → death_in a ≡ None → (b : Bool) × (a ≡ answer.Value (value.Bool b))
 test_is p s t key u w v (answer.Value (value.Bool b)) fits lives = (b, refl)
@@ -67,12 +65,10 @@ abbrev tries : Place → Rel → Value → Value → Cell → Cell × Tell
 tries p u w v z = cond_to (passes z.value u w) p v z
 
 write_acts : (p : Place) (w : Owner) (v : Value) (t : ℕ) (y : Option Row) → act (WriteCell p w v) t y ≡ on_shadow p w (wrote p v) y
-write_acts p w v t None = refl
-write_acts p w v t (Some y) = refl
+write_acts p w v t y = grind arith
 
 test_acts : (p : Place) (w : Owner) (u : Rel) (y v : Value) (t : ℕ) (z : Option Row) → act (CondCell p w u y v) t z ≡ on_shadow p w (tries p u y v) z
-test_acts p w u y v t None = refl
-test_acts p w u y v t (Some z) = refl
+test_acts p w u y v t z = grind arith
 
 -- the stages past the lock
 abbrev pub is_past : TxAt → Bool
