@@ -46,8 +46,7 @@ free_of t o = by_other (other_owner (Tx t) o)
     by_age w b h g = grind arith
 
     by_other : (u : Option Owner) → held_by (waited (Tx t) u) ≡ None → died_of (Tx t) u ≡ None → u ≡ None
-    by_other None h g = refl
-    by_other (Some w) h g = by_age w (is_older t.intent (age_of w)) h g
+    by_other u h g = grind arith
 
 -- ---- a Begin that has not ended is open still
 open_on : (d : Deployment) (q : Instance) (given rest : List Answer) (b : ℕ) → given ++ rest ≡ q.answers → end_of d q b ≡ None → (txs_after d q given).begun ≡ Some b → (txs_after d q q.answers).begun ≡ Some b
@@ -71,9 +70,7 @@ was_open d q given (a ∷ rest) b all less begun =
     by_effect (effect_after d q given) (sym (ap (λ (s : Txs). s.begun) (txs_pushed d q given a)) ∙ was_open d q (given ++ a ∷ []) rest b (append_assoc given (a ∷ []) rest ∙ all) (let l = length-append given (a ∷ []) in omega (arith, l, less)) begun)
   where
     by_effect : (e : Effect) → (txs_by (length given) e (txs_after d q given)).begun ≡ Some b → (txs_after d q given).begun ≡ Some b
-    by_effect effect.Begin h = let k : length given ≡ b = same_some h in absurd (omega (arith, k, less))
-    by_effect (effect.End c) h = cc
-    by_effect e h = h
+    by_effect e h = grind arith
 
 -- ---- the owners of items
 module _ (d : Deployment) (m : Rows) (known : Known) (locked : IntentId → Bool) (rows : Matches d m known locked) (sane : Sane d known) where

@@ -1,5 +1,5 @@
 -- What is called at a step, and what a run knows of it.
-use Rattle.beldi_laws.proofs.Names.{Answer, Begun, Body, Bool, ByTx, Call, CalledBy, Core, Deployment, Effect, End, Entry, Frame, Goes, Grows, Inside, Instance, IntentId, InvokeRow, IsBelow, IsBodyOf, IsOutside, IsTrue, Item, Known, Knows, KnowsAt, List, LockedAtEnds, Matches, MaySet, None, Option, Outcome, PlainState, Registers, Right, Row, RowKey, Rows, Run, RunTx, Sane, Some, Step, TxId, Value, [], ahead_set, answer_given, answered, ap, append_assoc, arith, at_once, at_once_same, call_of, call_opened, called_by, called_in, callee_apart, callee_body, callee_by, callee_of, calls_at, child_of, child_same, content_of, effect_before, effect_of, elsewhere, enabled_step, ended_by, eq-eqb, false, goes_one, got_next, grows_new, has_callees, here, if◌then◌else◌, inl, inr, invoke_key, is_begin, is_none, is_some, item_touched, kind_of, last_hop, length, length-append, made_owes, made_set, moved, new_instance, no_own_callee, none_by, none_out, now_open, opened, option_map, origin_stays, owed_call, place_of, refl, result_of, run_tx, same_some, set_after_callee, set_next, set_row, slice_get, step_by, subst, suc, sym, touched_by, true, tx_after, tx_at, tx_begun, tx_end, tx_now, unlocked_absent, waits_at, wants_answer, with_callee, with_instance, within_by, zero, ℕ, ◌&&◌, ◌++◌, ◌<◌, ◌∙◌, ◌∷◌, ◌≡◌, ◌⊎◌}
+use Rattle.beldi_laws.proofs.Names.{Answer, Begun, Body, Bool, ByTx, Call, CalledBy, Core, Deployment, Effect, End, Entry, Frame, Goes, Grows, Inside, Instance, IntentId, InvokeRow, IsBelow, IsBodyOf, IsOutside, IsTrue, Item, Known, Knows, KnowsAt, List, LockedAtEnds, Matches, MaySet, None, Option, Outcome, PlainState, Registers, Right, Row, RowKey, Rows, Run, RunTx, Sane, Some, Step, TxId, Value, [], ahead_set, answer_given, answered, ap, append_assoc, arith, at_once, at_once_same, call_of, call_opened, called_by, called_in, callee_apart, callee_body, callee_by, callee_of, calls_at, child_of, child_same, content_of, effect_before, effect_of, elsewhere, enabled_step, ended_by, false, goes_one, got_next, grows_new, has_callees, here, if◌then◌else◌, inl, inr, invoke_key, is_begin, is_none, is_some, item_touched, kind_of, last_hop, length, length-append, made_owes, made_set, moved, new_instance, no_own_callee, none_by, none_out, now_open, opened, option_map, origin_stays, owed_call, place_of, refl, result_of, run_tx, same_some, set_after_callee, set_next, set_row, slice_get, step_by, subst, suc, sym, touched_by, true, tx_after, tx_at, tx_begun, tx_end, tx_now, unlocked_absent, waits_at, wants_answer, with_callee, with_instance, within_by, zero, ℕ, ◌&&◌, ◌++◌, ◌<◌, ◌∙◌, ◌∷◌, ◌≡◌, ◌⊎◌}
 use Rattle.beldi_laws.proofs.Names.kind
 use Rattle.beldi_laws.proofs.Names.map
 use Rattle.beldi_laws.proofs.Names.rows
@@ -19,10 +19,7 @@ use Rattle.beldi_laws.proofs.Cases.{by_option}
 
 -- a call tells whether it waits, its function and its argument
 pub same_call : (a b : Bool) (f g : ℕ) (v u : Value) → call_of a f v ≡ call_of b g u → (a ≡ b) × (f ≡ g) × (v ≡ u)
-same_call true true f g v u h = (refl, cc, cc)
-same_call true false f g v u h = cc
-same_call false true f g v u h = cc
-same_call false false f g v u h = (refl, cc, cc)
+same_call a b f g v u h = grind arith
 
 -- who is not known called nobody
 pub childless : (d : Deployment) (known : Known) → Sane d known → (id : IntentId) → map.get known id ≡ None → (n : ℕ) → map.get known (child_of id n) ≡ None
@@ -67,8 +64,7 @@ module _ (d : Deployment) (c : Core) (m : Rows) (r : Run) (g : Begun) (h : Right
   owed_is = ap (λ o. called_by r.func o (map.get h.known callee)) k.made ∙ by_callee (map.get h.known callee)
     where
       by_callee : (o : Option Instance) → called_by r.func (Some k.instance) o ≡ option_map {U = ℕ × Option Outcome} (λ j. (j.func, result_of j)) o
-      by_callee None = refl
-      by_callee (Some j) = ap (λ b. if b then Some (j.func, result_of j) else None) (eq-eqb k.instance.func r.func k.func)
+      by_callee o = grind arith
 
   pub not_made : owed_call h.known r.func (place_of r.id g.machine.steps) ≡ None → map.get h.known callee ≡ None
   not_made none = none_by (map.get h.known callee) (λ j at. let clash = sym (sym owed_is ∙ none) ∙ ap (option_map {U = ℕ × Option Outcome} (λ j. (j.func, result_of j))) at in cc)
@@ -246,8 +242,7 @@ module _ (d : Deployment) (c : Core) (m : Rows) (i : ℕ) (r : Run) (g : Begun) 
       waits_not false = ap is_some (plain_none d h.plain h.known h.beside (callee_of r.id k.instance) none_there)
 
       is_change : (b : Bool) → kind_of r.id (call_of b f v) ≡ kind.Change
-      is_change true = ap (λ t. if t then kind.Change else kind.Unbuilt) hops
-      is_change false = ap (λ t. if t then kind.Change else kind.Unbuilt) hops
+      is_change b = grind arith
 
       touches : (b : Bool) → item_touched k.instance (call_of b f v) ≡ None
       touches b = grind arith

@@ -32,8 +32,7 @@ module _ (d : Deployment) (known : Known) (sane : Sane d known) (t : TxId) where
         b = has_begin j z is inner
 
         no_read : (given : List Answer) (o : Option Answer) → effect_after d (has_begin j z is inner).owner given ≡ effect.Begin → at_step (λ ts a. value_for (effect_after d (has_begin j z is inner).owner ts) a) given o ≡ None
-        no_read given None e = refl
-        no_read given (Some a) e = ap (λ y. value_for y a) e
+        no_read given o e = grind arith
 
         undecided : end_of d (has_begin j z is inner).owner t.begin ≡ None → owed_read d known t.func (place_of t.intent t.begin) ≡ None
         undecided none =

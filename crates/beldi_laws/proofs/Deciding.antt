@@ -1,6 +1,6 @@
 -- The turn of a run that is to decide its transaction: it puts the decision, whose entry is the transaction's piece or its try; or the
 -- decision is there.
-use Rattle.beldi_laws.proofs.Names.{Answer, Begun, Bool, ByTx, Core, Deployment, FellAt, Frame, Goes, Grows, Inside, Instance, Intent, IntentId, IsAbort, IsCommit, IsFree, IsFreePlace, IsOpen, IsTrue, Item, Known, Knows, List, Mark, Matches, None, OpenTx, Option, Own, OwnedAreUnmarked, Owner, OwnersCallNobody, ParticipantsHaveRows, Place, PlainState, PutRead, Right, Row, RowKey, Rows, Run, Sane, SaneInstance, Some, TookPart, TouchedIn, Touches, Try, TxId, Visit, Visited, [], aborts_are_tries, act, after, ahead_set, answered, ap, arith, at_calls, behind_decided, commits_are_pieces, cond, content_of, decide_by_says, decided, decided_by, decided_says, decision_key, effect_after, effect_of, end_by_asks, end_mark, end_of, end_walk, ended_by, ends_alone, entries_touch, entry_of, eq-eqb, eqb-true, false, few_answers, first_visit, fits, here, if◌then◌else◌, inl, inr, is_at, is_owner, is_some, key_self, known_none_after, known_set, last_answer, length, listed, log_key, moved, moved_one, no_decision, no_note, no_root, none_out, note_at, open_of, opens_are_open, or_null, own_tx, pieces_are_moves, pieces_touch_their_items, place_of, refl, root_key, row_got, same_some, sane_decided, seen_of, set_others, set_row, subst, sym, touched, true, turn_next, turned_by, tx_after, tx_begun, tx_end, txs_after, txs_by, unlocked_elsewhere, value_at, wants_answer, with_decision, with_instance, ℕ, ◌++◌, ◌<◌, ◌==◌, ◌∙◌, ◌∷◌, ◌≡◌, ◌⊎◌}
+use Rattle.beldi_laws.proofs.Names.{Answer, Begun, Bool, ByTx, Core, Deployment, FellAt, Frame, Goes, Grows, Inside, Instance, Intent, IntentId, IsAbort, IsCommit, IsFree, IsFreePlace, IsOpen, IsTrue, Item, Known, Knows, List, Mark, Matches, None, OpenTx, Option, Own, OwnedAreUnmarked, Owner, OwnersCallNobody, ParticipantsHaveRows, Place, PlainState, PutRead, Right, Row, RowKey, Rows, Run, Sane, SaneInstance, Some, TookPart, TouchedIn, Touches, Try, TxId, Visit, Visited, [], aborts_are_tries, act, after, ahead_set, answered, ap, arith, at_calls, behind_decided, commits_are_pieces, cond, content_of, decide_by_says, decided, decided_by, decided_says, decision_key, effect_after, effect_of, end_by_asks, end_mark, end_of, end_walk, ended_by, ends_alone, entries_touch, entry_of, eq-eqb, false, few_answers, first_visit, fits, here, if◌then◌else◌, inl, inr, is_at, is_owner, is_some, key_self, known_none_after, known_set, last_answer, length, listed, log_key, moved, moved_one, no_decision, no_note, no_root, none_out, note_at, open_of, opens_are_open, or_null, own_tx, pieces_are_moves, pieces_touch_their_items, place_of, refl, root_key, row_got, same_some, sane_decided, seen_of, set_others, set_row, subst, sym, touched, true, turn_next, turned_by, tx_after, tx_begun, tx_end, txs_after, txs_by, unlocked_elsewhere, value_at, wants_answer, with_decision, with_instance, ℕ, ◌++◌, ◌<◌, ◌==◌, ◌∙◌, ◌∷◌, ◌≡◌, ◌⊎◌}
 use Rattle.beldi_laws.proofs.Names.answer
 use Rattle.beldi_laws.proofs.Names.effect
 use Rattle.beldi_laws.proofs.Names.goes
@@ -31,9 +31,7 @@ own_there c = grind arith
 
 -- the mark of a decision without commit, by what its instance was answered last
 entry_fell : (id : IntentId) (n : ℕ) (u : Option Answer) (p : Place) (h : Option IntentId) → FellAt id n u p h → entry_of id (end_mark id n (cause_in u) false) ≡ Try id p h
-entry_fell id n None p h f = λ i. Try id (sym f.0 i) (sym f.1 i)
-entry_fell id n (Some (answer.Aborted c)) p h f = λ i. Try id (sym f.0 i) (sym f.1 i)
-entry_fell id n (Some a) p h f = λ i. Try id (sym f.0 i) (sym f.1 i)
+entry_fell id n u p h f = grind arith
 
 -- how a transaction that owns an item ended
 abbrev end_under : Deployment → Known → Option Owner → Option (ℕ × Bool)
@@ -154,8 +152,7 @@ module _ (d : Deployment) (c : Core) (m : Rows) (i : ℕ) (r : Run) (g : Begun) 
         (λ ends mine. by_begin (t.begin == o.begin) refl (sym (end_is t.begin) ∙ ends)) (λ j other ends mine. inr ends) t.intent e refl
       where
         by_begin : (b : Bool) → (t.begin == o.begin) ≡ b → (if b then Some (length k.instance.answers, commit) else end_of d k.instance t.begin) ≡ Some z → ((r.id ≡ r.id) × (t.begin ≡ o.begin) × (z.0 ≡ length k.instance.answers)) ⊎ (ended_by d t.begin (map.get h.known r.id) ≡ Some z)
-        by_begin true g ends = inl (refl, eqb-true t.begin o.begin g, ap (λ (y : ℕ × Bool). y.0) (sym (same_some ends)))
-        by_begin false g ends = inr (ap (ended_by d t.begin) k.made ∙ ends)
+        by_begin b g ends = grind arith
 
     -- who took part did so before
     took_before : (t : TxId) (i : IntentId) → TookPart next t i → TookPart h.known t i

@@ -62,9 +62,7 @@ module _ (d : Deployment) (q : Instance) (b : ℕ) where
       ∙ begun_before (given ++ a ∷ []) rest (let l = length-append given (a ∷ []) in omega (arith, l, less)) (ap (λ ts. (txs_after d q ts).begun) (append_assoc given (a ∷ []) rest) ∙ h))
     where
       by_effect : (e : Effect) → (txs_by (length given) e (txs_after d q given)).begun ≡ Some b → (txs_after d q given).begun ≡ Some b
-      by_effect effect.Begin k = let same = same_some k in absurd (omega (arith, less, same))
-      by_effect (effect.End c) k = cc
-      by_effect e k = k
+      by_effect e k = grind arith
 
   begun_at : (n m : ℕ) → n ≤ m → m ≤ length q.answers → b < n → (txs_after d q (take m q.answers)).begun ≡ Some b → (txs_after d q (take n q.answers)).begun ≡ Some b
   begun_at n m le len less h =

@@ -1,5 +1,5 @@
 -- The last turn of a run: its instance is ended.
-use Rattle.beldi_laws.proofs.Names.{Begun, Body, BodyMatches, Bool, CalleeBodyMatches, Caller, Core, Deployment, Ends, FinishMatches, Inside, Instance, IntentMatches, IntentRow, IsCalleeRow, Known, Knows, Matches, None, Option, Outcome, OutcomeMatches, PlainState, Return, Right, RootMatches, Row, RowKey, Rows, Run, Some, Step, Tell, TxId, act, answer_caller, answer_of, ap, arith, callee_put, close_says, effect_of, end_asks, end_with, false, finish_at, func_called, give, has_ended, has_finish, has_no_hops, here, if◌then◌else◌, intent_ended, intent_key, is_did, is_inherited, is_some, is_waited, mark_if, not, option_map, outcome_of, refl, reply_if, root_of, same_some, set_others, set_row, subst, sym, true, turn_next, turned_by, tx_in, with_instance, within, ℕ, ◌==◌, ◌∙◌, ◌≡◌}
+use Rattle.beldi_laws.proofs.Names.{Begun, Body, BodyMatches, Bool, CalleeBodyMatches, Caller, Core, Deployment, Ends, FinishMatches, Inside, Instance, IntentMatches, IntentRow, IsCalleeRow, Known, Knows, Matches, None, Option, Outcome, OutcomeMatches, PlainState, Return, Right, RootMatches, Row, RowKey, Rows, Run, Some, Step, Tell, TxId, act, answer_caller, ap, arith, callee_put, close_says, effect_of, end_asks, end_with, false, finish_at, func_called, has_ended, has_finish, has_no_hops, here, intent_ended, intent_key, is_did, is_inherited, is_some, is_waited, mark_if, not, option_map, outcome_of, refl, reply_if, root_of, same_some, set_others, set_row, subst, sym, true, turn_next, turned_by, tx_in, with_instance, within, ℕ, ◌==◌, ◌∙◌, ◌≡◌}
 use Rattle.beldi_laws.proofs.Names.map
 use Rattle.beldi_laws.proofs.Names.mark
 use Rattle.beldi_laws.proofs.Names.rows
@@ -93,8 +93,7 @@ module _ (d : Deployment) (c : Core) (m : Rows) (i : ℕ) (r : Run) (g : Begun) 
     finishes_now (Some t) f u was = was
 
     tx_there : (home : ℕ) (b : Option Body) (u : Option Outcome) → CalleeBodyMatches home b u (Some k.instance) → tx_in b ≡ k.instance.within
-    tx_there home None u f = absurd f
-    tx_there home (Some b) u f = ap (λ z. z.tx) f.0.body ∙ ap (λ (z : Instance). z.within) (same_some (sym f.0.made))
+    tx_there home b u f = grind arith
 
     put_now : AfterEnd
     unfolding AfterEnd
@@ -120,13 +119,11 @@ module _ (d : Deployment) (c : Core) (m : Rows) (i : ℕ) (r : Run) (g : Begun) 
     left_state = with_instance h.plain r.id (done k o)
 
     no_answer_given : (b : Option Caller) → is_waited b ≡ false → answer_caller left_state b o ≡ left_state
-    no_answer_given None e = refl
-    no_answer_given (Some b) e = ap (λ t. if t then give left_state b.place.intent (answer_of o) (map.get left_state.made b.place.intent) else left_state) e
+    no_answer_given b e = grind arith
 
     -- its row says that it has not ended
     open_root : (b : Option Body) (u : Option Outcome) → BodyMatches b u (Some k.instance) → k.instance.outcome ≡ u
-    open_root None u f = cc
-    open_root (Some b) u f = ap (λ z. z.outcome) (same_some f.0.made) ∙ f.1
+    open_root b u f = grind arith
 
     open_callee : (home : ℕ) (b : Option Body) (u : Option Outcome) → CalleeBodyMatches home b u (Some k.instance) → k.instance.outcome ≡ u
     open_callee home None u f = absurd f
@@ -139,8 +136,7 @@ module _ (d : Deployment) (c : Core) (m : Rows) (i : ℕ) (r : Run) (g : Begun) 
     open_by true home j f = by_home (home == 0) f
       where
         by_home : (b : Bool) → RootMatches b (Some (rows.Intent j)) (Some k.instance) → k.instance.outcome ≡ j.outcome
-        by_home true f = open_root j.body j.outcome f.body
-        by_home false f = cc
+        by_home b f = grind arith
 
     replies : (t : Bool) → has_no_hops r.id.hops ≡ t → (v : Outcome) → reply_if t o ≡ Some v → outcome_of (map.get left_state.made (root_of r.id.ticket)) ≡ Some v
     replies true root v told = ap (λ z. outcome_of (map.get left_state.made z)) (sym (root_is r.id root)) ∙ ap outcome_of (here h.plain.made r.id (done k o)) ∙ told

@@ -1,5 +1,5 @@
 -- Every event keeps the host and its rows right.
-use Rattle.beldi_laws.proofs.Names.{AllocError, Async, AtStage, Begins, Begun, Bind, Body, BodyMatches, Bool, Call, Caller, CameOn, CondWrite, Core, Crash, Deployment, Effect, End, Err, Event, EventBy, EventOn, Fits, Followed, Full, Ic, InItem, Inside, Instance, IntentId, IntentMatches, IntentRow, IsBelow, IsRootRow, IsTrue, Issue, KeepsRight, Known, Knows, KnowsAt, Looks, Lost, None, Ok, OnItem, Option, OutOfMemory, Outcome, Own, PlainState, Plan, Query, Read, Registers, RepliesAreOutcomes, Request, Restart, Result, Return, Right, RightIsLegal, Row, RowKey, Rows, Run, RunAt, RunTx, Seen, Some, Stage, Start, TableErr, Tell, Tick, Ticket, Told, Turn, TxAt, TxId, Value, Write, WriteAt, [], act, after_act, ahead_nothing, ahead_set, and-false, ap, arith, asks, asks_at, at_once_same, back_of, back_says, back_to_asks, bind_asks, bind_to, binding_of, bound_next, collect_asks, collect_next, collect_says, cond, content_in, count_changes, counted, crash_plan, ended_by, ended_run, false, first_core, func_called, get-empty, got, grows_new, grows_self, has_ended, has_finish, has_run, head_key, heard, id_cmp, id_same, id_total, if◌then◌else◌, is_added, is_begin, is_crowded, is_eq, is_gone, is_some, is_waited, item_cmp, key_cmp, last_moment, launched, le-leb, least_key, leb-false, leb-true, len-empty, lends, length, length-append, listed_under, lt-leb, most_events, most_runs, nat_cmp, nat_le, nat_lt, nat_tests, new_instance, new_run, no_memory, none_out, none_show, nothing, nothing_matches, op_of, option_map, or_null, or_parts, other, outcome_of, outcome_tell, passed, plan, plan_of, refl, refused, refused_by, refused_stand, reply_of, request_next, root_apart, root_bound, root_key, root_of, row_put, rows_after, rows_stand, run_asks, run_next, run_plan, run_told, run_tx, same_some, same_value, sane_nothing, set_row, stage_asks, stage_says, start, subst, suc, sym, ticket_next, tied_itself, told_at, told_by, told_outcome, touched, touched_by, true, true_false, turn_next, turned_by, tx_after, tx_of, unchanged, unheard_next, unlocked_absent, with_instance, with_once, with_run, zero, ℕ, ◌&&◌, ◌++◌, ◌+◌, ◌-◌, ◌==◌, ◌^◌, ◌||◌, ◌∙◌, ◌∷◌, ◌≡◌, ◌≤◌}
+use Rattle.beldi_laws.proofs.Names.{AllocError, Async, AtStage, Begins, Begun, Bind, Body, BodyMatches, Bool, Call, Caller, CameOn, CondWrite, Core, Crash, Deployment, Effect, End, Err, Event, EventBy, EventOn, Fits, Followed, Full, Ic, InItem, Inside, Instance, IntentId, IntentMatches, IntentRow, IsBelow, IsRootRow, IsTrue, Issue, KeepsRight, Known, Knows, KnowsAt, Looks, Lost, None, Ok, OnItem, Option, OutOfMemory, Outcome, Own, PlainState, Plan, Query, Read, Registers, RepliesAreOutcomes, Request, Restart, Result, Return, Right, RightIsLegal, Row, RowKey, Rows, Run, RunAt, RunTx, Seen, Some, Stage, Start, TableErr, Tell, Tick, Ticket, Told, Turn, TxAt, TxId, Value, Write, WriteAt, [], act, after_act, ahead_nothing, ahead_set, and-false, ap, arith, asks, asks_at, at_once_same, back_of, back_says, back_to_asks, bind_asks, bind_to, binding_of, bound_next, collect_asks, collect_next, collect_says, cond, content_in, count_changes, counted, crash_plan, ended_by, ended_run, false, first_core, func_called, get-empty, got, grows_new, grows_self, has_ended, has_finish, has_run, head_key, heard, id_cmp, id_same, id_total, if◌then◌else◌, is_added, is_begin, is_crowded, is_eq, is_gone, is_some, is_waited, item_cmp, key_cmp, last_moment, launched, le-leb, least_key, leb-false, len-empty, lends, length, length-append, listed_under, lt-leb, most_events, most_runs, nat_cmp, nat_le, nat_lt, nat_tests, new_instance, new_run, no_memory, none_out, none_show, nothing, nothing_matches, op_of, option_map, or_null, or_parts, other, outcome_of, outcome_tell, passed, plan, plan_of, refl, refused, refused_by, refused_stand, reply_of, request_next, root_apart, root_bound, root_key, root_of, row_put, rows_after, rows_stand, run_asks, run_next, run_plan, run_told, run_tx, same_some, same_value, sane_nothing, set_row, stage_asks, stage_says, start, subst, sym, ticket_next, tied_itself, told_at, told_by, told_outcome, touched, touched_by, true, true_false, turn_next, turned_by, tx_after, tx_of, unchanged, unheard_next, unlocked_absent, with_instance, with_once, with_run, ℕ, ◌&&◌, ◌++◌, ◌+◌, ◌-◌, ◌==◌, ◌^◌, ◌||◌, ◌∙◌, ◌∷◌, ◌≡◌, ◌≤◌}
 use Rattle.beldi_laws.proofs.Names.at
 use Rattle.beldi_laws.proofs.Names.map
 use Rattle.beldi_laws.proofs.Names.rows
@@ -120,8 +120,7 @@ next_ticket true t n e x is =
 next_ticket false t n e x is = is ∙ ap (λ a. nat_lt 0 t && a) (by_size (nat_le t n) refl)
   where
     by_size : (a : Bool) → nat_le t n ≡ a → a ≡ nat_le t (n + 1)
-    by_size true a = sym (le-leb t (n + 1) (omega (arith, leb-true t n a)))
-    by_size false a = sym (lt-leb t (n + 1) (omega (arith, leb-false t n a, roots_apart t (n + 1) e)))
+    by_size a h1 = grind arith
 
 not_issued : (n : ℕ) → (nat_lt 0 (n + 1) && nat_le (n + 1) n) ≡ false
 not_issued n = ap (λ b. nat_lt 0 (n + 1) && b) (lt-leb (n + 1) n (omega arith)) ∙ and-false (nat_lt 0 (n + 1))
@@ -157,8 +156,7 @@ module _ (d : Deployment) (c : Core) (m : Rows) (h : Right d c m) where
 
 -- ---- a request
 start_is : (p : PlainState) (t f : ℕ) (a : Value) (o : Option Instance) → (t == 0) ≡ false → o ≡ None → start p t f a o ≡ Some (with_instance p (root_of t) (new_instance f a None))
-start_is p zero f a o z e = cc
-start_is p (suc t) f a o z e = ap (start p (suc t) f a) e
+start_is p t f a o z e = grind arith
 
 module _ (d : Deployment) (c : Core) (m : Rows) (h : Right d c m) (t f : ℕ) (a : Value) (issued : ((t == 0) || nat_lt c.newest t) ≡ false) (room : is_crowded c ≡ false) where
   abbrev bound_row : IntentRow → IntentRow
@@ -346,8 +344,7 @@ after_event d room old new e c b m n r h s = after_by d room old new e (counted 
 
 -- ---- a host that nothing has happened to
 no_ticket : (t : ℕ) → (nat_lt 0 t && nat_le t 0) ≡ false
-no_ticket zero = refl
-no_ticket (suc t) = ap (λ b. nat_lt 0 (suc t) && b) (lt-leb (suc t) 0 (omega arith)) ∙ and-false (nat_lt 0 (suc t))
+no_ticket t = grind arith
 
 -- nothing is known then, and no row is there
 none_known : (id : IntentId) → map.get (map.empty {X = Instance} {R = id_cmp}) id ≡ None

@@ -122,8 +122,7 @@ module _ (d : Deployment) (c : Core) (m : Rows) (r : Run) (g : Begun) (h : Right
         on_it = (λ i. is_tx own (tx_is i) && is_item its_item k.instance.func (front.touch i)) ∙ ap (λ b. b && is_item its_item k.instance.func (Some x)) (tx_self own) ∙ item_self k.instance.func x.0 x.1
 
         by_before : (u b : Bool) → b ≡ true → is_on own its_item k.instance.func (tx_now d r.id k.instance) (effect_of d k.instance) ≡ true → (u || (b && is_on own its_item k.instance.func (tx_now d r.id k.instance) (effect_of d k.instance))) ≡ true
-        by_before true b e on = refl
-        by_before false b e on = ap (λ z. z && is_on own its_item k.instance.func (tx_now d r.id k.instance) (effect_of d k.instance)) e ∙ on
+        by_before u b e on = grind arith
 
     -- an answer there ends no transaction
     pub ends_before : (a : Answer) (t : TxId) (z : ℕ × Bool) → tx_end d (map.insert h.known r.id (moved d r.id k.instance a)) t ≡ Some z → tx_end d h.known t ≡ Some z

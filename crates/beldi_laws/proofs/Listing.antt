@@ -52,8 +52,7 @@ second : (a b : Bool) → T (a && b) → T b
 second a b p = grind arith
 
 below_valued : (x y : Item) (v : Value) (zs : List (Item × Value)) → T (is_lt (item_cmp x y)) → T (below_all item_cmp x zs) → T (below_all item_cmp x (cons_some (valued y v) zs))
-below_valued x y Null zs h g = g
-below_valued x y v zs h g = both (is_lt (item_cmp x y)) (below_all item_cmp x zs) h g
+below_valued x y v zs h g = grind arith
 
 below_entry : (m : Rows) (x : Item) (f : ℕ) (k : Kind) (r : Row) (zs : List (Item × Value)) → T (is_lt (key_cmp (head_key x) (record { home = f; kind = k }))) → T (below_all item_cmp x zs) → T (below_all item_cmp x (cons_some (item_entry m f k r) zs))
 below_entry m x f (kinds.Data t k zero) (rows.Cell c) zs h g =
@@ -66,8 +65,7 @@ below_items m x [] h = tt
 below_items m x (e ∷ es) h = below_entry m x e.0.home e.0.kind e.1 (items_in m es) (first (is_lt (key_cmp (head_key x) e.0)) (below_all key_cmp (head_key x) es) h) (below_items m x es (second (is_lt (key_cmp (head_key x) e.0)) (below_all key_cmp (head_key x) es) h))
 
 sorted_valued : (y : Item) (v : Value) (zs : List (Item × Value)) → T (below_all item_cmp y zs) → T (is_sorted item_cmp zs) → T (is_sorted item_cmp (cons_some (valued y v) zs))
-sorted_valued y Null zs h g = g
-sorted_valued y v zs h g = both (below_all item_cmp y zs) (is_sorted item_cmp zs) h g
+sorted_valued y v zs h g = grind arith
 
 sorted_entry : (m : Rows) (f : ℕ) (k : Kind) (r : Row) (es : List (RowKey × Row)) → T (below_all key_cmp (record { home = f; kind = k }) es) → T (is_sorted item_cmp (items_in m es)) → T (is_sorted item_cmp (cons_some (item_entry m f k r) (items_in m es)))
 sorted_entry m f (kinds.Data t k zero) (rows.Cell c) es h g = sorted_valued (record { func = f; table = t; key = k }) (shown_under m f t k c.owner c.value) (items_in m es) (below_items m (record { func = f; table = t; key = k }) es h) g
@@ -92,8 +90,7 @@ none_below x (z ∷ zs) h =
 
 -- an entry of another key is passed over
 skip_valued : (x y : Item) (v : Value) (zs : List (Item × Value)) → is_eq (item_cmp x y) ≡ false → find item_cmp x (cons_some (valued y v) zs) ≡ find item_cmp x zs
-skip_valued x y Null zs h = refl
-skip_valued x y v zs h = ap (λ b. cond b (Some v) (find item_cmp x zs)) h
+skip_valued x y v zs h = grind arith
 
 skip_entry : (m : Rows) (x : Item) (f : ℕ) (k : Kind) (r : Row) (zs : List (Item × Value)) → is_eq (key_cmp (head_key x) (record { home = f; kind = k })) ≡ false → find item_cmp x (cons_some (item_entry m f k r) zs) ≡ find item_cmp x zs
 skip_entry m x f (kinds.Data t k zero) (rows.Cell c) zs h =

@@ -1,6 +1,6 @@
 -- The turns of an operation of a transaction up to its lock: a read looks whether a value was kept for it, the row is put that says that
 -- the lock is asked for, and the lock of the item is tried.
-use Rattle.beldi_laws.proofs.Names.{Act, Answer, AtItem, Begun, Bool, ByTx, Cause, Content, Core, Deployment, DidAs, DidOnce, Effect, Fits, Found, Frame, Goes, HasLock, InOperation, Inside, IntentId, IsAnswer, IsDeath, IsFreePlace, IsFront, Item, Known, Knows, List, Lock, LockAt, LockTold, Lockset, LoggedTurn, Logs, Look, Make, MakeCell, Matches, None, Note, OfBegin, Option, Owner, Place, Plain, PutLockset, Query, Released, Right, Row, RowKey, Rows, Run, RunTx, Sane, SaneInstance, Says, Some, SoundAt, TxAt, TxId, Value, WriteAt, WriteGoes, WriteWalk, [], act, age_of, ahead_by, ahead_front, ahead_set, ap, arith, asks_of, begin_of, behind_asks, behind_locks, behind_looks, behind_looks_dead, by_op, content_apart, content_here, content_in, content_of, death_answer, death_in, death_is_older, deaths_go, decision_key, did_lists, died, died_at, died_lists, dies, dies_inside, done_to, effect_after, effect_of, end_place, ended_by, false, given_goes, given_in, given_of, grows_self, has_asked, head_key, held, id_cmp, if◌then◌else◌, inl, inr, inserted, is_data, is_eq, is_item, is_log, is_older, is_shadow, is_some, item_asks, item_goes, item_of, key_cmp, kinds_apart, last_step, length, listed, lists_same, lock_answer, lock_did, lock_in, lock_is_there, lock_leads, lock_on, lock_or, locked_goes, lockset_ahead, lockset_key, lockset_put, log_key, looked, moved, no_row, none_out, note_at, note_goes, note_here, note_is_ahead, note_pushed, noted, noted_or, notes_stay, op_act, other_owner, owed_lockset, place_eq, place_of, place_same, put_goes, put_lockset, refl, rows_after, rows_go, said, same_some, sane_died, set_here, set_others, set_row, shadow_key, subst, sym, told, told_by, touched, true, true_false, turn_next, turned_by, tx_after, tx_end, tx_here_asks, tx_here_says, tx_now, tx_of, tx_says, unchanged, undecided, value_at, walk_so, with_note, write_asks, write_goes, ℕ, ◌++◌, ◌<◌, ◌∙◌, ◌∷◌, ◌≡◌}
+use Rattle.beldi_laws.proofs.Names.{Act, Answer, AtItem, Begun, Bool, ByTx, Cause, Content, Core, Deployment, DidAs, DidOnce, Effect, Fits, Found, Frame, Goes, HasLock, InOperation, Inside, IntentId, IsAnswer, IsDeath, IsFreePlace, IsFront, Item, Known, Knows, List, Lock, LockAt, LockTold, Lockset, LoggedTurn, Logs, Look, Make, MakeCell, Matches, None, Note, OfBegin, Option, Owner, Place, Plain, PutLockset, Query, Released, Right, Row, RowKey, Rows, Run, RunTx, Sane, SaneInstance, Says, Some, SoundAt, TxAt, TxId, Value, WriteAt, WriteGoes, WriteWalk, [], act, age_of, ahead_by, ahead_front, ahead_set, ap, arith, asks_of, begin_of, behind_asks, behind_locks, behind_looks, behind_looks_dead, by_op, content_apart, content_here, content_in, content_of, death_answer, death_in, death_is_older, deaths_go, decision_key, did_lists, died, died_at, died_lists, dies, dies_inside, done_to, effect_after, effect_of, end_place, ended_by, false, given_goes, given_in, given_of, grows_self, has_asked, head_key, held, id_cmp, if◌then◌else◌, inl, inr, inserted, is_data, is_eq, is_item, is_log, is_shadow, is_some, item_asks, item_goes, item_of, key_cmp, kinds_apart, last_step, length, listed, lists_same, lock_answer, lock_did, lock_in, lock_is_there, lock_leads, lock_on, lock_or, locked_goes, lockset_ahead, lockset_key, lockset_put, log_key, looked, moved, no_row, none_out, note_at, note_goes, note_here, note_is_ahead, note_pushed, noted, noted_or, notes_stay, op_act, other_owner, owed_lockset, place_eq, place_of, place_same, put_goes, put_lockset, refl, rows_after, rows_go, said, same_some, sane_died, set_here, set_others, set_row, shadow_key, subst, sym, told, told_by, touched, true, true_false, turn_next, turned_by, tx_after, tx_end, tx_here_asks, tx_here_says, tx_now, tx_of, tx_says, unchanged, undecided, value_at, walk_so, with_note, write_asks, write_goes, ℕ, ◌++◌, ◌<◌, ◌∙◌, ◌∷◌, ◌≡◌}
 use Rattle.beldi_laws.proofs.Names.answer
 use Rattle.beldi_laws.proofs.Names.at
 use Rattle.beldi_laws.proofs.Names.effect
@@ -44,10 +44,7 @@ item_touched : (e : Effect) → item_of e ≡ touched e
 item_touched e = grind arith
 
 looks_read : (e : Effect) (x : ℕ × List ℕ) → Fits e at.Log → touched e ≡ Some x → e ≡ effect.Read x.0 x.1
-looks_read (effect.Read t k) x h on = ap (λ (z : ℕ × List ℕ). effect.Read z.0 z.1) (same_some on)
-looks_read (effect.Write t k v) x h on = absurd h
-looks_read (effect.CondWrite t k r o v) x h on = absurd h
-looks_read e x h on = absurd h
+looks_read e x h on = grind arith
 
 -- before its lock it found nothing
 none_found : (e : Effect) (l : LockAt) (r : Option Row) (v : Value) → Found e (at.Lock l) r v
@@ -58,16 +55,13 @@ told_note : (p : Place) (t : TxId) (c x : Content) (w : Note) → lock_on p t c 
 told_note p t c x w h = by_note (note_at c.notes p) h
   where
     by_age : (o : Owner) (b : Bool) → ◌≡◌ {A = Content × Told} (if b then (c, held o) else (with_note c p (notes.Died (age_of o)), died (age_of o))) (x, noted w) → ⊥
-    by_age o true g = let clash = ap (λ z. z.1) g in cc
-    by_age o false g = let clash = ap (λ z. z.1) g in cc
+    by_age o b g = grind arith
 
     by_owner : (o : Option Owner) → lock_or p t c o ≡ (x, noted w) → ⊥
-    by_owner None g = let clash = ap (λ z. z.1) g in cc
-    by_owner (Some o) g = by_age o (is_older t.intent (age_of o)) g
+    by_owner o g = grind arith
 
     by_note : (n : Option Note) → noted_or c n (lock_or p t c (other_owner (ByTx t) c.owner)) ≡ (x, noted w) → n ≡ Some w
-    by_note None g = absurd (by_owner (other_owner (ByTx t) c.owner) g)
-    by_note (Some n) g = let same = ap (λ z. z.1) g in let k : n ≡ w = cc in ap Some k
+    by_note n g = grind arith
 
 -- a new note is that of the lock, or of the death
 abbrev IsNew : Option IntentId → Note → Type 0
@@ -85,8 +79,7 @@ is_locks (notes.Died j) = true
 is_locks u = false
 
 not_new : (j : Option IntentId) (u : Note) → is_locks u ≡ false → IsNew j u → ⊥
-not_new None u off new = true_false (sym (ap is_locks new) ∙ off)
-not_new (Some j) u off new = true_false (sym (ap is_locks new) ∙ off)
+not_new j u off new = grind arith
 
 one_death : {i j : IntentId} → notes.Died j ≡ notes.Died i → i ≡ j
 one_death same = cc
@@ -105,8 +98,7 @@ none_dead y f (Some t) e true j same = by_item (is_item y f (touched e)) same
 
 -- a death that was noted is the answer
 noted_death : (p : Place) (a : Answer) (j : IntentId) → Some (answer.Aborted (record { place = p; holder = Some j })) ≡ death_in a → answer.Aborted (record { place = p; holder = Some j }) ≡ a
-noted_death p (answer.Aborted c) j h = same_some h
-noted_death p a j h = cc
+noted_death p a j h = grind arith
 
 -- ---- the turns
 module _ (d : Deployment) (c : Core) (m : Rows) (i : ℕ) (r : Run) (g : Begun) (h : Right d c m) (live : map.get c.runs i ≡ Some r) (k : Knows d h.known r g) (finds : Inside m h.plain c.book k g.stage)

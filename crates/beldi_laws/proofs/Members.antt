@@ -65,9 +65,7 @@ module _ (d : Deployment) (m : Rows) (known : Known) (locked : IntentId → Bool
         owed = (λ i. called_by p.1 (k.made i) (k.there i)) ∙ ap (λ b. if b then Some (k.callee.func, result_of k.callee) else None) (eq-eqb k.caller.func p.1 k.func)
 
         by_row : (r : Option Row) → CallMatches r (Some (k.callee.func, result_of k.callee)) → option_map func_called r ≡ Some k.callee.func
-        by_row None e = cc
-        by_row (Some (rows.Invoke i)) e = ap (λ (y : ℕ × Option Outcome). Some y.0) (sym (same_some e))
-        by_row (Some r) e = absurd e
+        by_row r e = grind arith
 
   -- ---- a transaction that has ended
   module _ (sane : Sane d known) (t : TxId) where

@@ -1,5 +1,5 @@
 -- The host after an event: what it makes of the table, and how the book and the runs went on.
-use Rattle.beldi_laws.proofs.Names.{AllocError, Bool, Core, Deployment, Entry, Err, Frame, Grows, IntentId, IsFree, IsGuarded, IsLast, Known, KnowsAt, List, Mark, None, Ok, Option, Outcome, PlainState, Query, Result, Right, Row, RowKey, Rows, Run, RunAt, RunsMatch, Seen, SeenBounded, Some, Tell, Told, TurnSays, Turned, Wait, [], after, after_grows, after_turn, ap, append-nil, change_last, changed, entry_of, false, got, grows_self, has_run, if◌then◌else◌, inl, inr, is_crowded, is_gone, is_some, key_exact, leb-false, linear, made, marked, may_start, most_runs, nat_le, nat_lt, nothing, option_map, or_parts, put_run, refl, remove_put, reply_of, root_key, rows_after, run_of, said, same_some, says_of, seen_of, set_row, started, subst, sym, told_by, told_outcome, true, turn_next, turned_core, unchanged, with_run, without_run, ℕ, ◌&&◌, ◌++◌, ◌||◌, ◌∙◌, ◌∷◌, ◌≡◌, ◌⊎◌}
+use Rattle.beldi_laws.proofs.Names.{AllocError, Bool, Core, Deployment, Entry, Err, Frame, Grows, IntentId, IsFree, IsGuarded, IsLast, Known, KnowsAt, List, Mark, None, Ok, Option, Outcome, PlainState, Query, Result, Right, Row, RowKey, Rows, Run, RunAt, RunsMatch, Seen, SeenBounded, Some, Tell, Told, TurnSays, Turned, Wait, [], after, after_grows, after_turn, ap, append-nil, arith, change_last, changed, entry_of, false, got, grows_self, has_run, if◌then◌else◌, inl, inr, is_crowded, is_gone, is_some, key_exact, leb-false, linear, made, marked, may_start, most_runs, nat_le, nat_lt, nothing, option_map, or_parts, put_run, refl, remove_put, reply_of, root_key, rows_after, run_of, said, says_of, seen_of, set_row, started, subst, sym, told_by, told_outcome, true, turn_next, turned_core, unchanged, with_run, without_run, ℕ, ◌&&◌, ◌++◌, ◌||◌, ◌∙◌, ◌∷◌, ◌≡◌, ◌⊎◌}
 use Rattle.beldi_laws.proofs.Names.map
 use Rattle.beldi_laws.proofs.Names.seen
 use Rattle.beldi_laws.proofs.Names.wait
@@ -103,8 +103,7 @@ abbrev reply_told : ℕ → Option Outcome → Option (ℕ × Outcome)
 reply_told t u = option_map (λ (o : Outcome). (t, o)) u
 
 told_reply : (q : PlainState) (t : ℕ) (u : Option Outcome) → ((o : Outcome) → u ≡ Some o → reply_of q t ≡ Some o) → (s : ℕ) (o : Outcome) → reply_told t u ≡ Some (s, o) → reply_of q s ≡ Some o
-told_reply q t None h s o e = cc
-told_reply q t (Some u) h s o e = let both = same_some e in ap (reply_of q) (ap (λ z. z.0) (sym both)) ∙ h u refl ∙ ap (λ z. Some z.1) both
+told_reply q t u h s o e = grind arith
 
 -- ---- a run more
 -- a run that knows what it has to is started, where there is a place

@@ -40,12 +40,10 @@ given_stays : (r : Row) (a : Act) (now : ℕ) → given_in (on a now r).0 ≡ gi
 given_stays r a now = grind arith
 
 of_note : (o : Option Note) (x : Answer) → option_and_then noted_answer o ≡ Some x → (n : Note) × (o ≡ Some n)
-of_note None x is = cc
-of_note (Some n) x is = (n, refl)
+of_note o x is = grind arith
 
 value_stays : (f : Option Value → Option Answer) → f None ≡ None → (a : Act) (now : ℕ) (x : Answer) (o : Option Row) → f (option_map given_in o) ≡ Some x → f (option_map given_in (act a now o).0) ≡ Some x
-value_stays f none a now x None is = let clash = sym none ∙ is in cc
-value_stays f none a now x (Some r) is = ap (λ v. f (Some v)) (given_stays r a now) ∙ is
+value_stays f none a now x h5 is = grind arith
 
 note_stays : (a : Act) (now : ℕ) (p : Place) (x : Answer) (o : Option Row) → option_and_then noted_answer (note_at (content_in o).notes p) ≡ Some x → option_and_then noted_answer (note_at (content_in (act a now o).0).notes p) ≡ Some x
 note_stays a now p x o is = let n = of_note (note_at (content_in o).notes p) x is in ap (option_and_then noted_answer) (notes_stay a now o p n.0 n.1 ∙ sym n.1) ∙ is
@@ -55,20 +53,17 @@ back_stays : (x : Answer) (o u : Option Row) → CallGoesOn o u → option_map a
 back_stays x o u goes held = by_call (call_in o) refl held
   where
     by_result : (i j : InvokeRow) (r : Option Outcome) → GoesOn i j → i.result ≡ r → option_map answer_of r ≡ Some x → option_map answer_of j.result ≡ Some x
-    by_result i j None goes is held = cc
-    by_result i j (Some r) goes is held = ap (option_map answer_of) (goes.result r is) ∙ held
+    by_result i j r goes is held = grind arith
 
     by_call : (c : Option InvokeRow) → call_in o ≡ c → option_map answer_of (result_in c) ≡ Some x → option_map answer_of (result_in (call_in u)) ≡ Some x
-    by_call None is held = cc
-    by_call (Some i) is held = let j = goes i is in ap (λ c. option_map answer_of (result_in c)) j.1 ∙ by_result i j.0 i.result j.2 refl held
+    by_call c is held = grind arith
 
 -- that a call was opened
 call_stays : (x : Answer) (o u : Option Row) → CallGoesOn o u → option_map (λ i. Done) (call_in o) ≡ Some x → option_map (λ i. Done) (call_in u) ≡ Some x
 call_stays x o u goes held = by_call (call_in o) refl held
   where
     by_call : (c : Option InvokeRow) → call_in o ≡ c → option_map (λ (i : InvokeRow). Done) c ≡ Some x → option_map (λ i. Done) (call_in u) ≡ Some x
-    by_call None is held = cc
-    by_call (Some i) is held = ap (option_map (λ i. Done)) (goes i is).1 ∙ held
+    by_call c is held = grind arith
 
 module _ (a : Act) (now : ℕ) (k : RowKey) (m : Rows) where
   -- what every act keeps of a row

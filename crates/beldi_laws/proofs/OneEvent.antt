@@ -89,8 +89,7 @@ told_none e x silent = grind arith
 
 -- out of memory for what was lent, nothing was done
 pub lent_only : (b : Bool) (c z : Core) → if_lent b c ≡ Some z → (z ≡ c) × (b ≡ true)
-lent_only true c z h = (same_some (sym h), refl)
-lent_only false c z h = cc
+lent_only b c z h = grind arith
 
 -- nothing is written, and nothing told
 none : (e : Event) (c b : Core) (x : Seen) → b.book ≡ c.book → is_silent x ≡ true → BookGrew e c b (Ok x)
@@ -294,38 +293,25 @@ module _ (d : Deployment) (c : Core) where
   request_heard t f a u = grind arith
 
   run_heard : (i : ℕ) (t : Told) (o : Option Run) → is_dropped (run_next d c i t o).1 ≡ false
-  run_heard i t None = (no_run_tells c ((i == 0) || nat_lt c.last_run i)).2
-  run_heard i t (Some r) = (made_tells d c i r t).heard
+  run_heard i t o = grind arith
 
   collected_heard : (k : RowKey) (id : IntentId) (f : ℕ) → is_dropped (collected d c k id f).1 ≡ false
   collected_heard k id f = if_plan (λ (y : Core × Seen). is_dropped y.1 ≡ false) (has_run c.runs id) _ _ (λ t. refl) (λ t. if_plan (λ (y : Core × Seen). is_dropped y.1 ≡ false) (is_crowded c) _ _ (λ u. refl) (λ u. refl))
 
   collect_heard : (o : Found) → is_dropped (collect_next d c o).1 ≡ false
-  collect_heard collect.Round = refl
-  collect_heard (collect.Passed k) = refl
-  collect_heard (collect.Unended k id f) = collected_heard k id f
+  collect_heard o = grind arith
 
   heard_lost : (e : Event) (t : Told) → is_dropped (heard d e c t).1 ≡ is_lost e
-  heard_lost Ticket t = ticket_heard (is_added t)
-  heard_lost (Request u f a) t = request_heard u f a (binding_of t)
-  heard_lost (Turn i) t = run_heard i t (map.get c.runs i)
-  heard_lost (Lost i) t = refl
-  heard_lost (Crash i) t = refl
-  heard_lost (Restart id f) t = refl
-  heard_lost (Tick n) t = refl
-  heard_lost Ic t = collect_heard (collect_says t)
+  heard_lost e t = grind arith
 
   error_heard : (v : TableErr) → says_dropped (refused_by v) ≡ true → v ≡ Failed
   error_heard v h = grind arith
 
   refused_heard : (e : Event) (v : TableErr) → is_lost e ≡ false → says_dropped (refused e c v).1 ≡ true → v ≡ Failed
-  refused_heard (Lost i) v lost h = cc
-  refused_heard (Turn i) (Full live most) lost h = cc
-  refused_heard e v lost h = error_heard v h
+  refused_heard e v lost h = grind arith
 
   came_heard : (e : Event) (b : Core) (w : Result Told TableErr) → is_lost e ≡ false → Followed d e c w b (Ok seen.Dropped) → w ≡ Err Failed
-  came_heard e b (Ok t) lost s = let clash : true ≡ false = ap (λ (z : Core × Seen). is_dropped z.1) s ∙ heard_lost e t ∙ lost in cc
-  came_heard e b (Err v) lost s = ap Err (refused_heard e v lost (sym (ap (λ (z : Core × Result Seen AllocError). says_dropped z.1) s)))
+  came_heard e b w lost s = grind arith
 
   plan_heard : (e : Event) (b : Core) (old new : TableState) (p : Plan) → is_lost e ≡ false → PlanTells c p → StepBy d e c p b old new (Ok seen.Dropped) → Rose old.faults new.faults
   plan_heard e b old new (at_once k y) lost g s = let clash : true ≡ false = ap is_dropped s.0.1 ∙ g.2 in cc

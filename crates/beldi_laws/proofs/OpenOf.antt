@@ -1,7 +1,6 @@
 -- What a run is in after answers: the transaction that it was called in throughout, or else its own one that is open; and so the
 -- transaction of the step there.
 use Rattle.beldi_laws.proofs.Names.{Answer, Deployment, Effect, Inherited, Instance, IntentId, List, None, Option, Own, RunTx, Some, TxId, Txs, [], along, along_pushed, ap, arith, effect_after, false, is_begin, is_bound, is_inherited, is_some, length, no_bound, none_begun, none_by, open_after, open_of, or_own, own_tx, refl, sym, tx_after, tx_by, tx_of, txs_after, txs_by, wants, with_cause, within, ℕ, ◌++◌, ◌∙◌, ◌∷◌, ◌≡◌}
-use Rattle.beldi_laws.proofs.Names.effect
 use Rattle.beldi_laws.proofs.Cases.{by_option}
 
 -- the Begin of one's own that is open
@@ -23,24 +22,18 @@ cause_inherits a o = grind arith
 -- ---- an answer
 -- it begins and ends alike
 begins_after : (n : ℕ) (e : Effect) (a : Answer) (s : Txs) (o : Option RunTx) → s.begun ≡ own_begin o → (txs_by n e s).begun ≡ own_begin (open_after n e a o)
-begins_after n effect.Begin a s o h = refl
-begins_after n (effect.End c) a s o h = refl
-begins_after n e a s o h = h ∙ sym (cause_begins a o)
+begins_after n e a s o h = grind arith
 
 -- what is one's own stays so
 owns_after : (n : ℕ) (e : Effect) (a : Answer) (o : Option RunTx) → is_inherited o ≡ false → is_inherited (open_after n e a o) ≡ false
-owns_after n effect.Begin a o h = refl
-owns_after n (effect.End c) a o h = refl
-owns_after n e a o h = cause_inherits a o ∙ h
+owns_after n e a o h = grind arith
 
 -- and so does what was inherited
 cause_keeps : (a : Answer) (x : TxId) → with_cause a (Some (Inherited x)) ≡ Some (Inherited x)
 cause_keeps a x = grind arith
 
 keeps_after : (n : ℕ) (e : Effect) (a : Answer) (x : TxId) → is_bound e ≡ false → open_after n e a (Some (Inherited x)) ≡ Some (Inherited x)
-keeps_after n effect.Begin a x h = cc
-keeps_after n (effect.End c) a x h = cc
-keeps_after n e a x h = cause_keeps a x
+keeps_after n e a x h = grind arith
 
 module _ (d : Deployment) (q : Instance) where
   abbrev after_one : List Answer → Answer → Option RunTx → Option RunTx

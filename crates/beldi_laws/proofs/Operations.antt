@@ -1,5 +1,5 @@
 -- The turns of an operation on an item: they rest on the law that a chain is a logged cell, and on what each operation is.
-use Rattle.beldi_laws.proofs.Names.{Answer, Answers, Begun, CellOp, Core, Deployment, DidOnce, DoneRows, Effect, Frame, Grows, Inside, Instance, IntentId, IsAnswer, IsFree, IsTrue, Item, Known, Knows, List, LoggedTurn, Logs, Matches, None, Note, OnItem, Place, Plain, PlainState, Query, Right, RowKey, Rows, Run, Sane, Says, Some, SoundAt, Step, TxId, Value, WriteAt, WriteGoes, WriteWalk, [], ahead_set, answer_after, answer_noted, answers_it, ap, arith, by_op, cell_key, cell_of, cell_op, commit_in, content_of, does_so, done_note, done_says, effect_before, effect_of, enabled_step, false, free_at_operation, head_key, holds, if_answers, if◌then◌else◌, is_begin, is_eq, is_shadow, is_some, item_in, item_total, item_touched, key_cmp, kind_of, kinds_apart, length, moved, moved_one, no_root, no_tx, nobody_else, none_out, note_after, note_at, note_done, note_here, note_of, note_of_op, noted_answer, op_of, operate, operation_answers, operation_done, operation_step, option_and_then, option_map, place_of, put_asks, put_says, refl, root_key, rows_after, same_some, set_agrees, sets, shadow_key, slice_get, subst, sym, tied_itself, told_by, touched_by, true, turn_next, turned_by, tx_after, tx_now, unbarred, value_at, walk_so, wants_answer, write_asks, write_goes, write_says, ℕ, ◌∙◌, ◌∷◌, ◌≡◌}
+use Rattle.beldi_laws.proofs.Names.{Answer, Answers, Begun, CellOp, Core, Deployment, DidOnce, DoneRows, Effect, Frame, Grows, Inside, Instance, IntentId, IsAnswer, IsFree, IsTrue, Item, Known, Knows, List, LoggedTurn, Logs, Matches, None, Note, OnItem, Place, Plain, PlainState, Query, Right, RowKey, Rows, Run, Sane, Says, Some, SoundAt, Step, TxId, Value, WriteAt, WriteGoes, WriteWalk, [], ahead_set, answer_after, answer_noted, answers_it, ap, arith, by_op, cell_key, cell_of, cell_op, commit_in, content_of, does_so, done_note, done_says, effect_before, effect_of, enabled_step, false, free_at_operation, head_key, holds, if_answers, if◌then◌else◌, is_begin, is_eq, is_shadow, is_some, item_in, item_total, item_touched, key_cmp, kind_of, kinds_apart, length, moved, moved_one, no_root, no_tx, nobody_else, none_out, note_after, note_at, note_done, note_here, note_of, note_of_op, noted_answer, op_of, operate, operation_answers, operation_done, operation_step, option_and_then, place_of, put_asks, put_says, refl, root_key, rows_after, same_some, set_agrees, sets, shadow_key, slice_get, subst, sym, tied_itself, told_by, touched_by, true, turn_next, turned_by, tx_after, tx_now, unbarred, value_at, walk_so, wants_answer, write_asks, write_goes, write_says, ℕ, ◌∙◌, ◌∷◌, ◌≡◌}
 use Rattle.beldi_laws.proofs.Names.answer
 use Rattle.beldi_laws.proofs.Names.effect
 use Rattle.beldi_laws.proofs.Names.kind
@@ -56,8 +56,7 @@ is_change : (id : IntentId) (e : Effect) (o : OnItem) → op_of e ≡ Some o →
 is_change id e o h = grind arith
 
 touches_it : (e : Effect) (o : OnItem) (q : Instance) → op_of e ≡ Some o → item_touched q e ≡ Some (item_in q.func o)
-touches_it (effect.Read t k) o q h = cc
-touches_it e o q h = ap (option_map (item_in q.func)) h
+touches_it e o q h = grind arith
 
 -- .. and it is no call, no end and no begin
 pub is_operation : (e : Effect) (o : OnItem) → op_of e ≡ Some o → (is_call e ≡ false) × (commit_in e ≡ None) × (is_begin e ≡ false)

@@ -39,13 +39,10 @@ end_before d q given rest b z all is less = go given rest (txs_after d q given) 
     (sym (ap (λ (s : Txs). s.ends b) (along_append (λ ts a s. txs_by (length ts) (effect_after d q ts) s) [] given rest none_begun)) ∙ ap (λ ts. (txs_after d q ts).ends b) all ∙ is)
   where
     by_test : (n : ℕ) (c t : Bool) (o : Option (ℕ × Bool)) → z.0 < n → (if t then Some (n, c) else o) ≡ Some z → o ≡ Some z
-    by_test n c true o less e = let k = ap (λ y. y.0) (same_some e) in absurd (omega (arith, k, less))
-    by_test n c false o less e = e
+    by_test n c t o less e = grind arith
 
     by_effect : (n : ℕ) (e : Effect) (s : Txs) → z.0 < n → (txs_by n e s).ends b ≡ Some z → s.ends b ≡ Some z
-    by_effect n (effect.End c) s less h = by_test n c (is_at b s.begun) (s.ends b) less h
-    by_effect n effect.Begin s less h = h
-    by_effect n e s less h = h
+    by_effect n e s less h = grind arith
 
     go : (ts rest : List Answer) (s : Txs) → z.0 < length ts → (along (λ ts a s. txs_by (length ts) (effect_after d q ts) s) ts rest s).ends b ≡ Some z → s.ends b ≡ Some z
     go ts [] s less h = h
@@ -80,8 +77,7 @@ found_stays (Read t k) (at.Keep x) s u v w same there keeps h = (λ i. value_in 
 found_stays (CondWrite t k r o y) (at.Head x) s u v w same there keeps h = λ none. keeps refl ∙ h (absent s none there)
   where
     absent : (s : Option Row) → u ≡ None → (is_some s ≡ true → is_some u ≡ true) → s ≡ None
-    absent None none there = refl
-    absent (Some r) none there = let clash = sym (there refl) ∙ ap is_some none in cc
+    absent s none there = grind arith
 found_stays (CondWrite t k r o y) (at.Write x) s u v w same there keeps h = there h
 found_stays e a s u v w same there keeps h = tt
 
@@ -91,8 +87,7 @@ writes_touch e h = grind arith
 
 -- an effect that gives back the outcome touches no item, and ends none
 no_outcome : (e : Effect) (o : Option Outcome) → (is_some (touched e) ≡ true) → ((u : Outcome) → o ≡ Some u → e ≡ effect.Return u) → o ≡ None
-no_outcome e None h over = refl
-no_outcome e (Some u) h over = let clash = sym (ap (λ z. is_some (touched z)) (over u refl)) ∙ h in cc
+no_outcome e o h over = grind arith
 
 -- ---- the step of an instance that is to be answered
 -- a lock that is ahead by this is one

@@ -1,5 +1,5 @@
 -- Steps outside transactions: where no Begin is open. There what is known of an instance is what the plain state has.
-use Rattle.beldi_laws.proofs.Names.{Answer, Beside, Bool, Deployment, Effect, FinMap, Grown, GrownAt, Instance, IntentId, IsOutside, Item, Known, Line, List, None, Option, PlainState, Sane, Some, TxId, Txs, [], ap, begins_parts, effect_after, effect_of, false, from_begin, holds, id_cmp, in_line, inl, inside_holds_none, is_begin, is_some, length, line_opened, next, none_by, opened_grows, or_own, outcome_of, owner_is, refl, same_some, subst, sym, top, true, tx_begun, tx_by, txs_after, txs_by, txs_pushed, ◌++◌, ◌∙◌, ◌∷◌, ◌≡◌}
+use Rattle.beldi_laws.proofs.Names.{Answer, Beside, Bool, Deployment, Effect, FinMap, Grown, GrownAt, Instance, IntentId, IsOutside, Item, Known, Line, List, None, Option, PlainState, Sane, Some, TxId, Txs, [], ap, arith, begins_parts, effect_after, effect_of, false, from_begin, holds, id_cmp, in_line, inl, inside_holds_none, is_begin, is_some, length, line_opened, next, none_by, opened_grows, or_own, outcome_of, owner_is, refl, same_some, subst, sym, top, true, tx_begun, tx_by, txs_after, txs_by, txs_pushed, ◌++◌, ◌∙◌, ◌∷◌, ◌≡◌}
 use Rattle.beldi_laws.proofs.Names.effect
 use Rattle.beldi_laws.proofs.Names.map
 use Rattle.beldi_laws.proofs.Names.plain
@@ -14,9 +14,7 @@ module _ (d : Deployment) (id : IntentId) (q : Instance) (given : List Answer) w
   outside_more h apart a = (h.0, ap (λ (s : Txs). s.begun) (txs_pushed d q given a) ∙ by_effect (effect_after d q given) apart)
     where
       by_effect : (e : Effect) → is_begin e ≡ false → (txs_by (length given) e (txs_after d q given)).begun ≡ None
-      by_effect effect.Begin g = cc
-      by_effect (effect.End c) g = refl
-      by_effect e g = h.1
+      by_effect e g = grind arith
 
 -- the effects that begin and end a transaction
 abbrev pub is_of_tx : Effect → Bool
@@ -44,9 +42,7 @@ owner_open d t f i (top _ h) = (h.instance, ap (map.get f) (sym h.own) ∙ h.mad
 owner_open d t f i (next k _ l h) = owner_open d t f k l
 
 pub grown_there : (q : Instance) (o u : Option Instance) → o ≡ Some q → GrownAt o u → (y : Instance) × (u ≡ Some y) × Grown q y
-grown_there q None u is g = cc
-grown_there q (Some z) None is g = absurd g
-grown_there q (Some z) (Some y) is g = (y, refl, subst (λ (x : Instance). Grown x y) (same_some is) g)
+grown_there q o u is g = grind arith
 
 module _ (d : Deployment) (p : PlainState) (known : Known) (beside : Beside d p known) (id : IntentId) where
   pub known_of : (q : Instance) → map.get p.made id ≡ Some q → KnownOf known id q

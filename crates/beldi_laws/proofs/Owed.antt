@@ -43,8 +43,7 @@ module _ (d : Deployment) (m : Rows) (known : Known) (locked : IntentId → Bool
       by_end true e = ap (λ t. ahead_by x q.func t (effect_of d q) (locked id)) (ap (tx_after d id q) (sym (ap (λ k. take k q.answers) (eqb-true n (length q.answers) e) ∙ ap (take (length q.answers)) (sym (append-nil q.answers)) ∙ take_front q.answers [])) ∙ outside)
 
       by_answer : (o : Option Answer) → at_step (λ given a. note_by x q.func (tx_after d id q given) (effect_after d q given) a) (take n q.answers) o ≡ note_if x q.func (effect_before d q n) o
-      by_answer None = refl
-      by_answer (Some a) = ap (λ t. note_by x q.func t (effect_before d q n) a) outside
+      by_answer o = grind arith
 
 -- ---- rows of an item that hold what was held
 module _ (d : Deployment) (m n : Rows) (y : Item) (same : (l : RowKey) → is_eq (key_cmp l (head_key y)) ≡ false → map.get n l ≡ map.get m l) where

@@ -24,9 +24,7 @@ use Rattle.beldi_laws.proofs.Outside.{is_call}
 
 -- what a log gives is what it owes
 pub given_owed : (w : Option Row) (o : Option Value) → LogMatches w o → option_map given_in w ≡ o
-given_owed None o h = sym h
-given_owed (Some (rows.ReadLog v)) o h = sym h
-given_owed (Some w) o h = absurd h
+given_owed w o h = grind arith
 
 module _ (d : Deployment) (c : Core) (m : Rows) (i : ℕ) (r : Run) (g : Begun) (h : Right d c m) (live : map.get c.runs i ≡ Some r) (k : Knows d h.known r g) (finds : Inside m h.plain c.book k g.stage) (out : tx_after d r.id k.instance k.answers ≡ None)
     (t : ℕ) (key : List ℕ) (is : g.machine.effect ≡ Read t key) where

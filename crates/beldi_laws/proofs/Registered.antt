@@ -55,8 +55,7 @@ module _ (d : Deployment) (m : Rows) (k : RowKey) (v : Option Row) (kind : is_ro
   log_frame stays p q known next items joins = by_row v stays
     where
       absent : (o : Option Row) → (is_some o ≡ true → false ≡ true) → None ≡ o
-      absent None e = refl
-      absent (Some w) e = let clash = e refl in cc
+      absent o e = grind arith
 
       by_row : (v : Option Row) → StaysRow (map.get m k) v → Frame d m (set_row m k v) p q known next
       by_row None s = subst (λ n. Frame d m n p q known next) (sym (unchanged m k None (absent (map.get m k) s.there))) (frame_still d m p q known next (items_stay d m p q next items) joins)

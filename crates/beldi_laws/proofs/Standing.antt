@@ -24,8 +24,7 @@ use Rattle.beldi_laws.proofs.Cases.{false_by}
 
 -- the row of a root without outcome has none
 no_outcome : (b : Option Body) (o : Option Outcome) (q : Instance) → BodyMatches b o (Some q) → q.outcome ≡ None → o ≡ None
-no_outcome None o q h none = cc
-no_outcome (Some b) o q h none = sym h.1 ∙ ap (λ z. z.outcome) (sym (same_some h.0.made)) ∙ none
+no_outcome b o q h none = grind arith
 
 never_ended : (i : IntentRow) → i.outcome ≡ None → is_some i.finish ≡ is_some i.outcome → is_ended i ≡ false
 never_ended i none finishes = ap (λ o. is_some o || is_some i.finish) none ∙ finishes ∙ ap is_some none
@@ -40,9 +39,7 @@ gave None = None
 gave (Some c) = c.1
 
 gave_owed : (w : Option Row) (o : Option (ℕ × Option Outcome)) → CallMatches w o → result_in (call_in w) ≡ gave o
-gave_owed None o h = ap gave (sym h)
-gave_owed (Some (rows.Invoke r)) o h = ap gave (sym h)
-gave_owed (Some w) o h = absurd h
+gave_owed w o h = grind arith
 
 -- the first of a list
 front_get : (xs ys : List Answer) (n : ℕ) (a : Answer) → slice_get xs n ≡ Some a → (slice_get (xs ++ ys) n ≡ Some a) × (take n (xs ++ ys) ≡ take n xs)

@@ -1,5 +1,5 @@
 -- The roots that a book starts are the requests that were bound; and the outcomes that were told stay.
-use Rattle.beldi_laws.proofs.Names.{Core, Deployment, Entry, GrownAt, Grows, HasReply, Instance, InstancesGoOn, List, None, Option, Outcome, OutcomesStay, Right, Rows, Seen, Some, Start, StartsAreBound, Step, Try, [], ap, option_to_list, outcome_of, refl, reply_of, root_of, same_some, starts_of, subst, sym, ℕ, ◌++◌, ◌∙◌, ◌∷◌, ◌≡◌}
+use Rattle.beldi_laws.proofs.Names.{Core, Deployment, Entry, GrownAt, Grows, HasReply, Instance, InstancesGoOn, List, Option, Outcome, OutcomesStay, Right, Rows, Seen, Some, Start, StartsAreBound, Step, Try, [], ap, arith, option_to_list, outcome_of, refl, reply_of, root_of, same_some, starts_of, subst, sym, ℕ, ◌++◌, ◌∙◌, ◌∷◌, ◌≡◌}
 use Rattle.beldi_laws.proofs.Names.map
 use Rattle.beldi_book.specs.declared.entry.Entry.TheVariants.{Read, Tx}
 use Rattle.beldi_laws.proofs.Events.{after_event}
@@ -27,9 +27,7 @@ instances_go_on d room old new e c b m n r p q h s was is =
     subst (λ z. Grows z.made q.made) (same_run d c m p h was) (subst (λ z. Grows h.plain.made z.made) (same_run d b n q a.right is) a.goes_on)
 
 outcome_stays : (x y : Option Instance) (o : Outcome) → GrownAt x y → outcome_of x ≡ Some o → outcome_of y ≡ Some o
-outcome_stays None y o g is = cc
-outcome_stays (Some i) None o g is = absurd g
-outcome_stays (Some i) (Some j) o g is = g.over o is
+outcome_stays x y o g is = grind arith
 
 reply_stays : (d : Deployment) (c b : Core) (m n : Rows) (t : ℕ) (o : Outcome) (h : Right d c m) (g : Right d b n) → Grows h.plain.made g.plain.made → HasReply d c.book t o → HasReply d b.book t o
 reply_stays d c b m n t o h g grows r = record {

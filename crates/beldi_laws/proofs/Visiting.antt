@@ -87,8 +87,7 @@ value_given : (r : Option Row) (v : Value) → given_or (shadow_value r) v ≡ v
 value_given r v = grind arith
 
 given_so : (commit : Bool) (r : Option Row) (v : Value) → given_or (given_value commit r) v ≡ (if commit then value_in r v else v)
-given_so true r v = value_given r v
-given_so false r v = refl
+given_so commit r v = grind arith
 
 -- an End is answered by Done
 done_only : (p : Place) (t : Option TxId) (b : Bool) (a : Answer) → IsAnswer p t (effect.End b) a → a ≡ answer.Done

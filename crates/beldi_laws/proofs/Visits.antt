@@ -1,5 +1,5 @@
 -- What is so of the visits of an end: it is so once the decision is there, and stays through what others do.
-use Rattle.beldi_laws.proofs.Names.{AreMarked, AreReleased, AreSound, AtEnd, Bool, ByTx, Called, Core, Deployment, EndWalk, Frame, GrownAt, Grows, Instance, IntentId, IsCall, IsDecided, IsFreePlace, IsMember, IsOf, IsWay, IsWithin, IsWriting, Item, Known, List, LogMatches, Matches, Member, None, Option, Outcome, OwnedAreUnmarked, Owner, ParticipantsAreReleased, PlainState, Right, Row, Rows, Sane, Some, TookPart, TxId, Visited, [], ahead_by, ap, arith, aside_row, at_calls, at_step, commit_in, content_of, decided_over, decision_by, effect_after, effect_of, ended_by, eq-eqb, eqb-true, false, first_end, free_place, if◌then◌else◌, inl, inr, is_closed, is_decided, is_mark, is_own, is_some, item_row, last_step, length, lock_row, log_there, none_by, note_at, note_by, note_or, now_open, owed_note, owed_read, owed_value, owner_of, owns, read_at, refl, row_at, shadow_value, slice_get, slice_get_within, subst, sym, take, true, tx_after, tx_end, tx_now, value_or, visited_by, visits_stand, ℕ, ◌&&◌, ◌==◌, ◌||◌, ◌∙◌, ◌∷◌, ◌≡◌}
+use Rattle.beldi_laws.proofs.Names.{AreMarked, AreReleased, AreSound, AtEnd, Bool, ByTx, Called, Core, Deployment, EndWalk, Frame, Grows, Instance, IntentId, IsCall, IsDecided, IsFreePlace, IsMember, IsOf, IsWay, IsWithin, IsWriting, Item, Known, List, LogMatches, Matches, Member, None, Option, Outcome, OwnedAreUnmarked, Owner, ParticipantsAreReleased, PlainState, Right, Row, Rows, Sane, Some, TookPart, TxId, Visited, [], ahead_by, ap, arith, aside_row, at_calls, at_step, commit_in, content_of, decided_over, decision_by, effect_after, effect_of, ended_by, eq-eqb, eqb-true, false, first_end, free_place, if◌then◌else◌, inl, inr, is_closed, is_decided, is_mark, is_own, is_some, item_row, last_step, length, lock_row, log_there, none_by, note_at, note_by, note_or, now_open, owed_note, owed_read, owed_value, owner_of, owns, read_at, refl, row_at, shadow_value, slice_get, slice_get_within, subst, sym, take, true, tx_after, tx_end, tx_now, value_or, visited_by, visits_stand, ℕ, ◌&&◌, ◌==◌, ◌||◌, ◌∙◌, ◌∷◌, ◌≡◌}
 use Rattle.beldi_laws.proofs.Names.effect
 use Rattle.beldi_laws.proofs.Names.map
 use Rattle.beldi_laws.proofs.Names.value
@@ -107,8 +107,7 @@ module _ (d : Deployment) (c : Core) (m n : Rows) (h : Right d c m) (q : PlainSt
       caller_of [] member then_call = by_owner (map.get h.known s.intent) refl ended
         where
           by_owner : (o : Option Instance) → map.get h.known s.intent ≡ o → ended_by d s.begin o ≡ Some z → (y : Instance) × (map.get h.known s.intent ≡ Some y) × (y.func ≡ s.func)
-          by_owner None is g = cc
-          by_owner (Some y) is g = (y, is, sym (subst (λ o. GrownAt o (Some then_call.caller)) is (subst (GrownAt (map.get h.known s.intent)) then_call.made (grows s.intent))).func ∙ then_call.func)
+          by_owner o is g = grind arith
 
       caller : (y : Instance) × (map.get h.known p.0 ≡ Some y) × (y.func ≡ p.1)
       caller = caller_of cs member (call_known d n next after then_rows p e call.1)

@@ -29,17 +29,13 @@ use Rattle.beldi_laws.proofs.Turns.{sane_instance, all_here, step_here, answers_
 -- ---- small facts
 -- the answer to an operation inside that did not die
 read_is : (p : Place) (s : TxId) (t : ℕ) (key : List ℕ) (a : Answer) → IsAnswer p (Some s) (effect.Read t key) a → death_in a ≡ None → (w : Value) × (a ≡ answer.Value w)
-read_is p s t key (answer.Value w) fits lives = (w, refl)
-read_is p s t key (answer.Aborted z) fits lives = cc
-read_is p s t key a fits lives = absurd fits
+read_is p s t key a fits lives = grind arith
 
 write_is : (p : Place) (s : TxId) (t : ℕ) (key : List ℕ) (v : Value) (a : Answer) → IsAnswer p (Some s) (effect.Write t key v) a → death_in a ≡ None → a ≡ answer.Done
 write_is p s t key v a fits lives = grind arith
 
 test_is : (p : Place) (s : TxId) (t : ℕ) (key : List ℕ) (u : Rel) (w v : Value) (a : Answer) → IsAnswer p (Some s) (effect.CondWrite t key u w v) a → death_in a ≡ None → (b : Bool) × (a ≡ answer.Value (value.Bool b))
-test_is p s t key u w v (answer.Value (value.Bool b)) fits lives = (b, refl)
-test_is p s t key u w v (answer.Aborted z) fits lives = cc
-test_is p s t key u w v a fits lives = absurd fits
+test_is p s t key u w v a fits lives = grind arith
 
 -- a lock that was ahead of its answer is so no more
 abbrev pub lock_out : (IntentId → Bool) → IntentId → IntentId → Bool
@@ -50,8 +46,7 @@ locked_out locked id = record { out = ap (λ b. if is_eq b then false else locke
 
 -- a note that is told is there
 note_told : (c : Content) (n : Option Note) (w : Note) → noted_or c n (c, did) ≡ (c, noted w) → n ≡ Some w
-note_told c None w h = let e = ap (λ z. z.1) h in cc
-note_told c (Some v) w h = let e = ap (λ z. z.1) h in cc
+note_told c n w h = grind arith
 
 -- what a write does to a row of its shadow
 abbrev on_shadow : Place → Owner → (Cell → Cell × Tell) → Option Row → Option Row × Tell
