@@ -1,5 +1,5 @@
 -- The turns of a call that nobody waits for: it is opened once, its callee's row is put, and then it is marked as registered.
-use Rattle.beldi_laws.proofs.Names.{Absent, AlreadySet, Answer, Async, AsyncAt, Begins, Begun, Body, Bool, CallMatches, Core, Deployment, Done, Ends, Grows, Inside, Instance, IntentId, InvokeRow, IsBodyOf, Known, Knows, KnowsAt, List, Looks, Matches, None, NoteRegistered, On, OpenInvoke, Option, Place, PlainState, Register, Right, Row, RowKey, Rows, Run, Says, Set, Some, Step, Tell, Value, [], act, after_act, ahead_set, ap, arith, async_answer, async_asks, async_here_asks, async_here_says, async_says, at_once, back_of, call_answered, callee_at, callee_body, callee_by, callee_of, calls_at, child_of, commit_in, effect_before, effect_of, elsewhere, false, grows_through, has_callees, here, if◌then◌else◌, inl, intent_key, invoke_key, is_sent, is_some, issued_at, known_set, length, look_asks, moved, moved_one, new_instance, no_own_callee, no_root_key, none_out, note_says, op_of, open_says, opened, origin_stays, owed_call, place_of, refl, registered_asks, root_key, row_added, run_called, said, same_some, set_others, set_row, step_by, subst, sym, true, turn_next, turned_by, tx_after, tx_now, txs_after, ℕ, ◌∙◌, ◌∷◌, ◌≡◌}
+use Rattle.beldi_laws.proofs.Names.{Absent, AlreadySet, Answer, Async, AsyncAt, Begins, Begun, Body, Bool, CallMatches, Core, Deployment, Done, Ends, Grows, Inside, Instance, IntentId, InvokeRow, IsBodyOf, Known, Knows, KnowsAt, List, Matches, None, NoteRegistered, On, OpenInvoke, Option, Place, PlainState, Register, Right, Row, RowKey, Rows, Run, Says, Set, Some, Step, Tell, Value, [], act, after_act, ahead_set, ap, arith, async_answer, async_asks, async_here_asks, async_here_says, async_says, at_once, back_of, call_answered, callee_body, callee_of, calls_at, child_of, commit_in, effect_before, effect_of, elsewhere, false, grows_through, has_callees, here, if◌then◌else◌, inl, intent_key, invoke_key, is_sent, is_some, issued_at, known_set, length, look_asks, moved, moved_one, new_instance, no_own_callee, no_root_key, none_out, note_says, op_of, open_says, opened, origin_stays, owed_call, place_of, refl, registered_asks, root_key, row_added, run_called, said, same_some, set_others, set_row, step_by, subst, sym, true, turn_next, turned_by, tx_after, tx_now, txs_after, ℕ, ◌∙◌, ◌∷◌, ◌≡◌}
 use Rattle.beldi_laws.proofs.Names.async
 use Rattle.beldi_laws.proofs.Names.back
 use Rattle.beldi_laws.proofs.Names.kinds
@@ -162,11 +162,7 @@ module _ (d : Deployment) (c : Core) (m : Rows) (i : ℕ) (r : Run) (g : Begun) 
         own = λ j. record { home = sym (ap (λ t. if t then 0 else f) (no_root r.id g.machine.steps)) j; kind = kinds.Intent callee }
 
     looks_later : (n : Rows) (o : Run) → run_called r ≡ Some o → KnowsAt d n h.plain c.book h.known o o.at
-    looks_later n o started = by_hops (has_callees r.id) (sym (ap (callee_at r) at_is ∙ ap (callee_by r g.tx g.machine.steps) is) ∙ started)
-      where
-        by_hops : (b : Bool) → (if b then Some (record { id = callee; func = f; deadline = r.deadline; at = Looks }) else None) ≡ Some o → KnowsAt d n h.plain c.book h.known o o.at
-        by_hops true same = subst (λ (z : Run). KnowsAt d n h.plain c.book h.known z z.at) (same_some same) tt
-        by_hops false same = cc
+    looks_later n o started = grind arith
 
     note_says_so : (n : Rows) → SameRoots m n → Stays h n → (b : back.Back) → Left (async_answer async.Note (note_says b)) n
     note_says_so n roots rows Set = let a = answered_so there in starts_one d c m i r g h live k finds out (Async f v) is n Done a.0 roots rows a.1 (looks_later n)

@@ -74,13 +74,7 @@ module _ (d : Deployment) (c : Core) (m : Rows) (h : Right d c m) (n : Rows) (q 
 
   -- ---- who takes part did so before
   pub before_part : (p : Member) → TakesPart next t p → TakesPart h.known t p
-  before_part p part = by_known (map.get h.known p.0) refl (frame.members t z p.0 ended (took_part part))
-    where
-      by_known : (o : Option Instance) → map.get h.known p.0 ≡ o → is_some o ≡ true → TakesPart h.known t p
-      by_known None is there = cc
-      by_known (Some k) is there =
-          let g : Grown k part.instance = subst (GrownAt (Some k)) part.made (subst (λ o. GrownAt o (map.get next p.0)) is (grows p.0)) in
-          record { instance = k; made = is; within = sym g.within ∙ part.within; func = sym g.func ∙ part.func }
+  before_part p part = grind arith
 
   over_now : (p : Member) (part : TakesPart next t p) → is_some part.instance.outcome ≡ true
   over_now p part = decided_over d next sane p.0 part.instance t z part.made part.within ended

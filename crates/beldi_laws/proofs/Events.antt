@@ -117,10 +117,7 @@ next_ticket : (b : Bool) (t n : ℕ) → is_eq (id_cmp (root_of t) (root_of (n +
 next_ticket true t n e x is =
     let same : t ≡ n + 1 = ap (λ id. id.ticket) (id_same (root_of t) (root_of (n + 1)) e) in
     sym (ap (λ a. a && nat_le t (n + 1)) (lt-ltb 0 t (omega arith)) ∙ le-leb t (n + 1) (omega arith))
-next_ticket false t n e x is = is ∙ ap (λ a. nat_lt 0 t && a) (by_size (nat_le t n) refl)
-  where
-    by_size : (a : Bool) → nat_le t n ≡ a → a ≡ nat_le t (n + 1)
-    by_size a h1 = grind arith
+next_ticket false t n e x is = grind arith
 
 not_issued : (n : ℕ) → (nat_lt 0 (n + 1) && nat_le (n + 1) n) ≡ false
 not_issued n = ap (λ b. nat_lt 0 (n + 1) && b) (lt-leb (n + 1) n (omega arith)) ∙ and-false (nat_lt 0 (n + 1))

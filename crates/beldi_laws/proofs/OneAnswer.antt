@@ -60,10 +60,7 @@ back_stays x o u goes held = by_call (call_in o) refl held
 
 -- that a call was opened
 call_stays : (x : Answer) (o u : Option Row) → CallGoesOn o u → option_map (λ i. Done) (call_in o) ≡ Some x → option_map (λ i. Done) (call_in u) ≡ Some x
-call_stays x o u goes held = by_call (call_in o) refl held
-  where
-    by_call : (c : Option InvokeRow) → call_in o ≡ c → option_map (λ (i : InvokeRow). Done) c ≡ Some x → option_map (λ i. Done) (call_in u) ≡ Some x
-    by_call c is held = grind arith
+call_stays x o u goes held = grind arith
 
 module _ (a : Act) (now : ℕ) (k : RowKey) (m : Rows) where
   -- what every act keeps of a row

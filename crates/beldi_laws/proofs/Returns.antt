@@ -30,10 +30,7 @@ has_caller d known id q c sane made from = elim (root_or_called d known sane id 
 
 -- a root has none, and was called in no transaction
 pub root_is : (id : IntentId) → has_no_hops id.hops ≡ true → id ≡ root_of id.ticket
-root_is id root = by_hops id.hops root
-  where
-    by_hops : (xs : List ℕ) → has_no_hops xs ≡ true → record { ticket = id.ticket; hops = xs } ≡ root_of id.ticket
-    by_hops xs e = grind arith
+root_is id root = grind arith
 
 pub root_outside : (d : Deployment) (known : Known) (id : IntentId) (q : Instance) → Sane d known → map.get known id ≡ Some q → has_no_hops id.hops ≡ true → (q.from ≡ None) × (q.within ≡ None)
 root_outside d known id q sane made root = sane.roots id.ticket q (ap (map.get known) (sym (root_is id root)) ∙ made)

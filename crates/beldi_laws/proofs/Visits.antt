@@ -1,10 +1,9 @@
 -- What is so of the visits of an end: it is so once the decision is there, and stays through what others do.
-use Rattle.beldi_laws.proofs.Names.{AreMarked, AreReleased, AreSound, AtEnd, Bool, ByTx, Called, Core, Deployment, EndWalk, Frame, Grows, Instance, IntentId, IsCall, IsDecided, IsFreePlace, IsMember, IsOf, IsWay, IsWithin, IsWriting, Item, Known, List, LogMatches, Matches, Member, None, Option, Outcome, OwnedAreUnmarked, Owner, ParticipantsAreReleased, PlainState, Right, Row, Rows, Sane, Some, TookPart, TxId, Visited, [], ahead_by, ap, arith, aside_row, at_calls, at_step, commit_in, content_of, decided_over, decision_by, effect_after, effect_of, ended_by, eq-eqb, eqb-true, false, first_end, free_place, if◌then◌else◌, inl, inr, is_closed, is_decided, is_mark, is_own, is_some, item_row, last_step, length, lock_row, log_there, none_by, note_at, note_by, note_or, now_open, owed_note, owed_read, owed_value, owner_of, owns, read_at, refl, row_at, shadow_value, slice_get, slice_get_within, subst, sym, take, true, tx_after, tx_end, tx_now, value_or, visited_by, visits_stand, ℕ, ◌&&◌, ◌==◌, ◌||◌, ◌∙◌, ◌∷◌, ◌≡◌}
+use Rattle.beldi_laws.proofs.Names.{AreMarked, AreReleased, AreSound, AtEnd, Bool, ByTx, Called, Core, Deployment, EndWalk, Frame, Grows, Instance, IntentId, IsCall, IsDecided, IsFreePlace, IsMember, IsOf, IsWay, IsWithin, IsWriting, Item, Known, List, Matches, Member, None, Option, Outcome, OwnedAreUnmarked, Owner, ParticipantsAreReleased, PlainState, Right, Row, Rows, Sane, Some, TookPart, TxId, Visited, [], ahead_by, ap, arith, aside_row, at_calls, at_step, commit_in, content_of, decided_over, effect_after, effect_of, ended_by, eqb-true, false, first_end, free_place, if◌then◌else◌, inl, inr, is_closed, is_decided, is_mark, is_own, is_some, item_row, last_step, length, lock_row, none_by, note_at, note_by, note_or, now_open, owed_note, owner_of, owns, refl, shadow_value, slice_get, slice_get_within, sym, take, true, tx_after, tx_end, tx_now, visited_by, visits_stand, ℕ, ◌&&◌, ◌==◌, ◌||◌, ◌∙◌, ◌∷◌, ◌≡◌}
 use Rattle.beldi_laws.proofs.Names.effect
 use Rattle.beldi_laws.proofs.Names.map
-use Rattle.beldi_laws.proofs.Names.value
 use Rattle.beldi_txn.specs.Tx.{op_of}
-use Rattle.beldi_txn.specs.Visited.{Leaves, decision_row, item_in}
+use Rattle.beldi_txn.specs.Visited.{Leaves, item_in}
 use Rattle.beldi_txn.specs.Way.{callee_of}
 use Rattle.beldi_laws.proofs.Closing.{before_part, closed_there, finish_there, owner_is, owns_it}
 use Rattle.beldi_laws.proofs.Members.{IsKnownCall, TakesPart, call_known, call_there, callee_is, calls_joined, members_joined, took_part}
@@ -135,11 +134,7 @@ module _ (d : Deployment) (c : Core) (m n : Rows) (h : Right d c m) (q : PlainSt
 
   -- the decision is known
   decided_then : (owner : Instance) → map.get next s.intent ≡ Some owner → owner.func ≡ s.func → IsDecided w n
-  decided_then owner made func = log_there (map.get n (decision_row w)) (value.Bool w.commit) (subst (LogMatches (map.get n (decision_row w))) owed (then_rows.keys (decision_row w)))
-    where
-      owed : owed_read d next s.func (record { intent = s.intent; step = s.begin }) ≡ Some (value.Bool w.commit)
-      owed = ap (owed_value d s.func s.begin) made ∙ ap (λ b. if b then row_at d owner s.begin else None) (eq-eqb owner.func s.func func)
-          ∙ ap (λ e. value_or (decision_by e) (read_at d owner s.begin)) (sym (ap (ended_by d s.begin) made) ∙ then_ended)
+  decided_then owner made func = grind arith
 
   -- nobody writes in it any more
   not_writing : IsWriting d h.known s → ⊥
