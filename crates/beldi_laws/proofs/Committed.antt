@@ -1,5 +1,5 @@
 -- Who was called in a transaction is in the plain state exactly where the transaction has committed, as its decision's row says.
-use Rattle.beldi_laws.proofs.Names.{Answer, Beside, Bool, Deployment, Grown, Instance, IntentId, Known, List, LogMatches, Matches, None, Option, PlainState, Row, Rows, Sane, Some, TxId, all_called, ap, arith, at_step, begins, decision_by, decision_key, decision_row, drop, effect_after, effect_before, end_of, ended_by, eq-eqb, false, fits_at, has_place, if◌then◌else◌, is_committed, owed_read, owed_value, place_of, read_at, refl, row_at, same_some, slice_get, subst, sym, take, take-append-drop, take-append-le, true, tx_end, value_for, value_or, ℕ, ◌∙◌, ◌≡◌}
+use Rattle.beldi_laws.proofs.Names.{Answer, Beside, Bool, Deployment, Grown, Instance, IntentId, Known, List, LogMatches, Matches, None, Option, PlainState, Row, Rows, Sane, Some, TxId, all_called, ap, arith, at_step, begins, decision_key, decision_row, drop, effect_after, effect_before, end_of, ended_by, false, fits_at, has_place, is_committed, owed_read, place_of, refl, same_some, subst, sym, take, take-append-drop, take-append-le, true, tx_end, value_for, ℕ, ◌∙◌, ◌≡◌}
 use Rattle.beldi_laws.proofs.Names.effect
 use Rattle.beldi_laws.proofs.Names.map
 use Rattle.beldi_laws.proofs.Names.plain
@@ -35,9 +35,7 @@ module _ (d : Deployment) (known : Known) (sane : Sane d known) (t : TxId) where
         no_read given o e = grind arith
 
         undecided : end_of d (has_begin j z is inner).owner t.begin ≡ None → owed_read d known t.func (place_of t.intent t.begin) ≡ None
-        undecided none =
-            ap (owed_value d t.func t.begin) b.made ∙ ap (λ c. if c then row_at d b.owner t.begin else None) (eq-eqb b.owner.func t.func b.func_is)
-            ∙ ap (λ o. value_or (decision_by o) (read_at d b.owner t.begin)) none ∙ no_read (take t.begin b.owner.answers) (slice_get b.owner.answers t.begin) b.begins
+        undecided none = grind arith
 
         no_commit : (r : Option Row) → LogMatches r None → is_committed r ≡ false
         no_commit r h = grind arith

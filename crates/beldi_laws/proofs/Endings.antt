@@ -126,10 +126,7 @@ module _ (d : Deployment) (c : Core) (m : Rows) (i : ℕ) (r : Run) (g : Begun) 
     open_root b u f = grind arith
 
     open_callee : (home : ℕ) (b : Option Body) (u : Option Outcome) → CalleeBodyMatches home b u (Some k.instance) → k.instance.outcome ≡ u
-    open_callee home None u f = absurd f
-    open_callee home (Some b) u f =
-        let from = ap (λ z. is_waited z.from) f.0.body ∙ ap (λ z. is_waited z.from) (same_some (sym f.0.made)) ∙ idle_here in
-        ap (λ z. z.outcome) (same_some f.0.made) ∙ subst (λ t. OutcomeMatches t u f.0.instance.outcome) from f.2
+    open_callee home h1 u f = grind arith
 
     open_by : (t : Bool) (home : ℕ) (j : IntentRow) → IntentMatches (has_ended d h.known) t home (Some (rows.Intent j)) (Some k.instance) → k.instance.outcome ≡ j.outcome
     open_by false home j f = open_callee home j.body j.outcome f.body

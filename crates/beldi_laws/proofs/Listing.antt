@@ -34,8 +34,7 @@ value_lines : (d : Deployment) (x : Item) (v : Value) (zs : List (Item × Value)
 value_lines d x v zs = grind arith
 
 entry_lines : (m : Rows) (d : Deployment) (f : ℕ) (k : Kind) (r : Row) (zs : List (Item × Value)) → line_at d m f k r ++ flat_map (item_line d) zs ≡ flat_map (item_line d) (cons_some (item_entry m f k r) zs)
-entry_lines m d f (kinds.Data t k zero) (rows.Cell c) zs = value_lines d (record { func = f; table = t; key = k }) (shown_under m f t k c.owner c.value) zs
-entry_lines m d f k r zs = refl
+entry_lines m d f k r zs = grind arith
 
 lines : (m : Rows) (d : Deployment) (es : List (RowKey × Row)) → flat_map (row_line d m) es ≡ flat_map (item_line d) (items_in m es)
 lines m d [] = refl
@@ -93,9 +92,7 @@ skip_valued : (x y : Item) (v : Value) (zs : List (Item × Value)) → is_eq (it
 skip_valued x y v zs h = grind arith
 
 skip_entry : (m : Rows) (x : Item) (f : ℕ) (k : Kind) (r : Row) (zs : List (Item × Value)) → is_eq (key_cmp (head_key x) (record { home = f; kind = k })) ≡ false → find item_cmp x (cons_some (item_entry m f k r) zs) ≡ find item_cmp x zs
-skip_entry m x f (kinds.Data t k zero) (rows.Cell c) zs h =
-    let y : Item = record { func = f; table = t; key = k } in skip_valued x y (shown_under m f t k c.owner c.value) zs (ap is_eq (sym (head_order x y)) ∙ h)
-skip_entry m x f k r zs h = refl
+skip_entry m x f k r zs h = grind arith
 
 -- the entry of the item's own first row
 own_valued : (x : Item) (v : Value) (zs : List (Item × Value)) → find item_cmp x zs ≡ None → find item_cmp x (cons_some (valued x v) zs) ≡ not_null v

@@ -1,5 +1,5 @@
 -- Where the host and its rows are right, the rows stand for the run of the book.
-use Rattle.beldi_laws.proofs.Names.{Answer, Async, Body, BodyMatches, Bool, Call, CallMatches, CalledBy, Cause, Cond, CondWrite, Core, Deployment, Died, Done, Effect, End, Got, HasNotEnded, Instance, IntentId, IntentMatches, IntentRow, IsAnswer, IsBodyOf, IsCalled, IsDeath, IsMade, IsOutside, IsRowOf, Item, Known, List, LogMatches, Matches, None, Note, OnItem, Option, Outcome, Place, PlainState, Read, Right, RootMatches, Row, Rows, Sane, Some, Stands, TxId, Value, Write, Wrote, [], ahead_note, answer_aside, answer_given, answer_of, answered_note, ap, arith, at_step, call_in, call_of, called_by, child_of, commit_in, decides, decision_there, effect_after, effect_before, ended_at, eq-eqb, eqb-true, false, given, has_ended, has_no_hops, has_place, head_key, held_answer, held_inside, held_note, held_outside, if◌then◌else◌, invoke_key, is_begin, is_decided, is_ended, is_eq, is_item, is_mark, is_some, is_waited, item_in, item_total, key_in, last_step, length, lock_owed, log_key, note_at, note_by, note_of, note_of_lock, note_or, noted_answer, op_of, option_and_then, option_map, or_own, outside_parts, owed_call, owed_note, owed_shadow, owed_value, place_of, refl, result_in, result_of, root_key, root_of, row_at, row_of, run_of, same_some, shadow_by, shadow_key, shadow_of, slice_get, slice_get_within, subst, sym, tied_itself, touched, true, tx_after, tx_at, tx_by, tx_self, txs_after, value_for, wants, write_op, ℕ, ◌&&◌, ◌++◌, ◌==◌, ◌||◌, ◌∙◌, ◌∷◌, ◌≡◌}
+use Rattle.beldi_laws.proofs.Names.{Answer, Async, Body, BodyMatches, Bool, Call, CallMatches, CalledBy, Cause, Cond, CondWrite, Core, Deployment, Died, Done, Effect, End, Got, HasNotEnded, Instance, IntentId, IntentMatches, IntentRow, IsAnswer, IsBodyOf, IsCalled, IsDeath, IsMade, IsOutside, IsRowOf, Item, Known, List, LogMatches, Matches, None, Note, OnItem, Option, Outcome, Place, PlainState, Read, Right, RootMatches, Row, Rows, Sane, Some, Stands, TxId, Value, Write, Wrote, [], ahead_note, answer_aside, answer_given, answer_of, answered_note, ap, arith, at_step, call_in, call_of, child_of, commit_in, decides, decision_there, effect_after, effect_before, ended_at, eq-eqb, eqb-true, false, given, has_ended, has_no_hops, has_place, head_key, held_answer, held_inside, held_note, held_outside, if◌then◌else◌, invoke_key, is_begin, is_decided, is_ended, is_eq, is_item, is_mark, is_some, item_in, item_total, key_in, last_step, length, lock_owed, log_key, note_at, note_by, note_of, note_of_lock, note_or, noted_answer, op_of, option_and_then, option_map, or_own, outside_parts, owed_call, owed_note, owed_shadow, owed_value, place_of, refl, result_in, root_key, root_of, row_at, row_of, run_of, same_some, shadow_by, shadow_key, shadow_of, slice_get, slice_get_within, subst, sym, tied_itself, touched, true, tx_after, tx_at, tx_by, tx_self, txs_after, value_for, wants, write_op, ℕ, ◌&&◌, ◌++◌, ◌==◌, ◌||◌, ◌∙◌, ◌∷◌, ◌≡◌}
 use Rattle.beldi_laws.proofs.Names.answer
 use Rattle.beldi_laws.proofs.Names.effect
 use Rattle.beldi_laws.proofs.Names.map
@@ -91,9 +91,7 @@ module _ (d : Deployment) (m : Rows) (known : Known) (locked : IntentId → Bool
     was_called j on = subst (λ o. CalledBy d id o n j) made (sane.called id n j on)
 
     owed_so : (j : Instance) (on : map.get known (child_of id n) ≡ Some j) → owed_call known q.func place ≡ Some (j.func, if (was_called j on).waits then j.outcome else None)
-    owed_so j on =
-        (λ i. called_by q.func (made i) (on i)) ∙ ap (λ b. if b then Some (j.func, result_of j) else None) (eq-eqb q.func q.func refl)
-        ∙ ap (λ c. Some (j.func, if is_waited c then j.outcome else None)) (was_called j on).from
+    owed_so j on = grind arith
 
     -- what its row holds
     held_call : (w : Bool) (f : ℕ) (v : Value) → e ≡ call_of w f v → held_outside m place q.func (call_of w f v) ≡ Some a

@@ -162,8 +162,7 @@ module _ (d : Deployment) (c : Core) (m : Rows) (h : Right d c m) where
           free = ap (λ (a : Content). a.owner) is
 
           value : (content_of n y).value ≡ (if is_committed (map.get m (decision_key s)) then value_in (map.get m (shadow_key s y)) (content_of m y).value else (content_of m y).value)
-          value = ap (λ (a : Content). a.value) is ∙ ap (λ a. given_or a (content_of m y).value) gives ∙ given_so z.1 (map.get m (shadow_key s y)) (content_of m y).value
-              ∙ ap (λ r. if is_committed r then value_in (map.get m (shadow_key s y)) (content_of m y).value else (content_of m y).value) (sym decided)
+          value = grind arith
 
   -- the row of who took part gets its finish
   module _ (s : TxId) (z : ℕ × Bool) (ended : tx_end d h.known s ≡ Some z) (p : Member) (part : TakesPart h.known s p) (n : Rows) (others : (l : RowKey) → is_eq (key_cmp l (key_in p.1 p.0)) ≡ false → map.get n l ≡ map.get m l)

@@ -1,6 +1,6 @@
 -- Ids that are known are as long as ids may be, and rows of locks and of calls are of steps that bodies have: so the end of a
 -- transaction finds the first of the rows of whom it visits.
-use Rattle.beldi_laws.proofs.Names.{AllShort, Answer, AreHops, Bool, Called, CalledBy, Core, Deployment, Effect, FindsFirstCall, FindsFirstLock, Instance, IntentId, IntentMatches, IsAnswer, IsApart, IsCalled, IsMember, IsNarrow, IsTrue, Item, Kind, Known, List, LocksetMatches, Matches, Member, None, Option, Place, Right, Row, Rows, Sane, SaneInstance, Some, TxId, Txs, Value, [], add-one, and_parts, ap, append-nil, arith, asks_lock, begin_is, begins, begins_at, call_of, called_begun, effect_after, effect_before, effect_of, ended_by, false, few_answers, first_apart, first_end, first_narrow, fits_at, func_called, gathered, get_or, has_ended, inl, inr, is_begin, is_item, is_none, is_open, is_some, length, length-append, length-take-le, lockset_ahead, lockset_key, lockset_of, ltb-true, most, nat_le, nat_lt, next_step, no_begin, option_map, or_own, owed_lockset, own_by, refl, root_key, root_of, root_or_called, same_some, slice_get, subst, suc, sym, take-append-le, take_more, touched, true, tx_after, tx_by, tx_end, tx_now, txs_after, txs_by, txs_pushed, visited_by, wants_answer, zero, ℕ, ◌&&◌, ◌++◌, ◌+◌, ◌<◌, ◌||◌, ◌∙◌, ◌∷◌, ◌≡◌, ◌≤◌, ◌⊎◌}
+use Rattle.beldi_laws.proofs.Names.{AllShort, Answer, AreHops, Bool, Called, CalledBy, Core, Deployment, Effect, FindsFirstCall, FindsFirstLock, Instance, IntentId, IntentMatches, IsAnswer, IsApart, IsCalled, IsMember, IsNarrow, IsTrue, Item, Kind, Known, List, LocksetMatches, Matches, Member, None, Option, Place, Right, Row, Rows, Sane, SaneInstance, Some, TxId, Txs, Value, [], add-one, and_parts, ap, append-nil, arith, asks_lock, begin_is, begins, begins_at, call_of, called_begun, effect_after, effect_before, effect_of, ended_by, false, few_answers, first_apart, first_end, first_narrow, fits_at, func_called, gathered, get_or, has_ended, inl, inr, is_begin, is_item, is_none, is_open, is_some, length, length-append, length-take-le, lockset_ahead, lockset_key, lockset_of, ltb-true, most, nat_le, nat_lt, next_step, no_begin, option_map, owed_lockset, refl, root_key, root_of, root_or_called, same_some, slice_get, subst, suc, sym, take-append-le, take_more, touched, true, tx_after, tx_end, tx_now, txs_after, txs_by, txs_pushed, visited_by, wants_answer, zero, ℕ, ◌&&◌, ◌++◌, ◌+◌, ◌<◌, ◌||◌, ◌∙◌, ◌∷◌, ◌≡◌, ◌≤◌, ◌⊎◌}
 use Rattle.beldi_laws.proofs.Names.answer
 use Rattle.beldi_laws.proofs.Names.effect
 use Rattle.beldi_laws.proofs.Names.kinds
@@ -131,16 +131,10 @@ module _ (d : Deployment) (m : Rows) (known : Known) (locked : IntentId → Bool
     begins_in o g = grind arith
 
     own_open : q.within ≡ None → (txs_after d q a.given).begun ≡ Some b
-    own_open outside =
-        let w = (txs_after d q a.given).begun in
-        let t = begins_in (tx_after d i q a.given) a.begins in
-        (own_by i q.func (length a.given) (effect_after d q a.given) w t.0 a.on
-        (sym (ap (λ z. or_own z (tx_by i q.func (length a.given) (effect_after d q a.given) w)) outside) ∙ t.1)).begun ∙ ap Some t.2
+    own_open outside = grind arith
 
     inherited : (s : TxId) → q.within ≡ Some s → s.begin ≡ b
-    inherited s inner =
-        let t = begins_in (tx_after d i q a.given) a.begins in
-        ap (λ (y : TxId). y.begin) (same_some (sym (ap (λ z. or_own z (tx_by i q.func (length a.given) (effect_after d q a.given) (txs_after d q a.given).begun)) inner) ∙ t.1)) ∙ t.2
+    inherited s inner = grind arith
 
     begin_small : b < 30000
     begin_small = by_within q.within refl

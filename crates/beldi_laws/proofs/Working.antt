@@ -1,5 +1,5 @@
 -- The turns of an operation inside a transaction, past its lock: it looks at its shadow and at the item, keeps what it read, and makes and writes its shadow.
-use Rattle.beldi_laws.proofs.Names.{Answer, Begun, Bool, ByTx, Cause, Cell, CondCell, Content, Core, Deployment, Effect, Fits, Found, Frame, Goes, InItem, InOperation, Inside, Instance, IntentId, IsAnswer, IsFront, IsOpen, Item, Known, Knows, List, LockedOut, Look, Make, MakeCell, Matches, None, Note, Option, Owner, Place, PutRead, Rel, Right, Row, RowKey, Rows, Run, RunTx, Sane, Says, Some, SoundAt, Tell, TxAt, TxId, Value, WriteAt, WriteCell, [], act, ahead_set, ap, arith, at_tail, begin_of, begun_lists, behind_locks, behind_looks, behind_tests, behind_writes, cell_held, cell_noted, cond_to, content_apart, content_in, content_of, death_in, decision_key, did, effect_of, entered, false, first_rows_go, got_begun, grows_self, head_goes, head_key, head_made, held_or, id_cmp, id_total, if◌then◌else◌, inl, inr, is_begin, is_data, is_eq, is_some, item_leads, keep_goes, kinds_apart, length, listed, listed_open, listed_under, lock_answer, lock_or, lockset_ahead, lockset_key, log_key, looked, moved, next_or, no_log, no_shadow_note, note_at, noted, noted_or, on_cell, once_pushed, other_owner, owed_lockset, passes, place_of, read_goes, read_inside, reads_go, refl, said, said_noted, sane_read, sane_tested, sane_wrote, set_here, set_others, set_row, shadow_key, shadow_lists, shadow_made, shadow_of, shadow_read, shadow_told, shadow_value, stays, subst, sym, test_inside, test_on, test_parts, tested, tests_go, tied_itself, touched, true, turn_next, turned_by, tx_after, tx_here_asks, tx_here_says, tx_now, tx_of, tx_says, unchanged, undecided, unless_held, value_at, value_in, was_did, write_goes, write_inside, write_leads, write_on, write_parts, writes_go, writes_on, ℕ, ◌++◌, ◌∙◌, ◌∷◌, ◌≡◌, ◌⊎◌}
+use Rattle.beldi_laws.proofs.Names.{Answer, Begun, Bool, ByTx, Cause, Cell, CondCell, Content, Core, Deployment, Effect, Fits, Found, Frame, Goes, InItem, InOperation, Inside, Instance, IntentId, IsAnswer, IsFront, IsOpen, Item, Known, Knows, List, LockedOut, Look, Make, MakeCell, Matches, None, Note, Option, Owner, Place, PutRead, Rel, Right, Row, RowKey, Rows, Run, RunTx, Sane, Says, Some, SoundAt, Tell, TxAt, TxId, Value, WriteAt, WriteCell, [], act, ahead_set, ap, arith, at_tail, begin_of, begun_lists, behind_locks, behind_looks, behind_tests, behind_writes, cell_held, cell_noted, cond_to, content_apart, content_in, content_of, death_in, decision_key, did, effect_of, entered, false, first_rows_go, got_begun, grows_self, head_goes, head_key, head_made, id_cmp, id_total, if◌then◌else◌, inl, inr, is_begin, is_data, is_eq, is_some, item_leads, keep_goes, kinds_apart, length, listed, listed_open, listed_under, lock_answer, lock_or, lockset_key, log_key, looked, moved, next_or, no_log, no_shadow_note, note_at, noted, noted_or, on_cell, once_pushed, other_owner, passes, place_of, read_goes, read_inside, reads_go, refl, said, said_noted, sane_read, sane_tested, sane_wrote, set_here, set_others, set_row, shadow_key, shadow_lists, shadow_made, shadow_of, shadow_read, shadow_told, shadow_value, stays, subst, sym, test_inside, test_on, test_parts, tested, tests_go, tied_itself, touched, true, turn_next, turned_by, tx_after, tx_here_asks, tx_here_says, tx_now, tx_of, tx_says, unchanged, undecided, unless_held, value_at, value_in, was_did, write_goes, write_inside, write_leads, write_on, write_parts, writes_go, writes_on, ℕ, ◌++◌, ◌∙◌, ◌∷◌, ◌≡◌, ◌⊎◌}
 use Rattle.beldi_laws.proofs.Names.answer
 use Rattle.beldi_laws.proofs.Names.at
 use Rattle.beldi_laws.proofs.Names.effect
@@ -19,7 +19,7 @@ use Rattle.beldi_txn.specs.Tx.{item_goes, note_goes}
 use Rattle.beldi_laws.proofs.Frames.{NoFinish, NobodyJoins, frame_log, frame_shadow, is_lockset, items_stay, no_finish, nobody_new, nobody_set}
 use Rattle.beldi_laws.proofs.Settling.{settled_operated}
 use Rattle.beldi_laws.proofs.Grown.{grown_moved, grows_moved, moved_more}
-use Rattle.beldi_laws.proofs.InTx.{begin_is, frees_none, open_still, item_self, goes_at, replays, lockset_is, set_roots, same_item, steps, effect_so, wants_here, short, known_answers, answers_so, at_front, now, tx_is, front, apart, opened as opened_here, owned as owned_here, was_locked}
+use Rattle.beldi_laws.proofs.InTx.{frees_none, open_still, item_self, goes_at, replays, set_roots, same_item, steps, effect_so, wants_here, short, known_answers, answers_so, at_front, now, tx_is, front, apart, opened as opened_here, owned as owned_here, was_locked}
 use Rattle.beldi_laws.proofs.Keeping.{as_it_was}
 use Rattle.beldi_laws.proofs.Moves.{AfterQuery, AfterTurn, SameRoots, Kept}
 use Rattle.beldi_laws.proofs.Others.{kept_moving}
@@ -190,8 +190,7 @@ module _ (d : Deployment) (c : Core) (m : Rows) (i : ℕ) (r : Run) (g : Begun) 
       was = was_locked d c m r g h k o here e is x touch left (as_its (λ y q. note_at (content_of m y).notes q ≡ Some note.Got) l.got)
 
       lockset : map.get m (lockset_key r.id own.begin its_item) ≡ Some rows.Lockset
-      lockset = lockset_is (map.get m (lockset_key r.id own.begin its_item)) (owed_lockset d own.begin its_item r.id (map.get h.known r.id)) (lockset_ahead d h.known own.begin its_item r.id (map.get h.known r.id))
-          (h.rows.keys (lockset_key r.id own.begin its_item)) (as_its (λ y q. is_some (map.get m (lockset_key r.id own.begin y)) ≡ true) (subst (λ b. is_some (map.get m (lockset_key r.id b item)) ≡ true) (sym (begin_is r.id r.func o)) l.asked))
+      lockset = grind arith
 
       -- its transaction owns the item, so the item's own value is the plain one
       owned : (content_of m its_item).owner ≡ Some (ByTx own)
@@ -437,9 +436,7 @@ module _ (d : Deployment) (c : Core) (m : Rows) (i : ℕ) (r : Run) (g : Begun) 
       written = Some (rows.Cell (wrote place v z).0)
 
       write_did : write_on place (ByTx own) v (shadow_of m own (record { func = r.func; table = t; key = key })) ≡ (content_in written, did)
-      write_did =
-          let s : Content = content_in (Some (rows.Cell z)) in
-          ap (λ y. write_on place (ByTx own) v (content_in y)) there ∙ ap (λ y. noted_or s y (held_or s (other_owner (ByTx own) z.owner) (content_in written, did))) none ∙ ap (λ y. held_or s y (content_in written, did)) free
+      write_did = grind arith
 
       write_keeps : Kept h (set_row m write_row written) h.plain (next write is (t, key) refl l answer.Done) (after write is (t, key) refl l)
       write_keeps =
@@ -538,9 +535,7 @@ module _ (d : Deployment) (c : Core) (m : Rows) (i : ℕ) (r : Run) (g : Begun) 
         tried = Some (rows.Cell (tries place u y v z).0)
 
         test_did : test_on place (ByTx own) u y v (shadow_of m own test_item) ≡ (content_in tried, tested passed)
-        test_did =
-            let s : Content = content_in (Some (rows.Cell z)) in
-            ap (λ a. test_on place (ByTx own) u y v (content_in a)) there ∙ ap (λ a. noted_or s a (held_or s (other_owner (ByTx own) z.owner) (content_in tried, tested passed))) none ∙ ap (λ a. held_or s a (content_in tried, tested passed)) free
+        test_did = grind arith
 
         test_keeps : Kept h (set_row m test_row tried) h.plain (next test is (t, key) refl l result) (after test is (t, key) refl l)
         test_keeps =
