@@ -4,7 +4,7 @@ use Rattle.beldi_laws.proofs.Names.kinds
 use Rattle.beldi_laws.proofs.Names.map
 use Rattle.beldi_laws.proofs.Names.rows
 use Rattle.beldi_laws.proofs.Moves.{AfterTurn, AfterQuery, SameRoots, AfterAct, Stays, still}
-use Rattle.beldi_laws.proofs.Turns.{is_over, comes_to, knows_next}
+use Rattle.beldi_laws.proofs.Turns.{is_over, comes_quiet, knows_next}
 use Rattle.beldi_laws.proofs.Keeping.{as_it_was}
 use Rattle.beldi_laws.proofs.Registered.{callee_registered, log_stays, no_more, stays_new}
 use Rattle.beldi_laws.proofs.Cases.{false_by}
@@ -61,7 +61,7 @@ module _ (d : Deployment) (c : Core) (m : Rows) (i : ℕ) (r : Run) (h : Right d
       let s : Machine × Option RunTx = (machine_begun d r.func b.args (is_some b.tx), within b.tx) in
       let j = made.body.instance in
       let body = made.body.body in
-      comes_to d c m n i r h live roots h.known h.locked s b.from
+      comes_quiet d c m n i r h live roots h.known h.locked s b.from
       (knows_next d c.book n h.plain h.known h.locked kept.shows r b.from j made.body.made (sym (ap (λ z. z.func) body) ∙ made.func) (ap (λ z. z.from) body) made.row [] s (record { later = j.answers; all = refl })
       (record { machine = subst (λ (z : Body). IsAt d r.func z.args (is_some z.tx) s.0 []) body (at_begin d r.func b.args (is_some b.tx)); open_there = ap (λ z. within z.tx) body })
       (λ t z own over less. absurd (omega (arith, less))) None) kept

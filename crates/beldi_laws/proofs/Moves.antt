@@ -53,13 +53,21 @@ pub record Kept {d : Deployment} {c : Core} {m : Rows} (h : Right d c m) (n : Ro
 abbrev pub Stays : {d : Deployment} {c : Core} {m : Rows} → Right d c m → Rows → Type 0
 Stays h n = Kept h n h.plain h.known h.locked
 
--- ---- the book with an entry more leads to the plain state q, and reads that are to be kept have their places in it
-pub record Entered (d : Deployment) (c : Core) (p : PlainState) (known : Known) (e : Entry) (q : PlainState) (next : Known) : Type 0 where
+-- ---- a book that has grown leads to the plain state q, and reads that are to be kept have their places in it
+pub record Led (d : Deployment) (c : Core) (p : PlainState) (known : Known) (more : List Entry) (q : PlainState) (next : Known) : Type 0 where
   pub grows : Grows p.made q.made
-  pub bounded : SeenBounded 0 (c.book ++ e ∷ [])
-  pub legal : run_of d (c.book ++ e ∷ []) ≡ Some q
-  pub guarded : IsGuarded d nothing (linear (c.book ++ e ∷ []))
-  pub places : PlacesOn d c.book (c.book ++ e ∷ []) known next
+  pub bounded : SeenBounded 0 more
+  pub legal : run_of d more ≡ Some q
+  pub guarded : IsGuarded d nothing (linear more)
+  pub places : PlacesOn d c.book more known next
+
+-- .. as it is
+pub led_still : {d : Deployment} {c : Core} {m : Rows} (h : Right d c m) (next : Known) → Led d c h.plain h.known c.book h.plain next
+led_still {d} {c} h next = record { grows = grows_self h.plain.made; bounded = h.bounded; legal = h.legal; guarded = h.guarded; places = places_same d c.book h.known next }
+
+-- .. by an entry
+abbrev pub Entered : Deployment → Core → PlainState → Known → Entry → PlainState → Known → Type 0
+Entered d c p known e q next = Led d c p known (c.book ++ e ∷ []) q next
 
 -- where the entry is a change, and nobody else has locked its item
 pub change_entered : (d : Deployment) (c : Core) (m : Rows) (h : Right d c m) (e : Entry) (q : PlainState) (next : Known) → seen_of e ≡ None → after d h.plain e ≡ Some q → IsFree d h.plain e → Entered d c h.plain h.known e q next
@@ -167,31 +175,23 @@ module _ (d : Deployment) (p : PlainState) (c : Core) (m : Rows) (r : Run) (s : 
 
 -- ---- a run turned
 module _ (d : Deployment) (c : Core) (m n : Rows) (i : ℕ) (r : Run) (h : Right d c m) (live : map.get c.runs i ≡ Some r) (roots : SameRoots m n) where
+  -- by the book as it is then
+  pub turned : (s : Turned) (more : List Entry) (q : PlainState) (next : Known) (after : IntentId → Bool) → more ≡ marked c.book r.id s.mark → Led d c h.plain h.known more q next → ((v : Outcome) → s.reply ≡ Some v → reply_of q r.id.ticket ≡ Some v)
+      → RunAt d n q more next s.next → KnowsCallee d n q more next r s s.wait → Kept h n q next after → AfterTurn d h.plain c i r s n
+  turned s more q next after book leads reply run callee kept = followed d h.plain (turned_core c i r.id s) n r s
+      (right_by (subst (SeenBounded 0) book leads.bounded) (ap (run_of d) (sym book) ∙ leads.legal) (subst (λ b. IsGuarded d nothing (linear b)) book leads.guarded) kept.shows (λ t. roots t ∙ h.tickets t)
+      (subst (λ b. RunsMatch d n q b next (put_run c.runs i s.next) c.last_run) book (runs_put d n q more next c.runs c.last_run i s.next (ap is_some live) run
+      (runs_on d m n h.plain q c.book more h.known next kept.grows leads.places kept.others c.runs c.last_run h.runs))))
+      leads.grows (told_reply q r.id.ticket s.reply reply) s.wait (subst (λ b. KnowsCallee d n q b next r s s.wait) book callee)
+
   -- it made no entry
   pub quiet : (s : Turned) (next : Known) (after : IntentId → Bool) → s.mark ≡ None → s.reply ≡ None → RunAt d n h.plain c.book next s.next → KnowsCallee d n h.plain c.book next r s s.wait → Kept h n h.plain next after → AfterTurn d h.plain c i r s n
-  quiet s next after none silent run callee kept =
-      let book : c.book ≡ marked c.book r.id s.mark = sym (append-nil c.book) ∙ ap (marked c.book r.id) (sym none) in
-      followed d h.plain (turned_core c i r.id s) n r s
-      (right_by (subst (SeenBounded 0) book h.bounded) (ap (run_of d) (sym book) ∙ h.legal) (subst (λ b. IsGuarded d nothing (linear b)) book h.guarded) kept.shows (λ t. roots t ∙ h.tickets t)
-      (subst (λ b. RunsMatch d n h.plain b next (put_run c.runs i s.next) c.last_run) book (runs_put d n h.plain c.book next c.runs c.last_run i s.next (ap is_some live) run
-      (runs_on d m n h.plain h.plain c.book c.book h.known next kept.grows (places_same d c.book h.known next) kept.others c.runs c.last_run h.runs))))
-      (grows_self h.plain.made)
-      (λ t u e. let clash = sym (ap (reply_told r.id.ticket) silent) ∙ e in cc)
-      s.wait (subst (λ b. KnowsCallee d n h.plain b next r s s.wait) book callee)
+  quiet s next after none silent = turned s c.book h.plain next after (sym (append-nil c.book) ∙ ap (marked c.book r.id) (sym none)) (led_still h next) (λ v told. let clash = sym silent ∙ told in cc)
 
   -- it made this entry, which led to the plain state q
   pub entered : (s : Turned) (k : Mark) (q : PlainState) (next : Known) (after : IntentId → Bool) → s.mark ≡ Some k → Entered d c h.plain h.known (entry_of r.id k) q next → ((v : Outcome) → s.reply ≡ Some v → reply_of q r.id.ticket ≡ Some v) → RunAt d n q (c.book ++ entry_of r.id k ∷ []) next s.next
       → KnowsCallee d n q (c.book ++ entry_of r.id k ∷ []) next r s s.wait → Kept h n q next after → AfterTurn d h.plain c i r s n
-  entered s k q next after is leads reply run callee kept =
-      let more : List Entry = c.book ++ entry_of r.id k ∷ [] in
-      let book : more ≡ marked c.book r.id s.mark = ap (marked c.book r.id) (sym is) in
-      followed d h.plain (turned_core c i r.id s) n r s
-      (right_by (subst (SeenBounded 0) book leads.bounded) (ap (run_of d) (sym book) ∙ leads.legal) (subst (λ b. IsGuarded d nothing (linear b)) book leads.guarded) kept.shows (λ t. roots t ∙ h.tickets t)
-      (subst (λ b. RunsMatch d n q b next (put_run c.runs i s.next) c.last_run) book (runs_put d n q more next c.runs c.last_run i s.next (ap is_some live) run
-      (runs_on d m n h.plain q c.book more h.known next kept.grows leads.places kept.others c.runs c.last_run h.runs))))
-      leads.grows
-      (told_reply q r.id.ticket s.reply reply)
-      s.wait (subst (λ b. KnowsCallee d n q b next r s s.wait) book callee)
+  entered s k q next after is = turned s (c.book ++ entry_of r.id k ∷ []) q next after (ap (marked c.book r.id) (sym is))
 
 -- ---- nobody hears what a turn told: its run is over, and none is started
 -- what follows a turn leaves its core, or one run more

@@ -23,7 +23,7 @@ none_later : (xs ys : List Answer) → length (xs ++ ys) ≡ length xs → ys �
 none_later xs [] h = refl
 none_later xs (y ∷ ys) h = let l = length-append xs (y ∷ ys) in absurd (omega (arith, l, h))
 
-or_true : (b : Bool) → (b || true) ≡ true
+pub or_true : (b : Bool) → (b || true) ≡ true
 or_true b = grind arith
 
 -- ---- how a transaction ended
@@ -106,6 +106,10 @@ one_steps d p known legal sane beside s i j y z is there on over touch touches n
   where
     no_call : {e : Effect} (f : ℕ) (v : Value) → e ≡ effect.Call f v → is_some (touched e) ≡ true → ⊥
     no_call f v call touched_so = let clash = sym (ap (λ e. is_some (touched e)) call) ∙ touched_so in cc
+
+-- past its decision an end is decided
+pub decided_past : (a : EndAt) (w : EndWalk) (m : Rows) → is_past a ≡ true → DecidedAt a w m → IsDecided w m
+decided_past a w m past h = grind arith
 
 -- ---- a run, before and after the event
 module _ (d : Deployment) (c : Core) (m n : Rows) (h : Right d c m) (q : PlainState) (next : Known) (after : IntentId → Bool) (shows : Shows d n q next after) (grows : Grows h.known next) (frame : Frame d m n h.plain q h.known next)
@@ -237,12 +241,9 @@ module _ (d : Deployment) (c : Core) (m n : Rows) (h : Right d c m) (q : PlainSt
         let none = no_decision d m h.known h.locked h.rows r.id k.instance k.made o.begin (ap (λ ts. (txs_after d k.instance ts).begun) (sym (all_here k left)) ∙ begun) in
         let clash = sym (ap (λ f. map.get m (log_key f (place_of r.id o.begin))) (sym k.func) ∙ none) ∙ decided in cc
 
-    has_decided : (a : EndAt) → is_past a ≡ true → DecidedAt a walk m → IsDecided walk m
-    has_decided a at e = grind arith
-
     -- so it has ended
     visited : Visited walk m → Visited walk n
-    visited was = by_answer k (λ left. absurd (undecided left (has_decided v.at past was.decided))) (λ a rest left.
+    visited was = by_answer k (λ left. absurd (undecided left (decided_past v.at walk m past was.decided))) (λ a rest left.
         let ends : end_of d k.instance o.begin ≡ Some (g.machine.steps, commit) = end_here d k.instance k.answers a rest o.begin commit (ap (λ xs. k.answers ++ xs) (sym left) ∙ k.run_answers) (wanted_here k ∙ is) begun ∙ ap (λ z. Some (z, commit)) (sym (at_steps k)) in
         visit_stays d c m n h q next after shows grows frame walk (ap (ended_by d o.begin) k.made ∙ ends) (ap (ended_by d o.begin) made ∙ ends_then o.begin (g.machine.steps, commit) ends) j made (w.func ∙ k.func) was)
 

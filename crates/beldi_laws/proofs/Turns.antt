@@ -1,5 +1,5 @@
 -- The turns of a run: where it stands, and what each thing that a stage says leaves.
-use Rattle.beldi_laws.proofs.Names.{Answer, Async, AtStage, Begins, Begun, Bool, ByTx, Call, Caller, CondWrite, Core, Deployment, Effect, End, Entry, Grown, Inherited, Inside, Instance, IntentId, IsAnswer, IsAt, IsOutside, IsTrue, Item, Known, Knows, KnowsAt, List, Machine, Mark, None, OpenTx, Option, Outcome, Own, Owner, Place, PlainState, Prefix, Read, Released, Return, Right, Rows, Run, RunAt, RunTx, SaneInstance, Says, Some, Stage, StandsAt, TxId, Unlock, Write, [], and_once, answer_at_once, ap, append-nil, append_assoc, arith, at, at_effect, at_next, at_stage, caller_in, content_of, effect_after, effect_before, effect_of, entry_of, false, first_stage, get_after, get_set, goes, goes_from, goes_to, going_now, has_callees, has_no_hops, id_exact, id_total, if◌then◌else◌, is_waited, key_in, last_stage, length, moved, none_by, open_after, open_of, outside_parts, over, own_tx, place_of, refl, run_on, run_on_prefix, run_once, same_some, slice_get, stands, subst, sym, take, take-append_seam, takes, takes_if, true, turned_by, tx_after, tx_at, tx_now, txs_after, unlocked_outside, wants, wants_answer, ℕ, ◌++◌, ◌∙◌, ◌∷◌, ◌≡◌}
+use Rattle.beldi_laws.proofs.Names.{Answer, Async, AtStage, Begins, Begun, Bool, ByTx, Call, Caller, CondWrite, Core, Deployment, Effect, End, Entry, Grown, Inherited, Inside, Instance, IntentId, IsAnswer, IsAt, IsOutside, IsTrue, Item, Known, Knows, KnowsAt, List, Machine, Mark, None, OpenTx, Option, Outcome, Own, Owner, Place, PlainState, Prefix, Read, Released, Return, Right, Rows, Run, RunAt, RunTx, SaneInstance, Says, Some, Stage, StandsAt, TxId, Unlock, Write, [], and_once, answer_at_once, ap, append-nil, append_assoc, arith, at, at_effect, at_next, at_stage, caller_in, content_of, effect_after, effect_before, effect_of, entry_of, false, first_stage, get_after, get_set, goes, goes_from, goes_to, going_now, has_callees, has_no_hops, id_exact, id_total, if◌then◌else◌, is_waited, key_in, last_stage, length, marked, moved, none_by, open_after, open_of, outside_parts, over, own_tx, place_of, refl, run_on, run_on_prefix, run_once, same_some, slice_get, stands, subst, sym, take, take-append_seam, takes, takes_if, true, turned_by, tx_after, tx_at, tx_now, txs_after, unlocked_outside, wants, wants_answer, ℕ, ◌++◌, ◌∙◌, ◌∷◌, ◌≡◌}
 use Rattle.beldi_laws.proofs.Names.async
 use Rattle.beldi_laws.proofs.Names.call
 use Rattle.beldi_laws.proofs.Names.map
@@ -11,7 +11,7 @@ use Rattle.std.specs.Prelude.{is_some}
 use Rattle.beldi_lang.specs.declared.effect.Effect.TheVariants.{Lock}
 use Rattle.beldi_step.specs.Run.{callee_of}
 use Rattle.beldi_laws.proofs.Cases.{by_list}
-use Rattle.beldi_laws.proofs.Moves.{AfterTurn, SameRoots, Kept, Stays, Entered, KnowsCallee, quiet, entered}
+use Rattle.beldi_laws.proofs.Moves.{AfterTurn, SameRoots, Kept, Led, Stays, Entered, led_still, turned, KnowsCallee, quiet, entered}
 use Rattle.beldi_laws.proofs.Shown.{Shows, legal_sane}
 use Rattle.beldi_laws.proofs.Lives.{places_same, run_on as live_on, stands_still}
 use Rattle.beldi_laws.proofs.OpenOf.{called_in, open_begun, open_none, open_pushed, own_begin}
@@ -132,12 +132,17 @@ module _ (d : Deployment) (c : Core) (m n : Rows) (i : ℕ) (r : Run) (h : Right
   pub is_over : Stays h n → AfterTurn d h.plain c i r (over None) n
   is_over kept = quiet d c m n i r h live roots (over None) h.known h.locked refl refl tt (λ e. cc) kept
 
-  pub comes_to : (next : Known) (after : IntentId → Bool) (s : Machine × Option RunTx) (k : Option Caller) → RunAt d n h.plain c.book next (goes_to d r s k None).next → Kept h n h.plain next after → AfterTurn d h.plain c i r (goes_to d r s k None) n
-  comes_to next after s k run kept = let t = step.at_once d r.id s in by_stage t (first_stage r.id k t.1 t.0.steps t.0.effect) run
+  pub comes_to : (b : Option Mark) (more : List Entry) (q : PlainState) (next : Known) (after : IntentId → Bool) (s : Machine × Option RunTx) (k : Option Caller) → more ≡ marked c.book r.id b → Led d c h.plain h.known more q next → RunAt d n q more next (goes_to d r s k b).next → Kept h n q next after
+      → AfterTurn d h.plain c i r (goes_to d r s k b) n
+  comes_to b more q next after s k book leads run kept = let t = step.at_once d r.id s in by_stage t (first_stage r.id k t.1 t.0.steps t.0.effect) run
     where
-      by_stage : (t : Machine × Option RunTx) (o : Option Stage) → RunAt d n h.plain c.book next (goes_from r t k None o).next → AfterTurn d h.plain c i r (goes_from r t k None o) n
-      by_stage t None run = quiet d c m n i r h live roots (over None) next after refl refl run (λ e. cc) kept
-      by_stage t (Some w) run = quiet d c m n i r h live roots (goes r (record { machine = t.0; caller = k; tx = t.1; stage = w }) None) next after refl refl run (λ e. cc) kept
+      by_stage : (t : Machine × Option RunTx) (o : Option Stage) → RunAt d n q more next (goes_from r t k b o).next → AfterTurn d h.plain c i r (goes_from r t k b o) n
+      by_stage t None run = turned d c m n i r h live roots (over b) more q next after book leads (λ u e. cc) run (λ e. cc) kept
+      by_stage t (Some w) run = turned d c m n i r h live roots (goes r (record { machine = t.0; caller = k; tx = t.1; stage = w }) b) more q next after book leads (λ u e. cc) run (λ e. cc) kept
+
+  -- .. with no entry
+  pub comes_quiet : (next : Known) (after : IntentId → Bool) (s : Machine × Option RunTx) (k : Option Caller) → RunAt d n h.plain c.book next (goes_to d r s k None).next → Kept h n h.plain next after → AfterTurn d h.plain c i r (goes_to d r s k None) n
+  comes_quiet next after s k = comes_to None c.book h.plain next after s k (sym (append-nil c.book)) (led_still h next)
 
   -- .. and a run of its callee may start
   pub comes_with : (s : Machine × Option RunTx) (k : Option Caller) → RunAt d n h.plain c.book h.known (goes_to d r s k None).next → ((o : Run) → callee_of r ≡ Some o → KnowsAt d n h.plain c.book h.known o o.at) → Stays h n → AfterTurn d h.plain c i r (record (goes_to d r s k None) { starts = true }) n
@@ -146,15 +151,6 @@ module _ (d : Deployment) (c : Core) (m n : Rows) (i : ℕ) (r : Run) (h : Right
       by_stage : (t : Machine × Option RunTx) (o : Option Stage) → RunAt d n h.plain c.book h.known (goes_from r t k None o).next → AfterTurn d h.plain c i r (record (goes_from r t k None o) { starts = true }) n
       by_stage t None run = quiet d c m n i r h live roots (record (over None) { starts = true }) h.known h.locked refl refl run (λ e. callee) kept
       by_stage t (Some w) run = quiet d c m n i r h live roots (record (goes r (record { machine = t.0; caller = k; tx = t.1; stage = w }) None) { starts = true }) h.known h.locked refl refl run (λ e. callee) kept
-
-  -- .. after an act that made an entry
-  pub steps_to : (next : Known) (after : IntentId → Bool) (s : Machine × Option RunTx) (k : Option Caller) (by : Mark) (q : PlainState) → Entered d c h.plain h.known (entry_of r.id by) q next → RunAt d n q (c.book ++ entry_of r.id by ∷ []) next (goes_to d r s k (Some by)).next
-      → Kept h n q next after → AfterTurn d h.plain c i r (goes_to d r s k (Some by)) n
-  steps_to next after s k by q leads run kept = let t = step.at_once d r.id s in by_stage t (first_stage r.id k t.1 t.0.steps t.0.effect) run
-    where
-      by_stage : (t : Machine × Option RunTx) (o : Option Stage) → RunAt d n q (c.book ++ entry_of r.id by ∷ []) next (goes_from r t k (Some by) o).next → AfterTurn d h.plain c i r (goes_from r t k (Some by) o) n
-      by_stage t None run = entered d c m n i r h live roots (over (Some by)) by q next after refl leads (λ u e. cc) run (λ e. cc) kept
-      by_stage t (Some w) run = entered d c m n i r h live roots (goes r (record { machine = t.0; caller = k; tx = t.1; stage = w }) (Some by)) by q next after refl leads (λ u e. cc) run (λ e. cc) kept
 
 -- ---- where a run stands in its instance's answers
 module _ {d : Deployment} {known : Known} {id : IntentId} {home : ℕ} {c : Option Caller} {s : Machine} {o : Option RunTx} (k : StandsAt d known id home c s o) where
@@ -282,7 +278,7 @@ module _ (d : Deployment) (c : Core) (m : Rows) (i : ℕ) (r : Run) (g : Begun) 
     pub answers_on : (a : Answer) (rest : List Answer) (n : Rows) (next : Known) (after : IntentId → Bool) (j : Instance) → SameRoots m n → Kept h n h.plain next after → map.get next r.id ≡ Some j → Grown k.instance j → (k.answers ++ a ∷ []) ++ rest ≡ j.answers
         → IsTrue (wants_answer g.machine.effect) → Freed n → Leaves (says.Answers a None) n
     answers_on a rest n next after j roots kept made w prefix wanted freed =
-        comes_to d c m n i r h live roots next after (takes d g.machine g.tx a) g.caller (takes_next c.book n h.plain next after j a rest None kept made w prefix wanted freed) kept
+        comes_quiet d c m n i r h live roots next after (takes d g.machine g.tx a) g.caller (takes_next c.book n h.plain next after j a rest None kept made w prefix wanted freed) kept
 
     -- ---- it goes on to another stage of its effect, of which it knows what it has to
     module _ {e : Effect} {o : Option RunTx} (is : g.machine.effect ≡ e) (tx : g.tx ≡ o) (s : Stage) where
@@ -349,6 +345,7 @@ module _ (d : Deployment) (c : Core) (m : Rows) (i : ℕ) (r : Run) (g : Begun) 
           let j = moved d r.id k.instance a in
           let more = moved_more d r.id k.instance a in
           let next : Known = map.insert h.known r.id j in
-          steps_to d c m n i r h live roots next h.locked (takes d g.machine g.tx a) g.caller by q leads
-          (takes_next (c.book ++ entry_of r.id by ∷ []) n q next h.locked j a more.more (Some by) kept (get_set id_total id_exact h.known r.id j) (grown_moved d r.id k.instance a)
+          let more_book : List Entry = c.book ++ entry_of r.id by ∷ [] in
+          comes_to d c m n i r h live roots (Some by) more_book q next h.locked (takes d g.machine g.tx a) g.caller refl leads
+          (takes_next more_book n q next h.locked j a more.more (Some by) kept (get_set id_total id_exact h.known r.id j) (grown_moved d r.id k.instance a)
           (ap (λ xs. (xs ++ a ∷ []) ++ more.more) (all_here k left) ∙ more.same) (answers_it a ok) (none_owned n)) kept

@@ -1,6 +1,6 @@
 -- The turns of a run at the end of its transaction, past the decision: it visits who took part, one after another; of each the items that
 -- it asked the locks of, and gives each back once; and gives each of them but its own instance a finish.
-use Rattle.beldi_laws.proofs.Names.{AllReleased, Answer, AreReleased, Begun, Body, Bool, Called, CalleeBodyMatches, CalleeMatches, Callees, Content, Core, Decide, DecidedAt, Deployment, EndAt, EndGoes, EndWalk, FinishMatches, Frame, Free, FreeOp, GetsFinish, Inherited, Inside, Instance, IntentId, IntentMatches, IntentRow, IsAnswer, IsCalleeRow, IsDecided, IsMember, IsTrue, Item, Kind, Knows, Leads, List, Matches, Member, Next, None, Note, OpenTx, Option, Own, ParticipantsAreReleased, ParticipantsHaveRows, Place, Query, ReadGoes, Right, Row, RowKey, Rows, Run, RunTx, Shadow, Some, SoundAt, Stamp, Told, TookPart, Tx, TxId, Value, Visit, Visited, WriteAt, WriteGoes, [], ap, arith, asked, at_each, back_from, call_goes, calls_goes, commit_in, content_in, content_of, counts, decision_key, done_to, effect_after, end_by_asks, end_by_says, end_goes, end_walk, ended_at, ended_by, false, first_end, free_place, freed_goes, func_called, given_or, given_value, grows_self, has_callees, has_ended, has_finish, has_no_hops, head_key, if◌then◌else◌, inl, inr, intent_key, invokes_found, is_committed, is_decided, is_eq, is_mark, is_past, is_shadow, is_some, key_cmp, key_exact, key_in, key_same, key_total, keys_set, kinds_apart, last_goes, last_step, length, listed, lockset_found, log_key, next_goes, no_decision, no_root, note_at, notes_stay, option_map, own_tx, place_of, read_goes, refl, release_lists, released, root_key, row_put, rows_after, same_map, same_some, set_row, shadow_key, shadow_value, split_last, stepped, subst, sym, told_by, true, turn_next, turned_by, turns, tx_after, tx_end, tx_eq, tx_in, tx_same, tx_self, txs_after, unchanged, value_goes, value_in, visit_asks, visit_says, visited_by, wants_answer, was_answered, write_goes, ℕ, ◌&&◌, ◌++◌, ◌==◌, ◌||◌, ◌∙◌, ◌∷◌, ◌≡◌}
+use Rattle.beldi_laws.proofs.Names.{AllReleased, Answer, AreReleased, Begun, Body, Bool, Called, CalleeBodyMatches, CalleeMatches, Callees, Content, Core, Decide, Deployment, EndAt, EndGoes, EndWalk, FinishMatches, Frame, Free, FreeOp, GetsFinish, Inherited, Inside, Instance, IntentId, IntentMatches, IntentRow, IsAnswer, IsCalleeRow, IsMember, IsTrue, Item, Kind, Knows, Leads, List, Matches, Member, Next, None, Note, OpenTx, Option, Own, ParticipantsAreReleased, ParticipantsHaveRows, Place, Query, ReadGoes, Right, Row, RowKey, Rows, Run, RunTx, Shadow, Some, SoundAt, Stamp, Told, TookPart, Tx, TxId, Value, Visit, Visited, WriteAt, WriteGoes, [], ap, arith, asked, at_each, back_from, call_goes, calls_goes, commit_in, content_in, content_of, counts, decision_key, done_to, effect_after, end_by_asks, end_by_says, end_goes, end_walk, ended_at, ended_by, false, first_end, free_place, freed_goes, func_called, given_or, given_value, grows_self, has_callees, has_ended, has_finish, has_no_hops, head_key, if◌then◌else◌, inl, inr, intent_key, invokes_found, is_committed, is_decided, is_eq, is_mark, is_past, is_shadow, is_some, key_cmp, key_exact, key_in, key_same, key_total, keys_set, kinds_apart, last_goes, last_step, length, listed, lockset_found, log_key, next_goes, no_decision, no_root, note_at, notes_stay, option_map, own_tx, place_of, read_goes, refl, release_lists, released, root_key, row_put, rows_after, same_map, same_some, set_row, shadow_key, shadow_value, split_last, stepped, subst, sym, told_by, true, turn_next, turned_by, turns, tx_after, tx_end, tx_eq, tx_in, tx_same, tx_self, txs_after, unchanged, value_goes, value_in, visit_asks, visit_says, visited_by, wants_answer, was_answered, write_goes, ℕ, ◌&&◌, ◌++◌, ◌==◌, ◌||◌, ◌∙◌, ◌∷◌, ◌≡◌}
 use Rattle.beldi_laws.proofs.Names.answer
 use Rattle.beldi_laws.proofs.Names.effect
 use Rattle.beldi_laws.proofs.Names.goes
@@ -23,16 +23,13 @@ use Rattle.beldi_laws.proofs.Keeping.{SameShadows, act_stays, as_it_was, goes_st
 use Rattle.beldi_laws.proofs.Members.{TakesPart, members_joined, part_below, part_key, took_part}
 use Rattle.beldi_laws.proofs.Moves.{AfterQuery, SameRoots, Stays}
 use Rattle.beldi_laws.proofs.OpenOf.{open_begun, own_begin}
-use Rattle.beldi_laws.proofs.Others.{end_here, kept_by}
+use Rattle.beldi_laws.proofs.Others.{decided_past, end_here, kept_by, or_true}
 use Rattle.beldi_laws.proofs.Owed.{content_kept, contents_kept, others_list}
 use Rattle.beldi_laws.proofs.Shown.{log_values, settled}
 use Rattle.beldi_laws.proofs.Turns.{at_steps, known_prefix, wanted_here, Leaves, all_here, stands_on, answers_on}
 use Rattle.beldi_laws.proofs.Widths.{finds_first}
 
 -- ---- past the decision
-decided_past : (a : EndAt) (w : EndWalk) (m : Rows) → is_past a ≡ true → DecidedAt a w m → IsDecided w m
-decided_past a w m past h = grind arith
-
 -- a turn past it stays past it
 abbrev visit : List Called → Option ℕ → Option (ℕ × List ℕ) → Option Value → EndAt → Visit
 visit cs af y u a = record { way = cs; after = af; item = y; value = u; at = a }
@@ -92,9 +89,6 @@ given_so commit r v = grind arith
 -- an End is answered by Done
 done_only : (p : Place) (t : Option TxId) (b : Bool) (a : Answer) → IsAnswer p t (effect.End b) a → a ≡ answer.Done
 done_only p t b a h = grind arith
-
-or_true : (b : Bool) → (b || true) ≡ true
-or_true b = grind arith
 
 -- the row of a root, and whose an intent's row is
 abbrev is_root : Kind → Bool
